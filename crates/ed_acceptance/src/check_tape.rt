@@ -188,13 +188,19 @@ fn expect_two(rt: &impl Abort, alloc: Global, function: u8, row: u8) -> Result<(
     )
 }
 
+/// Checks the lines for the tapes of a function row and each row after it.
+fn expect_each_after(rt: &impl Abort, alloc: Global, function: u8) -> Result<(), Fail> {
+    for number in 0..32 {
+        let row = byte_of(Code::new(number).expect(rt, "a code"), false);
+        expect_two(rt, alloc, function, row)?;
+    }
+    Ok(())
+}
+
 #[test]
 fn every_code_after_a_function_row(rt: HostRuntime) -> Result<(), Fail> {
-    for function in [b'P', b'.', b'A', b'G'] {
-        for number in 0..32 {
-            let row = byte_of(Code::new(number).ok_or("no code")?, false);
-            expect_two(&rt, rt.alloc(), function, row)?;
-        }
+    for function in b"P.AG" {
+        expect_each_after(&rt, rt.alloc(), *function)?;
     }
     Ok(())
 }

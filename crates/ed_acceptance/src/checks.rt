@@ -15,6 +15,9 @@ use std::test::Fail;
 /// The most orders of a guest.
 const MOST: u32 = 1000;
 
+/// The numbers that the guests print.
+const NUMBERS: [u16; 6] = [0, 7, 42, 123, 1949, 65535];
+
 /// A source, linked.
 fn linked_of(rt: &impl Abort, alloc: Global, source: &str) -> Linked {
     let program = parse(alloc, source.as_bytes()).ok().expect(rt, "a program");
@@ -81,8 +84,8 @@ fn expect_checked(rt: &impl Abort, alloc: Global, number: u16) -> Result<(), Fai
 
 #[test]
 fn a_checked_guest_is_seen_order_by_order(rt: HostRuntime) -> Result<(), Fail> {
-    for number in [0, 7, 42, 123, 1949, 65535] {
-        expect_checked(&rt, rt.alloc(), number)?;
+    for number in &NUMBERS {
+        expect_checked(&rt, rt.alloc(), *number)?;
     }
     Ok(())
 }

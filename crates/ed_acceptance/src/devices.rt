@@ -1,5 +1,6 @@
 //! Each device through the trait by which the program uses it.
 
+use crate::support::expect_that;
 use ed_io::{
     Failed, MemorySink, MemorySource, Sink, Source, StdSink, StdSource, SureSink, SureSource,
 };
@@ -16,7 +17,7 @@ fn reads(rt: &impl Abort, source: &mut impl Source, answers: &[Result<usize, Fai
 }
 
 /// Checks what a call of `write` answers.
-fn writes(rt: &impl Abort, sink: &mut impl Sink, piece: &str, answer: Result<usize, Failed>) {
+pub fn writes(rt: &impl Abort, sink: &mut impl Sink, piece: &str, answer: Result<usize, Failed>) {
     assert!(rt; sink.write(piece.as_bytes()) == answer, "write of {piece}");
 }
 
@@ -25,8 +26,8 @@ fn memory_source(rt: &impl Abort, alloc: Global) -> Result<(), Fail> {
     let faults = [1].to_vec(alloc)?;
     let mut source = MemorySource::new(b"ABC".to_vec(alloc)?, faults);
     reads(rt, &mut source, &[Ok(2), Err(Failed), Ok(1), Ok(0)]);
-    assert!(rt; source.faults() == 1);
-    assert!(rt; source.bytes().is_empty());
+    expect_that(rt, source.faults() == 1, "the faults");
+    expect_that(rt, source.bytes().is_empty(), "the bytes left");
     Ok(())
 }
 
@@ -41,9 +42,9 @@ fn source_in_pieces(rt: &impl Abort, alloc: Global) -> Result<(), Fail> {
 fn sure_source(rt: &impl Abort, alloc: Global) -> Result<(), Fail> {
     let mut source = SureSource::new(b"ABC".to_vec(alloc)?);
     reads(rt, &mut source, &[Ok(2)]);
-    assert!(rt; source.bytes() == b"C".as_slice());
+    expect_that(rt, source.bytes() == b"C".as_slice(), "the bytes left");
     reads(rt, &mut source, &[Ok(1), Ok(0)]);
-    assert!(rt; source.faults() == 0);
+    expect_that(rt, source.faults() == 0, "the faults");
     Ok(())
 }
 
@@ -64,8 +65,8 @@ fn memory_sink(rt: &impl Abort, alloc: Global) -> Result<(), Fail> {
     writes(rt, &mut sink, "CD", Ok(1));
     writes(rt, &mut sink, "E", Err(Failed));
     writes(rt, &mut sink, "", Ok(0));
-    assert!(rt; sink.bytes() == b"ABC".as_slice());
-    assert!(rt; sink.faults() == 1);
+    expect_that(rt, sink.bytes() == b"ABC".as_slice(), "the bytes");
+    expect_that(rt, sink.faults() == 1, "the faults");
     Ok(())
 }
 
@@ -88,8 +89,8 @@ fn sink_in_pieces(rt: &impl Abort, alloc: Global) -> Result<(), Fail> {
 fn sure_sink(rt: &impl Abort, alloc: Global) -> Result<(), Fail> {
     let mut sink = SureSink::new(alloc, 2)?;
     writes(rt, &mut sink, "ABC", Ok(3));
-    assert!(rt; sink.bytes() == b"AB".as_slice());
-    assert!(rt; sink.faults() == 0);
+    expect_that(rt, sink.bytes() == b"AB".as_slice(), "the bytes");
+    expect_that(rt, sink.faults() == 0, "the faults");
     Ok(())
 }
 

@@ -1,7 +1,8 @@
-//! Tests: whole runs of the program, and its devices.
+//! Tests: whole runs of the program, and its devices; each program with a law compared with a plain computation.
 //!
 //! Expected values come from the description of the machine and from worked examples, never from the program's own
-//! output. Depends on the crates of the program.
+//! output. Each program with a law is run on twenty data, at the ends of their ranges too, and is refused for data just
+//! out of range. Depends on the crates of the program and on `ed_programs`.
 #![tactic(auto)]
 
 #[cfg(test)]
@@ -19,6 +20,8 @@ mod faults;
 #[cfg(test)]
 mod first_orders;
 #[cfg(test)]
+mod guests;
+#[cfg(test)]
 mod lines;
 #[cfg(test)]
 mod linking;
@@ -26,6 +29,8 @@ mod linking;
 mod parts;
 #[cfg(test)]
 mod post_mortems;
+#[cfg(test)]
+mod programs;
 #[cfg(test)]
 mod sources;
 #[cfg(test)]

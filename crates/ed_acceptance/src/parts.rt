@@ -193,13 +193,8 @@ fn runs_of_tapes_in_parts(rt: HostRuntime) -> Result<(), Fail> {
 
 /// The machine on a tape's rows.
 fn machine_on(alloc: Global, tape: &str) -> Result<Machine, Fail> {
-    let Ok(rows) = tape_of_text(alloc, tape.as_bytes()) else {
-        return Err("no tape".into());
-    };
-    match started(alloc, Size::Full, rows) {
-        Ok(machine) => Ok(machine),
-        Err(_) => Err("no memory".into()),
-    }
+    let rows = tape_of_text(alloc, tape.as_bytes())?;
+    Ok(started(alloc, Size::Full, rows)?)
 }
 
 /// Adds the lines that are written if at most `limit` orders are allowed.

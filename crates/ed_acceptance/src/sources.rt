@@ -1,6 +1,8 @@
 //! Sources: `run`, `punch` and `listing`.
 
 use crate::support::{Row, expect, expect_beginning, expect_each};
+use std::alloc::Global;
+use std::process::Abort;
 use std::test::Fail;
 
 /// Prints A, from two orders and two words of its one segment.
@@ -149,18 +151,27 @@ fn a_run_is_resumed_after_a_stop(rt: HostRuntime) -> Result<(), Fail> {
 
 #[test]
 fn a_limit_before_the_entry_ends_the_load(rt: HostRuntime) -> Result<(), Fail> {
-    for line in ["run --limit 100", "run --limit 262"] {
-        expect_beginning(&rt, rt.alloc(), line, LETTER, (4, "", "limit at "))?;
+    let wanted = (4, "", "limit at ");
+    expect_beginning(&rt, rt.alloc(), "run --limit 100", LETTER, wanted)?;
+    expect_beginning(&rt, rt.alloc(), "run --limit 262", LETTER, wanted)?;
+    Ok(())
+}
+
+/// The commands that refuse them.
+const COMMANDS: [&str; 4] = ["run", "punch", "listing", "run --store 512"];
+
+/// Checks that each command refuses a source.
+fn expect_refused(rt: &impl Abort, alloc: Global, source: &str, fault: &str) -> Result<(), Fail> {
+    for command in &COMMANDS {
+        expect(rt, alloc, command, source, (3, "", fault))?;
     }
     Ok(())
 }
 
 #[test]
 fn refused_sources(rt: HostRuntime) -> Result<(), Fail> {
-    for (source, fault) in REFUSED {
-        for command in ["run", "punch", "listing", "run --store 512"] {
-            expect(&rt, rt.alloc(), command, source, (3, "", fault))?;
-        }
+    for (source, fault) in &REFUSED {
+        expect_refused(&rt, rt.alloc(), source, fault)?;
     }
     Ok(())
 }

@@ -1,5 +1,7 @@
 //! The devices over readers and writers of std that give and take few bytes a call, fail, or refuse to flush.
 
+use crate::devices::writes;
+use crate::support::expect_that;
 use ed_io::{Failed, Sink, Source, StdSink, StdSource, SteadyRead, SteadyWrite};
 use std::io;
 use std::io::{Read, Write};
@@ -102,17 +104,17 @@ fn expect_read(
     byte: u8,
     answer: Result<usize, Failed>,
 ) {
-    assert!(rt; source.read(piece) == answer);
-    assert!(rt; *piece == [byte, 0, 0, 0]);
+    expect_that(rt, source.read(piece) == answer, "the answer");
+    expect_that(rt, *piece == [byte, 0, 0, 0], "the piece");
 }
 
 #[test]
 fn a_reader_of_std_is_read_to_its_end(rt: HostRuntime) {
     let mut source = StdSource::new(&b"AB"[..]);
     let mut piece = [0; 4];
-    assert!(rt; source.read(&mut piece) == Ok(2));
-    assert!(rt; piece == [b'A', b'B', 0, 0]);
-    assert!(rt; source.read(&mut piece) == Ok(0));
+    expect_that(&rt, source.read(&mut piece) == Ok(2), "two bytes");
+    expect_that(&rt, piece == [b'A', b'B', 0, 0], "the piece");
+    expect_that(&rt, source.read(&mut piece) == Ok(0), "the end");
 }
 
 #[test]
@@ -138,11 +140,11 @@ fn a_reader_that_fails_has_failed_and_has_not_ended(rt: HostRuntime) {
 fn a_writer_of_std_is_written_until_it_is_full(rt: HostRuntime) {
     let mut room = [0; 3];
     let mut sink = StdSink::new(&mut room[..]);
-    assert!(rt; sink.write(b"AB") == Ok(2));
-    assert!(rt; sink.write(b"CD") == Ok(1));
-    assert!(rt; sink.write(b"D") == Err(Failed));
-    assert!(rt; sink.write(b"") == Ok(0));
-    assert!(rt; room == [b'A', b'B', b'C']);
+    writes(&rt, &mut sink, "AB", Ok(2));
+    writes(&rt, &mut sink, "CD", Ok(1));
+    writes(&rt, &mut sink, "D", Err(Failed));
+    writes(&rt, &mut sink, "", Ok(0));
+    expect_that(&rt, room == [b'A', b'B', b'C'], "the room");
 }
 
 /// The answer of a sink over a writer to a piece.
@@ -154,11 +156,11 @@ fn written(tally: &mut Tally, piece: &[u8]) -> Result<usize, Failed> {
 #[test]
 fn a_writer_that_takes_some_bytes_is_flushed_after_each_write(rt: HostRuntime) {
     let mut tally = no_tally();
-    assert!(rt; written(&mut tally, b"ABC") == Ok(2));
-    assert!(rt; tally.flushes == 1);
-    assert!(rt; written(&mut tally, b"C") == Ok(1));
-    assert!(rt; tally.flushes == 2);
-    assert!(rt; tally.held == [b'A', b'B', b'C', 0]);
+    expect_that(&rt, written(&mut tally, b"ABC") == Ok(2), "the first write");
+    expect_that(&rt, tally.flushes == 1, "the first flush");
+    expect_that(&rt, written(&mut tally, b"C") == Ok(1), "the second write");
+    expect_that(&rt, tally.flushes == 2, "the second flush");
+    expect_that(&rt, tally.held == [b'A', b'B', b'C', 0], "the bytes");
 }
 
 #[test]
@@ -167,7 +169,7 @@ fn a_refused_flush_is_a_failed_write(rt: HostRuntime) {
     let refused = Some(1);
     let tally = &mut tally;
     let mut sink = StdSink::new(Choosy { tally, refused });
-    assert!(rt; sink.write(b"AB") == Ok(2));
-    assert!(rt; sink.write(b"AB") == Err(Failed));
-    assert!(rt; sink.write(b"AB") == Ok(2));
+    writes(&rt, &mut sink, "AB", Ok(2));
+    writes(&rt, &mut sink, "AB", Err(Failed));
+    writes(&rt, &mut sink, "AB", Ok(2));
 }

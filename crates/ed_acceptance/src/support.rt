@@ -1,6 +1,7 @@
 //! What the tests share: a run of the whole program on words and an input.
 
 use ed_io::{SureSink, SureSource};
+use ed_programs::Refusal;
 use ed_top::edsac;
 use std::alloc::Global;
 use std::process::Abort;
@@ -127,6 +128,19 @@ pub fn expect_beginning(
     let answer = answer_of(alloc, line, input.as_bytes())?;
     expect_none(rt, first_difference(&answer, wanted), line, input);
     Ok(answer.unread)
+}
+
+/// Checks that there is a program, and that a command answers it with a text and status 0.
+pub fn answers(
+    rt: &impl Abort,
+    alloc: Global,
+    command: &str,
+    program: Result<String, Refusal>,
+    wanted: &str,
+) -> Result<(), Fail> {
+    let program = program.ok().expect(rt, "a program");
+    expect_beginning(rt, alloc, command, &program, (0, wanted, ""))?;
+    Ok(())
 }
 
 /// Adds a text a number of times.

@@ -12,8 +12,8 @@ use std::alloc::Global;
 use std::process::Abort;
 use std::test::Fail;
 
-/// The Initial Orders. No clause says which they are, so that no proof goes through the orders of a run.
-fn listing() -> [Word; 41] {
+/// The Initial Orders. No clause says which they are, so that no proof goes through them.
+pub fn listing() -> [Word; 41] {
     orders()
 }
 

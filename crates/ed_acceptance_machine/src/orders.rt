@@ -49,27 +49,29 @@ const PRINTED: [(&str, [u32; 4], u8); 4] = [
     ("O31D", [114_688, 20_485, 0, 0], 5),
 ];
 
-/// The size of the store, the orders, the words, and the counter.
-const COUNTERS: [(u16, &str, [u32; 4], u16); 10] = [
+/// The orders, the words, and the counter.
+type Counted = (&'static str, [u32; 4], u16);
+
+/// On a store of 1024 locations.
+const COUNTERS: [Counted; 8] = [
     // The jumps at 0 and at -1. 65536 as the most significant digits of the accumulator is exactly -1, which is
     // negative; 0 is not.
-    (1024, "A30F E5F", [0, 0, 0, 0], 5),
-    (1024, "A30F G5F", [0, 0, 0, 0], 2),
-    (1024, "A30F E5F", [65_536, 0, 0, 0], 2),
-    (1024, "A30F G5F", [65_536, 0, 0, 0], 5),
-    (1024, "A30F E5F", [65_535, 0, 0, 0], 5),
-    (1024, "A30F G5F", [131_071, 0, 0, 0], 5),
+    ("A30F E5F", [0, 0, 0, 0], 5),
+    ("A30F G5F", [0, 0, 0, 0], 2),
+    ("A30F E5F", [65_536, 0, 0, 0], 2),
+    ("A30F G5F", [65_536, 0, 0, 0], 5),
+    ("A30F E5F", [65_535, 0, 0, 0], 5),
+    ("A30F G5F", [131_071, 0, 0, 0], 5),
     // The counter goes from the last location to 0. 106496 is the word of X F, which the last order finds there.
-    (512, "A30F T511F E511F X0F", [106_496, 0, 0, 0], 0),
-    (1024, "A30F T511F E511F X0F", [106_496, 0, 0, 0], 512),
-    (1024, "A30F T1023F E1023F X0F", [106_496, 0, 0, 0], 0),
-    (512, "A30F T1023F E1023F X0F", [106_496, 0, 0, 0], 0),
+    ("A30F T511F E511F X0F", [106_496, 0, 0, 0], 512),
+    ("A30F T1023F E1023F X0F", [106_496, 0, 0, 0], 0),
 ];
 
-/// The size of a store.
-fn size_of(locations: u16) -> Size {
-    if locations == 512 { Small } else { Full }
-}
+/// On a store of 512 locations.
+const COUNTERS_IN_512: [Counted; 2] = [
+    ("A30F T511F E511F X0F", [106_496, 0, 0, 0], 0),
+    ("A30F T1023F E1023F X0F", [106_496, 0, 0, 0], 0),
+];
 
 /// Checks the accumulator after orders.
 fn expect_accumulator(
@@ -127,59 +129,43 @@ fn each_order_prints_what_is_due(rt: HostRuntime) -> Result<(), Fail> {
     Ok(())
 }
 
-#[test]
-fn each_order_leaves_the_counter_that_is_due(rt: HostRuntime) -> Result<(), Fail> {
-    for (locations, orders, data, counter) in &COUNTERS {
-        expect_counter(
-            &rt,
-            rt.alloc(),
-            size_of(*locations),
-            orders,
-            *data,
-            *counter,
-        )?;
+/// Checks the counters of a table on a store of a size.
+fn expect_counters(
+    rt: &impl Abort,
+    alloc: Global,
+    size: Size,
+    rows: &[Counted],
+) -> Result<(), Fail> {
+    for (orders, data, counter) in rows {
+        expect_counter(rt, alloc, size, orders, *data, *counter)?;
     }
     Ok(())
 }
 
-/// The size of a store, the orders from location 0, the words at 30 to 33, and two words that are due after the orders,
-/// each after its location.
-const WORDS: [(u16, &str, [u32; 4], [(u16, u32); 2]); 7] = [
+#[test]
+fn each_order_leaves_the_counter_that_is_due(rt: HostRuntime) -> Result<(), Fail> {
+    expect_counters(&rt, rt.alloc(), Full, &COUNTERS)?;
+    expect_counters(&rt, rt.alloc(), Small, &COUNTERS_IN_512)
+}
+
+/// The orders from location 0, the words at 30 to 33, and two words that are due after the orders, each after its
+/// location.
+type Left = (&'static str, [u32; 4], [(u16, u32); 2]);
+
+/// On a store of 1024 locations.
+const WORDS: [Left; 6] = [
     // F reads the last printed code back.
-    (1024, "F33F", [114_688, 5, 7, 9], [(32, 7), (33, 0)]),
-    (
-        1024,
-        "O30F F33F",
-        [114_688, 5, 7, 9],
-        [(32, 7), (33, 114_688)],
-    ),
-    (1024, "F32D", [114_688, 5, 7, 9], [(32, 0), (33, 0)]),
-    (
-        1024,
-        "O30F F32D",
-        [114_688, 5, 7, 9],
-        [(32, 0), (33, 114_688)],
-    ),
-    (
-        1024,
-        "O30F F33D",
-        [114_688, 5, 7, 9],
-        [(32, 0), (33, 114_688)],
-    ),
+    ("F33F", [114_688, 5, 7, 9], [(32, 7), (33, 0)]),
+    ("O30F F33F", [114_688, 5, 7, 9], [(32, 7), (33, 114_688)]),
+    ("F32D", [114_688, 5, 7, 9], [(32, 0), (33, 0)]),
+    ("O30F F32D", [114_688, 5, 7, 9], [(32, 0), (33, 114_688)]),
+    ("O30F F33D", [114_688, 5, 7, 9], [(32, 0), (33, 114_688)]),
     // An address goes modulo the size.
-    (
-        512,
-        "A30F U578F",
-        [106_496, 0, 0, 0],
-        [(66, 106_496), (578, 0)],
-    ),
-    (
-        1024,
-        "A30F U578F",
-        [106_496, 0, 0, 0],
-        [(66, 0), (578, 106_496)],
-    ),
+    ("A30F U578F", [106_496, 0, 0, 0], [(66, 0), (578, 106_496)]),
 ];
+
+/// On a store of 512 locations.
+const WORDS_IN_512: [Left; 1] = [("A30F U578F", [106_496, 0, 0, 0], [(66, 106_496), (578, 0)])];
 
 /// Whether two words of the machine are the wanted ones.
 fn has_words(rt: &impl Abort, machine: &Machine, wanted: &[(u16, u32); 2]) -> bool {
@@ -205,12 +191,18 @@ fn expect_words(
     Ok(())
 }
 
-#[test]
-fn each_order_leaves_the_words_that_are_due(rt: HostRuntime) -> Result<(), Fail> {
-    for (locations, orders, data, wanted) in &WORDS {
-        expect_words(&rt, rt.alloc(), size_of(*locations), orders, *data, wanted)?;
+/// Checks the words of a table on a store of a size.
+fn expect_all_words(rt: &impl Abort, alloc: Global, size: Size, rows: &[Left]) -> Result<(), Fail> {
+    for (orders, data, wanted) in rows {
+        expect_words(rt, alloc, size, orders, *data, wanted)?;
     }
     Ok(())
+}
+
+#[test]
+fn each_order_leaves_the_words_that_are_due(rt: HostRuntime) -> Result<(), Fail> {
+    expect_all_words(&rt, rt.alloc(), Full, &WORDS)?;
+    expect_all_words(&rt, rt.alloc(), Small, &WORDS_IN_512)
 }
 
 /// The rows that the order I reads, each to the least significant digits of a short location, or of the upper word of a

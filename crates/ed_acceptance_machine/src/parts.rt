@@ -1,7 +1,7 @@
 //! Each public call of the machine's parts once on its happy path.
 
-use crate::numbers::{code, codes, long, number_of_the_only, word};
-use crate::support::expect;
+use crate::numbers::{code, long, number_of_the_only, word};
+use crate::support::{expect, first_difference};
 use ed_acc::Acc;
 use ed_codes::{Code, TextFault, byte_of, row_of_byte, tape_of_text};
 use ed_machine::Paper;
@@ -60,9 +60,9 @@ fn long_words_and_their_halves(rt: HostRuntime) {
 
 #[test]
 fn the_sizes_of_a_store(rt: HostRuntime) {
-    assert!(rt; Size::Small.value() == 512);
-    assert!(rt; Size::Full.value() == 1024);
-    assert!(rt; fits(1023) && !fits(1024));
+    expect(&rt, Size::Small.value() == 512, "the small size");
+    expect(&rt, Size::Full.value() == 1024, "the full size");
+    expect(&rt, fits(1023) && !fits(1024), "what fits");
 }
 
 #[test]
@@ -90,9 +90,8 @@ fn codes_and_their_signs(rt: HostRuntime) {
 
 /// Checks that the rows of a text are these.
 fn expect_rows(rt: &impl Abort, alloc: Global, text: &[u8], numbers: &[u8]) -> Result<(), Fail> {
-    let wanted = codes(rt, alloc, numbers)?;
     let rows = tape_of_text(alloc, text)?;
-    assert!(rt; rows.as_slice() == wanted.as_slice());
+    expect(rt, first_difference(&rows, numbers).is_none(), "the rows");
     Ok(())
 }
 

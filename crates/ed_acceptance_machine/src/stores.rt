@@ -37,14 +37,24 @@ impl Sequence {
     }
 }
 
-/// A location, if there is one, at which the two stores differ.
+/// Whether the two stores differ at a location.
+fn differs(packed: &Store, plain: &Plain, a: u16) -> bool
+    requires { a < 1024 }
+{
+    packed.short(a) != plain.short(a)
+        || packed.long(a) != plain.long(a)
+        || packed.sandwich(a) != plain.sandwich(a)
+        || packed.cells()[usize::from(a / 2)] != plain.long(a).value()
+}
+
+/// The first location, if there is one, at which the two stores differ.
 fn difference(packed: &Store, plain: &Plain) -> Option<u16> {
-    (0..1024).find(|a| {
-        packed.short(*a) != plain.short(*a)
-            || packed.long(*a) != plain.long(*a)
-            || packed.sandwich(*a) != plain.sandwich(*a)
-            || packed.cells()[usize::from(*a / 2)] != plain.long(*a).value()
-    })
+    for a in 0..1024 {
+        if differs(packed, plain, a) {
+            return Some(a);
+        }
+    }
+    None
 }
 
 /// Writes the same word or long word into both stores.

@@ -1,79 +1,119 @@
 //! The twelve faults of meaning: each alone, and each two of them on one line and on two.
 
-use crate::support::{cause, fault_of};
+use crate::support::{expect, fault_of, is_at};
+use ed_syntax::SourceCause::{
+    self, AddressRange, Enter, LabelTwice, LabelUnknown, LoaderStore, NoSuchRoutine,
+    OutsideSegment, Overlap, ParameterStore, Parameters, SandwichDigit, StoreEnd,
+};
 use ed_words::Size;
 use std::alloc::Global;
 use std::process::Abort;
 use std::test::Fail;
 
-/// A number greater than that of any fault.
-const NONE: usize = 18;
+/// The faults of meaning, in the order of their numbers.
+const CAUSES: [SourceCause; 12] = [
+    LabelTwice,
+    LabelUnknown,
+    AddressRange,
+    OutsideSegment,
+    LoaderStore,
+    ParameterStore,
+    StoreEnd,
+    Overlap,
+    NoSuchRoutine,
+    Parameters,
+    Enter,
+    SandwichDigit,
+];
 
-/// Each fault's number, and two lines of which the second has that fault and no other.
-const FAULTY: [(usize, &str); 12] = [
-    (6, "segment c at 100\na: Z F\n"),
-    (7, "segment d at 110\nA nowhere F\n"),
-    (8, "segment e at 120\nA a-1000 F\n"),
-    (9, "use newline as f\nZ F\n"),
-    (10, "segment g at 43\nZ F\n"),
-    (11, "segment h at 55\nZ F\n"),
-    (12, "segment i at 1023\ntext \"AB\"\n"),
-    (13, "segment j at 56\nZ F\n"),
-    (14, "segment k at 130\nuse sine as l\n"),
-    (15, "segment n at 140\nuse print as o\n"),
-    (16, "segment p at 200\ndata \"A\"\n"),
-    (17, "segment q at 210\nlong -1\n"),
+/// For each of these faults two lines, of which the second has that fault and no other.
+const FAULTY: [&str; 12] = [
+    "segment c at 100\na: Z F\n",
+    "segment d at 110\nA nowhere F\n",
+    "segment e at 120\nA a-1000 F\n",
+    "use newline as f\nZ F\n",
+    "segment g at 43\nZ F\n",
+    "segment h at 55\nZ F\n",
+    "segment i at 1023\ntext \"AB\"\n",
+    "segment j at 56\nZ F\n",
+    "segment k at 130\nuse sine as l\n",
+    "segment n at 140\nuse print as o\n",
+    "segment p at 200\ndata \"A\"\n",
+    "segment q at 210\nlong -1\n",
 ];
 
 /// Lines before a line, that line's number, and the fault that a word of the line has there.
-const SETTINGS: [(&str, u32, usize); 7] = [
-    ("segment c at 100\n", 5, NONE),
-    ("use newline as c\n", 5, 9),
-    ("segment c at 42\n", 5, 10),
-    ("segment c at 52\n", 5, 11),
-    ("segment c at 1023\nZ F\n", 6, 12),
-    ("segment c at 56\n", 5, 13),
-    ("segment c at 100\nenter m\n", 6, 16),
+type Setting = (&'static str, u32, Option<SourceCause>);
+
+const SETTINGS: [Setting; 7] = [
+    ("segment c at 100\n", 5, None),
+    ("use newline as c\n", 5, Some(OutsideSegment)),
+    ("segment c at 42\n", 5, Some(LoaderStore)),
+    ("segment c at 52\n", 5, Some(ParameterStore)),
+    ("segment c at 1023\nZ F\n", 6, Some(StoreEnd)),
+    ("segment c at 56\n", 5, Some(Overlap)),
+    ("segment c at 100\nenter m\n", 6, Some(Enter)),
 ];
 
-/// A line without the name that it defines: the text before that name and after it, the least fault that the line has
-/// everywhere, and the least fault that it can have depending on the lines before it (a routine's words are in no
-/// segment, and an unknown routine has none).
-const LINES: [(&str, &str, usize, usize); 11] = [
-    ("", ": Z F\n", NONE, 9),
-    ("", ": A nowhere F\n", 7, 9),
-    ("", ": A a-1000 F\n", 8, 9),
-    ("", ": text \"ABCDEFGHIJKLMNOP\"\n", NONE, 9),
-    ("", ": long -1\n", 17, 9),
-    ("use print as ", "\n", 15, 10),
-    ("use print as ", " with N=nowhere\n", 7, 10),
-    ("use print as ", " with H=a-1000\n", 8, 10),
-    ("use sine as ", "\n", 14, 16),
-    ("use sine as ", " with H=a-1000\n", 8, 16),
-    ("use sine as ", " with H=a-1000,N=nowhere\n", 7, 16),
+/// What a line places. A routine's words are in no segment, and an unknown routine has none.
+#[derive(Clone, Copy)]
+enum Placed {
+    Words,
+    Routine,
+    Nothing,
+}
+
+/// A line without the name that it defines: the text before that name and after it, and the fault that the line has
+/// everywhere.
+type Form = (&'static str, &'static str, Option<SourceCause>);
+
+/// Lines with words of their own.
+const WORDS: [Form; 5] = [
+    ("", ": Z F\n", None),
+    ("", ": A nowhere F\n", Some(LabelUnknown)),
+    ("", ": A a-1000 F\n", Some(AddressRange)),
+    ("", ": text \"ABCDEFGHIJKLMNOP\"\n", None),
+    ("", ": long -1\n", Some(SandwichDigit)),
 ];
 
-/// Lines that have faults after other lines: their index, and the least of their faults.
-const OTHERS: [(&str, u32, usize); 7] = [
+/// Lines that place a routine.
+const ROUTINES: [Form; 3] = [
+    ("use print as ", "\n", Some(Parameters)),
+    ("use print as ", " with N=nowhere\n", Some(LabelUnknown)),
+    ("use print as ", " with H=a-1000\n", Some(AddressRange)),
+];
+
+/// Lines that place nothing.
+const UNKNOWN_ROUTINES: [Form; 3] = [
+    ("use sine as ", "\n", Some(NoSuchRoutine)),
+    ("use sine as ", " with H=a-1000\n", Some(AddressRange)),
     (
-        "segment c at 1022\nsegment d at 1022\ntext \"ABC\"\n",
-        6,
-        12,
+        "use sine as ",
+        " with H=a-1000,N=nowhere\n",
+        Some(LabelUnknown),
     ),
+];
+
+/// Lines after other lines, with the index of the line at fault. Each has more than one fault.
+const BEYOND: [(&str, u32); 3] = [
+    ("segment c at 1022\nsegment d at 1022\ntext \"ABC\"\n", 6),
     (
         "segment c at 1022\nZ F\nsegment d at 1022\ntext \"ABC\"\n",
         7,
-        12,
     ),
-    (
-        "segment c at 1022\nZ F\nsegment d at 1022\ntext \"AB\"\n",
-        7,
-        13,
-    ),
-    ("enter m\nenter nowhere\n", 5, 7),
-    ("segment c at 43\nenter c\n", 5, 10),
-    ("segment c at 43\nenter m\nenter c\n", 6, 10),
-    ("segment c at 1023\nuse newline as d\nenter d\n", 5, 12),
+    ("segment c at 1023\nuse newline as d\nenter d\n", 5),
+];
+
+const OVERLAPPING: [(&str, u32); 1] = [(
+    "segment c at 1022\nZ F\nsegment d at 1022\ntext \"AB\"\n",
+    7,
+)];
+
+const UNKNOWN: [(&str, u32); 1] = [("enter m\nenter nowhere\n", 5)];
+
+const IN_LOADER: [(&str, u32); 2] = [
+    ("segment c at 43\nenter c\n", 5),
+    ("segment c at 43\nenter m\nenter c\n", 6),
 ];
 
 /// The program of some lines, after two that define m and a at 56.
@@ -81,20 +121,25 @@ fn source(alloc: Global, lines: &str) -> Result<String, Fail> {
     Ok(format!(in alloc; "version 2\nsegment m\na: Z F\n{lines}enter m\n")?)
 }
 
-/// Checks that a program of some lines has a fault, by its number, on a line.
-fn expect(
+/// Checks that a program of some lines has a fault on a line.
+fn expect_fault(
     rt: &impl Abort,
     alloc: Global,
     lines: &str,
     line: u32,
-    number: usize,
+    cause: SourceCause,
 ) -> Result<(), Fail> {
     let text = source(alloc, lines)?;
-    let wanted = Some((line, cause(number)));
-    assert!(rt;
-        fault_of(alloc, Size::Full, text.as_bytes()) == wanted,
-        "{text}"
-    );
+    let fault = fault_of(alloc, Size::Full, text.as_bytes());
+    expect(rt, is_at(fault, line, cause), &text);
+    Ok(())
+}
+
+/// Checks that a program of some lines has no fault.
+fn expect_no_fault(rt: &impl Abort, alloc: Global, lines: &str) -> Result<(), Fail> {
+    let text = source(alloc, lines)?;
+    let fault = fault_of(alloc, Size::Full, text.as_bytes());
+    expect(rt, fault.is_none(), &text);
     Ok(())
 }
 
@@ -104,56 +149,142 @@ fn expect_first(
     alloc: Global,
     first: &str,
     second: &str,
-    number: usize,
+    cause: SourceCause,
 ) -> Result<(), Fail> {
     let both = format!(in alloc; "{first}{second}")?;
-    expect(rt, alloc, &both, 5, number)
+    expect_fault(rt, alloc, &both, 5, cause)
 }
 
-#[test]
-fn each_fault_alone_and_two_on_two_lines(rt: HostRuntime) -> Result<(), Fail> {
-    for (number, first) in &FAULTY {
-        expect(&rt, rt.alloc(), first, 5, *number)?;
-        for (_, second) in &FAULTY {
-            expect_first(&rt, rt.alloc(), first, second, *number)?;
-        }
+/// Checks that the second of two lines has a fault, alone and before each pair of lines.
+fn expect_alone_and_first(
+    rt: &impl Abort,
+    alloc: Global,
+    lines: &str,
+    cause: SourceCause,
+) -> Result<(), Fail> {
+    expect_fault(rt, alloc, lines, 5, cause)?;
+    for others in &FAULTY {
+        expect_first(rt, alloc, lines, others, cause)?;
     }
     Ok(())
 }
 
-/// Checks a line of `LINES` after other lines, with a name of its own, b, and with one that is defined before, a.
+#[test]
+fn each_fault_alone_and_two_on_two_lines(rt: HostRuntime) -> Result<(), Fail> {
+    for (lines, cause) in FAULTY.iter().zip(&CAUSES) {
+        expect_alone_and_first(&rt, rt.alloc(), lines, *cause)?;
+    }
+    Ok(())
+}
+
+/// The fault that a line has after other lines, given the one that a word has there.
+fn given(placed: Placed, of_a_word: Option<SourceCause>) -> Option<SourceCause> {
+    match (placed, of_a_word) {
+        (Placed::Words, _) => of_a_word,
+        (Placed::Routine, Some(OutsideSegment)) => None,
+        (Placed::Routine, _) => of_a_word,
+        (Placed::Nothing, Some(Enter)) => of_a_word,
+        (Placed::Nothing, _) => None,
+    }
+}
+
+/// The first of three faults by their numbers, if there is any.
+fn first_of(
+    one: Option<SourceCause>,
+    two: Option<SourceCause>,
+    three: Option<SourceCause>,
+) -> Option<SourceCause> {
+    for cause in &CAUSES {
+        let cause = Some(*cause);
+        if cause == one || cause == two || cause == three {
+            return cause;
+        }
+    }
+    None
+}
+
+/// Checks that a program of some lines has this fault on a line, or none.
+fn expect_outcome(
+    rt: &impl Abort,
+    alloc: Global,
+    lines: &str,
+    line: u32,
+    wanted: Option<SourceCause>,
+) -> Result<(), Fail> {
+    match wanted {
+        Some(cause) => expect_fault(rt, alloc, lines, line, cause),
+        None => expect_no_fault(rt, alloc, lines),
+    }
+}
+
+/// Checks a line after other lines, with a name of its own, b, and with one that is defined before, a.
 fn expect_on_one_line(
     rt: &impl Abort,
     alloc: Global,
-    setting: &(&str, u32, usize),
-    form: &(&str, &str, usize, usize),
+    setting: &Setting,
+    form: &Form,
+    placed: Placed,
 ) -> Result<(), Fail> {
-    let (before, line, given) = setting;
-    let (head, tail, own, least) = form;
-    let given = if given < least { NONE } else { *given };
-    for (name, twice) in &[("b", NONE), ("a", 6)] {
-        let number = (*own).min(*twice).min(given);
-        let line = if number == NONE { 0 } else { *line };
-        let lines = format!(in alloc; "{before}{head}{name}{tail}")?;
-        expect(rt, alloc, &lines, line, number)?;
+    let (before, line, of_a_word) = *setting;
+    let (head, tail, own) = *form;
+    let given = given(placed, of_a_word);
+    let new = format!(in alloc; "{before}{head}b{tail}")?;
+    expect_outcome(rt, alloc, &new, line, first_of(own, None, given))?;
+    let twice = format!(in alloc; "{before}{head}a{tail}")?;
+    expect_outcome(
+        rt,
+        alloc,
+        &twice,
+        line,
+        first_of(own, Some(LabelTwice), given),
+    )
+}
+
+/// Checks a line after each of the other lines.
+fn expect_in_each(rt: &impl Abort, alloc: Global, form: &Form, placed: Placed) -> Result<(), Fail> {
+    for setting in &SETTINGS {
+        expect_on_one_line(rt, alloc, setting, form, placed)?;
+    }
+    Ok(())
+}
+
+/// Checks each line of a table after each of the other lines.
+fn expect_forms(
+    rt: &impl Abort,
+    alloc: Global,
+    placed: Placed,
+    forms: &[Form],
+) -> Result<(), Fail> {
+    for form in forms {
+        expect_in_each(rt, alloc, form, placed)?;
     }
     Ok(())
 }
 
 #[test]
 fn two_faults_on_one_line(rt: HostRuntime) -> Result<(), Fail> {
-    for setting in &SETTINGS {
-        for form in &LINES {
-            expect_on_one_line(&rt, rt.alloc(), setting, form)?;
-        }
+    expect_forms(&rt, rt.alloc(), Placed::Words, &WORDS)?;
+    expect_forms(&rt, rt.alloc(), Placed::Routine, &ROUTINES)?;
+    expect_forms(&rt, rt.alloc(), Placed::Nothing, &UNKNOWN_ROUTINES)
+}
+
+/// Checks that programs have faults of one cause.
+fn expect_faults(
+    rt: &impl Abort,
+    alloc: Global,
+    cause: SourceCause,
+    rows: &[(&str, u32)],
+) -> Result<(), Fail> {
+    for (lines, line) in rows {
+        expect_fault(rt, alloc, lines, *line, cause)?;
     }
     Ok(())
 }
 
 #[test]
 fn other_faults_on_one_line(rt: HostRuntime) -> Result<(), Fail> {
-    for (lines, line, number) in &OTHERS {
-        expect(&rt, rt.alloc(), lines, *line, *number)?;
-    }
-    Ok(())
+    expect_faults(&rt, rt.alloc(), StoreEnd, &BEYOND)?;
+    expect_faults(&rt, rt.alloc(), Overlap, &OVERLAPPING)?;
+    expect_faults(&rt, rt.alloc(), LabelUnknown, &UNKNOWN)?;
+    expect_faults(&rt, rt.alloc(), LoaderStore, &IN_LOADER)
 }

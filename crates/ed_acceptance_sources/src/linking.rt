@@ -1,8 +1,12 @@
 //! Linking: the punched tape and the words of a source, where it begins, and the first fault of meaning.
 
-use crate::support::{Row, expect, expect_faults, linked, rows_of, tape_of};
+use crate::support::{Row, expect, expect_faults, expect_no_faults, linked, rows_of, tape_of};
 use ed_codes::tape_of_text;
 use ed_link::Linked;
+use ed_syntax::SourceCause::{
+    self, AddressRange, Enter, LabelTwice, LabelUnknown, LoaderStore, NoSuchRoutine,
+    OutsideSegment, Overlap, ParameterStore, Parameters, SandwichDigit, StoreEnd,
+};
 use ed_words::Size;
 use std::alloc::Global;
 use std::process::Abort;
@@ -50,67 +54,91 @@ const WORDS: [(u16, u32); 5] = [
 /// Its names, with their locations.
 const LABELS: [(&str, u16); 3] = [("main", 56), ("mark", 59), ("letter", 60)];
 
-/// The first faults of sources in a store of 1024 locations, by their lines and numbers.
-const FAULTS: [Row; 28] = [
-    (FIRST, 0, 0),
-    (SECOND, 11, 9),
-    (THIRD, 0, 0),
-    (b"", 1, 16),
-    (
-        b"segment m\nA nowhere F\nsegment s at 20\nZ F\nenter m",
-        2,
-        7,
-    ),
-    (b"segment m\nsegment s at 20\nZ F\nenter m", 3, 10),
-    (b"segment m at 43\nm: Z F\nenter m", 2, 6),
-    (b"segment m\nA m+1000 F\nenter m", 2, 8),
-    (b"Z F\nsegment m\nZ F\nenter m", 1, 9),
-    (b"segment m at 43\nZ F\nenter m", 2, 10),
-    (b"segment m at 44\nZ F\nenter m", 2, 11),
-    (b"segment m at 55\nZ F\nenter m", 2, 11),
-    (b"segment m at 55\nenter m", 2, 11),
-    (b"segment m at 1023\nZ F\nenter m", 0, 0),
-    (b"segment m at 1023\nZ F\nZ F\nenter m", 3, 12),
-    (
-        b"segment m at 60\nZ F\nsegment n at 58\ntext \"ABC\"\nenter m",
-        4,
-        13,
-    ),
-    (
-        b"segment m at 60\nZ F\nsegment n at 58\ntext \"AB\"\nenter m",
-        0,
-        0,
-    ),
-    (b"use newlin as n\nenter n", 1, 14),
-    (b"use newline as n with H=1\nenter n", 1, 15),
-    (b"segment m\nZ F\nenter m\nenter m", 4, 16),
-    (b"segment m\nZ F\nenter m\nZ F", 4, 16),
-    (b"data \"A\"\nsegment m\nZ F\nenter m", 1, 16),
-    (b"data \"A\"\nsegment m\nZ F\n", 4, 16),
-    (b"segment m\nZ F\nenter m\n\ndata \"A\"", 0, 0),
-    (b"segment m\nZ F\nenter m\na:", 4, 16),
-    (b"version 2\nsegment m\nlong 131072\nenter m", 3, 17),
-    (b"version 2\nsegment m at 55\nlong 5\nenter m", 3, 11),
-    (b"version 2\nsegment m at 1023\nlong 5\nenter m", 3, 12),
+/// Sources without a fault in a store of 1024 locations.
+const FAULTLESS: [&[u8]; 5] = [
+    FIRST,
+    THIRD,
+    b"segment m at 1023\nZ F\nenter m",
+    b"segment m at 60\nZ F\nsegment n at 58\ntext \"AB\"\nenter m",
+    b"segment m\nZ F\nenter m\n\ndata \"A\"",
 ];
 
-/// The first faults of sources in a store of 512 locations.
-const FAULTS_IN_512: [Row; 3] = [
-    (b"segment m at 511\nZ F\nenter m", 0, 0),
-    (b"segment m at 512\nZ F\nenter m", 2, 12),
-    (b"segment m at 512\nenter m", 2, 12),
+/// Sources that define a name twice.
+const LABELS_TWICE: [Row; 1] = [(b"segment m at 43\nm: Z F\nenter m", 2)];
+
+/// Sources with an unknown name.
+const LABELS_UNKNOWN: [Row; 1] = [(b"segment m\nA nowhere F\nsegment s at 20\nZ F\nenter m", 2)];
+
+/// Sources with an address beyond the largest.
+const ADDRESSES: [Row; 1] = [(b"segment m\nA m+1000 F\nenter m", 2)];
+
+/// Sources with words outside a segment.
+const OUTSIDE: [Row; 2] = [(SECOND, 11), (b"Z F\nsegment m\nZ F\nenter m", 1)];
+
+/// Sources with a word or an entry below 44.
+const IN_LOADER: [Row; 2] = [
+    (b"segment m\nsegment s at 20\nZ F\nenter m", 3),
+    (b"segment m at 43\nZ F\nenter m", 2),
+];
+
+/// Sources with a word or an entry from 44 to 55.
+const IN_PARAMETERS: [Row; 4] = [
+    (b"segment m at 44\nZ F\nenter m", 2),
+    (b"segment m at 55\nZ F\nenter m", 2),
+    (b"segment m at 55\nenter m", 2),
+    (b"version 2\nsegment m at 55\nlong 5\nenter m", 3),
+];
+
+/// Sources with a word after the last location.
+const BEYOND: [Row; 2] = [
+    (b"segment m at 1023\nZ F\nZ F\nenter m", 3),
+    (b"version 2\nsegment m at 1023\nlong 5\nenter m", 3),
+];
+
+/// Sources with two words at one location.
+const OVERLAPS: [Row; 1] = [(
+    b"segment m at 60\nZ F\nsegment n at 58\ntext \"ABC\"\nenter m",
+    4,
+)];
+
+/// Sources that use a routine that the library doesn't have.
+const NO_ROUTINES: [Row; 1] = [(b"use newlin as n\nenter n", 1)];
+
+/// Sources that set a parameter that the routine doesn't have.
+const PARAMETERS: [Row; 1] = [(b"use newline as n with H=1\nenter n", 1)];
+
+/// Sources with `enter` missing, twice or out of order.
+const ENTERS: [Row; 6] = [
+    (b"", 1),
+    (b"segment m\nZ F\nenter m\nenter m", 4),
+    (b"segment m\nZ F\nenter m\nZ F", 4),
+    (b"data \"A\"\nsegment m\nZ F\nenter m", 1),
+    (b"data \"A\"\nsegment m\nZ F\n", 4),
+    (b"segment m\nZ F\nenter m\na:", 4),
+];
+
+/// Sources with a long word whose sandwich digit is 1.
+const SANDWICHES: [Row; 1] = [(b"version 2\nsegment m\nlong 131072\nenter m", 3)];
+
+/// A source without a fault in a store of 512 locations.
+const FAULTLESS_IN_512: [&[u8]; 1] = [b"segment m at 511\nZ F\nenter m"];
+
+/// Sources with a word or an entry after the last of 512 locations.
+const BEYOND_512: [Row; 2] = [
+    (b"segment m at 512\nZ F\nenter m", 2),
+    (b"segment m at 512\nenter m", 2),
 ];
 
 /// Checks that a tape is punched for a source.
 fn is_punched(rt: &impl Abort, alloc: Global, text: &[u8], punched: &str) -> Result<(), Fail> {
-    let tape = tape_of(alloc, text)?;
+    let tape = tape_of(rt, alloc, text)?;
     expect(rt, tape.as_slice() == punched.as_bytes(), punched);
     Ok(())
 }
 
 /// Checks that the text of a tape spells the rows of a source's tape.
 fn spells_rows(rt: &impl Abort, alloc: Global, text: &[u8], punched: &str) -> Result<(), Fail> {
-    let rows = rows_of(alloc, text)?;
+    let rows = rows_of(rt, alloc, text)?;
     let spelled = tape_of_text(alloc, punched.as_bytes())?;
     expect(rt, spelled.as_slice() == rows.as_slice(), punched);
     Ok(())
@@ -129,9 +157,8 @@ fn has_words(linked: &Linked, words: &[(u16, u32)]) -> bool {
 
 /// Whether a linked program has these names with their locations.
 fn has_labels(linked: &Linked, labels: &[(&str, u16)]) -> bool {
-    for (label, wanted) in linked.labels.iter().zip(labels) {
-        let (name, place) = *wanted;
-        if label.name.text() != name || label.place != place {
+    for (index, label) in linked.labels.iter().enumerate() {
+        if labels.get(index) != Some(&(label.name.text(), label.place)) {
             return false;
         }
     }
@@ -148,8 +175,8 @@ fn what_is_punched(rt: HostRuntime) -> Result<(), Fail> {
 }
 
 #[test]
-fn the_linked_program(rt: HostRuntime) -> Result<(), Fail> {
-    let linked = linked(rt.alloc(), Size::Small, FIRST).ok_or("a fault")?;
+fn the_linked_program(rt: HostRuntime) {
+    let linked = linked(&rt, rt.alloc(), Size::Small, FIRST);
     expect(&rt, has_words(&linked, &WORDS), "the words");
     expect(&rt, has_labels(&linked, &LABELS), "the names");
     expect(
@@ -157,11 +184,38 @@ fn the_linked_program(rt: HostRuntime) -> Result<(), Fail> {
         linked.entry == 56 && linked.after.is_empty(),
         "the entry",
     );
-    Ok(())
 }
 
 #[test]
-fn the_fault_of_meaning(rt: HostRuntime) {
-    expect_faults(&rt, rt.alloc(), Size::Full, &FAULTS);
-    expect_faults(&rt, rt.alloc(), Size::Small, &FAULTS_IN_512);
+fn sources_without_a_fault(rt: HostRuntime) {
+    expect_no_faults(&rt, rt.alloc(), Size::Full, &FAULTLESS);
+    expect_no_faults(&rt, rt.alloc(), Size::Small, &FAULTLESS_IN_512);
+}
+
+/// Checks the sources of a table in a store of 1024 locations.
+fn expect_in_full(rt: &impl Abort, alloc: Global, cause: SourceCause, rows: &[Row]) {
+    expect_faults(rt, alloc, Size::Full, cause, rows);
+}
+
+#[test]
+fn faults_of_names_and_of_what_a_line_says(rt: HostRuntime) {
+    let alloc = rt.alloc();
+    expect_in_full(&rt, alloc, LabelTwice, &LABELS_TWICE);
+    expect_in_full(&rt, alloc, LabelUnknown, &LABELS_UNKNOWN);
+    expect_in_full(&rt, alloc, AddressRange, &ADDRESSES);
+    expect_in_full(&rt, alloc, NoSuchRoutine, &NO_ROUTINES);
+    expect_in_full(&rt, alloc, Parameters, &PARAMETERS);
+    expect_in_full(&rt, alloc, Enter, &ENTERS);
+    expect_in_full(&rt, alloc, SandwichDigit, &SANDWICHES);
+}
+
+#[test]
+fn faults_of_where_words_are(rt: HostRuntime) {
+    let alloc = rt.alloc();
+    expect_in_full(&rt, alloc, OutsideSegment, &OUTSIDE);
+    expect_in_full(&rt, alloc, LoaderStore, &IN_LOADER);
+    expect_in_full(&rt, alloc, ParameterStore, &IN_PARAMETERS);
+    expect_in_full(&rt, alloc, StoreEnd, &BEYOND);
+    expect_in_full(&rt, alloc, Overlap, &OVERLAPS);
+    expect_faults(&rt, alloc, Size::Small, StoreEnd, &BEYOND_512);
 }

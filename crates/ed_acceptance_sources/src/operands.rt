@@ -1,6 +1,7 @@
 //! Each kind of operand at its edges, in a first segment, in one at a base, and in the settings of a use.
 
-use crate::support::{cause, expect, fault_of, tape_of};
+use crate::support::{expect, fault_of, is_at, tape_of};
+use ed_syntax::SourceCause::{self, AddressRange, LabelUnknown, NotAStatement, NumberRange};
 use ed_words::Size;
 use std::alloc::Global;
 use std::process::Abort;
@@ -99,46 +100,26 @@ const ITEMS_IN_A_USE: [(&str, &str); 14] = [
     ("m-p", "51F"),
 ];
 
-/// Operands that are refused, and the numbers of their faults.
-const REFUSED_IN_FIRST: [(&str, usize); 14] = [
-    ("32768", 4),
-    ("t-1024", 4),
-    ("s+1024", 4),
-    ("m+968", 8),
-    ("m-57", 8),
-    ("t+1", 8),
-    ("s-1", 8),
-    ("_l+967", 8),
-    ("_l-58", 8),
-    ("s-t", 8),
-    ("t+m", 8),
-    ("m-_l", 8),
-    ("_k", 7),
-    ("m-_k", 7),
+/// Operands that are refused, for each cause.
+const NUMBERS_IN_FIRST: [&str; 3] = ["32768", "t-1024", "s+1024"];
+
+const ADDRESSES_IN_FIRST: [&str; 9] = [
+    "m+968", "m-57", "t+1", "s-1", "_l+967", "_l-58", "s-t", "t+m", "m-_l",
 ];
 
-const REFUSED_AT_100: [(&str, usize); 5] = [
-    ("m+924", 8),
-    ("m-101", 8),
-    ("_l+923", 8),
-    ("_l-102", 8),
-    ("m-t", 8),
+const UNKNOWN_IN_FIRST: [&str; 2] = ["_k", "m-_k"];
+
+const ADDRESSES_AT_100: [&str; 5] = ["m+924", "m-101", "_l+923", "_l-102", "m-t"];
+
+const NOTHING_IN_A_USE: [&str; 1] = [""];
+
+const NUMBERS_IN_A_USE: [&str; 1] = ["32768"];
+
+const ADDRESSES_IN_A_USE: [&str; 8] = [
+    "p+968", "p-57", "m+917", "m-108", "t+1", "s-1", "s-t", "t+p",
 ];
 
-const REFUSED_IN_A_USE: [(&str, usize); 12] = [
-    ("", 3),
-    ("32768", 4),
-    ("p+968", 8),
-    ("p-57", 8),
-    ("m+917", 8),
-    ("m-108", 8),
-    ("t+1", 8),
-    ("s-1", 8),
-    ("s-t", 8),
-    ("t+p", 8),
-    ("_l", 7),
-    ("m-_l", 7),
-];
+const UNKNOWN_IN_A_USE: [&str; 2] = ["_l", "m-_l"];
 
 /// The source of an operand.
 fn source_of(alloc: Global, frame: &Frame, operand: &str) -> Result<String, Fail> {
@@ -147,7 +128,7 @@ fn source_of(alloc: Global, frame: &Frame, operand: &str) -> Result<String, Fail
 
 /// Checks how a source's tape begins.
 fn begins_with(rt: &impl Abort, alloc: Global, text: &str, wanted: &str) -> Result<(), Fail> {
-    let tape = tape_of(alloc, text.as_bytes())?;
+    let tape = tape_of(rt, alloc, text.as_bytes())?;
     expect(rt, tape.starts_with(wanted.as_bytes()), text);
     Ok(())
 }
@@ -178,29 +159,30 @@ fn punched(
     Ok(())
 }
 
-/// Checks that an operand is refused for a fault, by its number.
+/// Checks that an operand is refused for a cause.
 fn expect_refused(
     rt: &impl Abort,
     alloc: Global,
     frame: &Frame,
+    cause: SourceCause,
     operand: &str,
-    number: usize,
 ) -> Result<(), Fail> {
     let text = source_of(alloc, frame, operand)?;
     let fault = fault_of(alloc, Size::Full, text.as_bytes());
-    expect(rt, fault == Some((3, cause(number))), &text);
+    expect(rt, is_at(fault, 3, cause), &text);
     Ok(())
 }
 
-/// Checks that operands are refused.
+/// Checks that operands are refused for a cause.
 fn refused(
     rt: &impl Abort,
     alloc: Global,
     frame: &Frame,
-    cases: &[(&str, usize)],
+    cause: SourceCause,
+    operands: &[&str],
 ) -> Result<(), Fail> {
-    for (operand, number) in cases {
-        expect_refused(rt, alloc, frame, operand, *number)?;
+    for operand in operands {
+        expect_refused(rt, alloc, frame, cause, operand)?;
     }
     Ok(())
 }
@@ -222,15 +204,26 @@ fn operands_in_the_settings_of_a_use(rt: HostRuntime) -> Result<(), Fail> {
 
 #[test]
 fn operands_beyond_their_edges_in_the_first_segment(rt: HostRuntime) -> Result<(), Fail> {
-    refused(&rt, rt.alloc(), &FIRST, &REFUSED_IN_FIRST)
+    refused(&rt, rt.alloc(), &FIRST, NumberRange, &NUMBERS_IN_FIRST)?;
+    refused(&rt, rt.alloc(), &FIRST, AddressRange, &ADDRESSES_IN_FIRST)?;
+    refused(&rt, rt.alloc(), &FIRST, LabelUnknown, &UNKNOWN_IN_FIRST)
 }
 
 #[test]
 fn operands_beyond_their_edges_in_a_segment_at_a_place(rt: HostRuntime) -> Result<(), Fail> {
-    refused(&rt, rt.alloc(), &AT_100, &REFUSED_AT_100)
+    refused(&rt, rt.alloc(), &AT_100, AddressRange, &ADDRESSES_AT_100)
 }
 
 #[test]
 fn operands_beyond_their_edges_in_the_settings_of_a_use(rt: HostRuntime) -> Result<(), Fail> {
-    refused(&rt, rt.alloc(), &IN_A_USE, &REFUSED_IN_A_USE)
+    refused(&rt, rt.alloc(), &IN_A_USE, NotAStatement, &NOTHING_IN_A_USE)?;
+    refused(&rt, rt.alloc(), &IN_A_USE, NumberRange, &NUMBERS_IN_A_USE)?;
+    refused(
+        &rt,
+        rt.alloc(),
+        &IN_A_USE,
+        AddressRange,
+        &ADDRESSES_IN_A_USE,
+    )?;
+    refused(&rt, rt.alloc(), &IN_A_USE, LabelUnknown, &UNKNOWN_IN_A_USE)
 }

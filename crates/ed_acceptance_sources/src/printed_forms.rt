@@ -6,6 +6,7 @@ use ed_codes::Code;
 use ed_syntax::{Line, Name, Operand, Setting, Statement, Version, parse};
 use ed_words::{Long, Word};
 use std::alloc::Global;
+use std::process::Abort;
 
 /// The number of sources that are printed, and the number of lines of each: 20,000 forms in all.
 const SOURCES: u32 = 10;
@@ -78,6 +79,12 @@ impl Sequence {
     }
 }
 
+/// Adds a code to a string.
+fn push(rt: &impl Abort, codes: &mut ArrayVec<Code, 120>, number: u8) {
+    let code = Code::new(number).expect(rt, "a code");
+    codes.try_push(code).ok().expect(rt, "room");
+}
+
 /// A text that is written part by part.
 #[derive(Drop)]
 struct Writer {
@@ -87,77 +94,82 @@ struct Writer {
 }
 
 impl Writer {
+    /// Writes a piece as it is.
+    fn put(&mut self, rt: &impl Abort, piece: &str) {
+        self.text.push_str(piece).ok().expect(rt, "memory");
+    }
+
     /// Writes a name, a number or a keyword.
-    fn run(&mut self, run: &str) -> Option<()> {
+    fn run(&mut self, rt: &impl Abort, run: &str) {
         let blanks = BLANKS[self.sequence.below(4) as usize];
-        self.text.push_str(blanks).ok()?;
-        self.text.push_str(run).ok()
+        self.put(rt, blanks);
+        self.put(rt, run);
     }
 
     /// Writes a function, a letter, a length or a mark.
-    fn sign(&mut self, sign: &str) -> Option<()> {
+    fn sign(&mut self, rt: &impl Abort, sign: &str) {
         let blanks = FEW_BLANKS[self.sequence.below(4) as usize];
-        self.text.push_str(blanks).ok()?;
-        self.text.push_str(sign).ok()
+        self.put(rt, blanks);
+        self.put(rt, sign);
     }
 
     /// Writes a number.
-    fn number(&mut self, alloc: Global, number: u64) -> Option<()> {
+    fn number(&mut self, rt: &impl Abort, number: u64) {
         let zeros = ZEROS[self.sequence.below(4) as usize];
-        let digits = format!(in alloc; "{zeros}{number}").ok()?;
-        self.run(&digits)
+        self.run(rt, zeros);
+        write!(self.text, "{number}").ok().expect(rt, "memory");
     }
 
     /// Writes a name that may stand anywhere.
-    fn name(&mut self) -> Option<Name> {
+    fn name(&mut self, rt: &impl Abort) -> Name {
         let name = NAMES[self.sequence.below(8) as usize];
-        self.run(name)?;
-        Name::new(name)
+        self.run(rt, name);
+        Name::new(name).expect(rt, name)
     }
 
     /// Writes a name that may stand as a label and in an operand.
-    fn place_name(&mut self) -> Option<Name> {
+    fn place_name(&mut self, rt: &impl Abort) -> Name {
         if !self.version.is_two() || self.sequence.below(3) > 0 {
-            return self.name();
+            return self.name(rt);
         }
         let name = LOCAL_NAMES[self.sequence.below(4) as usize];
-        self.run(name)?;
-        Name::new(name)
+        self.run(rt, name);
+        Name::new(name).expect(rt, name)
     }
 
     /// Writes an operand.
-    fn operand(&mut self, alloc: Global) -> Option<Operand> {
+    fn operand(&mut self, rt: &impl Abort) -> Operand {
         if self.sequence.below(3) == 0 {
             let number = self.sequence.below(32768);
-            self.number(alloc, u64::from(number))?;
-            return Some(Operand::Number(number as u16));
+            self.number(rt, u64::from(number));
+            return Operand::Number(number as u16);
         }
-        let name = self.place_name()?;
+        let name = self.place_name(rt);
         if self.sequence.below(3) == 0 {
-            return Some(Operand::Label { name, plus: 0 });
+            return Operand::Label { name, plus: 0 };
         }
         let minus = self.sequence.below(2) == 1;
-        self.sign(if minus { "-" } else { "+" })?;
+        self.sign(rt, if minus { "-" } else { "+" });
         if self.version.is_two() && self.sequence.below(2) == 1 {
-            let second = self.place_name()?;
-            return Some(Operand::Two {
+            let second = self.place_name(rt);
+            return Operand::Two {
                 first: name,
                 second,
                 minus,
-            });
+            };
         }
         let number = self.sequence.below(1024);
-        self.number(alloc, u64::from(number))?;
+        self.number(rt, u64::from(number));
         let plus = if minus {
             -(number as i32)
         } else {
             number as i32
         };
-        Some(Operand::Label { name, plus })
+        Operand::Label { name, plus }
     }
 
     /// Writes a number from 0 to `most` or from -`least` to 0, and answers it modulo `most` + 1.
-    fn integer(&mut self, alloc: Global, least: u64, most: u64) -> Option<u64>
+    fn integer(&mut self, rt: &impl Abort, least: u64, most: u64) -> u64
         requires least { least < 2 ^ 36 }
         requires most { most < 2 ^ 36 }
     {
@@ -165,189 +177,195 @@ impl Writer {
         let drawn = high * 1_048_576 + u64::from(self.sequence.below(1_048_576));
         if self.sequence.below(2) == 0 {
             let number = drawn % (most + 1);
-            self.number(alloc, number)?;
-            return Some(number);
+            self.number(rt, number);
+            return number;
         }
         let number = drawn % (least + 1);
-        self.sign("-")?;
-        self.number(alloc, number)?;
-        Some((most + 1).wrapping_sub(number) % (most + 1))
+        self.sign(rt, "-");
+        self.number(rt, number);
+        (most + 1).wrapping_sub(number) % (most + 1)
     }
 
     /// Writes a string of one to eight rows.
-    fn string(&mut self) -> Option<ArrayVec<Code, 120>> {
+    fn string(&mut self, rt: &impl Abort) -> ArrayVec<Code, 120> {
         let mut codes = ArrayVec::new();
-        self.sign("\"")?;
+        self.sign(rt, "\"");
         for _ in 0..1 + self.sequence.below(8) {
             let code = self.sequence.below(32);
-            self.text.push_str(LETTERS[code as usize]).ok()?;
-            codes.try_push(Code::new(code as u8)?).ok()?;
+            self.put(rt, LETTERS[code as usize]);
+            push(rt, &mut codes, code as u8);
         }
-        self.text.push_str("\"").ok()?;
-        Some(codes)
+        self.put(rt, "\"");
+        codes
     }
 
     /// Writes settings, as long as the line has room for one more.
-    fn settings(&mut self, alloc: Global, start: usize) -> Option<ArrayVec<Setting, 6>> {
+    fn settings(&mut self, rt: &impl Abort, start: usize) -> ArrayVec<Setting, 6> {
         let mut settings = ArrayVec::new();
         if self.sequence.below(3) == 0 {
-            return Some(settings);
+            return settings;
         }
-        self.run("with")?;
+        self.run(rt, "with");
         for place in 0..6 {
             if place > 0 {
                 if self.sequence.below(3) == 0 || self.text.len().saturating_sub(start) > 55 {
                     break;
                 }
-                self.sign(",")?;
+                self.sign(rt, ",");
             }
-            let (letter, code) = SETTINGS[self.sequence.below(6) as usize];
-            self.sign(letter)?;
-            self.sign("=")?;
-            let operand = self.operand(alloc)?;
-            let letter = Code::new(code)?;
-            settings.try_push(Setting { letter, operand }).ok()?;
+            let setting = self.setting(rt);
+            settings.try_push(setting).ok().expect(rt, "room");
         }
-        Some(settings)
+        settings
+    }
+
+    /// Writes a setting.
+    fn setting(&mut self, rt: &impl Abort) -> Setting {
+        let (letter, code) = SETTINGS[self.sequence.below(6) as usize];
+        self.sign(rt, letter);
+        self.sign(rt, "=");
+        let operand = self.operand(rt);
+        let letter = Code::new(code).expect(rt, "a code");
+        Setting { letter, operand }
     }
 
     /// Writes an order.
-    fn order(&mut self, alloc: Global) -> Option<Statement> {
+    fn order(&mut self, rt: &impl Abort) -> Statement {
         let code = self.sequence.below(32);
-        self.sign(LETTERS[code as usize])?;
+        self.sign(rt, LETTERS[code as usize]);
         let operand = if self.sequence.below(4) == 0 {
             Operand::Number(0)
         } else {
-            self.operand(alloc)?
+            self.operand(rt)
         };
         let length = self.sequence.below(2) == 1;
-        self.sign(if length { "D" } else { "F" })?;
-        Some(Statement::Order {
-            function: Code::new(code as u8)?,
+        self.sign(rt, if length { "D" } else { "F" });
+        Statement::Order {
+            function: Code::new(code as u8).expect(rt, "a code"),
             operand,
             length,
-        })
+        }
     }
 
     /// Writes a statement that may have a label.
-    fn placed(&mut self, alloc: Global) -> Option<Statement> {
+    fn placed(&mut self, rt: &impl Abort) -> Statement {
         match self
             .sequence
             .below(if self.version.is_two() { 8 } else { 7 })
         {
             0 | 1 => {
-                self.run("word")?;
-                let number = self.integer(alloc, 65536, 131_071)?;
-                Some(Statement::Number {
-                    value: Word::new((number % 131_072) as u32)?,
-                })
+                self.run(rt, "word");
+                let number = self.integer(rt, 65536, 131_071);
+                Statement::Number {
+                    value: Word::new((number % 131_072) as u32).expect(rt, "a word"),
+                }
             }
             2 => {
-                self.run("text")?;
-                Some(Statement::Text {
-                    codes: self.string()?,
-                })
+                self.run(rt, "text");
+                Statement::Text {
+                    codes: self.string(rt),
+                }
             }
             7 => {
-                self.run("long")?;
-                let number = self.integer(alloc, 17_179_869_184, 34_359_738_367)?;
-                Some(Statement::Long {
-                    value: Long::new(number)?,
-                })
+                self.run(rt, "long");
+                let number = self.integer(rt, 17_179_869_184, 34_359_738_367);
+                Statement::Long {
+                    value: Long::new(number).expect(rt, "a long word"),
+                }
             }
-            _ => self.order(alloc),
+            _ => self.order(rt),
         }
     }
 
     /// Writes a segment, with its base or without.
-    fn segment(&mut self, alloc: Global) -> Option<Statement> {
-        self.run("segment")?;
-        let name = self.name()?;
+    fn segment(&mut self, rt: &impl Abort) -> Statement {
+        self.run(rt, "segment");
+        let name = self.name(rt);
         if self.sequence.below(2) == 0 {
-            return Some(Statement::Segment { name, base: None });
+            return Statement::Segment { name, base: None };
         }
         let base = self.sequence.below(1024);
-        self.run("at")?;
-        self.number(alloc, u64::from(base))?;
-        Some(Statement::Segment {
+        self.run(rt, "at");
+        self.number(rt, u64::from(base));
+        Statement::Segment {
             name,
             base: Some(base as u16),
-        })
+        }
     }
 
     /// Writes a `use`.
-    fn fetch(&mut self, alloc: Global) -> Option<Statement> {
+    fn fetch(&mut self, rt: &impl Abort) -> Statement {
         let start = self.text.len();
-        self.run("use")?;
-        let routine = self.name()?;
-        self.run("as")?;
-        let name = self.name()?;
-        Some(Statement::Fetch {
+        self.run(rt, "use");
+        let routine = self.name(rt);
+        self.run(rt, "as");
+        let name = self.name(rt);
+        Statement::Fetch {
             routine,
             name,
-            settings: self.settings(alloc, start)?,
-        })
+            settings: self.settings(rt, start),
+        }
     }
 
     /// Writes the form of a line: its label and its statement.
-    fn form(&mut self, alloc: Global) -> Option<(Option<Name>, Option<Statement>)> {
+    fn form(&mut self, rt: &impl Abort) -> (Option<Name>, Option<Statement>) {
         match self.sequence.below(12) {
-            0 => Some((None, None)),
-            1 => Some((None, Some(self.segment(alloc)?))),
-            2 | 3 => Some((None, Some(self.fetch(alloc)?))),
+            0 => (None, None),
+            1 => (None, Some(self.segment(rt))),
+            2 | 3 => (None, Some(self.fetch(rt))),
             4 => {
-                self.run("enter")?;
-                let name = self.name()?;
-                Some((None, Some(Statement::Enter { name })))
+                self.run(rt, "enter");
+                let name = self.name(rt);
+                (None, Some(Statement::Enter { name }))
             }
             5 => {
-                self.run("data")?;
-                let codes = self.string()?;
-                Some((None, Some(Statement::Rows { codes })))
+                self.run(rt, "data");
+                let codes = self.string(rt);
+                (None, Some(Statement::Rows { codes }))
             }
             6 | 7 | 8 => {
-                let label = self.place_name()?;
-                self.sign(":")?;
+                let label = self.place_name(rt);
+                self.sign(rt, ":");
                 if self.sequence.below(4) == 0 {
-                    return Some((Some(label), None));
+                    return (Some(label), None);
                 }
-                Some((Some(label), Some(self.placed(alloc)?)))
+                (Some(label), Some(self.placed(rt)))
             }
-            _ => Some((None, Some(self.placed(alloc)?))),
+            _ => (None, Some(self.placed(rt))),
         }
     }
 
     /// Writes what a line says: in the first line of version 2 this is the version.
-    fn content(&mut self, alloc: Global, number: u32) -> Option<(Option<Name>, Option<Statement>)> {
+    fn content(&mut self, rt: &impl Abort, number: u32) -> (Option<Name>, Option<Statement>) {
         if number == 1 && self.version.is_two() {
-            self.text.push_str(" version\t02").ok()?;
-            return Some((None, None));
+            self.put(rt, " version\t02");
+            return (None, None);
         }
-        self.form(alloc)
+        self.form(rt)
     }
 
     /// Writes a line.
-    fn line(&mut self, alloc: Global, number: u32) -> Option<Line> {
-        let (label, statement) = self.content(alloc, number)?;
-        self.end()?;
-        Some(Line {
+    fn line(&mut self, rt: &impl Abort, number: u32) -> Line {
+        let (label, statement) = self.content(rt, number);
+        self.end(rt);
+        Line {
             number,
             label,
             statement,
-        })
+        }
     }
 
     /// Writes the end of a line.
-    fn end(&mut self) -> Option<()> {
+    fn end(&mut self, rt: &impl Abort) {
         let comment = COMMENTS[self.sequence.below(4) as usize];
-        self.text.push_str(comment).ok()?;
+        self.put(rt, comment);
         let end = LINE_ENDS[self.sequence.below(2) as usize];
-        self.text.push_str(end).ok()
+        self.put(rt, end);
     }
 }
 
 /// A source by its number, and the lines from which it was printed.
-fn printed(alloc: Global, source: u32) -> Option<(String, Vec<Line>)> {
+fn printed(rt: &impl Abort, alloc: Global, source: u32) -> (String, Vec<Line>) {
     let version = if source % 2 == 1 {
         Version::Two
     } else {
@@ -360,9 +378,12 @@ fn printed(alloc: Global, source: u32) -> Option<(String, Vec<Line>)> {
     };
     let mut lines = Vec::new(alloc);
     for number in 1..LINES + 1 {
-        lines.push(writer.line(alloc, number)?).ok()?;
+        lines
+            .push(writer.line(rt, number))
+            .ok()
+            .expect(rt, "memory");
     }
-    Some((writer.text, lines))
+    (writer.text, lines)
 }
 
 /// Whether two operands are alike.
@@ -477,16 +498,16 @@ fn first_unlike(read: &[Line], lines: &[Line]) -> u32 {
 }
 
 /// The first line of a source that is read differently from what it was printed from; 0 if there is none.
-fn first_difference(alloc: Global, source: u32) -> Option<u32> {
-    let (text, lines) = printed(alloc, source)?;
-    let program = parse(alloc, text.as_bytes()).ok()?;
-    Some(first_unlike(&program.lines, &lines))
+fn first_difference(rt: &impl Abort, alloc: Global, source: u32) -> u32 {
+    let (text, lines) = printed(rt, alloc, source);
+    let program = parse(alloc, text.as_bytes()).ok().expect(rt, "a program");
+    first_unlike(&program.lines, &lines)
 }
 
 #[test]
 fn printed_forms_are_read_back(rt: HostRuntime) {
     for source in 0..SOURCES {
-        let line = first_difference(rt.alloc(), source);
-        assert!(rt; line == Some(0), "source {source}: {line:?}");
+        let line = first_difference(&rt, rt.alloc(), source);
+        assert!(rt; line == 0, "line {line} of source {source}");
     }
 }

@@ -106,8 +106,8 @@ fn add_items(
 
 /// Checks the text of a routine's items.
 fn expect_text(rt: &impl Abort, alloc: Global, sheet: &Sheet) -> Result<(), Fail> {
-    let found = find(sheet.name).ok_or("no such routine")?;
     let mut text = Vec::new(alloc);
+    let found = find(sheet.name).expect(rt, sheet.name);
     add_items(rt, alloc, &mut text, found)?;
     expect(rt, text.as_slice() == sheet.text.as_bytes(), sheet.name);
     Ok(())
@@ -165,14 +165,18 @@ fn what_the_catalogue_says(rt: HostRuntime) {
 /// The words of `newline` at 64.
 const NEWLINE: [u32; 7] = [114_694, 20_616, 37_002, 37_004, 0, 73_728, 98_304];
 
-#[test]
-fn words_at_a_base(rt: HostRuntime) -> Result<(), Fail> {
-    let newline = find("newline").ok_or("no such routine")?;
-    let parameters = [Word::new(131_071).ok_or("no word")?; 6];
-    assert!(rt; usize::from(newline.length()) == NEWLINE.len());
-    for place in 0..newline.length() {
-        let word = image_word(&newline, place, 64, &parameters).value();
-        assert!(rt; NEWLINE.get(usize::from(place)) == Some(&word), "{place}");
+/// Checks the words of a routine at 64, for parameters of seventeen ones.
+fn expect_words(rt: &impl Abort, routine: Routine, words: &[u32]) {
+    let parameters = [Word::new(131_071).expect(rt, "a word"); 6];
+    assert!(rt; usize::from(routine.length()) == words.len());
+    for place in 0..routine.length() {
+        let word = image_word(&routine, place, 64, &parameters).value();
+        assert!(rt; words.get(usize::from(place)) == Some(&word), "{place}");
     }
-    Ok(())
+}
+
+#[test]
+fn words_at_a_base(rt: HostRuntime) {
+    let newline = find("newline").expect(&rt, "a routine");
+    expect_words(&rt, newline, &NEWLINE);
 }

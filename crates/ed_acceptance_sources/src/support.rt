@@ -9,60 +9,44 @@ use std::process::Abort;
 use std::test::Fail;
 
 /// A source, linked for a machine of a size.
-pub fn linked(alloc: Global, size: Size, text: &[u8]) -> Option<Linked> {
-    let program = parse(alloc, text).ok()?;
-    link(alloc, size, &program).ok()
+pub fn linked(rt: &impl Abort, alloc: Global, size: Size, text: &[u8]) -> Linked {
+    let program = parse(alloc, text).ok().expect(rt, "a program");
+    link(alloc, size, &program)
+        .ok()
+        .expect(rt, "a linked program")
 }
 
 /// The text of a source's tape.
-pub fn tape_of(alloc: Global, text: &[u8]) -> Result<Vec<u8>, Fail> {
-    let linked = linked(alloc, Size::Full, text).ok_or("a fault")?;
+pub fn tape_of(rt: &impl Abort, alloc: Global, text: &[u8]) -> Result<Vec<u8>, Fail> {
+    let linked = linked(rt, alloc, Size::Full, text);
     Ok(linked.text()?)
 }
 
 /// The rows of a source's tape.
-pub fn rows_of(alloc: Global, text: &[u8]) -> Result<Vec<Code>, Fail> {
-    let linked = linked(alloc, Size::Full, text).ok_or("a fault")?;
+pub fn rows_of(rt: &impl Abort, alloc: Global, text: &[u8]) -> Result<Vec<Code>, Fail> {
+    let linked = linked(rt, alloc, Size::Full, text);
     Ok(linked.rows()?)
 }
 
-/// The first fault of a source, of form or of meaning, with its line; line 0 if it has none.
-pub fn fault_of(alloc: Global, size: Size, text: &[u8]) -> Option<(u32, Option<SourceCause>)> {
-    let fault = match parse(alloc, text) {
+/// The first fault of a source, of form or of meaning.
+pub fn fault_of(alloc: Global, size: Size, text: &[u8]) -> Option<SourceFault> {
+    match parse(alloc, text) {
         Ok(program) => link(alloc, size, &program).err(),
         Err(fault) => Some(fault),
-    };
-    match fault {
-        None => Some((0, None)),
-        Some(SourceFault::At { line, cause }) => Some((line, Some(cause))),
-        Some(SourceFault::Memory) => None,
     }
 }
 
-/// The causes of faults, by their numbers from 1.
-const CAUSES: [SourceCause; 17] = [
-    SourceCause::BadByte,
-    SourceCause::LongLine,
-    SourceCause::NotAStatement,
-    SourceCause::NumberRange,
-    SourceCause::TooManyLines,
-    SourceCause::LabelTwice,
-    SourceCause::LabelUnknown,
-    SourceCause::AddressRange,
-    SourceCause::OutsideSegment,
-    SourceCause::LoaderStore,
-    SourceCause::ParameterStore,
-    SourceCause::StoreEnd,
-    SourceCause::Overlap,
-    SourceCause::NoSuchRoutine,
-    SourceCause::Parameters,
-    SourceCause::Enter,
-    SourceCause::SandwichDigit,
-];
-
-/// The cause of a fault by its number, as the line of the fault tells it; none for 0.
-pub fn cause(number: usize) -> Option<SourceCause> {
-    CAUSES.get(number.wrapping_sub(1)).copied()
+/// Whether a fault has this cause and is on this line.
+pub fn is_at(fault: Option<SourceFault>, line: u32, cause: SourceCause) -> bool {
+    match fault {
+        Some(
+            SourceFault::At {
+                line: at,
+                cause: told,
+            },
+        ) => { at == line && told == cause }
+        _ => false,
+    }
 }
 
 /// Checks that something holds. A failure shows the name of what was checked.
@@ -75,13 +59,19 @@ pub fn expect_of(rt: &impl Abort, told: bool, text: &[u8]) {
     assert!(rt; told, "{text:?}");
 }
 
-/// A source, and the line and the number of its first fault; line 0 and number 0 if it has none.
-pub type Row = (&'static [u8], u32, usize);
+/// A source, and the line of its first fault.
+pub type Row = (&'static [u8], u32);
 
-/// Checks the first faults of sources.
-pub fn expect_faults(rt: &impl Abort, alloc: Global, size: Size, rows: &[Row]) {
-    for (text, line, number) in rows {
-        let wanted = Some((*line, cause(*number)));
-        expect_of(rt, fault_of(alloc, size, text) == wanted, text);
+/// Checks the first faults of sources, which have one cause.
+pub fn expect_faults(rt: &impl Abort, alloc: Global, size: Size, cause: SourceCause, rows: &[Row]) {
+    for (text, line) in rows {
+        expect_of(rt, is_at(fault_of(alloc, size, text), *line, cause), text);
+    }
+}
+
+/// Checks that sources have no fault.
+pub fn expect_no_faults(rt: &impl Abort, alloc: Global, size: Size, sources: &[&[u8]]) {
+    for text in sources {
+        expect_of(rt, fault_of(alloc, size, text).is_none(), text);
     }
 }

@@ -2,8 +2,9 @@
 
 use crate::support::{Row, expect_faults, linked};
 use ed_link::Linked;
+use ed_syntax::SourceCause::{NoSuchRoutine, Parameters};
 use ed_words::Size;
-use std::test::Fail;
+use std::process::Abort;
 
 /// Two prints, each with a location of its own.
 const TWO_PRINTS: &[u8] =
@@ -19,21 +20,21 @@ const WORDS: [(u16, Option<u32>); 5] = [
     (119, Some(114_812)),
 ];
 
-/// The faults of uses, by their lines and numbers.
-const FAULTS: [Row; 4] = [
-    (b"segment m\nZ F\nx: P F\nuse print as p\nenter m", 4, 15),
-    (b"segment m\nZ F\nx: P F\nuse sine as p\nenter m", 4, 14),
+/// Uses whose parameters are not those of the routine.
+const PARAMETERS: [Row; 3] = [
+    (b"segment m\nZ F\nx: P F\nuse print as p\nenter m", 4),
     (
         b"segment m\nZ F\nx: P F\nuse read as p with N=x\nenter m",
         4,
-        15,
     ),
     (
         b"segment m\nZ F\nx: P F\nuse newline as p with H=x\nenter m",
         4,
-        15,
     ),
 ];
+
+/// A use of a routine that the library doesn't have.
+const NO_ROUTINE: [Row; 1] = [(b"segment m\nZ F\nx: P F\nuse sine as p\nenter m", 4)];
 
 /// The word at a location of a linked program.
 fn word_at(linked: &Linked, place: u16) -> Option<u32> {
@@ -45,16 +46,21 @@ fn word_at(linked: &Linked, place: u16) -> Option<u32> {
     None
 }
 
-#[test]
-fn each_use_has_its_own_parameters(rt: HostRuntime) -> Result<(), Fail> {
-    let linked = linked(rt.alloc(), Size::Full, TWO_PRINTS).ok_or("a fault")?;
-    for (place, word) in WORDS {
-        assert!(rt; word_at(&linked, place) == word, "{place}");
+/// Checks the words of the program.
+fn expect_words(rt: &impl Abort, linked: &Linked) {
+    for (place, word) in &WORDS {
+        assert!(rt; word_at(linked, *place) == *word, "{place}");
     }
-    Ok(())
+}
+
+#[test]
+fn each_use_has_its_own_parameters(rt: HostRuntime) {
+    let linked = linked(&rt, rt.alloc(), Size::Full, TWO_PRINTS);
+    expect_words(&rt, &linked);
 }
 
 #[test]
 fn faults_of_a_use(rt: HostRuntime) {
-    expect_faults(&rt, rt.alloc(), Size::Full, &FAULTS);
+    expect_faults(&rt, rt.alloc(), Size::Full, Parameters, &PARAMETERS);
+    expect_faults(&rt, rt.alloc(), Size::Full, NoSuchRoutine, &NO_ROUTINE);
 }

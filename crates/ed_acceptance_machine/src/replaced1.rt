@@ -1,5 +1,6 @@
 //! Every row of a short tape for Initial Orders 1 replaced by every code: the check's answer, and what the orders do.
 
+use crate::numbers::code;
 use crate::support::rows_of;
 use crate::support1::{checked, fault_of, loaded, misplaced, started};
 use ed_codes::Code;
@@ -141,7 +142,7 @@ fn is_as_wanted(
 /// loaded as it reports.
 fn first_difference(rt: &impl Abort, alloc: Global, place: usize) -> Result<Option<u8>, Fail> {
     for number in 0..32 {
-        let rows = replaced(alloc, place, Code::new(number).ok_or("no code")?)?;
+        let rows = replaced(alloc, place, code(rt, number))?;
         if !is_as_wanted(rt, alloc, &rows, place, number)? {
             return Ok(Some(number));
         }

@@ -1,7 +1,8 @@
 //! Post-mortems: what is printed of words that a tape left in the store, and the refusals.
 
+use crate::numbers::code;
 use crate::support::{expect, first_difference, loaded, started};
-use ed_codes::{Code, byte_of};
+use ed_codes::byte_of;
 use ed_initial::Loaded;
 use ed_machine::{Machine, Paper};
 use ed_postmortem::{PmFault, post_mortem};
@@ -190,20 +191,26 @@ fn parts(word: u32) -> (u8, u32, bool) {
 }
 
 /// Adds the item of a word to a tape.
-fn add_item(tape: &mut String, word: u32) -> Result<(), Fail> {
+fn add_item(rt: &impl Abort, tape: &mut String, word: u32) -> Result<(), Fail> {
     let (function, number, long) = parts(word);
-    let letter = char::from(byte_of(Code::new(function).ok_or("no code")?, false));
+    let letter = char::from(byte_of(code(rt, function), false));
     let end = if long { 'D' } else { 'F' };
     Ok(write!(tape, "{letter}{number}{end}")?)
 }
 
-/// The tape that places `count` words, the number `from` and those after it, from location 144 upwards.
-fn tape_of_words(alloc: Global, from: u32, count: u32) -> Result<String, Fail> {
-    let mut tape = String::from_str(alloc, "T144K")?;
+/// Adds the items that place `count` words, the number `from` and those after it, from location 144 upwards.
+fn add_words(rt: &impl Abort, tape: &mut String, from: u32, count: u32) -> Result<(), Fail> {
+    tape.push_str("T144K")?;
     for word in from..from.saturating_add(count) {
-        add_item(&mut tape, word)?;
+        add_item(rt, tape, word)?;
     }
-    tape.push_str("E144KPF")?;
+    Ok(tape.push_str("E144KPF")?)
+}
+
+/// The tape that places `count` words, the number `from` and those after it, from location 144 upwards.
+fn tape_of_words(rt: &impl Abort, alloc: Global, from: u32, count: u32) -> Result<String, Fail> {
+    let mut tape = String::new(alloc);
+    add_words(rt, &mut tape, from, count)?;
     Ok(tape)
 }
 
@@ -246,7 +253,7 @@ fn machine_of_words(
     from: u32,
     count: u16,
 ) -> Result<Machine, Fail> {
-    let tape = tape_of_words(alloc, from, u32::from(count))?;
+    let tape = tape_of_words(rt, alloc, from, u32::from(count))?;
     let (machine, load) = loaded_on(rt, alloc, &tape)?;
     expect(rt, matches!(load, Loaded::Entered { at: 144, .. }), &tape);
     Ok(machine)

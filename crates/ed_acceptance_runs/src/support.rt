@@ -1,4 +1,4 @@
-//! What the tests share: a machine that has a routine and calls it.
+//! What the tests share: a machine that has a routine and calls it; machines and sessions that begin at Start on a tape.
 ghost use Rattle.std.specs.Prelude.{◌≡◌, ◌<◌, ◌≤◌, IsTrue};
 ghost use Rattle.ed_library.specs.Entries.{how_many};
 ghost use Rattle.ed_routines.specs.Catalogue.{with_h};
@@ -10,10 +10,17 @@ use ed_library::{Parameters, Routine, routine};
 use ed_machine::Machine;
 use ed_notation::{Item, spellable, text_of_items};
 use ed_routines::stands;
+use ed_stepper::{NewFault, Session};
 use ed_words::{Size, Word};
 use std::alloc::Global;
 use std::process::Abort;
 use std::test::Fail;
+
+/// The tape that prints A.
+pub const LETTER: &str = "T64KGKO2@ZFAFEZPF";
+
+/// The tape that jumps to itself.
+pub const LOOP: &str = "T64KGKE@EZPF";
 
 /// The index of `check` in the catalogue.
 pub const CHECK: u16 = 0;
@@ -274,4 +281,33 @@ pub fn entered(rt: &impl Abort, alloc: Global, size: Size, tape: &str) -> Result
     let mut machine = Machine::cleared_of(alloc, size)?;
     enter(rt, &mut machine, rows);
     Ok(machine)
+}
+
+/// A cleared machine, started on a tape with the Initial Orders.
+pub fn started(alloc: Global, tape: &str) -> Result<Machine, Fail> {
+    let rows = tape_of_text(alloc, tape.as_bytes())?;
+    let mut machine = Machine::cleared(alloc)?;
+    begin(&mut machine, rows);
+    Ok(machine)
+}
+
+/// A session on such a machine.
+pub fn session_on(rt: &impl Abort, alloc: Global, tape: &str, limit: u64) -> Result<Session, Fail> {
+    let machine = started(alloc, tape)?;
+    assert!(rt; machine.orders_done() == 0 && limit < 1 << 40);
+    match Session::new(alloc, machine, limit) {
+        Ok(session) => Ok(session),
+        Err(NewFault::Memory(_)) => Err("no memory".into()),
+    }
+}
+
+/// The number of lines of a text.
+pub fn lines_of(text: &[u8]) -> usize {
+    let mut lines = 0usize;
+    for byte in text {
+        if *byte == b'\n' {
+            lines = lines.saturating_add(1);
+        }
+    }
+    lines
 }

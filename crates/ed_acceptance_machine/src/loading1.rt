@@ -1,7 +1,8 @@
 //! Initial Orders 1, obeyed one by one on a tape.
 
-use crate::support::{expect, rows_of};
-use crate::support1::{LETTER, checked, loaded, misplaced, started};
+use crate::numbers::word;
+use crate::support::{expect, next_turn, rows_of};
+use crate::support1::{LETTER, checked, loaded, misplaced, start, started};
 use ed_codes::Code;
 use ed_initial1::{Checked1, Loaded1, is_started1, orders1};
 use ed_machine::{Machine, Turn};
@@ -92,9 +93,9 @@ fn largest(alloc: Global, item: &str) -> Result<Vec<Code>, Fail> {
 const HALVES_A_WORD: [u32; 5] = [114_696, 16_385, 20_481, 53_248, 1];
 
 /// Puts that program into an image.
-fn put_program(image: &mut Vec<Word>) -> Result<(), Fail> {
+fn put_program(rt: &impl Abort, image: &mut Vec<Word>) -> Result<(), Fail> {
     for number in &HALVES_A_WORD {
-        image.push(Word::new(*number).ok_or("no word")?)?;
+        image.push(word(rt, *number))?;
     }
     Ok(())
 }
@@ -102,15 +103,14 @@ fn put_program(image: &mut Vec<Word>) -> Result<(), Fail> {
 /// Obeys the next orders.
 fn obey(rt: &impl Abort, machine: &mut Machine, orders: u32) {
     for _ in 0..orders {
-        assert!(rt; machine.orders_done() < 1 << 20);
-        machine.step();
+        next_turn(rt, machine);
     }
 }
 
 /// Runs that program.
 fn set_sandwich(rt: &impl Abort, alloc: Global, machine: &mut Machine) -> Result<(), Fail> {
     let mut image = Vec::new(alloc);
-    put_program(&mut image)?;
+    put_program(rt, &mut image)?;
     assert!(rt; image.len() < 41);
     machine.start(&image, Vec::new(alloc));
     obey(rt, machine, 3);
@@ -147,7 +147,7 @@ fn used(rt: &impl Abort, alloc: Global) -> Result<Machine, Fail> {
 
 /// Starts a machine on the tape of a letter.
 fn start_letter(alloc: Global, machine: &mut Machine) -> Result<(), Fail> {
-    machine.start(&orders1(), rows_of(alloc, LETTER)?);
+    start(machine, rows_of(alloc, LETTER)?);
     Ok(())
 }
 
@@ -180,9 +180,8 @@ fn a_used_machine_is_loaded_cell_by_cell(rt: HostRuntime) -> Result<(), Fail> {
 }
 
 /// What the next order does, if it leaves the counter there and 0 at 35.
-fn next_turn(rt: &impl Abort, machine: &mut Machine, counter: u16) -> Turn {
-    assert!(rt; machine.orders_done() < 1 << 20);
-    let turn = machine.step();
+fn turn_to(rt: &impl Abort, machine: &mut Machine, counter: u16) -> Turn {
+    let turn = next_turn(rt, machine);
     expect(rt, machine.counter() == counter, "the counter");
     expect(rt, machine.word(35).value() == 0, "the place");
     turn
@@ -190,10 +189,10 @@ fn next_turn(rt: &impl Abort, machine: &mut Machine, counter: u16) -> Turn {
 
 /// Checks the orders of the program that prints a letter.
 fn expect_turns(rt: &impl Abort, machine: &mut Machine) {
-    expect(rt, next_turn(rt, machine, 32) == Turn::Went, "T");
+    expect(rt, turn_to(rt, machine, 32) == Turn::Went, "T");
     let printed = Code::new(28).map(Turn::Printed);
-    expect(rt, Some(next_turn(rt, machine, 33)) == printed, "O");
-    expect(rt, next_turn(rt, machine, 34) == Turn::Stopped, "Z");
+    expect(rt, Some(turn_to(rt, machine, 33)) == printed, "O");
+    expect(rt, turn_to(rt, machine, 34) == Turn::Stopped, "Z");
 }
 
 #[test]
@@ -261,7 +260,7 @@ fn expect_largest(
 /// The report on the largest tape.
 fn checked_largest(rt: &impl Abort, alloc: Global, item: &str) -> Result<Checked1, Fail> {
     let rows = largest(alloc, item)?;
-    Ok(checked(rt, alloc, &rows).or(Err("a fault"))?)
+    Ok(checked(rt, alloc, &rows).ok().expect(rt, item))
 }
 
 /// Checks the largest tape of an item, its orders and its rows.
@@ -287,20 +286,27 @@ fn the_largest_tape(rt: HostRuntime) -> Result<(), Fail> {
 /// Whether a cleared machine of a size counts as started after this many orders of the listing.
 fn is_started_after(rt: &impl Abort, alloc: Global, size: Size, orders: u32) -> Result<bool, Fail> {
     let mut machine = Machine::cleared_of(alloc, size)?;
-    machine.start(&orders1(), Vec::new(alloc));
+    start(&mut machine, Vec::new(alloc));
     obey(rt, &mut machine, orders);
     Ok(is_started1(&machine))
 }
 
+/// Checks whether such a machine counts as started.
+fn expect_started(
+    rt: &impl Abort,
+    alloc: Global,
+    size: Size,
+    orders: u32,
+    wanted: bool,
+) -> Result<(), Fail> {
+    let started = is_started_after(rt, alloc, size, orders)?;
+    assert!(rt; started == wanted, "{orders}");
+    Ok(())
+}
+
 #[test]
 fn a_machine_is_started_at_full_size_and_at_0(rt: HostRuntime) -> Result<(), Fail> {
-    for (size, orders, wanted) in [
-        (Size::Full, 0, true),
-        (Size::Full, 1, false),
-        (Size::Small, 0, false),
-    ] {
-        let started = is_started_after(&rt, rt.alloc(), size, orders)?;
-        assert!(rt; started == wanted, "{orders}");
-    }
-    Ok(())
+    expect_started(&rt, rt.alloc(), Size::Full, 0, true)?;
+    expect_started(&rt, rt.alloc(), Size::Full, 1, false)?;
+    expect_started(&rt, rt.alloc(), Size::Small, 0, false)
 }

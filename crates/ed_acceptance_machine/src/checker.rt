@@ -1,5 +1,6 @@
 //! The reports of the checker on tapes.
 
+use crate::numbers::word;
 use crate::support::{checked, expect, rows_of};
 use ed_codes::Code;
 use ed_notation::{Checked, TapeCause, TapeFault, check_from};
@@ -57,17 +58,17 @@ const TAPES: [Row; 17] = [
 ];
 
 /// A store with a word at the location of θ.
-fn store_with_theta(alloc: Global, theta: u32) -> Result<Store, Fail> {
-    let word = Word::new(theta).ok_or("no word")?;
+fn store_with_theta(rt: &impl Abort, alloc: Global, theta: u32) -> Result<Store, Fail> {
     let mut store = Store::cleared(alloc)?;
-    store.put_short(42, word);
+    store.put_short(42, word(rt, theta));
     Ok(store)
 }
 
 /// The report on a tape before whose check a word is at the location of θ.
 fn report_on(rt: &impl Abort, alloc: Global, theta: u32, tape: &str) -> Result<Checked, Fail> {
-    let store = store_with_theta(alloc, theta)?;
-    Ok(checked(rt, alloc, Size::Full, &store, tape)?.or(Err("a fault"))?)
+    let store = store_with_theta(rt, alloc, theta)?;
+    let told = checked(rt, alloc, Size::Full, &store, tape)?;
+    Ok(told.ok().expect(rt, tape))
 }
 
 /// Checks a report on a tape of rows of one byte.
@@ -86,12 +87,18 @@ fn expect_report(rt: &impl Abort, report: &Checked, row: &Row) {
     expect(rt, placed(rt, report, address) == word, tape);
 }
 
+/// Checks the report on the tape of a row.
+fn expect_tape(rt: &impl Abort, alloc: Global, row: &Row) -> Result<(), Fail> {
+    let (before, tape, ..) = *row;
+    let report = report_on(rt, alloc, before, tape)?;
+    expect_report(rt, &report, row);
+    Ok(())
+}
+
 #[test]
 fn each_tape_is_checked_to_its_entry(rt: HostRuntime) -> Result<(), Fail> {
     for row in &TAPES {
-        let (before, tape, ..) = *row;
-        let report = report_on(&rt, rt.alloc(), before, tape)?;
-        expect_report(&rt, &report, row);
+        expect_tape(&rt, rt.alloc(), row)?;
     }
     Ok(())
 }
@@ -112,7 +119,7 @@ fn expect_fault(
 
 #[test]
 fn an_odd_directive_is_refused(rt: HostRuntime) -> Result<(), Fail> {
-    let store = store_with_theta(rt.alloc(), 5)?;
+    let store = store_with_theta(&rt, rt.alloc(), 5)?;
     let told = checked(&rt, rt.alloc(), Size::Full, &store, "T59Z")?;
     expect_fault(&rt, &told, 3, TapeCause::StoreEnd, "T59Z");
     Ok(())
@@ -139,10 +146,9 @@ fn checked_from(
     number: u32,
     tape: &str,
 ) -> Result<Result<Checked, TapeFault>, Fail> {
-    let directive = Word::new(number).ok_or("no word")?;
     let store = Store::cleared(alloc)?;
     let rows = rows_of(alloc, tape)?;
-    Ok(checked_rows(rt, alloc, directive, &store, &rows))
+    Ok(checked_rows(rt, alloc, word(rt, number), &store, &rows))
 }
 
 /// Checks a report on the rest of a tape of rows of one byte: the word that it places at a location, and the orders.
@@ -173,7 +179,8 @@ fn expect_rest_from(
     orders: u64,
 ) -> Result<(), Fail> {
     let (address, word) = placed;
-    let report = checked_from(rt, alloc, number, tape)?.or(Err("a fault"))?;
+    let told = checked_from(rt, alloc, number, tape)?;
+    let report = told.ok().expect(rt, tape);
     expect_rest(rt, &report, tape, address, word, orders);
     Ok(())
 }

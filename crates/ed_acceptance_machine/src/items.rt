@@ -1,17 +1,12 @@
 //! Items, the rows and the text that spell them, and the words of the Initial Orders.
 
+use crate::endings::listing;
+use crate::numbers::code;
 use crate::support::first_difference;
-use ed_codes::Code;
-use ed_initial::orders;
 use ed_notation::{Item, rows_of_items, spellable, text_of_items};
-use ed_words::Word;
 use std::alloc::Global;
 use std::process::Abort;
 use std::test::Fail;
-
-fn code(rt: &impl Abort, number: u8) -> Code {
-    Code::new(number).expect(rt, "a code")
-}
 
 /// The items T 64 K and A 2 π @.
 fn items(rt: &impl Abort) -> (Item, Item) {
@@ -53,11 +48,6 @@ fn expect_text(rt: &impl Abort, alloc: Global) -> Result<(), Fail> {
 fn items_are_spelled(rt: HostRuntime) -> Result<(), Fail> {
     expect_rows(&rt, rt.alloc())?;
     expect_text(&rt, rt.alloc())
-}
-
-/// The Initial Orders. No clause says which they are, so that the proof of the test doesn't compare them.
-fn listing() -> [Word; 41] {
-    orders()
 }
 
 /// The words of the Initial Orders, by location.

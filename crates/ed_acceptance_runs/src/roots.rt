@@ -83,9 +83,10 @@ fn add_counting_caller(rt: &impl Abort, tape: &mut String, site: &Site) -> Resul
     } = *site;
     assert!(rt; caller < 2000);
     let one = caller + 6;
-    write!(tape, "T{source}KPFT{caller}KA{caller}FG{base}F")?;
-    write!(tape, "A{source}FA{one}FT{source}FE{caller}FPDE{caller}KPF")?;
-    Ok(())
+    Ok(write!(
+        tape,
+        "T{source}KPFT{caller}KA{caller}FG{base}FA{source}FA{one}FT{source}FE{caller}FPDE{caller}KPF"
+    )?)
 }
 
 /// Adds the items of the routine and of that caller.

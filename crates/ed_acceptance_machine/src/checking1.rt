@@ -31,7 +31,7 @@ fn expect_report(rt: &impl Abort, report: &Checked1, row: &Row) {
 /// Checks what the check of a tape tells.
 fn expect_checked(rt: &impl Abort, alloc: Global, row: &Row) -> Result<(), Fail> {
     let (tape, ..) = *row;
-    let report = checked_text(rt, alloc, tape)?.or(Err("a fault"))?;
+    let report = checked_text(rt, alloc, tape)?.ok().expect(rt, tape);
     expect_report(rt, &report, row);
     Ok(())
 }
@@ -58,23 +58,26 @@ const PLACES: [(u16, u32); 4] = [
     (34, 61_438),
 ];
 
-/// Checks the words that a report tells at these locations.
-fn expect_words(rt: &impl Abort, report: &Checked1) {
+/// Checks that a report tells no word at these locations.
+fn expect_no_words(rt: &impl Abort, report: &Checked1) {
     for place in &NO_PLACES {
         assert!(rt; report.word(*place).is_none(), "{place}");
     }
-    for row in &PLACES {
-        let (place, number) = *row;
-        match report.word(place) {
-            Some(word) => assert!(rt; word.value() == number, "{place}"),
-            None => assert!(rt; false, "nothing at {place}"),
-        }
+}
+
+/// Checks the words that a report tells at these locations.
+fn expect_words(rt: &impl Abort, report: &Checked1) {
+    for (place, number) in &PLACES {
+        let word = report.word(*place).expect(rt, "a word");
+        assert!(rt; word.value() == *number, "{place}");
     }
 }
 
 #[test]
 fn the_check_tells_the_words_of_a_tape(rt: HostRuntime) -> Result<(), Fail> {
-    let report = checked_text(&rt, rt.alloc(), "T35S50L*32767LV32767S")?.or(Err("a fault"))?;
+    let tape = "T35S50L*32767LV32767S";
+    let report = checked_text(&rt, rt.alloc(), tape)?.ok().expect(&rt, tape);
+    expect_no_words(&rt, &report);
     expect_words(&rt, &report);
     Ok(())
 }
@@ -106,12 +109,22 @@ const FAULTS: [(&str, usize, Tape1Cause); 22] = [
     ("P3276#8", 5, BadRow),
 ];
 
+/// Checks the fault of a tape.
+fn expect_fault(
+    rt: &impl Abort,
+    alloc: Global,
+    tape: &str,
+    fault: (usize, Tape1Cause),
+) -> Result<(), Fail> {
+    let told = checked_text(rt, alloc, tape)?;
+    expect(rt, fault_of(&told)? == Some(fault), tape);
+    Ok(())
+}
+
 #[test]
 fn each_fault_at_its_row(rt: HostRuntime) -> Result<(), Fail> {
-    for row in &FAULTS {
-        let (tape, row, cause) = *row;
-        let told = checked_text(&rt, rt.alloc(), tape)?;
-        assert!(rt; fault_of(&told)? == Some((row, cause)), "{tape}");
+    for (tape, row, cause) in &FAULTS {
+        expect_fault(&rt, rt.alloc(), tape, (*row, *cause))?;
     }
     Ok(())
 }

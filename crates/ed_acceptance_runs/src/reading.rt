@@ -79,7 +79,7 @@ fn digit_rows_are_a_number(rt: HostRuntime) -> Result<(), Fail> {
 
 /// A machine that has called `read` with a digit row, the row of a code, and a digit row.
 fn called_on(rt: &impl Abort, alloc: Global, code: u8) -> Result<Machine, Fail> {
-    let row = char::from(byte_of(Code::new(code).ok_or("no code")?, false));
+    let row = char::from(byte_of(Code::new(code).expect(rt, "a code"), false));
     let rows = format!(in alloc; "5{row}6")?;
     called(rt, alloc, routine(READ), &PLACES[0], 99, &rows)
 }
@@ -148,13 +148,17 @@ fn a_tape_that_ends_leaves_the_number_as_it_was(rt: HostRuntime) -> Result<(), F
 
 /// Checks that `read` stands at 56 on a machine that has called it, and nowhere else.
 fn expect_place(rt: &impl Abort, machine: &mut Machine) {
-    assert!(rt; stands_at(machine, READ, 56, 300));
-    assert!(rt; !stands_at(machine, READ, 57, 300));
-    assert!(rt; !stands_at(machine, READ, 56, 301));
-    assert!(rt; !stands_at(machine, 0, 56, 300));
+    expect(rt, stands_at(machine, READ, 56, 300), "where it was put");
+    expect(rt, !stands_at(machine, READ, 57, 300), "at 57");
+    expect(rt, !stands_at(machine, READ, 56, 301), "with H at 301");
+    expect(rt, !stands_at(machine, 0, 56, 300), "another routine");
     assert!(rt; machine.orders_done() < 1 << 40);
     machine.step();
-    assert!(rt; !stands_at(machine, READ, 57, 300));
+    expect(
+        rt,
+        !stands_at(machine, READ, 57, 300),
+        "at 57, after an order",
+    );
 }
 
 #[test]

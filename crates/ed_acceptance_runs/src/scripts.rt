@@ -82,7 +82,8 @@ fn written(
     tape: &str,
 ) -> Result<Vec<u8>, Fail> {
     let mut session = session_on(rt, alloc, tape, limit)?;
-    Ok(run_script(alloc, &mut session, script.as_bytes()).or(Err("a fault"))?)
+    let text = run_script(alloc, &mut session, script.as_bytes());
+    Ok(text.ok().expect(rt, script))
 }
 
 /// Checks the number of lines of a text that a script writes, and its first and last line.

@@ -1,6 +1,8 @@
 //! What `print` and `newline` print.
 
-use crate::support::{NEWLINE, PLACES, PRINT, Places, called, expect_right, is_outside, stands_at};
+use crate::support::{
+    NEWLINE, PLACES, PRINT, Places, called, expect, expect_right, is_outside, stands_at,
+};
 use ed_codes::Code;
 use ed_library::routine;
 use ed_machine::{Machine, Paper};
@@ -45,8 +47,8 @@ fn are_digits(codes: &[Code], digits: &str) -> bool {
     if shift.value() != 11 || printed.len() != digits.len() {
         return false;
     }
-    for (code, digit) in printed.iter().zip(digits.bytes()) {
-        if code.value() + 48 != digit {
+    for (code, digit) in printed.iter().zip(digits.as_bytes()) {
+        if code.value() + 48 != *digit {
             return false;
         }
     }
@@ -111,8 +113,8 @@ fn expect_new_line(rt: &impl Abort, machine: &mut Machine, places: &Places, pape
     assert!(rt; machine.orders_done() < 1 << 40 && 2 <= paper.room_left());
     let back = new_line(machine, places.base, paper);
     let at = places.back;
-    assert!(rt; back == Back { at, orders: 5 });
-    assert!(rt; are_new_line(paper.codes()));
+    expect(rt, back == Back { at, orders: 5 }, "the end");
+    expect(rt, are_new_line(paper.codes()), "the codes");
 }
 
 /// Checks what `newline` does at the bases of a routine and its caller.

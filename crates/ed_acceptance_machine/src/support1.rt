@@ -27,10 +27,15 @@ pub fn checked_text(
     Ok(checked(rt, alloc, &rows))
 }
 
+/// Starts a machine on rows with Initial Orders 1.
+pub fn start(machine: &mut Machine, rows: Vec<Code>) {
+    let _old_rows = machine.start(&orders1(), rows);
+}
+
 /// A cleared machine, started on rows with Initial Orders 1.
 pub fn started(alloc: Global, rows: Vec<Code>) -> Result<Machine, Fail> {
     let mut machine = Machine::cleared(alloc)?;
-    machine.start(&orders1(), rows);
+    start(&mut machine, rows);
     Ok(machine)
 }
 

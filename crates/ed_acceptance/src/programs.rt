@@ -1,6 +1,6 @@
 //! Each program compared with a plain computation.
 
-use crate::support::answers;
+use crate::support::{answers, expect_that};
 use ed_programs::{
     Refusal, add_program, difference_program, fraction_program, greatest_program, hello_program,
     interlude_program, mirror_program, multiply_program, sort_program, squares_program,
@@ -296,6 +296,12 @@ const NO_PRODUCTS: [(u16, u16, u16); 4] = [
 /// Numbers of too large a sum.
 const NO_SUMS: [(u16, u16); 4] = [(65535, 1), (1, 65535), (32768, 32768), (65535, 65535)];
 
+/// Divisors that are 0 or too large.
+const NO_DIVISORS: [u16; 3] = [0, 6554, 65535];
+
+/// Numbers that the interlude has no place for.
+const NO_PLACES: [u16; 4] = [0, 33, 511, 65535];
+
 /// Numbers that are not eight.
 const NO_EIGHTS: [&[u16]; 3] = [&[], &[1, 2, 3, 4, 5, 6, 7], &[1, 2, 3, 4, 5, 6, 7, 8, 9]];
 
@@ -305,56 +311,82 @@ const NO_TENS: [&[u16]; 2] = [
     &[1, 2, 3, 4, 5, 6, 7, 8, 9, 10, 11],
 ];
 
+/// Checks that there is no program, for a cause.
+fn expect_refused(rt: &impl Abort, program: Result<String, Refusal>, cause: Refusal, data: &str) {
+    expect_that(rt, program == Err(cause), data);
+}
+
 #[test]
 fn other_letters_are_refused(rt: HostRuntime) {
     for (letters, cause) in &NO_HELLO {
-        let told = hello_program(rt.alloc(), letters);
-        assert!(rt; told == Err(*cause), "{letters}");
-    }
-    for (letters, cause) in &NO_MIRROR {
-        let told = mirror_program(rt.alloc(), letters);
-        assert!(rt; told == Err(*cause), "{letters}");
+        expect_refused(&rt, hello_program(rt.alloc(), letters), *cause, letters);
     }
 }
 
 #[test]
-fn products_and_sums_out_of_range_are_refused(rt: HostRuntime) {
+fn other_letters_are_not_mirrored(rt: HostRuntime) {
+    for (letters, cause) in &NO_MIRROR {
+        expect_refused(&rt, mirror_program(rt.alloc(), letters), *cause, letters);
+    }
+}
+
+/// Checks that there is no program for numbers, for a cause.
+fn expect_no_program(
+    rt: &impl Abort,
+    program: Result<String, Refusal>,
+    cause: Refusal,
+    numbers: &[u16],
+) {
+    assert!(rt; program == Err(cause), "{numbers:?}");
+}
+
+#[test]
+fn products_out_of_range_are_refused(rt: HostRuntime) {
     for row in &NO_PRODUCTS {
         let (left, right, root) = *row;
         let program = multiply_program(rt.alloc(), left, right, root);
-        assert!(rt;
-            program == Err(Refusal::Number),
-            "{left}, {right} and {root}"
-        );
+        expect_no_program(&rt, program, Refusal::Number, &[left, right, root]);
     }
+}
+
+#[test]
+fn sums_out_of_range_are_refused(rt: HostRuntime) {
     for row in &NO_SUMS {
         let (first, second) = *row;
         let program = add_program(rt.alloc(), first, second);
-        assert!(rt; program == Err(Refusal::Number), "{first} and {second}");
+        expect_no_program(&rt, program, Refusal::Number, &[first, second]);
     }
 }
 
 #[test]
-fn divisors_and_places_out_of_range_are_refused(rt: HostRuntime) {
-    for lower in [0, 6554, 65535] {
-        let program = fraction_program(rt.alloc(), 1, lower, 5);
-        assert!(rt; program == Err(Refusal::Divisor), "{lower}");
-    }
-    for number in [0, 33, 511, 65535] {
-        let program = interlude_program(rt.alloc(), number);
-        assert!(rt; program == Err(Refusal::Place), "{number}");
+fn divisors_out_of_range_are_refused(rt: HostRuntime) {
+    for lower in &NO_DIVISORS {
+        let program = fraction_program(rt.alloc(), 1, *lower, 5);
+        expect_no_program(&rt, program, Refusal::Divisor, &[*lower]);
     }
 }
 
 #[test]
-fn too_few_and_too_many_numbers_are_refused(rt: HostRuntime) {
+fn places_out_of_range_are_refused(rt: HostRuntime) {
+    for number in &NO_PLACES {
+        let program = interlude_program(rt.alloc(), *number);
+        expect_no_program(&rt, program, Refusal::Place, &[*number]);
+    }
+}
+
+#[test]
+fn not_eight_numbers_are_refused(rt: HostRuntime) {
     for numbers in &NO_EIGHTS {
         let program = greatest_program(rt.alloc(), numbers);
-        assert!(rt; program == Err(Refusal::Count), "{numbers:?}");
+        expect_no_program(&rt, program, Refusal::Count, numbers);
     }
+}
+
+#[test]
+fn not_ten_numbers_are_refused(rt: HostRuntime) {
     for numbers in &NO_TENS {
         let program = sort_program(rt.alloc(), numbers);
-        assert!(rt; program == Err(Refusal::Count), "{numbers:?}");
+        expect_no_program(&rt, program, Refusal::Count, numbers);
     }
 }
 
