@@ -2,7 +2,7 @@
 
 use crate::support::words_of;
 use ed_codes::TextFault;
-use ed_command::{Action, Command, Settings, read_words};
+use ed_command::{Action, read_words};
 use ed_notation::{TapeCause, TapeFault};
 use ed_report::{tape_fault, text_fault};
 use ed_words::Size;
@@ -13,16 +13,11 @@ use std::test::Fail;
 /// Checks the command of a line of words.
 fn expect_command(rt: &impl Abort, alloc: Global) -> Result<(), Fail> {
     let words = words_of(alloc, "--store 512 check-tape")?;
-    let command = Command {
-        action: Action::CheckTape,
-        settings: Settings {
-            limit: 10_000_000,
-            resumes: 0,
-            size: Size::Small,
-            post_mortem: None,
-        },
-    };
-    assert!(rt; read_words(alloc, &words) == Ok(command));
+    let command = read_words(alloc, &words).ok().expect(rt, "a command");
+    let settings = command.settings;
+    assert!(rt; matches!(command.action, Action::CheckTape));
+    assert!(rt; settings.limit == 10_000_000 && settings.resumes == 0);
+    assert!(rt; settings.size == Size::Small && settings.post_mortem.is_none());
     Ok(())
 }
 

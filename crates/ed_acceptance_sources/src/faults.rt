@@ -26,7 +26,7 @@ const CAUSES: [SourceCause; 12] = [
     SandwichDigit,
 ];
 
-/// For each of these faults two lines, of which the second has that fault and no other.
+/// Two lines for each of these faults. The second line has that fault and no other.
 const FAULTY: [&str; 12] = [
     "segment c at 100\na: Z F\n",
     "segment d at 110\nA nowhere F\n",

@@ -297,7 +297,7 @@ fn names_without_a_fault(rt: HostRuntime) {
     }
 }
 
-/// The name of the first of some definitions that is not that of the source ODD; nothing if there is none.
+/// The name of the first definition that differs from that of the source ODD, if one does.
 fn first_difference(symbols: &[Definition]) -> &'static str {
     for (found, wanted) in symbols.iter().zip(&DEFINED) {
         let (name, place, segment) = *wanted;

@@ -5,7 +5,7 @@
 #![tactic(auto)]
 
 /// A call of a library routine with its numbers.
-#[derive(Clone, Copy, PartialEq, Eq)]
+#[derive(Clone, Copy)]
 pub enum Call {
     /// Prints a number.
     Print(u16),

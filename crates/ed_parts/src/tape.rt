@@ -11,7 +11,7 @@ use ed_words::NoMemory;
 use std::alloc::Global;
 
 /// How a tape in parts ended.
-#[derive(Clone, Copy, PartialEq, Eq)]
+#[derive(Clone, Copy)]
 pub enum PartsEnd {
     /// The run ended with this ending.
     Ended(Ending),
@@ -27,7 +27,7 @@ pub enum PartsEnd {
 }
 
 /// Why the lines of a tape were not all written.
-#[derive(Clone, Copy, PartialEq, Eq)]
+#[derive(Clone, Copy)]
 pub enum PartsFault {
     /// A write failed.
     Failed,
