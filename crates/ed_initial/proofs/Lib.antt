@@ -8,6 +8,7 @@ pub mod Loads
 mod Settled
 pub mod Opened
 mod Arrivals
+pub mod Compared
 pub mod Started
 pub mod Quiet
 pub mod Whole

@@ -23,7 +23,6 @@ const ENOUGH: u64 = 250_000;
 ///
 /// A word is a line of the paper: `O66F` for an even one, `2047D` for an odd one; the first letter is the function.
 /// The refusals come in the order of `PmFault`, and change nothing.
-#[tactic(auto, using(crate::proofs::Bounds::enough, crate::proofs::AddressDigits::address_digits_law))]
 pub fn post_mortem(
     alloc: Global,
     machine: &mut Machine,

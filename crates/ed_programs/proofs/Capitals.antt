@@ -1,9 +1,10 @@
 -- Capital letters: each spells a row of tape, and is printed as it is.
-use Rattle.std.proofs.Common.{◌≡◌, ℕ, Bool, true, false, [], ◌∷◌, ◌++◌, refl, ap, arith, nat_le}
-use Rattle.std.specs.Prelude.{◌==◌, ◌&&◌, not}
+use Rattle.std.proofs.Common.{◌≡◌, ℕ, ◌≤◌, Bool, true, false, [], ◌∷◌, ◌++◌, length, refl, ap, arith, nat_le, nat_lt}
+use Rattle.std.specs.Prelude.{◌==◌, ◌&&◌, ◌||◌, not, if◌then◌else◌, None, Some}
 use Rattle.std.specs.List.{list_all}
 use Rattle.std.specs.Str.{bytes_eq}
 use Rattle.std.proofs.lemmas.Bool.{and_parts, not-true}
+use Rattle.std.proofs.lemmas.Bool.Decides.{nat_tests}
 use Rattle.std.proofs.lemmas.Slice.Eq.{bytes_eq-Decides}
 use Rattle.ed_words.proofs.Numbers.{le_of}
 use Rattle.ed_words.specs.Texts.{Text}
@@ -12,7 +13,30 @@ use Rattle.ed_printer.specs.Paper.{paper_from, struck_bytes}
 use Rattle.ed_printer.specs.declared.printer.Shift.TheVariants.{Letters}
 use Rattle.ed_syntax.specs.Private.Grammar.{row}
 use Rattle.ed_sources.proofs.Decimals.{among, both}
-use Rattle.ed_programs.specs.Hello.{hello_rows, is_row_byte}
+use Rattle.ed_programs.specs.Hello.{hello_rows, is_capital, is_row_byte, letters_refusal}
+use Rattle.ed_programs.specs.declared.refusal.Refusal.TheVariants as refusal
+
+-- 1 to `most` capital letters
+pub record AreLetters (most : ℕ) (letters : Text) : Type 0 where
+  pub some : 1 ≤ length letters
+  pub few : length letters ≤ most
+  pub capital : list_all is_capital letters ≡ true
+
+-- are what is not refused
+pub are_letters : (most : ℕ) (letters : Text) → letters_refusal most letters ≡ None → AreLetters most letters
+are_letters most letters taken =
+    by_tests (length letters == 0 || nat_lt most (length letters)) (list_all is_capital letters) refl refl taken
+  where
+    by_tests : (wrong all : Bool) → (length letters == 0 || nat_lt most (length letters)) ≡ wrong
+        → list_all is_capital letters ≡ all
+        → (if wrong then Some refusal.Length else if all then None else Some refusal.Letter) ≡ None → AreLetters most letters
+    by_tests true all is is_all none = absurd cc
+    by_tests false false is is_all none = absurd cc
+    by_tests false true is is_all none = record {
+      some = grind (arith, nat_tests);
+      few = grind (arith, nat_tests);
+      capital = is_all;
+    }
 
 -- what is so of each letter, as a test
 abbrev fine : ℕ → Bool

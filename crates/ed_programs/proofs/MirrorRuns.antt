@@ -24,7 +24,7 @@ use Rattle.ed_sources.proofs.Decimals.{decimal_is, few_bytes, written}
 use Rattle.ed_programs.specs.Hello.{hello_rows, is_capital}
 use Rattle.ed_programs.specs.Mirror.{mirror_cost, mirror_orders, mirror_pieces, mirror_prints, mirror_text}
 use Rattle.ed_programs.specs.Tapes.{TapeRuns}
-use Rattle.ed_programs.proofs.Capitals.{are_rows, letter}
+use Rattle.ed_programs.proofs.Capitals.{AreLetters, are_rows, letter}
 use Rattle.ed_programs.proofs.TextLines.{all_plain}
 use Rattle.ed_programs.proofs.MirrorEnds.{mirror_arrives, mirror_ends, mirror_entry, mirror_rows}
 use Rattle.ed_answers.specs.declared.input.TheConstants.{INPUT_BYTES}
@@ -76,13 +76,7 @@ mirror_line letters = decimal (length letters) ++ letters
 text_is : (letters : Text) → front ++ (mirror_line letters ++ 10 ∷ []) ≡ mirror_text letters
 text_is letters = ap (λ (t : Text). front ++ t) (append_assoc (decimal (length letters)) letters (10 ∷ []))
 
--- 1 to 9 capital letters
-pub record IsWord (letters : Text) : Type 0 where
-  pub some : 1 ≤ length letters
-  pub few : length letters ≤ 9
-  pub capital : list_all is_capital letters ≡ true
-
-module _ (letters : Text) (o : IsWord letters) where
+module _ (letters : Text) (o : AreLetters 9 letters) where
   abbrev codes : List ℕ
   codes = hello_rows letters
 
@@ -123,7 +117,7 @@ printed_back (b ∷ q) more h =
     ∙ sym (append_assoc (reverse q) (b ∷ []) (paper_from Letters more))
     ∙ ap (λ (t : Text). t ++ paper_from Letters more) (sym (reverse-append (b ∷ []) q))
 
-pub each_word : (s : Settings) (letters : Text) → IsWord letters
+pub each_word : (s : Settings) (letters : Text) → AreLetters 9 letters
     → TapeRuns s (mirror_text letters) mirror_cost (mirror_orders letters) 91 (mirror_prints letters)
 each_word s [] o = absurd (omega (arith, o.some))
 each_word s (b ∷ q) o =

@@ -33,11 +33,15 @@ of_letters letters = 42 ∷ letters
 abbrev pub is_capital : ℕ → Bool
 is_capital b = nat_le 65 b && nat_le b 90
 
+-- why a text is refused as 1 to `most` capital letters, if it is
+abbrev pub letters_refusal : ℕ → Text → Option Refusal
+letters_refusal most letters =
+    if length letters == 0 || nat_lt most (length letters) then Some Length
+    else if list_all is_capital letters then None else Some Letter
+
 -- why a text is refused as the data of `examples/hello.edsac`, if it is
 abbrev pub hello_refusal : Text → Option Refusal
-hello_refusal letters =
-    if length letters == 0 || nat_lt 40 (length letters) then Some Length
-    else if list_all is_capital letters then None else Some Letter
+hello_refusal letters = letters_refusal 40 letters
 
 -- the rows of the text
 abbrev pub hello_rows : Text → List ℕ

@@ -1,15 +1,13 @@
 -- The tape of `examples/mirror.tape` for any word, and what it prints.
-use Rattle.std.specs.Prelude.{ℕ, ◌+◌, ◌*◌, ◌==◌, ◌||◌, List, [], ◌∷◌, length, map, nat_lt, reverse}
-use Rattle.std.specs.Prelude.{if◌then◌else◌, Option, Some, None}
+use Rattle.std.specs.Prelude.{ℕ, ◌+◌, ◌*◌, List, [], ◌∷◌, length, map, reverse}
+use Rattle.std.specs.Prelude.{Option}
 use Rattle.std.specs.Fmt.{decimal}
-use Rattle.std.specs.List.{list_all}
 use Rattle.ed_words.specs.Texts.{Text}
 use Rattle.ed_sources.specs.Calls.{woven_text}
-use Rattle.ed_programs.specs.Hello.{is_capital}
+use Rattle.ed_programs.specs.Hello.{letters_refusal}
 use Rattle.ed_programs.specs.Programs.{spread_pieces}
 use Rattle.ed_programs.specs.declared.mirror.TheConstants.{MIRROR}
 use Rattle.ed_programs.specs.declared.refusal.Refusal.{Refusal}
-use Rattle.ed_programs.specs.declared.refusal.Refusal.TheVariants.{Length, Letter}
 
 -- its pieces; the number of letters and the letters stand between them
 abbrev pub mirror_pieces : List Text
@@ -21,9 +19,7 @@ mirror_text letters = woven_text mirror_pieces (decimal (length letters) ∷ let
 
 -- why a text is refused as the word, if it is: its length must be one digit, and not 0
 abbrev pub mirror_refusal : Text → Option Refusal
-mirror_refusal letters =
-    if length letters == 0 || nat_lt 9 (length letters) then Some Length
-    else if list_all is_capital letters then None else Some Letter
+mirror_refusal letters = letters_refusal 9 letters
 
 -- the word backwards
 abbrev pub mirror_prints : Text → Text

@@ -2,7 +2,8 @@ ghost use Rattle.std.specs.Prelude.{◌≡◌, ◌+◌, ◌<◌, None};
 ghost use Rattle.ed_programs.specs.Add.{add_orders, add_prints, add_refusal, add_text};
 ghost use Rattle.ed_programs.specs.Programs.{GivesProgram, Prints};
 
-use crate::refusal::{LIMIT, Refusal};
+use crate::refusal::{LIMIT, Refusal, program_of_text};
+use crate::woven::with_numbers;
 use std::alloc::Global;
 
 /// The source, with a gap for each number.
@@ -42,5 +43,5 @@ pub fn add_program(alloc: Global, first: u16, second: u16) -> Result<String, Ref
         return Err(Refusal::Number);
     }
     let [head, between, tail] = ADD;
-    Ok(format!(in alloc; "{head}{first}{between}{second}{tail}")?)
+    program_of_text(with_numbers(alloc, head, &[first, second], between, tail))
 }

@@ -2,7 +2,8 @@ ghost use Rattle.std.specs.Prelude.{None};
 ghost use Rattle.ed_programs.specs.Difference.{difference_orders, difference_prints, difference_text};
 ghost use Rattle.ed_programs.specs.Programs.{GivesProgram, Prints};
 
-use crate::refusal::Refusal;
+use crate::refusal::{Refusal, program_of_text};
+use crate::woven::with_numbers;
 use std::alloc::Global;
 
 /// The source, with a gap for each number.
@@ -45,5 +46,5 @@ pub fn difference_program(alloc: Global, first: u16, second: u16) -> Result<Stri
     ensures law { Prints (difference_orders first second) 72 (difference_prints first second) result }
 {
     let [head, between, tail] = DIFFERENCE;
-    Ok(format!(in alloc; "{head}{first}{between}{second}{tail}")?)
+    program_of_text(with_numbers(alloc, head, &[first, second], between, tail))
 }

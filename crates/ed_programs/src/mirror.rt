@@ -2,7 +2,7 @@ ghost use Rattle.ed_programs.specs.Mirror.{mirror_cost, mirror_orders, mirror_pr
 ghost use Rattle.ed_programs.specs.Programs.{GivesProgram};
 ghost use Rattle.ed_programs.specs.Tapes.{TapePrints};
 
-use crate::hello::are_capitals;
+use crate::hello::check_letters;
 use crate::refusal::Refusal;
 use std::alloc::Global;
 
@@ -49,12 +49,7 @@ pub fn mirror_program(alloc: Global, letters: &str) -> Result<String, Refusal>
     ensures is { GivesProgram (mirror_refusal letters.now) (mirror_text letters.now) result }
     ensures law { TapePrints mirror_cost (mirror_orders letters.now) 91 (mirror_prints letters.now) result }
 {
-    if letters.is_empty() || MOST_LETTERS < letters.len() {
-        return Err(Refusal::Length);
-    }
-    if !are_capitals(letters.as_bytes()) {
-        return Err(Refusal::Letter);
-    }
+    check_letters(letters, MOST_LETTERS)?;
     let count = letters.len();
     let [tape, end] = MIRROR;
     Ok(format!(in alloc; "{tape}{count}{letters}{end}")?)

@@ -3,31 +3,23 @@ ghost use Rattle.ed_programs.specs.declared.refusal.Refusal.TheVariants.{Memory}
 ghost use Rattle.ed_programs.specs.Programs.{AnswersWritten};
 
 use std::alloc::AllocError;
-use thiserror::Error;
 
 /// Why there is no program for some data.
-#[derive(Clone, Copy, Debug, PartialEq, Eq, Error)]
+#[derive(Clone, Copy, PartialEq, Eq)]
 pub enum Refusal {
     /// The text has no letter, or more letters than the program takes.
-    #[error("the text has no letter, or more than the program takes")]
     Length,
     /// The text has a character that is not a capital letter.
-    #[error("the text must have capital letters only")]
     Letter,
     /// There are fewer or more numbers than the program's list has.
-    #[error("the list has another count of numbers")]
     Count,
     /// A number, or what the program makes of the numbers, is 65,536 or more.
-    #[error("the numbers and their results must be below 65536")]
     Number,
     /// The lower number of a fraction is 0 or above 6,553.
-    #[error("the lower number must be from 1 to 6553")]
     Divisor,
     /// The words of the program would not be in the store beside its orders.
-    #[error("the number must be from 34 to 510")]
     Place,
     /// No memory was found for the text of the program.
-    #[error("no memory")]
     Memory,
 }
 

@@ -22,24 +22,18 @@ pub fn with_numbers(
 {
     let first = numbers[0];
     let mut text = format!(in alloc; "{head}{first}")?;
-    push_numbers(alloc, &mut text, &numbers[1..], between)?;
+    push_numbers(&mut text, &numbers[1..], between)?;
     text.push_str(tail)?;
     Ok(text)
 }
 
 /// Adds numbers to a text, each after a text that stands between them.
-fn push_numbers(
-    alloc: Global,
-    text: &mut String,
-    numbers: &[u16],
-    between: &str,
-) -> Result<(), AllocError>
+fn push_numbers(text: &mut String, numbers: &[u16], between: &str) -> Result<(), AllocError>
     ensures { IfOk result (λ _. string_bytes text.new ≡ string_bytes text.old
         ++ woven_text (replicate (length numbers.now) between.now) (map decimal numbers.now)) }
 {
     for number in numbers {
-        let more = format!(in alloc; "{between}{number}")?;
-        text.push_str(&more)?;
+        write!(text, "{between}{number}")?;
     }
     Ok(())
 }

@@ -1,6 +1,5 @@
-use Rattle.std.proofs.Common.{◌∙◌, ◌++◌, ap, get_or, refl}
+use Rattle.std.proofs.Common.{get_or, refl}
 use Rattle.std.specs.Prelude.{string_bytes}
-use Rattle.ed_words.specs.Texts.{Text}
 use Rattle.ed_programs.proofs.Weaving.{no_more, one_more}
 use Rattle.ed_programs.proofs.woven.push_numbers.Goals as goal
 
@@ -9,8 +8,7 @@ loop-number-preserved c =
     let text = string_bytes c.loop-number.text in
     let ns = c.args.numbers.now in
     let i = c.loop-number.number-index in
-    one_more c.args.between.now text (string_bytes c.push_str.new.self) ns i (get_or ns i 0)
-    (c.in_ok-push_str.ensures.bytes ∙ ap (λ (t : Text). text ++ t) (c.deref.ensures ∙ c.in_ok-more.ensures.ok))
+    one_more c.args.between.now text (string_bytes c.write.new.self) ns i (get_or ns i 0) c.in_ok-write.ensures.bytes
     c.loop-number-test.true refl c.loop-number.invariant
 
 pub returns : goal.returns
