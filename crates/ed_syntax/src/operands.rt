@@ -130,7 +130,10 @@ fn setting<'a, 'p>(
 {
     match parts.split_first() {
         Some((Part::Sign(byte), after)) => match after.split_first() {
-            Some((Part::Sign(b'='), rest)) => match (setting_letter(*byte), operand(version, rest)) {
+            Some((Part::Sign(b'='), rest)) => match (
+                setting_letter(*byte),
+                operand(version, rest),
+            ) {
                 (Some(letter), Ok((operand, rest))) => Ok((with_letter(letter, operand), rest)),
                 _ => Err(FormFault::NotThisForm),
             },
