@@ -1,5 +1,5 @@
-ghost use Rattle.std.specs.Prelude.{◌≡◌, ◌↔◌, ◌≤◌, ◌<◌, ◌==◌, IsNone, IfSome, Some, position};
-ghost use Rattle.ed_codes.specs.Spelling.{byte_of, letters, row_of};
+ghost use Rattle.std.specs.Prelude.{◌≡◌, ◌↔◌, ◌≤◌, ◌<◌, ◌==◌, length, IsNone, IfSome, Some, position};
+ghost use Rattle.ed_codes.specs.Spelling.{byte_of, row_of};
 
 use crate::letters;
 use std::marker::Model;
@@ -77,12 +77,12 @@ impl Code {
     }
 }
 
-/// The index of a byte among the letters and signs.
-fn letter_place(byte: u8) -> Option<usize>
-    ensures place { result ≡ position (λ l. l == byte) letters }
-    ensures bound { IfSome result (λ k. k < 32) }
+/// The index of the first of these bytes that is the one wanted.
+pub(crate) fn place_of(wanted: u8, bytes: &[u8]) -> Option<usize>
+    ensures place { result ≡ position (λ b. b == wanted) bytes.now }
+    ensures bound { IfSome result (λ n. n < length bytes.now) }
 {
-    LETTERS.iter().position(|letter| *letter == byte)
+    bytes.iter().position(|byte| *byte == wanted)
 }
 
 /// The row that a byte of a tape text spells: a digit its number, a letter or sign its code. No other byte spells a
@@ -95,7 +95,7 @@ pub fn row_of_byte(byte: u8) -> Option<Code>
             number: byte - b'0',
         });
     }
-    match letter_place(byte) {
+    match place_of(byte, LETTERS) {
         Some(place) => Some(Code {
             number: place as u8,
         }),

@@ -1,8 +1,9 @@
-ghost use Rattle.std.specs.Prelude.{◌≡◌, ◌<◌, ◌==◌, length, IfSome, position};
+ghost use Rattle.std.specs.Prelude.{◌≡◌};
 ghost use Rattle.ed_codes.specs.Text.{is_spacing};
 ghost use Rattle.ed_codes.specs.Reading.{HasOneReading, reading};
 ghost use Rattle.ed_codes.specs.Answer.{AnswersText, ReadsText};
 
+use crate::code::place_of;
 use crate::{Code, row_of_byte};
 use std::alloc::{AllocFailed, Global};
 use thiserror::Error;
@@ -39,14 +40,6 @@ fn is_spacing(byte: u8) -> bool
     matches!(byte, b' ' | b'\t' | b'\r' | b'\n')
 }
 
-/// The number of bytes before the first `]`, if there is one.
-fn comment_length(after: &[u8]) -> Option<usize>
-    ensures place { result ≡ position (λ b. b == 93) after.now }
-    ensures bound { IfSome result (λ n. n < length after.now) }
-{
-    after.iter().position(|byte| *byte == b']')
-}
-
 /// The rows of a tape text, or its first fault. Spaces, tabs, carriage returns and line feeds are skipped, and so are
 /// comments, which go from a `[` to the next `]`.
 pub fn tape_of_text(alloc: Global, text: &[u8]) -> Result<Vec<Code>, TextFault>
@@ -66,7 +59,7 @@ fn rows_of_pieces(alloc: Global, text: &[u8]) -> Result<Vec<Code>, TextFault>
     while place < text.len() {
         let byte = text[place];
         if byte == b'[' {
-            match comment_length(&text[place + 1..]) {
+            match place_of(b']', &text[place + 1..]) {
                 Some(length) => place = place + length + 2,
                 None => return Err(TextFault::OpenComment { place }),
             }

@@ -1,5 +1,9 @@
 -- Two names are equal if and only if their sizes and their 16 bytes are.
-use Rattle.std.proofs.Common.{◌≡◌, ℕ, refl, sym, ap, ◌∙◌, Bool, true, false, ◌&&◌, nat_eq, List, take, length}
+use Rattle.std.proofs.Common.{◌≡◌, ℕ, refl, sym, ap, ◌∙◌, Bool, true, false, ◌&&◌, nat_eq, List, take, length, ◌<◌, ◌≤◌}
+use Rattle.std.proofs.Common.{◌++◌, drop}
+use Rattle.std.specs.Prelude.{replicate, IsUtf8}
+use Rattle.std.proofs.lemmas.List.{drop-replicate, take_at}
+use Rattle.std.proofs.lemmas.Grind.{merely}
 use Rattle.std.specs.Bool.{Decides}
 use Rattle.std.specs.Cmp.Lexicographic.{pointwise}
 use Rattle.std.proofs.lemmas.Bool.{and_parts}
@@ -37,3 +41,18 @@ same_bytes b d n m p q =
         let e : n ≡ m = sym p.size ∙ ap (λ (x : List ℕ). length x) t ∙ q.size in
         let f : b ≡ d = sym p.zeros ∙ ap padded_name t ∙ q.zeros in
         and_true (nat_eq n m) (pointwise nat_eq b d) ((Decides-eqb n m).1 e) ((list_test b d).1 f)
+
+-- a text at the front of 16 bytes that are 0
+pub padded_text : (text : List ℕ) → 0 < length text → length text ≤ 16 → IsUtf8 text
+    → IsPadded (text ++ drop (length text) (replicate 16 0)) (length text)
+padded_text text some few utf8 =
+    let n = length text in
+    let rest = drop-replicate {X = ℕ} n 16 0 in
+    let front : take n (text ++ drop n (replicate 16 0)) ≡ text = take_at text _ n refl in
+    record {
+      some = some;
+      few = few;
+      size = ap length front;
+      zeros = ap padded_name front ∙ ap (λ (zs : List ℕ). text ++ zs) (sym rest);
+      text = rw front (merely utf8);
+    }

@@ -37,9 +37,7 @@ impl Name {
             return None;
         }
         let mut bytes = [0; 16];
-        for (place, byte) in text.as_bytes().iter().enumerate() {
-            bytes[place] = *byte;
-        }
+        bytes[..text.len()].copy_from_slice(text.as_bytes());
         Some(Name {
             bytes,
             size: text.len(),

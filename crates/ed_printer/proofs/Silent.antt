@@ -1,5 +1,5 @@
 -- The codes that set a shift print nothing.
-use Rattle.std.proofs.Common.{◌≡◌, ◌≢◌, ◌∙◌, ℕ, Bool, true, false, List, [], ◌∷◌, refl, ap, arith, nat_eq}
+use Rattle.std.proofs.Common.{◌≡◌, ◌≢◌, ◌∙◌, ℕ, Bool, true, false, List, [], ◌∷◌, refl, sym, ap, arith, nat_eq}
 use Rattle.std.proofs.lemmas.Bool.Decides.{nat_tests}
 use Rattle.ed_printer.specs.Paper.{bytes_of, shift_after, struck_bytes}
 use Rattle.ed_printer.specs.declared.printer.Shift.{Shift}
@@ -29,7 +29,7 @@ has_bytes character some none = by_tests (nat_eq character 163) zero refl none
     by_tests false e f h = let g : character ∷ [] ≡ [] = rw (e, f) at h in absurd (cc)
 
 -- so a code whose character isn't 0 keeps the shift
-pub keeps_shift : (shift : Shift) (code character : ℕ) → bytes_of character ≡ struck_bytes shift code → character ≢ 0
+keeps_shift : (shift : Shift) (code character : ℕ) → bytes_of character ≡ struck_bytes shift code → character ≢ 0
     → shift_after shift code ≡ shift
 keeps_shift shift code character is some = by_tests (nat_eq code 11) (nat_eq code 15) refl refl
   where
@@ -42,3 +42,11 @@ keeps_shift shift code character is some = by_tests (nat_eq code 11) (nat_eq cod
     by_tests true b e f = absurd (other 11 (eleven_silent shift) e)
     by_tests false true e f = absurd (other 15 (fifteen_silent shift) f)
     by_tests false false e f = rw (e, f) refl
+
+-- and so does a code whose character is its one byte
+pub plain_keeps_shift : (shift : Shift) (code character : ℕ) → bytes_of character ≡ struck_bytes shift code
+    → bytes_of character ≡ character ∷ [] → shift ≡ shift_after shift code
+plain_keeps_shift shift code character is plain = sym (keeps_shift shift code character is some)
+  where
+    some : character ≢ 0
+    some zero = let none : bytes_of 0 ≡ 0 ∷ [] = rw zero at plain in absurd (cc)

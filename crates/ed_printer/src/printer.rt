@@ -146,7 +146,6 @@ impl Printer {
     /// The text that codes print. It is much faster than to strike them one by one: the text has room for all of them
     /// at once, and only a code that prints nothing can set a shift.
     #[inline(never)]
-    #[tactic(auto, using(crate::proofs::Silent::keeps_shift))]
     pub fn text_of(&mut self, alloc: Global, codes: &[Code]) -> Result<Vec<u8>, AllocError>
         ensures text { IfOk result (λ text. (rest : List ℕ) →
             paper_from self.old (codes.now ++ rest) ≡ text.items ++ paper_from self.new rest) }

@@ -22,19 +22,23 @@ use arrayvec::ArrayVec;
 use ed_codes::{Code, row_of_byte};
 use ed_lines::{Operand, Setting};
 
-/// An operand that is a number or a name: none where the number is out of its range.
-fn single(version: Version, run: &[u8]) -> Result<Option<Operand>, FormFault>
-    ensures is { result_ok result ≡ single (is_second version) run.now }
+/// An operand that is a number or a name, and the parts after it: none where the number is out of its range.
+fn single<'a, 'p>(
+    version: Version,
+    run: &[u8],
+    rest: &'p [Part<'a>],
+) -> Result<(Option<Operand>, &'p [Part<'a>]), FormFault>
+    ensures is { front result ≡ with_rest (map part rest.entry.now) (single (is_second version) run.now) }
     ensures fault { IfErr result (λ e. e ≡ FormFault.NotThisForm) }
 {
     if is_number(run) {
         return match up_to(32767, run) {
-            Some(number) => Ok(Some(Operand::Number(number as u16))),
-            None => Ok(None),
+            Some(number) => Ok((Some(Operand::Number(number as u16)), rest)),
+            None => Ok((None, rest)),
         };
     }
     let name = place_name(version, run)?;
-    Ok(Some(Operand::Label { name, plus: 0 }))
+    Ok((Some(Operand::Label { name, plus: 0 }), rest))
 }
 
 /// A number after a sign.
@@ -49,31 +53,42 @@ fn signed(minus: bool, number: u64) -> i32
     }
 }
 
-/// An operand that is a name, a sign, and a number or in version 2 a name: none where the number is out of its range.
-fn joined(version: Version, run: &[u8], sign: u8, more: &[u8]) -> Result<Option<Operand>, FormFault>
-    ensures is { result_ok result ≡ joined_operand (is_second version) run.now sign more.now }
+/// An operand that is a name, a sign, and a number or in version 2 a name, and the parts after it: none where the number
+/// is out of its range.
+fn joined<'a, 'p>(
+    version: Version,
+    run: &[u8],
+    sign: u8,
+    more: &[u8],
+    rest: &'p [Part<'a>],
+) -> Result<(Option<Operand>, &'p [Part<'a>]), FormFault>
+    ensures is { front result
+        ≡ with_rest (map part rest.entry.now) (joined_operand (is_second version) run.now sign more.now) }
     ensures fault { IfErr result (λ e. e ≡ FormFault.NotThisForm) }
 {
     let first = place_name(version, run)?;
     let minus = sign == b'-';
     if is_number(more) {
         return match up_to(1023, more) {
-            Some(number) => Ok(Some(Operand::Label {
-                name: first,
-                plus: signed(minus, number),
-            })),
-            None => Ok(None),
+            Some(number) => {
+                let plus = signed(minus, number);
+                Ok((Some(Operand::Label { name: first, plus }), rest))
+            }
+            None => Ok((None, rest)),
         };
     }
     if !version.is_two() {
         return Err(FormFault::NotThisForm);
     }
     let second = place_name(version, more)?;
-    Ok(Some(Operand::Two {
-        first,
-        second,
-        minus,
-    }))
+    Ok((
+        Some(Operand::Two {
+            first,
+            second,
+            minus,
+        }),
+        rest,
+    ))
 }
 
 /// An operand at the front, and the parts after it. A number out of its range is no fault as long as these parts may
@@ -85,66 +100,23 @@ pub(crate) fn operand<'a, 'p>(
     ensures is { front result ≡ operand (is_second version) (map part parts.entry.now) }
     ensures fault { IfErr result (λ e. e ≡ FormFault.NotThisForm) }
 {
-    match parts.split_first() {
-        Some((Part::Run(run), rest)) => operand_of_run(version, run, rest),
-        _ => Err(FormFault::NotThisForm),
-    }
-}
-
-/// An operand that begins with this run, and the parts after it.
-fn operand_of_run<'a, 'p>(
-    version: Version,
-    first: &[u8],
-    parts: &'p [Part<'a>],
-) -> Result<(Option<Operand>, &'p [Part<'a>]), FormFault>
-    ensures is { front result ≡ operand (is_second version) (run first.now ∷ map part parts.entry.now) }
-    ensures fault { IfErr result (λ e. e ≡ FormFault.NotThisForm) }
-{
-    match parts.split_first() {
-        Some((Part::Sign(sign @ (b'+' | b'-')), rest)) => joined_front(version, first, *sign, rest),
-        _ => single_front(version, first, parts),
-    }
-}
-
-/// An operand that is this run alone, and the parts after it.
-fn single_front<'a, 'p>(
-    version: Version,
-    run: &[u8],
-    parts: &'p [Part<'a>],
-) -> Result<(Option<Operand>, &'p [Part<'a>]), FormFault>
-    ensures is { front result ≡ with_rest (map part parts.entry.now) (single (is_second version) run.now) }
-    ensures fault { IfErr result (λ e. e ≡ FormFault.NotThisForm) }
-{
-    let operand = single(version, run)?;
-    Ok((operand, parts))
-}
-
-/// An operand that begins with this run and this sign, and the parts after it.
-fn joined_front<'a, 'p>(
-    version: Version,
-    run: &[u8],
-    sign: u8,
-    parts: &'p [Part<'a>],
-) -> Result<(Option<Operand>, &'p [Part<'a>]), FormFault>
-    ensures is { front result ≡ joined_front (is_second version) run.now sign (map part parts.entry.now) }
-    ensures fault { IfErr result (λ e. e ≡ FormFault.NotThisForm) }
-{
-    match parts.split_first() {
-        Some((Part::Run(more), rest)) => Ok((joined(version, run, sign, more)?, rest)),
+    match parts {
+        [Part::Run(run), Part::Sign(sign @ (b'+' | b'-')), after @ ..] => match after {
+            [Part::Run(more), rest @ ..] => joined(version, run, *sign, more, rest),
+            _ => Err(FormFault::NotThisForm),
+        },
+        [Part::Run(run), rest @ ..] => single(version, run, rest),
         _ => Err(FormFault::NotThisForm),
     }
 }
 
 /// The letter of a setting, as its code.
-fn setting_letter(byte: u8) -> Result<Code, FormFault>
-    ensures is { result_ok result ≡ setting_letter byte }
-    ensures fault { IfErr result (λ e. e ≡ FormFault.NotThisForm) }
+fn setting_letter(byte: u8) -> Option<Code>
+    ensures { result ≡ setting_letter byte }
 {
     match byte {
-        b'H' | b'N' | b'M' | b'&' | b'L' | b'X' => {
-            row_of_byte(byte).ok_or(FormFault::NotThisForm)
-        }
-        _ => Err(FormFault::NotThisForm),
+        b'H' | b'N' | b'M' | b'&' | b'L' | b'X' => row_of_byte(byte),
+        _ => None,
     }
 }
 
@@ -157,28 +129,16 @@ fn setting<'a, 'p>(
     ensures fault { IfErr result (λ e. e ≡ FormFault.NotThisForm) }
 {
     match parts.split_first() {
-        Some((Part::Sign(byte), rest)) => setting_of_letter(version, *byte, rest),
-        _ => Err(FormFault::NotThisForm),
-    }
-}
-
-/// What follows the letter of a setting, and the parts after it.
-fn setting_of_letter<'a, 'p>(
-    version: Version,
-    byte: u8,
-    parts: &'p [Part<'a>],
-) -> Result<(Option<Setting>, &'p [Part<'a>]), FormFault>
-    ensures is { front result ≡ setting (is_second version) (sign byte ∷ map part parts.entry.now) }
-    ensures fault { IfErr result (λ e. e ≡ FormFault.NotThisForm) }
-{
-    match parts.split_first() {
-        Some((Part::Sign(equals), rest)) if *equals == b'=' => {
-            let letter = setting_letter(byte)?;
-            match operand(version, rest) {
-                Ok((operand, rest)) => Ok((with_letter(letter, operand), rest)),
-                Err(_) => Err(FormFault::NotThisForm),
-            }
-        }
+        Some((Part::Sign(byte), after)) => match after.split_first() {
+            Some((Part::Sign(b'='), rest)) => match (
+                setting_letter(*byte),
+                operand(version, rest),
+            ) {
+                (Some(letter), Ok((operand, rest))) => Ok((with_letter(letter, operand), rest)),
+                _ => Err(FormFault::NotThisForm),
+            },
+            _ => Err(FormFault::NotThisForm),
+        },
         _ => Err(FormFault::NotThisForm),
     }
 }

@@ -143,7 +143,11 @@ fn lines(alloc: Global, version: Version, text: &[u8]) -> Result<Vec<Line>, Sour
             });
         }
         match line_of(alloc, version, number, line) {
-            Ok(form) => found.push(form.line(number))?,
+            Ok(form) => found.push(Line {
+                number,
+                label: form.label,
+                statement: form.statement,
+            })?,
             Err(fault) => return Err(fault.at(number)),
         }
         number += 1;

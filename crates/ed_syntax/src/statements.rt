@@ -94,7 +94,7 @@ fn word(parts: &[Part]) -> Result<Statement, FormFault>
     let number = integer(65536, 131_071, parts)?;
     let value = number.rem_euclid(1 << 17);
     Ok(Statement::Number {
-        value: Word::new(value as u32).unwrap(),
+        value: Word::of_number(value as u32),
     })
 }
 
@@ -105,7 +105,7 @@ fn long(parts: &[Part]) -> Result<Statement, FormFault>
     let number = integer(17_179_869_184, 34_359_738_367, parts)?;
     let value = number.rem_euclid(1 << 35);
     Ok(Statement::Long {
-        value: Long::new(value as u64).unwrap(),
+        value: Long::of_number(value as u64),
     })
 }
 
@@ -288,22 +288,6 @@ fn labelled(version: Version, run: &[u8], parts: &[Part]) -> Result<Form, FormFa
     })
 }
 
-/// A line that begins with this run.
-fn form_of_run(
-    version: Version,
-    first: &[u8],
-    parts: &[Part],
-    whole: &[Part],
-) -> Result<Form, FormFault>
-    requires { map part whole.now ≡ run first.now ∷ map part parts.now }
-    ensures { result ≡ form_result (form (is_second version) (run first.now ∷ map part parts.now)) }
-{
-    match parts.split_first() {
-        Some((Part::Sign(b':'), rest)) => labelled(version, first, rest),
-        _ => unlabelled(version, whole),
-    }
-}
-
 /// A line.
 fn form(version: Version, parts: &[Part]) -> Result<Form, FormFault>
     ensures { result ≡ form_result (form (is_second version) (map part parts.now)) }
@@ -313,7 +297,10 @@ fn form(version: Version, parts: &[Part]) -> Result<Form, FormFault>
             label: None,
             statement: None,
         }),
-        Some((Part::Run(run), rest)) => form_of_run(version, run, rest, parts),
+        Some((Part::Run(run), after)) => match after.split_first() {
+            Some((Part::Sign(b':'), rest)) => labelled(version, run, rest),
+            _ => unlabelled(version, parts),
+        },
         _ => unlabelled(version, parts),
     }
 }

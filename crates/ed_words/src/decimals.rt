@@ -23,10 +23,8 @@ pub fn number_within(text: &[u8], least: u32, most: u32) -> Option<u32>
     ensures is { result ≡ number_within least most text.now }
     ensures most { IfSome result (λ n. n ≤ most) }
 {
-    let number = number(text)?;
-    if least <= number && number <= most {
-        Some(number)
-    } else {
-        None
+    match number(text) {
+        Some(number) if least <= number && number <= most => Some(number),
+        _ => None,
     }
 }

@@ -2,3 +2,4 @@ pub mod Fronts
 pub mod Numerals
 pub mod Spelled
 pub mod Texts
+pub mod Added

@@ -2,7 +2,7 @@
 ghost use Rattle.std.specs.Prelude.{◌≡◌, ◌≤◌, ◌++◌, IfOk, codes, unsigned_abs};
 ghost use Rattle.ed_writer.specs.Written.{operand_text, order_operand, plus_text, setting_text, settings_after};
 
-use crate::text::{push, push_byte, push_letter, push_number};
+use crate::text::{push, push_byte, push_letter, push_name, push_named, push_number};
 use ed_syntax::{Operand, Setting};
 use ed_words::NoMemory;
 use std::alloc::Global;
@@ -25,7 +25,7 @@ fn push_operand(alloc: Global, text: &mut Vec<u8>, operand: &Operand) -> Result<
     match operand {
         Operand::Number(number) => push_number(alloc, text, u64::from(*number)),
         Operand::Label { name, plus } => {
-            push(text, name.text().as_bytes())?;
+            push_name(text, name)?;
             push_plus(alloc, text, *plus)
         }
         Operand::Two {
@@ -33,9 +33,8 @@ fn push_operand(alloc: Global, text: &mut Vec<u8>, operand: &Operand) -> Result<
             second,
             minus,
         } => {
-            push(text, first.text().as_bytes())?;
-            push_byte(text, if *minus { b'-' } else { b'+' })?;
-            push(text, second.text().as_bytes())
+            push_name(text, first)?;
+            push_named(text, if *minus { b"-" } else { b"+" }, second)
         }
     }
 }

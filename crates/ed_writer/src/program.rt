@@ -1,15 +1,16 @@
 //! Lines, and the text of a program.
-ghost use Rattle.std.specs.Prelude.{◌≡◌, ◌==◌, ◌++◌, ◌∷◌, [], IfOk, IfErr, false, true};
+ghost use Rattle.std.specs.Prelude.{◌≡◌, ◌==◌, ◌++◌, IfOk, IfErr, true};
 ghost use Rattle.std.specs.List.{list_all};
 ghost use Rattle.ed_writer.specs.Answers.{has_version_place, HasNoText, IsTextOf, IsWriteFault};
 ghost use Rattle.ed_writer.specs.Private.LineTexts.{IsTextOfLines, has_few, IsLinesFault};
+ghost use Rattle.ed_syntax.specs.Forms.{has_few_settings};
 ghost use Rattle.ed_syntax.specs.Versions.{is_second};
 ghost use Rattle.ed_syntax.specs.Sources.{IsProgram};
 ghost use Rattle.ed_writer.specs.Written.{form_text, line_text};
 
 use crate::WriteFault;
 use crate::statements::push_statement;
-use crate::text::{push, push_byte};
+use crate::text::{push, push_byte, push_name};
 use ed_syntax::{Line, Program, Version};
 use ed_words::NoMemory;
 use std::alloc::Global;
@@ -17,44 +18,43 @@ use std::alloc::Global;
 /// The most bytes of a line of a source.
 const LINE_BYTES: usize = 120;
 
-/// The text of a line's label and statement.
-fn form(alloc: Global, line: &Line) -> Result<Vec<u8>, NoMemory>
-    ensures is { IfOk result (λ text. text.items ≡ form_text line.now.label line.now.statement) }
-    ensures few { IfOk result (λ _. has_few false line.now ≡ true) }
+/// Adds a line's label and statement.
+fn push_form(alloc: Global, text: &mut Vec<u8>, line: &Line) -> Result<(), NoMemory>
+    ensures is { IfOk result (λ _. text.new.items ≡ text.old.items ++ form_text line.now.label line.now.statement) }
+    ensures few { IfOk result (λ _. has_few_settings line.now.statement ≡ true) }
 {
-    let mut text = Vec::new(alloc);
     if let Some(label) = &line.label {
-        push(&mut text, label.text().as_bytes())?;
-        push_byte(&mut text, b':')?;
-        if line.statement.is_some() {
-            push_byte(&mut text, b' ')?;
-        }
+        push_name(text, label)?;
+        push(
+            text,
+            if line.statement.is_some() {
+                b": "
+            } else {
+                b":"
+            },
+        )?;
     }
-    if let Some(statement) = &line.statement {
-        push_statement(alloc, &mut text, statement)?;
+    match &line.statement {
+        Some(statement) => push_statement(alloc, text, statement),
+        None => Ok(()),
     }
-    Ok(text)
 }
 
-/// The text of a line.
-fn line_text(alloc: Global, version: Version, line: &Line) -> Result<Vec<u8>, NoMemory>
-    ensures is { IfOk result (λ text. text.items ≡ line_text (is_second version) line.now) }
+/// Adds a line without its end.
+fn push_line(
+    alloc: Global,
+    text: &mut Vec<u8>,
+    version: Version,
+    line: &Line,
+) -> Result<(), NoMemory>
+    ensures is { IfOk result (λ _. text.new.items ≡ text.old.items ++ line_text (is_second version) line.now) }
     ensures few { IfOk result (λ _. has_few (is_second version) line.now ≡ true) }
 {
     if version.is_two() && line.number == 1 {
-        let mut text = Vec::new(alloc);
-        push(&mut text, b"version 2")?;
-        return Ok(text);
+        push(text, b"version 2")
+    } else {
+        push_form(alloc, text, line)
     }
-    form(alloc, line)
-}
-
-/// Adds a line and its end.
-fn push_line(text: &mut Vec<u8>, line: &[u8]) -> Result<(), NoMemory>
-    ensures { IfOk result (λ _. text.new.items ≡ text.old.items ++ (line.now ++ 10 ∷ [])) }
-{
-    push(text, line)?;
-    push_byte(text, b'\n')
 }
 
 /// The text of lines, or the first line whose text is too long.
@@ -65,11 +65,12 @@ fn lines_text(alloc: Global, version: Version, lines: &[Line]) -> Result<Vec<u8>
 {
     let mut text = Vec::new(alloc);
     for line in lines {
-        let written = line_text(alloc, version, line)?;
-        if written.len() > LINE_BYTES {
+        let start = text.len();
+        push_line(alloc, &mut text, version, line)?;
+        if text.len() - start > LINE_BYTES {
             return Err(WriteFault::LongLine { line: line.number });
         }
-        push_line(&mut text, &written)?;
+        push_byte(&mut text, b'\n')?;
     }
     Ok(text)
 }

@@ -6,7 +6,7 @@ ghost use Rattle.std.specs.Fmt.{decimal};
 ghost use Rattle.ed_syntax.specs.Forms.{has_few_settings};
 
 use crate::operands::{push_order_operand, push_settings};
-use crate::text::{push, push_byte, push_letter, push_number, push_string};
+use crate::text::{push, push_letter, push_named, push_number, push_string};
 use arrayvec::ArrayVec;
 use ed_codes::Code;
 use ed_syntax::{Name, Operand, Setting, Statement};
@@ -57,14 +57,6 @@ fn push_fetch(
     push_named(text, b"use ", routine)?;
     push_named(text, b" as ", name)?;
     push_settings(alloc, text, settings)
-}
-
-/// Adds a keyword, which ends with a blank, and a name.
-fn push_named(text: &mut Vec<u8>, keyword: &[u8], name: &Name) -> Result<(), NoMemory>
-    ensures { IfOk result (λ _. text.new.items ≡ text.old.items ++ (keyword.now ++ name.now)) }
-{
-    push(text, keyword)?;
-    push(text, name.text().as_bytes())
 }
 
 /// Adds a keyword, which ends with a blank, and a number.

@@ -5,6 +5,7 @@ ghost use Rattle.ed_writer.specs.Written.{row_letter, string_text};
 
 use arrayvec::ArrayVec;
 use ed_codes::{Code, byte_of};
+use ed_syntax::Name;
 use ed_words::NoMemory;
 use std::alloc::Global;
 
@@ -20,6 +21,21 @@ pub(crate) fn push_byte(text: &mut Vec<u8>, byte: u8) -> Result<(), NoMemory>
     ensures { IfOk result (λ _. text.new.items ≡ text.old.items ++ byte ∷ []) }
 {
     push(text, &[byte])
+}
+
+/// Adds a name.
+pub(crate) fn push_name(text: &mut Vec<u8>, name: &Name) -> Result<(), NoMemory>
+    ensures { IfOk result (λ _. text.new.items ≡ text.old.items ++ name.now) }
+{
+    push(text, name.text().as_bytes())
+}
+
+/// Adds bytes and then a name.
+pub(crate) fn push_named(text: &mut Vec<u8>, before: &[u8], name: &Name) -> Result<(), NoMemory>
+    ensures { IfOk result (λ _. text.new.items ≡ text.old.items ++ (before.now ++ name.now)) }
+{
+    push(text, before)?;
+    push_name(text, name)
 }
 
 /// Adds the letter or sign of a code.

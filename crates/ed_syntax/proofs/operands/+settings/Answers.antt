@@ -1,5 +1,6 @@
 use Rattle.std.proofs.Common.{rules, arith, sym, ap, ◌∙◌, ◌≡◌, List, map}
 use Rattle.std.specs.Prelude.{Some, None, Option}
+use Rattle.std.proofs.lemmas.Grind.{common_steps}
 use Rattle.ed_syntax.specs.Parts.{array}
 use Rattle.ed_syntax.specs.Private.Found.{form_result}
 use Rattle.ed_syntax.specs.Private.Grammar.{Ranged, ranged_map, setting}
@@ -28,3 +29,6 @@ settings-returns-in-Err-clause-is t c =
     let front : setting (is_second c.args.version) (map part c.args.parts.now) ≡ None = search rules in
     ap (λ (o : Option (Ranged (List Setting))). form_result (ranged_map array o))
     (sym (no_setting (is_second c.args.version) c.args.most (map part c.args.parts.now) (omega arith) front))
+
+pub and_more-returns-in-None-clause-is : goal.and_more-returns-in-None-clause-is
+and_more-returns-in-None-clause-is t c = grind (arith, common_steps)

@@ -1,12 +1,18 @@
-use Rattle.std.proofs.Common.{rules, arith, ◌≡◌, ◌∙◌, ap, ◌++◌, ◌∷◌, [], List, Option, Some, map}
+use Rattle.std.proofs.Common.{rules, arith, ◌≡◌, ◌∙◌, refl, ap, ◌++◌, ◌∷◌, [], List, Option, Some, None, map}
 use Rattle.std.specs.Prelude.{option_map}
 use Rattle.std.proofs.lemmas.Grind.{common_steps}
 use Rattle.std.proofs.lemmas.List.{append-nil}
 use Rattle.std.proofs.lemmas.Result.{err_from_is_err_and}
 use Rattle.ed_syntax.specs.Parts.{LinePart}
+use Rattle.ed_syntax.specs.Private.PartReading.{parts_of}
 use Rattle.ed_syntax.specs.Private.Seen.{part}
 use Rattle.ed_syntax.proofs.PartLemmas.{more_parts}
 use Rattle.ed_syntax.proofs.parts.parts_of.Goals as goal
+
+-- no part comes before the first one
+nothing_before : (o : Option (List LinePart)) → o ≡ option_map (λ ps. [] ++ ps) o
+nothing_before None = refl
+nothing_before (Some ps) = refl
 
 pub loop-parts-preserved : goal.loop-parts-preserved
 loop-parts-preserved c =
@@ -39,3 +45,6 @@ returns-clause-some c =
     let ended = rw c.in_default.is at c.in_ok-part.ensures in
     c.loop-parts.invariant ∙ ap (λ (o : Option (List LinePart)). option_map (λ ps. before ++ ps) o) ended
     ∙ ap (λ (ps : List LinePart). Some ps) (append-nil before)
+
+pub loop-parts-init : goal.loop-parts-init
+loop-parts-init c = rw c.new-parts.ensures.items (nothing_before (parts_of c.args.line.now))

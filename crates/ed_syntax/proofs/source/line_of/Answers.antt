@@ -1,3 +1,5 @@
+use Rattle.std.proofs.Common.{arith}
+use Rattle.std.proofs.lemmas.Grind.{common_steps}
 use Rattle.std.proofs.Common.{rules, ◌≡◌, ◌∙◌, map}
 use Rattle.std.specs.Prelude.{Ok, Err}
 use Rattle.std.proofs.lemmas.Result.{err_from_is_err_and}
@@ -28,3 +30,6 @@ returns c =
     let whole : line_of (is_second c.args.version) c.args.number c.args.line.now ≡ or_cause o = search rules in
     let told : Ok c.in_ok-form_at.field-0 ≡ form_result o = search rules in
     whole ∙ line_form o c.in_ok-form_at.field-0 told
+
+pub returns-then-line-gt120 : goal.returns-then-line-gt120
+returns-then-line-gt120 c = grind (arith, common_steps)

@@ -1,3 +1,4 @@
+use Rattle.std.proofs.lemmas.Grind.{common_steps}
 use Rattle.ed_syntax.proofs.Lines.{takes_ended, takes_last}
 use Rattle.std.proofs.lemmas.List.{take_rest, take_all}
 use Rattle.std.proofs.Common.{◌≡◌, take, false, arith}
@@ -16,3 +17,6 @@ returns c =
     take_all c.loop-place.place c.args.text.now (omega arith) in
     let none : has_end c.args.text.now ≡ false = rw all at c.loop-place.invariant in
     takes_last c.args.text.now c.requires none
+
+pub loop-place-preserved : goal.loop-place-preserved
+loop-place-preserved c = grind (arith, common_steps)

@@ -19,3 +19,6 @@ returns-in_default-4 c = grind (arith, common_steps)
 
 pub returns-in_default-5 : goal.returns-in_default-5
 returns-in_default-5 c = grind (arith, common_steps)
+
+pub returns-in-Run : goal.returns-in-Run
+returns-in-Run c = grind (arith, common_steps)

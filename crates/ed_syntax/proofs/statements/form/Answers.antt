@@ -4,3 +4,9 @@ use Rattle.ed_syntax.proofs.statements.form.Goals as goal
 
 pub returns-in-None : goal.returns-in-None
 returns-in-None c = grind (arith, common_steps)
+
+pub returns-in_default-split_first : goal.returns-in_default-split_first
+returns-in_default-split_first c = grind (arith, common_steps)
+
+pub returns-in_default : goal.returns-in_default
+returns-in_default c = grind (arith, common_steps)

@@ -13,3 +13,9 @@ returns-in_default-3 c = grind (arith, common_steps)
 
 pub returns-in_default-4 : goal.returns-in_default-4
 returns-in_default-4 c = grind (arith, common_steps)
+
+pub returns-then-is_number : goal.returns-then-is_number
+returns-then-is_number c = grind (arith, common_steps)
+
+pub returns-else-is_number : goal.returns-else-is_number
+returns-else-is_number c = grind (arith, common_steps)

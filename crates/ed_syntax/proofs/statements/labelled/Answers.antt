@@ -29,3 +29,6 @@ returns c =
     let whole : labelled_line (is_second c.args.version) c.args.run.now (map part c.args.parts.now) ≡ ranged_map form o =
     after_a_label (is_second c.args.version) c.args.run.now c.args.parts.now c.in_ok-label.ensures.some.1 some in
     rw (c.in_ok-label.ensures.some.0, whole) (made_form form o _ c.in_ok-statement.ensures)
+
+pub returns-then-is_empty : goal.returns-then-is_empty
+returns-then-is_empty c = grind (arith, common_steps)

@@ -19,3 +19,9 @@ returns-in_default-5 c = grind (arith, common_steps)
 
 pub returns-in_default-6 : goal.returns-in_default-6
 returns-in_default-6 c = grind (arith, common_steps)
+
+pub returns-in-Run : goal.returns-in-Run
+returns-in-Run c = grind (arith, common_steps)
+
+pub returns-in-Sign : goal.returns-in-Sign
+returns-in-Sign c = grind (arith, common_steps)

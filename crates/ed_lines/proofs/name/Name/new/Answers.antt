@@ -1,12 +1,17 @@
-use Rattle.std.proofs.Common.{arith}
-use Rattle.std.proofs.lemmas.Grind.{common_steps, elements}
+use Rattle.std.proofs.Common.{◌≡◌, ◌∙◌, refl, length, arith}
+use Rattle.std.proofs.lemmas.List.{take_at}
+use Rattle.std.proofs.lemmas.Bool.Decides.{nat_tests}
+use Rattle.ed_lines.proofs.NameBytes.{padded_text}
 use Rattle.ed_lines.proofs.name.Name.new.Goals as goal
 
 pub invariant_of-result : goal.invariant_of-result
-invariant_of-result c = grind (arith, common_steps)
+invariant_of-result c =
+    let text = c.args.text.now in
+    let bytes : c.copy_from_slice.new.self ≡ text = c.copy_from_slice.ensures.after ∙ c.as_bytes.ensures.value in
+    rw bytes (padded_text text (grind (arith, nat_tests)) (omega arith) c.utf8.text)
 
 pub returns-clause-some : goal.returns-clause-some
-returns-clause-some c = grind (arith, common_steps)
-
-pub loop-place-preserved : goal.loop-place-preserved
-loop-place-preserved c = grind (arith, elements)
+returns-clause-some c =
+    let text = c.args.text.now in
+    let bytes : c.copy_from_slice.new.self ≡ text = c.copy_from_slice.ensures.after ∙ c.as_bytes.ensures.value in
+    rw bytes (take_at text _ (length text) refl)

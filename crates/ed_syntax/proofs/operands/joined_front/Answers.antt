@@ -1,6 +1,0 @@
-use Rattle.std.proofs.Common.{arith}
-use Rattle.std.proofs.lemmas.Grind.{common_steps}
-use Rattle.ed_syntax.proofs.operands.joined_front.Goals as goal
-
-pub returns-in_default-clause-is : goal.returns-in_default-clause-is
-returns-in_default-clause-is c = grind (arith, common_steps)
