@@ -1,5 +1,5 @@
 -- Products of signed long words, and sums with them, fit 128 binary digits.
-use Rattle.std.proofs.Common.{◌≡◌, refl, ap, ℕ, ◌+◌, ◌-◌, ◌%◌, ◌^◌, ◌≤◌, arith, ℤ}
+use Rattle.std.proofs.Common.{◌≡◌, ◌∙◌, refl, ap, ℕ, ◌+◌, ◌-◌, ◌%◌, ◌^◌, ◌≤◌, arith, ℤ}
 use Rattle.std.proofs.Common.{pos, nat_abs, neg_ℤ, ◌≤ℤ◌, ◌+ℤ◌, ◌-ℤ◌, ◌*ℤ◌, lit<, lit≤}
 use Rattle.std.proofs.lemmas.Int.{ints, to_z-of_z, fits_signed_mul, unsigned_abs-mul, int_rem_euclid_is}
 use Rattle.std.proofs.Math.Nat.{mul-le-mul}
@@ -17,6 +17,10 @@ pub record IsWithin (n : ℕ) (z : ℤ) : Type 0 where
 pub widened : (x : ℤ) → IsWithin (2 ^ 34) x → to_z w64 (of_z w64 x) ≡ x
 widened x within = to_z-of_z w64 x (omega (arith, ints, within.low, within.high))
 
+-- and it is as small there
+pub widened_within : (x y : ℤ) → y ≡ to_z w64 (of_z w64 x) → IsWithin (2 ^ 34) x → IsWithin (2 ^ 34) y
+widened_within x y is within = rw (is ∙ widened x within) within
+
 -- four times a product as it is computed
 abbrev computed : ℤ → ℤ → ℤ
 computed x y = to_z w128
@@ -29,15 +33,31 @@ module _ (x y : ℤ) (left : IsWithin (2 ^ 34) x) (right : IsWithin (2 ^ 34) y) 
       let second : nat_abs y ≤ 2 ^ 34 = omega (arith, ints, right.low, right.high) in
       omega (arith, unsigned_abs-mul x y, mul-le-mul first second)
 
+  x_is : to_z w128 (of_z w128 x) ≡ x
+  x_is = to_z-of_z w128 x (omega (arith, ints, left.low, left.high))
+
+  y_is : to_z w128 (of_z w128 y) ≡ y
+  y_is = to_z-of_z w128 y (omega (arith, ints, right.low, right.high))
+
+  -- the product fits, as it is computed
+  pub product_fits : SFits w128 (to_z w128 (of_z w128 x) *ℤ to_z w128 (of_z w128 y))
+  product_fits =
+      let fits : SFits w128 (x *ℤ y) = omega (arith, ints, small) in rw (x_is, y_is) fits
+
+  once : to_z w128 (of_z w128 (to_z w128 (of_z w128 x) *ℤ to_z w128 (of_z w128 y))) ≡ x *ℤ y
+  once = to_z-of_z w128 _ product_fits ∙ (λ i. x_is i *ℤ y_is i)
+
+  fourfold : SFits w128 (pos 4 *ℤ (x *ℤ y))
+  fourfold = fits_signed_mul w128 (pos 4) (x *ℤ y) 4 (2 ^ 68) (lit≤ tt) small (lit< tt)
+
+  -- four times the product fits, as it is computed
+  pub fourfold_fits : SFits w128
+      (pos 4 *ℤ to_z w128 (of_z w128 (to_z w128 (of_z w128 x) *ℤ to_z w128 (of_z w128 y))))
+  fourfold_fits = rw once fourfold
+
   -- it is that product
   pub product_is : computed x y ≡ pos 4 *ℤ (x *ℤ y)
-  product_is =
-      let first : SFits w128 (x *ℤ y) = omega (arith, ints, small) in
-      let second : SFits w128 (pos 4 *ℤ (x *ℤ y)) =
-      fits_signed_mul w128 (pos 4) (x *ℤ y) 4 (2 ^ 68) (lit≤ tt) small (lit< tt) in
-      let x_is = to_z-of_z w128 x (omega (arith, ints, left.low, left.high)) in
-      let y_is = to_z-of_z w128 y (omega (arith, ints, right.low, right.high)) in
-      rw (x_is, y_is, to_z-of_z w128 (x *ℤ y) first) (to_z-of_z w128 (pos 4 *ℤ (x *ℤ y)) second)
+  product_is = to_z-of_z w128 _ fourfold_fits ∙ ap (λ z. pos 4 *ℤ z) once
 
   pub product_within : IsWithin (2 ^ 70) (pos 4 *ℤ (x *ℤ y))
   product_within = record { low = omega (arith, ints, small); high = omega (arith, ints, small) }

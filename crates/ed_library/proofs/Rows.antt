@@ -1,10 +1,12 @@
 -- Each row of a table has codes.
-use Rattle.std.proofs.Common.{◌≡◌, ◌<◌, ℕ, true, List, length}
+use Rattle.std.proofs.Common.{◌≡◌, ◌∙◌, ◌<◌, ap, refl, ℕ, true, List, length, get_or, nat_lt}
 use Rattle.std.specs.Prelude.{slice_index_or}
 use Rattle.std.specs.List.{list_all}
 use Rattle.std.proofs.lemmas.Bool.{and_parts}
 use Rattle.std.proofs.lemmas.List.Sums.{AllPass-from_list_all}
 use Rattle.ed_words.proofs.Numbers.{lt_of}
+use Rattle.ed_codes.proofs.Below.{from_below}
+use Rattle.ed_library.specs.Entries.{entry, how_many}
 use Rattle.ed_library.specs.Routines.{is_row}
 use Rattle.ed_library.specs.declared.tables.TableRow.{TableRow}
 
@@ -19,3 +21,11 @@ pub row_end : (rows : List TableRow) (k : ℕ) (d : TableRow) → list_all is_ro
     → k < length rows
     → (slice_index_or rows k d).end < 32
 row_end rows k d h below = lt_of _ _ (and_parts _ _ (AllPass-from_list_all is_row rows h k d below)).1
+
+-- the letters of a routine are codes
+pub letter_code : (letters : List ℕ) (r k : ℕ) → letters ≡ (entry r).parameters → r < how_many → k < length letters
+    → get_or letters k 0 < 32
+letter_code letters r k is known below =
+    let codes = ap (list_all (λ c. nat_lt c 32)) is
+    ∙ from_below (λ n. list_all (λ c. nat_lt c 32) (entry n).parameters) 6 r refl known in
+    lt_of _ 32 (AllPass-from_list_all (λ c. nat_lt c 32) letters codes k 0 below)

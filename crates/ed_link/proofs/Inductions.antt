@@ -2,10 +2,9 @@
 use Rattle.std.proofs.Common.{◌≡◌, ℕ, ◌+◌, ◌*◌, ◌<◌, ◌≤◌, refl, sym, ap, ◌∙◌, subst, arith}
 use Rattle.std.proofs.Common.{Bool, true, false, not, ◌&&◌, Option, Some, None, List, [], ◌∷◌, ◌++◌, length}
 use Rattle.std.proofs.Common.{append_assoc, is_some, is_none, if◌then◌else◌}
-use Rattle.std.specs.Prelude.{◌||◌, reverse, unwrap_or}
+use Rattle.std.specs.Prelude.{◌||◌, max, min, reverse, unwrap_or}
 use Rattle.std.specs.List.{list_all}
 use Rattle.std.proofs.lemmas.Bool.{and_parts, not-false, or_parts}
-use Rattle.std.proofs.lemmas.Bool.Decides.{nat_tests}
 use Rattle.ed_words.specs.declared.size.Size.{Size}
 use Rattle.ed_words.specs.Sizes.{locations}
 use Rattle.ed_notation.specs.declared.item.Item.{Item}
@@ -35,7 +34,7 @@ use Rattle.ed_link.specs.Private.FaultTests.{extent, extent_at, reach, overlaps,
 use Rattle.ed_link.specs.declared.faults.Extent.{Extent}
 use Rattle.ed_link.specs.Private.FaultTests.{sets_otherwise, is_enter, any_enter, is_misplaced}
 use Rattle.ed_link.specs.Private.FaultTests.{LinesBefore, past_of, cause_of, fault_from}
-use Rattle.ed_words.proofs.Numbers.{le_of}
+use Rattle.ed_words.proofs.Numbers.{le_of, not_lt_of}
 use Rattle.ed_words.proofs.SizeLemmas.{most}
 use Rattle.ed_words.specs.declared.order_words.TheConstants.{E_F}
 use Rattle.ed_notation.proofs.Steps.{Enters, aiming_entry, entering_at}
@@ -86,10 +85,10 @@ faultless z symbols has_enter past l s h =
 -- locations without a fault
 fits : (z : Size) (a b : ℕ) → a < b → IsClear z (extent a b) → (56 ≤ a) × (b ≤ locations z)
 fits z a b some clear =
-    let below = clear.0 in
-    let beside = clear.1 in
-    let above = clear.2 in
-    (grind (arith, nat_tests), grind (arith, nat_tests))
+    let below : min b 44 ≤ max a 0 = not_lt_of _ _ clear.0 in
+    let beside : min b 56 ≤ max a 44 = not_lt_of _ _ clear.1 in
+    let above : min b b ≤ max a (locations z) = not_lt_of _ _ clear.2 in
+    (omega arith, omega arith)
 
 -- a `text` has a row
 some_rows : (two : Bool) (label : Option (List ℕ)) (n : ℕ) (codes : _)

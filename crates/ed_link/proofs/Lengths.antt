@@ -29,17 +29,23 @@ pub put_all_append : (table : List (Option ℕ)) (ps qs : List (ℕ × ℕ))
 put_all_append table [] qs = refl
 put_all_append table (p ∷ ps) qs = put_all_append (set table p.0 (Some p.1)) ps qs
 
+-- one more word of a list is put
+pub put_next : {A : Type 0} {more whole : List (Option ℕ)} (word : A → ℕ) (xs : List A) (k at : ℕ) (d : A)
+    (table : List (Option ℕ))
+    → k < length xs → more ≡ set table at (Some (word (get_or xs k d)))
+    → put_all table (placed_words at (map word (drop k xs))) ≡ whole
+    → put_all more (placed_words (at + 1) (map word (drop (k + 1) xs))) ≡ whole
+put_next {A} word xs k at d table below same before =
+    (λ i. put_all (same i) (placed_words (at + 1) (map word (drop (k + 1) xs))))
+    ∙ sym (ap (λ (ys : List A). put_all table (placed_words at (map word ys))) (drop_more xs k d below)) ∙ before
+
 -- one more row's word, of those one after the other
 pub put_more : {more whole : List (Option ℕ)} (word : TableRow → ℕ) (rows : List TableRow)
     (k base : ℕ) (table : List (Option ℕ))
     → k < length rows → more ≡ set table (base + k) (Some (word (get_or rows k missing_row)))
     → put_all table (placed_words (base + k) (map word (drop k rows))) ≡ whole
     → put_all more (placed_words (base + (k + 1)) (map word (drop (k + 1) rows))) ≡ whole
-put_more word rows k base table below same before =
+put_more {more} word rows k base table below same before =
     let next : base + k + 1 ≡ base + (k + 1) = omega arith in
-    let rest = map word (drop (k + 1) rows) in
-    let first : put_all table (placed_words (base + k) (map word (drop k rows)))
-    ≡ put_all (set table (base + k) (Some (word (get_or rows k missing_row)))) (placed_words (base + k + 1) rest) =
-    ap (λ (xs : List _). put_all table (placed_words (base + k) (map word xs)))
-    (drop_more rows k missing_row below) in
-    (λ i. put_all (same i) (placed_words (sym next i) rest)) ∙ sym first ∙ before
+    (λ i. put_all more (placed_words (sym next i) (map word (drop (k + 1) rows))))
+    ∙ put_next word rows k (base + k) missing_row table below same before

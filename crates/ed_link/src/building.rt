@@ -1,5 +1,5 @@
 //! What is built from the lines of a source, one line after the other.
-ghost use Rattle.std.specs.Prelude.{◌≡◌, ◌≤◌, ◌<◌, ◌^◌, ◌+◌, ◌++◌, ◌∷◌, ◌||◌, replicate, None, Some, [], IfOk, OnOk};
+ghost use Rattle.std.specs.Prelude.{◌≡◌, ◌≤◌, ◌<◌, ◌^◌, ◌+◌, ◌++◌, ◌∷◌, ◌||◌, None, Some, [], IfOk, OnOk};
 ghost use Rattle.std.specs.Prelude.{length, unwrap_or, ℕ};
 ghost use Rattle.ed_notation.specs.Spellings.{AreSpellable};
 ghost use Rattle.ed_library.specs.Routines.{find};
@@ -20,22 +20,12 @@ use ed_symbols::{Definition, LocationCounter};
 use ed_words::{NoMemory, Size, Word};
 use std::alloc::Global;
 
-/// Adds rows.
-fn push_codes(rows: &mut Vec<Code>, codes: &[Code]) -> Result<(), NoMemory>
-    ensures { OnOk result (rows.new.items ≡ rows.old.items ++ codes.now) }
-{
-    for code in codes {
-        rows.push(*code)?;
-    }
-    Ok(())
-}
-
 /// Adds the rows of a `data` line.
 fn push_rows(rows: &mut Vec<Code>, statement: &Option<Statement>) -> Result<(), NoMemory>
     ensures { OnOk result (rows.new.items ≡ rows.old.items ++ data_rows statement.now) }
 {
     match statement {
-        Some(Statement::Rows { codes }) => push_codes(rows, codes),
+        Some(Statement::Rows { codes }) => Ok(rows.extend_from_slice(codes)?),
         _ => Ok(()),
     }
 }
@@ -117,23 +107,11 @@ fn pass_line(
     Ok(())
 }
 
-/// A table of `count` empty cells.
-fn nothing(alloc: Global, count: usize) -> Result<Vec<Option<Word>>, NoMemory>
-    ensures { IfOk result (λ v. v.items ≡ replicate count None) }
-{
-    let mut table = Vec::new(alloc);
-    for count_so_far in 0..count {
-        table.push(None)?;
-    }
-    Ok(table)
-}
-
 /// A table of all locations without a word.
-#[tactic(auto, using(crate::proofs::Lengths::empty_is))]
 fn empty_table(alloc: Global) -> Result<Vec<Option<Word>>, NoMemory>
     ensures { IfOk result (λ v. v.items ≡ empty_table) }
 {
-    nothing(alloc, 1024)
+    Ok(vec![in alloc; None; 1024]?)
 }
 
 /// Does nothing: its contract is what bounds the rows that a line gives.

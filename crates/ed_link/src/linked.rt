@@ -45,7 +45,6 @@ pub struct Linked {
 
 impl Linked {
     /// The rows of the tape: those of the items, then those after them.
-    #[tactic(auto, using(crate::proofs::Spellable::are_spellable))]
     pub fn rows(&self) -> Result<Vec<Code>, NoMemory>
         ensures is { IfOk result (λ v. v.items ≡ spelled_rows (canonicals self.now.items.items) ++ self.now.after.items) }
         ensures few { IfOk result (λ v. length v.items ≤ 2 ^ 22) }
@@ -57,7 +56,6 @@ impl Linked {
 
     /// The text of the tape: a line for each item, and a line of the rows after them, if there are any. Its rows are
     /// those of `rows`.
-    #[tactic(auto, using(crate::proofs::Spellable::are_spellable, crate::proofs::Texts::both_read))]
     pub fn text(&self) -> Result<Vec<u8>, NoMemory>
         ensures is { IfOk result
             (λ v. v.items ≡ text_of (canonicals self.now.items.items) ++ after_text self.now.after.items) }

@@ -52,9 +52,9 @@ fn push_line(text: &mut Vec<u8>, rows: &[Code]) -> Result<(), NoMemory>
     ensures { IfOk result (λ v. text.new.items ≡ text.old.items ++ line_from false rows.now) }
 {
     for (i, row) in rows.iter().enumerate() {
-        push_byte(text, byte_of(*row, 0 < i))?;
+        text.push(byte_of(*row, 0 < i))?;
     }
-    push_byte(text, b'\n')
+    Ok(text.push(b'\n')?)
 }
 
 /// The rows of an item.
@@ -103,10 +103,4 @@ fn push_row(rows: &mut Vec<Code>, row: Code) -> Result<(), NoMemory>
     ensures { IfOk result (λ v. rows.new.items ≡ rows.old.items ++ row ∷ []) }
 {
     Ok(rows.push(row)?)
-}
-
-fn push_byte(text: &mut Vec<u8>, byte: u8) -> Result<(), NoMemory>
-    ensures { IfOk result (λ v. text.new.items ≡ text.old.items ++ byte ∷ []) }
-{
-    Ok(text.push(byte)?)
 }

@@ -51,7 +51,7 @@ fn push_number(text: &mut ArrayString<12>, number: u16)
 }
 
 /// Writes a number in decimal.
-#[tactic(auto, using(crate::proofs::Numerals::shorter, std::proofs::lemmas::Fmt::decimal_digit))]
+#[tactic(auto, using(std::proofs::lemmas::Fmt::decimal_digit))]
 fn push_decimal(text: &mut ArrayString<12>, number: u16)
     requires { array_string_len text.old + length (decimal number) ≤ 12 }
     ensures bytes { text.new.bytes ≡ text.old.bytes ++ decimal number }

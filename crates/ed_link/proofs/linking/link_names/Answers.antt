@@ -5,6 +5,15 @@ use Rattle.ed_link.specs.Private.FaultTests.{any_enter, missing}
 use Rattle.ed_link.proofs.Finished.{finished}
 use Rattle.ed_link.proofs.linking.link_names.Goals as goal
 
+pub overflow_cast-len : goal.overflow_cast-len
+overflow_cast-len c = omega arith
+
+pub missing-missing-requires : goal.missing-missing-requires
+missing-missing-requires c = omega arith
+
+pub build-requires : goal.build-requires
+build-requires c = omega arith
+
 pub returns-clause-linked : goal.returns-clause-linked
 returns-clause-linked c =
     let n : c.len.result ≡ length c.args.program.now.lines.items = omega arith in

@@ -1,0 +1,27 @@
+use Rattle.std.proofs.Common.{◌∙◌, ◌++◌, ap, List}
+use Rattle.ed_codes.specs.Reading.{reading, rows}
+use Rattle.ed_notation.specs.Items.{spelled_rows}
+use Rattle.ed_notation.specs.declared.item.Item.{Item}
+use Rattle.ed_notation.specs.Spellings.{canonicals, text_of}
+use Rattle.ed_link.specs.Tapes.{after_text}
+use Rattle.ed_link.proofs.Spellable.{are_spellable}
+use Rattle.ed_link.proofs.Texts.{both_read}
+use Rattle.ed_link.proofs.linked.Linked.text.Goals as goal
+
+pub text_of_items-requires : goal.text_of_items-requires
+text_of_items-requires c =
+    let linked = c.args.self.now in rw c.deref.ensures.value (are_spellable linked.items.items linked.spellable)
+
+pub returns-clause-is : goal.returns-clause-is
+returns-clause-is c =
+    let items = c.in_ok-text.ensures.text ∙ ap (λ (is : List Item). text_of (canonicals is)) c.deref.ensures.value in
+    c.in_ok-push_after.ensures.is ∙ (λ i. items i ++ after_text (c.deref-2.ensures.value i))
+
+pub returns-clause-reads : goal.returns-clause-reads
+returns-clause-reads c =
+    let items = c.deref.result.now in
+    let after = c.deref-2.result.now in
+    ap reading c.in_ok-push_after.ensures.is
+    ∙ both_read c.in_ok-text.text.items (after_text after) (spelled_rows (canonicals items)) after
+    c.in_ok-text.ensures.reads c.in_ok-push_after.ensures.spells
+    ∙ (λ i. rows (spelled_rows (canonicals (c.deref.ensures.value i)) ++ c.deref-2.ensures.value i))

@@ -1,0 +1,28 @@
+use Rattle.std.proofs.Common.{◌∙◌, ◌*◌, ◌++◌, ap, map, refl, ℕ, List, [], ◌∷◌}
+use Rattle.ed_notation.specs.declared.item.Item.{Item}
+use Rattle.ed_notation.proofs.Parts.{one_more}
+use Rattle.ed_link.specs.Punch.{word_item}
+use Rattle.ed_link.proofs.Steps.{all_given}
+use Rattle.ed_link.proofs.punching.push_text.Goals as goal
+
+-- the items of some codes
+abbrev items_of_codes : List ℕ → List Item
+items_of_codes codes = map word_item (map (λ n. 4096 * n) codes)
+
+pub loop-code-preserved : goal.loop-code-preserved
+loop-code-preserved c =
+    let l = c.loop-code in
+    let done = l.items.items in
+    let code = c.code-item.result in
+    let word = rw c.unwrap.ensures at c.new.ensures.some in
+    let whole = word ∙ ap (λ (n : ℕ). 4096 * n) (c.from.ensures ∙ c.value.ensures.is) in (
+      one_more items_of_codes c.args.codes.now l.code-index code done (word_item (4096 * code) ∷ []) _
+          c.loop-code-test.true c.code-item.is refl
+          (c.in_ok-push_word.ensures.items ∙ ap (λ (n : ℕ). done ++ word_item n ∷ []) whole) l.invariant.0,
+      c.in_ok-push_word.ensures.spellable,
+    )
+
+pub returns-clause-items : goal.returns-clause-items
+returns-clause-items c =
+    all_given items_of_codes c.args.codes.now c.loop-code.code-index c.loop-code.items.items c.loop-code-test.false refl
+    c.loop-code.invariant.0
