@@ -5,7 +5,6 @@ use Rattle.std.specs.Prelude.{Result, Ok, Err, IfErr, IfOk, IsErr, IsErrAnd, Mat
 use Rattle.std.proofs.lemmas.Result.{err_from_is_err_and}
 use Rattle.ed_words.specs.declared.size.Size.{Size}
 use Rattle.ed_words.specs.declared.memory.NoMemory.{NoMemory}
-use Rattle.ed_store.specs.Cells.{Cells}
 use Rattle.ed_machine.specs.State.{State}
 use Rattle.ed_notation.specs.Spellings.{canonicals, text_of}
 use Rattle.ed_machine.specs.declared.ending.Ending.{Ending}
@@ -166,20 +165,20 @@ ran_gives window before {note} r {ending} {state} {codes} {reply} e s c n gives 
 
 -- ---- the tape and the listing
 
-pub punch_gives : (z : Size) (k : Linked) (r : Result Reply NoMemory)
-    → IfOk r (λ reply. Gives reply (done (text_of (canonicals k.items.items) ++ after_text k.after.items)))
-    → IfOk r (λ reply. (lines : List Line) → IsLinked z lines k → Gives reply (punch_outcome lines))
-punch_gives z k (Err e) gives = tt
-punch_gives z k (Ok reply) gives = λ lines is.
-    subst (Gives reply) (λ i. done (text_of (canonicals (is.items i)) ++ after_text (is.after i))) gives
+pub punch_gives : (z : Size) (k : Linked) (reply : Reply) {text : Text}
+    → text ≡ text_of (canonicals k.items.items) ++ after_text k.after.items → Gives reply (done text)
+    → (lines : List Line) → IsLinked z lines k → Gives reply (punch_outcome lines)
+punch_gives z k reply same gives lines is =
+    subst (λ (t : Text). Gives reply (done t))
+    (same ∙ (λ i. text_of (canonicals (is.items i)) ++ after_text (is.after i))) gives
 
-pub listing_gives : {z : Size} {lines : List Line} {k : Linked} {reply : Reply} {m : State} {store : Cells}
-    {places : List ℕ} {out : Text}
-    → IsLinked z lines k → m ≡ entry_state z lines → store ≡ m.store
-    → places ≡ map (λ (p : Placed). p.place) k.words.items
-    → out ≡ listing store places → Gives reply (done out) → Gives reply (listing_outcome lines)
-listing_gives {lines} {reply} {store} {places} is entry s p o gives =
-    let at : store ≡ entry_store lines = s ∙ ap (λ (x : State). x.store) entry in
-    let all : places ≡ map (λ (p : Placed). p.place) (words_from 0 (table_of (linked_words lines))) =
-    p ∙ ap (map (λ (p : Placed). p.place)) is.words in
-    subst (λ (t : Text). Gives reply (done t)) (o ∙ (λ i. listing (at i) (all i))) gives
+pub listing_gives : (z : Size) (k : Linked) (m : State) (words : List Placed) (r : Result Reply NoMemory)
+    → ((lines : List Line) → IsLinked z lines k → m ≡ entry_state z lines) → words ≡ k.words.items
+    → IfOk r (λ reply. Gives reply (done (listing m.store (map (λ (p : Placed). p.place) words))))
+    → IfOk r (λ reply. (lines : List Line) → IsLinked z lines k → Gives reply (listing_outcome lines))
+listing_gives z k m words (Err e) entry same gives = tt
+listing_gives z k m words (Ok reply) entry same gives = λ lines is.
+    let at : m.store ≡ entry_store lines = ap (λ (x : State). x.store) (entry lines is) in
+    let places : List Placed → List ℕ = map (λ (p : Placed). p.place) in
+    let all : places words ≡ places (words_from 0 (table_of (linked_words lines))) = ap places (same ∙ is.words) in
+    subst (λ (t : Text). Gives reply (done t)) (λ i. listing (at i) (all i)) gives

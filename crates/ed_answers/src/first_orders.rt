@@ -1,9 +1,11 @@
-ghost use Rattle.std.specs.Prelude.{◌≡◌, ◌≢◌, ◌≤◌, ◌^◌, IfOk, length};
+ghost use Rattle.std.specs.Prelude.{◌≡◌, ◌≢◌, ◌≤◌, ◌^◌, [], IfOk, length};
+ghost use Rattle.ed_run.specs.Run.{RunEnd};
 ghost use Rattle.ed_report.specs.FirstNotes.{tape1_fault_line};
 ghost use Rattle.ed_answers.specs.FirstOrders.{IsChecked1, check_tape1_answer, first_state1, tape1_answer};
 ghost use Rattle.ed_answers.specs.FirstOrders.{run1_of, tape1_outcome};
 ghost use Rattle.ed_answers.specs.Outcome.{Outcome, refusal};
 ghost use Rattle.ed_answers.specs.Replies.{Gives, IsRan, Replies};
+ghost use Rattle.ed_answers.specs.Runs.{ran_outcome};
 
 use crate::check::entry_reply;
 use crate::reply::{Rejection, Reply};
@@ -33,8 +35,15 @@ fn run_tape1(alloc: Global, settings: Settings, rows: Vec<Code>) -> Result<Reply
     ensures { IfOk result (λ reply. Gives reply (tape1_outcome settings rows.items)) }
 {
     let ran = run_rows1(alloc, settings, rows)?;
+    ended_reply(alloc, &ran)
+}
+
+/// The reply of a run, with the line of its ending.
+fn ended_reply(alloc: Global, ran: &FinishedRun) -> Result<Reply, NoMemory>
+    ensures { (r : RunEnd) → IsRan r ran.now → IfOk result (λ reply. Gives reply (ran_outcome [] r)) }
+{
     let note = ending_text(alloc, ran.ending, &ran.machine)?;
-    ran_reply(alloc, &ran, note)
+    ran_reply(alloc, ran, note)
 }
 
 /// Runs a cleared machine of full size, started on rows with Initial Orders 1. This is a function of its own for the

@@ -1,8 +1,7 @@
 ghost use Rattle.std.specs.Prelude.{◌≡◌, ◌<◌, ◌≤◌, ◌++◌, [], All, IfOk, List, map, nat_le, if◌then◌else◌};
-ghost use Rattle.ed_notation.specs.Spellings.{canonicals, text_of};
 ghost use Rattle.ed_lines.specs.declared.program.Line.{Line};
 ghost use Rattle.ed_link.specs.Answers.{IsLinked};
-ghost use Rattle.ed_link.specs.Tapes.{after_text, cost, tape};
+ghost use Rattle.ed_link.specs.Tapes.{cost, tape};
 ghost use Rattle.ed_loads.specs.EntryState.{entry_state};
 ghost use Rattle.ed_report.specs.Listings.{listing};
 ghost use Rattle.ed_report.specs.Notes.{ending_line, entry_note, source_fault_line};
@@ -45,7 +44,7 @@ pub fn punch(alloc: Global, settings: Settings, input: &[u8]) -> Result<Reply, R
     ensures { Replies (punch_answer settings) input.now result }
 {
     let linked = linked_of(alloc, settings.size, input)?;
-    Ok(punch_linked(alloc, &linked)?)
+    Ok(Reply::done(alloc, linked.text()?))
 }
 
 /// `listing`: the locations of a source's linked program, with the words of the store at the entry.
@@ -138,14 +137,6 @@ fn notation_of(alloc: Global, entry: u16, cost: u64, ran: &FinishedRun) -> Resul
     }
 }
 
-/// The tape of a linked program.
-fn punch_linked(alloc: Global, linked: &Linked) -> Result<Reply, NoMemory>
-    ensures { IfOk result (λ reply.
-        Gives reply (done (text_of (canonicals linked.now.items.items) ++ after_text linked.now.after.items))) }
-{
-    Ok(Reply::done(alloc, linked.text()?))
-}
-
 /// The locations of a linked program, with the words of the store at the entry.
 pub fn list_linked(alloc: Global, size: Size, linked: &Linked) -> Result<Reply, NoMemory>
     requires { (lines : List Line) × IsLinked size lines linked.now }
@@ -153,16 +144,17 @@ pub fn list_linked(alloc: Global, size: Size, linked: &Linked) -> Result<Reply, 
         → Gives reply (listing_outcome lines)) }
 {
     let machine = enter(alloc, size, linked)?;
-    Ok(Reply::done(alloc, words_text(alloc, &machine, &linked.words)?))
+    list_words(alloc, &machine, &linked.words)
 }
 
 /// The locations of words, with the words of a machine's store.
-fn words_text(alloc: Global, machine: &Machine, words: &[Placed]) -> Result<Vec<u8>, NoMemory>
+fn list_words(alloc: Global, machine: &Machine, words: &[Placed]) -> Result<Reply, NoMemory>
     requires { All (λ a. a < 1024) (map (λ p. p.place) words.now) }
-    ensures { IfOk result (λ text. text.items ≡ listing machine.now.store (map (λ p. p.place) words.now)) }
+    ensures { IfOk result (λ reply.
+        Gives reply (done (listing machine.now.store (map (λ p. p.place) words.now)))) }
 {
     let places = places_of(alloc, words)?;
-    listing(alloc, machine.store(), &places)
+    Ok(Reply::done(alloc, listing(alloc, machine.store(), &places)?))
 }
 
 /// The locations of words.

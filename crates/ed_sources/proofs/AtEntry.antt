@@ -1,5 +1,5 @@
 -- The words in the store at the entry of a source's program.
-use Rattle.std.proofs.Common.{◌≡◌, ℕ, ◌+◌, ◌-◌, ◌<◌, ◌≤◌, ◌∙◌, arith, Bool, true, List, [], ◌∷◌}
+use Rattle.std.proofs.Common.{◌≡◌, ℕ, ◌+◌, ◌<◌, ◌≤◌, ◌∙◌, arith, Bool, true, List, [], ◌∷◌}
 use Rattle.std.proofs.Common.{length, length-append, drop, nat_eq, nat_lt}
 use Rattle.std.specs.Prelude.{replicate, reverse, unwrap_or}
 use Rattle.std.specs.List.{list_all}

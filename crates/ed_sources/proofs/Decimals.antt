@@ -6,9 +6,8 @@ use Rattle.std.specs.Prelude.{◌&&◌, ◌==◌, not, fold}
 use Rattle.std.specs.Fmt.{decimal}
 use Rattle.std.specs.List.{list_all}
 use Rattle.std.proofs.lemmas.Bool.{and_parts, cases_lt}
-use Rattle.std.proofs.lemmas.Bool.Decides.{nat_tests}
 use Rattle.std.proofs.lemmas.List.{length-map}
-use Rattle.ed_words.proofs.Numbers.{eq_of, lt_of}
+use Rattle.ed_words.proofs.Numbers.{eq_of, lt_of, lt_true}
 use Rattle.ed_codes.specs.Spelling.{row_of}
 use Rattle.ed_syntax.specs.Private.Grammar.{row, spells}
 use Rattle.ed_words.specs.Decimals.{is_digit, value as spelled_value}
@@ -25,7 +24,7 @@ abbrev pub written : List ℕ → List ℕ
 written ds = map (λ d. 48 + d) ds
 
 pub both : (x y : Bool) → x ≡ true → y ≡ true → (x && y) ≡ true
-both x y h k = grind arith
+both x y h k = rw (h, k) refl
 
 -- n numbers from k upwards
 abbrev pub numbers : ℕ → ℕ → List ℕ
@@ -108,17 +107,14 @@ fewer [] h = refl
 fewer (zero ∷ ds) h = fewer ds h
 fewer (suc d ∷ ds) h = h
 
-below : (n m : ℕ) → n < m → nat_lt n m ≡ true
-below n m l = grind (arith, nat_tests)
-
 module _ (n : ℕ) (small : n < 65536) where
   pub are : are_digits (digits n) ≡ true
   are =
-      let a = below (n / 10000) 10 (omega arith) in
-      let b = below (n / 1000 % 10) 10 (omega arith) in
-      let c = below (n / 100 % 10) 10 (omega arith) in
-      let d = below (n / 10 % 10) 10 (omega arith) in
-      let u = below (n % 10) 10 (omega arith) in
+      let a = lt_true (n / 10000) 10 (omega arith) in
+      let b = lt_true (n / 1000 % 10) 10 (omega arith) in
+      let c = lt_true (n / 100 % 10) 10 (omega arith) in
+      let d = lt_true (n / 10 % 10) 10 (omega arith) in
+      let u = lt_true (n % 10) 10 (omega arith) in
       more_digits (before_units n) (n % 10 ∷ []) (fewer (tens n) (rw (a, b, c, d) refl)) (rw u refl)
 
   pub decimal_is : written (digits n) ≡ decimal n

@@ -1,5 +1,7 @@
-ghost use Rattle.std.specs.Prelude.{◌≡◌, IfOk};
-ghost use Rattle.ed_call.specs.declared.Call.TheVariants.{Check, Divide, NewLine, Print, Read, Root};
+ghost use Rattle.std.specs.Prelude.{◌≡◌, ◌∷◌, ◌++◌, [], IfOk, map};
+ghost use Rattle.std.specs.Fmt.{decimal};
+ghost use Rattle.ed_words.specs.Texts.{Text};
+ghost use Rattle.ed_call.specs.declared.Call.TheVariants.{Divide, NewLine};
 ghost use Rattle.ed_sources.specs.Calls.{call_text};
 ghost use Rattle.ed_sources.specs.Accepted.{EachCallIsAccepted};
 
@@ -103,29 +105,13 @@ pub fn call_source(alloc: Global, call: &Call) -> Result<Vec<u8>, NoMemory>
     ensures law { EachCallIsAccepted }
 {
     match call {
-        Call::Print(number) => print_source(alloc, *number),
-        Call::Read(number) => read_source(alloc, *number),
+        Call::Print(number) => with_number(alloc, PRINT, u32::from(*number)),
+        Call::Read(number) => with_number(alloc, READ, u32::from(*number)),
         Call::NewLine => newline_source(alloc),
         Call::Divide { n, by } => divide_source(alloc, *n, *by),
-        Call::Root(number) => root_source(alloc, *number),
-        Call::Check(number) => check_source(alloc, *number),
+        Call::Root(number) => with_number(alloc, ROOT, u32::from(*number)),
+        Call::Check(number) => with_number(alloc, CHECK, u32::from(*number)),
     }
-}
-
-/// The source that prints a number.
-fn print_source(alloc: Global, number: u16) -> Result<Vec<u8>, NoMemory>
-    ensures { IfOk result (λ bytes. bytes.items ≡ call_text (Print number)) }
-{
-    let [head, tail] = PRINT;
-    bytes_of_text(format!(in alloc; "{head}{number}{tail}"))
-}
-
-/// The source that reads a number from its tape and prints it.
-fn read_source(alloc: Global, number: u16) -> Result<Vec<u8>, NoMemory>
-    ensures { IfOk result (λ bytes. bytes.items ≡ call_text (Read number)) }
-{
-    let [head, tail] = READ;
-    bytes_of_text(format!(in alloc; "{head}{number}{tail}"))
 }
 
 /// The source that prints a new line.
@@ -146,18 +132,11 @@ fn divide_source(alloc: Global, number: u32, by: u16) -> Result<Vec<u8>, NoMemor
     bytes_of_text(format!(in alloc; "{head}{high}{before_low}{low}{before_by}{by}{tail}"))
 }
 
-/// The source that takes a square root and prints it.
-fn root_source(alloc: Global, number: u16) -> Result<Vec<u8>, NoMemory>
-    ensures { IfOk result (λ bytes. bytes.items ≡ call_text (Root number)) }
+/// The text of two pieces with a number between them.
+pub fn with_number(alloc: Global, pieces: [&str; 2], number: u32) -> Result<Vec<u8>, NoMemory>
+    ensures { (head tail : Text) → map (λ piece. piece.now) pieces.entry ≡ head ∷ tail ∷ []
+        → IfOk result (λ bytes. bytes.items ≡ head ++ (decimal number ++ tail)) }
 {
-    let [head, tail] = ROOT;
-    bytes_of_text(format!(in alloc; "{head}{number}{tail}"))
-}
-
-/// The source of a guest that prints a number, and that the checking routine obeys.
-fn check_source(alloc: Global, number: u16) -> Result<Vec<u8>, NoMemory>
-    ensures { IfOk result (λ bytes. bytes.items ≡ call_text (Check number)) }
-{
-    let [head, tail] = CHECK;
+    let [head, tail] = pieces;
     bytes_of_text(format!(in alloc; "{head}{number}{tail}"))
 }

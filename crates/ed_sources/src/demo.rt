@@ -4,7 +4,7 @@ ghost use Rattle.ed_sources.specs.Accepted.{EachDemoIsAccepted};
 ghost use Rattle.ed_sources.specs.Calls.{text_of_lines};
 ghost use Rattle.ed_sources.specs.Demo.{adding_text, number_after, demo_text, next, segments, word_lines, number_word};
 
-use ed_report::bytes_of_text;
+use crate::calls::with_number;
 use ed_words::NoMemory;
 use std::alloc::Global;
 
@@ -40,18 +40,10 @@ pub fn demo_source(alloc: Global, n: u32) -> Result<Vec<u8>, NoMemory>
     ensures is { IfOk result (λ bytes. bytes.items ≡ demo_text n) }
     ensures law { EachDemoIsAccepted }
 {
-    let mut text = adding(alloc, 8 * n)?;
+    let mut text = with_number(alloc, ADDING, 8 * n)?;
     push_segments(alloc, &mut text, n)?;
-    push(&mut text, b"enter main\n")?;
+    text.extend_from_slice(b"enter main\n")?;
     Ok(text)
-}
-
-/// The program that adds up a number of words and prints the sum.
-fn adding(alloc: Global, words: u32) -> Result<Vec<u8>, NoMemory>
-    ensures { IfOk result (λ bytes. bytes.items ≡ adding_text words) }
-{
-    let [head, tail] = ADDING;
-    bytes_of_text(format!(in alloc; "{head}{words}{tail}"))
 }
 
 /// Adds `n` segments to a source.
@@ -61,18 +53,11 @@ fn push_segments(alloc: Global, text: &mut Vec<u8>, n: u32) -> Result<(), NoMemo
 {
     let mut number = n;
     for done in 0..n {
-        let line = segment_line(alloc, done + 1)?;
-        push(text, &line)?;
+        let line = with_number(alloc, ["segment s", "\n"], done + 1)?;
+        text.extend_from_slice(&line)?;
         number = push_words(alloc, text, number)?;
     }
     Ok(())
-}
-
-/// The line with which a segment begins.
-fn segment_line(alloc: Global, k: u32) -> Result<Vec<u8>, NoMemory>
-    ensures { IfOk result (λ bytes. bytes.items ≡ codes "segment s" ++ decimal k ++ codes "\n") }
-{
-    bytes_of_text(format!(in alloc; "segment s{k}\n"))
 }
 
 /// Adds the 8 words of the numbers after a given one to a source, and answers the last of these numbers.
@@ -84,18 +69,10 @@ fn push_words(alloc: Global, text: &mut Vec<u8>, before: u32) -> Result<u32, NoM
     let mut number = before;
     for _word in 0..8u32 {
         number = next(number);
-        let line = word_line(alloc, number)?;
-        push(text, &line)?;
+        let line = with_number(alloc, ["word ", "\n"], number / 1024)?;
+        text.extend_from_slice(&line)?;
     }
     Ok(number)
-}
-
-/// The line of the word of a number of the sequence.
-fn word_line(alloc: Global, number: u32) -> Result<Vec<u8>, NoMemory>
-    ensures { IfOk result (λ bytes. bytes.items ≡ codes "word " ++ decimal (number_word number) ++ codes "\n") }
-{
-    let word = number / 1024;
-    bytes_of_text(format!(in alloc; "word {word}\n"))
 }
 
 /// The number after a given one in the sequence.
@@ -104,11 +81,4 @@ fn next(number: u32) -> u32
     ensures { result ≡ next number }
 {
     (1105 * number + 12345) % 65536
-}
-
-/// Adds bytes to a source.
-fn push(text: &mut Vec<u8>, bytes: &[u8]) -> Result<(), NoMemory>
-    ensures { IfOk result (λ _. text.new.items ≡ text.old.items ++ bytes.now) }
-{
-    Ok(text.extend_from_slice(bytes)?)
 }

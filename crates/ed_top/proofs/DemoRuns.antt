@@ -1,5 +1,5 @@
 -- `demo` is the run of its source, from the state at its entry to its stop.
-use Rattle.std.proofs.Common.{◌≡◌, ◌∙◌, ℕ, ◌+◌, ◌*◌, arith, List, [], ◌∷◌, ◌++◌, codes}
+use Rattle.std.proofs.Common.{◌≡◌, ◌∙◌, ℕ, ◌+◌, ◌*◌, ◌≤◌, arith, subst, sym, List, [], ◌∷◌, ◌++◌, codes}
 use Rattle.ed_words.specs.Texts.{Text}
 use Rattle.ed_lines.specs.declared.program.Line.{Line}
 use Rattle.ed_link.specs.Tapes.{cost}
@@ -14,7 +14,7 @@ use Rattle.ed_sources.proofs.DemoEnds.{demo_ends, demo_entry, demo_rows, sum_sma
 use Rattle.ed_sources.proofs.DemoFaultless.{demo_faultless}
 use Rattle.ed_sources.proofs.Papers.{digits_printed}
 use Rattle.ed_sources.proofs.SaidDemo.{demo_lines}
-use Rattle.ed_top.specs.Demos.{EachDemoRuns, demo_orders}
+use Rattle.ed_top.specs.Demos.{EachDemoRuns}
 use Rattle.ed_answers.specs.Outcome.{Outcome}
 use Rattle.ed_answers.specs.Headline.{RunsFromEntry}
 use Rattle.ed_answers.specs.Sources.{run_outcome}
@@ -34,6 +34,14 @@ same_outcome : (o : Outcome) (text other : Text) (entry at k orders more : ℕ) 
 same_outcome o text other entry at k orders more is printed place count =
     is ∙ (λ i. stopped (printed i) (place i) k (count i))
 
+-- the orders from the entry to the stop, after those up to the entry
+counted : (k n p : ℕ) → k + (72 * n + 3 + p + 1) ≡ k + (9 * (8 * n) + p + 4)
+counted k n p = omega arith
+
+few_enough : (k rows n p : ℕ) → k ≤ 17 * rows + 9 → rows ≤ 22104 → p ≤ 400 → n ≤ 112
+    → k + (9 * (8 * n) + p + 4) ≤ 400000
+few_enough k rows n p most few_rows few_print few = omega arith
+
 pub each_demo_runs : EachDemoRuns
 each_demo_runs s n some few fits =
     let lines : List Line = demo_lines n in
@@ -47,16 +55,13 @@ each_demo_runs s n some few fits =
       from_entry = entry;
       prints = λ none plain enough.
           let digit_count = few_digits (demo_sum n) in
-          let count : cost lines + (72 * n + 3 + print_orders (demo_sum n) + 1) ≡ cost lines + demo_orders n =
-          omega arith in
+          let count = counted (cost lines) n (print_orders (demo_sum n)) in
           let printed = digits_printed (demo_sum n) (sum_small n few) in
           let at = demo_entry n some few in
           let ends = stopped_outcome s entry (demo_ends s.size n some few fits) (omega (arith, digit_count)) none plain
-          (omega (arith, enough, count)) in
+          (subst (λ (k : ℕ). k ≤ s.limit) (sym count) enough) in
           same_outcome (run_outcome s lines) _ _ _ _ (cost lines) _ _ ends printed at count;
       cheap =
-          let most = entry.enters.cheap in
-          let rows = demo_rows n some few in
-          let print = few_orders (demo_sum n) (sum_small n few) in
-          omega (arith, most, rows, print);
+          few_enough (cost lines) _ n (print_orders (demo_sum n)) entry.enters.cheap (demo_rows n some few)
+          (few_orders (demo_sum n) (sum_small n few)) few;
     }

@@ -1,5 +1,5 @@
 -- The outcome of a source whose program reaches its stop.
-use Rattle.std.proofs.Common.{◌≡◌, ◌∙◌, ℕ, ◌+◌, ◌-◌, ◌≤◌, ap, arith, List, [], ◌∷◌, ◌++◌, length, append-nil, codes}
+use Rattle.std.proofs.Common.{◌≡◌, ◌∙◌, ℕ, ◌+◌, ◌-◌, ◌≤◌, suc, ap, arith, List, [], ◌∷◌, ◌++◌, length, append-nil, codes}
 use Rattle.std.specs.Prelude.{None}
 use Rattle.ed_words.specs.Texts.{Text}
 use Rattle.ed_machine.specs.State.{State}
@@ -35,6 +35,13 @@ answered before r {last = last} o counter orders =
       codes = o.codes_are 1;
     }))
 
+-- what is left of a limit after the orders up to the entry
+left_after : (cost k limit : ℕ) → cost + (k + 1) ≤ limit → (cost ≤ limit) × (suc k ≤ limit - cost)
+left_after cost k limit fits = (omega arith, omega arith)
+
+counted : (orders cost k : ℕ) → orders ≡ cost + k + 1 → orders ≡ cost + (k + 1)
+counted orders cost k is = omega arith
+
 -- the program of a source reaches its stop, and the limit is not below its orders and those up to the entry
 pub stopped_outcome : (s : Settings) {lines : List Line} {k at : ℕ} {printed : List ℕ} → RunsFromEntry s lines
     → ComesToStop k (entry_state s.size lines) printed at → length printed ≤ paper_room
@@ -49,9 +56,9 @@ stopped_outcome s {lines} {k} {at} {printed} entry stops few none plain fits =
     let first : State = entry_state s.size lines in
     let r : RunEnd = run_end left 0 paper_room first in
     let before : Text = entry_note (entry_of lines) (cost lines) in
-    let ended = ran_to_stop left paper_room k first printed stops few (omega (arith, fits)) in
-    let count : (step stops.last).state.orders ≡ cost lines + (k + 1) = omega (arith, stops.orders) in
-    entry.runs (omega (arith, fits))
+    let ended = ran_to_stop left paper_room k first printed stops few (left_after (cost lines) k s.limit fits).1 in
+    let count : (step stops.last).state.orders ≡ cost lines + (k + 1) = counted _ (cost lines) k stops.orders in
+    entry.runs (left_after (cost lines) k s.limit fits).0
     ∙ (λ i. ran_outcome before (with_post_mortem (plain i) (run_end left (none i) paper_room first)))
     ∙ ap (ran_outcome before) (nothing_after r)
     ∙ answered before r ended stops.counter count

@@ -42,19 +42,20 @@ pub fn carry_out<K: Sink>(
         (device K.held K.faults out.old out.new) result }
 {
     let settings = command.settings;
-    match command.action {
-        Action::Tape => write(out, tape(alloc, settings, input)),
-        Action::CheckTape => write(out, check_tape(alloc, settings, input)),
-        Action::Run => write(out, run(alloc, settings, input)),
-        Action::Punch => write(out, punch(alloc, settings, input)),
-        Action::Listing => write(out, list(alloc, settings, input)),
-        Action::Call(call) => write(out, call_routine(alloc, settings, call)),
-        Action::Library => write(out, list_library(alloc)),
-        Action::Demo(n) => write(out, demo(alloc, settings, n)),
-        Action::Tape1 => write(out, tape1(alloc, settings, input)),
-        Action::CheckTape1 => write(out, check_tape1(alloc, input)),
-        Action::Step => write(out, step(alloc, settings, input)),
-        Action::Trace => trace(alloc, settings, input, out),
-        Action::Parts => parts(alloc, settings, input, out),
-    }
+    let reply = match command.action {
+        Action::Tape => tape(alloc, settings, input),
+        Action::CheckTape => check_tape(alloc, settings, input),
+        Action::Run => run(alloc, settings, input),
+        Action::Punch => punch(alloc, settings, input),
+        Action::Listing => list(alloc, settings, input),
+        Action::Call(call) => call_routine(alloc, settings, call),
+        Action::Library => list_library(alloc),
+        Action::Demo(n) => demo(alloc, settings, n),
+        Action::Tape1 => tape1(alloc, settings, input),
+        Action::CheckTape1 => check_tape1(alloc, input),
+        Action::Step => step(alloc, settings, input),
+        Action::Trace => return trace(alloc, settings, input, out),
+        Action::Parts => return parts(alloc, settings, input, out),
+    };
+    write(out, reply)
 }

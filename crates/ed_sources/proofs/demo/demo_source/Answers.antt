@@ -1,10 +1,11 @@
+use Rattle.std.proofs.Common.{refl}
 use Rattle.ed_sources.proofs.DemoAccepted.{demos_accepted}
 use Rattle.ed_sources.proofs.DemoTexts.{whole_source}
 use Rattle.ed_sources.proofs.demo.demo_source.Goals as goal
 
 pub returns-clause-is : goal.returns-clause-is
 returns-clause-is c =
-    whole_source c.args.n c.in_ok-text.ensures c.in_ok-push_segments.ensures c.in_ok-push.ensures
+    whole_source c.args.n (c.in_ok-text.ensures _ _ refl) c.in_ok-push_segments.ensures c.in_ok-extend_from_slice.ensures.items
 
 pub returns-clause-law : goal.returns-clause-law
 returns-clause-law c = demos_accepted
@@ -15,5 +16,5 @@ returns-in_err-text-clause-law c = demos_accepted
 pub returns-in_err-push_segments-clause-law : goal.returns-in_err-push_segments-clause-law
 returns-in_err-push_segments-clause-law c = demos_accepted
 
-pub returns-in_err-push-clause-law : goal.returns-in_err-push-clause-law
-returns-in_err-push-clause-law c = demos_accepted
+pub returns-in_err-extend_from_slice-clause-law : goal.returns-in_err-extend_from_slice-clause-law
+returns-in_err-extend_from_slice-clause-law c = demos_accepted

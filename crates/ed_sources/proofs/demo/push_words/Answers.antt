@@ -1,4 +1,4 @@
-use Rattle.std.proofs.Common.{◌≡◌, ◌+◌, ◌-◌, suc, arith}
+use Rattle.std.proofs.Common.{◌≡◌, ◌+◌, ◌-◌, suc, arith, refl}
 use Rattle.ed_sources.proofs.DemoTexts.{no_number, no_word, one_behind, one_word}
 use Rattle.ed_sources.proofs.demo.push_words.Goals as goal
 
@@ -11,7 +11,7 @@ loop-word-preserved c =
     record {
       low = omega (arith, is);
       last = one_behind l.number less is l.invariant.last;
-      text = one_word l.number l.text.items less is c.in_ok-line.ensures c.deref.ensures.value c.in_ok-push.ensures
+      text = one_word l.number l.text.items less is (c.in_ok-line.ensures _ _ refl) c.deref.ensures.value c.in_ok-extend_from_slice.ensures.items
           l.invariant.text;
     }
 

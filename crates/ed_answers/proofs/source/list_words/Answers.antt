@@ -1,0 +1,15 @@
+use Rattle.std.proofs.Common.{◌∙◌, ◌<◌, subst, sym, List, ℕ}
+use Rattle.std.specs.Prelude.{All}
+use Rattle.ed_words.specs.Texts.{Text}
+use Rattle.ed_answers.specs.Outcome.{done}
+use Rattle.ed_answers.specs.Replies.{Gives}
+use Rattle.ed_answers.proofs.source.list_words.Goals as goal
+
+pub listing-requires : goal.listing-requires
+listing-requires c =
+    subst (λ (xs : List ℕ). All (λ a. a < 1024) xs) (sym (c.deref.ensures.value ∙ c.in_ok-places.ensures)) c.requires
+
+pub returns : goal.returns
+returns c =
+    subst (λ (t : Text). Gives c.done.result (done t))
+    (rw (c.store.ensures, c.deref.ensures.value, c.in_ok-places.ensures) at c.in_ok-listing.ensures) c.done.ensures
