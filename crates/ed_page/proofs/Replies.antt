@@ -1,6 +1,6 @@
 -- From the texts and the picture for a text to what the program answers.
 use Rattle.std.proofs.Common.{◌≡◌, ◌∙◌, ◌<◌, ◌≤◌, ℕ, inl, inr, refl, sym, ap}
-use Rattle.std.proofs.Common.{subst, arith, rules, tests, nat_lt, Bool, true, false, Some, List, []}
+use Rattle.std.proofs.Common.{subst, arith, rules, tests, nat_lt, Bool, true, false, Some, None, List, []}
 use Rattle.std.proofs.Common.{length}
 use Rattle.std.specs.Prelude.{Result, Ok, Err, IfOk}
 use Rattle.ed_words.specs.declared.size.Size.{Size}
@@ -26,7 +26,7 @@ use Rattle.ed_run.specs.Run.{RunEnd}
 use Rattle.ed_page.specs.Answers.{RowsEnd, SourceEnds}
 use Rattle.ed_page.specs.TapeItems.{IsItemsOutcome, IsItemsOutcome1, items1_answer, items_answer}
 use Rattle.ed_page.specs.Private.Stages.{AreItemsOf, AreItemsOf1, Draws, HoldsOutcome, IsRunOf, IsAnswered, KeepsText}
-use Rattle.ed_page.specs.Private.Stages.{HoldsAnswer, HoldsRejection, IsShownAlone}
+use Rattle.ed_page.specs.Private.Stages.{HoldsAnswer, HoldsRejection}
 use Rattle.ed_answers.specs.Replies.{LinksSource, RefusesText, Replies}
 use Rattle.ed_answers.specs.declared.reply.Rejection.{Rejection}
 use Rattle.ed_answers.specs.declared.reply.Rejection.TheVariants.{Memory, Refused}
@@ -50,29 +50,16 @@ pub long_replied : (answers : Text → Outcome → Type 0) (text : Text) (r : Re
 long_replied answers text (Ok told) long gives = (too_long_outcome, inr (long, refl), gives)
 long_replied answers text (Err e) long gives = tt
 
--- its texts and no machine are shown
-pub long_drawn : (answers : Text → Outcome → Type 0) (Ends : Text → State → Type 0) (text : Text)
-    (t : Result Told NoMemory) (r : Result Shown NoMemory) → INPUT_BYTES < length text
-    → IfOk t (λ told. HoldsOutcome told too_long_outcome) → IsShownAlone t r → Draws (of_input answers) Ends text r
-long_drawn answers Ends text (Ok told) (Ok shown) long gives alone = rw alone (
+pub long_drawn : (answers : Text → Outcome → Type 0) (Ends : Text → State → Type 0) (text : Text) (told : Told)
+    → INPUT_BYTES < length text
+    → HoldsOutcome told too_long_outcome
+    → Draws (of_input answers) Ends text (Ok (record { told = told; machine = None }))
+long_drawn answers Ends text told long gives = (
   too_long_outcome,
   inr (long, refl),
   gives,
   record { some = λ few m ends. absurd (omega (arith, few, long)); none = λ nothing. refl },
 )
-long_drawn answers Ends text (Err e) (Ok shown) long gives alone = absurd alone
-long_drawn answers Ends text t (Err e) long gives alone = tt
-
--- the texts of a refusal, written in another way
-pub with_texts : {told : Told} {out note other line : Text} → HoldsOutcome told (record { out = out; note = note; status = 3 })
-    → out ≡ other → note ≡ line → HoldsOutcome told (record { out = other; note = line; status = 3 })
-with_texts h same_out same_note = record {
-  out_is = h.out_is ∙ same_out;
-  note_is = h.note_is ∙ same_note;
-  status_is = h.status_is;
-  low = h.low;
-  found = h.found;
-}
 
 -- ---- a tape's text
 
@@ -154,24 +141,13 @@ tape_drawn outcome run text codes (Ok shown) few is ran = (
 )
 tape_drawn outcome run text codes (Err e) few is ran = tt
 
--- a text that is too long to be read
-pub long_tape_drawn : (outcome : List ℕ → Outcome) (run : List ℕ → RunEnd) (text : Text) (t : Result Told NoMemory)
-    (r : Result Shown NoMemory) → INPUT_BYTES < length text
-    → IfOk t (λ told. HoldsOutcome told too_long_outcome) → IsShownAlone t r
-    → Draws (of_rows (exactly outcome)) (RowsEnd run) text r
-long_tape_drawn outcome run text t r long gives alone =
-    long_drawn (λ x. OfReading (exactly outcome) (reading x)) (RowsEnd run) text t r long gives alone
-
--- a text that is refused
 pub tape_refusal_drawn : (outcome : List ℕ → Outcome) (run : List ℕ → RunEnd) (text : Text) (e : Rejection)
-    (t : Result Told NoMemory) (r : Result Shown NoMemory) → length text ≤ INPUT_BYTES
-    → RefusesText (reading text) e → HoldsRejection e t → IsShownAlone t r
-    → Draws (of_rows (exactly outcome)) (RowsEnd run) text r
-tape_refusal_drawn outcome run text e t (Err none) few refuses tells alone = tt
-tape_refusal_drawn outcome run text e (Err none) (Ok shown) few refuses tells alone = absurd alone
-tape_refusal_drawn outcome run text Memory (Ok told) (Ok shown) few refuses tells alone = absurd tells
-tape_refusal_drawn outcome run text (Refused reply) (Ok told) (Ok shown) few refuses tells alone =
-    let o = refused_told (exactly outcome) (reading text) reply told refuses tells in rw alone (
+    (told : Told) → length text ≤ INPUT_BYTES
+    → RefusesText (reading text) e → HoldsRejection e (Ok told)
+    → Draws (of_rows (exactly outcome)) (RowsEnd run) text (Ok (record { told = told; machine = None }))
+tape_refusal_drawn outcome run text Memory told few refuses tells = absurd tells
+tape_refusal_drawn outcome run text (Refused reply) told few refuses tells =
+    let o = refused_told (exactly outcome) (reading text) reply told refuses tells in (
       o.0,
       inl (few, o.1),
       o.2,
@@ -186,10 +162,10 @@ tape_refusal_drawn outcome run text (Refused reply) (Ok told) (Ok shown) few ref
 pub linked_replied : (z : Size) (f : List Line → Outcome) (text : Text) (k : Linked) (r : Result Told NoMemory)
     → length text ≤ INPUT_BYTES
     → LinksSource z text (Ok k)
-    → IfOk r (λ told. (z : Size) (lines : List Line) → IsLinked z lines k → HoldsOutcome told (f lines))
+    → IfOk r (λ told. (lines : List Line) → IsLinked z lines k → HoldsOutcome told (f lines))
     → IsAnswered (of_source z f) text r
 linked_replied z f text k (Ok told) few l gives =
-    (f l.0, inl (few, accepted_is z f text l.0 l.1), gives z l.0 l.2)
+    (f l.0, inl (few, accepted_is z f text l.0 l.1), gives l.0 l.2)
 linked_replied z f text k (Err e) few l gives = tt
 
 pub source_refused : (z : Size) (f : List Line → Outcome) (text : Text) (e : Rejection) (r : Result Told NoMemory)
@@ -232,14 +208,11 @@ source_drawn s text k (Ok shown) few l ran =
 source_drawn s text k (Err e) few l ran = tt
 
 -- a source that is refused is not accepted, so that no run of it ends
-pub source_refusal_drawn : (s : Settings) (text : Text) (e : Rejection) (t : Result Told NoMemory)
-    (r : Result Shown NoMemory) → length text ≤ INPUT_BYTES
-    → LinksSource s.size text (Err e) → HoldsRejection e t → IsShownAlone t r
-    → Draws (of_source s.size (run_outcome s)) (SourceEnds s) text r
-source_refusal_drawn s text e t (Err none) few l tells alone = tt
-source_refusal_drawn s text e (Err none) (Ok shown) few l tells alone = absurd alone
-source_refusal_drawn s text Memory (Ok told) (Ok shown) few l tells alone = absurd tells
-source_refusal_drawn s text (Refused reply) (Ok told) (Ok shown) few l tells alone = rw alone (
+pub source_refusal_drawn : (s : Settings) (text : Text) (e : Rejection) (told : Told) → length text ≤ INPUT_BYTES
+    → LinksSource s.size text (Err e) → HoldsRejection e (Ok told)
+    → Draws (of_source s.size (run_outcome s)) (SourceEnds s) text (Ok (record { told = told; machine = None }))
+source_refusal_drawn s text Memory told few l tells = absurd tells
+source_refusal_drawn s text (Refused reply) told few l tells = (
   refusal (source_fault_line (At l.0 l.1)),
   inl (few, inl (l.0, l.1, l.2, refl)),
   tells _ l.3,

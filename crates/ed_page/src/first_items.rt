@@ -1,7 +1,6 @@
 //! The items of a tape of May 1949: the rows that spell each, and the word that it places.
 
-ghost use Rattle.std.specs.Prelude.{◌≡◌, ◌≤◌, Err, IfOk, None, length};
-ghost use Rattle.ed_initial1.specs.Checks.{Answers1};
+ghost use Rattle.std.specs.Prelude.{◌≡◌, ◌≤◌, IfOk, None, length};
 ghost use Rattle.ed_page.specs.Answers.{IsTextWritten, text_buffers};
 ghost use Rattle.ed_page.specs.Private.ItemTables.{first_word, table_on1};
 ghost use Rattle.ed_page.specs.Private.Stages.{AreItemsOf1, IsAnswered};
@@ -58,22 +57,11 @@ fn row_items1(alloc: Global, rows: &[Code]) -> Result<Told, NoMemory>
 {
     match check1(alloc, rows) {
         Ok(checked) => Ok(Told::done(alloc, item_table1(alloc, &rows[..checked.rows()])?)),
-        Err(fault) => items_before1(alloc, rows, &fault),
-    }
-}
-
-/// What is answered about the items of rows with a fault: those before it, and its line.
-fn items_before1(alloc: Global, rows: &[Code], fault: &Tape1Fault) -> Result<Told, NoMemory>
-    requires few { length rows.now ≤ INPUT_BYTES }
-    requires fault { Answers1 rows.now (Err fault.now) }
-    ensures { AreItemsOf1 rows.now result }
-{
-    match *fault {
-        Tape1Fault::At { row, .. } => {
+        Err(Tape1Fault::At { row, cause }) => {
             let items = item_table1(alloc, &rows[..row])?;
-            Ok(Told::refused(items, tape1_fault(alloc, fault)?))
+            Ok(Told::refused(items, tape1_fault(alloc, &Tape1Fault::At { row, cause })?))
         }
-        Tape1Fault::Memory => Err(NoMemory),
+        Err(Tape1Fault::Memory) => Err(NoMemory),
     }
 }
 

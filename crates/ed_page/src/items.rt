@@ -1,6 +1,6 @@
 //! The items of a tape: the rows that spell each, and the word that it places.
 
-ghost use Rattle.std.specs.Prelude.{◌≡◌, ◌+◌, ◌*◌, ◌≤◌, ◌<◌, ◌^◌, [], ◌∷◌, ◌++◌, Err, IfOk, None, length, ℕ};
+ghost use Rattle.std.specs.Prelude.{◌≡◌, ◌+◌, ◌*◌, ◌≤◌, ◌<◌, ◌^◌, [], ◌∷◌, ◌++◌, IfOk, None, length, ℕ};
 ghost use Rattle.ed_store.specs.Cells.{with_short};
 ghost use Rattle.ed_notation.specs.Fold.{address, control_of, item_word, with_kay, with_zed};
 ghost use Rattle.ed_notation.specs.Items.{row_kind};
@@ -89,22 +89,11 @@ fn row_items(alloc: Global, size: Size, rows: &[Code]) -> Result<Told, NoMemory>
 {
     match entered_rows(alloc, size, rows) {
         Ok(entered) => Ok(Told::done(alloc, item_table(alloc, &rows[..entered])?)),
-        Err(fault) => items_before(alloc, rows, &fault),
-    }
-}
-
-/// What is answered about the items of rows with a fault: those before it, and its line.
-fn items_before(alloc: Global, rows: &[Code], fault: &TapeFault) -> Result<Told, NoMemory>
-    requires few { length rows.now ≤ INPUT_BYTES }
-    requires fault { (z : Size) × HasEntryRows z rows.now (Err fault.now) }
-    ensures { (z : Size) → HasEntryRows z rows.now (Err fault.now) → AreItemsOf z rows.now result }
-{
-    match *fault {
-        TapeFault::At { row, .. } => {
+        Err(TapeFault::At { row, cause }) => {
             let items = item_table(alloc, &rows[..row])?;
-            Ok(Told::refused(items, tape_fault(alloc, fault)?))
+            Ok(Told::refused(items, tape_fault(alloc, &TapeFault::At { row, cause })?))
         }
-        TapeFault::Memory => Err(NoMemory),
+        Err(TapeFault::Memory) => Err(NoMemory),
     }
 }
 

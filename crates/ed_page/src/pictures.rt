@@ -137,11 +137,11 @@ fn tape_shown(alloc: Global, settings: Settings, text: &[u8]) -> Result<Shown, N
     ensures { Draws (tape_answer settings) (TapeEnds settings) text.now result }
 {
     if is_too_long(text) {
-        return Shown::refused(Told::too_long(alloc));
+        return Ok(Shown::refused(Told::too_long(alloc)?));
     }
     match rows_of(alloc, text) {
         Ok(rows) => run_tape(alloc, settings, rows),
-        Err(rejection) => Shown::refused(rejected(rejection)),
+        Err(rejection) => Ok(Shown::refused(rejected(rejection)?)),
     }
 }
 
@@ -150,11 +150,11 @@ fn tape1_shown(alloc: Global, settings: Settings, text: &[u8]) -> Result<Shown, 
     ensures { Draws (tape1_answer settings) (Tape1Ends settings) text.now result }
 {
     if is_too_long(text) {
-        return Shown::refused(Told::too_long(alloc));
+        return Ok(Shown::refused(Told::too_long(alloc)?));
     }
     match rows_of(alloc, text) {
         Ok(rows) => run_tape1(alloc, settings, rows),
-        Err(rejection) => Shown::refused(rejected(rejection)),
+        Err(rejection) => Ok(Shown::refused(rejected(rejection)?)),
     }
 }
 
@@ -164,11 +164,11 @@ fn source_shown(alloc: Global, settings: Settings, text: &[u8]) -> Result<Shown,
     ensures { Draws (run_answer settings) (SourceEnds settings) text.now result }
 {
     if is_too_long(text) {
-        return Shown::refused(Told::too_long(alloc));
+        return Ok(Shown::refused(Told::too_long(alloc)?));
     }
     match linked_of(alloc, settings.size, text) {
         Ok(linked) => run_linked(alloc, settings, &linked),
-        Err(rejection) => Shown::refused(rejected(rejection)),
+        Err(rejection) => Ok(Shown::refused(rejected(rejection)?)),
     }
 }
 

@@ -1,4 +1,4 @@
-ghost use Rattle.std.specs.Prelude.{◌≡◌, IfOk, List, None};
+ghost use Rattle.std.specs.Prelude.{◌≡◌, IfOk, List, Some, None};
 ghost use Rattle.ed_printer.specs.Paper.{paper};
 ghost use Rattle.ed_lines.specs.declared.program.Line.{Line};
 ghost use Rattle.ed_link.specs.Answers.{IsLinked};
@@ -6,14 +6,12 @@ ghost use Rattle.ed_link.specs.Tapes.{tape};
 ghost use Rattle.ed_answers.specs.FirstOrders.{run1_of, tape1_outcome};
 ghost use Rattle.ed_answers.specs.Tapes.{tape_outcome};
 ghost use Rattle.ed_answers.specs.Runs.{run_of, status_of};
-ghost use Rattle.ed_answers.specs.Replies.{Gives};
 ghost use Rattle.ed_answers.specs.Sources.{run_outcome};
-ghost use Rattle.ed_report.specs.Notes.{ending_line};
 ghost use Rattle.ed_page.specs.Pictures.{run_settings, size_shown};
-ghost use Rattle.ed_page.specs.Private.Stages.{IsRunOf, IsShownAlone, IsShownRun};
+ghost use Rattle.ed_page.specs.Private.Stages.{HoldsOutcome, IsRunOf};
 
 use crate::told::Told;
-use ed_answers::{FinishedRun, Reply, ran_reply, run_linked as run_source, run_rows, run_rows1};
+use ed_answers::{FinishedRun, ran_reply, run_linked as run_source, run_rows, run_rows1};
 use ed_codes::Code;
 use ed_command::Settings;
 use ed_link::Linked;
@@ -30,22 +28,25 @@ pub struct Shown {
 }
 
 impl Shown {
-    /// The same for a text whose tape was not run, if memory was found for its texts.
-    pub fn refused(told: Result<Told, NoMemory>) -> Result<Shown, NoMemory>
-        ensures { IsShownAlone told result }
+    /// The same for a text whose tape was not run.
+    pub fn refused(told: Told) -> Shown
+        ensures { result ≡ record { told = told; machine = None } }
     {
-        Ok(Shown {
-            told: told?,
+        Shown {
+            told,
             machine: None,
-        })
+        }
     }
 
-    /// The same for a run that ended, if memory was found for its reply.
-    fn of_run(ran: FinishedRun, reply: Result<Reply, NoMemory>) -> Result<Shown, NoMemory>
-        ensures { IsShownRun ran.machine reply result }
+    /// The same for a run that ended, with its note.
+    fn of_run(alloc: Global, ran: FinishedRun, note: Vec<u8>) -> Result<Shown, NoMemory>
+        ensures told { IfOk result (λ shown. HoldsOutcome shown.told
+            (record { out = paper ran.paper.codes; note = note.items; status = status_of ran.ending })) }
+        ensures machine { IfOk result (λ shown. shown.machine ≡ Some ran.machine) }
     {
+        let reply = ran_reply(alloc, &ran, note)?;
         Ok(Shown {
-            told: Told::of_reply(reply?),
+            told: Told::of_reply(reply),
             machine: Some(ran.machine),
         })
     }
@@ -76,8 +77,8 @@ pub fn run_tape(alloc: Global, settings: Settings, rows: Vec<Code>) -> Result<Sh
     ensures { IfOk result (IsRunOf (tape_outcome settings rows.items) (run_of settings rows.items)) }
 {
     let ran = run_rows(alloc, settings, rows)?;
-    let reply = ended_reply(alloc, &ran);
-    Shown::of_run(ran, reply)
+    let note = ending_text(alloc, ran.ending, &ran.machine)?;
+    Shown::of_run(alloc, ran, note)
 }
 
 /// What is shown of the run of rows with the Initial Orders of May 1949.
@@ -85,20 +86,8 @@ pub fn run_tape1(alloc: Global, settings: Settings, rows: Vec<Code>) -> Result<S
     ensures { IfOk result (IsRunOf (tape1_outcome settings rows.items) (run1_of settings rows.items)) }
 {
     let ran = run_rows1(alloc, settings, rows)?;
-    let reply = ended_reply(alloc, &ran);
-    Shown::of_run(ran, reply)
-}
-
-/// The reply of a run, with the line of its ending.
-fn ended_reply(alloc: Global, ran: &FinishedRun) -> Result<Reply, NoMemory>
-    ensures { IfOk result (λ reply. Gives reply (record {
-      out = paper ran.now.paper.codes;
-      note = ending_line ran.now.ending ran.now.machine;
-      status = status_of ran.now.ending;
-    })) }
-{
     let note = ending_text(alloc, ran.ending, &ran.machine)?;
-    ran_reply(alloc, ran, note)
+    Shown::of_run(alloc, ran, note)
 }
 
 /// What is shown of the run of a linked program's tape.
@@ -109,7 +98,5 @@ pub fn run_linked(alloc: Global, settings: Settings, linked: &Linked) -> Result<
         → IsRunOf (run_outcome settings lines) (run_of settings (tape lines)) shown) }
 {
     let noted = run_source(alloc, settings, linked)?;
-    let ran = noted.ran;
-    let reply = ran_reply(alloc, &ran, noted.note);
-    Shown::of_run(ran, reply)
+    Shown::of_run(alloc, noted.ran, noted.note)
 }

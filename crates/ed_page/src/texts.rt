@@ -1,6 +1,4 @@
-ghost use Rattle.std.specs.Prelude.{◌≡◌, IfOk, List};
-ghost use Rattle.ed_lines.specs.declared.program.Line.{Line};
-ghost use Rattle.ed_link.specs.Answers.{IsLinked};
+ghost use Rattle.std.specs.Prelude.{◌≡◌, IfOk};
 ghost use Rattle.ed_answers.specs.Answer.{exactly, of_rows};
 ghost use Rattle.ed_answers.specs.Outcome.{Outcome, done};
 ghost use Rattle.ed_answers.specs.Sources.{listing_answer, of_source, punch_answer};
@@ -14,7 +12,6 @@ use crate::writing::Lengths;
 use ed_answers::{linked_of, list, punch, rows_of};
 use ed_codes::Code;
 use ed_command::Settings;
-use ed_link::Linked;
 use ed_words::{NoMemory, Size};
 use std::alloc::Global;
 
@@ -141,18 +138,9 @@ fn source_rows(alloc: Global, size: Size, text: &[u8]) -> Result<Told, NoMemory>
         return Told::too_long(alloc);
     }
     match linked_of(alloc, size, text) {
-        Ok(linked) => linked_rows(alloc, &linked),
+        Ok(linked) => Ok(Told::done(alloc, bytes_of_rows(alloc, &linked.rows()?)?)),
         Err(rejection) => rejected(rejection),
     }
-}
-
-/// The codes of the rows of a linked program's tape.
-fn linked_rows(alloc: Global, linked: &Linked) -> Result<Told, NoMemory>
-    ensures { IfOk result (λ told. (z : Size) (lines : List Line) → IsLinked z lines linked.now
-        → HoldsOutcome told (source_rows lines)) }
-{
-    let rows = linked.rows()?;
-    Ok(Told::done(alloc, bytes_of_rows(alloc, &rows)?))
 }
 
 /// What is answered about the tape of a source.

@@ -73,19 +73,6 @@ Draws wanted Ends text (Ok shown) = (o : Outcome) × IsDue wanted text o × Hold
     × IsMachineOf Ends text shown.machine
 Draws wanted Ends text (Err e) = Unit {0}
 
--- what is shown of a text whose tape was not run: its texts and no machine, if memory was found for the texts
-abbrev pub IsShownAlone : Result Told NoMemory → Result Shown NoMemory → Type 0
-IsShownAlone (Ok told) (Ok shown) = shown ≡ record { told = told; machine = None }
-IsShownAlone (Ok told) (Err e) = ⊥
-IsShownAlone (Err e) (Ok shown) = ⊥
-IsShownAlone (Err e) (Err f) = Unit {0}
-
--- what is shown of a run: its reply, if memory was found for it, and its machine
-abbrev pub IsShownRun : State → Result Reply NoMemory → Result Shown NoMemory → Type 0
-IsShownRun m (Ok reply) (Ok shown) = KeepsText reply shown.told × (shown.machine ≡ Some m)
-IsShownRun m (Err e) (Ok shown) = ⊥
-IsShownRun m reply (Err f) = Unit {0}
-
 -- an outcome was written into two buffers, or there was no room
 abbrev pub IsWrittenOut : Outcome → (before after : TextBuffers) → ℕ → Type 0
 IsWrittenOut o before after answer = (answer ≢ 10)
