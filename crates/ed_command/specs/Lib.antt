@@ -7,3 +7,4 @@ pub mod Answers
 pub mod Found
 pub mod Rules
 pub mod Held
+pub mod Private
