@@ -2,8 +2,8 @@ use Rattle.std.proofs.Common.{append-nil, arith, false, refl, sym, true}
 use Rattle.std.proofs.lemmas.Bool.Decides.{nat_tests}
 use Rattle.std.proofs.lemmas.Grind.{common_steps}
 use Rattle.ed_report.proofs.Letters.{next_lettered}
-use Rattle.ed_report.proofs.trace.trace_text.Goals as goal
-use Rattle.ed_report.proofs.trace.trace_text.Goals.{then-place-eq0+in_ok-add-2, else-place-eq0}
+use Rattle.ed_report.proofs.trace.write_trace.Goals as goal
+use Rattle.ed_report.proofs.trace.write_trace.Goals.{then-place-eq0+in_ok-add-2, else-place-eq0}
 
 pub loop-place-preserved : goal.loop-place-preserved
 loop-place-preserved c =
@@ -16,5 +16,8 @@ loop-place-preserved c =
           next false (grind (arith, nat_tests)) (rw (w.text-is, c.in_ok-add.ensures) (sym (append-nil _)))
     ]
 
-pub returns : goal.returns
-returns c = grind (arith, common_steps)
+pub returns-in_ok-add-3 : goal.returns-in_ok-add-3
+returns-in_ok-add-3 c = grind (arith, common_steps)
+
+pub returns-else-functions-ne0 : goal.returns-else-functions-ne0
+returns-else-functions-ne0 c = grind (arith, common_steps)
