@@ -7,4 +7,3 @@ pub mod Answers
 pub mod Found
 pub mod Rules
 pub mod Held
-pub mod Private

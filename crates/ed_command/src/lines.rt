@@ -2,7 +2,6 @@ ghost use Rattle.std.specs.Prelude.{◌≡◌, ◌≤◌, IfSome, map, option_ma
 ghost use Rattle.ed_command.specs.Held.{options_in};
 ghost use Rattle.ed_command.specs.Lines.{alone, call_of, command_named, command_of};
 ghost use Rattle.ed_command.specs.Lines.{division, one_number, with_division, with_only};
-ghost use Rattle.ed_command.specs.Private.{with_number};
 
 use crate::command::{Action, Command};
 use crate::options::Options;
@@ -113,21 +112,12 @@ fn call_of(arguments: &[&str]) -> Option<Call>
 {
     let (name, numbers) = arguments.split_first()?;
     match *name {
+        "print" => short(numbers).map(Call::Print),
+        "read" => short(numbers).map(Call::Read),
         "newline" => new_line(numbers),
         "divide" => with_division(numbers),
-        _ => with_number(name, short(numbers)?),
-    }
-}
-
-/// The call of a name and its one number.
-fn with_number(name: &str, number: u16) -> Option<Call>
-    ensures { result ≡ with_number name.now number }
-{
-    match name {
-        "print" => Some(Call::Print(number)),
-        "read" => Some(Call::Read(number)),
-        "root" => Some(Call::Root(number)),
-        "check" => Some(Call::Check(number)),
+        "root" => short(numbers).map(Call::Root),
+        "check" => short(numbers).map(Call::Check),
         _ => None,
     }
 }

@@ -26,23 +26,17 @@ impl Options<'_> {
         ensures { result ≡ settings_of (options_in self.now) }
     {
         let size = self.size()?;
+        let post_mortem = match self.post_mortems {
+            [] => None,
+            [text] => Some(window_named(text, size)?),
+            _ => return None,
+        };
         Some(Settings {
             limit: self.limit()?,
             resumes: self.resumes()?,
             size,
-            post_mortem: self.post_mortem(size)?,
+            post_mortem,
         })
-    }
-
-    /// The locations to print after the run, if any.
-    fn post_mortem(&self, size: Size) -> Option<Option<Window>>
-        ensures { result ≡ post_mortem_of size (options_in self.now) }
-    {
-        match self.post_mortems {
-            [] => Some(None),
-            [text] => Some(Some(window_named(text, size)?)),
-            _ => None,
-        }
     }
 
     fn limit(&self) -> Option<u32>
