@@ -1,8 +1,10 @@
 -- What two calls of a device in a row take and give. The layers above cite these lemmas too.
-use Rattle.std.proofs.Common.{take, drop, length, ◌-◌, ◌≡◌, ◌∙◌, ℕ, List, [], ◌++◌, refl, sym, ap, append_assoc}
-use Rattle.std.specs.Prelude.{Option, Some, None}
+use Rattle.std.proofs.Common.{take, drop, length, length-drop, ◌-◌, ◌≡◌, ◌<◌, ◌∙◌, ℕ, List, [], ◌∷◌, ◌++◌, refl}
+use Rattle.std.proofs.Common.{sym, ap, append_assoc, arith, true, false}
+use Rattle.std.specs.Prelude.{◌==◌, Option, Some, None}
 use Rattle.std.proofs.lemmas.List.{append-nil, take-append-drop, take_rest}
-use Rattle.ed_io.specs.Bytes.{Gains, Loses, IsAtEnd}
+use Rattle.ed_words.proofs.Numbers.{eq_false}
+use Rattle.ed_io.specs.Bytes.{Gains, GainsPart, Loses, IsAtEnd}
 
 -- two writes, one after the other
 pub gains_more : (a b c : Option (List ℕ)) (xs ys : List ℕ) → Gains a b xs → Gains b c ys → Gains a c (xs ++ ys)
@@ -15,6 +17,30 @@ gains_more (Some x) (Some y) (Some z) xs ys p q = rw (q, p) (append_assoc x xs y
 pub gains_none : (a : Option (List ℕ)) → Gains a a []
 gains_none None = tt
 gains_none (Some x) = sym (append-nil x)
+
+-- writes of the first bytes of a text, and then one that failed
+pub gains_part : (a b c : Option (List ℕ)) (text done rest : List ℕ) → text ≡ done ++ rest → Gains a b done
+    → Gains b c [] → GainsPart a c text
+gains_part a b c text done rest is p q = record {
+  part = done ++ [];
+  rest = rest;
+  whole = is ∙ ap (λ (l : List ℕ). l ++ rest) (sym (append-nil done));
+  gains = gains_more a b c done [] p q;
+}
+
+-- a text of which nothing is left has been written
+pub gains_all : (a b : Option (List ℕ)) (text done rest : List ℕ) → text ≡ done ++ rest → true ≡ (length rest == 0)
+    → Gains a b done → Gains a b text
+gains_all a b text done [] is none p = rw (is ∙ append-nil done) p
+gains_all a b text done (x ∷ rest) is none p =
+    let bad : true ≡ false = none ∙ eq_false (length (x ∷ rest)) 0 (omega arith) in absurd (cc)
+
+-- a text of which some is left is longer than what is left after a byte or more
+pub left_after : (rest : List ℕ) (k : ℕ) → false ≡ (length rest == 0) → (0 < length rest → 0 < k)
+    → length (take (length rest - k) (drop k rest)) < length rest
+left_after [] k more some = absurd (cc)
+left_after (x ∷ rest) k more some =
+    rw (take_rest (x ∷ rest) k) (omega (arith, length-drop k (x ∷ rest), some (omega arith)))
 
 -- two reads, one after the other
 pub loses_more : (a b c : Option (List ℕ)) (xs ys : List ℕ) → Loses a b xs → Loses b c ys → Loses a c (xs ++ ys)

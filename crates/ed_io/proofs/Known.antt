@@ -3,6 +3,7 @@ use Rattle.std.proofs.Common.{take, length, ◌≡◌, ◌∙◌, ◌<◌, ℕ, 
 use Rattle.std.specs.Prelude.{Option, Some, None, nat_lt, Bool, true, false, if◌then◌else◌}
 use Rattle.std.specs.Io.KnownBytes.{Appends, Consumes, Keeps}
 use Rattle.std.specs.Io.KnownBytes.{IsAtEnd as IsKnownEnd}
+use Rattle.ed_words.proofs.Numbers.{lt_true}
 use Rattle.ed_io.specs.Bytes.{Gains, Loses, IsAtEnd}
 use Rattle.ed_io.specs.Streams.{Alike, unless_failed}
 
@@ -34,3 +35,8 @@ gains_known faults a b bs s p = by_test (nat_lt 0 faults) a b s p
     by_test false a None s p = tt
     by_test false None (Some y) s p = absurd s
     by_test false (Some x) (Some y) s p = p
+
+-- a write after which the bytes are not reported
+pub gains_unknown : (faults : ℕ) (a b : Option (List ℕ)) (bs : List ℕ) → 0 < faults
+    → Gains a (unless_failed faults b) bs
+gains_unknown faults a b bs some = rw (lt_true 0 faults some) tt

@@ -222,9 +222,9 @@ module _ {left : ℕ} {s : State} {k : ℕ} {m : State} (r : Running left s k m)
     }
 
 -- it reaches its limit
-pub at_limit : {left : ℕ} {s m : State} → Running left s left m → (IsReturned m → ⊥) → Finishes left left s Limit
-at_limit {left} {s} r away = record {
+pub at_limit : {left k : ℕ} {s m : State} → k ≡ left → Running left s k m → (IsReturned m → ⊥) → Finishes left k s Limit
+at_limit {left} {k} {s} is r away = record {
   runs = r.runs;
-  ends = limit_ends left s left refl r.stops;
+  ends = limit_ends left s k is r.stops;
   stopped = λ home. absurd (away_there r away home);
 }

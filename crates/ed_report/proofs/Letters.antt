@@ -1,14 +1,14 @@
 -- Letters of a trace, one after the other.
 use Rattle.std.proofs.Common.{◌≡◌, ◌∙◌, ℕ, zero, suc, ◌+◌, refl, sym, ap, arith, add-one, List}
 use Rattle.std.proofs.Common.{[], ◌∷◌, ◌++◌, length, append_assoc, append-nil, length-append}
-use Rattle.std.proofs.Common.{Bool, false, ◌<◌, drop, get_or}
-use Rattle.std.proofs.lemmas.List.{at_drop_more}
+use Rattle.std.proofs.Common.{Bool, false, ◌<◌, ◌≤◌, drop, get_or, if◌then◌else◌}
+use Rattle.std.proofs.lemmas.List.{at_drop_more, drop_all}
 use Rattle.ed_codes.specs.Spelling.{byte_of}
 use Rattle.ed_words.specs.Words.{function_of}
 use Rattle.ed_machine.specs.State.{State}
 use Rattle.ed_machine.specs.OrderTable.{next_word}
 use Rattle.ed_machine.specs.Steps.{state_after}
-use Rattle.ed_report.specs.Traces.{functions_after, is_full, letters_from, line_end, traced_letter}
+use Rattle.ed_report.specs.Traces.{functions_after, is_full, letters_from, line_end, trace_text, traced_letter}
 
 -- one letter more
 pub letters_more : (n : ℕ) (fs : List ℕ) (f : ℕ)
@@ -27,6 +27,14 @@ pub next_lettered : (before : List ℕ) {after whole : List ℕ} (fs : List ℕ)
     → after ++ letters_from (i + 1) (drop (i + 1) fs) ≡ whole
 next_lettered before {after} {whole} fs {i} {f} start within at letter full ends added =
     rw (added, ← ends, letter, ← start, at_drop_more (letters_from i) fs i f within, ← at) (simp append_assoc)
+
+-- a text that has the letters of all functions, and the end of its last line
+pub all_lettered : (text : List ℕ) {whole : List ℕ} (fs : List ℕ) (i : ℕ) (full : Bool)
+    → text ++ letters_from i (drop i fs) ≡ letters_from 0 fs → length fs ≤ i → is_full (length fs) ≡ full
+    → whole ≡ text ++ (if full then [] else 10 ∷ []) → whole ≡ trace_text fs
+all_lettered text {whole} fs i full start over ends last =
+    let none = ap (letters_from i) (drop_all i fs over) in
+    rw (last, ends, ← start, none, append-nil text) refl
 
 -- the functions of one order more
 pub next_functions : (k : ℕ) (s : State)

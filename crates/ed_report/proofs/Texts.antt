@@ -1,5 +1,5 @@
 -- The bytes of a text that `format!` made.
-use Rattle.std.proofs.Common.{◌≡◌, ◌∙◌, ℕ, List, [], ◌∷◌, ◌++◌, append_assoc}
+use Rattle.std.proofs.Common.{◌≡◌, ◌∙◌, sym, ℕ, List, [], ◌∷◌, ◌++◌, append_assoc}
 use Rattle.std.specs.Prelude.{Result, Ok, Err, Some, IfOk, IfSome, IsOkAnd, string_bytes, String, Vec, codes}
 use Rattle.std.specs.Fmt.{decimal}
 use Rattle.std.specs.declared.alloc.Global.{Global}
@@ -18,6 +18,15 @@ pub told : (text : Result (String Global) AllocError) (r : Result (Vec ℕ Globa
 told text (Err e) wrote wanted same taken made = tt
 told (Ok s) (Ok bytes) wrote wanted same taken made = taken ∙ made ∙ same
 told (Err e) (Ok bytes) wrote wanted same taken made = absurd taken
+
+-- five pieces of a text, added from the right and from the left
+five_pieces : (a b c d e : List ℕ) → a ++ (b ++ (c ++ (d ++ e))) ≡ a ++ b ++ c ++ d ++ e
+five_pieces a b c d e =
+    sym (append_assoc (a ++ b ++ c) d e ∙ append_assoc (a ++ b) c (d ++ e) ∙ append_assoc a b (c ++ (d ++ e)))
+
+-- six pieces
+pub six_pieces : (a b c d e f : List ℕ) → a ++ (b ++ (c ++ (d ++ (e ++ f)))) ≡ a ++ b ++ c ++ d ++ e ++ f
+six_pieces a b c d e f = five_pieces a b c d (e ++ f) ∙ sym (append_assoc (a ++ b ++ c ++ d) e f)
 
 no_order_pieces : (counter orders : ℕ) (text : List ℕ)
     → codes "no order at " ++ (decimal counter

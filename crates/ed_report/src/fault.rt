@@ -17,12 +17,13 @@ pub fn text_fault(alloc: Global, fault: &TextFault) -> Result<Vec<u8>, NoMemory>
     ensures { IfOk result (λ bytes. bytes.items ≡ text_fault_line fault.now) }
 {
     match fault {
-        TextFault::NoRow { place, .. } => {
-            bytes_of_text(format!(in alloc; "byte {place}: T1 no row\n"))
-        }
-        TextFault::OpenComment { place } => {
-            bytes_of_text(format!(in alloc; "byte {place}: T2 open comment\n"))
-        }
+        TextFault::NoRow { place, .. } => place_note(alloc, "byte", *place as u64, "T1 no row"),
+        TextFault::OpenComment { place } => place_note(
+            alloc,
+            "byte",
+            *place as u64,
+            "T2 open comment",
+        ),
         TextFault::Memory => unreachable!(),
     }
 }
@@ -57,14 +58,22 @@ pub(crate) fn row_note(alloc: Global, row: usize, note: &str) -> Result<Vec<u8>,
     ensures { IfOk result (λ bytes. bytes.items
         ≡ codes "row " ++ decimal row ++ codes ": " ++ note.now ++ 10 ∷ []) }
 {
-    bytes_of_text(format!(in alloc; "row {row}: {note}\n"))
+    place_note(alloc, "row", row as u64, note)
 }
 
 /// The line of a note on a line of a text.
 pub(crate) fn line_note(alloc: Global, line: u32, note: &str) -> Result<Vec<u8>, NoMemory>
     ensures { IfOk result (λ bytes. bytes.items ≡ of_line line note.now) }
 {
-    bytes_of_text(format!(in alloc; "line {line}: {note}\n"))
+    place_note(alloc, "line", u64::from(line), note)
+}
+
+/// The line of a note on a byte, a row or a line, with its number.
+fn place_note(alloc: Global, kind: &str, number: u64, note: &str) -> Result<Vec<u8>, NoMemory>
+    ensures { IfOk result (λ bytes. bytes.items
+        ≡ kind.now ++ codes " " ++ decimal number ++ codes ": " ++ note.now ++ 10 ∷ []) }
+{
+    bytes_of_text(format!(in alloc; "{kind} {number}: {note}\n"))
 }
 
 /// The number and the text of a rule of the tape notation.

@@ -14,16 +14,25 @@ pub fn trace_text(alloc: Global, functions: &[Code]) -> Result<Vec<u8>, NoMemory
     ensures { IfOk result (λ bytes. bytes.items ≡ trace_text functions.now) }
 {
     let mut text = Vec::new(alloc);
+    write_trace(&mut text, functions)?;
+    Ok(text)
+}
+
+/// Writes the trace of the functions to an empty text.
+fn write_trace(text: &mut Vec<u8>, functions: &[Code]) -> Result<(), NoMemory>
+    requires { text.old.items ≡ [] }
+    ensures { IfOk result (λ _. text.new.items ≡ trace_text functions.now) }
+{
     for (place, function) in functions.iter().enumerate() {
-        add(&mut text, byte_of(*function, false))?;
+        add(text, byte_of(*function, false))?;
         if (place + 1) % LETTERS == 0 {
-            add(&mut text, b'\n')?;
+            add(text, b'\n')?;
         }
     }
     if functions.len() % LETTERS != 0 {
-        add(&mut text, b'\n')?;
+        add(text, b'\n')?;
     }
-    Ok(text)
+    Ok(())
 }
 
 /// Adds a byte to a text.

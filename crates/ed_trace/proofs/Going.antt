@@ -100,9 +100,9 @@ module _ {limit resumes : ℕ} {s : State} {k : ℕ} {m : State} {stops : ℕ} (
         record { now = rw a refl; first = first_more (ap is_obeyed stop) }
 
 -- it reaches its limit
-pub at_limit : {limit resumes : ℕ} {s m : State} {stops : ℕ} → Going limit resumes s limit m stops
-    → EndsAfter limit resumes limit s limit Limit
-at_limit {limit} {resumes} {s} g =
-    let a = lt_false resumes (progress limit s).stops (omega (arith, g.stops_are, g.within)) in
-    let b = eq_true limit limit refl in
+pub at_limit : {limit resumes k : ℕ} {s m : State} {stops : ℕ} → k ≡ limit → Going limit resumes s k m stops
+    → EndsAfter limit resumes limit s k Limit
+at_limit {limit} {resumes} {k} {s} is g =
+    let a = lt_false resumes (progress k s).stops (omega (arith, g.stops_are, g.within)) in
+    let b = eq_true k limit is in
     record { now = rw (a, b) refl; first = g.first }

@@ -1,7 +1,7 @@
-use Rattle.std.proofs.Common.{◌+◌, arith}
+use Rattle.std.proofs.Common.{◌+◌, ◌∙◌, refl, arith}
 use Rattle.std.proofs.lemmas.Bool.{iff_false}
 use Rattle.ed_machine.proofs.Steps.{next_state}
-use Rattle.ed_parts.proofs.Programs.{going, goes_on, running_first, stops_there}
+use Rattle.ed_parts.proofs.Programs.{at_limit, blocks, going, goes_on, running_first, stops_there}
 use Rattle.ed_parts.proofs.program.run_program.Goals as goal
 
 pub loop-done-init : goal.loop-done-init
@@ -26,3 +26,30 @@ loop-done-preserved c =
           c.step.ensures.turn c.step.ensures.state (going _ c.in-Went.is);
       orders = omega (arith, i.orders, c.step.ensures.count);
     }
+
+pub returns-in-NoOrder-clause-meets : goal.returns-in-NoOrder-clause-meets
+returns-in-NoOrder-clause-meets c =
+    let r = c.loop-done.invariant.running in
+    let away = iff_false c.is_returned.ensures c.if-is_returned.false in (
+      c.loop-done.done,
+      blocks r c.loop-done-test.true away c.step.ensures.turn (rw c.in-NoOrder.is refl),
+      c.step.ensures.blocked (rw c.in-NoOrder.is refl) ∙ r.state,
+    )
+
+pub returns-in-NoTape-clause-meets : goal.returns-in-NoTape-clause-meets
+returns-in-NoTape-clause-meets c =
+    let r = c.loop-done.invariant.running in
+    let away = iff_false c.is_returned.ensures c.if-is_returned.false in (
+      c.loop-done.done,
+      blocks r c.loop-done-test.true away c.step.ensures.turn (rw c.in-NoTape.is refl),
+      c.step.ensures.blocked (rw c.in-NoTape.is refl) ∙ r.state,
+    )
+
+pub returns-clause-meets : goal.returns-clause-meets
+returns-clause-meets c =
+    let r = c.loop-done.invariant.running in
+    let away = iff_false c.is_returned-2.ensures c.if-is_returned-2.false in (
+      c.loop-done.done,
+      at_limit (omega (arith, c.loop-done-test.false, c.loop-done.auto.done-end)) r away,
+      r.state,
+    )

@@ -67,3 +67,22 @@ parts-preserved g c =
       orders = omega (arith, i.orders, o.later.soon, o.later.later);
       faults = c.in_ok-end.ensures.faults ∙ i.faults;
     }
+
+pub overflow_add-number : goal.overflow_add-number
+overflow_add-number g c =
+    omega (arith, c.parts.invariant.many, c.parts.invariant.done, c.ranges.limit)
+
+pub parts-smaller : goal.parts-smaller
+parts-smaller g c =
+    let i = c.parts.invariant in
+    let o =
+    goes_onward _ c.from.ensures i.whole i.ahead
+    (rw c.in-Back.is at c.in_ok-end.ensures.passes) in
+    omega (arith, o.later.within, o.later.later)
+
+pub run_part-requires-clause-orders : goal.run_part-requires-clause-orders
+run_part-requires-clause-orders g c =
+    omega (arith, c.requires.orders, c.from.ensures, c.parts.invariant.orders, c.parts.invariant.done)
+
+pub returns-in-Over-clause-faults : goal.returns-in-Over-clause-faults
+returns-in-Over-clause-faults g c = c.in_ok-end.ensures.faults ∙ c.parts.invariant.faults

@@ -1,12 +1,24 @@
-use Rattle.std.proofs.Common.{append_assoc}
-use Rattle.ed_report.proofs.Texts.{told}
+use Rattle.std.proofs.Common.{◌≡◌, ◌∙◌, ℕ, List, [], ◌∷◌, ◌++◌, ap, append_assoc, codes}
+use Rattle.std.specs.Prelude.{Result, Vec, IfOk}
+use Rattle.std.specs.Fmt.{decimal}
+use Rattle.std.specs.declared.alloc.Global.{Global}
+use Rattle.std.proofs.lemmas.Result.{IfOk-weaker}
+use Rattle.ed_words.specs.declared.memory.NoMemory.{NoMemory}
 use Rattle.ed_report.proofs.fault.text_fault.Goals as goal
+
+-- the number of a byte, and then a note as one text
+noted : (r : Result (Vec ℕ Global) NoMemory) (place : ℕ) (note : List ℕ)
+    → IfOk r (λ bytes. bytes.items ≡ codes "byte " ++ decimal place ++ codes ": " ++ note ++ 10 ∷ [])
+    → IfOk r (λ bytes. bytes.items ≡ codes "byte " ++ decimal place ++ (codes ": " ++ note) ++ 10 ∷ [])
+noted r place note =
+    IfOk-weaker r _ _
+    (λ bytes is. is ∙ ap (λ t. t ++ 10 ∷ []) (append_assoc (codes "byte " ++ decimal place) (codes ": ") note))
 
 pub returns-in-NoRow : goal.returns-in-NoRow
 returns-in-NoRow c =
-    rw c.in-NoRow.is (told _ _ _ _ (simp append_assoc) c.bytes_of_text.ensures c.format.ensures.ok)
+    rw c.in-NoRow.is (noted c.place_note.result c.in-NoRow.place (codes "T1 no row") c.place_note.ensures)
 
 pub returns-in-OpenComment : goal.returns-in-OpenComment
 returns-in-OpenComment c =
-    rw c.in-OpenComment.is
-    (told _ _ _ _ (simp append_assoc) c.bytes_of_text-in-OpenComment.ensures c.format-in-OpenComment.ensures.ok)
+    let note = c.place_note-in-OpenComment in
+    rw c.in-OpenComment.is (noted note.result c.in-OpenComment.place (codes "T2 open comment") note.ensures)

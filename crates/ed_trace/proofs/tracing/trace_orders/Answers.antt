@@ -2,7 +2,7 @@ use Rattle.std.proofs.Common.{◌+◌, refl, sym, ap, ◌∙◌, arith}
 use Rattle.ed_io.specs.Causes.{next_count}
 use Rattle.ed_machine.specs.Steps.{stops_of}
 use Rattle.ed_machine.proofs.Steps.{next_state}
-use Rattle.ed_trace.proofs.Going.{going_first, going_on, first_more}
+use Rattle.ed_trace.proofs.Going.{at_limit, blocks, going_first, going_on, first_more}
 use Rattle.ed_trace.proofs.Going.{stopped, obeyed_turn, stop_is, no_stop}
 use Rattle.ed_trace.proofs.Growing.{breaks_line, lines_first, next_lines}
 use Rattle.ed_trace.proofs.tracing.trace_orders.Goals as goal
@@ -67,4 +67,48 @@ loop-done-preserved g c =
       room = c.in_default.ensures.room ∙ i.room;
       count = omega (arith, c.step-turn.ensures.count, i.count);
       faults = c.in_default.ensures.faults ∙ i.faults;
+    }
+
+pub returns-in-NoOrder : goal.returns-in-NoOrder
+returns-in-NoOrder g c =
+    let i = c.loop-done.invariant in
+    let step = c.step-turn.ensures in
+    record {
+      trace = record {
+        orders = c.loop-done.done;
+        ends = blocks i.going c.loop-done-test.true (rw (sym step.turn, c.in-NoOrder.is) refl);
+        state_is = step.blocked (rw c.in-NoOrder.is refl) ∙ i.going.state;
+        lines = i.lines;
+      };
+      room = i.room;
+      faults = i.faults;
+    }
+
+pub returns-in-NoTape : goal.returns-in-NoTape
+returns-in-NoTape g c =
+    let i = c.loop-done.invariant in
+    let step = c.step-turn.ensures in
+    record {
+      trace = record {
+        orders = c.loop-done.done;
+        ends = blocks i.going c.loop-done-test.true (rw (sym step.turn, c.in-NoTape.is) refl);
+        state_is = step.blocked (rw c.in-NoTape.is refl) ∙ i.going.state;
+        lines = i.lines;
+      };
+      room = i.room;
+      faults = i.faults;
+    }
+
+pub returns : goal.returns
+returns g c =
+    let i = c.loop-done.invariant in
+    record {
+      trace = record {
+        orders = c.loop-done.done;
+        ends = at_limit (omega (arith, c.loop-done-test.false, c.loop-done.auto.done-end)) i.going;
+        state_is = i.going.state;
+        lines = i.lines;
+      };
+      room = i.room;
+      faults = i.faults;
     }

@@ -1,6 +1,6 @@
 use Rattle.std.proofs.Common.{◌≡◌, ◌++◌, drop}
 use Rattle.ed_report.specs.Traces.{letters_from}
-use Rattle.ed_report.proofs.trace.trace_text.Given as goal
+use Rattle.ed_report.proofs.trace.write_trace.Given as goal
 
 -- the letters so far, and then those of the functions that are left
 abbrev pub invariant-loop-place : goal.invariant-loop-place
