@@ -118,7 +118,7 @@ impl Sink for MemorySink {
         let fails = self.failing.contains(&self.call);
         self.call = self.call.saturating_add(1);
         let free = self.room - self.bytes.len();
-        if fails || free < piece.len().min(1) {
+        if fails || (free == 0 && !piece.is_empty()) {
             self.faults = self.faults.saturating_add(1);
             return Err(Failed);
         }

@@ -153,19 +153,28 @@ pub(crate) fn integer(least: u64, most: u64, parts: &[Part]) -> Result<i64, Form
     ensures { result ≡ form_result (integer least most (map part parts.now)) }
 {
     match parts {
-        [Part::Run(run)] => signed(false, most, run),
-        [Part::Sign(b'-'), Part::Run(run)] => signed(true, least, run),
+        [Part::Run(run)] => positive(most, run),
+        [Part::Sign(b'-'), Part::Run(run)] => negative(least, run),
         _ => Err(FormFault::NotThisForm),
     }
 }
 
-/// A number from 0 to `most`, or its negative.
-fn signed(minus: bool, most: u64, run: &[u8]) -> Result<i64, FormFault>
+/// A number from 0 to `most`, as an integer.
+fn positive(most: u64, run: &[u8]) -> Result<i64, FormFault>
     requires { most < 2 ^ 36 }
-    ensures { result ≡ form_result (ranged_map (with_sign minus) (number_up_to most run.now)) }
+    ensures { result ≡ form_result (ranged_map (with_sign false) (number_up_to most run.now)) }
 {
-    let number = number(most, run)? as i64;
-    Ok(if minus { -number } else { number })
+    let number = number(most, run)?;
+    Ok(number as i64)
+}
+
+/// The negative of a number from 0 to `least`.
+fn negative(least: u64, run: &[u8]) -> Result<i64, FormFault>
+    requires { least < 2 ^ 36 }
+    ensures { result ≡ form_result (ranged_map (with_sign true) (number_up_to least run.now)) }
+{
+    let number = number(least, run)?;
+    Ok(-(number as i64))
 }
 
 /// A string of one or more bytes that spell rows.

@@ -1,5 +1,4 @@
 ghost use Rattle.std.specs.Prelude.{◌≡◌, ◌<◌, ◌≤◌, ◌^◌, [], List, ℕ, IfOk, length};
-ghost use Rattle.ed_loads.specs.EntryState.{first_state};
 ghost use Rattle.ed_answers.specs.Answer.{of_input, of_rows};
 ghost use Rattle.ed_top.specs.Clause.{device};
 ghost use Rattle.ed_top.specs.Parts.{IsInParts, end_note, end_status};
@@ -46,24 +45,9 @@ fn read_parts<K: Sink>(
         (device K.held K.faults out.old out.new) result }
 {
     let mut machine = started(alloc, settings.size, rows)?;
-    run_in_parts(alloc, settings, &mut machine, out)
-}
-
-/// Runs a machine that is started on rows in parts.
-fn run_in_parts<K: Sink>(
-    alloc: Global,
-    settings: Settings,
-    machine: &mut Machine,
-    out: &mut K,
-) -> Result<Rest, Stop>
-    requires orders { machine.old.orders ≡ 0 }
-    requires rows { length machine.old.tape ≤ 2 ^ 32 }
-    ensures { (codes : List ℕ) → machine.old ≡ first_state settings.size codes
-        → Carried (of_input (λ _. IsInParts settings codes)) [] (device K.held K.faults out.old out.new) result }
-{
-    let end = run_parts(alloc, machine, settings.limit, out)?;
+    let end = run_parts(alloc, &mut machine, settings.limit, out)?;
     Ok(Rest {
-        note: end_text(alloc, end, machine)?,
+        note: end_text(alloc, end, &machine)?,
         status: end_status(end),
     })
 }

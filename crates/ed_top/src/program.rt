@@ -1,8 +1,6 @@
-ghost use Rattle.std.specs.Prelude.{IfOk, Option, map, string_bytes};
-ghost use Rattle.ed_command.specs.Answers.{AnswersWords};
+ghost use Rattle.std.specs.Prelude.{Some, map, string_bytes};
 ghost use Rattle.ed_command.specs.Lines.{command_line};
 ghost use Rattle.ed_command.specs.Ranges.{IsInRange};
-ghost use Rattle.ed_command.specs.declared.command.Command.{Command};
 ghost use Rattle.ed_answers.specs.BothSizes.{EachSize};
 ghost use Rattle.ed_top.specs.Calls.{CallsByDefault, EachCallRuns};
 ghost use Rattle.ed_top.specs.Clause.{ProgramEnded, WritesLastLine, device};
@@ -66,25 +64,7 @@ pub fn edsac<S: Source, K: Sink, L: Sink>(
     ensures stepped { EachStepIsRun }
     ensures parts { EachTapeInPartsIsRun }
 {
-    let read = read_words(alloc, words);
-    run_words(alloc, read, source, out, note)
-}
-
-/// Runs the command that words are, or writes why they are none.
-fn run_words<S: Source, K: Sink, L: Sink>(
-    alloc: Global,
-    read: Result<Command, CommandFault>,
-    source: &mut S,
-    out: &mut K,
-    note: &mut L,
-) -> u8
-    requires { IfOk read IsInRange }
-    ensures { (line : Option Command) → AnswersWords line read → ProgramEnded (output line)
-        (device S.left S.faults source.old source.new)
-        (device K.held K.faults out.old out.new)
-        (device L.held L.faults note.old note.new) result }
-{
-    match read {
+    match read_words(alloc, words) {
         Ok(command) => run_command(alloc, command, source, out, note),
         Err(CommandFault::Usage) => tell(note, USAGE, 2),
         Err(CommandFault::Memory) => tell(note, NO_MEMORY, 10),

@@ -1,5 +1,4 @@
-ghost use Rattle.std.specs.Prelude.{◌≡◌, [], List, ℕ};
-ghost use Rattle.ed_loads.specs.EntryState.{first_state};
+ghost use Rattle.std.specs.Prelude.{[]};
 ghost use Rattle.ed_answers.specs.Answer.{exactly, known, of_rows};
 ghost use Rattle.ed_top.specs.Clause.{device};
 ghost use Rattle.ed_top.specs.Private.Stages.{Carried};
@@ -11,7 +10,6 @@ use ed_codes::Code;
 use ed_command::Settings;
 use ed_io::Sink;
 use ed_loads::started;
-use ed_machine::Machine;
 use ed_report::ending_text;
 use ed_trace::trace_run;
 use std::alloc::Global;
@@ -42,29 +40,15 @@ fn trace_rows<K: Sink>(
     ensures { Carried (known (trace_outcome settings rows.items)) [] (device K.held K.faults out.old out.new) result }
 {
     let mut machine = started(alloc, settings.size, rows)?;
-    trace_machine(alloc, settings, &mut machine, out)
-}
-
-/// Traces the run of a machine that is started on rows.
-fn trace_machine<K: Sink>(
-    alloc: Global,
-    settings: Settings,
-    machine: &mut Machine,
-    out: &mut K,
-) -> Result<Rest, Stop>
-    requires { machine.old.orders ≡ 0 }
-    ensures { (codes : List ℕ) → machine.old ≡ first_state settings.size codes
-        → Carried (known (trace_outcome settings codes)) [] (device K.held K.faults out.old out.new) result }
-{
     let ending = trace_run(
         alloc,
-        machine,
+        &mut machine,
         u64::from(settings.limit),
         settings.resumes,
         out,
     )?;
     Ok(Rest {
-        note: ending_text(alloc, ending, machine)?,
+        note: ending_text(alloc, ending, &machine)?,
         status: status_of(ending),
     })
 }

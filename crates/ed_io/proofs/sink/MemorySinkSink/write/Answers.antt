@@ -1,8 +1,10 @@
 use Rattle.std.proofs.Common.{◌≡◌, ◌<◌, ◌⊎◌, append-nil, arith, false, inl, inr, length, refl, sym, true}
+use Rattle.std.proofs.lemmas.Bool.Decides.{nat_tests}
 use Rattle.ed_io.proofs.Memory.{is_among, none_among}
 use Rattle.ed_io.proofs.sink.MemorySinkSink.write.Goals as goal
+use Rattle.ed_io.proofs.sink.MemorySinkSink.write.Goals.{then-free-eq0, else-free-eq0}
 use Rattle.ed_io.proofs.sink.MemorySinkSink.write.Goals.{then-fails-via-then-fails}
-use Rattle.ed_io.proofs.sink.MemorySinkSink.write.Goals.{then-fails-via-else-fails+then-free-min}
+use Rattle.ed_io.proofs.sink.MemorySinkSink.write.Goals.{then-fails-via-else-fails+then-not-is_empty}
 
 -- a call that does not fail has neither cause
 neither : {A B : Type 0} → (A → false ≡ true) → (B → false ≡ true) → A ⊎ B → false ≡ true
@@ -12,12 +14,15 @@ neither f g (inr b) = g b
 pub returns : goal.returns
 returns c =
     let here = c.self.inside in
-    let least = c.min-2.ensures in
+    let least = c.min.ensures in
     let count = c.min-count.ensures in
     let len = c.len.ensures in
     let some = c.self.invariant.2 in
     let roomy : 0 < length c.args.piece.now → length here.bytes.items < here.room =
-    λ l. omega (arith, c.min.ensures, c.if-free-min.false, len) in
+    λ l. elim c.if-free-eq0.branch [
+      | then-free-eq0 w ↦ grind (arith, nat_tests, w.value-is, w.is_empty.ensures, c.if-not-is_empty.false)
+      | else-free-eq0 w ↦ omega (arith, w.if-free-eq0.false)
+    ] in
     rw (← c.self.view_is) (record {
       within = omega (arith, least, count);
       some = λ l. omega (arith, least, count, len, some, roomy l);
@@ -47,10 +52,14 @@ returns-then-fails c =
           | then-fails-via-then-fails w ↦
               let found = w.if-fails.ensures.cases in
               inl (is_among found.0 c.deref.ensures.value found.1 (found.2 _))
-          | then-fails-via-else-fails+then-free-min w ↦ inr (
-            omega (arith, w.min.ensures, w.if-free-min.true, c.len.ensures),
-            omega (arith, w.min.ensures, w.if-free-min.true),
-          )
+          | then-fails-via-else-fails+then-not-is_empty w ↦ elim w.if-free-eq0.branch [
+            | then-free-eq0 v ↦ inr (
+              omega (arith, v.if-free-eq0.true, c.len.ensures),
+              grind (arith, nat_tests, v.value-is, v.is_empty.ensures, w.if-not-is_empty.true),
+            )
+            | else-free-eq0 v ↦
+                absurd (grind (arith, nat_tests, v.value-is, v.if-free-eq0.false, w.if-not-is_empty.true))
+          ]
         ],
         λ _. refl,
       );
