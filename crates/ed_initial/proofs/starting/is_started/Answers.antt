@@ -1,4 +1,4 @@
-use Rattle.std.proofs.Common.{◌≡◌, ◌∙◌, refl, sym, arith, get_or}
+use Rattle.std.proofs.Common.{◌≡◌, refl, arith, get_or}
 use Rattle.std.proofs.lemmas.Bool.{false≢true}
 use borrow.Author.Count.{below_more}
 use Rattle.ed_initial.specs.Listing.{initial_orders}
@@ -23,7 +23,7 @@ loop-place-preserved c =
 pub returns : goal.returns
 returns c = (
   λ _. record {
-    counter = sym c.counter.ensures.is ∙ c.if-counter-ne0.false;
+    counter = cc;
     orders = λ i less. c.loop-place.invariant i (omega arith);
   },
   λ _. refl,
