@@ -28,14 +28,14 @@ gains_part a b c text done rest is p q = record {
   gains = gains_more a b c done [] p q;
 }
 
--- a text of which nothing is left has been written
+-- if nothing of a text is left, all of it has been written
 pub gains_all : (a b : Option (List ℕ)) (text done rest : List ℕ) → text ≡ done ++ rest → true ≡ (length rest == 0)
     → Gains a b done → Gains a b text
 gains_all a b text done [] is none p = rw (is ∙ append-nil done) p
 gains_all a b text done (x ∷ rest) is none p =
     let bad : true ≡ false = none ∙ eq_false (length (x ∷ rest)) 0 (omega arith) in absurd (cc)
 
--- a text of which some is left is longer than what is left after a byte or more
+-- after a byte or more was written, less is left
 pub left_after : (rest : List ℕ) (k : ℕ) → false ≡ (length rest == 0) → (0 < length rest → 0 < k)
     → length (take (length rest - k) (drop k rest)) < length rest
 left_after [] k more some = absurd (cc)

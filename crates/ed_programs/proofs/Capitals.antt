@@ -22,7 +22,7 @@ pub record AreLetters (most : ℕ) (letters : Text) : Type 0 where
   pub few : length letters ≤ most
   pub capital : list_all is_capital letters ≡ true
 
--- are what is not refused
+-- a text that is not refused is such letters
 pub are_letters : (most : ℕ) (letters : Text) → letters_refusal most letters ≡ None → AreLetters most letters
 are_letters most letters taken =
     by_tests (length letters == 0 || nat_lt most (length letters)) (list_all is_capital letters) refl refl taken

@@ -1,4 +1,4 @@
--- The two laws stand on no path: each way out has them.
+-- The two laws are about all numbers, so they hold at each way out.
 use Rattle.ed_postmortem.proofs.AddressDigits.{address_digits_law}
 use Rattle.ed_postmortem.proofs.Bounds.{enough}
 use Rattle.ed_postmortem.proofs.printing.post_mortem.Goals as goal
