@@ -11,11 +11,12 @@ use Rattle.ed_machine.specs.declared.ending.Ending.{Ending}
 use Rattle.ed_run.specs.Run.{RunEnd}
 use Rattle.ed_printer.specs.Paper.{paper}
 use Rattle.ed_lines.specs.declared.program.Line.{Line}
+use Rattle.ed_lines.specs.declared.fault.SourceCause.{SourceCause}
 use Rattle.ed_lines.specs.declared.fault.SourceFault.{SourceFault}
 use Rattle.ed_lines.specs.declared.fault.SourceFault.TheVariants.{At, Memory}
 use Rattle.ed_syntax.specs.Sources.{HasFormFault, IsProgram}
 use Rattle.ed_link.specs.Answers.{HasMeaningFault, IsLinked}
-use Rattle.ed_loads.specs.Refusals.{IsAcceptedAs, IsAcceptedOrRefused, for_form, for_meaning}
+use Rattle.ed_loads.specs.Refusals.{IsAcceptedAs, IsAcceptedOrRefused, IsRefused, for_form, for_meaning}
 use Rattle.ed_loads.proofs.EachSource.{one_answer}
 use Rattle.ed_link.specs.Linked.{linked_words}
 use Rattle.ed_link.specs.Tables.{table_of, words_from}
@@ -71,40 +72,55 @@ source_outcome z accepted text o other (inr a) (inr b) =
     sym a.2 ∙ ap accepted (one_answer.one_program z text a.0 b.0 a.1 b.1) ∙ b.2
 
 -- a fault of form
-pub refused_form : (z : Size) (text : Text) (f : SourceFault) (e : Rejection)
-    → HasFormFault text f → Refuses (source_fault_line f) e → (f ≡ Memory → e ≡ rejection.Memory)
-    → LinksSource z text (Err e)
-refused_form z text f rejection.Memory is gives none = tt
-refused_form z text Memory (rejection.Refused reply) is gives none = absurd (never (none refl))
-refused_form z text (At line cause) (rejection.Refused reply) is gives none = (line, cause, for_form is, gives)
+pub form_refused : (z : Size) {text : Text} {f : SourceFault} → HasFormFault text f → (line : ℕ) (cause : SourceCause)
+    → f ≡ At line cause → IsRefused z text line cause
+form_refused z {text} is line cause same = for_form (subst (HasFormFault text) same is)
 
--- a fault of meaning
-pub refused_meaning : (z : Size) {text : Text} {two : Bool} {lines : List Line} (f : SourceFault) (e : Rejection)
-    → IsProgram text two lines → HasMeaningFault z lines f → Refuses (source_fault_line f) e
-    → (f ≡ Memory → e ≡ rejection.Memory) → LinksSource z text (Err e)
-refused_meaning z f rejection.Memory p is gives none = tt
-refused_meaning z Memory (rejection.Refused reply) p is gives none = absurd (never (none refl))
-refused_meaning z (At line cause) (rejection.Refused reply) p is gives none = (line, cause, for_meaning p is, gives)
+-- if it is passed on by `?`
+pub form_passed_on : (z : Size) (text : Text) (f : SourceFault) (r : Result Linked SourceFault) → HasFormFault text f
+    → IsErr r × IsErrAnd r (λ handed. handed ≡ f)
+    → IfErr r (λ fault. (line : ℕ) (cause : SourceCause) → fault ≡ At line cause → IsRefused z text line cause)
+form_passed_on z text f (Ok k) is handed = tt
+form_passed_on z text f (Err e) is handed =
+    λ line cause same. form_refused z is line cause (sym handed.1 ∙ same)
 
--- a program that is linked
-pub linked_accepted : (z : Size) {text : Text} {two : Bool} {lines : List Line} (k : Linked) → IsProgram text two lines
-    → IsLinked z lines k → LinksSource z text (Ok k)
-linked_accepted z {two} {lines} k p is =
+-- the linked program of a source that is read, or a fault of meaning
+pub read_linked : (z : Size) {text : Text} {two : Bool} {lines : List Line} (r : Result Linked SourceFault)
+    → IsProgram text two lines → IfOk r (λ k. IsLinked z lines k)
+    → IfOk r (λ k. (all : List Line) × IsAcceptedAs z text all × IsLinked z all k)
+read_linked z {text} {two} {lines} (Ok k) p is =
     (lines, record { two = two; says = p; faultless = is.accepted }, is)
+read_linked z (Err f) p is = tt
 
--- a program that is linked, or the rejection that was made of its fault
-pub linked_or_refused : (z : Size) {text : Text} {two : Bool} {lines : List Line} (r : Result Linked SourceFault)
-    (told : Result Linked Rejection) (Q : SourceFault → Rejection → Type 0) → IsProgram text two lines
-    → IfOk r (λ k. IsLinked z lines k) → IfErr r (λ f. HasMeaningFault z lines f)
+pub meaning_refused : (z : Size) {text : Text} {two : Bool} {lines : List Line} (r : Result Linked SourceFault)
+    → IsProgram text two lines → IfErr r (λ f. HasMeaningFault z lines f)
+    → IfErr r (λ f. (line : ℕ) (cause : SourceCause) → f ≡ At line cause → IsRefused z text line cause)
+meaning_refused z (Ok k) p is = tt
+meaning_refused z {text} {two} {lines} (Err f) p is =
+    λ line cause same. for_meaning p (subst (HasMeaningFault z lines) same is)
+
+-- what is made of a fault refuses the source
+refused : (z : Size) (text : Text) (f : SourceFault) (e : Rejection)
+    → ((line : ℕ) (cause : SourceCause) → f ≡ At line cause → IsRefused z text line cause)
+    → Refuses (source_fault_line f) e → (f ≡ Memory → e ≡ rejection.Memory) → LinksSource z text (Err e)
+refused z text f rejection.Memory is gives none = tt
+refused z text Memory (rejection.Refused reply) is gives none = absurd (never (none refl))
+refused z text (At line cause) (rejection.Refused reply) is gives none = (line, cause, is line cause refl, gives)
+
+-- the linked program, or the rejection that was made of the fault
+pub linked_or_refused : (z : Size) (text : Text) (r : Result Linked SourceFault) (told : Result Linked Rejection)
+    (Q : SourceFault → Rejection → Type 0)
+    → IfOk r (λ k. (lines : List Line) × IsAcceptedAs z text lines × IsLinked z lines k)
+    → IfErr r (λ f. (line : ℕ) (cause : SourceCause) → f ≡ At line cause → IsRefused z text line cause)
     → MatchResult r (λ k. told ≡ Ok k) (λ f. IsErrAnd told (Q f))
     → ((f : SourceFault) (e : Rejection) → Q f e
     → Refuses (source_fault_line f) e × (f ≡ Memory → e ≡ rejection.Memory))
     → LinksSource z text told
-linked_or_refused z (Ok k) told Q p is_linked faulty is made = rw is (linked_accepted z k p is_linked)
-linked_or_refused z (Err f) told Q p is_linked faulty is made =
+linked_or_refused z text (Ok k) told Q linked faulty is made = rw is linked
+linked_or_refused z text (Err f) told Q linked faulty is made =
     let e = err_from_is_err_and told is in
     let refuses = made f e.0 e.2 in
-    rw e.1 (refused_meaning z f e.0 p faulty refuses.0 refuses.1)
+    rw e.1 (refused z text f e.0 faulty refuses.0 refuses.1)
 
 -- ---- the outcome of an input
 

@@ -86,39 +86,24 @@ pub fn ran_reply(alloc: Global, ran: &FinishedRun, note: Vec<u8>) -> Result<Repl
 pub fn post_mortem_reply(
     alloc: Global,
     settings: Settings,
-    mut ran: FinishedRun,
+    ran: &mut FinishedRun,
     note: Vec<u8>,
 ) -> Result<Reply, NoMemory>
     requires ranges { AreSettingsInRange settings }
-    requires size { ran.machine.size ≡ settings.size }
-    requires orders { ran.machine.orders ≤ settings.limit }
+    requires size { ran.old.machine.size ≡ settings.size }
+    requires orders { ran.old.machine.orders ≤ settings.limit }
     ensures { IfOk result (λ reply. Gives reply (record {
-      out = paper (ran.paper.codes ++ post_mortem_codes settings.post_mortem ran.machine);
+      out = paper (ran.old.paper.codes ++ post_mortem_codes settings.post_mortem ran.old.machine);
       note = note.items;
-      status = status_of ran.ending;
+      status = status_of ran.old.ending;
     })) }
 {
-    let out = papers_of(alloc, settings.post_mortem, &mut ran)?;
+    let after = post_mortem_of(alloc, settings.post_mortem, &mut ran.machine)?;
     Ok(Reply {
-        out,
+        out: papers_text(alloc, ran.paper.codes(), after.codes())?,
         note,
         status: status_of(ran.ending),
     })
-}
-
-/// The text of a run's paper, and of the post-mortem in a window after it.
-fn papers_of(
-    alloc: Global,
-    window: Option<Window>,
-    ran: &mut FinishedRun,
-) -> Result<Vec<u8>, NoMemory>
-    requires window { IfSome window (IsWindowOf ran.old.machine.size) }
-    requires orders { ran.old.machine.orders + 300000 ≤ 2 ^ 63 }
-    ensures text { IfOk result (λ v. v.items ≡ paper (ran.old.paper.codes ++ post_mortem_codes window ran.old.machine)) }
-    ensures same { ran.new.ending ≡ ran.old.ending }
-{
-    let after = post_mortem_of(alloc, window, &mut ran.machine)?;
-    papers_text(alloc, ran.paper.codes(), after.codes())
 }
 
 /// The paper of a post-mortem of the words in a window, or an empty one without a window.

@@ -1,8 +1,11 @@
-ghost use Rattle.std.specs.Prelude.{◌≡◌, ◌<◌, ◌≤◌, ◌++◌, [], All, IfOk, List, map, nat_le, if◌then◌else◌};
+ghost use Rattle.std.specs.Prelude.{◌≡◌, ℕ, ◌<◌, ◌≤◌, ◌++◌, [], All, IfErr, IfOk, List, map, nat_le, if◌then◌else◌};
+ghost use Rattle.ed_lines.specs.declared.fault.SourceCause.{SourceCause};
+ghost use Rattle.ed_lines.specs.declared.fault.SourceFault.TheVariants.{At};
 ghost use Rattle.ed_lines.specs.declared.program.Line.{Line};
 ghost use Rattle.ed_link.specs.Answers.{IsLinked};
 ghost use Rattle.ed_link.specs.Tapes.{cost, tape};
 ghost use Rattle.ed_loads.specs.EntryState.{entry_state};
+ghost use Rattle.ed_loads.specs.Refusals.{IsAcceptedAs, IsRefused};
 ghost use Rattle.ed_report.specs.Listings.{listing};
 ghost use Rattle.ed_report.specs.Notes.{ending_line, entry_note, source_fault_line};
 ghost use Rattle.ed_command.specs.Ranges.{AreSettingsInRange};
@@ -59,8 +62,17 @@ pub fn list(alloc: Global, settings: Settings, input: &[u8]) -> Result<Reply, Re
 pub fn linked_of(alloc: Global, size: Size, input: &[u8]) -> Result<Linked, Rejection>
     ensures { LinksSource size input.now result }
 {
-    let program = parse(alloc, input).map_err(|fault| source_rejection(alloc, &fault))?;
-    link(alloc, size, &program).map_err(|fault| source_rejection(alloc, &fault))
+    linked(alloc, size, input).map_err(|fault| source_rejection(alloc, &fault))
+}
+
+/// The linked program of a source, or the fault of its first faulty line.
+fn linked(alloc: Global, size: Size, input: &[u8]) -> Result<Linked, SourceFault>
+    ensures accepted { IfOk result (λ k. (lines : List Line) × IsAcceptedAs size input.now lines
+        × IsLinked size lines k) }
+    ensures refused { IfErr result (λ fault. (line : ℕ) (cause : SourceCause) → fault ≡ At line cause
+        → IsRefused size input.now line cause) }
+{
+    link(alloc, size, &parse(alloc, input)?)
 }
 
 /// The rejection of a source with a fault.
@@ -81,8 +93,8 @@ fn reply_to_linked(alloc: Global, settings: Settings, linked: &Linked) -> Result
     ensures { IfOk result (λ reply. (lines : List Line) → IsLinked settings.size lines linked.now
         → Gives reply (run_outcome settings lines)) }
 {
-    let noted = run_linked(alloc, settings, linked)?;
-    post_mortem_reply(alloc, settings, noted.ran, noted.note)
+    let NotedRun { mut ran, note } = run_linked(alloc, settings, linked)?;
+    post_mortem_reply(alloc, settings, &mut ran, note)
 }
 
 /// Runs the tape of a linked program.

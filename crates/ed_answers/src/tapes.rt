@@ -26,7 +26,7 @@ fn run_tape(alloc: Global, settings: Settings, rows: Vec<Code>) -> Result<Reply,
     requires { AreSettingsInRange settings }
     ensures { IfOk result (λ reply. Gives reply (tape_outcome settings rows.items)) }
 {
-    let ran = run_rows(alloc, settings, rows)?;
+    let mut ran = run_rows(alloc, settings, rows)?;
     let note = ending_text(alloc, ran.ending, &ran.machine)?;
-    post_mortem_reply(alloc, settings, ran, note)
+    post_mortem_reply(alloc, settings, &mut ran, note)
 }
