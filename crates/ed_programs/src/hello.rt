@@ -1,9 +1,8 @@
-ghost use Rattle.std.specs.Prelude.{◌≡◌, None, Some, IfErr, OnOk};
-ghost use Rattle.std.specs.List.{list_all};
 ghost use Rattle.ed_programs.specs.Hello.{EachTextIsPrinted, hello_orders, hello_prints, hello_refusal, hello_text};
-ghost use Rattle.ed_programs.specs.Hello.{is_capital, letters_refusal, of_letters};
+ghost use Rattle.ed_programs.specs.Hello.{of_letters};
 ghost use Rattle.ed_programs.specs.Programs.{GivesProgram, Prints};
 
+use crate::letters::check_letters;
 use crate::refusal::Refusal;
 use std::alloc::Global;
 
@@ -47,25 +46,4 @@ pub fn hello_program(alloc: Global, letters: &str) -> Result<String, Refusal>
     let rows = letters.len() + 1;
     let [head, middle, tail] = HELLO;
     Ok(format!(in alloc; "{head}{rows}{middle}*{letters}{tail}")?)
-}
-
-/// Checks that a text is 1 to `most` capital letters.
-pub fn check_letters(letters: &str, most: usize) -> Result<(), Refusal>
-    ensures ok { OnOk result (letters_refusal most letters.now ≡ None) }
-    ensures err { IfErr result (λ refusal. letters_refusal most letters.now ≡ Some refusal) }
-{
-    if letters.is_empty() || most < letters.len() {
-        return Err(Refusal::Length);
-    }
-    if !are_capitals(letters.as_bytes()) {
-        return Err(Refusal::Letter);
-    }
-    Ok(())
-}
-
-/// Whether all of these bytes are capital letters.
-fn are_capitals(bytes: &[u8]) -> bool
-    ensures { result ≡ list_all is_capital bytes.now }
-{
-    bytes.iter().all(|byte| b'A' <= *byte && *byte <= b'Z')
 }

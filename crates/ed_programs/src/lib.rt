@@ -12,6 +12,7 @@ mod fraction;
 mod greatest;
 mod hello;
 mod interlude;
+mod letters;
 mod mirror;
 mod multiply;
 mod refusal;

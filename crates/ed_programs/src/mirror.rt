@@ -2,7 +2,7 @@ ghost use Rattle.ed_programs.specs.Mirror.{mirror_cost, mirror_orders, mirror_pr
 ghost use Rattle.ed_programs.specs.Programs.{GivesProgram};
 ghost use Rattle.ed_programs.specs.Tapes.{TapePrints};
 
-use crate::hello::check_letters;
+use crate::letters::check_letters;
 use crate::refusal::Refusal;
 use std::alloc::Global;
 
