@@ -1,0 +1,1 @@
+use Rattle.ed_page.proofs.items.item_table.Goals as goal

@@ -1,0 +1,1 @@
+use Rattle.ed_page.proofs.items.push_line.Goals as goal

@@ -1,0 +1,1 @@
+use Rattle.ed_page.proofs.running.noted.Goals as goal

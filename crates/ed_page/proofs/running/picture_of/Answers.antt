@@ -1,0 +1,1 @@
+use Rattle.ed_page.proofs.running.picture_of.Goals as goal

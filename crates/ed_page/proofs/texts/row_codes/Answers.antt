@@ -1,0 +1,1 @@
+use Rattle.ed_page.proofs.texts.row_codes.Goals as goal

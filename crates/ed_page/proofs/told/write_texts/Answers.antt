@@ -1,0 +1,1 @@
+use Rattle.ed_page.proofs.told.write_texts.Goals as goal
