@@ -26,6 +26,13 @@ same_number m n h (inr most) (inr least) = omega (arith, most, least)
 twelve : ◌≢◌ {A = ℕ} 12 10
 twelve e = cc
 
+-- the status of a reply is not that of no memory, or of no room
+pub low_status : {reply : Reply} {o : Outcome} → Gives reply o → reply.status < 12
+low_status g = let low = g.low in omega (arith, low)
+
+pub found_status : {reply : Reply} {o : Outcome} → Gives reply o → reply.status ≢ 10
+found_status g e = let low = g.low in absurd (omega (arith, low, e))
+
 -- ---- two texts
 
 pub no_room : (o : Outcome) (out note : List ℕ) → (length out < length o.out) ⊎ ((length o.out ≤ length out)
