@@ -3,7 +3,7 @@
 ghost use Rattle.std.specs.Prelude.{◌≡◌, ◌+◌, ◌*◌, ◌≤◌, ◌<◌, ◌^◌, [], ◌∷◌, ◌++◌, IfOk, None, length, take, ℕ};
 ghost use Rattle.std.specs.List.{flat_map};
 ghost use Rattle.ed_store.specs.Cells.{with_short};
-ghost use Rattle.ed_notation.specs.Fold.{address, control_of, item_word, with_kay, with_zed};
+ghost use Rattle.ed_notation.specs.Fold.{control_of, item_word, with_kay, with_zed};
 ghost use Rattle.ed_notation.specs.Items.{row_kind};
 ghost use Rattle.ed_notation.specs.declared.kind.RowKind.TheVariants.{Digit};
 ghost use Rattle.ed_page.specs.Answers.{IsTextWritten, text_buffers};
@@ -241,15 +241,9 @@ impl Notation {
         if end.value() < letters::F || self.directive / 4096 == u64::from(letters::E) {
             None
         } else {
-            Some((self.address(), self.word(item, end)))
+            let address = (self.directive % 4096 / 2) as u16;
+            Some((address, self.word(item, end)))
         }
-    }
-
-    /// The address of the directive.
-    fn address(&self) -> u16
-        ensures { result ≡ address self.now.directive }
-    {
-        (self.directive % 4096 / 2) as u16
     }
 
     /// The word of an item that a code letter ends.
