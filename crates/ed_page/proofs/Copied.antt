@@ -47,14 +47,6 @@ text_added start left before given codes text strikes begins same =
     struck_alone start given text left strikes ∙ ap (λ (s : Shift). paper_from s given) begins
     ∙ ap (paper_from (latest_shift (reverse before))) same
 
--- the bytes of one more number
-pub pushed_more : (done more start : List ℕ) (s : List ℕ) (i x : ℕ) → more ≡ done ++ four_bytes x → i < length s
-    → x ≡ get_or s i 0 → done ++ flat_map four_bytes (drop i s) ≡ start ++ flat_map four_bytes s
-    → more ++ flat_map four_bytes (drop (i + 1) s) ≡ start ++ flat_map four_bytes s
-pushed_more done more start s i x grown below is whole =
-    rw grown (append_assoc done (four_bytes x) (flat_map four_bytes (drop (i + 1) s))
-    ∙ ap (λ (t : List ℕ). done ++ flat_map four_bytes t) (sym (left_by s i x below is)) ∙ whole)
-
 -- the bytes of all numbers
 pub pushed_all : (done start s : List ℕ) (i : ℕ) → length s ≤ i
     → done ++ flat_map four_bytes (drop i s) ≡ start ++ flat_map four_bytes s → done ≡ start ++ flat_map four_bytes s

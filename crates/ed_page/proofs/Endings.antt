@@ -1,7 +1,6 @@
 -- From a run that ended, with its note, to what the program answers of it.
-use Rattle.std.proofs.Common.{◌≡◌, ◌∙◌, ℕ, sym, ap, Option, Some, None, List, [], ◌++◌}
+use Rattle.std.proofs.Common.{◌≡◌, ◌∙◌, ℕ, ap, Option, None, List, [], ◌++◌}
 use Rattle.std.proofs.lemmas.List.{append-nil}
-use Rattle.ed_machine.specs.State.{State}
 use Rattle.ed_lines.specs.declared.program.Line.{Line}
 use Rattle.ed_link.specs.Tapes.{tape}
 use Rattle.ed_printer.specs.Paper.{paper}
@@ -10,7 +9,6 @@ use Rattle.ed_report.specs.Notes.{ending_line}
 use Rattle.ed_command.specs.declared.command.Settings.{Settings}
 use Rattle.ed_command.specs.declared.command.Window.{Window}
 use Rattle.ed_words.specs.Texts.{Text}
-use Rattle.ed_answers.specs.Outcome.{Outcome}
 use Rattle.ed_answers.specs.Runs.{post_mortem_codes, ran_outcome, run_of, status_of, with_post_mortem}
 use Rattle.ed_answers.specs.Sources.{entered_before, run_outcome}
 use Rattle.ed_answers.specs.Tapes.{tape_outcome}

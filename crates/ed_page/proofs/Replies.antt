@@ -1,6 +1,6 @@
 -- From the answer to the rows or the lines of a text to that to the text.
 use Rattle.std.proofs.Common.{◌≡◌, ◌∙◌, ◌++◌, ◌<◌, ◌≤◌, ℕ, inl, inr, refl, sym, ap}
-use Rattle.std.proofs.Common.{subst, rules, tests, nat_lt, Bool, true, false, Some, None, List, []}
+use Rattle.std.proofs.Common.{subst, rules, tests, nat_lt, Bool, true, false, Some, List, []}
 use Rattle.std.proofs.Common.{length}
 use Rattle.std.specs.Prelude.{Result, Ok, Err, IsErr, IsErrAnd}
 use Rattle.std.proofs.lemmas.Result.{err_from_is_err_and}
@@ -29,8 +29,7 @@ use Rattle.ed_answers.specs.declared.running.FinishedRun.{FinishedRun}
 use Rattle.ed_answers.specs.declared.source.NotedRun.{NotedRun}
 use Rattle.ed_run.specs.Run.{RunEnd}
 use Rattle.ed_page.specs.Answers.{RowsEnd, SourceEnds}
-use Rattle.ed_page.specs.Private.Stages.{Draws, IsAnswered, IsMachineOf, IsNoted, IsReplied, Runs}
-use Rattle.ed_page.specs.declared.running.Shown.{Shown}
+use Rattle.ed_page.specs.Private.Stages.{IsAnswered, IsNoted, IsReplied, Runs}
 use Rattle.ed_page.proofs.Endings.{noted_run}
 
 -- ---- a text that is too long
@@ -141,12 +140,6 @@ rows_not_run outcome run text e r refuses handed =
 
 -- ---- a source
 
--- the answer to its lines
-pub lines_answered : (z : Size) (f : List Line → Outcome) (text : Text) {k : Linked} (reply : Reply)
-    → LinksSource z text (Ok k) → ((lines : List Line) → IsLinked z lines k → Gives reply (f lines))
-    → IsAnswered (OfSource z f) text (Ok reply)
-lines_answered z f text reply l gives = (f l.0, inr (l.0, l.1, refl), gives l.0 l.2)
-
 refused_source : (z : Size) (f : List Line → Outcome) (text : Text) (reply : Reply)
     → LinksSource z text (Err (Refused reply)) → IsReplied (OfSource z f) text reply
 refused_source z f text reply l = (refusal (source_fault_line (At l.0 l.1)), inl (l.0, l.1, l.2, refl), l.3)
@@ -210,33 +203,8 @@ pub source_not_run : (s : Settings) (text : Text) (e : Rejection) (r : Result No
 source_not_run s text e r l handed =
     passed (Runs (OfSource s.size (run_outcome s)) (SourceEnds s) text) e r (not_accepted s text e l) handed
 
--- ---- what is shown of a run
-
-drawn_refusal : (answers : Text → Outcome → Type 0) (Ends : Text → State → Type 0) (text : Text) (e : Rejection)
-    → Runs answers Ends text (Err e) → Draws answers Ends text (Err e)
-drawn_refusal answers Ends text (Refused reply) is = is
-drawn_refusal answers Ends text Memory is = tt
-
-pub refusal_drawn : (answers : Text → Outcome → Type 0) (Ends : Text → State → Type 0) (text : Text) (e : Rejection)
-    (r : Result Shown Rejection) → Runs answers Ends text (Err e) → IsErr r × IsErrAnd r (λ handed. handed ≡ e)
-    → Draws answers Ends text r
-refusal_drawn answers Ends text e r is handed =
-    passed (Draws answers Ends text) e r (drawn_refusal answers Ends text e is) handed
-
 -- ---- no memory
 
 pub none_answered : (answers : Text → Outcome → Type 0) (text : Text) (r : Result Reply Rejection)
     → IsErr r × IsErrAnd r (λ handed. handed ≡ Memory) → IsAnswered answers text r
 none_answered answers text r handed = passed (IsAnswered answers text) Memory r tt handed
-
-pub none_run : (answers : Text → Outcome → Type 0) (Ends : Text → State → Type 0) (text : Text)
-    (r : Result NotedRun Rejection) → IsErr r × IsErrAnd r (λ handed. handed ≡ Memory) → Runs answers Ends text r
-none_run answers Ends text r handed = passed (Runs answers Ends text) Memory r tt handed
-
-pub none_drawn : (answers : Text → Outcome → Type 0) (Ends : Text → State → Type 0) (text : Text)
-    (r : Result Shown Rejection) → IsErr r × IsErrAnd r (λ handed. handed ≡ Memory) → Draws answers Ends text r
-none_drawn answers Ends text r handed = passed (Draws answers Ends text) Memory r tt handed
-
-pub none_noted : (ran : FinishedRun) (r : Result NotedRun Rejection) → IsErr r × IsErrAnd r (λ handed. handed ≡ Memory)
-    → IsNoted ran r
-none_noted ran r handed = passed (IsNoted ran) Memory r tt handed

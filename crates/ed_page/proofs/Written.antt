@@ -1,6 +1,6 @@
 -- From what was written into buffers to the cause of an answer.
-use Rattle.std.proofs.Common.{◌≡◌, ◌≢◌, ◌⊎◌, ◌∙◌, ◌<◌, ◌≤◌, ℕ, inl, inr, refl, subst, sym, arith}
-use Rattle.std.proofs.Common.{Option, Some, None, List, [], length}
+use Rattle.std.proofs.Common.{◌≡◌, ◌≢◌, ◌⊎◌, ◌∙◌, ◌<◌, ◌≤◌, ℕ, inl, inr, refl, subst, arith}
+use Rattle.std.proofs.Common.{Option, Some, None, List, length}
 use Rattle.std.proofs.lemmas.Bool.{cases_lt}
 use Rattle.std.specs.Prelude.{IfSome}
 use Rattle.ed_machine.specs.State.{State}
@@ -10,11 +10,11 @@ use Rattle.ed_answers.specs.declared.reply.Reply.{Reply}
 use Rattle.ed_answers.specs.Outcome.{Outcome, too_long, too_long_outcome}
 use Rattle.ed_answers.specs.Answer.{IsDue, of_input}
 use Rattle.ed_answers.specs.Replies.{Gives}
-use Rattle.ed_page.specs.Answers.{Buffers, HasBufferRoom, HasItsCause, HasPictureRoom, HoldsText, IsShown, IsTextWritten}
+use Rattle.ed_page.specs.Answers.{Buffers, HasBufferRoom, HasItsCause, HasPictureRoom, IsShown, IsTextWritten}
 use Rattle.ed_page.specs.Answers.{LacksLine, LacksRoom, ShowsNone, TextBuffers, picture_buffers, text_buffers}
 use Rattle.ed_page.specs.Pictures.{Pictures}
-use Rattle.ed_page.specs.Private.Stages.{AreTextsWritten, IsMachineOf, IsPicture, IsReplied, IsWrittenOut}
-use Rattle.ed_page.specs.Private.Stages.{ShowsMachine, WritesBuffers, told_outcome}
+use Rattle.ed_page.specs.Private.Stages.{AreTextsWritten, IsPicture, IsReplied, IsWrittenOut}
+use Rattle.ed_page.specs.Private.Stages.{WritesBuffers, told_outcome}
 use Rattle.ed_page.specs.declared.writing.Lengths.{Lengths}
 use Rattle.ed_page.specs.declared.writing.Registers.{Registers}
 

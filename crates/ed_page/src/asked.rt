@@ -18,7 +18,7 @@ use ed_words::Size;
 use std::alloc::Global;
 
 /// What is asked about a text.
-#[derive(Clone, Copy)]
+#[derive(Drop)]
 pub enum Asked {
     /// The codes of the rows of a tape.
     Rows,

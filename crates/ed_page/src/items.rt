@@ -33,7 +33,7 @@ const NO_LOCATION: u32 = 1024;
 pub const REFUSED: u8 = 3;
 
 /// An item whose function row, and perhaps more rows, have been read.
-#[derive(Clone, Copy)]
+#[derive(Drop)]
 pub struct OpenItem {
     /// The row of its function.
     pub first: u32,

@@ -14,7 +14,7 @@ use ed_words::Size;
 use std::alloc::Global;
 
 /// A program that is run.
-#[derive(Clone, Copy)]
+#[derive(Drop)]
 pub enum Program {
     /// A tape for the 41 Initial Orders.
     Tape,

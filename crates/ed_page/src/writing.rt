@@ -10,7 +10,7 @@ pub const NO_CODE: u64 = 32;
 
 /// The lengths of two texts in their buffers.
 #[repr(C)]
-#[derive(Clone, Copy)]
+#[derive(Drop)]
 pub struct Lengths {
     pub out: u64,
     pub note: u64,
@@ -19,7 +19,7 @@ pub struct Lengths {
 /// The registers of a machine, the number of rows left of its tape, and the lengths of the texts of a picture. If no
 /// run is shown no code was printed, and all others but the lengths are 0.
 #[repr(C)]
-#[derive(Clone, Copy)]
+#[derive(Drop)]
 pub struct Registers {
     /// The 36 least significant digits of the accumulator.
     pub acc_low: u64,

@@ -1,5 +1,4 @@
 -- The answers to what is asked about a text, and to a program whose run is shown.
-use Rattle.std.specs.Prelude.{List, ℕ}
 use Rattle.ed_codes.specs.Reading.{reading}
 use Rattle.ed_machine.specs.State.{State}
 use Rattle.ed_command.specs.declared.command.Settings.{Settings}

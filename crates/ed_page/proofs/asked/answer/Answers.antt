@@ -1,11 +1,10 @@
-use Rattle.std.specs.Prelude.{List}
 use Rattle.ed_answers.specs.Answer.{exactly}
 use Rattle.ed_answers.specs.Outcome.{done}
 use Rattle.ed_answers.specs.Sources.{OfSource, listing_outcome, punch_outcome}
 use Rattle.ed_page.specs.Answers.{source_rows}
 use Rattle.ed_page.specs.Private.Asked.{answers_to}
 use Rattle.ed_page.specs.TapeItems.{IsItemsOutcome, IsItemsOutcome1}
-use Rattle.ed_page.proofs.Replies.{lines_answered, none_answered, replied, rows_answered, rows_refused, source_refused}
+use Rattle.ed_page.proofs.Replies.{none_answered, replied, rows_answered, rows_refused, source_refused}
 use Rattle.ed_page.proofs.asked.answer.Goals as goal
 
 pub returns-in_err-rows_of-in-Rows : goal.returns-in_err-rows_of-in-Rows

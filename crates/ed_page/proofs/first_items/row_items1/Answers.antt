@@ -3,7 +3,6 @@ use Rattle.std.specs.Prelude.{Err}
 use Rattle.ed_initial1.specs.Checks.{Answers1}
 use Rattle.ed_initial1.specs.Faults.{IsFault1}
 use Rattle.ed_initial1.specs.declared.cause.Tape1Fault.{Tape1Fault}
-use Rattle.ed_initial1.specs.declared.cause.Tape1Fault.TheVariants.{At}
 use Rattle.ed_answers.specs.Outcome.{done}
 use Rattle.ed_answers.specs.Replies.{Gives}
 use Rattle.ed_page.specs.TapeItems.{IsItemsOutcome1}

@@ -1,4 +1,4 @@
-use Rattle.ed_page.proofs.Copied.{pushed_all, pushed_more}
+use Rattle.ed_page.proofs.Copied.{pushed_all}
 use Rattle.ed_page.proofs.items.push_numbers.Goals as goal
 
 pub returns : goal.returns

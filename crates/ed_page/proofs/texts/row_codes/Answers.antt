@@ -1,4 +1,4 @@
-use Rattle.std.proofs.Common.{◌∙◌, List, ℕ, refl, subst}
+use Rattle.std.proofs.Common.{◌∙◌, List, ℕ, subst}
 use Rattle.std.proofs.lemmas.List.{get_or_read}
 use Rattle.ed_answers.specs.Outcome.{done}
 use Rattle.ed_answers.specs.Replies.{Gives}

@@ -1,1 +1,0 @@
-use Rattle.ed_page.proofs.items.item_table.Goals as goal

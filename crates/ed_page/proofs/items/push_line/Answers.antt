@@ -1,1 +1,0 @@
-use Rattle.ed_page.proofs.items.push_line.Goals as goal

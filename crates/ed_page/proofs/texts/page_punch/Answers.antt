@@ -1,1 +1,0 @@
-use Rattle.ed_page.proofs.texts.page_punch.Goals as goal

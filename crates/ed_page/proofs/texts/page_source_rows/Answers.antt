@@ -1,1 +1,0 @@
-use Rattle.ed_page.proofs.texts.page_source_rows.Goals as goal

@@ -1,1 +1,0 @@
-use Rattle.ed_page.proofs.told.write_texts.Goals as goal
