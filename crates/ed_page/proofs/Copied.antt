@@ -1,14 +1,15 @@
 -- Lists that grow at their ends: a loop that takes the items of a list one after the other, and texts that are added.
 use Rattle.std.proofs.Common.{◌≡◌, ◌∙◌, ℕ, ◌+◌, ◌<◌, ◌≤◌, refl, sym, ap, add-one, arith, List, [], ◌∷◌, ◌++◌}
 use Rattle.std.proofs.Common.{append_assoc, append-nil, length, get_or, set, take, drop, drop-cons}
-use Rattle.std.specs.Prelude.{Result, Ok, Err, IfOk, reverse}
+use Rattle.std.specs.List.{flat_map}
+use Rattle.std.specs.Prelude.{reverse}
 use Rattle.std.proofs.lemmas.List.{drop_all, length-take-le}
 use Rattle.std.proofs.Math.Seq.{set-append_seam, take-suc}
-use Rattle.ed_words.specs.declared.memory.NoMemory.{NoMemory}
 use Rattle.ed_printer.specs.Paper.{latest_shift, paper_from}
 use Rattle.ed_printer.specs.declared.printer.Shift.{Shift}
 use Rattle.ed_printer.proofs.Texts.{Strikes, struck_alone}
 use Rattle.ed_page.specs.Going.{added_text}
+use Rattle.ed_page.specs.TapeItems.{four_bytes}
 
 -- the item taken, and those left after it
 left_by : (s : List ℕ) (i x : ℕ) → i < length s → x ≡ get_or s i 0 → drop i s ≡ x ∷ drop (i + 1) s
@@ -46,12 +47,8 @@ text_added start left before given codes text strikes begins same =
     struck_alone start given text left strikes ∙ ap (λ (s : Shift). paper_from s given) begins
     ∙ ap (paper_from (latest_shift (reverse before))) same
 
--- four texts, pushed one after the other
-pub four_pushed : (none one two three four a b c d : List ℕ) (r : Result (Unit {0}) NoMemory) → one ≡ none ++ a
-    → two ≡ one ++ b → three ≡ two ++ c → IfOk r (λ _. four ≡ three ++ d)
-    → IfOk r (λ _. four ≡ none ++ (a ++ (b ++ (c ++ d))))
-four_pushed none one two three four a b c d (Ok u) first second third fourth =
-    fourth ∙ ap (λ (t : List ℕ). t ++ d) (third ∙ ap (λ (t : List ℕ). t ++ c) (second
-    ∙ ap (λ (t : List ℕ). t ++ b) first)) ∙ append_assoc ((none ++ a) ++ b) c d ∙ append_assoc (none ++ a) b (c ++ d)
-    ∙ append_assoc none a (b ++ (c ++ d))
-four_pushed none one two three four a b c d (Err e) first second third fourth = tt
+-- the bytes of all numbers
+pub pushed_all : (done start s : List ℕ) (i : ℕ) → length s ≤ i
+    → done ++ flat_map four_bytes (drop i s) ≡ start ++ flat_map four_bytes s → done ≡ start ++ flat_map four_bytes s
+pushed_all done start s i past whole =
+    sym (append-nil done) ∙ ap (λ (t : List ℕ). done ++ flat_map four_bytes t) (sym (drop_all i s past)) ∙ whole

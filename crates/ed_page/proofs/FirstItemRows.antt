@@ -4,7 +4,6 @@ use Rattle.std.proofs.Common.{false}
 use Rattle.std.proofs.Common.{nat_lt, Option, Some, None, List, [], ◌∷◌, ◌++◌, append_assoc, drop, get_or, length}
 use Rattle.std.proofs.Common.{length-append}
 use Rattle.std.proofs.Common.{if◌then◌else◌, take}
-use Rattle.std.specs.Prelude.{Ok}
 use Rattle.std.proofs.lemmas.List.{append-nil, drop_all}
 use Rattle.std.proofs.Math.Seq.{take-append_seam}
 use Rattle.ed_words.proofs.Numbers.{lt_false, lt_true}
@@ -17,11 +16,12 @@ use Rattle.ed_initial1.specs.Faults.{IsFault1, IsPart1, part_rows1}
 use Rattle.ed_initial1.specs.Items.{AreItems, Begun1, IsBegun1, Item1, ending_row, rows_of1, spelled_rows1, word1}
 use Rattle.ed_report.specs.FirstNotes.{rule1_line}
 use Rattle.ed_answers.specs.Outcome.{Outcome, done}
-use Rattle.ed_page.specs.TapeItems.{item_line, item_table1}
+use Rattle.ed_answers.specs.Replies.{Gives}
+use Rattle.ed_answers.specs.declared.reply.Reply.{Reply}
+use Rattle.ed_page.specs.TapeItems.{IsItemsOutcome1, item_line, item_table1}
 use Rattle.ed_page.specs.Private.ItemTables.{first_word, item_at, table_on1, opened_with}
-use Rattle.ed_page.specs.Private.Stages.{AreItemsOf1, HoldsOutcome}
+use Rattle.ed_page.specs.Private.Stages.{IsReplied}
 use Rattle.ed_page.specs.declared.items.OpenItem.{OpenItem}
-use Rattle.ed_page.specs.declared.told.Told.{Told}
 use Rattle.ed_page.proofs.ItemRows.{IsOpen, larger, with_number}
 
 -- ---- the rows of an item
@@ -111,9 +111,9 @@ table_is1 row location (i ∷ is) p are part =
     ∙ ap (λ rest. item_line row next (Some (location, word1 i)) ++ rest) (table_is1 next (location + 1) is p are.1 part)
 
 -- what is answered to a tape without a fault
-pub program_told1 : {codes : List ℕ} {r : Report1} {count : ℕ} {told : Told} → Accepts1 codes r → count ≡ r.rows
-    → HoldsOutcome told (done (table_on1 0 31 None (take count codes))) → AreItemsOf1 codes (Ok told)
-program_told1 {codes} {r} {count} {told} accepts many tells =
+pub program_told1 : {codes : List ℕ} {r : Report1} {count : ℕ} {reply : Reply} → Accepts1 codes r → count ≡ r.rows
+    → Gives reply (done (table_on1 0 31 None (take count codes))) → IsReplied IsItemsOutcome1 codes reply
+program_told1 {codes} {r} {count} {reply} accepts many tells =
     let is = accepts.tape.items in
     let n : count ≡ length (spelled_rows1 is) = many ∙ ap (λ (x : Report1). x.rows) accepts.report_is in
     let head : take count codes ≡ spelled_rows1 is =
@@ -122,18 +122,18 @@ program_told1 {codes} {r} {count} {told} accepts many tells =
     ap (table_on1 0 31 None) (head ∙ sym (append-nil (spelled_rows1 is))) ∙ table_is1 0 31 is None accepts.comes.good tt in (
       done (item_table1 0 31 is),
       inl (record { tape = accepts.tape; comes = accepts.comes; outcome = refl }),
-      subst (λ (out : List ℕ). HoldsOutcome told (done out)) same tells,
+      subst (λ (out : List ℕ). Gives reply (done out)) same tells,
     )
 
 -- what is answered to a tape with a fault
-pub fault_told1 : {codes : List ℕ} {row : ℕ} {cause : Tape1Cause} {told : Told} → IsFault1 codes row cause
-    → HoldsOutcome told (record {
+pub fault_told1 : {codes : List ℕ} {row : ℕ} {cause : Tape1Cause} {reply : Reply} → IsFault1 codes row cause
+    → Gives reply (record {
       out = table_on1 0 31 None (take row codes);
       note = rule1_line row cause;
       status = 3;
     })
-    → AreItemsOf1 codes (Ok told)
-fault_told1 {codes} {row} {cause} {told} f tells =
+    → IsReplied IsItemsOutcome1 codes reply
+fault_told1 {codes} {row} {cause} {reply} f tells =
     let s = f.is.stands in
     let read = spelled_rows1 s.before ++ part_rows1 s.part in
     let n : row ≡ length read = s.row_is ∙ sym (length-append (spelled_rows1 s.before) (part_rows1 s.part)) in
@@ -150,7 +150,7 @@ fault_told1 {codes} {row} {cause} {told} f tells =
     } in (
       outcome (item_table1 0 31 s.before),
       inr (record { row = row; cause = cause; fault = f; outcome = refl }),
-      subst (λ (out : List ℕ). HoldsOutcome told (outcome out)) same tells,
+      subst (λ (out : List ℕ). Gives reply (outcome out)) same tells,
     )
 
 -- ---- the loop over rows

@@ -8,12 +8,12 @@ use Rattle.ed_machine.specs.Steps.{state_after}
 use Rattle.ed_run.specs.Run.{IsLeft, RunEnd, run_end}
 use Rattle.ed_words.specs.Texts.{Text}
 use Rattle.ed_answers.specs.Answer.{Answer}
+use Rattle.ed_answers.specs.Replies.{IsRan}
 use Rattle.ed_answers.specs.Runs.{paper_room, status_of}
+use Rattle.ed_answers.specs.declared.running.FinishedRun.{FinishedRun}
 use Rattle.ed_page.specs.Answers.{Buffers, IsShown}
 use Rattle.ed_page.specs.Going.{AreCodes, BeginsOnTheWay, GoingBuffers, HasStoreRoom, IsGoneOn, IsOnTheWay, ShowsRun}
 use Rattle.ed_page.specs.Pictures.{Pictures}
-use Rattle.ed_page.specs.Private.Stages.{IsGone}
-use Rattle.ed_page.specs.declared.going.Gone.{Gone}
 use Rattle.ed_page.specs.declared.writing.Registers.{Registers}
 use Rattle.ed_page.proofs.Goes.{stays}
 
@@ -89,10 +89,10 @@ begins_on wanted Ends text before after answer first limit resumes rows run show
     (subst (λ (r : RunEnd). Pictures r.state after.words after.digits after.registers) from_first pictures)
 
 -- a run on a fresh paper with this room
-pub gone_of : (limit resumes room : ℕ) (m : State) (sheet full : Sheet) (gone : Gone)
+pub gone_of : (limit resumes room : ℕ) (m : State) (sheet full : Sheet) (gone : FinishedRun)
     → sheet ≡ record { codes = []; room = room }
     → IsLeft (run_end limit resumes (sheet.room - length sheet.codes) m) sheet gone.ending gone.machine full
-    → gone.paper.codes ≡ full.codes → IsGone (run_end limit resumes room m) gone
+    → gone.paper.codes ≡ full.codes → IsRan (run_end limit resumes room m) gone
 gone_of limit resumes room m sheet full gone fresh left codes =
     let whole : room - 0 ≡ room = omega arith in
     let same : run_end limit resumes (room - 0) m ≡ run_end limit resumes room m = ap (λ n. run_end limit resumes n m) whole in

@@ -33,14 +33,15 @@ use Rattle.ed_notation.specs.Fold.{with_kay, with_letter, with_zed, word_with}
 use Rattle.ed_notation.specs.Items.{AreDigits, Begun, IsBegun, IsWritten, Written, digits_number, ends, item, mark_rows}
 use Rattle.ed_notation.specs.Items.{row_kind, rows_of, spelled_rows}
 use Rattle.ed_notation.specs.Spellings.{AreWritten}
-use Rattle.ed_page.specs.TapeItems.{PlacingLaw, item_line, item_table, placing, placing_by, tape_table, with_placing}
+use Rattle.ed_page.specs.TapeItems.{IsItemsOutcome, PlacingLaw, item_line, item_table, placing, placing_by, tape_table, with_placing}
 use Rattle.ed_page.specs.Private.ItemTables.{IsSetBelow, cells_with, first_notation, is_last_row, item_at, notation_after, note_over}
 use Rattle.ed_page.specs.Private.ItemTables.{placing_over}
 use Rattle.ed_page.specs.Private.ItemTables.{table_on, whole_item, opened_with}
 use Rattle.ed_page.specs.declared.items.Notation.{Notation}
 use Rattle.ed_page.specs.declared.items.OpenItem.{OpenItem}
-use Rattle.ed_page.specs.declared.told.Told.{Told}
-use Rattle.ed_page.specs.Private.Stages.{AreItemsOf, HoldsOutcome, HasEntryRows}
+use Rattle.ed_answers.specs.Replies.{Gives}
+use Rattle.ed_answers.specs.declared.reply.Reply.{Reply}
+use Rattle.ed_page.specs.Private.Stages.{IsReplied, HasEntryRows}
 
 -- ---- what the fold places
 
@@ -326,9 +327,9 @@ AreWritten-append [] ws a b = b
 AreWritten-append (v ∷ vs) ws a b = (a.0, AreWritten-append vs ws a.1 b)
 
 -- what is answered to a well-formed tape
-pub entered_told : (z : Size) {codes : List ℕ} {count : ℕ} {told : Told} → HasEntryRows z codes (Ok count)
-    → HoldsOutcome told (done (table_on 0 first_notation None (take count codes))) → AreItemsOf z codes (Ok told)
-entered_told z {codes} {count} {told} (r, f, many) tells =
+pub entered_told : (z : Size) {codes : List ℕ} {count : ℕ} {reply : Reply} → HasEntryRows z codes (Ok count)
+    → Gives reply (done (table_on 0 first_notation None (take count codes))) → IsReplied (IsItemsOutcome z) codes reply
+entered_told z {codes} {count} {reply} (r, f, many) tells =
     let ws = f.comes.before in
     let last = f.comes.last in
     let all = ws ++ (last ∷ []) in
@@ -348,19 +349,19 @@ entered_told z {codes} {count} {told} (r, f, many) tells =
     tt in (
       done (tape_table all),
       inl (record { well = f.well; entry = f.entry; comes = f.comes; outcome = refl }),
-      subst (λ (out : List ℕ). HoldsOutcome told (done out)) same tells,
+      subst (λ (out : List ℕ). Gives reply (done out)) same tells,
     )
 
 -- what is answered to a tape with a fault
-pub fault_told : (z : Size) {codes : List ℕ} {row : ℕ} {cause : TapeCause} {told : Told}
+pub fault_told : (z : Size) {codes : List ℕ} {row : ℕ} {cause : TapeCause} {reply : Reply}
     → IsFault z cleared_cells.words first_note codes row cause
-    → HoldsOutcome told (record {
+    → Gives reply (record {
       out = table_on 0 first_notation None (take row codes);
       note = rule_line row cause;
       status = 3;
     })
-    → AreItemsOf z codes (Ok told)
-fault_told z {codes} {row} {cause} {told} f tells =
+    → IsReplied (IsItemsOutcome z) codes reply
+fault_told z {codes} {row} {cause} {reply} f tells =
     let s = f.is.stands in
     let ws = s.before in
     let read = spelled_rows ws ++ part_rows s.part in
@@ -374,7 +375,7 @@ fault_told z {codes} {row} {cause} {told} f tells =
     let outcome : List ℕ → Outcome = λ (out : List ℕ). record { out = out; note = rule_line row cause; status = 3 } in (
       outcome (tape_table ws),
       inr (record { row = row; cause = cause; fault = f; outcome = refl }),
-      subst (λ (out : List ℕ). HoldsOutcome told (outcome out)) same tells,
+      subst (λ (out : List ℕ). Gives reply (outcome out)) same tells,
     )
 
 -- ---- the turns of the loop

@@ -1,6 +1,6 @@
+mod Endings
 mod Replies
 mod Copied
-mod Endings
 mod Written
 mod TapeRows
 mod Goes
@@ -11,3 +11,4 @@ mod RowCodes
 mod Stores
 mod ItemRows
 mod FirstItemRows
+mod Outcomes

@@ -1,10 +1,10 @@
--- From the texts and the picture for a text to what the program answers.
-use Rattle.std.proofs.Common.{◌≡◌, ◌∙◌, ◌<◌, ◌≤◌, ℕ, inl, inr, refl, sym, ap}
-use Rattle.std.proofs.Common.{subst, arith, rules, tests, nat_lt, Bool, true, false, Some, None, List, []}
+-- From the answer to the rows or the lines of a text to that to the text.
+use Rattle.std.proofs.Common.{◌≡◌, ◌∙◌, ◌++◌, ◌<◌, ◌≤◌, ℕ, inl, inr, refl, sym, ap}
+use Rattle.std.proofs.Common.{subst, rules, tests, nat_lt, Bool, true, false, Some, List, []}
 use Rattle.std.proofs.Common.{length}
-use Rattle.std.specs.Prelude.{Result, Ok, Err, IfOk}
+use Rattle.std.specs.Prelude.{Result, Ok, Err, IsErr, IsErrAnd}
+use Rattle.std.proofs.lemmas.Result.{err_from_is_err_and}
 use Rattle.ed_words.specs.declared.size.Size.{Size}
-use Rattle.ed_words.specs.declared.memory.NoMemory.{NoMemory}
 use Rattle.ed_codes.specs.Reading.{Reading, rows, no_row, open_comment, reading}
 use Rattle.ed_machine.specs.State.{State}
 use Rattle.ed_lines.specs.declared.program.Line.{Line}
@@ -13,26 +13,24 @@ use Rattle.ed_link.specs.Answers.{IsLinked}
 use Rattle.ed_loads.proofs.EachSource.{one_answer}
 use Rattle.ed_link.specs.Tapes.{tape}
 use Rattle.ed_link.specs.declared.linked.Linked.{Linked}
-use Rattle.ed_report.specs.Notes.{source_fault_line}
+use Rattle.ed_report.specs.Notes.{ending_line, source_fault_line}
 use Rattle.ed_command.specs.declared.command.Settings.{Settings}
 use Rattle.ed_answers.specs.declared.input.TheConstants.{INPUT_BYTES}
-use Rattle.ed_answers.specs.Answer.{OfReading, exactly, of_input, of_rows}
+use Rattle.ed_answers.specs.Answer.{OfReading, exactly, of_input}
 use Rattle.ed_words.specs.Texts.{Text}
-use Rattle.ed_answers.specs.Outcome.{Outcome, refusal, too_long_outcome}
-use Rattle.ed_answers.specs.Runs.{run_of}
-use Rattle.ed_answers.specs.Sources.{of_source, run_outcome}
-use Rattle.ed_answers.proofs.Sources.{accepted_is}
-use Rattle.ed_run.specs.Run.{RunEnd}
-use Rattle.ed_page.specs.Answers.{RowsEnd, SourceEnds}
-use Rattle.ed_page.specs.TapeItems.{IsItemsOutcome, IsItemsOutcome1, items1_answer, items_answer}
-use Rattle.ed_page.specs.Private.Stages.{AreItemsOf, AreItemsOf1, Draws, HoldsOutcome, IsRunOf, IsAnswered, KeepsText}
-use Rattle.ed_page.specs.Private.Stages.{HoldsAnswer, HoldsRejection}
-use Rattle.ed_answers.specs.Replies.{LinksSource, RefusesText, Replies}
+use Rattle.ed_answers.specs.Outcome.{Outcome, refusal}
+use Rattle.ed_answers.specs.Replies.{Gives, IsRan, IsRanOf, LinksSource, RefusesText, Replies}
+use Rattle.ed_answers.specs.Runs.{run_of, ran_outcome}
+use Rattle.ed_answers.specs.Sources.{OfSource, entered_before, run_outcome}
 use Rattle.ed_answers.specs.declared.reply.Rejection.{Rejection}
 use Rattle.ed_answers.specs.declared.reply.Rejection.TheVariants.{Memory, Refused}
 use Rattle.ed_answers.specs.declared.reply.Reply.{Reply}
-use Rattle.ed_page.specs.declared.running.Shown.{Shown}
-use Rattle.ed_page.specs.declared.told.Told.{Told}
+use Rattle.ed_answers.specs.declared.running.FinishedRun.{FinishedRun}
+use Rattle.ed_answers.specs.declared.source.NotedRun.{NotedRun}
+use Rattle.ed_run.specs.Run.{RunEnd}
+use Rattle.ed_page.specs.Answers.{RowsEnd, SourceEnds}
+use Rattle.ed_page.specs.Private.Stages.{IsAnswered, IsNoted, IsReplied, Runs}
+use Rattle.ed_page.proofs.Endings.{noted_run}
 
 -- ---- a text that is too long
 
@@ -45,74 +43,52 @@ pub not_long : (text : Text) (long : Bool) → long ≡ nat_lt INPUT_BYTES (leng
     → length text ≤ INPUT_BYTES
 not_long text long is shorter = search (tests, rules)
 
-pub long_replied : (answers : Text → Outcome → Type 0) (text : Text) (r : Result Told NoMemory) → INPUT_BYTES < length text
-    → IfOk r (λ told. HoldsOutcome told too_long_outcome) → IsAnswered (of_input answers) text r
-long_replied answers text (Ok told) long gives = (too_long_outcome, inr (long, refl), gives)
-long_replied answers text (Err e) long gives = tt
-
-pub long_drawn : (answers : Text → Outcome → Type 0) (Ends : Text → State → Type 0) (text : Text) (told : Told)
-    → INPUT_BYTES < length text
-    → HoldsOutcome told too_long_outcome
-    → Draws (of_input answers) Ends text (Ok (record { told = told; machine = None }))
-long_drawn answers Ends text told long gives = (
-  too_long_outcome,
-  inr (long, refl),
-  gives,
-  record { some = λ few m ends. absurd (omega (arith, few, long)); none = λ nothing. refl },
-)
+-- what `?` passes on
+passed : {T : Type 0} (P : Result T Rejection → Type 0) (e : Rejection) (r : Result T Rejection) → P (Err e)
+    → IsErr r × IsErrAnd r (λ handed. handed ≡ e) → P r
+passed P e r is handed =
+    let p = err_from_is_err_and r handed.1 in
+    subst P (sym (p.1 ∙ ap (λ (x : Rejection). Err x) p.2)) is
 
 -- ---- a tape's text
 
-at_reading : (f : List ℕ → Outcome) (r : Reading) (codes : List ℕ) → r ≡ rows codes → OfReading (exactly f) r (f codes)
-at_reading f r codes is = subst (λ (q : Reading). OfReading (exactly f) q (f codes)) (sym is) refl
+abbrev pub OfRows : (List ℕ → Outcome → Type 0) → Text → Outcome → Type 0
+OfRows answers text = OfReading answers (reading text)
 
-pub rows_replied : (f : List ℕ → Outcome) (text : Text) (codes : List ℕ) (r : Result Told NoMemory)
-    → length text ≤ INPUT_BYTES
-    → reading text ≡ rows codes → IfOk r (λ told. HoldsOutcome told (f codes)) → IsAnswered (of_rows (exactly f)) text r
-rows_replied f text codes (Ok told) few is gives = (f codes, inl (few, at_reading f (reading text) codes is), gives)
-rows_replied f text codes (Err e) few is gives = tt
+at_rows : (answers : List ℕ → Outcome → Type 0) {q : Reading} {codes : List ℕ} {o : Outcome} → q ≡ rows codes
+    → answers codes o → OfReading answers q o
+at_rows answers {o = o} is a = subst (λ (r : Reading). OfReading answers r o) (sym is) a
 
--- a text that is too long to be read
-pub tape_long : (answers : List ℕ → Outcome → Type 0) (text : Text) (r : Result Told NoMemory)
-    → INPUT_BYTES < length text → IfOk r (λ told. HoldsOutcome told too_long_outcome)
-    → IsAnswered (of_rows answers) text r
-tape_long answers text r long gives = long_replied (λ x. OfReading answers (reading x)) text r long gives
+of_codes : (answers : List ℕ → Outcome → Type 0) (text : Text) {codes : List ℕ} {reply : Reply}
+    → reading text ≡ rows codes → IsReplied answers codes reply → IsReplied (OfRows answers) text reply
+of_codes answers text is r = (r.0, at_rows answers is r.1, r.2)
 
--- a text that is refused
-refused_told : (answers : List ℕ → Outcome → Type 0) (q : Reading) (reply : Reply) (told : Told)
-    → RefusesText q (Refused reply)
-    → KeepsText reply told → (o : Outcome) × OfReading answers q o × HoldsOutcome told o
-refused_told answers (rows codes) reply told refuses tells = absurd refuses
-refused_told answers (no_row place byte) reply told refuses tells = (_, refl, tells _ refuses)
-refused_told answers (open_comment place) reply told refuses tells = (_, refl, tells _ refuses)
+-- the answer to its rows
+pub rows_answered : (answers : List ℕ → Outcome → Type 0) (text : Text) {codes seen : List ℕ}
+    (r : Result Reply Rejection) → reading text ≡ rows codes → seen ≡ codes → IsAnswered answers seen r
+    → IsAnswered (OfRows answers) text r
+rows_answered answers text (Ok reply) is same a =
+    of_codes answers text is (subst (λ (x : List ℕ). IsReplied answers x reply) same a)
+rows_answered answers text (Err (Refused reply)) is same a =
+    of_codes answers text is (subst (λ (x : List ℕ). IsReplied answers x reply) same a)
+rows_answered answers text (Err Memory) is same a = tt
 
-pub tape_refused : (answers : List ℕ → Outcome → Type 0) (text : Text) (e : Rejection) (r : Result Told NoMemory)
-    → length text ≤ INPUT_BYTES → RefusesText (reading text) e → HoldsRejection e r
-    → IsAnswered (of_rows answers) text r
-tape_refused answers text (Refused reply) (Ok told) few refuses tells =
-    let o = refused_told answers (reading text) reply told refuses tells in (o.0, inl (few, o.1), o.2)
-tape_refused answers text Memory (Ok told) few refuses tells = absurd tells
-tape_refused answers text e (Err none) few refuses tells = tt
+-- its refusal
+refused_at : (answers : List ℕ → Outcome → Type 0) (q : Reading) (reply : Reply) → RefusesText q (Refused reply)
+    → (o : Outcome) × OfReading answers q o × Gives reply o
+refused_at answers (rows codes) reply refuses = absurd refuses
+refused_at answers (no_row place byte) reply refuses = (_, refl, refuses)
+refused_at answers (open_comment place) reply refuses = (_, refl, refuses)
 
--- the items of a tape's rows are written
-pub items_told : (z : Size) (text : Text) (codes : List ℕ) (r : Result Told NoMemory) → length text ≤ INPUT_BYTES
-    → reading text ≡ rows codes → AreItemsOf z codes r → IsAnswered (items_answer z) text r
-items_told z text codes (Ok told) few is t = (
-  t.0,
-  inl (few, subst (λ (q : Reading). OfReading (IsItemsOutcome z) q t.0) (sym is) t.1),
-  t.2,
-)
-items_told z text codes (Err e) few is t = tt
+refused_rows : (answers : List ℕ → Outcome → Type 0) (text : Text) (e : Rejection) → RefusesText (reading text) e
+    → IsAnswered (OfRows answers) text (Err e)
+refused_rows answers text (Refused reply) refuses = refused_at answers (reading text) reply refuses
+refused_rows answers text Memory refuses = tt
 
--- and those of May 1949
-pub items1_told : (text : Text) (codes : List ℕ) (r : Result Told NoMemory) → length text ≤ INPUT_BYTES
-    → reading text ≡ rows codes → AreItemsOf1 codes r → IsAnswered items1_answer text r
-items1_told text codes (Ok told) few is t = (
-  t.0,
-  inl (few, subst (λ (q : Reading). OfReading IsItemsOutcome1 q t.0) (sym is) t.1),
-  t.2,
-)
-items1_told text codes (Err e) few is t = tt
+pub rows_refused : (answers : List ℕ → Outcome → Type 0) (text : Text) (e : Rejection) (r : Result Reply Rejection)
+    → RefusesText (reading text) e → IsErr r × IsErrAnd r (λ handed. handed ≡ e) → IsAnswered (OfRows answers) text r
+rows_refused answers text e r refuses handed =
+    passed (IsAnswered (OfRows answers) text) e r (refused_rows answers text e refuses) handed
 
 codes_of : Reading → List ℕ
 codes_of (rows codes) = codes
@@ -123,101 +99,112 @@ same_codes : (r : Reading) (codes others : List ℕ) → r ≡ rows codes → r 
 unfolding codes_of
 same_codes r codes others is same = ap codes_of (sym is ∙ same)
 
-pub tape_drawn : (outcome : List ℕ → Outcome) (run : List ℕ → RunEnd) (text : Text) (codes : List ℕ)
-    (r : Result Shown NoMemory) → length text ≤ INPUT_BYTES
-    → reading text ≡ rows codes → IfOk r (IsRunOf (outcome codes) (run codes))
-    → Draws (of_rows (exactly outcome)) (RowsEnd run) text r
-tape_drawn outcome run text codes (Ok shown) few is ran = (
-  outcome codes,
-  inl (few, at_reading outcome (reading text) codes is),
-  ran.told,
+-- the run of its rows
+pub rows_run : (outcome : List ℕ → Outcome) (run : List ℕ → RunEnd) (text : Text) {codes : List ℕ} {ran : FinishedRun}
+    (r : Result NotedRun Rejection) → reading text ≡ rows codes → outcome codes ≡ ran_outcome [] (run codes)
+    → IsRan (run codes) ran → IsNoted ran r
+    → Runs (OfRows (exactly outcome)) (RowsEnd run) text r
+rows_run outcome run text {codes} {ran} (Ok noted) is gives of noted_is = (
+  at_rows (exactly outcome) is (gives ∙ sym (noted_run [] noted (subst (IsRan (run codes)) (sym noted_is.0) of) line)),
   record {
-    some = λ few m ends.
-        ran.machine
+    some = λ m ends.
+        (λ i. Some (noted_is.0 i).machine) ∙ ap (λ (s : State). Some s) of.state_is
         ∙ ap (λ (xs : List ℕ). Some (run xs).state) (same_codes (reading text) codes ends.0 is ends.1)
         ∙ ap (λ (t : State). Some t) (sym ends.2);
-    none = λ nothing. absurd (nothing (run codes).state few (codes, is, refl));
+    none = λ nothing. absurd (nothing (run codes).state (codes, is, refl));
   },
 )
-tape_drawn outcome run text codes (Err e) few is ran = tt
+  where
+    line : noted.note.items ≡ ending_line noted.ran.ending noted.ran.machine
+    line = noted_is.1 ∙ (λ i. ending_line (sym noted_is.0 i).ending (sym noted_is.0 i).machine)
+rows_run outcome run text (Err (Refused reply)) is gives of noted_is = absurd noted_is
+rows_run outcome run text (Err Memory) is gives of noted_is = tt
 
-pub tape_refusal_drawn : (outcome : List ℕ → Outcome) (run : List ℕ → RunEnd) (text : Text) (e : Rejection)
-    (told : Told) → length text ≤ INPUT_BYTES
-    → RefusesText (reading text) e → HoldsRejection e (Ok told)
-    → Draws (of_rows (exactly outcome)) (RowsEnd run) text (Ok (record { told = told; machine = None }))
-tape_refusal_drawn outcome run text Memory told few refuses tells = absurd tells
-tape_refusal_drawn outcome run text (Refused reply) told few refuses tells =
-    let o = refused_told (exactly outcome) (reading text) reply told refuses tells in (
-      o.0,
-      inl (few, o.1),
-      o.2,
-      record {
-        some = λ few m ends. absurd (subst (λ (q : Reading). RefusesText q (Refused reply)) ends.1 refuses);
-        none = λ nothing. refl;
-      },
-    )
-
--- ---- a source
-
-pub linked_replied : (z : Size) (f : List Line → Outcome) (text : Text) (k : Linked) (r : Result Told NoMemory)
-    → length text ≤ INPUT_BYTES
-    → LinksSource z text (Ok k)
-    → IfOk r (λ told. (lines : List Line) → IsLinked z lines k → HoldsOutcome told (f lines))
-    → IsAnswered (of_source z f) text r
-linked_replied z f text k (Ok told) few l gives =
-    (f l.0, inl (few, accepted_is z f text l.0 l.1), gives l.0 l.2)
-linked_replied z f text k (Err e) few l gives = tt
-
-pub source_refused : (z : Size) (f : List Line → Outcome) (text : Text) (e : Rejection) (r : Result Told NoMemory)
-    → length text ≤ INPUT_BYTES → LinksSource z text (Err e) → HoldsRejection e r → IsAnswered (of_source z f) text r
-source_refused z f text (Refused reply) (Ok told) few l tells =
-    (refusal (source_fault_line (At l.0 l.1)), inl (few, inl (l.0, l.1, l.2, refl)), tells _ l.3)
-source_refused z f text Memory (Ok told) few l tells = absurd tells
-source_refused z f text e (Err none) few l tells = tt
-
--- the texts are what the program answers to a text
-pub answer_told : (answers : Text → Outcome → Type 0) (text : Text) (a : Result Reply Rejection)
-    (r : Result Told NoMemory) → length text ≤ INPUT_BYTES → Replies (of_input answers) text a → HoldsAnswer a r
-    → IsAnswered (of_input answers) text r
-answer_told answers text (Ok reply) (Ok told) few is tells = (is.0, inl (few, is.1), tells is.0 is.2)
-answer_told answers text (Ok reply) (Err e) few is tells = absurd tells
-answer_told answers text (Err (Refused reply)) (Ok told) few is tells = (is.0, inl (few, is.1), tells is.0 is.2)
-answer_told answers text (Err (Refused reply)) (Err e) few is tells = absurd tells
-answer_told answers text (Err Memory) (Ok told) few is tells = absurd tells
-answer_told answers text (Err Memory) (Err e) few is tells = tt
-
-pub source_drawn : (s : Settings) (text : Text) (k : Linked) (r : Result Shown NoMemory) → length text ≤ INPUT_BYTES
-    → LinksSource s.size text (Ok k)
-    → IfOk r (λ shown. (lines : List Line) → IsLinked s.size lines k
-    → IsRunOf (run_outcome s lines) (run_of s (tape lines)) shown)
-    → Draws (of_source s.size (run_outcome s)) (SourceEnds s) text r
-source_drawn s text k (Ok shown) few l ran =
-    let is = ran l.0 l.2 in (
-      run_outcome s l.0,
-      inl (few, accepted_is s.size (run_outcome s) text l.0 l.1),
-      is.told,
-      record {
-        some = λ few m ends.
-            is.machine
-            ∙ ap (λ (lines : List Line). Some (run_of s (tape lines)).state)
-            (one_answer.one_program s.size text l.0 ends.0 l.1 ends.1)
-            ∙ ap (λ (t : State). Some t) (sym ends.2);
-        none = λ nothing. absurd (nothing (run_of s (tape l.0)).state few (l.0, l.1, refl));
-      },
-    )
-source_drawn s text k (Err e) few l ran = tt
-
--- a source that is refused is not accepted, so that no run of it ends
-pub source_refusal_drawn : (s : Settings) (text : Text) (e : Rejection) (told : Told) → length text ≤ INPUT_BYTES
-    → LinksSource s.size text (Err e) → HoldsRejection e (Ok told)
-    → Draws (of_source s.size (run_outcome s)) (SourceEnds s) text (Ok (record { told = told; machine = None }))
-source_refusal_drawn s text Memory told few l tells = absurd tells
-source_refusal_drawn s text (Refused reply) told few l tells = (
-  refusal (source_fault_line (At l.0 l.1)),
-  inl (few, inl (l.0, l.1, l.2, refl)),
-  tells _ l.3,
+-- no run of a text that is refused
+not_run : (outcome : List ℕ → Outcome) (run : List ℕ → RunEnd) (text : Text) (e : Rejection)
+    → RefusesText (reading text) e → Runs (OfRows (exactly outcome)) (RowsEnd run) text (Err e)
+not_run outcome run text Memory refuses = tt
+not_run outcome run text (Refused reply) refuses = (
+  refused_at (exactly outcome) (reading text) reply refuses,
   record {
-    some = λ few m ends. absurd (one_answer.never_both s.size text ends.0 l.0 l.1 ends.1 l.2);
+    some = λ m ends. absurd (subst (λ (q : Reading). RefusesText q (Refused reply)) ends.1 refuses);
     none = λ nothing. refl;
   },
 )
+
+pub rows_not_run : (outcome : List ℕ → Outcome) (run : List ℕ → RunEnd) (text : Text) (e : Rejection)
+    (r : Result NotedRun Rejection) → RefusesText (reading text) e → IsErr r × IsErrAnd r (λ handed. handed ≡ e)
+    → Runs (OfRows (exactly outcome)) (RowsEnd run) text r
+rows_not_run outcome run text e r refuses handed =
+    passed (Runs (OfRows (exactly outcome)) (RowsEnd run) text) e r (not_run outcome run text e refuses) handed
+
+-- ---- a source
+
+refused_source : (z : Size) (f : List Line → Outcome) (text : Text) (reply : Reply)
+    → LinksSource z text (Err (Refused reply)) → IsReplied (OfSource z f) text reply
+refused_source z f text reply l = (refusal (source_fault_line (At l.0 l.1)), inl (l.0, l.1, l.2, refl), l.3)
+
+-- its refusal
+refused_lines : (z : Size) (f : List Line → Outcome) (text : Text) (e : Rejection) → LinksSource z text (Err e)
+    → IsAnswered (OfSource z f) text (Err e)
+refused_lines z f text (Refused reply) l = refused_source z f text reply l
+refused_lines z f text Memory l = tt
+
+pub source_refused : (z : Size) (f : List Line → Outcome) (text : Text) (e : Rejection) (r : Result Reply Rejection)
+    → LinksSource z text (Err e) → IsErr r × IsErrAnd r (λ handed. handed ≡ e) → IsAnswered (OfSource z f) text r
+source_refused z f text e r l handed = passed (IsAnswered (OfSource z f) text) e r (refused_lines z f text e l) handed
+
+-- the program's reply
+pub replied : (answers : Text → Outcome → Type 0) (text : Text) (r : Result Reply Rejection)
+    → Replies (of_input answers) text r → IsAnswered answers text r
+replied answers text (Ok reply) is = is
+replied answers text (Err (Refused reply)) is = is
+replied answers text (Err Memory) is = tt
+
+-- the run of its tape
+pub source_run : (s : Settings) (text : Text) {k : Linked} {noted : NotedRun} → LinksSource s.size text (Ok k)
+    → ((lines : List Line) → run_outcome s lines
+    ≡ ran_outcome (entered_before lines (run_of s (tape lines)).state) (run_of s (tape lines)))
+    → ((lines : List Line) → IsLinked s.size lines k → IsRanOf s lines noted)
+    → Runs (OfSource s.size (run_outcome s)) (SourceEnds s) text (Ok noted)
+source_run s text {noted = noted} l plain ran =
+    let is = ran l.0 l.2 in
+    let state = (λ (lines : List Line). (run_of s (tape lines)).state) in
+    let line : noted.note.items
+    ≡ entered_before l.0 (state l.0) ++ ending_line noted.ran.ending noted.ran.machine =
+    is.note_is
+    ∙ ap (λ (m : State). entered_before l.0 m ++ ending_line noted.ran.ending noted.ran.machine) is.ran.state_is in (
+      inr (l.0, l.1, plain l.0 ∙ sym (noted_run (entered_before l.0 (state l.0)) noted is.ran line)),
+      record {
+        some = λ m ends.
+            ap (λ (t : State). Some t) is.ran.state_is
+            ∙ ap (λ (lines : List Line). Some (state lines))
+            (one_answer.one_program s.size text l.0 ends.0 l.1 ends.1)
+            ∙ ap (λ (t : State). Some t) (sym ends.2);
+        none = λ nothing. absurd (nothing (state l.0) (l.0, l.1, refl));
+      },
+    )
+
+-- a source that is refused is not accepted, so that no run of it ends
+not_accepted : (s : Settings) (text : Text) (e : Rejection) → LinksSource s.size text (Err e)
+    → Runs (OfSource s.size (run_outcome s)) (SourceEnds s) text (Err e)
+not_accepted s text Memory l = tt
+not_accepted s text (Refused reply) l = (
+  refused_source s.size (run_outcome s) text reply l,
+  record {
+    some = λ m ends. absurd (one_answer.never_both s.size text ends.0 l.0 l.1 ends.1 l.2);
+    none = λ nothing. refl;
+  },
+)
+
+pub source_not_run : (s : Settings) (text : Text) (e : Rejection) (r : Result NotedRun Rejection)
+    → LinksSource s.size text (Err e) → IsErr r × IsErrAnd r (λ handed. handed ≡ e)
+    → Runs (OfSource s.size (run_outcome s)) (SourceEnds s) text r
+source_not_run s text e r l handed =
+    passed (Runs (OfSource s.size (run_outcome s)) (SourceEnds s) text) e r (not_accepted s text e l) handed
+
+-- ---- no memory
+
+pub none_answered : (answers : Text → Outcome → Type 0) (text : Text) (r : Result Reply Rejection)
+    → IsErr r × IsErrAnd r (λ handed. handed ≡ Memory) → IsAnswered answers text r
+none_answered answers text r handed = passed (IsAnswered answers text) Memory r tt handed

@@ -1,6 +1,5 @@
 -- The rows that a text spells, and those of the tape of a source, are codes.
-use Rattle.std.proofs.Common.{◌≡◌, ℕ, ◌≤◌, arith, List, ◌++◌, take, length}
-use Rattle.std.proofs.lemmas.List.{length-take}
+use Rattle.std.proofs.Common.{◌≡◌, ℕ, List, ◌++◌}
 use Rattle.ed_words.specs.Texts.{Text}
 use Rattle.ed_words.specs.declared.size.Size.{Size}
 use Rattle.ed_codes.specs.Reading.{reading, rows}
@@ -21,7 +20,3 @@ pub source_codes : (z : Size) (text : Text) (lines : List Line) → IsAcceptedAs
 source_codes z text lines accepted =
     read_codes (text_of (canonicals (punched_items lines)) ++ after_text (data_after lines)) (tape lines)
     (text_is_tape z text lines accepted)
-
--- the first rows are no more than all
-pub first_within : (n most : ℕ) (codes : List ℕ) → length codes ≤ most → length (take n codes) ≤ most
-first_within n most codes few = omega (arith, few, length-take n codes)

@@ -1,152 +1,202 @@
 -- From what was written into buffers to the cause of an answer.
-use Rattle.std.proofs.Common.{◌≡◌, ◌≢◌, ◌⊎◌, ◌∙◌, ◌<◌, ◌≤◌, ℕ, true≢false, inl, inr, refl, subst, sym, arith}
-use Rattle.std.proofs.Common.{Option, None, List, length}
+use Rattle.std.proofs.Common.{◌≡◌, ◌≢◌, ◌⊎◌, ◌∙◌, ◌<◌, ◌≤◌, ℕ, inl, inr, refl, subst, arith}
+use Rattle.std.proofs.Common.{Option, Some, None, List, length}
 use Rattle.std.proofs.lemmas.Bool.{cases_lt}
-use Rattle.std.specs.Prelude.{◌↔◌, IfSome, IsTrue, Result, Ok, Err, Bool, false}
-use Rattle.ed_words.specs.declared.memory.NoMemory.{NoMemory}
+use Rattle.std.specs.Prelude.{IfSome}
 use Rattle.ed_machine.specs.State.{State}
 use Rattle.ed_words.specs.Texts.{Text}
+use Rattle.ed_answers.specs.declared.input.TheConstants.{INPUT_BYTES}
+use Rattle.ed_answers.specs.declared.reply.Reply.{Reply}
 use Rattle.ed_answers.specs.Outcome.{Outcome, too_long, too_long_outcome}
-use Rattle.ed_answers.specs.Answer.{Answer, HasOneOutcome, IsDue, of_input}
-use Rattle.ed_page.specs.Answers.{Buffers, HasBufferRoom, HasPictureRoom, IsShown, IsTextWritten, LacksLine, LacksRoom}
-use Rattle.ed_page.specs.Answers.{ShowsNone, HoldsText, TextBuffers}
+use Rattle.ed_answers.specs.Answer.{IsDue, of_input}
+use Rattle.ed_answers.specs.Replies.{Gives}
+use Rattle.ed_page.specs.Answers.{Buffers, HasBufferRoom, HasItsCause, HasPictureRoom, IsShown, IsTextWritten}
+use Rattle.ed_page.specs.Answers.{LacksLine, LacksRoom, ShowsNone, TextBuffers, picture_buffers, text_buffers}
 use Rattle.ed_page.specs.Pictures.{Pictures}
-use Rattle.ed_page.specs.Private.Stages.{Draws, HoldsOutcome, IsAnswered, IsToldWritten, IsWrittenOut}
-use Rattle.ed_page.specs.Private.Stages.{WritesBuffers}
-use Rattle.ed_page.specs.declared.running.Shown.{Shown}
-use Rattle.ed_page.specs.declared.told.Told.{Told}
-
--- the buffers of two texts have room if they have it for the texts written
-has_room : (o : Outcome) (told : Told) (out note : List ℕ) → HoldsOutcome told o → length told.out.items ≤ length out
-    → length told.note.items ≤ length note → HasBufferRoom o out note
-has_room o told out note g out_fits note_fits = record {
-  out_fits = subst (λ (t : Text). length t ≤ length out) g.out_is out_fits;
-  note_fits = subst (λ (t : Text). length t ≤ length note) g.note_is note_fits;
-}
-
--- and only then
-told_room : (o : Outcome) (told : Told) (out note : List ℕ) → HoldsOutcome told o → HasBufferRoom o out note
-    → (length told.out.items ≤ length out) × (length told.note.items ≤ length note)
-told_room o told out note g room = (
-  subst (λ (t : Text). length t ≤ length out) (sym g.out_is) room.out_fits,
-  subst (λ (t : Text). length t ≤ length note) (sym g.note_is) room.note_fits,
-)
-
--- a test that failed refutes what it says
-pub refuted : {P : Type 0} (b : Bool) → b ≡ false → (IsTrue b ↔ P) → P → ⊥
-refuted b e test p = true≢false (sym (test.1 p) ∙ e)
+use Rattle.ed_page.specs.Private.Stages.{AreTextsWritten, IsPicture, IsReplied, IsWrittenOut}
+use Rattle.ed_page.specs.Private.Stages.{WritesBuffers, told_outcome}
+use Rattle.ed_page.specs.declared.writing.Lengths.{Lengths}
+use Rattle.ed_page.specs.declared.writing.Registers.{Registers}
 
 same_number : (m n : ℕ) → ((m ≢ n) → ⊥) → (m < n) ⊎ (n ≤ m) → (n < m) ⊎ (m ≤ n) → m ≡ n
 same_number m n h (inl less) other = absurd (h (λ e. omega (arith, less, e)))
 same_number m n h (inr most) (inl less) = absurd (h (λ e. omega (arith, less, e)))
 same_number m n h (inr most) (inr least) = omega (arith, most, least)
 
--- the buffers of the store have their lengths if no test of them failed
-pub store_lengths : {P : Type 0} (words digits : List ℕ)
-    → ((length words ≢ 1024) ⊎ ((length digits ≢ 512) ⊎ P) → ⊥) → (length words ≡ 1024) × (length digits ≡ 512)
-store_lengths words digits none = (
-  same_number _ _ (λ no. none (inl no)) (cases_lt (length words) 1024) (cases_lt 1024 (length words)),
-  same_number _ _ (λ no. none (inr (inl no))) (cases_lt (length digits) 512) (cases_lt 512 (length digits)),
-)
-
 twelve : ◌≢◌ {A = ℕ} 12 10
 twelve e = cc
 
--- the texts were written
-pub told_written : (o : Outcome) (told : Told) (before after : TextBuffers) → HoldsOutcome told o
-    → length told.out.items ≤ length before.out
-    → length told.note.items ≤ length before.note
-    → HoldsText o before.out before.note after.out after.note after.lengths.out after.lengths.note told.status
-    → IsWrittenOut o before after told.status
-told_written o told before after g out_fits note_fits t = (
-  g.found,
-  record {
-    no_room = λ e room. absurd (omega (arith, g.low, e));
-    kept = λ e. absurd (omega (arith, g.low, e));
-    shown = λ not12. (has_room o told before.out before.note g out_fits note_fits, t);
-  },
-)
+-- the status of a reply is not that of no memory, or of no room
+pub low_status : {reply : Reply} {o : Outcome} → Gives reply o → reply.status < 12
+low_status g = let low = g.low in omega (arith, low)
+
+pub found_status : {reply : Reply} {o : Outcome} → Gives reply o → reply.status ≢ 10
+found_status g e = let low = g.low in absurd (omega (arith, low, e))
+
+-- ---- two texts
+
+pub no_room : (o : Outcome) (out note : List ℕ) → (length out < length o.out) ⊎ ((length o.out ≤ length out)
+    × (length note < length o.note)) → HasBufferRoom o out note → ⊥
+no_room o out note (inl less) room = absurd (omega (arith, less, room.out_fits))
+no_room o out note (inr less) room = absurd (omega (arith, less.1, room.note_fits))
+
+-- they were written
+pub told_written : (o : Outcome) {out note out_after note_after : List ℕ} {kept l : Lengths} {wrote : Option Lengths}
+    → o.status < 12 → o.status ≢ 10 → wrote ≡ Some l → AreTextsWritten o out note out_after note_after wrote
+    → IsWrittenOut o (text_buffers out note kept) (text_buffers out_after note_after l) o.status
+told_written o {out} {note} {out_after} {note_after} {kept} {l} low found is w =
+    let t = subst (AreTextsWritten o out note out_after note_after) is w in (
+      found,
+      record {
+        no_room = λ e room. absurd (omega (arith, low, e));
+        kept = λ e. absurd (omega (arith, low, e));
+        shown = λ not12. t;
+      },
+    )
 
 -- there was no room
-pub told_nowhere : (o : Outcome) (told : Told) (before : TextBuffers) → HoldsOutcome told o
-    → ((length told.out.items ≤ length before.out) × (length told.note.items ≤ length before.note) → ⊥)
-    → IsWrittenOut o before before 12
-told_nowhere o told before g none = (
-  twelve,
-  record {
-    no_room = λ e room. none (told_room o told before.out before.note g room);
-    kept = λ e. refl;
-    shown = λ not12. absurd (not12 refl);
-  },
-)
-
--- a picture was written
-pub picture_written : {o : Outcome} {told : Told} {machine : Option State} {before after : Buffers}
-    → HoldsOutcome told o
-    → length before.words ≡ 1024 → length before.digits ≡ 512 → length told.out.items ≤ length before.paper
-    → length told.note.items ≤ length before.note
-    → HoldsText o before.paper before.note after.paper after.note after.registers.printed
-    after.registers.noted told.status
-    → IfSome machine (λ m. Pictures m after.words after.digits after.registers)
-    → (machine ≡ None → ShowsNone before after)
-    → WritesBuffers o machine before after told.status
-picture_written {o} {told} {before = before} g words digits out_fits note_fits t pictures none = (
-  g.found,
-  record {
-    no_room = λ e room. absurd (omega (arith, g.low, e));
-    kept = λ e. absurd (omega (arith, g.low, e));
-    shown = λ not12. (
+pub told_nowhere : (o : Outcome) {out note out_after note_after : List ℕ} {kept : Lengths} {wrote : Option Lengths}
+    → wrote ≡ None → AreTextsWritten o out note out_after note_after wrote
+    → IsWrittenOut o (text_buffers out note kept) (text_buffers out_after note_after kept) 12
+told_nowhere o {out} {note} {out_after} {note_after} {kept} is w =
+    let t = subst (AreTextsWritten o out note out_after note_after) is w in (
+      twelve,
       record {
-        words_are = words;
-        digits_are = digits;
-        texts = has_room o told before.paper before.note g out_fits note_fits;
+        no_room = λ e room. t.0 room;
+        kept = λ e. λ i. text_buffers (t.1 i) (t.2 i) kept;
+        shown = λ not12. absurd (not12 refl);
       },
-      record { told = t; state = pictures; none = none },
-    );
-  },
-)
+    )
 
--- there was no room for it
-pub picture_nowhere : (o : Outcome) (told : Told) (machine : Option State) (before : Buffers) → HoldsOutcome told o
-    → ((length told.out.items ≤ length before.paper) × (length told.note.items ≤ length before.note) → ⊥)
-    → WritesBuffers o machine before before 12
-picture_nowhere o told machine before g none = (
-  twelve,
-  record {
-    no_room = λ e room. none (told_room o told before.paper before.note g room.texts);
-    kept = λ e. refl;
-    shown = λ not12. absurd (not12 refl);
-  },
-)
+-- ---- a text
 
-pub picture_unmade : (wanted : Answer) (Ends : Text → State → Type 0) (text : Text) (before : Buffers)
-    → (LacksRoom text before → ⊥)
-    → IsShown wanted Ends text before before 10
-picture_unmade wanted Ends text before room = record {
-  memory = λ e. refl;
-  told = λ not10. absurd (not10 refl);
-  early = λ lacks. absurd (room lacks);
+-- what is told of a reply is the outcome that it gives
+reply_is : (o : Outcome) {reply : Reply} {answer line : Text} → Gives reply o → answer ≡ reply.out.items
+    → line ≡ reply.note.items → told_outcome answer line reply.status ≡ o
+reply_is o g out note =
+    λ i. record { out = (out ∙ g.out_is) i; note = (note ∙ g.note_is) i; status = g.status_is i }
+
+-- the line on a text that is too long has no room
+line_lacks : (out note : List ℕ) → length note < length too_long → HasBufferRoom too_long_outcome out note → ⊥
+line_lacks out note less room = absurd (omega (arith, less, room.note_fits))
+
+-- so the answer is 12
+early_long : {Kept Shown : Type 0} {out note : List ℕ} {answer : ℕ}
+    → HasItsCause (HasBufferRoom too_long_outcome out note) Kept Shown answer
+    → length note < length too_long → answer ≡ 12
+early_long {out = out} {note} {answer} is less =
+    same_number answer 12 (λ not12. line_lacks out note less (is.shown not12).0) (cases_lt answer 12) (cases_lt 12 answer)
+
+-- a text that is too long is told so
+pub long_written : (answers : Text → Outcome → Type 0) (text : Text) {before after : TextBuffers} {answer : ℕ}
+    → INPUT_BYTES < length text → IsWrittenOut too_long_outcome before after answer
+    → IsTextWritten (of_input answers) text before after answer
+long_written answers text long w = record {
+  memory = λ e. absurd (w.0 e);
+  told = λ not10. (too_long_outcome, inr (long, refl), w.1);
+  early = λ lacks. early_long w.1 lacks.1;
 }
 
--- there was no room, and no memory was needed to see it
-line_lacks : (answers : Text → Outcome → Type 0) (text : Text) (out note : List ℕ) → LacksLine text note → (o : Outcome)
-    → IsDue (of_input answers) text o → HasBufferRoom o out note → ⊥
-line_lacks answers text out note lacks o (inl due) room = absurd (omega (arith, due.0, lacks.0))
-line_lacks answers text out note lacks o (inr due) room =
-    let fits : length too_long ≤ length note =
-    subst (λ (x : Outcome). length x.note ≤ length note) (sym due.1) room.note_fits in
-    absurd (omega (arith, fits, lacks.1))
+-- a reply was written
+pub reply_written : (answers : Text → Outcome → Type 0) (text : Text) {reply : Reply} {answer line : Text}
+    {before after : TextBuffers} {status : ℕ} → length text ≤ INPUT_BYTES → IsReplied answers text reply
+    → answer ≡ reply.out.items → line ≡ reply.note.items
+    → IsWrittenOut (told_outcome answer line reply.status) before after status
+    → IsTextWritten (of_input answers) text before after status
+reply_written answers text {before = before} {after} {status} few r out note w =
+    let is =
+    subst (λ (o : Outcome). IsWrittenOut o before after status) (reply_is r.0 r.2 out note) w in
+    record {
+      memory = λ e. absurd (is.0 e);
+      told = λ not10. (r.0, inl (few, r.1), is.1);
+      early = λ lacks. absurd (omega (arith, few, lacks.0));
+    }
 
-text_early : (answers : Text → Outcome → Type 0) (text : Text) (before : TextBuffers) → LacksLine text before.note
-    → IsTextWritten (of_input answers) text before before 12
-text_early answers text before lacks = record {
+-- no memory was found
+pub text_unmade : (answers : Text → Outcome → Type 0) (text : Text) (before : TextBuffers) → length text ≤ INPUT_BYTES
+    → IsTextWritten (of_input answers) text before before 10
+text_unmade answers text before few = record {
+  memory = λ e. refl;
+  told = λ not10. absurd (not10 refl);
+  early = λ lacks. absurd (omega (arith, few, lacks.0));
+}
+
+-- ---- a picture
+
+-- a picture was written
+pub picture_written : (o : Outcome) {machine : Option State} {wrote : Option Lengths} {l : Lengths}
+    {before after : Buffers}
+    → o.status < 12 → o.status ≢ 10 → length before.words ≡ 1024 → length before.digits ≡ 512
+    → wrote ≡ Some l → AreTextsWritten o before.paper before.note after.paper after.note wrote
+    → after.registers.printed ≡ l.out → after.registers.noted ≡ l.note
+    → IfSome machine (λ m. Pictures m after.words after.digits after.registers)
+    → (machine ≡ None → ShowsNone before after)
+    → WritesBuffers o machine before after o.status
+picture_written o {l = l} {before} {after} low found words digits is w printed noted pictures none =
+    let t = subst (AreTextsWritten o before.paper before.note after.paper after.note) is w in (
+      found,
+      record {
+        no_room = λ e room. absurd (omega (arith, low, e));
+        kept = λ e. absurd (omega (arith, low, e));
+        shown = λ not12. (
+          record { words_are = words; digits_are = digits; texts = t.0 },
+          record { told = rw (printed, noted) t.1; state = pictures; none = none },
+        );
+      },
+    )
+
+-- there was no room for it
+pub picture_nowhere : (o : Outcome) (machine : Option State) {wrote : Option Lengths} {words digits : List ℕ}
+    {paper note paper_after note_after : List ℕ} {registers : Registers} → wrote ≡ None
+    → AreTextsWritten o paper note paper_after note_after wrote
+    → WritesBuffers o machine (picture_buffers words digits paper note registers)
+    (picture_buffers words digits paper_after note_after registers) 12
+picture_nowhere o machine {words = words} {digits} {paper} {note} {paper_after} {note_after} {registers} is w =
+    let t = subst (AreTextsWritten o paper note paper_after note_after) is w in (
+      twelve,
+      record {
+        no_room = λ e room. t.0 room.texts;
+        kept = λ e. λ i. picture_buffers words digits (t.1 i) (t.2 i) registers;
+        shown = λ not12. absurd (not12 refl);
+      },
+    )
+
+-- the buffers of the store have their lengths
+abbrev StoreFits : Buffers → Type 0
+StoreFits b = (length b.words ≡ 1024) × (length b.digits ≡ 512)
+
+lacks_line : (text : Text) (b : Buffers) → StoreFits b → LacksRoom text b → LacksLine text b.note
+lacks_line text b fits (inl words) = absurd (words fits.0)
+lacks_line text b fits (inr (inl digits)) = absurd (digits fits.1)
+lacks_line text b fits (inr (inr line)) = line
+
+-- no memory was found for it
+pub picture_unmade : (answers : Text → Outcome → Type 0) (Ends : Text → State → Type 0) (text : Text)
+    (before : Buffers) → StoreFits before → length text ≤ INPUT_BYTES
+    → IsShown (of_input answers) Ends text before before 10
+picture_unmade answers Ends text before fits few = record {
+  memory = λ e. refl;
+  told = λ not10. absurd (not10 refl);
+  early = λ lacks. let line = lacks_line text before fits lacks in absurd (omega (arith, few, line.0));
+}
+
+store_lacks : (o : Outcome) (before : Buffers) → (length before.words ≢ 1024) ⊎ ((length before.words ≡ 1024)
+    × (length before.digits ≢ 512)) → HasPictureRoom o before → ⊥
+store_lacks o before (inl words) room = words room.words_are
+store_lacks o before (inr digits) room = digits.1 room.digits_are
+
+-- a buffer of the store has the wrong length
+pub picture_early : (answers : Text → Outcome → Type 0) (Ends : Text → State → Type 0) (text : Text) (before : Buffers)
+    → ((o : Outcome) × IsDue (of_input answers) text o)
+    → (length before.words ≢ 1024) ⊎ ((length before.words ≡ 1024) × (length before.digits ≢ 512))
+    → IsShown (of_input answers) Ends text before before 12
+picture_early answers Ends text before due lacks = record {
   memory = λ e. absurd (twelve e);
   told = λ not10. (
-    too_long_outcome,
-    inr (lacks.0, refl),
+    due.0,
+    due.1,
     record {
-      no_room = λ e room.
-          line_lacks answers text before.out before.note lacks too_long_outcome (inr (lacks.0, refl)) room;
+      no_room = λ e room. store_lacks due.0 before lacks room;
       kept = λ e. refl;
       shown = λ not12. absurd (not12 refl);
     },
@@ -154,66 +204,55 @@ text_early answers text before lacks = record {
   early = λ l. refl;
 }
 
--- what is answered to a text was written
-pub text_written : (answers : Text → Outcome → Type 0) (text : Text) (made : Result Told NoMemory)
-    {before after : TextBuffers} {answer : ℕ} → IsAnswered (of_input answers) text made
-    → IsToldWritten made text before after answer → IsTextWritten (of_input answers) text before after answer
-text_written answers text made {before} answered (inl (lacks, is, kept)) =
-    rw (is, kept) (text_early answers text before lacks)
-text_written answers text (Ok told) answered (inr (room, written)) =
-    let is = written answered.0 answered.2 in
+-- a text that is too long is shown as such
+pub long_shown : (answers : Text → Outcome → Type 0) (Ends : Text → State → Type 0) (text : Text)
+    {before after : Buffers} {answer : ℕ} → StoreFits before → INPUT_BYTES < length text
+    → WritesBuffers too_long_outcome None before after answer → IsShown (of_input answers) Ends text before after answer
+long_shown answers Ends text {before} fits long w = record {
+  memory = λ e. absurd (w.0 e);
+  told = λ not10. (
+    too_long_outcome,
+    inr (long, refl),
     record {
-      memory = λ e. absurd (is.0 e);
-      told = λ not10. (answered.0, answered.1, is.1);
-      early = λ lacks. absurd (room lacks);
-    }
-text_written answers text (Err e) answered (inr (room, (is, kept))) = record {
-  memory = λ e. kept;
-  told = λ not10. absurd (not10 is);
-  early = λ lacks. absurd (room lacks);
+      no_room = w.1.no_room;
+      kept = w.1.kept;
+      shown = λ not12.
+          let both = w.1.shown not12 in (
+            both.0,
+            record {
+              told = both.1.told;
+              state = λ few m ends. absurd (omega (arith, few, long));
+              none = λ nothing. both.1.none refl;
+            },
+          );
+    },
+  );
+  early = λ lacks.
+      let line = lacks_line text before fits lacks in
+      early_long {out = before.paper} {note = before.note}
+      (record {
+        no_room = λ e room. w.1.no_room e (record { words_are = fits.0; digits_are = fits.1; texts = room });
+        kept = λ e. w.1.kept e;
+        shown = λ not12. let both = w.1.shown not12 in (both.0.texts, both.1);
+      })
+      line.1;
 }
 
-room_lacks : (answers : Text → Outcome → Type 0) (text : Text) (before : Buffers) → LacksRoom text before
-    → (o : Outcome) → IsDue (of_input answers) text o → HasPictureRoom o before → ⊥
-room_lacks answers text before (inl words) o due room = words room.words_are
-room_lacks answers text before (inr (inl digits)) o due room = digits room.digits_are
-room_lacks answers text before (inr (inr line)) o due room =
-    line_lacks answers text before.paper before.note line o due room.texts
-
-pub picture_early : (answers : Text → Outcome → Type 0) (Ends : Text → State → Type 0) (text : Text) (before : Buffers)
-    → HasOneOutcome (of_input answers) → LacksRoom text before → IsShown (of_input answers) Ends text before before 12
-picture_early answers Ends text before one lacks =
-    let due = one.some text in
-    record {
-      memory = λ e. absurd (twelve e);
-      told = λ not10. (
-        due.0,
-        due.1,
-        record {
-          no_room = λ e room. room_lacks answers text before lacks due.0 due.1 room;
-          kept = λ e. refl;
-          shown = λ not12. absurd (not12 refl);
-        },
-      );
-      early = λ l. refl;
-    }
-
 -- what was drawn of a text is shown
-pub drawn_shown : (wanted : Answer) (Ends : Text → State → Type 0) (text : Text) (left : Shown)
-    {before after : Buffers} {answer : ℕ}
-    → (LacksRoom text before → ⊥)
-    → Draws wanted Ends text (Ok left)
-    → ((o : Outcome) → HoldsOutcome left.told o → WritesBuffers o left.machine before after answer)
-    → IsShown wanted Ends text before after answer
-drawn_shown wanted Ends text left {after = after} room drawn written =
-    let o = drawn.0 in
-    let is = written o drawn.2 in
+pub picture_shown : (answers : Text → Outcome → Type 0) (Ends : Text → State → Type 0) (text : Text) {reply : Reply}
+    {machine : Option State} {answer line : Text} {before after : Buffers} {status : ℕ}
+    → StoreFits before → length text ≤ INPUT_BYTES → IsPicture answers Ends text reply machine
+    → answer ≡ reply.out.items → line ≡ reply.note.items
+    → WritesBuffers (told_outcome answer line reply.status) machine before after status
+    → IsShown (of_input answers) Ends text before after status
+picture_shown answers Ends text {machine = machine} {before = before} {after} {status} fits few (r, m) out note w =
+    let is =
+    subst (λ (o : Outcome). WritesBuffers o machine before after status) (reply_is r.0 r.2 out note) w in
     record {
       memory = λ e. absurd (is.0 e);
-      early = λ lacks. absurd (room lacks);
       told = λ not10. (
-        o,
-        drawn.1,
+        r.0,
+        inl (few, r.1),
         record {
           no_room = is.1.no_room;
           kept = is.1.kept;
@@ -222,13 +261,14 @@ drawn_shown wanted Ends text left {after = after} room drawn written =
                 both.0,
                 record {
                   told = both.1.told;
-                  state = λ few m ends.
-                      subst (λ (x : Option State). IfSome x (λ s. Pictures s after.words after.digits after.registers))
-                      (drawn.3.some few m ends)
+                  state = λ short s ends.
+                      subst (λ (x : Option State). IfSome x (λ t. Pictures t after.words after.digits after.registers))
+                      (m.some s ends)
                       both.1.state;
-                  none = λ nothing. both.1.none (drawn.3.none nothing);
+                  none = λ nothing. both.1.none (m.none (λ s ends. nothing s few ends));
                 },
               );
         },
       );
+      early = λ lacks. let line = lacks_line text before fits lacks in absurd (omega (arith, few, line.0));
     }

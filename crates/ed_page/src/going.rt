@@ -4,26 +4,18 @@ ghost use Rattle.std.specs.Prelude.{◌≡◌, ℕ, ◌+◌, ◌^◌, ◌≤◌,
 ghost use Rattle.ed_machine.specs.State.{State};
 ghost use Rattle.ed_machine.specs.Steps.{state_after};
 ghost use Rattle.ed_run.specs.Run.{RunEnd, run_end};
+ghost use Rattle.ed_answers.specs.Replies.{IsRan};
 ghost use Rattle.ed_page.specs.Going.{CanGoOn, GoingLaw, IsAfterStart, IsGoneOn, IsOnTheWay, ShowsRun, going_buffers};
 ghost use Rattle.ed_page.specs.Pictures.{Pictures};
-ghost use Rattle.ed_page.specs.Private.Stages.{IsGone};
 
 use crate::pictured::pictured;
 use crate::told::{NO_MEMORY, NO_ROOM};
 use crate::writing::{Lengths, Registers, registers_of, write_codes, write_store};
-use ed_answers::status_of;
-use ed_machine::{Ending, Machine, Paper};
+use ed_answers::{FinishedRun, status_of};
+use ed_machine::Paper;
 use ed_run::run;
 use ed_words::NoMemory;
 use std::alloc::Global;
-
-/// A run that continued: the machine at its end, and the paper with the codes that it printed.
-#[derive(Drop)]
-pub struct Gone {
-    pub ending: Ending,
-    pub machine: Machine,
-    pub paper: Paper,
-}
 
 /// Continues from a picture: obeys `orders` more orders, or fewer if the run ends first. Each of the first
 /// `resumes` Z orders lets the run continue.
@@ -88,35 +80,20 @@ fn went_on(
     digits: &[u8],
     room: usize,
     registers: &Registers,
-) -> Result<Gone, NoMemory>
+) -> Result<FinishedRun, NoMemory>
     requires words { length words.now ≡ 1024 }
     requires digits { length digits.now ≡ 512 }
     requires picture { CanGoOn small rows.now words.now digits.now registers.now }
     requires count { registers.now.orders + orders ≤ 2 ^ 63 }
     ensures gone { IfOk result (λ gone. (first : State) → IsAfterStart small rows.now first → (k : ℕ)
         → Pictures (state_after k first) words.now digits.now registers.now
-        → IsGone (run_end orders resumes room (state_after k first)) gone) }
+        → IsRan (run_end orders resumes room (state_after k first)) gone) }
     ensures fits { IfOk result (λ gone. gone.paper.room ≡ room) }
 {
-    let machine = pictured(alloc, small, rows, words, digits, registers)?;
-    go_on(alloc, machine, orders, resumes, room)
-}
-
-/// Obeys orders on a machine, onto a paper with this room.
-fn go_on(
-    alloc: Global,
-    mut machine: Machine,
-    orders: u32,
-    resumes: u32,
-    room: usize,
-) -> Result<Gone, NoMemory>
-    requires { machine.orders + orders ≤ 2 ^ 63 }
-    ensures gone { IfOk result (IsGone (run_end orders resumes room machine)) }
-    ensures fits { IfOk result (λ gone. gone.paper.room ≡ room) }
-{
+    let mut machine = pictured(alloc, small, rows, words, digits, registers)?;
     let mut paper = Paper::new(alloc, room)?;
     let ending = run(&mut machine, u64::from(orders), resumes, &mut paper);
-    Ok(Gone {
+    Ok(FinishedRun {
         ending,
         machine,
         paper,
@@ -125,7 +102,7 @@ fn go_on(
 
 /// Writes where a run ended, with the codes that it printed.
 fn show(
-    gone: &Gone,
+    gone: &FinishedRun,
     words: &mut [u32],
     digits: &mut [u8],
     codes: &mut [u8],
@@ -134,7 +111,7 @@ fn show(
     requires words { length words.old ≡ 1024 }
     requires digits { length digits.old ≡ 512 }
     requires codes { gone.now.paper.room ≤ length codes.old }
-    ensures { (r : RunEnd) → IsGone r gone.now → ShowsRun r
+    ensures { (r : RunEnd) → IsRan r gone.now → ShowsRun r
         (going_buffers words.old digits.old codes.old registers.old)
         (going_buffers words.new digits.new codes.new registers.new) result }
 {

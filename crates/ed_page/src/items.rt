@@ -1,8 +1,9 @@
 //! The items of a tape: the rows that spell each, and the word that it places.
 
-ghost use Rattle.std.specs.Prelude.{◌≡◌, ◌+◌, ◌*◌, ◌≤◌, ◌<◌, ◌^◌, [], ◌∷◌, ◌++◌, IfOk, None, length, ℕ};
+ghost use Rattle.std.specs.Prelude.{◌≡◌, ◌+◌, ◌*◌, ◌≤◌, ◌<◌, ◌^◌, [], ◌∷◌, ◌++◌, IfOk, None, length, take, ℕ};
+ghost use Rattle.std.specs.List.{flat_map};
 ghost use Rattle.ed_store.specs.Cells.{with_short};
-ghost use Rattle.ed_notation.specs.Fold.{address, control_of, item_word, with_kay, with_zed};
+ghost use Rattle.ed_notation.specs.Fold.{control_of, item_word, with_kay, with_zed};
 ghost use Rattle.ed_notation.specs.Items.{row_kind};
 ghost use Rattle.ed_notation.specs.declared.kind.RowKind.TheVariants.{Digit};
 ghost use Rattle.ed_page.specs.Answers.{IsTextWritten, text_buffers};
@@ -10,15 +11,14 @@ ghost use Rattle.ed_page.specs.Pictures.{size_shown};
 ghost use Rattle.ed_page.specs.Private.ItemTables.{IsSetAs, IsSetBelow, first_notation, is_last_row, item_at};
 ghost use Rattle.ed_page.specs.Private.ItemTables.{notation_after, note_over};
 ghost use Rattle.ed_page.specs.Private.ItemTables.{placing_over, table_on, whole_item, opened_with};
-ghost use Rattle.ed_page.specs.Private.Stages.{AreItemsOf, IsAnswered, HasEntryRows};
-ghost use Rattle.ed_page.specs.TapeItems.{PlacingLaw, four_bytes, four_numbers, item_line, items_answer};
+ghost use Rattle.ed_page.specs.Private.Stages.{IsAnswered, HasEntryRows};
+ghost use Rattle.ed_page.specs.TapeItems.{IsItemsOutcome, PlacingLaw, four_bytes, item_line, items_answer};
 ghost use Rattle.ed_answers.specs.declared.input.TheConstants.{INPUT_BYTES};
 
+use crate::asked::{Asked, write_answer};
 use crate::running::size_of;
-use crate::texts::write_told;
-use crate::told::{Told, is_too_long, rejected};
 use crate::writing::Lengths;
-use ed_answers::rows_of;
+use ed_answers::{Rejection, Reply};
 use ed_codes::{Code, letters};
 use ed_notation::{FIRST_DIRECTIVE, TapeFault, check};
 use ed_report::tape_fault;
@@ -29,8 +29,11 @@ use std::alloc::Global;
 /// What stands for the location of an item that places no word.
 const NO_LOCATION: u32 = 1024;
 
+/// The status if a tape has a fault.
+pub const REFUSED: u8 = 3;
+
 /// An item whose function row, and perhaps more rows, have been read.
-#[derive(Clone, Copy)]
+#[derive(Drop)]
 pub struct OpenItem {
     /// The row of its function.
     pub first: u32,
@@ -65,35 +68,27 @@ pub extern "C" fn page_items(
         (text_buffers items.new note.new lengths.new) result }
     ensures law { PlacingLaw }
 {
-    let told = tape_items(alloc, size_of(small), text);
-    write_told(told, text, items, note, lengths)
-}
-
-/// What is answered about the items of a tape's text.
-fn tape_items(alloc: Global, size: Size, text: &[u8]) -> Result<Told, NoMemory>
-    ensures { IsAnswered (items_answer size) text.now result }
-{
-    if is_too_long(text) {
-        return Told::too_long(alloc);
-    }
-    match rows_of(alloc, text) {
-        Ok(rows) => row_items(alloc, size, &rows),
-        Err(rejection) => rejected(rejection),
-    }
+    let asked = Asked::Items(size_of(small));
+    write_answer(alloc, asked, text, items, note, lengths)
 }
 
 /// What is answered about the items of rows.
-fn row_items(alloc: Global, size: Size, rows: &[Code]) -> Result<Told, NoMemory>
+pub fn row_items(alloc: Global, size: Size, rows: &[Code]) -> Result<Reply, Rejection>
     requires { length rows.now ≤ INPUT_BYTES }
-    ensures { AreItemsOf size rows.now result }
+    ensures { IsAnswered (IsItemsOutcome size) rows.now result }
 {
     match entered_rows(alloc, size, rows) {
-        Ok(entered) => Ok(Told::done(alloc, item_table(alloc, &rows[..entered])?)),
+        Ok(entered) => Ok(Reply::done(alloc, item_table(alloc, rows, entered)?)),
         Err(TapeFault::At { row, cause }) => {
-            let items = item_table(alloc, &rows[..row])?;
-            Ok(Told::refused(items, tape_fault(alloc, &TapeFault::At { row, cause })?))
+            let note = tape_fault(alloc, &TapeFault::At { row, cause })?;
+            let out = item_table(alloc, rows, row)?;
+            Err(Rejection::Refused(Reply {
+                out,
+                note,
+                status: REFUSED,
+            }))
         }
-        Err(TapeFault::Memory) => Err(NoMemory),
+        Err(TapeFault::Memory) => Err(Rejection::Memory),
     }
 }
 
@@ -106,10 +101,11 @@ fn entered_rows(alloc: Global, size: Size, rows: &[Code]) -> Result<usize, TapeF
     Ok(check(alloc, size, &store, rows)?.rows())
 }
 
-/// The table of the items that rows spell.
-fn item_table(alloc: Global, rows: &[Code]) -> Result<Vec<u8>, NoMemory>
-    requires { length rows.now ≤ INPUT_BYTES }
-    ensures { IfOk result (λ table. table.items ≡ table_on 0 first_notation None rows.now) }
+/// The table of the items that the first rows spell.
+fn item_table(alloc: Global, rows: &[Code], count: usize) -> Result<Vec<u8>, NoMemory>
+    requires few { length rows.now ≤ INPUT_BYTES }
+    requires count { count ≤ length rows.now }
+    ensures { IfOk result (λ table. table.items ≡ table_on 0 first_notation None (take count rows.now)) }
 {
     let mut notation = Notation {
         directive: u64::from(FIRST_DIRECTIVE),
@@ -117,7 +113,7 @@ fn item_table(alloc: Global, rows: &[Code]) -> Result<Vec<u8>, NoMemory>
         contents: Store::cleared(alloc)?,
     };
     let mut table = Vec::new(alloc);
-    push_items(&mut notation, &mut table, rows)?;
+    push_items(&mut notation, &mut table, &rows[..count])?;
     Ok(table)
 }
 
@@ -164,39 +160,20 @@ fn push_line(
 ) -> Result<(), NoMemory>
     ensures { IfOk result (λ _. table.new.items ≡ table.old.items ++ item_line item.now.first after placing) }
 {
-    match placing {
-        Some((location, word)) => push_numbers(
-            table,
-            item.first,
-            after,
-            u32::from(location),
-            word.value(),
-        ),
-        None => push_numbers(table, item.first, after, NO_LOCATION, 0),
+    let (location, word) = match placing {
+        Some((location, word)) => (u32::from(location), word.value()),
+        None => (NO_LOCATION, 0),
+    };
+    push_numbers(table, &[item.first, after, location, word])
+}
+
+/// Adds numbers to a table, the least byte of each first.
+pub fn push_numbers(table: &mut Vec<u8>, numbers: &[u32]) -> Result<(), NoMemory>
+    ensures { IfOk result (λ _. table.new.items ≡ table.old.items ++ flat_map four_bytes numbers.now) }
+{
+    for number in numbers {
+        table.extend_from_slice(&number.to_le_bytes())?;
     }
-}
-
-/// Adds four numbers to a table.
-pub fn push_numbers(
-    table: &mut Vec<u8>,
-    first: u32,
-    after: u32,
-    location: u32,
-    word: u32,
-) -> Result<(), NoMemory>
-    ensures { IfOk result (λ _. table.new.items ≡ table.old.items ++ four_numbers first after location word) }
-{
-    push_number(table, first)?;
-    push_number(table, after)?;
-    push_number(table, location)?;
-    push_number(table, word)
-}
-
-/// Adds a number to a table, the least byte first.
-fn push_number(table: &mut Vec<u8>, number: u32) -> Result<(), NoMemory>
-    ensures { IfOk result (λ _. table.new.items ≡ table.old.items ++ four_bytes number) }
-{
-    table.extend_from_slice(&number.to_le_bytes())?;
     Ok(())
 }
 
@@ -264,15 +241,9 @@ impl Notation {
         if end.value() < letters::F || self.directive / 4096 == u64::from(letters::E) {
             None
         } else {
-            Some((self.address(), self.word(item, end)))
+            let address = (self.directive % 4096 / 2) as u16;
+            Some((address, self.word(item, end)))
         }
-    }
-
-    /// The address of the directive.
-    fn address(&self) -> u16
-        ensures { result ≡ address self.now.directive }
-    {
-        (self.directive % 4096 / 2) as u16
     }
 
     /// The word of an item that a code letter ends.

@@ -6,6 +6,7 @@
 //! on `ed_notation`, `ed_initial1`, `ed_orders`, `ed_run` and `ed_report`.
 #![tactic(auto)]
 
+mod asked;
 mod first_items;
 mod going;
 mod items;

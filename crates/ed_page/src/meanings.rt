@@ -13,7 +13,7 @@ use ed_words::{Size, Word};
 
 /// What a word means as an order.
 #[repr(C)]
-#[derive(Clone, Copy)]
+#[derive(Drop)]
 pub struct Meaning {
     /// The letter of the order; 0 if the word is no order.
     pub letter: u32,

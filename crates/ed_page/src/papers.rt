@@ -1,7 +1,6 @@
 //! The teleprinter's text of codes that were printed.
 
-ghost use Rattle.std.specs.Prelude.{◌≡◌, ◌<◌, ◌==◌, ◌||◌, IfOk, IfSome, List, ℕ, reverse};
-ghost use Rattle.std.specs.List.{find};
+ghost use Rattle.std.specs.Prelude.{◌≡◌, IfOk, List, ℕ, reverse};
 ghost use Rattle.ed_printer.specs.Paper.{latest_shift};
 ghost use Rattle.ed_page.specs.Going.{AreCodes, IsPaperWritten, PaperLaw, added_text};
 
@@ -48,30 +47,20 @@ fn added_text(alloc: Global, before: &[u8], codes: &[u8]) -> Result<Vec<u8>, NoM
     Ok(printer.text_of(alloc, &codes)?)
 }
 
-/// A printer in the shift that codes leave.
+/// A printer in the shift that codes leave: that of the last one that sets a shift.
 fn printer_after(codes: &[u8]) -> Printer
     ensures { result ≡ latest_shift (reverse codes.now) }
 {
-    let mut printer = Printer::new();
-    if let Some(shift) = last_shift_code(codes) {
-        printer.strike(code_of(shift));
+    let mut rest = codes;
+    while let Some((code, before)) = rest.split_last() {
+        if *code == FIGURE_SHIFT || *code == LETTER_SHIFT {
+            let mut printer = Printer::new();
+            printer.strike(code_of(*code));
+            return printer;
+        }
+        rest = before;
     }
-    printer
-}
-
-/// The last code that sets a shift.
-fn last_shift_code(codes: &[u8]) -> Option<u8>
-    ensures is { result ≡ find (λ code. code == 11 || code == 15) (reverse codes.now) }
-    ensures fits { IfSome result (λ code. code < 32) }
-{
-    codes.iter().rev().copied().find(|code| sets_shift(*code))
-}
-
-/// Whether a code sets a shift.
-fn sets_shift(code: u8) -> bool
-    ensures { result ≡ (code == 11 || code == 15) }
-{
-    code == FIGURE_SHIFT || code == LETTER_SHIFT
+    Printer::new()
 }
 
 /// Writes a text and its length, if the buffer has room.

@@ -1,26 +1,26 @@
-ghost use Rattle.std.specs.Prelude.{◌≡◌, ◌≢◌, ◌⊎◌, ◌↔◌, IfSome, IsTrue, List, false, length, ℕ};
+ghost use Rattle.std.specs.Prelude.{◌≡◌, ◌≢◌, ◌<◌, IfSome, List, None, false, length, ℕ};
 ghost use Rattle.ed_codes.specs.Reading.{reading, rows};
 ghost use Rattle.ed_lines.specs.declared.program.Line.{Line};
 ghost use Rattle.ed_loads.specs.Refusals.{IsAcceptedAs};
 ghost use Rattle.ed_link.specs.Tapes.{tape};
 ghost use Rattle.ed_loads.specs.EntryState.{first_state};
+ghost use Rattle.ed_answers.specs.Answer.{of_input};
 ghost use Rattle.ed_answers.specs.FirstOrders.{first_state1, tape1_answer};
-ghost use Rattle.ed_answers.specs.Outcome.{Outcome};
 ghost use Rattle.ed_answers.specs.Sources.{run_answer};
 ghost use Rattle.ed_answers.specs.Tapes.{tape_answer};
-ghost use Rattle.ed_page.specs.Answers.{EachRunReadsOn, IsShown, LacksLine, SourceEnds, TapeEnds, blank_registers};
+ghost use Rattle.ed_page.specs.Answers.{EachRunReadsOn, IsShown, SourceEnds, TapeEnds, blank_registers};
 ghost use Rattle.ed_page.specs.Answers.{EachRun1ReadsOn, Tape1Ends, picture_buffers};
 ghost use Rattle.ed_page.specs.Going.{BeginsOnTheWay};
 ghost use Rattle.ed_page.specs.Pictures.{Pictures, run_settings, size_shown};
-ghost use Rattle.ed_page.specs.Private.Stages.{Draws, HoldsOutcome, WritesBuffers};
+ghost use Rattle.ed_page.specs.Private.Asked.{answers_of, ends_of};
+ghost use Rattle.ed_page.specs.Private.Stages.{WritesBuffers, told_outcome};
 
-use crate::running::{Shown, run_linked, run_settings, run_tape, run_tape1};
-use crate::told::{NO_MEMORY, NO_ROOM, Told, is_too_long, lacks_line, rejected};
+use crate::running::{Program, picture_of, run_settings};
+use crate::told::{NO_MEMORY, NO_ROOM, TOO_LONG_STATUS, is_too_long, write_texts};
 use crate::writing::{Lengths, Registers, no_registers, registers_of, write_store};
-use ed_answers::{linked_of, rows_of};
+use ed_answers::{Rejection, TOO_LONG};
 use ed_command::Settings;
 use ed_machine::Machine;
-use ed_words::NoMemory;
 use std::alloc::Global;
 
 /// Shows the machine after `orders` orders from Start on a tape's text, or at the end of its run if that comes first.
@@ -52,13 +52,18 @@ pub extern "C" fn page_tape(
     ensures next { (codes : List ℕ) → reading text.now ≡ rows codes
         → BeginsOnTheWay (first_state (size_shown small) codes) codes text.now words.new digits.new registers.new result }
 {
-    if lacks_room(text, words, digits, note) {
-        return NO_ROOM;
-    }
-    match tape_shown(alloc, run_settings(small, orders, resumes), text) {
-        Ok(shown) => show(&shown, words, digits, paper, note, registers),
-        Err(NoMemory) => NO_MEMORY,
-    }
+    let settings = run_settings(small, orders, resumes);
+    draw(
+        alloc,
+        Program::Tape,
+        settings,
+        text,
+        words,
+        digits,
+        paper,
+        note,
+        registers,
+    )
 }
 
 /// Shows the machine of full store after `orders` orders from Start on a tape's text with the Initial Orders of May
@@ -82,13 +87,18 @@ pub extern "C" fn page_tape1(
     ensures next { (codes : List ℕ) → reading text.now ≡ rows codes
         → BeginsOnTheWay (first_state1 codes) codes text.now words.new digits.new registers.new result }
 {
-    if lacks_room(text, words, digits, note) {
-        return NO_ROOM;
-    }
-    match tape1_shown(alloc, run_settings(false, orders, resumes), text) {
-        Ok(shown) => show(&shown, words, digits, paper, note, registers),
-        Err(NoMemory) => NO_MEMORY,
-    }
+    let settings = run_settings(false, orders, resumes);
+    draw(
+        alloc,
+        Program::Tape1,
+        settings,
+        text,
+        words,
+        digits,
+        paper,
+        note,
+        registers,
+    )
 }
 
 /// Shows the machine after `orders` orders from Start on the tape of a source, as `page_tape` does; a source with a
@@ -114,67 +124,86 @@ pub extern "C" fn page_source(
         → BeginsOnTheWay (first_state (size_shown small) (tape lines)) (tape lines) text.now
         words.new digits.new registers.new result }
 {
-    if lacks_room(text, words, digits, note) {
+    let settings = run_settings(small, orders, resumes);
+    draw(
+        alloc,
+        Program::Source,
+        settings,
+        text,
+        words,
+        digits,
+        paper,
+        note,
+        registers,
+    )
+}
+
+/// Writes what is shown of the run of a program, if the buffers have room.
+fn draw(
+    alloc: Global,
+    program: Program,
+    settings: Settings,
+    text: &[u8],
+    words: &mut [u32],
+    digits: &mut [u8],
+    paper: &mut [u8],
+    note: &mut [u8],
+    registers: &mut Registers,
+) -> u32
+    requires { settings.post_mortem ≡ None }
+    ensures { IsShown (of_input (answers_of program settings)) (ends_of program settings) text.now
+        (picture_buffers words.old digits.old paper.old note.old registers.old)
+        (picture_buffers words.new digits.new paper.new note.new registers.new) result }
+{
+    if words.len() != 1024 || digits.len() != 512 {
         return NO_ROOM;
     }
-    match source_shown(alloc, run_settings(small, orders, resumes), text) {
-        Ok(shown) => show(&shown, words, digits, paper, note, registers),
-        Err(NoMemory) => NO_MEMORY,
-    }
-}
-
-/// Whether a buffer is known, before any memory is taken, to have no room for a picture.
-fn lacks_room(text: &[u8], words: &[u32], digits: &[u8], note: &[u8]) -> bool
-    ensures { IsTrue result ↔ ((length words.now ≢ 1024) ⊎ ((length digits.now ≢ 512)
-        ⊎ LacksLine text.now note.now)) }
-{
-    words.len() != 1024 || digits.len() != 512 || lacks_line(text, note)
-}
-
-/// The picture for a tape's text.
-fn tape_shown(alloc: Global, settings: Settings, text: &[u8]) -> Result<Shown, NoMemory>
-    requires { settings.post_mortem ≡ None }
-    ensures { Draws (tape_answer settings) (TapeEnds settings) text.now result }
-{
     if is_too_long(text) {
-        return Ok(Shown::refused(Told::too_long(alloc)?));
+        return show(
+            &[],
+            TOO_LONG,
+            TOO_LONG_STATUS,
+            &None,
+            words,
+            digits,
+            paper,
+            note,
+            registers,
+        );
     }
-    match rows_of(alloc, text) {
-        Ok(rows) => run_tape(alloc, settings, rows),
-        Err(rejection) => Ok(Shown::refused(rejected(rejection)?)),
+    match picture_of(alloc, program, settings, text) {
+        Ok(shown) => show(
+            &shown.reply.out,
+            &shown.reply.note,
+            shown.reply.status,
+            &shown.machine,
+            words,
+            digits,
+            paper,
+            note,
+            registers,
+        ),
+        Err(Rejection::Refused(reply)) => show(
+            &reply.out,
+            &reply.note,
+            reply.status,
+            &None,
+            words,
+            digits,
+            paper,
+            note,
+            registers,
+        ),
+        Err(Rejection::Memory) => NO_MEMORY,
     }
 }
 
-/// The picture for a tape's text with the Initial Orders of May 1949.
-fn tape1_shown(alloc: Global, settings: Settings, text: &[u8]) -> Result<Shown, NoMemory>
-    ensures { Draws (tape1_answer settings) (Tape1Ends settings) text.now result }
-{
-    if is_too_long(text) {
-        return Ok(Shown::refused(Told::too_long(alloc)?));
-    }
-    match rows_of(alloc, text) {
-        Ok(rows) => run_tape1(alloc, settings, rows),
-        Err(rejection) => Ok(Shown::refused(rejected(rejection)?)),
-    }
-}
-
-/// The picture for a source.
-fn source_shown(alloc: Global, settings: Settings, text: &[u8]) -> Result<Shown, NoMemory>
-    requires { settings.post_mortem ≡ None }
-    ensures { Draws (run_answer settings) (SourceEnds settings) text.now result }
-{
-    if is_too_long(text) {
-        return Ok(Shown::refused(Told::too_long(alloc)?));
-    }
-    match linked_of(alloc, settings.size, text) {
-        Ok(linked) => run_linked(alloc, settings, &linked),
-        Err(rejection) => Ok(Shown::refused(rejected(rejection)?)),
-    }
-}
-
-/// Writes what is shown into buffers, if the texts have room.
+/// Writes the two texts of an answer, and a machine if there is one, into buffers, if the texts have room.
 fn show(
-    shown: &Shown,
+    answer: &[u8],
+    line: &[u8],
+    status: u8,
+    machine: &Option<Machine>,
     words: &mut [u32],
     digits: &mut [u8],
     paper: &mut [u8],
@@ -183,16 +212,19 @@ fn show(
 ) -> u32
     requires words { length words.old ≡ 1024 }
     requires digits { length digits.old ≡ 512 }
-    ensures { (o : Outcome) → HoldsOutcome shown.now.told o → WritesBuffers o shown.now.machine
+    requires low { status < 12 }
+    requires found { status ≢ 10 }
+    ensures { WritesBuffers (told_outcome answer.now line.now status) machine.now
         (picture_buffers words.old digits.old paper.old note.old registers.old)
         (picture_buffers words.new digits.new paper.new note.new registers.new) result }
 {
-    if !shown.told.fits(paper, note) {
-        return NO_ROOM;
+    match write_texts(answer, line, paper, note) {
+        Some(lengths) => {
+            *registers = write_machine(machine, lengths, words, digits);
+            u32::from(status)
+        }
+        None => NO_ROOM,
     }
-    let lengths = shown.told.write(paper, note);
-    *registers = write_machine(&shown.machine, lengths, words, digits);
-    shown.told.status
 }
 
 /// Writes the store of a machine, if there is one, and gives its registers.

@@ -1,55 +1,34 @@
-ghost use Rattle.std.specs.Prelude.{◌≡◌, IfOk, List, Some, None};
-ghost use Rattle.ed_printer.specs.Paper.{paper};
-ghost use Rattle.ed_lines.specs.declared.program.Line.{Line};
-ghost use Rattle.ed_link.specs.Answers.{IsLinked};
-ghost use Rattle.ed_link.specs.Tapes.{tape};
-ghost use Rattle.ed_answers.specs.FirstOrders.{run1_of, tape1_outcome};
-ghost use Rattle.ed_answers.specs.Tapes.{tape_outcome};
-ghost use Rattle.ed_answers.specs.Runs.{run_of, status_of};
-ghost use Rattle.ed_answers.specs.Sources.{run_outcome};
+ghost use Rattle.std.specs.Prelude.{◌≡◌, None};
 ghost use Rattle.ed_page.specs.Pictures.{run_settings, size_shown};
-ghost use Rattle.ed_page.specs.Private.Stages.{HoldsOutcome, IsRunOf};
+ghost use Rattle.ed_page.specs.Private.Asked.{answers_of, ends_of};
+ghost use Rattle.ed_page.specs.Private.Stages.{Draws, IsNoted, Runs};
 
-use crate::told::Told;
-use ed_answers::{FinishedRun, ran_reply, run_linked as run_source, run_rows, run_rows1};
-use ed_codes::Code;
+use ed_answers::{
+    FinishedRun, NotedRun, Rejection, Reply, linked_of, ran_reply, rows_of, run_linked, run_rows,
+    run_rows1,
+};
 use ed_command::Settings;
-use ed_link::Linked;
 use ed_machine::Machine;
 use ed_report::ending_text;
-use ed_words::{NoMemory, Size};
+use ed_words::Size;
 use std::alloc::Global;
 
-/// What is shown of a text: what the program answers, and the machine if it ran.
+/// A program that is run.
 #[derive(Drop)]
-pub struct Shown {
-    pub told: Told,
-    pub machine: Option<Machine>,
+pub enum Program {
+    /// A tape for the 41 Initial Orders.
+    Tape,
+    /// A tape for the Initial Orders of May 1949.
+    Tape1,
+    /// A source, for the 41 Initial Orders.
+    Source,
 }
 
-impl Shown {
-    /// The same for a text whose tape was not run.
-    pub fn refused(told: Told) -> Shown
-        ensures { result ≡ record { told = told; machine = None } }
-    {
-        Shown {
-            told,
-            machine: None,
-        }
-    }
-
-    /// The same for a run that ended, with its note.
-    fn of_run(alloc: Global, ran: FinishedRun, note: Vec<u8>) -> Result<Shown, NoMemory>
-        ensures told { IfOk result (λ shown. HoldsOutcome shown.told
-            (record { out = paper ran.paper.codes; note = note.items; status = status_of ran.ending })) }
-        ensures machine { IfOk result (λ shown. shown.machine ≡ Some ran.machine) }
-    {
-        let reply = ran_reply(alloc, &ran, note)?;
-        Ok(Shown {
-            told: Told::of_reply(reply),
-            machine: Some(ran.machine),
-        })
-    }
+/// What is shown of a run: what the program answers, and the machine.
+#[derive(Drop)]
+pub struct Shown {
+    pub reply: Reply,
+    pub machine: Option<Machine>,
 }
 
 /// The size of a machine.
@@ -71,32 +50,48 @@ pub fn run_settings(small: bool, orders: u32, resumes: u32) -> Settings
     }
 }
 
-/// What is shown of the run of rows.
-pub fn run_tape(alloc: Global, settings: Settings, rows: Vec<Code>) -> Result<Shown, NoMemory>
+/// What is shown of the run of a text.
+pub fn picture_of(
+    alloc: Global,
+    program: Program,
+    settings: Settings,
+    text: &[u8],
+) -> Result<Shown, Rejection>
     requires { settings.post_mortem ≡ None }
-    ensures { IfOk result (IsRunOf (tape_outcome settings rows.items) (run_of settings rows.items)) }
+    ensures { Draws (answers_of program settings) (ends_of program settings) text.now result }
 {
-    let ran = run_rows(alloc, settings, rows)?;
-    let note = ending_text(alloc, ran.ending, &ran.machine)?;
-    Shown::of_run(alloc, ran, note)
+    let NotedRun { ran, note } = run_program(alloc, program, settings, text)?;
+    let reply = ran_reply(alloc, &ran, note)?;
+    Ok(Shown {
+        reply,
+        machine: Some(ran.machine),
+    })
 }
 
-/// What is shown of the run of rows with the Initial Orders of May 1949.
-pub fn run_tape1(alloc: Global, settings: Settings, rows: Vec<Code>) -> Result<Shown, NoMemory>
-    ensures { IfOk result (IsRunOf (tape1_outcome settings rows.items) (run1_of settings rows.items)) }
+/// The run of a text, with its note.
+fn run_program(
+    alloc: Global,
+    program: Program,
+    settings: Settings,
+    text: &[u8],
+) -> Result<NotedRun, Rejection>
+    requires { settings.post_mortem ≡ None }
+    ensures { Runs (answers_of program settings) (ends_of program settings) text.now result }
 {
-    let ran = run_rows1(alloc, settings, rows)?;
-    let note = ending_text(alloc, ran.ending, &ran.machine)?;
-    Shown::of_run(alloc, ran, note)
+    match program {
+        Program::Tape => noted(alloc, run_rows(alloc, settings, rows_of(alloc, text)?)?),
+        Program::Tape1 => noted(alloc, run_rows1(alloc, settings, rows_of(alloc, text)?)?),
+        Program::Source => {
+            let linked = linked_of(alloc, settings.size, text)?;
+            Ok(run_linked(alloc, settings, &linked)?)
+        }
+    }
 }
 
-/// What is shown of the run of a linked program's tape.
-pub fn run_linked(alloc: Global, settings: Settings, linked: &Linked) -> Result<Shown, NoMemory>
-    requires none { settings.post_mortem ≡ None }
-    requires linked { (lines : List Line) × IsLinked settings.size lines linked.now }
-    ensures { IfOk result (λ shown. (lines : List Line) → IsLinked settings.size lines linked.now
-        → IsRunOf (run_outcome settings lines) (run_of settings (tape lines)) shown) }
+/// A run that ended, with the line of its ending.
+fn noted(alloc: Global, ran: FinishedRun) -> Result<NotedRun, Rejection>
+    ensures { IsNoted ran result }
 {
-    let noted = run_source(alloc, settings, linked)?;
-    Shown::of_run(alloc, noted.ran, noted.note)
+    let note = ending_text(alloc, ran.ending, &ran.machine)?;
+    Ok(NotedRun { ran, note })
 }

@@ -1,6 +1,4 @@
-ghost use Rattle.std.specs.Prelude.{◌≡◌, ℕ, ◌*◌, ◌<◌, ◌≤◌, ◌++◌, drop, length, slice_index};
-ghost use Rattle.ed_words.specs.Words.{digit};
-ghost use Rattle.ed_store.specs.Cells.{short_at, sandwich_at};
+ghost use Rattle.std.specs.Prelude.{◌≡◌, ◌≤◌, ◌++◌, drop, length};
 ghost use Rattle.ed_page.specs.Answers.{blank_registers};
 ghost use Rattle.ed_page.specs.Pictures.{PicturesStore, PicturesRegisters, last_shown};
 
@@ -12,7 +10,7 @@ pub const NO_CODE: u64 = 32;
 
 /// The lengths of two texts in their buffers.
 #[repr(C)]
-#[derive(Clone, Copy)]
+#[derive(Drop)]
 pub struct Lengths {
     pub out: u64,
     pub note: u64,
@@ -21,7 +19,7 @@ pub struct Lengths {
 /// The registers of a machine, the number of rows left of its tape, and the lengths of the texts of a picture. If no
 /// run is shown no code was printed, and all others but the lengths are 0.
 #[repr(C)]
-#[derive(Clone, Copy)]
+#[derive(Drop)]
 pub struct Registers {
     /// The 36 least significant digits of the accumulator.
     pub acc_low: u64,
@@ -48,25 +46,9 @@ pub fn write_store(machine: &Machine, words: &mut [u32], digits: &mut [u8])
     requires digits { length digits.old ≡ 512 }
     ensures { PicturesStore machine.now.store words.new digits.new }
 {
-    write_words(machine, words);
-    write_digits(machine, digits);
-}
-
-/// Writes every word.
-fn write_words(machine: &Machine, words: &mut [u32])
-    requires { length words.old ≡ 1024 }
-    ensures { (a : ℕ) → a < 1024 → slice_index words.new a ≡ short_at machine.now.store a }
-{
     for a in 0..1024u16 {
         words[usize::from(a)] = machine.word(a).value();
     }
-}
-
-/// Writes every sandwich digit.
-fn write_digits(machine: &Machine, digits: &mut [u8])
-    requires { length digits.old ≡ 512 }
-    ensures { (k : ℕ) → k < 512 → slice_index digits.new k ≡ digit (sandwich_at machine.now.store (2 * k)) }
-{
     for k in 0..512u16 {
         digits[usize::from(k)] = u8::from(machine.sandwich(2 * k));
     }

@@ -7,16 +7,16 @@ use Rattle.ed_page.proofs.first_items.item_table1.Goals as goal
 pub loop-row-preserved : goal.loop-row-preserved
 loop-row-preserved c = elim c.match-part.branch [
   | in-None w ↦ rw (w.location-is, w.part-is, w.table-is, w.at.ensures)
-      (tabled_function1 (rw w.in-None.is at c.loop-row.invariant) c.loop-row-test.true c.index-rows-row.is)
+      (tabled_function1 (rw w.in-None.is at c.loop-row.invariant) c.loop-row-test.true c.index-read-row.is)
   | in-Some+then-value-lt10 w ↦
-      let low : c.index-rows-row.result < 10 = subst (λ (n : ℕ). n < 10) w.value.ensures.is w.if-value-lt10.true in
+      let low : c.index-read-row.result < 10 = subst (λ (n : ℕ). n < 10) w.value.ensures.is w.if-value-lt10.true in
       rw (w.location-is, w.part-is, w.table-is)
-      (tabled_digit1 (rw w.in-Some.is at c.loop-row.invariant) c.loop-row-test.true c.index-rows-row.is low
+      (tabled_digit1 (rw w.in-Some.is at c.loop-row.invariant) c.loop-row-test.true c.index-read-row.is low
       (rw w.value-then-value-lt10.ensures.is at w.with_digit.ensures.is) w.with_digit.ensures.fits)
   | in-Some+else-value-lt10+in_ok-push_numbers-in-Some w ↦
-      let high : 10 ≤ c.index-rows-row.result = subst (λ (n : ℕ). 10 ≤ n) w.value.ensures.is w.if-value-lt10.false in
+      let high : 10 ≤ c.index-read-row.result = subst (λ (n : ℕ). 10 ≤ n) w.value.ensures.is w.if-value-lt10.false in
       rw (w.location-is, w.part-is, w.table-is)
-      (tabled_last1 (rw w.in-Some.is at c.loop-row.invariant) c.loop-row-test.true c.index-rows-row.is high
+      (tabled_last1 (rw w.in-Some.is at c.loop-row.invariant) c.loop-row-test.true c.index-read-row.is high
       w.first_word-word.result w.first_word-word.ensures
       (rw w.value-else-value-lt10.ensures.is at w.in_ok-push_numbers-in-Some.ensures))
 ]

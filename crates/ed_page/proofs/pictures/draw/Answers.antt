@@ -1,0 +1,91 @@
+use Rattle.std.proofs.Common.{lit<, subst}
+use Rattle.std.specs.Prelude.{Err}
+use Rattle.ed_answers.specs.declared.reply.Rejection.{Rejection}
+use Rattle.ed_page.specs.Answers.{picture_buffers}
+use Rattle.ed_page.specs.Private.Asked.{answers_of, ends_of}
+use Rattle.ed_page.specs.Private.Stages.{Draws}
+use Rattle.ed_page.proofs.Replies.{is_long, not_long}
+use Rattle.ed_page.proofs.Outcomes.{program_due}
+use Rattle.ed_page.proofs.Written.{found_status, long_shown, low_status, picture_early, picture_shown, picture_unmade}
+use Rattle.ed_page.proofs.pictures.draw.Goals as goal
+
+pub returns-then-words-ne1024 : goal.returns-then-words-ne1024
+returns-then-words-ne1024 c =
+    picture_early (answers_of c.args.program c.args.settings) (ends_of c.args.program c.args.settings)
+    c.args.text.now
+    (picture_buffers c.args.words.now c.args.digits.now c.args.paper.now c.args.note.now c.args.registers.now)
+    (program_due c.args.program c.args.settings c.args.text.now) c.then-words-ne1024.either
+
+pub returns-then-is_too_long : goal.returns-then-is_too_long
+returns-then-is_too_long c =
+    long_shown (answers_of c.args.program c.args.settings) (ends_of c.args.program c.args.settings) c.args.text.now
+    (c.if-words-ne1024.false, c.if-digits-ne512.false) (is_long _ _ c.is_too_long.ensures c.if-is_too_long.true)
+    c.show.ensures
+
+pub returns-in-Ok : goal.returns-in-Ok
+returns-in-Ok c =
+    picture_shown (answers_of c.args.program c.args.settings) (ends_of c.args.program c.args.settings) c.args.text.now
+    (c.if-words-ne1024.false, c.if-digits-ne512.false) (not_long _ _ c.is_too_long.ensures c.if-is_too_long.false)
+    c.in-Ok.ensures c.deref.ensures.value c.deref-in-Ok.ensures.value c.show-in-Ok.ensures
+
+pub show-requires-clause-words : goal.show-requires-clause-words
+show-requires-clause-words c = c.if-words-ne1024.false
+
+pub show-requires-clause-digits : goal.show-requires-clause-digits
+show-requires-clause-digits c = c.if-digits-ne512.false
+
+pub show-requires-in-Ok-clause-words : goal.show-requires-in-Ok-clause-words
+show-requires-in-Ok-clause-words c = c.if-words-ne1024.false
+
+pub show-requires-in-Ok-clause-digits : goal.show-requires-in-Ok-clause-digits
+show-requires-in-Ok-clause-digits c = c.if-digits-ne512.false
+
+pub show-requires-in-Err-Refused-clause-words : goal.show-requires-in-Err-Refused-clause-words
+show-requires-in-Err-Refused-clause-words c = c.if-words-ne1024.false
+
+pub show-requires-in-Err-Refused-clause-digits : goal.show-requires-in-Err-Refused-clause-digits
+show-requires-in-Err-Refused-clause-digits c = c.if-digits-ne512.false
+
+pub show-requires-clause-low : goal.show-requires-clause-low
+show-requires-clause-low c = lit< tt
+
+pub show-requires-clause-found : goal.show-requires-clause-found
+show-requires-clause-found c e = cc
+
+pub show-requires-in-Ok-clause-low : goal.show-requires-in-Ok-clause-low
+show-requires-in-Ok-clause-low c = low_status c.in-Ok.ensures.0.2
+
+pub show-requires-in-Ok-clause-found : goal.show-requires-in-Ok-clause-found
+show-requires-in-Ok-clause-found c = found_status c.in-Ok.ensures.0.2
+
+pub show-requires-in-Err-Refused-clause-low : goal.show-requires-in-Err-Refused-clause-low
+show-requires-in-Err-Refused-clause-low c = low_status
+    (subst
+    (λ (e : Rejection). Draws (answers_of c.args.program c.args.settings) (ends_of c.args.program c.args.settings)
+    c.args.text.now (Err e))
+    c.in-Err-Refused.field-0-is c.in-Err-Refused.ensures).0.2
+
+pub show-requires-in-Err-Refused-clause-found : goal.show-requires-in-Err-Refused-clause-found
+show-requires-in-Err-Refused-clause-found c = found_status
+    (subst
+    (λ (e : Rejection). Draws (answers_of c.args.program c.args.settings) (ends_of c.args.program c.args.settings)
+    c.args.text.now (Err e))
+    c.in-Err-Refused.field-0-is c.in-Err-Refused.ensures).0.2
+
+pub returns-in-Err-Refused : goal.returns-in-Err-Refused
+returns-in-Err-Refused c =
+    let answers = answers_of c.args.program c.args.settings in
+    let Ends = ends_of c.args.program c.args.settings in
+    picture_shown answers Ends c.args.text.now (c.if-words-ne1024.false, c.if-digits-ne512.false)
+    (not_long _ _ c.is_too_long.ensures c.if-is_too_long.false)
+    (subst (λ (e : Rejection). Draws answers Ends c.args.text.now (Err e)) c.in-Err-Refused.field-0-is
+    c.in-Err-Refused.ensures)
+    c.deref-in-Err-Refused.ensures.value c.deref-in-Err-Refused-2.ensures.value c.show-in-Err-Refused.ensures
+
+pub returns-in-Err-Memory : goal.returns-in-Err-Memory
+returns-in-Err-Memory c =
+    picture_unmade (answers_of c.args.program c.args.settings) (ends_of c.args.program c.args.settings)
+    c.args.text.now
+    (picture_buffers c.args.words.now c.args.digits.now c.args.paper.now c.args.note.now c.args.registers.now)
+    (c.if-words-ne1024.false, c.if-digits-ne512.false)
+    (not_long _ _ c.is_too_long.ensures c.if-is_too_long.false)

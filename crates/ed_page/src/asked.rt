@@ -1,0 +1,82 @@
+//! What the page asks about a text, and the answers to it.
+
+ghost use Rattle.std.specs.Prelude.{◌≤◌, length};
+ghost use Rattle.ed_answers.specs.Answer.{of_input};
+ghost use Rattle.ed_answers.specs.declared.input.TheConstants.{INPUT_BYTES};
+ghost use Rattle.ed_page.specs.Answers.{IsTextWritten, text_buffers};
+ghost use Rattle.ed_page.specs.Private.Asked.{answers_to};
+ghost use Rattle.ed_page.specs.Private.Stages.{IsAnswered};
+
+use crate::first_items::row_items1;
+use crate::items::row_items;
+use crate::texts::row_codes;
+use crate::told::{NO_MEMORY, TOO_LONG_STATUS, is_too_long, tell};
+use crate::writing::Lengths;
+use ed_answers::{Rejection, Reply, TOO_LONG, linked_of, list, punch, rows_of};
+use ed_command::Settings;
+use ed_words::Size;
+use std::alloc::Global;
+
+/// What is asked about a text.
+#[derive(Drop)]
+pub enum Asked {
+    /// The codes of the rows of a tape.
+    Rows,
+    /// The items of a tape on a machine of a size.
+    Items(Size),
+    /// The items of a tape for the Initial Orders of May 1949.
+    Items1,
+    /// The codes of the rows of a source's tape.
+    SourceRows(Size),
+    /// The text of a source's tape.
+    Punch(Settings),
+    /// The listing of a source.
+    Listing(Settings),
+}
+
+/// Writes what is answered to a text into two buffers, if they have room.
+pub fn write_answer(
+    alloc: Global,
+    asked: Asked,
+    text: &[u8],
+    out: &mut [u8],
+    note: &mut [u8],
+    lengths: &mut Lengths,
+) -> u32
+    ensures { IsTextWritten (of_input (answers_to asked)) text.now (text_buffers out.old note.old lengths.old)
+        (text_buffers out.new note.new lengths.new) result }
+{
+    if is_too_long(text) {
+        return tell(&[], TOO_LONG, TOO_LONG_STATUS, out, note, lengths);
+    }
+    match answer(alloc, asked, text) {
+        Ok(reply) => tell(&reply.out, &reply.note, reply.status, out, note, lengths),
+        Err(Rejection::Refused(reply)) => tell(
+            &reply.out,
+            &reply.note,
+            reply.status,
+            out,
+            note,
+            lengths,
+        ),
+        Err(Rejection::Memory) => NO_MEMORY,
+    }
+}
+
+/// What is answered to a text that is not too long.
+fn answer(alloc: Global, asked: Asked, text: &[u8]) -> Result<Reply, Rejection>
+    requires { length text.now ≤ INPUT_BYTES }
+    ensures { IsAnswered (answers_to asked) text.now result }
+{
+    match asked {
+        Asked::Rows => Ok(row_codes(alloc, &rows_of(alloc, text)?)?),
+        Asked::Items(size) => row_items(alloc, size, &rows_of(alloc, text)?),
+        Asked::Items1 => row_items1(alloc, &rows_of(alloc, text)?),
+        Asked::SourceRows(size) => {
+            let rows = linked_of(alloc, size, text)?.rows()?;
+            Ok(row_codes(alloc, &rows)?)
+        }
+        Asked::Punch(settings) => punch(alloc, settings, text),
+        Asked::Listing(settings) => list(alloc, settings, text),
+    }
+}
