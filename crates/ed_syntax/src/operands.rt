@@ -17,7 +17,7 @@ ghost use Rattle.ed_syntax.specs.Private.Seen.{part};
 use crate::Version;
 use crate::fault::FormFault;
 use crate::parts::Part;
-use crate::terms::{is, is_number, place_name, up_to};
+use crate::terms::{is, number, place_name};
 use arrayvec::ArrayVec;
 use ed_codes::{Code, row_of_byte};
 use ed_lines::{Operand, Setting};
@@ -31,25 +31,13 @@ fn single<'a, 'p>(
     ensures is { front result ≡ with_rest (map part rest.entry.now) (single (is_second version) run.now) }
     ensures fault { IfErr result (λ e. e ≡ FormFault.NotThisForm) }
 {
-    if is_number(run) {
-        return match up_to(32767, run) {
-            Some(number) => Ok((Some(Operand::Number(number as u16)), rest)),
-            None => Ok((None, rest)),
-        };
-    }
-    let name = place_name(version, run)?;
-    Ok((Some(Operand::Label { name, plus: 0 }), rest))
-}
-
-/// A number after a sign.
-fn signed(minus: bool, number: u64) -> i32
-    requires { number ≤ 1023 }
-    ensures { result ≡ with_sign minus number }
-{
-    if minus {
-        -(number as i32)
-    } else {
-        number as i32
+    match number(32767, run) {
+        Ok(number) => Ok((Some(Operand::Number(number as u16)), rest)),
+        Err(FormFault::OutOfRange) => Ok((None, rest)),
+        Err(FormFault::NotThisForm) => {
+            let name = place_name(version, run)?;
+            Ok((Some(Operand::Label { name, plus: 0 }), rest))
+        }
     }
 }
 
@@ -68,27 +56,25 @@ fn joined<'a, 'p>(
 {
     let first = place_name(version, run)?;
     let minus = sign == b'-';
-    if is_number(more) {
-        return match up_to(1023, more) {
-            Some(number) => {
-                let plus = signed(minus, number);
-                Ok((Some(Operand::Label { name: first, plus }), rest))
-            }
-            None => Ok((None, rest)),
-        };
+    match number(1023, more) {
+        Ok(number) => {
+            let plus = if minus { -(number as i32) } else { number as i32 };
+            Ok((Some(Operand::Label { name: first, plus }), rest))
+        }
+        Err(FormFault::OutOfRange) => Ok((None, rest)),
+        Err(FormFault::NotThisForm) if version.is_two() => {
+            let second = place_name(version, more)?;
+            Ok((
+                Some(Operand::Two {
+                    first,
+                    second,
+                    minus,
+                }),
+                rest,
+            ))
+        }
+        Err(FormFault::NotThisForm) => Err(FormFault::NotThisForm),
     }
-    if !version.is_two() {
-        return Err(FormFault::NotThisForm);
-    }
-    let second = place_name(version, more)?;
-    Ok((
-        Some(Operand::Two {
-            first,
-            second,
-            minus,
-        }),
-        rest,
-    ))
 }
 
 /// An operand at the front, and the parts after it. A number out of its range is no fault as long as these parts may

@@ -18,7 +18,7 @@ use crate::fault::FormFault;
 use crate::form::Form;
 use crate::operands::{operand, preset};
 use crate::parts::Part;
-use crate::terms::{integer, is, is_number, name, number, place_name, string, up_to};
+use crate::terms::{integer, is, name, number, place_name, string};
 use ed_codes::{Code, row_of_byte};
 use ed_lines::{Operand, Statement};
 use ed_words::{Long, Word};
@@ -311,19 +311,9 @@ pub(crate) fn is_version_two(parts: &[Part]) -> bool
 {
     match parts {
         [Part::Run(word), Part::Run(digits)] => {
-            is(word, b"version") && is_number(digits) && is_value_two(digits)
+            is(word, b"version") && matches!(number(2, digits), Ok(2))
         }
         _ => false,
-    }
-}
-
-/// Whether digits spell 2.
-fn is_value_two(digits: &[u8]) -> bool
-    ensures { result ≡ (value digits.now == 2) }
-{
-    match up_to(2, digits) {
-        Some(number) => number == 2,
-        None => false,
     }
 }
 
