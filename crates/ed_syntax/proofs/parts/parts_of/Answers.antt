@@ -1,6 +1,17 @@
-use Rattle.std.proofs.Common.{rules, ◌≡◌, ◌++◌, ◌∷◌, []}
+use Rattle.std.proofs.Common.{rules, ◌≡◌, refl, ◌++◌, ◌∷◌, [], List, Option, Some, None}
+use Rattle.std.specs.Prelude.{option_map}
+use Rattle.ed_syntax.specs.Parts.{LinePart}
+use Rattle.ed_syntax.specs.Private.PartReading.{parts_of}
 use Rattle.ed_syntax.proofs.PartLemmas.{more_parts}
 use Rattle.ed_syntax.proofs.parts.parts_of.Goals as goal
+
+-- no part comes before the first one
+nothing_before : (o : Option (List LinePart)) → o ≡ option_map (λ ps. [] ++ ps) o
+nothing_before None = refl
+nothing_before (Some ps) = refl
+
+pub loop-part-init : goal.loop-part-init
+loop-part-init c = rw c.new-parts.ensures.items (nothing_before (parts_of c.args.line.now))
 
 pub loop-part-preserved : goal.loop-part-preserved
 loop-part-preserved c =

@@ -10,3 +10,6 @@ returns-in_default-split_first c = grind (arith, common_steps)
 
 pub returns-in_default : goal.returns-in_default
 returns-in_default c = grind (arith, common_steps)
+
+pub returns-in-Some-Sign-eq58-default : goal.returns-in-Some-Sign-eq58-default
+returns-in-Some-Sign-eq58-default c = grind (arith, common_steps)
