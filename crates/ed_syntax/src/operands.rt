@@ -150,31 +150,15 @@ fn settings(version: Version, most: u8, parts: &[Part]) -> Result<ArrayVec<Setti
         return Err(FormFault::NotThisForm);
     }
     match setting(version, parts) {
-        Ok((setting, rest)) => and_more(version, setting, most - 1, rest),
+        Ok((setting, after)) => match after.split_first() {
+            None => both(setting, ArrayVec::new()),
+            Some((Part::Sign(b','), rest)) => {
+                let more = settings(version, most - 1, rest)?;
+                both(setting, more)
+            }
+            _ => Err(FormFault::NotThisForm),
+        },
         Err(_) => Err(FormFault::NotThisForm),
-    }
-}
-
-/// A setting, and up to `most` more after a comma.
-#[cycle(settings)]
-fn and_more(
-    version: Version,
-    setting: Option<Setting>,
-    most: u8,
-    parts: &[Part],
-) -> Result<ArrayVec<Setting, 6>, FormFault>
-    requires { most ≤ 5 }
-    ensures is { result ≡ form_result
-        (ranged_map array (and_more setting (map part parts.now) (settings (is_second version) most))) }
-    ensures few { IfOk result (λ ss. length ss.items ≤ most + 1) }
-{
-    match parts.split_first() {
-        None => both(setting, ArrayVec::new()),
-        Some((Part::Sign(b','), rest)) => {
-            let more = settings(version, most, rest)?;
-            both(setting, more)
-        }
-        _ => Err(FormFault::NotThisForm),
     }
 }
 
