@@ -120,23 +120,16 @@ fn setting<'a, 'p>(
                 setting_letter(*byte),
                 operand(version, rest),
             ) {
-                (Some(letter), Ok((operand, rest))) => Ok((with_letter(letter, operand), rest)),
+                (Some(letter), Ok((Some(operand), rest))) => {
+                    Ok((Some(Setting { letter, operand }), rest))
+                }
+                (Some(_), Ok((None, rest))) => Ok((None, rest)),
                 _ => Err(FormFault::NotThisForm),
             },
             _ => Err(FormFault::NotThisForm),
         },
         _ => Err(FormFault::NotThisForm),
     }
-}
-
-/// A letter with its operand, if the operand is in its range.
-fn with_letter(letter: Code, operand: Option<Operand>) -> Option<Setting>
-    ensures { result ≡ option_map (λ o. record { letter = letter; operand = o }) operand }
-{
-    Some(Setting {
-        letter,
-        operand: operand?,
-    })
 }
 
 /// One to `most` settings with commas between.

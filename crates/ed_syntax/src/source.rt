@@ -68,8 +68,12 @@ impl From<FormFault> for LineFault {
 fn are_line_bytes(line: &[u8]) -> bool
     ensures { result ≡ list_all is_line_byte line.now }
 {
-    line.iter()
-        .all(|byte| *byte == b'\t' || 32 <= *byte && *byte <= 126)
+    for byte in line {
+        if !matches!(byte, b'\t' | b' '..=b'~') {
+            return false;
+        }
+    }
+    true
 }
 
 /// What the line with this number says, or its fault with the least number.
