@@ -28,8 +28,7 @@ fn single<'a, 'p>(
     run: &[u8],
     rest: &'p [Part<'a>],
 ) -> Result<(Option<Operand>, &'p [Part<'a>]), FormFault>
-    ensures is { front result ≡ with_rest (map part rest.entry.now) (single (is_second version) run.now) }
-    ensures fault { IfErr result (λ e. e ≡ FormFault.NotThisForm) }
+    ensures { front result ≡ with_rest (map part rest.entry.now) (single (is_second version) run.now) }
 {
     match number(32767, run) {
         Ok(number) => Ok((Some(Operand::Number(number as u16)), rest)),
@@ -50,15 +49,18 @@ fn joined<'a, 'p>(
     more: &[u8],
     rest: &'p [Part<'a>],
 ) -> Result<(Option<Operand>, &'p [Part<'a>]), FormFault>
-    ensures is { front result
+    ensures { front result
         ≡ with_rest (map part rest.entry.now) (joined_operand (is_second version) run.now sign more.now) }
-    ensures fault { IfErr result (λ e. e ≡ FormFault.NotThisForm) }
 {
     let first = place_name(version, run)?;
     let minus = sign == b'-';
     match number(1023, more) {
         Ok(number) => {
-            let plus = if minus { -(number as i32) } else { number as i32 };
+            let plus = if minus {
+                -(number as i32)
+            } else {
+                number as i32
+            };
             Ok((Some(Operand::Label { name: first, plus }), rest))
         }
         Err(FormFault::OutOfRange) => Ok((None, rest)),
@@ -83,8 +85,7 @@ pub(crate) fn operand<'a, 'p>(
     version: Version,
     parts: &'p [Part<'a>],
 ) -> Result<(Option<Operand>, &'p [Part<'a>]), FormFault>
-    ensures is { front result ≡ operand (is_second version) (map part parts.entry.now) }
-    ensures fault { IfErr result (λ e. e ≡ FormFault.NotThisForm) }
+    ensures { front result ≡ operand (is_second version) (map part parts.entry.now) }
 {
     match parts {
         [Part::Run(run), Part::Sign(sign @ (b'+' | b'-')), after @ ..] => match after {
@@ -111,8 +112,7 @@ fn setting<'a, 'p>(
     version: Version,
     parts: &'p [Part<'a>],
 ) -> Result<(Option<Setting>, &'p [Part<'a>]), FormFault>
-    ensures is { front result ≡ setting (is_second version) (map part parts.entry.now) }
-    ensures fault { IfErr result (λ e. e ≡ FormFault.NotThisForm) }
+    ensures { front result ≡ setting (is_second version) (map part parts.entry.now) }
 {
     match parts.split_first() {
         Some((Part::Sign(byte), after)) => match after.split_first() {
