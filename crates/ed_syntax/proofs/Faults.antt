@@ -1,13 +1,17 @@
 -- What the code answers, by what is read.
-use Rattle.std.proofs.Common.{◌≡◌, ◌<◌, ap, refl, sym, Bool, true, List, [], ◌∷◌, map, length, arith}
-use Rattle.std.specs.Prelude.{Option, Some, None, Ok, Err}
+use Rattle.std.proofs.Common.{◌≡◌, ℕ, ◌<◌, ◌≤◌, false, ap, refl, sym, Bool, true, List, [], ◌∷◌, map, length, arith}
+use Rattle.std.specs.Prelude.{Option, Some, None, Ok, Err, nat_lt}
+use Rattle.std.specs.List.{list_all}
+use Rattle.std.proofs.lemmas.Bool.Decides.{nat_tests}
 use Rattle.ed_words.specs.Texts.{Text}
 use Rattle.ed_lines.specs.Names.{is_place_name}
 use Rattle.ed_syntax.specs.Private.Answers.{LineIs, form_fault}
 use Rattle.ed_syntax.specs.Private.Found.{form_result}
-use Rattle.ed_syntax.specs.Private.Grammar.{Ranged, labelled_line, ranged_map, placed_statement}
+use Rattle.ed_syntax.specs.Parts.{LinePart, is_line_byte}
+use Rattle.ed_syntax.specs.Private.PartReading.{parts_of}
+use Rattle.ed_syntax.specs.Private.Grammar.{Ranged, form_at, labelled_line, ranged_map, placed_statement}
 use Rattle.ed_syntax.specs.Private.Seen.{part}
-use Rattle.ed_syntax.specs.Private.SourceReading.{or_cause}
+use Rattle.ed_syntax.specs.Private.SourceReading.{line_of, or_cause}
 use Rattle.ed_syntax.specs.declared.fault.FormFault.{FormFault}
 use Rattle.ed_syntax.specs.declared.fault.FormFault.TheVariants.{NotThisForm, OutOfRange}
 use Rattle.ed_syntax.specs.declared.parts.Part.{Part}
@@ -26,6 +30,12 @@ pub made_form : {A B : Type 0} (f : A → B) (o : Option (Ranged A)) (a : A) →
 made_form f None a h = absurd (cc)
 made_form f (Some None) a h = absurd (cc)
 made_form f (Some (Some b)) a h = let same : a ≡ b = cc in rw same refl
+
+-- a line of plain bytes, which is not too long, says what its parts say
+pub line_read : (two : Bool) (k : ℕ) (line : Text) (parts : List LinePart) → list_all is_line_byte line ≡ true
+    → length line ≤ 120 → parts_of line ≡ Some parts → line_of two k line ≡ or_cause (form_at two k parts)
+line_read two k line parts plain short e =
+    let within : nat_lt 120 (length line) ≡ false = grind (arith, nat_tests) in rw (plain, within, e) refl
 
 -- a line that has no form has the fault
 pub line_fault : (o : Option (Ranged Form)) (e : FormFault) → Err e ≡ form_result o

@@ -1,12 +1,15 @@
 -- A number only grows by more digits.
 use Rattle.std.proofs.Common.{◌≡◌, ◌∙◌, ◌≤◌, ◌<◌, ℕ, ◌+◌, ◌*◌, ◌-◌, List, [], ◌∷◌}
-use Rattle.std.proofs.Common.{sym, ap, take, drop, length, get_or, false, arith}
-use Rattle.std.specs.Prelude.{fold, None, nat_le}
+use Rattle.std.proofs.Common.{sym, ap, refl, take, drop, length, get_or, true, false, arith}
+use Rattle.std.specs.Prelude.{fold, None, Err, nat_le}
 use Rattle.std.proofs.lemmas.Bool.Decides.{nat_tests}
 use Rattle.std.proofs.lemmas.List.{take-append-drop}
 use Rattle.std.proofs.lemmas.List.Sums.{fold-append, fold_more}
 use Rattle.ed_words.specs.Decimals.{value}
-use Rattle.ed_syntax.specs.Private.Grammar.{up_to}
+use Rattle.ed_syntax.specs.Parts.{is_number}
+use Rattle.ed_syntax.specs.Private.Found.{form_result}
+use Rattle.ed_syntax.specs.Private.Grammar.{number_up_to, up_to}
+use Rattle.ed_syntax.specs.declared.fault.FormFault.TheVariants.{OutOfRange}
 
 abbrev longer : ℕ → ℕ → ℕ
 longer n b = 10 * n + (b - 48)
@@ -28,3 +31,8 @@ too_large most v i xs lt e h =
     let large : most < value xs = omega (arith, more, e, h, prefix (i + 1) xs) in
     let over : nat_le (value xs) most ≡ false = grind (arith, nat_tests) in
     simp over
+
+-- digits that spell too large a number are a number out of its range
+pub out_of_range : (most : ℕ) (xs : List ℕ) → is_number xs ≡ true → up_to most xs ≡ None
+    → Err OutOfRange ≡ form_result (number_up_to most xs)
+out_of_range most xs number over = rw (number, over) refl

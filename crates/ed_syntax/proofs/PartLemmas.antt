@@ -123,12 +123,6 @@ splits_run text i lt e h = record {
 
 -- ---- what a call takes
 
-pub takes_more : (line rest : Text) (r : Result (Option (code.Part × Bor Text)) OpenQuote)
-    → parts_of line ≡ parts_of rest → length rest ≤ length line → Takes rest r → Takes line r
-takes_more line rest (Ok (Some p)) e h t = (e ∙ t.0, omega (arith, h, t.1))
-takes_more line rest (Ok None) e h t = e ∙ t
-takes_more line rest (Err x) e h t = e ∙ t
-
 pub quote_takes : (after inside rest : Text) → SplitsQuote after inside rest
     → (parts_of (34 ∷ after) ≡ option_map (λ ps. quoted inside ∷ ps) (parts_of rest))
     × (length rest < suc (length after))
@@ -147,6 +141,26 @@ run_takes line (x ∷ xs) rest b s = (
   (let size : length line ≡ length (x ∷ xs) + length rest = ap length s.whole ∙ length-append (x ∷ xs) rest
       in omega (arith, size)),
 )
+
+-- and what it takes after blanks: a string, nothing as a quote is never closed, or a run
+pub quote_taken : (line here after inside rest : Text) → parts_of line ≡ parts_of here → length here ≤ length line
+    → here ≡ 34 ∷ after → SplitsQuote after inside rest
+    → (parts_of line ≡ option_map (λ ps. quoted inside ∷ ps) (parts_of rest)) × (length rest < length line)
+quote_taken line here after inside rest same shorter split s =
+    let taken = quote_takes after inside rest s in
+    let size : length here ≡ suc (length after) = ap length split in
+    (same ∙ ap parts_of split ∙ taken.0, omega (arith, size, shorter, taken.1))
+
+pub open_taken : (line here after : Text) → parts_of line ≡ parts_of here → here ≡ 34 ∷ after
+    → has_quote after ≡ false → parts_of line ≡ None
+open_taken line here after same split none = same ∙ ap parts_of split ∙ open_parts [] after none
+
+pub run_taken : (line here after first rest : Text) (b : ℕ) → parts_of line ≡ parts_of here
+    → length here ≤ length line → here ≡ b ∷ after → is_run_byte b ≡ true → SplitsRun here first rest
+    → (parts_of line ≡ option_map (λ ps. run first ∷ ps) (parts_of rest)) × (length rest < length line)
+run_taken line here after first rest b same shorter split begins s =
+    let taken = run_takes here first rest (ap begins_run split ∙ begins) s in
+    (same ∙ taken.0, omega (arith, shorter, taken.1))
 
 pub more_parts : (line rest after : Text) (ps : List code.Part) (p : code.Part)
     → parts_of line ≡ option_map (λ t. map part ps ++ t) (parts_of rest)

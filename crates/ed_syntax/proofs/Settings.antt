@@ -1,8 +1,13 @@
 -- Settings, one at a time.
-use Rattle.std.proofs.Common.{◌≡◌, ◌∙◌, ℕ, zero, suc, ◌-◌, ◌<◌, Bool, List, refl, ap, arith}
-use Rattle.std.specs.Prelude.{Some, None, option_and_then}
-use Rattle.ed_syntax.specs.Parts.{LinePart}
-use Rattle.ed_syntax.specs.Private.Grammar.{Ranged, and_more, setting, settings}
+use Rattle.std.proofs.Common.{◌≡◌, ◌∙◌, ℕ, zero, suc, ◌-◌, ◌<◌, Bool, List, [], ◌∷◌, refl, ap, arith}
+use Rattle.std.specs.Prelude.{Option, Some, None, Ok, Err, option_map, option_and_then}
+use Rattle.std.specs.Option.{ok_or}
+use Rattle.arrayvec.specs.ArrayVec.{ArrayVec}
+use Rattle.ed_syntax.specs.Parts.{LinePart, sign, array}
+use Rattle.ed_syntax.specs.Private.Found.{form_result}
+use Rattle.ed_syntax.specs.Private.Grammar.{Ranged, and_more, both, ranged_map, setting, settings}
+use Rattle.ed_syntax.specs.declared.fault.FormFault.{FormFault}
+use Rattle.ed_syntax.specs.declared.fault.FormFault.TheVariants.{NotThisForm, OutOfRange}
 use Rattle.ed_lines.specs.declared.program.Setting.{Setting}
 
 step : (two : Bool) (k : ℕ) (parts : List LinePart) → 0 < k
@@ -26,3 +31,53 @@ pub first_setting : (two : Bool) (k : ℕ) (parts rest : List LinePart) (s : Ran
     → settings two k parts ≡ and_more s rest (settings two (k - 1))
 first_setting two k parts rest s h e =
     step two k parts h ∙ ap (option_and_then (λ p. and_more p.0 p.1 (settings two (k - 1)))) e
+
+-- a setting before what is neither the end nor a comma
+pub not_read : (two : Bool) (k : ℕ) (parts rest : List LinePart) (s : Ranged Setting) → 0 < k
+    → setting two parts ≡ Some (s, rest) → and_more s rest (settings two (k - 1)) ≡ None
+    → Err NotThisForm ≡ form_result (ranged_map array (settings two k parts))
+not_read two k parts rest s h e stop = rw (first_setting two k parts rest s h e, stop) refl
+
+-- a setting alone
+pub one_setting : (two : Bool) (k : ℕ) (parts : List LinePart) (s : Ranged Setting) → 0 < k
+    → setting two parts ≡ Some (s, [])
+    → ok_or (option_map array (both s (Some []))) OutOfRange ≡ form_result (ranged_map array (settings two k parts))
+one_setting two k parts s h e = rw (first_setting two k parts [] s h e) (alone s)
+  where
+    alone : (s : Ranged Setting) → ok_or (option_map array (both s (Some []))) OutOfRange
+        ≡ form_result (ranged_map array (Some (option_map (λ a. a ∷ []) s)))
+    alone None = refl
+    alone (Some x) = refl
+
+-- a setting before others that are not read
+pub fault_after : (two : Bool) (k : ℕ) (parts rest : List LinePart) (s : Ranged Setting) (fault : FormFault) → 0 < k
+    → setting two parts ≡ Some (s, sign 44 ∷ rest)
+    → Err fault ≡ form_result (ranged_map array (settings two (k - 1) rest))
+    → Err fault ≡ form_result (ranged_map array (settings two k parts))
+fault_after two k parts rest s fault h e =
+    rw (first_setting two k parts (sign 44 ∷ rest) s h e) (same s (settings two (k - 1) rest))
+  where
+    same : (s : Ranged Setting) (o : Option (Ranged (List Setting))) → Err fault ≡ form_result (ranged_map array o)
+        → Err fault ≡ form_result (ranged_map array (option_map (both s) o))
+    same s None f = f
+    same None (Some None) f = f
+    same (Some x) (Some None) f = f
+    same s (Some (Some xs)) f = absurd (cc)
+
+-- and before others that are
+pub setting_before : (two : Bool) (k : ℕ) (parts rest : List LinePart) (s : Ranged Setting) (more : ArrayVec Setting)
+    → 0 < k → setting two parts ≡ Some (s, sign 44 ∷ rest)
+    → Ok more ≡ form_result (ranged_map array (settings two (k - 1) rest))
+    → ok_or (option_map array (both s (Some more.items))) OutOfRange
+    ≡ form_result (ranged_map array (settings two k parts))
+setting_before two k parts rest s more h e =
+    rw (first_setting two k parts (sign 44 ∷ rest) s h e) (same s (settings two (k - 1) rest))
+  where
+    same : (s : Ranged Setting) (o : Option (Ranged (List Setting))) → Ok more ≡ form_result (ranged_map array o)
+        → ok_or (option_map array (both s (Some more.items))) OutOfRange
+        ≡ form_result (ranged_map array (option_map (both s) o))
+    same s None f = absurd (cc)
+    same s (Some None) f = absurd (cc)
+    same None (Some (Some xs)) f = refl
+    same (Some x) (Some (Some xs)) f =
+        let is : more ≡ array xs = cc in rw is refl

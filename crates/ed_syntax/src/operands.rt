@@ -17,7 +17,7 @@ ghost use Rattle.ed_syntax.specs.Private.Seen.{part};
 use crate::Version;
 use crate::fault::FormFault;
 use crate::parts::Part;
-use crate::terms::{is, is_number, place_name, up_to};
+use crate::terms::{is, number, place_name};
 use arrayvec::ArrayVec;
 use ed_codes::{Code, row_of_byte};
 use ed_lines::{Operand, Setting};
@@ -28,28 +28,15 @@ fn single<'a, 'p>(
     run: &[u8],
     rest: &'p [Part<'a>],
 ) -> Result<(Option<Operand>, &'p [Part<'a>]), FormFault>
-    ensures is { front result ≡ with_rest (map part rest.entry.now) (single (is_second version) run.now) }
-    ensures fault { IfErr result (λ e. e ≡ FormFault.NotThisForm) }
+    ensures { front result ≡ with_rest (map part rest.entry.now) (single (is_second version) run.now) }
 {
-    if is_number(run) {
-        return match up_to(32767, run) {
-            Some(number) => Ok((Some(Operand::Number(number as u16)), rest)),
-            None => Ok((None, rest)),
-        };
-    }
-    let name = place_name(version, run)?;
-    Ok((Some(Operand::Label { name, plus: 0 }), rest))
-}
-
-/// A number after a sign.
-fn signed(minus: bool, number: u64) -> i32
-    requires { number ≤ 1023 }
-    ensures { result ≡ with_sign minus number }
-{
-    if minus {
-        -(number as i32)
-    } else {
-        number as i32
+    match number(32767, run) {
+        Ok(number) => Ok((Some(Operand::Number(number as u16)), rest)),
+        Err(FormFault::OutOfRange) => Ok((None, rest)),
+        Err(FormFault::NotThisForm) => {
+            let name = place_name(version, run)?;
+            Ok((Some(Operand::Label { name, plus: 0 }), rest))
+        }
     }
 }
 
@@ -62,33 +49,34 @@ fn joined<'a, 'p>(
     more: &[u8],
     rest: &'p [Part<'a>],
 ) -> Result<(Option<Operand>, &'p [Part<'a>]), FormFault>
-    ensures is { front result
+    ensures { front result
         ≡ with_rest (map part rest.entry.now) (joined_operand (is_second version) run.now sign more.now) }
-    ensures fault { IfErr result (λ e. e ≡ FormFault.NotThisForm) }
 {
     let first = place_name(version, run)?;
     let minus = sign == b'-';
-    if is_number(more) {
-        return match up_to(1023, more) {
-            Some(number) => {
-                let plus = signed(minus, number);
-                Ok((Some(Operand::Label { name: first, plus }), rest))
-            }
-            None => Ok((None, rest)),
-        };
+    match number(1023, more) {
+        Ok(number) => {
+            let plus = if minus {
+                -(number as i32)
+            } else {
+                number as i32
+            };
+            Ok((Some(Operand::Label { name: first, plus }), rest))
+        }
+        Err(FormFault::OutOfRange) => Ok((None, rest)),
+        Err(FormFault::NotThisForm) if version.is_two() => {
+            let second = place_name(version, more)?;
+            Ok((
+                Some(Operand::Two {
+                    first,
+                    second,
+                    minus,
+                }),
+                rest,
+            ))
+        }
+        Err(FormFault::NotThisForm) => Err(FormFault::NotThisForm),
     }
-    if !version.is_two() {
-        return Err(FormFault::NotThisForm);
-    }
-    let second = place_name(version, more)?;
-    Ok((
-        Some(Operand::Two {
-            first,
-            second,
-            minus,
-        }),
-        rest,
-    ))
 }
 
 /// An operand at the front, and the parts after it. A number out of its range is no fault as long as these parts may
@@ -97,8 +85,7 @@ pub(crate) fn operand<'a, 'p>(
     version: Version,
     parts: &'p [Part<'a>],
 ) -> Result<(Option<Operand>, &'p [Part<'a>]), FormFault>
-    ensures is { front result ≡ operand (is_second version) (map part parts.entry.now) }
-    ensures fault { IfErr result (λ e. e ≡ FormFault.NotThisForm) }
+    ensures { front result ≡ operand (is_second version) (map part parts.entry.now) }
 {
     match parts {
         [Part::Run(run), Part::Sign(sign @ (b'+' | b'-')), after @ ..] => match after {
@@ -125,8 +112,7 @@ fn setting<'a, 'p>(
     version: Version,
     parts: &'p [Part<'a>],
 ) -> Result<(Option<Setting>, &'p [Part<'a>]), FormFault>
-    ensures is { front result ≡ setting (is_second version) (map part parts.entry.now) }
-    ensures fault { IfErr result (λ e. e ≡ FormFault.NotThisForm) }
+    ensures { front result ≡ setting (is_second version) (map part parts.entry.now) }
 {
     match parts.split_first() {
         Some((Part::Sign(byte), after)) => match after.split_first() {
@@ -134,23 +120,16 @@ fn setting<'a, 'p>(
                 setting_letter(*byte),
                 operand(version, rest),
             ) {
-                (Some(letter), Ok((operand, rest))) => Ok((with_letter(letter, operand), rest)),
+                (Some(letter), Ok((Some(operand), rest))) => {
+                    Ok((Some(Setting { letter, operand }), rest))
+                }
+                (Some(_), Ok((None, rest))) => Ok((None, rest)),
                 _ => Err(FormFault::NotThisForm),
             },
             _ => Err(FormFault::NotThisForm),
         },
         _ => Err(FormFault::NotThisForm),
     }
-}
-
-/// A letter with its operand, if the operand is in its range.
-fn with_letter(letter: Code, operand: Option<Operand>) -> Option<Setting>
-    ensures { result ≡ option_map (λ o. record { letter = letter; operand = o }) operand }
-{
-    Some(Setting {
-        letter,
-        operand: operand?,
-    })
 }
 
 /// One to `most` settings with commas between.
@@ -164,31 +143,15 @@ fn settings(version: Version, most: u8, parts: &[Part]) -> Result<ArrayVec<Setti
         return Err(FormFault::NotThisForm);
     }
     match setting(version, parts) {
-        Ok((setting, rest)) => and_more(version, setting, most - 1, rest),
+        Ok((setting, after)) => match after.split_first() {
+            None => both(setting, ArrayVec::new()),
+            Some((Part::Sign(b','), rest)) => {
+                let more = settings(version, most - 1, rest)?;
+                both(setting, more)
+            }
+            _ => Err(FormFault::NotThisForm),
+        },
         Err(_) => Err(FormFault::NotThisForm),
-    }
-}
-
-/// A setting, and up to `most` more after a comma.
-#[cycle(settings)]
-fn and_more(
-    version: Version,
-    setting: Option<Setting>,
-    most: u8,
-    parts: &[Part],
-) -> Result<ArrayVec<Setting, 6>, FormFault>
-    requires { most ≤ 5 }
-    ensures is { result ≡ form_result
-        (ranged_map array (and_more setting (map part parts.now) (settings (is_second version) most))) }
-    ensures few { IfOk result (λ ss. length ss.items ≤ most + 1) }
-{
-    match parts.split_first() {
-        None => both(setting, ArrayVec::new()),
-        Some((Part::Sign(b','), rest)) => {
-            let more = settings(version, most, rest)?;
-            both(setting, more)
-        }
-        _ => Err(FormFault::NotThisForm),
     }
 }
 

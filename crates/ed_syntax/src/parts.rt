@@ -1,6 +1,6 @@
 //! The parts of a line: runs, signs and strings.
 ghost use Rattle.std.specs.Prelude.{◌∷◌, true, ◌≡◌, ◌≤◌, ◌<◌, Some, None, IfSome};
-ghost use Rattle.std.specs.Prelude.{IfNone, IfOk, IfErr, map, false, length};
+ghost use Rattle.std.specs.Prelude.{IfNone, IfOk, map, option_map, false, length};
 ghost use Rattle.ed_syntax.specs.Parts.{begins_run, is_blank};
 ghost use Rattle.ed_lines.specs.Names.{is_run_byte};
 ghost use Rattle.ed_syntax.specs.Private.PartReading.{parts_of};
@@ -8,7 +8,8 @@ ghost use Rattle.ed_syntax.specs.Private.Seen.{part};
 ghost use Rattle.ed_syntax.specs.Private.PartFronts.{SplitsRun, SplitsQuote, Takes, begins_blank};
 ghost use Rattle.ed_syntax.specs.Parts.{has_quote};
 
-use std::alloc::{AllocFailed, Global};
+use ed_words::NoMemory;
+use std::alloc::Global;
 
 /// A part of a line.
 #[derive(Clone, Copy)]
@@ -25,35 +26,6 @@ pub(crate) enum Part<'a> {
 #[derive(Clone, Copy)]
 pub(crate) struct OpenQuote;
 
-/// Why a line has no parts.
-#[derive(Clone, Copy)]
-pub(crate) enum QuoteFault {
-    OpenQuote,
-    Memory,
-}
-
-impl From<OpenQuote> for QuoteFault {
-    ghost use Rattle.std.specs.Prelude.{◌≡◌};
-    ghost use Rattle.ed_syntax.specs.declared.parts.QuoteFault.TheVariants.{OpenQuote};
-
-    ghost from_gives = { λ _ e. e ≡ OpenQuote };
-
-    fn from(_open: OpenQuote) -> QuoteFault {
-        QuoteFault::OpenQuote
-    }
-}
-
-impl<T: Drop> From<AllocFailed<T>> for QuoteFault {
-    ghost use Rattle.std.specs.Prelude.{◌≡◌};
-    ghost use Rattle.ed_syntax.specs.declared.parts.QuoteFault.TheVariants.{Memory};
-
-    ghost from_gives = { λ _ e. e ≡ Memory };
-
-    fn from(_failed: AllocFailed<T>) -> QuoteFault {
-        QuoteFault::Memory
-    }
-}
-
 /// Whether a byte belongs to a run of lower-case letters, digits and `_`.
 pub(crate) fn is_run_byte(byte: u8) -> bool
     ensures { result ≡ is_run_byte byte }
@@ -61,24 +33,14 @@ pub(crate) fn is_run_byte(byte: u8) -> bool
     byte.is_ascii_lowercase() || byte.is_ascii_digit() || byte == b'_'
 }
 
-/// Whether a byte is a blank or a tab.
-fn is_blank(byte: u8) -> bool
-    ensures { result ≡ is_blank byte }
-{
-    byte == b' ' || byte == b'\t'
-}
-
-/// What follows the blanks at the front.
+/// What follows the blanks and tabs at the front.
 fn skip_blanks<'a>(line: &'a [u8]) -> &'a [u8]
     ensures same { parts_of line.entry.now ≡ parts_of result.now }
     ensures shorter { length result.now ≤ length line.entry.now }
     ensures stops { begins_blank result.now ≡ false }
 {
     let mut rest = line;
-    while let Some((first, after)) = rest.split_first() {
-        if !is_blank(*first) {
-            break;
-        }
+    while let [b' ' | b'\t', after @ ..] = rest {
         rest = after;
     }
     rest
@@ -109,37 +71,21 @@ fn split_quote<'a>(text: &'a [u8]) -> Option<(&'a [u8], &'a [u8])>
     None
 }
 
-/// The string that a quote opens, and what follows it.
-fn quoted_part<'a>(after: &'a [u8]) -> Result<Option<(Part<'a>, &'a [u8])>, OpenQuote>
-    ensures { Takes (34 ∷ after.entry.now) result }
-{
-    match split_quote(after) {
-        Some((inside, rest)) => Ok(Some((Part::Quoted(inside), rest))),
-        None => Err(OpenQuote),
-    }
-}
-
-/// The run at the front as a part.
-fn run_part<'a>(line: &'a [u8]) -> Result<Option<(Part<'a>, &'a [u8])>, OpenQuote>
-    requires { begins_run line.now ≡ true }
+/// The first part, and what follows it.
+fn next_part<'a>(line: &'a [u8]) -> Result<Option<(Part<'a>, &'a [u8])>, OpenQuote>
     ensures { Takes line.entry.now result }
 {
-    let (run, rest) = split_run(line);
-    Ok(Some((Part::Run(run), rest)))
-}
-
-/// The part at the front of a text that doesn't begin with a blank.
-fn part_here<'a>(line: &'a [u8]) -> Result<Option<(Part<'a>, &'a [u8])>, OpenQuote>
-    requires { begins_blank line.now ≡ false }
-    ensures { Takes line.entry.now result }
-{
-    match line.split_first() {
-        None => Ok(None),
-        Some((b';', _)) => Ok(None),
-        Some((b'"', after)) => quoted_part(after),
+    let here = skip_blanks(line);
+    match here.split_first() {
+        None | Some((b';', _)) => Ok(None),
+        Some((b'"', after)) => match split_quote(after) {
+            Some((inside, rest)) => Ok(Some((Part::Quoted(inside), rest))),
+            None => Err(OpenQuote),
+        },
         Some((first, after)) => {
             if is_run_byte(*first) {
-                run_part(line)
+                let (run, rest) = split_run(here);
+                Ok(Some((Part::Run(run), rest)))
             } else {
                 Ok(Some((Part::Sign(*first), after)))
             }
@@ -147,23 +93,20 @@ fn part_here<'a>(line: &'a [u8]) -> Result<Option<(Part<'a>, &'a [u8])>, OpenQuo
     }
 }
 
-/// The first part, and what follows it.
-fn next_part<'a>(line: &'a [u8]) -> Result<Option<(Part<'a>, &'a [u8])>, OpenQuote>
-    ensures { Takes line.entry.now result }
-{
-    part_here(skip_blanks(line))
-}
-
-/// The parts of a line.
-pub(crate) fn parts_of<'a>(alloc: Global, line: &'a [u8]) -> Result<Vec<Part<'a>>, QuoteFault>
-    ensures some { IfOk result (λ v. parts_of line.entry.now ≡ Some (map part v.items)) }
-    ensures none { IfErr result (λ e. e ≡ QuoteFault.OpenQuote → parts_of line.entry.now ≡ None) }
+/// The parts of a line; none if a quote is never closed.
+pub(crate) fn parts_of<'a>(alloc: Global, line: &'a [u8]) -> Result<Option<Vec<Part<'a>>>, NoMemory>
+    ensures { IfOk result (λ o. parts_of line.entry.now ≡ option_map (λ v. map part v.items) o) }
 {
     let mut parts = Vec::new(alloc);
     let mut rest = line;
-    while let Some((part, after)) = next_part(rest)? {
-        parts.push(part)?;
-        rest = after;
+    loop {
+        match next_part(rest) {
+            Ok(Some((part, after))) => {
+                parts.push(part)?;
+                rest = after;
+            }
+            Ok(None) => return Ok(Some(parts)),
+            Err(OpenQuote) => return Ok(None),
+        }
     }
-    Ok(parts)
 }

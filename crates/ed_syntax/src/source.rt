@@ -14,7 +14,7 @@ ghost use Rattle.ed_syntax.specs.Private.SourceReading.{is_two, line_of, lines_f
 use crate::Version;
 use crate::fault::FormFault;
 use crate::form::Form;
-use crate::parts::{QuoteFault, parts_of};
+use crate::parts::parts_of;
 use crate::statements::{form_at, is_version_two};
 use ed_lines::{Line, Program, SourceCause, SourceFault};
 use ed_words::NoMemory;
@@ -39,17 +39,14 @@ impl LineFault {
     }
 }
 
-impl From<QuoteFault> for LineFault {
+impl From<NoMemory> for LineFault {
     ghost use Rattle.std.specs.Prelude.{◌≡◌};
-    ghost use Rattle.ed_syntax.specs.Private.Answers.{parts_fault};
+    ghost use Rattle.ed_syntax.specs.declared.source.LineFault.TheVariants.{Memory};
 
-    ghost from_gives = { λ fault e. e ≡ parts_fault fault };
+    ghost from_gives = { λ _ e. e ≡ Memory };
 
-    fn from(fault: QuoteFault) -> LineFault {
-        match fault {
-            QuoteFault::OpenQuote => LineFault::Of(SourceCause::NotAStatement),
-            QuoteFault::Memory => LineFault::Memory,
-        }
+    fn from(_none: NoMemory) -> LineFault {
+        LineFault::Memory
     }
 }
 
@@ -71,8 +68,12 @@ impl From<FormFault> for LineFault {
 fn are_line_bytes(line: &[u8]) -> bool
     ensures { result ≡ list_all is_line_byte line.now }
 {
-    line.iter()
-        .all(|byte| *byte == b'\t' || 32 <= *byte && *byte <= 126)
+    for byte in line {
+        if !matches!(byte, b'\t' | b' '..=b'~') {
+            return false;
+        }
+    }
+    true
 }
 
 /// What the line with this number says, or its fault with the least number.
@@ -85,7 +86,9 @@ fn line_of(alloc: Global, version: Version, number: u32, line: &[u8]) -> Result<
     if line.len() > 120 {
         return Err(LineFault::Of(SourceCause::LongLine));
     }
-    let parts = parts_of(alloc, line)?;
+    let Some(parts) = parts_of(alloc, line)? else {
+        return Err(LineFault::Of(SourceCause::NotAStatement));
+    };
     Ok(form_at(version, number, &parts)?)
 }
 
@@ -120,10 +123,9 @@ fn version_of(alloc: Global, text: &[u8]) -> Result<Version, NoMemory>
         return Ok(Version::One);
     }
     let (line, _) = split_line(text);
-    match parts_of(alloc, line) {
-        Ok(parts) if is_version_two(&parts) => Ok(Version::Two),
-        Ok(_) | Err(QuoteFault::OpenQuote) => Ok(Version::One),
-        Err(QuoteFault::Memory) => Err(NoMemory),
+    match parts_of(alloc, line)? {
+        Some(parts) if is_version_two(&parts) => Ok(Version::Two),
+        _ => Ok(Version::One),
     }
 }
 

@@ -18,7 +18,7 @@ use crate::fault::FormFault;
 use crate::form::Form;
 use crate::operands::{operand, preset};
 use crate::parts::Part;
-use crate::terms::{integer, is, is_number, name, number, place_name, string, up_to};
+use crate::terms::{integer, is, name, number, place_name, string};
 use ed_codes::{Code, row_of_byte};
 use ed_lines::{Operand, Statement};
 use ed_words::{Long, Word};
@@ -37,12 +37,9 @@ fn function(byte: u8) -> Result<Code, FormFault>
 fn length_end(parts: &[Part]) -> Result<bool, FormFault>
     ensures { result ≡ ok_or (length_end (map part parts.now)) FormFault.NotThisForm }
 {
-    match parts.split_first() {
-        Some((Part::Sign(end), rest)) if rest.is_empty() => match end {
-            b'F' => Ok(false),
-            b'D' => Ok(true),
-            _ => Err(FormFault::NotThisForm),
-        },
+    match parts {
+        [Part::Sign(b'F')] => Ok(false),
+        [Part::Sign(b'D')] => Ok(true),
         _ => Err(FormFault::NotThisForm),
     }
 }
@@ -52,23 +49,18 @@ fn order_end(version: Version, parts: &[Part]) -> Result<(Option<Operand>, bool)
     ensures { result ≡ ok_or (order_end (is_second version) (map part parts.now)) FormFault.NotThisForm }
 {
     match parts.split_first() {
-        Some((Part::Sign(_), _)) => with_length(Some(Operand::Number(0)), parts),
+        Some((Part::Sign(_), _)) => {
+            let length = length_end(parts)?;
+            Ok((Some(Operand::Number(0)), length))
+        }
         _ => match operand(version, parts) {
-            Ok((operand, rest)) => with_length(operand, rest),
+            Ok((operand, rest)) => {
+                let length = length_end(rest)?;
+                Ok((operand, length))
+            }
             Err(_) => Err(FormFault::NotThisForm),
         },
     }
-}
-
-/// An operand with the length after it.
-fn with_length(
-    operand: Option<Operand>,
-    parts: &[Part],
-) -> Result<(Option<Operand>, bool), FormFault>
-    ensures { result ≡ ok_or (option_map (λ l. (operand, l)) (length_end (map part parts.now))) FormFault.NotThisForm }
-{
-    let length = length_end(parts)?;
-    Ok((operand, length))
 }
 
 /// An order with this function.
@@ -109,22 +101,6 @@ fn long(parts: &[Part]) -> Result<Statement, FormFault>
     })
 }
 
-/// What follows `text`.
-fn text(parts: &[Part]) -> Result<Statement, FormFault>
-    ensures { result ≡ form_result (grammar.text (map part parts.now)) }
-{
-    let codes = string(parts)?;
-    Ok(Statement::Text { codes })
-}
-
-/// What follows `data`.
-fn tape_rows(parts: &[Part]) -> Result<Statement, FormFault>
-    ensures { result ≡ form_result (data_statement (map part parts.now)) }
-{
-    let codes = string(parts)?;
-    Ok(Statement::Rows { codes })
-}
-
 /// What follows `enter`.
 fn enter(parts: &[Part]) -> Result<Statement, FormFault>
     ensures { result ≡ form_result (enter (map part parts.now)) }
@@ -144,17 +120,12 @@ fn base(parts: &[Part]) -> Result<Option<u16>, FormFault>
 {
     match parts {
         [] => Ok(None),
-        [Part::Run(at), Part::Run(digits)] if is(at, b"at") => base_at(digits),
+        [Part::Run(at), Part::Run(digits)] if is(at, b"at") => {
+            let base = number(1023, digits)?;
+            Ok(Some(base as u16))
+        }
         _ => Err(FormFault::NotThisForm),
     }
-}
-
-/// The base that follows `at`.
-fn base_at(digits: &[u8]) -> Result<Option<u16>, FormFault>
-    ensures { result ≡ form_result (ranged_map Some (number_up_to 1023 digits.now)) }
-{
-    let base = number(1023, digits)?;
-    Ok(Some(base as u16))
 }
 
 /// What follows `segment`.
@@ -181,29 +152,18 @@ fn fetch(version: Version, parts: &[Part]) -> Result<Statement, FormFault>
             Part::Run(word),
             Part::Run(run),
             rest @ ..,
-        ] if is(word, b"as") => fetch_as(version, routine, run, rest),
+        ] if is(word, b"as") => {
+            let routine = name(routine)?;
+            let name = name(run)?;
+            let settings = preset(version, rest)?;
+            Ok(Statement::Fetch {
+                routine,
+                name,
+                settings,
+            })
+        }
         _ => Err(FormFault::NotThisForm),
     }
-}
-
-/// What follows the two names of a `use`.
-fn fetch_as(
-    version: Version,
-    routine: &[u8],
-    word: &[u8],
-    parts: &[Part],
-) -> Result<Statement, FormFault>
-    ensures { result ≡ form_result
-        (fetch (is_second version) (run routine.now ∷ run (codes "as") ∷ run word.now ∷ map part parts.now)) }
-{
-    let routine = name(routine)?;
-    let name = name(word)?;
-    let settings = preset(version, parts)?;
-    Ok(Statement::Fetch {
-        routine,
-        name,
-        settings,
-    })
 }
 
 /// A statement that may have a label.
@@ -212,23 +172,19 @@ fn placed(version: Version, parts: &[Part]) -> Result<Statement, FormFault>
 {
     match parts.split_first() {
         Some((Part::Sign(byte), rest)) => order(version, *byte, rest),
-        Some((Part::Run(run), rest)) => placed_word(version, run, rest),
+        Some((Part::Run(keyword), rest)) => {
+            if is(keyword, b"word") {
+                word(rest)
+            } else if is(keyword, b"text") {
+                let codes = string(rest)?;
+                Ok(Statement::Text { codes })
+            } else if version.is_two() && is(keyword, b"long") {
+                long(rest)
+            } else {
+                Err(FormFault::NotThisForm)
+            }
+        }
         _ => Err(FormFault::NotThisForm),
-    }
-}
-
-/// A statement that may have a label, by its keyword.
-fn placed_word(version: Version, keyword: &[u8], parts: &[Part]) -> Result<Statement, FormFault>
-    ensures { result ≡ form_result (placed_statement (is_second version) (run keyword.now ∷ map part parts.now)) }
-{
-    if is(keyword, b"word") {
-        word(parts)
-    } else if is(keyword, b"text") {
-        text(parts)
-    } else if version.is_two() && is(keyword, b"long") {
-        long(parts)
-    } else {
-        Err(FormFault::NotThisForm)
     }
 }
 
@@ -236,26 +192,20 @@ fn placed_word(version: Version, keyword: &[u8], parts: &[Part]) -> Result<State
 fn statement(version: Version, parts: &[Part]) -> Result<Statement, FormFault>
     ensures { result ≡ form_result (statement (is_second version) (map part parts.now)) }
 {
-    match parts.split_first() {
-        Some((Part::Run(run), rest)) => statement_word(version, run, rest),
-        _ => placed(version, parts),
-    }
-}
-
-/// A statement, by its keyword.
-fn statement_word(version: Version, keyword: &[u8], parts: &[Part]) -> Result<Statement, FormFault>
-    ensures { result ≡ form_result (statement (is_second version) (run keyword.now ∷ map part parts.now)) }
-{
+    let Some((Part::Run(keyword), rest)) = parts.split_first() else {
+        return placed(version, parts);
+    };
     if is(keyword, b"segment") {
-        segment(parts)
+        segment(rest)
     } else if is(keyword, b"use") {
-        fetch(version, parts)
+        fetch(version, rest)
     } else if is(keyword, b"enter") {
-        enter(parts)
+        enter(rest)
     } else if is(keyword, b"data") {
-        tape_rows(parts)
+        let codes = string(rest)?;
+        Ok(Statement::Rows { codes })
     } else {
-        placed_word(version, keyword, parts)
+        placed(version, parts)
     }
 }
 
@@ -288,42 +238,15 @@ fn labelled(version: Version, run: &[u8], parts: &[Part]) -> Result<Form, FormFa
     })
 }
 
-/// A line.
-fn form(version: Version, parts: &[Part]) -> Result<Form, FormFault>
-    ensures { result ≡ form_result (form (is_second version) (map part parts.now)) }
-{
-    match parts.split_first() {
-        None => Ok(Form {
-            label: None,
-            statement: None,
-        }),
-        Some((Part::Run(run), after)) => match after.split_first() {
-            Some((Part::Sign(b':'), rest)) => labelled(version, run, rest),
-            _ => unlabelled(version, parts),
-        },
-        _ => unlabelled(version, parts),
-    }
-}
-
 /// Whether a line is `version 2`.
 pub(crate) fn is_version_two(parts: &[Part]) -> bool
     ensures { result ≡ is_version_two (map part parts.now) }
 {
     match parts {
         [Part::Run(word), Part::Run(digits)] => {
-            is(word, b"version") && is_number(digits) && is_value_two(digits)
+            is(word, b"version") && matches!(number(2, digits), Ok(2))
         }
         _ => false,
-    }
-}
-
-/// Whether digits spell 2.
-fn is_value_two(digits: &[u8]) -> bool
-    ensures { result ≡ (value digits.now == 2) }
-{
-    match up_to(2, digits) {
-        Some(number) => number == 2,
-        None => false,
     }
 }
 
@@ -337,5 +260,15 @@ pub(crate) fn form_at(version: Version, number: u32, parts: &[Part]) -> Result<F
             statement: None,
         });
     }
-    form(version, parts)
+    match parts.split_first() {
+        None => Ok(Form {
+            label: None,
+            statement: None,
+        }),
+        Some((Part::Run(run), after)) => match after.split_first() {
+            Some((Part::Sign(b':'), rest)) => labelled(version, run, rest),
+            _ => unlabelled(version, parts),
+        },
+        _ => unlabelled(version, parts),
+    }
 }

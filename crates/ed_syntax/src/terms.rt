@@ -31,56 +31,27 @@ use std::str;
 fn are_run_bytes(bytes: &[u8]) -> bool
     ensures { result ≡ list_all is_run_byte bytes.now }
 {
-    bytes.iter().all(|byte| is_run_byte(*byte))
-}
-
-/// Whether each byte is a digit.
-fn are_digits(bytes: &[u8]) -> bool
-    ensures { result ≡ list_all is_digit bytes.now }
-{
-    bytes.iter().all(|byte| byte.is_ascii_digit())
-}
-
-/// Whether a run is a name.
-fn is_name(run: &[u8]) -> bool
-    ensures { result ≡ is_name run.now }
-{
-    match run.split_first() {
-        None => false,
-        Some((first, rest)) => {
-            first.is_ascii_lowercase() && rest.len() <= 15 && are_run_bytes(rest)
+    for byte in bytes {
+        if !is_run_byte(*byte) {
+            return false;
         }
     }
+    true
 }
 
-/// Whether a run is a local name.
-fn is_local_name(run: &[u8]) -> bool
-    ensures { result ≡ is_local_name run.now }
-{
-    match run.split_first() {
-        None => false,
-        Some((first, rest)) => {
-            *first == b'_' && 1 <= rest.len() && rest.len() <= 15 && are_run_bytes(rest)
-        }
-    }
-}
-
-/// Whether a run may be a label or stand in an operand.
+/// Whether a run may be a label or stand in an operand: it is a name or, in version 2, a local name.
 fn is_place_name(version: Version, run: &[u8]) -> bool
     ensures { result ≡ is_place_name (is_second version) run.now }
 {
-    is_name(run) || version.is_two() && is_local_name(run)
-}
-
-/// The name of a text that is one.
-fn name_of(text: &[u8]) -> Name
-    requires { IsNameText text.now }
-    ensures { result ≡ text.now }
-{
-    match str::from_utf8(text) {
-        Ok(text) => Name::new(text).unwrap(),
-        Err(_) => unreachable!(),
-    }
+    let Some((first, rest)) = run.split_first() else {
+        return false;
+    };
+    let begins = match first {
+        b'a'..=b'z' => true,
+        b'_' => version.is_two() && !rest.is_empty(),
+        _ => false,
+    };
+    begins && rest.len() <= 15 && are_run_bytes(rest)
 }
 
 /// A name.
@@ -88,11 +59,7 @@ pub(crate) fn name(run: &[u8]) -> Result<Name, FormFault>
     ensures none { IfErr result (λ e. (e ≡ FormFault.NotThisForm) × (is_name run.now ≡ false)) }
     ensures some { IfOk result (λ n. (n ≡ run.now) × (is_name run.now ≡ true)) }
 {
-    if is_name(run) {
-        Ok(name_of(run))
-    } else {
-        Err(FormFault::NotThisForm)
-    }
+    place_name(Version::One, run)
 }
 
 /// A name or, in version 2, a local name.
@@ -101,49 +68,44 @@ pub(crate) fn place_name(version: Version, run: &[u8]) -> Result<Name, FormFault
         (λ e. (e ≡ FormFault.NotThisForm) × (is_place_name (is_second version) run.now ≡ false)) }
     ensures some { IfOk result (λ n. (n ≡ run.now) × (is_place_name (is_second version) run.now ≡ true)) }
 {
-    if is_place_name(version, run) {
-        Ok(name_of(run))
-    } else {
-        Err(FormFault::NotThisForm)
+    if !is_place_name(version, run) {
+        return Err(FormFault::NotThisForm);
+    }
+    match str::from_utf8(run) {
+        Ok(text) => Ok(Name::new(text).unwrap()),
+        Err(_) => unreachable!(),
     }
 }
 
 /// Whether a run is a number.
-pub(crate) fn is_number(run: &[u8]) -> bool
+fn is_number(run: &[u8]) -> bool
     ensures { result ≡ is_number run.now }
 {
-    match run.split_first() {
-        None => false,
-        Some((first, rest)) => first.is_ascii_digit() && are_digits(rest),
-    }
-}
-
-/// The number that digits spell, if it is at most `most`.
-pub(crate) fn up_to(most: u64, digits: &[u8]) -> Option<u64>
-    requires { most < 2 ^ 36 }
-    ensures is { result ≡ up_to most digits.now }
-    ensures within { IfSome result (λ n. n ≤ most) }
-{
-    let mut value = 0;
-    for digit in digits {
-        value = 10 * value + u64::from(digit.saturating_sub(b'0'));
-        if value > most {
-            return None;
+    for byte in run {
+        if !byte.is_ascii_digit() {
+            return false;
         }
     }
-    Some(value)
+    !run.is_empty()
 }
 
 /// A number from 0 to `most`.
 pub(crate) fn number(most: u64, run: &[u8]) -> Result<u64, FormFault>
     requires { most < 2 ^ 36 }
     ensures is { result ≡ form_result (number_up_to most run.now) }
-    ensures within { IfOk result (λ n. n < 2 ^ 36) }
+    ensures within { IfOk result (λ n. n ≤ most) }
 {
     if !is_number(run) {
         return Err(FormFault::NotThisForm);
     }
-    up_to(most, run).ok_or(FormFault::OutOfRange)
+    let mut value = 0;
+    for digit in run {
+        value = 10 * value + u64::from(digit.saturating_sub(b'0'));
+        if value > most {
+            return Err(FormFault::OutOfRange);
+        }
+    }
+    Ok(value)
 }
 
 /// A number or, after a minus sign, its negative.
@@ -181,10 +143,8 @@ fn negative(least: u64, run: &[u8]) -> Result<i64, FormFault>
 pub(crate) fn string(parts: &[Part]) -> Result<ArrayVec<Code, 120>, FormFault>
     ensures { result ≡ ok_or (option_map array (string (map part parts.now))) FormFault.NotThisForm }
 {
-    match parts.split_first() {
-        Some((Part::Quoted(text), rest)) if rest.is_empty() => {
-            string_rows(text).ok_or(FormFault::NotThisForm)
-        }
+    match parts {
+        [Part::Quoted(text)] => string_rows(text).ok_or(FormFault::NotThisForm),
         _ => Err(FormFault::NotThisForm),
     }
 }

@@ -3,42 +3,19 @@ ghost use Rattle.std.specs.Prelude.{◌≡◌, ◌==◌, ◌++◌, IfOk, IfErr, 
 ghost use Rattle.std.specs.List.{list_all};
 ghost use Rattle.ed_writer.specs.Answers.{has_version_place, HasNoText, IsTextOf, IsWriteFault};
 ghost use Rattle.ed_writer.specs.Private.LineTexts.{IsTextOfLines, has_few, IsLinesFault};
-ghost use Rattle.ed_syntax.specs.Forms.{has_few_settings};
 ghost use Rattle.ed_syntax.specs.Versions.{is_second};
 ghost use Rattle.ed_syntax.specs.Sources.{IsProgram};
-ghost use Rattle.ed_writer.specs.Written.{form_text, line_text};
+ghost use Rattle.ed_writer.specs.Written.{line_text};
 
 use crate::WriteFault;
 use crate::statements::push_statement;
-use crate::text::{push, push_byte, push_name};
+use crate::text::push;
 use ed_syntax::{Line, Program, Version};
 use ed_words::NoMemory;
 use std::alloc::Global;
 
 /// The most bytes of a line of a source.
 const LINE_BYTES: usize = 120;
-
-/// Adds a line's label and statement.
-fn push_form(alloc: Global, text: &mut Vec<u8>, line: &Line) -> Result<(), NoMemory>
-    ensures is { IfOk result (λ _. text.new.items ≡ text.old.items ++ form_text line.now.label line.now.statement) }
-    ensures few { IfOk result (λ _. has_few_settings line.now.statement ≡ true) }
-{
-    if let Some(label) = &line.label {
-        push_name(text, label)?;
-        push(
-            text,
-            if line.statement.is_some() {
-                b": "
-            } else {
-                b":"
-            },
-        )?;
-    }
-    match &line.statement {
-        Some(statement) => push_statement(alloc, text, statement),
-        None => Ok(()),
-    }
-}
 
 /// Adds a line without its end.
 fn push_line(
@@ -51,9 +28,22 @@ fn push_line(
     ensures few { IfOk result (λ _. has_few (is_second version) line.now ≡ true) }
 {
     if version.is_two() && line.number == 1 {
-        push(text, b"version 2")
-    } else {
-        push_form(alloc, text, line)
+        return push(text, b"version 2");
+    }
+    if let Some(label) = &line.label {
+        push(text, label.text().as_bytes())?;
+        push(
+            text,
+            if line.statement.is_some() {
+                b": "
+            } else {
+                b":"
+            },
+        )?;
+    }
+    match &line.statement {
+        Some(statement) => push_statement(alloc, text, statement),
+        None => Ok(()),
     }
 }
 
@@ -70,7 +60,7 @@ fn lines_text(alloc: Global, version: Version, lines: &[Line]) -> Result<Vec<u8>
         if text.len() - start > LINE_BYTES {
             return Err(WriteFault::LongLine { line: line.number });
         }
-        push_byte(&mut text, b'\n')?;
+        push(&mut text, b"\n")?;
     }
     Ok(text)
 }

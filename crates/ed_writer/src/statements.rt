@@ -1,30 +1,15 @@
 //! Statements.
 ghost use Rattle.std.specs.Prelude.{◌≡◌, ◌++◌, ◌∷◌, [], IfOk, codes, Some, true};
 ghost use Rattle.ed_writer.specs.Written.{base_text, length_letter, order_operand, row_letter, settings_after};
-ghost use Rattle.ed_writer.specs.Written.{statement_text, string_text};
-ghost use Rattle.std.specs.Fmt.{decimal};
+ghost use Rattle.ed_writer.specs.Written.{statement_text};
 ghost use Rattle.ed_syntax.specs.Forms.{has_few_settings};
 
 use crate::operands::{push_order_operand, push_settings};
-use crate::text::{push, push_letter, push_named, push_number, push_string};
-use arrayvec::ArrayVec;
+use crate::text::{push, push_letter, push_named, push_numbered, push_rows};
 use ed_codes::Code;
 use ed_syntax::{Name, Operand, Setting, Statement};
 use ed_words::NoMemory;
 use std::alloc::Global;
-
-/// Adds the base of a segment, if it has one.
-fn push_base(alloc: Global, text: &mut Vec<u8>, base: Option<u16>) -> Result<(), NoMemory>
-    ensures { IfOk result (λ _. text.new.items ≡ text.old.items ++ base_text base) }
-{
-    match base {
-        Some(base) => {
-            push(text, b" at ")?;
-            push_number(alloc, text, u64::from(base))
-        }
-        None => Ok(()),
-    }
-}
 
 /// Adds an order.
 fn push_order(
@@ -59,27 +44,6 @@ fn push_fetch(
     push_settings(alloc, text, settings)
 }
 
-/// Adds a keyword, which ends with a blank, and a number.
-fn push_numbered(
-    alloc: Global,
-    text: &mut Vec<u8>,
-    keyword: &[u8],
-    number: u64,
-) -> Result<(), NoMemory>
-    ensures { IfOk result (λ _. text.new.items ≡ text.old.items ++ (keyword.now ++ decimal number)) }
-{
-    push(text, keyword)?;
-    push_number(alloc, text, number)
-}
-
-/// Adds a keyword, which ends with a blank, and a string.
-fn push_rows(text: &mut Vec<u8>, keyword: &[u8], rows: &ArrayVec<Code, 120>) -> Result<(), NoMemory>
-    ensures { IfOk result (λ _. text.new.items ≡ text.old.items ++ (keyword.now ++ string_text rows.now.items)) }
-{
-    push(text, keyword)?;
-    push_string(text, rows)
-}
-
 /// Adds the beginning of a segment.
 fn push_segment(
     alloc: Global,
@@ -90,7 +54,10 @@ fn push_segment(
     ensures { IfOk result (λ _. text.new.items ≡ text.old.items ++ (codes "segment " ++ (name.now ++ base_text base))) }
 {
     push_named(text, b"segment ", name)?;
-    push_base(alloc, text, base)
+    match base {
+        Some(base) => push_numbered(alloc, text, b" at ", u64::from(base)),
+        None => Ok(()),
+    }
 }
 
 /// Adds a statement.

@@ -1,4 +1,4 @@
-//! Bytes, numbers and names at the end of a text.
+//! Bytes, numbers, names and rows at the end of a text.
 ghost use Rattle.std.specs.Prelude.{◌≡◌, ◌++◌, ◌∷◌, [], IfOk, map};
 ghost use Rattle.std.specs.Fmt.{decimal};
 ghost use Rattle.ed_writer.specs.Written.{row_letter, string_text};
@@ -16,50 +16,47 @@ pub(crate) fn push(text: &mut Vec<u8>, bytes: &[u8]) -> Result<(), NoMemory>
     Ok(text.extend_from_slice(bytes)?)
 }
 
-/// Adds a byte to a text.
-pub(crate) fn push_byte(text: &mut Vec<u8>, byte: u8) -> Result<(), NoMemory>
-    ensures { IfOk result (λ _. text.new.items ≡ text.old.items ++ byte ∷ []) }
-{
-    push(text, &[byte])
-}
-
-/// Adds a name.
-pub(crate) fn push_name(text: &mut Vec<u8>, name: &Name) -> Result<(), NoMemory>
-    ensures { IfOk result (λ _. text.new.items ≡ text.old.items ++ name.now) }
-{
-    push(text, name.text().as_bytes())
-}
-
 /// Adds bytes and then a name.
 pub(crate) fn push_named(text: &mut Vec<u8>, before: &[u8], name: &Name) -> Result<(), NoMemory>
     ensures { IfOk result (λ _. text.new.items ≡ text.old.items ++ (before.now ++ name.now)) }
 {
     push(text, before)?;
-    push_name(text, name)
+    push(text, name.text().as_bytes())
 }
 
 /// Adds the letter or sign of a code.
 pub(crate) fn push_letter(text: &mut Vec<u8>, code: Code) -> Result<(), NoMemory>
     ensures { IfOk result (λ _. text.new.items ≡ text.old.items ++ row_letter code ∷ []) }
 {
-    push_byte(text, byte_of(code, false))
+    push(text, &[byte_of(code, false)])
 }
 
-/// Adds a number in decimal.
-pub(crate) fn push_number(alloc: Global, text: &mut Vec<u8>, number: u64) -> Result<(), NoMemory>
-    ensures { IfOk result (λ _. text.new.items ≡ text.old.items ++ decimal number) }
+/// Adds bytes and then a number in decimal.
+pub(crate) fn push_numbered(
+    alloc: Global,
+    text: &mut Vec<u8>,
+    before: &[u8],
+    number: u64,
+) -> Result<(), NoMemory>
+    ensures { IfOk result (λ _. text.new.items ≡ text.old.items ++ (before.now ++ decimal number)) }
 {
+    push(text, before)?;
     let digits = format!(in alloc; "{number}")?;
     push(text, digits.as_bytes())
 }
 
-/// Adds rows between quotes.
-pub(crate) fn push_string(text: &mut Vec<u8>, rows: &ArrayVec<Code, 120>) -> Result<(), NoMemory>
-    ensures { IfOk result (λ _. text.new.items ≡ text.old.items ++ string_text rows.now.items) }
+/// Adds a keyword, which ends with a blank, and rows between quotes.
+pub(crate) fn push_rows(
+    text: &mut Vec<u8>,
+    keyword: &[u8],
+    rows: &ArrayVec<Code, 120>,
+) -> Result<(), NoMemory>
+    ensures { IfOk result (λ _. text.new.items ≡ text.old.items ++ (keyword.now ++ string_text rows.now.items)) }
 {
-    push_byte(text, b'"')?;
+    push(text, keyword)?;
+    push(text, b"\"")?;
     for row in rows.iter() {
         push_letter(text, *row)?;
     }
-    push_byte(text, b'"')
+    push(text, b"\"")
 }

@@ -12,8 +12,6 @@ use Rattle.ed_syntax.specs.declared.source.LineFault.TheVariants as line
 use Rattle.ed_syntax.specs.declared.fault.FormFault.{FormFault}
 use Rattle.ed_syntax.specs.declared.fault.FormFault.TheVariants.{NotThisForm, OutOfRange}
 use Rattle.ed_lines.specs.declared.fault.SourceCause.TheVariants.{NotAStatement, NumberRange}
-use Rattle.ed_syntax.specs.declared.parts.QuoteFault.{QuoteFault}
-use Rattle.ed_syntax.specs.declared.parts.QuoteFault.TheVariants as parts
 
 -- a fault is the one of the definition, or memory ran out
 abbrev pub IsFaultOf : Result (List Line) Fault → SourceFault → Type 0
@@ -29,11 +27,6 @@ LinesAre wanted (Err e) = IsFaultOf wanted e
 abbrev pub fault_at : ℕ → LineFault → SourceFault
 fault_at k (line.Of c) = At k c
 fault_at k line.Memory = Memory
-
--- the fault of a line whose parts have this one
-abbrev pub parts_fault : QuoteFault → LineFault
-parts_fault parts.OpenQuote = line.Of NotAStatement
-parts_fault parts.Memory = line.Memory
 
 -- the fault of a line that has no form
 abbrev pub form_fault : FormFault → LineFault

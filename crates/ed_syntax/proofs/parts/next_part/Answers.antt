@@ -1,5 +1,23 @@
-use Rattle.ed_syntax.proofs.PartLemmas.{takes_more}
+use Rattle.std.proofs.Common.{rules, ◌≡◌, ◌∷◌, true}
+use Rattle.ed_lines.specs.Names.{is_run_byte}
+use Rattle.ed_syntax.proofs.PartLemmas.{quote_taken, open_taken, run_taken}
 use Rattle.ed_syntax.proofs.parts.next_part.Goals as goal
 
-pub returns : goal.returns
-returns c = takes_more _ _ _ c.skip_blanks.ensures.same c.skip_blanks.ensures.shorter c.part_here.ensures
+pub returns-in-Some-split_quote : goal.returns-in-Some-split_quote
+returns-in-Some-split_quote c =
+    let here = c.skip_blanks-here in
+    let split : here.result.now ≡ 34 ∷ c.in-Some-eq34-default.after.now = search rules in
+    quote_taken c.args.line.now here.result.now _ _ _ here.ensures.same here.ensures.shorter split c.in-Some-split_quote.ensures.some
+
+pub returns-in-None-split_quote : goal.returns-in-None-split_quote
+returns-in-None-split_quote c =
+    let here = c.skip_blanks-here in
+    let split : here.result.now ≡ 34 ∷ c.in-Some-eq34-default.after.now = search rules in
+    open_taken c.args.line.now here.result.now _ here.ensures.same split c.in-None-split_quote.ensures.none
+
+pub returns-then-is_run_byte : goal.returns-then-is_run_byte
+returns-then-is_run_byte c =
+    let here = c.skip_blanks-here in
+    let split : here.result.now ≡ c.in-Some.first.now ∷ c.in-Some.after.now = search rules in
+    let begins : is_run_byte c.in-Some.first.now ≡ true = search rules in
+    run_taken c.args.line.now here.result.now _ _ _ _ here.ensures.same here.ensures.shorter split begins c.split_run.ensures

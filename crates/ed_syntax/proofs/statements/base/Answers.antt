@@ -2,8 +2,14 @@ use Rattle.std.proofs.Common.{arith}
 use Rattle.std.proofs.lemmas.Grind.{common_steps}
 use Rattle.ed_syntax.proofs.statements.base.Goals as goal
 
+pub returns-in_err-base-in-Run : goal.returns-in_err-base-in-Run
+returns-in_err-base-in-Run c = grind (arith, common_steps)
+
 pub returns-in-empty : goal.returns-in-empty
 returns-in-empty c = grind (arith, common_steps)
+
+pub returns-in_ok-base-in-Run : goal.returns-in_ok-base-in-Run
+returns-in_ok-base-in-Run c = grind (arith, common_steps)
 
 pub returns-in_default : goal.returns-in_default
 returns-in_default c = grind (arith, common_steps)
@@ -19,6 +25,3 @@ returns-in_default-4 c = grind (arith, common_steps)
 
 pub returns-in_default-5 : goal.returns-in_default-5
 returns-in_default-5 c = grind (arith, common_steps)
-
-pub returns-in-Run : goal.returns-in-Run
-returns-in-Run c = grind (arith, common_steps)

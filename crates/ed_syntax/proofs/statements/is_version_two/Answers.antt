@@ -2,6 +2,18 @@ use Rattle.std.proofs.Common.{arith}
 use Rattle.std.proofs.lemmas.Grind.{common_steps}
 use Rattle.ed_syntax.proofs.statements.is_version_two.Goals as goal
 
+pub returns-in-Ok-eq2 : goal.returns-in-Ok-eq2
+returns-in-Ok-eq2 c = grind (arith, common_steps)
+
+pub returns-in_default-matches : goal.returns-in_default-matches
+returns-in_default-matches c = grind (arith, common_steps)
+
+pub returns-in_default-matches-2 : goal.returns-in_default-matches-2
+returns-in_default-matches-2 c = grind (arith, common_steps)
+
+pub returns-else-is : goal.returns-else-is
+returns-else-is c = grind (arith, common_steps)
+
 pub returns-in_default : goal.returns-in_default
 returns-in_default c = grind (arith, common_steps)
 
@@ -13,9 +25,3 @@ returns-in_default-3 c = grind (arith, common_steps)
 
 pub returns-in_default-4 : goal.returns-in_default-4
 returns-in_default-4 c = grind (arith, common_steps)
-
-pub returns-then-is_number : goal.returns-then-is_number
-returns-then-is_number c = grind (arith, common_steps)
-
-pub returns-else-is_number : goal.returns-else-is_number
-returns-else-is_number c = grind (arith, common_steps)

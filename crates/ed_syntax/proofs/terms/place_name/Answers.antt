@@ -3,5 +3,7 @@ use Rattle.ed_syntax.specs.Versions.{is_second}
 use Rattle.ed_syntax.proofs.NameLemmas.{place_name_text}
 use Rattle.ed_syntax.proofs.terms.place_name.Goals as goal
 
-pub name_of-requires : goal.name_of-requires
-name_of-requires c = place_name_text (is_second c.args.version) c.args.run.now (search rules)
+pub unreachable-requires : goal.unreachable-requires
+unreachable-requires c =
+    let text = place_name_text (is_second c.args.version) c.args.run.now (search rules) in
+    (c.in-Err.ensures.cases).0 text.utf8

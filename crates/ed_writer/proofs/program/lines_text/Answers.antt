@@ -24,7 +24,7 @@ loop-line-preserved c =
     let lines = c.args.lines.now in
     let line = c.line-item.result in
     let written : c.push_line.new.text.items ≡ here.text.items ++ line_text two line = c.in_ok-push_line.ensures.is in
-    let ended : c.push_byte.new.text.items ≡ c.push_line.new.text.items ++ 10 ∷ [] = c.in_ok-push_byte.ensures in
+    let ended : c.push.new.text.items ≡ c.push_line.new.text.items ++ 10 ∷ [] = c.in_ok-push.ensures in
     let short : length (line_text two line) ≤ 120 =
     omega (arith, ap length written, length-append here.text.items (line_text two line)) in
     record {

@@ -1,9 +1,9 @@
 use Rattle.std.proofs.Common.{◌≡◌, ◌≤◌, take}
 use Rattle.ed_words.specs.Decimals.{value}
-use Rattle.ed_syntax.proofs.terms.up_to.Given as goal
+use Rattle.ed_syntax.proofs.terms.number.Given as goal
 
 abbrev pub invariant-loop-digit : goal.invariant-loop-digit
 invariant-loop-digit l = record {
-  same : l.value ≡ value (take l.digit-index l.digits);
+  same : l.value ≡ value (take l.digit-index l.run);
   within : l.value ≤ l.most;
 }

@@ -1,6 +1,6 @@
 use Rattle.std.proofs.Common.{◌≡◌, ◌++◌, map, take}
 use Rattle.ed_writer.specs.Written.{row_letter}
-use Rattle.ed_writer.proofs.text.push_string.Given as goal
+use Rattle.ed_writer.proofs.text.push_rows.Given as goal
 
 -- the letters of the rows so far have been added
 abbrev pub invariant-loop-row : goal.invariant-loop-row

@@ -1,6 +1,6 @@
 use Rattle.std.proofs.Common.{arith}
 use Rattle.std.proofs.lemmas.Grind.{common_steps}
-use Rattle.ed_writer.proofs.program.push_form.Goals as goal
+use Rattle.ed_writer.proofs.program.push_line.Goals as goal
 
 pub returns-in-Some-statement-clause-is : goal.returns-in-Some-statement-clause-is
 returns-in-Some-statement-clause-is c = grind (arith, common_steps)
