@@ -1,7 +1,6 @@
 //! What is built from the lines of a source, one line after the other.
 ghost use Rattle.std.specs.Prelude.{◌≡◌, ◌≤◌, ◌<◌, ◌^◌, ◌+◌, ◌++◌, ◌∷◌, ◌||◌, None, Some, [], IfOk, OnOk};
 ghost use Rattle.std.specs.Prelude.{length, unwrap_or, ℕ};
-ghost use Rattle.ed_notation.specs.Spellings.{AreSpellable};
 ghost use Rattle.ed_library.specs.Routines.{find};
 ghost use Rattle.ed_link.specs.Private.Building.{BuildIs, IsFew};
 ghost use Rattle.ed_link.specs.Private.FaultTests.{is_enter, reach, word_extent};
@@ -67,7 +66,6 @@ fn add_line(
     counter: LocationCounter,
     statement: &Option<Statement>,
 ) -> Result<(), NoMemory>
-    requires spellable { AreSpellable built.old.items.items }
     requires table { length built.old.table.items ≡ 1024 }
     requires place { counter.place ≤ 2 ^ 30 }
     requires base { counter.base ≤ counter.place }
@@ -75,7 +73,6 @@ fn add_line(
         → (reach symbols.now statement.now counter).after ≤ 1024 }
     ensures items { OnOk result
         (built.new.items.items ≡ built.old.items.items ++ items_of symbols.now counter statement.now) }
-    ensures spellable { AreSpellable built.new.items.items }
     ensures table { OnOk result
         (built.new.table.items ≡ put_all built.old.table.items (placed_by_line symbols.now counter statement.now)) }
     ensures size { OnOk result (length built.new.table.items ≡ 1024) }
@@ -107,14 +104,8 @@ fn pass_line(
     Ok(())
 }
 
-/// A table of all locations without a word.
-fn empty_table(alloc: Global) -> Result<Vec<Option<Word>>, NoMemory>
-    ensures { IfOk result (λ v. v.items ≡ empty_table) }
-{
-    Ok(vec![in alloc; None; 1024]?)
-}
-
 /// Does nothing: its contract is what bounds the rows that a line gives.
+#[tactic(auto, using(crate::proofs::Bounds::found_few, crate::proofs::Bounds::none_few))]
 fn bound_rows(statement: &Option<Statement>)
     ensures { IsFew statement.now }
 {
@@ -122,21 +113,12 @@ fn bound_rows(statement: &Option<Statement>)
         Some(Statement::Text { codes } | Statement::Rows { codes }) => {
             let _length = codes.len();
         }
-        Some(Statement::Fetch { routine, .. }) => bound_routine(routine),
-        _ => {}
-    }
-}
-
-/// Does nothing: its contract is what bounds the items of a routine.
-#[tactic(auto, using(crate::proofs::Bounds::found_few, crate::proofs::Bounds::none_few))]
-fn bound_routine(routine: &Name)
-    ensures { length (routine_items (find routine.now)) ≤ 128 }
-{
-    match find(routine.text()) {
-        Some(routine) => {
-            let _length = routine.length();
+        Some(Statement::Fetch { routine, .. }) => {
+            if let Some(routine) = find(routine.text()) {
+                let _length = routine.length();
+            }
         }
-        None => {}
+        _ => {}
     }
 }
 
@@ -145,7 +127,7 @@ fn start(alloc: Global) -> Result<Built, NoMemory>
     ensures { IfOk result (λ b. (b.items.items ≡ []) × (b.table.items ≡ empty_table) × (b.entry ≡ None)
         × (b.after.items ≡ [])) }
 {
-    let table = empty_table(alloc)?;
+    let table = vec![in alloc; None; 1024]?;
     Ok(Built {
         items: Vec::new(alloc),
         table,

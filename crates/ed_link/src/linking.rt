@@ -10,11 +10,11 @@ ghost use Rattle.ed_link.specs.Labels.{labels};
 ghost use Rattle.ed_link.specs.Linked.{symbols_of};
 
 use crate::building::{Built, build};
-use crate::faults::{any_enter, missing, sooner, sooner_than};
+use crate::faults::{any_enter, sooner};
 use crate::linked::{LabelPlace, Linked};
 use crate::words::words_of;
 use ed_library::catalogue_size;
-use ed_lines::{Program, SourceFault};
+use ed_lines::{Program, SourceCause, SourceFault};
 use ed_symbols::{Definition, is_local, resolve};
 use ed_words::{NoMemory, Size};
 use std::alloc::Global;
@@ -44,22 +44,22 @@ fn link_names(
 {
     let _ready = catalogue_size();
     let has_enter = any_enter(&program.lines);
-    let missing = missing(has_enter, program.lines.len() as u32);
-    let built = match build(alloc, size, symbols, has_enter, &program.lines) {
-        Ok(built) => built,
-        Err(SourceFault::At { line, cause }) => {
-            let fault = SourceFault::At { line, cause };
-            return Err(sooner_than(names, sooner(fault, missing)));
-        }
-        Err(SourceFault::Memory) => return Err(SourceFault::Memory),
-    };
-    if let Some(names) = names {
-        return Err(sooner(names, missing));
+    match build(alloc, size, symbols, has_enter, &program.lines) {
+        Ok(built) => match names {
+            Some(names) => Err(names),
+            None => {
+                if has_enter {
+                    Ok(finish(alloc, symbols, built)?)
+                } else {
+                    Err(SourceFault::At {
+                        line: program.lines.len() as u32 + 1,
+                        cause: SourceCause::Enter,
+                    })
+                }
+            }
+        },
+        Err(fault) => Err(sooner(names, fault)),
     }
-    if let Some(missing) = missing {
-        return Err(missing);
-    }
-    Ok(finish(alloc, symbols, built)?)
 }
 
 /// The names that a linked program reports.

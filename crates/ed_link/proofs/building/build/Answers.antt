@@ -16,7 +16,6 @@ loop-line-preserved c =
       cause = sym c.in-None.ensures;
       few = c.bound_rows.ensures;
       items_are = added.items;
-      spellable = added.spellable;
       table_is = added.table;
       size = added.size;
       rows_are = added.after;
