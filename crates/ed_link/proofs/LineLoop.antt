@@ -16,7 +16,7 @@ use Rattle.ed_symbols.specs.declared.symbols.Definition.{Definition}
 use Rattle.ed_symbols.specs.declared.location_counter.LocationCounter.{LocationCounter}
 use Rattle.ed_symbols.specs.Faults.{or_later}
 use Rattle.ed_symbols.specs.Places.{after_statement, first_counter}
-use Rattle.ed_link.proofs.Lengths.{put_all_append}
+use Rattle.ed_link.proofs.Lengths.{put_all_append, put_all_length}
 use Rattle.ed_link.specs.declared.building.Built.{Built}
 use Rattle.ed_link.specs.Private.Building.{IsBuilt, first_past}
 use Rattle.ed_link.specs.Linked.{data_after, data_rows, entered_place, entry_from, placed_by_line, placed_from}
@@ -93,7 +93,6 @@ pub record Does (z : Size) (symbols : List Definition) (has_enter : Bool) (l : L
   pub few : IsFew l.statement
   pub items_are : m'.built.items.items ≡ m.built.items.items ++ items_of symbols m.counter l.statement
   pub table_is : m'.built.table.items ≡ put_all m.built.table.items (placed_by_line symbols m.counter l.statement)
-  pub size : length m'.built.table.items ≡ 1024
   pub rows_are : m'.built.after.items ≡ m.built.after.items ++ data_rows l.statement
   pub entry_is : (later : ℕ)
       → unwrap_or m'.built.entry later ≡ unwrap_or m.built.entry (entered_place symbols l.statement later)
@@ -125,7 +124,8 @@ step {z} {symbols} {has_enter} {lines} {n} {l} {m} {m'} d below is e =
           (put_all_append m.built.table.items (placed_by_line symbols m.counter l.statement)
           (placed_from symbols s rest)
           ∙ ap (λ (x : List Line). put_all m.built.table.items (placed_from symbols m.counter x)) (sym q) ∙ d.table_is);
-      size = e.size;
+      size = ap (λ (t : List (Option ℕ)). length t) e.table_is
+          ∙ put_all_length m.built.table.items (placed_by_line symbols m.counter l.statement) ∙ d.size;
       rows_are = rw e.rows_are (append_assoc m.built.after.items (data_rows l.statement) (data_after rest)
           ∙ ap (λ (x : List Line). m.built.after.items ++ data_after x) (sym q) ∙ d.rows_are);
       entry_is = e.entry_is (entry_from symbols rest)

@@ -19,16 +19,6 @@ use ed_symbols::{Definition, LocationCounter};
 use ed_words::{NoMemory, Size, Word};
 use std::alloc::Global;
 
-/// Adds the rows of a `data` line.
-fn push_rows(rows: &mut Vec<Code>, statement: &Option<Statement>) -> Result<(), NoMemory>
-    ensures { OnOk result (rows.new.items ≡ rows.old.items ++ data_rows statement.now) }
-{
-    match statement {
-        Some(Statement::Rows { codes }) => Ok(rows.extend_from_slice(codes)?),
-        _ => Ok(()),
-    }
-}
-
 /// What has been built from the lines so far.
 #[derive(Drop)]
 pub(crate) struct Built {
@@ -37,26 +27,6 @@ pub(crate) struct Built {
     pub(crate) table: Vec<Option<Word>>,
     pub(crate) entry: Option<u16>,
     pub(crate) after: Vec<Code>,
-}
-
-/// The entry with that of one more line.
-fn with_entry(
-    entry: Option<u16>,
-    symbols: &[Definition],
-    counter: LocationCounter,
-    statement: &Option<Statement>,
-) -> Option<u16>
-    requires fits { (reach symbols.now statement.now counter).from < (reach symbols.now statement.now counter).after
-        → (reach symbols.now statement.now counter).after ≤ 1024 }
-    ensures { (later : ℕ) → unwrap_or result later ≡ unwrap_or entry (entered_place symbols.now statement.now later) }
-{
-    if entry.is_some() {
-        return entry;
-    }
-    match statement {
-        Some(Statement::Enter { name }) => Some(entry_of(symbols, name)),
-        _ => None,
-    }
 }
 
 /// Adds what one more line gives.
@@ -75,16 +45,22 @@ fn add_line(
         (built.new.items.items ≡ built.old.items.items ++ items_of symbols.now counter statement.now) }
     ensures table { OnOk result
         (built.new.table.items ≡ put_all built.old.table.items (placed_by_line symbols.now counter statement.now)) }
-    ensures size { OnOk result (length built.new.table.items ≡ 1024) }
     ensures after { OnOk result (built.new.after.items ≡ built.old.after.items ++ data_rows statement.now) }
     ensures entry { OnOk result ((later : ℕ)
         → unwrap_or built.new.entry later ≡ unwrap_or built.old.entry (entered_place symbols.now statement.now later)) }
 {
     push_line(&mut built.items, symbols, counter, statement)?;
-    push_rows(&mut built.after, statement)?;
     put_line(&mut built.table, symbols, counter, statement);
-    built.entry = with_entry(built.entry, symbols, counter, statement);
-    Ok(())
+    match statement {
+        Some(Statement::Enter { name }) => {
+            if built.entry.is_none() {
+                built.entry = Some(entry_of(symbols, name));
+            }
+            Ok(())
+        }
+        Some(Statement::Rows { codes }) => Ok(built.after.extend_from_slice(codes)?),
+        _ => Ok(()),
+    }
 }
 
 /// Notes what one more line leaves for the lines after it.

@@ -1,6 +1,8 @@
 //! Linking a whole source.
-ghost use Rattle.std.specs.Prelude.{◌≡◌, ◌≤◌, IfOk, IfErr, length};
-ghost use Rattle.ed_notation.specs.Spellings.{AreSpellable};
+ghost use Rattle.std.specs.Prelude.{◌≡◌, ◌≤◌, ◌+◌, ◌^◌, true, IfOk, IfErr, length};
+ghost use Rattle.std.specs.List.{list_all};
+ghost use Rattle.ed_notation.specs.Items.{spelled_rows};
+ghost use Rattle.ed_notation.specs.Spellings.{canonicals, is_spellable};
 ghost use Rattle.ed_symbols.specs.Faults.{resolution};
 ghost use Rattle.ed_link.specs.Answers.{HasMeaningFault, IsLinked};
 ghost use Rattle.ed_link.specs.Words.{EachWordStands};
@@ -80,12 +82,10 @@ fn labels_of(alloc: Global, symbols: &[Definition]) -> Result<Vec<LabelPlace>, N
 }
 
 /// The linked program made from what was built of the lines.
-#[tactic(auto, using(crate::proofs::Spellable::all_spellable, crate::proofs::Bounds::tape_few))]
 fn finish(alloc: Global, symbols: &[Definition], built: Built) -> Result<Linked, NoMemory>
-    requires spellable { AreSpellable built.items.items }
+    requires spellable { list_all is_spellable built.items.items ≡ true }
     requires table { length built.table.items ≡ 1024 }
-    requires few_items { length built.items.items ≤ 480000 }
-    requires few_rows { length built.after.items ≤ 240000 }
+    requires few { length (spelled_rows (canonicals built.items.items)) + length built.after.items ≤ 2 ^ 22 }
     ensures { IfOk result (λ k. IsFinished symbols.now built k) }
 {
     let words = words_of(alloc, &built.table)?;

@@ -133,7 +133,7 @@ fn push_long(items: &mut Vec<Item>, place: u32, value: Long) -> Result<(), NoMem
 {
     let halves = value.halves();
     if place % 2 == 1 {
-        push(items, word_item(Word::new(0).unwrap()))?;
+        push(items, numbered(Code::P, 0, false))?;
     }
     push(items, word_item(halves.even))?;
     push(items, word_item(halves.odd))

@@ -17,7 +17,6 @@ loop-line-preserved c =
       few = c.bound_rows.ensures;
       items_are = added.items;
       table_is = added.table;
-      size = added.size;
       rows_are = added.after;
       entry_is = added.entry;
       spot_is = counter.is;

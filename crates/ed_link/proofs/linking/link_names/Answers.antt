@@ -3,6 +3,8 @@ use Rattle.ed_lines.specs.declared.program.Line.{Line}
 use Rattle.ed_link.specs.Private.Building.{BuildIs, IsBuilt}
 use Rattle.ed_link.specs.Private.FaultTests.{any_enter}
 use Rattle.ed_link.proofs.FaultLaw.{line_fault, name_fault}
+use Rattle.ed_link.proofs.Bounds.{tape_few}
+use Rattle.ed_link.proofs.Spellable.{all_spellable}
 use Rattle.ed_link.proofs.Finished.{built_spelled, finished}
 use Rattle.ed_link.proofs.linking.link_names.Goals as goal
 
@@ -12,10 +14,14 @@ build-requires c = omega arith
 pub finish-requires-clause-spellable : goal.finish-requires-clause-spellable
 finish-requires-clause-spellable c =
     let enters = c.any_enter-has_enter.ensures ∙ ap (λ (x : List Line). any_enter x) c.deref.ensures.value in
-    built_spelled _ c.catalogue_size-ready.ensures.ready c.args.program.now.formed c.requires.symbols enters
+    all_spellable c.in-Ok.built.items.items (built_spelled _ c.catalogue_size-ready.ensures.ready c.args.program.now.formed c.requires.symbols enters
     (sym c.requires.names ∙ c.in-None.is) c.if-has_enter.true
     (subst (λ (x : List Line). IsBuilt c.args.size c.args.symbols.now c.any_enter-has_enter.result x c.in-Ok.built)
-    c.deref-2.ensures.value c.in-Ok.ensures)
+    c.deref-2.ensures.value c.in-Ok.ensures))
+
+pub finish-requires-clause-few : goal.finish-requires-clause-few
+finish-requires-clause-few c =
+    tape_few c.in-Ok.built.items.items c.in-Ok.built.after.items c.in-Ok.ensures.few_items c.in-Ok.ensures.few_rows
 
 pub returns-in_ok-finish-in-None-clause-linked : goal.returns-in_ok-finish-in-None-clause-linked
 returns-in_ok-finish-in-None-clause-linked c =
