@@ -1,5 +1,5 @@
 -- The fault of a line with the least number: its test holds, and those before it fail.
-use Rattle.std.proofs.Common.{◌≡◌, ℕ, refl, Bool, true, false}
+use Rattle.std.proofs.Common.{◌≡◌, ℕ, refl, Bool, true, false, Option, Some, None}
 use Rattle.std.specs.Prelude.{if◌then◌else◌}
 use Rattle.ed_link.specs.declared.faults.Extent.{Extent}
 use Rattle.ed_link.specs.Private.FaultTests.{extent, overlaps}
@@ -26,3 +26,19 @@ pub within : {A : Type 0} (t : Bool) (r r' : Extent) (n n' : ℕ) (a b c d y z :
     else (if overlaps r' (extent n' r'.after) then d else y))))
 within t r r' n n' a b c d y z same size outside loader parameters past e =
     rw (← same, ← size, ← outside, ← loader, ← parameters, ← past) e
+
+-- the cause that one of two tests gives
+pub used : {A : Type 0} (t u : Bool) (a b x : A) (y : Option A)
+    → ◌≡◌ {A = Option A} (Some x) (if t then Some a else if u then Some b else None)
+    → ◌≡◌ {A = Option A} (Some x) (if t then Some a else if u then Some b else y)
+used true u a b x y e = e
+used false true a b x y e = e
+used false false a b x y e = absurd cc
+
+-- no test gives a cause
+pub unused : {A : Type 0} (t u : Bool) (a b : A) (y : Option A) {z : Option A}
+    → ◌≡◌ {A = Option A} None (if t then Some a else if u then Some b else None) → z ≡ y
+    → z ≡ (if t then Some a else if u then Some b else y)
+unused true u a b y e f = absurd cc
+unused false true a b y e f = absurd cc
+unused false false a b y e f = f

@@ -2,6 +2,7 @@
 use Rattle.std.proofs.Common.{◌≡◌, ◌⊎◌, inl, inr, ℕ, ◌+◌, ◌<◌, ◌≤◌, refl, sym, ap, ◌∙◌, subst, arith}
 use Rattle.std.proofs.Common.{Bool, true, false, ◌||◌, Option, Some, None, List, [], ◌∷◌, ◌++◌, length, nat_le}
 use Rattle.std.proofs.Common.{length-append, if◌then◌else◌}
+use Rattle.std.proofs.lemmas.Bool.Decides.{nat_tests}
 use Rattle.ed_words.proofs.Numbers.{le_of, not_le_of}
 use Rattle.ed_words.specs.declared.size.Size.{Size}
 use Rattle.std.specs.Prelude.{Result, Ok, Err, IfErr}
@@ -12,6 +13,7 @@ use Rattle.ed_lines.specs.declared.fault.SourceCause.{SourceCause}
 use Rattle.ed_lines.specs.declared.fault.SourceCause.TheVariants as causes
 use Rattle.ed_lines.specs.declared.fault.SourceFault.{SourceFault}
 use Rattle.ed_lines.specs.declared.fault.SourceFault.TheVariants.{At, Memory}
+use Rattle.ed_symbols.specs.declared.symbols.Definition.{Definition}
 use Rattle.ed_symbols.specs.declared.location_counter.LocationCounter.{LocationCounter}
 use Rattle.ed_symbols.specs.Places.{after_statement, first_counter}
 use Rattle.ed_symbols.specs.Faults.{or_later, resolution}
@@ -24,7 +26,7 @@ use Rattle.ed_link.specs.Faults.{HasEnter, SourceHasFault, on_line, no_enter}
 use Rattle.ed_symbols.specs.NameFaults.{number_of}
 use Rattle.ed_link.specs.Faults.{IsMeaningFault, HasNoFault}
 use Rattle.ed_link.proofs.FaultSentences.{extents_from, any_says, any_tests}
-use Rattle.ed_symbols.specs.NameFaults.{HasNameFault}
+use Rattle.ed_symbols.specs.NameFaults.{HasNameFault, StandsAfter}
 use Rattle.ed_symbols.proofs.LeastFaults.{same_cause}
 use Rattle.ed_symbols.proofs.FaultPasses.{first, finds, Finds, Numbered}
 use Rattle.ed_symbols.proofs.NameLaw.{AtLine, SaysLeast, found_says, numbers, say_names, spot_snoc}
@@ -245,6 +247,72 @@ module _ (z : Size) (lines : List Line) (numbered : Numbered lines) where
       by_answer (Some Memory) t = absurd t
       by_answer (Some (At m d)) t = one m d (t.least k c h.is) (h.least m d t.is)
 
+-- ---- what the code answers
+
+-- a fault that the code answers is the one wanted
+is_first : (wanted : Option SourceFault) (f : SourceFault) → wanted ≡ Some f → IsFirstFault wanted f
+is_first wanted (At k c) h = h
+is_first wanted Memory h = tt
+
+-- an answer that memory ran out
+is_memory : (wanted : Option SourceFault) (f : SourceFault) → ◌≡◌ {A = Option SourceFault} (Some f) (Some Memory)
+    → IsFirstFault wanted f
+is_memory wanted (At k c) h = absurd cc
+is_memory wanted Memory h = tt
+
+-- the fault of a source without an `enter` is later than one of its lines
+before_missing : (k n : ℕ) (c : SourceCause) (has_enter : Bool) → k ≤ n
+    → sooner (Some (At k c)) (missing has_enter n) ≡ Some (At k c)
+before_missing k n c true h = refl
+before_missing k n c false h = let e : nat_le k (n + 1) ≡ true = grind (arith, nat_tests) in rw e refl
+
+-- what the code looks for, from definitions and from whether there is an `enter`
+abbrev looked_for : Size → List Line → List Definition → Bool → Option SourceFault
+looked_for z lines symbols has_enter = fault_from z symbols has_enter (record { extents = []; entered = false })
+    first_counter lines
+
+module _ (z : Size) (lines : List Line) (numbered : Numbered lines) where
+  -- the number of a line
+  within : (k : ℕ) (before : List Line) (l : Line) → StandsAfter lines before l → k ≡ length before + 1
+      → (nat_le k 0 ≡ false) × (k ≤ length lines)
+  within k before l stands is =
+      let n : length lines ≡ length before + length (l ∷ stands.after) =
+      ap (λ (x : List Line). length x) stands.lines_are ∙ length-append before (l ∷ stands.after) in
+      let some : 0 < k = omega (arith, is) in
+      (grind (arith, nat_tests, some), omega (arith, n, is))
+
+  -- the fault of a line, or one of names that is sooner
+  pub line_first : (e f : SourceFault) → IsFirstFault (looked_for z lines (symbols_of lines) (any_enter lines)) e
+      → Some f ≡ sooner (resolution lines).fault (Some e)
+      → IsFirstFault (fault z lines) f
+  line_first (At m d) f h is =
+      let says = subst (SaysLeast (Meanings z lines numbered)) h (say_meaning z lines numbered) in
+      let a = says.0 in
+      let first : sooner (looked_for z lines (symbols_of lines) (any_enter lines)) (missing (any_enter lines) (length lines)) ≡ Some (At m d) =
+      ap (λ x. sooner x (missing (any_enter lines) (length lines))) h
+      ∙ before_missing m (length lines) d (any_enter lines) (within m a.0 a.1 a.2 a.3).1 in
+      is_first (fault z lines) f (ap (λ x. sooner (resolution lines).fault x) first ∙ sym is)
+  line_first Memory f h is = by_names (resolution lines).fault (say_names lines numbered) is
+    where
+      by_names : (names : Option SourceFault) → SaysLeast (HasNameFault lines) names
+          → Some f ≡ sooner names (Some Memory) → IsFirstFault (fault z lines) f
+      by_names None says is = is_memory (fault z lines) f is
+      by_names (Some Memory) says is = absurd says
+      by_names (Some (At k c)) says is =
+          let a = says.0 in
+          let late = (within k a.0 a.1 a.2 a.3).0 in
+          is_memory (fault z lines) f
+          (is ∙ ap (λ (b : Bool). if b then Some (At k c) else Some Memory) late)
+
+  -- a fault of names, if no line has another
+  pub names_alone : (f : SourceFault) → (resolution lines).fault ≡ Some f → (looked_for z lines (symbols_of lines) (any_enter lines)) ≡ None
+      → IsFirstFault (fault z lines) f
+  names_alone (At k c) h e =
+      let a = (subst (SaysLeast (HasNameFault lines)) h (say_names lines numbered)).0 in
+      (λ i. sooner (h i) (sooner (e i) (missing (any_enter lines) (length lines))))
+      ∙ before_missing k (length lines) c (any_enter lines) (within k a.0 a.1 a.2 a.3).1
+  names_alone Memory h e = tt
+
 -- the fault that is looked for is that of the definition, both ways
 pub record FaultIsFound (z : Size) (lines : List Line) : Type 0 where
   pub refused : (k : ℕ) (c : SourceCause) → fault z lines ≡ Some (At k c) → IsMeaningFault z lines k c
@@ -269,3 +337,27 @@ pub answer_has_fault : {A : Type 0} (z : Size) (lines : List Line) → AreNumber
 answer_has_fault z lines n (Ok a) h = tt
 answer_has_fault z lines n (Err (At k c)) h = (fault_law z lines n).refused k c h
 answer_has_fault z lines n (Err Memory) h = tt
+
+-- the answers about a source whose lines are numbered; what the code has are its definitions, and whether it has an
+-- `enter`
+module _ (z : Size) (lines : List Line) {symbols : List Definition} {has_enter : Bool} (n : AreNumbered lines)
+    (known : symbols ≡ symbols_of lines) (there : has_enter ≡ any_enter lines) where
+  same : looked_for z lines symbols has_enter ≡ looked_for z lines (symbols_of lines) (any_enter lines)
+  same = λ i. looked_for z lines (known i) (there i)
+
+  pub line_fault : {names : Option SourceFault} (e f : SourceFault) → names ≡ (resolution lines).fault
+      → IsFirstFault (looked_for z lines symbols has_enter) e → Some f ≡ sooner names (Some e) → IsFirstFault (fault z lines) f
+  line_fault {names} e f are h is =
+      line_first z lines (numbers lines n) e f (subst (λ (x : Option SourceFault). IsFirstFault x e) same h)
+      (is ∙ ap (λ (x : Option SourceFault). sooner x (Some e)) are)
+
+  pub name_fault : (f : SourceFault) → (resolution lines).fault ≡ Some f → looked_for z lines symbols has_enter ≡ None
+      → IsFirstFault (fault z lines) f
+  name_fault f h e = names_alone z lines (numbers lines n) f h (sym same ∙ e)
+
+  pub no_enter_fault : (resolution lines).fault ≡ None → looked_for z lines symbols has_enter ≡ None → has_enter ≡ false
+      → fault z lines ≡ Some (At (length lines + 1) causes.Enter)
+  no_enter_fault h e none =
+      let lacks : any_enter lines ≡ false = sym there ∙ none in
+      let clear : looked_for z lines (symbols_of lines) (any_enter lines) ≡ None = sym same ∙ e in
+      λ i. sooner (h i) (sooner (clear i) (missing (lacks i) (length lines)))

@@ -1,7 +1,9 @@
 -- A source that is linked has no fault, and its tape reaches its linked program.
-use Rattle.std.proofs.Common.{◌≡◌, refl, ap, ◌∙◌, subst, Bool, true, None, List, length}
+use Rattle.std.proofs.Common.{◌≡◌, refl, sym, ap, ◌∙◌, subst, ℕ, Bool, true, None, List, replicate}
+use Rattle.std.proofs.lemmas.List.{length-replicate}
 use Rattle.std.specs.List.{list_all}
 use Rattle.ed_words.specs.declared.size.Size.{Size}
+use Rattle.ed_notation.specs.Spellings.{AreSpellable}
 use Rattle.ed_library.specs.Entries.{catalogue}
 use Rattle.ed_library.specs.Ready.{is_ready}
 use Rattle.ed_lines.specs.declared.program.Line.{Line}
@@ -12,43 +14,61 @@ use Rattle.ed_symbols.specs.Faults.{resolution}
 use Rattle.ed_link.specs.declared.linked.Linked.{Linked}
 use Rattle.ed_link.specs.declared.building.Built.{Built}
 use Rattle.ed_link.specs.Linked.{symbols_of, linked_words, entry_from, placed_from}
-use Rattle.ed_link.specs.Punch.{punched_from}
-use Rattle.ed_link.specs.Private.FaultTests.{any_enter, fault, fault_from, missing}
+use Rattle.ed_link.specs.Punch.{punched_from, punched_items}
+use Rattle.ed_link.specs.Private.FaultTests.{any_enter, fault, fault_from}
 use Rattle.ed_link.specs.declared.linked.Placed.{Placed}
 use Rattle.ed_link.specs.Labels.{labels}
 use Rattle.ed_link.specs.Tables.{table_of, word_at, words_from}
 use Rattle.ed_link.proofs.Maps.{words_are}
 use Rattle.ed_link.specs.Answers.{IsLinked}
 use Rattle.ed_link.specs.Private.Building.{first_past, IsBuilt, IsFinished}
-use Rattle.ed_link.proofs.Accepted.{accepted_law}
+use Rattle.ed_link.proofs.Accepted.{accepted_law, can_be_spelled}
 use Rattle.ed_link.proofs.FaultLaw.{fault_law}
+
+-- lines that are built have no fault, if no name has one and there is an `enter`
+accepted : {z : Size} {lines : List Line} {symbols : List Definition} {has_enter : Bool} {b : Built}
+    → symbols ≡ symbols_of lines → has_enter ≡ any_enter lines → (resolution lines).fault ≡ None → has_enter ≡ true
+    → IsBuilt z symbols has_enter lines b → fault z lines ≡ None
+accepted {z} {lines} {symbols} {has_enter} h a names there built =
+    let clear : fault_from z (symbols_of lines) (any_enter lines) first_past first_counter lines ≡ None =
+    subst (λ (x : List Definition). fault_from z x (any_enter lines) first_past first_counter lines ≡ None) h
+    (subst (λ (x : Bool). fault_from z symbols x first_past first_counter lines ≡ None) a built.accepted) in
+    let enters : any_enter lines ≡ true = sym a ∙ there in
+    rw (names, clear, enters) refl
+
+-- the items of lines that are built
+items_are : {z : Size} {lines : List Line} {symbols : List Definition} {has_enter : Bool} {b : Built}
+    → symbols ≡ symbols_of lines → IsBuilt z symbols has_enter lines b → b.items.items ≡ punched_items lines
+items_are {lines = lines} h built = built.items ∙ ap (λ (x : List Definition). punched_from x first_counter lines) h
+
+-- they can be spelled
+pub built_spelled : {z : Size} {lines : List Line} {symbols : List Definition} {has_enter : Bool} {b : Built}
+    (two : Bool) → list_all is_ready catalogue ≡ true → list_all (is_line two) lines ≡ true
+    → symbols ≡ symbols_of lines → has_enter ≡ any_enter lines → (resolution lines).fault ≡ None → has_enter ≡ true
+    → IsBuilt z symbols has_enter lines b → AreSpellable b.items.items
+built_spelled {z} {lines} two tables formed h a names there built =
+    subst AreSpellable (sym (items_are h built))
+    (can_be_spelled tables z two lines (accepted h a names there built) formed (replicate 1024 0)
+    (length-replicate {A = ℕ} 1024 0))
 
 -- what the code has built from lines without a fault is the answer of linking
 pub finished : {z : Size} {lines : List Line} {symbols : List Definition} {has_enter : Bool} {b : Built} {k : Linked}
     (two : Bool)
     → list_all is_ready catalogue ≡ true → AreNumbered lines → list_all (is_line two) lines ≡ true
-    → symbols ≡ symbols_of lines → has_enter ≡ any_enter lines
-    → ((resolution lines).fault ≡ None) × (missing has_enter (length lines) ≡ None)
+    → symbols ≡ symbols_of lines → has_enter ≡ any_enter lines → (resolution lines).fault ≡ None → has_enter ≡ true
     → IsBuilt z symbols has_enter lines b → IsFinished symbols b k → IsLinked z lines k
-finished {z} {lines} {symbols} {has_enter} {b} {k} two tables numbered formed h a none built f =
-    let e1 : fault_from z (symbols_of lines) (any_enter lines) first_past first_counter lines ≡ None =
-    subst (λ (x : List Definition). fault_from z x (any_enter lines) first_past first_counter lines ≡ None) h
-    (subst (λ (x : Bool). fault_from z symbols x first_past first_counter lines ≡ None) a built.accepted) in
-    let e2 : missing (any_enter lines) (length lines) ≡ None =
-    subst (λ (x : Bool). missing x (length lines) ≡ None) a none.1 in
-    let accepted : fault z lines ≡ None = rw (none.0, e1, e2) refl in
-    let items : b.items.items ≡ punched_from (symbols_of lines) first_counter lines =
-    built.items ∙ ap (λ (x : List Definition). punched_from x first_counter lines) h in
+finished {z} {lines} {symbols} {has_enter} {b} {k} two tables numbered formed h a names there built f =
+    let none : fault z lines ≡ None = accepted h a names there built in
     let words : k.words.items ≡ words_from 0 (table_of (linked_words lines)) =
     f.words ∙ ap (λ t. words_from 0 t)
     (built.table ∙ ap (λ (x : List Definition). table_of (placed_from x first_counter lines)) h) in
     record {
-      accepted = (fault_law z lines numbered).accepted accepted;
-      items = f.items ∙ items;
+      accepted = (fault_law z lines numbered).accepted none;
+      items = f.items ∙ items_are h built;
       words = words;
       map = λ a l. ap (λ (x : List Placed). word_at x a) words ∙ words_are (linked_words lines) a l;
       entry = f.entry ∙ built.entry ∙ ap (λ (x : List Definition). entry_from x lines) h;
       after = f.after ∙ built.after;
       labels = f.labels ∙ ap (λ (x : List Definition). labels x) h;
-      loads = λ words whole. accepted_law tables z two lines accepted formed words whole;
+      loads = λ words whole. accepted_law tables z two lines none formed words whole;
     }

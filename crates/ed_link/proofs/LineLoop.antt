@@ -16,8 +16,7 @@ use Rattle.ed_symbols.specs.declared.symbols.Definition.{Definition}
 use Rattle.ed_symbols.specs.declared.location_counter.LocationCounter.{LocationCounter}
 use Rattle.ed_symbols.specs.Faults.{or_later}
 use Rattle.ed_symbols.specs.Places.{after_statement, first_counter}
-use Rattle.ed_notation.specs.Spellings.{AreSpellable}
-use Rattle.ed_link.proofs.Lengths.{put_all_append}
+use Rattle.ed_link.proofs.Lengths.{put_all_append, put_all_length}
 use Rattle.ed_link.specs.declared.building.Built.{Built}
 use Rattle.ed_link.specs.Private.Building.{IsBuilt, first_past}
 use Rattle.ed_link.specs.Linked.{data_after, data_rows, entered_place, entry_from, placed_by_line, placed_from}
@@ -77,7 +76,6 @@ pub record Doing (z : Size) (symbols : List Definition) (has_enter : Bool) (line
       ≡ fault_from z symbols has_enter first_past first_counter lines
   pub items_are : m.built.items.items ++ punched_from symbols m.counter (drop n lines)
       ≡ punched_from symbols first_counter lines
-  pub spellable : AreSpellable m.built.items.items
   pub table_is : put_all m.built.table.items (placed_from symbols m.counter (drop n lines))
       ≡ table_of (placed_from symbols first_counter lines)
   pub size : length m.built.table.items ≡ 1024
@@ -94,9 +92,7 @@ pub record Does (z : Size) (symbols : List Definition) (has_enter : Bool) (l : L
   pub cause : cause_of z symbols has_enter m.past l m.counter ≡ None
   pub few : IsFew l.statement
   pub items_are : m'.built.items.items ≡ m.built.items.items ++ items_of symbols m.counter l.statement
-  pub spellable : AreSpellable m'.built.items.items
   pub table_is : m'.built.table.items ≡ put_all m.built.table.items (placed_by_line symbols m.counter l.statement)
-  pub size : length m'.built.table.items ≡ 1024
   pub rows_are : m'.built.after.items ≡ m.built.after.items ++ data_rows l.statement
   pub entry_is : (later : ℕ)
       → unwrap_or m'.built.entry later ≡ unwrap_or m.built.entry (entered_place symbols l.statement later)
@@ -124,12 +120,12 @@ step {z} {symbols} {has_enter} {lines} {n} {l} {m} {m'} d below is e =
       items_are = rw (e.items_are, sp)
           (append_assoc m.built.items.items (items_of symbols m.counter l.statement) (punched_from symbols s rest)
           ∙ ap (λ (x : List Line). m.built.items.items ++ punched_from symbols m.counter x) (sym q) ∙ d.items_are);
-      spellable = e.spellable;
       table_is = rw (e.table_is, sp)
           (put_all_append m.built.table.items (placed_by_line symbols m.counter l.statement)
           (placed_from symbols s rest)
           ∙ ap (λ (x : List Line). put_all m.built.table.items (placed_from symbols m.counter x)) (sym q) ∙ d.table_is);
-      size = e.size;
+      size = ap (λ (t : List (Option ℕ)). length t) e.table_is
+          ∙ put_all_length m.built.table.items (placed_by_line symbols m.counter l.statement) ∙ d.size;
       rows_are = rw e.rows_are (append_assoc m.built.after.items (data_rows l.statement) (data_after rest)
           ∙ ap (λ (x : List Line). m.built.after.items ++ data_after x) (sym q) ∙ d.rows_are);
       entry_is = e.entry_is (entry_from symbols rest)
@@ -159,7 +155,6 @@ unfolding empty_table
 start past counter items table entry rows = record {
   fault = rw (past, counter) refl;
   items_are = rw (counter, items) refl;
-  spellable = rw items tt;
   table_is = rw (counter, table) refl;
   size = rw table (length-replicate {A = Option ℕ} 1024 None);
   rows_are = rw rows refl;
@@ -181,7 +176,6 @@ all_built {z} {symbols} {has_enter} {lines} {n} {m} d past within limit =
       accepted = sym d.fault ∙ ap (λ (x : List Line). fault_from z symbols has_enter m.past m.counter x) (sym none);
       items = sym (append-nil m.built.items.items)
           ∙ ap (λ (x : List Line). m.built.items.items ++ punched_from symbols m.counter x) none ∙ d.items_are;
-      spellable = d.spellable;
       table = ap (λ (x : List Line). put_all m.built.table.items (placed_from symbols m.counter x)) none ∙ d.table_is;
       size = d.size;
       entry = ap (λ (x : List Line). unwrap_or m.built.entry (entry_from symbols x)) none ∙ d.entry_is;

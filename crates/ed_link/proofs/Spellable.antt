@@ -1,14 +1,9 @@
--- One more item that can be spelled.
-use Rattle.std.proofs.Common.{◌≡◌, true, List, [], ◌∷◌, ◌++◌, refl}
+-- Items that can be spelled, by the test of all and by that of each.
+use Rattle.std.proofs.Common.{◌≡◌, true, List, [], ◌∷◌, refl}
 use Rattle.std.specs.List.{list_all}
 use Rattle.std.proofs.lemmas.Bool.{and_from, and_parts}
 use Rattle.ed_notation.specs.declared.item.Item.{Item}
 use Rattle.ed_notation.specs.Spellings.{AreSpellable, is_spellable}
-
--- one item more
-pub more : (is : List Item) (i : Item) → AreSpellable is → is_spellable i ≡ true → AreSpellable (is ++ i ∷ [])
-more [] i are h = (h, tt)
-more (j ∷ is) i are h = (are.0, more is i are.1 h)
 
 -- the test of all items by the test of each
 pub all_spellable : (is : List Item) → AreSpellable is → list_all is_spellable is ≡ true

@@ -1,17 +1,17 @@
 -- The steps of loops that make, of each element of a list, a part of what they give; what stands after the head of a
 -- segment.
-use Rattle.std.proofs.Common.{◌≡◌, ℕ, ◌+◌, ◌*◌, ◌/◌, ◌%◌, ◌^◌, ◌<◌, ◌≤◌, nat_eq, map, if◌then◌else◌}
-use Rattle.std.proofs.Common.{Some, None, refl, sym, ap, ◌∙◌, arith, Bool, true, false, nat_le, nat_lt}
+use Rattle.std.proofs.Common.{◌≡◌, ◌⊎◌, inl, inr, ℕ, ◌+◌, ◌*◌, ◌/◌, ◌%◌, ◌^◌, ◌<◌, ◌≤◌, nat_eq, map, if◌then◌else◌}
+use Rattle.std.proofs.Common.{Some, None, refl, sym, ap, ◌∙◌, arith, Bool, true, false, nat_lt}
 use Rattle.std.proofs.Common.{List, [], ◌∷◌, ◌++◌, length, drop, get_or, append_assoc, append-nil, Option}
-use Rattle.std.specs.List.{flat_map, list_all}
+use Rattle.std.specs.List.{flat_map}
 use Rattle.std.specs.Prelude.{◌&&◌, not}
-use Rattle.std.proofs.lemmas.Bool.{and_parts}
 use Rattle.std.proofs.lemmas.Bool.Decides.{nat_tests}
 use Rattle.std.proofs.lemmas.List.{at_drop_more, at_drop_all}
 use Rattle.ed_notation.specs.declared.item.Item.{Item}
 use Rattle.ed_library.specs.Entries.{entry}
 use Rattle.ed_library.specs.Routines.{table_item}
 use Rattle.ed_library.specs.declared.tables.TableRow.{TableRow}
+use Rattle.ed_lines.specs.declared.program.Operand.{Operand}
 use Rattle.ed_lines.specs.declared.program.Setting.{Setting}
 use Rattle.ed_lines.specs.declared.program.Statement.{Statement}
 use Rattle.ed_lines.specs.declared.program.Statement.TheVariants.{Segment, Order, Number, Text}
@@ -21,8 +21,8 @@ use Rattle.ed_symbols.specs.declared.location_counter.LocationCounter.{LocationC
 use Rattle.ed_symbols.specs.Names.{is_local}
 use Rattle.ed_link.specs.Labels.{label_of}
 use Rattle.ed_link.specs.Private.FaultTests.{has_words, reach}
-use Rattle.ed_link.specs.Linked.{parameter_letters, set_to}
-use Rattle.ed_link.specs.Punch.{head, heads, preset_items, use_items, with_heading, word_item, word_items}
+use Rattle.ed_link.specs.Linked.{operand_number, parameter_letters, set_to}
+use Rattle.ed_link.specs.Punch.{head, heads, item_with, preset_items, use_items, with_heading, word_item, word_items}
 use Rattle.ed_link.specs.Tables.{put_all}
 use Rattle.ed_link.proofs.Lengths.{put_all_append, put_all_length}
 
@@ -31,20 +31,6 @@ pub all_given : {A B : Type 0} {whole : List B} (give : List A → List B) (xs :
     → length xs ≤ i → give [] ≡ [] → done ++ give (drop i xs) ≡ whole → done ≡ whole
 all_given {A} {B} give xs i done past none before =
     sym (append-nil done) ∙ ap (λ (ys : List B). done ++ ys) (sym (at_drop_all give xs i past ∙ none)) ∙ before
-
--- a test of all elements that are left holds for the next one and for those after it
-pub next_passes : {A : Type 0} (p : A → Bool) (xs : List A) (i : ℕ) (d : A)
-    → i < length xs → list_all p (drop i xs) ≡ true
-    → (p (get_or xs i d) ≡ true) × (list_all p (drop (i + 1) xs) ≡ true)
-next_passes p xs i d below all = and_parts _ _ (sym (at_drop_more (list_all p) xs i d below) ∙ all)
-
--- a letter of those that are left
-pub next_letter : (xs : List ℕ) (i : ℕ) → i < length xs → list_all (λ c. nat_le c 26) (drop i xs) ≡ true
-    → get_or xs i 0 ≤ 26
-next_letter xs i below all = small (get_or xs i 0) (next_passes (λ c. nat_le c 26) xs i 0 below all).0
-  where
-    small : (x : ℕ) → nat_le x 26 ≡ true → x ≤ 26
-    small x h = grind (arith, nat_tests)
 
 -- words are put with those of one more element
 pub more_put : {A : Type 0} {next whole : List (Option ℕ)} (f : A → List (ℕ × ℕ)) (xs : List A) (i : ℕ) (d : A)
@@ -120,6 +106,29 @@ headed symbols s (Some (Long v)) first base = of (nat_eq (s.place % 2) 1) (v % 2
 headed symbols s (Some (Fetch routine name ts)) first base = refl
 headed symbols s (Some (Enter name)) first base = refl
 headed symbols s (Some (Rows codes)) first base = refl
+
+-- the head of a segment stands before a line that is its first with a word
+pub with_head : {has : Bool} {place base : ℕ} → has ≡ true → place ≡ base
+    → heads (has && nat_eq place base) base ≡ head base
+with_head {has} {place} {base} h at = let e : nat_eq place base ≡ true = grind (arith, nat_tests) in rw (h, e) refl
+
+-- and before no other line
+pub without_head : {has : Bool} {place base : ℕ} → ((has ≡ true) × (place ≡ base → ⊥)) ⊎ (has ≡ false)
+    → heads (has && nat_eq place base) base ≡ []
+without_head {has} {place} {base} (inl h) =
+    let apart : place ≡ base → ⊥ = h.1 in
+    let e : nat_eq place base ≡ false = grind (arith, nat_tests) in rw (h.0, e) refl
+without_head (inr h) = rw h refl
+
+-- the items of a parameter that is set
+pub set_preset : {first second : List Item} {a b : Item} {n c m : ℕ} (symbols : List Definition) (o : Operand)
+    (done : List Item) → first ≡ done ++ a ∷ [] → second ≡ first ++ b ∷ [] → a ≡ item_with 5 (24 + m) false 14 → m ≡ c
+    → b ≡ item_with 0 n false 17 → n ≡ operand_number symbols None o
+    → second ≡ done ++ preset_items symbols (Some o) c
+set_preset {b = b} symbols o done p q x k y v =
+    q ∙ ap (λ (is : List Item). is ++ b ∷ []) p ∙ append_assoc done (_ ∷ []) (b ∷ [])
+    ∙ (λ i. done ++ (x ∙ ap (λ (e : ℕ). item_with 5 (24 + e) false 14) k) i
+    ∷ (y ∙ ap (λ (e : ℕ). item_with 0 e false 17) v) i ∷ [])
 
 -- the base of a line with a word is within the store
 pub base_fits : (symbols : List Definition) (s : LocationCounter) (st : Option Statement)

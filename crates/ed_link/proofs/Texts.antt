@@ -1,7 +1,8 @@
 -- The text of a tape spells its rows.
 use Rattle.std.proofs.Common.{◌≡◌, ◌<◌, ◌≤◌, ℕ, ◌+◌, refl, sym, subst, arith}
-use Rattle.std.proofs.Common.{true, List, [], ◌∷◌, ◌++◌, length, drop, get_or}
-use Rattle.std.specs.Prelude.{Some}
+use Rattle.std.proofs.Common.{true, false, List, [], ◌∷◌, ◌++◌, length, drop, get_or}
+use Rattle.std.specs.Prelude.{◌==◌, Some}
+use Rattle.std.proofs.lemmas.Bool.Decides.{nat_tests}
 use Rattle.std.proofs.lemmas.List.{drop_all, drop_more}
 use Rattle.ed_codes.specs.Reading.{reading, rows, IsReadingOf, Reading}
 use Rattle.ed_codes.specs.Spelling.{byte_of, row_of}
@@ -19,13 +20,17 @@ both_read before after cs ds e s =
     has_one_reading.only (before ++ after) (rows (cs ++ ds)) (spells_append before cs after ds b s)
 
 -- if there are rows their text is a line
-pub some_text : (cs : List ℕ) → 0 < length cs → after_text cs ≡ line_from true cs
-some_text [] h = absurd (omega arith)
+pub some_text : (cs : List ℕ) → false ≡ (length cs == 0) → after_text cs ≡ line_from true cs
+some_text [] h = absurd cc
 some_text (c ∷ cs) h = refl
 
 -- if there are no rows there is no text
-pub no_text : (cs : List ℕ) → cs ≡ [] → Spells (after_text cs) cs
-no_text cs e = rw e none
+pub no_text : (cs : List ℕ) → true ≡ (length cs == 0) → Spells (after_text cs) cs
+no_text [] h = none
+no_text (c ∷ cs) h = absurd (of (length (c ∷ cs)) (omega arith) h)
+  where
+    of : (n : ℕ) → 0 < n → true ≡ (n == 0) → ⊥
+    of n some h = grind (arith, nat_tests)
 
 -- after the last row a line feed is left
 pub last_spells : (cs : List ℕ) (k : ℕ) → length cs ≤ k → Spells (line_from true (drop k cs)) (drop k cs)

@@ -1,7 +1,6 @@
 //! What is built from the lines of a source, one line after the other.
 ghost use Rattle.std.specs.Prelude.{◌≡◌, ◌≤◌, ◌<◌, ◌^◌, ◌+◌, ◌++◌, ◌∷◌, ◌||◌, None, Some, [], IfOk, OnOk};
 ghost use Rattle.std.specs.Prelude.{length, unwrap_or, ℕ};
-ghost use Rattle.ed_notation.specs.Spellings.{AreSpellable};
 ghost use Rattle.ed_library.specs.Routines.{find};
 ghost use Rattle.ed_link.specs.Private.Building.{BuildIs, IsFew};
 ghost use Rattle.ed_link.specs.Private.FaultTests.{is_enter, reach, word_extent};
@@ -20,16 +19,6 @@ use ed_symbols::{Definition, LocationCounter};
 use ed_words::{NoMemory, Size, Word};
 use std::alloc::Global;
 
-/// Adds the rows of a `data` line.
-fn push_rows(rows: &mut Vec<Code>, statement: &Option<Statement>) -> Result<(), NoMemory>
-    ensures { OnOk result (rows.new.items ≡ rows.old.items ++ data_rows statement.now) }
-{
-    match statement {
-        Some(Statement::Rows { codes }) => Ok(rows.extend_from_slice(codes)?),
-        _ => Ok(()),
-    }
-}
-
 /// What has been built from the lines so far.
 #[derive(Drop)]
 pub(crate) struct Built {
@@ -40,26 +29,6 @@ pub(crate) struct Built {
     pub(crate) after: Vec<Code>,
 }
 
-/// The entry with that of one more line.
-fn with_entry(
-    entry: Option<u16>,
-    symbols: &[Definition],
-    counter: LocationCounter,
-    statement: &Option<Statement>,
-) -> Option<u16>
-    requires fits { (reach symbols.now statement.now counter).from < (reach symbols.now statement.now counter).after
-        → (reach symbols.now statement.now counter).after ≤ 1024 }
-    ensures { (later : ℕ) → unwrap_or result later ≡ unwrap_or entry (entered_place symbols.now statement.now later) }
-{
-    if entry.is_some() {
-        return entry;
-    }
-    match statement {
-        Some(Statement::Enter { name }) => Some(entry_of(symbols, name)),
-        _ => None,
-    }
-}
-
 /// Adds what one more line gives.
 fn add_line(
     built: &mut Built,
@@ -67,7 +36,6 @@ fn add_line(
     counter: LocationCounter,
     statement: &Option<Statement>,
 ) -> Result<(), NoMemory>
-    requires spellable { AreSpellable built.old.items.items }
     requires table { length built.old.table.items ≡ 1024 }
     requires place { counter.place ≤ 2 ^ 30 }
     requires base { counter.base ≤ counter.place }
@@ -75,19 +43,24 @@ fn add_line(
         → (reach symbols.now statement.now counter).after ≤ 1024 }
     ensures items { OnOk result
         (built.new.items.items ≡ built.old.items.items ++ items_of symbols.now counter statement.now) }
-    ensures spellable { AreSpellable built.new.items.items }
     ensures table { OnOk result
         (built.new.table.items ≡ put_all built.old.table.items (placed_by_line symbols.now counter statement.now)) }
-    ensures size { OnOk result (length built.new.table.items ≡ 1024) }
     ensures after { OnOk result (built.new.after.items ≡ built.old.after.items ++ data_rows statement.now) }
     ensures entry { OnOk result ((later : ℕ)
         → unwrap_or built.new.entry later ≡ unwrap_or built.old.entry (entered_place symbols.now statement.now later)) }
 {
     push_line(&mut built.items, symbols, counter, statement)?;
-    push_rows(&mut built.after, statement)?;
     put_line(&mut built.table, symbols, counter, statement);
-    built.entry = with_entry(built.entry, symbols, counter, statement);
-    Ok(())
+    match statement {
+        Some(Statement::Enter { name }) => {
+            if built.entry.is_none() {
+                built.entry = Some(entry_of(symbols, name));
+            }
+            Ok(())
+        }
+        Some(Statement::Rows { codes }) => Ok(built.after.extend_from_slice(codes)?),
+        _ => Ok(()),
+    }
 }
 
 /// Notes what one more line leaves for the lines after it.
@@ -107,14 +80,8 @@ fn pass_line(
     Ok(())
 }
 
-/// A table of all locations without a word.
-fn empty_table(alloc: Global) -> Result<Vec<Option<Word>>, NoMemory>
-    ensures { IfOk result (λ v. v.items ≡ empty_table) }
-{
-    Ok(vec![in alloc; None; 1024]?)
-}
-
 /// Does nothing: its contract is what bounds the rows that a line gives.
+#[tactic(auto, using(crate::proofs::Bounds::found_few, crate::proofs::Bounds::none_few))]
 fn bound_rows(statement: &Option<Statement>)
     ensures { IsFew statement.now }
 {
@@ -122,21 +89,12 @@ fn bound_rows(statement: &Option<Statement>)
         Some(Statement::Text { codes } | Statement::Rows { codes }) => {
             let _length = codes.len();
         }
-        Some(Statement::Fetch { routine, .. }) => bound_routine(routine),
-        _ => {}
-    }
-}
-
-/// Does nothing: its contract is what bounds the items of a routine.
-#[tactic(auto, using(crate::proofs::Bounds::found_few, crate::proofs::Bounds::none_few))]
-fn bound_routine(routine: &Name)
-    ensures { length (routine_items (find routine.now)) ≤ 128 }
-{
-    match find(routine.text()) {
-        Some(routine) => {
-            let _length = routine.length();
+        Some(Statement::Fetch { routine, .. }) => {
+            if let Some(routine) = find(routine.text()) {
+                let _length = routine.length();
+            }
         }
-        None => {}
+        _ => {}
     }
 }
 
@@ -145,7 +103,7 @@ fn start(alloc: Global) -> Result<Built, NoMemory>
     ensures { IfOk result (λ b. (b.items.items ≡ []) × (b.table.items ≡ empty_table) × (b.entry ≡ None)
         × (b.after.items ≡ [])) }
 {
-    let table = empty_table(alloc)?;
+    let table = vec![in alloc; None; 1024]?;
     Ok(Built {
         items: Vec::new(alloc),
         table,

@@ -4,11 +4,11 @@ ghost use Rattle.std.specs.List.{list_any, list_all};
 ghost use Rattle.ed_words.specs.Sizes.{locations};
 ghost use Rattle.ed_library.specs.Routines.{find};
 ghost use Rattle.ed_link.specs.Linked.{first_place, end_place, set_to};
-ghost use Rattle.ed_link.specs.Private.FaultTests.{any_enter, cause_of, has_no_routine, has_sandwich, is_enter};
+ghost use Rattle.ed_link.specs.Private.FaultTests.{any_enter, cause_of, has_no_routine, has_sandwich, is_enter, use_cause};
 ghost use Rattle.ed_link.specs.Private.FaultTests.{is_in_segment};
 ghost use Rattle.ed_link.specs.Private.FaultTests.{is_misplaced, is_outside};
 ghost use Rattle.ed_link.specs.Private.FaultTests.{extent_at, is_rows, overlaps, reach, sets, sets_otherwise, word_extent};
-ghost use Rattle.ed_link.specs.Private.FaultTests.{fault_line, missing, sooner};
+ghost use Rattle.ed_link.specs.Private.FaultTests.{fault_line, sooner};
 
 use crate::operands::setting;
 use ed_codes::Code;
@@ -16,19 +16,6 @@ use ed_library::{Routine, find};
 use ed_lines::{Line, Setting, SourceCause, SourceFault, Statement};
 use ed_symbols::{Definition, LocationCounter, even, find_place};
 use ed_words::Size;
-
-/// The location of a line's first word.
-pub(crate) fn first_place(statement: &Option<Statement>, counter: LocationCounter) -> u32
-    requires place { counter.place ≤ 2 ^ 30 }
-    requires segments { counter.segments ≤ 2000 }
-    ensures { result ≡ first_place statement.now counter }
-{
-    match statement {
-        Some(Statement::Segment { .. }) => counter.after_statement(statement).place,
-        Some(Statement::Fetch { .. }) => even(counter.place),
-        _ => counter.place,
-    }
-}
 
 /// An extent of locations, which may be empty.
 #[derive(Clone, Copy)]
@@ -75,9 +62,15 @@ pub(crate) fn extent_of(statement: &Option<Statement>, counter: LocationCounter)
     requires segments { counter.segments ≤ 2000 }
     ensures { result ≡ word_extent statement.now counter }
 {
+    let after = counter.after_statement(statement).place;
+    let from = match statement {
+        Some(Statement::Segment { .. }) => after,
+        Some(Statement::Fetch { .. }) => even(counter.place),
+        _ => counter.place,
+    };
     Extent {
-        from: u64::from(first_place(statement, counter)),
-        after: u64::from(counter.after_statement(statement).place),
+        from: u64::from(from),
+        after: u64::from(after),
     }
 }
 
@@ -116,16 +109,6 @@ fn is_outside(line: &Line, counter: LocationCounter) -> bool
             ))
 }
 
-/// Whether a line is a `use` of a name that isn't in the catalogue.
-fn has_no_routine(statement: &Option<Statement>) -> bool
-    ensures { result ≡ has_no_routine statement.now }
-{
-    match statement {
-        Some(Statement::Fetch { routine, .. }) => find(routine.text()).is_none(),
-        _ => false,
-    }
-}
-
 /// Whether each of some letters is set.
 fn are_set(settings: &[Setting], letters: &[Code]) -> bool
     ensures { result ≡ list_all (λ c. is_some (set_to settings.now c)) letters.now }
@@ -146,9 +129,9 @@ fn sets(settings: &[Setting], routine: Routine) -> bool
     settings.len() == parameters.len() && are_set(settings, &parameters)
 }
 
-/// Whether a line is a `use` that doesn't set exactly the routine's parameters.
-fn sets_otherwise(statement: &Option<Statement>) -> bool
-    ensures { result ≡ sets_otherwise statement.now }
+/// The fault of a `use`: a name that isn't in the catalogue, or settings that aren't exactly the routine's parameters.
+fn use_cause(statement: &Option<Statement>) -> Option<SourceCause>
+    ensures { result ≡ use_cause statement.now }
 {
     match statement {
         Some(
@@ -158,10 +141,16 @@ fn sets_otherwise(statement: &Option<Statement>) -> bool
                 ..
             },
         ) => match find(routine.text()) {
-            Some(routine) => !sets(settings, routine),
-            None => false,
+            Some(routine) => {
+                if sets(settings, routine) {
+                    None
+                } else {
+                    Some(SourceCause::Parameters)
+                }
+            }
+            None => Some(SourceCause::NoSuchRoutine),
         },
-        _ => false,
+        _ => None,
     }
 }
 
@@ -232,10 +221,8 @@ pub(crate) fn cause_of(
         Some(SourceCause::StoreEnd)
     } else if extent_of(&line.statement, counter).overlaps_any(&past.extents) {
         Some(SourceCause::Overlap)
-    } else if has_no_routine(&line.statement) {
-        Some(SourceCause::NoSuchRoutine)
-    } else if sets_otherwise(&line.statement) {
-        Some(SourceCause::Parameters)
+    } else if let Some(cause) = use_cause(&line.statement) {
+        Some(cause)
     } else if is_misplaced(past.entered, has_enter, line) {
         Some(SourceCause::Enter)
     } else if has_sandwich(&line.statement) {
@@ -257,29 +244,19 @@ pub(crate) fn any_enter(lines: &[Line]) -> bool
     false
 }
 
-/// The earlier of a fault and another, if there is one.
-pub(crate) fn sooner(fault: SourceFault, other: Option<SourceFault>) -> SourceFault
-    ensures { Some result ≡ sooner (Some fault) other }
+/// The earlier of a fault of names, if there is one, and another fault.
+pub(crate) fn sooner(names: Option<SourceFault>, fault: SourceFault) -> SourceFault
+    ensures { Some result ≡ sooner names (Some fault) }
 {
-    match other {
-        Some(other) => {
-            if line_of(fault) <= line_of(other) {
-                fault
+    match names {
+        Some(names) => {
+            if line_of(names) <= line_of(fault) {
+                names
             } else {
-                other
+                fault
             }
         }
         None => fault,
-    }
-}
-
-/// The earlier of a fault, if there is one, and another.
-pub(crate) fn sooner_than(fault: Option<SourceFault>, other: SourceFault) -> SourceFault
-    ensures { Some result ≡ sooner fault (Some other) }
-{
-    match fault {
-        Some(fault) => sooner(fault, Some(other)),
-        None => other,
     }
 }
 
@@ -290,20 +267,5 @@ fn line_of(fault: SourceFault) -> u32
     match fault {
         SourceFault::At { line, .. } => line,
         SourceFault::Memory => 0,
-    }
-}
-
-/// The fault of a source without an `enter`.
-pub(crate) fn missing(has_enter: bool, lines: u32) -> Option<SourceFault>
-    requires { lines ≤ 2000 }
-    ensures { result ≡ missing has_enter lines }
-{
-    if has_enter {
-        None
-    } else {
-        Some(SourceFault::At {
-            line: lines + 1,
-            cause: SourceCause::Enter,
-        })
     }
 }

@@ -69,7 +69,6 @@ impl Linked {
 }
 
 /// Adds a line of rows, if there are any.
-#[tactic(auto, using(crate::proofs::Texts::some_text, crate::proofs::Texts::no_text))]
 fn push_after(text: &mut Vec<u8>, rows: &[Code]) -> Result<(), NoMemory>
     ensures is { OnOk result (text.new.items ≡ text.old.items ++ after_text rows.now) }
     ensures spells { OnOk result (Spells (after_text rows.now) rows.now) }
@@ -77,14 +76,6 @@ fn push_after(text: &mut Vec<u8>, rows: &[Code]) -> Result<(), NoMemory>
     if rows.is_empty() {
         return Ok(());
     }
-    push_rows(text, rows)
-}
-
-/// Adds a line of rows.
-fn push_rows(text: &mut Vec<u8>, rows: &[Code]) -> Result<(), NoMemory>
-    ensures is { OnOk result (text.new.items ≡ text.old.items ++ line_from true rows.now) }
-    ensures spells { OnOk result (Spells (line_from true rows.now) rows.now) }
-{
     for row in rows {
         text.push(byte_of(*row, true))?;
     }

@@ -1,6 +1,8 @@
 //! Linking a whole source.
-ghost use Rattle.std.specs.Prelude.{◌≡◌, ◌≤◌, IfOk, IfErr, length};
-ghost use Rattle.ed_notation.specs.Spellings.{AreSpellable};
+ghost use Rattle.std.specs.Prelude.{◌≡◌, ◌≤◌, ◌+◌, ◌^◌, true, IfOk, IfErr, length};
+ghost use Rattle.std.specs.List.{list_all};
+ghost use Rattle.ed_notation.specs.Items.{spelled_rows};
+ghost use Rattle.ed_notation.specs.Spellings.{canonicals, is_spellable};
 ghost use Rattle.ed_symbols.specs.Faults.{resolution};
 ghost use Rattle.ed_link.specs.Answers.{HasMeaningFault, IsLinked};
 ghost use Rattle.ed_link.specs.Words.{EachWordStands};
@@ -10,11 +12,11 @@ ghost use Rattle.ed_link.specs.Labels.{labels};
 ghost use Rattle.ed_link.specs.Linked.{symbols_of};
 
 use crate::building::{Built, build};
-use crate::faults::{any_enter, missing, sooner, sooner_than};
+use crate::faults::{any_enter, sooner};
 use crate::linked::{LabelPlace, Linked};
 use crate::words::words_of;
 use ed_library::catalogue_size;
-use ed_lines::{Program, SourceFault};
+use ed_lines::{Program, SourceCause, SourceFault};
 use ed_symbols::{Definition, is_local, resolve};
 use ed_words::{NoMemory, Size};
 use std::alloc::Global;
@@ -44,22 +46,22 @@ fn link_names(
 {
     let _ready = catalogue_size();
     let has_enter = any_enter(&program.lines);
-    let missing = missing(has_enter, program.lines.len() as u32);
-    let built = match build(alloc, size, symbols, has_enter, &program.lines) {
-        Ok(built) => built,
-        Err(SourceFault::At { line, cause }) => {
-            let fault = SourceFault::At { line, cause };
-            return Err(sooner_than(names, sooner(fault, missing)));
-        }
-        Err(SourceFault::Memory) => return Err(SourceFault::Memory),
-    };
-    if let Some(names) = names {
-        return Err(sooner(names, missing));
+    match build(alloc, size, symbols, has_enter, &program.lines) {
+        Ok(built) => match names {
+            Some(names) => Err(names),
+            None => {
+                if has_enter {
+                    Ok(finish(alloc, symbols, built)?)
+                } else {
+                    Err(SourceFault::At {
+                        line: program.lines.len() as u32 + 1,
+                        cause: SourceCause::Enter,
+                    })
+                }
+            }
+        },
+        Err(fault) => Err(sooner(names, fault)),
     }
-    if let Some(missing) = missing {
-        return Err(missing);
-    }
-    Ok(finish(alloc, symbols, built)?)
 }
 
 /// The names that a linked program reports.
@@ -80,12 +82,10 @@ fn labels_of(alloc: Global, symbols: &[Definition]) -> Result<Vec<LabelPlace>, N
 }
 
 /// The linked program made from what was built of the lines.
-#[tactic(auto, using(crate::proofs::Spellable::all_spellable, crate::proofs::Bounds::tape_few))]
 fn finish(alloc: Global, symbols: &[Definition], built: Built) -> Result<Linked, NoMemory>
-    requires spellable { AreSpellable built.items.items }
+    requires spellable { list_all is_spellable built.items.items ≡ true }
     requires table { length built.table.items ≡ 1024 }
-    requires few_items { length built.items.items ≤ 480000 }
-    requires few_rows { length built.after.items ≤ 240000 }
+    requires few { length (spelled_rows (canonicals built.items.items)) + length built.after.items ≤ 2 ^ 22 }
     ensures { IfOk result (λ k. IsFinished symbols.now built k) }
 {
     let words = words_of(alloc, &built.table)?;

@@ -1,7 +1,7 @@
 //! The words of a line.
 ghost use Rattle.std.specs.Prelude.{◌≡◌, ◌≤◌, ◌<◌, ◌^◌, ◌+◌, ◌*◌, ◌%◌, ◌∷◌, [], ◌++◌, Some, None, IfOk, length, map};
-ghost use Rattle.std.specs.Prelude.{nat_le, false, IsTrue, ℕ};
-ghost use Rattle.std.specs.List.{flat_map, list_all};
+ghost use Rattle.std.specs.Prelude.{false, ℕ};
+ghost use Rattle.std.specs.List.{flat_map};
 ghost use Rattle.ed_words.specs.Words.{digit};
 ghost use Rattle.ed_notation.specs.Fold.{word_with};
 ghost use Rattle.ed_library.specs.Entries.{entry};
@@ -81,23 +81,6 @@ fn put_long(table: &mut Vec<Option<Word>>, place: u32, value: Long)
     put(table, at + 1, halves.odd);
 }
 
-/// Puts the word of a parameter, if it is set.
-fn put_preset(
-    table: &mut Vec<Option<Word>>,
-    symbols: &[Definition],
-    settings: &[Setting],
-    letter: u8,
-)
-    requires letter { letter ≤ 26 }
-    requires table { 51 ≤ length table.old.items }
-    ensures { table.new.items ≡ put_all table.old.items (preset symbols.now (set_to settings.now letter) letter) }
-{
-    if let Some(operand) = setting(settings, letter) {
-        let word = 2 * u32::from(number(symbols, None, &operand));
-        put(table, 24 + u32::from(letter), Word::new(word).unwrap());
-    }
-}
-
 /// Puts the words of the parameters of some letters.
 fn put_presets(
     table: &mut Vec<Option<Word>>,
@@ -105,13 +88,15 @@ fn put_presets(
     settings: &[Setting],
     letters: &[u8],
 )
-    requires letters { IsTrue (list_all (λ c. nat_le c 26) letters.now) }
-    requires table { 51 ≤ length table.old.items }
+    requires { length table.old.items ≡ 1024 }
     ensures { table.new.items
         ≡ put_all table.old.items (flat_map (λ c. preset symbols.now (set_to settings.now c) c) letters.now) }
 {
     for letter in letters {
-        put_preset(table, symbols, settings, *letter);
+        if let Some(operand) = setting(settings, *letter) {
+            let word = 2 * u32::from(number(symbols, None, &operand));
+            put(table, 24 + u32::from(*letter), Word::new(word).unwrap());
+        }
     }
 }
 

@@ -1,10 +1,12 @@
 -- Lists that are made part after part.
-use Rattle.std.proofs.Common.{◌≡◌, ℕ, ◌+◌, ◌<◌, sym, ap, ◌∙◌, arith, true, nat_lt}
-use Rattle.std.proofs.Common.{List, [], ◌∷◌, ◌++◌, length, drop, get_or, append_assoc}
+use Rattle.std.proofs.Common.{◌≡◌, ℕ, ◌+◌, ◌/◌, ◌%◌, ◌<◌, ◌≤◌, sym, ap, refl, ◌∙◌, arith, Bool, true, false, nat_lt, nat_le}
+use Rattle.std.proofs.Common.{List, [], ◌∷◌, ◌++◌, length, drop, get_or, append_assoc, append-nil}
+use Rattle.std.specs.List.{flat_map, list_all}
+use Rattle.std.proofs.lemmas.Bool.{and_parts}
 use Rattle.std.proofs.lemmas.Bool.Decides.{nat_tests}
 use Rattle.std.proofs.lemmas.List.{at_drop_more}
 use Rattle.ed_codes.specs.Spelling.{byte_of}
-use Rattle.ed_notation.specs.Spellings.{line_from}
+use Rattle.ed_notation.specs.Spellings.{digit_at, digits_of, line_from}
 
 -- a part, and then another
 pub joined : {A : Type 0} {next last : List A} (done part more : List A)
@@ -21,6 +23,26 @@ one_more {A} {B} {x} give xs i d done part later below is first same before =
     ap (λ (ys : List B). ys ++ later) same ∙ append_assoc done part later
     ∙ ap (λ (ys : List B). done ++ ys)
     (sym first ∙ ap (λ (y : A). give (y ∷ drop (i + 1) xs)) is ∙ sym (at_drop_more give xs i d below)) ∙ before
+
+-- a test of all elements that are left holds for the next one and for those after it
+pub next_passes : {A : Type 0} (p : A → Bool) (xs : List A) (i : ℕ) (d : A)
+    → i < length xs → list_all p (drop i xs) ≡ true
+    → (p (get_or xs i d) ≡ true) × (list_all p (drop (i + 1) xs) ≡ true)
+next_passes p xs i d below all = and_parts _ _ (sym (at_drop_more (list_all p) xs i d below) ∙ all)
+
+-- the digit row at a power of ten that a number reaches
+pub digit_there : (p n : ℕ) → p ≤ n → digit_at p n ≡ (n / p % 10) ∷ []
+digit_there p n h = let e : nat_le p n ≡ true = grind (arith, nat_tests) in rw e refl
+
+-- and none at one that it doesn't reach
+pub no_digit : (p n : ℕ) → n < p → digit_at p n ≡ []
+no_digit p n h = let e : nat_le p n ≡ false = grind (arith, nat_tests) in rw e refl
+
+-- the digit rows of a number, at one power after the other
+pub digits_are : (n : ℕ) → flat_map (λ power. digit_at power n) (10000 ∷ 1000 ∷ 100 ∷ 10 ∷ 1 ∷ []) ≡ digits_of n
+digits_are n =
+    ap (λ (ds : List ℕ). digit_at 10000 n ++ (digit_at 1000 n ++ (digit_at 100 n ++ (digit_at 10 n ++ ds))))
+    (append-nil (digit_at 1 n))
 
 -- the byte of one more row of an item
 pub more_line : {next whole : List ℕ} (rows : List ℕ) (i c : ℕ) (done : List ℕ)

@@ -104,7 +104,12 @@ impl PartialItem {
         if 32767 < number {
             return RowEffect::Refused(TapeCause::NumberTooLarge);
         }
-        RowEffect::Longer(self.longer(number as u16, false), 9)
+        let longer = PartialItem {
+            number: number as u16,
+            blank: false,
+            ..*self
+        };
+        RowEffect::Longer(longer, 9)
     }
 
     /// A π row.
@@ -116,19 +121,12 @@ impl PartialItem {
         if self.mark {
             return RowEffect::Refused(TapeCause::AfterMark);
         }
-        RowEffect::Longer(self.longer(self.number, true), 15)
-    }
-
-    /// The item with one more row, after which it can't be a blank pair.
-    fn longer(&self, number: u16, mark: bool) -> PartialItem
-        ensures { result ≡ record self.now { number = number; mark = mark; blank = false } }
-    {
-        PartialItem {
-            function: self.function,
-            number,
-            mark,
+        let longer = PartialItem {
+            mark: true,
             blank: false,
-        }
+            ..*self
+        };
+        RowEffect::Longer(longer, 15)
     }
 
     /// A blank row, which may only end a blank pair.
@@ -261,20 +259,12 @@ impl DirectiveState {
         self.with_directive(self.directive.value() + 2)
     }
 
-    /// The address of the directive.
-    fn address(&self) -> u16
-        ensures is { result ≡ address self.now.directive }
-        ensures fits { result < 2048 }
-    {
-        (self.directive.value() % 4096 / 2) as u16
-    }
-
     /// A code letter that ends an item with this word.
     fn take_letter(&self, size: Size, word: Word) -> RowEffect
         ensures is { result ≡ letter_effect size (letter_action_of self.now.directive) self.now word }
         ensures fits { IsEffectInRange self.now result }
     {
-        let at = self.address();
+        let at = (self.directive.value() % 4096 / 2) as u16;
         match LetterAction::of(self.directive) {
             LetterAction::Places => {
                 if at < 44 {

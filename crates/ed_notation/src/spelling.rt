@@ -1,13 +1,17 @@
-ghost use Rattle.std.specs.Prelude.{◌≡◌, ◌++◌, ◌<◌, IfOk, [], ◌∷◌, false};
+ghost use Rattle.std.specs.Prelude.{◌≡◌, ◌++◌, IfOk, [], ◌∷◌, false, true, nat_lt};
+ghost use Rattle.std.specs.List.{flat_map, list_all};
 ghost use Rattle.ed_codes.specs.Reading.{reading, rows};
-ghost use Rattle.ed_notation.specs.Items.{mark_rows, rows_of, spelled_rows};
+ghost use Rattle.ed_notation.specs.Items.{rows_of, spelled_rows};
 ghost use Rattle.ed_notation.specs.Spellings.{AreSpellable, IsSpelling, NoSpellingBeginsAnother, canonical, canonicals};
-ghost use Rattle.ed_notation.specs.Spellings.{digit_at, digits_of, line_from, text_of};
+ghost use Rattle.ed_notation.specs.Spellings.{digit_at, line_from, text_of};
 
 use crate::item::Item;
 use ed_codes::{Code, byte_of};
 use ed_words::NoMemory;
 use std::alloc::Global;
+
+/// The powers of ten of a number's digits.
+const POWERS_OF_TEN: [u16; 5] = [10000, 1000, 100, 10, 1];
 
 /// The rows that spell these items one after the other, without leading zeros and without a digit row for 0.
 pub fn rows_of_items(alloc: Global, items: &[Item]) -> Result<Vec<Code>, NoMemory>
@@ -62,43 +66,28 @@ fn push_item(rows: &mut Vec<Code>, item: &Item) -> Result<(), NoMemory>
     ensures { IfOk result (λ v. rows.new.items ≡ rows.old.items ++ rows_of (canonical item.now)) }
 {
     push_row(rows, item.function)?;
-    push_digits(rows, item.number)?;
-    push_mark(rows, item.mark)?;
+    push_digits(rows, item.number, &POWERS_OF_TEN)?;
+    if item.mark {
+        push_row(rows, Code::PI)?;
+    }
     push_row(rows, item.end)
 }
 
-/// The digit rows of a number below 100000.
-fn push_digits(rows: &mut Vec<Code>, number: u16) -> Result<(), NoMemory>
-    ensures { IfOk result (λ v. rows.new.items ≡ rows.old.items ++ digits_of number) }
+/// The digit rows of a number at powers of ten, except at those that are greater than the number.
+fn push_digits(rows: &mut Vec<Code>, number: u16, powers: &[u16]) -> Result<(), NoMemory>
+    requires { list_all (λ power. nat_lt 0 power) powers.now ≡ true }
+    ensures { IfOk result
+        (λ v. rows.new.items ≡ rows.old.items ++ flat_map (λ power. digit_at power number) powers.now) }
 {
-    push_digit(rows, number, 10000)?;
-    push_digit(rows, number, 1000)?;
-    push_digit(rows, number, 100)?;
-    push_digit(rows, number, 10)?;
-    push_digit(rows, number, 1)
-}
-
-/// The digit row at a power of ten, unless the number is less than the power.
-fn push_digit(rows: &mut Vec<Code>, number: u16, power: u16) -> Result<(), NoMemory>
-    requires { 0 < power }
-    ensures { IfOk result (λ v. rows.new.items ≡ rows.old.items ++ digit_at power number) }
-{
-    if power <= number {
-        push_row(rows, Code::new((number / power % 10) as u8).unwrap())?;
+    for power in powers {
+        if *power <= number {
+            push_row(rows, Code::new((number / *power % 10) as u8).unwrap())?;
+        }
     }
     Ok(())
 }
 
-/// The π row of an item with a mark.
-fn push_mark(rows: &mut Vec<Code>, mark: bool) -> Result<(), NoMemory>
-    ensures { IfOk result (λ v. rows.new.items ≡ rows.old.items ++ mark_rows mark) }
-{
-    if mark {
-        push_row(rows, Code::PI)?;
-    }
-    Ok(())
-}
-
+/// A row.
 fn push_row(rows: &mut Vec<Code>, row: Code) -> Result<(), NoMemory>
     ensures { IfOk result (λ v. rows.new.items ≡ rows.old.items ++ row ∷ []) }
 {

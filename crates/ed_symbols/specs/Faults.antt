@@ -86,6 +86,10 @@ names_unknown symbols l s = any_operand (is_unknown symbols (segment_of l s)) l.
 abbrev pub reaches_outside : List Definition → Line → LocationCounter → Bool
 reaches_outside symbols l s = any_operand (is_no_address symbols (segment_of l s)) l.statement
 
+-- S7 if a name is unknown, or else S8 if a value is not an address
+abbrev pub operands_cause : Bool → Bool → Option SourceCause
+operands_cause unknown outside = if unknown then Some LabelUnknown else if outside then Some AddressRange else None
+
 -- the fault of a line with the least number; `again` says whether the line defines a name again
 abbrev pub naming_cause : List Definition → Bool → Line → LocationCounter → Option SourceCause
 naming_cause symbols again l s =

@@ -3,7 +3,7 @@ ghost use Rattle.std.specs.Prelude.{◌≡◌, ◌<◌, ◌≤◌, ◌^◌, ◌|
 ghost use Rattle.std.specs.List.{list_any};
 ghost use Rattle.ed_symbols.specs.Faults.{any_operand, enters_unknown, is_far};
 ghost use Rattle.ed_symbols.specs.Faults.{is_no_address, is_unknown, sum_of_places, operand_of};
-ghost use Rattle.ed_symbols.specs.Faults.{operand_value, with_more, naming_cause};
+ghost use Rattle.ed_symbols.specs.Faults.{operand_value, operands_cause, with_more, naming_cause};
 
 use crate::location_counter::LocationCounter;
 use crate::symbols::{Definition, find_place};
@@ -35,13 +35,6 @@ pub fn value(symbols: &[Definition], segment: Option<u32>, operand: &Operand) ->
     }
 }
 
-/// Whether an operand has a name that is unknown on its line.
-fn is_unknown(symbols: &[Definition], segment: Option<u32>, operand: &Operand) -> bool
-    ensures { result ≡ is_unknown symbols.now segment operand.now }
-{
-    value(symbols, segment, operand).is_none()
-}
-
 /// Whether an operand with a name has a value outside 0 to 1023.
 fn is_outside(symbols: &[Definition], segment: Option<u32>, operand: &Operand) -> bool
     ensures { result ≡ is_no_address symbols.now segment operand.now }
@@ -55,59 +48,57 @@ fn is_outside(symbols: &[Definition], segment: Option<u32>, operand: &Operand) -
     }
 }
 
-/// Whether the operand of a setting has a name that is unknown on its line.
-fn set_unknown(symbols: &[Definition], segment: Option<u32>, settings: &[Setting]) -> bool
-    ensures { result ≡ list_any (λ t. is_unknown symbols.now segment (operand_of t)) settings.now }
+/// The fault of the operands of settings.
+fn settings_cause(
+    symbols: &[Definition],
+    segment: Option<u32>,
+    settings: &[Setting],
+) -> Option<SourceCause>
+    ensures { result ≡ operands_cause (list_any (λ t. is_unknown symbols.now segment (operand_of t)) settings.now)
+        (list_any (λ t. is_no_address symbols.now segment (operand_of t)) settings.now) }
 {
+    let mut outside = false;
     for setting in settings {
-        if is_unknown(symbols, segment, &setting.operand) {
-            return true;
+        if value(symbols, segment, &setting.operand).is_none() {
+            return Some(SourceCause::LabelUnknown);
         }
+        outside |= is_outside(symbols, segment, &setting.operand);
     }
-    false
+    if outside {
+        Some(SourceCause::AddressRange)
+    } else {
+        None
+    }
 }
 
-/// Whether the operand of a setting has a name and a value outside 0 to 1023.
-fn set_outside(symbols: &[Definition], segment: Option<u32>, settings: &[Setting]) -> bool
-    ensures { result ≡ list_any (λ t. is_no_address symbols.now segment (operand_of t)) settings.now }
-{
-    for setting in settings {
-        if is_outside(symbols, segment, &setting.operand) {
-            return true;
-        }
-    }
-    false
-}
-
-/// Whether an operand of a line, or its `enter`, has a name that is unknown there.
-fn names_unknown(
+/// The fault of the operands of a statement, or of the name of an `enter`.
+fn statement_cause(
     symbols: &[Definition],
     segment: Option<u32>,
     statement: &Option<Statement>,
-) -> bool
-    ensures { result ≡ (any_operand (is_unknown symbols.now segment) statement.now
-        || enters_unknown symbols.now statement.now) }
+) -> Option<SourceCause>
+    ensures { result ≡ operands_cause (any_operand (is_unknown symbols.now segment) statement.now
+        || enters_unknown symbols.now statement.now) (any_operand (is_no_address symbols.now segment) statement.now) }
 {
     match statement {
-        Some(Statement::Order { operand, .. }) => is_unknown(symbols, segment, operand),
-        Some(Statement::Fetch { settings, .. }) => set_unknown(symbols, segment, settings),
-        Some(Statement::Enter { name }) => find_place(symbols, None, name).is_none(),
-        _ => false,
-    }
-}
-
-/// Whether an operand of a line has a name and a value outside 0 to 1023.
-fn reaches_outside(
-    symbols: &[Definition],
-    segment: Option<u32>,
-    statement: &Option<Statement>,
-) -> bool
-    ensures { result ≡ any_operand (is_no_address symbols.now segment) statement.now }
-{
-    match statement {
-        Some(Statement::Order { operand, .. }) => is_outside(symbols, segment, operand),
-        Some(Statement::Fetch { settings, .. }) => set_outside(symbols, segment, settings),
-        _ => false,
+        Some(Statement::Order { operand, .. }) => {
+            if value(symbols, segment, operand).is_none() {
+                Some(SourceCause::LabelUnknown)
+            } else if is_outside(symbols, segment, operand) {
+                Some(SourceCause::AddressRange)
+            } else {
+                None
+            }
+        }
+        Some(Statement::Fetch { settings, .. }) => settings_cause(symbols, segment, settings),
+        Some(Statement::Enter { name }) => {
+            if find_place(symbols, None, name).is_none() {
+                Some(SourceCause::LabelUnknown)
+            } else {
+                None
+            }
+        }
+        _ => None,
     }
 }
 
@@ -122,14 +113,9 @@ pub(crate) fn cause_of(
     requires segments { counter.segments ≤ 2000 }
     ensures { result ≡ naming_cause symbols.now again line.now counter }
 {
-    let segment = counter.after_statement(&line.statement).segment();
     if again {
-        Some(SourceCause::LabelTwice)
-    } else if names_unknown(symbols, segment, &line.statement) {
-        Some(SourceCause::LabelUnknown)
-    } else if reaches_outside(symbols, segment, &line.statement) {
-        Some(SourceCause::AddressRange)
-    } else {
-        None
+        return Some(SourceCause::LabelTwice);
     }
+    let segment = counter.after_statement(&line.statement).segment();
+    statement_cause(symbols, segment, &line.statement)
 }

@@ -1,11 +1,11 @@
 //! The location of a line.
 ghost use Rattle.std.specs.Prelude.{◌≡◌, ◌+◌, ◌≤◌, ◌^◌, unwrap_or};
 ghost use Rattle.ed_library.specs.Routines.{find};
-ghost use Rattle.ed_symbols.specs.Places.{even_from, first_counter, after_statement, segment_at, position};
+ghost use Rattle.ed_symbols.specs.Places.{even_from, first_counter, after_statement, segment_at};
 ghost use Rattle.ed_symbols.specs.Places.{routine_places};
 
 use ed_library::find;
-use ed_lines::{Line, Name, Statement};
+use ed_lines::{Name, Statement};
 
 /// The location counter and the segment before a line.
 #[derive(Clone, Copy)]
@@ -71,18 +71,6 @@ impl LocationCounter {
         }
     }
 
-    /// The same, some words further on.
-    fn moved(self, words: u32) -> LocationCounter
-        requires place { self.place ≤ 2 ^ 30 }
-        requires words { words ≤ 65536 }
-        ensures { result ≡ record self { place = self.place + words } }
-    {
-        LocationCounter {
-            place: self.place + words,
-            ..self
-        }
-    }
-
     /// After a statement.
     pub fn after_statement(self, statement: &Option<Statement>) -> LocationCounter
         requires place { self.place ≤ 2 ^ 30 }
@@ -93,24 +81,36 @@ impl LocationCounter {
     {
         match statement {
             None | Some(Statement::Enter { .. } | Statement::Rows { .. }) => self,
-            Some(Statement::Order { .. } | Statement::Number { .. }) => self.moved(1),
-            Some(Statement::Text { codes }) => self.moved(codes.len() as u32),
+            Some(Statement::Order { .. } | Statement::Number { .. }) => LocationCounter {
+                place: self.place + 1,
+                ..self
+            },
+            Some(Statement::Text { codes }) => LocationCounter {
+                place: self.place + codes.len() as u32,
+                ..self
+            },
             Some(Statement::Long { .. }) => LocationCounter {
                 place: even(self.place) + 2,
                 ..self
             },
-            Some(Statement::Segment { base, .. }) => LocationCounter {
-                place: base_or(base, self.place),
-                base: base_or(base, self.place),
-                segments: self.segments + 1,
-                inside: true,
-            },
-            Some(Statement::Fetch { routine, .. }) => LocationCounter {
-                place: even(self.place) + taken(routine),
-                base: even(self.place),
-                segments: self.segments + 1,
-                inside: false,
-            },
+            Some(Statement::Segment { base, .. }) => {
+                let base = base_or(base, self.place);
+                LocationCounter {
+                    place: base,
+                    base,
+                    segments: self.segments + 1,
+                    inside: true,
+                }
+            }
+            Some(Statement::Fetch { routine, .. }) => {
+                let base = even(self.place);
+                LocationCounter {
+                    place: base + taken(routine),
+                    base,
+                    segments: self.segments + 1,
+                    inside: false,
+                }
+            }
         }
     }
 
@@ -123,17 +123,5 @@ impl LocationCounter {
         } else {
             None
         }
-    }
-}
-
-/// The location before a line, and the segment to which it belongs.
-pub(crate) fn position_of(line: &Line, counter: LocationCounter) -> LinePosition
-    requires place { counter.place ≤ 2 ^ 30 }
-    requires segments { counter.segments ≤ 2000 }
-    ensures { result ≡ position line.now counter }
-{
-    LinePosition {
-        place: counter.place,
-        segment: counter.after_statement(&line.statement).segment(),
     }
 }

@@ -3,10 +3,10 @@ ghost use Rattle.ed_symbols.specs.Faults.{naming_fault_from, resolution};
 ghost use Rattle.ed_symbols.specs.NameFaults.{EachHasOneNameFault, NameFaultIs};
 ghost use Rattle.ed_symbols.specs.Names.{definition_of, symbols_from, place_on};
 ghost use Rattle.ed_symbols.specs.Places.{first_counter, positions_from};
-ghost use Rattle.ed_symbols.specs.Readers.{line_place, line_segment, position_at};
+ghost use Rattle.ed_symbols.specs.Readers.{line_place, line_segment};
 
 use crate::faults::cause_of;
-use crate::location_counter::{LinePosition, LocationCounter, position_of};
+use crate::location_counter::{LinePosition, LocationCounter};
 use crate::symbols::{Definition, add_line, find_definition, find_place};
 use ed_lines::{Name, Program, SourceFault};
 use ed_words::NoMemory;
@@ -42,9 +42,13 @@ fn resolve_places(
     let mut symbols = Vec::new(alloc);
     let mut counter = LocationCounter::first();
     for line in &program.lines {
-        positions.push(position_of(line, counter))?;
+        let next = counter.after_statement(&line.statement);
+        positions.push(LinePosition {
+            place: counter.place,
+            segment: next.segment(),
+        })?;
         let _ = add_line(&mut symbols, line, counter)?;
-        counter = counter.after_statement(&line.statement);
+        counter = next;
     }
     Ok((positions, symbols))
 }
@@ -96,22 +100,13 @@ impl Places {
         self.symbols.as_slice()
     }
 
-    /// The location and the segment of a line.
-    fn position(&self, line: u32) -> LinePosition
-        requires from_one { 1 ≤ line }
-        requires of_the_program { line ≤ length self.now.positions }
-        ensures { result ≡ position_at self.now line }
-    {
-        self.positions[(line - 1) as usize]
-    }
-
     /// The location before a line. The line is one of the program, counted from 1.
     pub fn line_place(&self, line: u32) -> u32
         requires from_one { 1 ≤ line }
         requires of_the_program { line ≤ length self.now.positions }
         ensures { result ≡ line_place self.now line }
     {
-        self.position(line).place
+        self.positions[(line - 1) as usize].place
     }
 
     /// The number of the segment to which a line belongs, if it belongs to one. The line is one of the program, counted
@@ -121,7 +116,7 @@ impl Places {
         requires of_the_program { line ≤ length self.now.positions }
         ensures { result ≡ line_segment self.now line }
     {
-        self.position(line).segment
+        self.positions[(line - 1) as usize].segment
     }
 
     /// The location of a name that isn't local, by its first definition; None for a local name.

@@ -1,7 +1,6 @@
 -- The steps from the lines of a source to its linked program. No public clause cites this.
 use Rattle.std.specs.Prelude.{◌≡◌, ◌≤◌, Bool, List, [], false, Option, Some, None, Result, Ok, Err, unwrap_or, length}
 use Rattle.ed_words.specs.declared.size.Size.{Size}
-use Rattle.ed_notation.specs.Spellings.{AreSpellable}
 use Rattle.ed_library.specs.Routines.{find}
 use Rattle.ed_lines.specs.declared.program.Line.{Line}
 use Rattle.ed_lines.specs.declared.program.Statement.{Statement}
@@ -33,7 +32,6 @@ pub record IsBuilt (z : Size) (symbols : List Definition) (has_enter : Bool) (li
     Type 0 where
   pub accepted : fault_from z symbols has_enter first_past first_counter lines ≡ None
   pub items : b.items.items ≡ punched_from symbols first_counter lines
-  pub spellable : AreSpellable b.items.items
   pub table : b.table.items ≡ table_of (placed_from symbols first_counter lines)
   pub size : length b.table.items ≡ 1024
   pub entry : unwrap_or b.entry 0 ≡ entry_from symbols lines

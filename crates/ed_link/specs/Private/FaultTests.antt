@@ -79,6 +79,13 @@ abbrev pub sets_otherwise : Option Statement → Bool
 sets_otherwise (Some (Fetch routine name ts)) = not (sets ts.items (find routine))
 sets_otherwise st = false
 
+-- S14 or S15
+abbrev pub use_cause : Option Statement → Option SourceCause
+use_cause st =
+    if has_no_routine st then Some causes.NoSuchRoutine
+    else if sets_otherwise st then Some causes.Parameters
+    else None
+
 -- whether a line is an `enter`
 abbrev pub is_enter : Option Statement → Bool
 is_enter (Some (Enter name)) = true

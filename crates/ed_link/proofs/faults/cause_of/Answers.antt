@@ -1,8 +1,9 @@
-use Rattle.std.proofs.Common.{◌≡◌, ◌∙◌, ap, refl, rules, true, false}
+use Rattle.std.proofs.Common.{◌≡◌, ◌∙◌, ap, refl, true, false}
 use Rattle.std.specs.List.{list_any}
+use Rattle.ed_lines.specs.declared.fault.SourceCause.TheVariants as causes
 use Rattle.ed_link.specs.declared.faults.Extent.{Extent}
-use Rattle.ed_link.specs.Private.FaultTests.{extent, overlaps, word_extent}
-use Rattle.ed_link.proofs.Causes.{clear, fails, holds, within}
+use Rattle.ed_link.specs.Private.FaultTests.{extent, has_no_routine, overlaps, sets_otherwise, word_extent}
+use Rattle.ed_link.proofs.Causes.{clear, fails, holds, unused, used, within}
 use Rattle.ed_link.proofs.faults.cause_of.Goals as goal
 
 pub returns-then-is_outside : goal.returns-then-is_outside
@@ -30,66 +31,66 @@ pub returns-then-overlaps_any : goal.returns-then-overlaps_any
 returns-then-overlaps_any c =
     let n = c.from.ensures ∙ c.value.ensures.is in
     let words = word_extent c.args.line.now.statement c.args.counter in
-    let overlap : true ≡ list_any (λ other. overlaps words other) c.args.past.now.extents.items = search rules in
+    let overlap : true ≡ list_any (λ other. overlaps words other) c.args.past.now.extents.items =
+    c.if-overlaps_any.ensures
+    ∙ (λ i. list_any (λ other. overlaps (c.extent_of.ensures i) other) (c.deref.ensures.value i)) in
     within _ _ _ _ _ _ _ _ _ _ _ c.reach-reach.ensures n c.if-is_outside.ensures c.if-overlaps.ensures
     c.if-overlaps-2.ensures c.if-overlaps-3.ensures
     (holds _ _ _ overlap)
 
-pub returns-then-has_no_routine : goal.returns-then-has_no_routine
-returns-then-has_no_routine c =
+pub returns-in-Some : goal.returns-in-Some
+returns-in-Some c =
     let n = c.from.ensures ∙ c.value.ensures.is in
     let words = word_extent c.args.line.now.statement c.args.counter in
-    let apart : false ≡ list_any (λ other. overlaps words other) c.args.past.now.extents.items = search rules in
+    let apart : false ≡ list_any (λ other. overlaps words other) c.args.past.now.extents.items =
+    c.if-overlaps_any.ensures
+    ∙ (λ i. list_any (λ other. overlaps (c.extent_of.ensures i) other) (c.deref.ensures.value i)) in
     within _ _ _ _ _ _ _ _ _ _ _ c.reach-reach.ensures n c.if-is_outside.ensures c.if-overlaps.ensures
     c.if-overlaps-2.ensures c.if-overlaps-3.ensures
     (fails _ _ _ _ apart
-    (holds _ _ _ c.if-has_no_routine.ensures))
-
-pub returns-then-sets_otherwise : goal.returns-then-sets_otherwise
-returns-then-sets_otherwise c =
-    let n = c.from.ensures ∙ c.value.ensures.is in
-    let words = word_extent c.args.line.now.statement c.args.counter in
-    let apart : false ≡ list_any (λ other. overlaps words other) c.args.past.now.extents.items = search rules in
-    within _ _ _ _ _ _ _ _ _ _ _ c.reach-reach.ensures n c.if-is_outside.ensures c.if-overlaps.ensures
-    c.if-overlaps-2.ensures c.if-overlaps-3.ensures
-    (fails _ _ _ _ apart
-    (fails _ _ _ _ c.if-has_no_routine.ensures
-    (holds _ _ _ c.if-sets_otherwise.ensures)))
+    (used (has_no_routine c.args.line.now.statement) (sets_otherwise c.args.line.now.statement)
+    causes.NoSuchRoutine causes.Parameters _ _ c.in-Some.ensures))
 
 pub returns-then-is_misplaced : goal.returns-then-is_misplaced
 returns-then-is_misplaced c =
     let n = c.from.ensures ∙ c.value.ensures.is in
     let words = word_extent c.args.line.now.statement c.args.counter in
-    let apart : false ≡ list_any (λ other. overlaps words other) c.args.past.now.extents.items = search rules in
+    let apart : false ≡ list_any (λ other. overlaps words other) c.args.past.now.extents.items =
+    c.if-overlaps_any.ensures
+    ∙ (λ i. list_any (λ other. overlaps (c.extent_of.ensures i) other) (c.deref.ensures.value i)) in
     within _ _ _ _ _ _ _ _ _ _ _ c.reach-reach.ensures n c.if-is_outside.ensures c.if-overlaps.ensures
     c.if-overlaps-2.ensures c.if-overlaps-3.ensures
     (fails _ _ _ _ apart
-    (fails _ _ _ _ c.if-has_no_routine.ensures
-    (fails _ _ _ _ c.if-sets_otherwise.ensures
-    (holds _ _ _ c.if-is_misplaced.ensures))))
+    (unused (has_no_routine c.args.line.now.statement) (sets_otherwise c.args.line.now.statement)
+    causes.NoSuchRoutine causes.Parameters _ c.in_default.ensures
+    (holds _ _ _ c.if-is_misplaced.ensures)))
 
 pub returns-then-has_sandwich : goal.returns-then-has_sandwich
 returns-then-has_sandwich c =
     let n = c.from.ensures ∙ c.value.ensures.is in
     let words = word_extent c.args.line.now.statement c.args.counter in
-    let apart : false ≡ list_any (λ other. overlaps words other) c.args.past.now.extents.items = search rules in
+    let apart : false ≡ list_any (λ other. overlaps words other) c.args.past.now.extents.items =
+    c.if-overlaps_any.ensures
+    ∙ (λ i. list_any (λ other. overlaps (c.extent_of.ensures i) other) (c.deref.ensures.value i)) in
     within _ _ _ _ _ _ _ _ _ _ _ c.reach-reach.ensures n c.if-is_outside.ensures c.if-overlaps.ensures
     c.if-overlaps-2.ensures c.if-overlaps-3.ensures
     (fails _ _ _ _ apart
-    (fails _ _ _ _ c.if-has_no_routine.ensures
-    (fails _ _ _ _ c.if-sets_otherwise.ensures
+    (unused (has_no_routine c.args.line.now.statement) (sets_otherwise c.args.line.now.statement)
+    causes.NoSuchRoutine causes.Parameters _ c.in_default.ensures
     (fails _ _ _ _ c.if-is_misplaced.ensures
-    (holds _ _ _ c.if-has_sandwich.ensures)))))
+    (holds _ _ _ c.if-has_sandwich.ensures))))
 
 pub returns-else-has_sandwich : goal.returns-else-has_sandwich
 returns-else-has_sandwich c =
     let n = c.from.ensures ∙ c.value.ensures.is in
     let words = word_extent c.args.line.now.statement c.args.counter in
-    let apart : false ≡ list_any (λ other. overlaps words other) c.args.past.now.extents.items = search rules in
+    let apart : false ≡ list_any (λ other. overlaps words other) c.args.past.now.extents.items =
+    c.if-overlaps_any.ensures
+    ∙ (λ i. list_any (λ other. overlaps (c.extent_of.ensures i) other) (c.deref.ensures.value i)) in
     within _ _ _ _ _ _ _ _ _ _ _ c.reach-reach.ensures n c.if-is_outside.ensures c.if-overlaps.ensures
     c.if-overlaps-2.ensures c.if-overlaps-3.ensures
     (fails _ _ _ _ apart
-    (fails _ _ _ _ c.if-has_no_routine.ensures
-    (fails _ _ _ _ c.if-sets_otherwise.ensures
+    (unused (has_no_routine c.args.line.now.statement) (sets_otherwise c.args.line.now.statement)
+    causes.NoSuchRoutine causes.Parameters _ c.in_default.ensures
     (fails _ _ _ _ c.if-is_misplaced.ensures
-    (fails _ _ _ _ c.if-has_sandwich.ensures refl)))))
+    (fails _ _ _ _ c.if-has_sandwich.ensures refl))))

@@ -1,27 +1,50 @@
-use Rattle.std.proofs.Common.{◌≡◌, ◌∙◌, sym, ap, subst, ℕ, List, length, arith}
+use Rattle.std.proofs.Common.{◌∙◌, sym, ap, subst, List, Err, arith}
 use Rattle.ed_lines.specs.declared.program.Line.{Line}
-use Rattle.ed_link.specs.Private.Building.{IsBuilt}
-use Rattle.ed_link.specs.Private.FaultTests.{any_enter, missing}
-use Rattle.ed_link.proofs.Finished.{finished}
+use Rattle.ed_link.specs.Private.Building.{BuildIs, IsBuilt}
+use Rattle.ed_link.specs.Private.FaultTests.{any_enter}
+use Rattle.ed_link.proofs.FaultLaw.{line_fault, name_fault}
+use Rattle.ed_link.proofs.Bounds.{tape_few}
+use Rattle.ed_link.proofs.Spellable.{all_spellable}
+use Rattle.ed_link.proofs.Finished.{built_spelled, finished}
 use Rattle.ed_link.proofs.linking.link_names.Goals as goal
-
-pub overflow_cast-len : goal.overflow_cast-len
-overflow_cast-len c = omega arith
-
-pub missing-missing-requires : goal.missing-missing-requires
-missing-missing-requires c = omega arith
 
 pub build-requires : goal.build-requires
 build-requires c = omega arith
 
-pub returns-clause-linked : goal.returns-clause-linked
-returns-clause-linked c =
-    let n : c.len.result ≡ length c.args.program.now.lines.items = omega arith in
-    let missed = c.missing-missing.ensures ∙ ap (λ (x : ℕ). missing c.any_enter-has_enter.result x) n in
+pub finish-requires-clause-spellable : goal.finish-requires-clause-spellable
+finish-requires-clause-spellable c =
+    let enters = c.any_enter-has_enter.ensures ∙ ap (λ (x : List Line). any_enter x) c.deref.ensures.value in
+    all_spellable c.in-Ok.built.items.items (built_spelled _ c.catalogue_size-ready.ensures.ready c.args.program.now.formed c.requires.symbols enters
+    (sym c.requires.names ∙ c.in-None.is) c.if-has_enter.true
+    (subst (λ (x : List Line). IsBuilt c.args.size c.args.symbols.now c.any_enter-has_enter.result x c.in-Ok.built)
+    c.deref-2.ensures.value c.in-Ok.ensures))
+
+pub finish-requires-clause-few : goal.finish-requires-clause-few
+finish-requires-clause-few c =
+    tape_few c.in-Ok.built.items.items c.in-Ok.built.after.items c.in-Ok.ensures.few_items c.in-Ok.ensures.few_rows
+
+pub returns-in_ok-finish-in-None-clause-linked : goal.returns-in_ok-finish-in-None-clause-linked
+returns-in_ok-finish-in-None-clause-linked c =
+    let enters = c.any_enter-has_enter.ensures ∙ ap (λ (x : List Line). any_enter x) c.deref.ensures.value in
     finished _ c.catalogue_size-ready.ensures.ready c.args.program.now.numbered c.args.program.now.formed
-    c.requires.symbols
-    (c.any_enter-has_enter.ensures ∙ ap (λ (x : List Line). any_enter x) c.deref.ensures.value)
-    (sym c.requires.names ∙ c.in_default.is, sym missed ∙ c.in_default-missing.is)
+    c.requires.symbols enters (sym c.requires.names ∙ c.in-None.is) c.if-has_enter.true
     (subst (λ (x : List Line). IsBuilt c.args.size c.args.symbols.now c.any_enter-has_enter.result x c.in-Ok.built)
     c.deref-2.ensures.value c.in-Ok.ensures)
-    c.in_ok-finish.ensures
+    c.in_ok-finish-in-None.ensures
+
+pub returns-in-Some-clause-fault : goal.returns-in-Some-clause-fault
+returns-in-Some-clause-fault c =
+    let enters = c.any_enter-has_enter.ensures ∙ ap (λ (x : List Line). any_enter x) c.deref.ensures.value in
+    let built = subst (λ (x : List Line). IsBuilt c.args.size c.args.symbols.now c.any_enter-has_enter.result x
+    c.in-Ok.built) c.deref-2.ensures.value c.in-Ok.ensures in
+    name_fault c.args.size c.args.program.now.lines.items c.args.program.now.numbered c.requires.symbols enters
+    c.in-Some.names (sym c.requires.names ∙ c.in-Some.is) built.accepted
+
+pub returns-in-Err-clause-fault : goal.returns-in-Err-clause-fault
+returns-in-Err-clause-fault c =
+    let enters = c.any_enter-has_enter.ensures ∙ ap (λ (x : List Line). any_enter x) c.deref.ensures.value in
+    line_fault c.args.size c.args.program.now.lines.items c.args.program.now.numbered c.requires.symbols enters
+    c.in-Err.fault c.sooner.result c.requires.names
+    (subst (λ (x : List Line). BuildIs c.args.size c.args.symbols.now c.any_enter-has_enter.result x
+    (Err c.in-Err.fault)) c.deref-2.ensures.value c.in-Err.ensures)
+    c.sooner.ensures

@@ -1,29 +1,36 @@
-use Rattle.std.proofs.Common.{ℕ, refl, get_or}
+use Rattle.std.proofs.Common.{◌≡◌, ◌∙◌, ℕ, ap, sym, refl, ◌++◌, append-nil, Vec, Global, get_or}
 use Rattle.std.specs.List.{flat_map}
+use Rattle.ed_notation.specs.declared.item.Item.{Item}
 use Rattle.ed_link.specs.Linked.{set_to}
 use Rattle.ed_link.specs.Punch.{preset_items}
 use Rattle.ed_notation.proofs.Parts.{one_more}
-use Rattle.ed_link.proofs.Steps.{all_given, next_letter, next_passes}
+use Rattle.ed_link.proofs.Steps.{all_given, set_preset}
 use Rattle.ed_link.proofs.punching.push_presets.Goals as goal
-use Rattle.std.proofs.Common.{nat_le}
+use Rattle.ed_link.proofs.punching.push_presets.Goals.{in-Some+in_ok-push+in_ok-push-2, in_default}
 
-pub push_preset-requires-clause-letter : goal.push_preset-requires-clause-letter
-push_preset-requires-clause-letter c =
-    next_letter c.args.letters.now c.loop-letter.letter-index c.loop-letter-test.true c.loop-letter.invariant.2
+pub loop-letter-init : goal.loop-letter-init
+loop-letter-init c = refl
 
 pub loop-letter-preserved : goal.loop-letter-preserved
 loop-letter-preserved c =
-    let letters = c.args.letters.now in
-    let i = c.loop-letter.letter-index in
-    let below = c.loop-letter-test.true in
-    let given = λ (l : ℕ). preset_items c.args.symbols.now (set_to c.args.settings.now l) l in (
-      one_more (flat_map given) letters i 0 c.loop-letter.items.items (given (get_or letters i 0)) _ below refl refl
-          c.in_ok-push_preset.ensures.items c.loop-letter.invariant.0,
-      c.push_preset.ensures.spellable,
-      (next_passes (λ l. nat_le l 26) letters i 0 below c.loop-letter.invariant.2).1,
-    )
+    let given = λ (l : ℕ). preset_items c.args.symbols.now (set_to c.args.settings.now l) l in
+    let done = c.loop-letter.items.items in
+    let letter = get_or c.args.letters.now c.loop-letter.letter-index 0 in
+    let with_part = λ (same : c.match-setting.items.items ≡ done ++ given letter).
+    one_more (flat_map given) c.args.letters.now c.loop-letter.letter-index 0 done (given letter) _
+    c.loop-letter-test.true refl refl same c.loop-letter.invariant in
+    elim c.match-setting.branch [
+      | in-Some+in_ok-push+in_ok-push-2 w ↦ with_part
+          (ap (λ (v : Vec Item Global). v.items) w.items-is
+          ∙ set_preset c.args.symbols.now w.in-Some.operand done w.in_ok-push.ensures w.in_ok-push-2.ensures
+          w.control.ensures w.from.ensures w.numbered.ensures w.number.ensures.is
+          ∙ ap (λ o. done ++ preset_items c.args.symbols.now o letter) (sym w.in-Some.is ∙ c.setting.ensures))
+      | in_default w ↦ with_part
+          (ap (λ (v : Vec Item Global). v.items) w.items-is ∙ sym (append-nil done)
+          ∙ ap (λ o. done ++ preset_items c.args.symbols.now o letter) (sym w.in_default.is ∙ c.setting.ensures))
+    ]
 
-pub returns-clause-items : goal.returns-clause-items
-returns-clause-items c =
+pub returns : goal.returns
+returns c =
     all_given (flat_map (λ l. preset_items c.args.symbols.now (set_to c.args.settings.now l) l)) c.args.letters.now
-    c.loop-letter.letter-index c.loop-letter.items.items c.loop-letter-test.false refl c.loop-letter.invariant.0
+    c.loop-letter.letter-index c.loop-letter.items.items c.loop-letter-test.false refl c.loop-letter.invariant

@@ -1,10 +1,8 @@
 use Rattle.std.proofs.Common.{◌≡◌, ◌*◌, ◌++◌, drop, map}
-use Rattle.ed_notation.specs.Spellings.{AreSpellable}
 use Rattle.ed_link.specs.Punch.{word_item}
 use Rattle.ed_link.proofs.punching.push_text.Given as goal
 
 abbrev pub invariant-loop-code : goal.invariant-loop-code
 invariant-loop-code l =
-    (l.items.items ++ map word_item (map (λ c. 4096 * c) (drop l.code-index l.codes))
-    ≡ l.fn.items.items ++ map word_item (map (λ c. 4096 * c) l.codes))
-    × AreSpellable l.items.items
+    l.items.items ++ map word_item (map (λ c. 4096 * c) (drop l.code-index l.codes))
+    ≡ l.fn.items.items ++ map word_item (map (λ c. 4096 * c) l.codes)

@@ -1,23 +1,36 @@
-use Rattle.std.proofs.Common.{ℕ, get_or, nat_le}
+use Rattle.std.proofs.Common.{◌≡◌, ◌∙◌, ℕ, ap, sym, get_or, drop, length, set, ◌+◌, ◌*◌, Some}
+use Rattle.std.specs.List.{flat_map}
 use Rattle.ed_link.specs.Linked.{preset, set_to}
-use Rattle.ed_link.proofs.Steps.{more_put, all_put, next_letter, next_passes, same_length}
+use Rattle.ed_link.specs.Tables.{put_all}
+use Rattle.ed_link.proofs.Steps.{more_put, all_put, same_length}
 use Rattle.ed_link.proofs.words.put_presets.Goals as goal
-
-pub put_preset-requires-clause-letter : goal.put_preset-requires-clause-letter
-put_preset-requires-clause-letter c =
-    next_letter c.args.letters.now c.loop-letter.letter-index c.loop-letter-test.true c.loop-letter.invariant.1
+use Rattle.ed_link.proofs.words.put_presets.Goals.{in-Some, in_default}
 
 pub loop-letter-preserved : goal.loop-letter-preserved
 loop-letter-preserved c =
-    let letters = c.args.letters.now in
-    let i = c.loop-letter.letter-index in
-    let below = c.loop-letter-test.true in
+    let given = λ (l : ℕ). preset c.args.symbols.now (set_to c.args.settings.now l) l in
     let table = c.loop-letter.table.items in
-    let given = λ (l : ℕ). preset c.args.symbols.now (set_to c.args.settings.now l) l in (
-      more_put given letters i 0 table below c.put_preset.ensures c.loop-letter.invariant.0,
-      (next_passes (λ l. nat_le l 26) letters i 0 below c.loop-letter.invariant.1).1,
-      same_length table (given (get_or letters i 0)) c.put_preset.ensures c.loop-letter.invariant.2,
-    )
+    let letter = get_or c.args.letters.now c.loop-letter.letter-index 0 in
+    let with_part = λ (same : c.match-setting.table.items ≡ put_all table (given letter)).
+    let whole : (put_all c.match-setting.table.items (flat_map given (drop (c.loop-letter.letter-index + 1)
+    c.args.letters.now)) ≡ put_all c.args.table.now.items (flat_map given c.args.letters.now))
+    × (length c.match-setting.table.items ≡ 1024) = (
+      more_put given c.args.letters.now c.loop-letter.letter-index 0 table c.loop-letter-test.true
+          same c.loop-letter.invariant.0,
+      same_length table (given letter) same c.loop-letter.invariant.1,
+    ) in whole in
+    elim c.match-setting.branch [
+      | in-Some w ↦
+          let word = rw w.unwrap.ensures at w.new.ensures.some in
+          let number = w.from-word.ensures ∙ w.number.ensures.is in
+          with_part
+          (ap (λ v. v.items) w.table-is ∙ w.put.ensures
+          ∙ (λ i. set table (24 + w.from.ensures i) (Some ((word ∙ ap (λ (n : ℕ). 2 * n) number) i)))
+          ∙ ap (λ o. put_all table (preset c.args.symbols.now o letter)) (sym w.in-Some.is ∙ c.setting.ensures))
+      | in_default w ↦ with_part
+          (ap (λ v. v.items) w.table-is
+          ∙ ap (λ o. put_all table (preset c.args.symbols.now o letter)) (sym w.in_default.is ∙ c.setting.ensures))
+    ]
 
 pub returns : goal.returns
 returns c =

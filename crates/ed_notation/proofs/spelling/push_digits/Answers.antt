@@ -1,20 +1,44 @@
-use Rattle.std.proofs.Common.{◌++◌}
-use Rattle.std.proofs.lemmas.Result.{on_ok_weaker}
+use Rattle.std.proofs.Common.{ℕ, ◌≡◌, ◌∙◌, ◌+◌, ◌++◌, ◌∷◌, [], List, ap, sym, refl, append-nil, drop, get_or, nat_lt, true}
+use Rattle.std.specs.List.{flat_map, list_all}
+use Rattle.std.proofs.lemmas.List.{at_drop_all}
 use Rattle.ed_notation.specs.Spellings.{digit_at}
-use Rattle.ed_notation.proofs.Parts.{joined}
+use Rattle.ed_notation.proofs.Parts.{digit_there, next_passes, no_digit, one_more}
 use Rattle.ed_notation.proofs.spelling.push_digits.Goals as goal
+use Rattle.ed_notation.proofs.spelling.push_digits.Goals.{then-power-number+in_ok-push_row, else-power-number}
+
+pub loop-power-preserved : goal.loop-power-preserved
+loop-power-preserved c =
+    let n = c.args.number in
+    let powers = c.args.powers.now in
+    let i = c.loop-power.power-index in
+    let power = get_or powers i 0 in
+    let done = c.loop-power.rows.items in
+    let below = c.loop-power-test.true in
+    let with_part = λ (same : c.if-power-number.rows.items ≡ done ++ digit_at power n).
+    let whole : (c.if-power-number.rows.items ++ flat_map (λ p. digit_at p n) (drop (i + 1) powers)
+    ≡ c.args.rows.now.items ++ flat_map (λ p. digit_at p n) powers)
+    × (list_all (λ p. nat_lt 0 p) (drop (i + 1) powers) ≡ true) = (
+      one_more (flat_map (λ p. digit_at p n)) powers i 0 done (digit_at power n) _ below refl refl same
+          c.loop-power.invariant.0,
+      (next_passes (λ p. nat_lt 0 p) powers i 0 below c.loop-power.invariant.1).1,
+    ) in whole in
+    elim c.if-power-number.branch [
+      | then-power-number+in_ok-push_row w ↦
+          let row = rw w.unwrap.ensures at w.new.ensures.some in
+          with_part
+          (ap (λ v. v.items) w.rows-is ∙ w.in_ok-push_row.ensures
+          ∙ ap (λ (ds : List ℕ). done ++ ds)
+          (ap (λ (d : ℕ). d ∷ []) row ∙ sym (digit_there power n w.if-power-number.true)))
+      | else-power-number w ↦ with_part
+          (ap (λ v. v.items) w.rows-is ∙ sym (append-nil done)
+          ∙ ap (λ (ds : List ℕ). done ++ ds) (sym (no_digit power n w.if-power-number.false)))
+    ]
 
 pub returns : goal.returns
 returns c =
-    let n = c.args.number in
-    let last = digit_at 10 n ++ digit_at 1 n in
-    let r = c.args.rows.now.items in
-    let r1 = c.push_digit.new.rows.items in
-    let r2 = c.push_digit-2.new.rows.items in
-    let r3 = c.push_digit-3.new.rows.items in
-    on_ok_weaker c.push_digit-5.result
-    (λ e. joined r (digit_at 10000 n) (digit_at 1000 n ++ (digit_at 100 n ++ last)) c.in_ok-push_digit.ensures
-    (joined r1 (digit_at 1000 n) (digit_at 100 n ++ last) c.in_ok-push_digit-2.ensures
-    (joined r2 (digit_at 100 n) last c.in_ok-push_digit-3.ensures
-    (joined r3 (digit_at 10 n) (digit_at 1 n) c.in_ok-push_digit-4.ensures e))))
-    c.push_digit-5.ensures
+    let l = c.loop-power in
+    sym (append-nil l.rows.items)
+    ∙ ap (λ (ds : List ℕ). l.rows.items ++ ds)
+    (sym (at_drop_all (flat_map (λ p. digit_at p c.args.number)) c.args.powers.now l.power-index
+    c.loop-power-test.false))
+    ∙ l.invariant.0

@@ -1,4 +1,3 @@
-use Rattle.std.proofs.Common.{arith}
 use Rattle.ed_symbols.proofs.NameLaw.{found_is, each_has_one}
 use Rattle.ed_symbols.proofs.places.resolve.Goals as goal
 
@@ -9,7 +8,9 @@ pub returns-in_err-fault-clause-one : goal.returns-in_err-fault-clause-one
 returns-in_err-fault-clause-one c = each_has_one
 
 pub returns-clause-fault : goal.returns-clause-fault
-returns-clause-fault c = grind (arith, found_is)
+returns-clause-fault c =
+    rw (c.in_ok-fault.ensures, c.deref.ensures.value, c.in_ok-positions.ensures.symbols)
+    (found_is c.args.program.now.lines.items c.args.program.now.numbered)
 
 pub returns-clause-one : goal.returns-clause-one
 returns-clause-one c = each_has_one

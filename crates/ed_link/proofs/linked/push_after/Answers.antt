@@ -1,10 +1,11 @@
-use Rattle.std.proofs.Common.{ℕ, ◌∙◌, ap, sym, refl, true, List, [], ◌∷◌, ◌++◌}
+use Rattle.std.proofs.Common.{ℕ, ◌∙◌, ap, sym, refl, subst, true, List, [], ◌∷◌, ◌++◌}
 use Rattle.std.proofs.lemmas.List.{at_drop_all}
 use Rattle.ed_codes.specs.Spelling.{byte_of}
+use Rattle.ed_codes.specs.Text.{Spells}
 use Rattle.ed_notation.specs.Spellings.{line_from}
 use Rattle.ed_notation.proofs.Parts.{one_more}
-use Rattle.ed_link.proofs.Texts.{one_spells, last_spells}
-use Rattle.ed_link.proofs.linked.push_rows.Goals as goal
+use Rattle.ed_link.proofs.Texts.{one_spells, last_spells, no_text, some_text}
+use Rattle.ed_link.proofs.linked.push_after.Goals as goal
 
 pub loop-row-preserved : goal.loop-row-preserved
 loop-row-preserved c =
@@ -22,8 +23,12 @@ returns-clause-is c =
     c.in_ok-push-2.ensures.items
     ∙ ap (λ (xs : List ℕ). c.loop-row.text.items ++ xs)
     (sym (at_drop_all (line_from true) c.args.rows.now c.loop-row.row-index c.loop-row-test.false))
-    ∙ c.loop-row.invariant.0
+    ∙ c.loop-row.invariant.0 ∙ ap (λ (xs : List ℕ). c.args.text.now.items ++ xs) (sym (some_text c.args.rows.now c.if-is_empty.ensures))
 
 pub returns-clause-spells : goal.returns-clause-spells
 returns-clause-spells c =
-    c.loop-row.invariant.1 (last_spells c.args.rows.now c.loop-row.row-index c.loop-row-test.false)
+    subst (λ (xs : List ℕ). Spells xs c.args.rows.now) (sym (some_text c.args.rows.now c.if-is_empty.ensures))
+    (c.loop-row.invariant.1 (last_spells c.args.rows.now c.loop-row.row-index c.loop-row-test.false))
+
+pub returns-then-is_empty-clause-spells : goal.returns-then-is_empty-clause-spells
+returns-then-is_empty-clause-spells c = no_text c.args.rows.now c.if-is_empty.ensures

@@ -1,0 +1,43 @@
+-- Tests of the settings that are left, by that of the next one.
+use Rattle.std.proofs.Common.{◌≡◌, ◌∙◌, ◌+◌, ◌<◌, ◌≤◌, ℕ, refl, sym, ap, Bool, true, false, List, ◌∷◌}
+use Rattle.std.proofs.Common.{length, drop, get_or, is_some, is_none, Option, Some, None}
+use Rattle.std.specs.Prelude.{◌||◌}
+use Rattle.std.specs.List.{list_any}
+use Rattle.std.proofs.lemmas.List.{at_drop_all, drop_more}
+
+-- a value that is unknown, and one that is known
+pub unknown : {A : Type 0} (o : Option A) → is_some o ≡ false → is_none o ≡ true
+unknown None h = refl
+unknown (Some x) h = cc
+
+pub known : {A : Type 0} (o : Option A) → is_some o ≡ true → is_none o ≡ false
+known None h = cc
+known (Some x) h = refl
+
+module _ {A : Type 0} (p : A → Bool) (xs : List A) (i : ℕ) where
+  next : (x : A) → i < length xs → x ≡ get_or xs i x → list_any p (drop i xs) ≡ (p x || list_any p (drop (i + 1) xs))
+  next x below is = ap (list_any p) (drop_more xs i x below ∙ ap (λ (y : A). y ∷ drop (i + 1) xs) (sym is))
+
+  -- the next one passes
+  pub one_passes : {whole : Bool} (x : A) → i < length xs → x ≡ get_or xs i x → p x ≡ true
+      → list_any p (drop i xs) ≡ whole → whole ≡ true
+  one_passes x below is passes before =
+      sym before ∙ next x below is ∙ ap (λ (b : Bool). b || list_any p (drop (i + 1) xs)) passes
+
+  -- the next one fails
+  pub one_fails : {whole : Bool} (x : A) → i < length xs → x ≡ get_or xs i x → p x ≡ false
+      → list_any p (drop i xs) ≡ whole → list_any p (drop (i + 1) xs) ≡ whole
+  one_fails x below is fails before =
+      sym (next x below is ∙ ap (λ (b : Bool). b || list_any p (drop (i + 1) xs)) fails) ∙ before
+
+  -- the tests so far, with that of the next one
+  pub one_more : {whole t : Bool} (b : Bool) (x : A) → i < length xs → x ≡ get_or xs i x → t ≡ p x
+      → (b || list_any p (drop i xs)) ≡ whole → ((b || t) || list_any p (drop (i + 1) xs)) ≡ whole
+  one_more true x below is same before = before
+  one_more false x below is same before =
+      ap (λ (t : Bool). t || list_any p (drop (i + 1) xs)) same ∙ sym (next x below is) ∙ before
+
+  -- none is left
+  pub none_left : {whole b : Bool} → length xs ≤ i → (b || list_any p (drop i xs)) ≡ whole → b ≡ whole
+  none_left {b = true} past before = before
+  none_left {b = false} past before = sym (at_drop_all (list_any p) xs i past) ∙ before
