@@ -6,3 +6,4 @@ pub mod Rows
 pub mod Walks
 pub mod Whole
 pub mod Filtered
+pub mod Arguments

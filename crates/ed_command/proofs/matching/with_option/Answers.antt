@@ -1,10 +1,11 @@
-use Rattle.std.proofs.Common.{◌∙◌, ap}
+use Rattle.std.proofs.Common.{rules, ◌≡◌, ◌∙◌, ap}
 use Rattle.std.proofs.lemmas.Result.{IfOk-weaker}
-use Rattle.clap.specs.Words.{app_of, with_rule}
+use Rattle.clap.specs.Words.{app_of, rule_of, with_rule}
+use Rattle.ed_command.specs.Rules.{option_rule}
 use Rattle.ed_command.proofs.matching.with_option.Goals as goal
 
 pub returns : goal.returns
 returns c =
+    let rule_is : rule_of c.action.result ≡ option_rule c.args.name.now = search rules in
     IfOk-weaker c.arg.result _ _
-    (λ more adds. adds.shape c.option.ensures.here ∙ ap (with_rule (app_of c.args.command)) c.option.ensures.rule)
-    c.arg.ensures
+    (λ more adds. adds.shape (search rules) ∙ ap (with_rule (app_of c.args.command)) rule_is) c.arg.ensures
