@@ -7,3 +7,4 @@ pub mod Walks
 pub mod Whole
 pub mod Filtered
 pub mod Arguments
+pub mod Adding
