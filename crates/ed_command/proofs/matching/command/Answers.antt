@@ -1,9 +1,8 @@
-use Rattle.std.proofs.Common.{rules, ◌≡◌, ◌∙◌, [], ◌∷◌, false, subst, List}
+use Rattle.std.proofs.Common.{rules, ◌≡◌, [], ◌∷◌, false}
 use Rattle.std.proofs.lemmas.Result.{IfOk-weaker}
-use Rattle.clap.specs.Words.{AddsArg, AddsInTurn, rule_of, with_rule}
-use Rattle.clap.specs.declared.builder.arg.Arg.{Arg}
+use Rattle.clap.specs.Words.{rule_of, with_rule}
 use Rattle.ed_command.specs.Rules.{words_rule}
-use Rattle.ed_command.proofs.Adding.{AreHere, all_added}
+use Rattle.ed_command.proofs.Adding.{AreHere, program_made}
 use Rattle.ed_command.proofs.matching.command.Goals as goal
 
 pub returns : goal.returns
@@ -17,9 +16,8 @@ returns c =
     (c.option.ensures.here, (c.option-2.ensures.here, (c.option-3.ensures.here, (c.option-4.ensures.here, (plain, tt)))))
     in
     IfOk-weaker c.args-2.result _ _
-    (λ more adds. all_added c.bare.result more arguments
-    (subst (λ (added : List Arg). AddsInTurn AddsArg c.bare.result added more) items adds) here
-    ∙ (λ i. with_rule (with_rule (with_rule (with_rule (with_rule (c.bare.ensures i)
+    (λ more adds. program_made c.bare.result more c.push_reserved-5.new.self.items arguments items adds here
+    (λ i. with_rule (with_rule (with_rule (with_rule (with_rule (c.bare.ensures i)
     (c.option.ensures.rule i)) (c.option-2.ensures.rule i)) (c.option-3.ensures.rule i)) (c.option-4.ensures.rule i))
     (words_is i)))
     c.args-2.ensures
