@@ -6,3 +6,5 @@ pub mod Rows
 pub mod Walks
 pub mod Whole
 pub mod Filtered
+pub mod Arguments
+pub mod Adding

@@ -1,7 +1,6 @@
 ghost use Rattle.std.specs.Prelude.{◌≡◌, ◌≤◌, IfSome, map, option_map};
-ghost use Rattle.ed_command.specs.Held.{options_in};
-ghost use Rattle.ed_command.specs.Lines.{alone, call_of, command_named, command_of};
-ghost use Rattle.ed_command.specs.Lines.{division, one_number, with_division, with_only};
+ghost use Rattle.ed_command.specs.Held.{action_by, call_with, line_by, options_in, table_line_by};
+ghost use Rattle.ed_command.specs.Lines.{call_of, command_of, division, line_named, lines};
 
 use crate::command::{Action, Command};
 use crate::options::Options;
@@ -17,61 +16,28 @@ const LIMIT: &[&str] = &["limit"];
 /// The one option of the commands that run nothing and depend on the size of the store.
 const STORE: &[&str] = &["store"];
 
+/// What a command does, by the arguments that it takes.
+#[derive(Clone, Copy)]
+pub(crate) enum LineAction {
+    /// An action that takes no argument.
+    Alone(Action),
+    /// `call`: a name and its numbers.
+    Call,
+    /// `demo`: one number, 1 to 112.
+    Demo,
+}
+
+use LineAction::Alone;
+
 /// The command of the words that belong to no option, and the options.
 pub(crate) fn command_of(words: &[&str], options: &Options<'_>) -> Option<Command>
     ensures { result ≡ command_of (map (λ w. w.now) words.now) (options_in options.now) }
 {
     let (word, arguments) = words.split_first()?;
-    command_named(word, arguments, options)
-}
-
-/// The command of a word with these arguments and options.
-fn command_named(word: &str, arguments: &[&str], options: &Options<'_>) -> Option<Command>
-    ensures { result ≡ command_named word.now (map (λ a. a.now) arguments.now) (options_in options.now) }
-{
-    match word {
-        "tape" => plain(ALL, options, Action::Tape, arguments),
-        "check-tape" => plain(STORE, options, Action::CheckTape, arguments),
-        "run" => plain(ALL, options, Action::Run, arguments),
-        "punch" => plain(STORE, options, Action::Punch, arguments),
-        "listing" => plain(STORE, options, Action::Listing, arguments),
-        "step" => plain(LIMIT, options, Action::Step, arguments),
-        "trace" => plain(
-            &["limit", "resume", "store"],
-            options,
-            Action::Trace,
-            arguments,
-        ),
-        "call" => with_only(LIMIT, options, call(arguments)),
-        "library" => plain(&[], options, Action::Library, arguments),
-        "demo" => with_only(LIMIT, options, demo(arguments)),
-        "parts" => plain(LIMIT, options, Action::Parts, arguments),
-        "tape1" => plain(&["limit", "resume"], options, Action::Tape1, arguments),
-        "check-tape1" => plain(&[], options, Action::CheckTape1, arguments),
-        _ => None,
-    }
-}
-
-/// The command of an action that takes no argument, if only these options are given.
-fn plain(
-    names: &[&str],
-    options: &Options<'_>,
-    action: Action,
-    arguments: &[&str],
-) -> Option<Command>
-    ensures { result ≡ with_only (map (λ n. n.now) names.now) (options_in options.now)
-        (alone action (map (λ a. a.now) arguments.now)) }
-{
-    with_only(names, options, alone(action, arguments))
-}
-
-/// The command of an action, if only these options are given.
-fn with_only(names: &[&str], options: &Options<'_>, action: Option<Action>) -> Option<Command>
-    ensures { result ≡ with_only (map (λ n. n.now) names.now) (options_in options.now) action }
-{
+    let (action, names) = line_named(word)?;
     if options.has_only(names) {
         Some(Command {
-            action: action?,
+            action: action_by(action, arguments)?,
             settings: options.settings()?,
         })
     } else {
@@ -79,29 +45,36 @@ fn with_only(names: &[&str], options: &Options<'_>, action: Option<Action>) -> O
     }
 }
 
-/// An action that takes no argument.
-fn alone(action: Action, arguments: &[&str]) -> Option<Action>
-    ensures { result ≡ alone action (map (λ a. a.now) arguments.now) }
+/// What the command of this word does, and the options that it may have.
+fn line_named(word: &str) -> Option<(LineAction, &'static [&'static str])>
+    ensures { option_map line_by result ≡ option_map table_line_by (line_named lines word.now) }
 {
-    match arguments {
-        [] => Some(action),
+    match word {
+        "tape" => Some((Alone(Action::Tape), ALL)),
+        "check-tape" => Some((Alone(Action::CheckTape), STORE)),
+        "run" => Some((Alone(Action::Run), ALL)),
+        "punch" => Some((Alone(Action::Punch), STORE)),
+        "listing" => Some((Alone(Action::Listing), STORE)),
+        "step" => Some((Alone(Action::Step), LIMIT)),
+        "trace" => Some((Alone(Action::Trace), &["limit", "resume", "store"])),
+        "call" => Some((LineAction::Call, LIMIT)),
+        "library" => Some((Alone(Action::Library), &[])),
+        "demo" => Some((LineAction::Demo, LIMIT)),
+        "parts" => Some((Alone(Action::Parts), LIMIT)),
+        "tape1" => Some((Alone(Action::Tape1), &["limit", "resume"])),
+        "check-tape1" => Some((Alone(Action::CheckTape1), &[])),
         _ => None,
     }
 }
 
-/// `call`: a name and its numbers.
-fn call(arguments: &[&str]) -> Option<Action>
-    ensures { result ≡ option_map Action.Call (call_of (map (λ a. a.now) arguments.now)) }
+/// The action with these arguments, if it takes them.
+fn action_by(action: LineAction, arguments: &[&str]) -> Option<Action>
+    ensures { result ≡ action_by action (map (λ a. a.now) arguments.now) }
 {
-    Some(Action::Call(call_of(arguments)?))
-}
-
-/// `demo`: one number, 1 to 112.
-fn demo(arguments: &[&str]) -> Option<Action>
-    ensures { result ≡ option_map Action.Demo (one_number 1 112 (map (λ a. a.now) arguments.now)) }
-{
-    match arguments {
-        [text] => Some(Action::Demo(number_within(text.as_bytes(), 1, 112)?)),
+    match (action, arguments) {
+        (Alone(action), []) => Some(action),
+        (LineAction::Call, _) => Some(Action::Call(call_of(arguments)?)),
+        (LineAction::Demo, [text]) => Some(Action::Demo(number_within(text.as_bytes(), 1, 112)?)),
         _ => None,
     }
 }
@@ -110,44 +83,25 @@ fn demo(arguments: &[&str]) -> Option<Action>
 fn call_of(arguments: &[&str]) -> Option<Call>
     ensures { result ≡ call_of (map (λ a. a.now) arguments.now) }
 {
-    let (name, numbers) = arguments.split_first()?;
-    match *name {
-        "print" => short(numbers).map(Call::Print),
-        "read" => short(numbers).map(Call::Read),
-        "newline" => new_line(numbers),
-        "divide" => with_division(numbers),
-        "root" => short(numbers).map(Call::Root),
-        "check" => short(numbers).map(Call::Check),
+    match arguments {
+        ["newline"] => Some(Call::NewLine),
+        ["divide", n, by] => {
+            division(number(n.as_bytes()), number_within(by.as_bytes(), 1, 32767))
+        }
+        [name, text] => call_with(name, number_within(text.as_bytes(), 0, 65535)? as u16),
         _ => None,
     }
 }
 
-/// The call `newline`, which takes no number.
-fn new_line(numbers: &[&str]) -> Option<Call>
-    ensures { result ≡ alone Call.NewLine (map (λ a. a.now) numbers.now) }
+/// The call of this name that takes one number.
+fn call_with(name: &str, number: u16) -> Option<Call>
+    ensures { result ≡ call_with name.now number }
 {
-    match numbers {
-        [] => Some(Call::NewLine),
-        _ => None,
-    }
-}
-
-/// The one number, 0 to 65,535.
-fn short(numbers: &[&str]) -> Option<u16>
-    ensures { result ≡ one_number 0 65535 (map (λ a. a.now) numbers.now) }
-{
-    match numbers {
-        [text] => Some(number_within(text.as_bytes(), 0, 65535)? as u16),
-        _ => None,
-    }
-}
-
-/// The call `divide` of its two numbers.
-fn with_division(numbers: &[&str]) -> Option<Call>
-    ensures { result ≡ with_division (map (λ a. a.now) numbers.now) }
-{
-    match numbers {
-        [n, by] => division(number(n.as_bytes()), number_within(by.as_bytes(), 1, 32767)),
+    match name {
+        "print" => Some(Call::Print(number)),
+        "read" => Some(Call::Read(number)),
+        "root" => Some(Call::Root(number)),
+        "check" => Some(Call::Check(number)),
         _ => None,
     }
 }

@@ -1,14 +1,10 @@
 ghost use Rattle.std.specs.Prelude.{◌≡◌, map, option_map, Some};
-ghost use Rattle.std.specs.List.{list_any};
-ghost use Rattle.std.specs.Str.{bytes_eq};
 ghost use Rattle.ed_words.specs.Decimals.{number_within};
 ghost use Rattle.ed_command.specs.Held.{options_in};
-ghost use Rattle.ed_command.specs.Windows.{size_named, window_named};
-ghost use Rattle.ed_command.specs.Settings.{has_only, is_none_given, may_be_given, option_value, settings_of};
-ghost use Rattle.ed_command.specs.Settings.{limit_of, post_mortem_of, resumes_of, size_of};
+ghost use Rattle.ed_command.specs.Settings.{has_only, may_be_given, option_value, settings_of, size_of};
 
 use crate::command::{Settings, Window};
-use crate::windows::{size_named, window_named};
+use crate::windows::window_named;
 use ed_words::{Size, number_within};
 
 /// The values of the four options, as the words give them.
@@ -32,31 +28,24 @@ impl Options<'_> {
             _ => return None,
         };
         Some(Settings {
-            limit: self.limit()?,
-            resumes: self.resumes()?,
+            limit: number_setting(self.limits, 10_000_000, 1, 100_000_000)?,
+            resumes: number_setting(self.resumes, 0, 0, 1000)?,
             size,
             post_mortem,
         })
     }
 
-    fn limit(&self) -> Option<u32>
-        ensures { result ≡ limit_of (options_in self.now) }
-    {
-        number_setting(self.limits, 10_000_000, 1, 100_000_000)
-    }
-
-    fn resumes(&self) -> Option<u32>
-        ensures { result ≡ resumes_of (options_in self.now) }
-    {
-        number_setting(self.resumes, 0, 0, 1000)
-    }
-
+    /// The size of the store.
     fn size(&self) -> Option<Size>
         ensures { result ≡ size_of (options_in self.now) }
     {
         match self.stores {
             [] => Some(Size::Full),
-            [value] => size_named(value),
+            [text] => match *text {
+                "512" => Some(Size::Small),
+                "1024" => Some(Size::Full),
+                _ => None,
+            },
             _ => None,
         }
     }
@@ -87,22 +76,5 @@ fn number_setting(values: &[&str], default: u32, least: u32, most: u32) -> Optio
 fn may_be_given(names: &[&str], name: &str, values: &[&str]) -> bool
     ensures { result ≡ may_be_given (map (λ n. n.now) names.now) name.now (map (λ v. v.now) values.now) }
 {
-    is_none_given(values) || is_named(names, name)
-}
-
-/// Whether the list is empty.
-fn is_none_given(values: &[&str]) -> bool
-    ensures { result ≡ is_none_given (map (λ v. v.now) values.now) }
-{
-    match values.split_first() {
-        None => true,
-        Some(_) => false,
-    }
-}
-
-/// Whether the name is one of these.
-fn is_named(names: &[&str], name: &str) -> bool
-    ensures { result ≡ list_any (λ n. bytes_eq n.now name.now) names.now }
-{
-    names.iter().any(|n| *n == name)
+    values.is_empty() || names.contains(&name)
 }

@@ -1,19 +1,8 @@
 ghost use Rattle.std.specs.Prelude.{◌≡◌};
-ghost use Rattle.ed_command.specs.Windows.{size_named, window, window_named};
+ghost use Rattle.ed_command.specs.Windows.{window, window_named};
 
 use crate::command::Window;
 use ed_words::{Size, number};
-
-/// The size of the texts `512` and `1024`.
-pub(crate) fn size_named(text: &str) -> Option<Size>
-    ensures { result ≡ size_named text.now }
-{
-    match text {
-        "512" => Some(Size::Small),
-        "1024" => Some(Size::Full),
-        _ => None,
-    }
-}
 
 /// The locations of a text `FROM,COUNT`.
 pub(crate) fn window_named(text: &str, size: Size) -> Option<Window>

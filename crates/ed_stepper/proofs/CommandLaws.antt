@@ -13,6 +13,7 @@ use Rattle.ed_syntax.specs.Lines.{with_byte}
 use Rattle.ed_stepper.specs.Commands.{begins_part, has_space, is_space, HasCommandParts, no_part, one_part, one_space}
 use Rattle.ed_stepper.specs.Commands.{IsNumberWithin, LineSaysCommand, SaysCommand, SaysNoCommand, nothing}
 use Rattle.ed_stepper.specs.Commands.{back, entry, go, show_acc, show_from, show_last, show_mult, show_one, to, trace}
+use Rattle.ed_stepper.specs.Private.Commands.{IsCommandInRange}
 use Rattle.ed_stepper.specs.Private.CommandReading.{of_one, of_parts, of_three, of_two, parts_between_spaces}
 use Rattle.ed_stepper.specs.Private.CommandReading.{session_command, show_command, shown_command}
 use Rattle.ed_stepper.specs.declared.moves.MoveTarget.TheVariants as aims
@@ -345,3 +346,23 @@ unread_says_none line none = λ c s. let read = line_is_read line c s in absurd 
 pub one_command : (line : Text) (c d : SessionCommand) → LineSaysCommand line c → LineSaysCommand line d → c ≡ d
 one_command line c d s t =
     let first = line_is_read line c s in let second = line_is_read line d t in cc
+
+-- ---- ranges
+
+said_in_range : (parts : List Text) (c : SessionCommand) → SaysCommand parts c → IsCommandInRange c
+said_in_range _ _ nothing = tt
+said_in_range _ _ (go n i) = tt
+said_in_range _ _ (to a i) = tt
+said_in_range _ _ entry = tt
+said_in_range _ _ (back n i) = tt
+said_in_range _ _ (trace n i) = i.at_most
+said_in_range _ _ (show_one a i) = (omega arith, i.at_most)
+said_in_range _ _ (show_from a b i j le) = (le, j.at_most)
+said_in_range _ _ show_acc = tt
+said_in_range _ _ show_mult = tt
+said_in_range _ _ show_last = tt
+
+-- the numbers of a command that is read are in their ranges
+pub read_in_range : (line : Text) (c : SessionCommand) → session_command line ≡ Some c → IsCommandInRange c
+read_in_range line c e =
+    said_in_range (parts_between_spaces line) c (read_is_said (parts_between_spaces line) c e)

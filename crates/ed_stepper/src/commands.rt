@@ -1,9 +1,8 @@
 //! The lines of a script. Each line says a command.
-ghost use Rattle.std.specs.Prelude.{◌≡◌, ◌≤◌, IfSome, option_map};
+ghost use Rattle.std.specs.Prelude.{◌≡◌};
 ghost use Rattle.ed_words.specs.Decimals.{number_within};
 ghost use Rattle.ed_stepper.specs.Private.CommandReading.{session_command, of_one, of_three, of_two};
 ghost use Rattle.ed_stepper.specs.Private.CommandReading.{shown_command, show_command};
-ghost use Rattle.ed_stepper.specs.Private.Commands.{IsCommandInRange};
 
 use crate::fronts::{first_part, spells};
 use crate::moves::MoveTarget;
@@ -22,9 +21,9 @@ pub(crate) enum SessionCommand {
     Trace(u32),
     /// Lists the words from the first location to the second.
     Show(u16, u16),
-    /// Shows the accumulator.
+    /// Shows the accumulator, in units of 2^-70.
     Accumulator,
-    /// Shows the multiplier.
+    /// Shows the multiplier, in units of 2^-34.
     Multiplier,
     /// Shows the last printed code.
     LastPrinted,
@@ -32,8 +31,7 @@ pub(crate) enum SessionCommand {
 
 /// The command that a line says, if it says one.
 pub(crate) fn command_of(line: &[u8]) -> Option<SessionCommand>
-    ensures is { result ≡ session_command line.now }
-    ensures in_range { IfSome result IsCommandInRange }
+    ensures { result ≡ session_command line.now }
 {
     let Some((word, rest)) = first_part(line) else {
         return Some(SessionCommand::Nothing);
@@ -52,8 +50,7 @@ pub(crate) fn command_of(line: &[u8]) -> Option<SessionCommand>
 
 /// The command of one part.
 fn of_one(word: &[u8]) -> Option<SessionCommand>
-    ensures is { result ≡ of_one word.now }
-    ensures in_range { IfSome result IsCommandInRange }
+    ensures { result ≡ of_one word.now }
 {
     if spells(word, "entry") {
         Some(SessionCommand::Move(MoveTarget::Entry))
@@ -64,17 +61,17 @@ fn of_one(word: &[u8]) -> Option<SessionCommand>
 
 /// The command of two parts.
 fn of_two(word: &[u8], argument: &[u8]) -> Option<SessionCommand>
-    ensures is { result ≡ of_two word.now argument.now }
-    ensures in_range { IfSome result IsCommandInRange }
+    ensures { result ≡ of_two word.now argument.now }
 {
     if spells(word, "go") {
-        go(argument)
+        let orders = number_within(argument, 1, 100_000_000)?;
+        Some(SessionCommand::Move(MoveTarget::Orders(u64::from(orders))))
     } else if spells(word, "to") {
-        to(argument)
+        Some(SessionCommand::Move(MoveTarget::Address(address(argument)?)))
     } else if spells(word, "back") {
-        back(argument)
+        Some(SessionCommand::Back(number_within(argument, 0, 100_000_000)?))
     } else if spells(word, "trace") {
-        trace(argument)
+        Some(SessionCommand::Trace(number_within(argument, 1, 10_000)?))
     } else if spells(word, "show") {
         shown(argument)
     } else {
@@ -82,46 +79,9 @@ fn of_two(word: &[u8], argument: &[u8]) -> Option<SessionCommand>
     }
 }
 
-/// The command `go`.
-fn go(argument: &[u8]) -> Option<SessionCommand>
-    ensures is { result ≡ option_map (λ n. SessionCommand.Move (MoveTarget.Orders n)) (number_within 1 100000000 argument.now) }
-    ensures in_range { IfSome result IsCommandInRange }
-{
-    let orders = number_within(argument, 1, 100_000_000)?;
-    Some(SessionCommand::Move(MoveTarget::Orders(u64::from(orders))))
-}
-
-/// The command `to`.
-fn to(argument: &[u8]) -> Option<SessionCommand>
-    ensures is { result ≡ option_map (λ n. SessionCommand.Move (MoveTarget.Address n)) (number_within 0 1023 argument.now) }
-    ensures in_range { IfSome result IsCommandInRange }
-{
-    let address = address(argument)?;
-    Some(SessionCommand::Move(MoveTarget::Address(address)))
-}
-
-/// The command `back`.
-fn back(argument: &[u8]) -> Option<SessionCommand>
-    ensures is { result ≡ option_map (λ n. SessionCommand.Back n) (number_within 0 100000000 argument.now) }
-    ensures in_range { IfSome result IsCommandInRange }
-{
-    let orders = number_within(argument, 0, 100_000_000)?;
-    Some(SessionCommand::Back(orders))
-}
-
-/// The command `trace`.
-fn trace(argument: &[u8]) -> Option<SessionCommand>
-    ensures is { result ≡ option_map (λ n. SessionCommand.Trace n) (number_within 1 10000 argument.now) }
-    ensures in_range { IfSome result IsCommandInRange }
-{
-    let orders = number_within(argument, 1, 10_000)?;
-    Some(SessionCommand::Trace(orders))
-}
-
 /// The command `show` with one part.
 fn shown(argument: &[u8]) -> Option<SessionCommand>
-    ensures is { result ≡ shown_command argument.now }
-    ensures in_range { IfSome result IsCommandInRange }
+    ensures { result ≡ shown_command argument.now }
 {
     if spells(argument, "acc") {
         Some(SessionCommand::Accumulator)
@@ -136,8 +96,7 @@ fn shown(argument: &[u8]) -> Option<SessionCommand>
 
 /// The command of three parts.
 fn of_three(word: &[u8], first: &[u8], last: &[u8]) -> Option<SessionCommand>
-    ensures is { result ≡ of_three word.now first.now last.now }
-    ensures in_range { IfSome result IsCommandInRange }
+    ensures { result ≡ of_three word.now first.now last.now }
 {
     if spells(word, "show") {
         window(address(first), address(last))
@@ -148,9 +107,7 @@ fn of_three(word: &[u8], first: &[u8], last: &[u8]) -> Option<SessionCommand>
 
 /// The command that lists the words from the first location to the last.
 fn window(first: Option<u16>, last: Option<u16>) -> Option<SessionCommand>
-    requires { IfSome last (λ n. n ≤ 1023) }
-    ensures is { result ≡ show_command first last }
-    ensures in_range { IfSome result IsCommandInRange }
+    ensures { result ≡ show_command first last }
 {
     let first = first?;
     let last = last?;
@@ -163,8 +120,7 @@ fn window(first: Option<u16>, last: Option<u16>) -> Option<SessionCommand>
 
 /// The address that a part spells.
 fn address(part: &[u8]) -> Option<u16>
-    ensures is { result ≡ number_within 0 1023 part.now }
-    ensures within { IfSome result (λ n. n ≤ 1023) }
+    ensures { result ≡ number_within 0 1023 part.now }
 {
     Some(number_within(part, 0, 1023)? as u16)
 }

@@ -14,7 +14,7 @@ use crate::session::Session;
 use ed_machine::Machine;
 use ed_report::{bytes_of_text, listing, trace_text};
 use ed_words::NoMemory;
-use std::alloc::{AllocError, Global};
+use std::alloc::Global;
 
 /// Does what a line says, and answers what it writes.
 pub(crate) fn carry_out(
@@ -31,8 +31,11 @@ pub(crate) fn carry_out(
         SessionCommand::Back(orders) => move_back(alloc, session, orders),
         SessionCommand::Trace(orders) => trace(alloc, session, orders),
         SessionCommand::Show(first, last) => Ok(show(alloc, session.machine(), first, last)?),
-        SessionCommand::Accumulator => Ok(accumulator(alloc, session.machine())?),
-        SessionCommand::Multiplier => Ok(multiplier(alloc, session.machine())?),
+        SessionCommand::Accumulator => Ok(number_line(alloc, "acc", session.machine().acc())?),
+        SessionCommand::Multiplier => {
+            let number = session.machine().multiplier().value();
+            Ok(number_line(alloc, "mult", u128::from(number))?)
+        }
         SessionCommand::LastPrinted => Ok(last_printed(alloc, session.machine())?),
     }
 }
@@ -96,32 +99,15 @@ fn show(alloc: Global, machine: &Machine, first: u16, last: u16) -> Result<Vec<u
     requires within { last ≤ 1023 }
     ensures { IfOk result (λ bytes. bytes.items ≡ listing machine.now.store (range_with_len first (last + 1 - first))) }
 {
-    let places = places(alloc, first, last)?;
+    let places: Vec<u16> = (first..last + 1).collect(alloc)?;
     listing(alloc, machine.store(), &places)
 }
 
-/// The locations from the first to the last.
-fn places(alloc: Global, first: u16, last: u16) -> Result<Vec<u16>, AllocError>
-    requires { last ≤ 1023 }
-    ensures { IfOk result (λ places. places.items ≡ range_with_len first (last + 1 - first)) }
+/// A line with a name and a number.
+fn number_line(alloc: Global, name: &str, number: u128) -> Result<Vec<u8>, NoMemory>
+    ensures { IfOk result (λ bytes. bytes.items ≡ name.now ++ codes " " ++ decimal number ++ 10 ∷ []) }
 {
-    (first..last + 1).collect(alloc)
-}
-
-/// The accumulator in units of 2^-70.
-fn accumulator(alloc: Global, machine: &Machine) -> Result<Vec<u8>, NoMemory>
-    ensures { IfOk result (λ bytes. bytes.items ≡ codes "acc " ++ decimal machine.now.acc ++ 10 ∷ []) }
-{
-    let number = machine.acc();
-    bytes_of_text(format!(in alloc; "acc {number}\n"))
-}
-
-/// The multiplier in units of 2^-34.
-fn multiplier(alloc: Global, machine: &Machine) -> Result<Vec<u8>, NoMemory>
-    ensures { IfOk result (λ bytes. bytes.items ≡ codes "mult " ++ decimal machine.now.multiplier ++ 10 ∷ []) }
-{
-    let number = machine.multiplier().value();
-    bytes_of_text(format!(in alloc; "mult {number}\n"))
+    bytes_of_text(format!(in alloc; "{name} {number}\n"))
 }
 
 /// The last printed code.
@@ -129,10 +115,7 @@ fn last_printed(alloc: Global, machine: &Machine) -> Result<Vec<u8>, NoMemory>
     ensures { IfOk result (λ bytes. bytes.items ≡ codes "last " ++ last_word machine.now.last ++ 10 ∷ []) }
 {
     match machine.last_printed() {
-        Some(code) => {
-            let number = code.value();
-            bytes_of_text(format!(in alloc; "last {number}\n"))
-        }
+        Some(code) => number_line(alloc, "last", u128::from(code.value())),
         None => bytes_of_text(format!(in alloc; "last none\n")),
     }
 }

@@ -94,8 +94,10 @@ pub fn run_script(
     while !rest.is_empty() {
         let (bytes, after) = first_line(rest);
         let command = command_of(bytes).unwrap();
-        let written = carry_out(alloc, session, command).map_err(|fault| fault.on_line(line))?;
-        text.extend_from_slice(&written)?;
+        match carry_out(alloc, session, command) {
+            Ok(written) => text.extend_from_slice(&written)?,
+            Err(fault) => return Err(fault.on_line(line)),
+        }
         line += 1;
         rest = after;
     }

@@ -1,4 +1,4 @@
-ghost use Rattle.std.specs.Prelude.{◌≡◌, ◌+◌, ◌≤◌, ◌^◌, ℕ, Some, None, suc, true, false, if◌then◌else◌};
+ghost use Rattle.std.specs.Prelude.{◌≡◌, ◌+◌, ◌≤◌, ◌^◌, ℕ, Some, None, suc, true, false};
 ghost use Rattle.ed_initial.specs.Load.{enters};
 ghost use Rattle.ed_machine.specs.State.{State};
 ghost use Rattle.ed_machine.specs.Steps.{AreObeyed, state_after};
@@ -98,15 +98,8 @@ fn own_end(aim: &MoveTarget, orders: u64, at: u16, entered: bool) -> Option<Move
         → result ≡ own_end aim.now orders s }
 {
     match aim {
-        MoveTarget::Orders(n) => when(*n == orders, MoveEnd::Went),
-        MoveTarget::Address(a) => when(*a == at, MoveEnd::There),
-        MoveTarget::Entry => when(entered, MoveEnd::Entered),
+        MoveTarget::Orders(n) => (*n == orders).then_some(MoveEnd::Went),
+        MoveTarget::Address(a) => (*a == at).then_some(MoveEnd::There),
+        MoveTarget::Entry => entered.then_some(MoveEnd::Entered),
     }
-}
-
-/// The end if a test holds, and None otherwise.
-fn when(test: bool, end: MoveEnd) -> Option<MoveEnd>
-    ensures { result ≡ (if test then Some end else None) }
-{
-    if test { Some(end) } else { None }
 }

@@ -1,5 +1,6 @@
-use Rattle.std.proofs.Common.{ℕ, ◌+◌, ◌-◌, ◌<◌, ◌≤◌, sym, subst, ◌∙◌, arith}
+use Rattle.std.proofs.Common.{ℕ, ◌+◌, ◌-◌, ◌<◌, ◌≤◌, refl, sym, subst, ◌∙◌, arith}
 use Rattle.std.specs.List.{All, range_with_len}
+use Rattle.std.proofs.lemmas.Iterator.{YieldsList-from_range, items_from_collect}
 use Rattle.std.proofs.lemmas.List.FromFn.{get_or-range_with_len, length-range_with_len}
 use Rattle.ed_stepper.proofs.lines.show.Goals as goal
 
@@ -10,8 +11,13 @@ low a b within k d below =
 
 pub listing-requires : goal.listing-requires
 listing-requires c =
-    subst (λ places. All (λ x. x < 1024) places) (sym (c.deref.ensures.value ∙ c.in_ok-places.ensures))
+    let ran = items_from_collect _ c.collect.ensures.ran (YieldsList-from_range c.args.first (c.args.last + 1) _ (cc) refl) in
+    let places = rw c.in_ok-places.was at ran in
+    subst (λ places. All (λ x. x < 1024) places) (sym (c.deref.ensures.value ∙ places))
     (low c.args.first c.args.last c.requires.within)
 
 pub returns : goal.returns
-returns c = rw (c.store.ensures, c.deref.ensures.value, c.in_ok-places.ensures) at c.listing.ensures
+returns c =
+    let ran = items_from_collect _ c.collect.ensures.ran (YieldsList-from_range c.args.first (c.args.last + 1) _ (cc) refl) in
+    let places = rw c.in_ok-places.was at ran in
+    rw (c.store.ensures, c.deref.ensures.value, places) at c.listing.ensures

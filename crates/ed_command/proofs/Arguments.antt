@@ -1,0 +1,151 @@
+-- The arguments of a command, its size of the store, and the lines of the table as the program holds them.
+use Rattle.std.proofs.Common.{◌≡◌, ◌≢◌, ◌<◌, ◌≤◌, ℕ, Bool, true, false, Bor, List, [], ◌∷◌}
+use Rattle.std.proofs.Common.{refl, sym, subst, arith, length, map, codes}
+use Rattle.std.proofs.lemmas.Slice.Eq.{bytes_eq-Decides}
+use Rattle.std.specs.Prelude.{Option, Some, None, option_and_then, option_map, slice_index_or, if◌then◌else◌}
+use Rattle.std.specs.Str.{bytes_eq}
+use Rattle.ed_call.specs.declared.Call.TheVariants.{NewLine}
+use Rattle.ed_words.specs.Decimals.{number, number_within}
+use Rattle.ed_words.specs.Texts.{Text}
+use Rattle.ed_command.specs.Held.{action_by, call_with, line_by, table_line_by}
+use Rattle.ed_command.specs.Lines.{TableLine, call_of, command, command_of, division, line_named, lines, with_only}
+use Rattle.ed_words.specs.declared.size.Size.TheVariants.{Full}
+use Rattle.ed_command.specs.Settings.{Options, has_only, option_value, settings_of}
+use Rattle.ed_command.specs.Windows.{size_named}
+use Rattle.ed_command.specs.declared.command.Action.{Action}
+use Rattle.ed_command.specs.declared.lines.LineAction.{LineAction}
+
+-- ---- calls
+
+differs_by : (x y : Text) (c : Bool) → bytes_eq x y ≡ c → x ≢ y → c ≡ false
+differs_by x y true e h = absurd (h ((bytes_eq-Decides x y).0 e))
+differs_by x y false e h = refl
+
+differs : (x y : Text) → x ≢ y → bytes_eq x y ≡ false
+differs x y h = differs_by x y (bytes_eq x y) refl h
+
+neither : {A : Type 0} (c : Bool) (o : Option A) → o ≡ None → (if c then None else o) ≡ None
+neither true o e = refl
+neither false o e = e
+
+-- a name alone is a call only if it is `newline`
+pub name_alone : (arguments : List (Bor Text)) (x : Bor Text) → 1 ≤ length arguments → length arguments < 2
+    → (slice_index_or arguments 0 x).now ≢ codes "newline" → call_of (map (λ a. a.now) arguments) ≡ None
+name_alone [] x least most h = absurd (omega (arith, least))
+name_alone (name ∷ []) x least most h =
+    let is = bytes_eq name.now in
+    rw (differs name.now (codes "newline") h) (neither (is (codes "print")) _ (neither (is (codes "read")) _ (neither (is (codes "divide")) _ (neither (is (codes "root")) _ (neither (is (codes "check")) None refl)))))
+name_alone (name ∷ more ∷ others) x least most h = absurd (omega (arith, most))
+
+-- a name and two numbers are a call only if it is `divide`
+pub two_numbers : (arguments : List (Bor Text)) (x : Bor Text) → 3 ≤ length arguments → length arguments < 4
+    → (slice_index_or arguments 0 x).now ≢ codes "divide" → call_of (map (λ a. a.now) arguments) ≡ None
+two_numbers [] x least most h = absurd (omega (arith, least))
+two_numbers (name ∷ []) x least most h = absurd (omega (arith, least))
+two_numbers (name ∷ n ∷ []) x least most h = absurd (omega (arith, least))
+two_numbers (name ∷ n ∷ by ∷ []) x least most h =
+    let is = bytes_eq name.now in
+    rw (differs name.now (codes "divide") h) (neither (is (codes "print")) _ (neither (is (codes "read")) _ (neither (is (codes "newline")) _ (neither (is (codes "root")) _ (neither (is (codes "check")) None refl)))))
+two_numbers (name ∷ n ∷ by ∷ more ∷ others) x least most h = absurd (omega (arith, most))
+
+-- no arguments, and too many
+pub no_name : (arguments : List (Bor Text)) → length arguments < 1 → call_of (map (λ a. a.now) arguments) ≡ None
+no_name [] most = refl
+no_name (name ∷ others) most = absurd (omega (arith, most))
+
+-- `newline`
+pub newline_alone : (arguments : List (Bor Text)) (x : Bor Text) → 1 ≤ length arguments → length arguments < 2
+    → (slice_index_or arguments 0 x).now ≡ codes "newline"
+    → call_of (map (λ a. a.now) arguments) ≡ Some NewLine
+newline_alone [] x least most is = absurd (omega (arith, least))
+newline_alone (name ∷ []) x least most is = rw is refl
+newline_alone (name ∷ more ∷ others) x least most is = absurd (omega (arith, most))
+
+-- `divide`
+pub divided : (arguments : List (Bor Text)) (x : Bor Text) → 3 ≤ length arguments → length arguments < 4
+    → (slice_index_or arguments 0 x).now ≡ codes "divide"
+    → call_of (map (λ a. a.now) arguments)
+    ≡ division (number (slice_index_or arguments 1 x).now) (number_within 1 32767 (slice_index_or arguments 2 x).now)
+divided [] x least most is = absurd (omega (arith, least))
+divided (name ∷ []) x least most is = absurd (omega (arith, least))
+divided (name ∷ n ∷ []) x least most is = absurd (omega (arith, least))
+divided (name ∷ n ∷ by ∷ []) x least most is = rw is refl
+divided (name ∷ n ∷ by ∷ more ∷ others) x least most is = absurd (omega (arith, most))
+
+word_is : (name word : Text) → bytes_eq name word ≡ true → name ≡ word
+word_is name word e = (bytes_eq-Decides name word).0 e
+
+-- a name whose calls take one number, or another name
+one_number_by : (name n : Text) (o : Option ℕ) → number_within 0 65535 n ≡ o
+    → call_of (name ∷ n ∷ []) ≡ option_and_then (call_with name) o
+one_number_by name n o is = by_words (is_name (codes "newline")) (is_name (codes "divide")) refl refl o is
+  where
+    is_name : Text → Bool
+    is_name = bytes_eq name
+
+    by_words : (c d : Bool) → is_name (codes "newline") ≡ c → is_name (codes "divide") ≡ d → (o : Option ℕ)
+        → number_within 0 65535 n ≡ o → call_of (name ∷ n ∷ []) ≡ option_and_then (call_with name) o
+    by_words true d e f None is = rw (word_is name (codes "newline") e) refl
+    by_words true d e f (Some k) is = rw (word_is name (codes "newline") e) refl
+    by_words false true e f None is = rw (word_is name (codes "divide") f) refl
+    by_words false true e f (Some k) is = rw (word_is name (codes "divide") f) refl
+    by_words false false e f None is =
+        rw (is, e, f) (neither (is_name (codes "print")) _ (neither (is_name (codes "read")) _
+        (neither (is_name (codes "root")) _ (neither (is_name (codes "check")) None refl))))
+    by_words false false e f (Some k) is = rw (is, e, f) refl
+
+-- a name and one number
+pub one_number_after : (arguments : List (Bor Text)) (x : Bor Text) (o : Option ℕ) → 2 ≤ length arguments
+    → length arguments < 3 → o ≡ number_within 0 65535 (slice_index_or arguments 1 x).now
+    → call_of (map (λ a. a.now) arguments) ≡ option_and_then (call_with (slice_index_or arguments 0 x).now) o
+one_number_after [] x o least most is = absurd (omega (arith, least))
+one_number_after (name ∷ []) x o least most is = absurd (omega (arith, least))
+one_number_after (name ∷ n ∷ []) x o least most is = one_number_by name.now n.now o (sym is)
+one_number_after (name ∷ n ∷ more ∷ others) x o least most is = absurd (omega (arith, most))
+
+-- too many numbers
+pub many_numbers : (arguments : List (Bor Text)) → 4 ≤ length arguments → call_of (map (λ a. a.now) arguments) ≡ None
+many_numbers [] least = absurd (omega (arith, least))
+many_numbers (name ∷ []) least = absurd (omega (arith, least))
+many_numbers (name ∷ n ∷ []) least = absurd (omega (arith, least))
+many_numbers (name ∷ n ∷ by ∷ []) least = absurd (omega (arith, least))
+many_numbers (name ∷ n ∷ by ∷ more ∷ others) least =
+    let is = bytes_eq name.now in
+    neither (is (codes "print")) _ (neither (is (codes "read")) _ (neither (is (codes "newline")) _
+    (neither (is (codes "divide")) _ (neither (is (codes "root")) _ (neither (is (codes "check")) None refl)))))
+
+-- one value that is no size of the store
+pub no_size : (values : List (Bor Text)) (x : Bor Text) → 1 ≤ length values → length values < 2
+    → (slice_index_or values 0 x).now ≢ codes "512" → (slice_index_or values 0 x).now ≢ codes "1024"
+    → option_value Full size_named (map (λ v. v.now) values) ≡ None
+no_size [] x least most h k = absurd (omega (arith, least))
+no_size (value ∷ []) x least most h k =
+    simp (differs value.now (codes "512") h, differs value.now (codes "1024") k)
+no_size (value ∷ more ∷ others) x least most h k = absurd (omega (arith, most))
+
+-- ---- lines
+
+-- the command of a line that was found
+taken : (l : TableLine) (o : Options) (arguments : List Text) → has_only l.options o ≡ true
+    → with_only l.options o (l.action arguments) ≡ command (l.action arguments) (settings_of o)
+taken l o arguments h = simp h
+
+line_taken : (t : Option TableLine) (p : (List Text → Option Action) × List Text)
+    → Some p ≡ option_map table_line_by t → (o : Options) (arguments : List Text) → has_only p.1 o ≡ true
+    → option_and_then (λ l. with_only l.options o (l.action arguments)) t ≡ command (p.0 arguments) (settings_of o)
+line_taken None p e o arguments h = absurd (cc)
+line_taken (Some l) p e o arguments h =
+    let is : p ≡ table_line_by l = cc in
+    subst (λ (q : (List Text → Option Action) × List Text). has_only q.1 o ≡ true
+    → with_only l.options o (l.action arguments) ≡ command (q.0 arguments) (settings_of o)) (sym is)
+    (taken l o arguments) h
+
+-- the command of the words, by the line that the first of them begins
+pub command_found : (words : List (Bor Text)) (word : Bor Text) (arguments : List (Bor Text)) (action : LineAction)
+    (names : Bor (List (Bor Text))) (o : Options) → words ≡ word ∷ arguments
+    → option_map line_by (Some (action, names)) ≡ option_map table_line_by (line_named lines word.now)
+    → has_only (map (λ n. n.now) names.now) o ≡ true
+    → command_of (map (λ w. w.now) words) o ≡ command (action_by action (map (λ a. a.now) arguments)) (settings_of o)
+command_found words word arguments action names o are is h =
+    let all = line_taken (line_named lines word.now) (line_by (action, names)) is o (map (λ a. a.now) arguments) h in
+    rw are all
