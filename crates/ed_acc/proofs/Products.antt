@@ -17,7 +17,7 @@ pub record IsWithin (n : ℕ) (z : ℤ) : Type 0 where
 pub widened : (x : ℤ) → IsWithin (2 ^ 34) x → to_z w64 (of_z w64 x) ≡ x
 widened x within = to_z-of_z w64 x (omega (arith, ints, within.low, within.high))
 
--- and it is as small there
+-- and stays within the same bounds
 pub widened_within : (x y : ℤ) → y ≡ to_z w64 (of_z w64 x) → IsWithin (2 ^ 34) x → IsWithin (2 ^ 34) y
 widened_within x y is within = rw (is ∙ widened x within) within
 

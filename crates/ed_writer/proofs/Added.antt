@@ -35,7 +35,7 @@ pub short_passed : (two : Bool) (lines : List Line) (place : ℕ) (line : Line) 
 short_passed two lines place line below is short =
     sym (front (long_line two) lines place line below is ∙ rw (lt_false 120 (length (line_text two line)) short) refl)
 
--- a line that is too long is one
+-- a line of more than 120 characters is found as too long
 pub long_found : (two : Bool) (lines : List Line) (place : ℕ) (line : Line) → place < length lines
     → line ≡ get_or lines place line → 120 < length (line_text two line)
     → long_line two (drop place lines) ≡ Some (LongLine line.number)

@@ -13,15 +13,19 @@ loop-code-preserved c =
     let code = c.code-item.result in
     let character = slice_index here.characters.now c.from.result in
     let same : c.from.result ≡ code = c.from.ensures ∙ c.value.ensures.is in
-    let bytes : bytes_of character ≡ struck_bytes here.shift code = here.invariant.characters c.from.result (omega arith) ∙ ap (struck_bytes here.shift) same in
+    let bytes : bytes_of character ≡ struck_bytes here.shift code =
+    here.invariant.characters c.from.result (omega arith) ∙ ap (struck_bytes here.shift) same in
     elim c.if-is_plain.branch [
-      | then-is_plain w ↦ let plain : bytes_of character ≡ character ∷ [] = w.if-is_plain.ensures in record {
-        printed = code_printed _ here.shift _ _ here.text.items _ _ code c.loop-code-test.true c.code-item.is (cc) (w.shift-is ∙ plain_keeps_shift here.shift code character bytes plain) here.invariant.printed;
-        characters = λ k below. rw (w.characters-is, w.shift-is) (here.invariant.characters k below);
-        room = rw w.text-is (omega arith);
-      }
+      | then-is_plain w ↦ let plain : bytes_of character ≡ character ∷ [] = w.if-is_plain.ensures in
+          let stays = w.shift-is ∙ plain_keeps_shift here.shift code character bytes plain in record {
+            printed = code_printed _ here.shift _ _ here.text.items _ _ code c.loop-code-test.true c.code-item.is (cc) stays
+                here.invariant.printed;
+            characters = λ k below. rw (w.characters-is, w.shift-is) (here.invariant.characters k below);
+            room = rw w.text-is (omega arith);
+          }
       | else-is_plain w ↦ record {
-        printed = code_printed _ here.shift _ _ here.text.items _ _ code c.loop-code-test.true c.code-item.is (cc) (w.shift-is ∙ w.after-shift.ensures) here.invariant.printed;
+        printed = code_printed _ here.shift _ _ here.text.items _ _ code c.loop-code-test.true c.code-item.is (cc)
+            (w.shift-is ∙ w.after-shift.ensures) here.invariant.printed;
         characters = λ k below. rw w.characters-is (rw w.shift-is (w.characters-characters-else-is_plain.ensures k below));
         room = rw w.text-is (omega arith);
       }
