@@ -32,17 +32,6 @@ use Rattle.ed_page.specs.Answers.{RowsEnd, SourceEnds}
 use Rattle.ed_page.specs.Private.Stages.{IsAnswered, IsNoted, IsReplied, Runs}
 use Rattle.ed_page.proofs.Endings.{noted_run}
 
--- ---- a text that is too long
-
--- what the test of a text's length says
-pub is_long : (text : Text) (long : Bool) → long ≡ nat_lt INPUT_BYTES (length text) → long ≡ true
-    → INPUT_BYTES < length text
-is_long text long is longer = search (tests, rules)
-
-pub not_long : (text : Text) (long : Bool) → long ≡ nat_lt INPUT_BYTES (length text) → long ≡ false
-    → length text ≤ INPUT_BYTES
-not_long text long is shorter = search (tests, rules)
-
 -- what `?` passes on
 passed : {T : Type 0} (P : Result T Rejection → Type 0) (e : Rejection) (r : Result T Rejection) → P (Err e)
     → IsErr r × IsErrAnd r (λ handed. handed ≡ e) → P r

@@ -1,5 +1,7 @@
 -- The rows that a text spells, and those of the tape of a source, are codes.
-use Rattle.std.proofs.Common.{◌≡◌, ℕ, List, ◌++◌}
+use Rattle.std.proofs.Common.{◌≡◌, ◌∙◌, ◌-◌, ℕ, ap, drop, sym, List, ◌++◌, take, length}
+use Rattle.std.proofs.lemmas.List.{length-drop}
+use Rattle.std.proofs.Math.Seq.{take-length}
 use Rattle.ed_words.specs.Texts.{Text}
 use Rattle.ed_words.specs.declared.size.Size.{Size}
 use Rattle.ed_codes.specs.Reading.{reading, rows}
@@ -20,3 +22,7 @@ pub source_codes : (z : Size) (text : Text) (lines : List Line) → IsAcceptedAs
 source_codes z text lines accepted =
     read_codes (text_of (canonicals (punched_items lines)) ++ after_text (data_after lines)) (tape lines)
     (text_is_tape z text lines accepted)
+
+-- the codes from one on are all that follow
+pub codes_after : (n : ℕ) (all : List ℕ) → take (length all - n) (drop n all) ≡ drop n all
+codes_after n all = ap (λ (m : ℕ). take m (drop n all)) (sym (length-drop n all)) ∙ take-length (drop n all)

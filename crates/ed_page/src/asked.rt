@@ -10,9 +10,9 @@ ghost use Rattle.ed_page.specs.Private.Stages.{IsAnswered};
 use crate::first_items::row_items1;
 use crate::items::row_items;
 use crate::texts::row_codes;
-use crate::told::{NO_MEMORY, TOO_LONG_STATUS, is_too_long, tell};
+use crate::told::{NO_MEMORY, TOO_LONG_STATUS, tell};
 use crate::writing::Lengths;
-use ed_answers::{Rejection, Reply, TOO_LONG, linked_of, list, punch, rows_of};
+use ed_answers::{INPUT_BYTES, Rejection, Reply, TOO_LONG, linked_of, list, punch, rows_of};
 use ed_command::Settings;
 use ed_words::Size;
 use std::alloc::Global;
@@ -46,7 +46,7 @@ pub fn write_answer(
     ensures { IsTextWritten (of_input (answers_to asked)) text.now (text_buffers out.old note.old lengths.old)
         (text_buffers out.new note.new lengths.new) result }
 {
-    if is_too_long(text) {
+    if text.len() > INPUT_BYTES {
         return tell(&[], TOO_LONG, TOO_LONG_STATUS, out, note, lengths);
     }
     match answer(alloc, asked, text) {

@@ -1,6 +1,6 @@
 //! The machine that a picture shows, made from its buffers.
 
-ghost use Rattle.std.specs.Prelude.{◌≡◌, ℕ, ◌-◌, ◌/◌, ◌%◌, ◌^◌, ◌<◌, ◌≤◌, IfOk, drop, length, slice_index};
+ghost use Rattle.std.specs.Prelude.{◌≡◌, ℕ, ◌/◌, ◌%◌, ◌^◌, ◌<◌, IfOk, length, slice_index};
 ghost use Rattle.ed_machine.specs.State.{State};
 ghost use Rattle.ed_machine.specs.Steps.{state_after};
 ghost use Rattle.ed_store.specs.Cells.{Cells, IsStore};
@@ -31,13 +31,14 @@ pub fn pictured(
     ensures { IfOk result (λ m. (first : State) → IsAfterStart small rows.now first → (k : ℕ)
         → Pictures (state_after k first) words.now digits.now registers.now → m ≡ state_after k first) }
 {
+    let read = rows.len() - registers.rows_left as usize;
     let parts = Parts {
         size: size_of(small),
         store: store_of(alloc, words, digits)?,
         acc: acc_of(registers),
         multiplier: Long::of_number(registers.multiplier),
         counter: registers.counter as u16,
-        tape: rows_left(alloc, rows, registers.rows_left as usize)?,
+        tape: codes_of(alloc, &rows[read..])?,
         last: Code::new(registers.last as u8),
         orders: registers.orders,
     };
@@ -71,15 +72,6 @@ fn acc_of(registers: &Registers) -> Acc
 {
     let number = (u128::from(registers.acc_high) << 36) + u128::from(registers.acc_low);
     Acc::new(number).unwrap_or(Acc::cleared())
-}
-
-/// The rows that are left, the last ones of a tape.
-fn rows_left(alloc: Global, rows: &[u8], left: usize) -> Result<Vec<Code>, NoMemory>
-    requires rows { AreCodes rows.now }
-    requires left { left ≤ length rows.now }
-    ensures { IfOk result (λ v. v.items ≡ drop (length rows.now - left) rows.now) }
-{
-    codes_of(alloc, &rows[rows.len() - left..])
 }
 
 /// The codes of numbers below 32.

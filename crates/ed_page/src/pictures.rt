@@ -16,9 +16,9 @@ ghost use Rattle.ed_page.specs.Private.Asked.{answers_of, ends_of};
 ghost use Rattle.ed_page.specs.Private.Stages.{WritesBuffers, told_outcome};
 
 use crate::running::{Program, picture_of, run_settings};
-use crate::told::{NO_MEMORY, NO_ROOM, TOO_LONG_STATUS, is_too_long, write_texts};
+use crate::told::{NO_MEMORY, NO_ROOM, TOO_LONG_STATUS, write_texts};
 use crate::writing::{Lengths, Registers, no_registers, registers_of, write_store};
-use ed_answers::{Rejection, TOO_LONG};
+use ed_answers::{INPUT_BYTES, Rejection, TOO_LONG};
 use ed_command::Settings;
 use ed_machine::Machine;
 use std::alloc::Global;
@@ -158,7 +158,7 @@ fn draw(
     if words.len() != 1024 || digits.len() != 512 {
         return NO_ROOM;
     }
-    if is_too_long(text) {
+    if text.len() > INPUT_BYTES {
         return show(
             &[],
             TOO_LONG,

@@ -1,9 +1,8 @@
-ghost use Rattle.std.specs.Prelude.{◌≡◌, ◌≢◌, ◌<◌, ℕ, length, nat_lt};
+ghost use Rattle.std.specs.Prelude.{◌≡◌, ◌≢◌, ◌<◌, ℕ};
 ghost use Rattle.ed_page.specs.Answers.{text_buffers};
 ghost use Rattle.ed_page.specs.Private.Stages.{AreTextsWritten, IsWrittenOut, told_outcome};
 
 use crate::writing::{Lengths, write_text};
-use ed_answers::INPUT_BYTES;
 
 /// The answer if no memory was found.
 pub const NO_MEMORY: u32 = 10;
@@ -13,13 +12,6 @@ pub const TOO_LONG_STATUS: u8 = 11;
 
 /// The answer if a buffer has no room.
 pub const NO_ROOM: u32 = 12;
-
-/// Whether a text has more bytes than the program takes.
-pub fn is_too_long(text: &[u8]) -> bool
-    ensures { result ≡ nat_lt INPUT_BYTES (length text.now) }
-{
-    INPUT_BYTES < text.len()
-}
 
 /// Writes the two texts of an answer and their lengths, if the buffers have room, and answers the status.
 pub fn tell(

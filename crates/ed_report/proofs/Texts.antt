@@ -1,5 +1,5 @@
 -- The bytes of a text that `format!` made.
-use Rattle.std.proofs.Common.{◌≡◌, ◌∙◌, sym, ℕ, List, [], ◌∷◌, ◌++◌, append_assoc}
+use Rattle.std.proofs.Common.{◌≡◌, ◌∙◌, subst, sym, ℕ, List, [], ◌∷◌, ◌++◌, append_assoc}
 use Rattle.std.specs.Prelude.{Result, Ok, Err, Some, IfOk, IfSome, IsOkAnd, string_bytes, String, Vec, codes}
 use Rattle.std.specs.Fmt.{decimal}
 use Rattle.std.specs.declared.alloc.Global.{Global}
@@ -42,3 +42,9 @@ pub no_order_wrote : (s : State) (counter orders : ℕ) (text : List ℕ) → co
     ≡ ending_line NoOrder s
 no_order_wrote s counter orders text c o t =
     rw (c, o, t) (no_order_pieces s.counter s.orders (order_text (short_at s.store s.counter)))
+
+-- the line of an ending by another name that is the same
+pub named : (r : Result (Vec ℕ Global) NoMemory) (s : State) {name same : List ℕ}
+    → IfOk r (λ bytes. bytes.items ≡ at_after name s.counter s.orders ++ 10 ∷ []) → name ≡ same
+    → IfOk r (λ bytes. bytes.items ≡ at_after same s.counter s.orders ++ 10 ∷ [])
+named r s line is = subst (λ (n : List ℕ). IfOk r (λ bytes. bytes.items ≡ at_after n s.counter s.orders ++ 10 ∷ [])) is line

@@ -13,13 +13,14 @@ use std::alloc::Global;
 pub fn ending_text(alloc: Global, ending: Ending, machine: &Machine) -> Result<Vec<u8>, NoMemory>
     ensures { IfOk result (λ bytes. bytes.items ≡ ending_line ending machine.now) }
 {
-    match ending {
-        Ending::Stopped => ending_line(alloc, "stopped", machine),
-        Ending::Limit => ending_line(alloc, "limit", machine),
-        Ending::NoOrder => no_order_line(alloc, machine),
-        Ending::NoTape => ending_line(alloc, "no tape", machine),
-        Ending::PaperFull => ending_line(alloc, "paper full", machine),
-    }
+    let name = match ending {
+        Ending::Stopped => "stopped",
+        Ending::Limit => "limit",
+        Ending::NoOrder => return no_order_line(alloc, machine),
+        Ending::NoTape => "no tape",
+        Ending::PaperFull => "paper full",
+    };
+    ending_line(alloc, name, machine)
 }
 
 /// The same line after `entered E after N orders, `, for a run that entered its program at `entry` after `cost` orders.
@@ -32,17 +33,10 @@ pub fn entered_text(
 ) -> Result<Vec<u8>, NoMemory>
     ensures { IfOk result (λ bytes. bytes.items ≡ entry_note entry cost ++ ending_line ending machine.now) }
 {
-    let mut text = entry_note(alloc, entry, cost)?;
+    let mut text = bytes_of_text(format!(in alloc; "entered {entry} after {cost} orders, "))?;
     let line = ending_text(alloc, ending, machine)?;
     text.extend_from_slice(&line)?;
     Ok(text)
-}
-
-/// The text before the line of an ending if the program was entered.
-fn entry_note(alloc: Global, entry: u16, cost: u64) -> Result<Vec<u8>, NoMemory>
-    ensures { IfOk result (λ bytes. bytes.items ≡ entry_note entry cost) }
-{
-    bytes_of_text(format!(in alloc; "entered {entry} after {cost} orders, "))
 }
 
 /// The line of an ending by its name.

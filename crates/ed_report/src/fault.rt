@@ -1,7 +1,7 @@
 ghost use Rattle.std.specs.Prelude.{◌≡◌, ◌≢◌, ◌++◌, ◌∷◌, [], IfOk, codes};
 ghost use Rattle.std.specs.Fmt.{decimal};
 ghost use Rattle.ed_codes.specs.declared.tape.TextFault.TheVariants.{Memory};
-ghost use Rattle.ed_report.specs.Notes.{cause_text, of_line, part_line, source_cause_text};
+ghost use Rattle.ed_report.specs.Notes.{cause_text, part_line, source_cause_text};
 ghost use Rattle.ed_report.specs.Notes.{source_fault_line, tape_fault_line, text_fault_line};
 
 use crate::text::bytes_of_text;
@@ -34,7 +34,9 @@ pub fn tape_fault(alloc: Global, fault: &TapeFault) -> Result<Vec<u8>, NoMemory>
     ensures { IfOk result (λ bytes. bytes.items ≡ tape_fault_line fault.now) }
 {
     match fault {
-        TapeFault::At { row, cause } => row_note(alloc, *row, cause_text(*cause)),
+        TapeFault::At { row, cause } => {
+            place_note(alloc, "row", *row as u64, cause_text(*cause))
+        }
         TapeFault::Memory => unreachable!(),
     }
 }
@@ -53,23 +55,13 @@ pub fn part_fault(
     bytes_of_text(format!(in alloc; "part {part}, row {row}: {rule}\n"))
 }
 
-/// The line of a note on a row.
-pub(crate) fn row_note(alloc: Global, row: usize, note: &str) -> Result<Vec<u8>, NoMemory>
-    ensures { IfOk result (λ bytes. bytes.items
-        ≡ codes "row " ++ decimal row ++ codes ": " ++ note.now ++ 10 ∷ []) }
-{
-    place_note(alloc, "row", row as u64, note)
-}
-
-/// The line of a note on a line of a text.
-pub(crate) fn line_note(alloc: Global, line: u32, note: &str) -> Result<Vec<u8>, NoMemory>
-    ensures { IfOk result (λ bytes. bytes.items ≡ of_line line note.now) }
-{
-    place_note(alloc, "line", u64::from(line), note)
-}
-
 /// The line of a note on a byte, a row or a line, with its number.
-fn place_note(alloc: Global, kind: &str, number: u64, note: &str) -> Result<Vec<u8>, NoMemory>
+pub(crate) fn place_note(
+    alloc: Global,
+    kind: &str,
+    number: u64,
+    note: &str,
+) -> Result<Vec<u8>, NoMemory>
     ensures { IfOk result (λ bytes. bytes.items
         ≡ kind.now ++ codes " " ++ decimal number ++ codes ": " ++ note.now ++ 10 ∷ []) }
 {
@@ -100,7 +92,12 @@ pub fn source_fault(alloc: Global, fault: &SourceFault) -> Result<Vec<u8>, NoMem
     ensures { IfOk result (λ bytes. bytes.items ≡ source_fault_line fault.now) }
 {
     match fault {
-        SourceFault::At { line, cause } => line_note(alloc, *line, source_cause_text(*cause)),
+        SourceFault::At { line, cause } => place_note(
+            alloc,
+            "line",
+            u64::from(*line),
+            source_cause_text(*cause),
+        ),
         SourceFault::Memory => unreachable!(),
     }
 }

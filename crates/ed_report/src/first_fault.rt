@@ -1,7 +1,7 @@
 ghost use Rattle.std.specs.Prelude.{◌≡◌, ◌≢◌, IfOk};
 ghost use Rattle.ed_report.specs.FirstNotes.{cause1_text, tape1_fault_line};
 
-use crate::fault::row_note;
+use crate::fault::place_note;
 use ed_initial1::{Tape1Cause, Tape1Fault};
 use ed_words::NoMemory;
 use std::alloc::Global;
@@ -12,7 +12,9 @@ pub fn tape1_fault(alloc: Global, fault: &Tape1Fault) -> Result<Vec<u8>, NoMemor
     ensures { IfOk result (λ bytes. bytes.items ≡ tape1_fault_line fault.now) }
 {
     match fault {
-        Tape1Fault::At { row, cause } => row_note(alloc, *row, cause1_text(*cause)),
+        Tape1Fault::At { row, cause } => {
+            place_note(alloc, "row", *row as u64, cause1_text(*cause))
+        }
         Tape1Fault::Memory => unreachable!(),
     }
 }

@@ -1,5 +1,4 @@
-ghost use Rattle.std.specs.Prelude.{◌≡◌, ◌++◌, [], ◌∷◌, IfOk, flat_map, codes, length};
-ghost use Rattle.std.specs.Fmt.{decimal};
+ghost use Rattle.std.specs.Prelude.{◌≡◌, ◌++◌, IfOk, flat_map};
 ghost use Rattle.ed_library.specs.Entries.{entry};
 ghost use Rattle.ed_report.specs.Catalogue.{library_text, parameter_text, routine_line};
 
@@ -26,20 +25,12 @@ pub fn library_text(alloc: Global) -> Result<Vec<u8>, NoMemory>
 fn routine_line(alloc: Global, routine: Routine) -> Result<Vec<u8>, NoMemory>
     ensures { IfOk result (λ bytes. bytes.items ≡ routine_line (entry routine)) }
 {
-    let mut line = name_and_length(alloc, routine)?;
+    let name = routine.name();
+    let places = routine.length();
+    let mut line = bytes_of_text(format!(in alloc; "{name} {places}"))?;
     push_parameters(&mut line, routine)?;
     line.push(b'\n')?;
     Ok(line)
-}
-
-/// The name of a routine, a blank, and its number of words.
-fn name_and_length(alloc: Global, routine: Routine) -> Result<Vec<u8>, NoMemory>
-    ensures { IfOk result (λ bytes. bytes.items ≡ (entry routine).name ++ codes " "
-        ++ decimal (length (entry routine).items)) }
-{
-    let name = routine.name();
-    let places = routine.length();
-    bytes_of_text(format!(in alloc; "{name} {places}"))
 }
 
 /// Adds the letters of a routine's preset parameters, each after a blank.

@@ -2,7 +2,7 @@
 ghost use Rattle.std.specs.Prelude.{◌≡◌, IfOk};
 ghost use Rattle.ed_report.specs.Notes.{bad_command_line, no_text_line, too_far_line};
 
-use crate::fault::line_note;
+use crate::fault::place_note;
 use crate::text::bytes_of_text;
 use ed_words::NoMemory;
 use std::alloc::Global;
@@ -11,7 +11,7 @@ use std::alloc::Global;
 pub fn bad_command(alloc: Global, line: u32) -> Result<Vec<u8>, NoMemory>
     ensures { IfOk result (λ bytes. bytes.items ≡ bad_command_line line) }
 {
-    line_note(alloc, line, "C1 bad command")
+    place_note(alloc, "line", u64::from(line), "C1 bad command")
 }
 
 /// The line that reports that a script's line goes back by more orders than were obeyed.
@@ -25,5 +25,5 @@ pub fn back_too_far(alloc: Global, line: u32, done: u64) -> Result<Vec<u8>, NoMe
 pub fn no_text(alloc: Global, line: u32) -> Result<Vec<u8>, NoMemory>
     ensures { IfOk result (λ bytes. bytes.items ≡ no_text_line line) }
 {
-    line_note(alloc, line, "C3 no text line")
+    place_note(alloc, "line", u64::from(line), "C3 no text line")
 }

@@ -1,4 +1,4 @@
-ghost use Rattle.std.specs.Prelude.{◌≡◌, ◌++◌, ◌∷◌, [], IfOk};
+ghost use Rattle.std.specs.Prelude.{◌≡◌, [], IfOk};
 ghost use Rattle.ed_report.specs.Traces.{trace_text};
 
 use ed_codes::{Code, byte_of};
@@ -24,20 +24,13 @@ fn write_trace(text: &mut Vec<u8>, functions: &[Code]) -> Result<(), NoMemory>
     ensures { IfOk result (λ _. text.new.items ≡ trace_text functions.now) }
 {
     for (place, function) in functions.iter().enumerate() {
-        add(text, byte_of(*function, false))?;
+        text.push(byte_of(*function, false))?;
         if (place + 1) % LETTERS == 0 {
-            add(text, b'\n')?;
+            text.push(b'\n')?;
         }
     }
     if functions.len() % LETTERS != 0 {
-        add(text, b'\n')?;
+        text.push(b'\n')?;
     }
     Ok(())
-}
-
-/// Adds a byte to a text.
-fn add(text: &mut Vec<u8>, byte: u8) -> Result<(), NoMemory>
-    ensures { IfOk result (λ _. text.new.items ≡ text.old.items ++ byte ∷ []) }
-{
-    Ok(text.push(byte)?)
 }

@@ -6,6 +6,7 @@ use Rattle.ed_page.specs.Pictures.{size_shown}
 use Rattle.ed_page.proofs.OnTheWay.{begun, fit_counter, fit_last, fit_multiplier, fit_rows, fit_words, is_first}
 use Rattle.ed_page.proofs.OnTheWay.{most_places}
 use Rattle.ed_page.proofs.OnTheWay.{shown_state, way_reached}
+use Rattle.ed_page.proofs.RowCodes.{codes_after}
 use Rattle.ed_page.proofs.pictured.pictured.Goals as goal
 
 pub store_of-requires-clause-fit : goal.store_of-requires-clause-fit
@@ -21,8 +22,8 @@ overflow_cast-parts c =
     let low : c.args.registers.now.counter < 1024 = omega (arith, fits, most) in
     omega (arith, low)
 
-pub rows_left-requires-clause-left : goal.rows_left-requires-clause-left
-rows_left-requires-clause-left c = fit_rows c.requires.picture
+pub overflow_sub-read : goal.overflow_sub-read
+overflow_sub-read c = fit_rows c.requires.picture
 
 pub overflow_cast-registers : goal.overflow_cast-registers
 overflow_cast-registers c =
@@ -35,7 +36,7 @@ reached-requires-clause-is c =
     let first = begun p in
     subst IsReached
     (sym (shown_state first k _ p.way.pictured c.size_of.ensures
-    c.in_ok-store_of.ensures c.acc_of.ensures c.of_number.ensures refl c.in_ok-rows_left.ensures
+    c.in_ok-store_of.ensures c.acc_of.ensures c.of_number.ensures refl (c.in_ok-codes_of.ensures ∙ codes_after _ c.args.rows.now)
     c.new.ensures.none c.new.ensures.some refl))
     (way_reached first k)
 
@@ -48,5 +49,5 @@ pub returns : goal.returns
 returns c first begins k pictures =
     c.reached.ensures
     ∙ shown_state (is_first c.requires.picture.way.rows_are begins) k _ pictures c.size_of.ensures
-    c.in_ok-store_of.ensures c.acc_of.ensures c.of_number.ensures refl c.in_ok-rows_left.ensures
+    c.in_ok-store_of.ensures c.acc_of.ensures c.of_number.ensures refl (c.in_ok-codes_of.ensures ∙ codes_after _ c.args.rows.now)
     c.new.ensures.none c.new.ensures.some refl

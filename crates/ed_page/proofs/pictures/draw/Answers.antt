@@ -4,7 +4,6 @@ use Rattle.ed_answers.specs.declared.reply.Rejection.{Rejection}
 use Rattle.ed_page.specs.Answers.{picture_buffers}
 use Rattle.ed_page.specs.Private.Asked.{answers_of, ends_of}
 use Rattle.ed_page.specs.Private.Stages.{Draws}
-use Rattle.ed_page.proofs.Replies.{is_long, not_long}
 use Rattle.ed_page.proofs.Outcomes.{program_due}
 use Rattle.ed_page.proofs.Written.{found_status, long_shown, low_status, picture_early, picture_shown, picture_unmade}
 use Rattle.ed_page.proofs.pictures.draw.Goals as goal
@@ -16,16 +15,16 @@ returns-then-words-ne1024 c =
     (picture_buffers c.args.words.now c.args.digits.now c.args.paper.now c.args.note.now c.args.registers.now)
     (program_due c.args.program c.args.settings c.args.text.now) c.then-words-ne1024.either
 
-pub returns-then-is_too_long : goal.returns-then-is_too_long
-returns-then-is_too_long c =
+pub returns-then-text-gt-INPUT_BYTES : goal.returns-then-text-gt-INPUT_BYTES
+returns-then-text-gt-INPUT_BYTES c =
     long_shown (answers_of c.args.program c.args.settings) (ends_of c.args.program c.args.settings) c.args.text.now
-    (c.if-words-ne1024.false, c.if-digits-ne512.false) (is_long _ _ c.is_too_long.ensures c.if-is_too_long.true)
+    (c.if-words-ne1024.false, c.if-digits-ne512.false) c.if-text-gt-INPUT_BYTES.true
     c.show.ensures
 
 pub returns-in-Ok : goal.returns-in-Ok
 returns-in-Ok c =
     picture_shown (answers_of c.args.program c.args.settings) (ends_of c.args.program c.args.settings) c.args.text.now
-    (c.if-words-ne1024.false, c.if-digits-ne512.false) (not_long _ _ c.is_too_long.ensures c.if-is_too_long.false)
+    (c.if-words-ne1024.false, c.if-digits-ne512.false) c.if-text-gt-INPUT_BYTES.false
     c.in-Ok.ensures c.deref.ensures.value c.deref-in-Ok.ensures.value c.show-in-Ok.ensures
 
 pub show-requires-clause-words : goal.show-requires-clause-words
@@ -77,7 +76,7 @@ returns-in-Err-Refused c =
     let answers = answers_of c.args.program c.args.settings in
     let Ends = ends_of c.args.program c.args.settings in
     picture_shown answers Ends c.args.text.now (c.if-words-ne1024.false, c.if-digits-ne512.false)
-    (not_long _ _ c.is_too_long.ensures c.if-is_too_long.false)
+    c.if-text-gt-INPUT_BYTES.false
     (subst (λ (e : Rejection). Draws answers Ends c.args.text.now (Err e)) c.in-Err-Refused.field-0-is
     c.in-Err-Refused.ensures)
     c.deref-in-Err-Refused.ensures.value c.deref-in-Err-Refused-2.ensures.value c.show-in-Err-Refused.ensures
@@ -88,4 +87,4 @@ returns-in-Err-Memory c =
     c.args.text.now
     (picture_buffers c.args.words.now c.args.digits.now c.args.paper.now c.args.note.now c.args.registers.now)
     (c.if-words-ne1024.false, c.if-digits-ne512.false)
-    (not_long _ _ c.is_too_long.ensures c.if-is_too_long.false)
+    c.if-text-gt-INPUT_BYTES.false

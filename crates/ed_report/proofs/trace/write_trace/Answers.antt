@@ -2,24 +2,24 @@ use Rattle.std.proofs.Common.{append-nil, false, refl, sym, true}
 use Rattle.ed_words.proofs.Numbers.{eq_false, eq_true}
 use Rattle.ed_report.proofs.Letters.{all_lettered, next_lettered}
 use Rattle.ed_report.proofs.trace.write_trace.Goals as goal
-use Rattle.ed_report.proofs.trace.write_trace.Goals.{then-place-eq0+in_ok-add-2, else-place-eq0}
+use Rattle.ed_report.proofs.trace.write_trace.Goals.{then-place-eq0+in_ok-push-2, else-place-eq0}
 
 pub loop-place-preserved : goal.loop-place-preserved
 loop-place-preserved c =
     let next = next_lettered c.loop-place.text.items c.args.functions.now c.loop-place.invariant
     c.loop-place-test.true c.index-functions-place.is c.byte_of.ensures.is in
     elim c.if-place-eq0.branch [
-      | then-place-eq0+in_ok-add-2 w ↦
-          next true (eq_true _ 0 w.if-place-eq0.true) (rw (w.text-is, w.in_ok-add-2.ensures, c.in_ok-add.ensures) refl)
+      | then-place-eq0+in_ok-push-2 w ↦
+          next true (eq_true _ 0 w.if-place-eq0.true) (rw (w.text-is, w.in_ok-push-2.ensures.items, c.in_ok-push.ensures.items) refl)
       | else-place-eq0 w ↦
-          next false (eq_false _ 0 w.if-place-eq0.false) (rw (w.text-is, c.in_ok-add.ensures) (sym (append-nil _)))
+          next false (eq_false _ 0 w.if-place-eq0.false) (rw (w.text-is, c.in_ok-push.ensures.items) (sym (append-nil _)))
     ]
 
-pub returns-in_ok-add-3 : goal.returns-in_ok-add-3
-returns-in_ok-add-3 c =
+pub returns-in_ok-push-3 : goal.returns-in_ok-push-3
+returns-in_ok-push-3 c =
     all_lettered c.loop-place.text.items c.args.functions.now c.loop-place.place false c.loop-place.invariant
     c.loop-place-test.false
-    (eq_false _ 0 c.if-functions-ne0.true) c.in_ok-add-3.ensures
+    (eq_false _ 0 c.if-functions-ne0.true) c.in_ok-push-3.ensures.items
 
 pub returns-else-functions-ne0 : goal.returns-else-functions-ne0
 returns-else-functions-ne0 c =

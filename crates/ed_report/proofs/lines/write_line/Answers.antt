@@ -1,10 +1,10 @@
-use Rattle.std.proofs.Common.{◌∙◌, ap}
+use Rattle.std.proofs.Common.{◌∙◌, ◌++◌, List, ap, ℕ}
+use Rattle.std.specs.Prelude.{string_bytes}
 use Rattle.std.specs.Fmt.{styled_decimal}
 use Rattle.ed_orders.specs.Texts.{order_text}
 use Rattle.ed_report.specs.Listings.{right}
 use Rattle.ed_report.proofs.Columns.{in_columns, line_wrote}
-use Rattle.ed_report.proofs.Texts.{told}
-use Rattle.ed_report.proofs.lines.listing_line.Goals as goal
+use Rattle.ed_report.proofs.lines.write_line.Goals as goal
 
 pub returns : goal.returns
 returns c =
@@ -14,5 +14,6 @@ returns c =
     let six = ap (λ s. styled_decimal s c.value-value.result) c.laid_out-2.ensures ∙ in_columns 6 c.value-value.result
     ∙ ap (right 6) value in
     let text = c.as_str-text.ensures.value ∙ c.order_text-order.ensures ∙ ap order_text word in
-    told _ _ _ _ (line_wrote c.args.store.now c.args.place _ _ _ four six text) c.bytes_of_text.ensures
-    c.format.ensures.ok
+    c.in_ok-write.ensures.bytes
+    ∙ ap (λ (t : List ℕ). string_bytes c.args.lines.now ++ t)
+    (line_wrote c.args.store.now c.args.place _ _ _ four six text)
