@@ -31,7 +31,7 @@ pub(crate) fn tape(alloc: Global, first: u16, count: u16) -> Result<Vec<Code>, N
     let parameters = rows_of_items(alloc, &[parameter(first), parameter(count)])?;
     let mut rows = Vec::new(alloc);
     push_text(&mut rows, HEAD)?;
-    push_rows(&mut rows, &parameters)?;
+    rows.extend_from_slice(&parameters)?;
     push_text(&mut rows, ORDERS)?;
     Ok(rows)
 }
@@ -54,14 +54,7 @@ fn push_text(rows: &mut Vec<Code>, text: &[u8]) -> Result<(), NoMemory>
 {
     for byte in text {
         let row = row_of_byte(*byte).unwrap_or_default();
-        push_rows(rows, &[row])?;
+        rows.push(row)?;
     }
     Ok(())
-}
-
-/// Adds further rows at the end of the rows so far.
-fn push_rows(rows: &mut Vec<Code>, more: &[Code]) -> Result<(), NoMemory>
-    ensures { IfOk result (λ v. rows.new.items ≡ rows.old.items ++ more.now) }
-{
-    Ok(rows.extend_from_slice(more)?)
 }

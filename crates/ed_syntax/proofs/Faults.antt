@@ -5,7 +5,7 @@ use Rattle.std.specs.List.{list_all}
 use Rattle.std.proofs.lemmas.Bool.Decides.{nat_tests}
 use Rattle.ed_words.specs.Texts.{Text}
 use Rattle.ed_lines.specs.Names.{is_place_name}
-use Rattle.ed_syntax.specs.Private.Answers.{LineIs, form_fault}
+use Rattle.ed_lines.specs.declared.fault.SourceCause.TheVariants.{NotAStatement, NumberRange}
 use Rattle.ed_syntax.specs.Private.Found.{form_result}
 use Rattle.ed_syntax.specs.Parts.{LinePart, is_line_byte}
 use Rattle.ed_syntax.specs.Private.PartReading.{parts_of}
@@ -37,12 +37,16 @@ pub line_read : (two : Bool) (k : ℕ) (line : Text) (parts : List LinePart) →
 line_read two k line parts plain short e =
     let within : nat_lt 120 (length line) ≡ false = grind (arith, nat_tests) in rw (plain, within, e) refl
 
--- a line that has no form has the fault
-pub line_fault : (o : Option (Ranged Form)) (e : FormFault) → Err e ≡ form_result o
-    → LineIs (or_cause o) (Err (form_fault e))
-line_fault None e h = let same : NotThisForm ≡ e = cc in rw (← same) refl
-line_fault (Some None) e h = let same : OutOfRange ≡ e = cc in rw (← same) refl
-line_fault (Some (Some f)) e h = absurd (cc)
+-- a line without a form, or with a number out of its range, has its fault
+pub line_fault : (o : Option (Ranged Form)) → Err NotThisForm ≡ form_result o → or_cause o ≡ Err NotAStatement
+line_fault None h = refl
+line_fault (Some None) h = absurd (cc)
+line_fault (Some (Some f)) h = absurd (cc)
+
+pub range_fault : (o : Option (Ranged Form)) → Err OutOfRange ≡ form_result o → or_cause o ≡ Err NumberRange
+range_fault None h = absurd (cc)
+range_fault (Some None) h = refl
+range_fault (Some (Some f)) h = absurd (cc)
 
 -- and a line that has one says it
 pub line_form : (o : Option (Ranged Form)) (f : Form) → Ok f ≡ form_result o → or_cause o ≡ Ok f

@@ -114,21 +114,19 @@ fn setting<'a, 'p>(
 ) -> Result<(Option<Setting>, &'p [Part<'a>]), FormFault>
     ensures { front result ≡ setting (is_second version) (map part parts.entry.now) }
 {
-    match parts.split_first() {
-        Some((Part::Sign(byte), after)) => match after.split_first() {
-            Some((Part::Sign(b'='), rest)) => match (
-                setting_letter(*byte),
-                operand(version, rest),
-            ) {
-                (Some(letter), Ok((Some(operand), rest))) => {
-                    Ok((Some(Setting { letter, operand }), rest))
-                }
-                (Some(_), Ok((None, rest))) => Ok((None, rest)),
-                _ => Err(FormFault::NotThisForm),
-            },
-            _ => Err(FormFault::NotThisForm),
-        },
-        _ => Err(FormFault::NotThisForm),
+    let Some((Part::Sign(byte), after)) = parts.split_first() else {
+        return Err(FormFault::NotThisForm);
+    };
+    let Some((Part::Sign(b'='), rest)) = after.split_first() else {
+        return Err(FormFault::NotThisForm);
+    };
+    let Some(letter) = setting_letter(*byte) else {
+        return Err(FormFault::NotThisForm);
+    };
+    match operand(version, rest) {
+        Ok((Some(operand), rest)) => Ok((Some(Setting { letter, operand }), rest)),
+        Ok((None, rest)) => Ok((None, rest)),
+        Err(_) => Err(FormFault::NotThisForm),
     }
 }
 

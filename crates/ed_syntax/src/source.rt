@@ -1,7 +1,7 @@
 //! The lines of a source, one after the other.
 ghost use Rattle.std.specs.Prelude.{◌≡◌, ◌==◌, ◌≤◌, ◌<◌, if◌then◌else◌, length, IfErr, IfOk, Ok};
 ghost use Rattle.std.specs.List.{list_all};
-ghost use Rattle.ed_syntax.specs.Private.Answers.{IsFaultOf, LineIs, LinesAre, fault_at};
+ghost use Rattle.ed_syntax.specs.Private.Answers.{IsFaultOf, LinesAre};
 ghost use Rattle.ed_syntax.specs.Versions.{is_second};
 ghost use Rattle.ed_syntax.specs.Private.LineFronts.{TakesLine};
 ghost use Rattle.ed_syntax.specs.Lines.{without_return};
@@ -20,50 +20,6 @@ use ed_lines::{Line, Program, SourceCause, SourceFault};
 use ed_words::NoMemory;
 use std::alloc::Global;
 
-/// Why a line has no form.
-#[derive(Clone, Copy)]
-pub(crate) enum LineFault {
-    Of(SourceCause),
-    Memory,
-}
-
-impl LineFault {
-    /// The fault of the source in which the line has this number.
-    fn at(self, line: u32) -> SourceFault
-        ensures { result ≡ fault_at line self }
-    {
-        match self {
-            LineFault::Of(cause) => SourceFault::At { line, cause },
-            LineFault::Memory => SourceFault::Memory,
-        }
-    }
-}
-
-impl From<NoMemory> for LineFault {
-    ghost use Rattle.std.specs.Prelude.{◌≡◌};
-    ghost use Rattle.ed_syntax.specs.declared.source.LineFault.TheVariants.{Memory};
-
-    ghost from_gives = { λ _ e. e ≡ Memory };
-
-    fn from(_none: NoMemory) -> LineFault {
-        LineFault::Memory
-    }
-}
-
-impl From<FormFault> for LineFault {
-    ghost use Rattle.std.specs.Prelude.{◌≡◌};
-    ghost use Rattle.ed_syntax.specs.Private.Answers.{form_fault};
-
-    ghost from_gives = { λ fault e. e ≡ form_fault fault };
-
-    fn from(fault: FormFault) -> LineFault {
-        match fault {
-            FormFault::NotThisForm => LineFault::Of(SourceCause::NotAStatement),
-            FormFault::OutOfRange => LineFault::Of(SourceCause::NumberRange),
-        }
-    }
-}
-
 /// Whether each byte may stand in a line: a tab, or 32 to 126.
 fn are_line_bytes(line: &[u8]) -> bool
     ensures { result ≡ list_all is_line_byte line.now }
@@ -77,19 +33,28 @@ fn are_line_bytes(line: &[u8]) -> bool
 }
 
 /// What the line with this number says, or its fault with the least number.
-fn line_of(alloc: Global, version: Version, number: u32, line: &[u8]) -> Result<Form, LineFault>
-    ensures { LineIs (line_of (is_second version) number line.now) result }
+fn line_of(
+    alloc: Global,
+    version: Version,
+    number: u32,
+    line: &[u8],
+) -> Result<Result<Form, SourceCause>, NoMemory>
+    ensures { IfOk result (λ said. line_of (is_second version) number line.now ≡ said) }
 {
     if !are_line_bytes(line) {
-        return Err(LineFault::Of(SourceCause::BadByte));
+        return Ok(Err(SourceCause::BadByte));
     }
     if line.len() > 120 {
-        return Err(LineFault::Of(SourceCause::LongLine));
+        return Ok(Err(SourceCause::LongLine));
     }
     let Some(parts) = parts_of(alloc, line)? else {
-        return Err(LineFault::Of(SourceCause::NotAStatement));
+        return Ok(Err(SourceCause::NotAStatement));
     };
-    Ok(form_at(version, number, &parts)?)
+    match form_at(version, number, &parts) {
+        Ok(form) => Ok(Ok(form)),
+        Err(FormFault::NotThisForm) => Ok(Err(SourceCause::NotAStatement)),
+        Err(FormFault::OutOfRange) => Ok(Err(SourceCause::NumberRange)),
+    }
 }
 
 /// The line without a carriage return at its end.
@@ -144,13 +109,18 @@ fn lines(alloc: Global, version: Version, text: &[u8]) -> Result<Vec<Line>, Sour
                 cause: SourceCause::TooManyLines,
             });
         }
-        match line_of(alloc, version, number, line) {
+        match line_of(alloc, version, number, line)? {
             Ok(form) => found.push(Line {
                 number,
                 label: form.label,
                 statement: form.statement,
             })?,
-            Err(fault) => return Err(fault.at(number)),
+            Err(cause) => {
+                return Err(SourceFault::At {
+                    line: number,
+                    cause,
+                });
+            }
         }
         number += 1;
         rest = after;

@@ -19,9 +19,9 @@ one_more rows text more i row below is grown so_far =
 pub loop-byte-preserved : goal.loop-byte-preserved
 loop-byte-preserved c =
     let row : c.unwrap_or_default-row.result ≡ unwrap_or c.row_of_byte.result 0 = search rules in
-    one_more c.loop-byte.rows.items c.args.text.now c.push_rows.new.rows.items c.loop-byte.byte-index
+    one_more c.loop-byte.rows.items c.args.text.now c.push.new.self.items c.loop-byte.byte-index
     c.unwrap_or_default-row.result c.loop-byte-test.true
-    (row ∙ ap (λ o. unwrap_or o 0) c.row_of_byte.ensures) c.in_ok-push_rows.ensures c.loop-byte.invariant
+    (row ∙ ap (λ o. unwrap_or o 0) c.row_of_byte.ensures) c.in_ok-push.ensures.items c.loop-byte.invariant
 
 pub returns : goal.returns
 returns c =

@@ -2,8 +2,8 @@ use Rattle.std.proofs.Common.{arith}
 use Rattle.std.proofs.lemmas.Grind.{common_steps}
 use Rattle.ed_syntax.proofs.operands.setting.Goals as goal
 
-pub returns-in_default-split_first : goal.returns-in_default-split_first
-returns-in_default-split_first c = grind (arith, common_steps)
-
 pub returns-in_default : goal.returns-in_default
 returns-in_default c = grind (arith, common_steps)
+
+pub returns-in_default-split_first : goal.returns-in_default-split_first
+returns-in_default-split_first c = grind (arith, common_steps)

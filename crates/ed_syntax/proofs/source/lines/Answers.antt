@@ -14,7 +14,7 @@ loop-rest-preserved c =
     let form = c.in-Ok.form in
     let more : (here.number == 2001) ≡ false = search rules in
     let grown : c.push.new.self.items ≡ here.found.items ++ numbered here.number form ∷ [] = search rules in
-    let says : line_of two here.number line.0.now ≡ Ok form = rw c.in-Ok.is at c.line_of.ensures in
+    let says : line_of two here.number line.0.now ≡ Ok form = rw c.in-Ok.is at c.in_ok-form.ensures in
     record {
       same = rw grown (here.invariant.same ∙ program_step two here.number (lines_of here.rest.now)
           here.found.items c.split_line.ensures.lines more says);
