@@ -7,12 +7,12 @@ ghost use Rattle.ed_link.specs.Linked.{first_place, end_place, set_to};
 ghost use Rattle.ed_link.specs.Private.FaultTests.{any_enter, cause_of, has_no_routine, has_sandwich, is_enter, use_cause};
 ghost use Rattle.ed_link.specs.Private.FaultTests.{is_in_segment};
 ghost use Rattle.ed_link.specs.Private.FaultTests.{is_misplaced, is_outside};
-ghost use Rattle.ed_link.specs.Private.FaultTests.{extent_at, is_rows, overlaps, reach, sets, sets_otherwise, word_extent};
+ghost use Rattle.ed_link.specs.Private.FaultTests.{extent_at, is_rows, overlaps, reach, sets_otherwise, word_extent};
 ghost use Rattle.ed_link.specs.Private.FaultTests.{fault_line, sooner};
 
 use crate::operands::setting;
 use ed_codes::Code;
-use ed_library::{Routine, find};
+use ed_library::find;
 use ed_lines::{Line, Setting, SourceCause, SourceFault, Statement};
 use ed_symbols::{Definition, LocationCounter, even, find_place};
 use ed_words::Size;
@@ -121,14 +121,6 @@ fn are_set(settings: &[Setting], letters: &[Code]) -> bool
     true
 }
 
-/// Whether exactly a routine's parameters are set.
-fn sets(settings: &[Setting], routine: Routine) -> bool
-    ensures { result ≡ sets settings.now (Some routine) }
-{
-    let parameters = routine.parameters();
-    settings.len() == parameters.len() && are_set(settings, &parameters)
-}
-
 /// The fault of a `use`: a name that isn't in the catalogue, or settings that aren't exactly the routine's parameters.
 fn use_cause(statement: &Option<Statement>) -> Option<SourceCause>
     ensures { result ≡ use_cause statement.now }
@@ -142,7 +134,8 @@ fn use_cause(statement: &Option<Statement>) -> Option<SourceCause>
             },
         ) => match find(routine.text()) {
             Some(routine) => {
-                if sets(settings, routine) {
+                let parameters = routine.parameters();
+                if settings.len() == parameters.len() && are_set(settings, &parameters) {
                     None
                 } else {
                     Some(SourceCause::Parameters)

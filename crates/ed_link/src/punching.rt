@@ -28,13 +28,6 @@ fn push(items: &mut Vec<Item>, item: Item) -> Result<(), NoMemory>
     Ok(items.push(item)?)
 }
 
-/// The ending of a length.
-fn ending(length: bool) -> Code
-    ensures { result ≡ ending length }
-{
-    if length { Code::D } else { Code::F }
-}
-
 /// An item that ends with K.
 fn control(function: u8, number: u16) -> Item
     requires { function < 32 }
@@ -56,7 +49,7 @@ fn numbered(function: Code, number: u16, length: bool) -> Item
         function,
         number,
         mark: false,
-        end: ending(length),
+        end: if length { Code::D } else { Code::F },
     }
 }
 

@@ -193,6 +193,14 @@ module _ {k : Check} {row cost : ℕ} {setting : DirectiveState} {contents : Lis
           locations_are = a.locations_are;
         }
 
+-- the loop at a row, with what it holds written in another way
+pub written : {k : Check} {row cost cost' : ℕ} {setting setting' : DirectiveState} {part part' : Option PartialItem}
+    {contents contents' : List ℕ} {marks marks' : List Bool}
+    → cost ≡ cost' → setting ≡ setting' → part ≡ part' → contents ≡ contents' → marks ≡ marks'
+    → StandsAt k row cost' setting' part' contents' marks' → StandsAt k row cost setting part contents marks
+written {k} {row} a b c d e stands =
+    rw (a, b, c, d, e) stands
+
 -- at the end of the rows
 pub at_end : {k : Check} {row cost : ℕ} {setting : DirectiveState} {part : Option PartialItem} {contents : List ℕ}
     {marks : List Bool}

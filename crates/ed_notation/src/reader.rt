@@ -94,8 +94,7 @@ impl PartialItem {
     fn take_digit(&self, digit: u8) -> RowEffect
         requires number { self.now.number ≤ 32767 }
         requires digit { digit < 10 }
-        ensures is { result ≡ digit_effect self.now digit }
-        ensures fits { IsEffectInRange (record { directive = 0; theta = 0 }) result }
+        ensures { result ≡ digit_effect self.now digit }
     {
         if self.mark {
             return RowEffect::Refused(TapeCause::AfterMark);
@@ -115,8 +114,7 @@ impl PartialItem {
     /// A π row.
     fn take_mark(&self) -> RowEffect
         requires { self.now.number ≤ 32767 }
-        ensures is { result ≡ mark_effect self.now }
-        ensures fits { IsEffectInRange (record { directive = 0; theta = 0 }) result }
+        ensures { result ≡ mark_effect self.now }
     {
         if self.mark {
             return RowEffect::Refused(TapeCause::AfterMark);
@@ -131,8 +129,7 @@ impl PartialItem {
 
     /// A blank row, which may only end a blank pair.
     fn take_blank(&self, setting: &DirectiveState) -> RowEffect
-        ensures is { result ≡ blank_effect setting.now self.now }
-        ensures fits { IsEffectInRange setting.now result }
+        ensures { result ≡ blank_effect setting.now self.now }
     {
         if self.blank {
             let next = DirectiveState {
@@ -148,8 +145,7 @@ impl PartialItem {
     /// The row K.
     fn take_kay(&self, setting: &DirectiveState) -> RowEffect
         requires { self.now.number ≤ 32767 }
-        ensures is { result ≡ kay_effect (control_of self.now.function) setting.now self.now }
-        ensures fits { IsEffectInRange setting.now result }
+        ensures { result ≡ kay_effect (control_of self.now.function) setting.now self.now }
     {
         if self.mark {
             return RowEffect::Refused(TapeCause::BadControl);
@@ -177,8 +173,7 @@ impl PartialItem {
     /// The row Z, which adds θ.
     fn take_zed(&self, setting: &DirectiveState) -> RowEffect
         requires { self.now.number ≤ 32767 }
-        ensures is { result ≡ zed_effect (control_of self.now.function) setting.now self.now }
-        ensures fits { IsEffectInRange setting.now result }
+        ensures { result ≡ zed_effect (control_of self.now.function) setting.now self.now }
     {
         if self.mark {
             return RowEffect::Refused(TapeCause::BadControl);
@@ -261,8 +256,7 @@ impl DirectiveState {
 
     /// A code letter that ends an item with this word.
     fn take_letter(&self, size: Size, word: Word) -> RowEffect
-        ensures is { result ≡ letter_effect size (letter_action_of self.now.directive) self.now word }
-        ensures fits { IsEffectInRange self.now result }
+        ensures { result ≡ letter_effect size (letter_action_of self.now.directive) self.now word }
     {
         let at = (self.directive.value() % 4096 / 2) as u16;
         match LetterAction::of(self.directive) {

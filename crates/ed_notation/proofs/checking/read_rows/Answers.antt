@@ -1,5 +1,7 @@
-use Rattle.std.proofs.Common.{arith}
-use Rattle.ed_notation.proofs.Loop.{began, function_row, longer, ended, placed, refused, entered, at_end}
+use Rattle.std.proofs.Common.{◌∙◌, ap, arith, Some}
+use Rattle.ed_store.specs.declared.store.Store.{Store}
+use Rattle.ed_notation.specs.declared.reader.PartialItem.{PartialItem}
+use Rattle.ed_notation.proofs.Loop.{began, function_row, longer, ended, placed, refused, entered, at_end, written}
 use Rattle.ed_notation.proofs.checking.read_rows.Goals.{in-None, in-Some+in-Longer, in-Some+in-Ended, in-Some+in-Placed}
 use Rattle.ed_notation.proofs.checking.read_rows.Goals as goal
 
@@ -19,17 +21,19 @@ returns-in-Entered c =
 
 pub loop-row-preserved : goal.loop-row-preserved
 loop-row-preserved c = elim c.match-item.branch [
-  | in-None w ↦ rw (w.orders-is, w.setting-is, w.item-is, w.contents-is, w.placed-is, w.begun.ensures.is)
+  | in-None w ↦ written w.orders-is w.setting-is (w.item-is ∙ ap (λ (i : PartialItem). Some i) w.begun.ensures.is)
+      (ap (λ (s : Store). s.words) w.contents-is) w.placed-is
       (function_row (rw w.in-None.is at c.loop-row.invariant)
       c.loop-row-test.true c.index-rows-row.is w.begun.ensures.fits)
-  | in-Some+in-Longer w ↦ rw (w.orders-is, w.setting-is, w.item-is, w.contents-is, w.placed-is)
+  | in-Some+in-Longer w ↦ written w.orders-is w.setting-is w.item-is
+      (ap (λ (s : Store). s.words) w.contents-is) w.placed-is
       (longer w.in-Some.part (rw w.in-Some.is at c.loop-row.invariant)
       c.loop-row-test.true c.index-rows-row.is w.in-Longer.ensures.is w.in-Longer.ensures.fits)
-  | in-Some+in-Ended w ↦ rw (w.orders-is, w.setting-is, w.item-is, w.contents-is, w.placed-is)
+  | in-Some+in-Ended w ↦ written w.orders-is w.setting-is w.item-is
+      (ap (λ (s : Store). s.words) w.contents-is) w.placed-is
       (ended w.in-Some.part (rw w.in-Some.is at c.loop-row.invariant)
       c.loop-row-test.true c.index-rows-row.is w.in-Ended.ensures.is w.in-Ended.ensures.fits)
-  | in-Some+in-Placed w ↦
-      rw (w.orders-is, w.setting-is, w.item-is, w.contents-is, w.placed-is)
+  | in-Some+in-Placed w ↦ rw (w.orders-is, w.setting-is, w.item-is, w.contents-is, w.placed-is)
       (rw (w.put_short.ensures.is, w.moved_on-setting.ensures, w.from.ensures)
       (placed w.in-Some.part (rw w.in-Some.is at c.loop-row.invariant)
       c.loop-row-test.true c.index-rows-row.is w.in-Placed.ensures.is w.in-Placed.ensures.fits))
