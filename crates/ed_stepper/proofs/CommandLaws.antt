@@ -1,7 +1,7 @@
 -- A line of a script says what is read in it.
 use Rattle.std.proofs.Common.{◌≡◌, ◌∙◌, ℕ, ◌≤◌, Bool, true, false, List, [], ◌∷◌, ◌++◌, refl, sym, ap, subst}
 use Rattle.std.proofs.Common.{arith, length, codes, nat_le}
-use Rattle.std.specs.Prelude.{◌&&◌, Option, Some, None, option_map, option_and_then, if◌then◌else◌}
+use Rattle.std.specs.Prelude.{◌&&◌, Option, Some, None, option_map, option_and_then, unwrap_or, if◌then◌else◌}
 use Rattle.std.specs.List.{list_all}
 use Rattle.std.specs.Str.{bytes_eq}
 use Rattle.std.proofs.lemmas.Bool.{and_parts}
@@ -20,6 +20,14 @@ use Rattle.ed_stepper.specs.declared.moves.MoveTarget.TheVariants as aims
 use Rattle.ed_stepper.specs.declared.commands.SessionCommand.{SessionCommand}
 use Rattle.ed_stepper.specs.declared.commands.SessionCommand.TheVariants.{Nothing, Move, Back, Trace, Show}
 use Rattle.ed_stepper.specs.declared.commands.SessionCommand.TheVariants.{Accumulator, Multiplier, LastPrinted}
+
+-- ---- values in options
+
+some_is : {A : Type 0} {x y : A} → Some x ≡ Some y → x ≡ y
+some_is {x = x} e = ap (λ o. unwrap_or o x) e
+
+none_is : {A B : Type 0} {y : A} → None ≡ Some y → B
+none_is e = absurd (cc)
 
 -- ---- parts
 
@@ -99,8 +107,8 @@ number_is n x e = by_test (nat_le 1 (length n) && nat_le (length n) 9 && list_al
     by_test true f e =
         let p = and_parts _ (list_all is_digit n) f in
         let q = and_parts (nat_le 1 (length n)) (nat_le (length n) 9) p.0 in
-        (le_of 1 (length n) q.0, le_of (length n) 9 q.1, p.1, cc)
-    by_test false f e = absurd (cc)
+        (le_of 1 (length n) q.0, le_of (length n) 9 q.1, p.1, some_is e)
+    by_test false f e = none_is e
 
 range_is : (least most n x : ℕ) → in_range least most n ≡ Some x → (least ≤ n) × (n ≤ most) × (n ≡ x)
 range_is least most n x e = by_test (nat_le least n && nat_le n most) refl e
@@ -109,8 +117,8 @@ range_is least most n x e = by_test (nat_le least n && nat_le n most) refl e
         → (least ≤ n) × (n ≤ most) × (n ≡ x)
     by_test true f e =
         let p = and_parts (nat_le least n) (nat_le n most) f in
-        (le_of least n p.0, le_of n most p.1, cc)
-    by_test false f e = absurd (cc)
+        (le_of least n p.0, le_of n most p.1, some_is e)
+    by_test false f e = none_is e
 
 -- what is read as a number is one
 record NumberRead (least most : ℕ) (n : Text) (x : ℕ) : Type 0 where
@@ -123,7 +131,7 @@ read_is_number least most n x e = by_number (number n) refl e
   where
     by_number : (o : Option ℕ) → number n ≡ o → option_and_then (in_range least most) o ≡ Some x
         → NumberRead least most n x
-    by_number None f e = absurd (cc)
+    by_number None f e = none_is e
     by_number (Some y) f e =
         let p = number_is n y f in
         let q = range_is least most y x e in
@@ -199,10 +207,10 @@ with_number least most a f c e = by_number (number_within least most a) refl e
   where
     by_number : (o : Option ℕ) → number_within least most a ≡ o → option_map f o ≡ Some c
         → WithNumber least most a f c
-    by_number None g e = absurd (cc)
+    by_number None g e = none_is e
     by_number (Some x) g e =
         let n = read_is_number least most a x g in
-        let made : f x ≡ c = cc in
+        let made : f x ≡ c = some_is e in
         record { number = n.number; is = ap f n.is ∙ made }
 
 record IsWindow (a b : Text) (c : SessionCommand) : Type 0 where
@@ -217,13 +225,13 @@ read_is_window a b c e = by_numbers (number_within 0 1023 a) (number_within 0 10
   where
     by_test : (x y : ℕ) (t : Bool) → nat_le x y ≡ t → (if t then Some (Show x y) else None) ≡ Some c
         → (x ≤ y) × (Show x y ≡ c)
-    by_test x y true f e = (le_of x y f, cc)
-    by_test x y false f e = absurd (cc)
+    by_test x y true f e = (le_of x y f, some_is e)
+    by_test x y false f e = none_is e
 
     by_numbers : (o p : Option ℕ) → number_within 0 1023 a ≡ o → number_within 0 1023 b ≡ p
         → show_command o p ≡ Some c → IsWindow a b c
-    by_numbers None p f g e = absurd (cc)
-    by_numbers (Some x) None f g e = absurd (cc)
+    by_numbers None p f g e = none_is e
+    by_numbers (Some x) None f g e = none_is e
     by_numbers (Some x) (Some y) f g e =
         let m = read_is_number 0 1023 a x f in
         let n = read_is_number 0 1023 b y g in
@@ -244,9 +252,9 @@ one_said w c e = by_test (bytes_eq w (codes "entry")) refl e
     by_test : (t : Bool) → bytes_eq w (codes "entry") ≡ t → (if t then Some (Move aims.Entry) else None) ≡ Some c
         → SaysCommand (w ∷ []) c
     by_test true f e =
-        let same : Move aims.Entry ≡ c = cc in
+        let same : Move aims.Entry ≡ c = some_is e in
         rw (word_is w (codes "entry") f) (subst (λ x. SaysCommand (codes "entry" ∷ []) x) same entry)
-    by_test false f e = absurd (cc)
+    by_test false f e = none_is e
 
 -- after `show`
 shown_said : (a : Text) (c : SessionCommand) → shown_command a ≡ Some c → SaysCommand (codes "show" ∷ a ∷ []) c
@@ -259,13 +267,13 @@ shown_said a c e =
         else show_command (number_within 0 1023 a) (number_within 0 1023 a)) ≡ Some c
         → SaysCommand (codes "show" ∷ a ∷ []) c
     by_tests true t u f g h e =
-        let same : Accumulator ≡ c = cc in
+        let same : Accumulator ≡ c = some_is e in
         rw (word_is a (codes "acc") f) (subst (λ x. SaysCommand (codes "show" ∷ codes "acc" ∷ []) x) same show_acc)
     by_tests false true u f g h e =
-        let same : Multiplier ≡ c = cc in
+        let same : Multiplier ≡ c = some_is e in
         rw (word_is a (codes "mult") g) (subst (λ x. SaysCommand (codes "show" ∷ codes "mult" ∷ []) x) same show_mult)
     by_tests false false true f g h e =
-        let same : LastPrinted ≡ c = cc in
+        let same : LastPrinted ≡ c = some_is e in
         rw (word_is a (codes "last") h) (subst (λ x. SaysCommand (codes "show" ∷ codes "last" ∷ []) x) same show_last)
     by_tests false false false f g h e =
         let w = read_is_window a a c e in
@@ -299,7 +307,7 @@ two_said w a c e =
     by_tests false false false true x f g h i j e =
         let n = with_number 1 10000 a (λ n. Trace n) c e in said (codes "trace") i _ n.is (trace a n.number)
     by_tests false false false false true f g h i j e = said (codes "show") j c refl (shown_said a c e)
-    by_tests false false false false false f g h i j e = absurd (cc)
+    by_tests false false false false false f g h i j e = none_is e
 
 -- in three
 three_said : (w a b : Text) (c : SessionCommand) → of_three w a b ≡ Some c → SaysCommand (w ∷ a ∷ b ∷ []) c
@@ -312,16 +320,16 @@ three_said w a b c e = by_test (bytes_eq w (codes "show")) refl e
         let i = read_is_window a b c e in
         rw (word_is w (codes "show") f) (subst (λ x. SaysCommand (codes "show" ∷ a ∷ b ∷ []) x) i.is
         (show_from a b i.first i.last i.order))
-    by_test false f e = absurd (cc)
+    by_test false f e = none_is e
 
 -- what is read in parts is said
 pub read_is_said : (parts : List Text) (c : SessionCommand) → of_parts parts ≡ Some c → SaysCommand parts c
 read_is_said [] c e =
-    let same : Nothing ≡ c = cc in subst (λ x. SaysCommand [] x) same nothing
+    let same : Nothing ≡ c = some_is e in subst (λ x. SaysCommand [] x) same nothing
 read_is_said (w ∷ []) c e = one_said w c e
 read_is_said (w ∷ a ∷ []) c e = two_said w a c e
 read_is_said (w ∷ a ∷ b ∷ []) c e = three_said w a b c e
-read_is_said (w ∷ a ∷ b ∷ d ∷ parts) c e = absurd (cc)
+read_is_said (w ∷ a ∷ b ∷ d ∷ parts) c e = none_is e
 
 -- ---- lines
 

@@ -1,7 +1,7 @@
 //! The lines of a script. Each line says a command.
 ghost use Rattle.std.specs.Prelude.{◌≡◌};
 ghost use Rattle.ed_words.specs.Decimals.{number_within};
-ghost use Rattle.ed_stepper.specs.Private.CommandReading.{session_command, of_one, of_three, of_two};
+ghost use Rattle.ed_stepper.specs.Private.CommandReading.{session_command, of_two};
 ghost use Rattle.ed_stepper.specs.Private.CommandReading.{shown_command, show_command};
 
 use crate::fronts::{first_part, spells};
@@ -37,23 +37,14 @@ pub(crate) fn command_of(line: &[u8]) -> Option<SessionCommand>
         return Some(SessionCommand::Nothing);
     };
     let Some((second, rest)) = first_part(rest) else {
-        return of_one(word);
+        let entry = SessionCommand::Move(MoveTarget::Entry);
+        return spells(word, "entry").then_some(entry);
     };
     let Some((third, rest)) = first_part(rest) else {
         return of_two(word, second);
     };
-    match first_part(rest) {
-        Some(_) => None,
-        None => of_three(word, second, third),
-    }
-}
-
-/// The command of one part.
-fn of_one(word: &[u8]) -> Option<SessionCommand>
-    ensures { result ≡ of_one word.now }
-{
-    if spells(word, "entry") {
-        Some(SessionCommand::Move(MoveTarget::Entry))
+    if first_part(rest).is_none() && spells(word, "show") {
+        window(address(second), address(third))
     } else {
         None
     }
@@ -91,17 +82,6 @@ fn shown(argument: &[u8]) -> Option<SessionCommand>
         Some(SessionCommand::LastPrinted)
     } else {
         window(address(argument), address(argument))
-    }
-}
-
-/// The command of three parts.
-fn of_three(word: &[u8], first: &[u8], last: &[u8]) -> Option<SessionCommand>
-    ensures { result ≡ of_three word.now first.now last.now }
-{
-    if spells(word, "show") {
-        window(address(first), address(last))
-    } else {
-        None
     }
 }
 

@@ -9,7 +9,7 @@ ghost use Rattle.ed_stepper.specs.Private.Commands.{IsCommandInRange};
 ghost use Rattle.ed_stepper.specs.Private.Lines.{LineEnds};
 
 use crate::commands::SessionCommand;
-use crate::moves::{BackFault, MoveEnd, MoveTarget, Moved};
+use crate::moves::{BackFault, MoveEnd, Moved};
 use crate::session::Session;
 use ed_machine::Machine;
 use ed_report::{bytes_of_text, listing, trace_text};
@@ -27,8 +27,11 @@ pub(crate) fn carry_out(
 {
     match command {
         SessionCommand::Nothing => Ok(Vec::new(alloc)),
-        SessionCommand::Move(aim) => move_on(alloc, session, aim),
-        SessionCommand::Back(orders) => move_back(alloc, session, orders),
+        SessionCommand::Move(aim) => Ok(move_line(alloc, session.advance(aim))?),
+        SessionCommand::Back(orders) => {
+            let moved = session.back(u64::from(orders))?;
+            Ok(move_line(alloc, moved)?)
+        }
         SessionCommand::Trace(orders) => trace(alloc, session, orders),
         SessionCommand::Show(first, last) => Ok(show(alloc, session.machine(), first, last)?),
         SessionCommand::Accumulator => Ok(number_line(alloc, "acc", session.machine().acc())?),
@@ -38,22 +41,6 @@ pub(crate) fn carry_out(
         }
         SessionCommand::LastPrinted => Ok(last_printed(alloc, session.machine())?),
     }
-}
-
-/// Moves forward, and writes the line of the move.
-fn move_on(alloc: Global, session: &mut Session, aim: MoveTarget) -> Result<Vec<u8>, BackFault>
-    ensures { LineEnds (SessionCommand.Move aim) session.old result session.new }
-{
-    let moved = session.advance(aim);
-    Ok(move_line(alloc, moved)?)
-}
-
-/// Moves back, and writes the line of the move.
-fn move_back(alloc: Global, session: &mut Session, orders: u32) -> Result<Vec<u8>, BackFault>
-    ensures { LineEnds (SessionCommand.Back orders) session.old result session.new }
-{
-    let moved = session.back(u64::from(orders))?;
-    Ok(move_line(alloc, moved)?)
 }
 
 /// Moves forward, and writes the letter of each order obeyed and the line of the move.

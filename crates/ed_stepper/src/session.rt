@@ -1,4 +1,6 @@
 ghost use Rattle.std.specs.Prelude.{◌≡◌, ◌+◌, ◌-◌, ◌≤◌, ◌^◌, ◌++◌, IfOk, MatchResult, vec_len, vec_capacity};
+ghost use Rattle.ed_words.specs.Words.{function_of};
+ghost use Rattle.ed_machine.specs.OrderTable.{next_word};
 ghost use Rattle.ed_machine.specs.Steps.{AreObeyed, state_after};
 ghost use Rattle.ed_report.specs.Traces.{functions_after};
 ghost use Rattle.ed_stepper.specs.Sessions.{Moves, MovesBack, stands_at};
@@ -185,8 +187,15 @@ fn list_functions(machine: &mut Machine, count: u64, functions: &mut Vec<Code>)
     ensures { functions.new.items ≡ functions.old.items ++ functions_after count machine.old }
 {
     for done in 0..count {
-        let function = machine.word(machine.counter()).order().function;
-        functions.push_reserved(Code::new(function).unwrap());
+        functions.push_reserved(next_function(machine));
         let _ = machine.step();
     }
+}
+
+/// The function of the order at the counter.
+fn next_function(machine: &Machine) -> Code
+    ensures { result ≡ function_of (next_word machine.now) }
+{
+    let function = machine.word(machine.counter()).order().function;
+    Code::new(function).unwrap()
 }

@@ -1,6 +1,4 @@
-use Rattle.std.proofs.Common.{rules, ◌≡◌, ◌∙◌, arith, refl}
-use Rattle.ed_words.specs.Words.{function_of}
-use Rattle.ed_machine.specs.OrderTable.{next_word}
+use Rattle.std.proofs.Common.{◌∙◌, arith, refl}
 use Rattle.ed_machine.proofs.Steps.{next_state, no_step}
 use Rattle.ed_stepper.proofs.Listed.{listed_more, listed_none}
 use Rattle.ed_stepper.proofs.session.list_functions.Goals as goal
@@ -17,11 +15,10 @@ loop-done-init c = record {
 pub loop-done-preserved : goal.loop-done-preserved
 loop-done-preserved c =
     let i = c.loop-done.invariant in
-    let function : c.unwrap.result ≡ function_of (next_word c.loop-done.machine) = search rules in
     record {
       is = next_state _ _ i.is c.step.ensures.state;
       count = omega (arith, c.step.ensures.count, i.count);
-      listed = listed_more _ _ _ c.push_reserved.ensures.items i.listed function i.is;
+      listed = listed_more _ _ _ c.push_reserved.ensures.items i.listed c.next_function.ensures i.is;
       few = omega (arith, c.push_reserved.ensures.len, i.few);
       room = c.push_reserved.ensures.capacity ∙ i.room;
     }
