@@ -12,15 +12,12 @@ use Rattle.ed_syntax.specs.Private.PartReading.{parts_of, parts_from}
 use Rattle.ed_syntax.specs.Parts.{is_blank, begins_run}
 use Rattle.ed_lines.specs.Names.{is_run_byte}
 use Rattle.ed_syntax.specs.Private.PartReading.{with_run_byte}
-use Rattle.std.specs.Prelude.{Result, Ok, Err}
-use Rattle.std.specs.Borrow.{Bor}
 use Rattle.std.proofs.Common.{◌≤◌, suc, length-append, map}
 use Rattle.std.proofs.lemmas.List.{map-append}
 use Rattle.ed_syntax.specs.Private.Seen.{part}
 use Rattle.ed_syntax.specs.declared.parts.Part as code
-use Rattle.ed_syntax.specs.declared.parts.OpenQuote.{OpenQuote}
 use Rattle.ed_syntax.specs.Parts.{has_quote}
-use Rattle.ed_syntax.specs.Private.PartFronts.{SplitsQuote, SplitsRun, Takes}
+use Rattle.ed_syntax.specs.Private.PartFronts.{SplitsQuote, SplitsRun}
 
 -- a byte that passes a test is not one that fails it
 differs : (f : ℕ → Bool) (b k : ℕ) (c : Bool) → (b == k) ≡ c → f b ≡ true → f k ≡ false → (b == k) ≡ false

@@ -1,5 +1,5 @@
 //! The lines of a source, one after the other.
-ghost use Rattle.std.specs.Prelude.{◌≡◌, ◌==◌, ◌≤◌, ◌<◌, if◌then◌else◌, length, IfErr, IfOk, Ok};
+ghost use Rattle.std.specs.Prelude.{◌≡◌, ◌==◌, ◌<◌, length, IfErr, IfOk, Ok};
 ghost use Rattle.std.specs.List.{list_all};
 ghost use Rattle.ed_syntax.specs.Private.Answers.{IsFaultOf, LinesAre};
 ghost use Rattle.ed_syntax.specs.Versions.{is_second};
@@ -9,7 +9,7 @@ ghost use Rattle.ed_syntax.specs.Lines.{lines_of};
 ghost use Rattle.ed_syntax.specs.Forms.{FormsAreSpelled};
 ghost use Rattle.ed_syntax.specs.Sources.{HasFormFault, HasOneMeaning, IsProgram};
 ghost use Rattle.ed_syntax.specs.Parts.{is_line_byte};
-ghost use Rattle.ed_syntax.specs.Private.SourceReading.{is_two, line_of, lines_from, or_cause, program_of, version_of};
+ghost use Rattle.ed_syntax.specs.Private.SourceReading.{is_two, line_of, lines_from, program_of, version_of};
 
 use crate::Version;
 use crate::fault::FormFault;

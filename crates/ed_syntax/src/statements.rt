@@ -1,16 +1,16 @@
 //! Statements, and lines with their labels.
-ghost use Rattle.std.specs.Prelude.{◌≡◌, ◌∷◌, ◌==◌, codes, map, option_map, Some};
+ghost use Rattle.std.specs.Prelude.{◌≡◌, ◌==◌, codes, map, Some};
 ghost use Rattle.std.specs.Option.{ok_or};
 ghost use Rattle.ed_syntax.specs.Versions.{is_second};
 ghost use Rattle.ed_syntax.specs.Private.Found.{form_result};
-ghost use Rattle.ed_syntax.specs.Private.Grammar.{base, enter, fetch, form, form_at};
+ghost use Rattle.ed_syntax.specs.Private.Grammar.{base, enter, fetch, form_at};
 ghost use Rattle.ed_syntax.specs.Parts.{function};
 ghost use Rattle.ed_syntax.specs.Private.Grammar.{is_version_two, labelled_line, length_end};
-ghost use Rattle.ed_syntax.specs.Private.Grammar.{long, number_up_to, ranged_map, order, order_end, placed_statement, segment};
+ghost use Rattle.ed_syntax.specs.Private.Grammar.{long, order, order_end, placed_statement, segment};
 ghost use Rattle.ed_words.specs.Decimals.{value};
-ghost use Rattle.ed_syntax.specs.Private.Grammar.{statement, data_statement, unlabelled_line, word};
+ghost use Rattle.ed_syntax.specs.Private.Grammar.{statement, unlabelled_line, word};
 ghost use Rattle.ed_syntax.specs.Private.Grammar as grammar;
-ghost use Rattle.ed_syntax.specs.Parts.{run, sign};
+ghost use Rattle.ed_syntax.specs.Parts.{run};
 ghost use Rattle.ed_syntax.specs.Private.Seen.{part};
 
 use crate::Version;

@@ -1,21 +1,18 @@
 //! Names, numbers and strings.
-ghost use Rattle.std.specs.Prelude.{◌≡◌, ◌∷◌, ◌≤◌, ◌<◌, ◌^◌, true, false, Some};
-ghost use Rattle.std.specs.Prelude.{map, length, IfSome, IfOk, IfErr, option_map};
+ghost use Rattle.std.specs.Prelude.{◌≡◌, ◌≤◌, ◌<◌, ◌^◌, true, false, Some};
+ghost use Rattle.std.specs.Prelude.{map, IfOk, IfErr, option_map};
 ghost use Rattle.std.specs.Option.{ok_or};
 ghost use Rattle.ed_syntax.specs.Versions.{is_second};
 ghost use Rattle.ed_syntax.specs.Private.Found.{form_result};
 ghost use Rattle.std.specs.List.{list_all};
 ghost use Rattle.std.specs.Str.{bytes_eq};
-ghost use Rattle.ed_codes.specs.Spelling.{row_of};
 ghost use Rattle.ed_syntax.specs.Parts.{array};
-ghost use Rattle.ed_lines.specs.Names.{is_local_name, is_name};
+ghost use Rattle.ed_lines.specs.Names.{is_name};
 ghost use Rattle.ed_syntax.specs.Private.Grammar.{integer};
 ghost use Rattle.ed_syntax.specs.Parts.{is_number, with_sign};
 ghost use Rattle.ed_lines.specs.Names.{is_place_name};
-ghost use Rattle.ed_syntax.specs.Private.Grammar.{number_up_to, ranged_map, row};
-ghost use Rattle.ed_syntax.specs.Private.Grammar.{spells, string, string_rows, up_to};
-ghost use Rattle.ed_lines.specs.Private.Names.{IsNameText};
-ghost use Rattle.ed_words.specs.Decimals.{is_digit};
+ghost use Rattle.ed_syntax.specs.Private.Grammar.{number_up_to, ranged_map};
+ghost use Rattle.ed_syntax.specs.Private.Grammar.{string, string_rows};
 ghost use Rattle.ed_lines.specs.Names.{is_run_byte};
 ghost use Rattle.ed_syntax.specs.Private.Seen.{part};
 

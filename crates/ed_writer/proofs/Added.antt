@@ -1,7 +1,7 @@
 -- A text of lines that grows by one line.
 use Rattle.std.proofs.Common.{◌≡◌, ◌∙◌, ℕ, ◌+◌, ◌<◌, ◌≤◌, Bool, true, List, [], ◌∷◌, ◌++◌, refl, sym, ap}
 use Rattle.std.proofs.Common.{append_assoc, drop, get_or, length, map, take}
-use Rattle.std.specs.Prelude.{Some}
+use Rattle.std.specs.Prelude.{Some, Result, Ok, Err, IfOk}
 use Rattle.std.specs.List.{list_all}
 use Rattle.std.proofs.lemmas.List.{at_drop_more, map-append, take_more}
 use Rattle.ed_words.proofs.Numbers.{lt_true, lt_false}
@@ -60,3 +60,11 @@ letter_added before text rows place code below is written =
     ap (λ (t : Text). t ++ last) written
     ∙ append_assoc before (map row_letter (take place rows)) last
     ∙ ap (λ (t : Text). before ++ t) (sym (ap (map row_letter) taken ∙ map-append row_letter (take place rows) (code ∷ [])))
+
+-- bytes and then others, where memory was found for the others too
+pub both_added : {A E : Type 0} (r : Result A E) (text first second between whole : Text)
+    → IfOk r (λ _. whole ≡ between ++ second) → between ≡ text ++ first
+    → IfOk r (λ _. whole ≡ text ++ (first ++ second))
+both_added (Ok a) text first second between whole h e =
+    h ∙ ap (λ (t : Text). t ++ second) e ∙ append_assoc text first second
+both_added (Err f) text first second between whole h e = tt
