@@ -22,7 +22,8 @@ no_codes window r none = ap (λ (w : Option Window). r.codes ++ post_mortem_code
 
 unasked : (before : Text) (window : Option Window) (r : RunEnd) → window ≡ None
     → ran_outcome before (with_post_mortem window r) ≡ ran_outcome before r
-unasked before window r none = ap (λ (codes : List ℕ). ran_outcome before (record r { codes = codes })) (no_codes window r none)
+unasked before window r none =
+    ap (λ (codes : List ℕ). ran_outcome before (record r { codes = codes })) (no_codes window r none)
 
 pub plain_tape : (s : Settings) (codes : List ℕ) → s.post_mortem ≡ None
     → tape_outcome s codes ≡ ran_outcome [] (run_of s codes)

@@ -85,7 +85,8 @@ early_long : {Kept Shown : Type 0} {out note : List ℕ} {answer : ℕ}
     → HasItsCause (HasBufferRoom too_long_outcome out note) Kept Shown answer
     → length note < length too_long → answer ≡ 12
 early_long {out = out} {note} {answer} is less =
-    same_number answer 12 (λ not12. line_lacks out note less (is.shown not12).0) (cases_lt answer 12) (cases_lt 12 answer)
+    same_number answer 12 (λ not12. line_lacks out note less (is.shown not12).0) (cases_lt answer 12)
+    (cases_lt 12 answer)
 
 -- a text that is too long is told so
 pub long_written : (answers : Text → Outcome → Type 0) (text : Text) {before after : TextBuffers} {answer : ℕ}

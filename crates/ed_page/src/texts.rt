@@ -83,7 +83,7 @@ pub extern "C" fn page_listing(
     write_answer(alloc, asked, text, listing, note, lengths)
 }
 
-/// The codes of rows as bytes.
+/// The reply that has the codes of rows as bytes.
 pub fn row_codes(alloc: Global, rows: &[Code]) -> Result<Reply, NoMemory>
     ensures { IfOk result (λ reply. Gives reply (done rows.now)) }
 {

@@ -47,4 +47,5 @@ no_order_wrote s counter orders text c o t =
 pub named : (r : Result (Vec ℕ Global) NoMemory) (s : State) {name same : List ℕ}
     → IfOk r (λ bytes. bytes.items ≡ at_after name s.counter s.orders ++ 10 ∷ []) → name ≡ same
     → IfOk r (λ bytes. bytes.items ≡ at_after same s.counter s.orders ++ 10 ∷ [])
-named r s line is = subst (λ (n : List ℕ). IfOk r (λ bytes. bytes.items ≡ at_after n s.counter s.orders ++ 10 ∷ [])) is line
+named r s line is =
+    subst (λ (n : List ℕ). IfOk r (λ bytes. bytes.items ≡ at_after n s.counter s.orders ++ 10 ∷ [])) is line

@@ -10,9 +10,11 @@ loop-place-preserved c =
     c.loop-place-test.true c.index-functions-place.is c.byte_of.ensures.is in
     elim c.if-place-eq0.branch [
       | then-place-eq0+in_ok-push-2 w ↦
-          next true (eq_true _ 0 w.if-place-eq0.true) (rw (w.text-is, w.in_ok-push-2.ensures.items, c.in_ok-push.ensures.items) refl)
+          next true (eq_true _ 0 w.if-place-eq0.true)
+          (rw (w.text-is, w.in_ok-push-2.ensures.items, c.in_ok-push.ensures.items) refl)
       | else-place-eq0 w ↦
-          next false (eq_false _ 0 w.if-place-eq0.false) (rw (w.text-is, c.in_ok-push.ensures.items) (sym (append-nil _)))
+          next false (eq_false _ 0 w.if-place-eq0.false)
+          (rw (w.text-is, c.in_ok-push.ensures.items) (sym (append-nil _)))
     ]
 
 pub returns-in_ok-push-3 : goal.returns-in_ok-push-3
