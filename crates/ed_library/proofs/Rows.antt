@@ -1,6 +1,6 @@
 -- Each row of a table has codes.
-use Rattle.std.proofs.Common.{◌≡◌, ◌∙◌, ◌<◌, ap, refl, ℕ, true, List, length, get_or, nat_lt}
-use Rattle.std.specs.Prelude.{slice_index_or}
+use Rattle.std.proofs.Common.{◌≡◌, ◌∙◌, ◌<◌, ◌≤◌, ap, arith, refl, ℕ, true, Option, Some, None, List, length, get_or, nat_lt}
+use Rattle.std.specs.Prelude.{slice_index_or, IsNone, IsSome}
 use Rattle.std.specs.List.{list_all}
 use Rattle.std.proofs.lemmas.Bool.{and_parts}
 use Rattle.std.proofs.lemmas.List.Sums.{AllPass-from_list_all}
@@ -21,6 +21,11 @@ pub row_end : (rows : List TableRow) (k : ℕ) (d : TableRow) → list_all is_ro
     → k < length rows
     → (slice_index_or rows k d).end < 32
 row_end rows k d h below = lt_of _ _ (and_parts _ _ (AllPass-from_list_all is_row rows h k d below)).1
+
+-- a number below 32 makes a code
+pub is_code : {A : Type 0} {n : ℕ} (code : Option A) → (IsNone code → 32 ≤ n) → n < 32 → IsSome code
+is_code None high low = let h = high refl in absurd (omega (arith, h, low))
+is_code (Some made) high low = refl
 
 -- the letters of a routine are codes
 pub letter_code : (letters : List ℕ) (r k : ℕ) → letters ≡ (entry r).parameters → r < how_many → k < length letters

@@ -76,7 +76,7 @@ fn pass_line(
     ensures entered { OnOk result (past.new.entered ≡ (past.old.entered || is_enter statement.now)) }
 {
     past.extents.push(extent_of(statement, counter))?;
-    past.entered = past.entered || is_enter(statement);
+    past.entered |= is_enter(statement);
     Ok(())
 }
 

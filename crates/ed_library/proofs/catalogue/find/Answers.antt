@@ -4,15 +4,15 @@ use Rattle.ed_library.specs.Entries.{entry}
 use Rattle.ed_library.proofs.Found.{found, none_left, passed_over}
 use Rattle.ed_library.proofs.catalogue.find.Goals as goal
 
-pub routine-requires : goal.routine-requires
-routine-requires c =
+pub routine-routine-requires : goal.routine-routine-requires
+routine-routine-requires c =
     subst (λ (n : ℕ). c.loop-index.index < n) c.catalogue_size-index-end.ensures.is c.loop-index-test.true
 
 pub loop-index-preserved : goal.loop-index-preserved
 loop-index-preserved c =
     let text = c.args.name.now in
     let other : bytes_eq (entry c.loop-index.index).name text ≡ false =
-    ap (λ (r : ℕ). bytes_eq (entry r).name text) (sym c.routine.ensures)
+    ap (λ (r : ℕ). bytes_eq (entry r).name text) (sym c.routine-routine.ensures)
     ∙ ap (λ (name : List ℕ). bytes_eq name text) (sym c.name.ensures) ∙ sym c.eq.ensures ∙ c.if-eq.false in
     sym (passed_over text c.loop-index.index
     (subst (λ (n : ℕ). c.loop-index.index < n) c.catalogue_size-index-end.ensures.is c.loop-index-test.true) other)
@@ -22,9 +22,9 @@ pub returns-then-eq : goal.returns-then-eq
 returns-then-eq c =
     let text = c.args.name.now in
     let same : bytes_eq (entry c.loop-index.index).name text ≡ true =
-    ap (λ (r : ℕ). bytes_eq (entry r).name text) (sym c.routine.ensures)
+    ap (λ (r : ℕ). bytes_eq (entry r).name text) (sym c.routine-routine.ensures)
     ∙ ap (λ (name : List ℕ). bytes_eq name text) (sym c.name.ensures) ∙ sym c.eq.ensures ∙ c.if-eq.true in
-    ap Some c.routine-then-eq.ensures
+    ap Some c.routine-routine.ensures
     ∙ sym (found text c.loop-index.index
     (subst (λ (n : ℕ). c.loop-index.index < n) c.catalogue_size-index-end.ensures.is c.loop-index-test.true) same)
     ∙ c.loop-index.invariant

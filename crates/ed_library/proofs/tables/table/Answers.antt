@@ -1,4 +1,4 @@
-use Rattle.std.proofs.Common.{◌<◌, refl, sym, subst, ap, arith, ℕ}
+use Rattle.std.proofs.Common.{◌<◌, refl, sym, ap, arith, ℕ}
 use Rattle.ed_library.specs.Entries.{entry}
 use Rattle.ed_library.proofs.tables.table.Goals as goal
 
