@@ -34,7 +34,9 @@ pub name_alone : (arguments : List (Bor Text)) (x : Bor Text) → 1 ≤ length a
 name_alone [] x least most h = absurd (omega (arith, least))
 name_alone (name ∷ []) x least most h =
     let is = bytes_eq name.now in
-    rw (differs name.now (codes "newline") h) (neither (is (codes "print")) _ (neither (is (codes "read")) _ (neither (is (codes "divide")) _ (neither (is (codes "root")) _ (neither (is (codes "check")) None refl)))))
+    rw (differs name.now (codes "newline") h)
+    (neither (is (codes "print")) _ (neither (is (codes "read")) _ (neither (is (codes "divide")) _
+    (neither (is (codes "root")) _ (neither (is (codes "check")) None refl)))))
 name_alone (name ∷ more ∷ others) x least most h = absurd (omega (arith, most))
 
 -- a name and two numbers are a call only if it is `divide`
@@ -45,7 +47,9 @@ two_numbers (name ∷ []) x least most h = absurd (omega (arith, least))
 two_numbers (name ∷ n ∷ []) x least most h = absurd (omega (arith, least))
 two_numbers (name ∷ n ∷ by ∷ []) x least most h =
     let is = bytes_eq name.now in
-    rw (differs name.now (codes "divide") h) (neither (is (codes "print")) _ (neither (is (codes "read")) _ (neither (is (codes "newline")) _ (neither (is (codes "root")) _ (neither (is (codes "check")) None refl)))))
+    rw (differs name.now (codes "divide") h)
+    (neither (is (codes "print")) _ (neither (is (codes "read")) _ (neither (is (codes "newline")) _
+    (neither (is (codes "root")) _ (neither (is (codes "check")) None refl)))))
 two_numbers (name ∷ n ∷ by ∷ more ∷ others) x least most h = absurd (omega (arith, most))
 
 -- no arguments, and too many

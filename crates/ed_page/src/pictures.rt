@@ -15,7 +15,7 @@ ghost use Rattle.ed_page.specs.Pictures.{Pictures, run_settings, size_shown};
 ghost use Rattle.ed_page.specs.Private.Asked.{answers_of, ends_of};
 ghost use Rattle.ed_page.specs.Private.Stages.{WritesBuffers, told_outcome};
 
-use crate::running::{Program, picture_of, run_settings};
+use crate::running::{ProgramKind, picture_of, run_settings};
 use crate::told::{NO_MEMORY, NO_ROOM, TOO_LONG_STATUS, write_texts};
 use crate::writing::{Lengths, Registers, no_registers, registers_of, write_store};
 use ed_answers::{INPUT_BYTES, Rejection, TOO_LONG};
@@ -55,7 +55,7 @@ pub extern "C" fn page_tape(
     let settings = run_settings(small, orders, resumes);
     draw(
         alloc,
-        Program::Tape,
+        ProgramKind::Tape,
         settings,
         text,
         words,
@@ -90,7 +90,7 @@ pub extern "C" fn page_tape1(
     let settings = run_settings(false, orders, resumes);
     draw(
         alloc,
-        Program::Tape1,
+        ProgramKind::Tape1,
         settings,
         text,
         words,
@@ -127,7 +127,7 @@ pub extern "C" fn page_source(
     let settings = run_settings(small, orders, resumes);
     draw(
         alloc,
-        Program::Source,
+        ProgramKind::Source,
         settings,
         text,
         words,
@@ -141,7 +141,7 @@ pub extern "C" fn page_source(
 /// Writes what is shown of the run of a program, if the buffers have room.
 fn draw(
     alloc: Global,
-    program: Program,
+    kind: ProgramKind,
     settings: Settings,
     text: &[u8],
     words: &mut [u32],
@@ -151,7 +151,7 @@ fn draw(
     registers: &mut Registers,
 ) -> u32
     requires { settings.post_mortem ≡ None }
-    ensures { IsShown (of_input (answers_of program settings)) (ends_of program settings) text.now
+    ensures { IsShown (of_input (answers_of kind settings)) (ends_of kind settings) text.now
         (picture_buffers words.old digits.old paper.old note.old registers.old)
         (picture_buffers words.new digits.new paper.new note.new registers.new) result }
 {
@@ -171,7 +171,7 @@ fn draw(
             registers,
         );
     }
-    match picture_of(alloc, program, settings, text) {
+    match picture_of(alloc, kind, settings, text) {
         Ok(shown) => show(
             &shown.reply.out,
             &shown.reply.note,

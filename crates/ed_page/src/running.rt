@@ -13,9 +13,9 @@ use ed_report::ending_text;
 use ed_words::Size;
 use std::alloc::Global;
 
-/// A program that is run.
+/// The kind of a program that is run.
 #[derive(Drop)]
-pub enum Program {
+pub enum ProgramKind {
     /// A tape for the 41 Initial Orders.
     Tape,
     /// A tape for the Initial Orders of May 1949.
@@ -53,14 +53,14 @@ pub fn run_settings(small: bool, orders: u32, resumes: u32) -> Settings
 /// What is shown of the run of a text.
 pub fn picture_of(
     alloc: Global,
-    program: Program,
+    kind: ProgramKind,
     settings: Settings,
     text: &[u8],
 ) -> Result<Shown, Rejection>
     requires { settings.post_mortem ≡ None }
-    ensures { Draws (answers_of program settings) (ends_of program settings) text.now result }
+    ensures { Draws (answers_of kind settings) (ends_of kind settings) text.now result }
 {
-    let NotedRun { ran, note } = run_program(alloc, program, settings, text)?;
+    let NotedRun { ran, note } = run_program(alloc, kind, settings, text)?;
     let reply = ran_reply(alloc, &ran, note)?;
     Ok(Shown {
         reply,
@@ -71,17 +71,17 @@ pub fn picture_of(
 /// The run of a text, with its note.
 fn run_program(
     alloc: Global,
-    program: Program,
+    kind: ProgramKind,
     settings: Settings,
     text: &[u8],
 ) -> Result<NotedRun, Rejection>
     requires { settings.post_mortem ≡ None }
-    ensures { Runs (answers_of program settings) (ends_of program settings) text.now result }
+    ensures { Runs (answers_of kind settings) (ends_of kind settings) text.now result }
 {
-    match program {
-        Program::Tape => noted(alloc, run_rows(alloc, settings, rows_of(alloc, text)?)?),
-        Program::Tape1 => noted(alloc, run_rows1(alloc, settings, rows_of(alloc, text)?)?),
-        Program::Source => {
+    match kind {
+        ProgramKind::Tape => noted(alloc, run_rows(alloc, settings, rows_of(alloc, text)?)?),
+        ProgramKind::Tape1 => noted(alloc, run_rows1(alloc, settings, rows_of(alloc, text)?)?),
+        ProgramKind::Source => {
             let linked = linked_of(alloc, settings.size, text)?;
             Ok(run_linked(alloc, settings, &linked)?)
         }

@@ -12,8 +12,8 @@ use Rattle.ed_page.specs.Answers.{SourceEnds, Tape1Ends, TapeEnds, source_rows}
 use Rattle.ed_page.specs.TapeItems.{IsItemsOutcome, IsItemsOutcome1}
 use Rattle.ed_page.specs.declared.asked.Asked.{Asked}
 use Rattle.ed_page.specs.declared.asked.Asked.TheVariants.{Rows, Items, Items1, SourceRows, Punch, Listing}
-use Rattle.ed_page.specs.declared.running.Program.{Program}
-use Rattle.ed_page.specs.declared.running.Program.TheVariants.{Tape, Tape1, Source}
+use Rattle.ed_page.specs.declared.running.ProgramKind.{ProgramKind}
+use Rattle.ed_page.specs.declared.running.ProgramKind.TheVariants.{Tape, Tape1, Source}
 
 -- the outcomes of a text that is not too long, by what is asked about it
 abbrev pub answers_to : Asked → Text → Outcome → Type 0
@@ -25,13 +25,13 @@ answers_to (Punch s) = OfSource s.size punch_outcome
 answers_to (Listing s) = OfSource s.size listing_outcome
 
 -- the outcomes of the run of a program
-abbrev pub answers_of : Program → Settings → Text → Outcome → Type 0
+abbrev pub answers_of : ProgramKind → Settings → Text → Outcome → Type 0
 answers_of Tape s = λ text. OfReading (exactly (tape_outcome s)) (reading text)
 answers_of Tape1 s = λ text. OfReading (exactly (tape1_outcome s)) (reading text)
 answers_of Source s = OfSource s.size (run_outcome s)
 
 -- the state in which the run of a program ends
-abbrev pub ends_of : Program → Settings → Text → State → Type 0
+abbrev pub ends_of : ProgramKind → Settings → Text → State → Type 0
 ends_of Tape s = TapeEnds s
 ends_of Tape1 s = Tape1Ends s
 ends_of Source s = SourceEnds s

@@ -10,20 +10,20 @@ use Rattle.ed_page.proofs.pictures.draw.Goals as goal
 
 pub returns-then-words-ne1024 : goal.returns-then-words-ne1024
 returns-then-words-ne1024 c =
-    picture_early (answers_of c.args.program c.args.settings) (ends_of c.args.program c.args.settings)
+    picture_early (answers_of c.args.kind c.args.settings) (ends_of c.args.kind c.args.settings)
     c.args.text.now
     (picture_buffers c.args.words.now c.args.digits.now c.args.paper.now c.args.note.now c.args.registers.now)
-    (program_due c.args.program c.args.settings c.args.text.now) c.then-words-ne1024.either
+    (program_due c.args.kind c.args.settings c.args.text.now) c.then-words-ne1024.either
 
 pub returns-then-text-gt-INPUT_BYTES : goal.returns-then-text-gt-INPUT_BYTES
 returns-then-text-gt-INPUT_BYTES c =
-    long_shown (answers_of c.args.program c.args.settings) (ends_of c.args.program c.args.settings) c.args.text.now
+    long_shown (answers_of c.args.kind c.args.settings) (ends_of c.args.kind c.args.settings) c.args.text.now
     (c.if-words-ne1024.false, c.if-digits-ne512.false) c.if-text-gt-INPUT_BYTES.true
     c.show.ensures
 
 pub returns-in-Ok : goal.returns-in-Ok
 returns-in-Ok c =
-    picture_shown (answers_of c.args.program c.args.settings) (ends_of c.args.program c.args.settings) c.args.text.now
+    picture_shown (answers_of c.args.kind c.args.settings) (ends_of c.args.kind c.args.settings) c.args.text.now
     (c.if-words-ne1024.false, c.if-digits-ne512.false) c.if-text-gt-INPUT_BYTES.false
     c.in-Ok.ensures c.deref.ensures.value c.deref-in-Ok.ensures.value c.show-in-Ok.ensures
 
@@ -60,21 +60,21 @@ show-requires-in-Ok-clause-found c = found_status c.in-Ok.ensures.0.2
 pub show-requires-in-Err-Refused-clause-low : goal.show-requires-in-Err-Refused-clause-low
 show-requires-in-Err-Refused-clause-low c = low_status
     (subst
-    (λ (e : Rejection). Draws (answers_of c.args.program c.args.settings) (ends_of c.args.program c.args.settings)
+    (λ (e : Rejection). Draws (answers_of c.args.kind c.args.settings) (ends_of c.args.kind c.args.settings)
     c.args.text.now (Err e))
     c.in-Err-Refused.field-0-is c.in-Err-Refused.ensures).0.2
 
 pub show-requires-in-Err-Refused-clause-found : goal.show-requires-in-Err-Refused-clause-found
 show-requires-in-Err-Refused-clause-found c = found_status
     (subst
-    (λ (e : Rejection). Draws (answers_of c.args.program c.args.settings) (ends_of c.args.program c.args.settings)
+    (λ (e : Rejection). Draws (answers_of c.args.kind c.args.settings) (ends_of c.args.kind c.args.settings)
     c.args.text.now (Err e))
     c.in-Err-Refused.field-0-is c.in-Err-Refused.ensures).0.2
 
 pub returns-in-Err-Refused : goal.returns-in-Err-Refused
 returns-in-Err-Refused c =
-    let answers = answers_of c.args.program c.args.settings in
-    let Ends = ends_of c.args.program c.args.settings in
+    let answers = answers_of c.args.kind c.args.settings in
+    let Ends = ends_of c.args.kind c.args.settings in
     picture_shown answers Ends c.args.text.now (c.if-words-ne1024.false, c.if-digits-ne512.false)
     c.if-text-gt-INPUT_BYTES.false
     (subst (λ (e : Rejection). Draws answers Ends c.args.text.now (Err e)) c.in-Err-Refused.field-0-is
@@ -83,7 +83,7 @@ returns-in-Err-Refused c =
 
 pub returns-in-Err-Memory : goal.returns-in-Err-Memory
 returns-in-Err-Memory c =
-    picture_unmade (answers_of c.args.program c.args.settings) (ends_of c.args.program c.args.settings)
+    picture_unmade (answers_of c.args.kind c.args.settings) (ends_of c.args.kind c.args.settings)
     c.args.text.now
     (picture_buffers c.args.words.now c.args.digits.now c.args.paper.now c.args.note.now c.args.registers.now)
     (c.if-words-ne1024.false, c.if-digits-ne512.false)
