@@ -87,7 +87,7 @@ fn push_digits(rows: &mut Vec<Code>, number: u16, powers: &[u16]) -> Result<(), 
     Ok(())
 }
 
-/// A row.
+/// Adds a row.
 fn push_row(rows: &mut Vec<Code>, row: Code) -> Result<(), NoMemory>
     ensures { IfOk result (λ v. rows.new.items ≡ rows.old.items ++ row ∷ []) }
 {

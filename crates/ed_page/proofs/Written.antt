@@ -70,7 +70,7 @@ told_nowhere o {out} {note} {out_after} {note_after} {kept} is w =
 
 -- ---- a text
 
--- what is told of a reply is the outcome that it gives
+-- the texts and the status of a reply are the outcome that it gives
 reply_is : (o : Outcome) {reply : Reply} {answer line : Text} → Gives reply o → answer ≡ reply.out.items
     → line ≡ reply.note.items → told_outcome answer line reply.status ≡ o
 reply_is o g out note =

@@ -37,7 +37,7 @@ module _ {A : Type 0} (p : A → Bool) (xs : List A) (i : ℕ) where
   one_more false x below is same before =
       ap (λ (t : Bool). t || list_any p (drop (i + 1) xs)) same ∙ sym (next x below is) ∙ before
 
-  -- none is left
+  -- no element is left
   pub none_left : {whole b : Bool} → length xs ≤ i → (b || list_any p (drop i xs)) ≡ whole → b ≡ whole
   none_left {b = true} past before = before
   none_left {b = false} past before = sym (at_drop_all (list_any p) xs i past) ∙ before

@@ -79,7 +79,7 @@ abbrev pub sets_otherwise : Option Statement → Bool
 sets_otherwise (Some (Fetch routine name ts)) = not (sets ts.items (find routine))
 sets_otherwise st = false
 
--- S14 or S15
+-- S14 if the catalogue has no such routine, or else S15 if not exactly its parameters are set
 abbrev pub use_cause : Option Statement → Option SourceCause
 use_cause st =
     if has_no_routine st then Some causes.NoSuchRoutine
