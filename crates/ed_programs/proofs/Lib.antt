@@ -23,7 +23,6 @@ pub mod SortProgram
 pub mod SortLists
 pub mod SortRuns
 pub mod Divides
-pub mod Weaving
 pub mod FractionProgram
 pub mod FractionWhole
 pub mod FractionRuns

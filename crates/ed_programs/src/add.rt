@@ -2,8 +2,8 @@ ghost use Rattle.std.specs.Prelude.{◌≡◌, ◌+◌, ◌<◌, None};
 ghost use Rattle.ed_programs.specs.Add.{add_orders, add_prints, add_refusal, add_text};
 ghost use Rattle.ed_programs.specs.Programs.{GivesProgram, Prints};
 
-use crate::refusal::{LIMIT, Refusal, program_of_text};
-use crate::woven::with_numbers;
+use crate::refusal::{LIMIT, Refusal};
+use crate::woven::woven;
 use std::alloc::Global;
 
 /// The source, with a gap for each number.
@@ -42,6 +42,5 @@ pub fn add_program(alloc: Global, first: u16, second: u16) -> Result<String, Ref
     if LIMIT <= first as u32 + (second as u32) {
         return Err(Refusal::Number);
     }
-    let [head, between, tail] = ADD;
-    program_of_text(with_numbers(alloc, head, &[first, second], between, tail))
+    woven(alloc, &ADD, &[first, second])
 }

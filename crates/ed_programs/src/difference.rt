@@ -2,8 +2,8 @@ ghost use Rattle.std.specs.Prelude.{None};
 ghost use Rattle.ed_programs.specs.Difference.{difference_orders, difference_prints, difference_text};
 ghost use Rattle.ed_programs.specs.Programs.{GivesProgram, Prints};
 
-use crate::refusal::{Refusal, program_of_text};
-use crate::woven::with_numbers;
+use crate::refusal::Refusal;
+use crate::woven::woven;
 use std::alloc::Global;
 
 /// The source, with a gap for each number.
@@ -45,6 +45,5 @@ pub fn difference_program(alloc: Global, first: u16, second: u16) -> Result<Stri
     ensures is { GivesProgram None (difference_text first second) result }
     ensures law { Prints (difference_orders first second) 72 (difference_prints first second) result }
 {
-    let [head, between, tail] = DIFFERENCE;
-    program_of_text(with_numbers(alloc, head, &[first, second], between, tail))
+    woven(alloc, &DIFFERENCE, &[first, second])
 }

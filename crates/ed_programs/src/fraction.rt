@@ -3,6 +3,7 @@ ghost use Rattle.ed_programs.specs.Fraction.{fraction_orders, fraction_prints, f
 ghost use Rattle.ed_programs.specs.Programs.{GivesProgram, Prints};
 
 use crate::refusal::Refusal;
+use crate::woven::woven;
 use std::alloc::Global;
 
 /// The greatest lower number of a fraction: ten times a remainder must be below 65,536.
@@ -84,6 +85,5 @@ pub fn fraction_program(
     if lower == 0 || MOST_LOWER < lower {
         return Err(Refusal::Divisor);
     }
-    let [head, first, second, tail] = FRACTION;
-    Ok(format!(in alloc; "{head}{upper}{first}{lower}{second}{places}{tail}")?)
+    woven(alloc, &FRACTION, &[upper, lower, places])
 }

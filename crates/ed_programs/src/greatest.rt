@@ -1,8 +1,8 @@
 ghost use Rattle.ed_programs.specs.Greatest.{greatest_orders, greatest_prints, greatest_refusal, greatest_text};
 ghost use Rattle.ed_programs.specs.Programs.{GivesProgram, Prints};
 
-use crate::refusal::{Refusal, program_of_text};
-use crate::woven::with_numbers;
+use crate::refusal::Refusal;
+use crate::woven::woven;
 use std::alloc::Global;
 
 /// The source before the first number and after the last.
@@ -51,5 +51,8 @@ pub fn greatest_program(alloc: Global, numbers: &[u16]) -> Result<String, Refusa
         return Err(Refusal::Count);
     }
     let [head, tail] = GREATEST;
-    program_of_text(with_numbers(alloc, head, numbers, "\nword ", tail))
+    let mut pieces = ["\nword "; 9];
+    pieces[0] = head;
+    pieces[8] = tail;
+    woven(alloc, &pieces, numbers)
 }

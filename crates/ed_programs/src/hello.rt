@@ -3,7 +3,7 @@ ghost use Rattle.ed_programs.specs.Hello.{of_letters};
 ghost use Rattle.ed_programs.specs.Programs.{GivesProgram, Prints};
 
 use crate::letters::check_letters;
-use crate::refusal::Refusal;
+use crate::refusal::{Refusal, program_of_text};
 use std::alloc::Global;
 
 /// The source, with a gap for the number of the text's rows and one for the text.
@@ -45,5 +45,5 @@ pub fn hello_program(alloc: Global, letters: &str) -> Result<String, Refusal>
     check_letters(letters, MOST_LETTERS)?;
     let rows = letters.len() + 1;
     let [head, middle, tail] = HELLO;
-    Ok(format!(in alloc; "{head}{rows}{middle}*{letters}{tail}")?)
+    program_of_text(format!(in alloc; "{head}{rows}{middle}*{letters}{tail}"))
 }

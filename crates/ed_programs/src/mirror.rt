@@ -3,7 +3,7 @@ ghost use Rattle.ed_programs.specs.Programs.{GivesProgram};
 ghost use Rattle.ed_programs.specs.Tapes.{TapePrints};
 
 use crate::letters::check_letters;
-use crate::refusal::Refusal;
+use crate::refusal::{Refusal, program_of_text};
 use std::alloc::Global;
 
 /// The tape before its last line, and the end of that line.
@@ -52,5 +52,5 @@ pub fn mirror_program(alloc: Global, letters: &str) -> Result<String, Refusal>
     check_letters(letters, MOST_LETTERS)?;
     let count = letters.len();
     let [tape, end] = MIRROR;
-    Ok(format!(in alloc; "{tape}{count}{letters}{end}")?)
+    program_of_text(format!(in alloc; "{tape}{count}{letters}{end}"))
 }

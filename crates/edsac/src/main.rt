@@ -25,8 +25,9 @@ fn main(rt: HostRuntime) -> ExitCode {
 fn words(rt: &HostRuntime) -> Result<Vec<String>, AllocError> {
     let mut words = Vec::new(rt.alloc());
     match std::env::args(rt) {
-        Ok(args) => {
-            for word in args.skip(1) {
+        Ok(mut args) => {
+            args.next();
+            for word in args {
                 words.push(word)?;
             }
         }

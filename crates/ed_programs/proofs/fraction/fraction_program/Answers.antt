@@ -1,12 +1,12 @@
 use Rattle.std.proofs.Common.{arith}
 use Rattle.ed_programs.proofs.FractionRuns.{each_fraction}
-use Rattle.ed_programs.proofs.Texts.{runs_as}
+use Rattle.ed_programs.proofs.Texts.{prints_as}
 use Rattle.ed_programs.proofs.fraction.fraction_program.Goals as goal
 
 pub returns-clause-law : goal.returns-clause-law
 returns-clause-law c =
     let some = c.if-lower-eq0.false in
     let few = c.if-lower-gt-MOST_LOWER.false in
-    runs_as c.in_ok-format.ensures.ok
+    prints_as _ c.woven.result c.woven.ensures
     (each_fraction c.args.upper c.args.lower c.args.places c.ranges.upper.fits (omega arith) (omega arith)
     c.ranges.places.fits)

@@ -1,8 +1,6 @@
-use Rattle.std.proofs.Common.{Ok, refl}
 use Rattle.ed_programs.proofs.FirstTapeRuns.{first_tape_prints_of}
 use Rattle.ed_programs.proofs.SquaresRuns.{squares_run}
 use Rattle.ed_programs.proofs.squares.squares_program.Goals as goal
 
 pub returns-clause-law : goal.returns-clause-law
-returns-clause-law c =
-    first_tape_prints_of (Ok c.in_ok-format.field-0) (refl, c.in_ok-format.ensures.ok) squares_run
+returns-clause-law c = first_tape_prints_of c.woven.result c.woven.ensures squares_run
