@@ -1,18 +1,17 @@
 -- One more order of a run.
 use Rattle.std.proofs.Common.{◌≡◌, ℕ, ◌+◌, ◌-◌, ◌<◌, ◌≤◌, ◌++◌, refl, sym, ap, ◌∙◌, arith}
-use Rattle.std.proofs.Common.{below_more, Bool, true, false, nat_le, Option, None, []}
-use Rattle.std.proofs.Common.{◌∷◌, length, append_assoc, append-nil, length-append, ◌⊎◌, inl, inr, subst}
+use Rattle.std.proofs.Common.{below_more, Bool, true, false, nat_le, Option, None, Some, []}
+use Rattle.std.proofs.Common.{length, append_assoc, append-nil, length-append, ◌⊎◌, inl, inr, subst}
 use Rattle.std.proofs.lemmas.Bool.Decides.{nat_tests}
 use Rattle.ed_words.proofs.Numbers.{lt_true, lt_false, eq_false}
 use Rattle.ed_machine.specs.State.{State}
 use Rattle.ed_machine.specs.OrderTable.{step}
-use Rattle.std.specs.Bool.{OnTrue}
 use Rattle.ed_machine.specs.Steps.{Progress, codes_of, is_obeyed, stops_of, progress}
 use Rattle.ed_machine.specs.Sheet.{Sheet}
 use Rattle.ed_machine.specs.declared.turn.Turn.{Turn}
 use Rattle.ed_machine.specs.declared.turn.Turn.TheVariants.{Went, Printed, Stopped as Stops, NoOrder, NoTape}
 use Rattle.ed_machine.specs.declared.ending.Ending.{Ending}
-use Rattle.ed_machine.specs.declared.ending.Ending.TheVariants.{Stopped}
+use Rattle.ed_machine.specs.declared.ending.Ending.TheVariants.{Stopped, PaperFull}
 use Rattle.ed_machine.proofs.Steps.{past_next}
 use Rattle.ed_run.specs.Run.{end_by, end_at, prints, IsRun}
 
@@ -135,6 +134,16 @@ module _ {limit resumes : ℕ} {s : State} {sheet : Sheet} {k : ℕ} {m : State}
   pub later : {n : ℕ} → k ≡ n → Running limit resumes s sheet n m paper stops
   later is = subst (λ j. Running limit resumes s sheet j m paper stops) is r
 
+  -- the run ends before an order that would end it
+  pub ends_here : {ending : Ending} → k < limit → end_by (step m).turn (is_full paper) ≡ Some ending
+      → IsRun limit resumes s sheet ending m paper
+  ends_here below is = record {
+    orders = k;
+    ends = record { now = next_end below ∙ is; first = r.first };
+    state_is = r.state;
+    sheet_is = r.codes;
+  }
+
   -- the run ends with a stop for which no resume is left
   pub ends_with_stop : {m' : State} {paper' : Sheet} {stops' : ℕ} → k < limit
       → Took m paper stops Stops m' paper' stops' → resumes < stops' → IsRun limit resumes s sheet Stopped m' paper'
@@ -148,6 +157,14 @@ module _ {limit resumes : ℕ} {s : State} {sheet : Sheet} {k : ℕ} {m : State}
         state_is = now.0;
         sheet_is = now.1;
       }
+
+-- an order that prints ends the run if the paper is full
+pub full_ends : (turn : Turn) (full : Bool) → full ≡ true → prints turn ≡ true → end_by turn full ≡ Some PaperFull
+full_ends (Printed code) full is printing = rw is refl
+full_ends Went full is printing = absurd (cc)
+full_ends Stops full is printing = absurd (cc)
+full_ends (NoOrder function) full is printing = absurd (cc)
+full_ends NoTape full is printing = absurd (cc)
 
 -- an order that was obeyed doesn't end the run if the paper has room or nothing is printed
 pub none_ends : (turn : Turn) (full : Bool) → is_obeyed turn ≡ true → (full ≡ false) ⊎ (prints turn ≡ false)

@@ -7,13 +7,18 @@ use Rattle.ed_machine.specs.State.{State}
 use Rattle.ed_machine.specs.declared.turn.Turn.{Turn}
 use Rattle.ed_machine.proofs.Keeping.{step_leaves}
 use Rattle.ed_run.specs.Run.{prints}
-use Rattle.ed_run.proofs.Pasts.{at_first, goes_on, later, ends_with_stop, none_ends, silent}
+use Rattle.ed_run.proofs.Pasts.{at_first, goes_on, later, ends_here, ends_with_stop, full_ends, none_ends, silent}
 use Rattle.ed_run.proofs.run_orders.Goals as goal
 
 pub loop-machine-init : goal.loop-machine-init
 loop-machine-init c =
     let none : 0 ≡ c.args.machine.now.orders - c.args.machine.now.orders = omega arith in
     record { running = later (at_first _ _ _ _) none; later = omega arith; below = omega arith }
+
+pub returns-then-batch-eq0 : goal.returns-then-batch-eq0
+returns-then-batch-eq0 c =
+    let none = c.batch-batch.ensures.none c.if-batch-eq0.true in
+    ends_here c.loop-machine.invariant.running (omega arith) (full_ends _ _ none.0 none.1)
 
 pub returns-then-stops-resumes : goal.returns-then-stops-resumes
 returns-then-stops-resumes c =
