@@ -1,7 +1,8 @@
 -- The weights of a guest's orders, if the weight of an order is the number of orders of its turn.
-use Rattle.std.proofs.Common.{◌≡◌, ℕ, zero, suc, ◌+◌, refl, ap, ◌∙◌, subst, arith}
+use Rattle.std.proofs.Common.{◌≡◌, ℕ, zero, suc, ◌+◌, ◌≤◌, refl, ap, ◌∙◌, subst, arith}
 use Rattle.std.proofs.Common.{Bool, true, false, ◌&&◌, not, nat_eq, List, [], ◌∷◌, Option, Some, None, get_or}
 use Rattle.std.proofs.lemmas.Bool.{and_parts, not-true}
+use Rattle.std.proofs.lemmas.Bool.Decides.{nat_tests}
 use Rattle.ed_words.specs.Words.{function_of}
 use Rattle.ed_words.proofs.Numbers.{eq_of}
 use Rattle.ed_orders.specs.Kinds.{kind_of_function, kinds}
@@ -39,6 +40,10 @@ weighs_at (k ∷ ks) i (suc n) h =
     let e : i + 1 + n ≡ i + suc n = omega arith in
     subst (λ j. weighs_as j (get_or ks n None) ≡ true) e
     (weighs_at ks (i + 1) n (and_parts (weighs_as i k) (all_weigh ks (i + 1)) h).1)
+
+-- a turn has at most 35 orders
+pub few_orders : (function acc : ℕ) → orders_by function acc ≤ 35
+few_orders function acc = grind (arith, nat_tests)
 
 -- an order that is not a jump: the accumulator makes no difference
 no_jump : (n v acc : ℕ) → (not (nat_eq n 3) && (not (nat_eq n 27) && nat_eq (orders_by n 0) v)) ≡ true

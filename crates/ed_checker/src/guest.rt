@@ -44,8 +44,7 @@ pub(crate) fn guest_acc(machine: &Machine, base: u16) -> u128
 /// The number of orders that the routine obeys for the guest's next one.
 pub(crate) fn turn_orders(machine: &Machine, base: u16) -> u64
     requires { base + 66 ≤ locations machine.now.size }
-    ensures is { result ≡ turn_orders (guest base machine.now) }
-    ensures few { result ≤ 35 }
+    ensures { result ≡ turn_orders (guest base machine.now) }
 {
     let positive = guest_acc(machine, base) < 1 << 70;
     match guest_word(machine, base).order().function {

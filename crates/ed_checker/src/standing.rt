@@ -6,10 +6,13 @@ ghost use Rattle.ed_routines.specs.Catalogue.{with_h};
 ghost use Rattle.ed_checker.specs.Checker.{CheckerStands, HasImage, check};
 
 use crate::places::{FETCH, LOW, MIDDLE};
-use ed_library::{Parameters, Routine, routine};
+use ed_library::{Parameters, routine};
 use ed_machine::Machine;
 use ed_routines::has_image as has_image_of;
 use ed_words::Word;
+
+/// The index of the routine in the catalogue.
+const CHECK: u16 = 0;
 
 /// Whether the routine is at `base`, at the beginning of a turn.
 ///
@@ -21,26 +24,14 @@ pub fn checker_stands(machine: &Machine, base: u16) -> bool
     ensures { IsTrue result ↔ CheckerStands base machine.now }
 {
     let _ = machine.size().value();
-    if machine.counter() != base {
-        return false;
-    }
-    if machine.acc() != 0 {
-        return false;
-    }
-    if !has_image(machine, base) {
-        return false;
-    }
-    if !fetches(machine, base) {
-        return false;
-    }
-    if machine.long(base + MIDDLE).value() >= 1 << 34 {
-        return false;
-    }
     let low = machine.long(base + LOW).value();
-    if low % (1 << 32) != 0 {
-        return false;
-    }
-    low < 1 << 34
+    machine.counter() == base
+        && machine.acc() == 0
+        && has_image(machine, base)
+        && fetches(machine, base)
+        && machine.long(base + MIDDLE).value() < 1 << 34
+        && low % (1 << 32) == 0
+        && low < 1 << 34
 }
 
 /// Whether the first word is A c F without the spare digit.
@@ -58,14 +49,7 @@ fn has_image(machine: &Machine, base: u16) -> bool
     requires { base + 66 ≤ locations machine.now.size }
     ensures { IsTrue result ↔ HasImage base machine.now }
 {
-    has_image_of(machine, &check(), base, &no_parameters())
-}
-
-/// The routine in the catalogue.
-fn check() -> Routine
-    ensures { result ≡ check }
-{
-    routine(0)
+    has_image_of(machine, &routine(CHECK), base, &no_parameters())
 }
 
 /// Preset parameters that are all 0.

@@ -1,9 +1,19 @@
-use Rattle.std.proofs.Common.{◌≤◌, ◌-◌, sym, ◌∙◌}
+use Rattle.std.proofs.Common.{◌≤◌, ◌-◌, sym, ◌∙◌, arith}
+use Rattle.ed_words.specs.Words.{function_of}
+use Rattle.ed_machine.specs.OrderTable.{next_word}
+use Rattle.ed_checker.specs.Checker.{guest}
 use Rattle.ed_checker.specs.Contract.{ChecksOne}
 use Rattle.ed_checker.specs.declared.checking.Checking.TheVariants.{Blocked as IsBlocked}
 use Rattle.ed_checker.proofs.Follow.{checker_law}
+use Rattle.ed_checker.proofs.Weights.{few_orders}
 use Rattle.ed_checker.proofs.Whole.{IsTurn, when_blocked, when_done}
 use Rattle.ed_checker.proofs.checking.check_one.Goals as goal
+
+pub run-requires : goal.run-requires
+run-requires c =
+    let g = guest c.args.base c.args.machine.now in
+    let few = few_orders (function_of (next_word g)) g.acc in
+    omega (arith, few, c.turn_orders-orders.ensures, c.requires.orders)
 
 -- the run is a turn of the routine
 turn_blocked : (c : goal.In-NoOrder) → IsTurn c.args.base c.turn_orders-orders.result c.args.machine.now
@@ -15,7 +25,7 @@ turn_blocked c = record {
   stands = c.requires.stands;
   allowed = c.requires.allowed;
   space = c.requires.room;
-  count_is = c.turn_orders-orders.ensures.is;
+  count_is = c.turn_orders-orders.ensures;
   run = c.run.ensures.ends;
 }
 
@@ -40,7 +50,7 @@ returns-then-stops c =
       stands = c.requires.stands;
       allowed = c.requires.allowed;
       space = c.requires.room;
-      count_is = c.turn_orders-orders.ensures.is;
+      count_is = c.turn_orders-orders.ensures;
       run = c.run.ensures.ends;
     } in
     record {
@@ -59,7 +69,7 @@ returns-else-stops c =
       stands = c.requires.stands;
       allowed = c.requires.allowed;
       space = c.requires.room;
-      count_is = c.turn_orders-orders.ensures.is;
+      count_is = c.turn_orders-orders.ensures;
       run = c.run.ensures.ends;
     } in
     record {
