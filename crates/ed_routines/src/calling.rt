@@ -24,7 +24,6 @@ pub fn way_back(machine: &Machine) -> u16
 }
 
 /// Obeys `count` orders.
-#[tactic(auto, unfolding(ed_machine::specs::Steps::progress))]
 pub fn obey_count(machine: &mut Machine, count: u64)
     requires { machine.old.orders + count ≤ 2 ^ 63 }
     ensures { machine.new ≡ state_after count machine.old }
