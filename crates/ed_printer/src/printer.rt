@@ -140,7 +140,9 @@ impl Printer {
         ensures shift { self.new ≡ shift_after self.old code }
         ensures law { IsInLatestShift }
     {
-        bytes_of(self.character(code))
+        let bytes = bytes_of(self.shift.character(code));
+        self.shift = self.shift.after(code);
+        bytes
     }
 
     /// The text that codes print. It is much faster than to strike them one by one: the text has room for all of them
@@ -166,17 +168,6 @@ impl Printer {
         }
         self.shift = shift;
         Ok(text)
-    }
-
-    /// The character of a code in the printer's shift; the printer is then in the shift that the code sets.
-    #[inline(always)]
-    fn character(&mut self, code: Code) -> u8
-        ensures bytes { bytes_of result ≡ struck_bytes self.old code }
-        ensures shift { self.new ≡ shift_after self.old code }
-    {
-        let character = self.shift.character(code);
-        self.shift = self.shift.after(code);
-        character
     }
 
     /// The shift that the printer is in.
