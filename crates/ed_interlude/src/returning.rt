@@ -27,10 +27,13 @@ const MOST: u32 = LEAST + 2 * 1023;
 pub fn is_returned(machine: &Machine) -> bool
     ensures { IsTrue result ↔ IsReturned machine.now }
 {
+    let order = directive(machine).value();
     machine.counter() == RETURN
         && machine.word(ONE).value() == 1
         && machine.multiplier().value() == MULTIPLIER
-        && leaves_directive(machine)
+        && order % 2 == 0
+        && LEAST <= order
+        && order <= MOST
         && are_listed(machine, 2, 20)
         && are_listed(machine, 21, 22)
         && are_listed(machine, 23, 40)
@@ -41,14 +44,6 @@ pub fn directive(machine: &Machine) -> Word
     ensures { result ≡ directive machine.now }
 {
     Word::of_number((machine.acc() >> 54) as u32)
-}
-
-/// Whether that word is an order T with length digit F and an address of at most 1023.
-fn leaves_directive(machine: &Machine) -> bool
-    ensures { IsTrue result ↔ LeavesDirective machine.now }
-{
-    let word = directive(machine).value();
-    word % 2 == 0 && LEAST <= word && word <= MOST
 }
 
 /// Whether the locations from `first` to before `end` hold the Initial Orders.

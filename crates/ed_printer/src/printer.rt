@@ -65,13 +65,6 @@ impl Shift {
         }
     }
 
-    /// The character of a code.
-    fn character(self, code: Code) -> u8
-        ensures { bytes_of result ≡ struck_bytes self code }
-    {
-        self.characters()[usize::from(code.value())]
-    }
-
     /// The shift after a code.
     fn after(self, code: Code) -> Shift
         ensures { result ≡ shift_after self code }
@@ -140,9 +133,9 @@ impl Printer {
         ensures shift { self.new ≡ shift_after self.old code }
         ensures law { IsInLatestShift }
     {
-        let bytes = bytes_of(self.shift.character(code));
+        let character = self.shift.characters()[usize::from(code.value())];
         self.shift = self.shift.after(code);
-        bytes
+        bytes_of(character)
     }
 
     /// The text that codes print. It is much faster than to strike them one by one: the text has room for all of them

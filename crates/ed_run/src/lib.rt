@@ -72,17 +72,14 @@ fn batch(machine: &Machine, most: u64, paper: &Paper) -> u64
     ensures room { (result ≤ paper.now.room - length paper.now.codes)
         ⊎ ((result ≡ 1) × (prints (step machine.now).turn ≡ false)) }
 {
-    if !is_full(paper) {
-        return most.min(paper.room_left() as u64);
+    let room = paper.room_left();
+    if room > 0 {
+        most.min(room as u64)
+    } else if prints_next(machine) {
+        0
+    } else {
+        1
     }
-    if prints_next(machine) { 0 } else { 1 }
-}
-
-/// Whether the paper has no room left.
-fn is_full(paper: &Paper) -> bool
-    ensures { result ≡ nat_le paper.now.room (length paper.now.codes) }
-{
-    paper.room_left() == 0
 }
 
 /// Whether the word at the counter is an order that prints.
@@ -91,20 +88,5 @@ fn prints_next(machine: &Machine) -> bool
     ensures { result ≡ prints (step machine.now).turn }
 {
     let word = machine.word(machine.counter());
-    match kind_of(word.order().function) {
-        Some(kind) => kind_prints(kind),
-        None => false,
-    }
-}
-
-/// Whether an order of this kind prints.
-fn kind_prints(kind: Kind) -> bool
-    ensures { (w : ℕ) (s : State) → result ≡ prints (obey kind w s).turn }
-{
-    match kind {
-        Kind::O => true,
-        Kind::A | Kind::S | Kind::H | Kind::V | Kind::N | Kind::T | Kind::U | Kind::C | Kind::R =>
-            false,
-        Kind::L | Kind::E | Kind::G | Kind::I | Kind::F | Kind::X | Kind::Y | Kind::Z => false,
-    }
+    matches!(kind_of(word.order().function), Some(Kind::O))
 }
