@@ -82,18 +82,28 @@ module _ (around : Moment) where
   -- one square n: the last one, q, and the odd number d; the next odd number is e
   module _ (k : Work) (v q d n e : ℕ) (last : Option ℕ) (sum : q + d ≡ n) (next : d + 2 ≡ e) (few : n ≤ 81)
       (small : d ≤ 17) where
-    adds : Path frame 9 (at 2 v (record k { square = 2 * q; odd = 2 * d }) last) []
-        (at 11 (2 * without n 0) (counting k v n e 0) last)
-    adds =
+    -- the next square
+    adds_number : Path frame 4 (at 2 v (record k { square = 2 * q; odd = 2 * d }) last) []
+        (at 6 0 (record k { scrap = v; square = 2 * n; odd = 2 * d }) last)
+    adds_number =
         on (T 2 (own 31) _ refl refl)
         (on (A 3 (own 32) (short (2 * q)) refl (omega arith))
         (on (A 4 (own 33) (short (2 * n)) refl (omega arith))
-        (on (T 5 (own 32) _ refl refl)
-        (on (A 6 (own 33) (short (2 * d)) refl (omega arith))
+        (on (T 5 (own 32) _ refl refl) stay)))
+
+    -- the odd number after it, and no tens yet
+    adds_two : Path frame 5 (at 6 0 (record k { scrap = v; square = 2 * n; odd = 2 * d }) last) []
+        (at 11 (2 * without n 0) (counting k v n e 0) last)
+    adds_two =
+        on (A 6 (own 33) (short (2 * d)) refl (omega arith))
         (on (A 7 (own 34) (short (2 * e)) refl (omega arith))
         (on (T 8 (own 33) _ refl refl)
         (on (T 9 (own 38) 0 refl refl)
-        (on (A 10 (own 32) (short (2 * without n 0)) refl (omega arith)) stay))))))))
+        (on (A 10 (own 32) (short (2 * without n 0)) refl (omega arith)) stay))))
+
+    adds : Path frame 9 (at 2 v (record k { square = 2 * q; odd = 2 * d }) last) []
+        (at 11 (2 * without n 0) (counting k v n e 0) last)
+    adds = followed adds_number adds_two
 
     -- one more ten
     ten : (j : ℕ) → j < n / 10
