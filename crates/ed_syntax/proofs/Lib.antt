@@ -1,24 +1,24 @@
-pub mod Faults
-pub mod FitLaws
-pub mod FormExamples
-pub mod FormLaws
+mod Faults
+mod FitLaws
+mod FormExamples
+mod FormLaws
 pub mod Formed
 pub mod LineLaws
 pub mod Lines
-pub mod NameLemmas
-pub mod Numbers
-pub mod OperandLaws
-pub mod Orders
+mod NameLemmas
+mod Numbers
+mod OperandLaws
+mod Orders
 pub mod PartLemmas
 pub mod PartTexts
 pub mod PartsLaws
-pub mod PlacedLaws
-pub mod Programs
-pub mod Ranges
-pub mod Readings
-pub mod SettingLaws
-pub mod Settings
+mod PlacedLaws
+mod Programs
+mod Ranges
+mod Readings
+mod SettingLaws
+mod Settings
 pub mod SourceLaws
-pub mod Splits
-pub mod StatementLaws
+mod Splits
+mod StatementLaws
 pub mod WrittenLaws

@@ -4,11 +4,10 @@ ghost use Rattle.std.specs.Option.{ok_or};
 ghost use Rattle.ed_syntax.specs.Versions.{is_second};
 ghost use Rattle.ed_syntax.specs.Private.Found.{form_result};
 ghost use Rattle.ed_syntax.specs.Private.Grammar.{base, enter, fetch, form_at};
-ghost use Rattle.ed_syntax.specs.Parts.{function};
 ghost use Rattle.ed_syntax.specs.Private.Grammar.{is_version_two, labelled_line, length_end};
-ghost use Rattle.ed_syntax.specs.Private.Grammar.{long, order, order_end, placed_statement, segment};
+ghost use Rattle.ed_syntax.specs.Private.Grammar.{order, order_end, placed_statement, segment};
 ghost use Rattle.ed_words.specs.Decimals.{value};
-ghost use Rattle.ed_syntax.specs.Private.Grammar.{statement, unlabelled_line, word};
+ghost use Rattle.ed_syntax.specs.Private.Grammar.{statement, unlabelled_line};
 ghost use Rattle.ed_syntax.specs.Private.Grammar as grammar;
 ghost use Rattle.ed_syntax.specs.Parts.{run};
 ghost use Rattle.ed_syntax.specs.Private.Seen.{part};
@@ -19,19 +18,9 @@ use crate::form::Form;
 use crate::operands::{operand, preset};
 use crate::parts::Part;
 use crate::terms::{integer, is, name, number, place_name, string};
-use ed_codes::{Code, row_of_byte};
+use ed_codes::row_of_byte;
 use ed_lines::{Operand, Statement};
 use ed_words::{Long, Word};
-
-/// A function, as its code.
-fn function(byte: u8) -> Result<Code, FormFault>
-    ensures { result ≡ ok_or (function byte) FormFault.NotThisForm }
-{
-    if byte.is_ascii_digit() {
-        return Err(FormFault::NotThisForm);
-    }
-    row_of_byte(byte).ok_or(FormFault::NotThisForm)
-}
 
 /// The length at the end of an order.
 fn length_end(parts: &[Part]) -> Result<bool, FormFault>
@@ -67,7 +56,12 @@ fn order_end(version: Version, parts: &[Part]) -> Result<(Option<Operand>, bool)
 fn order(version: Version, byte: u8, parts: &[Part]) -> Result<Statement, FormFault>
     ensures { result ≡ form_result (order (is_second version) byte (map part parts.now)) }
 {
-    let function = function(byte)?;
+    if byte.is_ascii_digit() {
+        return Err(FormFault::NotThisForm);
+    }
+    let Some(function) = row_of_byte(byte) else {
+        return Err(FormFault::NotThisForm);
+    };
     match order_end(version, parts) {
         Ok((Some(operand), length)) => Ok(Statement::Order {
             function,
@@ -77,28 +71,6 @@ fn order(version: Version, byte: u8, parts: &[Part]) -> Result<Statement, FormFa
         Ok((None, _)) => Err(FormFault::OutOfRange),
         Err(_) => Err(FormFault::NotThisForm),
     }
-}
-
-/// What follows `word`.
-fn word(parts: &[Part]) -> Result<Statement, FormFault>
-    ensures { result ≡ form_result (word (map part parts.now)) }
-{
-    let number = integer(65536, 131_071, parts)?;
-    let value = number.rem_euclid(1 << 17);
-    Ok(Statement::Number {
-        value: Word::of_number(value as u32),
-    })
-}
-
-/// What follows `long`.
-fn long(parts: &[Part]) -> Result<Statement, FormFault>
-    ensures { result ≡ form_result (long (map part parts.now)) }
-{
-    let number = integer(17_179_869_184, 34_359_738_367, parts)?;
-    let value = number.rem_euclid(1 << 35);
-    Ok(Statement::Long {
-        value: Long::of_number(value as u64),
-    })
 }
 
 /// What follows `enter`.
@@ -174,12 +146,18 @@ fn placed(version: Version, parts: &[Part]) -> Result<Statement, FormFault>
         Some((Part::Sign(byte), rest)) => order(version, *byte, rest),
         Some((Part::Run(keyword), rest)) => {
             if is(keyword, b"word") {
-                word(rest)
+                let number = integer(65536, 131_071, rest)?.rem_euclid(1 << 17);
+                Ok(Statement::Number {
+                    value: Word::of_number(number as u32),
+                })
             } else if is(keyword, b"text") {
                 let codes = string(rest)?;
                 Ok(Statement::Text { codes })
             } else if version.is_two() && is(keyword, b"long") {
-                long(rest)
+                let number = integer(17_179_869_184, 34_359_738_367, rest)?.rem_euclid(1 << 35);
+                Ok(Statement::Long {
+                    value: Long::of_number(number as u64),
+                })
             } else {
                 Err(FormFault::NotThisForm)
             }

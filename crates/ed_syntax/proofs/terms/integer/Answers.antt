@@ -2,6 +2,18 @@ use Rattle.std.proofs.Common.{arith}
 use Rattle.std.proofs.lemmas.Grind.{common_steps}
 use Rattle.ed_syntax.proofs.terms.integer.Goals as goal
 
+pub returns-in_err-number-in-Run : goal.returns-in_err-number-in-Run
+returns-in_err-number-in-Run c = grind (arith, common_steps)
+
+pub returns-in_err-number-in-Sign : goal.returns-in_err-number-in-Sign
+returns-in_err-number-in-Sign c = grind (arith, common_steps)
+
+pub returns-in_ok-number-in-Run : goal.returns-in_ok-number-in-Run
+returns-in_ok-number-in-Run c = grind (arith, common_steps)
+
+pub returns-in_ok-number-in-Sign : goal.returns-in_ok-number-in-Sign
+returns-in_ok-number-in-Sign c = grind (arith, common_steps)
+
 pub returns-in_default : goal.returns-in_default
 returns-in_default c = grind (arith, common_steps)
 
@@ -19,9 +31,3 @@ returns-in_default-5 c = grind (arith, common_steps)
 
 pub returns-in_default-6 : goal.returns-in_default-6
 returns-in_default-6 c = grind (arith, common_steps)
-
-pub returns-in-Run : goal.returns-in-Run
-returns-in-Run c = grind (arith, common_steps)
-
-pub returns-in-Sign : goal.returns-in-Sign
-returns-in-Sign c = grind (arith, common_steps)
