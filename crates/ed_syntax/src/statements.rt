@@ -6,10 +6,7 @@ ghost use Rattle.ed_syntax.specs.Private.Found.{form_result};
 ghost use Rattle.ed_syntax.specs.Private.Grammar.{base, enter, fetch, form_at};
 ghost use Rattle.ed_syntax.specs.Private.Grammar.{is_version_two, labelled_line, length_end};
 ghost use Rattle.ed_syntax.specs.Private.Grammar.{order, order_end, placed_statement, segment};
-ghost use Rattle.ed_words.specs.Decimals.{value};
 ghost use Rattle.ed_syntax.specs.Private.Grammar.{statement, unlabelled_line};
-ghost use Rattle.ed_syntax.specs.Private.Grammar as grammar;
-ghost use Rattle.ed_syntax.specs.Parts.{run};
 ghost use Rattle.ed_syntax.specs.Private.Seen.{part};
 
 use crate::Version;

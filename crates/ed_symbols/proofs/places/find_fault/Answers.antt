@@ -10,12 +10,13 @@ use Rattle.ed_symbols.proofs.places.find_fault.Goals.{then-again, else-again}
 pub returns-in-Some : goal.returns-in-Some
 returns-in-Some c =
     let cause : c.if-again.cause ≡ naming_cause c.args.symbols.now c.in_ok-again.again c.line-item.result
-        c.loop-line.counter = elim c.if-again.branch [
-        then-again w ↦ rw (w.cause-is, w.if-again.true) refl
+    c.loop-line.counter = elim c.if-again.branch [
+      | then-again w ↦ rw (w.cause-is, w.if-again.true) refl
       | else-again w ↦
-        let segment : w.segment.result ≡ segment_of c.line-item.result c.loop-line.counter =
-        w.segment.ensures ∙ ap (λ (s : LocationCounter). segment_at s) c.after_statement-next.ensures.is in
-        rw (w.cause-is, w.statement_cause-cause.ensures, segment, w.if-again.false) refl ] in
+          let segment : w.segment.result ≡ segment_of c.line-item.result c.loop-line.counter =
+          w.segment.ensures ∙ ap (λ (s : LocationCounter). segment_at s) c.after_statement-next.ensures.is in
+          rw (w.cause-is, w.statement_cause-cause.ensures, segment, w.if-again.false) refl
+    ] in
     sym (is_least_at c.args.symbols.now c.loop-line.earlier.items c.loop-line.counter c.deref-line-items.ensures.value
     c.loop-line-test.true c.line-item.is c.in_ok-again.ensures.again (sym cause ∙ c.in-Some.is))
     ∙ c.loop-line.invariant.0
@@ -26,11 +27,12 @@ loop-line-preserved c =
     let l = c.loop-line in
     let cause : c.if-again.cause ≡ naming_cause c.args.symbols.now c.in_ok-again.again c.line-item.result l.counter =
     elim c.if-again.branch [
-        then-again w ↦ rw (w.cause-is, w.if-again.true) refl
+      | then-again w ↦ rw (w.cause-is, w.if-again.true) refl
       | else-again w ↦
-        let segment : w.segment.result ≡ segment_of c.line-item.result c.loop-line.counter =
-        w.segment.ensures ∙ ap (λ (s : LocationCounter). segment_at s) c.after_statement-next.ensures.is in
-        rw (w.cause-is, w.statement_cause-cause.ensures, segment, w.if-again.false) refl ] in
+          let segment : w.segment.result ≡ segment_of c.line-item.result c.loop-line.counter =
+          w.segment.ensures ∙ ap (λ (s : LocationCounter). segment_at s) c.after_statement-next.ensures.is in
+          rw (w.cause-is, w.statement_cause-cause.ensures, segment, w.if-again.false) refl
+    ] in
     let counter = c.after_statement-next.ensures in (
       goes_on c.args.symbols.now l.earlier.items l.counter c.deref-line-items.ensures.value c.loop-line-test.true
           c.line-item.is c.in_ok-again.ensures.again (sym cause ∙ c.in_default.is)
