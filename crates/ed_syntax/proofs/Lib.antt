@@ -1,24 +1,24 @@
-mod Faults
-mod FitLaws
-mod FormExamples
-mod FormLaws
+pub mod Faults
+pub mod FitLaws
+pub mod FormExamples
+pub mod FormLaws
 pub mod Formed
 pub mod LineLaws
 pub mod Lines
-mod NameLemmas
-mod Numbers
-mod OperandLaws
-mod Orders
+pub mod NameLemmas
+pub mod Numbers
+pub mod OperandLaws
+pub mod Orders
 pub mod PartLemmas
 pub mod PartTexts
 pub mod PartsLaws
-mod PlacedLaws
-mod Programs
-mod Ranges
-mod Readings
-mod SettingLaws
-mod Settings
+pub mod PlacedLaws
+pub mod Programs
+pub mod Ranges
+pub mod Readings
+pub mod SettingLaws
+pub mod Settings
 pub mod SourceLaws
-mod Splits
-mod StatementLaws
+pub mod Splits
+pub mod StatementLaws
 pub mod WrittenLaws

@@ -41,11 +41,8 @@ fn joined(version: Version, run: &[u8], sign: u8, more: &[u8]) -> Result<Option<
     let minus = sign == b'-';
     match number(1023, more) {
         Ok(number) => {
-            let plus = if minus {
-                -(number as i32)
-            } else {
-                number as i32
-            };
+            let number = number as i32;
+            let plus = if minus { -number } else { number };
             Ok(Some(Operand::Label { name: first, plus }))
         }
         Err(FormFault::OutOfRange) => Ok(None),

@@ -5,8 +5,8 @@ ghost use Rattle.ed_syntax.specs.Versions.{is_second};
 ghost use Rattle.ed_syntax.specs.Private.Found.{form_result};
 ghost use Rattle.ed_syntax.specs.Private.Grammar.{base, enter, fetch, form_at};
 ghost use Rattle.ed_syntax.specs.Private.Grammar.{is_version_two, labelled_line, length_end};
-ghost use Rattle.ed_syntax.specs.Private.Grammar.{order, order_end, placed_statement, segment};
-ghost use Rattle.ed_syntax.specs.Private.Grammar.{statement, unlabelled_line};
+ghost use Rattle.ed_syntax.specs.Private.Grammar.{long, order, order_end, placed_statement, segment};
+ghost use Rattle.ed_syntax.specs.Private.Grammar.{statement, unlabelled_line, word};
 ghost use Rattle.ed_syntax.specs.Private.Seen.{part};
 
 use crate::Version;
@@ -68,6 +68,28 @@ fn order(version: Version, byte: u8, parts: &[Part]) -> Result<Statement, FormFa
         Ok((None, _)) => Err(FormFault::OutOfRange),
         Err(_) => Err(FormFault::NotThisForm),
     }
+}
+
+/// What follows `word`.
+fn word(parts: &[Part]) -> Result<Statement, FormFault>
+    ensures { result ≡ form_result (word (map part parts.now)) }
+{
+    let number = integer(65536, 131_071, parts)?;
+    let value = number.rem_euclid(1 << 17);
+    Ok(Statement::Number {
+        value: Word::of_number(value as u32),
+    })
+}
+
+/// What follows `long`.
+fn long(parts: &[Part]) -> Result<Statement, FormFault>
+    ensures { result ≡ form_result (long (map part parts.now)) }
+{
+    let number = integer(17_179_869_184, 34_359_738_367, parts)?;
+    let value = number.rem_euclid(1 << 35);
+    Ok(Statement::Long {
+        value: Long::of_number(value as u64),
+    })
 }
 
 /// What follows `enter`.
@@ -143,18 +165,12 @@ fn placed(version: Version, parts: &[Part]) -> Result<Statement, FormFault>
         Some((Part::Sign(byte), rest)) => order(version, *byte, rest),
         Some((Part::Run(keyword), rest)) => {
             if is(keyword, b"word") {
-                let number = integer(65536, 131_071, rest)?.rem_euclid(1 << 17);
-                Ok(Statement::Number {
-                    value: Word::of_number(number as u32),
-                })
+                word(rest)
             } else if is(keyword, b"text") {
                 let codes = string(rest)?;
                 Ok(Statement::Text { codes })
             } else if version.is_two() && is(keyword, b"long") {
-                let number = integer(17_179_869_184, 34_359_738_367, rest)?.rem_euclid(1 << 35);
-                Ok(Statement::Long {
-                    value: Long::of_number(number as u64),
-                })
+                long(rest)
             } else {
                 Err(FormFault::NotThisForm)
             }

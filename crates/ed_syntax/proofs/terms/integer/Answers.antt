@@ -1,5 +1,6 @@
 use Rattle.std.proofs.Common.{arith}
 use Rattle.std.proofs.lemmas.Grind.{common_steps}
+use Rattle.std.proofs.lemmas.Int.{ints}
 use Rattle.ed_syntax.proofs.terms.integer.Goals as goal
 
 pub returns-in_err-number-in-Run : goal.returns-in_err-number-in-Run
@@ -31,3 +32,12 @@ returns-in_default-5 c = grind (arith, common_steps)
 
 pub returns-in_default-6 : goal.returns-in_default-6
 returns-in_default-6 c = grind (arith, common_steps)
+
+pub overflow_cast-result : goal.overflow_cast-result
+overflow_cast-result c = omega (arith, c.in_ok-number-in-Run.ensures.within)
+
+pub overflow_cast-result-in-Sign : goal.overflow_cast-result-in-Sign
+overflow_cast-result-in-Sign c = omega (arith, c.in_ok-number-in-Sign.ensures.within)
+
+pub overflow_sub-result : goal.overflow_sub-result
+overflow_sub-result c = omega (arith, ints, c.in_ok-number-in-Sign.ensures.within)
