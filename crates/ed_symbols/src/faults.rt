@@ -1,13 +1,12 @@
 //! Faults of the names of a line.
-ghost use Rattle.std.specs.Prelude.{◌≡◌, ◌<◌, ◌≤◌, ◌^◌, ◌||◌};
+ghost use Rattle.std.specs.Prelude.{◌≡◌, ◌<◌, ◌||◌};
 ghost use Rattle.std.specs.List.{list_any};
 ghost use Rattle.ed_symbols.specs.Faults.{any_operand, enters_unknown, is_far};
 ghost use Rattle.ed_symbols.specs.Faults.{is_no_address, is_unknown, sum_of_places, operand_of};
-ghost use Rattle.ed_symbols.specs.Faults.{operand_value, operands_cause, with_more, naming_cause};
+ghost use Rattle.ed_symbols.specs.Faults.{operand_value, operands_cause, with_more};
 
-use crate::location_counter::LocationCounter;
 use crate::symbols::{Definition, find_place};
-use ed_lines::{Line, Operand, Setting, SourceCause, Statement};
+use ed_lines::{Operand, Setting, SourceCause, Statement};
 
 /// The value of an operand on a line of a segment.
 pub fn value(symbols: &[Definition], segment: Option<u32>, operand: &Operand) -> Option<i64>
@@ -72,7 +71,7 @@ fn settings_cause(
 }
 
 /// The fault of the operands of a statement, or of the name of an `enter`.
-fn statement_cause(
+pub(crate) fn statement_cause(
     symbols: &[Definition],
     segment: Option<u32>,
     statement: &Option<Statement>,
@@ -100,22 +99,4 @@ fn statement_cause(
         }
         _ => None,
     }
-}
-
-/// The fault of a line with the least number; `again` says whether it defines a name again.
-pub(crate) fn cause_of(
-    symbols: &[Definition],
-    again: bool,
-    line: &Line,
-    counter: LocationCounter,
-) -> Option<SourceCause>
-    requires place { counter.place ≤ 2 ^ 30 }
-    requires segments { counter.segments ≤ 2000 }
-    ensures { result ≡ naming_cause symbols.now again line.now counter }
-{
-    if again {
-        return Some(SourceCause::LabelTwice);
-    }
-    let segment = counter.after_statement(&line.statement).segment();
-    statement_cause(symbols, segment, &line.statement)
 }

@@ -5,10 +5,10 @@ ghost use Rattle.ed_symbols.specs.Names.{definition_of, symbols_from, place_on};
 ghost use Rattle.ed_symbols.specs.Places.{first_counter, positions_from};
 ghost use Rattle.ed_symbols.specs.Readers.{line_place, line_segment};
 
-use crate::faults::cause_of;
+use crate::faults::statement_cause;
 use crate::location_counter::{LinePosition, LocationCounter};
 use crate::symbols::{Definition, add_line, find_definition, find_place};
-use ed_lines::{Name, Program, SourceFault};
+use ed_lines::{Name, Program, SourceCause, SourceFault};
 use ed_words::NoMemory;
 use std::alloc::Global;
 use std::marker::Model;
@@ -65,13 +65,19 @@ fn find_fault(
     let mut counter = LocationCounter::first();
     for line in &program.lines {
         let again = add_line(&mut earlier, line, counter)?;
-        if let Some(cause) = cause_of(symbols, again, line, counter) {
+        let next = counter.after_statement(&line.statement);
+        let cause = if again {
+            Some(SourceCause::LabelTwice)
+        } else {
+            statement_cause(symbols, next.segment(), &line.statement)
+        };
+        if let Some(cause) = cause {
             return Ok(Some(SourceFault::At {
                 line: line.number,
                 cause,
             }));
         }
-        counter = counter.after_statement(&line.statement);
+        counter = next;
     }
     Ok(None)
 }

@@ -1,8 +1,8 @@
 //! Where names are defined.
 ghost use Rattle.std.specs.Prelude.{◌≡◌, ◌++◌, ◌≤◌, ◌^◌, IfOk, OnOk, option_map};
 ghost use Rattle.ed_symbols.specs.Names.{line_definitions, definition_of, is_definition_of, is_local};
-ghost use Rattle.ed_symbols.specs.Names.{label_definition, label_place, as_list, statement_definition};
-ghost use Rattle.ed_symbols.specs.Names.{place_on, same_segment};
+ghost use Rattle.ed_symbols.specs.Names.{label_definition, as_list, statement_definition};
+ghost use Rattle.ed_symbols.specs.Names.{place_on};
 ghost use Rattle.ed_symbols.specs.Faults.{defines_again, is_again};
 
 use crate::location_counter::{LocationCounter, base_or, even};
@@ -20,26 +20,19 @@ pub struct Definition {
     pub segment: Option<u32>,
 }
 
-/// The location of a line's label.
-fn label_place(statement: &Option<Statement>, counter: LocationCounter) -> u32
-    requires { counter.place ≤ 2 ^ 30 }
-    ensures { result ≡ label_place statement.now counter }
-{
-    match statement {
-        Some(Statement::Long { .. }) => even(counter.place),
-        _ => counter.place,
-    }
-}
-
 /// The definition by a line's label.
 fn label_definition(line: &Line, counter: LocationCounter) -> Option<Definition>
     requires { counter.place ≤ 2 ^ 30 }
     ensures { result ≡ label_definition line.now.label line.now.statement counter }
 {
+    let place = match line.statement {
+        Some(Statement::Long { .. }) => even(counter.place),
+        _ => counter.place,
+    };
     match line.label {
         Some(name) => Some(Definition {
             name,
-            place: label_place(&line.statement, counter),
+            place,
             segment: counter.segment(),
         }),
         None => None,
@@ -80,22 +73,16 @@ pub fn is_local(name: &Name) -> bool
     }
 }
 
-/// Whether both are the same segment.
-fn same_segment(one: Option<u32>, other: Option<u32>) -> bool
-    ensures { result ≡ same_segment one other }
-{
-    match (one, other) {
-        (Some(one), Some(other)) => one == other,
-        _ => false,
-    }
-}
-
 impl Definition {
     /// Whether this is a definition of a name, as seen from a line of a segment.
     fn is_of(&self, segment: Option<u32>, name: &Name) -> bool
         ensures { result ≡ is_definition_of segment name.now self.now }
     {
-        self.name == *name && (!is_local(name) || same_segment(self.segment, segment))
+        let same_segment = match (self.segment, segment) {
+            (Some(own), Some(other)) => own == other,
+            _ => false,
+        };
+        self.name == *name && (!is_local(name) || same_segment)
     }
 }
 

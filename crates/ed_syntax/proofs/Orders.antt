@@ -17,7 +17,7 @@ made_order function end =
 
 -- an order whose operand has its number in its range
 pub order_made : (function : Option ℕ) (end : Option (Ranged Operand × Bool)) (f : ℕ) (x : Ranged Operand) (o : Operand)
-    (l : Bool) → Ok f ≡ ok_or function NotThisForm → Ok (x, l) ≡ ok_or end NotThisForm → x ≡ Some o
+    (l : Bool) → function ≡ Some f → Ok (x, l) ≡ ok_or end NotThisForm → x ≡ Some o
     → Ok (statements.Order f o l) ≡ form_result (made_order function end)
 order_made None end f x o l h e is = absurd (cc)
 order_made (Some g) None f x o l h e is = absurd (cc)
@@ -29,7 +29,7 @@ order_made (Some g) (Some (y, m)) f x o l h e is =
 
 -- an order whose operand has its number out of its range
 pub order_out_of_range : (function : Option ℕ) (end : Option (Ranged Operand × Bool)) (f : ℕ) (x : Ranged Operand)
-    (l : Bool) → Ok f ≡ ok_or function NotThisForm → Ok (x, l) ≡ ok_or end NotThisForm → x ≡ None
+    (l : Bool) → function ≡ Some f → Ok (x, l) ≡ ok_or end NotThisForm → x ≡ None
     → Err OutOfRange ≡ form_result (made_order function end)
 order_out_of_range None end f x l h e is = absurd (cc)
 order_out_of_range (Some g) None f x l h e is = absurd (cc)
@@ -39,14 +39,8 @@ order_out_of_range (Some g) (Some (y, m)) f x l h e is =
 
 -- nothing after the function makes an order
 pub no_order : (function : Option ℕ) (end : Option (Ranged Operand × Bool)) (f : ℕ) (fault : FormFault)
-    → Ok f ≡ ok_or function NotThisForm → Err fault ≡ ok_or end NotThisForm
+    → function ≡ Some f → Err fault ≡ ok_or end NotThisForm
     → Err NotThisForm ≡ form_result (made_order function end)
 no_order None end f fault h e = absurd (cc)
 no_order (Some g) None f fault h e = refl
 no_order (Some g) (Some p) f fault h e = absurd (cc)
-
--- no function, no order
-pub no_function : (function : Option ℕ) (end : Option (Ranged Operand × Bool)) (fault : FormFault)
-    → Err fault ≡ ok_or function NotThisForm → Err fault ≡ form_result (made_order function end)
-no_function None end fault h = let same : fault ≡ NotThisForm = cc in ap (λ (x : FormFault). Err x) same
-no_function (Some g) end fault h = absurd (cc)

@@ -2,8 +2,8 @@
 ghost use Rattle.std.specs.Prelude.{◌≡◌, ◌+◌, ◌≤◌, ◌==◌, ◌<◌, length, map, option_map, IfOk, Some};
 ghost use Rattle.std.specs.Option.{ok_or};
 ghost use Rattle.ed_syntax.specs.Private.Grammar.{both, joined_operand, ranged_map, operand, with_settings};
-ghost use Rattle.ed_syntax.specs.Private.Grammar.{setting, with_rest};
-ghost use Rattle.ed_syntax.specs.Private.Found.{form_result, front};
+ghost use Rattle.ed_syntax.specs.Private.Grammar.{setting};
+ghost use Rattle.ed_syntax.specs.Private.Found.{form_result, front, read};
 ghost use Rattle.ed_syntax.specs.Versions.{is_second};
 ghost use Rattle.ed_syntax.specs.Parts.{array};
 ghost use Rattle.ed_syntax.specs.Parts.{setting_letter};
@@ -19,58 +19,40 @@ use arrayvec::ArrayVec;
 use ed_codes::{Code, row_of_byte};
 use ed_lines::{Operand, Setting};
 
-/// An operand that is a number or a name, and the parts after it: none where the number is out of its range.
-fn single<'a, 'p>(
-    version: Version,
-    run: &[u8],
-    rest: &'p [Part<'a>],
-) -> Result<(Option<Operand>, &'p [Part<'a>]), FormFault>
-    ensures { front result ≡ with_rest (map part rest.entry.now) (single (is_second version) run.now) }
+/// An operand that is a number or a name; none where the number is out of its range.
+fn single(version: Version, run: &[u8]) -> Result<Option<Operand>, FormFault>
+    ensures { read result ≡ single (is_second version) run.now }
 {
     match number(32767, run) {
-        Ok(number) => Ok((Some(Operand::Number(number as u16)), rest)),
-        Err(FormFault::OutOfRange) => Ok((None, rest)),
+        Ok(number) => Ok(Some(Operand::Number(number as u16))),
+        Err(FormFault::OutOfRange) => Ok(None),
         Err(FormFault::NotThisForm) => {
             let name = place_name(version, run)?;
-            Ok((Some(Operand::Label { name, plus: 0 }), rest))
+            Ok(Some(Operand::Label { name, plus: 0 }))
         }
     }
 }
 
-/// An operand that is a name, a sign, and a number or in version 2 a name, and the parts after it: none where the number
-/// is out of its range.
-fn joined<'a, 'p>(
-    version: Version,
-    run: &[u8],
-    sign: u8,
-    more: &[u8],
-    rest: &'p [Part<'a>],
-) -> Result<(Option<Operand>, &'p [Part<'a>]), FormFault>
-    ensures { front result
-        ≡ with_rest (map part rest.entry.now) (joined_operand (is_second version) run.now sign more.now) }
+/// An operand that is a name, a sign, and a number or in version 2 a name; none where the number is out of its range.
+fn joined(version: Version, run: &[u8], sign: u8, more: &[u8]) -> Result<Option<Operand>, FormFault>
+    ensures { read result ≡ joined_operand (is_second version) run.now sign more.now }
 {
     let first = place_name(version, run)?;
     let minus = sign == b'-';
     match number(1023, more) {
         Ok(number) => {
-            let plus = if minus {
-                -(number as i32)
-            } else {
-                number as i32
-            };
-            Ok((Some(Operand::Label { name: first, plus }), rest))
+            let number = number as i32;
+            let plus = if minus { -number } else { number };
+            Ok(Some(Operand::Label { name: first, plus }))
         }
-        Err(FormFault::OutOfRange) => Ok((None, rest)),
+        Err(FormFault::OutOfRange) => Ok(None),
         Err(FormFault::NotThisForm) if version.is_two() => {
             let second = place_name(version, more)?;
-            Ok((
-                Some(Operand::Two {
-                    first,
-                    second,
-                    minus,
-                }),
-                rest,
-            ))
+            Ok(Some(Operand::Two {
+                first,
+                second,
+                minus,
+            }))
         }
         Err(FormFault::NotThisForm) => Err(FormFault::NotThisForm),
     }
@@ -86,10 +68,10 @@ pub(crate) fn operand<'a, 'p>(
 {
     match parts {
         [Part::Run(run), Part::Sign(sign @ (b'+' | b'-')), after @ ..] => match after {
-            [Part::Run(more), rest @ ..] => joined(version, run, *sign, more, rest),
+            [Part::Run(more), rest @ ..] => Ok((joined(version, run, *sign, more)?, rest)),
             _ => Err(FormFault::NotThisForm),
         },
-        [Part::Run(run), rest @ ..] => single(version, run, rest),
+        [Part::Run(run), rest @ ..] => Ok((single(version, run)?, rest)),
         _ => Err(FormFault::NotThisForm),
     }
 }

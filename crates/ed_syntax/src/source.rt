@@ -88,10 +88,9 @@ fn version_of(alloc: Global, text: &[u8]) -> Result<Version, NoMemory>
         return Ok(Version::One);
     }
     let (line, _) = split_line(text);
-    match parts_of(alloc, line)? {
-        Some(parts) if is_version_two(&parts) => Ok(Version::Two),
-        _ => Ok(Version::One),
-    }
+    let parts = parts_of(alloc, line)?;
+    let is_two = matches!(&parts, Some(parts) if is_version_two(parts));
+    Ok(if is_two { Version::Two } else { Version::One })
 }
 
 /// The lines of a source, or the fault of the first line that has one.
@@ -147,7 +146,7 @@ fn program(alloc: Global, text: &[u8]) -> Result<Program, SourceFault>
     let version = version_of(alloc, text)?;
     let lines = lines(alloc, version, text)?;
     Ok(Program {
-        version: version.number(),
+        version: if version.is_two() { 2 } else { 1 },
         lines,
     })
 }

@@ -4,13 +4,9 @@ ghost use Rattle.std.specs.Option.{ok_or};
 ghost use Rattle.ed_syntax.specs.Versions.{is_second};
 ghost use Rattle.ed_syntax.specs.Private.Found.{form_result};
 ghost use Rattle.ed_syntax.specs.Private.Grammar.{base, enter, fetch, form_at};
-ghost use Rattle.ed_syntax.specs.Parts.{function};
 ghost use Rattle.ed_syntax.specs.Private.Grammar.{is_version_two, labelled_line, length_end};
 ghost use Rattle.ed_syntax.specs.Private.Grammar.{long, order, order_end, placed_statement, segment};
-ghost use Rattle.ed_words.specs.Decimals.{value};
 ghost use Rattle.ed_syntax.specs.Private.Grammar.{statement, unlabelled_line, word};
-ghost use Rattle.ed_syntax.specs.Private.Grammar as grammar;
-ghost use Rattle.ed_syntax.specs.Parts.{run};
 ghost use Rattle.ed_syntax.specs.Private.Seen.{part};
 
 use crate::Version;
@@ -19,19 +15,9 @@ use crate::form::Form;
 use crate::operands::{operand, preset};
 use crate::parts::Part;
 use crate::terms::{integer, is, name, number, place_name, string};
-use ed_codes::{Code, row_of_byte};
+use ed_codes::row_of_byte;
 use ed_lines::{Operand, Statement};
 use ed_words::{Long, Word};
-
-/// A function, as its code.
-fn function(byte: u8) -> Result<Code, FormFault>
-    ensures { result ≡ ok_or (function byte) FormFault.NotThisForm }
-{
-    if byte.is_ascii_digit() {
-        return Err(FormFault::NotThisForm);
-    }
-    row_of_byte(byte).ok_or(FormFault::NotThisForm)
-}
 
 /// The length at the end of an order.
 fn length_end(parts: &[Part]) -> Result<bool, FormFault>
@@ -67,7 +53,12 @@ fn order_end(version: Version, parts: &[Part]) -> Result<(Option<Operand>, bool)
 fn order(version: Version, byte: u8, parts: &[Part]) -> Result<Statement, FormFault>
     ensures { result ≡ form_result (order (is_second version) byte (map part parts.now)) }
 {
-    let function = function(byte)?;
+    if byte.is_ascii_digit() {
+        return Err(FormFault::NotThisForm);
+    }
+    let Some(function) = row_of_byte(byte) else {
+        return Err(FormFault::NotThisForm);
+    };
     match order_end(version, parts) {
         Ok((Some(operand), length)) => Ok(Statement::Order {
             function,

@@ -4,15 +4,14 @@ ghost use Rattle.std.specs.Prelude.{map, IfOk, IfErr, option_map};
 ghost use Rattle.std.specs.Option.{ok_or};
 ghost use Rattle.ed_syntax.specs.Versions.{is_second};
 ghost use Rattle.ed_syntax.specs.Private.Found.{form_result};
-ghost use Rattle.std.specs.List.{list_all};
 ghost use Rattle.std.specs.Str.{bytes_eq};
 ghost use Rattle.ed_syntax.specs.Parts.{array};
 ghost use Rattle.ed_lines.specs.Names.{is_name};
 ghost use Rattle.ed_syntax.specs.Private.Grammar.{integer};
-ghost use Rattle.ed_syntax.specs.Parts.{is_number, with_sign};
+ghost use Rattle.ed_syntax.specs.Parts.{is_number};
 ghost use Rattle.ed_lines.specs.Names.{is_place_name};
-ghost use Rattle.ed_syntax.specs.Private.Grammar.{number_up_to, ranged_map};
-ghost use Rattle.ed_syntax.specs.Private.Grammar.{string, string_rows};
+ghost use Rattle.ed_syntax.specs.Private.Grammar.{number_up_to};
+ghost use Rattle.ed_syntax.specs.Private.Grammar.{string};
 ghost use Rattle.ed_lines.specs.Names.{is_run_byte};
 ghost use Rattle.ed_syntax.specs.Private.Seen.{part};
 
@@ -23,18 +22,6 @@ use arrayvec::ArrayVec;
 use ed_codes::{Code, row_of_byte};
 use ed_lines::Name;
 use std::str;
-
-/// Whether each byte belongs to a run.
-fn are_run_bytes(bytes: &[u8]) -> bool
-    ensures { result ≡ list_all is_run_byte bytes.now }
-{
-    for byte in bytes {
-        if !is_run_byte(*byte) {
-            return false;
-        }
-    }
-    true
-}
 
 /// Whether a run may be a label or stand in an operand: it is a name or, in version 2, a local name.
 fn is_place_name(version: Version, run: &[u8]) -> bool
@@ -48,7 +35,15 @@ fn is_place_name(version: Version, run: &[u8]) -> bool
         b'_' => version.is_two() && !rest.is_empty(),
         _ => false,
     };
-    begins && rest.len() <= 15 && are_run_bytes(rest)
+    if !begins || rest.len() > 15 {
+        return false;
+    }
+    for byte in rest {
+        if !is_run_byte(*byte) {
+            return false;
+        }
+    }
+    true
 }
 
 /// A name.
@@ -112,52 +107,30 @@ pub(crate) fn integer(least: u64, most: u64, parts: &[Part]) -> Result<i64, Form
     ensures { result ≡ form_result (integer least most (map part parts.now)) }
 {
     match parts {
-        [Part::Run(run)] => positive(most, run),
-        [Part::Sign(b'-'), Part::Run(run)] => negative(least, run),
+        [Part::Run(run)] => Ok(number(most, run)? as i64),
+        [Part::Sign(b'-'), Part::Run(run)] => Ok(-(number(least, run)? as i64)),
         _ => Err(FormFault::NotThisForm),
     }
-}
-
-/// A number from 0 to `most`, as an integer.
-fn positive(most: u64, run: &[u8]) -> Result<i64, FormFault>
-    requires { most < 2 ^ 36 }
-    ensures { result ≡ form_result (ranged_map (with_sign false) (number_up_to most run.now)) }
-{
-    let number = number(most, run)?;
-    Ok(number as i64)
-}
-
-/// The negative of a number from 0 to `least`.
-fn negative(least: u64, run: &[u8]) -> Result<i64, FormFault>
-    requires { least < 2 ^ 36 }
-    ensures { result ≡ form_result (ranged_map (with_sign true) (number_up_to least run.now)) }
-{
-    let number = number(least, run)?;
-    Ok(-(number as i64))
 }
 
 /// A string of one or more bytes that spell rows.
 pub(crate) fn string(parts: &[Part]) -> Result<ArrayVec<Code, 120>, FormFault>
     ensures { result ≡ ok_or (option_map array (string (map part parts.now))) FormFault.NotThisForm }
 {
-    match parts {
-        [Part::Quoted(text)] => string_rows(text).ok_or(FormFault::NotThisForm),
-        _ => Err(FormFault::NotThisForm),
-    }
-}
-
-/// The rows of a string.
-fn string_rows(text: &[u8]) -> Option<ArrayVec<Code, 120>>
-    ensures { result ≡ option_map array (string_rows text.now) }
-{
+    let [Part::Quoted(text)] = parts else {
+        return Err(FormFault::NotThisForm);
+    };
     if text.is_empty() || text.len() > 120 {
-        return None;
+        return Err(FormFault::NotThisForm);
     }
     let mut rows = ArrayVec::new();
-    for byte in text {
-        rows.push(row_of_byte(*byte)?);
+    for byte in *text {
+        let Some(row) = row_of_byte(*byte) else {
+            return Err(FormFault::NotThisForm);
+        };
+        rows.push(row);
     }
-    Some(rows)
+    Ok(rows)
 }
 
 /// Whether a run is this keyword.

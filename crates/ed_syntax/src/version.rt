@@ -1,4 +1,4 @@
-ghost use Rattle.std.specs.Prelude.{◌≡◌, ◌==◌, ◌≤◌, if◌then◌else◌};
+ghost use Rattle.std.specs.Prelude.{◌≡◌, ◌==◌};
 ghost use Rattle.ed_syntax.specs.Versions.{is_second};
 
 use ed_lines::Program;
@@ -29,19 +29,6 @@ impl Version {
         match self {
             Version::One => false,
             Version::Two => true,
-        }
-    }
-
-    /// Its number.
-    pub(crate) fn number(self) -> u8
-        ensures is { result ≡ (if is_second self then 2 else 1) }
-        ensures low { 1 ≤ result }
-        ensures high { result ≤ 2 }
-        ensures test { (result == 2) ≡ is_second self }
-    {
-        match self {
-            Version::One => 1,
-            Version::Two => 2,
         }
     }
 }

@@ -1,6 +1,6 @@
 //! Operands and settings.
 ghost use Rattle.std.specs.Prelude.{◌≡◌, ◌++◌, IfOk, codes};
-ghost use Rattle.ed_writer.specs.Written.{operand_text, order_operand, settings_after};
+ghost use Rattle.ed_writer.specs.Written.{operand_text, settings_after};
 
 use crate::text::{push, push_letter, push_named, push_numbered};
 use ed_syntax::{Operand, Setting};
@@ -8,7 +8,7 @@ use ed_words::NoMemory;
 use std::alloc::Global;
 
 /// Adds bytes and then an operand.
-fn push_operand(
+pub(crate) fn push_operand(
     alloc: Global,
     text: &mut Vec<u8>,
     before: &[u8],
@@ -18,9 +18,11 @@ fn push_operand(
 {
     match operand {
         Operand::Number(number) => push_numbered(alloc, text, before, u64::from(*number)),
-        Operand::Label { name, plus: 0 } => push_named(text, before, name),
         Operand::Label { name, plus } => {
             push_named(text, before, name)?;
+            if *plus == 0 {
+                return Ok(());
+            }
             let sign: &[u8] = if *plus < 0 { b"-" } else { b"+" };
             push_numbered(alloc, text, sign, u64::from(plus.unsigned_abs()))
         }
@@ -32,20 +34,6 @@ fn push_operand(
             push_named(text, before, first)?;
             push_named(text, if *minus { b"-" } else { b"+" }, second)
         }
-    }
-}
-
-/// Adds the operand of an order.
-pub(crate) fn push_order_operand(
-    alloc: Global,
-    text: &mut Vec<u8>,
-    operand: &Operand,
-) -> Result<(), NoMemory>
-    ensures { IfOk result (λ _. text.new.items ≡ text.old.items ++ order_operand operand.now) }
-{
-    match operand {
-        Operand::Number(0) => Ok(()),
-        _ => push_operand(alloc, text, b" ", operand),
     }
 }
 

@@ -4,7 +4,7 @@ ghost use Rattle.ed_writer.specs.Written.{base_text, length_letter, order_operan
 ghost use Rattle.ed_writer.specs.Written.{statement_text};
 ghost use Rattle.ed_syntax.specs.Forms.{has_few_settings};
 
-use crate::operands::{push_order_operand, push_settings};
+use crate::operands::{push_operand, push_settings};
 use crate::text::{push, push_letter, push_named, push_numbered, push_rows};
 use ed_codes::Code;
 use ed_syntax::{Name, Operand, Setting, Statement};
@@ -23,7 +23,9 @@ fn push_order(
         ≡ text.old.items ++ (row_letter function ∷ order_operand operand.now ++ 32 ∷ length_letter long ∷ [])) }
 {
     push_letter(text, function)?;
-    push_order_operand(alloc, text, operand)?;
+    if !matches!(operand, Operand::Number(0)) {
+        push_operand(alloc, text, b" ", operand)?;
+    }
     push(text, if long { b" D" } else { b" F" })
 }
 

@@ -25,3 +25,6 @@ returns-in_default-4 c = grind (arith, common_steps)
 
 pub returns-in_default-5 : goal.returns-in_default-5
 returns-in_default-5 c = grind (arith, common_steps)
+
+pub overflow_cast-result : goal.overflow_cast-result
+overflow_cast-result c = omega (arith, c.in_ok-base-in-Run.ensures.within)

@@ -2,8 +2,14 @@ use Rattle.std.proofs.Common.{arith}
 use Rattle.std.proofs.lemmas.Grind.{common_steps}
 use Rattle.ed_syntax.proofs.terms.string.Goals as goal
 
-pub returns-in-Quoted : goal.returns-in-Quoted
-returns-in-Quoted c = grind (arith, common_steps)
+pub loop-byte-preserved : goal.loop-byte-preserved
+loop-byte-preserved c = grind (arith, common_steps)
+
+pub returns : goal.returns
+returns c = grind (arith, common_steps)
 
 pub returns-in_default : goal.returns-in_default
 returns-in_default c = grind (arith, common_steps)
+
+pub returns-in_default-row_of_byte : goal.returns-in_default-row_of_byte
+returns-in_default-row_of_byte c = grind (arith, common_steps)

@@ -1,7 +1,7 @@
 use Rattle.std.proofs.Common.{◌≡◌, take, true}
 use Rattle.std.specs.List.{list_all}
 use Rattle.ed_lines.specs.Names.{is_run_byte}
-use Rattle.ed_syntax.proofs.terms.are_run_bytes.Given as goal
+use Rattle.ed_syntax.proofs.terms.is_place_name.Given as goal
 
 abbrev pub invariant-loop-byte : goal.invariant-loop-byte
-invariant-loop-byte l = list_all is_run_byte (take l.byte-index l.bytes) ≡ true
+invariant-loop-byte l = list_all is_run_byte (take l.byte-index l.rest) ≡ true
