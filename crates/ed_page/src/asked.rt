@@ -49,18 +49,12 @@ pub fn write_answer(
     if text.len() > INPUT_BYTES {
         return tell(&[], TOO_LONG, TOO_LONG_STATUS, out, note, lengths);
     }
-    match answer(alloc, asked, text) {
-        Ok(reply) => tell(&reply.out, &reply.note, reply.status, out, note, lengths),
-        Err(Rejection::Refused(reply)) => tell(
-            &reply.out,
-            &reply.note,
-            reply.status,
-            out,
-            note,
-            lengths,
-        ),
-        Err(Rejection::Memory) => NO_MEMORY,
-    }
+    let reply = match answer(alloc, asked, text) {
+        Ok(reply) => reply,
+        Err(Rejection::Refused(reply)) => reply,
+        Err(Rejection::Memory) => return NO_MEMORY,
+    };
+    tell(&reply.out, &reply.note, reply.status, out, note, lengths)
 }
 
 /// What is answered to a text that is not too long.

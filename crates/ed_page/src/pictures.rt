@@ -18,9 +18,10 @@ ghost use Rattle.ed_page.specs.Private.Stages.{WritesBuffers, told_outcome};
 use crate::running::{ProgramKind, picture_of, run_settings};
 use crate::told::{NO_MEMORY, NO_ROOM, TOO_LONG_STATUS, write_texts};
 use crate::writing::{Lengths, Registers, no_registers, registers_of, write_store};
-use ed_answers::{INPUT_BYTES, Rejection, TOO_LONG};
+use ed_answers::{INPUT_BYTES, TOO_LONG};
 use ed_command::Settings;
 use ed_machine::Machine;
+use ed_words::NoMemory;
 use std::alloc::Global;
 
 /// Shows the machine after `orders` orders from Start on a tape's text, or at the end of its run if that comes first.
@@ -183,18 +184,7 @@ fn draw(
             note,
             registers,
         ),
-        Err(Rejection::Refused(reply)) => show(
-            &reply.out,
-            &reply.note,
-            reply.status,
-            &None,
-            words,
-            digits,
-            paper,
-            note,
-            registers,
-        ),
-        Err(Rejection::Memory) => NO_MEMORY,
+        Err(NoMemory) => NO_MEMORY,
     }
 }
 
