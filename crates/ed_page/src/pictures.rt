@@ -17,7 +17,7 @@ ghost use Rattle.ed_page.specs.Private.Stages.{WritesBuffers, told_outcome};
 
 use crate::running::{ProgramKind, picture_of, run_settings};
 use crate::told::{NO_MEMORY, NO_ROOM, TOO_LONG_STATUS, write_texts};
-use crate::writing::{Lengths, Registers, no_registers, registers_of, write_store};
+use crate::writing::{Lengths, NO_CODE, Registers, registers_of, write_store};
 use ed_answers::{INPUT_BYTES, TOO_LONG};
 use ed_command::Settings;
 use ed_machine::Machine;
@@ -237,6 +237,16 @@ fn write_machine(
             write_store(machine, words, digits);
             registers_of(machine, lengths)
         }
-        None => no_registers(lengths),
+        None => Registers {
+            acc_low: 0,
+            acc_high: 0,
+            multiplier: 0,
+            orders: 0,
+            rows_left: 0,
+            counter: 0,
+            last: NO_CODE,
+            printed: lengths.out,
+            noted: lengths.note,
+        },
     }
 }
