@@ -1,8 +1,6 @@
-use Rattle.std.proofs.Common.{lit<, subst}
-use Rattle.std.specs.Prelude.{Err}
-use Rattle.ed_answers.specs.declared.reply.Rejection.{Rejection}
+use Rattle.std.proofs.Common.{lit<}
 use Rattle.ed_page.specs.Answers.{text_buffers}
-use Rattle.ed_page.specs.Private.Stages.{IsAnswered, IsReplied}
+use Rattle.ed_page.specs.Private.Stages.{IsReplied}
 use Rattle.ed_page.specs.Private.Asked.{answers_to}
 use Rattle.ed_page.proofs.Written.{found_status, long_written, low_status, reply_written, text_unmade}
 use Rattle.ed_page.proofs.Replies.{refused_reply}
