@@ -17,7 +17,7 @@ ghost use Rattle.ed_page.specs.Private.Stages.{WritesBuffers, told_outcome};
 
 use crate::running::{ProgramKind, picture_of, run_settings};
 use crate::told::{NO_MEMORY, NO_ROOM, TOO_LONG_STATUS, write_texts};
-use crate::writing::{Lengths, NO_CODE, Registers, registers_of, write_store};
+use crate::writing::{NO_CODE, Registers, registers_of, write_store};
 use ed_answers::{INPUT_BYTES, TOO_LONG};
 use ed_command::Settings;
 use ed_machine::Machine;
@@ -208,31 +208,10 @@ fn show(
         (picture_buffers words.old digits.old paper.old note.old registers.old)
         (picture_buffers words.new digits.new paper.new note.new registers.new) result }
 {
-    match write_texts(answer, line, paper, note) {
-        Some(lengths) => {
-            *registers = write_machine(machine, lengths, words, digits);
-            u32::from(status)
-        }
-        None => NO_ROOM,
-    }
-}
-
-/// Writes the store of a machine, if there is one, and gives its registers.
-fn write_machine(
-    machine: &Option<Machine>,
-    lengths: Lengths,
-    words: &mut [u32],
-    digits: &mut [u8],
-) -> Registers
-    requires words { length words.old ≡ 1024 }
-    requires digits { length digits.old ≡ 512 }
-    ensures state { IfSome machine.now (λ m. Pictures m words.new digits.new result) }
-    ensures none { machine.now ≡ None → (words.new ≡ words.old) × (digits.new ≡ digits.old)
-        × (result ≡ blank_registers lengths.out lengths.note) }
-    ensures printed { result.printed ≡ lengths.out }
-    ensures noted { result.noted ≡ lengths.note }
-{
-    match machine {
+    let Some(lengths) = write_texts(answer, line, paper, note) else {
+        return NO_ROOM;
+    };
+    *registers = match machine {
         Some(machine) => {
             write_store(machine, words, digits);
             registers_of(machine, lengths)
@@ -248,5 +227,6 @@ fn write_machine(
             printed: lengths.out,
             noted: lengths.note,
         },
-    }
+    };
+    u32::from(status)
 }
