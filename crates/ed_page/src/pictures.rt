@@ -1,4 +1,4 @@
-ghost use Rattle.std.specs.Prelude.{◌≡◌, ◌≢◌, ◌<◌, IfSome, List, None, false, length, ℕ};
+ghost use Rattle.std.specs.Prelude.{◌≡◌, ◌≢◌, ◌<◌, List, None, false, length, ℕ};
 ghost use Rattle.ed_codes.specs.Reading.{reading, rows};
 ghost use Rattle.ed_lines.specs.declared.program.Line.{Line};
 ghost use Rattle.ed_loads.specs.Refusals.{IsAcceptedAs};
@@ -8,10 +8,10 @@ ghost use Rattle.ed_answers.specs.Answer.{of_input};
 ghost use Rattle.ed_answers.specs.FirstOrders.{first_state1, tape1_answer};
 ghost use Rattle.ed_answers.specs.Sources.{run_answer};
 ghost use Rattle.ed_answers.specs.Tapes.{tape_answer};
-ghost use Rattle.ed_page.specs.Answers.{EachRunReadsOn, IsShown, SourceEnds, TapeEnds, blank_registers};
+ghost use Rattle.ed_page.specs.Answers.{EachRunReadsOn, IsShown, SourceEnds, TapeEnds};
 ghost use Rattle.ed_page.specs.Answers.{EachRun1ReadsOn, Tape1Ends, picture_buffers};
 ghost use Rattle.ed_page.specs.Going.{BeginsOnTheWay};
-ghost use Rattle.ed_page.specs.Pictures.{Pictures, run_settings, size_shown};
+ghost use Rattle.ed_page.specs.Pictures.{run_settings, size_shown};
 ghost use Rattle.ed_page.specs.Private.Asked.{answers_of, ends_of};
 ghost use Rattle.ed_page.specs.Private.Stages.{WritesBuffers, told_outcome};
 
