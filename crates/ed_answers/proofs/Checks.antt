@@ -15,6 +15,7 @@ use Rattle.ed_notation.proofs.Laws.{reading_is_rules}
 use Rattle.ed_notation.proofs.Verdicts.{entry_once, fault_once}
 use Rattle.ed_report.specs.Notes.{rule_line, tape_fault_line}
 use Rattle.ed_command.specs.declared.command.Settings.{Settings}
+use Rattle.ed_words.specs.Texts.{Text}
 use Rattle.ed_answers.specs.Outcome.{Outcome, done, refusal}
 use Rattle.ed_report.specs.Entries.{entry_line}
 use Rattle.ed_answers.specs.Tapes.{IsChecked, first_note}
@@ -81,13 +82,12 @@ entry_found s {codes} {r = r} {at = at} {orders} {count} (Ok reply) is accepts a
     )
 
 -- the reply to a tape with a fault
-pub fault_found : (s : Settings) (codes : List ℕ) {store : Cells} (fault : TapeFault) (given : Result Reply NoMemory)
+pub fault_found : (s : Settings) (codes : List ℕ) {store : Cells} (fault : TapeFault) {line : Text} (reply : Reply)
     → store ≡ cleared_cells → checks.AnswersCheck s.size store.words (opening store.words) 9 codes (Err fault)
-    → IfOk given (λ reply. Gives reply (refusal (tape_fault_line fault))) → IfOk given (λ reply. fault ≢ Memory)
-    → IfOk given (λ reply. (o : Outcome) × IsChecked s codes o × Gives reply o)
-fault_found s codes fault (Err e) is answers gives other = tt
-fault_found s codes Memory (Ok reply) is answers gives other = absurd (other refl)
-fault_found s codes (At row cause) (Ok reply) is answers gives other =
+    → fault ≢ Memory → line ≡ tape_fault_line fault → Gives reply (refusal line)
+    → (o : Outcome) × IsChecked s codes o × Gives reply o
+fault_found s codes Memory reply is answers other told gives = absurd (other refl)
+fault_found s codes (At row cause) reply is answers other told gives =
     let f : IsFault s.size cleared_cells.words (opening cleared_cells.words) codes row cause =
     subst (λ (c : Cells). IsFault s.size c.words (opening c.words) codes row cause) is answers in
-    (refusal (rule_line row cause), inr (record { row = row; cause = cause; fault = f; outcome = refl }), gives)
+    (refusal _, inr (record { row = row; cause = cause; fault = f; outcome = ap refusal (sym told) }), gives)

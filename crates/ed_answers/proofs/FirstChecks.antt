@@ -1,14 +1,12 @@
 -- The check of rows for Initial Orders 1: each list of rows has one outcome, and the check's answer is that.
-use Rattle.std.proofs.Common.{ap, ◌≡◌, ◌≢◌, ◌⊎◌, inl, inr, ◌∙◌, ℕ, List, refl, sym}
+use Rattle.std.proofs.Common.{ap, ◌≡◌, ◌⊎◌, inl, inr, ◌∙◌, ℕ, List, refl, sym}
 use Rattle.std.specs.Prelude.{Result, Ok, Err, IfOk}
 use Rattle.ed_words.specs.declared.memory.NoMemory.{NoMemory}
 use Rattle.ed_initial1.specs.Faults.{Tape, Comes1, IsFault1}
-use Rattle.ed_initial1.specs.Checks.{Report1, Accepts1, Answers1, report1}
+use Rattle.ed_initial1.specs.Checks.{Report1, Accepts1, report1}
 use Rattle.ed_initial1.specs.declared.cause.Tape1Cause.{Tape1Cause}
-use Rattle.ed_initial1.specs.declared.cause.Tape1Fault.{Tape1Fault}
-use Rattle.ed_initial1.specs.declared.cause.Tape1Fault.TheVariants.{At, Memory}
 use Rattle.ed_initial1.proofs.Unique.{one_verdict}
-use Rattle.ed_report.specs.FirstNotes.{rule1_line, tape1_fault_line}
+use Rattle.ed_report.specs.FirstNotes.{rule1_line}
 use Rattle.ed_report.specs.Entries.{entry_line}
 use Rattle.ed_answers.specs.FirstOrders.{IsChecked1}
 use Rattle.ed_answers.specs.Outcome.{Outcome, done, refusal}
@@ -54,13 +52,3 @@ program_found {orders} {count} (Ok reply) a o n gives =
     let outcome : told a.tape ≡ done (entry_line 31 orders count) =
     λ i. done (entry_line 31 (sym cost i) (sym read i)) in
     (done (entry_line 31 orders count), inl (record { tape = a.tape; comes = a.comes; outcome = outcome }), gives)
-
--- the reply to a tape with a fault
-pub first_fault_found : (codes : List ℕ) (fault : Tape1Fault) (given : Result Reply NoMemory)
-    → Answers1 codes (Err fault)
-    → IfOk given (λ reply. Gives reply (refusal (tape1_fault_line fault))) → IfOk given (λ reply. fault ≢ Memory)
-    → IfOk given (λ reply. (o : Outcome) × IsChecked1 codes o × Gives reply o)
-first_fault_found codes fault (Err e) answers gives other = tt
-first_fault_found codes Memory (Ok reply) answers gives other = absurd (other refl)
-first_fault_found codes (At row cause) (Ok reply) answers gives other =
-    (refusal (rule1_line row cause), inr (record { row = row; cause = cause; fault = answers; outcome = refl }), gives)

@@ -2,7 +2,7 @@ pub mod Replies
 pub mod Checks
 pub mod FirstChecks
 pub mod FirstEntries
-pub mod Keeping
+mod Keeping
 pub mod FromEntry
 pub mod Sources
 pub mod Limits

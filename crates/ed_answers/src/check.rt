@@ -1,7 +1,6 @@
-ghost use Rattle.std.specs.Prelude.{◌≡◌, ◌≢◌, ◌≤◌, ◌^◌, IfOk, length};
-ghost use Rattle.ed_report.specs.Notes.{tape_fault_line};
+ghost use Rattle.std.specs.Prelude.{◌≡◌, ◌≤◌, ◌^◌, IfOk, length};
 ghost use Rattle.ed_answers.specs.Replies.{Gives, Replies};
-ghost use Rattle.ed_answers.specs.Outcome.{Outcome, done, refusal};
+ghost use Rattle.ed_answers.specs.Outcome.{Outcome, done};
 ghost use Rattle.ed_report.specs.Entries.{entry_line};
 ghost use Rattle.ed_answers.specs.Tapes.{IsChecked, check_tape_answer};
 
@@ -31,18 +30,8 @@ fn check_rows(alloc: Global, settings: Settings, rows: &[Code]) -> Result<Reply,
     let store = Store::cleared(alloc)?;
     match check(alloc, settings.size, &store, rows) {
         Ok(checked) => entry_reply(alloc, checked.entry(), checked.orders(), checked.rows()),
-        Err(fault) => fault_reply(alloc, &fault),
-    }
-}
-
-/// The reply to rows that are not a tape of the notation.
-fn fault_reply(alloc: Global, fault: &TapeFault) -> Result<Reply, NoMemory>
-    ensures is { IfOk result (λ reply. Gives reply (refusal (tape_fault_line fault.now))) }
-    ensures told { IfOk result (λ _. fault.now ≢ TapeFault.Memory) }
-{
-    match fault {
-        TapeFault::Memory => Err(NoMemory),
-        TapeFault::At { .. } => Ok(Reply::refusal(alloc, tape_fault(alloc, fault)?)),
+        Err(TapeFault::Memory) => Err(NoMemory),
+        Err(fault) => Ok(Reply::refusal(alloc, tape_fault(alloc, &fault)?)),
     }
 }
 

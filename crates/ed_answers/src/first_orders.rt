@@ -1,11 +1,8 @@
-ghost use Rattle.std.specs.Prelude.{◌≡◌, ◌≢◌, ◌≤◌, ◌^◌, [], IfOk, length};
-ghost use Rattle.ed_run.specs.Run.{RunEnd};
-ghost use Rattle.ed_report.specs.FirstNotes.{tape1_fault_line};
+ghost use Rattle.std.specs.Prelude.{◌≡◌, ◌≤◌, ◌^◌, IfOk, length};
 ghost use Rattle.ed_answers.specs.FirstOrders.{IsChecked1, check_tape1_answer, first_state1, tape1_answer};
 ghost use Rattle.ed_answers.specs.FirstOrders.{run1_of, tape1_outcome};
-ghost use Rattle.ed_answers.specs.Outcome.{Outcome, refusal};
+ghost use Rattle.ed_answers.specs.Outcome.{Outcome};
 ghost use Rattle.ed_answers.specs.Replies.{Gives, IsRan, Replies};
-ghost use Rattle.ed_answers.specs.Runs.{ran_outcome};
 
 use crate::check::entry_reply;
 use crate::reply::{Rejection, Reply};
@@ -35,15 +32,8 @@ fn run_tape1(alloc: Global, settings: Settings, rows: Vec<Code>) -> Result<Reply
     ensures { IfOk result (λ reply. Gives reply (tape1_outcome settings rows.items)) }
 {
     let ran = run_rows1(alloc, settings, rows)?;
-    ended_reply(alloc, &ran)
-}
-
-/// The reply of a run, with the line of its ending.
-fn ended_reply(alloc: Global, ran: &FinishedRun) -> Result<Reply, NoMemory>
-    ensures { (r : RunEnd) → IsRan r ran.now → IfOk result (λ reply. Gives reply (ran_outcome [] r)) }
-{
     let note = ending_text(alloc, ran.ending, &ran.machine)?;
-    ran_reply(alloc, ran, note)
+    ran_reply(alloc, &ran, note)
 }
 
 /// Runs a cleared machine of full size, started on rows with Initial Orders 1. This is a function of its own for the
@@ -85,17 +75,7 @@ fn check_rows1(alloc: Global, rows: &[Code]) -> Result<Reply, NoMemory>
 {
     match check1(alloc, rows) {
         Ok(checked) => entry_reply(alloc, ENTRY, checked.orders(), checked.rows()),
-        Err(fault) => fault_reply1(alloc, &fault),
-    }
-}
-
-/// The reply to rows that are not a tape of Initial Orders 1.
-fn fault_reply1(alloc: Global, fault: &Tape1Fault) -> Result<Reply, NoMemory>
-    ensures is { IfOk result (λ reply. Gives reply (refusal (tape1_fault_line fault.now))) }
-    ensures told { IfOk result (λ _. fault.now ≢ Tape1Fault.Memory) }
-{
-    match fault {
-        Tape1Fault::Memory => Err(NoMemory),
-        Tape1Fault::At { .. } => Ok(Reply::refusal(alloc, tape1_fault(alloc, fault)?)),
+        Err(Tape1Fault::Memory) => Err(NoMemory),
+        Err(fault) => Ok(Reply::refusal(alloc, tape1_fault(alloc, &fault)?)),
     }
 }

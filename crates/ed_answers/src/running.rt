@@ -98,28 +98,15 @@ pub fn post_mortem_reply(
       status = status_of ran.old.ending;
     })) }
 {
-    let after = post_mortem_of(alloc, settings.post_mortem, &mut ran.machine)?;
+    let after = match settings.post_mortem {
+        Some(window) => window_printed(alloc, window, &mut ran.machine)?,
+        None => Paper::new(alloc, 0)?,
+    };
     Ok(Reply {
         out: papers_text(alloc, ran.paper.codes(), after.codes())?,
         note,
         status: status_of(ran.ending),
     })
-}
-
-/// The paper of a post-mortem of the words in a window, or an empty one without a window.
-fn post_mortem_of(
-    alloc: Global,
-    window: Option<Window>,
-    machine: &mut Machine,
-) -> Result<Paper, NoMemory>
-    requires window { IfSome window (IsWindowOf machine.old.size) }
-    requires orders { machine.old.orders + 300000 ≤ 2 ^ 63 }
-    ensures { IfOk result (λ p. p.codes ≡ post_mortem_codes window machine.old) }
-{
-    match window {
-        Some(window) => window_printed(alloc, window, machine),
-        None => Paper::new(alloc, 0),
-    }
 }
 
 /// The paper of the words in a window. No post-mortem of it is refused: it is within the store, and the paper has room.

@@ -7,10 +7,10 @@ ghost use Rattle.ed_link.specs.Tapes.{cost, tape};
 ghost use Rattle.ed_loads.specs.EntryState.{entry_state};
 ghost use Rattle.ed_loads.specs.Refusals.{IsAcceptedAs, IsRefused};
 ghost use Rattle.ed_report.specs.Listings.{listing};
-ghost use Rattle.ed_report.specs.Notes.{ending_line, entry_note, source_fault_line};
+ghost use Rattle.ed_report.specs.Notes.{ending_line, entry_note};
 ghost use Rattle.ed_command.specs.Ranges.{AreSettingsInRange};
 ghost use Rattle.ed_answers.specs.Outcome.{done};
-ghost use Rattle.ed_answers.specs.Replies.{Gives, IsRan, IsRanOf, LinksSource, Refuses, Replies};
+ghost use Rattle.ed_answers.specs.Replies.{Gives, IsRan, IsRanOf, LinksSource, Replies};
 ghost use Rattle.ed_answers.specs.Runs.{run_of};
 ghost use Rattle.ed_answers.specs.Sources.{listing_answer, listing_outcome, punch_answer};
 ghost use Rattle.ed_answers.specs.Sources.{run_answer, run_outcome};
@@ -62,7 +62,11 @@ pub fn list(alloc: Global, settings: Settings, input: &[u8]) -> Result<Reply, Re
 pub fn linked_of(alloc: Global, size: Size, input: &[u8]) -> Result<Linked, Rejection>
     ensures { LinksSource size input.now result }
 {
-    linked(alloc, size, input).map_err(|fault| source_rejection(alloc, &fault))
+    match linked(alloc, size, input) {
+        Ok(linked) => Ok(linked),
+        Err(SourceFault::Memory) => Err(Rejection::Memory),
+        Err(fault) => Err(Rejection::with_line(alloc, source_fault(alloc, &fault))),
+    }
 }
 
 /// The linked program of a source, or the fault of its first faulty line.
@@ -73,17 +77,6 @@ fn linked(alloc: Global, size: Size, input: &[u8]) -> Result<Linked, SourceFault
         → IsRefused size input.now line cause) }
 {
     link(alloc, size, &parse(alloc, input)?)
-}
-
-/// The rejection of a source with a fault.
-fn source_rejection(alloc: Global, fault: &SourceFault) -> Rejection
-    ensures is { Refuses (source_fault_line fault.now) result }
-    ensures memory { fault.now ≡ SourceFault.Memory → result ≡ Rejection.Memory }
-{
-    match fault {
-        SourceFault::Memory => Rejection::Memory,
-        SourceFault::At { .. } => Rejection::with_line(alloc, source_fault(alloc, fault)),
-    }
 }
 
 /// The reply to a source, by its linked program.

@@ -1,6 +1,6 @@
 -- The text that codes add to the paper after others.
 use Rattle.std.proofs.Common.{◌≡◌, ◌∙◌, ℕ, refl, sym, ap, List, [], ◌∷◌, ◌++◌, append_assoc, append-nil}
-use Rattle.std.proofs.Common.{◌≢◌}
+use Rattle.std.proofs.Common.{◌≢◌, ◌⊎◌, inl, inr}
 use Rattle.std.specs.Prelude.{reverse}
 use Rattle.ed_words.proofs.Numbers.{eq_false}
 use Rattle.std.proofs.lemmas.List.{reverse-append}
@@ -34,3 +34,9 @@ pub unset_last : (rest before : List ℕ) (code : ℕ) → rest ≡ before ++ (c
     → latest_shift (reverse rest) ≡ latest_shift (reverse before)
 unset_last rest before code is not11 not15 =
     last_first rest before code is ∙ rw (eq_false code 11 not11, eq_false code 15 not15) refl
+
+-- a last code that sets a shift
+pub set_last : (shift : Shift) (rest before : List ℕ) (code : ℕ) → rest ≡ before ++ (code ∷ [])
+    → (code ≡ 11) ⊎ (code ≡ 15) → shift_after shift code ≡ latest_shift (reverse rest)
+set_last shift rest before code is (inl figures) = rw (last_first rest before code is, figures) refl
+set_last shift rest before code is (inr letters) = rw (last_first rest before code is, letters) refl

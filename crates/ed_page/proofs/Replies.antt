@@ -1,7 +1,6 @@
 -- From the answer to the rows or the lines of a text to that to the text.
-use Rattle.std.proofs.Common.{◌≡◌, ◌∙◌, ◌++◌, ◌<◌, ◌≤◌, ℕ, inl, inr, refl, sym, ap}
-use Rattle.std.proofs.Common.{subst, rules, tests, nat_lt, Bool, true, false, Some, List, []}
-use Rattle.std.proofs.Common.{length}
+use Rattle.std.proofs.Common.{◌≡◌, ◌∙◌, ◌++◌, ℕ, inl, inr, refl, sym, ap}
+use Rattle.std.proofs.Common.{subst, Some, List, []}
 use Rattle.std.specs.Prelude.{Result, Ok, Err, IsErr, IsErrAnd}
 use Rattle.std.proofs.lemmas.Result.{err_from_is_err_and}
 use Rattle.ed_words.specs.declared.size.Size.{Size}
@@ -15,7 +14,6 @@ use Rattle.ed_link.specs.Tapes.{tape}
 use Rattle.ed_link.specs.declared.linked.Linked.{Linked}
 use Rattle.ed_report.specs.Notes.{ending_line, source_fault_line}
 use Rattle.ed_command.specs.declared.command.Settings.{Settings}
-use Rattle.ed_answers.specs.declared.input.TheConstants.{INPUT_BYTES}
 use Rattle.ed_answers.specs.Answer.{OfReading, exactly, of_input}
 use Rattle.ed_words.specs.Texts.{Text}
 use Rattle.ed_answers.specs.Outcome.{Outcome, refusal}
@@ -25,11 +23,10 @@ use Rattle.ed_answers.specs.Sources.{OfSource, entered_before, run_outcome}
 use Rattle.ed_answers.specs.declared.reply.Rejection.{Rejection}
 use Rattle.ed_answers.specs.declared.reply.Rejection.TheVariants.{Memory, Refused}
 use Rattle.ed_answers.specs.declared.reply.Reply.{Reply}
-use Rattle.ed_answers.specs.declared.running.FinishedRun.{FinishedRun}
 use Rattle.ed_answers.specs.declared.source.NotedRun.{NotedRun}
 use Rattle.ed_run.specs.Run.{RunEnd}
 use Rattle.ed_page.specs.Answers.{RowsEnd, SourceEnds}
-use Rattle.ed_page.specs.Private.Stages.{IsAnswered, IsNoted, IsReplied, Runs}
+use Rattle.ed_page.specs.Private.Stages.{IsAnswered, IsReplied, Runs}
 use Rattle.ed_page.proofs.Endings.{noted_run}
 
 -- what `?` passes on
@@ -38,6 +35,11 @@ passed : {T : Type 0} (P : Result T Rejection → Type 0) (e : Rejection) (r : R
 passed P e r is handed =
     let p = err_from_is_err_and r handed.1 in
     subst P (sym (p.1 ∙ ap (λ (x : Rejection). Err x) p.2)) is
+
+-- the reply that refuses a text
+pub refused_reply : (answers : Text → Outcome → Type 0) (text : Text) {e : Rejection} {reply : Reply}
+    → e ≡ Refused reply → IsAnswered answers text (Err e) → IsReplied answers text reply
+refused_reply answers text is a = subst (λ (e : Rejection). IsAnswered answers text (Err e)) is a
 
 -- ---- a tape's text
 
@@ -89,25 +91,20 @@ unfolding codes_of
 same_codes r codes others is same = ap codes_of (sym is ∙ same)
 
 -- the run of its rows
-pub rows_run : (outcome : List ℕ → Outcome) (run : List ℕ → RunEnd) (text : Text) {codes : List ℕ} {ran : FinishedRun}
-    (r : Result NotedRun Rejection) → reading text ≡ rows codes → outcome codes ≡ ran_outcome [] (run codes)
-    → IsRan (run codes) ran → IsNoted ran r
-    → Runs (OfRows (exactly outcome)) (RowsEnd run) text r
-rows_run outcome run text {codes} {ran} (Ok noted) is gives of noted_is = (
-  at_rows (exactly outcome) is (gives ∙ sym (noted_run [] noted (subst (IsRan (run codes)) (sym noted_is.0) of) line)),
+pub rows_run : (outcome : List ℕ → Outcome) (run : List ℕ → RunEnd) (text : Text) {codes : List ℕ} (noted : NotedRun)
+    → reading text ≡ rows codes → outcome codes ≡ ran_outcome [] (run codes)
+    → IsRan (run codes) noted.ran → noted.note.items ≡ ending_line noted.ran.ending noted.ran.machine
+    → Runs (OfRows (exactly outcome)) (RowsEnd run) text (Ok noted)
+rows_run outcome run text {codes} noted is gives of line = (
+  at_rows (exactly outcome) is (gives ∙ sym (noted_run [] noted of line)),
   record {
     some = λ m ends.
-        (λ i. Some (noted_is.0 i).machine) ∙ ap (λ (s : State). Some s) of.state_is
+        ap (λ (s : State). Some s) of.state_is
         ∙ ap (λ (xs : List ℕ). Some (run xs).state) (same_codes (reading text) codes ends.0 is ends.1)
         ∙ ap (λ (t : State). Some t) (sym ends.2);
     none = λ nothing. absurd (nothing (run codes).state (codes, is, refl));
   },
 )
-  where
-    line : noted.note.items ≡ ending_line noted.ran.ending noted.ran.machine
-    line = noted_is.1 ∙ (λ i. ending_line (sym noted_is.0 i).ending (sym noted_is.0 i).machine)
-rows_run outcome run text (Err (Refused reply)) is gives of noted_is = absurd noted_is
-rows_run outcome run text (Err Memory) is gives of noted_is = tt
 
 -- no run of a text that is refused
 not_run : (outcome : List ℕ → Outcome) (run : List ℕ → RunEnd) (text : Text) (e : Rejection)

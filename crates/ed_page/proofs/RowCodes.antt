@@ -1,5 +1,5 @@
 -- The rows that a text spells, and those of the tape of a source, are codes.
-use Rattle.std.proofs.Common.{◌≡◌, ◌∙◌, ◌-◌, ℕ, ap, drop, sym, List, ◌++◌, take, length}
+use Rattle.std.proofs.Common.{◌≡◌, ◌∙◌, ◌-◌, ℕ, zero, suc, ap, drop, subst, sym, List, [], ◌∷◌, ◌++◌, take, length}
 use Rattle.std.proofs.lemmas.List.{length-drop}
 use Rattle.std.proofs.Math.Seq.{take-length}
 use Rattle.ed_words.specs.Texts.{Text}
@@ -26,3 +26,12 @@ source_codes z text lines accepted =
 -- the codes from one on are all that follow
 pub codes_after : (n : ℕ) (all : List ℕ) → take (length all - n) (drop n all) ≡ drop n all
 codes_after n all = ap (λ (m : ℕ). take m (drop n all)) (sym (length-drop n all)) ∙ take-length (drop n all)
+
+-- and they are codes
+dropped : (n : ℕ) (all : List ℕ) → AreCodes all → AreCodes (drop n all)
+dropped zero all are = are
+dropped (suc n) [] are = are
+dropped (suc n) (code ∷ rest) are = dropped n rest (λ i. are (suc i))
+
+pub are_after : (n : ℕ) (all : List ℕ) → AreCodes all → AreCodes (take (length all - n) (drop n all))
+are_after n all are = subst AreCodes (sym (codes_after n all)) (dropped n all are)

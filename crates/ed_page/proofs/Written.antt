@@ -15,6 +15,7 @@ use Rattle.ed_page.specs.Answers.{LacksLine, LacksRoom, ShowsNone, TextBuffers, 
 use Rattle.ed_page.specs.Pictures.{Pictures}
 use Rattle.ed_page.specs.Private.Stages.{AreTextsWritten, IsPicture, IsReplied, IsWrittenOut}
 use Rattle.ed_page.specs.Private.Stages.{WritesBuffers, told_outcome}
+use Rattle.ed_page.specs.declared.running.Shown.{Shown}
 use Rattle.ed_page.specs.declared.writing.Lengths.{Lengths}
 use Rattle.ed_page.specs.declared.writing.Registers.{Registers}
 
@@ -240,15 +241,15 @@ long_shown answers Ends text {before} fits long w = record {
 }
 
 -- what was drawn of a text is shown
-pub picture_shown : (answers : Text → Outcome → Type 0) (Ends : Text → State → Type 0) (text : Text) {reply : Reply}
-    {machine : Option State} {answer line : Text} {before after : Buffers} {status : ℕ}
-    → StoreFits before → length text ≤ INPUT_BYTES → IsPicture answers Ends text reply machine
-    → answer ≡ reply.out.items → line ≡ reply.note.items
-    → WritesBuffers (told_outcome answer line reply.status) machine before after status
+pub picture_shown : (answers : Text → Outcome → Type 0) (Ends : Text → State → Type 0) (text : Text) {shown : Shown}
+    {answer line : Text} {before after : Buffers} {status : ℕ}
+    → StoreFits before → length text ≤ INPUT_BYTES → IsPicture answers Ends text shown
+    → answer ≡ shown.reply.out.items → line ≡ shown.reply.note.items
+    → WritesBuffers (told_outcome answer line shown.reply.status) shown.machine before after status
     → IsShown (of_input answers) Ends text before after status
-picture_shown answers Ends text {machine = machine} {before = before} {after} {status} fits few (r, m) out note w =
+picture_shown answers Ends text {shown} {before = before} {after} {status} fits few (r, m) out note w =
     let is =
-    subst (λ (o : Outcome). WritesBuffers o machine before after status) (reply_is r.0 r.2 out note) w in
+    subst (λ (o : Outcome). WritesBuffers o shown.machine before after status) (reply_is r.0 r.2 out note) w in
     record {
       memory = λ e. absurd (is.0 e);
       told = λ not10. (

@@ -4,7 +4,7 @@ ghost use Rattle.std.specs.Prelude.{◌≤◌, length};
 ghost use Rattle.ed_answers.specs.Answer.{of_input};
 ghost use Rattle.ed_answers.specs.declared.input.TheConstants.{INPUT_BYTES};
 ghost use Rattle.ed_page.specs.Answers.{IsTextWritten, text_buffers};
-ghost use Rattle.ed_page.specs.Private.Asked.{answers_to};
+ghost use Rattle.ed_page.specs.Private.Asked.{answers_to, answers_to_rows};
 ghost use Rattle.ed_page.specs.Private.Stages.{IsAnswered};
 
 use crate::first_items::row_items1;
@@ -13,6 +13,7 @@ use crate::texts::row_codes;
 use crate::told::{NO_MEMORY, TOO_LONG_STATUS, tell};
 use crate::writing::Lengths;
 use ed_answers::{INPUT_BYTES, Rejection, Reply, TOO_LONG, linked_of, list, punch, rows_of};
+use ed_codes::Code;
 use ed_command::Settings;
 use ed_words::Size;
 use std::alloc::Global;
@@ -20,18 +21,25 @@ use std::alloc::Global;
 /// What is asked about a text.
 #[derive(Drop)]
 pub enum Asked {
-    /// The codes of the rows of a tape.
-    Rows,
-    /// The items of a tape on a machine of a size.
-    Items(Size),
-    /// The items of a tape for the Initial Orders of May 1949.
-    Items1,
+    /// Something about the rows of a tape.
+    Tape(AskedOfRows),
     /// The codes of the rows of a source's tape.
     SourceRows(Size),
     /// The text of a source's tape.
     Punch(Settings),
     /// The listing of a source.
     Listing(Settings),
+}
+
+/// What is asked about the rows of a tape.
+#[derive(Drop)]
+pub enum AskedOfRows {
+    /// Their codes.
+    Codes,
+    /// Their items on a machine of a size.
+    Items(Size),
+    /// Their items for the Initial Orders of May 1949.
+    Items1,
 }
 
 /// Writes what is answered to a text into two buffers, if they have room.
@@ -49,18 +57,12 @@ pub fn write_answer(
     if text.len() > INPUT_BYTES {
         return tell(&[], TOO_LONG, TOO_LONG_STATUS, out, note, lengths);
     }
-    match answer(alloc, asked, text) {
-        Ok(reply) => tell(&reply.out, &reply.note, reply.status, out, note, lengths),
-        Err(Rejection::Refused(reply)) => tell(
-            &reply.out,
-            &reply.note,
-            reply.status,
-            out,
-            note,
-            lengths,
-        ),
-        Err(Rejection::Memory) => NO_MEMORY,
-    }
+    let reply = match answer(alloc, asked, text) {
+        Ok(reply) => reply,
+        Err(Rejection::Refused(reply)) => reply,
+        Err(Rejection::Memory) => return NO_MEMORY,
+    };
+    tell(&reply.out, &reply.note, reply.status, out, note, lengths)
 }
 
 /// What is answered to a text that is not too long.
@@ -69,14 +71,24 @@ fn answer(alloc: Global, asked: Asked, text: &[u8]) -> Result<Reply, Rejection>
     ensures { IsAnswered (answers_to asked) text.now result }
 {
     match asked {
-        Asked::Rows => Ok(row_codes(alloc, &rows_of(alloc, text)?)?),
-        Asked::Items(size) => row_items(alloc, size, &rows_of(alloc, text)?),
-        Asked::Items1 => row_items1(alloc, &rows_of(alloc, text)?),
+        Asked::Tape(asked) => answer_of_rows(alloc, asked, &rows_of(alloc, text)?),
         Asked::SourceRows(size) => {
             let rows = linked_of(alloc, size, text)?.rows()?;
             Ok(row_codes(alloc, &rows)?)
         }
         Asked::Punch(settings) => punch(alloc, settings, text),
         Asked::Listing(settings) => list(alloc, settings, text),
+    }
+}
+
+/// What is answered about the rows of a text that is not too long.
+fn answer_of_rows(alloc: Global, asked: AskedOfRows, rows: &[Code]) -> Result<Reply, Rejection>
+    requires { length rows.now ≤ INPUT_BYTES }
+    ensures { IsAnswered (answers_to_rows asked) rows.now result }
+{
+    match asked {
+        AskedOfRows::Codes => Ok(row_codes(alloc, rows)?),
+        AskedOfRows::Items(size) => row_items(alloc, size, rows),
+        AskedOfRows::Items1 => row_items1(alloc, rows),
     }
 }

@@ -2,19 +2,19 @@
 
 ghost use Rattle.std.specs.Prelude.{◌≡◌, ◌≤◌, IfOk, None, length, take};
 ghost use Rattle.ed_page.specs.Answers.{IsTextWritten, text_buffers};
-ghost use Rattle.ed_page.specs.Private.ItemTables.{first_word, table_on1};
+ghost use Rattle.ed_page.specs.Private.ItemTables.{table_on1};
 ghost use Rattle.ed_page.specs.Private.Stages.{IsAnswered};
 ghost use Rattle.ed_page.specs.TapeItems.{IsItemsOutcome1, items1_answer};
 ghost use Rattle.ed_answers.specs.declared.input.TheConstants.{INPUT_BYTES};
 
-use crate::asked::{Asked, write_answer};
+use crate::asked::{Asked, AskedOfRows, write_answer};
 use crate::items::{OpenItem, REFUSED, push_numbers};
 use crate::writing::Lengths;
 use ed_answers::{Rejection, Reply};
 use ed_codes::{Code, letters};
 use ed_initial1::{Tape1Fault, check1};
 use ed_report::tape1_fault;
-use ed_words::{NoMemory, Word};
+use ed_words::NoMemory;
 use std::alloc::Global;
 
 /// The location of the first word of a tape.
@@ -32,7 +32,8 @@ pub extern "C" fn page_items1(
     ensures { IsTextWritten items1_answer text.now (text_buffers items.old note.old lengths.old)
         (text_buffers items.new note.new lengths.new) result }
 {
-    write_answer(alloc, Asked::Items1, text, items, note, lengths)
+    let asked = Asked::Tape(AskedOfRows::Items1);
+    write_answer(alloc, asked, text, items, note, lengths)
 }
 
 /// What is answered about the items of rows.
@@ -72,8 +73,9 @@ fn item_table1(alloc: Global, rows: &[Code], count: usize) -> Result<Vec<u8>, No
                 if code.value() < 10 {
                     Some(item.with_digit(code.value()))
                 } else {
-                    let word = item.first_word(*code);
-                    let line = [item.first, row as u32 + 1, location, word.value()];
+                    let sum = item.sum() + u64::from(code.value() == letters::L);
+                    let word = (sum % (1 << 17)) as u32;
+                    let line = [item.first, row as u32 + 1, location, word];
                     push_numbers(&mut table, &line)?;
                     location += 1;
                     None
@@ -82,15 +84,4 @@ fn item_table1(alloc: Global, rows: &[Code], count: usize) -> Result<Vec<u8>, No
         };
     }
     Ok(table)
-}
-
-impl OpenItem {
-    /// The word of the item that a row ends, a long one if the row is L.
-    fn first_word(&self, end: Code) -> Word
-        requires { self.now.number ≤ 327679 }
-        ensures { result ≡ first_word self.now end }
-    {
-        let sum = self.sum() + u64::from(end.value() == letters::L);
-        Word::of_number((sum % (1 << 17)) as u32)
-    }
 }

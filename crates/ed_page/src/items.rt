@@ -15,7 +15,7 @@ ghost use Rattle.ed_page.specs.Private.Stages.{IsAnswered, HasEntryRows};
 ghost use Rattle.ed_page.specs.TapeItems.{IsItemsOutcome, PlacingLaw, four_bytes, item_line, items_answer};
 ghost use Rattle.ed_answers.specs.declared.input.TheConstants.{INPUT_BYTES};
 
-use crate::asked::{Asked, write_answer};
+use crate::asked::{Asked, AskedOfRows, write_answer};
 use crate::running::size_of;
 use crate::writing::Lengths;
 use ed_answers::{Rejection, Reply};
@@ -68,7 +68,7 @@ pub extern "C" fn page_items(
         (text_buffers items.new note.new lengths.new) result }
     ensures law { PlacingLaw }
 {
-    let asked = Asked::Items(size_of(small));
+    let asked = Asked::Tape(AskedOfRows::Items(size_of(small)));
     write_answer(alloc, asked, text, items, note, lengths)
 }
 
@@ -271,7 +271,12 @@ impl Notation {
     {
         match self.placing(item, end) {
             Some((location, word)) => self.place(location, word),
-            None => self.control(item, end),
+            None => match end.value() {
+                letters::Z => self.take_zed(item),
+                letters::K => self.take_kay(item),
+                letters::BLANK => self.theta = self.directive,
+                _ => {}
+            },
         }
     }
 
@@ -290,22 +295,6 @@ impl Notation {
             self.contents.put_short(location, word);
         }
         self.directive += 2;
-    }
-
-    /// Takes an item that places no word.
-    fn control(&mut self, item: &OpenItem, end: Code)
-        requires number { item.now.number ≤ 327679 }
-        requires bound { (self.old.directive ≤ 2 ^ 42) × (self.old.theta ≤ 2 ^ 42) }
-        requires none { placing_over self.old (whole_item item.now end) ≡ None }
-        ensures is { self.new ≡ notation_after self.old (whole_item item.now end) }
-        ensures bound { IsSetBelow self.old self.new }
-    {
-        match end.value() {
-            letters::Z => self.take_zed(item),
-            letters::K => self.take_kay(item),
-            letters::BLANK => self.theta = self.directive,
-            _ => {}
-        }
     }
 
     /// Takes an item that ends with K: blank and G set θ, every other function the directive.

@@ -1,12 +1,13 @@
 //! The teleprinter's text of codes that were printed.
 
-ghost use Rattle.std.specs.Prelude.{◌≡◌, IfOk, List, ℕ, reverse};
+ghost use Rattle.std.specs.Prelude.{◌≡◌, IfOk, reverse};
 ghost use Rattle.ed_printer.specs.Paper.{latest_shift};
 ghost use Rattle.ed_page.specs.Going.{AreCodes, IsPaperWritten, PaperLaw, added_text};
 
-use crate::pictured::{code_of, codes_of};
+use crate::pictured::codes_of;
 use crate::told::{NO_MEMORY, NO_ROOM};
 use crate::writing::write_text;
+use ed_codes::Code;
 use ed_codes::letters::{FIGURE_SHIFT, LETTER_SHIFT};
 use ed_printer::Printer;
 use ed_words::NoMemory;
@@ -31,7 +32,12 @@ pub extern "C" fn page_paper(
     ensures law { PaperLaw }
 {
     match added_text(alloc, before, codes) {
-        Ok(added) => tell(&added, text, printed),
+        Ok(added) if text.len() < added.len() => NO_ROOM,
+        Ok(added) => {
+            write_text(&added, text);
+            *printed = added.len() as u64;
+            WRITTEN
+        }
         Err(NoMemory) => NO_MEMORY,
     }
 }
@@ -55,23 +61,10 @@ fn printer_after(codes: &[u8]) -> Printer
     while let Some((code, before)) = rest.split_last() {
         if *code == FIGURE_SHIFT || *code == LETTER_SHIFT {
             let mut printer = Printer::new();
-            printer.strike(code_of(*code));
+            printer.strike(Code::new(*code).unwrap_or_default());
             return printer;
         }
         rest = before;
     }
     Printer::new()
-}
-
-/// Writes a text and its length, if the buffer has room.
-fn tell(added: &[u8], text: &mut [u8], printed: &mut u64) -> u32
-    ensures { (before codes : List ℕ) → added.now ≡ added_text before codes
-        → IsPaperWritten before codes text.old text.new printed.old printed.new result }
-{
-    if text.len() < added.len() {
-        return NO_ROOM;
-    }
-    write_text(added, text);
-    *printed = added.len() as u64;
-    WRITTEN
 }

@@ -81,15 +81,7 @@ pub fn codes_of(alloc: Global, numbers: &[u8]) -> Result<Vec<Code>, NoMemory>
 {
     let mut codes = Vec::new(alloc);
     for number in numbers {
-        codes.push(code_of(*number))?;
+        codes.push(Code::new(*number).unwrap_or_default())?;
     }
     Ok(codes)
-}
-
-/// The code of a number below 32.
-pub fn code_of(number: u8) -> Code
-    requires { number < 32 }
-    ensures { result ≡ number }
-{
-    Code::new(number).unwrap_or_default()
 }

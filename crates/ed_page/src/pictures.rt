@@ -1,4 +1,4 @@
-ghost use Rattle.std.specs.Prelude.{◌≡◌, ◌≢◌, ◌<◌, IfSome, List, None, false, length, ℕ};
+ghost use Rattle.std.specs.Prelude.{◌≡◌, ◌≢◌, ◌<◌, List, None, false, length, ℕ};
 ghost use Rattle.ed_codes.specs.Reading.{reading, rows};
 ghost use Rattle.ed_lines.specs.declared.program.Line.{Line};
 ghost use Rattle.ed_loads.specs.Refusals.{IsAcceptedAs};
@@ -8,19 +8,20 @@ ghost use Rattle.ed_answers.specs.Answer.{of_input};
 ghost use Rattle.ed_answers.specs.FirstOrders.{first_state1, tape1_answer};
 ghost use Rattle.ed_answers.specs.Sources.{run_answer};
 ghost use Rattle.ed_answers.specs.Tapes.{tape_answer};
-ghost use Rattle.ed_page.specs.Answers.{EachRunReadsOn, IsShown, SourceEnds, TapeEnds, blank_registers};
+ghost use Rattle.ed_page.specs.Answers.{EachRunReadsOn, IsShown, SourceEnds, TapeEnds};
 ghost use Rattle.ed_page.specs.Answers.{EachRun1ReadsOn, Tape1Ends, picture_buffers};
 ghost use Rattle.ed_page.specs.Going.{BeginsOnTheWay};
-ghost use Rattle.ed_page.specs.Pictures.{Pictures, run_settings, size_shown};
+ghost use Rattle.ed_page.specs.Pictures.{run_settings, size_shown};
 ghost use Rattle.ed_page.specs.Private.Asked.{answers_of, ends_of};
 ghost use Rattle.ed_page.specs.Private.Stages.{WritesBuffers, told_outcome};
 
 use crate::running::{ProgramKind, picture_of, run_settings};
 use crate::told::{NO_MEMORY, NO_ROOM, TOO_LONG_STATUS, write_texts};
-use crate::writing::{Lengths, Registers, no_registers, registers_of, write_store};
-use ed_answers::{INPUT_BYTES, Rejection, TOO_LONG};
+use crate::writing::{NO_CODE, Registers, registers_of, write_store};
+use ed_answers::{INPUT_BYTES, TOO_LONG};
 use ed_command::Settings;
 use ed_machine::Machine;
+use ed_words::NoMemory;
 use std::alloc::Global;
 
 /// Shows the machine after `orders` orders from Start on a tape's text, or at the end of its run if that comes first.
@@ -183,18 +184,7 @@ fn draw(
             note,
             registers,
         ),
-        Err(Rejection::Refused(reply)) => show(
-            &reply.out,
-            &reply.note,
-            reply.status,
-            &None,
-            words,
-            digits,
-            paper,
-            note,
-            registers,
-        ),
-        Err(Rejection::Memory) => NO_MEMORY,
+        Err(NoMemory) => NO_MEMORY,
     }
 }
 
@@ -218,35 +208,25 @@ fn show(
         (picture_buffers words.old digits.old paper.old note.old registers.old)
         (picture_buffers words.new digits.new paper.new note.new registers.new) result }
 {
-    match write_texts(answer, line, paper, note) {
-        Some(lengths) => {
-            *registers = write_machine(machine, lengths, words, digits);
-            u32::from(status)
-        }
-        None => NO_ROOM,
-    }
-}
-
-/// Writes the store of a machine, if there is one, and gives its registers.
-fn write_machine(
-    machine: &Option<Machine>,
-    lengths: Lengths,
-    words: &mut [u32],
-    digits: &mut [u8],
-) -> Registers
-    requires words { length words.old ≡ 1024 }
-    requires digits { length digits.old ≡ 512 }
-    ensures state { IfSome machine.now (λ m. Pictures m words.new digits.new result) }
-    ensures none { machine.now ≡ None → (words.new ≡ words.old) × (digits.new ≡ digits.old)
-        × (result ≡ blank_registers lengths.out lengths.note) }
-    ensures printed { result.printed ≡ lengths.out }
-    ensures noted { result.noted ≡ lengths.note }
-{
-    match machine {
+    let Some(lengths) = write_texts(answer, line, paper, note) else {
+        return NO_ROOM;
+    };
+    *registers = match machine {
         Some(machine) => {
             write_store(machine, words, digits);
             registers_of(machine, lengths)
         }
-        None => no_registers(lengths),
-    }
+        None => Registers {
+            acc_low: 0,
+            acc_high: 0,
+            multiplier: 0,
+            orders: 0,
+            rows_left: 0,
+            counter: 0,
+            last: NO_CODE,
+            printed: lengths.out,
+            noted: lengths.note,
+        },
+    };
+    u32::from(status)
 }

@@ -1,16 +1,15 @@
-ghost use Rattle.std.specs.Prelude.{◌≡◌, None};
+ghost use Rattle.std.specs.Prelude.{◌≡◌, IfOk, None};
 ghost use Rattle.ed_page.specs.Pictures.{run_settings, size_shown};
 ghost use Rattle.ed_page.specs.Private.Asked.{answers_of, ends_of};
-ghost use Rattle.ed_page.specs.Private.Stages.{Draws, IsNoted, Runs};
+ghost use Rattle.ed_page.specs.Private.Stages.{IsPicture, Runs};
 
 use ed_answers::{
-    FinishedRun, NotedRun, Rejection, Reply, linked_of, ran_reply, rows_of, run_linked, run_rows,
-    run_rows1,
+    NotedRun, Rejection, Reply, linked_of, ran_reply, rows_of, run_linked, run_rows, run_rows1,
 };
 use ed_command::Settings;
 use ed_machine::Machine;
 use ed_report::ending_text;
-use ed_words::Size;
+use ed_words::{NoMemory, Size};
 use std::alloc::Global;
 
 /// The kind of a program that is run.
@@ -24,7 +23,7 @@ pub enum ProgramKind {
     Source,
 }
 
-/// What is shown of a run: what the program answers, and the machine.
+/// What is shown of a text: what the program answers, and the machine if it ran.
 #[derive(Drop)]
 pub struct Shown {
     pub reply: Reply,
@@ -50,22 +49,27 @@ pub fn run_settings(small: bool, orders: u32, resumes: u32) -> Settings
     }
 }
 
-/// What is shown of the run of a text.
+/// What is shown of the run of a text, or of its refusal.
 pub fn picture_of(
     alloc: Global,
     kind: ProgramKind,
     settings: Settings,
     text: &[u8],
-) -> Result<Shown, Rejection>
+) -> Result<Shown, NoMemory>
     requires { settings.post_mortem ≡ None }
-    ensures { Draws (answers_of kind settings) (ends_of kind settings) text.now result }
+    ensures { IfOk result (λ shown. IsPicture (answers_of kind settings) (ends_of kind settings) text.now shown) }
 {
-    let NotedRun { ran, note } = run_program(alloc, kind, settings, text)?;
-    let reply = ran_reply(alloc, &ran, note)?;
-    Ok(Shown {
-        reply,
-        machine: Some(ran.machine),
-    })
+    match run_program(alloc, kind, settings, text) {
+        Ok(NotedRun { ran, note }) => Ok(Shown {
+            reply: ran_reply(alloc, &ran, note)?,
+            machine: Some(ran.machine),
+        }),
+        Err(Rejection::Refused(reply)) => Ok(Shown {
+            reply,
+            machine: None,
+        }),
+        Err(Rejection::Memory) => Err(NoMemory),
+    }
 }
 
 /// The run of a text, with its note.
@@ -78,20 +82,14 @@ fn run_program(
     requires { settings.post_mortem ≡ None }
     ensures { Runs (answers_of kind settings) (ends_of kind settings) text.now result }
 {
-    match kind {
-        ProgramKind::Tape => noted(alloc, run_rows(alloc, settings, rows_of(alloc, text)?)?),
-        ProgramKind::Tape1 => noted(alloc, run_rows1(alloc, settings, rows_of(alloc, text)?)?),
+    let ran = match kind {
+        ProgramKind::Tape => run_rows(alloc, settings, rows_of(alloc, text)?)?,
+        ProgramKind::Tape1 => run_rows1(alloc, settings, rows_of(alloc, text)?)?,
         ProgramKind::Source => {
             let linked = linked_of(alloc, settings.size, text)?;
-            Ok(run_linked(alloc, settings, &linked)?)
+            return Ok(run_linked(alloc, settings, &linked)?);
         }
-    }
-}
-
-/// A run that ended, with the line of its ending.
-fn noted(alloc: Global, ran: FinishedRun) -> Result<NotedRun, Rejection>
-    ensures { IsNoted ran result }
-{
+    };
     let note = ending_text(alloc, ran.ending, &ran.machine)?;
     Ok(NotedRun { ran, note })
 }

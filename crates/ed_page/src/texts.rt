@@ -6,7 +6,7 @@ ghost use Rattle.ed_answers.specs.Sources.{listing_answer, of_source, punch_answ
 ghost use Rattle.ed_page.specs.Answers.{IsTextWritten, source_rows, text_buffers};
 ghost use Rattle.ed_page.specs.Pictures.{run_settings, size_shown};
 
-use crate::asked::{Asked, write_answer};
+use crate::asked::{Asked, AskedOfRows, write_answer};
 use crate::running::{run_settings, size_of};
 use crate::writing::Lengths;
 use ed_answers::Reply;
@@ -28,7 +28,8 @@ pub extern "C" fn page_tape_rows(
     ensures { IsTextWritten (of_rows (exactly done)) text.now (text_buffers rows.old note.old lengths.old)
         (text_buffers rows.new note.new lengths.new) result }
 {
-    write_answer(alloc, Asked::Rows, text, rows, note, lengths)
+    let asked = Asked::Tape(AskedOfRows::Codes);
+    write_answer(alloc, asked, text, rows, note, lengths)
 }
 
 /// Writes the codes of the rows of a source's tape, as `page_tape_rows` does.

@@ -1,6 +1,5 @@
 ghost use Rattle.std.specs.Prelude.{◌≡◌, ◌≤◌, ◌++◌, drop, length};
-ghost use Rattle.ed_page.specs.Answers.{blank_registers};
-ghost use Rattle.ed_page.specs.Pictures.{PicturesStore, PicturesRegisters, last_shown};
+ghost use Rattle.ed_page.specs.Pictures.{PicturesStore, PicturesRegisters};
 
 use ed_codes::Code;
 use ed_machine::Machine;
@@ -85,34 +84,10 @@ pub fn registers_of(machine: &Machine, lengths: Lengths) -> Registers
         orders: machine.orders_done(),
         rows_left: machine.rows_left().len() as u64,
         counter: u64::from(machine.counter()),
-        last: last_shown(machine.last_printed()),
-        printed: lengths.out,
-        noted: lengths.note,
-    }
-}
-
-/// The last printed code as a number, which is not a code if nothing was printed.
-fn last_shown(last: Option<Code>) -> u64
-    ensures { result ≡ last_shown last }
-{
-    match last {
-        Some(code) => u64::from(code.value()),
-        None => NO_CODE,
-    }
-}
-
-/// Registers of no machine, with the lengths of two texts.
-pub fn no_registers(lengths: Lengths) -> Registers
-    ensures { result ≡ blank_registers lengths.out lengths.note }
-{
-    Registers {
-        acc_low: 0,
-        acc_high: 0,
-        multiplier: 0,
-        orders: 0,
-        rows_left: 0,
-        counter: 0,
-        last: NO_CODE,
+        last: match machine.last_printed() {
+            Some(code) => u64::from(code.value()),
+            None => NO_CODE,
+        },
         printed: lengths.out,
         noted: lengths.note,
     }

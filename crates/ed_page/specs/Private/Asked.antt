@@ -1,4 +1,5 @@
 -- The answers to what is asked about a text, and to a program whose run is shown.
+use Rattle.std.specs.Prelude.{ℕ, List}
 use Rattle.ed_codes.specs.Reading.{reading}
 use Rattle.ed_machine.specs.State.{State}
 use Rattle.ed_command.specs.declared.command.Settings.{Settings}
@@ -11,15 +12,21 @@ use Rattle.ed_answers.specs.Tapes.{tape_outcome}
 use Rattle.ed_page.specs.Answers.{SourceEnds, Tape1Ends, TapeEnds, source_rows}
 use Rattle.ed_page.specs.TapeItems.{IsItemsOutcome, IsItemsOutcome1}
 use Rattle.ed_page.specs.declared.asked.Asked.{Asked}
-use Rattle.ed_page.specs.declared.asked.Asked.TheVariants.{Rows, Items, Items1, SourceRows, Punch, Listing}
+use Rattle.ed_page.specs.declared.asked.Asked.TheVariants.{Tape as OfTape, SourceRows, Punch, Listing}
+use Rattle.ed_page.specs.declared.asked.AskedOfRows.{AskedOfRows}
+use Rattle.ed_page.specs.declared.asked.AskedOfRows.TheVariants.{Codes, Items, Items1}
 use Rattle.ed_page.specs.declared.running.ProgramKind.{ProgramKind}
 use Rattle.ed_page.specs.declared.running.ProgramKind.TheVariants.{Tape, Tape1, Source}
 
+-- the outcomes of rows, by what is asked about them
+abbrev pub answers_to_rows : AskedOfRows → List ℕ → Outcome → Type 0
+answers_to_rows Codes = exactly done
+answers_to_rows (Items z) = IsItemsOutcome z
+answers_to_rows Items1 = IsItemsOutcome1
+
 -- the outcomes of a text that is not too long, by what is asked about it
 abbrev pub answers_to : Asked → Text → Outcome → Type 0
-answers_to Rows = λ text. OfReading (exactly done) (reading text)
-answers_to (Items z) = λ text. OfReading (IsItemsOutcome z) (reading text)
-answers_to Items1 = λ text. OfReading IsItemsOutcome1 (reading text)
+answers_to (OfTape a) = λ text. OfReading (answers_to_rows a) (reading text)
 answers_to (SourceRows z) = OfSource z source_rows
 answers_to (Punch s) = OfSource s.size punch_outcome
 answers_to (Listing s) = OfSource s.size listing_outcome

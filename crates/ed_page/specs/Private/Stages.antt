@@ -9,7 +9,6 @@ use Rattle.ed_notation.specs.Faults.{IsFault}
 use Rattle.ed_notation.specs.Reports.{Report}
 use Rattle.ed_notation.specs.declared.cause.TapeFault.{TapeFault}
 use Rattle.ed_notation.specs.declared.cause.TapeFault.TheVariants.{At, Memory as NoStore}
-use Rattle.ed_report.specs.Notes.{ending_line}
 use Rattle.ed_words.specs.Texts.{Text}
 use Rattle.ed_answers.specs.Outcome.{Outcome}
 use Rattle.ed_answers.specs.Replies.{Gives}
@@ -18,7 +17,6 @@ use Rattle.ed_answers.specs.Tapes.{first_note}
 use Rattle.ed_answers.specs.declared.reply.Rejection.{Rejection}
 use Rattle.ed_answers.specs.declared.reply.Rejection.TheVariants.{Memory, Refused}
 use Rattle.ed_answers.specs.declared.reply.Reply.{Reply}
-use Rattle.ed_answers.specs.declared.running.FinishedRun.{FinishedRun}
 use Rattle.ed_answers.specs.declared.source.NotedRun.{NotedRun}
 use Rattle.ed_page.specs.Answers.{Buffers, HasItsCause, HasPictureRoom, HasBufferRoom, ShowsNone, HoldsText}
 use Rattle.ed_page.specs.Answers.{TextBuffers}
@@ -45,16 +43,9 @@ pub record IsMachineOf (Ends : Text → State → Type 0) (text : Text) (machine
   pub some : (m : State) → Ends text m → machine ≡ Some m
   pub none : ((m : State) → Ends text m → ⊥) → machine ≡ None
 
--- a reply is one that a text may have, and a machine is the one in which its run ends
-abbrev pub IsPicture :
-    (Text → Outcome → Type 0) → (Text → State → Type 0) → Text → Reply → Option State → Type 0
-IsPicture answers Ends text reply machine = IsReplied answers text reply × IsMachineOf Ends text machine
-
--- the same of what is shown, whether the text is refused or not
-abbrev pub Draws : (Text → Outcome → Type 0) → (Text → State → Type 0) → Text → Result Shown Rejection → Type 0
-Draws answers Ends text (Ok shown) = IsPicture answers Ends text shown.reply shown.machine
-Draws answers Ends text (Err (Refused reply)) = IsPicture answers Ends text reply None
-Draws answers Ends text (Err Memory) = Unit {0}
+-- what is shown is a reply that a text may have, and the machine in which its run ends
+abbrev pub IsPicture : (Text → Outcome → Type 0) → (Text → State → Type 0) → Text → Shown → Type 0
+IsPicture answers Ends text shown = IsReplied answers text shown.reply × IsMachineOf Ends text shown.machine
 
 -- what the program answers of a run with its note
 abbrev pub noted_outcome : NotedRun → Outcome
@@ -65,14 +56,8 @@ noted_outcome noted =
 abbrev pub Runs : (Text → Outcome → Type 0) → (Text → State → Type 0) → Text → Result NotedRun Rejection → Type 0
 Runs answers Ends text (Ok noted) =
     answers text (noted_outcome noted) × IsMachineOf Ends text (Some noted.ran.machine)
-Runs answers Ends text (Err (Refused reply)) = IsPicture answers Ends text reply None
+Runs answers Ends text (Err (Refused reply)) = IsReplied answers text reply × IsMachineOf Ends text None
 Runs answers Ends text (Err Memory) = Unit {0}
-
--- a run has the line of its ending, or no memory was found
-abbrev pub IsNoted : FinishedRun → Result NotedRun Rejection → Type 0
-IsNoted ran (Ok noted) = (noted.ran ≡ ran) × (noted.note.items ≡ ending_line ran.ending ran.machine)
-IsNoted ran (Err (Refused reply)) = ⊥
-IsNoted ran (Err Memory) = Unit {0}
 
 -- two texts were written at the beginnings of two buffers, and these are their lengths; or there was no room, and
 -- nothing was written

@@ -1,3 +1,4 @@
+use Rattle.std.proofs.Common.{rules}
 use Rattle.ed_answers.proofs.Checks.{entry_found, fault_found}
 use Rattle.ed_answers.proofs.check.check_rows.Goals as goal
 
@@ -8,5 +9,5 @@ returns-in-Ok c =
 
 pub returns : goal.returns
 returns c =
-    fault_found c.args.settings c.args.rows.now c.in-Err.fault _ c.in_ok-store.ensures
-    c.in-Err.ensures.answers c.fault_reply.ensures.is c.fault_reply.ensures.told
+    fault_found c.args.settings c.args.rows.now c.in-Err.fault _ c.in_ok-store.ensures c.in-Err.ensures.answers
+    (search rules) c.in_ok-tape_fault-in-Err.ensures c.refusal.ensures

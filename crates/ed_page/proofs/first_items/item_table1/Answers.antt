@@ -1,4 +1,5 @@
-use Rattle.std.proofs.Common.{◌<◌, ◌≤◌, subst, ℕ}
+use Rattle.std.proofs.Common.{◌∙◌, ◌+◌, ◌%◌, ◌^◌, ◌<◌, ◌≤◌, ap, nat_eq, subst, ℕ}
+use Rattle.ed_words.specs.Words.{digit}
 use Rattle.ed_page.proofs.FirstItemRows.{tabled_digit1, tabled_end1, tabled_function1, tabled_last1}
 use Rattle.ed_page.proofs.first_items.item_table1.Goals.{in-None, in-Some+then-value-lt10}
 use Rattle.ed_page.proofs.first_items.item_table1.Goals.{in-Some+else-value-lt10+in_ok-push_numbers-in-Some}
@@ -17,8 +18,10 @@ loop-row-preserved c = elim c.match-part.branch [
       let high : 10 ≤ c.index-read-row.result = subst (λ (n : ℕ). 10 ≤ n) w.value.ensures.is w.if-value-lt10.false in
       rw (w.location-is, w.part-is, w.table-is)
       (tabled_last1 (rw w.in-Some.is at c.loop-row.invariant) c.loop-row-test.true c.index-read-row.is high
-      w.first_word-word.result w.first_word-word.ensures
-      (rw w.value-else-value-lt10.ensures.is at w.in_ok-push_numbers-in-Some.ensures))
+      _
+      (λ i. (w.sum.ensures.is i + (w.from.ensures ∙ ap (λ n. digit (nat_eq n 25)) w.value-else-value-lt10.ensures.is) i)
+      % 2 ^ 17)
+      w.in_ok-push_numbers-in-Some.ensures)
 ]
 
 pub returns : goal.returns

@@ -6,3 +6,6 @@ returns-in-Ok-clause-law c = paper_law
 
 pub returns-in-Err-clause-law : goal.returns-in-Err-clause-law
 returns-in-Err-clause-law c = paper_law
+
+pub returns-in-Ok-2-clause-law : goal.returns-in-Ok-2-clause-law
+returns-in-Ok-2-clause-law c = paper_law

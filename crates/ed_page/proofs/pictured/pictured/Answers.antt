@@ -6,11 +6,14 @@ use Rattle.ed_page.specs.Pictures.{size_shown}
 use Rattle.ed_page.proofs.OnTheWay.{begun, fit_counter, fit_last, fit_multiplier, fit_rows, fit_words, is_first}
 use Rattle.ed_page.proofs.OnTheWay.{most_places}
 use Rattle.ed_page.proofs.OnTheWay.{shown_state, way_reached}
-use Rattle.ed_page.proofs.RowCodes.{codes_after}
+use Rattle.ed_page.proofs.RowCodes.{are_after, codes_after}
 use Rattle.ed_page.proofs.pictured.pictured.Goals as goal
 
 pub store_of-requires-clause-fit : goal.store_of-requires-clause-fit
 store_of-requires-clause-fit c = fit_words c.requires.picture c.requires.words
+
+pub codes_of-requires : goal.codes_of-requires
+codes_of-requires c = are_after _ c.args.rows.now c.requires.picture.way.rows_are
 
 pub of_number-requires : goal.of_number-requires
 of_number-requires c = fit_multiplier c.requires.picture

@@ -1,9 +1,6 @@
-use Rattle.std.proofs.Common.{lit<, subst}
-use Rattle.std.specs.Prelude.{Err}
-use Rattle.ed_answers.specs.declared.reply.Rejection.{Rejection}
+use Rattle.std.proofs.Common.{lit<}
 use Rattle.ed_page.specs.Answers.{picture_buffers}
 use Rattle.ed_page.specs.Private.Asked.{answers_of, ends_of}
-use Rattle.ed_page.specs.Private.Stages.{Draws}
 use Rattle.ed_page.proofs.Outcomes.{program_due}
 use Rattle.ed_page.proofs.Written.{found_status, long_shown, low_status, picture_early, picture_shown, picture_unmade}
 use Rattle.ed_page.proofs.pictures.draw.Goals as goal
@@ -39,12 +36,6 @@ show-requires-in-Ok-clause-words c = c.if-words-ne1024.false
 pub show-requires-in-Ok-clause-digits : goal.show-requires-in-Ok-clause-digits
 show-requires-in-Ok-clause-digits c = c.if-digits-ne512.false
 
-pub show-requires-in-Err-Refused-clause-words : goal.show-requires-in-Err-Refused-clause-words
-show-requires-in-Err-Refused-clause-words c = c.if-words-ne1024.false
-
-pub show-requires-in-Err-Refused-clause-digits : goal.show-requires-in-Err-Refused-clause-digits
-show-requires-in-Err-Refused-clause-digits c = c.if-digits-ne512.false
-
 pub show-requires-clause-low : goal.show-requires-clause-low
 show-requires-clause-low c = lit< tt
 
@@ -57,32 +48,8 @@ show-requires-in-Ok-clause-low c = low_status c.in-Ok.ensures.0.2
 pub show-requires-in-Ok-clause-found : goal.show-requires-in-Ok-clause-found
 show-requires-in-Ok-clause-found c = found_status c.in-Ok.ensures.0.2
 
-pub show-requires-in-Err-Refused-clause-low : goal.show-requires-in-Err-Refused-clause-low
-show-requires-in-Err-Refused-clause-low c = low_status
-    (subst
-    (λ (e : Rejection). Draws (answers_of c.args.kind c.args.settings) (ends_of c.args.kind c.args.settings)
-    c.args.text.now (Err e))
-    c.in-Err-Refused.field-0-is c.in-Err-Refused.ensures).0.2
-
-pub show-requires-in-Err-Refused-clause-found : goal.show-requires-in-Err-Refused-clause-found
-show-requires-in-Err-Refused-clause-found c = found_status
-    (subst
-    (λ (e : Rejection). Draws (answers_of c.args.kind c.args.settings) (ends_of c.args.kind c.args.settings)
-    c.args.text.now (Err e))
-    c.in-Err-Refused.field-0-is c.in-Err-Refused.ensures).0.2
-
-pub returns-in-Err-Refused : goal.returns-in-Err-Refused
-returns-in-Err-Refused c =
-    let answers = answers_of c.args.kind c.args.settings in
-    let Ends = ends_of c.args.kind c.args.settings in
-    picture_shown answers Ends c.args.text.now (c.if-words-ne1024.false, c.if-digits-ne512.false)
-    c.if-text-gt-INPUT_BYTES.false
-    (subst (λ (e : Rejection). Draws answers Ends c.args.text.now (Err e)) c.in-Err-Refused.field-0-is
-    c.in-Err-Refused.ensures)
-    c.deref-in-Err-Refused.ensures.value c.deref-in-Err-Refused-2.ensures.value c.show-in-Err-Refused.ensures
-
-pub returns-in-Err-Memory : goal.returns-in-Err-Memory
-returns-in-Err-Memory c =
+pub returns-in-Err : goal.returns-in-Err
+returns-in-Err c =
     picture_unmade (answers_of c.args.kind c.args.settings) (ends_of c.args.kind c.args.settings)
     c.args.text.now
     (picture_buffers c.args.words.now c.args.digits.now c.args.paper.now c.args.note.now c.args.registers.now)
