@@ -3,8 +3,9 @@ use Rattle.std.proofs.Common.{◌≡◌, ◌∙◌, ℕ, zero, suc, ◌+◌, ◌
 use Rattle.std.proofs.Common.{ap, arith, Bool, true, false, not, [], ◌∷◌, ◌++◌}
 use Rattle.std.proofs.Common.{take, drop, length, get_or, nat_lt}
 use Rattle.std.specs.Prelude.{◌==◌, if◌then◌else◌}
-use Rattle.ed_words.proofs.Numbers.{eq_of, lt_true}
-use Rattle.std.proofs.lemmas.List.{take_more, take_all}
+use Rattle.std.specs.List.{position_or_len}
+use Rattle.ed_words.proofs.Numbers.{eq_false, eq_of, eq_true, lt_true}
+use Rattle.std.proofs.lemmas.List.{drop_all, drop_more, take_more, take_all, take_rest}
 use Rattle.ed_words.specs.Texts.{Text}
 use Rattle.ed_syntax.specs.Lines.{lines_of, with_byte}
 use Rattle.ed_syntax.specs.Lines.{has_end, without_return}
@@ -99,6 +100,29 @@ part_at (b ∷ bs) begin = by_test (is_space b) refl begin (part_at bs)
     by_test true e h more = absurd (cc)
     by_test false e h more = let s = one_more (solid bs) in rw (e, s) (after (begins_part bs) refl more)
 
+-- ---- the place of a byte
+
+-- by its place in what is left of the text: a byte that differs is passed
+pub passed : (wanted : ℕ) (text : Text) (i : ℕ) → i < length text → (get_or text i 0 ≡ wanted → ⊥)
+    → position_or_len (λ b. b == wanted) (drop i text) ≡ 1 + position_or_len (λ b. b == wanted) (drop (i + 1) text)
+passed wanted text i below other =
+    let e = drop_more text i 0 below in
+    let differs = eq_false (get_or text i 0) wanted other in
+    rw (e, differs) refl
+
+-- and the byte is found
+pub found : (wanted : ℕ) (text : Text) (i : ℕ) → i < length text → get_or text i 0 ≡ wanted
+    → position_or_len (λ b. b == wanted) (drop i text) ≡ 0
+found wanted text i below same =
+    let e = drop_more text i 0 below in
+    let equal = eq_true (get_or text i 0) wanted same in
+    rw (e, equal) refl
+
+-- or there is none
+pub nowhere : (wanted : ℕ) (text : Text) (i : ℕ) → length text ≤ i
+    → position_or_len (λ b. b == wanted) (drop i text) ≡ 0
+nowhere wanted text i past = ap (position_or_len (λ b. b == wanted)) (drop_all i text past)
+
 -- ---- what the code finds
 
 pub line_ended : (text : Text) (end stop : ℕ) → end ≡ line_feed_place text → end < length text → stop ≡ stop_of text end
@@ -107,7 +131,24 @@ line_ended text end stop place low is =
     first_ended text stop (omega (arith, place, low)) (is ∙ ap (stop_of text) place)
     ∙ ap (λ n. take stop text ∷ lines_of (drop (n + 1) text)) (sym place)
 
-pub part_taken : (text : Text) (end : ℕ) → begins_part text ≡ true → end ≡ solid text
-    → parts_between_spaces text ≡ take end text ∷ parts_between_spaces (drop end text)
-part_taken text end begin is = part_at text begin
-    ∙ ap (λ n. take n text ∷ parts_between_spaces (drop n text)) (sym is)
+-- a line of no byte has no part
+pub no_part : (line : Text) → length line < 1 → parts_between_spaces line ≡ []
+no_part [] low = refl
+no_part (b ∷ bs) low = absurd (omega (arith, low))
+
+-- a space at the front is skipped
+pub space_skipped : (line : Text) → 1 ≤ length line → get_or line 0 0 ≡ 32
+    → parts_between_spaces line ≡ parts_between_spaces (take (length line - 1) (drop 1 line))
+space_skipped [] some is = absurd (omega (arith, some))
+space_skipped (b ∷ bs) some is =
+    let space = eq_true b 32 is in
+    let all = take_rest (b ∷ bs) 1 in
+    rw (space, all) refl
+
+-- any other byte begins a part
+pub part_taken : (line : Text) (end : ℕ) → 1 ≤ length line → (get_or line 0 0 ≡ 32 → ⊥) → end ≡ solid line
+    → parts_between_spaces line ≡ take end line ∷ parts_between_spaces (drop end line)
+part_taken [] end some other is = absurd (omega (arith, some))
+part_taken (b ∷ bs) end some other is =
+    let no_space = eq_false b 32 other in
+    part_at (b ∷ bs) (rw no_space refl) ∙ ap (λ n. take n (b ∷ bs) ∷ parts_between_spaces (drop n (b ∷ bs))) (sym is)

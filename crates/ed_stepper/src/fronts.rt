@@ -39,14 +39,13 @@ pub(crate) fn first_part<'a>(line: &'a [u8]) -> Option<(&'a [u8], &'a [u8])>
     ensures { TakesPart line.entry.now result }
 {
     let mut rest = line;
-    while let [b' ', after @ ..] = rest {
+    while let [first, after @ ..] = rest {
+        if *first != b' ' {
+            return Some(rest.split_at(first_byte(rest, b' ')));
+        }
         rest = after;
     }
-    if rest.is_empty() {
-        None
-    } else {
-        Some(rest.split_at(first_byte(rest, b' ')))
-    }
+    None
 }
 
 /// The index of the first byte that is this one, or the length of the text if there is none.
