@@ -7,6 +7,5 @@ mod Listed
 mod Heads
 mod Divisions
 mod Plays
-mod Written
 mod CommandLaws
 mod CommandExamples
