@@ -220,7 +220,7 @@ impl PartialItem {
             letters::D => 1,
             code => contents.short(24 + u16::from(code)).value(),
         };
-        word((self.sum() + u32::from(self.mark) + value) % (1 << 17))
+        Word::of_number((self.sum() + u32::from(self.mark) + value) % (1 << 17))
     }
 }
 
@@ -231,7 +231,7 @@ impl DirectiveState {
         ensures { result ≡ record self.now { directive = directive } }
     {
         DirectiveState {
-            directive: word(directive),
+            directive: Word::of_number(directive),
             theta: self.theta,
         }
     }
@@ -242,7 +242,7 @@ impl DirectiveState {
     {
         DirectiveState {
             directive: self.directive,
-            theta: word(sum % (1 << 17)),
+            theta: Word::of_number(sum % (1 << 17)),
         }
     }
 
@@ -291,12 +291,4 @@ fn is_place(word: u32) -> bool
 {
     let function = word / 2048;
     word % 2 == 0 && (function == 0 || function == 6 || function == 10)
-}
-
-/// The word of a number known to be small enough.
-fn word(number: u32) -> Word
-    requires { number < 2 ^ 17 }
-    ensures { result ≡ number }
-{
-    Word::new(number).unwrap()
 }
