@@ -49,35 +49,17 @@ fn add_line(
     ensures entry { OnOk result ((later : ℕ)
         → unwrap_or built.new.entry later ≡ unwrap_or built.old.entry (entered_place symbols.now statement.now later)) }
 {
-    push_line(&mut built.items, symbols, counter, statement)?;
-    put_line(&mut built.table, symbols, counter, statement);
     match statement {
         Some(Statement::Enter { name }) => {
             if built.entry.is_none() {
                 built.entry = Some(entry_of(symbols, name));
             }
-            Ok(())
         }
-        Some(Statement::Rows { codes }) => Ok(built.after.extend_from_slice(codes)?),
-        _ => Ok(()),
+        Some(Statement::Rows { codes }) => built.after.extend_from_slice(codes)?,
+        _ => {}
     }
-}
-
-/// Notes what one more line leaves for the lines after it.
-fn pass_line(
-    past: &mut Past,
-    counter: LocationCounter,
-    statement: &Option<Statement>,
-) -> Result<(), NoMemory>
-    requires place { counter.place ≤ 2 ^ 30 }
-    requires segments { counter.segments ≤ 2000 }
-    ensures extents { OnOk result
-        (past.new.extents.items ≡ past.old.extents.items ++ word_extent statement.now counter ∷ []) }
-    ensures entered { OnOk result (past.new.entered ≡ (past.old.entered || is_enter statement.now)) }
-{
-    past.extents.push(extent_of(statement, counter))?;
-    past.entered |= is_enter(statement);
-    Ok(())
+    put_line(&mut built.table, symbols, counter, statement);
+    push_line(&mut built.items, symbols, counter, statement)
 }
 
 /// Does nothing: its contract is what bounds the rows that a line gives.
@@ -130,18 +112,16 @@ pub(crate) fn build(
     };
     let mut counter = LocationCounter::first();
     for line in lines {
-        match cause_of(size, symbols, has_enter, &past, line, counter) {
-            Some(cause) => {
-                return Err(SourceFault::At {
-                    line: line.number,
-                    cause,
-                });
-            }
-            None => {}
+        if let Some(cause) = cause_of(size, symbols, has_enter, &past, line, counter) {
+            return Err(SourceFault::At {
+                line: line.number,
+                cause,
+            });
         }
         bound_rows(&line.statement);
         add_line(&mut built, symbols, counter, &line.statement)?;
-        pass_line(&mut past, counter, &line.statement)?;
+        past.extents.push(extent_of(&line.statement, counter))?;
+        past.entered |= is_enter(&line.statement);
         counter = counter.after_statement(&line.statement);
     }
     Ok(built)

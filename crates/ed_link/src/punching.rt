@@ -114,7 +114,7 @@ fn push_text(items: &mut Vec<Item>, codes: &[Code]) -> Result<(), NoMemory>
     ensures { OnOk result (items.new.items ≡ items.old.items ++ map word_item (map (λ c. 4096 * c) codes.now)) }
 {
     for code in codes {
-        let word = Word::new(4096 * u32::from(code.value())).unwrap();
+        let word = Word::of_number(4096 * u32::from(code.value()));
         push(items, word_item(word))?;
     }
     Ok(())

@@ -45,22 +45,18 @@ fn order_word(
 {
     let number = u32::from(number(symbols, counter.segment(), operand));
     let sum = 4096 * u32::from(function.value()) + 2 * number + u32::from(length);
-    Word::new(sum % 131072).unwrap()
+    Word::of_number(sum % 131072)
 }
 
 /// Puts the words of a `text`.
 fn put_text(table: &mut Vec<Option<Word>>, place: u32, codes: &[Code])
-    requires table { place + length codes.now ≤ length table.old.items }
+    requires table { 0 < length codes.now → place + length codes.now ≤ length table.old.items }
     requires few { length table.old.items ≤ 1024 }
     ensures { table.new.items ≡ put_all table.old.items (placed_words place (map (λ c. 4096 * c) codes.now)) }
 {
     let mut at = place;
     for code in codes {
-        put(
-            table,
-            at,
-            Word::new(4096 * u32::from(code.value())).unwrap(),
-        );
+        put(table, at, Word::of_number(4096 * u32::from(code.value())));
         at += 1;
     }
 }
@@ -74,7 +70,7 @@ fn put_long(table: &mut Vec<Option<Word>>, place: u32, value: Long)
     let halves = value.halves();
     let mut at = place;
     if place % 2 == 1 {
-        put(table, at, Word::new(0).unwrap());
+        put(table, at, Word::of_number(0));
         at += 1;
     }
     put(table, at, halves.even);
@@ -95,7 +91,7 @@ fn put_presets(
     for letter in letters {
         if let Some(operand) = setting(settings, *letter) {
             let word = 2 * u32::from(number(symbols, None, &operand));
-            put(table, 24 + u32::from(*letter), Word::new(word).unwrap());
+            put(table, 24 + u32::from(*letter), Word::of_number(word));
         }
     }
 }
@@ -162,11 +158,7 @@ pub(crate) fn put_line(
             order_word(symbols, counter, *function, operand, *length),
         ),
         Some(Statement::Number { value }) => put(table, counter.place, *value),
-        Some(Statement::Text { codes }) => {
-            if !codes.is_empty() {
-                put_text(table, counter.place, codes);
-            }
-        }
+        Some(Statement::Text { codes }) => put_text(table, counter.place, codes),
         Some(Statement::Long { value }) => put_long(table, counter.place, *value),
         Some(
             Statement::Fetch {

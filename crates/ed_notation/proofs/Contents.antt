@@ -2,11 +2,10 @@
 use Rattle.std.proofs.Common.{◌≡◌, ◌≢◌, ℕ, ◌<◌, refl, sym, ◌∙◌, arith, Bool, true, false, nat_eq, if◌then◌else◌, Option}
 use Rattle.std.proofs.Common.{Some, None, List, [], ◌∷◌, length, get_or, set}
 use Rattle.std.specs.Prelude.{unwrap_or}
-use Rattle.std.proofs.lemmas.Bool.Decides.{nat_tests}
 use Rattle.std.proofs.lemmas.List.{get_or-set_same, get_or-set_other, length-set, length-replicate, get_or-replicate}
 use Rattle.ed_notation.specs.Fold.{over, placed_at}
 use Rattle.ed_notation.specs.Checks.{ArePlaces, ContentIsMapOrStore, marks_of}
-use Rattle.ed_words.proofs.Numbers.{eq_of}
+use Rattle.ed_words.proofs.Numbers.{eq_of, not_eq_of}
 
 pub length-over : (placed : List (ℕ × ℕ)) (words : List ℕ) → length (over placed words) ≡ length words
 length-over [] words = refl
@@ -17,7 +16,7 @@ length-marked [] = length-replicate {A = Bool} 1024 false
 length-marked (p ∷ placed) = length-set (marks_of placed) p.0 true ∙ length-marked placed
 
 differs : (a b : ℕ) → nat_eq a b ≡ false → b ≢ a
-differs a b h = grind (arith, nat_tests)
+differs a b h e = not_eq_of a b h (sym e)
 
 -- the content of a location
 pub content_is : ContentIsMapOrStore

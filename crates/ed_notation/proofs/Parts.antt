@@ -1,10 +1,10 @@
 -- Lists that are made part after part.
-use Rattle.std.proofs.Common.{◌≡◌, ℕ, ◌+◌, ◌/◌, ◌%◌, ◌<◌, ◌≤◌, sym, ap, refl, ◌∙◌, arith, Bool, true, false, nat_lt, nat_le}
+use Rattle.std.proofs.Common.{◌≡◌, ℕ, ◌+◌, ◌/◌, ◌%◌, ◌<◌, ◌≤◌, sym, ap, refl, ◌∙◌, arith, Bool, true, nat_lt}
 use Rattle.std.proofs.Common.{List, [], ◌∷◌, ◌++◌, length, drop, get_or, append_assoc, append-nil}
 use Rattle.std.specs.List.{flat_map, list_all}
 use Rattle.std.proofs.lemmas.Bool.{and_parts}
-use Rattle.std.proofs.lemmas.Bool.Decides.{nat_tests}
 use Rattle.std.proofs.lemmas.List.{at_drop_more}
+use Rattle.ed_words.proofs.Numbers.{le_false, le_true, lt_true}
 use Rattle.ed_codes.specs.Spelling.{byte_of}
 use Rattle.ed_notation.specs.Spellings.{digit_at, digits_of, line_from}
 
@@ -32,11 +32,11 @@ next_passes p xs i d below all = and_parts _ _ (sym (at_drop_more (list_all p) x
 
 -- the digit row at a power of ten that a number reaches
 pub digit_there : (p n : ℕ) → p ≤ n → digit_at p n ≡ (n / p % 10) ∷ []
-digit_there p n h = let e : nat_le p n ≡ true = grind (arith, nat_tests) in rw e refl
+digit_there p n h = let e = le_true p n h in rw e refl
 
 -- and none at one that it doesn't reach
 pub no_digit : (p n : ℕ) → n < p → digit_at p n ≡ []
-no_digit p n h = let e : nat_le p n ≡ false = grind (arith, nat_tests) in rw e refl
+no_digit p n h = let e = le_false p n h in rw e refl
 
 -- the digit rows of a number, at one power after the other
 pub digits_are : (n : ℕ) → flat_map (λ power. digit_at power n) (10000 ∷ 1000 ∷ 100 ∷ 10 ∷ 1 ∷ []) ≡ digits_of n
@@ -55,4 +55,4 @@ more_line rows i c done below is same before =
     (ap (λ b. byte_of c (nat_lt 0 i) ∷ line_from b (drop (i + 1) rows)) (sym (after i))) same before
   where
     after : (i : ℕ) → nat_lt 0 (i + 1) ≡ true
-    after i = grind (arith, nat_tests)
+    after i = lt_true 0 (i + 1) (omega arith)

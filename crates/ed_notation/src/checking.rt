@@ -25,7 +25,7 @@ pub fn check(alloc: Global, size: Size, store: &Store, rows: &[Code]) -> Result<
     ensures program { ReadingAlwaysIsRules }
     ensures contents { ContentIsMapOrStore }
 {
-    let directive = Word::new(FIRST_DIRECTIVE).unwrap();
+    let directive = Word::of_number(FIRST_DIRECTIVE);
     check_opened(alloc, size, store, directive, 9, rows)
 }
 

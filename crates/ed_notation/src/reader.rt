@@ -156,16 +156,22 @@ impl PartialItem {
                 if 1023 < self.number {
                     return RowEffect::Refused(TapeCause::StoreEnd);
                 }
-                RowEffect::Ended(setting.with_directive(self.sum()), 16)
+                let directive = Word::of_number(self.sum());
+                RowEffect::Ended(
+                    DirectiveState {
+                        directive,
+                        ..*setting
+                    },
+                    16,
+                )
             }
             Control::ThetaByBlank | Control::ThetaByG => {
                 if 1023 < self.number {
                     return RowEffect::Refused(TapeCause::StoreEnd);
                 }
-                RowEffect::Ended(
-                    setting.with_theta(self.sum() + setting.directive.value()),
-                    16,
-                )
+                let sum = self.sum() + setting.directive.value();
+                let theta = Word::of_number(sum % (1 << 17));
+                RowEffect::Ended(DirectiveState { theta, ..*setting }, 16)
             }
         }
     }
@@ -185,17 +191,23 @@ impl PartialItem {
                 if !is_place(sum) {
                     return RowEffect::Refused(TapeCause::StoreEnd);
                 }
-                RowEffect::Ended(setting.with_directive(sum), 17)
-            }
-            Control::ThetaByBlank => {
-                let sum = 2 * u32::from(self.number) + setting.theta.value();
-                if 65536 <= sum {
-                    return RowEffect::Refused(TapeCause::StoreEnd);
-                }
+                let directive = Word::of_number(sum);
                 RowEffect::Ended(
-                    setting.with_theta(65536 + sum + setting.directive.value()),
+                    DirectiveState {
+                        directive,
+                        ..*setting
+                    },
                     17,
                 )
+            }
+            Control::ThetaByBlank => {
+                let double = 2 * u32::from(self.number) + setting.theta.value();
+                if 65536 <= double {
+                    return RowEffect::Refused(TapeCause::StoreEnd);
+                }
+                let sum = 65536 + double + setting.directive.value();
+                let theta = Word::of_number(sum % (1 << 17));
+                RowEffect::Ended(DirectiveState { theta, ..*setting }, 17)
             }
         }
     }
@@ -220,38 +232,18 @@ impl PartialItem {
             letters::D => 1,
             code => contents.short(24 + u16::from(code)).value(),
         };
-        word((self.sum() + u32::from(self.mark) + value) % (1 << 17))
+        Word::of_number((self.sum() + u32::from(self.mark) + value) % (1 << 17))
     }
 }
 
 impl DirectiveState {
-    /// The setting with another directive.
-    fn with_directive(&self, directive: u32) -> DirectiveState
-        requires { directive < 2 ^ 17 }
-        ensures { result ≡ record self.now { directive = directive } }
-    {
-        DirectiveState {
-            directive: word(directive),
-            theta: self.theta,
-        }
-    }
-
-    /// The setting with θ a sum modulo 2^17.
-    fn with_theta(&self, sum: u32) -> DirectiveState
-        ensures { result ≡ record self.now { theta = sum % 2 ^ 17 } }
-    {
-        DirectiveState {
-            directive: self.directive,
-            theta: word(sum % (1 << 17)),
-        }
-    }
-
     /// The setting with the directive advanced by one location.
     pub fn moved_on(&self) -> DirectiveState
         requires { self.now.directive + 2 < 2 ^ 17 }
         ensures { result ≡ record self.now { directive = self.now.directive + 2 } }
     {
-        self.with_directive(self.directive.value() + 2)
+        let directive = Word::of_number(self.directive.value() + 2);
+        DirectiveState { directive, ..*self }
     }
 
     /// A code letter that ends an item with this word.
@@ -291,12 +283,4 @@ fn is_place(word: u32) -> bool
 {
     let function = word / 2048;
     word % 2 == 0 && (function == 0 || function == 6 || function == 10)
-}
-
-/// The word of a number known to be small enough.
-fn word(number: u32) -> Word
-    requires { number < 2 ^ 17 }
-    ensures { result ≡ number }
-{
-    Word::new(number).unwrap()
 }

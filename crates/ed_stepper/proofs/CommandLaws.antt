@@ -5,7 +5,8 @@ use Rattle.std.specs.Prelude.{◌&&◌, Option, Some, None, option_map, option_a
 use Rattle.std.specs.List.{list_all}
 use Rattle.std.specs.Str.{bytes_eq}
 use Rattle.std.proofs.lemmas.Bool.{and_parts}
-use Rattle.std.proofs.lemmas.Bool.Decides.{nat_tests, Decides-eqb}
+use Rattle.std.proofs.lemmas.Bool.Decides.{Decides-eqb}
+use Rattle.ed_words.proofs.Numbers.{le_of, le_true}
 use Rattle.std.proofs.lemmas.Slice.Eq.{bytes_eq-Decides}
 use Rattle.ed_words.specs.Decimals.{in_range, is_digit, number, number_within, value}
 use Rattle.ed_words.specs.Texts.{Text}
@@ -78,12 +79,6 @@ read_parts_are (b ∷ bs) = by_tests (is_space b) (begins_part bs) refl refl (re
     by_tests false false e f h = one_part b [] bs _ (rw e refl) f h
 
 -- ---- numbers
-
-le_true : (a b : ℕ) → a ≤ b → nat_le a b ≡ true
-le_true a b le = grind (arith, nat_tests)
-
-le_of : (a b : ℕ) → nat_le a b ≡ true → a ≤ b
-le_of a b e = grind (arith, nat_tests)
 
 -- a number that a line has is read
 number_is_read : (least most : ℕ) (n : Text) → IsNumberWithin least most n

@@ -2,7 +2,7 @@
 use Rattle.std.proofs.Common.{◌≡◌, ◌∙◌, ℕ, suc, ◌+◌, ◌-◌, ◌<◌, ◌≤◌, refl, sym, ap, arith}
 use Rattle.std.proofs.Common.{Bool, true, false, List, [], ◌∷◌, ◌++◌, length, take, drop}
 use Rattle.std.proofs.Common.{Option, Some, None}
-use Rattle.std.specs.Prelude.{◌==◌, not, position, slice_index_or, if◌then◌else◌}
+use Rattle.std.specs.Prelude.{◌==◌, not, slice_index_or, if◌then◌else◌}
 use Rattle.std.proofs.lemmas.List.{append-nil, append_assoc, drop_all, length-append, take_at}
 use Rattle.ed_words.specs.Texts.{Text}
 use Rattle.ed_syntax.specs.Lines.{lines_of}
@@ -10,7 +10,6 @@ use Rattle.ed_stepper.specs.Inputs.{Input, text_kind_of, at_line, after_line, in
 use Rattle.ed_stepper.specs.Inputs.{with_byte_before}
 use Rattle.ed_stepper.specs.Private.Fronts.{line_feed_place}
 use Rattle.ed_stepper.specs.declared.inputs.TextKind.{TextKind}
-use Rattle.ed_stepper.proofs.Heads.{found, none_found}
 
 -- ---- the bytes of a first line
 
@@ -24,15 +23,11 @@ behind_is (b ∷ bs) = by_test (b == 10) (behind_is bs)
     by_test true h = refl
     by_test false h = let s : 1 + line_feed_place bs + 1 ≡ suc (line_feed_place bs + 1) = omega arith in rw s h
 
-pub behind_ended : (text : Text) (end : ℕ) → position (λ b. b == 10) text ≡ Some end
-    → after_line text ≡ drop (end + 1) text
-behind_ended text end at =
-    behind_is text ∙ ap (λ n. drop (n + 1) text) (sym (found (λ b. b == 10) text end at).0)
+pub behind_ended : (text : Text) (end : ℕ) → end ≡ line_feed_place text → after_line text ≡ drop (end + 1) text
+behind_ended text end place = behind_is text ∙ ap (λ n. drop (n + 1) text) (sym place)
 
-pub behind_unended : (text : Text) → position (λ b. b == 10) text ≡ None → after_line text ≡ []
-behind_unended text none =
-    let all = none_found (λ b. b == 10) text none in
-    behind_is text ∙ drop_all (line_feed_place text + 1) text (omega (arith, all))
+pub behind_unended : (text : Text) → length text ≤ line_feed_place text → after_line text ≡ []
+behind_unended text past = behind_is text ∙ drop_all (line_feed_place text + 1) text (omega (arith, past))
 
 -- a first line with its end
 abbrev pub line_front : Text → Text

@@ -1,19 +1,18 @@
 -- The first line of a text, and the first part of a line.
 use Rattle.std.proofs.Common.{◌≡◌, ◌∙◌, ℕ, zero, suc, ◌+◌, ◌-◌, ◌<◌, ◌≤◌, refl, sym}
 use Rattle.std.proofs.Common.{ap, arith, Bool, true, false, not, [], ◌∷◌, ◌++◌}
-use Rattle.std.proofs.Common.{Option, Some, None, unwrap_or}
 use Rattle.std.proofs.Common.{take, drop, length, get_or, nat_lt}
-use Rattle.std.specs.Prelude.{◌==◌, position, if◌then◌else◌}
+use Rattle.std.specs.Prelude.{◌==◌, if◌then◌else◌}
 use Rattle.std.specs.List.{position_or_len}
-use Rattle.ed_words.proofs.Numbers.{eq_of, lt_of, lt_true, not_lt_of}
-use Rattle.std.proofs.lemmas.List.{drop_all, length-drop, take_more, take_all}
+use Rattle.ed_words.proofs.Numbers.{eq_false, eq_of, eq_true, lt_true}
+use Rattle.std.proofs.lemmas.List.{drop_all, drop_more, take_more, take_all, take_rest}
 use Rattle.ed_words.specs.Texts.{Text}
 use Rattle.ed_syntax.specs.Lines.{lines_of, with_byte}
 use Rattle.ed_syntax.specs.Lines.{has_end, without_return}
 use Rattle.ed_syntax.proofs.Lines.{keeps_end, no_return, takes_ended, takes_last}
 use Rattle.ed_stepper.specs.Commands.{begins_part, is_space}
 use Rattle.ed_stepper.specs.Private.CommandReading.{parts_between_spaces}
-use Rattle.ed_stepper.specs.Private.Fronts.{blanks, solid, stop_of, line_feed_place}
+use Rattle.ed_stepper.specs.Private.Fronts.{solid, stop_of, line_feed_place}
 
 pub one_more : (n : ℕ) → 1 + n ≡ suc n
 one_more n = omega arith
@@ -67,36 +66,13 @@ first_ended text stop low is =
     (ap (λ n. take n text) is ∙ stop_is text (line_feed_place text) (omega arith))).lines
 
 -- a first line that is the whole text
-first_last : (text : Text) → 0 < length text → line_feed_place text ≡ length text → lines_of text ≡ text ∷ lines_of []
-first_last text some all =
-    (takes_last text some (let e : take (length text) text ≡ text = take_all (length text) text (omega arith) in rw
-    (all, e) at (no_end_before text))).lines
+pub first_last : (text : Text) → 0 < length text → length text ≤ line_feed_place text → lines_of text ≡ text ∷ lines_of []
+first_last text some past =
+    (takes_last text some (rw (take_all (line_feed_place text) text past) at (no_end_before text))).lines
 
 -- ---- parts
 
--- what follows the blanks has the same parts
-skipped : (line : Text) → parts_between_spaces line ≡ parts_between_spaces (drop (blanks line) line)
-skipped [] = refl
-skipped (b ∷ bs) = by_test (is_space b) refl (skipped bs)
-  where
-    by_test : (t : Bool) → is_space b ≡ t → parts_between_spaces bs ≡ parts_between_spaces (drop (blanks bs) bs)
-        → parts_between_spaces (b ∷ bs) ≡ parts_between_spaces
-        (drop (if not (not t) then 1 + blanks bs else 0) (b ∷ bs))
-    by_test true e h = let s = one_more (blanks bs) in rw (e, s) h
-    by_test false e h = refl
-
--- and begins with a part
-begins : (line : Text) → 0 < length (drop (blanks line) line) → begins_part (drop (blanks line) line) ≡ true
-begins [] low = absurd (omega arith)
-begins (b ∷ bs) low = by_test (is_space b) refl low (begins bs)
-  where
-    by_test : (t : Bool) → is_space b ≡ t → 0 < length (drop (if not (not t) then 1 + blanks bs else 0) (b ∷ bs))
-        → (0 < length (drop (blanks bs) bs) → begins_part (drop (blanks bs) bs) ≡ true)
-        → begins_part (drop (if not (not t) then 1 + blanks bs else 0) (b ∷ bs)) ≡ true
-    by_test true e l h = let s = one_more (blanks bs) in rw s (h (rw s at l))
-    by_test false e l h = rw e refl
-
--- no part begins if there are only blanks
+-- no part begins at a space
 none_begun : (text : Text) → begins_part text ≡ false → solid text ≡ 0
 none_begun [] e = refl
 none_begun (b ∷ bs) e = rw e refl
@@ -124,80 +100,55 @@ part_at (b ∷ bs) begin = by_test (is_space b) refl begin (part_at bs)
     by_test true e h more = absurd (cc)
     by_test false e h more = let s = one_more (solid bs) in rw (e, s) (after (begins_part bs) refl more)
 
--- ---- offsets of bytes
+-- ---- the place of a byte
 
--- no offset is past the end
-within : (test : ℕ → Bool) (text : Text) → position_or_len test text ≤ length text
-within test [] = omega arith
-within test (b ∷ bs) = by_test (test b) (within test bs)
-  where
-    by_test : (t : Bool) → position_or_len test bs ≤ length bs
-        → (if not t then 1 + position_or_len test bs else 0) ≤ length (b ∷ bs)
-    by_test true h = omega arith
-    by_test false h = omega arith
+-- by its place in what is left of the text: a byte that differs is passed
+pub passed : (wanted : ℕ) (text : Text) (i : ℕ) → i < length text → (get_or text i 0 ≡ wanted → ⊥)
+    → position_or_len (λ b. b == wanted) (drop i text) ≡ 1 + position_or_len (λ b. b == wanted) (drop (i + 1) text)
+passed wanted text i below other =
+    let e = drop_more text i 0 below in
+    let differs = eq_false (get_or text i 0) wanted other in
+    rw (e, differs) refl
 
--- an offset that is found
-pub found : (test : ℕ → Bool) (text : Text) (i : ℕ) → position test text ≡ Some i
-    → (i ≡ position_or_len test text) × (i < length text)
-found test text i is = by_test (nat_lt (position_or_len test text) (length text)) refl is
-  where
-    by_test : (t : Bool) → nat_lt (position_or_len test text) (length text) ≡ t
-        → (if t then Some (position_or_len test text) else None) ≡ Some i
-        → (i ≡ position_or_len test text) × (i < length text)
-    by_test true e h =
-        let same : i ≡ position_or_len test text = cc in
-        let low = lt_of _ _ e in
-        (same, omega (arith, same, low))
-    by_test false e h = absurd (cc)
+-- and the byte is found
+pub found : (wanted : ℕ) (text : Text) (i : ℕ) → i < length text → get_or text i 0 ≡ wanted
+    → position_or_len (λ b. b == wanted) (drop i text) ≡ 0
+found wanted text i below same =
+    let e = drop_more text i 0 below in
+    let equal = eq_true (get_or text i 0) wanted same in
+    rw (e, equal) refl
 
--- no offset is found
-pub none_found : (test : ℕ → Bool) (text : Text) → position test text ≡ None → position_or_len test text ≡ length text
-none_found test text is = by_test (nat_lt (position_or_len test text) (length text)) refl is
-  where
-    by_test : (t : Bool) → nat_lt (position_or_len test text) (length text) ≡ t
-        → (if t then Some (position_or_len test text) else None) ≡ None → position_or_len test text ≡ length text
-    by_test true e h = absurd (cc)
-    by_test false e h = let high = not_lt_of _ _ e in omega (arith, high, within test text)
-
--- the offset, or the end
-place_or_end : (test : ℕ → Bool) (text : Text)
-    → unwrap_or (position test text) (length text) ≡ position_or_len test text
-place_or_end test text = by_option (position test text) refl
-  where
-    by_option : (o : Option ℕ) → position test text ≡ o → unwrap_or o (length text) ≡ position_or_len test text
-    by_option None e = sym (none_found test text e)
-    by_option (Some i) e = (found test text i e).0
+-- or there is none
+pub nowhere : (wanted : ℕ) (text : Text) (i : ℕ) → length text ≤ i
+    → position_or_len (λ b. b == wanted) (drop i text) ≡ 0
+nowhere wanted text i past = ap (position_or_len (λ b. b == wanted)) (drop_all i text past)
 
 -- ---- what the code finds
 
-pub line_ended : (text : Text) (end stop : ℕ) → position (λ b. b == 10) text ≡ Some end → stop ≡ stop_of text end
+pub line_ended : (text : Text) (end stop : ℕ) → end ≡ line_feed_place text → end < length text → stop ≡ stop_of text end
     → lines_of text ≡ take stop text ∷ lines_of (drop (end + 1) text)
-line_ended text end stop at is =
-    let f = found (λ b. b == 10) text end at in
-    let low = f.1 in
-    let place = f.0 in
-    first_ended text stop (omega (arith, place, low)) (is ∙ ap (stop_of text) place) ∙ ap
-    (λ n. take stop text ∷ lines_of (drop (n + 1) text)) (sym place)
+line_ended text end stop place low is =
+    first_ended text stop (omega (arith, place, low)) (is ∙ ap (stop_of text) place)
+    ∙ ap (λ n. take stop text ∷ lines_of (drop (n + 1) text)) (sym place)
 
-pub line_unended : (text : Text) → 0 < length text → position (λ b. b == 10) text ≡ None
-    → lines_of text ≡ text ∷ lines_of []
-line_unended text some none = first_last text some (none_found (λ b. b == 10) text none)
+-- a line of no byte has no part
+pub no_part : (line : Text) → length line < 1 → parts_between_spaces line ≡ []
+no_part [] low = refl
+no_part (b ∷ bs) low = absurd (omega (arith, low))
 
-pub no_part : (line : Text) → position (λ b. not (is_space b)) line ≡ None → parts_between_spaces line ≡ []
-no_part line none =
-    let all = none_found (λ b. not (is_space b)) line none in
-    let empty : drop (blanks line) line ≡ [] = drop_all (blanks line) line (omega (arith, all)) in
-    skipped line ∙ ap parts_between_spaces empty
+-- a space at the front is skipped
+pub space_skipped : (line : Text) → 1 ≤ length line → get_or line 0 0 ≡ 32
+    → parts_between_spaces line ≡ parts_between_spaces (take (length line - 1) (drop 1 line))
+space_skipped [] some is = absurd (omega (arith, some))
+space_skipped (b ∷ bs) some is =
+    let space = eq_true b 32 is in
+    let all = take_rest (b ∷ bs) 1 in
+    rw (space, all) refl
 
-pub part_taken : (line : Text) (start end : ℕ) → position (λ b. not (is_space b)) line ≡ Some start
-    → end ≡ unwrap_or (position is_space (drop start line)) (length (drop start line))
-    → parts_between_spaces line ≡ take end (drop start line) ∷ parts_between_spaces (drop end (drop start line))
-part_taken line start end at is =
-    let f = found (λ b. not (is_space b)) line start at in
-    let place : start ≡ blanks line = f.0 in
-    let low = f.1 in
-    let some : 0 < length (drop (blanks line) line) = omega (arith, length-drop (blanks line) line, low, place) in
-    let begin : begins_part (drop start line) ≡ true = ap (λ n. begins_part (drop n line)) place ∙ begins line some in
-    let same : end ≡ solid (drop start line) = is ∙ place_or_end is_space (drop start line) in
-    skipped line ∙ ap (λ n. parts_between_spaces (drop n line)) (sym place) ∙ part_at (drop start line) begin
-    ∙ ap (λ n. take n (drop start line) ∷ parts_between_spaces (drop n (drop start line))) (sym same)
+-- any other byte begins a part
+pub part_taken : (line : Text) (end : ℕ) → 1 ≤ length line → (get_or line 0 0 ≡ 32 → ⊥) → end ≡ solid line
+    → parts_between_spaces line ≡ take end line ∷ parts_between_spaces (drop end line)
+part_taken [] end some other is = absurd (omega (arith, some))
+part_taken (b ∷ bs) end some other is =
+    let no_space = eq_false b 32 other in
+    part_at (b ∷ bs) (rw no_space refl) ∙ ap (λ n. take n (b ∷ bs) ∷ parts_between_spaces (drop n (b ∷ bs))) (sym is)

@@ -1,11 +1,11 @@
-pub mod Walks
 pub mod Founds
-pub mod Keeping
-pub mod Listed
 pub mod Stands
+pub mod ScriptLaws
+mod Walks
+mod Keeping
+mod Listed
 mod Heads
 mod Divisions
 mod Plays
-pub mod CommandLaws
-pub mod ScriptLaws
-pub mod CommandExamples
+mod CommandLaws
+mod CommandExamples

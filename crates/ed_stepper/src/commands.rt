@@ -44,7 +44,7 @@ pub(crate) fn command_of(line: &[u8]) -> Option<SessionCommand>
         return of_two(word, second);
     };
     if first_part(rest).is_none() && spells(word, "show") {
-        window(address(second), address(third))
+        window(second, third)
     } else {
         None
     }
@@ -58,7 +58,8 @@ fn of_two(word: &[u8], argument: &[u8]) -> Option<SessionCommand>
         let orders = number_within(argument, 1, 100_000_000)?;
         Some(SessionCommand::Move(MoveTarget::Orders(u64::from(orders))))
     } else if spells(word, "to") {
-        Some(SessionCommand::Move(MoveTarget::Address(address(argument)?)))
+        let address = number_within(argument, 0, 1023)?;
+        Some(SessionCommand::Move(MoveTarget::Address(address as u16)))
     } else if spells(word, "back") {
         Some(SessionCommand::Back(number_within(argument, 0, 100_000_000)?))
     } else if spells(word, "trace") {
@@ -81,26 +82,19 @@ fn shown(argument: &[u8]) -> Option<SessionCommand>
     } else if spells(argument, "last") {
         Some(SessionCommand::LastPrinted)
     } else {
-        window(address(argument), address(argument))
+        window(argument, argument)
     }
 }
 
-/// The command that lists the words from the first location to the last.
-fn window(first: Option<u16>, last: Option<u16>) -> Option<SessionCommand>
-    ensures { result ≡ show_command first last }
+/// The command that lists the words from the location that one part spells to that of another.
+fn window(first: &[u8], last: &[u8]) -> Option<SessionCommand>
+    ensures { result ≡ show_command (number_within 0 1023 first.now) (number_within 0 1023 last.now) }
 {
-    let first = first?;
-    let last = last?;
+    let first = number_within(first, 0, 1023)?;
+    let last = number_within(last, 0, 1023)?;
     if first <= last {
-        Some(SessionCommand::Show(first, last))
+        Some(SessionCommand::Show(first as u16, last as u16))
     } else {
         None
     }
-}
-
-/// The address that a part spells.
-fn address(part: &[u8]) -> Option<u16>
-    ensures { result ≡ number_within 0 1023 part.now }
-{
-    Some(number_within(part, 0, 1023)? as u16)
 }

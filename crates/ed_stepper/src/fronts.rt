@@ -1,8 +1,8 @@
 //! The front of a text: its first line, and the first part of a line.
-ghost use Rattle.std.specs.Prelude.{◌≡◌, ◌==◌, ◌∷◌, ◌≤◌, ◌<◌, not, IfSome, length, position};
+ghost use Rattle.std.specs.Prelude.{◌≡◌, ◌==◌, ◌∷◌, ◌≤◌, ◌<◌, length};
+ghost use Rattle.std.specs.List.{position_or_len};
 ghost use Rattle.std.specs.Str.{bytes_eq};
 ghost use Rattle.ed_syntax.specs.Lines.{lines_of};
-ghost use Rattle.ed_stepper.specs.Commands.{is_space};
 ghost use Rattle.ed_stepper.specs.Inputs.{after_line};
 ghost use Rattle.ed_stepper.specs.Private.Fronts.{TakesPart, stop_of};
 
@@ -13,9 +13,11 @@ pub(crate) fn first_line<'a>(text: &'a [u8]) -> (&'a [u8], &'a [u8])
     ensures after { result.1.now ≡ after_line text.entry.now }
     ensures shorter { length result.1.now < length text.entry.now }
 {
-    match first_byte(text, b'\n') {
-        Some(end) => (&text[..stop_of(text, end)], &text[end + 1..]),
-        None => (text, &[]),
+    let end = first_byte(text, b'\n');
+    if end < text.len() {
+        (&text[..stop_of(text, end)], &text[end + 1..])
+    } else {
+        (text, &[])
     }
 }
 
@@ -36,30 +38,27 @@ fn stop_of(text: &[u8], end: usize) -> usize
 pub(crate) fn first_part<'a>(line: &'a [u8]) -> Option<(&'a [u8], &'a [u8])>
     ensures { TakesPart line.entry.now result }
 {
-    match first_solid(line) {
-        Some(start) => {
-            let rest = &line[start..];
-            let end = first_byte(rest, b' ').unwrap_or(rest.len());
-            Some(rest.split_at(end))
+    let mut rest = line;
+    while let [first, after @ ..] = rest {
+        if *first != b' ' {
+            return Some(rest.split_at(first_byte(rest, b' ')));
         }
-        None => None,
+        rest = after;
     }
+    None
 }
 
-/// The index of the first byte that is this one.
-fn first_byte(text: &[u8], wanted: u8) -> Option<usize>
-    ensures is { result ≡ position (λ b. b == wanted) text.now }
-    ensures within { IfSome result (λ i. i < length text.now) }
+/// The index of the first byte that is this one, or the length of the text if there is none.
+fn first_byte(text: &[u8], wanted: u8) -> usize
+    ensures is { result ≡ position_or_len (λ b. b == wanted) text.now }
+    ensures within { result ≤ length text.now }
 {
-    text.iter().position(|byte| *byte == wanted)
-}
-
-/// The index of the first byte that is not a space.
-fn first_solid(text: &[u8]) -> Option<usize>
-    ensures is { result ≡ position (λ b. not (is_space b)) text.now }
-    ensures within { IfSome result (λ i. i < length text.now) }
-{
-    text.iter().position(|byte| *byte != b' ')
+    for (place, byte) in text.iter().enumerate() {
+        if *byte == wanted {
+            return place;
+        }
+    }
+    text.len()
 }
 
 /// Whether a text is this word.

@@ -1,16 +1,16 @@
 //! One line of a script: what it does to a session, and what it writes.
-ghost use Rattle.std.specs.Prelude.{◌≡◌, ◌≤◌, ◌+◌, ◌-◌, ◌++◌, ◌∷◌, [], IfErr, IfOk, codes};
+ghost use Rattle.std.specs.Prelude.{◌≡◌, ◌≤◌, ◌+◌, ◌-◌, ◌++◌, ◌∷◌, [], IfOk, codes};
 ghost use Rattle.std.specs.Fmt.{decimal};
 ghost use Rattle.std.specs.List.{range_with_len};
 ghost use Rattle.ed_report.specs.Listings.{listing};
+ghost use Rattle.ed_report.specs.Traces.{trace_text};
 ghost use Rattle.ed_stepper.specs.Scripts.{end_word, last_word, move_line};
-ghost use Rattle.ed_stepper.specs.Sessions.{stands_at};
 ghost use Rattle.ed_stepper.specs.Private.Commands.{IsCommandInRange};
 ghost use Rattle.ed_stepper.specs.Private.Lines.{LineEnds};
 
 use crate::commands::SessionCommand;
 use crate::moves::{BackFault, MoveEnd, Moved};
-use crate::session::Session;
+use crate::session::{Session, Traced};
 use ed_machine::Machine;
 use ed_report::{bytes_of_text, listing, trace_text};
 use ed_words::NoMemory;
@@ -25,30 +25,27 @@ pub(crate) fn carry_out(
     requires { IsCommandInRange command }
     ensures { LineEnds command session.old result session.new }
 {
-    match command {
+    let text = match command {
         SessionCommand::Nothing => Ok(Vec::new(alloc)),
-        SessionCommand::Move(aim) => Ok(move_line(alloc, session.advance(aim))?),
-        SessionCommand::Back(orders) => {
-            let moved = session.back(u64::from(orders))?;
-            Ok(move_line(alloc, moved)?)
-        }
-        SessionCommand::Trace(orders) => trace(alloc, session, orders),
-        SessionCommand::Show(first, last) => Ok(show(alloc, session.machine(), first, last)?),
-        SessionCommand::Accumulator => Ok(number_line(alloc, "acc", session.machine().acc())?),
+        SessionCommand::Move(aim) => move_line(alloc, session.advance(aim)),
+        SessionCommand::Back(orders) => move_line(alloc, session.back(u64::from(orders))?),
+        SessionCommand::Trace(orders) => trace_lines(alloc, session.trace(u64::from(orders))?),
+        SessionCommand::Show(first, last) => show(alloc, session.machine(), first, last),
+        SessionCommand::Accumulator => number_line(alloc, "acc", session.machine().acc()),
         SessionCommand::Multiplier => {
             let number = session.machine().multiplier().value();
-            Ok(number_line(alloc, "mult", u128::from(number))?)
+            number_line(alloc, "mult", u128::from(number))
         }
-        SessionCommand::LastPrinted => Ok(last_printed(alloc, session.machine())?),
-    }
+        SessionCommand::LastPrinted => last_printed(alloc, session.machine()),
+    };
+    Ok(text?)
 }
 
-/// Moves forward, and writes the letter of each order obeyed and the line of the move.
-fn trace(alloc: Global, session: &mut Session, orders: u32) -> Result<Vec<u8>, BackFault>
-    requires { orders ≤ 10000 }
-    ensures { LineEnds (SessionCommand.Trace orders) session.old result session.new }
+/// The letter of each order that a move obeyed, and the line of the move.
+fn trace_lines(alloc: Global, traced: Traced) -> Result<Vec<u8>, NoMemory>
+    ensures { IfOk result (λ bytes. bytes.items ≡ trace_text traced.functions.items
+        ++ move_line traced.moved.at traced.moved.done traced.moved.end) }
 {
-    let traced = session.trace(u64::from(orders))?;
     let mut text = trace_text(alloc, &traced.functions)?;
     let line = move_line(alloc, traced.moved)?;
     text.extend_from_slice(&line)?;

@@ -23,15 +23,14 @@ pub(crate) fn keep(marks: &mut Vec<Mark>, machine: &Machine, done: u64)
     ensures { (start : State) → machine.now ≡ state_after done start → machine.now.orders ≤ start.orders + done
         → AreMarks start marks.old.items → AreMarks start marks.new.items }
 {
-    if done % BETWEEN != 0 {
-        return;
-    }
-    match marks.last() {
-        Some(mark) if done <= mark.done => return,
-        _ => {}
-    }
-    if let Ok(machine) = machine.copy() {
-        let _ = marks.push(Mark { done, machine });
+    let is_past = match marks.last() {
+        Some(mark) => mark.done < done,
+        None => true,
+    };
+    if done % BETWEEN == 0 && is_past {
+        if let Ok(machine) = machine.copy() {
+            let _ = marks.push(Mark { done, machine });
+        }
     }
 }
 

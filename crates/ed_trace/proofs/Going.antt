@@ -4,7 +4,7 @@ use Rattle.std.proofs.Common.{Bool, true, false, nat_le, Some, None, length}
 use Rattle.ed_words.proofs.Numbers.{eq_false, eq_true, le_false, lt_false, lt_true}
 use Rattle.ed_machine.specs.State.{State}
 use Rattle.ed_machine.specs.OrderTable.{step}
-use Rattle.ed_machine.specs.Steps.{is_obeyed, is_stop, progress, state_after, stops_of}
+use Rattle.ed_machine.specs.Steps.{is_obeyed, progress, state_after, stops_of}
 use Rattle.ed_machine.specs.declared.turn.Turn.{Turn}
 use Rattle.ed_machine.specs.declared.turn.Turn.TheVariants.{Went, Printed, Stopped as Stops}
 use Rattle.ed_machine.specs.declared.turn.Turn.TheVariants.{NoOrder as IsNoOrder, NoTape as HasNoTape}
@@ -19,15 +19,8 @@ obeyed_turn t (inl e) = ap is_obeyed e
 obeyed_turn t (inr (inl p)) = ap is_obeyed p.1
 obeyed_turn t (inr (inr e)) = ap is_obeyed e
 
-pub stop_is : (t : Turn) → is_stop t ≡ true → t ≡ Stops
-stop_is Stops h = refl
-stop_is Went h = cc
-stop_is (Printed code) h = cc
-stop_is (IsNoOrder function) h = cc
-stop_is HasNoTape h = cc
-
-pub no_stop : (t : Turn) → is_stop t ≡ false → stops_of t ≡ 0
-no_stop Stops h = cc
+pub no_stop : (t : Turn) → (t ≡ Stops → ⊥) → stops_of t ≡ 0
+no_stop Stops h = absurd (h refl)
 no_stop Went h = refl
 no_stop (Printed code) h = refl
 no_stop (IsNoOrder function) h = refl

@@ -1,6 +1,5 @@
 //! The run whose trace is written.
 ghost use Rattle.std.specs.Prelude.{◌≡◌, ◌+◌, ◌≤◌, ◌^◌, [], vec_capacity, MatchResult};
-ghost use Rattle.ed_machine.specs.Steps.{is_stop};
 ghost use Rattle.ed_io.specs.Causes.{faults_after};
 ghost use Rattle.ed_trace.specs.Traces.{TraceEnds, trace_faults};
 ghost use Rattle.ed_trace.specs.Private.Growth.{BreaksTrace, Traces, letter};
@@ -97,7 +96,7 @@ fn trace_orders<K: Sink>(
         if let Err(Failed) = put(out, line, letter, (done + 1) % LETTERS == 0) {
             return Err(Failed);
         }
-        if is_stop(&turn) {
+        if let Turn::Stopped = turn {
             if stops == resumes {
                 return Ok(Ending::Stopped);
             }
@@ -113,14 +112,4 @@ fn next_letter(machine: &Machine) -> u8
 {
     let function = machine.word(machine.counter()).order().function;
     byte_of(Code::new(function).unwrap(), false)
-}
-
-/// Whether a turn is a stop.
-fn is_stop(turn: &Turn) -> bool
-    ensures { result ≡ is_stop turn.now }
-{
-    match turn {
-        Turn::Stopped => true,
-        Turn::Went | Turn::Printed(_) | Turn::NoOrder(_) | Turn::NoTape => false,
-    }
 }

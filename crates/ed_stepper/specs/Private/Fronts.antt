@@ -1,15 +1,11 @@
 -- What the code takes from the front of a text.
-use Rattle.std.specs.Prelude.{◌≡◌, ℕ, ◌-◌, ◌==◌, ◌&&◌, not, [], ◌∷◌, Option}
+use Rattle.std.specs.Prelude.{◌≡◌, ℕ, ◌-◌, ◌==◌, ◌&&◌, [], ◌∷◌, Option}
 use Rattle.std.specs.Prelude.{Some, None, nat_lt, slice_index, if◌then◌else◌}
 use Rattle.std.specs.Borrow.{Bor}
 use Rattle.std.specs.List.{position_or_len}
 use Rattle.ed_words.specs.Texts.{Text}
 use Rattle.ed_stepper.specs.Commands.{is_space}
 use Rattle.ed_stepper.specs.Private.CommandReading.{parts_between_spaces}
-
--- the number of spaces at the beginning of a text
-abbrev pub blanks : Text → ℕ
-blanks = position_or_len (λ b. not (is_space b))
 
 -- the number of bytes before its first space
 abbrev pub solid : Text → ℕ

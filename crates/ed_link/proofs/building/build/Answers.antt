@@ -1,4 +1,6 @@
-use Rattle.std.proofs.Common.{sym, false}
+use Rattle.std.proofs.Common.{◌∙◌, sym, ap, false, Bool, [], ◌∷◌, ◌++◌}
+use Rattle.std.specs.Prelude.{◌||◌}
+use Rattle.ed_link.specs.declared.faults.Extent.{Extent}
 use Rattle.ed_link.proofs.LineLoop.{all_built, reach_fits, start, step, stopped}
 use Rattle.ed_link.proofs.building.build.Goals as goal
 
@@ -10,10 +12,9 @@ loop-line-init c =
 pub loop-line-preserved : goal.loop-line-preserved
 loop-line-preserved c =
     let added = c.in_ok-add_line.ensures in
-    let after_statement = c.in_ok-pass_line.ensures in
     let counter = c.after_statement-counter.ensures in
     step c.loop-line.invariant c.loop-line-test.true c.line-item.is (record {
-      cause = sym c.in-None.ensures;
+      cause = sym c.in_default.ensures;
       few = c.bound_rows.ensures;
       items_are = added.items;
       table_is = added.table;
@@ -22,8 +23,9 @@ loop-line-preserved c =
       spot_is = counter.is;
       place = counter.place;
       segments = counter.segments;
-      extents = after_statement.extents;
-      entered = after_statement.entered;
+      extents = c.in_ok-push.ensures.items
+          ∙ ap (λ (e : Extent). c.loop-line.past.extents.items ++ e ∷ []) c.extent_of.ensures;
+      entered = ap (λ (b : Bool). c.loop-line.past.entered || b) c.is_enter.ensures;
     })
 
 pub add_line-requires-clause-fits : goal.add_line-requires-clause-fits
@@ -31,7 +33,7 @@ add_line-requires-clause-fits c =
     reach_fits c.args.size c.args.symbols.now c.args.has_enter
     (record { extents = c.loop-line.past.extents.items; entered = c.loop-line.past.entered }) c.line-item.result
     c.loop-line.counter
-    (sym c.in-None.ensures)
+    (sym c.in_default.ensures)
 
 pub returns : goal.returns
 returns c =

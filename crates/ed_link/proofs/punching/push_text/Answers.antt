@@ -17,8 +17,7 @@ loop-code-preserved c =
     let l = c.loop-code in
     let done = l.items.items in
     let code = c.code-item.result in
-    let word = rw c.unwrap-word.ensures at c.new.ensures.some in
-    let whole = word ∙ ap (λ (n : ℕ). 4096 * n) (c.from.ensures ∙ c.value.ensures.is) in
+    let whole = c.of_number-word.ensures ∙ ap (λ (n : ℕ). 4096 * n) (c.from.ensures ∙ c.value.ensures.is) in
     one_more items_of_codes c.args.codes.now l.code-index code done (word_item (4096 * code) ∷ []) _
     c.loop-code-test.true c.code-item.is refl
     (c.in_ok-push.ensures ∙ ap (λ (i : Item). done ++ i ∷ []) (c.word_item.ensures ∙ ap word_item whole)) l.invariant

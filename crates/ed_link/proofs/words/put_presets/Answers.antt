@@ -21,11 +21,10 @@ loop-letter-preserved c =
     ) in whole in
     elim c.match-setting.branch [
       | in-Some w ↦
-          let word = rw w.unwrap.ensures at w.new.ensures.some in
           let number = w.from-word.ensures ∙ w.number.ensures.is in
           with_part
           (ap (λ v. v.items) w.table-is ∙ w.put.ensures
-          ∙ (λ i. set table (24 + w.from.ensures i) (Some ((word ∙ ap (λ (n : ℕ). 2 * n) number) i)))
+          ∙ (λ i. set table (24 + w.from.ensures i) (Some ((w.of_number.ensures ∙ ap (λ (n : ℕ). 2 * n) number) i)))
           ∙ ap (λ o. put_all table (preset c.args.symbols.now o letter)) (sym w.in-Some.is ∙ c.setting.ensures))
       | in_default w ↦ with_part
           (ap (λ v. v.items) w.table-is

@@ -8,11 +8,10 @@ use Rattle.ed_link.proofs.words.put_text.Goals as goal
 pub loop-code-preserved : goal.loop-code-preserved
 loop-code-preserved c =
     let l = c.loop-code in
-    let code = c.from.ensures ∙ c.value.ensures.is ∙ c.code-item.is in
-    let word = rw c.unwrap.ensures at c.new.ensures.some in (
+    let code = c.from.ensures ∙ c.value.ensures.is ∙ c.code-item.is in (
       put_next (λ (n : ℕ). 4096 * n) c.args.codes.now l.code-index l.at c.code-item.result l.table.items
           c.loop-code-test.true
-          (c.put.ensures ∙ ap (λ (n : ℕ). set l.table.items l.at (Some n)) (word ∙ ap (λ (n : ℕ). 4096 * n) code))
+          (c.put.ensures ∙ ap (λ (n : ℕ). set l.table.items l.at (Some n)) (c.of_number.ensures ∙ ap (λ (n : ℕ). 4096 * n) code))
           l.invariant.0,
       omega arith,
       ap length c.put.ensures ∙ length-set l.table.items l.at _ ∙ l.invariant.2,

@@ -1,3 +1,5 @@
+use Rattle.std.proofs.lemmas.List.Sums.{AllPass-from_list_all}
+use Rattle.ed_words.proofs.Numbers.{lt_of}
 use Rattle.std.proofs.Common.{ℕ, ◌≡◌, ◌∙◌, ◌+◌, ◌++◌, ◌∷◌, [], List, ap, sym, refl, append-nil, drop, get_or, nat_lt, true}
 use Rattle.std.specs.List.{flat_map, list_all}
 use Rattle.std.proofs.lemmas.List.{at_drop_all}
@@ -42,3 +44,8 @@ returns c =
     (sym (at_drop_all (flat_map (λ p. digit_at p c.args.number)) c.args.powers.now l.power-index
     c.loop-power-test.false))
     ∙ l.invariant.0
+
+pub nonzero_div-number : goal.nonzero_div-number
+nonzero_div-number c =
+    lt_of 0 _ (AllPass-from_list_all (λ power. nat_lt 0 power) c.args.powers.now c.requires c.loop-power.power-index 0
+    c.loop-power-test.true)

@@ -3,10 +3,10 @@ use Rattle.ed_io.specs.Causes.{next_count}
 use Rattle.ed_machine.specs.Steps.{stops_of}
 use Rattle.ed_machine.proofs.Steps.{next_state}
 use Rattle.ed_trace.proofs.Going.{at_limit, blocks, going_first, going_on, first_more}
-use Rattle.ed_trace.proofs.Going.{stopped, obeyed_turn, stop_is, no_stop}
+use Rattle.ed_trace.proofs.Going.{stopped, obeyed_turn, no_stop}
 use Rattle.ed_trace.proofs.Growing.{breaks_line, lines_first, next_lines}
 use Rattle.ed_trace.proofs.tracing.trace_orders.Goals as goal
-use Rattle.ed_trace.proofs.tracing.trace_orders.Goals.{then-is_stop+else-stops-resumes, else-is_stop}
+use Rattle.ed_trace.proofs.tracing.trace_orders.Goals.{in-Stopped+else-stops-resumes, in_default-turn}
 
 pub loop-done-init : goal.loop-done-init
 loop-done-init g c = record {
@@ -32,11 +32,10 @@ returns-in-Err g c =
 pub returns-then-stops-resumes : goal.returns-then-stops-resumes
 returns-then-stops-resumes g c =
     let i = c.loop-done.invariant in
-    let stop = stop_is _ (sym c.is_stop.ensures ∙ c.if-is_stop.true) in
     record {
       trace = record {
         orders = c.loop-done.done + 1;
-        ends = stopped i.going c.loop-done-test.true c.step-turn.ensures.turn stop
+        ends = stopped i.going c.loop-done-test.true c.step-turn.ensures.turn c.in-Stopped.is
             (omega (arith, c.if-stops-resumes.true));
         state_is = next_state _ _ i.going.state c.step-turn.ensures.state;
         lines = next_lines i.lines i.going.state c.next_letter-letter.ensures _ c.in_default.ensures.puts;
@@ -50,15 +49,14 @@ loop-done-preserved g c =
     let i = c.loop-done.invariant in
     let o = obeyed_turn _ c.in-Went.is in
     record {
-      going = elim c.if-is_stop.branch [
-        | then-is_stop+else-stops-resumes w ↦
-            let stop = stop_is _ (sym c.is_stop.ensures ∙ w.if-is_stop.true) in
+      going = elim c.match-turn-2.branch [
+        | in-Stopped+else-stops-resumes w ↦
             going_on i.going c.loop-done-test.true c.step-turn.ensures.turn
             c.step-turn.ensures.state o
-            (w.stops-is ∙ ap (λ t. c.loop-done.stops + stops_of t) (sym stop))
+            (w.stops-is ∙ ap (λ t. c.loop-done.stops + stops_of t) (sym w.in-Stopped.is))
             (omega (arith, w.stops-is, i.going.within, w.if-stops-resumes.false))
-        | else-is_stop w ↦
-            let none = no_stop _ (sym c.is_stop.ensures ∙ w.if-is_stop.false) in
+        | in_default-turn w ↦
+            let none = no_stop _ w.in_default-turn.not-Stopped in
             going_on i.going c.loop-done-test.true c.step-turn.ensures.turn
             c.step-turn.ensures.state o
             (omega (arith, w.stops-is, none)) (omega (arith, w.stops-is, i.going.within))
