@@ -1,19 +1,19 @@
 -- The arguments of a command, its size of the store, and the lines of the table as the program holds them.
 use Rattle.std.proofs.Common.{◌≡◌, ◌≢◌, ◌<◌, ◌≤◌, ℕ, Bool, true, false, Bor, List, [], ◌∷◌}
-use Rattle.std.proofs.Common.{refl, sym, subst, arith, length, map, codes}
+use Rattle.std.proofs.Common.{◌+◌, ◌∙◌, refl, sym, subst, arith, length, map, codes, drop, get_or}
 use Rattle.std.proofs.lemmas.Slice.Eq.{bytes_eq-Decides}
+use Rattle.std.proofs.lemmas.List.{at_drop_all, at_drop_more}
 use Rattle.std.specs.Prelude.{Option, Some, None, option_and_then, option_map, slice_index_or, if◌then◌else◌}
 use Rattle.std.specs.Str.{bytes_eq}
 use Rattle.ed_call.specs.declared.Call.TheVariants.{NewLine}
 use Rattle.ed_words.specs.Decimals.{number, number_within}
 use Rattle.ed_words.specs.Texts.{Text}
-use Rattle.ed_command.specs.Held.{action_by, call_with, line_by, table_line_by}
+use Rattle.ed_command.specs.Held.{action_by, call_with, line_in}
 use Rattle.ed_command.specs.Lines.{TableLine, call_of, command, command_of, division, line_named, lines, with_only}
 use Rattle.ed_words.specs.declared.size.Size.TheVariants.{Full}
 use Rattle.ed_command.specs.Settings.{Options, has_only, option_value, settings_of}
 use Rattle.ed_command.specs.Windows.{size_named}
-use Rattle.ed_command.specs.declared.command.Action.{Action}
-use Rattle.ed_command.specs.declared.lines.LineAction.{LineAction}
+use Rattle.ed_command.specs.declared.lines.Line.{Line}
 
 -- ---- calls
 
@@ -134,22 +134,35 @@ taken : (l : TableLine) (o : Options) (arguments : List Text) → has_only l.opt
     → with_only l.options o (l.action arguments) ≡ command (l.action arguments) (settings_of o)
 taken l o arguments h = simp h
 
-line_taken : (t : Option TableLine) (p : (List Text → Option Action) × List Text)
-    → Some p ≡ option_map table_line_by t → (o : Options) (arguments : List Text) → has_only p.1 o ≡ true
-    → option_and_then (λ l. with_only l.options o (l.action arguments)) t ≡ command (p.0 arguments) (settings_of o)
-line_taken None p e o arguments h = absurd (cc)
-line_taken (Some l) p e o arguments h =
-    let is : p ≡ table_line_by l = cc in
-    subst (λ (q : (List Text → Option Action) × List Text). has_only q.1 o ≡ true
-    → with_only l.options o (l.action arguments) ≡ command (q.0 arguments) (settings_of o)) (sym is)
-    (taken l o arguments) h
+line_taken : (t : Option TableLine) (l : TableLine) → Some l ≡ t → (o : Options) (arguments : List Text)
+    → has_only l.options o ≡ true
+    → option_and_then (λ l. with_only l.options o (l.action arguments)) t ≡ command (l.action arguments) (settings_of o)
+line_taken t l e o arguments h =
+    subst (λ (found : Option TableLine). option_and_then (λ l. with_only l.options o (l.action arguments)) found
+    ≡ command (l.action arguments) (settings_of o)) e (taken l o arguments h)
 
 -- the command of the words, by the line that the first of them begins
-pub command_found : (words : List (Bor Text)) (word : Bor Text) (arguments : List (Bor Text)) (action : LineAction)
-    (names : Bor (List (Bor Text))) (o : Options) → words ≡ word ∷ arguments
-    → option_map line_by (Some (action, names)) ≡ option_map table_line_by (line_named lines word.now)
-    → has_only (map (λ n. n.now) names.now) o ≡ true
-    → command_of (map (λ w. w.now) words) o ≡ command (action_by action (map (λ a. a.now) arguments)) (settings_of o)
-command_found words word arguments action names o are is h =
-    let all = line_taken (line_named lines word.now) (line_by (action, names)) is o (map (λ a. a.now) arguments) h in
+pub command_found : (words : List (Bor Text)) (word : Bor Text) (arguments : List (Bor Text)) (line : Line)
+    (o : Options) → words ≡ word ∷ arguments
+    → option_map line_in (Some line) ≡ line_named lines word.now
+    → has_only (map (λ n. n.now) line.options.now) o ≡ true
+    → command_of (map (λ w. w.now) words) o
+    ≡ command (action_by line.action (map (λ a. a.now) arguments)) (settings_of o)
+command_found words word arguments line o are is h =
+    let all = line_taken (line_named lines word.now) (line_in line) is o (map (λ a. a.now) arguments) h in
     rw are all
+
+-- at a line of the table, in a search from the first one on: it is the one that begins with the word, or a later one is
+pub at_line : (ls : List Line) (i : ℕ) (d : Line) (word : Text) (c : Bool) → i < length ls
+    → line_named (map line_in (drop i ls)) word ≡ line_named lines word → bytes_eq word (get_or ls i d).word.now ≡ c
+    → (if c then Some (line_in (get_or ls i d)) else line_named (map line_in (drop (i + 1) ls)) word)
+    ≡ line_named lines word
+at_line ls i d word c below same is =
+    let here = sym (at_drop_more (λ (xs : List Line). line_named (map line_in xs) word) ls i d below) ∙ same in
+    subst (λ (b : Bool). (if b then Some (line_in (get_or ls i d)) else line_named (map line_in (drop (i + 1) ls)) word)
+    ≡ line_named lines word) is here
+
+-- past the last of them
+pub no_line : (ls : List Line) (i : ℕ) (word : Text) → length ls ≤ i
+    → line_named (map line_in (drop i ls)) word ≡ line_named lines word → None ≡ line_named lines word
+no_line ls i word past same = sym (at_drop_all (λ (xs : List Line). line_named (map line_in xs) word) ls i past) ∙ same
