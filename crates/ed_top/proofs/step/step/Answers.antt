@@ -1,6 +1,4 @@
-use Rattle.std.proofs.Common.{refl, sym, subst, inl}
 use Rattle.std.specs.Prelude.{Ok}
-use Rattle.ed_answers.specs.Replies.{Gives}
 use Rattle.ed_stepper.specs.Inputs.{Input, input_of}
 use Rattle.ed_top.specs.Scripts.{OfStep, OnInput, OnText, on_rows}
 use Rattle.ed_top.proofs.OneOutcome.{divided_some, input_some}
