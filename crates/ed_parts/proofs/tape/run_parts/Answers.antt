@@ -1,5 +1,8 @@
 use Rattle.std.proofs.Common.{refl, ◌∙◌, ap, arith, length}
 use Rattle.std.proofs.lemmas.Result.{err_from_is_err_and}
+use Rattle.std.specs.Prelude.{Err}
+use Rattle.ed_parts.specs.Parts.{parts_faults}
+use Rattle.ed_parts.specs.declared.tape.PartsEnd.{PartsEnd}
 use Rattle.ed_parts.proofs.Passing.{ahead_first, answers_broken, answers_over, goes_onward}
 use Rattle.ed_parts.proofs.Reached.{each_reached}
 use Rattle.ed_parts.proofs.Runs.{each_end}
@@ -20,36 +23,29 @@ parts-init g c =
       faults = refl;
     }
 
-pub returns-in-Over-clause-tells : goal.returns-in-Over-clause-tells
-returns-in-Over-clause-tells g c =
+pub returns-in-Over : goal.returns-in-Over
+returns-in-Over g c =
     let i = c.parts.invariant in
-    answers_over _ c.from.ensures i.whole i.ahead
-    (rw c.in-Over.is at c.in_ok-end.ensures.passes)
+    record {
+      tells = answers_over _ c.from.ensures i.whole i.ahead (rw c.in-Over.is at c.in_ok-end.ensures.passes);
+      faults = c.in_ok-end.ensures.faults ∙ i.faults;
+      law = each_told_once;
+      reached = each_reached;
+      runs = each_end;
+    }
 
-pub returns-in_err-end-clause-tells : goal.returns-in_err-end-clause-tells
-returns-in_err-end-clause-tells g c =
+pub returns-in_err-end : goal.returns-in_err-end
+returns-in_err-end g c =
     let p = err_from_is_err_and c.from_residual.result c.from_residual.ensures.1 in
     let i = c.parts.invariant in
-    rw (p.1, p.2) (answers_broken _ c.from.ensures i.whole i.ahead c.in_err-end.field-0.0 c.run_part.new.machine
-    c.in_err-end.ensures.passes)
-
-pub returns-in-Over-clause-law : goal.returns-in-Over-clause-law
-returns-in-Over-clause-law g c = each_told_once
-
-pub returns-in-Over-clause-reached : goal.returns-in-Over-clause-reached
-returns-in-Over-clause-reached g c = each_reached
-
-pub returns-in_err-end-clause-law : goal.returns-in_err-end-clause-law
-returns-in_err-end-clause-law g c = each_told_once
-
-pub returns-in_err-end-clause-reached : goal.returns-in_err-end-clause-reached
-returns-in_err-end-clause-reached g c = each_reached
-
-pub returns-in-Over-clause-runs : goal.returns-in-Over-clause-runs
-returns-in-Over-clause-runs g c = each_end
-
-pub returns-in_err-end-clause-runs : goal.returns-in_err-end-clause-runs
-returns-in_err-end-clause-runs g c = each_end
+    let fault = c.in_err-end.field-0.0 in
+    rw (p.1, p.2) (record {
+      tells = answers_broken _ c.from.ensures i.whole i.ahead fault c.run_part.new.machine c.in_err-end.ensures.passes;
+      faults = c.in_err-end.ensures.faults ∙ ap (parts_faults {T = PartsEnd} (Err fault)) i.faults;
+      law = each_told_once;
+      reached = each_reached;
+      runs = each_end;
+    })
 
 pub parts-preserved : goal.parts-preserved
 parts-preserved g c =
@@ -83,6 +79,3 @@ parts-smaller g c =
 pub run_part-requires-clause-orders : goal.run_part-requires-clause-orders
 run_part-requires-clause-orders g c =
     omega (arith, c.requires.orders, c.from.ensures, c.parts.invariant.orders, c.parts.invariant.done)
-
-pub returns-in-Over-clause-faults : goal.returns-in-Over-clause-faults
-returns-in-Over-clause-faults g c = c.in_ok-end.ensures.faults ∙ c.parts.invariant.faults
