@@ -116,6 +116,7 @@ returns-in_err-write_line-in-Returned g c =
         return_breaks l c.args.stage.rows p b whole gains,
         return_stops l c.args.stage.rows p b _ _ _ last whole failed.field-0.0 gains failed.ensures.memory,
       );
-      faults = failed.ensures.faults
-          ∙ ap (parts_faults {T = Passed} (Err failed.field-0.0)) c.in_ok-write_line.ensures.faults;
+      faults = c.in_err-write_line-in-Returned.ensures.faults
+          ∙ ap (parts_faults {T = Passed} (Err c.in_err-write_line-in-Returned.field-0.0))
+          c.in_ok-write_line.ensures.faults;
     })

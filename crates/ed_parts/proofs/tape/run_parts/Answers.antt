@@ -1,4 +1,5 @@
-use Rattle.std.proofs.Common.{refl, ◌∙◌, ap, arith, length}
+use Rattle.std.proofs.Common.{refl, sym, ◌∙◌, ap, arith, length, lit≤, ℕ, ◌+◌, ◌-◌, ◌*◌, ◌≤◌, ◌<◌}
+use Rattle.std.proofs.Common.{le_of_eq, le_trans, le-add_right, zero-le}
 use Rattle.std.proofs.lemmas.Result.{err_from_is_err_and}
 use Rattle.std.specs.Prelude.{Err}
 use Rattle.ed_parts.specs.Parts.{parts_faults}
@@ -9,6 +10,17 @@ use Rattle.ed_parts.proofs.Runs.{each_end}
 use Rattle.ed_parts.proofs.Tales.{each_told_once}
 use Rattle.ed_parts.proofs.tape.run_parts.Goals as goal
 
+-- sums over plain numbers
+more_parts : (number done now : ℕ) → 2 * number ≤ done + 2 → done + 2 ≤ now → 2 * (number + 1) ≤ now + 2
+more_parts number done now many later = omega (arith, many, later)
+
+more_orders : (new old first done now : ℕ) → new ≤ old + (now - done) → done + 2 ≤ now → old ≤ first + done
+    → new ≤ first + now
+more_orders new old first done now soon later so_far = omega (arith, soon, later, so_far)
+
+nearer : (limit done now : ℕ) → done + 2 ≤ now → now ≤ limit → limit - now < limit - done
+nearer limit done now later within = omega (arith, later, within)
+
 pub parts-init : goal.parts-init
 parts-init g c =
     let whole = ap length c.rows_left-rows.ensures in
@@ -16,10 +28,10 @@ parts-init g c =
       ahead = ahead_first _ _ _ _;
       back = λ ne. absurd (ne refl);
       whole = whole;
-      rows = omega (arith, whole);
-      done = omega arith;
-      many = omega arith;
-      orders = omega arith;
+      rows = le_of_eq (sym whole);
+      done = zero-le;
+      many = lit≤ tt;
+      orders = le-add_right _ _;
       faults = refl;
     }
 
@@ -57,10 +69,10 @@ parts-preserved g c =
       ahead = o.ahead;
       back = λ ne. o.home;
       whole = i.whole;
-      rows = omega (arith, i.rows, o.later.fewer);
-      done = omega (arith, o.later.within);
-      many = omega (arith, i.many, o.later.later);
-      orders = omega (arith, i.orders, o.later.soon, o.later.later);
+      rows = le_trans o.later.fewer i.rows;
+      done = o.later.within;
+      many = more_parts _ _ _ i.many o.later.later;
+      orders = more_orders _ _ _ _ _ o.later.soon o.later.later i.orders;
       faults = c.in_ok-end.ensures.faults ∙ i.faults;
     }
 
@@ -74,7 +86,7 @@ parts-smaller g c =
     let o =
     goes_onward _ c.from.ensures i.whole i.ahead
     (rw c.in-Back.is at c.in_ok-end.ensures.passes) in
-    omega (arith, o.later.within, o.later.later)
+    nearer _ _ _ o.later.later o.later.within
 
 pub run_part-requires-clause-orders : goal.run_part-requires-clause-orders
 run_part-requires-clause-orders g c =
