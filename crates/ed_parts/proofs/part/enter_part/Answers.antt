@@ -1,4 +1,4 @@
-use Rattle.std.proofs.Common.{◌≡◌, ◌+◌, ◌≤◌, ◌∙◌, refl, ap, arith}
+use Rattle.std.proofs.Common.{◌≡◌, ◌+◌, ◌-◌, ◌<◌, ◌≤◌, ◌∙◌, ℕ, refl, ap, arith}
 use Rattle.std.proofs.lemmas.Result.{err_from_is_err_and}
 use Rattle.ed_io.proofs.Calls.{gains_more, gains_none}
 use Rattle.std.specs.Prelude.{Err}
@@ -10,13 +10,20 @@ use Rattle.ed_parts.proofs.Passing.{entry_stops, return_breaks, return_stops, re
 use Rattle.ed_parts.proofs.Programs.{home_within}
 use Rattle.ed_parts.proofs.part.enter_part.Goals as goal
 
+-- the limit comes before the entry, or not
+runs_out : (limit done orders cost : ℕ) → limit - done < orders → orders ≡ cost → done ≤ limit → limit < done + cost
+runs_out limit done orders cost less same within = omega (arith, less, same, within)
+
+still_left : (limit done orders cost : ℕ) → orders ≤ limit - done → orders ≡ cost → done ≤ limit → done + cost ≤ limit
+still_left limit done orders cost more same within = omega (arith, more, same, within)
+
 pub returns-then-left-arrival : goal.returns-then-left-arrival
 returns-then-left-arrival g c =
     let a = c.requires.arrival in
     record {
       passes = (
         _,
-        cut a.0 a.1.leads (omega (arith, c.if-left-arrival.true, a.1.orders_are, c.requires.done)) refl,
+        cut a.0 a.1.leads (runs_out _ _ _ _ c.if-left-arrival.true a.1.orders_are c.requires.done) refl,
         refl,
         c.obey.ensures.state,
         gains_none _,
@@ -30,7 +37,7 @@ returns-in_err-write_line g c =
     let p = stage_part c.args.stage c.args.machine.now in
     let line = entry_is c.args.stage.rows p a.0 a.1.at_is a.1.orders_are a.1.rows_are in
     let within : entry_done p a.0 ≤ c.args.stage.limit =
-    omega (arith, c.if-left-arrival.false, a.1.orders_are, c.requires.done) in
+    still_left _ _ _ _ c.if-left-arrival.false a.1.orders_are c.requires.done in
     let e = err_from_is_err_and c.from_residual.result c.from_residual.ensures.1 in
     let gains = c.in_err-write_line.ensures.whole _ (made_as _ _ _ line c.entry_text.ensures) in
     rw (e.1, e.2) (record {
@@ -58,7 +65,7 @@ returns-in-Finished g c =
     record {
       passes = (
         _,
-        finished a.0 m.0 _ a.1.leads (omega (arith, c.if-left-arrival.false, a.1.orders_are, c.requires.done))
+        finished a.0 m.0 _ a.1.leads (still_left _ _ _ _ c.if-left-arrival.false a.1.orders_are c.requires.done)
             (finishes_there l p a.0 a.1.orders_are c.obey-2.ensures.state m.1) refl,
         refl,
         behind_is l p a.0 a.1.orders_are c.obey-2.ensures.state m.0 m.2,
@@ -76,7 +83,7 @@ returns-in_ok-write_line-in-Returned g c =
     let l = c.args.stage.limit in
     let b =
     back_from l p a.0 a.1.orders_are c.obey-2.ensures.state a.1.leads
-    (omega (arith, c.if-left-arrival.false, c.requires.done)) m.0 in
+    (still_left _ _ _ _ c.if-left-arrival.false refl c.requires.done) m.0 in
     let last = behind_is l p a.0 a.1.orders_are c.obey-2.ensures.state c.in-Returned.orders m.1 in
     let count : c.args.stage.done + c.args.arrival.orders + c.in-Returned.orders ≡ (part_after p b).done =
     ap (λ n. c.args.stage.done + n + c.in-Returned.orders) a.1.orders_are in
@@ -101,7 +108,7 @@ returns-in_err-write_line-in-Returned g c =
     let l = c.args.stage.limit in
     let b =
     back_from l p a.0 a.1.orders_are c.obey-2.ensures.state a.1.leads
-    (omega (arith, c.if-left-arrival.false, c.requires.done)) m.0 in
+    (still_left _ _ _ _ c.if-left-arrival.false refl c.requires.done) m.0 in
     let last = behind_is l p a.0 a.1.orders_are c.obey-2.ensures.state c.in-Returned.orders m.1 in
     let count : c.args.stage.done + c.args.arrival.orders + c.in-Returned.orders ≡ (part_after p b).done =
     ap (λ n. c.args.stage.done + n + c.in-Returned.orders) a.1.orders_are in

@@ -1,4 +1,4 @@
-use Rattle.std.proofs.Common.{refl, sym, [], true, false}
+use Rattle.std.proofs.Common.{refl, sym, []}
 use Rattle.std.proofs.lemmas.Result.{err_from_is_err_and}
 use Rattle.ed_io.proofs.Calls.{gains_none}
 use Rattle.ed_parts.proofs.part.write_line.Goals as goal
