@@ -13,7 +13,11 @@ use Rattle.ed_command.specs.Lines.{TableLine, call_of, command, command_of, divi
 use Rattle.ed_words.specs.declared.size.Size.TheVariants.{Full}
 use Rattle.ed_command.specs.Settings.{Options, has_only, option_value, settings_of}
 use Rattle.ed_command.specs.Windows.{size_named}
+use Rattle.ed_command.specs.declared.command.Action.{Action}
+use Rattle.ed_command.specs.declared.command.Action.TheVariants.{Demo}
 use Rattle.ed_command.specs.declared.lines.Line.{Line}
+use Rattle.ed_command.specs.declared.lines.LineAction.{LineAction}
+use Rattle.ed_command.specs.declared.lines.LineAction.TheVariants.{Alone, Demo as Demonstrates}
 
 -- ---- calls
 
@@ -117,6 +121,40 @@ many_numbers (name ∷ n ∷ by ∷ more ∷ others) least =
     let is = bytes_eq name.now in
     neither (is (codes "print")) _ (neither (is (codes "read")) _ (neither (is (codes "newline")) _
     (neither (is (codes "divide")) _ (neither (is (codes "root")) _ (neither (is (codes "check")) None refl)))))
+
+-- ---- actions
+
+-- an action that takes no argument
+pub alone_by : (held : LineAction) (known : Action) (arguments : List (Bor Text)) → held ≡ Alone known
+    → length arguments < 1 → action_by held (map (λ a. a.now) arguments) ≡ Some known
+alone_by held known [] is most = rw is refl
+alone_by held known (argument ∷ others) is most = absurd (omega (arith, most))
+
+pub not_alone : (held : LineAction) (known : Action) (arguments : List (Bor Text)) → held ≡ Alone known
+    → 1 ≤ length arguments → action_by held (map (λ a. a.now) arguments) ≡ None
+not_alone held known [] is least = absurd (omega (arith, least))
+not_alone held known (argument ∷ others) is least = rw is refl
+
+-- the number of `demo`
+pub demo_by : (held : LineAction) (arguments : List (Bor Text)) (x : Bor Text) (o : Option ℕ) → held ≡ Demonstrates
+    → 1 ≤ length arguments → length arguments < 2 → o ≡ number_within 1 112 (slice_index_or arguments 0 x).now
+    → option_map Demo o ≡ action_by held (map (λ a. a.now) arguments)
+demo_by held [] x o is least most number = absurd (omega (arith, least))
+demo_by held (text ∷ []) x o is least most number = rw (is, number) refl
+demo_by held (text ∷ more ∷ others) x o is least most number = absurd (omega (arith, most))
+
+pub demo_of_none : (held : LineAction) (arguments : List (Bor Text)) → held ≡ Demonstrates → length arguments < 1
+    → action_by held (map (λ a. a.now) arguments) ≡ None
+demo_of_none held [] is most = rw is refl
+demo_of_none held (text ∷ others) is most = absurd (omega (arith, most))
+
+pub demo_of_many : (held : LineAction) (arguments : List (Bor Text)) → held ≡ Demonstrates → 2 ≤ length arguments
+    → action_by held (map (λ a. a.now) arguments) ≡ None
+demo_of_many held [] is least = absurd (omega (arith, least))
+demo_of_many held (text ∷ []) is least = absurd (omega (arith, least))
+demo_of_many held (text ∷ more ∷ others) is least = rw is refl
+
+-- ---- the size of the store
 
 -- one value that is no size of the store
 pub no_size : (values : List (Bor Text)) (x : Bor Text) → 1 ≤ length values → length values < 2
