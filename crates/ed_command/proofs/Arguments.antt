@@ -15,9 +15,9 @@ use Rattle.ed_command.specs.Settings.{Options, has_only, option_value, settings_
 use Rattle.ed_command.specs.Windows.{size_named}
 use Rattle.ed_command.specs.declared.command.Action.{Action}
 use Rattle.ed_command.specs.declared.command.Action.TheVariants.{Demo}
-use Rattle.ed_command.specs.declared.lines.Line.{Line}
 use Rattle.ed_command.specs.declared.lines.LineAction.{LineAction}
 use Rattle.ed_command.specs.declared.lines.LineAction.TheVariants.{Alone, Demo as Demonstrates}
+use Rattle.ed_command.specs.declared.lines.TableLine as held
 
 -- ---- calls
 
@@ -125,34 +125,34 @@ many_numbers (name ∷ n ∷ by ∷ more ∷ others) least =
 -- ---- actions
 
 -- an action that takes no argument
-pub alone_by : (held : LineAction) (known : Action) (arguments : List (Bor Text)) → held ≡ Alone known
-    → length arguments < 1 → action_by held (map (λ a. a.now) arguments) ≡ Some known
-alone_by held known [] is most = rw is refl
-alone_by held known (argument ∷ others) is most = absurd (omega (arith, most))
+pub alone_by : (action : LineAction) (known : Action) (arguments : List (Bor Text)) → action ≡ Alone known
+    → length arguments < 1 → action_by action (map (λ a. a.now) arguments) ≡ Some known
+alone_by action known [] is most = rw is refl
+alone_by action known (argument ∷ others) is most = absurd (omega (arith, most))
 
-pub not_alone : (held : LineAction) (known : Action) (arguments : List (Bor Text)) → held ≡ Alone known
-    → 1 ≤ length arguments → action_by held (map (λ a. a.now) arguments) ≡ None
-not_alone held known [] is least = absurd (omega (arith, least))
-not_alone held known (argument ∷ others) is least = rw is refl
+pub not_alone : (action : LineAction) (known : Action) (arguments : List (Bor Text)) → action ≡ Alone known
+    → 1 ≤ length arguments → action_by action (map (λ a. a.now) arguments) ≡ None
+not_alone action known [] is least = absurd (omega (arith, least))
+not_alone action known (argument ∷ others) is least = rw is refl
 
 -- the number of `demo`
-pub demo_by : (held : LineAction) (arguments : List (Bor Text)) (x : Bor Text) (o : Option ℕ) → held ≡ Demonstrates
+pub demo_by : (action : LineAction) (arguments : List (Bor Text)) (x : Bor Text) (o : Option ℕ) → action ≡ Demonstrates
     → 1 ≤ length arguments → length arguments < 2 → o ≡ number_within 1 112 (slice_index_or arguments 0 x).now
-    → option_map Demo o ≡ action_by held (map (λ a. a.now) arguments)
-demo_by held [] x o is least most number = absurd (omega (arith, least))
-demo_by held (text ∷ []) x o is least most number = rw (is, number) refl
-demo_by held (text ∷ more ∷ others) x o is least most number = absurd (omega (arith, most))
+    → option_map Demo o ≡ action_by action (map (λ a. a.now) arguments)
+demo_by action [] x o is least most number = absurd (omega (arith, least))
+demo_by action (text ∷ []) x o is least most number = rw (is, number) refl
+demo_by action (text ∷ more ∷ others) x o is least most number = absurd (omega (arith, most))
 
-pub demo_of_none : (held : LineAction) (arguments : List (Bor Text)) → held ≡ Demonstrates → length arguments < 1
-    → action_by held (map (λ a. a.now) arguments) ≡ None
-demo_of_none held [] is most = rw is refl
-demo_of_none held (text ∷ others) is most = absurd (omega (arith, most))
+pub demo_of_none : (action : LineAction) (arguments : List (Bor Text)) → action ≡ Demonstrates → length arguments < 1
+    → action_by action (map (λ a. a.now) arguments) ≡ None
+demo_of_none action [] is most = rw is refl
+demo_of_none action (text ∷ others) is most = absurd (omega (arith, most))
 
-pub demo_of_many : (held : LineAction) (arguments : List (Bor Text)) → held ≡ Demonstrates → 2 ≤ length arguments
-    → action_by held (map (λ a. a.now) arguments) ≡ None
-demo_of_many held [] is least = absurd (omega (arith, least))
-demo_of_many held (text ∷ []) is least = absurd (omega (arith, least))
-demo_of_many held (text ∷ more ∷ others) is least = rw is refl
+pub demo_of_many : (action : LineAction) (arguments : List (Bor Text)) → action ≡ Demonstrates → 2 ≤ length arguments
+    → action_by action (map (λ a. a.now) arguments) ≡ None
+demo_of_many action [] is least = absurd (omega (arith, least))
+demo_of_many action (text ∷ []) is least = absurd (omega (arith, least))
+demo_of_many action (text ∷ more ∷ others) is least = rw is refl
 
 -- ---- the size of the store
 
@@ -180,7 +180,7 @@ line_taken t l e o arguments h =
     ≡ command (l.action arguments) (settings_of o)) e (taken l o arguments h)
 
 -- the command of the words, by the line that the first of them begins
-pub command_found : (words : List (Bor Text)) (word : Bor Text) (arguments : List (Bor Text)) (line : Line)
+pub command_found : (words : List (Bor Text)) (word : Bor Text) (arguments : List (Bor Text)) (line : held.TableLine)
     (o : Options) → words ≡ word ∷ arguments
     → option_map line_in (Some line) ≡ line_named lines word.now
     → has_only (map (λ n. n.now) line.options.now) o ≡ true
@@ -191,16 +191,17 @@ command_found words word arguments line o are is h =
     rw are all
 
 -- at a line of the table, in a search from the first one on: it is the one that begins with the word, or a later one is
-pub at_line : (ls : List Line) (i : ℕ) (d : Line) (word : Text) (c : Bool) → i < length ls
+pub at_line : (ls : List held.TableLine) (i : ℕ) (d : held.TableLine) (word : Text) (c : Bool) → i < length ls
     → line_named (map line_in (drop i ls)) word ≡ line_named lines word → bytes_eq word (get_or ls i d).word.now ≡ c
     → (if c then Some (line_in (get_or ls i d)) else line_named (map line_in (drop (i + 1) ls)) word)
     ≡ line_named lines word
 at_line ls i d word c below same is =
-    let here = sym (at_drop_more (λ (xs : List Line). line_named (map line_in xs) word) ls i d below) ∙ same in
+    let here = sym (at_drop_more (λ (xs : List held.TableLine). line_named (map line_in xs) word) ls i d below) ∙ same in
     subst (λ (b : Bool). (if b then Some (line_in (get_or ls i d)) else line_named (map line_in (drop (i + 1) ls)) word)
     ≡ line_named lines word) is here
 
 -- past the last of them
-pub no_line : (ls : List Line) (i : ℕ) (word : Text) → length ls ≤ i
+pub no_line : (ls : List held.TableLine) (i : ℕ) (word : Text) → length ls ≤ i
     → line_named (map line_in (drop i ls)) word ≡ line_named lines word → None ≡ line_named lines word
-no_line ls i word past same = sym (at_drop_all (λ (xs : List Line). line_named (map line_in xs) word) ls i past) ∙ same
+no_line ls i word past same =
+    sym (at_drop_all (λ (xs : List held.TableLine). line_named (map line_in xs) word) ls i past) ∙ same

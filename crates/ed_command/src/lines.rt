@@ -29,9 +29,9 @@ pub(crate) enum LineAction {
 
 use LineAction::Alone;
 
-/// A line of the program.
+/// A line of the table.
 #[derive(Clone, Copy)]
-struct Line {
+struct TableLine {
     /// Its first word.
     word: &'static str,
     /// What it does.
@@ -43,7 +43,7 @@ struct Line {
 /// A row of the table of lines.
 macro_rules! row {
     ($word:literal $action:expr, $options:expr) => {
-        Line {
+        TableLine {
             word: $word,
             action: $action,
             options: $options,
@@ -52,7 +52,7 @@ macro_rules! row {
 }
 
 /// The lines of the program.
-const LINES: [Line; 13] = [
+const LINES: [TableLine; 13] = [
     row!("tape" Alone(Action::Tape), OPTIONS),
     row!("check-tape" Alone(Action::CheckTape), STORE),
     row!("run" Alone(Action::Run), OPTIONS),
@@ -85,7 +85,7 @@ pub(crate) fn command_of(words: &[&str], options: &Options<'_>) -> Option<Comman
 }
 
 /// The line that begins with this word.
-fn line_named(word: &str) -> Option<Line>
+fn line_named(word: &str) -> Option<TableLine>
     ensures { option_map line_in result ≡ line_named lines word.now }
 {
     for line in &LINES {
