@@ -27,6 +27,6 @@ pub words_added : (names : List (Bor Text)) (i : ℕ) (old new : Command) (a : A
     → IsWithout (drop i names) old → a.global ≡ false → rule_of a ≡ words_rule → AddsArg old a new → app_of new ≡ app
 words_added names i old new a past same here rule adds =
     let all =
-    sym (at_drop_all (λ (xs : List (Bor Text)). fold with_option (app_of old) (map (λ n. n.now) xs)) names i past) ∙ same
-    in
+    sym (at_drop_all (λ (xs : List (Bor Text)). fold with_option (app_of old) (map (λ n. n.now) xs)) names i past)
+    ∙ same in
     adds.shape here ∙ ap₂ with_rule all rule

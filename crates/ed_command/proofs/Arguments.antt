@@ -196,7 +196,8 @@ pub at_line : (ls : List held.TableLine) (i : ℕ) (d : held.TableLine) (word : 
     → (if c then Some (line_in (get_or ls i d)) else line_named (map line_in (drop (i + 1) ls)) word)
     ≡ line_named lines word
 at_line ls i d word c below same is =
-    let here = sym (at_drop_more (λ (xs : List held.TableLine). line_named (map line_in xs) word) ls i d below) ∙ same in
+    let here =
+    sym (at_drop_more (λ (xs : List held.TableLine). line_named (map line_in xs) word) ls i d below) ∙ same in
     subst (λ (b : Bool). (if b then Some (line_in (get_or ls i d)) else line_named (map line_in (drop (i + 1) ls)) word)
     ≡ line_named lines word) is here
 

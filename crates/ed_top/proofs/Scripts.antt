@@ -122,8 +122,8 @@ source_rows s kind text k v is links rows_are = λ commands.
 
 -- of a source that is refused
 pub source_has_none : (s : Settings) (kind : TextKind) (text : Text) (r : Result (Vec ℕ Global) Rejection)
-    (e : Rejection) → kind ≡ kinds.Source → LinksSource s.size text (Err e) → IsErr r × IsErrAnd r (λ handed. handed ≡ e)
-    → HasRows s kind text r
+    (e : Rejection) → kind ≡ kinds.Source → LinksSource s.size text (Err e)
+    → IsErr r × IsErrAnd r (λ handed. handed ≡ e) → HasRows s kind text r
 source_has_none s kind text (Ok v) e is links handed = absurd (cc)
 source_has_none s kind text (Err h) e is links handed = λ commands.
     subst (λ k. Replies (of_made (OnText s commands k text)) [] (Err h)) (sym is)

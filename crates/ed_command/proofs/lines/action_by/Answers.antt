@@ -23,7 +23,8 @@ returns-in_ok-number_within-in-Demo-len1 c =
 
 pub returns-in_default : goal.returns-in_default
 returns-in_default c =
-    sym (not_alone c.args.action c.in_default.field-0-0 c.args.arguments.now c.in_default.is-0 c.in_default.len_at_least)
+    sym (not_alone c.args.action c.in_default.field-0-0 c.args.arguments.now c.in_default.is-0
+    c.in_default.len_at_least)
 
 pub returns-in_default-2 : goal.returns-in_default-2
 returns-in_default-2 c =

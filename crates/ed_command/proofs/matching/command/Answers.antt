@@ -25,6 +25,6 @@ returns c =
     let plain : c.action.result.global ≡ false =
     ap (λ (a : Arg). a.global) c.action.ensures ∙ c.new.ensures.optional.1 in
     IfOk-weaker c.arg-2.result _ _
-    (λ whole adds. words_added _ _ c.loop-name.command whole c.action.result c.loop-name-test.false c.loop-name.invariant
-    plain words_is adds)
+    (λ whole adds. words_added _ _ c.loop-name.command whole c.action.result c.loop-name-test.false
+    c.loop-name.invariant plain words_is adds)
     c.arg-2.ensures
