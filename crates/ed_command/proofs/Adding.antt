@@ -1,29 +1,32 @@
--- The command of the program, made of its arguments.
-use Rattle.std.proofs.Common.{◌≡◌, ◌∙◌, false, List, [], ◌∷◌, sym, ap, subst}
-use Rattle.std.specs.Prelude.{fold, map}
-use Rattle.clap.specs.Words.{AddsArg, AddsInTurn, App, app_of, rule_of, with_rule}
-use Rattle.ed_command.specs.Rules.{app}
+-- The command of the program, made of its options in turn and of its words.
+use Rattle.std.proofs.Common.{◌≡◌, ◌∙◌, ◌+◌, ◌<◌, ◌≤◌, ℕ, Bor, List, length, false, sym, ap, ap₂, drop, get_or, map}
+use Rattle.std.proofs.lemmas.List.{at_drop_all, at_drop_more}
+use Rattle.std.specs.Prelude.{fold}
+use Rattle.clap.specs.Words.{AddsArg, App, app_of, rule_of, with_rule}
 use Rattle.clap.specs.declared.builder.arg.Arg.{Arg}
 use Rattle.clap.specs.declared.builder.command.Command.{Command}
+use Rattle.ed_words.specs.Texts.{Text}
+use Rattle.ed_command.specs.Rules.{app, option_rule, options_app, with_option, words_rule}
 
--- no argument is one of the subcommands too
-abbrev pub AreHere : List Arg → Type 0
-AreHere [] = Unit {0}
-AreHere (a ∷ others) = (a.global ≡ false) × AreHere others
+-- with the options that are left, the command is the one with all of them
+abbrev pub IsWithout : List (Bor Text) → Command → Type 0
+IsWithout names command = fold with_option (app_of command) (map (λ n. n.now) names) ≡ options_app
 
--- the arguments that a command has after some are added
-all_added : (old new : Command) (arguments : List Arg) → AddsInTurn AddsArg old arguments new → AreHere arguments
-    → app_of new ≡ fold with_rule (app_of old) (map rule_of arguments)
-all_added old new [] adds here = ap app_of (sym adds)
-all_added old new (a ∷ others) adds here =
-    all_added adds.0 new others adds.2 here.1
-    ∙ ap (λ (a : App). fold with_rule a (map rule_of others)) (adds.1.shape here.0)
+-- one more option
+pub one_added : (names : List (Bor Text)) (i : ℕ) (d : Bor Text) (old new : Command) (a : Arg) → i < length names
+    → AddsArg old a new → a.global ≡ false → rule_of a ≡ option_rule (get_or names i d).now
+    → IsWithout (drop i names) old → IsWithout (drop (i + 1) names) new
+one_added names i d old new a below adds here rule same =
+    ap (λ (b : App). fold with_option b (map (λ n. n.now) (drop (i + 1) names)))
+    (adds.shape here ∙ ap (with_rule (app_of old)) rule)
+    ∙ sym (at_drop_more (λ (xs : List (Bor Text)). fold with_option (app_of old) (map (λ n. n.now) xs)) names i d below)
+    ∙ same
 
--- the command is the program's if its arguments are
-pub program_made : (old new : Command) (items arguments : List Arg) → items ≡ arguments
-    → AddsInTurn AddsArg old items new → AreHere arguments
-    → fold with_rule (app_of old) (map rule_of arguments) ≡ app → app_of new ≡ app
-program_made old new items arguments are adds here is =
-    let all : AddsInTurn AddsArg old arguments new =
-    subst (λ (added : List Arg). AddsInTurn AddsArg old added new) are adds in
-    all_added old new arguments all here ∙ is
+-- the words after the options
+pub words_added : (names : List (Bor Text)) (i : ℕ) (old new : Command) (a : Arg) → length names ≤ i
+    → IsWithout (drop i names) old → a.global ≡ false → rule_of a ≡ words_rule → AddsArg old a new → app_of new ≡ app
+words_added names i old new a past same here rule adds =
+    let all =
+    sym (at_drop_all (λ (xs : List (Bor Text)). fold with_option (app_of old) (map (λ n. n.now) xs)) names i past)
+    ∙ same in
+    adds.shape here ∙ ap₂ with_rule all rule

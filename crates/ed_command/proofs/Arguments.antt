@@ -1,19 +1,23 @@
 -- The arguments of a command, its size of the store, and the lines of the table as the program holds them.
 use Rattle.std.proofs.Common.{◌≡◌, ◌≢◌, ◌<◌, ◌≤◌, ℕ, Bool, true, false, Bor, List, [], ◌∷◌}
-use Rattle.std.proofs.Common.{refl, sym, subst, arith, length, map, codes}
+use Rattle.std.proofs.Common.{◌+◌, ◌∙◌, refl, sym, subst, arith, length, map, codes, drop, get_or}
 use Rattle.std.proofs.lemmas.Slice.Eq.{bytes_eq-Decides}
+use Rattle.std.proofs.lemmas.List.{at_drop_all, at_drop_more}
 use Rattle.std.specs.Prelude.{Option, Some, None, option_and_then, option_map, slice_index_or, if◌then◌else◌}
 use Rattle.std.specs.Str.{bytes_eq}
 use Rattle.ed_call.specs.declared.Call.TheVariants.{NewLine}
 use Rattle.ed_words.specs.Decimals.{number, number_within}
 use Rattle.ed_words.specs.Texts.{Text}
-use Rattle.ed_command.specs.Held.{action_by, call_with, line_by, table_line_by}
+use Rattle.ed_command.specs.Held.{action_by, call_with, line_in}
 use Rattle.ed_command.specs.Lines.{TableLine, call_of, command, command_of, division, line_named, lines, with_only}
 use Rattle.ed_words.specs.declared.size.Size.TheVariants.{Full}
 use Rattle.ed_command.specs.Settings.{Options, has_only, option_value, settings_of}
 use Rattle.ed_command.specs.Windows.{size_named}
 use Rattle.ed_command.specs.declared.command.Action.{Action}
+use Rattle.ed_command.specs.declared.command.Action.TheVariants.{Demo}
 use Rattle.ed_command.specs.declared.lines.LineAction.{LineAction}
+use Rattle.ed_command.specs.declared.lines.LineAction.TheVariants.{Alone, Demo as Demonstrates}
+use Rattle.ed_command.specs.declared.lines.TableLine as held
 
 -- ---- calls
 
@@ -118,6 +122,40 @@ many_numbers (name ∷ n ∷ by ∷ more ∷ others) least =
     neither (is (codes "print")) _ (neither (is (codes "read")) _ (neither (is (codes "newline")) _
     (neither (is (codes "divide")) _ (neither (is (codes "root")) _ (neither (is (codes "check")) None refl)))))
 
+-- ---- actions
+
+-- an action that takes no argument
+pub alone_by : (action : LineAction) (known : Action) (arguments : List (Bor Text)) → action ≡ Alone known
+    → length arguments < 1 → action_by action (map (λ a. a.now) arguments) ≡ Some known
+alone_by action known [] is most = rw is refl
+alone_by action known (argument ∷ others) is most = absurd (omega (arith, most))
+
+pub not_alone : (action : LineAction) (known : Action) (arguments : List (Bor Text)) → action ≡ Alone known
+    → 1 ≤ length arguments → action_by action (map (λ a. a.now) arguments) ≡ None
+not_alone action known [] is least = absurd (omega (arith, least))
+not_alone action known (argument ∷ others) is least = rw is refl
+
+-- the number of `demo`
+pub demo_by : (action : LineAction) (arguments : List (Bor Text)) (x : Bor Text) (o : Option ℕ) → action ≡ Demonstrates
+    → 1 ≤ length arguments → length arguments < 2 → o ≡ number_within 1 112 (slice_index_or arguments 0 x).now
+    → option_map Demo o ≡ action_by action (map (λ a. a.now) arguments)
+demo_by action [] x o is least most number = absurd (omega (arith, least))
+demo_by action (text ∷ []) x o is least most number = rw (is, number) refl
+demo_by action (text ∷ more ∷ others) x o is least most number = absurd (omega (arith, most))
+
+pub demo_of_none : (action : LineAction) (arguments : List (Bor Text)) → action ≡ Demonstrates → length arguments < 1
+    → action_by action (map (λ a. a.now) arguments) ≡ None
+demo_of_none action [] is most = rw is refl
+demo_of_none action (text ∷ others) is most = absurd (omega (arith, most))
+
+pub demo_of_many : (action : LineAction) (arguments : List (Bor Text)) → action ≡ Demonstrates → 2 ≤ length arguments
+    → action_by action (map (λ a. a.now) arguments) ≡ None
+demo_of_many action [] is least = absurd (omega (arith, least))
+demo_of_many action (text ∷ []) is least = absurd (omega (arith, least))
+demo_of_many action (text ∷ more ∷ others) is least = rw is refl
+
+-- ---- the size of the store
+
 -- one value that is no size of the store
 pub no_size : (values : List (Bor Text)) (x : Bor Text) → 1 ≤ length values → length values < 2
     → (slice_index_or values 0 x).now ≢ codes "512" → (slice_index_or values 0 x).now ≢ codes "1024"
@@ -134,22 +172,37 @@ taken : (l : TableLine) (o : Options) (arguments : List Text) → has_only l.opt
     → with_only l.options o (l.action arguments) ≡ command (l.action arguments) (settings_of o)
 taken l o arguments h = simp h
 
-line_taken : (t : Option TableLine) (p : (List Text → Option Action) × List Text)
-    → Some p ≡ option_map table_line_by t → (o : Options) (arguments : List Text) → has_only p.1 o ≡ true
-    → option_and_then (λ l. with_only l.options o (l.action arguments)) t ≡ command (p.0 arguments) (settings_of o)
-line_taken None p e o arguments h = absurd (cc)
-line_taken (Some l) p e o arguments h =
-    let is : p ≡ table_line_by l = cc in
-    subst (λ (q : (List Text → Option Action) × List Text). has_only q.1 o ≡ true
-    → with_only l.options o (l.action arguments) ≡ command (q.0 arguments) (settings_of o)) (sym is)
-    (taken l o arguments) h
+line_taken : (t : Option TableLine) (l : TableLine) → Some l ≡ t → (o : Options) (arguments : List Text)
+    → has_only l.options o ≡ true
+    → option_and_then (λ l. with_only l.options o (l.action arguments)) t ≡ command (l.action arguments) (settings_of o)
+line_taken t l e o arguments h =
+    subst (λ (found : Option TableLine). option_and_then (λ l. with_only l.options o (l.action arguments)) found
+    ≡ command (l.action arguments) (settings_of o)) e (taken l o arguments h)
 
 -- the command of the words, by the line that the first of them begins
-pub command_found : (words : List (Bor Text)) (word : Bor Text) (arguments : List (Bor Text)) (action : LineAction)
-    (names : Bor (List (Bor Text))) (o : Options) → words ≡ word ∷ arguments
-    → option_map line_by (Some (action, names)) ≡ option_map table_line_by (line_named lines word.now)
-    → has_only (map (λ n. n.now) names.now) o ≡ true
-    → command_of (map (λ w. w.now) words) o ≡ command (action_by action (map (λ a. a.now) arguments)) (settings_of o)
-command_found words word arguments action names o are is h =
-    let all = line_taken (line_named lines word.now) (line_by (action, names)) is o (map (λ a. a.now) arguments) h in
+pub command_found : (words : List (Bor Text)) (word : Bor Text) (arguments : List (Bor Text)) (line : held.TableLine)
+    (o : Options) → words ≡ word ∷ arguments
+    → option_map line_in (Some line) ≡ line_named lines word.now
+    → has_only (map (λ n. n.now) line.options.now) o ≡ true
+    → command_of (map (λ w. w.now) words) o
+    ≡ command (action_by line.action (map (λ a. a.now) arguments)) (settings_of o)
+command_found words word arguments line o are is h =
+    let all = line_taken (line_named lines word.now) (line_in line) is o (map (λ a. a.now) arguments) h in
     rw are all
+
+-- at a line of the table, in a search from the first one on: it is the one that begins with the word, or a later one is
+pub at_line : (ls : List held.TableLine) (i : ℕ) (d : held.TableLine) (word : Text) (c : Bool) → i < length ls
+    → line_named (map line_in (drop i ls)) word ≡ line_named lines word → bytes_eq word (get_or ls i d).word.now ≡ c
+    → (if c then Some (line_in (get_or ls i d)) else line_named (map line_in (drop (i + 1) ls)) word)
+    ≡ line_named lines word
+at_line ls i d word c below same is =
+    let here =
+    sym (at_drop_more (λ (xs : List held.TableLine). line_named (map line_in xs) word) ls i d below) ∙ same in
+    subst (λ (b : Bool). (if b then Some (line_in (get_or ls i d)) else line_named (map line_in (drop (i + 1) ls)) word)
+    ≡ line_named lines word) is here
+
+-- past the last of them
+pub no_line : (ls : List held.TableLine) (i : ℕ) (word : Text) → length ls ≤ i
+    → line_named (map line_in (drop i ls)) word ≡ line_named lines word → None ≡ line_named lines word
+no_line ls i word past same =
+    sym (at_drop_all (λ (xs : List held.TableLine). line_named (map line_in xs) word) ls i past) ∙ same

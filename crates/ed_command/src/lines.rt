@@ -1,5 +1,5 @@
 ghost use Rattle.std.specs.Prelude.{◌≡◌, ◌≤◌, IfSome, map, option_map};
-ghost use Rattle.ed_command.specs.Held.{action_by, call_with, line_by, options_in, table_line_by};
+ghost use Rattle.ed_command.specs.Held.{action_by, call_with, line_in, options_in};
 ghost use Rattle.ed_command.specs.Lines.{call_of, command_of, division, line_named, lines};
 
 use crate::command::{Action, Command};
@@ -8,7 +8,7 @@ use ed_call::Call;
 use ed_words::{number, number_within};
 
 /// All the options. The commands that run a tape or a source have them.
-const ALL: &[&str] = &["limit", "resume", "post-mortem", "store"];
+pub(crate) const OPTIONS: &[&str] = &["limit", "resume", "post-mortem", "store"];
 
 /// The one option of the commands that run a script, a tape in parts, or a source of the program's own.
 const LIMIT: &[&str] = &["limit"];
@@ -29,15 +29,54 @@ pub(crate) enum LineAction {
 
 use LineAction::Alone;
 
+/// A line of the table.
+#[derive(Clone, Copy)]
+struct TableLine {
+    /// Its first word.
+    word: &'static str,
+    /// What it does.
+    action: LineAction,
+    /// The options that it may have.
+    options: &'static [&'static str],
+}
+
+/// A row of the table of lines.
+macro_rules! row {
+    ($word:literal $action:expr, $options:expr) => {
+        TableLine {
+            word: $word,
+            action: $action,
+            options: $options,
+        }
+    };
+}
+
+/// The lines of the program.
+const LINES: [TableLine; 13] = [
+    row!("tape" Alone(Action::Tape), OPTIONS),
+    row!("check-tape" Alone(Action::CheckTape), STORE),
+    row!("run" Alone(Action::Run), OPTIONS),
+    row!("punch" Alone(Action::Punch), STORE),
+    row!("listing" Alone(Action::Listing), STORE),
+    row!("step" Alone(Action::Step), LIMIT),
+    row!("trace" Alone(Action::Trace), &["limit", "resume", "store"]),
+    row!("call" LineAction::Call, LIMIT),
+    row!("library" Alone(Action::Library), &[]),
+    row!("demo" LineAction::Demo, LIMIT),
+    row!("parts" Alone(Action::Parts), LIMIT),
+    row!("tape1" Alone(Action::Tape1), &["limit", "resume"]),
+    row!("check-tape1" Alone(Action::CheckTape1), &[]),
+];
+
 /// The command of the words that belong to no option, and the options.
 pub(crate) fn command_of(words: &[&str], options: &Options<'_>) -> Option<Command>
     ensures { result ≡ command_of (map (λ w. w.now) words.now) (options_in options.now) }
 {
     let (word, arguments) = words.split_first()?;
-    let (action, names) = line_named(word)?;
-    if options.has_only(names) {
+    let line = line_named(word)?;
+    if options.has_only(line.options) {
         Some(Command {
-            action: action_by(action, arguments)?,
+            action: action_by(line.action, arguments)?,
             settings: options.settings()?,
         })
     } else {
@@ -45,26 +84,16 @@ pub(crate) fn command_of(words: &[&str], options: &Options<'_>) -> Option<Comman
     }
 }
 
-/// What the command of this word does, and the options that it may have.
-fn line_named(word: &str) -> Option<(LineAction, &'static [&'static str])>
-    ensures { option_map line_by result ≡ option_map table_line_by (line_named lines word.now) }
+/// The line that begins with this word.
+fn line_named(word: &str) -> Option<TableLine>
+    ensures { option_map line_in result ≡ line_named lines word.now }
 {
-    match word {
-        "tape" => Some((Alone(Action::Tape), ALL)),
-        "check-tape" => Some((Alone(Action::CheckTape), STORE)),
-        "run" => Some((Alone(Action::Run), ALL)),
-        "punch" => Some((Alone(Action::Punch), STORE)),
-        "listing" => Some((Alone(Action::Listing), STORE)),
-        "step" => Some((Alone(Action::Step), LIMIT)),
-        "trace" => Some((Alone(Action::Trace), &["limit", "resume", "store"])),
-        "call" => Some((LineAction::Call, LIMIT)),
-        "library" => Some((Alone(Action::Library), &[])),
-        "demo" => Some((LineAction::Demo, LIMIT)),
-        "parts" => Some((Alone(Action::Parts), LIMIT)),
-        "tape1" => Some((Alone(Action::Tape1), &["limit", "resume"])),
-        "check-tape1" => Some((Alone(Action::CheckTape1), &[])),
-        _ => None,
+    for line in &LINES {
+        if word == line.word {
+            return Some(*line);
+        }
     }
+    None
 }
 
 /// The action with these arguments, if it takes them.

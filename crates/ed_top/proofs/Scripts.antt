@@ -1,9 +1,8 @@
--- From the reply to a script and what follows it to the outcome of an input.
+-- From the rows of a text and the reply to a script to the outcome of an input.
 use Rattle.std.proofs.Common.{◌≡◌, ◌∙◌, ℕ, List, [], ◌++◌, refl, sym, ap, subst, inr, None}
-use Rattle.std.specs.Prelude.{Option, Some, Result, Ok, Err, IfOk, Vec}
+use Rattle.std.specs.Prelude.{Option, Some, Result, Ok, Err, IsErr, IsErrAnd, MatchResult, Vec}
 use Rattle.std.specs.declared.alloc.Global.{Global}
-use Rattle.ed_words.specs.declared.memory.NoMemory.{NoMemory}
-use Rattle.ed_codes.specs.Reading.{Reading, rows, no_row, open_comment}
+use Rattle.ed_codes.specs.Reading.{Reading, rows, no_row, open_comment, reading}
 use Rattle.ed_stepper.specs.Inputs.{Input, input_of}
 use Rattle.ed_stepper.specs.ScriptLines.{CommandList, HasBadLine, IsFirstBadLine, IsScript, OfScript}
 use Rattle.ed_stepper.specs.Scripts.{GoesTooFar, ScriptEnds, play}
@@ -12,12 +11,12 @@ use Rattle.ed_stepper.specs.declared.script.ScriptFault.TheVariants.{BackTooFar,
 use Rattle.ed_stepper.specs.Sessions.{Stand}
 use Rattle.ed_stepper.proofs.ScriptLaws.{never_both, one_script}
 use Rattle.ed_report.specs.Notes.{too_far_line}
-use Rattle.ed_answers.specs.Outcome.{done, refusal}
+use Rattle.ed_answers.specs.Outcome.{Outcome, done, refusal}
 use Rattle.ed_notation.specs.Items.{spelled_rows}
 use Rattle.ed_notation.specs.Spellings.{canonicals}
 use Rattle.ed_stepper.specs.declared.inputs.TextKind.{TextKind}
+use Rattle.ed_stepper.specs.declared.inputs.TextKind.TheVariants as kinds
 use Rattle.ed_lines.specs.declared.program.Line.{Line}
-use Rattle.ed_link.specs.Answers.{IsLinked}
 use Rattle.ed_link.specs.Tapes.{tape}
 use Rattle.ed_link.specs.declared.linked.Linked.{Linked}
 use Rattle.ed_command.specs.declared.command.Settings.{Settings}
@@ -25,12 +24,15 @@ use Rattle.ed_words.specs.Texts.{Text}
 use Rattle.ed_answers.specs.Answer.{of_input, of_made}
 use Rattle.ed_top.specs.Scripts.{OfDivided, OfStep, OnInput, OnText, on_reading, on_rows, played_outcome}
 use Rattle.ed_top.specs.Scripts.{script_outcome}
-use Rattle.ed_answers.specs.Replies.{Gives, RefusesText, Replies}
+use Rattle.ed_answers.specs.Replies.{Gives, LinksSource, RefusesText, Replies}
+use Rattle.ed_answers.specs.Sources.{OfSource}
+use Rattle.ed_answers.proofs.Sources.{source_refused, source_unanswered}
 use Rattle.ed_answers.specs.declared.reply.Rejection.{Rejection}
 use Rattle.ed_answers.specs.declared.reply.Rejection.TheVariants as rejection
 use Rattle.ed_answers.specs.declared.reply.Rejection.TheVariants.{Refused}
 use Rattle.ed_answers.specs.declared.reply.Reply.{Reply}
-use Rattle.ed_top.proofs.Made.{as_input}
+use Rattle.ed_top.specs.Private.Stages.{HasRows}
+use Rattle.ed_top.proofs.Made.{as_input, as_made}
 
 -- a tape's text that is refused
 pub text_refused : (s : Settings) (commands : CommandList) (r : Reading) (e : Rejection) → RefusesText r e
@@ -48,22 +50,20 @@ divided_replied s input i r is replies =
     (subst (λ (d : Option Input). Replies (of_made (OfDivided s input d)) [] r) (sym is) replies)
 
 -- what follows a script that has been tested
-pub text_replied : (s : Settings) (script text : Text) (kind known : TextKind) (r : Result Reply Rejection)
-    → kind ≡ known → HasBadLine script None
-    → ((commands : CommandList) → IsScript script commands → Replies (of_made (OnText s commands known text)) [] r)
-    → Replies (of_made (OnInput s (record { script = script; kind = kind; text = text }))) [] r
-text_replied s script text kind known r is good replies =
-    subst (λ k. Replies (of_made (OnInput s (record { script = script; kind = k; text = text }))) [] r) (sym is)
-    (replied r replies)
-  where
-    replied : (r : Result Reply Rejection)
-        → ((commands : CommandList) → IsScript script commands → Replies (of_made (OnText s commands known text)) [] r)
-        → Replies (of_made (OnInput s (record { script = script; kind = known; text = text }))) [] r
-    replied (Ok reply) replies = let x = replies good.0 good.1 in (x.0, inr (good.0, good.1, x.1), x.2)
-    replied (Err (Refused reply)) replies =
-        let x = replies good.0 good.1 in (x.0, inr (good.0, good.1, x.1), x.2)
-    replied (Err rejection.Memory) replies =
-        let x = replies good.0 good.1 in (x.0, inr (good.0, good.1, x.1), x.2)
+after_script : (s : Settings) (i : Input) (r : Result Reply Rejection) (commands : CommandList)
+    → IsScript i.script commands
+    → Replies (of_made (OnText s commands i.kind i.text)) [] r → Replies (of_made (OnInput s i)) [] r
+after_script s i (Ok reply) commands is x = (x.0, inr (commands, is, x.1), x.2)
+after_script s i (Err (Refused reply)) commands is x = (x.0, inr (commands, is, x.1), x.2)
+after_script s i (Err rejection.Memory) commands is x = (x.0, inr (commands, is, x.1), x.2)
+
+-- in an input that is divided this way
+pub text_replied : (s : Settings) (input : Text) (i : Input) (r : Result Reply Rejection) → input_of input ≡ Some i
+    → HasBadLine i.script None
+    → ((commands : CommandList) → IsScript i.script commands → Replies (of_made (OnText s commands i.kind i.text)) [] r)
+    → Replies (of_input (OfStep s)) input r
+text_replied s input i r is good replies =
+    divided_replied s input i r is (after_script s i r good.0 good.1 (replies good.0 good.1))
 
 -- what a script gives, by what was played of it
 pub played_given : (script : Text) (commands : CommandList) (from t : Stand) (text : Vec ℕ Global) (reply : Reply)
@@ -92,20 +92,49 @@ never_refused script from t fault line good ends fault_is =
     let bad : IsFirstBadLine script line × (t ≡ from) = subst (λ f. ScriptEnds script from (Err f) t) fault_is ends in
     never_both script good.0 line good.1 bad.0
 
--- a tape's text that is read
-pub tape_replied : (s : Settings) (commands : CommandList) (r : Reading) (codes : List ℕ) (reply : Reply)
-    → r ≡ rows codes → Gives reply (on_rows s commands codes)
-    → Replies (of_made (λ o. on_reading s commands r ≡ o)) [] (Ok reply)
-tape_replied s commands r codes reply is gives = (on_rows s commands codes, ap (on_reading s commands) is, gives)
+-- ---- the rows of a text
 
--- a tape that is punched
-pub punched_given : (s : Settings) (commands : CommandList) (k : Linked) (codes : List ℕ)
-    (reply : Result Reply NoMemory)
-    → codes ≡ spelled_rows (canonicals k.items.items) ++ k.after.items
-    → IfOk reply (λ reply. Gives reply (on_rows s commands codes))
-    → IfOk reply (λ reply. (lines : List Line) → IsLinked s.size lines k
-    → Gives reply (on_rows s commands (tape lines)))
-punched_given s commands k codes (Err e) is gives = gives
-punched_given s commands k codes (Ok reply) is gives =
-    λ lines linked. subst (λ x. Gives reply (on_rows s commands x))
-    (is ∙ (λ i. spelled_rows (canonicals (linked.items i)) ++ linked.after i)) gives
+-- of a tape's text
+pub tape_rows : (s : Settings) (kind : TextKind) (text : Text) (r : Result (Vec ℕ Global) Rejection)
+    → kind ≡ kinds.Tape → MatchResult r (λ v. reading text ≡ rows v.items) (RefusesText (reading text))
+    → HasRows s kind text r
+tape_rows s kind text (Ok v) is read = λ commands.
+    subst (λ k. OnText s commands k text (on_rows s commands v.items)) (sym is) (ap (on_reading s commands) read)
+tape_rows s kind text (Err e) is refuses = λ commands.
+    subst (λ k. Replies (of_made (OnText s commands k text)) [] (Err e)) (sym is)
+    (text_refused s commands (reading text) e refuses)
+
+-- the outcome of a source that is accepted
+abbrev on_lines : Settings → CommandList → List Line → Outcome
+on_lines s commands lines = on_rows s commands (tape lines)
+
+-- of the tape of a source
+pub source_rows : (s : Settings) (kind : TextKind) (text : Text) (k : Linked) (v : Vec ℕ Global)
+    → kind ≡ kinds.Source → LinksSource s.size text (Ok k)
+    → v.items ≡ spelled_rows (canonicals k.items.items) ++ k.after.items → HasRows s kind text (Ok v)
+source_rows s kind text k v is links rows_are = λ commands.
+    let lines = links.0 in
+    let linked = links.2 in
+    let same : tape lines ≡ v.items =
+    sym (rows_are ∙ (λ i. spelled_rows (canonicals (linked.items i)) ++ linked.after i)) in
+    subst (λ x. OnText s commands x text (on_rows s commands v.items)) (sym is)
+    (inr (lines, links.1, ap (on_rows s commands) same))
+
+-- of a source that is refused
+pub source_has_none : (s : Settings) (kind : TextKind) (text : Text) (r : Result (Vec ℕ Global) Rejection)
+    (e : Rejection) → kind ≡ kinds.Source → LinksSource s.size text (Err e)
+    → IsErr r × IsErrAnd r (λ handed. handed ≡ e) → HasRows s kind text r
+source_has_none s kind text (Ok v) e is links handed = absurd (cc)
+source_has_none s kind text (Err h) e is links handed = λ commands.
+    subst (λ k. Replies (of_made (OnText s commands k text)) [] (Err h)) (sym is)
+    (as_made (OfSource s.size (on_lines s commands)) text (Err h)
+    (source_refused s.size (on_lines s commands) text (Err h) e links handed))
+
+-- of one whose rows find no memory
+pub source_without_memory : (s : Settings) (kind : TextKind) (text : Text) (r : Result (Vec ℕ Global) Rejection)
+    → kind ≡ kinds.Source → IsErr r × IsErrAnd r (λ handed. handed ≡ rejection.Memory) → HasRows s kind text r
+source_without_memory s kind text (Ok v) is none = absurd (cc)
+source_without_memory s kind text (Err h) is none = λ commands.
+    subst (λ k. Replies (of_made (OnText s commands k text)) [] (Err h)) (sym is)
+    (as_made (OfSource s.size (on_lines s commands)) text (Err h)
+    (source_unanswered s.size (on_lines s commands) text (Err h) none))

@@ -119,15 +119,7 @@ pub fn input_of<S: Source>(alloc: Global, reads: bool, source: &mut S) -> Result
     if !reads {
         return Ok(Vec::new(alloc));
     }
-    within_limit(read_all(alloc, source)?)
-}
-
-/// The input, if it has no more bytes than the limit.
-fn within_limit(input: Vec<u8>) -> Result<Vec<u8>, InputStop>
-    ensures { MatchResult result
-        (λ v. (v ≡ input) × (length input.items ≤ INPUT_BYTES))
-        (λ e. (e ≡ InputStop.TooLong) × (INPUT_BYTES < length input.items)) }
-{
+    let input = read_all(alloc, source)?;
     if input.len() > INPUT_BYTES {
         return Err(InputStop::TooLong);
     }
@@ -159,17 +151,10 @@ fn read_all<S: Source>(alloc: Global, source: &mut S) -> Result<Vec<u8>, InputSt
 pub fn write<K: Sink>(out: &mut K, reply: Result<Reply, Rejection>) -> Result<Rest, Stop>
     ensures { WritesReply reply (device K.held K.faults out.old out.new) result }
 {
-    match reply {
-        Ok(reply) => write_text(out, reply),
-        Err(Rejection::Refused(reply)) => write_text(out, reply),
-        Err(Rejection::Memory) => Err(Stop::Memory),
-    }
-}
-
-/// Writes the text of a reply on `out`.
-fn write_text<K: Sink>(out: &mut K, reply: Reply) -> Result<Rest, Stop>
-    ensures { WritesText reply (device K.held K.faults out.old out.new) result }
-{
+    let reply = match reply {
+        Ok(reply) | Err(Rejection::Refused(reply)) => reply,
+        Err(Rejection::Memory) => return Err(Stop::Memory),
+    };
     write_all(out, &reply.out)?;
     Ok(Rest {
         note: reply.note,

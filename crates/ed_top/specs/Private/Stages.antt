@@ -7,10 +7,14 @@ use Rattle.ed_io.specs.Causes.{next_count}
 use Rattle.ed_words.specs.Texts.{Text}
 use Rattle.ed_answers.specs.declared.input.TheConstants.{INPUT_BYTES}
 use Rattle.ed_answers.specs.Outcome.{Outcome}
-use Rattle.ed_answers.specs.Answer.{Answer}
+use Rattle.ed_answers.specs.Answer.{Answer, of_made}
+use Rattle.ed_command.specs.declared.command.Settings.{Settings}
+use Rattle.ed_stepper.specs.ScriptLines.{CommandList}
+use Rattle.ed_stepper.specs.declared.inputs.TextKind.{TextKind}
+use Rattle.ed_top.specs.Scripts.{OnText, on_rows}
 use Rattle.ed_top.specs.Clause.{Device, FailedOnce, NeverFailed, Wrote, WrotePart}
 use Rattle.ed_answers.specs.declared.reply.Reply.{Reply}
-use Rattle.ed_answers.specs.Replies.{ForInput}
+use Rattle.ed_answers.specs.Replies.{ForInput, Replies}
 use Rattle.ed_answers.specs.declared.reply.Rejection.{Rejection}
 use Rattle.ed_answers.specs.declared.reply.Rejection.TheVariants as rejection
 use Rattle.ed_top.specs.declared.devices.Rest.{Rest}
@@ -42,6 +46,15 @@ input_faults (Ok v) before = before
 input_faults (Err input.Failed) before = next_count before
 input_faults (Err input.Memory) before = before
 input_faults (Err input.TooLong) before = before
+
+-- ---- a text to step through
+
+-- the rows of the text after the dividing line, or the reply that refuses it, for every script
+abbrev pub HasRows : Settings → TextKind → Text → Result (Vec ℕ Global) Rejection → Type 0
+HasRows s kind text (Ok codes) =
+    (commands : CommandList) → OnText s commands kind text (on_rows s commands codes.items)
+HasRows s kind text (Err e) =
+    (commands : CommandList) → Replies (of_made (OnText s commands kind text)) [] (Err e)
 
 -- ---- a command
 

@@ -1,23 +1,30 @@
-use Rattle.std.proofs.Common.{rules, ◌≡◌, [], ◌∷◌, false}
+use Rattle.std.proofs.Common.{◌≡◌, ◌∙◌, ap, false, Some}
+use Rattle.std.specs.Prelude.{fold}
 use Rattle.std.proofs.lemmas.Result.{IfOk-weaker}
-use Rattle.clap.specs.Words.{rule_of, with_rule}
-use Rattle.ed_command.specs.Rules.{words_rule}
-use Rattle.ed_command.proofs.Adding.{AreHere, program_made}
+use Rattle.clap.specs.Walk.{Rule}
+use Rattle.clap.specs.declared.builder.action.ArgAction.TheVariants.{Append}
+use Rattle.clap.specs.declared.builder.arg.Arg.{Arg}
+use Rattle.clap.specs.Words.{App, rule_of}
+use Rattle.ed_command.specs.Rules.{with_option, words_rule}
+use Rattle.ed_command.specs.Words.{option_names}
+use Rattle.ed_command.proofs.Adding.{one_added, words_added}
 use Rattle.ed_command.proofs.matching.command.Goals as goal
+
+pub loop-name-init : goal.loop-name-init
+loop-name-init c = ap (λ (a : App). fold with_option a option_names) c.bare-command.ensures
+
+pub loop-name-preserved : goal.loop-name-preserved
+loop-name-preserved c =
+    one_added _ _ _ c.loop-name.command c.in_ok-command.command c.option.result c.loop-name-test.true
+    c.in_ok-command.ensures c.option.ensures.here c.option.ensures.rule c.loop-name.invariant
 
 pub returns : goal.returns
 returns c =
-    let words_is : rule_of c.action.result ≡ words_rule = search rules in
-    let arguments =
-    c.option.result ∷ c.option-2.result ∷ c.option-3.result ∷ c.option-4.result ∷ c.action.result ∷ [] in
-    let items : c.push_reserved-5.new.self.items ≡ arguments = search rules in
-    let plain : c.action.result.global ≡ false = search rules in
-    let here : AreHere arguments =
-    (c.option.ensures.here, (c.option-2.ensures.here, (c.option-3.ensures.here, (c.option-4.ensures.here, (plain, tt)))))
-    in
-    IfOk-weaker c.args-2.result _ _
-    (λ more adds. program_made c.bare.result more c.push_reserved-5.new.self.items arguments items adds here
-    (λ i. with_rule (with_rule (with_rule (with_rule (with_rule (c.bare.ensures i)
-    (c.option.ensures.rule i)) (c.option-2.ensures.rule i)) (c.option-3.ensures.rule i)) (c.option-4.ensures.rule i))
-    (words_is i)))
-    c.args-2.ensures
+    let words_is : rule_of c.action.result ≡ words_rule =
+    ap rule_of c.action.ensures ∙ ap (λ (r : Rule). record r { action = Some Append }) c.new.ensures.rule in
+    let plain : c.action.result.global ≡ false =
+    ap (λ (a : Arg). a.global) c.action.ensures ∙ c.new.ensures.optional.1 in
+    IfOk-weaker c.arg-2.result _ _
+    (λ whole adds. words_added _ _ c.loop-name.command whole c.action.result c.loop-name-test.false
+    c.loop-name.invariant plain words_is adds)
+    c.arg-2.ensures

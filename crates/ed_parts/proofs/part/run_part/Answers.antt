@@ -21,33 +21,37 @@ enter_part-requires-clause-arrival g c =
       },
     )
 
-pub returns-in-Err-At-clause-passes : goal.returns-in-Err-At-clause-passes
-returns-in-Err-At-clause-passes g c =
+pub returns-in-Err-At : goal.returns-in-Err-At
+returns-in-Err-At g c =
     let row = c.in-Err-At.row-is in
     let report : PartsReport = record {
       text = [];
       end = Faulty c.args.stage.number (c.args.stage.rows - length c.args.machine.now.tape + c.in-Err-At.row)
           c.in-Err-At.cause;
       last = c.args.machine.now;
-    } in (
-      report,
-      faulty c.in-Err-At.row c.in-Err-At.cause (rw c.in-Err-At.field-0-is at c.in-Err-At.ensures) refl,
-      (λ i. Faulty c.args.stage.number (c.args.stage.rows - length (c.rows_left.ensures i) + row i)
-          (c.in-Err-At.cause-is i)),
-      refl,
-      gains_none _,
-    )
+    } in
+    record {
+      passes = (
+        report,
+        faulty c.in-Err-At.row c.in-Err-At.cause (rw c.in-Err-At.field-0-is at c.in-Err-At.ensures) refl,
+        (λ i. Faulty c.args.stage.number (c.args.stage.rows - length (c.rows_left.ensures i) + row i)
+            (c.in-Err-At.cause-is i)),
+        refl,
+        gains_none _,
+      );
+      faults = refl;
+    }
 
-pub returns-in-Err-Memory-clause-passes : goal.returns-in-Err-Memory-clause-passes
-returns-in-Err-Memory-clause-passes g c =
+pub returns-in-Err-Memory : goal.returns-in-Err-Memory
+returns-in-Err-Memory g c =
     let p = stage_part c.args.stage c.args.machine.now in
-    (breaks_first c.args.stage.limit c.args.stage.rows p _ (part_opens p c.requires.back), inl (refl, refl))
+    record {
+      passes = (breaks_first c.args.stage.limit c.args.stage.rows p _ (part_opens p c.requires.back), inl (refl, refl));
+      faults = refl;
+    }
 
-pub returns-in-Ok-clause-passes : goal.returns-in-Ok-clause-passes
-returns-in-Ok-clause-passes g c = c.enter_part.ensures.passes
-
-pub returns-in-Ok-clause-faults : goal.returns-in-Ok-clause-faults
-returns-in-Ok-clause-faults g c = c.enter_part.ensures.faults
+pub returns-in-Ok : goal.returns-in-Ok
+returns-in-Ok g c = record { passes = c.enter_part.ensures.passes; faults = c.enter_part.ensures.faults }
 
 pub check_part-requires-clause-rows : goal.check_part-requires-clause-rows
 check_part-requires-clause-rows g c = omega (arith, c.requires.rows, c.requires.tape)

@@ -1,10 +1,25 @@
-use Rattle.std.proofs.Common.{refl, ◌∙◌, ap, arith, length}
+use Rattle.std.proofs.Common.{refl, sym, ◌∙◌, ap, arith, length, lit≤, ℕ, ◌+◌, ◌-◌, ◌*◌, ◌≤◌, ◌<◌}
+use Rattle.std.proofs.Common.{le_of_eq, le_trans, le-add_right, zero-le}
 use Rattle.std.proofs.lemmas.Result.{err_from_is_err_and}
+use Rattle.std.specs.Prelude.{Err}
+use Rattle.ed_parts.specs.Parts.{parts_faults}
+use Rattle.ed_parts.specs.declared.tape.PartsEnd.{PartsEnd}
 use Rattle.ed_parts.proofs.Passing.{ahead_first, answers_broken, answers_over, goes_onward}
 use Rattle.ed_parts.proofs.Reached.{each_reached}
 use Rattle.ed_parts.proofs.Runs.{each_end}
 use Rattle.ed_parts.proofs.Tales.{each_told_once}
 use Rattle.ed_parts.proofs.tape.run_parts.Goals as goal
+
+-- sums over plain numbers
+more_parts : (number done now : ℕ) → 2 * number ≤ done + 2 → done + 2 ≤ now → 2 * (number + 1) ≤ now + 2
+more_parts number done now many later = omega (arith, many, later)
+
+more_orders : (new old first done now : ℕ) → new ≤ old + (now - done) → done + 2 ≤ now → old ≤ first + done
+    → new ≤ first + now
+more_orders new old first done now soon later so_far = omega (arith, soon, later, so_far)
+
+nearer : (limit done now : ℕ) → done + 2 ≤ now → now ≤ limit → limit - now < limit - done
+nearer limit done now later within = omega (arith, later, within)
 
 pub parts-init : goal.parts-init
 parts-init g c =
@@ -13,43 +28,36 @@ parts-init g c =
       ahead = ahead_first _ _ _ _;
       back = λ ne. absurd (ne refl);
       whole = whole;
-      rows = omega (arith, whole);
-      done = omega arith;
-      many = omega arith;
-      orders = omega arith;
+      rows = le_of_eq (sym whole);
+      done = zero-le;
+      many = lit≤ tt;
+      orders = le-add_right _ _;
       faults = refl;
     }
 
-pub returns-in-Over-clause-tells : goal.returns-in-Over-clause-tells
-returns-in-Over-clause-tells g c =
+pub returns-in-Over : goal.returns-in-Over
+returns-in-Over g c =
     let i = c.parts.invariant in
-    answers_over _ c.from.ensures i.whole i.ahead
-    (rw c.in-Over.is at c.in_ok-end.ensures.passes)
+    record {
+      tells = answers_over _ c.from.ensures i.whole i.ahead (rw c.in-Over.is at c.in_ok-end.ensures.passes);
+      faults = c.in_ok-end.ensures.faults ∙ i.faults;
+      law = each_told_once;
+      reached = each_reached;
+      runs = each_end;
+    }
 
-pub returns-in_err-end-clause-tells : goal.returns-in_err-end-clause-tells
-returns-in_err-end-clause-tells g c =
+pub returns-in_err-end : goal.returns-in_err-end
+returns-in_err-end g c =
     let p = err_from_is_err_and c.from_residual.result c.from_residual.ensures.1 in
     let i = c.parts.invariant in
-    rw (p.1, p.2) (answers_broken _ c.from.ensures i.whole i.ahead c.in_err-end.field-0.0 c.run_part.new.machine
-    c.in_err-end.ensures.passes)
-
-pub returns-in-Over-clause-law : goal.returns-in-Over-clause-law
-returns-in-Over-clause-law g c = each_told_once
-
-pub returns-in-Over-clause-reached : goal.returns-in-Over-clause-reached
-returns-in-Over-clause-reached g c = each_reached
-
-pub returns-in_err-end-clause-law : goal.returns-in_err-end-clause-law
-returns-in_err-end-clause-law g c = each_told_once
-
-pub returns-in_err-end-clause-reached : goal.returns-in_err-end-clause-reached
-returns-in_err-end-clause-reached g c = each_reached
-
-pub returns-in-Over-clause-runs : goal.returns-in-Over-clause-runs
-returns-in-Over-clause-runs g c = each_end
-
-pub returns-in_err-end-clause-runs : goal.returns-in_err-end-clause-runs
-returns-in_err-end-clause-runs g c = each_end
+    let fault = c.in_err-end.field-0.0 in
+    rw (p.1, p.2) (record {
+      tells = answers_broken _ c.from.ensures i.whole i.ahead fault c.run_part.new.machine c.in_err-end.ensures.passes;
+      faults = c.in_err-end.ensures.faults ∙ ap (parts_faults {T = PartsEnd} (Err fault)) i.faults;
+      law = each_told_once;
+      reached = each_reached;
+      runs = each_end;
+    })
 
 pub parts-preserved : goal.parts-preserved
 parts-preserved g c =
@@ -61,10 +69,10 @@ parts-preserved g c =
       ahead = o.ahead;
       back = λ ne. o.home;
       whole = i.whole;
-      rows = omega (arith, i.rows, o.later.fewer);
-      done = omega (arith, o.later.within);
-      many = omega (arith, i.many, o.later.later);
-      orders = omega (arith, i.orders, o.later.soon, o.later.later);
+      rows = le_trans o.later.fewer i.rows;
+      done = o.later.within;
+      many = more_parts _ _ _ i.many o.later.later;
+      orders = more_orders _ _ _ _ _ o.later.soon o.later.later i.orders;
       faults = c.in_ok-end.ensures.faults ∙ i.faults;
     }
 
@@ -78,11 +86,8 @@ parts-smaller g c =
     let o =
     goes_onward _ c.from.ensures i.whole i.ahead
     (rw c.in-Back.is at c.in_ok-end.ensures.passes) in
-    omega (arith, o.later.within, o.later.later)
+    nearer _ _ _ o.later.later o.later.within
 
 pub run_part-requires-clause-orders : goal.run_part-requires-clause-orders
 run_part-requires-clause-orders g c =
     omega (arith, c.requires.orders, c.from.ensures, c.parts.invariant.orders, c.parts.invariant.done)
-
-pub returns-in-Over-clause-faults : goal.returns-in-Over-clause-faults
-returns-in-Over-clause-faults g c = c.in_ok-end.ensures.faults ∙ c.parts.invariant.faults

@@ -39,160 +39,75 @@ usage_line : (words : Option Command) (fault : CommandFault) → fault ≡ Usage
 usage_line words Usage is answers = answers
 usage_line words Memory is answers = absurd (cc)
 
-pub returns-in-Ok-clause-ended : goal.returns-in-Ok-clause-ended
-returns-in-Ok-clause-ended g c =
-    by_line (command_line (map string_bytes c.args.words.now)) (Some c.in-Ok.command) _ _ _ _ c.in-Ok.ensures.is
-    c.run_command.ensures
+pub returns-in-Ok : goal.returns-in-Ok
+returns-in-Ok g c =
+    record {
+      ended = by_line (command_line (map string_bytes c.args.words.now)) (Some c.in-Ok.command) _ _ _ _
+          c.in-Ok.ensures.is c.run_command.ensures;
+      law = line_once;
+      complete = each_complete;
+      headline = headline;
+      calls = each_call_runs;
+      calls_by_default = calls_by_default;
+      demos = each_demo_runs;
+      first_orders = runs_from_31;
+      tapes = tapes_run_from_entry;
+      punched = each_punched_is_run;
+      listed = each_listed_is_loaded;
+      limits = each_limit;
+      sizes = each_size;
+      read_back = each_word_is_read_back;
+      stepped = each_step_is_run;
+      parts = each_tape_in_parts;
+    }
 
-pub returns-in-Err-Usage-clause-ended : goal.returns-in-Err-Usage-clause-ended
-returns-in-Err-Usage-clause-ended g c =
+pub returns-in-Err-Usage : goal.returns-in-Err-Usage
+returns-in-Err-Usage g c =
     let source = device g.S.Source.left g.S.Source.faults c.args.source.now c.args.source.now in
     let out = device g.K.Sink.held g.K.Sink.faults c.args.out.now c.args.out.now in
-    by_line (command_line (map string_bytes c.args.words.now)) None _ _ _ _
-    (usage_line _ _ c.in-Err-Usage.field-0-is c.in-Err-Usage.ensures.is)
-    (with_due (known usage_outcome) source out refl refl c.tell.ensures (λ e. cc) (λ e. cc) (λ bytes told. told)
-    (record { wrote = gains_none out.before; note_is = refl; status_is = refl }))
+    record {
+      ended = by_line (command_line (map string_bytes c.args.words.now)) None _ _ _ _
+          (usage_line _ _ c.in-Err-Usage.field-0-is c.in-Err-Usage.ensures.is)
+          (with_due (known usage_outcome) source out refl refl c.tell.ensures (λ e. cc) (λ e. cc) (λ bytes told. told)
+          (record { wrote = gains_none out.before; note_is = refl; status_is = refl }));
+      law = line_once;
+      complete = each_complete;
+      headline = headline;
+      calls = each_call_runs;
+      calls_by_default = calls_by_default;
+      demos = each_demo_runs;
+      first_orders = runs_from_31;
+      tapes = tapes_run_from_entry;
+      punched = each_punched_is_run;
+      listed = each_listed_is_loaded;
+      limits = each_limit;
+      sizes = each_size;
+      read_back = each_word_is_read_back;
+      stepped = each_step_is_run;
+      parts = each_tape_in_parts;
+    }
 
-pub returns-in-Err-Memory-clause-ended : goal.returns-in-Err-Memory-clause-ended
-returns-in-Err-Memory-clause-ended g c =
+pub returns-in-Err-Memory : goal.returns-in-Err-Memory
+returns-in-Err-Memory g c =
     let line = command_line (map string_bytes c.args.words.now) in
     let source = device g.S.Source.left g.S.Source.faults c.args.source.now c.args.source.now in
     let out = device g.K.Sink.held g.K.Sink.faults c.args.out.now c.args.out.now in
-    with_no_memory (output line) source out _ _ refl refl
-    (none_due (output line) source out (line_once line) (gains_none out.before))
-    c.tell-in-Err-Memory.ensures
-
-pub returns-in-Ok-clause-law : goal.returns-in-Ok-clause-law
-returns-in-Ok-clause-law g c = line_once
-
-pub returns-in-Err-Usage-clause-law : goal.returns-in-Err-Usage-clause-law
-returns-in-Err-Usage-clause-law g c = line_once
-
-pub returns-in-Err-Memory-clause-law : goal.returns-in-Err-Memory-clause-law
-returns-in-Err-Memory-clause-law g c = line_once
-
-pub returns-in-Ok-clause-headline : goal.returns-in-Ok-clause-headline
-returns-in-Ok-clause-headline g c = headline
-
-pub returns-in-Err-Usage-clause-headline : goal.returns-in-Err-Usage-clause-headline
-returns-in-Err-Usage-clause-headline g c = headline
-
-pub returns-in-Err-Memory-clause-headline : goal.returns-in-Err-Memory-clause-headline
-returns-in-Err-Memory-clause-headline g c = headline
-
-pub returns-in-Ok-clause-calls : goal.returns-in-Ok-clause-calls
-returns-in-Ok-clause-calls g c = each_call_runs
-
-pub returns-in-Err-Usage-clause-calls : goal.returns-in-Err-Usage-clause-calls
-returns-in-Err-Usage-clause-calls g c = each_call_runs
-
-pub returns-in-Err-Memory-clause-calls : goal.returns-in-Err-Memory-clause-calls
-returns-in-Err-Memory-clause-calls g c = each_call_runs
-
-pub returns-in-Ok-clause-calls_by_default : goal.returns-in-Ok-clause-calls_by_default
-returns-in-Ok-clause-calls_by_default g c = calls_by_default
-
-pub returns-in-Err-Usage-clause-calls_by_default : goal.returns-in-Err-Usage-clause-calls_by_default
-returns-in-Err-Usage-clause-calls_by_default g c = calls_by_default
-
-pub returns-in-Err-Memory-clause-calls_by_default : goal.returns-in-Err-Memory-clause-calls_by_default
-returns-in-Err-Memory-clause-calls_by_default g c = calls_by_default
-
-pub returns-in-Ok-clause-demos : goal.returns-in-Ok-clause-demos
-returns-in-Ok-clause-demos g c = each_demo_runs
-
-pub returns-in-Err-Usage-clause-demos : goal.returns-in-Err-Usage-clause-demos
-returns-in-Err-Usage-clause-demos g c = each_demo_runs
-
-pub returns-in-Err-Memory-clause-demos : goal.returns-in-Err-Memory-clause-demos
-returns-in-Err-Memory-clause-demos g c = each_demo_runs
-
-pub returns-in-Ok-clause-first_orders : goal.returns-in-Ok-clause-first_orders
-returns-in-Ok-clause-first_orders g c = runs_from_31
-
-pub returns-in-Err-Usage-clause-first_orders : goal.returns-in-Err-Usage-clause-first_orders
-returns-in-Err-Usage-clause-first_orders g c = runs_from_31
-
-pub returns-in-Err-Memory-clause-first_orders : goal.returns-in-Err-Memory-clause-first_orders
-returns-in-Err-Memory-clause-first_orders g c = runs_from_31
-
-pub returns-in-Ok-clause-limits : goal.returns-in-Ok-clause-limits
-returns-in-Ok-clause-limits g c = each_limit
-
-pub returns-in-Err-Usage-clause-limits : goal.returns-in-Err-Usage-clause-limits
-returns-in-Err-Usage-clause-limits g c = each_limit
-
-pub returns-in-Err-Memory-clause-limits : goal.returns-in-Err-Memory-clause-limits
-returns-in-Err-Memory-clause-limits g c = each_limit
-
-pub returns-in-Ok-clause-tapes : goal.returns-in-Ok-clause-tapes
-returns-in-Ok-clause-tapes g c = tapes_run_from_entry
-
-pub returns-in-Err-Usage-clause-tapes : goal.returns-in-Err-Usage-clause-tapes
-returns-in-Err-Usage-clause-tapes g c = tapes_run_from_entry
-
-pub returns-in-Err-Memory-clause-tapes : goal.returns-in-Err-Memory-clause-tapes
-returns-in-Err-Memory-clause-tapes g c = tapes_run_from_entry
-
-pub returns-in-Ok-clause-read_back : goal.returns-in-Ok-clause-read_back
-returns-in-Ok-clause-read_back g c = each_word_is_read_back
-
-pub returns-in-Err-Usage-clause-read_back : goal.returns-in-Err-Usage-clause-read_back
-returns-in-Err-Usage-clause-read_back g c = each_word_is_read_back
-
-pub returns-in-Err-Memory-clause-read_back : goal.returns-in-Err-Memory-clause-read_back
-returns-in-Err-Memory-clause-read_back g c = each_word_is_read_back
-
-pub returns-in-Ok-clause-sizes : goal.returns-in-Ok-clause-sizes
-returns-in-Ok-clause-sizes g c = each_size
-
-pub returns-in-Err-Usage-clause-sizes : goal.returns-in-Err-Usage-clause-sizes
-returns-in-Err-Usage-clause-sizes g c = each_size
-
-pub returns-in-Err-Memory-clause-sizes : goal.returns-in-Err-Memory-clause-sizes
-returns-in-Err-Memory-clause-sizes g c = each_size
-
-pub returns-in-Ok-clause-complete : goal.returns-in-Ok-clause-complete
-returns-in-Ok-clause-complete g c = each_complete
-
-pub returns-in-Err-Usage-clause-complete : goal.returns-in-Err-Usage-clause-complete
-returns-in-Err-Usage-clause-complete g c = each_complete
-
-pub returns-in-Err-Memory-clause-complete : goal.returns-in-Err-Memory-clause-complete
-returns-in-Err-Memory-clause-complete g c = each_complete
-
-pub returns-in-Ok-clause-punched : goal.returns-in-Ok-clause-punched
-returns-in-Ok-clause-punched g c = each_punched_is_run
-
-pub returns-in-Ok-clause-listed : goal.returns-in-Ok-clause-listed
-returns-in-Ok-clause-listed g c = each_listed_is_loaded
-
-pub returns-in-Err-Usage-clause-punched : goal.returns-in-Err-Usage-clause-punched
-returns-in-Err-Usage-clause-punched g c = each_punched_is_run
-
-pub returns-in-Err-Usage-clause-listed : goal.returns-in-Err-Usage-clause-listed
-returns-in-Err-Usage-clause-listed g c = each_listed_is_loaded
-
-pub returns-in-Err-Memory-clause-punched : goal.returns-in-Err-Memory-clause-punched
-returns-in-Err-Memory-clause-punched g c = each_punched_is_run
-
-pub returns-in-Err-Memory-clause-listed : goal.returns-in-Err-Memory-clause-listed
-returns-in-Err-Memory-clause-listed g c = each_listed_is_loaded
-
-pub returns-in-Ok-clause-stepped : goal.returns-in-Ok-clause-stepped
-returns-in-Ok-clause-stepped g c = each_step_is_run
-
-pub returns-in-Err-Usage-clause-stepped : goal.returns-in-Err-Usage-clause-stepped
-returns-in-Err-Usage-clause-stepped g c = each_step_is_run
-
-pub returns-in-Err-Memory-clause-stepped : goal.returns-in-Err-Memory-clause-stepped
-returns-in-Err-Memory-clause-stepped g c = each_step_is_run
-
-pub returns-in-Ok-clause-parts : goal.returns-in-Ok-clause-parts
-returns-in-Ok-clause-parts g c = each_tape_in_parts
-
-pub returns-in-Err-Usage-clause-parts : goal.returns-in-Err-Usage-clause-parts
-returns-in-Err-Usage-clause-parts g c = each_tape_in_parts
-
-pub returns-in-Err-Memory-clause-parts : goal.returns-in-Err-Memory-clause-parts
-returns-in-Err-Memory-clause-parts g c = each_tape_in_parts
+    record {
+      ended = with_no_memory (output line) source out _ _ refl refl
+          (none_due (output line) source out (line_once line) (gains_none out.before)) c.tell-in-Err-Memory.ensures;
+      law = line_once;
+      complete = each_complete;
+      headline = headline;
+      calls = each_call_runs;
+      calls_by_default = calls_by_default;
+      demos = each_demo_runs;
+      first_orders = runs_from_31;
+      tapes = tapes_run_from_entry;
+      punched = each_punched_is_run;
+      listed = each_listed_is_loaded;
+      limits = each_limit;
+      sizes = each_size;
+      read_back = each_word_is_read_back;
+      stepped = each_step_is_run;
+      parts = each_tape_in_parts;
+    }
