@@ -1,7 +1,7 @@
 //! The large source from a number, and the sources of calls, to the byte.
 
 use crate::support::{Answer, answer_of, expect_beginning, expect_that};
-use ed_call::Call;
+use ed_library::Call;
 use ed_top::{call_source, demo_source};
 use std::alloc::Global;
 use std::process::Abort;

@@ -3,7 +3,7 @@
 //!
 //! Expected values come from the numbers themselves, from the machine that runs a guest alone, from the description of
 //! scripts and from counts made by hand, never from the program's own output. Depends on the crates up to the routines,
-//! and on `ed_stepper` and `ed_trace`.
+//! and on `ed_stepper`.
 #![tactic(auto)]
 
 #[cfg(test)]

@@ -3,7 +3,7 @@
 use crate::support::{LETTER, LOOP, expect, lines_of, started};
 use ed_io::MemorySink;
 use ed_machine::Ending;
-use ed_trace::{TraceFault, trace_run};
+use ed_stepper::{TraceFault, trace_run};
 use std::alloc::Global;
 use std::process::Abort;
 use std::test::Fail;

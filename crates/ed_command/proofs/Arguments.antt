@@ -5,7 +5,7 @@ use Rattle.std.proofs.lemmas.Slice.Eq.{bytes_eq-Decides}
 use Rattle.std.proofs.lemmas.List.{at_drop_all, at_drop_more}
 use Rattle.std.specs.Prelude.{Option, Some, None, option_and_then, option_map, slice_index_or, if◌then◌else◌}
 use Rattle.std.specs.Str.{bytes_eq}
-use Rattle.ed_call.specs.declared.Call.TheVariants.{NewLine}
+use Rattle.ed_library.specs.declared.call.Call.TheVariants.{NewLine}
 use Rattle.ed_words.specs.Decimals.{number, number_within}
 use Rattle.ed_words.specs.Texts.{Text}
 use Rattle.ed_command.specs.Held.{action_by, call_with, line_in}

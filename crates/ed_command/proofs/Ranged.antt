@@ -9,9 +9,9 @@ use Rattle.std.specs.Str.{bytes_eq}
 use Rattle.ed_words.specs.Decimals.{in_range, number, number_within}
 use Rattle.ed_words.specs.Sizes.{locations}
 use Rattle.ed_words.specs.declared.size.Size.{Size}
-use Rattle.ed_call.specs.Ranges.{IsCallInRange}
-use Rattle.ed_call.specs.declared.Call.{Call}
-use Rattle.ed_call.specs.declared.Call.TheVariants.{Print, Read, NewLine, Divide, Root, Check}
+use Rattle.ed_library.specs.Ranges.{IsCallInRange}
+use Rattle.ed_library.specs.declared.call.Call.{Call}
+use Rattle.ed_library.specs.declared.call.Call.TheVariants.{Print, Read, NewLine, Divide, Root, Check}
 use Rattle.ed_words.specs.Texts.{Text}
 use Rattle.ed_command.specs.Windows.{is_comma, window, window_named}
 use Rattle.ed_command.specs.Settings.{Options, all_settings, has_only, option_value, settings_of}

@@ -3,8 +3,8 @@ use Rattle.std.specs.Prelude.{ℕ, ◌*◌, List, [], ◌∷◌, Option, Some, N
 use Rattle.std.specs.Prelude.{option_map, option_and_then, if◌then◌else◌}
 use Rattle.std.specs.Str.{bytes_eq}
 use Rattle.ed_words.specs.Decimals.{number, number_within}
-use Rattle.ed_call.specs.declared.Call.{Call}
-use Rattle.ed_call.specs.declared.Call.TheVariants.{Print, Read, NewLine, Divide, Root, Check}
+use Rattle.ed_library.specs.declared.call.Call.{Call}
+use Rattle.ed_library.specs.declared.call.Call.TheVariants.{Print, Read, NewLine, Divide, Root, Check}
 use Rattle.ed_words.specs.Texts.{Text}
 use Rattle.ed_command.specs.Words.{WordParts, word_parts, values_of}
 use Rattle.ed_command.specs.Settings.{Options, has_only, options_by, settings_of}

@@ -2,7 +2,7 @@
 use Rattle.std.specs.Prelude.{ℕ, ◌+◌, ◌≤◌, IfSome}
 use Rattle.ed_words.specs.Sizes.{locations}
 use Rattle.ed_words.specs.declared.size.Size.{Size}
-use Rattle.ed_call.specs.Ranges.{IsCallInRange}
+use Rattle.ed_library.specs.Ranges.{IsCallInRange}
 use Rattle.ed_command.specs.declared.command.Action.{Action}
 use Rattle.ed_command.specs.declared.command.Action.TheVariants as doing
 use Rattle.ed_command.specs.declared.command.Command.{Command}

@@ -2,7 +2,7 @@
 //!
 //! Contract: the command exactly if the words are a line of the table, its numbers in range. Other words are a usage
 //! fault. `clap` reads the words; the definition is a table of lines. Depends on `ed_words` for the size of a store and
-//! on `ed_call`.
+//! on `ed_library`.
 #![tactic(auto)]
 
 mod command;

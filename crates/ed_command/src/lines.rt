@@ -4,7 +4,7 @@ ghost use Rattle.ed_command.specs.Lines.{call_of, command_of, division, line_nam
 
 use crate::command::{Action, Command};
 use crate::options::Options;
-use ed_call::Call;
+use ed_library::Call;
 use ed_words::{number, number_within};
 
 /// All the options. The commands that run a tape or a source have them.

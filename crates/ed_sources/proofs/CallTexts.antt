@@ -6,7 +6,7 @@ use Rattle.ed_words.specs.Texts.{Text}
 use Rattle.ed_syntax.specs.Parts.{is_line_byte}
 use Rattle.ed_syntax.specs.Private.SourceReading.{is_two, lines_from, program_of}
 use Rattle.ed_lines.specs.declared.program.Line.{Line}
-use Rattle.ed_call.specs.declared.Call.{Call}
+use Rattle.ed_library.specs.declared.call.Call.{Call}
 use Rattle.ed_sources.specs.Calls.{call_data, call_pieces, call_text}
 use Rattle.ed_sources.proofs.TextLines.{program_is}
 use Rattle.ed_sources.proofs.WovenLines.{unended, woven_is, woven_lines}

@@ -3,7 +3,7 @@ use Rattle.std.proofs.Common.{◌≡◌, ℕ, ◌/◌, ◌%◌, ◌<◌, arith, 
 use Rattle.std.specs.Prelude.{Ok}
 use Rattle.std.specs.Fmt.{decimal}
 use Rattle.std.specs.List.{list_all}
-use Rattle.ed_call.specs.declared.Call.TheVariants.{Print, Read, NewLine, Divide, Root, Check}
+use Rattle.ed_library.specs.declared.call.Call.TheVariants.{Print, Read, NewLine, Divide, Root, Check}
 use Rattle.ed_words.specs.Texts.{Text}
 use Rattle.ed_words.specs.declared.size.Size.{Size}
 use Rattle.ed_lines.specs.declared.program.Line.{Line}
@@ -11,7 +11,7 @@ use Rattle.ed_link.specs.Private.FaultTests.{fault}
 use Rattle.ed_loads.proofs.EachSource.{read_is_accepted}
 use Rattle.ed_syntax.specs.Parts.{is_line_byte}
 use Rattle.ed_syntax.specs.Private.SourceReading.{program_of}
-use Rattle.ed_call.specs.Ranges.{IsDivisible}
+use Rattle.ed_library.specs.Ranges.{IsDivisible}
 use Rattle.ed_sources.specs.Accepted.{EachCallIsAccepted, IsAccepted}
 use Rattle.ed_sources.specs.Calls.{call_text}
 use Rattle.ed_sources.proofs.CallTexts.{call_is, call_lines}

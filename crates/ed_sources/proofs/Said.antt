@@ -28,7 +28,7 @@ use Rattle.ed_lines.specs.declared.program.Setting.{Setting}
 use Rattle.ed_lines.specs.declared.program.Statement.{Statement}
 use Rattle.ed_lines.specs.declared.program.Statement.TheVariants as statements
 use Rattle.ed_syntax.proofs.PartLemmas.{run_parts}
-use Rattle.ed_call.specs.declared.Call.TheVariants.{Check, NewLine, Print, Read}
+use Rattle.ed_library.specs.declared.call.Call.TheVariants.{Check, NewLine, Print, Read}
 use Rattle.ed_sources.proofs.CallTexts.{call_lines}
 use Rattle.ed_sources.proofs.TextLines.{Says, ends, says, by_parts}
 use Rattle.ed_sources.proofs.Decimals.{are, are_digits, decimal_is, digit_bytes}

@@ -8,7 +8,7 @@ use Rattle.ed_lines.specs.declared.program.Line.{Line}
 use Rattle.ed_lines.specs.declared.program.Operand.TheVariants as operands
 use Rattle.ed_lines.specs.declared.program.Statement.{Statement}
 use Rattle.ed_lines.specs.declared.program.Statement.TheVariants as statements
-use Rattle.ed_call.specs.declared.Call.TheVariants.{Divide, Root}
+use Rattle.ed_library.specs.declared.call.Call.TheVariants.{Divide, Root}
 use Rattle.ed_sources.proofs.CallTexts.{call_lines}
 use Rattle.ed_sources.proofs.Said.{IsWordFront, at_place, label_parts, main_calls, named_front, said, use_on, use_with}
 use Rattle.ed_sources.proofs.Said.{woven_says}

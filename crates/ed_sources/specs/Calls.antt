@@ -1,8 +1,8 @@
 -- The sources that `call` runs (this project's own): their texts are constants of the code, with gaps for numbers.
 use Rattle.std.specs.Prelude.{◌/◌, ◌%◌, List, [], ◌∷◌, ◌++◌, flat_map, map}
 use Rattle.std.specs.Fmt.{decimal}
-use Rattle.ed_call.specs.declared.Call.{Call}
-use Rattle.ed_call.specs.declared.Call.TheVariants.{Print, Read, NewLine, Divide, Root, Check}
+use Rattle.ed_library.specs.declared.call.Call.{Call}
+use Rattle.ed_library.specs.declared.call.Call.TheVariants.{Print, Read, NewLine, Divide, Root, Check}
 use Rattle.ed_words.specs.Texts.{Text}
 use Rattle.ed_sources.specs.declared.calls.TheConstants.{CHECK, DIVIDE, NEW_LINE, PRINT, READ, ROOT}
 

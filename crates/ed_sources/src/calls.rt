@@ -1,11 +1,11 @@
 ghost use Rattle.std.specs.Prelude.{◌≡◌, ◌∷◌, ◌++◌, [], IfOk, map};
 ghost use Rattle.std.specs.Fmt.{decimal};
 ghost use Rattle.ed_words.specs.Texts.{Text};
-ghost use Rattle.ed_call.specs.declared.Call.TheVariants.{Divide, NewLine};
+ghost use Rattle.ed_library.specs.declared.call.Call.TheVariants.{Divide, NewLine};
 ghost use Rattle.ed_sources.specs.Calls.{call_text};
 ghost use Rattle.ed_sources.specs.Accepted.{EachCallIsAccepted};
 
-use ed_call::Call;
+use ed_library::Call;
 use ed_report::bytes_of_text;
 use ed_words::NoMemory;
 use std::alloc::Global;

@@ -9,3 +9,6 @@ mod Divisions
 mod Plays
 mod CommandLaws
 mod CommandExamples
+mod Going
+mod Growing
+mod Wholes

@@ -4,4 +4,5 @@ pub mod Commands
 pub mod ScriptLines
 pub mod Scripts
 pub mod Inputs
+pub mod Traces
 pub mod Private

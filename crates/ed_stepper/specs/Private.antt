@@ -5,3 +5,4 @@ pub mod Fronts
 pub mod Commands
 pub mod CommandReading
 pub mod Lines
+pub mod Growth

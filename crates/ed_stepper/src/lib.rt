@@ -1,8 +1,10 @@
-//! Sessions and scripts: a machine that is moved on by orders and back, and the script that moves it.
+//! Sessions, scripts and traces: a machine that is moved on by orders and back, the script that moves it, and the trace
+//! of a run, which is written during the run.
 //!
 //! Contract: a session is in the state after its orders; a script's text, or its refusal. Each move ends at the least
 //! number of orders at which one of its ends holds. What a script says is a relation with one row for each form: each
-//! text says one list of commands, or has one first bad line. Depends on `ed_initial`, `ed_syntax` and `ed_report`.
+//! text says one list of commands, or has one first bad line. A trace is written whole, or its beginning if a write fails,
+//! and at most one line of it is held in memory. Depends on `ed_run`, `ed_initial`, `ed_syntax`, `ed_io` and `ed_report`.
 #![tactic(auto)]
 
 mod commands;
@@ -13,9 +15,12 @@ mod marks;
 mod moves;
 mod script;
 mod session;
+mod sheet;
+mod tracing;
 mod walk;
 
 pub use inputs::{Divided, TextKind, divide, line_count};
 pub use moves::{BackFault, MoveEnd, Moved};
 pub use script::{ScriptFault, bad_line, run_script};
 pub use session::{NewFault, Session, Traced};
+pub use tracing::{TraceFault, trace_run};

@@ -22,3 +22,8 @@ pub mod SourceLaws
 pub mod Splits
 pub mod StatementLaws
 pub mod WrittenLaws
+pub mod Fronts
+pub mod Numerals
+pub mod Spelled
+pub mod Texts
+pub mod Added

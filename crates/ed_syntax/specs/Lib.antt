@@ -3,4 +3,6 @@ pub mod Parts
 pub mod Versions
 pub mod Forms
 pub mod Sources
+pub mod Written
+pub mod Answers
 pub mod Private

@@ -8,3 +8,4 @@ pub mod Grammar
 pub mod Found
 pub mod SourceReading
 pub mod Answers
+pub mod LineTexts

@@ -26,7 +26,7 @@ use Rattle.ed_report.specs.Traces.{traced_letter}
 use Rattle.ed_stepper.specs.Sessions.{Stand, left}
 use Rattle.ed_stepper.specs.MoveEnds.{move_orders}
 use Rattle.ed_stepper.specs.declared.moves.MoveTarget.TheVariants.{Orders}
-use Rattle.ed_trace.specs.Traces.{trace_to}
+use Rattle.ed_stepper.specs.Traces.{trace_to}
 use Rattle.ed_command.specs.declared.command.Settings.{Settings}
 use Rattle.ed_answers.specs.Runs.{paper_room, ran_outcome, run_of, with_post_mortem}
 use Rattle.ed_top.specs.Scripts.{stand_on}

@@ -1,8 +1,8 @@
 -- The answer of `call` (this project's own rule).
 use Rattle.std.specs.Prelude.{◌≡◌, ℕ, ◌+◌, ◌*◌, ◌/◌, ◌%◌, ◌≤◌, List, [], ◌∷◌, ◌++◌, codes, length, None, Some}
 use Rattle.std.specs.Fmt.{decimal}
-use Rattle.ed_call.specs.declared.Call.{Call}
-use Rattle.ed_call.specs.declared.Call.TheVariants.{Print, Read, NewLine, Divide, Root, Check}
+use Rattle.ed_library.specs.declared.call.Call.{Call}
+use Rattle.ed_library.specs.declared.call.Call.TheVariants.{Print, Read, NewLine, Divide, Root, Check}
 use Rattle.ed_lines.specs.declared.program.Line.{Line}
 use Rattle.ed_loads.specs.Refusals.{IsAcceptedAs}
 use Rattle.ed_link.specs.Tapes.{cost}
@@ -16,7 +16,7 @@ use Rattle.ed_checker.specs.Checker.{checked_codes, guest, planting_place}
 use Rattle.ed_checker.specs.Laws.{StopsAfter}
 use Rattle.ed_words.specs.declared.size.Size.{Size}
 use Rattle.ed_words.specs.declared.size.Size.TheVariants.{Full}
-use Rattle.ed_call.specs.Ranges.{IsCallInRange}
+use Rattle.ed_library.specs.Ranges.{IsCallInRange}
 use Rattle.ed_sources.specs.Calls.{call_text}
 use Rattle.ed_command.specs.Settings.{options_by, settings_of}
 use Rattle.ed_command.specs.declared.command.Settings.{Settings}

@@ -4,8 +4,8 @@ ghost use Rattle.ed_top.specs.Calls.{call_answer};
 ghost use Rattle.ed_answers.specs.Replies.{Replies};
 
 use ed_answers::{Rejection, Reply, run};
-use ed_call::Call;
 use ed_command::Settings;
+use ed_library::Call;
 use ed_sources::call_source;
 use std::alloc::Global;
 

@@ -6,7 +6,7 @@ ghost use Rattle.ed_top.specs.Private.Stages.{HasInput, WritesReply, WritesText,
 use ed_answers::{INPUT_BYTES, Rejection, Reply};
 use ed_io::{Failed, Sink, Source, write_all};
 use ed_parts::PartsFault;
-use ed_trace::TraceFault;
+use ed_stepper::TraceFault;
 use ed_words::NoMemory;
 use std::alloc::{AllocError, Global};
 

@@ -11,7 +11,7 @@ use ed_command::Settings;
 use ed_io::Sink;
 use ed_loads::started;
 use ed_report::ending_text;
-use ed_trace::trace_run;
+use ed_stepper::trace_run;
 use std::alloc::Global;
 
 /// `trace`: the letters of the orders that the run of a text's rows obeys, each line written as it is full.

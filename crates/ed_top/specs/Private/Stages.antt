@@ -22,8 +22,8 @@ use Rattle.ed_top.specs.declared.devices.InputStop.{InputStop}
 use Rattle.ed_top.specs.declared.devices.InputStop.TheVariants as input
 use Rattle.ed_top.specs.declared.devices.Stop.{Stop}
 use Rattle.ed_top.specs.declared.devices.Stop.TheVariants.{Failed, Memory}
-use Rattle.ed_trace.specs.declared.tracing.TraceFault.{TraceFault}
-use Rattle.ed_trace.specs.declared.tracing.TraceFault.TheVariants as trace
+use Rattle.ed_stepper.specs.declared.tracing.TraceFault.{TraceFault}
+use Rattle.ed_stepper.specs.declared.tracing.TraceFault.TheVariants as trace
 use Rattle.ed_parts.specs.declared.tape.PartsFault.{PartsFault}
 use Rattle.ed_parts.specs.declared.tape.PartsFault.TheVariants as parts
 

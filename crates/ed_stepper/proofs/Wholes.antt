@@ -1,0 +1,186 @@
+-- The whole trace of a run.
+use Rattle.std.proofs.Common.{◌≡◌, ◌≢◌, ◌⊎◌, inl, inr, ℕ, ◌+◌, ◌-◌, ◌%◌, ◌<◌, ◌≤◌, refl, sym}
+use Rattle.std.proofs.Common.{ap, ◌∙◌, subst, arith, Bool, true, false, if◌then◌else◌, List, [], ◌∷◌, ◌++◌}
+use Rattle.std.proofs.Common.{append_assoc, append-nil, Option, Some, None, Ok, Err}
+use Rattle.ed_words.proofs.Numbers.{eq_false, eq_true}
+use Rattle.ed_machine.specs.State.{State}
+use Rattle.ed_machine.specs.Steps.{progress, state_after}
+use Rattle.ed_machine.specs.declared.ending.Ending.{Ending}
+use Rattle.ed_run.specs.Run.{EndsAfter, end_at, run_end, run_orders}
+use Rattle.ed_run.proofs.Ends.{ends_once, ran_ends}
+use Rattle.ed_io.specs.Bytes.{Gains, GainsPart}
+use Rattle.ed_io.specs.declared.device.Failed.{Failed}
+use Rattle.ed_io.proofs.Calls.{gains_more}
+use Rattle.ed_report.specs.Traces.{is_full, last_end}
+use Rattle.ed_report.proofs.Letters.{functions_count}
+use Rattle.ed_stepper.specs.Traces.{TraceBroke, trace_of, trace_to}
+use Rattle.ed_stepper.specs.Private.Growth.{BreaksTrace, EndsLine, Lines, orders_in_full_lines, traced_letters}
+use Rattle.ed_stepper.proofs.Growing.{more_traced, part_of_longer}
+
+-- the whole trace is that of the orders of the run
+whole_trace : (limit resumes : ℕ) (s : State)
+    → trace_of limit resumes s ≡ traced_letters (run_orders limit resumes limit s) s
+    ++ last_end (run_orders limit resumes limit s)
+whole_trace limit resumes s =
+    let n : ℕ = run_orders limit resumes limit s in ap (λ k. traced_letters n s ++ last_end k) (functions_count n s)
+
+-- the orders of a run that ends
+pub orders_found : {limit resumes : ℕ} {s : State} {k : ℕ} {ending : Ending} → EndsAfter limit resumes limit s k ending
+    → k ≡ run_orders limit resumes limit s
+orders_found {limit} {resumes} {s} e = (ends_once e (ran_ends limit resumes limit s)).0
+
+-- its ending
+pub ending_found : {limit resumes : ℕ} {s : State} {k : ℕ} {ending : Ending} → EndsAfter limit resumes limit s k ending
+    → ending ≡ (run_end limit resumes limit s).ending
+ending_found {limit} {resumes} {s} e = (ends_once e (ran_ends limit resumes limit s)).1
+
+-- the state that it leaves
+pub state_found : {limit resumes : ℕ} {s : State} {k : ℕ} {ending : Ending} → EndsAfter limit resumes limit s k ending
+    → state_after k s ≡ (run_end limit resumes limit s).state
+unfolding run_end
+state_found {s} e = ap (λ n. state_after n s) (orders_found e)
+
+-- the trace of orders whose lines are full
+trace_full : (k : ℕ) (s : State) → k % 50 ≡ 0 → trace_to k s ≡ traced_letters k s
+trace_full k s h =
+    let t : is_full k ≡ true = eq_true (k % 50) 0 h in
+    ap (λ n. traced_letters k s ++ last_end n) (functions_count k s)
+    ∙ ap (λ (b : Bool). traced_letters k s ++ (if b then [] else 10 ∷ [])) t ∙ append-nil (traced_letters k s)
+
+-- and of others
+trace_open : (k : ℕ) (s : State) → k % 50 ≢ 0 → trace_to k s ≡ traced_letters k s ++ 10 ∷ []
+trace_open k s h =
+    let t : is_full k ≡ false = eq_false (k % 50) 0 h in
+    ap (λ n. traced_letters k s ++ last_end n) (functions_count k s)
+    ∙ ap (λ (b : Bool). traced_letters k s ++ (if b then [] else 10 ∷ [])) t
+
+-- no more orders are obeyed than those of the run
+within_run : (limit resumes : ℕ) (s : State) (k : ℕ)
+    → ((j : ℕ) → j < k → end_at limit resumes limit j (progress j s) ≡ None) → k ≤ run_orders limit resumes limit s
+within_run limit resumes s k first = by_place (split k (run_orders limit resumes limit s))
+  where
+    split : (j k : ℕ) → (j ≤ k) ⊎ (k < j)
+    split j k = grind arith
+
+    by_place : (k ≤ run_orders limit resumes limit s) ⊎ (run_orders limit resumes limit s < k)
+        → k ≤ run_orders limit resumes limit s
+    by_place (inl low) = low
+    by_place (inr high) =
+        let bad : None ≡ Some (run_end limit resumes limit s).ending =
+        sym (first (run_orders limit resumes limit s) high) ∙ (ran_ends limit resumes limit s).now in
+        absurd (cc)
+
+-- the write of a line that was full failed
+module _ {limit resumes : ℕ} {s last : State} {before after : Option (List ℕ)}
+    (b : BreaksTrace limit resumes s last before after) where
+  within : b.orders ≤ run_orders limit resumes limit s
+  within = within_run limit resumes s b.orders b.first
+
+  front_full : (b.orders - 50) % 50 ≡ 0
+  front_full = let h = b.full in grind arith
+
+  at_least : 50 ≤ b.orders
+  at_least = let h = b.full in let some = b.some in grind arith
+
+  pub full_broke : TraceBroke limit resumes s last before after
+  full_broke = record {
+    written = b.orders - 50;
+    orders = b.orders;
+    full = front_full;
+    some = omega (arith, at_least);
+    most = omega arith;
+    within = within;
+    ends = inl (omega (arith, at_least));
+    state_is = b.state_is;
+    part = b.part;
+    rest = b.rest;
+    line = trace_full b.orders s b.full ∙ b.line
+        ∙ ap (λ t. t ++ (b.part ++ b.rest)) (sym (trace_full (b.orders - 50) s front_full));
+    gains = subst (λ t. Gains before after (t ++ b.part)) (sym (trace_full (b.orders - 50) s front_full)) b.gains;
+  }
+
+  pub full_part : GainsPart before after (trace_of limit resumes s)
+  full_part =
+      let n = run_orders limit resumes limit s in
+      let e : b.orders + (n - b.orders) ≡ n = omega (arith, within) in
+      let r = more_traced b.orders (n - b.orders) s in
+      part_of_longer before after (traced_letters b.orders s) (trace_of limit resumes s) (r.0 ++ last_end n)
+      (whole_trace limit resumes s ∙ ap (λ t. t ++ last_end n) (sym (ap (λ k. traced_letters k s) e) ∙ r.1)
+      ∙ append_assoc (traced_letters b.orders s) r.0 (last_end n))
+      (record {
+        part = traced_letters (b.orders - 50) s ++ b.part;
+        rest = b.rest;
+        whole = b.line ∙ sym (append_assoc (traced_letters (b.orders - 50) s) b.part b.rest);
+        gains = b.gains;
+      })
+
+-- the last line
+module _ {k : ℕ} {s : State} {before now : Option (List ℕ)} where
+  -- its text, after the full lines
+  last_line : {held : List ℕ} → Lines k s before now held → k % 50 ≢ 0
+      → trace_to k s ≡ traced_letters (orders_in_full_lines k) s ++ (held ++ 10 ∷ [])
+  last_line {held} lines h =
+      trace_open k s h ∙ ap (λ t. t ++ 10 ∷ []) lines.whole
+      ∙ append_assoc (traced_letters (orders_in_full_lines k) s) held (10 ∷ [])
+
+  -- all is written
+  pub all_written : (after : Option (List ℕ)) (u : Unit {0}) (held : List ℕ) → Lines k s before now held
+      → EndsLine held (Ok u) now after → Gains before after (trace_to k s)
+  all_written after u [] lines p =
+      let none : k % 50 ≡ 0 = sym lines.few in
+      let whole : trace_to k s ≡ traced_letters (orders_in_full_lines k) s =
+      trace_full k s none ∙ lines.whole ∙ append-nil (traced_letters (orders_in_full_lines k) s) in
+      subst (λ t. Gains before after t) (sym whole)
+      (subst (λ (a : Option (List ℕ)). Gains before a (traced_letters (orders_in_full_lines k) s)) (sym p) lines.gains)
+  all_written after u (l ∷ held) lines p =
+      let some : k % 50 ≢ 0 = omega (arith, lines.few) in
+      subst (λ t. Gains before after t) (sym (last_line lines some))
+      (gains_more before now after (traced_letters (orders_in_full_lines k) s) ((l ∷ held) ++ 10 ∷ []) lines.gains p)
+
+  -- its write failed
+  last_broke : {limit resumes : ℕ} {last : State} (after : Option (List ℕ)) (e : Failed) (held : List ℕ)
+      → Lines k s before now held
+      → k ≡ run_orders limit resumes limit s → last ≡ state_after k s → EndsLine held (Err e) now after
+      → (b : TraceBroke limit resumes s last before after) × (b.orders ≡ k)
+  last_broke after e [] lines is state p = absurd p
+  last_broke after e (l ∷ held) lines is state p =
+      let some : k % 50 ≢ 0 = omega (arith, lines.few) in
+      let front : orders_in_full_lines k % 50 ≡ 0 = grind arith in (
+        record {
+          written = orders_in_full_lines k;
+          orders = k;
+          full = front;
+          some = grind arith;
+          most = grind arith;
+          within = omega (arith, is);
+          ends = inr is;
+          state_is = state;
+          part = p.part;
+          rest = p.rest;
+          line = last_line lines some ∙ ap (λ t. traced_letters (orders_in_full_lines k) s ++ t) p.whole
+              ∙ ap (λ t. t ++ (p.part ++ p.rest)) (sym (trace_full (orders_in_full_lines k) s front));
+          gains = subst (λ t. Gains before after (t ++ p.part)) (sym (trace_full (orders_in_full_lines k) s front))
+              (gains_more before now after (traced_letters (orders_in_full_lines k) s) p.part lines.gains p.gains);
+        },
+        refl,
+      )
+
+-- what was written of a run is a part of its trace
+broke_part : {limit resumes : ℕ} {s last : State} {before after : Option (List ℕ)}
+    (b : TraceBroke limit resumes s last before after) → b.orders ≡ run_orders limit resumes limit s
+    → GainsPart before after (trace_of limit resumes s)
+broke_part {limit} {resumes} {s} b is = record {
+  part = trace_to b.written s ++ b.part;
+  rest = b.rest;
+  whole = ap (λ k. trace_to k s) (sym is) ∙ b.line ∙ sym (append_assoc (trace_to b.written s) b.part b.rest);
+  gains = b.gains;
+}
+
+-- the write of the last line failed
+pub last_failed : {limit resumes k : ℕ} {s last : State} {before now after : Option (List ℕ)} {held : List ℕ}
+    (e : Failed)
+    → Lines k s before now held → k ≡ run_orders limit resumes limit s → last ≡ state_after k s
+    → EndsLine held (Err e) now after
+    → GainsPart before after (trace_of limit resumes s) × TraceBroke limit resumes s last before after
+last_failed {after = after} {held = held} e lines is state p =
+    let b = last_broke after e held lines is state p in (broke_part b.0 (b.1 ∙ is), b.0)

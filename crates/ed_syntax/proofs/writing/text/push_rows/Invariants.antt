@@ -1,0 +1,7 @@
+use Rattle.std.proofs.Common.{◌≡◌, ◌++◌, map, take}
+use Rattle.ed_syntax.specs.Written.{row_letter}
+use Rattle.ed_syntax.proofs.writing.text.push_rows.Given as goal
+
+-- the letters of the rows so far have been added
+abbrev pub invariant-loop-row : goal.invariant-loop-row
+invariant-loop-row l = l.text.items ≡ l.initial.text.items ++ map row_letter (take l.row-index l.rows.items)

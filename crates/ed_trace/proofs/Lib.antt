@@ -1,3 +1,0 @@
-mod Going
-mod Growing
-mod Wholes

@@ -1,2 +1,0 @@
--- What the crate's own functions state for each other. No public clause cites these definitions.
-pub mod LineTexts
