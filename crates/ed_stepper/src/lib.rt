@@ -1,10 +1,10 @@
-//! Sessions, scripts and traces: a machine that is moved on by orders and back, the script that moves it, and the trace
-//! of a run, which is written during the run.
+//! Sessions, scripts and traces: a machine that is moved on by orders and back, the script that moves it, and the letters
+//! of the orders of a run, which are written during the run.
 //!
-//! Contract: a session is in the state after its orders; a script's text, or its refusal. Each move ends at the least
-//! number of orders at which one of its ends holds. What a script says is a relation with one row for each form: each
-//! text says one list of commands, or has one first bad line. A trace is written whole, or its beginning if a write fails,
-//! and at most one line of it is held in memory. Depends on `ed_run`, `ed_initial`, `ed_syntax`, `ed_io` and `ed_report`.
+//! Contract: a session is in the state after its orders; a script's text, or its refusal; the whole trace of a run, or the
+//! beginning of it if a write fails. Each move ends at the least number of orders at which one of its ends holds. What a
+//! script says is a relation with one row for each form: each text says one list of commands, or has one first bad line.
+//! At most one line of a trace is held in memory. Depends on `ed_run`, `ed_initial`, `ed_syntax`, `ed_io` and `ed_report`.
 #![tactic(auto)]
 
 mod commands;

@@ -3,7 +3,7 @@ ghost use Rattle.std.specs.Prelude.{◌≡◌, ◌+◌, ◌≤◌, ◌==◌, ◌
 ghost use Rattle.std.specs.Option.{ok_or};
 ghost use Rattle.ed_syntax.specs.Private.Grammar.{both, joined_operand, ranged_map, operand, with_settings};
 ghost use Rattle.ed_syntax.specs.Private.Grammar.{setting};
-ghost use Rattle.ed_syntax.specs.Private.Found.{form_result, front, read};
+ghost use Rattle.ed_syntax.specs.Private.Found.{form_result, front, value_read};
 ghost use Rattle.ed_syntax.specs.Versions.{is_second};
 ghost use Rattle.ed_syntax.specs.Parts.{array};
 ghost use Rattle.ed_syntax.specs.Parts.{setting_letter};
@@ -21,7 +21,7 @@ use ed_lines::{Operand, Setting};
 
 /// An operand that is a number or a name; none where the number is out of its range.
 fn single(version: Version, run: &[u8]) -> Result<Option<Operand>, FormFault>
-    ensures { read result ≡ single (is_second version) run.now }
+    ensures { value_read result ≡ single (is_second version) run.now }
 {
     match number(32767, run) {
         Ok(number) => Ok(Some(Operand::Number(number as u16))),
@@ -35,7 +35,7 @@ fn single(version: Version, run: &[u8]) -> Result<Option<Operand>, FormFault>
 
 /// An operand that is a name, a sign, and a number or in version 2 a name; none where the number is out of its range.
 fn joined(version: Version, run: &[u8], sign: u8, more: &[u8]) -> Result<Option<Operand>, FormFault>
-    ensures { read result ≡ joined_operand (is_second version) run.now sign more.now }
+    ensures { value_read result ≡ joined_operand (is_second version) run.now sign more.now }
 {
     let first = place_name(version, run)?;
     let minus = sign == b'-';

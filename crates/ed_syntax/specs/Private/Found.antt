@@ -15,9 +15,9 @@ form_result (Some None) = Err OutOfRange
 form_result (Some (Some a)) = Ok a
 
 -- what is read, if something is
-abbrev pub read : {A : Type 0} → Result A FormFault → Option A
-read (Ok a) = Some a
-read (Err e) = None
+abbrev pub value_read : {A : Type 0} → Result A FormFault → Option A
+value_read (Ok a) = Some a
+value_read (Err e) = None
 
 -- what was found at the front, and the parts after it
 abbrev pub front : {A : Type 0} → Result (A × Bor (List Part)) FormFault → Option (A × List LinePart)
