@@ -15,12 +15,3 @@ returns-clause-some c =
     let text = c.args.text.now in
     let bytes : c.copy_from_slice.new.self ≡ text = c.copy_from_slice.ensures.after ∙ c.as_bytes.ensures.value in
     rw bytes (take_at text _ (length text) refl)
-
-pub slice_bounds-bytes-end : goal.slice_bounds-bytes-end
-slice_bounds-bytes-end c = omega arith
-
-pub returns-then-is_empty-clause-none : goal.returns-then-is_empty-clause-none
-returns-then-is_empty-clause-none c = grind (arith, nat_tests)
-
-pub returns-clause-none : goal.returns-clause-none
-returns-clause-none c = grind (arith, nat_tests)
