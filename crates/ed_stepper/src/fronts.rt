@@ -48,7 +48,7 @@ pub(crate) fn first_part<'a>(line: &'a [u8]) -> Option<(&'a [u8], &'a [u8])>
     None
 }
 
-/// The index of the first byte that is this one, or the length of the text if there is none.
+/// The index of the first byte that is this one, or the length of the text if it has no such byte.
 fn first_byte(text: &[u8], wanted: u8) -> usize
     ensures is { result ≡ position_or_len (λ b. b == wanted) text.now }
     ensures within { result ≤ length text.now }
