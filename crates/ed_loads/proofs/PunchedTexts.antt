@@ -19,7 +19,7 @@ use Rattle.ed_lines.specs.declared.program.Line.{Line}
 use Rattle.ed_lines.specs.declared.program.Statement.{Statement}
 use Rattle.ed_lines.specs.declared.program.Statement.TheVariants.{Rows}
 use Rattle.ed_syntax.proofs.Formed.{program_formed}
-use Rattle.ed_syntax.proofs.PartTexts.{each_append}
+use Rattle.ed_syntax.proofs.RunTests.{each_append}
 use Rattle.ed_syntax.proofs.SourceLaws.{program_is_read}
 use Rattle.ed_link.specs.Linked.{data_after, data_rows}
 use Rattle.ed_link.specs.Punch.{punched_items}

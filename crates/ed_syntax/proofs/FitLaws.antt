@@ -22,7 +22,8 @@ use Rattle.ed_syntax.specs.Forms.{SpellsPlaced, order, bare_order, word, long, t
 use Rattle.ed_syntax.specs.Forms.{SpellsStatement, placed, segment, segment_at, fetch, fetch_with, enter, data_rows}
 use Rattle.ed_syntax.specs.Forms.{SpellsForm, empty, label, statement, labelled, version, EachSpelledIsForm}
 use Rattle.ed_syntax.specs.Forms.{FormsAreSpelled}
-use Rattle.ed_syntax.proofs.WrittenLaws.{both, each_form_is_spelled}
+use Rattle.ed_syntax.proofs.RunTests.{both}
+use Rattle.ed_syntax.proofs.Spelled.{each_form_is_spelled}
 use Rattle.ed_syntax.proofs.Ranges.{IsLetter, letter_within, function_fits, modulo_fits, row_fits}
 
 -- what holds of what an option has

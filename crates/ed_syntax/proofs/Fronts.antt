@@ -12,8 +12,7 @@ use Rattle.ed_syntax.specs.Parts.{LinePart, run, sign, quoted, is_line_byte, beg
 use Rattle.ed_lines.specs.Names.{is_lower, is_run_byte}
 use Rattle.ed_syntax.specs.Parts.{has_quote}
 use Rattle.ed_syntax.specs.Forms.{HasLineParts, nothing, blank, one_sign, one_string, one_run, is_sign}
-use Rattle.ed_syntax.proofs.PartTexts.{is_part, each_append}
-use Rattle.ed_syntax.proofs.WrittenLaws.{both}
+use Rattle.ed_syntax.proofs.RunTests.{is_run, both, each_append}
 
 -- no run continues into this text if none continues into what follows it
 abbrev pub EndsRun : Text → Type 0
@@ -87,7 +86,7 @@ quoted_front q text ps s l f = record {
   bytes = each_append is_line_byte q (34 ∷ text) l f.bytes;
 }
 
-pub run_front : (r text : Text) (ps : List LinePart) → is_part (run r) ≡ true → EndsRun text → IsFront text ps
+pub run_front : (r text : Text) (ps : List LinePart) → is_run r ≡ true → EndsRun text → IsFront text ps
     → IsFront (r ++ text) (run r ∷ ps)
 run_front [] text ps s ends f = absurd (cc)
 run_front (b ∷ r) text ps s ends f = record {
@@ -98,7 +97,7 @@ run_front (b ∷ r) text ps s ends f = record {
 }
 
 -- a run alone
-pub one_run_front : (r : Text) → is_part (run r) ≡ true → IsFront r (run r ∷ [])
+pub one_run_front : (r : Text) → is_run r ≡ true → IsFront r (run r ∷ [])
 one_run_front r s =
     subst (λ (t : Text). IsFront t (run r ∷ [])) (append-nil r) (run_front r [] [] s (λ rest e. e) no_front)
 

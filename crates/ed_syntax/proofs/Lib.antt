@@ -10,7 +10,7 @@ pub mod Numbers
 pub mod OperandLaws
 pub mod Orders
 pub mod PartLemmas
-pub mod PartTexts
+pub mod RunTests
 pub mod PartsLaws
 pub mod PlacedLaws
 pub mod Programs
@@ -21,7 +21,6 @@ pub mod Settings
 pub mod SourceLaws
 pub mod Splits
 pub mod StatementLaws
-pub mod WrittenLaws
 pub mod Fronts
 pub mod Numerals
 pub mod Spelled

@@ -10,10 +10,9 @@ use Rattle.std.proofs.lemmas.Fmt.{decimal_by_steps}
 use Rattle.std.proofs.lemmas.List.Sums.{fold-append}
 use Rattle.ed_words.specs.Texts.{Text}
 use Rattle.ed_words.specs.Decimals.{is_digit, value}
-use Rattle.ed_syntax.specs.Parts.{run, is_number}
+use Rattle.ed_syntax.specs.Parts.{is_number}
 use Rattle.ed_lines.specs.Names.{is_run_byte}
-use Rattle.ed_syntax.proofs.PartTexts.{is_part, each_append}
-use Rattle.ed_syntax.proofs.WrittenLaws.{both}
+use Rattle.ed_syntax.proofs.RunTests.{is_run, both, each_append}
 
 -- digits of this number
 pub record IsNumeral (n : ℕ) (digits : Text) : Type 0 where
@@ -51,6 +50,6 @@ digits_are_run_bytes (d ∷ ds) e =
     either true = refl
     either false = refl
 
-pub numeral_part : (n : ℕ) (digits : Text) → IsNumeral n digits → is_part (run digits) ≡ true
+pub numeral_part : (n : ℕ) (digits : Text) → IsNumeral n digits → is_run digits ≡ true
 numeral_part n [] h = let e = h.number in absurd (cc)
 numeral_part n (d ∷ ds) h = digits_are_run_bytes (d ∷ ds) h.number

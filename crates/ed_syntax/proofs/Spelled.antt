@@ -27,13 +27,12 @@ use Rattle.ed_syntax.specs.Forms.{SpellsSetting, setting, SpellsSettings, last, 
 use Rattle.ed_syntax.specs.Forms.{SpellsInteger, positive, AreRowsOf}
 use Rattle.ed_syntax.specs.Forms.{SpellsPlaced, order, bare_order, word, long, text}
 use Rattle.ed_syntax.specs.Forms.{SpellsStatement, placed, segment, segment_at, fetch, fetch_with, enter, data_rows}
-use Rattle.ed_syntax.specs.Forms.{SpellsForm, empty, label, statement, labelled, has_few_settings}
-use Rattle.ed_syntax.proofs.PartTexts.{is_part}
-use Rattle.ed_syntax.proofs.WrittenLaws.{both}
+use Rattle.ed_syntax.specs.Forms.{SpellsForm, empty, label, statement, labelled, has_few_settings, EachFormIsSpelled}
+use Rattle.ed_syntax.proofs.RunTests.{is_run, both}
 use Rattle.ed_syntax.specs.Written
 use Rattle.ed_syntax.specs.Written.{row_letter, operand_text, setting_text, settings_after, statement_text, form_text}
 use Rattle.ed_syntax.proofs.Fronts.{IsFront, no_front, blank_front, sign_front, quoted_front, run_front, one_run_front}
-use Rattle.ed_syntax.proofs.Fronts.{joined_front}
+use Rattle.ed_syntax.proofs.Fronts.{joined_front, front_parts}
 use Rattle.ed_syntax.proofs.Numerals.{IsNumeral, numeral_of, numeral_part}
 
 -- the parts of this text spell it
@@ -49,7 +48,7 @@ ranged S ps a c e h = subst (λ (d : Bool). S ps a d) e h
 
 -- ---- names and letters
 
-name_part : (a : Text) → is_name a ≡ true → is_part (run a) ≡ true
+name_part : (a : Text) → is_name a ≡ true → is_run a ≡ true
 name_part [] e = e
 name_part (b ∷ bs) e =
     let p = and_parts (is_lower b) _ e in
@@ -57,10 +56,10 @@ name_part (b ∷ bs) e =
     let lower = p.0 in
     both (is_run_byte b) (list_all is_run_byte bs) (rw lower refl) q.1
 
-place_name_part : (two : Bool) (a : Text) → is_place_name two a ≡ true → is_part (run a) ≡ true
+place_name_part : (two : Bool) (a : Text) → is_place_name two a ≡ true → is_run a ≡ true
 place_name_part two a e = by_name (is_name a) refl e
   where
-    local_part : (l : Text) → is_local_name l ≡ true → is_part (run l) ≡ true
+    local_part : (l : Text) → is_local_name l ≡ true → is_run l ≡ true
     local_part [] g = g
     local_part (b ∷ bs) g =
         let p = and_parts (b == 95) _ g in
@@ -68,7 +67,7 @@ place_name_part two a e = by_name (is_name a) refl e
         let r = and_parts (nat_le (length bs) 15) _ q.1 in
         both (is_run_byte b) (list_all is_run_byte bs) (ap is_run_byte ((Decides-eqb b 95).0 p.0)) r.1
 
-    by_name : (c : Bool) → is_name a ≡ c → (c || (two && is_local_name a)) ≡ true → is_part (run a) ≡ true
+    by_name : (c : Bool) → is_name a ≡ c → (c || (two && is_local_name a)) ≡ true → is_run a ≡ true
     by_name true f g = name_part a f
     by_name false f g = local_part a (and_parts two (is_local_name a) g).1
 
@@ -312,7 +311,7 @@ positive_spelled least most n e lt =
     }
 
 -- a keyword before other text
-word_front : (w after : Text) (ps : List LinePart) → is_part (run w) ≡ true → IsFront after ps
+word_front : (w after : Text) (ps : List LinePart) → is_run w ≡ true → IsFront after ps
     → IsFront (w ++ 32 ∷ after) (run w ∷ ps)
 word_front w after ps e f = run_front w (32 ∷ after) ps e (λ rest h. refl) (blank_front after ps f)
 
@@ -477,6 +476,17 @@ form_spelled two k (Some a) (Some s) e f =
       front = run_front a (58 ∷ 32 ∷ statement_text s) _ (place_name_part two a p.0) (λ rest h. refl)
           (sign_front 58 _ w.ps refl refl (blank_front _ w.ps w.front));
     }
+
+pub each_form_is_spelled : EachFormIsSpelled
+each_form_is_spelled two k f e g =
+    let w = form_spelled two k f.label f.statement e g in (
+      form_text f.label f.statement,
+      record {
+        parts = w.ps;
+        has_parts = front_parts _ w.ps w.front;
+        spells = w.spelled;
+      },
+    )
 
 -- the line `version 2`
 pub version_front : IsFront (codes "version 2") (run (codes "version") ∷ run (codes "2") ∷ [])
