@@ -10,7 +10,7 @@ use Rattle.ed_orders.specs.declared.kind.Kind.TheVariants.{A, S, H, V, N, T, U, 
 use Rattle.ed_machine.specs.State.{State}
 use Rattle.ed_machine.specs.OrderTable.{jump_order, next_word, obey_word, place_of, step, row_order}
 use Rattle.ed_machine.specs.Steps.{progress, state_after}
-use Rattle.ed_paths.proofs.Orders.{IsNear, IsOrder}
+use Rattle.ed_machine.proofs.Kit.Orders.{IsNear, IsOrder}
 use Rattle.ed_checker.specs.Checker.{IsAllowed, IsAllowedOrder, IsPlainJump, AccessesOutside}
 
 module _ (base : ℕ) (even_base : base % 2 ≡ 0) (s : State) (room : base + 66 ≤ locations s.size) where

@@ -7,7 +7,7 @@ use Rattle.ed_machine.specs.State.{State}
 use Rattle.ed_machine.specs.OrderTable.{Obeyed, step}
 use Rattle.ed_machine.specs.Steps.{Progress, progress, state_after, codes_of, stops_of, is_obeyed}
 use Rattle.ed_machine.specs.declared.turn.Turn.{Turn}
-use Rattle.ed_paths.proofs.Leads.{Leads, free, no_stops}
+use Rattle.ed_machine.proofs.Kit.Leads.{Leads, free, no_stops}
 use Rattle.ed_machine.proofs.Steps.{past_after, past_sum, after_sum}
 use Rattle.ed_checker.specs.Laws.{HasRun}
 

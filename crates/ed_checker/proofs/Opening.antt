@@ -13,11 +13,11 @@ use Rattle.ed_routines.specs.Catalogue.{with_h}
 use Rattle.ed_routines.specs.Returns.{IsOther}
 use Rattle.ed_routines.proofs.Image.{Makes, none, more}
 use Rattle.ed_routines.proofs.Called.{holds_words, image, kept}
-use Rattle.ed_paths.proofs.Sums.{parted}
-use Rattle.ed_paths.proofs.Frames.{Frame, Moment, state}
-use Rattle.ed_paths.proofs.Places.{pair, reads}
-use Rattle.ed_paths.proofs.Standing.{Holds, filled, opens}
-use Rattle.ed_paths.proofs.Window.{patched, get_own, get_below, get_above, patched_self, length_patched}
+use Rattle.ed_machine.proofs.Kit.Sums.{parted}
+use Rattle.ed_machine.proofs.Kit.Frames.{Frame, Moment, state}
+use Rattle.ed_machine.proofs.Kit.Places.{pair, reads}
+use Rattle.ed_machine.proofs.Kit.Standing.{Holds, filled, opens}
+use Rattle.ed_machine.proofs.Kit.Window.{patched, get_own, get_below, get_above, patched_self, length_patched}
 use Rattle.ed_checker.specs.Checker.{IsOutsideChecker, CheckerStands, HasImage, guest, check}
 use Rattle.ed_checker.proofs.Halves.{low_half, high_half, middle_digit}
 use Rattle.ed_checker.proofs.Paths.{IsSaved, Work, Around, cells, cells_with, pairs, moment}

@@ -3,13 +3,13 @@
 use Rattle.std.proofs.Common.{◌≡◌, ℕ, ◌+◌, ◌-◌, ◌*◌, ◌/◌, ◌%◌, ◌^◌, ◌<◌, ◌≤◌, refl, arith}
 use Rattle.std.proofs.Common.{lit<, Bool, nat_eq, List, [], ◌∷◌, Option, Some, get_or}
 use Rattle.ed_words.specs.declared.order_words.TheConstants.{A_D, A_F, E_F, G_F, L_F, O_F, R_F, S_D, S_F, T_D, T_F, U_D, U_F}
-use Rattle.ed_paths.proofs.Sums.{parted}
-use Rattle.ed_paths.proofs.Frames.{Frame, Moment}
-use Rattle.ed_paths.proofs.Places.{IsOutside, own, out, pair}
-use Rattle.ed_paths.proofs.Orders.{word_is}
-use Rattle.ed_paths.proofs.Shifts.{RF, R4F, LF, L64F}
-use Rattle.ed_paths.proofs.Moves.{A, S, T_top, U_top, R, L, E_jumps, E_stays, G_jumps, G_stays, O}
-use Rattle.ed_paths.proofs.Paths.{Path, stay, on, prints, followed}
+use Rattle.ed_machine.proofs.Kit.Sums.{parted}
+use Rattle.ed_machine.proofs.Kit.Frames.{Frame, Moment}
+use Rattle.ed_machine.proofs.Kit.Places.{IsOutside, own, out, pair}
+use Rattle.ed_machine.proofs.Kit.Orders.{word_is}
+use Rattle.ed_machine.proofs.Kit.Shifts.{RF, R4F, LF, L64F}
+use Rattle.ed_machine.proofs.Kit.Moves.{A, S, T_top, U_top, R, L, E_jumps, E_stays, G_jumps, G_stays, O}
+use Rattle.ed_machine.proofs.Kit.Paths.{Path, stay, on, prints, followed}
 use Rattle.ed_checker.proofs.Saving.{high_of, middle_of, low_of, whole}
 
 -- the routine's changing words: 0, 40, 58 and 59, and its three long words

@@ -21,10 +21,10 @@ use Rattle.ed_checker.specs.Checker.{IsPlainJump, Agree, guest, turn_orders}
 use Rattle.ed_words.proofs.Numbers.{eq_true, eq_false, lt_true, lt_false, le_true, le_false}
 use Rattle.ed_words.specs.declared.order_words.TheConstants.{A_F, L_F}
 use Rattle.ed_checker.proofs.AccFits.{acc_fits}
-use Rattle.ed_paths.proofs.Frames.{Frame, Beside, state}
-use Rattle.ed_paths.proofs.Places.{IsOutside as IsPlaceOutside}
-use Rattle.ed_paths.proofs.Paths.{Path, followed, leads}
-use Rattle.ed_paths.proofs.Window.{get_own}
+use Rattle.ed_machine.proofs.Kit.Frames.{Frame, Beside, state}
+use Rattle.ed_machine.proofs.Kit.Places.{IsOutside as IsPlaceOutside}
+use Rattle.ed_machine.proofs.Kit.Paths.{Path, followed, leads}
+use Rattle.ed_machine.proofs.Kit.Window.{get_own}
 use Rattle.ed_checker.proofs.Saving.{high_of, middle_of, low_of, saved, middle_fits, high_fits as high_of_fits}
 use Rattle.ed_checker.proofs.Halves.{long_fits}
 use Rattle.ed_checker.proofs.Paths.{IsSaved, Work, Around, cells, pairs, moment, fetch, below_E}

@@ -3,7 +3,7 @@
 //!
 //! Contract: a turn obeys one order of the guest as the order table does, and prints its function. A turn takes at most
 //! 35 orders, and leaves the routine ready for the next one. Depends on `ed_machine`, `ed_run`, `ed_library` and
-//! `ed_routines`, and its proofs on `ed_paths`.
+//! `ed_routines`.
 #![tactic(auto)]
 
 mod allowed;

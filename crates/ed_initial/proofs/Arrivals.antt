@@ -12,8 +12,8 @@ use Rattle.ed_initial.specs.Load.{enters}
 use Rattle.ed_initial.specs.Walks.{Event, Blocks, Enters, Rests, Sounds, Goes, event}
 use Rattle.ed_initial.specs.Walks.{event_by, is_rest, IsWalk, WalksTo, IsStray}
 use Rattle.ed_initial.specs.Walks.{blocked, sounded, too_long, WalkEnds, walk_orders}
-use Rattle.ed_paths.proofs.Frames.{Moment}
-use Rattle.ed_paths.proofs.Paths.{first_state}
+use Rattle.ed_machine.proofs.Kit.Frames.{Moment}
+use Rattle.ed_machine.proofs.Kit.Paths.{first_state}
 use Rattle.ed_initial.proofs.Paths.{Kept, state, is_calm, Walk, stay, on, ToRest, ends, Enters as EntersBy}
 use Rattle.ed_initial.proofs.Goes.{along, whole, quiet, passes}
 

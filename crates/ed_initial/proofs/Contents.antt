@@ -4,7 +4,7 @@ use Rattle.std.proofs.Common.{inr, List, ◌++◌, get_or, drop}
 use Rattle.std.proofs.lemmas.Bool.{cases_eq}
 use Rattle.std.proofs.lemmas.List.{get_or-drop}
 use Rattle.ed_notation.specs.Fold.{value_of}
-use Rattle.ed_paths.proofs.Window.{patched, get_right}
+use Rattle.ed_machine.proofs.Kit.Window.{patched, get_right}
 use Rattle.ed_initial.specs.Rests.{Working}
 use Rattle.ed_initial.proofs.Paths.{cells}
 use Rattle.ed_words.proofs.Numbers.{eq_false}

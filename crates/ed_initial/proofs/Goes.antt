@@ -9,9 +9,9 @@ use Rattle.ed_machine.specs.Steps.{state_after, progress}
 use Rattle.std.proofs.Common.{Bool, true, false, ◌&&◌, not, nat_eq}
 use Rattle.std.proofs.lemmas.Bool.{and_parts, not-true}
 use Rattle.ed_orders.specs.declared.kind.Kind.{Kind}
-use Rattle.ed_paths.proofs.Frames.{Moment}
-use Rattle.ed_paths.proofs.Orders.{IsOrder}
-use Rattle.ed_paths.proofs.Moves.{Moves}
+use Rattle.ed_machine.proofs.Kit.Frames.{Moment}
+use Rattle.ed_machine.proofs.Kit.Orders.{IsOrder}
+use Rattle.ed_machine.proofs.Kit.Moves.{Moves}
 use Rattle.ed_initial.specs.Load.{GoesOn, IsQuiet, enters, is_E}
 use Rattle.ed_initial.specs.Walks.{is_rest}
 use Rattle.ed_initial.proofs.Paths.{Kept, piece, state, is_calm, Walk, stay, on, ToRest, ends}

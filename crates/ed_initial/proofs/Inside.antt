@@ -22,7 +22,7 @@ use Rattle.ed_notation.specs.Reading.{letter_effect}
 use Rattle.ed_notation.specs.Reading.{part_word, setting_of, set_by, placed_by, entry_by}
 use Rattle.ed_initial.specs.Rests.{Working, Scratch, working, scratch_of, IsNotationState, IsPartSoFar}
 use Rattle.ed_initial.specs.Entry.{entry_words}
-use Rattle.ed_paths.proofs.Frames.{Moment}
+use Rattle.ed_machine.proofs.Kit.Frames.{Moment}
 use Rattle.ed_initial.proofs.Paths.{Kept, Walk, ToRest, moment, Enters as EntersBy}
 use Rattle.ed_initial.proofs.Paths.{digit_path, mark_path, kay_directive_path}
 use Rattle.ed_initial.proofs.Paths.{kay_theta_path, zed_directive_path}

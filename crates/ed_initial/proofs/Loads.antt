@@ -18,7 +18,7 @@ use Rattle.ed_notation.proofs.Follow.{Reader, reads, passed, follow}
 use Rattle.ed_initial.specs.Rests.{Scratch, working, IsNotationState, IsPartSoFar}
 use Rattle.ed_initial.specs.Entry.{entry_words}
 use Rattle.ed_initial.specs.Load.{enters}
-use Rattle.ed_paths.proofs.Frames.{Moment}
+use Rattle.ed_machine.proofs.Kit.Frames.{Moment}
 use Rattle.ed_initial.proofs.Paths.{Kept, state, ToRest, moment, function_path}
 use Rattle.ed_initial.proofs.Goes.{Goes, joined, along, whole}
 use Rattle.ed_words.proofs.Numbers.{lt_of}

@@ -9,8 +9,8 @@ use Rattle.ed_notation.specs.Openings.{opening}
 use Rattle.ed_initial.specs.Listing.{initial_orders}
 use Rattle.ed_initial.specs.Rests.{Working, Scratch, IsNotationState}
 use Rattle.ed_initial.specs.Entry.{IsStarted}
-use Rattle.ed_paths.proofs.Frames.{Moment, same_state}
-use Rattle.ed_paths.proofs.Window.{patched, patched_one, headed}
+use Rattle.ed_machine.proofs.Kit.Frames.{Moment, same_state}
+use Rattle.ed_machine.proofs.Kit.Window.{patched, patched_one, headed}
 use Rattle.ed_initial.proofs.Paths.{Kept, state, ToRest, cells, moment, start_path}
 use Rattle.ed_initial.proofs.Inside.{between}
 

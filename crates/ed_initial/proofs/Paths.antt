@@ -14,11 +14,11 @@ use Rattle.ed_machine.specs.OrderTable.{step}
 use Rattle.ed_machine.specs.declared.turn.Turn.TheVariants.{Went}
 use Rattle.ed_words.proofs.Numbers.{lt_true}
 use Rattle.ed_words.specs.declared.order_words.TheConstants.{A_F, E_F, L_D, T_F, V_F}
-use Rattle.ed_paths.proofs.Frames.{Frame, Moment, all_words, short, state as piece_state}
-use Rattle.ed_paths.proofs.Places.{own, out, pair, any}
-use Rattle.ed_paths.proofs.Orders.{word_is}
-use Rattle.ed_paths.proofs.Shifts.{R4F, R16F, LD, L8F}
-use Rattle.ed_paths.proofs.Moves.{Moves, A, S, T, T_top, I, H, E_jumps, E_stays, G_jumps, G_stays, R, L, V}
+use Rattle.ed_machine.proofs.Kit.Frames.{Frame, Moment, all_words, short, state as piece_state}
+use Rattle.ed_machine.proofs.Kit.Places.{own, out, pair, any}
+use Rattle.ed_machine.proofs.Kit.Orders.{word_is}
+use Rattle.ed_machine.proofs.Kit.Shifts.{R4F, R16F, LD, L8F}
+use Rattle.ed_machine.proofs.Kit.Moves.{Moves, A, S, T, T_top, I, H, E_jumps, E_stays, G_jumps, G_stays, R, L, V}
 use Rattle.ed_initial.specs.Load.{is_E, enters}
 use Rattle.ed_initial.specs.Rests.{Working}
 use Rattle.ed_initial.specs.Walks.{is_rest}

@@ -17,7 +17,7 @@ use Rattle.ed_initial.specs.declared.resting.Rested.TheVariants.{At}
 use Rattle.ed_initial.specs.Rests.{Scratch, working, scratch_of, rest34, rest9, rest_at, IsNotationState, IsPartSoFar}
 use Rattle.ed_initial.specs.Entry.{IsStarted}
 use Rattle.ed_initial.specs.Walks.{WalkEnds, walk_orders, Between, Inside, DoesRow, is_rest}
-use Rattle.ed_paths.proofs.Frames.{Moment}
+use Rattle.ed_machine.proofs.Kit.Frames.{Moment}
 use Rattle.ed_initial.proofs.Paths.{Kept, state, ToRest, function_path}
 use Rattle.ed_initial.proofs.Inside.{between, inside, AtRow, Follows, follows}
 use Rattle.ed_initial.proofs.Opened.{frame, opened, first_path, first_scratch, shown}

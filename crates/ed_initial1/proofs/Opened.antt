@@ -13,8 +13,8 @@ use Rattle.ed_orders.specs.Kinds.{kind_of_function}
 use Rattle.ed_machine.specs.State.{State}
 use Rattle.ed_machine.specs.OrderTable.{step, next_word, obey_word}
 use Rattle.ed_notation.specs.Items.{digits_number}
-use Rattle.ed_paths.proofs.Frames.{Moment, same_state}
-use Rattle.ed_paths.proofs.Window.{patched, patched_one, headed}
+use Rattle.ed_machine.proofs.Kit.Frames.{Moment, same_state}
+use Rattle.ed_machine.proofs.Kit.Window.{patched, patched_one, headed}
 use Rattle.ed_initial1.specs.Listing.{first_orders}
 use Rattle.ed_initial1.specs.Items.{Item1, item_number, words, word1, costs1, item_digits, last_of, IsFirst}
 use Rattle.ed_initial1.specs.Entry.{IsStarted1, at_entry1}

@@ -9,11 +9,11 @@ use Rattle.ed_orders.specs.declared.kind.Kind.TheVariants.{T as KindT}
 use Rattle.ed_words.specs.Words.{digit}
 use Rattle.ed_words.specs.declared.order_words.TheConstants.{A_F, I_F, L_D, T_D, T_F}
 use Rattle.ed_initial1.specs.Items.{Item1, ending_row, word1}
-use Rattle.ed_paths.proofs.Frames.{Frame, Moment, short}
-use Rattle.ed_paths.proofs.Places.{own, out, pair}
-use Rattle.ed_paths.proofs.Orders.{word_is}
-use Rattle.ed_paths.proofs.Shifts.{R4F, R16F, LD, L8F}
-use Rattle.ed_paths.proofs.Moves.{Moves, A, S, T, T_top, U, H, V, I, R, L, E_jumps, E_stays, G_jumps, G_stays}
+use Rattle.ed_machine.proofs.Kit.Frames.{Frame, Moment, short}
+use Rattle.ed_machine.proofs.Kit.Places.{own, out, pair}
+use Rattle.ed_machine.proofs.Kit.Orders.{word_is}
+use Rattle.ed_machine.proofs.Kit.Shifts.{R4F, R16F, LD, L8F}
+use Rattle.ed_machine.proofs.Kit.Moves.{Moves, A, S, T, T_top, U, H, V, I, R, L, E_jumps, E_stays, G_jumps, G_stays}
 
 -- the 31 orders and the first word after them, at 0 of a store of full size, with the digit of the pair 0, 1
 abbrev pub piece : Frame 32 0

@@ -7,7 +7,7 @@ use Rattle.ed_words.specs.Words.{digit}
 use Rattle.ed_words.specs.declared.order_words.TheConstants.{T_F}
 use Rattle.ed_notation.specs.Items.{digits_number, AreDigits}
 use Rattle.ed_notation.proofs.Follow.{number_le}
-use Rattle.ed_paths.proofs.Frames.{short}
+use Rattle.ed_machine.proofs.Kit.Frames.{short}
 use Rattle.ed_initial1.specs.Items.{Item1, item_number, ending_row, rows_of1, spelled_rows1, IsBegun1, AreItems, word1}
 use Rattle.ed_initial1.specs.Items.{words, costs1}
 use Rattle.ed_initial1.specs.Items.{last_of, IsFirst}

@@ -4,9 +4,9 @@ use Rattle.ed_machine.specs.State.{State}
 use Rattle.ed_machine.specs.OrderTable.{Obeyed, step}
 use Rattle.ed_machine.specs.Steps.{state_after, progress}
 use Rattle.ed_machine.specs.declared.turn.Turn.TheVariants.{Went}
-use Rattle.ed_paths.proofs.Frames.{Moment, state as piece_state}
-use Rattle.ed_paths.proofs.Paths.{Path, stay as path_stays, on as path_on, followed as paths_followed, leads, no_state}
-use Rattle.ed_paths.proofs.Paths.{first_state}
+use Rattle.ed_machine.proofs.Kit.Frames.{Moment, state as piece_state}
+use Rattle.ed_machine.proofs.Kit.Paths.{Path, stay as path_stays, on as path_on, followed as paths_followed, leads, no_state}
+use Rattle.ed_machine.proofs.Kit.Paths.{first_state}
 use Rattle.ed_initial1.specs.Load.{GoesOn1, IsQuiet1, at_31}
 use Rattle.ed_initial1.proofs.Paths.{piece, Walk, stay, on, ToProgram, ends}
 

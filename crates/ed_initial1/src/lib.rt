@@ -1,7 +1,7 @@
 //! Initial Orders 1 of May 1949: the 31 words, what a tape in their notation means, and what they do with it.
 //!
 //! Contract: a tape without a fault is loaded as its items mean, at its cost; every other tape has one fault. The
-//! orders are obeyed one by one, and `check1` answers the fault. Depends on `ed_initial`, `ed_notation` and `ed_paths`.
+//! orders are obeyed one by one, and `check1` answers the fault. Depends on `ed_initial` and `ed_notation`.
 #![tactic(auto)]
 
 mod cause;

@@ -7,10 +7,10 @@ use Rattle.ed_store.specs.Cells.{IsStore}
 use Rattle.ed_machine.specs.State.{State}
 use Rattle.ed_initial.specs.Listing.{initial_orders}
 use Rattle.ed_initial.specs.Rests.{Working}
-use Rattle.ed_paths.proofs.Frames.{Moment, same_state}
-use Rattle.ed_paths.proofs.Window.{patched, patched_one, headed}
-use Rattle.ed_paths.proofs.Places.{own}
-use Rattle.ed_paths.proofs.Moves.{T_top, E_jumps}
+use Rattle.ed_machine.proofs.Kit.Frames.{Moment, same_state}
+use Rattle.ed_machine.proofs.Kit.Window.{patched, patched_one, headed}
+use Rattle.ed_machine.proofs.Kit.Places.{own}
+use Rattle.ed_machine.proofs.Kit.Moves.{T_top, E_jumps}
 use Rattle.ed_initial.proofs.Paths.{Kept, ToRest, ends, on, stay, state, cells, moment}
 use Rattle.ed_initial.proofs.Opened.{frame}
 use Rattle.ed_interlude.specs.Returned.{IsReturned}

@@ -4,3 +4,4 @@ pub mod Keeping
 pub mod LeastNumbers
 pub mod SoundSteps
 pub mod Steps
+pub mod Kit

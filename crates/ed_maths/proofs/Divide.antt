@@ -8,12 +8,12 @@ use Rattle.std.proofs.lemmas.List.{get_or-set_same}
 use Rattle.ed_words.specs.Words.{long_of_halves}
 use Rattle.ed_words.proofs.SizeLemmas.{most}
 use Rattle.ed_words.specs.declared.order_words.TheConstants.{A_D, A_F, E_F, G_F, L_D, L_F, R_D, R_F, S_F, T_D, T_F, U_F}
-use Rattle.ed_paths.proofs.Frames.{Moment, short, long}
-use Rattle.ed_paths.proofs.Places.{IsOutside, early, own, pair, out, any}
-use Rattle.ed_paths.proofs.Shifts.{RF, RD, LD, LF, L2F}
-use Rattle.ed_paths.proofs.Sums.{parted}
-use Rattle.ed_paths.proofs.Moves.{A, S, T, T_top, U, U_top, R, L, E_jumps, E_stays, G_jumps, G_stays}
-use Rattle.ed_paths.proofs.Paths.{Path, stay, on, followed}
+use Rattle.ed_machine.proofs.Kit.Frames.{Moment, short, long}
+use Rattle.ed_machine.proofs.Kit.Places.{IsOutside, early, own, pair, out, any}
+use Rattle.ed_machine.proofs.Kit.Shifts.{RF, RD, LD, LF, L2F}
+use Rattle.ed_machine.proofs.Kit.Sums.{parted}
+use Rattle.ed_machine.proofs.Kit.Moves.{A, S, T, T_top, U, U_top, R, L, E_jumps, E_stays, G_jumps, G_stays}
+use Rattle.ed_machine.proofs.Kit.Paths.{Path, stay, on, followed}
 use Rattle.ed_routines.proofs.Called.{Call, moment}
 use Rattle.ed_maths.proofs.Quotient.{bit, next, numbers, quotient, decided}
 use Rattle.ed_maths.proofs.Quotient.{small as small_quotient, hit, hits, hits_ones}

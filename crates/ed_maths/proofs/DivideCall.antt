@@ -9,13 +9,13 @@ use Rattle.ed_orders.specs.declared.kind.Kind.{Kind}
 use Rattle.ed_store.specs.Cells.{short_at}
 use Rattle.ed_machine.specs.State.{State}
 use Rattle.ed_machine.specs.Steps.{state_after}
-use Rattle.ed_paths.proofs.Frames.{Frame, state, short}
-use Rattle.ed_paths.proofs.Places.{IsOutside as IsBeside}
-use Rattle.ed_paths.proofs.Orders.{IsOrder}
-use Rattle.ed_paths.proofs.Paths.{Path, leads, each}
-use Rattle.ed_paths.proofs.Leads.{Leads}
-use Rattle.ed_paths.proofs.Standing.{Holds, opens}
-use Rattle.ed_paths.proofs.Window.{patched, patched_self, get_below, get_above, length_patched}
+use Rattle.ed_machine.proofs.Kit.Frames.{Frame, state, short}
+use Rattle.ed_machine.proofs.Kit.Places.{IsOutside as IsBeside}
+use Rattle.ed_machine.proofs.Kit.Orders.{IsOrder}
+use Rattle.ed_machine.proofs.Kit.Paths.{Path, leads, each}
+use Rattle.ed_machine.proofs.Kit.Leads.{Leads}
+use Rattle.ed_machine.proofs.Kit.Standing.{Holds, opens}
+use Rattle.ed_machine.proofs.Kit.Window.{patched, patched_self, get_below, get_above, length_patched}
 use Rattle.ed_routines.specs.Standing.{Stands, IsOutside, caller}
 use Rattle.ed_routines.specs.Returns.{IsOther}
 use Rattle.ed_routines.proofs.Image.{Makes, none, more}

@@ -4,11 +4,11 @@ use Rattle.std.proofs.Common.{◌≡◌, ℕ, zero, suc, ◌+◌, ◌-◌, ◌*�
 use Rattle.std.proofs.Common.{List, [], ◌∷◌, get_or, set, length, lit<}
 use Rattle.ed_words.proofs.SizeLemmas.{most}
 use Rattle.ed_words.specs.declared.order_words.TheConstants.{A_F, E_F, G_F, R_D, S_F, T_F}
-use Rattle.ed_paths.proofs.Frames.{Moment, short}
-use Rattle.ed_paths.proofs.Places.{IsOutside, early, own, out, any}
-use Rattle.ed_paths.proofs.Shifts.{RD}
-use Rattle.ed_paths.proofs.Moves.{A, S, T, T_top, R, E_jumps, G_jumps, G_stays}
-use Rattle.ed_paths.proofs.Paths.{Path, stay, on, followed}
+use Rattle.ed_machine.proofs.Kit.Frames.{Moment, short}
+use Rattle.ed_machine.proofs.Kit.Places.{IsOutside, early, own, out, any}
+use Rattle.ed_machine.proofs.Kit.Shifts.{RD}
+use Rattle.ed_machine.proofs.Kit.Moves.{A, S, T, T_top, R, E_jumps, G_jumps, G_stays}
+use Rattle.ed_machine.proofs.Kit.Paths.{Path, stay, on, followed}
 use Rattle.ed_routines.proofs.Called.{Call, moment}
 
 -- the words that change: the order that returns, what is left of the number, and the next odd number

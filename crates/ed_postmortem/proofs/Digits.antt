@@ -4,7 +4,7 @@ use Rattle.std.proofs.Common.{ap, sym, ◌∙◌, arith, Bool, true, false, ◌|
 use Rattle.std.proofs.Common.{if◌then◌else◌, nat_lt, nat_le, List, [], ◌∷◌, ◌++◌, length, length-append}
 use Rattle.std.proofs.lemmas.Bool.Decides.{nat_tests}
 use Rattle.ed_notation.specs.Spellings.{digit_at}
-use Rattle.ed_paths.proofs.Zeros.{shown, begun}
+use Rattle.ed_machine.proofs.Kit.Zeros.{shown, begun}
 use Rattle.ed_postmortem.specs.Codes.{digits_before_units, digit_sum}
 
 -- what is printed of the digits are the digits shown

@@ -10,17 +10,17 @@ use Rattle.ed_words.proofs.SizeLemmas.{most}
 use Rattle.ed_words.specs.declared.order_words.TheConstants.{C_F, O_F, S_F, V_F, Z_F}
 use Rattle.ed_orders.specs.declared.kind.Kind.TheVariants.{Z as KindZ}
 use Rattle.ed_machine.specs.declared.turn.Turn.TheVariants.{Stopped}
-use Rattle.ed_paths.proofs.Sums.{common_4095, common_1}
-use Rattle.ed_paths.proofs.Shifts.{L512F}
-use Rattle.ed_paths.proofs.Frames.{Frame, Moment, short}
-use Rattle.ed_paths.proofs.Places.{IsOutside, early, own, out}
-use Rattle.ed_paths.proofs.Orders.{Does, there_is}
-use Rattle.ed_paths.proofs.Moves.{A, S, T, U, O, H, C, L, Z, E_jumps, E_stays, G_jumps, G_stays}
-use Rattle.ed_paths.proofs.Paths.{Path, stay, on, prints, followed}
+use Rattle.ed_machine.proofs.Kit.Sums.{common_4095, common_1}
+use Rattle.ed_machine.proofs.Kit.Shifts.{L512F}
+use Rattle.ed_machine.proofs.Kit.Frames.{Frame, Moment, short}
+use Rattle.ed_machine.proofs.Kit.Places.{IsOutside, early, own, out}
+use Rattle.ed_machine.proofs.Kit.Orders.{Does, there_is}
+use Rattle.ed_machine.proofs.Kit.Moves.{A, S, T, U, O, H, C, L, Z, E_jumps, E_stays, G_jumps, G_stays}
+use Rattle.ed_machine.proofs.Kit.Paths.{Path, stay, on, prints, followed}
 use Rattle.ed_postmortem.specs.Codes.{address_digits, is_even, length_code, length_orders, number_in, word_codes}
 use Rattle.ed_postmortem.specs.Codes.{word_orders}
 use Rattle.ed_postmortem.specs.Codes.{printed_codes, words_orders}
-use Rattle.ed_paths.proofs.Zeros.{flag_of, shown, begun, spared, last_of, taken_away}
+use Rattle.ed_machine.proofs.Kit.Zeros.{flag_of, shown, begun, spared, last_of, taken_away}
 use Rattle.ed_postmortem.proofs.Digits.{began, Digits, digits_are}
 
 -- the cells that change

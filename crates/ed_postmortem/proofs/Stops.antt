@@ -15,7 +15,7 @@ use Rattle.ed_run.specs.Run.{EndsAfter, IsRun}
 use Rattle.ed_run.specs.Laws.{HasRoom}
 use Rattle.ed_run.proofs.Ends.{ends_once}
 use Rattle.ed_run.proofs.Places.{at_stop}
-use Rattle.ed_paths.proofs.Leads.{Leads, free, no_stops}
+use Rattle.ed_machine.proofs.Kit.Leads.{Leads, free, no_stops}
 
 -- k orders lead from s to t, and the next one stops the machine and leaves u
 module _ {k : ℕ} {s t u : State} {codes : List ℕ} (l : Leads k s codes t)

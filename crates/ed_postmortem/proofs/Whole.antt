@@ -23,11 +23,11 @@ use Rattle.ed_initial.specs.Load.{orders_of}
 use Rattle.ed_initial.specs.Rests.{initial_words}
 use Rattle.ed_initial.specs.declared.loading.Loaded.{Loaded}
 use Rattle.ed_run.specs.Run.{IsRun}
-use Rattle.ed_paths.proofs.Frames.{Frame, Moment, state}
-use Rattle.ed_paths.proofs.Leads.{Leads}
+use Rattle.ed_machine.proofs.Kit.Frames.{Frame, Moment, state}
+use Rattle.ed_machine.proofs.Kit.Leads.{Leads}
 use Rattle.ed_machine.proofs.Steps.{after_sum}
-use Rattle.ed_paths.proofs.Paths.{leads}
-use Rattle.ed_paths.proofs.Window.{patched, get_below, get_above}
+use Rattle.ed_machine.proofs.Kit.Paths.{leads}
+use Rattle.ed_machine.proofs.Kit.Window.{patched, get_below, get_above}
 use Rattle.ed_postmortem.specs.Answers.{IsUntouched, InRange, IsPrinted, begun_on, needed_of, room_of}
 use Rattle.ed_postmortem.specs.Codes.{printed_codes, words_orders}
 use Rattle.ed_postmortem.specs.Tape.{tape_rows}

@@ -9,12 +9,12 @@ use Rattle.ed_words.proofs.SizeLemmas.{most}
 use Rattle.ed_words.specs.declared.order_words.TheConstants.{A_F}
 use Rattle.ed_machine.specs.State.{State}
 use Rattle.ed_library.specs.Routines.{is_working, place_count}
-use Rattle.ed_paths.proofs.Frames.{Frame, Moment, all_digits, all_words, state, short}
-use Rattle.ed_paths.proofs.Leads.{Leads, joined}
-use Rattle.ed_paths.proofs.Moves.{A, G_jumps, Reads, Jumps}
-use Rattle.ed_paths.proofs.Paths.{Path, leads, on, stay}
-use Rattle.ed_paths.proofs.Places.{any, own}
-use Rattle.ed_paths.proofs.Window.{patched, patched_self, get_own}
+use Rattle.ed_machine.proofs.Kit.Frames.{Frame, Moment, all_digits, all_words, state, short}
+use Rattle.ed_machine.proofs.Kit.Leads.{Leads, joined}
+use Rattle.ed_machine.proofs.Kit.Moves.{A, G_jumps, Reads, Jumps}
+use Rattle.ed_machine.proofs.Kit.Paths.{Path, leads, on, stay}
+use Rattle.ed_machine.proofs.Kit.Places.{any, own}
+use Rattle.ed_machine.proofs.Kit.Window.{patched, patched_self, get_own}
 use Rattle.ed_routines.specs.Catalogue.{read, with_h}
 use Rattle.ed_routines.specs.Digits.{after_digits, digit_rows, digits, digits_value}
 use Rattle.ed_routines.proofs.Digits.{digits_law}

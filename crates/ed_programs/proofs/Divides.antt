@@ -10,10 +10,10 @@ use Rattle.ed_words.specs.declared.order_words.TheConstants.{A_F}
 use Rattle.ed_store.specs.Cells.{short_at}
 use Rattle.ed_machine.specs.State.{State}
 use Rattle.ed_library.specs.Routines.{is_working, place_count}
-use Rattle.ed_paths.proofs.Frames.{Frame, Moment, all_words, short, state}
-use Rattle.ed_paths.proofs.Moves.{Jumps, Reads}
-use Rattle.ed_paths.proofs.Places.{any, own}
-use Rattle.ed_paths.proofs.Window.{get_own, length_patched}
+use Rattle.ed_machine.proofs.Kit.Frames.{Frame, Moment, all_words, short, state}
+use Rattle.ed_machine.proofs.Kit.Moves.{Jumps, Reads}
+use Rattle.ed_machine.proofs.Kit.Places.{any, own}
+use Rattle.ed_machine.proofs.Kit.Window.{get_own, length_patched}
 use Rattle.ed_routines.specs.Returns.{IsOther}
 use Rattle.ed_routines.specs.Standing.{IsOutside, Stands}
 use Rattle.ed_routines.proofs.Called.{within_size}

@@ -3,12 +3,12 @@ use Rattle.std.proofs.Common.{◌≡◌, ◌∙◌, inl, inr, ℕ, suc, ◌+◌,
 use Rattle.std.proofs.Common.{List, [], ◌∷◌, ◌++◌, Some, append-nil, length}
 use Rattle.ed_words.proofs.SizeLemmas.{most}
 use Rattle.ed_words.specs.declared.order_words.TheConstants.{A_F, E_F, G_F, L_D, O_F, S_F, T_F, U_F, Z_F}
-use Rattle.ed_paths.proofs.Frames.{Frame, Moment, short}
-use Rattle.ed_paths.proofs.Places.{own}
-use Rattle.ed_paths.proofs.Moves.{A, S, T, U, L, E_jumps, G_stays}
-use Rattle.ed_paths.proofs.Shifts.{LD, L1F}
-use Rattle.ed_paths.proofs.Paths.{Path, stay, on}
-use Rattle.ed_paths.proofs.Window.{get_own}
+use Rattle.ed_machine.proofs.Kit.Frames.{Frame, Moment, short}
+use Rattle.ed_machine.proofs.Kit.Places.{own}
+use Rattle.ed_machine.proofs.Kit.Moves.{A, S, T, U, L, E_jumps, G_stays}
+use Rattle.ed_machine.proofs.Kit.Shifts.{LD, L1F}
+use Rattle.ed_machine.proofs.Kit.Paths.{Path, stay, on}
+use Rattle.ed_machine.proofs.Kit.Window.{get_own}
 use Rattle.ed_routines.specs.Catalogue.{print, read, with_h}
 use Rattle.ed_routines.specs.Digits.{digits, print_orders}
 use Rattle.ed_maths.specs.Quotients.{divide, divide_orders, with_hnm}

@@ -7,10 +7,10 @@ use Rattle.std.proofs.Math.Nat.{mul_assoc, pow-succ'}
 use Rattle.std.specs.Fmt.{decimal}
 use Rattle.ed_words.specs.Texts.{Text}
 use Rattle.ed_words.specs.declared.order_words.TheConstants.{Z_F}
-use Rattle.ed_paths.proofs.Frames.{Moment, short, state}
-use Rattle.ed_paths.proofs.Places.{own}
-use Rattle.ed_paths.proofs.Moves.{A, S, T, O, G_jumps, Z}
-use Rattle.ed_paths.proofs.Paths.{Path, stay, on, prints}
+use Rattle.ed_machine.proofs.Kit.Frames.{Moment, short, state}
+use Rattle.ed_machine.proofs.Kit.Places.{own}
+use Rattle.ed_machine.proofs.Kit.Moves.{A, S, T, O, G_jumps, Z}
+use Rattle.ed_machine.proofs.Kit.Paths.{Path, stay, on, prints}
 use Rattle.ed_printer.specs.Paper.{paper, paper_from}
 use Rattle.ed_printer.specs.declared.printer.Shift.TheVariants.{Figures}
 use Rattle.ed_routines.specs.Digits.{digits, print_orders}

@@ -6,17 +6,17 @@ use Rattle.std.specs.Prelude.{if◌then◌else◌}
 use Rattle.ed_words.proofs.Numbers.{lt_of, not_lt_of}
 use Rattle.ed_words.proofs.SizeLemmas.{most}
 use Rattle.ed_words.specs.declared.order_words.TheConstants.{A_F, G_F, S_F, T_F, U_F, Z_F}
-use Rattle.ed_paths.proofs.Frames.{Frame, Moment, short, state}
-use Rattle.ed_paths.proofs.Places.{IsOutside, early, own, out}
-use Rattle.ed_paths.proofs.Moves.{A, S, T, U, G_jumps, G_stays, Z}
-use Rattle.ed_paths.proofs.Paths.{Path, stay, on, followed}
-use Rattle.ed_paths.proofs.Window.{get_own}
+use Rattle.ed_machine.proofs.Kit.Frames.{Frame, Moment, short, state}
+use Rattle.ed_machine.proofs.Kit.Places.{IsOutside, early, own, out}
+use Rattle.ed_machine.proofs.Kit.Moves.{A, S, T, U, G_jumps, G_stays, Z}
+use Rattle.ed_machine.proofs.Kit.Paths.{Path, stay, on, followed}
+use Rattle.ed_machine.proofs.Kit.Window.{get_own}
 use Rattle.ed_routines.specs.Catalogue.{print, with_h}
 use Rattle.ed_routines.specs.Digits.{digits, print_orders}
 use Rattle.ed_programs.specs.Greatest.{greatest_of, rises}
 use Rattle.ed_routines.proofs.Journeys.{ComesToStop, HasRoutine, IsIn, along, then, to_stop}
 use Rattle.ed_routines.proofs.Lines.{print_line}
-use Rattle.ed_paths.proofs.Loops.{all_spent, quiet_walks, walked}
+use Rattle.ed_machine.proofs.Kit.Loops.{all_spent, quiet_walks, walked}
 
 -- the order that gets the word at q
 abbrev pub getting : ℕ → ℕ

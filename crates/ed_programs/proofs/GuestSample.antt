@@ -14,7 +14,7 @@ use Rattle.ed_orders.specs.Kinds.{kind_of_function}
 use Rattle.ed_orders.specs.declared.kind.Kind.TheVariants.{O}
 use Rattle.ed_machine.specs.State.{State}
 use Rattle.ed_machine.specs.OrderTable.{next_word, obey_word, step}
-use Rattle.ed_paths.proofs.Leads.{first_order}
+use Rattle.ed_machine.proofs.Kit.Leads.{first_order}
 use Rattle.ed_machine.specs.Steps.{codes_of, is_obeyed, progress, state_after, stops_of}
 use Rattle.ed_machine.specs.declared.turn.Turn.TheVariants.{Printed, Stopped}
 use Rattle.ed_machine.proofs.Steps.{no_step}

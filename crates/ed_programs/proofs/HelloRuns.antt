@@ -17,7 +17,7 @@ use Rattle.ed_symbols.specs.Faults.{resolution}
 use Rattle.ed_symbols.specs.Places.{even_from, first_counter}
 use Rattle.ed_link.specs.Private.FaultTests.{extent, fault, fault_from, missing, sooner}
 use Rattle.ed_link.specs.Linked.{symbols_of, linked_words}
-use Rattle.ed_paths.proofs.Places.{IsOutside}
+use Rattle.ed_machine.proofs.Kit.Places.{IsOutside}
 use Rattle.ed_routines.proofs.Lines.{newline_line}
 use Rattle.ed_sources.proofs.Blocks.{order_at}
 use Rattle.ed_sources.proofs.Said.{order, said, stop}

@@ -24,13 +24,13 @@ use Rattle.ed_initial.specs.Rests.{initial_words}
 use Rattle.ed_interlude.specs.Returned.{AreListed, IsReturned, directive, reopening}
 use Rattle.ed_loads.specs.EntryState.{first_state}
 use Rattle.ed_loads.proofs.Entries.{all_fit}
-use Rattle.ed_paths.proofs.Frames.{Frame, Moment, short, state}
-use Rattle.ed_paths.proofs.Leads.{Leads}
-use Rattle.ed_paths.proofs.Moves.{A, E_jumps, O, U, Z}
-use Rattle.ed_paths.proofs.Paths.{Path, leads, on, prints, stay}
-use Rattle.ed_paths.proofs.Places.{any, early, out, own}
-use Rattle.ed_paths.proofs.Standing.{Holds, filled, opens}
-use Rattle.ed_paths.proofs.Window.{patched}
+use Rattle.ed_machine.proofs.Kit.Frames.{Frame, Moment, short, state}
+use Rattle.ed_machine.proofs.Kit.Leads.{Leads}
+use Rattle.ed_machine.proofs.Kit.Moves.{A, E_jumps, O, U, Z}
+use Rattle.ed_machine.proofs.Kit.Paths.{Path, leads, on, prints, stay}
+use Rattle.ed_machine.proofs.Kit.Places.{any, early, out, own}
+use Rattle.ed_machine.proofs.Kit.Standing.{Holds, filled, opens}
+use Rattle.ed_machine.proofs.Kit.Window.{patched}
 use Rattle.ed_routines.proofs.Journeys.{ComesToStop, along, to_stop}
 use Rattle.ed_sources.proofs.Decimals.{among, numbers}
 use Rattle.ed_programs.proofs.InterludeLoads.{from_return, interlude_note, program_note, program_placed}

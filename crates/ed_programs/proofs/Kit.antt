@@ -15,12 +15,12 @@ pub use Rattle.ed_lines.specs.declared.program.Line.{Line}
 pub use Rattle.ed_loads.specs.EntryState.{entry_state}
 pub use Rattle.ed_printer.specs.Paper.{paper}
 pub use Rattle.ed_command.specs.declared.command.Settings.{Settings}
-pub use Rattle.ed_paths.proofs.Frames.{Frame, Moment, short, state}
-pub use Rattle.ed_paths.proofs.Places.{any, early, out, own}
-pub use Rattle.ed_paths.proofs.Orders.{word_is}
-pub use Rattle.ed_paths.proofs.Moves.{A, S, T, U, O, E_jumps, E_stays, G_jumps, G_stays, Jumps, Reads, Z}
-pub use Rattle.ed_paths.proofs.Paths.{Path, followed, on, prints, stay}
-pub use Rattle.ed_paths.proofs.Window.{get_own}
+pub use Rattle.ed_machine.proofs.Kit.Frames.{Frame, Moment, short, state}
+pub use Rattle.ed_machine.proofs.Kit.Places.{any, early, out, own}
+pub use Rattle.ed_machine.proofs.Kit.Orders.{word_is}
+pub use Rattle.ed_machine.proofs.Kit.Moves.{A, S, T, U, O, E_jumps, E_stays, G_jumps, G_stays, Jumps, Reads, Z}
+pub use Rattle.ed_machine.proofs.Kit.Paths.{Path, followed, on, prints, stay}
+pub use Rattle.ed_machine.proofs.Kit.Window.{get_own}
 pub use Rattle.ed_routines.specs.Catalogue.{newline, print, read, with_h}
 pub use Rattle.ed_routines.specs.Digits.{digits, print_orders}
 pub use Rattle.ed_routines.proofs.Digits.{few_digits}

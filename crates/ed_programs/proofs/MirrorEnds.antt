@@ -13,9 +13,9 @@ use Rattle.ed_notation.specs.Faults.{TapeEntry}
 use Rattle.ed_notation.specs.Reading.{reading_on}
 use Rattle.ed_notation.proofs.Texts.{AreCodes}
 use Rattle.ed_loads.specs.EntryState.{first_state}
-use Rattle.ed_paths.proofs.Frames.{state}
-use Rattle.ed_paths.proofs.Standing.{opens}
-use Rattle.ed_paths.proofs.Window.{patched}
+use Rattle.ed_machine.proofs.Kit.Frames.{state}
+use Rattle.ed_machine.proofs.Kit.Standing.{opens}
+use Rattle.ed_machine.proofs.Kit.Window.{patched}
 use Rattle.ed_routines.proofs.Journeys.{ComesToStop}
 use Rattle.ed_sources.proofs.Decimals.{numbers}
 use Rattle.ed_sources.proofs.Entries.{is_met, moment_at}

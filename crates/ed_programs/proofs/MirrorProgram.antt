@@ -9,13 +9,13 @@ use Rattle.std.proofs.lemmas.List.{length-reverse, reverse-append, get_or-set_sa
 use Rattle.ed_words.proofs.SizeLemmas.{most}
 use Rattle.ed_words.specs.declared.order_words.TheConstants.{A_F, E_F, G_F, I_F, L_D, O_F, R_F, S_F, T_F, U_F, Z_F}
 use Rattle.ed_notation.proofs.Texts.{AreCodes}
-use Rattle.ed_paths.proofs.Frames.{Frame, Moment, short, state}
-use Rattle.ed_paths.proofs.Places.{IsOutside, early, own, out}
-use Rattle.ed_paths.proofs.Moves.{A, S, T, U, I, O, L, Z, E_jumps, E_stays, G_jumps, G_stays}
-use Rattle.ed_paths.proofs.Sums.{Remains}
-use Rattle.ed_paths.proofs.Shifts.{L512F, LD}
-use Rattle.ed_paths.proofs.Paths.{Path, stay, on, prints, followed}
-use Rattle.ed_paths.proofs.Loops.{all_spent, quiet_walks, walked}
+use Rattle.ed_machine.proofs.Kit.Frames.{Frame, Moment, short, state}
+use Rattle.ed_machine.proofs.Kit.Places.{IsOutside, early, own, out}
+use Rattle.ed_machine.proofs.Kit.Moves.{A, S, T, U, I, O, L, Z, E_jumps, E_stays, G_jumps, G_stays}
+use Rattle.ed_machine.proofs.Kit.Sums.{Remains}
+use Rattle.ed_machine.proofs.Kit.Shifts.{L512F, LD}
+use Rattle.ed_machine.proofs.Kit.Paths.{Path, stay, on, prints, followed}
+use Rattle.ed_machine.proofs.Kit.Loops.{all_spent, quiet_walks, walked}
 use Rattle.ed_routines.proofs.Journeys.{ComesToStop, along, to_stop}
 use Rattle.ed_programs.proofs.Kit.{printing}
 

@@ -3,11 +3,11 @@ use Rattle.std.proofs.Common.{◌≡◌, ◌∙◌, ◌⊎◌, inl, inr, ℕ, �
 use Rattle.std.proofs.Common.{◌++◌, refl, Some, append-nil, get_or}
 use Rattle.ed_words.specs.declared.order_words.TheConstants.{A_F}
 use Rattle.ed_library.specs.Routines.{is_working, place_count}
-use Rattle.ed_paths.proofs.Frames.{Frame, Moment, short}
-use Rattle.ed_paths.proofs.Moves.{Jumps, Reads}
-use Rattle.ed_paths.proofs.Paths.{Path}
-use Rattle.ed_paths.proofs.Places.{any, own}
-use Rattle.ed_paths.proofs.Window.{get_own}
+use Rattle.ed_machine.proofs.Kit.Frames.{Frame, Moment, short}
+use Rattle.ed_machine.proofs.Kit.Moves.{Jumps, Reads}
+use Rattle.ed_machine.proofs.Kit.Paths.{Path}
+use Rattle.ed_machine.proofs.Kit.Places.{any, own}
+use Rattle.ed_machine.proofs.Kit.Window.{get_own}
 use Rattle.ed_routines.specs.Catalogue.{newline, print, with_h}
 use Rattle.ed_routines.specs.Digits.{digits, print_orders}
 use Rattle.ed_routines.specs.Returns.{IsOther}

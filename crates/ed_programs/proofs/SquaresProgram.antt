@@ -4,12 +4,12 @@ use Rattle.std.proofs.Common.{List, [], ◌∷◌, Option, Some}
 use Rattle.std.proofs.lemmas.Nat.{mul-le}
 use Rattle.ed_words.specs.declared.size.Size.TheVariants.{Full}
 use Rattle.ed_words.specs.declared.order_words.TheConstants.{A_F, E_F, G_F, O_F, S_F, T_F, Z_F}
-use Rattle.ed_paths.proofs.Frames.{Frame, Moment, short, state}
-use Rattle.ed_paths.proofs.Places.{own}
-use Rattle.ed_paths.proofs.Moves.{A, S, T, O, L, Z, E_jumps, G_jumps, G_stays}
-use Rattle.ed_paths.proofs.Shifts.{L512F}
-use Rattle.ed_paths.proofs.Paths.{Path, stay, on, prints, followed}
-use Rattle.ed_paths.proofs.Loops.{printed, quiet_rounds, varying}
+use Rattle.ed_machine.proofs.Kit.Frames.{Frame, Moment, short, state}
+use Rattle.ed_machine.proofs.Kit.Places.{own}
+use Rattle.ed_machine.proofs.Kit.Moves.{A, S, T, O, L, Z, E_jumps, G_jumps, G_stays}
+use Rattle.ed_machine.proofs.Kit.Shifts.{L512F}
+use Rattle.ed_machine.proofs.Kit.Paths.{Path, stay, on, prints, followed}
+use Rattle.ed_machine.proofs.Kit.Loops.{printed, quiet_rounds, varying}
 use Rattle.ed_routines.proofs.Journeys.{ComesToStop, along, to_stop}
 
 -- the cells that change

@@ -6,8 +6,8 @@ use Rattle.ed_machine.specs.State.{State}
 use Rattle.ed_initial1.specs.Entry.{at_entry1}
 use Rattle.ed_initial1.specs.Faults.{Comes1, Tape}
 use Rattle.ed_initial1.specs.Items.{Item1, spelled_rows1}
-use Rattle.ed_paths.proofs.Frames.{Moment, state}
-use Rattle.ed_paths.proofs.Window.{patched}
+use Rattle.ed_machine.proofs.Kit.Frames.{Moment, state}
+use Rattle.ed_machine.proofs.Kit.Window.{patched}
 use Rattle.ed_routines.proofs.Journeys.{ComesToStop}
 use Rattle.ed_command.specs.declared.command.Settings.{Settings}
 use Rattle.ed_answers.specs.declared.input.TheConstants.{INPUT_BYTES}

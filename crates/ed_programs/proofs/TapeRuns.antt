@@ -24,7 +24,7 @@ use Rattle.ed_initial.proofs.Quiet.{LeadsIn, comes_in}
 use Rattle.ed_run.specs.Run.{RunEnd, run_end}
 use Rattle.ed_run.proofs.Later.{ran_later}
 use Rattle.ed_printer.specs.Paper.{paper}
-use Rattle.ed_paths.proofs.Standing.{Holds}
+use Rattle.ed_machine.proofs.Kit.Standing.{Holds}
 use Rattle.ed_routines.proofs.Journeys.{ComesToStop}
 use Rattle.ed_sources.proofs.Stops.{ran_to_stop}
 use Rattle.ed_sources.proofs.Decimals.{among, numbers}

@@ -30,10 +30,10 @@ use Rattle.ed_interlude.specs.Returned.{ComesBack, IsReturned, directive}
 use Rattle.ed_interlude.proofs.Resumed.{leads_back}
 use Rattle.ed_loads.specs.EntryState.{first_state}
 use Rattle.ed_loads.proofs.Entries.{first_store, starts}
-use Rattle.ed_paths.proofs.Frames.{Frame, Moment, state}
-use Rattle.ed_paths.proofs.Leads.{Leads, free, goes_on, joined, no_stops, obeyed_of}
-use Rattle.ed_paths.proofs.Paths.{Path, no_state, on, prints, stay}
-use Rattle.ed_paths.proofs.Paths as paths
+use Rattle.ed_machine.proofs.Kit.Frames.{Frame, Moment, state}
+use Rattle.ed_machine.proofs.Kit.Leads.{Leads, free, goes_on, joined, no_stops, obeyed_of}
+use Rattle.ed_machine.proofs.Kit.Paths.{Path, no_state, on, prints, stay}
+use Rattle.ed_machine.proofs.Kit.Paths as paths
 use Rattle.ed_routines.proofs.Journeys.{ComesToStop, stop_after}
 use Rattle.ed_report.specs.Entries.{entry_line, returned_line}
 use Rattle.ed_report.specs.Notes.{at_after}

@@ -2,7 +2,7 @@
 //!
 //! Contract: the text of a program for its data, and what `run` (for a tape, `tape`, `tape1` or `parts`) prints for all
 //! of them. The printed text is said in plain mathematics, with the number of orders and the status. Depends on
-//! `ed_top`, and its proofs on the kit of `ed_paths`.
+//! `ed_top`.
 #![tactic(auto)]
 
 mod add;

@@ -10,9 +10,9 @@ use Rattle.ed_words.specs.declared.order_words.TheConstants.{A_F}
 use Rattle.ed_machine.specs.State.{State}
 use Rattle.ed_library.specs.Entries.{entry}
 use Rattle.ed_library.specs.Routines.{missing_row, place_count}
-use Rattle.ed_paths.proofs.Frames.{Beside, Frame, Moment, short, state}
-use Rattle.ed_paths.proofs.Standing.{Holds, IsWorking, filled, merged, opens, unchanged}
-use Rattle.ed_paths.proofs.Window.{patched}
+use Rattle.ed_machine.proofs.Kit.Frames.{Beside, Frame, Moment, short, state}
+use Rattle.ed_machine.proofs.Kit.Standing.{Holds, IsWorking, filled, merged, opens, unchanged}
+use Rattle.ed_machine.proofs.Kit.Window.{patched}
 use Rattle.ed_routines.specs.Catalogue.{with_h}
 use Rattle.ed_routines.specs.Standing.{HasWord, Stands, IsOutside, caller}
 use Rattle.ed_routines.specs.Returns.{IsOther}

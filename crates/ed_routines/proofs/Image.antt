@@ -13,7 +13,7 @@ use Rattle.ed_library.specs.Routines.{table_item}
 use Rattle.ed_library.specs.Images.{parameter_store, routine_word}
 use Rattle.ed_library.specs.declared.tables.TableRow.{TableRow}
 use Rattle.ed_library.proofs.Letters.{value_of_parameter}
-use Rattle.ed_paths.proofs.Standing.{Holds, Meets}
+use Rattle.ed_machine.proofs.Kit.Standing.{Holds, Meets}
 
 -- the word of a row at a base, with H, N, M and so on the locations hs
 abbrev pub row_word : ℕ → List ℕ → TableRow → ℕ

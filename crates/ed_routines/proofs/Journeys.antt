@@ -10,13 +10,13 @@ use Rattle.ed_machine.specs.declared.turn.Turn.TheVariants.{Stopped}
 use Rattle.ed_orders.specs.declared.kind.Kind.TheVariants.{Z as KindZ}
 use Rattle.ed_library.specs.Images.{image_word}
 use Rattle.ed_library.specs.Routines.{is_working, place_count}
-use Rattle.ed_paths.proofs.Frames.{Frame, Moment, all_words, state, short, get_beside}
-use Rattle.ed_paths.proofs.Leads.{Leads, joined}
-use Rattle.ed_paths.proofs.Moves.{A, G_jumps, Reads, Jumps}
-use Rattle.ed_paths.proofs.Orders.{Does}
-use Rattle.ed_paths.proofs.Paths.{Path, leads, on, stay}
-use Rattle.ed_paths.proofs.Places.{any, own}
-use Rattle.ed_paths.proofs.Window.{patched, patched_self, get_own, length_patched}
+use Rattle.ed_machine.proofs.Kit.Frames.{Frame, Moment, all_words, state, short, get_beside}
+use Rattle.ed_machine.proofs.Kit.Leads.{Leads, joined}
+use Rattle.ed_machine.proofs.Kit.Moves.{A, G_jumps, Reads, Jumps}
+use Rattle.ed_machine.proofs.Kit.Orders.{Does}
+use Rattle.ed_machine.proofs.Kit.Paths.{Path, leads, on, stay}
+use Rattle.ed_machine.proofs.Kit.Places.{any, own}
+use Rattle.ed_machine.proofs.Kit.Window.{patched, patched_self, get_own, length_patched}
 use Rattle.ed_routines.specs.Standing.{Stands, caller}
 use Rattle.ed_routines.specs.Returns.{IsOther}
 

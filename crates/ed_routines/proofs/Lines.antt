@@ -4,11 +4,11 @@ use Rattle.std.proofs.Common.{List, [], ◌∷◌, Some, get_or}
 use Rattle.ed_words.specs.Sizes.{locations}
 use Rattle.ed_words.specs.declared.order_words.TheConstants.{A_F, E_F, S_F}
 use Rattle.ed_machine.specs.State.{State}
-use Rattle.ed_paths.proofs.Frames.{Frame, Moment, all_words, state, short}
-use Rattle.ed_paths.proofs.Newline as newline_piece
-use Rattle.ed_paths.proofs.Moves.{Reads, Jumps}
-use Rattle.ed_paths.proofs.Places.{any, own}
-use Rattle.ed_paths.proofs.Zeros.{begun, flag_of, spared}
+use Rattle.ed_machine.proofs.Kit.Frames.{Frame, Moment, all_words, state, short}
+use Rattle.ed_machine.proofs.Kit.Newline as newline_piece
+use Rattle.ed_machine.proofs.Kit.Moves.{Reads, Jumps}
+use Rattle.ed_machine.proofs.Kit.Places.{any, own}
+use Rattle.ed_machine.proofs.Kit.Zeros.{begun, flag_of, spared}
 use Rattle.ed_routines.specs.Catalogue.{newline, print, with_h}
 use Rattle.ed_routines.specs.Digits.{digits, print_orders}
 use Rattle.ed_routines.specs.Standing.{IsOutside, Stands}

@@ -5,10 +5,10 @@ use Rattle.ed_words.specs.declared.order_words.TheConstants.{E_F}
 use Rattle.ed_orders.specs.declared.kind.Kind.{Kind}
 use Rattle.ed_machine.specs.State.{State}
 use Rattle.ed_machine.specs.Steps.{state_after}
-use Rattle.ed_paths.proofs.Leads.{Leads}
-use Rattle.ed_paths.proofs.Window.{patched, length_patched}
-use Rattle.ed_paths.proofs.Orders.{IsOrder}
-use Rattle.ed_paths.proofs.Newline.{IsCalled, cells, newline as newline_leads, keeps_below as newline_keeps}
+use Rattle.ed_machine.proofs.Kit.Leads.{Leads}
+use Rattle.ed_machine.proofs.Kit.Window.{patched, length_patched}
+use Rattle.ed_machine.proofs.Kit.Orders.{IsOrder}
+use Rattle.ed_machine.proofs.Kit.Newline.{IsCalled, cells, newline as newline_leads, keeps_below as newline_keeps}
 use Rattle.ed_routines.specs.Catalogue.{newline}
 use Rattle.ed_routines.specs.Standing.{Stands, caller}
 use Rattle.ed_routines.specs.Returns.{Keeps, Returned}

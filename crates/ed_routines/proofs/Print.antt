@@ -5,13 +5,13 @@ use Rattle.std.proofs.Common.{List, [], ◌∷◌, ◌++◌, Option, Some, get_o
 use Rattle.ed_words.proofs.Numbers.{lt_false, lt_true}
 use Rattle.ed_words.proofs.SizeLemmas.{most}
 use Rattle.ed_words.specs.declared.order_words.TheConstants.{A_F, E_F, G_F, L_D, O_F, S_F, T_F, U_F, V_F}
-use Rattle.ed_paths.proofs.Frames.{Moment, short}
-use Rattle.ed_paths.proofs.Places.{IsOutside, early, own, out, any}
-use Rattle.ed_paths.proofs.Orders.{there_is}
-use Rattle.ed_paths.proofs.Shifts.{LD, L512F}
-use Rattle.ed_paths.proofs.Moves.{A, S, T, U, O, E_jumps, G_jumps, G_stays, L}
-use Rattle.ed_paths.proofs.Paths.{stay, on, prints}
-use Rattle.ed_paths.proofs.Zeros.{flag_of, shown, begun, spared, last_of}
+use Rattle.ed_machine.proofs.Kit.Frames.{Moment, short}
+use Rattle.ed_machine.proofs.Kit.Places.{IsOutside, early, own, out, any}
+use Rattle.ed_machine.proofs.Kit.Orders.{there_is}
+use Rattle.ed_machine.proofs.Kit.Shifts.{LD, L512F}
+use Rattle.ed_machine.proofs.Kit.Moves.{A, S, T, U, O, E_jumps, G_jumps, G_stays, L}
+use Rattle.ed_machine.proofs.Kit.Paths.{stay, on, prints}
+use Rattle.ed_machine.proofs.Kit.Zeros.{flag_of, shown, begun, spared, last_of}
 use Rattle.ed_routines.specs.Digits.{sum, without_zeros}
 use Rattle.ed_routines.proofs.Called.{Call, moment}
 use Rattle.ed_routines.proofs.Digits.{tens}

@@ -7,20 +7,20 @@ use Rattle.ed_orders.specs.declared.kind.Kind.{Kind}
 use Rattle.ed_store.specs.Cells.{short_at}
 use Rattle.ed_machine.specs.State.{State}
 use Rattle.ed_machine.specs.Steps.{state_after}
-use Rattle.ed_paths.proofs.Frames.{Frame, Moment, state}
-use Rattle.ed_paths.proofs.Orders.{IsOrder}
-use Rattle.ed_paths.proofs.Paths.{Path, leads, each}
+use Rattle.ed_machine.proofs.Kit.Frames.{Frame, Moment, state}
+use Rattle.ed_machine.proofs.Kit.Orders.{IsOrder}
+use Rattle.ed_machine.proofs.Kit.Paths.{Path, leads, each}
 use Rattle.ed_routines.proofs.Walks.{Walk, Weights, total, total_of_path, weight}
-use Rattle.ed_paths.proofs.Leads.{Leads}
-use Rattle.ed_paths.proofs.Standing.{Holds}
-use Rattle.ed_paths.proofs.Window.{patched, length_patched}
+use Rattle.ed_machine.proofs.Kit.Leads.{Leads}
+use Rattle.ed_machine.proofs.Kit.Standing.{Holds}
+use Rattle.ed_machine.proofs.Kit.Window.{patched, length_patched}
 use Rattle.ed_routines.specs.Catalogue.{print, with_h}
 use Rattle.ed_routines.specs.Standing.{caller}
 use Rattle.ed_routines.specs.Digits.{digits, print_orders, sum}
 use Rattle.ed_routines.specs.Returns.{Keeps, Returned}
 use Rattle.ed_routines.proofs.Called.{IsCalled, image, holds_h, kept, beside, call_of, begins}
 use Rattle.ed_routines.proofs.Digits.{tens}
-use Rattle.ed_paths.proofs.Zeros.{flag_of, begun, spared}
+use Rattle.ed_machine.proofs.Kit.Zeros.{flag_of, begun, spared}
 use Rattle.ed_routines.proofs.Print.{Given, Work, cells, print_weight, run, whole}
 use Rattle.ed_routines.proofs.Print.{before_tens, spelled, shows, spelled_is}
 use Rattle.ed_routines.proofs.Print.{shows_is, sum_is}

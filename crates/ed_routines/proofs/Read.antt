@@ -5,12 +5,12 @@ use Rattle.std.proofs.Common.{set, length}
 use Rattle.std.proofs.Common.{lit<}
 use Rattle.ed_words.proofs.SizeLemmas.{most}
 use Rattle.ed_words.specs.declared.order_words.TheConstants.{A_F, E_F, I_F, L_D, S_F, T_F, U_F}
-use Rattle.ed_paths.proofs.Frames.{Moment, short}
-use Rattle.ed_paths.proofs.Places.{IsOutside, early, own, out, any}
-use Rattle.ed_paths.proofs.Orders.{word_is}
-use Rattle.ed_paths.proofs.Shifts.{LD, L1F}
-use Rattle.ed_paths.proofs.Moves.{A, S, T, U, I, E_jumps, E_stays, L}
-use Rattle.ed_paths.proofs.Paths.{Path, stay, on, followed}
+use Rattle.ed_machine.proofs.Kit.Frames.{Moment, short}
+use Rattle.ed_machine.proofs.Kit.Places.{IsOutside, early, own, out, any}
+use Rattle.ed_machine.proofs.Kit.Orders.{word_is}
+use Rattle.ed_machine.proofs.Kit.Shifts.{LD, L1F}
+use Rattle.ed_machine.proofs.Kit.Moves.{A, S, T, U, I, E_jumps, E_stays, L}
+use Rattle.ed_machine.proofs.Kit.Paths.{Path, stay, on, followed}
 use Rattle.ed_routines.specs.Digits.{digits_value, value_after}
 use Rattle.ed_routines.proofs.Called.{Call, moment}
 

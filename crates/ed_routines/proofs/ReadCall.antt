@@ -12,13 +12,13 @@ use Rattle.ed_machine.specs.State.{State}
 use Rattle.ed_machine.specs.OrderTable.{Obeyed, step}
 use Rattle.ed_machine.specs.Steps.{state_after}
 use Rattle.ed_machine.specs.declared.turn.Turn.TheVariants.{NoTape}
-use Rattle.ed_paths.proofs.Frames.{Frame, Moment, state}
-use Rattle.ed_paths.proofs.Places.{own}
-use Rattle.ed_paths.proofs.Orders.{IsOrder, named, obeyed}
-use Rattle.ed_paths.proofs.Paths.{Path, leads, each}
-use Rattle.ed_paths.proofs.Leads.{Leads}
-use Rattle.ed_paths.proofs.Standing.{Holds}
-use Rattle.ed_paths.proofs.Window.{patched, get_below, get_above, length_patched}
+use Rattle.ed_machine.proofs.Kit.Frames.{Frame, Moment, state}
+use Rattle.ed_machine.proofs.Kit.Places.{own}
+use Rattle.ed_machine.proofs.Kit.Orders.{IsOrder, named, obeyed}
+use Rattle.ed_machine.proofs.Kit.Paths.{Path, leads, each}
+use Rattle.ed_machine.proofs.Kit.Leads.{Leads}
+use Rattle.ed_machine.proofs.Kit.Standing.{Holds}
+use Rattle.ed_machine.proofs.Kit.Window.{patched, get_below, get_above, length_patched}
 use Rattle.ed_routines.specs.Catalogue.{read, with_h}
 use Rattle.ed_routines.specs.Standing.{caller}
 use Rattle.ed_routines.specs.Digits.{digits_value, digit_rows, after_digits}

@@ -9,7 +9,7 @@ use Rattle.ed_run.specs.Run.{IsRun}
 use Rattle.ed_run.specs.Laws.{HasRoom}
 use Rattle.ed_run.proofs.Ends.{ends_once}
 use Rattle.ed_run.proofs.Places.{at_limit}
-use Rattle.ed_paths.proofs.Leads.{Leads, free, no_stops}
+use Rattle.ed_machine.proofs.Kit.Leads.{Leads, free, no_stops}
 
 -- what such a run leaves
 pub record Ran (s t : State) (sheet full : Sheet) (codes : List ℕ) : Type 0 where

@@ -10,9 +10,9 @@ use Rattle.ed_machine.specs.Steps.{state_after}
 use Rattle.ed_machine.specs.declared.turn.Turn.{Turn}
 use Rattle.ed_machine.specs.declared.turn.Turn.TheVariants.{Went, Printed}
 use Rattle.ed_machine.proofs.Steps.{after_sum}
-use Rattle.ed_paths.proofs.Frames.{Frame, Moment, state}
-use Rattle.ed_paths.proofs.Orders.{Does, IsOrder}
-use Rattle.ed_paths.proofs.Paths.{Path, first_state, no_state, on, prints, stay}
+use Rattle.ed_machine.proofs.Kit.Frames.{Frame, Moment, state}
+use Rattle.ed_machine.proofs.Kit.Orders.{Does, IsOrder}
+use Rattle.ed_machine.proofs.Kit.Paths.{Path, first_state, no_state, on, prints, stay}
 
 -- what is counted for an order: for one of the functions 0 to 15 and 28 to 31, for one of those between, for a jump
 -- that is taken, and for an E and a G that are not

@@ -1,7 +1,7 @@
 //! What the library's routines do: `newline`, `print` and `read`, run on a machine that holds them.
 //!
 //! Contract: digits printed, number read, new line, each at its exact number of orders. Nothing else changes. Depends
-//! on `ed_library` and `ed_run`, and its proofs on `ed_paths`.
+//! on `ed_library` and `ed_run`.
 #![tactic(auto)]
 
 mod back;

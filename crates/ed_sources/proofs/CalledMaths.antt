@@ -12,7 +12,7 @@ use Rattle.ed_maths.proofs.DivideCall as divide_call
 use Rattle.ed_maths.proofs.RootCall as root_call
 use Rattle.ed_sources.proofs.CalledRoutines.{IsBeside, Passes}
 use Rattle.ed_sources.proofs.Calling.{HasRoutine, IsBefore, called, caller_is, calls, outside, stands}
-use Rattle.ed_paths.proofs.Leads.{joined}
+use Rattle.ed_machine.proofs.Kit.Leads.{joined}
 
 -- `divide` is called: after the call its quotient and its remainder are in the store
 pub record Divides (s : State) (m from to high low by : ℕ) : Type 0 where

@@ -11,7 +11,7 @@ use Rattle.ed_machine.specs.declared.turn.Turn.TheVariants.{Stopped}
 use Rattle.ed_routines.specs.Catalogue.{newline, print, read, with_h}
 use Rattle.ed_routines.specs.Digits.{after_digits, digit_rows, digits, digits_value, print_orders}
 use Rattle.ed_routines.specs.Standing.{IsOutside, Stands}
-use Rattle.ed_paths.proofs.Leads.{Leads, joined}
+use Rattle.ed_machine.proofs.Kit.Leads.{Leads, joined}
 use Rattle.ed_routines.specs.Returns.{IsOther}
 use Rattle.ed_routines.proofs.Called.{IsCalled, IsWithin, called as routine_called}
 use Rattle.ed_routines.proofs.NewLine as new_line

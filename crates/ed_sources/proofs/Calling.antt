@@ -7,13 +7,13 @@ use Rattle.ed_words.proofs.SizeLemmas.{most}
 use Rattle.ed_words.specs.declared.order_words.TheConstants.{A_F, G_F}
 use Rattle.ed_store.specs.Cells.{short_at}
 use Rattle.ed_machine.specs.State.{State}
-use Rattle.ed_paths.proofs.Frames.{Frame, Moment, state, short}
-use Rattle.ed_paths.proofs.Leads.{Leads}
-use Rattle.ed_paths.proofs.Moves.{A, G_jumps}
-use Rattle.ed_paths.proofs.Paths.{Path, leads, on, stay}
-use Rattle.ed_paths.proofs.Places.{any, own}
-use Rattle.ed_paths.proofs.Standing.{Holds, opens}
-use Rattle.ed_paths.proofs.Window.{patched}
+use Rattle.ed_machine.proofs.Kit.Frames.{Frame, Moment, state, short}
+use Rattle.ed_machine.proofs.Kit.Leads.{Leads}
+use Rattle.ed_machine.proofs.Kit.Moves.{A, G_jumps}
+use Rattle.ed_machine.proofs.Kit.Paths.{Path, leads, on, stay}
+use Rattle.ed_machine.proofs.Kit.Places.{any, own}
+use Rattle.ed_machine.proofs.Kit.Standing.{Holds, opens}
+use Rattle.ed_machine.proofs.Kit.Window.{patched}
 use Rattle.ed_library.specs.Routines.{place_count}
 use Rattle.ed_routines.specs.Standing.{HasWord, IsOutside, Stands, caller}
 

@@ -10,9 +10,9 @@ use Rattle.ed_lines.specs.declared.program.Line.{Line}
 use Rattle.ed_link.specs.Linked.{entry_of}
 use Rattle.ed_link.specs.Tapes.{punched_rows}
 use Rattle.ed_loads.specs.EntryState.{entry_state}
-use Rattle.ed_paths.proofs.Frames.{state}
-use Rattle.ed_paths.proofs.Standing.{opens}
-use Rattle.ed_paths.proofs.Window.{patched}
+use Rattle.ed_machine.proofs.Kit.Frames.{state}
+use Rattle.ed_machine.proofs.Kit.Standing.{opens}
+use Rattle.ed_machine.proofs.Kit.Window.{patched}
 use Rattle.ed_routines.specs.Catalogue.{print, with_h}
 use Rattle.ed_routines.specs.Digits.{digits, print_orders}
 use Rattle.ed_routines.proofs.Journeys.{ComesToStop, HasRoutine}

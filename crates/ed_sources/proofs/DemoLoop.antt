@@ -6,12 +6,12 @@ use Rattle.std.specs.Prelude.{sum}
 use Rattle.std.proofs.lemmas.List.Sums.{sum_by-cons}
 use Rattle.ed_words.proofs.SizeLemmas.{most}
 use Rattle.ed_words.specs.declared.order_words.TheConstants.{A_F, G_F, S_F, T_F, U_F, Z_F}
-use Rattle.ed_paths.proofs.Frames.{Frame, Moment, short, state}
-use Rattle.ed_paths.proofs.Places.{IsOutside, early, own, out}
-use Rattle.ed_paths.proofs.Moves.{A, S, T, U, Z, G_jumps, G_stays}
-use Rattle.ed_paths.proofs.Paths.{Path, stay, on, followed, leads}
-use Rattle.ed_paths.proofs.Loops.{all_spent, quiet_walks, walked}
-use Rattle.ed_paths.proofs.Window.{get_own}
+use Rattle.ed_machine.proofs.Kit.Frames.{Frame, Moment, short, state}
+use Rattle.ed_machine.proofs.Kit.Places.{IsOutside, early, own, out}
+use Rattle.ed_machine.proofs.Kit.Moves.{A, S, T, U, Z, G_jumps, G_stays}
+use Rattle.ed_machine.proofs.Kit.Paths.{Path, stay, on, followed, leads}
+use Rattle.ed_machine.proofs.Kit.Loops.{all_spent, quiet_walks, walked}
+use Rattle.ed_machine.proofs.Kit.Window.{get_own}
 use Rattle.ed_routines.specs.Catalogue.{print, with_h}
 use Rattle.ed_routines.specs.Digits.{digits, print_orders}
 use Rattle.ed_routines.proofs.Journeys.{ComesToStop, HasRoutine, IsIn, along, stop_after, then, to_stop}

@@ -14,9 +14,9 @@ use Rattle.ed_library.specs.Routines.{place_count}
 use Rattle.ed_store.specs.Cells.{short_at}
 use Rattle.ed_machine.specs.State.{State}
 use Rattle.ed_words.specs.Sizes.{locations}
-use Rattle.ed_paths.proofs.Frames.{Frame, Moment}
+use Rattle.ed_machine.proofs.Kit.Frames.{Frame, Moment}
 use Rattle.ed_routines.proofs.Journeys.{HasRoutine}
-use Rattle.ed_paths.proofs.Standing.{Holds, Meets}
+use Rattle.ed_machine.proofs.Kit.Standing.{Holds, Meets}
 use Rattle.ed_sources.proofs.AtEntry.{has_image, have_places, placed, word_at}
 use Rattle.ed_sources.proofs.Decimals.{among, numbers}
 

@@ -20,7 +20,7 @@ use Rattle.ed_run.specs.Laws.{HasRoom}
 use Rattle.ed_run.proofs.Ends.{ends_once, ran_ends}
 use Rattle.ed_run.proofs.Places.{at_stop}
 use Rattle.ed_machine.proofs.Counts.{counted_after}
-use Rattle.ed_paths.proofs.Leads.{Leads, free, joined, no_stops}
+use Rattle.ed_machine.proofs.Kit.Leads.{Leads, free, joined, no_stops}
 use Rattle.ed_routines.proofs.Journeys.{ComesToStop}
 use Rattle.ed_checker.proofs.Guests.{size_after}
 

@@ -3,7 +3,7 @@ use Rattle.ed_words.specs.Sizes.{locations}
 use Rattle.ed_store.specs.Cells.{short_at}
 use Rattle.ed_machine.specs.State.{State}
 use Rattle.ed_machine.specs.Steps.{state_after}
-use Rattle.ed_paths.proofs.Leads.{Leads, free}
+use Rattle.ed_machine.proofs.Kit.Leads.{Leads, free}
 use Rattle.ed_routines.proofs.Called.{within_size}
 use Rattle.ed_maths.specs.Roots.{IsRoot, root_orders}
 use Rattle.ed_maths.proofs.RootCall.{CallsRoot, last, leads_to, root_is, returned, keeps}

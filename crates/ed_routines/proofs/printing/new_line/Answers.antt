@@ -2,7 +2,7 @@ use Rattle.std.proofs.Common.{◌≡◌, ◌∙◌, arith, ℕ, List, [], ◌∷
 use Rattle.ed_words.specs.Sizes.{locations}
 use Rattle.ed_machine.specs.State.{State}
 use Rattle.ed_machine.specs.Steps.{state_after}
-use Rattle.ed_paths.proofs.Leads.{Leads, free}
+use Rattle.ed_machine.proofs.Kit.Leads.{Leads, free}
 use Rattle.ed_routines.specs.Catalogue.{newline}
 use Rattle.ed_routines.specs.Standing.{Stands}
 use Rattle.ed_routines.proofs.Called.{IsWithin}

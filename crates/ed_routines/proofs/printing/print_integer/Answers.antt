@@ -4,7 +4,7 @@ use Rattle.ed_store.specs.Cells.{short_at}
 use Rattle.ed_machine.specs.State.{State}
 use Rattle.ed_machine.specs.Steps.{state_after}
 use Rattle.ed_run.specs.Run.{IsRun}
-use Rattle.ed_paths.proofs.Leads.{Leads, free}
+use Rattle.ed_machine.proofs.Kit.Leads.{Leads, free}
 use Rattle.ed_routines.specs.Digits.{digits, print_orders}
 use Rattle.ed_routines.specs.Catalogue.{print, with_h}
 use Rattle.ed_routines.proofs.Called.{IsCalled, called}

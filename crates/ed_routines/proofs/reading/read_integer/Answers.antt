@@ -4,7 +4,7 @@ use Rattle.std.proofs.Common.{slice_index}
 use Rattle.ed_words.specs.Sizes.{locations}
 use Rattle.ed_machine.specs.State.{State}
 use Rattle.ed_machine.specs.Steps.{state_after}
-use Rattle.ed_paths.proofs.Leads.{Leads, free}
+use Rattle.ed_machine.proofs.Kit.Leads.{Leads, free}
 use Rattle.ed_routines.specs.Digits.{after_digits, digit_rows}
 use Rattle.ed_routines.specs.Returns.{ReadLeaves, read_by}
 use Rattle.ed_routines.specs.Catalogue.{read, with_h}

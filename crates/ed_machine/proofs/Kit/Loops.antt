@@ -1,7 +1,7 @@
 -- Loops of a path: its turn is a path, and so is the whole.
 use Rattle.std.proofs.Common.{◌≡◌, ℕ, zero, suc, ◌+◌, ◌*◌, ◌<◌, arith, List, [], ◌∷◌, ◌++◌}
-use Rattle.ed_paths.proofs.Frames.{Frame, Moment}
-use Rattle.ed_paths.proofs.Paths.{Path, stay, followed}
+use Rattle.ed_machine.proofs.Kit.Frames.{Frame, Moment}
+use Rattle.ed_machine.proofs.Kit.Paths.{Path, stay, followed}
 
 -- what n turns print
 abbrev pub printed : (ℕ → List ℕ) → ℕ → List ℕ

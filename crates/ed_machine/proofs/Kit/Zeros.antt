@@ -2,8 +2,8 @@
 use Rattle.std.proofs.Common.{◌≡◌, ℕ, zero, suc, ◌+◌, ◌*◌, ◌<◌, ◌≤◌, arith, Bool, true, false}
 use Rattle.std.proofs.Common.{List, [], ◌∷◌, Option, Some}
 use Rattle.ed_words.specs.declared.order_words.TheConstants.{V_F}
-use Rattle.ed_paths.proofs.Frames.{Frame, Moment}
-use Rattle.ed_paths.proofs.Paths.{Path, stay, followed}
+use Rattle.ed_machine.proofs.Kit.Frames.{Frame, Moment}
+use Rattle.ed_machine.proofs.Kit.Paths.{Path, stay, followed}
 
 -- whether a digit was printed, as the word that says so
 abbrev pub flag_of : Bool → ℕ

@@ -7,14 +7,14 @@ use Rattle.ed_words.specs.declared.order_words.TheConstants.{A_F, E_F, O_F, T_F}
 use Rattle.ed_orders.specs.declared.kind.Kind.{Kind}
 use Rattle.ed_machine.specs.State.{State}
 use Rattle.ed_machine.specs.Steps.{state_after}
-use Rattle.ed_paths.proofs.Leads.{Leads}
-use Rattle.ed_paths.proofs.Window.{patched}
-use Rattle.ed_paths.proofs.Standing.{Holds, IsWorking, opens, unchanged}
-use Rattle.ed_paths.proofs.Frames.{Frame, Moment, state, short}
-use Rattle.ed_paths.proofs.Places.{early, own, out, any}
-use Rattle.ed_paths.proofs.Orders.{IsOrder}
-use Rattle.ed_paths.proofs.Moves.{A, T, O, E_jumps}
-use Rattle.ed_paths.proofs.Paths.{Path, stay, on, prints, leads, each}
+use Rattle.ed_machine.proofs.Kit.Leads.{Leads}
+use Rattle.ed_machine.proofs.Kit.Window.{patched}
+use Rattle.ed_machine.proofs.Kit.Standing.{Holds, IsWorking, opens, unchanged}
+use Rattle.ed_machine.proofs.Kit.Frames.{Frame, Moment, state, short}
+use Rattle.ed_machine.proofs.Kit.Places.{early, own, out, any}
+use Rattle.ed_machine.proofs.Kit.Orders.{IsOrder}
+use Rattle.ed_machine.proofs.Kit.Moves.{A, T, O, E_jumps}
+use Rattle.ed_machine.proofs.Kit.Paths.{Path, stay, on, prints, leads, each}
 
 -- its listing at b: A3F T4θ O5θ O6θ, the order that returns, and the codes of carriage return and line feed
 abbrev pub image : ℕ → List (Option ℕ)

@@ -13,10 +13,10 @@ use Rattle.ed_orders.specs.declared.kind.Kind.TheVariants.{R, L, E, G, F, X, Y, 
 use Rattle.ed_machine.specs.State.{State}
 use Rattle.ed_machine.specs.OrderTable.{obey, step, next_word}
 use Rattle.ed_machine.specs.declared.turn.Turn.{Turn}
-use Rattle.ed_paths.proofs.Window.{get_own}
+use Rattle.ed_machine.proofs.Kit.Window.{get_own}
 use Rattle.ed_words.proofs.Numbers.{lt_of, eq_of}
-use Rattle.ed_paths.proofs.Frames.{Frame, Moment, all_words, state}
-use Rattle.ed_paths.proofs.Places.{Place, address, is_pair, is_there, near}
+use Rattle.ed_machine.proofs.Kit.Frames.{Frame, Moment, all_words, state}
+use Rattle.ed_machine.proofs.Kit.Places.{Place, address, is_pair, is_there, near}
 
 -- whether an order of a kind names a location, whether it jumps to it, and whether it is F
 abbrev pub names : Kind → Bool

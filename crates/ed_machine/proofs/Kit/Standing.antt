@@ -4,7 +4,7 @@ use Rattle.std.proofs.Common.{◌≡◌, ℕ, zero, suc, ◌+◌, ◌-◌, ◌<�
 use Rattle.std.proofs.Common.{◌∙◌, subst, arith, List, [], ◌∷◌, drop, Option, Some}
 use Rattle.std.proofs.Common.{None, length, get_or, inl, inr}
 use Rattle.std.proofs.lemmas.Bool.{cases_lt}
-use Rattle.ed_paths.proofs.Window.{patched, patched_self, get_own, get_below, get_above}
+use Rattle.ed_machine.proofs.Kit.Window.{patched, patched_self, get_own, get_below, get_above}
 
 -- a word is the wanted one, if one is wanted
 abbrev pub Meets : Option ℕ → ℕ → Type 0

@@ -7,7 +7,7 @@ use Rattle.ed_words.specs.declared.size.Size.{Size}
 use Rattle.ed_words.specs.Sizes.{locations}
 use Rattle.ed_store.specs.Cells.{Cells}
 use Rattle.ed_machine.specs.State.{State}
-use Rattle.ed_paths.proofs.Window.{patched, get_below, set_below, get_above, set_above}
+use Rattle.ed_machine.proofs.Kit.Window.{patched, get_below, set_below, get_above, set_above}
 
 -- the accumulator that holds a short number at its upper end, and a long one
 abbrev pub short : ℕ → ℕ

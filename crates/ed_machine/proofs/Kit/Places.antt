@@ -7,11 +7,11 @@ use Rattle.std.proofs.lemmas.Bool.{and_parts}
 use Rattle.std.proofs.lemmas.List.{length-set}
 use Rattle.ed_words.specs.Words.{long_of_halves}
 use Rattle.ed_machine.specs.OrderTable.{read_at, written_cells}
-use Rattle.ed_paths.proofs.Window.{get_own, set_own}
+use Rattle.ed_machine.proofs.Kit.Window.{get_own, set_own}
 use Rattle.ed_words.proofs.Numbers.{lt_of, eq_of}
-use Rattle.ed_paths.proofs.Frames.{Frame, Moment, Beside, short, long, all_words, store}
-use Rattle.ed_paths.proofs.Frames.{some_digits, get_digit, set_digit, get_beside}
-use Rattle.ed_paths.proofs.Frames.{set_beside}
+use Rattle.ed_machine.proofs.Kit.Frames.{Frame, Moment, Beside, short, long, all_words, store}
+use Rattle.ed_machine.proofs.Kit.Frames.{some_digits, get_digit, set_digit, get_beside}
+use Rattle.ed_machine.proofs.Kit.Frames.{set_beside}
 
 -- a location outside the piece
 pub record IsOutside {n h : ℕ} (f : Frame n h) (words : List ℕ) (q : ℕ) : Type 0 where

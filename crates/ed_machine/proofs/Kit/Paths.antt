@@ -8,9 +8,9 @@ use Rattle.ed_machine.specs.OrderTable.{Obeyed, step}
 use Rattle.ed_machine.specs.Steps.{progress, state_after, codes_of}
 use Rattle.ed_machine.specs.declared.turn.Turn.{Turn}
 use Rattle.ed_machine.specs.declared.turn.Turn.TheVariants.{Went, Printed}
-use Rattle.ed_paths.proofs.Leads.{Leads, goes_on}
-use Rattle.ed_paths.proofs.Frames.{Frame, Moment, state}
-use Rattle.ed_paths.proofs.Orders.{Does, IsOrder}
+use Rattle.ed_machine.proofs.Kit.Leads.{Leads, goes_on}
+use Rattle.ed_machine.proofs.Kit.Frames.{Frame, Moment, state}
+use Rattle.ed_machine.proofs.Kit.Orders.{Does, IsOrder}
 
 -- k orders lead from one moment to another and print the codes: each goes on at the next, or prints its code and goes
 -- on

@@ -13,14 +13,14 @@ use Rattle.ed_orders.specs.declared.kind.Kind.TheVariants.{I as KindI, O as Kind
 use Rattle.ed_orders.specs.declared.kind.Kind.TheVariants.{X as KindX, Y as KindY, Z as KindZ}
 use Rattle.ed_machine.specs.OrderTable.{step, row_order}
 use Rattle.ed_machine.specs.declared.turn.Turn.TheVariants.{Went, Printed, Stopped}
-use Rattle.ed_paths.proofs.Sums.{Remains, IsQuotient, AddsProduct, plus71_is, minus71_is}
-use Rattle.ed_paths.proofs.Sums.{left71_is, right71_is, plus_product_is, collated_is}
+use Rattle.ed_machine.proofs.Kit.Sums.{Remains, IsQuotient, AddsProduct, plus71_is, minus71_is}
+use Rattle.ed_machine.proofs.Kit.Sums.{left71_is, right71_is, plus_product_is, collated_is}
 use Rattle.ed_words.proofs.Numbers.{lt_true, lt_false, le_true, le_false}
-use Rattle.ed_paths.proofs.Frames.{Frame, Moment, state}
-use Rattle.ed_paths.proofs.Places.{Place, address, is_pair, is_written, value}
-use Rattle.ed_paths.proofs.Places.{at_top, fitting, fitted, put, reads, writes}
-use Rattle.ed_paths.proofs.Orders.{Does, Stands, Names, named, obeyed, by_place, by_word}
-use Rattle.ed_paths.proofs.Shifts.{IsShift}
+use Rattle.ed_machine.proofs.Kit.Frames.{Frame, Moment, state}
+use Rattle.ed_machine.proofs.Kit.Places.{Place, address, is_pair, is_written, value}
+use Rattle.ed_machine.proofs.Kit.Places.{at_top, fitting, fitted, put, reads, writes}
+use Rattle.ed_machine.proofs.Kit.Orders.{Does, Stands, Names, named, obeyed, by_place, by_word}
+use Rattle.ed_machine.proofs.Kit.Shifts.{IsShift}
 
 abbrev pub Moves : {n h : ℕ} → Frame n h → Kind → Moment → Moment → Type 0
 Moves f kind r t = Does f kind r Went t
