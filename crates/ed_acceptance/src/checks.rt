@@ -1,9 +1,9 @@
 //! `call check` compared with plain steps of its guest.
 
 use crate::support::{Answer, answer_of};
+use ed_answers::enter;
 use ed_codes::Code;
 use ed_link::{Linked, link};
-use ed_loads::enter;
 use ed_machine::{Machine, Turn};
 use ed_report::paper_text;
 use ed_syntax::parse;

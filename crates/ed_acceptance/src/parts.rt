@@ -2,8 +2,8 @@
 
 use crate::faults::{Device, Run, calls_fail};
 use crate::support::{Row, expect, expect_each, expect_usage};
+use ed_answers::started;
 use ed_codes::tape_of_text;
-use ed_loads::started;
 use ed_machine::Machine;
 use ed_words::Size;
 use std::alloc::Global;

@@ -18,7 +18,7 @@ use Rattle.ed_machine.specs.declared.ending.Ending.TheVariants.{Stopped, Limit, 
 use Rattle.ed_run.specs.Run.{EndsAfter, RunEnd, end_at, end_by, run_end, run_orders}
 use Rattle.ed_run.proofs.Ends.{ends_once, ran_ends}
 use Rattle.ed_link.specs.Tapes.{tape}
-use Rattle.ed_loads.specs.EntryState.{first_state}
+use Rattle.ed_answers.specs.EntryState.{first_state}
 use Rattle.ed_report.specs.Notes.{ending_line}
 use Rattle.ed_command.specs.declared.command.Settings.{Settings}
 use Rattle.ed_words.specs.Texts.{Text}

@@ -13,9 +13,9 @@ use Rattle.ed_link.specs.Answers.{IsLinked}
 use Rattle.ed_link.specs.Linked.{entry_of}
 use Rattle.ed_link.specs.Tapes.{cost, tape}
 use Rattle.ed_link.specs.declared.linked.Linked.{Linked}
-use Rattle.ed_loads.specs.EntryState.{Enters, entry_state, first_state}
-use Rattle.ed_loads.specs.EntryWords.{EntryHasWords}
-use Rattle.ed_loads.proofs.Entries.{enters as enters_of}
+use Rattle.ed_answers.specs.EntryState.{Enters, entry_state, first_state}
+use Rattle.ed_answers.specs.EntryWords.{EntryHasWords}
+use Rattle.ed_answers.proofs.Entries.{enters as enters_of}
 use Rattle.ed_report.specs.Notes.{entry_note}
 use Rattle.ed_command.specs.declared.command.Settings.{Settings}
 use Rattle.ed_words.specs.Texts.{Text}

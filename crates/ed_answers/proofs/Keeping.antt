@@ -5,7 +5,7 @@ use Rattle.ed_machine.specs.State.{State}
 use Rattle.ed_machine.proofs.Keeping.{Follows, steps_follow}
 use Rattle.ed_machine.proofs.LeastNumbers.{least_below}
 use Rattle.ed_run.specs.Run.{run_end, run_orders}
-use Rattle.ed_loads.specs.EntryState.{first_state}
+use Rattle.ed_answers.specs.EntryState.{first_state}
 
 pub run_follows : (limit resumes room : ℕ) (s : State) → Follows limit s (run_end limit resumes room s).state
 unfolding run_end

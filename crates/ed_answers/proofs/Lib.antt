@@ -1,3 +1,10 @@
+pub mod EachSource
+pub mod Entries
+pub mod EntryWords
+pub mod FaultExamples
+pub mod OneAnswers
+pub mod PunchedTexts
+pub mod Starts
 pub mod Replies
 pub mod Checks
 pub mod FirstChecks

@@ -6,7 +6,7 @@ use Rattle.ed_machine.specs.Steps.{least, progress}
 use Rattle.ed_run.specs.Run.{RunEnd, run_end}
 use Rattle.ed_link.specs.Linked.{entry_of}
 use Rattle.ed_link.specs.Tapes.{cost}
-use Rattle.ed_loads.specs.EntryState.{entry_state}
+use Rattle.ed_answers.specs.EntryState.{entry_state}
 use Rattle.ed_report.specs.Listings.{listing}
 use Rattle.ed_report.specs.Notes.{entry_note}
 use Rattle.ed_command.specs.declared.command.Settings.{Settings}

@@ -3,8 +3,8 @@ use Rattle.std.proofs.Common.{ℕ, inl, refl}
 use Rattle.std.specs.Prelude.{replicate}
 use Rattle.std.proofs.lemmas.List.{length-replicate}
 use Rattle.ed_link.specs.Tapes.{arrival}
-use Rattle.ed_loads.proofs.EachSource.{each_source as comes_to}
-use Rattle.ed_loads.proofs.PunchedTexts.{text_is_tape}
+use Rattle.ed_answers.proofs.EachSource.{each_source as comes_to}
+use Rattle.ed_answers.proofs.PunchedTexts.{text_is_tape}
 use Rattle.ed_answers.specs.PunchedTapes.{EachPunchedIsRun}
 
 pub each_punched_is_run : EachPunchedIsRun

@@ -16,16 +16,16 @@ use Rattle.ed_lines.specs.declared.fault.SourceFault.{SourceFault}
 use Rattle.ed_lines.specs.declared.fault.SourceFault.TheVariants.{At, Memory}
 use Rattle.ed_syntax.specs.Sources.{HasFormFault, IsProgram}
 use Rattle.ed_link.specs.Answers.{HasMeaningFault, IsLinked}
-use Rattle.ed_loads.specs.Refusals.{IsAcceptedAs, IsAcceptedOrRefused, IsRefused, for_form, for_meaning}
-use Rattle.ed_loads.proofs.EachSource.{one_answer}
+use Rattle.ed_answers.specs.Refusals.{IsAcceptedAs, IsAcceptedOrRefused, IsRefused, for_form, for_meaning}
+use Rattle.ed_answers.proofs.EachSource.{one_answer}
 use Rattle.ed_link.specs.Linked.{linked_words}
 use Rattle.ed_link.specs.Tables.{table_of, words_from}
 use Rattle.ed_link.specs.Tapes.{after_text}
 use Rattle.ed_link.specs.declared.linked.Linked.{Linked}
 use Rattle.ed_link.specs.declared.linked.Placed.{Placed}
-use Rattle.ed_loads.specs.EntryState.{entry_state, entry_store}
-use Rattle.ed_loads.proofs.Entries.{each_source}
-use Rattle.ed_loads.proofs.EntryWords.{each_entry_has_words}
+use Rattle.ed_answers.specs.EntryState.{entry_state, entry_store}
+use Rattle.ed_answers.proofs.Entries.{each_source}
+use Rattle.ed_answers.proofs.EntryWords.{each_entry_has_words}
 use Rattle.ed_report.specs.Listings.{listing}
 use Rattle.ed_report.specs.Notes.{ending_line, source_fault_line}
 use Rattle.ed_command.specs.declared.command.Window.{Window}

@@ -3,11 +3,11 @@
 use Rattle.std.specs.Prelude.{◌≡◌, ◌-◌, ◌<◌, ◌≤◌, List}
 use Rattle.ed_run.specs.Run.{run_end}
 use Rattle.ed_lines.specs.declared.program.Line.{Line}
-use Rattle.ed_loads.specs.Refusals.{IsAcceptedAs}
+use Rattle.ed_answers.specs.Refusals.{IsAcceptedAs}
 use Rattle.ed_link.specs.Linked.{entry_of}
 use Rattle.ed_link.specs.Tapes.{cost, tape}
-use Rattle.ed_loads.specs.EntryState.{Enters, entry_state}
-use Rattle.ed_loads.specs.EntryWords.{EntryHasWords}
+use Rattle.ed_answers.specs.EntryState.{Enters, entry_state}
+use Rattle.ed_answers.specs.EntryWords.{EntryHasWords}
 use Rattle.ed_printer.specs.Paper.{paper}
 use Rattle.ed_report.specs.Notes.{entry_note}
 use Rattle.ed_command.specs.declared.command.Settings.{Settings}

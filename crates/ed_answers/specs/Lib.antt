@@ -1,3 +1,6 @@
+pub mod Refusals
+pub mod EntryState
+pub mod EntryWords
 pub mod Outcome
 pub mod Answer
 pub mod Runs

@@ -3,7 +3,7 @@ use Rattle.std.specs.Prelude.{◌≡◌, List, length}
 use Rattle.ed_codes.specs.Reading.{reading, rows}
 use Rattle.ed_lines.specs.declared.program.Line.{Line}
 use Rattle.ed_link.specs.Linked.{entry_of}
-use Rattle.ed_loads.specs.Refusals.{IsAcceptedAs}
+use Rattle.ed_answers.specs.Refusals.{IsAcceptedAs}
 use Rattle.ed_link.specs.Tapes.{cost, punched_rows, tape}
 use Rattle.ed_report.specs.Entries.{entry_line}
 use Rattle.ed_command.specs.declared.command.Settings.{Settings}

@@ -7,7 +7,7 @@ use Rattle.ed_run.specs.Run.{RunEnd}
 use Rattle.ed_lines.specs.declared.program.Line.{Line}
 use Rattle.ed_lines.specs.declared.fault.SourceCause.{SourceCause}
 use Rattle.ed_lines.specs.declared.fault.SourceFault.TheVariants.{At}
-use Rattle.ed_loads.specs.Refusals.{IsAcceptedAs, IsRefused}
+use Rattle.ed_answers.specs.Refusals.{IsAcceptedAs, IsRefused}
 use Rattle.ed_link.specs.Answers.{IsLinked}
 use Rattle.ed_link.specs.declared.linked.Linked.{Linked}
 use Rattle.ed_link.specs.Tapes.{tape}

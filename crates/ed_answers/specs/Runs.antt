@@ -6,7 +6,7 @@ use Rattle.ed_machine.specs.declared.ending.Ending.{Ending}
 use Rattle.ed_machine.specs.declared.ending.Ending.TheVariants.{Stopped, Limit, NoOrder, NoTape, PaperFull}
 use Rattle.ed_run.specs.Run.{RunEnd, run_end}
 use Rattle.ed_postmortem.specs.Codes.{printed_codes}
-use Rattle.ed_loads.specs.EntryState.{first_state}
+use Rattle.ed_answers.specs.EntryState.{first_state}
 use Rattle.ed_report.specs.Notes.{ending_line}
 use Rattle.ed_command.specs.declared.command.Settings.{Settings}
 use Rattle.ed_command.specs.declared.command.Window.{Window}

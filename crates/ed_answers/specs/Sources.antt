@@ -6,12 +6,12 @@ use Rattle.ed_notation.specs.Spellings.{canonicals, text_of}
 use Rattle.ed_lines.specs.declared.program.Line.{Line}
 use Rattle.ed_lines.specs.declared.fault.SourceCause.{SourceCause}
 use Rattle.ed_lines.specs.declared.fault.SourceFault.TheVariants.{At}
-use Rattle.ed_loads.specs.Refusals.{IsAcceptedAs, IsRefused}
+use Rattle.ed_answers.specs.Refusals.{IsAcceptedAs, IsRefused}
 use Rattle.ed_link.specs.Linked.{data_after, entry_of, linked_words}
 use Rattle.ed_link.specs.Punch.{punched_items}
 use Rattle.ed_link.specs.Tables.{table_of, words_from}
 use Rattle.ed_link.specs.Tapes.{after_text, cost, tape}
-use Rattle.ed_loads.specs.EntryState.{entry_store}
+use Rattle.ed_answers.specs.EntryState.{entry_store}
 use Rattle.ed_report.specs.Listings.{listing}
 use Rattle.ed_report.specs.Notes.{entry_note, source_fault_line}
 use Rattle.ed_command.specs.declared.command.Settings.{Settings}

@@ -1,12 +1,16 @@
-//! The answers to a text: the run or the check of a tape, for either Initial Orders, and the run, the tape and the
-//! listing of a source.
+//! The answers to a text: the run or the check of a tape, for either Initial Orders; the verdict on a source, the state
+//! at its entry, its run, its tape and its listing.
 //!
-//! Contract: the reply to a tape, to a tape of May 1949 and to a source is that of the definition; the laws between
-//! these answers. A reply is two texts and a status; an input that is refused has a reply too. Depends on `ed_loads`,
-//! `ed_initial1`, `ed_postmortem` and `ed_report`, and on `ed_command` for the settings of a run.
+//! Contract: the reply to a tape, to a tape of May 1949 and to a source is that of the definition; each source is
+//! accepted with one list of lines or refused for one fault, and the Initial Orders on the tape of an accepted one lead
+//! to the state at its entry at the stated cost, cell by cell; the laws between these answers. They are obeyed one by
+//! one from Start and print nothing. A reply is two texts and a status; an input that is refused has a reply too.
+//! Depends on `ed_syntax`, `ed_link`, `ed_initial1`, `ed_postmortem` and `ed_report`, and on `ed_command` for the
+//! settings of a run.
 #![tactic(auto)]
 
 mod check;
+mod entering;
 mod first_orders;
 mod input;
 mod reply;
@@ -16,6 +20,7 @@ mod source;
 mod tapes;
 
 pub use check::check_tape;
+pub use entering::{enter, started};
 pub use first_orders::{check_tape1, run_rows1, tape1};
 pub use input::{INPUT_BYTES, TOO_LONG};
 pub use reply::{Rejection, Reply};

@@ -6,10 +6,10 @@ ghost use Rattle.ed_command.specs.Ranges.{AreSettingsInRange, IsWindowOf};
 ghost use Rattle.ed_answers.specs.Replies.{Gives, IsRan};
 ghost use Rattle.ed_answers.specs.Runs.{paper_room, post_mortem_codes, run_of, status_of};
 
+use crate::entering::started;
 use crate::reply::Reply;
 use ed_codes::Code;
 use ed_command::{Settings, Window};
-use ed_loads::started;
 use ed_machine::{Ending, Machine, Paper};
 use ed_postmortem::{PmFault, post_mortem};
 use ed_report::{paper_text, papers_text};

@@ -9,7 +9,7 @@ use Rattle.ed_machine.specs.State.{State}
 use Rattle.ed_lines.specs.declared.program.Line.{Line}
 use Rattle.ed_lines.specs.declared.fault.SourceFault.TheVariants.{At}
 use Rattle.ed_link.specs.Answers.{IsLinked}
-use Rattle.ed_loads.proofs.EachSource.{one_answer}
+use Rattle.ed_answers.proofs.EachSource.{one_answer}
 use Rattle.ed_link.specs.Tapes.{tape}
 use Rattle.ed_link.specs.declared.linked.Linked.{Linked}
 use Rattle.ed_report.specs.Notes.{ending_line, source_fault_line}

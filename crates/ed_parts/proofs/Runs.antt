@@ -20,9 +20,9 @@ use Rattle.ed_run.proofs.Places as places
 use Rattle.ed_initial.specs.Entry.{IsStarted}
 use Rattle.ed_notation.specs.Faults.{TapeEntry}
 use Rattle.ed_notation.specs.declared.cause.TapeCause.{TapeCause}
-use Rattle.ed_loads.specs.EntryState.{first_state}
-use Rattle.ed_loads.proofs.Entries.{starts}
-use Rattle.ed_loads.proofs.Starts.{sound_start}
+use Rattle.ed_answers.specs.EntryState.{first_state}
+use Rattle.ed_answers.proofs.Entries.{starts}
+use Rattle.ed_answers.proofs.Starts.{sound_start}
 use Rattle.ed_parts.specs.declared.tape.PartsEnd.TheVariants.{Ended, Faulty}
 use Rattle.ed_parts.specs.Laws.{Begins, EachEndIsTheRuns, EndsAsParts, EndsAsRun}
 use Rattle.ed_parts.specs.Parts.{Concludes, Finishes, GoesBack, ReportsParts, LeadsTo}

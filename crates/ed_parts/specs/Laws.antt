@@ -11,7 +11,7 @@ use Rattle.ed_run.specs.Run.{EndsAfter}
 use Rattle.ed_notation.specs.Faults.{TapeEntry}
 use Rattle.ed_initial.specs.Entry.{IsStarted, at_entry}
 use Rattle.ed_interlude.specs.Returned.{IsReturned}
-use Rattle.ed_loads.specs.EntryState.{first_state}
+use Rattle.ed_answers.specs.EntryState.{first_state}
 use Rattle.ed_parts.specs.declared.tape.PartsEnd.TheVariants.{Ended}
 use Rattle.ed_parts.specs.Parts.{LeadsTo, TapePart, IsReportOfTape, PartsReport, part_entry_state, programs_printed}
 

@@ -12,8 +12,8 @@ use Rattle.ed_routines.proofs.Journeys.{ComesToStop}
 use Rattle.ed_syntax.specs.Sources.{IsProgram}
 use Rattle.ed_lines.specs.declared.program.Line.{Line}
 use Rattle.ed_link.specs.Linked.{symbols_of, operand_number}
-use Rattle.ed_loads.specs.Refusals.{IsAcceptedAs}
-use Rattle.ed_loads.specs.EntryState.{entry_state}
+use Rattle.ed_answers.specs.Refusals.{IsAcceptedAs}
+use Rattle.ed_answers.specs.EntryState.{entry_state}
 use Rattle.ed_printer.specs.Paper.{paper}
 use Rattle.ed_checker.specs.Checker.{checked_codes, checked_orders, guest, planting_place}
 use Rattle.ed_checker.specs.Laws.{HasGuest}

@@ -26,7 +26,7 @@ use Rattle.ed_lines.specs.declared.program.Operand.TheVariants.{Label}
 use Rattle.ed_lines.specs.declared.program.Statement.TheVariants.{Enter, Fetch}
 use Rattle.ed_lines.specs.declared.program.Line.{Line}
 use Rattle.ed_link.specs.Private.FaultTests.{fault}
-use Rattle.ed_loads.proofs.EachSource.{read_is_accepted}
+use Rattle.ed_answers.proofs.EachSource.{read_is_accepted}
 use Rattle.ed_checker.specs.Checker.{IsAllowed, IsAllowedOrder, checked_codes, checked_orders, orders_by}
 use Rattle.ed_sources.specs.Calls.{text_of_lines}
 use Rattle.ed_sources.proofs.AtEntry.{placed, word_at}

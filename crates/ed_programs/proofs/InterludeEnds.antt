@@ -22,8 +22,8 @@ use Rattle.ed_initial.specs.Entry.{at_entry, entry_words}
 use Rattle.ed_initial.specs.Listing.{initial_orders}
 use Rattle.ed_initial.specs.Rests.{initial_words}
 use Rattle.ed_interlude.specs.Returned.{AreListed, IsReturned, directive, reopening}
-use Rattle.ed_loads.specs.EntryState.{first_state}
-use Rattle.ed_loads.proofs.Entries.{all_fit}
+use Rattle.ed_answers.specs.EntryState.{first_state}
+use Rattle.ed_answers.proofs.Entries.{all_fit}
 use Rattle.ed_machine.proofs.Kit.Frames.{Frame, Moment, short, state}
 use Rattle.ed_machine.proofs.Kit.Leads.{Leads}
 use Rattle.ed_machine.proofs.Kit.Moves.{A, E_jumps, O, U, Z}

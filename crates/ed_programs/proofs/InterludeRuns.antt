@@ -27,7 +27,7 @@ use Rattle.ed_notation.specs.Spellings.{canonical, canonicals, digits_of}
 use Rattle.ed_notation.proofs.Steps.{plain}
 use Rattle.ed_initial.specs.Entry.{Comes}
 use Rattle.ed_interlude.specs.Returned.{ComesBack, directive}
-use Rattle.ed_loads.specs.EntryState.{first_state}
+use Rattle.ed_answers.specs.EntryState.{first_state}
 use Rattle.ed_sources.specs.Calls.{text_of_lines}
 use Rattle.ed_sources.proofs.Decimals.{decimal_is, few_bytes, written}
 use Rattle.ed_command.specs.declared.command.Settings.{Settings}

@@ -12,7 +12,7 @@ use Rattle.ed_machine.specs.State.{State}
 use Rattle.ed_notation.specs.Faults.{TapeEntry}
 use Rattle.ed_notation.specs.Reading.{reading_on}
 use Rattle.ed_notation.proofs.Texts.{AreCodes}
-use Rattle.ed_loads.specs.EntryState.{first_state}
+use Rattle.ed_answers.specs.EntryState.{first_state}
 use Rattle.ed_machine.proofs.Kit.Frames.{state}
 use Rattle.ed_machine.proofs.Kit.Standing.{opens}
 use Rattle.ed_machine.proofs.Kit.Window.{patched}

@@ -11,8 +11,8 @@ use Rattle.ed_lines.specs.declared.program.Line.{Line}
 use Rattle.ed_lines.specs.declared.fault.SourceFault.{SourceFault}
 use Rattle.ed_syntax.specs.Private.SourceReading.{is_two, program_of}
 use Rattle.ed_link.specs.Private.FaultTests.{fault}
-use Rattle.ed_loads.proofs.EachSource.{read_is_accepted}
-use Rattle.ed_loads.specs.EntryState.{entry_state}
+use Rattle.ed_answers.proofs.EachSource.{read_is_accepted}
+use Rattle.ed_answers.specs.EntryState.{entry_state}
 use Rattle.ed_routines.proofs.Journeys.{ComesToStop}
 use Rattle.ed_sources.specs.Calls.{text_of_lines, woven_text}
 use Rattle.ed_command.specs.declared.command.Settings.{Settings}

@@ -17,8 +17,8 @@ use Rattle.ed_notation.specs.Faults.{TapeEntry}
 use Rattle.ed_notation.specs.Openings.{IsDirective, opening}
 use Rattle.ed_notation.specs.Reading.{Arrived, reading_on}
 use Rattle.ed_notation.proofs.Laws.{reading_is_rules}
-use Rattle.ed_loads.specs.EntryState.{first_state}
-use Rattle.ed_loads.proofs.Entries.{first_store, starts}
+use Rattle.ed_answers.specs.EntryState.{first_state}
+use Rattle.ed_answers.proofs.Entries.{first_store, starts}
 use Rattle.ed_initial.specs.Entry.{Comes}
 use Rattle.ed_initial.proofs.Quiet.{LeadsIn, comes_in}
 use Rattle.ed_run.specs.Run.{RunEnd, run_end}

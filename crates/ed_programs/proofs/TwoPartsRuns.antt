@@ -28,8 +28,8 @@ use Rattle.ed_initial.specs.Entry.{Comes, at_entry}
 use Rattle.ed_initial.proofs.Quiet.{LeadsIn, comes_in}
 use Rattle.ed_interlude.specs.Returned.{ComesBack, IsReturned, directive}
 use Rattle.ed_interlude.proofs.Resumed.{leads_back}
-use Rattle.ed_loads.specs.EntryState.{first_state}
-use Rattle.ed_loads.proofs.Entries.{first_store, starts}
+use Rattle.ed_answers.specs.EntryState.{first_state}
+use Rattle.ed_answers.proofs.Entries.{first_store, starts}
 use Rattle.ed_machine.proofs.Kit.Frames.{Frame, Moment, state}
 use Rattle.ed_machine.proofs.Kit.Leads.{Leads, free, goes_on, joined, no_stops, obeyed_of}
 use Rattle.ed_machine.proofs.Kit.Paths.{Path, no_state, on, prints, stay}

@@ -16,8 +16,8 @@ use Rattle.ed_lines.specs.declared.program.Line.{Line}
 use Rattle.ed_symbols.specs.Places.{even_from}
 use Rattle.ed_symbols.specs.NameFaults.{StandsAfter, counter_after}
 use Rattle.ed_link.specs.Linked.{entry_of, symbols_of, operand_number}
-use Rattle.ed_loads.specs.Refusals.{IsAcceptedAs}
-use Rattle.ed_loads.specs.EntryState.{entry_state}
+use Rattle.ed_answers.specs.Refusals.{IsAcceptedAs}
+use Rattle.ed_answers.specs.EntryState.{entry_state}
 use Rattle.ed_checker.specs.Checker.{IsAllowed, checked_codes, checked_orders, guest, planting_place, saving_orders}
 use Rattle.ed_checker.specs.Laws.{IsFollowed, StopsAfter}
 use Rattle.ed_command.specs.declared.command.Settings.{Settings}

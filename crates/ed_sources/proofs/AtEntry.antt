@@ -16,8 +16,8 @@ use Rattle.ed_library.specs.Images.{image_word}
 use Rattle.ed_library.specs.Routines.{place_count}
 use Rattle.ed_lines.specs.declared.program.Line.{Line}
 use Rattle.ed_link.specs.Linked.{linked_words}
-use Rattle.ed_loads.specs.EntryState.{entry_state, own_words}
-use Rattle.ed_loads.proofs.EntryWords.{entry_word}
+use Rattle.ed_answers.specs.EntryState.{entry_state, own_words}
+use Rattle.ed_answers.proofs.EntryWords.{entry_word}
 use Rattle.ed_routines.specs.Standing.{HasWord}
 use Rattle.ed_sources.proofs.Decimals.{among, numbers}
 

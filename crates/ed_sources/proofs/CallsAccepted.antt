@@ -8,7 +8,7 @@ use Rattle.ed_words.specs.Texts.{Text}
 use Rattle.ed_words.specs.declared.size.Size.{Size}
 use Rattle.ed_lines.specs.declared.program.Line.{Line}
 use Rattle.ed_link.specs.Private.FaultTests.{fault}
-use Rattle.ed_loads.proofs.EachSource.{read_is_accepted}
+use Rattle.ed_answers.proofs.EachSource.{read_is_accepted}
 use Rattle.ed_syntax.specs.Parts.{is_line_byte}
 use Rattle.ed_syntax.specs.Private.SourceReading.{program_of}
 use Rattle.ed_library.specs.Ranges.{IsDivisible}

@@ -7,7 +7,7 @@ use Rattle.ed_words.specs.Words.{function_of}
 use Rattle.ed_machine.specs.State.{State}
 use Rattle.ed_machine.specs.OrderTable.{next_word, step}
 use Rattle.ed_machine.specs.Steps.{Progress, codes_of, state_after}
-use Rattle.ed_loads.specs.EntryState.{entry_state}
+use Rattle.ed_answers.specs.EntryState.{entry_state}
 use Rattle.ed_machine.proofs.Kit.Leads.{all_go}
 use Rattle.ed_routines.specs.Digits.{before_units, print_orders, sum, without_zeros}
 use Rattle.ed_checker.specs.Checker.{checked_codes, guest, planting_place}

@@ -26,8 +26,8 @@ use Rattle.ed_notation.specs.Fold.{over, placed_at}
 use Rattle.ed_initial.specs.Rests.{initial_words}
 use Rattle.ed_library.specs.Images.{image_word, parameter_store}
 use Rattle.ed_library.specs.Routines.{is_working}
-use Rattle.ed_loads.specs.EntryState.{entry_state, own_words}
-use Rattle.ed_loads.proofs.Entries.{all_fit}
+use Rattle.ed_answers.specs.EntryState.{entry_state, own_words}
+use Rattle.ed_answers.proofs.Entries.{all_fit}
 use Rattle.ed_machine.proofs.Steps.{after_sum}
 use Rattle.ed_machine.proofs.Kit.Frames.{short}
 use Rattle.ed_machine.proofs.Kit.Leads.{Leads, first_order, free, joined, no_stops}

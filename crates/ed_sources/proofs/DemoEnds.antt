@@ -9,7 +9,7 @@ use Rattle.ed_machine.specs.State.{State}
 use Rattle.ed_lines.specs.declared.program.Line.{Line}
 use Rattle.ed_link.specs.Linked.{entry_of}
 use Rattle.ed_link.specs.Tapes.{punched_rows}
-use Rattle.ed_loads.specs.EntryState.{entry_state}
+use Rattle.ed_answers.specs.EntryState.{entry_state}
 use Rattle.ed_machine.proofs.Kit.Frames.{state}
 use Rattle.ed_machine.proofs.Kit.Standing.{opens}
 use Rattle.ed_machine.proofs.Kit.Window.{patched}

@@ -13,7 +13,7 @@ use Rattle.ed_library.specs.Routines.{place_count}
 use Rattle.ed_lines.specs.declared.program.Line.{Line}
 use Rattle.ed_symbols.specs.declared.symbols.Definition.{Definition}
 use Rattle.ed_link.specs.Linked.{entry_from, entry_of, symbols_of, placed_words, linked_words, placed_from}
-use Rattle.ed_loads.specs.EntryState.{entry_state}
+use Rattle.ed_answers.specs.EntryState.{entry_state}
 use Rattle.ed_routines.specs.Catalogue.{print, with_h}
 use Rattle.ed_sources.specs.Demo.{next, number_after, number_word, words_after}
 use Rattle.ed_sources.proofs.AtEntry.{have_places}

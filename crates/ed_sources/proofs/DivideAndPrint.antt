@@ -10,7 +10,7 @@ use Rattle.ed_words.specs.declared.order_words.TheConstants.{Z_F}
 use Rattle.ed_store.specs.Cells.{short_at}
 use Rattle.ed_machine.specs.State.{State}
 use Rattle.ed_library.specs.Images.{parameter_store}
-use Rattle.ed_loads.specs.EntryState.{entry_state}
+use Rattle.ed_answers.specs.EntryState.{entry_state}
 use Rattle.ed_routines.specs.Catalogue.{newline, print, with_h}
 use Rattle.ed_routines.specs.Digits.{digits, print_orders}
 use Rattle.ed_maths.specs.Quotients.{IsDivision, divide, divide_orders, dividend, with_hnm}

@@ -7,7 +7,7 @@ use Rattle.ed_words.proofs.Numbers.{eq_of}
 use Rattle.ed_words.specs.declared.size.Size.{Size}
 use Rattle.ed_notation.specs.Fold.{placed_at}
 use Rattle.ed_lines.specs.declared.program.Line.{Line}
-use Rattle.ed_loads.specs.EntryState.{entry_state}
+use Rattle.ed_answers.specs.EntryState.{entry_state}
 use Rattle.ed_words.proofs.SizeLemmas.{least}
 use Rattle.ed_library.specs.Images.{image_word}
 use Rattle.ed_library.specs.Routines.{place_count}

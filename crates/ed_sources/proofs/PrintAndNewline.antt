@@ -4,7 +4,7 @@ use Rattle.ed_words.specs.declared.size.Size.{Size}
 use Rattle.ed_words.proofs.SizeLemmas.{least}
 use Rattle.ed_machine.specs.State.{State}
 use Rattle.ed_library.specs.Images.{parameter_store}
-use Rattle.ed_loads.specs.EntryState.{entry_state}
+use Rattle.ed_answers.specs.EntryState.{entry_state}
 use Rattle.ed_routines.specs.Catalogue.{newline, print, with_h}
 use Rattle.ed_routines.specs.Digits.{digits, print_orders}
 use Rattle.ed_sources.proofs.Along.{IsAt, before, entered, has}

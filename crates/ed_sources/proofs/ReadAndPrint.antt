@@ -8,7 +8,7 @@ use Rattle.ed_words.specs.declared.order_words.TheConstants.{Z_F}
 use Rattle.ed_store.specs.Cells.{short_at}
 use Rattle.ed_machine.specs.State.{State}
 use Rattle.ed_library.specs.Images.{parameter_store}
-use Rattle.ed_loads.specs.EntryState.{entry_state}
+use Rattle.ed_answers.specs.EntryState.{entry_state}
 use Rattle.ed_routines.specs.Catalogue.{print, read, with_h}
 use Rattle.ed_routines.specs.Digits.{after_digits, digit_rows, digits, print_orders, digits_value}
 use Rattle.ed_routines.proofs.Digits.{digits_law}

@@ -6,7 +6,7 @@ use Rattle.ed_library.specs.declared.call.Call.{Call}
 use Rattle.ed_library.specs.Ranges.{IsCallInRange}
 use Rattle.ed_lines.specs.declared.program.Line.{Line}
 use Rattle.ed_words.specs.Texts.{Text}
-use Rattle.ed_loads.specs.Refusals.{IsAcceptedAs}
+use Rattle.ed_answers.specs.Refusals.{IsAcceptedAs}
 use Rattle.ed_sources.specs.Calls.{call_text}
 use Rattle.ed_sources.specs.Demo.{demo_text}
 

@@ -12,7 +12,7 @@ use Rattle.ed_sources.specs.Calls.{call_text}
 use Rattle.ed_lines.specs.declared.program.Line.{Line}
 use Rattle.ed_syntax.specs.Private.SourceReading.{program_of}
 use Rattle.ed_link.specs.Private.FaultTests.{fault}
-use Rattle.ed_loads.proofs.EachSource.{read_is_accepted}
+use Rattle.ed_answers.proofs.EachSource.{read_is_accepted}
 use Rattle.ed_sources.proofs.CallsAccepted.{divide_read, newline_read, print_read, read_read, root_read, check_read}
 use Rattle.ed_sources.proofs.Faultless.{divide_faultless, newline_faultless, print_faultless}
 use Rattle.ed_sources.proofs.Faultless.{read_faultless, root_faultless, check_faultless}
@@ -34,7 +34,7 @@ use Rattle.ed_link.specs.Linked.{entry_of}
 use Rattle.ed_link.specs.Punch.{punched_items}
 use Rattle.ed_link.specs.Tapes.{cost}
 use Rattle.ed_link.proofs.Bounds.{rows_few}
-use Rattle.ed_loads.specs.EntryState.{entry_state}
+use Rattle.ed_answers.specs.EntryState.{entry_state}
 use Rattle.ed_report.specs.Notes.{at_after, entry_note}
 use Rattle.ed_command.specs.declared.command.Settings.{Settings}
 use Rattle.ed_words.specs.Texts.{Text}

@@ -3,7 +3,7 @@ use Rattle.std.proofs.Common.{◌≡◌, ◌∙◌, ℕ, ◌+◌, ◌*◌, ◌�
 use Rattle.ed_words.specs.Texts.{Text}
 use Rattle.ed_lines.specs.declared.program.Line.{Line}
 use Rattle.ed_link.specs.Tapes.{cost}
-use Rattle.ed_loads.proofs.EachSource.{read_is_accepted}
+use Rattle.ed_answers.proofs.EachSource.{read_is_accepted}
 use Rattle.ed_report.specs.Notes.{at_after, entry_note}
 use Rattle.ed_routines.specs.Digits.{print_orders}
 use Rattle.ed_routines.proofs.Digits.{few_digits}

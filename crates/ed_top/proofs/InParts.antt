@@ -2,7 +2,7 @@
 use Rattle.std.proofs.Common.{◌≡◌, ◌∙◌, ℕ, List, [], refl, sym, ap, subst, append-nil}
 use Rattle.std.specs.Prelude.{Ok, Err}
 use Rattle.ed_machine.specs.State.{State}
-use Rattle.ed_loads.specs.EntryState.{first_state}
+use Rattle.ed_answers.specs.EntryState.{first_state}
 use Rattle.ed_parts.specs.Parts.{PartsAnswer, IsReportOfTape, PartsReport, parts_faults}
 use Rattle.ed_parts.specs.declared.tape.PartsEnd.{PartsEnd}
 use Rattle.ed_parts.specs.declared.tape.PartsFault.{PartsFault}

@@ -20,7 +20,7 @@ use Rattle.ed_machine.proofs.Steps.{few_codes, past_next, past_sum}
 use Rattle.ed_run.specs.Run.{EndsAfter, RunEnd, end_at, end_by, prints, run_end, run_orders}
 use Rattle.ed_run.proofs.Ends.{ends_once, ran_ends}
 use Rattle.ed_printer.specs.Paper.{paper}
-use Rattle.ed_loads.specs.EntryState.{first_state}
+use Rattle.ed_answers.specs.EntryState.{first_state}
 use Rattle.ed_parts.specs.Laws.{EndsAsRun}
 use Rattle.ed_parts.specs.declared.tape.PartsEnd.{PartsEnd}
 use Rattle.ed_parts.proofs.Runs.{each_end}

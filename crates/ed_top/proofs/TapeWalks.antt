@@ -20,7 +20,7 @@ use Rattle.ed_run.proofs.Ends.{ends_once, ran_ends}
 use Rattle.ed_run.proofs.Later.{quiet_stops}
 use Rattle.ed_notation.specs.Faults.{TapeEntry}
 use Rattle.ed_initial.proofs.Quiet.{LeadsIn}
-use Rattle.ed_loads.specs.EntryState.{first_state}
+use Rattle.ed_answers.specs.EntryState.{first_state}
 use Rattle.ed_report.specs.Notes.{ending_line}
 use Rattle.ed_stepper.specs.MoveEnds.{Ends, entered_after, move_end, move_orders, stopped_after}
 use Rattle.ed_stepper.specs.Scripts.{move_line}

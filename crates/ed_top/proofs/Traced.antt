@@ -5,7 +5,7 @@ use Rattle.ed_io.specs.Bytes.{Gains}
 use Rattle.ed_io.proofs.Calls.{gains_none}
 use Rattle.ed_machine.specs.State.{State}
 use Rattle.ed_machine.specs.declared.ending.Ending.{Ending}
-use Rattle.ed_loads.specs.EntryState.{first_state}
+use Rattle.ed_answers.specs.EntryState.{first_state}
 use Rattle.ed_stepper.specs.Traces.{TraceEnds, trace_faults, trace_of}
 use Rattle.ed_stepper.specs.declared.tracing.TraceFault.{TraceFault}
 use Rattle.ed_stepper.specs.declared.tracing.TraceFault.TheVariants as trace

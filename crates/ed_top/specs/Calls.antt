@@ -4,9 +4,9 @@ use Rattle.std.specs.Fmt.{decimal}
 use Rattle.ed_library.specs.declared.call.Call.{Call}
 use Rattle.ed_library.specs.declared.call.Call.TheVariants.{Print, Read, NewLine, Divide, Root, Check}
 use Rattle.ed_lines.specs.declared.program.Line.{Line}
-use Rattle.ed_loads.specs.Refusals.{IsAcceptedAs}
+use Rattle.ed_answers.specs.Refusals.{IsAcceptedAs}
 use Rattle.ed_link.specs.Tapes.{cost}
-use Rattle.ed_loads.specs.EntryState.{entry_state}
+use Rattle.ed_answers.specs.EntryState.{entry_state}
 use Rattle.ed_printer.specs.Paper.{paper}
 use Rattle.ed_report.specs.Notes.{at_after, entry_note}
 use Rattle.ed_routines.specs.Digits.{before_units, digits, print_orders, sum}

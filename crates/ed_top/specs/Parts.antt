@@ -1,7 +1,7 @@
 -- The answer of `parts` (this project's own rule).
 use Rattle.std.specs.Prelude.{◌≡◌, ℕ, List}
 use Rattle.ed_machine.specs.State.{State}
-use Rattle.ed_loads.specs.EntryState.{first_state}
+use Rattle.ed_answers.specs.EntryState.{first_state}
 use Rattle.ed_report.specs.Notes.{ending_line, part_line}
 use Rattle.ed_parts.specs.Parts.{IsReportOfTape, PartsReport}
 use Rattle.ed_parts.specs.declared.tape.PartsEnd.{PartsEnd}

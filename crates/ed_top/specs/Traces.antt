@@ -3,7 +3,7 @@ use Rattle.std.specs.Prelude.{ℕ, ◌==◌, List, not}
 use Rattle.std.specs.List.{filter}
 use Rattle.ed_machine.specs.State.{State}
 use Rattle.ed_run.specs.Run.{run_end}
-use Rattle.ed_loads.specs.EntryState.{first_state}
+use Rattle.ed_answers.specs.EntryState.{first_state}
 use Rattle.ed_report.specs.Notes.{ending_line}
 use Rattle.ed_stepper.specs.Traces.{trace_of}
 use Rattle.ed_command.specs.declared.command.Settings.{Settings}

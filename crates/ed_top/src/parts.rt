@@ -5,11 +5,10 @@ ghost use Rattle.ed_top.specs.Parts.{IsInParts, end_note, end_status};
 ghost use Rattle.ed_top.specs.Private.Stages.{Carried};
 
 use crate::devices::{Rest, Stop, write};
-use ed_answers::{rows_of, status_of};
+use ed_answers::{rows_of, started, status_of};
 use ed_codes::Code;
 use ed_command::Settings;
 use ed_io::Sink;
-use ed_loads::started;
 use ed_machine::Machine;
 use ed_parts::{PartsEnd, run_parts};
 use ed_report::{ending_text, part_fault};

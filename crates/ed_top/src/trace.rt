@@ -5,11 +5,10 @@ ghost use Rattle.ed_top.specs.Private.Stages.{Carried};
 ghost use Rattle.ed_top.specs.Traces.{trace_outcome};
 
 use crate::devices::{Rest, Stop, write};
-use ed_answers::{rows_of, status_of};
+use ed_answers::{rows_of, started, status_of};
 use ed_codes::Code;
 use ed_command::Settings;
 use ed_io::Sink;
-use ed_loads::started;
 use ed_report::ending_text;
 use ed_stepper::trace_run;
 use std::alloc::Global;

@@ -23,8 +23,8 @@ use Rattle.ed_link.specs.Answers.{HasMeaningFault, IsLinked}
 use Rattle.ed_link.specs.Faults.{IsMeaningFault}
 use Rattle.ed_link.specs.declared.linked.Linked.{Linked}
 use Rattle.ed_link.specs.Private.FaultTests.{fault}
-use Rattle.ed_loads.proofs.FaultExamples.{source}
-use Rattle.ed_loads.proofs.EachSource.{read_law}
+use Rattle.ed_answers.proofs.FaultExamples.{source}
+use Rattle.ed_answers.proofs.EachSource.{read_law}
 
 -- ---- what `parse` may answer
 

@@ -23,10 +23,10 @@ use Rattle.ed_syntax.proofs.RunTests.{each_append}
 use Rattle.ed_syntax.proofs.SourceLaws.{program_is_read}
 use Rattle.ed_link.specs.Linked.{data_after, data_rows}
 use Rattle.ed_link.specs.Punch.{punched_items}
-use Rattle.ed_loads.specs.Refusals.{IsAcceptedAs}
+use Rattle.ed_answers.specs.Refusals.{IsAcceptedAs}
 use Rattle.ed_link.specs.Tapes.{after_text, punched_rows, tape}
 use Rattle.ed_link.proofs.Accepted.{can_be_spelled}
-use Rattle.ed_loads.proofs.EachSource.{accepted_is_read, tables}
+use Rattle.ed_answers.proofs.EachSource.{accepted_is_read, tables}
 use Rattle.ed_link.proofs.Inductions.{formed_statement}
 use Rattle.ed_link.proofs.Texts.{both_read}
 

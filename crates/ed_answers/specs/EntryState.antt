@@ -18,7 +18,7 @@ use Rattle.ed_lines.specs.declared.program.Line.{Line}
 use Rattle.ed_symbols.specs.Places.{first_counter}
 use Rattle.ed_link.specs.Linked.{linked_words, entry_of, theta_from, data_after}
 use Rattle.ed_link.specs.Tapes.{ComesToLinked, cost, punched_rows, tape}
-use Rattle.ed_loads.specs.Refusals.{IsAcceptedAs}
+use Rattle.ed_answers.specs.Refusals.{IsAcceptedAs}
 
 -- a cleared machine of a size, started on rows with the Initial Orders
 unfoldable pub first_state : Size → List ℕ → State

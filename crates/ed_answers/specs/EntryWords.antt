@@ -6,9 +6,9 @@ use Rattle.ed_store.specs.Cells.{short_at}
 use Rattle.ed_words.specs.Texts.{Text}
 use Rattle.ed_lines.specs.declared.program.Line.{Line}
 use Rattle.ed_symbols.specs.NameFaults.{StandsAfter}
-use Rattle.ed_loads.specs.Refusals.{IsAcceptedAs}
+use Rattle.ed_answers.specs.Refusals.{IsAcceptedAs}
 use Rattle.ed_link.specs.Words.{IsLastSet, LinePlaces, LineSets}
-use Rattle.ed_loads.specs.EntryState.{entry_store}
+use Rattle.ed_answers.specs.EntryState.{entry_store}
 
 -- no line has a word at this location, and no `use` sets the parameter there
 abbrev pub IsFreePlace : List Line → ℕ → Type 0

@@ -26,9 +26,9 @@ use Rattle.ed_lines.specs.declared.program.Line.{Line}
 use Rattle.ed_link.specs.declared.linked.Linked.{Linked}
 use Rattle.ed_link.specs.Answers.{IsLinked}
 use Rattle.ed_link.specs.Linked.{linked_words, entry_of, data_after}
-use Rattle.ed_loads.proofs.EachSource.{each_source as comes_to}
+use Rattle.ed_answers.proofs.EachSource.{each_source as comes_to}
 use Rattle.ed_link.specs.Tapes.{ComesToLinked, arrival, cost, tape}
-use Rattle.ed_loads.specs.EntryState.{Enters, EachSourceEnters, entry_state, first_state, own_words}
+use Rattle.ed_answers.specs.EntryState.{Enters, EachSourceEnters, entry_state, first_state, own_words}
 
 -- words placed over stores that agree from 44 upwards agree there
 one : (v w : List ℕ) (p x : ℕ) (t : Bool) → nat_lt p 44 ≡ t → drop 44 v ≡ drop 44 w

@@ -13,8 +13,8 @@ use Rattle.ed_codes.specs.Text.{Spells, none, row, spacing, comment}
 use Rattle.ed_codes.specs.Reading.{IsReadingOf, reading, rows}
 use Rattle.ed_codes.proofs.Every.{every_text}
 use Rattle.ed_machine.specs.Sound.{IsSound}
-use Rattle.ed_loads.specs.EntryState.{first_state}
-use Rattle.ed_loads.proofs.Entries.{first_store}
+use Rattle.ed_answers.specs.EntryState.{first_state}
+use Rattle.ed_answers.proofs.Entries.{first_store}
 
 -- a byte spells one of the 32 codes
 spelled_code : (byte code : ℕ) → row_of byte ≡ Some code → code < 32

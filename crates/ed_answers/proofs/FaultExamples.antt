@@ -13,7 +13,7 @@ use Rattle.ed_link.specs.Private.FaultTests.{fault}
 use Rattle.ed_lines.specs.declared.program.Operand.TheVariants.{Number}
 use Rattle.ed_lines.specs.declared.program.Statement.TheVariants.{Segment, Order}
 use Rattle.ed_link.specs.Faults.{IsMeaningFault, HasNoFault, LineHasCause}
-use Rattle.ed_loads.proofs.EachSource.{read_law}
+use Rattle.ed_answers.proofs.EachSource.{read_law}
 
 -- the lines of a text that is read
 abbrev lines_in : Result (List Line) Fault → List Line

@@ -1,7 +1,7 @@
-use Rattle.ed_loads.proofs.EachSource.{each_source as each_comes, one_answer}
-use Rattle.ed_loads.proofs.Entries.{each_source, loaded}
-use Rattle.ed_loads.proofs.EntryWords.{each_entry_has_words}
-use Rattle.ed_loads.proofs.entering.enter.Goals as goal
+use Rattle.ed_answers.proofs.EachSource.{each_source as each_comes, one_answer}
+use Rattle.ed_answers.proofs.Entries.{each_source, loaded}
+use Rattle.ed_answers.proofs.EntryWords.{each_entry_has_words}
+use Rattle.ed_answers.proofs.entering.enter.Goals as goal
 
 pub returns-in_err-rows-clause-law : goal.returns-in_err-rows-clause-law
 returns-in_err-rows-clause-law c = each_source

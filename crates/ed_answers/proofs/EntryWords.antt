@@ -15,8 +15,8 @@ use Rattle.ed_lines.specs.declared.program.Line.{Line}
 use Rattle.ed_link.specs.Linked.{linked_words}
 use Rattle.ed_link.specs.Words.{WordsStand, linked_word}
 use Rattle.ed_link.proofs.WordLaws.{each_word_stands}
-use Rattle.ed_loads.specs.EntryState.{entry_store, own_words}
-use Rattle.ed_loads.specs.EntryWords.{EachEntryHasWords, EntryHasWords, IsFreePlace}
+use Rattle.ed_answers.specs.EntryState.{entry_store, own_words}
+use Rattle.ed_answers.specs.EntryWords.{EachEntryHasWords, EntryHasWords, IsFreePlace}
 
 -- all words of a list have locations of the store if each does
 are_places : (ps : List (ℕ × ℕ)) → ((a w : ℕ) → placed_at ps a ≡ Some w → a < 1024) → ArePlaces ps

@@ -16,12 +16,12 @@ use Rattle.ed_lines.specs.declared.fault.SourceFault.TheVariants.{At, Memory}
 use Rattle.ed_syntax.proofs.Formed.{program_formed}
 use Rattle.ed_syntax.proofs.SourceLaws.{has_one_meaning, program_is_read, source_answer}
 use Rattle.ed_link.specs.Faults.{IsMeaningFault}
-use Rattle.ed_loads.specs.Refusals.{IsAcceptedAs, IsRefused, for_form, for_meaning, IsAcceptedOrRefused}
-use Rattle.ed_loads.specs.Refusals.{EachSourceHasOneAnswer}
+use Rattle.ed_answers.specs.Refusals.{IsAcceptedAs, IsRefused, for_form, for_meaning, IsAcceptedOrRefused}
+use Rattle.ed_answers.specs.Refusals.{EachSourceHasOneAnswer}
 use Rattle.ed_link.specs.Private.FaultTests.{fault}
 use Rattle.ed_link.proofs.Accepted.{accepted_law}
 use Rattle.ed_link.proofs.FaultLaw.{FaultIsFound, fault_law}
-use Rattle.ed_loads.specs.EntryState.{EachSourceComes}
+use Rattle.ed_answers.specs.EntryState.{EachSourceComes}
 
 -- ---- accepted or refused
 
