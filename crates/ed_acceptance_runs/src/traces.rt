@@ -1,9 +1,9 @@
 //! Traces of runs, on sinks that take pieces and fail.
 
 use crate::support::{LETTER, LOOP, expect, lines_of, started};
-use ed_io::MemorySink;
+use ed_io::{MemorySink, WriteStop};
 use ed_machine::Ending;
-use ed_stepper::{TraceFault, trace_run};
+use ed_stepper::trace_run;
 use std::alloc::Global;
 use std::process::Abort;
 use std::test::Fail;
@@ -15,7 +15,7 @@ fn traced(
     tape: &str,
     limit: u64,
     out: &mut MemorySink,
-) -> Result<Result<Ending, TraceFault>, Fail> {
+) -> Result<Result<Ending, WriteStop>, Fail> {
     let mut machine = started(alloc, tape)?;
     assert!(rt; machine.orders_done() == 0 && limit < 1 << 40);
     Ok(trace_run(alloc, &mut machine, limit, 0, out))
@@ -49,7 +49,7 @@ fn expect_trace(
 ) -> Result<(), Fail> {
     let (tape, limit, ending, bytes, lines) = *row;
     let answer = traced(rt, alloc, tape, limit, out)?;
-    expect(rt, answer == Ok(ending), tape);
+    expect(rt, answer.ok() == Some(ending), tape);
     let text = out.bytes();
     assert!(rt; text.len() == bytes, "{tape} {limit}");
     expect(rt, lines_of(text) == lines, tape);
@@ -75,7 +75,7 @@ fn lines_of_fifty_letters(rt: HostRuntime) -> Result<(), Fail> {
 fn whole_trace(rt: &impl Abort, alloc: Global) -> Result<MemorySink, Fail> {
     let mut out = sink(alloc, Vec::new(alloc))?;
     let answer = traced(rt, alloc, LETTER, 1_000, &mut out)?;
-    assert!(rt; answer == Ok(Ending::Stopped));
+    assert!(rt; matches!(answer, Ok(Ending::Stopped)));
     Ok(out)
 }
 
@@ -88,7 +88,7 @@ fn expect_failed(
     call: u64,
 ) -> Result<(), Fail> {
     let answer = traced(rt, alloc, LETTER, 1_000, out)?;
-    assert!(rt; answer == Err(TraceFault::Failed), "{call}");
+    assert!(rt; matches!(answer, Err(WriteStop::Failed)), "{call}");
     expect(rt, out.faults() == 1, "the faults");
     expect(rt, whole.bytes().starts_with(out.bytes()), "the bytes");
     Ok(())

@@ -1,5 +1,7 @@
 -- When a device may answer that it failed: only if its count of faults rose (this project's own rule).
-use Rattle.std.specs.Prelude.{ℕ, ◌+◌, ◌-◌, ◌^◌, ◌≤◌, min, Result, OnErr, is_ok, if◌then◌else◌}
+use Rattle.std.specs.Prelude.{ℕ, ◌+◌, ◌-◌, ◌^◌, ◌≤◌, min, Result, Ok, Err, OnErr, is_ok, if◌then◌else◌}
+use Rattle.ed_io.specs.declared.stop.WriteStop.{WriteStop}
+use Rattle.ed_io.specs.declared.stop.WriteStop.TheVariants.{Failed, Memory}
 
 -- the number after n, on a counter that stays at its last value
 abbrev pub next_count : ℕ → ℕ
@@ -17,3 +19,9 @@ pub record HasCause {T E : Type 0} (before now : ℕ) (result : Result T E) : Ty
 -- the count of faults after a call that raises it by 1 if it fails
 abbrev pub faults_after : {T E : Type 0} → Result T E → ℕ → ℕ
 faults_after result before = if is_ok result then before else next_count before
+
+-- the sink's count of faults after a text was written, or writing it stopped: one more if a write failed, else unchanged
+abbrev pub stop_faults : {T : Type 0} → Result T WriteStop → ℕ → ℕ
+stop_faults (Ok t) before = before
+stop_faults (Err Failed) before = next_count before
+stop_faults (Err Memory) before = before

@@ -10,6 +10,7 @@ mod pieces;
 mod sink;
 mod source;
 mod standard;
+mod stop;
 mod sure;
 mod writing;
 
@@ -17,5 +18,6 @@ pub use device::{Failed, Sink, Source};
 pub use sink::MemorySink;
 pub use source::MemorySource;
 pub use standard::{StdSink, StdSource, SteadyRead, SteadyWrite};
+pub use stop::WriteStop;
 pub use sure::{SureSink, SureSource};
 pub use writing::write_all;

@@ -19,8 +19,8 @@ use Rattle.ed_io.proofs.Calls.{gains_more, gains_none}
 use Rattle.ed_report.specs.Entries.{entry_line, returned_line}
 use Rattle.ed_parts.specs.declared.part.Passed.TheVariants.{Over, Back}
 use Rattle.ed_parts.specs.declared.tape.PartsEnd.{PartsEnd}
-use Rattle.ed_parts.specs.declared.tape.PartsFault.{PartsFault}
-use Rattle.ed_parts.specs.declared.tape.PartsFault.TheVariants.{Failed, Memory}
+use Rattle.ed_io.specs.declared.stop.WriteStop.{WriteStop}
+use Rattle.ed_io.specs.declared.stop.WriteStop.TheVariants.{Failed, Memory}
 use Rattle.ed_parts.specs.Parts.{ComesHome, Finishes, GoesBack, ReportsParts, LeadsTo, TapePart, PartsAnswer}
 use Rattle.ed_parts.specs.Parts.{IsReportOfTape, PartsReport}
 use Rattle.ed_parts.specs.Parts.{entry_done, part_entry_state, entry_report, finished, first_part}
@@ -96,7 +96,7 @@ module _ (limit rows : ℕ) (p : TapePart) where
 
   -- the part breaks off at the line of its entry
   pub entry_stops : (e : TapeEntry) {last : State} {a c : Option (List ℕ)} → LeadsTo p e → entry_done p e ≤ limit
-      → last ≡ part_entry_state p e → (fault : PartsFault) → GainsPart a c (entry_report rows p e)
+      → last ≡ part_entry_state p e → (fault : WriteStop) → GainsPart a c (entry_report rows p e)
       → (fault ≡ Memory → c ≡ a) → BreaksPart limit rows p fault last a c
   entry_stops e leads within state Failed g same = record {
     line = _;
@@ -116,7 +116,7 @@ module _ (limit rows : ℕ) (p : TapePart) where
 
   pub return_stops : (b : GoesBack limit p) {last : State} (a c d : Option (List ℕ))
       → last ≡ (part_after p b).state → Gains a c (entry_report rows p b.entry)
-      → (fault : PartsFault) → GainsPart c d (return_report p b) → (fault ≡ Memory → d ≡ c)
+      → (fault : WriteStop) → GainsPart c d (return_report p b) → (fault ≡ Memory → d ≡ c)
       → BreaksPart limit rows p fault last a d
   return_stops b {last} a c d state whole Failed g same = record {
     line = _;
@@ -277,7 +277,7 @@ module _ {limit l rows : ℕ} {s : State} {p : TapePart} {a c : Option (List ℕ
       let w = tells_all h d (subst (λ n. Passes n rows p (Ok (Over end)) last c d) same q) in
       (w.1, tells w.0 w.1 w.2, w.3, w.4, w.5)
 
-  pub answers_broken : (fault : PartsFault) (last : State) → Passes l rows p (Err fault) last c d
+  pub answers_broken : (fault : WriteStop) (last : State) → Passes l rows p (Err fault) last c d
       → PartsAnswer limit s (Err fault) last a d
   answers_broken fault last q =
       let b = subst (λ n. Passes n rows p (Err fault) last c d) same q in

@@ -18,8 +18,8 @@ use Rattle.ed_io.specs.Causes.{next_count}
 use Rattle.ed_report.specs.Entries.{entry_line, returned_line}
 use Rattle.ed_parts.specs.declared.tape.PartsEnd.{PartsEnd}
 use Rattle.ed_parts.specs.declared.tape.PartsEnd.TheVariants.{Ended, Faulty}
-use Rattle.ed_parts.specs.declared.tape.PartsFault.{PartsFault}
-use Rattle.ed_parts.specs.declared.tape.PartsFault.TheVariants.{Failed, Memory}
+use Rattle.ed_io.specs.declared.stop.WriteStop.{WriteStop}
+use Rattle.ed_io.specs.declared.stop.WriteStop.TheVariants.{Failed, Memory}
 
 -- a part as it begins: its number, counted from 1, the number of orders from Start up to it, and the state
 pub record TapePart : Type 0 where
@@ -219,13 +219,13 @@ pub record LineUnmade (limit rows : ℕ) (p : TapePart) (last : State) (before a
 
 -- a part broke off: because the write of a line failed; or because no memory was found, either at its beginning, with
 -- nothing written, or at a line
-abbrev pub BreaksPart : ℕ → ℕ → TapePart → PartsFault → State → Option (List ℕ) → Option (List ℕ) → Type 0
+abbrev pub BreaksPart : ℕ → ℕ → TapePart → WriteStop → State → Option (List ℕ) → Option (List ℕ) → Type 0
 BreaksPart limit rows p Failed last before after = LineFailed limit rows p last before after
 BreaksPart limit rows p Memory last before after =
     ((last ≡ p.state) × (after ≡ before)) ⊎ LineUnmade limit rows p last before after
 
 -- parts returned, their lines have been written, and the part after them broke off
-pub record BreaksOff (limit : ℕ) (s : State) (fault : PartsFault) (last : State) (before after : Option (List ℕ)) :
+pub record BreaksOff (limit : ℕ) (s : State) (fault : WriteStop) (last : State) (before after : Option (List ℕ)) :
     Type 0 where
   pub returns : ℕ
   pub text : List ℕ
@@ -239,15 +239,9 @@ pub record BreaksOff (limit : ℕ) (s : State) (fault : PartsFault) (last : Stat
 
 -- the whole text is on the sink; or, if a write failed or no memory was found, a prefix of it, and the clause says
 -- which state the machine is in and which lines have been written
-abbrev pub PartsAnswer : ℕ → State → Result PartsEnd PartsFault → State → Option (List ℕ) → Option (List ℕ) → Type 0
+abbrev pub PartsAnswer : ℕ → State → Result PartsEnd WriteStop → State → Option (List ℕ) → Option (List ℕ) → Type 0
 PartsAnswer limit s (Ok end) last before after =
     (t : PartsReport) × IsReportOfTape limit s t × (end ≡ t.end) × (last ≡ t.last) × Gains before after t.text
 PartsAnswer limit s (Err fault) last before after =
     (t : PartsReport) × IsReportOfTape limit s t × GainsPart before after t.text
     × BreaksOff limit s fault last before after
-
--- the sink's count of faults afterwards: one more if a write failed, else unchanged
-abbrev pub parts_faults : {T : Type 0} → Result T PartsFault → ℕ → ℕ
-parts_faults (Ok t) before = before
-parts_faults (Err Failed) before = next_count before
-parts_faults (Err Memory) before = before

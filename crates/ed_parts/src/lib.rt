@@ -8,4 +8,4 @@ mod part;
 mod program;
 mod tape;
 
-pub use tape::{PartsEnd, PartsFault, run_parts};
+pub use tape::{PartsEnd, run_parts};

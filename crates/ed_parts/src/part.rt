@@ -5,13 +5,14 @@ ghost use Rattle.ed_notation.specs.Checks.{AnswersCheck};
 ghost use Rattle.ed_notation.specs.Faults.{TapeEntry};
 ghost use Rattle.ed_interlude.specs.Returned.{IsReturned};
 ghost use Rattle.ed_io.specs.Bytes.{Gains, GainsPart};
-ghost use Rattle.ed_parts.specs.Parts.{base_of, notation_of, parts_faults, read_before};
+ghost use Rattle.ed_io.specs.Causes.{stop_faults};
+ghost use Rattle.ed_parts.specs.Parts.{base_of, notation_of, read_before};
 ghost use Rattle.ed_parts.specs.Private.Stages.{IsArrival, Passes, stage_part};
 
 use crate::program::{Met, obey, run_program};
-use crate::tape::{PartsEnd, PartsFault};
+use crate::tape::PartsEnd;
 use ed_interlude::{check_rest, directive};
-use ed_io::{Sink, write_all};
+use ed_io::{Sink, WriteStop, write_all};
 use ed_machine::{Ending, Machine};
 use ed_notation::{Checked, TapeFault, check};
 use ed_report::{entry_text, returned_text};
@@ -52,7 +53,7 @@ pub(crate) fn run_part<K: Sink>(
     stage: Stage,
     machine: &mut Machine,
     out: &mut K,
-) -> Result<Passed, PartsFault>
+) -> Result<Passed, WriteStop>
     requires limit { stage.limit < 2 ^ 32 }
     requires done { stage.done ≤ stage.limit }
     requires orders { machine.old.orders + (stage.limit - stage.done) ≤ 2 ^ 63 }
@@ -61,7 +62,7 @@ pub(crate) fn run_part<K: Sink>(
     requires back { stage.number ≢ 1 → IsReturned machine.old }
     ensures passes { Passes stage.limit stage.rows (stage_part stage machine.old) result machine.new
         (K.held out.old) (K.held out.new) }
-    ensures faults { K.faults out.new ≡ parts_faults result (K.faults out.old) }
+    ensures faults { K.faults out.new ≡ stop_faults result (K.faults out.old) }
 {
     let read = stage.rows - machine.rows_left().len();
     match check_part(alloc, stage.number, machine) {
@@ -78,7 +79,7 @@ pub(crate) fn run_part<K: Sink>(
             row: read + row,
             cause,
         })),
-        Err(TapeFault::Memory) => Err(PartsFault::Memory),
+        Err(TapeFault::Memory) => Err(WriteStop::Memory),
     }
 }
 
@@ -103,14 +104,14 @@ fn enter_part<K: Sink>(
     arrival: Arrival,
     machine: &mut Machine,
     out: &mut K,
-) -> Result<Passed, PartsFault>
+) -> Result<Passed, WriteStop>
     requires limit { stage.limit < 2 ^ 32 }
     requires done { stage.done ≤ stage.limit }
     requires orders { machine.old.orders + (stage.limit - stage.done) ≤ 2 ^ 63 }
     requires arrival { (e : TapeEntry) × IsArrival stage.rows (stage_part stage machine.old) arrival e }
     ensures passes { Passes stage.limit stage.rows (stage_part stage machine.old) result machine.new
         (K.held out.old) (K.held out.new) }
-    ensures faults { K.faults out.new ≡ parts_faults result (K.faults out.old) }
+    ensures faults { K.faults out.new ≡ stop_faults result (K.faults out.old) }
 {
     let left = stage.limit - stage.done;
     if left < arrival.orders {
@@ -132,12 +133,12 @@ fn enter_part<K: Sink>(
 }
 
 /// Writes a line, if memory was found for it.
-fn write_line<K: Sink>(out: &mut K, line: Result<Vec<u8>, NoMemory>) -> Result<(), PartsFault>
+fn write_line<K: Sink>(out: &mut K, line: Result<Vec<u8>, NoMemory>) -> Result<(), WriteStop>
     ensures whole { (text : List ℕ) → IfOk line (λ bytes. bytes.items ≡ text) → MatchResult result
         (λ _. Gains (K.held out.old) (K.held out.new) text)
         (λ _. GainsPart (K.held out.old) (K.held out.new) text) }
-    ensures memory { IfErr result (λ e. e ≡ PartsFault.Memory → K.held out.new ≡ K.held out.old) }
-    ensures faults { K.faults out.new ≡ parts_faults result (K.faults out.old) }
+    ensures memory { IfErr result (λ e. e ≡ WriteStop.Memory → K.held out.new ≡ K.held out.old) }
+    ensures faults { K.faults out.new ≡ stop_faults result (K.faults out.old) }
 {
     Ok(write_all(out, &line?)?)
 }

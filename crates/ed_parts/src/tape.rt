@@ -1,13 +1,13 @@
 //! The parts of a tape, one after the other.
 ghost use Rattle.std.specs.Prelude.{◌≡◌, ◌+◌, ◌≤◌, ◌^◌, length};
+ghost use Rattle.ed_io.specs.Causes.{stop_faults};
 ghost use Rattle.ed_parts.specs.Laws.{EachEndIsTheRuns, EachEntryIsReached, EachTapeHasOneReport};
-ghost use Rattle.ed_parts.specs.Parts.{PartsAnswer, parts_faults};
+ghost use Rattle.ed_parts.specs.Parts.{PartsAnswer};
 
 use crate::part::{Passed, Stage, run_part};
-use ed_io::{Failed, Sink};
+use ed_io::{Sink, WriteStop};
 use ed_machine::{Ending, Machine};
 use ed_notation::TapeCause;
-use ed_words::NoMemory;
 use std::alloc::Global;
 
 /// How a tape in parts ended.
@@ -26,37 +26,6 @@ pub enum PartsEnd {
     },
 }
 
-/// Why the lines of a tape were not all written.
-#[derive(Clone, Copy)]
-pub enum PartsFault {
-    /// A write failed.
-    Failed,
-    /// No memory was found for a check or a line.
-    Memory,
-}
-
-impl From<NoMemory> for PartsFault {
-    ghost use Rattle.std.specs.Prelude.{◌≡◌};
-    ghost use Rattle.ed_parts.specs.declared.tape.PartsFault.TheVariants.{Memory};
-
-    ghost from_gives = { λ _ e. e ≡ Memory };
-
-    fn from(_none: NoMemory) -> PartsFault {
-        PartsFault::Memory
-    }
-}
-
-impl From<Failed> for PartsFault {
-    ghost use Rattle.std.specs.Prelude.{◌≡◌};
-    ghost use Rattle.ed_parts.specs.declared.tape.PartsFault.TheVariants.{Failed};
-
-    ghost from_gives = { λ _ e. e ≡ Failed };
-
-    fn from(_failed: Failed) -> PartsFault {
-        PartsFault::Failed
-    }
-}
-
 /// Reads the tape of a machine at Start, whose programs may return to the Initial Orders, and writes the line of each
 /// entry and of each return as it comes.
 ///
@@ -68,11 +37,11 @@ pub fn run_parts<K: Sink>(
     machine: &mut Machine,
     limit: u32,
     out: &mut K,
-) -> Result<PartsEnd, PartsFault>
+) -> Result<PartsEnd, WriteStop>
     requires orders { machine.old.orders + limit ≤ 2 ^ 63 }
     requires rows { length machine.old.tape ≤ 2 ^ 32 }
     ensures tells { PartsAnswer limit machine.old result machine.new (K.held out.old) (K.held out.new) }
-    ensures faults { K.faults out.new ≡ parts_faults result (K.faults out.old) }
+    ensures faults { K.faults out.new ≡ stop_faults result (K.faults out.old) }
     ensures law { EachTapeHasOneReport }
     ensures reached { EachEntryIsReached }
     ensures runs { EachEndIsTheRuns }

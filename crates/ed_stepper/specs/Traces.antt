@@ -7,8 +7,8 @@ use Rattle.ed_run.specs.Run.{run_end, run_orders}
 use Rattle.ed_io.specs.Bytes.{Gains, GainsPart}
 use Rattle.ed_io.specs.Causes.{next_count}
 use Rattle.ed_report.specs.Traces.{functions_after, trace_text}
-use Rattle.ed_stepper.specs.declared.tracing.TraceFault.{TraceFault}
-use Rattle.ed_stepper.specs.declared.tracing.TraceFault.TheVariants.{Failed, Memory}
+use Rattle.ed_io.specs.declared.stop.WriteStop.{WriteStop}
+use Rattle.ed_io.specs.declared.stop.WriteStop.TheVariants.{Failed, Memory}
 
 -- the trace of the first k orders from a state
 abbrev pub trace_to : ℕ → State → List ℕ
@@ -38,16 +38,10 @@ pub record TraceBroke (limit resumes : ℕ) (s last : State) (before after : Opt
 
 -- the run was made and its whole trace written; or a write failed, and a prefix of the trace was written; or no
 -- memory was found, nothing was written and no order obeyed
-abbrev pub TraceEnds : ℕ → ℕ → State → Result Ending TraceFault → State → Option (List ℕ) → Option (List ℕ) → Type 0
+abbrev pub TraceEnds : ℕ → ℕ → State → Result Ending WriteStop → State → Option (List ℕ) → Option (List ℕ) → Type 0
 TraceEnds limit resumes s (Ok ending) last before after =
     (ending ≡ (run_end limit resumes limit s).ending) × (last ≡ (run_end limit resumes limit s).state)
     × Gains before after (trace_of limit resumes s)
 TraceEnds limit resumes s (Err Failed) last before after =
     GainsPart before after (trace_of limit resumes s) × TraceBroke limit resumes s last before after
 TraceEnds limit resumes s (Err Memory) last before after = (last ≡ s) × (after ≡ before)
-
--- the sink's count of faults afterwards: one more if a write failed, else unchanged
-abbrev pub trace_faults : Result Ending TraceFault → ℕ → ℕ
-trace_faults (Ok ending) before = before
-trace_faults (Err Failed) before = next_count before
-trace_faults (Err Memory) before = before

@@ -23,4 +23,4 @@ pub use inputs::{Divided, TextKind, divide, line_count};
 pub use moves::{BackFault, MoveEnd, Moved};
 pub use script::{ScriptFault, bad_line, run_script};
 pub use session::{NewFault, Session, Traced};
-pub use tracing::{TraceFault, trace_run};
+pub use tracing::trace_run;

@@ -1,48 +1,17 @@
 //! The run whose trace is written.
 ghost use Rattle.std.specs.Prelude.{◌≡◌, ◌+◌, ◌≤◌, ◌^◌, [], vec_capacity, MatchResult};
-ghost use Rattle.ed_io.specs.Causes.{faults_after};
-ghost use Rattle.ed_stepper.specs.Traces.{TraceEnds, trace_faults};
+ghost use Rattle.ed_io.specs.Causes.{faults_after, stop_faults};
+ghost use Rattle.ed_stepper.specs.Traces.{TraceEnds};
 ghost use Rattle.ed_stepper.specs.Private.Growth.{BreaksTrace, Traces, letter};
 
 use crate::sheet::{end_line, put};
 use ed_codes::{Code, byte_of};
-use ed_io::{Failed, Sink};
+use ed_io::{Failed, Sink, WriteStop};
 use ed_machine::{Ending, Machine, Turn};
-use std::alloc::{AllocError, Global};
+use std::alloc::Global;
 
 /// The number of letters on a line.
 const LETTERS: u64 = 50;
-
-/// Why a trace was not written whole.
-#[derive(Clone, Copy, PartialEq, Eq)]
-pub enum TraceFault {
-    /// A write failed.
-    Failed,
-    /// No memory was found for a line.
-    Memory,
-}
-
-impl From<AllocError> for TraceFault {
-    ghost use Rattle.std.specs.Prelude.{◌≡◌};
-    ghost use Rattle.ed_stepper.specs.declared.tracing.TraceFault.TheVariants.{Memory};
-
-    ghost from_gives = { λ _ e. e ≡ Memory };
-
-    fn from(_error: AllocError) -> TraceFault {
-        TraceFault::Memory
-    }
-}
-
-impl From<Failed> for TraceFault {
-    ghost use Rattle.std.specs.Prelude.{◌≡◌};
-    ghost use Rattle.ed_stepper.specs.declared.tracing.TraceFault.TheVariants.{Failed};
-
-    ghost from_gives = { λ _ e. e ≡ Failed };
-
-    fn from(_failed: Failed) -> TraceFault {
-        TraceFault::Failed
-    }
-}
 
 /// Runs the machine, with a paper that is never full, and writes the letter or sign of the function of each order, 50
 /// to a line, each line as it is full. The last line ends with a line feed if it has a letter.
@@ -55,10 +24,10 @@ pub fn trace_run<K: Sink>(
     limit: u64,
     resumes: u32,
     out: &mut K,
-) -> Result<Ending, TraceFault>
+) -> Result<Ending, WriteStop>
     requires { machine.old.orders + limit ≤ 2 ^ 63 }
     ensures trace { TraceEnds limit resumes machine.old result machine.new (K.held out.old) (K.held out.new) }
-    ensures faults { K.faults out.new ≡ trace_faults result (K.faults out.old) }
+    ensures faults { K.faults out.new ≡ stop_faults result (K.faults out.old) }
 {
     let mut line = Vec::with_capacity(alloc, 51)?;
     let ending = trace_orders(machine, limit, resumes, &mut line, out)?;

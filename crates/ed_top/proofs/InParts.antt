@@ -3,16 +3,17 @@ use Rattle.std.proofs.Common.{◌≡◌, ◌∙◌, ℕ, List, [], refl, sym, ap
 use Rattle.std.specs.Prelude.{Ok, Err}
 use Rattle.ed_machine.specs.State.{State}
 use Rattle.ed_answers.specs.EntryState.{first_state}
-use Rattle.ed_parts.specs.Parts.{PartsAnswer, IsReportOfTape, PartsReport, parts_faults}
+use Rattle.ed_parts.specs.Parts.{PartsAnswer, IsReportOfTape, PartsReport}
 use Rattle.ed_parts.specs.declared.tape.PartsEnd.{PartsEnd}
-use Rattle.ed_parts.specs.declared.tape.PartsFault.{PartsFault}
-use Rattle.ed_parts.specs.declared.tape.PartsFault.TheVariants as parts
+use Rattle.ed_io.specs.Causes.{stop_faults}
+use Rattle.ed_io.specs.declared.stop.WriteStop.{WriteStop}
+use Rattle.ed_io.specs.declared.stop.WriteStop.TheVariants.{Failed, Memory}
 use Rattle.ed_parts.proofs.Tales.{each_told_once}
 use Rattle.ed_command.specs.declared.command.Settings.{Settings}
 use Rattle.ed_answers.specs.Answer.{Answer, of_input}
 use Rattle.ed_top.specs.Clause.{Device, Wrote, WrotePart}
 use Rattle.ed_top.specs.Parts.{IsInParts, end_note, end_status, report_outcome}
-use Rattle.ed_top.specs.Private.Stages.{Carried, IsToTell, parts_stop}
+use Rattle.ed_top.specs.Private.Stages.{Carried, IsToTell}
 use Rattle.ed_answers.specs.Replies.{ForInput}
 use Rattle.ed_answers.proofs.Replies.{HasOne}
 use Rattle.ed_top.proofs.FirstParts.{none_written}
@@ -62,7 +63,7 @@ module _ (s : Settings) (codes : List ℕ) {start : State} (is : start ≡ first
   )
 
   -- a prefix of them is
-  pub parts_broken : (fault : PartsFault) (last : State)
+  pub parts_broken : (fault : WriteStop) (last : State)
       → PartsAnswer s.limit start (Err fault) last out.before out.after
       → ForInput (of_input (λ _. IsInParts s codes)) [] (λ o. WrotePart out o.out)
   parts_broken fault last a = (report_outcome a.0, due a.0 a.1, a.2)
@@ -73,8 +74,8 @@ pub parts_none : (s : Settings) (codes : List ℕ) (out : Device) → Wrote out 
 parts_none s codes out w = let one = (parts_one s).some codes in (one.0, one.1, none_written out one.0.out w)
 
 -- a fault stops the command
-pub parts_stopped : (answer : Answer) (fault : PartsFault) (out : Device)
-    → out.faults_after ≡ parts_faults {T = Unit {0}} (Err fault) out.faults_before
-    → ForInput answer [] (λ o. WrotePart out o.out) → Carried answer [] out (Err (parts_stop fault))
-parts_stopped answer parts.Failed out h w = (h, w)
-parts_stopped answer parts.Memory out h w = (h, w)
+pub parts_stopped : (answer : Answer) (fault : WriteStop) (out : Device)
+    → out.faults_after ≡ stop_faults {T = Unit {0}} (Err fault) out.faults_before
+    → ForInput answer [] (λ o. WrotePart out o.out) → Carried answer [] out (Err fault)
+parts_stopped answer Failed out h w = (h, w)
+parts_stopped answer Memory out h w = (h, w)

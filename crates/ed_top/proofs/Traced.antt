@@ -2,32 +2,33 @@
 use Rattle.std.proofs.Common.{◌≡◌, ℕ, List, Option, [], sym, subst, append-nil}
 use Rattle.std.specs.Prelude.{Ok, Err}
 use Rattle.ed_io.specs.Bytes.{Gains}
+use Rattle.ed_io.specs.Causes.{stop_faults}
+use Rattle.ed_io.specs.declared.stop.WriteStop.{WriteStop}
+use Rattle.ed_io.specs.declared.stop.WriteStop.TheVariants.{Failed, Memory}
 use Rattle.ed_io.proofs.Calls.{gains_none}
 use Rattle.ed_machine.specs.State.{State}
 use Rattle.ed_machine.specs.declared.ending.Ending.{Ending}
 use Rattle.ed_answers.specs.EntryState.{first_state}
-use Rattle.ed_stepper.specs.Traces.{TraceEnds, trace_faults, trace_of}
-use Rattle.ed_stepper.specs.declared.tracing.TraceFault.{TraceFault}
-use Rattle.ed_stepper.specs.declared.tracing.TraceFault.TheVariants as trace
+use Rattle.ed_stepper.specs.Traces.{TraceEnds, trace_of}
 use Rattle.ed_command.specs.declared.command.Settings.{Settings}
 use Rattle.ed_answers.specs.Answer.{known}
 use Rattle.ed_top.specs.Clause.{Device, WrotePart}
 use Rattle.ed_top.specs.Traces.{trace_outcome}
-use Rattle.ed_top.specs.Private.Stages.{Carried, trace_stop}
+use Rattle.ed_top.specs.Private.Stages.{Carried}
 use Rattle.ed_top.proofs.FirstParts.{none_written}
 
 module _ (s : Settings) (codes : List ℕ) {start : State} (is : start ≡ first_state s.size codes) (out : Device) where
   -- a fault stops the command
-  pub trace_stopped : (limit : ℕ) → limit ≡ s.limit → (fault : TraceFault) (last : State)
+  pub trace_stopped : (limit : ℕ) → limit ≡ s.limit → (fault : WriteStop) (last : State)
       → TraceEnds limit s.resumes start (Err fault) last out.before out.after
-      → out.faults_after ≡ trace_faults (Err fault) out.faults_before
-      → Carried (known (trace_outcome s codes)) [] out (Err (trace_stop fault))
-  trace_stopped limit same trace.Failed last ends count = (
+      → out.faults_after ≡ stop_faults (Err fault) out.faults_before
+      → Carried (known (trace_outcome s codes)) [] out (Err fault)
+  trace_stopped limit same Failed last ends count = (
     count,
     subst (λ (x : State). WrotePart out (trace_of s.limit s.resumes x)) is
         (subst (λ (n : ℕ). WrotePart out (trace_of n s.resumes start)) same ends.0),
   )
-  trace_stopped limit same trace.Memory last ends count = (
+  trace_stopped limit same Memory last ends count = (
     count,
     none_written out _
         (subst (λ (x : Option (List ℕ)). Gains out.before x []) (sym ends.1) (gains_none out.before)),

@@ -12,8 +12,8 @@ use Rattle.ed_answers.specs.declared.reply.Rejection.{Rejection}
 use Rattle.ed_answers.specs.declared.reply.Rejection.TheVariants as rejection
 use Rattle.ed_answers.specs.declared.reply.Reply.{Reply}
 use Rattle.ed_top.specs.declared.devices.Rest.{Rest}
-use Rattle.ed_top.specs.declared.devices.Stop.{Stop}
-use Rattle.ed_top.specs.declared.devices.Stop.TheVariants.{Failed, Memory}
+use Rattle.ed_io.specs.declared.stop.WriteStop.{WriteStop}
+use Rattle.ed_io.specs.declared.stop.WriteStop.TheVariants.{Failed, Memory}
 use Rattle.ed_top.proofs.FirstParts.{none_written}
 
 for_more : (answer : Answer) (input : Text) (P Q : Outcome → Type 0) → ((o : Outcome) → P o → Q o) → ForInput answer
@@ -23,7 +23,7 @@ for_more (of_made answers) input P Q more p = (p.0, p.1, more p.0 p.2)
 for_more (of_input answers) input P Q more p = (p.0, p.1, more p.0 p.2)
 
 -- a text that was written is carried out
-text_carried : (answer : Answer) (input : Text) (reply : Reply) (out : Device) (r : Result Rest Stop)
+text_carried : (answer : Answer) (input : Text) (reply : Reply) (out : Device) (r : Result Rest WriteStop)
     → ForInput answer input (Gives reply) → WritesText reply out r → Carried answer input out r
 text_carried answer input reply out (Ok rest) replies w = (
   low answer replies,
@@ -45,7 +45,7 @@ text_carried answer input reply out (Err Memory) replies w = absurd w
 
 -- and so is a reply, whether it refuses the input or not
 pub reply_carried : (answer : Answer) (input : Text) (reply : Result Reply Rejection) (out : Device)
-    (r : Result Rest Stop)
+    (r : Result Rest WriteStop)
     → Replies answer input reply → WritesReply reply out r → Carried answer input out r
 reply_carried answer input (Ok reply) out r replies w = text_carried answer input reply out r replies w
 reply_carried answer input (Err (rejection.Refused reply)) out r replies w =
@@ -57,7 +57,7 @@ reply_carried answer input (Err rejection.Memory) out (Err Memory) replies w =
 
 -- of a command with this answer
 pub written : {answer due : Answer} (input : Text) (reply : Result Reply Rejection) (out : Device)
-    (r : Result Rest Stop) → answer ≡ due → Replies due input reply → WritesReply reply out r
+    (r : Result Rest WriteStop) → answer ≡ due → Replies due input reply → WritesReply reply out r
     → Carried answer input out r
 written {due} input reply out r is replies w =
     subst (λ (a : Answer). Carried a input out r) (sym is) (reply_carried due input reply out r replies w)
@@ -77,7 +77,7 @@ known_anew due input (Err rejection.Memory) replies = replies
 
 -- of a command that reads no input
 pub known_carried : {answer : Answer} {due : Outcome} (input : Text) (reply : Result Reply Rejection) (out : Device)
-    (r : Result Rest Stop) → answer ≡ known due → Replies (known due) [] reply → WritesReply reply out r
+    (r : Result Rest WriteStop) → answer ≡ known due → Replies (known due) [] reply → WritesReply reply out r
     → Carried answer input out r
 known_carried {due} input reply out r is replies w =
     subst (λ (a : Answer). Carried a input out r) (sym is)
@@ -85,14 +85,14 @@ known_carried {due} input reply out r is replies w =
 
 -- and with an outcome that is stated
 pub made_carried : {answer : Answer} {answers : Outcome → Type 0} (input : Text) (reply : Result Reply Rejection)
-    (out : Device) (r : Result Rest Stop) → answer ≡ of_made answers → Replies (of_made answers) [] reply
+    (out : Device) (r : Result Rest WriteStop) → answer ≡ of_made answers → Replies (of_made answers) [] reply
     → WritesReply reply out r → Carried answer input out r
 made_carried {answers} input reply out r is replies w =
     subst (λ (a : Answer). Carried a input out r) (sym is)
     (reply_carried (of_made answers) input reply out r (replied_anew answers input reply replies) w)
 
 -- what was written of the rows as it came is that of the text
-pub rows_carried : (f : List ℕ → Outcome) (input : Text) (codes : List ℕ) (out : Device) (r : Result Rest Stop)
+pub rows_carried : (f : List ℕ → Outcome) (input : Text) (codes : List ℕ) (out : Device) (r : Result Rest WriteStop)
     → reading input ≡ rows codes
     → Carried (known (f codes)) [] out r → Carried (of_rows (exactly f)) input out r
 rows_carried f input codes out r is = by_result r
@@ -100,14 +100,14 @@ rows_carried f input codes out r is = by_result r
     at : OfReading (exactly f) (reading input) (f codes)
     at = subst (λ (q : Reading). OfReading (exactly f) q (f codes)) (sym is) refl
 
-    by_result : (r : Result Rest Stop) → Carried (known (f codes)) [] out r → Carried (of_rows (exactly f)) input out r
+    by_result : (r : Result Rest WriteStop) → Carried (known (f codes)) [] out r → Carried (of_rows (exactly f)) input out r
     by_result (Ok rest) c = (c.0, (f codes, at, c.1), c.2)
     by_result (Err Failed) c = (c.0, (f codes, at, c.1))
     by_result (Err Memory) c = (c.0, (f codes, at, c.1))
 
 -- the same if a relation says which outcome rows have
 pub rows_carried_by : (answers : List ℕ → Outcome → Type 0) (input : Text) (codes : List ℕ) (out : Device)
-    (r : Result Rest Stop)
+    (r : Result Rest WriteStop)
     → reading input ≡ rows codes → Carried (of_input (λ _. answers codes)) [] out r
     → Carried (of_rows answers) input out r
 rows_carried_by answers input codes out r is = by_result r
@@ -115,7 +115,7 @@ rows_carried_by answers input codes out r is = by_result r
     at : (o : Outcome) → answers codes o → OfReading answers (reading input) o
     at o a = subst (λ (q : Reading). OfReading answers q o) (sym is) a
 
-    by_result : (r : Result Rest Stop) → Carried (of_input (λ _. answers codes)) [] out r
+    by_result : (r : Result Rest WriteStop) → Carried (of_input (λ _. answers codes)) [] out r
         → Carried (of_rows answers) input out r
     by_result (Ok rest) c = (c.0, (c.1.0, at c.1.0 c.1.1, c.1.2), c.2)
     by_result (Err Failed) c = (c.0, (c.1.0, at c.1.0 c.1.1, c.1.2))

@@ -8,14 +8,14 @@ ghost use Rattle.ed_top.specs.Output.{answer};
 
 use crate::calls::call_routine;
 use crate::demo::demo;
-use crate::devices::{Rest, Stop, write};
+use crate::devices::{Rest, write};
 use crate::library::list_library;
 use crate::parts::parts;
 use crate::step::step;
 use crate::trace::trace;
 use ed_answers::{check_tape, check_tape1, list, punch, run, tape, tape1};
 use ed_command::{Action, Command};
-use ed_io::Sink;
+use ed_io::{Sink, WriteStop};
 use std::alloc::Global;
 
 /// Whether a command reads its input.
@@ -35,7 +35,7 @@ pub fn carry_out<K: Sink>(
     command: Command,
     input: &[u8],
     out: &mut K,
-) -> Result<Rest, Stop>
+) -> Result<Rest, WriteStop>
     requires few { length input.now ≤ INPUT_BYTES }
     requires ranges { IsInRange command }
     ensures { Carried (answer command.action command.settings) input.now

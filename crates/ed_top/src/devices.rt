@@ -4,10 +4,7 @@ ghost use Rattle.ed_top.specs.Clause.{WritesLastLine, device};
 ghost use Rattle.ed_top.specs.Private.Stages.{HasInput, WritesReply, WritesText, input_faults};
 
 use ed_answers::{INPUT_BYTES, Rejection, Reply};
-use ed_io::{Failed, Sink, Source, write_all};
-use ed_parts::PartsFault;
-use ed_stepper::TraceFault;
-use ed_words::NoMemory;
+use ed_io::{Failed, Sink, Source, WriteStop, write_all};
 use std::alloc::{AllocError, Global};
 
 /// The most bytes that are read at once.
@@ -53,65 +50,6 @@ pub struct Rest {
     pub status: u8,
 }
 
-/// Why a command was not carried out.
-#[derive(Clone, Copy)]
-pub enum Stop {
-    /// A write on `out` failed.
-    Failed,
-    /// No memory was found.
-    Memory,
-}
-
-impl From<Failed> for Stop {
-    ghost use Rattle.std.specs.Prelude.{◌≡◌};
-    ghost use Rattle.ed_top.specs.declared.devices.Stop.TheVariants.{Failed};
-
-    ghost from_gives = { λ _ e. e ≡ Failed };
-
-    fn from(_failed: Failed) -> Stop {
-        Stop::Failed
-    }
-}
-
-impl From<NoMemory> for Stop {
-    ghost use Rattle.std.specs.Prelude.{◌≡◌};
-    ghost use Rattle.ed_top.specs.declared.devices.Stop.TheVariants.{Memory};
-
-    ghost from_gives = { λ _ e. e ≡ Memory };
-
-    fn from(_none: NoMemory) -> Stop {
-        Stop::Memory
-    }
-}
-
-impl From<TraceFault> for Stop {
-    ghost use Rattle.std.specs.Prelude.{◌≡◌};
-    ghost use Rattle.ed_top.specs.Private.Stages.{trace_stop};
-
-    ghost from_gives = { λ fault e. e ≡ trace_stop fault };
-
-    fn from(fault: TraceFault) -> Stop {
-        match fault {
-            TraceFault::Failed => Stop::Failed,
-            TraceFault::Memory => Stop::Memory,
-        }
-    }
-}
-
-impl From<PartsFault> for Stop {
-    ghost use Rattle.std.specs.Prelude.{◌≡◌};
-    ghost use Rattle.ed_top.specs.Private.Stages.{parts_stop};
-
-    ghost from_gives = { λ fault e. e ≡ parts_stop fault };
-
-    fn from(fault: PartsFault) -> Stop {
-        match fault {
-            PartsFault::Failed => Stop::Failed,
-            PartsFault::Memory => Stop::Memory,
-        }
-    }
-}
-
 /// The whole input, if the command reads it, and an empty one otherwise.
 pub fn input_of<S: Source>(alloc: Global, reads: bool, source: &mut S) -> Result<Vec<u8>, InputStop>
     ensures { HasInput reads (device S.left S.faults source.old source.new) result }
@@ -148,12 +86,12 @@ fn read_all<S: Source>(alloc: Global, source: &mut S) -> Result<Vec<u8>, InputSt
 }
 
 /// Writes the text of a reply on `out`, whether it refuses the input or not.
-pub fn write<K: Sink>(out: &mut K, reply: Result<Reply, Rejection>) -> Result<Rest, Stop>
+pub fn write<K: Sink>(out: &mut K, reply: Result<Reply, Rejection>) -> Result<Rest, WriteStop>
     ensures { WritesReply reply (device K.held K.faults out.old out.new) result }
 {
     let reply = match reply {
         Ok(reply) | Err(Rejection::Refused(reply)) => reply,
-        Err(Rejection::Memory) => return Err(Stop::Memory),
+        Err(Rejection::Memory) => return Err(WriteStop::Memory),
     };
     write_all(out, &reply.out)?;
     Ok(Rest {

@@ -4,11 +4,11 @@ ghost use Rattle.ed_top.specs.Clause.{device};
 ghost use Rattle.ed_top.specs.Parts.{IsInParts, end_note, end_status};
 ghost use Rattle.ed_top.specs.Private.Stages.{Carried};
 
-use crate::devices::{Rest, Stop, write};
+use crate::devices::{Rest, write};
 use ed_answers::{rows_of, started, status_of};
 use ed_codes::Code;
 use ed_command::Settings;
-use ed_io::Sink;
+use ed_io::{Sink, WriteStop};
 use ed_machine::Machine;
 use ed_parts::{PartsEnd, run_parts};
 use ed_report::{ending_text, part_fault};
@@ -22,7 +22,7 @@ pub fn parts<K: Sink>(
     settings: Settings,
     input: &[u8],
     out: &mut K,
-) -> Result<Rest, Stop>
+) -> Result<Rest, WriteStop>
     requires { length input.now ≤ 2 ^ 32 }
     ensures { Carried (of_rows (IsInParts settings)) input.now (device K.held K.faults out.old out.new) result }
 {
@@ -38,7 +38,7 @@ fn read_parts<K: Sink>(
     settings: Settings,
     rows: Vec<Code>,
     out: &mut K,
-) -> Result<Rest, Stop>
+) -> Result<Rest, WriteStop>
     requires { length rows.items ≤ 2 ^ 32 }
     ensures { Carried (of_input (λ _. IsInParts settings rows.items)) []
         (device K.held K.faults out.old out.new) result }

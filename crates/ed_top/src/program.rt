@@ -19,7 +19,7 @@ ghost use Rattle.ed_top.specs.Stepped.{EachStepIsRun};
 ghost use Rattle.ed_top.specs.TapeEntries.{EachTapeRunsFromEntry};
 
 use crate::commands::{carry_out, reads_input};
-use crate::devices::{InputStop, Stop, input_of, tell};
+use crate::devices::{InputStop, input_of, tell};
 use ed_answers::TOO_LONG;
 use ed_command::{Command, CommandFault, read_words};
 use ed_io::{Sink, Source};
@@ -101,7 +101,7 @@ fn run_command<S: Source, K: Sink, L: Sink>(
     };
     match carry_out(alloc, command, &input, out) {
         Ok(rest) => tell(note, &rest.note, rest.status),
-        Err(Stop::Failed) => 9,
-        Err(Stop::Memory) => tell(note, NO_MEMORY, 10),
+        Err(WriteStop::Failed) => 9,
+        Err(WriteStop::Memory) => tell(note, NO_MEMORY, 10),
     }
 }

@@ -4,11 +4,11 @@ ghost use Rattle.ed_top.specs.Clause.{device};
 ghost use Rattle.ed_top.specs.Private.Stages.{Carried};
 ghost use Rattle.ed_top.specs.Traces.{trace_outcome};
 
-use crate::devices::{Rest, Stop, write};
+use crate::devices::{Rest, write};
 use ed_answers::{rows_of, started, status_of};
 use ed_codes::Code;
 use ed_command::Settings;
-use ed_io::Sink;
+use ed_io::{Sink, WriteStop};
 use ed_report::ending_text;
 use ed_stepper::trace_run;
 use std::alloc::Global;
@@ -19,7 +19,7 @@ pub fn trace<K: Sink>(
     settings: Settings,
     input: &[u8],
     out: &mut K,
-) -> Result<Rest, Stop>
+) -> Result<Rest, WriteStop>
     ensures { Carried (of_rows (exactly (trace_outcome settings))) input.now
         (device K.held K.faults out.old out.new) result }
 {
@@ -35,7 +35,7 @@ fn trace_rows<K: Sink>(
     settings: Settings,
     rows: Vec<Code>,
     out: &mut K,
-) -> Result<Rest, Stop>
+) -> Result<Rest, WriteStop>
     ensures { Carried (known (trace_outcome settings rows.items)) [] (device K.held K.faults out.old out.new) result }
 {
     let mut machine = started(alloc, settings.size, rows)?;

@@ -10,7 +10,7 @@ use Rattle.ed_parts.specs.declared.part.Passed.TheVariants.{Over, Back}
 use Rattle.ed_parts.specs.declared.part.Arrival.{Arrival}
 use Rattle.ed_parts.specs.declared.program.Met.{Met}
 use Rattle.ed_parts.specs.declared.program.Met.TheVariants.{Finished, Returned}
-use Rattle.ed_parts.specs.declared.tape.PartsFault.{PartsFault}
+use Rattle.ed_io.specs.declared.stop.WriteStop.{WriteStop}
 use Rattle.ed_parts.specs.Parts.{ComesHome, Concludes, Finishes, GoesBack, ReportsParts, LeadsTo, TapePart, PartsReport}
 use Rattle.ed_parts.specs.Parts.{part_report}
 use Rattle.ed_parts.specs.Parts.{BreaksPart, ReachesPart, part_after}
@@ -41,7 +41,7 @@ pub record BreaksReport (limit rows : ℕ) (p : TapePart) (before after : Option
 
 -- a part was passed: it is the last one, and its report is written; or its program returned, and its lines are written;
 -- or it broke off
-abbrev pub Passes : ℕ → ℕ → TapePart → Result Passed PartsFault → State → Option (List ℕ) → Option (List ℕ) → Type 0
+abbrev pub Passes : ℕ → ℕ → TapePart → Result Passed WriteStop → State → Option (List ℕ) → Option (List ℕ) → Type 0
 Passes limit rows p (Ok (Over end)) last before after =
     (t : PartsReport) × Concludes limit rows p t × (end ≡ t.end) × (last ≡ t.last) × Gains before after t.text
 Passes limit rows p (Ok (Back done)) last before after =

@@ -20,12 +20,8 @@ use Rattle.ed_answers.specs.declared.reply.Rejection.TheVariants as rejection
 use Rattle.ed_top.specs.declared.devices.Rest.{Rest}
 use Rattle.ed_top.specs.declared.devices.InputStop.{InputStop}
 use Rattle.ed_top.specs.declared.devices.InputStop.TheVariants as input
-use Rattle.ed_top.specs.declared.devices.Stop.{Stop}
-use Rattle.ed_top.specs.declared.devices.Stop.TheVariants.{Failed, Memory}
-use Rattle.ed_stepper.specs.declared.tracing.TraceFault.{TraceFault}
-use Rattle.ed_stepper.specs.declared.tracing.TraceFault.TheVariants as trace
-use Rattle.ed_parts.specs.declared.tape.PartsFault.{PartsFault}
-use Rattle.ed_parts.specs.declared.tape.PartsFault.TheVariants as parts
+use Rattle.ed_io.specs.declared.stop.WriteStop.{WriteStop}
+use Rattle.ed_io.specs.declared.stop.WriteStop.TheVariants.{Failed, Memory}
 
 -- ---- the input
 
@@ -58,16 +54,6 @@ HasRows s kind text (Err e) =
 
 -- ---- a command
 
--- why a trace was not written whole
-abbrev pub trace_stop : TraceFault → Stop
-trace_stop trace.Failed = Failed
-trace_stop trace.Memory = Memory
-
--- why the lines of a tape in parts were not
-abbrev pub parts_stop : PartsFault → Stop
-parts_stop parts.Failed = Failed
-parts_stop parts.Memory = Memory
-
 -- all that is due on `out` has been written; the line and the status are still due
 pub record IsToTell (out : Device) (line : Text) (status : ℕ) (o : Outcome) : Type 0 where
   pub wrote : Wrote out o.out
@@ -75,21 +61,21 @@ pub record IsToTell (out : Device) (line : Text) (status : ℕ) (o : Outcome) : 
   pub status_is : status ≡ o.status
 
 -- a command was carried out on an input, as far as `out` is concerned
-abbrev pub Carried : Answer → Text → Device → Result Rest Stop → Type 0
+abbrev pub Carried : Answer → Text → Device → Result Rest WriteStop → Type 0
 Carried answer input out (Ok rest) = (rest.status < 8)
     × ForInput answer input (IsToTell out rest.note.items rest.status) × NeverFailed out
 Carried answer input out (Err Failed) = FailedOnce out × ForInput answer input (λ o. WrotePart out o.out)
 Carried answer input out (Err Memory) = NeverFailed out × ForInput answer input (λ o. WrotePart out o.out)
 
 -- the text of a reply was written on `out`
-abbrev pub WritesText : Reply → Device → Result Rest Stop → Type 0
+abbrev pub WritesText : Reply → Device → Result Rest WriteStop → Type 0
 WritesText reply out (Ok rest) = Wrote out reply.out.items × (rest.note ≡ reply.note)
     × (rest.status ≡ reply.status) × NeverFailed out
 WritesText reply out (Err Failed) = FailedOnce out × WrotePart out reply.out.items
 WritesText reply out (Err Memory) = ⊥
 
 -- a reply was written on `out`, whether it refuses the input or not
-abbrev pub WritesReply : Result Reply Rejection → Device → Result Rest Stop → Type 0
+abbrev pub WritesReply : Result Reply Rejection → Device → Result Rest WriteStop → Type 0
 WritesReply (Ok reply) out r = WritesText reply out r
 WritesReply (Err (rejection.Refused reply)) out r = WritesText reply out r
 WritesReply (Err rejection.Memory) out (Ok rest) = ⊥

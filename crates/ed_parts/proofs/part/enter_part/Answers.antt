@@ -2,7 +2,8 @@ use Rattle.std.proofs.Common.{◌≡◌, ◌+◌, ◌-◌, ◌<◌, ◌≤◌, �
 use Rattle.std.proofs.lemmas.Result.{err_from_is_err_and}
 use Rattle.ed_io.proofs.Calls.{gains_more, gains_none}
 use Rattle.std.specs.Prelude.{Err}
-use Rattle.ed_parts.specs.Parts.{cut, entry_done, finished, part_after, parts_faults}
+use Rattle.ed_io.specs.Causes.{stop_faults}
+use Rattle.ed_parts.specs.Parts.{cut, entry_done, finished, part_after}
 use Rattle.ed_parts.specs.declared.part.Passed.{Passed}
 use Rattle.ed_parts.specs.Private.Stages.{stage_part}
 use Rattle.ed_parts.proofs.Passing.{back_from, behind_is, entry_breaks, entry_is, finishes_there, made_as}
@@ -124,6 +125,6 @@ returns-in_err-write_line-in-Returned g c =
         return_stops l c.args.stage.rows p b _ _ _ last whole failed.field-0.0 gains failed.ensures.memory,
       );
       faults = c.in_err-write_line-in-Returned.ensures.faults
-          ∙ ap (parts_faults {T = Passed} (Err c.in_err-write_line-in-Returned.field-0.0))
+          ∙ ap (stop_faults {T = Passed} (Err c.in_err-write_line-in-Returned.field-0.0))
           c.in_ok-write_line.ensures.faults;
     })

@@ -2,7 +2,7 @@ use Rattle.std.proofs.Common.{refl, sym, ◌∙◌, ap, arith, length, lit≤, �
 use Rattle.std.proofs.Common.{le_of_eq, le_trans, le-add_right, zero-le}
 use Rattle.std.proofs.lemmas.Result.{err_from_is_err_and}
 use Rattle.std.specs.Prelude.{Err}
-use Rattle.ed_parts.specs.Parts.{parts_faults}
+use Rattle.ed_io.specs.Causes.{stop_faults}
 use Rattle.ed_parts.specs.declared.tape.PartsEnd.{PartsEnd}
 use Rattle.ed_parts.proofs.Passing.{ahead_first, answers_broken, answers_over, goes_onward}
 use Rattle.ed_parts.proofs.Reached.{each_reached}
@@ -53,7 +53,7 @@ returns-in_err-end g c =
     let fault = c.in_err-end.field-0.0 in
     rw (p.1, p.2) (record {
       tells = answers_broken _ c.from.ensures i.whole i.ahead fault c.run_part.new.machine c.in_err-end.ensures.passes;
-      faults = c.in_err-end.ensures.faults ∙ ap (parts_faults {T = PartsEnd} (Err fault)) i.faults;
+      faults = c.in_err-end.ensures.faults ∙ ap (stop_faults {T = PartsEnd} (Err fault)) i.faults;
       law = each_told_once;
       reached = each_reached;
       runs = each_end;

@@ -1,7 +1,7 @@
 use Rattle.std.proofs.Common.{refl, subst}
 use Rattle.std.specs.Prelude.{Ok}
 use Rattle.ed_top.specs.declared.devices.InputStop.TheVariants as input
-use Rattle.ed_top.specs.declared.devices.Stop.TheVariants as stop
+use Rattle.ed_io.specs.declared.stop.WriteStop.TheVariants as stop
 use Rattle.ed_words.specs.Texts.{Text}
 use Rattle.ed_top.specs.Private.Stages.{Carried}
 use Rattle.ed_answers.specs.Replies.{ForInput}
