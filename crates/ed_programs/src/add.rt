@@ -3,7 +3,7 @@ ghost use Rattle.ed_programs.specs.Add.{add_orders, add_prints, add_refusal, add
 ghost use Rattle.ed_programs.specs.Programs.{GivesProgram, Prints};
 
 use crate::refusal::{LIMIT, Refusal};
-use crate::woven::woven;
+use crate::woven::woven_program;
 use std::alloc::Global;
 
 /// The source, with a gap for each number.
@@ -42,5 +42,5 @@ pub fn add_program(alloc: Global, first: u16, second: u16) -> Result<String, Ref
     if LIMIT <= first as u32 + (second as u32) {
         return Err(Refusal::Number);
     }
-    woven(alloc, &ADD, &[first, second])
+    woven_program(alloc, &ADD, &[first, second])
 }

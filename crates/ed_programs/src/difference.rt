@@ -3,7 +3,7 @@ ghost use Rattle.ed_programs.specs.Difference.{difference_orders, difference_pri
 ghost use Rattle.ed_programs.specs.Programs.{GivesProgram, Prints};
 
 use crate::refusal::Refusal;
-use crate::woven::woven;
+use crate::woven::woven_program;
 use std::alloc::Global;
 
 /// The source, with a gap for each number.
@@ -45,5 +45,5 @@ pub fn difference_program(alloc: Global, first: u16, second: u16) -> Result<Stri
     ensures is { GivesProgram None (difference_text first second) result }
     ensures law { Prints (difference_orders first second) 72 (difference_prints first second) result }
 {
-    woven(alloc, &DIFFERENCE, &[first, second])
+    woven_program(alloc, &DIFFERENCE, &[first, second])
 }

@@ -3,7 +3,7 @@ ghost use Rattle.ed_programs.specs.Fraction.{fraction_orders, fraction_prints, f
 ghost use Rattle.ed_programs.specs.Programs.{GivesProgram, Prints};
 
 use crate::refusal::Refusal;
-use crate::woven::woven;
+use crate::woven::woven_program;
 use std::alloc::Global;
 
 /// The greatest lower number of a fraction: ten times a remainder must be below 65,536.
@@ -85,5 +85,5 @@ pub fn fraction_program(
     if lower == 0 || MOST_LOWER < lower {
         return Err(Refusal::Divisor);
     }
-    woven(alloc, &FRACTION, &[upper, lower, places])
+    woven_program(alloc, &FRACTION, &[upper, lower, places])
 }

@@ -2,7 +2,7 @@ ghost use Rattle.ed_programs.specs.Greatest.{greatest_orders, greatest_prints, g
 ghost use Rattle.ed_programs.specs.Programs.{GivesProgram, Prints};
 
 use crate::refusal::Refusal;
-use crate::woven::woven;
+use crate::woven::woven_program;
 use std::alloc::Global;
 
 /// The source before the first number and after the last.
@@ -54,5 +54,5 @@ pub fn greatest_program(alloc: Global, numbers: &[u16]) -> Result<String, Refusa
     let mut pieces = ["\nword "; 9];
     pieces[0] = head;
     pieces[8] = tail;
-    woven(alloc, &pieces, numbers)
+    woven_program(alloc, &pieces, numbers)
 }

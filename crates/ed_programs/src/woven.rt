@@ -6,18 +6,17 @@ ghost use Rattle.ed_sources.specs.Calls.{woven_text};
 ghost use Rattle.ed_programs.specs.Programs.{GivesProgram};
 
 use crate::refusal::Refusal;
+use ed_sources::woven;
+use ed_words::NoMemory;
 use std::alloc::Global;
 
 /// The program whose text is these pieces, with a number between each two of them.
-pub fn woven(alloc: Global, pieces: &[&str], numbers: &[u16]) -> Result<String, Refusal>
+pub fn woven_program(alloc: Global, pieces: &[&str], numbers: &[u16]) -> Result<String, Refusal>
     requires { length pieces.now ≡ length numbers.now + 1 }
     ensures { GivesProgram None (woven_text (map (λ piece. piece.now) pieces.now) (map decimal numbers.now)) result }
 {
-    let mut text = String::new(alloc);
-    for (gap, number) in numbers.iter().enumerate() {
-        let piece = pieces[gap];
-        write!(text, "{piece}{number}")?;
+    match woven(alloc, pieces, numbers) {
+        Ok(text) => Ok(text),
+        Err(NoMemory) => Err(Refusal::Memory),
     }
-    text.push_str(pieces[numbers.len()])?;
-    Ok(text)
 }

@@ -1,5 +1,5 @@
 -- The text of a source that grows by words and segments.
-use Rattle.std.proofs.Common.{◌≡◌, ◌∙◌, ℕ, zero, suc, ◌+◌, ◌*◌, ◌<◌, [], ◌∷◌, ◌++◌, ap, sym, append_assoc, append-nil}
+use Rattle.std.proofs.Common.{◌≡◌, ◌∙◌, ℕ, zero, suc, ◌+◌, ◌*◌, ◌<◌, [], ◌∷◌, ◌++◌, refl, ap, sym, append_assoc, append-nil}
 use Rattle.std.proofs.Common.{arith, codes}
 use Rattle.std.specs.Fmt.{decimal}
 use Rattle.std.proofs.lemmas.Grind.{flat_map-append}
@@ -20,14 +20,15 @@ pub one_behind : {n m y last : ℕ} (x : ℕ) → n ≡ suc m → y ≡ next x �
 one_behind {m = m} x less is h = ap (number_after m) is ∙ ap (λ k. number_after k x) (sym less) ∙ h
 
 -- one word fewer is left
-pub one_word : {n m y : ℕ} {line bytes grown whole : Text} (x : ℕ) (before : Text) → n ≡ suc m → y ≡ next x
-    → line ≡ codes "word " ++ decimal (number_word y) ++ codes "\n" → bytes ≡ line → grown ≡ before ++ bytes
+pub one_word : {n m y : ℕ} {grown whole : Text} (x : ℕ) (before : Text) → n ≡ suc m → y ≡ next x
+    → grown ≡ before ++ (codes "word " ++ decimal (number_word y) ++ codes "\n")
     → before ++ text_of_lines (word_lines n x) ≡ whole → grown ++ text_of_lines (word_lines m y) ≡ whole
-one_word {m = m} {bytes = bytes} {whole = whole} x before less is says same more h =
-    let told = same ∙ says ∙ ap (λ k. codes "word " ++ decimal (number_word k) ++ codes "\n") is in
-    (λ i. more i ++ text_of_lines (word_lines m (is i)))
-    ∙ one_line before bytes (codes "word " ++ decimal (number_word (next x)))
-    (text_of_lines (word_lines m (next x))) whole told
+one_word {m = m} {whole = whole} x before less is more h =
+    let line : Text = codes "word " ++ decimal (number_word (next x)) ++ codes "\n" in
+    let grown_is = more ∙ ap (λ k. before ++ (codes "word " ++ decimal (number_word k) ++ codes "\n")) is in
+    (λ i. grown_is i ++ text_of_lines (word_lines m (is i)))
+    ∙ one_line before line (codes "word " ++ decimal (number_word (next x)))
+    (text_of_lines (word_lines m (next x))) whole refl
     (ap (λ k. before ++ text_of_lines (word_lines k x)) (sym less) ∙ h)
 
 -- no word is left
@@ -40,18 +41,19 @@ no_word n x before none h =
     sym (append-nil before) ∙ ap (λ k. before ++ text_of_lines (word_lines k x)) (sym none) ∙ h
 
 -- one segment fewer is left
-pub one_segment : {n m last : ℕ} {bytes with_line with_words whole : Text} (k x : ℕ) (before : Text) → n ≡ suc m
-    → bytes ≡ codes "segment s" ++ decimal k ++ codes "\n"
-    → (with_line ≡ before ++ bytes) × (with_words ≡ with_line ++ text_of_lines (word_lines 8 x))
+pub one_segment : {n m last : ℕ} {with_line with_words whole : Text} (k x : ℕ) (before : Text) → n ≡ suc m
+    → with_line ≡ before ++ (codes "segment s" ++ decimal k ++ codes "\n")
+    → with_words ≡ with_line ++ text_of_lines (word_lines 8 x)
     → last ≡ number_after 8 x
     → before ++ text_of_lines (segments n k x) ≡ whole → with_words ++ text_of_lines (segments m (k + 1) last) ≡ whole
-one_segment {m = m} {bytes = bytes} {with_line = with_line} {whole = whole} k x before less says grown end h =
+one_segment {m = m} {with_line = with_line} {whole = whole} k x before less line words_are end h =
     let rest : Text = text_of_lines (segments m (k + 1) (number_after 8 x)) in
     let words : Text = text_of_lines (word_lines 8 x) in
-    (λ i. grown.1 i ++ text_of_lines (segments m (k + 1) (end i)))
+    (λ i. words_are i ++ text_of_lines (segments m (k + 1) (end i)))
     ∙ append_assoc with_line words rest
-    ∙ ap (λ (t : Text). t ++ (words ++ rest)) grown.0
-    ∙ one_line before bytes (codes "segment s" ++ decimal k) (words ++ rest) whole says
+    ∙ ap (λ (t : Text). t ++ (words ++ rest)) line
+    ∙ one_line before (codes "segment s" ++ decimal k ++ codes "\n") (codes "segment s" ++ decimal k) (words ++ rest)
+    whole refl
     (ap (λ (t : Text). before ++ (((codes "segment s" ++ decimal k) ++ 10 ∷ []) ++ t))
     (sym (flat_map-append (λ line. line ++ 10 ∷ []) (word_lines 8 x) (segments m (k + 1) (number_after 8 x))))
     ∙ ap (λ j. before ++ text_of_lines (segments j k x)) (sym less) ∙ h)

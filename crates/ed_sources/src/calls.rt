@@ -1,12 +1,9 @@
-ghost use Rattle.std.specs.Prelude.{◌≡◌, ◌∷◌, ◌++◌, [], IfOk, map};
-ghost use Rattle.std.specs.Fmt.{decimal};
-ghost use Rattle.ed_words.specs.Texts.{Text};
-ghost use Rattle.ed_library.specs.declared.call.Call.TheVariants.{Divide, NewLine};
+ghost use Rattle.std.specs.Prelude.{◌≡◌, IfOk, string_bytes};
 ghost use Rattle.ed_sources.specs.Calls.{call_text};
 ghost use Rattle.ed_sources.specs.Accepted.{EachCallIsAccepted};
 
+use crate::weaving::woven;
 use ed_library::Call;
-use ed_report::bytes_of_text;
 use ed_words::NoMemory;
 use std::alloc::Global;
 
@@ -104,39 +101,23 @@ pub fn call_source(alloc: Global, call: &Call) -> Result<Vec<u8>, NoMemory>
     ensures is { IfOk result (λ bytes. bytes.items ≡ call_text call.now) }
     ensures law { EachCallIsAccepted }
 {
+    Ok(source_text(alloc, call)?.into_bytes())
+}
+
+/// The text of that source.
+fn source_text(alloc: Global, call: &Call) -> Result<String, NoMemory>
+    ensures { IfOk result (λ text. string_bytes text ≡ call_text call.now) }
+{
     match call {
-        Call::Print(number) => with_number(alloc, PRINT, u32::from(*number)),
-        Call::Read(number) => with_number(alloc, READ, u32::from(*number)),
-        Call::NewLine => newline_source(alloc),
-        Call::Divide { n, by } => divide_source(alloc, *n, *by),
-        Call::Root(number) => with_number(alloc, ROOT, u32::from(*number)),
-        Call::Check(number) => with_number(alloc, CHECK, u32::from(*number)),
+        Call::Print(number) => woven(alloc, &PRINT, &[*number]),
+        Call::Read(number) => woven(alloc, &READ, &[*number]),
+        Call::NewLine => woven(alloc, &NEW_LINE, &[]),
+        Call::Divide { n, by } => {
+            let high = (n / 65536) as u16;
+            let low = (n % 65536) as u16;
+            woven(alloc, &DIVIDE, &[high, low, *by])
+        }
+        Call::Root(number) => woven(alloc, &ROOT, &[*number]),
+        Call::Check(number) => woven(alloc, &CHECK, &[*number]),
     }
-}
-
-/// The source that prints a new line.
-fn newline_source(alloc: Global) -> Result<Vec<u8>, NoMemory>
-    ensures { IfOk result (λ bytes. bytes.items ≡ call_text NewLine) }
-{
-    let [text] = NEW_LINE;
-    bytes_of_text(format!(in alloc; "{text}"))
-}
-
-/// The source that divides a number and prints the quotient and the remainder.
-fn divide_source(alloc: Global, number: u32, by: u16) -> Result<Vec<u8>, NoMemory>
-    ensures { IfOk result (λ bytes. bytes.items ≡ call_text (Divide number by)) }
-{
-    let high = number / 65536;
-    let low = number % 65536;
-    let [head, before_low, before_by, tail] = DIVIDE;
-    bytes_of_text(format!(in alloc; "{head}{high}{before_low}{low}{before_by}{by}{tail}"))
-}
-
-/// The text of two pieces with a number between them.
-pub fn with_number(alloc: Global, pieces: [&str; 2], number: u32) -> Result<Vec<u8>, NoMemory>
-    ensures { (head tail : Text) → map (λ piece. piece.now) pieces.entry ≡ head ∷ tail ∷ []
-        → IfOk result (λ bytes. bytes.items ≡ head ++ (decimal number ++ tail)) }
-{
-    let [head, tail] = pieces;
-    bytes_of_text(format!(in alloc; "{head}{number}{tail}"))
 }

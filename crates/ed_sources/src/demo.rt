@@ -1,10 +1,9 @@
-ghost use Rattle.std.specs.Prelude.{◌≡◌, ◌++◌, ◌<◌, ◌≤◌, codes, IfOk};
-ghost use Rattle.std.specs.Fmt.{decimal};
+ghost use Rattle.std.specs.Prelude.{◌≡◌, ◌++◌, ◌<◌, ◌≤◌, IfOk, string_bytes};
 ghost use Rattle.ed_sources.specs.Accepted.{EachDemoIsAccepted};
 ghost use Rattle.ed_sources.specs.Calls.{text_of_lines};
 ghost use Rattle.ed_sources.specs.Demo.{adding_text, number_after, demo_text, next, segments, word_lines, number_word};
 
-use crate::calls::with_number;
+use crate::weaving::woven;
 use ed_words::NoMemory;
 use std::alloc::Global;
 
@@ -40,37 +39,36 @@ pub fn demo_source(alloc: Global, n: u32) -> Result<Vec<u8>, NoMemory>
     ensures is { IfOk result (λ bytes. bytes.items ≡ demo_text n) }
     ensures law { EachDemoIsAccepted }
 {
-    let mut text = with_number(alloc, ADDING, 8 * n)?;
-    push_segments(alloc, &mut text, n)?;
-    text.extend_from_slice(b"enter main\n")?;
-    Ok(text)
+    let mut text = woven(alloc, &ADDING, &[8 * n as u16])?;
+    push_segments(&mut text, n)?;
+    text.push_str("enter main\n")?;
+    Ok(text.into_bytes())
 }
 
 /// Adds `n` segments to a source.
-fn push_segments(alloc: Global, text: &mut Vec<u8>, n: u32) -> Result<(), NoMemory>
+fn push_segments(text: &mut String, n: u32) -> Result<(), NoMemory>
     requires { n ≤ 112 }
-    ensures { IfOk result (λ _. text.new.items ≡ text.old.items ++ text_of_lines (segments n 1 n)) }
+    ensures { IfOk result (λ _. string_bytes text.new ≡ string_bytes text.old ++ text_of_lines (segments n 1 n)) }
 {
     let mut number = n;
     for done in 0..n {
-        let line = with_number(alloc, ["segment s", "\n"], done + 1)?;
-        text.extend_from_slice(&line)?;
-        number = push_words(alloc, text, number)?;
+        writeln!(text, "segment s{}", done + 1)?;
+        number = push_words(text, number)?;
     }
     Ok(())
 }
 
 /// Adds the 8 words of the numbers after a given one to a source, and answers the last of these numbers.
-fn push_words(alloc: Global, text: &mut Vec<u8>, before: u32) -> Result<u32, NoMemory>
+fn push_words(text: &mut String, before: u32) -> Result<u32, NoMemory>
     requires { before < 65536 }
     ensures last { IfOk result (λ last. last ≡ number_after 8 before) }
-    ensures text { IfOk result (λ _. text.new.items ≡ text.old.items ++ text_of_lines (word_lines 8 before)) }
+    ensures text { IfOk result
+        (λ _. string_bytes text.new ≡ string_bytes text.old ++ text_of_lines (word_lines 8 before)) }
 {
     let mut number = before;
     for _word in 0..8u32 {
         number = next(number);
-        let line = with_number(alloc, ["word ", "\n"], number / 1024)?;
-        text.extend_from_slice(&line)?;
+        writeln!(text, "word {}", number / 1024)?;
     }
     Ok(number)
 }

@@ -6,6 +6,8 @@
 
 mod calls;
 mod demo;
+mod weaving;
 
 pub use calls::call_source;
 pub use demo::demo_source;
+pub use weaving::woven;

@@ -22,7 +22,7 @@ use crate::commands::{carry_out, reads_input};
 use crate::devices::{InputStop, input_of, tell};
 use ed_answers::TOO_LONG;
 use ed_command::{Command, CommandFault, read_words};
-use ed_io::{Sink, Source};
+use ed_io::{Sink, Source, WriteStop};
 use std::alloc::Global;
 
 const USAGE: &[u8] =

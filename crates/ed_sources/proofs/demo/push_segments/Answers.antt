@@ -1,4 +1,5 @@
-use Rattle.std.proofs.Common.{◌≡◌, ◌∙◌, ◌+◌, ◌-◌, ◌<◌, suc, arith, refl, subst, sym}
+use Rattle.std.proofs.Common.{◌≡◌, ◌+◌, ◌-◌, ◌<◌, suc, arith, subst, sym}
+use Rattle.std.specs.Prelude.{string_bytes}
 use Rattle.ed_sources.proofs.DemoTexts.{behind_low, no_segment, one_segment}
 use Rattle.ed_sources.proofs.demo.push_segments.Goals as goal
 
@@ -10,8 +11,8 @@ loop-done-preserved c =
     let last = c.in_ok-number.ensures.last in
     record {
       low = subst (λ x. x < 65536) (sym last) (behind_low 8 l.number l.invariant.low);
-      text = one_segment (l.done + 1) l.number l.text.items less (c.deref.ensures.value ∙ c.in_ok-line.ensures _ _ refl)
-          (c.in_ok-extend_from_slice.ensures.items, c.in_ok-number.ensures.text) last l.invariant.text;
+      text = one_segment (l.done + 1) l.number (string_bytes l.text) less c.in_ok-writeln.ensures.bytes
+          c.in_ok-number.ensures.text last l.invariant.text;
     }
 
 pub returns : goal.returns
@@ -19,4 +20,4 @@ returns c =
     let l = c.loop-done in
     let outside = c.loop-done-test.false in
     let none : c.args.n - l.done ≡ 0 = omega (arith, outside) in
-    no_segment (l.done + 1) l.number l.text.items none l.invariant.text
+    no_segment (l.done + 1) l.number (string_bytes l.text) none l.invariant.text

@@ -1,4 +1,5 @@
 use Rattle.std.proofs.Common.{◌≡◌, ◌++◌, ◌+◌, ◌-◌, ◌<◌}
+use Rattle.std.specs.Prelude.{string_bytes}
 use Rattle.ed_sources.specs.Calls.{text_of_lines}
 use Rattle.ed_sources.specs.Demo.{segments}
 use Rattle.ed_sources.proofs.demo.push_segments.Given as goal
@@ -7,6 +8,6 @@ use Rattle.ed_sources.proofs.demo.push_segments.Given as goal
 abbrev pub invariant-loop-done : goal.invariant-loop-done
 invariant-loop-done l = record {
   low : l.number < 65536;
-  text : l.text.items ++ text_of_lines (segments (l.n - l.done) (l.done + 1) l.number)
-      ≡ l.initial.text.items ++ text_of_lines (segments l.n 1 l.n);
+  text : string_bytes l.text ++ text_of_lines (segments (l.n - l.done) (l.done + 1) l.number)
+      ≡ string_bytes l.initial.text ++ text_of_lines (segments l.n 1 l.n);
 }

@@ -1,4 +1,5 @@
-use Rattle.std.proofs.Common.{◌≡◌, ◌+◌, ◌-◌, suc, arith, refl}
+use Rattle.std.proofs.Common.{◌≡◌, ◌+◌, ◌-◌, suc, arith}
+use Rattle.std.specs.Prelude.{string_bytes}
 use Rattle.ed_sources.proofs.DemoTexts.{no_number, no_word, one_behind, one_word}
 use Rattle.ed_sources.proofs.demo.push_words.Goals as goal
 
@@ -11,8 +12,7 @@ loop-word-preserved c =
     record {
       low = omega (arith, is);
       last = one_behind l.number less is l.invariant.last;
-      text = one_word l.number l.text.items less is (c.in_ok-line.ensures _ _ refl) c.deref.ensures.value c.in_ok-extend_from_slice.ensures.items
-          l.invariant.text;
+      text = one_word l.number (string_bytes l.text) less is c.in_ok-writeln.ensures.bytes l.invariant.text;
     }
 
 pub returns-clause-last : goal.returns-clause-last
@@ -23,4 +23,4 @@ returns-clause-last c =
 pub returns-clause-text : goal.returns-clause-text
 returns-clause-text c =
     let l = c.loop-word in
-    no_word (8 - l._word) l.number l.text.items (omega (arith, c.loop-word-test.false)) l.invariant.text
+    no_word (8 - l._word) l.number (string_bytes l.text) (omega (arith, c.loop-word-test.false)) l.invariant.text

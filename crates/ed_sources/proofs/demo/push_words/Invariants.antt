@@ -1,4 +1,5 @@
 use Rattle.std.proofs.Common.{◌≡◌, ◌++◌, ◌-◌, ◌<◌}
+use Rattle.std.specs.Prelude.{string_bytes}
 use Rattle.ed_sources.specs.Calls.{text_of_lines}
 use Rattle.ed_sources.specs.Demo.{number_after, word_lines}
 use Rattle.ed_sources.proofs.demo.push_words.Given as goal
@@ -8,6 +9,6 @@ abbrev pub invariant-loop-word : goal.invariant-loop-word
 invariant-loop-word l = record {
   low : l.number < 65536;
   last : number_after (8 - l._word) l.number ≡ number_after 8 l.before;
-  text : l.text.items ++ text_of_lines (word_lines (8 - l._word) l.number)
-      ≡ l.initial.text.items ++ text_of_lines (word_lines 8 l.before);
+  text : string_bytes l.text ++ text_of_lines (word_lines (8 - l._word) l.number)
+      ≡ string_bytes l.initial.text ++ text_of_lines (word_lines 8 l.before);
 }

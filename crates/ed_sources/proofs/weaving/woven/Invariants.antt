@@ -2,7 +2,7 @@ use Rattle.std.proofs.Common.{◌≡◌, ◌++◌, drop, map}
 use Rattle.std.specs.Prelude.{string_bytes}
 use Rattle.std.specs.Fmt.{decimal}
 use Rattle.ed_sources.specs.Calls.{woven_text}
-use Rattle.ed_programs.proofs.woven.woven.Given as goal
+use Rattle.ed_sources.proofs.weaving.woven.Given as goal
 
 abbrev pub invariant-loop-gap : goal.invariant-loop-gap
 invariant-loop-gap l =
