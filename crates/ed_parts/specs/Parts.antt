@@ -14,7 +14,6 @@ use Rattle.ed_notation.specs.Faults.{TapeEntry, ComesTo, IsFault, WellFormed}
 use Rattle.ed_notation.specs.declared.cause.TapeCause.{TapeCause}
 use Rattle.ed_interlude.specs.Returned.{IsReturned, directive, reopening}
 use Rattle.ed_io.specs.Bytes.{Gains, GainsPart}
-use Rattle.ed_io.specs.Causes.{next_count}
 use Rattle.ed_report.specs.Entries.{entry_line, returned_line}
 use Rattle.ed_parts.specs.declared.tape.PartsEnd.{PartsEnd}
 use Rattle.ed_parts.specs.declared.tape.PartsEnd.TheVariants.{Ended, Faulty}

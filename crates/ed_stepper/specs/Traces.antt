@@ -5,7 +5,6 @@ use Rattle.ed_machine.specs.Steps.{state_after}
 use Rattle.ed_machine.specs.declared.ending.Ending.{Ending}
 use Rattle.ed_run.specs.Run.{run_end, run_orders}
 use Rattle.ed_io.specs.Bytes.{Gains, GainsPart}
-use Rattle.ed_io.specs.Causes.{next_count}
 use Rattle.ed_report.specs.Traces.{functions_after, trace_text}
 use Rattle.ed_io.specs.declared.stop.WriteStop.{WriteStop}
 use Rattle.ed_io.specs.declared.stop.WriteStop.TheVariants.{Failed, Memory}

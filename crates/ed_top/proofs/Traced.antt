@@ -21,7 +21,7 @@ module _ (s : Settings) (codes : List ℕ) {start : State} (is : start ≡ first
   -- a fault stops the command
   pub trace_stopped : (limit : ℕ) → limit ≡ s.limit → (fault : WriteStop) (last : State)
       → TraceEnds limit s.resumes start (Err fault) last out.before out.after
-      → out.faults_after ≡ stop_faults (Err fault) out.faults_before
+      → out.faults_after ≡ stop_faults {T = Ending} (Err fault) out.faults_before
       → Carried (known (trace_outcome s codes)) [] out (Err fault)
   trace_stopped limit same Failed last ends count = (
     count,
