@@ -65,12 +65,12 @@ fn push_line(text: &mut Vec<u8>, rows: &[Code]) -> Result<(), NoMemory>
 fn push_item(rows: &mut Vec<Code>, item: &Item) -> Result<(), NoMemory>
     ensures { IfOk result (λ v. rows.new.items ≡ rows.old.items ++ rows_of (canonical item.now)) }
 {
-    push_row(rows, item.function)?;
+    rows.push(item.function)?;
     push_digits(rows, item.number, &POWERS_OF_TEN)?;
     if item.mark {
-        push_row(rows, Code::PI)?;
+        rows.push(Code::PI)?;
     }
-    push_row(rows, item.end)
+    Ok(rows.push(item.end)?)
 }
 
 /// The digit rows of a number at powers of ten, except at those that are greater than the number.
@@ -81,15 +81,8 @@ fn push_digits(rows: &mut Vec<Code>, number: u16, powers: &[u16]) -> Result<(), 
 {
     for power in powers {
         if *power <= number {
-            push_row(rows, Code::new((number / *power % 10) as u8).unwrap())?;
+            rows.push(Code::new((number / *power % 10) as u8).unwrap())?;
         }
     }
     Ok(())
-}
-
-/// Adds a row.
-fn push_row(rows: &mut Vec<Code>, row: Code) -> Result<(), NoMemory>
-    ensures { IfOk result (λ v. rows.new.items ≡ rows.old.items ++ row ∷ []) }
-{
-    Ok(rows.push(row)?)
 }
