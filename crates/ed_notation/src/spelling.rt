@@ -1,4 +1,4 @@
-ghost use Rattle.std.specs.Prelude.{◌≡◌, ◌++◌, IfOk, [], ◌∷◌, false, true, nat_lt};
+ghost use Rattle.std.specs.Prelude.{◌≡◌, ◌++◌, IfOk, false, true, nat_lt};
 ghost use Rattle.std.specs.List.{flat_map, list_all};
 ghost use Rattle.ed_codes.specs.Reading.{reading, rows};
 ghost use Rattle.ed_notation.specs.Items.{rows_of, spelled_rows};
@@ -37,18 +37,11 @@ pub fn text_of_items(alloc: Global, items: &[Item]) -> Result<Vec<u8>, NoMemory>
 {
     let mut text = Vec::new(alloc);
     for item in items {
-        push_item_line(alloc, &mut text, item)?;
+        let mut rows = Vec::new(alloc);
+        push_item(&mut rows, item)?;
+        push_line(&mut text, &rows)?;
     }
     Ok(text)
-}
-
-/// The line of an item.
-fn push_item_line(alloc: Global, text: &mut Vec<u8>, item: &Item) -> Result<(), NoMemory>
-    ensures { IfOk result (λ v. text.new.items ≡ text.old.items ++ line_from false (rows_of (canonical item.now))) }
-{
-    let mut rows = Vec::new(alloc);
-    push_item(&mut rows, item)?;
-    push_line(text, &rows)
 }
 
 /// The line of an item's rows.
