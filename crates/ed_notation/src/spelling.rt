@@ -1,4 +1,4 @@
-ghost use Rattle.std.specs.Prelude.{◌≡◌, ◌++◌, IfOk, [], ◌∷◌, false, true, nat_lt};
+ghost use Rattle.std.specs.Prelude.{◌≡◌, ◌++◌, IfOk, false, true, nat_lt};
 ghost use Rattle.std.specs.List.{flat_map, list_all};
 ghost use Rattle.ed_codes.specs.Reading.{reading, rows};
 ghost use Rattle.ed_notation.specs.Items.{rows_of, spelled_rows};
@@ -37,18 +37,11 @@ pub fn text_of_items(alloc: Global, items: &[Item]) -> Result<Vec<u8>, NoMemory>
 {
     let mut text = Vec::new(alloc);
     for item in items {
-        push_item_line(alloc, &mut text, item)?;
+        let mut rows = Vec::new(alloc);
+        push_item(&mut rows, item)?;
+        push_line(&mut text, &rows)?;
     }
     Ok(text)
-}
-
-/// The line of an item.
-fn push_item_line(alloc: Global, text: &mut Vec<u8>, item: &Item) -> Result<(), NoMemory>
-    ensures { IfOk result (λ v. text.new.items ≡ text.old.items ++ line_from false (rows_of (canonical item.now))) }
-{
-    let mut rows = Vec::new(alloc);
-    push_item(&mut rows, item)?;
-    push_line(text, &rows)
 }
 
 /// The line of an item's rows.
@@ -65,12 +58,12 @@ fn push_line(text: &mut Vec<u8>, rows: &[Code]) -> Result<(), NoMemory>
 fn push_item(rows: &mut Vec<Code>, item: &Item) -> Result<(), NoMemory>
     ensures { IfOk result (λ v. rows.new.items ≡ rows.old.items ++ rows_of (canonical item.now)) }
 {
-    push_row(rows, item.function)?;
+    rows.push(item.function)?;
     push_digits(rows, item.number, &POWERS_OF_TEN)?;
     if item.mark {
-        push_row(rows, Code::PI)?;
+        rows.push(Code::PI)?;
     }
-    push_row(rows, item.end)
+    Ok(rows.push(item.end)?)
 }
 
 /// The digit rows of a number at powers of ten, except at those that are greater than the number.
@@ -81,15 +74,8 @@ fn push_digits(rows: &mut Vec<Code>, number: u16, powers: &[u16]) -> Result<(), 
 {
     for power in powers {
         if *power <= number {
-            push_row(rows, Code::new((number / *power % 10) as u8).unwrap())?;
+            rows.push(Code::new((number / *power % 10) as u8).unwrap())?;
         }
     }
     Ok(())
-}
-
-/// Adds a row.
-fn push_row(rows: &mut Vec<Code>, row: Code) -> Result<(), NoMemory>
-    ensures { IfOk result (λ v. rows.new.items ≡ rows.old.items ++ row ∷ []) }
-{
-    Ok(rows.push(row)?)
 }

@@ -1,6 +1,6 @@
 -- What the code answers, by what is read.
 use Rattle.std.proofs.Common.{◌≡◌, ℕ, ◌<◌, ◌≤◌, false, ap, refl, sym, Bool, true, List, [], ◌∷◌, map, length, arith}
-use Rattle.std.specs.Prelude.{Option, Some, None, Ok, Err, nat_lt}
+use Rattle.std.specs.Prelude.{Option, Some, None, Ok, Err, nat_lt, if◌then◌else◌}
 use Rattle.std.specs.List.{list_all}
 use Rattle.std.proofs.lemmas.Bool.Decides.{nat_tests}
 use Rattle.ed_words.specs.Texts.{Text}
@@ -30,6 +30,25 @@ pub made_form : {A B : Type 0} (f : A → B) (o : Option (Ranged A)) (a : A) →
 made_form f None a h = absurd (cc)
 made_form f (Some None) a h = absurd (cc)
 made_form f (Some (Some b)) a h = let same : a ≡ b = cc in rw same refl
+
+-- what the number of a run is, by what is read
+pub number_in_range : (digits : Bool) (o : Ranged ℕ) (k : ℕ) → Ok k ≡ form_result (if digits then Some o else None)
+    → (digits ≡ true) × (o ≡ Some k)
+number_in_range true None k h = absurd (cc)
+number_in_range true (Some n) k h = (refl, cc)
+number_in_range false o k h = absurd (cc)
+
+pub number_out_of_range : (digits : Bool) (o : Ranged ℕ) (e : FormFault) → e ≡ OutOfRange
+    → Err e ≡ form_result (if digits then Some o else None) → (digits ≡ true) × (o ≡ None)
+number_out_of_range true None e out h = (refl, refl)
+number_out_of_range true (Some n) e out h = absurd (cc)
+number_out_of_range false o e out h = absurd (cc)
+
+pub no_number : (digits : Bool) (o : Ranged ℕ) (e : FormFault) → e ≡ NotThisForm
+    → Err e ≡ form_result (if digits then Some o else None) → digits ≡ false
+no_number true None e none h = absurd (cc)
+no_number true (Some n) e none h = absurd (cc)
+no_number false o e none h = refl
 
 -- a line of plain bytes, which is not too long, says what its parts say
 pub line_read : (two : Bool) (k : ℕ) (line : Text) (parts : List LinePart) → list_all is_line_byte line ≡ true

@@ -6,7 +6,7 @@ use Rattle.std.proofs.lemmas.List.{at_drop_all}
 use Rattle.ed_notation.specs.Spellings.{digit_at}
 use Rattle.ed_notation.proofs.Parts.{digit_there, next_passes, no_digit, one_more}
 use Rattle.ed_notation.proofs.spelling.push_digits.Goals as goal
-use Rattle.ed_notation.proofs.spelling.push_digits.Goals.{then-power-number+in_ok-push_row, else-power-number}
+use Rattle.ed_notation.proofs.spelling.push_digits.Goals.{then-power-number+in_ok-push, else-power-number}
 
 pub loop-power-preserved : goal.loop-power-preserved
 loop-power-preserved c =
@@ -25,10 +25,10 @@ loop-power-preserved c =
       (next_passes (λ p. nat_lt 0 p) powers i 0 below c.loop-power.invariant.1).1,
     ) in whole in
     elim c.if-power-number.branch [
-      | then-power-number+in_ok-push_row w ↦
+      | then-power-number+in_ok-push w ↦
           let row = rw w.unwrap.ensures at w.new.ensures.some in
           with_part
-          (ap (λ v. v.items) w.rows-is ∙ w.in_ok-push_row.ensures
+          (ap (λ v. v.items) w.rows-is ∙ w.in_ok-push.ensures.items
           ∙ ap (λ (ds : List ℕ). done ++ ds)
           (ap (λ (d : ℕ). d ∷ []) row ∙ sym (digit_there power n w.if-power-number.true)))
       | else-power-number w ↦ with_part

@@ -1,10 +1,9 @@
 use Rattle.std.proofs.Common.{◌≡◌, ℕ, Bool, ◌∙◌, ap, sym, List, [], ◌∷◌, ◌++◌, append_assoc, append-nil}
-use Rattle.std.proofs.lemmas.Result.{on_ok_weaker}
 use Rattle.ed_notation.specs.Items.{mark_rows}
 use Rattle.ed_notation.specs.Spellings.{digits_of}
 use Rattle.ed_notation.proofs.Parts.{digits_are, joined}
 use Rattle.ed_notation.proofs.spelling.push_item.Goals as goal
-use Rattle.ed_notation.proofs.spelling.push_item.Goals.{then-item+in_ok-push_row-2, else-item}
+use Rattle.ed_notation.proofs.spelling.push_item.Goals.{then-item+in_ok-push-2, else-item}
 
 pub returns : goal.returns
 returns c =
@@ -12,19 +11,17 @@ returns c =
     let mark = mark_rows i.mark in
     let digits = digits_of i.number in
     let r = c.args.rows.now.items in
-    let r1 = c.push_row.new.rows.items in
+    let r1 = c.push.new.self.items in
     let r2 = c.push_digits.new.rows.items in
     let with_mark = λ (same : c.if-item.rows.items ≡ r2 ++ mark).
-    on_ok_weaker c.push_row-2.result
-    (λ e. joined r (i.function ∷ []) (digits ++ (mark ++ i.end ∷ [])) c.in_ok-push_row.ensures
+    joined r (i.function ∷ []) (digits ++ (mark ++ i.end ∷ [])) c.in_ok-push.ensures.items
     (joined r1 digits (mark ++ i.end ∷ [])
     (c.in_ok-push_digits.ensures ∙ ap (λ (ds : List ℕ). r1 ++ ds) (digits_are i.number))
-    (joined r2 mark (i.end ∷ []) same e))
-    ∙ ap (λ (xs : List ℕ). r ++ i.function ∷ xs) (sym (append_assoc digits mark (i.end ∷ []))))
-    c.push_row-2.ensures in
+    (joined r2 mark (i.end ∷ []) same c.in_ok-push-3.ensures.items))
+    ∙ ap (λ (xs : List ℕ). r ++ i.function ∷ xs) (sym (append_assoc digits mark (i.end ∷ []))) in
     elim c.if-item.branch [
-      | then-item+in_ok-push_row-2 w ↦ with_mark
-          (ap (λ v. v.items) w.rows-is ∙ w.in_ok-push_row-2.ensures
+      | then-item+in_ok-push-2 w ↦ with_mark
+          (ap (λ v. v.items) w.rows-is ∙ w.in_ok-push-2.ensures.items
           ∙ ap (λ (b : Bool). r2 ++ mark_rows b) (sym w.if-item.true))
       | else-item w ↦ with_mark
           (ap (λ v. v.items) w.rows-is ∙ sym (append-nil r2)

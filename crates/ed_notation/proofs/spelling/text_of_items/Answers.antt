@@ -1,4 +1,4 @@
-use Rattle.std.proofs.Common.{refl, false, List}
+use Rattle.std.proofs.Common.{ℕ, ◌∙◌, ap, refl, false, List, ◌++◌}
 use Rattle.ed_notation.specs.declared.item.Item.{Item}
 use Rattle.ed_notation.specs.Items.{rows_of}
 use Rattle.ed_notation.specs.Spellings.{canonical, canonicals, line_from, text_of}
@@ -14,15 +14,22 @@ returns-clause-reads c =
 pub returns-clause-spelling : goal.returns-clause-spelling
 returns-clause-spelling c = spelling _ c.requires
 
-pub returns-in_err-push_item_line-clause-spelling : goal.returns-in_err-push_item_line-clause-spelling
-returns-in_err-push_item_line-clause-spelling c = spelling _ c.requires
+pub returns-in_err-push_item-clause-spelling : goal.returns-in_err-push_item-clause-spelling
+returns-in_err-push_item-clause-spelling c = spelling _ c.requires
+
+pub returns-in_err-push_line-clause-spelling : goal.returns-in_err-push_line-clause-spelling
+returns-in_err-push_line-clause-spelling c = spelling _ c.requires
 
 pub loop-item-preserved : goal.loop-item-preserved
 loop-item-preserved c =
     let i = c.item-item.result in
+    let done = c.loop-item.text.items in
+    let rows = rows_of (canonical i) in
     one_more (λ (is : List Item). text_of (canonicals is)) c.args.items.now c.loop-item.item-index i
-    c.loop-item.text.items (line_from false (rows_of (canonical i))) _ c.loop-item-test.true c.item-item.is refl
-    c.in_ok-push_item_line.ensures c.loop-item.invariant
+    done (line_from false rows) _ c.loop-item-test.true c.item-item.is refl
+    (c.in_ok-push_line.ensures ∙ ap (λ (xs : List ℕ). done ++ line_from false xs)
+    (c.deref.ensures.value ∙ c.in_ok-push_item.ensures ∙ ap (λ (xs : List ℕ). xs ++ rows) c.new-rows.ensures.items))
+    c.loop-item.invariant
 
 pub returns-clause-text : goal.returns-clause-text
 returns-clause-text c =
