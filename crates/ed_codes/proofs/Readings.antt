@@ -1,10 +1,10 @@
 -- What is spelled is read, and each fault is.
-use Rattle.std.proofs.Common.{◌≡◌, ◌∙◌, ℕ, ◌+◌, ◌-◌, suc, Bool, true, false, List, [], ◌∷◌, ◌++◌, refl, sym, ap}
-use Rattle.std.proofs.Common.{append_assoc, take, drop, length, arith}
+use Rattle.std.proofs.Common.{◌≡◌, ◌≢◌, ◌∙◌, ℕ, ◌+◌, ◌-◌, suc, Bool, true, false, List, [], ◌∷◌, ◌++◌, refl, sym, ap}
+use Rattle.std.proofs.Common.{append_assoc, take, drop, length, arith, get_or, subst, ◌<◌, ◌≤◌}
 use Rattle.std.specs.Prelude.{Option, Some, None, ◌==◌, is_some, Result, Ok, Err, Vec}
 use Rattle.std.specs.declared.alloc.Global.{Global}
 use Rattle.std.proofs.lemmas.Bool.Decides.{Decides-eqb}
-use Rattle.std.proofs.lemmas.List.{append-nil, take-append-drop, length-append, length-take-le, length-drop}
+use Rattle.std.proofs.lemmas.List.{append-nil, take-append-drop, length-append, length-take-le, length-drop, drop_all, drop_more}
 use Rattle.std.proofs.lemmas.Bool.{or_parts}
 use Rattle.ed_codes.specs.Spelling.{row_of}
 use Rattle.ed_codes.specs.Text.{Spells, none, row, spacing, comment, is_spacing}
@@ -12,6 +12,7 @@ use Rattle.ed_codes.specs.Text.{has_close, HasNoRow, HasOpenComment, StopsAt}
 use Rattle.ed_codes.specs.Answer.{ReadsText, AnswersText}
 use Rattle.ed_codes.specs.Reading.{Reading, rows, no_row, open_comment, with_row, row_or_fault}
 use Rattle.ed_codes.specs.Reading.{reading_from, reading, IsReadingOf, HasOneReading}
+use Rattle.ed_codes.proofs.Spellings.{differs}
 use Rattle.ed_codes.proofs.Every.{every_text}
 use Rattle.ed_codes.specs.declared.code.Code.{Code}
 use Rattle.ed_codes.specs.declared.tape.TextFault.{TextFault}
@@ -148,10 +149,86 @@ only_reading text (open_comment place) h = open_is_read text place h
 pub has_one_reading : HasOneReading
 has_one_reading = record { every = every_text; only = only_reading }
 
--- an answer that says what the text has says its reading
-pub answers_reading : (text : List ℕ) (r : Result (Vec Code Global) TextFault) → ReadsText text r
-    → AnswersText (reading text) r
-answers_reading text (Ok v) h = spelled_is_read text v.items h
-answers_reading text (Err (NoRow place byte)) h = no_row_is_read text place byte h
-answers_reading text (Err (OpenComment place)) h = open_is_read text place h
-answers_reading text (Err Memory) h = tt
+-- the reading of a text is these rows before the reading of its bytes from an offset, in a comment or outside
+pub record IsReadTo (text codes : List ℕ) (within : Option ℕ) (place : ℕ) : Type 0 where
+  pub whole : with_rows codes (reading_from within place (drop place text)) ≡ reading text
+
+-- no byte is read
+pub begins : {text codes : List ℕ} → codes ≡ [] → IsReadTo text codes None 0
+begins {text} empty = rw empty (record { whole = refl })
+
+-- the same, with the next byte
+next : {text codes : List ℕ} {within : Option ℕ} {place : ℕ} → place < length text → IsReadTo text codes within place
+    → with_rows codes (reading_from within place (get_or text place 0 ∷ drop (place + 1) text)) ≡ reading text
+next {text} {place = place} below h = rw (drop_more text place 0 below) at h.whole
+
+-- a comment ends
+pub closes : {text codes : List ℕ} {within : Option ℕ} {place : ℕ} → place < length text → true ≡ is_some within
+    → get_or text place 0 ≡ 93 → IsReadTo text codes within place → IsReadTo text codes None (place + 1)
+closes {within = None} below some is h = absurd (cc)
+closes {within = Some start} below some is h = record { whole = rw is at (next below h) }
+
+-- a comment goes on
+pub stays : {text codes : List ℕ} {within : Option ℕ} {place : ℕ} → place < length text → true ≡ is_some within
+    → get_or text place 0 ≢ 93 → IsReadTo text codes within place → IsReadTo text codes within (place + 1)
+stays {within = None} below some other h = absurd (cc)
+stays {within = Some start} below some other h = record { whole = rw (differs _ 93 other) at (next below h) }
+
+-- a comment begins
+pub opens : {text codes : List ℕ} {within : Option ℕ} {place : ℕ} → place < length text → false ≡ is_some within
+    → get_or text place 0 ≡ 91 → IsReadTo text codes within place → IsReadTo text codes (Some place) (place + 1)
+opens {within = None} below outside is h = record { whole = rw is at (next below h) }
+opens {within = Some start} below outside is h = absurd (cc)
+
+-- a spacing byte
+pub skips : {text codes : List ℕ} {within : Option ℕ} {place : ℕ} → place < length text → false ≡ is_some within
+    → true ≡ is_spacing (get_or text place 0) → IsReadTo text codes within place
+    → IsReadTo text codes within (place + 1)
+skips {text} {codes} {within = None} {place} below outside is h =
+    record { whole = rw (spacing_byte (get_or text place 0) place (drop (place + 1) text) (sym is)) at (next below h) }
+skips {within = Some start} below outside is h = absurd (cc)
+
+one_more : (codes : List ℕ) (code : ℕ) (r : Reading) → with_rows (codes ++ code ∷ []) r ≡ with_rows codes (with_row code r)
+one_more [] code r = refl
+one_more (first ∷ codes) code r = ap (with_row first) (one_more codes code r)
+
+-- a row
+pub gains : {text codes : List ℕ} {within : Option ℕ} {place : ℕ} (code : ℕ) → place < length text
+    → false ≡ is_some within → row_of (get_or text place 0) ≡ Some code → IsReadTo text codes within place
+    → IsReadTo text (codes ++ code ∷ []) within (place + 1)
+gains {text} {codes} {within = None} {place} code below outside is h =
+    let after = drop (place + 1) text in
+    record {
+      whole = one_more codes code (reading_from None (place + 1) after)
+          ∙ rw (row_byte (get_or text place 0) code place after is) at (next below h);
+    }
+gains {within = Some start} code below outside is h = absurd (cc)
+
+-- a byte that spells no row
+pub finds_none : {text codes : List ℕ} {within : Option ℕ} {place : ℕ} → place < length text
+    → false ≡ is_some within → get_or text place 0 ≢ 91 → false ≡ is_spacing (get_or text place 0)
+    → row_of (get_or text place 0) ≡ None → IsReadTo text codes within place
+    → reading text ≡ no_row place (get_or text place 0)
+finds_none {text} {codes} {within = None} {place} below outside no_comment no_spacing is h =
+    sym (rw is at (rw (sym no_spacing) at (rw (differs _ 91 no_comment) at (next below h))))
+    ∙ no_row_stays codes place (get_or text place 0)
+finds_none {within = Some start} below outside no_comment no_spacing is h = absurd (cc)
+
+-- the end of the text, in a comment
+pub ends_open : {text codes : List ℕ} {start place : ℕ} → length text ≤ place → IsReadTo text codes (Some start) place
+    → reading text ≡ open_comment start
+ends_open {text} {codes} {start} {place} past h =
+    sym (rw (drop_all place text past) at h.whole) ∙ open_comment_stays codes start
+
+-- and outside
+pub ends : {text codes : List ℕ} {place : ℕ} → length text ≤ place → IsReadTo text codes None place
+    → reading text ≡ rows codes
+ends {text} {codes} {place} past h = sym (rw (drop_all place text past) at h.whole) ∙ rows_stay codes
+
+-- an answer that says its text's reading says what the text has
+pub reads_text : (text : List ℕ) (r : Result (Vec Code Global) TextFault) → AnswersText (reading text) r
+    → ReadsText text r
+reads_text text (Ok v) e = subst (IsReadingOf text) e (every_text text)
+reads_text text (Err (NoRow place byte)) e = subst (IsReadingOf text) e (every_text text)
+reads_text text (Err (OpenComment place)) e = subst (IsReadingOf text) e (every_text text)
+reads_text text (Err Memory) e = tt

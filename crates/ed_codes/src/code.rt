@@ -77,14 +77,6 @@ impl Code {
     }
 }
 
-/// The index of the first of these bytes that is the one wanted.
-pub(crate) fn place_of(wanted: u8, bytes: &[u8]) -> Option<usize>
-    ensures place { result ≡ position (λ b. b == wanted) bytes.now }
-    ensures bound { IfSome result (λ n. n < length bytes.now) }
-{
-    bytes.iter().position(|byte| *byte == wanted)
-}
-
 /// The row that a byte of a tape text spells: a digit its number, a letter or sign its code. No other byte spells a
 /// row.
 pub fn row_of_byte(byte: u8) -> Option<Code>
@@ -95,12 +87,14 @@ pub fn row_of_byte(byte: u8) -> Option<Code>
             number: byte - b'0',
         });
     }
-    match place_of(byte, LETTERS) {
-        Some(place) => Some(Code {
-            number: place as u8,
-        }),
-        None => None,
+    for (number, letter) in LETTERS.iter().enumerate() {
+        if *letter == byte {
+            return Some(Code {
+                number: number as u8,
+            });
+        }
     }
+    None
 }
 
 /// The byte that spells a code: a digit if `as_digit` and the code is 0 to 9, else the letter or sign.

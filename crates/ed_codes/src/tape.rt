@@ -1,9 +1,8 @@
-ghost use Rattle.std.specs.Prelude.{◌≡◌};
+ghost use Rattle.std.specs.Prelude.{◌≡◌, [], Err, MatchResult};
 ghost use Rattle.ed_codes.specs.Text.{is_spacing};
-ghost use Rattle.ed_codes.specs.Reading.{HasOneReading, reading};
+ghost use Rattle.ed_codes.specs.Reading.{HasOneReading, reading, rows};
 ghost use Rattle.ed_codes.specs.Answer.{AnswersText, ReadsText};
 
-use crate::code::place_of;
 use crate::{Code, row_of_byte};
 use std::alloc::{AllocFailed, Global};
 use thiserror::Error;
@@ -47,33 +46,35 @@ pub fn tape_of_text(alloc: Global, text: &[u8]) -> Result<Vec<Code>, TextFault>
     ensures exact { AnswersText (reading text.now) result }
     ensures law { HasOneReading }
 {
-    rows_of_pieces(alloc, text)
+    let mut rows = Vec::new(alloc);
+    push_rows(text, &mut rows)?;
+    Ok(rows)
 }
 
-/// The rows of a text, piece by piece.
-fn rows_of_pieces(alloc: Global, text: &[u8]) -> Result<Vec<Code>, TextFault>
-    ensures { ReadsText text.now result }
+/// Pushes the codes of the rows that a text spells onto an empty list.
+fn push_rows(text: &[u8], codes: &mut Vec<Code>) -> Result<(), TextFault>
+    requires { codes.old.items ≡ [] }
+    ensures { MatchResult result
+        (λ _. reading text.now ≡ rows codes.new.items)
+        (λ fault. AnswersText (reading text.now) (Err fault)) }
 {
-    let mut rows = Vec::new(alloc);
-    let mut place = 0;
-    while place < text.len() {
-        let byte = text[place];
-        if byte == b'[' {
-            match place_of(b']', &text[place + 1..]) {
-                Some(length) => place = place + length + 2,
-                None => return Err(TextFault::OpenComment { place }),
+    let mut comment = None;
+    for (place, &byte) in text.iter().enumerate() {
+        if comment.is_some() {
+            if byte == b']' {
+                comment = None;
             }
-        } else if is_spacing(byte) {
-            place += 1;
-        } else {
+        } else if byte == b'[' {
+            comment = Some(place);
+        } else if !is_spacing(byte) {
             match row_of_byte(byte) {
-                Some(code) => {
-                    rows.push(code)?;
-                    place += 1;
-                }
+                Some(code) => codes.push(code)?,
                 None => return Err(TextFault::NoRow { place, byte }),
             }
         }
     }
-    Ok(rows)
+    match comment {
+        Some(place) => Err(TextFault::OpenComment { place }),
+        None => Ok(()),
+    }
 }

@@ -1,0 +1,59 @@
+use Rattle.std.proofs.Common.{rules, arith, ◌∙◌, refl, inl, inr, []}
+use Rattle.std.proofs.lemmas.List.{append-nil, take-append-le}
+use Rattle.std.proofs.lemmas.Result.{err_from_is_err_and}
+use Rattle.ed_io.specs.Bytes.{Loses}
+use Rattle.ed_io.proofs.Calls.{loses_more, loses_none, still_at_end}
+use Rattle.ed_top.proofs.devices.read_all.Goals.{else-loop-piece-test, then-loop-piece-test+in_ok-count+then-count-eq0}
+use Rattle.ed_top.proofs.devices.read_all.Goals as goal
+
+pub loop-piece-init : goal.loop-piece-init
+loop-piece-init g c = record {
+  taken = rw c.new-input.ensures.items (loses_none _);
+  few = omega (arith, c.new-input.ensures.len);
+  faults = refl;
+}
+
+pub loop-piece-preserved : goal.loop-piece-preserved
+loop-piece-preserved g c =
+    let read = c.in_ok-count.ensures in
+    record {
+      taken = rw (c.in_ok-extend_from_slice.ensures.items, take-append-le c.in_ok-count.count c.read.new.into _ read.within)
+          (loses_more _ (g.S.Source.left c.loop-piece.source) _ _ _ c.loop-piece.invariant.taken read.bytes.0);
+      few = search rules;
+      faults = read.faults ∙ c.loop-piece.invariant.faults;
+    }
+
+pub returns-in_err-extend_from_slice : goal.returns-in_err-extend_from_slice
+returns-in_err-extend_from_slice g c =
+    let r = c.from_residual-in_err-extend_from_slice in
+    let p = err_from_is_err_and r.result r.ensures.1 in
+    rw (p.1, p.2) (record {
+      bytes = tt;
+      end = tt;
+      short = λ same. absurd (cc);
+      faults = c.in_ok-count.ensures.faults ∙ c.loop-piece.invariant.faults;
+    })
+
+pub returns : goal.returns
+returns g c =
+    let before = c.loop-piece.invariant in
+    elim c.loop-piece-test.branch [
+      | else-loop-piece-test w ↦ rw w.source-is (record {
+        bytes = before.taken;
+        end = inl (search rules);
+        short = tt;
+        faults = before.faults;
+      })
+      | then-loop-piece-test+in_ok-count+then-count-eq0 w ↦
+          let read = w.in_ok-count.ensures in
+          let left = g.S.Source.left in
+          let none : Loses (left c.loop-piece.source) (left w.read.new.self) [] =
+          rw w.if-count-eq0.true at read.bytes.0 in
+          let all = loses_more (left c.args.source.now) _ _ c.loop-piece.input.items [] before.taken none in
+          rw w.source-is (record {
+            bytes = rw append-nil at all;
+            end = inr (search rules, still_at_end _ _ (read.bytes.1 w.if-count-eq0.true (search rules)) none);
+            short = tt;
+            faults = rw read.faults before.faults;
+          })
+    ]
