@@ -25,7 +25,6 @@ pub enum CommandFault {
 }
 
 /// Reads the words after the program's name. For any words, no memory may be found.
-#[tactic(auto, unfolding(crate::specs::Lines::command_line))]
 pub fn read_words(alloc: Global, words: &[String]) -> Result<Command, CommandFault>
     ensures is { AnswersWords (command_line (map string_bytes words.now)) result }
     ensures ranges { IfOk result IsInRange }

@@ -1,5 +1,6 @@
-use Rattle.std.proofs.Common.{rules, ◌≡◌, ◌∙◌, ap, ap₂, sym}
+use Rattle.std.proofs.Common.{rules, ◌≡◌, ◌∙◌, ap, ap₂, sym, arith}
 use Rattle.std.specs.Prelude.{Option, None}
+use Rattle.std.proofs.lemmas.Grind.{common_steps}
 use Rattle.ed_command.specs.Held.{options_in}
 use Rattle.ed_command.specs.Lines.{command}
 use Rattle.ed_command.specs.Settings.{settings_of}
@@ -34,3 +35,6 @@ returns-in_ok-settings c =
     c.in_ok-line.line (options_in c.args.options.now) c.in_ok-word.ensures.cases.0 c.in_ok-line.ensures
     (sym c.has_only.ensures ∙ c.if-has_only.true) in
     ap₂ command c.in_ok-action_by.ensures c.in_ok-settings.ensures ∙ sym found
+
+pub returns-in_err-word : goal.returns-in_err-word
+returns-in_err-word c = grind (arith, common_steps)

@@ -15,3 +15,11 @@ returns-then-not-are_plain_or_long-clause-is c =
 
 pub matches_of-requires : goal.matches_of-requires
 matches_of-requires c = all_map is_plain_or_long string_bytes c.args.words.now ∙ search rules
+
+pub returns-in_err-matches-clause-is : goal.returns-in_err-matches-clause-is
+unfolding command_line
+returns-in_err-matches-clause-is c = search rules
+
+pub returns-clause-is : goal.returns-clause-is
+unfolding command_line
+returns-clause-is c = search rules

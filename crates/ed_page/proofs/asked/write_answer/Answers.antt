@@ -1,4 +1,4 @@
-use Rattle.std.proofs.Common.{lit<}
+use Rattle.std.proofs.Common.{arith, lit<}
 use Rattle.ed_page.specs.Answers.{text_buffers}
 use Rattle.ed_page.specs.Private.Stages.{IsReplied}
 use Rattle.ed_page.specs.Private.Asked.{answers_to}
@@ -16,7 +16,7 @@ pub tell-requires-clause-low : goal.tell-requires-clause-low
 tell-requires-clause-low c = lit< tt
 
 pub tell-requires-clause-found : goal.tell-requires-clause-found
-tell-requires-clause-found c e = cc
+tell-requires-clause-found c e = omega (arith, e)
 
 pub returns-in-Err-Memory : goal.returns-in-Err-Memory
 returns-in-Err-Memory c =

@@ -1,14 +1,21 @@
-use Rattle.std.proofs.Common.{List, ℕ, lit<, refl, subst}
+use Rattle.std.proofs.Common.{◌≡◌, List, ℕ, arith, lit<, refl, subst}
+use Rattle.std.proofs.lemmas.Grind.{common_steps}
 use Rattle.std.specs.Prelude.{Err}
 use Rattle.ed_initial1.specs.Checks.{Answers1}
 use Rattle.ed_initial1.specs.Faults.{IsFault1}
+use Rattle.ed_initial1.specs.declared.cause.Tape1Cause.{Tape1Cause}
 use Rattle.ed_initial1.specs.declared.cause.Tape1Fault.{Tape1Fault}
+use Rattle.ed_initial1.specs.declared.cause.Tape1Fault.TheVariants.{At, Memory}
 use Rattle.ed_answers.specs.Outcome.{done}
 use Rattle.ed_answers.specs.Replies.{Gives}
 use Rattle.ed_page.specs.TapeItems.{IsItemsOutcome1}
 use Rattle.ed_page.proofs.FirstItemRows.{fault_told1, program_told1}
 use Rattle.ed_page.proofs.Replies.{none_answered}
 use Rattle.ed_page.proofs.first_items.row_items1.Goals as goal
+
+-- a fault at a row is not that no memory was found
+not_memory : {row : ℕ} {cause : Tape1Cause} → ◌≡◌ {A = Tape1Fault} (At row cause) Memory → ⊥
+not_memory same = cc
 
 pub returns-in_ok-item_table1-in-Ok : goal.returns-in_ok-item_table1-in-Ok
 returns-in_ok-item_table1-in-Ok c =
@@ -28,14 +35,14 @@ returns-in_ok-out-in-Err-At c =
       low = lit< tt;
     })
 
-pub item_table1-requires-clause-few : goal.item_table1-requires-clause-few
-item_table1-requires-clause-few c = c.requires
+pub item_table1-requires : goal.item_table1-requires
+item_table1-requires c = record { few = c.requires; count = grind (arith, common_steps) }
 
-pub item_table1-requires-in-Err-At-clause-few : goal.item_table1-requires-in-Err-At-clause-few
-item_table1-requires-in-Err-At-clause-few c = c.requires
+pub item_table1-requires-in-Err-At : goal.item_table1-requires-in-Err-At
+item_table1-requires-in-Err-At c = record { few = c.requires; count = grind (arith, common_steps) }
 
 pub tape1_fault-requires : goal.tape1_fault-requires
-tape1_fault-requires c e = cc
+tape1_fault-requires c e = not_memory e
 
 pub returns-in_err-item_table1-in-Ok : goal.returns-in_err-item_table1-in-Ok
 returns-in_err-item_table1-in-Ok c = none_answered IsItemsOutcome1 c.args.rows.now _ c.from_residual.ensures

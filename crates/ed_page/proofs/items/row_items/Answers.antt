@@ -1,7 +1,9 @@
-use Rattle.std.proofs.Common.{List, ℕ, lit<, refl, subst}
+use Rattle.std.proofs.Common.{◌≡◌, List, ℕ, arith, lit<, refl, subst}
+use Rattle.std.proofs.lemmas.Grind.{common_steps}
 use Rattle.std.specs.Prelude.{Err}
+use Rattle.ed_notation.specs.declared.cause.TapeCause.{TapeCause}
 use Rattle.ed_notation.specs.declared.cause.TapeFault.{TapeFault}
-use Rattle.ed_notation.specs.declared.cause.TapeFault.TheVariants.{At}
+use Rattle.ed_notation.specs.declared.cause.TapeFault.TheVariants.{At, Memory}
 use Rattle.ed_answers.specs.Outcome.{done}
 use Rattle.ed_answers.specs.Replies.{Gives}
 use Rattle.ed_page.specs.Private.Stages.{HasEntryRows}
@@ -9,6 +11,10 @@ use Rattle.ed_page.specs.TapeItems.{IsItemsOutcome}
 use Rattle.ed_page.proofs.ItemRows.{entered_told, fault_told}
 use Rattle.ed_page.proofs.Replies.{none_answered}
 use Rattle.ed_page.proofs.items.row_items.Goals as goal
+
+-- a fault at a row is not that no memory was found
+not_memory : {row : ℕ} {cause : TapeCause} → ◌≡◌ {A = TapeFault} (At row cause) Memory → ⊥
+not_memory same = cc
 
 pub returns-in_ok-item_table-in-Ok : goal.returns-in_ok-item_table-in-Ok
 returns-in_ok-item_table-in-Ok c =
@@ -29,14 +35,14 @@ returns-in_ok-out-in-Err-At c =
       low = lit< tt;
     })
 
-pub item_table-requires-clause-few : goal.item_table-requires-clause-few
-item_table-requires-clause-few c = c.requires
+pub item_table-requires : goal.item_table-requires
+item_table-requires c = record { few = c.requires; count = grind (arith, common_steps) }
 
-pub item_table-requires-in-Err-At-clause-few : goal.item_table-requires-in-Err-At-clause-few
-item_table-requires-in-Err-At-clause-few c = c.requires
+pub item_table-requires-in-Err-At : goal.item_table-requires-in-Err-At
+item_table-requires-in-Err-At c = record { few = c.requires; count = grind (arith, common_steps) }
 
 pub tape_fault-requires : goal.tape_fault-requires
-tape_fault-requires c e = cc
+tape_fault-requires c e = not_memory e
 
 pub returns-in_err-item_table-in-Ok : goal.returns-in_err-item_table-in-Ok
 returns-in_err-item_table-in-Ok c = none_answered (IsItemsOutcome c.args.size) c.args.rows.now _ c.from_residual.ensures

@@ -1,4 +1,4 @@
-use Rattle.std.proofs.Common.{lit<}
+use Rattle.std.proofs.Common.{arith, lit<}
 use Rattle.ed_page.specs.Answers.{picture_buffers}
 use Rattle.ed_page.specs.Private.Asked.{answers_of, ends_of}
 use Rattle.ed_page.proofs.Outcomes.{program_due}
@@ -40,7 +40,7 @@ pub show-requires-clause-low : goal.show-requires-clause-low
 show-requires-clause-low c = lit< tt
 
 pub show-requires-clause-found : goal.show-requires-clause-found
-show-requires-clause-found c e = cc
+show-requires-clause-found c e = omega (arith, e)
 
 pub show-requires-in-Ok-clause-low : goal.show-requires-in-Ok-clause-low
 show-requires-in-Ok-clause-low c = low_status c.in-Ok.ensures.0.2

@@ -1,7 +1,8 @@
-use Rattle.std.proofs.Common.{◌≡◌, ◌∙◌, ℕ, ◌+◌, ◌<◌, List, [], ◌∷◌, ◌++◌, rules, ap, sym, append_assoc, append-nil}
+use Rattle.std.proofs.Common.{◌≡◌, ◌∙◌, ℕ, ◌+◌, ◌<◌, List, [], ◌∷◌, ◌++◌, ap, sym, append_assoc, append-nil}
 use Rattle.std.proofs.Common.{add-one, drop, drop-cons, get_or, length}
 use Rattle.std.proofs.lemmas.List.{drop_all}
-use Rattle.std.specs.Prelude.{unwrap_or}
+use Rattle.std.specs.Option.{UnwrapsOrElse}
+use Rattle.std.specs.Prelude.{Option, Some, None, unwrap_or}
 use Rattle.ed_codes.specs.Spelling.{row_of}
 use Rattle.ed_postmortem.specs.Tape.{rows_of_text}
 use Rattle.ed_postmortem.proofs.tape.push_text.Goals as goal
@@ -16,9 +17,15 @@ one_more rows text more i row below is grown so_far =
     ap (λ (t : List ℕ). t ++ rest) grown ∙ append_assoc rows (row ∷ []) rest
     ∙ ap (λ (t : List ℕ). rows ++ t) (ap (λ (k : ℕ). k ∷ rest) is ∙ sym (ap rows_of_text left)) ∙ so_far
 
+-- the row that is taken is that of the byte, or blank
+row_taken : (o : Option ℕ) (row : ℕ) (Blank : ℕ → Type 0) → ((k : ℕ) → Blank k → k ≡ 0) → UnwrapsOrElse o Blank row
+    → row ≡ unwrap_or o 0
+row_taken (Some k) row Blank is taken = taken
+row_taken None row Blank is taken = is row taken
+
 pub loop-byte-preserved : goal.loop-byte-preserved
 loop-byte-preserved c =
-    let row : c.unwrap_or_default-row.result ≡ unwrap_or c.row_of_byte.result 0 = search rules in
+    let row = row_taken c.row_of_byte.result _ _ (λ k blank. blank) c.unwrap_or_default-row.ensures in
     one_more c.loop-byte.rows.items c.args.text.now c.push.new.self.items c.loop-byte.byte-index
     c.unwrap_or_default-row.result c.loop-byte-test.true
     (row ∙ ap (λ o. unwrap_or o 0) c.row_of_byte.ensures) c.in_ok-push.ensures.items c.loop-byte.invariant

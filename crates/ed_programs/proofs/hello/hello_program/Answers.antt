@@ -1,25 +1,28 @@
-use Rattle.std.proofs.Common.{◌≡◌, ◌+◌, suc, [], ◌∷◌, arith, length, ap}
+use Rattle.std.proofs.Common.{◌≡◌, ◌+◌, suc, [], ◌∷◌, arith, length, ap, rules, subst, sym}
 use Rattle.std.specs.Fmt.{decimal}
 use Rattle.ed_words.specs.Texts.{Text}
 use Rattle.ed_sources.specs.Calls.{woven_text}
+use Rattle.ed_programs.specs.Programs.{GivesProgram}
 use Rattle.ed_programs.specs.Hello.{hello_pieces, hello_text, of_letters}
 use Rattle.ed_programs.proofs.Capitals.{AreLetters, are_letters}
 use Rattle.ed_programs.proofs.HelloRuns.{each_name, each_text}
 use Rattle.ed_programs.proofs.Texts.{prints_as, written}
 use Rattle.ed_programs.proofs.hello.hello_program.Goals as goal
 
-pub returns-in_err-check_letters-clause-texts : goal.returns-in_err-check_letters-clause-texts
-returns-in_err-check_letters-clause-texts c = each_text
+pub returns-in_err-check_letters : goal.returns-in_err-check_letters
+returns-in_err-check_letters c = record { is = search rules; law = search rules; texts = each_text }
 
-pub returns-clause-texts : goal.returns-clause-texts
-returns-clause-texts c = each_text
-
-pub returns-clause-law : goal.returns-clause-law
-returns-clause-law c =
+pub returns : goal.returns
+returns c =
     let letters : Text = c.args.letters.now in
     let rows : length letters + 1 ≡ suc (length letters) = omega arith in
     let are : AreLetters 40 letters = are_letters 40 letters c.in_ok-check_letters.ensures.ok in
-    prints_as _ c.program_of_text.result (written _ _ _ (hello_text (of_letters letters))
+    let gives = written _ c.program_of_text.result _ (hello_text (of_letters letters))
     (ap (λ n. woven_text hello_pieces (decimal n ∷ of_letters letters ∷ [])) rows)
-    c.program_of_text.ensures c.format.ensures.ok)
-    (each_name letters are.some are.few are.capital)
+    c.program_of_text.ensures c.format.ensures.ok in
+    record {
+      is = subst (λ cause. GivesProgram cause (hello_text (of_letters letters)) c.program_of_text.result)
+          (sym c.in_ok-check_letters.ensures.ok) gives;
+      law = prints_as _ c.program_of_text.result gives (each_name letters are.some are.few are.capital);
+      texts = each_text;
+    }

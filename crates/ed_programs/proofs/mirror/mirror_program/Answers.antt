@@ -1,12 +1,22 @@
-use Rattle.std.proofs.Common.{refl}
+use Rattle.std.proofs.Common.{refl, rules, subst, sym}
+use Rattle.ed_programs.specs.Mirror.{mirror_text}
+use Rattle.ed_programs.specs.Programs.{GivesProgram}
 use Rattle.ed_programs.proofs.Capitals.{AreLetters, are_letters}
 use Rattle.ed_programs.proofs.MirrorRuns.{each_word}
 use Rattle.ed_programs.proofs.TapeRuns.{tape_prints_of}
 use Rattle.ed_programs.proofs.Texts.{written}
 use Rattle.ed_programs.proofs.mirror.mirror_program.Goals as goal
 
-pub returns-clause-law : goal.returns-clause-law
-returns-clause-law c =
+pub returns-in_err-check_letters : goal.returns-in_err-check_letters
+returns-in_err-check_letters c = record { is = search rules; law = search rules }
+
+pub returns : goal.returns
+returns c =
     let word : AreLetters 9 c.args.letters.now = are_letters 9 c.args.letters.now c.in_ok-check_letters.ensures.ok in
-    tape_prints_of c.program_of_text.result (written _ _ _ _ refl c.program_of_text.ensures c.format.ensures.ok)
-    (λ s. each_word s c.args.letters.now word)
+    let gives = written _ c.program_of_text.result _ (mirror_text c.args.letters.now) refl
+    c.program_of_text.ensures c.format.ensures.ok in
+    record {
+      is = subst (λ cause. GivesProgram cause (mirror_text c.args.letters.now) c.program_of_text.result)
+          (sym c.in_ok-check_letters.ensures.ok) gives;
+      law = tape_prints_of c.program_of_text.result gives (λ s. each_word s c.args.letters.now word);
+    }

@@ -1,4 +1,5 @@
-use Rattle.std.proofs.Common.{◌∙◌, sym, ap, option_map, Some, None}
+use Rattle.std.proofs.Common.{◌∙◌, sym, ap, option_map, Some, None, arith}
+use Rattle.std.proofs.lemmas.Grind.{common_steps}
 use Rattle.ed_command.specs.Held.{options_in}
 use Rattle.ed_command.specs.Windows.{window_named}
 use Rattle.ed_command.proofs.Named.{given_once, no_post_mortem, too_many}
@@ -17,3 +18,6 @@ pub returns-in_default : goal.returns-in_default
 returns-in_default c =
     sym (no_post_mortem (options_in c.args.self.now) c.in_ok-size.size (sym c.in_ok-size.was ∙ c.size.ensures)
     (too_many None _ (λ v. v.now) c.args.self.now.post_mortems.now c.in_default.len_at_least))
+
+pub returns : goal.returns
+returns c = grind (arith, common_steps)
