@@ -108,7 +108,8 @@ fn every_word_that_is_no_order_and_every_read_without_a_row_changes_nothing(
 ) -> Result<(), Fail> {
     for size in [Size::Small, Size::Full] {
         let found = first_that_is_obeyed(&rt, rt.alloc(), size)?;
-        assert!(rt; found.is_none(), "{found:?} at {size:?}");
+        let locations = size.value();
+        assert!(rt; found.is_none(), "{found:?} in {locations} locations");
     }
     Ok(())
 }
@@ -176,7 +177,8 @@ fn first_that_is_not_obeyed(
 fn every_order_is_obeyed(rt: HostRuntime) -> Result<(), Fail> {
     for size in [Size::Small, Size::Full] {
         let found = first_that_is_not_obeyed(&rt, rt.alloc(), size)?;
-        assert!(rt; found.is_none(), "{found:?} at {size:?}");
+        let locations = size.value();
+        assert!(rt; found.is_none(), "{found:?} in {locations} locations");
     }
     Ok(())
 }

@@ -66,7 +66,8 @@ fn wrong_in(
     let (_, digits, orders) = *row;
     let at = places.back;
     let done = machine.orders_done();
-    if print(rt, machine, places, paper) != (Back { at, orders }) {
+    let back = print(rt, machine, places, paper);
+    if back.at != at || back.orders != orders {
         "another end"
     } else if machine.counter() != at || machine.acc() != 0 {
         "not returned"
@@ -112,8 +113,8 @@ fn expect_new_line(rt: &impl Abort, machine: &mut Machine, places: &Places, pape
     assert!(rt; stands_at(machine, NEWLINE, places.base, places.h));
     assert!(rt; machine.orders_done() < 1 << 40 && 2 <= paper.room_left());
     let back = new_line(machine, places.base, paper);
-    let at = places.back;
-    expect(rt, back == Back { at, orders: 5 }, "the end");
+    let has_returned = back.at == places.back && back.orders == 5;
+    expect(rt, has_returned, "the end");
     expect(rt, are_new_line(paper.codes()), "the codes");
 }
 

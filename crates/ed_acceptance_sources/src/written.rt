@@ -104,7 +104,7 @@ fn long_lines_are_not_written(rt: HostRuntime) -> Result<(), Fail> {
     assert!(rt; rewritten(&rt, alloc, &longest).is_ok());
     let longer = format!(in alloc; "\ntext\"{ROWS}V\"\n")?;
     let fault = rewritten(&rt, alloc, &longer).err();
-    assert!(rt; fault == Some(WriteFault::LongLine { line: 2 }));
+    assert!(rt; matches!(fault, Some(WriteFault::LongLine { line: 2 })));
     Ok(())
 }
 
@@ -116,6 +116,6 @@ fn version_needs_a_line(rt: HostRuntime) -> Result<(), Fail> {
         lines: Vec::new(alloc),
     };
     let fault = text_of_program(alloc, &program).err();
-    assert!(rt; fault == Some(WriteFault::NoVersionLine));
+    assert!(rt; matches!(fault, Some(WriteFault::NoVersionLine)));
     Ok(())
 }

@@ -2,7 +2,7 @@ ghost use Rattle.std.specs.Prelude.{◌≡◌};
 ghost use Rattle.ed_orders.specs.Kinds.{kind_of_function, FunctionIsByLetter};
 
 /// The eighteen orders, each named by its letter.
-#[derive(Clone, Copy, PartialEq, Eq)]
+#[derive(Clone, Copy)]
 pub enum Kind {
     /// Add.
     A,

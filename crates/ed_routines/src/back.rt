@@ -1,5 +1,5 @@
 /// Where a routine returned.
-#[derive(Clone, Copy, PartialEq, Eq)]
+#[derive(Clone, Copy)]
 pub struct Back {
     /// The location after its call.
     pub at: u16,

@@ -1,5 +1,5 @@
 /// The four fields of an order word.
-#[derive(Clone, Copy, PartialEq, Eq)]
+#[derive(Clone, Copy)]
 pub struct Order {
     /// The function, 0 to 31 in a word.
     pub function: u8,

@@ -3,7 +3,7 @@ ghost use Rattle.ed_words.specs.Sizes.{locations, WithinIsModulo};
 
 /// The number of locations that a machine's orders reach. The machine of 1949 had 512 (the two sizes are this project's
 /// own rule).
-#[derive(Clone, Copy, Debug, PartialEq, Eq)]
+#[derive(Clone, Copy, PartialEq, Eq)]
 pub enum Size {
     /// 512 locations.
     Small,

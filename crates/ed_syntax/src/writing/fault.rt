@@ -1,7 +1,7 @@
 use ed_words::NoMemory;
 
 /// Why a program is not written.
-#[derive(Clone, Copy, PartialEq, Eq)]
+#[derive(Clone, Copy)]
 pub enum WriteFault {
     /// The program is of version 2 and its first line is not bare, or there is none. No text says its lines.
     NoVersionLine,
