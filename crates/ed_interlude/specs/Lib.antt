@@ -1,1 +1,4 @@
 pub mod Returned
+pub mod Parts
+pub mod Laws
+pub mod Private

@@ -1,12 +1,18 @@
-//! Loads that a program resumes: interludes, which do their work while a tape is read and go back to the Initial
-//! Orders.
+//! Tapes whose programs return to the Initial Orders: the loads that they resume, and the report on such a tape during
+//! the run.
 //!
-//! Contract: if the rest of a tape is well formed, it is loaded as it means, from the directive that the program left.
-//! Depends on `ed_notation` and `ed_initial`.
+//! Contract: if the rest of a tape is well formed, it is loaded as it means, from the directive that the program left; a
+//! tape in parts has one report, of which the lines of entries and returns are written, or the beginning of them if a
+//! write fails. The Initial Orders lead every part to its entry. Depends on `ed_initial`, `ed_run`, `ed_io`, `ed_report`
+//! and `ed_answers`.
 #![tactic(auto)]
 
+mod part;
+mod program;
 mod resuming;
 mod returning;
+mod tape;
 
 pub use resuming::{check_rest, resume};
 pub use returning::{directive, is_returned};
+pub use tape::{PartsEnd, run_parts};

@@ -38,12 +38,12 @@ use Rattle.ed_routines.proofs.Journeys.{ComesToStop, stop_after}
 use Rattle.ed_report.specs.Entries.{entry_line, returned_line}
 use Rattle.ed_report.specs.Notes.{at_after}
 use Rattle.ed_sources.proofs.Stops.{ran_to_stop}
-use Rattle.ed_parts.specs.Parts.{ComesHome, Concludes, Finishes, GoesBack, IsUnderWay, LeadsTo, RunsOn, TapePart}
-use Rattle.ed_parts.specs.Parts.{IsReportOfTape}
-use Rattle.ed_parts.specs.Parts.{PartsReport, entry_done, entry_report, finished, first_part, part_after}
-use Rattle.ed_parts.specs.Parts.{part_entry_state}
-use Rattle.ed_parts.specs.Parts.{program_end, part_report}
-use Rattle.ed_parts.specs.declared.tape.PartsEnd.TheVariants.{Ended}
+use Rattle.ed_interlude.specs.Parts.{ComesHome, Concludes, Finishes, GoesBack, IsUnderWay, LeadsTo, RunsOn, TapePart}
+use Rattle.ed_interlude.specs.Parts.{IsReportOfTape}
+use Rattle.ed_interlude.specs.Parts.{PartsReport, entry_done, entry_report, finished, first_part, part_after}
+use Rattle.ed_interlude.specs.Parts.{part_entry_state}
+use Rattle.ed_interlude.specs.Parts.{program_end, part_report}
+use Rattle.ed_interlude.specs.declared.tape.PartsEnd.TheVariants.{Ended}
 use Rattle.ed_command.specs.declared.command.Settings.{Settings}
 use Rattle.ed_answers.specs.declared.input.TheConstants.{INPUT_BYTES}
 use Rattle.ed_answers.specs.Answer.{OfReading, exactly}

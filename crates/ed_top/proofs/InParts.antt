@@ -3,12 +3,12 @@ use Rattle.std.proofs.Common.{◌≡◌, ◌∙◌, ℕ, List, [], refl, sym, ap
 use Rattle.std.specs.Prelude.{Ok, Err}
 use Rattle.ed_machine.specs.State.{State}
 use Rattle.ed_answers.specs.EntryState.{first_state}
-use Rattle.ed_parts.specs.Parts.{PartsAnswer, IsReportOfTape, PartsReport}
-use Rattle.ed_parts.specs.declared.tape.PartsEnd.{PartsEnd}
+use Rattle.ed_interlude.specs.Parts.{PartsAnswer, IsReportOfTape, PartsReport}
+use Rattle.ed_interlude.specs.declared.tape.PartsEnd.{PartsEnd}
 use Rattle.ed_io.specs.Causes.{stop_faults}
 use Rattle.ed_io.specs.declared.stop.WriteStop.{WriteStop}
 use Rattle.ed_io.specs.declared.stop.WriteStop.TheVariants.{Failed, Memory}
-use Rattle.ed_parts.proofs.Tales.{each_told_once}
+use Rattle.ed_interlude.proofs.Tales.{each_told_once}
 use Rattle.ed_command.specs.declared.command.Settings.{Settings}
 use Rattle.ed_answers.specs.Answer.{Answer, of_input}
 use Rattle.ed_top.specs.Clause.{Device, Wrote, WrotePart}

@@ -21,9 +21,9 @@ use Rattle.ed_run.specs.Run.{EndsAfter, RunEnd, end_at, end_by, prints, run_end,
 use Rattle.ed_run.proofs.Ends.{ends_once, ran_ends}
 use Rattle.ed_printer.specs.Paper.{paper}
 use Rattle.ed_answers.specs.EntryState.{first_state}
-use Rattle.ed_parts.specs.Laws.{EndsAsRun}
-use Rattle.ed_parts.specs.declared.tape.PartsEnd.{PartsEnd}
-use Rattle.ed_parts.proofs.Runs.{each_end}
+use Rattle.ed_interlude.specs.Laws.{EndsAsRun}
+use Rattle.ed_interlude.specs.declared.tape.PartsEnd.{PartsEnd}
+use Rattle.ed_interlude.proofs.Runs.{each_end}
 use Rattle.ed_top.specs.Parts.{end_note, end_status}
 use Rattle.ed_command.specs.declared.command.Settings.{Settings}
 use Rattle.ed_top.specs.PartsRun.{EachTapeInPartsIsRun, EndsInParts, PartsAreRun, PartsFillPaper, printed_by, run_once}

@@ -6,8 +6,8 @@ use Rattle.ed_machine.specs.declared.ending.Ending.{Ending}
 use Rattle.ed_machine.specs.declared.ending.Ending.TheVariants.{PaperFull}
 use Rattle.ed_printer.specs.Paper.{paper}
 use Rattle.ed_answers.specs.EntryState.{first_state}
-use Rattle.ed_parts.specs.Parts.{IsReportOfTape, PartsReport, programs_printed}
-use Rattle.ed_parts.specs.declared.tape.PartsEnd.TheVariants.{Ended}
+use Rattle.ed_interlude.specs.Parts.{IsReportOfTape, PartsReport, programs_printed}
+use Rattle.ed_interlude.specs.declared.tape.PartsEnd.TheVariants.{Ended}
 use Rattle.ed_command.specs.declared.command.Settings.{Settings}
 use Rattle.ed_words.specs.Texts.{Text}
 use Rattle.ed_answers.specs.Tapes.{tape_outcome}

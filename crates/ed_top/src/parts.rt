@@ -10,7 +10,7 @@ use ed_codes::Code;
 use ed_command::Settings;
 use ed_io::{Sink, WriteStop};
 use ed_machine::Machine;
-use ed_parts::{PartsEnd, run_parts};
+use ed_interlude::{PartsEnd, run_parts};
 use ed_report::{ending_text, part_fault};
 use ed_words::NoMemory;
 use std::alloc::Global;

@@ -1,0 +1,230 @@
+-- A program that may obey at most a number of orders ends or returns, after exactly one number of them.
+use Rattle.std.proofs.Common.{◌≡◌, ◌⊎◌, inl, inr, ℕ, zero, suc, ◌+◌, ◌≢◌, ◌<◌, ◌≤◌, refl, sym, ap, ◌∙◌, subst, arith}
+use Rattle.std.proofs.Common.{below_more, false, Option, Some, None}
+use Rattle.std.proofs.lemmas.Bool.{cases_lt, cases_order}
+use Rattle.ed_words.proofs.Numbers.{eq_false, eq_true, lt_false, lt_true}
+use Rattle.ed_machine.specs.State.{State}
+use Rattle.ed_machine.specs.OrderTable.{step}
+use Rattle.ed_machine.specs.Steps.{progress, state_after, stops_of}
+use Rattle.ed_machine.specs.declared.turn.Turn.{Turn}
+use Rattle.ed_machine.specs.declared.turn.Turn.TheVariants.{Went, Printed, Stopped as Stops, NoOrder as IsNoOrder}
+use Rattle.ed_machine.specs.declared.turn.Turn.TheVariants.{NoTape as HasNoTape}
+use Rattle.ed_machine.specs.declared.ending.Ending.{Ending}
+use Rattle.ed_machine.specs.declared.ending.Ending.TheVariants.{Stopped, Limit}
+use Rattle.ed_run.specs.Run.{end_by}
+use Rattle.ed_machine.proofs.Steps.{next_state, next_stops}
+use Rattle.ed_interlude.specs.Returned.{IsReturned}
+use Rattle.ed_interlude.specs.Parts.{ComesHome, Finishes, IsUnderWay, RunsOn, program_end}
+use Rattle.ed_interlude.proofs.Homes.{Decided, home_or_not}
+
+-- a turn that only goes on or prints
+pub record GoesOn (turn : Turn) : Type 0 where
+  pub no_end : end_by turn false ≡ None
+  pub no_stop : stops_of turn ≡ 0
+
+pub going : (turn : Turn) → (turn ≡ Went) ⊎ ((code : ℕ) × (turn ≡ Printed code)) → GoesOn turn
+going turn (inl is) = record { no_end = ap (λ t. end_by t false) is; no_stop = ap stops_of is }
+going turn (inr p) = record { no_end = ap (λ t. end_by t false) p.1; no_stop = ap stops_of p.1 }
+
+no_end : (ending : Ending) → None ≡ Some ending → ⊥
+no_end ending h = cc
+
+pub some_end : (d e : Ending) → Some d ≡ Some e → d ≡ e
+some_end d e h = cc
+
+-- a program returned or ended
+abbrev pub CameTo : ℕ → State → Type 0
+CameTo left s = (k : ℕ) × (ComesHome left k s ⊎ ((ending : Ending) × Finishes left k s ending))
+
+module _ (left : ℕ) (s : State) where
+  -- after a stop the end is that stop
+  pub stop_ends : (k : ℕ) → 0 < (progress k s).stops → program_end left k s ≡ Some Stopped
+  stop_ends k h = let a = lt_true 0 (progress k s).stops h in rw a refl
+
+  -- at the limit
+  pub limit_ends : (k : ℕ) → k ≡ left → (progress k s).stops ≡ 0 → program_end left k s ≡ Some Limit
+  limit_ends k is none =
+      let a = lt_false 0 (progress k s).stops (omega arith) in
+      let b = eq_true k left is in
+      rw (a, b) refl
+
+  -- and otherwise by the next order
+  pub next_ends : (k : ℕ) → k < left → (progress k s).stops ≡ 0
+      → program_end left k s ≡ end_by (step (state_after k s)).turn false
+  next_ends k below none =
+      let a = lt_false 0 (progress k s).stops (omega arith) in
+      let b = eq_false k left (omega arith) in
+      rw (a, b) refl
+
+  not_stopped : (turn : Turn) → end_by turn false ≡ Some Stopped → ⊥
+  not_stopped Went h = cc
+  not_stopped (Printed code) h = cc
+  not_stopped Stops h = cc
+  not_stopped (IsNoOrder function) h = cc
+  not_stopped HasNoTape h = cc
+
+  -- if no stop was obeyed, the end is not a stop
+  no_stop_end : (k : ℕ) → (progress k s).stops ≡ 0 → program_end left k s ≡ Some Stopped → ⊥
+  no_stop_end k none is = by_place (cases_order k left)
+    where
+      by_place : (k ≡ left) ⊎ ((k < left) ⊎ (left < k)) → ⊥
+      by_place (inl e) = let bad : Some Limit ≡ Some Stopped = sym (limit_ends k e none) ∙ is in cc
+      by_place (inr (inl low)) = not_stopped _ (sym (next_ends k low none) ∙ is)
+      by_place (inr (inr high)) =
+          let a = lt_false 0 (progress k s).stops (omega arith) in
+          let b = eq_false k left (omega arith) in
+          not_stopped (step (state_after k s)).turn (rw (a, b) at is)
+
+  -- what is under way is within its limit
+  pub way_within : (k : ℕ) → IsUnderWay left k s → k ≢ left
+  way_within k way is = by_stops (cases_lt 0 (progress k s).stops)
+    where
+      by_stops : (0 < (progress k s).stops) ⊎ ((progress k s).stops ≤ 0) → ⊥
+      by_stops (inl many) = no_end Stopped (sym way.no_end ∙ stop_ends k many)
+      by_stops (inr none) = no_end Limit (sym way.no_end ∙ limit_ends k is (omega arith))
+
+  pub runs_within : (k : ℕ) → RunsOn left k s → k ≤ left
+  runs_within k runs =
+      elim (cases_lt left k) [
+        | inl over ↦ absurd (way_within left (runs left over) refl)
+        | inr within ↦ within
+      ]
+
+  pub home_within : (k : ℕ) → ComesHome left k s → k ≤ left
+  home_within k h = runs_within k h.runs
+
+  -- and has obeyed no stop
+  pub way_stops : (k : ℕ) → IsUnderWay left k s → (progress k s).stops ≡ 0
+  way_stops k way =
+      elim (cases_lt 0 (progress k s).stops) [
+        | inl many ↦ absurd (no_end Stopped (sym way.no_end ∙ stop_ends k many))
+        | inr none ↦ omega arith
+      ]
+
+  -- it returns after one number of orders
+  pub home_once : (j k : ℕ) → ComesHome left j s → ComesHome left k s → j ≡ k
+  home_once j k a b = by_place (cases_order j k)
+    where
+      by_place : (j ≡ k) ⊎ ((j < k) ⊎ (k < j)) → j ≡ k
+      by_place (inl e) = e
+      by_place (inr (inl low)) = absurd ((b.runs j low).away a.home)
+      by_place (inr (inr high)) = absurd ((a.runs k high).away b.home)
+
+  -- and does not end then
+  pub home_or_end : (j k : ℕ) (ending : Ending) → ComesHome left j s → Finishes left k s ending → ⊥
+  home_or_end j k ending a b = by_place (cases_order j k)
+    where
+      by_place : (j ≡ k) ⊎ ((j < k) ⊎ (k < j)) → ⊥
+      by_place (inl e) =
+          let home : IsReturned (state_after k s) = subst (λ n. IsReturned (state_after n s)) e a.home in
+          let none : (progress k s).stops ≡ 0 = subst (λ n. (progress n s).stops ≡ 0) e a.stops in
+          no_stop_end k none (b.ends ∙ ap Some (b.stopped home))
+      by_place (inr (inl low)) = (b.runs j low).away a.home
+      by_place (inr (inr high)) = no_end ending (sym (a.runs k high).no_end ∙ b.ends)
+
+  -- it ends at one number of orders, with one ending
+  pub end_once : (j k : ℕ) (d e : Ending) → Finishes left j s d → Finishes left k s e → (j ≡ k) × (d ≡ e)
+  end_once j k d e a b = by_place (cases_order j k)
+    where
+      by_place : (j ≡ k) ⊎ ((j < k) ⊎ (k < j)) → (j ≡ k) × (d ≡ e)
+      by_place (inl same) = (same, some_end d e (sym a.ends ∙ ap (λ n. program_end left n s) same ∙ b.ends))
+      by_place (inr (inl low)) = absurd (no_end d (sym (b.runs j low).no_end ∙ a.ends))
+      by_place (inr (inr high)) = absurd (no_end e (sym (a.runs k high).no_end ∙ b.ends))
+
+  -- ---- there is one of them
+
+  one_more : (k : ℕ) → RunsOn left k s → IsUnderWay left k s → RunsOn left (k + 1) s
+  one_more k runs here = below_more (λ j. IsUnderWay left j s) k runs here
+
+  -- what it did by k orders, or what it does after that if it is still under way
+  here_or_on : (k : ℕ) → RunsOn left k s → (IsUnderWay left k s → CameTo left s) → CameTo left s
+  here_or_on k runs on = by_home (home_or_not (state_after k s)) (cases_lt 0 (progress k s).stops)
+    where
+      by_end : (IsReturned (state_after k s) → ⊥) → (o : Option Ending) → program_end left k s ≡ o → CameTo left s
+      by_end away None is = on (record { no_end = is; away = away })
+      by_end away (Some ending) is =
+          (k, inr (ending, record { runs = runs; ends = is; stopped = λ home. absurd (away home) }))
+
+      by_home : Decided (IsReturned (state_after k s)) → (0 < (progress k s).stops) ⊎ ((progress k s).stops ≤ 0)
+          → CameTo left s
+      by_home home (inl many) = (k, inr (Stopped, record { runs = runs; ends = stop_ends k many; stopped = λ h. refl }))
+      by_home (inl home) (inr none) = (k, inl (record { runs = runs; stops = omega arith; home = home }))
+      by_home (inr away) (inr none) = by_end away (program_end left k s) refl
+
+  seek : (r k : ℕ) → k + r ≡ left → RunsOn left k s → CameTo left s
+  seek zero k is runs = here_or_on k runs (λ way. absurd (way_within k way (omega arith)))
+  seek (suc r) k is runs = here_or_on k runs (λ way. seek r (k + 1) (omega arith) (one_more k runs way))
+
+  pub comes_to : CameTo left s
+  comes_to = seek left 0 (omega arith) (λ j h. absurd (omega arith))
+
+  -- ---- a program that is obeyed
+
+  -- it is still under way before its order number k
+  pub record Running (k : ℕ) (m : State) : Type 0 where
+    pub state : m ≡ state_after k s
+    pub runs : RunsOn left k s
+    pub stops : (progress k s).stops ≡ 0
+
+  pub running_first : Running 0 s
+  unfolding progress
+  running_first = record { state = refl; runs = λ j h. absurd (omega arith); stops = refl }
+
+-- such a program
+module _ {left : ℕ} {s : State} {k : ℕ} {m : State} (r : Running left s k m) where
+  -- it has returned
+  pub is_definition_of : IsReturned m → ComesHome left k s
+  is_definition_of home = record { runs = r.runs; stops = r.stops; home = subst (λ t. IsReturned t) r.state home }
+
+  away_there : (IsReturned m → ⊥) → IsReturned (state_after k s) → ⊥
+  away_there away home = away (subst (λ t. IsReturned t) (sym r.state) home)
+
+  -- its next order
+  module _ {turn : Turn} (below : k < left) (away : IsReturned m → ⊥) (is : turn ≡ (step m).turn) where
+    turn_there : turn ≡ (step (state_after k s)).turn
+    turn_there = is ∙ ap (λ t. (step t).turn) r.state
+
+    end_there : program_end left k s ≡ end_by turn false
+    end_there = next_ends left s k below r.stops ∙ ap (λ t. end_by t false) (sym turn_there)
+
+    -- it cannot go on
+    pub blocks : {ending : Ending} → end_by turn false ≡ Some ending → Finishes left k s ending
+    blocks ends = record {
+      runs = r.runs;
+      ends = end_there ∙ ends;
+      stopped = λ home. absurd (away_there away home);
+    }
+
+    way : end_by turn false ≡ None → RunsOn left (k + 1) s
+    way none = one_more left s k r.runs (record { no_end = end_there ∙ none; away = away_there away })
+
+    stops_more : (progress (k + 1) s).stops ≡ stops_of turn
+    stops_more =
+        let same : stops_of (step (state_after k s)).turn ≡ stops_of turn = ap stops_of (sym turn_there) in
+        omega (arith, next_stops k s, same, r.stops)
+
+    -- it stops
+    pub stops_there : turn ≡ Stops → Finishes left (k + 1) s Stopped
+    stops_there stop =
+        let one : (progress (k + 1) s).stops ≡ 1 = stops_more ∙ ap stops_of stop in
+        record {
+          runs = way (ap (λ t. end_by t false) stop);
+          ends = stop_ends left s (k + 1) (omega (arith, one));
+          stopped = λ home. refl;
+        }
+
+    -- it goes on
+    pub goes_on : {n : State} → n ≡ (step m).state → GoesOn turn → Running left s (k + 1) n
+    goes_on {n} to on = record {
+      state = next_state k s r.state to;
+      runs = way on.no_end;
+      stops = stops_more ∙ on.no_stop;
+    }
+
+-- it reaches its limit
+pub at_limit : {left k : ℕ} {s m : State} → k ≡ left → Running left s k m → (IsReturned m → ⊥) → Finishes left k s Limit
+at_limit {left} {k} {s} is r away = record {
+  runs = r.runs;
+  ends = limit_ends left s k is r.stops;
+  stopped = λ home. absurd (away_there r away home);
+}

@@ -1,0 +1,286 @@
+-- If parts end by the end of a program or at the limit, the run of the whole tape ends too.
+use Rattle.std.proofs.Common.{◌≡◌, ◌⊎◌, inl, inr, ℕ, zero, suc, ◌+◌, ◌-◌, ◌<◌, ◌≤◌, refl, sym, ap, ◌∙◌, subst, arith}
+use Rattle.std.proofs.Common.{Bool, true, false, Some, None, List, [], ◌++◌, length, append_assoc, append-nil}
+use Rattle.std.proofs.lemmas.Bool.{cases_lt}
+use Rattle.ed_machine.specs.State.{State}
+use Rattle.ed_machine.specs.OrderTable.{step}
+use Rattle.ed_machine.specs.Sound.{IsSound}
+use Rattle.ed_machine.specs.Steps.{AreObeyed, Progress, codes_of, is_obeyed, progress, state_after, stops_of}
+use Rattle.ed_machine.specs.declared.turn.Turn.{Turn}
+use Rattle.ed_machine.specs.declared.turn.Turn.TheVariants.{Went, Printed, Stopped as Stops}
+use Rattle.ed_machine.specs.declared.turn.Turn.TheVariants.{NoOrder as IsNoOrder, NoTape as HasNoTape}
+use Rattle.ed_machine.specs.declared.ending.Ending.{Ending}
+use Rattle.ed_machine.specs.declared.ending.Ending.TheVariants.{Stopped, Limit}
+use Rattle.ed_machine.proofs.SoundSteps.{sound_after}
+use Rattle.ed_machine.proofs.Steps.{after_sum, few_codes, free_more, free_sum, no_step, past_sum}
+use Rattle.ed_run.specs.Laws.{AllWent, HasRoom}
+use Rattle.ed_run.specs.Run.{end_by}
+use Rattle.ed_run.proofs.Later.{quiet_stops}
+use Rattle.ed_run.proofs.Places as places
+use Rattle.ed_initial.specs.Entry.{IsStarted}
+use Rattle.ed_notation.specs.Faults.{TapeEntry}
+use Rattle.ed_notation.specs.declared.cause.TapeCause.{TapeCause}
+use Rattle.ed_answers.specs.EntryState.{first_state}
+use Rattle.ed_answers.proofs.Entries.{starts}
+use Rattle.ed_answers.proofs.Starts.{sound_start}
+use Rattle.ed_interlude.specs.declared.tape.PartsEnd.TheVariants.{Ended, Faulty}
+use Rattle.ed_interlude.specs.Laws.{Begins, EachEndIsTheRuns, EndsAsParts, EndsAsRun}
+use Rattle.ed_interlude.specs.Parts.{Concludes, Finishes, GoesBack, ReportsParts, LeadsTo}
+use Rattle.ed_interlude.specs.Parts.{TapePart, RunsOn, PartsReport, cut, entry_done, part_entry_state}
+use Rattle.ed_interlude.specs.Parts.{faulty, finished, first_part, last_printed, part_after, printed_from}
+use Rattle.ed_interlude.proofs.Programs.{home_within, limit_ends, next_ends, runs_within, some_end, stop_ends, way_stops}
+use Rattle.ed_interlude.proofs.Reached.{leads_in}
+
+-- ---- orders one after the other
+
+-- k orders are obeyed, none of which is a stop; they lead from s to m and print these codes
+record Walks (k : ℕ) (s m : State) (codes : List ℕ) : Type 0 where
+  there : m ≡ state_after k s
+  free : AreObeyed k s
+  stops : (progress k s).stops ≡ 0
+  prints : (progress k s).codes ≡ codes
+
+-- two walks, one after the other
+and_then : (a b : ℕ) {s m n : State} {xs ys : List ℕ} → Walks a s m xs → Walks b m n ys → Walks (a + b) s n (xs ++ ys)
+and_then a b {s} first next = record {
+  there = next.there ∙ ap (state_after b) first.there ∙ sym (after_sum a b s);
+  free = free_sum a b s first.free (subst (AreObeyed b) first.there next.free);
+  stops = ap (λ (p : Progress). p.stops) (past_sum a b s)
+      ∙ omega (arith, first.stops, next.stops, ap (λ (t : State). (progress b t).stops) first.there);
+  prints = ap (λ (p : Progress). p.codes) (past_sum a b s)
+      ∙ (λ i. first.prints i ++ (sym (ap (λ (t : State). (progress b t).codes) first.there) ∙ next.prints) i);
+}
+
+quiet_codes : (k : ℕ) (s : State) → AllWent k s → (progress k s).codes ≡ []
+unfolding progress
+quiet_codes zero s went = refl
+quiet_codes (suc k) s went =
+    let before : (progress k s).codes ≡ [] = quiet_codes k s (λ j h. went j (omega arith)) in
+    let turn = went k (omega arith) in
+    rw (before, turn) refl
+
+-- orders that only go on
+quiet_walk : (k : ℕ) (s : State) → AllWent k s → Walks k s (state_after k s) []
+quiet_walk k s went = record {
+  there = refl;
+  free = λ j h. ap is_obeyed (went j h);
+  stops = quiet_stops k s went;
+  prints = quiet_codes k s went;
+}
+
+-- ---- the walk of a program
+
+obeyed_of : (turn : Turn) → end_by turn false ≡ None → is_obeyed turn ≡ true
+obeyed_of Went h = refl
+obeyed_of (Printed code) h = refl
+obeyed_of Stops h = refl
+obeyed_of (IsNoOrder function) h = absurd (cc)
+obeyed_of HasNoTape h = absurd (cc)
+
+blocked_of : (turn : Turn) (full : Bool) (ending : Ending) → end_by turn false ≡ Some ending
+    → end_by turn full ≡ Some ending
+blocked_of Went full ending h = absurd (cc)
+blocked_of (Printed code) full ending h = absurd (cc)
+blocked_of Stops full ending h = absurd (cc)
+blocked_of (IsNoOrder function) full ending h = h
+blocked_of HasNoTape full ending h = h
+
+stop_of : (turn : Turn) → 0 < stops_of turn → turn ≡ Stops
+stop_of Stops h = refl
+stop_of Went h = absurd (omega arith)
+stop_of (Printed code) h = absurd (omega arith)
+stop_of (IsNoOrder function) h = absurd (omega arith)
+stop_of HasNoTape h = absurd (omega arith)
+
+ended_is : (d e : Ending) → Ended d ≡ Ended e → d ≡ e
+ended_is d e h = cc
+
+no_fault : (part row : ℕ) (cause : TapeCause) (ending : Ending) → Faulty part row cause ≡ Ended ending → ⊥
+no_fault part row cause ending e = cc
+
+module _ (left : ℕ) (m : State) where
+  run_free : (k : ℕ) → RunsOn left k m → AreObeyed k m
+  run_free k runs j h =
+      let way = runs j h in
+      obeyed_of (step (state_after j m)).turn
+      (sym (next_ends left m j (omega (arith, runs_within left m k runs)) (way_stops left m j way)) ∙ way.no_end)
+
+  run_walk : (k : ℕ) → RunsOn left k m → (progress k m).stops ≡ 0 → Walks k m (state_after k m) (progress k m).codes
+  run_walk k runs none = record { there = refl; free = run_free k runs; stops = none; prints = refl }
+
+-- ---- the end of the run
+
+module _ (limit : ℕ) (s : State) where
+  room : (k : ℕ) → k ≤ limit → AreObeyed k s → HasRoom limit k s
+  room k few free = record { obeyed = free; printed = omega (arith, few_codes k s) }
+
+  -- at the limit
+  at_limit : (m : State) (codes : List ℕ) → Walks limit s m codes → EndsAsRun limit s Limit m codes
+  at_limit m codes w = record {
+    orders = limit;
+    ends = places.at_limit limit 0 (room limit (omega arith) w.free) (omega (arith, w.stops));
+    state_is = w.there;
+    prints = w.prints;
+  }
+
+  module _ (a left : ℕ) (m : State) (before : List ℕ) (whole : a + left ≡ limit) (first : Walks a s m before) where
+    -- no stop was obeyed
+    without_stop : (k : ℕ) (ending : Ending) → Finishes left k m ending → (progress k m).stops ≡ 0
+        → EndsAsRun limit s ending (state_after k m) (before ++ (progress k m).codes)
+    without_stop k ending f none = by_place (cases_lt k left)
+      where
+        codes : List ℕ
+        codes = before ++ (progress k m).codes
+
+        walk : Walks (a + k) s (state_after k m) codes
+        walk = and_then a k first (run_walk left m k f.runs none)
+
+        by_place : (k < left) ⊎ (left ≤ k) → EndsAsRun limit s ending (state_after k m) codes
+        by_place (inl low) =
+            let turn : end_by (step (state_after k m)).turn false ≡ Some ending = sym (next_ends left m k low none)
+            ∙ f.ends in
+            let at : end_by (step (state_after (a + k) s)).turn false ≡ Some ending =
+            ap (λ (t : State). end_by (step t).turn false) (sym walk.there) ∙ turn in
+            record {
+              orders = a + k;
+              ends = places.at_block limit 0 (room (a + k) (omega arith) walk.free)
+                  (omega (arith, walk.stops))
+                  (omega arith) (blocked_of _ _ ending at);
+              state_is = walk.there;
+              prints = walk.prints;
+            }
+        by_place (inr high) =
+            let e : k ≡ left = omega (arith, runs_within left m k f.runs) in
+            let total : a + k ≡ limit = omega arith in
+            let is : Limit ≡ ending = some_end Limit ending (sym (limit_ends left m k e none) ∙ f.ends) in
+            subst (λ (d : Ending). EndsAsRun limit s d (state_after k m) codes) is
+            (at_limit (state_after k m) codes (subst (λ n. Walks n s (state_after k m) codes) total walk))
+
+    -- the last one was a stop
+    with_stop : (k : ℕ) (ending : Ending) → Finishes left k m ending → 0 < (progress k m).stops
+        → EndsAsRun limit s ending (state_after k m) (before ++ (progress k m).codes)
+    unfolding progress
+    with_stop zero ending f many = absurd (omega arith)
+    with_stop (suc j) ending f many =
+        let way = f.runs j (omega arith) in
+        let none = way_stops left m j way in
+        let stop : (step (state_after j m)).turn ≡ Stops = stop_of _ (omega (arith, none)) in
+        let walk : Walks (a + j) s (state_after j m) (before ++ (progress j m).codes) =
+        and_then a j first (run_walk left m j (λ i h. f.runs i (omega arith)) none) in
+        let turn : (step (state_after (a + j) s)).turn ≡ Stops =
+        ap (λ (t : State). (step t).turn) (sym walk.there) ∙ stop in
+        let free : AreObeyed (suc (a + j)) s = free_more (a + j) s walk.free (ap is_obeyed turn) in
+        let is : Stopped ≡ ending = some_end Stopped ending (sym (stop_ends left m (suc j) many) ∙ f.ends) in
+        let within = runs_within left m (suc j) f.runs in
+        let codes = before ++ (progress (suc j) m).codes in
+        subst (λ (d : Ending). EndsAsRun limit s d (state_after (suc j) m) codes) is (record {
+          orders = suc (a + j);
+          ends = places.at_stop limit 0 (room (suc (a + j)) (omega arith) free) walk.stops
+              (omega arith) turn;
+          state_is = ap (λ (t : State). (step t).state) walk.there;
+          prints = (λ i. walk.prints i ++ codes_of ((turn ∙ sym stop) i))
+              ∙ append_assoc before (progress j m).codes (codes_of (step (state_after j m)).turn);
+        })
+
+    program_ends : (k : ℕ) (ending : Ending) → Finishes left k m ending
+        → EndsAsRun limit s ending (state_after k m) (before ++ (progress k m).codes)
+    program_ends k ending f =
+        elim (cases_lt 0 (progress k m).stops) [
+          | inl many ↦ with_stop k ending f many
+          | inr none ↦ without_stop k ending f (omega arith)
+        ]
+
+  -- ---- part by part
+
+  -- the parts up to here are orders of the run and printed this, and here one begins
+  record Along (p : TapePart) (before : List ℕ) : Type 0 where
+    walk : Walks p.done s p.state before
+    within : p.done ≤ limit
+    some : 1 ≤ p.number
+    begins : Begins p
+
+  to_entry : (p : TapePart) (e : TapeEntry) (before : List ℕ) → Along p before → LeadsTo p e
+      → Walks (entry_done p e) s (part_entry_state p e) before
+  to_entry p e before h leads =
+      subst (λ (codes : List ℕ). Walks (entry_done p e) s (part_entry_state p e) codes) (append-nil before)
+      (and_then p.done e.cost h.walk (quiet_walk e.cost p.state (leads_in p e h.begins leads).went))
+
+  concludes : (p : TapePart) (before : List ℕ) (t : PartsReport) (ending : Ending) → Along p before
+      → (told : Concludes limit (length s.tape) p t) → t.end ≡ Ended ending
+      → EndsAsRun limit s ending t.last (before ++ last_printed told)
+  concludes p before t ending h (faulty row cause fault is) end =
+      absurd (no_fault _ _ _ ending (sym (ap (λ (x : PartsReport). x.end) is) ∙ end))
+  concludes p before t ending h (cut e leads short is) end =
+      let left = limit - p.done in
+      let went = (leads_in p e h.begins leads).went in
+      let walk = and_then p.done left h.walk
+      (quiet_walk left p.state (λ j low. went j (omega (arith, h.within)))) in
+      let total : p.done + left ≡ limit = omega (arith, h.within) in
+      let codes = before ++ [] in
+      let same : Limit ≡ ending = ended_is _ _ (sym (ap (λ (x : PartsReport). x.end) is) ∙ end) in
+      let there : state_after left p.state ≡ t.last = sym (ap (λ (x : PartsReport). x.last) is) in
+      subst (λ (d : Ending). EndsAsRun limit s d t.last codes) same
+      (subst (λ (x : State). EndsAsRun limit s Limit x codes) there
+      (at_limit (state_after left p.state) codes
+      (subst (λ n. Walks n s (state_after left p.state) codes) total walk)))
+  concludes p before t ending h (finished e k d leads within f is) end =
+      let codes = before ++ (progress k (part_entry_state p e)).codes in
+      let same : d ≡ ending = ended_is _ _ (sym (ap (λ (x : PartsReport). x.end) is) ∙ end) in
+      let there : state_after k (part_entry_state p e) ≡ t.last = sym (ap (λ (x : PartsReport). x.last) is) in
+      subst (λ (c : Ending). EndsAsRun limit s c t.last codes) same
+      (subst (λ (x : State). EndsAsRun limit s d x codes) there
+      (program_ends (entry_done p e) (limit - entry_done p e) (part_entry_state p e) before (omega (arith, within))
+      (to_entry p e before h leads) k d f))
+
+  next_along : IsSound s → (p : TapePart) (before : List ℕ) (b : GoesBack limit p) → Along p before
+      → Along (part_after p b) (before ++ (progress b.orders (part_entry_state p b.entry)).codes)
+  next_along sound p before b h =
+      let c = b.comes in
+      let left = limit - entry_done p b.entry in
+      let walk = and_then (entry_done p b.entry) b.orders (to_entry p b.entry before h b.leads)
+      (run_walk left (part_entry_state p b.entry) b.orders c.runs c.stops) in
+      let few = home_within left (part_entry_state p b.entry) b.orders c in
+      let there : IsSound (part_after p b).state =
+      subst (λ (x : State). IsSound x) (sym walk.there) (sound_after _ s sound) in
+      record {
+        walk = walk;
+        within = omega (arith, few, b.within);
+        some = omega arith;
+        begins = record { store = there.store; first = λ e. absurd (omega (arith, h.some)); further = λ e. c.home };
+      }
+
+  ends : IsSound s → (n : ℕ) (t : PartsReport) {p : TapePart} {ending : Ending} (before : List ℕ) → Along p before
+      → (told : ReportsParts limit (length s.tape) n p t) → t.end ≡ Ended ending
+      → EndsAsRun limit s ending t.last (before ++ printed_from limit (length s.tape) n p t told)
+  ends sound zero t {p} {ending} before h told end = concludes p before t ending h told end
+  ends sound (suc n) t {p} {ending} before h told end =
+      let codes = (progress told.0.orders (part_entry_state p told.0.entry)).codes in
+      let later = printed_from limit (length s.tape) n (part_after p told.0) told.1 told.2 in
+      let rest = ends sound n told.1 (before ++ codes) (next_along sound p before told.0 h) told.2
+      (sym (ap (λ (x : PartsReport). x.end) told.3) ∙ end) in
+      subst (λ (x : State). EndsAsRun limit s ending x (before ++ (codes ++ later)))
+      (sym (ap (λ (x : PartsReport). x.last) told.3))
+      (subst (λ (xs : List ℕ). EndsAsRun limit s ending told.1.last xs) (append_assoc before codes later) rest)
+
+-- from every such state
+ends_from : (limit : ℕ) (s : State) → IsSound s → IsStarted s → EndsAsParts limit s
+ends_from limit s sound started t ending tells end =
+    let first : Along limit s (first_part s) [] = record {
+      walk = record {
+        there = no_step s;
+        free = λ j h. absurd (omega arith);
+        stops = quiet_stops 0 s (λ j h. absurd (omega arith));
+        prints = quiet_codes 0 s (λ j h. absurd (omega arith));
+      };
+      within = omega arith;
+      some = omega arith;
+      begins = record { store = sound.store; first = λ e. started; further = λ ne. absurd (ne refl) };
+    } in
+    ends limit s sound tells.returns t [] first tells.told end
+
+pub each_end : EachEndIsTheRuns
+each_end = record {
+  of_text = λ limit z text codes read.
+      ends_from limit (first_state z codes) (sound_start z text codes read) (starts z codes);
+  from_start = ends_from;
+}

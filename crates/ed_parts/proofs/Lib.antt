@@ -1,8 +1,0 @@
-mod Homes
-mod Programs
-mod Rows
-mod Parting
-pub mod Tales
-mod Passing
-mod Reached
-pub mod Runs

@@ -1,9 +1,0 @@
-use Rattle.std.proofs.Common.{◌+◌, ◌≤◌}
-use Rattle.ed_parts.proofs.Programs.{Running}
-use Rattle.ed_parts.proofs.program.run_program.Given as goal
-
-abbrev pub invariant-loop-done : goal.invariant-loop-done
-invariant-loop-done l = record {
-  running : Running l.left l.fn.machine l.done l.machine;
-  orders : l.machine.orders ≤ l.fn.machine.orders + l.done;
-}
