@@ -1,7 +1,11 @@
-use Rattle.std.proofs.Common.{refl, sym, []}
+use Rattle.std.proofs.Common.{◌≡◌, refl, sym, []}
+use Rattle.ed_io.specs.declared.stop.WriteStop.TheVariants.{Failed, Memory}
 use Rattle.std.proofs.lemmas.Result.{err_from_is_err_and}
 use Rattle.ed_io.proofs.Calls.{gains_none}
 use Rattle.ed_interlude.proofs.part.write_line.Goals as goal
+
+never : {A : Type 0} → Failed ≡ Memory → A
+never e = absurd (cc)
 
 pub returns : goal.returns
 returns g c = record {
@@ -29,6 +33,6 @@ returns-in_err-write_all g c =
       whole = λ text made.
           let made_of = rw c.in_ok-line.was at made in
           rw (sym made_of, sym c.deref.ensures.value) c.in_err-write_all.ensures.whole;
-      memory = λ e. absurd (cc);
+      memory = never;
       faults = c.in_err-write_all.ensures.faults;
     })

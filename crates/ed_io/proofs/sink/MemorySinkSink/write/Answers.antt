@@ -1,4 +1,5 @@
 use Rattle.std.proofs.Common.{◌≡◌, ◌<◌, ◌⊎◌, append-nil, arith, false, inl, inr, length, refl, sym, true}
+use Rattle.std.proofs.lemmas.Bool.{false≢true}
 use Rattle.std.proofs.lemmas.Bool.Decides.{nat_tests}
 use Rattle.ed_io.proofs.Memory.{is_among, none_among}
 use Rattle.ed_io.proofs.sink.MemorySinkSink.write.Goals as goal
@@ -29,7 +30,7 @@ returns c =
       bytes = c.keep.ensures.items;
       cause = record { later = omega arith; failed = tt };
       fails = (
-        λ e. absurd (cc),
+        λ e. absurd (false≢true e),
         neither (none_among c.deref.ensures.value c.if-fails.ensures.cases)
             (λ h. absurd (omega (arith, roomy h.1, h.0))),
       );

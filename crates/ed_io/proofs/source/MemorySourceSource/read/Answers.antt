@@ -1,4 +1,5 @@
 use Rattle.std.proofs.Common.{arith, refl}
+use Rattle.std.proofs.lemmas.Bool.{false≢true}
 use Rattle.std.proofs.lemmas.List.{take_rest}
 use Rattle.ed_io.proofs.Memory.{hands_over, is_among, none_among}
 use Rattle.ed_io.proofs.source.MemorySourceSource.read.Goals as goal
@@ -28,7 +29,7 @@ returns c =
       within = h.within;
       bytes = (h.whole, h.ends);
       cause = record { later = omega arith; failed = tt };
-      fails = (λ e. absurd (cc), none_among c.deref.ensures.value c.if-fails.ensures.cases);
+      fails = (λ e. absurd (false≢true e), none_among c.deref.ensures.value c.if-fails.ensures.cases);
       count = rw (take_rest c.deref-2.result.now c.self.inside.at, value) at given.ensures.count;
       faults = refl;
       next = c.saturating_add-self-inside.ensures;
