@@ -18,8 +18,8 @@ use Rattle.ed_printer.specs.Paper.{paper}
 use Rattle.ed_checker.specs.Checker.{checked_codes, checked_orders, guest, planting_place}
 use Rattle.ed_checker.specs.Laws.{HasGuest}
 use Rattle.ed_checker.proofs.Follow.{checker_law}
-use Rattle.ed_sources.proofs.CheckedPaper.{checks_to_stop}
-use Rattle.ed_sources.proofs.Stops.{comes_to_stop}
+use Rattle.ed_top.proofs.Making.CheckedPaper.{checks_to_stop}
+use Rattle.ed_top.proofs.Making.Stops.{comes_to_stop}
 use Rattle.ed_command.specs.declared.command.Settings.{Settings}
 use Rattle.ed_answers.specs.Headline.{RunsFromEntry}
 use Rattle.ed_answers.specs.Sources.{OfSource, run_outcome}

@@ -26,9 +26,9 @@ use Rattle.ed_run.proofs.Later.{ran_later}
 use Rattle.ed_printer.specs.Paper.{paper}
 use Rattle.ed_machine.proofs.Kit.Standing.{Holds}
 use Rattle.ed_routines.proofs.Journeys.{ComesToStop}
-use Rattle.ed_sources.proofs.Stops.{ran_to_stop}
-use Rattle.ed_sources.proofs.Decimals.{among, numbers}
-use Rattle.ed_sources.proofs.Entries.{is_met, meets_of}
+use Rattle.ed_top.proofs.Making.Stops.{ran_to_stop}
+use Rattle.ed_top.proofs.Making.Decimals.{among, numbers}
+use Rattle.ed_top.proofs.Making.Entries.{is_met, meets_of}
 use Rattle.ed_command.specs.declared.command.Settings.{Settings}
 use Rattle.ed_answers.specs.Answer.{OfReading, exactly}
 use Rattle.ed_answers.specs.Tapes.{first_note, tape_outcome}

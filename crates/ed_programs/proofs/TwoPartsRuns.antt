@@ -37,7 +37,7 @@ use Rattle.ed_machine.proofs.Kit.Paths as paths
 use Rattle.ed_routines.proofs.Journeys.{ComesToStop, stop_after}
 use Rattle.ed_report.specs.Entries.{entry_line, returned_line}
 use Rattle.ed_report.specs.Notes.{at_after}
-use Rattle.ed_sources.proofs.Stops.{ran_to_stop}
+use Rattle.ed_top.proofs.Making.Stops.{ran_to_stop}
 use Rattle.ed_interlude.specs.Parts.{ComesHome, Concludes, Finishes, GoesBack, IsUnderWay, LeadsTo, RunsOn, TapePart}
 use Rattle.ed_interlude.specs.Parts.{IsReportOfTape}
 use Rattle.ed_interlude.specs.Parts.{PartsReport, entry_done, entry_report, finished, first_part, part_after}

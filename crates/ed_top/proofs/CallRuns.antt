@@ -8,22 +8,22 @@ use Rattle.ed_words.proofs.SizeLemmas.{least}
 use Rattle.ed_library.specs.Ranges.{IsCallInRange}
 use Rattle.ed_library.specs.declared.call.Call.{Call}
 use Rattle.ed_library.specs.declared.call.Call.TheVariants.{Print, Read, NewLine, Divide, Root, Check}
-use Rattle.ed_sources.specs.Calls.{call_text}
+use Rattle.ed_top.specs.CallSources.{call_text}
 use Rattle.ed_lines.specs.declared.program.Line.{Line}
 use Rattle.ed_syntax.specs.Private.SourceReading.{program_of}
 use Rattle.ed_link.specs.Private.FaultTests.{fault}
 use Rattle.ed_answers.proofs.EachSource.{read_is_accepted}
-use Rattle.ed_sources.proofs.CallsAccepted.{divide_read, newline_read, print_read, read_read, root_read, check_read}
-use Rattle.ed_sources.proofs.Faultless.{divide_faultless, newline_faultless, print_faultless}
-use Rattle.ed_sources.proofs.Faultless.{read_faultless, root_faultless, check_faultless}
-use Rattle.ed_sources.proofs.Papers.{digits_printed, lines_printed}
-use Rattle.ed_sources.proofs.DivideAndPrint.{call_ends, quotient_low, remainder_low}
-use Rattle.ed_sources.proofs.RootAndPrint.{root_ends, root_small}
-use Rattle.ed_sources.proofs.CheckedPaper.{check_ends, few_orders, room_for_codes}
-use Rattle.ed_sources.proofs.CheckedPrint.{guest_stops}
-use Rattle.ed_sources.proofs.PrintAndNewline.{newline_ends, print_ends}
-use Rattle.ed_sources.proofs.ReadAndPrint.{read_ends}
-use Rattle.ed_sources.proofs.Stops.{StopsAt, comes_to_stop}
+use Rattle.ed_top.proofs.Making.CallsAccepted.{divide_read, newline_read, print_read, read_read, root_read, check_read}
+use Rattle.ed_top.proofs.Making.Faultless.{divide_faultless, newline_faultless, print_faultless}
+use Rattle.ed_top.proofs.Making.Faultless.{read_faultless, root_faultless, check_faultless}
+use Rattle.ed_top.proofs.Making.Papers.{digits_printed, lines_printed}
+use Rattle.ed_top.proofs.Making.DivideAndPrint.{call_ends, quotient_low, remainder_low}
+use Rattle.ed_top.proofs.Making.RootAndPrint.{root_ends, root_small}
+use Rattle.ed_top.proofs.Making.CheckedPaper.{check_ends, few_orders, room_for_codes}
+use Rattle.ed_top.proofs.Making.CheckedPrint.{guest_stops}
+use Rattle.ed_top.proofs.Making.PrintAndNewline.{newline_ends, print_ends}
+use Rattle.ed_top.proofs.Making.ReadAndPrint.{read_ends}
+use Rattle.ed_top.proofs.Making.Stops.{StopsAt, comes_to_stop}
 use Rattle.ed_maths.specs.Roots.{root_of}
 use Rattle.ed_maths.proofs.Greatest.{root_is}
 use Rattle.ed_maths.proofs.RootCall.{few as below_256}

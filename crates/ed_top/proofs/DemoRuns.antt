@@ -7,13 +7,13 @@ use Rattle.ed_answers.proofs.EachSource.{read_is_accepted}
 use Rattle.ed_report.specs.Notes.{at_after, entry_note}
 use Rattle.ed_routines.specs.Digits.{print_orders}
 use Rattle.ed_routines.proofs.Digits.{few_digits}
-use Rattle.ed_sources.specs.Demo.{demo_sum, demo_text}
-use Rattle.ed_sources.proofs.CheckedPaper.{few_orders}
-use Rattle.ed_sources.proofs.DemoAccepted.{demo_read}
-use Rattle.ed_sources.proofs.DemoEnds.{demo_ends, demo_entry, demo_rows, sum_small}
-use Rattle.ed_sources.proofs.DemoFaultless.{demo_faultless}
-use Rattle.ed_sources.proofs.Papers.{digits_printed}
-use Rattle.ed_sources.proofs.SaidDemo.{demo_lines}
+use Rattle.ed_top.specs.DemoSources.{demo_sum, demo_text}
+use Rattle.ed_top.proofs.Making.CheckedPaper.{few_orders}
+use Rattle.ed_top.proofs.Making.DemoAccepted.{demo_read}
+use Rattle.ed_top.proofs.Making.DemoEnds.{demo_ends, demo_entry, demo_rows, sum_small}
+use Rattle.ed_top.proofs.Making.DemoFaultless.{demo_faultless}
+use Rattle.ed_top.proofs.Making.Papers.{digits_printed}
+use Rattle.ed_top.proofs.Making.SaidDemo.{demo_lines}
 use Rattle.ed_top.specs.Demos.{EachDemoRuns}
 use Rattle.ed_answers.specs.Outcome.{Outcome}
 use Rattle.ed_answers.specs.Headline.{RunsFromEntry}

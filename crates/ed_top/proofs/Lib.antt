@@ -16,3 +16,4 @@ mod MoveEndings
 mod Stepped
 mod TapeWalks
 mod PartsRun
+pub mod Making

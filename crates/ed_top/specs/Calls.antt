@@ -17,7 +17,7 @@ use Rattle.ed_checker.specs.Laws.{StopsAfter}
 use Rattle.ed_words.specs.declared.size.Size.{Size}
 use Rattle.ed_words.specs.declared.size.Size.TheVariants.{Full}
 use Rattle.ed_library.specs.Ranges.{IsCallInRange}
-use Rattle.ed_sources.specs.Calls.{call_text}
+use Rattle.ed_top.specs.CallSources.{call_text}
 use Rattle.ed_command.specs.Settings.{options_by, settings_of}
 use Rattle.ed_command.specs.declared.command.Settings.{Settings}
 use Rattle.ed_words.specs.Texts.{Text}

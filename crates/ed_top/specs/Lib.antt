@@ -1,3 +1,6 @@
+pub mod CallSources
+pub mod DemoSources
+pub mod AcceptedSources
 pub mod Traces
 pub mod Parts
 pub mod Scripts
