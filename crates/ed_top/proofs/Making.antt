@@ -7,7 +7,7 @@ pub mod Said
 pub mod SaidMaths
 pub mod SaidDemo
 pub mod Faultless
-mod DemoTexts
+pub mod DemoTexts
 mod DemoNames
 pub mod DemoFaultless
 pub mod CallsAccepted

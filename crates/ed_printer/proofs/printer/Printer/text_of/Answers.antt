@@ -1,4 +1,4 @@
-use Rattle.std.proofs.Common.{◌≡◌, ◌∙◌, ◌∷◌, [], ap, arith}
+use Rattle.std.proofs.Common.{◌≡◌, ◌∙◌, ◌++◌, ◌∷◌, [], ap, arith, sym}
 use Rattle.std.specs.Prelude.{slice_index}
 use Rattle.std.proofs.lemmas.List.{drop_all}
 use Rattle.ed_printer.specs.Paper.{bytes_of, struck_bytes}
@@ -18,13 +18,16 @@ loop-code-preserved c =
     elim c.if-is_plain.branch [
       | then-is_plain w ↦ let plain : bytes_of character ≡ character ∷ [] = w.if-is_plain.ensures in
           let stays = w.shift-is ∙ plain_keeps_shift here.shift code character bytes plain in record {
-            printed = code_printed _ here.shift _ _ here.text.items _ _ code c.loop-code-test.true c.code-item.is (cc) stays
-                here.invariant.printed;
+            printed = code_printed _ here.shift _ _ here.text.items _ _ code c.loop-code-test.true c.code-item.is
+                (ap (λ v. v.items) w.text-is ∙ w.push_reserved.ensures.items
+                ∙ ap (λ b. here.text.items ++ b) (sym plain ∙ bytes))
+                stays here.invariant.printed;
             characters = λ k below. rw (w.characters-is, w.shift-is) (here.invariant.characters k below);
             room = rw w.text-is (omega arith);
           }
       | else-is_plain w ↦ record {
-        printed = code_printed _ here.shift _ _ here.text.items _ _ code c.loop-code-test.true c.code-item.is (cc)
+        printed = code_printed _ here.shift _ _ here.text.items _ _ code c.loop-code-test.true c.code-item.is
+            (ap (λ v. v.items) w.text-is ∙ w.push_character.ensures.text ∙ ap (λ b. here.text.items ++ b) bytes)
             (w.shift-is ∙ w.after-shift.ensures) here.invariant.printed;
         characters = λ k below. rw w.characters-is (rw w.shift-is (w.characters-characters-else-is_plain.ensures k below));
         room = rw w.text-is (omega arith);
