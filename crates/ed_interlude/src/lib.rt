@@ -2,9 +2,9 @@
 //! the run.
 //!
 //! Contract: if the rest of a tape is well formed, it is loaded as it means, from the directive that the program left; a
-//! tape in parts has one report, of which the lines of entries and returns are written, or the beginning of them if a
-//! write fails. The Initial Orders lead every part to its entry. Depends on `ed_initial`, `ed_run`, `ed_io`, `ed_report`
-//! and `ed_answers`.
+//! tape in parts has one report, and its lines are written, or the beginning of them if a write fails. The report has a
+//! line for each entry and each return. The Initial Orders lead every part to its entry. Depends on `ed_initial`,
+//! `ed_run`, `ed_io`, `ed_report` and `ed_answers`.
 #![tactic(auto)]
 
 mod part;
