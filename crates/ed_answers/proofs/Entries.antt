@@ -22,7 +22,7 @@ use Rattle.ed_initial.specs.Entry.{at_entry, Comes, IsLoaded, IsStarted}
 use Rattle.ed_initial.specs.declared.loading.Loaded.{Loaded}
 use Rattle.ed_initial.proofs.Started.{is_started}
 use Rattle.ed_initial.proofs.Quiet.{LeadsIn, comes_in}
-use Rattle.ed_lines.specs.declared.program.Line.{Line}
+use Rattle.ed_syntax.specs.declared.program.Line.{Line}
 use Rattle.ed_link.specs.declared.linked.Linked.{Linked}
 use Rattle.ed_link.specs.Answers.{IsLinked}
 use Rattle.ed_link.specs.Linked.{linked_words, entry_of, data_after}

@@ -11,7 +11,7 @@ use Rattle.ed_notation.specs.Checks.{ArePlaces}
 use Rattle.ed_notation.specs.Fold.{over, placed_at}
 use Rattle.ed_notation.proofs.Contents.{content_is}
 use Rattle.ed_initial.specs.Rests.{initial_words}
-use Rattle.ed_lines.specs.declared.program.Line.{Line}
+use Rattle.ed_syntax.specs.declared.program.Line.{Line}
 use Rattle.ed_link.specs.Linked.{linked_words}
 use Rattle.ed_link.specs.Words.{WordsStand, linked_word}
 use Rattle.ed_link.proofs.WordLaws.{each_word_stands}

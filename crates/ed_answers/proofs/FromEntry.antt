@@ -8,7 +8,7 @@ use Rattle.ed_printer.specs.Paper.{paper}
 use Rattle.ed_run.specs.Run.{RunEnd, run_end}
 use Rattle.ed_run.specs.Laws.{AllWent}
 use Rattle.ed_run.proofs.Later.{ran_later}
-use Rattle.ed_lines.specs.declared.program.Line.{Line}
+use Rattle.ed_syntax.specs.declared.program.Line.{Line}
 use Rattle.ed_link.specs.Answers.{IsLinked}
 use Rattle.ed_link.specs.Linked.{entry_of}
 use Rattle.ed_link.specs.Tapes.{cost, tape}

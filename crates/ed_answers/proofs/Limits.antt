@@ -23,7 +23,7 @@ use Rattle.ed_run.proofs.Ends.{ends_once, ran_ends}
 use Rattle.ed_printer.specs.Paper.{paper, paper_from, shift_after, struck_bytes}
 use Rattle.ed_printer.specs.declared.printer.Shift.{Shift}
 use Rattle.ed_printer.specs.declared.printer.Shift.TheVariants.{Letters}
-use Rattle.ed_lines.specs.declared.program.Line.{Line}
+use Rattle.ed_syntax.specs.declared.program.Line.{Line}
 use Rattle.ed_link.specs.Tapes.{tape}
 use Rattle.ed_answers.specs.EntryState.{first_state}
 use Rattle.ed_command.specs.declared.command.Window.{Window}

@@ -8,14 +8,14 @@ use Rattle.ed_words.specs.Texts.{Text}
 use Rattle.ed_syntax.specs.Private.Grammar.{settings}
 use Rattle.ed_syntax.specs.Private.SourceReading.{program_of}
 use Rattle.ed_syntax.specs.Sources.{HasFormFault, IsFormFault, IsProgram}
-use Rattle.ed_lines.specs.declared.program.Line.{Line}
-use Rattle.ed_lines.specs.declared.program.Operand.TheVariants.{Number}
-use Rattle.ed_lines.specs.declared.program.Program.{Program}
-use Rattle.ed_lines.specs.declared.program.Statement.TheVariants.{Order}
-use Rattle.ed_lines.specs.declared.fault.SourceCause.{SourceCause}
-use Rattle.ed_lines.specs.declared.fault.SourceCause.TheVariants as causes
-use Rattle.ed_lines.specs.declared.fault.SourceFault.{SourceFault}
-use Rattle.ed_lines.specs.declared.fault.SourceFault.TheVariants.{At, Memory}
+use Rattle.ed_syntax.specs.declared.program.Line.{Line}
+use Rattle.ed_syntax.specs.declared.program.Operand.TheVariants.{Number}
+use Rattle.ed_syntax.specs.declared.program.Program.{Program}
+use Rattle.ed_syntax.specs.declared.program.Statement.TheVariants.{Order}
+use Rattle.ed_syntax.specs.declared.fault.SourceCause.{SourceCause}
+use Rattle.ed_syntax.specs.declared.fault.SourceCause.TheVariants as causes
+use Rattle.ed_syntax.specs.declared.fault.SourceFault.{SourceFault}
+use Rattle.ed_syntax.specs.declared.fault.SourceFault.TheVariants.{At, Memory}
 use Rattle.ed_syntax.proofs.SourceLaws.{has_one_meaning, source_answer}
 use Rattle.ed_symbols.specs.NameFaults.{number_of}
 use Rattle.ed_symbols.proofs.LeastFaults.{same_cause}

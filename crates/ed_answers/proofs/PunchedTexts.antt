@@ -14,10 +14,10 @@ use Rattle.ed_notation.proofs.Canonical.{are_written}
 use Rattle.ed_notation.proofs.Texts.{are_codes, line_spells, text_reads}
 use Rattle.ed_syntax.specs.Lines.{lines_of}
 use Rattle.ed_syntax.specs.Private.SourceReading.{is_two}
-use Rattle.ed_lines.specs.Programs.{is_line, is_statement}
-use Rattle.ed_lines.specs.declared.program.Line.{Line}
-use Rattle.ed_lines.specs.declared.program.Statement.{Statement}
-use Rattle.ed_lines.specs.declared.program.Statement.TheVariants.{Rows}
+use Rattle.ed_syntax.specs.Programs.{is_line, is_statement}
+use Rattle.ed_syntax.specs.declared.program.Line.{Line}
+use Rattle.ed_syntax.specs.declared.program.Statement.{Statement}
+use Rattle.ed_syntax.specs.declared.program.Statement.TheVariants.{Rows}
 use Rattle.ed_syntax.proofs.Formed.{program_formed}
 use Rattle.ed_syntax.proofs.RunTests.{each_append}
 use Rattle.ed_syntax.proofs.SourceLaws.{program_is_read}

@@ -14,7 +14,7 @@ use Rattle.ed_initial.specs.Listing.{initial_orders}
 use Rattle.ed_initial.specs.Rests.{Working, initial_words}
 use Rattle.ed_words.specs.Texts.{Text}
 use Rattle.ed_words.specs.declared.order_words.TheConstants.{E_F, T_F}
-use Rattle.ed_lines.specs.declared.program.Line.{Line}
+use Rattle.ed_syntax.specs.declared.program.Line.{Line}
 use Rattle.ed_symbols.specs.Places.{first_counter}
 use Rattle.ed_link.specs.Linked.{linked_words, entry_of, theta_from, data_after}
 use Rattle.ed_link.specs.Tapes.{ComesToLinked, cost, punched_rows, tape}

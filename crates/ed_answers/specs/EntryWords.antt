@@ -4,7 +4,7 @@ use Rattle.std.specs.Prelude.{◌≡◌, ◌⊎◌, ℕ, ◌<◌, ◌≤◌, Lis
 use Rattle.ed_words.specs.declared.size.Size.{Size}
 use Rattle.ed_store.specs.Cells.{short_at}
 use Rattle.ed_words.specs.Texts.{Text}
-use Rattle.ed_lines.specs.declared.program.Line.{Line}
+use Rattle.ed_syntax.specs.declared.program.Line.{Line}
 use Rattle.ed_symbols.specs.NameFaults.{StandsAfter}
 use Rattle.ed_answers.specs.Refusals.{IsAcceptedAs}
 use Rattle.ed_link.specs.Words.{IsLastSet, LinePlaces, LineSets}

@@ -1,7 +1,7 @@
 -- What `punch` writes is the tape that `run` runs (this project's own rules).
 use Rattle.std.specs.Prelude.{◌≡◌, List, length}
 use Rattle.ed_codes.specs.Reading.{reading, rows}
-use Rattle.ed_lines.specs.declared.program.Line.{Line}
+use Rattle.ed_syntax.specs.declared.program.Line.{Line}
 use Rattle.ed_link.specs.Linked.{entry_of}
 use Rattle.ed_answers.specs.Refusals.{IsAcceptedAs}
 use Rattle.ed_link.specs.Tapes.{cost, punched_rows, tape}

@@ -4,8 +4,8 @@ use Rattle.std.specs.Prelude.{◌≡◌, ◌⊎◌, ℕ, Bool, List}
 use Rattle.ed_words.specs.declared.size.Size.{Size}
 use Rattle.ed_words.specs.Texts.{Text}
 use Rattle.ed_syntax.specs.Sources.{IsFormFault, IsProgram}
-use Rattle.ed_lines.specs.declared.program.Line.{Line}
-use Rattle.ed_lines.specs.declared.fault.SourceCause.{SourceCause}
+use Rattle.ed_syntax.specs.declared.program.Line.{Line}
+use Rattle.ed_syntax.specs.declared.fault.SourceCause.{SourceCause}
 use Rattle.ed_link.specs.Faults.{HasNoFault, IsMeaningFault}
 
 -- the source is accepted on a machine of this size: it says these lines, and they have no fault of meaning

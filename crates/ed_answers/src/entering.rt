@@ -1,6 +1,6 @@
 ghost use Rattle.std.specs.Prelude.{◌≡◌, IfOk, List};
 ghost use Rattle.ed_initial.specs.Entry.{IsStarted};
-ghost use Rattle.ed_lines.specs.declared.program.Line.{Line};
+ghost use Rattle.ed_syntax.specs.declared.program.Line.{Line};
 ghost use Rattle.ed_link.specs.Answers.{IsLinked};
 ghost use Rattle.ed_answers.specs.EntryState.{EachSourceComes, EachSourceEnters, entry_state, first_state};
 ghost use Rattle.ed_answers.specs.Refusals.{EachSourceHasOneAnswer};

@@ -1,7 +1,7 @@
 ghost use Rattle.std.specs.Prelude.{◌≡◌, ℕ, ◌<◌, ◌≤◌, ◌++◌, [], All, IfErr, IfOk, List, map, nat_le, if◌then◌else◌};
-ghost use Rattle.ed_lines.specs.declared.fault.SourceCause.{SourceCause};
-ghost use Rattle.ed_lines.specs.declared.fault.SourceFault.TheVariants.{At};
-ghost use Rattle.ed_lines.specs.declared.program.Line.{Line};
+ghost use Rattle.ed_syntax.specs.declared.fault.SourceCause.{SourceCause};
+ghost use Rattle.ed_syntax.specs.declared.fault.SourceFault.TheVariants.{At};
+ghost use Rattle.ed_syntax.specs.declared.program.Line.{Line};
 ghost use Rattle.ed_link.specs.Answers.{IsLinked};
 ghost use Rattle.ed_link.specs.Tapes.{cost, tape};
 ghost use Rattle.ed_answers.specs.EntryState.{entry_state};

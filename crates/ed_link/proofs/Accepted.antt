@@ -18,9 +18,9 @@ use Rattle.ed_notation.proofs.Cuts.{spelled-append, costs-append, canonicals-app
 use Rattle.ed_notation.proofs.Sound.{sound_well}
 use Rattle.ed_library.specs.Entries.{catalogue}
 use Rattle.ed_library.specs.Ready.{is_ready}
-use Rattle.ed_lines.specs.declared.program.Line.{Line}
-use Rattle.ed_lines.specs.declared.fault.SourceFault.{SourceFault}
-use Rattle.ed_lines.specs.Programs.{is_line}
+use Rattle.ed_syntax.specs.declared.program.Line.{Line}
+use Rattle.ed_syntax.specs.declared.fault.SourceFault.{SourceFault}
+use Rattle.ed_syntax.specs.Programs.{is_line}
 use Rattle.ed_symbols.specs.Places.{first_counter}
 use Rattle.ed_link.specs.Linked.{symbols_of, linked_words, data_after, entry_of, theta_from}
 use Rattle.ed_link.specs.Punch.{item_with, punched_items}

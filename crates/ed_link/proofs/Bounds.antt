@@ -9,11 +9,11 @@ use Rattle.ed_notation.specs.Items.{mark_rows, rows_of, begun_rows, spelled_rows
 use Rattle.ed_notation.specs.Spellings.{canonical, canonicals, digit_at, digits_of}
 use Rattle.ed_library.specs.Entries.{entry}
 use Rattle.ed_library.specs.Routines.{find, table_item, place_count}
-use Rattle.ed_lines.specs.declared.program.Operand.{Operand}
-use Rattle.ed_lines.specs.declared.program.Setting.{Setting}
-use Rattle.ed_lines.specs.declared.program.Statement.{Statement}
-use Rattle.ed_lines.specs.declared.program.Statement.TheVariants.{Segment, Order, Number, Text}
-use Rattle.ed_lines.specs.declared.program.Statement.TheVariants.{Long, Fetch, Enter, Rows}
+use Rattle.ed_syntax.specs.declared.program.Operand.{Operand}
+use Rattle.ed_syntax.specs.declared.program.Setting.{Setting}
+use Rattle.ed_syntax.specs.declared.program.Statement.{Statement}
+use Rattle.ed_syntax.specs.declared.program.Statement.TheVariants.{Segment, Order, Number, Text}
+use Rattle.ed_syntax.specs.declared.program.Statement.TheVariants.{Long, Fetch, Enter, Rows}
 use Rattle.ed_symbols.specs.declared.symbols.Definition.{Definition}
 use Rattle.ed_symbols.specs.declared.location_counter.LocationCounter.{LocationCounter}
 use Rattle.ed_symbols.specs.Places.{even_from, segment_at}

@@ -14,8 +14,8 @@ use Rattle.ed_library.specs.Entries.{Routine, catalogue, entry, no_entry}
 use Rattle.ed_library.specs.Ready.{is_ready, is_ready_row, is_parameter, are_letters, are_rising}
 use Rattle.ed_library.specs.Routines.{find, find_from, missing_row, table_item, routine_item, place_count}
 use Rattle.ed_library.specs.declared.tables.TableRow.{TableRow}
-use Rattle.ed_lines.specs.declared.program.Operand.{Operand}
-use Rattle.ed_lines.specs.declared.program.Setting.{Setting}
+use Rattle.ed_syntax.specs.declared.program.Operand.{Operand}
+use Rattle.ed_syntax.specs.declared.program.Setting.{Setting}
 use Rattle.ed_link.specs.Linked.{set_to}
 use Rattle.ed_link.specs.Private.FaultTests.{sets}
 use Rattle.ed_link.proofs.Uses.{IsKnown, AreKnown}

@@ -7,12 +7,12 @@ use Rattle.ed_words.proofs.Numbers.{le_of, not_le_of}
 use Rattle.ed_words.specs.declared.size.Size.{Size}
 use Rattle.std.specs.Prelude.{Result, Ok, Err, IfErr}
 use Rattle.ed_link.specs.Answers.{HasMeaningFault}
-use Rattle.ed_lines.specs.Programs.{AreNumbered}
-use Rattle.ed_lines.specs.declared.program.Line.{Line}
-use Rattle.ed_lines.specs.declared.fault.SourceCause.{SourceCause}
-use Rattle.ed_lines.specs.declared.fault.SourceCause.TheVariants as causes
-use Rattle.ed_lines.specs.declared.fault.SourceFault.{SourceFault}
-use Rattle.ed_lines.specs.declared.fault.SourceFault.TheVariants.{At, Memory}
+use Rattle.ed_syntax.specs.Programs.{AreNumbered}
+use Rattle.ed_syntax.specs.declared.program.Line.{Line}
+use Rattle.ed_syntax.specs.declared.fault.SourceCause.{SourceCause}
+use Rattle.ed_syntax.specs.declared.fault.SourceCause.TheVariants as causes
+use Rattle.ed_syntax.specs.declared.fault.SourceFault.{SourceFault}
+use Rattle.ed_syntax.specs.declared.fault.SourceFault.TheVariants.{At, Memory}
 use Rattle.ed_symbols.specs.declared.symbols.Definition.{Definition}
 use Rattle.ed_symbols.specs.declared.location_counter.LocationCounter.{LocationCounter}
 use Rattle.ed_symbols.specs.Places.{after_statement, first_counter}

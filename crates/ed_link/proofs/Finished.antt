@@ -6,8 +6,8 @@ use Rattle.ed_words.specs.declared.size.Size.{Size}
 use Rattle.ed_notation.specs.Spellings.{AreSpellable}
 use Rattle.ed_library.specs.Entries.{catalogue}
 use Rattle.ed_library.specs.Ready.{is_ready}
-use Rattle.ed_lines.specs.declared.program.Line.{Line}
-use Rattle.ed_lines.specs.Programs.{AreNumbered, is_line}
+use Rattle.ed_syntax.specs.declared.program.Line.{Line}
+use Rattle.ed_syntax.specs.Programs.{AreNumbered, is_line}
 use Rattle.ed_symbols.specs.declared.symbols.Definition.{Definition}
 use Rattle.ed_symbols.specs.Places.{first_counter}
 use Rattle.ed_symbols.specs.Faults.{resolution}

@@ -13,15 +13,15 @@ use Rattle.ed_notation.specs.Spellings.{AreSpellable}
 use Rattle.ed_library.specs.Entries.{catalogue, entry}
 use Rattle.ed_library.specs.Ready.{is_ready}
 use Rattle.ed_library.specs.Routines.{find}
-use Rattle.ed_lines.specs.declared.program.Setting.{Setting}
-use Rattle.ed_lines.specs.declared.program.Statement.{Statement}
-use Rattle.ed_lines.specs.declared.program.Statement.TheVariants.{Order, Number, Text}
-use Rattle.ed_lines.specs.declared.program.Statement.TheVariants.{Long, Fetch, Enter, Rows}
-use Rattle.ed_lines.specs.declared.program.Line.{Line as SourceLine}
-use Rattle.ed_lines.specs.declared.fault.SourceCause.{SourceCause}
-use Rattle.ed_lines.specs.declared.fault.SourceFault.{SourceFault}
-use Rattle.ed_lines.specs.Programs.{is_line, is_statement}
-use Rattle.ed_lines.proofs.Meaning.{statement_fact}
+use Rattle.ed_syntax.specs.declared.program.Setting.{Setting}
+use Rattle.ed_syntax.specs.declared.program.Statement.{Statement}
+use Rattle.ed_syntax.specs.declared.program.Statement.TheVariants.{Order, Number, Text}
+use Rattle.ed_syntax.specs.declared.program.Statement.TheVariants.{Long, Fetch, Enter, Rows}
+use Rattle.ed_syntax.specs.declared.program.Line.{Line as SourceLine}
+use Rattle.ed_syntax.specs.declared.fault.SourceCause.{SourceCause}
+use Rattle.ed_syntax.specs.declared.fault.SourceFault.{SourceFault}
+use Rattle.ed_syntax.specs.Programs.{is_line, is_statement}
+use Rattle.ed_syntax.proofs.Meaning.{statement_fact}
 use Rattle.ed_symbols.specs.declared.symbols.Definition.{Definition}
 use Rattle.ed_symbols.specs.declared.location_counter.LocationCounter.{LocationCounter}
 use Rattle.ed_symbols.specs.Places.{even_from, routine_places as places_of, after_statement, segment_of}

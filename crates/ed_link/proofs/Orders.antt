@@ -14,8 +14,8 @@ use Rattle.ed_notation.specs.declared.kind.RowKind.TheVariants.{Letter}
 use Rattle.ed_notation.specs.Items.{row_kind, ends}
 use Rattle.ed_notation.specs.Fold.{NotationState, item_word, word_with}
 use Rattle.ed_notation.specs.Spellings.{canonical, is_spellable, AreSpellable}
-use Rattle.ed_lines.specs.declared.program.Operand.{Operand}
-use Rattle.ed_lines.specs.declared.program.Operand.TheVariants.{Number, Label, Two}
+use Rattle.ed_syntax.specs.declared.program.Operand.{Operand}
+use Rattle.ed_syntax.specs.declared.program.Operand.TheVariants.{Number, Label, Two}
 use Rattle.ed_symbols.specs.declared.symbols.Definition.{Definition}
 use Rattle.ed_symbols.specs.declared.location_counter.LocationCounter.{LocationCounter}
 use Rattle.ed_symbols.specs.Places.{segment_at}

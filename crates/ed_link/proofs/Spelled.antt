@@ -17,12 +17,12 @@ use Rattle.ed_library.specs.Entries.{catalogue, entry}
 use Rattle.ed_library.specs.Ready.{is_ready, is_ready_row}
 use Rattle.ed_library.specs.Routines.{find, table_item}
 use Rattle.ed_library.specs.declared.tables.TableRow.{TableRow}
-use Rattle.ed_lines.proofs.Meaning.{IsStatement}
-use Rattle.ed_lines.specs.declared.program.Operand.{Operand}
-use Rattle.ed_lines.specs.declared.program.Setting.{Setting}
-use Rattle.ed_lines.specs.declared.program.Statement.{Statement}
-use Rattle.ed_lines.specs.declared.program.Statement.TheVariants.{Order, Number, Text}
-use Rattle.ed_lines.specs.declared.program.Statement.TheVariants.{Long, Fetch, Enter}
+use Rattle.ed_syntax.proofs.Meaning.{IsStatement}
+use Rattle.ed_syntax.specs.declared.program.Operand.{Operand}
+use Rattle.ed_syntax.specs.declared.program.Setting.{Setting}
+use Rattle.ed_syntax.specs.declared.program.Statement.{Statement}
+use Rattle.ed_syntax.specs.declared.program.Statement.TheVariants.{Order, Number, Text}
+use Rattle.ed_syntax.specs.declared.program.Statement.TheVariants.{Long, Fetch, Enter}
 use Rattle.ed_symbols.specs.declared.symbols.Definition.{Definition}
 use Rattle.ed_symbols.specs.declared.location_counter.LocationCounter.{LocationCounter}
 use Rattle.ed_symbols.specs.Places.{even_from, segment_at}

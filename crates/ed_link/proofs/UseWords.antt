@@ -3,7 +3,7 @@ use Rattle.std.proofs.Common.{◌≡◌, ℕ, ◌+◌, ◌<◌, ◌≤◌, ap, �
 use Rattle.ed_library.specs.Entries.{entry}
 use Rattle.ed_library.specs.Routines.{table_item, place_count}
 use Rattle.ed_library.specs.Images.{routine_word}
-use Rattle.ed_lines.specs.declared.program.Setting.{Setting}
+use Rattle.ed_syntax.specs.declared.program.Setting.{Setting}
 use Rattle.ed_symbols.specs.declared.symbols.Definition.{Definition}
 use Rattle.ed_symbols.specs.Places.{routine_places}
 use Rattle.ed_link.specs.Linked.{image, placed_words, parameters, presets}

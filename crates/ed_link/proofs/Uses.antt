@@ -21,8 +21,8 @@ use Rattle.ed_library.specs.Routines.{table_item}
 use Rattle.ed_library.specs.Images.{routine_word, parameter_store}
 use Rattle.ed_library.specs.declared.tables.TableRow.{TableRow}
 use Rattle.ed_library.proofs.Letters.{value_of_parameter}
-use Rattle.ed_lines.specs.declared.program.Operand.{Operand}
-use Rattle.ed_lines.specs.declared.program.Setting.{Setting}
+use Rattle.ed_syntax.specs.declared.program.Operand.{Operand}
+use Rattle.ed_syntax.specs.declared.program.Setting.{Setting}
 use Rattle.ed_symbols.specs.declared.symbols.Definition.{Definition}
 use Rattle.ed_link.specs.Linked.{operand_number, placed_words, parameter_letters, set_to, preset, parameter, parameters}
 use Rattle.ed_link.specs.Punch.{item_with, preset_items}

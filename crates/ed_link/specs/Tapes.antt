@@ -2,7 +2,7 @@
 use Rattle.std.specs.Prelude.{◌≡◌, ℕ, ◌+◌, ◌*◌, true, false, List, [], ◌∷◌, ◌++◌, length, reverse, slice_index}
 use Rattle.ed_words.specs.declared.size.Size.{Size}
 use Rattle.ed_words.specs.declared.order_words.TheConstants.{E_F}
-use Rattle.ed_lines.specs.declared.program.Line.{Line}
+use Rattle.ed_syntax.specs.declared.program.Line.{Line}
 use Rattle.ed_symbols.specs.Places.{first_counter}
 use Rattle.ed_notation.specs.Items.{spelled_rows}
 use Rattle.ed_notation.specs.Fold.{costs}

@@ -13,7 +13,7 @@ use crate::punching::{entry_of, push_line};
 use crate::words::put_line;
 use ed_codes::Code;
 use ed_library::find;
-use ed_lines::{Line, Name, SourceFault, Statement};
+use ed_syntax::{Line, Name, SourceFault, Statement};
 use ed_notation::Item;
 use ed_symbols::{Definition, LocationCounter};
 use ed_words::{NoMemory, Size, Word};

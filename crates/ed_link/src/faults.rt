@@ -13,7 +13,7 @@ ghost use Rattle.ed_link.specs.Private.FaultTests.{fault_line, sooner};
 use crate::operands::setting;
 use ed_codes::Code;
 use ed_library::find;
-use ed_lines::{Line, Setting, SourceCause, SourceFault, Statement};
+use ed_syntax::{Line, Setting, SourceCause, SourceFault, Statement};
 use ed_symbols::{Definition, LocationCounter, even, find_place};
 use ed_words::Size;
 

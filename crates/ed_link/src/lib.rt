@@ -2,7 +2,7 @@
 //!
 //! Contract: Ok exactly if no line has a fault; from every store the tape leads to the linked program. One sentence
 //! says each fault. The tape is well formed, by the fold of the notation. Depends on `ed_words`, `ed_codes`,
-//! `ed_notation`, `ed_lines`, `ed_library` and `ed_symbols`.
+//! `ed_notation`, `ed_syntax`, `ed_library` and `ed_symbols`.
 #![tactic(auto)]
 
 mod building;

@@ -1,7 +1,7 @@
 -- From a run that ended, with its note, to what the program answers of it.
 use Rattle.std.proofs.Common.{◌≡◌, ◌∙◌, ℕ, ap, Option, None, List, [], ◌++◌}
 use Rattle.std.proofs.lemmas.List.{append-nil}
-use Rattle.ed_lines.specs.declared.program.Line.{Line}
+use Rattle.ed_syntax.specs.declared.program.Line.{Line}
 use Rattle.ed_link.specs.Tapes.{tape}
 use Rattle.ed_printer.specs.Paper.{paper}
 use Rattle.ed_run.specs.Run.{RunEnd}

@@ -6,8 +6,8 @@ use Rattle.std.proofs.lemmas.Result.{err_from_is_err_and}
 use Rattle.ed_words.specs.declared.size.Size.{Size}
 use Rattle.ed_codes.specs.Reading.{Reading, rows, no_row, open_comment, reading}
 use Rattle.ed_machine.specs.State.{State}
-use Rattle.ed_lines.specs.declared.program.Line.{Line}
-use Rattle.ed_lines.specs.declared.fault.SourceFault.TheVariants.{At}
+use Rattle.ed_syntax.specs.declared.program.Line.{Line}
+use Rattle.ed_syntax.specs.declared.fault.SourceFault.TheVariants.{At}
 use Rattle.ed_link.specs.Answers.{IsLinked}
 use Rattle.ed_answers.proofs.EachSource.{one_answer}
 use Rattle.ed_link.specs.Tapes.{tape}

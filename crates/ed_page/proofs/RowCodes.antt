@@ -6,7 +6,7 @@ use Rattle.ed_words.specs.Texts.{Text}
 use Rattle.ed_words.specs.declared.size.Size.{Size}
 use Rattle.ed_codes.specs.Reading.{reading, rows}
 use Rattle.ed_notation.specs.Spellings.{canonicals, text_of}
-use Rattle.ed_lines.specs.declared.program.Line.{Line}
+use Rattle.ed_syntax.specs.declared.program.Line.{Line}
 use Rattle.ed_answers.specs.Refusals.{IsAcceptedAs}
 use Rattle.ed_link.specs.Linked.{data_after}
 use Rattle.ed_link.specs.Punch.{punched_items}

@@ -1,6 +1,6 @@
 ghost use Rattle.std.specs.Prelude.{◌≡◌, ◌≢◌, ◌<◌, List, None, false, length, ℕ};
 ghost use Rattle.ed_codes.specs.Reading.{reading, rows};
-ghost use Rattle.ed_lines.specs.declared.program.Line.{Line};
+ghost use Rattle.ed_syntax.specs.declared.program.Line.{Line};
 ghost use Rattle.ed_answers.specs.Refusals.{IsAcceptedAs};
 ghost use Rattle.ed_link.specs.Tapes.{tape};
 ghost use Rattle.ed_answers.specs.EntryState.{first_state};

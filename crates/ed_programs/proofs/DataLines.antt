@@ -15,7 +15,7 @@ use Rattle.ed_codes.specs.Spelling.{row_of}
 use Rattle.ed_syntax.specs.Parts.{quoted, run, array, is_line_byte, has_quote}
 use Rattle.ed_syntax.specs.Private.Grammar.{row, spells}
 use Rattle.ed_syntax.specs.Private.SourceReading.{line_of}
-use Rattle.ed_lines.specs.declared.program.Statement.TheVariants as statements
+use Rattle.ed_syntax.specs.declared.program.Statement.TheVariants as statements
 use Rattle.ed_syntax.proofs.PartLemmas.{quote_parts}
 use Rattle.ed_routines.specs.Digits.{digits}
 use Rattle.ed_top.proofs.Making.Decimals.{are, both, decimal_is, few_bytes, line_bytes, no_quotes, row_bytes, rows_are}

@@ -5,11 +5,11 @@ use Rattle.std.specs.Prelude.{Option, Some, None, not, ◌&&◌, ◌||◌, is_so
 use Rattle.std.specs.Str.{bytes_eq}
 use Rattle.std.proofs.lemmas.Slice.Eq.{bytes_eq-Decides}
 use Rattle.ed_words.specs.declared.size.Size.{Size}
-use Rattle.ed_lines.specs.declared.program.Statement.{Statement}
-use Rattle.ed_lines.specs.declared.program.Statement.TheVariants.{Segment, Order, Number, Text, Long, Fetch, Enter}
-use Rattle.ed_lines.specs.declared.program.Statement.TheVariants.{Rows}
-use Rattle.ed_lines.specs.declared.program.Line.{Line}
-use Rattle.ed_lines.specs.declared.fault.SourceCause.TheVariants as causes
+use Rattle.ed_syntax.specs.declared.program.Statement.{Statement}
+use Rattle.ed_syntax.specs.declared.program.Statement.TheVariants.{Segment, Order, Number, Text, Long, Fetch, Enter}
+use Rattle.ed_syntax.specs.declared.program.Statement.TheVariants.{Rows}
+use Rattle.ed_syntax.specs.declared.program.Line.{Line}
+use Rattle.ed_syntax.specs.declared.fault.SourceCause.TheVariants as causes
 use Rattle.ed_symbols.specs.declared.location_counter.LocationCounter.{LocationCounter}
 use Rattle.ed_symbols.specs.declared.symbols.Definition.{Definition}
 use Rattle.ed_symbols.specs.Places.{first_counter, after_statement}

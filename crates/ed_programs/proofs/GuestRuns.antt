@@ -10,7 +10,7 @@ use Rattle.ed_machine.specs.State.{State}
 use Rattle.ed_machine.proofs.Steps.{no_step}
 use Rattle.ed_routines.proofs.Journeys.{ComesToStop}
 use Rattle.ed_syntax.specs.Sources.{IsProgram}
-use Rattle.ed_lines.specs.declared.program.Line.{Line}
+use Rattle.ed_syntax.specs.declared.program.Line.{Line}
 use Rattle.ed_link.specs.Linked.{symbols_of, operand_number}
 use Rattle.ed_answers.specs.Refusals.{IsAcceptedAs}
 use Rattle.ed_answers.specs.EntryState.{entry_state}

@@ -21,7 +21,7 @@ use Rattle.ed_notation.specs.declared.item.Item.{Item}
 use Rattle.ed_library.specs.Entries.{entry}
 use Rattle.ed_library.specs.Images.{image_word, parameter_store, routine_word}
 use Rattle.ed_library.specs.Routines.{is_working, missing_row, routine_item, table_item}
-use Rattle.ed_lines.specs.declared.program.Line.{Line}
+use Rattle.ed_syntax.specs.declared.program.Line.{Line}
 use Rattle.ed_symbols.specs.NameFaults.{counter_after}
 use Rattle.ed_notation.specs.Spellings.{canonicals, text_of}
 use Rattle.ed_link.specs.Linked.{data_after, first_place, symbols_of, operand_number}

@@ -7,11 +7,11 @@ use Rattle.ed_words.proofs.Numbers.{le_of, le_true}
 use Rattle.ed_words.specs.Texts.{Text}
 use Rattle.ed_syntax.specs.Lines.{HasLines, nothing, last, ended, lines_of, with_byte, without_return}
 use Rattle.ed_syntax.specs.Sources.{IsProgram, LinesSay, no_more, and_more}
-use Rattle.ed_lines.specs.declared.program.Line.{Line}
+use Rattle.ed_syntax.specs.declared.program.Line.{Line}
 use Rattle.ed_syntax.specs.Private.Grammar.{settings}
 use Rattle.ed_syntax.specs.Private.SourceReading.{Fault, and_lines, line_of, lines_from}
-use Rattle.ed_lines.specs.declared.program.Operand.TheVariants.{Label}
-use Rattle.ed_lines.specs.declared.program.Statement.TheVariants.{Enter}
+use Rattle.ed_syntax.specs.declared.program.Operand.TheVariants.{Label}
+use Rattle.ed_syntax.specs.declared.program.Statement.TheVariants.{Enter}
 use Rattle.ed_syntax.proofs.SourceLaws.{lines_are_read, say_is_read}
 use Rattle.ed_top.specs.CallSources.{text_of_lines}
 use Rattle.ed_programs.specs.Guests.{EntersChecker, checked_text, use_check}

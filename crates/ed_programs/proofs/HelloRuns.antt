@@ -8,9 +8,9 @@ use Rattle.ed_codes.specs.Spelling.{row_of}
 use Rattle.ed_syntax.specs.Parts.{run, sign}
 use Rattle.ed_syntax.specs.Private.Grammar.{row}
 use Rattle.ed_syntax.specs.Private.SourceReading.{line_of}
-use Rattle.ed_lines.specs.declared.program.Operand.TheVariants as operands
-use Rattle.ed_lines.specs.declared.program.Statement.{Statement}
-use Rattle.ed_lines.specs.declared.program.Statement.TheVariants as statements
+use Rattle.ed_syntax.specs.declared.program.Operand.TheVariants as operands
+use Rattle.ed_syntax.specs.declared.program.Statement.{Statement}
+use Rattle.ed_syntax.specs.declared.program.Statement.TheVariants as statements
 use Rattle.ed_words.specs.declared.size.Size.TheVariants.{Small, Full}
 use Rattle.ed_words.specs.declared.order_words.TheConstants.{G_F, Z_F}
 use Rattle.ed_symbols.specs.Faults.{resolution}

@@ -11,7 +11,7 @@ pub use Rattle.ed_words.specs.declared.size.Size.{Size}
 pub use Rattle.ed_machine.specs.State.{State}
 unfoldable pub use Rattle.ed_library.specs.Images.{parameter_store}
 unfoldable pub use Rattle.ed_syntax.specs.Private.Grammar.{settings}
-pub use Rattle.ed_lines.specs.declared.program.Line.{Line}
+pub use Rattle.ed_syntax.specs.declared.program.Line.{Line}
 pub use Rattle.ed_answers.specs.EntryState.{entry_state}
 pub use Rattle.ed_printer.specs.Paper.{paper}
 pub use Rattle.ed_command.specs.declared.command.Settings.{Settings}

@@ -12,11 +12,11 @@ use Rattle.ed_words.proofs.Numbers.{eq_false, le_of, le_true}
 use Rattle.ed_words.specs.Decimals.{value}
 use Rattle.ed_words.specs.Texts.{Text}
 use Rattle.ed_syntax.specs.Parts.{LinePart, run, is_number, modulo, is_line_byte}
-use Rattle.ed_lines.specs.Names.{is_place_name, is_run_byte}
+use Rattle.ed_syntax.specs.Names.{is_place_name, is_run_byte}
 use Rattle.ed_syntax.specs.Private.Grammar.{form_at}
 use Rattle.ed_syntax.specs.Private.PartReading.{parts_of}
 use Rattle.ed_syntax.specs.Private.SourceReading.{line_of}
-use Rattle.ed_lines.specs.declared.program.Statement.TheVariants as statements
+use Rattle.ed_syntax.specs.declared.program.Statement.TheVariants as statements
 use Rattle.ed_syntax.proofs.PartLemmas.{run_parts}
 use Rattle.ed_routines.specs.Digits.{digits}
 use Rattle.ed_top.proofs.Making.Decimals.{are, decimal_is, digit_bytes, few_bytes, line_bytes, run_bytes, some_digit}

@@ -7,7 +7,7 @@ use Rattle.ed_words.specs.declared.size.Size.{Size}
 use Rattle.ed_machine.specs.State.{State}
 use Rattle.ed_notation.specs.Fold.{placed_at}
 use Rattle.ed_library.specs.Routines.{place_count}
-use Rattle.ed_lines.specs.declared.program.Line.{Line}
+use Rattle.ed_syntax.specs.declared.program.Line.{Line}
 use Rattle.ed_link.specs.Linked.{entry_of}
 use Rattle.ed_answers.specs.EntryState.{entry_state}
 use Rattle.ed_machine.proofs.Kit.Frames.{state}

@@ -13,10 +13,10 @@ use Rattle.ed_syntax.specs.Parts.{LinePart, is_line_byte}
 use Rattle.ed_syntax.specs.Private.Grammar.{form_at}
 use Rattle.ed_syntax.specs.Private.PartReading.{parts_of}
 use Rattle.ed_syntax.specs.Private.SourceReading.{Fault, and_lines, is_two, line_of, lines_from, program_of}
-use Rattle.ed_lines.specs.declared.fault.SourceCause.{SourceCause}
-use Rattle.ed_lines.specs.declared.fault.SourceCause.TheVariants.{BadByte, LongLine, TooManyLines}
-use Rattle.ed_lines.specs.declared.program.Line.{Line}
-use Rattle.ed_lines.specs.declared.program.Statement.{Statement}
+use Rattle.ed_syntax.specs.declared.fault.SourceCause.{SourceCause}
+use Rattle.ed_syntax.specs.declared.fault.SourceCause.TheVariants.{BadByte, LongLine, TooManyLines}
+use Rattle.ed_syntax.specs.declared.program.Line.{Line}
+use Rattle.ed_syntax.specs.declared.program.Statement.{Statement}
 use Rattle.ed_top.specs.CallSources.{text_of_lines}
 use Rattle.ed_top.proofs.Making.TextLines.{lines_back}
 

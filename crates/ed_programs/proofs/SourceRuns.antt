@@ -7,8 +7,8 @@ use Rattle.ed_words.specs.declared.size.Size.{Size}
 use Rattle.ed_words.specs.declared.size.Size.TheVariants.{Small, Full}
 use Rattle.ed_words.specs.Texts.{Text}
 use Rattle.ed_printer.specs.Paper.{paper}
-use Rattle.ed_lines.specs.declared.program.Line.{Line}
-use Rattle.ed_lines.specs.declared.fault.SourceFault.{SourceFault}
+use Rattle.ed_syntax.specs.declared.program.Line.{Line}
+use Rattle.ed_syntax.specs.declared.fault.SourceFault.{SourceFault}
 use Rattle.ed_syntax.specs.Private.SourceReading.{is_two, program_of}
 use Rattle.ed_link.specs.Private.FaultTests.{fault}
 use Rattle.ed_answers.proofs.EachSource.{read_is_accepted}

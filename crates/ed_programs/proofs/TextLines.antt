@@ -13,15 +13,15 @@ use Rattle.ed_words.specs.Texts.{Text}
 use Rattle.ed_words.specs.Decimals.{value}
 use Rattle.ed_codes.specs.Spelling.{row_of}
 use Rattle.ed_syntax.specs.Parts.{LinePart, run, sign, quoted, begins_run, array, is_number}
-use Rattle.ed_lines.specs.Names.{is_place_name}
+use Rattle.ed_syntax.specs.Names.{is_place_name}
 use Rattle.ed_syntax.specs.Parts.{is_line_byte}
 use Rattle.ed_syntax.specs.Parts.{has_quote}
-use Rattle.ed_lines.specs.Names.{is_run_byte}
+use Rattle.ed_syntax.specs.Names.{is_run_byte}
 use Rattle.ed_syntax.specs.Private.Grammar.{form_at, row, spells}
 use Rattle.ed_syntax.specs.Private.PartReading.{parts_of}
 use Rattle.ed_syntax.specs.Private.SourceReading.{line_of}
-use Rattle.ed_lines.specs.declared.program.Statement.{Statement}
-use Rattle.ed_lines.specs.declared.program.Statement.TheVariants as statements
+use Rattle.ed_syntax.specs.declared.program.Statement.{Statement}
+use Rattle.ed_syntax.specs.declared.program.Statement.TheVariants as statements
 use Rattle.ed_syntax.proofs.PartLemmas.{quote_parts, run_parts}
 use Rattle.ed_routines.specs.Digits.{digits}
 use Rattle.ed_top.proofs.Making.Decimals.{among, are, both, decimal_is, digit_bytes, few_bytes, line_bytes, run_bytes}

@@ -2,7 +2,7 @@
 //! endings.
 //!
 //! Contract: each text is exact to the byte. Depends on `ed_machine`, `ed_printer`, `ed_notation`, `ed_initial1`,
-//! `ed_library` and `ed_lines`.
+//! `ed_library` and `ed_syntax`.
 #![tactic(auto)]
 
 mod ending;

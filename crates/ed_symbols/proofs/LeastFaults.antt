@@ -1,8 +1,8 @@
 -- Tests in the order of the numbers of their faults answer the fault with the least number.
 use Rattle.std.proofs.Common.{◌≡◌, ℕ, ◌+◌, ◌≤◌, refl, sym, ap, ◌∙◌, subst, arith}
 use Rattle.std.proofs.Common.{Bool, true, false, Option, Some, None, List, [], ◌∷◌, nat_eq, if◌then◌else◌}
-use Rattle.ed_lines.specs.declared.fault.SourceCause.{SourceCause}
-use Rattle.ed_lines.specs.declared.fault.SourceCause.TheVariants as causes
+use Rattle.ed_syntax.specs.declared.fault.SourceCause.{SourceCause}
+use Rattle.ed_syntax.specs.declared.fault.SourceCause.TheVariants as causes
 use Rattle.ed_symbols.specs.NameFaults.{number_of}
 use Rattle.ed_symbols.proofs.Sentences.{Ties}
 

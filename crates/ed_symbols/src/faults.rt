@@ -6,7 +6,7 @@ ghost use Rattle.ed_symbols.specs.Faults.{is_no_address, is_unknown, sum_of_plac
 ghost use Rattle.ed_symbols.specs.Faults.{operand_value, operands_cause, with_more};
 
 use crate::symbols::{Definition, find_place};
-use ed_lines::{Operand, Setting, SourceCause, Statement};
+use ed_syntax::{Operand, Setting, SourceCause, Statement};
 
 /// The value of an operand on a line of a segment.
 pub fn value(symbols: &[Definition], segment: Option<u32>, operand: &Operand) -> Option<i64>

@@ -2,7 +2,7 @@
 //!
 //! Contract: the location of every line and name, or the first fault of names. A line's location follows from the words
 //! of the lines before it, and a name's from its first definition. One sentence says each fault. Depends on `ed_words`,
-//! `ed_lines` and `ed_library`.
+//! `ed_syntax` and `ed_library`.
 #![tactic(auto)]
 
 mod faults;

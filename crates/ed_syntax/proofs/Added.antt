@@ -6,7 +6,7 @@ use Rattle.std.specs.List.{list_all}
 use Rattle.std.proofs.lemmas.List.{at_drop_more, map-append, take_more}
 use Rattle.ed_words.proofs.Numbers.{lt_true, lt_false}
 use Rattle.ed_words.specs.Texts.{Text}
-use Rattle.ed_lines.specs.declared.program.Line.{Line}
+use Rattle.ed_syntax.specs.declared.program.Line.{Line}
 use Rattle.ed_syntax.specs.Answers.{long_line}
 use Rattle.ed_syntax.specs.Private.LineTexts.{has_few}
 use Rattle.ed_syntax.specs.Written.{line_text, row_letter, text_of_program}

@@ -4,16 +4,16 @@ use Rattle.std.specs.Prelude.{Option, Some, None, Ok, Err, nat_lt, if◌then◌e
 use Rattle.std.specs.List.{list_all}
 use Rattle.std.proofs.lemmas.Bool.Decides.{nat_tests}
 use Rattle.ed_words.specs.Texts.{Text}
-use Rattle.ed_lines.specs.Names.{is_place_name}
-use Rattle.ed_lines.specs.declared.fault.SourceCause.TheVariants.{NotAStatement, NumberRange}
+use Rattle.ed_syntax.specs.Names.{is_place_name}
+use Rattle.ed_syntax.specs.declared.fault.SourceCause.TheVariants.{NotAStatement, NumberRange}
 use Rattle.ed_syntax.specs.Private.Found.{form_result}
 use Rattle.ed_syntax.specs.Parts.{LinePart, is_line_byte}
 use Rattle.ed_syntax.specs.Private.PartReading.{parts_of}
 use Rattle.ed_syntax.specs.Private.Grammar.{Ranged, form_at, labelled_line, ranged_map, placed_statement}
 use Rattle.ed_syntax.specs.Private.Seen.{part}
 use Rattle.ed_syntax.specs.Private.SourceReading.{line_of, or_cause}
-use Rattle.ed_syntax.specs.declared.fault.FormFault.{FormFault}
-use Rattle.ed_syntax.specs.declared.fault.FormFault.TheVariants.{NotThisForm, OutOfRange}
+use Rattle.ed_syntax.specs.declared.form_fault.FormFault.{FormFault}
+use Rattle.ed_syntax.specs.declared.form_fault.FormFault.TheVariants.{NotThisForm, OutOfRange}
 use Rattle.ed_syntax.specs.declared.parts.Part.{Part}
 use Rattle.ed_syntax.specs.declared.form.Form.{Form}
 

@@ -10,11 +10,11 @@ use Rattle.ed_codes.specs.Spelling.{row_of}
 use Rattle.ed_words.specs.Texts.{Text}
 use Rattle.ed_words.specs.Decimals.{value}
 use Rattle.ed_syntax.specs.Parts.{LinePart, function, setting_letter, modulo}
-use Rattle.ed_lines.specs.Names.{is_name, is_place_name}
-use Rattle.ed_lines.specs.Programs.{are_rows, is_form, is_operand, is_setting, is_statement, may_have_label}
-use Rattle.ed_lines.specs.declared.program.Operand.{Operand}
-use Rattle.ed_lines.specs.declared.program.Setting.{Setting}
-use Rattle.ed_lines.specs.declared.program.Statement.{Statement}
+use Rattle.ed_syntax.specs.Names.{is_name, is_place_name}
+use Rattle.ed_syntax.specs.Programs.{are_rows, is_form, is_operand, is_setting, is_statement, may_have_label}
+use Rattle.ed_syntax.specs.declared.program.Operand.{Operand}
+use Rattle.ed_syntax.specs.declared.program.Setting.{Setting}
+use Rattle.ed_syntax.specs.declared.program.Statement.{Statement}
 use Rattle.ed_syntax.specs.declared.form.Form.{Form}
 use Rattle.ed_syntax.specs.Forms.{SpellsOperand, number, name, plus, minus, sum, difference}
 use Rattle.ed_syntax.specs.Forms.{SpellsSetting, setting, SpellsSettings, last, more, AreRowsOf}

@@ -4,14 +4,14 @@ use Rattle.std.specs.Prelude.{Some, None, Ok, Err}
 use Rattle.ed_syntax.specs.Parts.{run, sign}
 use Rattle.ed_syntax.specs.Private.Grammar
 use Rattle.ed_syntax.specs.Parts.{array}
-use Rattle.ed_lines.specs.declared.program.Operand.TheVariants as operands
-use Rattle.ed_lines.specs.declared.program.Statement.{Statement}
-use Rattle.ed_lines.specs.declared.program.Statement.TheVariants as statements
+use Rattle.ed_syntax.specs.declared.program.Operand.TheVariants as operands
+use Rattle.ed_syntax.specs.declared.program.Statement.{Statement}
+use Rattle.ed_syntax.specs.declared.program.Statement.TheVariants as statements
 use Rattle.ed_syntax.specs.declared.form.Form.{Form}
 use Rattle.ed_syntax.specs.Forms.{comment, blank, one_sign, one_run}
 use Rattle.ed_syntax.specs.Forms.{SpellsLine, IsNoStatement, HasNumberOutOfRange, labelled, order, plus}
 use Rattle.ed_syntax.specs.Sources.{IsProgram, IsFormFault}
-use Rattle.ed_lines.specs.declared.fault.SourceCause.TheVariants.{BadByte, NumberRange}
+use Rattle.ed_syntax.specs.declared.fault.SourceCause.TheVariants.{BadByte, NumberRange}
 use Rattle.ed_syntax.proofs.SourceLaws.{source_answer}
 use Rattle.ed_syntax.proofs.LineLaws.{read_form_is_spelled, unread_is_unspelled, out_of_range_is_spelled}
 

@@ -9,7 +9,7 @@ use Rattle.std.proofs.lemmas.List.{append-nil}
 use Rattle.ed_words.specs.Texts.{Text}
 use Rattle.ed_words.specs.Decimals.{is_digit}
 use Rattle.ed_syntax.specs.Parts.{LinePart, run, sign, quoted, is_line_byte, begins_run}
-use Rattle.ed_lines.specs.Names.{is_lower, is_run_byte}
+use Rattle.ed_syntax.specs.Names.{is_lower, is_run_byte}
 use Rattle.ed_syntax.specs.Parts.{has_quote}
 use Rattle.ed_syntax.specs.Forms.{HasLineParts, nothing, blank, one_sign, one_string, one_run, is_sign}
 use Rattle.ed_syntax.proofs.RunTests.{is_run, both, each_append}

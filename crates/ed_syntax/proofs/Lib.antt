@@ -5,6 +5,8 @@ pub mod FormLaws
 pub mod Formed
 pub mod LineLaws
 pub mod Lines
+pub mod Meaning
+pub mod NameBytes
 pub mod NameLemmas
 pub mod Numbers
 pub mod OperandLaws

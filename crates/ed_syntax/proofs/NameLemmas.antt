@@ -7,9 +7,9 @@ use Rattle.std.proofs.lemmas.Bool.{and_parts}
 use Rattle.std.proofs.lemmas.Bool.Decides.{nat_tests}
 use Rattle.std.proofs.lemmas.Str.{IsUtf8-from_ascii}
 use Rattle.ed_words.specs.Texts.{Text}
-use Rattle.ed_lines.specs.Names.{is_lower, is_run_byte}
-use Rattle.ed_lines.specs.Names.{is_name, is_local_name, is_place_name}
-use Rattle.ed_lines.specs.Private.Names.{IsNameText}
+use Rattle.ed_syntax.specs.Names.{is_lower, is_run_byte}
+use Rattle.ed_syntax.specs.Names.{is_name, is_local_name, is_place_name}
+use Rattle.ed_syntax.specs.Private.Names.{IsNameText}
 
 run_byte_small : (b : ℕ) → is_run_byte b ≡ true → b < 128
 run_byte_small b h = grind (arith, nat_tests)

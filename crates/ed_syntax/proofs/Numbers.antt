@@ -9,7 +9,7 @@ use Rattle.ed_words.specs.Decimals.{value}
 use Rattle.ed_syntax.specs.Parts.{is_number}
 use Rattle.ed_syntax.specs.Private.Found.{form_result}
 use Rattle.ed_syntax.specs.Private.Grammar.{number_up_to, up_to}
-use Rattle.ed_syntax.specs.declared.fault.FormFault.TheVariants.{OutOfRange}
+use Rattle.ed_syntax.specs.declared.form_fault.FormFault.TheVariants.{OutOfRange}
 
 abbrev longer : ℕ → ℕ → ℕ
 longer n b = 10 * n + (b - 48)

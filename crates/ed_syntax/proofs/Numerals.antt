@@ -11,7 +11,7 @@ use Rattle.std.proofs.lemmas.List.Sums.{fold-append}
 use Rattle.ed_words.specs.Texts.{Text}
 use Rattle.ed_words.specs.Decimals.{is_digit, value}
 use Rattle.ed_syntax.specs.Parts.{is_number}
-use Rattle.ed_lines.specs.Names.{is_run_byte}
+use Rattle.ed_syntax.specs.Names.{is_run_byte}
 use Rattle.ed_syntax.proofs.RunTests.{is_run, both, each_append}
 
 -- digits of this number

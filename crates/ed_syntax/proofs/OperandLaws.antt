@@ -8,13 +8,13 @@ use Rattle.std.proofs.lemmas.Bool.{and_parts}
 use Rattle.ed_words.specs.Texts.{Text}
 use Rattle.ed_words.specs.Decimals.{is_digit, value}
 use Rattle.ed_syntax.specs.Parts.{LinePart, run, sign, quoted}
-use Rattle.ed_lines.specs.Names.{is_lower}
+use Rattle.ed_syntax.specs.Names.{is_lower}
 use Rattle.ed_syntax.specs.Private.Grammar
 use Rattle.ed_syntax.specs.Parts.{is_number, with_sign}
-use Rattle.ed_lines.specs.Names.{is_name, is_local_name, is_place_name}
+use Rattle.ed_syntax.specs.Names.{is_name, is_local_name, is_place_name}
 use Rattle.ed_syntax.specs.Private.Grammar.{is_plus_or_minus}
-use Rattle.ed_lines.specs.declared.program.Operand.{Operand}
-use Rattle.ed_lines.specs.declared.program.Operand.TheVariants as operands
+use Rattle.ed_syntax.specs.declared.program.Operand.{Operand}
+use Rattle.ed_syntax.specs.declared.program.Operand.TheVariants as operands
 use Rattle.ed_syntax.specs.Forms.{SpellsOperand, number, name, plus, minus, sum, difference}
 use Rattle.ed_syntax.proofs.Readings.{ranged, IsSpelled, IsSpelledFirst, map_ranged, mapped, passed, some_is}
 

@@ -4,11 +4,11 @@ use Rattle.std.specs.Prelude.{Option, Some, None, Ok, Err, option_map, option_an
 use Rattle.std.specs.Option.{ok_or}
 use Rattle.ed_syntax.specs.Private.Found.{form_result}
 use Rattle.ed_syntax.specs.Private.Grammar.{Ranged}
-use Rattle.ed_syntax.specs.declared.fault.FormFault.{FormFault}
-use Rattle.ed_syntax.specs.declared.fault.FormFault.TheVariants.{NotThisForm, OutOfRange}
-use Rattle.ed_lines.specs.declared.program.Operand.{Operand}
-use Rattle.ed_lines.specs.declared.program.Statement.{Statement}
-use Rattle.ed_lines.specs.declared.program.Statement.TheVariants as statements
+use Rattle.ed_syntax.specs.declared.form_fault.FormFault.{FormFault}
+use Rattle.ed_syntax.specs.declared.form_fault.FormFault.TheVariants.{NotThisForm, OutOfRange}
+use Rattle.ed_syntax.specs.declared.program.Operand.{Operand}
+use Rattle.ed_syntax.specs.declared.program.Statement.{Statement}
+use Rattle.ed_syntax.specs.declared.program.Statement.TheVariants as statements
 
 -- what a function and what follows it make
 abbrev pub made_order : Option ℕ → Option (Ranged Operand × Bool) → Option (Ranged Statement)

@@ -10,7 +10,7 @@ use Rattle.ed_words.specs.Texts.{Text}
 use Rattle.ed_syntax.specs.Parts.{LinePart, run, sign, quoted}
 use Rattle.ed_syntax.specs.Private.PartReading.{parts_of, parts_from}
 use Rattle.ed_syntax.specs.Parts.{is_blank, begins_run}
-use Rattle.ed_lines.specs.Names.{is_run_byte}
+use Rattle.ed_syntax.specs.Names.{is_run_byte}
 use Rattle.ed_syntax.specs.Private.PartReading.{with_run_byte}
 use Rattle.std.proofs.Common.{◌≤◌, suc, length-append, map}
 use Rattle.std.proofs.lemmas.List.{map-append}

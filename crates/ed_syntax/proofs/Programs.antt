@@ -5,7 +5,7 @@ use Rattle.ed_words.specs.Texts.{Text}
 use Rattle.ed_syntax.specs.Private.LineFronts.{with_lines_before}
 use Rattle.ed_syntax.specs.Private.SourceReading.{Fault, line_of, lines_from, with_first}
 use Rattle.ed_syntax.specs.declared.form.Form.{Form}
-use Rattle.ed_lines.specs.declared.program.Line.{Line}
+use Rattle.ed_syntax.specs.declared.program.Line.{Line}
 
 abbrev pub numbered : ℕ → Form → Line
 numbered k f = record { number = k; label = f.label; statement = f.statement }

@@ -4,7 +4,7 @@ use Rattle.std.specs.Prelude.{◌&&◌}
 use Rattle.std.specs.List.{list_all}
 use Rattle.std.proofs.lemmas.Bool.{and_parts}
 use Rattle.ed_words.specs.Texts.{Text}
-use Rattle.ed_lines.specs.Names.{is_run_byte}
+use Rattle.ed_syntax.specs.Names.{is_run_byte}
 
 -- whether this is a run, and not empty
 abbrev pub is_run : Text → Bool

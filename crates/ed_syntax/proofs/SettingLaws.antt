@@ -7,7 +7,7 @@ use Rattle.std.proofs.lemmas.List.{append-nil}
 use Rattle.ed_syntax.specs.Parts.{LinePart, run, sign, quoted}
 use Rattle.ed_syntax.specs.Private.Grammar
 use Rattle.ed_syntax.specs.Parts.{setting_letter}
-use Rattle.ed_lines.specs.declared.program.Setting.{Setting}
+use Rattle.ed_syntax.specs.declared.program.Setting.{Setting}
 use Rattle.ed_syntax.specs.Forms.{SpellsSetting, setting, SpellsSettings, last, more}
 use Rattle.ed_syntax.proofs.Readings.{ranged, IsSpelled, IsSpelledFirst, map_ranged, mapped, chained, passed, some_is}
 use Rattle.ed_syntax.proofs.OperandLaws.{ends, operand_is_read, operand_is_spelled}

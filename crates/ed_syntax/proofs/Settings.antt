@@ -6,9 +6,9 @@ use Rattle.arrayvec.specs.ArrayVec.{ArrayVec}
 use Rattle.ed_syntax.specs.Parts.{LinePart, sign, array}
 use Rattle.ed_syntax.specs.Private.Found.{form_result}
 use Rattle.ed_syntax.specs.Private.Grammar.{Ranged, and_more, both, ranged_map, setting, settings}
-use Rattle.ed_syntax.specs.declared.fault.FormFault.{FormFault}
-use Rattle.ed_syntax.specs.declared.fault.FormFault.TheVariants.{NotThisForm, OutOfRange}
-use Rattle.ed_lines.specs.declared.program.Setting.{Setting}
+use Rattle.ed_syntax.specs.declared.form_fault.FormFault.{FormFault}
+use Rattle.ed_syntax.specs.declared.form_fault.FormFault.TheVariants.{NotThisForm, OutOfRange}
+use Rattle.ed_syntax.specs.declared.program.Setting.{Setting}
 
 step : (two : Bool) (k : ℕ) (parts : List LinePart) → 0 < k
     → settings two k parts ≡ option_and_then (λ p. and_more p.0 p.1 (settings two (k - 1))) (setting two parts)

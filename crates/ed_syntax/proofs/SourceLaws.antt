@@ -12,19 +12,19 @@ use Rattle.ed_syntax.specs.Sources.{IsPlain, LineSays, LineHasFault, bad_byte, l
 use Rattle.ed_syntax.specs.Sources.{too_many_lines, IsVersionTwo, IsOfVersion, LinesSay, no_more, and_more}
 use Rattle.ed_syntax.specs.Sources.{IsProgram, IsFormFault, IsProgramOrFault, HasOneMeaning, HasFormFault}
 use Rattle.ed_syntax.specs.Private.Answers.{IsFaultOf}
-use Rattle.ed_lines.specs.declared.fault.SourceFault.{SourceFault}
-use Rattle.ed_lines.specs.declared.fault.SourceFault.TheVariants.{At, Memory}
+use Rattle.ed_syntax.specs.declared.fault.SourceFault.{SourceFault}
+use Rattle.ed_syntax.specs.declared.fault.SourceFault.TheVariants.{At, Memory}
 use Rattle.std.proofs.Common.{inl, inr, nat_le}
 use Rattle.ed_syntax.specs.Private.SourceReading.{Fault, line_of, or_cause, lines_from, and_lines, with_first, is_two}
 use Rattle.ed_syntax.specs.Private.SourceReading.{says_two}
 use Rattle.ed_syntax.specs.Parts.{is_line_byte}
 use Rattle.ed_syntax.specs.Private.SourceReading.{version_of, program_of}
 use Rattle.ed_syntax.specs.declared.form.Form.{Form}
-use Rattle.ed_lines.specs.declared.program.Line.{Line}
-use Rattle.ed_lines.specs.declared.program.Program.{Program}
-use Rattle.ed_lines.specs.declared.fault.SourceCause.{SourceCause}
-use Rattle.ed_lines.specs.declared.fault.SourceCause.TheVariants.{BadByte, LongLine, NotAStatement}
-use Rattle.ed_lines.specs.declared.fault.SourceCause.TheVariants.{NumberRange, TooManyLines}
+use Rattle.ed_syntax.specs.declared.program.Line.{Line}
+use Rattle.ed_syntax.specs.declared.program.Program.{Program}
+use Rattle.ed_syntax.specs.declared.fault.SourceCause.{SourceCause}
+use Rattle.ed_syntax.specs.declared.fault.SourceCause.TheVariants.{BadByte, LongLine, NotAStatement}
+use Rattle.ed_syntax.specs.declared.fault.SourceCause.TheVariants.{NumberRange, TooManyLines}
 use Rattle.ed_syntax.proofs.LineLaws.{form_of, spelled_is_read, read_is_spelled, read_form_is_spelled}
 use Rattle.ed_syntax.proofs.LineLaws.{one_form, out_of_range_is_spelled, unread_is_unspelled}
 use Rattle.std.proofs.lemmas.Bool.{and_parts}

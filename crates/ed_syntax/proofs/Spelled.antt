@@ -12,16 +12,16 @@ use Rattle.ed_codes.proofs.Below.{from_below}
 use Rattle.ed_codes.proofs.Spellings.{letter_back}
 use Rattle.ed_words.specs.Texts.{Text}
 use Rattle.ed_syntax.specs.Parts.{LinePart, run, sign, quoted, is_line_byte, has_quote}
-use Rattle.ed_lines.specs.Names.{is_lower, is_run_byte}
+use Rattle.ed_syntax.specs.Names.{is_lower, is_run_byte}
 use Rattle.ed_syntax.specs.Parts.{with_sign, function, length_of}
-use Rattle.ed_lines.specs.Names.{is_name, is_local_name, is_place_name}
+use Rattle.ed_syntax.specs.Names.{is_name, is_local_name, is_place_name}
 use Rattle.ed_syntax.specs.Parts.{setting_letter, array, modulo}
-use Rattle.ed_lines.specs.Programs.{is_operand, is_setting, is_base, are_rows, is_statement, may_have_label, is_form}
-use Rattle.ed_lines.specs.declared.program.Operand.{Operand}
-use Rattle.ed_lines.specs.declared.program.Operand.TheVariants as operands
-use Rattle.ed_lines.specs.declared.program.Setting.{Setting}
-use Rattle.ed_lines.specs.declared.program.Statement.{Statement}
-use Rattle.ed_lines.specs.declared.program.Statement.TheVariants as statements
+use Rattle.ed_syntax.specs.Programs.{is_operand, is_setting, is_base, are_rows, is_statement, may_have_label, is_form}
+use Rattle.ed_syntax.specs.declared.program.Operand.{Operand}
+use Rattle.ed_syntax.specs.declared.program.Operand.TheVariants as operands
+use Rattle.ed_syntax.specs.declared.program.Setting.{Setting}
+use Rattle.ed_syntax.specs.declared.program.Statement.{Statement}
+use Rattle.ed_syntax.specs.declared.program.Statement.TheVariants as statements
 use Rattle.ed_syntax.specs.Forms.{is_sign, SpellsOperand, number, name, plus, minus, sum, difference}
 use Rattle.ed_syntax.specs.Forms.{SpellsSetting, setting, SpellsSettings, last, more}
 use Rattle.ed_syntax.specs.Forms.{SpellsInteger, positive, AreRowsOf}

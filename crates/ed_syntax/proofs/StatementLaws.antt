@@ -12,10 +12,10 @@ use Rattle.ed_words.specs.Decimals.{value}
 use Rattle.ed_syntax.specs.Parts.{LinePart, run, sign, quoted}
 use Rattle.ed_syntax.specs.Private.Grammar
 use Rattle.ed_syntax.specs.Parts.{array}
-use Rattle.ed_lines.specs.Names.{is_name}
+use Rattle.ed_syntax.specs.Names.{is_name}
 use Rattle.ed_syntax.specs.Private.Grammar.{is_version_two}
-use Rattle.ed_lines.specs.declared.program.Statement.{Statement}
-use Rattle.ed_lines.specs.declared.program.Statement.TheVariants as statements
+use Rattle.ed_syntax.specs.declared.program.Statement.{Statement}
+use Rattle.ed_syntax.specs.declared.program.Statement.TheVariants as statements
 use Rattle.ed_syntax.specs.Forms.{SpellsPlaced, order, bare_order, word, long, text}
 use Rattle.ed_syntax.specs.Forms.{SpellsStatement, placed, segment, segment_at, fetch, fetch_with, enter, data_rows}
 use Rattle.ed_syntax.proofs.Readings.{ranged, IsSpelled, map_ranged, mapped, passed, some_is, made_ranged, made_spelled}

@@ -12,11 +12,11 @@ use Rattle.ed_words.specs.Texts.{Text}
 use Rattle.ed_syntax.specs.Lines.{HasLines, nothing, ended, has_end, without_return}
 use Rattle.ed_syntax.specs.Parts.{run, is_line_byte}
 use Rattle.ed_syntax.specs.Forms.{SpellsLine, version, has_few_settings}
-use Rattle.ed_lines.specs.Programs.{AreNumbered, is_line}
+use Rattle.ed_syntax.specs.Programs.{AreNumbered, is_line}
 use Rattle.ed_syntax.specs.Sources.{IsPlain, LineSays, IsVersionTwo, IsOfVersion, LinesSay, no_more, and_more}
 use Rattle.ed_syntax.specs.Sources.{IsProgram}
-use Rattle.ed_lines.specs.declared.program.Line.{Line}
-use Rattle.ed_lines.specs.declared.program.Statement.{Statement}
+use Rattle.ed_syntax.specs.declared.program.Line.{Line}
+use Rattle.ed_syntax.specs.declared.program.Statement.{Statement}
 use Rattle.ed_syntax.proofs.LineLaws.{one_form}
 use Rattle.ed_syntax.proofs.PartsLaws.{parts_are_read}
 use Rattle.ed_syntax.specs.Written.{form_text, line_text, text_of_program}

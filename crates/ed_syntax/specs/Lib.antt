@@ -1,3 +1,5 @@
+pub mod Names
+pub mod Programs
 pub mod Lines
 pub mod Parts
 pub mod Versions

@@ -1,5 +1,6 @@
 //! What a line says.
-use ed_lines::{Name, Statement};
+use crate::name::Name;
+use crate::program::Statement;
 
 /// What a line says, without its number: a label, a statement, both or neither.
 #[derive(Drop)]

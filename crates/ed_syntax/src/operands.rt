@@ -12,12 +12,12 @@ ghost use Rattle.ed_syntax.specs.Parts.{run, sign};
 ghost use Rattle.ed_syntax.specs.Private.Seen.{part};
 
 use crate::Version;
-use crate::fault::FormFault;
+use crate::form_fault::FormFault;
 use crate::parts::Part;
+use crate::program::{Operand, Setting};
 use crate::terms::{is, number, place_name};
 use arrayvec::ArrayVec;
 use ed_codes::{Code, row_of_byte};
-use ed_lines::{Operand, Setting};
 
 /// An operand that is a number or a name; none where the number is out of its range.
 fn single(version: Version, run: &[u8]) -> Result<Option<Operand>, FormFault>

@@ -10,13 +10,13 @@ ghost use Rattle.ed_syntax.specs.Private.Grammar.{statement, unlabelled_line, wo
 ghost use Rattle.ed_syntax.specs.Private.Seen.{part};
 
 use crate::Version;
-use crate::fault::FormFault;
 use crate::form::Form;
+use crate::form_fault::FormFault;
 use crate::operands::{operand, preset};
 use crate::parts::Part;
+use crate::program::{Operand, Statement};
 use crate::terms::{integer, is, name, number, place_name, string};
 use ed_codes::row_of_byte;
-use ed_lines::{Operand, Statement};
 use ed_words::{Long, Word};
 
 /// The length at the end of an order.

@@ -1,7 +1,7 @@
 -- `demo` is the run of its source, from the state at its entry to its stop.
 use Rattle.std.proofs.Common.{◌≡◌, ◌∙◌, ℕ, ◌+◌, ◌*◌, ◌≤◌, arith, subst, sym, List, [], ◌∷◌, ◌++◌, codes}
 use Rattle.ed_words.specs.Texts.{Text}
-use Rattle.ed_lines.specs.declared.program.Line.{Line}
+use Rattle.ed_syntax.specs.declared.program.Line.{Line}
 use Rattle.ed_link.specs.Tapes.{cost}
 use Rattle.ed_answers.proofs.EachSource.{read_is_accepted}
 use Rattle.ed_report.specs.Notes.{at_after, entry_note}

@@ -16,7 +16,7 @@ use Rattle.ed_notation.specs.Items.{spelled_rows}
 use Rattle.ed_notation.specs.Spellings.{canonicals}
 use Rattle.ed_stepper.specs.declared.inputs.TextKind.{TextKind}
 use Rattle.ed_stepper.specs.declared.inputs.TextKind.TheVariants as kinds
-use Rattle.ed_lines.specs.declared.program.Line.{Line}
+use Rattle.ed_syntax.specs.declared.program.Line.{Line}
 use Rattle.ed_link.specs.Tapes.{tape}
 use Rattle.ed_link.specs.declared.linked.Linked.{Linked}
 use Rattle.ed_command.specs.declared.command.Settings.{Settings}

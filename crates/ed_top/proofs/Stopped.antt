@@ -6,7 +6,7 @@ use Rattle.ed_machine.specs.State.{State}
 use Rattle.ed_machine.specs.OrderTable.{step}
 use Rattle.ed_run.specs.Run.{RunEnd, run_end}
 use Rattle.ed_printer.specs.Paper.{paper}
-use Rattle.ed_lines.specs.declared.program.Line.{Line}
+use Rattle.ed_syntax.specs.declared.program.Line.{Line}
 use Rattle.ed_link.specs.Linked.{entry_of}
 use Rattle.ed_link.specs.Tapes.{cost}
 use Rattle.ed_answers.specs.EntryState.{entry_state}

@@ -2,7 +2,7 @@
 use Rattle.std.specs.Prelude.{◌≡◌, ℕ, ◌+◌, ◌*◌, ◌≤◌, List, [], ◌∷◌, ◌++◌, codes, None}
 use Rattle.std.specs.Fmt.{decimal}
 use Rattle.ed_words.specs.Sizes.{locations}
-use Rattle.ed_lines.specs.declared.program.Line.{Line}
+use Rattle.ed_syntax.specs.declared.program.Line.{Line}
 use Rattle.ed_answers.specs.Refusals.{IsAcceptedAs}
 use Rattle.ed_link.specs.Tapes.{cost}
 use Rattle.ed_report.specs.Notes.{at_after, entry_note}

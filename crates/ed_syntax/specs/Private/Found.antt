@@ -4,8 +4,8 @@ use Rattle.std.specs.Borrow.{Bor}
 use Rattle.ed_syntax.specs.Parts.{LinePart}
 use Rattle.ed_syntax.specs.Private.Grammar.{Ranged}
 use Rattle.ed_syntax.specs.Private.Seen.{part}
-use Rattle.ed_syntax.specs.declared.fault.FormFault.{FormFault}
-use Rattle.ed_syntax.specs.declared.fault.FormFault.TheVariants.{NotThisForm, OutOfRange}
+use Rattle.ed_syntax.specs.declared.form_fault.FormFault.{FormFault}
+use Rattle.ed_syntax.specs.declared.form_fault.FormFault.TheVariants.{NotThisForm, OutOfRange}
 use Rattle.ed_syntax.specs.declared.parts.Part.{Part}
 
 -- what is read, or why nothing is: the parts don't have its form, or a number is out of its range

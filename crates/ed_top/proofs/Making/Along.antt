@@ -8,7 +8,7 @@ use Rattle.ed_store.specs.Cells.{short_at}
 use Rattle.ed_machine.specs.State.{State}
 use Rattle.ed_notation.specs.Fold.{placed_at}
 use Rattle.ed_library.specs.Routines.{place_count}
-use Rattle.ed_lines.specs.declared.program.Line.{Line}
+use Rattle.ed_syntax.specs.declared.program.Line.{Line}
 use Rattle.ed_answers.specs.EntryState.{entry_state}
 use Rattle.ed_top.proofs.Making.AtEntry.{all_words, has_image, have_places, image_at, placed, word_at}
 use Rattle.ed_routines.specs.Standing.{HasWord}

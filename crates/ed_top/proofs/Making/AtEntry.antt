@@ -14,7 +14,7 @@ use Rattle.ed_notation.proofs.Contents.{length-over}
 use Rattle.ed_initial.specs.Rests.{initial_words}
 use Rattle.ed_library.specs.Images.{image_word}
 use Rattle.ed_library.specs.Routines.{place_count}
-use Rattle.ed_lines.specs.declared.program.Line.{Line}
+use Rattle.ed_syntax.specs.declared.program.Line.{Line}
 use Rattle.ed_link.specs.Linked.{linked_words}
 use Rattle.ed_answers.specs.EntryState.{entry_state, own_words}
 use Rattle.ed_answers.proofs.EntryWords.{entry_word}

@@ -10,7 +10,7 @@ use Rattle.ed_words.proofs.Numbers.{eq_false, eq_true, lt_false, lt_true}
 use Rattle.ed_notation.specs.Fold.{placed_at, word_with}
 use Rattle.ed_words.specs.declared.size.Size.{Size}
 use Rattle.ed_store.specs.Cells.{short_at}
-use Rattle.ed_lines.specs.declared.program.Line.{Line}
+use Rattle.ed_syntax.specs.declared.program.Line.{Line}
 use Rattle.ed_link.specs.Linked.{placed_words, linked_words}
 use Rattle.ed_answers.specs.EntryState.{entry_state}
 use Rattle.ed_top.proofs.Making.AtEntry.{have_places, placed, word_at}

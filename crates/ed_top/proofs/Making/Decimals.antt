@@ -11,7 +11,7 @@ use Rattle.ed_words.proofs.Numbers.{eq_of, lt_of, lt_true}
 use Rattle.ed_codes.specs.Spelling.{row_of}
 use Rattle.ed_syntax.specs.Private.Grammar.{row, spells}
 use Rattle.ed_words.specs.Decimals.{is_digit, value as spelled_value}
-use Rattle.ed_lines.specs.Names.{is_run_byte}
+use Rattle.ed_syntax.specs.Names.{is_run_byte}
 use Rattle.ed_syntax.specs.Parts.{is_line_byte}
 use Rattle.ed_routines.specs.Digits.{before_units, digits, value_after, without_zeros}
 use Rattle.ed_routines.proofs.Digits.{digits_law, few_digits, tens}

@@ -2,7 +2,7 @@
 use Rattle.std.proofs.Common.{◌≡◌, ◌∙◌, ℕ, zero, suc, ◌+◌, ◌*◌, ◌≤◌, Bool, true, false, List, [], ◌∷◌, ◌++◌}
 use Rattle.std.proofs.Common.{refl, ap, arith, lit≤, length, length-append, codes, nat_eq, take}
 use Rattle.ed_notation.specs.declared.item.Item.{Item}
-use Rattle.ed_lines.specs.declared.program.Line.{Line}
+use Rattle.ed_syntax.specs.declared.program.Line.{Line}
 use Rattle.ed_symbols.specs.declared.symbols.Definition.{Definition}
 use Rattle.ed_link.specs.Linked.{symbols_of}
 use Rattle.ed_link.specs.Punch.{heads, punched_items, punched_from, word_item}

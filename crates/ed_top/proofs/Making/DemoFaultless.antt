@@ -8,9 +8,9 @@ use Rattle.ed_words.specs.Sizes.{locations}
 use Rattle.ed_words.specs.declared.size.Size.{Size}
 use Rattle.ed_words.specs.declared.size.Size.TheVariants.{Small, Full}
 use Rattle.ed_words.specs.Texts.{Text}
-use Rattle.ed_lines.specs.declared.fault.SourceFault.{SourceFault}
-use Rattle.ed_lines.specs.declared.program.Line.{Line}
-use Rattle.ed_lines.specs.declared.program.Statement.TheVariants as statements
+use Rattle.ed_syntax.specs.declared.fault.SourceFault.{SourceFault}
+use Rattle.ed_syntax.specs.declared.program.Line.{Line}
+use Rattle.ed_syntax.specs.declared.program.Statement.TheVariants as statements
 use Rattle.ed_symbols.specs.declared.location_counter.LocationCounter.{LocationCounter}
 use Rattle.ed_symbols.specs.declared.symbols.Definition.{Definition}
 use Rattle.ed_symbols.specs.Faults.{resolution}

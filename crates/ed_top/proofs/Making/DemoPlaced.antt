@@ -10,7 +10,7 @@ use Rattle.ed_words.specs.declared.order_words.TheConstants.{A_F}
 use Rattle.ed_store.specs.Cells.{short_at}
 use Rattle.ed_library.specs.Images.{image_word, parameter_store}
 use Rattle.ed_library.specs.Routines.{place_count}
-use Rattle.ed_lines.specs.declared.program.Line.{Line}
+use Rattle.ed_syntax.specs.declared.program.Line.{Line}
 use Rattle.ed_symbols.specs.declared.symbols.Definition.{Definition}
 use Rattle.ed_link.specs.Linked.{entry_from, entry_of, symbols_of, placed_words, linked_words, placed_from}
 use Rattle.ed_answers.specs.EntryState.{entry_state}

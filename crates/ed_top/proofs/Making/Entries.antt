@@ -6,7 +6,7 @@ use Rattle.std.specs.List.{list_all}
 use Rattle.ed_words.proofs.Numbers.{eq_of}
 use Rattle.ed_words.specs.declared.size.Size.{Size}
 use Rattle.ed_notation.specs.Fold.{placed_at}
-use Rattle.ed_lines.specs.declared.program.Line.{Line}
+use Rattle.ed_syntax.specs.declared.program.Line.{Line}
 use Rattle.ed_answers.specs.EntryState.{entry_state}
 use Rattle.ed_words.proofs.SizeLemmas.{least}
 use Rattle.ed_library.specs.Images.{image_word}

@@ -4,10 +4,10 @@ use Rattle.std.specs.Prelude.{Some, None, Ok}
 use Rattle.ed_words.specs.Texts.{Text}
 use Rattle.ed_syntax.specs.Private.Grammar.{settings}
 use Rattle.ed_syntax.specs.Private.SourceReading.{line_of}
-use Rattle.ed_lines.specs.declared.program.Line.{Line}
-use Rattle.ed_lines.specs.declared.program.Operand.TheVariants as operands
-use Rattle.ed_lines.specs.declared.program.Statement.{Statement}
-use Rattle.ed_lines.specs.declared.program.Statement.TheVariants as statements
+use Rattle.ed_syntax.specs.declared.program.Line.{Line}
+use Rattle.ed_syntax.specs.declared.program.Operand.TheVariants as operands
+use Rattle.ed_syntax.specs.declared.program.Statement.{Statement}
+use Rattle.ed_syntax.specs.declared.program.Statement.TheVariants as statements
 use Rattle.ed_library.specs.declared.call.Call.TheVariants.{Divide, Root}
 use Rattle.ed_top.proofs.Making.CallTexts.{call_lines}
 use Rattle.ed_top.proofs.Making.Said.{IsWordFront, at_place, label_parts, main_calls, named_front, said, use_on, use_with}

@@ -14,9 +14,9 @@ use Rattle.ed_syntax.specs.Private.PartReading.{parts_of}
 use Rattle.ed_syntax.specs.Private.Grammar.{form_at}
 use Rattle.ed_syntax.specs.Private.SourceReading.{and_lines, is_two, line_of, lines_from, program_of}
 use Rattle.ed_syntax.specs.Parts.{is_line_byte}
-use Rattle.ed_lines.specs.declared.fault.SourceCause.TheVariants.{TooManyLines}
-use Rattle.ed_lines.specs.declared.program.Line.{Line}
-use Rattle.ed_lines.specs.declared.program.Statement.{Statement}
+use Rattle.ed_syntax.specs.declared.fault.SourceCause.TheVariants.{TooManyLines}
+use Rattle.ed_syntax.specs.declared.program.Line.{Line}
+use Rattle.ed_syntax.specs.declared.program.Statement.{Statement}
 use Rattle.ed_top.specs.CallSources.{text_of_lines}
 
 -- a byte of a line is not one that ends a line

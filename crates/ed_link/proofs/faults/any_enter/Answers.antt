@@ -1,6 +1,6 @@
 use Rattle.std.proofs.Common.{◌+◌, ◌∙◌, ap, Bool, drop}
 use Rattle.std.specs.Prelude.{◌||◌}
-use Rattle.ed_lines.specs.declared.program.Line.{Line}
+use Rattle.ed_syntax.specs.declared.program.Line.{Line}
 use Rattle.ed_link.specs.Private.FaultTests.{any_enter, is_enter}
 use Rattle.ed_link.proofs.Loops.{at_item, at_end}
 use Rattle.ed_link.proofs.faults.any_enter.Goals as goal

@@ -1,5 +1,5 @@
 use Rattle.std.proofs.Common.{◌∙◌, sym, ap, subst, List, Err, arith}
-use Rattle.ed_lines.specs.declared.program.Line.{Line}
+use Rattle.ed_syntax.specs.declared.program.Line.{Line}
 use Rattle.ed_link.specs.Private.Building.{BuildIs, IsBuilt}
 use Rattle.ed_link.specs.Private.FaultTests.{any_enter}
 use Rattle.ed_link.proofs.FaultLaw.{line_fault, name_fault}

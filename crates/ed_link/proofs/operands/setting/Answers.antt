@@ -1,7 +1,7 @@
 use Rattle.std.proofs.Common.{◌≡◌, ◌∙◌, sym, refl, ◌+◌, ◌∷◌, List, get_or, drop}
 use Rattle.std.proofs.lemmas.List.{at_drop_more}
 use Rattle.ed_words.proofs.Numbers.{eq_false, eq_true}
-use Rattle.ed_lines.specs.declared.program.Setting.{Setting}
+use Rattle.ed_syntax.specs.declared.program.Setting.{Setting}
 use Rattle.ed_link.specs.Linked.{set_to}
 use Rattle.ed_link.proofs.Loops.{at_end, at_item}
 use Rattle.ed_link.proofs.operands.setting.Goals as goal

@@ -7,7 +7,7 @@ use Rattle.ed_syntax.specs.Private.Found.{form_result}
 use Rattle.ed_syntax.specs.Private.Grammar.{Ranged, and_more, ranged_map, setting, settings}
 use Rattle.ed_syntax.specs.Private.Seen.{part}
 use Rattle.ed_syntax.specs.Versions.{is_second}
-use Rattle.ed_lines.specs.declared.program.Setting.{Setting}
+use Rattle.ed_syntax.specs.declared.program.Setting.{Setting}
 use Rattle.ed_syntax.proofs.Settings.{none_left, no_setting, not_read, one_setting, fault_after, setting_before}
 use Rattle.ed_syntax.proofs.operands.+settings.Goals as goal
 

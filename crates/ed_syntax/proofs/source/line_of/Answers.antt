@@ -5,7 +5,7 @@ use Rattle.ed_syntax.specs.Private.Grammar.{form_at}
 use Rattle.ed_syntax.specs.Private.PartReading.{parts_of}
 use Rattle.ed_syntax.specs.Private.Seen.{part}
 use Rattle.ed_syntax.specs.Versions.{is_second}
-use Rattle.ed_syntax.specs.declared.fault.FormFault.TheVariants.{NotThisForm, OutOfRange}
+use Rattle.ed_syntax.specs.declared.form_fault.FormFault.TheVariants.{NotThisForm, OutOfRange}
 use Rattle.ed_syntax.proofs.Faults.{line_fault, line_form, line_read, range_fault}
 use Rattle.ed_syntax.proofs.source.line_of.Goals as goal
 

@@ -6,7 +6,7 @@ use Rattle.ed_syntax.specs.Private.Grammar.{ranged_map, placed_statement, labell
 use Rattle.ed_syntax.specs.Private.Seen.{part}
 use Rattle.ed_syntax.specs.Versions.{is_second}
 use Rattle.ed_syntax.specs.declared.form.Form.{Form}
-use Rattle.ed_lines.specs.declared.program.Statement.{Statement}
+use Rattle.ed_syntax.specs.declared.program.Statement.{Statement}
 use Rattle.ed_syntax.proofs.Faults.{after_a_label, made_fault, made_form}
 use Rattle.ed_syntax.proofs.statements.labelled.Goals as goal
 

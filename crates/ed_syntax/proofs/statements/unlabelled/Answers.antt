@@ -5,7 +5,7 @@ use Rattle.ed_syntax.specs.Private.Grammar.{statement}
 use Rattle.ed_syntax.specs.Private.Seen.{part}
 use Rattle.ed_syntax.specs.Versions.{is_second}
 use Rattle.ed_syntax.specs.declared.form.Form.{Form}
-use Rattle.ed_lines.specs.declared.program.Statement.{Statement}
+use Rattle.ed_syntax.specs.declared.program.Statement.{Statement}
 use Rattle.ed_syntax.proofs.Faults.{made_fault}
 use Rattle.ed_syntax.proofs.statements.unlabelled.Goals as goal
 

@@ -8,15 +8,15 @@ use Rattle.std.proofs.lemmas.Int.{ints}
 use Rattle.std.proofs.lemmas.List.Sums.{AllPass-from_list_all}
 use Rattle.std.proofs.lemmas.List.Elements.{All-cons}
 use Rattle.std.proofs.lemmas.Bool.{and_parts}
-use Rattle.ed_lines.specs.Names.{is_name, is_place_name}
-use Rattle.ed_lines.specs.Programs.{are_rows, is_base, is_form, is_line, is_operand}
-use Rattle.ed_lines.specs.Programs.{is_setting, is_statement, may_have_label}
-use Rattle.ed_lines.specs.declared.program.Operand.{Operand}
-use Rattle.ed_lines.specs.declared.program.Operand.TheVariants as operands
-use Rattle.ed_lines.specs.declared.program.Setting.{Setting}
-use Rattle.ed_lines.specs.declared.program.Statement.{Statement}
-use Rattle.ed_lines.specs.declared.program.Statement.TheVariants as statements
-use Rattle.ed_lines.specs.declared.program.Line.{Line}
+use Rattle.ed_syntax.specs.Names.{is_name, is_place_name}
+use Rattle.ed_syntax.specs.Programs.{are_rows, is_base, is_form, is_line, is_operand}
+use Rattle.ed_syntax.specs.Programs.{is_setting, is_statement, may_have_label}
+use Rattle.ed_syntax.specs.declared.program.Operand.{Operand}
+use Rattle.ed_syntax.specs.declared.program.Operand.TheVariants as operands
+use Rattle.ed_syntax.specs.declared.program.Setting.{Setting}
+use Rattle.ed_syntax.specs.declared.program.Statement.{Statement}
+use Rattle.ed_syntax.specs.declared.program.Statement.TheVariants as statements
+use Rattle.ed_syntax.specs.declared.program.Line.{Line}
 
 -- a number that an operand adds to a name or subtracts from it
 pub record IsOffset (plus : ℤ) : Type 0 where

@@ -3,13 +3,13 @@
 use Rattle.std.specs.Prelude.{◌≡◌, ℕ, ◌+◌, ◌^◌, ◌<◌, ◌&&◌, Bool, true, false, unsigned_abs, nat_le, nat_lt}
 use Rattle.std.specs.Prelude.{List, Option, Some, None, length, slice_index_or}
 use Rattle.std.specs.List.{list_all}
-use Rattle.ed_lines.specs.Names.{is_name, is_place_name}
-use Rattle.ed_lines.specs.declared.program.Operand.{Operand}
-use Rattle.ed_lines.specs.declared.program.Operand.TheVariants as operands
-use Rattle.ed_lines.specs.declared.program.Setting.{Setting}
-use Rattle.ed_lines.specs.declared.program.Statement.{Statement}
-use Rattle.ed_lines.specs.declared.program.Statement.TheVariants as statements
-use Rattle.ed_lines.specs.declared.program.Line.{Line}
+use Rattle.ed_syntax.specs.Names.{is_name, is_place_name}
+use Rattle.ed_syntax.specs.declared.program.Operand.{Operand}
+use Rattle.ed_syntax.specs.declared.program.Operand.TheVariants as operands
+use Rattle.ed_syntax.specs.declared.program.Setting.{Setting}
+use Rattle.ed_syntax.specs.declared.program.Statement.{Statement}
+use Rattle.ed_syntax.specs.declared.program.Statement.TheVariants as statements
+use Rattle.ed_syntax.specs.declared.program.Line.{Line}
 
 -- an operand: a number up to 32767, a name plus -1023 to 1023, or in version 2 two names
 abbrev pub is_operand : Bool → Operand → Bool

@@ -1,8 +1,8 @@
 use Rattle.std.proofs.Common.{◌≡◌, ◌∙◌, refl, length, arith}
 use Rattle.std.proofs.lemmas.List.{take_at}
 use Rattle.std.proofs.lemmas.Bool.Decides.{nat_tests}
-use Rattle.ed_lines.proofs.NameBytes.{padded_text}
-use Rattle.ed_lines.proofs.name.Name.new.Goals as goal
+use Rattle.ed_syntax.proofs.NameBytes.{padded_text}
+use Rattle.ed_syntax.proofs.name.Name.new.Goals as goal
 
 pub invariant_of-result : goal.invariant_of-result
 invariant_of-result c =

@@ -1,6 +1,6 @@
 ghost use Rattle.std.specs.Prelude.{◌≡◌, ◌≤◌, ◌==◌, true, length};
 ghost use Rattle.std.specs.List.{list_all};
-ghost use Rattle.ed_lines.specs.Programs.{AreNumbered, is_line};
+ghost use Rattle.ed_syntax.specs.Programs.{AreNumbered, is_line};
 
 use crate::Name;
 use arrayvec::ArrayVec;
@@ -34,7 +34,7 @@ pub struct Setting {
 
 impl Default for Setting {
     ghost use Rattle.std.specs.Prelude.{◌≡◌};
-    ghost use Rattle.ed_lines.specs.declared.program.Operand.TheVariants.{Number};
+    ghost use Rattle.ed_syntax.specs.declared.program.Operand.TheVariants.{Number};
 
     ghost is_default = { λ s. (s.letter ≡ 21) × (s.operand ≡ Number 0) };
 
