@@ -1,31 +1,32 @@
 //! Each device through the trait by which the program uses it.
 
 use crate::support::expect_that;
-use ed_io::{
-    Failed, MemorySink, MemorySource, Sink, Source, StdSink, StdSource, SureSink, SureSource,
-};
+use ed_io::{MemorySink, MemorySource, Sink, Source, StdSink, StdSource, SureSink, SureSource};
 use std::alloc::Global;
 use std::process::Abort;
 use std::test::Fail;
 
-/// Checks what the calls of `read` answer one after the other, with pieces of two bytes.
-fn reads(rt: &impl Abort, source: &mut impl Source, answers: &[Result<usize, Failed>]) {
+/// Checks what the calls of `read` answer one after the other, with pieces of two bytes; None for a call that fails.
+fn reads(rt: &impl Abort, source: &mut impl Source, answers: &[Option<usize>]) {
     for (call, answer) in answers.iter().enumerate() {
         let mut piece = [0; 2];
-        assert!(rt; source.read(&mut piece) == *answer, "read {call}");
+        assert!(rt; source.read(&mut piece).ok() == *answer, "read {call}");
     }
 }
 
-/// Checks what a call of `write` answers.
-pub fn writes(rt: &impl Abort, sink: &mut impl Sink, piece: &str, answer: Result<usize, Failed>) {
-    assert!(rt; sink.write(piece.as_bytes()) == answer, "write of {piece}");
+/// Checks what a call of `write` answers; None for a call that fails.
+pub fn writes(rt: &impl Abort, sink: &mut impl Sink, piece: &str, answer: Option<usize>) {
+    assert!(rt;
+        sink.write(piece.as_bytes()).ok() == answer,
+        "write of {piece}"
+    );
 }
 
 /// A source whose second call fails.
 fn memory_source(rt: &impl Abort, alloc: Global) -> Result<(), Fail> {
     let faults = [1].to_vec(alloc)?;
     let mut source = MemorySource::new(b"ABC".to_vec(alloc)?, faults);
-    reads(rt, &mut source, &[Ok(2), Err(Failed), Ok(1), Ok(0)]);
+    reads(rt, &mut source, &[Some(2), None, Some(1), Some(0)]);
     expect_that(rt, source.faults() == 1, "the faults");
     expect_that(rt, source.bytes().is_empty(), "the bytes left");
     Ok(())
@@ -34,16 +35,16 @@ fn memory_source(rt: &impl Abort, alloc: Global) -> Result<(), Fail> {
 /// A source that gives one byte a call.
 fn source_in_pieces(rt: &impl Abort, alloc: Global) -> Result<(), Fail> {
     let mut source = MemorySource::in_pieces(b"ABC".to_vec(alloc)?, Vec::new(alloc), 1);
-    reads(rt, &mut source, &[Ok(1), Ok(1), Ok(1), Ok(0)]);
+    reads(rt, &mut source, &[Some(1), Some(1), Some(1), Some(0)]);
     Ok(())
 }
 
 /// A source that never fails.
 fn sure_source(rt: &impl Abort, alloc: Global) -> Result<(), Fail> {
     let mut source = SureSource::new(b"ABC".to_vec(alloc)?);
-    reads(rt, &mut source, &[Ok(2)]);
+    reads(rt, &mut source, &[Some(2)]);
     expect_that(rt, source.bytes() == b"C".as_slice(), "the bytes left");
-    reads(rt, &mut source, &[Ok(1), Ok(0)]);
+    reads(rt, &mut source, &[Some(1), Some(0)]);
     expect_that(rt, source.faults() == 0, "the faults");
     Ok(())
 }
@@ -54,17 +55,17 @@ fn sources(rt: HostRuntime) -> Result<(), Fail> {
     source_in_pieces(&rt, rt.alloc())?;
     sure_source(&rt, rt.alloc())?;
     let mut source = StdSource::new(&b"ABC"[..]);
-    reads(&rt, &mut source, &[Ok(2), Ok(1), Ok(0)]);
+    reads(&rt, &mut source, &[Some(2), Some(1), Some(0)]);
     Ok(())
 }
 
 /// A sink with room for three bytes.
 fn memory_sink(rt: &impl Abort, alloc: Global) -> Result<(), Fail> {
     let mut sink = MemorySink::new(alloc, 3)?;
-    writes(rt, &mut sink, "AB", Ok(2));
-    writes(rt, &mut sink, "CD", Ok(1));
-    writes(rt, &mut sink, "E", Err(Failed));
-    writes(rt, &mut sink, "", Ok(0));
+    writes(rt, &mut sink, "AB", Some(2));
+    writes(rt, &mut sink, "CD", Some(1));
+    writes(rt, &mut sink, "E", None);
+    writes(rt, &mut sink, "", Some(0));
     expect_that(rt, sink.bytes() == b"ABC".as_slice(), "the bytes");
     expect_that(rt, sink.faults() == 1, "the faults");
     Ok(())
@@ -73,22 +74,22 @@ fn memory_sink(rt: &impl Abort, alloc: Global) -> Result<(), Fail> {
 /// A sink whose first call fails.
 fn sink_with_faults(rt: &impl Abort, alloc: Global) -> Result<(), Fail> {
     let mut sink = MemorySink::with_faults(alloc, 3, [0].to_vec(alloc)?)?;
-    writes(rt, &mut sink, "A", Err(Failed));
-    writes(rt, &mut sink, "A", Ok(1));
+    writes(rt, &mut sink, "A", None);
+    writes(rt, &mut sink, "A", Some(1));
     Ok(())
 }
 
 /// A sink that takes at most two bytes a call.
 fn sink_in_pieces(rt: &impl Abort, alloc: Global) -> Result<(), Fail> {
     let mut sink = MemorySink::in_pieces(alloc, 3, Vec::new(alloc), 2)?;
-    writes(rt, &mut sink, "ABC", Ok(2));
+    writes(rt, &mut sink, "ABC", Some(2));
     Ok(())
 }
 
 /// A sink that never fails, and keeps two bytes.
 fn sure_sink(rt: &impl Abort, alloc: Global) -> Result<(), Fail> {
     let mut sink = SureSink::new(alloc, 2)?;
-    writes(rt, &mut sink, "ABC", Ok(3));
+    writes(rt, &mut sink, "ABC", Some(3));
     expect_that(rt, sink.bytes() == b"AB".as_slice(), "the bytes");
     expect_that(rt, sink.faults() == 0, "the faults");
     Ok(())
@@ -102,7 +103,7 @@ fn sinks(rt: HostRuntime) -> Result<(), Fail> {
     sure_sink(&rt, rt.alloc())?;
     let mut room = [0; 3];
     let mut sink = StdSink::new(&mut room[..]);
-    writes(&rt, &mut sink, "ABCD", Ok(3));
-    writes(&rt, &mut sink, "D", Err(Failed));
+    writes(&rt, &mut sink, "ABCD", Some(3));
+    writes(&rt, &mut sink, "D", None);
     Ok(())
 }

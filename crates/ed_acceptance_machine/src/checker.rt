@@ -103,6 +103,15 @@ fn each_tape_is_checked_to_its_entry(rt: HostRuntime) -> Result<(), Fail> {
     Ok(())
 }
 
+/// Whether two causes are the same one of the two that the location of a word can have.
+fn is_same(cause: TapeCause, other: TapeCause) -> bool {
+    matches!(
+        (cause, other),
+        (TapeCause::LoaderStore, TapeCause::LoaderStore)
+            | (TapeCause::StoreEnd, TapeCause::StoreEnd)
+    )
+}
+
 /// Checks that a tape is refused at a row.
 fn expect_fault(
     rt: &impl Abort,
@@ -111,10 +120,16 @@ fn expect_fault(
     cause: TapeCause,
     tape: &str,
 ) {
-    match told {
-        Ok(_) => assert!(rt; false, "{tape} is not refused"),
-        Err(fault) => assert!(rt; *fault == TapeFault::At { row, cause }, "{tape}"),
-    }
+    let is_wanted = match told {
+        Err(
+            TapeFault::At {
+                row: at,
+                cause: told,
+            },
+        ) => *at == row && is_same(*told, cause),
+        Ok(_) | Err(TapeFault::Memory) => false,
+    };
+    expect(rt, is_wanted, tape);
 }
 
 #[test]

@@ -1,7 +1,7 @@
 //! The reports of the check on tapes for Initial Orders 1.
 
 use crate::support::expect;
-use crate::support1::{LETTER, checked_text, fault_of};
+use crate::support1::{LETTER, checked_text, reports};
 use ed_initial1::Checked1;
 use ed_initial1::Tape1Cause::{self, BadRow, EndOfTape, FirstWord, NumberTooLarge};
 use std::alloc::Global;
@@ -117,7 +117,7 @@ fn expect_fault(
     fault: (usize, Tape1Cause),
 ) -> Result<(), Fail> {
     let told = checked_text(rt, alloc, tape)?;
-    expect(rt, fault_of(&told)? == Some(fault), tape);
+    expect(rt, reports(&told, Some(fault))?, tape);
     Ok(())
 }
 

@@ -34,7 +34,7 @@ fn started_machine(alloc: Global) -> Result<Machine, Fail> {
 /// Runs such a machine, and checks that it prints A and stops.
 fn run_to_stop(rt: &impl Abort, machine: &mut Machine, paper: &mut Paper) {
     let ending = ending_of_run(rt, machine, paper);
-    expect(rt, ending == Ending::Stopped, "the ending");
+    expect(rt, matches!(ending, Ending::Stopped), "the ending");
     expect(
         rt,
         number_of_the_only(paper.codes()) == Some(28),

@@ -1,7 +1,6 @@
 //! The store at the entry of a tape, compared with the checker's report.
 
 use crate::support::{LETTER, checked, expect, loaded, start_on, started, stops};
-use ed_initial::Loaded;
 use ed_machine::Machine;
 use ed_notation::Checked;
 use ed_words::Size;
@@ -14,12 +13,7 @@ const BEFORE: &str = "T64KGKA4#@RDT100DZFPFPDEZPF";
 
 /// Loads that program on a machine that was started on it, and runs it.
 fn run_before(rt: &impl Abort, machine: &mut Machine) {
-    let (at, orders) = (64, 302);
-    expect(
-        rt,
-        loaded(rt, machine) == Loaded::Entered { at, orders },
-        BEFORE,
-    );
+    expect(rt, loaded(rt, machine) == Ok((64, 302)), BEFORE);
     for _ in 0..3 {
         expect(rt, !stops(rt, machine), BEFORE);
     }
@@ -54,12 +48,8 @@ fn expect_as_checked(
     report: &Checked,
     tape: &str,
 ) {
-    let (at, orders) = (report.entry(), report.orders());
-    expect(
-        rt,
-        loaded(rt, machine) == Loaded::Entered { at, orders },
-        tape,
-    );
+    let end = Ok((report.entry(), report.orders()));
+    expect(rt, loaded(rt, machine) == end, tape);
     expect(
         rt,
         first_difference(machine, before, report).is_none(),

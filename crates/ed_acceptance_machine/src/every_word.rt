@@ -39,7 +39,7 @@ fn are_equal(one: &Machine, other: &Machine) -> bool {
     one.size() == other.size()
         && one.store().equals(other.store())
         && one.acc() == other.acc()
-        && one.multiplier() == other.multiplier()
+        && one.multiplier().value() == other.multiplier().value()
         && one.counter() == other.counter()
         && one.orders_done() == other.orders_done()
         && one.last_printed() == other.last_printed()
@@ -63,6 +63,15 @@ fn blocked(rt: &impl Abort, order: Word) -> Option<Turn> {
     }
 }
 
+/// Whether two turns are the same one of the two in which no order is obeyed.
+fn is_same(turn: Turn, other: Turn) -> bool {
+    match (turn, other) {
+        (Turn::NoTape, Turn::NoTape) => true,
+        (Turn::NoOrder(function), Turn::NoOrder(wanted)) => function == wanted,
+        _ => false,
+    }
+}
+
 /// Whether a word answers this and changes nothing on a machine, which is started on it as its equal is.
 fn is_blocked(
     rt: &impl Abort,
@@ -74,7 +83,7 @@ fn is_blocked(
 ) -> bool {
     start_with(rt, machine, &[order], Vec::new(alloc));
     start_with(rt, equal, &[order], Vec::new(alloc));
-    next_turn(rt, machine) == wanted && are_equal(machine, equal)
+    is_same(next_turn(rt, machine), wanted) && are_equal(machine, equal)
 }
 
 /// The first word that should change nothing on two equal machines, and yet answers otherwise or changes the first.

@@ -18,12 +18,16 @@ fn expect_strike(rt: &impl Abort, printer: &mut Printer, number: u8, text: &str)
 #[test]
 fn the_printer(rt: HostRuntime) {
     let mut printer = Printer::new();
-    expect(&rt, printer.shift() == Shift::Letters, "the first shift");
+    expect(
+        &rt,
+        matches!(printer.shift(), Shift::Letters),
+        "the first shift",
+    );
     expect_strike(&rt, &mut printer, 1, "Q");
     expect_strike(&rt, &mut printer, 11, "");
     expect(
         &rt,
-        printer.shift() == Shift::Figures,
+        matches!(printer.shift(), Shift::Figures),
         "the shift of a code",
     );
     expect_strike(&rt, &mut printer, 21, "\u{a3}");

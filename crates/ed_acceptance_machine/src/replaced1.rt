@@ -2,10 +2,10 @@
 
 use crate::numbers::code;
 use crate::support::rows_of;
-use crate::support1::{checked, fault_of, loaded, misplaced, started};
+use crate::support1::{checked, loaded, misplaced, reports, started};
 use ed_codes::Code;
 use ed_initial1::Tape1Cause::{BadRow, EndOfTape, FirstWord};
-use ed_initial1::{Checked1, Loaded1, Tape1Cause, Tape1Fault};
+use ed_initial1::{Checked1, Tape1Cause, Tape1Fault};
 use ed_machine::Machine;
 use std::alloc::Global;
 use std::process::Abort;
@@ -76,9 +76,13 @@ fn orders_to_the_end(rt: &impl Abort, rows: &[Code]) -> u64 {
 }
 
 /// Whether as many of `count` rows were loaded, and to the places, as a report tells.
-fn is_as_reported(machine: &Machine, loaded: Loaded1, count: usize, report: &Checked1) -> bool {
-    let orders = report.orders();
-    loaded == Loaded1::Entered { orders }
+fn is_as_reported(
+    machine: &Machine,
+    loaded: Result<u64, u64>,
+    count: usize,
+    report: &Checked1,
+) -> bool {
+    loaded == Ok(report.orders())
         && count.checked_sub(machine.rows_left().len()) == Some(report.rows())
         && misplaced(machine, report).is_none()
 }
@@ -95,9 +99,7 @@ fn is_loaded_as_told(
     let loaded = loaded(rt, machine);
     match told {
         Ok(report) => is_as_reported(machine, loaded, rows.len(), report),
-        Err(fault) => {
-            !is_end(fault) || loaded == Loaded1::Lost { orders } && machine.rows_left().is_empty()
-        }
+        Err(fault) => { !is_end(fault) || loaded == Err(orders) && machine.rows_left().is_empty() }
     }
 }
 
@@ -132,7 +134,7 @@ fn is_as_wanted(
     code: u8,
 ) -> Result<bool, Fail> {
     let told = checked(rt, alloc, rows);
-    if fault_of(&told)? != wanted(place, code) {
+    if !reports(&told, wanted(place, code))? {
         return Ok(false);
     }
     are_loaded_as_told(rt, alloc, rows, &told)

@@ -42,7 +42,7 @@ fn differs(packed: &Store, plain: &Plain, a: u16) -> bool
     requires { a < 1024 }
 {
     packed.short(a) != plain.short(a)
-        || packed.long(a) != plain.long(a)
+        || packed.long(a).value() != plain.long(a).value()
         || packed.sandwich(a) != plain.sandwich(a)
         || packed.cells()[usize::from(a / 2)] != plain.long(a).value()
 }

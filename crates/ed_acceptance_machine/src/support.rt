@@ -147,16 +147,20 @@ pub fn started(alloc: Global, size: Size, tape: &str) -> Result<Machine, Fail> {
     Ok(machine)
 }
 
-/// Loads the tape that a machine was started on.
-pub fn loaded(rt: &impl Abort, machine: &mut Machine) -> Loaded {
+/// Loads the tape that a machine was started on: the location of the entry and the orders until then, or the orders
+/// until the load was lost.
+pub fn loaded(rt: &impl Abort, machine: &mut Machine) -> Result<(u16, u64), u64> {
     assert!(rt; is_started(machine));
     let done = machine.orders_done();
     let rows = machine.rows_left().len();
     assert!(rt; done < 1 << 20 && rows < 1 << 20);
-    load(machine)
+    match load(machine) {
+        Loaded::Entered { at, orders } => Ok((at, orders)),
+        Loaded::Lost { orders } => Err(orders),
+    }
 }
 
 /// Obeys the next order, and answers whether it was a stop.
 pub fn stops(rt: &impl Abort, machine: &mut Machine) -> bool {
-    next_turn(rt, machine) == Turn::Stopped
+    matches!(next_turn(rt, machine), Turn::Stopped)
 }

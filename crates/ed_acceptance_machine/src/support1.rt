@@ -39,21 +39,40 @@ pub fn started(alloc: Global, rows: Vec<Code>) -> Result<Machine, Fail> {
     Ok(machine)
 }
 
-/// Loads the tape that a machine was started on.
-pub fn loaded(rt: &impl Abort, machine: &mut Machine) -> Loaded1 {
+/// Loads the tape that a machine was started on: the orders until the entry, or until the load was lost.
+pub fn loaded(rt: &impl Abort, machine: &mut Machine) -> Result<u64, u64> {
     assert!(rt; is_started1(machine));
     let done = machine.orders_done();
     let rows = machine.rows_left().len();
     assert!(rt; done < 1 << 20 && rows < 1 << 20);
-    load1(machine)
+    match load1(machine) {
+        Loaded1::Entered { orders } => Ok(orders),
+        Loaded1::Lost { orders } => Err(orders),
+    }
 }
 
-/// The fault that a check reports, if any.
-pub fn fault_of(told: &Result<Checked1, Tape1Fault>) -> Result<Option<(usize, Tape1Cause)>, Fail> {
-    match told {
-        Ok(_) => Ok(None),
-        Err(Tape1Fault::At { row, cause }) => Ok(Some((*row, *cause))),
-        Err(Tape1Fault::Memory) => Err(Fail::from("no memory")),
+/// The place of a cause among the causes of faults, from 1.
+fn number_of(cause: Tape1Cause) -> u8 {
+    match cause {
+        Tape1Cause::EndOfTape => 1,
+        Tape1Cause::BadRow => 2,
+        Tape1Cause::NumberTooLarge => 3,
+        Tape1Cause::FirstWord => 4,
+    }
+}
+
+/// Whether a check reports this row and this cause, or no fault for None.
+pub fn reports(
+    told: &Result<Checked1, Tape1Fault>,
+    wanted: Option<(usize, Tape1Cause)>,
+) -> Result<bool, Fail> {
+    match (told, wanted) {
+        (Ok(_), wanted) => Ok(wanted.is_none()),
+        (Err(Tape1Fault::At { row, cause }), Some((at, wanted))) => {
+            Ok(*row == at && number_of(*cause) == number_of(wanted))
+        }
+        (Err(Tape1Fault::At { .. }), None) => Ok(false),
+        (Err(Tape1Fault::Memory), _) => Err(Fail::from("no memory")),
     }
 }
 

@@ -5,15 +5,21 @@ use ed_stepper::{BackFault, MoveEnd, Moved, Session};
 use std::process::Abort;
 use std::test::Fail;
 
+/// Whether a move left the session at a location, after a number of orders.
+fn is_at(moved: &Moved, at: u16, done: u64) -> bool {
+    moved.at == at && moved.done == done
+}
+
 /// Goes far on and often back, and then on to the limit.
 fn goes_on_and_back(rt: &impl Abort, session: &mut Session) {
-    expect(rt, session.go(9_963_472).end == MoveEnd::Went, "far on");
+    let moved = session.go(9_963_472);
+    expect(rt, matches!(moved.end, MoveEnd::Went), "far on");
     for _ in 0..2_000 {
         expect(rt, session.back(1).is_ok(), "often back");
     }
     let moved = session.go(100_000);
-    let (at, done, end) = (64, 10_000_000, MoveEnd::Limit);
-    expect(rt, moved == Moved { at, done, end }, "to the limit");
+    expect(rt, is_at(&moved, 64, 10_000_000), "on");
+    expect(rt, matches!(moved.end, MoveEnd::Limit), "to the limit");
 }
 
 /// The latest copy is that after 9,961,472 orders, 152 times 65,536, so each move back obeys at most 2,000 orders. From
@@ -27,22 +33,25 @@ fn far_on_and_often_back(rt: HostRuntime) -> Result<(), Fail> {
 
 /// Checks that a session which has obeyed this number of orders doesn't go back so far.
 fn expect_too_far(rt: &impl Abort, session: &mut Session, orders: u64, done: u64) {
-    let fault = BackFault::TooFar { done };
-    expect(rt, session.back(orders) == Err(fault), "too far");
+    let told = match session.back(orders) {
+        Err(BackFault::TooFar { done }) => Some(done),
+        Ok(_) | Err(BackFault::Memory) => None,
+    };
+    expect(rt, told == Some(done), "too far");
 }
 
 /// Goes back to the start and no further, and then on to the entry.
 fn goes_back_to_the_start(rt: &impl Abort, session: &mut Session) {
-    expect(rt, session.go(90).end == MoveEnd::Went, "on");
+    expect(rt, matches!(session.go(90).end, MoveEnd::Went), "on");
     expect_too_far(rt, session, 91, 90);
-    let (at, done, end) = (0, 0, MoveEnd::Back);
-    expect(rt, session.back(90) == Ok(Moved { at, done, end }), "back");
+    let is_back = match session.back(90) {
+        Ok(moved) => is_at(&moved, 0, 0) && matches!(moved.end, MoveEnd::Back),
+        Err(_) => false,
+    };
+    expect(rt, is_back, "back");
     expect_too_far(rt, session, 1, 0);
-    expect(
-        rt,
-        session.until_entry().end == MoveEnd::Entered,
-        "the entry",
-    );
+    let moved = session.until_entry();
+    expect(rt, matches!(moved.end, MoveEnd::Entered), "the entry");
 }
 
 #[test]

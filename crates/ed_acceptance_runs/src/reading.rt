@@ -26,13 +26,17 @@ const ROWS: [Row; 8] = [
 /// Tapes that end in digit rows, and the orders after which they end.
 const ENDS: [(&str, u64); 3] = [("", 3), ("42", 29), ("000000", 81)];
 
-/// Runs `read` at the base where it was placed.
-fn read(rt: &impl Abort, machine: &mut Machine, places: &Places) -> ReadBack {
+/// Runs `read` at the base where it was placed: the location where it returned and the orders until then, or the orders
+/// until the tape ended.
+fn read(rt: &impl Abort, machine: &mut Machine, places: &Places) -> Result<(u16, u64), u64> {
     let Places { base, h, .. } = *places;
     assert!(rt; stands_at(machine, READ, base, h));
     assert!(rt; is_outside(machine, READ, base, h));
     assert!(rt; machine.orders_done() < 1 << 40 && machine.rows_left().len() < 1 << 40);
-    read_integer(machine, base, h)
+    match read_integer(machine, base, h) {
+        ReadBack::Back { at, orders } => Ok((at, orders)),
+        ReadBack::NoTape { orders } => Err(orders),
+    }
 }
 
 /// The word of a location.
@@ -45,7 +49,7 @@ fn word(rt: &impl Abort, machine: &Machine, place: u16) -> u32 {
 fn wrong_in(rt: &impl Abort, machine: &mut Machine, places: &Places, row: &Row) -> &'static str {
     let (_, number, orders) = *row;
     let at = places.back;
-    if read(rt, machine, places) != (ReadBack::Back { at, orders }) {
+    if read(rt, machine, places) != Ok((at, orders)) {
         "another end"
     } else if machine.counter() != at || machine.acc() != 0 {
         "not returned"
@@ -90,10 +94,7 @@ fn expect_end(rt: &impl Abort, machine: &mut Machine, code: u8) {
     let at = places.back;
     let back = read(rt, machine, places);
     let is_five = word(rt, machine, places.h) == 5 && machine.rows_left().len() == 1;
-    assert!(rt;
-        is_five && back == ReadBack::Back { at, orders: 24 },
-        "{code}"
-    );
+    assert!(rt; is_five && back == Ok((at, 24)), "{code}");
 }
 
 #[test]
@@ -114,7 +115,7 @@ fn expect_no_tape(
     orders: u64,
 ) {
     let back = read(rt, machine, places);
-    expect(rt, back == ReadBack::NoTape { orders }, rows);
+    expect(rt, back == Err(orders), rows);
     expect(
         rt,
         machine.counter().checked_sub(places.base) == Some(3),

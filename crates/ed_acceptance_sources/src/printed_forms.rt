@@ -466,7 +466,9 @@ fn are_words_alike(one: &Statement, other: &Statement) -> bool {
             },
         ) => { function == letter && length == end && are_operands_alike(operand, place) }
         (Statement::Number { value }, Statement::Number { value: other }) => value == other,
-        (Statement::Long { value }, Statement::Long { value: other }) => value == other,
+        (Statement::Long { value }, Statement::Long { value: other }) => {
+            value.value() == other.value()
+        }
         (Statement::Text { codes }, Statement::Text { codes: other }) => codes == other,
         (Statement::Rows { codes }, Statement::Rows { codes: other }) => codes == other,
         _ => false,

@@ -9,7 +9,7 @@ use ed_machine::{Ending, Machine, Paper};
 use ed_run::run;
 
 /// What one turn of the routine did, and the number of orders that the machine obeyed.
-#[derive(Clone, Copy, PartialEq, Eq)]
+#[derive(Clone, Copy)]
 pub enum Checking {
     /// The guest obeyed an order other than Z.
     Went { orders: u64 },

@@ -5,10 +5,11 @@ ghost use Rattle.ed_codes.specs.Answer.{AnswersText, ReadsText};
 
 use crate::{Code, row_of_byte};
 use std::alloc::{AllocFailed, Global};
+use std::fmt;
 use thiserror::Error;
 
 /// Why a tape text gives no rows. The message of each variant is its name.
-#[derive(Clone, Copy, Debug, PartialEq, Eq, Error)]
+#[derive(Clone, Copy, Error)]
 pub enum TextFault {
     /// A byte that spells no row, at this offset in bytes, counted from 0.
     #[error("NoRow")]
@@ -19,6 +20,12 @@ pub enum TextFault {
     /// No memory was found for the rows.
     #[error("Memory")]
     Memory,
+}
+
+impl fmt::Debug for TextFault {
+    fn fmt<W: fmt::Write>(&self, f: &mut fmt::Formatter<W>) -> fmt::Result {
+        fmt::Display::fmt(self, f)
+    }
 }
 
 impl<T: Drop> From<AllocFailed<T>> for TextFault {

@@ -9,7 +9,7 @@ use crate::turns::{is_entering, is_obeyed, is_quiet_turn};
 use ed_machine::Machine;
 
 /// How a load ended.
-#[derive(Clone, Copy, PartialEq, Eq)]
+#[derive(Clone, Copy)]
 pub enum Loaded {
     /// The program was entered.
     Entered {

@@ -15,7 +15,7 @@ use crate::turns::{is_entering, is_obeyed, is_quiet_turn};
 use ed_machine::Machine;
 
 /// How a walk to the next rest ended.
-#[derive(Clone, Copy, PartialEq, Eq)]
+#[derive(Clone, Copy)]
 pub enum Rested {
     /// The program was entered.
     Entered {

@@ -1,7 +1,7 @@
 use std::alloc::AllocFailed;
 
 /// What is wrong with a tape of Initial Orders 1. If several apply at one row, the first is the fault.
-#[derive(Clone, Copy, PartialEq, Eq)]
+#[derive(Clone, Copy)]
 pub enum Tape1Cause {
     /// The rows end before loading has ended: the row is the number of rows.
     EndOfTape,
@@ -14,7 +14,7 @@ pub enum Tape1Cause {
 }
 
 /// Why a tape of Initial Orders 1 was not accepted.
-#[derive(Clone, Copy, PartialEq, Eq)]
+#[derive(Clone, Copy)]
 pub enum Tape1Fault {
     /// The fault of the tape.
     At {

@@ -10,7 +10,7 @@ use ed_machine::{Machine, Turn};
 const ENTRY: u16 = 31;
 
 /// How a load by Initial Orders 1 ended.
-#[derive(Clone, Copy, PartialEq, Eq)]
+#[derive(Clone, Copy)]
 pub enum Loaded1 {
     /// The counter reached 31, where the program begins.
     Entered {

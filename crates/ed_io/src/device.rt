@@ -3,7 +3,7 @@ ghost use Rattle.ed_io.specs.Bytes.{IsWithin, Reads, TakesSome, Writes};
 ghost use Rattle.ed_io.specs.Causes.{HasCause, faults_after};
 
 /// The answer of a read or a write that failed. The device has counted it.
-#[derive(Clone, Copy, PartialEq, Eq)]
+#[derive(Clone, Copy)]
 pub struct Failed;
 
 /// A device that input is read from.

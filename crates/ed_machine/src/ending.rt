@@ -1,5 +1,5 @@
 /// How a run ended.
-#[derive(Clone, Copy, PartialEq, Eq)]
+#[derive(Clone, Copy)]
 pub enum Ending {
     /// A Z order was obeyed, and no resume was left.
     Stopped,

@@ -1,7 +1,7 @@
 use ed_codes::Code;
 
 /// What one step did.
-#[derive(Clone, Copy, PartialEq, Eq)]
+#[derive(Clone, Copy)]
 pub enum Turn {
     /// An order was obeyed that neither prints nor stops.
     Went,

@@ -3,7 +3,7 @@ use std::alloc::AllocError;
 
 /// Why a tape is not well formed, in the order of the rules' numbers: if two rules are broken at one row, the first is
 /// reported.
-#[derive(Clone, Copy, PartialEq, Eq)]
+#[derive(Clone, Copy)]
 pub enum TapeCause {
     /// The rows end before an entry item is complete.
     EndOfTape,
@@ -28,7 +28,7 @@ pub enum TapeCause {
 }
 
 /// Why a tape was not accepted.
-#[derive(Clone, Copy, PartialEq, Eq)]
+#[derive(Clone, Copy)]
 pub enum TapeFault {
     /// The fault of the tape. Rows count from 0.
     At {

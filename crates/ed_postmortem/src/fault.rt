@@ -1,8 +1,9 @@
 use ed_words::NoMemory;
+use std::fmt;
 use thiserror::Error;
 
 /// Why no post-mortem was printed. The message of each variant is its name.
-#[derive(Clone, Copy, Debug, PartialEq, Eq, Error)]
+#[derive(Clone, Copy, Error)]
 pub enum PmFault {
     /// The first location is below 144: the post-mortem's own tape takes the store up to 139.
     #[error("InItsOwnStore")]
@@ -16,6 +17,12 @@ pub enum PmFault {
     /// No memory for the tape.
     #[error("Memory")]
     Memory,
+}
+
+impl fmt::Debug for PmFault {
+    fn fmt<W: fmt::Write>(&self, f: &mut fmt::Formatter<W>) -> fmt::Result {
+        fmt::Display::fmt(self, f)
+    }
 }
 
 impl From<NoMemory> for PmFault {

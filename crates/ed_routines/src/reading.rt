@@ -9,7 +9,7 @@ use ed_codes::Code;
 use ed_machine::Machine;
 
 /// How `read` ended.
-#[derive(Clone, Copy, PartialEq, Eq)]
+#[derive(Clone, Copy)]
 pub enum ReadBack {
     /// It read an ending row and returned.
     Back {

@@ -2,7 +2,7 @@ use ed_words::NoMemory;
 use std::alloc::AllocError;
 
 /// How a move of a session ended.
-#[derive(Clone, Copy, PartialEq, Eq)]
+#[derive(Clone, Copy)]
 pub enum MoveEnd {
     /// The move obeyed as many orders as it asked for.
     Went,
@@ -23,7 +23,7 @@ pub enum MoveEnd {
 }
 
 /// The state of a session after a move, and how the move ended.
-#[derive(Clone, Copy, PartialEq, Eq)]
+#[derive(Clone, Copy)]
 pub struct Moved {
     /// The location of the next order.
     pub at: u16,
@@ -45,7 +45,7 @@ pub enum MoveTarget {
 }
 
 /// Why a session did not go back.
-#[derive(Clone, Copy, PartialEq, Eq)]
+#[derive(Clone, Copy)]
 pub enum BackFault {
     /// Fewer orders were obeyed so far.
     TooFar {

@@ -15,7 +15,7 @@ use std::alloc::{AllocError, Global};
 const TOO_MANY: u32 = 1001;
 
 /// Why a script was not run to its end.
-#[derive(Clone, Copy, PartialEq, Eq)]
+#[derive(Clone, Copy)]
 pub enum ScriptFault {
     /// A line says no command, or it is line 1001. No line has run.
     BadCommand {

@@ -4,7 +4,7 @@ use crate::Word;
 use std::marker::Model;
 
 /// A long word of 35 binary digits, read as the number 0 to 2^35 - 1.
-#[derive(Clone, Copy, PartialEq, Eq)]
+#[derive(Clone, Copy)]
 pub struct Long {
     number: u64,
 }
@@ -21,7 +21,7 @@ impl Model for Long {
 
 /// The parts of a long word in the store: the words at the odd and at the even location of a pair, and the sandwich
 /// digit between them.
-#[derive(Clone, Copy, PartialEq, Eq)]
+#[derive(Clone, Copy)]
 pub struct Halves {
     /// The word at the odd location, the most significant half of the long word.
     pub odd: Word,
