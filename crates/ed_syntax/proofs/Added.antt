@@ -68,3 +68,8 @@ pub both_added : {A E : Type 0} (r : Result A E) (text first second between whol
 both_added (Ok a) text first second between whole h e =
     h ∙ ap (λ (t : Text). t ++ second) e ∙ append_assoc text first second
 both_added (Err f) text first second between whole h e = tt
+
+-- what holds in any case, where memory was found
+pub in_any_case : {A E P : Type 0} (r : Result A E) → P → IfOk r (λ _. P)
+in_any_case (Ok a) p = p
+in_any_case (Err e) p = tt

@@ -53,7 +53,7 @@ pub(crate) fn push_statement(
         Statement::Number { value } => {
             push_numbered(alloc, text, b"word ", u64::from(value.value()))
         }
-        Statement::Text { codes } => push_rows(text, b"text ", codes),
+        Statement::Text { codes } => push_rows(text, b"text \"", codes),
         Statement::Fetch {
             routine,
             name,
@@ -64,7 +64,7 @@ pub(crate) fn push_statement(
             push_settings(alloc, text, settings)
         }
         Statement::Enter { name } => push_named(text, b"enter ", name),
-        Statement::Rows { codes } => push_rows(text, b"data ", codes),
+        Statement::Rows { codes } => push_rows(text, b"data \"", codes),
         Statement::Long { value } => push_numbered(alloc, text, b"long ", value.value()),
     }
 }
