@@ -10,3 +10,9 @@ returns-in_default c = grind (arith, common_steps)
 
 pub returns-in_default-2 : goal.returns-in_default-2
 returns-in_default-2 c = grind (arith, common_steps)
+
+pub returns : goal.returns
+returns c = grind (arith, common_steps)
+
+pub returns-then-not-is : goal.returns-then-not-is
+returns-then-not-is c = grind (arith, common_steps)
