@@ -4,7 +4,7 @@
 //! its lines, or the reason that it is not written. What a line says is a relation with one row for each form, and each
 //! text has lines or a fault, and never both. `parse` reads a program back from its text. A program is not written if
 //! `version 2` has no line in it, and then no text says its lines, or if the text of a line is too long. Depends on
-//! `ed_words`, `ed_codes`, `ed_lines` and `arrayvec`.
+//! `ed_words`, `ed_codes`, `ed_lines`, `arrayvec` and `itoa`.
 #![tactic(auto)]
 
 mod fault;

@@ -2,7 +2,7 @@
 ghost use Rattle.std.specs.Prelude.{◌≡◌, ◌==◌, codes, map, Some};
 ghost use Rattle.ed_syntax.specs.Versions.{is_second};
 ghost use Rattle.ed_syntax.specs.Private.Found.{form_result};
-ghost use Rattle.ed_syntax.specs.Private.Grammar.{base, enter, fetch, form_at};
+ghost use Rattle.ed_syntax.specs.Private.Grammar.{enter, fetch, form_at};
 ghost use Rattle.ed_syntax.specs.Private.Grammar.{is_version_two, labelled_line, length_end};
 ghost use Rattle.ed_syntax.specs.Private.Grammar.{long, order, order_end, placed_statement, segment};
 ghost use Rattle.ed_syntax.specs.Private.Grammar.{statement, unlabelled_line, word};
@@ -22,9 +22,12 @@ use ed_words::{Long, Word};
 fn length_end(parts: &[Part]) -> Option<bool>
     ensures { result ≡ length_end (map part parts.now) }
 {
-    match parts {
-        [Part::Sign(b'F')] => Some(false),
-        [Part::Sign(b'D')] => Some(true),
+    let [Part::Sign(letter)] = *parts else {
+        return None;
+    };
+    match letter {
+        b'F' => Some(false),
+        b'D' => Some(true),
         _ => None,
     }
 }
@@ -98,20 +101,6 @@ fn enter(parts: &[Part]) -> Result<Statement, FormFault>
     }
 }
 
-/// What follows the name of a segment.
-fn base(parts: &[Part]) -> Result<Option<u16>, FormFault>
-    ensures { result ≡ form_result (base (map part parts.now)) }
-{
-    match *parts {
-        [] => Ok(None),
-        [Part::Run(at), Part::Run(digits)] if is(at, b"at") => {
-            let base = number(1023, digits)?;
-            Ok(Some(base as u16))
-        }
-        _ => Err(FormFault::NotThisForm),
-    }
-}
-
 /// What follows `segment`.
 fn segment(parts: &[Part]) -> Result<Statement, FormFault>
     ensures { result ≡ form_result (segment (map part parts.now)) }
@@ -122,8 +111,20 @@ fn segment(parts: &[Part]) -> Result<Statement, FormFault>
     let Some(name) = name(run) else {
         return Err(FormFault::NotThisForm);
     };
-    let base = base(rest)?;
-    Ok(Statement::Segment { name, base })
+    if rest.is_empty() {
+        return Ok(Statement::Segment { name, base: None });
+    }
+    let [Part::Run(at), Part::Run(digits)] = *rest else {
+        return Err(FormFault::NotThisForm);
+    };
+    if !is(at, b"at") {
+        return Err(FormFault::NotThisForm);
+    }
+    let base = number(1023, digits)?;
+    Ok(Statement::Segment {
+        name,
+        base: Some(base as u16),
+    })
 }
 
 /// What follows `use`.
@@ -235,12 +236,10 @@ fn labelled(version: Version, run: &[u8], parts: &[Part]) -> Result<Form, FormFa
 pub(crate) fn is_version_two(parts: &[Part]) -> bool
     ensures { result ≡ is_version_two (map part parts.now) }
 {
-    match *parts {
-        [Part::Run(word), Part::Run(digits)] => {
-            is(word, b"version") && matches!(number(2, digits), Ok(2))
-        }
-        _ => false,
-    }
+    let [Part::Run(word), Part::Run(digits)] = *parts else {
+        return false;
+    };
+    is(word, b"version") && matches!(number(2, digits), Ok(2))
 }
 
 /// The line with this number.

@@ -104,11 +104,13 @@ pub(crate) fn integer(least: u64, most: u64, parts: &[Part]) -> Result<i64, Form
     requires most { most < 2 ^ 36 }
     ensures { result ≡ form_result (integer least most (map part parts.now)) }
 {
-    match *parts {
-        [Part::Run(run)] => Ok(number(most, run)? as i64),
-        [Part::Sign(b'-'), Part::Run(run)] => Ok(-(number(least, run)? as i64)),
-        _ => Err(FormFault::NotThisForm),
+    if let [Part::Run(run)] = *parts {
+        return Ok(number(most, run)? as i64);
     }
+    let [Part::Sign(b'-'), Part::Run(run)] = *parts else {
+        return Err(FormFault::NotThisForm);
+    };
+    Ok(-(number(least, run)? as i64))
 }
 
 /// A string of one or more bytes that spell rows.

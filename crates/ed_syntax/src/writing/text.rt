@@ -7,7 +7,7 @@ use crate::Name;
 use arrayvec::ArrayVec;
 use ed_codes::{Code, byte_of};
 use ed_words::NoMemory;
-use std::alloc::Global;
+use itoa::Buffer;
 
 /// Adds bytes to a text.
 pub(crate) fn push(text: &mut Vec<u8>, bytes: &[u8]) -> Result<(), NoMemory>
@@ -32,17 +32,12 @@ pub(crate) fn push_letter(text: &mut Vec<u8>, code: Code) -> Result<(), NoMemory
 }
 
 /// Adds bytes and then a number in decimal.
-pub(crate) fn push_numbered(
-    alloc: Global,
-    text: &mut Vec<u8>,
-    before: &[u8],
-    number: u64,
-) -> Result<(), NoMemory>
+pub(crate) fn push_numbered(text: &mut Vec<u8>, before: &[u8], number: u64) -> Result<(), NoMemory>
     ensures { IfOk result (λ _. text.new.items ≡ text.old.items ++ (before.now ++ decimal number)) }
 {
     push(text, before)?;
-    let digits = format!(in alloc; "{number}")?;
-    push(text, digits.as_bytes())
+    let mut digits = Buffer::new();
+    push(text, digits.format(number).as_bytes())
 }
 
 /// Adds bytes, which end with a quote, and then the letters of rows and another quote.
