@@ -13,3 +13,6 @@ returns-in_default c = grind (arith, common_steps)
 
 pub returns-in_err-row_of_byte : goal.returns-in_err-row_of_byte
 returns-in_err-row_of_byte c = grind (arith, common_steps)
+
+pub returns-then-is_empty : goal.returns-then-is_empty
+returns-then-is_empty c = grind (arith, common_steps)
