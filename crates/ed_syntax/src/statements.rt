@@ -2,7 +2,7 @@
 ghost use Rattle.std.specs.Prelude.{◌≡◌, ◌==◌, codes, map, Some};
 ghost use Rattle.ed_syntax.specs.Versions.{is_second};
 ghost use Rattle.ed_syntax.specs.Private.Found.{form_result};
-ghost use Rattle.ed_syntax.specs.Private.Grammar.{enter, fetch, form_at};
+ghost use Rattle.ed_syntax.specs.Private.Grammar.{base, enter, fetch, form_at};
 ghost use Rattle.ed_syntax.specs.Private.Grammar.{is_version_two, labelled_line, length_end};
 ghost use Rattle.ed_syntax.specs.Private.Grammar.{long, order, order_end, placed_statement, segment};
 ghost use Rattle.ed_syntax.specs.Private.Grammar.{statement, unlabelled_line, word};
@@ -36,13 +36,15 @@ fn length_end(parts: &[Part]) -> Option<bool>
 fn order_end(version: Version, parts: &[Part]) -> Option<(Option<Operand>, bool)>
     ensures { result ≡ order_end (is_second version) (map part parts.now) }
 {
-    match parts.split_first() {
-        Some((Part::Sign(_), _)) => Some((Some(Operand::Number(0)), length_end(parts)?)),
+    let (operand, rest) = match parts.split_first() {
+        Some((Part::Sign(_), _)) => (Some(Operand::Number(0)), parts),
         _ => match operand(version, parts) {
-            Some((operand, rest)) => Some((operand, length_end(rest)?)),
-            None => None,
+            Some(front) => front,
+            None => return None,
         },
-    }
+    };
+    let length = length_end(rest)?;
+    Some((operand, length))
 }
 
 /// An order with this function.
@@ -101,6 +103,20 @@ fn enter(parts: &[Part]) -> Result<Statement, FormFault>
     }
 }
 
+/// What follows the name of a segment.
+fn base(parts: &[Part]) -> Result<Option<u16>, FormFault>
+    ensures { result ≡ form_result (base (map part parts.now)) }
+{
+    match *parts {
+        [] => Ok(None),
+        [Part::Run(at), Part::Run(digits)] if is(at, b"at") => {
+            let base = number(1023, digits)?;
+            Ok(Some(base as u16))
+        }
+        _ => Err(FormFault::NotThisForm),
+    }
+}
+
 /// What follows `segment`.
 fn segment(parts: &[Part]) -> Result<Statement, FormFault>
     ensures { result ≡ form_result (segment (map part parts.now)) }
@@ -111,20 +127,8 @@ fn segment(parts: &[Part]) -> Result<Statement, FormFault>
     let Some(name) = name(run) else {
         return Err(FormFault::NotThisForm);
     };
-    if rest.is_empty() {
-        return Ok(Statement::Segment { name, base: None });
-    }
-    let [Part::Run(at), Part::Run(digits)] = *rest else {
-        return Err(FormFault::NotThisForm);
-    };
-    if !is(at, b"at") {
-        return Err(FormFault::NotThisForm);
-    }
-    let base = number(1023, digits)?;
-    Ok(Statement::Segment {
-        name,
-        base: Some(base as u16),
-    })
+    let base = base(rest)?;
+    Ok(Statement::Segment { name, base })
 }
 
 /// What follows `use`.
