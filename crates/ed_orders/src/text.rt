@@ -39,6 +39,7 @@ fn length_letter(word: Word) -> u8
 }
 
 /// Writes a number in decimal; 0 is not written.
+#[tactic(auto, using(crate::proofs::Numerals::four_digits))]
 fn push_number(text: &mut ArrayString<12>, number: u16)
     requires few { number < 2048 }
     requires room { array_string_len text.old + 4 ≤ 12 }

@@ -6,8 +6,3 @@ pub push_str-requires : goal.push_str-requires
 push_str-requires c =
     let few : length c.format.result.now ≤ 4 =
     rw c.format.ensures.text (four_digits c.args.number c.requires.few) in (omega arith, omega arith)
-
-pub returns-then-number-ne0-clause-len : goal.returns-then-number-ne0-clause-len
-returns-then-number-ne0-clause-len c =
-    let few : length c.format.result.now ≤ 4 =
-    rw c.format.ensures.text (four_digits c.args.number c.requires.few) in omega (arith, c.push_str.ensures.len)
