@@ -1,6 +1,5 @@
 use Rattle.std.proofs.Common.{arith, refl, rules}
 use Rattle.std.proofs.lemmas.Int.{ints}
-use Rattle.std.proofs.lemmas.Result.{err_from_is_err_and}
 use Rattle.ed_syntax.proofs.Faults.{number_in_range, number_out_of_range, no_number}
 use Rattle.ed_syntax.proofs.operands.joined.Goals as goal
 
@@ -22,7 +21,8 @@ returns-in-Err-OutOfRange c =
 pub returns-in_err-second-in-Err-NotThisForm : goal.returns-in_err-second-in-Err-NotThisForm
 returns-in_err-second-in-Err-NotThisForm c =
     let n = no_number _ _ _ c.in-Err-NotThisForm.field-0-is c.in-Err-NotThisForm.ensures.is in
-    rw (c.from_residual-in_err-second-in-Err-NotThisForm.ensures, c.in_ok-first.ensures.some.1, n, c.in_err-second-in-Err-NotThisForm.ensures.none) (search rules)
+    let none = c.in_err-second-in-Err-NotThisForm.ensures.none in
+    rw (c.from_residual-in_err-second-in-Err-NotThisForm.ensures, c.in_ok-first.ensures.some.1, n, none) (search rules)
 
 pub returns-in_ok-second-in-Err-NotThisForm : goal.returns-in_ok-second-in-Err-NotThisForm
 returns-in_ok-second-in-Err-NotThisForm c =
