@@ -24,8 +24,8 @@ returns-in-None-clause-is t c =
 
 pub returns-in-None-split_first-clause-is : goal.returns-in-None-split_first-clause-is
 returns-in-None-split_first-clause-is t c =
-    let front : setting (is_second c.args.version) (map part c.args.parts.now) ≡ Some (c.in-Some.setting, map part c.in-Some.after.now) =
-    search rules in
+    let front : setting (is_second c.args.version) (map part c.args.parts.now)
+        ≡ Some (c.in-Some.setting, map part c.in-Some.after.now) = search rules in
     let none : c.in-Some.after.now ≡ [] = grind (arith, common_steps) in
     c.both.ensures.is ∙ rw c.new.ensures (one_setting (is_second c.args.version) c.args.most
     (map part c.args.parts.now) c.in-Some.setting (omega arith) (rw none at front))

@@ -22,4 +22,5 @@ returns-in-Some-None-default c =
 pub returns-in-None : goal.returns-in-None
 returns-in-None c =
     let is : function c.args.byte ≡ Some c.in-Some.function = search rules in
-    no_order (function c.args.byte) (order_end (is_second c.args.version) (map part c.args.parts.now)) _ is c.in-None.ensures
+    no_order (function c.args.byte) (order_end (is_second c.args.version) (map part c.args.parts.now)) _
+    is c.in-None.ensures
