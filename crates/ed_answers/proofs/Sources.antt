@@ -1,6 +1,6 @@
 -- From what is made of a source to the outcome of an input.
 use Rattle.std.proofs.Common.{◌≡◌, inl, inr, ◌∙◌, ℕ, Bool, refl, sym, ap, subst}
-use Rattle.std.proofs.Common.{Option, List, ◌++◌, map}
+use Rattle.std.proofs.Common.{Option, None, List, [], ◌++◌, append-nil, map}
 use Rattle.std.specs.Prelude.{Result, Ok, Err, IfErr, IfOk, IsErr, IsErrAnd, MatchResult}
 use Rattle.std.proofs.lemmas.Result.{err_from_is_err_and}
 use Rattle.ed_words.specs.declared.size.Size.{Size}
@@ -178,6 +178,19 @@ ran_gives window before {note} r {ending} {state} {codes} {reply} e s c n gives 
     (ran_outcome before (with_post_mortem window r)) =
     λ i. record { out = paper (c i ++ post_mortem_codes window (s i)); note = line i; status = status_of (e i) } in
     subst (Gives reply) same gives
+
+-- without a post-mortem
+pub ran_gives_alone : (r : RunEnd) {ending : Ending} {state : State} {codes : List ℕ} {reply : Reply}
+    → ending ≡ r.ending → state ≡ r.state → codes ≡ r.codes
+    → Gives reply (record {
+      out = paper (codes ++ []);
+      note = ending_line ending state;
+      status = status_of ending;
+    })
+    → Gives reply (ran_outcome [] r)
+ran_gives_alone r {reply = reply} e s c gives =
+    subst (λ (codes : List ℕ). Gives reply (ran_outcome [] (record r { codes = codes }))) (append-nil r.codes)
+    (ran_gives None [] r e s c refl gives)
 
 -- ---- the tape and the listing
 

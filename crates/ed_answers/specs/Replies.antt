@@ -1,8 +1,9 @@
 -- How a reply relates to the outcome that is due, and what can prevent one: a text that is refused.
-use Rattle.std.specs.Prelude.{◌≡◌, ℕ, ◌<◌, ◌++◌, List, Result, Ok, Err}
+use Rattle.std.specs.Prelude.{◌≡◌, ℕ, ◌<◌, ◌≤◌, ◌+◌, ◌^◌, ◌++◌, List, Result, Ok, Err}
 use Rattle.ed_codes.specs.Reading.{Reading, rows, no_row, open_comment}
 use Rattle.ed_codes.specs.declared.tape.TextFault.TheVariants.{NoRow, OpenComment}
 use Rattle.ed_words.specs.declared.size.Size.{Size}
+use Rattle.ed_machine.specs.State.{State}
 use Rattle.ed_run.specs.Run.{RunEnd}
 use Rattle.ed_lines.specs.declared.program.Line.{Line}
 use Rattle.ed_lines.specs.declared.fault.SourceCause.{SourceCause}
@@ -11,7 +12,9 @@ use Rattle.ed_answers.specs.Refusals.{IsAcceptedAs, IsRefused}
 use Rattle.ed_link.specs.Answers.{IsLinked}
 use Rattle.ed_link.specs.declared.linked.Linked.{Linked}
 use Rattle.ed_link.specs.Tapes.{tape}
+use Rattle.ed_command.specs.Ranges.{IsWindowOf}
 use Rattle.ed_command.specs.declared.command.Settings.{Settings}
+use Rattle.ed_command.specs.declared.command.Window.{Window}
 use Rattle.ed_report.specs.Notes.{ending_line, source_fault_line, text_fault_line}
 use Rattle.ed_words.specs.Texts.{Text}
 use Rattle.ed_answers.specs.Outcome.{Outcome, refusal}
@@ -61,6 +64,10 @@ pub record IsRan (r : RunEnd) (ran : FinishedRun) : Type 0 where
   pub ending_is : ran.ending ≡ r.ending
   pub state_is : ran.machine ≡ r.state
   pub codes_are : ran.paper.codes ≡ r.codes
+
+-- the words in a window can be printed from a state: they are within the store, and the count of orders has room
+abbrev pub IsPrintableIn : State → Window → Type 0
+IsPrintableIn s w = IsWindowOf s.size w × (s.orders + 300000 ≤ 2 ^ 63)
 
 -- a run of a source that ended is that of its tape, with its note
 pub record IsRanOf (s : Settings) (lines : List Line) (noted : NotedRun) : Type 0 where

@@ -19,7 +19,7 @@ mod running;
 mod source;
 mod tapes;
 
-pub use check::check_tape;
+pub use check::{check_from_cleared, check_tape};
 pub use entering::{enter, started};
 pub use first_orders::{check_tape1, run_rows1, tape1};
 pub use input::{INPUT_BYTES, TOO_LONG};

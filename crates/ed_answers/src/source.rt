@@ -87,7 +87,7 @@ fn reply_to_linked(alloc: Global, settings: Settings, linked: &Linked) -> Result
         → Gives reply (run_outcome settings lines)) }
 {
     let NotedRun { mut ran, note } = run_linked(alloc, settings, linked)?;
-    post_mortem_reply(alloc, settings, &mut ran, note)
+    post_mortem_reply(alloc, settings.post_mortem, &mut ran, note)
 }
 
 /// Runs the tape of a linked program.
