@@ -15,12 +15,19 @@ use std::alloc::Global;
 /// The kind of a program that is run.
 #[derive(Drop)]
 pub enum ProgramKind {
-    /// A tape for the 41 Initial Orders.
-    Tape,
-    /// A tape for the Initial Orders of May 1949.
-    Tape1,
+    /// A tape.
+    Tape(InitialOrders),
     /// A source, for the 41 Initial Orders.
     Source,
+}
+
+/// The Initial Orders that read a tape.
+#[derive(Drop)]
+pub enum InitialOrders {
+    /// The 41 Initial Orders.
+    All41,
+    /// The Initial Orders of May 1949.
+    May1949,
 }
 
 /// What is shown of a text: what the program answers, and the machine if it ran.
@@ -82,14 +89,18 @@ fn run_program(
     requires { settings.post_mortem ≡ None }
     ensures { Runs (answers_of kind settings) (ends_of kind settings) text.now result }
 {
-    let ran = match kind {
-        ProgramKind::Tape => run_rows(alloc, settings, rows_of(alloc, text)?)?,
-        ProgramKind::Tape1 => run_rows1(alloc, settings, rows_of(alloc, text)?)?,
+    let initial_orders = match kind {
+        ProgramKind::Tape(initial_orders) => initial_orders,
         ProgramKind::Source => {
             let linked = linked_of(alloc, settings.size, text)?;
             return Ok(run_linked(alloc, settings, &linked)?);
         }
     };
+    let rows = rows_of(alloc, text)?;
+    let ran = match initial_orders {
+        InitialOrders::All41 => run_rows(alloc, settings, rows),
+        InitialOrders::May1949 => run_rows1(alloc, settings, rows),
+    }?;
     let note = ending_text(alloc, ran.ending, &ran.machine)?;
     Ok(NotedRun { ran, note })
 }
