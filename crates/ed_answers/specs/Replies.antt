@@ -81,3 +81,8 @@ LinksSource z text (Ok k) = (lines : List Line) × IsAcceptedAs z text lines × 
 LinksSource z text (Err (Refused reply)) =
     (k : ℕ) × (c : SourceCause) × IsRefused z text k c × Gives reply (refusal (source_fault_line (At k c)))
 LinksSource z text (Err Memory) = Unit {0}
+
+-- the run of a source that is accepted, or the reply that refuses the source
+abbrev pub RunsSource : Settings → Text → Result NotedRun Rejection → Type 0
+RunsSource s text (Ok noted) = (lines : List Line) × IsAcceptedAs s.size text lines × IsRanOf s lines noted
+RunsSource s text (Err e) = LinksSource s.size text (Err e)

@@ -3,9 +3,7 @@ ghost use Rattle.ed_page.specs.Pictures.{run_settings, size_shown};
 ghost use Rattle.ed_page.specs.Private.Asked.{answers_of, ends_of};
 ghost use Rattle.ed_page.specs.Private.Stages.{IsPicture, Runs};
 
-use ed_answers::{
-    NotedRun, Rejection, Reply, linked_of, ran_reply, rows_of, run_linked, run_rows, run_rows1,
-};
+use ed_answers::{NotedRun, Rejection, Reply, ran_reply, rows_of, run_rows, run_rows1, run_source};
 use ed_command::Settings;
 use ed_machine::Machine;
 use ed_report::ending_text;
@@ -91,10 +89,7 @@ fn run_program(
 {
     let initial_orders = match kind {
         ProgramKind::Tape(initial_orders) => initial_orders,
-        ProgramKind::Source => {
-            let linked = linked_of(alloc, settings.size, text)?;
-            return Ok(run_linked(alloc, settings, &linked)?);
-        }
+        ProgramKind::Source => return run_source(alloc, settings, text),
     };
     let rows = rows_of(alloc, text)?;
     let ran = match initial_orders {

@@ -5,7 +5,7 @@ use Rattle.ed_answers.specs.Tapes.{tape_outcome}
 use Rattle.ed_answers.specs.declared.source.NotedRun.{NotedRun}
 use Rattle.ed_page.specs.Private.Asked.{run_by, tape_outcome_by}
 use Rattle.ed_page.proofs.Endings.{plain_source, plain_tape, ran_is}
-use Rattle.ed_page.proofs.Replies.{rows_not_run, rows_run, source_not_run, source_run}
+use Rattle.ed_page.proofs.Replies.{rows_not_run, rows_run, source_run}
 use Rattle.ed_page.proofs.running.run_program.Goals.{in-All41, in-May1949}
 use Rattle.ed_page.proofs.running.run_program.Goals as goal
 
@@ -14,20 +14,13 @@ returns-in_err-rows c =
     let orders = c.in-Tape.initial_orders in
     rw c.in-Tape.is
     (rows_not_run (tape_outcome_by orders c.args.settings) (run_by orders c.args.settings) c.args.text.now _ _
-    c.in_err-rows.ensures.is c.from_residual-in_err-rows.ensures)
-
-pub returns-in_err-linked-in-Source : goal.returns-in_err-linked-in-Source
-returns-in_err-linked-in-Source c =
-    rw c.in-Source.is
-    (source_not_run c.args.settings c.args.text.now _ _ c.in_err-linked-in-Source.ensures
-    c.from_residual.ensures)
+    c.in_err-rows.ensures.is c.from_residual.ensures)
 
 pub returns-in-Source : goal.returns-in-Source
 returns-in-Source c =
     let s = c.args.settings in
     rw c.in-Source.is
-    (source_run s c.args.text.now c.in_ok-linked-in-Source.ensures (plain_source s c.requires)
-    c.in_ok-run_linked-in-Source.ensures.is)
+    (source_run s c.args.text.now c.run_source.result (plain_source s c.requires) c.run_source.ensures.is)
 
 pub returns : goal.returns
 returns c =
