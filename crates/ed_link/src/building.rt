@@ -1,6 +1,6 @@
 //! What is built from the lines of a source, one line after the other.
 ghost use Rattle.std.specs.Prelude.{◌≡◌, ◌≤◌, ◌<◌, ◌^◌, ◌+◌, ◌++◌, ◌∷◌, ◌||◌, None, Some, [], IfOk, OnOk};
-ghost use Rattle.std.specs.Prelude.{length, unwrap_or, ℕ};
+ghost use Rattle.std.specs.Prelude.{is_some, length, unwrap_or, ℕ};
 ghost use Rattle.ed_library.specs.Routines.{find};
 ghost use Rattle.ed_link.specs.Private.Building.{BuildIs, IsFew};
 ghost use Rattle.ed_link.specs.Private.FaultTests.{is_enter, reach, word_extent};
@@ -8,7 +8,7 @@ ghost use Rattle.ed_link.specs.Linked.{entered_place, placed_by_line, data_rows}
 ghost use Rattle.ed_link.specs.Punch.{items_of, routine_items};
 ghost use Rattle.ed_link.specs.Tables.{empty_table, put_all};
 
-use crate::faults::{Past, cause_of, extent_of, is_enter};
+use crate::faults::{Extent, cause_of, extent_of};
 use crate::punching::{entry_of, push_line};
 use crate::words::put_line;
 use ed_codes::Code;
@@ -27,6 +27,8 @@ pub(crate) struct Built {
     pub(crate) table: Vec<Option<Word>>,
     pub(crate) entry: Option<u16>,
     pub(crate) after: Vec<Code>,
+    /// The extents of the lines' words.
+    pub(crate) extents: Vec<Extent>,
 }
 
 /// Adds what one more line gives.
@@ -38,6 +40,7 @@ fn add_line(
 ) -> Result<(), NoMemory>
     requires table { length built.old.table.items ≡ 1024 }
     requires place { counter.place ≤ 2 ^ 30 }
+    requires segments { counter.segments ≤ 2000 }
     requires base { counter.base ≤ counter.place }
     requires fits { (reach symbols.now statement.now counter).from < (reach symbols.now statement.now counter).after
         → (reach symbols.now statement.now counter).after ≤ 1024 }
@@ -48,6 +51,10 @@ fn add_line(
     ensures after { OnOk result (built.new.after.items ≡ built.old.after.items ++ data_rows statement.now) }
     ensures entry { OnOk result ((later : ℕ)
         → unwrap_or built.new.entry later ≡ unwrap_or built.old.entry (entered_place symbols.now statement.now later)) }
+    ensures entered { OnOk result
+        (is_some built.new.entry ≡ (is_some built.old.entry || is_enter statement.now)) }
+    ensures extents { OnOk result
+        (built.new.extents.items ≡ built.old.extents.items ++ word_extent statement.now counter ∷ []) }
 {
     match statement {
         Some(Statement::Enter { name }) => {
@@ -58,6 +65,7 @@ fn add_line(
         Some(Statement::Rows { codes }) => built.after.extend_from_slice(codes)?,
         _ => {}
     }
+    built.extents.push(extent_of(statement, counter))?;
     put_line(&mut built.table, symbols, counter, statement);
     push_line(&mut built.items, symbols, counter, statement)
 }
@@ -83,7 +91,7 @@ fn bound_rows(statement: &Option<Statement>)
 /// Before the first line.
 fn start(alloc: Global) -> Result<Built, NoMemory>
     ensures { IfOk result (λ b. (b.items.items ≡ []) × (b.table.items ≡ empty_table) × (b.entry ≡ None)
-        × (b.after.items ≡ [])) }
+        × (b.after.items ≡ []) × (b.extents.items ≡ [])) }
 {
     let table = vec![in alloc; None; 1024]?;
     Ok(Built {
@@ -91,6 +99,7 @@ fn start(alloc: Global) -> Result<Built, NoMemory>
         table,
         entry: None,
         after: Vec::new(alloc),
+        extents: Vec::new(alloc),
     })
 }
 
@@ -106,13 +115,9 @@ pub(crate) fn build(
     ensures { BuildIs size symbols.now has_enter lines.now result }
 {
     let mut built = start(alloc)?;
-    let mut past = Past {
-        extents: Vec::new(alloc),
-        entered: false,
-    };
     let mut counter = LocationCounter::first();
     for line in lines {
-        if let Some(cause) = cause_of(size, symbols, has_enter, &past, line, counter) {
+        if let Some(cause) = cause_of(size, symbols, has_enter, &built, line, counter) {
             return Err(SourceFault::At {
                 line: line.number,
                 cause,
@@ -120,8 +125,6 @@ pub(crate) fn build(
         }
         bound_rows(&line.statement);
         add_line(&mut built, symbols, counter, &line.statement)?;
-        past.extents.push(extent_of(&line.statement, counter))?;
-        past.entered |= is_enter(&line.statement);
         counter = counter.after_statement(&line.statement);
     }
     Ok(built)

@@ -10,6 +10,7 @@ ghost use Rattle.ed_link.specs.Private.FaultTests.{is_misplaced, is_outside};
 ghost use Rattle.ed_link.specs.Private.FaultTests.{extent_at, is_rows, overlaps, reach, sets_otherwise, word_extent};
 ghost use Rattle.ed_link.specs.Private.FaultTests.{fault_line, sooner};
 
+use crate::building::Built;
 use crate::operands::setting;
 use ed_codes::Code;
 use ed_library::find;
@@ -176,28 +177,19 @@ fn has_sandwich(statement: &Option<Statement>) -> bool
     }
 }
 
-/// What the lines before a line leave.
-#[derive(Drop)]
-pub(crate) struct Past {
-    /// The extents of their words.
-    pub(crate) extents: Vec<Extent>,
-    /// Whether one of them is an `enter`.
-    pub(crate) entered: bool,
-}
-
-/// The fault of a line with the least number, among S9 to S17.
+/// The fault of a line with the least number, among S9 to S17, after what was built of the lines before it.
 pub(crate) fn cause_of(
     size: Size,
     symbols: &[Definition],
     has_enter: bool,
-    past: &Past,
+    built: &Built,
     line: &Line,
     counter: LocationCounter,
 ) -> Option<SourceCause>
     requires place { counter.place ≤ 2 ^ 30 }
     requires segments { counter.segments ≤ 2000 }
     ensures { result ≡ cause_of size symbols.now has_enter
-        (record { extents = past.now.extents.items; entered = past.now.entered }) line.now counter }
+        (record { extents = built.now.extents.items; entered = is_some built.now.entry }) line.now counter }
 {
     let reach = reach(symbols, &line.statement, counter);
     let past_store = Extent {
@@ -212,11 +204,11 @@ pub(crate) fn cause_of(
         Some(SourceCause::ParameterStore)
     } else if reach.overlaps(past_store) {
         Some(SourceCause::StoreEnd)
-    } else if extent_of(&line.statement, counter).overlaps_any(&past.extents) {
+    } else if extent_of(&line.statement, counter).overlaps_any(&built.extents) {
         Some(SourceCause::Overlap)
     } else if let Some(cause) = use_cause(&line.statement) {
         Some(cause)
-    } else if is_misplaced(past.entered, has_enter, line) {
+    } else if is_misplaced(built.entry.is_some(), has_enter, line) {
         Some(SourceCause::Enter)
     } else if has_sandwich(&line.statement) {
         Some(SourceCause::SandwichDigit)
