@@ -1,6 +1,6 @@
 //! What is built from the lines of a source, one line after the other.
 ghost use Rattle.std.specs.Prelude.{◌≡◌, ◌≤◌, ◌<◌, ◌^◌, ◌+◌, ◌++◌, ◌∷◌, ◌||◌, None, Some, [], IfOk, OnOk};
-ghost use Rattle.std.specs.Prelude.{is_some, length, unwrap_or, ℕ};
+ghost use Rattle.std.specs.Prelude.{is_some, length, true, unwrap_or, ℕ};
 ghost use Rattle.ed_library.specs.Routines.{find};
 ghost use Rattle.ed_link.specs.Private.Building.{BuildIs, IsFew};
 ghost use Rattle.ed_link.specs.Private.FaultTests.{is_enter, reach, word_extent};
@@ -31,7 +31,7 @@ pub(crate) struct Built {
     pub(crate) extents: Vec<Extent>,
 }
 
-/// Adds what one more line gives.
+/// Adds what one more line gives. No `enter` comes after another.
 fn add_line(
     built: &mut Built,
     symbols: &[Definition],
@@ -44,6 +44,7 @@ fn add_line(
     requires base { counter.base ≤ counter.place }
     requires fits { (reach symbols.now statement.now counter).from < (reach symbols.now statement.now counter).after
         → (reach symbols.now statement.now counter).after ≤ 1024 }
+    requires first { is_enter statement.now ≡ true → built.old.entry ≡ None }
     ensures items { OnOk result
         (built.new.items.items ≡ built.old.items.items ++ items_of symbols.now counter statement.now) }
     ensures table { OnOk result
@@ -57,11 +58,7 @@ fn add_line(
         (built.new.extents.items ≡ built.old.extents.items ++ word_extent statement.now counter ∷ []) }
 {
     match statement {
-        Some(Statement::Enter { name }) => {
-            if built.entry.is_none() {
-                built.entry = Some(entry_of(symbols, name));
-            }
-        }
+        Some(Statement::Enter { name }) => built.entry = Some(entry_of(symbols, name)),
         Some(Statement::Rows { codes }) => built.after.extend_from_slice(codes)?,
         _ => {}
     }

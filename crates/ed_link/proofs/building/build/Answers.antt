@@ -1,4 +1,6 @@
+use Rattle.ed_link.specs.Private.FaultTests.{LinesBefore}
 use Rattle.std.proofs.Common.{sym, is_some}
+use Rattle.ed_link.proofs.Inductions.{faultless, first_enter}
 use Rattle.ed_link.proofs.LineLoop.{all_built, reach_fits, start, step, stopped}
 use Rattle.ed_link.proofs.building.build.Goals as goal
 
@@ -31,6 +33,13 @@ add_line-requires-clause-fits c =
     (record { extents = c.loop-line.built.extents.items; entered = is_some c.loop-line.built.entry }) c.line-item.result
     c.loop-line.counter
     (sym c.in_default.ensures)
+
+pub add_line-requires-clause-first : goal.add_line-requires-clause-first
+add_line-requires-clause-first c =
+    let past : LinesBefore = record { extents = c.loop-line.built.extents.items; entered = is_some c.loop-line.built.entry } in
+    first_enter c.loop-line.built.entry c.args.has_enter c.line-item.result
+    (faultless c.args.size c.args.symbols.now c.args.has_enter past c.line-item.result c.loop-line.counter
+    (sym c.in_default.ensures)).misplaced
 
 pub returns : goal.returns
 returns c =
