@@ -20,9 +20,10 @@ use Rattle.ed_symbols.specs.declared.symbols.Definition.{Definition}
 use Rattle.ed_symbols.specs.declared.location_counter.LocationCounter.{LocationCounter}
 use Rattle.ed_symbols.specs.Names.{is_local}
 use Rattle.ed_link.specs.Labels.{label_of}
+use Rattle.ed_link.specs.Private.Building.{bare_items}
 use Rattle.ed_link.specs.Private.FaultTests.{has_words, reach}
 use Rattle.ed_link.specs.Linked.{operand_number, parameter_letters, set_to}
-use Rattle.ed_link.specs.Punch.{head, heads, item_with, preset_items, use_items, with_heading, word_item, word_items}
+use Rattle.ed_link.specs.Punch.{head, heads, item_with, items_of, preset_items, use_items, with_heading, word_item, word_items}
 use Rattle.ed_link.specs.Tables.{put_all}
 use Rattle.ed_link.proofs.Lengths.{put_all_append, put_all_length}
 
@@ -106,6 +107,13 @@ headed symbols s (Some (Long v)) first base = of (nat_eq (s.place % 2) 1) (v % 2
 headed symbols s (Some (Fetch routine name ts)) first base = refl
 headed symbols s (Some (Enter name)) first base = refl
 headed symbols s (Some (Rows codes)) first base = refl
+
+-- the items of a line stand after the head of its segment
+pub line_items : (symbols : List Definition) (s : LocationCounter) (st : Option Statement)
+    → heads (has_words st && nat_eq s.place s.base) s.base ++ bare_items symbols s st ≡ items_of symbols s st
+line_items symbols s (Some (Fetch routine name ts)) = refl
+line_items symbols s (Some (Enter name)) = refl
+line_items symbols s st = headed symbols s st (nat_eq s.place s.base) s.base
 
 -- the head of a segment stands before a line that is its first with a word
 pub with_head : {has : Bool} {place base : ℕ} → has ≡ true → place ≡ base

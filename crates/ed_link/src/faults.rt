@@ -4,7 +4,7 @@ ghost use Rattle.std.specs.List.{list_any, list_all};
 ghost use Rattle.ed_words.specs.Sizes.{locations};
 ghost use Rattle.ed_library.specs.Routines.{find};
 ghost use Rattle.ed_link.specs.Linked.{first_place, end_place, set_to};
-ghost use Rattle.ed_link.specs.Private.FaultTests.{any_enter, cause_of, has_no_routine, has_sandwich, is_enter, use_cause};
+ghost use Rattle.ed_link.specs.Private.FaultTests.{any_enter, cause_of, has_no_routine, has_sandwich, use_cause};
 ghost use Rattle.ed_link.specs.Private.FaultTests.{is_in_segment};
 ghost use Rattle.ed_link.specs.Private.FaultTests.{is_misplaced, is_outside};
 ghost use Rattle.ed_link.specs.Private.FaultTests.{extent_at, is_rows, overlaps, reach, sets_otherwise, word_extent};
@@ -148,13 +148,6 @@ fn use_cause(statement: &Option<Statement>) -> Option<SourceCause>
     }
 }
 
-/// Whether a line is an `enter` line.
-pub(crate) fn is_enter(statement: &Option<Statement>) -> bool
-    ensures { result ≡ is_enter statement.now }
-{
-    matches!(statement, Some(Statement::Enter { .. }))
-}
-
 /// Whether a line breaks the order of `enter` and `data`.
 fn is_misplaced(entered: bool, has_enter: bool, line: &Line) -> bool
     ensures { result ≡ is_misplaced entered has_enter line.now }
@@ -222,7 +215,7 @@ pub(crate) fn any_enter(lines: &[Line]) -> bool
     ensures { result ≡ any_enter lines.now }
 {
     for line in lines {
-        if is_enter(&line.statement) {
+        if let Some(Statement::Enter { .. }) = line.statement {
             return true;
         }
     }
