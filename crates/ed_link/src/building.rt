@@ -31,7 +31,34 @@ pub(crate) struct Built {
     pub(crate) extents: Vec<Extent>,
 }
 
-/// Adds what one more line gives. No `enter` comes after another.
+/// The entry after one more line: that of an `enter`, or the one before the line. No `enter` comes after another.
+fn entry_after(
+    entry: Option<u16>,
+    symbols: &[Definition],
+    statement: &Option<Statement>,
+) -> Option<u16>
+    requires first { is_enter statement.now ≡ true → entry ≡ None }
+    requires fits { entered_place symbols.now statement.now 0 ≤ 32767 }
+    ensures is { (later : ℕ) → unwrap_or result later ≡ unwrap_or entry (entered_place symbols.now statement.now later) }
+    ensures some { is_some result ≡ (is_some entry || is_enter statement.now) }
+{
+    match statement {
+        Some(Statement::Enter { name }) => Some(entry_of(symbols, name)),
+        _ => entry,
+    }
+}
+
+/// Adds the rows that a line puts after the program.
+fn push_rows(after: &mut Vec<Code>, statement: &Option<Statement>) -> Result<(), NoMemory>
+    ensures { OnOk result (after.new.items ≡ after.old.items ++ data_rows statement.now) }
+{
+    match statement {
+        Some(Statement::Rows { codes }) => Ok(after.extend_from_slice(codes)?),
+        _ => Ok(()),
+    }
+}
+
+/// Adds what one more line gives.
 fn add_line(
     built: &mut Built,
     symbols: &[Definition],
@@ -57,12 +84,9 @@ fn add_line(
     ensures extents { OnOk result
         (built.new.extents.items ≡ built.old.extents.items ++ word_extent statement.now counter ∷ []) }
 {
-    match statement {
-        Some(Statement::Enter { name }) => built.entry = Some(entry_of(symbols, name)),
-        Some(Statement::Rows { codes }) => built.after.extend_from_slice(codes)?,
-        _ => {}
-    }
+    built.entry = entry_after(built.entry, symbols, statement);
     built.extents.push(extent_of(statement, counter))?;
+    push_rows(&mut built.after, statement)?;
     put_line(&mut built.table, symbols, counter, statement);
     push_line(&mut built.items, symbols, counter, statement)
 }
