@@ -61,8 +61,11 @@ returns g c =
           let read = w.in_ok-count.ensures in
           rw w.source-is (record {
             bytes = lost_all _ _ _ _ _ _ before.taken w.if-count-eq0.true read.bytes.0;
-            end = inr (omega (arith, w.loop-piece-test.true, c.len.ensures), still_at_end _ _ (read.bytes.1 w.if-count-eq0.true (search rules))
-                (lost_none _ _ _ _ w.if-count-eq0.true read.bytes.0));
+            end = inr (
+              omega (arith, w.loop-piece-test.true, c.len.ensures),
+              still_at_end _ _ (read.bytes.1 w.if-count-eq0.true (search rules))
+                  (lost_none _ _ _ _ w.if-count-eq0.true read.bytes.0),
+            );
             short = tt;
             faults = rw read.faults before.faults;
           })
