@@ -50,7 +50,8 @@ fn entry_after(
 
 /// Adds the rows that a line puts after the program.
 fn push_rows(after: &mut Vec<Code>, statement: &Option<Statement>) -> Result<(), NoMemory>
-    ensures { OnOk result (after.new.items ≡ after.old.items ++ data_rows statement.now) }
+    ensures rows { OnOk result (after.new.items ≡ after.old.items ++ data_rows statement.now) }
+    ensures few { OnOk result (length (data_rows statement.now) ≤ 120) }
 {
     match statement {
         Some(Statement::Rows { codes }) => Ok(after.extend_from_slice(codes)?),
@@ -81,6 +82,8 @@ fn add_line(
         → unwrap_or built.new.entry later ≡ unwrap_or built.old.entry (entered_place symbols.now statement.now later)) }
     ensures entered { OnOk result
         (is_some built.new.entry ≡ (is_some built.old.entry || is_enter statement.now)) }
+    ensures few_items { OnOk result (IsFew statement.now) }
+    ensures few_rows { OnOk result (length (data_rows statement.now) ≤ 120) }
     ensures extents { OnOk result
         (built.new.extents.items ≡ built.old.extents.items ++ word_extent statement.now counter ∷ []) }
 {
@@ -89,24 +92,6 @@ fn add_line(
     push_rows(&mut built.after, statement)?;
     put_line(&mut built.table, symbols, counter, statement);
     push_line(&mut built.items, symbols, counter, statement)
-}
-
-/// Does nothing: its contract is what bounds the rows that a line gives.
-#[tactic(auto, using(crate::proofs::Bounds::found_few, crate::proofs::Bounds::none_few))]
-fn bound_rows(statement: &Option<Statement>)
-    ensures { IsFew statement.now }
-{
-    match statement {
-        Some(Statement::Text { codes } | Statement::Rows { codes }) => {
-            let _length = codes.len();
-        }
-        Some(Statement::Fetch { routine, .. }) => {
-            if let Some(routine) = find(routine.text()) {
-                let _length = routine.length();
-            }
-        }
-        _ => {}
-    }
 }
 
 /// Before the first line.
@@ -144,7 +129,6 @@ pub(crate) fn build(
                 cause,
             });
         }
-        bound_rows(&line.statement);
         add_line(&mut built, symbols, counter, &line.statement)?;
         counter = counter.after_statement(&line.statement);
     }

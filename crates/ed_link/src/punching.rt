@@ -6,7 +6,7 @@ ghost use Rattle.ed_symbols.specs.Names.{place_on};
 ghost use Rattle.ed_symbols.specs.Places.{segment_at};
 ghost use Rattle.ed_library.specs.Routines.{find};
 ghost use Rattle.ed_symbols.specs.Places.{after_statement, routine_places};
-ghost use Rattle.ed_link.specs.Private.Building.{bare_items};
+ghost use Rattle.ed_link.specs.Private.Building.{IsFew, bare_items};
 ghost use Rattle.ed_link.specs.Private.FaultTests.{has_words, reach};
 ghost use Rattle.ed_link.specs.Linked.{operand_number, long_words, set_to, parameter_letters, line_words};
 ghost use Rattle.ed_link.specs.Punch.{ending, head, item_with, items_of, order_item, goes_by_theta};
@@ -162,8 +162,9 @@ fn push_use(
     routine: &Name,
 ) -> Result<(), NoMemory>
     requires { 0 < routine_places (find routine.now) → base ≤ 32767 }
-    ensures { OnOk result
+    ensures items { OnOk result
         (items.new.items ≡ items.old.items ++ use_items symbols.now settings.now base (find routine.now)) }
+    ensures few { OnOk result (length (routine_items (find routine.now)) ≤ 128) }
 {
     push_presets(items, symbols, settings, &PARAMETER_LETTERS)?;
     let Some(routine) = find(routine.text()) else {
@@ -188,7 +189,8 @@ fn push_bare(
     requires base { has_words statement.now ≡ true → counter.base ≤ 32767 }
     requires fits { (reach symbols.now statement.now counter).from < (reach symbols.now statement.now counter).after
         → (reach symbols.now statement.now counter).after ≤ 1024 }
-    ensures { OnOk result (items.new.items ≡ items.old.items ++ bare_items symbols.now counter statement.now) }
+    ensures items { OnOk result (items.new.items ≡ items.old.items ++ bare_items symbols.now counter statement.now) }
+    ensures few { OnOk result (IsFew statement.now) }
 {
     match statement {
         Some(
@@ -230,7 +232,8 @@ pub(crate) fn push_line(
     requires base { counter.base ≤ counter.place }
     requires fits { (reach symbols.now statement.now counter).from < (reach symbols.now statement.now counter).after
         → (reach symbols.now statement.now counter).after ≤ 1024 }
-    ensures { OnOk result (items.new.items ≡ items.old.items ++ items_of symbols.now counter statement.now) }
+    ensures items { OnOk result (items.new.items ≡ items.old.items ++ items_of symbols.now counter statement.now) }
+    ensures few { OnOk result (IsFew statement.now) }
 {
     if has_words(statement) && counter.place == counter.base {
         push_head(items, counter.base as u16)?;

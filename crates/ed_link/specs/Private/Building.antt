@@ -4,7 +4,7 @@ use Rattle.ed_words.specs.declared.size.Size.{Size}
 use Rattle.ed_library.specs.Routines.{find}
 use Rattle.ed_lines.specs.declared.program.Line.{Line}
 use Rattle.ed_lines.specs.declared.program.Statement.{Statement}
-use Rattle.ed_lines.specs.declared.program.Statement.TheVariants.{Text, Fetch, Enter, Rows}
+use Rattle.ed_lines.specs.declared.program.Statement.TheVariants.{Text, Fetch, Enter}
 use Rattle.ed_lines.specs.declared.fault.SourceFault.{SourceFault}
 use Rattle.ed_notation.specs.declared.item.Item.{Item}
 use Rattle.ed_symbols.specs.declared.location_counter.LocationCounter.{LocationCounter}
@@ -18,10 +18,9 @@ use Rattle.ed_link.specs.Private.FaultTests.{IsFirstFault, LinesBefore, fault_fr
 use Rattle.ed_link.specs.Tables.{table_of, words_from}
 use Rattle.ed_link.specs.Labels.{labels}
 
--- a string has at most 120 rows, and a routine at most 128 items
+-- a string has at most 120 rows, and a routine at most 128 items, so that a line gives few items
 abbrev pub IsFew : Option Statement → Type 0
 IsFew (Some (Text codes)) = length codes.items ≤ 120
-IsFew (Some (Rows codes)) = length codes.items ≤ 120
 IsFew (Some (Fetch routine name ts)) = length (routine_items (find routine)) ≤ 128
 IsFew st = Unit {0}
 

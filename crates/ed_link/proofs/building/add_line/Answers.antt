@@ -21,12 +21,14 @@ push_line-requires c = record { place = c.requires.place; base = c.requires.base
 
 pub returns : goal.returns
 returns c =
-    let pushed = c.push_line.ensures in record {
+    let pushed = c.push_line.ensures.items in record {
       items = pushed;
       table = on_ok_weaker c.push_line.result (λ p. c.put_line.ensures) pushed;
-      after = on_ok_weaker c.push_line.result (λ p. c.in_ok-push_rows.ensures) pushed;
+      after = on_ok_weaker c.push_line.result (λ p. c.in_ok-push_rows.ensures.rows) pushed;
       entry = on_ok_weaker c.push_line.result (λ p. c.entry_after-built.ensures.is) pushed;
       entered = on_ok_weaker c.push_line.result (λ p. c.entry_after-built.ensures.some) pushed;
+      few_items = c.push_line.ensures.few;
+      few_rows = on_ok_weaker c.push_line.result (λ p. c.in_ok-push_rows.ensures.few) pushed;
       extents = on_ok_weaker c.push_line.result (λ p. ◌∙◌ {A = List Extent} c.in_ok-push.ensures.items
           (λ i. c.args.built.now.extents.items ++ c.extent_of.ensures i ∷ [])) pushed;
     }

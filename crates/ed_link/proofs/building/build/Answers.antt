@@ -15,7 +15,8 @@ loop-line-preserved c =
     let counter = c.after_statement-counter.ensures in
     step c.loop-line.invariant c.loop-line-test.true c.line-item.is (record {
       cause = sym c.in_default.ensures;
-      few = c.bound_rows.ensures;
+      few_items = added.few_items;
+      few_rows = added.few_rows;
       items_are = added.items;
       table_is = added.table;
       rows_are = added.after;

@@ -13,8 +13,8 @@ pub push_bare-requires-clause-base : goal.push_bare-requires-clause-base
 push_bare-requires-clause-base c =
     base_fits c.args.symbols.now c.args.counter c.args.statement.now c.requires.fits c.requires.base
 
-pub returns : goal.returns
-returns c =
+pub returns-clause-items : goal.returns-clause-items
+returns-clause-items c =
     let s = c.args.counter in
     let st = c.args.statement.now in
     let first = nat_eq s.place s.base in
@@ -25,7 +25,7 @@ returns c =
     (λ e. e ∙ ap (λ (xs : List Item). xs ++ items) same
     ∙ append_assoc c.args.items.now.items (heads (has_words st && first) s.base) items
     ∙ ap (λ (xs : List Item). c.args.items.now.items ++ xs) (line_items c.args.symbols.now s st))
-    c.push_bare.ensures in
+    c.push_bare.ensures.items in
     elim c.if-has_words.branch [
       | then-has_words+then-counter+in_ok-push_head w ↦ after_heads
           (ap (λ (v : Vec Item Global). v.items) w.items-is ∙ w.in_ok-push_head.ensures

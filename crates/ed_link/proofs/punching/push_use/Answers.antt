@@ -3,6 +3,7 @@ use Rattle.ed_notation.specs.declared.item.Item.{Item}
 use Rattle.ed_notation.proofs.Parts.{one_more}
 use Rattle.ed_library.specs.Entries.{entry}
 use Rattle.ed_library.specs.Routines.{find, missing_row, routine_item, table_item}
+use Rattle.ed_link.proofs.Bounds.{found_few, none_few}
 use Rattle.ed_link.proofs.Steps.{all_given, unused, used}
 use Rattle.ed_link.proofs.punching.push_use.Goals as goal
 
@@ -22,8 +23,8 @@ loop-place-preserved c =
     (subst (λ (n : ℕ). c.loop-place.place < n) c.length-length.ensures.is c.loop-place-test.true) refl refl
     (c.in_ok-push.ensures ∙ ap (λ (i : Item). done ++ i ∷ []) c.item.ensures) c.loop-place.invariant
 
-pub returns : goal.returns
-returns c =
+pub returns-clause-items : goal.returns-clause-items
+returns-clause-items c =
     used c.args.symbols.now c.args.settings.now c.args.base (find c.args.routine.now) c.in-Some.routine
     c.args.items.now.items (sym (c.in-Some.ensures ∙ ap (λ (x : List ℕ). find x) c.text.ensures.is))
     (subst (λ (n : ℕ). 0 < n) c.length-length.ensures.is c.length-length.ensures.some)
@@ -32,7 +33,17 @@ returns c =
     (subst (λ (n : ℕ). n ≤ c.loop-place.place) c.length-length.ensures.is c.loop-place-test.false) refl
     c.loop-place.invariant)
 
-pub returns-in_default : goal.returns-in_default
-returns-in_default c =
+pub returns-in_default-clause-items : goal.returns-in_default-clause-items
+returns-in_default-clause-items c =
     unused c.args.symbols.now c.args.settings.now c.args.base (find c.args.routine.now) c.args.items.now.items
     (sym (c.in_default.ensures ∙ ap (λ (x : List ℕ). find x) c.text.ensures.is)) c.in_ok-push_presets.ensures
+
+pub returns-clause-few : goal.returns-clause-few
+returns-clause-few c =
+    found_few (find c.args.routine.now) c.in-Some.routine
+    (c.in-Some.ensures ∙ ap (λ (x : List ℕ). find x) c.text.ensures.is)
+    (subst (λ (n : ℕ). n ≤ 128) c.length-length.ensures.is c.length-length.ensures.few)
+
+pub returns-in_default-clause-few : goal.returns-in_default-clause-few
+returns-in_default-clause-few c =
+    none_few (find c.args.routine.now) (sym (c.in_default.ensures ∙ ap (λ (x : List ℕ). find x) c.text.ensures.is))
