@@ -90,11 +90,10 @@ fn shown(argument: &[u8]) -> Option<SessionCommand>
 fn window(first: &[u8], last: &[u8]) -> Option<SessionCommand>
     ensures { result ≡ show_command (number_within 0 1023 first.now) (number_within 0 1023 last.now) }
 {
-    let first = number_within(first, 0, 1023)?;
-    let last = number_within(last, 0, 1023)?;
-    if first <= last {
-        Some(SessionCommand::Show(first as u16, last as u16))
-    } else {
-        None
+    match (number_within(first, 0, 1023), number_within(last, 0, 1023)) {
+        (Some(first), Some(last)) if first <= last => {
+            Some(SessionCommand::Show(first as u16, last as u16))
+        }
+        _ => None,
     }
 }
