@@ -37,7 +37,8 @@ add_line-requires-clause-fits c =
 
 pub add_line-requires-clause-first : goal.add_line-requires-clause-first
 add_line-requires-clause-first c =
-    let past : LinesBefore = record { extents = c.loop-line.built.extents.items; entered = is_some c.loop-line.built.entry } in
+    let past : LinesBefore =
+    record { extents = c.loop-line.built.extents.items; entered = is_some c.loop-line.built.entry } in
     first_enter c.loop-line.built.entry c.args.has_enter c.line-item.result
     (faultless c.args.size c.args.symbols.now c.args.has_enter past c.line-item.result c.loop-line.counter
     (sym c.in_default.ensures)).misplaced

@@ -30,7 +30,8 @@ returns-then-has_enter-clause-linked c =
     let enters = c.any_enter-has_enter.ensures ∙ ap (λ (x : List Line). any_enter x) c.deref.ensures.value in
     let lines = c.args.program.now.lines.items in
     let built = c.in-Ok.built in
-    let is_built = subst (λ (x : List Line). IsBuilt c.args.size c.args.symbols.now c.any_enter-has_enter.result x built)
+    let is_built =
+    subst (λ (x : List Line). IsBuilt c.args.size c.args.symbols.now c.any_enter-has_enter.result x built)
     c.deref-2.ensures.value c.in-Ok.ensures in
     IfOk-weaker c.finish.result (λ k. IsFinished c.args.symbols.now built k) (λ k. IsLinked c.args.size lines k)
     (λ k. finished _ c.catalogue_size-ready.ensures.ready c.args.program.now.numbered c.args.program.now.formed
