@@ -111,11 +111,6 @@ module _ (z : Size) (setting : DirectiveState) (part : PartialItem) where
   letter Nowhere word is = tt
   letter Unset word is = tt
 
--- what a code letter does
-pub letter_in_range : (z : Size) (setting : DirectiveState) (part : PartialItem) (word : ℕ)
-    → IsEffectInRange setting (letter_effect z (letter_action_of setting.directive) setting word)
-letter_in_range z setting part word = letter z setting part (letter_action_of setting.directive) word refl
-
 -- what a row of some kind does
 pub in_range : (z : Size) (kind : RowKind) (words : List ℕ) (setting : DirectiveState) (part : PartialItem) (c : ℕ)
     → part.number ≤ 32767 → IsEffectInRange setting (row_effect z kind words setting part c)
