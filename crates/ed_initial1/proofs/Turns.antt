@@ -1,13 +1,13 @@
 -- One more order at the end of a load's orders.
-use Rattle.std.proofs.Common.{◌≡◌, ℕ, ◌+◌, ◌≤◌, ◌⊎◌, inl, inr, ap, subst, add-one, below_more, true, false}
+use Rattle.std.proofs.Common.{◌≡◌, ◌≢◌, ℕ, ◌+◌, ◌≤◌, ◌⊎◌, inl, inr, refl, ap, subst, add-one, below_more, true, false}
 use Rattle.ed_machine.specs.State.{State}
 use Rattle.ed_machine.specs.OrderTable.{step}
 use Rattle.ed_machine.specs.Steps.{state_after, is_obeyed}
 use Rattle.ed_codes.specs.declared.code.Code.{Code}
 use Rattle.ed_machine.specs.declared.turn.Turn.{Turn}
-use Rattle.ed_machine.specs.declared.turn.Turn.TheVariants.{Went, Printed, Stopped}
+use Rattle.ed_machine.specs.declared.turn.Turn.TheVariants.{Went, Printed, Stopped, NoOrder, NoTape}
 use Rattle.ed_initial.specs.Load.{is_quiet_turn}
-use Rattle.ed_initial1.specs.Load.{at_31, GoesOn1, IsQuiet1, IsLost1, sounded}
+use Rattle.ed_initial1.specs.Load.{at_31, GoesOn1, IsEntered1, IsQuiet1, IsLost1, sounded}
 
 -- it goes on
 pub more_quiet : (k : ℕ) (s : State) {t u : State} → IsQuiet1 k s → t ≡ state_after k s → u ≡ (step t).state
@@ -15,6 +15,18 @@ pub more_quiet : (k : ℕ) (s : State) {t u : State} → IsQuiet1 k s → t ≡ 
 more_quiet k s quiet e is went stays =
     below_more (λ j. GoesOn1 (state_after j s)) k quiet
     (subst GoesOn1 e (record { went = went; stays = subst (λ (x : State). at_31 x ≡ false) is stays }))
+
+-- it reaches 31
+pub entered_now : (k : ℕ) {bound : ℕ} {s t u : State} → k + 1 ≤ bound → IsQuiet1 k s → t ≡ state_after k s
+    → u ≡ (step t).state → is_obeyed (step t).turn ≡ true → at_31 u ≡ true → IsEntered1 s bound (k + 1)
+entered_now k most quiet e is obeyed enters = record {
+  before = k;
+  count = add-one k;
+  most = most;
+  quiet = quiet;
+  obeyed = subst (λ (x : State). is_obeyed (step x).turn ≡ true) e obeyed;
+  enters = subst (λ (x : State). at_31 (step x).state ≡ true) e (subst (λ (x : State). at_31 x ≡ true) is enters);
+}
 
 -- it prints or stops, and does not reach 31
 pub sounded_now : (k : ℕ) {bound : ℕ} {s t u : State} → k + 1 ≤ bound → IsQuiet1 k s → t ≡ state_after k s
@@ -30,3 +42,20 @@ pub sounds : (turn : Turn) → ((code : Code) × (turn ≡ Printed code)) ⊎ (t
     → (is_obeyed turn ≡ true) × (is_quiet_turn turn ≡ false)
 sounds turn (inl h) = (ap is_obeyed h.1, ap is_quiet_turn h.1)
 sounds turn (inr h) = (ap is_obeyed h, ap is_quiet_turn h)
+
+-- an order that can be obeyed is obeyed
+pub obeys : (turn : Turn) → ((n : ℕ) → turn ≢ NoOrder n) → turn ≢ NoTape → is_obeyed turn ≡ true
+obeys Went order tape = refl
+obeys (Printed code) order tape = refl
+obeys Stopped order tape = refl
+obeys (NoOrder n) order tape = absurd (order n refl)
+obeys NoTape order tape = absurd (tape refl)
+
+-- and one that neither prints nor stops goes on
+pub goes : (turn : Turn) → ((n : ℕ) → turn ≢ NoOrder n) → turn ≢ NoTape → ((code : Code) → turn ≢ Printed code)
+    → turn ≢ Stopped → turn ≡ Went
+goes Went order tape printed stopped = refl
+goes (Printed code) order tape printed stopped = absurd (printed code refl)
+goes Stopped order tape printed stopped = absurd (stopped refl)
+goes (NoOrder n) order tape printed stopped = absurd (order n refl)
+goes NoTape order tape printed stopped = absurd (tape refl)
