@@ -1,11 +1,9 @@
 -- One more order at the end of a load's orders.
-use Rattle.std.proofs.Common.{◌≡◌, ◌≢◌, ℕ, ◌+◌, ◌≤◌, ◌⊎◌, inl, inr, refl, ap, subst, add-one, below_more, true, false}
+use Rattle.std.proofs.Common.{◌≡◌, ℕ, ◌+◌, ◌≤◌, subst, add-one, below_more, true, false}
 use Rattle.ed_machine.specs.State.{State}
 use Rattle.ed_machine.specs.OrderTable.{step}
 use Rattle.ed_machine.specs.Steps.{state_after, is_obeyed}
-use Rattle.ed_codes.specs.declared.code.Code.{Code}
-use Rattle.ed_machine.specs.declared.turn.Turn.{Turn}
-use Rattle.ed_machine.specs.declared.turn.Turn.TheVariants.{Went, Printed, Stopped, NoOrder, NoTape}
+use Rattle.ed_machine.specs.declared.turn.Turn.TheVariants.{Went}
 use Rattle.ed_initial.specs.Load.{is_quiet_turn}
 use Rattle.ed_initial1.specs.Load.{at_31, GoesOn1, IsEntered1, IsQuiet1, IsLost1, sounded}
 
@@ -36,26 +34,3 @@ sounded_now k most quiet e is obeyed h stays =
     sounded k (add-one k) most quiet (subst (λ (x : State). is_obeyed (step x).turn ≡ true) e obeyed)
     (subst (λ (x : State). is_quiet_turn (step x).turn ≡ false) e h)
     (subst (λ (x : State). at_31 (step x).state ≡ false) e (subst (λ (x : State). at_31 x ≡ false) is stays))
-
--- an order that prints or stops is obeyed, and does not merely go on
-pub sounds : (turn : Turn) → ((code : Code) × (turn ≡ Printed code)) ⊎ (turn ≡ Stopped)
-    → (is_obeyed turn ≡ true) × (is_quiet_turn turn ≡ false)
-sounds turn (inl h) = (ap is_obeyed h.1, ap is_quiet_turn h.1)
-sounds turn (inr h) = (ap is_obeyed h, ap is_quiet_turn h)
-
--- an order that can be obeyed is obeyed
-pub obeys : (turn : Turn) → ((n : ℕ) → turn ≢ NoOrder n) → turn ≢ NoTape → is_obeyed turn ≡ true
-obeys Went order tape = refl
-obeys (Printed code) order tape = refl
-obeys Stopped order tape = refl
-obeys (NoOrder n) order tape = absurd (order n refl)
-obeys NoTape order tape = absurd (tape refl)
-
--- and one that neither prints nor stops goes on
-pub goes : (turn : Turn) → ((n : ℕ) → turn ≢ NoOrder n) → turn ≢ NoTape → ((code : Code) → turn ≢ Printed code)
-    → turn ≢ Stopped → turn ≡ Went
-goes Went order tape printed stopped = refl
-goes (Printed code) order tape printed stopped = absurd (printed code refl)
-goes Stopped order tape printed stopped = absurd (stopped refl)
-goes (NoOrder n) order tape printed stopped = absurd (order n refl)
-goes NoTape order tape printed stopped = absurd (tape refl)

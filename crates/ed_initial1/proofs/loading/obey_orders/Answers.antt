@@ -4,8 +4,8 @@ use Rattle.ed_machine.specs.Steps.{is_obeyed}
 use Rattle.ed_machine.specs.declared.turn.Turn.TheVariants.{Went}
 use Rattle.ed_initial.specs.Load.{is_quiet_turn}
 use Rattle.ed_machine.proofs.Steps.{next_state}
-use Rattle.ed_initial.proofs.Runs.{no_orders}
-use Rattle.ed_initial1.proofs.Turns.{more_quiet, entered_now, sounded_now, sounds, obeys, goes}
+use Rattle.ed_initial.proofs.Runs.{no_orders, sounds, obeys, goes}
+use Rattle.ed_initial1.proofs.Turns.{more_quiet, entered_now, sounded_now}
 use Rattle.ed_initial1.proofs.loading.obey_orders.Goals as goal
 
 pub loop-orders-init : goal.loop-orders-init
@@ -28,7 +28,7 @@ returns-in-Printed-clause-state c = next_state _ _ c.loop-orders.invariant.state
 pub loop-orders-preserved : goal.loop-orders-preserved
 loop-orders-preserved c =
     let l = c.loop-orders.invariant in
-    let went : (step c.loop-orders.machine).turn ≡ Went = 
+    let went : (step c.loop-orders.machine).turn ≡ Went =
     sym c.step-turn.ensures.turn
     ∙ goes c.step-turn.result c.in_default.not-NoOrder c.in_default.not-NoTape c.in_default-turn.not-Printed
     c.in_default-turn.not-Stopped in
