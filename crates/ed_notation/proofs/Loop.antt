@@ -17,9 +17,9 @@ use Rattle.ed_notation.specs.Openings.{IsDirective, opening_with}
 use Rattle.ed_notation.specs.Fold.{NotationState, over}
 use Rattle.ed_notation.specs.Faults.{IsFault}
 use Rattle.ed_notation.specs.Reading.{row_effect, setting_of, set_by, placed_by, entry_by}
-use Rattle.ed_notation.specs.Reading.{reading_on, part_of, IsPartial, IsEffectInRange}
+use Rattle.ed_notation.specs.Reading.{reading_on, part_of, IsPartial}
 use Rattle.ed_notation.specs.Checks.{marks_of, ArePlaces, Arrives}
-use Rattle.ed_notation.proofs.Effects.{in_range}
+use Rattle.ed_notation.proofs.Effects.{IsEffectInRange, in_range}
 use Rattle.ed_notation.proofs.Follow.{Reader, reads, follow, function_begins}
 use Rattle.ed_notation.proofs.Laws.{faulty_is, arrived_well, arrived_comes}
 
