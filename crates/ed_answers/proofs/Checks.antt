@@ -2,6 +2,7 @@
 use Rattle.std.proofs.Common.{ap, ◌≡◌, ◌≢◌, ◌⊎◌, inl, inr, ◌∙◌, ℕ, List, refl, sym, subst, arith}
 use Rattle.std.specs.Prelude.{Result, Ok, Err, IfOk}
 use Rattle.ed_words.specs.declared.memory.NoMemory.{NoMemory}
+use Rattle.ed_words.specs.declared.size.Size.{Size}
 use Rattle.ed_store.specs.Cells.{Cells, cleared_cells}
 use Rattle.ed_notation.specs.Openings.{opening, IsDirective}
 use Rattle.ed_notation.specs.Reports.{Report}
@@ -63,17 +64,21 @@ checked_once s codes o other (inr a) (inr b) =
 pub checked_one : (s : Settings) → HasOne (IsChecked s)
 checked_one s = record { some = has_checked s; once = checked_once s }
 
+-- the check from a store that is cleared
+pub from_cleared : (z : Size) (codes : List ℕ) {store : Cells} (result : Result Report TapeFault) → store ≡ cleared_cells
+    → checks.AnswersCheck z store.words (opening store.words) 9 codes result
+    → checks.AnswersCheck z cleared_cells.words first_note 9 codes result
+from_cleared z codes result is =
+    subst (λ (c : Cells). checks.AnswersCheck z c.words (opening c.words) 9 codes result) is
+
 -- the reply to a well-formed tape
-pub entry_found : (s : Settings) {codes : List ℕ} {store : Cells} {r : Report} {at orders count : ℕ}
-    (given : Result Reply NoMemory)
-    → store ≡ cleared_cells → checks.Accepts s.size store.words (opening store.words) 9 codes r
+pub entry_found : (s : Settings) {codes : List ℕ} {r : Report} {at orders count : ℕ} (given : Result Reply NoMemory)
+    → checks.Accepts s.size cleared_cells.words first_note 9 codes r
     → at ≡ r.entry → orders ≡ r.orders → count ≡ r.rows
     → IfOk given (λ reply. Gives reply (done (entry_line at orders count)))
     → IfOk given (λ reply. (o : Outcome) × IsChecked s codes o × Gives reply o)
-entry_found s (Err e) is accepts a o n gives = tt
-entry_found s {codes} {r = r} {at = at} {orders} {count} (Ok reply) is accepts a o n gives =
-    let f : checks.Accepts s.size cleared_cells.words (opening cleared_cells.words) 9 codes r =
-    subst (λ (c : Cells). checks.Accepts s.size c.words (opening c.words) 9 codes r) is accepts in
+entry_found s (Err e) f a o n gives = tt
+entry_found s {at = at} {orders} {count} (Ok reply) f a o n gives =
     let told : done (entry_line f.entry.at f.entry.cost f.entry.rows) ≡ done (entry_line at orders count) =
     λ i. done (entry_line (sym (a ∙ f.entry_is) i) (sym (o ∙ f.orders_are) i) (sym (n ∙ f.rows_are) i)) in (
       done (entry_line at orders count),
@@ -82,12 +87,10 @@ entry_found s {codes} {r = r} {at = at} {orders} {count} (Ok reply) is accepts a
     )
 
 -- the reply to a tape with a fault
-pub fault_found : (s : Settings) (codes : List ℕ) {store : Cells} (fault : TapeFault) {line : Text} (reply : Reply)
-    → store ≡ cleared_cells → checks.AnswersCheck s.size store.words (opening store.words) 9 codes (Err fault)
+pub fault_found : (s : Settings) (codes : List ℕ) (fault : TapeFault) {line : Text} (reply : Reply)
+    → checks.AnswersCheck s.size cleared_cells.words first_note 9 codes (Err fault)
     → fault ≢ Memory → line ≡ tape_fault_line fault → Gives reply (refusal line)
     → (o : Outcome) × IsChecked s codes o × Gives reply o
-fault_found s codes Memory reply is answers other told gives = absurd (other refl)
-fault_found s codes (At row cause) reply is answers other told gives =
-    let f : IsFault s.size cleared_cells.words (opening cleared_cells.words) codes row cause =
-    subst (λ (c : Cells). IsFault s.size c.words (opening c.words) codes row cause) is answers in
+fault_found s codes Memory reply answers other told gives = absurd (other refl)
+fault_found s codes (At row cause) reply f other told gives =
     (refusal _, inr (record { row = row; cause = cause; fault = f; outcome = ap refusal (sym told) }), gives)

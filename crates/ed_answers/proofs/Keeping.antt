@@ -1,11 +1,16 @@
--- What a run keeps: the size of a machine, and a bound on the count of its orders.
-use Rattle.std.proofs.Common.{◌≡◌, ◌∙◌, ℕ, ◌+◌, ◌≤◌, ap, arith, List}
+-- What a run keeps: the size of a machine, and a bound on the count of its orders. So a post-mortem can be printed.
+use Rattle.std.proofs.Common.{◌≡◌, ◌∙◌, ℕ, ◌+◌, ◌≤◌, ap, arith, sym, subst, List, Option, Some, None}
+use Rattle.std.specs.Prelude.{IfSome}
 use Rattle.ed_words.specs.declared.size.Size.{Size}
 use Rattle.ed_machine.specs.State.{State}
 use Rattle.ed_machine.proofs.Keeping.{Follows, steps_follow}
 use Rattle.ed_machine.proofs.LeastNumbers.{least_below}
 use Rattle.ed_run.specs.Run.{run_end, run_orders}
+use Rattle.ed_command.specs.Ranges.{AreSettingsInRange, IsWindowOf}
+use Rattle.ed_command.specs.declared.command.Settings.{Settings}
+use Rattle.ed_command.specs.declared.command.Window.{Window}
 use Rattle.ed_answers.specs.EntryState.{first_state}
+use Rattle.ed_answers.specs.Replies.{IsPrintableIn}
 
 pub run_follows : (limit resumes room : ℕ) (s : State) → Follows limit s (run_end limit resumes room s).state
 unfolding run_end
@@ -31,3 +36,15 @@ ran_orders limit resumes room s last e =
     let f = run_follows limit resumes room s in
     let same = ap (λ (t : State). t.orders) e in
     omega (arith, f.soon, same)
+
+-- the words in the window of settings can be printed from a state
+printable_in : (m : State) (z : Size) (window : Option Window) → m.size ≡ z → m.orders ≤ 100000000
+    → IfSome window (IsWindowOf z) → IfSome window (IsPrintableIn m)
+printable_in m z None size orders is = tt
+printable_in m z (Some w) size orders is =
+    (subst (λ (y : Size). IsWindowOf y w) (sym size) is, omega (arith, orders))
+
+pub printable : (s : Settings) (m : State) → AreSettingsInRange s → m.size ≡ s.size → m.orders ≤ s.limit
+    → IfSome s.post_mortem (IsPrintableIn m)
+printable s m ranges size orders =
+    printable_in m s.size s.post_mortem size (omega (arith, orders, ranges.limit.1)) ranges.window

@@ -1,6 +1,6 @@
 -- From what is made of a source to the outcome of an input.
 use Rattle.std.proofs.Common.{◌≡◌, inl, inr, ◌∙◌, ℕ, Bool, refl, sym, ap, subst}
-use Rattle.std.proofs.Common.{Option, List, ◌++◌, map}
+use Rattle.std.proofs.Common.{Option, None, List, [], ◌++◌, append-nil, map}
 use Rattle.std.specs.Prelude.{Result, Ok, Err, IfErr, IfOk, IsErr, IsErrAnd, MatchResult}
 use Rattle.std.proofs.lemmas.Result.{err_from_is_err_and}
 use Rattle.ed_words.specs.declared.size.Size.{Size}
@@ -20,7 +20,7 @@ use Rattle.ed_answers.specs.Refusals.{IsAcceptedAs, IsAcceptedOrRefused, IsRefus
 use Rattle.ed_answers.proofs.EachSource.{one_answer}
 use Rattle.ed_link.specs.Linked.{linked_words}
 use Rattle.ed_link.specs.Tables.{table_of, words_from}
-use Rattle.ed_link.specs.Tapes.{after_text}
+use Rattle.ed_link.specs.Tapes.{after_text, tape}
 use Rattle.ed_link.specs.declared.linked.Linked.{Linked}
 use Rattle.ed_link.specs.declared.linked.Placed.{Placed}
 use Rattle.ed_answers.specs.EntryState.{entry_state, entry_store}
@@ -28,16 +28,18 @@ use Rattle.ed_answers.proofs.Entries.{each_source}
 use Rattle.ed_answers.proofs.EntryWords.{each_entry_has_words}
 use Rattle.ed_report.specs.Listings.{listing}
 use Rattle.ed_report.specs.Notes.{ending_line, source_fault_line}
+use Rattle.ed_command.specs.declared.command.Settings.{Settings}
 use Rattle.ed_command.specs.declared.command.Window.{Window}
 use Rattle.ed_words.specs.Texts.{Text}
 use Rattle.ed_answers.specs.Outcome.{Outcome, done, refusal}
-use Rattle.ed_answers.specs.Runs.{post_mortem_codes, ran_outcome, status_of, with_post_mortem}
-use Rattle.ed_answers.specs.Sources.{OfSource, listing_outcome, of_source, punch_outcome}
+use Rattle.ed_answers.specs.Runs.{post_mortem_codes, ran_outcome, run_of, status_of, with_post_mortem}
+use Rattle.ed_answers.specs.Sources.{OfSource, entered_before, listing_outcome, of_source, punch_outcome, run_outcome}
 use Rattle.ed_answers.specs.Headline.{Headline}
-use Rattle.ed_answers.specs.Replies.{Refuses, Gives, LinksSource, Replies}
+use Rattle.ed_answers.specs.Replies.{Refuses, Gives, LinksSource, Replies, RunsSource}
 use Rattle.ed_answers.specs.declared.reply.Rejection.{Rejection}
 use Rattle.ed_answers.specs.declared.reply.Rejection.TheVariants as rejection
 use Rattle.ed_answers.specs.declared.reply.Reply.{Reply}
+use Rattle.ed_answers.specs.declared.source.NotedRun.{NotedRun}
 use Rattle.ed_answers.proofs.FromEntry.{runs_from_entry}
 
 -- ---- what is made of a source
@@ -178,6 +180,44 @@ ran_gives window before {note} r {ending} {state} {codes} {reply} e s c n gives 
     (ran_outcome before (with_post_mortem window r)) =
     λ i. record { out = paper (c i ++ post_mortem_codes window (s i)); note = line i; status = status_of (e i) } in
     subst (Gives reply) same gives
+
+-- without a post-mortem
+pub ran_gives_alone : (r : RunEnd) {ending : Ending} {state : State} {codes : List ℕ} {reply : Reply}
+    → ending ≡ r.ending → state ≡ r.state → codes ≡ r.codes
+    → Gives reply (record {
+      out = paper (codes ++ []);
+      note = ending_line ending state;
+      status = status_of ending;
+    })
+    → Gives reply (ran_outcome [] r)
+ran_gives_alone r {reply = reply} e s c gives =
+    subst (λ (codes : List ℕ). Gives reply (ran_outcome [] (record r { codes = codes }))) (append-nil r.codes)
+    (ran_gives None [] r e s c refl gives)
+
+-- of a source that is accepted
+pub run_replied : (s : Settings) (input : Text) (noted : NotedRun) (reply : Reply) → RunsSource s input (Ok noted)
+    → Gives reply (record {
+      out = paper (noted.ran.paper.codes ++ post_mortem_codes s.post_mortem noted.ran.machine);
+      note = noted.note.items;
+      status = status_of noted.ran.ending;
+    })
+    → Replies (of_source s.size (run_outcome s)) input (Ok reply)
+run_replied s input noted reply (lines, accepted, is) gives =
+    let r = run_of s (tape lines) in
+    let note : noted.note.items ≡ entered_before lines r.state ++ ending_line noted.ran.ending noted.ran.machine =
+    is.note_is
+    ∙ ap (λ (m : State). entered_before lines m ++ ending_line noted.ran.ending noted.ran.machine) is.ran.state_is in (
+      run_outcome s lines,
+      accepted_is s.size (run_outcome s) input lines accepted,
+      ran_gives s.post_mortem (entered_before lines r.state) r is.ran.ending_is is.ran.state_is is.ran.codes_are note gives,
+    )
+
+-- of one that is refused, if that is passed on by `?`
+pub source_not_run : (s : Settings) (text : Text) (e : Rejection) (r : Result NotedRun Rejection)
+    → LinksSource s.size text (Err e) → IsErr r × IsErrAnd r (λ handed. handed ≡ e) → RunsSource s text r
+source_not_run s text e (Ok noted) l is = absurd (cc)
+source_not_run s text e (Err handed) l is =
+    subst (λ (x : Rejection). LinksSource s.size text (Err x)) (sym is.1) l
 
 -- ---- the tape and the listing
 

@@ -1,8 +1,9 @@
 -- How a reply relates to the outcome that is due, and what can prevent one: a text that is refused.
-use Rattle.std.specs.Prelude.{◌≡◌, ℕ, ◌<◌, ◌++◌, List, Result, Ok, Err}
+use Rattle.std.specs.Prelude.{◌≡◌, ℕ, ◌<◌, ◌≤◌, ◌+◌, ◌^◌, ◌++◌, List, Result, Ok, Err}
 use Rattle.ed_codes.specs.Reading.{Reading, rows, no_row, open_comment}
 use Rattle.ed_codes.specs.declared.tape.TextFault.TheVariants.{NoRow, OpenComment}
 use Rattle.ed_words.specs.declared.size.Size.{Size}
+use Rattle.ed_machine.specs.State.{State}
 use Rattle.ed_run.specs.Run.{RunEnd}
 use Rattle.ed_syntax.specs.declared.program.Line.{Line}
 use Rattle.ed_syntax.specs.declared.fault.SourceCause.{SourceCause}
@@ -11,7 +12,9 @@ use Rattle.ed_answers.specs.Refusals.{IsAcceptedAs, IsRefused}
 use Rattle.ed_link.specs.Answers.{IsLinked}
 use Rattle.ed_link.specs.declared.linked.Linked.{Linked}
 use Rattle.ed_link.specs.Tapes.{tape}
+use Rattle.ed_command.specs.Ranges.{IsWindowOf}
 use Rattle.ed_command.specs.declared.command.Settings.{Settings}
+use Rattle.ed_command.specs.declared.command.Window.{Window}
 use Rattle.ed_report.specs.Notes.{ending_line, source_fault_line, text_fault_line}
 use Rattle.ed_words.specs.Texts.{Text}
 use Rattle.ed_answers.specs.Outcome.{Outcome, refusal}
@@ -62,6 +65,10 @@ pub record IsRan (r : RunEnd) (ran : FinishedRun) : Type 0 where
   pub state_is : ran.machine ≡ r.state
   pub codes_are : ran.paper.codes ≡ r.codes
 
+-- the words in a window can be printed from a state: they are within the store, and the count of orders has room
+abbrev pub IsPrintableIn : State → Window → Type 0
+IsPrintableIn s w = IsWindowOf s.size w × (s.orders + 300000 ≤ 2 ^ 63)
+
 -- a run of a source that ended is that of its tape, with its note
 pub record IsRanOf (s : Settings) (lines : List Line) (noted : NotedRun) : Type 0 where
   pub ran : IsRan (run_of s (tape lines)) noted.ran
@@ -74,3 +81,8 @@ LinksSource z text (Ok k) = (lines : List Line) × IsAcceptedAs z text lines × 
 LinksSource z text (Err (Refused reply)) =
     (k : ℕ) × (c : SourceCause) × IsRefused z text k c × Gives reply (refusal (source_fault_line (At k c)))
 LinksSource z text (Err Memory) = Unit {0}
+
+-- the run of a source that is accepted, or the reply that refuses the source
+abbrev pub RunsSource : Settings → Text → Result NotedRun Rejection → Type 0
+RunsSource s text (Ok noted) = (lines : List Line) × IsAcceptedAs s.size text lines × IsRanOf s lines noted
+RunsSource s text (Err e) = LinksSource s.size text (Err e)

@@ -2,16 +2,18 @@ ghost use Rattle.std.specs.Prelude.{◌≡◌, ◌≤◌, ◌^◌, IfOk, length}
 ghost use Rattle.ed_answers.specs.Replies.{Gives, Replies};
 ghost use Rattle.ed_answers.specs.Outcome.{Outcome, done};
 ghost use Rattle.ed_report.specs.Entries.{entry_line};
-ghost use Rattle.ed_answers.specs.Tapes.{IsChecked, check_tape_answer};
+ghost use Rattle.ed_answers.specs.Tapes.{IsChecked, check_tape_answer, first_note};
+ghost use Rattle.ed_notation.specs.Checks.{AnswersCheck};
+ghost use Rattle.ed_store.specs.Cells.{cleared_cells};
 
 use crate::reply::{Rejection, Reply};
 use crate::rows::rows_of;
 use ed_codes::Code;
 use ed_command::Settings;
-use ed_notation::{TapeFault, check};
+use ed_notation::{Checked, TapeFault, check};
 use ed_report::{entry_text, tape_fault};
 use ed_store::Store;
-use ed_words::NoMemory;
+use ed_words::{NoMemory, Size};
 use std::alloc::Global;
 
 /// `check-tape`: the entry that a text's rows reach from a cleared store, or their fault.
@@ -27,12 +29,19 @@ fn check_rows(alloc: Global, settings: Settings, rows: &[Code]) -> Result<Reply,
     requires { length rows.now ≤ 2 ^ 32 }
     ensures { IfOk result (λ reply. (o : Outcome) × IsChecked settings rows.now o × Gives reply o) }
 {
-    let store = Store::cleared(alloc)?;
-    match check(alloc, settings.size, &store, rows) {
+    match check_from_cleared(alloc, settings.size, rows) {
         Ok(checked) => entry_reply(alloc, checked.entry(), checked.orders(), checked.rows()),
         Err(TapeFault::Memory) => Err(NoMemory),
         Err(fault) => Ok(Reply::refusal(alloc, tape_fault(alloc, &fault)?)),
     }
+}
+
+/// Whether a whole tape is well formed from a cleared store: its entry and words, or its fault.
+pub fn check_from_cleared(alloc: Global, size: Size, rows: &[Code]) -> Result<Checked, TapeFault>
+    requires { length rows.now ≤ 2 ^ 32 }
+    ensures { AnswersCheck size cleared_cells.words first_note 9 rows.now result }
+{
+    check(alloc, size, &Store::cleared(alloc)?, rows)
 }
 
 /// The reply to a well-formed tape.

@@ -1,18 +1,18 @@
 ghost use Rattle.std.specs.Prelude.{◌≡◌, ◌≤◌, ◌^◌, IfOk, length};
 ghost use Rattle.ed_answers.specs.FirstOrders.{IsChecked1, check_tape1_answer, first_state1, tape1_answer};
-ghost use Rattle.ed_answers.specs.FirstOrders.{run1_of, tape1_outcome};
+ghost use Rattle.ed_answers.specs.FirstOrders.{run1_of};
 ghost use Rattle.ed_answers.specs.Outcome.{Outcome};
 ghost use Rattle.ed_answers.specs.Replies.{Gives, IsRan, Replies};
 
 use crate::check::entry_reply;
 use crate::reply::{Rejection, Reply};
 use crate::rows::rows_of;
-use crate::running::{FinishedRun, ran_reply, run_machine};
+use crate::running::{FinishedRun, ended_reply, run_machine};
 use ed_codes::Code;
 use ed_command::Settings;
 use ed_initial1::{Tape1Fault, check1, orders1};
 use ed_machine::Machine;
-use ed_report::{ending_text, tape1_fault};
+use ed_report::tape1_fault;
 use ed_words::{NoMemory, Size};
 use std::alloc::Global;
 
@@ -23,17 +23,8 @@ const ENTRY: u16 = 31;
 pub fn tape1(alloc: Global, settings: Settings, input: &[u8]) -> Result<Reply, Rejection>
     ensures { Replies (tape1_answer settings) input.now result }
 {
-    let rows = rows_of(alloc, input)?;
-    Ok(run_tape1(alloc, settings, rows)?)
-}
-
-/// The reply to rows.
-fn run_tape1(alloc: Global, settings: Settings, rows: Vec<Code>) -> Result<Reply, NoMemory>
-    ensures { IfOk result (λ reply. Gives reply (tape1_outcome settings rows.items)) }
-{
-    let ran = run_rows1(alloc, settings, rows)?;
-    let note = ending_text(alloc, ran.ending, &ran.machine)?;
-    ran_reply(alloc, &ran, note)
+    let ran = run_rows1(alloc, settings, rows_of(alloc, input)?)?;
+    Ok(ended_reply(alloc, None, ran)?)
 }
 
 /// Runs a cleared machine of full size, started on rows with Initial Orders 1. This is a function of its own for the

@@ -19,12 +19,12 @@ mod running;
 mod source;
 mod tapes;
 
-pub use check::check_tape;
+pub use check::{check_from_cleared, check_tape};
 pub use entering::{enter, started};
 pub use first_orders::{check_tape1, run_rows1, tape1};
 pub use input::{INPUT_BYTES, TOO_LONG};
 pub use reply::{Rejection, Reply};
 pub use rows::rows_of;
 pub use running::{FinishedRun, ran_reply, run_rows, status_of, window_printed};
-pub use source::{NotedRun, linked_of, list, list_linked, punch, run, run_linked};
+pub use source::{NotedRun, linked_of, list, list_linked, punch, run, run_linked, run_source};
 pub use tapes::tape;

@@ -2,8 +2,9 @@ ghost use Rattle.std.specs.Prelude.{◌≡◌, ◌<◌, ◌≤◌, ◌+◌, ◌-
 ghost use Rattle.ed_run.specs.Run.{run_end};
 ghost use Rattle.ed_printer.specs.Paper.{paper};
 ghost use Rattle.ed_postmortem.specs.Codes.{printed_codes};
-ghost use Rattle.ed_command.specs.Ranges.{AreSettingsInRange, IsWindowOf};
-ghost use Rattle.ed_answers.specs.Replies.{Gives, IsRan};
+ghost use Rattle.ed_report.specs.Notes.{ending_line};
+ghost use Rattle.ed_command.specs.Ranges.{IsWindowOf};
+ghost use Rattle.ed_answers.specs.Replies.{Gives, IsPrintableIn, IsRan};
 ghost use Rattle.ed_answers.specs.Runs.{paper_room, post_mortem_codes, run_of, status_of};
 
 use crate::entering::started;
@@ -12,7 +13,7 @@ use ed_codes::Code;
 use ed_command::{Settings, Window};
 use ed_machine::{Ending, Machine, Paper};
 use ed_postmortem::{PmFault, post_mortem};
-use ed_report::{paper_text, papers_text};
+use ed_report::{ending_text, paper_text, papers_text};
 use ed_run::run;
 use ed_words::NoMemory;
 use std::alloc::Global;
@@ -81,24 +82,39 @@ pub fn ran_reply(alloc: Global, ran: &FinishedRun, note: Vec<u8>) -> Result<Repl
     })
 }
 
-/// The reply of a run, with the post-mortem that is requested after it, printed in the shift that the run leaves. Its
-/// orders don't count against the limit.
+/// The reply of a run, with the line of its ending, and with the post-mortem of a window.
+pub fn ended_reply(
+    alloc: Global,
+    window: Option<Window>,
+    mut ran: FinishedRun,
+) -> Result<Reply, NoMemory>
+    requires { IfSome window (IsPrintableIn ran.machine) }
+    ensures { IfOk result (λ reply. Gives reply (record {
+      out = paper (ran.paper.codes ++ post_mortem_codes window ran.machine);
+      note = ending_line ran.ending ran.machine;
+      status = status_of ran.ending;
+    })) }
+{
+    let note = ending_text(alloc, ran.ending, &ran.machine)?;
+    post_mortem_reply(alloc, window, &mut ran, note)
+}
+
+/// The reply of a run, with the post-mortem of a window after it, printed in the shift that the run leaves. Its orders
+/// don't count against the limit.
 pub fn post_mortem_reply(
     alloc: Global,
-    settings: Settings,
+    window: Option<Window>,
     ran: &mut FinishedRun,
     note: Vec<u8>,
 ) -> Result<Reply, NoMemory>
-    requires ranges { AreSettingsInRange settings }
-    requires size { ran.old.machine.size ≡ settings.size }
-    requires orders { ran.old.machine.orders ≤ settings.limit }
+    requires { IfSome window (IsPrintableIn ran.old.machine) }
     ensures { IfOk result (λ reply. Gives reply (record {
-      out = paper (ran.old.paper.codes ++ post_mortem_codes settings.post_mortem ran.old.machine);
+      out = paper (ran.old.paper.codes ++ post_mortem_codes window ran.old.machine);
       note = note.items;
       status = status_of ran.old.ending;
     })) }
 {
-    let after = match settings.post_mortem {
+    let after = match window {
         Some(window) => window_printed(alloc, window, &mut ran.machine)?,
         None => Paper::new(alloc, 0)?,
     };

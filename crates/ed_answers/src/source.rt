@@ -10,10 +10,10 @@ ghost use Rattle.ed_report.specs.Listings.{listing};
 ghost use Rattle.ed_report.specs.Notes.{ending_line, entry_note};
 ghost use Rattle.ed_command.specs.Ranges.{AreSettingsInRange};
 ghost use Rattle.ed_answers.specs.Outcome.{done};
-ghost use Rattle.ed_answers.specs.Replies.{Gives, IsRan, IsRanOf, LinksSource, Replies};
+ghost use Rattle.ed_answers.specs.Replies.{Gives, IsRan, IsRanOf, LinksSource, Replies, RunsSource};
 ghost use Rattle.ed_answers.specs.Runs.{run_of};
 ghost use Rattle.ed_answers.specs.Sources.{listing_answer, listing_outcome, punch_answer};
-ghost use Rattle.ed_answers.specs.Sources.{run_answer, run_outcome};
+ghost use Rattle.ed_answers.specs.Sources.{run_answer};
 
 use crate::entering::enter;
 use crate::reply::{Rejection, Reply};
@@ -38,8 +38,8 @@ pub fn run(alloc: Global, settings: Settings, input: &[u8]) -> Result<Reply, Rej
     requires { AreSettingsInRange settings }
     ensures { Replies (run_answer settings) input.now result }
 {
-    let linked = linked_of(alloc, settings.size, input)?;
-    Ok(reply_to_linked(alloc, settings, &linked)?)
+    let NotedRun { mut ran, note } = run_source(alloc, settings, input)?;
+    Ok(post_mortem_reply(alloc, settings.post_mortem, &mut ran, note)?)
 }
 
 /// `punch`: the text of a source's tape.
@@ -79,15 +79,14 @@ fn linked(alloc: Global, size: Size, input: &[u8]) -> Result<Linked, SourceFault
     link(alloc, size, &parse(alloc, input)?)
 }
 
-/// The reply to a source, by its linked program.
-fn reply_to_linked(alloc: Global, settings: Settings, linked: &Linked) -> Result<Reply, NoMemory>
-    requires ranges { AreSettingsInRange settings }
-    requires linked { (lines : List Line) × IsLinked settings.size lines linked.now }
-    ensures { IfOk result (λ reply. (lines : List Line) → IsLinked settings.size lines linked.now
-        → Gives reply (run_outcome settings lines)) }
+/// Runs a source's tape.
+pub fn run_source(alloc: Global, settings: Settings, input: &[u8]) -> Result<NotedRun, Rejection>
+    ensures is { RunsSource settings input.now result }
+    ensures size { IfOk result (λ noted. noted.ran.machine.size ≡ settings.size) }
+    ensures orders { IfOk result (λ noted. noted.ran.machine.orders ≤ settings.limit) }
 {
-    let NotedRun { mut ran, note } = run_linked(alloc, settings, linked)?;
-    post_mortem_reply(alloc, settings, &mut ran, note)
+    let linked = linked_of(alloc, settings.size, input)?;
+    Ok(run_linked(alloc, settings, &linked)?)
 }
 
 /// Runs the tape of a linked program.

@@ -49,13 +49,7 @@ fn has_image(machine: &Machine, base: u16) -> bool
     requires { base + 66 ≤ locations machine.now.size }
     ensures { IsTrue result ↔ HasImage base machine.now }
 {
-    has_image_of(machine, &routine(CHECK), base, &no_parameters())
-}
-
-/// Preset parameters that are all 0.
-fn no_parameters() -> Parameters
-    ensures { result ≡ with_h 0 }
-{
-    let zero = Word::new(0).unwrap();
-    [zero, zero, zero, zero, zero, zero]
+    let zero = Word::of_number(0);
+    let parameters = [zero, zero, zero, zero, zero, zero];
+    has_image_of(machine, &routine(CHECK), base, &parameters)
 }

@@ -1,8 +1,10 @@
 -- The command of the program, made of its options in turn and of its words.
-use Rattle.std.proofs.Common.{◌≡◌, ◌∙◌, ◌+◌, ◌<◌, ◌≤◌, ℕ, Bor, List, length, false, sym, ap, ap₂, drop, get_or, map}
+use Rattle.std.proofs.Common.{◌≡◌, ◌∙◌, ◌+◌, ◌<◌, ◌≤◌, ℕ, Bor, List, length, false, sym, ap, ap₂, drop, get_or, map, Some}
 use Rattle.std.proofs.lemmas.List.{at_drop_all, at_drop_more}
 use Rattle.std.specs.Prelude.{fold}
-use Rattle.clap.specs.Words.{AddsArg, App, app_of, rule_of, with_rule}
+use Rattle.clap.specs.Words.{AddsArg, App, app_of, new_rule, rule_of, with_rule}
+use Rattle.clap.specs.Walk.{Rule}
+use Rattle.clap.specs.declared.builder.action.ArgAction.TheVariants.{Append}
 use Rattle.clap.specs.declared.builder.arg.Arg.{Arg}
 use Rattle.clap.specs.declared.builder.command.Command.{Command}
 use Rattle.ed_words.specs.Texts.{Text}
@@ -11,6 +13,16 @@ use Rattle.ed_command.specs.Rules.{app, option_rule, options_app, with_option, w
 -- with the options that are left, the command is the one with all of them
 abbrev pub IsWithout : List (Bor Text) → Command → Type 0
 IsWithout names command = fold with_option (app_of command) (map (λ n. n.now) names) ≡ options_app
+
+-- an option of a name, from an argument of that name
+pub option_made : (name : Bor Text) (begun : Arg) {long option : Arg} → rule_of begun ≡ new_rule name.now
+    → begun.global ≡ false → long ≡ record begun { long = Some name } → option ≡ record long { action = Some Append }
+    → (rule_of option ≡ option_rule name.now) × (option.global ≡ false)
+option_made name begun is plain long option = (
+  ap rule_of option ∙ ap (λ (r : Rule). record r { action = Some Append }) (ap rule_of long
+      ∙ ap (λ (r : Rule). record r { long = Some name.now }) is),
+  ap (λ (a : Arg). a.global) option ∙ ap (λ (a : Arg). a.global) long ∙ plain,
+)
 
 -- one more option
 pub one_added : (names : List (Bor Text)) (i : ℕ) (d : Bor Text) (old new : Command) (a : Arg) → i < length names

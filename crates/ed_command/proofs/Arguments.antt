@@ -1,8 +1,8 @@
 -- The arguments of a command, its size of the store, and the lines of the table as the program holds them.
 use Rattle.std.proofs.Common.{◌≡◌, ◌≢◌, ◌<◌, ◌≤◌, ℕ, Bool, true, false, Bor, List, [], ◌∷◌}
-use Rattle.std.proofs.Common.{◌+◌, ◌∙◌, refl, sym, subst, arith, length, map, codes, drop, get_or}
+use Rattle.std.proofs.Common.{◌+◌, ◌-◌, ◌∙◌, refl, sym, subst, arith, length, map, codes, drop, get_or, take}
 use Rattle.std.proofs.lemmas.Slice.Eq.{bytes_eq-Decides}
-use Rattle.std.proofs.lemmas.List.{at_drop_all, at_drop_more}
+use Rattle.std.proofs.lemmas.List.{at_drop_all, at_drop_more, take_all}
 use Rattle.std.specs.Prelude.{Option, Some, None, option_and_then, option_map, slice_index_or, if◌then◌else◌}
 use Rattle.std.specs.Str.{bytes_eq}
 use Rattle.ed_library.specs.declared.call.Call.TheVariants.{NewLine}
@@ -180,15 +180,17 @@ line_taken t l e o arguments h =
     ≡ command (l.action arguments) (settings_of o)) e (taken l o arguments h)
 
 -- the command of the words, by the line that the first of them begins
-pub command_found : (words : List (Bor Text)) (word : Bor Text) (arguments : List (Bor Text)) (line : held.TableLine)
-    (o : Options) → words ≡ word ∷ arguments
-    → option_map line_in (Some line) ≡ line_named lines word.now
+pub command_found : (words : List (Bor Text)) (x : Bor Text) (line : held.TableLine) (o : Options) → 1 ≤ length words
+    → option_map line_in (Some line) ≡ line_named lines (slice_index_or words 0 x).now
     → has_only (map (λ n. n.now) line.options.now) o ≡ true
     → command_of (map (λ w. w.now) words) o
-    ≡ command (action_by line.action (map (λ a. a.now) arguments)) (settings_of o)
-command_found words word arguments line o are is h =
-    let all = line_taken (line_named lines word.now) (line_in line) is o (map (λ a. a.now) arguments) h in
-    rw are all
+    ≡ command (action_by line.action (map (λ a. a.now) (take (length words - 1) (drop 1 words)))) (settings_of o)
+command_found [] x line o least is h = absurd (omega (arith, least))
+command_found (word ∷ arguments) x line o least is h =
+    let many : length arguments ≤ length (word ∷ arguments) - 1 = omega arith in
+    let rest : take (length (word ∷ arguments) - 1) arguments ≡ arguments = take_all _ arguments many in
+    rw rest
+    (line_taken (line_named lines word.now) (line_in line) is o (map (λ a. a.now) arguments) h)
 
 -- at a line of the table, in a search from the first one on: it is the one that begins with the word, or a later one is
 pub at_line : (ls : List held.TableLine) (i : ℕ) (d : held.TableLine) (word : Text) (c : Bool) → i < length ls

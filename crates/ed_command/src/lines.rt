@@ -72,16 +72,17 @@ const LINES: [TableLine; 13] = [
 pub(crate) fn command_of(words: &[&str], options: &Options<'_>) -> Option<Command>
     ensures { result ≡ command_of (map (λ w. w.now) words.now) (options_in options.now) }
 {
-    let (word, arguments) = words.split_first()?;
+    let [word, arguments @ ..] = words else {
+        return None;
+    };
     let line = line_named(word)?;
-    if options.has_only(line.options) {
-        Some(Command {
-            action: action_by(line.action, arguments)?,
-            settings: options.settings()?,
-        })
-    } else {
-        None
+    if !options.has_only(line.options) {
+        return None;
     }
+    Some(Command {
+        action: action_by(line.action, arguments)?,
+        settings: options.settings()?,
+    })
 }
 
 /// The line that begins with this word.

@@ -5,8 +5,8 @@ ghost use Rattle.ed_notation.specs.Openings.{opening};
 ghost use Rattle.ed_initial.specs.Entry.{IsStarted, Comes, IsLoaded};
 ghost use Rattle.ed_initial.specs.Load.{EndsAs, orders_of};
 
-use crate::turns::{is_entering, is_obeyed, is_quiet_turn};
-use ed_machine::Machine;
+use crate::turns::is_entering;
+use ed_machine::{Machine, Turn};
 
 /// How a load ended.
 #[derive(Clone, Copy)]
@@ -56,16 +56,17 @@ pub fn obey_orders(machine: &mut Machine, bound: u64) -> Loaded
     for orders in 0..bound {
         let enters = is_entering(machine);
         let turn = machine.step();
-        if !is_obeyed(&turn) {
+        if let Turn::NoOrder(_) | Turn::NoTape = turn {
             return Loaded::Lost { orders };
         }
-        if !is_quiet_turn(&turn) {
-            return Loaded::Lost { orders: orders + 1 };
+        let orders = orders + 1;
+        if let Turn::Printed(_) | Turn::Stopped = turn {
+            return Loaded::Lost { orders };
         }
         if enters {
             return Loaded::Entered {
                 at: machine.counter(),
-                orders: orders + 1,
+                orders,
             };
         }
     }

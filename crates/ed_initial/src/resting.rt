@@ -11,8 +11,8 @@ ghost use Rattle.ed_initial.specs.Rests.{IsNotationState, IsPartSoFar, Scratch, 
 ghost use Rattle.ed_initial.specs.Walks.{BeginsWalk, BreaksNone, Between, DoesItemRow, DoesRow};
 ghost use Rattle.ed_initial.specs.Walks.{Inside, WalkEnds, is_rest, part_so_far, walk_orders};
 
-use crate::turns::{is_entering, is_obeyed, is_quiet_turn};
-use ed_machine::Machine;
+use crate::turns::is_entering;
+use ed_machine::{Machine, Turn};
 
 /// How a walk to the next rest ended.
 #[derive(Clone, Copy)]
@@ -75,7 +75,7 @@ fn walk(machine: &mut Machine) -> Rested
     for orders in 0..17 {
         let enters = is_entering(machine);
         let turn = machine.step();
-        if !is_obeyed(&turn) {
+        if let Turn::NoOrder(_) | Turn::NoTape = turn {
             return Rested::Lost { orders };
         }
         let place = machine.counter();
@@ -86,7 +86,7 @@ fn walk(machine: &mut Machine) -> Rested
         if is_rest(place) {
             return Rested::At { place, orders };
         }
-        if !is_quiet_turn(&turn) {
+        if let Turn::Printed(_) | Turn::Stopped = turn {
             return Rested::Lost { orders };
         }
     }

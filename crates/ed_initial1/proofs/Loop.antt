@@ -95,6 +95,11 @@ inside rows row ws orders end p s = by_part s.part s.here s.orders_are s.item_is
           few = s.few;
         }
 
+-- its number is small enough
+pub number_fits : {rows : List ℕ} {row : ℕ} {ws : List ℕ} {orders end : ℕ} {p : PartialItem1}
+    → StandsAt rows row ws orders end (Some p) → p.number ≤ 32767
+number_fits s = let i = inside _ _ _ _ _ _ s in rw i.part_is i.here.is_part.fits
+
 pub function_row : {rows : List ℕ} {row : ℕ} {ws : List ℕ} {orders end c : ℕ} → StandsAt rows row ws orders end None
     → row < length rows → c ≡ get_or rows row c → c < 32
     → StandsAt rows (row + 1) ws (orders + 5) end (Some (record { function = c; number = 0 }))

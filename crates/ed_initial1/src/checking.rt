@@ -75,7 +75,8 @@ fn word_of(part: &PartialItem1, long: bool) -> Word
     requires { part.now.number ≤ 32767 }
     ensures { result ≡ (4096 * part.now.function + 2 * part.now.number + digit long) % 2 ^ 17 }
 {
-    let length = if long { 1 } else { 0 };
-    let sum = 4096 * u32::from(part.function.value()) + 2 * u32::from(part.number) + length;
-    Word::new(sum % 131072).unwrap()
+    let sum = 4096 * u32::from(part.function.value())
+        + 2 * u32::from(part.number)
+        + u32::from(long);
+    Word::of_number(sum % (1 << 17))
 }

@@ -50,19 +50,16 @@ fn obey_orders(machine: &mut Machine, bound: u64) -> Loaded1
     ensures state { machine.new ≡ state_after (orders_of1 result) machine.old }
 {
     for orders in 0..bound {
-        match machine.step() {
-            Turn::NoOrder(_) | Turn::NoTape => return Loaded1::Lost { orders },
-            Turn::Printed(_) | Turn::Stopped => {
-                if machine.counter() == ENTRY {
-                    return Loaded1::Entered { orders: orders + 1 };
-                }
-                return Loaded1::Lost { orders: orders + 1 };
-            }
-            Turn::Went => {
-                if machine.counter() == ENTRY {
-                    return Loaded1::Entered { orders: orders + 1 };
-                }
-            }
+        let turn = machine.step();
+        if let Turn::NoOrder(_) | Turn::NoTape = turn {
+            return Loaded1::Lost { orders };
+        }
+        let orders = orders + 1;
+        if machine.counter() == ENTRY {
+            return Loaded1::Entered { orders };
+        }
+        if let Turn::Printed(_) | Turn::Stopped = turn {
+            return Loaded1::Lost { orders };
         }
     }
     Loaded1::Lost { orders: bound }

@@ -139,10 +139,14 @@ fn write_through<W: Write>(writer: &mut W, piece: &[u8]) -> Option<usize>
     ensures bytes { IfSome result
         (λ k. Appends (W.contents writer.old) (W.contents writer.new) (take k piece.now)) }
 {
-    let count = writer.write(piece).ok()?;
+    let Ok(count) = writer.write(piece) else {
+        return None;
+    };
     if count == 0 && !piece.is_empty() {
         return None;
     }
-    writer.flush().ok()?;
+    let Ok(()) = writer.flush() else {
+        return None;
+    };
     Some(count)
 }

@@ -17,7 +17,7 @@ use Rattle.ed_syntax.specs.declared.program.Statement.TheVariants.{Long, Fetch, 
 use Rattle.ed_symbols.specs.declared.symbols.Definition.{Definition}
 use Rattle.ed_symbols.specs.declared.location_counter.LocationCounter.{LocationCounter}
 use Rattle.ed_symbols.specs.Places.{even_from, segment_at}
-use Rattle.ed_link.specs.Linked.{parameter_letters, long_words, operand_number, data_rows as data_of, set_to}
+use Rattle.ed_link.specs.Linked.{parameter_letters, long_words, operand_number, set_to}
 use Rattle.ed_link.specs.Punch.{goes_by_theta, heads, with_heading, order_item, items_of, preset_items, routine_items}
 use Rattle.ed_link.specs.Punch.{use_items, word_item}
 use Rattle.ed_link.specs.Private.Building.{IsFew}
@@ -148,18 +148,7 @@ items_few symbols s (Some (Fetch routine name ts)) h =
 items_few symbols s (Some (Enter name)) h = lit≤ tt
 items_few symbols s (Some (Rows codes)) h = lit≤ tt
 
--- a line gives at most 120 rows after the program
-pub data_few : (st : Option Statement) → IsFew st → length (data_of st) ≤ 120
-data_few None h = lit≤ tt
-data_few (Some (Segment name base)) h = lit≤ tt
-data_few (Some (Order f o long)) h = lit≤ tt
-data_few (Some (Number w)) h = lit≤ tt
-data_few (Some (Text codes)) h = lit≤ tt
-data_few (Some (Long v)) h = lit≤ tt
-data_few (Some (Fetch routine name ts)) h = lit≤ tt
-data_few (Some (Enter name)) h = lit≤ tt
-data_few (Some (Rows codes)) h = h
-
+-- a routine of the catalogue has at most 128 items
 pub found_few : (found : Option ℕ) (r : ℕ) → Some r ≡ found → place_count r ≤ 128 → length (routine_items found) ≤ 128
 found_few found r e h =
     let l : length (routine_items (Some r)) ≤ 128 = omega (arith, h, length-map (entry r).items table_item) in

@@ -32,7 +32,7 @@ use Rattle.ed_link.specs.Linked.{placed_by_line, placed_from, theta_from, entry_
 use Rattle.ed_link.specs.Punch.{item_with, items_of, punched_from}
 use Rattle.ed_link.specs.Private.FaultTests.{extent, extent_at, reach, overlaps, has_no_routine, sets}
 use Rattle.ed_link.specs.declared.faults.Extent.{Extent}
-use Rattle.ed_link.specs.Private.FaultTests.{sets_otherwise, is_enter, any_enter, is_misplaced}
+use Rattle.ed_link.specs.Private.FaultTests.{sets_otherwise, is_enter, is_rows, any_enter, is_misplaced}
 use Rattle.ed_link.specs.Private.FaultTests.{LinesBefore, past_of, cause_of, fault_from}
 use Rattle.ed_words.proofs.Numbers.{le_of, not_lt_of}
 use Rattle.ed_words.proofs.SizeLemmas.{most}
@@ -151,6 +151,17 @@ record IsBehind (symbols : List Definition) (theta : ℕ) (s : LocationCounter) 
 misplaced : (x : Bool) → ((x || true) && true) ≡ false → ⊥
 misplaced true h = cc
 misplaced false h = cc
+
+late : (label : Option (List ℕ)) (st : Option Statement)
+    → ((is_some label || is_some st) && not (is_rows st)) ≡ false → is_enter st ≡ true → ⊥
+late label (Some (Enter name)) m e = misplaced (is_some label) m
+late label st m e = cc
+
+-- an `enter` line without a fault is the first one
+pub first_enter : (entry : Option ℕ) (has_enter : Bool) (l : SourceLine)
+    → is_misplaced (is_some entry) has_enter l ≡ false → is_enter l.statement ≡ true → entry ≡ None
+first_enter None has_enter l m e = refl
+first_enter (Some p) has_enter l m e = absurd (late l.label l.statement m e)
 
 -- a line after `enter` gives nothing
 after_line : {symbols : List Definition} {theta : ℕ} {s : LocationCounter} {n : ℕ} {label : Option (List ℕ)}

@@ -25,7 +25,7 @@ use Rattle.ed_link.specs.Tables.{empty_table, put_all, table_of}
 use Rattle.ed_link.specs.Private.FaultTests.{LinesBefore, cause_of, extent, is_enter, overlaps, past_of, reach, word_extent}
 use Rattle.ed_link.specs.Private.FaultTests.{fault_from}
 use Rattle.ed_link.specs.Private.Building.{IsFew}
-use Rattle.ed_link.proofs.Bounds.{items_few, data_few}
+use Rattle.ed_link.proofs.Bounds.{items_few}
 use Rattle.ed_words.proofs.SizeLemmas.{most}
 use Rattle.ed_link.proofs.Inductions.{faultless}
 
@@ -90,7 +90,8 @@ pub record Doing (z : Size) (symbols : List Definition) (has_enter : Bool) (line
 -- what the code says of one more line
 pub record Does (z : Size) (symbols : List Definition) (has_enter : Bool) (l : Line) (m m' : Made) : Type 0 where
   pub cause : cause_of z symbols has_enter m.past l m.counter ≡ None
-  pub few : IsFew l.statement
+  pub few_items : IsFew l.statement
+  pub few_rows : length (data_rows l.statement) ≤ 120
   pub items_are : m'.built.items.items ≡ m.built.items.items ++ items_of symbols m.counter l.statement
   pub table_is : m'.built.table.items ≡ put_all m.built.table.items (placed_by_line symbols m.counter l.statement)
   pub rows_are : m'.built.after.items ≡ m.built.after.items ++ data_rows l.statement
@@ -136,13 +137,13 @@ step {z} {symbols} {has_enter} {lines} {n} {l} {m} {m'} d below is e =
       few_items = rw e.items_are (omega (
         arith,
         d.few_items,
-        items_few symbols m.counter l.statement e.few,
+        items_few symbols m.counter l.statement e.few_items,
         length-append m.built.items.items (items_of symbols m.counter l.statement),
       ));
       few_rows = rw e.rows_are (omega (
         arith,
         d.few_rows,
-        data_few l.statement e.few,
+        e.few_rows,
         length-append m.built.after.items (data_rows l.statement),
       ));
     }

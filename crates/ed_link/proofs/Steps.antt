@@ -1,10 +1,10 @@
 -- The steps of loops that make, of each element of a list, a part of what they give; what stands after the head of a
 -- segment.
 use Rattle.std.proofs.Common.{◌≡◌, ◌⊎◌, inl, inr, ℕ, ◌+◌, ◌*◌, ◌/◌, ◌%◌, ◌^◌, ◌<◌, ◌≤◌, nat_eq, map, if◌then◌else◌}
-use Rattle.std.proofs.Common.{Some, None, refl, sym, ap, ◌∙◌, arith, Bool, true, false, nat_lt}
+use Rattle.std.proofs.Common.{Some, None, refl, sym, ap, ◌∙◌, arith, lit≤, Bool, true, false, nat_lt}
 use Rattle.std.proofs.Common.{List, [], ◌∷◌, ◌++◌, length, drop, get_or, append_assoc, append-nil, Option}
 use Rattle.std.specs.List.{flat_map}
-use Rattle.std.specs.Prelude.{◌&&◌, not}
+use Rattle.std.specs.Prelude.{◌&&◌, not, unwrap_or}
 use Rattle.std.proofs.lemmas.Bool.Decides.{nat_tests}
 use Rattle.std.proofs.lemmas.List.{at_drop_more, at_drop_all}
 use Rattle.ed_notation.specs.declared.item.Item.{Item}
@@ -18,11 +18,12 @@ use Rattle.ed_syntax.specs.declared.program.Statement.TheVariants.{Segment, Orde
 use Rattle.ed_syntax.specs.declared.program.Statement.TheVariants.{Long, Fetch, Enter, Rows}
 use Rattle.ed_symbols.specs.declared.symbols.Definition.{Definition}
 use Rattle.ed_symbols.specs.declared.location_counter.LocationCounter.{LocationCounter}
-use Rattle.ed_symbols.specs.Names.{is_local}
+use Rattle.ed_symbols.specs.Names.{is_local, place_on}
 use Rattle.ed_link.specs.Labels.{label_of}
-use Rattle.ed_link.specs.Private.FaultTests.{has_words, reach}
-use Rattle.ed_link.specs.Linked.{operand_number, parameter_letters, set_to}
-use Rattle.ed_link.specs.Punch.{head, heads, item_with, preset_items, use_items, with_heading, word_item, word_items}
+use Rattle.ed_link.specs.Private.Building.{bare_items}
+use Rattle.ed_link.specs.Private.FaultTests.{extent_at, has_words, reach}
+use Rattle.ed_link.specs.Linked.{entered_place, operand_number, parameter_letters, set_to}
+use Rattle.ed_link.specs.Punch.{head, heads, item_with, items_of, preset_items, use_items, with_heading, word_item, word_items}
 use Rattle.ed_link.specs.Tables.{put_all}
 use Rattle.ed_link.proofs.Lengths.{put_all_append, put_all_length}
 
@@ -107,6 +108,13 @@ headed symbols s (Some (Fetch routine name ts)) first base = refl
 headed symbols s (Some (Enter name)) first base = refl
 headed symbols s (Some (Rows codes)) first base = refl
 
+-- the items of a line stand after the head of its segment
+pub line_items : (symbols : List Definition) (s : LocationCounter) (st : Option Statement)
+    → heads (has_words st && nat_eq s.place s.base) s.base ++ bare_items symbols s st ≡ items_of symbols s st
+line_items symbols s (Some (Fetch routine name ts)) = refl
+line_items symbols s (Some (Enter name)) = refl
+line_items symbols s st = headed symbols s st (nat_eq s.place s.base) s.base
+
 -- the head of a segment stands before a line that is its first with a word
 pub with_head : {has : Bool} {place base : ℕ} → has ≡ true → place ≡ base
     → heads (has && nat_eq place base) base ≡ head base
@@ -148,6 +156,18 @@ base_fits symbols s (Some (Long v)) fits base has = omega arith
 base_fits symbols s (Some (Fetch routine name ts)) fits base has = absurd (cc)
 base_fits symbols s (Some (Enter name)) fits base has = absurd (cc)
 base_fits symbols s (Some (Rows codes)) fits base has = absurd (cc)
+
+-- the location that an `enter` names is within the store
+pub entry_fits : (symbols : List Definition) (s : LocationCounter) (st : Option Statement)
+    → ((reach symbols st s).from < (reach symbols st s).after → (reach symbols st s).after ≤ 1024)
+    → entered_place symbols st 0 ≤ 32767
+entry_fits symbols s (Some (Enter name)) fits = of (place_on symbols None name) fits
+  where
+    of : (found : Option ℕ) → ((extent_at found).from < (extent_at found).after → (extent_at found).after ≤ 1024)
+        → unwrap_or found 0 ≤ 32767
+    of None fits = lit≤ tt
+    of (Some p) fits = omega arith
+entry_fits symbols s st fits = lit≤ tt
 
 -- the items of a `use`
 pub used : {presets headed given : List Item} (symbols : List Definition) (ts : List Setting) (base : ℕ)

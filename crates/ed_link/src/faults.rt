@@ -4,17 +4,18 @@ ghost use Rattle.std.specs.List.{list_any, list_all};
 ghost use Rattle.ed_words.specs.Sizes.{locations};
 ghost use Rattle.ed_library.specs.Routines.{find};
 ghost use Rattle.ed_link.specs.Linked.{first_place, end_place, set_to};
-ghost use Rattle.ed_link.specs.Private.FaultTests.{any_enter, cause_of, has_no_routine, has_sandwich, is_enter, use_cause};
+ghost use Rattle.ed_link.specs.Private.FaultTests.{any_enter, cause_of, has_no_routine, has_sandwich, use_cause};
 ghost use Rattle.ed_link.specs.Private.FaultTests.{is_in_segment};
 ghost use Rattle.ed_link.specs.Private.FaultTests.{is_misplaced, is_outside};
 ghost use Rattle.ed_link.specs.Private.FaultTests.{extent_at, is_rows, overlaps, reach, sets_otherwise, word_extent};
 ghost use Rattle.ed_link.specs.Private.FaultTests.{fault_line, sooner};
 
+use crate::building::Built;
 use crate::operands::setting;
 use ed_codes::Code;
 use ed_library::find;
-use ed_syntax::{Line, Setting, SourceCause, SourceFault, Statement};
 use ed_symbols::{Definition, LocationCounter, even, find_place};
+use ed_syntax::{Line, Setting, SourceCause, SourceFault, Statement};
 use ed_words::Size;
 
 /// An extent of locations, which may be empty.
@@ -147,13 +148,6 @@ fn use_cause(statement: &Option<Statement>) -> Option<SourceCause>
     }
 }
 
-/// Whether a line is an `enter` line.
-pub(crate) fn is_enter(statement: &Option<Statement>) -> bool
-    ensures { result ≡ is_enter statement.now }
-{
-    matches!(statement, Some(Statement::Enter { .. }))
-}
-
 /// Whether a line breaks the order of `enter` and `data`.
 fn is_misplaced(entered: bool, has_enter: bool, line: &Line) -> bool
     ensures { result ≡ is_misplaced entered has_enter line.now }
@@ -176,28 +170,19 @@ fn has_sandwich(statement: &Option<Statement>) -> bool
     }
 }
 
-/// What the lines before a line leave.
-#[derive(Drop)]
-pub(crate) struct Past {
-    /// The extents of their words.
-    pub(crate) extents: Vec<Extent>,
-    /// Whether one of them is an `enter`.
-    pub(crate) entered: bool,
-}
-
-/// The fault of a line with the least number, among S9 to S17.
+/// The fault of a line with the least number, among S9 to S17, after what was built of the lines before it.
 pub(crate) fn cause_of(
     size: Size,
     symbols: &[Definition],
     has_enter: bool,
-    past: &Past,
+    built: &Built,
     line: &Line,
     counter: LocationCounter,
 ) -> Option<SourceCause>
     requires place { counter.place ≤ 2 ^ 30 }
     requires segments { counter.segments ≤ 2000 }
     ensures { result ≡ cause_of size symbols.now has_enter
-        (record { extents = past.now.extents.items; entered = past.now.entered }) line.now counter }
+        (record { extents = built.now.extents.items; entered = is_some built.now.entry }) line.now counter }
 {
     let reach = reach(symbols, &line.statement, counter);
     let past_store = Extent {
@@ -212,11 +197,11 @@ pub(crate) fn cause_of(
         Some(SourceCause::ParameterStore)
     } else if reach.overlaps(past_store) {
         Some(SourceCause::StoreEnd)
-    } else if extent_of(&line.statement, counter).overlaps_any(&past.extents) {
+    } else if extent_of(&line.statement, counter).overlaps_any(&built.extents) {
         Some(SourceCause::Overlap)
     } else if let Some(cause) = use_cause(&line.statement) {
         Some(cause)
-    } else if is_misplaced(past.entered, has_enter, line) {
+    } else if is_misplaced(built.entry.is_some(), has_enter, line) {
         Some(SourceCause::Enter)
     } else if has_sandwich(&line.statement) {
         Some(SourceCause::SandwichDigit)
@@ -230,7 +215,7 @@ pub(crate) fn any_enter(lines: &[Line]) -> bool
     ensures { result ≡ any_enter lines.now }
 {
     for line in lines {
-        if is_enter(&line.statement) {
+        if let Some(Statement::Enter { .. }) = line.statement {
             return true;
         }
     }

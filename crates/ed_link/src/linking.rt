@@ -16,8 +16,8 @@ use crate::faults::{any_enter, sooner};
 use crate::linked::{LabelPlace, Linked};
 use crate::words::words_of;
 use ed_library::catalogue_size;
-use ed_syntax::{Program, SourceCause, SourceFault};
 use ed_symbols::{Definition, is_local, resolve};
+use ed_syntax::{Program, SourceCause, SourceFault};
 use ed_words::{NoMemory, Size};
 use std::alloc::Global;
 
@@ -51,7 +51,7 @@ fn link_names(
             Some(names) => Err(names),
             None => {
                 if has_enter {
-                    Ok(finish(alloc, symbols, built)?)
+                    finish(alloc, symbols, built)
                 } else {
                     Err(SourceFault::At {
                         line: program.lines.len() as u32 + 1,
@@ -82,11 +82,12 @@ fn labels_of(alloc: Global, symbols: &[Definition]) -> Result<Vec<LabelPlace>, N
 }
 
 /// The linked program made from what was built of the lines.
-fn finish(alloc: Global, symbols: &[Definition], built: Built) -> Result<Linked, NoMemory>
+fn finish(alloc: Global, symbols: &[Definition], built: Built) -> Result<Linked, SourceFault>
     requires spellable { list_all is_spellable built.items.items ≡ true }
     requires table { length built.table.items ≡ 1024 }
     requires few { length (spelled_rows (canonicals built.items.items)) + length built.after.items ≤ 2 ^ 22 }
-    ensures { IfOk result (λ k. IsFinished symbols.now built k) }
+    ensures is { IfOk result (λ k. IsFinished symbols.now built k) }
+    ensures memory { IfErr result (λ e. e ≡ SourceFault.Memory) }
 {
     let words = words_of(alloc, &built.table)?;
     let labels = labels_of(alloc, symbols)?;

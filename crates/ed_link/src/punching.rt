@@ -1,24 +1,23 @@
 //! The items of a line.
-ghost use Rattle.std.specs.Prelude.{◌≡◌, ◌≤◌, ◌<◌, ◌^◌, ◌+◌, ◌*◌, ◌++◌, ◌∷◌, [], OnOk, map, nat_eq};
+ghost use Rattle.std.specs.Prelude.{◌≡◌, ◌≤◌, ◌<◌, ◌^◌, ◌+◌, ◌*◌, ◌++◌, ◌∷◌, [], OnOk, map};
 ghost use Rattle.std.specs.Prelude.{unwrap_or, length, false, true, None, ◌&&◌};
 ghost use Rattle.std.specs.List.{flat_map};
-ghost use Rattle.ed_library.specs.Entries.{entry};
-ghost use Rattle.ed_library.specs.Routines.{table_item};
 ghost use Rattle.ed_symbols.specs.Names.{place_on};
 ghost use Rattle.ed_symbols.specs.Places.{segment_at};
 ghost use Rattle.ed_library.specs.Routines.{find};
 ghost use Rattle.ed_symbols.specs.Places.{after_statement, routine_places};
+ghost use Rattle.ed_link.specs.Private.Building.{IsFew, bare_items};
 ghost use Rattle.ed_link.specs.Private.FaultTests.{has_words, reach};
 ghost use Rattle.ed_link.specs.Linked.{operand_number, long_words, set_to, parameter_letters, line_words};
-ghost use Rattle.ed_link.specs.Punch.{ending, head, with_heading, item_with, items_of, order_item, goes_by_theta};
-ghost use Rattle.ed_link.specs.Punch.{preset_items, routine_items, use_items, word_item, word_items};
+ghost use Rattle.ed_link.specs.Punch.{ending, head, item_with, items_of, order_item, goes_by_theta};
+ghost use Rattle.ed_link.specs.Punch.{preset_items, routine_items, use_items, word_item};
 
 use crate::operands::{PARAMETER_LETTERS, goes_by_theta, number, setting};
 use ed_codes::{Code, letters};
-use ed_library::{Routine, find};
-use ed_syntax::{Name, Operand, Setting, Statement};
+use ed_library::find;
 use ed_notation::Item;
 use ed_symbols::{Definition, LocationCounter, even, find_place};
+use ed_syntax::{Name, Operand, Setting, Statement};
 use ed_words::{Long, NoMemory, Word};
 
 /// Adds an item.
@@ -154,16 +153,6 @@ fn push_presets(
     Ok(())
 }
 
-/// Adds the items of a routine.
-fn push_routine(items: &mut Vec<Item>, routine: Routine) -> Result<(), NoMemory>
-    ensures { OnOk result (items.new.items ≡ items.old.items ++ map table_item (entry routine).items) }
-{
-    for place in 0..routine.length() {
-        push(items, routine.item(place))?;
-    }
-    Ok(())
-}
-
 /// Adds the items of a `use`.
 fn push_use(
     items: &mut Vec<Item>,
@@ -173,29 +162,35 @@ fn push_use(
     routine: &Name,
 ) -> Result<(), NoMemory>
     requires { 0 < routine_places (find routine.now) → base ≤ 32767 }
-    ensures { OnOk result
+    ensures items { OnOk result
         (items.new.items ≡ items.old.items ++ use_items symbols.now settings.now base (find routine.now)) }
+    ensures few { OnOk result (length (routine_items (find routine.now)) ≤ 128) }
 {
     push_presets(items, symbols, settings, &PARAMETER_LETTERS)?;
-    match find(routine.text()) {
-        Some(routine) => {
-            let _some = routine.length();
-            push_head(items, base as u16)?;
-            push_routine(items, routine)
-        }
-        None => Ok(()),
+    let Some(routine) = find(routine.text()) else {
+        return Ok(());
+    };
+    let length = routine.length();
+    push_head(items, base as u16)?;
+    for place in 0..length {
+        push(items, routine.item(place))?;
     }
+    Ok(())
 }
 
-/// Adds the items of the words of a line of a segment.
-fn push_words(
+/// Adds the items of a line, without the head of its segment.
+fn push_bare(
     items: &mut Vec<Item>,
     symbols: &[Definition],
     counter: LocationCounter,
     statement: &Option<Statement>,
 ) -> Result<(), NoMemory>
-    requires { has_words statement.now ≡ true → counter.base ≤ 32767 }
-    ensures { OnOk result (items.new.items ≡ items.old.items ++ word_items symbols.now counter statement.now) }
+    requires place { counter.place ≤ 2 ^ 30 }
+    requires base { has_words statement.now ≡ true → counter.base ≤ 32767 }
+    requires fits { (reach symbols.now statement.now counter).from < (reach symbols.now statement.now counter).after
+        → (reach symbols.now statement.now counter).after ≤ 1024 }
+    ensures items { OnOk result (items.new.items ≡ items.old.items ++ bare_items symbols.now counter statement.now) }
+    ensures few { OnOk result (IsFew statement.now) }
 {
     match statement {
         Some(
@@ -211,42 +206,6 @@ fn push_words(
         Some(Statement::Number { value }) => push(items, word_item(*value)),
         Some(Statement::Text { codes }) => push_text(items, codes),
         Some(Statement::Long { value }) => push_long(items, counter.place, *value),
-        _ => Ok(()),
-    }
-}
-
-/// Adds the items of a line of a segment, after the head if the line is the first with a word.
-fn push_headed(
-    items: &mut Vec<Item>,
-    symbols: &[Definition],
-    counter: LocationCounter,
-    statement: &Option<Statement>,
-) -> Result<(), NoMemory>
-    requires { has_words statement.now ≡ true → counter.base ≤ 32767 }
-    ensures { OnOk result (items.new.items ≡ items.old.items
-        ++ with_heading (word_items symbols.now counter statement.now) (nat_eq counter.place counter.base)
-        counter.base) }
-{
-    if has_words(statement) && counter.place == counter.base {
-        push_head(items, counter.base as u16)?;
-    }
-    push_words(items, symbols, counter, statement)
-}
-
-/// Adds the items of a line.
-pub(crate) fn push_line(
-    items: &mut Vec<Item>,
-    symbols: &[Definition],
-    counter: LocationCounter,
-    statement: &Option<Statement>,
-) -> Result<(), NoMemory>
-    requires place { counter.place ≤ 2 ^ 30 }
-    requires base { counter.base ≤ counter.place }
-    requires fits { (reach symbols.now statement.now counter).from < (reach symbols.now statement.now counter).after
-        → (reach symbols.now statement.now counter).after ≤ 1024 }
-    ensures { OnOk result (items.new.items ≡ items.old.items ++ items_of symbols.now counter statement.now) }
-{
-    match statement {
         Some(
             Statement::Fetch {
                 routine,
@@ -258,8 +217,28 @@ pub(crate) fn push_line(
             push(items, control(letters::E, entry_of(symbols, name)))?;
             push(items, numbered(Code::P, 0, false))
         }
-        _ => push_headed(items, symbols, counter, statement),
+        None | Some(Statement::Segment { .. } | Statement::Rows { .. }) => Ok(()),
     }
+}
+
+/// Adds the items of a line, after the head of its segment if it is the first there with a word.
+pub(crate) fn push_line(
+    items: &mut Vec<Item>,
+    symbols: &[Definition],
+    counter: LocationCounter,
+    statement: &Option<Statement>,
+) -> Result<(), NoMemory>
+    requires place { counter.place ≤ 2 ^ 30 }
+    requires base { counter.base ≤ counter.place }
+    requires fits { (reach symbols.now statement.now counter).from < (reach symbols.now statement.now counter).after
+        → (reach symbols.now statement.now counter).after ≤ 1024 }
+    ensures items { OnOk result (items.new.items ≡ items.old.items ++ items_of symbols.now counter statement.now) }
+    ensures few { OnOk result (IsFew statement.now) }
+{
+    if has_words(statement) && counter.place == counter.base {
+        push_head(items, counter.base as u16)?;
+    }
+    push_bare(items, symbols, counter, statement)
 }
 
 /// The location of a name, if it is in the store, and 0 if there is none.

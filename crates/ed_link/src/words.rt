@@ -4,9 +4,7 @@ ghost use Rattle.std.specs.Prelude.{false, ℕ};
 ghost use Rattle.std.specs.List.{flat_map};
 ghost use Rattle.ed_words.specs.Words.{digit};
 ghost use Rattle.ed_notation.specs.Fold.{word_with};
-ghost use Rattle.ed_library.specs.Entries.{entry};
-ghost use Rattle.ed_library.specs.Images.{routine_word};
-ghost use Rattle.ed_library.specs.Routines.{find, table_item, place_count};
+ghost use Rattle.ed_library.specs.Routines.{find};
 ghost use Rattle.ed_symbols.specs.Places.{segment_at, even_from, routine_places};
 ghost use Rattle.ed_link.specs.Linked.{image, placed_words, long_words, operand_number, parameters, placed_by_line};
 ghost use Rattle.ed_link.specs.Linked.{preset};
@@ -18,9 +16,9 @@ ghost use Rattle.ed_link.specs.Tables.{put_all, place_word, words_from};
 use crate::linked::Placed;
 use crate::operands::{PARAMETER_LETTERS, number, parameters, setting};
 use ed_codes::Code;
-use ed_library::{Parameters, Routine, find, image_word};
-use ed_syntax::{Name, Operand, Setting, Statement};
+use ed_library::{find, image_word};
 use ed_symbols::{Definition, LocationCounter, even};
+use ed_syntax::{Name, Operand, Setting, Statement};
 use ed_words::{Long, NoMemory, Word};
 use std::alloc::Global;
 
@@ -96,19 +94,6 @@ fn put_presets(
     }
 }
 
-/// Puts the words of a routine.
-fn put_routine(table: &mut Vec<Option<Word>>, parameters: &Parameters, base: u16, routine: Routine)
-    requires { base + place_count routine ≤ length table.old.items }
-    ensures { table.new.items
-        ≡ put_all table.old.items (placed_words base (map (λ row. routine_word parameters.now base (table_item row))
-        (entry routine).items)) }
-{
-    for place in 0..routine.length() {
-        let word = image_word(&routine, place, base, parameters);
-        put(table, u32::from(base) + u32::from(place), word);
-    }
-}
-
 /// Puts the words of a `use`.
 #[tactic(auto, using(crate::proofs::Lengths::put_all_append))]
 fn put_use(
@@ -126,9 +111,13 @@ fn put_use(
         (find routine.now)) }
 {
     put_presets(table, symbols, settings, &PARAMETER_LETTERS);
-    if let Some(routine) = find(routine.text()) {
-        let _ = routine.length();
-        put_routine(table, &parameters(symbols, settings), base as u16, routine);
+    let Some(routine) = find(routine.text()) else {
+        return;
+    };
+    let parameters = parameters(symbols, settings);
+    for place in 0..routine.length() {
+        let word = image_word(&routine, place, base as u16, &parameters);
+        put(table, base + u32::from(place), word);
     }
 }
 

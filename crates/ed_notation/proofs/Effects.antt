@@ -15,11 +15,19 @@ use Rattle.ed_notation.specs.declared.kind.LetterAction.{LetterAction}
 use Rattle.ed_notation.specs.declared.kind.LetterAction.TheVariants.{Places, Enters, Nowhere, Unset}
 use Rattle.ed_notation.specs.declared.reader.DirectiveState.{DirectiveState}
 use Rattle.ed_notation.specs.declared.reader.PartialItem.{PartialItem}
+use Rattle.ed_notation.specs.declared.reader.RowEffect.{RowEffect}
 use Rattle.ed_notation.specs.declared.reader.RowEffect.TheVariants.{Refused, Longer, Ended, Placed, Entered}
 use Rattle.ed_notation.specs.Faults.{is_place}
 use Rattle.ed_notation.specs.Fold.{address, control_of, letter_action_of}
 use Rattle.ed_notation.specs.Reading.{digit_effect, kay_effect, zed_effect, letter_effect, part_word, row_effect}
-use Rattle.ed_notation.specs.Reading.{IsEffectInRange}
+
+-- the numbers of what a row does are in range
+abbrev pub IsEffectInRange : DirectiveState → RowEffect → Type 0
+IsEffectInRange setting (Refused cause) = Unit {0}
+IsEffectInRange setting (Longer part k) = (part.number ≤ 32767) × (k ≤ 17)
+IsEffectInRange setting (Ended next k) = k ≤ 17
+IsEffectInRange setting (Placed at word) = (at < 1024) × (setting.directive < 24576)
+IsEffectInRange setting (Entered at) = at < 1024
 
 -- a T directive is below 24576
 places_low : (d : ℕ) → letter_action_of d ≡ Places → d < 24576
@@ -110,11 +118,6 @@ module _ (z : Size) (setting : DirectiveState) (part : PartialItem) where
       by_tests false false false below = in_store at below
   letter Nowhere word is = tt
   letter Unset word is = tt
-
--- what a code letter does
-pub letter_in_range : (z : Size) (setting : DirectiveState) (part : PartialItem) (word : ℕ)
-    → IsEffectInRange setting (letter_effect z (letter_action_of setting.directive) setting word)
-letter_in_range z setting part word = letter z setting part (letter_action_of setting.directive) word refl
 
 -- what a row of some kind does
 pub in_range : (z : Size) (kind : RowKind) (words : List ℕ) (setting : DirectiveState) (part : PartialItem) (c : ℕ)

@@ -17,8 +17,9 @@ use Rattle.ed_notation.specs.Openings.{IsDirective, opening_with}
 use Rattle.ed_notation.specs.Fold.{NotationState, over}
 use Rattle.ed_notation.specs.Faults.{IsFault}
 use Rattle.ed_notation.specs.Reading.{row_effect, setting_of, set_by, placed_by, entry_by}
-use Rattle.ed_notation.specs.Reading.{reading_on, part_of, IsPartial, IsEffectInRange}
+use Rattle.ed_notation.specs.Reading.{reading_on, part_of, IsPartial}
 use Rattle.ed_notation.specs.Checks.{marks_of, ArePlaces, Arrives}
+use Rattle.ed_notation.proofs.Effects.{IsEffectInRange, in_range}
 use Rattle.ed_notation.proofs.Follow.{Reader, reads, follow, function_begins}
 use Rattle.ed_notation.proofs.Laws.{faulty_is, arrived_well, arrived_comes}
 
@@ -103,6 +104,12 @@ module _ {k : Check} {row cost : ℕ} {setting : DirectiveState} {contents : Lis
     abbrev Row : RowEffect → Type 0
     Row t = t ≡ row_effect k.size (row_kind c) contents setting i c
 
+    -- the numbers of what the row does are in range
+    pub taken : (t : RowEffect) → Row t → IsEffectInRange setting t
+    taken t h =
+        subst (λ (t : RowEffect). IsEffectInRange setting t) (sym h)
+        (in_range k.size (row_kind c) contents setting i c a.partial)
+
     abbrev here : Reader
     here = reader k row cost a.notation
 
@@ -116,9 +123,9 @@ module _ {k : Check} {row cost : ℕ} {setting : DirectiveState} {contents : Lis
         ∙ ap (λ x. reads here (Some i) x) (next_row k.rows row c l e)
         ∙ ap (λ t. follow here i c (drop (row + 1) k.rows) t) seen
 
-    pub longer : {j : PartialItem} {n : ℕ} → Row (Longer j n) → IsEffectInRange setting (Longer j n)
+    pub longer : {j : PartialItem} {n : ℕ} → Row (Longer j n)
         → StandsAt k (row + 1) (cost + n) setting (Some j) contents marks
-    longer {j} {n} h f = record {
+    longer {j} {n} h = let f = taken (Longer j n) h in record {
       notation = a.notation;
       same = same (Longer j n) h;
       state = a.state;
@@ -128,9 +135,9 @@ module _ {k : Check} {row cost : ℕ} {setting : DirectiveState} {contents : Lis
       cheap = omega (arith, a.cheap, f.1);
     }
 
-    pub ended : {s : DirectiveState} {n : ℕ} → Row (Ended s n) → IsEffectInRange setting (Ended s n)
+    pub ended : {s : DirectiveState} {n : ℕ} → Row (Ended s n)
         → StandsAt k (row + 1) (cost + n) s None contents marks
-    ended {s} {n} h f = record {
+    ended {s} {n} h = let f = taken (Ended s n) h in record {
       notation = set_by s a.notation;
       same = same (Ended s n) h;
       state = record {
@@ -145,10 +152,10 @@ module _ {k : Check} {row cost : ℕ} {setting : DirectiveState} {contents : Lis
       cheap = omega (arith, a.cheap, f);
     }
 
-    pub placed : {at word : ℕ} → Row (Placed at word) → IsEffectInRange setting (Placed at word)
+    pub placed : {at word : ℕ} → Row (Placed at word)
         → StandsAt k (row + 1) (cost + 17) (record { directive = setting.directive + 2; theta = setting.theta }) None
         (slice_set contents at word) (slice_set marks at true)
-    placed {at} {word} h f = record {
+    placed {at} {word} h = let f = taken (Placed at word) h in record {
       notation = placed_by at word a.notation;
       same = same (Placed at word) h;
       state = record {

@@ -1,6 +1,6 @@
 -- The reading of a tape row by row, a plain program next to the rules over items. `ReadingAlwaysIsRules`, at the end,
 -- says that both agree on every tape; the contract of `check` states it.
-use Rattle.std.specs.Prelude.{ℕ, ◌≡◌, ◌⊎◌, ◌+◌, ◌*◌, ◌%◌, ◌^◌, true, false, nat_eq, nat_lt, nat_le, ◌<◌, ◌≤◌}
+use Rattle.std.specs.Prelude.{ℕ, ◌≡◌, ◌⊎◌, ◌+◌, ◌*◌, ◌%◌, ◌^◌, true, false, nat_eq, nat_lt, nat_le, ◌≤◌}
 use Rattle.std.specs.Prelude.{if◌then◌else◌, Option, Some, None, List, [], ◌∷◌}
 use Rattle.ed_words.specs.declared.size.Size.{Size}
 use Rattle.ed_words.specs.Sizes.{locations}
@@ -156,14 +156,6 @@ reading_on z words row cost notation (Some part) (c ∷ rows) =
 abbrev pub IsPartial : Option PartialItem → Type 0
 IsPartial None = Unit {0}
 IsPartial (Some part) = part.number ≤ 32767
-
--- the numbers of what a row does are in range
-abbrev pub IsEffectInRange : DirectiveState → RowEffect → Type 0
-IsEffectInRange setting (Refused cause) = Unit {0}
-IsEffectInRange setting (Longer part k) = (part.number ≤ 32767) × (k ≤ 17)
-IsEffectInRange setting (Ended next k) = k ≤ 17
-IsEffectInRange setting (Placed at word) = (at < 1024) × (setting.directive < 24576)
-IsEffectInRange setting (Entered at) = at < 1024
 
 -- the reading and the rules over items agree on this tape, from this opening state
 pub record ReadingIsRules (z : Size) (words : List ℕ) (start : NotationState) (base : ℕ) (rows : List ℕ) : Type 0 where

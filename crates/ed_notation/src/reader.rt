@@ -4,7 +4,7 @@ ghost use Rattle.ed_notation.specs.Fold.{address, control_of, letter_action_of};
 ghost use Rattle.ed_notation.specs.Faults.{is_place};
 ghost use Rattle.ed_notation.specs.Reading.{digit_effect, mark_effect, kay_effect, zed_effect, blank_effect};
 ghost use Rattle.ed_notation.specs.Reading.{letter_effect};
-ghost use Rattle.ed_notation.specs.Reading.{part_word, part_of, row_effect, IsEffectInRange};
+ghost use Rattle.ed_notation.specs.Reading.{part_word, part_of, row_effect};
 
 use crate::cause::TapeCause;
 use crate::kind::{Control, LetterAction, RowKind};
@@ -62,8 +62,7 @@ pub fn take(
     row: Code,
 ) -> RowEffect
     requires { part.now.number ≤ 32767 }
-    ensures is { result ≡ row_effect size (row_kind row) contents.now.words setting.now part.now row }
-    ensures fits { IsEffectInRange setting.now result }
+    ensures { result ≡ row_effect size (row_kind row) contents.now.words setting.now part.now row }
 {
     match RowKind::of(row) {
         RowKind::Digit => part.take_digit(row.value()),

@@ -7,6 +7,7 @@ ghost use Rattle.ed_orders.specs.Texts.{length_text, number_text, order_text};
 use arrayvec::ArrayString;
 use ed_codes::{Code, byte_of};
 use ed_words::Word;
+use itoa::Buffer;
 
 /// The text of an order word: the letter or sign of its function, its number, which is `1024·spare + address`, in
 /// decimal unless it is 0, and D or F. It has at most 6 bytes.
@@ -46,22 +47,8 @@ fn push_number(text: &mut ArrayString<12>, number: u16)
     ensures len { array_string_len text.new ≤ array_string_len text.old + 4 }
 {
     if number != 0 {
-        push_decimal(text, number);
-    }
-}
-
-/// Writes a number in decimal.
-#[tactic(auto, using(std::proofs::lemmas::Fmt::decimal_digit))]
-fn push_decimal(text: &mut ArrayString<12>, number: u16)
-    requires { array_string_len text.old + length (decimal number) ≤ 12 }
-    ensures bytes { text.new.bytes ≡ text.old.bytes ++ decimal number }
-    ensures len { array_string_len text.new ≡ array_string_len text.old + length (decimal number) }
-{
-    if number < 10 {
-        push_byte(text, b'0' + number as u8);
-    } else {
-        push_decimal(text, number / 10);
-        push_byte(text, b'0' + (number % 10) as u8);
+        let mut digits = Buffer::new();
+        text.push_str(digits.format(number));
     }
 }
 

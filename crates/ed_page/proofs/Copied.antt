@@ -2,7 +2,8 @@
 use Rattle.std.proofs.Common.{◌≡◌, ◌∙◌, ℕ, ◌+◌, ◌<◌, ◌≤◌, refl, sym, ap, add-one, arith, List, [], ◌∷◌, ◌++◌}
 use Rattle.std.proofs.Common.{append_assoc, append-nil, length, get_or, set, take, drop, drop-cons}
 use Rattle.std.specs.List.{flat_map}
-use Rattle.std.specs.Prelude.{reverse}
+use Rattle.std.specs.Option.{UnwrapsOrElse}
+use Rattle.std.specs.Prelude.{◌↔◌, IfSome, IsNone, None, Option, Some, reverse}
 use Rattle.std.proofs.lemmas.List.{drop_all, length-take-le}
 use Rattle.std.proofs.Math.Seq.{set-append_seam, take-suc}
 use Rattle.ed_printer.specs.Paper.{latest_shift, paper_from}
@@ -14,6 +15,12 @@ use Rattle.ed_page.specs.TapeItems.{four_bytes}
 -- the item taken, and those left after it
 left_by : (s : List ℕ) (i x : ℕ) → i < length s → x ≡ get_or s i 0 → drop i s ≡ x ∷ drop (i + 1) s
 left_by s i x below is = rw (is, add-one) (drop-cons s i 0 below)
+
+-- the code of a number below 32
+pub known_code : (o : Option ℕ) (default : ℕ → Type 0) (x n : ℕ) → (IsNone o ↔ (32 ≤ n)) → IfSome o (λ c. c ≡ n)
+    → n < 32 → UnwrapsOrElse o default x → x ≡ n
+known_code (Some c) default x n none some low is = is ∙ some
+known_code None default x n none some low is = absurd (omega (arith, low, none.0 refl))
 
 -- one more is copied
 pub copied_more : (done more s : List ℕ) (i x : ℕ) → more ≡ done ++ x ∷ [] → i < length s → x ≡ get_or s i 0

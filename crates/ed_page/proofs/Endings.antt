@@ -1,5 +1,7 @@
 -- From a run that ended, with its note, to what the program answers of it.
-use Rattle.std.proofs.Common.{◌≡◌, ◌∙◌, ℕ, ap, Option, None, List, [], ◌++◌}
+use Rattle.std.proofs.Common.{◌≡◌, ◌∙◌, ℕ, ap, subst, Option, None, List, [], ◌++◌}
+use Rattle.std.specs.Prelude.{Result, Ok, IfOk}
+use Rattle.ed_words.specs.declared.memory.NoMemory.{NoMemory}
 use Rattle.std.proofs.lemmas.List.{append-nil}
 use Rattle.ed_syntax.specs.declared.program.Line.{Line}
 use Rattle.ed_link.specs.Tapes.{tape}
@@ -13,6 +15,7 @@ use Rattle.ed_answers.specs.Runs.{post_mortem_codes, ran_outcome, run_of, status
 use Rattle.ed_answers.specs.Sources.{entered_before, run_outcome}
 use Rattle.ed_answers.specs.Tapes.{tape_outcome}
 use Rattle.ed_answers.specs.Replies.{IsRan}
+use Rattle.ed_answers.specs.declared.running.FinishedRun.{FinishedRun}
 use Rattle.ed_answers.specs.declared.source.NotedRun.{NotedRun}
 use Rattle.ed_page.specs.Private.Stages.{noted_outcome}
 
@@ -42,3 +45,8 @@ noted_run before {r} noted is n =
     let line : noted.note.items ≡ before ++ ending_line r.ending r.state =
     n ∙ (λ i. before ++ ending_line (is.ending_is i) (is.state_is i)) in
     λ i. record { out = paper (is.codes_are i); note = line i; status = status_of (is.ending_is i) }
+
+-- what holds of a run if there is one holds of the run that there is
+pub ran_is : {r : Result FinishedRun NoMemory} {ran : FinishedRun} (P : FinishedRun → Type 0) → r ≡ Ok ran → IfOk r P
+    → P ran
+ran_is P is holds = subst (λ (x : Result FinishedRun NoMemory). IfOk x P) is holds

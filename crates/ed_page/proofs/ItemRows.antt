@@ -5,7 +5,7 @@ use Rattle.std.proofs.Common.{Option, Some, None, List, [], ◌∷◌, ◌++◌,
 use Rattle.std.proofs.Common.{if◌then◌else◌, subst, take, inl, inr, lit<, lit≤, get_or}
 use Rattle.std.proofs.lemmas.List.{append-nil, drop_all, get_or-replicate}
 use Rattle.std.proofs.Math.Seq.{set_out, take-append-add, take-append_seam}
-use Rattle.std.specs.Prelude.{Ok, Result, slice_set}
+use Rattle.std.specs.Prelude.{slice_set}
 use Rattle.ed_words.specs.declared.size.Size.{Size}
 use Rattle.ed_words.proofs.Numbers.{lt_false, lt_true}
 use Rattle.ed_store.specs.Cells.{Cells, IsStore, cleared_cells, with_short}
@@ -17,10 +17,8 @@ use Rattle.ed_notation.specs.declared.kind.Control.TheVariants.{ThetaByBlank, Th
 use Rattle.ed_notation.specs.declared.kind.RowKind.{RowKind}
 use Rattle.ed_notation.specs.declared.kind.RowKind.TheVariants.{Blank, Digit, Kay, Letter, Mark, Other, Zed}
 use Rattle.ed_notation.specs.declared.cause.TapeCause.{TapeCause}
-use Rattle.ed_notation.specs.declared.cause.TapeFault.{TapeFault}
-use Rattle.ed_notation.specs.Checks.{AnswersCheck}
+use Rattle.ed_notation.specs.Checks.{Accepts}
 use Rattle.ed_notation.specs.Faults.{AreRead, IsFault, IsPart, part_rows}
-use Rattle.ed_notation.specs.Openings.{opening}
 use Rattle.ed_notation.specs.Reports.{Report}
 use Rattle.ed_notation.proofs.Cuts.{spelled-append}
 use Rattle.ed_notation.proofs.Loop.{next_row}
@@ -41,7 +39,7 @@ use Rattle.ed_page.specs.declared.items.Notation.{Notation}
 use Rattle.ed_page.specs.declared.items.OpenItem.{OpenItem}
 use Rattle.ed_answers.specs.Replies.{Gives}
 use Rattle.ed_answers.specs.declared.reply.Reply.{Reply}
-use Rattle.ed_page.specs.Private.Stages.{IsReplied, HasEntryRows}
+use Rattle.ed_page.specs.Private.Stages.{IsReplied}
 
 -- ---- what the fold places
 
@@ -309,12 +307,6 @@ beyond cells a v is past =
 
 -- ---- the items of a tape
 
--- what a check answers on a cleared store
-pub entered : (z : Size) (codes : List ℕ) {store : Cells} → store ≡ cleared_cells → (r : Result Report TapeFault)
-    → AnswersCheck z store.words (opening store.words) 9 codes r
-    → AnswersCheck z cleared_cells.words first_note 9 codes r
-entered z codes is r answers = subst (λ (c : Cells). AnswersCheck z c.words (opening c.words) 9 codes r) is answers
-
 first_over : IsNoteOver cleared_cells.words first_note first_notation
 first_over = record {
   directive = refl;
@@ -327,9 +319,10 @@ AreWritten-append [] ws a b = b
 AreWritten-append (v ∷ vs) ws a b = (a.0, AreWritten-append vs ws a.1 b)
 
 -- what is answered to a well-formed tape
-pub entered_told : (z : Size) {codes : List ℕ} {count : ℕ} {reply : Reply} → HasEntryRows z codes (Ok count)
+pub entered_told : (z : Size) {codes : List ℕ} {r : Report} {count : ℕ} {reply : Reply}
+    → Accepts z cleared_cells.words first_note 9 codes r → count ≡ r.rows
     → Gives reply (done (table_on 0 first_notation None (take count codes))) → IsReplied (IsItemsOutcome z) codes reply
-entered_told z {codes} {count} {reply} (r, f, many) tells =
+entered_told z {codes} {r} {count} {reply} f many tells =
     let ws = f.comes.before in
     let last = f.comes.last in
     let all = ws ++ (last ∷ []) in

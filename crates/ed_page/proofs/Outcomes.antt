@@ -2,17 +2,14 @@
 use Rattle.ed_words.specs.Texts.{Text}
 use Rattle.ed_command.specs.declared.command.Settings.{Settings}
 use Rattle.ed_answers.specs.Answer.{IsDue, of_input}
-use Rattle.ed_answers.specs.FirstOrders.{tape1_outcome}
 use Rattle.ed_answers.specs.Outcome.{Outcome}
 use Rattle.ed_answers.specs.Sources.{run_outcome}
-use Rattle.ed_answers.specs.Tapes.{tape_outcome}
 use Rattle.ed_answers.proofs.OneOutcome.{rows_once, source_once}
 use Rattle.ed_answers.proofs.Replies.{exactly_one}
-use Rattle.ed_page.specs.Private.Asked.{answers_of}
+use Rattle.ed_page.specs.Private.Asked.{answers_of, tape_outcome_by}
 use Rattle.ed_page.specs.declared.running.ProgramKind.{ProgramKind}
-use Rattle.ed_page.specs.declared.running.ProgramKind.TheVariants.{Tape, Tape1, Source}
+use Rattle.ed_page.specs.declared.running.ProgramKind.TheVariants.{Tape, Source}
 
 pub program_due : (p : ProgramKind) (s : Settings) (text : Text) → (o : Outcome) × IsDue (of_input (answers_of p s)) text o
-program_due Tape s text = (rows_once _ (exactly_one (tape_outcome s))).some text
-program_due Tape1 s text = (rows_once _ (exactly_one (tape1_outcome s))).some text
+program_due (Tape orders) s text = (rows_once _ (exactly_one (tape_outcome_by orders s))).some text
 program_due Source s text = (source_once s.size (run_outcome s)).some text

@@ -8,16 +8,15 @@ use Rattle.ed_codes.specs.Reading.{Reading, rows, no_row, open_comment, reading}
 use Rattle.ed_machine.specs.State.{State}
 use Rattle.ed_syntax.specs.declared.program.Line.{Line}
 use Rattle.ed_syntax.specs.declared.fault.SourceFault.TheVariants.{At}
-use Rattle.ed_link.specs.Answers.{IsLinked}
+use Rattle.ed_answers.specs.Refusals.{IsAcceptedAs}
 use Rattle.ed_answers.proofs.EachSource.{one_answer}
 use Rattle.ed_link.specs.Tapes.{tape}
-use Rattle.ed_link.specs.declared.linked.Linked.{Linked}
 use Rattle.ed_report.specs.Notes.{ending_line, source_fault_line}
 use Rattle.ed_command.specs.declared.command.Settings.{Settings}
 use Rattle.ed_answers.specs.Answer.{OfReading, exactly, of_input}
 use Rattle.ed_words.specs.Texts.{Text}
 use Rattle.ed_answers.specs.Outcome.{Outcome, refusal}
-use Rattle.ed_answers.specs.Replies.{Gives, IsRan, IsRanOf, LinksSource, RefusesText, Replies}
+use Rattle.ed_answers.specs.Replies.{Gives, IsRan, IsRanOf, LinksSource, RefusesText, Replies, RunsSource}
 use Rattle.ed_answers.specs.Runs.{run_of, ran_outcome}
 use Rattle.ed_answers.specs.Sources.{OfSource, entered_before, run_outcome}
 use Rattle.ed_answers.specs.declared.reply.Rejection.{Rejection}
@@ -148,46 +147,42 @@ replied answers text (Err (Refused reply)) is = is
 replied answers text (Err Memory) is = tt
 
 -- the run of its tape
-pub source_run : (s : Settings) (text : Text) {k : Linked} {noted : NotedRun} → LinksSource s.size text (Ok k)
+ran_source : (s : Settings) (text : Text) (noted : NotedRun)
     → ((lines : List Line) → run_outcome s lines
     ≡ ran_outcome (entered_before lines (run_of s (tape lines)).state) (run_of s (tape lines)))
-    → ((lines : List Line) → IsLinked s.size lines k → IsRanOf s lines noted)
+    → (lines : List Line) × IsAcceptedAs s.size text lines × IsRanOf s lines noted
     → Runs (OfSource s.size (run_outcome s)) (SourceEnds s) text (Ok noted)
-source_run s text {noted = noted} l plain ran =
-    let is = ran l.0 l.2 in
+ran_source s text noted plain (lines, accepted, is) =
     let state = (λ (lines : List Line). (run_of s (tape lines)).state) in
     let line : noted.note.items
-    ≡ entered_before l.0 (state l.0) ++ ending_line noted.ran.ending noted.ran.machine =
+    ≡ entered_before lines (state lines) ++ ending_line noted.ran.ending noted.ran.machine =
     is.note_is
-    ∙ ap (λ (m : State). entered_before l.0 m ++ ending_line noted.ran.ending noted.ran.machine) is.ran.state_is in (
-      inr (l.0, l.1, plain l.0 ∙ sym (noted_run (entered_before l.0 (state l.0)) noted is.ran line)),
+    ∙ ap (λ (m : State). entered_before lines m ++ ending_line noted.ran.ending noted.ran.machine) is.ran.state_is in (
+      inr (lines, accepted, plain lines ∙ sym (noted_run (entered_before lines (state lines)) noted is.ran line)),
       record {
         some = λ m ends.
             ap (λ (t : State). Some t) is.ran.state_is
-            ∙ ap (λ (lines : List Line). Some (state lines))
-            (one_answer.one_program s.size text l.0 ends.0 l.1 ends.1)
+            ∙ ap (λ (all : List Line). Some (state all))
+            (one_answer.one_program s.size text lines ends.0 accepted ends.1)
             ∙ ap (λ (t : State). Some t) (sym ends.2);
-        none = λ nothing. absurd (nothing (state l.0) (l.0, l.1, refl));
+        none = λ nothing. absurd (nothing (state lines) (lines, accepted, refl));
       },
     )
 
 -- a source that is refused is not accepted, so that no run of it ends
-not_accepted : (s : Settings) (text : Text) (e : Rejection) → LinksSource s.size text (Err e)
-    → Runs (OfSource s.size (run_outcome s)) (SourceEnds s) text (Err e)
-not_accepted s text Memory l = tt
-not_accepted s text (Refused reply) l = (
+pub source_run : (s : Settings) (text : Text) (r : Result NotedRun Rejection)
+    → ((lines : List Line) → run_outcome s lines
+    ≡ ran_outcome (entered_before lines (run_of s (tape lines)).state) (run_of s (tape lines)))
+    → RunsSource s text r → Runs (OfSource s.size (run_outcome s)) (SourceEnds s) text r
+source_run s text (Ok noted) plain is = ran_source s text noted plain is
+source_run s text (Err Memory) plain l = tt
+source_run s text (Err (Refused reply)) plain l = (
   refused_source s.size (run_outcome s) text reply l,
   record {
     some = λ m ends. absurd (one_answer.never_both s.size text ends.0 l.0 l.1 ends.1 l.2);
     none = λ nothing. refl;
   },
 )
-
-pub source_not_run : (s : Settings) (text : Text) (e : Rejection) (r : Result NotedRun Rejection)
-    → LinksSource s.size text (Err e) → IsErr r × IsErrAnd r (λ handed. handed ≡ e)
-    → Runs (OfSource s.size (run_outcome s)) (SourceEnds s) text r
-source_not_run s text e r l handed =
-    passed (Runs (OfSource s.size (run_outcome s)) (SourceEnds s) text) e r (not_accepted s text e l) handed
 
 -- ---- no memory
 

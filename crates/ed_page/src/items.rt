@@ -11,16 +11,16 @@ ghost use Rattle.ed_page.specs.Pictures.{size_shown};
 ghost use Rattle.ed_page.specs.Private.ItemTables.{IsSetAs, IsSetBelow, first_notation, is_last_row, item_at};
 ghost use Rattle.ed_page.specs.Private.ItemTables.{notation_after, note_over};
 ghost use Rattle.ed_page.specs.Private.ItemTables.{placing_over, table_on, whole_item, opened_with};
-ghost use Rattle.ed_page.specs.Private.Stages.{IsAnswered, HasEntryRows};
+ghost use Rattle.ed_page.specs.Private.Stages.{IsAnswered};
 ghost use Rattle.ed_page.specs.TapeItems.{IsItemsOutcome, PlacingLaw, four_bytes, item_line, items_answer};
 ghost use Rattle.ed_answers.specs.declared.input.TheConstants.{INPUT_BYTES};
 
 use crate::asked::{Asked, AskedOfRows, write_answer};
 use crate::running::size_of;
 use crate::writing::Lengths;
-use ed_answers::{Rejection, Reply};
+use ed_answers::{Rejection, Reply, check_from_cleared};
 use ed_codes::{Code, letters};
-use ed_notation::{FIRST_DIRECTIVE, TapeFault, check};
+use ed_notation::{FIRST_DIRECTIVE, TapeFault};
 use ed_report::tape_fault;
 use ed_store::{LOCATIONS, Store};
 use ed_words::{NoMemory, Size, Word};
@@ -77,8 +77,8 @@ pub fn row_items(alloc: Global, size: Size, rows: &[Code]) -> Result<Reply, Reje
     requires { length rows.now ≤ INPUT_BYTES }
     ensures { IsAnswered (IsItemsOutcome size) rows.now result }
 {
-    match entered_rows(alloc, size, rows) {
-        Ok(entered) => Ok(Reply::done(alloc, item_table(alloc, rows, entered)?)),
+    match check_from_cleared(alloc, size, rows) {
+        Ok(checked) => Ok(Reply::done(alloc, item_table(alloc, rows, checked.rows())?)),
         Err(TapeFault::At { row, cause }) => {
             let note = tape_fault(alloc, &TapeFault::At { row, cause })?;
             let out = item_table(alloc, rows, row)?;
@@ -90,15 +90,6 @@ pub fn row_items(alloc: Global, size: Size, rows: &[Code]) -> Result<Reply, Reje
         }
         Err(TapeFault::Memory) => Err(Rejection::Memory),
     }
-}
-
-/// The number of rows up to the entry of a tape on a cleared store, or its fault.
-fn entered_rows(alloc: Global, size: Size, rows: &[Code]) -> Result<usize, TapeFault>
-    requires { length rows.now ≤ INPUT_BYTES }
-    ensures { HasEntryRows size rows.now result }
-{
-    let store = Store::cleared(alloc)?;
-    Ok(check(alloc, size, &store, rows)?.rows())
 }
 
 /// The table of the items that the first rows spell.

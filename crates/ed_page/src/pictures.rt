@@ -15,7 +15,7 @@ ghost use Rattle.ed_page.specs.Pictures.{run_settings, size_shown};
 ghost use Rattle.ed_page.specs.Private.Asked.{answers_of, ends_of};
 ghost use Rattle.ed_page.specs.Private.Stages.{WritesBuffers, told_outcome};
 
-use crate::running::{ProgramKind, picture_of, run_settings};
+use crate::running::{InitialOrders, ProgramKind, picture_of, run_settings};
 use crate::told::{NO_MEMORY, NO_ROOM, TOO_LONG_STATUS, write_texts};
 use crate::writing::{NO_CODE, Registers, registers_of, write_store};
 use ed_answers::{INPUT_BYTES, TOO_LONG};
@@ -56,7 +56,7 @@ pub extern "C" fn page_tape(
     let settings = run_settings(small, orders, resumes);
     draw(
         alloc,
-        ProgramKind::Tape,
+        ProgramKind::Tape(InitialOrders::All41),
         settings,
         text,
         words,
@@ -91,7 +91,7 @@ pub extern "C" fn page_tape1(
     let settings = run_settings(false, orders, resumes);
     draw(
         alloc,
-        ProgramKind::Tape1,
+        ProgramKind::Tape(InitialOrders::May1949),
         settings,
         text,
         words,

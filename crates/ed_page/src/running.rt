@@ -3,9 +3,7 @@ ghost use Rattle.ed_page.specs.Pictures.{run_settings, size_shown};
 ghost use Rattle.ed_page.specs.Private.Asked.{answers_of, ends_of};
 ghost use Rattle.ed_page.specs.Private.Stages.{IsPicture, Runs};
 
-use ed_answers::{
-    NotedRun, Rejection, Reply, linked_of, ran_reply, rows_of, run_linked, run_rows, run_rows1,
-};
+use ed_answers::{NotedRun, Rejection, Reply, ran_reply, rows_of, run_rows, run_rows1, run_source};
 use ed_command::Settings;
 use ed_machine::Machine;
 use ed_report::ending_text;
@@ -15,12 +13,19 @@ use std::alloc::Global;
 /// The kind of a program that is run.
 #[derive(Drop)]
 pub enum ProgramKind {
-    /// A tape for the 41 Initial Orders.
-    Tape,
-    /// A tape for the Initial Orders of May 1949.
-    Tape1,
+    /// A tape.
+    Tape(InitialOrders),
     /// A source, for the 41 Initial Orders.
     Source,
+}
+
+/// The Initial Orders that read a tape.
+#[derive(Drop)]
+pub enum InitialOrders {
+    /// The 41 Initial Orders.
+    All41,
+    /// The Initial Orders of May 1949.
+    May1949,
 }
 
 /// What is shown of a text: what the program answers, and the machine if it ran.
@@ -82,14 +87,15 @@ fn run_program(
     requires { settings.post_mortem ≡ None }
     ensures { Runs (answers_of kind settings) (ends_of kind settings) text.now result }
 {
-    let ran = match kind {
-        ProgramKind::Tape => run_rows(alloc, settings, rows_of(alloc, text)?)?,
-        ProgramKind::Tape1 => run_rows1(alloc, settings, rows_of(alloc, text)?)?,
-        ProgramKind::Source => {
-            let linked = linked_of(alloc, settings.size, text)?;
-            return Ok(run_linked(alloc, settings, &linked)?);
-        }
+    let initial_orders = match kind {
+        ProgramKind::Tape(initial_orders) => initial_orders,
+        ProgramKind::Source => return run_source(alloc, settings, text),
     };
+    let rows = rows_of(alloc, text)?;
+    let ran = match initial_orders {
+        InitialOrders::All41 => run_rows(alloc, settings, rows),
+        InitialOrders::May1949 => run_rows1(alloc, settings, rows),
+    }?;
     let note = ending_text(alloc, ran.ending, &ran.machine)?;
     Ok(NotedRun { ran, note })
 }

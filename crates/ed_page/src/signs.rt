@@ -29,20 +29,10 @@ pub extern "C" fn page_order(word: u32, buffer: &mut [u8]) -> usize
     ensures none { (2 ^ 17 ≤ word) ⊎ (length buffer.old < length (order_text word)) → result ≡ 0 }
     ensures untouched { (2 ^ 17 ≤ word) ⊎ (length buffer.old < length (order_text word)) → buffer.new ≡ buffer.old }
 {
-    match Word::new(word) {
-        Some(word) => write_order(word, buffer),
-        None => 0,
-    }
-}
-
-/// Writes the text of a word at the beginning of a buffer with room for it, and answers its length; otherwise 0.
-fn write_order(word: Word, buffer: &mut [u8]) -> usize
-    ensures text { length (order_text word) ≤ length buffer.old → take result buffer.new ≡ order_text word }
-    ensures length { length (order_text word) ≤ length buffer.old → result ≡ length (order_text word) }
-    ensures none { length buffer.old < length (order_text word) → result ≡ 0 }
-    ensures untouched { length buffer.old < length (order_text word) → buffer.new ≡ buffer.old }
-{
-    let text = order_text(word);
+    let Some(order) = Word::new(word) else {
+        return 0;
+    };
+    let text = order_text(order);
     let bytes = text.as_bytes();
     if buffer.len() < bytes.len() {
         return 0;

@@ -77,6 +77,10 @@ pub fn registers_of(machine: &Machine, lengths: Lengths) -> Registers
     ensures printed { result.printed ≡ lengths.out }
     ensures noted { result.noted ≡ lengths.note }
 {
+    let last = match machine.last_printed() {
+        Some(code) => u64::from(code.value()),
+        None => NO_CODE,
+    };
     Registers {
         acc_low: (machine.acc() & 0xF_FFFF_FFFF) as u64,
         acc_high: (machine.acc() >> 36) as u64,
@@ -84,10 +88,7 @@ pub fn registers_of(machine: &Machine, lengths: Lengths) -> Registers
         orders: machine.orders_done(),
         rows_left: machine.rows_left().len() as u64,
         counter: u64::from(machine.counter()),
-        last: match machine.last_printed() {
-            Some(code) => u64::from(code.value()),
-            None => NO_CODE,
-        },
+        last,
         printed: lengths.out,
         noted: lengths.note,
     }

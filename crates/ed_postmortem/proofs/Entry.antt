@@ -66,7 +66,7 @@ rows_are first count =
     ∙ ap (λ x. rows_of_text (codes "T45K") ++ x) split
     ∙ whole
 
-parameter_spellable : (n : ℕ) → n ≤ 1024 → is_spellable (count_item n) ≡ true
+pub parameter_spellable : (n : ℕ) → n ≤ 1024 → is_spellable (count_item n) ≡ true
 parameter_spellable n h = rw (le_true n 32767 (omega arith)) refl
 
 module _ (z : Size) (words : List ℕ) (first count : ℕ) (f_fits : first ≤ 1024) (c_fits : count ≤ 1024) where

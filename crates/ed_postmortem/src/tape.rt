@@ -1,15 +1,12 @@
-ghost use Rattle.std.specs.Prelude.{◌≡◌, ◌≤◌, ◌++◌, IfOk};
-ghost use Rattle.ed_postmortem.specs.Tape.{count_item, rows_of_text, tape_rows};
+ghost use Rattle.std.specs.Prelude.{◌≡◌, ◌≤◌, ◌++◌, IfOk, false};
+ghost use Rattle.ed_postmortem.specs.Tape.{rows_of_text, tape_rows};
 
-use ed_codes::{Code, row_of_byte};
+use ed_codes::{Code, letters, row_of_byte};
 use ed_notation::{Item, rows_of_items};
 use ed_words::NoMemory;
 use std::alloc::Global;
 
-/// The beginning of the tape, before its first location and its count.
-const HEAD: &[u8] = b"T45K";
-
-/// The rows after these: the orders of the post-mortem, ten words a line, between their directives.
+/// The rows after the first three items: the orders of the post-mortem, ten words a line, between their directives.
 const ORDERS: &[u8] = b"T56KGK\
     A83@S2FG63@T83@O64@OHO65@H66@CHT78@\
     H67@C78@T79@T80@A69@T19@T82@T81@A78@S73@\
@@ -28,23 +25,23 @@ pub(crate) fn tape(alloc: Global, first: u16, count: u16) -> Result<Vec<Code>, N
     requires count { count ≤ 1024 }
     ensures { IfOk result (λ v. v.items ≡ tape_rows first count) }
 {
-    let parameters = rows_of_items(alloc, &[parameter(first), parameter(count)])?;
-    let mut rows = Vec::new(alloc);
-    push_text(&mut rows, HEAD)?;
-    rows.extend_from_slice(&parameters)?;
+    let place_at_45 = item(Code::new(letters::T).unwrap(), 45, Code::K);
+    let first = item(Code::P, first, Code::F);
+    let count = item(Code::P, count, Code::F);
+    let mut rows = rows_of_items(alloc, &[place_at_45, first, count])?;
     push_text(&mut rows, ORDERS)?;
     Ok(rows)
 }
 
-/// The item that places twice a number.
-fn parameter(number: u16) -> Item
-    ensures { result ≡ count_item number }
+/// An item without a π.
+fn item(function: Code, number: u16, end: Code) -> Item
+    ensures { result ≡ record { function = function; number = number; mark = false; end = end } }
 {
     Item {
-        function: Code::P,
+        function,
         number,
         mark: false,
-        end: Code::F,
+        end,
     }
 }
 

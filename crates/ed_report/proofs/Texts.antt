@@ -1,5 +1,5 @@
 -- The bytes of a text that `format!` made.
-use Rattle.std.proofs.Common.{◌≡◌, ◌∙◌, subst, sym, ℕ, List, [], ◌∷◌, ◌++◌, append_assoc}
+use Rattle.std.proofs.Common.{◌≡◌, ◌∙◌, sym, ℕ, List, [], ◌∷◌, ◌++◌, append_assoc}
 use Rattle.std.specs.Prelude.{Result, Ok, Err, Some, IfOk, IfSome, IsOkAnd, string_bytes, String, Vec, codes}
 use Rattle.std.specs.Fmt.{decimal}
 use Rattle.std.specs.declared.alloc.Global.{Global}
@@ -43,9 +43,10 @@ pub no_order_wrote : (s : State) (counter orders : ℕ) (text : List ℕ) → co
 no_order_wrote s counter orders text c o t =
     rw (c, o, t) (no_order_pieces s.counter s.orders (order_text (short_at s.store s.counter)))
 
--- the line of an ending by another name that is the same
-pub named : (r : Result (Vec ℕ Global) NoMemory) (s : State) {name same : List ℕ}
-    → IfOk r (λ bytes. bytes.items ≡ at_after name s.counter s.orders ++ 10 ∷ []) → name ≡ same
-    → IfOk r (λ bytes. bytes.items ≡ at_after same s.counter s.orders ++ 10 ∷ [])
-named r s line is =
-    subst (λ (n : List ℕ). IfOk r (λ bytes. bytes.items ≡ at_after n s.counter s.orders ++ 10 ∷ [])) is line
+-- the line of an ending by another name that is the same, and by another counter and count
+pub named : (r : Result (Vec ℕ Global) NoMemory) (s : State) (more : List ℕ) {name same : List ℕ} {counter orders : ℕ}
+    → IfOk r (λ bytes. bytes.items ≡ name ++ codes " " ++ decimal counter ++ codes " after " ++ decimal orders ++ more)
+    → name ≡ same → counter ≡ s.counter → orders ≡ s.orders
+    → IfOk r (λ bytes. bytes.items
+    ≡ same ++ codes " " ++ decimal s.counter ++ codes " after " ++ decimal s.orders ++ more)
+named r s more line name counter orders = rw (← name, ← counter, ← orders) line

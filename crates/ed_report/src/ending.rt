@@ -1,7 +1,7 @@
-ghost use Rattle.std.specs.Prelude.{◌≡◌, ◌∷◌, [], ◌++◌, IfOk};
-ghost use Rattle.ed_report.specs.Notes.{at_after, ending_line, entry_note};
+ghost use Rattle.std.specs.Prelude.{◌≡◌, ◌++◌, IfOk};
+ghost use Rattle.ed_report.specs.Notes.{ending_line, entry_note};
 
-use crate::text::bytes_of_text;
+use crate::text::{bytes_of_text, place_after};
 use ed_machine::{Ending, Machine};
 use ed_orders::order_text;
 use ed_words::NoMemory;
@@ -14,13 +14,13 @@ pub fn ending_text(alloc: Global, ending: Ending, machine: &Machine) -> Result<V
     ensures { IfOk result (λ bytes. bytes.items ≡ ending_line ending machine.now) }
 {
     let name = match ending {
-        Ending::Stopped => "stopped",
-        Ending::Limit => "limit",
+        Ending::Stopped => "stopped at",
+        Ending::Limit => "limit at",
         Ending::NoOrder => return no_order_line(alloc, machine),
-        Ending::NoTape => "no tape",
-        Ending::PaperFull => "paper full",
+        Ending::NoTape => "no tape at",
+        Ending::PaperFull => "paper full at",
     };
-    ending_line(alloc, name, machine)
+    place_after(alloc, name, machine.counter(), machine.orders_done(), "\n")
 }
 
 /// The same line after `entered E after N orders, `, for a run that entered its program at `entry` after `cost` orders.
@@ -33,19 +33,10 @@ pub fn entered_text(
 ) -> Result<Vec<u8>, NoMemory>
     ensures { IfOk result (λ bytes. bytes.items ≡ entry_note entry cost ++ ending_line ending machine.now) }
 {
-    let mut text = bytes_of_text(format!(in alloc; "entered {entry} after {cost} orders, "))?;
+    let mut text = place_after(alloc, "entered", entry, cost, " orders, ")?;
     let line = ending_text(alloc, ending, machine)?;
     text.extend_from_slice(&line)?;
     Ok(text)
-}
-
-/// The line of an ending by its name.
-fn ending_line(alloc: Global, name: &str, machine: &Machine) -> Result<Vec<u8>, NoMemory>
-    ensures { IfOk result (λ bytes. bytes.items ≡ at_after name.now machine.now.counter machine.now.orders ++ 10 ∷ []) }
-{
-    let counter = machine.counter();
-    let orders = machine.orders_done();
-    bytes_of_text(format!(in alloc; "{name} at {counter} after {orders}\n"))
 }
 
 /// The line of a run that reached a word that is not an order.

@@ -6,8 +6,8 @@ ghost use Rattle.ed_report.specs.Notes.{source_fault_line, tape_fault_line, text
 
 use crate::text::bytes_of_text;
 use ed_codes::TextFault;
-use ed_syntax::{SourceCause, SourceFault};
 use ed_notation::{TapeCause, TapeFault};
+use ed_syntax::{SourceCause, SourceFault};
 use ed_words::NoMemory;
 use std::alloc::Global;
 
@@ -51,8 +51,8 @@ pub fn part_fault(
 ) -> Result<Vec<u8>, NoMemory>
     ensures { IfOk result (λ bytes. bytes.items ≡ part_line part row cause) }
 {
-    let rule = cause_text(cause);
-    bytes_of_text(format!(in alloc; "part {part}, row {row}: {rule}\n"))
+    let place = format!(in alloc; "part {part}, row")?;
+    place_note(alloc, &place, row as u64, cause_text(cause))
 }
 
 /// The line of a note on a byte, a row or a line, with its number.

@@ -38,12 +38,12 @@ pub(crate) fn command_of(line: &[u8]) -> Option<SessionCommand>
     };
     let Some((second, rest)) = first_part(rest) else {
         let entry = SessionCommand::Move(MoveTarget::Entry);
-        return spells(word, "entry").then_some(entry);
+        return spells(word, b"entry").then_some(entry);
     };
     let Some((third, rest)) = first_part(rest) else {
         return of_two(word, second);
     };
-    if first_part(rest).is_none() && spells(word, "show") {
+    if first_part(rest).is_none() && spells(word, b"show") {
         window(second, third)
     } else {
         None
@@ -54,17 +54,17 @@ pub(crate) fn command_of(line: &[u8]) -> Option<SessionCommand>
 fn of_two(word: &[u8], argument: &[u8]) -> Option<SessionCommand>
     ensures { result ≡ of_two word.now argument.now }
 {
-    if spells(word, "go") {
+    if spells(word, b"go") {
         let orders = number_within(argument, 1, 100_000_000)?;
         Some(SessionCommand::Move(MoveTarget::Orders(u64::from(orders))))
-    } else if spells(word, "to") {
+    } else if spells(word, b"to") {
         let address = number_within(argument, 0, 1023)?;
         Some(SessionCommand::Move(MoveTarget::Address(address as u16)))
-    } else if spells(word, "back") {
+    } else if spells(word, b"back") {
         Some(SessionCommand::Back(number_within(argument, 0, 100_000_000)?))
-    } else if spells(word, "trace") {
+    } else if spells(word, b"trace") {
         Some(SessionCommand::Trace(number_within(argument, 1, 10_000)?))
-    } else if spells(word, "show") {
+    } else if spells(word, b"show") {
         shown(argument)
     } else {
         None
@@ -75,11 +75,11 @@ fn of_two(word: &[u8], argument: &[u8]) -> Option<SessionCommand>
 fn shown(argument: &[u8]) -> Option<SessionCommand>
     ensures { result ≡ shown_command argument.now }
 {
-    if spells(argument, "acc") {
+    if spells(argument, b"acc") {
         Some(SessionCommand::Accumulator)
-    } else if spells(argument, "mult") {
+    } else if spells(argument, b"mult") {
         Some(SessionCommand::Multiplier)
-    } else if spells(argument, "last") {
+    } else if spells(argument, b"last") {
         Some(SessionCommand::LastPrinted)
     } else {
         window(argument, argument)
@@ -90,11 +90,10 @@ fn shown(argument: &[u8]) -> Option<SessionCommand>
 fn window(first: &[u8], last: &[u8]) -> Option<SessionCommand>
     ensures { result ≡ show_command (number_within 0 1023 first.now) (number_within 0 1023 last.now) }
 {
-    let first = number_within(first, 0, 1023)?;
-    let last = number_within(last, 0, 1023)?;
-    if first <= last {
-        Some(SessionCommand::Show(first as u16, last as u16))
-    } else {
-        None
+    match (number_within(first, 0, 1023), number_within(last, 0, 1023)) {
+        (Some(first), Some(last)) if first <= last => {
+            Some(SessionCommand::Show(first as u16, last as u16))
+        }
+        _ => None,
     }
 }

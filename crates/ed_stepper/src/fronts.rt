@@ -62,8 +62,8 @@ fn first_byte(text: &[u8], wanted: u8) -> usize
 }
 
 /// Whether a text is this word.
-pub(crate) fn spells(text: &[u8], word: &str) -> bool
+pub(crate) fn spells(text: &[u8], word: &[u8]) -> bool
     ensures { result ≡ bytes_eq text.now word.now }
 {
-    text == word.as_bytes()
+    text == word
 }

@@ -48,9 +48,9 @@ pub fn divide<'a>(input: &'a [u8]) -> Option<Divided<'a>>
 fn text_kind_of(line: &[u8]) -> Option<TextKind>
     ensures { result ≡ text_kind_of line.now }
 {
-    if spells(line, "tape") {
+    if spells(line, b"tape") {
         Some(TextKind::Tape)
-    } else if spells(line, "source") {
+    } else if spells(line, b"source") {
         Some(TextKind::Source)
     } else {
         None

@@ -4,7 +4,7 @@ ghost use Rattle.std.specs.Fmt.{decimal};
 ghost use Rattle.std.specs.List.{range_with_len};
 ghost use Rattle.ed_report.specs.Listings.{listing};
 ghost use Rattle.ed_report.specs.Traces.{trace_text};
-ghost use Rattle.ed_stepper.specs.Scripts.{end_word, last_word, move_line};
+ghost use Rattle.ed_stepper.specs.Scripts.{end_word, move_line};
 ghost use Rattle.ed_stepper.specs.Private.Commands.{IsCommandInRange};
 ghost use Rattle.ed_stepper.specs.Private.Lines.{LineEnds};
 
@@ -29,22 +29,25 @@ pub(crate) fn carry_out(
         SessionCommand::Nothing => Ok(Vec::new(alloc)),
         SessionCommand::Move(aim) => move_line(alloc, session.advance(aim)),
         SessionCommand::Back(orders) => move_line(alloc, session.back(u64::from(orders))?),
-        SessionCommand::Trace(orders) => trace_lines(alloc, session.trace(u64::from(orders))?),
+        SessionCommand::Trace(orders) => trace_lines(alloc, &session.trace(u64::from(orders))?),
         SessionCommand::Show(first, last) => show(alloc, session.machine(), first, last),
         SessionCommand::Accumulator => number_line(alloc, "acc", session.machine().acc()),
         SessionCommand::Multiplier => {
             let number = session.machine().multiplier().value();
             number_line(alloc, "mult", u128::from(number))
         }
-        SessionCommand::LastPrinted => last_printed(alloc, session.machine()),
+        SessionCommand::LastPrinted => match session.machine().last_printed() {
+            Some(code) => number_line(alloc, "last", u128::from(code.value())),
+            None => bytes_of_text(format!(in alloc; "last none\n")),
+        },
     };
     Ok(text?)
 }
 
 /// The letter of each order that a move obeyed, and the line of the move.
-fn trace_lines(alloc: Global, traced: Traced) -> Result<Vec<u8>, NoMemory>
-    ensures { IfOk result (λ bytes. bytes.items ≡ trace_text traced.functions.items
-        ++ move_line traced.moved.at traced.moved.done traced.moved.end) }
+fn trace_lines(alloc: Global, traced: &Traced) -> Result<Vec<u8>, NoMemory>
+    ensures { IfOk result (λ bytes. bytes.items ≡ trace_text traced.now.functions.items
+        ++ move_line traced.now.moved.at traced.now.moved.done traced.now.moved.end) }
 {
     let mut text = trace_text(alloc, &traced.functions)?;
     let line = move_line(alloc, traced.moved)?;
@@ -92,14 +95,4 @@ fn number_line(alloc: Global, name: &str, number: u128) -> Result<Vec<u8>, NoMem
     ensures { IfOk result (λ bytes. bytes.items ≡ name.now ++ codes " " ++ decimal number ++ 10 ∷ []) }
 {
     bytes_of_text(format!(in alloc; "{name} {number}\n"))
-}
-
-/// The last printed code.
-fn last_printed(alloc: Global, machine: &Machine) -> Result<Vec<u8>, NoMemory>
-    ensures { IfOk result (λ bytes. bytes.items ≡ codes "last " ++ last_word machine.now.last ++ 10 ∷ []) }
-{
-    match machine.last_printed() {
-        Some(code) => number_line(alloc, "last", u128::from(code.value())),
-        None => bytes_of_text(format!(in alloc; "last none\n")),
-    }
 }

@@ -193,7 +193,7 @@ fn list_functions(machine: &mut Machine, count: u64, functions: &mut Vec<Code>)
 }
 
 /// The function of the order at the counter.
-fn next_function(machine: &Machine) -> Code
+pub(crate) fn next_function(machine: &Machine) -> Code
     ensures { result ≡ function_of (next_word machine.now) }
 {
     let function = machine.word(machine.counter()).order().function;

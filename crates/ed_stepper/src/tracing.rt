@@ -4,8 +4,9 @@ ghost use Rattle.ed_io.specs.Causes.{faults_after, stop_faults};
 ghost use Rattle.ed_stepper.specs.Traces.{TraceEnds};
 ghost use Rattle.ed_stepper.specs.Private.Growth.{BreaksTrace, Traces, letter};
 
+use crate::session::next_function;
 use crate::sheet::{end_line, put};
-use ed_codes::{Code, byte_of};
+use ed_codes::byte_of;
 use ed_io::{Failed, Sink, WriteStop};
 use ed_machine::{Ending, Machine, Turn};
 use std::alloc::Global;
@@ -55,7 +56,7 @@ fn trace_orders<K: Sink>(
 {
     let mut stops = 0u32;
     for done in 0..limit {
-        let letter = next_letter(machine);
+        let letter = byte_of(next_function(machine), false);
         let turn = machine.step();
         match turn {
             Turn::NoOrder(_) => return Ok(Ending::NoOrder),
@@ -73,12 +74,4 @@ fn trace_orders<K: Sink>(
         }
     }
     Ok(Ending::Limit)
-}
-
-/// The letter of the order at the counter.
-fn next_letter(machine: &Machine) -> u8
-    ensures { result ≡ letter machine.now }
-{
-    let function = machine.word(machine.counter()).order().function;
-    byte_of(Code::new(function).unwrap(), false)
 }

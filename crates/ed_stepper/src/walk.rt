@@ -37,7 +37,7 @@ pub(crate) fn walk(
     ensures marks { (start : State) → machine.old ≡ state_after from start → machine.old.orders ≤ start.orders + from
         → AreMarks start marks.old.items → AreMarks start marks.new.items }
 {
-    if is_at_once(&aim) {
+    if let MoveTarget::Orders(0) = aim {
         return Walked {
             orders: 0,
             end: MoveEnd::Went,
@@ -77,17 +77,6 @@ pub(crate) fn walk(
     Walked {
         orders: left,
         end: MoveEnd::Limit,
-    }
-}
-
-/// Whether a move ends before any order: one by 0 orders.
-fn is_at_once(aim: &MoveTarget) -> bool
-    ensures yes { result ≡ true → (s : State) → own_end aim.now 0 s ≡ Some Went }
-    ensures no { result ≡ false → (s : State) → own_end aim.now 0 s ≡ None }
-{
-    match aim {
-        MoveTarget::Orders(n) => *n == 0,
-        MoveTarget::Address(_) | MoveTarget::Entry => false,
     }
 }
 

@@ -1,10 +1,8 @@
 -- An order, by its function and by what follows.
 use Rattle.std.proofs.Common.{◌≡◌, ◌∙◌, ℕ, Bool, ap, refl}
 use Rattle.std.specs.Prelude.{Option, Some, None, Ok, Err, option_map, option_and_then}
-use Rattle.std.specs.Option.{ok_or}
 use Rattle.ed_syntax.specs.Private.Found.{form_result}
 use Rattle.ed_syntax.specs.Private.Grammar.{Ranged}
-use Rattle.ed_syntax.specs.declared.form_fault.FormFault.{FormFault}
 use Rattle.ed_syntax.specs.declared.form_fault.FormFault.TheVariants.{NotThisForm, OutOfRange}
 use Rattle.ed_syntax.specs.declared.program.Operand.{Operand}
 use Rattle.ed_syntax.specs.declared.program.Statement.{Statement}
@@ -17,7 +15,7 @@ made_order function end =
 
 -- an order whose operand has its number in its range
 pub order_made : (function : Option ℕ) (end : Option (Ranged Operand × Bool)) (f : ℕ) (x : Ranged Operand) (o : Operand)
-    (l : Bool) → function ≡ Some f → Ok (x, l) ≡ ok_or end NotThisForm → x ≡ Some o
+    (l : Bool) → function ≡ Some f → Some (x, l) ≡ end → x ≡ Some o
     → Ok (statements.Order f o l) ≡ form_result (made_order function end)
 order_made None end f x o l h e is = absurd (cc)
 order_made (Some g) None f x o l h e is = absurd (cc)
@@ -29,7 +27,7 @@ order_made (Some g) (Some (y, m)) f x o l h e is =
 
 -- an order whose operand has its number out of its range
 pub order_out_of_range : (function : Option ℕ) (end : Option (Ranged Operand × Bool)) (f : ℕ) (x : Ranged Operand)
-    (l : Bool) → function ≡ Some f → Ok (x, l) ≡ ok_or end NotThisForm → x ≡ None
+    (l : Bool) → function ≡ Some f → Some (x, l) ≡ end → x ≡ None
     → Err OutOfRange ≡ form_result (made_order function end)
 order_out_of_range None end f x l h e is = absurd (cc)
 order_out_of_range (Some g) None f x l h e is = absurd (cc)
@@ -38,9 +36,8 @@ order_out_of_range (Some g) (Some (y, m)) f x l h e is =
     let operand : y ≡ None = ap (λ (p : Ranged Operand × Bool). p.0) same ∙ is in rw operand refl
 
 -- nothing after the function makes an order
-pub no_order : (function : Option ℕ) (end : Option (Ranged Operand × Bool)) (f : ℕ) (fault : FormFault)
-    → function ≡ Some f → Err fault ≡ ok_or end NotThisForm
-    → Err NotThisForm ≡ form_result (made_order function end)
-no_order None end f fault h e = absurd (cc)
-no_order (Some g) None f fault h e = refl
-no_order (Some g) (Some p) f fault h e = absurd (cc)
+pub no_order : (function : Option ℕ) (end : Option (Ranged Operand × Bool)) (f : ℕ)
+    → function ≡ Some f → None ≡ end → Err NotThisForm ≡ form_result (made_order function end)
+no_order None end f h e = absurd (cc)
+no_order (Some g) None f h e = refl
+no_order (Some g) (Some p) f h e = absurd (cc)

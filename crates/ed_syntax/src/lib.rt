@@ -6,7 +6,7 @@
 //! each of a form of its version with its numbers in range; a name is its text. What a line says is a relation with one
 //! row for each form, and each text has lines or a fault, and never both. `parse` reads a program back from its text. A
 //! program is not written if `version 2` has no line in it, and then no text says its lines, or if the text of a line is
-//! too long. Depends on `ed_words`, `ed_codes` and `arrayvec`.
+//! too long. Depends on `ed_words`, `ed_codes`, `arrayvec` and `itoa`.
 #![tactic(auto)]
 
 mod fault;

@@ -3,7 +3,7 @@ ghost use Rattle.std.specs.Prelude.{◌≡◌, ◌+◌, ◌≤◌, ◌==◌, ◌
 ghost use Rattle.std.specs.Option.{ok_or};
 ghost use Rattle.ed_syntax.specs.Private.Grammar.{both, joined_operand, ranged_map, operand, with_settings};
 ghost use Rattle.ed_syntax.specs.Private.Grammar.{setting};
-ghost use Rattle.ed_syntax.specs.Private.Found.{form_result, front, value_read};
+ghost use Rattle.ed_syntax.specs.Private.Found.{form_result, front};
 ghost use Rattle.ed_syntax.specs.Versions.{is_second};
 ghost use Rattle.ed_syntax.specs.Parts.{array};
 ghost use Rattle.ed_syntax.specs.Parts.{setting_letter};
@@ -12,7 +12,7 @@ ghost use Rattle.ed_syntax.specs.Parts.{run, sign};
 ghost use Rattle.ed_syntax.specs.Private.Seen.{part};
 
 use crate::Version;
-use crate::form_fault::FormFault;
+use crate::form_fault::{FormFault, Ranged};
 use crate::parts::Part;
 use crate::program::{Operand, Setting};
 use crate::terms::{is, number, place_name};
@@ -20,22 +20,22 @@ use arrayvec::ArrayVec;
 use ed_codes::{Code, row_of_byte};
 
 /// An operand that is a number or a name; none where the number is out of its range.
-fn single(version: Version, run: &[u8]) -> Result<Option<Operand>, FormFault>
-    ensures { value_read result ≡ single (is_second version) run.now }
+fn single(version: Version, run: &[u8]) -> Option<Ranged<Operand>>
+    ensures { result ≡ single (is_second version) run.now }
 {
     match number(32767, run) {
-        Ok(number) => Ok(Some(Operand::Number(number as u16))),
-        Err(FormFault::OutOfRange) => Ok(None),
+        Ok(number) => Some(Some(Operand::Number(number as u16))),
+        Err(FormFault::OutOfRange) => Some(None),
         Err(FormFault::NotThisForm) => {
             let name = place_name(version, run)?;
-            Ok(Some(Operand::Label { name, plus: 0 }))
+            Some(Some(Operand::Label { name, plus: 0 }))
         }
     }
 }
 
 /// An operand that is a name, a sign, and a number or in version 2 a name; none where the number is out of its range.
-fn joined(version: Version, run: &[u8], sign: u8, more: &[u8]) -> Result<Option<Operand>, FormFault>
-    ensures { value_read result ≡ joined_operand (is_second version) run.now sign more.now }
+fn joined(version: Version, run: &[u8], sign: u8, more: &[u8]) -> Option<Ranged<Operand>>
+    ensures { result ≡ joined_operand (is_second version) run.now sign more.now }
 {
     let first = place_name(version, run)?;
     let minus = sign == b'-';
@@ -43,18 +43,18 @@ fn joined(version: Version, run: &[u8], sign: u8, more: &[u8]) -> Result<Option<
         Ok(number) => {
             let number = number as i32;
             let plus = if minus { -number } else { number };
-            Ok(Some(Operand::Label { name: first, plus }))
+            Some(Some(Operand::Label { name: first, plus }))
         }
-        Err(FormFault::OutOfRange) => Ok(None),
+        Err(FormFault::OutOfRange) => Some(None),
         Err(FormFault::NotThisForm) if version.is_two() => {
             let second = place_name(version, more)?;
-            Ok(Some(Operand::Two {
+            Some(Some(Operand::Two {
                 first,
                 second,
                 minus,
             }))
         }
-        Err(FormFault::NotThisForm) => Err(FormFault::NotThisForm),
+        Err(FormFault::NotThisForm) => None,
     }
 }
 
@@ -63,16 +63,18 @@ fn joined(version: Version, run: &[u8], sign: u8, more: &[u8]) -> Result<Option<
 pub(crate) fn operand<'a, 'p>(
     version: Version,
     parts: &'p [Part<'a>],
-) -> Result<(Option<Operand>, &'p [Part<'a>]), FormFault>
+) -> Option<(Ranged<Operand>, &'p [Part<'a>])>
     ensures { front result ≡ operand (is_second version) (map part parts.entry.now) }
 {
-    match parts {
-        [Part::Run(run), Part::Sign(sign @ (b'+' | b'-')), after @ ..] => match after {
-            [Part::Run(more), rest @ ..] => Ok((joined(version, run, *sign, more)?, rest)),
-            _ => Err(FormFault::NotThisForm),
+    let Some((&Part::Run(run), after)) = parts.split_first() else {
+        return None;
+    };
+    match after.split_first() {
+        Some((&Part::Sign(sign @ (b'+' | b'-')), joins)) => match joins.split_first() {
+            Some((&Part::Run(more), rest)) => Some((joined(version, run, sign, more)?, rest)),
+            _ => None,
         },
-        [Part::Run(run), rest @ ..] => Ok((single(version, run)?, rest)),
-        _ => Err(FormFault::NotThisForm),
+        _ => Some((single(version, run)?, after)),
     }
 }
 
@@ -90,22 +92,20 @@ fn setting_letter(byte: u8) -> Option<Code>
 fn setting<'a, 'p>(
     version: Version,
     parts: &'p [Part<'a>],
-) -> Result<(Option<Setting>, &'p [Part<'a>]), FormFault>
+) -> Option<(Ranged<Setting>, &'p [Part<'a>])>
     ensures { front result ≡ setting (is_second version) (map part parts.entry.now) }
 {
-    let Some((Part::Sign(byte), after)) = parts.split_first() else {
-        return Err(FormFault::NotThisForm);
+    let Some((&Part::Sign(byte), after)) = parts.split_first() else {
+        return None;
     };
     let Some((Part::Sign(b'='), rest)) = after.split_first() else {
-        return Err(FormFault::NotThisForm);
+        return None;
     };
-    let Some(letter) = setting_letter(*byte) else {
-        return Err(FormFault::NotThisForm);
-    };
+    let letter = setting_letter(byte)?;
     match operand(version, rest) {
-        Ok((Some(operand), rest)) => Ok((Some(Setting { letter, operand }), rest)),
-        Ok((None, rest)) => Ok((None, rest)),
-        Err(_) => Err(FormFault::NotThisForm),
+        Some((Some(operand), rest)) => Some((Some(Setting { letter, operand }), rest)),
+        Some((None, rest)) => Some((None, rest)),
+        None => None,
     }
 }
 
@@ -120,7 +120,7 @@ fn settings(version: Version, most: u8, parts: &[Part]) -> Result<ArrayVec<Setti
         return Err(FormFault::NotThisForm);
     }
     match setting(version, parts) {
-        Ok((setting, after)) => match after.split_first() {
+        Some((setting, after)) => match after.split_first() {
             None => both(setting, ArrayVec::new()),
             Some((Part::Sign(b','), rest)) => {
                 let more = settings(version, most - 1, rest)?;
@@ -128,7 +128,7 @@ fn settings(version: Version, most: u8, parts: &[Part]) -> Result<ArrayVec<Setti
             }
             _ => Err(FormFault::NotThisForm),
         },
-        Err(_) => Err(FormFault::NotThisForm),
+        None => Err(FormFault::NotThisForm),
     }
 }
 
@@ -157,7 +157,7 @@ pub(crate) fn preset(version: Version, parts: &[Part]) -> Result<ArrayVec<Settin
 {
     match parts.split_first() {
         None => Ok(ArrayVec::new()),
-        Some((Part::Run(word), rest)) if is(word, b"with") => settings(version, 6, rest),
+        Some((&Part::Run(word), rest)) if is(word, b"with") => settings(version, 6, rest),
         _ => Err(FormFault::NotThisForm),
     }
 }

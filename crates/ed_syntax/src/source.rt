@@ -90,8 +90,10 @@ fn version_of(alloc: Global, text: &[u8]) -> Result<Version, NoMemory>
     }
     let (line, _) = split_line(text);
     let parts = parts_of(alloc, line)?;
-    let is_two = matches!(&parts, Some(parts) if is_version_two(parts));
-    Ok(if is_two { Version::Two } else { Version::One })
+    Ok(match &parts {
+        Some(parts) if is_version_two(parts) => Version::Two,
+        _ => Version::One,
+    })
 }
 
 /// The lines of a source, or the fault of the first line that has one.

@@ -1,6 +1,5 @@
 //! Statements, and lines with their labels.
 ghost use Rattle.std.specs.Prelude.{◌≡◌, ◌==◌, codes, map, Some};
-ghost use Rattle.std.specs.Option.{ok_or};
 ghost use Rattle.ed_syntax.specs.Versions.{is_second};
 ghost use Rattle.ed_syntax.specs.Private.Found.{form_result};
 ghost use Rattle.ed_syntax.specs.Private.Grammar.{base, enter, fetch, form_at};
@@ -11,7 +10,7 @@ ghost use Rattle.ed_syntax.specs.Private.Seen.{part};
 
 use crate::Version;
 use crate::form::Form;
-use crate::form_fault::FormFault;
+use crate::form_fault::{FormFault, Ranged};
 use crate::operands::{operand, preset};
 use crate::parts::Part;
 use crate::program::{Operand, Statement};
@@ -20,33 +19,32 @@ use ed_codes::row_of_byte;
 use ed_words::{Long, Word};
 
 /// The length at the end of an order.
-fn length_end(parts: &[Part]) -> Result<bool, FormFault>
-    ensures { result ≡ ok_or (length_end (map part parts.now)) FormFault.NotThisForm }
+fn length_end(parts: &[Part]) -> Option<bool>
+    ensures { result ≡ length_end (map part parts.now) }
 {
-    match parts {
-        [Part::Sign(b'F')] => Ok(false),
-        [Part::Sign(b'D')] => Ok(true),
-        _ => Err(FormFault::NotThisForm),
+    let [Part::Sign(letter)] = *parts else {
+        return None;
+    };
+    match letter {
+        b'F' => Some(false),
+        b'D' => Some(true),
+        _ => None,
     }
 }
 
 /// What follows the function of an order: the operand, where its number is in its range, and the length.
-fn order_end(version: Version, parts: &[Part]) -> Result<(Option<Operand>, bool), FormFault>
-    ensures { result ≡ ok_or (order_end (is_second version) (map part parts.now)) FormFault.NotThisForm }
+fn order_end(version: Version, parts: &[Part]) -> Option<(Ranged<Operand>, bool)>
+    ensures { result ≡ order_end (is_second version) (map part parts.now) }
 {
-    match parts.split_first() {
-        Some((Part::Sign(_), _)) => {
-            let length = length_end(parts)?;
-            Ok((Some(Operand::Number(0)), length))
-        }
+    let (operand, rest) = match parts.split_first() {
+        Some((Part::Sign(_), _)) => (Some(Operand::Number(0)), parts),
         _ => match operand(version, parts) {
-            Ok((operand, rest)) => {
-                let length = length_end(rest)?;
-                Ok((operand, length))
-            }
-            Err(_) => Err(FormFault::NotThisForm),
+            Some(front) => front,
+            None => return None,
         },
-    }
+    };
+    let length = length_end(rest)?;
+    Some((operand, length))
 }
 
 /// An order with this function.
@@ -60,13 +58,13 @@ fn order(version: Version, byte: u8, parts: &[Part]) -> Result<Statement, FormFa
         return Err(FormFault::NotThisForm);
     };
     match order_end(version, parts) {
-        Ok((Some(operand), length)) => Ok(Statement::Order {
+        Some((Some(operand), length)) => Ok(Statement::Order {
             function,
             operand,
             length,
         }),
-        Ok((None, _)) => Err(FormFault::OutOfRange),
-        Err(_) => Err(FormFault::NotThisForm),
+        Some((None, _)) => Err(FormFault::OutOfRange),
+        None => Err(FormFault::NotThisForm),
     }
 }
 
@@ -96,12 +94,12 @@ fn long(parts: &[Part]) -> Result<Statement, FormFault>
 fn enter(parts: &[Part]) -> Result<Statement, FormFault>
     ensures { result ≡ form_result (enter (map part parts.now)) }
 {
-    match parts {
-        [Part::Run(run)] => {
-            let name = name(run)?;
-            Ok(Statement::Enter { name })
-        }
-        _ => Err(FormFault::NotThisForm),
+    let [Part::Run(run)] = *parts else {
+        return Err(FormFault::NotThisForm);
+    };
+    match name(run) {
+        Some(name) => Ok(Statement::Enter { name }),
+        None => Err(FormFault::NotThisForm),
     }
 }
 
@@ -109,7 +107,7 @@ fn enter(parts: &[Part]) -> Result<Statement, FormFault>
 fn base(parts: &[Part]) -> Result<Option<u16>, FormFault>
     ensures { result ≡ form_result (base (map part parts.now)) }
 {
-    match parts {
+    match *parts {
         [] => Ok(None),
         [Part::Run(at), Part::Run(digits)] if is(at, b"at") => {
             let base = number(1023, digits)?;
@@ -123,38 +121,41 @@ fn base(parts: &[Part]) -> Result<Option<u16>, FormFault>
 fn segment(parts: &[Part]) -> Result<Statement, FormFault>
     ensures { result ≡ form_result (segment (map part parts.now)) }
 {
-    match parts.split_first() {
-        Some((Part::Run(run), rest)) => {
-            let name = name(run)?;
-            let base = base(rest)?;
-            Ok(Statement::Segment { name, base })
-        }
-        _ => Err(FormFault::NotThisForm),
-    }
+    let Some((&Part::Run(run), rest)) = parts.split_first() else {
+        return Err(FormFault::NotThisForm);
+    };
+    let Some(name) = name(run) else {
+        return Err(FormFault::NotThisForm);
+    };
+    let base = base(rest)?;
+    Ok(Statement::Segment { name, base })
 }
 
 /// What follows `use`.
 fn fetch(version: Version, parts: &[Part]) -> Result<Statement, FormFault>
     ensures { result ≡ form_result (fetch (is_second version) (map part parts.now)) }
 {
-    match parts {
-        [
-            Part::Run(routine),
-            Part::Run(word),
-            Part::Run(run),
-            rest @ ..,
-        ] if is(word, b"as") => {
-            let routine = name(routine)?;
-            let name = name(run)?;
-            let settings = preset(version, rest)?;
-            Ok(Statement::Fetch {
-                routine,
-                name,
-                settings,
-            })
-        }
-        _ => Err(FormFault::NotThisForm),
+    let [
+        Part::Run(routine),
+        Part::Run(word),
+        Part::Run(run),
+        ref rest @ ..,
+    ] = *parts
+    else {
+        return Err(FormFault::NotThisForm);
+    };
+    if !is(word, b"as") {
+        return Err(FormFault::NotThisForm);
     }
+    let (Some(routine), Some(name)) = (name(routine), name(run)) else {
+        return Err(FormFault::NotThisForm);
+    };
+    let settings = preset(version, rest)?;
+    Ok(Statement::Fetch {
+        routine,
+        name,
+        settings,
+    })
 }
 
 /// A statement that may have a label.
@@ -162,13 +163,15 @@ fn placed(version: Version, parts: &[Part]) -> Result<Statement, FormFault>
     ensures { result ≡ form_result (placed_statement (is_second version) (map part parts.now)) }
 {
     match parts.split_first() {
-        Some((Part::Sign(byte), rest)) => order(version, *byte, rest),
-        Some((Part::Run(keyword), rest)) => {
+        Some((&Part::Sign(byte), rest)) => order(version, byte, rest),
+        Some((&Part::Run(keyword), rest)) => {
             if is(keyword, b"word") {
                 word(rest)
             } else if is(keyword, b"text") {
-                let codes = string(rest)?;
-                Ok(Statement::Text { codes })
+                match string(rest) {
+                    Some(codes) => Ok(Statement::Text { codes }),
+                    None => Err(FormFault::NotThisForm),
+                }
             } else if version.is_two() && is(keyword, b"long") {
                 long(rest)
             } else {
@@ -183,7 +186,7 @@ fn placed(version: Version, parts: &[Part]) -> Result<Statement, FormFault>
 fn statement(version: Version, parts: &[Part]) -> Result<Statement, FormFault>
     ensures { result ≡ form_result (statement (is_second version) (map part parts.now)) }
 {
-    let Some((Part::Run(keyword), rest)) = parts.split_first() else {
+    let Some((&Part::Run(keyword), rest)) = parts.split_first() else {
         return placed(version, parts);
     };
     if is(keyword, b"segment") {
@@ -193,8 +196,10 @@ fn statement(version: Version, parts: &[Part]) -> Result<Statement, FormFault>
     } else if is(keyword, b"enter") {
         enter(rest)
     } else if is(keyword, b"data") {
-        let codes = string(rest)?;
-        Ok(Statement::Rows { codes })
+        match string(rest) {
+            Some(codes) => Ok(Statement::Rows { codes }),
+            None => Err(FormFault::NotThisForm),
+        }
     } else {
         placed(version, parts)
     }
@@ -215,7 +220,9 @@ fn unlabelled(version: Version, parts: &[Part]) -> Result<Form, FormFault>
 fn labelled(version: Version, run: &[u8], parts: &[Part]) -> Result<Form, FormFault>
     ensures { result ≡ form_result (labelled_line (is_second version) run.now (map part parts.now)) }
 {
-    let label = place_name(version, run)?;
+    let Some(label) = place_name(version, run) else {
+        return Err(FormFault::NotThisForm);
+    };
     if parts.is_empty() {
         return Ok(Form {
             label: Some(label),
@@ -233,12 +240,10 @@ fn labelled(version: Version, run: &[u8], parts: &[Part]) -> Result<Form, FormFa
 pub(crate) fn is_version_two(parts: &[Part]) -> bool
     ensures { result ≡ is_version_two (map part parts.now) }
 {
-    match parts {
-        [Part::Run(word), Part::Run(digits)] => {
-            is(word, b"version") && matches!(number(2, digits), Ok(2))
-        }
-        _ => false,
-    }
+    let [Part::Run(word), Part::Run(digits)] = *parts else {
+        return false;
+    };
+    is(word, b"version") && matches!(number(2, digits), Ok(2))
 }
 
 /// The line with this number.
@@ -256,7 +261,7 @@ pub(crate) fn form_at(version: Version, number: u32, parts: &[Part]) -> Result<F
             label: None,
             statement: None,
         }),
-        Some((Part::Run(run), after)) => match after.split_first() {
+        Some((&Part::Run(run), after)) => match after.split_first() {
             Some((Part::Sign(b':'), rest)) => labelled(version, run, rest),
             _ => unlabelled(version, parts),
         },

@@ -1,7 +1,6 @@
 //! Names, numbers and strings.
 ghost use Rattle.std.specs.Prelude.{◌≡◌, ◌≤◌, ◌<◌, ◌^◌, true, false, Some};
-ghost use Rattle.std.specs.Prelude.{map, IfOk, IfErr, option_map};
-ghost use Rattle.std.specs.Option.{ok_or};
+ghost use Rattle.std.specs.Prelude.{map, IfOk, IfSome, IfNone, option_map};
 ghost use Rattle.ed_syntax.specs.Versions.{is_second};
 ghost use Rattle.ed_syntax.specs.Private.Found.{form_result};
 ghost use Rattle.std.specs.Str.{bytes_eq};
@@ -47,24 +46,23 @@ fn is_place_name(version: Version, run: &[u8]) -> bool
 }
 
 /// A name.
-pub(crate) fn name(run: &[u8]) -> Result<Name, FormFault>
-    ensures none { IfErr result (λ e. (e ≡ FormFault.NotThisForm) × (is_name run.now ≡ false)) }
-    ensures some { IfOk result (λ n. (n ≡ run.now) × (is_name run.now ≡ true)) }
+pub(crate) fn name(run: &[u8]) -> Option<Name>
+    ensures none { IfNone result (is_name run.now ≡ false) }
+    ensures some { IfSome result (λ n. (n ≡ run.now) × (is_name run.now ≡ true)) }
 {
     place_name(Version::One, run)
 }
 
 /// A name or, in version 2, a local name.
-pub(crate) fn place_name(version: Version, run: &[u8]) -> Result<Name, FormFault>
-    ensures none { IfErr result
-        (λ e. (e ≡ FormFault.NotThisForm) × (is_place_name (is_second version) run.now ≡ false)) }
-    ensures some { IfOk result (λ n. (n ≡ run.now) × (is_place_name (is_second version) run.now ≡ true)) }
+pub(crate) fn place_name(version: Version, run: &[u8]) -> Option<Name>
+    ensures none { IfNone result (is_place_name (is_second version) run.now ≡ false) }
+    ensures some { IfSome result (λ n. (n ≡ run.now) × (is_place_name (is_second version) run.now ≡ true)) }
 {
     if !is_place_name(version, run) {
-        return Err(FormFault::NotThisForm);
+        return None;
     }
     match str::from_utf8(run) {
-        Ok(text) => Ok(Name::new(text).unwrap()),
+        Ok(text) => Name::new(text),
         Err(_) => unreachable!(),
     }
 }
@@ -106,31 +104,30 @@ pub(crate) fn integer(least: u64, most: u64, parts: &[Part]) -> Result<i64, Form
     requires most { most < 2 ^ 36 }
     ensures { result ≡ form_result (integer least most (map part parts.now)) }
 {
-    match parts {
-        [Part::Run(run)] => Ok(number(most, run)? as i64),
-        [Part::Sign(b'-'), Part::Run(run)] => Ok(-(number(least, run)? as i64)),
-        _ => Err(FormFault::NotThisForm),
+    if let [Part::Run(run)] = *parts {
+        return Ok(number(most, run)? as i64);
     }
+    let [Part::Sign(b'-'), Part::Run(run)] = *parts else {
+        return Err(FormFault::NotThisForm);
+    };
+    Ok(-(number(least, run)? as i64))
 }
 
 /// A string of one or more bytes that spell rows.
-pub(crate) fn string(parts: &[Part]) -> Result<ArrayVec<Code, 120>, FormFault>
-    ensures { result ≡ ok_or (option_map array (string (map part parts.now))) FormFault.NotThisForm }
+pub(crate) fn string(parts: &[Part]) -> Option<ArrayVec<Code, 120>>
+    ensures { result ≡ option_map array (string (map part parts.now)) }
 {
-    let [Part::Quoted(text)] = parts else {
-        return Err(FormFault::NotThisForm);
+    let [Part::Quoted(text)] = *parts else {
+        return None;
     };
     if text.is_empty() || text.len() > 120 {
-        return Err(FormFault::NotThisForm);
+        return None;
     }
     let mut rows = ArrayVec::new();
-    for byte in *text {
-        let Some(row) = row_of_byte(*byte) else {
-            return Err(FormFault::NotThisForm);
-        };
-        rows.push(row);
+    for byte in text {
+        rows.push(row_of_byte(*byte)?);
     }
-    Ok(rows)
+    Some(rows)
 }
 
 /// Whether a run is this keyword.

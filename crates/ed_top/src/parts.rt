@@ -45,10 +45,9 @@ fn read_parts<K: Sink>(
 {
     let mut machine = started(alloc, settings.size, rows)?;
     let end = run_parts(alloc, &mut machine, settings.limit, out)?;
-    Ok(Rest {
-        note: end_text(alloc, end, &machine)?,
-        status: end_status(end),
-    })
+    let note = end_text(alloc, end, &machine)?;
+    let status = end_status(end);
+    Ok(Rest { note, status })
 }
 
 /// The line on how a tape in parts ended.

@@ -46,8 +46,7 @@ fn trace_rows<K: Sink>(
         settings.resumes,
         out,
     )?;
-    Ok(Rest {
-        note: ending_text(alloc, ending, &machine)?,
-        status: status_of(ending),
-    })
+    let note = ending_text(alloc, ending, &machine)?;
+    let status = status_of(ending);
+    Ok(Rest { note, status })
 }

@@ -4,24 +4,31 @@ use Rattle.ed_words.specs.declared.size.Size.{Size}
 use Rattle.ed_library.specs.Routines.{find}
 use Rattle.ed_syntax.specs.declared.program.Line.{Line}
 use Rattle.ed_syntax.specs.declared.program.Statement.{Statement}
-use Rattle.ed_syntax.specs.declared.program.Statement.TheVariants.{Text, Fetch, Rows}
+use Rattle.ed_syntax.specs.declared.program.Statement.TheVariants.{Text, Fetch, Enter}
 use Rattle.ed_syntax.specs.declared.fault.SourceFault.{SourceFault}
+use Rattle.ed_notation.specs.declared.item.Item.{Item}
+use Rattle.ed_symbols.specs.declared.location_counter.LocationCounter.{LocationCounter}
 use Rattle.ed_symbols.specs.declared.symbols.Definition.{Definition}
 use Rattle.ed_symbols.specs.Places.{first_counter}
 use Rattle.ed_link.specs.declared.building.Built.{Built}
 use Rattle.ed_link.specs.declared.linked.Linked.{Linked}
 use Rattle.ed_link.specs.Linked.{data_after, entry_from, placed_from}
-use Rattle.ed_link.specs.Punch.{punched_from, routine_items}
+use Rattle.ed_link.specs.Punch.{items_of, punched_from, routine_items, word_items}
 use Rattle.ed_link.specs.Private.FaultTests.{IsFirstFault, LinesBefore, fault_from}
 use Rattle.ed_link.specs.Tables.{table_of, words_from}
 use Rattle.ed_link.specs.Labels.{labels}
 
--- a string has at most 120 rows, and a routine at most 128 items
+-- a string has at most 120 rows, and a routine at most 128 items, so that a line gives few items
 abbrev pub IsFew : Option Statement → Type 0
 IsFew (Some (Text codes)) = length codes.items ≤ 120
-IsFew (Some (Rows codes)) = length codes.items ≤ 120
 IsFew (Some (Fetch routine name ts)) = length (routine_items (find routine)) ≤ 128
 IsFew st = Unit {0}
+
+-- the items of a line without the head of its segment
+abbrev pub bare_items : List Definition → LocationCounter → Option Statement → List Item
+bare_items symbols s (Some (Fetch routine name ts)) = items_of symbols s (Some (Fetch routine name ts))
+bare_items symbols s (Some (Enter name)) = items_of symbols s (Some (Enter name))
+bare_items symbols s st = word_items symbols s st
 
 -- before the first line
 abbrev pub first_past : LinesBefore

@@ -25,7 +25,6 @@ impl Machine {
         requires kind { kind_of_function (function_of word) ≡ Some kind }
         ensures state { self.new ≡ (obey kind word self.old).state }
         ensures turn { result ≡ (obey kind word self.old).turn }
-        ensures count { self.new.orders ≤ self.old.orders + 1 }
     {
         match kind {
             Kind::A => self.add(word),

@@ -2,21 +2,25 @@
 use Rattle.std.specs.Prelude.{ℕ, List}
 use Rattle.ed_codes.specs.Reading.{reading}
 use Rattle.ed_machine.specs.State.{State}
+use Rattle.ed_run.specs.Run.{RunEnd}
 use Rattle.ed_command.specs.declared.command.Settings.{Settings}
 use Rattle.ed_words.specs.Texts.{Text}
 use Rattle.ed_answers.specs.Answer.{OfReading, exactly}
-use Rattle.ed_answers.specs.FirstOrders.{tape1_outcome}
+use Rattle.ed_answers.specs.FirstOrders.{run1_of, tape1_outcome}
 use Rattle.ed_answers.specs.Outcome.{Outcome, done}
+use Rattle.ed_answers.specs.Runs.{run_of}
 use Rattle.ed_answers.specs.Sources.{OfSource, listing_outcome, punch_outcome, run_outcome}
 use Rattle.ed_answers.specs.Tapes.{tape_outcome}
-use Rattle.ed_page.specs.Answers.{SourceEnds, Tape1Ends, TapeEnds, source_rows}
+use Rattle.ed_page.specs.Answers.{RowsEnd, SourceEnds, source_rows}
 use Rattle.ed_page.specs.TapeItems.{IsItemsOutcome, IsItemsOutcome1}
 use Rattle.ed_page.specs.declared.asked.Asked.{Asked}
 use Rattle.ed_page.specs.declared.asked.Asked.TheVariants.{Tape as OfTape, SourceRows, Punch, Listing}
 use Rattle.ed_page.specs.declared.asked.AskedOfRows.{AskedOfRows}
 use Rattle.ed_page.specs.declared.asked.AskedOfRows.TheVariants.{Codes, Items, Items1}
+use Rattle.ed_page.specs.declared.running.InitialOrders.{InitialOrders}
+use Rattle.ed_page.specs.declared.running.InitialOrders.TheVariants.{All41, May1949}
 use Rattle.ed_page.specs.declared.running.ProgramKind.{ProgramKind}
-use Rattle.ed_page.specs.declared.running.ProgramKind.TheVariants.{Tape, Tape1, Source}
+use Rattle.ed_page.specs.declared.running.ProgramKind.TheVariants.{Tape, Source}
 
 -- the outcomes of rows, by what is asked about them
 abbrev pub answers_to_rows : AskedOfRows → List ℕ → Outcome → Type 0
@@ -31,14 +35,22 @@ answers_to (SourceRows z) = OfSource z source_rows
 answers_to (Punch s) = OfSource s.size punch_outcome
 answers_to (Listing s) = OfSource s.size listing_outcome
 
+-- the outcome of the rows of a tape, by the Initial Orders that read it
+abbrev pub tape_outcome_by : InitialOrders → Settings → List ℕ → Outcome
+tape_outcome_by All41 s = tape_outcome s
+tape_outcome_by May1949 s = tape1_outcome s
+
+-- the run of the rows of a tape, by the Initial Orders that read it
+abbrev pub run_by : InitialOrders → Settings → List ℕ → RunEnd
+run_by All41 s = run_of s
+run_by May1949 s = run1_of s
+
 -- the outcomes of the run of a program
 abbrev pub answers_of : ProgramKind → Settings → Text → Outcome → Type 0
-answers_of Tape s = λ text. OfReading (exactly (tape_outcome s)) (reading text)
-answers_of Tape1 s = λ text. OfReading (exactly (tape1_outcome s)) (reading text)
+answers_of (Tape orders) s = λ text. OfReading (exactly (tape_outcome_by orders s)) (reading text)
 answers_of Source s = OfSource s.size (run_outcome s)
 
 -- the state in which the run of a program ends
 abbrev pub ends_of : ProgramKind → Settings → Text → State → Type 0
-ends_of Tape s = TapeEnds s
-ends_of Tape1 s = Tape1Ends s
+ends_of (Tape orders) s = RowsEnd (run_by orders s)
 ends_of Source s = SourceEnds s

@@ -1,19 +1,11 @@
 -- How the texts and pictures that are written relate to what the program answers.
 use Rattle.std.specs.Prelude.{◌≡◌, ◌≢◌, ℕ, List, Option, None, Some, IfSome, Result, Ok, Err}
-use Rattle.ed_words.specs.declared.size.Size.{Size}
-use Rattle.ed_store.specs.Cells.{cleared_cells}
 use Rattle.ed_machine.specs.State.{State}
 use Rattle.ed_printer.specs.Paper.{paper}
-use Rattle.ed_notation.specs.Checks.{Accepts}
-use Rattle.ed_notation.specs.Faults.{IsFault}
-use Rattle.ed_notation.specs.Reports.{Report}
-use Rattle.ed_notation.specs.declared.cause.TapeFault.{TapeFault}
-use Rattle.ed_notation.specs.declared.cause.TapeFault.TheVariants.{At, Memory as NoStore}
 use Rattle.ed_words.specs.Texts.{Text}
 use Rattle.ed_answers.specs.Outcome.{Outcome}
 use Rattle.ed_answers.specs.Replies.{Gives}
 use Rattle.ed_answers.specs.Runs.{status_of}
-use Rattle.ed_answers.specs.Tapes.{first_note}
 use Rattle.ed_answers.specs.declared.reply.Rejection.{Rejection}
 use Rattle.ed_answers.specs.declared.reply.Rejection.TheVariants.{Memory, Refused}
 use Rattle.ed_answers.specs.declared.reply.Reply.{Reply}
@@ -84,9 +76,3 @@ pub record ShowsMachine (o : Outcome) (machine : Option State) (before after : B
 abbrev pub WritesBuffers : Outcome → Option State → (before after : Buffers) → ℕ → Type 0
 WritesBuffers o machine before after answer = (answer ≢ 10)
     × HasItsCause (HasPictureRoom o before) (after ≡ before) (ShowsMachine o machine before after answer) answer
-
--- what a check of rows on a cleared store answers, with the number of rows up to the entry
-abbrev pub HasEntryRows : Size → List ℕ → Result ℕ TapeFault → Type 0
-HasEntryRows z codes (Ok n) = (r : Report) × Accepts z cleared_cells.words first_note 9 codes r × (n ≡ r.rows)
-HasEntryRows z codes (Err (At row cause)) = IsFault z cleared_cells.words first_note codes row cause
-HasEntryRows z codes (Err NoStore) = Unit {0}

@@ -14,12 +14,7 @@ form_result None = Err NotThisForm
 form_result (Some None) = Err OutOfRange
 form_result (Some (Some a)) = Ok a
 
--- what is read, if something is
-abbrev pub value_read : {A : Type 0} → Result A FormFault → Option A
-value_read (Ok a) = Some a
-value_read (Err e) = None
-
 -- what was found at the front, and the parts after it
-abbrev pub front : {A : Type 0} → Result (A × Bor (List Part)) FormFault → Option (A × List LinePart)
-front (Ok p) = Some (p.0, map part p.1.now)
-front (Err e) = None
+abbrev pub front : {A : Type 0} → Option (A × Bor (List Part)) → Option (A × List LinePart)
+front (Some p) = Some (p.0, map part p.1.now)
+front None = None

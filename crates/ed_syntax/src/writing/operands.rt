@@ -5,11 +5,9 @@ ghost use Rattle.ed_syntax.specs.Written.{operand_text, settings_after};
 use crate::writing::text::{push, push_letter, push_named, push_numbered};
 use crate::{Operand, Setting};
 use ed_words::NoMemory;
-use std::alloc::Global;
 
 /// Adds bytes and then an operand.
 pub(crate) fn push_operand(
-    alloc: Global,
     text: &mut Vec<u8>,
     before: &[u8],
     operand: &Operand,
@@ -17,14 +15,14 @@ pub(crate) fn push_operand(
     ensures { IfOk result (λ _. text.new.items ≡ text.old.items ++ (before.now ++ operand_text operand.now)) }
 {
     match operand {
-        Operand::Number(number) => push_numbered(alloc, text, before, u64::from(*number)),
+        Operand::Number(number) => push_numbered(text, before, u64::from(*number)),
         Operand::Label { name, plus } => {
             push_named(text, before, name)?;
             if *plus == 0 {
                 return Ok(());
             }
             let sign: &[u8] = if *plus < 0 { b"-" } else { b"+" };
-            push_numbered(alloc, text, sign, u64::from(plus.unsigned_abs()))
+            push_numbered(text, sign, u64::from(plus.unsigned_abs()))
         }
         Operand::Two {
             first,
@@ -38,18 +36,14 @@ pub(crate) fn push_operand(
 }
 
 /// Adds settings, the first after `with`.
-pub(crate) fn push_settings(
-    alloc: Global,
-    text: &mut Vec<u8>,
-    settings: &[Setting],
-) -> Result<(), NoMemory>
+pub(crate) fn push_settings(text: &mut Vec<u8>, settings: &[Setting]) -> Result<(), NoMemory>
     ensures { IfOk result (λ _. text.new.items ≡ text.old.items ++ settings_after (codes " with ") settings.now) }
 {
     let mut before: &[u8] = b" with ";
     for setting in settings {
         push(text, before)?;
         push_letter(text, setting.letter)?;
-        push_operand(alloc, text, b"=", &setting.operand)?;
+        push_operand(text, b"=", &setting.operand)?;
         before = b", ";
     }
     Ok(())

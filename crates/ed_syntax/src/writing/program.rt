@@ -18,12 +18,7 @@ use std::alloc::Global;
 const LINE_BYTES: usize = 120;
 
 /// Adds a line without its end.
-fn push_line(
-    alloc: Global,
-    text: &mut Vec<u8>,
-    version: Version,
-    line: &Line,
-) -> Result<(), NoMemory>
+fn push_line(text: &mut Vec<u8>, version: Version, line: &Line) -> Result<(), NoMemory>
     ensures is { IfOk result (λ _. text.new.items ≡ text.old.items ++ line_text (is_second version) line.now) }
     ensures few { IfOk result (λ _. has_few (is_second version) line.now ≡ true) }
 {
@@ -42,7 +37,7 @@ fn push_line(
         )?;
     }
     match &line.statement {
-        Some(statement) => push_statement(alloc, text, statement),
+        Some(statement) => push_statement(text, statement),
         None => Ok(()),
     }
 }
@@ -56,7 +51,7 @@ fn lines_text(alloc: Global, version: Version, lines: &[Line]) -> Result<Vec<u8>
     let mut text = Vec::new(alloc);
     for line in lines {
         let start = text.len();
-        push_line(alloc, &mut text, version, line)?;
+        push_line(&mut text, version, line)?;
         if text.len() - start > LINE_BYTES {
             return Err(WriteFault::LongLine { line: line.number });
         }

@@ -8,11 +8,9 @@ use crate::writing::text::{push, push_letter, push_named, push_numbered, push_ro
 use crate::{Operand, Statement};
 use ed_codes::Code;
 use ed_words::NoMemory;
-use std::alloc::Global;
 
 /// Adds an order.
 fn push_order(
-    alloc: Global,
     text: &mut Vec<u8>,
     function: Code,
     operand: &Operand,
@@ -23,17 +21,13 @@ fn push_order(
 {
     push_letter(text, function)?;
     if !matches!(operand, Operand::Number(0)) {
-        push_operand(alloc, text, b" ", operand)?;
+        push_operand(text, b" ", operand)?;
     }
     push(text, if long { b" D" } else { b" F" })
 }
 
 /// Adds a statement.
-pub(crate) fn push_statement(
-    alloc: Global,
-    text: &mut Vec<u8>,
-    statement: &Statement,
-) -> Result<(), NoMemory>
+pub(crate) fn push_statement(text: &mut Vec<u8>, statement: &Statement) -> Result<(), NoMemory>
     ensures is { IfOk result (λ _. text.new.items ≡ text.old.items ++ statement_text statement.now) }
     ensures few { IfOk result (λ _. has_few_settings (Some statement.now) ≡ true) }
 {
@@ -41,7 +35,7 @@ pub(crate) fn push_statement(
         Statement::Segment { name, base } => {
             push_named(text, b"segment ", name)?;
             match base {
-                Some(base) => push_numbered(alloc, text, b" at ", u64::from(*base)),
+                Some(base) => push_numbered(text, b" at ", u64::from(*base)),
                 None => Ok(()),
             }
         }
@@ -49,11 +43,9 @@ pub(crate) fn push_statement(
             function,
             operand,
             length,
-        } => push_order(alloc, text, *function, operand, *length),
-        Statement::Number { value } => {
-            push_numbered(alloc, text, b"word ", u64::from(value.value()))
-        }
-        Statement::Text { codes } => push_rows(text, b"text ", codes),
+        } => push_order(text, *function, operand, *length),
+        Statement::Number { value } => { push_numbered(text, b"word ", u64::from(value.value())) }
+        Statement::Text { codes } => push_rows(text, b"text \"", codes),
         Statement::Fetch {
             routine,
             name,
@@ -61,10 +53,10 @@ pub(crate) fn push_statement(
         } => {
             push_named(text, b"use ", routine)?;
             push_named(text, b" as ", name)?;
-            push_settings(alloc, text, settings)
+            push_settings(text, settings)
         }
         Statement::Enter { name } => push_named(text, b"enter ", name),
-        Statement::Rows { codes } => push_rows(text, b"data ", codes),
-        Statement::Long { value } => push_numbered(alloc, text, b"long ", value.value()),
+        Statement::Rows { codes } => push_rows(text, b"data \"", codes),
+        Statement::Long { value } => push_numbered(text, b"long ", value.value()),
     }
 }

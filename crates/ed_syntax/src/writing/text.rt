@@ -1,13 +1,13 @@
 //! Bytes, numbers, names and rows at the end of a text.
-ghost use Rattle.std.specs.Prelude.{◌≡◌, ◌++◌, ◌∷◌, [], IfOk};
+ghost use Rattle.std.specs.Prelude.{◌≡◌, ◌++◌, ◌∷◌, [], IfOk, map};
 ghost use Rattle.std.specs.Fmt.{decimal};
-ghost use Rattle.ed_syntax.specs.Written.{row_letter, string_text};
+ghost use Rattle.ed_syntax.specs.Written.{row_letter};
 
 use crate::Name;
 use arrayvec::ArrayVec;
 use ed_codes::{Code, byte_of};
 use ed_words::NoMemory;
-use std::alloc::Global;
+use itoa::Buffer;
 
 /// Adds bytes to a text.
 pub(crate) fn push(text: &mut Vec<u8>, bytes: &[u8]) -> Result<(), NoMemory>
@@ -32,29 +32,24 @@ pub(crate) fn push_letter(text: &mut Vec<u8>, code: Code) -> Result<(), NoMemory
 }
 
 /// Adds bytes and then a number in decimal.
-pub(crate) fn push_numbered(
-    alloc: Global,
-    text: &mut Vec<u8>,
-    before: &[u8],
-    number: u64,
-) -> Result<(), NoMemory>
+pub(crate) fn push_numbered(text: &mut Vec<u8>, before: &[u8], number: u64) -> Result<(), NoMemory>
     ensures { IfOk result (λ _. text.new.items ≡ text.old.items ++ (before.now ++ decimal number)) }
 {
     push(text, before)?;
-    let digits = format!(in alloc; "{number}")?;
-    push(text, digits.as_bytes())
+    let mut digits = Buffer::new();
+    push(text, digits.format(number).as_bytes())
 }
 
-/// Adds a keyword, which ends with a blank, and rows between quotes.
+/// Adds bytes, which end with a quote, and then the letters of rows and another quote.
 pub(crate) fn push_rows(
     text: &mut Vec<u8>,
-    keyword: &[u8],
+    before: &[u8],
     rows: &ArrayVec<Code, 120>,
 ) -> Result<(), NoMemory>
-    ensures { IfOk result (λ _. text.new.items ≡ text.old.items ++ (keyword.now ++ string_text rows.now.items)) }
+    ensures { IfOk result (λ _.
+        text.new.items ≡ text.old.items ++ (before.now ++ (map row_letter rows.now.items ++ 34 ∷ []))) }
 {
-    push(text, keyword)?;
-    push(text, b"\"")?;
+    push(text, before)?;
     for row in rows.iter() {
         push_letter(text, *row)?;
     }

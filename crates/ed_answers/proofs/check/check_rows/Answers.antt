@@ -4,10 +4,9 @@ use Rattle.ed_answers.proofs.check.check_rows.Goals as goal
 
 pub returns-in-Ok : goal.returns-in-Ok
 returns-in-Ok c =
-    entry_found c.args.settings _ c.in_ok-store.ensures c.in-Ok.ensures.answers c.entry.ensures c.orders.ensures
-    c.rows.ensures c.entry_reply.ensures
+    entry_found c.args.settings _ c.in-Ok.ensures c.entry.ensures c.orders.ensures c.rows.ensures c.entry_reply.ensures
 
-pub returns : goal.returns
-returns c =
-    fault_found c.args.settings c.args.rows.now c.in-Err.fault _ c.in_ok-store.ensures c.in-Err.ensures.answers
-    (search rules) c.in_ok-tape_fault-in-Err.ensures c.refusal.ensures
+pub returns-in_ok-tape_fault-in-Err : goal.returns-in_ok-tape_fault-in-Err
+returns-in_ok-tape_fault-in-Err c =
+    fault_found c.args.settings c.args.rows.now c.in-Err.fault _ c.in-Err.ensures (search rules)
+    c.in_ok-tape_fault-in-Err.ensures c.refusal.ensures

@@ -1,14 +1,27 @@
 use Rattle.ed_answers.specs.Answer.{exactly}
-use Rattle.ed_answers.specs.FirstOrders.{tape1_outcome}
-use Rattle.ed_answers.proofs.Replies.{exactly_one, none_replied, refusal_replied}
+use Rattle.ed_answers.specs.FirstOrders.{run1_of, tape1_outcome}
+use Rattle.ed_answers.proofs.Replies.{exactly_one, exactly_replied, none_replied, refusal_replied}
+use Rattle.ed_answers.proofs.Sources.{ran_gives_alone}
 use Rattle.ed_answers.proofs.first_orders.tape1.Goals as goal
 
-pub returns-in_err-rows : goal.returns-in_err-rows
-returns-in_err-rows c =
+pub returns-in_err-rows_of : goal.returns-in_err-rows_of
+returns-in_err-rows_of c =
     let f = tape1_outcome c.args.settings in
-    refusal_replied (exactly f) c.args.input.now _ _ (exactly_one f) c.in_err-rows.ensures.is c.from_residual.ensures
+    refusal_replied (exactly f) c.args.input.now _ _ (exactly_one f) c.in_err-rows_of.ensures.is c.from_residual.ensures
 
-pub returns-in_err-run_tape1 : goal.returns-in_err-run_tape1
-returns-in_err-run_tape1 c =
+pub returns-in_err-ran : goal.returns-in_err-ran
+returns-in_err-ran c =
     let f = tape1_outcome c.args.settings in
-    none_replied (exactly f) c.args.input.now _ (exactly_one f) c.from_residual-in_err-run_tape1.ensures
+    none_replied (exactly f) c.args.input.now _ (exactly_one f) c.from_residual-in_err-ran.ensures
+
+pub returns-in_err-ended_reply : goal.returns-in_err-ended_reply
+returns-in_err-ended_reply c =
+    let f = tape1_outcome c.args.settings in
+    none_replied (exactly f) c.args.input.now _ (exactly_one f) c.from_residual-in_err-ended_reply.ensures
+
+pub returns : goal.returns
+returns c =
+    let s = c.args.settings in
+    let ran = c.in_ok-ran.ensures in
+    exactly_replied (tape1_outcome s) c.args.input.now _ _ c.in_ok-rows_of.ensures.is
+    (ran_gives_alone (run1_of s _) ran.ending_is ran.state_is ran.codes_are c.in_ok-ended_reply.ensures)

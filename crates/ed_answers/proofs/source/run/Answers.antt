@@ -1,23 +1,23 @@
 use Rattle.ed_answers.specs.Sources.{run_outcome}
-use Rattle.ed_answers.proofs.Sources.{linked_replied, source_refused, source_unanswered}
+use Rattle.ed_answers.proofs.Keeping.{printable}
+use Rattle.ed_answers.proofs.Sources.{run_replied, source_refused, source_unanswered}
 use Rattle.ed_answers.proofs.source.run.Goals as goal
 
-pub returns-in_err-linked : goal.returns-in_err-linked
-returns-in_err-linked c =
+pub returns-in_err-ran : goal.returns-in_err-ran
+returns-in_err-ran c =
     let s = c.args.settings in
-    source_refused s.size (run_outcome s) c.args.input.now _ _ c.in_err-linked.ensures c.from_residual.ensures
+    source_refused s.size (run_outcome s) c.args.input.now _ _ c.in_err-ran.ensures.is c.from_residual.ensures
 
-pub returns-in_err-reply_to_linked : goal.returns-in_err-reply_to_linked
-returns-in_err-reply_to_linked c =
+pub returns-in_err-post_mortem_reply : goal.returns-in_err-post_mortem_reply
+returns-in_err-post_mortem_reply c =
     let s = c.args.settings in
-    source_unanswered s.size (run_outcome s) c.args.input.now _ c.from_residual-in_err-reply_to_linked.ensures
+    source_unanswered s.size (run_outcome s) c.args.input.now _ c.from_residual-in_err-post_mortem_reply.ensures
 
-pub reply_to_linked-requires : goal.reply_to_linked-requires
-reply_to_linked-requires c =
-    let accepted = c.in_ok-linked.ensures in
-    record { ranges = c.requires; linked = (accepted.0, accepted.2) }
+pub post_mortem_reply-requires : goal.post_mortem_reply-requires
+post_mortem_reply-requires c =
+    printable c.args.settings c.in_ok-ran.field-0.ran.machine c.requires c.in_ok-ran.ensures.size
+    c.in_ok-ran.ensures.orders
 
 pub returns : goal.returns
 returns c =
-    let s = c.args.settings in
-    linked_replied s.size (run_outcome s) c.args.input.now _ _ c.in_ok-linked.ensures c.in_ok-reply_to_linked.ensures
+    run_replied c.args.settings c.args.input.now _ _ c.in_ok-ran.ensures.is c.in_ok-post_mortem_reply.ensures

@@ -1,14 +1,34 @@
-use Rattle.ed_answers.specs.Tapes.{tape_outcome}
+use Rattle.std.proofs.Common.{[], refl}
 use Rattle.ed_answers.specs.Answer.{exactly}
-use Rattle.ed_answers.proofs.Replies.{exactly_one, none_replied, refusal_replied}
+use Rattle.ed_answers.specs.Runs.{run_of}
+use Rattle.ed_answers.specs.Tapes.{tape_outcome}
+use Rattle.ed_answers.proofs.Keeping.{printable}
+use Rattle.ed_answers.proofs.Replies.{exactly_one, exactly_replied, none_replied, refusal_replied}
+use Rattle.ed_answers.proofs.Sources.{ran_gives}
 use Rattle.ed_answers.proofs.tapes.tape.Goals as goal
 
-pub returns-in_err-rows : goal.returns-in_err-rows
-returns-in_err-rows c =
+pub returns-in_err-rows_of : goal.returns-in_err-rows_of
+returns-in_err-rows_of c =
     let f = tape_outcome c.args.settings in
-    refusal_replied (exactly f) c.args.input.now _ _ (exactly_one f) c.in_err-rows.ensures.is c.from_residual.ensures
+    refusal_replied (exactly f) c.args.input.now _ _ (exactly_one f) c.in_err-rows_of.ensures.is c.from_residual.ensures
 
-pub returns-in_err-run_tape : goal.returns-in_err-run_tape
-returns-in_err-run_tape c =
+pub returns-in_err-ran : goal.returns-in_err-ran
+returns-in_err-ran c =
     let f = tape_outcome c.args.settings in
-    none_replied (exactly f) c.args.input.now _ (exactly_one f) c.from_residual-in_err-run_tape.ensures
+    none_replied (exactly f) c.args.input.now _ (exactly_one f) c.from_residual-in_err-ran.ensures
+
+pub returns-in_err-ended_reply : goal.returns-in_err-ended_reply
+returns-in_err-ended_reply c =
+    let f = tape_outcome c.args.settings in
+    none_replied (exactly f) c.args.input.now _ (exactly_one f) c.from_residual-in_err-ended_reply.ensures
+
+pub ended_reply-requires : goal.ended_reply-requires
+ended_reply-requires c =
+    printable c.args.settings c.in_ok-ran.ran.machine c.requires c.in_ok-ran.ensures.size c.in_ok-ran.ensures.orders
+
+pub returns : goal.returns
+returns c =
+    let s = c.args.settings in
+    let ran = c.in_ok-ran.ensures.is in
+    exactly_replied (tape_outcome s) c.args.input.now _ _ c.in_ok-rows_of.ensures.is
+    (ran_gives s.post_mortem [] (run_of s _) ran.ending_is ran.state_is ran.codes_are refl c.in_ok-ended_reply.ensures)

@@ -1,5 +1,5 @@
 use Rattle.std.proofs.Common.{◌≡◌, length, arith, sym, ap, ◌∙◌, subst, nat_eq}
-use Rattle.ed_initial1.proofs.Loop.{begins, refused, function_row, made_longer, made_ended, made_whole, at_end}
+use Rattle.ed_initial1.proofs.Loop.{begins, refused, function_row, made_longer, made_ended, made_whole, at_end, number_fits}
 use Rattle.ed_initial1.specs.Faults.{IsFault1}
 use Rattle.ed_initial1.specs.declared.cause.Tape1Cause.TheVariants.{EndOfTape}
 use Rattle.ed_initial1.proofs.checking.read_rows.Goals.{in-None, in-Some+in-Longer}
@@ -24,7 +24,7 @@ returns-then-len-from c =
     rw (c.new.ensures, c.in_ok-push-in-Ended.ensures.items)
     (made_whole (rw c.in-Some.is at c.loop-row.invariant) c.loop-row-test.true row.is empty
     (sym c.in-Ended.is ∙ c.take.ensures) c.word_of.ensures c.end_behind-end.ensures
-    (rw (sym c.in_ok-push-in-Ended.ensures.items)
+    (rw (← c.in_ok-push-in-Ended.ensures.items)
     (omega (arith, c.len.ensures, past, c.from.ensures, c.if-len-from.true))))
 
 pub loop-row-preserved : goal.loop-row-preserved
@@ -47,7 +47,7 @@ loop-row-preserved c = elim c.match-item.branch [
       rw (w.words-is, w.orders-is, w.end-is, w.item-is, w.in_ok-push-in-Ended.ensures.items)
       (made_ended (rw w.in-Some.is at c.loop-row.invariant) c.loop-row-test.true row.is empty
       (sym w.in-Ended.is ∙ w.take.ensures) w.word_of.ensures w.end_behind-end.ensures
-      (rw (sym w.in_ok-push-in-Ended.ensures.items)
+      (rw (← w.in_ok-push-in-Ended.ensures.items)
       (let off = w.if-len-from.false in omega (arith, w.len.ensures, past, w.from.ensures, off))))
 ]
 
@@ -56,3 +56,25 @@ returns c =
     let l = c.loop-row in
     let e : l.row ≡ length c.args.rows.now = omega (arith, c.loop-row-test.false, c.loop-row.auto.row-end) in
     subst (λ n. IsFault1 c.args.rows.now n EndOfTape) e (at_end l.invariant e)
+
+pub take-requires : goal.take-requires
+take-requires c = number_fits (rw c.in-Some.is at c.loop-row.invariant)
+
+pub word_of-requires : goal.word_of-requires
+word_of-requires c = number_fits (rw c.in-Some.is at c.loop-row.invariant)
+
+pub overflow_add-row : goal.overflow_add-row
+overflow_add-row c = omega (arith, c.requires, c.loop-row-test.true)
+
+pub new-requires : goal.new-requires
+new-requires c =
+    omega (arith, c.len.ensures, c.push.new.self.ok.0, c.from.ensures, c.if-len-from.true)
+
+pub overflow_add-orders : goal.overflow_add-orders
+overflow_add-orders c = omega (arith, c.requires, c.loop-row-test.true, c.loop-row.invariant.few)
+
+pub overflow_add-orders-in-Longer : goal.overflow_add-orders-in-Longer
+overflow_add-orders-in-Longer c = omega (arith, c.requires, c.loop-row-test.true, c.loop-row.invariant.few)
+
+pub overflow_add-orders-in-Ended : goal.overflow_add-orders-in-Ended
+overflow_add-orders-in-Ended c = omega (arith, c.requires, c.loop-row-test.true, c.loop-row.invariant.few)

@@ -1,13 +1,13 @@
-use Rattle.std.proofs.Common.{◌∙◌, sym, ap, false, Bool, [], ◌∷◌, ◌++◌}
-use Rattle.std.specs.Prelude.{◌||◌}
-use Rattle.ed_link.specs.declared.faults.Extent.{Extent}
+use Rattle.ed_link.specs.Private.FaultTests.{LinesBefore}
+use Rattle.std.proofs.Common.{sym, is_some}
+use Rattle.ed_link.proofs.Inductions.{faultless, first_enter}
 use Rattle.ed_link.proofs.LineLoop.{all_built, reach_fits, start, step, stopped}
 use Rattle.ed_link.proofs.building.build.Goals as goal
 
 pub loop-line-init : goal.loop-line-init
 loop-line-init c =
     let s = c.in_ok-built.ensures in
-    start (λ i. record { extents = c.new.ensures.items i; entered = false }) c.first-counter.ensures s.0 s.1 s.2 s.3
+    start (λ i. record { extents = s.4 i; entered = is_some (s.2 i) }) c.first-counter.ensures s.0 s.1 s.2 s.3
 
 pub loop-line-preserved : goal.loop-line-preserved
 loop-line-preserved c =
@@ -15,7 +15,8 @@ loop-line-preserved c =
     let counter = c.after_statement-counter.ensures in
     step c.loop-line.invariant c.loop-line-test.true c.line-item.is (record {
       cause = sym c.in_default.ensures;
-      few = c.bound_rows.ensures;
+      few_items = added.few_items;
+      few_rows = added.few_rows;
       items_are = added.items;
       table_is = added.table;
       rows_are = added.after;
@@ -23,17 +24,24 @@ loop-line-preserved c =
       spot_is = counter.is;
       place = counter.place;
       segments = counter.segments;
-      extents = c.in_ok-push.ensures.items
-          ∙ ap (λ (e : Extent). c.loop-line.past.extents.items ++ e ∷ []) c.extent_of.ensures;
-      entered = ap (λ (b : Bool). c.loop-line.past.entered || b) c.is_enter.ensures;
+      extents = added.extents;
+      entered = added.entered;
     })
 
 pub add_line-requires-clause-fits : goal.add_line-requires-clause-fits
 add_line-requires-clause-fits c =
     reach_fits c.args.size c.args.symbols.now c.args.has_enter
-    (record { extents = c.loop-line.past.extents.items; entered = c.loop-line.past.entered }) c.line-item.result
+    (record { extents = c.loop-line.built.extents.items; entered = is_some c.loop-line.built.entry }) c.line-item.result
     c.loop-line.counter
     (sym c.in_default.ensures)
+
+pub add_line-requires-clause-first : goal.add_line-requires-clause-first
+add_line-requires-clause-first c =
+    let past : LinesBefore =
+    record { extents = c.loop-line.built.extents.items; entered = is_some c.loop-line.built.entry } in
+    first_enter c.loop-line.built.entry c.args.has_enter c.line-item.result
+    (faultless c.args.size c.args.symbols.now c.args.has_enter past c.line-item.result c.loop-line.counter
+    (sym c.in_default.ensures)).misplaced
 
 pub returns : goal.returns
 returns c =

@@ -8,4 +8,5 @@ returns c = (
   empty_is c.in_ok-table.table.items (c.in_ok-table.ensures.items_if_clones_equal (λ y cloned. search rules)),
   refl,
   c.new-2.ensures.items,
+  c.new-3.ensures.items,
 )

@@ -1,6 +1,8 @@
 use Rattle.std.proofs.Common.{◌∙◌, sym, ap, subst, List, Err, arith}
 use Rattle.ed_syntax.specs.declared.program.Line.{Line}
-use Rattle.ed_link.specs.Private.Building.{BuildIs, IsBuilt}
+use Rattle.std.proofs.lemmas.Result.{IfOk-weaker}
+use Rattle.ed_link.specs.Answers.{IsLinked}
+use Rattle.ed_link.specs.Private.Building.{BuildIs, IsBuilt, IsFinished}
 use Rattle.ed_link.specs.Private.FaultTests.{any_enter}
 use Rattle.ed_link.proofs.FaultLaw.{line_fault, name_fault}
 use Rattle.ed_link.proofs.Bounds.{tape_few}
@@ -23,14 +25,17 @@ pub finish-requires-clause-few : goal.finish-requires-clause-few
 finish-requires-clause-few c =
     tape_few c.in-Ok.built.items.items c.in-Ok.built.after.items c.in-Ok.ensures.few_items c.in-Ok.ensures.few_rows
 
-pub returns-in_ok-finish-in-None-clause-linked : goal.returns-in_ok-finish-in-None-clause-linked
-returns-in_ok-finish-in-None-clause-linked c =
+pub returns-then-has_enter-clause-linked : goal.returns-then-has_enter-clause-linked
+returns-then-has_enter-clause-linked c =
     let enters = c.any_enter-has_enter.ensures ∙ ap (λ (x : List Line). any_enter x) c.deref.ensures.value in
-    finished _ c.catalogue_size-ready.ensures.ready c.args.program.now.numbered c.args.program.now.formed
-    c.requires.symbols enters (sym c.requires.names ∙ c.in-None.is) c.if-has_enter.true
-    (subst (λ (x : List Line). IsBuilt c.args.size c.args.symbols.now c.any_enter-has_enter.result x c.in-Ok.built)
-    c.deref-2.ensures.value c.in-Ok.ensures)
-    c.in_ok-finish-in-None.ensures
+    let lines = c.args.program.now.lines.items in
+    let built = c.in-Ok.built in
+    let is_built =
+    subst (λ (x : List Line). IsBuilt c.args.size c.args.symbols.now c.any_enter-has_enter.result x built)
+    c.deref-2.ensures.value c.in-Ok.ensures in
+    IfOk-weaker c.finish.result (λ k. IsFinished c.args.symbols.now built k) (λ k. IsLinked c.args.size lines k)
+    (λ k. finished _ c.catalogue_size-ready.ensures.ready c.args.program.now.numbered c.args.program.now.formed
+    c.requires.symbols enters (sym c.requires.names ∙ c.in-None.is) c.if-has_enter.true is_built) c.finish.ensures.is
 
 pub returns-in-Some-clause-fault : goal.returns-in-Some-clause-fault
 returns-in-Some-clause-fault c =

@@ -1,7 +1,10 @@
-use Rattle.std.proofs.Common.{◌∙◌, ap, arith, Some}
+use Rattle.std.proofs.Common.{◌∙◌, ap, arith, false, length, Bool, List, Some}
+use Rattle.std.proofs.lemmas.List.{length-replicate}
 use Rattle.ed_store.specs.declared.store.Store.{Store}
 use Rattle.ed_notation.specs.declared.reader.PartialItem.{PartialItem}
-use Rattle.ed_notation.proofs.Loop.{began, function_row, longer, ended, placed, refused, entered, at_end, written}
+use Rattle.ed_notation.specs.declared.reader.RowEffect.TheVariants.{Longer, Ended, Placed}
+use Rattle.ed_notation.specs.Reading.{IsPartial}
+use Rattle.ed_notation.proofs.Loop.{began, function_row, longer, ended, placed, refused, entered, at_end, taken, written}
 use Rattle.ed_notation.proofs.checking.read_rows.Goals.{in-None, in-Some+in-Longer, in-Some+in-Ended, in-Some+in-Placed}
 use Rattle.ed_notation.proofs.checking.read_rows.Goals as goal
 
@@ -12,12 +15,12 @@ loop-row-init c =
 pub returns-in-Refused : goal.returns-in-Refused
 returns-in-Refused c =
     refused c.in-Some.part (rw c.in-Some.is at c.loop-row.invariant)
-    c.loop-row-test.true c.index-rows-row.is c.in-Refused.ensures.is
+    c.loop-row-test.true c.index-rows-row.is c.in-Refused.ensures
 
 pub returns-in-Entered : goal.returns-in-Entered
 returns-in-Entered c =
     entered c.in-Some.part (rw c.in-Some.is at c.loop-row.invariant)
-    c.loop-row-test.true c.index-rows-row.is c.in-Entered.ensures.is
+    c.loop-row-test.true c.index-rows-row.is c.in-Entered.ensures
 
 pub loop-row-preserved : goal.loop-row-preserved
 loop-row-preserved c = elim c.match-item.branch [
@@ -28,16 +31,53 @@ loop-row-preserved c = elim c.match-item.branch [
   | in-Some+in-Longer w ↦ written w.orders-is w.setting-is w.item-is
       (ap (λ (s : Store). s.words) w.contents-is) w.placed-is
       (longer w.in-Some.part (rw w.in-Some.is at c.loop-row.invariant)
-      c.loop-row-test.true c.index-rows-row.is w.in-Longer.ensures.is w.in-Longer.ensures.fits)
+      c.loop-row-test.true c.index-rows-row.is w.in-Longer.ensures)
   | in-Some+in-Ended w ↦ written w.orders-is w.setting-is w.item-is
       (ap (λ (s : Store). s.words) w.contents-is) w.placed-is
       (ended w.in-Some.part (rw w.in-Some.is at c.loop-row.invariant)
-      c.loop-row-test.true c.index-rows-row.is w.in-Ended.ensures.is w.in-Ended.ensures.fits)
+      c.loop-row-test.true c.index-rows-row.is w.in-Ended.ensures)
   | in-Some+in-Placed w ↦ rw (w.orders-is, w.setting-is, w.item-is, w.contents-is, w.placed-is)
       (rw (w.put_short.ensures.is, w.moved_on-setting.ensures, w.from.ensures)
       (placed w.in-Some.part (rw w.in-Some.is at c.loop-row.invariant)
-      c.loop-row-test.true c.index-rows-row.is w.in-Placed.ensures.is w.in-Placed.ensures.fits))
+      c.loop-row-test.true c.index-rows-row.is w.in-Placed.ensures))
 ]
 
 pub returns : goal.returns
 returns c = at_end c.loop-row.invariant (omega (arith, c.loop-row-test.false, c.loop-row.auto.row-end))
+
+pub take-requires : goal.take-requires
+take-requires c =
+    let a : IsPartial (Some c.in-Some.part) = rw c.in-Some.is at c.loop-row.invariant.partial in a
+
+pub overflow_add-orders-in-Longer : goal.overflow_add-orders-in-Longer
+overflow_add-orders-in-Longer c =
+    let t = taken c.in-Some.part (rw c.in-Some.is at c.loop-row.invariant) c.loop-row-test.true c.index-rows-row.is
+    (Longer c.in-Longer.longer c.in-Longer.more) c.in-Longer.ensures in
+    omega (arith, c.requires.rows, c.requires.base, c.loop-row-test.true, c.loop-row.invariant.cheap, t.1)
+
+pub overflow_add-orders-in-Ended : goal.overflow_add-orders-in-Ended
+overflow_add-orders-in-Ended c =
+    let t = taken c.in-Some.part (rw c.in-Some.is at c.loop-row.invariant) c.loop-row-test.true c.index-rows-row.is
+    (Ended c.in-Ended.next c.in-Ended.more) c.in-Ended.ensures in
+    omega (arith, c.requires.rows, c.requires.base, c.loop-row-test.true, c.loop-row.invariant.cheap, t)
+
+pub overflow_add-orders-in-Placed : goal.overflow_add-orders-in-Placed
+overflow_add-orders-in-Placed c =
+    omega (arith, c.requires.rows, c.requires.base, c.loop-row-test.true, c.loop-row.invariant.cheap)
+
+pub put_short-requires : goal.put_short-requires
+put_short-requires c =
+    let t = taken c.in-Some.part (rw c.in-Some.is at c.loop-row.invariant) c.loop-row-test.true c.index-rows-row.is
+    (Placed c.in-Placed.at c.in-Placed.word) c.in-Placed.ensures in t.0
+
+pub bounds-placed-from : goal.bounds-placed-from
+bounds-placed-from c =
+    let t = taken c.in-Some.part (rw c.in-Some.is at c.loop-row.invariant) c.loop-row-test.true c.index-rows-row.is
+    (Placed c.in-Placed.at c.in-Placed.word) c.in-Placed.ensures in
+    omega (arith, c.from.ensures, t.0, c.loop-row.auto.placed, ap (λ (m : List Bool). length m) c.requires.placed, length-replicate 1024 false)
+
+pub moved_on-setting-requires : goal.moved_on-setting-requires
+moved_on-setting-requires c =
+    let t = taken c.in-Some.part (rw c.in-Some.is at c.loop-row.invariant) c.loop-row-test.true c.index-rows-row.is
+    (Placed c.in-Placed.at c.in-Placed.word) c.in-Placed.ensures in
+    omega (arith, t.1)

@@ -1,12 +1,15 @@
 use Rattle.std.proofs.Common.{◌≡◌, List, ℕ, arith, lit<, refl, subst}
 use Rattle.std.proofs.lemmas.Grind.{common_steps}
 use Rattle.std.specs.Prelude.{Err}
+use Rattle.ed_store.specs.Cells.{cleared_cells}
+use Rattle.ed_notation.specs.Checks.{AnswersCheck}
+use Rattle.ed_notation.specs.Faults.{IsFault}
 use Rattle.ed_notation.specs.declared.cause.TapeCause.{TapeCause}
 use Rattle.ed_notation.specs.declared.cause.TapeFault.{TapeFault}
 use Rattle.ed_notation.specs.declared.cause.TapeFault.TheVariants.{At, Memory}
 use Rattle.ed_answers.specs.Outcome.{done}
 use Rattle.ed_answers.specs.Replies.{Gives}
-use Rattle.ed_page.specs.Private.Stages.{HasEntryRows}
+use Rattle.ed_answers.specs.Tapes.{first_note}
 use Rattle.ed_page.specs.TapeItems.{IsItemsOutcome}
 use Rattle.ed_page.proofs.ItemRows.{entered_told, fault_told}
 use Rattle.ed_page.proofs.Replies.{none_answered}
@@ -18,16 +21,16 @@ not_memory same = cc
 
 pub returns-in_ok-item_table-in-Ok : goal.returns-in_ok-item_table-in-Ok
 returns-in_ok-item_table-in-Ok c =
-    entered_told c.args.size c.in-Ok.ensures
+    entered_told c.args.size c.in-Ok.ensures c.rows.ensures
     (subst (λ (out : List ℕ). Gives c.done.result (done out)) c.in_ok-item_table-in-Ok.ensures c.done.ensures)
 
 pub returns-in_ok-out-in-Err-At : goal.returns-in_ok-out-in-Err-At
 returns-in_ok-out-in-Err-At c =
     let row = c.in-Err-At.row in
     let cause = c.in-Err-At.cause in
-    let fault : HasEntryRows c.args.size c.args.rows.now (Err (At row cause)) =
-    subst (λ (f : TapeFault). HasEntryRows c.args.size c.args.rows.now (Err f)) c.in-Err-At.field-0-is
-    c.in-Err-At.ensures in
+    let fault : IsFault c.args.size cleared_cells.words first_note c.args.rows.now row cause =
+    subst (λ (f : TapeFault). AnswersCheck c.args.size cleared_cells.words first_note 9 c.args.rows.now (Err f))
+    c.in-Err-At.field-0-is c.in-Err-At.ensures in
     fault_told c.args.size fault (record {
       out_is = c.in_ok-out-in-Err-At.ensures;
       note_is = c.in_ok-note-in-Err-At.ensures;

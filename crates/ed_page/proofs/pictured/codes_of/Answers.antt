@@ -1,5 +1,5 @@
-use Rattle.std.proofs.Common.{refl, rules}
-use Rattle.ed_page.proofs.Copied.{copied_all, copied_more}
+use Rattle.std.proofs.Common.{refl}
+use Rattle.ed_page.proofs.Copied.{copied_all, copied_more, known_code}
 use Rattle.ed_page.proofs.pictured.codes_of.Goals as goal
 
 pub loop-number-init : goal.loop-number-init
@@ -7,7 +7,9 @@ loop-number-init c = rw c.new-codes.ensures.items refl
 
 pub loop-number-preserved : goal.loop-number-preserved
 loop-number-preserved c =
-    copied_more _ _ _ c.loop-number.number-index _ c.in_ok-push.ensures.items c.loop-number-test.true (search rules)
+    let code = known_code c.new.result _ _ _ c.new.ensures.none c.new.ensures.some
+    (c.requires c.loop-number.number-index) c.unwrap_or_default.ensures in
+    copied_more _ _ _ c.loop-number.number-index _ c.in_ok-push.ensures.items c.loop-number-test.true code
     c.loop-number.invariant
 
 pub returns : goal.returns

@@ -1,15 +1,17 @@
-use Rattle.std.proofs.Common.{ap}
+use Rattle.std.proofs.Common.{ap, [], ◌∷◌}
 use Rattle.ed_report.proofs.Texts.{named}
 use Rattle.ed_report.proofs.ending.ending_text.Goals.{in-Limit, in-NoTape, in-PaperFull, in-Stopped}
 use Rattle.ed_report.proofs.ending.ending_text.Goals as goal
 
 pub returns : goal.returns
 returns c =
-    let line = c.ending_line.ensures in
+    let line = c.place_after.ensures in
     let s = c.args.machine.now in
+    let counter = c.counter.ensures.is in
+    let orders = c.orders_done.ensures in
     elim c.match-ending.branch [
-      | in-Stopped w ↦ rw w.in-Stopped.is (named _ s line (ap (λ n. n.now) w.name-is))
-      | in-Limit w ↦ rw w.in-Limit.is (named _ s line (ap (λ n. n.now) w.name-is))
-      | in-NoTape w ↦ rw w.in-NoTape.is (named _ s line (ap (λ n. n.now) w.name-is))
-      | in-PaperFull w ↦ rw w.in-PaperFull.is (named _ s line (ap (λ n. n.now) w.name-is))
+      | in-Stopped w ↦ rw w.in-Stopped.is (named _ s (10 ∷ []) line (ap (λ n. n.now) w.name-is) counter orders)
+      | in-Limit w ↦ rw w.in-Limit.is (named _ s (10 ∷ []) line (ap (λ n. n.now) w.name-is) counter orders)
+      | in-NoTape w ↦ rw w.in-NoTape.is (named _ s (10 ∷ []) line (ap (λ n. n.now) w.name-is) counter orders)
+      | in-PaperFull w ↦ rw w.in-PaperFull.is (named _ s (10 ∷ []) line (ap (λ n. n.now) w.name-is) counter orders)
     ]

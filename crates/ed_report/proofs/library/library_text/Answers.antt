@@ -1,6 +1,6 @@
-use Rattle.std.proofs.Common.{◌≡◌, ◌∙◌, ℕ, ◌+◌, ◌<◌, sym, ap, subst}
-use Rattle.std.proofs.Common.{List, ◌++◌, append_assoc, drop, length, get_or}
-use Rattle.std.proofs.lemmas.List.{drop_more}
+use Rattle.std.proofs.Common.{◌≡◌, ◌∙◌, ℕ, ◌+◌, ◌<◌, ◌≤◌, sym, ap, subst}
+use Rattle.std.proofs.Common.{List, ◌++◌, append-nil, append_assoc, drop, length, get_or}
+use Rattle.std.proofs.lemmas.List.{drop_all, drop_more}
 use Rattle.ed_library.specs.Entries.{Routine, catalogue, no_entry}
 use Rattle.ed_report.specs.Catalogue.{routine_line, routine_lines}
 use Rattle.ed_report.proofs.library.library_text.Goals as goal
@@ -25,3 +25,15 @@ loop-index-preserved c =
     next catalogue l.index l.lines.items below
     (c.in_ok-line.ensures ∙ ap (λ (r : ℕ). routine_line (get_or catalogue r no_entry)) c.routine.ensures)
     (grown ∙ ap (λ (x : List ℕ). l.lines.items ++ x) c.deref.ensures.value) l.invariant
+
+-- no routine is left
+last : (entries : List Routine) (k : ℕ) (lines : List ℕ) {whole : List ℕ} → length entries ≤ k
+    → lines ++ routine_lines (drop k entries) ≡ whole → lines ≡ whole
+last entries k lines over before =
+    sym (append-nil lines) ∙ sym (ap (λ (x : List Routine). lines ++ routine_lines x) (drop_all k entries over)) ∙ before
+
+pub returns : goal.returns
+returns c =
+    let l = c.loop-index in
+    last catalogue l.index l.lines.items
+    (subst (λ (n : ℕ). n ≤ l.index) c.catalogue_size-index-end.ensures.is c.loop-index-test.false) l.invariant

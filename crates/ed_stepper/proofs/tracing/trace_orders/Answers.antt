@@ -1,4 +1,5 @@
-use Rattle.std.proofs.Common.{◌+◌, refl, sym, ap, ◌∙◌, arith}
+use Rattle.std.proofs.Common.{ℕ, ◌+◌, refl, sym, ap, ◌∙◌, arith, false}
+use Rattle.ed_codes.specs.Spelling.{byte_of}
 use Rattle.ed_io.specs.Causes.{next_count}
 use Rattle.ed_machine.specs.Steps.{stops_of}
 use Rattle.ed_machine.proofs.Steps.{next_state}
@@ -22,7 +23,8 @@ returns-in-Err g c =
     let i = c.loop-done.invariant in
     let o = obeyed_turn _ c.in-Went.is in
     record {
-      trace = breaks_line i.lines i.going.state c.next_letter-letter.ensures _ _ c.in-Err.ensures.puts
+      trace = breaks_line i.lines i.going.state (c.byte_of-letter.ensures.is
+          ∙ ap (λ (f : ℕ). byte_of f false) c.next_function.ensures) _ _ c.in-Err.ensures.puts
           (first_more i.going c.loop-done-test.true c.step-turn.ensures.turn o)
           (next_state _ _ i.going.state c.step-turn.ensures.state);
       room = c.in-Err.ensures.room ∙ i.room;
@@ -38,7 +40,8 @@ returns-then-stops-resumes g c =
         ends = stopped i.going c.loop-done-test.true c.step-turn.ensures.turn c.in-Stopped.is
             (omega (arith, c.if-stops-resumes.true));
         state_is = next_state _ _ i.going.state c.step-turn.ensures.state;
-        lines = next_lines i.lines i.going.state c.next_letter-letter.ensures _ c.in_default.ensures.puts;
+        lines = next_lines i.lines i.going.state (c.byte_of-letter.ensures.is
+            ∙ ap (λ (f : ℕ). byte_of f false) c.next_function.ensures) _ c.in_default.ensures.puts;
       };
       room = c.in_default.ensures.room ∙ i.room;
       faults = c.in_default.ensures.faults ∙ i.faults;
@@ -61,7 +64,8 @@ loop-done-preserved g c =
             c.step-turn.ensures.state o
             (omega (arith, w.stops-is, none)) (omega (arith, w.stops-is, i.going.within))
       ];
-      lines = next_lines i.lines i.going.state c.next_letter-letter.ensures _ c.in_default.ensures.puts;
+      lines = next_lines i.lines i.going.state (c.byte_of-letter.ensures.is
+          ∙ ap (λ (f : ℕ). byte_of f false) c.next_function.ensures) _ c.in_default.ensures.puts;
       room = c.in_default.ensures.room ∙ i.room;
       count = omega (arith, c.step-turn.ensures.count, i.count);
       faults = c.in_default.ensures.faults ∙ i.faults;

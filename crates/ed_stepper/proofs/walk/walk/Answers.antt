@@ -1,16 +1,17 @@
-use Rattle.std.proofs.Common.{◌≡◌, refl, sym, ap, ◌∙◌, arith, add-one}
+use Rattle.std.proofs.Common.{◌≡◌, rules, sym, ap, ◌∙◌, arith, add-one}
 use Rattle.ed_machine.specs.State.{State}
 use Rattle.ed_machine.specs.Steps.{is_obeyed, is_stop}
 use Rattle.ed_machine.proofs.Steps.{no_step}
 use Rattle.ed_initial.specs.Load.{enters}
 use Rattle.ed_stepper.specs.MoveEnds.{blocked_end}
+use Rattle.ed_stepper.specs.declared.moves.MoveEnd.TheVariants.{Went}
 use Rattle.ed_stepper.proofs.Walks.{after_from, at_first, at_limit, blocks, ends_at_once, goes_on, limits, next}
 use Rattle.ed_stepper.proofs.Walks.{one_more, orders_kept, orders_more, owns, reached, stops, taken, up_to}
 use Rattle.ed_stepper.proofs.walk.walk.Goals as goal
 
-pub returns-then-is_at_once : goal.returns-then-is_at_once
-returns-then-is_at_once c = record {
-  ends = ends_at_once _ _ _ _ (c.is_at_once.ensures.yes c.if-is_at_once.true _);
+pub returns-in-Orders-eq0 : goal.returns-in-Orders-eq0
+returns-in-Orders-eq0 c = record {
+  ends = ends_at_once _ _ _ Went (search rules);
   state = no_step _;
   free = λ j h. absurd (omega arith);
   most = omega arith;
@@ -20,7 +21,7 @@ returns-then-is_at_once c = record {
 
 pub loop-orders-init : goal.loop-orders-init
 loop-orders-init c = record {
-  walking = at_first _ _ _ (c.if-is_at_once.ensures.no refl _);
+  walking = at_first _ _ _ (search rules);
   count = omega arith;
   marks = λ start is few are. are;
 }
@@ -91,7 +92,7 @@ loop-orders-preserved c =
     (c.is_entering-entered.ensures ∙ ap enters w.state) in
     let count = orders_more _ _ _ _ c.step.ensures.count c.loop-orders.invariant.count in
     record {
-      walking = goes_on t.0 t.1 (sym own ∙ c.in_default.is);
+      walking = goes_on t.0 t.1 (sym own ∙ c.in_default-own_end.is);
       count = count;
       marks = λ start is few are. c.keep.ensures start (after_from _ _ _ _ _ t.0.state is)
           (reached _ _ _ _ _ count few) (c.loop-orders.invariant.marks start is few are);

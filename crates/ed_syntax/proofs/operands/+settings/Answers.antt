@@ -16,41 +16,41 @@ returns-then-most-eq0-clause-is t c =
     ap (λ (o : Option (Ranged (List Setting))). form_result (ranged_map array o))
     (sym (none_left (is_second c.args.version) c.args.most (map part c.args.parts.now) c.if-most-eq0.true))
 
-pub returns-in-Err-clause-is : goal.returns-in-Err-clause-is
-returns-in-Err-clause-is t c =
+pub returns-in-None-clause-is : goal.returns-in-None-clause-is
+returns-in-None-clause-is t c =
     let front : setting (is_second c.args.version) (map part c.args.parts.now) ≡ None = search rules in
     ap (λ (o : Option (Ranged (List Setting))). form_result (ranged_map array o))
     (sym (no_setting (is_second c.args.version) c.args.most (map part c.args.parts.now) (omega arith) front))
 
-pub returns-in-None-clause-is : goal.returns-in-None-clause-is
-returns-in-None-clause-is t c =
-    let front : setting (is_second c.args.version) (map part c.args.parts.now) ≡ Some (c.in-Ok.setting, map part c.in-Ok.after.now) =
-    search rules in
-    let none : c.in-Ok.after.now ≡ [] = grind (arith, common_steps) in
+pub returns-in-None-split_first-clause-is : goal.returns-in-None-split_first-clause-is
+returns-in-None-split_first-clause-is t c =
+    let front : setting (is_second c.args.version) (map part c.args.parts.now)
+    ≡ Some (c.in-Some.setting, map part c.in-Some.after.now) = search rules in
+    let none : c.in-Some.after.now ≡ [] = grind (arith, common_steps) in
     c.both.ensures.is ∙ rw c.new.ensures (one_setting (is_second c.args.version) c.args.most
-    (map part c.args.parts.now) c.in-Ok.setting (omega arith) (rw none at front))
+    (map part c.args.parts.now) c.in-Some.setting (omega arith) (rw none at front))
 
 pub returns-in_err-more-in-Some-Sign-eq44-default-clause-is : goal.returns-in_err-more-in-Some-Sign-eq44-default-clause-is
 returns-in_err-more-in-Some-Sign-eq44-default-clause-is t c =
     let p = err_from_is_err_and c.from_residual.result c.from_residual.ensures.1 in
     let rest = map part c.in-Some-Sign-eq44-default.rest.now in
-    let front : setting (is_second c.args.version) (map part c.args.parts.now) ≡ Some (c.in-Ok.setting, sign 44 ∷ rest) =
+    let front : setting (is_second c.args.version) (map part c.args.parts.now) ≡ Some (c.in-Some.setting, sign 44 ∷ rest) =
     search rules in
-    rw (p.1, p.2) (fault_after (is_second c.args.version) c.args.most (map part c.args.parts.now) rest c.in-Ok.setting _
+    rw (p.1, p.2) (fault_after (is_second c.args.version) c.args.most (map part c.args.parts.now) rest c.in-Some.setting _
     (omega arith) front c.in_err-more-in-Some-Sign-eq44-default.ensures.is)
 
 pub returns-in_ok-more-in-Some-Sign-eq44-default-clause-is : goal.returns-in_ok-more-in-Some-Sign-eq44-default-clause-is
 returns-in_ok-more-in-Some-Sign-eq44-default-clause-is t c =
     let rest = map part c.in-Some-Sign-eq44-default.rest.now in
-    let front : setting (is_second c.args.version) (map part c.args.parts.now) ≡ Some (c.in-Ok.setting, sign 44 ∷ rest) =
+    let front : setting (is_second c.args.version) (map part c.args.parts.now) ≡ Some (c.in-Some.setting, sign 44 ∷ rest) =
     search rules in
     c.both-in-Some-Sign-eq44-default.ensures.is ∙ setting_before (is_second c.args.version) c.args.most (map part c.args.parts.now) rest
-    c.in-Ok.setting _ (omega arith) front c.in_ok-more-in-Some-Sign-eq44-default.ensures.is
+    c.in-Some.setting _ (omega arith) front c.in_ok-more-in-Some-Sign-eq44-default.ensures.is
 
 pub returns-in_default-clause-is : goal.returns-in_default-clause-is
 returns-in_default-clause-is t c =
     let two = is_second c.args.version in
-    let rest = map part c.in-Ok.after.now in
-    let front : setting two (map part c.args.parts.now) ≡ Some (c.in-Ok.setting, rest) = search rules in
-    let stop : and_more c.in-Ok.setting rest (settings two (c.args.most - 1)) ≡ None = grind (arith, common_steps) in
-    not_read two c.args.most (map part c.args.parts.now) rest c.in-Ok.setting (omega arith) front stop
+    let rest = map part c.in-Some.after.now in
+    let front : setting two (map part c.args.parts.now) ≡ Some (c.in-Some.setting, rest) = search rules in
+    let stop : and_more c.in-Some.setting rest (settings two (c.args.most - 1)) ≡ None = grind (arith, common_steps) in
+    not_read two c.args.most (map part c.args.parts.now) rest c.in-Some.setting (omega arith) front stop

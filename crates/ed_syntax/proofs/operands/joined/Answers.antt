@@ -1,6 +1,5 @@
 use Rattle.std.proofs.Common.{arith, refl, rules}
 use Rattle.std.proofs.lemmas.Int.{ints}
-use Rattle.std.proofs.lemmas.Result.{err_from_is_err_and}
 use Rattle.ed_syntax.proofs.Faults.{number_in_range, number_out_of_range, no_number}
 use Rattle.ed_syntax.proofs.operands.joined.Goals as goal
 
@@ -12,8 +11,7 @@ overflow_sub-plus c = omega (arith, ints, c.in-Ok.ensures.within)
 
 pub returns-in_err-first : goal.returns-in_err-first
 returns-in_err-first c =
-    let p = err_from_is_err_and c.from_residual.result c.from_residual.ensures.1 in
-    rw (p.1, c.in_err-first.ensures.none.1) refl
+    rw (c.from_residual.ensures, c.in_err-first.ensures.none) refl
 
 pub returns-in-Err-OutOfRange : goal.returns-in-Err-OutOfRange
 returns-in-Err-OutOfRange c =
@@ -22,10 +20,9 @@ returns-in-Err-OutOfRange c =
 
 pub returns-in_err-second-in-Err-NotThisForm : goal.returns-in_err-second-in-Err-NotThisForm
 returns-in_err-second-in-Err-NotThisForm c =
-    let r = c.from_residual-in_err-second-in-Err-NotThisForm in
-    let p = err_from_is_err_and r.result r.ensures.1 in
     let n = no_number _ _ _ c.in-Err-NotThisForm.field-0-is c.in-Err-NotThisForm.ensures.is in
-    rw (p.1, c.in_ok-first.ensures.some.1, n, c.in_err-second-in-Err-NotThisForm.ensures.none.1) (search rules)
+    let none = c.in_err-second-in-Err-NotThisForm.ensures.none in
+    rw (c.from_residual-in_err-second-in-Err-NotThisForm.ensures, c.in_ok-first.ensures.some.1, n, none) (search rules)
 
 pub returns-in_ok-second-in-Err-NotThisForm : goal.returns-in_ok-second-in-Err-NotThisForm
 returns-in_ok-second-in-Err-NotThisForm c =

@@ -1,5 +1,4 @@
 use Rattle.std.proofs.Common.{arith, refl}
-use Rattle.std.proofs.lemmas.Result.{err_from_is_err_and}
 use Rattle.ed_syntax.proofs.Faults.{number_in_range, number_out_of_range, no_number}
 use Rattle.ed_syntax.proofs.operands.single.Goals as goal
 
@@ -8,9 +7,8 @@ overflow_cast-result c = omega (arith, c.in-Ok.ensures.within)
 
 pub returns-in_err-name-in-Err-NotThisForm : goal.returns-in_err-name-in-Err-NotThisForm
 returns-in_err-name-in-Err-NotThisForm c =
-    let p = err_from_is_err_and c.from_residual.result c.from_residual.ensures.1 in
     let n = no_number _ _ _ c.in-Err-NotThisForm.field-0-is c.in-Err-NotThisForm.ensures.is in
-    rw (p.1, n, c.in_err-name-in-Err-NotThisForm.ensures.none.1) refl
+    rw (c.from_residual.ensures, n, c.in_err-name-in-Err-NotThisForm.ensures.none) refl
 
 pub returns-in_ok-name-in-Err-NotThisForm : goal.returns-in_ok-name-in-Err-NotThisForm
 returns-in_ok-name-in-Err-NotThisForm c =

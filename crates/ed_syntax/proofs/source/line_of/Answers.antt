@@ -1,4 +1,5 @@
-use Rattle.std.proofs.Common.{rules, ◌≡◌, ◌∙◌, map}
+use Rattle.std.proofs.lemmas.Grind.{common_steps}
+use Rattle.std.proofs.Common.{rules, ◌≡◌, ◌∙◌, map, arith}
 use Rattle.std.specs.Prelude.{Ok, Err, Some}
 use Rattle.ed_syntax.specs.Private.Found.{form_result}
 use Rattle.ed_syntax.specs.Private.Grammar.{form_at}
@@ -32,3 +33,6 @@ returns c =
     let told : Err OutOfRange ≡ form_result (form_at (is_second c.args.version) c.args.number read) = search rules in
     line_read (is_second c.args.version) c.args.number c.args.line.now read (search rules) (search rules) parts
     ∙ range_fault _ told
+
+pub returns-then-line-gt120 : goal.returns-then-line-gt120
+returns-then-line-gt120 c = grind (arith, common_steps)

@@ -2,11 +2,11 @@ use Rattle.std.proofs.Common.{arith}
 use Rattle.std.proofs.lemmas.Grind.{common_steps}
 use Rattle.ed_syntax.proofs.statements.length_end.Goals as goal
 
-pub returns-in-Sign : goal.returns-in-Sign
-returns-in-Sign c = grind (arith, common_steps)
+pub returns-in-68 : goal.returns-in-68
+returns-in-68 c = grind (arith, common_steps)
 
-pub returns-in-Sign-2 : goal.returns-in-Sign-2
-returns-in-Sign-2 c = grind (arith, common_steps)
+pub returns-in-70 : goal.returns-in-70
+returns-in-70 c = grind (arith, common_steps)
 
 pub returns-in_default : goal.returns-in_default
 returns-in_default c = grind (arith, common_steps)
@@ -17,5 +17,5 @@ returns-in_default-2 c = grind (arith, common_steps)
 pub returns-in_default-3 : goal.returns-in_default-3
 returns-in_default-3 c = grind (arith, common_steps)
 
-pub returns-in_default-4 : goal.returns-in_default-4
-returns-in_default-4 c = grind (arith, common_steps)
+pub returns-in_default-letter : goal.returns-in_default-letter
+returns-in_default-letter c = grind (arith, common_steps)

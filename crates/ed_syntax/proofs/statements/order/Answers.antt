@@ -7,20 +7,20 @@ use Rattle.ed_syntax.specs.Versions.{is_second}
 use Rattle.ed_syntax.proofs.Orders.{order_made, order_out_of_range, no_order}
 use Rattle.ed_syntax.proofs.statements.order.Goals as goal
 
-pub returns-in-Ok-Some-default : goal.returns-in-Ok-Some-default
-returns-in-Ok-Some-default c =
+pub returns-in-Some-Some-default : goal.returns-in-Some-Some-default
+returns-in-Some-Some-default c =
     let is : function c.args.byte ≡ Some c.in-Some.function = search rules in
     order_made (function c.args.byte) (order_end (is_second c.args.version) (map part c.args.parts.now)) _ _ _ _
-    is c.in-Ok-Some-default.ensures c.in-Ok-Some-default.field-0-0-is
+    is c.in-Some-Some-default.ensures c.in-Some-Some-default.field-0-0-is
 
-pub returns-in-Ok-None-default : goal.returns-in-Ok-None-default
-returns-in-Ok-None-default c =
+pub returns-in-Some-None-default : goal.returns-in-Some-None-default
+returns-in-Some-None-default c =
     let is : function c.args.byte ≡ Some c.in-Some.function = search rules in
     order_out_of_range (function c.args.byte) (order_end (is_second c.args.version) (map part c.args.parts.now)) _ _ _
-    is c.in-Ok-None-default.ensures c.in-Ok-None-default.field-0-0-is
+    is c.in-Some-None-default.ensures c.in-Some-None-default.field-0-0-is
 
-pub returns-in-Err : goal.returns-in-Err
-returns-in-Err c =
+pub returns-in-None : goal.returns-in-None
+returns-in-None c =
     let is : function c.args.byte ≡ Some c.in-Some.function = search rules in
-    no_order (function c.args.byte) (order_end (is_second c.args.version) (map part c.args.parts.now)) _ _
-    is c.in-Err.ensures
+    no_order (function c.args.byte) (order_end (is_second c.args.version) (map part c.args.parts.now)) _
+    is c.in-None.ensures

@@ -14,3 +14,6 @@ returns-then-value-most-clause-is c =
 
 pub loop-digit-preserved : goal.loop-digit-preserved
 loop-digit-preserved c = grind (arith, common_steps)
+
+pub returns-clause-is : goal.returns-clause-is
+returns-clause-is c = grind (arith, common_steps)

@@ -6,7 +6,7 @@ use Rattle.ed_syntax.proofs.terms.string.Given as goal
 
 abbrev pub invariant-loop-byte : goal.invariant-loop-byte
 invariant-loop-byte l = record {
-  spelled : list_all (λ b. spells (row_of b)) (take l.byte-index l.byte-items) ≡ true;
-  rows : l.rows.items ≡ map (λ b. row (row_of b)) (take l.byte-index l.byte-items);
+  spelled : list_all (λ b. spells (row_of b)) (take l.byte-index l.text) ≡ true;
+  rows : l.rows.items ≡ map (λ b. row (row_of b)) (take l.byte-index l.text);
   count : length l.rows.items ≡ l.byte-index;
 }

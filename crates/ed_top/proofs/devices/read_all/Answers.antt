@@ -1,10 +1,23 @@
-use Rattle.std.proofs.Common.{rules, arith, ◌∙◌, refl, inl, inr, []}
+use Rattle.std.proofs.Common.{ℕ, ◌≡◌, rules, arith, ◌∙◌, refl, subst, inl, inr, take, List, [], Option}
+use Rattle.ed_words.specs.Texts.{Text}
 use Rattle.std.proofs.lemmas.List.{append-nil, take-append-le}
 use Rattle.std.proofs.lemmas.Result.{err_from_is_err_and}
 use Rattle.ed_io.specs.Bytes.{Loses}
 use Rattle.ed_io.proofs.Calls.{loses_more, loses_none, still_at_end}
 use Rattle.ed_top.proofs.devices.read_all.Goals.{else-loop-piece-test, then-loop-piece-test+in_ok-count+then-count-eq0}
 use Rattle.ed_top.proofs.devices.read_all.Goals as goal
+
+-- no bytes were lost
+lost_none : (before after : Option Text) (n : ℕ) (bytes : List ℕ) → n ≡ 0 → Loses before after (take n bytes)
+    → Loses before after []
+lost_none before after n bytes none lost = subst (λ (k : ℕ). Loses before after (take k bytes)) none lost
+
+-- no more bytes were lost
+lost_all : (before middle after : Option Text) (bytes : List ℕ) (n : ℕ) (more : List ℕ) → Loses before middle bytes
+    → n ≡ 0 → Loses middle after (take n more) → Loses before after bytes
+lost_all before middle after bytes n more lost none also =
+    subst (λ (xs : List ℕ). Loses before after xs) (append-nil bytes)
+    (loses_more before middle after bytes [] lost (lost_none middle after n more none also))
 
 pub loop-piece-init : goal.loop-piece-init
 loop-piece-init g c = record {
@@ -40,19 +53,19 @@ returns g c =
     elim c.loop-piece-test.branch [
       | else-loop-piece-test w ↦ rw w.source-is (record {
         bytes = before.taken;
-        end = inl (search rules);
+        end = inl (omega (arith, w.loop-piece-test.false, c.len.ensures, before.few));
         short = tt;
         faults = before.faults;
       })
       | then-loop-piece-test+in_ok-count+then-count-eq0 w ↦
           let read = w.in_ok-count.ensures in
-          let left = g.S.Source.left in
-          let none : Loses (left c.loop-piece.source) (left w.read.new.self) [] =
-          rw w.if-count-eq0.true at read.bytes.0 in
-          let all = loses_more (left c.args.source.now) _ _ c.loop-piece.input.items [] before.taken none in
           rw w.source-is (record {
-            bytes = rw append-nil at all;
-            end = inr (search rules, still_at_end _ _ (read.bytes.1 w.if-count-eq0.true (search rules)) none);
+            bytes = lost_all _ _ _ _ _ _ before.taken w.if-count-eq0.true read.bytes.0;
+            end = inr (
+              omega (arith, w.loop-piece-test.true, c.len.ensures),
+              still_at_end _ _ (read.bytes.1 w.if-count-eq0.true (search rules))
+                  (lost_none _ _ _ _ w.if-count-eq0.true read.bytes.0),
+            );
             short = tt;
             faults = rw read.faults before.faults;
           })

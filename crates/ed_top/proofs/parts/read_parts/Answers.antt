@@ -16,15 +16,15 @@ returns-in_err-machine g c =
 pub returns : goal.returns
 returns g c =
     let out = device g.K.Sink.held g.K.Sink.faults c.args.out.now c.run_parts.new.out in (
-      c.end_status.ensures.low,
+      c.end_status-status.ensures.low,
       parts_told c.args.settings c.args.rows.items c.in_ok-machine.ensures.is out
-          c.in_ok-end.ensures.tells c.in_ok-end_text.ensures c.end_status.ensures.is,
+          c.in_ok-end.ensures.tells c.in_ok-note.ensures c.end_status-status.ensures.is,
       c.in_ok-end.ensures.faults,
     )
 
-pub returns-in_err-end_text : goal.returns-in_err-end_text
-returns-in_err-end_text g c =
-    let r = c.from_residual-in_err-end_text in
+pub returns-in_err-note : goal.returns-in_err-note
+returns-in_err-note g c =
+    let r = c.from_residual-in_err-note in
     let p = err_from_is_err_and r.result r.ensures.1 in
     let out = device g.K.Sink.held g.K.Sink.faults c.args.out.now c.run_parts.new.out in
     rw (p.1, p.2) (

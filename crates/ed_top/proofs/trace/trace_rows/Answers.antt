@@ -16,9 +16,9 @@ returns-in_err-ending g c =
     c.in_err-ending.field-0.0 c.trace_run.new.machine c.in_err-ending.ensures.trace c.in_err-ending.ensures.faults in
     rw (p.1, p.2) told
 
-pub returns-in_err-ending_text : goal.returns-in_err-ending_text
-returns-in_err-ending_text g c =
-    let r = c.from_residual-in_err-ending_text in
+pub returns-in_err-note : goal.returns-in_err-note
+returns-in_err-note g c =
+    let r = c.from_residual-in_err-note in
     let p = err_from_is_err_and r.result r.ensures.1 in
     let out = device g.K.Sink.held g.K.Sink.faults c.args.out.now c.trace_run.new.out in
     let told = trace_untold c.args.settings c.args.rows.items c.in_ok-machine.ensures.is out c.from.result

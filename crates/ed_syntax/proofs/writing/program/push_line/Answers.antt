@@ -1,9 +1,34 @@
-use Rattle.std.proofs.Common.{arith}
+use Rattle.std.proofs.Common.{◌≡◌, true, arith, refl, rules}
+use Rattle.std.specs.Prelude.{◌==◌, ◌&&◌}
 use Rattle.std.proofs.lemmas.Grind.{common_steps}
+use Rattle.ed_syntax.specs.Versions.{is_second}
+use Rattle.ed_syntax.proofs.Added.{few_anyway, in_any_case, not_written, or_true}
 use Rattle.ed_syntax.proofs.writing.program.push_line.Goals as goal
 
 pub returns-in-Some-statement-clause-is : goal.returns-in-Some-statement-clause-is
 returns-in-Some-statement-clause-is c = grind (arith, common_steps)
 
+pub returns-in-Some-statement-clause-few : goal.returns-in-Some-statement-clause-few
+returns-in-Some-statement-clause-few c =
+    let told = c.push_statement in rw c.in-Some-statement.is (few_anyway told.result _ _ told.ensures.few)
+
 pub returns-in-None-clause-is : goal.returns-in-None-clause-is
 returns-in-None-clause-is c = grind (arith, common_steps)
+
+pub returns-in-None-clause-few : goal.returns-in-None-clause-few
+returns-in-None-clause-few c = rw c.in-None.is (or_true _)
+
+pub returns-then-line-eq1 : goal.returns-then-line-eq1
+returns-then-line-eq1 c =
+    let first : (is_second c.args.version && c.args.line.now.number == 1) ≡ true = search rules in
+    rw first (record { is = c.push.ensures; few = in_any_case c.push.result refl })
+
+pub returns-in_err-push : goal.returns-in_err-push
+returns-in_err-push c =
+    let r = c.from_residual in
+    record { is = not_written _ r.result r.ensures.0; few = not_written _ r.result r.ensures.0 }
+
+pub returns-in_err-push-2 : goal.returns-in_err-push-2
+returns-in_err-push-2 c =
+    let r = c.from_residual-in_err-push-2 in
+    record { is = not_written _ r.result r.ensures.0; few = not_written _ r.result r.ensures.0 }

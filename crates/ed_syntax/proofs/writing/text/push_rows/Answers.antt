@@ -1,6 +1,8 @@
-use Rattle.std.proofs.Common.{◌∙◌, arith}
-use Rattle.std.proofs.lemmas.Grind.{common_steps}
-use Rattle.ed_syntax.proofs.Added.{letter_added}
+use Rattle.std.proofs.Common.{◌≡◌, ◌∙◌, ◌++◌, ap, map, take}
+use Rattle.std.proofs.lemmas.List.{take_all}
+use Rattle.ed_words.specs.Texts.{Text}
+use Rattle.ed_syntax.specs.Written.{row_letter}
+use Rattle.ed_syntax.proofs.Added.{both_added, letter_added}
 use Rattle.ed_syntax.proofs.writing.text.push_rows.Goals as goal
 
 pub loop-row-preserved : goal.loop-row-preserved
@@ -8,8 +10,16 @@ loop-row-preserved c =
     let here = c.loop-row in
     let same = c.deref-row-items.ensures.0 in
     c.in_ok-push_letter.ensures
-    ∙ letter_added c.push-2.new.text.items here.text.items c.args.rows.now.items here.row-index c.row-item.result
+    ∙ letter_added c.push.new.text.items here.text.items c.args.rows.now.items here.row-index c.row-item.result
     (rw same at c.loop-row-test.true) (rw same at c.row-item.is) here.invariant
 
 pub returns : goal.returns
-returns c = grind (arith, common_steps)
+returns c =
+    let here = c.loop-row in
+    let rows = c.args.rows.now.items in
+    let mid = c.push.new.text.items in
+    let all : take here.row-index rows ≡ rows =
+    take_all here.row-index rows (rw c.deref-row-items.ensures.0 at c.loop-row-test.false) in
+    both_added _ c.args.text.now.items c.args.before.now _ mid _
+    (both_added _ mid (map row_letter rows) _ here.text.items _ c.push-2.ensures
+    (here.invariant ∙ ap (λ (rs : Text). mid ++ map row_letter rs) all)) c.in_ok-push.ensures

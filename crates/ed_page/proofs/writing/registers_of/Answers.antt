@@ -1,0 +1,6 @@
+use Rattle.std.proofs.Common.{arith}
+use Rattle.std.proofs.lemmas.Grind.{common_steps}
+use Rattle.ed_page.proofs.writing.registers_of.Goals as goal
+
+pub returns-clause-registers : goal.returns-clause-registers
+returns-clause-registers c = grind (arith, common_steps)
