@@ -57,7 +57,7 @@ const REFUSED: [(Size, u16, u16, &str); 6] = [
     (Size::Full, 144, 1, "8 codes and room for 6"),
 ];
 
-/// What a post-mortem answers that is not printed.
+/// Why a post-mortem is not printed, in a few words; "none" for one that is printed.
 fn name_of(answer: Result<u64, PmFault>) -> &'static str {
     match answer {
         Ok(_) => "none",

@@ -74,7 +74,7 @@ pub in_any_case : {A E P : Type 0} (r : Result A E) → P → IfOk r (λ _. P)
 in_any_case (Ok a) p = p
 in_any_case (Err e) p = tt
 
--- nothing is told of a text for which no memory was found
+-- nothing is claimed of a text for which no memory was found
 pub not_written : {A E : Type 0} (Q : A → Type 0) (r : Result A E) → IsErr r → IfOk r Q
 not_written Q (Ok a) h = absurd (cc)
 not_written Q (Err e) h = tt

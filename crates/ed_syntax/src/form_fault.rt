@@ -8,5 +8,5 @@ pub(crate) enum FormFault {
     OutOfRange,
 }
 
-/// A value whose number is in its range; None where it is out of its range.
+/// A value whose number is in its range; None if it is out of its range.
 pub(crate) type Ranged<T> = Option<T>;

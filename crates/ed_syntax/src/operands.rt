@@ -19,7 +19,7 @@ use crate::terms::{is, number, place_name};
 use arrayvec::ArrayVec;
 use ed_codes::{Code, row_of_byte};
 
-/// An operand that is a number or a name; none where the number is out of its range.
+/// An operand that is a number or a name; None if it is of neither form.
 fn single(version: Version, run: &[u8]) -> Option<Ranged<Operand>>
     ensures { result ≡ single (is_second version) run.now }
 {
@@ -33,7 +33,7 @@ fn single(version: Version, run: &[u8]) -> Option<Ranged<Operand>>
     }
 }
 
-/// An operand that is a name, a sign, and a number or in version 2 a name; none where the number is out of its range.
+/// An operand that is a name, a sign, and a number or in version 2 a name; None if it is not of this form.
 fn joined(version: Version, run: &[u8], sign: u8, more: &[u8]) -> Option<Ranged<Operand>>
     ensures { result ≡ joined_operand (is_second version) run.now sign more.now }
 {
@@ -134,7 +134,7 @@ fn settings(version: Version, most: u8, parts: &[Part]) -> Result<ArrayVec<Setti
 
 /// A setting in front of others, where it is in its range.
 fn both(
-    setting: Option<Setting>,
+    setting: Ranged<Setting>,
     more: ArrayVec<Setting, 6>,
 ) -> Result<ArrayVec<Setting, 6>, FormFault>
     requires { length more.items ≤ 5 }

@@ -32,7 +32,7 @@ fn length_end(parts: &[Part]) -> Option<bool>
     }
 }
 
-/// What follows the function of an order: the operand, where its number is in its range, and the length.
+/// What follows the function of an order: the operand and the length.
 fn order_end(version: Version, parts: &[Part]) -> Option<(Ranged<Operand>, bool)>
     ensures { result ≡ order_end (is_second version) (map part parts.now) }
 {
