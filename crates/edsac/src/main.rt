@@ -23,16 +23,12 @@ fn main(rt: HostRuntime) -> ExitCode {
 
 /// The words after the program's name; no words if one of them is not UTF-8.
 fn words(rt: &HostRuntime) -> Result<Vec<String>, AllocError> {
-    let mut words = Vec::new(rt.alloc());
     match std::env::args(rt) {
         Ok(mut args) => {
             args.next();
-            for word in args {
-                words.push(word)?;
-            }
+            args.collect(rt.alloc())
         }
-        Err(error) if error.kind() == ErrorKind::OutOfMemory => return Err(AllocError),
-        Err(_) => {}
+        Err(error) if error.kind() == ErrorKind::OutOfMemory => Err(AllocError),
+        Err(_) => Ok(Vec::new(rt.alloc())),
     }
-    Ok(words)
 }
