@@ -26,7 +26,7 @@ use Rattle.ed_printer.specs.declared.printer.Shift.TheVariants.{Letters}
 use Rattle.ed_syntax.specs.declared.program.Line.{Line}
 use Rattle.ed_link.specs.Tapes.{tape}
 use Rattle.ed_answers.specs.EntryState.{first_state}
-use Rattle.ed_command.specs.declared.command.Window.{Window}
+use Rattle.ed_answers.specs.declared.settings.Window.{Window}
 use Rattle.ed_answers.specs.Outcome.{Outcome}
 use Rattle.ed_answers.specs.FirstOrders.{first_state1, tape1_outcome}
 use Rattle.ed_answers.specs.Tapes.{tape_outcome}

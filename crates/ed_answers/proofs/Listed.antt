@@ -9,7 +9,7 @@ use Rattle.ed_link.specs.Tapes.{cost}
 use Rattle.ed_answers.specs.EntryState.{entry_state}
 use Rattle.ed_report.specs.Listings.{listing}
 use Rattle.ed_report.specs.Notes.{entry_note}
-use Rattle.ed_command.specs.declared.command.Settings.{Settings}
+use Rattle.ed_answers.specs.declared.settings.Settings.{Settings}
 use Rattle.ed_answers.specs.Outcome.{Outcome}
 use Rattle.ed_answers.specs.Runs.{paper_room, ran_outcome, with_post_mortem}
 use Rattle.ed_answers.specs.Listed.{EachListedIsLoaded, listed_places, up_to_entry}

@@ -9,7 +9,7 @@ use Rattle.ed_initial1.specs.Faults.{Tape, Comes1, IsFault1}
 use Rattle.ed_initial1.specs.Checks.{report1}
 use Rattle.ed_initial1.specs.declared.cause.Tape1Cause.{Tape1Cause}
 use Rattle.ed_report.specs.FirstNotes.{rule1_line}
-use Rattle.ed_command.specs.declared.command.Settings.{Settings}
+use Rattle.ed_answers.specs.declared.settings.Settings.{Settings}
 use Rattle.ed_answers.specs.Answer.{Answer, exactly, of_rows}
 use Rattle.ed_answers.specs.Outcome.{Outcome, done, refusal}
 use Rattle.ed_answers.specs.Runs.{paper_room, ran_outcome}

@@ -1,3 +1,4 @@
+pub mod SettingRanges
 pub mod Refusals
 pub mod EntryState
 pub mod EntryWords

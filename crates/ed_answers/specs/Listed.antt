@@ -10,8 +10,8 @@ use Rattle.ed_link.specs.Tables.{table_of, words_from}
 use Rattle.ed_link.specs.Tapes.{cost, tape}
 use Rattle.ed_answers.specs.EntryState.{entry_store, first_state}
 use Rattle.ed_report.specs.Listings.{listing}
-use Rattle.ed_command.specs.declared.command.Settings.{Settings}
-use Rattle.ed_command.specs.declared.command.Window.{Window}
+use Rattle.ed_answers.specs.declared.settings.Settings.{Settings}
+use Rattle.ed_answers.specs.declared.settings.Window.{Window}
 use Rattle.ed_words.specs.Texts.{Text}
 use Rattle.ed_answers.specs.Sources.{listing_outcome, run_outcome}
 

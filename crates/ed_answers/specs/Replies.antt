@@ -12,9 +12,9 @@ use Rattle.ed_answers.specs.Refusals.{IsAcceptedAs, IsRefused}
 use Rattle.ed_link.specs.Answers.{IsLinked}
 use Rattle.ed_link.specs.declared.linked.Linked.{Linked}
 use Rattle.ed_link.specs.Tapes.{tape}
-use Rattle.ed_command.specs.Ranges.{IsWindowOf}
-use Rattle.ed_command.specs.declared.command.Settings.{Settings}
-use Rattle.ed_command.specs.declared.command.Window.{Window}
+use Rattle.ed_answers.specs.SettingRanges.{IsWindowOf}
+use Rattle.ed_answers.specs.declared.settings.Settings.{Settings}
+use Rattle.ed_answers.specs.declared.settings.Window.{Window}
 use Rattle.ed_report.specs.Notes.{ending_line, source_fault_line, text_fault_line}
 use Rattle.ed_words.specs.Texts.{Text}
 use Rattle.ed_answers.specs.Outcome.{Outcome, refusal}

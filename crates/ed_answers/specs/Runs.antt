@@ -8,8 +8,8 @@ use Rattle.ed_run.specs.Run.{RunEnd, run_end}
 use Rattle.ed_postmortem.specs.Codes.{printed_codes}
 use Rattle.ed_answers.specs.EntryState.{first_state}
 use Rattle.ed_report.specs.Notes.{ending_line}
-use Rattle.ed_command.specs.declared.command.Settings.{Settings}
-use Rattle.ed_command.specs.declared.command.Window.{Window}
+use Rattle.ed_answers.specs.declared.settings.Settings.{Settings}
+use Rattle.ed_answers.specs.declared.settings.Window.{Window}
 use Rattle.ed_words.specs.Texts.{Text}
 use Rattle.ed_answers.specs.Outcome.{Outcome}
 

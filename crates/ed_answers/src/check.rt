@@ -8,8 +8,8 @@ ghost use Rattle.ed_store.specs.Cells.{cleared_cells};
 
 use crate::reply::{Rejection, Reply};
 use crate::rows::rows_of;
+use crate::settings::Settings;
 use ed_codes::Code;
-use ed_command::Settings;
 use ed_notation::{Checked, TapeFault, check};
 use ed_report::{entry_text, tape_fault};
 use ed_store::Store;

@@ -5,8 +5,8 @@
 //! accepted with one list of lines or refused for one fault, and the Initial Orders on the tape of an accepted one lead
 //! to the state at its entry at the stated cost, cell by cell; the laws between these answers. The Initial Orders are
 //! obeyed one by one from Start, and print nothing. A reply is two texts and a status; an input that is refused has a
-//! reply too. Depends on `ed_syntax`, `ed_link`, `ed_initial1`, `ed_postmortem` and `ed_report`, and on `ed_command` for
-//! the settings of a run.
+//! reply too. Depends on `ed_syntax`, `ed_link`, `ed_initial1`, `ed_postmortem` and
+//! `ed_report`.
 #![tactic(auto)]
 
 mod check;
@@ -16,6 +16,7 @@ mod input;
 mod reply;
 mod rows;
 mod running;
+mod settings;
 mod source;
 mod tapes;
 
@@ -26,5 +27,6 @@ pub use input::{INPUT_BYTES, TOO_LONG};
 pub use reply::{Rejection, Reply};
 pub use rows::rows_of;
 pub use running::{FinishedRun, ran_reply, run_rows, status_of, window_printed};
+pub use settings::{Settings, Window};
 pub use source::{NotedRun, linked_of, list, list_linked, punch, run, run_linked, run_source};
 pub use tapes::tape;

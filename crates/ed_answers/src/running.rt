@@ -3,14 +3,14 @@ ghost use Rattle.ed_run.specs.Run.{run_end};
 ghost use Rattle.ed_printer.specs.Paper.{paper};
 ghost use Rattle.ed_postmortem.specs.Codes.{printed_codes};
 ghost use Rattle.ed_report.specs.Notes.{ending_line};
-ghost use Rattle.ed_command.specs.Ranges.{IsWindowOf};
+ghost use Rattle.ed_answers.specs.SettingRanges.{IsWindowOf};
 ghost use Rattle.ed_answers.specs.Replies.{Gives, IsPrintableIn, IsRan};
 ghost use Rattle.ed_answers.specs.Runs.{paper_room, post_mortem_codes, run_of, status_of};
 
 use crate::entering::started;
 use crate::reply::Reply;
+use crate::settings::{Settings, Window};
 use ed_codes::Code;
-use ed_command::{Settings, Window};
 use ed_machine::{Ending, Machine, Paper};
 use ed_postmortem::{PmFault, post_mortem};
 use ed_report::{ending_text, paper_text, papers_text};

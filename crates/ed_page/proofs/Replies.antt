@@ -12,7 +12,7 @@ use Rattle.ed_answers.specs.Refusals.{IsAcceptedAs}
 use Rattle.ed_answers.proofs.EachSource.{one_answer}
 use Rattle.ed_link.specs.Tapes.{tape}
 use Rattle.ed_report.specs.Notes.{ending_line, source_fault_line}
-use Rattle.ed_command.specs.declared.command.Settings.{Settings}
+use Rattle.ed_answers.specs.declared.settings.Settings.{Settings}
 use Rattle.ed_answers.specs.Answer.{OfReading, exactly, of_input}
 use Rattle.ed_words.specs.Texts.{Text}
 use Rattle.ed_answers.specs.Outcome.{Outcome, refusal}

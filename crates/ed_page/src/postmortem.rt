@@ -1,8 +1,8 @@
 //! The post-mortem of the state that a picture shows.
 
 ghost use Rattle.std.specs.Prelude.{◌≡◌, ◌⊎◌, ◌≢◌, ◌↔◌, ℕ, ◌+◌, ◌^◌, ◌≤◌, IfOk, IsTrue, List, Some, length};
-ghost use Rattle.ed_command.specs.Ranges.{IsWindowOf};
-ghost use Rattle.ed_command.specs.declared.command.Window.{Window};
+ghost use Rattle.ed_answers.specs.SettingRanges.{IsWindowOf};
+ghost use Rattle.ed_answers.specs.declared.settings.Window.{Window};
 ghost use Rattle.ed_machine.specs.State.{State};
 ghost use Rattle.ed_machine.specs.Steps.{state_after};
 ghost use Rattle.ed_answers.specs.Runs.{post_mortem_codes};
@@ -14,9 +14,8 @@ use crate::pictured::pictured;
 use crate::running::size_of;
 use crate::told::{NO_MEMORY, NO_ROOM};
 use crate::writing::{Registers, write_codes};
-use ed_answers::window_printed;
+use ed_answers::{Window, window_printed};
 use ed_codes::Code;
-use ed_command::Window;
 use ed_machine::Paper;
 use ed_words::{NoMemory, Size};
 use std::alloc::Global;

@@ -19,7 +19,7 @@ use Rattle.ed_printer.specs.Paper.{paper}
 use Rattle.ed_report.specs.Notes.{at_after}
 use Rattle.ed_routines.proofs.Journeys.{ComesToStop}
 use Rattle.ed_top.proofs.Making.Stops.{ran_to_stop}
-use Rattle.ed_command.specs.declared.command.Settings.{Settings}
+use Rattle.ed_answers.specs.declared.settings.Settings.{Settings}
 use Rattle.ed_answers.specs.declared.input.TheConstants.{INPUT_BYTES}
 use Rattle.ed_answers.specs.Answer.{OfReading, exactly}
 use Rattle.ed_answers.specs.FirstEntry.{cost1}

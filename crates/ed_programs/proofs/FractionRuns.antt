@@ -15,7 +15,7 @@ use Rattle.ed_routines.proofs.Digits.{few_digits}
 use Rattle.ed_routines.proofs.Journeys.{ComesToStop}
 use Rattle.ed_top.proofs.Making.AtEntry.{all_words}
 use Rattle.ed_top.proofs.Making.Entries.{frame_at, moment_at}
-use Rattle.ed_command.specs.declared.command.Settings.{Settings}
+use Rattle.ed_answers.specs.declared.settings.Settings.{Settings}
 use Rattle.ed_programs.specs.Fraction.{figure_orders, fraction_orders, fraction_prints, fraction_data, fraction_pieces}
 use Rattle.ed_programs.specs.Fraction.{fraction_text}
 use Rattle.ed_programs.specs.Programs.{SourceRuns}

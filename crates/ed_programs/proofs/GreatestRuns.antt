@@ -18,7 +18,7 @@ use Rattle.ed_routines.proofs.Journeys.{ComesToStop}
 use Rattle.ed_top.proofs.Making.AtEntry.{all_words, have_places, placed, word_at}
 use Rattle.ed_top.proofs.Making.Entries.{frame_at, moment_at}
 use Rattle.ed_top.proofs.Making.Papers.{digits_printed}
-use Rattle.ed_command.specs.declared.command.Settings.{Settings}
+use Rattle.ed_answers.specs.declared.settings.Settings.{Settings}
 use Rattle.ed_programs.specs.Greatest.{greatest_of, greatest_orders, greatest_prints, greatest_pieces, greatest_text}
 use Rattle.ed_programs.specs.Greatest.{rises}
 use Rattle.ed_programs.specs.Programs.{SourceRuns}

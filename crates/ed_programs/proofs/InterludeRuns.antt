@@ -30,7 +30,7 @@ use Rattle.ed_interlude.specs.Returned.{ComesBack, directive}
 use Rattle.ed_answers.specs.EntryState.{first_state}
 use Rattle.ed_top.specs.CallSources.{text_of_lines}
 use Rattle.ed_top.proofs.Making.Decimals.{decimal_is, few_bytes, written}
-use Rattle.ed_command.specs.declared.command.Settings.{Settings}
+use Rattle.ed_answers.specs.declared.settings.Settings.{Settings}
 use Rattle.ed_programs.specs.Interlude.{interlude_front, interlude_line, interlude_parts, interlude_prints}
 use Rattle.ed_programs.specs.Interlude.{interlude_rest}
 use Rattle.ed_programs.specs.Interlude.{interlude_room, interlude_text}

@@ -9,7 +9,7 @@ use Rattle.ed_initial1.specs.Items.{Item1, spelled_rows1}
 use Rattle.ed_machine.proofs.Kit.Frames.{Moment, state}
 use Rattle.ed_machine.proofs.Kit.Window.{patched}
 use Rattle.ed_routines.proofs.Journeys.{ComesToStop}
-use Rattle.ed_command.specs.declared.command.Settings.{Settings}
+use Rattle.ed_answers.specs.declared.settings.Settings.{Settings}
 use Rattle.ed_answers.specs.declared.input.TheConstants.{INPUT_BYTES}
 use Rattle.ed_answers.specs.FirstOrders.{first_state1}
 use Rattle.ed_answers.specs.Runs.{paper_room}

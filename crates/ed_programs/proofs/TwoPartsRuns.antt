@@ -44,7 +44,7 @@ use Rattle.ed_interlude.specs.Parts.{PartsReport, entry_done, entry_report, fini
 use Rattle.ed_interlude.specs.Parts.{part_entry_state}
 use Rattle.ed_interlude.specs.Parts.{program_end, part_report}
 use Rattle.ed_interlude.specs.declared.tape.PartsEnd.TheVariants.{Ended}
-use Rattle.ed_command.specs.declared.command.Settings.{Settings}
+use Rattle.ed_answers.specs.declared.settings.Settings.{Settings}
 use Rattle.ed_answers.specs.declared.input.TheConstants.{INPUT_BYTES}
 use Rattle.ed_answers.specs.Answer.{OfReading, exactly}
 use Rattle.ed_answers.specs.Outcome.{Outcome}

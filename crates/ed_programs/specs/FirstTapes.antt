@@ -6,8 +6,8 @@ use Rattle.ed_words.specs.Texts.{Text}
 use Rattle.ed_codes.specs.Reading.{reading, rows}
 use Rattle.ed_initial1.specs.Faults.{Comes1, Tape}
 use Rattle.ed_report.specs.Notes.{at_after}
-use Rattle.ed_command.specs.declared.command.Action.TheVariants.{Tape1}
-use Rattle.ed_command.specs.declared.command.Settings.{Settings}
+use Rattle.ed_top.specs.declared.command_line.command.Action.TheVariants.{Tape1}
+use Rattle.ed_answers.specs.declared.settings.Settings.{Settings}
 use Rattle.ed_answers.specs.Answer.{IsDue}
 use Rattle.ed_answers.specs.FirstEntry.{cost1}
 use Rattle.ed_top.specs.Output.{output}

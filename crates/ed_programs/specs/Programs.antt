@@ -10,8 +10,8 @@ use Rattle.ed_answers.specs.Refusals.{IsAcceptedAs}
 use Rattle.ed_link.specs.Linked.{entry_of}
 use Rattle.ed_link.specs.Tapes.{cost}
 use Rattle.ed_report.specs.Notes.{at_after, entry_note}
-use Rattle.ed_command.specs.declared.command.Action.TheVariants.{Run}
-use Rattle.ed_command.specs.declared.command.Settings.{Settings}
+use Rattle.ed_top.specs.declared.command_line.command.Action.TheVariants.{Run}
+use Rattle.ed_answers.specs.declared.settings.Settings.{Settings}
 use Rattle.ed_answers.specs.Answer.{IsDue}
 use Rattle.ed_answers.specs.Headline.{RunsFromEntry}
 use Rattle.ed_top.specs.Output.{output}

@@ -1,3 +1,4 @@
+mod CommandLine
 mod Made
 mod FirstParts
 pub mod Scripts

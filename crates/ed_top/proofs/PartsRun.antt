@@ -25,7 +25,7 @@ use Rattle.ed_interlude.specs.Laws.{EndsAsRun}
 use Rattle.ed_interlude.specs.declared.tape.PartsEnd.{PartsEnd}
 use Rattle.ed_interlude.proofs.Runs.{each_end}
 use Rattle.ed_top.specs.Parts.{end_note, end_status}
-use Rattle.ed_command.specs.declared.command.Settings.{Settings}
+use Rattle.ed_answers.specs.declared.settings.Settings.{Settings}
 use Rattle.ed_top.specs.PartsRun.{EachTapeInPartsIsRun, EndsInParts, PartsAreRun, PartsFillPaper, printed_by, run_once}
 use Rattle.ed_answers.specs.Runs.{paper_room, ran_outcome}
 use Rattle.ed_top.proofs.MoveEndings.{ran_is}

@@ -27,7 +27,7 @@ use Rattle.ed_stepper.specs.Sessions.{Stand, left}
 use Rattle.ed_stepper.specs.MoveEnds.{move_orders}
 use Rattle.ed_stepper.specs.declared.moves.MoveTarget.TheVariants.{Orders}
 use Rattle.ed_stepper.specs.Traces.{trace_to}
-use Rattle.ed_command.specs.declared.command.Settings.{Settings}
+use Rattle.ed_answers.specs.declared.settings.Settings.{Settings}
 use Rattle.ed_answers.specs.Runs.{paper_room, ran_outcome, run_of, with_post_mortem}
 use Rattle.ed_top.specs.Scripts.{stand_on}
 use Rattle.ed_top.specs.Stepped.{EachStepIsRun, StepsAreRun, cut_at, limit_note}

@@ -13,7 +13,7 @@ use Rattle.ed_answers.specs.EntryState.{entry_state}
 use Rattle.ed_report.specs.Notes.{at_after, entry_note}
 use Rattle.ed_routines.proofs.Journeys.{ComesToStop}
 use Rattle.ed_top.proofs.Making.Stops.{RanToStop, ran_to_stop}
-use Rattle.ed_command.specs.declared.command.Settings.{Settings}
+use Rattle.ed_answers.specs.declared.settings.Settings.{Settings}
 use Rattle.ed_answers.specs.Headline.{RunsFromEntry}
 use Rattle.ed_answers.specs.Runs.{paper_room, ran_outcome, with_post_mortem}
 use Rattle.ed_answers.specs.Sources.{run_outcome}

@@ -28,7 +28,7 @@ use Rattle.ed_stepper.specs.declared.moves.MoveTarget.TheVariants.{Entry}
 use Rattle.ed_stepper.specs.declared.moves.MoveEnd.TheVariants.{Entered}
 use Rattle.ed_stepper.proofs.Founds.{end_found, orders_found}
 use Rattle.ed_stepper.specs.Traces.{trace_to}
-use Rattle.ed_command.specs.declared.command.Settings.{Settings}
+use Rattle.ed_answers.specs.declared.settings.Settings.{Settings}
 use Rattle.ed_answers.specs.Runs.{status_of}
 use Rattle.ed_top.specs.TapeEntries.{StepsToEntry, TracesFromEntry}
 use Rattle.ed_top.specs.Traces.{letters_in}

@@ -10,7 +10,7 @@ use Rattle.ed_machine.specs.State.{State}
 use Rattle.ed_machine.specs.declared.ending.Ending.{Ending}
 use Rattle.ed_answers.specs.EntryState.{first_state}
 use Rattle.ed_stepper.specs.Traces.{TraceEnds, trace_of}
-use Rattle.ed_command.specs.declared.command.Settings.{Settings}
+use Rattle.ed_answers.specs.declared.settings.Settings.{Settings}
 use Rattle.ed_answers.specs.Answer.{known}
 use Rattle.ed_top.specs.Clause.{Device, WrotePart}
 use Rattle.ed_top.specs.Traces.{trace_outcome}

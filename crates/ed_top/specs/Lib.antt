@@ -1,3 +1,4 @@
+pub mod CommandLine
 pub mod CallSources
 pub mod DemoSources
 pub mod AcceptedSources

@@ -14,7 +14,7 @@ use Rattle.ed_stepper.specs.Scripts.{line_of_move, move_line, after_move}
 use Rattle.ed_stepper.specs.declared.moves.MoveTarget.TheVariants.{Entry}
 use Rattle.ed_stepper.specs.declared.moves.MoveEnd.TheVariants.{Entered}
 use Rattle.ed_stepper.specs.Traces.{trace_to}
-use Rattle.ed_command.specs.declared.command.Settings.{Settings}
+use Rattle.ed_answers.specs.declared.settings.Settings.{Settings}
 use Rattle.ed_answers.specs.Limits.{with_limit}
 use Rattle.ed_answers.specs.Outcome.{Outcome, done}
 use Rattle.ed_answers.specs.Tapes.{IsChecked, first_note, tape_outcome}

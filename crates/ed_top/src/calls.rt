@@ -1,11 +1,10 @@
 ghost use Rattle.std.specs.Prelude.{[]};
-ghost use Rattle.ed_command.specs.Ranges.{AreSettingsInRange};
+ghost use Rattle.ed_answers.specs.SettingRanges.{AreSettingsInRange};
 ghost use Rattle.ed_top.specs.Calls.{call_answer};
 ghost use Rattle.ed_answers.specs.Replies.{Replies};
 
 use crate::sources::call_source;
-use ed_answers::{Rejection, Reply, run};
-use ed_command::Settings;
+use ed_answers::{Rejection, Reply, Settings, run};
 use ed_library::Call;
 use std::alloc::Global;
 

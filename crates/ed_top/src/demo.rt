@@ -1,11 +1,10 @@
 ghost use Rattle.std.specs.Prelude.{[]};
-ghost use Rattle.ed_command.specs.Ranges.{AreSettingsInRange, IsFromTo};
+ghost use Rattle.ed_answers.specs.SettingRanges.{AreSettingsInRange, IsFromTo};
 ghost use Rattle.ed_top.specs.Demos.{demo_answer};
 ghost use Rattle.ed_answers.specs.Replies.{Replies};
 
 use crate::sources::demo_source;
-use ed_answers::{Rejection, Reply, run};
-use ed_command::Settings;
+use ed_answers::{Rejection, Reply, Settings, run};
 use std::alloc::Global;
 
 /// `demo`: the run of the large source made from a number.

@@ -5,9 +5,8 @@ ghost use Rattle.ed_top.specs.Parts.{IsInParts, end_note, end_status};
 ghost use Rattle.ed_top.specs.Private.Stages.{Carried};
 
 use crate::devices::{Rest, write};
-use ed_answers::{rows_of, started, status_of};
+use ed_answers::{Settings, rows_of, started, status_of};
 use ed_codes::Code;
-use ed_command::Settings;
 use ed_interlude::{PartsEnd, run_parts};
 use ed_io::{Sink, WriteStop};
 use ed_machine::Machine;

@@ -5,9 +5,8 @@ ghost use Rattle.ed_top.specs.Private.Stages.{Carried};
 ghost use Rattle.ed_top.specs.Traces.{trace_outcome};
 
 use crate::devices::{Rest, write};
-use ed_answers::{rows_of, started, status_of};
+use ed_answers::{Settings, rows_of, started, status_of};
 use ed_codes::Code;
-use ed_command::Settings;
 use ed_io::{Sink, WriteStop};
 use ed_report::ending_text;
 use ed_stepper::trace_run;
