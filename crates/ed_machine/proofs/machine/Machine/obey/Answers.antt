@@ -2,6 +2,7 @@ use Rattle.std.proofs.Common.{◌≡◌, ◌∙◌, ℕ, Bool, ap, sym, refl}
 use Rattle.ed_orders.specs.declared.kind.Kind.{Kind}
 use Rattle.ed_orders.proofs.Shifts.{right_places, left_places}
 use Rattle.ed_machine.specs.State.{State}
+use Rattle.ed_machine.specs.declared.turn.Turn.{Turn}
 use Rattle.ed_machine.specs.OrderTable.{Obeyed, jump_order, obey, place_of}
 use Rattle.ed_machine.proofs.machine.Machine.obey.Goals as goal
 
@@ -14,6 +15,11 @@ jumps : (w : ℕ) (s : State) {k named : Kind} {b test : Bool} → k ≡ named �
     → obey named w s ≡ jump_order test (place_of s w) s → jump_order b (place_of s w) s ≡ obey k w s
 jumps w s is tested named =
     ap (λ (b : Bool). jump_order b (place_of s w) s) tested ∙ sym named ∙ does w s is
+
+-- a state and a turn are those of what an order of the word's kind does
+told : {s : State} {t : Turn} {o named : Obeyed} → o ≡ named → record { state : s ≡ o.state; turn : t ≡ o.turn }
+    → record { state : s ≡ named.state; turn : t ≡ named.turn }
+told is r = rw is at r
 
 pub right-requires-clause-high : goal.right-requires-clause-high
 right-requires-clause-high c = rw c.places.ensures.is (right_places c.args.word c.requires.word (cc))
@@ -45,56 +51,19 @@ invariant_of-self-in-L c = c.self-in-L.invariant
 pub invariant_of-self-in-Y : goal.invariant_of-self-in-Y
 invariant_of-self-in-Y c = c.self-in-Y.invariant
 
-pub returns-in-E-clause-state : goal.returns-in-E-clause-state
-returns-in-E-clause-state c =
-    c.jump.ensures.state
-    ∙ ap (λ (o : Obeyed). o.state)
-    (jumps c.args.word c.args.self.now c.in-E.is c.is_negative-jumps.ensures.positive refl)
+pub returns-in-E : goal.returns-in-E
+returns-in-E c =
+    told (jumps c.args.word c.args.self.now c.in-E.is c.is_negative-jumps.ensures.positive refl) c.jump.ensures
 
-pub returns-in-E-clause-turn : goal.returns-in-E-clause-turn
-returns-in-E-clause-turn c =
-    c.jump.ensures.turn
-    ∙ ap (λ (o : Obeyed). o.turn)
-    (jumps c.args.word c.args.self.now c.in-E.is c.is_negative-jumps.ensures.positive refl)
+pub returns-in-G : goal.returns-in-G
+returns-in-G c =
+    told (jumps c.args.word c.args.self.now c.in-G.is c.is_negative-jumps-in-G.ensures.negative refl) c.jump-in-G.ensures
 
-pub returns-in-G-clause-state : goal.returns-in-G-clause-state
-returns-in-G-clause-state c =
-    c.jump-in-G.ensures.state
-    ∙ ap (λ (o : Obeyed). o.state)
-    (jumps c.args.word c.args.self.now c.in-G.is c.is_negative-jumps-in-G.ensures.negative refl)
+pub returns-in-I : goal.returns-in-I
+returns-in-I c = told (does c.args.word c.args.self.now c.in-I.is) c.take_row.ensures
 
-pub returns-in-G-clause-turn : goal.returns-in-G-clause-turn
-returns-in-G-clause-turn c =
-    c.jump-in-G.ensures.turn
-    ∙ ap (λ (o : Obeyed). o.turn)
-    (jumps c.args.word c.args.self.now c.in-G.is c.is_negative-jumps-in-G.ensures.negative refl)
+pub returns-in-O : goal.returns-in-O
+returns-in-O c = told (does c.args.word c.args.self.now c.in-O.is) c.print.ensures
 
-pub returns-in-I-clause-state : goal.returns-in-I-clause-state
-returns-in-I-clause-state c =
-    c.take_row.ensures.state
-    ∙ ap (λ (o : Obeyed). o.state) (does c.args.word c.args.self.now c.in-I.is)
-
-pub returns-in-I-clause-turn : goal.returns-in-I-clause-turn
-returns-in-I-clause-turn c =
-    c.take_row.ensures.turn
-    ∙ ap (λ (o : Obeyed). o.turn) (does c.args.word c.args.self.now c.in-I.is)
-
-pub returns-in-O-clause-state : goal.returns-in-O-clause-state
-returns-in-O-clause-state c =
-    c.print.ensures.state
-    ∙ ap (λ (o : Obeyed). o.state) (does c.args.word c.args.self.now c.in-O.is)
-
-pub returns-in-O-clause-turn : goal.returns-in-O-clause-turn
-returns-in-O-clause-turn c =
-    c.print.ensures.turn
-    ∙ ap (λ (o : Obeyed). o.turn) (does c.args.word c.args.self.now c.in-O.is)
-
-pub returns-in-Z-clause-state : goal.returns-in-Z-clause-state
-returns-in-Z-clause-state c =
-    c.stop.ensures.state
-    ∙ ap (λ (o : Obeyed). o.state) (does c.args.word c.args.self.now c.in-Z.is)
-
-pub returns-in-Z-clause-turn : goal.returns-in-Z-clause-turn
-returns-in-Z-clause-turn c =
-    c.stop.ensures.turn
-    ∙ ap (λ (o : Obeyed). o.turn) (does c.args.word c.args.self.now c.in-Z.is)
+pub returns-in-Z : goal.returns-in-Z
+returns-in-Z c = told (does c.args.word c.args.self.now c.in-Z.is) c.stop.ensures
