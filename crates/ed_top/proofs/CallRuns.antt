@@ -5,7 +5,7 @@ use Rattle.std.proofs.Common.{length, length-append}
 use Rattle.std.specs.Prelude.{None, Result, Ok, Err, codes as codes_of_text}
 use Rattle.ed_words.specs.declared.size.Size.TheVariants.{Full}
 use Rattle.ed_words.proofs.SizeLemmas.{least}
-use Rattle.ed_library.specs.Ranges.{IsCallInRange}
+use Rattle.ed_library.specs.CallRanges.{IsCallInRange}
 use Rattle.ed_library.specs.declared.call.Call.{Call}
 use Rattle.ed_library.specs.declared.call.Call.TheVariants.{Print, Read, NewLine, Divide, Root, Check}
 use Rattle.ed_top.specs.CallSources.{call_text}

@@ -3,7 +3,7 @@ use Rattle.std.specs.Prelude.{ℕ, ◌+◌, ◌*◌, ◌≤◌, List}
 use Rattle.ed_words.specs.declared.size.Size.{Size}
 use Rattle.ed_words.specs.Sizes.{locations}
 use Rattle.ed_library.specs.declared.call.Call.{Call}
-use Rattle.ed_library.specs.Ranges.{IsCallInRange}
+use Rattle.ed_library.specs.CallRanges.{IsCallInRange}
 use Rattle.ed_syntax.specs.declared.program.Line.{Line}
 use Rattle.ed_words.specs.Texts.{Text}
 use Rattle.ed_answers.specs.Refusals.{IsAcceptedAs}

@@ -16,7 +16,7 @@ use Rattle.ed_checker.specs.Checker.{checked_codes, guest, planting_place}
 use Rattle.ed_checker.specs.Laws.{StopsAfter}
 use Rattle.ed_words.specs.declared.size.Size.{Size}
 use Rattle.ed_words.specs.declared.size.Size.TheVariants.{Full}
-use Rattle.ed_library.specs.Ranges.{IsCallInRange}
+use Rattle.ed_library.specs.CallRanges.{IsCallInRange}
 use Rattle.ed_top.specs.CallSources.{call_text}
 use Rattle.ed_top.specs.CommandLine.Settings.{options_by, settings_of}
 use Rattle.ed_answers.specs.declared.settings.Settings.{Settings}

@@ -11,7 +11,7 @@ use Rattle.ed_link.specs.Private.FaultTests.{fault}
 use Rattle.ed_answers.proofs.EachSource.{read_is_accepted}
 use Rattle.ed_syntax.specs.Parts.{is_line_byte}
 use Rattle.ed_syntax.specs.Private.SourceReading.{program_of}
-use Rattle.ed_library.specs.Ranges.{IsDivisible}
+use Rattle.ed_library.specs.CallRanges.{IsDivisible}
 use Rattle.ed_top.specs.AcceptedSources.{EachCallIsAccepted, IsAccepted}
 use Rattle.ed_top.specs.CallSources.{call_text}
 use Rattle.ed_top.proofs.Making.CallTexts.{call_is, call_lines}

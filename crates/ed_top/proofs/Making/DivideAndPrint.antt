@@ -14,7 +14,7 @@ use Rattle.ed_answers.specs.EntryState.{entry_state}
 use Rattle.ed_routines.specs.Catalogue.{newline, print, with_h}
 use Rattle.ed_routines.specs.Digits.{digits, print_orders}
 use Rattle.ed_maths.specs.Quotients.{IsDivision, divide, divide_orders, dividend, with_hnm}
-use Rattle.ed_library.specs.Ranges.{IsDivisible}
+use Rattle.ed_library.specs.CallRanges.{IsDivisible}
 use Rattle.ed_top.proofs.Making.Along.{IsAt, before, entered, has, passed, word_there}
 use Rattle.ed_top.proofs.Making.AtEntry.{has_image, placed, word_at}
 use Rattle.ed_top.proofs.Making.CalledMaths.{Divides, divides}

@@ -1,5 +1,5 @@
 -- The ranges of the numbers of a command (this project's own rule).
-use Rattle.ed_library.specs.Ranges.{IsCallInRange}
+use Rattle.ed_library.specs.CallRanges.{IsCallInRange}
 use Rattle.ed_answers.specs.SettingRanges.{AreSettingsInRange, IsFromTo}
 use Rattle.ed_top.specs.declared.command_line.command.Action.{Action}
 use Rattle.ed_top.specs.declared.command_line.command.Action.TheVariants as doing
