@@ -75,9 +75,13 @@ name_of (Some n) text r same p h = (h ∙ same, p)
 name_of None text r same p h = tt
 
 -- a text that isn't empty and has at most 16 bytes
-pub within : (text : Text) → (length text == 0) ≡ false → length text ≤ 16 → (length text ≡ 0) ⊎ (16 < length text) → ⊥
-within text some few (inl e) = let none : true ≡ false = rw e at some in absurd (cc)
-within text some few (inr e) = omega (arith, e, few)
+pub within : (text : Text) → (length text == 0) ≡ false → length text ≤ 16
+    → (true ≡ false → (length text ≡ 0) ⊎ (16 < length text)) × ((length text ≡ 0) ⊎ (16 < length text) → true ≡ false)
+within text some few = (λ e. absurd (cc), outside)
+  where
+    outside : (length text ≡ 0) ⊎ (16 < length text) → true ≡ false
+    outside (inl e) = rw e at some
+    outside (inr e) = absurd (omega (arith, e, few))
 
 -- a text that is no name
 pub empty_or_long : (text : Text) (empty : Bool) → empty ≡ (length text == 0)

@@ -18,8 +18,7 @@ returns-clause-some c =
     rw bytes (take_at text _ (length text) refl)
 
 pub returns-clause-none : goal.returns-clause-none
-returns-clause-none c =
-    (λ e. absurd (cc), λ s. absurd (within c.args.text.now (sym c.if-is_empty.ensures) c.if-text-gt16.false s))
+returns-clause-none c = within c.args.text.now (sym c.if-is_empty.ensures) c.if-text-gt16.false
 
 pub returns-then-is_empty : goal.returns-then-is_empty
 returns-then-is_empty c = record {
