@@ -1,7 +1,7 @@
 -- A text of lines that grows by one line.
 use Rattle.std.proofs.Common.{◌≡◌, ◌∙◌, ℕ, ◌+◌, ◌<◌, ◌≤◌, Bool, true, false, List, [], ◌∷◌, ◌++◌, refl, sym, ap}
 use Rattle.std.proofs.Common.{append_assoc, drop, get_or, length, map, take}
-use Rattle.std.specs.Prelude.{◌||◌, Some, Result, Ok, Err, IfOk, IsErr}
+use Rattle.std.specs.Prelude.{◌||◌, Some, Result, Ok, Err, IfOk}
 use Rattle.std.specs.List.{list_all}
 use Rattle.std.proofs.lemmas.List.{at_drop_more, map-append, take_more}
 use Rattle.ed_words.proofs.Numbers.{lt_true, lt_false}
@@ -73,11 +73,6 @@ both_added (Err f) text first second between whole h e = tt
 pub in_any_case : {A E P : Type 0} (r : Result A E) → P → IfOk r (λ _. P)
 in_any_case (Ok a) p = p
 in_any_case (Err e) p = tt
-
--- nothing is claimed of a text for which no memory was found
-pub not_written : {A E : Type 0} (Q : A → Type 0) (r : Result A E) → IsErr r → IfOk r Q
-not_written Q (Ok a) h = absurd (cc)
-not_written Q (Err e) h = tt
 
 -- a line has few settings if its statement has, whether it is written or not
 pub or_true : (c : Bool) → (c || true) ≡ true

@@ -1,6 +1,7 @@
 -- What the code answers, by what is read.
 use Rattle.std.proofs.Common.{◌≡◌, ℕ, ◌<◌, ◌≤◌, false, ap, refl, sym, Bool, true, List, [], ◌∷◌, map, length, arith}
-use Rattle.std.specs.Prelude.{Option, Some, None, Ok, Err, nat_lt, if◌then◌else◌}
+use Rattle.std.proofs.Common.{inl, inr}
+use Rattle.std.specs.Prelude.{Option, Some, None, option_map, Ok, Err, nat_lt, ◌⊎◌, if◌then◌else◌}
 use Rattle.std.specs.List.{list_all}
 use Rattle.std.proofs.lemmas.Bool.Decides.{nat_tests}
 use Rattle.ed_words.specs.Texts.{Text}
@@ -9,7 +10,7 @@ use Rattle.ed_syntax.specs.declared.fault.SourceCause.TheVariants.{NotAStatement
 use Rattle.ed_syntax.specs.Private.Found.{form_result}
 use Rattle.ed_syntax.specs.Parts.{LinePart, is_line_byte}
 use Rattle.ed_syntax.specs.Private.PartReading.{parts_of}
-use Rattle.ed_syntax.specs.Private.Grammar.{Ranged, form_at, labelled_line, ranged_map, placed_statement}
+use Rattle.ed_syntax.specs.Private.Grammar.{Ranged, form_at, is_plus_or_minus, labelled_line, ranged_map, placed_statement}
 use Rattle.ed_syntax.specs.Private.Seen.{part}
 use Rattle.ed_syntax.specs.Private.SourceReading.{line_of, or_cause}
 use Rattle.ed_syntax.specs.declared.form_fault.FormFault.{FormFault}
@@ -79,3 +80,19 @@ pub after_a_label : (two : Bool) (r : Text) (ps : List Part) → is_place_name t
     ≡ ranged_map (λ s. record { label = Some r; statement = Some s }) (placed_statement two (map part ps))
 after_a_label two r [] e h = absurd (omega arith)
 after_a_label two r (p ∷ ps) e h = rw e refl
+
+-- a plus or a minus sign, by its test
+pub plus_or_minus : (s : ℕ) → (s ≡ 43) ⊎ (s ≡ 45) → is_plus_or_minus s ≡ true
+plus_or_minus s (inl e) = rw e refl
+plus_or_minus s (inr e) = rw e refl
+
+-- what is made of a string, by what is read
+pub string_read : {A B C : Type 0} (g : A → B) (f : B → C) (o : Option A) (b : B) → Some b ≡ option_map g o
+    → Ok (f b) ≡ form_result (option_map (λ a. Some (f (g a))) o)
+string_read g f None b h = absurd (cc)
+string_read g f (Some a) b h = let same : b ≡ g a = cc in rw same refl
+
+pub no_string : {A B C : Type 0} (g : A → B) (f : B → C) (o : Option A) → None ≡ option_map g o
+    → Err NotThisForm ≡ form_result (option_map (λ a. Some (f (g a))) o)
+no_string g f None h = refl
+no_string g f (Some a) h = absurd (cc)

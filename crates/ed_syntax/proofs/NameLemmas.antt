@@ -1,10 +1,10 @@
 -- Names are texts of 1 to 16 bytes.
-use Rattle.std.proofs.Common.{◌≡◌, ℕ, zero, suc, ◌<◌, [], ◌∷◌, length, arith, refl, Bool, true, false, ◌&&◌}
-use Rattle.std.specs.Prelude.{◌==◌, nat_le}
+use Rattle.std.proofs.Common.{◌≡◌, ◌∙◌, ℕ, zero, suc, ◌<◌, ◌≤◌, [], ◌∷◌, length, ap, arith, inl, inr, refl, rules, sym, Bool, true, false, ◌&&◌}
+use Rattle.std.specs.Prelude.{◌==◌, ◌⊎◌, nat_le, Option, Some, None, IfNone, IfSome, IsNone}
 use Rattle.std.specs.List.{list_all}
 use Rattle.std.specs.Str.{IsAscii}
 use Rattle.std.proofs.lemmas.Bool.{and_parts}
-use Rattle.std.proofs.lemmas.Bool.Decides.{nat_tests}
+use Rattle.std.proofs.lemmas.Bool.Decides.{nat_tests, Decides-eqb}
 use Rattle.std.proofs.lemmas.Str.{IsUtf8-from_ascii}
 use Rattle.ed_words.specs.Texts.{Text}
 use Rattle.ed_syntax.specs.Names.{is_lower, is_run_byte}
@@ -57,3 +57,34 @@ place_name_text two r h = by_name (is_name r) refl
     by_name true e = name_text r e
     by_name false e =
         let rest : (two && is_local_name r) ≡ true = rw e at h in local_text r (and_parts two _ rest).1
+
+-- a text of a name has a name
+pub named : {A : Type 0} (P : Type 0) (o : Option A) (text r : Text) → text ≡ r → IsNameText r
+    → (IsNone o → (length text ≡ 0) ⊎ (16 < length text)) → IfNone o P
+named P (Some n) text r same h none = tt
+named P None text r same h none = absurd (outside (none (search rules)))
+  where
+    outside : (length text ≡ 0) ⊎ (16 < length text) → ⊥
+    outside (inl e) = omega (arith, e, ap length same, h.some)
+    outside (inr e) = omega (arith, e, ap length same, h.few)
+
+-- and what is made of it is that text
+pub name_of : {P : Type 0} (o : Option Text) (text r : Text) → text ≡ r → P → IfSome o (λ n. n ≡ text)
+    → IfSome o (λ n. (n ≡ r) × P)
+name_of (Some n) text r same p h = (h ∙ same, p)
+name_of None text r same p h = tt
+
+-- a text that isn't empty and has at most 16 bytes
+pub within : (text : Text) → (length text == 0) ≡ false → length text ≤ 16
+    → (true ≡ false → (length text ≡ 0) ⊎ (16 < length text)) × ((length text ≡ 0) ⊎ (16 < length text) → true ≡ false)
+within text some few = (λ e. absurd (cc), outside)
+  where
+    outside : (length text ≡ 0) ⊎ (16 < length text) → true ≡ false
+    outside (inl e) = rw e at some
+    outside (inr e) = absurd (omega (arith, e, few))
+
+-- a text that is no name
+pub empty_or_long : (text : Text) (empty : Bool) → empty ≡ (length text == 0)
+    → (empty ≡ true) ⊎ ((empty ≡ false) × (16 < length text)) → (length text ≡ 0) ⊎ (16 < length text)
+empty_or_long text empty is (inl e) = inl ((Decides-eqb (length text) 0).0 (sym is ∙ e))
+empty_or_long text empty is (inr p) = inr p.1

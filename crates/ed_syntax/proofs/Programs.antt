@@ -2,8 +2,11 @@
 use Rattle.std.proofs.Common.{◌≡◌, ℕ, ◌+◌, Bool, false, List, [], ◌∷◌, ◌++◌, refl, sym, ap, append_assoc}
 use Rattle.std.specs.Prelude.{◌==◌, Result, Ok, Err}
 use Rattle.ed_words.specs.Texts.{Text}
+use Rattle.ed_syntax.specs.Private.Answers.{IsFaultOf, LineIs}
 use Rattle.ed_syntax.specs.Private.LineFronts.{with_lines_before}
 use Rattle.ed_syntax.specs.Private.SourceReading.{Fault, line_of, lines_from, with_first}
+use Rattle.ed_syntax.specs.declared.fault.SourceFault.{SourceFault}
+use Rattle.ed_syntax.specs.declared.fault.SourceFault.TheVariants.{At, Memory}
 use Rattle.ed_syntax.specs.declared.form.Form.{Form}
 use Rattle.ed_syntax.specs.declared.program.Line.{Line}
 
@@ -23,3 +26,11 @@ pub program_step : {line : Text} {behind : List Text} {f : Form} (two : Bool) (k
     ≡ with_lines_before (xs ++ numbered k f ∷ []) (lines_from two (k + 1) behind)
 program_step {behind = behind} {f = f} two k lines xs taken more says =
     rw (taken, more, says) (front_more xs (numbered k f) (lines_from two (k + 1) behind))
+
+-- the fault of the first of the lines that are left is that of all of them
+pub fault_step : {line : Text} {behind : List Text} (two : Bool) (k : ℕ) (lines : List Text) (xs : List Line)
+    (e : SourceFault)
+    → lines ≡ line ∷ behind → (k == 2001) ≡ false → LineIs k (line_of two k line) (Err e)
+    → IsFaultOf (with_lines_before xs (lines_from two k lines)) e
+fault_step two k lines xs (At n c) taken more h = rw (taken, more, h.0, h.1) refl
+fault_step two k lines xs Memory taken more h = tt

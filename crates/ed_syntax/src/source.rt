@@ -1,7 +1,7 @@
 //! The lines of a source, one after the other.
 ghost use Rattle.std.specs.Prelude.{◌≡◌, ◌==◌, ◌<◌, length, IfErr, IfOk, Ok};
 ghost use Rattle.std.specs.List.{list_all};
-ghost use Rattle.ed_syntax.specs.Private.Answers.{IsFaultOf, LinesAre};
+ghost use Rattle.ed_syntax.specs.Private.Answers.{IsFaultOf, LineIs, LinesAre};
 ghost use Rattle.ed_syntax.specs.Versions.{is_second};
 ghost use Rattle.ed_syntax.specs.Private.LineFronts.{TakesLine};
 ghost use Rattle.ed_syntax.specs.Lines.{without_return};
@@ -34,28 +34,27 @@ fn are_line_bytes(line: &[u8]) -> bool
 }
 
 /// What the line with this number says, or its fault with the least number.
-fn line_of(
-    alloc: Global,
-    version: Version,
-    number: u32,
-    line: &[u8],
-) -> Result<Result<Form, SourceCause>, NoMemory>
-    ensures { IfOk result (λ said. line_of (is_second version) number line.now ≡ said) }
+fn line_of(alloc: Global, version: Version, number: u32, line: &[u8]) -> Result<Form, SourceFault>
+    ensures { LineIs number (line_of (is_second version) number line.now) result }
 {
-    if !are_line_bytes(line) {
-        return Ok(Err(SourceCause::BadByte));
-    }
-    if line.len() > 120 {
-        return Ok(Err(SourceCause::LongLine));
-    }
-    let Some(parts) = parts_of(alloc, line)? else {
-        return Ok(Err(SourceCause::NotAStatement));
+    let cause = if !are_line_bytes(line) {
+        SourceCause::BadByte
+    } else if line.len() > 120 {
+        SourceCause::LongLine
+    } else {
+        match parts_of(alloc, line)? {
+            Some(parts) => match form_at(version, number, &parts) {
+                Ok(form) => return Ok(form),
+                Err(FormFault::NotThisForm) => SourceCause::NotAStatement,
+                Err(FormFault::OutOfRange) => SourceCause::NumberRange,
+            },
+            None => SourceCause::NotAStatement,
+        }
     };
-    match form_at(version, number, &parts) {
-        Ok(form) => Ok(Ok(form)),
-        Err(FormFault::NotThisForm) => Ok(Err(SourceCause::NotAStatement)),
-        Err(FormFault::OutOfRange) => Ok(Err(SourceCause::NumberRange)),
-    }
+    Err(SourceFault::At {
+        line: number,
+        cause,
+    })
 }
 
 /// The line without a carriage return at its end.
@@ -89,11 +88,11 @@ fn version_of(alloc: Global, text: &[u8]) -> Result<Version, NoMemory>
         return Ok(Version::One);
     }
     let (line, _) = split_line(text);
-    let parts = parts_of(alloc, line)?;
-    Ok(match &parts {
-        Some(parts) if is_version_two(parts) => Version::Two,
-        _ => Version::One,
-    })
+    let is_two = match parts_of(alloc, line)? {
+        Some(parts) => is_version_two(&parts),
+        None => false,
+    };
+    Ok(if is_two { Version::Two } else { Version::One })
 }
 
 /// The lines of a source, or the fault of the first line that has one.
@@ -111,19 +110,12 @@ fn lines(alloc: Global, version: Version, text: &[u8]) -> Result<Vec<Line>, Sour
                 cause: SourceCause::TooManyLines,
             });
         }
-        match line_of(alloc, version, number, line)? {
-            Ok(form) => found.push(Line {
-                number,
-                label: form.label,
-                statement: form.statement,
-            })?,
-            Err(cause) => {
-                return Err(SourceFault::At {
-                    line: number,
-                    cause,
-                });
-            }
-        }
+        let form = line_of(alloc, version, number, line)?;
+        found.push(Line {
+            number,
+            label: form.label,
+            statement: form.statement,
+        })?;
         number += 1;
         rest = after;
     }

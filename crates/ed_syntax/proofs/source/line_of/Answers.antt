@@ -1,38 +1,53 @@
-use Rattle.std.proofs.lemmas.Grind.{common_steps}
-use Rattle.std.proofs.Common.{rules, ◌≡◌, ◌∙◌, map, arith}
-use Rattle.std.specs.Prelude.{Ok, Err, Some}
+use Rattle.std.proofs.Common.{◌≡◌, ◌∙◌, map, refl, rules, sym}
+use Rattle.std.specs.Prelude.{Err}
+use Rattle.std.proofs.lemmas.Result.{err_from_is_err_and}
+use Rattle.ed_words.proofs.Numbers.{lt_false, lt_true}
 use Rattle.ed_syntax.specs.Private.Found.{form_result}
 use Rattle.ed_syntax.specs.Private.Grammar.{form_at}
-use Rattle.ed_syntax.specs.Private.PartReading.{parts_of}
 use Rattle.ed_syntax.specs.Private.Seen.{part}
 use Rattle.ed_syntax.specs.Versions.{is_second}
 use Rattle.ed_syntax.specs.declared.form_fault.FormFault.TheVariants.{NotThisForm, OutOfRange}
 use Rattle.ed_syntax.proofs.Faults.{line_fault, line_form, line_read, range_fault}
 use Rattle.ed_syntax.proofs.source.line_of.Goals as goal
+use Rattle.ed_syntax.proofs.source.line_of.Goals.{then-not-are_line_bytes, else-not-are_line_bytes+then-line-gt120}
+use Rattle.ed_syntax.proofs.source.line_of.Goals.{else-not-are_line_bytes+else-line-gt120+in_ok-parts+in-Some+in-Err-1}
+use Rattle.ed_syntax.proofs.source.line_of.Goals.{else-not-are_line_bytes+else-line-gt120+in_ok-parts+in-None}
+use Rattle.ed_syntax.proofs.source.line_of.Goals.{in-Err-NotThisForm, in-Err-OutOfRange}
 
 pub returns-in-Ok : goal.returns-in-Ok
 returns-in-Ok c =
-    let read = map part c.in-Some.parts.items in
-    let parts : parts_of c.args.line.now ≡ Some read = search rules in
-    let told : Ok c.in-Ok.form ≡ form_result (form_at (is_second c.args.version) c.args.number read) = search rules in
-    line_read (is_second c.args.version) c.args.number c.args.line.now read (search rules) (search rules) parts
-    ∙ line_form _ c.in-Ok.form told
-
-pub returns-in-Err-NotThisForm : goal.returns-in-Err-NotThisForm
-returns-in-Err-NotThisForm c =
-    let read = map part c.in-Some.parts.items in
-    let parts : parts_of c.args.line.now ≡ Some read = search rules in
-    let told : Err NotThisForm ≡ form_result (form_at (is_second c.args.version) c.args.number read) = search rules in
-    line_read (is_second c.args.version) c.args.number c.args.line.now read (search rules) (search rules) parts
-    ∙ line_fault _ told
+    line_read (is_second c.args.version) c.args.number c.args.line.now (map part c.in-Some.parts.items)
+    (sym c.if-not-are_line_bytes.ensures) c.if-line-gt120.false (rw c.in-Some.is at c.in_ok-parts.ensures)
+    ∙ line_form _ c.in-Ok.form (rw c.deref.ensures.value at c.in-Ok.ensures)
 
 pub returns : goal.returns
 returns c =
-    let read = map part c.in-Some.parts.items in
-    let parts : parts_of c.args.line.now ≡ Some read = search rules in
-    let told : Err OutOfRange ≡ form_result (form_at (is_second c.args.version) c.args.number read) = search rules in
-    line_read (is_second c.args.version) c.args.number c.args.line.now read (search rules) (search rules) parts
-    ∙ range_fault _ told
+    let two = is_second c.args.version in
+    let k = c.args.number in
+    let line = c.args.line.now in (
+      refl,
+      elim c.if-not-are_line_bytes.branch [
+        | then-not-are_line_bytes w ↦ rw (w.cause-is, ← w.if-not-are_line_bytes.ensures) refl
+        | else-not-are_line_bytes+then-line-gt120 w ↦
+            rw (w.cause-is, ← w.if-not-are_line_bytes.ensures, lt_true 120 _ w.if-line-gt120.true) refl
+        | else-not-are_line_bytes+else-line-gt120+in_ok-parts+in-Some+in-Err-1 w ↦
+            let read = map part w.in-Some.parts.items in
+            let here = line_read two k line read (sym w.if-not-are_line_bytes.ensures) w.if-line-gt120.false
+            (rw w.in-Some.is at w.in_ok-parts.ensures) in
+            elim w.match-this.branch [
+              | in-Err-NotThisForm w' ↦
+                  let told : Err NotThisForm ≡ form_result (form_at two k read) = search rules in
+                  rw (w.cause-is, w'.cause-is) (here ∙ line_fault _ told)
+              | in-Err-OutOfRange w' ↦
+                  let told : Err OutOfRange ≡ form_result (form_at two k read) = search rules in
+                  rw (w.cause-is, w'.cause-is) (here ∙ range_fault _ told)
+            ]
+        | else-not-are_line_bytes+else-line-gt120+in_ok-parts+in-None w ↦
+            let none = rw w.in-None.is at w.in_ok-parts.ensures in
+            rw (w.cause-is, none, ← w.if-not-are_line_bytes.ensures, lt_false 120 _ w.if-line-gt120.false) refl
+      ],
+    )
 
-pub returns-then-line-gt120 : goal.returns-then-line-gt120
-returns-then-line-gt120 c = grind (arith, common_steps)
+pub returns-in_err-parts : goal.returns-in_err-parts
+returns-in_err-parts c =
+    let p = err_from_is_err_and c.from_residual.result c.from_residual.ensures.1 in rw (p.1, p.2) tt

@@ -1,7 +1,8 @@
-use Rattle.std.proofs.Common.{◌≡◌, ◌∙◌, refl, length, arith}
+use Rattle.std.proofs.Common.{◌≡◌, ◌∙◌, refl, length, arith, sym}
 use Rattle.std.proofs.lemmas.List.{take_at}
 use Rattle.std.proofs.lemmas.Bool.Decides.{nat_tests}
 use Rattle.ed_syntax.proofs.NameBytes.{padded_text}
+use Rattle.ed_syntax.proofs.NameLemmas.{empty_or_long, within}
 use Rattle.ed_syntax.proofs.name.Name.new.Goals as goal
 
 pub invariant_of-result : goal.invariant_of-result
@@ -15,3 +16,12 @@ returns-clause-some c =
     let text = c.args.text.now in
     let bytes : c.copy_from_slice.new.self ≡ text = c.copy_from_slice.ensures.after ∙ c.as_bytes.ensures.value in
     rw bytes (take_at text _ (length text) refl)
+
+pub returns-clause-none : goal.returns-clause-none
+returns-clause-none c = within c.args.text.now (sym c.if-is_empty.ensures) c.if-text-gt16.false
+
+pub returns-then-is_empty : goal.returns-then-is_empty
+returns-then-is_empty c = record {
+  none = (λ e. empty_or_long c.args.text.now _ c.is_empty.ensures c.then-is_empty.either, λ s. refl);
+  some = tt;
+}

@@ -1,8 +1,9 @@
 use Rattle.std.proofs.Common.{◌≡◌, true, arith, refl, rules}
 use Rattle.std.specs.Prelude.{◌==◌, ◌&&◌}
 use Rattle.std.proofs.lemmas.Grind.{common_steps}
+use Rattle.std.proofs.lemmas.Result.{err_from_is_err_and}
 use Rattle.ed_syntax.specs.Versions.{is_second}
-use Rattle.ed_syntax.proofs.Added.{few_anyway, in_any_case, not_written, or_true}
+use Rattle.ed_syntax.proofs.Added.{few_anyway, in_any_case, or_true}
 use Rattle.ed_syntax.proofs.writing.program.push_line.Goals as goal
 
 pub returns-in-Some-statement-clause-is : goal.returns-in-Some-statement-clause-is
@@ -25,10 +26,10 @@ returns-then-line-eq1 c =
 
 pub returns-in_err-push : goal.returns-in_err-push
 returns-in_err-push c =
-    let r = c.from_residual in
-    record { is = not_written _ r.result r.ensures.0; few = not_written _ r.result r.ensures.0 }
+    let p = err_from_is_err_and c.from_residual.result c.from_residual.ensures.1 in
+    rw p.1 (record { is = tt; few = tt })
 
 pub returns-in_err-push-2 : goal.returns-in_err-push-2
 returns-in_err-push-2 c =
-    let r = c.from_residual-in_err-push-2 in
-    record { is = not_written _ r.result r.ensures.0; few = not_written _ r.result r.ensures.0 }
+    let p = err_from_is_err_and c.from_residual-in_err-push-2.result c.from_residual-in_err-push-2.ensures.1 in
+    rw p.1 (record { is = tt; few = tt })

@@ -1,6 +1,7 @@
 use Rattle.std.proofs.Common.{◌∙◌, ◌++◌, ap, append-nil, codes, refl, rules, sym}
+use Rattle.std.proofs.lemmas.Result.{err_from_is_err_and}
 use Rattle.ed_words.specs.Texts.{Text}
-use Rattle.ed_syntax.proofs.Added.{both_added, in_any_case, not_written}
+use Rattle.ed_syntax.proofs.Added.{both_added, in_any_case}
 use Rattle.ed_syntax.proofs.writing.statements.push_statement.Goals as goal
 
 pub returns-in-Text : goal.returns-in-Text
@@ -37,18 +38,18 @@ returns-in-Long c =
 
 pub returns-in_err-push_named-in-Segment : goal.returns-in_err-push_named-in-Segment
 returns-in_err-push_named-in-Segment c =
-    let r = c.from_residual in
-    record { is = not_written _ r.result r.ensures.0; few = not_written _ r.result r.ensures.0 }
+    let p = err_from_is_err_and c.from_residual.result c.from_residual.ensures.1 in
+    rw p.1 (record { is = tt; few = tt })
 
 pub returns-in_err-push_named-in-Fetch : goal.returns-in_err-push_named-in-Fetch
 returns-in_err-push_named-in-Fetch c =
-    let r = c.from_residual-in_err-push_named-in-Fetch in
-    record { is = not_written _ r.result r.ensures.0; few = not_written _ r.result r.ensures.0 }
+    let p = err_from_is_err_and c.from_residual-in_err-push_named-in-Fetch.result c.from_residual-in_err-push_named-in-Fetch.ensures.1 in
+    rw p.1 (record { is = tt; few = tt })
 
 pub returns-in_err-push_named-in-Fetch-2 : goal.returns-in_err-push_named-in-Fetch-2
 returns-in_err-push_named-in-Fetch-2 c =
-    let r = c.from_residual-in_err-push_named-in-Fetch-2 in
-    record { is = not_written _ r.result r.ensures.0; few = not_written _ r.result r.ensures.0 }
+    let p = err_from_is_err_and c.from_residual-in_err-push_named-in-Fetch-2.result c.from_residual-in_err-push_named-in-Fetch-2.ensures.1 in
+    rw p.1 (record { is = tt; few = tt })
 
 pub returns-in-Some : goal.returns-in-Some
 returns-in-Some c =
