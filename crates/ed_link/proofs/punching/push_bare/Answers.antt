@@ -1,4 +1,4 @@
-use Rattle.std.proofs.Common.{◌≡◌, ◌∙◌, ◌≤◌, ap, arith, sym, Some}
+use Rattle.std.proofs.Common.{◌∙◌, ◌≤◌, ap, sym, Some}
 use Rattle.ed_link.specs.Linked.{entered_place}
 use Rattle.ed_link.specs.Private.FaultTests.{has_words}
 use Rattle.ed_link.proofs.Steps.{entry_fits}
