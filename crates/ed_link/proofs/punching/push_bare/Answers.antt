@@ -17,11 +17,6 @@ pub returns-in-Long-clause-items : goal.returns-in-Long-clause-items
 returns-in-Long-clause-items c =
     rw (c.in-Some.is, c.in-Long.is) c.push_long.ensures
 
-pub returns-in-Fetch-clause-items : goal.returns-in-Fetch-clause-items
-returns-in-Fetch-clause-items c =
-    rw (c.in-Some.is, c.in-Fetch.is, sym c.deref-in-Fetch.ensures.0, sym c.even.ensures.is)
-    c.push_use.ensures.items
-
 pub returns-in-Fetch-clause-few : goal.returns-in-Fetch-clause-few
 returns-in-Fetch-clause-few c =
     rw (c.in-Some.is, c.in-Fetch.is) c.push_use.ensures.few
