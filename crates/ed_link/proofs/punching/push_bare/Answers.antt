@@ -17,10 +17,6 @@ pub returns-in-Long-clause-items : goal.returns-in-Long-clause-items
 returns-in-Long-clause-items c =
     rw (c.in-Some.is, c.in-Long.is) c.push_long.ensures
 
-pub returns-in-Fetch-clause-few : goal.returns-in-Fetch-clause-few
-returns-in-Fetch-clause-few c =
-    rw (c.in-Some.is, c.in-Fetch.is) c.push_use.ensures.few
-
 pub entry_of-requires : goal.entry_of-requires
 entry_of-requires c =
     let fits : entered_place c.args.symbols.now c.args.statement.now 0 ≤ 32767 =
