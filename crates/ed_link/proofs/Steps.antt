@@ -9,7 +9,7 @@ use Rattle.std.proofs.lemmas.Bool.Decides.{nat_tests}
 use Rattle.std.proofs.lemmas.List.{at_drop_more, at_drop_all}
 use Rattle.ed_notation.specs.declared.item.Item.{Item}
 use Rattle.ed_library.specs.Entries.{entry}
-use Rattle.ed_library.specs.Routines.{table_item}
+use Rattle.ed_library.specs.Routines.{find, table_item}
 use Rattle.ed_library.specs.declared.tables.TableRow.{TableRow}
 use Rattle.ed_syntax.specs.declared.program.Operand.{Operand}
 use Rattle.ed_syntax.specs.declared.program.Setting.{Setting}
@@ -19,6 +19,7 @@ use Rattle.ed_syntax.specs.declared.program.Statement.TheVariants.{Long, Fetch, 
 use Rattle.ed_symbols.specs.declared.symbols.Definition.{Definition}
 use Rattle.ed_symbols.specs.declared.location_counter.LocationCounter.{LocationCounter}
 use Rattle.ed_symbols.specs.Names.{is_local, place_on}
+use Rattle.ed_symbols.specs.Places.{even_from, routine_places}
 use Rattle.ed_link.specs.Labels.{label_of}
 use Rattle.ed_link.specs.Private.Building.{bare_items}
 use Rattle.ed_link.specs.Private.FaultTests.{extent_at, has_words, reach}
@@ -156,6 +157,24 @@ base_fits symbols s (Some (Long v)) fits base has = omega arith
 base_fits symbols s (Some (Fetch routine name ts)) fits base has = absurd (cc)
 base_fits symbols s (Some (Enter name)) fits base has = absurd (cc)
 base_fits symbols s (Some (Rows codes)) fits base has = absurd (cc)
+
+-- the base of a `use` of a routine with a word is within the store
+pub use_base : {base : ℕ} (symbols : List Definition) (s : LocationCounter) {st : Option Statement}
+    {routine : _} {name : _} {ts : _} → st ≡ Some (Fetch routine name ts)
+    → ((reach symbols st s).from < (reach symbols st s).after → (reach symbols st s).after ≤ 1024)
+    → base ≡ even_from s.place → 0 < routine_places (find routine) → base ≤ 32767
+use_base symbols s {routine = routine} is fits at holds = of (even_from s.place) _ (rw is at fits) at holds
+  where
+    of : {base : ℕ} (even n : ℕ) → (even < even + n → even + n ≤ 1024) → base ≡ even → 0 < n → base ≤ 32767
+    of even n fits at holds = omega arith
+
+-- the items of an `enter`
+pub entered : {first second : List Item} {a b : Item} {n p : ℕ} (done : List Item)
+    → first ≡ done ++ a ∷ [] → second ≡ first ++ b ∷ [] → a ≡ item_with 3 n false 14 → n ≡ p
+    → b ≡ item_with 0 0 false 17 → second ≡ done ++ (item_with 3 p false 14 ∷ item_with 0 0 false 17 ∷ [])
+entered {b = b} done p q x k y =
+    q ∙ ap (λ (is : List Item). is ++ b ∷ []) p ∙ append_assoc done (_ ∷ []) (b ∷ [])
+    ∙ (λ i. done ++ (x ∙ ap (λ (e : ℕ). item_with 3 e false 14) k) i ∷ y i ∷ [])
 
 -- the location that an `enter` names is within the store
 pub entry_fits : (symbols : List Definition) (s : LocationCounter) (st : Option Statement)

@@ -192,32 +192,31 @@ fn push_bare(
     ensures items { OnOk result (items.new.items ≡ items.old.items ++ bare_items symbols.now counter statement.now) }
     ensures few { OnOk result (IsFew statement.now) }
 {
+    let Some(statement) = statement else {
+        return Ok(());
+    };
     match statement {
-        Some(
-            Statement::Order {
-                function,
-                operand,
-                length,
-            },
-        ) => push(
+        Statement::Order {
+            function,
+            operand,
+            length,
+        } => push(
             items,
             order_item(symbols, counter, *function, operand, *length),
         ),
-        Some(Statement::Number { value }) => push(items, word_item(*value)),
-        Some(Statement::Text { codes }) => push_text(items, codes),
-        Some(Statement::Long { value }) => push_long(items, counter.place, *value),
-        Some(
-            Statement::Fetch {
-                routine,
-                settings,
-                ..
-            },
-        ) => push_use(items, symbols, settings, even(counter.place), routine),
-        Some(Statement::Enter { name }) => {
+        Statement::Number { value } => push(items, word_item(*value)),
+        Statement::Text { codes } => push_text(items, codes),
+        Statement::Long { value } => push_long(items, counter.place, *value),
+        Statement::Fetch {
+            routine,
+            settings,
+            ..
+        } => push_use(items, symbols, settings, even(counter.place), routine),
+        Statement::Enter { name } => {
             push(items, control(letters::E, entry_of(symbols, name)))?;
             push(items, numbered(Code::P, 0, false))
         }
-        None | Some(Statement::Segment { .. } | Statement::Rows { .. }) => Ok(()),
+        Statement::Segment { .. } | Statement::Rows { .. } => Ok(()),
     }
 }
 

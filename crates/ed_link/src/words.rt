@@ -134,30 +134,28 @@ pub(crate) fn put_line(
         → (reach symbols.now statement.now counter).after ≤ 1024 }
     ensures { table.new.items ≡ put_all table.old.items (placed_by_line symbols.now counter statement.now) }
 {
+    let Some(statement) = statement else {
+        return;
+    };
     match statement {
-        Some(
-            Statement::Order {
-                function,
-                operand,
-                length,
-            },
-        ) => put(
+        Statement::Order {
+            function,
+            operand,
+            length,
+        } => put(
             table,
             counter.place,
             order_word(symbols, counter, *function, operand, *length),
         ),
-        Some(Statement::Number { value }) => put(table, counter.place, *value),
-        Some(Statement::Text { codes }) => put_text(table, counter.place, codes),
-        Some(Statement::Long { value }) => put_long(table, counter.place, *value),
-        Some(
-            Statement::Fetch {
-                routine,
-                settings,
-                ..
-            },
-        ) => put_use(table, symbols, settings, even(counter.place), routine),
-        None | Some(Statement::Segment { .. } | Statement::Rows { .. } | Statement::Enter { .. }) =>
-            {}
+        Statement::Number { value } => put(table, counter.place, *value),
+        Statement::Text { codes } => put_text(table, counter.place, codes),
+        Statement::Long { value } => put_long(table, counter.place, *value),
+        Statement::Fetch {
+            routine,
+            settings,
+            ..
+        } => put_use(table, symbols, settings, even(counter.place), routine),
+        Statement::Segment { .. } | Statement::Rows { .. } | Statement::Enter { .. } => {}
     }
 }
 

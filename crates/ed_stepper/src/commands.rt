@@ -61,9 +61,9 @@ fn of_two(word: &[u8], argument: &[u8]) -> Option<SessionCommand>
         let address = number_within(argument, 0, 1023)?;
         Some(SessionCommand::Move(MoveTarget::Address(address as u16)))
     } else if spells(word, b"back") {
-        Some(SessionCommand::Back(number_within(argument, 0, 100_000_000)?))
+        number_within(argument, 0, 100_000_000).map(SessionCommand::Back)
     } else if spells(word, b"trace") {
-        Some(SessionCommand::Trace(number_within(argument, 1, 10_000)?))
+        number_within(argument, 1, 10_000).map(SessionCommand::Trace)
     } else if spells(word, b"show") {
         shown(argument)
     } else {

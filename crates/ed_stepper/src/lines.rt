@@ -4,7 +4,7 @@ ghost use Rattle.std.specs.Fmt.{decimal};
 ghost use Rattle.std.specs.List.{range_with_len};
 ghost use Rattle.ed_report.specs.Listings.{listing};
 ghost use Rattle.ed_report.specs.Traces.{trace_text};
-ghost use Rattle.ed_stepper.specs.Scripts.{end_word, move_line};
+ghost use Rattle.ed_stepper.specs.Scripts.{end_word, last_word, move_line};
 ghost use Rattle.ed_stepper.specs.Private.Commands.{IsCommandInRange};
 ghost use Rattle.ed_stepper.specs.Private.Lines.{LineEnds};
 
@@ -36,10 +36,7 @@ pub(crate) fn carry_out(
             let number = session.machine().multiplier().value();
             number_line(alloc, "mult", u128::from(number))
         }
-        SessionCommand::LastPrinted => match session.machine().last_printed() {
-            Some(code) => number_line(alloc, "last", u128::from(code.value())),
-            None => bytes_of_text(format!(in alloc; "last none\n")),
-        },
+        SessionCommand::LastPrinted => last_line(alloc, session.machine()),
     };
     Ok(text?)
 }
@@ -95,4 +92,14 @@ fn number_line(alloc: Global, name: &str, number: u128) -> Result<Vec<u8>, NoMem
     ensures { IfOk result (λ bytes. bytes.items ≡ name.now ++ codes " " ++ decimal number ++ 10 ∷ []) }
 {
     bytes_of_text(format!(in alloc; "{name} {number}\n"))
+}
+
+/// The line with the last printed code.
+fn last_line(alloc: Global, machine: &Machine) -> Result<Vec<u8>, NoMemory>
+    ensures { IfOk result (λ bytes. bytes.items ≡ codes "last " ++ last_word machine.now.last ++ 10 ∷ []) }
+{
+    match machine.last_printed() {
+        Some(code) => number_line(alloc, "last", u128::from(code.value())),
+        None => bytes_of_text(format!(in alloc; "last none\n")),
+    }
 }
