@@ -1,18 +1,14 @@
 ghost use Rattle.std.specs.Prelude.{◌≡◌, ◌≢◌, ◌⊎◌, ◌+◌, ◌≤◌, ◌<◌, length, IfOk, IfErr, MatchResult};
 ghost use Rattle.ed_io.specs.Bytes.{IsAtEnd, Loses};
 ghost use Rattle.ed_top.specs.Clause.{WritesLastLine, device};
-ghost use Rattle.ed_top.specs.Private.Stages.{HasInput, WritesReply, input_faults, stop_outcome};
+ghost use Rattle.ed_top.specs.Private.Stages.{HasInput, WritesReply, WritesText, input_faults};
 
-use ed_answers::{INPUT_BYTES, Rejection, Reply, TOO_LONG};
+use ed_answers::{INPUT_BYTES, Rejection, Reply};
 use ed_io::{Failed, Sink, Source, WriteStop, write_all};
 use std::alloc::{AllocError, Global};
 
 /// The most bytes that are read at once.
 const PIECE: usize = 4096;
-
-const READ_FAULT: &[u8] = b"read fault\n";
-
-pub const NO_MEMORY: &[u8] = b"no memory\n";
 
 /// Why there is no input.
 #[derive(Clone, Copy)]
@@ -23,20 +19,6 @@ pub enum InputStop {
     Memory,
     /// The input has more bytes than the limit.
     TooLong,
-}
-
-impl InputStop {
-    /// The last line of a program that has no input, and its status.
-    pub fn last_line(self) -> (&'static [u8], u8)
-        ensures line { result.0.now ≡ (stop_outcome self).note }
-        ensures status { result.1 ≡ (stop_outcome self).status }
-    {
-        match self {
-            InputStop::Failed => (READ_FAULT, 8),
-            InputStop::Memory => (NO_MEMORY, 10),
-            InputStop::TooLong => (TOO_LONG, 11),
-        }
-    }
 }
 
 impl From<Failed> for InputStop {

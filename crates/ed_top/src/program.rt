@@ -19,13 +19,18 @@ ghost use Rattle.ed_top.specs.Stepped.{EachStepIsRun};
 ghost use Rattle.ed_top.specs.TapeEntries.{EachTapeRunsFromEntry};
 
 use crate::commands::{carry_out, reads_input};
-use crate::devices::{NO_MEMORY, input_of, tell};
+use crate::devices::{InputStop, input_of, tell};
+use ed_answers::TOO_LONG;
 use ed_command::{Command, CommandFault, read_words};
 use ed_io::{Sink, Source, WriteStop};
 use std::alloc::Global;
 
 const USAGE: &[u8] =
     b"usage: edsac COMMAND [--limit N] [--resume N] [--post-mortem FROM,COUNT] [--store SIZE]\n";
+
+const READ_FAULT: &[u8] = b"read fault\n";
+
+const NO_MEMORY: &[u8] = b"no memory\n";
 
 /// Runs the program with the words after its name: reads the input if the command needs it, writes `out` and then
 /// `note`, and answers the status.
@@ -59,22 +64,6 @@ pub fn edsac<S: Source, K: Sink, L: Sink>(
     ensures stepped { EachStepIsRun }
     ensures parts { EachTapeInPartsIsRun }
 {
-    run_words(alloc, words, source, out, note)
-}
-
-/// Runs the command that the words are; or tells that they are none, or that no memory was found for them.
-fn run_words<S: Source, K: Sink, L: Sink>(
-    alloc: Global,
-    words: &[String],
-    source: &mut S,
-    out: &mut K,
-    note: &mut L,
-) -> u8
-    ensures { ProgramEnded (output (command_line (map string_bytes words.now)))
-        (device S.left S.faults source.old source.new)
-        (device K.held K.faults out.old out.new)
-        (device L.held L.faults note.old note.new) result }
-{
     match read_words(alloc, words) {
         Ok(command) => run_command(alloc, command, source, out, note),
         Err(CommandFault::Usage) => tell(note, USAGE, 2),
@@ -106,10 +95,9 @@ fn run_command<S: Source, K: Sink, L: Sink>(
 {
     let input = match input_of(alloc, reads_input(command), source) {
         Ok(input) => input,
-        Err(stop) => {
-            let (line, status) = stop.last_line();
-            return tell(note, line, status);
-        }
+        Err(InputStop::Failed) => return tell(note, READ_FAULT, 8),
+        Err(InputStop::Memory) => return tell(note, NO_MEMORY, 10),
+        Err(InputStop::TooLong) => return tell(note, TOO_LONG, 11),
     };
     match carry_out(alloc, command, &input, out) {
         Ok(rest) => tell(note, &rest.note, rest.status),

@@ -6,7 +6,7 @@ use Rattle.ed_io.specs.Bytes.{IsAtEnd, Loses}
 use Rattle.ed_io.specs.Causes.{next_count}
 use Rattle.ed_words.specs.Texts.{Text}
 use Rattle.ed_answers.specs.declared.input.TheConstants.{INPUT_BYTES}
-use Rattle.ed_answers.specs.Outcome.{Outcome, no_memory, read_fault, too_long_outcome}
+use Rattle.ed_answers.specs.Outcome.{Outcome}
 use Rattle.ed_answers.specs.Answer.{Answer, of_made}
 use Rattle.ed_command.specs.declared.command.Settings.{Settings}
 use Rattle.ed_stepper.specs.ScriptLines.{CommandList}
@@ -42,12 +42,6 @@ input_faults (Ok v) before = before
 input_faults (Err input.Failed) before = next_count before
 input_faults (Err input.Memory) before = before
 input_faults (Err input.TooLong) before = before
-
--- what is due if there is no input: a read failed, no memory was found, or the input is too long
-abbrev pub stop_outcome : InputStop → Outcome
-stop_outcome input.Failed = record { out = []; note = read_fault; status = 8 }
-stop_outcome input.Memory = record { out = []; note = no_memory; status = 10 }
-stop_outcome input.TooLong = too_long_outcome
 
 -- ---- a text to step through
 

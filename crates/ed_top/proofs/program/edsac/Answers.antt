@@ -1,3 +1,16 @@
+use Rattle.std.proofs.Common.{◌≡◌, ℕ, refl, sym, subst, map, string_bytes}
+use Rattle.std.specs.Prelude.{Option, Some, None, Err}
+use Rattle.ed_command.specs.Answers.{AnswersWords}
+use Rattle.ed_command.specs.Lines.{command_line}
+use Rattle.ed_command.specs.declared.command.Command.{Command}
+use Rattle.ed_command.specs.declared.reading.CommandFault.{CommandFault}
+use Rattle.ed_command.specs.declared.reading.CommandFault.TheVariants.{Usage, Memory}
+use Rattle.ed_answers.specs.Answer.{known}
+use Rattle.ed_answers.specs.Outcome.{usage_outcome}
+use Rattle.ed_top.specs.Output.{output}
+use Rattle.ed_top.specs.Clause.{Device, ProgramEnded, device}
+use Rattle.ed_io.proofs.Calls.{gains_none}
+use Rattle.ed_top.proofs.Endings.{none_due, with_due, with_no_memory}
 use Rattle.ed_answers.proofs.BothSizes.{each_size}
 use Rattle.ed_top.proofs.CallRuns.{calls_by_default, each_call_runs}
 use Rattle.ed_top.proofs.Completing.{each_complete}
@@ -5,31 +18,96 @@ use Rattle.ed_top.proofs.DemoRuns.{each_demo_runs}
 use Rattle.ed_answers.proofs.FirstEntries.{runs_from_31}
 use Rattle.ed_answers.proofs.Limits.{each_limit}
 use Rattle.ed_answers.proofs.Listed.{each_listed_is_loaded}
+use Rattle.ed_top.proofs.OneOutcome.{line_once}
 use Rattle.ed_answers.proofs.PunchedTapes.{each_punched_is_run}
 use Rattle.ed_top.proofs.ReadBack.{each_word_is_read_back}
 use Rattle.ed_top.proofs.Stepped.{each_step_is_run}
 use Rattle.ed_top.proofs.PartsRun.{each_tape_in_parts}
 use Rattle.ed_answers.proofs.Sources.{headline}
 use Rattle.ed_top.proofs.TapeEntries.{tapes_run_from_entry}
-use Rattle.ed_top.proofs.OneOutcome.{line_once}
 use Rattle.ed_top.proofs.program.edsac.Goals as goal
 
-pub returns : goal.returns
-returns g c = record {
-  ended = c.run_words.ensures;
-  law = line_once;
-  complete = each_complete;
-  headline = headline;
-  calls = each_call_runs;
-  calls_by_default = calls_by_default;
-  demos = each_demo_runs;
-  first_orders = runs_from_31;
-  tapes = tapes_run_from_entry;
-  punched = each_punched_is_run;
-  listed = each_listed_is_loaded;
-  limits = each_limit;
-  sizes = each_size;
-  read_back = each_word_is_read_back;
-  stepped = each_step_is_run;
-  parts = each_tape_in_parts;
-}
+-- a program that ended as a command requires ended as the words that are that command require
+by_line : (words line : Option Command) (source out note : Device) (status : ℕ) → words ≡ line
+    → ProgramEnded (output line) source out note status → ProgramEnded (output words) source out note status
+by_line words line source out note status is ended =
+    subst (λ (l : Option Command). ProgramEnded (output l) source out note status) (sym is) ended
+
+-- words that are refused are not a command
+usage_line : (words : Option Command) (fault : CommandFault) → fault ≡ Usage → AnswersWords words (Err fault)
+    → words ≡ None
+usage_line words Usage is answers = answers
+usage_line words Memory is answers = absurd (cc)
+
+pub returns-in-Ok : goal.returns-in-Ok
+returns-in-Ok g c =
+    record {
+      ended = by_line (command_line (map string_bytes c.args.words.now)) (Some c.in-Ok.command) _ _ _ _
+          c.in-Ok.ensures.is c.run_command.ensures;
+      law = line_once;
+      complete = each_complete;
+      headline = headline;
+      calls = each_call_runs;
+      calls_by_default = calls_by_default;
+      demos = each_demo_runs;
+      first_orders = runs_from_31;
+      tapes = tapes_run_from_entry;
+      punched = each_punched_is_run;
+      listed = each_listed_is_loaded;
+      limits = each_limit;
+      sizes = each_size;
+      read_back = each_word_is_read_back;
+      stepped = each_step_is_run;
+      parts = each_tape_in_parts;
+    }
+
+pub returns-in-Err-Usage : goal.returns-in-Err-Usage
+returns-in-Err-Usage g c =
+    let source = device g.S.Source.left g.S.Source.faults c.args.source.now c.args.source.now in
+    let out = device g.K.Sink.held g.K.Sink.faults c.args.out.now c.args.out.now in
+    record {
+      ended = by_line (command_line (map string_bytes c.args.words.now)) None _ _ _ _
+          (usage_line _ _ c.in-Err-Usage.field-0-is c.in-Err-Usage.ensures.is)
+          (with_due (known usage_outcome) source out refl refl c.tell.ensures (λ e. cc) (λ e. cc) (λ bytes told. told)
+          (record { wrote = gains_none out.before; note_is = refl; status_is = refl }));
+      law = line_once;
+      complete = each_complete;
+      headline = headline;
+      calls = each_call_runs;
+      calls_by_default = calls_by_default;
+      demos = each_demo_runs;
+      first_orders = runs_from_31;
+      tapes = tapes_run_from_entry;
+      punched = each_punched_is_run;
+      listed = each_listed_is_loaded;
+      limits = each_limit;
+      sizes = each_size;
+      read_back = each_word_is_read_back;
+      stepped = each_step_is_run;
+      parts = each_tape_in_parts;
+    }
+
+pub returns-in-Err-Memory : goal.returns-in-Err-Memory
+returns-in-Err-Memory g c =
+    let line = command_line (map string_bytes c.args.words.now) in
+    let source = device g.S.Source.left g.S.Source.faults c.args.source.now c.args.source.now in
+    let out = device g.K.Sink.held g.K.Sink.faults c.args.out.now c.args.out.now in
+    record {
+      ended = with_no_memory (output line) source out _ _ refl refl
+          (none_due (output line) source out (line_once line) (gains_none out.before)) c.tell-in-Err-Memory.ensures;
+      law = line_once;
+      complete = each_complete;
+      headline = headline;
+      calls = each_call_runs;
+      calls_by_default = calls_by_default;
+      demos = each_demo_runs;
+      first_orders = runs_from_31;
+      tapes = tapes_run_from_entry;
+      punched = each_punched_is_run;
+      listed = each_listed_is_loaded;
+      limits = each_limit;
+      sizes = each_size;
+      read_back = each_word_is_read_back;
+      stepped = each_step_is_run;
+      parts = each_tape_in_parts;
+    }

@@ -1,15 +1,17 @@
-use Rattle.std.proofs.Common.{◌∙◌, arith, refl, subst, sym}
-use Rattle.std.specs.Prelude.{◌≤◌, ℕ, Bool, true, false, Ok, Err, Vec, length}
+use Rattle.std.proofs.Common.{arith, refl, subst}
+use Rattle.std.specs.Prelude.{◌≤◌, ℕ, Bool, true, false, Ok, Vec, length}
 use Rattle.std.specs.declared.alloc.Global.{Global}
 use Rattle.ed_answers.specs.declared.input.TheConstants.{INPUT_BYTES}
+use Rattle.ed_top.specs.declared.devices.InputStop.TheVariants as input
 use Rattle.ed_io.specs.declared.stop.WriteStop.TheVariants as stop
 use Rattle.ed_words.specs.Texts.{Text}
-use Rattle.ed_top.specs.Private.Stages.{Carried, HasInput, stop_outcome}
+use Rattle.ed_top.specs.Private.Stages.{Carried, HasInput}
 use Rattle.ed_answers.specs.Replies.{ForInput}
 use Rattle.ed_top.specs.Output.{answer}
 use Rattle.ed_top.specs.Clause.{Device, WritesLastLine, WrotePart, device}
 use Rattle.ed_io.proofs.Calls.{gains_none}
-use Rattle.ed_top.proofs.Endings.{carried_stop, due_input, fine_source, input_by, stopped_not_9, with_broken_out, with_no_memory, with_rest, with_stop}
+use Rattle.ed_top.proofs.Endings.{carried_stop, due_input, fine_source, fine_unread, input_by, none_due, stop_by}
+use Rattle.ed_top.proofs.Endings.{with_broken_out, with_long, with_no_memory, with_read_fault, with_rest}
 use Rattle.ed_top.proofs.OneOutcome.{answer_once}
 use Rattle.ed_top.proofs.program.run_command.Goals as goal
 
@@ -29,22 +31,41 @@ carry_out-requires g c =
 pub tell-requires-in-Ok-carry_out : goal.tell-requires-in-Ok-carry_out
 tell-requires-in-Ok-carry_out g c = λ is_9. omega (arith, is_9, c.in-Ok-carry_out.ensures.0)
 
-pub tell-requires : goal.tell-requires
-tell-requires g c = λ is_9. stopped_not_9 c.in-Err.stop (sym c.last_line-status.ensures.status ∙ is_9)
-
-pub returns-in-Err : goal.returns-in-Err
-returns-in-Err g c =
+pub returns-in-Err-Failed : goal.returns-in-Err-Failed
+returns-in-Err-Failed g c =
     let a = answer c.args.command.action c.args.command.settings in
     let source = device g.S.Source.left g.S.Source.faults c.args.source.now c.input_of.new.source in
     let out = device g.K.Sink.held g.K.Sink.faults c.args.out.now c.args.out.now in
-    let note = device g.L.Sink.held g.L.Sink.faults c.args.note.now c.tell.new.note in
-    let last = c.last_line-status.ensures in
-    with_stop a source out note c.in-Err.stop c.tell.result
-    (answer_once c.args.command.action c.args.command.settings)
-    (input_by a source c.reads_input.result (Err c.in-Err.stop) c.reads_input.ensures c.in-Err.ensures)
-    (gains_none out.before) refl
-    (subst (λ (n : ℕ). WritesLastLine note (stop_outcome c.in-Err.stop).note n c.tell.result) last.status
-    (subst (λ (t : Text). WritesLastLine note t c.last_line-status.result.1 c.tell.result) last.line c.tell.ensures))
+    with_read_fault a source out _ _
+    (stop_by a source c.reads_input.result c.in-Err-Failed.field-0 input.Failed c.reads_input.ensures
+    c.in-Err-Failed.field-0-is
+    c.in-Err-Failed.ensures)
+    (gains_none out.before) refl c.tell.ensures
+
+pub returns-in-Err-Memory : goal.returns-in-Err-Memory
+returns-in-Err-Memory g c =
+    let a = answer c.args.command.action c.args.command.settings in
+    let source = device g.S.Source.left g.S.Source.faults c.args.source.now c.input_of.new.source in
+    let out = device g.K.Sink.held g.K.Sink.faults c.args.out.now c.args.out.now in
+    with_no_memory a source out _ _
+    (fine_unread a source
+    (stop_by a source c.reads_input.result c.in-Err-Memory.field-0 input.Memory c.reads_input.ensures
+    c.in-Err-Memory.field-0-is
+    c.in-Err-Memory.ensures))
+    refl
+    (none_due a source out (answer_once c.args.command.action c.args.command.settings) (gains_none out.before))
+    c.tell-in-Err-Memory.ensures
+
+pub returns-in-Err-TooLong : goal.returns-in-Err-TooLong
+returns-in-Err-TooLong g c =
+    let a = answer c.args.command.action c.args.command.settings in
+    let source = device g.S.Source.left g.S.Source.faults c.args.source.now c.input_of.new.source in
+    let out = device g.K.Sink.held g.K.Sink.faults c.args.out.now c.args.out.now in
+    with_long a source out
+    (stop_by a source c.reads_input.result c.in-Err-TooLong.field-0 input.TooLong c.reads_input.ensures
+    c.in-Err-TooLong.field-0-is
+    c.in-Err-TooLong.ensures)
+    (gains_none out.before) refl c.tell-in-Err-TooLong.ensures
 
 pub returns-in-Ok-carry_out : goal.returns-in-Ok-carry_out
 returns-in-Ok-carry_out g c =
@@ -60,15 +81,15 @@ returns-in-Ok-carry_out g c =
     c.deref-in-Ok-carry_out.ensures.value
     c.tell-in-Ok-carry_out.ensures)
 
-pub returns-in-Err-Failed : goal.returns-in-Err-Failed
-returns-in-Err-Failed g c =
+pub returns-in-Err-Failed-carry_out : goal.returns-in-Err-Failed-carry_out
+returns-in-Err-Failed-carry_out g c =
     let a = answer c.args.command.action c.args.command.settings in
     let source = device g.S.Source.left g.S.Source.faults c.args.source.now c.input_of.new.source in
     let out = device g.K.Sink.held g.K.Sink.faults c.args.out.now c.carry_out.new.out in
     let note = device g.L.Sink.held g.L.Sink.faults c.args.note.now c.args.note.now in
     let broken =
-    carried_stop a _ out c.in-Err-Failed.field-0 stop.Failed c.in-Err-Failed.field-0-is
-    c.in-Err-Failed.ensures in
+    carried_stop a _ out c.in-Err-Failed-carry_out.field-0 stop.Failed c.in-Err-Failed-carry_out.field-0-is
+    c.in-Err-Failed-carry_out.ensures in
     with_broken_out a source out note
     (fine_source a source c.in-Ok.input
     (input_by a source c.reads_input.result (Ok c.in-Ok.input) c.reads_input.ensures c.in-Ok.ensures))
@@ -84,8 +105,8 @@ returns g c =
     let source = device g.S.Source.left g.S.Source.faults c.args.source.now c.input_of.new.source in
     let out = device g.K.Sink.held g.K.Sink.faults c.args.out.now c.carry_out.new.out in
     let stopped =
-    carried_stop a _ out c.in-Err-Memory.field-0 stop.Memory c.in-Err-Memory.field-0-is
-    c.in-Err-Memory.ensures in
+    carried_stop a _ out c.in-Err-Memory-carry_out.field-0 stop.Memory c.in-Err-Memory-carry_out.field-0-is
+    c.in-Err-Memory-carry_out.ensures in
     with_no_memory a source out _ _
     (fine_source a source c.in-Ok.input
     (input_by a source c.reads_input.result (Ok c.in-Ok.input) c.reads_input.ensures c.in-Ok.ensures))
@@ -93,4 +114,4 @@ returns g c =
     (due_input a source c.in-Ok.input _
     (input_by a source c.reads_input.result (Ok c.in-Ok.input) c.reads_input.ensures c.in-Ok.ensures)
     (subst (λ (t : Text). ForInput a t (λ o. WrotePart out o.out)) c.deref.ensures.value stopped.1))
-    c.tell-in-Err-Memory.ensures
+    c.tell-in-Err-Memory-carry_out.ensures
