@@ -318,6 +318,16 @@ AreWritten-append : (vs ws : List Written) → AreWritten vs → AreWritten ws �
 AreWritten-append [] ws a b = b
 AreWritten-append (v ∷ vs) ws a b = (a.0, AreWritten-append vs ws a.1 b)
 
+-- a well-formed tape has the rows up to its entry
+pub entered_within : {z : Size} {codes : List ℕ} {r : Report} {count : ℕ}
+    → Accepts z cleared_cells.words first_note 9 codes r → count ≡ r.rows → count ≤ length codes
+entered_within f many =
+    let ws = f.comes.before in
+    let last = f.comes.last in
+    let all = ap length f.comes.rows_are ∙ length-append (spelled_rows ws) (rows_of last ++ f.entry.rest) in
+    let end = length-append (rows_of last) f.entry.rest in
+    omega (arith, many, f.rows_are, f.comes.read_is, all, end)
+
 -- what is answered to a well-formed tape
 pub entered_told : (z : Size) {codes : List ℕ} {r : Report} {count : ℕ} {reply : Reply}
     → Accepts z cleared_cells.words first_note 9 codes r → count ≡ r.rows

@@ -90,8 +90,8 @@ fn went_on(
         → IsRan (run_end orders resumes room (state_after k first)) gone) }
     ensures fits { IfOk result (λ gone. gone.paper.room ≡ room) }
 {
-    let mut machine = pictured(alloc, small, rows, words, digits, registers)?;
     let mut paper = Paper::new(alloc, room)?;
+    let mut machine = pictured(alloc, small, rows, words, digits, registers)?;
     let ending = run(&mut machine, u64::from(orders), resumes, &mut paper);
     Ok(FinishedRun {
         ending,

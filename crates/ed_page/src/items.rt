@@ -1,17 +1,19 @@
 //! The items of a tape: the rows that spell each, and the word that it places.
 
-ghost use Rattle.std.specs.Prelude.{◌≡◌, ◌+◌, ◌*◌, ◌≤◌, ◌<◌, ◌^◌, [], ◌∷◌, ◌++◌, IfOk, None, length, take, ℕ};
+ghost use Rattle.std.specs.Prelude.{◌≡◌, ◌+◌, ◌*◌, ◌≤◌, ◌<◌, ◌^◌, [], ◌∷◌, ◌++◌, Err, IfOk, MatchResult, None, length, take, ℕ};
 ghost use Rattle.std.specs.List.{flat_map};
-ghost use Rattle.ed_store.specs.Cells.{with_short};
+ghost use Rattle.ed_store.specs.Cells.{cleared_cells, with_short};
+ghost use Rattle.ed_notation.specs.Checks.{AnswersCheck};
 ghost use Rattle.ed_notation.specs.Fold.{control_of, item_word, with_kay, with_zed};
 ghost use Rattle.ed_notation.specs.Items.{row_kind};
 ghost use Rattle.ed_notation.specs.declared.kind.RowKind.TheVariants.{Digit};
 ghost use Rattle.ed_page.specs.Answers.{IsTextWritten, text_buffers};
 ghost use Rattle.ed_page.specs.Pictures.{size_shown};
+ghost use Rattle.ed_answers.specs.Tapes.{first_note};
 ghost use Rattle.ed_page.specs.Private.ItemTables.{IsSetAs, IsSetBelow, first_notation, is_last_row, item_at};
 ghost use Rattle.ed_page.specs.Private.ItemTables.{notation_after, note_over};
 ghost use Rattle.ed_page.specs.Private.ItemTables.{placing_over, table_on, whole_item, opened_with};
-ghost use Rattle.ed_page.specs.Private.Stages.{IsAnswered};
+ghost use Rattle.ed_page.specs.Private.Stages.{IsAnswered, IsEntered};
 ghost use Rattle.ed_page.specs.TapeItems.{IsItemsOutcome, PlacingLaw, four_bytes, item_line, items_answer};
 ghost use Rattle.ed_answers.specs.declared.input.TheConstants.{INPUT_BYTES};
 
@@ -77,8 +79,8 @@ pub fn row_items(alloc: Global, size: Size, rows: &[Code]) -> Result<Reply, Reje
     requires { length rows.now ≤ INPUT_BYTES }
     ensures { IsAnswered (IsItemsOutcome size) rows.now result }
 {
-    match check_from_cleared(alloc, size, rows) {
-        Ok(checked) => Ok(Reply::done(alloc, item_table(alloc, rows, checked.rows())?)),
+    match rows_to_entry(alloc, size, rows) {
+        Ok(count) => Ok(Reply::done(alloc, item_table(alloc, rows, count)?)),
         Err(TapeFault::At { row, cause }) => {
             let note = tape_fault(alloc, &TapeFault::At { row, cause })?;
             let out = item_table(alloc, rows, row)?;
@@ -90,6 +92,16 @@ pub fn row_items(alloc: Global, size: Size, rows: &[Code]) -> Result<Reply, Reje
         }
         Err(TapeFault::Memory) => Err(Rejection::Memory),
     }
+}
+
+/// The number of rows up to the entry of a well-formed tape, or the tape's fault.
+fn rows_to_entry(alloc: Global, size: Size, rows: &[Code]) -> Result<usize, TapeFault>
+    requires { length rows.now ≤ INPUT_BYTES }
+    ensures { MatchResult result
+        (λ count. IsEntered size rows.now count)
+        (λ fault. AnswersCheck size cleared_cells.words first_note 9 rows.now (Err fault)) }
+{
+    Ok(check_from_cleared(alloc, size, rows)?.rows())
 }
 
 /// The table of the items that the first rows spell.

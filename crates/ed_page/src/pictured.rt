@@ -32,13 +32,14 @@ pub fn pictured(
         → Pictures (state_after k first) words.now digits.now registers.now → m ≡ state_after k first) }
 {
     let read = rows.len() - registers.rows_left as usize;
+    let tape = codes_of(alloc, &rows[read..])?;
     let parts = Parts {
         size: size_of(small),
         store: store_of(alloc, words, digits)?,
         acc: acc_of(registers),
         multiplier: Long::of_number(registers.multiplier),
         counter: registers.counter as u16,
-        tape: codes_of(alloc, &rows[read..])?,
+        tape,
         last: Code::new(registers.last as u8),
         orders: registers.orders,
     };

@@ -1,11 +1,13 @@
 -- Replies with an outcome that is stated: from one of an input and back, and that no memory was found, passed on by
 -- `?`.
-use Rattle.std.proofs.Common.{◌≡◌, [], subst, sym}
-use Rattle.std.specs.Prelude.{Result, Ok, Err, IsErr, IsErrAnd}
+use Rattle.std.proofs.Common.{◌≡◌, ℕ, [], Vec, refl, subst, sym}
+use Rattle.std.specs.Prelude.{Result, Ok, Err, IfOk, IsErr, IsErrAnd}
+use Rattle.std.specs.declared.alloc.Global.{Global}
+use Rattle.ed_words.specs.declared.memory.NoMemory.{NoMemory}
 use Rattle.ed_words.specs.Texts.{Text}
 use Rattle.ed_answers.specs.Answer.{of_input, of_made}
-use Rattle.ed_answers.specs.Outcome.{Outcome}
-use Rattle.ed_answers.specs.Replies.{Replies}
+use Rattle.ed_answers.specs.Outcome.{Outcome, refusal}
+use Rattle.ed_answers.specs.Replies.{Gives, Refuses, Replies}
 use Rattle.ed_answers.specs.declared.reply.Rejection.{Rejection}
 use Rattle.ed_answers.specs.declared.reply.Rejection.TheVariants.{Memory, Refused}
 use Rattle.ed_answers.specs.declared.reply.Reply.{Reply}
@@ -16,6 +18,16 @@ pub none_replied : (answers : Outcome → Type 0) (r : Result Reply Rejection)
 none_replied answers (Ok reply) is some = absurd (cc)
 none_replied answers (Err Memory) is some = (some.0, some.1, tt)
 none_replied answers (Err (Refused reply)) is some = absurd (cc)
+
+-- a rejection with a line, or for want of memory for the line
+pub line_replied : (answers : Outcome → Type 0) (line : Result (Vec ℕ Global) NoMemory) (text : Text) (e : Rejection)
+    → IfOk line (λ v. v.items ≡ text) → IfOk line (λ v. Refuses v.items e) → (IsErr line → e ≡ Memory)
+    → answers (refusal text) → Replies (of_made answers) [] (Err e)
+line_replied answers (Ok v) text (Refused reply) is refuses none some =
+    (refusal text, some, subst (λ (t : Text). Gives reply (refusal t)) is refuses)
+line_replied answers (Ok v) text Memory is refuses none some = (refusal text, some, tt)
+line_replied answers (Err e) text (Refused reply) is refuses none some = let bad = none refl in absurd (cc)
+line_replied answers (Err e) text Memory is refuses none some = (refusal text, some, tt)
 
 -- a rejection passed on by `?`
 pub handed_on : (answers : Outcome → Type 0) (r : Result Reply Rejection) (e : Rejection)

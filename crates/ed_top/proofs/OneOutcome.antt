@@ -61,7 +61,7 @@ input_same s i o other (inr a) (inr b) =
     let same = one_meaning.one_script i.script a.0 b.0 a.1 b.1 in
     text_same s b.0 i.kind i.text o other (subst (λ cs. OnText s cs i.kind i.text o) same a.2) b.2
 
-pub divided_some : (s : Settings) (input : Text) (d : Option Input) → (o : Outcome) × OfDivided s input d o
+divided_some : (s : Settings) (input : Text) (d : Option Input) → (o : Outcome) × OfDivided s input d o
 divided_some s input None = (_, refl)
 divided_some s input (Some i) = input_some s i
 

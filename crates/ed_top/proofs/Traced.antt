@@ -8,26 +8,22 @@ use Rattle.ed_io.specs.declared.stop.WriteStop.TheVariants.{Failed, Memory}
 use Rattle.ed_io.proofs.Calls.{gains_none}
 use Rattle.ed_machine.specs.State.{State}
 use Rattle.ed_machine.specs.declared.ending.Ending.{Ending}
-use Rattle.ed_answers.specs.EntryState.{first_state}
 use Rattle.ed_stepper.specs.Traces.{TraceEnds, trace_of}
 use Rattle.ed_answers.specs.declared.settings.Settings.{Settings}
 use Rattle.ed_answers.specs.Answer.{known}
 use Rattle.ed_top.specs.Clause.{Device, WrotePart}
-use Rattle.ed_top.specs.Traces.{trace_outcome}
+use Rattle.ed_top.specs.Traces.{traced_from}
 use Rattle.ed_top.specs.Private.Stages.{Carried}
 use Rattle.ed_top.proofs.FirstParts.{none_written}
 
-module _ (s : Settings) (codes : List ℕ) {start : State} (is : start ≡ first_state s.size codes) (out : Device) where
+module _ (s : Settings) (start : State) (out : Device) where
   -- a fault stops the command
   pub trace_stopped : (limit : ℕ) → limit ≡ s.limit → (fault : WriteStop) (last : State)
       → TraceEnds limit s.resumes start (Err fault) last out.before out.after
       → out.faults_after ≡ stop_faults {T = Ending} (Err fault) out.faults_before
-      → Carried (known (trace_outcome s codes)) [] out (Err fault)
-  trace_stopped limit same Failed last ends count = (
-    count,
-    subst (λ (x : State). WrotePart out (trace_of s.limit s.resumes x)) is
-        (subst (λ (n : ℕ). WrotePart out (trace_of n s.resumes start)) same ends.0),
-  )
+      → Carried (known (traced_from s start)) [] out (Err fault)
+  trace_stopped limit same Failed last ends count =
+      (count, subst (λ (n : ℕ). WrotePart out (trace_of n s.resumes start)) same ends.0)
   trace_stopped limit same Memory last ends count = (
     count,
     none_written out _
@@ -37,12 +33,11 @@ module _ (s : Settings) (codes : List ℕ) {start : State} (is : start ≡ first
   -- all of it is, and no memory was found for the note
   pub trace_untold : (limit : ℕ) → limit ≡ s.limit → (ending : Ending) (last : State)
       → TraceEnds limit s.resumes start (Ok ending) last out.before out.after
-      → WrotePart out (trace_outcome s codes).out
+      → WrotePart out (traced_from s start).out
   trace_untold limit same ending last ends =
-      subst (λ (x : State). WrotePart out (trace_of s.limit s.resumes x)) is
-      (subst (λ (n : ℕ). WrotePart out (trace_of n s.resumes start)) same (record {
+      subst (λ (n : ℕ). WrotePart out (trace_of n s.resumes start)) same (record {
         part = trace_of limit s.resumes start;
         rest = [];
         whole = sym (append-nil (trace_of limit s.resumes start));
         gains = ends.2;
-      }))
+      })

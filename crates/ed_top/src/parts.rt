@@ -1,12 +1,12 @@
 ghost use Rattle.std.specs.Prelude.{◌≡◌, ◌<◌, ◌≤◌, ◌^◌, [], List, ℕ, IfOk, length};
 ghost use Rattle.ed_answers.specs.Answer.{of_input, of_rows};
+ghost use Rattle.ed_answers.specs.EntryState.{first_state};
 ghost use Rattle.ed_top.specs.Clause.{device};
 ghost use Rattle.ed_top.specs.Parts.{IsInParts, end_note, end_status};
 ghost use Rattle.ed_top.specs.Private.Stages.{Carried};
 
 use crate::devices::{Rest, write};
 use ed_answers::{Settings, rows_of, started, status_of};
-use ed_codes::Code;
 use ed_interlude::{PartsEnd, run_parts};
 use ed_io::{Sink, WriteStop};
 use ed_machine::Machine;
@@ -25,26 +25,28 @@ pub fn parts<K: Sink>(
     requires { length input.now ≤ 2 ^ 32 }
     ensures { Carried (of_rows (IsInParts settings)) input.now (device K.held K.faults out.old out.new) result }
 {
-    match rows_of(alloc, input) {
-        Ok(rows) => read_parts(alloc, settings, rows, out),
-        Err(rejection) => write(out, Err(rejection)),
-    }
+    let rows = match rows_of(alloc, input) {
+        Ok(rows) => rows,
+        Err(rejection) => return write(out, Err(rejection)),
+    };
+    let mut machine = started(alloc, settings.size, rows)?;
+    read_parts(alloc, settings, &mut machine, out)
 }
 
-/// Reads rows in parts.
+/// Reads the tape of a machine that has obeyed no order, in parts.
 fn read_parts<K: Sink>(
     alloc: Global,
     settings: Settings,
-    rows: Vec<Code>,
+    machine: &mut Machine,
     out: &mut K,
 ) -> Result<Rest, WriteStop>
-    requires { length rows.items ≤ 2 ^ 32 }
-    ensures { Carried (of_input (λ _. IsInParts settings rows.items)) []
-        (device K.held K.faults out.old out.new) result }
+    requires orders { machine.old.orders ≡ 0 }
+    requires rows { length machine.old.tape ≤ 2 ^ 32 }
+    ensures { (codes : List ℕ) → machine.old ≡ first_state settings.size codes
+        → Carried (of_input (λ _. IsInParts settings codes)) [] (device K.held K.faults out.old out.new) result }
 {
-    let mut machine = started(alloc, settings.size, rows)?;
-    let end = run_parts(alloc, &mut machine, settings.limit, out)?;
-    let note = end_text(alloc, end, &machine)?;
+    let end = run_parts(alloc, machine, settings.limit, out)?;
+    let note = end_text(alloc, end, machine)?;
     let status = end_status(end);
     Ok(Rest { note, status })
 }

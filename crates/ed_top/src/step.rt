@@ -20,10 +20,11 @@ pub fn step(alloc: Global, settings: Settings, input: &[u8]) -> Result<Reply, Re
     ensures { Replies (of_input (OfStep settings)) input.now result }
 {
     let Some(divided) = divide(input) else {
-        return Ok(Reply::refusal(alloc, no_text(alloc, line_count(input) + 1)?));
+        let line = no_text(alloc, line_count(input) + 1);
+        return Err(Rejection::with_line(alloc, line));
     };
     if let Some(line) = bad_line(divided.script) {
-        return Ok(Reply::refusal(alloc, bad_command(alloc, line)?));
+        return Err(Rejection::with_line(alloc, bad_command(alloc, line)));
     }
     let rows = text_rows(alloc, settings, divided.kind, divided.text)?;
     Ok(step_rows(alloc, settings, divided.script, rows)?)

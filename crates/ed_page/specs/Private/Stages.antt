@@ -3,6 +3,11 @@ use Rattle.std.specs.Prelude.{◌≡◌, ◌≢◌, ℕ, List, Option, None, Som
 use Rattle.ed_machine.specs.State.{State}
 use Rattle.ed_printer.specs.Paper.{paper}
 use Rattle.ed_words.specs.Texts.{Text}
+use Rattle.ed_words.specs.declared.size.Size.{Size}
+use Rattle.ed_store.specs.Cells.{cleared_cells}
+use Rattle.ed_notation.specs.Checks.{Accepts}
+use Rattle.ed_notation.specs.Reports.{Report}
+use Rattle.ed_answers.specs.Tapes.{first_note}
 use Rattle.ed_answers.specs.Outcome.{Outcome}
 use Rattle.ed_answers.specs.Replies.{Gives}
 use Rattle.ed_answers.specs.Runs.{status_of}
@@ -34,6 +39,12 @@ IsAnswered answers text (Err Memory) = Unit {0}
 pub record IsMachineOf (Ends : Text → State → Type 0) (text : Text) (machine : Option State) : Type 0 where
   pub some : (m : State) → Ends text m → machine ≡ Some m
   pub none : ((m : State) → Ends text m → ⊥) → machine ≡ None
+
+-- a well-formed tape has this number of rows up to its entry
+pub record IsEntered (z : Size) (rows : List ℕ) (count : ℕ) : Type 0 where
+  pub report : Report
+  pub accepts : Accepts z cleared_cells.words first_note 9 rows report
+  pub count_is : count ≡ report.rows
 
 -- what is shown is a reply that a text may have, and the machine in which its run ends
 abbrev pub IsPicture : (Text → Outcome → Type 0) → (Text → State → Type 0) → Text → Shown → Type 0

@@ -1,8 +1,29 @@
+use Rattle.std.proofs.Common.{◌≡◌, ◌∙◌, ◌≤◌, ◌++◌, ℕ, List, arith, inr, refl, subst}
+use Rattle.ed_words.specs.declared.size.Size.{Size}
+use Rattle.ed_notation.specs.Items.{spelled_rows}
+use Rattle.ed_notation.specs.Spellings.{canonicals}
+use Rattle.ed_syntax.specs.declared.program.Line.{Line}
+use Rattle.ed_link.specs.Answers.{IsLinked}
+use Rattle.ed_link.specs.declared.linked.Linked.{Linked}
+use Rattle.ed_answers.specs.Outcome.{done}
+use Rattle.ed_answers.specs.Replies.{Gives}
+use Rattle.ed_answers.specs.declared.reply.Reply.{Reply}
 use Rattle.ed_answers.specs.Sources.{OfSource, listing_outcome, punch_outcome}
 use Rattle.ed_page.specs.Answers.{source_rows}
 use Rattle.ed_page.specs.Private.Asked.{answers_to, answers_to_rows}
 use Rattle.ed_page.proofs.Replies.{none_answered, replied, rows_answered, rows_refused, source_refused}
 use Rattle.ed_page.proofs.asked.answer.Goals as goal
+
+within : {a b c : ℕ} → a ≤ b → b ≤ c → a ≤ c
+within one two = omega (arith, one, two)
+
+-- the rows of a linked program's tape are those of its lines
+tape_given : {z : Size} {lines : List Line} {k : Linked} {codes : List ℕ} {reply : Reply} → IsLinked z lines k
+    → codes ≡ spelled_rows (canonicals k.items.items) ++ k.after.items → Gives reply (done codes)
+    → Gives reply (source_rows lines)
+tape_given {reply = reply} linked is gives =
+    subst (λ (cs : List ℕ). Gives reply (done cs))
+    (is ∙ (λ i. spelled_rows (canonicals (linked.items i)) ++ linked.after i)) gives
 
 pub returns-in_err-rows-in-SourceRows : goal.returns-in_err-rows-in-SourceRows
 returns-in_err-rows-in-SourceRows c =
@@ -39,3 +60,16 @@ returns-in_ok-rows_of-in-Tape c =
     rw c.in-Tape.is
     (rows_answered (answers_to_rows c.in-Tape.asked) c.args.text.now _ c.in_ok-rows_of-in-Tape.ensures.is
     c.deref.ensures.value c.answer_of_rows.ensures)
+
+pub answer_of_rows-requires : goal.answer_of_rows-requires
+answer_of_rows-requires c = rw c.deref.ensures.value (within c.in_ok-rows_of-in-Tape.ensures.few c.requires)
+
+pub returns-in_ok-row_codes-in-SourceRows : goal.returns-in_ok-row_codes-in-SourceRows
+returns-in_ok-row_codes-in-SourceRows c =
+    let linked = c.in_ok-linked_of-in-SourceRows.ensures in
+    rw c.in-SourceRows.is (
+      source_rows linked.0,
+      inr (linked.0, linked.1, refl),
+      tape_given linked.2 (c.deref-in-SourceRows.ensures.value ∙ c.in_ok-rows-in-SourceRows.ensures.is)
+          c.in_ok-row_codes-in-SourceRows.ensures,
+    )

@@ -1,3 +1,4 @@
+use Rattle.std.proofs.Common.{◌≤◌, length, subst, sym, arith}
 use Rattle.ed_page.specs.Going.{going_buffers}
 use Rattle.ed_page.proofs.Goes.{going_law}
 use Rattle.ed_page.proofs.GoneOn.{gone_nowhere, gone_shown, gone_unmade, next_on, no_store_room}
@@ -38,3 +39,18 @@ returns-then-words-ne1024-clause-next c first begins way = way
 
 pub returns-in-Err-clause-next : goal.returns-in-Err-clause-next
 returns-in-Err-clause-next c first begins way = way
+
+pub went_on-requires : goal.went_on-requires
+went_on-requires c = record {
+  words = c.if-words-ne1024.false;
+  digits = c.if-digits-ne512.false;
+  picture = c.requires.picture;
+  count = c.requires.count;
+}
+
+pub show-requires : goal.show-requires
+show-requires c = record {
+  words = c.if-words-ne1024.false;
+  digits = c.if-digits-ne512.false;
+  codes = subst (λ room. room ≤ length c.args.codes.now) (sym c.in-Ok.ensures.fits) (omega arith);
+}

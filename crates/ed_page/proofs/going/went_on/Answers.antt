@@ -16,3 +16,10 @@ returns-clause-gone c first begins k pictures =
     (subst (λ (n : ℕ). IsRan (run_end n c.args.resumes c.args.room machine) gone) c.from.ensures
     (gone_of c.from.result c.args.resumes c.args.room machine c.in_ok-paper.paper c.run-ending.new.paper gone
     c.in_ok-paper.ensures c.run-ending.ensures.run_end refl))
+
+pub pictured-requires : goal.pictured-requires
+pictured-requires c = record {
+  words = c.requires.words;
+  digits = c.requires.digits;
+  picture = c.requires.picture;
+}

@@ -11,7 +11,7 @@ use Rattle.ed_answers.specs.Outcome.{done}
 use Rattle.ed_answers.specs.Replies.{Gives}
 use Rattle.ed_answers.specs.Tapes.{first_note}
 use Rattle.ed_page.specs.TapeItems.{IsItemsOutcome}
-use Rattle.ed_page.proofs.ItemRows.{entered_told, fault_told}
+use Rattle.ed_page.proofs.ItemRows.{entered_told, entered_within, fault_told}
 use Rattle.ed_page.proofs.Replies.{none_answered}
 use Rattle.ed_page.proofs.items.row_items.Goals as goal
 
@@ -21,7 +21,8 @@ not_memory same = cc
 
 pub returns-in_ok-item_table-in-Ok : goal.returns-in_ok-item_table-in-Ok
 returns-in_ok-item_table-in-Ok c =
-    entered_told c.args.size c.in-Ok.ensures c.rows.ensures
+    let entered = c.in-Ok.ensures in
+    entered_told c.args.size entered.accepts entered.count_is
     (subst (λ (out : List ℕ). Gives c.done.result (done out)) c.in_ok-item_table-in-Ok.ensures c.done.ensures)
 
 pub returns-in_ok-out-in-Err-At : goal.returns-in_ok-out-in-Err-At
@@ -39,7 +40,9 @@ returns-in_ok-out-in-Err-At c =
     })
 
 pub item_table-requires : goal.item_table-requires
-item_table-requires c = record { few = c.requires; count = grind (arith, common_steps) }
+item_table-requires c =
+    let entered = c.in-Ok.ensures in
+    record { few = c.requires; count = entered_within entered.accepts entered.count_is }
 
 pub item_table-requires-in-Err-At : goal.item_table-requires-in-Err-At
 item_table-requires-in-Err-At c = record { few = c.requires; count = grind (arith, common_steps) }

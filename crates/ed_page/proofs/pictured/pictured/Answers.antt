@@ -40,7 +40,7 @@ reached-requires-clause-is c =
     subst IsReached
     (sym (shown_state first k _ p.way.pictured c.size_of.ensures
     c.in_ok-store_of.ensures c.acc_of.ensures c.of_number.ensures refl
-    (c.in_ok-codes_of.ensures ∙ codes_after _ c.args.rows.now)
+    (c.in_ok-tape.ensures ∙ codes_after _ c.args.rows.now)
     c.new.ensures.none c.new.ensures.some refl))
     (way_reached first k)
 
@@ -54,5 +54,5 @@ returns c first begins k pictures =
     c.reached.ensures
     ∙ shown_state (is_first c.requires.picture.way.rows_are begins) k _ pictures c.size_of.ensures
     c.in_ok-store_of.ensures c.acc_of.ensures c.of_number.ensures refl
-    (c.in_ok-codes_of.ensures ∙ codes_after _ c.args.rows.now)
+    (c.in_ok-tape.ensures ∙ codes_after _ c.args.rows.now)
     c.new.ensures.none c.new.ensures.some refl

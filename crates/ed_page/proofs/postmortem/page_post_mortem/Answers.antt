@@ -1,4 +1,5 @@
-use Rattle.std.proofs.Common.{inl, inr, refl}
+use Rattle.std.proofs.Common.{inl, inr, refl, subst}
+use Rattle.ed_answers.specs.SettingRanges.{IsWindowOf}
 use Rattle.ed_page.proofs.postmortem.page_post_mortem.Goals as goal
 
 pub returns-then-words-ne1024-clause-told : goal.returns-then-words-ne1024-clause-told
@@ -27,3 +28,12 @@ returns-then-not-is_window-clause-early c lacks = elim lacks [
   | inl wrong ↦ absurd (wrong c.if-words-ne1024.false)
   | inr wrong ↦ absurd (wrong c.if-digits-ne512.false)
 ]
+
+pub printed_paper-requires : goal.printed_paper-requires
+printed_paper-requires c = record {
+  words = c.if-words-ne1024.false;
+  digits = c.if-digits-ne512.false;
+  picture = c.requires.picture;
+  orders = c.requires.orders;
+  window = subst (λ z. IsWindowOf z (record { first = c.args.first; count = c.args.count })) c.size_of.ensures (c.if-not-is_window.ensures.0 refl);
+}

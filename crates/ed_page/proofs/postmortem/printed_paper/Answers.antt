@@ -13,3 +13,10 @@ window_printed-requires-clause-window c =
     ap (λ (s : State). s.size) (c.in_ok-machine.ensures p.first p.begins p.way.orders p.way.pictured)
     ∙ way_size (begun p) p.way.orders in
     subst (λ (z : Size). IsWindowOf z c.args.window) (sym size) c.requires.window
+
+pub pictured-requires : goal.pictured-requires
+pictured-requires c = record {
+  words = c.requires.words;
+  digits = c.requires.digits;
+  picture = c.requires.picture;
+}

@@ -1,9 +1,11 @@
-use Rattle.std.proofs.Common.{ℕ, ◌≡◌, rules, arith, ◌∙◌, refl, subst, inl, inr, take, List, [], Option}
+use Rattle.std.proofs.Common.{ℕ, ◌≡◌, ◌≢◌, ap, rules, arith, ◌∙◌, refl, subst, inl, inr, take, List, [], Option}
 use Rattle.ed_words.specs.Texts.{Text}
 use Rattle.std.proofs.lemmas.List.{append-nil, take-append-le}
 use Rattle.std.proofs.lemmas.Result.{err_from_is_err_and}
 use Rattle.ed_io.specs.Bytes.{Loses}
+use Rattle.ed_io.specs.Causes.{next_count}
 use Rattle.ed_io.proofs.Calls.{loses_more, loses_none, still_at_end}
+use Rattle.ed_top.specs.declared.devices.InputStop.TheVariants as input
 use Rattle.ed_top.proofs.devices.read_all.Goals.{else-loop-piece-test, then-loop-piece-test+in_ok-count+then-count-eq0}
 use Rattle.ed_top.proofs.devices.read_all.Goals as goal
 
@@ -18,6 +20,12 @@ lost_all : (before middle after : Option Text) (bytes : List ℕ) (n : ℕ) (mor
 lost_all before middle after bytes n more lost none also =
     subst (λ (xs : List ℕ). Loses before after xs) (append-nil bytes)
     (loses_more before middle after bytes [] lost (lost_none middle after n more none also))
+
+memory_apart : input.Memory ≢ input.TooLong
+memory_apart same = absurd (cc)
+
+failed_apart : input.Failed ≢ input.TooLong
+failed_apart same = absurd (cc)
 
 pub loop-piece-init : goal.loop-piece-init
 loop-piece-init g c = record {
@@ -36,6 +44,17 @@ loop-piece-preserved g c =
       faults = read.faults ∙ c.loop-piece.invariant.faults;
     }
 
+pub returns-in_err-count : goal.returns-in_err-count
+returns-in_err-count g c =
+    let r = c.from_residual in
+    let p = err_from_is_err_and r.result r.ensures.1 in
+    rw (p.1, p.2) (record {
+      bytes = tt;
+      end = tt;
+      short = failed_apart;
+      faults = c.in_err-count.ensures.faults ∙ ap next_count c.loop-piece.invariant.faults;
+    })
+
 pub returns-in_err-extend_from_slice : goal.returns-in_err-extend_from_slice
 returns-in_err-extend_from_slice g c =
     let r = c.from_residual-in_err-extend_from_slice in
@@ -43,7 +62,7 @@ returns-in_err-extend_from_slice g c =
     rw (p.1, p.2) (record {
       bytes = tt;
       end = tt;
-      short = λ same. absurd (cc);
+      short = memory_apart;
       faults = c.in_ok-count.ensures.faults ∙ c.loop-piece.invariant.faults;
     })
 

@@ -1,17 +1,31 @@
+use Rattle.std.proofs.Common.{refl}
+use Rattle.std.proofs.lemmas.Result.{err_from_is_err_and}
 use Rattle.std.specs.Prelude.{Err}
+use Rattle.ed_io.proofs.Calls.{gains_none}
+use Rattle.ed_io.specs.declared.stop.WriteStop.TheVariants.{Memory}
 use Rattle.ed_answers.specs.Answer.{of_rows}
+use Rattle.ed_top.specs.Clause.{device}
 use Rattle.ed_top.specs.Parts.{IsInParts}
-use Rattle.ed_top.proofs.InParts.{parts_one}
+use Rattle.ed_top.proofs.InParts.{parts_none, parts_one}
 use Rattle.ed_answers.proofs.Replies.{rejected}
 use Rattle.ed_top.proofs.Writing.{reply_carried, rows_carried_by}
 use Rattle.ed_top.proofs.parts.parts.Goals as goal
-
-pub returns-in-Ok : goal.returns-in-Ok
-returns-in-Ok g c =
-    rows_carried_by (IsInParts c.args.settings) c.args.input.now _ _ _ c.in-Ok.ensures.is c.read_parts.ensures
 
 pub returns-in-Err : goal.returns-in-Err
 returns-in-Err g c =
     let answers = IsInParts c.args.settings in
     reply_carried (of_rows answers) c.args.input.now (Err c.in-Err.rejection) _ _
     (rejected answers c.args.input.now _ (parts_one c.args.settings) c.in-Err.ensures.is) c.write.ensures
+
+pub returns-in_err-machine : goal.returns-in_err-machine
+returns-in_err-machine g c =
+    let p = err_from_is_err_and c.from_residual.result c.from_residual.ensures.1 in
+    let s = c.args.settings in
+    let out = device g.K.Sink.held g.K.Sink.faults c.args.out.now c.args.out.now in
+    rw (p.1, p.2) (rows_carried_by (IsInParts s) c.args.input.now _ out (Err Memory) c.in-Ok.ensures.is
+    (refl, parts_none s c.in-Ok.rows.items out (gains_none out.before)))
+
+pub returns : goal.returns
+returns g c =
+    rows_carried_by (IsInParts c.args.settings) c.args.input.now _ _ _ c.in-Ok.ensures.is
+    (c.read_parts.ensures c.in-Ok.rows.items c.in_ok-machine.ensures.is)

@@ -1,44 +1,36 @@
-use Rattle.std.proofs.Common.{refl}
 use Rattle.std.proofs.lemmas.Result.{err_from_is_err_and}
 use Rattle.ed_answers.specs.Answer.{of_input}
 use Rattle.ed_top.specs.Clause.{device}
 use Rattle.ed_top.specs.Parts.{IsInParts}
-use Rattle.ed_top.proofs.InParts.{parts_broken, parts_none, parts_stopped, parts_told, parts_untold}
-use Rattle.ed_io.proofs.Calls.{gains_none}
+use Rattle.ed_top.proofs.InParts.{parts_broken, parts_stopped, parts_told, parts_untold}
 use Rattle.ed_top.proofs.parts.read_parts.Goals as goal
 
-pub returns-in_err-machine : goal.returns-in_err-machine
-returns-in_err-machine g c =
-    let p = err_from_is_err_and c.from_residual.result c.from_residual.ensures.1 in
-    let out = device g.K.Sink.held g.K.Sink.faults c.args.out.now c.args.out.now in
-    rw (p.1, p.2) (refl, parts_none c.args.settings c.args.rows.items out (gains_none out.before))
-
 pub returns : goal.returns
-returns g c =
+returns g c codes is =
     let out = device g.K.Sink.held g.K.Sink.faults c.args.out.now c.run_parts.new.out in (
       c.end_status-status.ensures.low,
-      parts_told c.args.settings c.args.rows.items c.in_ok-machine.ensures.is out
+      parts_told c.args.settings codes is out
           c.in_ok-end.ensures.tells c.in_ok-note.ensures c.end_status-status.ensures.is,
       c.in_ok-end.ensures.faults,
     )
 
 pub returns-in_err-note : goal.returns-in_err-note
-returns-in_err-note g c =
+returns-in_err-note g c codes is =
     let r = c.from_residual-in_err-note in
     let p = err_from_is_err_and r.result r.ensures.1 in
     let out = device g.K.Sink.held g.K.Sink.faults c.args.out.now c.run_parts.new.out in
     rw (p.1, p.2) (
       c.in_ok-end.ensures.faults,
-      parts_untold c.args.settings c.args.rows.items c.in_ok-machine.ensures.is out c.in_ok-end.ensures.tells,
+      parts_untold c.args.settings codes is out c.in_ok-end.ensures.tells,
     )
 
 pub returns-in_err-end : goal.returns-in_err-end
-returns-in_err-end g c =
-    let r = c.from_residual-in_err-end in
+returns-in_err-end g c codes is =
+    let r = c.from_residual in
     let p = err_from_is_err_and r.result r.ensures.1 in
     let fault = c.in_err-end.field-0.0 in
     let out = device g.K.Sink.held g.K.Sink.faults c.args.out.now c.run_parts.new.out in
-    rw (p.1, p.2) (parts_stopped (of_input (λ _. IsInParts c.args.settings c.args.rows.items)) fault out
+    rw (p.1, p.2) (parts_stopped (of_input (λ _. IsInParts c.args.settings codes)) fault out
     c.in_err-end.ensures.faults
-    (parts_broken c.args.settings c.args.rows.items c.in_ok-machine.ensures.is out fault c.run_parts.new.machine
+    (parts_broken c.args.settings codes is out fault c.run_parts.new.machine
     c.in_err-end.ensures.tells))

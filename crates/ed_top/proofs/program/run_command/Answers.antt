@@ -1,17 +1,35 @@
-use Rattle.std.proofs.Common.{refl, subst}
-use Rattle.std.specs.Prelude.{Ok}
+use Rattle.std.proofs.Common.{arith, refl, subst}
+use Rattle.std.specs.Prelude.{◌≤◌, ℕ, Bool, true, false, Ok, Vec, length}
+use Rattle.std.specs.declared.alloc.Global.{Global}
+use Rattle.ed_answers.specs.declared.input.TheConstants.{INPUT_BYTES}
 use Rattle.ed_top.specs.declared.devices.InputStop.TheVariants as input
 use Rattle.ed_io.specs.declared.stop.WriteStop.TheVariants as stop
 use Rattle.ed_words.specs.Texts.{Text}
-use Rattle.ed_top.specs.Private.Stages.{Carried}
+use Rattle.ed_top.specs.Private.Stages.{Carried, HasInput}
 use Rattle.ed_answers.specs.Replies.{ForInput}
 use Rattle.ed_top.specs.Output.{answer}
-use Rattle.ed_top.specs.Clause.{WritesLastLine, WrotePart, device}
+use Rattle.ed_top.specs.Clause.{Device, WritesLastLine, WrotePart, device}
 use Rattle.ed_io.proofs.Calls.{gains_none}
 use Rattle.ed_top.proofs.Endings.{carried_stop, due_input, fine_source, fine_unread, input_by, none_due, stop_by}
 use Rattle.ed_top.proofs.Endings.{with_broken_out, with_long, with_no_memory, with_read_fault, with_rest}
 use Rattle.ed_top.proofs.OneOutcome.{answer_once}
 use Rattle.ed_top.proofs.program.run_command.Goals as goal
+
+-- an input is within the limit
+few_read : (reads : Bool) (source : Device) (v : Vec ℕ Global) → HasInput reads source (Ok v) → length v.items ≤ INPUT_BYTES
+few_read false source v h = h.0
+few_read true source v h = h.0
+
+pub carry_out-requires : goal.carry_out-requires
+carry_out-requires g c =
+    let source = device g.S.Source.left g.S.Source.faults c.args.source.now c.input_of.new.source in
+    record {
+      few = rw c.deref.ensures.value (few_read c.reads_input.result source c.in-Ok.input c.in-Ok.ensures);
+      ranges = c.requires;
+    }
+
+pub tell-requires-in-Ok-carry_out : goal.tell-requires-in-Ok-carry_out
+tell-requires-in-Ok-carry_out g c = λ is_9. omega (arith, is_9, c.in-Ok-carry_out.ensures.0)
 
 pub returns-in-Err-Failed : goal.returns-in-Err-Failed
 returns-in-Err-Failed g c =

@@ -1,36 +1,44 @@
-use Rattle.std.specs.Prelude.{Ok}
-use Rattle.ed_stepper.specs.Inputs.{Input, input_of}
-use Rattle.ed_top.specs.Scripts.{OfStep, OnInput, OnText, on_rows}
-use Rattle.ed_top.proofs.OneOutcome.{divided_some, input_some}
+use Rattle.std.proofs.Common.{ℕ, ◌+◌, [], ap, inl, refl, subst, sym}
+use Rattle.std.specs.Prelude.{Option, None, Ok, Err}
+use Rattle.ed_answers.specs.Answer.{of_made}
+use Rattle.ed_answers.specs.Outcome.{refusal}
+use Rattle.ed_answers.specs.Replies.{Replies}
+use Rattle.ed_report.specs.Notes.{no_text_line}
+use Rattle.ed_stepper.specs.Inputs.{Input}
+use Rattle.ed_top.specs.Scripts.{OfDivided, OfStep, OnInput, OnText, on_rows}
 use Rattle.ed_top.proofs.Scripts.{divided_replied, text_replied}
-use Rattle.ed_top.proofs.Made.{as_input, handed_on, none_replied}
+use Rattle.ed_top.proofs.Made.{as_input, handed_on, line_replied, none_replied}
 use Rattle.ed_top.proofs.step.step.Goals as goal
 
-pub returns-in_err-no_text : goal.returns-in_err-no_text
-returns-in_err-no_text c =
+pub returns-in_default : goal.returns-in_default
+returns-in_default c =
     let s = c.args.settings in
     let input = c.args.input.now in
-    as_input (OfStep s) input c.from_residual.result
-    (none_replied (OfStep s input) c.from_residual.result c.from_residual.ensures
-    (divided_some s input (input_of input)))
+    let made = c.with_line.ensures in
+    as_input (OfStep s) input (Err c.with_line.result)
+    (subst (λ (d : Option Input). Replies (of_made (OfDivided s input d)) [] (Err c.with_line.result))
+    (sym c.in_default.ensures)
+    (line_replied (OfDivided s input None) c.no_text-line.result _ c.with_line.result c.no_text-line.ensures
+    made.line made.memory (ap (λ (n : ℕ). refusal (no_text_line (n + 1))) (sym c.line_count.ensures.is))))
 
-pub returns-in_err-bad_command : goal.returns-in_err-bad_command
-returns-in_err-bad_command c =
+pub returns-in-Some-bad_line : goal.returns-in-Some-bad_line
+returns-in-Some-bad_line c =
     let s = c.args.settings in
     let d = c.in-Some.divided in
     let i : Input = record { script = d.script.now; kind = d.kind; text = d.text.now } in
-    divided_replied s c.args.input.now i c.from_residual-in_err-bad_command.result c.in-Some.ensures
-    (none_replied (OnInput s i) c.from_residual-in_err-bad_command.result c.from_residual-in_err-bad_command.ensures
-    (input_some s i))
+    let made = c.with_line-in-Some-bad_line.ensures in
+    divided_replied s c.args.input.now i (Err c.with_line-in-Some-bad_line.result) c.in-Some.ensures
+    (line_replied (OnInput s i) c.bad_command.result _ c.with_line-in-Some-bad_line.result c.bad_command.ensures
+    made.line made.memory (inl (c.in-Some-bad_line.line, c.in-Some-bad_line.ensures.is, refl)))
 
 pub returns-in_err-rows : goal.returns-in_err-rows
 returns-in_err-rows c =
     let s = c.args.settings in
     let d = c.in-Some.divided in
-    text_replied s c.args.input.now _ c.from_residual-in_err-rows.result c.in-Some.ensures
+    text_replied s c.args.input.now _ c.from_residual.result c.in-Some.ensures
     c.in_default-bad_line.ensures.is
-    (λ commands is. handed_on (OnText s commands d.kind d.text.now) c.from_residual-in_err-rows.result _
-    (c.in_err-rows.ensures commands) c.from_residual-in_err-rows.ensures)
+    (λ commands is. handed_on (OnText s commands d.kind d.text.now) c.from_residual.result _
+    (c.in_err-rows.ensures commands) c.from_residual.ensures)
 
 pub returns-in_err-step_rows : goal.returns-in_err-step_rows
 returns-in_err-step_rows c =

@@ -1,16 +1,35 @@
+use Rattle.std.proofs.Common.{[], refl, subst}
+use Rattle.std.proofs.lemmas.Result.{err_from_is_err_and}
 use Rattle.std.specs.Prelude.{Err}
-use Rattle.ed_answers.specs.Answer.{exactly, of_rows}
-use Rattle.ed_top.specs.Traces.{trace_outcome}
+use Rattle.ed_io.proofs.Calls.{gains_none}
+use Rattle.ed_io.specs.declared.stop.WriteStop.TheVariants.{Memory}
+use Rattle.ed_machine.specs.State.{State}
+use Rattle.ed_answers.specs.Answer.{exactly, known, of_rows}
+use Rattle.ed_top.specs.Clause.{device}
+use Rattle.ed_top.specs.Private.Stages.{Carried}
+use Rattle.ed_top.specs.Traces.{trace_outcome, traced_from}
 use Rattle.ed_answers.proofs.Replies.{exactly_one, rejected}
+use Rattle.ed_top.proofs.FirstParts.{none_written}
 use Rattle.ed_top.proofs.Writing.{reply_carried, rows_carried}
 use Rattle.ed_top.proofs.trace.trace.Goals as goal
-
-pub returns-in-Ok : goal.returns-in-Ok
-returns-in-Ok g c = rows_carried (trace_outcome c.args.settings) c.args.input.now _ _ _ c.in-Ok.ensures.is
-    c.trace_rows.ensures
 
 pub returns-in-Err : goal.returns-in-Err
 returns-in-Err g c =
     let f = trace_outcome c.args.settings in
     reply_carried (of_rows (exactly f)) c.args.input.now (Err c.in-Err.rejection) _ _
     (rejected (exactly f) c.args.input.now _ (exactly_one f) c.in-Err.ensures.is) c.write.ensures
+
+pub returns-in_err-machine : goal.returns-in_err-machine
+returns-in_err-machine g c =
+    let p = err_from_is_err_and c.from_residual.result c.from_residual.ensures.1 in
+    let out = device g.K.Sink.held g.K.Sink.faults c.args.out.now c.args.out.now in
+    rw (p.1, p.2) (rows_carried (trace_outcome c.args.settings) c.args.input.now _ out (Err Memory) c.in-Ok.ensures.is
+    (refl, none_written out _ (gains_none out.before)))
+
+pub returns : goal.returns
+returns g c =
+    let s = c.args.settings in
+    let out = device g.K.Sink.held g.K.Sink.faults c.args.out.now c.trace_machine.new.out in
+    rows_carried (trace_outcome s) c.args.input.now _ _ _ c.in-Ok.ensures.is
+    (subst (λ (m : State). Carried (known (traced_from s m)) [] out c.trace_machine.result) c.in_ok-machine.ensures.is
+    c.trace_machine.ensures)
