@@ -28,5 +28,5 @@ pub use reply::{Rejection, Reply};
 pub use rows::rows_of;
 pub use running::{FinishedRun, ran_reply, run_rows, status_of, window_printed};
 pub use settings::{Settings, Window};
-pub use source::{NotedRun, linked_of, list, list_linked, punch, run, run_linked, run_source};
+pub use source::{NotedRun, linked_of, list, list_linked, punch, run, run_source};
 pub use tapes::tape;

@@ -90,7 +90,7 @@ pub fn run_source(alloc: Global, settings: Settings, input: &[u8]) -> Result<Not
 }
 
 /// Runs the tape of a linked program.
-pub fn run_linked(alloc: Global, settings: Settings, linked: &Linked) -> Result<NotedRun, NoMemory>
+fn run_linked(alloc: Global, settings: Settings, linked: &Linked) -> Result<NotedRun, NoMemory>
     requires { (lines : List Line) × IsLinked settings.size lines linked.now }
     ensures is { IfOk result (λ noted. (lines : List Line) → IsLinked settings.size lines linked.now
         → IsRanOf settings lines noted) }

@@ -55,7 +55,7 @@ pub extern "C" fn page_tape(
     let settings = run_settings(small, orders, resumes);
     draw(
         alloc,
-        ProgramKind::Tape(InitialOrders::All41),
+        ProgramKind::Tape(InitialOrders::Orders41),
         settings,
         text,
         words,
@@ -90,7 +90,7 @@ pub extern "C" fn page_tape1(
     let settings = run_settings(false, orders, resumes);
     draw(
         alloc,
-        ProgramKind::Tape(InitialOrders::May1949),
+        ProgramKind::Tape(InitialOrders::Orders31),
         settings,
         text,
         words,

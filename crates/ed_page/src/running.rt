@@ -24,9 +24,9 @@ pub enum ProgramKind {
 #[derive(Drop)]
 pub enum InitialOrders {
     /// The 41 Initial Orders.
-    All41,
+    Orders41,
     /// The Initial Orders of May 1949.
-    May1949,
+    Orders31,
 }
 
 /// What is shown of a text: what the program answers, and the machine if it ran.
@@ -94,8 +94,8 @@ fn run_program(
     };
     let rows = rows_of(alloc, text)?;
     let ran = match initial_orders {
-        InitialOrders::All41 => run_rows(alloc, settings, rows),
-        InitialOrders::May1949 => run_rows1(alloc, settings, rows),
+        InitialOrders::Orders41 => run_rows(alloc, settings, rows),
+        InitialOrders::Orders31 => run_rows1(alloc, settings, rows),
     }?;
     let note = ending_text(alloc, ran.ending, &ran.machine)?;
     Ok(NotedRun { ran, note })

@@ -1,7 +1,7 @@
 ghost use Rattle.std.specs.Prelude.{◌≡◌, ◌++◌, IfOk};
 ghost use Rattle.ed_report.specs.Notes.{ending_line, entry_note};
 
-use crate::text::{bytes_of_text, place_after};
+use crate::text::{bytes_of_text, location_after};
 use ed_machine::{Ending, Machine};
 use ed_orders::order_text;
 use ed_words::NoMemory;
@@ -20,7 +20,7 @@ pub fn ending_text(alloc: Global, ending: Ending, machine: &Machine) -> Result<V
         Ending::NoTape => "no tape at",
         Ending::PaperFull => "paper full at",
     };
-    place_after(alloc, name, machine.counter(), machine.orders_done(), "\n")
+    location_after(alloc, name, machine.counter(), machine.orders_done(), "\n")
 }
 
 /// The same line after `entered E after N orders, `, for a run that entered its program at `entry` after `cost` orders.
@@ -33,7 +33,7 @@ pub fn entered_text(
 ) -> Result<Vec<u8>, NoMemory>
     ensures { IfOk result (λ bytes. bytes.items ≡ entry_note entry cost ++ ending_line ending machine.now) }
 {
-    let mut text = place_after(alloc, "entered", entry, cost, " orders, ")?;
+    let mut text = location_after(alloc, "entered", entry, cost, " orders, ")?;
     let line = ending_text(alloc, ending, machine)?;
     text.extend_from_slice(&line)?;
     Ok(text)

@@ -1,7 +1,7 @@
 ghost use Rattle.std.specs.Prelude.{◌≡◌, IfOk};
 ghost use Rattle.ed_report.specs.Entries.{entry_line, returned_line};
 
-use crate::text::{bytes_of_text, place_after};
+use crate::text::{bytes_of_text, location_after};
 use ed_words::NoMemory;
 use std::alloc::Global;
 
@@ -17,5 +17,5 @@ pub fn entry_text(alloc: Global, at: u16, orders: u64, rows: usize) -> Result<Ve
 pub fn returned_text(alloc: Global, address: u16, orders: u64) -> Result<Vec<u8>, NoMemory>
     ensures { IfOk result (λ bytes. bytes.items ≡ returned_line address orders) }
 {
-    place_after(alloc, "returned for", address, orders, " orders\n")
+    location_after(alloc, "returned for", address, orders, " orders\n")
 }

@@ -12,7 +12,7 @@ pub fn bytes_of_text(text: Result<String, AllocError>) -> Result<Vec<u8>, NoMemo
 }
 
 /// The text that names a place and a count of orders, and goes on with `more`.
-pub(crate) fn place_after(
+pub(crate) fn location_after(
     alloc: Global,
     name: &str,
     place: u16,

@@ -18,7 +18,7 @@ use Rattle.ed_page.specs.declared.asked.Asked.TheVariants.{Tape as OfTape, Sourc
 use Rattle.ed_page.specs.declared.asked.AskedOfRows.{AskedOfRows}
 use Rattle.ed_page.specs.declared.asked.AskedOfRows.TheVariants.{Codes, Items, Items1}
 use Rattle.ed_page.specs.declared.running.InitialOrders.{InitialOrders}
-use Rattle.ed_page.specs.declared.running.InitialOrders.TheVariants.{All41, May1949}
+use Rattle.ed_page.specs.declared.running.InitialOrders.TheVariants.{Orders41, Orders31}
 use Rattle.ed_page.specs.declared.running.ProgramKind.{ProgramKind}
 use Rattle.ed_page.specs.declared.running.ProgramKind.TheVariants.{Tape, Source}
 
@@ -37,13 +37,13 @@ answers_to (Listing s) = OfSource s.size listing_outcome
 
 -- the outcome of the rows of a tape, by the Initial Orders that read it
 abbrev pub tape_outcome_by : InitialOrders → Settings → List ℕ → Outcome
-tape_outcome_by All41 s = tape_outcome s
-tape_outcome_by May1949 s = tape1_outcome s
+tape_outcome_by Orders41 s = tape_outcome s
+tape_outcome_by Orders31 s = tape1_outcome s
 
 -- the run of the rows of a tape, by the Initial Orders that read it
 abbrev pub run_by : InitialOrders → Settings → List ℕ → RunEnd
-run_by All41 s = run_of s
-run_by May1949 s = run1_of s
+run_by Orders41 s = run_of s
+run_by Orders31 s = run1_of s
 
 -- the outcomes of the run of a program
 abbrev pub answers_of : ProgramKind → Settings → Text → Outcome → Type 0

@@ -6,7 +6,7 @@ use Rattle.ed_answers.specs.declared.source.NotedRun.{NotedRun}
 use Rattle.ed_page.specs.Private.Asked.{run_by, tape_outcome_by}
 use Rattle.ed_page.proofs.Endings.{plain_source, plain_tape, ran_is}
 use Rattle.ed_page.proofs.Replies.{rows_not_run, rows_run, source_run}
-use Rattle.ed_page.proofs.running.run_program.Goals.{in-All41, in-May1949}
+use Rattle.ed_page.proofs.running.run_program.Goals.{in-Orders41, in-Orders31}
 use Rattle.ed_page.proofs.running.run_program.Goals as goal
 
 pub returns-in_err-rows : goal.returns-in_err-rows
@@ -28,13 +28,13 @@ returns c =
     let noted : NotedRun = record { ran = c.in_ok-ran.ran; note = c.in_ok-note.note } in
     rw c.in-Tape.is
     (elim c.match-initial_orders.branch [
-      | in-All41 w ↦
-          rw w.in-All41.is
+      | in-Orders41 w ↦
+          rw w.in-Orders41.is
           (rows_run (tape_outcome s) (run_of s) c.args.text.now noted c.in_ok-rows.ensures.is
           (plain_tape s _ c.requires)
           (ran_is _ (sym w.branch'-is ∙ c.in_ok-ran.was) w.run_rows.ensures.is) c.in_ok-note.ensures)
-      | in-May1949 w ↦
-          rw w.in-May1949.is
+      | in-Orders31 w ↦
+          rw w.in-Orders31.is
           (rows_run (tape1_outcome s) (run1_of s) c.args.text.now noted c.in_ok-rows.ensures.is refl
           (ran_is _ (sym w.branch'-is ∙ c.in_ok-ran.was) w.run_rows1.ensures) c.in_ok-note.ensures)
     ])

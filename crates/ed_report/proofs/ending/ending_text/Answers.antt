@@ -5,7 +5,7 @@ use Rattle.ed_report.proofs.ending.ending_text.Goals as goal
 
 pub returns : goal.returns
 returns c =
-    let line = c.place_after.ensures in
+    let line = c.location_after.ensures in
     let s = c.args.machine.now in
     let counter = c.counter.ensures.is in
     let orders = c.orders_done.ensures in

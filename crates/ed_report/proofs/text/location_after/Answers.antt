@@ -1,7 +1,7 @@
 use Rattle.std.proofs.Common.{codes}
 use Rattle.std.specs.Fmt.{decimal}
 use Rattle.ed_report.proofs.Texts.{six_pieces, told}
-use Rattle.ed_report.proofs.text.place_after.Goals as goal
+use Rattle.ed_report.proofs.text.location_after.Goals as goal
 
 pub returns : goal.returns
 returns c =
