@@ -13,7 +13,7 @@ ghost use Rattle.ed_answers.specs.Tapes.{first_note};
 ghost use Rattle.ed_page.specs.Private.ItemTables.{IsSetAs, IsSetBelow, first_notation, is_last_row, item_at};
 ghost use Rattle.ed_page.specs.Private.ItemTables.{notation_after, note_over};
 ghost use Rattle.ed_page.specs.Private.ItemTables.{placing_over, table_on, whole_item, opened_with};
-ghost use Rattle.ed_page.specs.Private.Stages.{IsAnswered, IsEntered};
+ghost use Rattle.ed_page.specs.Private.Stages.{IsAnswered, HasRowsToEntry};
 ghost use Rattle.ed_page.specs.TapeItems.{IsItemsOutcome, PlacingLaw, four_bytes, item_line, items_answer};
 ghost use Rattle.ed_answers.specs.declared.input.TheConstants.{INPUT_BYTES};
 
@@ -98,7 +98,7 @@ pub fn row_items(alloc: Global, size: Size, rows: &[Code]) -> Result<Reply, Reje
 fn rows_to_entry(alloc: Global, size: Size, rows: &[Code]) -> Result<usize, TapeFault>
     requires { length rows.now ≤ INPUT_BYTES }
     ensures { MatchResult result
-        (λ count. IsEntered size rows.now count)
+        (λ count. HasRowsToEntry size rows.now count)
         (λ fault. AnswersCheck size cleared_cells.words first_note 9 rows.now (Err fault)) }
 {
     Ok(check_from_cleared(alloc, size, rows)?.rows())

@@ -41,7 +41,7 @@ pub record IsMachineOf (Ends : Text → State → Type 0) (text : Text) (machine
   pub none : ((m : State) → Ends text m → ⊥) → machine ≡ None
 
 -- a well-formed tape has this number of rows up to its entry
-pub record IsEntered (z : Size) (rows : List ℕ) (count : ℕ) : Type 0 where
+pub record HasRowsToEntry (z : Size) (rows : List ℕ) (count : ℕ) : Type 0 where
   pub report : Report
   pub accepts : Accepts z cleared_cells.words first_note 9 rows report
   pub count_is : count ≡ report.rows
