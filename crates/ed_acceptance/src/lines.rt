@@ -2,9 +2,9 @@
 
 use crate::support::words_of;
 use ed_codes::TextFault;
+use ed_command::{Action, read_words};
 use ed_notation::{TapeCause, TapeFault};
 use ed_report::{tape_fault, text_fault};
-use ed_top::{Action, read_words};
 use ed_words::Size;
 use std::alloc::Global;
 use std::process::Abort;

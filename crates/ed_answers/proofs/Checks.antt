@@ -15,8 +15,8 @@ use Rattle.ed_notation.specs.Reading.{ReadingIsRules}
 use Rattle.ed_notation.proofs.Laws.{reading_is_rules}
 use Rattle.ed_notation.proofs.Verdicts.{entry_once, fault_once}
 use Rattle.ed_report.specs.Notes.{rule_line, tape_fault_line}
-use Rattle.ed_answers.specs.declared.settings.Settings.{Settings}
 use Rattle.ed_words.specs.Texts.{Text}
+use Rattle.ed_run.specs.declared.settings.Settings.{Settings}
 use Rattle.ed_answers.specs.Outcome.{Outcome, done, refusal}
 use Rattle.ed_report.specs.Entries.{entry_line}
 use Rattle.ed_answers.specs.Tapes.{IsChecked, first_note}

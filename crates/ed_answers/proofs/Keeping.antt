@@ -6,9 +6,9 @@ use Rattle.ed_machine.specs.State.{State}
 use Rattle.ed_machine.proofs.Keeping.{Follows, steps_follow}
 use Rattle.ed_machine.proofs.LeastNumbers.{least_below}
 use Rattle.ed_run.specs.Run.{run_end, run_orders}
-use Rattle.ed_answers.specs.SettingRanges.{AreSettingsInRange, IsWindowOf}
-use Rattle.ed_answers.specs.declared.settings.Settings.{Settings}
-use Rattle.ed_answers.specs.declared.settings.Window.{Window}
+use Rattle.ed_run.specs.SettingRanges.{AreSettingsInRange, IsWindowOf}
+use Rattle.ed_run.specs.declared.settings.Settings.{Settings}
+use Rattle.ed_run.specs.declared.settings.Window.{Window}
 use Rattle.ed_answers.specs.EntryState.{first_state}
 use Rattle.ed_answers.specs.Replies.{IsPrintableIn}
 

@@ -28,9 +28,9 @@ use Rattle.ed_answers.proofs.Entries.{each_source}
 use Rattle.ed_answers.proofs.EntryWords.{each_entry_has_words}
 use Rattle.ed_report.specs.Listings.{listing}
 use Rattle.ed_report.specs.Notes.{ending_line, source_fault_line}
-use Rattle.ed_answers.specs.declared.settings.Settings.{Settings}
-use Rattle.ed_answers.specs.declared.settings.Window.{Window}
 use Rattle.ed_words.specs.Texts.{Text}
+use Rattle.ed_run.specs.declared.settings.Settings.{Settings}
+use Rattle.ed_run.specs.declared.settings.Window.{Window}
 use Rattle.ed_answers.specs.Outcome.{Outcome, done, refusal}
 use Rattle.ed_answers.specs.Runs.{post_mortem_codes, ran_outcome, run_of, status_of, with_post_mortem}
 use Rattle.ed_answers.specs.Sources.{OfSource, entered_before, listing_outcome, of_source, punch_outcome, run_outcome}

@@ -4,12 +4,12 @@ use Rattle.ed_words.specs.declared.size.Size.TheVariants.{Full}
 use Rattle.ed_machine.specs.State.{State, cleared_state}
 use Rattle.ed_machine.specs.Start.{start_state}
 use Rattle.ed_run.specs.Run.{RunEnd, run_end}
+use Rattle.ed_run.specs.declared.settings.Settings.{Settings}
 use Rattle.ed_initial1.specs.Listing.{first_orders}
 use Rattle.ed_initial1.specs.Faults.{Tape, Comes1, IsFault1}
 use Rattle.ed_initial1.specs.Checks.{report1}
 use Rattle.ed_initial1.specs.declared.cause.Tape1Cause.{Tape1Cause}
 use Rattle.ed_report.specs.FirstNotes.{rule1_line}
-use Rattle.ed_answers.specs.declared.settings.Settings.{Settings}
 use Rattle.ed_answers.specs.Answer.{Answer, exactly, of_rows}
 use Rattle.ed_answers.specs.Outcome.{Outcome, done, refusal}
 use Rattle.ed_answers.specs.Runs.{paper_room, ran_outcome}

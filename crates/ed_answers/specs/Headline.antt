@@ -10,8 +10,8 @@ use Rattle.ed_answers.specs.EntryState.{Enters, entry_state}
 use Rattle.ed_answers.specs.EntryWords.{EntryHasWords}
 use Rattle.ed_printer.specs.Paper.{paper}
 use Rattle.ed_report.specs.Notes.{entry_note}
-use Rattle.ed_answers.specs.declared.settings.Settings.{Settings}
 use Rattle.ed_words.specs.Texts.{Text}
+use Rattle.ed_run.specs.declared.settings.Settings.{Settings}
 use Rattle.ed_answers.specs.Runs.{paper_room, post_mortem_codes, ran_outcome, run_of, with_post_mortem}
 use Rattle.ed_answers.specs.Sources.{run_outcome}
 

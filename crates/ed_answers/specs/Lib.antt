@@ -1,4 +1,3 @@
-pub mod SettingRanges
 pub mod Refusals
 pub mod EntryState
 pub mod EntryWords

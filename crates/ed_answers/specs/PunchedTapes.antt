@@ -6,8 +6,8 @@ use Rattle.ed_link.specs.Linked.{entry_of}
 use Rattle.ed_answers.specs.Refusals.{IsAcceptedAs}
 use Rattle.ed_link.specs.Tapes.{cost, punched_rows, tape}
 use Rattle.ed_report.specs.Entries.{entry_line}
-use Rattle.ed_answers.specs.declared.settings.Settings.{Settings}
 use Rattle.ed_words.specs.Texts.{Text}
+use Rattle.ed_run.specs.declared.settings.Settings.{Settings}
 use Rattle.ed_answers.specs.Outcome.{done}
 use Rattle.ed_answers.specs.Tapes.{IsChecked, tape_outcome}
 use Rattle.ed_answers.specs.Sources.{punch_outcome, run_outcome}

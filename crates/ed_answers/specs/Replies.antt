@@ -5,6 +5,10 @@ use Rattle.ed_codes.specs.declared.tape.TextFault.TheVariants.{NoRow, OpenCommen
 use Rattle.ed_words.specs.declared.size.Size.{Size}
 use Rattle.ed_machine.specs.State.{State}
 use Rattle.ed_run.specs.Run.{RunEnd}
+use Rattle.ed_run.specs.SettingRanges.{IsWindowOf}
+use Rattle.ed_run.specs.declared.settings.Settings.{Settings}
+use Rattle.ed_run.specs.declared.settings.Window.{Window}
+use Rattle.ed_postmortem.specs.Answers.{enough_orders}
 use Rattle.ed_syntax.specs.declared.program.Line.{Line}
 use Rattle.ed_syntax.specs.declared.fault.SourceCause.{SourceCause}
 use Rattle.ed_syntax.specs.declared.fault.SourceFault.TheVariants.{At}
@@ -12,9 +16,6 @@ use Rattle.ed_answers.specs.Refusals.{IsAcceptedAs, IsRefused}
 use Rattle.ed_link.specs.Answers.{IsLinked}
 use Rattle.ed_link.specs.declared.linked.Linked.{Linked}
 use Rattle.ed_link.specs.Tapes.{tape}
-use Rattle.ed_answers.specs.SettingRanges.{IsWindowOf}
-use Rattle.ed_answers.specs.declared.settings.Settings.{Settings}
-use Rattle.ed_answers.specs.declared.settings.Window.{Window}
 use Rattle.ed_report.specs.Notes.{ending_line, source_fault_line, text_fault_line}
 use Rattle.ed_words.specs.Texts.{Text}
 use Rattle.ed_answers.specs.Outcome.{Outcome, refusal}
@@ -67,7 +68,7 @@ pub record IsRan (r : RunEnd) (ran : FinishedRun) : Type 0 where
 
 -- the words in a window can be printed from a state: they are within the store, and the count of orders has room
 abbrev pub IsPrintableIn : State → Window → Type 0
-IsPrintableIn s w = IsWindowOf s.size w × (s.orders + 300000 ≤ 2 ^ 63)
+IsPrintableIn s w = IsWindowOf s.size w × (s.orders + enough_orders ≤ 2 ^ 63)
 
 -- a run of a source that ended is that of its tape, with its note
 pub record IsRanOf (s : Settings) (lines : List Line) (noted : NotedRun) : Type 0 where

@@ -14,8 +14,8 @@ use Rattle.ed_link.specs.Tapes.{after_text, cost, tape}
 use Rattle.ed_answers.specs.EntryState.{entry_store}
 use Rattle.ed_report.specs.Listings.{listing}
 use Rattle.ed_report.specs.Notes.{entry_note, source_fault_line}
-use Rattle.ed_answers.specs.declared.settings.Settings.{Settings}
 use Rattle.ed_words.specs.Texts.{Text}
+use Rattle.ed_run.specs.declared.settings.Settings.{Settings}
 use Rattle.ed_answers.specs.Outcome.{Outcome, done, refusal}
 use Rattle.ed_answers.specs.Answer.{Answer, of_input}
 use Rattle.ed_answers.specs.Runs.{ran_outcome, run_of, with_post_mortem}

@@ -8,10 +8,10 @@ ghost use Rattle.ed_store.specs.Cells.{cleared_cells};
 
 use crate::reply::{Rejection, Reply};
 use crate::rows::rows_of;
-use crate::settings::Settings;
 use ed_codes::Code;
 use ed_notation::{Checked, TapeFault, check};
 use ed_report::{entry_text, tape_fault};
+use ed_run::Settings;
 use ed_store::Store;
 use ed_words::{NoMemory, Size};
 use std::alloc::Global;

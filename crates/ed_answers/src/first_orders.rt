@@ -8,11 +8,11 @@ use crate::check::entry_reply;
 use crate::reply::{Rejection, Reply};
 use crate::rows::rows_of;
 use crate::running::{FinishedRun, ended_reply, run_machine};
-use crate::settings::Settings;
 use ed_codes::Code;
 use ed_initial1::{Tape1Fault, check1, orders1};
 use ed_machine::Machine;
 use ed_report::tape1_fault;
+use ed_run::Settings;
 use ed_words::{NoMemory, Size};
 use std::alloc::Global;
 

@@ -16,7 +16,6 @@ mod input;
 mod reply;
 mod rows;
 mod running;
-mod settings;
 mod source;
 mod tapes;
 
@@ -27,6 +26,5 @@ pub use input::{INPUT_BYTES, TOO_LONG};
 pub use reply::{Rejection, Reply};
 pub use rows::rows_of;
 pub use running::{FinishedRun, ran_reply, run_rows, status_of, window_printed};
-pub use settings::{Settings, Window};
 pub use source::{NotedRun, linked_of, list, list_linked, punch, run, run_source};
 pub use tapes::tape;

@@ -1,20 +1,20 @@
 ghost use Rattle.std.specs.Prelude.{◌≡◌, ◌<◌, ◌≤◌, ◌+◌, ◌-◌, ◌^◌, ◌++◌, IfErr, IfOk, IfSome};
 ghost use Rattle.ed_run.specs.Run.{run_end};
 ghost use Rattle.ed_printer.specs.Paper.{paper};
+ghost use Rattle.ed_run.specs.SettingRanges.{IsWindowOf};
+ghost use Rattle.ed_postmortem.specs.Answers.{enough_orders};
 ghost use Rattle.ed_postmortem.specs.Codes.{printed_codes};
 ghost use Rattle.ed_report.specs.Notes.{ending_line};
-ghost use Rattle.ed_answers.specs.SettingRanges.{IsWindowOf};
 ghost use Rattle.ed_answers.specs.Replies.{Gives, IsPrintableIn, IsRan};
 ghost use Rattle.ed_answers.specs.Runs.{paper_room, post_mortem_codes, run_of, status_of};
 
 use crate::entering::started;
 use crate::reply::Reply;
-use crate::settings::{Settings, Window};
 use ed_codes::Code;
 use ed_machine::{Ending, Machine, Paper};
 use ed_postmortem::{PmFault, post_mortem};
 use ed_report::{ending_text, paper_text, papers_text};
-use ed_run::run;
+use ed_run::{Settings, Window, run};
 use ed_words::NoMemory;
 use std::alloc::Global;
 
@@ -132,7 +132,7 @@ pub fn window_printed(
     machine: &mut Machine,
 ) -> Result<Paper, NoMemory>
     requires window { IsWindowOf machine.old.size window }
-    requires orders { machine.old.orders + 300000 ≤ 2 ^ 63 }
+    requires orders { machine.old.orders + enough_orders ≤ 2 ^ 63 }
     ensures { IfOk result (λ p. p.codes ≡ printed_codes machine.old.store.words window.first window.count) }
 {
     let mut paper = Paper::new(alloc, POST_MORTEM_ROOM)?;

@@ -1,11 +1,11 @@
-ghost use Rattle.ed_answers.specs.SettingRanges.{AreSettingsInRange};
+ghost use Rattle.ed_run.specs.SettingRanges.{AreSettingsInRange};
 ghost use Rattle.ed_answers.specs.Replies.{Replies};
 ghost use Rattle.ed_answers.specs.Tapes.{tape_answer};
 
 use crate::reply::{Rejection, Reply};
 use crate::rows::rows_of;
 use crate::running::{ended_reply, run_rows};
-use crate::settings::Settings;
+use ed_run::Settings;
 use std::alloc::Global;
 
 /// `tape`: the run of a text's rows.

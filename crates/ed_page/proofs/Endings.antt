@@ -8,9 +8,9 @@ use Rattle.ed_link.specs.Tapes.{tape}
 use Rattle.ed_printer.specs.Paper.{paper}
 use Rattle.ed_run.specs.Run.{RunEnd}
 use Rattle.ed_report.specs.Notes.{ending_line}
-use Rattle.ed_answers.specs.declared.settings.Settings.{Settings}
-use Rattle.ed_answers.specs.declared.settings.Window.{Window}
 use Rattle.ed_words.specs.Texts.{Text}
+use Rattle.ed_run.specs.declared.settings.Settings.{Settings}
+use Rattle.ed_run.specs.declared.settings.Window.{Window}
 use Rattle.ed_answers.specs.Runs.{post_mortem_codes, ran_outcome, run_of, status_of, with_post_mortem}
 use Rattle.ed_answers.specs.Sources.{entered_before, run_outcome}
 use Rattle.ed_answers.specs.Tapes.{tape_outcome}

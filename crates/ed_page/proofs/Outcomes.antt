@@ -1,6 +1,6 @@
 -- The run of each kind of program has an outcome.
 use Rattle.ed_words.specs.Texts.{Text}
-use Rattle.ed_answers.specs.declared.settings.Settings.{Settings}
+use Rattle.ed_run.specs.declared.settings.Settings.{Settings}
 use Rattle.ed_answers.specs.Answer.{IsDue, of_input}
 use Rattle.ed_answers.specs.Outcome.{Outcome}
 use Rattle.ed_answers.specs.Sources.{run_outcome}

@@ -12,7 +12,6 @@ use Rattle.ed_answers.specs.Refusals.{IsAcceptedAs}
 use Rattle.ed_answers.proofs.EachSource.{one_answer}
 use Rattle.ed_link.specs.Tapes.{tape}
 use Rattle.ed_report.specs.Notes.{ending_line, source_fault_line}
-use Rattle.ed_answers.specs.declared.settings.Settings.{Settings}
 use Rattle.ed_answers.specs.Answer.{OfReading, exactly, of_input}
 use Rattle.ed_words.specs.Texts.{Text}
 use Rattle.ed_answers.specs.Outcome.{Outcome, refusal}
@@ -24,6 +23,7 @@ use Rattle.ed_answers.specs.declared.reply.Rejection.TheVariants.{Memory, Refuse
 use Rattle.ed_answers.specs.declared.reply.Reply.{Reply}
 use Rattle.ed_answers.specs.declared.source.NotedRun.{NotedRun}
 use Rattle.ed_run.specs.Run.{RunEnd}
+use Rattle.ed_run.specs.declared.settings.Settings.{Settings}
 use Rattle.ed_page.specs.Answers.{RowsEnd, SourceEnds}
 use Rattle.ed_page.specs.Private.Stages.{IsAnswered, IsReplied, Runs}
 use Rattle.ed_page.proofs.Endings.{noted_run}

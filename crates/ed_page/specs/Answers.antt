@@ -6,7 +6,6 @@ use Rattle.ed_machine.specs.State.{State}
 use Rattle.ed_syntax.specs.declared.program.Line.{Line}
 use Rattle.ed_answers.specs.Refusals.{IsAcceptedAs}
 use Rattle.ed_link.specs.Tapes.{tape}
-use Rattle.ed_answers.specs.declared.settings.Settings.{Settings}
 use Rattle.ed_words.specs.Texts.{Text}
 use Rattle.ed_answers.specs.declared.input.TheConstants.{INPUT_BYTES}
 use Rattle.ed_answers.specs.Outcome.{Outcome, done, too_long}
@@ -14,6 +13,7 @@ use Rattle.ed_answers.specs.Answer.{Answer, IsDue}
 use Rattle.ed_answers.specs.FirstOrders.{run1_of}
 use Rattle.ed_answers.specs.Runs.{run_of}
 use Rattle.ed_run.specs.Run.{RunEnd}
+use Rattle.ed_run.specs.declared.settings.Settings.{Settings}
 use Rattle.ed_page.specs.Pictures.{Pictures, last_shown}
 use Rattle.ed_page.specs.declared.writing.Lengths.{Lengths}
 use Rattle.ed_page.specs.declared.writing.Registers.{Registers}

@@ -6,7 +6,7 @@ use Rattle.ed_words.specs.declared.size.Size.{Size}
 use Rattle.ed_words.specs.declared.size.Size.TheVariants.{Small, Full}
 use Rattle.ed_store.specs.Cells.{Cells, short_at, sandwich_at}
 use Rattle.ed_machine.specs.State.{State}
-use Rattle.ed_answers.specs.declared.settings.Settings.{Settings}
+use Rattle.ed_run.specs.declared.settings.Settings.{Settings}
 use Rattle.ed_page.specs.declared.writing.Registers.{Registers}
 
 -- 512 locations or 1,024

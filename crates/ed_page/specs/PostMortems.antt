@@ -2,8 +2,8 @@
 use Rattle.std.specs.Prelude.{◌≡◌, ◌≢◌, ℕ, ◌≤◌, Some, List, length}
 use Rattle.ed_words.specs.declared.size.Size.{Size}
 use Rattle.ed_machine.specs.State.{State}
-use Rattle.ed_answers.specs.SettingRanges.{IsWindowOf}
-use Rattle.ed_answers.specs.declared.settings.Window.{Window}
+use Rattle.ed_run.specs.SettingRanges.{IsWindowOf}
+use Rattle.ed_run.specs.declared.settings.Window.{Window}
 use Rattle.ed_answers.specs.Runs.{post_mortem_codes}
 use Rattle.ed_page.specs.Answers.{HasItsCause, Holds}
 

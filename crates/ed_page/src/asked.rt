@@ -12,10 +12,9 @@ use crate::items::row_items;
 use crate::texts::row_codes;
 use crate::told::{NO_MEMORY, TOO_LONG_STATUS, tell};
 use crate::writing::Lengths;
-use ed_answers::{
-    INPUT_BYTES, Rejection, Reply, Settings, TOO_LONG, linked_of, list, punch, rows_of,
-};
+use ed_answers::{INPUT_BYTES, Rejection, Reply, TOO_LONG, linked_of, list, punch, rows_of};
 use ed_codes::Code;
+use ed_run::Settings;
 use ed_words::Size;
 use std::alloc::Global;
 

@@ -13,7 +13,7 @@ ghost use Rattle.ed_answers.specs.Tapes.{first_note};
 ghost use Rattle.ed_page.specs.Private.ItemTables.{IsSetAs, IsSetBelow, first_notation, is_last_row, item_at};
 ghost use Rattle.ed_page.specs.Private.ItemTables.{notation_after, note_over};
 ghost use Rattle.ed_page.specs.Private.ItemTables.{placing_over, table_on, whole_item, opened_with};
-ghost use Rattle.ed_page.specs.Private.Stages.{IsAnswered, HasRowsToEntry};
+ghost use Rattle.ed_page.specs.Private.Stages.{HasRowsToEntry, IsAnswered};
 ghost use Rattle.ed_page.specs.TapeItems.{IsItemsOutcome, PlacingLaw, four_bytes, item_line, items_answer};
 ghost use Rattle.ed_answers.specs.declared.input.TheConstants.{INPUT_BYTES};
 

@@ -18,8 +18,9 @@ ghost use Rattle.ed_page.specs.Private.Stages.{WritesBuffers, told_outcome};
 use crate::running::{InitialOrders, ProgramKind, picture_of, run_settings};
 use crate::told::{NO_MEMORY, NO_ROOM, TOO_LONG_STATUS, write_texts};
 use crate::writing::{NO_CODE, Registers, registers_of, write_store};
-use ed_answers::{INPUT_BYTES, Settings, TOO_LONG};
+use ed_answers::{INPUT_BYTES, TOO_LONG};
 use ed_machine::Machine;
+use ed_run::Settings;
 use ed_words::NoMemory;
 use std::alloc::Global;
 

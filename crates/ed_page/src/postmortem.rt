@@ -1,10 +1,11 @@
 //! The post-mortem of the state that a picture shows.
 
 ghost use Rattle.std.specs.Prelude.{◌≡◌, ◌⊎◌, ◌≢◌, ◌↔◌, ℕ, ◌+◌, ◌^◌, ◌≤◌, IfOk, IsTrue, List, Some, length};
-ghost use Rattle.ed_answers.specs.SettingRanges.{IsWindowOf};
-ghost use Rattle.ed_answers.specs.declared.settings.Window.{Window};
 ghost use Rattle.ed_machine.specs.State.{State};
 ghost use Rattle.ed_machine.specs.Steps.{state_after};
+ghost use Rattle.ed_run.specs.SettingRanges.{IsWindowOf};
+ghost use Rattle.ed_run.specs.declared.settings.Window.{Window};
+ghost use Rattle.ed_postmortem.specs.Answers.{enough_orders};
 ghost use Rattle.ed_answers.specs.Runs.{post_mortem_codes};
 ghost use Rattle.ed_page.specs.Going.{CanGoOn, IsAfterStart};
 ghost use Rattle.ed_page.specs.Pictures.{Pictures, size_shown};
@@ -14,9 +15,10 @@ use crate::pictured::pictured;
 use crate::running::size_of;
 use crate::told::{NO_MEMORY, NO_ROOM};
 use crate::writing::{Registers, write_codes};
-use ed_answers::{Window, window_printed};
+use ed_answers::window_printed;
 use ed_codes::Code;
 use ed_machine::Paper;
+use ed_run::Window;
 use ed_words::{NoMemory, Size};
 use std::alloc::Global;
 
@@ -46,7 +48,7 @@ pub extern "C" fn page_post_mortem(
     printed: &mut u64,
 ) -> u32
     requires picture { CanGoOn small rows.now words.now digits.now registers.now }
-    requires orders { registers.now.orders + 300000 ≤ 2 ^ 63 }
+    requires orders { registers.now.orders + enough_orders ≤ 2 ^ 63 }
     ensures told { length words.now ≡ 1024 → length digits.now ≡ 512
         → (s : State) → IsAfterStart small rows.now s → (k : ℕ)
         → Pictures (state_after k s) words.now digits.now registers.now
@@ -89,7 +91,7 @@ fn printed_paper(
     requires words { length words.now ≡ 1024 }
     requires digits { length digits.now ≡ 512 }
     requires picture { CanGoOn small rows.now words.now digits.now registers.now }
-    requires orders { registers.now.orders + 300000 ≤ 2 ^ 63 }
+    requires orders { registers.now.orders + enough_orders ≤ 2 ^ 63 }
     requires window { IsWindowOf (size_shown small) window }
     ensures { IfOk result (λ paper. (s : State) → IsAfterStart small rows.now s → (k : ℕ)
         → Pictures (state_after k s) words.now digits.now registers.now

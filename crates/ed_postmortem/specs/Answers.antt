@@ -27,6 +27,10 @@ pub record IsUntouched (i : ℕ) : Type 0 where
   pub no_46 : i ≢ 46
   pub apart : (i < 56) ⊎ (139 < i)
 
+-- more orders than any post-mortem obeys
+abbrev pub enough_orders : ℕ
+enough_orders = 300000
+
 -- the words can be printed: they are after the post-mortem's own, and within the store
 pub record InRange (s : State) (first count : ℕ) : Type 0 where
   pub above : 144 ≤ first

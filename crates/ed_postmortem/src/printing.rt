@@ -1,5 +1,6 @@
 ghost use Rattle.std.specs.Prelude.{◌≡◌, ◌+◌, ◌^◌, ◌≤◌, length};
-ghost use Rattle.ed_postmortem.specs.Answers.{AnswersPrinting, InRange, IsPrinted, PaperIsEnough, needed_of, room_of};
+ghost use Rattle.ed_postmortem.specs.Answers.{AnswersPrinting, InRange, IsPrinted, PaperIsEnough};
+ghost use Rattle.ed_postmortem.specs.Answers.{enough_orders, needed_of, room_of};
 ghost use Rattle.ed_postmortem.specs.Codes.{AddressDigitsLaw, printed_codes, word_codes};
 ghost use Rattle.ed_postmortem.specs.Tape.{tape_rows};
 
@@ -30,7 +31,7 @@ pub fn post_mortem(
     count: u16,
     paper: &mut Paper,
 ) -> Result<u64, PmFault>
-    requires { machine.old.orders + 300000 ≤ 2 ^ 63 }
+    requires { machine.old.orders + enough_orders ≤ 2 ^ 63 }
     ensures answers { AnswersPrinting machine.old paper.old first count result machine.new paper.new }
     ensures law { PaperIsEnough }
     ensures digits { AddressDigitsLaw }
@@ -52,7 +53,7 @@ pub fn post_mortem(
 
 /// Starts the machine on the tape and obeys it to its stop.
 fn obey(machine: &mut Machine, first: u16, count: u16, rows: Vec<Code>, paper: &mut Paper) -> u64
-    requires orders { machine.old.orders + 300000 ≤ 2 ^ 63 }
+    requires orders { machine.old.orders + enough_orders ≤ 2 ^ 63 }
     requires range { InRange machine.old first count }
     requires room { needed_of machine.old first count ≤ room_of paper.old }
     requires rows { rows.items ≡ tape_rows first count }

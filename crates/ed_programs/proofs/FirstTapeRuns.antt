@@ -16,10 +16,10 @@ use Rattle.ed_initial1.specs.Faults.{Comes1, Tape}
 use Rattle.ed_initial1.specs.Items.{AreItems, Item1, item_number}
 use Rattle.ed_run.specs.Run.{run_end}
 use Rattle.ed_printer.specs.Paper.{paper}
+use Rattle.ed_run.specs.declared.settings.Settings.{Settings}
 use Rattle.ed_report.specs.Notes.{at_after}
 use Rattle.ed_routines.proofs.Journeys.{ComesToStop}
 use Rattle.ed_top.proofs.Making.Stops.{ran_to_stop}
-use Rattle.ed_answers.specs.declared.settings.Settings.{Settings}
 use Rattle.ed_answers.specs.declared.input.TheConstants.{INPUT_BYTES}
 use Rattle.ed_answers.specs.Answer.{OfReading, exactly}
 use Rattle.ed_answers.specs.FirstEntry.{cost1}

@@ -4,6 +4,7 @@ use Rattle.std.proofs.Common.{append-nil, length, length-append, lit≤}
 use Rattle.std.proofs.lemmas.List.{length-replicate}
 use Rattle.ed_words.proofs.Numbers.{lt_true}
 use Rattle.ed_words.specs.declared.size.Size.{Size}
+use Rattle.ed_run.specs.declared.settings.Settings.{Settings}
 use Rattle.ed_library.specs.Images.{parameter_store}
 use Rattle.ed_maths.specs.Quotients.{divide, divide_orders, with_hnm}
 use Rattle.ed_syntax.specs.Private.Grammar.{settings}
@@ -15,7 +16,6 @@ use Rattle.ed_routines.proofs.Digits.{few_digits}
 use Rattle.ed_routines.proofs.Journeys.{ComesToStop}
 use Rattle.ed_top.proofs.Making.AtEntry.{all_words}
 use Rattle.ed_top.proofs.Making.Entries.{frame_at, moment_at}
-use Rattle.ed_answers.specs.declared.settings.Settings.{Settings}
 use Rattle.ed_programs.specs.Fraction.{figure_orders, fraction_orders, fraction_prints, fraction_data, fraction_pieces}
 use Rattle.ed_programs.specs.Fraction.{fraction_text}
 use Rattle.ed_programs.specs.Programs.{SourceRuns}

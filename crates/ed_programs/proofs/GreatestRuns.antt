@@ -7,6 +7,7 @@ use Rattle.std.proofs.lemmas.Bool.{and_parts}
 use Rattle.ed_words.proofs.Numbers.{lt_of}
 use Rattle.ed_words.proofs.SizeLemmas.{least}
 use Rattle.ed_words.specs.declared.size.Size.{Size}
+use Rattle.ed_run.specs.declared.settings.Settings.{Settings}
 use Rattle.ed_library.specs.Images.{parameter_store}
 use Rattle.ed_syntax.specs.Private.Grammar.{settings}
 use Rattle.ed_syntax.specs.declared.program.Line.{Line}
@@ -18,7 +19,6 @@ use Rattle.ed_routines.proofs.Journeys.{ComesToStop}
 use Rattle.ed_top.proofs.Making.AtEntry.{all_words, have_places, placed, word_at}
 use Rattle.ed_top.proofs.Making.Entries.{frame_at, moment_at}
 use Rattle.ed_top.proofs.Making.Papers.{digits_printed}
-use Rattle.ed_answers.specs.declared.settings.Settings.{Settings}
 use Rattle.ed_programs.specs.Greatest.{greatest_of, greatest_orders, greatest_prints, greatest_pieces, greatest_text}
 use Rattle.ed_programs.specs.Greatest.{rises}
 use Rattle.ed_programs.specs.Programs.{SourceRuns}

@@ -15,12 +15,12 @@ use Rattle.ed_link.specs.Linked.{symbols_of, operand_number}
 use Rattle.ed_answers.specs.Refusals.{IsAcceptedAs}
 use Rattle.ed_answers.specs.EntryState.{entry_state}
 use Rattle.ed_printer.specs.Paper.{paper}
+use Rattle.ed_run.specs.declared.settings.Settings.{Settings}
 use Rattle.ed_checker.specs.Checker.{checked_codes, checked_orders, guest, planting_place}
 use Rattle.ed_checker.specs.Laws.{HasGuest}
 use Rattle.ed_checker.proofs.Follow.{checker_law}
 use Rattle.ed_top.proofs.Making.CheckedPaper.{checks_to_stop}
 use Rattle.ed_top.proofs.Making.Stops.{comes_to_stop}
-use Rattle.ed_answers.specs.declared.settings.Settings.{Settings}
 use Rattle.ed_answers.specs.Headline.{RunsFromEntry}
 use Rattle.ed_answers.specs.Sources.{OfSource, run_outcome}
 use Rattle.ed_answers.proofs.Sources.{accepted_is, headline}

@@ -19,6 +19,7 @@ use Rattle.ed_codes.specs.Text.{Spells, none, row}
 use Rattle.ed_codes.specs.Reading.{IsReadingOf, reading, rows}
 use Rattle.ed_codes.proofs.Pieces.{spells_append}
 use Rattle.ed_codes.proofs.Readings.{has_one_reading}
+use Rattle.ed_run.specs.declared.settings.Settings.{Settings}
 use Rattle.ed_notation.specs.Items.{AreDigits, rows_of, spelled_rows}
 use Rattle.ed_notation.proofs.Canonical.{digits_are}
 use Rattle.ed_notation.specs.Faults.{ComesTo, TapeEntry, WellFormed}
@@ -30,7 +31,6 @@ use Rattle.ed_interlude.specs.Returned.{ComesBack, directive}
 use Rattle.ed_answers.specs.EntryState.{first_state}
 use Rattle.ed_top.specs.CallSources.{text_of_lines}
 use Rattle.ed_top.proofs.Making.Decimals.{decimal_is, few_bytes, written}
-use Rattle.ed_answers.specs.declared.settings.Settings.{Settings}
 use Rattle.ed_programs.specs.Interlude.{interlude_front, interlude_line, interlude_parts, interlude_prints}
 use Rattle.ed_programs.specs.Interlude.{interlude_rest}
 use Rattle.ed_programs.specs.Interlude.{interlude_room, interlude_text}

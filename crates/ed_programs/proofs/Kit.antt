@@ -14,7 +14,7 @@ unfoldable pub use Rattle.ed_syntax.specs.Private.Grammar.{settings}
 pub use Rattle.ed_syntax.specs.declared.program.Line.{Line}
 pub use Rattle.ed_answers.specs.EntryState.{entry_state}
 pub use Rattle.ed_printer.specs.Paper.{paper}
-pub use Rattle.ed_answers.specs.declared.settings.Settings.{Settings}
+pub use Rattle.ed_run.specs.declared.settings.Settings.{Settings}
 pub use Rattle.ed_machine.proofs.Kit.Frames.{Frame, Moment, short, state}
 pub use Rattle.ed_machine.proofs.Kit.Places.{any, early, out, own}
 pub use Rattle.ed_machine.proofs.Kit.Orders.{word_is}

@@ -8,8 +8,8 @@ use Rattle.ed_initial1.specs.Faults.{Comes1, Tape}
 use Rattle.ed_initial1.specs.Items.{Item1, spelled_rows1}
 use Rattle.ed_machine.proofs.Kit.Frames.{Moment, state}
 use Rattle.ed_machine.proofs.Kit.Window.{patched}
+use Rattle.ed_run.specs.declared.settings.Settings.{Settings}
 use Rattle.ed_routines.proofs.Journeys.{ComesToStop}
-use Rattle.ed_answers.specs.declared.settings.Settings.{Settings}
 use Rattle.ed_answers.specs.declared.input.TheConstants.{INPUT_BYTES}
 use Rattle.ed_answers.specs.FirstOrders.{first_state1}
 use Rattle.ed_answers.specs.Runs.{paper_room}

@@ -25,11 +25,11 @@ use Rattle.ed_run.specs.Run.{RunEnd, run_end}
 use Rattle.ed_run.proofs.Later.{ran_later}
 use Rattle.ed_printer.specs.Paper.{paper}
 use Rattle.ed_machine.proofs.Kit.Standing.{Holds}
+use Rattle.ed_run.specs.declared.settings.Settings.{Settings}
 use Rattle.ed_routines.proofs.Journeys.{ComesToStop}
 use Rattle.ed_top.proofs.Making.Stops.{ran_to_stop}
 use Rattle.ed_top.proofs.Making.Decimals.{among, numbers}
 use Rattle.ed_top.proofs.Making.Entries.{is_met, meets_of}
-use Rattle.ed_answers.specs.declared.settings.Settings.{Settings}
 use Rattle.ed_answers.specs.Answer.{OfReading, exactly}
 use Rattle.ed_answers.specs.Tapes.{first_note, tape_outcome}
 use Rattle.ed_answers.specs.Runs.{paper_room, ran_outcome, run_of, with_post_mortem}

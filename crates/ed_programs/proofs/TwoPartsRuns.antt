@@ -34,6 +34,7 @@ use Rattle.ed_machine.proofs.Kit.Frames.{Frame, Moment, state}
 use Rattle.ed_machine.proofs.Kit.Leads.{Leads, free, goes_on, joined, no_stops, obeyed_of}
 use Rattle.ed_machine.proofs.Kit.Paths.{Path, no_state, on, prints, stay}
 use Rattle.ed_machine.proofs.Kit.Paths as paths
+use Rattle.ed_run.specs.declared.settings.Settings.{Settings}
 use Rattle.ed_routines.proofs.Journeys.{ComesToStop, stop_after}
 use Rattle.ed_report.specs.Entries.{entry_line, returned_line}
 use Rattle.ed_report.specs.Notes.{at_after}
@@ -44,7 +45,6 @@ use Rattle.ed_interlude.specs.Parts.{PartsReport, entry_done, entry_report, fini
 use Rattle.ed_interlude.specs.Parts.{part_entry_state}
 use Rattle.ed_interlude.specs.Parts.{program_end, part_report}
 use Rattle.ed_interlude.specs.declared.tape.PartsEnd.TheVariants.{Ended}
-use Rattle.ed_answers.specs.declared.settings.Settings.{Settings}
 use Rattle.ed_answers.specs.declared.input.TheConstants.{INPUT_BYTES}
 use Rattle.ed_answers.specs.Answer.{OfReading, exactly}
 use Rattle.ed_answers.specs.Outcome.{Outcome}

@@ -4,10 +4,10 @@ use Rattle.std.specs.Prelude.{Result, Ok, Err, String, string_bytes}
 use Rattle.std.specs.declared.alloc.Global.{Global}
 use Rattle.ed_words.specs.Texts.{Text}
 use Rattle.ed_codes.specs.Reading.{reading, rows}
+use Rattle.ed_run.specs.declared.settings.Settings.{Settings}
 use Rattle.ed_initial1.specs.Faults.{Comes1, Tape}
 use Rattle.ed_report.specs.Notes.{at_after}
-use Rattle.ed_top.specs.declared.command_line.command.Action.TheVariants.{Tape1}
-use Rattle.ed_answers.specs.declared.settings.Settings.{Settings}
+use Rattle.ed_command.specs.declared.command.Action.TheVariants.{Tape1}
 use Rattle.ed_answers.specs.Answer.{IsDue}
 use Rattle.ed_answers.specs.FirstEntry.{cost1}
 use Rattle.ed_top.specs.Output.{output}

@@ -8,6 +8,7 @@ use Rattle.ed_words.specs.Texts.{Text}
 use Rattle.ed_machine.specs.State.{State}
 use Rattle.ed_machine.specs.Steps.{state_after}
 use Rattle.ed_printer.specs.Paper.{paper}
+use Rattle.ed_run.specs.declared.settings.Settings.{Settings}
 use Rattle.ed_syntax.specs.declared.program.Operand.{Operand}
 use Rattle.ed_syntax.specs.declared.program.Operand.TheVariants.{Label}
 use Rattle.ed_syntax.specs.declared.program.Statement.{Statement}
@@ -20,7 +21,6 @@ use Rattle.ed_answers.specs.Refusals.{IsAcceptedAs}
 use Rattle.ed_answers.specs.EntryState.{entry_state}
 use Rattle.ed_checker.specs.Checker.{IsAllowed, checked_codes, checked_orders, guest, planting_place, saving_orders}
 use Rattle.ed_checker.specs.Laws.{IsFollowed, StopsAfter}
-use Rattle.ed_answers.specs.declared.settings.Settings.{Settings}
 use Rattle.ed_top.specs.CallSources.{text_of_lines}
 use Rattle.ed_answers.specs.Runs.{paper_room}
 use Rattle.ed_programs.specs.Programs.{SourceRuns}

@@ -5,13 +5,13 @@ use Rattle.std.specs.Prelude.{String, replicate, string_bytes}
 use Rattle.std.specs.declared.alloc.AllocError.{AllocError}
 use Rattle.std.specs.declared.alloc.Global.{Global}
 use Rattle.ed_words.specs.Texts.{Text}
+use Rattle.ed_run.specs.declared.settings.Settings.{Settings}
 use Rattle.ed_syntax.specs.declared.program.Line.{Line}
 use Rattle.ed_answers.specs.Refusals.{IsAcceptedAs}
 use Rattle.ed_link.specs.Linked.{entry_of}
 use Rattle.ed_link.specs.Tapes.{cost}
 use Rattle.ed_report.specs.Notes.{at_after, entry_note}
-use Rattle.ed_top.specs.declared.command_line.command.Action.TheVariants.{Run}
-use Rattle.ed_answers.specs.declared.settings.Settings.{Settings}
+use Rattle.ed_command.specs.declared.command.Action.TheVariants.{Run}
 use Rattle.ed_answers.specs.Answer.{IsDue}
 use Rattle.ed_answers.specs.Headline.{RunsFromEntry}
 use Rattle.ed_top.specs.Output.{output}

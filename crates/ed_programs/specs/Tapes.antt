@@ -5,10 +5,10 @@ use Rattle.std.specs.declared.alloc.Global.{Global}
 use Rattle.ed_words.specs.Texts.{Text}
 use Rattle.ed_codes.specs.Reading.{reading, rows}
 use Rattle.ed_store.specs.Cells.{cleared_cells}
+use Rattle.ed_run.specs.declared.settings.Settings.{Settings}
 use Rattle.ed_notation.specs.Faults.{ComesTo, TapeEntry, WellFormed}
 use Rattle.ed_report.specs.Notes.{at_after}
-use Rattle.ed_top.specs.declared.command_line.command.Action.TheVariants.{Tape}
-use Rattle.ed_answers.specs.declared.settings.Settings.{Settings}
+use Rattle.ed_command.specs.declared.command.Action.TheVariants.{Tape}
 use Rattle.ed_answers.specs.Answer.{IsDue}
 use Rattle.ed_top.specs.Output.{output}
 use Rattle.ed_answers.specs.Tapes.{first_note}

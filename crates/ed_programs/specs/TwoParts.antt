@@ -6,10 +6,10 @@ use Rattle.std.specs.declared.alloc.Global.{Global}
 use Rattle.ed_words.specs.Sizes.{locations}
 use Rattle.ed_words.specs.Texts.{Text}
 use Rattle.ed_codes.specs.Reading.{reading, rows}
+use Rattle.ed_run.specs.declared.settings.Settings.{Settings}
 use Rattle.ed_report.specs.Entries.{entry_line, returned_line}
 use Rattle.ed_report.specs.Notes.{at_after}
-use Rattle.ed_top.specs.declared.command_line.command.Action.TheVariants.{Parts, Tape}
-use Rattle.ed_answers.specs.declared.settings.Settings.{Settings}
+use Rattle.ed_command.specs.declared.command.Action.TheVariants.{Parts, Tape}
 use Rattle.ed_answers.specs.Answer.{IsDue}
 use Rattle.ed_top.specs.Output.{output}
 use Rattle.ed_programs.specs.declared.refusal.Refusal.{Refusal}

@@ -36,8 +36,8 @@ use Rattle.ed_link.specs.Tapes.{cost}
 use Rattle.ed_link.proofs.Bounds.{rows_few}
 use Rattle.ed_answers.specs.EntryState.{entry_state}
 use Rattle.ed_report.specs.Notes.{at_after, entry_note}
-use Rattle.ed_answers.specs.declared.settings.Settings.{Settings}
 use Rattle.ed_words.specs.Texts.{Text}
+use Rattle.ed_run.specs.declared.settings.Settings.{Settings}
 use Rattle.ed_top.specs.Calls.{CallRuns, EachCallRuns, GuestStops, call_entry, call_orders, call_prints, call_stop}
 use Rattle.ed_top.specs.Calls.{CallsByDefault, of_made_source, usual_settings}
 use Rattle.ed_answers.specs.Headline.{RunsFromEntry}

@@ -2,6 +2,7 @@
 use Rattle.std.proofs.Common.{◌≡◌, ◌∙◌, ℕ, List, [], refl, sym, ap, subst, append-nil}
 use Rattle.std.specs.Prelude.{Ok, Err}
 use Rattle.ed_machine.specs.State.{State}
+use Rattle.ed_run.specs.declared.settings.Settings.{Settings}
 use Rattle.ed_answers.specs.EntryState.{first_state}
 use Rattle.ed_interlude.specs.Parts.{PartsAnswer, IsReportOfTape, PartsReport}
 use Rattle.ed_interlude.specs.declared.tape.PartsEnd.{PartsEnd}
@@ -9,7 +10,6 @@ use Rattle.ed_io.specs.Causes.{stop_faults}
 use Rattle.ed_io.specs.declared.stop.WriteStop.{WriteStop}
 use Rattle.ed_io.specs.declared.stop.WriteStop.TheVariants.{Failed, Memory}
 use Rattle.ed_interlude.proofs.Tales.{each_told_once}
-use Rattle.ed_answers.specs.declared.settings.Settings.{Settings}
 use Rattle.ed_answers.specs.Answer.{Answer, of_input}
 use Rattle.ed_top.specs.Clause.{Device, Wrote, WrotePart}
 use Rattle.ed_top.specs.Parts.{IsInParts, end_note, end_status, report_outcome}

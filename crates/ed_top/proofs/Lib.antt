@@ -1,4 +1,3 @@
-mod CommandLine
 mod Made
 mod FirstParts
 pub mod Scripts

@@ -19,7 +19,7 @@ none_replied answers (Ok reply) is some = absurd (cc)
 none_replied answers (Err Memory) is some = (some.0, some.1, tt)
 none_replied answers (Err (Refused reply)) is some = absurd (cc)
 
--- a rejection with a line, or one for no memory if none was found for the line
+-- a rejection with a line, or the one for memory if none was found for the line
 pub line_replied : (answers : Outcome → Type 0) (line : Result (Vec ℕ Global) NoMemory) (text : Text) (e : Rejection)
     → IfOk line (λ v. v.items ≡ text) → IfOk line (λ v. Refuses v.items e) → (IsErr line → e ≡ Memory)
     → answers (refusal text) → Replies (of_made answers) [] (Err e)

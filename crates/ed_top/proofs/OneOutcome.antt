@@ -3,11 +3,11 @@ use Rattle.std.proofs.Common.{◌≡◌, ◌⊎◌, inl, inr, ◌∙◌, ℕ, re
 use Rattle.std.specs.Prelude.{Option, Some, None}
 use Rattle.ed_report.specs.Catalogue.{library_text}
 use Rattle.ed_report.specs.Notes.{bad_command_line}
-use Rattle.ed_answers.specs.declared.settings.Settings.{Settings}
-use Rattle.ed_top.specs.declared.command_line.command.Action.{Action}
-use Rattle.ed_top.specs.declared.command_line.command.Action.TheVariants.{Tape, CheckTape, Run, Punch, Listing, Library, Demo}
-use Rattle.ed_top.specs.declared.command_line.command.Action.TheVariants.{Call as CallOf, Tape1, CheckTape1, Step, Trace, Parts}
+use Rattle.ed_command.specs.declared.command.Action.{Action}
+use Rattle.ed_command.specs.declared.command.Action.TheVariants.{Tape, CheckTape, Run, Punch, Listing, Library, Demo}
+use Rattle.ed_command.specs.declared.command.Action.TheVariants.{Call as CallOf, Tape1, CheckTape1, Step, Trace, Parts}
 use Rattle.ed_words.specs.Texts.{Text}
+use Rattle.ed_run.specs.declared.settings.Settings.{Settings}
 use Rattle.ed_answers.specs.Outcome.{Outcome, done, refusal, usage_outcome}
 use Rattle.ed_answers.specs.Answer.{HasOneOutcome, of_input}
 use Rattle.ed_answers.specs.FirstOrders.{tape1_outcome}

@@ -20,12 +20,12 @@ use Rattle.ed_machine.proofs.Steps.{few_codes, past_next, past_sum}
 use Rattle.ed_run.specs.Run.{EndsAfter, RunEnd, end_at, end_by, prints, run_end, run_orders}
 use Rattle.ed_run.proofs.Ends.{ends_once, ran_ends}
 use Rattle.ed_printer.specs.Paper.{paper}
+use Rattle.ed_run.specs.declared.settings.Settings.{Settings}
 use Rattle.ed_answers.specs.EntryState.{first_state}
 use Rattle.ed_interlude.specs.Laws.{EndsAsRun}
 use Rattle.ed_interlude.specs.declared.tape.PartsEnd.{PartsEnd}
 use Rattle.ed_interlude.proofs.Runs.{each_end}
 use Rattle.ed_top.specs.Parts.{end_note, end_status}
-use Rattle.ed_answers.specs.declared.settings.Settings.{Settings}
 use Rattle.ed_top.specs.PartsRun.{EachTapeInPartsIsRun, EndsInParts, PartsAreRun, PartsFillPaper, printed_by, run_once}
 use Rattle.ed_answers.specs.Runs.{paper_room, ran_outcome}
 use Rattle.ed_top.proofs.MoveEndings.{ran_is}

@@ -19,8 +19,8 @@ use Rattle.ed_stepper.specs.declared.inputs.TextKind.TheVariants as kinds
 use Rattle.ed_syntax.specs.declared.program.Line.{Line}
 use Rattle.ed_link.specs.Tapes.{tape}
 use Rattle.ed_link.specs.declared.linked.Linked.{Linked}
-use Rattle.ed_answers.specs.declared.settings.Settings.{Settings}
 use Rattle.ed_words.specs.Texts.{Text}
+use Rattle.ed_run.specs.declared.settings.Settings.{Settings}
 use Rattle.ed_answers.specs.Answer.{of_input, of_made}
 use Rattle.ed_top.specs.Scripts.{OfDivided, OfStep, OnInput, OnText, on_reading, on_rows, played_outcome}
 use Rattle.ed_top.specs.Scripts.{script_outcome}

@@ -18,6 +18,7 @@ use Rattle.ed_run.specs.Laws.{HasRoom}
 use Rattle.ed_run.specs.Run.{RunEnd, run_end, run_orders}
 use Rattle.ed_run.proofs.Ends.{ends_once, ran_ends}
 use Rattle.ed_run.proofs.Places.{at_limit}
+use Rattle.ed_run.specs.declared.settings.Settings.{Settings}
 use Rattle.ed_answers.specs.EntryState.{first_state}
 use Rattle.ed_report.specs.Listings.{listing}
 use Rattle.ed_report.specs.Notes.{ending_line}
@@ -27,7 +28,6 @@ use Rattle.ed_stepper.specs.Sessions.{Stand, left}
 use Rattle.ed_stepper.specs.MoveEnds.{move_orders}
 use Rattle.ed_stepper.specs.declared.moves.MoveTarget.TheVariants.{Orders}
 use Rattle.ed_stepper.specs.Traces.{trace_to}
-use Rattle.ed_answers.specs.declared.settings.Settings.{Settings}
 use Rattle.ed_answers.specs.Runs.{paper_room, ran_outcome, run_of, with_post_mortem}
 use Rattle.ed_top.specs.Scripts.{stand_on}
 use Rattle.ed_top.specs.Stepped.{EachStepIsRun, StepsAreRun, cut_at, limit_note}

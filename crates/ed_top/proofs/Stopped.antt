@@ -6,6 +6,7 @@ use Rattle.ed_machine.specs.State.{State}
 use Rattle.ed_machine.specs.OrderTable.{step}
 use Rattle.ed_run.specs.Run.{RunEnd, run_end}
 use Rattle.ed_printer.specs.Paper.{paper}
+use Rattle.ed_run.specs.declared.settings.Settings.{Settings}
 use Rattle.ed_syntax.specs.declared.program.Line.{Line}
 use Rattle.ed_link.specs.Linked.{entry_of}
 use Rattle.ed_link.specs.Tapes.{cost}
@@ -13,7 +14,6 @@ use Rattle.ed_answers.specs.EntryState.{entry_state}
 use Rattle.ed_report.specs.Notes.{at_after, entry_note}
 use Rattle.ed_routines.proofs.Journeys.{ComesToStop}
 use Rattle.ed_top.proofs.Making.Stops.{RanToStop, ran_to_stop}
-use Rattle.ed_answers.specs.declared.settings.Settings.{Settings}
 use Rattle.ed_answers.specs.Headline.{RunsFromEntry}
 use Rattle.ed_answers.specs.Runs.{paper_room, ran_outcome, with_post_mortem}
 use Rattle.ed_answers.specs.Sources.{run_outcome}

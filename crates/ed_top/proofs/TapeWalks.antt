@@ -18,6 +18,7 @@ use Rattle.ed_run.specs.Laws.{AllWent}
 use Rattle.ed_run.specs.Run.{EndsAfter, end_at, end_by, run_end, run_orders}
 use Rattle.ed_run.proofs.Ends.{ends_once, ran_ends}
 use Rattle.ed_run.proofs.Later.{quiet_stops}
+use Rattle.ed_run.specs.declared.settings.Settings.{Settings}
 use Rattle.ed_notation.specs.Faults.{TapeEntry}
 use Rattle.ed_initial.proofs.Quiet.{LeadsIn}
 use Rattle.ed_answers.specs.EntryState.{first_state}
@@ -28,7 +29,6 @@ use Rattle.ed_stepper.specs.declared.moves.MoveTarget.TheVariants.{Entry}
 use Rattle.ed_stepper.specs.declared.moves.MoveEnd.TheVariants.{Entered}
 use Rattle.ed_stepper.proofs.Founds.{end_found, orders_found}
 use Rattle.ed_stepper.specs.Traces.{trace_to}
-use Rattle.ed_answers.specs.declared.settings.Settings.{Settings}
 use Rattle.ed_answers.specs.Runs.{status_of}
 use Rattle.ed_top.specs.TapeEntries.{StepsToEntry, TracesFromEntry}
 use Rattle.ed_top.specs.Traces.{letters_in}

@@ -8,8 +8,8 @@ use Rattle.ed_io.specs.declared.stop.WriteStop.TheVariants.{Failed, Memory}
 use Rattle.ed_io.proofs.Calls.{gains_none}
 use Rattle.ed_machine.specs.State.{State}
 use Rattle.ed_machine.specs.declared.ending.Ending.{Ending}
+use Rattle.ed_run.specs.declared.settings.Settings.{Settings}
 use Rattle.ed_stepper.specs.Traces.{TraceEnds, trace_of}
-use Rattle.ed_answers.specs.declared.settings.Settings.{Settings}
 use Rattle.ed_answers.specs.Answer.{known}
 use Rattle.ed_top.specs.Clause.{Device, WrotePart}
 use Rattle.ed_top.specs.Traces.{traced_from}

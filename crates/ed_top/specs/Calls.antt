@@ -18,9 +18,9 @@ use Rattle.ed_words.specs.declared.size.Size.{Size}
 use Rattle.ed_words.specs.declared.size.Size.TheVariants.{Full}
 use Rattle.ed_library.specs.CallRanges.{IsCallInRange}
 use Rattle.ed_top.specs.CallSources.{call_text}
-use Rattle.ed_top.specs.CommandLine.Settings.{options_by, settings_of}
-use Rattle.ed_answers.specs.declared.settings.Settings.{Settings}
+use Rattle.ed_command.specs.Settings.{options_by, settings_of}
 use Rattle.ed_words.specs.Texts.{Text}
+use Rattle.ed_run.specs.declared.settings.Settings.{Settings}
 use Rattle.ed_answers.specs.Outcome.{Outcome}
 use Rattle.ed_answers.specs.Answer.{Answer, IsDue, of_made}
 use Rattle.ed_answers.specs.Sources.{OfSource, run_outcome}

@@ -2,13 +2,13 @@
 use Rattle.std.specs.Prelude.{◌≡◌, ℕ, ◌+◌, ◌*◌, ◌≤◌, List, [], ◌∷◌, ◌++◌, codes, None}
 use Rattle.std.specs.Fmt.{decimal}
 use Rattle.ed_words.specs.Sizes.{locations}
+use Rattle.ed_run.specs.declared.settings.Settings.{Settings}
 use Rattle.ed_syntax.specs.declared.program.Line.{Line}
 use Rattle.ed_answers.specs.Refusals.{IsAcceptedAs}
 use Rattle.ed_link.specs.Tapes.{cost}
 use Rattle.ed_report.specs.Notes.{at_after, entry_note}
 use Rattle.ed_routines.specs.Digits.{print_orders}
 use Rattle.ed_top.specs.DemoSources.{demo_sum, demo_text}
-use Rattle.ed_answers.specs.declared.settings.Settings.{Settings}
 use Rattle.ed_answers.specs.Answer.{Answer}
 use Rattle.ed_top.specs.Calls.{of_made_source}
 use Rattle.ed_answers.specs.Headline.{RunsFromEntry}

@@ -1,4 +1,3 @@
-pub mod CommandLine
 pub mod CallSources
 pub mod DemoSources
 pub mod AcceptedSources

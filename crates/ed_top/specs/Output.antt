@@ -1,11 +1,11 @@
 -- The output of the program: its answer to a command line and an input (this project's own rules).
 use Rattle.std.specs.Prelude.{Option, Some, None}
+use Rattle.ed_run.specs.declared.settings.Settings.{Settings}
 use Rattle.ed_report.specs.Catalogue.{library_text}
-use Rattle.ed_top.specs.declared.command_line.command.Command.{Command}
-use Rattle.ed_answers.specs.declared.settings.Settings.{Settings}
-use Rattle.ed_top.specs.declared.command_line.command.Action.{Action}
-use Rattle.ed_top.specs.declared.command_line.command.Action.TheVariants.{Tape, CheckTape, Run, Punch, Listing, Library, Demo}
-use Rattle.ed_top.specs.declared.command_line.command.Action.TheVariants.{Call as CallOf, Tape1, CheckTape1, Step, Trace, Parts}
+use Rattle.ed_command.specs.declared.command.Command.{Command}
+use Rattle.ed_command.specs.declared.command.Action.{Action}
+use Rattle.ed_command.specs.declared.command.Action.TheVariants.{Tape, CheckTape, Run, Punch, Listing, Library, Demo}
+use Rattle.ed_command.specs.declared.command.Action.TheVariants.{Call as CallOf, Tape1, CheckTape1, Step, Trace, Parts}
 use Rattle.ed_answers.specs.Answer.{Answer, HasOneOutcome, exactly, known, of_input, of_rows}
 use Rattle.ed_answers.specs.FirstOrders.{check_tape1_answer, tape1_answer}
 use Rattle.ed_answers.specs.Outcome.{done, usage_outcome}

@@ -6,8 +6,8 @@ use Rattle.ed_report.specs.Notes.{ending_line, part_line}
 use Rattle.ed_interlude.specs.Parts.{IsReportOfTape, PartsReport}
 use Rattle.ed_interlude.specs.declared.tape.PartsEnd.{PartsEnd}
 use Rattle.ed_interlude.specs.declared.tape.PartsEnd.TheVariants.{Ended, Faulty}
-use Rattle.ed_answers.specs.declared.settings.Settings.{Settings}
 use Rattle.ed_words.specs.Texts.{Text}
+use Rattle.ed_run.specs.declared.settings.Settings.{Settings}
 use Rattle.ed_answers.specs.Outcome.{Outcome}
 use Rattle.ed_answers.specs.Runs.{status_of}
 

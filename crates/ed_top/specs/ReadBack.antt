@@ -2,7 +2,7 @@
 use Rattle.std.specs.Prelude.{◌≡◌, ℕ, ◌+◌, ◌<◌, ◌≤◌, Some}
 use Rattle.ed_store.specs.Cells.{short_at}
 use Rattle.ed_machine.specs.State.{State}
-use Rattle.ed_answers.specs.declared.settings.Window.{Window}
+use Rattle.ed_run.specs.declared.settings.Window.{Window}
 use Rattle.ed_answers.specs.Runs.{post_mortem_codes}
 
 -- two states have the same words at the locations of a window

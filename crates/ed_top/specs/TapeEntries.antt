@@ -6,6 +6,7 @@ use Rattle.ed_machine.specs.State.{State}
 use Rattle.ed_machine.specs.Steps.{progress, state_after}
 use Rattle.ed_run.specs.Run.{run_end}
 use Rattle.ed_printer.specs.Paper.{paper}
+use Rattle.ed_run.specs.declared.settings.Settings.{Settings}
 use Rattle.ed_notation.specs.Faults.{TapeEntry, ComesTo, WellFormed}
 use Rattle.ed_initial.specs.Entry.{at_entry}
 use Rattle.ed_answers.specs.EntryState.{first_state}
@@ -14,7 +15,6 @@ use Rattle.ed_stepper.specs.Scripts.{line_of_move, move_line, after_move}
 use Rattle.ed_stepper.specs.declared.moves.MoveTarget.TheVariants.{Entry}
 use Rattle.ed_stepper.specs.declared.moves.MoveEnd.TheVariants.{Entered}
 use Rattle.ed_stepper.specs.Traces.{trace_to}
-use Rattle.ed_answers.specs.declared.settings.Settings.{Settings}
 use Rattle.ed_answers.specs.Limits.{with_limit}
 use Rattle.ed_answers.specs.Outcome.{Outcome, done}
 use Rattle.ed_answers.specs.Tapes.{IsChecked, first_note, tape_outcome}

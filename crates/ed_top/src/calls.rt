@@ -1,11 +1,12 @@
 ghost use Rattle.std.specs.Prelude.{[]};
-ghost use Rattle.ed_answers.specs.SettingRanges.{AreSettingsInRange};
+ghost use Rattle.ed_run.specs.SettingRanges.{AreSettingsInRange};
 ghost use Rattle.ed_top.specs.Calls.{call_answer};
 ghost use Rattle.ed_answers.specs.Replies.{Replies};
 
 use crate::sources::call_source;
-use ed_answers::{Rejection, Reply, Settings, run};
+use ed_answers::{Rejection, Reply, run};
 use ed_library::Call;
+use ed_run::Settings;
 use std::alloc::Global;
 
 /// `call`: the run of the source that calls a routine of the library.

@@ -1,5 +1,5 @@
 ghost use Rattle.std.specs.Prelude.{◌≡◌, ◌≤◌, length};
-ghost use Rattle.ed_top.specs.CommandLine.Ranges.{IsInRange};
+ghost use Rattle.ed_command.specs.Ranges.{IsInRange};
 ghost use Rattle.ed_answers.specs.declared.input.TheConstants.{INPUT_BYTES};
 ghost use Rattle.ed_answers.specs.Answer.{reads_input};
 ghost use Rattle.ed_top.specs.Clause.{device};
@@ -7,7 +7,6 @@ ghost use Rattle.ed_top.specs.Private.Stages.{Carried};
 ghost use Rattle.ed_top.specs.Output.{answer};
 
 use crate::calls::call_routine;
-use crate::command_line::{Action, Command};
 use crate::demo::demo;
 use crate::devices::{Rest, write};
 use crate::library::list_library;
@@ -15,6 +14,7 @@ use crate::parts::parts;
 use crate::step::step;
 use crate::trace::trace;
 use ed_answers::{check_tape, check_tape1, list, punch, run, tape, tape1};
+use ed_command::{Action, Command};
 use ed_io::{Sink, WriteStop};
 use std::alloc::Global;
 

@@ -1,10 +1,11 @@
 ghost use Rattle.std.specs.Prelude.{[]};
-ghost use Rattle.ed_answers.specs.SettingRanges.{AreSettingsInRange, IsFromTo};
+ghost use Rattle.ed_run.specs.SettingRanges.{AreSettingsInRange, IsFromTo};
 ghost use Rattle.ed_top.specs.Demos.{demo_answer};
 ghost use Rattle.ed_answers.specs.Replies.{Replies};
 
 use crate::sources::demo_source;
-use ed_answers::{Rejection, Reply, Settings, run};
+use ed_answers::{Rejection, Reply, run};
+use ed_run::Settings;
 use std::alloc::Global;
 
 /// `demo`: the run of the large source made from a number.

@@ -3,13 +3,11 @@
 //! Contract: the contract of `edsac`. It is exact for every list of words and every input, over any source and any two
 //! sinks: the status and both texts are those of the definition, and the answers for a fault or for no memory come with
 //! their cause and with what was written. The definition gives each input one outcome. Further clauses are the headline
-//! and the laws between the commands. Words are a command exactly if they are a line of the table, its numbers in
-//! range; `clap` reads them. The sources of calls and of the demonstration are exact to the byte, and accepted for every
-//! number. Depends on all crates below.
+//! and the laws between the commands. The sources of calls and of the demonstration are exact to the byte, and accepted
+//! for every number. Depends on all crates below.
 #![tactic(auto)]
 
 mod calls;
-mod command_line;
 mod commands;
 mod demo;
 mod devices;
@@ -20,6 +18,5 @@ mod sources;
 mod step;
 mod trace;
 
-pub use command_line::{Action, Command, CommandFault, read_words};
 pub use program::{edsac, report_no_memory};
 pub use sources::{call_source, demo_source, woven};

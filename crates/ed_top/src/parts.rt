@@ -6,11 +6,12 @@ ghost use Rattle.ed_top.specs.Parts.{IsInParts, end_note, end_status};
 ghost use Rattle.ed_top.specs.Private.Stages.{Carried};
 
 use crate::devices::{Rest, write};
-use ed_answers::{Settings, rows_of, started, status_of};
+use ed_answers::{rows_of, started, status_of};
 use ed_interlude::{PartsEnd, run_parts};
 use ed_io::{Sink, WriteStop};
 use ed_machine::Machine;
 use ed_report::{ending_text, part_fault};
+use ed_run::Settings;
 use ed_words::NoMemory;
 use std::alloc::Global;
 

@@ -1,6 +1,6 @@
 ghost use Rattle.std.specs.Prelude.{Some, map, string_bytes};
-ghost use Rattle.ed_top.specs.CommandLine.Lines.{command_line};
-ghost use Rattle.ed_top.specs.CommandLine.Ranges.{IsInRange};
+ghost use Rattle.ed_command.specs.Lines.{command_line};
+ghost use Rattle.ed_command.specs.Ranges.{IsInRange};
 ghost use Rattle.ed_answers.specs.BothSizes.{EachSize};
 ghost use Rattle.ed_top.specs.Calls.{CallsByDefault, EachCallRuns};
 ghost use Rattle.ed_top.specs.Clause.{ProgramEnded, WritesLastLine, device};
@@ -18,10 +18,10 @@ ghost use Rattle.ed_top.specs.ReadBack.{EachWordIsReadBack};
 ghost use Rattle.ed_top.specs.Stepped.{EachStepIsRun};
 ghost use Rattle.ed_top.specs.TapeEntries.{EachTapeRunsFromEntry};
 
-use crate::command_line::{Command, CommandFault, read_words};
 use crate::commands::{carry_out, reads_input};
 use crate::devices::{InputStop, input_of, tell};
 use ed_answers::TOO_LONG;
+use ed_command::{Command, CommandFault, read_words};
 use ed_io::{Sink, Source, WriteStop};
 use std::alloc::Global;
 

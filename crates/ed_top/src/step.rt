@@ -7,9 +7,10 @@ ghost use Rattle.ed_stepper.specs.Scripts.{play};
 ghost use Rattle.ed_top.specs.Private.Stages.{HasRows};
 ghost use Rattle.ed_top.specs.Scripts.{OfStep, on_rows, played_outcome};
 
-use ed_answers::{Rejection, Reply, Settings, linked_of, rows_of, started};
+use ed_answers::{Rejection, Reply, linked_of, rows_of, started};
 use ed_codes::Code;
 use ed_report::{back_too_far, bad_command, no_text};
+use ed_run::Settings;
 use ed_stepper::{ScriptFault, Session, TextKind, bad_line, divide, line_count, run_script};
 use ed_words::NoMemory;
 use std::alloc::Global;

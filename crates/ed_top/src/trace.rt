@@ -5,10 +5,11 @@ ghost use Rattle.ed_top.specs.Private.Stages.{Carried};
 ghost use Rattle.ed_top.specs.Traces.{trace_outcome, traced_from};
 
 use crate::devices::{Rest, write};
-use ed_answers::{Settings, rows_of, started, status_of};
+use ed_answers::{rows_of, started, status_of};
 use ed_io::{Sink, WriteStop};
 use ed_machine::Machine;
 use ed_report::ending_text;
+use ed_run::Settings;
 use ed_stepper::trace_run;
 use std::alloc::Global;
 

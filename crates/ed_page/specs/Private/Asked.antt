@@ -3,8 +3,8 @@ use Rattle.std.specs.Prelude.{ℕ, List}
 use Rattle.ed_codes.specs.Reading.{reading}
 use Rattle.ed_machine.specs.State.{State}
 use Rattle.ed_run.specs.Run.{RunEnd}
-use Rattle.ed_answers.specs.declared.settings.Settings.{Settings}
 use Rattle.ed_words.specs.Texts.{Text}
+use Rattle.ed_run.specs.declared.settings.Settings.{Settings}
 use Rattle.ed_answers.specs.Answer.{OfReading, exactly}
 use Rattle.ed_answers.specs.FirstOrders.{run1_of, tape1_outcome}
 use Rattle.ed_answers.specs.Outcome.{Outcome, done}

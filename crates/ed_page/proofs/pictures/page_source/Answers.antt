@@ -1,6 +1,6 @@
 use Rattle.std.proofs.Common.{ap, refl, subst}
+use Rattle.ed_run.specs.declared.settings.Settings.{Settings}
 use Rattle.ed_link.specs.Tapes.{tape}
-use Rattle.ed_answers.specs.declared.settings.Settings.{Settings}
 use Rattle.ed_answers.specs.Runs.{run_of}
 use Rattle.ed_answers.specs.Sources.{run_answer}
 use Rattle.ed_page.specs.Answers.{IsShown, SourceEnds, picture_buffers}

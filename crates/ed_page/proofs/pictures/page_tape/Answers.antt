@@ -1,5 +1,5 @@
 use Rattle.std.proofs.Common.{ap, refl, subst}
-use Rattle.ed_answers.specs.declared.settings.Settings.{Settings}
+use Rattle.ed_run.specs.declared.settings.Settings.{Settings}
 use Rattle.ed_answers.specs.Runs.{run_of}
 use Rattle.ed_answers.specs.Tapes.{tape_answer}
 use Rattle.ed_page.specs.Answers.{IsShown, TapeEnds, picture_buffers}

@@ -1,6 +1,6 @@
 use Rattle.std.proofs.Common.{ap, refl, subst}
 use Rattle.std.specs.Prelude.{false}
-use Rattle.ed_answers.specs.declared.settings.Settings.{Settings}
+use Rattle.ed_run.specs.declared.settings.Settings.{Settings}
 use Rattle.ed_answers.specs.FirstOrders.{run1_of, tape1_answer}
 use Rattle.ed_page.specs.Answers.{IsShown, Tape1Ends, picture_buffers}
 use Rattle.ed_page.specs.Pictures.{run_settings}

@@ -1,5 +1,5 @@
 use Rattle.std.proofs.Common.{inl, inr, refl, subst}
-use Rattle.ed_answers.specs.SettingRanges.{IsWindowOf}
+use Rattle.ed_run.specs.SettingRanges.{IsWindowOf}
 use Rattle.ed_page.proofs.postmortem.page_post_mortem.Goals as goal
 
 pub returns-then-words-ne1024-clause-told : goal.returns-then-words-ne1024-clause-told

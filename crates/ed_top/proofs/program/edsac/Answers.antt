@@ -1,10 +1,10 @@
 use Rattle.std.proofs.Common.{◌≡◌, ℕ, refl, sym, subst, map, string_bytes}
 use Rattle.std.specs.Prelude.{Option, Some, None, Err}
-use Rattle.ed_top.specs.CommandLine.Answers.{AnswersWords}
-use Rattle.ed_top.specs.CommandLine.Lines.{command_line}
-use Rattle.ed_top.specs.declared.command_line.command.Command.{Command}
-use Rattle.ed_top.specs.declared.command_line.reading.CommandFault.{CommandFault}
-use Rattle.ed_top.specs.declared.command_line.reading.CommandFault.TheVariants.{Usage, Memory}
+use Rattle.ed_command.specs.Answers.{AnswersWords}
+use Rattle.ed_command.specs.Lines.{command_line}
+use Rattle.ed_command.specs.declared.command.Command.{Command}
+use Rattle.ed_command.specs.declared.reading.CommandFault.{CommandFault}
+use Rattle.ed_command.specs.declared.reading.CommandFault.TheVariants.{Usage, Memory}
 use Rattle.ed_answers.specs.Answer.{known}
 use Rattle.ed_answers.specs.Outcome.{usage_outcome}
 use Rattle.ed_top.specs.Output.{output}

@@ -1,0 +1,210 @@
+-- The arguments of a command, its size of the store, and the lines of the table as the program holds them.
+use Rattle.std.proofs.Common.{◌≡◌, ◌≢◌, ◌<◌, ◌≤◌, ℕ, Bool, true, false, Bor, List, [], ◌∷◌}
+use Rattle.std.proofs.Common.{◌+◌, ◌-◌, ◌∙◌, refl, sym, subst, arith, length, map, codes, drop, get_or, take}
+use Rattle.std.proofs.lemmas.Slice.Eq.{bytes_eq-Decides}
+use Rattle.std.proofs.lemmas.List.{at_drop_all, at_drop_more, take_all}
+use Rattle.std.specs.Prelude.{Option, Some, None, option_and_then, option_map, slice_index_or, if◌then◌else◌}
+use Rattle.std.specs.Str.{bytes_eq}
+use Rattle.ed_library.specs.declared.call.Call.TheVariants.{NewLine}
+use Rattle.ed_words.specs.Decimals.{number, number_within}
+use Rattle.ed_words.specs.Texts.{Text}
+use Rattle.ed_command.specs.Held.{action_by, call_with, line_in}
+use Rattle.ed_command.specs.Lines.{TableLine, call_of, command, command_of, division, line_named, lines, with_only}
+use Rattle.ed_words.specs.declared.size.Size.TheVariants.{Full}
+use Rattle.ed_command.specs.Settings.{Options, has_only, option_value, settings_of}
+use Rattle.ed_command.specs.Windows.{size_named}
+use Rattle.ed_command.specs.declared.command.Action.{Action}
+use Rattle.ed_command.specs.declared.command.Action.TheVariants.{Demo}
+use Rattle.ed_command.specs.declared.lines.LineAction.{LineAction}
+use Rattle.ed_command.specs.declared.lines.LineAction.TheVariants.{Alone, Demo as Demonstrates}
+use Rattle.ed_command.specs.declared.lines.TableLine as held
+
+-- ---- calls
+
+differs_by : (x y : Text) (c : Bool) → bytes_eq x y ≡ c → x ≢ y → c ≡ false
+differs_by x y true e h = absurd (h ((bytes_eq-Decides x y).0 e))
+differs_by x y false e h = refl
+
+differs : (x y : Text) → x ≢ y → bytes_eq x y ≡ false
+differs x y h = differs_by x y (bytes_eq x y) refl h
+
+neither : {A : Type 0} (c : Bool) (o : Option A) → o ≡ None → (if c then None else o) ≡ None
+neither true o e = refl
+neither false o e = e
+
+-- a name alone is a call only if it is `newline`
+pub name_alone : (arguments : List (Bor Text)) (x : Bor Text) → 1 ≤ length arguments → length arguments < 2
+    → (slice_index_or arguments 0 x).now ≢ codes "newline" → call_of (map (λ a. a.now) arguments) ≡ None
+name_alone [] x least most h = absurd (omega (arith, least))
+name_alone (name ∷ []) x least most h =
+    let is = bytes_eq name.now in
+    rw (differs name.now (codes "newline") h)
+    (neither (is (codes "print")) _ (neither (is (codes "read")) _ (neither (is (codes "divide")) _
+    (neither (is (codes "root")) _ (neither (is (codes "check")) None refl)))))
+name_alone (name ∷ more ∷ others) x least most h = absurd (omega (arith, most))
+
+-- a name and two numbers are a call only if it is `divide`
+pub two_numbers : (arguments : List (Bor Text)) (x : Bor Text) → 3 ≤ length arguments → length arguments < 4
+    → (slice_index_or arguments 0 x).now ≢ codes "divide" → call_of (map (λ a. a.now) arguments) ≡ None
+two_numbers [] x least most h = absurd (omega (arith, least))
+two_numbers (name ∷ []) x least most h = absurd (omega (arith, least))
+two_numbers (name ∷ n ∷ []) x least most h = absurd (omega (arith, least))
+two_numbers (name ∷ n ∷ by ∷ []) x least most h =
+    let is = bytes_eq name.now in
+    rw (differs name.now (codes "divide") h)
+    (neither (is (codes "print")) _ (neither (is (codes "read")) _ (neither (is (codes "newline")) _
+    (neither (is (codes "root")) _ (neither (is (codes "check")) None refl)))))
+two_numbers (name ∷ n ∷ by ∷ more ∷ others) x least most h = absurd (omega (arith, most))
+
+-- no arguments, and too many
+pub no_name : (arguments : List (Bor Text)) → length arguments < 1 → call_of (map (λ a. a.now) arguments) ≡ None
+no_name [] most = refl
+no_name (name ∷ others) most = absurd (omega (arith, most))
+
+-- `newline`
+pub newline_alone : (arguments : List (Bor Text)) (x : Bor Text) → 1 ≤ length arguments → length arguments < 2
+    → (slice_index_or arguments 0 x).now ≡ codes "newline"
+    → call_of (map (λ a. a.now) arguments) ≡ Some NewLine
+newline_alone [] x least most is = absurd (omega (arith, least))
+newline_alone (name ∷ []) x least most is = rw is refl
+newline_alone (name ∷ more ∷ others) x least most is = absurd (omega (arith, most))
+
+-- `divide`
+pub divided : (arguments : List (Bor Text)) (x : Bor Text) → 3 ≤ length arguments → length arguments < 4
+    → (slice_index_or arguments 0 x).now ≡ codes "divide"
+    → call_of (map (λ a. a.now) arguments)
+    ≡ division (number (slice_index_or arguments 1 x).now) (number_within 1 32767 (slice_index_or arguments 2 x).now)
+divided [] x least most is = absurd (omega (arith, least))
+divided (name ∷ []) x least most is = absurd (omega (arith, least))
+divided (name ∷ n ∷ []) x least most is = absurd (omega (arith, least))
+divided (name ∷ n ∷ by ∷ []) x least most is = rw is refl
+divided (name ∷ n ∷ by ∷ more ∷ others) x least most is = absurd (omega (arith, most))
+
+word_is : (name word : Text) → bytes_eq name word ≡ true → name ≡ word
+word_is name word e = (bytes_eq-Decides name word).0 e
+
+-- a name whose calls take one number, or another name
+one_number_by : (name n : Text) (o : Option ℕ) → number_within 0 65535 n ≡ o
+    → call_of (name ∷ n ∷ []) ≡ option_and_then (call_with name) o
+one_number_by name n o is = by_words (is_name (codes "newline")) (is_name (codes "divide")) refl refl o is
+  where
+    is_name : Text → Bool
+    is_name = bytes_eq name
+
+    by_words : (c d : Bool) → is_name (codes "newline") ≡ c → is_name (codes "divide") ≡ d → (o : Option ℕ)
+        → number_within 0 65535 n ≡ o → call_of (name ∷ n ∷ []) ≡ option_and_then (call_with name) o
+    by_words true d e f None is = rw (word_is name (codes "newline") e) refl
+    by_words true d e f (Some k) is = rw (word_is name (codes "newline") e) refl
+    by_words false true e f None is = rw (word_is name (codes "divide") f) refl
+    by_words false true e f (Some k) is = rw (word_is name (codes "divide") f) refl
+    by_words false false e f None is =
+        rw (is, e, f) (neither (is_name (codes "print")) _ (neither (is_name (codes "read")) _
+        (neither (is_name (codes "root")) _ (neither (is_name (codes "check")) None refl))))
+    by_words false false e f (Some k) is = rw (is, e, f) refl
+
+-- a name and one number
+pub one_number_after : (arguments : List (Bor Text)) (x : Bor Text) (o : Option ℕ) → 2 ≤ length arguments
+    → length arguments < 3 → o ≡ number_within 0 65535 (slice_index_or arguments 1 x).now
+    → call_of (map (λ a. a.now) arguments) ≡ option_and_then (call_with (slice_index_or arguments 0 x).now) o
+one_number_after [] x o least most is = absurd (omega (arith, least))
+one_number_after (name ∷ []) x o least most is = absurd (omega (arith, least))
+one_number_after (name ∷ n ∷ []) x o least most is = one_number_by name.now n.now o (sym is)
+one_number_after (name ∷ n ∷ more ∷ others) x o least most is = absurd (omega (arith, most))
+
+-- too many numbers
+pub many_numbers : (arguments : List (Bor Text)) → 4 ≤ length arguments → call_of (map (λ a. a.now) arguments) ≡ None
+many_numbers [] least = absurd (omega (arith, least))
+many_numbers (name ∷ []) least = absurd (omega (arith, least))
+many_numbers (name ∷ n ∷ []) least = absurd (omega (arith, least))
+many_numbers (name ∷ n ∷ by ∷ []) least = absurd (omega (arith, least))
+many_numbers (name ∷ n ∷ by ∷ more ∷ others) least =
+    let is = bytes_eq name.now in
+    neither (is (codes "print")) _ (neither (is (codes "read")) _ (neither (is (codes "newline")) _
+    (neither (is (codes "divide")) _ (neither (is (codes "root")) _ (neither (is (codes "check")) None refl)))))
+
+-- ---- actions
+
+-- an action that takes no argument
+pub alone_by : (action : LineAction) (known : Action) (arguments : List (Bor Text)) → action ≡ Alone known
+    → length arguments < 1 → action_by action (map (λ a. a.now) arguments) ≡ Some known
+alone_by action known [] is most = rw is refl
+alone_by action known (argument ∷ others) is most = absurd (omega (arith, most))
+
+pub not_alone : (action : LineAction) (known : Action) (arguments : List (Bor Text)) → action ≡ Alone known
+    → 1 ≤ length arguments → action_by action (map (λ a. a.now) arguments) ≡ None
+not_alone action known [] is least = absurd (omega (arith, least))
+not_alone action known (argument ∷ others) is least = rw is refl
+
+-- the number of `demo`
+pub demo_by : (action : LineAction) (arguments : List (Bor Text)) (x : Bor Text) (o : Option ℕ) → action ≡ Demonstrates
+    → 1 ≤ length arguments → length arguments < 2 → o ≡ number_within 1 112 (slice_index_or arguments 0 x).now
+    → option_map Demo o ≡ action_by action (map (λ a. a.now) arguments)
+demo_by action [] x o is least most number = absurd (omega (arith, least))
+demo_by action (text ∷ []) x o is least most number = rw (is, number) refl
+demo_by action (text ∷ more ∷ others) x o is least most number = absurd (omega (arith, most))
+
+pub demo_of_none : (action : LineAction) (arguments : List (Bor Text)) → action ≡ Demonstrates → length arguments < 1
+    → action_by action (map (λ a. a.now) arguments) ≡ None
+demo_of_none action [] is most = rw is refl
+demo_of_none action (text ∷ others) is most = absurd (omega (arith, most))
+
+pub demo_of_many : (action : LineAction) (arguments : List (Bor Text)) → action ≡ Demonstrates → 2 ≤ length arguments
+    → action_by action (map (λ a. a.now) arguments) ≡ None
+demo_of_many action [] is least = absurd (omega (arith, least))
+demo_of_many action (text ∷ []) is least = absurd (omega (arith, least))
+demo_of_many action (text ∷ more ∷ others) is least = rw is refl
+
+-- ---- the size of the store
+
+-- one value that is no size of the store
+pub no_size : (values : List (Bor Text)) (x : Bor Text) → 1 ≤ length values → length values < 2
+    → (slice_index_or values 0 x).now ≢ codes "512" → (slice_index_or values 0 x).now ≢ codes "1024"
+    → option_value Full size_named (map (λ v. v.now) values) ≡ None
+no_size [] x least most h k = absurd (omega (arith, least))
+no_size (value ∷ []) x least most h k =
+    simp (differs value.now (codes "512") h, differs value.now (codes "1024") k)
+no_size (value ∷ more ∷ others) x least most h k = absurd (omega (arith, most))
+
+-- ---- lines
+
+-- the command of a line that was found
+taken : (l : TableLine) (o : Options) (arguments : List Text) → has_only l.options o ≡ true
+    → with_only l.options o (l.action arguments) ≡ command (l.action arguments) (settings_of o)
+taken l o arguments h = simp h
+
+line_taken : (t : Option TableLine) (l : TableLine) → Some l ≡ t → (o : Options) (arguments : List Text)
+    → has_only l.options o ≡ true
+    → option_and_then (λ l. with_only l.options o (l.action arguments)) t ≡ command (l.action arguments) (settings_of o)
+line_taken t l e o arguments h =
+    subst (λ (found : Option TableLine). option_and_then (λ l. with_only l.options o (l.action arguments)) found
+    ≡ command (l.action arguments) (settings_of o)) e (taken l o arguments h)
+
+-- the command of the words, by the line that the first of them begins
+pub command_found : (words : List (Bor Text)) (x : Bor Text) (line : held.TableLine) (o : Options) → 1 ≤ length words
+    → option_map line_in (Some line) ≡ line_named lines (slice_index_or words 0 x).now
+    → has_only (map (λ n. n.now) line.options.now) o ≡ true
+    → command_of (map (λ w. w.now) words) o
+    ≡ command (action_by line.action (map (λ a. a.now) (take (length words - 1) (drop 1 words)))) (settings_of o)
+command_found [] x line o least is h = absurd (omega (arith, least))
+command_found (word ∷ arguments) x line o least is h =
+    let many : length arguments ≤ length (word ∷ arguments) - 1 = omega arith in
+    let rest : take (length (word ∷ arguments) - 1) arguments ≡ arguments = take_all _ arguments many in
+    rw rest
+    (line_taken (line_named lines word.now) (line_in line) is o (map (λ a. a.now) arguments) h)
+
+-- at a line of the table, in a search from the first one on: it is the one that begins with the word, or a later one is
+pub at_line : (ls : List held.TableLine) (i : ℕ) (d : held.TableLine) (word : Text) (c : Bool) → i < length ls
+    → line_named (map line_in (drop i ls)) word ≡ line_named lines word → bytes_eq word (get_or ls i d).word.now ≡ c
+    → (if c then Some (line_in (get_or ls i d)) else line_named (map line_in (drop (i + 1) ls)) word)
+    ≡ line_named lines word
+at_line ls i d word c below same is =
+    let here =
+    sym (at_drop_more (λ (xs : List held.TableLine). line_named (map line_in xs) word) ls i d below) ∙ same in
+    subst (λ (b : Bool). (if b then Some (line_in (get_or ls i d)) else line_named (map line_in (drop (i + 1) ls)) word)
+    ≡ line_named lines word) is here
+
+-- past the last of them
+pub no_line : (ls : List held.TableLine) (i : ℕ) (word : Text) → length ls ≤ i
+    → line_named (map line_in (drop i ls)) word ≡ line_named lines word → None ≡ line_named lines word
+no_line ls i word past same =
+    sym (at_drop_all (λ (xs : List held.TableLine). line_named (map line_in xs) word) ls i past) ∙ same

@@ -1,0 +1,23 @@
+use Rattle.std.proofs.Common.{inl, inr, ◌∙◌, map, string_bytes}
+use Rattle.clap.specs.Words.{app_of}
+use Rattle.ed_command.proofs.Whole.{answers}
+use Rattle.ed_command.proofs.matching.matches_of.Goals as goal
+
+-- the command is the program's, so `clap` answers by the parts of the words
+pub returns-in-Ok-try_get_matches_from : goal.returns-in-Ok-try_get_matches_from
+returns-in-Ok-try_get_matches_from c =
+    let found = c.try_get_matches_from in
+    let both = answers (map string_bytes c.args.words.now) (app_of c.in-Ok.command) found.result
+    c.in-Ok.ensures c.requires found.ensures.matches found.ensures.kinds in
+    rw c.in-Ok-try_get_matches_from.is at both.0
+
+pub returns : goal.returns
+returns c =
+    let found = c.try_get_matches_from in
+    let both = answers (map string_bytes c.args.words.now) (app_of c.in-Ok.command) found.result
+    c.in-Ok.ensures c.requires found.ensures.matches found.ensures.kinds in
+    let refused = rw c.in-Err.is at both.1 in
+    elim refused [
+      | inl memory ↦ absurd (c.in_default-kind.not-OutOfMemory (c.kind.ensures ∙ memory))
+      | inr none ↦ λ usage. none
+    ]

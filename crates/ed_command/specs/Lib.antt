@@ -1,0 +1,9 @@
+pub mod Words
+pub mod Windows
+pub mod Settings
+pub mod Lines
+pub mod Ranges
+pub mod Answers
+pub mod Found
+pub mod Rules
+pub mod Held

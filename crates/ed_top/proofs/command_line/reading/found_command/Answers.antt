@@ -1,9 +1,0 @@
-use Rattle.std.proofs.Common.{map}
-use Rattle.ed_top.specs.Private.Held.{options_in}
-use Rattle.ed_top.proofs.CommandLine.Ranged.{found_in_range}
-use Rattle.ed_top.proofs.command_line.reading.found_command.Goals as goal
-
-pub returns-clause-ranges : goal.returns-clause-ranges
-returns-clause-ranges c =
-    found_in_range (map (λ w. w.now) c.unwrap_or.result.now) (options_in c.found_options.result) c.command_of.result
-    c.command_of.ensures
