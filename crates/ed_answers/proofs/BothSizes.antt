@@ -18,12 +18,12 @@ use Rattle.ed_machine.specs.declared.ending.Ending.TheVariants.{Stopped, Limit, 
 use Rattle.ed_run.specs.Run.{EndsAfter, RunEnd, end_at, end_by, run_end, run_orders}
 use Rattle.ed_run.proofs.Ends.{ends_once, ran_ends}
 use Rattle.ed_link.specs.Tapes.{tape}
-use Rattle.ed_answers.specs.EntryState.{first_state}
 use Rattle.ed_report.specs.Notes.{ending_line}
 use Rattle.ed_words.specs.Texts.{Text}
 use Rattle.ed_printer.specs.Paper.{paper}
 use Rattle.ed_run.specs.declared.settings.Settings.{Settings}
 use Rattle.ed_run.specs.declared.settings.Window.{Window}
+use Rattle.ed_initial.specs.Entry.{first_state}
 use Rattle.ed_answers.specs.Runs.{paper_room, post_mortem_codes, ran_outcome, status_of, with_post_mortem}
 use Rattle.ed_answers.specs.Sources.{entered_before}
 use Rattle.ed_answers.specs.BothSizes.{EachSize, NamesBelow, RunStaysBelow, StaysBelow}

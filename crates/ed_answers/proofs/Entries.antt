@@ -1,26 +1,21 @@
 -- The tape of a linked program leads to its state at the entry.
-use Rattle.std.proofs.Common.{◌≡◌, ℕ, zero, suc, ◌+◌, ◌-◌, ◌*◌, ◌^◌, ◌<◌, ◌≤◌, refl, sym, ap, ◌∙◌, subst, arith, lit≤}
-use Rattle.std.proofs.Common.{Bool, true, false, nat_lt, List, [], ◌∷◌, ◌++◌, length, drop, set, None}
-use Rattle.std.specs.Prelude.{reverse, replicate, slice_index}
-use Rattle.std.specs.List.{list_all}
-use Rattle.std.proofs.lemmas.Bool.{and_parts}
+use Rattle.std.proofs.Common.{◌≡◌, ℕ, ◌+◌, ◌-◌, ◌*◌, ◌^◌, ◌<◌, ◌≤◌, refl, sym, ap, ◌∙◌, subst, arith}
+use Rattle.std.proofs.Common.{Bool, true, false, nat_lt, List, [], ◌∷◌, ◌++◌, drop, set, None}
+use Rattle.std.specs.Prelude.{reverse, replicate}
 use Rattle.std.proofs.lemmas.Bool.Decides.{nat_tests}
-use Rattle.std.proofs.lemmas.List.{drop-set-lt, drop-set-add, length-append, length-drop, length-replicate}
+use Rattle.std.proofs.lemmas.List.{drop-set-lt, drop-set-add}
 use Rattle.ed_words.specs.declared.size.Size.{Size}
-use Rattle.ed_words.proofs.Numbers.{lt_of}
 use Rattle.ed_words.specs.declared.order_words.TheConstants.{T_F}
-use Rattle.ed_store.specs.Cells.{IsStore}
-use Rattle.ed_machine.specs.State.{State, cleared_state}
+use Rattle.ed_machine.specs.State.{State}
 use Rattle.ed_notation.specs.Fold.{over}
 use Rattle.ed_notation.specs.Faults.{TapeEntry}
 use Rattle.ed_notation.specs.Items.{spelled_rows}
 use Rattle.ed_notation.specs.Spellings.{canonicals}
 use Rattle.ed_notation.proofs.Costs.{most}
-use Rattle.ed_initial.specs.Listing.{initial_orders}
 use Rattle.ed_initial.specs.Rests.{initial_words}
-use Rattle.ed_initial.specs.Entry.{at_entry, Comes, IsLoaded, IsStarted}
+use Rattle.ed_initial.specs.Entry.{at_entry, Comes, IsLoaded, first_state}
 use Rattle.ed_initial.specs.declared.loading.Loaded.{Loaded}
-use Rattle.ed_initial.proofs.Started.{is_started}
+use Rattle.ed_initial.proofs.Starts.{first_length, first_store, first_words, starts}
 use Rattle.ed_initial.proofs.Quiet.{LeadsIn, comes_in}
 use Rattle.ed_syntax.specs.declared.program.Line.{Line}
 use Rattle.ed_link.specs.declared.linked.Linked.{Linked}
@@ -28,7 +23,7 @@ use Rattle.ed_link.specs.Answers.{IsLinked}
 use Rattle.ed_link.specs.Linked.{linked_words, entry_of, data_after}
 use Rattle.ed_answers.proofs.EachSource.{each_source as comes_to}
 use Rattle.ed_link.specs.Tapes.{ComesToLinked, arrival, cost, tape}
-use Rattle.ed_answers.specs.EntryState.{Enters, EachSourceEnters, entry_state, first_state, own_words}
+use Rattle.ed_answers.specs.EntryState.{Enters, EachSourceEnters, entry_state, own_words}
 
 -- words placed over stores that agree from 44 upwards agree there
 one : (v w : List ℕ) (p x : ℕ) (t : Bool) → nat_lt p 44 ≡ t → drop 44 v ≡ drop 44 w
@@ -47,39 +42,6 @@ same_over : (placed : List (ℕ × ℕ)) (v w : List ℕ) → drop 44 v ≡ drop
     → drop 44 (over placed v) ≡ drop 44 (over placed w)
 same_over [] v w h = h
 same_over (p ∷ placed) v w h = one (over placed v) (over placed w) p.0 p.1 (nat_lt p.0 44) refl (same_over placed v w h)
-
--- ---- the machine that is started
-
--- its words: those of the Initial Orders, and 0
-abbrev first_words : List ℕ
-first_words = initial_orders ++ drop 41 (replicate 1024 0)
-
-first_length : length first_words ≡ 1024
-first_length =
-    omega (
-      arith,
-      length-append initial_orders (drop 41 (replicate 1024 0)),
-      length-drop {A = ℕ} 41 (replicate 1024 0),
-      length-replicate {A = ℕ} 1024 0,
-    )
-
--- words that pass the test are below 2^17, and so is 0, for any index past the last
-pub all_fit : (ws : List ℕ) → list_all (λ w. nat_lt w (2 ^ 17)) ws ≡ true → (i : ℕ) → slice_index ws i < 2 ^ 17
-all_fit [] h i = lit≤ tt
-all_fit (w ∷ ws) h zero = lt_of w (2 ^ 17) (and_parts _ _ h).0
-all_fit (w ∷ ws) h (suc i) = all_fit ws (and_parts (nat_lt w (2 ^ 17)) _ h).1 i
-
-pub first_store : (z : Size) (rows : List ℕ) → IsStore (first_state z rows).store
-unfolding first_state
-first_store z rows = record {
-  words_are = first_length;
-  digits_are = length-replicate {A = Bool} 512 false;
-  fits = all_fit first_words refl;
-}
-
-pub starts : (z : Size) (rows : List ℕ) → IsStarted (first_state z rows)
-unfolding first_state
-starts z rows = is_started rows (cleared_state z)
 
 -- ---- its state at the entry
 

@@ -13,13 +13,14 @@ use Rattle.ed_link.specs.Answers.{IsLinked}
 use Rattle.ed_link.specs.Linked.{entry_of}
 use Rattle.ed_link.specs.Tapes.{cost, tape}
 use Rattle.ed_link.specs.declared.linked.Linked.{Linked}
-use Rattle.ed_answers.specs.EntryState.{Enters, entry_state, first_state}
+use Rattle.ed_answers.specs.EntryState.{Enters, entry_state}
 use Rattle.ed_answers.specs.EntryWords.{EntryHasWords}
 use Rattle.ed_answers.proofs.Entries.{enters as enters_of}
 use Rattle.ed_report.specs.Notes.{entry_note}
 use Rattle.ed_words.specs.Texts.{Text}
 use Rattle.ed_words.proofs.Numbers.{le_true}
 use Rattle.ed_run.specs.declared.settings.Settings.{Settings}
+use Rattle.ed_initial.specs.Entry.{first_state}
 use Rattle.ed_answers.specs.Runs.{paper_room, post_mortem_codes, ran_outcome, run_of, with_post_mortem}
 use Rattle.ed_answers.specs.Sources.{entered_before}
 use Rattle.ed_answers.specs.Headline.{RunsFromEntry}

@@ -9,7 +9,7 @@ use Rattle.ed_run.specs.Run.{run_end, run_orders}
 use Rattle.ed_run.specs.SettingRanges.{AreSettingsInRange, IsWindowOf}
 use Rattle.ed_run.specs.declared.settings.Settings.{Settings}
 use Rattle.ed_run.specs.declared.settings.Window.{Window}
-use Rattle.ed_answers.specs.EntryState.{first_state}
+use Rattle.ed_initial.specs.Entry.{first_state}
 use Rattle.ed_answers.specs.Replies.{IsPrintableIn}
 
 pub run_follows : (limit resumes room : ℕ) (s : State) → Follows limit s (run_end limit resumes room s).state

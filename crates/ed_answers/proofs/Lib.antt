@@ -4,7 +4,6 @@ pub mod EntryWords
 pub mod FaultExamples
 pub mod OneAnswers
 pub mod PunchedTexts
-pub mod Starts
 pub mod Replies
 pub mod Checks
 pub mod FirstChecks

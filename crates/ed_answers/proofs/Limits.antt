@@ -24,9 +24,9 @@ use Rattle.ed_printer.specs.Paper.{paper, paper_from, shift_after, struck_bytes}
 use Rattle.ed_printer.specs.declared.printer.Shift.{Shift}
 use Rattle.ed_printer.specs.declared.printer.Shift.TheVariants.{Letters}
 use Rattle.ed_run.specs.declared.settings.Window.{Window}
+use Rattle.ed_initial.specs.Entry.{first_state}
 use Rattle.ed_syntax.specs.declared.program.Line.{Line}
 use Rattle.ed_link.specs.Tapes.{tape}
-use Rattle.ed_answers.specs.EntryState.{first_state}
 use Rattle.ed_answers.specs.Outcome.{Outcome}
 use Rattle.ed_answers.specs.FirstOrders.{first_state1, tape1_outcome}
 use Rattle.ed_answers.specs.Tapes.{tape_outcome}

@@ -11,9 +11,9 @@ use Rattle.ed_machine.specs.OrderTable.{next_word}
 use Rattle.ed_machine.specs.Steps.{state_after}
 use Rattle.ed_run.specs.Run.{run_orders}
 use Rattle.ed_run.specs.declared.settings.Settings.{Settings}
+use Rattle.ed_initial.specs.Entry.{first_state}
 use Rattle.ed_syntax.specs.declared.program.Line.{Line}
 use Rattle.ed_link.specs.Tapes.{tape}
-use Rattle.ed_answers.specs.EntryState.{first_state}
 use Rattle.ed_answers.specs.Tapes.{tape_outcome}
 use Rattle.ed_answers.specs.Runs.{paper_room}
 use Rattle.ed_answers.specs.Sources.{run_outcome}

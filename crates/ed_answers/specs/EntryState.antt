@@ -4,13 +4,12 @@ use Rattle.std.specs.Prelude.{◌≡◌, ℕ, ◌+◌, ◌*◌, ◌^◌, ◌<◌
 use Rattle.std.specs.Prelude.{◌++◌, None, drop, length, replicate, reverse}
 use Rattle.ed_words.specs.declared.size.Size.{Size}
 use Rattle.ed_store.specs.Cells.{Cells}
-use Rattle.ed_machine.specs.State.{State, cleared_state}
-use Rattle.ed_machine.specs.Start.{start_state}
+use Rattle.ed_machine.specs.State.{State}
 use Rattle.ed_machine.specs.OrderTable.{step}
 use Rattle.ed_machine.specs.Steps.{progress, state_after}
 use Rattle.ed_machine.specs.declared.turn.Turn.TheVariants.{Went}
 use Rattle.ed_notation.specs.Fold.{over}
-use Rattle.ed_initial.specs.Listing.{initial_orders}
+use Rattle.ed_initial.specs.Entry.{first_state}
 use Rattle.ed_initial.specs.Rests.{Working, initial_words}
 use Rattle.ed_words.specs.Texts.{Text}
 use Rattle.ed_words.specs.declared.order_words.TheConstants.{E_F, T_F}
@@ -19,10 +18,6 @@ use Rattle.ed_symbols.specs.Places.{first_counter}
 use Rattle.ed_link.specs.Linked.{linked_words, entry_of, theta_from, data_after}
 use Rattle.ed_link.specs.Tapes.{ComesToLinked, cost, punched_rows, tape}
 use Rattle.ed_answers.specs.Refusals.{IsAcceptedAs}
-
--- a cleared machine of a size, started on rows with the Initial Orders
-unfoldable pub first_state : Size → List ℕ → State
-first_state z rows = start_state initial_orders rows (cleared_state z)
 
 -- the words that the Initial Orders leave in the locations 0, 1, 20, 22 and 40 to 43; the others of 0 to 40 are as
 -- listed

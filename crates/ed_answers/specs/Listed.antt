@@ -8,11 +8,12 @@ use Rattle.ed_link.specs.Linked.{linked_words}
 use Rattle.ed_answers.specs.Refusals.{IsAcceptedAs}
 use Rattle.ed_link.specs.Tables.{table_of, words_from}
 use Rattle.ed_link.specs.Tapes.{cost, tape}
-use Rattle.ed_answers.specs.EntryState.{entry_store, first_state}
+use Rattle.ed_answers.specs.EntryState.{entry_store}
 use Rattle.ed_report.specs.Listings.{listing}
 use Rattle.ed_words.specs.Texts.{Text}
 use Rattle.ed_run.specs.declared.settings.Settings.{Settings}
 use Rattle.ed_run.specs.declared.settings.Window.{Window}
+use Rattle.ed_initial.specs.Entry.{first_state}
 use Rattle.ed_answers.specs.Sources.{listing_outcome, run_outcome}
 
 -- the locations of the linked program, in ascending order

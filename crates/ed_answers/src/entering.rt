@@ -1,8 +1,8 @@
 ghost use Rattle.std.specs.Prelude.{◌≡◌, IfOk, List};
-ghost use Rattle.ed_initial.specs.Entry.{IsStarted};
+ghost use Rattle.ed_initial.specs.Entry.{IsStarted, first_state};
 ghost use Rattle.ed_syntax.specs.declared.program.Line.{Line};
 ghost use Rattle.ed_link.specs.Answers.{IsLinked};
-ghost use Rattle.ed_answers.specs.EntryState.{EachSourceComes, EachSourceEnters, entry_state, first_state};
+ghost use Rattle.ed_answers.specs.EntryState.{EachSourceComes, EachSourceEnters, entry_state};
 ghost use Rattle.ed_answers.specs.Refusals.{EachSourceHasOneAnswer};
 ghost use Rattle.ed_answers.specs.EntryWords.{EachEntryHasWords};
 
@@ -14,7 +14,7 @@ use ed_words::{NoMemory, Size};
 use std::alloc::Global;
 
 /// A cleared machine of this size, started on rows with the Initial Orders.
-#[tactic(auto, unfolding(crate::specs::EntryState::first_state))]
+#[tactic(auto, unfolding(ed_initial::specs::Entry::first_state))]
 pub fn started(alloc: Global, size: Size, rows: Vec<Code>) -> Result<Machine, NoMemory>
     ensures is { IfOk result (λ m. m ≡ first_state size rows.items) }
     ensures stands { IfOk result (λ m. IsStarted m) }

@@ -10,6 +10,7 @@ pub mod Opened
 mod Arrivals
 pub mod Compared
 pub mod Started
+pub mod Starts
 pub mod Quiet
 pub mod Whole
 pub mod Walked

@@ -17,12 +17,10 @@ use Rattle.ed_run.specs.Laws.{AllWent, HasRoom}
 use Rattle.ed_run.specs.Run.{end_by}
 use Rattle.ed_run.proofs.Later.{quiet_stops}
 use Rattle.ed_run.proofs.Places as places
-use Rattle.ed_initial.specs.Entry.{IsStarted}
+use Rattle.ed_initial.specs.Entry.{IsStarted, first_state}
 use Rattle.ed_notation.specs.Faults.{TapeEntry}
 use Rattle.ed_notation.specs.declared.cause.TapeCause.{TapeCause}
-use Rattle.ed_answers.specs.EntryState.{first_state}
-use Rattle.ed_answers.proofs.Entries.{starts}
-use Rattle.ed_answers.proofs.Starts.{sound_start}
+use Rattle.ed_initial.proofs.Starts.{starts, sound_start}
 use Rattle.ed_interlude.specs.declared.tape.PartsEnd.TheVariants.{Ended, Faulty}
 use Rattle.ed_interlude.specs.Laws.{Begins, EachEndIsTheRuns, EndsAsParts, EndsAsRun}
 use Rattle.ed_interlude.specs.Parts.{Concludes, Finishes, GoesBack, ReportsParts, LeadsTo}

@@ -9,9 +9,8 @@ use Rattle.ed_machine.specs.Steps.{progress, state_after}
 use Rattle.ed_machine.specs.declared.ending.Ending.{Ending}
 use Rattle.ed_run.specs.Run.{EndsAfter}
 use Rattle.ed_notation.specs.Faults.{TapeEntry}
-use Rattle.ed_initial.specs.Entry.{IsStarted, at_entry}
+use Rattle.ed_initial.specs.Entry.{IsStarted, at_entry, first_state}
 use Rattle.ed_interlude.specs.Returned.{IsReturned}
-use Rattle.ed_answers.specs.EntryState.{first_state}
 use Rattle.ed_interlude.specs.declared.tape.PartsEnd.TheVariants.{Ended}
 use Rattle.ed_interlude.specs.Parts.{LeadsTo, TapePart, IsReportOfTape, PartsReport, part_entry_state, programs_printed}
 

@@ -4,7 +4,7 @@
 //! Contract: if the rest of a tape is well formed, it is loaded as it means, from the directive that the program left; a
 //! tape in parts has one report, and its lines are written, or the beginning of them if a write fails. The report has a
 //! line for each entry and each return. The Initial Orders lead every part to its entry. Depends on `ed_initial`,
-//! `ed_run`, `ed_io`, `ed_report` and `ed_answers`.
+//! `ed_run`, `ed_io` and `ed_report`.
 #![tactic(auto)]
 
 mod part;

@@ -14,7 +14,7 @@ use Rattle.ed_machine.proofs.Steps.{after_sum, no_step, past_sum}
 use Rattle.ed_run.specs.Run.{end_at, end_by, run_end, run_orders}
 use Rattle.ed_run.proofs.Ends.{ran_ends}
 use Rattle.ed_run.specs.declared.settings.Settings.{Settings}
-use Rattle.ed_answers.specs.EntryState.{first_state}
+use Rattle.ed_initial.specs.Entry.{first_state}
 use Rattle.ed_answers.specs.FirstOrders.{first_state1, run1_of}
 use Rattle.ed_answers.specs.Runs.{paper_room, run_of}
 use Rattle.ed_page.specs.Going.{GoingLaw, run_following}

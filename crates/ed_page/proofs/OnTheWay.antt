@@ -19,9 +19,8 @@ use Rattle.ed_machine.specs.Steps.{state_after}
 use Rattle.ed_machine.proofs.Keeping.{steps_follow}
 use Rattle.ed_machine.proofs.SoundSteps.{sound_after}
 use Rattle.ed_initial.specs.Listing.{initial_orders}
-use Rattle.ed_answers.specs.EntryState.{first_state}
-use Rattle.ed_answers.proofs.Entries.{all_fit}
-use Rattle.ed_answers.proofs.Starts.{first_sound}
+use Rattle.ed_initial.specs.Entry.{first_state}
+use Rattle.ed_initial.proofs.Starts.{all_fit, first_sound}
 use Rattle.ed_initial1.specs.Listing.{first_orders}
 use Rattle.ed_answers.specs.FirstOrders.{first_state1}
 use Rattle.ed_page.specs.Going.{AreCodes, CanGoOn, IsAfterStart}

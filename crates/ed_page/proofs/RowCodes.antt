@@ -6,13 +6,13 @@ use Rattle.ed_words.specs.Texts.{Text}
 use Rattle.ed_words.specs.declared.size.Size.{Size}
 use Rattle.ed_codes.specs.Reading.{reading, rows}
 use Rattle.ed_notation.specs.Spellings.{canonicals, text_of}
+use Rattle.ed_initial.proofs.Starts.{read_fit}
 use Rattle.ed_syntax.specs.declared.program.Line.{Line}
 use Rattle.ed_answers.specs.Refusals.{IsAcceptedAs}
 use Rattle.ed_link.specs.Linked.{data_after}
 use Rattle.ed_link.specs.Punch.{punched_items}
 use Rattle.ed_link.specs.Tapes.{after_text, tape}
 use Rattle.ed_answers.proofs.PunchedTexts.{text_is_tape}
-use Rattle.ed_answers.proofs.Starts.{read_fit}
 use Rattle.ed_page.specs.Going.{AreCodes}
 
 pub read_codes : (text : Text) (codes : List ℕ) → reading text ≡ rows codes → AreCodes codes

@@ -9,7 +9,7 @@ use Rattle.ed_machine.specs.State.{State}
 use Rattle.ed_machine.specs.OrderTable.{jump_order, next_word, obey_word, place_of, step, row_order}
 use Rattle.ed_machine.specs.Steps.{progress, state_after}
 use Rattle.ed_run.specs.Run.{run_end, run_orders}
-use Rattle.ed_answers.specs.EntryState.{first_state}
+use Rattle.ed_initial.specs.Entry.{first_state}
 use Rattle.ed_answers.specs.FirstOrders.{first_state1}
 use Rattle.ed_answers.specs.Runs.{paper_room}
 use Rattle.ed_page.specs.Answers.{EachRun1ReadsOn, EachRunReadsOn, IsEndOf}

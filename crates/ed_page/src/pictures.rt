@@ -1,9 +1,9 @@
 ghost use Rattle.std.specs.Prelude.{◌≡◌, ◌≢◌, ◌<◌, List, None, false, length, ℕ};
 ghost use Rattle.ed_codes.specs.Reading.{reading, rows};
+ghost use Rattle.ed_initial.specs.Entry.{first_state};
 ghost use Rattle.ed_syntax.specs.declared.program.Line.{Line};
 ghost use Rattle.ed_answers.specs.Refusals.{IsAcceptedAs};
 ghost use Rattle.ed_link.specs.Tapes.{tape};
-ghost use Rattle.ed_answers.specs.EntryState.{first_state};
 ghost use Rattle.ed_answers.specs.Answer.{of_input};
 ghost use Rattle.ed_answers.specs.FirstOrders.{first_state1, tape1_answer};
 ghost use Rattle.ed_answers.specs.Sources.{run_answer};

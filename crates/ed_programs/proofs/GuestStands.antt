@@ -24,6 +24,8 @@ use Rattle.ed_library.specs.Routines.{is_working, missing_row, routine_item, tab
 use Rattle.ed_syntax.specs.declared.program.Line.{Line}
 use Rattle.ed_symbols.specs.NameFaults.{counter_after}
 use Rattle.ed_notation.specs.Spellings.{canonicals, text_of}
+use Rattle.ed_initial.specs.Entry.{first_state}
+use Rattle.ed_initial.proofs.Starts.{sound_start}
 use Rattle.ed_link.specs.Linked.{data_after, first_place, symbols_of, operand_number}
 use Rattle.ed_link.specs.Punch.{punched_items}
 use Rattle.ed_answers.specs.Refusals.{IsAcceptedAs}
@@ -31,10 +33,9 @@ use Rattle.ed_link.specs.Tapes.{after_text, cost, tape}
 use Rattle.ed_link.specs.Words.{LinePlaces, words_of_line}
 use Rattle.ed_answers.proofs.PunchedTexts.{text_is_tape}
 use Rattle.ed_link.proofs.WordLaws.{each_word_stands}
-use Rattle.ed_answers.specs.EntryState.{entry_state, first_state}
+use Rattle.ed_answers.specs.EntryState.{entry_state}
 use Rattle.ed_answers.proofs.Entries.{each_source}
 use Rattle.ed_answers.proofs.EntryWords.{each_entry_has_words}
-use Rattle.ed_answers.proofs.Starts.{sound_start}
 use Rattle.ed_routines.specs.Catalogue.{with_h}
 use Rattle.ed_checker.specs.Checker.{HasImage, check, guest}
 use Rattle.ed_checker.specs.Laws.{HasGuest}

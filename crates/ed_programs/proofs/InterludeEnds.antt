@@ -18,12 +18,10 @@ use Rattle.ed_notation.specs.Fold.{over, word_with}
 use Rattle.ed_notation.specs.Faults.{TapeEntry}
 use Rattle.ed_notation.proofs.Contents.{length-over}
 use Rattle.ed_notation.proofs.Steps.{plain}
-use Rattle.ed_initial.specs.Entry.{at_entry, entry_words}
+use Rattle.ed_initial.specs.Entry.{at_entry, entry_words, first_state}
 use Rattle.ed_initial.specs.Listing.{initial_orders}
 use Rattle.ed_initial.specs.Rests.{initial_words}
 use Rattle.ed_interlude.specs.Returned.{AreListed, IsReturned, directive, reopening}
-use Rattle.ed_answers.specs.EntryState.{first_state}
-use Rattle.ed_answers.proofs.Entries.{all_fit}
 use Rattle.ed_machine.proofs.Kit.Frames.{Frame, Moment, short, state}
 use Rattle.ed_machine.proofs.Kit.Leads.{Leads}
 use Rattle.ed_machine.proofs.Kit.Moves.{A, E_jumps, O, U, Z}
@@ -31,6 +29,7 @@ use Rattle.ed_machine.proofs.Kit.Paths.{Path, leads, on, prints, stay}
 use Rattle.ed_machine.proofs.Kit.Places.{any, early, out, own}
 use Rattle.ed_machine.proofs.Kit.Standing.{Holds, filled, opens}
 use Rattle.ed_machine.proofs.Kit.Window.{patched}
+use Rattle.ed_initial.proofs.Starts.{all_fit}
 use Rattle.ed_routines.proofs.Journeys.{ComesToStop, along, to_stop}
 use Rattle.ed_top.proofs.Making.Decimals.{among, numbers}
 use Rattle.ed_programs.proofs.InterludeLoads.{from_return, interlude_note, program_note, program_placed}

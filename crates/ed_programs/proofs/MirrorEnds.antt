@@ -12,11 +12,11 @@ use Rattle.ed_machine.specs.State.{State}
 use Rattle.ed_notation.specs.Faults.{TapeEntry}
 use Rattle.ed_notation.specs.Reading.{reading_on}
 use Rattle.ed_notation.proofs.Texts.{AreCodes}
-use Rattle.ed_answers.specs.EntryState.{first_state}
 use Rattle.ed_machine.proofs.Kit.Frames.{state}
 use Rattle.ed_machine.proofs.Kit.Standing.{opens}
 use Rattle.ed_machine.proofs.Kit.Window.{patched}
 use Rattle.ed_run.specs.declared.settings.Settings.{Settings}
+use Rattle.ed_initial.specs.Entry.{first_state}
 use Rattle.ed_routines.proofs.Journeys.{ComesToStop}
 use Rattle.ed_top.proofs.Making.Decimals.{numbers}
 use Rattle.ed_top.proofs.Making.Entries.{is_met, moment_at}

@@ -17,15 +17,14 @@ use Rattle.ed_notation.specs.Faults.{TapeEntry}
 use Rattle.ed_notation.specs.Openings.{IsDirective, opening}
 use Rattle.ed_notation.specs.Reading.{Arrived, reading_on}
 use Rattle.ed_notation.proofs.Laws.{reading_is_rules}
-use Rattle.ed_answers.specs.EntryState.{first_state}
-use Rattle.ed_answers.proofs.Entries.{first_store, starts}
-use Rattle.ed_initial.specs.Entry.{Comes}
+use Rattle.ed_initial.specs.Entry.{Comes, first_state}
 use Rattle.ed_initial.proofs.Quiet.{LeadsIn, comes_in}
 use Rattle.ed_run.specs.Run.{RunEnd, run_end}
 use Rattle.ed_run.proofs.Later.{ran_later}
 use Rattle.ed_printer.specs.Paper.{paper}
 use Rattle.ed_machine.proofs.Kit.Standing.{Holds}
 use Rattle.ed_run.specs.declared.settings.Settings.{Settings}
+use Rattle.ed_initial.proofs.Starts.{first_store, starts}
 use Rattle.ed_routines.proofs.Journeys.{ComesToStop}
 use Rattle.ed_top.proofs.Making.Stops.{ran_to_stop}
 use Rattle.ed_top.proofs.Making.Decimals.{among, numbers}

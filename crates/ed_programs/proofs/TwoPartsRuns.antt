@@ -24,17 +24,16 @@ use Rattle.ed_printer.specs.Paper.{paper}
 use Rattle.ed_notation.specs.Fold.{address}
 use Rattle.ed_notation.specs.Faults.{TapeEntry}
 use Rattle.ed_notation.specs.Items.{rows_of, spelled_rows}
-use Rattle.ed_initial.specs.Entry.{Comes, at_entry}
+use Rattle.ed_initial.specs.Entry.{Comes, at_entry, first_state}
 use Rattle.ed_initial.proofs.Quiet.{LeadsIn, comes_in}
 use Rattle.ed_interlude.specs.Returned.{ComesBack, IsReturned, directive}
 use Rattle.ed_interlude.proofs.Resumed.{leads_back}
-use Rattle.ed_answers.specs.EntryState.{first_state}
-use Rattle.ed_answers.proofs.Entries.{first_store, starts}
 use Rattle.ed_machine.proofs.Kit.Frames.{Frame, Moment, state}
 use Rattle.ed_machine.proofs.Kit.Leads.{Leads, free, goes_on, joined, no_stops, obeyed_of}
 use Rattle.ed_machine.proofs.Kit.Paths.{Path, no_state, on, prints, stay}
 use Rattle.ed_machine.proofs.Kit.Paths as paths
 use Rattle.ed_run.specs.declared.settings.Settings.{Settings}
+use Rattle.ed_initial.proofs.Starts.{first_store, starts}
 use Rattle.ed_routines.proofs.Journeys.{ComesToStop, stop_after}
 use Rattle.ed_report.specs.Entries.{entry_line, returned_line}
 use Rattle.ed_report.specs.Notes.{at_after}

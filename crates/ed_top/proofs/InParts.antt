@@ -3,7 +3,7 @@ use Rattle.std.proofs.Common.{◌≡◌, ◌∙◌, ℕ, List, [], refl, sym, ap
 use Rattle.std.specs.Prelude.{Ok, Err}
 use Rattle.ed_machine.specs.State.{State}
 use Rattle.ed_run.specs.declared.settings.Settings.{Settings}
-use Rattle.ed_answers.specs.EntryState.{first_state}
+use Rattle.ed_initial.specs.Entry.{first_state}
 use Rattle.ed_interlude.specs.Parts.{PartsAnswer, IsReportOfTape, PartsReport}
 use Rattle.ed_interlude.specs.declared.tape.PartsEnd.{PartsEnd}
 use Rattle.ed_io.specs.Causes.{stop_faults}

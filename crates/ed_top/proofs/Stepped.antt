@@ -19,7 +19,7 @@ use Rattle.ed_run.specs.Run.{RunEnd, run_end, run_orders}
 use Rattle.ed_run.proofs.Ends.{ends_once, ran_ends}
 use Rattle.ed_run.proofs.Places.{at_limit}
 use Rattle.ed_run.specs.declared.settings.Settings.{Settings}
-use Rattle.ed_answers.specs.EntryState.{first_state}
+use Rattle.ed_initial.specs.Entry.{first_state}
 use Rattle.ed_report.specs.Listings.{listing}
 use Rattle.ed_report.specs.Notes.{ending_line}
 use Rattle.ed_report.specs.Traces.{functions_after, is_full, last_end, letters_from, line_end, trace_text}

@@ -28,10 +28,9 @@ use Rattle.ed_notation.specs.Reading.{Verdict, Arrived, Faulty, part_word, readi
 use Rattle.ed_notation.specs.Reading.{kay_sets, zed_sets}
 use Rattle.ed_notation.specs.Reading.{letter_effect, entry_by, part_of, set_by, placed_by}
 use Rattle.ed_notation.proofs.Laws.{reading_is_rules}
-use Rattle.ed_initial.specs.Entry.{Comes}
+use Rattle.ed_initial.specs.Entry.{Comes, first_state}
 use Rattle.ed_initial.proofs.Quiet.{LeadsIn, comes_in}
-use Rattle.ed_answers.specs.EntryState.{first_state}
-use Rattle.ed_answers.proofs.Entries.{first_store, starts}
+use Rattle.ed_initial.proofs.Starts.{first_store, starts}
 use Rattle.ed_answers.specs.Tapes.{first_note}
 use Rattle.ed_answers.specs.Runs.{paper_room, post_mortem_codes, ran_outcome, run_of, with_post_mortem}
 use Rattle.ed_top.specs.TapeEntries.{EachTapeRunsFromEntry}

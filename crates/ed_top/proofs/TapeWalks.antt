@@ -21,7 +21,7 @@ use Rattle.ed_run.proofs.Later.{quiet_stops}
 use Rattle.ed_run.specs.declared.settings.Settings.{Settings}
 use Rattle.ed_notation.specs.Faults.{TapeEntry}
 use Rattle.ed_initial.proofs.Quiet.{LeadsIn}
-use Rattle.ed_answers.specs.EntryState.{first_state}
+use Rattle.ed_initial.specs.Entry.{first_state}
 use Rattle.ed_report.specs.Notes.{ending_line}
 use Rattle.ed_stepper.specs.MoveEnds.{Ends, entered_after, move_end, move_orders, stopped_after}
 use Rattle.ed_stepper.specs.Scripts.{move_line}

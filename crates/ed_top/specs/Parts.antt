@@ -1,13 +1,13 @@
 -- The answer of `parts` (this project's own rule).
 use Rattle.std.specs.Prelude.{◌≡◌, ℕ, List}
 use Rattle.ed_machine.specs.State.{State}
-use Rattle.ed_answers.specs.EntryState.{first_state}
 use Rattle.ed_report.specs.Notes.{ending_line, part_line}
 use Rattle.ed_interlude.specs.Parts.{IsReportOfTape, PartsReport}
 use Rattle.ed_interlude.specs.declared.tape.PartsEnd.{PartsEnd}
 use Rattle.ed_interlude.specs.declared.tape.PartsEnd.TheVariants.{Ended, Faulty}
 use Rattle.ed_words.specs.Texts.{Text}
 use Rattle.ed_run.specs.declared.settings.Settings.{Settings}
+use Rattle.ed_initial.specs.Entry.{first_state}
 use Rattle.ed_answers.specs.Outcome.{Outcome}
 use Rattle.ed_answers.specs.Runs.{status_of}
 

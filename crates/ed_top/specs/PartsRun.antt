@@ -5,11 +5,11 @@ use Rattle.ed_codes.specs.Reading.{reading, rows}
 use Rattle.ed_machine.specs.declared.ending.Ending.{Ending}
 use Rattle.ed_machine.specs.declared.ending.Ending.TheVariants.{PaperFull}
 use Rattle.ed_printer.specs.Paper.{paper}
-use Rattle.ed_answers.specs.EntryState.{first_state}
 use Rattle.ed_interlude.specs.Parts.{IsReportOfTape, PartsReport, programs_printed}
 use Rattle.ed_interlude.specs.declared.tape.PartsEnd.TheVariants.{Ended}
 use Rattle.ed_words.specs.Texts.{Text}
 use Rattle.ed_run.specs.declared.settings.Settings.{Settings}
+use Rattle.ed_initial.specs.Entry.{first_state}
 use Rattle.ed_answers.specs.Tapes.{tape_outcome}
 use Rattle.ed_top.specs.Parts.{report_outcome}
 use Rattle.ed_answers.specs.Runs.{paper_room, run_of, status_of}

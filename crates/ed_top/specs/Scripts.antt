@@ -4,7 +4,6 @@ use Rattle.ed_codes.specs.Reading.{Reading, rows, no_row, open_comment, reading}
 use Rattle.ed_codes.specs.declared.tape.TextFault.TheVariants.{NoRow, OpenComment}
 use Rattle.ed_syntax.specs.Lines.{lines_of}
 use Rattle.ed_link.specs.Tapes.{tape}
-use Rattle.ed_answers.specs.EntryState.{first_state}
 use Rattle.ed_report.specs.Notes.{bad_command_line, no_text_line, text_fault_line, too_far_line}
 use Rattle.ed_stepper.specs.Inputs.{Input, input_of}
 use Rattle.ed_stepper.specs.ScriptLines.{CommandList, IsFirstBadLine, OfScript}
@@ -14,6 +13,7 @@ use Rattle.ed_stepper.specs.declared.inputs.TextKind.{TextKind}
 use Rattle.ed_stepper.specs.declared.inputs.TextKind.TheVariants as kinds
 use Rattle.ed_words.specs.Texts.{Text}
 use Rattle.ed_run.specs.declared.settings.Settings.{Settings}
+use Rattle.ed_initial.specs.Entry.{first_state}
 use Rattle.ed_answers.specs.Outcome.{Outcome, done, refusal}
 use Rattle.ed_answers.specs.Sources.{OfSource}
 

@@ -8,8 +8,7 @@ use Rattle.ed_run.specs.Run.{run_end}
 use Rattle.ed_printer.specs.Paper.{paper}
 use Rattle.ed_run.specs.declared.settings.Settings.{Settings}
 use Rattle.ed_notation.specs.Faults.{TapeEntry, ComesTo, WellFormed}
-use Rattle.ed_initial.specs.Entry.{at_entry}
-use Rattle.ed_answers.specs.EntryState.{first_state}
+use Rattle.ed_initial.specs.Entry.{at_entry, first_state}
 use Rattle.ed_report.specs.Entries.{entry_line}
 use Rattle.ed_stepper.specs.Scripts.{line_of_move, move_line, after_move}
 use Rattle.ed_stepper.specs.declared.moves.MoveTarget.TheVariants.{Entry}

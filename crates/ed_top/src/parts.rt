@@ -1,6 +1,6 @@
 ghost use Rattle.std.specs.Prelude.{◌≡◌, ◌<◌, ◌≤◌, ◌^◌, [], List, ℕ, IfOk, length};
+ghost use Rattle.ed_initial.specs.Entry.{first_state};
 ghost use Rattle.ed_answers.specs.Answer.{of_input, of_rows};
-ghost use Rattle.ed_answers.specs.EntryState.{first_state};
 ghost use Rattle.ed_top.specs.Clause.{device};
 ghost use Rattle.ed_top.specs.Parts.{IsInParts, end_note, end_status};
 ghost use Rattle.ed_top.specs.Private.Stages.{Carried};

@@ -27,11 +27,11 @@ use Rattle.ed_initial.specs.Rests.{initial_words}
 use Rattle.ed_library.specs.Images.{image_word, parameter_store}
 use Rattle.ed_library.specs.Routines.{is_working}
 use Rattle.ed_answers.specs.EntryState.{entry_state, own_words}
-use Rattle.ed_answers.proofs.Entries.{all_fit}
 use Rattle.ed_machine.proofs.Steps.{after_sum}
 use Rattle.ed_machine.proofs.Kit.Frames.{short}
 use Rattle.ed_machine.proofs.Kit.Leads.{Leads, first_order, free, joined, no_stops}
 use Rattle.ed_machine.proofs.Kit.Zeros.{begun, shown}
+use Rattle.ed_initial.proofs.Starts.{all_fit}
 use Rattle.ed_routines.specs.Catalogue.{print, with_h}
 use Rattle.ed_routines.specs.Digits.{before_units, digits, print_orders, sum}
 use Rattle.ed_routines.specs.Standing.{IsOutside, Stands, caller}
