@@ -1,8 +1,8 @@
 //! The command line: its words, read as one command with its settings.
 //!
 //! Contract: the command exactly if the words are a line of the table, its numbers in range. Other words are a usage
-//! fault. `clap` reads the words; the definition is a table of lines. Depends on `ed_library` for the
-//! values of a call and on `ed_run` for the settings of a run.
+//! fault. `clap` reads the words; the definition is a table of lines. Depends on `ed_library` for the values of a call
+//! and on `ed_run` for the settings of a run.
 #![tactic(auto)]
 
 mod command;

@@ -1,4 +1,4 @@
-//! The settings of a run, which the options of the command line make.
+//! The settings of a run: its limit, its resumes, its store, and the locations to print after it.
 use ed_words::Size;
 
 /// The settings of a run.
