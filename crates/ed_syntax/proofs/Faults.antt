@@ -2,6 +2,7 @@
 use Rattle.std.proofs.Common.{◌≡◌, ℕ, ◌<◌, ◌≤◌, false, ap, refl, sym, Bool, true, List, [], ◌∷◌, map, length, arith}
 use Rattle.std.proofs.Common.{inl, inr}
 use Rattle.std.specs.Prelude.{Option, Some, None, option_map, Ok, Err, nat_lt, ◌⊎◌, if◌then◌else◌}
+use Rattle.std.specs.Borrow.{Bor}
 use Rattle.std.specs.List.{list_all}
 use Rattle.std.proofs.lemmas.Bool.Decides.{nat_tests}
 use Rattle.ed_words.specs.Texts.{Text}
@@ -11,11 +12,13 @@ use Rattle.ed_syntax.specs.Private.Found.{form_result}
 use Rattle.ed_syntax.specs.Parts.{LinePart, is_line_byte}
 use Rattle.ed_syntax.specs.Private.PartReading.{parts_of}
 use Rattle.ed_syntax.specs.Private.Grammar.{Ranged, form_at, is_plus_or_minus, labelled_line, ranged_map, placed_statement}
+use Rattle.ed_syntax.specs.Private.Grammar.{joined_operand, operand, with_rest}
 use Rattle.ed_syntax.specs.Private.Seen.{part}
 use Rattle.ed_syntax.specs.Private.SourceReading.{line_of, or_cause}
 use Rattle.ed_syntax.specs.declared.form_fault.FormFault.{FormFault}
 use Rattle.ed_syntax.specs.declared.form_fault.FormFault.TheVariants.{NotThisForm, OutOfRange}
 use Rattle.ed_syntax.specs.declared.parts.Part.{Part}
+use Rattle.ed_syntax.specs.declared.parts.Part.TheVariants.{Run, Sign}
 use Rattle.ed_syntax.specs.declared.form.Form.{Form}
 
 -- what is made of what is not read is not read, with the same fault
@@ -82,9 +85,17 @@ after_a_label two r [] e h = absurd (omega arith)
 after_a_label two r (p ∷ ps) e h = rw e refl
 
 -- a plus or a minus sign, by its test
-pub plus_or_minus : (s : ℕ) → (s ≡ 43) ⊎ (s ≡ 45) → is_plus_or_minus s ≡ true
+plus_or_minus : (s : ℕ) → (s ≡ 43) ⊎ (s ≡ 45) → is_plus_or_minus s ≡ true
 plus_or_minus s (inl e) = rw e refl
 plus_or_minus s (inr e) = rw e refl
+
+-- the operand at the front of parts where a plus or a minus joins two runs
+pub joined_read : {ps after joins rest : List Part} {a b c : Part} {r n : Bor Text} {s : ℕ} (two : Bool)
+    → ps ≡ a ∷ after → a ≡ Run r → after ≡ b ∷ joins → b ≡ Sign s → joins ≡ c ∷ rest → c ≡ Run n
+    → (s ≡ 43) ⊎ (s ≡ 45)
+    → operand two (map part ps) ≡ with_rest (map part rest) (joined_operand two r.now s n.now)
+joined_read two front first next second last third e =
+    rw (front, first, next, second, last, third, plus_or_minus _ e) refl
 
 -- what is made of a string, by what is read
 pub string_read : {A B C : Type 0} (g : A → B) (f : B → C) (o : Option A) (b : B) → Some b ≡ option_map g o
