@@ -1,6 +1,6 @@
-use Rattle.std.proofs.Common.{ℕ, ◌≡◌, ◌≢◌, ap, rules, arith, ◌∙◌, refl, subst, inl, inr, take, List, [], Option}
+use Rattle.std.proofs.Common.{ℕ, ◌≡◌, ◌≢◌, ap, rules, arith, ◌∙◌, refl, subst, inl, inr, take, drop, length, ◌++◌, ◌≤◌, length-append, sym, List, [], Option}
 use Rattle.ed_words.specs.Texts.{Text}
-use Rattle.std.proofs.lemmas.List.{append-nil, take-append-le}
+use Rattle.std.proofs.lemmas.List.{append-nil, take-append-le, length-take, length-take-le}
 use Rattle.std.proofs.lemmas.Result.{err_from_is_err_and}
 use Rattle.ed_io.specs.Bytes.{Loses}
 use Rattle.ed_io.specs.Causes.{next_count}
@@ -21,6 +21,10 @@ lost_all before middle after bytes n more lost none also =
     subst (λ (xs : List ℕ). Loses before after xs) (append-nil bytes)
     (loses_more before middle after bytes [] lost (lost_none middle after n more none also))
 
+-- as many bytes are taken as are there at least
+first_taken : (n : ℕ) (xs ys : List ℕ) → n ≤ length xs → length (take n (xs ++ ys)) ≡ n
+first_taken n xs ys within = length-take-le n (xs ++ ys) (omega (arith, length-append xs ys))
+
 memory_apart : input.Memory ≢ input.TooLong
 memory_apart same = absurd (cc)
 
@@ -37,10 +41,18 @@ loop-piece-init g c = record {
 pub loop-piece-preserved : goal.loop-piece-preserved
 loop-piece-preserved g c =
     let read = c.in_ok-count.ensures in
+    let length_is = first_taken c.in_ok-count.count c.read.new.into (drop c.min-room.result c.loop-piece.piece) read.within in
     record {
       taken = rw (c.in_ok-extend_from_slice.ensures.items, take-append-le c.in_ok-count.count c.read.new.into _ read.within)
           (loses_more _ (g.S.Source.left c.loop-piece.source) _ _ _ c.loop-piece.invariant.taken read.bytes.0);
-      few = search rules;
+      few = omega (
+        arith,
+        c.in_ok-extend_from_slice.ensures.len,
+        length_is,
+        read.within,
+        c.read.auto.into,
+        length-take c.min-room.result c.loop-piece.piece,
+      );
       faults = read.faults ∙ c.loop-piece.invariant.faults;
     }
 
@@ -89,3 +101,14 @@ returns g c =
             faults = rw read.faults before.faults;
           })
     ]
+
+pub loop-piece-smaller : goal.loop-piece-smaller
+loop-piece-smaller g c =
+    omega (
+      arith,
+      c.in_ok-extend_from_slice.ensures.len,
+      first_taken c.in_ok-count.count c.read.new.into (drop c.min-room.result c.loop-piece.piece) c.in_ok-count.ensures.within,
+    )
+
+pub slice_bounds-extend_from_slice-end : goal.slice_bounds-extend_from_slice-end
+slice_bounds-extend_from_slice-end g c = sym (first_taken c.in_ok-count.count c.read.new.into _ c.in_ok-count.ensures.within)
