@@ -1,6 +1,11 @@
-use Rattle.std.proofs.Common.{inl, inr, refl, subst}
+use Rattle.std.proofs.Common.{◌≡◌, ◌≢◌, ◌⊎◌, inl, inr, refl, subst, ℕ}
 use Rattle.ed_run.specs.SettingRanges.{IsWindowOf}
 use Rattle.ed_page.proofs.postmortem.page_post_mortem.Goals as goal
+
+-- buffers of the lengths of a store lack nothing
+none_lacks : {A : Type 0} {words digits : ℕ} → words ≡ 1024 → digits ≡ 512 → (words ≢ 1024) ⊎ (digits ≢ 512) → A
+none_lacks words digits (inl wrong) = absurd (wrong words)
+none_lacks words digits (inr wrong) = absurd (wrong digits)
 
 pub returns-then-words-ne1024-clause-told : goal.returns-then-words-ne1024-clause-told
 returns-then-words-ne1024-clause-told c words digits s begins k pictured = elim c.then-words-ne1024.either [
@@ -12,22 +17,13 @@ pub returns-then-words-ne1024-clause-early : goal.returns-then-words-ne1024-clau
 returns-then-words-ne1024-clause-early c lacks = (refl, refl)
 
 pub returns-in-Ok-clause-early : goal.returns-in-Ok-clause-early
-returns-in-Ok-clause-early c lacks = elim lacks [
-  | inl wrong ↦ absurd (wrong c.if-words-ne1024.false)
-  | inr wrong ↦ absurd (wrong c.if-digits-ne512.false)
-]
+returns-in-Ok-clause-early c = none_lacks c.if-words-ne1024.false c.if-digits-ne512.false
 
 pub returns-in-Err-clause-early : goal.returns-in-Err-clause-early
-returns-in-Err-clause-early c lacks = elim lacks [
-  | inl wrong ↦ absurd (wrong c.if-words-ne1024.false)
-  | inr wrong ↦ absurd (wrong c.if-digits-ne512.false)
-]
+returns-in-Err-clause-early c = none_lacks c.if-words-ne1024.false c.if-digits-ne512.false
 
 pub returns-then-not-is_window-clause-early : goal.returns-then-not-is_window-clause-early
-returns-then-not-is_window-clause-early c lacks = elim lacks [
-  | inl wrong ↦ absurd (wrong c.if-words-ne1024.false)
-  | inr wrong ↦ absurd (wrong c.if-digits-ne512.false)
-]
+returns-then-not-is_window-clause-early c = none_lacks c.if-words-ne1024.false c.if-digits-ne512.false
 
 pub printed_paper-requires : goal.printed_paper-requires
 printed_paper-requires c = record {
