@@ -1,4 +1,5 @@
-use Rattle.std.proofs.Common.{ℕ, ◌≡◌, ◌≢◌, ap, rules, arith, ◌∙◌, refl, subst, inl, inr, take, drop, length, ◌++◌, ◌≤◌, length-append, sym, List, [], Option}
+use Rattle.std.proofs.Common.{ℕ, ◌≡◌, ◌≢◌, ◌≤◌, ap, rules, arith, ◌∙◌, refl, subst, sym, inl, inr, List, [], Option}
+use Rattle.std.proofs.Common.{◌++◌, drop, length, length-append, take}
 use Rattle.ed_words.specs.Texts.{Text}
 use Rattle.std.proofs.lemmas.List.{append-nil, take-append-le, length-take, length-take-le}
 use Rattle.std.proofs.lemmas.Result.{err_from_is_err_and}
