@@ -2,8 +2,9 @@
 
 use crate::support::{answers, expect_that};
 use ed_programs::{
-    Refusal, add_program, difference_program, fraction_program, greatest_program, hello_program,
-    interlude_program, mirror_program, multiply_program, sort_program, squares_program,
+    Refusal, add_program, decimals_program, difference_program, fraction_program, greatest_program,
+    hello_program, interlude_program, mirror_program, multiply_program, sort_program,
+    squares_program,
 };
 use std::alloc::Global;
 use std::process::Abort;
@@ -521,6 +522,14 @@ fn mirror_prints_backwards(rt: HostRuntime) -> Result<(), Fail> {
         answers(&rt, rt.alloc(), "tape", tape, wanted)?;
     }
     Ok(())
+}
+
+#[test]
+fn decimals_prints_a_hundred_decimals(rt: HostRuntime) -> Result<(), Fail> {
+    let wanted = "2.\r\n\
+    7182818284 5904523536 0287471352 6624977572 4709369995\r\n\
+    9574966967 6277240766 3035354759 4571382178 5251664274\r\n";
+    answers(&rt, rt.alloc(), "run", decimals_program(rt.alloc()), wanted)
 }
 
 #[test]

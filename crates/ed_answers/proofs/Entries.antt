@@ -9,10 +9,9 @@ use Rattle.ed_words.specs.declared.order_words.TheConstants.{T_F}
 use Rattle.ed_machine.specs.State.{State}
 use Rattle.ed_notation.specs.Fold.{over}
 use Rattle.ed_notation.specs.Faults.{TapeEntry}
-use Rattle.ed_notation.specs.Items.{spelled_rows}
-use Rattle.ed_notation.specs.Spellings.{canonicals}
+use Rattle.ed_notation.specs.Spellings.{item_rows}
+use Rattle.std.specs.List.{flat_map}
 use Rattle.ed_notation.proofs.Costs.{most}
-use Rattle.ed_initial.specs.Rests.{initial_words}
 use Rattle.ed_initial.specs.Entry.{at_entry, Comes, IsLoaded, first_state}
 use Rattle.ed_initial.specs.declared.loading.Loaded.{Loaded}
 use Rattle.ed_initial.proofs.Starts.{first_length, first_store, first_words, starts}
@@ -23,7 +22,7 @@ use Rattle.ed_link.specs.Answers.{IsLinked}
 use Rattle.ed_link.specs.Linked.{linked_words, entry_of, data_after}
 use Rattle.ed_answers.proofs.EachSource.{each_source as comes_to}
 use Rattle.ed_link.specs.Tapes.{ComesToLinked, arrival, cost, tape}
-use Rattle.ed_answers.specs.EntryState.{Enters, EachSourceEnters, entry_state, own_words}
+use Rattle.ed_answers.specs.EntryState.{Enters, EachSourceEnters, entry_state, loader_words}
 
 -- words placed over stores that agree from 44 upwards agree there
 one : (v w : List ℕ) (p x : ℕ) (t : Bool) → nat_lt p 44 ≡ t → drop 44 v ≡ drop 44 w
@@ -57,7 +56,7 @@ entered z lines = λ i.
     let k : ℕ = first_orders (cost lines) i in
     record {
       size = z;
-      store = record { words = initial_words (own_words lines) ++ high; sandwich = replicate 512 false };
+      store = record { words = loader_words lines ++ high; sandwich = replicate 512 false };
       acc = 0;
       multiplier = T_F * 2 ^ 18;
       counter = entry_of lines;
@@ -88,10 +87,10 @@ each_source z source lines a = enters z lines (comes_to z source lines a)
 -- what `load` leaves of the machine that is started on the tape of a linked program
 pub loaded : {z : Size} {lines : List Line} {program : Linked} {rows : List ℕ} {s t : State} {r : Loaded}
     → IsLinked z lines program
-    → s ≡ first_state z rows → rows ≡ spelled_rows (canonicals program.items.items) ++ program.after.items
+    → s ≡ first_state z rows → rows ≡ flat_map item_rows program.items.items ++ program.after.items
     → ((e : TapeEntry) → Comes s e → IsLoaded s e r t) → t ≡ entry_state z lines
 loaded {z} {lines} {rows = rows} {s} is begun written load =
-    let tape_is : rows ≡ tape lines = written ∙ (λ i. spelled_rows (canonicals (is.items i)) ++ is.after i) in
+    let tape_is : rows ≡ tape lines = written ∙ (λ i. flat_map item_rows (is.items i) ++ is.after i) in
     let first : s ≡ first_state z (tape lines) = begun ∙ ap (first_state z) tape_is in
     let e = arrival (first_state z (tape lines)).store.words lines in
     let there = load e (subst (λ (x : State). Comes x e) (sym first) (comes z lines is.loads)) in

@@ -10,12 +10,11 @@ use Rattle.ed_store.specs.Cells.{short_at}
 use Rattle.ed_notation.specs.Checks.{ArePlaces}
 use Rattle.ed_notation.specs.Fold.{over, placed_at}
 use Rattle.ed_notation.proofs.Contents.{content_is}
-use Rattle.ed_initial.specs.Rests.{initial_words}
 use Rattle.ed_syntax.specs.declared.program.Line.{Line}
 use Rattle.ed_link.specs.Linked.{linked_words}
 use Rattle.ed_link.specs.Words.{WordsStand, linked_word}
 use Rattle.ed_link.proofs.WordLaws.{each_word_stands}
-use Rattle.ed_answers.specs.EntryState.{entry_store, own_words}
+use Rattle.ed_answers.specs.EntryState.{entry_store, loader_words}
 use Rattle.ed_answers.specs.EntryWords.{EachEntryHasWords, EntryHasWords, IsFreePlace}
 
 -- all words of a list have locations of the store if each does
@@ -40,7 +39,7 @@ module _ (lines : List Line) where
   abbrev placed : List (ℕ × ℕ)
   placed = reverse (linked_words lines)
 
-  first_words : length (initial_words (own_words lines)) ≡ 44
+  first_words : length (loader_words lines) ≡ 44
   first_words = refl
 
   -- a word after those of the Initial Orders
@@ -48,7 +47,7 @@ module _ (lines : List Line) where
       → short_at (entry_store lines) a ≡ unwrap_or (linked_word lines a) 0
   entry_word are a low high =
       let there : 44 + (a - 44) ≡ a = omega arith in
-      get_or-append_right (initial_words (own_words lines)) (drop 44 (over placed zeros)) 44 a 0 first_words low
+      get_or-append_right (loader_words lines) (drop 44 (over placed zeros)) 44 a 0 first_words low
       ∙ get_or-drop 44 (over placed zeros) (a - 44) 0
       ∙ ap (λ x. get_or (over placed zeros) x 0) there
       ∙ content_is zeros (length-replicate {A = ℕ} 1024 0) placed a are

@@ -20,7 +20,7 @@ use Rattle.ed_answers.specs.FirstOrders.{first_state1}
 use Rattle.ed_answers.specs.Runs.{paper_room, ran_outcome}
 use Rattle.ed_answers.proofs.FromEntry.{silent}
 
-first_store : (codes : List ℕ) → HasItsLengths (first_state1 codes).store
+pub first_store : (codes : List ℕ) → HasItsLengths (first_state1 codes).store
 unfolding first_state1
 first_store codes = record {
   words = omega (
@@ -32,7 +32,7 @@ first_store codes = record {
   sandwich = length-replicate {A = Bool} 512 false;
 }
 
-starts : (codes : List ℕ) → IsStarted1 (first_state1 codes)
+pub starts : (codes : List ℕ) → IsStarted1 (first_state1 codes)
 unfolding first_state1
 starts codes = is_started codes (cleared_state Full) refl
 

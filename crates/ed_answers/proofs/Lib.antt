@@ -8,6 +8,7 @@ pub mod Replies
 pub mod Checks
 pub mod FirstChecks
 pub mod FirstEntries
+pub mod FirstFaults
 mod Keeping
 pub mod FromEntry
 pub mod Sources

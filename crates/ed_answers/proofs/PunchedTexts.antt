@@ -1,5 +1,5 @@
 -- The text of an accepted source's tape is read as its tape.
-use Rattle.std.proofs.Common.{◌≡◌, ℕ, refl, Bool, true, nat_lt}
+use Rattle.std.proofs.Common.{◌≡◌, ◌∙◌, ℕ, refl, ap, sym, Bool, true, nat_lt}
 use Rattle.std.proofs.Common.{Option, Some, List, [], ◌∷◌, ◌++◌}
 use Rattle.std.specs.Prelude.{replicate}
 use Rattle.std.specs.List.{list_all}
@@ -22,6 +22,7 @@ use Rattle.ed_syntax.proofs.Formed.{program_formed}
 use Rattle.ed_syntax.proofs.RunTests.{each_append}
 use Rattle.ed_syntax.proofs.SourceLaws.{program_is_read}
 use Rattle.ed_link.specs.Linked.{data_after, data_rows}
+use Rattle.ed_notation.proofs.ItemRows.{all_rows_are}
 use Rattle.ed_link.specs.Punch.{punched_items}
 use Rattle.ed_answers.specs.Refusals.{IsAcceptedAs}
 use Rattle.ed_link.specs.Tapes.{after_text, punched_rows, tape}
@@ -63,5 +64,6 @@ text_is_tape z source lines a =
     (length-replicate {A = ℕ} 1024 0) in
     both_read (text_of (canonicals (punched_items lines))) (after_text (data_after lines)) (punched_rows lines)
     (data_after lines)
-    (text_reads (canonicals (punched_items lines)) (are_written (punched_items lines) spellable))
+    (text_reads (canonicals (punched_items lines)) (are_written (punched_items lines) spellable)
+    ∙ ap (λ (cs : List ℕ). rows cs) (sym (all_rows_are (punched_items lines))))
     (after_spells (data_after lines) (data_codes two lines formed))

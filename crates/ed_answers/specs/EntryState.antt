@@ -1,6 +1,6 @@
 -- The state in which the program of a source is entered, on a machine that was cleared before Start (what the Initial
 -- Orders of Wilkes, Wheeler and Gill 1951 do with the tape of a linked program).
-use Rattle.std.specs.Prelude.{◌≡◌, ℕ, ◌+◌, ◌*◌, ◌^◌, ◌<◌, ◌≤◌, false, List, []}
+use Rattle.std.specs.Prelude.{◌≡◌, ℕ, ◌+◌, ◌*◌, ◌^◌, ◌<◌, ◌≤◌, false, List, [], ◌∷◌}
 use Rattle.std.specs.Prelude.{◌++◌, None, drop, length, replicate, reverse}
 use Rattle.ed_words.specs.declared.size.Size.{Size}
 use Rattle.ed_store.specs.Cells.{Cells}
@@ -10,33 +10,30 @@ use Rattle.ed_machine.specs.Steps.{progress, state_after}
 use Rattle.ed_machine.specs.declared.turn.Turn.TheVariants.{Went}
 use Rattle.ed_notation.specs.Fold.{over}
 use Rattle.ed_initial.specs.Entry.{first_state}
-use Rattle.ed_initial.specs.Rests.{Working, initial_words}
+use Rattle.ed_initial.specs.Listing.{initial_orders}
+use Rattle.ed_codes.specs.declared.letters.TheConstants.{F}
 use Rattle.ed_words.specs.Texts.{Text}
-use Rattle.ed_words.specs.declared.order_words.TheConstants.{E_F, T_F}
+use Rattle.ed_words.specs.declared.order_words.TheConstants.{A_F, E_F, T_F}
 use Rattle.ed_syntax.specs.declared.program.Line.{Line}
 use Rattle.ed_symbols.specs.Places.{first_counter}
 use Rattle.ed_link.specs.Linked.{linked_words, entry_of, theta_from, data_after}
 use Rattle.ed_link.specs.Tapes.{ComesToLinked, cost, punched_rows, tape}
 use Rattle.ed_answers.specs.Refusals.{IsAcceptedAs}
 
--- the words that the Initial Orders leave in the locations 0, 1, 20, 22 and 40 to 43; the others of 0 to 40 are as
--- listed
-abbrev pub own_words : List Line → Working
-own_words lines = record {
-  at0 = 0;
-  at1 = 17;
-  at20 = 114770;
-  at22 = E_F + 2 * entry_of lines;
-  at40 = 0;
-  at41 = 0;
-  at42 = theta_from 0 first_counter lines;
-  at43 = 1;
-}
+-- the locations 0 to 43 at the entry: the Initial Orders as listed, and 0 after them, but for seven words, as they are
+-- once the last item, P F, is read: its number, 0, in 0; its last row, F, in 1; the order that added the value of F,
+-- A 41 F, in 20; the directive, an E order with the entry, in 22; its function, 0, in 40; θ in 42; and the value of D,
+-- 1, in 43
+abbrev pub loader_words : List Line → List ℕ
+loader_words lines = over
+    ((0, 0) ∷ (1, F) ∷ (20, A_F + 2 * 41) ∷ (22, E_F + 2 * entry_of lines) ∷ (40, 0)
+    ∷ (42, theta_from 0 first_counter lines) ∷ (43, 1) ∷ [])
+    (initial_orders ++ replicate 3 0)
 
 -- the store at the entry: those words, and from 44 upwards the linked program's words over 0; every sandwich digit is 0
 abbrev pub entry_store : List Line → Cells
 entry_store lines = record {
-  words = initial_words (own_words lines) ++ drop 44 (over (reverse (linked_words lines)) (replicate 1024 0));
+  words = loader_words lines ++ drop 44 (over (reverse (linked_words lines)) (replicate 1024 0));
   sandwich = replicate 512 false;
 }
 

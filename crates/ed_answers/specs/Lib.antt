@@ -10,6 +10,7 @@ pub mod FirstOrders
 pub mod Replies
 pub mod Headline
 pub mod FirstEntry
+pub mod FirstFaults
 pub mod Limits
 pub mod Listed
 pub mod PunchedTapes

@@ -14,4 +14,6 @@ pub mod Starts
 pub mod Quiet
 pub mod Whole
 pub mod Walked
-mod Itemwise
+pub mod Itemwise
+pub mod Trips
+pub mod Awaited

@@ -21,7 +21,7 @@ use Rattle.ed_initial.proofs.Loads.{Reaches, Rest, prepend, loads}
 use Rattle.ed_initial.proofs.Opened.{frame, begins, opened, first_path, first_scratch, first_note, shown}
 
 -- orders that only go on print nothing
-silent : (k : ℕ) (s : State) → ((j : ℕ) → j < k → (step (state_after j s)).turn ≡ Went) → (progress k s).codes ≡ []
+pub silent : (k : ℕ) (s : State) → ((j : ℕ) → j < k → (step (state_after j s)).turn ≡ Went) → (progress k s).codes ≡ []
 unfolding progress
 silent zero s h = refl
 silent (suc k) s h =

@@ -1,6 +1,6 @@
 -- A cleared machine that is started on the rows of a text is within the bounds of a machine, and at the first of the
 -- Initial Orders.
-use Rattle.std.proofs.Common.{◌≡◌, ℕ, zero, suc, ◌+◌, ◌-◌, ◌^◌, ◌<◌, ◌≤◌, refl, subst, arith, lit<, lit≤}
+use Rattle.std.proofs.Common.{◌≡◌, ℕ, zero, suc, ◌-◌, ◌^◌, ◌<◌, ◌≤◌, refl, subst, arith, lit<, lit≤}
 use Rattle.std.proofs.Common.{Bool, true, false, nat_le, nat_lt, List, [], ◌∷◌, ◌++◌, Some, drop, length}
 use Rattle.std.specs.Prelude.{◌==◌, ◌&&◌, if◌then◌else◌, position, replicate, slice_index}
 use Rattle.std.specs.List.{list_all}

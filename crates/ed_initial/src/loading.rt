@@ -4,6 +4,7 @@ ghost use Rattle.ed_notation.specs.Faults.{TapeEntry, WellFormed};
 ghost use Rattle.ed_notation.specs.Openings.{opening};
 ghost use Rattle.ed_initial.specs.Entry.{IsStarted, Comes, IsLoaded};
 ghost use Rattle.ed_initial.specs.Load.{EndsAs, orders_of};
+ghost use Rattle.ed_initial.specs.Waits.{IsLostAtEnd, WaitsForRows};
 
 use crate::turns::is_entering;
 use ed_machine::{Machine, Turn};
@@ -38,6 +39,8 @@ pub fn load(machine: &mut Machine) -> Loaded
     ensures total { WellFormed machine.old.size machine.old.store.words (opening machine.old.store.words)
         machine.old.tape →
         (e : TapeEntry) × Comes machine.old e × IsLoaded machine.old e result machine.new }
+    ensures waits { WaitsForRows machine.old }
+    ensures no_tape { IsLostAtEnd machine.old result }
 {
     let rows = machine.rows_left().len() as u64;
     // Called only for its clause `store`: the proof needs that the store has all its words within their bounds.

@@ -9,3 +9,4 @@ pub mod Whole
 mod Reading
 pub mod Unique
 mod Loop
+pub mod Awaited

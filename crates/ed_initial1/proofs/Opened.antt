@@ -67,7 +67,7 @@ below_written ws a [] j h = refl
 below_written ws a (v ∷ vs) j h =
     below_written (set ws a v) (a + 1) vs j (omega arith) ∙ get_or-set_other ws a j v 0 (omega arith)
 
-behind : (ws : List ℕ) (a : ℕ) (vs : List ℕ) → a + length vs ≤ length ws
+pub behind : (ws : List ℕ) (a : ℕ) (vs : List ℕ) → a + length vs ≤ length ws
     → drop a (written ws a vs) ≡ vs ++ drop (a + length vs) ws
 behind ws a [] h = let e : a + 0 ≡ a = omega arith in rw e refl
 behind ws a (v ∷ vs) h =

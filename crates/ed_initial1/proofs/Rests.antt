@@ -43,7 +43,7 @@ written ws a [] = ws
 written ws a (v ∷ vs) = written (set ws a v) (a + 1) vs
 
 -- the orders of an item before the one at 25
-abbrev head_cost : Item1 → ℕ
+abbrev pub head_cost : Item1 → ℕ
 head_cost i = 5 + (10 * length i.begun.digits + 8)
 
 -- what an item leaves in the words that change
@@ -84,7 +84,7 @@ record IsCounted (w : Working) (a e n : ℕ) : Type 0 where
 
 module _ (q : Kept) where
   -- the digit rows of an item
-  digit_walk : {ws : List ℕ} (w : Working) {b : Bool} (ds : List ℕ) {n x y : ℕ} {rest : List ℕ} → AreDigits ds
+  pub digit_walk : {ws : List ℕ} (w : Working) {b : Bool} (ds : List ℕ) {n x y : ℕ} {rest : List ℕ} → AreDigits ds
       → digits_number n ds ≤ 32767
       → Walk (10 * length ds) (moment q (record w { at1 = n; at2 = x; at3 = y }) ws b 0 11 (ds ++ rest))
       (moment q (record w { at1 = digits_number n ds; at2 = last_of x ds; at3 = third y ds }) ws b 0 11 rest)
@@ -96,7 +96,7 @@ module _ (q : Kept) where
       (digit_walk w ds good.1 fits))
 
   -- an item from the rest at 6 to the order at 25
-  head_walk : (ws : List ℕ) (w : Working) (b : Bool) (acc : ℕ) (i : Item1) (rest : List ℕ) → IsBegun1 i.begun
+  pub head_walk : (ws : List ℕ) (w : Working) (b : Bool) (acc : ℕ) (i : Item1) (rest : List ℕ) → IsBegun1 i.begun
       → Walk (head_cost i) (moment q w ws b acc 6 (i.begun.function ∷ (i.begun.digits ++ (ending_row i.long ∷ rest))))
       (moment q (left w i) ws false (with_word i) 25 rest)
   head_walk ws w b acc i rest good =
@@ -115,10 +115,10 @@ module _ (q : Kept) where
       (goes_on q (record w { at25 = T_F + 2 * e }) ws b rest)
 
   -- or back to the rest at 6: the accumulator holds the number of words still to come, as a negative number
-  abbrev to_come : ℕ → ℕ → ℕ
+  abbrev pub to_come : ℕ → ℕ → ℕ
   to_come a e = 2 ^ 17 - 2 * (e - a)
 
-  back_tail : {ws : List ℕ} (w : Working) {b : Bool} (a e : ℕ) {rest : List ℕ} → w.at25 + 2 ≡ T_F + 2 * a
+  pub back_tail : {ws : List ℕ} (w : Working) {b : Bool} (a e : ℕ) {rest : List ℕ} → w.at25 + 2 ≡ T_F + 2 * a
       → w.at31 ≡ T_F + 2 * e → a < e → e ≤ 1023
       → Walk 5 (moment q w ws b 0 26 rest)
       (moment q (record w { at25 = T_F + 2 * a }) ws b (short (to_come a e)) 6 rest)

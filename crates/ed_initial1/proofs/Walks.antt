@@ -15,12 +15,12 @@ abbrev pub state : Moment → ℕ → State
 state r k = piece_state piece r k
 
 -- a walk is a path that prints nothing
-path_of : {k : ℕ} {r t : Moment} → Walk k r t → Path piece k r [] t
+pub path_of : {k : ℕ} {r t : Moment} → Walk k r t → Path piece k r [] t
 path_of stay = path_stays
 path_of (on first away rest) = path_on first (path_of rest)
 
 -- each of its orders goes on
-quiet : {k : ℕ} {r t : Moment} → Walk k r t → (done : ℕ) → IsQuiet1 k (state r done)
+pub quiet : {k : ℕ} {r t : Moment} → Walk k r t → (done : ℕ) → IsQuiet1 k (state r done)
 quiet stay done j h = absurd (omega arith)
 quiet (on {r = r} first away rest) done zero h =
     subst GoesOn1 (sym (no_state (state r done)))

@@ -1,7 +1,8 @@
 -- The 31 words of Initial Orders 1 (the listing of May 1949), which Start places in the locations 0 to 30. In this
 -- notation S is the length digit 0 and L is the length digit 1; the functions of these letters have names.
 use Rattle.std.specs.Prelude.{ℕ, Bool, true, false, List, [], ◌∷◌}
-use Rattle.ed_initial.specs.Listing.{listed_order, P, E, R, T, U, I, H, G, A, V, S as subtract, L as left}
+use Rattle.ed_codes.specs.declared.letters.TheConstants.{A, E, G, H, I, P, R, T, U, V, L as left, S as subtract}
+use Rattle.ed_initial.specs.Listing.{listed_order}
 
 -- the words in the order of their locations, each written as an order
 abbrev pub first_orders : List ℕ

@@ -3,6 +3,7 @@ ghost use Rattle.ed_machine.specs.Steps.{state_after};
 ghost use Rattle.ed_initial1.specs.Faults.{Tape, Comes1, WellFormed1};
 ghost use Rattle.ed_initial1.specs.Entry.{IsStarted1, IsLoaded1};
 ghost use Rattle.ed_initial1.specs.Load.{EndsAs1, orders_of1};
+ghost use Rattle.ed_initial1.specs.Waits.{WaitsForRows1};
 
 use ed_machine::{Machine, Turn};
 
@@ -36,6 +37,7 @@ pub fn load1(machine: &mut Machine) -> Loaded1
     ensures loads { (t : Tape) → Comes1 machine.old.tape t → IsLoaded1 machine.old t result machine.new }
     ensures total { WellFormed1 machine.old.tape → (t : Tape) × Comes1 machine.old.tape t
         × IsLoaded1 machine.old t result machine.new }
+    ensures waits { WaitsForRows1 machine.old }
 {
     let rows = machine.rows_left().len() as u64;
     // Called only for its clause `store`: the proof needs that the store has all its words within their bounds.

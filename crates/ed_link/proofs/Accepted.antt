@@ -3,18 +3,20 @@ use Rattle.std.proofs.Common.{◌≡◌, ℕ, ◌+◌, ◌*◌, refl, sym, ap, �
 use Rattle.std.proofs.Common.{Option, Some, None, List, [], ◌∷◌, ◌++◌, length}
 use Rattle.std.proofs.Common.{append_assoc, length-append, if◌then◌else◌}
 use Rattle.std.specs.Prelude.{reverse, slice_index}
-use Rattle.std.specs.List.{list_all}
+use Rattle.std.specs.List.{list_all, sum_by}
+use Rattle.std.proofs.lemmas.List.Sums.{sum_by-append}
 use Rattle.std.proofs.lemmas.List.{append-nil}
 use Rattle.ed_words.specs.declared.size.Size.{Size}
 use Rattle.ed_words.specs.declared.order_words.TheConstants.{E_F}
 use Rattle.ed_notation.specs.declared.item.Item.{Item}
-use Rattle.ed_notation.specs.Items.{rows_of, spelled_rows, item as item_in, items, IsWritten}
-use Rattle.ed_notation.specs.Fold.{NotationState, is_entry, item_word, fold, cost_of, costs, address}
+use Rattle.ed_notation.specs.Items.{rows_of, spelled_rows, item as item_in, IsWritten}
+use Rattle.ed_notation.specs.Fold.{NotationState, is_entry, item_word, cost_of, address}
 use Rattle.ed_notation.specs.Openings.{IsDirective, opening}
 use Rattle.ed_notation.specs.Faults.{EndsSound, WellFormed, ComesTo}
 use Rattle.ed_notation.specs.Spellings.{AreSpellable, canonical, canonicals}
+use Rattle.ed_notation.proofs.ItemRows.{all_rows_are}
 use Rattle.ed_notation.proofs.Canonical.{is_written}
-use Rattle.ed_notation.proofs.Cuts.{spelled-append, costs-append, canonicals-append}
+use Rattle.ed_notation.proofs.Cuts.{spelled-append, canonicals-append}
 use Rattle.ed_notation.proofs.Sound.{sound_well}
 use Rattle.ed_library.specs.Entries.{catalogue}
 use Rattle.ed_library.specs.Ready.{is_ready}
@@ -25,15 +27,11 @@ use Rattle.ed_symbols.specs.Places.{first_counter}
 use Rattle.ed_link.specs.Linked.{symbols_of, linked_words, data_after, entry_of, theta_from}
 use Rattle.ed_link.specs.Punch.{item_with, punched_items}
 use Rattle.ed_link.specs.Private.FaultTests.{any_enter, missing, sooner, fault, fault_line}
-use Rattle.ed_link.specs.Tapes.{punched_rows, tape, arrival}
+use Rattle.ed_link.specs.Tapes.{punched_rows, tape, arrival, item_cost}
 use Rattle.ed_link.proofs.Passes.{taken}
 use Rattle.ed_link.proofs.Spelled.{joined}
 use Rattle.ed_link.proofs.Inductions.{AreFaultless, Ends, ends}
-use Rattle.ed_link.proofs.Costs.{NoZed, passes_no_zed, same_costs}
-
-no_zed-append : (is js : List Item) → NoZed is → NoZed js → NoZed (is ++ js)
-no_zed-append [] js p q = q
-no_zed-append (i ∷ is) js p q = (p.0, no_zed-append is js p.1 q)
+use Rattle.ed_link.proofs.Costs.{entry_cost_is}
 
 -- neither of two is a fault
 none_of : (a b : Option SourceFault) → sooner a b ≡ None → (a ≡ None) × (b ≡ None)
@@ -76,12 +74,13 @@ module _ (tables : list_all is_ready catalogue ≡ true) (z : Size) (two : Bool)
   by_end e =
       let ws = canonicals e.before in
       let w = canonical last_item in
-      let t = (taken e.passes e.spelled).1 in
+      let t = taken e.passes e.spelled in
       let good : IsWritten w = is_written last_item refl in
       let cut : canonicals (punched_items lines) ≡ ws ++ (w ∷ []) = ap (λ is. canonicals is) e.items
       ∙ canonicals-append e.before (last_item ∷ []) in
       let rows : punched_rows lines ≡ spelled_rows ws ++ rows_of w =
-      ap (λ x. spelled_rows x) cut ∙ spelled-append ws (w ∷ []) ∙ ap (λ x. spelled_rows ws ++ x) (append-nil (rows_of w)) in
+      all_rows_are (punched_items lines) ∙ ap (λ x. spelled_rows x) cut ∙ spelled-append ws (w ∷ [])
+      ∙ ap (λ x. spelled_rows ws ++ x) (append-nil (rows_of w)) in
       let all : tape lines ≡ spelled_rows ws ++ (rows_of w ++ data_after lines) =
       ap (λ x. x ++ data_after lines) rows ∙ append_assoc (spelled_rows ws) (rows_of w) (data_after lines) in
       let notation : NotationState = record {
@@ -96,15 +95,11 @@ module _ (tables : list_all is_ready catalogue ≡ true) (z : Size) (two : Bool)
         placed = (e.placed ∙ append-nil (reverse (linked_words lines))) i;
       } in
       let f = t.folds in
-      let zeds = no_zed-append e.before (last_item ∷ []) (passes_no_zed e.passes) (refl, tt) in
-      let k : costs [] (opening []) (canonicals (punched_items lines))
-      ≡ costs words (opening words) (canonicals (punched_items lines)) =
-      same_costs [] words (opening []) (opening words) (punched_items lines) (subst NoZed (sym e.items) zeds) refl in
-      let c : costs words (opening words) (canonicals (punched_items lines))
-      ≡ costs words (opening words) ws + costs words (fold words (opening words) (items ws)) (w ∷ []) =
-      ap (λ x. costs words (opening words) x) cut ∙ costs-append words (opening words) ws (w ∷ []) in
-      let d : costs words (fold words (opening words) (items ws)) (w ∷ [])
-      ≡ cost_of notation w + 0 = ap (λ (n : NotationState). cost_of n w + 0) (f ∙ last_is) in (
+      let enters : is_entry notation last_item ≡ true =
+      subst (λ (n : NotationState). is_entry n last_item ≡ true) last_is e.enters.enters in
+      let c : sum_by item_cost (punched_items lines) ≡ sum_by item_cost e.before + 23 =
+      ap (λ is. sum_by item_cost is) e.items ∙ sum_by-append item_cost e.before (last_item ∷ []) in
+      let d : cost_of notation w ≡ 19 = entry_cost_is notation enters in (
         subst (λ x. WellFormed z words (opening words) x) (sym all)
             (sound_well ws (data_after lines) (first words) t.are_read t.are_sound good
             (ap (λ (n : NotationState). is_entry n (item_in w)) f ∙ e.enters.enters)
@@ -115,12 +110,12 @@ module _ (tables : list_all is_ready catalogue ≡ true) (z : Size) (two : Bool)
           are_read = t.are_read;
           is_written = good;
           notation_is = sym (f ∙ last_is);
-          is_entry = subst (λ (n : NotationState). is_entry n (item_in w) ≡ true) last_is e.enters.enters;
+          is_entry = enters;
           rows_are = all;
           last_is = refl;
           at_is = sym (subst (λ (n : NotationState). address n.directive ≡ entry_of lines) last_is e.enters.place);
           word_is = sym (subst (λ (n : NotationState). item_word words n (item_in w) ≡ 0) last_is e.enters.word);
-          cost_is = omega (arith, k, c, d);
+          cost_is = omega (arith, t.costs_are, c, d);
           read_is = ap (λ (x : List ℕ). length x) rows ∙ length-append (spelled_rows ws) (rows_of w);
         },
       )

@@ -1,12 +1,13 @@
 -- The number of rows that a line gives.
-use Rattle.std.proofs.Common.{◌≡◌, ℕ, ◌+◌, ◌*◌, ◌/◌, ◌%◌, ◌^◌, ◌≤◌, subst, arith, lit≤, Bool, true, false, nat_eq}
+use Rattle.std.proofs.Common.{◌≡◌, ℕ, ◌+◌, ◌*◌, ◌/◌, ◌%◌, ◌^◌, ◌≤◌, subst, ap, arith, lit≤, Bool, true, false, nat_eq}
 use Rattle.std.proofs.Common.{nat_le, if◌then◌else◌, Option, Some, None}
 use Rattle.std.proofs.Common.{List, [], ◌∷◌, ◌++◌, length, map, length-append}
 use Rattle.std.specs.List.{flat_map}
 use Rattle.std.proofs.lemmas.List.{length-map}
 use Rattle.ed_notation.specs.declared.item.Item.{Item}
-use Rattle.ed_notation.specs.Items.{mark_rows, rows_of, begun_rows, spelled_rows}
-use Rattle.ed_notation.specs.Spellings.{canonical, canonicals, digit_at, digits_of}
+use Rattle.ed_notation.specs.Items.{mark_rows, begun_rows}
+use Rattle.ed_notation.specs.Spellings.{canonical, digit_at, digits_of, item_rows}
+use Rattle.ed_notation.proofs.ItemRows.{item_rows_are}
 use Rattle.ed_library.specs.Entries.{entry}
 use Rattle.ed_library.specs.Routines.{find, table_item, place_count}
 use Rattle.ed_syntax.specs.declared.program.Operand.{Operand}
@@ -54,14 +55,15 @@ digits_few n =
     )
 
 -- an item has at most 8 rows
-pub rows_few : (is : List Item) → length (spelled_rows (canonicals is)) ≤ 8 * length is
+pub rows_few : (is : List Item) → length (flat_map item_rows is) ≤ 8 * length is
 rows_few [] = lit≤ tt
 rows_few (i ∷ is) =
     let w = canonical i in
     omega (
       arith,
       rows_few is,
-      length-append (rows_of w) (spelled_rows (canonicals is)),
+      length-append (item_rows i) (flat_map item_rows is),
+      ap (λ (rows : List ℕ). length rows) (item_rows_are i),
       length-append (begun_rows w.begun) (i.end ∷ []),
       length-append (digits_of i.number) (mark_rows i.mark),
       digits_few i.number,
@@ -70,7 +72,7 @@ rows_few (i ∷ is) =
 
 -- a whole tape
 pub tape_few : (is : List Item) (rows : List ℕ) → length is ≤ 480000 → length rows ≤ 240000
-    → length (spelled_rows (canonicals is)) + length rows ≤ 2 ^ 22
+    → length (flat_map item_rows is) + length rows ≤ 2 ^ 22
 tape_few is rows h k = omega (arith, h, k, rows_few is)
 
 heads_few : (first : Bool) (base : ℕ) → length (heads first base) ≤ 2

@@ -15,7 +15,7 @@ use Rattle.ed_syntax.specs.declared.program.Statement.TheVariants.{Rows}
 use Rattle.ed_syntax.specs.declared.program.Line.{Line}
 use Rattle.ed_symbols.specs.declared.location_counter.LocationCounter.{LocationCounter}
 use Rattle.ed_symbols.specs.declared.symbols.Definition.{Definition}
-use Rattle.ed_symbols.specs.Places.{after_statement, first_counter}
+use Rattle.ed_symbols.specs.Places.{after_statement, first_counter, segment_at}
 use Rattle.ed_symbols.specs.Names.{place_on}
 use Rattle.ed_link.specs.Linked.{first_place, end_place, symbols_of}
 use Rattle.ed_symbols.proofs.Sentences.{Ties, or_left, or_right, and_of, and_true, not_true, true_not}
@@ -27,7 +27,6 @@ use Rattle.ed_symbols.specs.NameFaults.{StandsAfter, counter_from, counter_after
 use Rattle.ed_link.specs.Faults.{HasEnter}
 use Rattle.ed_link.specs.Faults.{PlacesWords, IsData, IsOutsideSegments, NeedsWithin, NeedsPast, Overlaps}
 use Rattle.ed_link.specs.Faults.{UsesUnknown, IsMisplaced, HasSandwichDigit}
-use Rattle.ed_link.specs.Faults.{IsSegment, IsUse, HasNoUse, InSegment}
 
 -- ---- S14 and S17
 
@@ -117,114 +116,23 @@ outside_tests false (Some name) st h = refl
 outside_tests false None st (e, inl h) = cc
 outside_tests false None st (e, inr h) = words_tests st h
 
-opened : (st : Option Statement) (s : LocationCounter) → IsSegment st → (after_statement st s).inside ≡ true
-opened (Some (Segment n b)) s h = refl
-opened None s h = absurd h
-opened (Some (Order f o d)) s h = absurd h
-opened (Some (Number w)) s h = absurd h
-opened (Some (Text codes)) s h = absurd h
-opened (Some (Long v)) s h = absurd h
-opened (Some (Fetch r n ts)) s h = absurd h
-opened (Some (Enter n)) s h = absurd h
-opened (Some (Rows codes)) s h = absurd h
+-- no segment is open
+closed_says : (s : LocationCounter) → s.inside ≡ false → segment_at s ≡ None
+closed_says s e = rw e refl
 
-stay : (st : Option Statement) (s : LocationCounter) → s.inside ≡ true → (IsUse st → ⊥)
-    → (after_statement st s).inside ≡ true
-stay (Some (Fetch r n ts)) s h g = absurd (g tt)
-stay (Some (Segment n b)) s h g = refl
-stay None s h g = h
-stay (Some (Order f o d)) s h g = h
-stay (Some (Number w)) s h g = h
-stay (Some (Text codes)) s h g = h
-stay (Some (Long v)) s h g = h
-stay (Some (Enter n)) s h g = h
-stay (Some (Rows codes)) s h g = h
-
-next : (st : Option Statement) (s : LocationCounter) → (after_statement st s).inside ≡ true
-    → IsSegment st ⊎ ((s.inside ≡ true) × (IsUse st → ⊥))
-next (Some (Segment n b)) s h = inl tt
-next (Some (Fetch r n ts)) s h = cc
-next None s h = inr (h, λ u. u)
-next (Some (Order f o d)) s h = inr (h, λ u. u)
-next (Some (Number w)) s h = inr (h, λ u. u)
-next (Some (Text codes)) s h = inr (h, λ u. u)
-next (Some (Long v)) s h = inr (h, λ u. u)
-next (Some (Enter n)) s h = inr (h, λ u. u)
-next (Some (Rows codes)) s h = inr (h, λ u. u)
-
-abbrev one_more : {lines before : List Line} {l : Line} (e : Line) → StandsAfter lines before l
-    → StandsAfter (e ∷ lines) (e ∷ before) l
-one_more e st = record { after = st.after; lines_are = ap (λ x. e ∷ x) st.lines_are }
-
-kept : (s : LocationCounter) (lines : List Line) → s.inside ≡ true → HasNoUse lines
-    → (counter_from s lines).inside ≡ true
-kept s [] h n = h
-kept s (l ∷ lines) h n = kept (after_statement l.statement s) lines
-    (stay l.statement s h (n [] l (record { after = lines; lines_are = refl })))
-    (λ b e st. n (l ∷ b) e (one_more l st))
-
-open_among : (s : LocationCounter) (b : List Line) (l : Line) (after : List Line) → IsSegment l.statement
-    → HasNoUse after
-    → (counter_from s (b ++ l ∷ after)).inside ≡ true
-open_among s [] l after h n = kept (after_statement l.statement s) after (opened l.statement s h) n
-open_among s (e ∷ b) l after h n = open_among (after_statement e.statement s) b l after h n
-
-open_tests : (s : LocationCounter) (lines : List Line) → InSegment lines → (counter_from s lines).inside ≡ true
-open_tests s lines h = subst (λ x. (counter_from s x).inside ≡ true) (sym h.2.lines_are)
-    (open_among s h.0 h.1 h.2.after h.3 h.4)
-
-first_same : (l m : Line) (r q : List Line) → (l ∷ r) ≡ (m ∷ q) → l ≡ m
-first_same l m r q e = cc
-
-rest_same : (l m : Line) (r q : List Line) → (l ∷ r) ≡ (m ∷ q) → r ≡ q
-rest_same l m r q e = cc
-
-no_use_more : (l : Line) (lines : List Line) → (IsUse l.statement → ⊥) → HasNoUse lines → HasNoUse (l ∷ lines)
-no_use_more l lines g n [] e st u =
-    g (subst (λ (x : Line). IsUse x.statement) (sym (first_same l e lines st.after st.lines_are)) u)
-no_use_more l lines g n (x ∷ b) e st u = n b e (record {
-  after = st.after;
-  lines_are = rest_same l x lines (b ++ e ∷ st.after) st.lines_are;
-}) u
-
-no_line : (b : List Line) (l : Line) → StandsAfter [] b l → ⊥
-no_line [] l st = let e = st.lines_are in cc
-no_line (x ∷ b) l st = let e = st.lines_are in cc
-
-open_says : (s : LocationCounter) (lines : List Line) → (counter_from s lines).inside ≡ true
-    → InSegment lines ⊎ ((s.inside ≡ true) × HasNoUse lines)
-open_says s [] h = inr (h, λ b l st u. no_line b l st)
-open_says s (l ∷ lines) h = by_case (open_says (after_statement l.statement s) lines h)
+closed_tests : (s : LocationCounter) → segment_at s ≡ None → s.inside ≡ false
+closed_tests s h = by_test s.inside refl
   where
-    by_next : HasNoUse lines → IsSegment l.statement ⊎ ((s.inside ≡ true) × (IsUse l.statement → ⊥))
-        → InSegment (l ∷ lines) ⊎ ((s.inside ≡ true) × HasNoUse (l ∷ lines))
-    by_next n (inl g) = inl ([], l, record { after = lines; lines_are = refl }, g, n)
-    by_next n (inr g) = inr (g.0, no_use_more l lines g.1 n)
-
-    by_case : InSegment lines ⊎ (((after_statement l.statement s).inside ≡ true) × HasNoUse lines)
-        → InSegment (l ∷ lines) ⊎ ((s.inside ≡ true) × HasNoUse (l ∷ lines))
-    by_case (inl g) = inl (l ∷ g.0, g.1, one_more l g.2, g.3, g.4)
-    by_case (inr g) = by_next g.1 (next l.statement s g.0)
-
-closed_says : (before : List Line) → (counter_after before).inside ≡ false → InSegment before → ⊥
-closed_says before e h = let g : (counter_after before).inside ≡ true = open_tests first_counter before h in cc
-
-closed_tests : (before : List Line) → (InSegment before → ⊥) → (counter_after before).inside ≡ false
-closed_tests before h = by_test (counter_after before).inside refl
-  where
-    either : InSegment before ⊎ ((first_counter.inside ≡ true) × HasNoUse before) → ⊥
-    either (inl g) = h g
-    either (inr g) = let e : false ≡ true = g.0 in cc
-
-    by_test : (t : Bool) → (counter_after before).inside ≡ t → t ≡ false
+    by_test : (t : Bool) → s.inside ≡ t → t ≡ false
     by_test false e = refl
-    by_test true e = absurd (either (open_says first_counter before e))
+    by_test true e = let some : Some s.segments ≡ None = (rw e at h) in cc
 
 pub s9 : (before : List Line) (l : Line) → Ties (is_outside l (counter_after before)) (IsOutsideSegments before l)
 s9 before l = record {
   says = λ h. let p = outside_says (counter_after before).inside l.label l.statement h in
-      (closed_says before p.0, p.1);
-  tests = λ h. outside_tests (counter_after before).inside l.label l.statement (closed_tests before h.0, h.1);
+      (closed_says (counter_after before) p.0, p.1);
+  tests = λ h. outside_tests (counter_after before).inside l.label l.statement
+      (closed_tests (counter_after before) h.0, h.1);
 }
 
 -- ---- S10 to S12

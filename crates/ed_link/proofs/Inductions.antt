@@ -1,5 +1,5 @@
 -- The tape of an accepted source reaches its linked program.
-use Rattle.std.proofs.Common.{◌≡◌, ℕ, ◌+◌, ◌*◌, ◌<◌, ◌≤◌, refl, sym, ap, ◌∙◌, subst, arith}
+use Rattle.std.proofs.Common.{◌≡◌, inl, ℕ, ◌+◌, ◌*◌, ◌<◌, ◌≤◌, refl, sym, ap, ◌∙◌, subst, arith}
 use Rattle.std.proofs.Common.{Bool, true, false, not, ◌&&◌, Option, Some, None, List, [], ◌∷◌, ◌++◌, length}
 use Rattle.std.proofs.Common.{append_assoc, is_some, is_none, if◌then◌else◌}
 use Rattle.std.specs.Prelude.{◌||◌, max, min, reverse, unwrap_or}
@@ -280,7 +280,7 @@ module _ {z : Size} {words : List ℕ} {symbols : List Definition} {has_enter : 
         items = ap (λ (is : List Item). item_with 3 p false 14 ∷ (item_with 0 0 false 17 ∷ is)) b.items;
         spelled = aiming_spelled p (omega (arith, m, g.1));
         last = last;
-        passes = goes (aiming_entry z words notation p (omega (arith, g.1))) refl stays;
+        passes = goes (aiming_entry z words notation p (omega (arith, g.1))) (inl refl) stays;
         enters = entering_at z words last p refl (omega (arith, g.0)) (omega (arith, g.1));
         directive = refl;
         theta_is = let q = lt_same s.place in rw q (ready.theta_is ∙ sym b.theta_is);

@@ -3,6 +3,7 @@ mod Loops
 pub mod Steps
 pub mod Spellable
 pub mod Texts
+pub mod Costs
 pub mod Passes
 pub mod Orders
 pub mod Uses
@@ -10,7 +11,6 @@ pub mod Lines
 pub mod Closed
 pub mod Spelled
 pub mod Inductions
-pub mod Costs
 pub mod Accepted
 pub mod Lengths
 pub mod Places

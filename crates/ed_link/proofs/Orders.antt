@@ -1,6 +1,6 @@
 -- What the fold does at the items of the words of a line in a segment.
 use Rattle.std.proofs.Common.{◌≡◌, ℕ, suc, ◌+◌, ◌*◌, ◌/◌, ◌%◌, ◌^◌, ◌<◌, ◌≤◌, refl, sym, ap, ◌∙◌, subst, arith, Bool}
-use Rattle.std.proofs.Common.{true, false}
+use Rattle.std.proofs.Common.{true, false, inr}
 use Rattle.std.proofs.Common.{◌&&◌, nat_eq, nat_lt, nat_le, List, [], ◌∷◌, ◌++◌, length, map, append_assoc}
 use Rattle.std.specs.Prelude.{reverse}
 use Rattle.std.proofs.lemmas.List.{reverse-append}
@@ -42,10 +42,9 @@ split (i ∷ is) js are = let s = split is js are.1 in ((are.0, s.0), s.1)
 
 word_is : (words : List ℕ) (notation : NotationState) (w : ℕ) (odd : Bool) → nat_eq (w % 2) 1 ≡ odd → w < 2 ^ 17
     → (item_word words notation (word_item w) ≡ w) × (row_kind (word_item w).end ≡ Letter)
-    × (nat_eq (word_item w).end 13 ≡ false)
-word_is words notation w true e h = let m : w % 2 ≡ 1 = eq_of _ _ e in (rw e (omega arith), rw e refl, rw e refl)
+word_is words notation w true e h = let m : w % 2 ≡ 1 = eq_of _ _ e in (rw e (omega arith), rw e refl)
 word_is words notation w false e h = let m : w % 2 ≡ 0 = grind (arith, nat_tests)
-    in (rw e (omega arith), rw e refl, rw e refl)
+    in (rw e (omega arith), rw e refl)
 
 -- a word is below 2^17
 small : (w : ℕ) → is_spellable (word_item w) ≡ true → w < 2 ^ 17
@@ -65,7 +64,7 @@ laid_pass {z} {words} {placed} base (w ∷ ws) place are low high =
     let k = word_is words (at place base placed) w (nat_eq (w % 2) 1) refl (small w are.0) in
     let e : place + suc (length ws) ≡ place + 1 + length ws = omega arith in
     let r = laid_pass {placed = (place, w) ∷ placed} base ws (place + 1) are.1 (omega arith) (omega arith) in
-    goes (placing z words place k.1 refl low (omega arith) k.0) k.2
+    goes (placing z words place k.1 refl low (omega arith) k.0) (inr k.1)
     (subst (λ (n : NotationState). Passes z words (at (place + 1) base ((place, w) ∷ placed)) (map word_item ws) n)
     (λ i. at (sym e i) base (placed_more (place, w) (placed_words (place + 1) ws) placed i)) r)
 
@@ -80,10 +79,10 @@ theta_base symbols s (Two first second minus) h = cc
 
 -- it ends with a code letter
 order_letter : (b : Bool) (base f n : ℕ) (long : Bool)
-    → (row_kind (order_item b base f n long).end ≡ Letter) × (nat_eq (order_item b base f n long).end 13 ≡ false)
-order_letter true base f n long = (refl, refl)
-order_letter false base f n true = (refl, refl)
-order_letter false base f n false = (refl, refl)
+    → row_kind (order_item b base f n long).end ≡ Letter
+order_letter true base f n long = refl
+order_letter false base f n true = refl
+order_letter false base f n false = refl
 
 -- an order is placed
 pub order_pass : {z : Size} {words : List ℕ} {placed : List (ℕ × ℕ)} (symbols : List Definition)
@@ -98,7 +97,7 @@ order_pass {z} {words} {placed} symbols s f o long low high =
     let n = operand_number symbols (segment_at s) o in
     let b = goes_by_theta symbols s o in
     let letter = order_letter b s.base f n long in
-    goes (placing z words s.place letter.0 refl low high (its_word n b long (theta_base symbols s o))) letter.1 stays
+    goes (placing z words s.place letter refl low high (its_word n b long (theta_base symbols s o))) (inr letter) stays
   where
     -- its word, by θ or by its number
     its_word : (n : ℕ) (b long : Bool) → (b ≡ true → s.base ≤ n)

@@ -1,7 +1,7 @@
 -- What the fold does at the items of a `use` line: preset parameters, and a routine's items.
 use Rattle.std.proofs.Common.{◌≡◌, ◌≢◌, ℕ, suc, ◌+◌, ◌-◌, ◌*◌, ◌<◌, ◌≤◌, ◌⊎◌}
 use Rattle.std.proofs.Common.{inl, inr, refl, sym, ap, ◌∙◌, subst, arith}
-use Rattle.std.proofs.Common.{Bool, true, false, ◌&&◌, nat_eq, nat_le, nat_lt}
+use Rattle.std.proofs.Common.{Bool, true, false, ◌&&◌, nat_le, nat_lt}
 use Rattle.std.proofs.Common.{Option, Some, None, List, [], ◌∷◌, ◌++◌, length, map}
 use Rattle.std.proofs.Common.{append_assoc, get_or}
 use Rattle.std.specs.Prelude.{reverse}
@@ -140,9 +140,9 @@ module _ {z : Size} {words : List ℕ} (whole : length words ≡ 1024) (symbols 
       ∙ ap (λ (x : Operand). 2 * operand_number symbols None x) (same_operand o p (sym e ∙ f)) in (
         record {
           next = next;
-          passes = goes (aiming z words notation (24 + c) (omega arith)) refl (goes
+          passes = goes (aiming z words notation (24 + c) (omega arith)) (inl refl) (goes
               (placing z words (24 + c) refl refl (omega arith) (omega arith) w)
-              refl stays);
+              (inr refl) stays);
           theta = refl;
           placed = refl;
           keeps = λ d h.
@@ -206,11 +206,11 @@ abbrev pub AreKnown : List Setting → List TableRow → Type 0
 AreKnown ts [] = Unit {0}
 AreKnown ts (row ∷ rows) = IsKnown ts row.end × AreKnown ts rows
 
-kind_of : (ts : List Setting) (c : ℕ) → IsKnown ts c → (row_kind c ≡ Letter) × (nat_eq c 13 ≡ false)
-kind_of ts c (inl e) = rw e (refl, refl)
-kind_of ts c (inr (inl e)) = rw e (refl, refl)
-kind_of ts c (inr (inr (inl e))) = rw e (refl, refl)
-kind_of ts c (inr (inr (inr k))) = (letter_kind c k.low k.high, eq_false c 13 (let l = k.low in omega arith))
+kind_of : (ts : List Setting) (c : ℕ) → IsKnown ts c → row_kind c ≡ Letter
+kind_of ts c (inl e) = rw e refl
+kind_of ts c (inr (inl e)) = rw e refl
+kind_of ts c (inr (inr (inl e))) = rw e refl
+kind_of ts c (inr (inr (inr k))) = letter_kind c k.low k.high
 
 -- the word of a letter's parameter
 parameter_is : (symbols : List Definition) (ts : List Setting) (c : ℕ) → 21 ≤ c → c ≤ 26
@@ -258,7 +258,6 @@ image_pass {z} {words} {symbols} {ts} {placed} (row ∷ rows) place base are low
     let kind = kind_of ts row.end are.0 in
     let r = image_pass {z = z} {placed = (place, w) ∷ placed} rows (place + 1) base are.1 (omega arith) (omega arith)
     (still words symbols ts placed place w low h) in
-    goes (placing z words place kind.0 refl (omega arith) (omega arith) v)
-    kind.1
+    goes (placing z words place kind refl (omega arith) (omega arith) v) (inr kind)
     (subst (λ (n : NotationState). Passes z words (at (place + 1) base ((place, w) ∷ placed)) (map table_item rows) n)
     (λ i. at (sym e i) base (placed_more (place, w) (placed_words (place + 1) ws) placed i)) r)

@@ -10,12 +10,13 @@ use Rattle.ed_library.specs.Entries.{entry}
 use Rattle.ed_library.specs.Routines.{find}
 use Rattle.ed_syntax.specs.declared.program.Setting.{Setting}
 use Rattle.ed_syntax.specs.declared.program.Statement.{Statement}
-use Rattle.ed_syntax.specs.declared.program.Statement.TheVariants.{Segment, Order, Number, Text, Long, Fetch, Enter}
+use Rattle.ed_syntax.specs.declared.program.Statement.TheVariants.{Order, Number, Text, Long, Fetch, Enter}
 use Rattle.ed_syntax.specs.declared.program.Statement.TheVariants.{Rows}
 use Rattle.ed_syntax.specs.declared.program.Line.{Line}
 use Rattle.ed_syntax.specs.declared.fault.SourceCause.{SourceCause}
 use Rattle.ed_syntax.specs.declared.fault.SourceCause.TheVariants as causes
 use Rattle.ed_symbols.specs.Names.{place_on}
+use Rattle.ed_symbols.specs.Places.{segment_at}
 use Rattle.ed_symbols.specs.NameFaults.{StandsAfter, counter_after, DefinesAgain, NamesUnknown, ReachesOutside}
 use Rattle.ed_symbols.specs.NameFaults.{number_of}
 use Rattle.ed_link.specs.Linked.{first_place, end_place, symbols_of}
@@ -59,34 +60,15 @@ abbrev pub IsData : Option Statement → Type 0
 IsData (Some (Rows codes)) = Unit {0}
 IsData st = ⊥
 
--- a `segment`
-abbrev pub IsSegment : Option Statement → Type 0
-IsSegment (Some (Segment name base)) = Unit {0}
-IsSegment st = ⊥
-
--- a `use`
-abbrev pub IsUse : Option Statement → Type 0
-IsUse (Some (Fetch routine name settings)) = Unit {0}
-IsUse st = ⊥
-
--- no line is a `use`
-abbrev pub HasNoUse : List Line → Type 0
-HasNoUse lines = (before : List Line) (l : Line) → StandsAfter lines before l → IsUse l.statement → ⊥
-
--- after these lines a segment is open: one of them is a `segment`, and none after that is a `use`
-abbrev pub InSegment : List Line → Type 0
-InSegment lines = (before : List Line) × (l : Line) × (s : StandsAfter lines before l) × IsSegment l.statement
-    × HasNoUse s.after
-
 -- the letter of a setting
 abbrev pub letter_set : Setting → ℕ
 letter_set t = t.letter
 
 -- ---- the faults
 
--- S9: a label, an order, `word`, `text` or `long` outside every segment
+-- S9: a label, an order, `word`, `text` or `long` where no segment is open
 abbrev pub IsOutsideSegments : List Line → Line → Type 0
-IsOutsideSegments before l = (InSegment before → ⊥)
+IsOutsideSegments before l = (segment_at (counter_after before) ≡ None)
     × (((name : List ℕ) × (l.label ≡ Some name)) ⊎ PlacesWords l.statement)
 
 -- S10 and S11: a word of the line, or the location that an `enter` names, is at `from` or above and below `below`

@@ -1,28 +1,37 @@
 -- What reading the punched tape gives: the linked program, from every store.
-use Rattle.std.specs.Prelude.{◌≡◌, ℕ, ◌+◌, ◌*◌, true, false, List, [], ◌∷◌, ◌++◌, length, reverse, slice_index}
+use Rattle.std.specs.Prelude.{◌≡◌, ℕ, ◌+◌, ◌-◌, ◌*◌, true, false, nat_eq, if◌then◌else◌, List, [], ◌∷◌, ◌++◌, length}
+use Rattle.std.specs.Prelude.{reverse, slice_index}
+use Rattle.std.specs.List.{flat_map, sum_by}
+use Rattle.ed_words.specs.Words.{digit}
 use Rattle.ed_words.specs.declared.size.Size.{Size}
 use Rattle.ed_words.specs.declared.order_words.TheConstants.{E_F}
+use Rattle.ed_codes.specs.declared.letters.TheConstants.{K}
+use Rattle.ed_notation.specs.declared.item.Item.{Item}
 use Rattle.ed_syntax.specs.declared.program.Line.{Line}
 use Rattle.ed_symbols.specs.Places.{first_counter}
-use Rattle.ed_notation.specs.Items.{spelled_rows}
-use Rattle.ed_notation.specs.Fold.{costs}
 use Rattle.ed_notation.specs.Openings.{opening}
 use Rattle.ed_notation.specs.Faults.{TapeEntry, WellFormed, ComesTo}
-use Rattle.ed_notation.specs.Spellings.{canonicals, line_from}
+use Rattle.ed_notation.specs.Spellings.{digits_of, item_rows, line_from}
 use Rattle.ed_link.specs.Linked.{linked_words, entry_of, theta_from, data_after}
 use Rattle.ed_link.specs.Punch.{item_with, punched_items}
 
 -- the rows of the punched items
 abbrev pub punched_rows : List Line → List ℕ
-punched_rows lines = spelled_rows (canonicals (punched_items lines))
+punched_rows lines = flat_map item_rows (punched_items lines)
 
 -- the rows of the whole tape
 abbrev pub tape : List Line → List ℕ
 tape lines = punched_rows lines ++ data_after lines
 
--- the number of orders that read the tape up to the entry, with 9 at the start
+-- the number of orders that read an item which ends with K or places a word: 6 for its function, 9 for each digit, 15
+-- for π, and for its ending 16 if that is K and 17 if it is a code letter
+abbrev pub item_cost : Item → ℕ
+item_cost i = 6 + 9 * length (digits_of i.number) + 15 * digit i.mark + (if nat_eq i.end K then 16 else 17)
+
+-- the number of orders that read the tape up to the entry: 9 at the start, and those of each item; the last item, which
+-- enters, takes 4 fewer
 abbrev pub cost : List Line → ℕ
-cost lines = 9 + costs [] (opening []) (canonicals (punched_items lines))
+cost lines = 9 + sum_by item_cost (punched_items lines) - 4
 
 -- the entry that the tape reaches from a store
 abbrev pub arrival : List ℕ → List Line → TapeEntry

@@ -1,10 +1,9 @@
 //! The result of linking a source.
 ghost use Rattle.std.specs.Prelude.{◌≡◌, ◌≤◌, ◌+◌, ◌^◌, ◌++◌, true, length, IfOk, OnOk};
-ghost use Rattle.std.specs.List.{list_all};
+ghost use Rattle.std.specs.List.{flat_map, list_all};
 ghost use Rattle.ed_codes.specs.Reading.{reading, rows};
 ghost use Rattle.ed_codes.specs.Text.{Spells};
-ghost use Rattle.ed_notation.specs.Items.{spelled_rows};
-ghost use Rattle.ed_notation.specs.Spellings.{canonicals, is_spellable, line_from, text_of, AreSpellable};
+ghost use Rattle.ed_notation.specs.Spellings.{canonicals, is_spellable, item_rows, line_from, text_of, AreSpellable};
 ghost use Rattle.ed_link.specs.Tapes.{after_text};
 
 use ed_codes::{Code, byte_of};
@@ -40,13 +39,13 @@ pub struct Linked {
     /// The rows of the tape after the program.
     pub after: Vec<Code>,
     ghost spellable: { list_all is_spellable items.items ≡ true },
-    ghost few: { length (spelled_rows (canonicals items.items)) + length after.items ≤ 2 ^ 22 },
+    ghost few: { length (flat_map item_rows items.items) + length after.items ≤ 2 ^ 22 },
 }
 
 impl Linked {
     /// The rows of the tape: those of the items, then those after them.
     pub fn rows(&self) -> Result<Vec<Code>, NoMemory>
-        ensures is { IfOk result (λ v. v.items ≡ spelled_rows (canonicals self.now.items.items) ++ self.now.after.items) }
+        ensures is { IfOk result (λ v. v.items ≡ flat_map item_rows self.now.items.items ++ self.now.after.items) }
         ensures few { IfOk result (λ v. length v.items ≤ 2 ^ 22) }
     {
         let mut rows = rows_of_items(*self.items.allocator(), &self.items)?;
@@ -60,7 +59,7 @@ impl Linked {
         ensures is { IfOk result
             (λ v. v.items ≡ text_of (canonicals self.now.items.items) ++ after_text self.now.after.items) }
         ensures reads { IfOk result
-            (λ v. reading v.items ≡ rows (spelled_rows (canonicals self.now.items.items) ++ self.now.after.items)) }
+            (λ v. reading v.items ≡ rows (flat_map item_rows self.now.items.items ++ self.now.after.items)) }
     {
         let mut text = text_of_items(*self.items.allocator(), &self.items)?;
         push_after(&mut text, &self.after)?;

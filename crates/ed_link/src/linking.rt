@@ -1,8 +1,7 @@
 //! Linking a whole source.
 ghost use Rattle.std.specs.Prelude.{◌≡◌, ◌≤◌, ◌+◌, ◌^◌, true, IfOk, IfErr, length};
-ghost use Rattle.std.specs.List.{list_all};
-ghost use Rattle.ed_notation.specs.Items.{spelled_rows};
-ghost use Rattle.ed_notation.specs.Spellings.{canonicals, is_spellable};
+ghost use Rattle.std.specs.List.{flat_map, list_all};
+ghost use Rattle.ed_notation.specs.Spellings.{is_spellable, item_rows};
 ghost use Rattle.ed_symbols.specs.Faults.{resolution};
 ghost use Rattle.ed_link.specs.Answers.{HasMeaningFault, IsLinked};
 ghost use Rattle.ed_link.specs.Words.{EachWordStands};
@@ -85,7 +84,7 @@ fn labels_of(alloc: Global, symbols: &[Definition]) -> Result<Vec<LabelPlace>, N
 fn finish(alloc: Global, symbols: &[Definition], built: Built) -> Result<Linked, SourceFault>
     requires spellable { list_all is_spellable built.items.items ≡ true }
     requires table { length built.table.items ≡ 1024 }
-    requires few { length (spelled_rows (canonicals built.items.items)) + length built.after.items ≤ 2 ^ 22 }
+    requires few { length (flat_map item_rows built.items.items) + length built.after.items ≤ 2 ^ 22 }
     ensures is { IfOk result (λ k. IsFinished symbols.now built k) }
     ensures memory { IfErr result (λ e. e ≡ SourceFault.Memory) }
 {

@@ -16,7 +16,7 @@ end_most : (r : RowKind) (notation : NotationState) → end_cost r notation ≤ 
 end_most Letter notation = if_most (enters_at (letter_action_of notation.directive))
 end_most r notation = lit≤ tt
 
-mark_most : (m : Bool) → 15 * digit m ≤ 17 * length (mark_rows m)
+pub mark_most : (m : Bool) → 15 * digit m ≤ 17 * length (mark_rows m)
 mark_most true = lit≤ tt
 mark_most false = lit≤ tt
 
@@ -26,7 +26,7 @@ one_most notation w =
     let last = length-append (begun_rows b) (w.end ∷ []) in
     omega (arith, end_most (row_kind w.end) notation, mark_most b.mark, last, length-append b.digits (mark_rows b.mark))
 
-all_most : (words : List ℕ) (notation : NotationState) (ws : List Written)
+pub all_most : (words : List ℕ) (notation : NotationState) (ws : List Written)
     → costs words notation ws ≤ 17 * length (spelled_rows ws)
 all_most words notation [] = lit≤ tt
 all_most words notation (w ∷ ws) =

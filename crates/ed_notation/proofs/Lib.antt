@@ -15,9 +15,11 @@ pub mod Answered
 pub mod Unique
 pub mod Verdicts
 pub mod Canonical
+pub mod ItemRows
 pub mod Texts
 pub mod Cuts
 pub mod Sound
+pub mod Beginnings
 pub mod Steps
 pub mod Placing
 pub mod Worked

@@ -1,5 +1,5 @@
 -- A tape is well formed if and only if its items break no rule.
-use Rattle.std.proofs.Common.{◌≡◌, ℕ, ◌+◌, refl, sym, ap, ◌∙◌, arith, Bool, true, false, subst, None, Some, List, []}
+use Rattle.std.proofs.Common.{◌≡◌, ℕ, ◌+◌, ◌≤◌, refl, sym, ap, ◌∙◌, arith, Bool, true, false, subst, None, Some, List, []}
 use Rattle.std.proofs.Common.{◌∷◌, ◌++◌}
 use Rattle.std.proofs.Common.{length, length-append, append_assoc}
 use Rattle.std.proofs.lemmas.List.{append-nil}
@@ -8,7 +8,9 @@ use Rattle.ed_notation.specs.declared.cause.TapeCause.{TapeCause}
 use Rattle.ed_notation.specs.Items.{row_kind, Written, begun_rows, rows_of, spelled_rows, IsWritten, item, items}
 use Rattle.ed_notation.specs.Openings.{IsDirective}
 use Rattle.ed_notation.specs.Fold.{NotationState, address, act, is_entry, fold, end_cost, cost_of, costs}
-use Rattle.ed_notation.specs.Faults.{breaks, AreRead, WellFormed, ComesTo, TapeEntry, EndsSound, AreSound}
+use Rattle.ed_notation.specs.Faults.{breaks, AreRead, IsRead, WellFormed, ComesTo, TapeEntry, EndsSound, AreSound}
+use Rattle.ed_notation.specs.Faults.{part_rows}
+use Rattle.ed_notation.specs.Beginnings.{IsSoundTo}
 use Rattle.ed_notation.specs.Reading.{entry_by, Arrived}
 use Rattle.ed_notation.proofs.Rows.{first, first_of, causes, as_part}
 use Rattle.ed_notation.proofs.Follow.{Reader, reads, behind, inside, to_end, goes_on, arrives}
@@ -20,7 +22,7 @@ none_first : (f : TapeCause → Bool) (cs : List TapeCause) → ((k : TapeCause)
 none_first f [] h = refl
 none_first f (c ∷ cs) h = rw (h c) (none_first f cs h)
 
-no_rule : (p : Reader) (w : Written) → EndsSound p.size p.words p.notation w
+pub no_rule : (p : Reader) (w : Written) → EndsSound p.size p.words p.notation w
     → first (row_kind w.end) p.size p.words p.notation w.begun w.end ≡ None
 no_rule p w s = none_first (λ k. breaks k (row_kind w.end) p.size p.words p.notation w.begun w.end) causes s
 
@@ -78,37 +80,43 @@ sound_well {z} {words} {start} before {last} rest set are sound good enters s =
     let e = last_read (behind_all p before) last rest a.1 good enters s in
     arrived_well z words start 0 (spelled_rows before ++ (rows_of last ++ rest)) set (a.0 ∙ e)
 
-module _ {z : Size} {words : List ℕ} {start : NotationState} {rows : List ℕ}
-    (well : WellFormed z words start rows) where
-  -- an item of a well-formed tape breaks no rule
+-- an item before a row up to which no rule is broken breaks none
+module _ {z : Size} {words : List ℕ} {start : NotationState} {rows : List ℕ} {row : ℕ}
+    (to : IsSoundTo z words start rows row) where
   item_sound : (before : List Written) (w : Written) (rest : List ℕ) → AreRead words start before → IsWritten w
-      → rows ≡ spelled_rows before ++ (rows_of w ++ rest) → EndsSound z words (fold words start (items before)) w
-  item_sound before w rest are good e cause = by_test _ refl
+      → rows ≡ spelled_rows before ++ (rows_of w ++ rest) → length (spelled_rows before) + length (rows_of w) ≤ row
+      → EndsSound z words (fold words start (items before)) w
+  item_sound before w rest are good e fits cause = by_test _ refl
     where
       by_test : (t : Bool) → breaks cause (row_kind w.end) z words (fold words start (items before)) w.begun w.end ≡ t
           → breaks cause (row_kind w.end) z words (fold words start (items before)) w.begun w.end ≡ false
       by_test false h = h
-      by_test true h = absurd (well (length (spelled_rows before) + length (begun_rows w.begun)) cause (record {
-        stands = record {
-          before = before;
-          part = Some w.begun;
-          rest = w.end ∷ rest;
-          are_read = are;
-          is_part = good.begun;
-          rows_are = e ∙ ap (λ x. spelled_rows before ++ x) (append_assoc (begun_rows w.begun) (w.end ∷ []) rest);
-          row_is = refl;
-        };
-        breaks = h;
-      }))
+      by_test true h =
+          let at = length (spelled_rows before) + length (begun_rows w.begun) in
+          let least = to at cause (record {
+            stands = record {
+              before = before;
+              part = Some w.begun;
+              rest = w.end ∷ rest;
+              are_read = are;
+              is_part = good.begun;
+              rows_are = e ∙ ap (λ x. spelled_rows before ++ x) (append_assoc (begun_rows w.begun) (w.end ∷ []) rest);
+              row_is = refl;
+            };
+            breaks = h;
+          }) in
+          absurd (omega (arith, least, fits, length-append (begun_rows w.begun) (w.end ∷ [])))
 
   all_sound : (ws before : List Written) (rest : List ℕ) → AreRead words start before
       → AreRead words (fold words start (items before)) ws → rows ≡ spelled_rows before ++ (spelled_rows ws ++ rest)
+      → length (spelled_rows before) + length (spelled_rows ws) ≤ row
       → AreSound z words (fold words start (items before)) ws
-  all_sound [] before rest are more e = tt
-  all_sound (w ∷ ws) before rest are more e =
+  all_sound [] before rest are more e fits = tt
+  all_sound (w ∷ ws) before rest are more e fits =
       let after = before ++ (w ∷ []) in
       let f = e ∙ ap (λ x. spelled_rows before ++ x) (append_assoc (rows_of w) (spelled_rows ws) rest) in
-      let s = item_sound before w (spelled_rows ws ++ rest) are more.0 f in
+      let l = length-append (rows_of w) (spelled_rows ws) in
+      let s = item_sound before w (spelled_rows ws ++ rest) are more.0 f (omega (arith, fits, l)) in
       let n : fold words start (items after) ≡ act words (fold words start (items before)) (item w) =
       ap (λ is. fold words start is) (items-append before (w ∷ []))
       ∙ fold-append words start (items before) (item w ∷ []) in
@@ -119,14 +127,23 @@ module _ {z : Size} {words : List ℕ} {start : NotationState} {rows : List ℕ}
       let g =
       f ∙ sym (append_assoc (spelled_rows before) (rows_of w) (spelled_rows ws ++ rest))
       ∙ ap (λ x. x ++ (spelled_rows ws ++ rest)) (sym t) in
-      let r = all_sound ws after rest a m g in
+      let k : length (spelled_rows after) ≡ length (spelled_rows before) + length (rows_of w) =
+      ap length t ∙ length-append (spelled_rows before) (rows_of w) in
+      let r = all_sound ws after rest a m g (omega (arith, fits, l, k)) in
       (s, subst (λ (x : NotationState). AreSound z words x ws) n r)
 
-  -- the items of a well-formed tape break no rule
-  pub well_sound : {base : ℕ} {e : TapeEntry} (c : ComesTo words start base rows e)
-      → AreSound z words start c.before × EndsSound z words e.notation c.last
-  well_sound {e = e} c =
-      let last = item_sound c.before c.last e.rest c.are_read c.is_written c.rows_are in (
-        all_sound c.before [] (rows_of c.last ++ e.rest) tt c.are_read c.rows_are,
-        subst (λ (x : NotationState). EndsSound z words x c.last) (sym c.notation_is) last,
-      )
+  -- so do all items before it
+  pub read_sound : (r : IsRead words start rows row) → AreSound z words start r.before
+  read_sound r =
+      all_sound r.before [] (part_rows r.part ++ r.rest) tt r.are_read r.rows_are (omega (arith, r.row_is))
+
+-- the items of a well-formed tape break no rule
+pub well_sound : {z : Size} {words : List ℕ} {start : NotationState} {rows : List ℕ} → WellFormed z words start rows
+    → {base : ℕ} {e : TapeEntry} (c : ComesTo words start base rows e)
+    → AreSound z words start c.before × EndsSound z words e.notation c.last
+well_sound {z} {words} {start} {rows} well {e = e} c =
+    let to : IsSoundTo z words start rows e.rows = λ r cause b. absurd (well r cause b) in
+    let last = item_sound to c.before c.last e.rest c.are_read c.is_written c.rows_are (omega (arith, c.read_is)) in (
+      all_sound to c.before [] (rows_of c.last ++ e.rest) tt c.are_read c.rows_are (omega (arith, c.read_is)),
+      subst (λ (x : NotationState). EndsSound z words x c.last) (sym c.notation_is) last,
+    )

@@ -2,6 +2,7 @@ pub mod Items
 pub mod Fold
 pub mod Openings
 pub mod Faults
+pub mod Beginnings
 pub mod Spellings
 pub mod Reports
 pub mod Checks

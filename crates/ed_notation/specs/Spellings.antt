@@ -2,6 +2,7 @@
 -- line for each item is this project's own rule).
 use Rattle.std.specs.Prelude.{ℕ, ◌≡◌, ◌≢◌, ◌/◌, ◌%◌, Bool, true, false, ◌&&◌}
 use Rattle.std.specs.Prelude.{nat_le, nat_lt, if◌then◌else◌, List, [], ◌∷◌, ◌++◌}
+use Rattle.ed_codes.specs.declared.letters.TheConstants.{PI}
 use Rattle.ed_codes.specs.Spelling.{byte_of}
 use Rattle.ed_notation.specs.declared.item.Item.{Item}
 use Rattle.ed_notation.specs.Items.{row_kind, ends, Written, IsWritten, rows_of, spelled_rows, items, SpellsItem}
@@ -25,6 +26,10 @@ digit_at p n = if nat_le p n then (n / p % 10) ∷ [] else []
 -- the digits of a number below 100000, none for 0
 abbrev pub digits_of : ℕ → List ℕ
 digits_of n = digit_at 10000 n ++ (digit_at 1000 n ++ (digit_at 100 n ++ (digit_at 10 n ++ digit_at 1 n)))
+
+-- the rows of an item: its function, the digits of its number, π if it has a mark, and its ending
+abbrev pub item_rows : Item → List ℕ
+item_rows i = i.function ∷ digits_of i.number ++ (if i.mark then PI ∷ [] else []) ++ i.end ∷ []
 
 -- the canonical spelling of an item
 abbrev pub canonical : Item → Written

@@ -42,3 +42,8 @@ pub mod GuestTexts
 pub mod GuestStands
 pub mod GuestRuns
 pub mod GuestSample
+pub mod PartsOfE
+pub mod DecimalsPass
+pub mod DecimalsMethod
+pub mod DecimalsProgram
+pub mod DecimalsRuns

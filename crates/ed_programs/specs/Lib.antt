@@ -13,3 +13,4 @@ pub mod Squares
 pub mod TwoParts
 pub mod Interlude
 pub mod Guests
+pub mod Decimals

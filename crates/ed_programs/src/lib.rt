@@ -7,6 +7,7 @@
 
 mod add;
 mod checked;
+mod decimals;
 mod difference;
 mod fraction;
 mod greatest;
@@ -22,6 +23,7 @@ mod woven;
 
 pub use add::add_program;
 pub use checked::checked_program;
+pub use decimals::decimals_program;
 pub use difference::difference_program;
 pub use fraction::fraction_program;
 pub use greatest::greatest_program;

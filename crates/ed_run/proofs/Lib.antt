@@ -2,3 +2,4 @@ pub mod Ends
 pub mod Places
 pub mod Later
 pub mod Pasts
+pub mod Quiet

@@ -7,6 +7,9 @@ use Rattle.ed_words.specs.declared.memory.NoMemory.{NoMemory}
 use Rattle.ed_words.specs.Texts.{Text}
 use Rattle.ed_answers.specs.Answer.{of_input, of_made}
 use Rattle.ed_answers.specs.Outcome.{Outcome, refusal}
+use Rattle.ed_answers.specs.Sources.{OfSource, of_source, run_outcome}
+use Rattle.ed_run.specs.declared.settings.Settings.{Settings}
+use Rattle.ed_top.specs.Calls.{of_made_source}
 use Rattle.ed_answers.specs.Replies.{Gives, Refuses, Replies}
 use Rattle.ed_answers.specs.declared.reply.Rejection.{Rejection}
 use Rattle.ed_answers.specs.declared.reply.Rejection.TheVariants.{Memory, Refused}
@@ -49,3 +52,13 @@ pub as_input : (answers : Text → Outcome → Type 0) (input : Text) (r : Resul
 as_input answers input (Ok reply) replies = replies
 as_input answers input (Err (Refused reply)) replies = replies
 as_input answers input (Err Memory) replies = replies
+
+-- a reply to a source that was made is its answer
+pub made_replied : (s : Settings) (text input : Text) (r : Result Reply Rejection) → input ≡ text
+    → Replies (of_source s.size (run_outcome s)) input r → Replies (of_made_source s text) [] r
+made_replied s text input (Err Memory) is replies =
+    (replies.0, subst (λ (t : Text). OfSource s.size (run_outcome s) t replies.0) is replies.1, tt)
+made_replied s text input (Err (Refused reply)) is replies =
+    (replies.0, subst (λ (t : Text). OfSource s.size (run_outcome s) t replies.0) is replies.1, replies.2)
+made_replied s text input (Ok reply) is replies =
+    (replies.0, subst (λ (t : Text). OfSource s.size (run_outcome s) t replies.0) is replies.1, replies.2)

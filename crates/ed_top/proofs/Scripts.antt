@@ -12,8 +12,8 @@ use Rattle.ed_stepper.specs.Sessions.{Stand}
 use Rattle.ed_stepper.proofs.ScriptLaws.{never_both, one_script}
 use Rattle.ed_report.specs.Notes.{too_far_line}
 use Rattle.ed_answers.specs.Outcome.{Outcome, done, refusal}
-use Rattle.ed_notation.specs.Items.{spelled_rows}
-use Rattle.ed_notation.specs.Spellings.{canonicals}
+use Rattle.std.specs.List.{flat_map}
+use Rattle.ed_notation.specs.Spellings.{item_rows}
 use Rattle.ed_stepper.specs.declared.inputs.TextKind.{TextKind}
 use Rattle.ed_stepper.specs.declared.inputs.TextKind.TheVariants as kinds
 use Rattle.ed_syntax.specs.declared.program.Line.{Line}
@@ -111,12 +111,12 @@ on_lines s commands lines = on_rows s commands (tape lines)
 -- of the tape of a source
 pub source_rows : (s : Settings) (kind : TextKind) (text : Text) (k : Linked) (v : Vec ℕ Global)
     → kind ≡ kinds.Source → LinksSource s.size text (Ok k)
-    → v.items ≡ spelled_rows (canonicals k.items.items) ++ k.after.items → HasRows s kind text (Ok v)
+    → v.items ≡ flat_map item_rows k.items.items ++ k.after.items → HasRows s kind text (Ok v)
 source_rows s kind text k v is links rows_are = λ commands.
     let lines = links.0 in
     let linked = links.2 in
     let same : tape lines ≡ v.items =
-    sym (rows_are ∙ (λ i. spelled_rows (canonicals (linked.items i)) ++ linked.after i)) in
+    sym (rows_are ∙ (λ i. flat_map item_rows (linked.items i) ++ linked.after i)) in
     subst (λ x. OnText s commands x text (on_rows s commands v.items)) (sym is)
     (inr (lines, links.1, ap (on_rows s commands) same))
 

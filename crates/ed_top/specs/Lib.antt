@@ -1,6 +1,5 @@
 pub mod CallSources
 pub mod DemoSources
-pub mod AcceptedSources
 pub mod Traces
 pub mod Parts
 pub mod Scripts
@@ -10,7 +9,3 @@ pub mod Output
 pub mod Clause
 pub mod Complete
 pub mod Private
-pub mod TapeEntries
-pub mod Stepped
-pub mod PartsRun
-pub mod ReadBack

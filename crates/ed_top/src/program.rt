@@ -1,22 +1,11 @@
 ghost use Rattle.std.specs.Prelude.{Some, map, string_bytes};
 ghost use Rattle.ed_command.specs.Lines.{command_line};
 ghost use Rattle.ed_command.specs.Ranges.{IsInRange};
-ghost use Rattle.ed_answers.specs.BothSizes.{EachSize};
-ghost use Rattle.ed_top.specs.Calls.{CallsByDefault, EachCallRuns};
 ghost use Rattle.ed_top.specs.Clause.{ProgramEnded, WritesLastLine, device};
 ghost use Rattle.ed_top.specs.Complete.{EachRunIsComplete};
-ghost use Rattle.ed_top.specs.Demos.{EachDemoRuns};
-ghost use Rattle.ed_answers.specs.FirstEntry.{EachProgramRunsFrom31};
 ghost use Rattle.ed_answers.specs.Headline.{Headline};
-ghost use Rattle.ed_answers.specs.Limits.{EachLimit};
-ghost use Rattle.ed_answers.specs.Listed.{EachListedIsLoaded};
 ghost use Rattle.ed_answers.specs.Outcome.{no_memory};
 ghost use Rattle.ed_top.specs.Output.{EachLineHasOneOutcome, answer, output};
-ghost use Rattle.ed_top.specs.PartsRun.{EachTapeInPartsIsRun};
-ghost use Rattle.ed_answers.specs.PunchedTapes.{EachPunchedIsRun};
-ghost use Rattle.ed_top.specs.ReadBack.{EachWordIsReadBack};
-ghost use Rattle.ed_top.specs.Stepped.{EachStepIsRun};
-ghost use Rattle.ed_top.specs.TapeEntries.{EachTapeRunsFromEntry};
 
 use crate::commands::{carry_out, reads_input};
 use crate::devices::{InputStop, input_of, tell};
@@ -51,18 +40,6 @@ pub fn edsac<S: Source, K: Sink, L: Sink>(
     ensures law { EachLineHasOneOutcome }
     ensures complete { EachRunIsComplete }
     ensures headline { Headline }
-    ensures calls { EachCallRuns }
-    ensures calls_by_default { CallsByDefault }
-    ensures demos { EachDemoRuns }
-    ensures first_orders { EachProgramRunsFrom31 }
-    ensures tapes { EachTapeRunsFromEntry }
-    ensures punched { EachPunchedIsRun }
-    ensures listed { EachListedIsLoaded }
-    ensures limits { EachLimit }
-    ensures sizes { EachSize }
-    ensures read_back { EachWordIsReadBack }
-    ensures stepped { EachStepIsRun }
-    ensures parts { EachTapeInPartsIsRun }
 {
     match read_words(alloc, words) {
         Ok(command) => run_command(alloc, command, source, out, note),

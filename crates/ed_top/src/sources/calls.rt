@@ -1,6 +1,5 @@
 ghost use Rattle.std.specs.Prelude.{◌≡◌, IfOk, string_bytes};
 ghost use Rattle.ed_top.specs.CallSources.{call_text};
-ghost use Rattle.ed_top.specs.AcceptedSources.{EachCallIsAccepted};
 
 use crate::sources::woven;
 use ed_library::Call;
@@ -98,8 +97,7 @@ pub const CHECK: [&str; 2] = [
 
 /// The source of a call of a library routine.
 pub fn call_source(alloc: Global, call: &Call) -> Result<Vec<u8>, NoMemory>
-    ensures is { IfOk result (λ bytes. bytes.items ≡ call_text call.now) }
-    ensures law { EachCallIsAccepted }
+    ensures { IfOk result (λ bytes. bytes.items ≡ call_text call.now) }
 {
     Ok(source_text(alloc, call)?.into_bytes())
 }

@@ -1,5 +1,4 @@
 ghost use Rattle.std.specs.Prelude.{◌≡◌, ◌++◌, ◌<◌, ◌≤◌, IfOk, string_bytes};
-ghost use Rattle.ed_top.specs.AcceptedSources.{EachDemoIsAccepted};
 ghost use Rattle.ed_top.specs.CallSources.{text_of_lines};
 ghost use Rattle.ed_top.specs.DemoSources.{adding_text, number_after, demo_text, next, segments, word_lines, number_word};
 
@@ -36,8 +35,7 @@ pub const ADDING: [&str; 2] = [
 pub fn demo_source(alloc: Global, n: u32) -> Result<Vec<u8>, NoMemory>
     requires some { 1 ≤ n }
     requires few { n ≤ 112 }
-    ensures is { IfOk result (λ bytes. bytes.items ≡ demo_text n) }
-    ensures law { EachDemoIsAccepted }
+    ensures { IfOk result (λ bytes. bytes.items ≡ demo_text n) }
 {
     let mut text = woven(alloc, &ADDING, &[8 * n as u16])?;
     push_segments(&mut text, n)?;

@@ -1,7 +1,7 @@
 use Rattle.std.proofs.Common.{◌≡◌, ◌∙◌, ◌≤◌, ◌++◌, ℕ, List, arith, inr, refl, subst}
 use Rattle.ed_words.specs.declared.size.Size.{Size}
-use Rattle.ed_notation.specs.Items.{spelled_rows}
-use Rattle.ed_notation.specs.Spellings.{canonicals}
+use Rattle.std.specs.List.{flat_map}
+use Rattle.ed_notation.specs.Spellings.{item_rows}
 use Rattle.ed_syntax.specs.declared.program.Line.{Line}
 use Rattle.ed_link.specs.Answers.{IsLinked}
 use Rattle.ed_link.specs.declared.linked.Linked.{Linked}
@@ -19,11 +19,11 @@ within one two = omega (arith, one, two)
 
 -- the rows of a linked program's tape are those of its lines
 tape_given : {z : Size} {lines : List Line} {k : Linked} {codes : List ℕ} {reply : Reply} → IsLinked z lines k
-    → codes ≡ spelled_rows (canonicals k.items.items) ++ k.after.items → Gives reply (done codes)
+    → codes ≡ flat_map item_rows k.items.items ++ k.after.items → Gives reply (done codes)
     → Gives reply (source_rows lines)
 tape_given {reply = reply} linked is gives =
     subst (λ (cs : List ℕ). Gives reply (done cs))
-    (is ∙ (λ i. spelled_rows (canonicals (linked.items i)) ++ linked.after i)) gives
+    (is ∙ (λ i. flat_map item_rows (linked.items i) ++ linked.after i)) gives
 
 pub returns-in_err-rows-in-SourceRows : goal.returns-in_err-rows-in-SourceRows
 returns-in_err-rows-in-SourceRows c =

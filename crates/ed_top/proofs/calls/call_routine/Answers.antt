@@ -1,13 +1,12 @@
 use Rattle.std.proofs.Common.{◌∙◌}
 use Rattle.ed_top.specs.CallSources.{call_text}
 use Rattle.ed_answers.specs.Sources.{OfSource, run_outcome}
-use Rattle.ed_top.proofs.CallRuns.{made_replied}
 use Rattle.ed_answers.proofs.Sources.{some_outcome}
-use Rattle.ed_top.proofs.Made.{none_replied}
+use Rattle.ed_top.proofs.Made.{made_replied, none_replied}
 use Rattle.ed_top.proofs.calls.call_routine.Goals as goal
 
 pub returns : goal.returns
-returns c = made_replied c.args.settings _ _ _ (c.deref.ensures.value ∙ c.in_ok-source.ensures.is) c.run.ensures
+returns c = made_replied c.args.settings _ _ _ (c.deref.ensures.value ∙ c.in_ok-source.ensures) c.run.ensures
 
 pub returns-in_err-source : goal.returns-in_err-source
 returns-in_err-source c =

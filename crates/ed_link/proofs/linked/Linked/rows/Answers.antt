@@ -1,7 +1,8 @@
-use Rattle.std.proofs.Common.{◌≡◌, ◌∙◌, ◌++◌, ap, arith, length, length-append, List}
+use Rattle.std.proofs.Common.{◌≡◌, ◌∙◌, ◌++◌, ap, sym, arith, length, length-append, List}
 use Rattle.ed_notation.specs.declared.item.Item.{Item}
-use Rattle.ed_notation.specs.Items.{spelled_rows}
-use Rattle.ed_notation.specs.Spellings.{canonicals}
+use Rattle.ed_notation.specs.Spellings.{item_rows}
+use Rattle.ed_notation.proofs.ItemRows.{all_rows_are}
+use Rattle.std.specs.List.{flat_map}
 use Rattle.ed_link.proofs.Spellable.{are_spellable}
 use Rattle.ed_link.proofs.linked.Linked.rows.Goals as goal
 
@@ -11,10 +12,10 @@ rows_of_items-requires c =
 
 -- the rows of the items, and those after them
 whole : (c : goal.In_ok-extend_from_slice) → c.extend_from_slice.new.self.items
-    ≡ spelled_rows (canonicals c.args.self.now.items.items) ++ c.args.self.now.after.items
+    ≡ flat_map item_rows c.args.self.now.items.items ++ c.args.self.now.after.items
 whole c =
     let items = c.in_ok-rows.ensures.rows
-    ∙ ap (λ (is : List Item). spelled_rows (canonicals is)) c.deref.ensures.value in
+    ∙ sym (all_rows_are c.deref.result.now) ∙ ap (λ (is : List Item). flat_map item_rows is) c.deref.ensures.value in
     c.in_ok-extend_from_slice.ensures.items ∙ (λ i. items i ++ c.deref-2.ensures.value i)
 
 pub returns-clause-is : goal.returns-clause-is
@@ -23,5 +24,5 @@ returns-clause-is c = whole c
 pub returns-clause-few : goal.returns-clause-few
 returns-clause-few c =
     let linked = c.args.self.now in
-    let count = ap length (whole c) ∙ length-append (spelled_rows (canonicals linked.items.items)) linked.after.items in
+    let count = ap length (whole c) ∙ length-append (flat_map item_rows linked.items.items) linked.after.items in
     omega (arith, count, linked.few)

@@ -1,8 +1,9 @@
-use Rattle.std.proofs.Common.{◌∙◌, ◌++◌, ap, List}
+use Rattle.std.proofs.Common.{ℕ, ◌∙◌, ◌++◌, ap, sym, List}
 use Rattle.ed_codes.specs.Reading.{reading, rows}
-use Rattle.ed_notation.specs.Items.{spelled_rows}
+use Rattle.std.specs.List.{flat_map}
+use Rattle.ed_notation.proofs.ItemRows.{all_rows_are}
 use Rattle.ed_notation.specs.declared.item.Item.{Item}
-use Rattle.ed_notation.specs.Spellings.{canonicals, text_of}
+use Rattle.ed_notation.specs.Spellings.{canonicals, item_rows, text_of}
 use Rattle.ed_link.specs.Tapes.{after_text}
 use Rattle.ed_link.proofs.Spellable.{are_spellable}
 use Rattle.ed_link.proofs.Texts.{both_read}
@@ -22,6 +23,7 @@ returns-clause-reads c =
     let items = c.deref.result.now in
     let after = c.deref-2.result.now in
     ap reading c.in_ok-push_after.ensures.is
-    ∙ both_read c.in_ok-text.text.items (after_text after) (spelled_rows (canonicals items)) after
-    c.in_ok-text.ensures.reads c.in_ok-push_after.ensures.spells
-    ∙ (λ i. rows (spelled_rows (canonicals (c.deref.ensures.value i)) ++ c.deref-2.ensures.value i))
+    ∙ both_read c.in_ok-text.text.items (after_text after) (flat_map item_rows items) after
+    (c.in_ok-text.ensures.reads ∙ ap (λ (rs : List ℕ). rows rs) (sym (all_rows_are items)))
+    c.in_ok-push_after.ensures.spells
+    ∙ (λ i. rows (flat_map item_rows (c.deref.ensures.value i) ++ c.deref-2.ensures.value i))

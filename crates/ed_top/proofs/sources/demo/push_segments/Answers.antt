@@ -1,6 +1,6 @@
 use Rattle.std.proofs.Common.{◌≡◌, ◌+◌, ◌-◌, ◌<◌, suc, arith, subst, sym}
 use Rattle.std.specs.Prelude.{string_bytes}
-use Rattle.ed_top.proofs.Making.DemoTexts.{behind_low, no_segment, one_segment}
+use Rattle.ed_top.proofs.DemoTexts.{behind_low, no_segment, one_segment}
 use Rattle.ed_top.proofs.sources.demo.push_segments.Goals as goal
 
 pub loop-done-preserved : goal.loop-done-preserved

@@ -1,6 +1,6 @@
 use Rattle.std.proofs.Common.{◌≡◌, ◌+◌, ◌-◌, suc, arith}
 use Rattle.std.specs.Prelude.{string_bytes}
-use Rattle.ed_top.proofs.Making.DemoTexts.{no_number, no_word, one_behind, one_word}
+use Rattle.ed_top.proofs.DemoTexts.{no_number, no_word, one_behind, one_word}
 use Rattle.ed_top.proofs.sources.demo.push_words.Goals as goal
 
 pub loop-word-preserved : goal.loop-word-preserved

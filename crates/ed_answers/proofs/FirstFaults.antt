@@ -1,0 +1,83 @@
+-- A tape with a fault for Initial Orders 1: the machine waits for the row of the fault, in the state that the rows before
+-- it mean.
+use Rattle.std.proofs.Common.{◌≡◌, ◌∙◌, ℕ, ◌<◌, refl, sym, ap, subst, arith, inr}
+use Rattle.std.proofs.Common.{true, true≢false, Option, Some, None, List, [], ◌∷◌}
+use Rattle.std.specs.Prelude.{codes}
+use Rattle.ed_words.specs.Texts.{Text}
+use Rattle.ed_machine.specs.State.{State}
+use Rattle.ed_machine.specs.Steps.{state_after}
+use Rattle.ed_machine.specs.declared.ending.Ending.TheVariants.{Limit}
+use Rattle.ed_run.specs.Laws.{AllWent}
+use Rattle.ed_run.specs.declared.settings.Settings.{Settings}
+use Rattle.ed_run.proofs.Quiet.{limit_there, no_tape_there}
+use Rattle.ed_initial1.specs.declared.cause.Tape1Cause.{Tape1Cause}
+use Rattle.ed_initial1.specs.declared.cause.Tape1Cause.TheVariants.{EndOfTape}
+use Rattle.ed_initial1.specs.Items.{Begun1, Item1}
+use Rattle.ed_initial1.specs.Faults.{IsRead1, is_broken1}
+use Rattle.ed_initial1.specs.Waits.{Waits1, orders_before1, waiting_place1}
+use Rattle.ed_initial1.proofs.Awaited.{needs_row, waits, waits_at}
+use Rattle.ed_report.specs.Notes.{at_after}
+use Rattle.ed_answers.specs.FirstFaults.{EachFaultyTapeWaits1, silent_outcome}
+use Rattle.ed_answers.specs.FirstOrders.{first_state1, tape1_outcome}
+use Rattle.ed_answers.specs.Outcome.{line}
+use Rattle.ed_answers.specs.Runs.{paper_room, ran_outcome}
+use Rattle.ed_answers.proofs.FirstEntries.{first_store, starts}
+
+-- where a tape must not end, it ends
+ended : (before : List Item1) (part : Option Begun1) (rest : List ℕ) → is_broken1 before part rest EndOfTape ≡ true
+    → rest ≡ []
+ended before part [] h = refl
+ended before None (c ∷ rest) h = absurd (true≢false (sym h))
+ended before (Some b) (c ∷ rest) h = absurd (true≢false (sym h))
+
+-- from a cleared machine
+cleared_waits : (rows : List ℕ) {row : ℕ} (r : IsRead1 rows row)
+    → Waits1 (first_state1 rows) (orders_before1 r) r.before r.part r.rest
+unfolding first_state1
+cleared_waits rows {row} r = waits (first_state1 rows) (first_store rows) (starts rows) row r
+
+-- a run that prints nothing and ends there
+module _ (s : Settings) (rows : List ℕ) {k : ℕ} {before : List Item1} {part : Option Begun1} {rest : List ℕ}
+    (there : Waits1 (first_state1 rows) k before part rest) where
+  abbrev first : State
+  first = first_state1 rows
+
+  all_went : AllWent k first
+  all_went j below = (there.quiet j below).went
+
+  orders_are : (state_after k first).orders ≡ k
+  unfolding first_state1
+  orders_are = (waits_at part there).1 ∙ omega arith
+
+  named : (name : Text) → line (at_after name (state_after k first).counter (state_after k first).orders)
+      ≡ line (at_after name (waiting_place1 part) k)
+  named name = λ i. line (at_after name ((waits_at part there).0 i) (orders_are i))
+
+  limited : s.limit ≡ k → tape1_outcome s rows ≡ silent_outcome (codes "limit") (waiting_place1 part) k 4
+  limited is =
+      let ends = limit_there s.limit s.resumes paper_room first (subst (λ n. AllWent n first) (sym is) all_went) in
+      ap (ran_outcome []) ends
+      ∙ ap (λ n. ran_outcome [] (record { ending = Limit; state = state_after n first; codes = [] })) is
+      ∙ ap (λ note. record (silent_outcome (codes "limit") (waiting_place1 part) k 4) { note = note })
+      (named (codes "limit"))
+
+  no_tape : rest ≡ [] → k < s.limit
+      → tape1_outcome s rows ≡ silent_outcome (codes "no tape") (waiting_place1 part) k 6
+  no_tape none below =
+      let turn = needs_row part (subst (λ x. Waits1 first k before part x) none there) in
+      ap (ran_outcome []) (no_tape_there s.limit s.resumes paper_room k first all_went below turn)
+      ∙ ap (λ note. record (silent_outcome (codes "no tape") (waiting_place1 part) k 6) { note = note })
+      (named (codes "no tape"))
+
+pub faulty_tapes_wait1 : EachFaultyTapeWaits1
+faulty_tapes_wait1 s rows row cause f =
+    let r = f.is.stands in
+    let there = cleared_waits rows r in
+    record {
+      checked = inr (record { row = row; cause = cause; fault = f; outcome = refl });
+      waits = there;
+      limited = limited s rows there;
+      no_tape = λ is below.
+          let broken = subst (λ (c : Tape1Cause). is_broken1 r.before r.part r.rest c ≡ true) is f.is.breaks in
+          no_tape s rows there (ended r.before r.part r.rest broken) below;
+    }

@@ -1,0 +1,188 @@
+-- A tape with a fault: the machine waits for the row of the fault, in the state that the rows before it mean.
+use Rattle.std.proofs.Common.{◌≡◌, ◌∙◌, ℕ, ◌+◌, ◌<◌, refl, sym, ap, subst, arith, inr}
+use Rattle.std.proofs.Common.{true, nat_le, ◌&&◌, Option, Some, None, List, [], ◌∷◌}
+use Rattle.std.specs.Prelude.{codes}
+use Rattle.ed_words.specs.declared.size.Size.{Size}
+use Rattle.ed_words.specs.Texts.{Text}
+use Rattle.ed_store.specs.Cells.{cleared_cells}
+use Rattle.ed_machine.specs.State.{State}
+use Rattle.ed_machine.specs.Steps.{state_after}
+use Rattle.ed_machine.specs.declared.ending.Ending.TheVariants.{Limit}
+use Rattle.ed_run.specs.Run.{RunEnd}
+use Rattle.ed_run.specs.Laws.{AllWent}
+use Rattle.ed_run.specs.declared.settings.Settings.{Settings}
+use Rattle.ed_run.proofs.Quiet.{limit_there, no_tape_there}
+use Rattle.ed_notation.specs.declared.item.Item.{Item}
+use Rattle.ed_notation.specs.declared.cause.TapeCause.{TapeCause}
+use Rattle.ed_notation.specs.declared.cause.TapeCause.TheVariants.{EndOfTape, BadRow, NumberTooLarge}
+use Rattle.ed_notation.specs.declared.cause.TapeCause.TheVariants.{AfterMark, BadControl}
+use Rattle.ed_notation.specs.declared.cause.TapeCause.TheVariants.{LoaderStore, StoreEnd, NoPlace}
+use Rattle.ed_notation.specs.declared.cause.TapeCause.TheVariants.{EntryNegative, EntryInLoader}
+use Rattle.ed_notation.specs.declared.kind.RowKind.{RowKind}
+use Rattle.ed_notation.specs.declared.kind.RowKind.TheVariants.{Digit, Kay, Letter, Other}
+use Rattle.ed_notation.specs.Items.{Begun, Written, row_kind, item, item_of, items}
+use Rattle.ed_notation.specs.Fold.{NotationState, act, cost_of, costs, ending_effect, enters_at, fold, item_word}
+use Rattle.ed_notation.specs.Fold.{letter_action_of, over, with_letter, word_with}
+use Rattle.ed_notation.specs.Openings.{opening}
+use Rattle.ed_notation.specs.Faults.{AreRead, Breaks, IsRead, breaks, is_broken}
+use Rattle.ed_notation.specs.Beginnings.{IsSoundTo, orders_before, state_before}
+use Rattle.ed_notation.proofs.Beginnings.{ended, fault_sound}
+use Rattle.ed_initial.specs.Entry.{first_state}
+use Rattle.ed_initial.specs.Waits.{Waits, waiting_place}
+use Rattle.ed_initial.proofs.Awaited.{needs_row, waits, waits_at}
+use Rattle.ed_initial.proofs.Starts.{first_store, starts}
+use Rattle.ed_report.specs.Notes.{at_after}
+use Rattle.ed_answers.specs.Outcome.{line}
+use Rattle.ed_answers.specs.Runs.{paper_room, ran_outcome, with_post_mortem}
+use Rattle.ed_answers.specs.Tapes.{first_note, tape_outcome}
+use Rattle.ed_laws.specs.FaultyTapes.{EachFaultyTapeWaits, quiet_outcome}
+use Rattle.ed_laws.proofs.TapeEntries.{Agree, first_agrees, letter_from, over_agrees, value_agrees}
+
+-- ---- rows mean the same over words that agree from 41 upwards
+
+module _ (v w : List ℕ) (same : Agree v w) where
+  word_agrees : (n : NotationState) (i : Item) → row_kind i.end ≡ Letter → item_word v n i ≡ item_word w n i
+  word_agrees n i k =
+      ap (word_with i.function i.number i.mark)
+      (value_agrees (over n.placed v) (over n.placed w) n.theta i.end (letter_from i.end k)
+      (over_agrees n.placed v w same))
+
+  effect_agrees : (k : RowKind) (n : NotationState) (i : Item) → (k ≡ Letter → item_word v n i ≡ item_word w n i)
+      → ending_effect k v n i ≡ ending_effect k w n i
+  effect_agrees Letter n i h = ap (with_letter (letter_action_of n.directive) n) (h refl)
+  effect_agrees k n i h = refl
+
+  act_agrees : (n : NotationState) (i : Item) → act v n i ≡ act w n i
+  act_agrees n i = effect_agrees (row_kind i.end) n i (word_agrees n i)
+
+  fold_agrees : (n : NotationState) (is : List Item) → fold v n is ≡ fold w n is
+  fold_agrees n [] = refl
+  fold_agrees n (i ∷ is) = fold_agrees (act v n i) is ∙ ap (λ (x : NotationState). fold w x is) (act_agrees n i)
+
+  costs_agree : (n : NotationState) (ws : List Written) → costs v n ws ≡ costs w n ws
+  costs_agree n [] = refl
+  costs_agree n (x ∷ xs) =
+      ap (λ k. cost_of n x + k)
+      (costs_agree (act v n (item x)) xs ∙ ap (λ (y : NotationState). costs w y xs) (act_agrees n (item x)))
+
+  read_agrees : (n : NotationState) (ws : List Written) → AreRead v n ws → AreRead w n ws
+  read_agrees n [] h = tt
+  read_agrees n (x ∷ xs) h = (
+    h.0,
+    h.1,
+    subst (λ (y : NotationState). AreRead w y xs) (act_agrees n (item x))
+        (read_agrees (act v n (item x)) xs h.2),
+  )
+
+  breaks_agrees : (cause : TapeCause) (k : RowKind) (z : Size) (n : NotationState) (b : Begun) (c : ℕ)
+      → (k ≡ Letter → item_word v n (item_of b c) ≡ item_word w n (item_of b c))
+      → breaks cause k z v n b c ≡ breaks cause k z w n b c
+  breaks_agrees EntryNegative Letter z n b c h =
+      ap (λ x. enters_at (letter_action_of n.directive) && nat_le 65536 x) (h refl)
+  breaks_agrees EndOfTape Digit z n b c h = refl
+  breaks_agrees BadRow Other z n b c h = refl
+  breaks_agrees NumberTooLarge Digit z n b c h = refl
+  breaks_agrees AfterMark Digit z n b c h = refl
+  breaks_agrees BadControl Kay z n b c h = refl
+  breaks_agrees LoaderStore Letter z n b c h = refl
+  breaks_agrees StoreEnd Letter z n b c h = refl
+  breaks_agrees NoPlace Letter z n b c h = refl
+  breaks_agrees EntryInLoader Letter z n b c h = refl
+  breaks_agrees cause k z n b c h = refl
+
+  broken_agrees : (z : Size) (n : NotationState) (part : Option Begun) (rest : List ℕ) (cause : TapeCause)
+      → is_broken z v n part rest cause ≡ is_broken z w n part rest cause
+  broken_agrees z n part [] cause = refl
+  broken_agrees z n None (c ∷ rest) cause = refl
+  broken_agrees z n (Some b) (c ∷ rest) cause =
+      breaks_agrees cause (row_kind c) z n b c (word_agrees n (item_of b c))
+
+  abbrev read_over : {start : NotationState} {rows : List ℕ} {row : ℕ} → IsRead v start rows row
+      → IsRead w start rows row
+  read_over {start} r = record {
+    before = r.before;
+    part = r.part;
+    rest = r.rest;
+    are_read = read_agrees start r.before r.are_read;
+    is_part = r.is_part;
+    rows_are = r.rows_are;
+    row_is = r.row_is;
+  }
+
+  broken_over : {z : Size} {start : NotationState} {rows : List ℕ} {row : ℕ} {cause : TapeCause}
+      → Breaks z v start rows row cause → Breaks z w start rows row cause
+  broken_over {z} {start} {cause = cause} b =
+      let r = b.stands in
+      record {
+        stands = read_over r;
+        breaks = ap (λ (n : NotationState). is_broken z w n r.part r.rest cause) (sym (fold_agrees start (items r.before)))
+            ∙ sym (broken_agrees z (fold v start (items r.before)) r.part r.rest cause)
+            ∙ b.breaks;
+      }
+
+-- ---- the machine on such a tape
+
+-- from a cleared machine
+cleared_waits : (z : Size) (rows : List ℕ) {row : ℕ} (r : IsRead cleared_cells.words first_note rows row)
+    → IsSoundTo z cleared_cells.words first_note rows row
+    → Waits (first_state z rows) (9 + orders_before r) (state_before r) r.part r.rest
+unfolding first_state
+cleared_waits z rows {row} r to =
+    let v = cleared_cells.words in
+    let w = (first_state z rows).store.words in
+    let same = first_agrees z rows in
+    let to' : IsSoundTo z w (opening w) rows row = λ at cause b. to at cause (broken_over w v (sym same) b) in
+    let there = waits (first_state z rows) (first_store z rows) (starts z rows) row to' (read_over v w same r) in
+    rw (costs_agree v w same first_note r.before, fold_agrees v w same first_note (items r.before)) there
+
+-- a run that prints nothing and ends there
+module _ (s : Settings) (rows : List ℕ) {k : ℕ} {notation : NotationState} {part : Option Begun} {rest : List ℕ}
+    (there : Waits (first_state s.size rows) k notation part rest) where
+  abbrev first : State
+  first = first_state s.size rows
+
+  all_went : AllWent k first
+  all_went j below = (there.quiet j below).went
+
+  orders_are : (state_after k first).orders ≡ k
+  unfolding first_state
+  orders_are = (waits_at part there).1 ∙ omega arith
+
+  named : (name : Text) → line (at_after name (state_after k first).counter (state_after k first).orders)
+      ≡ line (at_after name (waiting_place part) k)
+  named name = λ i. line (at_after name ((waits_at part there).0 i) (orders_are i))
+
+  limited : s.limit ≡ k → tape_outcome s rows ≡ quiet_outcome s rows (codes "limit") (waiting_place part) k 4
+  limited is =
+      let ends = limit_there s.limit s.resumes paper_room first (subst (λ n. AllWent n first) (sym is) all_went) in
+      ap (λ (r : RunEnd). ran_outcome [] (with_post_mortem s.post_mortem r)) ends
+      ∙ ap (λ n. ran_outcome [] (with_post_mortem s.post_mortem (record {
+        ending = Limit;
+        state = state_after n first;
+        codes = [];
+      }))) is
+      ∙ ap (λ note. record (quiet_outcome s rows (codes "limit") (waiting_place part) k 4) { note = note })
+      (named (codes "limit"))
+
+  no_tape : rest ≡ [] → k < s.limit
+      → tape_outcome s rows ≡ quiet_outcome s rows (codes "no tape") (waiting_place part) k 6
+  no_tape none below =
+      let turn = needs_row part (subst (λ x. Waits first k notation part x) none there) in
+      ap (λ (r : RunEnd). ran_outcome [] (with_post_mortem s.post_mortem r))
+      (no_tape_there s.limit s.resumes paper_room k first all_went below turn)
+      ∙ ap (λ note. record (quiet_outcome s rows (codes "no tape") (waiting_place part) k 6) { note = note })
+      (named (codes "no tape"))
+
+pub faulty_tapes_wait : EachFaultyTapeWaits
+faulty_tapes_wait s rows row cause f =
+    let r = f.is.stands in
+    let there = cleared_waits s.size rows r (fault_sound f) in
+    record {
+      checked = inr (record { row = row; cause = cause; fault = f; outcome = refl });
+      waits = there;
+      limited = limited s rows there;
+      no_tape = λ is below.
+          let broken = subst (λ (c : TapeCause).
+          is_broken s.size cleared_cells.words (state_before r) r.part r.rest c ≡ true) is f.is.breaks in
+          no_tape s rows there (ended s.size cleared_cells.words (state_before r) r.part r.rest broken) below;
+    }

@@ -1,0 +1,236 @@
+-- With `tape`, a tape in parts is the run that ends as the parts do and prints what their programs print.
+use Rattle.std.proofs.Common.{◌≡◌, ◌∙◌, ℕ, zero, suc, ◌+◌, ◌-◌, ◌<◌, ◌≤◌, refl, sym, ap, subst, arith}
+use Rattle.std.proofs.Common.{Bool, true, false, nat_eq, nat_le, nat_lt, Some, None, List, [], ◌++◌, length}
+use Rattle.std.proofs.Common.{append-nil, length-append, take, ◌⊎◌, inl, inr}
+use Rattle.std.proofs.Math.Seq.{take-append_seam}
+use Rattle.std.proofs.lemmas.Bool.{cases_lt}
+use Rattle.std.specs.Prelude.{if◌then◌else◌}
+use Rattle.std.proofs.lemmas.Bool.Decides.{nat_tests}
+use Rattle.ed_words.proofs.Numbers.{le_false, le_true}
+use Rattle.ed_machine.specs.State.{State}
+use Rattle.ed_machine.specs.OrderTable.{step}
+use Rattle.ed_machine.specs.Steps.{Progress, codes_of, progress, state_after}
+use Rattle.ed_machine.specs.declared.turn.Turn.{Turn}
+use Rattle.ed_machine.specs.declared.turn.Turn.TheVariants.{Went, Printed, Stopped as Stops}
+use Rattle.ed_machine.specs.declared.turn.Turn.TheVariants.{NoOrder as IsNoOrder, NoTape as HasNoTape}
+use Rattle.ed_machine.specs.declared.ending.Ending.{Ending}
+use Rattle.ed_machine.specs.declared.ending.Ending.TheVariants.{Stopped, Limit, PaperFull}
+use Rattle.ed_machine.proofs.LeastNumbers.{least_below}
+use Rattle.ed_machine.proofs.Steps.{few_codes, past_next, past_sum}
+use Rattle.ed_run.specs.Run.{EndsAfter, RunEnd, end_at, end_by, prints, run_end, run_orders}
+use Rattle.ed_run.proofs.Ends.{ends_once, ran_ends}
+use Rattle.ed_printer.specs.Paper.{paper}
+use Rattle.ed_run.specs.declared.settings.Settings.{Settings}
+use Rattle.ed_initial.specs.Entry.{first_state}
+use Rattle.ed_interlude.specs.Laws.{EndsAsRun}
+use Rattle.ed_interlude.specs.declared.tape.PartsEnd.{PartsEnd}
+use Rattle.ed_interlude.proofs.Runs.{each_end}
+use Rattle.ed_top.specs.Parts.{end_note, end_status}
+use Rattle.ed_laws.specs.PartsRun.{EachTapeInPartsIsRun, EndsInParts, PartsAreRun, PartsFillPaper, printed_by, run_once}
+use Rattle.ed_answers.specs.Runs.{paper_room, ran_outcome}
+use Rattle.ed_laws.proofs.MoveEndings.{ran_is}
+
+-- ---- on a paper that has room
+
+-- what doesn't end a run whose paper is never full doesn't end one whose paper has room
+none_by : (turn : Turn) (full other : Bool) → (prints turn ≡ true → other ≡ false) → end_by turn full ≡ None
+    → end_by turn other ≡ None
+none_by Went full other room h = refl
+none_by Stops full other room h = refl
+none_by (Printed code) full other room h = let e = room refl in rw e refl
+none_by (IsNoOrder function) full other room h = absurd (cc)
+none_by HasNoTape full other room h = absurd (cc)
+
+-- and what ends it ends both
+some_by : (turn : Turn) (full other : Bool) (e : Ending) → full ≡ false → end_by turn full ≡ Some e
+    → end_by turn other ≡ Some e
+some_by Went full other e not h = absurd (cc)
+some_by Stops full other e not h = absurd (cc)
+some_by (Printed code) full other e not h = let bad : None ≡ Some e = sym (rw not refl) ∙ h in absurd (cc)
+some_by (IsNoOrder function) full other e not h = h
+some_by HasNoTape full other e not h = h
+
+-- no end comes before k orders whose codes have room
+module _ (limit room : ℕ) (s : State) (k : ℕ)
+    (first : (j : ℕ) → j < k → end_at limit 0 limit j (progress j s) ≡ None)
+    (fits : length (progress k s).codes ≤ room) where
+  -- if an order before the end prints, there is room
+  has_room : (j : ℕ) → j < k → prints (step (state_after j s)).turn ≡ true
+      → nat_le room (length (progress j s).codes) ≡ false
+  has_room j below p = by_turn (step (state_after j s)).turn refl p
+    where
+      by_turn : (turn : Turn) → (step (state_after j s)).turn ≡ turn → prints turn ≡ true
+          → nat_le room (length (progress j s).codes) ≡ false
+      by_turn (Printed code) is p =
+          let whole : (j + 1) + (k - (j + 1)) ≡ k = omega arith in
+          let later = progress (k - (j + 1)) (state_after (j + 1) s) in
+          let next : length (progress (j + 1) s).codes ≡ length (progress j s).codes + 1 =
+          ap (λ (x : Progress). length x.codes) (past_next j s)
+          ∙ length-append (progress j s).codes (codes_of (step (state_after j s)).turn)
+          ∙ ap (λ (t : Turn). length (progress j s).codes + length (codes_of t)) is in
+          let all : length (progress k s).codes ≡ length (progress (j + 1) s).codes + length later.codes =
+          ap (λ n. length (progress n s).codes) (sym whole)
+          ∙ ap (λ (x : Progress). length x.codes) (past_sum (j + 1) (k - (j + 1)) s)
+          ∙ length-append (progress (j + 1) s).codes later.codes in
+          le_false _ _ (omega (arith, fits, next, all))
+      by_turn Went is p = absurd (cc)
+      by_turn Stops is p = absurd (cc)
+      by_turn (IsNoOrder function) is p = absurd (cc)
+      by_turn HasNoTape is p = absurd (cc)
+
+  none_there : (j : ℕ) → j < k → end_at limit 0 room j (progress j s) ≡ None
+  none_there j below =
+      by_tests (nat_lt 0 (progress j s).stops) (nat_eq j limit) (first j below)
+    where
+      turn : Turn
+      turn = (step (state_after j s)).turn
+
+      by_tests : (b c : Bool)
+          → (if b then Some Stopped else if c then Some Limit
+          else end_by turn (nat_le limit (length (progress j s).codes))) ≡ None
+          → (if b then Some Stopped else if c then Some Limit
+          else end_by turn (nat_le room (length (progress j s).codes))) ≡ None
+      by_tests true c h = h
+      by_tests false true h = h
+      by_tests false false h = none_by turn _ _ (has_room j below) h
+
+  -- the end that comes then is that on such a paper
+  pub roomy : (e : Ending) → EndsAfter limit 0 limit s k e
+      → run_end limit 0 room s ≡ record { ending = e; state = state_after k s; codes = (progress k s).codes }
+  roomy e ends = ran_is limit 0 room k s e (record { now = some_there; first = none_there })
+    where
+      turn : Turn
+      turn = (step (state_after k s)).turn
+
+      within : k ≤ limit
+      within = let one = ends_once (ran_ends limit 0 limit s) ends in
+          let few : run_orders limit 0 limit s ≤ limit = least_below _ limit in
+          omega (arith, one.0, few)
+
+      by_tests : (b c : Bool) → nat_eq k limit ≡ c
+          → (if b then Some Stopped else if c then Some Limit
+          else end_by turn (nat_le limit (length (progress k s).codes))) ≡ Some e
+          → (if b then Some Stopped else if c then Some Limit
+          else end_by turn (nat_le room (length (progress k s).codes))) ≡ Some e
+      by_tests true c is h = h
+      by_tests false true is h = h
+      by_tests false false is h =
+          let below : k < limit = let in_it = within in grind (arith, nat_tests) in
+          some_by turn _ _ e (le_false _ _ (omega (arith, few_codes k s))) h
+
+      some_there : end_at limit 0 room k (progress k s) ≡ Some e
+      some_there = by_tests (nat_lt 0 (progress k s).stops) (nat_eq k limit) refl ends.now
+
+  -- an order for whose code there is no room ends the run
+  pub filled : length (progress k s).codes ≡ room → prints (step (state_after k s)).turn ≡ true
+      → end_at limit 0 limit k (progress k s) ≡ None
+      → run_end limit 0 room s ≡ record { ending = PaperFull; state = state_after k s; codes = (progress k s).codes }
+  filled full printing going =
+      ran_is limit 0 room k s PaperFull
+      (record {
+        now = by_tests (nat_lt 0 (progress k s).stops) (nat_eq k limit) (step (state_after k s)).turn printing going;
+        first = none_there;
+      })
+    where
+      no_room : nat_le room (length (progress k s).codes) ≡ true
+      no_room = le_true _ _ (omega (arith, full))
+
+      by_tests : (b c : Bool) (turn : Turn) → prints turn ≡ true
+          → (if b then Some Stopped else if c then Some Limit
+          else end_by turn (nat_le limit (length (progress k s).codes))) ≡ None
+          → (if b then Some Stopped else if c then Some Limit
+          else end_by turn (nat_le room (length (progress k s).codes))) ≡ Some PaperFull
+      by_tests true c turn p h = let bad : Some Stopped ≡ None = h in absurd (cc)
+      by_tests false true turn p h = let bad : Some Limit ≡ None = h in absurd (cc)
+      by_tests false false (Printed code) p h = rw no_room refl
+      by_tests false false Went p h = absurd (cc)
+      by_tests false false Stops p h = absurd (cc)
+      by_tests false false (IsNoOrder function) p h = absurd (cc)
+      by_tests false false HasNoTape p h = absurd (cc)
+
+-- ---- an order for whose code there is no room
+
+record Crosses (room k : ℕ) (s : State) : Type 0 where
+  pub at : ℕ
+  pub before : at < k
+  pub full : length (progress at s).codes ≡ room
+  pub printing : prints (step (state_after at s)).turn ≡ true
+
+-- if more is printed than there is room for, there is such an order
+crosses : (room k : ℕ) (s : State) → room < length (progress k s).codes → Crosses room k s
+unfolding progress
+crosses room zero s more = absurd (omega arith)
+crosses room (suc k) s more =
+    by_place (cases_lt room (length (progress k s).codes)) (λ earlier. crosses room k s earlier)
+    (step (state_after k s)).turn refl
+  where
+    by_place : (room < length (progress k s).codes) ⊎ (length (progress k s).codes ≤ room)
+        → (room < length (progress k s).codes → Crosses room k s)
+        → (turn : Turn) → (step (state_after k s)).turn ≡ turn → Crosses room (suc k) s
+    by_place (inl earlier) on turn is =
+        let c = on earlier in
+        record { at = c.at; before = omega (arith, c.before); full = c.full; printing = c.printing }
+    by_place (inr fits) on turn is =
+        let count : length (progress (suc k) s).codes ≡ length (progress k s).codes + length (codes_of turn) =
+        length-append (progress k s).codes (codes_of (step (state_after k s)).turn)
+        ∙ ap (λ (t : Turn). length (progress k s).codes + length (codes_of t)) is in
+        by_turn turn is (omega (arith, count, more, fits))
+      where
+        by_turn : (turn : Turn) → (step (state_after k s)).turn ≡ turn
+            → room < length (progress k s).codes + length (codes_of turn) → Crosses room (suc k) s
+        by_turn (Printed code) is over =
+            record { at = k; before = omega arith; full = omega (arith, fits, over); printing = ap prints is }
+        by_turn Went is over = absurd (omega (arith, fits, over))
+        by_turn Stops is over = absurd (omega (arith, fits, over))
+        by_turn (IsNoOrder function) is over = absurd (omega (arith, fits, over))
+        by_turn HasNoTape is over = absurd (omega (arith, fits, over))
+
+-- ---- a tape
+
+module _ (s : Settings) (codes : List ℕ) (p : EndsInParts s codes) where
+  abbrev start : State
+  start = first_state s.size codes
+
+  run : EndsAsRun s.limit start p.ending p.told.last (printed_by p)
+  run = each_end.of_text s.limit s.size p.text codes p.read p.told p.ending p.tells p.end_is
+
+  runs : length (printed_by p) ≤ paper_room → PartsAreRun (run_once s) codes p.told (printed_by p)
+  runs fits =
+      let there : run_end s.limit 0 paper_room start
+      ≡ record { ending = p.ending; state = p.told.last; codes = printed_by p } =
+      roomy s.limit paper_room start run.orders run.ends.first
+      (subst (λ (xs : List ℕ). length xs ≤ paper_room) (sym run.prints) fits) p.ending run.ends
+      ∙ (λ i. record { ending = p.ending; state = sym run.state_is i; codes = run.prints i }) in
+      record {
+        note_is = ap (λ (r : RunEnd). (ran_outcome [] r).note) there
+            ∙ sym (ap (λ (x : PartsEnd). end_note x p.told.last) p.end_is);
+        status_is = ap (λ (r : RunEnd). (ran_outcome [] r).status) there ∙ sym (ap end_status p.end_is);
+        state_is = ap (λ (r : RunEnd). r.state) there;
+        out_is = ap (λ (r : RunEnd). paper (r.codes ++ [])) there ∙ ap paper (append-nil (printed_by p));
+      }
+
+  fills : paper_room < length (printed_by p) → PartsFillPaper (run_once s) codes (printed_by p)
+  fills more =
+      let c : Crosses paper_room run.orders start =
+      crosses paper_room run.orders start
+      (subst (λ (xs : List ℕ). paper_room < length xs) (sym run.prints) more) in
+      let early = λ (j : ℕ) (below : j < c.at). run.ends.first j (omega (arith, below, c.before)) in
+      let there : run_end s.limit 0 paper_room start
+      ≡ record { ending = PaperFull; state = state_after c.at start; codes = (progress c.at start).codes } =
+      filled s.limit paper_room start c.at early (omega (arith, c.full)) c.full c.printing
+      (run.ends.first c.at c.before) in
+      let rest = progress (run.orders - c.at) (state_after c.at start) in
+      let whole : c.at + (run.orders - c.at) ≡ run.orders = omega (arith, c.before) in
+      let all : printed_by p ≡ (progress c.at start).codes ++ rest.codes =
+      sym run.prints ∙ ap (λ n. (progress n start).codes) (sym whole)
+      ∙ ap (λ (x : Progress). x.codes) (past_sum c.at (run.orders - c.at) start) in
+      let part : take paper_room (printed_by p) ≡ (progress c.at start).codes =
+      (λ i. take (sym c.full i) (all i)) ∙ take-append_seam (progress c.at start).codes rest.codes in
+      record {
+        status_is = ap (λ (r : RunEnd). (ran_outcome [] r).status) there;
+        out_is = ap (λ (r : RunEnd). paper (r.codes ++ [])) there
+            ∙ ap paper (append-nil (progress c.at start).codes ∙ sym part);
+      }
+
+pub each_tape_in_parts : EachTapeInPartsIsRun
+each_tape_in_parts = record { runs = runs; fills = fills }

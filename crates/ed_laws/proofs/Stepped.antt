@@ -1,0 +1,185 @@
+-- What `step` reports is what `trace`, `tape` and a post-mortem report after the same number of orders.
+use Rattle.std.proofs.Common.{◌≡◌, ◌∙◌, ℕ, zero, suc, ◌+◌, ◌-◌, ◌≤◌, refl, sym, ap, subst, arith}
+use Rattle.std.proofs.Common.{Bool, true, false, List, [], ◌∷◌, ◌++◌, length, append_assoc, append-nil, Some}
+use Rattle.std.specs.Prelude.{◌==◌, if◌then◌else◌, map, not}
+use Rattle.std.specs.List.{range_with_len}
+use Rattle.std.proofs.lemmas.List.Elements.{filter-append}
+use Rattle.ed_words.specs.Texts.{Text}
+use Rattle.ed_words.specs.declared.size.Size.{Size}
+use Rattle.ed_words.specs.Words.{function_of}
+use Rattle.ed_codes.specs.Spelling.{byte_of}
+use Rattle.ed_machine.specs.State.{State}
+use Rattle.ed_machine.specs.OrderTable.{next_word}
+use Rattle.ed_machine.specs.Steps.{AreObeyed, progress, state_after}
+use Rattle.ed_machine.specs.declared.ending.Ending.TheVariants.{Limit}
+use Rattle.ed_machine.proofs.Counts.{counted_after}
+use Rattle.ed_machine.proofs.Steps.{after_sum, few_codes, free_sum}
+use Rattle.ed_run.specs.Laws.{HasRoom}
+use Rattle.ed_run.specs.Run.{RunEnd, run_end, run_orders}
+use Rattle.ed_run.proofs.Ends.{ends_once, ran_ends}
+use Rattle.ed_run.proofs.Places.{at_limit}
+use Rattle.ed_run.specs.declared.settings.Settings.{Settings}
+use Rattle.ed_initial.specs.Entry.{first_state}
+use Rattle.ed_report.specs.Listings.{listing}
+use Rattle.ed_report.specs.Notes.{ending_line}
+use Rattle.ed_report.specs.Traces.{functions_after, is_full, last_end, letters_from, line_end, trace_text}
+use Rattle.ed_report.specs.Traces.{traced_letter}
+use Rattle.ed_stepper.specs.Sessions.{Stand, left}
+use Rattle.ed_stepper.specs.MoveEnds.{move_orders}
+use Rattle.ed_stepper.specs.declared.moves.MoveTarget.TheVariants.{Orders}
+use Rattle.ed_stepper.specs.Traces.{trace_to}
+use Rattle.ed_answers.specs.Runs.{paper_room, ran_outcome, run_of, with_post_mortem}
+use Rattle.ed_top.specs.Scripts.{stand_on}
+use Rattle.ed_laws.specs.Stepped.{EachStepIsRun, StepsAreRun, cut_at, limit_note}
+use Rattle.ed_top.specs.Traces.{letters_in}
+use Rattle.ed_laws.proofs.MoveEndings.{ran_is, run_ends}
+use Rattle.ed_stepper.proofs.Stands.{Keeps, left_keeps, move_free}
+
+-- ---- a run that is cut off
+
+-- it is in the state after as many orders, each of them obeyed
+run_cut : (k resumes room : ℕ) (s : State) → HasRoom room k s → (progress k s).stops ≤ resumes
+    → (run_orders k resumes room s ≡ k)
+    × (run_end k resumes room s ≡ record { ending = Limit; state = state_after k s; codes = (progress k s).codes })
+run_cut k resumes room s fits few =
+    let ends = at_limit k resumes fits few in
+    ((ends_once (ran_ends k resumes room s) ends).0, ran_is k resumes room k s Limit ends)
+
+-- ---- the letters of a trace
+
+-- the letters of functions
+abbrev bare : List ℕ → Text
+bare fs = letters_in (map (λ f. byte_of f false) fs)
+
+letters_both : (xs ys : Text) → letters_in (xs ++ ys) ≡ letters_in xs ++ letters_in ys
+letters_both = filter-append (λ byte. not (byte == 10))
+
+no_letter : (full : Bool) → letters_in (line_end full) ≡ []
+no_letter true = refl
+no_letter false = refl
+
+one_letter : (n f : ℕ) → letters_in (traced_letter n f) ≡ letters_in (byte_of f false ∷ [])
+one_letter n f =
+    letters_both (byte_of f false ∷ []) (line_end (is_full n))
+    ∙ ap (λ (t : Text). letters_in (byte_of f false ∷ []) ++ t) (no_letter (is_full n))
+    ∙ append-nil (letters_in (byte_of f false ∷ []))
+
+bare_from : (n : ℕ) (fs : List ℕ) → letters_in (letters_from n fs) ≡ bare fs
+bare_from n [] = refl
+bare_from n (f ∷ fs) =
+    letters_both (traced_letter (n + 1) f) (letters_from (n + 1) fs)
+    ∙ (λ i. one_letter (n + 1) f i ++ bare_from (n + 1) fs i)
+    ∙ sym (letters_both (byte_of f false ∷ []) (map (λ g. byte_of g false) fs))
+
+no_last : (n : ℕ) → letters_in (last_end n) ≡ []
+no_last n = by_test (is_full n)
+  where
+    by_test : (b : Bool) → letters_in (if b then [] else 10 ∷ []) ≡ []
+    by_test true = refl
+    by_test false = refl
+
+bare_trace : (fs : List ℕ) → letters_in (trace_text fs) ≡ bare fs
+bare_trace fs =
+    letters_both (letters_from 0 fs) (last_end (length fs))
+    ∙ (λ i. bare_from 0 fs i ++ no_last (length fs) i)
+    ∙ append-nil (bare fs)
+
+map_both : (xs ys : List ℕ) → map (λ f. byte_of f false) (xs ++ ys)
+    ≡ map (λ f. byte_of f false) xs ++ map (λ f. byte_of f false) ys
+map_both [] ys = refl
+map_both (x ∷ xs) ys = ap (λ (t : Text). byte_of x false ∷ t) (map_both xs ys)
+
+-- the functions of orders after others
+functions_both : (a b : ℕ) (s : State)
+    → functions_after (a + b) s ≡ functions_after a s ++ functions_after b (state_after a s)
+unfolding functions_after
+functions_both a zero s =
+    let e : a + 0 ≡ a = omega arith in
+    ap (λ n. functions_after n s) e ∙ sym (append-nil (functions_after a s))
+functions_both a (suc b) s =
+    let e : a + suc b ≡ suc (a + b) = omega arith in
+    ap (λ n. functions_after n s) e
+    ∙ (λ i. functions_both a b s i ++ function_of (next_word (after_sum a b s i)) ∷ [])
+    ∙ append_assoc (functions_after a s) (functions_after b (state_after a s))
+    (function_of (next_word (state_after b (state_after a s))) ∷ [])
+
+-- the letters of a trace of orders are those of the first ones, and those of the others
+pub letters_sum : (a b : ℕ) (s : State)
+    → letters_in (trace_to (a + b) s) ≡ letters_in (trace_to a s) ++ letters_in (trace_to b (state_after a s))
+letters_sum a b s =
+    let xs = functions_after a s in
+    let ys = functions_after b (state_after a s) in
+    ap (λ (fs : List ℕ). letters_in (trace_text fs)) (functions_both a b s)
+    ∙ bare_trace (xs ++ ys) ∙ ap letters_in (map_both xs ys)
+    ∙ letters_both (map (λ f. byte_of f false) xs) (map (λ f. byte_of f false) ys)
+    ∙ (λ i. sym (bare_trace xs) i ++ sym (bare_trace ys) i)
+
+-- ---- the state of a session
+
+none_done : (z : Size) (rows : List ℕ) → (first_state z rows).orders ≡ 0
+unfolding first_state
+none_done z rows = refl
+
+module _ (s : Settings) (rows : List ℕ) (resumes : ℕ) where
+  abbrev first : State
+  first = first_state s.size rows
+
+  -- a session on these rows that has obeyed n orders
+  abbrev after : ℕ → Stand
+  after n = record (stand_on s rows) { done = n }
+
+  -- the run of `trace`, whose paper is never full
+  trace_cut : (n : ℕ) → AreObeyed n first → (progress n first).stops ≤ resumes
+      → (run_orders n resumes n first ≡ n)
+      × (run_end n resumes n first ≡ record {
+        ending = Limit;
+        state = state_after n first;
+        codes =
+            (progress n first).codes;
+      })
+  trace_cut n free few =
+      run_cut n resumes n first (record { obeyed = free; printed = few_codes n first }) few
+
+  module _ (n : ℕ) (free : AreObeyed n first) (most : n ≤ s.limit) (few : (progress n first).stops ≤ resumes) where
+    count : (state_after n first).orders ≡ n
+    count = counted_after n first free ∙ ap (λ m. m + n) (none_done s.size rows) ∙ omega arith
+
+    note_there : ending_line Limit (state_after n first) ≡ limit_note (after n)
+    note_there = ap (λ m. ending_line Limit (record (state_after n first) { orders = m })) count
+
+    tape_cut : length (progress n first).codes ≤ paper_room
+        → run_of (cut_at (after n) resumes s) rows
+        ≡ record { ending = Limit; state = state_after n first; codes = (progress n first).codes }
+    tape_cut room = (run_cut n resumes paper_room first (record { obeyed = free; printed = room }) few).1
+
+    steps_there : StepsAreRun s rows (after n) resumes
+    steps_there = record {
+      line = λ end. refl;
+      trace_note = ap (λ (r : RunEnd). ending_line r.ending r.state) (trace_cut n free few).1 ∙ note_there;
+      tape_note = λ room. ap (λ (r : RunEnd). ending_line r.ending r.state) (tape_cut room) ∙ note_there;
+      state = λ room. ap (λ (r : RunEnd). r.state) (tape_cut room);
+      shown = λ room a b.
+          ap (λ (x : State). listing x.store (range_with_len a (b + 1 - a)))
+          (sym (ap (λ (r : RunEnd). r.state) (tape_cut room)));
+      printed = λ room w. ap (λ (r : RunEnd). (ran_outcome [] (with_post_mortem (Some w) r)).out) (tape_cut room);
+      letters = λ m more.
+          let k = move_orders (Orders m) (left (after n)) (state_after n first) in
+          let both = free_sum n k first free (move_free (Orders m) (left (after n)) (state_after n first)) in
+          let cut = λ (j : ℕ). trace_to j first in
+          ap (λ j. letters_in (cut j)) (trace_cut (n + k) both more).0
+          ∙ letters_sum n k first
+          ∙ ap (λ j. letters_in (cut j) ++ letters_in
+          (trace_to k (state_after n first))) (sym (trace_cut n free few).0);
+      ends = λ aim ending is fits. run_ends s.limit paper_room n first free most aim ending fits is;
+    }
+
+pub each_step_is_run : EachStepIsRun
+each_step_is_run s commands rows t resumes left few =
+    let k : Keeps (stand_on s rows) t = left_keeps refl left in
+    let there : record (stand_on s rows) { done = t.done } ≡ t =
+    (λ i. record { start = sym k.start i; limit = sym k.limit i; done = t.done }) in
+    let free : AreObeyed t.done (first_state s.size rows) = subst (λ (x : State). AreObeyed t.done x) k.start k.free in
+    let stops : (progress t.done (first_state s.size rows)).stops ≤ resumes =
+    subst (λ (x : State). (progress t.done x).stops ≤ resumes) k.start few in
+    let most : t.done ≤ s.limit = omega (arith, k.most, k.limit) in
+    subst (λ (u : Stand). StepsAreRun s rows u resumes) there (steps_there s rows resumes t.done free most stops)

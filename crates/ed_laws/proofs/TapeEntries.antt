@@ -1,0 +1,248 @@
+-- A tape that is well formed from a cleared store is loaded as it means, and its run is that from its entry.
+use Rattle.std.proofs.Common.{◌≡◌, ◌∙◌, ℕ, ◌+◌, ◌-◌, ◌*◌, ◌<◌, ◌≤◌, refl, sym, ap, arith}
+use Rattle.std.proofs.Common.{Bool, true, false, true≢false, nat_eq, nat_lt, nat_le, Option, Some, None, inl}
+use Rattle.std.proofs.Common.{List, [], ◌∷◌, ◌++◌, drop, set}
+use Rattle.std.specs.Prelude.{if◌then◌else◌, ◌&&◌, slice_index}
+use Rattle.std.proofs.Math.ListN.{get_or}
+use Rattle.std.proofs.lemmas.Bool.Decides.{nat_tests}
+use Rattle.std.proofs.lemmas.List.{drop-set-lt, drop-set-add, get_or-drop}
+use Rattle.ed_words.specs.declared.size.Size.{Size}
+use Rattle.ed_store.specs.Cells.{cleared_cells}
+use Rattle.ed_run.specs.Run.{RunEnd, run_end}
+use Rattle.ed_run.proofs.Later.{ran_later}
+use Rattle.ed_printer.specs.Paper.{paper}
+use Rattle.ed_notation.specs.declared.cause.TapeCause.TheVariants.{BadRow, NumberTooLarge}
+use Rattle.ed_notation.specs.declared.kind.RowKind.{RowKind}
+use Rattle.ed_notation.specs.declared.kind.RowKind.TheVariants.{Digit, Mark, Zed, Kay, Blank, Letter, Other}
+use Rattle.ed_notation.specs.declared.kind.Control.{Control}
+use Rattle.ed_notation.specs.declared.kind.Control.TheVariants.{Directive, ThetaByBlank, ThetaByG, Neither}
+use Rattle.ed_notation.specs.declared.reader.DirectiveState.{DirectiveState}
+use Rattle.ed_notation.specs.declared.reader.PartialItem.{PartialItem}
+use Rattle.ed_notation.specs.declared.reader.RowEffect.{RowEffect}
+use Rattle.ed_notation.specs.declared.reader.RowEffect.TheVariants.{Refused, Longer, Ended, Placed, Entered}
+use Rattle.ed_notation.specs.Items.{row_kind}
+use Rattle.ed_notation.specs.Fold.{NotationState, letter_action_of, control_of, over, value_of, word_with}
+use Rattle.ed_notation.specs.Faults.{TapeEntry, ComesTo, WellFormed, is_place}
+use Rattle.ed_notation.specs.Openings.{IsDirective, opening}
+use Rattle.ed_notation.specs.Reading.{Verdict, Arrived, Faulty, part_word, reading_on, setting_of, row_effect}
+use Rattle.ed_notation.specs.Reading.{kay_sets, zed_sets}
+use Rattle.ed_notation.specs.Reading.{letter_effect, entry_by, part_of, set_by, placed_by}
+use Rattle.ed_notation.proofs.Laws.{reading_is_rules}
+use Rattle.ed_initial.specs.Entry.{Comes, first_state}
+use Rattle.ed_initial.proofs.Quiet.{LeadsIn, comes_in}
+use Rattle.ed_initial.proofs.Starts.{first_store, starts}
+use Rattle.ed_answers.specs.Tapes.{first_note}
+use Rattle.ed_answers.specs.Runs.{paper_room, post_mortem_codes, ran_outcome, run_of, with_post_mortem}
+use Rattle.ed_laws.specs.TapeEntries.{EachTapeRunsFromEntry}
+use Rattle.ed_answers.proofs.FromEntry.{silent}
+use Rattle.ed_laws.proofs.TapeWalks.{steps_to_entry, traces_from_entry}
+
+-- ---- words that agree from 41 upwards
+
+abbrev pub Agree : List ℕ → List ℕ → Type 0
+Agree v w = drop 41 v ≡ drop 41 w
+
+set_agrees : (v w : List ℕ) (p x : ℕ) (t : Bool) → nat_lt p 41 ≡ t → Agree v w → Agree (set v p x) (set w p x)
+set_agrees v w p x true e h =
+    let l : p < 41 = grind (arith, nat_tests) in
+    drop-set-lt 41 v p x l ∙ h ∙ sym (drop-set-lt 41 w p x l)
+set_agrees v w p x false e h =
+    let l : 41 ≤ p = grind (arith, nat_tests) in
+    let q : 41 + (p - 41) ≡ p = omega arith in
+    let a : (u : List ℕ) → drop 41 (set u p x) ≡ set (drop 41 u) (p - 41) x =
+    λ u. ap (λ y. drop 41 (set u y x)) (sym q) ∙ drop-set-add 41 u (p - 41) x in
+    a v ∙ ap (λ (y : List ℕ). set y (p - 41) x) h ∙ sym (a w)
+
+pub over_agrees : (placed : List (ℕ × ℕ)) (v w : List ℕ) → Agree v w → Agree (over placed v) (over placed w)
+over_agrees [] v w h = h
+over_agrees (p ∷ placed) v w h =
+    set_agrees (over placed v) (over placed w) p.0 p.1 (nat_lt p.0 41) refl (over_agrees placed v w h)
+
+index_agrees : (v w : List ℕ) (a : ℕ) → 41 ≤ a → Agree v w → slice_index v a ≡ slice_index w a
+index_agrees v w a l h =
+    let q : 41 + (a - 41) ≡ a = omega arith in
+    let at : (u : List ℕ) → slice_index u a ≡ get_or (drop 41 u) (a - 41) 0 =
+    λ u. ap (slice_index u) (sym q) ∙ sym (get_or-drop 41 u (a - 41) 0) in
+    at v ∙ ap (λ (u : List ℕ). get_or u (a - 41) 0) h ∙ sym (at w)
+
+-- ---- give the same reading
+
+-- a code letter has the same value
+pub value_agrees : (v w : List ℕ) (theta c : ℕ) → 17 ≤ c → Agree v w → value_of v theta c ≡ value_of w theta c
+value_agrees v w theta c l h = rw (index_agrees v w (24 + c) (omega (arith, l)) h) refl
+
+pub letter_from : (c : ℕ) → row_kind c ≡ Letter → 17 ≤ c
+letter_from c =
+    by_tests (nat_lt c 10) (nat_eq c 11) (nat_eq c 13) (nat_eq c 14) (nat_eq c 16) (nat_le 17 c) (nat_lt c 32) refl
+  where
+    by_tests : (a b d e f g h : Bool) → nat_le 17 c ≡ g
+        → (if a then Digit else if b then Mark else if d then Zed else if e then Kay else if f then Blank
+        else if g && h then Letter else Other) ≡ Letter
+        → 17 ≤ c
+    by_tests true b d e f g h is k = absurd (cc)
+    by_tests false true d e f g h is k = absurd (cc)
+    by_tests false false true e f g h is k = absurd (cc)
+    by_tests false false false true f g h is k = absurd (cc)
+    by_tests false false false false true g h is k = absurd (cc)
+    by_tests false false false false false true h is k = grind (arith, nat_tests)
+    by_tests false false false false false false h is k = absurd (cc)
+
+-- an entry comes only at a code letter
+abbrev is_entered : RowEffect → Bool
+is_entered (Entered at) = true
+is_entered (Refused cause) = false
+is_entered (Longer part k) = false
+is_entered (Ended setting k) = false
+is_entered (Placed at word) = false
+
+neither : (b : Bool) (t u : RowEffect) → is_entered t ≡ false → is_entered u ≡ false
+    → is_entered (if b then t else u) ≡ false
+neither true t u first second = first
+neither false t u first second = second
+
+digit_goes_on : (b : Bool) (part : PartialItem)
+    → is_entered (if b then Refused NumberTooLarge else Longer part 9) ≡ false
+digit_goes_on b part = neither b (Refused NumberTooLarge) (Longer part 9) refl refl
+
+kay_goes_on : (c : Control) (setting : DirectiveState) (part : PartialItem)
+    → is_entered (kay_sets c setting part) ≡ false
+kay_goes_on Directive setting part = neither (nat_lt 1023 part.number) _ _ refl refl
+kay_goes_on Neither setting part = refl
+kay_goes_on ThetaByBlank setting part = neither (nat_lt 1023 part.number) _ _ refl refl
+kay_goes_on ThetaByG setting part = neither (nat_lt 1023 part.number) _ _ refl refl
+
+zed_goes_on : (c : Control) (setting : DirectiveState) (part : PartialItem)
+    → is_entered (zed_sets c setting part) ≡ false
+zed_goes_on Directive setting part =
+    neither (is_place (4096 * part.function + 2 * part.number + setting.theta)) _ _ refl refl
+zed_goes_on ThetaByBlank setting part = neither (nat_le 65536 (2 * part.number + setting.theta)) _ _ refl refl
+zed_goes_on ThetaByG setting part = refl
+zed_goes_on Neither setting part = refl
+
+goes_on : (z : Size) (k : RowKind) (contents : List ℕ) (setting : DirectiveState) (part : PartialItem) (c : ℕ)
+    → is_entered (row_effect z k contents setting part c) ≡ true → k ≡ Letter
+goes_on z Letter contents setting part c h = refl
+goes_on z Digit contents setting part c h =
+    absurd (true≢false (sym h ∙ neither part.mark _ _ refl (digit_goes_on (nat_lt 32767 (10 * part.number + c)) _)))
+goes_on z Mark contents setting part c h = absurd (true≢false (sym h ∙ neither part.mark _ _ refl refl))
+goes_on z Zed contents setting part c h =
+    absurd (true≢false (sym h ∙ neither part.mark _ _ refl (zed_goes_on (control_of part.function) setting part)))
+goes_on z Kay contents setting part c h =
+    absurd (true≢false (sym h ∙ neither part.mark _ _ refl (kay_goes_on (control_of part.function) setting part)))
+goes_on z Blank contents setting part c h = absurd (true≢false (sym h ∙ neither part.blank _ _ refl refl))
+goes_on z Other contents setting part c h = absurd (true≢false (sym h))
+
+taken_agrees : (z : Size) (k : RowKind) (v w : List ℕ) (setting : DirectiveState) (part : PartialItem) (c : ℕ)
+    → (k ≡ Letter → part_word v setting part c ≡ part_word w setting part c)
+    → row_effect z k v setting part c ≡ row_effect z k w setting part c
+taken_agrees z Letter v w setting part c h = ap (letter_effect z (letter_action_of setting.directive) setting) (h refl)
+taken_agrees z Digit v w setting part c h = refl
+taken_agrees z Mark v w setting part c h = refl
+taken_agrees z Zed v w setting part c h = refl
+taken_agrees z Kay v w setting part c h = refl
+taken_agrees z Blank v w setting part c h = refl
+taken_agrees z Other v w setting part c h = refl
+
+-- the result of the reading at a row inside an item
+abbrev on_row : Size → List ℕ → ℕ → ℕ → NotationState → PartialItem → ℕ → List ℕ → RowEffect → Verdict
+on_row z words row cost notation part c rows t = elim t [
+  | Refused cause ↦ Faulty row cause
+  | Longer longer k ↦ reading_on z words (row + 1) (cost + k) notation (Some longer) rows
+  | Ended setting k ↦ reading_on z words (row + 1) (cost + k) (set_by setting notation) None rows
+  | Placed at word ↦ reading_on z words (row + 1) (cost + 17) (placed_by at word notation) None rows
+  | Entered at ↦ Arrived (entry_by words row cost notation part c rows at)
+]
+
+row_agrees : (z : Size) (v w : List ℕ) (row cost : ℕ) (notation : NotationState) (part : PartialItem) (c : ℕ)
+    (rows : List ℕ) (t : RowEffect)
+    → ((n k : ℕ) (m : NotationState) (p : Option PartialItem)
+    → reading_on z v n k m p rows ≡ reading_on z w n k m p rows)
+    → (is_entered t ≡ true
+    → part_word (over notation.placed v) (setting_of notation) part c
+    ≡ part_word (over notation.placed w) (setting_of notation) part c)
+    → on_row z v row cost notation part c rows t ≡ on_row z w row cost notation part c rows t
+row_agrees z v w row cost notation part c rows (Refused cause) ih same = refl
+row_agrees z v w row cost notation part c rows (Longer longer k) ih same =
+    ih (row + 1) (cost + k) notation (Some longer)
+row_agrees z v w row cost notation part c rows (Ended setting k) ih same =
+    ih (row + 1) (cost + k) (set_by setting notation) None
+row_agrees z v w row cost notation part c rows (Placed at word) ih same =
+    ih (row + 1) (cost + 17) (placed_by at word notation) None
+row_agrees z v w row cost notation part c rows (Entered at) ih same =
+    ap (λ word. Arrived (record (entry_by v row cost notation part c rows at) { word = word })) (same refl)
+
+reading_agrees : (z : Size) (v w : List ℕ) → Agree v w
+    → (rows : List ℕ) (row cost : ℕ) (notation : NotationState) (part : Option PartialItem)
+    → reading_on z v row cost notation part rows ≡ reading_on z w row cost notation part rows
+unfolding reading_on
+reading_agrees z v w h [] row cost notation part = refl
+reading_agrees z v w h (f ∷ rows) row cost notation None =
+    by_test (nat_lt f 32) (reading_agrees z v w h rows (row + 1) (cost + 6) notation (Some (part_of f)))
+  where
+    by_test : (b : Bool)
+        → reading_on z v (row + 1) (cost + 6) notation (Some (part_of f)) rows
+        ≡ reading_on z w (row + 1) (cost + 6) notation (Some (part_of f)) rows
+        → ◌≡◌ {A = Verdict}
+        (elim b [
+          | true ↦ reading_on z v (row + 1) (cost + 6) notation (Some (part_of f)) rows
+          | false ↦ Faulty row BadRow
+        ])
+        (elim b [
+          | true ↦ reading_on z w (row + 1) (cost + 6) notation (Some (part_of f)) rows
+          | false ↦ Faulty row BadRow
+        ])
+    by_test true ih = ih
+    by_test false ih = refl
+reading_agrees z v w h (c ∷ rows) row cost notation (Some part) =
+    let setting = setting_of notation in
+    let over_v = over notation.placed v in
+    let over_w = over notation.placed w in
+    let same : row_kind c ≡ Letter → part_word over_v setting part c ≡ part_word over_w setting part c =
+    λ k. ap (word_with part.function part.number part.mark)
+    (value_agrees over_v over_w notation.theta c (letter_from c k) (over_agrees notation.placed v w h)) in
+    row_agrees z v w row cost notation part c rows (row_effect z (row_kind c) over_v setting part c)
+    (λ n k m p. reading_agrees z v w h rows n k m p)
+    (λ e. same (goes_on z (row_kind c) over_v setting part c e))
+    ∙ ap (on_row z w row cost notation part c rows) (taken_agrees z (row_kind c) over_v over_w setting part c same)
+
+-- ---- a cleared machine that is started on the tape
+
+pub first_agrees : (z : Size) (codes : List ℕ) → Agree cleared_cells.words (first_state z codes).store.words
+unfolding first_state
+first_agrees z codes = refl
+
+-- it reaches the entry
+comes : (z : Size) (codes : List ℕ) (e : TapeEntry) → WellFormed z cleared_cells.words first_note codes
+    → ComesTo cleared_cells.words first_note 9 codes e → Comes (first_state z codes) e
+unfolding first_state
+comes z codes e well to =
+    let words = (first_state z codes).store.words in
+    let set : IsDirective 20568 = omega arith in
+    let there = (reading_is_rules z cleared_cells.words first_note 9 codes set).arrived e well to in
+    let same = reading_agrees z cleared_cells.words words (first_agrees z codes) codes 0 9 first_note None in
+    let rules = reading_is_rules z words (opening words) 9 codes set in
+    record { well = rules.well e (sym same ∙ there); comes = rules.comes e (sym same ∙ there) }
+
+leads : (z : Size) (codes : List ℕ) (e : TapeEntry) → WellFormed z cleared_cells.words first_note codes
+    → ComesTo cleared_cells.words first_note 9 codes e → LeadsIn (first_state z codes) e
+leads z codes e well to =
+    comes_in (first_state z codes) e (first_store z codes) (starts z codes) (comes z codes e well to)
+
+pub tapes_run_from_entry : EachTapeRunsFromEntry
+tapes_run_from_entry s codes e well to =
+    let first = first_state s.size codes in
+    let in_order = leads s.size codes e well to in
+    record {
+      checked = inl (record { well = well; entry = e; comes = to; outcome = refl });
+      enters = in_order.arrives;
+      silent = in_order.prints_none;
+      runs = λ fits.
+          ap (λ (r : RunEnd). ran_outcome [] (with_post_mortem s.post_mortem r))
+          (ran_later s.limit s.resumes paper_room e.cost first in_order.went fits
+          ∙ ap (run_end (s.limit - e.cost) s.resumes paper_room) in_order.arrives);
+      short = λ below.
+          ap (λ printed. paper (printed ++ post_mortem_codes s.post_mortem (run_of s codes).state))
+          (silent s.limit s.resumes paper_room e.cost first in_order.went below);
+      traced = traces_from_entry s codes e in_order;
+      stepped = steps_to_entry s codes e in_order;
+    }

@@ -1,0 +1,190 @@
+-- A trace and a session reach the entry of a tape as its run does.
+use Rattle.std.proofs.Common.{◌≡◌, ◌∙◌, ℕ, zero, suc, ◌+◌, ◌-◌, ◌<◌, ◌≤◌, refl, sym, ap, subst, arith}
+use Rattle.std.proofs.Common.{Bool, true, false, nat_eq, nat_le, nat_lt, Option, Some, None, inl, inr, List, [], ◌++◌}
+use Rattle.std.proofs.Common.{length}
+use Rattle.std.specs.Prelude.{if◌then◌else◌}
+use Rattle.std.proofs.lemmas.Bool.{cases_lt}
+use Rattle.std.proofs.lemmas.Bool.Decides.{nat_tests}
+use Rattle.ed_words.proofs.Numbers.{eq_false, le_false, lt_false}
+use Rattle.ed_machine.specs.State.{State}
+use Rattle.ed_machine.specs.OrderTable.{step}
+use Rattle.ed_machine.specs.Steps.{is_stop, progress, state_after}
+use Rattle.ed_machine.specs.declared.turn.Turn.{Turn}
+use Rattle.ed_machine.specs.declared.ending.Ending.{Ending}
+use Rattle.ed_machine.specs.declared.ending.Ending.TheVariants.{Stopped, Limit}
+use Rattle.ed_machine.proofs.LeastNumbers.{least_below}
+use Rattle.ed_machine.proofs.Steps.{after_sum, few_codes, no_step, past_sum}
+use Rattle.ed_run.specs.Laws.{AllWent}
+use Rattle.ed_run.specs.Run.{EndsAfter, end_at, end_by, run_end, run_orders}
+use Rattle.ed_run.proofs.Ends.{ends_once, ran_ends}
+use Rattle.ed_run.proofs.Later.{quiet_stops}
+use Rattle.ed_run.specs.declared.settings.Settings.{Settings}
+use Rattle.ed_notation.specs.Faults.{TapeEntry}
+use Rattle.ed_initial.proofs.Quiet.{LeadsIn}
+use Rattle.ed_initial.specs.Entry.{first_state}
+use Rattle.ed_report.specs.Notes.{ending_line}
+use Rattle.ed_stepper.specs.MoveEnds.{Ends, entered_after, move_end, move_orders, stopped_after}
+use Rattle.ed_stepper.specs.Scripts.{move_line}
+use Rattle.ed_stepper.specs.declared.moves.MoveTarget.TheVariants.{Entry}
+use Rattle.ed_stepper.specs.declared.moves.MoveEnd.TheVariants.{Entered}
+use Rattle.ed_stepper.proofs.Founds.{end_found, orders_found}
+use Rattle.ed_stepper.specs.Traces.{trace_to}
+use Rattle.ed_answers.specs.Runs.{status_of}
+use Rattle.ed_laws.specs.TapeEntries.{StepsToEntry, TracesFromEntry}
+use Rattle.ed_top.specs.Traces.{letters_in}
+use Rattle.ed_laws.proofs.Stepped.{letters_sum}
+
+-- ---- a trace whose first orders neither print nor stop
+
+module _ (limit resumes k : ℕ) (s : State) (went : AllWent k s) (silent : (progress k s).codes
+    ≡ []) (fits : k ≤ limit) where
+  abbrev pub t : State
+  t = state_after k s
+
+  past_on : (j : ℕ) → progress (k + j) s ≡ progress j t
+  past_on j =
+      let q = progress j t in
+      let stops : (progress k s).stops + q.stops ≡ q.stops =
+      ap (λ n. n + q.stops) (quiet_stops k s went) ∙ omega arith in
+      past_sum k j s ∙ (λ i. record { state = q.state; codes = silent i ++ q.codes; stops = stops i })
+
+  -- an end of the run from there is one of the whole run
+  same_end : (j : ℕ) → j ≤ limit - k → end_at limit resumes limit (k + j) (progress (k + j) s)
+      ≡ end_at (limit - k) resumes (limit - k) j (progress j t)
+  same_end j below =
+      let p = progress j t in
+      ap (end_at limit resumes limit (k + j)) (past_on j)
+      ∙ by_tests (nat_lt resumes p.stops) (nat_eq j (limit - k)) (nat_eq (k + j) limit)
+      (nat_le limit (length p.codes)) (nat_le (limit - k) (length p.codes)) eq_is
+      (λ other. le_false _ _ (omega (arith, few_codes j t, low other)))
+      (λ other. le_false _ _ (omega (arith, few_codes j t, low other)))
+    where
+      eq_is : nat_eq (k + j) limit ≡ nat_eq j (limit - k)
+      eq_is = grind (arith, nat_tests)
+
+      low : nat_eq j (limit - k) ≡ false → j < limit - k
+      low other = grind (arith, nat_tests)
+
+      turn : Turn
+      turn = (step (progress j t).state).turn
+
+      by_tests : (a b c full other : Bool) → c ≡ b → (b ≡ false → full ≡ false) → (b ≡ false → other ≡ false)
+          → ◌≡◌ {A = Option Ending}
+          (if a then Some Stopped else if c then Some Limit else end_by turn full)
+          (if a then Some Stopped else if b then Some Limit else end_by turn other)
+      by_tests true b c full other e f g = refl
+      by_tests false true true full other e f g = refl
+      by_tests false false false full other e f g = let x = f refl in let y = g refl in rw (x, y) refl
+      by_tests false true false full other e f g = absurd (cc)
+      by_tests false false true full other e f g = absurd (cc)
+
+  -- no end comes before
+  none_before : (j : ℕ) → j < k → end_at limit resumes limit j (progress j s) ≡ None
+  none_before j below =
+      let stops : (progress j s).stops ≡ 0 = quiet_stops j s (λ i l. went i (omega (arith, l, below))) in
+      let turn = went j below in
+      rw (
+        lt_false resumes (progress j s).stops (omega (arith, stops)),
+        eq_false j limit (omega (arith, below, fits)),
+        turn,
+      )
+      refl
+
+  whole_ends : EndsAfter limit resumes limit s (k + run_orders (limit - k) resumes (limit - k) t)
+      (run_end (limit - k) resumes (limit - k) t).ending
+  whole_ends =
+      let m = run_orders (limit - k) resumes (limit - k) t in
+      let ends = ran_ends (limit - k) resumes (limit - k) t in
+      let most : m ≤ limit - k = least_below _ (limit - k) in
+      record {
+        now = same_end m most ∙ ends.now;
+        first = λ j below. elim (cases_lt j k) [
+          | inl low ↦ none_before j low
+          | inr high ↦
+              let e : k + (j - k) ≡ j = omega arith in
+              let less : j - k < m = omega arith in
+              ap (λ n. end_at limit resumes limit n (progress n s)) (sym e)
+              ∙ same_end (j - k) (omega (arith, less, most)) ∙ ends.first (j - k) less
+        ];
+      }
+
+  -- so the run obeys as many orders more, and ends as the other does
+  pub record GoesOn : Type 0 where
+    pub orders : run_orders limit resumes limit s ≡ k + run_orders (limit - k) resumes (limit - k) t
+    pub ending : (run_end limit resumes limit s).ending ≡ (run_end (limit - k) resumes (limit - k) t).ending
+    pub state : (run_end limit resumes limit s).state ≡ (run_end (limit - k) resumes (limit - k) t).state
+
+  pub goes_on : GoesOn
+  unfolding run_end
+  goes_on =
+      let one = ends_once (ran_ends limit resumes limit s) whole_ends in
+      record {
+        orders = one.0;
+        ending = one.1;
+        state = ap (λ n. state_after n s) one.0 ∙ after_sum k (run_orders (limit - k) resumes (limit - k) t) s;
+      }
+
+-- ---- a session that moves to the entry
+
+module _ (s : State) (e : TapeEntry) (into : LeadsIn s e) where
+  not_entered : (j : ℕ) → j < e.cost → entered_after j s ≡ false
+  not_entered zero below = refl
+  not_entered (suc i) below = (into.quiet i (omega (arith, below, into.cost_is))).stays
+
+  not_stopped : (j : ℕ) → j ≤ e.cost → stopped_after j s ≡ false
+  not_stopped zero below = refl
+  not_stopped (suc i) below = ap is_stop (into.went i (omega arith))
+
+  entered_there : entered_after e.cost s ≡ true
+  entered_there = subst (λ n. entered_after n s ≡ true) into.cost_is into.enters_is
+
+  pub moves_there : (left : ℕ) → e.cost ≤ left → Ends Entry left s e.cost Entered
+  moves_there left fits = record {
+    now = rw (not_stopped e.cost (omega arith), entered_there) refl;
+    first = λ j below.
+        rw (
+          not_stopped j (omega arith),
+          not_entered j below,
+          eq_false j left (omega (arith, below, fits)),
+          into.went j below,
+        ) refl;
+  }
+
+-- ---- of a tape
+
+module _ (s : Settings) (codes : List ℕ) (e : TapeEntry) (into : LeadsIn (first_state s.size codes) e)
+    (fits : e.cost ≤ s.limit) where
+  abbrev first : State
+  first = first_state s.size codes
+
+  pub traces_from_entry : TracesFromEntry s codes e
+  traces_from_entry =
+      let less = s.limit - e.cost in
+      let on = goes_on s.limit s.resumes e.cost first into.went into.prints_none fits in
+      let note = λ (x : State). ending_line (run_end less s.resumes less x).ending (run_end less s.resumes less x).state in
+      let letters = λ (x : State). letters_in (trace_to (run_orders less s.resumes less x) x) in
+      record {
+        letters = ap (λ n. letters_in (trace_to n first)) on.orders
+            ∙ letters_sum e.cost (run_orders less s.resumes less (state_after e.cost first)) first
+            ∙ ap (λ (x : State). letters_in (trace_to e.cost first) ++ letters x) into.arrives;
+        note_is = (λ i. ending_line (on.ending i) (on.state i)) ∙ ap note into.arrives;
+        status_is = ap status_of on.ending
+            ∙ ap (λ (x : State). status_of (run_end less s.resumes less x).ending) into.arrives;
+      }
+
+  pub steps_to_entry : StepsToEntry s codes e
+  steps_to_entry =
+      let ends = moves_there first e into s.limit fits in
+      let none : s.limit - 0 ≡ s.limit = omega arith in
+      let start : state_after 0 first ≡ first = sym (no_step first) in
+      let orders : move_orders Entry (s.limit - 0) (state_after 0 first) ≡ e.cost =
+      (λ i. move_orders Entry (none i) (start i)) ∙ sym (orders_found Entry s.limit e.cost first Entered ends) in
+      let end : move_end Entry (s.limit - 0) (state_after 0 first) ≡ Entered =
+      (λ i. move_end Entry (none i) (start i)) ∙ sym (end_found Entry s.limit e.cost first Entered ends) in
+      let zero_and : 0 + move_orders Entry (s.limit - 0) (state_after 0 first) ≡ e.cost = omega (arith, orders) in
+      let at : (state_after e.cost first).counter ≡ e.at = ap (λ (x : State). x.counter) into.arrives in
+      record {
+        stands = λ i. record { start = first; limit = s.limit; done = zero_and i };
+        line = (λ i. move_line (state_after (zero_and i) first).counter (zero_and i) (end i))
+            ∙ ap (λ n. move_line n e.cost Entered) at;
+      }

@@ -1,0 +1,48 @@
+-- What holds of every tape with a fault: up to the row that `check-tape` reports the machine reads what was meant, and
+-- where the rows end too early `tape` ends (this project's own rules).
+use Rattle.std.specs.Prelude.{◌≡◌, ℕ, ◌+◌, ◌<◌, List, codes}
+use Rattle.ed_words.specs.Texts.{Text}
+use Rattle.ed_store.specs.Cells.{cleared_cells}
+use Rattle.ed_printer.specs.Paper.{paper}
+use Rattle.ed_machine.specs.Steps.{state_after}
+use Rattle.ed_run.specs.declared.settings.Settings.{Settings}
+use Rattle.ed_notation.specs.declared.cause.TapeCause.{TapeCause}
+use Rattle.ed_notation.specs.declared.cause.TapeCause.TheVariants.{EndOfTape}
+use Rattle.ed_notation.specs.Faults.{IsFault, IsRead}
+use Rattle.ed_notation.specs.Beginnings.{state_before, orders_before}
+use Rattle.ed_initial.specs.Entry.{first_state}
+use Rattle.ed_initial.specs.Waits.{Waits, waiting_place}
+use Rattle.ed_report.specs.Notes.{at_after, rule_line}
+use Rattle.ed_answers.specs.Outcome.{Outcome, line, refusal}
+use Rattle.ed_answers.specs.Runs.{post_mortem_codes}
+use Rattle.ed_answers.specs.Tapes.{IsChecked, first_note, tape_outcome}
+
+-- a run of a tape that ends after k orders at a location and has printed nothing: the post-mortem alone, the note
+-- `NAME at C after K`, and the status
+abbrev pub quiet_outcome : Settings → List ℕ → Text → ℕ → ℕ → ℕ → Outcome
+quiet_outcome s rows name place k status = record {
+  out = paper (post_mortem_codes s.post_mortem (state_after k (first_state s.size rows)));
+  note = line (at_after name place k);
+  status = status;
+}
+
+-- the fault of a tape is at a row: `check-tape` reports the row. After the orders that read the rows before it the
+-- machine waits for that row: each of these orders went on, none printed, and the machine rests in what the items
+-- before the row, and the part of an item before it, mean. With this number as the limit the run ends there, and a
+-- post-mortem shows the words placed so far. If the fault is that the tape ends, the run ends there with every greater
+-- limit too: no tape, at 9 inside an item and at 34 between two.
+pub record TapeWaitsAtFault (s : Settings) (rows : List ℕ) (row : ℕ) (cause : TapeCause)
+    (r : IsRead cleared_cells.words first_note rows row) : Type 0 where
+  pub checked : IsChecked s rows (refusal (rule_line row cause))
+  pub waits : Waits (first_state s.size rows) (9 + orders_before r) (state_before r) r.part r.rest
+  pub limited : s.limit ≡ 9 + orders_before r
+      → tape_outcome s rows ≡ quiet_outcome s rows (codes "limit") (waiting_place r.part) (9 + orders_before r) 4
+  pub no_tape : cause ≡ EndOfTape → 9 + orders_before r < s.limit
+      → tape_outcome s rows ≡ quiet_outcome s rows (codes "no tape") (waiting_place r.part) (9 + orders_before r) 6
+
+-- the same for every tape with a fault
+abbrev pub EachFaultyTapeWaits : Type 0
+EachFaultyTapeWaits =
+    (s : Settings) (rows : List ℕ) (row : ℕ) (cause : TapeCause)
+    → (f : IsFault s.size cleared_cells.words first_note rows row cause)
+    → TapeWaitsAtFault s rows row cause f.is.stands

@@ -1,0 +1,148 @@
+-- Why the method is right: what it gives with any number of divisors are the decimals of the sum of the fractions.
+use Rattle.std.proofs.Common.{◌≡◌, ◌∙◌, ℕ, zero, suc, ◌+◌, ◌*◌, ◌/◌, ◌%◌, ◌^◌, ◌<◌, ◌≤◌, refl, sym, ap, subst, arith}
+use Rattle.std.proofs.Common.{lit<, lit≤, List, [], ◌∷◌, replicate}
+use Rattle.std.proofs.Math.Nat.{div-add-mod, mod-lt, mul-le-mul_right, pow-suc}
+use Rattle.std.proofs.lemmas.Nat.{div-mul-add}
+use Rattle.ed_programs.specs.Decimals.{MethodIsRight, carries, factorial, parts, tenfold, with_figures}
+use Rattle.ed_programs.proofs.DecimalsPass.{after}
+
+-- the product of the divisors, and the sum of the fractions in parts of it
+abbrev weight : ℕ → List ℕ → ℕ
+weight d [] = 1
+weight d (n ∷ ns) = d * weight (suc d) ns
+
+abbrev value : ℕ → List ℕ → ℕ
+value d [] = 0
+value d (n ∷ ns) = n * weight (suc d) ns + value (suc d) ns
+
+-- each numerator is below its divisor
+abbrev Small : ℕ → List ℕ → Type 0
+Small d [] = Unit {0}
+Small d (n ∷ ns) = (n < d) × Small (suc d) ns
+
+weight_left : (d : ℕ) (ns : List ℕ) → weight d (tenfold d ns).left ≡ weight d ns
+weight_left d [] = refl
+weight_left d (n ∷ ns) = ap (λ w. d * w) (weight_left (suc d) ns)
+
+small_left : (d : ℕ) (ns : List ℕ) → 1 ≤ d → Small d (tenfold d ns).left
+small_left d [] some = tt
+small_left d (n ∷ ns) some = (
+  mod-lt (10 * n + (tenfold (suc d) ns).carry) (omega arith),
+  small_left (suc d) ns (omega arith),
+)
+
+-- so they are together less than 1
+less_than_one : (d : ℕ) (ns : List ℕ) → Small d ns → value d ns < weight d ns
+less_than_one d [] o = lit< tt
+less_than_one d (n ∷ ns) o =
+    let rest = less_than_one (suc d) ns o.1 in
+    let next : suc n ≤ d = omega (arith, o.0) in
+    let all : suc n * weight (suc d) ns ≤ d * weight (suc d) ns = mul-le-mul_right (weight (suc d) ns) next in
+    omega (arith, rest, all)
+
+-- ten times the sum is the carry and what is left over
+tenfold_is : (d : ℕ) (ns : List ℕ) → 10 * value d ns ≡ (tenfold d ns).carry * weight d ns + value d (tenfold d ns).left
+tenfold_is d [] = refl
+tenfold_is d (n ∷ ns) =
+    let w : ℕ = weight (suc d) ns in
+    let c : ℕ = (tenfold (suc d) ns).carry in
+    let l : ℕ = value (suc d) (tenfold (suc d) ns).left in
+    let x : ℕ = 10 * n + c in
+    let rest : 10 * value (suc d) ns ≡ c * w + l = tenfold_is (suc d) ns in
+    let shares : (d * (x / d) + x % d) * w ≡ x * w = ap (λ y. y * w) (div-add-mod x d) in
+    subst (λ y. 10 * (n * w + value (suc d) ns) ≡ x / d * (d * w) + (x % d * y + l)) (sym (weight_left (suc d) ns))
+    (parts_are d n w (value (suc d) ns) c l (x / d) (x % d) rest shares)
+  where
+    parts_are : (d n w v c l q r : ℕ) → 10 * v ≡ c * w + l → (d * q + r) * w ≡ (10 * n + c) * w
+        → 10 * (n * w + v) ≡ q * (d * w) + (r * w + l)
+    parts_are d n w v c l q r rest shares = omega (arith, rest, shares)
+
+-- 10^m times a number and the sum, by the decimals
+decimals_are : (m : ℕ) (ns : List ℕ) (h : ℕ) → 10 ^ m * (h * weight 2 ns + value 2 ns)
+    ≡ with_figures h (carries m ns) * weight 2 ns + value 2 (after m ns)
+decimals_are zero ns h = omega arith
+decimals_are (suc m) ns h =
+    let left : List ℕ = (tenfold 2 ns).left in
+    let c : ℕ = (tenfold 2 ns).carry in
+    let w : ℕ = weight 2 ns in
+    let rest : 10 ^ m * ((10 * h + c) * w + value 2 left)
+    ≡ with_figures (10 * h + c) (carries m left) * w + value 2 (after m left) =
+    subst (λ y. 10 ^ m * ((10 * h + c) * y + value 2 left)
+    ≡ with_figures (10 * h + c) (carries m left) * y + value 2 (after m left)) (weight_left 2 ns)
+    (decimals_are m left (10 * h + c)) in
+    let ten : 10 * (h * w + value 2 ns) ≡ (10 * h + c) * w + value 2 left =
+    let e = tenfold_is 2 ns in omega (arith, e) in
+    let power : 10 ^ suc m ≡ 10 ^ m * 10 = pow-suc 10 m in
+    ap (λ y. y * (h * w + value 2 ns)) power ∙ tens (10 ^ m) (h * w + value 2 ns) ∙ ap (λ y. 10 ^ m * y) ten ∙ rest
+  where
+    tens : (t y : ℕ) → t * 10 * y ≡ t * (10 * y)
+    tens t y = omega arith
+
+after_small : (m : ℕ) (ns : List ℕ) → Small 2 ns → Small 2 (after m ns)
+after_small zero ns o = o
+after_small (suc m) ns o = after_small m (tenfold 2 ns).left (small_left 2 ns (lit≤ tt))
+
+-- so they are the decimals of the sum
+floor_is : (m : ℕ) (ns : List ℕ) (h : ℕ) → Small 2 ns
+    → with_figures h (carries m ns) ≡ 10 ^ m * (h * weight 2 ns + value 2 ns) / weight 2 ns
+floor_is m ns h o =
+    let low : value 2 (after m ns) < weight 2 ns = subst (λ y. value 2 (after m ns) < y) (after_weight m ns)
+    (less_than_one 2 (after m ns) (after_small m ns o)) in
+    sym (ap (λ y. y / weight 2 ns) (decimals_are m ns h)
+    ∙ div-mul-add (with_figures h (carries m ns)) (weight 2 ns) (value 2 (after m ns)) low)
+  where
+    after_weight : (m : ℕ) (ns : List ℕ) → weight 2 (after m ns) ≡ weight 2 ns
+    after_weight zero ns = refl
+    after_weight (suc m) ns = after_weight m (tenfold 2 ns).left ∙ weight_left 2 ns
+
+-- ---- numerators that are all 1
+
+ones_small : (d k : ℕ) → 2 ≤ d → Small d (replicate k 1)
+ones_small d zero some = tt
+ones_small d (suc k) some = (omega arith, ones_small (suc d) k (omega arith))
+
+-- one divisor more
+weight_more : (d k : ℕ) → weight d (replicate (suc k) 1) ≡ (d + k) * weight d (replicate k 1)
+weight_more d zero = omega arith
+weight_more d (suc k) =
+    ap (λ w. d * w) (weight_more (suc d) k) ∙ (let w : ℕ = weight (suc d) (replicate k 1) in orders d k w)
+  where
+    orders : (d k w : ℕ) → d * ((suc d + k) * w) ≡ (d + suc k) * (d * w)
+    orders d k w = omega arith
+
+value_more : (d k : ℕ) → value d (replicate (suc k) 1) ≡ (d + k) * value d (replicate k 1) + 1
+value_more d zero = omega arith
+value_more d (suc k) =
+    let w : ℕ = weight (suc d) (replicate k 1) in
+    let v : ℕ = value (suc d) (replicate k 1) in
+    sums d k (weight (suc d) (replicate (suc k) 1)) (value (suc d) (replicate (suc k) 1)) w v (weight_more (suc d) k)
+    (value_more (suc d) k)
+  where
+    sums : (d k a b w v : ℕ) → a ≡ (suc d + k) * w → b ≡ (suc d + k) * v + 1
+        → 1 * a + b ≡ (d + suc k) * (1 * w + v) + 1
+    sums d k a b w v first second = omega (arith, first, second)
+
+factorial_is : (k : ℕ) → weight 2 (replicate k 1) ≡ factorial (suc k)
+factorial_is zero = refl
+factorial_is (suc k) = weight_more 2 k ∙ (let rest = factorial_is k in shares k _ _ rest)
+  where
+    shares : (k w f : ℕ) → w ≡ f → (2 + k) * w ≡ suc (suc k) * f
+    shares k w f is = rw is (omega arith)
+
+parts_are : (k : ℕ) → 2 * weight 2 (replicate k 1) + value 2 (replicate k 1) ≡ parts (suc k)
+parts_are zero = refl
+parts_are (suc k) =
+    let w : ℕ = weight 2 (replicate k 1) in
+    let v : ℕ = value 2 (replicate k 1) in
+    sums k (weight 2 (replicate (suc k) 1)) (value 2 (replicate (suc k) 1)) w v (parts (suc k)) (weight_more 2 k)
+    (value_more 2 k) (parts_are k)
+  where
+    sums : (k a b w v p : ℕ) → a ≡ (2 + k) * w → b ≡ (2 + k) * v + 1 → 2 * w + v ≡ p
+        → 2 * a + b ≡ suc (suc k) * p + 1
+    sums k a b w v p first second third = rw (first, second, sym third) (omega arith)
+
+pub method_is_right : MethodIsRight
+method_is_right k m =
+    floor_is m (replicate k 1) 2 (ones_small 2 k (lit≤ tt))
+    ∙ ap (λ y. 10 ^ m * y / weight 2 (replicate k 1)) (parts_are k)
+    ∙ ap (λ y. 10 ^ m * parts (suc k) / y) (factorial_is k)

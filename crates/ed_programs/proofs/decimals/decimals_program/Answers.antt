@@ -1,0 +1,20 @@
+use Rattle.ed_programs.proofs.DecimalsMethod.{method_is_right}
+use Rattle.ed_programs.proofs.DecimalsRuns.{hundred_run}
+use Rattle.ed_programs.proofs.PartsOfE.{figures_are_carries, hundred, one_number}
+use Rattle.ed_programs.proofs.Texts.{prints_as}
+use Rattle.ed_programs.proofs.decimals.decimals_program.Goals as goal
+
+pub returns-clause-law : goal.returns-clause-law
+returns-clause-law c = prints_as _ c.woven_program.result c.woven_program.ensures hundred_run
+
+pub returns-clause-of_e : goal.returns-clause-of_e
+returns-clause-of_e c = hundred
+
+pub returns-clause-method : goal.returns-clause-method
+returns-clause-method c = method_is_right
+
+pub returns-clause-by_carries : goal.returns-clause-by_carries
+returns-clause-by_carries c = figures_are_carries
+
+pub returns-clause-one : goal.returns-clause-one
+returns-clause-one c = one_number
