@@ -2,7 +2,7 @@
 
 use crate::support::{Answer, answer_of, expect_beginning, expect_that};
 use ed_library::Call;
-use ed_top::{call_source, demo_source};
+use ed_sources::{call_source, demo_source};
 use std::alloc::Global;
 use std::process::Abort;
 use std::test::Fail;

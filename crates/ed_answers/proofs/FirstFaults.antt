@@ -14,7 +14,7 @@ use Rattle.ed_initial1.specs.declared.cause.Tape1Cause.{Tape1Cause}
 use Rattle.ed_initial1.specs.declared.cause.Tape1Cause.TheVariants.{EndOfTape}
 use Rattle.ed_initial1.specs.Items.{Begun1, Item1}
 use Rattle.ed_initial1.specs.Faults.{IsRead1, is_broken1}
-use Rattle.ed_initial1.specs.Waits.{Waits1, orders_before1, waiting_place1}
+use Rattle.ed_initial1.specs.Waits.{AwaitsRow1, orders_before1, waiting_place1}
 use Rattle.ed_initial1.proofs.Awaited.{needs_row, waits, waits_at}
 use Rattle.ed_report.specs.Notes.{at_after}
 use Rattle.ed_answers.specs.FirstFaults.{EachFaultyTapeWaits1, silent_outcome}
@@ -32,13 +32,13 @@ ended before (Some b) (c ∷ rest) h = absurd (true≢false (sym h))
 
 -- from a cleared machine
 cleared_waits : (rows : List ℕ) {row : ℕ} (r : IsRead1 rows row)
-    → Waits1 (first_state1 rows) (orders_before1 r) r.before r.part r.rest
+    → AwaitsRow1 (first_state1 rows) (orders_before1 r) r.before r.part r.rest
 unfolding first_state1
 cleared_waits rows {row} r = waits (first_state1 rows) (first_store rows) (starts rows) row r
 
 -- a run that prints nothing and ends there
 module _ (s : Settings) (rows : List ℕ) {k : ℕ} {before : List Item1} {part : Option Begun1} {rest : List ℕ}
-    (there : Waits1 (first_state1 rows) k before part rest) where
+    (there : AwaitsRow1 (first_state1 rows) k before part rest) where
   abbrev first : State
   first = first_state1 rows
 
@@ -64,7 +64,7 @@ module _ (s : Settings) (rows : List ℕ) {k : ℕ} {before : List Item1} {part 
   no_tape : rest ≡ [] → k < s.limit
       → tape1_outcome s rows ≡ silent_outcome (codes "no tape") (waiting_place1 part) k 6
   no_tape none below =
-      let turn = needs_row part (subst (λ x. Waits1 first k before part x) none there) in
+      let turn = needs_row part (subst (λ x. AwaitsRow1 first k before part x) none there) in
       ap (ran_outcome []) (no_tape_there s.limit s.resumes paper_room k first all_went below turn)
       ∙ ap (λ note. record (silent_outcome (codes "no tape") (waiting_place1 part) k 6) { note = note })
       (named (codes "no tape"))

@@ -6,7 +6,7 @@ use Rattle.ed_run.specs.declared.settings.Settings.{Settings}
 use Rattle.ed_initial1.specs.declared.cause.Tape1Cause.{Tape1Cause}
 use Rattle.ed_initial1.specs.declared.cause.Tape1Cause.TheVariants.{EndOfTape}
 use Rattle.ed_initial1.specs.Faults.{IsFault1, IsRead1}
-use Rattle.ed_initial1.specs.Waits.{Waits1, orders_before1, waiting_place1}
+use Rattle.ed_initial1.specs.Waits.{AwaitsRow1, orders_before1, waiting_place1}
 use Rattle.ed_report.specs.Notes.{at_after}
 use Rattle.ed_report.specs.FirstNotes.{rule1_line}
 use Rattle.ed_answers.specs.FirstOrders.{IsChecked1, first_state1, tape1_outcome}
@@ -24,7 +24,7 @@ silent_outcome name place k status = record { out = []; note = line (at_after na
 pub record TapeWaitsAtFault1 (s : Settings) (rows : List ℕ) (row : ℕ) (cause : Tape1Cause) (r : IsRead1 rows row) :
     Type 0 where
   pub checked : IsChecked1 rows (refusal (rule1_line row cause))
-  pub waits : Waits1 (first_state1 rows) (orders_before1 r) r.before r.part r.rest
+  pub waits : AwaitsRow1 (first_state1 rows) (orders_before1 r) r.before r.part r.rest
   pub limited : s.limit ≡ orders_before1 r
       → tape1_outcome s rows ≡ silent_outcome (codes "limit") (waiting_place1 r.part) (orders_before1 r) 4
   pub no_tape : cause ≡ EndOfTape → orders_before1 r < s.limit

@@ -20,7 +20,7 @@ use Rattle.ed_initial.specs.declared.loading.Loaded.TheVariants.{Entered, Lost}
 use Rattle.ed_initial.specs.Load.{EndsAs, IsLost, IsQuiet, blocked, is_quiet_turn, ran_out, sounded}
 use Rattle.ed_initial.specs.Rests.{Scratch}
 use Rattle.ed_initial.specs.Walks.{later}
-use Rattle.ed_initial.specs.Waits.{IsLostAtEnd, RestsAfter, Waits, WaitsForRows, waiting_place}
+use Rattle.ed_initial.specs.Waits.{IsLostAtEnd, RestsAfter, AwaitsRow, WaitsForRows, waiting_place}
 use Rattle.ed_machine.proofs.Kit.Frames.{Moment}
 use Rattle.ed_initial.proofs.Paths.{state}
 use Rattle.ed_initial.proofs.Goes.{Goes}
@@ -60,7 +60,7 @@ module _ (s : State) (store : IsStore s.store) (started : IsStarted s) where
       }
 
   waits_by : {k : ℕ} {notation : NotationState} {part : Option Begun} {rest : List ℕ} → Arrives k notation part rest
-      → Waits s k notation part rest
+      → AwaitsRow s k notation part rest
   waits_by {k} {notation} {part} {rest} a =
       let goes : Goes k s (state (frame s store) a.moment (s.orders + k)) =
       subst (λ x. Goes k x (state (frame s store) a.moment (s.orders + k))) (opened s store started) (a.trip.goes s.orders) in
@@ -84,7 +84,7 @@ module _ (s : State) (store : IsStore s.store) (started : IsStarted s) where
       waits_by (rw (sym sum) (by_part _ all.left (state_before r) r.part r.rest r.is_part (further start all.trip)))
 
 -- where the machine waits, it needs a row
-pub needs_row : {s : State} {k : ℕ} {notation : NotationState} (part : Option Begun) → Waits s k notation part []
+pub needs_row : {s : State} {k : ℕ} {notation : NotationState} (part : Option Begun) → AwaitsRow s k notation part []
     → (step (state_after k s)).turn ≡ NoTape
 unfolding step
 needs_row None w = ap (λ (x : State). (step x).turn) w.rests.1
@@ -92,7 +92,7 @@ needs_row (Some b) w = ap (λ (x : State). (step x).turn) w.rests.2
 
 -- it stands at 9 or 34, and has obeyed as many orders more
 pub waits_at : {s : State} {k : ℕ} {notation : NotationState} (part : Option Begun) {rest : List ℕ}
-    → Waits s k notation part rest
+    → AwaitsRow s k notation part rest
     → ((state_after k s).counter ≡ waiting_place part) × ((state_after k s).orders ≡ s.orders + k)
 waits_at None w = (ap (λ (x : State). x.counter) w.rests.1, ap (λ (x : State). x.orders) w.rests.1)
 waits_at (Some b) w = (ap (λ (x : State). x.counter) w.rests.2, ap (λ (x : State). x.orders) w.rests.2)
@@ -134,5 +134,5 @@ lost_at_end s r store started ends row f =
     let x = f.is.stands in
     let there = waits s store started row (fault_sound f) x in
     let none = ended s.size ws (state_before x) x.part x.rest f.is.breaks in
-    let turn = needs_row x.part (subst (λ rest. Waits s (9 + orders_before x) (state_before x) x.part rest) none there) in
+    let turn = needs_row x.part (subst (λ rest. AwaitsRow s (9 + orders_before x) (state_before x) x.part rest) none there) in
     lost s (17 * length s.tape + 9) (9 + orders_before x) there.quiet turn (omega (arith, beginning_most x)) ends

@@ -27,7 +27,7 @@ RestsAfter o notation (Some b) t = (at1 : ℕ) × (at20 : ℕ) × (t ≡ rest9 (
 
 -- after k orders the machine waits for the first of the rows left: each order went on, none printed, and the machine
 -- rests in what the items and the part of an item have set
-pub record Waits (s : State) (k : ℕ) (notation : NotationState) (part : Option Begun) (rest : List ℕ) : Type 0 where
+pub record AwaitsRow (s : State) (k : ℕ) (notation : NotationState) (part : Option Begun) (rest : List ℕ) : Type 0 where
   pub quiet : IsQuiet k s
   pub silent : (progress k s).codes ≡ []
   pub rests : RestsAfter (later k rest s) notation part (state_after k s)
@@ -38,7 +38,7 @@ abbrev pub WaitsForRows : State → Type 0
 WaitsForRows s =
     (row : ℕ) → IsSoundTo s.size s.store.words (opening s.store.words) s.tape row
     → (r : IsRead s.store.words (opening s.store.words) s.tape row)
-    → Waits s (9 + orders_before r) (state_before r) r.part r.rest
+    → AwaitsRow s (9 + orders_before r) (state_before r) r.part r.rest
 
 -- if the fault of its tape is that it ends, a load is lost after 9 orders and those that read all rows
 abbrev pub IsLostAtEnd : State → Loaded → Type 0

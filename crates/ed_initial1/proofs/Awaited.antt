@@ -18,7 +18,7 @@ use Rattle.ed_initial1.specs.Items.{last_of}
 use Rattle.ed_initial1.specs.Faults.{IsLoading, IsPart1, part_rows1}
 use Rattle.ed_initial1.specs.Entry.{IsStarted1}
 use Rattle.ed_initial1.specs.Load.{IsQuiet1}
-use Rattle.ed_initial1.specs.Waits.{RestsAfter1, Scratch1, Waits1, WaitsForRows1, part_cost1, orders_before1, rest1_at}
+use Rattle.ed_initial1.specs.Waits.{RestsAfter1, Scratch1, AwaitsRow1, WaitsForRows1, part_cost1, orders_before1, rest1_at}
 use Rattle.ed_initial1.specs.Waits.{waiting_place1}
 use Rattle.ed_initial1.proofs.Paths.{Walk, stay, on, followed, Working, Kept, moment, function_path, start_path}
 use Rattle.ed_initial1.proofs.Paths.{first_placed, placed}
@@ -195,7 +195,7 @@ module _ (s : State) (store : HasItsLengths s.store) (started : IsStarted1 s) wh
       }
 
   waits_by : {k : ℕ} {before : List Item1} {part : Option Begun1} {rest : List ℕ} → Arrives k before part s.tape rest
-      → Waits1 s k before part rest
+      → AwaitsRow1 s k before part rest
   waits_by {k} {before} {part} {rest} a =
       let open_is = opened s store started in
       let there = leads (path_of a.walk) s.orders in
@@ -213,7 +213,7 @@ module _ (s : State) (store : HasItsLengths s.store) (started : IsStarted1 s) wh
       waits_by (subst (λ x. Arrives (orders_before1 r) r.before r.part x r.rest) tape there)
 
 -- where the machine waits, it needs a row
-pub needs_row : {s : State} {k : ℕ} {before : List Item1} (part : Option Begun1) → Waits1 s k before part []
+pub needs_row : {s : State} {k : ℕ} {before : List Item1} (part : Option Begun1) → AwaitsRow1 s k before part []
     → (step (state_after k s)).turn ≡ NoTape
 unfolding step
 needs_row None w = ap (λ (x : State). (step x).turn) w.rests.1
@@ -221,7 +221,7 @@ needs_row (Some b) w = ap (λ (x : State). (step x).turn) w.rests.2
 
 -- it stands at 7 or 11, and has obeyed as many orders more
 pub waits_at : {s : State} {k : ℕ} {before : List Item1} (part : Option Begun1) {rest : List ℕ}
-    → Waits1 s k before part rest
+    → AwaitsRow1 s k before part rest
     → ((state_after k s).counter ≡ waiting_place1 part) × ((state_after k s).orders ≡ s.orders + k)
 waits_at None w = (ap (λ (x : State). x.counter) w.rests.1, ap (λ (x : State). x.orders) w.rests.1)
 waits_at (Some b) w = (ap (λ (x : State). x.counter) w.rests.2, ap (λ (x : State). x.orders) w.rests.2)

@@ -71,11 +71,11 @@ orders_before1 r = 4 + costs1 r.before + part_cost1 r.part
 
 -- after k orders the machine waits for the first of the rows left: each order went on, none printed, and the machine
 -- rests in what the items and the part of an item have set
-pub record Waits1 (s : State) (k : ℕ) (before : List Item1) (part : Option Begun1) (rest : List ℕ) : Type 0 where
+pub record AwaitsRow1 (s : State) (k : ℕ) (before : List Item1) (part : Option Begun1) (rest : List ℕ) : Type 0 where
   pub quiet : IsQuiet1 k s
   pub silent : (progress k s).codes ≡ []
   pub rests : RestsAfter1 (later k rest s) before part (state_after k s)
 
 -- the machine waits for each row of its tape that is read
 abbrev pub WaitsForRows1 : State → Type 0
-WaitsForRows1 s = (row : ℕ) (r : IsRead1 s.tape row) → Waits1 s (orders_before1 r) r.before r.part r.rest
+WaitsForRows1 s = (row : ℕ) (r : IsRead1 s.tape row) → AwaitsRow1 s (orders_before1 r) r.before r.part r.rest

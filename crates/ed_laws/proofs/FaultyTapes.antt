@@ -28,7 +28,7 @@ use Rattle.ed_notation.specs.Faults.{AreRead, Breaks, IsRead, breaks, is_broken}
 use Rattle.ed_notation.specs.Beginnings.{IsSoundTo, orders_before, state_before}
 use Rattle.ed_notation.proofs.Beginnings.{ended, fault_sound}
 use Rattle.ed_initial.specs.Entry.{first_state}
-use Rattle.ed_initial.specs.Waits.{Waits, waiting_place}
+use Rattle.ed_initial.specs.Waits.{AwaitsRow, waiting_place}
 use Rattle.ed_initial.proofs.Awaited.{needs_row, waits, waits_at}
 use Rattle.ed_initial.proofs.Starts.{first_store, starts}
 use Rattle.ed_report.specs.Notes.{at_after}
@@ -125,7 +125,7 @@ module _ (v w : List ℕ) (same : Agree v w) where
 -- from a cleared machine
 cleared_waits : (z : Size) (rows : List ℕ) {row : ℕ} (r : IsRead cleared_cells.words first_note rows row)
     → IsSoundTo z cleared_cells.words first_note rows row
-    → Waits (first_state z rows) (9 + orders_before r) (state_before r) r.part r.rest
+    → AwaitsRow (first_state z rows) (9 + orders_before r) (state_before r) r.part r.rest
 unfolding first_state
 cleared_waits z rows {row} r to =
     let v = cleared_cells.words in
@@ -137,7 +137,7 @@ cleared_waits z rows {row} r to =
 
 -- a run that prints nothing and ends there
 module _ (s : Settings) (rows : List ℕ) {k : ℕ} {notation : NotationState} {part : Option Begun} {rest : List ℕ}
-    (there : Waits (first_state s.size rows) k notation part rest) where
+    (there : AwaitsRow (first_state s.size rows) k notation part rest) where
   abbrev first : State
   first = first_state s.size rows
 
@@ -167,7 +167,7 @@ module _ (s : Settings) (rows : List ℕ) {k : ℕ} {notation : NotationState} {
   no_tape : rest ≡ [] → k < s.limit
       → tape_outcome s rows ≡ quiet_outcome s rows (codes "no tape") (waiting_place part) k 6
   no_tape none below =
-      let turn = needs_row part (subst (λ x. Waits first k notation part x) none there) in
+      let turn = needs_row part (subst (λ x. AwaitsRow first k notation part x) none there) in
       ap (λ (r : RunEnd). ran_outcome [] (with_post_mortem s.post_mortem r))
       (no_tape_there s.limit s.resumes paper_room k first all_went below turn)
       ∙ ap (λ note. record (quiet_outcome s rows (codes "no tape") (waiting_place part) k 6) { note = note })

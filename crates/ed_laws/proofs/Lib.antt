@@ -1,7 +1,4 @@
-pub mod Making
-pub mod Stopped
-mod CallRuns
-mod DemoRuns
+mod CallsByDefault
 mod MoveEndings
 mod Stepped
 mod TapeWalks

@@ -1,7 +1,5 @@
 -- The theorems of this crate: laws between the commands, and what `call` and `demo` print.
-use Rattle.ed_laws.specs.AcceptedSources.{EachCallIsAccepted, EachDemoIsAccepted}
-use Rattle.ed_laws.specs.Calls.{CallsByDefault, EachCallRuns}
-use Rattle.ed_laws.specs.Demos.{EachDemoRuns}
+use Rattle.ed_laws.specs.CallsByDefault.{CallsByDefault}
 use Rattle.ed_laws.specs.FaultyTapes.{EachFaultyTapeWaits}
 use Rattle.ed_laws.specs.PartsRun.{EachTapeInPartsIsRun}
 use Rattle.ed_laws.specs.ReadBack.{EachWordIsReadBack}
@@ -13,10 +11,9 @@ use Rattle.ed_answers.specs.FirstFaults.{EachFaultyTapeWaits1}
 use Rattle.ed_answers.specs.Limits.{EachLimit}
 use Rattle.ed_answers.specs.Listed.{EachListedIsLoaded}
 use Rattle.ed_answers.specs.PunchedTapes.{EachPunchedIsRun}
-use Rattle.ed_laws.proofs.Making.CallsAccepted.{calls_accepted}
-use Rattle.ed_laws.proofs.Making.DemoAccepted.{demos_accepted}
-use Rattle.ed_laws.proofs.CallRuns.{calls_by_default as by_default, each_call_runs}
-use Rattle.ed_laws.proofs.DemoRuns.{each_demo_runs}
+use Rattle.ed_laws.proofs.CallsByDefault.{calls_by_default as by_default}
+use Rattle.ed_sources.specs.DemoRuns.{EachDemoRuns}
+use Rattle.ed_sources.proofs.DemoRuns.{each_demo_runs}
 use Rattle.ed_laws.proofs.FaultyTapes.{faulty_tapes_wait}
 use Rattle.ed_laws.proofs.PartsRun.{each_tape_in_parts}
 use Rattle.ed_laws.proofs.ReadBack.{each_word_is_read_back}
@@ -29,17 +26,7 @@ use Rattle.ed_answers.proofs.Limits.{each_limit}
 use Rattle.ed_answers.proofs.Listed.{each_listed_is_loaded}
 use Rattle.ed_answers.proofs.PunchedTapes.{each_punched_is_run}
 
--- the sources that the program makes are accepted, whatever their numbers are
-pub call_sources : EachCallIsAccepted
-call_sources = calls_accepted
-
-pub demo_sources : EachDemoIsAccepted
-demo_sources = demos_accepted
-
--- what `call` prints
-pub calls : EachCallRuns
-calls = each_call_runs
-
+-- what `call` prints without an option; with its options it is said by the contract of `edsac`
 pub calls_by_default : CallsByDefault
 calls_by_default = by_default
 

@@ -11,7 +11,7 @@ use Rattle.ed_notation.specs.declared.cause.TapeCause.TheVariants.{EndOfTape}
 use Rattle.ed_notation.specs.Faults.{IsFault, IsRead}
 use Rattle.ed_notation.specs.Beginnings.{state_before, orders_before}
 use Rattle.ed_initial.specs.Entry.{first_state}
-use Rattle.ed_initial.specs.Waits.{Waits, waiting_place}
+use Rattle.ed_initial.specs.Waits.{AwaitsRow, waiting_place}
 use Rattle.ed_report.specs.Notes.{at_after, rule_line}
 use Rattle.ed_answers.specs.Outcome.{Outcome, line, refusal}
 use Rattle.ed_answers.specs.Runs.{post_mortem_codes}
@@ -34,7 +34,7 @@ quiet_outcome s rows name place k status = record {
 pub record TapeWaitsAtFault (s : Settings) (rows : List ℕ) (row : ℕ) (cause : TapeCause)
     (r : IsRead cleared_cells.words first_note rows row) : Type 0 where
   pub checked : IsChecked s rows (refusal (rule_line row cause))
-  pub waits : Waits (first_state s.size rows) (9 + orders_before r) (state_before r) r.part r.rest
+  pub waits : AwaitsRow (first_state s.size rows) (9 + orders_before r) (state_before r) r.part r.rest
   pub limited : s.limit ≡ 9 + orders_before r
       → tape_outcome s rows ≡ quiet_outcome s rows (codes "limit") (waiting_place r.part) (9 + orders_before r) 4
   pub no_tape : cause ≡ EndOfTape → 9 + orders_before r < s.limit

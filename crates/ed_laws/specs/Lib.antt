@@ -1,6 +1,4 @@
-pub mod AcceptedSources
-pub mod Calls
-pub mod Demos
+pub mod CallsByDefault
 pub mod TapeEntries
 pub mod FaultyTapes
 pub mod Stepped

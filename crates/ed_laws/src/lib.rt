@@ -1,5 +1,5 @@
-//! The laws above the program: what its commands have to do with one another, and what `call` and `demo` print.
+//! The laws above the program: what its commands have to do with one another.
 //!
-//! Contract: no function. The laws are the theorems of `proofs/Theorems.antt`, each with its statement in `specs/`; the
-//! lemmas below them on the sources that the program makes serve other crates too. Depends on `ed_top`.
+//! Contract: no function; the laws are the theorems of `proofs/Theorems.antt`. Each has its statement in `specs/`, or in
+//! those of the crate below that it speaks of. Depends on `ed_top`.
 #![tactic(auto)]

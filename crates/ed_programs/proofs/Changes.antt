@@ -18,8 +18,8 @@ use Rattle.ed_machine.proofs.Kit.Window.{patched, patched_self, get_own}
 use Rattle.ed_routines.specs.Catalogue.{read, with_h}
 use Rattle.ed_routines.specs.Digits.{after_digits, digit_rows, digits, digits_value}
 use Rattle.ed_routines.proofs.Digits.{digits_law}
-use Rattle.ed_laws.proofs.Making.Decimals.{are}
-use Rattle.ed_laws.proofs.Making.ReadAndPrint.{rest_is, rows_are}
+use Rattle.ed_sources.proofs.Decimals.{are}
+use Rattle.ed_sources.proofs.ReadAndPrint.{rest_is, rows_are}
 use Rattle.ed_routines.specs.Returns.{IsOther}
 use Rattle.ed_routines.specs.Standing.{Stands, caller}
 use Rattle.ed_routines.proofs.Called.{IsCalled, called as routine_called}

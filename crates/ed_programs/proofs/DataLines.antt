@@ -18,8 +18,8 @@ use Rattle.ed_syntax.specs.Private.SourceReading.{line_of}
 use Rattle.ed_syntax.specs.declared.program.Statement.TheVariants as statements
 use Rattle.ed_syntax.proofs.PartLemmas.{quote_parts}
 use Rattle.ed_routines.specs.Digits.{digits}
-use Rattle.ed_laws.proofs.Making.Decimals.{are, both, decimal_is, few_bytes, line_bytes, no_quotes, row_bytes, rows_are}
-use Rattle.ed_laws.proofs.Making.Decimals.{written}
+use Rattle.ed_sources.proofs.Decimals.{are, both, decimal_is, few_bytes, line_bytes, no_quotes, row_bytes, rows_are}
+use Rattle.ed_sources.proofs.Decimals.{written}
 use Rattle.ed_programs.proofs.SourceLines.{Marked, by_parts}
 
 -- numbers in decimal, each with an F (70), which ends it

@@ -13,7 +13,7 @@ use Rattle.ed_machine.proofs.Kit.Sums.{Remains}
 use Rattle.ed_machine.proofs.Kit.Shifts.{LD, L1F, L512F}
 use Rattle.ed_machine.proofs.Kit.Paths.{Path, leads, stay, on, prints, followed}
 use Rattle.ed_routines.proofs.Journeys.{ComesToStop, along, stop_after, to_stop}
-use Rattle.ed_laws.proofs.Making.Entries.{frame_at}
+use Rattle.ed_sources.proofs.Entries.{frame_at}
 use Rattle.ed_programs.proofs.Kit.{calls_own, counted, to}
 use Rattle.ed_programs.specs.Decimals.{carries, tenfold}
 use Rattle.ed_programs.proofs.DecimalsPass.{after, after_long, line_codes, line_left, line_long, line_orders}

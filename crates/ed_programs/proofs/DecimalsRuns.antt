@@ -11,8 +11,8 @@ use Rattle.ed_printer.specs.Paper.{paper}
 use Rattle.ed_words.specs.Texts.{Text}
 use Rattle.std.specs.Prelude.{map}
 use Rattle.ed_routines.proofs.Journeys.{ComesToStop}
-use Rattle.ed_laws.proofs.Making.AtEntry.{all_words}
-use Rattle.ed_laws.proofs.Making.Entries.{moment_at}
+use Rattle.ed_sources.proofs.AtEntry.{all_words}
+use Rattle.ed_sources.proofs.Entries.{moment_at}
 use Rattle.ed_programs.specs.declared.decimals.TheConstants.{DECIMALS}
 use Rattle.ed_programs.specs.Decimals.{decimals_orders, decimals_prints, decimals_text}
 use Rattle.ed_programs.specs.Programs.{SourceRuns}

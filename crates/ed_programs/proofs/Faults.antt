@@ -11,7 +11,7 @@ use Rattle.ed_syntax.specs.declared.program.Statement.TheVariants as statements
 use Rattle.ed_symbols.specs.declared.symbols.Definition.{Definition}
 use Rattle.ed_symbols.specs.Names.{place_on}
 use Rattle.ed_symbols.specs.Places.{even_from, routine_places}
-use Rattle.ed_laws.proofs.Making.Said.{said}
+use Rattle.ed_sources.proofs.Said.{said}
 use Rattle.ed_link.specs.Private.FaultTests.{cause_of, sets}
 use Rattle.ed_link.proofs.Extents.{ExtentList, apart, are_below, counter, fits_store, past}
 

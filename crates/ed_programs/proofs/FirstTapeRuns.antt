@@ -19,7 +19,7 @@ use Rattle.ed_printer.specs.Paper.{paper}
 use Rattle.ed_run.specs.declared.settings.Settings.{Settings}
 use Rattle.ed_report.specs.Notes.{at_after}
 use Rattle.ed_routines.proofs.Journeys.{ComesToStop}
-use Rattle.ed_laws.proofs.Making.Stops.{ran_to_stop}
+use Rattle.ed_sources.proofs.Stops.{ran_to_stop}
 use Rattle.ed_answers.specs.declared.input.TheConstants.{INPUT_BYTES}
 use Rattle.ed_answers.specs.Answer.{OfReading, exactly}
 use Rattle.ed_answers.specs.FirstEntry.{cost1}
@@ -27,7 +27,7 @@ use Rattle.ed_answers.specs.FirstOrders.{first_state1, tape1_outcome}
 use Rattle.ed_answers.specs.Outcome.{Outcome}
 use Rattle.ed_answers.specs.Runs.{paper_room, ran_outcome}
 use Rattle.ed_answers.proofs.FirstEntries.{runs_from_31}
-use Rattle.ed_laws.proofs.Stopped.{answered}
+use Rattle.ed_sources.proofs.Stopped.{answered}
 use Rattle.ed_programs.specs.FirstTapes.{FirstTapePrints, FirstTapeRuns}
 use Rattle.ed_programs.specs.Programs.{GivesProgram}
 use Rattle.ed_programs.specs.declared.refusal.Refusal.{Refusal}

@@ -14,8 +14,8 @@ use Rattle.ed_routines.specs.Catalogue.{print, read, with_h}
 use Rattle.ed_routines.specs.Digits.{digits, print_orders}
 use Rattle.ed_routines.proofs.Digits.{few_digits}
 use Rattle.ed_routines.proofs.Journeys.{ComesToStop}
-use Rattle.ed_laws.proofs.Making.AtEntry.{all_words}
-use Rattle.ed_laws.proofs.Making.Entries.{frame_at, moment_at}
+use Rattle.ed_sources.proofs.AtEntry.{all_words}
+use Rattle.ed_sources.proofs.Entries.{frame_at, moment_at}
 use Rattle.ed_programs.specs.Fraction.{figure_orders, fraction_orders, fraction_prints, fraction_data, fraction_pieces}
 use Rattle.ed_programs.specs.Fraction.{fraction_text}
 use Rattle.ed_programs.specs.Programs.{SourceRuns}

@@ -16,7 +16,7 @@ use Rattle.ed_printer.specs.declared.printer.Shift.TheVariants.{Figures}
 use Rattle.ed_routines.specs.Digits.{digits, print_orders}
 use Rattle.ed_routines.proofs.Digits.{few_digits}
 use Rattle.ed_maths.specs.Quotients.{divide_orders}
-use Rattle.ed_laws.proofs.Making.Papers.{number_shown}
+use Rattle.ed_sources.proofs.Papers.{number_shown}
 use Rattle.ed_programs.specs.Fraction.{figure, figure_orders, figures}
 use Rattle.ed_programs.proofs.Changes.{HasRead, reads_number}
 use Rattle.ed_programs.proofs.DataLines.{number_rows}

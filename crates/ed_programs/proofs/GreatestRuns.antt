@@ -16,9 +16,9 @@ use Rattle.ed_routines.specs.Catalogue.{print, with_h}
 use Rattle.ed_routines.specs.Digits.{digits, print_orders}
 use Rattle.ed_routines.proofs.Digits.{few_digits}
 use Rattle.ed_routines.proofs.Journeys.{ComesToStop}
-use Rattle.ed_laws.proofs.Making.AtEntry.{all_words, have_places, placed, word_at}
-use Rattle.ed_laws.proofs.Making.Entries.{frame_at, moment_at}
-use Rattle.ed_laws.proofs.Making.Papers.{digits_printed}
+use Rattle.ed_sources.proofs.AtEntry.{all_words, have_places, placed, word_at}
+use Rattle.ed_sources.proofs.Entries.{frame_at, moment_at}
+use Rattle.ed_sources.proofs.Papers.{digits_printed}
 use Rattle.ed_programs.specs.Greatest.{greatest_of, greatest_orders, greatest_prints, greatest_pieces, greatest_text}
 use Rattle.ed_programs.specs.Greatest.{rises}
 use Rattle.ed_programs.specs.Programs.{SourceRuns}

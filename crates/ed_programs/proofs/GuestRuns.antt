@@ -19,12 +19,12 @@ use Rattle.ed_run.specs.declared.settings.Settings.{Settings}
 use Rattle.ed_checker.specs.Checker.{checked_codes, checked_orders, guest, planting_place}
 use Rattle.ed_checker.specs.Laws.{HasGuest}
 use Rattle.ed_checker.proofs.Follow.{checker_law}
-use Rattle.ed_laws.proofs.Making.CheckedPaper.{checks_to_stop}
-use Rattle.ed_laws.proofs.Making.Stops.{comes_to_stop}
+use Rattle.ed_sources.proofs.CheckedPaper.{checks_to_stop}
+use Rattle.ed_sources.proofs.Stops.{comes_to_stop}
 use Rattle.ed_answers.specs.Headline.{RunsFromEntry}
 use Rattle.ed_answers.specs.Sources.{OfSource, run_outcome}
 use Rattle.ed_answers.proofs.Sources.{accepted_is, headline}
-use Rattle.ed_laws.proofs.Stopped.{stopped_outcome}
+use Rattle.ed_sources.proofs.Stopped.{stopped_outcome}
 use Rattle.ed_programs.specs.Guests.{ChecksGuest, StopsAtZ, EachGuestIsChecked, EntersChecker}
 use Rattle.ed_programs.specs.Guests.{checker_base, entry_guest}
 use Rattle.ed_programs.specs.Guests.{ChecksItsGuest, checked_text, stopped_orders}

@@ -28,8 +28,8 @@ use Rattle.ed_syntax.specs.declared.program.Line.{Line}
 use Rattle.ed_link.specs.Private.FaultTests.{fault}
 use Rattle.ed_answers.proofs.EachSource.{read_is_accepted}
 use Rattle.ed_checker.specs.Checker.{IsAllowed, IsAllowedOrder, checked_codes, checked_orders, orders_by}
-use Rattle.ed_top.specs.CallSources.{text_of_lines}
-use Rattle.ed_laws.proofs.Making.AtEntry.{placed, word_at}
+use Rattle.ed_sources.specs.CallSources.{text_of_lines}
+use Rattle.ed_sources.proofs.AtEntry.{placed, word_at}
 use Rattle.ed_printer.specs.Paper.{paper}
 use Rattle.ed_programs.specs.Guests.{EntersChecker, SampleIsChecked, StopsAtZ, entry_guest, use_check}
 use Rattle.ed_programs.specs.Guests.{stopped_orders}

@@ -13,7 +13,7 @@ use Rattle.ed_syntax.specs.Private.SourceReading.{Fault, and_lines, line_of, lin
 use Rattle.ed_syntax.specs.declared.program.Operand.TheVariants.{Label}
 use Rattle.ed_syntax.specs.declared.program.Statement.TheVariants.{Enter}
 use Rattle.ed_syntax.proofs.SourceLaws.{lines_are_read, say_is_read}
-use Rattle.ed_top.specs.CallSources.{text_of_lines}
+use Rattle.ed_sources.specs.CallSources.{text_of_lines}
 use Rattle.ed_programs.specs.Guests.{EntersChecker, checked_text, use_check}
 use Rattle.ed_programs.proofs.SourceLines.{Says, ends, said_lines, says}
 use Rattle.ed_answers.specs.declared.input.TheConstants.{INPUT_BYTES}

@@ -19,8 +19,8 @@ use Rattle.ed_link.specs.Private.FaultTests.{extent, fault, fault_from, missing,
 use Rattle.ed_link.specs.Linked.{symbols_of, linked_words}
 use Rattle.ed_machine.proofs.Kit.Places.{IsOutside}
 use Rattle.ed_routines.proofs.Lines.{newline_line}
-use Rattle.ed_laws.proofs.Making.Blocks.{order_at}
-use Rattle.ed_laws.proofs.Making.Said.{order, said, stop}
+use Rattle.ed_sources.proofs.Blocks.{order_at}
+use Rattle.ed_sources.proofs.Said.{order, said, stop}
 use Rattle.ed_programs.specs.Hello.{EachTextIsPrinted, IsRows, hello_data, hello_orders, hello_pieces, hello_prints}
 use Rattle.ed_programs.specs.Hello.{hello_rows}
 use Rattle.ed_programs.specs.Hello.{hello_text, is_capital, of_letters}

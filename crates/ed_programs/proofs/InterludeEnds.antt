@@ -31,7 +31,7 @@ use Rattle.ed_machine.proofs.Kit.Standing.{Holds, filled, opens}
 use Rattle.ed_machine.proofs.Kit.Window.{patched}
 use Rattle.ed_initial.proofs.Starts.{all_fit}
 use Rattle.ed_routines.proofs.Journeys.{ComesToStop, along, to_stop}
-use Rattle.ed_laws.proofs.Making.Decimals.{among, numbers}
+use Rattle.ed_sources.proofs.Decimals.{among, numbers}
 use Rattle.ed_programs.proofs.InterludeLoads.{from_return, interlude_note, program_note, program_placed}
 use Rattle.ed_programs.proofs.TwoPartsRuns.{IsAway, away, away_to_stop}
 

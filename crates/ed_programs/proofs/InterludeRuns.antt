@@ -28,8 +28,8 @@ use Rattle.ed_notation.specs.Spellings.{canonical, canonicals, digits_of}
 use Rattle.ed_notation.proofs.Steps.{plain}
 use Rattle.ed_initial.specs.Entry.{Comes, first_state}
 use Rattle.ed_interlude.specs.Returned.{ComesBack, directive}
-use Rattle.ed_top.specs.CallSources.{text_of_lines}
-use Rattle.ed_laws.proofs.Making.Decimals.{decimal_is, few_bytes, written}
+use Rattle.ed_sources.specs.CallSources.{text_of_lines}
+use Rattle.ed_sources.proofs.Decimals.{decimal_is, few_bytes, written}
 use Rattle.ed_programs.specs.Interlude.{interlude_front, interlude_line, interlude_parts, interlude_prints}
 use Rattle.ed_programs.specs.Interlude.{interlude_rest}
 use Rattle.ed_programs.specs.Interlude.{interlude_room, interlude_text}

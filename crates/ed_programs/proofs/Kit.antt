@@ -30,10 +30,10 @@ pub use Rattle.ed_routines.proofs.Lines.{print_line}
 use Rattle.std.specs.Prelude.{◌&&◌}
 use Rattle.std.proofs.lemmas.Bool.{and_parts}
 use Rattle.ed_words.specs.declared.order_words.TheConstants.{A_F, G_F, O_F}
-use Rattle.ed_laws.proofs.Making.AtEntry.{has_image, have_places, placed}
-pub use Rattle.ed_laws.proofs.Making.AtEntry.{all_words}
-pub use Rattle.ed_laws.proofs.Making.Entries.{frame_at, moment_at}
-pub use Rattle.ed_laws.proofs.Making.Papers.{digits_printed, number_shown}
+use Rattle.ed_sources.proofs.AtEntry.{has_image, have_places, placed}
+pub use Rattle.ed_sources.proofs.AtEntry.{all_words}
+pub use Rattle.ed_sources.proofs.Entries.{frame_at, moment_at}
+pub use Rattle.ed_sources.proofs.Papers.{digits_printed, number_shown}
 pub use Rattle.ed_programs.specs.Programs.{SourceRuns}
 pub use Rattle.ed_programs.proofs.Changes.{HasRead, reads_number}
 pub use Rattle.ed_programs.proofs.DataLines.{are_small, data_mark, number_rows}

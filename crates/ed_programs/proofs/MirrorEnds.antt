@@ -18,8 +18,8 @@ use Rattle.ed_machine.proofs.Kit.Window.{patched}
 use Rattle.ed_run.specs.declared.settings.Settings.{Settings}
 use Rattle.ed_initial.specs.Entry.{first_state}
 use Rattle.ed_routines.proofs.Journeys.{ComesToStop}
-use Rattle.ed_laws.proofs.Making.Decimals.{numbers}
-use Rattle.ed_laws.proofs.Making.Entries.{is_met, moment_at}
+use Rattle.ed_sources.proofs.Decimals.{numbers}
+use Rattle.ed_sources.proofs.Entries.{is_met, moment_at}
 use Rattle.ed_laws.specs.TapeEntries.{tape_state}
 use Rattle.ed_programs.proofs.MirrorProgram.{Given, Work, cells, entering, mirror_stops}
 use Rattle.ed_programs.proofs.TapeRuns.{Arrives, holds_in}

@@ -20,7 +20,7 @@ use Rattle.ed_printer.specs.declared.printer.Shift.TheVariants.{Letters}
 use Rattle.ed_run.specs.declared.settings.Settings.{Settings}
 use Rattle.ed_syntax.specs.Private.Grammar.{row as code_of, spells}
 use Rattle.ed_routines.specs.Digits.{digits}
-use Rattle.ed_laws.proofs.Making.Decimals.{decimal_is, few_bytes, written}
+use Rattle.ed_sources.proofs.Decimals.{decimal_is, few_bytes, written}
 use Rattle.ed_programs.specs.Hello.{hello_rows, is_capital}
 use Rattle.ed_programs.specs.Mirror.{mirror_cost, mirror_orders, mirror_pieces, mirror_prints, mirror_text}
 use Rattle.ed_programs.specs.Tapes.{TapeRuns}

@@ -19,9 +19,9 @@ use Rattle.ed_syntax.specs.Private.SourceReading.{line_of}
 use Rattle.ed_syntax.specs.declared.program.Statement.TheVariants as statements
 use Rattle.ed_syntax.proofs.PartLemmas.{run_parts}
 use Rattle.ed_routines.specs.Digits.{digits}
-use Rattle.ed_laws.proofs.Making.Decimals.{are, decimal_is, digit_bytes, few_bytes, line_bytes, run_bytes, some_digit}
-use Rattle.ed_laws.proofs.Making.Decimals.{value_is, written}
-use Rattle.ed_laws.proofs.Making.Said.{a_number, label_parts, number_parts}
+use Rattle.ed_sources.proofs.Decimals.{are, decimal_is, digit_bytes, few_bytes, line_bytes, run_bytes, some_digit}
+use Rattle.ed_sources.proofs.Decimals.{value_is, written}
+use Rattle.ed_sources.proofs.Said.{a_number, label_parts, number_parts}
 use Rattle.ed_programs.proofs.SourceLines.{Marked, by_parts}
 
 -- what the front of such a line makes of it, whatever bytes follow: its label and the parts before `word`

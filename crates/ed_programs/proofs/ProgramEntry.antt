@@ -12,8 +12,8 @@ use Rattle.ed_link.specs.Linked.{entry_of}
 use Rattle.ed_answers.specs.EntryState.{entry_state}
 use Rattle.ed_machine.proofs.Kit.Frames.{state}
 use Rattle.ed_machine.proofs.Kit.Window.{patched, patched_self}
-use Rattle.ed_laws.proofs.Making.AtEntry.{all_words, has_image, have_places, placed, word_at}
-use Rattle.ed_laws.proofs.Making.Entries.{frame_at, moment_at, routine_at}
+use Rattle.ed_sources.proofs.AtEntry.{all_words, has_image, have_places, placed, word_at}
+use Rattle.ed_sources.proofs.Entries.{frame_at, moment_at, routine_at}
 use Rattle.ed_routines.proofs.Journeys.{ComesToStop, HasRoutine}
 
 -- the n words from location a upwards

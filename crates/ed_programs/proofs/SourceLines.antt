@@ -17,8 +17,8 @@ use Rattle.ed_syntax.specs.declared.fault.SourceCause.{SourceCause}
 use Rattle.ed_syntax.specs.declared.fault.SourceCause.TheVariants.{BadByte, LongLine, TooManyLines}
 use Rattle.ed_syntax.specs.declared.program.Line.{Line}
 use Rattle.ed_syntax.specs.declared.program.Statement.{Statement}
-use Rattle.ed_top.specs.CallSources.{text_of_lines}
-use Rattle.ed_laws.proofs.Making.TextLines.{lines_back}
+use Rattle.ed_sources.specs.CallSources.{text_of_lines}
+use Rattle.ed_sources.proofs.TextLines.{lines_back}
 
 -- what the lines from a number upwards say
 pub data Says (two : Bool) : ℕ → List Text → List Line → Type 0 where

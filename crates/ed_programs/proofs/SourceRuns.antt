@@ -15,16 +15,16 @@ use Rattle.ed_link.specs.Private.FaultTests.{fault}
 use Rattle.ed_answers.proofs.EachSource.{read_is_accepted}
 use Rattle.ed_answers.specs.EntryState.{entry_state}
 use Rattle.ed_routines.proofs.Journeys.{ComesToStop}
-use Rattle.ed_top.specs.CallSources.{text_of_lines, woven_text}
+use Rattle.ed_sources.specs.CallSources.{text_of_lines, woven_text}
 use Rattle.ed_answers.specs.Headline.{RunsFromEntry}
 use Rattle.ed_answers.specs.Sources.{OfSource, run_outcome}
 use Rattle.ed_answers.proofs.Sources.{accepted_is, headline}
-use Rattle.ed_laws.proofs.Stopped.{stopped_outcome}
+use Rattle.ed_sources.proofs.Stopped.{stopped_outcome}
 use Rattle.ed_programs.specs.Programs.{SourceRuns}
 use Rattle.ed_programs.proofs.Answered.{are_short, is_due}
 use Rattle.ed_programs.proofs.SourceLines.{Marked, are_read, lines_said, marked_texts, said_fine, source_read}
 use Rattle.ed_programs.proofs.SourceLines.{source_said, texts_at}
-use Rattle.ed_laws.proofs.Making.WovenLines.{unended, woven_is, woven_lines}
+use Rattle.ed_sources.proofs.WovenLines.{unended, woven_is, woven_lines}
 
 -- a source that is read as these lines, has no fault and reaches its stop
 pub source_runs : (s : Settings) (texts : List Text) {lines : List Line} {k at : ℕ} {printed : List ℕ}

@@ -26,14 +26,14 @@ use Rattle.ed_machine.proofs.Kit.Standing.{Holds}
 use Rattle.ed_run.specs.declared.settings.Settings.{Settings}
 use Rattle.ed_initial.proofs.Starts.{first_store, starts}
 use Rattle.ed_routines.proofs.Journeys.{ComesToStop}
-use Rattle.ed_laws.proofs.Making.Stops.{ran_to_stop}
-use Rattle.ed_laws.proofs.Making.Decimals.{among, numbers}
-use Rattle.ed_laws.proofs.Making.Entries.{is_met, meets_of}
+use Rattle.ed_sources.proofs.Stops.{ran_to_stop}
+use Rattle.ed_sources.proofs.Decimals.{among, numbers}
+use Rattle.ed_sources.proofs.Entries.{is_met, meets_of}
 use Rattle.ed_answers.specs.Answer.{OfReading, exactly}
 use Rattle.ed_answers.specs.Tapes.{first_note, tape_outcome}
 use Rattle.ed_answers.specs.Runs.{paper_room, ran_outcome, run_of, with_post_mortem}
 use Rattle.ed_laws.specs.TapeEntries.{tape_state}
-use Rattle.ed_laws.proofs.Stopped.{answered, nothing_after}
+use Rattle.ed_sources.proofs.Stopped.{answered, nothing_after}
 use Rattle.ed_programs.specs.Programs.{GivesProgram}
 use Rattle.ed_programs.specs.Tapes.{TapePrints, TapeRuns}
 use Rattle.ed_programs.specs.declared.refusal.Refusal.{Refusal}

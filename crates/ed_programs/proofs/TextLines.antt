@@ -24,10 +24,10 @@ use Rattle.ed_syntax.specs.declared.program.Statement.{Statement}
 use Rattle.ed_syntax.specs.declared.program.Statement.TheVariants as statements
 use Rattle.ed_syntax.proofs.PartLemmas.{quote_parts, run_parts}
 use Rattle.ed_routines.specs.Digits.{digits}
-use Rattle.ed_laws.proofs.Making.Decimals.{among, are, both, decimal_is, digit_bytes, few_bytes, line_bytes, run_bytes}
-use Rattle.ed_laws.proofs.Making.Decimals.{some_digit}
-use Rattle.ed_laws.proofs.Making.Decimals.{value_is, written}
-use Rattle.ed_laws.proofs.Making.Said.{a_number}
+use Rattle.ed_sources.proofs.Decimals.{among, are, both, decimal_is, digit_bytes, few_bytes, line_bytes, run_bytes}
+use Rattle.ed_sources.proofs.Decimals.{some_digit}
+use Rattle.ed_sources.proofs.Decimals.{value_is, written}
+use Rattle.ed_sources.proofs.Said.{a_number}
 use Rattle.ed_programs.specs.Hello.{hello_rows, is_row_byte}
 use Rattle.ed_programs.proofs.NumberLines.{is_short_label}
 use Rattle.ed_programs.proofs.SourceLines.{Marked, by_parts}

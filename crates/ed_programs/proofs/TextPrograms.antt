@@ -26,11 +26,11 @@ use Rattle.ed_link.specs.Private.FaultTests.{extent, fault_from}
 use Rattle.ed_answers.specs.EntryState.{entry_state}
 use Rattle.ed_routines.specs.Catalogue.{newline}
 use Rattle.ed_routines.proofs.Journeys.{HasRoutine}
-use Rattle.ed_laws.proofs.Making.AtEntry.{have_places}
-use Rattle.ed_laws.proofs.Making.Blocks.{beside_block, block_places, in_block, last_append, last_at, last_is, or_else}
-use Rattle.ed_laws.proofs.Making.Blocks.{word_of}
-use Rattle.ed_laws.proofs.Making.Entries.{frame_at}
-use Rattle.ed_laws.proofs.Making.Said.{said}
+use Rattle.ed_sources.proofs.AtEntry.{have_places}
+use Rattle.ed_sources.proofs.Blocks.{beside_block, block_places, in_block, last_append, last_at, last_is, or_else}
+use Rattle.ed_sources.proofs.Blocks.{word_of}
+use Rattle.ed_sources.proofs.Entries.{frame_at}
+use Rattle.ed_sources.proofs.Said.{said}
 use Rattle.ed_link.proofs.Extents.{ExtentList, are_below, counter, none_later, one_more, past}
 use Rattle.ed_programs.proofs.Faults.{block_sound, enter_sound, use_sound}
 

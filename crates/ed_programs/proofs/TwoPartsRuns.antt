@@ -37,7 +37,7 @@ use Rattle.ed_initial.proofs.Starts.{first_store, starts}
 use Rattle.ed_routines.proofs.Journeys.{ComesToStop, stop_after}
 use Rattle.ed_report.specs.Entries.{entry_line, returned_line}
 use Rattle.ed_report.specs.Notes.{at_after}
-use Rattle.ed_laws.proofs.Making.Stops.{ran_to_stop}
+use Rattle.ed_sources.proofs.Stops.{ran_to_stop}
 use Rattle.ed_interlude.specs.Parts.{ComesHome, Concludes, Finishes, GoesBack, IsUnderWay, LeadsTo, RunsOn, TapePart}
 use Rattle.ed_interlude.specs.Parts.{IsReportOfTape}
 use Rattle.ed_interlude.specs.Parts.{PartsReport, entry_done, entry_report, finished, first_part, part_after}
@@ -50,7 +50,7 @@ use Rattle.ed_answers.specs.Outcome.{Outcome}
 use Rattle.ed_answers.specs.Tapes.{tape_outcome}
 use Rattle.ed_top.specs.Parts.{IsInParts}
 use Rattle.ed_answers.specs.Runs.{paper_room, ran_outcome, with_post_mortem}
-use Rattle.ed_laws.proofs.Stopped.{answered, nothing_after}
+use Rattle.ed_sources.proofs.Stopped.{answered, nothing_after}
 use Rattle.ed_programs.specs.Programs.{GivesProgram}
 use Rattle.ed_programs.specs.TwoParts.{TwoParts, TwoPartsPrint, TwoPartsRun, orders_to_program, orders_to_return}
 use Rattle.ed_programs.specs.TwoParts.{orders_to_stop, two_parts_lines, two_parts_note}

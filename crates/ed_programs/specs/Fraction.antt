@@ -6,7 +6,7 @@ use Rattle.std.specs.Fmt.{decimal}
 use Rattle.ed_words.specs.Texts.{Text}
 use Rattle.ed_routines.specs.Digits.{digits, print_orders}
 use Rattle.ed_maths.specs.Quotients.{divide_orders}
-use Rattle.ed_top.specs.CallSources.{woven_text}
+use Rattle.ed_sources.specs.CallSources.{woven_text}
 use Rattle.ed_programs.specs.declared.fraction.TheConstants.{FRACTION}
 use Rattle.ed_programs.specs.declared.refusal.Refusal.{Refusal}
 use Rattle.ed_programs.specs.declared.refusal.Refusal.TheVariants.{Divisor}

@@ -21,7 +21,7 @@ use Rattle.ed_answers.specs.Refusals.{IsAcceptedAs}
 use Rattle.ed_answers.specs.EntryState.{entry_state}
 use Rattle.ed_checker.specs.Checker.{IsAllowed, checked_codes, checked_orders, guest, planting_place, saving_orders}
 use Rattle.ed_checker.specs.Laws.{IsFollowed, StopsAfter}
-use Rattle.ed_top.specs.CallSources.{text_of_lines}
+use Rattle.ed_sources.specs.CallSources.{text_of_lines}
 use Rattle.ed_answers.specs.Runs.{paper_room}
 use Rattle.ed_programs.specs.Programs.{SourceRuns}
 use Rattle.ed_programs.specs.declared.refusal.Refusal.{Refusal}

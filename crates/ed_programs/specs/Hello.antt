@@ -8,7 +8,7 @@ use Rattle.ed_codes.specs.Spelling.{row_of}
 use Rattle.ed_syntax.specs.Private.Grammar.{row, spells}
 use Rattle.ed_printer.specs.Paper.{paper}
 use Rattle.ed_run.specs.declared.settings.Settings.{Settings}
-use Rattle.ed_top.specs.CallSources.{woven_text}
+use Rattle.ed_sources.specs.CallSources.{woven_text}
 use Rattle.ed_programs.specs.Programs.{SourceRuns}
 use Rattle.ed_programs.specs.declared.hello.TheConstants.{HELLO}
 use Rattle.ed_programs.specs.declared.refusal.Refusal.{Refusal}

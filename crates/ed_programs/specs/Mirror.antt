@@ -3,7 +3,7 @@ use Rattle.std.specs.Prelude.{ℕ, ◌+◌, ◌*◌, List, [], ◌∷◌, length
 use Rattle.std.specs.Prelude.{Option}
 use Rattle.std.specs.Fmt.{decimal}
 use Rattle.ed_words.specs.Texts.{Text}
-use Rattle.ed_top.specs.CallSources.{woven_text}
+use Rattle.ed_sources.specs.CallSources.{woven_text}
 use Rattle.ed_programs.specs.Hello.{letters_refusal}
 use Rattle.ed_programs.specs.Programs.{spread_pieces}
 use Rattle.ed_programs.specs.declared.mirror.TheConstants.{MIRROR}

@@ -1,7 +1,7 @@
 -- The tape of May 1949 `examples/squares.tape1`, and what it prints.
 use Rattle.std.specs.Prelude.{ℕ, ◌+◌, ◌*◌, ◌/◌, ◌%◌, List, [], ◌∷◌, ◌++◌, flat_map, map, sum_by}
 use Rattle.ed_words.specs.Texts.{Text}
-use Rattle.ed_top.specs.CallSources.{woven_text}
+use Rattle.ed_sources.specs.CallSources.{woven_text}
 use Rattle.ed_programs.specs.declared.squares.TheConstants.{SQUARES}
 
 -- the whole tape

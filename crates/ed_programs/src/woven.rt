@@ -2,11 +2,11 @@
 
 ghost use Rattle.std.specs.Prelude.{◌≡◌, ◌+◌, None, length, map};
 ghost use Rattle.std.specs.Fmt.{decimal};
-ghost use Rattle.ed_top.specs.CallSources.{woven_text};
+ghost use Rattle.ed_sources.specs.CallSources.{woven_text};
 ghost use Rattle.ed_programs.specs.Programs.{GivesProgram};
 
 use crate::refusal::Refusal;
-use ed_top::woven;
+use ed_sources::woven;
 use ed_words::NoMemory;
 use std::alloc::Global;
 

@@ -1,5 +1,4 @@
 mod Made
-mod DemoTexts
 mod FirstParts
 pub mod Scripts
 mod InParts

@@ -21,8 +21,8 @@ use Rattle.ed_stepper.proofs.ScriptLaws.{one_meaning}
 use Rattle.ed_stepper.specs.declared.inputs.TextKind.{TextKind}
 use Rattle.ed_stepper.specs.declared.inputs.TextKind.TheVariants as kinds
 use Rattle.ed_link.specs.Tapes.{tape}
-use Rattle.ed_top.specs.CallSources.{call_text}
-use Rattle.ed_top.specs.DemoSources.{demo_text}
+use Rattle.ed_sources.specs.CallSources.{call_text}
+use Rattle.ed_sources.specs.DemoSources.{demo_text}
 use Rattle.ed_answers.proofs.Sources.{some_outcome, source_outcome}
 use Rattle.ed_top.specs.Traces.{trace_outcome}
 use Rattle.ed_answers.proofs.Replies.{exactly_one}

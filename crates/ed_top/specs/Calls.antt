@@ -1,6 +1,6 @@
 -- The answer of `call` (this project's own rule).
 use Rattle.ed_library.specs.declared.call.Call.{Call}
-use Rattle.ed_top.specs.CallSources.{call_text}
+use Rattle.ed_sources.specs.CallSources.{call_text}
 use Rattle.ed_words.specs.Texts.{Text}
 use Rattle.ed_run.specs.declared.settings.Settings.{Settings}
 use Rattle.ed_answers.specs.Answer.{Answer, of_made}

@@ -1,7 +1,7 @@
 -- The answer of `demo` (this project's own rule).
 use Rattle.std.specs.Prelude.{ℕ}
 use Rattle.ed_run.specs.declared.settings.Settings.{Settings}
-use Rattle.ed_top.specs.DemoSources.{demo_text}
+use Rattle.ed_sources.specs.DemoSources.{demo_text}
 use Rattle.ed_answers.specs.Answer.{Answer}
 use Rattle.ed_top.specs.Calls.{of_made_source}
 

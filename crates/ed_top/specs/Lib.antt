@@ -1,5 +1,3 @@
-pub mod CallSources
-pub mod DemoSources
 pub mod Traces
 pub mod Parts
 pub mod Scripts

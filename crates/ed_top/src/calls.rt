@@ -3,7 +3,7 @@ ghost use Rattle.ed_run.specs.SettingRanges.{AreSettingsInRange};
 ghost use Rattle.ed_top.specs.Calls.{call_answer};
 ghost use Rattle.ed_answers.specs.Replies.{Replies};
 
-use crate::sources::call_source;
+use ed_sources::call_source;
 use ed_answers::{Rejection, Reply, run};
 use ed_library::Call;
 use ed_run::Settings;

@@ -3,7 +3,7 @@ ghost use Rattle.ed_run.specs.SettingRanges.{AreSettingsInRange, IsFromTo};
 ghost use Rattle.ed_top.specs.Demos.{demo_answer};
 ghost use Rattle.ed_answers.specs.Replies.{Replies};
 
-use crate::sources::demo_source;
+use ed_sources::demo_source;
 use ed_answers::{Rejection, Reply, run};
 use ed_run::Settings;
 use std::alloc::Global;

@@ -3,8 +3,7 @@
 //! Contract: the contract of `edsac`. It is exact for every list of words and every input, over any source and any two
 //! sinks: the status and both texts are those of the definition, and the answers for a fault or for no memory come with
 //! their cause and with what was written. The definition gives each input one outcome. Further clauses are the headline
-//! and the laws between the commands. The sources of calls and of the demonstration are exact to the byte, and accepted
-//! for every number. Depends on all crates below.
+//! and what `call` prints. The laws between the commands stand above, in `ed_laws`. Depends on all crates below.
 #![tactic(auto)]
 
 mod calls;
@@ -14,9 +13,7 @@ mod devices;
 mod library;
 mod parts;
 mod program;
-mod sources;
 mod step;
 mod trace;
 
 pub use program::{edsac, report_no_memory};
-pub use sources::{call_source, demo_source, woven};

@@ -5,6 +5,7 @@ ghost use Rattle.ed_top.specs.Clause.{ProgramEnded, WritesLastLine, device};
 ghost use Rattle.ed_top.specs.Complete.{EachRunIsComplete};
 ghost use Rattle.ed_answers.specs.Headline.{Headline};
 ghost use Rattle.ed_answers.specs.Outcome.{no_memory};
+ghost use Rattle.ed_sources.specs.CallRuns.{EachCallRuns};
 ghost use Rattle.ed_top.specs.Output.{EachLineHasOneOutcome, answer, output};
 
 use crate::commands::{carry_out, reads_input};
@@ -40,6 +41,7 @@ pub fn edsac<S: Source, K: Sink, L: Sink>(
     ensures law { EachLineHasOneOutcome }
     ensures complete { EachRunIsComplete }
     ensures headline { Headline }
+    ensures calls { EachCallRuns }
 {
     match read_words(alloc, words) {
         Ok(command) => run_command(alloc, command, source, out, note),

@@ -1,7 +1,7 @@
 use Rattle.std.proofs.Common.{◌≡◌, ◌+◌, suc, [], ◌∷◌, arith, length, ap, rules, subst, sym}
 use Rattle.std.specs.Fmt.{decimal}
 use Rattle.ed_words.specs.Texts.{Text}
-use Rattle.ed_top.specs.CallSources.{woven_text}
+use Rattle.ed_sources.specs.CallSources.{woven_text}
 use Rattle.ed_programs.specs.Programs.{GivesProgram}
 use Rattle.ed_programs.specs.Hello.{hello_pieces, hello_text, of_letters}
 use Rattle.ed_programs.proofs.Capitals.{AreLetters, are_letters}

@@ -1,5 +1,5 @@
 use Rattle.std.proofs.Common.{◌∙◌}
-use Rattle.ed_top.specs.CallSources.{call_text}
+use Rattle.ed_sources.specs.CallSources.{call_text}
 use Rattle.ed_answers.specs.Sources.{OfSource, run_outcome}
 use Rattle.ed_answers.proofs.Sources.{some_outcome}
 use Rattle.ed_top.proofs.Made.{made_replied, none_replied}

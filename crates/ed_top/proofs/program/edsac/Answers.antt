@@ -14,6 +14,7 @@ use Rattle.ed_top.proofs.Endings.{none_due, with_due, with_no_memory}
 use Rattle.ed_top.proofs.Completing.{each_complete}
 use Rattle.ed_top.proofs.OneOutcome.{line_once}
 use Rattle.ed_answers.proofs.Sources.{headline}
+use Rattle.ed_sources.proofs.CallRuns.{each_call_runs}
 use Rattle.ed_top.proofs.program.edsac.Goals as goal
 
 -- a program that ended as a command requires ended as the words that are that command require
@@ -36,6 +37,7 @@ returns-in-Ok g c =
       law = line_once;
       complete = each_complete;
       headline = headline;
+      calls = each_call_runs;
     }
 
 pub returns-in-Err-Usage : goal.returns-in-Err-Usage
@@ -50,6 +52,7 @@ returns-in-Err-Usage g c =
       law = line_once;
       complete = each_complete;
       headline = headline;
+      calls = each_call_runs;
     }
 
 pub returns-in-Err-Memory : goal.returns-in-Err-Memory
@@ -63,4 +66,5 @@ returns-in-Err-Memory g c =
       law = line_once;
       complete = each_complete;
       headline = headline;
+      calls = each_call_runs;
     }

@@ -1,0 +1,68 @@
+-- The words in the store at the entry of a source's program.
+use Rattle.std.proofs.Common.{◌≡◌, ℕ, ◌+◌, ◌<◌, ◌≤◌, ◌∙◌, arith, Bool, true, List, [], ◌∷◌}
+use Rattle.std.proofs.Common.{length, length-append, drop, nat_eq, nat_lt}
+use Rattle.std.specs.Prelude.{replicate, reverse, unwrap_or}
+use Rattle.std.specs.List.{list_all}
+use Rattle.std.proofs.lemmas.Bool.{and_parts}
+use Rattle.std.proofs.lemmas.List.{length-drop, length-replicate}
+use Rattle.ed_words.specs.declared.size.Size.{Size}
+use Rattle.ed_words.proofs.Numbers.{eq_of, lt_of}
+use Rattle.ed_store.specs.Cells.{short_at}
+use Rattle.ed_notation.specs.Checks.{ArePlaces}
+use Rattle.ed_notation.specs.Fold.{over, placed_at}
+use Rattle.ed_notation.proofs.Contents.{length-over}
+use Rattle.ed_library.specs.Images.{image_word}
+use Rattle.ed_library.specs.Routines.{place_count}
+use Rattle.ed_syntax.specs.declared.program.Line.{Line}
+use Rattle.ed_link.specs.Linked.{linked_words}
+use Rattle.ed_answers.specs.EntryState.{entry_state, loader_words}
+use Rattle.ed_answers.proofs.EntryWords.{entry_word}
+use Rattle.ed_routines.specs.Standing.{HasWord}
+use Rattle.ed_sources.proofs.Decimals.{among, numbers}
+
+-- the words that a source places, the last one first
+abbrev pub placed : List Line → List (ℕ × ℕ)
+placed lines = reverse (linked_words lines)
+
+-- whether each has a location of the store
+abbrev pub have_places : List (ℕ × ℕ) → Bool
+have_places ps = list_all (λ p. nat_lt p.0 1024) ps
+
+are_places : (ps : List (ℕ × ℕ)) → have_places ps ≡ true → ArePlaces ps
+are_places [] h = tt
+are_places (p ∷ ps) h = let q = and_parts (nat_lt p.0 1024) (have_places ps) h in
+    (lt_of p.0 1024 q.0, are_places ps q.1)
+
+-- whether the words of a routine are at a base
+abbrev pub has_image : List (ℕ × ℕ) → ℕ → ℕ → List ℕ → Bool
+has_image ps r base parameters =
+    list_all (λ i. nat_eq (unwrap_or (placed_at ps (base + i)) 0) (image_word r i base parameters))
+    (numbers 0 (place_count r))
+
+module _ (z : Size) (lines : List Line) where
+  abbrev zeros : List ℕ
+  zeros = replicate 1024 0
+
+  pub all_words : length (entry_state z lines).store.words ≡ 1024
+  all_words =
+      let e = length-append (loader_words lines) (drop 44 (over (placed lines) zeros)) in
+      let d = length-drop 44 (over (placed lines) zeros) in
+      let o = length-over (placed lines) zeros in
+      let r = length-replicate {A = ℕ} 1024 0 in
+      omega (arith, e, d, o, r)
+
+  module _ (fit : have_places (placed lines) ≡ true) where
+    -- a word above those of the Initial Orders
+    pub word_at : (a : ℕ) → 44 ≤ a → a < 1024
+        → short_at (entry_state z lines).store a ≡ unwrap_or (placed_at (placed lines) a) 0
+    word_at = entry_word lines (are_places (placed lines) fit)
+
+    pub image_at : {r base i : ℕ} {parameters : List ℕ} → has_image (placed lines) r base parameters ≡ true → 44 ≤ base
+        → base + place_count r ≤ 512 → i < place_count r → HasWord r parameters base (entry_state z lines) i
+    image_at {r} {base} {i} {parameters} test low high l = record {
+      has = λ free. word_at (base + i) (omega arith) (omega arith)
+          ∙ eq_of (unwrap_or (placed_at (placed lines) (base + i)) 0) (image_word r i base parameters)
+          (among (λ i. nat_eq (unwrap_or (placed_at (placed lines) (base + i)) 0) (image_word r i base parameters)) 0
+          (place_count r) i test
+          (omega arith) (omega arith));
+    }

@@ -1,0 +1,87 @@
+-- The sources of calls are accepted.
+use Rattle.std.proofs.Common.{◌≡◌, ℕ, ◌/◌, ◌%◌, ◌<◌, arith, true, None, List, refl, subst, lit≤, append-nil}
+use Rattle.std.specs.Prelude.{Ok}
+use Rattle.std.specs.Fmt.{decimal}
+use Rattle.std.specs.List.{list_all}
+use Rattle.ed_library.specs.declared.call.Call.TheVariants.{Print, Read, NewLine, Divide, Root, Check}
+use Rattle.ed_words.specs.Texts.{Text}
+use Rattle.ed_words.specs.declared.size.Size.{Size}
+use Rattle.ed_syntax.specs.declared.program.Line.{Line}
+use Rattle.ed_link.specs.Private.FaultTests.{fault}
+use Rattle.ed_answers.proofs.EachSource.{read_is_accepted}
+use Rattle.ed_syntax.specs.Parts.{is_line_byte}
+use Rattle.ed_syntax.specs.Private.SourceReading.{program_of}
+use Rattle.ed_library.specs.CallRanges.{IsDivisible}
+use Rattle.ed_sources.specs.CallSources.{call_text}
+use Rattle.ed_sources.proofs.CallTexts.{call_is, call_lines}
+use Rattle.ed_routines.specs.Digits.{digits}
+use Rattle.ed_sources.proofs.Decimals.{are, decimal_is, line_bytes}
+use Rattle.ed_sources.proofs.Faultless.{divide_faultless, newline_faultless, print_faultless}
+use Rattle.ed_sources.proofs.Faultless.{read_faultless, root_faultless, check_faultless}
+use Rattle.ed_sources.proofs.Said.{newline_lines, newline_says, print_lines, print_says}
+use Rattle.ed_sources.proofs.Said.{read_lines, read_says, with_end, check_lines, check_says}
+use Rattle.ed_sources.proofs.SaidMaths.{divide_lines, divide_says, root_lines, root_says}
+use Rattle.ed_sources.proofs.TextLines.{said_lines}
+
+-- ---- bytes of lines
+
+pub decimal_plain : (n : ℕ) → n < 65536 → list_all is_line_byte (decimal n) ≡ true
+decimal_plain n small =
+    subst (λ (bytes : Text). list_all is_line_byte bytes ≡ true) (decimal_is n small)
+    (line_bytes (digits n) (are n small))
+
+print_plain : (n : ℕ) → n < 65536 → list_all (list_all is_line_byte) (call_lines (Print n)) ≡ true
+print_plain n small = rw (append-nil (decimal n), decimal_plain n small) refl
+
+read_plain : (n : ℕ) → n < 65536 → list_all (list_all is_line_byte) (call_lines (Read n)) ≡ true
+read_plain n small = rw (with_end (decimal n) (decimal_plain n small)) refl
+
+divide_plain : (n by : ℕ) → n / 65536 < 65536 → n % 65536 < 65536 → by < 65536
+    → list_all (list_all is_line_byte) (call_lines (Divide n by)) ≡ true
+divide_plain n by h l b =
+    rw (
+      append-nil (decimal (n / 65536)),
+      append-nil (decimal (n % 65536)),
+      append-nil (decimal by),
+      decimal_plain (n / 65536) h,
+      decimal_plain (n % 65536) l,
+      decimal_plain by b,
+    ) refl
+
+root_plain : (n : ℕ) → n < 65536 → list_all (list_all is_line_byte) (call_lines (Root n)) ≡ true
+root_plain n small = rw (append-nil (decimal n), decimal_plain n small) refl
+
+check_plain : (n : ℕ) → n < 65536 → list_all (list_all is_line_byte) (call_lines (Check n)) ≡ true
+check_plain n small = rw (append-nil (decimal n), decimal_plain n small) refl
+
+-- ---- what the sources are read as
+
+pub print_read : (n : ℕ) → n < 65536 → program_of (call_text (Print n)) ≡ Ok (print_lines n)
+print_read n small =
+    call_is (Print n) (print_lines n) refl (print_plain n small) refl (said_lines (print_says n small) (lit≤ tt))
+
+pub read_read : (n : ℕ) → n < 65536 → program_of (call_text (Read n)) ≡ Ok (read_lines n)
+read_read n small =
+    call_is (Read n) (read_lines n) refl (read_plain n small) refl (said_lines (read_says n small) (lit≤ tt))
+
+pub newline_read : program_of (call_text NewLine) ≡ Ok newline_lines
+newline_read = call_is NewLine newline_lines refl refl refl (said_lines newline_says (lit≤ tt))
+
+pub divide_read : (n by : ℕ) → IsDivisible n by
+    → program_of (call_text (Divide n by)) ≡ Ok (divide_lines (n / 65536) (n % 65536) by)
+divide_read n by made =
+    let less = made.less in
+    let few = made.divisor in
+    let high : n / 65536 < 65536 = omega arith in
+    let low : n % 65536 < 65536 = omega arith in
+    let small : by < 65536 = omega arith in
+    call_is (Divide n by) (divide_lines (n / 65536) (n % 65536) by) refl (divide_plain n by high low small) refl
+    (said_lines (divide_says n by high low small) (lit≤ tt))
+
+pub root_read : (n : ℕ) → n < 65536 → program_of (call_text (Root n)) ≡ Ok (root_lines n)
+root_read n small =
+    call_is (Root n) (root_lines n) refl (root_plain n small) refl (said_lines (root_says n small) (lit≤ tt))
+
+pub check_read : (n : ℕ) → n < 65536 → program_of (call_text (Check n)) ≡ Ok (check_lines n)
+check_read n small =
+    call_is (Check n) (check_lines n) refl (check_plain n small) refl (said_lines (check_says n small) (lit≤ tt))

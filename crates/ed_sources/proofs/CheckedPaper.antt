@@ -1,0 +1,76 @@
+-- What the guest of `call check N` prints has room on the paper, and the machine's orders lead to its stop.
+use Rattle.std.proofs.Common.{ℕ, zero, suc, ◌+◌, ◌*◌, ◌/◌, ◌%◌}
+use Rattle.std.proofs.Common.{◌<◌, ◌≤◌, ap, subst, arith}
+use Rattle.std.proofs.Common.{List, [], ◌∷◌, length, length-append}
+use Rattle.ed_words.specs.declared.size.Size.{Size}
+use Rattle.ed_words.specs.Words.{function_of}
+use Rattle.ed_machine.specs.State.{State}
+use Rattle.ed_machine.specs.OrderTable.{next_word, step}
+use Rattle.ed_machine.specs.Steps.{Progress, codes_of, state_after}
+use Rattle.ed_answers.specs.EntryState.{entry_state}
+use Rattle.ed_machine.proofs.Kit.Leads.{all_go}
+use Rattle.ed_routines.specs.Digits.{before_units, print_orders, sum, without_zeros}
+use Rattle.ed_checker.specs.Checker.{checked_codes, guest, planting_place}
+use Rattle.ed_checker.specs.Laws.{ChecksToStop}
+use Rattle.ed_checker.proofs.Whole.{few_codes}
+use Rattle.ed_sources.proofs.CheckedPrint.{checks_print, count_is}
+use Rattle.ed_sources.proofs.Said.{check_lines}
+use Rattle.ed_sources.proofs.Stops.{StopsAt}
+
+-- each order of a guest prints at most two codes
+two_each : (q : ℕ) (g : State) → length (checked_codes g q) ≤ 2 * q
+unfolding checked_codes
+two_each zero g = omega arith
+two_each (suc q) g =
+    let before = two_each q g in
+    let one = few_codes (step (state_after q g)).turn in
+    let all = length-append (checked_codes g q)
+    (function_of (next_word (state_after q g)) ∷ codes_of (step (state_after q g)).turn) in
+    omega (arith, before, one, all)
+
+-- `print` takes few orders
+less_sum : (ds : List ℕ) → sum (without_zeros ds) ≤ sum ds
+less_sum [] = omega arith
+less_sum (zero ∷ ds) = omega (arith, less_sum ds)
+less_sum (suc d ∷ ds) = omega arith
+
+less_long : (ds : List ℕ) → length (without_zeros ds) ≤ length ds
+less_long [] = omega arith
+less_long (zero ∷ ds) = omega (arith, less_long ds)
+less_long (suc d ∷ ds) = omega arith
+
+pub few_orders : (n : ℕ) → n < 65536 → print_orders n ≤ 400
+few_orders n small =
+    let ds : List ℕ = n / 10000 ∷ n / 1000 % 10 ∷ n / 100 % 10 ∷ n / 10 % 10 ∷ [] in
+    let a = less_sum ds in
+    let b = less_long ds in
+    omega (arith, a, b)
+
+pub room_for_codes : (n : ℕ) (g : State) → n < 65536 → length (checked_codes g (3 + print_orders n)) ≤ 1000000
+room_for_codes n g small = let two = two_each (3 + print_orders n) g in let few = few_orders n small in omega arith
+
+-- the machine stops at the end of the guest
+pub checks_to_stop : (base q : ℕ) (m : State) (c : ChecksToStop base q m)
+    → StopsAt c.count m (checked_codes (guest base m) q) (base + planting_place)
+checks_to_stop base q m c = record {
+  last = c.last;
+  leads = record {
+    state_is = ap (λ (p : Progress). p.state) c.ran.is;
+    codes_are = ap (λ (p : Progress). p.codes) c.ran.is;
+    goes = all_go c.count m c.ran.free (ap (λ (p : Progress). p.stops) c.ran.is);
+  };
+  stops = c.stops;
+  counter = c.counter;
+}
+
+module _ (z : Size) (n : ℕ) (small : n < 65536) where
+  abbrev c : ChecksToStop 112 (3 + print_orders n) (entry_state z (check_lines n))
+  c = checks_print z n small
+
+  pub check_ends : StopsAt (2550 + 244 * sum (before_units n) + 142 * length (before_units n))
+      (entry_state z (check_lines n))
+      (checked_codes (guest 112 (entry_state z (check_lines n))) (3 + print_orders n)) 152
+  check_ends =
+      subst (λ k. StopsAt k (entry_state z (check_lines n))
+      (checked_codes (guest 112 (entry_state z (check_lines n))) (3 + print_orders n)) 152) (count_is z n small)
+      (checks_to_stop 112 (3 + print_orders n) (entry_state z (check_lines n)) c)

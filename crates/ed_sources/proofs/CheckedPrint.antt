@@ -1,0 +1,426 @@
+-- The source of `call check N`: at its entry the checking routine is at the start of a turn, and its guest prints the
+-- number and stops.
+use Rattle.std.proofs.Common.{◌≡◌, inl, inr, ◌∙◌, ℕ, zero, suc, ◌+◌, ◌-◌, ◌*◌, ◌/◌, ◌%◌}
+use Rattle.std.proofs.Common.{◌^◌, ◌<◌, ◌≤◌, refl, sym, ap, subst, arith, lit≤, lit<}
+use Rattle.std.proofs.Common.{Bool, true, false, ◌&&◌, ◌||◌, nat_eq, nat_le, nat_lt, Some}
+use Rattle.std.proofs.Common.{List, [], ◌∷◌, ◌++◌, drop, get_or, length, set}
+use Rattle.std.specs.Prelude.{replicate, unwrap_or}
+use Rattle.std.specs.List.{list_all}
+use Rattle.std.proofs.lemmas.Bool.{and_parts, cases_lt}
+use Rattle.std.proofs.Math.ListN.{get_or-append}
+use Rattle.std.proofs.lemmas.List.{get_or-append_right, get_or-drop, length-replicate}
+use Rattle.ed_words.specs.declared.size.Size.{Size}
+use Rattle.ed_words.specs.Sizes.{locations, within}
+use Rattle.ed_words.specs.Words.{address_of, function_of}
+use Rattle.ed_words.proofs.Numbers.{eq_of, lt_of, lt_true}
+use Rattle.ed_words.proofs.SizeLemmas.{least, within_below}
+use Rattle.ed_words.specs.declared.order_words.TheConstants.{Z_F}
+use Rattle.ed_store.specs.Cells.{long_at, short_at}
+use Rattle.ed_orders.specs.Kinds.{kind_of_function}
+use Rattle.ed_orders.specs.declared.kind.Kind.TheVariants.{A, G}
+use Rattle.ed_machine.specs.State.{State}
+use Rattle.ed_machine.specs.OrderTable.{jump_order, next_word, obey_word, place_of, step}
+use Rattle.ed_machine.specs.Sound.{IsSound}
+use Rattle.ed_machine.specs.Steps.{progress, state_after}
+use Rattle.ed_notation.specs.Fold.{over, placed_at}
+use Rattle.ed_library.specs.Images.{image_word, parameter_store}
+use Rattle.ed_library.specs.Routines.{is_working}
+use Rattle.ed_answers.specs.EntryState.{entry_state, loader_words}
+use Rattle.ed_machine.proofs.Steps.{after_sum}
+use Rattle.ed_machine.proofs.Kit.Frames.{short}
+use Rattle.ed_machine.proofs.Kit.Leads.{Leads, first_order, free, joined, no_stops}
+use Rattle.ed_machine.proofs.Kit.Zeros.{begun, shown}
+use Rattle.ed_initial.proofs.Starts.{all_fit}
+use Rattle.ed_routines.specs.Catalogue.{print, with_h}
+use Rattle.ed_routines.specs.Digits.{before_units, digits, print_orders, sum}
+use Rattle.ed_routines.specs.Standing.{IsOutside, Stands, caller}
+use Rattle.ed_routines.proofs.Called.{IsCalled}
+use Rattle.ed_routines.proofs.Digits.{tens}
+use Rattle.ed_routines.proofs.Print.{before_tens, print_weight, shown_weight, shows_is, sum_is}
+use Rattle.ed_routines.proofs.PrintCall as print_call
+use Rattle.ed_routines.proofs.Walks.{total, total_sum}
+use Rattle.ed_checker.specs.Checker.{HasImage, IsAllowed, IsAllowedOrder, check, checked_orders, guest, orders_by}
+use Rattle.ed_checker.specs.Checker.{turn_orders}
+use Rattle.ed_checker.specs.Laws.{ChecksToStop, HasGuest, IsFollowed, StopsAfter}
+use Rattle.ed_checker.proofs.Follow.{checker_law}
+use Rattle.ed_checker.proofs.Guests.{allowed_below, size_after}
+use Rattle.ed_checker.proofs.Weights.{checked_total, turn_weighs, turn_weights}
+use Rattle.ed_sources.proofs.Along.{IsAt, before, has}
+use Rattle.ed_sources.proofs.AtEntry.{all_words, has_image, placed, word_at}
+use Rattle.ed_sources.proofs.CalledRoutines.{stop_at}
+use Rattle.ed_sources.proofs.Calling.{HasRoutine, IsBefore, called, caller_is, calls, stands}
+use Rattle.ed_sources.proofs.Decimals.{among, numbers}
+use Rattle.ed_sources.proofs.Said.{check_lines}
+
+-- ---- the words of a store at an entry
+
+set_fits : (ws : List ℕ) (p v i : ℕ) → ((j : ℕ) → get_or ws j 0 < 2 ^ 17) → v < 2 ^ 17
+    → get_or (set ws p v) i 0 < 2 ^ 17
+set_fits [] p v i h fits = lit< tt
+set_fits (w ∷ ws) zero v zero h fits = fits
+set_fits (w ∷ ws) zero v (suc i) h fits = h (suc i)
+set_fits (w ∷ ws) (suc p) v zero h fits = h 0
+set_fits (w ∷ ws) (suc p) v (suc i) h fits = set_fits ws p v i (λ j. h (suc j)) fits
+
+over_fits : (ps : List (ℕ × ℕ)) (ws : List ℕ) → list_all (λ p. nat_lt p.1 (2 ^ 17)) ps ≡ true
+    → ((j : ℕ) → get_or ws j 0 < 2 ^ 17)
+    → (i : ℕ) → get_or (over ps ws) i 0 < 2 ^ 17
+over_fits [] ws h fits i = fits i
+over_fits (p ∷ ps) ws h fits i =
+    let q = and_parts (nat_lt p.1 (2 ^ 17)) (list_all (λ p. nat_lt p.1 (2 ^ 17)) ps) h in
+    set_fits (over ps ws) p.0 p.1 i (over_fits ps ws q.1 fits) (lt_of p.1 (2 ^ 17) q.0)
+
+zeros_fit : (k i : ℕ) → get_or (replicate k 0) i 0 < 2 ^ 17
+zeros_fit zero i = lit< tt
+zeros_fit (suc k) zero = lit< tt
+zeros_fit (suc k) (suc i) = zeros_fit k i
+
+-- ---- the weights of the orders of `print`
+
+shown_is : (b : Bool) (q : ℕ) → shown_weight turn_weights b q ≡ 156 + 142 * length (shown b q)
+shown_is false zero = refl
+shown_is false (suc q) = refl
+shown_is true q = refl
+
+print_weight_is : (n : ℕ) → print_weight turn_weights n
+    ≡ 2481 + 244 * sum (before_units n) + 142 * length (before_units n)
+print_weight_is n =
+    let b1 : Bool = begun false (n / 10000) in
+    let b2 : Bool = begun b1 (n / 1000 % 10) in
+    let first = shown_is false (n / 10000) in
+    let second = shown_is b1 (n / 1000 % 10) in
+    let third = shown_is b2 (n / 100 % 10) in
+    let fourth = shown_is (before_tens n) (n / 10 % 10) in
+    let all = sum_is (tens n) in
+    let many = shows_is (tens n) in
+    omega (arith, first, second, third, fourth, all, many)
+
+module _ (z : Size) (n : ℕ) (small : n < 65536) where
+  -- the machine at the entry, and the guest
+  abbrev pub m : State
+  m = entry_state z (check_lines n)
+
+  abbrev pub g : State
+  g = guest 112 m
+
+  word : (a : ℕ) → 44 ≤ a → a < 1024 → short_at m.store a ≡ unwrap_or (placed_at (placed (check_lines n)) a) 0
+  word = word_at z (check_lines n) refl
+
+  placed_fit : list_all (λ p. nat_lt p.1 (2 ^ 17)) (placed (check_lines n)) ≡ true
+  unfolding parameter_store
+  placed_fit =
+      let e : nat_lt n (2 ^ 17) ≡ true = lt_true n (2 ^ 17) (omega arith) in
+      let by_value : list_all (λ p. nat_lt p.1 (2 ^ 17)) (placed (check_lines n))
+      ≡ (nat_lt n (2 ^ 17) && true) = refl in
+      by_value ∙ ap (λ b. b && true) e
+
+  abbrev front : List ℕ
+  front = loader_words (check_lines n)
+
+  abbrev back : List ℕ
+  back = over (placed (check_lines n)) (replicate 1024 0)
+
+  fits : (i : ℕ) → get_or m.store.words i 0 < 2 ^ 17
+  fits i =
+      elim (cases_lt i 44) [
+        | inl l ↦ subst (λ x. x < 2 ^ 17) (sym (get_or-append front (drop 44 back) 0 i l)) (all_fit front refl i)
+        | inr l ↦
+            let e = get_or-append_right front (drop 44 back) 44 i 0 refl l ∙ get_or-drop 44 back (i - 44) 0 in
+            subst (λ x. x < 2 ^ 17) (sym e)
+            (over_fits (placed (check_lines n)) (replicate 1024 0) placed_fit (zeros_fit 1024) (44 + (i - 44)))
+      ]
+
+  sound : IsSound m
+  sound =
+      let size = least z in
+      record {
+        store = record {
+          words_are = all_words z (check_lines n);
+          digits_are = length-replicate {A = Bool} 512 false;
+          fits = fits;
+        };
+        acc = lit< tt;
+        multiplier = lit< tt;
+        counter = omega arith;
+        tape = λ i. lit< tt;
+        last = lit< tt;
+      }
+
+  -- ---- the routine at its base
+
+  abbrev is_there : ℕ → Bool
+  is_there i =
+      is_working check i || nat_eq (unwrap_or (placed_at (placed (check_lines n)) (112 + i)) 0)
+      (image_word check i 112 (with_h 0))
+
+  all_there : list_all is_there (numbers 0 66) ≡ true
+  unfolding parameter_store
+  all_there = refl
+
+  has_words : HasImage 112 m
+  has_words i l = record {
+    has = λ working.
+        let there : is_there i ≡ true = among is_there 0 66 i all_there (omega arith) (omega arith) in
+        word (112 + i) (omega arith) (omega arith)
+        ∙ eq_of (unwrap_or (placed_at (placed (check_lines n)) (112 + i)) 0) (image_word check i 112 (with_h 0))
+        (rw working at there);
+  }
+
+  fetch : short_at m.store 112 ≡ 114800
+  unfolding parameter_store
+  fetch = word 112 (lit≤ tt) (lit< tt)
+
+  no_high : long_at m.store 172 ≡ 0
+  no_high = rw (word 172 (lit≤ tt) (lit< tt), word 173 (lit≤ tt) (lit< tt)) refl
+
+  no_middle : long_at m.store 174 ≡ 0
+  no_middle = rw (word 174 (lit≤ tt) (lit< tt), word 175 (lit≤ tt) (lit< tt)) refl
+
+  no_low : long_at m.store 176 ≡ 0
+  no_low = rw (word 176 (lit≤ tt) (lit< tt), word 177 (lit≤ tt) (lit< tt)) refl
+
+  has_guest : HasGuest 112 m
+  has_guest =
+      let size = least z in
+      record {
+        even = refl;
+        room = omega arith;
+        sound = sound;
+        stands = record {
+          counter = refl;
+          acc = refl;
+          image = has_words;
+          fetch = rw fetch refl;
+          middle = subst (λ x. x < 2 ^ 34) (sym no_middle) (lit< tt);
+          low = subst (λ x. x % 2 ^ 32 ≡ 0) (sym no_low) refl;
+          low_few = subst (λ x. x < 2 ^ 34) (sym no_low) (lit< tt);
+        };
+      }
+
+  -- ---- the guest prints the number
+
+  counter_is : g.counter ≡ 56
+  counter_is = ap address_of fetch
+
+  acc_is : g.acc ≡ 0
+  acc_is = rw (no_high, no_middle, no_low) refl
+
+  at : IsAt z (check_lines n) g 59 60 56
+  at = record {
+    counter = counter_is;
+    acc = acc_is;
+    all = all_words z (check_lines n);
+    size = refl;
+    kept = λ i beside. refl;
+  }
+
+  before_print : IsBefore g 56 60
+  before_print = before at refl (lit≤ tt) (lit≤ tt) (lit≤ tt) (lit< tt) refl refl
+
+  print_image : has_image (placed (check_lines n)) print 60 (with_h 59) ≡ true
+  unfolding parameter_store
+  print_image = refl
+
+  abbrev t : State
+  t = called g 56 60
+
+  has_print : HasRoutine g print 60 (with_h 59)
+  has_print = has at refl print_image (lit≤ tt) (lit≤ tt) (lit≤ tt) (lit≤ tt)
+
+  there : Stands print (with_h 59) 60 t
+  there = stands before_print has_print
+
+  outside : IsOutside print 60 59 t
+  outside = let size = least z in record { below = omega arith; beside = inl (lit< tt) }
+
+  number_is : short_at t.store 59 ≡ n
+  number_is = word 59 (lit≤ tt) (lit< tt)
+
+  low : short_at t.store 59 < 65536
+  low = rw number_is small
+
+  abbrev count : ℕ
+  count = print_orders (short_at t.store 59)
+
+  printing : IsCalled print (with_h 59) 60 59 112 t
+  printing =
+      let size = least z in
+      let back : caller t + 3 ≤ 112 = let e = caller_is before_print in omega arith in
+      record {
+        all = all_words z (check_lines n);
+        stands = there;
+        outside = outside;
+        within = record { under = lit≤ tt; near = lit< tt; back = back; fits = omega arith };
+      }
+
+  abbrev end : State
+  end = print_call.last printing low
+
+  leads : Leads (2 + count) g ([] ++ (11 ∷ digits (short_at t.store 59))) end
+  leads = joined (calls before_print)
+      (print_call.leads_to printing low)
+
+  end_counter : end.counter ≡ 58
+  end_counter = ap (λ x. x + 2) (caller_is before_print)
+
+  end_word : next_word end ≡ Z_F
+  end_word =
+      ap (λ x. get_or end.store.words x 0) end_counter
+      ∙ (print_call.keeps printing low end refl).words
+      58 (record { other = inl (lit< tt) })
+      ∙ word 58 (lit≤ tt) (lit< tt)
+
+  -- ---- each of its orders is allowed
+
+  below : (a : ℕ) → a < 112 → within z a < 112
+  below a l = let size = least z in rw (within_below z a (omega arith)) l
+
+  first_word : next_word g ≡ 114800
+  first_word = ap (short_at m.store) counter_is ∙ word 56 (lit≤ tt) (lit< tt)
+
+  first : IsAllowed 112 g
+  first =
+      let size = least z in
+      record {
+        outside = inl (rw counter_is (lit< tt));
+        next = rw counter_is (omega arith);
+        order = subst (λ w. IsAllowedOrder (kind_of_function (function_of w)) 112 w z) (sym first_word)
+            (inl (below 56 (lit< tt)));
+      }
+
+  abbrev second : State
+  second = (obey_word (Some A) 114800 g).state
+
+  second_is : state_after 1 g ≡ second
+  second_is = first_order g 114800 first_word
+
+  second_counter : second.counter ≡ 57
+  second_counter = let size = least z in ap (λ c. within z (c + 1)) counter_is ∙ within_below z 57 (omega arith)
+
+  second_word : next_word second ≡ 110712
+  second_word = ap (short_at m.store) second_counter ∙ word 57 (lit≤ tt) (lit< tt)
+
+  second_allowed : IsAllowed 112 second
+  second_allowed =
+      let size = least z in
+      record {
+        outside = inl (rw second_counter (lit< tt));
+        next = rw second_counter (omega arith);
+        order = subst (λ w. IsAllowedOrder (kind_of_function (function_of w)) 112 w z) (sym second_word)
+            (record { short = refl; plain = refl; below = omega arith; outside = inl (lit< tt) });
+      }
+
+  third : state_after 2 g ≡ t
+  third = (calls before_print).state_is
+
+  of_print : (i : ℕ) → i < count → IsAllowed 112 (state_after i t)
+  of_print i l =
+      let size = least z in
+      print_call.keeps_below printing low (λ x. x.size ≡ z → IsAllowed 112 x)
+      (λ kind x o same. allowed_below 112 refl kind x o (rw same (omega arith))) i l (size_after i t)
+
+  no_orders : state_after 0 g ≡ g
+  unfolding progress
+  no_orders = refl
+
+  each : (j : ℕ) → j < 2 + count → IsAllowed 112 (state_after j g)
+  each zero l = subst (IsAllowed 112) (sym no_orders) first
+  each (suc zero) l = subst (IsAllowed 112) (sym second_is) second_allowed
+  each (suc (suc i)) l =
+      let e : suc (suc i) ≡ 2 + i = omega arith in
+      subst (IsAllowed 112) (sym (ap (λ x. state_after x g) e ∙ after_sum 2 i g ∙ ap (state_after i) third))
+      (of_print i (omega arith))
+
+  followed : IsFollowed 112 (2 + count) g
+  followed = record { allowed = each; obeyed = free leads }
+
+  end_allowed : IsAllowed 112 end
+  end_allowed =
+      let size = least z in
+      record {
+        outside = inl (subst (λ x. x < 112) (sym end_counter) (lit< tt));
+        next = subst (λ x. x + 1 < locations z) (sym end_counter) (omega arith);
+        order = subst (λ w. IsAllowedOrder (kind_of_function (function_of w)) 112 w z) (sym end_word) tt;
+      }
+
+  at_end : state_after (2 + count) g ≡ end
+  at_end = leads.state_is
+
+  to_stop : StopsAfter (2 + count) g
+  to_stop = record {
+    free = free leads;
+    no_stops = no_stops (2 + count) g leads.goes;
+    stops = ap (λ (x : State). (step x).turn) at_end ∙ stop_at end end_word;
+  }
+
+  -- the guest reaches its first Z
+  pub guest_stops : StopsAfter (2 + print_orders n) g
+  guest_stops = subst (λ x. StopsAfter (2 + print_orders x) g) number_is to_stop
+
+  checks : ChecksToStop 112 (suc (2 + count)) m
+  checks =
+      checker_law.to_stop 112 (2 + count) m has_guest followed to_stop (subst (IsAllowed 112) (sym at_end) end_allowed)
+
+  -- ---- the orders of its turns
+
+  first_turn : turn_orders g ≡ 35
+  first_turn = λ i. orders_by (function_of (first_word i)) (acc_is i)
+
+  jump_keeps : (b : Bool) (p : ℕ) (x : State) → (jump_order b p x).state.acc ≡ x.acc
+  jump_keeps true p x = refl
+  jump_keeps false p x = refl
+
+  jump_is : state_after 2 g ≡ (obey_word (Some G) 110712 second).state
+  unfolding progress step
+  jump_is = ap (λ (x : State). (step x).state) second_is
+      ∙ ap (λ w. (obey_word (kind_of_function (function_of w)) w second).state) second_word
+
+  second_acc : second.acc ≡ short 114800
+  second_acc =
+      sym (jump_keeps (nat_le (2 ^ 70) second.acc) (place_of second 110712) second)
+      ∙ ap (λ (x : State). x.acc) (sym jump_is ∙ third)
+
+  second_turn : turn_orders second ≡ 16
+  second_turn = λ i. orders_by (function_of (second_word i)) (second_acc i)
+
+  last_turn : turn_orders (state_after (2 + count) g) ≡ 35
+  last_turn = ap turn_orders at_end ∙ ap (λ w. orders_by (function_of w) end.acc) end_word
+
+  two_turns : total turn_orders 2 g ≡ 51
+  unfolding total
+  two_turns =
+      let a = ap turn_orders no_orders ∙ first_turn in
+      let b = ap turn_orders second_is ∙ second_turn in
+      omega (arith, a, b)
+
+  print_turns : total turn_orders count t ≡ print_weight turn_weights (short_at t.store 59)
+  print_turns = print_call.weighs printing low turn_weights turn_orders (λ kind x o. turn_weighs kind x o.kind_is)
+
+  turns_before : total turn_orders (2 + count) g ≡ 51 + print_weight turn_weights (short_at t.store 59)
+  turns_before =
+      total_sum turn_orders 2 count g
+      ∙ (λ i. two_turns i + total turn_orders count (third i))
+      ∙ ap (λ x. 51 + x) print_turns
+
+  all_turns : checked_orders g (suc (2 + count)) ≡ 86 + print_weight turn_weights (short_at t.store 59)
+  unfolding total
+  all_turns =
+      let before = turns_before in
+      let last = last_turn in
+      checked_total g (suc (2 + count)) ∙ omega (arith, before, last)
+
+  -- the guest's orders up to its first Z, which is the last of them, and as many orders of the machine as the formula
+  -- has lead to it
+  pub checks_print : ChecksToStop 112 (3 + print_orders n) m
+  checks_print =
+      let e : suc (2 + count) ≡ 3 + print_orders n = ap (λ x. suc (2 + print_orders x)) number_is ∙ omega arith in
+      subst (λ q. ChecksToStop 112 q m) e checks
+
+  pub count_is : checks_print.count ≡ 2550 + 244 * sum (before_units n) + 142 * length (before_units n)
+  count_is =
+      let e : suc (2 + count) ≡ 3 + print_orders n = ap (λ x. suc (2 + print_orders x)) number_is ∙ omega arith in
+      let turns : checked_orders g (3 + print_orders n) ≡ 86 + print_weight turn_weights n =
+      ap (checked_orders g) (sym e) ∙ all_turns ∙ ap (λ x. 86 + print_weight turn_weights x) number_is in
+      let exact = checks_print.exact in
+      let formula = print_weight_is n in
+      omega (arith, exact, turns, formula)

@@ -1,0 +1,80 @@
+-- The source of `demo` is accepted.
+use Rattle.std.proofs.Common.{◌≡◌, ◌∙◌, ℕ, zero, suc, ◌+◌, ◌*◌, ◌<◌, ◌≤◌, codes, true, [], ◌∷◌, ◌++◌, refl}
+use Rattle.std.proofs.Common.{List, ap, sym, arith, length, length-append}
+use Rattle.std.specs.Prelude.{Ok}
+use Rattle.std.specs.Fmt.{decimal}
+use Rattle.std.specs.List.{list_all}
+use Rattle.std.proofs.lemmas.Grind.{flat_map-append}
+use Rattle.std.proofs.lemmas.List.Folds.{list_all-append}
+use Rattle.ed_words.specs.Texts.{Text}
+use Rattle.ed_sources.proofs.Decimals.{both}
+use Rattle.ed_syntax.specs.Parts.{is_line_byte}
+use Rattle.ed_syntax.specs.Private.SourceReading.{program_of}
+use Rattle.ed_sources.specs.CallSources.{text_of_lines}
+use Rattle.ed_sources.specs.DemoSources.{adding_pieces, demo_text, next, number_after, number_word, segments, word_lines}
+use Rattle.ed_sources.proofs.CallsAccepted.{accepted_as, decimal_plain}
+use Rattle.ed_sources.proofs.DemoFaultless.{demo_faultless}
+use Rattle.ed_sources.proofs.SaidDemo.{adding, demo_lines, demo_says, demo_source}
+use Rattle.ed_sources.proofs.TextLines.{program_is, said_lines}
+use Rattle.ed_sources.proofs.WovenLines.{woven_is}
+
+-- ---- bytes of lines
+
+words_plain : (n x : ℕ) → list_all (list_all is_line_byte) (word_lines n x) ≡ true
+words_plain zero x = refl
+words_plain (suc n) x =
+    let number = decimal_plain (number_word (next x)) (omega arith) in
+    let rest = words_plain n (next x) in
+    rw (number, rest) refl
+
+segments_plain : (n k x : ℕ) → k + n ≤ 65536 → list_all (list_all is_line_byte) (segments n k x) ≡ true
+segments_plain zero k x few = refl
+segments_plain (suc n) k x few =
+    let number = decimal_plain k (omega arith) in
+    let rest : list_all (list_all is_line_byte) (word_lines 8 x ++ segments n (k + 1) (number_after 8 x)) ≡ true =
+    list_all-append (list_all is_line_byte) (word_lines 8 x) (segments n (k + 1) (number_after 8 x))
+    ∙ both _ _ (words_plain 8 x) (segments_plain n (k + 1) (number_after 8 x) (omega arith)) in
+    rw (number, rest) refl
+
+adding_plain : (words : ℕ) → words < 65536 → list_all (list_all is_line_byte) (adding words) ≡ true
+adding_plain words small =
+    let stop : list_all is_line_byte (decimal words ++ codes " F") ≡ true =
+    list_all-append is_line_byte (decimal words) (codes " F") ∙ both _ _ (decimal_plain words small) refl in
+    rw stop refl
+
+demo_plain : (n : ℕ) → n ≤ 112 → list_all (list_all is_line_byte) (demo_source n) ≡ true
+demo_plain n few =
+    list_all-append (list_all is_line_byte) (adding (8 * n)) (segments n 1 n ++ codes "enter main" ∷ [])
+    ∙ both _ _ (adding_plain (8 * n) (omega arith))
+    (list_all-append (list_all is_line_byte) (segments n 1 n) (codes "enter main" ∷ [])
+    ∙ both _ _ (segments_plain n 1 n (omega arith)) refl)
+
+-- ---- how many lines there are
+
+words_count : (n x : ℕ) → length (word_lines n x) ≡ n
+words_count zero x = refl
+words_count (suc n) x = let e = words_count n (next x) in omega (arith, e)
+
+segments_count : (n k x : ℕ) → length (segments n k x) ≡ 9 * n
+segments_count zero k x = refl
+segments_count (suc n) k x =
+    let words = words_count 8 x in
+    let rest = segments_count n (k + 1) (number_after 8 x) in
+    omega (arith, words, rest, length-append (word_lines 8 x) (segments n (k + 1) (number_after 8 x)))
+
+-- ---- what the source is read as
+
+demo_text_is : (n : ℕ) → demo_text n ≡ text_of_lines (demo_source n)
+unfolding demo_text
+demo_text_is n =
+    let rest : List Text = segments n 1 n ++ codes "enter main" ∷ [] in
+    ap (λ (t : Text). t ++ text_of_lines rest) (sym (woven_is adding_pieces (decimal (8 * n) ∷ []) refl))
+    ∙ sym (flat_map-append (λ line. line ++ 10 ∷ []) (adding (8 * n)) rest)
+
+pub demo_read : (n : ℕ) → n ≤ 112 → program_of (demo_text n) ≡ Ok (demo_lines n)
+demo_read n few =
+    let count = segments_count n 1 n in
+    let long = length-append (segments n 1 n) (codes "enter main" ∷ []) in
+    ap program_of (demo_text_is n)
+    ∙ program_is (demo_source n) (demo_lines n) (demo_plain n few) refl
+    (said_lines (demo_says n few) (omega (arith, count, long)))

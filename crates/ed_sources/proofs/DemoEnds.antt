@@ -1,0 +1,143 @@
+-- The source of `demo` from its entry to its stop.
+use Rattle.std.proofs.Common.{◌≡◌, ◌∙◌, inr, ℕ, zero, suc, ◌+◌, ◌*◌, ◌<◌, ◌≤◌, refl, sym, ap, subst, arith, lit≤}
+use Rattle.std.proofs.Common.{List, [], ◌∷◌, ◌++◌, Option, Some, None, get_or, length, map, take, codes}
+use Rattle.ed_words.specs.Texts.{Text}
+use Rattle.ed_words.proofs.SizeLemmas.{least}
+use Rattle.ed_words.specs.Sizes.{locations}
+use Rattle.ed_words.specs.declared.size.Size.{Size}
+use Rattle.ed_machine.specs.State.{State}
+use Rattle.ed_syntax.specs.declared.program.Line.{Line}
+use Rattle.ed_link.specs.Linked.{entry_of}
+use Rattle.ed_link.specs.Tapes.{punched_rows}
+use Rattle.ed_answers.specs.EntryState.{entry_state}
+use Rattle.ed_machine.proofs.Kit.Frames.{state}
+use Rattle.ed_machine.proofs.Kit.Standing.{opens}
+use Rattle.ed_machine.proofs.Kit.Window.{patched}
+use Rattle.ed_routines.specs.Catalogue.{print, with_h}
+use Rattle.ed_routines.specs.Digits.{digits, print_orders}
+use Rattle.ed_routines.proofs.Journeys.{ComesToStop, HasRoutine}
+use Rattle.ed_sources.specs.DemoSources.{demo_sum, demo_words}
+use Rattle.ed_sources.proofs.AtEntry.{all_words}
+use Rattle.ed_sources.proofs.Decimals.{decimal_is}
+use Rattle.ed_sources.proofs.DemoCost.{few_rows}
+use Rattle.ed_sources.proofs.DemoFaultless.{lines_with}
+use Rattle.ed_sources.proofs.DemoLoop.{Fine, Given, Turning, at, cells, demo_stops, taking}
+use Rattle.ed_sources.proofs.DemoPlaced.{early_word, entry_is, front, long, print_image, small_sum, stop_word}
+use Rattle.ed_sources.proofs.DemoPlaced.{words_stand}
+use Rattle.ed_sources.proofs.Blocks.{last_at}
+use Rattle.ed_sources.proofs.Entries.{frame_at, holds_by, moment_at, routine_by}
+use Rattle.ed_sources.proofs.SaidDemo.{demo_lines, name}
+
+-- the program at its entry, with any word at `stop`
+abbrev image : List (Option ℕ)
+image = map (λ x. Some x) (take 13 (cells 56 72 0 (taking 123) 0 0)) ++ None ∷ Some 0 ∷ Some 0 ∷ []
+
+-- the sum is one that `print` takes
+pub sum_small : (n : ℕ) → n ≤ 112 → demo_sum n < 65536
+sum_small n few = let e = small_sum (8 * n) n in omega (arith, e)
+
+-- with n segments after the first
+module _ (z : Size) (n : ℕ) (few : n ≤ 111) (fits : 123 + 8 * suc n ≤ locations z) where
+  abbrev words : ℕ
+  words = 8 * suc n
+
+  abbrev last_line : ℕ
+  last_line = 19 + 9 * suc n
+
+  abbrev lines : List Line
+  lines = lines_with (codes "s1") words n (suc n) last_line
+
+  abbrev s : State
+  s = entry_state z lines
+
+  abbrev known : ℕ → Option ℕ
+  known = last_at (front words n (suc n) last_line)
+
+  abbrev stop : ℕ
+  stop = get_or s.store.words 69 0
+
+  same : patched 0 s.store.words 56 (cells 56 72 stop (taking 123) 0 0) ≡ s.store.words
+  same =
+      let all = all_words z lines in
+      opens image s.store.words 56 (omega arith)
+      (holds_by z lines known 123 (early_word words n (suc n) last_line z few) image 56 refl (lit≤ tt) (lit≤ tt))
+
+  has_print : HasRoutine (frame_at 16 z (lit≤ tt)) s.store.words print 72 (with_h 71)
+  has_print =
+      let size = least z in
+      routine_by z lines known 123 (early_word words n (suc n) last_line z few) (frame_at 16 z (lit≤ tt)) print 72
+      (with_h 71) (print_image words n (suc n) last_line) (lit≤ tt) (lit≤ tt) (lit≤ tt) (omega arith) (inr (lit≤ tt))
+
+  abbrev given : Given
+  given = record {
+    f = frame_at 16 z (lit≤ tt);
+    above = lit≤ tt;
+    e = 123 + words;
+    w = 72;
+    stop = stop;
+    stop_is = early_word words n (suc n) last_line z few 69 (lit≤ tt) (lit≤ tt)
+        ∙ stop_word words n (suc n) last_line (omega arith);
+    room = fits;
+    around = moment_at s;
+    all = all_words z lines;
+    at2 = refl;
+    prints = has_print;
+  }
+
+  abbrev first : Turning
+  first = record { q = 123; left = 0; scrap = 0; total = 0 }
+
+  fine : Fine given (demo_sum (suc n)) first (demo_words (suc n))
+  fine = record {
+    words = words_stand words n (suc n) last_line z few;
+    ends = ap (λ k. 123 + k) (long words n (suc n) last_line);
+    from = lit≤ tt;
+    sums = omega arith;
+  }
+
+  begins : state given.f (at given 0 0 (taking 123) 0 0) s.orders ≡ s
+  begins = λ i. record s {
+    store = record { words = same i; sandwich = s.store.sandwich };
+    counter = sym (entry_is words n (suc n) last_line) i;
+  }
+
+  ends_so : ComesToStop (9 * words + (3 + print_orders (demo_sum (suc n)))) s (11 ∷ digits (demo_sum (suc n))) 69
+  ends_so =
+      let count = long words n (suc n) last_line in
+      subst (λ k. ComesToStop (9 * k + (3 + print_orders (demo_sum (suc n)))) s
+      (11 ∷ digits (demo_sum (suc n))) 69) count
+      (subst (λ (x : State). ComesToStop (9 * length (demo_words (suc n)) + (3 + print_orders (demo_sum (suc n)))) x
+      (11 ∷ digits (demo_sum (suc n))) 69) begins
+      (demo_stops given (demo_sum (suc n)) (sum_small (suc n) (omega arith)) first (demo_words (suc n))
+      (omega arith) fine
+      s.orders))
+
+-- the source with the name of its first segment as its lines have it
+named_one : (n : ℕ) → lines_with (codes "s1") (8 * suc n) n (suc n) (19 + 9 * suc n) ≡ demo_lines (suc n)
+named_one n =
+    let one : codes "s1" ≡ name 1 = ap (λ (t : Text). 115 ∷ t) (decimal_is 1 (omega arith)) in
+    ap (λ (t : Text). lines_with t (8 * suc n) n (suc n) (19 + 9 * suc n)) one
+
+pub demo_entry : (n : ℕ) → 1 ≤ n → n ≤ 112 → entry_of (demo_lines n) ≡ 56
+demo_entry zero some few = absurd (omega arith)
+demo_entry (suc n) some few =
+    subst (λ (ls : List Line). entry_of ls ≡ 56) (named_one n) (entry_is (8 * suc n) n (suc n) (19 + 9 * suc n))
+
+pub demo_ends : (z : Size) (n : ℕ) → 1 ≤ n → n ≤ 112 → 123 + 8 * n ≤ locations z
+    → ComesToStop (72 * n + 3 + print_orders (demo_sum n)) (entry_state z (demo_lines n)) (11 ∷ digits (demo_sum n)) 69
+demo_ends z zero some few fits = absurd (omega arith)
+demo_ends z (suc n) some few fits =
+    let count : 9 * (8 * suc n) + (3 + print_orders (demo_sum (suc n)))
+    ≡ 72 * suc n + 3 + print_orders (demo_sum (suc n)) =
+    omega arith in
+    subst (λ k. ComesToStop k (entry_state z (demo_lines (suc n))) (11 ∷ digits (demo_sum (suc n))) 69) count
+    (subst (λ (ls : List Line). ComesToStop (9 * (8 * suc n) + (3 + print_orders (demo_sum (suc n)))) (entry_state z ls)
+    (11 ∷ digits (demo_sum (suc n))) 69) (named_one n) (ends_so z n (omega arith) fits))
+
+-- its tape is short, and so are its orders
+pub demo_rows : (n : ℕ) → 1 ≤ n → n ≤ 112 → length (punched_rows (demo_lines n)) ≤ 22104
+demo_rows zero some few = absurd (omega arith)
+demo_rows (suc n) some few =
+    let short : length (punched_rows (lines_with (codes "s1") (8 * suc n) n (suc n) (19 + 9 * suc n))) ≤ 22104 =
+    omega (arith, few_rows (8 * suc n) n (suc n) (19 + 9 * suc n)) in
+    subst (λ (ls : List Line). length (punched_rows ls) ≤ 22104) (named_one n) short

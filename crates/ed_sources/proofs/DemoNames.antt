@@ -1,0 +1,146 @@
+-- The names that the source of `demo` defines are different, and each operand has a value.
+use Rattle.std.proofs.Common.{◌≡◌, ◌≢◌, ◌∙◌, ℕ, zero, suc, ◌+◌, ◌<◌, ◌≤◌, Bool, true, false, List}
+use Rattle.std.proofs.Common.{[], ◌∷◌, ◌++◌}
+use Rattle.std.proofs.Common.{refl, sym, ap, subst, arith, append-nil, codes, nat_lt}
+use Rattle.std.specs.Prelude.{not, Option, Some, None}
+use Rattle.std.specs.Fmt.{decimal}
+use Rattle.std.specs.List.{list_all}
+use Rattle.std.specs.Str.{bytes_eq}
+use Rattle.std.proofs.lemmas.Bool.{and_parts, not-true}
+use Rattle.std.proofs.lemmas.List.Folds.{list_all-append}
+use Rattle.std.proofs.lemmas.Slice.Eq.{bytes_eq-Decides}
+use Rattle.ed_words.proofs.Numbers.{lt_false}
+use Rattle.ed_words.specs.Texts.{Text}
+use Rattle.ed_words.specs.Decimals.{value}
+use Rattle.ed_syntax.specs.declared.program.Line.{Line}
+use Rattle.ed_symbols.specs.declared.location_counter.LocationCounter.{LocationCounter}
+use Rattle.ed_symbols.specs.declared.symbols.Definition.{Definition}
+use Rattle.ed_symbols.specs.Faults.{naming_fault_from}
+use Rattle.ed_symbols.specs.Names.{definition_of}
+use Rattle.ed_symbols.specs.Places.{first_counter}
+use Rattle.ed_routines.specs.Digits.{digits}
+use Rattle.ed_sources.specs.DemoSources.{number_after, next}
+use Rattle.ed_sources.proofs.Decimals.{among, decimal_is, value_is, written}
+use Rattle.ed_sources.proofs.SaidDemo.{adding_lines, enter_line, name, segment_forms, segment_line, word_forms}
+
+-- ---- definitions without a name
+
+abbrev pub has_none : Text → List Definition → Bool
+has_none n symbols = list_all (λ h. not (bytes_eq h.name n)) symbols
+
+no_home : (segment : Option ℕ) (n : Text) (symbols : List Definition) → has_none n symbols ≡ true
+    → definition_of segment n symbols ≡ None
+no_home segment n [] e = refl
+no_home segment n (h ∷ symbols) e =
+    let p = and_parts (not (bytes_eq h.name n)) (has_none n symbols) e in
+    let other : bytes_eq h.name n ≡ false = not-true (bytes_eq h.name n) p.0 in
+    rw other (no_home segment n symbols p.1)
+
+-- ---- the names of segments
+
+written_name : ℕ → Text
+written_name k = 115 ∷ written (digits k)
+
+abbrev value_behind_s : Text → ℕ
+value_behind_s [] = 0
+value_behind_s (b ∷ bs) = value bs
+
+names_differ : (i j : ℕ) → i < 65536 → j < 65536 → i ≢ j → bytes_eq (name i) (name j) ≡ false
+names_differ i j small other differ = by_test (bytes_eq (name i) (name j)) refl
+  where
+    value_of : (k : ℕ) → k < 65536 → value (decimal k) ≡ k
+    value_of k low = sym (ap value (decimal_is k low)) ∙ value_is k low
+
+    by_test : (t : Bool) → bytes_eq (name i) (name j) ≡ t → bytes_eq (name i) (name j) ≡ false
+    by_test false e = e
+    by_test true e =
+        let same : name i ≡ name j = (bytes_eq-Decides (name i) (name j)).0 e in
+        absurd (differ (sym (value_of i small) ∙ ap value_behind_s same ∙ value_of j other))
+
+-- what the program's lines and the first segment define
+abbrev definition : Text → ℕ → Definition
+definition name place = record { name = name; place = place; segment = Some 1 }
+
+abbrev pub first_homes : List Definition
+first_homes =
+    definition (codes "main") 56
+    ∷ definition (codes "loop") 56
+    ∷ definition (codes "add") 58
+    ∷ definition (codes "here") 66
+    ∷ definition (codes "stop") 69
+    ∷ definition (codes "junk") 70
+    ∷ definition (codes "total") 71
+    ∷ record { name = codes "p"; place = 72; segment = None }
+    ∷ record { name = codes "s1"; place = 123; segment = Some 3 }
+    ∷ []
+
+-- none of these definitions has the name of a segment with this number or a greater one
+abbrev pub IsFree : ℕ → List Definition → Type 0
+IsFree k symbols = (j : ℕ) → k ≤ j → j ≤ 112 → has_none (name j) symbols ≡ true
+
+pub first_free : IsFree 2 first_homes
+first_free j low high =
+    subst (λ (bytes : Text). has_none (115 ∷ bytes) first_homes ≡ true) (decimal_is j (omega arith))
+    (among (λ j. has_none (115 ∷ written (digits j)) first_homes) 2 111 j refl low (omega arith))
+
+more_free : (k : ℕ) (symbols : List Definition) (h : Definition) → h.name ≡ name k → k ≤ 112 → IsFree k symbols
+    → IsFree (k + 1) (symbols ++ h ∷ [])
+more_free k symbols h is few free = λ j low high.
+    let before : has_none (name j) symbols ≡ true = free j (omega arith) high in
+    let other : bytes_eq h.name (name j) ≡ false =
+    ap (λ (n : Text). bytes_eq n (name j)) is ∙ names_differ k j (omega arith) (omega arith) (omega arith) in
+    list_all-append (λ h. not (bytes_eq h.name (name j))) symbols (h ∷ []) ∙ rw (before, other) refl
+
+-- ---- no line has one of the faults S6 to S8
+
+-- no line from a location counter onwards has one of them
+pub record AreNamed (symbols earlier : List Definition) (s : LocationCounter) (lines : List Line) : Type 0 where
+  pub none : naming_fault_from symbols earlier s lines ≡ None
+
+module _ (rest_homes : List Definition) where
+  abbrev symbols : List Definition
+  symbols = first_homes ++ rest_homes
+
+  pub words_named : (n l x : ℕ) {earlier : List Definition} {s : LocationCounter} {rest : List Line}
+      → ((t : LocationCounter) → AreNamed symbols earlier t rest)
+      → AreNamed symbols earlier s (word_forms n l x ++ rest)
+  words_named zero l x {s = s} behind = behind s
+  words_named (suc n) l x {earlier} {s} {rest} behind = record {
+    none =
+        let next_spot : LocationCounter = record s { place = s.place + 1 } in
+        let more : AreNamed symbols earlier next_spot (word_forms n (l + 1) (next x) ++ rest) =
+        words_named n (l + 1) (next x) behind in
+        subst (λ (e : List Definition). naming_fault_from symbols e next_spot (word_forms n (l + 1) (next x)
+        ++ rest) ≡ None)
+        (sym (append-nil earlier)) more.none;
+  }
+
+  pub segments_named : (n k l x : ℕ) {earlier : List Definition} {s : LocationCounter} {rest : List Line} → k + n ≤ 113
+      → IsFree k earlier → ((e : List Definition) (t : LocationCounter) → AreNamed symbols e t rest)
+      → AreNamed symbols earlier s (segment_forms n k l x ++ rest)
+  segments_named zero k l x {earlier} {s} few free behind = behind earlier s
+  segments_named (suc n) k l x {earlier} {s} {rest} few free behind =
+      let own : Definition = record { name = name k; place = s.place; segment = Some (s.segments + 1) } in
+      let free_more = more_free k earlier own refl (omega arith) free in
+      let none : definition_of (Some (s.segments + 1)) (name k) earlier ≡ None =
+      no_home (Some (s.segments + 1)) (name k) earlier (free k (omega arith) (omega arith)) in
+      let new : definition_of (Some (s.segments + 1)) (name k) (earlier ++ []) ≡ None =
+      ap (definition_of (Some (s.segments + 1)) (name k)) (append-nil earlier) ∙ none in
+      let more : AreNamed symbols (earlier ++ own ∷ [])
+      (record { place = s.place; base = s.place; segments = s.segments + 1; inside = true })
+      (word_forms 8 (l + 1) x ++ segment_forms n (k + 1) (l + 9) (number_after 8 x) ++ rest) =
+      words_named 8 (l + 1) x (λ t. segments_named n (k + 1) (l + 9) (number_after 8 x)
+      (omega arith) free_more behind) in
+      record { none = rw new more.none }
+
+  pub enter_named : {earlier : List Definition} {s : LocationCounter} (l : ℕ)
+      → AreNamed symbols earlier s (enter_line l ∷ [])
+  enter_named l = record { none = refl }
+
+  pub program_named : {rest : List Line} (words : ℕ) → words ≤ 900
+      → AreNamed symbols first_homes (record { place = 123; base = 123; segments = 3; inside = true }) rest
+      → naming_fault_from symbols [] first_counter (adding_lines words ++ segment_line 19 (codes "s1") ∷ rest) ≡ None
+  program_named words few behind =
+      let positive : nat_lt (123 + words) 0 ≡ false = lt_false (123 + words) 0 (omega arith) in
+      let near : nat_lt 1023 (123 + words) ≡ false = lt_false 1023 (123 + words) (omega arith) in
+      rw (positive, near) behind.none

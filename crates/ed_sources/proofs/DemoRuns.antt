@@ -1,0 +1,67 @@
+-- `demo` is the run of its source, from the state at its entry to its stop.
+use Rattle.std.proofs.Common.{◌≡◌, ◌∙◌, ℕ, ◌+◌, ◌*◌, ◌≤◌, arith, subst, sym, List, [], ◌∷◌, ◌++◌, codes}
+use Rattle.ed_words.specs.Texts.{Text}
+use Rattle.ed_syntax.specs.declared.program.Line.{Line}
+use Rattle.ed_link.specs.Tapes.{cost}
+use Rattle.ed_answers.proofs.EachSource.{read_is_accepted}
+use Rattle.ed_report.specs.Notes.{at_after, entry_note}
+use Rattle.ed_routines.specs.Digits.{print_orders}
+use Rattle.ed_routines.proofs.Digits.{few_digits}
+use Rattle.ed_sources.specs.DemoSources.{demo_sum, demo_text}
+use Rattle.ed_sources.proofs.CheckedPaper.{few_orders}
+use Rattle.ed_sources.proofs.DemoAccepted.{demo_read}
+use Rattle.ed_sources.proofs.DemoEnds.{demo_ends, demo_entry, demo_rows, sum_small}
+use Rattle.ed_sources.proofs.DemoFaultless.{demo_faultless}
+use Rattle.ed_sources.proofs.Papers.{digits_printed}
+use Rattle.ed_sources.proofs.SaidDemo.{demo_lines}
+use Rattle.ed_sources.specs.DemoRuns.{EachDemoRuns}
+use Rattle.ed_answers.specs.Outcome.{Outcome}
+use Rattle.ed_answers.specs.Headline.{RunsFromEntry}
+use Rattle.ed_answers.specs.Sources.{run_outcome}
+use Rattle.ed_answers.proofs.Sources.{accepted_is, headline}
+use Rattle.ed_sources.proofs.Stopped.{stopped_outcome}
+
+-- the outcome of a run that was entered at a location after k orders, and stopped after more
+abbrev stopped : Text → (entry k orders : ℕ) → Outcome
+stopped text entry k orders = record {
+  out = text;
+  note = entry_note entry k ++ (at_after (codes "stopped") 69 orders ++ 10 ∷ []);
+  status = 0;
+}
+
+same_outcome : (o : Outcome) (text other : Text) (entry at k orders more : ℕ) → o ≡ stopped text entry k orders
+    → text ≡ other → entry ≡ at → orders ≡ more → o ≡ stopped other at k more
+same_outcome o text other entry at k orders more is printed place count =
+    is ∙ (λ i. stopped (printed i) (place i) k (count i))
+
+-- the orders from the entry to the stop, after those up to the entry
+counted : (k n p : ℕ) → k + (72 * n + 3 + p + 1) ≡ k + (9 * (8 * n) + p + 4)
+counted k n p = omega arith
+
+few_enough : (k rows n p : ℕ) → k ≤ 17 * rows + 9 → rows ≤ 22104 → p ≤ 400 → n ≤ 112
+    → k + (9 * (8 * n) + p + 4) ≤ 400000
+few_enough k rows n p most few_rows few_print few = omega arith
+
+pub each_demo_runs : EachDemoRuns
+each_demo_runs n some few s fits =
+    let lines : List Line = demo_lines n in
+    let accepted =
+    read_is_accepted s.size (demo_text n) lines (demo_read n few) (demo_faultless s.size n some few fits) in
+    let entry : RunsFromEntry s lines = headline s (demo_text n) lines accepted in
+    record {
+      lines = lines;
+      accepted = accepted;
+      answers = accepted_is s.size (run_outcome s) (demo_text n) lines accepted;
+      from_entry = entry;
+      prints = λ none plain enough.
+          let digit_count = few_digits (demo_sum n) in
+          let count = counted (cost lines) n (print_orders (demo_sum n)) in
+          let printed = digits_printed (demo_sum n) (sum_small n few) in
+          let at = demo_entry n some few in
+          let ends = stopped_outcome s entry (demo_ends s.size n some few fits) (omega (arith, digit_count)) none plain
+          (subst (λ (k : ℕ). k ≤ s.limit) (sym count) enough) in
+          same_outcome (run_outcome s lines) _ _ _ _ (cost lines) _ _ ends printed at count;
+      cheap =
+          few_enough (cost lines) _ n (print_orders (demo_sum n)) entry.enters.cheap (demo_rows n some few)
+          (few_orders (demo_sum n) (sum_small n few)) few;
+    }

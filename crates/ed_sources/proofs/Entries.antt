@@ -1,0 +1,105 @@
+-- A program whose words are known at its entry is at its base, by one test.
+use Rattle.std.proofs.Common.{◌≡◌, ◌∙◌, ◌⊎◌, refl, ℕ, ◌+◌, ◌<◌, ◌≤◌, Bool, true, List, [], arith, get_or, length}
+use Rattle.std.proofs.Common.{nat_eq}
+use Rattle.std.specs.Prelude.{Option, Some, None, unwrap_or}
+use Rattle.std.specs.List.{list_all}
+use Rattle.ed_words.proofs.Numbers.{eq_of}
+use Rattle.ed_words.specs.declared.size.Size.{Size}
+use Rattle.ed_notation.specs.Fold.{placed_at}
+use Rattle.ed_syntax.specs.declared.program.Line.{Line}
+use Rattle.ed_answers.specs.EntryState.{entry_state}
+use Rattle.ed_words.proofs.SizeLemmas.{least}
+use Rattle.ed_library.specs.Images.{image_word}
+use Rattle.ed_library.specs.Routines.{place_count}
+use Rattle.ed_store.specs.Cells.{short_at}
+use Rattle.ed_machine.specs.State.{State}
+use Rattle.ed_words.specs.Sizes.{locations}
+use Rattle.ed_machine.proofs.Kit.Frames.{Frame, Moment}
+use Rattle.ed_routines.proofs.Journeys.{HasRoutine}
+use Rattle.ed_machine.proofs.Kit.Standing.{Holds, Meets}
+use Rattle.ed_sources.proofs.AtEntry.{has_image, have_places, placed, word_at}
+use Rattle.ed_sources.proofs.Decimals.{among, numbers}
+
+-- whether a word is the wanted one, if one is wanted
+abbrev pub is_met : Option ℕ → ℕ → Bool
+is_met None w = true
+is_met (Some x) w = nat_eq w x
+
+pub meets_of : (o : Option ℕ) (w : ℕ) → is_met o w ≡ true → Meets o w
+meets_of None w h = tt
+meets_of (Some x) w h = eq_of w x h
+
+module _ (z : Size) (lines : List Line) where
+  -- if the words below a location are known
+  module _ (word : ℕ → Option ℕ) (top : ℕ)
+      (word_is : (a : ℕ) → 44 ≤ a → a < top → short_at (entry_state z lines).store a ≡ unwrap_or (word a) 0) where
+    -- a store holds an image at a base
+    pub holds_by : (image : List (Option ℕ)) (base : ℕ)
+        → list_all (λ i. is_met (get_or image i None) (unwrap_or (word (base + i)) 0)) (numbers 0 (length image)) ≡ true
+        → 44 ≤ base → base + length image ≤ top → Holds image (entry_state z lines).store.words base
+    holds_by image base test low high i l =
+        let met : is_met (get_or image i None) (unwrap_or (word (base + i)) 0) ≡ true =
+        among (λ i. is_met (get_or image i None) (unwrap_or (word (base + i)) 0)) 0 (length image) i test (omega arith)
+        (omega arith) in
+        let here = word_is (base + i) (omega arith) (omega arith) in
+        rw here (meets_of (get_or image i None) (unwrap_or (word (base + i)) 0) met)
+
+    -- and a routine of the library outside a piece
+    pub routine_by : {n h : ℕ} (f : Frame n h) (r base : ℕ) (parameters : List ℕ)
+        → list_all (λ i. nat_eq (unwrap_or (word (base + i)) 0) (image_word r i base parameters))
+        (numbers 0 (place_count r)) ≡ true
+        → 56 ≤ base → base + place_count r ≤ 512 → base + place_count r ≤ top → base < f.top
+        → (base + place_count r ≤ f.base) ⊎ (f.base + n ≤ base)
+        → HasRoutine f (entry_state z lines).store.words r base parameters
+    routine_by f r base parameters test low high under reached apart = record {
+      low = low;
+      fits = let size = least f.size in omega arith;
+      reached = reached;
+      apart = apart;
+      at2 = refl;
+      at3 = refl;
+      image = λ i l free. word_is (base + i) (omega arith) (omega arith)
+          ∙ eq_of (unwrap_or (word (base + i)) 0) (image_word r i base parameters)
+          (among (λ i. nat_eq (unwrap_or (word (base + i)) 0) (image_word r i base parameters)) 0 (place_count r) i test
+          (omega arith) (omega arith));
+    }
+
+  -- the same where all words of the source are known
+  module _ (fit : have_places (placed lines) ≡ true) where
+    pub stands_at : (image : List (Option ℕ)) (base : ℕ)
+        → list_all (λ i. is_met (get_or image i None) (unwrap_or (placed_at (placed lines) (base + i)) 0))
+        (numbers 0 (length image)) ≡ true
+        → 44 ≤ base → base + length image ≤ 1024 → Holds image (entry_state z lines).store.words base
+    stands_at = holds_by (placed_at (placed lines)) 1024 (word_at z lines fit)
+
+    pub routine_at : {n h : ℕ} (f : Frame n h) (r base : ℕ) (parameters : List ℕ)
+        → has_image (placed lines) r base parameters ≡ true → 56 ≤ base → base + place_count r ≤ 512 → f.size ≡ z
+        → base < f.top
+        → (base + place_count r ≤ f.base) ⊎ (f.base + n ≤ base)
+        → HasRoutine f (entry_state z lines).store.words r base parameters
+    routine_at f r base parameters test low high same reached apart =
+        routine_by (placed_at (placed lines)) 1024 (word_at z lines fit) f r base parameters test low high (omega arith)
+        reached apart
+
+-- a piece of n cells at 56, the base of a source's program, and what is around it at its entry
+abbrev pub frame_at : (n : ℕ) (z : Size) → n ≤ 456 → Frame n 0
+frame_at n z few = record {
+  size = z;
+  base = 56;
+  top = locations z;
+  under = let size = least z in omega arith;
+  fits = omega arith;
+}
+
+abbrev pub moment_at : State → Moment
+moment_at s = record {
+  words = s.store.words;
+  digits = s.store.sandwich;
+  cells = [];
+  pairs = [];
+  acc = 0;
+  multiplier = s.multiplier;
+  counter = 56;
+  tape = s.tape;
+  last = None;
+}

@@ -1,0 +1,35 @@
+mod DemoTexts
+pub mod WovenLines
+pub mod TextLines
+pub mod CallTexts
+pub mod Decimals
+pub mod Said
+pub mod SaidMaths
+pub mod SaidDemo
+pub mod Faultless
+mod DemoNames
+pub mod DemoFaultless
+pub mod CallsAccepted
+pub mod DemoAccepted
+pub mod Stops
+mod Calling
+mod CalledRoutines
+pub mod AtEntry
+pub mod Entries
+pub mod Blocks
+mod DemoLoop
+mod DemoPlaced
+mod DemoCost
+pub mod DemoEnds
+mod CalledMaths
+mod Along
+pub mod PrintAndNewline
+pub mod CheckedPrint
+pub mod CheckedPaper
+pub mod ReadAndPrint
+pub mod DivideAndPrint
+pub mod RootAndPrint
+pub mod Papers
+pub mod Stopped
+pub mod CallRuns
+pub mod DemoRuns

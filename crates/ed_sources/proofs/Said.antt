@@ -1,0 +1,286 @@
+-- What the lines of the sources of calls say.
+use Rattle.std.proofs.Common.{◌≡◌, ◌∙◌, ℕ, ◌+◌, ◌<◌, ◌≤◌, Bool, true, false}
+use Rattle.std.proofs.Common.{List, [], ◌∷◌, ◌++◌, refl, sym, ap, subst, arith}
+use Rattle.std.proofs.Common.{append_assoc, append-nil, length}
+use Rattle.std.proofs.Common.{length-append, map, codes, pos, nat_le, lit≤}
+use Rattle.std.specs.Prelude.{◌==◌, not, Option, Some, None, Ok}
+use Rattle.std.specs.Fmt.{decimal}
+use Rattle.std.specs.List.{list_all}
+use Rattle.std.proofs.lemmas.Bool.{and_parts, not-true}
+use Rattle.std.proofs.lemmas.List.{length-map, map-append}
+use Rattle.std.proofs.lemmas.List.Folds.{list_all-append}
+use Rattle.ed_words.proofs.Numbers.{le_true, lt_false}
+use Rattle.ed_codes.specs.Spelling.{row_of}
+use Rattle.ed_words.specs.Texts.{Text}
+use Rattle.ed_words.specs.Decimals.{is_digit}
+use Rattle.ed_syntax.specs.Parts.{LinePart, run, sign, quoted}
+use Rattle.ed_syntax.specs.Names.{is_run_byte}
+use Rattle.ed_syntax.specs.Private.PartReading.{parts_from, parts_of}
+use Rattle.ed_words.specs.Decimals.{value}
+use Rattle.ed_syntax.specs.Parts.{array, is_number, modulo}
+use Rattle.ed_syntax.specs.Names.{is_name}
+use Rattle.ed_syntax.specs.Private.Grammar.{form_at, row, settings, spells}
+use Rattle.ed_syntax.specs.Parts.{is_line_byte}
+use Rattle.ed_syntax.specs.Private.SourceReading.{line_of}
+use Rattle.ed_syntax.specs.declared.program.Line.{Line}
+use Rattle.ed_syntax.specs.declared.program.Operand.TheVariants as operands
+use Rattle.ed_syntax.specs.declared.program.Setting.{Setting}
+use Rattle.ed_syntax.specs.declared.program.Statement.{Statement}
+use Rattle.ed_syntax.specs.declared.program.Statement.TheVariants as statements
+use Rattle.ed_syntax.proofs.PartLemmas.{run_parts}
+use Rattle.ed_library.specs.declared.call.Call.TheVariants.{Check, NewLine, Print, Read}
+use Rattle.ed_sources.proofs.CallTexts.{call_lines}
+use Rattle.ed_sources.proofs.TextLines.{Says, ends, says, by_parts}
+use Rattle.ed_sources.proofs.Decimals.{are, are_digits, decimal_is, digit_bytes}
+use Rattle.ed_sources.proofs.Decimals.{few_bytes, line_bytes, no_quotes, row_bytes}
+use Rattle.ed_sources.proofs.Decimals.{rows_are, run_bytes, some_digit, value_is, written}
+use Rattle.ed_routines.specs.Digits.{digits}
+
+-- ---- lines
+
+abbrev pub said : ℕ → Option Text → Statement → Line
+said k label statement = record { number = k; label = label; statement = Some statement }
+
+-- an order that names a location
+abbrev pub order : ℕ → Text → Statement
+order function name = statements.Order function (operands.Label name (pos 0)) false
+
+-- the two orders of a call of a routine
+abbrev calling : ℕ → Text → Text → List Line
+calling k label routine = said k (Some label) (order 28 label) ∷ said (k + 1) None (order 27 routine) ∷ []
+
+-- the order Z F
+abbrev pub stop : Statement
+stop = statements.Order 13 (operands.Number 0) false
+
+-- calls of routines one after the other, by their labels and names, the stop after them, and more lines
+abbrev calls_from : ℕ → List (Text × Text) → List Line → List Line
+calls_from k [] more = said k None stop ∷ more
+calls_from k (c ∷ calls) more = calling k c.0 c.1 ++ calls_from (k + 2) calls more
+
+-- a source whose segment `main` begins with such calls
+abbrev pub main_calls : List (Text × Text) → List Line → List Line
+main_calls calls more = said 1 None (statements.Segment (codes "main") None) ∷ calls_from 2 calls more
+
+-- a parameter set to a name
+abbrev pub at_place : ℕ → Text → Setting
+at_place letter name = record { letter = letter; operand = operands.Label name (pos 0) }
+
+-- `use` with parameters, and with H set to a place
+abbrev pub use_with : Text → Text → List Setting → Statement
+use_with routine name parameters = statements.Fetch routine name (array parameters)
+
+abbrev pub use_on : Text → Text → Text → Statement
+use_on routine name place = use_with routine name (at_place 21 place ∷ [])
+
+abbrev pub print_lines : ℕ → List Line
+print_lines n =
+    main_calls ((codes "here", codes "p") ∷ [])
+    (said 5 (Some (codes "value")) (statements.Number n)
+    ∷ said 6 None (use_on (codes "print") (codes "p") (codes "value"))
+    ∷ said 7 None (statements.Enter (codes "main"))
+    ∷ [])
+
+abbrev pub read_lines : ℕ → List Line
+read_lines n =
+    main_calls ((codes "here", codes "r") ∷ (codes "then", codes "p") ∷ [])
+    (said 7 (Some (codes "value")) (statements.Order 0 (operands.Number 0) false)
+    ∷ said 8 None (use_on (codes "read") (codes "r") (codes "value"))
+    ∷ said 9 None (use_on (codes "print") (codes "p") (codes "value"))
+    ∷ said 10 None (statements.Enter (codes "main"))
+    ∷ said 11 None (statements.Rows (array (digits n ++ 17 ∷ [])))
+    ∷ [])
+
+abbrev pub newline_lines : List Line
+newline_lines =
+    main_calls ((codes "here", codes "n") ∷ [])
+    (said 5 None (use_with (codes "newline") (codes "n") [])
+    ∷ said 6 None (statements.Enter (codes "main"))
+    ∷ [])
+
+abbrev pub check_lines : ℕ → List Line
+check_lines n =
+    main_calls ((codes "here", codes "p") ∷ [])
+    (said 5 (Some (codes "value")) (statements.Number n)
+    ∷ said 6 None (use_on (codes "print") (codes "p") (codes "value"))
+    ∷ said 7 None (use_on (codes "check") (codes "c") (codes "main"))
+    ∷ said 8 None (statements.Enter (codes "c"))
+    ∷ [])
+
+-- a `use` line with H
+print_used : line_of false 6 (codes "use print as p with H=value")
+    ≡ Ok (record { label = None; statement = Some (use_on (codes "print") (codes "p") (codes "value")) })
+unfolding settings
+print_used = refl
+
+read_used : line_of false 8 (codes "use read as r with H=value")
+    ≡ Ok (record { label = None; statement = Some (use_on (codes "read") (codes "r") (codes "value")) })
+unfolding settings
+read_used = refl
+
+print_used_too : line_of false 9 (codes "use print as p with H=value")
+    ≡ Ok (record { label = None; statement = Some (use_on (codes "print") (codes "p") (codes "value")) })
+unfolding settings
+print_used_too = refl
+
+check_used : line_of false 7 (codes "use check as c with H=main")
+    ≡ Ok (record { label = None; statement = Some (use_on (codes "check") (codes "c") (codes "main")) })
+unfolding settings
+check_used = refl
+
+-- ---- the line with the number
+
+pub number_parts : (bytes : Text) → 0 < length bytes → list_all is_run_byte bytes ≡ true
+    → parts_of bytes ≡ Some (run bytes ∷ [])
+number_parts [] some h = absurd (omega arith)
+number_parts (b ∷ r) some h = ap parts_of (sym (append-nil (b ∷ r))) ∙ run_parts b r [] h refl
+
+pub a_number : (bytes : Text) → 0 < length bytes → list_all is_digit bytes ≡ true → is_number bytes ≡ true
+a_number [] some h = absurd (omega arith)
+a_number (b ∷ r) some h = h
+
+-- what the front of a line that ends with `word N` makes of the line, whatever follows: its label and the parts
+-- before `word`
+pub record IsWordFront (k : ℕ) (front : Text) (label : Option Text) (before : List LinePart) : Type 0 where
+  pub plain : (bytes : Text) → list_all is_line_byte bytes ≡ true → list_all is_line_byte (front ++ bytes) ≡ true
+  pub short : length front ≤ 20
+  pub parts : (bytes : Text) → parts_of bytes ≡ Some (run bytes ∷ [])
+      → parts_of (front ++ bytes) ≡ Some (before ++ run (codes "word") ∷ run bytes ∷ [])
+  pub form : (bytes : Text) → is_number bytes ≡ true → nat_le (value bytes) 131071 ≡ true
+      → form_at false k (before ++ run (codes "word") ∷ run bytes ∷ [])
+      ≡ Some (Some (record { label = label; statement = Some (statements.Number (modulo 17 (pos (value bytes)))) }))
+
+-- the parts of a label
+abbrev pub label_parts : Text → List LinePart
+label_parts label = run label ∷ sign 58 ∷ []
+
+module _ {k : ℕ} {front : Text} {label : Option Text} {before : List LinePart}
+    (is_front : IsWordFront k front label before) where
+  word_line : (bytes : Text) (n : ℕ) → list_all is_line_byte bytes ≡ true → length bytes ≤ 5
+      → parts_of bytes ≡ Some (run bytes ∷ [])
+      → is_number bytes ≡ true → value bytes ≡ n → n < 65536
+      → line_of false k (front ++ bytes) ≡ Ok (record { label = label; statement = Some (statements.Number n) })
+  word_line bytes n plain few parts number is small =
+      let long = length-append front bytes in
+      let short = is_front.short in
+      let same : modulo 17 (pos (value bytes)) ≡ n = omega (arith, is, small) in
+      by_parts k (front ++ bytes) (before ++ run (codes "word") ∷ run bytes ∷ []) (is_front.plain bytes plain)
+      (lt_false 120 (length (front ++ bytes)) (omega (arith, long, few)))
+      (is_front.parts bytes parts)
+      (is_front.form bytes number (le_true (value bytes) 131071 (omega (arith, is, small)))
+      ∙ ap (λ m. Some (Some (record { label = label; statement = Some (statements.Number m) }))) same)
+
+  pub word_says : (n : ℕ) → n < 65536
+      → line_of false k (front ++ decimal n) ≡ Ok (record { label = label; statement = Some (statements.Number n) })
+  word_says n small =
+      let ds : List ℕ = digits n in
+      let few = few_bytes n small in
+      let some : 0 < length (written ds) = let e = some_digit n in omega (arith, length-map ds (λ d. 48 + d), e) in
+      subst (λ (bytes : Text). line_of false k (front ++ bytes) ≡ Ok (record {
+        label = label;
+        statement = Some (statements.Number n);
+      }))
+      (decimal_is n small)
+      (word_line (written ds) n (line_bytes ds (are n small)) few
+      (number_parts (written ds) some (run_bytes ds (are n small)))
+      (a_number (written ds) some (digit_bytes ds (are n small))) (value_is n small) small)
+
+  -- the same in a woven text
+  pub woven_says : (n : ℕ) → n < 65536
+      → line_of false k (front ++ (decimal n ++ []))
+      ≡ Ok (record { label = label; statement = Some (statements.Number n) })
+  woven_says n small = ap (λ (t : Text). line_of false k (front ++ t)) (append-nil (decimal n)) ∙ word_says n small
+
+-- a label that is a name, and `word`
+pub named_front : (k : ℕ) (label : Text) → (k == 1) ≡ false → is_name label ≡ true → length label ≤ 8
+    → list_all is_run_byte label ≡ true → list_all is_line_byte label ≡ true
+    → IsWordFront k (label ++ codes ": word ") (Some label) (label_parts label)
+named_front k [] later named few runs plain = cc
+named_front k (b ∷ bs) later named few runs plain =
+    let label : Text = b ∷ bs in
+    let mark : Text = codes ": word " in
+    record {
+      plain = λ bytes h.
+          list_all-append is_line_byte (label ++ mark) bytes
+          ∙ rw (list_all-append is_line_byte label mark, plain, h) refl;
+      short = let long = length-append label mark in omega (arith, long, few);
+      parts = λ bytes h.
+          ap parts_of (append_assoc label mark bytes) ∙ run_parts b bs (mark ++ bytes) runs refl ∙ rw h refl;
+      form = λ bytes number in_range. rw (later, named, number, in_range) refl;
+    }
+
+value_front : IsWordFront 5 (codes "value: word ") (Some (codes "value")) (label_parts (codes "value"))
+value_front = named_front 5 (codes "value") refl refl (lit≤ tt) refl refl
+
+pub print_says : (n : ℕ) → n < 65536 → Says 1 (call_lines (Print n)) (print_lines n)
+print_says n small = says refl
+    (says refl (says refl (says refl (says (woven_says value_front n small) (says print_used (says refl ends))))))
+
+pub check_says : (n : ℕ) → n < 65536 → Says 1 (call_lines (Check n)) (check_lines n)
+check_says n small =
+    says refl (says refl (says refl
+    (says refl (says (woven_says value_front n small) (says print_used (says check_used (says refl ends)))))))
+
+pub newline_says : Says 1 (call_lines NewLine) newline_lines
+newline_says = says refl (says refl (says refl (says refl (says refl (says refl ends)))))
+
+-- ---- the line with the rows of a number
+
+-- digits and F between quotes
+quoted_digits : (q : Text) (ds : List ℕ) → list_all (λ b. not (b == 34)) (written ds) ≡ true
+    → parts_from (Some q) (written ds ++ 70 ∷ 34 ∷ []) ≡ Some (quoted (q ++ (written ds ++ 70 ∷ [])) ∷ [])
+quoted_digits q [] h = refl
+quoted_digits q (d ∷ ds) h =
+    let p = and_parts (not (48 + d == 34)) (list_all (λ b. not (b == 34)) (written ds)) h in
+    let other : (48 + d == 34) ≡ false = not-true (48 + d == 34) p.0 in
+    rw other (quoted_digits (q ++ (48 + d) ∷ []) ds p.1
+    ∙ ap (λ (t : Text). Some (quoted t ∷ [])) (append_assoc q ((48 + d) ∷ []) (written ds ++ 70 ∷ [])))
+
+-- the same, and F after them
+with_F : (test : ℕ → Bool) (bytes : Text) → list_all test bytes ≡ true → test 70 ≡ true
+    → list_all test (bytes ++ 70 ∷ []) ≡ true
+with_F test [] h k = rw k refl
+with_F test (b ∷ bytes) h k =
+    let p = and_parts (test b) (list_all test bytes) h in rw (p.0, with_F test bytes p.1 k) refl
+
+-- and the quote after them
+pub with_end : (bytes : Text) → list_all is_line_byte bytes ≡ true
+    → list_all is_line_byte (bytes ++ 70 ∷ 34 ∷ []) ≡ true
+with_end [] h = refl
+with_end (b ∷ bytes) h =
+    let p = and_parts (is_line_byte b) (list_all is_line_byte bytes) h in rw (p.0, with_end bytes p.1) refl
+
+rows_line : (ds : List ℕ) → are_digits ds ≡ true → length (written ds) ≤ 5
+    → line_of false 11 (codes "data " ++ 34 ∷ written ds ++ 70 ∷ 34 ∷ [])
+    ≡ Ok (record { label = None; statement = Some (statements.Rows (array (ds ++ 17 ∷ []))) })
+rows_line ds are few =
+    let bytes : Text = written ds in
+    let quote : Text = bytes ++ 70 ∷ [] in
+    let all_long = length-append bytes (70 ∷ 34 ∷ []) in
+    let plain : list_all is_line_byte (bytes ++ 70 ∷ 34 ∷ []) ≡ true = with_end bytes (line_bytes ds are) in
+    let long = length-append bytes (70 ∷ []) in
+    let some = le_true 1 (length quote) (omega (arith, long)) in
+    let fits = le_true (length quote) 120 (omega (arith, long, few)) in
+    let spelled : list_all (λ b. spells (row_of b)) quote ≡ true =
+    with_F (λ b. spells (row_of b)) bytes (row_bytes ds are) refl in
+    let rows : map (λ b. row (row_of b)) quote ≡ ds ++ 17 ∷ [] =
+    map-append (λ b. row (row_of b)) bytes (70 ∷ []) ∙ ap (λ (x : List ℕ). x ++ 17 ∷ []) (rows_are ds are) in
+    by_parts 11 (codes "data " ++ 34 ∷ bytes ++ 70 ∷ 34 ∷ []) (run (codes "data") ∷ quoted quote ∷ []) plain
+    (lt_false 120 _ (omega (arith, all_long, few)))
+    (rw (quoted_digits [] ds (no_quotes ds are)) refl)
+    (rw (some, fits, spelled)
+    (ap (λ (x : List ℕ). Some (Some (record { label = None; statement = Some (statements.Rows (array x)) }))) rows))
+
+read_number : (n : ℕ) → n < 65536
+    → line_of false 11 (codes "data " ++ 34 ∷ decimal n ++ 70 ∷ 34 ∷ [])
+    ≡ Ok (record { label = None; statement = Some (statements.Rows (array (digits n ++ 17 ∷ []))) })
+read_number n small =
+    subst (λ (bytes : Text). line_of false 11 (codes "data " ++ 34 ∷ bytes ++ 70 ∷ 34 ∷ [])
+    ≡ Ok (record { label = None; statement = Some (statements.Rows (array (digits n ++ 17 ∷ []))) }))
+    (decimal_is n small) (rows_line (digits n) (are n small) (few_bytes n small))
+
+pub read_says : (n : ℕ) → n < 65536 → Says 1 (call_lines (Read n)) (read_lines n)
+read_says n small =
+    says refl (says refl (says refl
+    (says refl (says refl (says refl (says refl (says read_used (says print_used_too (says refl
+    (says (read_number n small) ends))))))))))

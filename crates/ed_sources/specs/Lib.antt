@@ -1,0 +1,4 @@
+pub mod CallSources
+pub mod DemoSources
+pub mod CallRuns
+pub mod DemoRuns
