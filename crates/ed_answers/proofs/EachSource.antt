@@ -8,7 +8,7 @@ use Rattle.ed_library.specs.Entries.{catalogue}
 use Rattle.ed_library.specs.Ready.{is_ready}
 use Rattle.ed_syntax.specs.Lines.{lines_of}
 use Rattle.ed_syntax.specs.Sources.{IsProgram, IsProgramOrFault}
-use Rattle.ed_syntax.specs.Private.SourceReading.{is_two, program_of}
+use Rattle.ed_syntax.specs.Reading.Sources.{is_two, program_of}
 use Rattle.ed_syntax.specs.declared.program.Line.{Line}
 use Rattle.ed_syntax.specs.declared.fault.SourceCause.{SourceCause}
 use Rattle.ed_syntax.specs.declared.fault.SourceFault.{SourceFault}
@@ -18,7 +18,7 @@ use Rattle.ed_syntax.proofs.SourceLaws.{has_one_meaning, program_is_read, source
 use Rattle.ed_link.specs.Faults.{IsMeaningFault}
 use Rattle.ed_answers.specs.Refusals.{IsAcceptedAs, IsRefused, for_form, for_meaning, IsAcceptedOrRefused}
 use Rattle.ed_answers.specs.Refusals.{EachSourceHasOneAnswer}
-use Rattle.ed_link.specs.Private.FaultTests.{fault}
+use Rattle.ed_link.specs.FaultTests.{fault}
 use Rattle.ed_link.proofs.Accepted.{accepted_law}
 use Rattle.ed_link.proofs.FaultLaw.{FaultIsFound, fault_law}
 use Rattle.ed_answers.specs.EntryState.{EachSourceComes}

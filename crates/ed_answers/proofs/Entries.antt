@@ -22,7 +22,7 @@ use Rattle.ed_link.specs.Answers.{IsLinked}
 use Rattle.ed_link.specs.Linked.{linked_words, entry_of, data_after}
 use Rattle.ed_answers.proofs.EachSource.{each_source as comes_to}
 use Rattle.ed_link.specs.Tapes.{ComesToLinked, arrival, cost, tape}
-use Rattle.ed_answers.specs.EntryState.{Enters, EachSourceEnters, entry_state, loader_words}
+use Rattle.ed_answers.specs.EntryState.{Enters, EachSourceEnters, entry_state, entry_store, loader_words}
 
 -- words placed over stores that agree from 44 upwards agree there
 one : (v w : List ℕ) (p x : ℕ) (t : Bool) → nat_lt p 44 ≡ t → drop 44 v ≡ drop 44 w
@@ -73,7 +73,7 @@ module _ (z : Size) (lines : List Line) (loads : ComesToLinked z lines) where
   pub leads : LeadsIn (first_state z (tape lines)) (arrival (first_state z (tape lines)).store.words lines)
   leads = comes_in _ _ (first_store z (tape lines)) (starts z (tape lines)) comes
 
-  pub enters : Enters z lines
+  pub enters : Enters z lines (entry_store lines)
   enters = record {
     state_is = leads.arrives ∙ entered z lines;
     silent = leads.prints_none;

@@ -1,21 +1,22 @@
--- The store at the entry of a source has the words of its lines.
+-- The store at the entry of a source: the Initial Orders, and the words of its lines.
 use Rattle.std.proofs.Common.{◌≡◌, ℕ, ◌+◌, ◌-◌, ◌<◌, ◌≤◌, refl, ap, ◌∙◌, arith, Bool, true, false}
 use Rattle.std.proofs.Common.{List, [], ◌∷◌, length, drop, get_or, nat_eq, Option, Some, None}
 use Rattle.std.specs.Prelude.{replicate, reverse, unwrap_or}
-use Rattle.std.proofs.lemmas.List.{get_or-append_right, get_or-drop, get_or-replicate, length-replicate}
+use Rattle.std.proofs.lemmas.List.{get_or-append_right, get_or-drop, get_or-replicate, length-append, length-drop, length-replicate}
+use Rattle.std.proofs.Math.ListN.{get_or-append}
 use Rattle.ed_words.specs.declared.size.Size.{Size}
 use Rattle.ed_words.proofs.Numbers.{eq_of, eq_true}
 use Rattle.ed_words.proofs.SizeLemmas.{most}
 use Rattle.ed_store.specs.Cells.{short_at}
 use Rattle.ed_notation.specs.Checks.{ArePlaces}
 use Rattle.ed_notation.specs.Fold.{over, placed_at}
-use Rattle.ed_notation.proofs.Contents.{content_is}
+use Rattle.ed_notation.proofs.Contents.{content_is, length-over}
 use Rattle.ed_syntax.specs.declared.program.Line.{Line}
 use Rattle.ed_link.specs.Linked.{linked_words}
 use Rattle.ed_link.specs.Words.{WordsStand, linked_word}
 use Rattle.ed_link.proofs.WordLaws.{each_word_stands}
 use Rattle.ed_answers.specs.EntryState.{entry_store, loader_words}
-use Rattle.ed_answers.specs.EntryWords.{EachEntryHasWords, EntryHasWords, IsFreePlace}
+use Rattle.ed_answers.specs.EntryWords.{EachEntryStoreIs, IsEntryStore, IsFreePlace}
 
 -- all words of a list have locations of the store if each does
 are_places : (ps : List (ℕ × ℕ)) → ((a w : ℕ) → placed_at ps a ≡ Some w → a < 1024) → ArePlaces ps
@@ -41,6 +42,11 @@ module _ (lines : List Line) where
 
   first_words : length (loader_words lines) ≡ 44
   first_words = refl
+
+  pub words_count : length (entry_store lines).words ≡ 1024
+  words_count =
+      length-append (loader_words lines) (drop 44 (over placed zeros))
+      ∙ ap (λ n. 44 + n) (length-drop 44 (over placed zeros) ∙ ap (λ n. n - 44) (length-over placed zeros))
 
   -- a word after those of the Initial Orders
   pub entry_word : ArePlaces placed → (a : ℕ) → 44 ≤ a → a < 1024
@@ -72,12 +78,15 @@ module _ (z : Size) (lines : List Line) (w : WordsStand z lines) where
       by_word None e = refl
       by_word (Some v) e = let o = w.only a v e in absurd (none o.0 o.1 v o.2 o.3)
 
-  entry_has_words : EntryHasWords lines
-  entry_has_words = record {
+  store_is : IsEntryStore lines (entry_store lines)
+  store_is = record {
+    count = words_count lines;
+    loader = λ place low. get_or-append (loader_words lines) _ 0 place low;
     lines_have = λ before l place word s p. has place word (w.stands before l place word s p);
     parameters_have = λ before l place word s p last. has place word (w.sets before l place word s p last);
     free_have = free;
+    sandwich = refl;
   }
 
-pub each_entry_has_words : EachEntryHasWords
-each_entry_has_words z source lines a = entry_has_words z lines (each_word_stands z lines a.faultless)
+pub each_entry_store_is : EachEntryStoreIs
+each_entry_store_is z source lines a = store_is z lines (each_word_stands z lines a.faultless)

@@ -3,13 +3,13 @@ use Rattle.std.proofs.Common.{◌≡◌, inl, ℕ, refl, lit≤, false, Some, No
 use Rattle.std.specs.Prelude.{codes, Ok, Err, Result}
 use Rattle.ed_words.specs.declared.size.Size.{Size}
 use Rattle.ed_words.specs.declared.size.Size.TheVariants.{Small, Full}
-use Rattle.ed_syntax.specs.Private.Grammar.{settings}
-use Rattle.ed_syntax.specs.Private.SourceReading.{program_of, Fault}
+use Rattle.ed_syntax.specs.Reading.Grammar.{settings}
+use Rattle.ed_syntax.specs.Reading.Sources.{program_of, Fault}
 use Rattle.ed_syntax.specs.declared.program.Line.{Line}
 use Rattle.ed_syntax.specs.declared.fault.SourceCause.{SourceCause}
 use Rattle.ed_syntax.specs.declared.fault.SourceCause.TheVariants as causes
 use Rattle.ed_syntax.specs.declared.fault.SourceFault.TheVariants.{At}
-use Rattle.ed_link.specs.Private.FaultTests.{fault}
+use Rattle.ed_link.specs.FaultTests.{fault}
 use Rattle.ed_syntax.specs.declared.program.Operand.TheVariants.{Number}
 use Rattle.ed_syntax.specs.declared.program.Statement.TheVariants.{Segment, Order}
 use Rattle.ed_link.specs.Faults.{IsMeaningFault, HasNoFault, LineHasCause}

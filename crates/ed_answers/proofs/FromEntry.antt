@@ -13,8 +13,8 @@ use Rattle.ed_link.specs.Answers.{IsLinked}
 use Rattle.ed_link.specs.Linked.{entry_of}
 use Rattle.ed_link.specs.Tapes.{cost, tape}
 use Rattle.ed_link.specs.declared.linked.Linked.{Linked}
-use Rattle.ed_answers.specs.EntryState.{Enters, entry_state}
-use Rattle.ed_answers.specs.EntryWords.{EntryHasWords}
+use Rattle.ed_answers.specs.EntryState.{Enters, entry_state, entry_store}
+use Rattle.ed_answers.specs.EntryWords.{IsEntryStore}
 use Rattle.ed_answers.proofs.Entries.{enters as enters_of}
 use Rattle.ed_report.specs.Notes.{entry_note}
 use Rattle.ed_words.specs.Texts.{Text}
@@ -24,6 +24,7 @@ use Rattle.ed_initial.specs.Entry.{first_state}
 use Rattle.ed_answers.specs.Runs.{paper_room, post_mortem_codes, ran_outcome, run_of, with_post_mortem}
 use Rattle.ed_answers.specs.Sources.{entered_before}
 use Rattle.ed_answers.specs.Headline.{RunsFromEntry}
+use Rattle.ed_answers.specs.FromEntry.{AnswersFromEntry}
 use Rattle.ed_answers.specs.Replies.{IsRan}
 use Rattle.ed_answers.specs.declared.running.FinishedRun.{FinishedRun}
 use Rattle.ed_answers.proofs.Keeping.{run_follows}
@@ -50,7 +51,7 @@ silent limit resumes room k s went below =
     ∙ none_first resumes room (state_after limit s)
 
 -- the run from Start is that from the state at the entry, with the limit less the cost
-run_on : (s : Settings) (lines : List Line) → Enters s.size lines → cost lines ≤ s.limit
+run_on : (s : Settings) (lines : List Line) → Enters s.size lines (entry_store lines) → cost lines ≤ s.limit
     → run_of s (tape lines) ≡ run_end (s.limit - cost lines) s.resumes paper_room (entry_state s.size lines)
 run_on s lines enters fits =
     ran_later s.limit s.resumes paper_room (cost lines) (first_state s.size (tape lines)) enters.went fits
@@ -73,17 +74,27 @@ goes_on s k entered (Ok left) fits at is = λ lines linked.
     (sym (run_on s lines (enters_of s.size lines linked.loads) few)) went) in
     whole fits is
 
-pub runs_from_entry : (s : Settings) (lines : List Line) → Enters s.size lines → EntryHasWords lines
-    → RunsFromEntry s lines
-runs_from_entry s lines enters has_words = record {
+pub runs_from_entry : (s : Settings) (lines : List Line) → Enters s.size lines (entry_store lines)
+    → IsEntryStore lines (entry_store lines) → RunsFromEntry s lines
+runs_from_entry s lines enters store_is = record {
+  store = entry_store lines;
+  store_is = store_is;
   enters = enters;
-  has_words = has_words;
-  runs = λ fits.
+  runs = run_on s lines enters;
+  short = silent s.limit s.resumes paper_room (cost lines) (first_state s.size (tape lines)) enters.went;
+}
+
+-- ---- what `run` answers
+
+pub answers_from_entry : (s : Settings) (lines : List Line) → Enters s.size lines (entry_store lines)
+    → AnswersFromEntry s lines
+answers_from_entry s lines enters = record {
+  enters = enters;
+  entered = λ fits.
       let from : RunEnd = run_end (s.limit - cost lines) s.resumes paper_room (entry_state s.size lines) in
-      let later : run_of s (tape lines) ≡ from = run_on s lines enters fits in
       let kept : cost lines ≤ from.state.orders =
       (run_follows (s.limit - cost lines) s.resumes paper_room (entry_state s.size lines)).later in
-      ap (λ (r : RunEnd). ran_outcome (entered_before lines r.state) (with_post_mortem s.post_mortem r)) later
+      ap (λ (e : RunEnd). ran_outcome (entered_before lines e.state) (with_post_mortem s.post_mortem e)) (run_on s lines enters fits)
       ∙ ap (λ (before : Text). ran_outcome before (with_post_mortem s.post_mortem from))
       (reached lines from.state kept);
   short = λ below.

@@ -13,7 +13,7 @@ use Rattle.ed_report.specs.Notes.{entry_note}
 use Rattle.ed_answers.specs.Outcome.{Outcome}
 use Rattle.ed_answers.specs.Runs.{paper_room, ran_outcome, with_post_mortem}
 use Rattle.ed_answers.specs.Listed.{EachListedIsLoaded, listed_places, up_to_entry}
-use Rattle.ed_answers.proofs.Sources.{headline}
+use Rattle.ed_answers.proofs.Sources.{each_answer_is_from_entry}
 
 -- a run of no order leaves the state unchanged
 no_order : (resumes room : ℕ) (s : State) → (run_end 0 resumes room s).state ≡ s
@@ -26,12 +26,12 @@ no_code resumes room s = refl
 
 pub each_listed_is_loaded : EachListedIsLoaded
 each_listed_is_loaded s source lines accepted =
-    let enters = (headline s source lines accepted).enters in
+    let enters = (each_answer_is_from_entry s source lines accepted).enters in
     record {
       listed = ap (λ (t : State). listing t.store (listed_places lines)) (sym enters.state_is);
       shown = λ w.
           let t : Settings = up_to_entry s lines w in
-          let whole = (headline t source lines accepted).runs (omega arith) in
+          let whole = (each_answer_is_from_entry t source lines accepted).entered (omega arith) in
           let none : cost lines - cost lines ≡ 0 = omega arith in
           let end : ℕ → RunEnd = λ n. with_post_mortem (Some w)
           (run_end n s.resumes paper_room (entry_state s.size lines)) in

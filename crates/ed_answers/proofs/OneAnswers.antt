@@ -5,8 +5,8 @@ use Rattle.std.specs.Prelude.{◌==◌, codes, Some, None, Result, Ok, Err, IfOk
 use Rattle.ed_words.specs.declared.size.Size.{Size}
 use Rattle.ed_words.specs.declared.size.Size.TheVariants.{Full}
 use Rattle.ed_words.specs.Texts.{Text}
-use Rattle.ed_syntax.specs.Private.Grammar.{settings}
-use Rattle.ed_syntax.specs.Private.SourceReading.{program_of}
+use Rattle.ed_syntax.specs.Reading.Grammar.{settings}
+use Rattle.ed_syntax.specs.Reading.Sources.{program_of}
 use Rattle.ed_syntax.specs.Sources.{HasFormFault, IsFormFault, IsProgram}
 use Rattle.ed_syntax.specs.declared.program.Line.{Line}
 use Rattle.ed_syntax.specs.declared.program.Operand.TheVariants.{Number}
@@ -22,7 +22,7 @@ use Rattle.ed_symbols.proofs.LeastFaults.{same_cause}
 use Rattle.ed_link.specs.Answers.{HasMeaningFault, IsLinked}
 use Rattle.ed_link.specs.Faults.{IsMeaningFault}
 use Rattle.ed_link.specs.declared.linked.Linked.{Linked}
-use Rattle.ed_link.specs.Private.FaultTests.{fault}
+use Rattle.ed_link.specs.FaultTests.{fault}
 use Rattle.ed_answers.proofs.FaultExamples.{source}
 use Rattle.ed_answers.proofs.EachSource.{read_law}
 

@@ -13,7 +13,7 @@ use Rattle.ed_notation.specs.Spellings.{canonicals, text_of}
 use Rattle.ed_notation.proofs.Canonical.{are_written}
 use Rattle.ed_notation.proofs.Texts.{are_codes, line_spells, text_reads}
 use Rattle.ed_syntax.specs.Lines.{lines_of}
-use Rattle.ed_syntax.specs.Private.SourceReading.{is_two}
+use Rattle.ed_syntax.specs.Reading.Sources.{is_two}
 use Rattle.ed_syntax.specs.Programs.{is_line, is_statement}
 use Rattle.ed_syntax.specs.declared.program.Line.{Line}
 use Rattle.ed_syntax.specs.declared.program.Statement.{Statement}

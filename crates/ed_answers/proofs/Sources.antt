@@ -25,7 +25,7 @@ use Rattle.ed_link.specs.declared.linked.Linked.{Linked}
 use Rattle.ed_link.specs.declared.linked.Placed.{Placed}
 use Rattle.ed_answers.specs.EntryState.{entry_state, entry_store}
 use Rattle.ed_answers.proofs.Entries.{each_source}
-use Rattle.ed_answers.proofs.EntryWords.{each_entry_has_words}
+use Rattle.ed_answers.proofs.EntryWords.{each_entry_store_is}
 use Rattle.ed_report.specs.Listings.{listing}
 use Rattle.ed_report.specs.Notes.{ending_line, source_fault_line}
 use Rattle.ed_words.specs.Texts.{Text}
@@ -35,12 +35,13 @@ use Rattle.ed_answers.specs.Outcome.{Outcome, done, refusal}
 use Rattle.ed_answers.specs.Runs.{post_mortem_codes, ran_outcome, run_of, status_of, with_post_mortem}
 use Rattle.ed_answers.specs.Sources.{OfSource, entered_before, listing_outcome, of_source, punch_outcome, run_outcome}
 use Rattle.ed_answers.specs.Headline.{Headline}
+use Rattle.ed_answers.specs.FromEntry.{EachAnswerIsFromEntry}
 use Rattle.ed_answers.specs.Replies.{Refuses, Gives, LinksSource, Replies, RunsSource}
 use Rattle.ed_answers.specs.declared.reply.Rejection.{Rejection}
 use Rattle.ed_answers.specs.declared.reply.Rejection.TheVariants as rejection
 use Rattle.ed_answers.specs.declared.reply.Reply.{Reply}
 use Rattle.ed_answers.specs.declared.source.NotedRun.{NotedRun}
-use Rattle.ed_answers.proofs.FromEntry.{runs_from_entry}
+use Rattle.ed_answers.proofs.FromEntry.{answers_from_entry, runs_from_entry}
 
 -- ---- what is made of a source
 
@@ -159,8 +160,15 @@ source_unanswered z accepted input (Err (rejection.Refused reply)) is = absurd (
 -- ---- that it is run from its entry
 
 pub headline : Headline
-headline s source lines a =
-    runs_from_entry s lines (each_source s.size source lines a) (each_entry_has_words s.size source lines a)
+headline = record {
+  runs = λ s source lines a.
+      runs_from_entry s lines (each_source s.size source lines a) (each_entry_store_is s.size source lines a);
+  refuses = λ z source none.
+      elim (one_answer.every z source) [ inl accepted ↦ absurd (none accepted.0 accepted.1) | inr refused ↦ refused ];
+}
+
+pub each_answer_is_from_entry : EachAnswerIsFromEntry
+each_answer_is_from_entry s source lines a = answers_from_entry s lines (each_source s.size source lines a)
 
 -- ---- the reply of a run
 

@@ -30,18 +30,11 @@ loader_words lines = over
     ∷ (42, theta_from 0 first_counter lines) ∷ (43, 1) ∷ [])
     (initial_orders ++ replicate 3 0)
 
--- the store at the entry: those words, and from 44 upwards the linked program's words over 0; every sandwich digit is 0
-abbrev pub entry_store : List Line → Cells
-entry_store lines = record {
-  words = loader_words lines ++ drop 44 (over (reverse (linked_words lines)) (replicate 1024 0));
-  sandwich = replicate 512 false;
-}
-
--- the state at the entry
-abbrev pub entry_state : Size → List Line → State
-entry_state z lines = record {
+-- the state at the entry, with its store
+abbrev pub entered_state : Size → List Line → Cells → State
+entered_state z lines c = record {
   size = z;
-  store = entry_store lines;
+  store = c;
   acc = 0;
   multiplier = T_F * 2 ^ 18;
   counter = entry_of lines;
@@ -50,19 +43,33 @@ entry_state z lines = record {
   orders = cost lines;
 }
 
+-- ---- the store by the linked program's words
+
+-- the store at the entry: those of the Initial Orders, and from 44 upwards the linked program's words over 0; every
+-- sandwich digit is 0
+abbrev pub entry_store : List Line → Cells
+entry_store lines = record {
+  words = loader_words lines ++ drop 44 (over (reverse (linked_words lines)) (replicate 1024 0));
+  sandwich = replicate 512 false;
+}
+
+-- the state at the entry
+abbrev pub entry_state : Size → List Line → State
+entry_state z lines = entered_state z lines (entry_store lines)
+
 -- for every source without a fault, reading its tape gives its linked program, from every store
 abbrev pub EachSourceComes : Type 0
 EachSourceComes =
     (z : Size) (source : Text) (lines : List Line) → IsAcceptedAs z source lines → ComesToLinked z lines
 
--- a cleared machine that is started on the punched tape reaches that state after the stated cost, which is at most 17
+-- a cleared machine that is started on the punched tape reaches the state at the entry, with this store, after the stated cost, which is at most 17
 -- orders for each row of the punched items, and 9 more; none of these orders prints or stops, so nothing is printed
-pub record Enters (z : Size) (lines : List Line) : Type 0 where
-  pub state_is : state_after (cost lines) (first_state z (tape lines)) ≡ entry_state z lines
+pub record Enters (z : Size) (lines : List Line) (c : Cells) : Type 0 where
+  pub state_is : state_after (cost lines) (first_state z (tape lines)) ≡ entered_state z lines c
   pub silent : (progress (cost lines) (first_state z (tape lines))).codes ≡ []
   pub went : (j : ℕ) → j < cost lines → (step (state_after j (first_state z (tape lines)))).turn ≡ Went
   pub cheap : cost lines ≤ 17 * length (punched_rows lines) + 9
 
 -- the same holds for every source that is accepted
 abbrev pub EachSourceEnters : Type 0
-EachSourceEnters = (z : Size) (source : Text) (lines : List Line) → IsAcceptedAs z source lines → Enters z lines
+EachSourceEnters = (z : Size) (source : Text) (lines : List Line) → IsAcceptedAs z source lines → Enters z lines (entry_store lines)

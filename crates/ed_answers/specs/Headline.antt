@@ -1,35 +1,34 @@
--- What holds of every source that is accepted: its tape leads to the state at the entry, and its run is the run from
--- there.
-use Rattle.std.specs.Prelude.{◌≡◌, ◌-◌, ◌<◌, ◌≤◌, List}
+-- What holds of every source: if it is accepted, its tape leads to the state at the entry, and its run is the run from
+-- there; if it isn't, it is refused at a line for a cause.
+use Rattle.std.specs.Prelude.{◌≡◌, ℕ, ◌-◌, ◌<◌, ◌≤◌, List, []}
+use Rattle.ed_words.specs.declared.size.Size.{Size}
+use Rattle.ed_store.specs.Cells.{Cells}
 use Rattle.ed_run.specs.Run.{run_end}
 use Rattle.ed_syntax.specs.declared.program.Line.{Line}
-use Rattle.ed_answers.specs.Refusals.{IsAcceptedAs}
-use Rattle.ed_link.specs.Linked.{entry_of}
+use Rattle.ed_syntax.specs.declared.fault.SourceCause.{SourceCause}
+use Rattle.ed_answers.specs.Refusals.{IsAcceptedAs, IsRefused}
 use Rattle.ed_link.specs.Tapes.{cost, tape}
-use Rattle.ed_answers.specs.EntryState.{Enters, entry_state}
-use Rattle.ed_answers.specs.EntryWords.{EntryHasWords}
-use Rattle.ed_printer.specs.Paper.{paper}
-use Rattle.ed_report.specs.Notes.{entry_note}
+use Rattle.ed_answers.specs.EntryState.{Enters, entered_state}
+use Rattle.ed_answers.specs.EntryWords.{IsEntryStore}
 use Rattle.ed_words.specs.Texts.{Text}
 use Rattle.ed_run.specs.declared.settings.Settings.{Settings}
-use Rattle.ed_answers.specs.Runs.{paper_room, post_mortem_codes, ran_outcome, run_of, with_post_mortem}
-use Rattle.ed_answers.specs.Sources.{run_outcome}
+use Rattle.ed_answers.specs.Runs.{paper_room, run_of}
 
 -- the punched tape leads a cleared machine of the size to the state at the entry, at its cost and with nothing printed;
--- the store there has the words of the lines, each at its location. With a limit not below the cost, the answer of
--- `run` is the run from that state with the limit less the cost, and the note before its ending gives the entry and the
--- cost; with a lower limit the run prints nothing. In both cases a post-mortem is that of the state in which the run
--- ended.
+-- the store there has the words of the lines, each at its location. With a limit not below the cost, the run of the tape
+-- is the run from that state with the limit less the cost: it ends in the same way, in the same state, with the same
+-- codes on its paper. With a lower limit it prints nothing.
 pub record RunsFromEntry (s : Settings) (lines : List Line) : Type 0 where
-  pub enters : Enters s.size lines
-  pub has_words : EntryHasWords lines
-  pub runs : cost lines ≤ s.limit → run_outcome s lines
-      ≡ ran_outcome (entry_note (entry_of lines) (cost lines))
-      (with_post_mortem s.post_mortem (run_end (s.limit - cost lines) s.resumes paper_room (entry_state s.size lines)))
-  pub short : s.limit < cost lines
-      → (run_outcome s lines).out ≡ paper (post_mortem_codes s.post_mortem (run_of s (tape lines)).state)
+  pub store : Cells
+  pub store_is : IsEntryStore lines store
+  pub enters : Enters s.size lines store
+  pub runs : cost lines ≤ s.limit → run_of s (tape lines)
+      ≡ run_end (s.limit - cost lines) s.resumes paper_room (entered_state s.size lines store)
+  pub short : s.limit < cost lines → (run_of s (tape lines)).codes ≡ []
 
--- the same for every source that is accepted, whatever the limit, the resumes, the size and the post-mortem
-abbrev pub Headline : Type 0
-Headline =
-    (s : Settings) (source : Text) (lines : List Line) → IsAcceptedAs s.size source lines → RunsFromEntry s lines
+-- each source that is accepted runs from its entry, whatever the limit, the resumes and the size; and every other source
+-- is refused, at a line and for a cause
+pub record Headline : Type 0 where
+  pub runs : (s : Settings) (source : Text) (lines : List Line) → IsAcceptedAs s.size source lines → RunsFromEntry s lines
+  pub refuses : (z : Size) (source : Text) → ((lines : List Line) → IsAcceptedAs z source lines → ⊥)
+      → (k : ℕ) × (c : SourceCause) × IsRefused z source k c

@@ -9,6 +9,7 @@ pub mod Sources
 pub mod FirstOrders
 pub mod Replies
 pub mod Headline
+pub mod FromEntry
 pub mod FirstEntry
 pub mod FirstFaults
 pub mod Limits

@@ -4,7 +4,7 @@ ghost use Rattle.ed_syntax.specs.declared.program.Line.{Line};
 ghost use Rattle.ed_link.specs.Answers.{IsLinked};
 ghost use Rattle.ed_answers.specs.EntryState.{EachSourceComes, EachSourceEnters, entry_state};
 ghost use Rattle.ed_answers.specs.Refusals.{EachSourceHasOneAnswer};
-ghost use Rattle.ed_answers.specs.EntryWords.{EachEntryHasWords};
+ghost use Rattle.ed_answers.specs.EntryWords.{EachEntryStoreIs};
 
 use ed_codes::Code;
 use ed_initial::{begin, load};
@@ -33,7 +33,7 @@ pub fn enter(alloc: Global, size: Size, linked: &Linked) -> Result<Machine, NoMe
     ensures one { EachSourceHasOneAnswer }
     ensures comes { EachSourceComes }
     ensures law { EachSourceEnters }
-    ensures words { EachEntryHasWords }
+    ensures words { EachEntryStoreIs }
 {
     let mut machine = started(alloc, size, linked.rows()?)?;
     load(&mut machine);

@@ -6,6 +6,7 @@ use Rattle.ed_laws.specs.ReadBack.{EachWordIsReadBack}
 use Rattle.ed_laws.specs.Stepped.{EachStepIsRun}
 use Rattle.ed_laws.specs.TapeEntries.{EachTapeRunsFromEntry}
 use Rattle.ed_answers.specs.BothSizes.{EachSize}
+use Rattle.ed_answers.specs.FromEntry.{EachAnswerIsFromEntry}
 use Rattle.ed_answers.specs.FirstEntry.{EachProgramRunsFrom31}
 use Rattle.ed_answers.specs.FirstFaults.{EachFaultyTapeWaits1}
 use Rattle.ed_answers.specs.Limits.{EachLimit}
@@ -20,6 +21,7 @@ use Rattle.ed_laws.proofs.ReadBack.{each_word_is_read_back}
 use Rattle.ed_laws.proofs.Stepped.{each_step_is_run}
 use Rattle.ed_laws.proofs.TapeEntries.{tapes_run_from_entry}
 use Rattle.ed_answers.proofs.BothSizes.{each_size}
+use Rattle.ed_answers.proofs.Sources.{each_answer_is_from_entry}
 use Rattle.ed_answers.proofs.FirstEntries.{runs_from_31}
 use Rattle.ed_answers.proofs.FirstFaults.{faulty_tapes_wait1}
 use Rattle.ed_answers.proofs.Limits.{each_limit}
@@ -33,6 +35,10 @@ calls_by_default = by_default
 -- what `demo` prints
 pub demos : EachDemoRuns
 demos = each_demo_runs
+
+-- what `run` answers to a source, by its run from the entry
+pub entered : EachAnswerIsFromEntry
+entered = each_answer_is_from_entry
 
 -- a tape of May 1949 runs from its entry
 pub first_orders : EachProgramRunsFrom31

@@ -26,7 +26,7 @@ use Rattle.ed_syntax.specs.Programs.{is_line}
 use Rattle.ed_symbols.specs.Places.{first_counter}
 use Rattle.ed_link.specs.Linked.{symbols_of, linked_words, data_after, entry_of, theta_from}
 use Rattle.ed_link.specs.Punch.{item_with, punched_items}
-use Rattle.ed_link.specs.Private.FaultTests.{any_enter, missing, sooner, fault, fault_line}
+use Rattle.ed_link.specs.FaultTests.{any_enter, missing, sooner, fault, fault_line}
 use Rattle.ed_link.specs.Tapes.{punched_rows, tape, arrival, item_cost}
 use Rattle.ed_link.proofs.Passes.{taken}
 use Rattle.ed_link.proofs.Spelled.{joined}

@@ -2,7 +2,7 @@
 use Rattle.std.proofs.Common.{◌≡◌, ℕ, refl, Bool, true, false, Option, Some, None}
 use Rattle.std.specs.Prelude.{if◌then◌else◌}
 use Rattle.ed_link.specs.declared.faults.Extent.{Extent}
-use Rattle.ed_link.specs.Private.FaultTests.{extent, overlaps}
+use Rattle.ed_link.specs.FaultTests.{extent, overlaps}
 
 -- a test that holds gives its value
 pub holds : {A : Type 0} (t : Bool) (x y : A) → true ≡ t → x ≡ (if t then x else y)

@@ -17,7 +17,7 @@ use Rattle.ed_library.specs.declared.tables.TableRow.{TableRow}
 use Rattle.ed_syntax.specs.declared.program.Operand.{Operand}
 use Rattle.ed_syntax.specs.declared.program.Setting.{Setting}
 use Rattle.ed_link.specs.Linked.{set_to}
-use Rattle.ed_link.specs.Private.FaultTests.{sets}
+use Rattle.ed_link.specs.FaultTests.{sets}
 use Rattle.ed_link.proofs.Uses.{IsKnown, AreKnown}
 
 -- a routine is found among those from an index upwards

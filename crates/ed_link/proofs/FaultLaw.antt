@@ -18,9 +18,9 @@ use Rattle.ed_symbols.specs.declared.location_counter.LocationCounter.{LocationC
 use Rattle.ed_symbols.specs.Places.{after_statement, first_counter}
 use Rattle.ed_symbols.specs.Faults.{or_later, resolution}
 use Rattle.ed_link.specs.Linked.{symbols_of}
-use Rattle.ed_link.specs.Private.FaultTests.{IsFirstFault, any_enter, cause_of, fault, fault_from, is_enter, missing}
-use Rattle.ed_link.specs.Private.FaultTests.{past_of}
-use Rattle.ed_link.specs.Private.FaultTests.{sooner, word_extent, LinesBefore}
+use Rattle.ed_link.specs.FaultTests.{IsFirstFault, any_enter, cause_of, fault, fault_from, is_enter, missing}
+use Rattle.ed_link.specs.FaultTests.{past_of}
+use Rattle.ed_link.specs.FaultTests.{sooner, word_extent, LinesBefore}
 use Rattle.ed_symbols.specs.NameFaults.{counter_from, counter_after}
 use Rattle.ed_link.specs.Faults.{HasEnter, SourceHasFault, on_line, no_enter}
 use Rattle.ed_symbols.specs.NameFaults.{number_of}

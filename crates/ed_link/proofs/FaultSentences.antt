@@ -19,9 +19,9 @@ use Rattle.ed_symbols.specs.Places.{after_statement, first_counter, segment_at}
 use Rattle.ed_symbols.specs.Names.{place_on}
 use Rattle.ed_link.specs.Linked.{first_place, end_place, symbols_of}
 use Rattle.ed_symbols.proofs.Sentences.{Ties, or_left, or_right, and_of, and_true, not_true, true_not}
-use Rattle.ed_link.specs.Private.FaultTests.{any_enter, has_no_routine, has_sandwich, is_enter, is_in_segment}
-use Rattle.ed_link.specs.Private.FaultTests.{is_misplaced}
-use Rattle.ed_link.specs.Private.FaultTests.{extent, extent_at, is_outside, is_rows, overlaps, reach, word_extent}
+use Rattle.ed_link.specs.FaultTests.{any_enter, has_no_routine, has_sandwich, is_enter, is_in_segment}
+use Rattle.ed_link.specs.FaultTests.{is_misplaced}
+use Rattle.ed_link.specs.FaultTests.{extent, extent_at, is_outside, is_rows, overlaps, reach, word_extent}
 use Rattle.ed_link.specs.declared.faults.Extent.{Extent}
 use Rattle.ed_symbols.specs.NameFaults.{StandsAfter, counter_from, counter_after}
 use Rattle.ed_link.specs.Faults.{HasEnter}

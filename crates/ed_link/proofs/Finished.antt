@@ -15,7 +15,7 @@ use Rattle.ed_link.specs.declared.linked.Linked.{Linked}
 use Rattle.ed_link.specs.declared.building.Built.{Built}
 use Rattle.ed_link.specs.Linked.{symbols_of, linked_words, entry_from, placed_from}
 use Rattle.ed_link.specs.Punch.{punched_from, punched_items}
-use Rattle.ed_link.specs.Private.FaultTests.{any_enter, fault, fault_from}
+use Rattle.ed_link.specs.FaultTests.{any_enter, fault, fault_from}
 use Rattle.ed_link.specs.declared.linked.Placed.{Placed}
 use Rattle.ed_link.specs.Labels.{labels}
 use Rattle.ed_link.specs.Tables.{table_of, word_at, words_from}

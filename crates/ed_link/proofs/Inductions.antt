@@ -30,10 +30,10 @@ use Rattle.ed_symbols.specs.Faults.{or_later, any_operand, enters_unknown, is_un
 use Rattle.ed_symbols.specs.Faults.{naming_cause as names_cause, naming_fault_from as names_from}
 use Rattle.ed_link.specs.Linked.{placed_by_line, placed_from, theta_from, entry_from, entered_place}
 use Rattle.ed_link.specs.Punch.{item_with, items_of, punched_from}
-use Rattle.ed_link.specs.Private.FaultTests.{extent, extent_at, reach, overlaps, has_no_routine, sets}
+use Rattle.ed_link.specs.FaultTests.{extent, extent_at, reach, overlaps, has_no_routine, sets}
 use Rattle.ed_link.specs.declared.faults.Extent.{Extent}
-use Rattle.ed_link.specs.Private.FaultTests.{sets_otherwise, is_enter, is_rows, any_enter, is_misplaced}
-use Rattle.ed_link.specs.Private.FaultTests.{LinesBefore, past_of, cause_of, fault_from}
+use Rattle.ed_link.specs.FaultTests.{sets_otherwise, is_enter, is_rows, any_enter, is_misplaced}
+use Rattle.ed_link.specs.FaultTests.{LinesBefore, past_of, cause_of, fault_from}
 use Rattle.ed_words.proofs.Numbers.{le_of, not_lt_of}
 use Rattle.ed_words.proofs.SizeLemmas.{most}
 use Rattle.ed_words.specs.declared.order_words.TheConstants.{E_F}

@@ -9,9 +9,9 @@ use Rattle.ed_syntax.specs.declared.fault.SourceCause.{SourceCause}
 use Rattle.ed_syntax.specs.declared.fault.SourceCause.TheVariants as causes
 use Rattle.ed_symbols.specs.Places.{first_counter}
 use Rattle.ed_link.specs.Linked.{symbols_of}
-use Rattle.ed_link.specs.Private.FaultTests.{any_enter, cause_of, has_no_routine, has_sandwich, is_misplaced}
-use Rattle.ed_link.specs.Private.FaultTests.{extent, is_outside, overlaps}
-use Rattle.ed_link.specs.Private.FaultTests.{reach, sets_otherwise, word_extent}
+use Rattle.ed_link.specs.FaultTests.{any_enter, cause_of, has_no_routine, has_sandwich, is_misplaced}
+use Rattle.ed_link.specs.FaultTests.{extent, is_outside, overlaps}
+use Rattle.ed_link.specs.FaultTests.{reach, sets_otherwise, word_extent}
 use Rattle.ed_symbols.specs.NameFaults.{counter_after, number_of}
 use Rattle.ed_link.specs.Faults.{LineHasCause}
 use Rattle.ed_symbols.specs.NameFaults.{LineHasNameFault}

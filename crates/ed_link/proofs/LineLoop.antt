@@ -22,8 +22,8 @@ use Rattle.ed_link.specs.Private.Building.{IsBuilt, first_past}
 use Rattle.ed_link.specs.Linked.{data_after, data_rows, entered_place, entry_from, placed_by_line, placed_from}
 use Rattle.ed_link.specs.Punch.{items_of, punched_from}
 use Rattle.ed_link.specs.Tables.{empty_table, put_all, table_of}
-use Rattle.ed_link.specs.Private.FaultTests.{LinesBefore, cause_of, extent, is_enter, overlaps, past_of, reach, word_extent}
-use Rattle.ed_link.specs.Private.FaultTests.{fault_from}
+use Rattle.ed_link.specs.FaultTests.{LinesBefore, cause_of, extent, is_enter, overlaps, past_of, reach, word_extent}
+use Rattle.ed_link.specs.FaultTests.{fault_from}
 use Rattle.ed_link.specs.Private.Building.{IsFew}
 use Rattle.ed_link.proofs.Bounds.{items_few}
 use Rattle.ed_words.proofs.SizeLemmas.{most}

@@ -18,7 +18,7 @@ use Rattle.ed_syntax.specs.declared.program.Statement.{Statement}
 use Rattle.ed_syntax.specs.declared.program.Statement.TheVariants.{Segment, Order, Number, Text, Long, Fetch, Enter}
 use Rattle.ed_syntax.specs.declared.program.Statement.TheVariants.{Rows}
 use Rattle.ed_link.specs.Linked.{set_to}
-use Rattle.ed_link.specs.Private.FaultTests.{sets, sets_otherwise}
+use Rattle.ed_link.specs.FaultTests.{sets, sets_otherwise}
 use Rattle.ed_link.specs.Faults.{letter_set, SetExactly, SetsOtherwise}
 use Rattle.ed_symbols.proofs.Sentences.{Ties, and_of, and_true, not_true, true_not}
 

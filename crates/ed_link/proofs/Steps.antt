@@ -22,7 +22,7 @@ use Rattle.ed_symbols.specs.Names.{is_local, place_on}
 use Rattle.ed_symbols.specs.Places.{even_from, routine_places}
 use Rattle.ed_link.specs.Labels.{label_of}
 use Rattle.ed_link.specs.Private.Building.{bare_items}
-use Rattle.ed_link.specs.Private.FaultTests.{extent_at, has_words, reach}
+use Rattle.ed_link.specs.FaultTests.{extent_at, has_words, reach}
 use Rattle.ed_link.specs.Linked.{entered_place, operand_number, parameter_letters, set_to}
 use Rattle.ed_link.specs.Punch.{head, heads, item_with, items_of, preset_items, use_items, with_heading, word_item, word_items}
 use Rattle.ed_link.specs.Tables.{put_all}

@@ -1,4 +1,3 @@
 -- What the crate's own functions state for each other. No public clause cites these definitions, so nobody has to read
 -- them to know what linking answers.
 pub mod Building
-pub mod FaultTests

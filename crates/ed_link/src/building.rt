@@ -3,7 +3,7 @@ ghost use Rattle.std.specs.Prelude.{◌≡◌, ◌≤◌, ◌<◌, ◌^◌, ◌+
 ghost use Rattle.std.specs.Prelude.{is_some, length, true, unwrap_or, ℕ};
 ghost use Rattle.ed_library.specs.Routines.{find};
 ghost use Rattle.ed_link.specs.Private.Building.{BuildIs, IsFew};
-ghost use Rattle.ed_link.specs.Private.FaultTests.{is_enter, reach, word_extent};
+ghost use Rattle.ed_link.specs.FaultTests.{is_enter, reach, word_extent};
 ghost use Rattle.ed_link.specs.Linked.{entered_place, placed_by_line, data_rows};
 ghost use Rattle.ed_link.specs.Punch.{items_of, routine_items};
 ghost use Rattle.ed_link.specs.Tables.{empty_table, put_all};

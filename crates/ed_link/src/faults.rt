@@ -4,11 +4,11 @@ ghost use Rattle.std.specs.List.{list_any, list_all};
 ghost use Rattle.ed_words.specs.Sizes.{locations};
 ghost use Rattle.ed_library.specs.Routines.{find};
 ghost use Rattle.ed_link.specs.Linked.{first_place, end_place, set_to};
-ghost use Rattle.ed_link.specs.Private.FaultTests.{any_enter, cause_of, has_no_routine, has_sandwich, use_cause};
-ghost use Rattle.ed_link.specs.Private.FaultTests.{is_in_segment};
-ghost use Rattle.ed_link.specs.Private.FaultTests.{is_misplaced, is_outside};
-ghost use Rattle.ed_link.specs.Private.FaultTests.{extent_at, is_rows, overlaps, reach, sets_otherwise, word_extent};
-ghost use Rattle.ed_link.specs.Private.FaultTests.{fault_line, sooner};
+ghost use Rattle.ed_link.specs.FaultTests.{any_enter, cause_of, has_no_routine, has_sandwich, use_cause};
+ghost use Rattle.ed_link.specs.FaultTests.{is_in_segment};
+ghost use Rattle.ed_link.specs.FaultTests.{is_misplaced, is_outside};
+ghost use Rattle.ed_link.specs.FaultTests.{extent_at, is_rows, overlaps, reach, sets_otherwise, word_extent};
+ghost use Rattle.ed_link.specs.FaultTests.{fault_line, sooner};
 
 use crate::building::Built;
 use crate::operands::setting;

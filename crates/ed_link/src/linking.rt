@@ -6,7 +6,7 @@ ghost use Rattle.ed_symbols.specs.Faults.{resolution};
 ghost use Rattle.ed_link.specs.Answers.{HasMeaningFault, IsLinked};
 ghost use Rattle.ed_link.specs.Words.{EachWordStands};
 ghost use Rattle.ed_link.specs.Private.Building.{IsFinished};
-ghost use Rattle.ed_link.specs.Private.FaultTests.{IsFirstFault, fault as first_fault};
+ghost use Rattle.ed_link.specs.FaultTests.{IsFirstFault, fault as first_fault};
 ghost use Rattle.ed_link.specs.Labels.{labels};
 ghost use Rattle.ed_link.specs.Linked.{symbols_of};
 

@@ -7,7 +7,7 @@ ghost use Rattle.ed_symbols.specs.Places.{segment_at};
 ghost use Rattle.ed_library.specs.Routines.{find};
 ghost use Rattle.ed_symbols.specs.Places.{after_statement, routine_places};
 ghost use Rattle.ed_link.specs.Private.Building.{IsFew, bare_items};
-ghost use Rattle.ed_link.specs.Private.FaultTests.{has_words, reach};
+ghost use Rattle.ed_link.specs.FaultTests.{has_words, reach};
 ghost use Rattle.ed_link.specs.Linked.{operand_number, long_words, set_to, parameter_letters, line_words};
 ghost use Rattle.ed_link.specs.Punch.{ending, head, item_with, items_of, order_item, goes_by_theta};
 ghost use Rattle.ed_link.specs.Punch.{preset_items, routine_items, use_items, word_item};

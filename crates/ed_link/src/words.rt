@@ -10,7 +10,7 @@ ghost use Rattle.ed_link.specs.Linked.{image, placed_words, long_words, operand_
 ghost use Rattle.ed_link.specs.Linked.{preset};
 ghost use Rattle.ed_link.specs.Linked.{presets};
 ghost use Rattle.ed_link.specs.Linked.{set_to, line_words};
-ghost use Rattle.ed_link.specs.Private.FaultTests.{reach};
+ghost use Rattle.ed_link.specs.FaultTests.{reach};
 ghost use Rattle.ed_link.specs.Tables.{put_all, place_word, words_from};
 
 use crate::linked::Placed;

@@ -4,31 +4,23 @@ use Rattle.std.specs.Prelude.{◌≡◌, ℕ, zero, suc, ◌+◌, ◌<◌, List,
 use Rattle.ed_machine.specs.State.{State}
 use Rattle.ed_machine.specs.OrderTable.{step}
 use Rattle.ed_machine.specs.declared.turn.Turn.{Turn}
-use Rattle.ed_machine.specs.declared.turn.Turn.TheVariants.{Went, Printed, Stopped, NoOrder, NoTape}
+use Rattle.ed_machine.specs.declared.turn.Turn.TheVariants.{Printed, Stopped, NoOrder, NoTape}
 
 -- the codes that a turn prints
 abbrev pub codes_of : Turn → List ℕ
 codes_of (Printed code) = code ∷ []
-codes_of Went = []
-codes_of Stopped = []
-codes_of (NoOrder function) = []
-codes_of NoTape = []
+codes_of turn = []
 
 -- how many stops a turn is: 1 or 0
 abbrev pub stops_of : Turn → ℕ
 stops_of Stopped = 1
-stops_of Went = 0
-stops_of (Printed code) = 0
-stops_of (NoOrder function) = 0
-stops_of NoTape = 0
+stops_of turn = 0
 
 -- whether a turn obeyed an order
 abbrev pub is_obeyed : Turn → Bool
-is_obeyed Went = true
-is_obeyed (Printed code) = true
-is_obeyed Stopped = true
 is_obeyed (NoOrder function) = false
 is_obeyed NoTape = false
+is_obeyed turn = true
 
 -- whether a turn is a stop
 abbrev pub is_stop : Turn → Bool

@@ -11,7 +11,7 @@ use Rattle.ed_words.specs.Texts.{Text}
 use Rattle.ed_codes.specs.Spelling.{row_of}
 use Rattle.ed_printer.specs.Paper.{paper_from, struck_bytes}
 use Rattle.ed_printer.specs.declared.printer.Shift.TheVariants.{Letters}
-use Rattle.ed_syntax.specs.Private.Grammar.{row}
+use Rattle.ed_syntax.specs.Reading.Grammar.{row}
 use Rattle.ed_sources.proofs.Decimals.{among, both}
 use Rattle.ed_programs.specs.Hello.{hello_rows, is_capital, is_row_byte, letters_refusal}
 use Rattle.ed_programs.specs.declared.refusal.Refusal.TheVariants as refusal

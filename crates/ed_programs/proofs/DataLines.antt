@@ -13,8 +13,8 @@ use Rattle.ed_words.proofs.Numbers.{eq_false, le_true, lt_of, lt_true}
 use Rattle.ed_words.specs.Texts.{Text}
 use Rattle.ed_codes.specs.Spelling.{row_of}
 use Rattle.ed_syntax.specs.Parts.{quoted, run, array, is_line_byte, has_quote}
-use Rattle.ed_syntax.specs.Private.Grammar.{row, spells}
-use Rattle.ed_syntax.specs.Private.SourceReading.{line_of}
+use Rattle.ed_syntax.specs.Reading.Grammar.{row, spells}
+use Rattle.ed_syntax.specs.Reading.Sources.{line_of}
 use Rattle.ed_syntax.specs.declared.program.Statement.TheVariants as statements
 use Rattle.ed_syntax.proofs.PartLemmas.{quote_parts}
 use Rattle.ed_routines.specs.Digits.{digits}

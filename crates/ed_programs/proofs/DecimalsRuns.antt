@@ -3,7 +3,7 @@ use Rattle.std.proofs.Common.{◌≡◌, true, ℕ, ◌+◌, refl, subst, lit≤
 use Rattle.ed_words.specs.declared.size.Size.{Size}
 use Rattle.ed_machine.specs.State.{State}
 use Rattle.ed_run.specs.declared.settings.Settings.{Settings}
-use Rattle.ed_syntax.specs.Private.Grammar.{settings}
+use Rattle.ed_syntax.specs.Reading.Grammar.{settings}
 use Rattle.ed_syntax.specs.declared.program.Line.{Line}
 use Rattle.ed_library.specs.Images.{parameter_store}
 use Rattle.ed_answers.specs.EntryState.{entry_state}

@@ -12,7 +12,7 @@ use Rattle.ed_symbols.specs.declared.symbols.Definition.{Definition}
 use Rattle.ed_symbols.specs.Names.{place_on}
 use Rattle.ed_symbols.specs.Places.{even_from, routine_places}
 use Rattle.ed_sources.proofs.Said.{said}
-use Rattle.ed_link.specs.Private.FaultTests.{cause_of, sets}
+use Rattle.ed_link.specs.FaultTests.{cause_of, sets}
 use Rattle.ed_link.proofs.Extents.{ExtentList, apart, are_below, counter, fits_store, past}
 
 -- ---- lines after a program: a block of words, a routine of the library, and the entry

@@ -21,9 +21,9 @@ use Rattle.ed_checker.specs.Laws.{HasGuest}
 use Rattle.ed_checker.proofs.Follow.{checker_law}
 use Rattle.ed_sources.proofs.CheckedPaper.{checks_to_stop}
 use Rattle.ed_sources.proofs.Stops.{comes_to_stop}
-use Rattle.ed_answers.specs.Headline.{RunsFromEntry}
+use Rattle.ed_answers.specs.FromEntry.{AnswersFromEntry}
 use Rattle.ed_answers.specs.Sources.{OfSource, run_outcome}
-use Rattle.ed_answers.proofs.Sources.{accepted_is, headline}
+use Rattle.ed_answers.proofs.Sources.{accepted_is, each_answer_is_from_entry}
 use Rattle.ed_sources.proofs.Stopped.{stopped_outcome}
 use Rattle.ed_programs.specs.Guests.{ChecksGuest, StopsAtZ, EachGuestIsChecked, EntersChecker}
 use Rattle.ed_programs.specs.Guests.{checker_base, entry_guest}
@@ -85,8 +85,8 @@ module _ (s : Settings) (source : Text) (lines : List Line) (c : EntersChecker l
       (checked_to_stop base q m (has_guest s.size source lines accepted c low)
       (subst (StopsAtZ base q) (sym same) z))
 
-  entry : RunsFromEntry s lines
-  entry = headline s source lines accepted
+  entry : AnswersFromEntry s lines
+  entry = each_answer_is_from_entry s source lines accepted
 
   runs : (q : ℕ) → StopsAtZ base q g → length (checked_codes g (suc q)) ≤ 1000000
       → SourceRuns s source (stopped_orders g (suc q)) (base + planting_place + 1) (paper (checked_codes g (suc q)))

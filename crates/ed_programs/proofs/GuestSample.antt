@@ -20,12 +20,12 @@ use Rattle.ed_machine.specs.declared.turn.Turn.TheVariants.{Printed, Stopped}
 use Rattle.ed_machine.proofs.Steps.{no_step}
 use Rattle.ed_notation.specs.Fold.{placed_at}
 use Rattle.ed_library.specs.Images.{parameter_store}
-use Rattle.ed_syntax.specs.Private.Grammar.{settings}
-use Rattle.ed_syntax.specs.Private.SourceReading.{line_of, program_of}
+use Rattle.ed_syntax.specs.Reading.Grammar.{settings}
+use Rattle.ed_syntax.specs.Reading.Sources.{line_of, program_of}
 use Rattle.ed_syntax.specs.declared.program.Operand.TheVariants.{Label}
 use Rattle.ed_syntax.specs.declared.program.Statement.TheVariants.{Enter, Fetch}
 use Rattle.ed_syntax.specs.declared.program.Line.{Line}
-use Rattle.ed_link.specs.Private.FaultTests.{fault}
+use Rattle.ed_link.specs.FaultTests.{fault}
 use Rattle.ed_answers.proofs.EachSource.{read_is_accepted}
 use Rattle.ed_checker.specs.Checker.{IsAllowed, IsAllowedOrder, checked_codes, checked_orders, orders_by}
 use Rattle.ed_sources.specs.CallSources.{text_of_lines}

@@ -35,7 +35,7 @@ use Rattle.ed_answers.proofs.PunchedTexts.{text_is_tape}
 use Rattle.ed_link.proofs.WordLaws.{each_word_stands}
 use Rattle.ed_answers.specs.EntryState.{entry_state}
 use Rattle.ed_answers.proofs.Entries.{each_source}
-use Rattle.ed_answers.proofs.EntryWords.{each_entry_has_words}
+use Rattle.ed_answers.proofs.EntryWords.{each_entry_store_is}
 use Rattle.ed_routines.specs.Catalogue.{with_h}
 use Rattle.ed_checker.specs.Checker.{HasImage, check, guest}
 use Rattle.ed_checker.specs.Laws.{HasGuest}
@@ -116,7 +116,7 @@ module _ (z : Size) (source : Text) (lines : List Line) (accepted : IsAcceptedAs
 
   word : (i : ℕ) → i < 66 → short_at m.store (base + i) ≡ get_or (table_words h base) i 0
   word i l =
-      (each_entry_has_words z source lines accepted).lines_have c.before c.using (base + i) _ c.stands (places i l)
+      (each_entry_store_is z source lines accepted).lines_have c.before c.using (base + i) _ c.stands (places i l)
 
   room : base + 66 ≤ locations z
   room =

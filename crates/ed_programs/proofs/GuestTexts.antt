@@ -8,8 +8,8 @@ use Rattle.ed_words.specs.Texts.{Text}
 use Rattle.ed_syntax.specs.Lines.{HasLines, nothing, last, ended, lines_of, with_byte, without_return}
 use Rattle.ed_syntax.specs.Sources.{IsProgram, LinesSay, no_more, and_more}
 use Rattle.ed_syntax.specs.declared.program.Line.{Line}
-use Rattle.ed_syntax.specs.Private.Grammar.{settings}
-use Rattle.ed_syntax.specs.Private.SourceReading.{Fault, and_lines, line_of, lines_from}
+use Rattle.ed_syntax.specs.Reading.Grammar.{settings}
+use Rattle.ed_syntax.specs.Reading.Sources.{Fault, and_lines, line_of, lines_from}
 use Rattle.ed_syntax.specs.declared.program.Operand.TheVariants.{Label}
 use Rattle.ed_syntax.specs.declared.program.Statement.TheVariants.{Enter}
 use Rattle.ed_syntax.proofs.SourceLaws.{lines_are_read, say_is_read}

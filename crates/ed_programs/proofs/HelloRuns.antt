@@ -6,8 +6,8 @@ use Rattle.ed_words.proofs.Numbers.{le_true, lt_false}
 use Rattle.ed_words.specs.Decimals.{value}
 use Rattle.ed_codes.specs.Spelling.{row_of}
 use Rattle.ed_syntax.specs.Parts.{run, sign}
-use Rattle.ed_syntax.specs.Private.Grammar.{row}
-use Rattle.ed_syntax.specs.Private.SourceReading.{line_of}
+use Rattle.ed_syntax.specs.Reading.Grammar.{row}
+use Rattle.ed_syntax.specs.Reading.Sources.{line_of}
 use Rattle.ed_syntax.specs.declared.program.Operand.TheVariants as operands
 use Rattle.ed_syntax.specs.declared.program.Statement.{Statement}
 use Rattle.ed_syntax.specs.declared.program.Statement.TheVariants as statements
@@ -15,7 +15,7 @@ use Rattle.ed_words.specs.declared.size.Size.TheVariants.{Small, Full}
 use Rattle.ed_words.specs.declared.order_words.TheConstants.{G_F, Z_F}
 use Rattle.ed_symbols.specs.Faults.{resolution}
 use Rattle.ed_symbols.specs.Places.{even_from, first_counter}
-use Rattle.ed_link.specs.Private.FaultTests.{extent, fault, fault_from, missing, sooner}
+use Rattle.ed_link.specs.FaultTests.{extent, fault, fault_from, missing, sooner}
 use Rattle.ed_link.specs.Linked.{symbols_of, linked_words}
 use Rattle.ed_machine.proofs.Kit.Places.{IsOutside}
 use Rattle.ed_routines.proofs.Lines.{newline_line}

@@ -10,7 +10,7 @@ pub use Rattle.ed_words.specs.Texts.{Text}
 pub use Rattle.ed_words.specs.declared.size.Size.{Size}
 pub use Rattle.ed_machine.specs.State.{State}
 unfoldable pub use Rattle.ed_library.specs.Images.{parameter_store}
-unfoldable pub use Rattle.ed_syntax.specs.Private.Grammar.{settings}
+unfoldable pub use Rattle.ed_syntax.specs.Reading.Grammar.{settings}
 pub use Rattle.ed_syntax.specs.declared.program.Line.{Line}
 pub use Rattle.ed_answers.specs.EntryState.{entry_state}
 pub use Rattle.ed_printer.specs.Paper.{paper}

@@ -18,7 +18,7 @@ use Rattle.ed_notation.proofs.Texts.{AreCodes, are_codes}
 use Rattle.ed_printer.specs.Paper.{paper, paper_from}
 use Rattle.ed_printer.specs.declared.printer.Shift.TheVariants.{Letters}
 use Rattle.ed_run.specs.declared.settings.Settings.{Settings}
-use Rattle.ed_syntax.specs.Private.Grammar.{row as code_of, spells}
+use Rattle.ed_syntax.specs.Reading.Grammar.{row as code_of, spells}
 use Rattle.ed_routines.specs.Digits.{digits}
 use Rattle.ed_sources.proofs.Decimals.{decimal_is, few_bytes, written}
 use Rattle.ed_programs.specs.Hello.{hello_rows, is_capital}

@@ -13,9 +13,9 @@ use Rattle.ed_words.specs.Decimals.{value}
 use Rattle.ed_words.specs.Texts.{Text}
 use Rattle.ed_syntax.specs.Parts.{LinePart, run, is_number, modulo, is_line_byte}
 use Rattle.ed_syntax.specs.Names.{is_place_name, is_run_byte}
-use Rattle.ed_syntax.specs.Private.Grammar.{form_at}
-use Rattle.ed_syntax.specs.Private.PartReading.{parts_of}
-use Rattle.ed_syntax.specs.Private.SourceReading.{line_of}
+use Rattle.ed_syntax.specs.Reading.Grammar.{form_at}
+use Rattle.ed_syntax.specs.Reading.Parts.{parts_of}
+use Rattle.ed_syntax.specs.Reading.Sources.{line_of}
 use Rattle.ed_syntax.specs.declared.program.Statement.TheVariants as statements
 use Rattle.ed_syntax.proofs.PartLemmas.{run_parts}
 use Rattle.ed_routines.specs.Digits.{digits}

@@ -10,9 +10,9 @@ use Rattle.std.proofs.lemmas.Bool.{and_parts}
 use Rattle.ed_words.proofs.Numbers.{eq_false, eq_of, le_true, lt_false, not_lt_of}
 use Rattle.ed_words.specs.Texts.{Text}
 use Rattle.ed_syntax.specs.Parts.{LinePart, is_line_byte}
-use Rattle.ed_syntax.specs.Private.Grammar.{form_at}
-use Rattle.ed_syntax.specs.Private.PartReading.{parts_of}
-use Rattle.ed_syntax.specs.Private.SourceReading.{Fault, and_lines, is_two, line_of, lines_from, program_of}
+use Rattle.ed_syntax.specs.Reading.Grammar.{form_at}
+use Rattle.ed_syntax.specs.Reading.Parts.{parts_of}
+use Rattle.ed_syntax.specs.Reading.Sources.{Fault, and_lines, is_two, line_of, lines_from, program_of}
 use Rattle.ed_syntax.specs.declared.fault.SourceCause.{SourceCause}
 use Rattle.ed_syntax.specs.declared.fault.SourceCause.TheVariants.{BadByte, LongLine, TooManyLines}
 use Rattle.ed_syntax.specs.declared.program.Line.{Line}

@@ -10,15 +10,15 @@ use Rattle.ed_printer.specs.Paper.{paper}
 use Rattle.ed_run.specs.declared.settings.Settings.{Settings}
 use Rattle.ed_syntax.specs.declared.program.Line.{Line}
 use Rattle.ed_syntax.specs.declared.fault.SourceFault.{SourceFault}
-use Rattle.ed_syntax.specs.Private.SourceReading.{is_two, program_of}
-use Rattle.ed_link.specs.Private.FaultTests.{fault}
+use Rattle.ed_syntax.specs.Reading.Sources.{is_two, program_of}
+use Rattle.ed_link.specs.FaultTests.{fault}
 use Rattle.ed_answers.proofs.EachSource.{read_is_accepted}
 use Rattle.ed_answers.specs.EntryState.{entry_state}
 use Rattle.ed_routines.proofs.Journeys.{ComesToStop}
 use Rattle.ed_sources.specs.CallSources.{text_of_lines, woven_text}
-use Rattle.ed_answers.specs.Headline.{RunsFromEntry}
+use Rattle.ed_answers.specs.FromEntry.{AnswersFromEntry}
 use Rattle.ed_answers.specs.Sources.{OfSource, run_outcome}
-use Rattle.ed_answers.proofs.Sources.{accepted_is, headline}
+use Rattle.ed_answers.proofs.Sources.{accepted_is, each_answer_is_from_entry}
 use Rattle.ed_sources.proofs.Stopped.{stopped_outcome}
 use Rattle.ed_programs.specs.Programs.{SourceRuns}
 use Rattle.ed_programs.proofs.Answered.{are_short, is_due}
@@ -35,7 +35,7 @@ pub source_runs : (s : Settings) (texts : List Text) {lines : List Line} {k at :
 source_runs s texts {lines} short small reads faultless stops few =
     let source = text_of_lines texts in
     let accepted = read_is_accepted s.size source lines reads faultless in
-    let entry : RunsFromEntry s lines = headline s source lines accepted in
+    let entry : AnswersFromEntry s lines = each_answer_is_from_entry s source lines accepted in
     record {
       lines = lines;
       accepted = accepted;

@@ -17,9 +17,9 @@ use Rattle.ed_syntax.specs.Names.{is_place_name}
 use Rattle.ed_syntax.specs.Parts.{is_line_byte}
 use Rattle.ed_syntax.specs.Parts.{has_quote}
 use Rattle.ed_syntax.specs.Names.{is_run_byte}
-use Rattle.ed_syntax.specs.Private.Grammar.{form_at, row, spells}
-use Rattle.ed_syntax.specs.Private.PartReading.{parts_of}
-use Rattle.ed_syntax.specs.Private.SourceReading.{line_of}
+use Rattle.ed_syntax.specs.Reading.Grammar.{form_at, row, spells}
+use Rattle.ed_syntax.specs.Reading.Parts.{parts_of}
+use Rattle.ed_syntax.specs.Reading.Sources.{line_of}
 use Rattle.ed_syntax.specs.declared.program.Statement.{Statement}
 use Rattle.ed_syntax.specs.declared.program.Statement.TheVariants as statements
 use Rattle.ed_syntax.proofs.PartLemmas.{quote_parts, run_parts}

@@ -22,7 +22,7 @@ use Rattle.ed_symbols.specs.declared.symbols.Definition.{Definition}
 use Rattle.ed_symbols.specs.Names.{place_on}
 use Rattle.ed_symbols.specs.Places.{even_from}
 use Rattle.ed_link.specs.Linked.{placed_words, linked_words}
-use Rattle.ed_link.specs.Private.FaultTests.{extent, fault_from}
+use Rattle.ed_link.specs.FaultTests.{extent, fault_from}
 use Rattle.ed_answers.specs.EntryState.{entry_state}
 use Rattle.ed_routines.specs.Catalogue.{newline}
 use Rattle.ed_routines.proofs.Journeys.{HasRoutine}

@@ -13,7 +13,7 @@ use Rattle.ed_link.specs.Tapes.{cost}
 use Rattle.ed_report.specs.Notes.{at_after, entry_note}
 use Rattle.ed_command.specs.declared.command.Action.TheVariants.{Run}
 use Rattle.ed_answers.specs.Answer.{IsDue}
-use Rattle.ed_answers.specs.Headline.{RunsFromEntry}
+use Rattle.ed_answers.specs.FromEntry.{AnswersFromEntry}
 use Rattle.ed_top.specs.Output.{output}
 use Rattle.ed_programs.specs.declared.refusal.Refusal.{Refusal}
 use Rattle.ed_programs.specs.declared.refusal.Refusal.TheVariants.{Memory}
@@ -24,7 +24,7 @@ use Rattle.ed_programs.specs.declared.refusal.Refusal.TheVariants.{Memory}
 pub record SourceRuns (s : Settings) (source : Text) (orders at : ℕ) (text : Text) : Type 0 where
   pub lines : List Line
   pub accepted : IsAcceptedAs s.size source lines
-  pub from_entry : RunsFromEntry s lines
+  pub from_entry : AnswersFromEntry s lines
   pub outcome : s.resumes ≡ 0 → s.post_mortem ≡ None → cost lines + orders ≤ s.limit
       → IsDue (output (Some (record { action = Run; settings = s }))) source (record {
         out = text;

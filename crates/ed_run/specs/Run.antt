@@ -7,26 +7,21 @@ use Rattle.ed_machine.specs.OrderTable.{step}
 use Rattle.ed_machine.specs.Steps.{Progress, least, progress}
 use Rattle.ed_machine.specs.Sheet.{Sheet}
 use Rattle.ed_machine.specs.declared.turn.Turn.{Turn}
-use Rattle.ed_machine.specs.declared.turn.Turn.TheVariants.{Went, Printed, Stopped as Stops}
-use Rattle.ed_machine.specs.declared.turn.Turn.TheVariants.{NoOrder as IsNoOrder, NoTape as HasNoTape}
+use Rattle.ed_machine.specs.declared.turn.Turn.TheVariants.{Printed, NoOrder as IsNoOrder, NoTape as HasNoTape}
 use Rattle.ed_machine.specs.declared.ending.Ending.{Ending}
 use Rattle.ed_machine.specs.declared.ending.Ending.TheVariants.{Stopped, Limit, NoOrder, NoTape, PaperFull}
 
 -- whether a turn prints
 abbrev pub prints : Turn → Bool
 prints (Printed code) = true
-prints Went = false
-prints Stops = false
-prints (IsNoOrder function) = false
-prints HasNoTape = false
+prints turn = false
 
 -- how the next order ends a run, if it does: a word that is not an order, no row left on the tape, or the paper full
 abbrev pub end_by : Turn → Bool → Option Ending
 end_by (IsNoOrder function) full = Some NoOrder
 end_by HasNoTape full = Some NoTape
 end_by (Printed code) full = if full then Some PaperFull else None
-end_by Went full = None
-end_by Stops full = None
+end_by turn full = None
 
 -- how a run ends after k orders, if it does: more stops than resumes, else the limit, else the next order
 abbrev pub end_at : ℕ → ℕ → ℕ → ℕ → Progress → Option Ending

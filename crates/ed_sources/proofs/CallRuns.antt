@@ -9,8 +9,8 @@ use Rattle.ed_library.specs.declared.call.Call.{Call}
 use Rattle.ed_library.specs.declared.call.Call.TheVariants.{Print, Read, NewLine, Divide, Root, Check}
 use Rattle.ed_sources.specs.CallSources.{call_text}
 use Rattle.ed_syntax.specs.declared.program.Line.{Line}
-use Rattle.ed_syntax.specs.Private.SourceReading.{program_of}
-use Rattle.ed_link.specs.Private.FaultTests.{fault}
+use Rattle.ed_syntax.specs.Reading.Sources.{program_of}
+use Rattle.ed_link.specs.FaultTests.{fault}
 use Rattle.ed_answers.proofs.EachSource.{read_is_accepted}
 use Rattle.ed_sources.proofs.CallsAccepted.{divide_read, newline_read, print_read, read_read, root_read, check_read}
 use Rattle.ed_sources.proofs.Faultless.{divide_faultless, newline_faultless, print_faultless}
@@ -38,9 +38,9 @@ use Rattle.ed_report.specs.Notes.{at_after, entry_note}
 use Rattle.ed_words.specs.Texts.{Text}
 use Rattle.ed_run.specs.declared.settings.Settings.{Settings}
 use Rattle.ed_sources.specs.CallRuns.{CallRuns, EachCallRuns, GuestStops, call_entry, call_orders, call_prints, call_stop}
-use Rattle.ed_answers.specs.Headline.{RunsFromEntry}
+use Rattle.ed_answers.specs.FromEntry.{AnswersFromEntry}
 use Rattle.ed_answers.specs.Sources.{OfSource, run_outcome}
-use Rattle.ed_answers.proofs.Sources.{accepted_is, headline}
+use Rattle.ed_answers.proofs.Sources.{accepted_is, each_answer_is_from_entry}
 use Rattle.ed_sources.proofs.Stopped.{stopped_outcome}
 
 -- the number of orders of a call from its entry
@@ -67,7 +67,7 @@ runs : (s : Settings) (call : Call) {lines : List Line} {k place : ℕ} {codes :
     → (length (punched_items lines) ≤ 190) × (call_orders call ≤ 14000) → CallRuns s call (call_text call)
 runs s call {lines} {k} {place} {codes} reads faultless stops few are low text guest short =
     let accepted = read_is_accepted s.size (call_text call) lines reads faultless in
-    let entry : RunsFromEntry s lines = headline s (call_text call) lines accepted in
+    let entry : AnswersFromEntry s lines = each_answer_is_from_entry s (call_text call) lines accepted in
     let count = are.1 in
     record {
       lines = lines;

@@ -4,7 +4,7 @@ use Rattle.std.specs.Prelude.{Ok}
 use Rattle.std.specs.List.{list_all}
 use Rattle.ed_words.specs.Texts.{Text}
 use Rattle.ed_syntax.specs.Parts.{is_line_byte}
-use Rattle.ed_syntax.specs.Private.SourceReading.{is_two, lines_from, program_of}
+use Rattle.ed_syntax.specs.Reading.Sources.{is_two, lines_from, program_of}
 use Rattle.ed_syntax.specs.declared.program.Line.{Line}
 use Rattle.ed_library.specs.declared.call.Call.{Call}
 use Rattle.ed_sources.specs.CallSources.{call_data, call_pieces, call_text}

@@ -7,10 +7,10 @@ use Rattle.ed_library.specs.declared.call.Call.TheVariants.{Print, Read, NewLine
 use Rattle.ed_words.specs.Texts.{Text}
 use Rattle.ed_words.specs.declared.size.Size.{Size}
 use Rattle.ed_syntax.specs.declared.program.Line.{Line}
-use Rattle.ed_link.specs.Private.FaultTests.{fault}
+use Rattle.ed_link.specs.FaultTests.{fault}
 use Rattle.ed_answers.proofs.EachSource.{read_is_accepted}
 use Rattle.ed_syntax.specs.Parts.{is_line_byte}
-use Rattle.ed_syntax.specs.Private.SourceReading.{program_of}
+use Rattle.ed_syntax.specs.Reading.Sources.{program_of}
 use Rattle.ed_library.specs.CallRanges.{IsDivisible}
 use Rattle.ed_sources.specs.CallSources.{call_text}
 use Rattle.ed_sources.proofs.CallTexts.{call_is, call_lines}

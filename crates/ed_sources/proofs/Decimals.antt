@@ -9,7 +9,7 @@ use Rattle.std.proofs.lemmas.Bool.{and_parts, cases_lt}
 use Rattle.std.proofs.lemmas.List.{length-map}
 use Rattle.ed_words.proofs.Numbers.{eq_of, lt_of, lt_true}
 use Rattle.ed_codes.specs.Spelling.{row_of}
-use Rattle.ed_syntax.specs.Private.Grammar.{row, spells}
+use Rattle.ed_syntax.specs.Reading.Grammar.{row, spells}
 use Rattle.ed_words.specs.Decimals.{is_digit, value as spelled_value}
 use Rattle.ed_syntax.specs.Names.{is_run_byte}
 use Rattle.ed_syntax.specs.Parts.{is_line_byte}

@@ -9,7 +9,7 @@ use Rattle.std.proofs.lemmas.List.Folds.{list_all-append}
 use Rattle.ed_words.specs.Texts.{Text}
 use Rattle.ed_sources.proofs.Decimals.{both}
 use Rattle.ed_syntax.specs.Parts.{is_line_byte}
-use Rattle.ed_syntax.specs.Private.SourceReading.{program_of}
+use Rattle.ed_syntax.specs.Reading.Sources.{program_of}
 use Rattle.ed_sources.specs.CallSources.{text_of_lines}
 use Rattle.ed_sources.specs.DemoSources.{adding_pieces, demo_text, next, number_after, number_word, segments, word_lines}
 use Rattle.ed_sources.proofs.CallsAccepted.{accepted_as, decimal_plain}

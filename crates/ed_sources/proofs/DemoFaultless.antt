@@ -16,8 +16,8 @@ use Rattle.ed_symbols.specs.declared.symbols.Definition.{Definition}
 use Rattle.ed_symbols.specs.Faults.{resolution}
 use Rattle.ed_symbols.specs.Names.{symbols_from}
 use Rattle.ed_symbols.specs.Places.{first_counter}
-use Rattle.ed_link.specs.Private.FaultTests.{any_enter, cause_of, extent, fault, fault_from, missing}
-use Rattle.ed_link.specs.Private.FaultTests.{sooner}
+use Rattle.ed_link.specs.FaultTests.{any_enter, cause_of, extent, fault, fault_from, missing}
+use Rattle.ed_link.specs.FaultTests.{sooner}
 use Rattle.ed_link.specs.Linked.{symbols_of}
 use Rattle.ed_link.proofs.Extents.{ExtentList, apart, are_below, counter, fits_store, none_later, one_by_one}
 use Rattle.ed_link.proofs.Extents.{one_more, past}

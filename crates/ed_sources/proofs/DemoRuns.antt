@@ -16,9 +16,9 @@ use Rattle.ed_sources.proofs.Papers.{digits_printed}
 use Rattle.ed_sources.proofs.SaidDemo.{demo_lines}
 use Rattle.ed_sources.specs.DemoRuns.{EachDemoRuns}
 use Rattle.ed_answers.specs.Outcome.{Outcome}
-use Rattle.ed_answers.specs.Headline.{RunsFromEntry}
+use Rattle.ed_answers.specs.FromEntry.{AnswersFromEntry}
 use Rattle.ed_answers.specs.Sources.{run_outcome}
-use Rattle.ed_answers.proofs.Sources.{accepted_is, headline}
+use Rattle.ed_answers.proofs.Sources.{accepted_is, each_answer_is_from_entry}
 use Rattle.ed_sources.proofs.Stopped.{stopped_outcome}
 
 -- the outcome of a run that was entered at a location after k orders, and stopped after more
@@ -47,7 +47,7 @@ each_demo_runs n some few s fits =
     let lines : List Line = demo_lines n in
     let accepted =
     read_is_accepted s.size (demo_text n) lines (demo_read n few) (demo_faultless s.size n some few fits) in
-    let entry : RunsFromEntry s lines = headline s (demo_text n) lines accepted in
+    let entry : AnswersFromEntry s lines = each_answer_is_from_entry s (demo_text n) lines accepted in
     record {
       lines = lines;
       accepted = accepted;

@@ -15,13 +15,13 @@ use Rattle.ed_words.specs.Texts.{Text}
 use Rattle.ed_words.specs.Decimals.{is_digit}
 use Rattle.ed_syntax.specs.Parts.{LinePart, run, sign, quoted}
 use Rattle.ed_syntax.specs.Names.{is_run_byte}
-use Rattle.ed_syntax.specs.Private.PartReading.{parts_from, parts_of}
+use Rattle.ed_syntax.specs.Reading.Parts.{parts_from, parts_of}
 use Rattle.ed_words.specs.Decimals.{value}
 use Rattle.ed_syntax.specs.Parts.{array, is_number, modulo}
 use Rattle.ed_syntax.specs.Names.{is_name}
-use Rattle.ed_syntax.specs.Private.Grammar.{form_at, row, settings, spells}
+use Rattle.ed_syntax.specs.Reading.Grammar.{form_at, row, settings, spells}
 use Rattle.ed_syntax.specs.Parts.{is_line_byte}
-use Rattle.ed_syntax.specs.Private.SourceReading.{line_of}
+use Rattle.ed_syntax.specs.Reading.Sources.{line_of}
 use Rattle.ed_syntax.specs.declared.program.Line.{Line}
 use Rattle.ed_syntax.specs.declared.program.Operand.TheVariants as operands
 use Rattle.ed_syntax.specs.declared.program.Setting.{Setting}

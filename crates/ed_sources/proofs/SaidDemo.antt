@@ -11,13 +11,13 @@ use Rattle.ed_words.proofs.Numbers.{eq_false, le_true, lt_false}
 use Rattle.ed_words.specs.Texts.{Text}
 use Rattle.ed_syntax.specs.Parts.{run, sign}
 use Rattle.ed_syntax.specs.Names.{is_run_byte}
-use Rattle.ed_syntax.specs.Private.PartReading.{parts_of}
+use Rattle.ed_syntax.specs.Reading.Parts.{parts_of}
 use Rattle.ed_words.specs.Decimals.{value}
 use Rattle.ed_syntax.specs.Parts.{is_number}
 use Rattle.ed_syntax.specs.Names.{is_name}
-use Rattle.ed_syntax.specs.Private.Grammar.{settings}
+use Rattle.ed_syntax.specs.Reading.Grammar.{settings}
 use Rattle.ed_syntax.specs.Parts.{is_line_byte}
-use Rattle.ed_syntax.specs.Private.SourceReading.{line_of}
+use Rattle.ed_syntax.specs.Reading.Sources.{line_of}
 use Rattle.ed_syntax.specs.declared.program.Line.{Line}
 use Rattle.ed_syntax.specs.declared.program.Operand.TheVariants as operands
 use Rattle.ed_syntax.specs.declared.program.Statement.{Statement}

@@ -14,7 +14,7 @@ use Rattle.ed_answers.specs.EntryState.{entry_state}
 use Rattle.ed_report.specs.Notes.{at_after, entry_note}
 use Rattle.ed_routines.proofs.Journeys.{ComesToStop}
 use Rattle.ed_sources.proofs.Stops.{RanToStop, ran_to_stop}
-use Rattle.ed_answers.specs.Headline.{RunsFromEntry}
+use Rattle.ed_answers.specs.FromEntry.{AnswersFromEntry}
 use Rattle.ed_answers.specs.Runs.{paper_room, ran_outcome, with_post_mortem}
 use Rattle.ed_answers.specs.Sources.{run_outcome}
 
@@ -43,7 +43,7 @@ counted : (orders cost k : ℕ) → orders ≡ cost + k + 1 → orders ≡ cost 
 counted orders cost k is = omega arith
 
 -- the program of a source reaches its stop, and the limit is not below its orders and those up to the entry
-pub stopped_outcome : (s : Settings) {lines : List Line} {k at : ℕ} {printed : List ℕ} → RunsFromEntry s lines
+pub stopped_outcome : (s : Settings) {lines : List Line} {k at : ℕ} {printed : List ℕ} → AnswersFromEntry s lines
     → ComesToStop k (entry_state s.size lines) printed at → length printed ≤ paper_room
     → s.resumes ≡ 0 → s.post_mortem ≡ None → cost lines + (k + 1) ≤ s.limit
     → run_outcome s lines ≡ record {
@@ -58,7 +58,7 @@ stopped_outcome s {lines} {k} {at} {printed} entry stops few none plain fits =
     let before : Text = entry_note (entry_of lines) (cost lines) in
     let ended = ran_to_stop left paper_room k first printed stops few (left_after (cost lines) k s.limit fits).1 in
     let count : (step stops.last).state.orders ≡ cost lines + (k + 1) = counted _ (cost lines) k stops.orders in
-    entry.runs (left_after (cost lines) k s.limit fits).0
+    entry.entered (left_after (cost lines) k s.limit fits).0
     ∙ (λ i. ran_outcome before (with_post_mortem (plain i) (run_end left (none i) paper_room first)))
     ∙ ap (ran_outcome before) (nothing_after r)
     ∙ answered before r ended stops.counter count

@@ -10,9 +10,9 @@ use Rattle.ed_words.proofs.Numbers.{eq_false}
 use Rattle.ed_words.specs.Texts.{Text}
 use Rattle.ed_syntax.specs.Lines.{lines_of, with_byte}
 use Rattle.ed_syntax.specs.Parts.{LinePart}
-use Rattle.ed_syntax.specs.Private.PartReading.{parts_of}
-use Rattle.ed_syntax.specs.Private.Grammar.{form_at}
-use Rattle.ed_syntax.specs.Private.SourceReading.{and_lines, is_two, line_of, lines_from, program_of}
+use Rattle.ed_syntax.specs.Reading.Parts.{parts_of}
+use Rattle.ed_syntax.specs.Reading.Grammar.{form_at}
+use Rattle.ed_syntax.specs.Reading.Sources.{and_lines, is_two, line_of, lines_from, program_of}
 use Rattle.ed_syntax.specs.Parts.{is_line_byte}
 use Rattle.ed_syntax.specs.declared.fault.SourceCause.TheVariants.{TooManyLines}
 use Rattle.ed_syntax.specs.declared.program.Line.{Line}

@@ -21,7 +21,7 @@ use Rattle.ed_words.specs.Texts.{Text}
 use Rattle.ed_run.specs.declared.settings.Settings.{Settings}
 use Rattle.ed_answers.specs.Outcome.{Outcome}
 use Rattle.ed_answers.specs.Sources.{OfSource, run_outcome}
-use Rattle.ed_answers.specs.Headline.{RunsFromEntry}
+use Rattle.ed_answers.specs.FromEntry.{AnswersFromEntry}
 
 -- the base of the checking routine in the source of `call check`
 abbrev pub check_base : ℕ
@@ -86,7 +86,7 @@ pub record CallRuns (s : Settings) (call : Call) (text : Text) : Type 0 where
   pub lines : List Line
   pub accepted : IsAcceptedAs s.size text lines
   pub answers : OfSource s.size (run_outcome s) text (run_outcome s lines)
-  pub from_entry : RunsFromEntry s lines
+  pub from_entry : AnswersFromEntry s lines
   pub few : cost lines + call_orders call ≤ most_call_orders
   pub guest_stops : GuestStops s.size lines call
   -- and if the limit is not below the number of orders that it takes, this is its outcome

@@ -9,7 +9,7 @@ use Rattle.ed_link.specs.Tapes.{cost}
 use Rattle.ed_report.specs.Notes.{at_after, entry_note}
 use Rattle.ed_routines.specs.Digits.{print_orders}
 use Rattle.ed_sources.specs.DemoSources.{demo_sum, demo_text}
-use Rattle.ed_answers.specs.Headline.{RunsFromEntry}
+use Rattle.ed_answers.specs.FromEntry.{AnswersFromEntry}
 use Rattle.ed_answers.specs.Outcome.{Outcome}
 use Rattle.ed_words.specs.Texts.{Text}
 use Rattle.ed_answers.specs.Sources.{OfSource, run_outcome}
@@ -33,7 +33,7 @@ pub record DemoRuns (s : Settings) (n : ℕ) (text : Text) : Type 0 where
   pub lines : List Line
   pub accepted : IsAcceptedAs s.size text lines
   pub answers : OfSource s.size (run_outcome s) text (run_outcome s lines)
-  pub from_entry : RunsFromEntry s lines
+  pub from_entry : AnswersFromEntry s lines
   -- and if the limit is not below the number of orders that it takes, it prints the sum of its words and stops
   pub prints : s.resumes ≡ 0 → s.post_mortem ≡ None → cost lines + demo_orders n ≤ s.limit
       → run_outcome s lines ≡ demo_outcome lines n

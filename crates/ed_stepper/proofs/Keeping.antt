@@ -6,7 +6,7 @@ use Rattle.ed_machine.specs.Steps.{state_after}
 use Rattle.ed_machine.proofs.Steps.{after_sum}
 use Rattle.ed_stepper.specs.MoveEnds.{Ends}
 use Rattle.ed_stepper.specs.Sessions.{Moves}
-use Rattle.ed_stepper.specs.Private.Kept.{AreMarks, IsMark}
+use Rattle.ed_stepper.specs.Kept.{AreMarks, IsMark}
 use Rattle.ed_stepper.specs.declared.marks.Mark.{Mark}
 use Rattle.ed_stepper.specs.declared.moves.MoveTarget.{MoveTarget}
 use Rattle.ed_stepper.specs.declared.moves.MoveEnd.{MoveEnd}

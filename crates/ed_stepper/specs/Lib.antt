@@ -1,4 +1,5 @@
 pub mod MoveEnds
+pub mod Kept
 pub mod Sessions
 pub mod Commands
 pub mod ScriptLines

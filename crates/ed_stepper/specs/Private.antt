@@ -1,6 +1,5 @@
 -- What the crate's own functions state for each other. No public clause cites these definitions, so nobody has to read
 -- them to know what the crate answers.
-pub mod Kept
 pub mod Fronts
 pub mod Commands
 pub mod CommandReading

@@ -1,7 +1,7 @@
 ghost use Rattle.std.specs.Prelude.{◌≡◌, ◌+◌, ◌≤◌, ◌<◌, ◌^◌, IfOk, IfSome, length, slice_index_or};
 ghost use Rattle.ed_machine.specs.State.{State};
 ghost use Rattle.ed_machine.specs.Steps.{state_after};
-ghost use Rattle.ed_stepper.specs.Private.Kept.{AreMarks};
+ghost use Rattle.ed_stepper.specs.Kept.{AreMarks};
 ghost use Rattle.ed_stepper.specs.declared.marks.Mark.{Mark};
 
 use ed_machine::Machine;

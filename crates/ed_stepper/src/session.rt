@@ -31,7 +31,7 @@ pub struct Session {
 
 impl Model for Session {
     ghost use Rattle.ed_stepper.specs.Sessions.{Stand};
-    ghost use Rattle.ed_stepper.specs.Private.Kept.{IsSession};
+    ghost use Rattle.ed_stepper.specs.Kept.{IsSession};
 
     ghost Value = { Stand };
 

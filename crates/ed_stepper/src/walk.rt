@@ -4,7 +4,7 @@ ghost use Rattle.ed_machine.specs.State.{State};
 ghost use Rattle.ed_machine.specs.Steps.{AreObeyed, state_after};
 ghost use Rattle.ed_stepper.specs.MoveEnds.{Ends, own_end};
 ghost use Rattle.ed_stepper.specs.declared.moves.MoveEnd.TheVariants.{Went};
-ghost use Rattle.ed_stepper.specs.Private.Kept.{AreMarks};
+ghost use Rattle.ed_stepper.specs.Kept.{AreMarks};
 
 use crate::marks::{Mark, keep};
 use crate::moves::{MoveEnd, MoveTarget};

@@ -10,11 +10,11 @@ use Rattle.ed_syntax.specs.Names.{is_place_name}
 use Rattle.ed_syntax.specs.declared.fault.SourceCause.TheVariants.{NotAStatement, NumberRange}
 use Rattle.ed_syntax.specs.Private.Found.{form_result}
 use Rattle.ed_syntax.specs.Parts.{LinePart, is_line_byte}
-use Rattle.ed_syntax.specs.Private.PartReading.{parts_of}
-use Rattle.ed_syntax.specs.Private.Grammar.{Ranged, form_at, is_plus_or_minus, labelled_line, ranged_map, placed_statement}
-use Rattle.ed_syntax.specs.Private.Grammar.{joined_operand, operand, with_rest}
+use Rattle.ed_syntax.specs.Reading.Parts.{parts_of}
+use Rattle.ed_syntax.specs.Reading.Grammar.{Ranged, form_at, is_plus_or_minus, labelled_line, ranged_map, placed_statement}
+use Rattle.ed_syntax.specs.Reading.Grammar.{joined_operand, operand, with_rest}
 use Rattle.ed_syntax.specs.Private.Seen.{part}
-use Rattle.ed_syntax.specs.Private.SourceReading.{line_of, or_cause}
+use Rattle.ed_syntax.specs.Reading.Sources.{line_of, or_cause}
 use Rattle.ed_syntax.specs.declared.form_fault.FormFault.{FormFault}
 use Rattle.ed_syntax.specs.declared.form_fault.FormFault.TheVariants.{NotThisForm, OutOfRange}
 use Rattle.ed_syntax.specs.declared.parts.Part.{Part}

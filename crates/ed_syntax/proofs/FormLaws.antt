@@ -12,7 +12,7 @@ use Rattle.ed_syntax.specs.Parts.{LinePart, run, sign, quoted}
 use Rattle.ed_syntax.specs.Private.Grammar
 use Rattle.ed_syntax.specs.Parts.{is_number}
 use Rattle.ed_syntax.specs.Names.{is_place_name}
-use Rattle.ed_syntax.specs.Private.Grammar.{is_version_two}
+use Rattle.ed_syntax.specs.Reading.Grammar.{is_version_two}
 use Rattle.ed_syntax.specs.declared.program.Statement.{Statement}
 use Rattle.ed_syntax.specs.declared.form.Form.{Form}
 use Rattle.ed_syntax.specs.Forms.{SpellsInteger, positive, negative}

@@ -7,7 +7,7 @@ use Rattle.std.specs.List.{list_all}
 use Rattle.ed_words.specs.Texts.{Text}
 use Rattle.ed_syntax.specs.Programs.{AreNumbered, is_line}
 use Rattle.ed_syntax.specs.Sources.{IsProgram, LinesSay, no_more, and_more}
-use Rattle.ed_syntax.specs.Private.SourceReading.{lines_from}
+use Rattle.ed_syntax.specs.Reading.Sources.{lines_from}
 use Rattle.ed_syntax.specs.declared.program.Line.{Line}
 use Rattle.ed_syntax.proofs.FitLaws.{each_spelled_is_form}
 use Rattle.ed_syntax.proofs.SourceLaws.{IsAnswerFrom, SayFrom, lines_answer}

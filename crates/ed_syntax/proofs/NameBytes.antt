@@ -9,7 +9,7 @@ use Rattle.std.specs.Cmp.Lexicographic.{pointwise}
 use Rattle.std.proofs.lemmas.Bool.{and_parts}
 use Rattle.std.proofs.lemmas.Bool.Decides.{Decides-eqb}
 use Rattle.std.proofs.lemmas.Slice.Eq.{slice_eq-Decides}
-use Rattle.ed_syntax.specs.Private.Names.{padded_name, IsPadded}
+use Rattle.ed_syntax.specs.PaddedNames.{padded_name, IsPadded}
 
 -- the test of two lists decides whether they are equal
 list_test : (xs ys : List ℕ) → Decides (pointwise nat_eq xs ys) (xs ≡ ys)

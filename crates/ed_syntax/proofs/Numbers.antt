@@ -8,7 +8,7 @@ use Rattle.std.proofs.lemmas.List.Sums.{fold-append, fold_more}
 use Rattle.ed_words.specs.Decimals.{value}
 use Rattle.ed_syntax.specs.Parts.{is_number}
 use Rattle.ed_syntax.specs.Private.Found.{form_result}
-use Rattle.ed_syntax.specs.Private.Grammar.{number_up_to, up_to}
+use Rattle.ed_syntax.specs.Reading.Grammar.{number_up_to, up_to}
 use Rattle.ed_syntax.specs.declared.form_fault.FormFault.TheVariants.{OutOfRange}
 
 abbrev longer : ℕ → ℕ → ℕ

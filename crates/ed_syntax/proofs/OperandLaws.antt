@@ -12,7 +12,7 @@ use Rattle.ed_syntax.specs.Names.{is_lower}
 use Rattle.ed_syntax.specs.Private.Grammar
 use Rattle.ed_syntax.specs.Parts.{is_number, with_sign}
 use Rattle.ed_syntax.specs.Names.{is_name, is_local_name, is_place_name}
-use Rattle.ed_syntax.specs.Private.Grammar.{is_plus_or_minus}
+use Rattle.ed_syntax.specs.Reading.Grammar.{is_plus_or_minus}
 use Rattle.ed_syntax.specs.declared.program.Operand.{Operand}
 use Rattle.ed_syntax.specs.declared.program.Operand.TheVariants as operands
 use Rattle.ed_syntax.specs.Forms.{SpellsOperand, number, name, plus, minus, sum, difference}

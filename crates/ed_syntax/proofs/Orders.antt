@@ -2,7 +2,7 @@
 use Rattle.std.proofs.Common.{◌≡◌, ◌∙◌, ℕ, Bool, ap, refl}
 use Rattle.std.specs.Prelude.{Option, Some, None, Ok, Err, option_map, option_and_then}
 use Rattle.ed_syntax.specs.Private.Found.{form_result}
-use Rattle.ed_syntax.specs.Private.Grammar.{Ranged}
+use Rattle.ed_syntax.specs.Reading.Grammar.{Ranged}
 use Rattle.ed_syntax.specs.declared.form_fault.FormFault.TheVariants.{NotThisForm, OutOfRange}
 use Rattle.ed_syntax.specs.declared.program.Operand.{Operand}
 use Rattle.ed_syntax.specs.declared.program.Statement.{Statement}

@@ -8,10 +8,10 @@ use Rattle.std.proofs.lemmas.List.{append-nil, take-append-drop, drop_more}
 use Rattle.ed_syntax.proofs.Splits.{split_at}
 use Rattle.ed_words.specs.Texts.{Text}
 use Rattle.ed_syntax.specs.Parts.{LinePart, run, sign, quoted}
-use Rattle.ed_syntax.specs.Private.PartReading.{parts_of, parts_from}
+use Rattle.ed_syntax.specs.Reading.Parts.{parts_of, parts_from}
 use Rattle.ed_syntax.specs.Parts.{is_blank, begins_run}
 use Rattle.ed_syntax.specs.Names.{is_run_byte}
-use Rattle.ed_syntax.specs.Private.PartReading.{with_run_byte}
+use Rattle.ed_syntax.specs.Reading.Parts.{with_run_byte}
 use Rattle.std.proofs.Common.{◌≤◌, suc, length-append, map}
 use Rattle.std.proofs.lemmas.List.{map-append}
 use Rattle.ed_syntax.specs.Private.Seen.{part}

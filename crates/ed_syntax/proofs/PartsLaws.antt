@@ -6,10 +6,10 @@ use Rattle.std.proofs.lemmas.Bool.Decides.{Decides-eqb}
 use Rattle.std.proofs.lemmas.List.{append-nil}
 use Rattle.ed_words.specs.Texts.{Text}
 use Rattle.ed_syntax.specs.Parts.{LinePart, run, sign, quoted}
-use Rattle.ed_syntax.specs.Private.PartReading.{parts_of, parts_from}
+use Rattle.ed_syntax.specs.Reading.Parts.{parts_of, parts_from}
 use Rattle.ed_syntax.specs.Parts.{is_blank}
 use Rattle.ed_syntax.specs.Names.{is_run_byte}
-use Rattle.ed_syntax.specs.Private.PartReading.{with_run_byte}
+use Rattle.ed_syntax.specs.Reading.Parts.{with_run_byte}
 use Rattle.ed_syntax.specs.Forms.{HasLineParts, nothing, comment, blank, one_sign, one_string, one_run, is_sign}
 use Rattle.ed_syntax.specs.Parts.{has_quote}
 use Rattle.ed_syntax.proofs.Readings.{mapped}

@@ -14,7 +14,7 @@ use Rattle.ed_words.specs.Decimals.{value}
 use Rattle.ed_syntax.specs.Parts.{LinePart, run, sign, quoted}
 use Rattle.ed_syntax.specs.Private.Grammar
 use Rattle.ed_syntax.specs.Parts.{is_number, with_sign, function, length_of, array, modulo}
-use Rattle.ed_syntax.specs.Private.Grammar.{is_plus_or_minus}
+use Rattle.ed_syntax.specs.Reading.Grammar.{is_plus_or_minus}
 use Rattle.ed_syntax.specs.declared.program.Operand.{Operand}
 use Rattle.ed_syntax.specs.declared.program.Operand.TheVariants as operands
 use Rattle.ed_syntax.specs.declared.program.Statement.{Statement}

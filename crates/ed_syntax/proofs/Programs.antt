@@ -4,7 +4,7 @@ use Rattle.std.specs.Prelude.{◌==◌, Result, Ok, Err}
 use Rattle.ed_words.specs.Texts.{Text}
 use Rattle.ed_syntax.specs.Private.Answers.{IsFaultOf, LineIs}
 use Rattle.ed_syntax.specs.Private.LineFronts.{with_lines_before}
-use Rattle.ed_syntax.specs.Private.SourceReading.{Fault, line_of, lines_from, with_first}
+use Rattle.ed_syntax.specs.Reading.Sources.{Fault, line_of, lines_from, with_first}
 use Rattle.ed_syntax.specs.declared.fault.SourceFault.{SourceFault}
 use Rattle.ed_syntax.specs.declared.fault.SourceFault.TheVariants.{At, Memory}
 use Rattle.ed_syntax.specs.declared.form.Form.{Form}

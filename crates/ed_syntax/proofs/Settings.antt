@@ -5,7 +5,7 @@ use Rattle.std.specs.Option.{ok_or}
 use Rattle.arrayvec.specs.ArrayVec.{ArrayVec}
 use Rattle.ed_syntax.specs.Parts.{LinePart, sign, array}
 use Rattle.ed_syntax.specs.Private.Found.{form_result}
-use Rattle.ed_syntax.specs.Private.Grammar.{Ranged, and_more, both, ranged_map, setting, settings}
+use Rattle.ed_syntax.specs.Reading.Grammar.{Ranged, and_more, both, ranged_map, setting, settings}
 use Rattle.ed_syntax.specs.declared.form_fault.FormFault.{FormFault}
 use Rattle.ed_syntax.specs.declared.form_fault.FormFault.TheVariants.{NotThisForm, OutOfRange}
 use Rattle.ed_syntax.specs.declared.program.Setting.{Setting}

@@ -15,10 +15,10 @@ use Rattle.ed_syntax.specs.Private.Answers.{IsFaultOf}
 use Rattle.ed_syntax.specs.declared.fault.SourceFault.{SourceFault}
 use Rattle.ed_syntax.specs.declared.fault.SourceFault.TheVariants.{At, Memory}
 use Rattle.std.proofs.Common.{inl, inr, nat_le}
-use Rattle.ed_syntax.specs.Private.SourceReading.{Fault, line_of, or_cause, lines_from, and_lines, with_first, is_two}
-use Rattle.ed_syntax.specs.Private.SourceReading.{says_two}
+use Rattle.ed_syntax.specs.Reading.Sources.{Fault, line_of, or_cause, lines_from, and_lines, with_first, is_two}
+use Rattle.ed_syntax.specs.Reading.Sources.{says_two}
 use Rattle.ed_syntax.specs.Parts.{is_line_byte}
-use Rattle.ed_syntax.specs.Private.SourceReading.{version_of, program_of}
+use Rattle.ed_syntax.specs.Reading.Sources.{version_of, program_of}
 use Rattle.ed_syntax.specs.declared.form.Form.{Form}
 use Rattle.ed_syntax.specs.declared.program.Line.{Line}
 use Rattle.ed_syntax.specs.declared.program.Program.{Program}
@@ -32,8 +32,8 @@ use Rattle.std.specs.Str.{bytes_eq}
 use Rattle.std.proofs.lemmas.Slice.Eq.{bytes_eq-Decides}
 use Rattle.ed_words.specs.Decimals.{value}
 use Rattle.ed_syntax.specs.Parts.{LinePart, run, sign, quoted}
-use Rattle.ed_syntax.specs.Private.PartReading.{parts_of}
-use Rattle.ed_syntax.specs.Private.Grammar.{is_version_two}
+use Rattle.ed_syntax.specs.Reading.Parts.{parts_of}
+use Rattle.ed_syntax.specs.Reading.Grammar.{is_version_two}
 use Rattle.ed_syntax.specs.Parts.{is_number}
 use Rattle.ed_syntax.proofs.PartsLaws.{parts_are_read, read_parts_are}
 use Rattle.ed_syntax.specs.Lines.{HasLines, nothing, last, ended, without_return}

@@ -13,7 +13,7 @@ use Rattle.ed_syntax.specs.Parts.{LinePart, run, sign, quoted}
 use Rattle.ed_syntax.specs.Private.Grammar
 use Rattle.ed_syntax.specs.Parts.{array}
 use Rattle.ed_syntax.specs.Names.{is_name}
-use Rattle.ed_syntax.specs.Private.Grammar.{is_version_two}
+use Rattle.ed_syntax.specs.Reading.Grammar.{is_version_two}
 use Rattle.ed_syntax.specs.declared.program.Statement.{Statement}
 use Rattle.ed_syntax.specs.declared.program.Statement.TheVariants as statements
 use Rattle.ed_syntax.specs.Forms.{SpellsPlaced, order, bare_order, word, long, text}

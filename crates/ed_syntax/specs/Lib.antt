@@ -1,4 +1,5 @@
 pub mod Names
+pub mod PaddedNames
 pub mod Programs
 pub mod Lines
 pub mod Parts
@@ -7,4 +8,5 @@ pub mod Forms
 pub mod Sources
 pub mod Written
 pub mod Answers
+pub mod Reading
 pub mod Private

@@ -4,9 +4,6 @@ pub mod Names
 pub mod Seen
 pub mod PartFronts
 pub mod LineFronts
-pub mod PartReading
-pub mod Grammar
 pub mod Found
-pub mod SourceReading
 pub mod Answers
 pub mod LineTexts

@@ -14,7 +14,7 @@ pub struct Name {
 
 impl Model for Name {
     ghost use Rattle.std.specs.Prelude.{ℕ, List, take, length};
-    ghost use Rattle.ed_syntax.specs.Private.Names.{padded_name, IsPadded};
+    ghost use Rattle.ed_syntax.specs.PaddedNames.{padded_name, IsPadded};
 
     ghost Value = { List ℕ };
 

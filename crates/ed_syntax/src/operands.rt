@@ -1,13 +1,13 @@
 //! Operands and settings.
 ghost use Rattle.std.specs.Prelude.{◌≡◌, ◌+◌, ◌≤◌, ◌==◌, ◌<◌, length, map, option_map, IfOk, Some};
 ghost use Rattle.std.specs.Option.{ok_or};
-ghost use Rattle.ed_syntax.specs.Private.Grammar.{both, joined_operand, ranged_map, operand, with_settings};
-ghost use Rattle.ed_syntax.specs.Private.Grammar.{setting};
+ghost use Rattle.ed_syntax.specs.Reading.Grammar.{both, joined_operand, ranged_map, operand, with_settings};
+ghost use Rattle.ed_syntax.specs.Reading.Grammar.{setting};
 ghost use Rattle.ed_syntax.specs.Private.Found.{form_result, front};
 ghost use Rattle.ed_syntax.specs.Versions.{is_second};
 ghost use Rattle.ed_syntax.specs.Parts.{array};
 ghost use Rattle.ed_syntax.specs.Parts.{setting_letter};
-ghost use Rattle.ed_syntax.specs.Private.Grammar.{settings, single};
+ghost use Rattle.ed_syntax.specs.Reading.Grammar.{settings, single};
 ghost use Rattle.ed_syntax.specs.Parts.{run, sign};
 ghost use Rattle.ed_syntax.specs.Private.Seen.{part};
 

@@ -2,7 +2,7 @@
 ghost use Rattle.std.specs.Prelude.{◌≡◌, ◌≤◌, ◌<◌, Some, None, IfSome};
 ghost use Rattle.std.specs.Prelude.{IfNone, IfOk, map, option_map, false, length};
 ghost use Rattle.ed_syntax.specs.Names.{is_run_byte};
-ghost use Rattle.ed_syntax.specs.Private.PartReading.{parts_of};
+ghost use Rattle.ed_syntax.specs.Reading.Parts.{parts_of};
 ghost use Rattle.ed_syntax.specs.Private.Seen.{part};
 ghost use Rattle.ed_syntax.specs.Private.PartFronts.{SplitsRun, SplitsQuote, Takes, begins_blank};
 ghost use Rattle.ed_syntax.specs.Parts.{has_quote};

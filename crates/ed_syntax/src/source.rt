@@ -9,7 +9,7 @@ ghost use Rattle.ed_syntax.specs.Lines.{lines_of};
 ghost use Rattle.ed_syntax.specs.Forms.{FormsAreSpelled};
 ghost use Rattle.ed_syntax.specs.Sources.{HasFormFault, HasOneMeaning, IsProgram};
 ghost use Rattle.ed_syntax.specs.Parts.{is_line_byte};
-ghost use Rattle.ed_syntax.specs.Private.SourceReading.{is_two, line_of, lines_from, program_of, version_of};
+ghost use Rattle.ed_syntax.specs.Reading.Sources.{is_two, line_of, lines_from, program_of, version_of};
 
 use crate::Version;
 use crate::fault::{SourceCause, SourceFault};

@@ -2,10 +2,10 @@
 ghost use Rattle.std.specs.Prelude.{◌≡◌, ◌==◌, codes, map, Some};
 ghost use Rattle.ed_syntax.specs.Versions.{is_second};
 ghost use Rattle.ed_syntax.specs.Private.Found.{form_result};
-ghost use Rattle.ed_syntax.specs.Private.Grammar.{base, enter, fetch, form_at};
-ghost use Rattle.ed_syntax.specs.Private.Grammar.{is_version_two, labelled_line, length_end};
-ghost use Rattle.ed_syntax.specs.Private.Grammar.{long, order, order_end, placed_statement, segment};
-ghost use Rattle.ed_syntax.specs.Private.Grammar.{statement, unlabelled_line, word};
+ghost use Rattle.ed_syntax.specs.Reading.Grammar.{base, enter, fetch, form_at};
+ghost use Rattle.ed_syntax.specs.Reading.Grammar.{is_version_two, labelled_line, length_end};
+ghost use Rattle.ed_syntax.specs.Reading.Grammar.{long, order, order_end, placed_statement, segment};
+ghost use Rattle.ed_syntax.specs.Reading.Grammar.{statement, unlabelled_line, word};
 ghost use Rattle.ed_syntax.specs.Private.Seen.{part};
 
 use crate::Version;

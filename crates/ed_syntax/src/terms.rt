@@ -6,11 +6,11 @@ ghost use Rattle.ed_syntax.specs.Private.Found.{form_result};
 ghost use Rattle.std.specs.Str.{bytes_eq};
 ghost use Rattle.ed_syntax.specs.Parts.{array};
 ghost use Rattle.ed_syntax.specs.Names.{is_name};
-ghost use Rattle.ed_syntax.specs.Private.Grammar.{integer};
+ghost use Rattle.ed_syntax.specs.Reading.Grammar.{integer};
 ghost use Rattle.ed_syntax.specs.Parts.{is_number};
 ghost use Rattle.ed_syntax.specs.Names.{is_place_name};
-ghost use Rattle.ed_syntax.specs.Private.Grammar.{number_up_to};
-ghost use Rattle.ed_syntax.specs.Private.Grammar.{string};
+ghost use Rattle.ed_syntax.specs.Reading.Grammar.{number_up_to};
+ghost use Rattle.ed_syntax.specs.Reading.Grammar.{string};
 ghost use Rattle.ed_syntax.specs.Names.{is_run_byte};
 ghost use Rattle.ed_syntax.specs.Private.Seen.{part};
 

@@ -14,7 +14,7 @@ use Rattle.ed_link.specs.declared.building.Built.{Built}
 use Rattle.ed_link.specs.declared.linked.Linked.{Linked}
 use Rattle.ed_link.specs.Linked.{data_after, entry_from, placed_from}
 use Rattle.ed_link.specs.Punch.{items_of, punched_from, routine_items, word_items}
-use Rattle.ed_link.specs.Private.FaultTests.{IsFirstFault, LinesBefore, fault_from}
+use Rattle.ed_link.specs.FaultTests.{IsFirstFault, LinesBefore, fault_from}
 use Rattle.ed_link.specs.Tables.{table_of, words_from}
 use Rattle.ed_link.specs.Labels.{labels}
 

@@ -1,7 +1,7 @@
 -- The answers of the code, by the definitions.
 use Rattle.std.specs.Prelude.{◌≡◌, ℕ, List, Result, Ok, Err, Vec}
 use Rattle.std.specs.declared.alloc.Global.{Global}
-use Rattle.ed_syntax.specs.Private.SourceReading.{Fault}
+use Rattle.ed_syntax.specs.Reading.Sources.{Fault}
 use Rattle.ed_syntax.specs.declared.fault.SourceCause.{SourceCause}
 use Rattle.ed_syntax.specs.declared.fault.SourceFault.{SourceFault}
 use Rattle.ed_syntax.specs.declared.fault.SourceFault.TheVariants.{At, Memory}

@@ -2,7 +2,7 @@
 use Rattle.std.specs.Prelude.{List, Option, Some, None, Result, Ok, Err, map}
 use Rattle.std.specs.Borrow.{Bor}
 use Rattle.ed_syntax.specs.Parts.{LinePart}
-use Rattle.ed_syntax.specs.Private.Grammar.{Ranged}
+use Rattle.ed_syntax.specs.Reading.Grammar.{Ranged}
 use Rattle.ed_syntax.specs.Private.Seen.{part}
 use Rattle.ed_syntax.specs.declared.form_fault.FormFault.{FormFault}
 use Rattle.ed_syntax.specs.declared.form_fault.FormFault.TheVariants.{NotThisForm, OutOfRange}

@@ -2,7 +2,7 @@
 use Rattle.std.specs.Prelude.{◌≡◌, ◌<◌, List, ◌∷◌, ◌++◌, length, Result, Ok, Err}
 use Rattle.ed_words.specs.Texts.{Text}
 use Rattle.ed_syntax.specs.Lines.{lines_of}
-use Rattle.ed_syntax.specs.Private.SourceReading.{Fault}
+use Rattle.ed_syntax.specs.Reading.Sources.{Fault}
 use Rattle.ed_syntax.specs.declared.program.Line.{Line}
 
 -- the first line, and what follows its end

@@ -1,6 +1,6 @@
 use Rattle.ed_answers.proofs.EachSource.{each_source as each_comes, one_answer}
 use Rattle.ed_answers.proofs.Entries.{each_source, loaded}
-use Rattle.ed_answers.proofs.EntryWords.{each_entry_has_words}
+use Rattle.ed_answers.proofs.EntryWords.{each_entry_store_is}
 use Rattle.ed_answers.proofs.entering.enter.Goals as goal
 
 pub returns-in_err-rows-clause-law : goal.returns-in_err-rows-clause-law
@@ -16,13 +16,13 @@ pub returns-clause-law : goal.returns-clause-law
 returns-clause-law c = each_source
 
 pub returns-in_err-rows-clause-words : goal.returns-in_err-rows-clause-words
-returns-in_err-rows-clause-words c = each_entry_has_words
+returns-in_err-rows-clause-words c = each_entry_store_is
 
 pub returns-in_err-machine-clause-words : goal.returns-in_err-machine-clause-words
-returns-in_err-machine-clause-words c = each_entry_has_words
+returns-in_err-machine-clause-words c = each_entry_store_is
 
 pub returns-clause-words : goal.returns-clause-words
-returns-clause-words c = each_entry_has_words
+returns-clause-words c = each_entry_store_is
 
 pub returns-in_err-rows-clause-one : goal.returns-in_err-rows-clause-one
 returns-in_err-rows-clause-one c = one_answer

@@ -1,4 +1,4 @@
-use Rattle.ed_link.specs.Private.FaultTests.{LinesBefore}
+use Rattle.ed_link.specs.FaultTests.{LinesBefore}
 use Rattle.std.proofs.Common.{sym, is_some}
 use Rattle.ed_link.proofs.Inductions.{faultless, first_enter}
 use Rattle.ed_link.proofs.LineLoop.{all_built, reach_fits, start, step, stopped}

@@ -2,7 +2,7 @@ use Rattle.std.proofs.Common.{◌≡◌, ◌∙◌, ap, refl, Bool, true, false}
 use Rattle.std.specs.List.{list_any}
 use Rattle.ed_syntax.specs.declared.fault.SourceCause.TheVariants as causes
 use Rattle.ed_link.specs.declared.faults.Extent.{Extent}
-use Rattle.ed_link.specs.Private.FaultTests.{extent, has_no_routine, is_misplaced, overlaps, sets_otherwise, word_extent}
+use Rattle.ed_link.specs.FaultTests.{extent, has_no_routine, is_misplaced, overlaps, sets_otherwise, word_extent}
 use Rattle.ed_link.proofs.Causes.{clear, fails, holds, unused, used, within}
 use Rattle.ed_link.proofs.faults.cause_of.Goals as goal
 

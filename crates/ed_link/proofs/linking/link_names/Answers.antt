@@ -3,7 +3,7 @@ use Rattle.ed_syntax.specs.declared.program.Line.{Line}
 use Rattle.std.proofs.lemmas.Result.{IfOk-weaker}
 use Rattle.ed_link.specs.Answers.{IsLinked}
 use Rattle.ed_link.specs.Private.Building.{BuildIs, IsBuilt, IsFinished}
-use Rattle.ed_link.specs.Private.FaultTests.{any_enter}
+use Rattle.ed_link.specs.FaultTests.{any_enter}
 use Rattle.ed_link.proofs.FaultLaw.{line_fault, name_fault}
 use Rattle.ed_link.proofs.Bounds.{tape_few}
 use Rattle.ed_link.proofs.Spellable.{all_spellable}

@@ -4,7 +4,7 @@ use Rattle.std.proofs.lemmas.Result.{on_ok_weaker}
 use Rattle.ed_notation.specs.declared.item.Item.{Item}
 use Rattle.ed_link.specs.Punch.{heads}
 use Rattle.ed_link.specs.Private.Building.{bare_items}
-use Rattle.ed_link.specs.Private.FaultTests.{has_words}
+use Rattle.ed_link.specs.FaultTests.{has_words}
 use Rattle.ed_link.proofs.Steps.{base_fits, line_items, with_head, without_head}
 use Rattle.ed_link.proofs.punching.push_line.Goals as goal
 use Rattle.ed_link.proofs.punching.push_line.Goals.{then-has_words+then-counter+in_ok-push_head, else-has_words}

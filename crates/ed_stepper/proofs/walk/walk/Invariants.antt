@@ -1,7 +1,7 @@
 use Rattle.std.proofs.Common.{◌≡◌, ◌+◌, ◌≤◌}
 use Rattle.ed_machine.specs.State.{State}
 use Rattle.ed_machine.specs.Steps.{state_after}
-use Rattle.ed_stepper.specs.Private.Kept.{AreMarks}
+use Rattle.ed_stepper.specs.Kept.{AreMarks}
 use Rattle.ed_stepper.proofs.Walks.{Walking}
 use Rattle.ed_stepper.proofs.walk.walk.Given as goal
 

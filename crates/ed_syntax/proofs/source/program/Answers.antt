@@ -2,7 +2,7 @@ use Rattle.std.proofs.Common.{◌≡◌, ◌≤◌, ℕ, Bool, true, false, arit
 use Rattle.std.specs.Prelude.{◌==◌, Ok, if◌then◌else◌}
 use Rattle.ed_syntax.specs.Lines.{lines_of}
 use Rattle.ed_syntax.specs.Versions.{is_second}
-use Rattle.ed_syntax.specs.Private.SourceReading.{lines_from}
+use Rattle.ed_syntax.specs.Reading.Sources.{lines_from}
 use Rattle.ed_syntax.proofs.Formed.{program_formed}
 use Rattle.ed_syntax.proofs.source.program.Goals as goal
 use Rattle.ed_syntax.proofs.source.program.Goals.{then-is_two, else-is_two}

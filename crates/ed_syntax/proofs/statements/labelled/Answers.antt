@@ -2,7 +2,7 @@ use Rattle.std.proofs.Common.{rules, ◌≡◌, ◌<◌, length, map, arith}
 use Rattle.std.specs.Prelude.{Some}
 use Rattle.std.proofs.lemmas.Grind.{common_steps}
 use Rattle.std.proofs.lemmas.Result.{err_from_is_err_and}
-use Rattle.ed_syntax.specs.Private.Grammar.{ranged_map, placed_statement, labelled_line}
+use Rattle.ed_syntax.specs.Reading.Grammar.{ranged_map, placed_statement, labelled_line}
 use Rattle.ed_syntax.specs.Private.Seen.{part}
 use Rattle.ed_syntax.specs.Versions.{is_second}
 use Rattle.ed_syntax.specs.declared.form.Form.{Form}

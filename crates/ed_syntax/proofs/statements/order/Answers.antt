@@ -1,7 +1,7 @@
 use Rattle.std.proofs.Common.{rules, ◌≡◌, map}
 use Rattle.std.specs.Prelude.{Some}
 use Rattle.ed_syntax.specs.Parts.{function}
-use Rattle.ed_syntax.specs.Private.Grammar.{order_end}
+use Rattle.ed_syntax.specs.Reading.Grammar.{order_end}
 use Rattle.ed_syntax.specs.Private.Seen.{part}
 use Rattle.ed_syntax.specs.Versions.{is_second}
 use Rattle.ed_syntax.proofs.Orders.{order_made, order_out_of_range, no_order}

@@ -1,7 +1,7 @@
 use Rattle.std.proofs.Common.{arith, map}
 use Rattle.std.proofs.lemmas.Grind.{common_steps}
 use Rattle.ed_syntax.specs.Parts.{array}
-use Rattle.ed_syntax.specs.Private.Grammar.{string}
+use Rattle.ed_syntax.specs.Reading.Grammar.{string}
 use Rattle.ed_syntax.specs.Private.Seen.{part}
 use Rattle.ed_syntax.specs.declared.program.Statement.TheVariants.{Rows}
 use Rattle.ed_syntax.proofs.Faults.{no_string, string_read}

@@ -1,7 +1,7 @@
 use Rattle.std.proofs.Common.{map}
 use Rattle.std.specs.Prelude.{Some, None}
 use Rattle.std.proofs.lemmas.Result.{err_from_is_err_and}
-use Rattle.ed_syntax.specs.Private.Grammar.{statement}
+use Rattle.ed_syntax.specs.Reading.Grammar.{statement}
 use Rattle.ed_syntax.specs.Private.Seen.{part}
 use Rattle.ed_syntax.specs.Versions.{is_second}
 use Rattle.ed_syntax.specs.declared.form.Form.{Form}

@@ -1,6 +1,6 @@
 use Rattle.std.proofs.Common.{◌≡◌, drop}
 use Rattle.std.specs.List.{list_any}
-use Rattle.ed_link.specs.Private.FaultTests.{overlaps}
+use Rattle.ed_link.specs.FaultTests.{overlaps}
 use Rattle.ed_link.proofs.faults.Extent.overlaps_any.Given as goal
 
 -- the same for the extents that are left

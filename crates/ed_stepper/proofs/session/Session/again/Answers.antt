@@ -3,7 +3,7 @@ use Rattle.std.specs.Prelude.{IfOk}
 use Rattle.ed_machine.specs.State.{State}
 use Rattle.ed_machine.specs.Steps.{state_after}
 use Rattle.ed_stepper.specs.Sessions.{Stand}
-use Rattle.ed_stepper.specs.Private.Kept.{IsMark}
+use Rattle.ed_stepper.specs.Kept.{IsMark}
 use Rattle.ed_stepper.proofs.Keeping.{from_mark}
 use Rattle.ed_stepper.proofs.session.Session.again.Goals as goal
 

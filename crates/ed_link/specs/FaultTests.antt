@@ -1,5 +1,6 @@
--- The faults of a source by tests of each line, in the order of their numbers. S6 to S8, the faults of names, are those
--- of `ed_symbols`.
+-- The faults of a source by tests of each line, in the order of their numbers, as the linker looks for them. Proofs
+-- compute by them that a fixed source has no fault. `proofs/FaultSentences.antt` and `FaultLaw.antt` tie them to the
+-- sentences that the contracts cite. S6 to S8, the faults of names, are those of `ed_symbols`.
 use Rattle.std.specs.Prelude.{◌≡◌, ℕ, ◌+◌, nat_eq, nat_lt, nat_le, min, max, ◌||◌, ◌&&◌, not, Bool, true, false}
 use Rattle.std.specs.Prelude.{List, [], ◌∷◌, ◌++◌, length, Option, Some, None, is_some, is_none, if◌then◌else◌}
 use Rattle.std.specs.List.{list_any, list_all}

@@ -6,8 +6,8 @@ use Rattle.std.specs.List.{list_all}
 use Rattle.ed_words.specs.Texts.{Text}
 use Rattle.ed_syntax.specs.Lines.{lines_of}
 use Rattle.ed_syntax.specs.Parts.{LinePart, is_line_byte}
-use Rattle.ed_syntax.specs.Private.PartReading.{parts_of}
-use Rattle.ed_syntax.specs.Private.Grammar.{Ranged, form_at, is_version_two}
+use Rattle.ed_syntax.specs.Reading.Parts.{parts_of}
+use Rattle.ed_syntax.specs.Reading.Grammar.{Ranged, form_at, is_version_two}
 use Rattle.ed_syntax.specs.declared.form.Form.{Form}
 use Rattle.ed_syntax.specs.declared.program.Line.{Line}
 use Rattle.ed_syntax.specs.declared.fault.SourceCause.{SourceCause}
