@@ -9,7 +9,7 @@ use Rattle.ed_words.proofs.Numbers.{le_of, le_true, lt_false}
 use Rattle.ed_syntax.specs.declared.fault.SourceCause.{SourceCause}
 use Rattle.ed_syntax.specs.declared.fault.SourceFault.{SourceFault}
 use Rattle.ed_symbols.specs.declared.location_counter.LocationCounter.{LocationCounter}
-use Rattle.ed_symbols.specs.Faults.{or_later}
+use Rattle.ed_symbols.specs.NameTests.{or_later}
 use Rattle.ed_link.specs.FaultTests.{LinesBefore, extent, overlaps}
 use Rattle.ed_link.specs.declared.faults.Extent.{Extent}
 

@@ -16,7 +16,7 @@ use Rattle.ed_syntax.specs.declared.fault.SourceFault.TheVariants.{At, Memory}
 use Rattle.ed_symbols.specs.declared.symbols.Definition.{Definition}
 use Rattle.ed_symbols.specs.declared.location_counter.LocationCounter.{LocationCounter}
 use Rattle.ed_symbols.specs.Places.{after_statement, first_counter}
-use Rattle.ed_symbols.specs.Faults.{or_later, resolution}
+use Rattle.ed_symbols.specs.NameTests.{or_later, resolution}
 use Rattle.ed_link.specs.Linked.{symbols_of}
 use Rattle.ed_link.specs.FaultTests.{IsFirstFault, any_enter, cause_of, fault, fault_from, is_enter, missing}
 use Rattle.ed_link.specs.FaultTests.{past_of}

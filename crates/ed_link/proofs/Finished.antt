@@ -10,7 +10,7 @@ use Rattle.ed_syntax.specs.declared.program.Line.{Line}
 use Rattle.ed_syntax.specs.Programs.{AreNumbered, is_line}
 use Rattle.ed_symbols.specs.declared.symbols.Definition.{Definition}
 use Rattle.ed_symbols.specs.Places.{first_counter}
-use Rattle.ed_symbols.specs.Faults.{resolution}
+use Rattle.ed_symbols.specs.NameTests.{resolution}
 use Rattle.ed_link.specs.declared.linked.Linked.{Linked}
 use Rattle.ed_link.specs.declared.building.Built.{Built}
 use Rattle.ed_link.specs.Linked.{symbols_of, linked_words, entry_from, placed_from}

@@ -26,8 +26,8 @@ use Rattle.ed_symbols.specs.declared.symbols.Definition.{Definition}
 use Rattle.ed_symbols.specs.declared.location_counter.LocationCounter.{LocationCounter}
 use Rattle.ed_symbols.specs.Places.{even_from, routine_places as places_of, after_statement, segment_of}
 use Rattle.ed_symbols.specs.Names.{place_on}
-use Rattle.ed_symbols.specs.Faults.{or_later, any_operand, enters_unknown, is_unknown, defines_again}
-use Rattle.ed_symbols.specs.Faults.{naming_cause as names_cause, naming_fault_from as names_from}
+use Rattle.ed_symbols.specs.NameTests.{or_later, any_operand, enters_unknown, is_unknown, defines_again}
+use Rattle.ed_symbols.specs.NameTests.{naming_cause as names_cause, naming_fault_from as names_from}
 use Rattle.ed_link.specs.Linked.{placed_by_line, placed_from, theta_from, entry_from, entered_place}
 use Rattle.ed_link.specs.Punch.{item_with, items_of, punched_from}
 use Rattle.ed_link.specs.FaultTests.{extent, extent_at, reach, overlaps, has_no_routine, sets}

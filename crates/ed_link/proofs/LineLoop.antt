@@ -14,7 +14,7 @@ use Rattle.ed_syntax.specs.declared.fault.SourceCause.{SourceCause}
 use Rattle.ed_syntax.specs.declared.fault.SourceFault.TheVariants.{At}
 use Rattle.ed_symbols.specs.declared.symbols.Definition.{Definition}
 use Rattle.ed_symbols.specs.declared.location_counter.LocationCounter.{LocationCounter}
-use Rattle.ed_symbols.specs.Faults.{or_later}
+use Rattle.ed_symbols.specs.NameTests.{or_later}
 use Rattle.ed_symbols.specs.Places.{after_statement, first_counter}
 use Rattle.ed_link.proofs.Lengths.{put_all_append, put_all_length}
 use Rattle.ed_link.specs.declared.building.Built.{Built}

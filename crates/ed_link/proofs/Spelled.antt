@@ -26,7 +26,7 @@ use Rattle.ed_syntax.specs.declared.program.Statement.TheVariants.{Long, Fetch, 
 use Rattle.ed_symbols.specs.declared.symbols.Definition.{Definition}
 use Rattle.ed_symbols.specs.declared.location_counter.LocationCounter.{LocationCounter}
 use Rattle.ed_symbols.specs.Places.{even_from, segment_at}
-use Rattle.ed_symbols.specs.Faults.{operand_value}
+use Rattle.ed_symbols.specs.Operands.{operand_value}
 use Rattle.ed_link.specs.Linked.{parameter_letters, long_words, operand_number, order_number, set_to}
 use Rattle.ed_link.specs.Punch.{ending, goes_by_theta, with_heading, heads, item_with}
 use Rattle.ed_link.specs.Punch.{items_of, order_item, preset_items, routine_items}

@@ -21,7 +21,7 @@ use Rattle.ed_symbols.specs.declared.location_counter.LocationCounter.{LocationC
 use Rattle.ed_symbols.specs.declared.symbols.Definition.{Definition}
 use Rattle.ed_symbols.specs.Places.{after_statement, first_counter}
 use Rattle.ed_symbols.specs.Names.{place_on}
-use Rattle.ed_symbols.specs.Faults.{or_later, resolution}
+use Rattle.ed_symbols.specs.NameTests.{or_later, resolution}
 use Rattle.ed_link.specs.Linked.{first_place, end_place, set_to, symbols_of}
 use Rattle.ed_link.specs.declared.faults.Extent.{Extent}
 

@@ -17,7 +17,7 @@ use Rattle.ed_symbols.specs.declared.location_counter.LocationCounter.{LocationC
 use Rattle.ed_symbols.specs.declared.symbols.Definition.{Definition}
 use Rattle.ed_symbols.specs.Places.{even_from, after_statement, segment_at, first_counter}
 use Rattle.ed_symbols.specs.Names.{place_on, symbols_from}
-use Rattle.ed_symbols.specs.Faults.{operand_value}
+use Rattle.ed_symbols.specs.Operands.{operand_value}
 
 -- a value as the number of an order; 0 for None and for a value that no order holds; an accepted source has neither
 abbrev pub order_number : Option ℤ → ℕ

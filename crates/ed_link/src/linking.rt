@@ -2,7 +2,7 @@
 ghost use Rattle.std.specs.Prelude.{◌≡◌, ◌≤◌, ◌+◌, ◌^◌, true, IfOk, IfErr, length};
 ghost use Rattle.std.specs.List.{flat_map, list_all};
 ghost use Rattle.ed_notation.specs.Spellings.{is_spellable, item_rows};
-ghost use Rattle.ed_symbols.specs.Faults.{resolution};
+ghost use Rattle.ed_symbols.specs.NameTests.{resolution};
 ghost use Rattle.ed_link.specs.Answers.{HasMeaningFault, IsLinked};
 ghost use Rattle.ed_link.specs.Words.{EachWordStands};
 ghost use Rattle.ed_link.specs.Private.Building.{IsFinished};

@@ -16,7 +16,7 @@ use Rattle.ed_symbols.specs.Places.{first_counter, after_statement}
 use Rattle.ed_symbols.specs.Names.{line_definitions, definition_of, definition_place, symbols_from, is_definition_of}
 use Rattle.ed_symbols.specs.Names.{is_local, label_definition, as_list}
 use Rattle.ed_symbols.specs.Names.{statement_definition, place_on, same_segment}
-use Rattle.ed_symbols.specs.Faults.{defines_again, is_again}
+use Rattle.ed_symbols.specs.NameTests.{defines_again, is_again}
 use Rattle.ed_symbols.specs.NameFaults.{counter_after, counter_from}
 use Rattle.ed_symbols.proofs.AgainSentences.{s6}
 use Rattle.ed_link.specs.Faults.{HasEnter, HasNoFault, IsData, on_line}

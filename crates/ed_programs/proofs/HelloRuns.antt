@@ -13,7 +13,7 @@ use Rattle.ed_syntax.specs.declared.program.Statement.{Statement}
 use Rattle.ed_syntax.specs.declared.program.Statement.TheVariants as statements
 use Rattle.ed_words.specs.declared.size.Size.TheVariants.{Small, Full}
 use Rattle.ed_words.specs.declared.order_words.TheConstants.{G_F, Z_F}
-use Rattle.ed_symbols.specs.Faults.{resolution}
+use Rattle.ed_symbols.specs.NameTests.{resolution}
 use Rattle.ed_symbols.specs.Places.{even_from, first_counter}
 use Rattle.ed_link.specs.FaultTests.{extent, fault, fault_from, missing, sooner}
 use Rattle.ed_link.specs.Linked.{symbols_of, linked_words}

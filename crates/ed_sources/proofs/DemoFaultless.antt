@@ -13,7 +13,7 @@ use Rattle.ed_syntax.specs.declared.program.Line.{Line}
 use Rattle.ed_syntax.specs.declared.program.Statement.TheVariants as statements
 use Rattle.ed_symbols.specs.declared.location_counter.LocationCounter.{LocationCounter}
 use Rattle.ed_symbols.specs.declared.symbols.Definition.{Definition}
-use Rattle.ed_symbols.specs.Faults.{resolution}
+use Rattle.ed_symbols.specs.NameTests.{resolution}
 use Rattle.ed_symbols.specs.Names.{symbols_from}
 use Rattle.ed_symbols.specs.Places.{first_counter}
 use Rattle.ed_link.specs.FaultTests.{any_enter, cause_of, extent, fault, fault_from, missing}

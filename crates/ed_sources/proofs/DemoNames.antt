@@ -15,7 +15,7 @@ use Rattle.ed_words.specs.Decimals.{value}
 use Rattle.ed_syntax.specs.declared.program.Line.{Line}
 use Rattle.ed_symbols.specs.declared.location_counter.LocationCounter.{LocationCounter}
 use Rattle.ed_symbols.specs.declared.symbols.Definition.{Definition}
-use Rattle.ed_symbols.specs.Faults.{naming_fault_from}
+use Rattle.ed_symbols.specs.NameTests.{naming_fault_from}
 use Rattle.ed_symbols.specs.Names.{definition_of}
 use Rattle.ed_symbols.specs.Places.{first_counter}
 use Rattle.ed_routines.specs.Digits.{digits}

@@ -16,7 +16,7 @@ use Rattle.ed_symbols.specs.Places.{after_statement, first_counter}
 use Rattle.ed_symbols.specs.Names.{line_definitions, definition_of, symbols_from, is_definition_of, is_local}
 use Rattle.ed_symbols.specs.Names.{label_definition, as_list, statement_definition}
 use Rattle.ed_symbols.specs.Names.{same_segment}
-use Rattle.ed_symbols.specs.Faults.{defines_again, is_again}
+use Rattle.ed_symbols.specs.NameTests.{defines_again, is_again}
 use Rattle.ed_symbols.specs.NameFaults.{StandsAfter, counter_from, counter_after, AreAlike, DefinesAgain}
 use Rattle.ed_symbols.proofs.Sentences.{Ties, or_left, or_right, and_of, and_true}
 

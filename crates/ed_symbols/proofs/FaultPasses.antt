@@ -7,7 +7,7 @@ use Rattle.ed_syntax.specs.declared.program.Line.{Line}
 use Rattle.ed_syntax.specs.declared.fault.SourceCause.{SourceCause}
 use Rattle.ed_syntax.specs.declared.fault.SourceFault.{SourceFault}
 use Rattle.ed_syntax.specs.declared.fault.SourceFault.TheVariants.{At, Memory}
-use Rattle.ed_symbols.specs.Faults.{or_later}
+use Rattle.ed_symbols.specs.NameTests.{or_later}
 use Rattle.ed_symbols.specs.NameFaults.{StandsAfter, number_of}
 use Rattle.ed_symbols.proofs.LeastFaults.{Least}
 

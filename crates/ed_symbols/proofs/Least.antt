@@ -9,7 +9,7 @@ use Rattle.ed_syntax.specs.declared.fault.SourceFault.TheVariants.{At}
 use Rattle.ed_syntax.specs.declared.fault.SourceFault.{SourceFault}
 use Rattle.ed_symbols.specs.Names.{line_definitions}
 use Rattle.ed_symbols.specs.Places.{after_statement}
-use Rattle.ed_symbols.specs.Faults.{naming_cause, defines_again, naming_fault_from}
+use Rattle.ed_symbols.specs.NameTests.{naming_cause, defines_again, naming_fault_from}
 use Rattle.ed_symbols.specs.declared.location_counter.LocationCounter.{LocationCounter}
 use Rattle.ed_symbols.specs.declared.symbols.Definition.{Definition}
 

@@ -13,8 +13,8 @@ use Rattle.ed_syntax.specs.declared.fault.SourceFault.TheVariants.{At, Memory}
 use Rattle.ed_symbols.specs.declared.location_counter.LocationCounter.{LocationCounter}
 use Rattle.ed_symbols.specs.Places.{after_statement, first_counter}
 use Rattle.ed_symbols.specs.Names.{line_definitions, symbols_from}
-use Rattle.ed_symbols.specs.Faults.{or_later, defines_again, naming_cause, naming_fault_from, names_unknown}
-use Rattle.ed_symbols.specs.Faults.{reaches_outside, resolution}
+use Rattle.ed_symbols.specs.NameTests.{or_later, defines_again, naming_cause, naming_fault_from, names_unknown}
+use Rattle.ed_symbols.specs.NameTests.{reaches_outside, resolution}
 use Rattle.ed_symbols.specs.NameFaults.{StandsAfter, counter_from, counter_after, number_of, LineHasNameFault}
 use Rattle.ed_symbols.specs.NameFaults.{HasNameFault}
 use Rattle.ed_symbols.specs.NameFaults.{NameFaultIs, EachHasOneNameFault}
@@ -163,3 +163,8 @@ one_fault lines (Some (At k c)) (Some (At m d)) h i = one (h.least m d i.is) (i.
 
 pub each_has_one : EachHasOneNameFault
 each_has_one = record { every = λ lines are. ((resolution lines).fault, found_is lines are); one = one_fault }
+
+-- so the fault of names is the one that the tests find
+pub fault_found : (lines : List Line) → AreNumbered lines → (f : Option SourceFault) → NameFaultIs lines f
+    → f ≡ (resolution lines).fault
+fault_found lines are f is = one_fault lines f (resolution lines).fault is (found_is lines are)

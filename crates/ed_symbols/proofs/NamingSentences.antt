@@ -16,8 +16,9 @@ use Rattle.ed_syntax.specs.declared.program.Line.{Line}
 use Rattle.ed_symbols.specs.declared.symbols.Definition.{Definition}
 use Rattle.ed_symbols.specs.Places.{first_counter, segment_of}
 use Rattle.ed_symbols.specs.Names.{symbols_from, place_on}
-use Rattle.ed_symbols.specs.Faults.{any_operand, enters_unknown, is_far, is_no_address, is_unknown, names_unknown}
-use Rattle.ed_symbols.specs.Faults.{operand_of, operand_value, reaches_outside, sum_of_places, with_more}
+use Rattle.ed_symbols.specs.NameTests.{any_operand, enters_unknown, is_far, is_no_address, is_unknown, names_unknown}
+use Rattle.ed_symbols.specs.NameTests.{reaches_outside}
+use Rattle.ed_symbols.specs.Operands.{operand_of, operand_value, sum_of_places, with_more}
 use Rattle.ed_symbols.specs.NameFaults.{counter_after, HasOperand, HasName, NamesUnknown, ReachesOutside}
 use Rattle.ed_symbols.proofs.Sentences.{Ties, or_left, or_right}
 

@@ -1,5 +1,6 @@
 pub mod Places
 pub mod Names
-pub mod Faults
+pub mod Operands
 pub mod Readers
+pub mod NameTests
 pub mod NameFaults

@@ -18,7 +18,7 @@ use Rattle.ed_symbols.specs.declared.symbols.Definition.{Definition}
 use Rattle.ed_symbols.specs.Places.{after_statement, first_counter, segment_of}
 use Rattle.ed_symbols.specs.Names.{line_definitions, symbols_from, is_local, label_definition, statement_definition}
 use Rattle.ed_symbols.specs.Names.{place_on}
-use Rattle.ed_symbols.specs.Faults.{operand_of, operand_value}
+use Rattle.ed_symbols.specs.Operands.{operand_of, operand_value}
 
 -- ---- lines and those before them
 

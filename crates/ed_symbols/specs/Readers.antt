@@ -1,7 +1,14 @@
--- What can be read of a resolved source, by the number of a line, counted from 1.
-use Rattle.std.specs.Prelude.{ℕ, ◌-◌, Option, None, slice_index_or}
-use Rattle.ed_symbols.specs.Faults.{Resolved}
+-- What resolving the names of a source gives, and what can be read of it by the number of a line, counted from 1.
+use Rattle.std.specs.Prelude.{ℕ, ◌-◌, List, Option, None, slice_index_or}
+use Rattle.ed_syntax.specs.declared.fault.SourceFault.{SourceFault}
 use Rattle.ed_symbols.specs.declared.location_counter.LinePosition.{LinePosition}
+use Rattle.ed_symbols.specs.declared.symbols.Definition.{Definition}
+
+-- the position of each line, what is defined, and the first fault of names
+pub record Resolved : Type 0 where
+  pub positions : List LinePosition
+  pub symbols : List Definition
+  pub fault : Option SourceFault
 
 -- the position of a line
 abbrev pub position_at : Resolved → ℕ → LinePosition

@@ -1,9 +1,11 @@
 //! Faults of the names of a line.
 ghost use Rattle.std.specs.Prelude.{◌≡◌, ◌<◌, ◌||◌};
 ghost use Rattle.std.specs.List.{list_any};
-ghost use Rattle.ed_symbols.specs.Faults.{any_operand, enters_unknown, is_far};
-ghost use Rattle.ed_symbols.specs.Faults.{is_no_address, is_unknown, sum_of_places, operand_of};
-ghost use Rattle.ed_symbols.specs.Faults.{operand_value, operands_cause, with_more};
+ghost use Rattle.ed_symbols.specs.NameTests.{any_operand, enters_unknown, is_far};
+ghost use Rattle.ed_symbols.specs.NameTests.{is_no_address, is_unknown};
+ghost use Rattle.ed_symbols.specs.Operands.{sum_of_places, operand_of};
+ghost use Rattle.ed_symbols.specs.NameTests.{operands_cause};
+ghost use Rattle.ed_symbols.specs.Operands.{operand_value, with_more};
 
 use crate::symbols::{Definition, find_place};
 use ed_syntax::{Operand, Setting, SourceCause, Statement};

@@ -1,5 +1,5 @@
 ghost use Rattle.std.specs.Prelude.{◌≡◌, ◌-◌, ◌≤◌, IfOk, None, [], length};
-ghost use Rattle.ed_symbols.specs.Faults.{naming_fault_from, resolution};
+ghost use Rattle.ed_symbols.specs.NameTests.{naming_fault_from};
 ghost use Rattle.ed_symbols.specs.NameFaults.{EachHasOneNameFault, NameFaultIs};
 ghost use Rattle.ed_symbols.specs.Names.{definition_of, symbols_from, place_on};
 ghost use Rattle.ed_symbols.specs.Places.{first_counter, positions_from};
@@ -22,7 +22,7 @@ pub struct Places {
 }
 
 impl Model for Places {
-    ghost use Rattle.ed_symbols.specs.Faults.{Resolved};
+    ghost use Rattle.ed_symbols.specs.Readers.{Resolved};
 
     ghost Value = { Resolved };
 
@@ -86,7 +86,8 @@ fn find_fault(
 pub fn resolve(alloc: Global, program: &Program) -> Result<Places, NoMemory>
     ensures fault { IfOk result (λ p. NameFaultIs program.now.lines.items p.fault) }
     ensures one { EachHasOneNameFault }
-    ensures is { IfOk result (λ p. p ≡ resolution program.now.lines.items) }
+    ensures positions { IfOk result (λ p. p.positions ≡ positions_from first_counter program.now.lines.items) }
+    ensures symbols { IfOk result (λ p. p.symbols ≡ symbols_from first_counter program.now.lines.items) }
     ensures lines { IfOk result (λ p. length p.positions ≡ length program.now.lines.items) }
 {
     let (positions, symbols) = resolve_places(alloc, program)?;

@@ -3,7 +3,7 @@ ghost use Rattle.std.specs.Prelude.{◌≡◌, ◌++◌, ◌≤◌, ◌^◌, IfO
 ghost use Rattle.ed_symbols.specs.Names.{line_definitions, definition_of, is_definition_of, is_local};
 ghost use Rattle.ed_symbols.specs.Names.{label_definition, as_list, statement_definition};
 ghost use Rattle.ed_symbols.specs.Names.{place_on};
-ghost use Rattle.ed_symbols.specs.Faults.{defines_again, is_again};
+ghost use Rattle.ed_symbols.specs.NameTests.{defines_again, is_again};
 
 use crate::location_counter::{LocationCounter, base_or, even};
 use ed_syntax::{Line, Name, Statement};

@@ -2,7 +2,7 @@
 use Rattle.std.proofs.Common.{true, false, [], ◌∷◌, ◌++◌, refl, codes, pos}
 use Rattle.std.specs.Prelude.{Some, None, Ok, Err}
 use Rattle.ed_syntax.specs.Parts.{run, sign}
-use Rattle.ed_syntax.specs.Private.Grammar
+use Rattle.ed_syntax.specs.Reading.Grammar
 use Rattle.ed_syntax.specs.Parts.{array}
 use Rattle.ed_syntax.specs.declared.program.Operand.TheVariants as operands
 use Rattle.ed_syntax.specs.declared.program.Statement.{Statement}

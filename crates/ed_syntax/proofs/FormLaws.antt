@@ -9,7 +9,7 @@ use Rattle.std.proofs.lemmas.Bool.{and_parts}
 use Rattle.ed_words.specs.Texts.{Text}
 use Rattle.ed_words.specs.Decimals.{value}
 use Rattle.ed_syntax.specs.Parts.{LinePart, run, sign, quoted}
-use Rattle.ed_syntax.specs.Private.Grammar
+use Rattle.ed_syntax.specs.Reading.Grammar
 use Rattle.ed_syntax.specs.Parts.{is_number}
 use Rattle.ed_syntax.specs.Names.{is_place_name}
 use Rattle.ed_syntax.specs.Reading.Grammar.{is_version_two}

@@ -3,7 +3,7 @@ use Rattle.std.proofs.Common.{◌≡◌, ◌∙◌, ℕ, Bool, true, false, sym,
 use Rattle.std.specs.Prelude.{Option, Some, None, option_and_then}
 use Rattle.ed_words.specs.Texts.{Text}
 use Rattle.ed_syntax.specs.Reading.Parts.{parts_of}
-use Rattle.ed_syntax.specs.Private.Grammar
+use Rattle.ed_syntax.specs.Reading.Grammar
 use Rattle.ed_syntax.specs.declared.form.Form.{Form}
 use Rattle.ed_syntax.specs.Forms.{SpellsLine, IsNoStatement}
 use Rattle.ed_syntax.proofs.Readings.{ranged, chained, some_is}

@@ -9,7 +9,7 @@ use Rattle.ed_words.specs.Texts.{Text}
 use Rattle.ed_words.specs.Decimals.{is_digit, value}
 use Rattle.ed_syntax.specs.Parts.{LinePart, run, sign, quoted}
 use Rattle.ed_syntax.specs.Names.{is_lower}
-use Rattle.ed_syntax.specs.Private.Grammar
+use Rattle.ed_syntax.specs.Reading.Grammar
 use Rattle.ed_syntax.specs.Parts.{is_number, with_sign}
 use Rattle.ed_syntax.specs.Names.{is_name, is_local_name, is_place_name}
 use Rattle.ed_syntax.specs.Reading.Grammar.{is_plus_or_minus}

@@ -12,7 +12,7 @@ use Rattle.ed_codes.specs.Spelling.{row_of}
 use Rattle.ed_words.specs.Texts.{Text}
 use Rattle.ed_words.specs.Decimals.{value}
 use Rattle.ed_syntax.specs.Parts.{LinePart, run, sign, quoted}
-use Rattle.ed_syntax.specs.Private.Grammar
+use Rattle.ed_syntax.specs.Reading.Grammar
 use Rattle.ed_syntax.specs.Parts.{is_number, with_sign, function, length_of, array, modulo}
 use Rattle.ed_syntax.specs.Reading.Grammar.{is_plus_or_minus}
 use Rattle.ed_syntax.specs.declared.program.Operand.{Operand}

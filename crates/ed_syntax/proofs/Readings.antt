@@ -1,7 +1,7 @@
 -- What it means that parts spell what is read in them.
 use Rattle.std.proofs.Common.{◌≡◌, ◌∙◌, Bool, true, false, List, ◌++◌, refl, sym, ap}
 use Rattle.std.specs.Prelude.{Option, Some, None, option_map, option_and_then, if◌then◌else◌}
-use Rattle.ed_syntax.specs.Private.Grammar
+use Rattle.ed_syntax.specs.Reading.Grammar
 use Rattle.ed_syntax.specs.Parts.{LinePart}
 
 -- what is read, if the numbers are in their ranges

@@ -1,7 +1,8 @@
 use Rattle.std.proofs.Common.{◌∙◌, sym, ap, ℤ, Bool, false, Option, is_none}
 use Rattle.std.specs.List.{list_any}
 use Rattle.ed_syntax.specs.declared.program.Setting.{Setting}
-use Rattle.ed_symbols.specs.Faults.{is_no_address, is_unknown, operand_of, operands_cause}
+use Rattle.ed_symbols.specs.NameTests.{is_no_address, is_unknown, operands_cause}
+use Rattle.ed_symbols.specs.Operands.{operand_of}
 use Rattle.ed_symbols.proofs.Operands.{known, none_left, one_fails, one_more, one_passes, unknown}
 use Rattle.ed_symbols.proofs.faults.settings_cause.Goals as goal
 

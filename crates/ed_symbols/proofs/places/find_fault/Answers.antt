@@ -1,5 +1,5 @@
 use Rattle.std.proofs.Common.{◌≡◌, ◌∙◌, sym, arith, ap, refl}
-use Rattle.ed_symbols.specs.Faults.{naming_cause}
+use Rattle.ed_symbols.specs.NameTests.{naming_cause}
 use Rattle.ed_symbols.specs.Places.{segment_at, segment_of}
 use Rattle.ed_symbols.specs.declared.location_counter.LocationCounter.{LocationCounter}
 use Rattle.ed_symbols.proofs.Least.{goes_on, is_least_at, none_left}

@@ -1,5 +1,5 @@
 use Rattle.std.proofs.Common.{◌≡◌, ◌+◌, ◌*◌, ◌≤◌, [], drop}
-use Rattle.ed_symbols.specs.Faults.{naming_fault_from}
+use Rattle.ed_symbols.specs.NameTests.{naming_fault_from}
 use Rattle.ed_symbols.specs.Places.{first_counter}
 use Rattle.ed_symbols.proofs.places.find_fault.Given as goal
 

@@ -1,11 +1,11 @@
--- Faults of the names of a source: S6, S7 and S8 (this project's own rule).
+-- The faults of the names of a source, S6 to S8, by tests of each line, as the crate looks for them. Proofs compute by
+-- them that a fixed source has no fault of names. `proofs/NameLaw.antt` ties them to the sentences of the contracts.
 use Rattle.std.specs.Prelude.{ℕ, ◌||◌, Bool, false, List, [], ◌∷◌}
 use Rattle.std.specs.Prelude.{◌++◌, Option, Some, None, is_none, is_some, if◌then◌else◌}
-use Rattle.std.specs.Prelude.{ℤ, pos, ◌+ℤ◌, ◌-ℤ◌, int_lt}
+use Rattle.std.specs.Prelude.{ℤ, pos, int_lt}
 use Rattle.std.specs.List.{list_any}
 use Rattle.ed_syntax.specs.declared.program.Operand.{Operand}
 use Rattle.ed_syntax.specs.declared.program.Operand.TheVariants.{Number, Label, Two}
-use Rattle.ed_syntax.specs.declared.program.Setting.{Setting}
 use Rattle.ed_syntax.specs.declared.program.Statement.{Statement}
 use Rattle.ed_syntax.specs.declared.program.Statement.TheVariants.{Order, Fetch, Enter}
 use Rattle.ed_syntax.specs.declared.program.Line.{Line}
@@ -17,25 +17,9 @@ use Rattle.ed_symbols.specs.Places.{first_counter, after_statement, segment_of, 
 use Rattle.ed_symbols.specs.Names.{line_definitions, definition_of, symbols_from, label_definition, as_list}
 use Rattle.ed_symbols.specs.Names.{statement_definition, place_on}
 use Rattle.ed_symbols.specs.declared.location_counter.LocationCounter.{LocationCounter}
-use Rattle.ed_symbols.specs.declared.location_counter.LinePosition.{LinePosition}
 use Rattle.ed_symbols.specs.declared.symbols.Definition.{Definition}
-
--- the sum or the difference of two locations
-abbrev pub sum_of_places : Bool → Option ℕ → Option ℕ → Option ℤ
-sum_of_places minus (Some a) (Some b) = Some (if minus then pos a -ℤ pos b else pos a +ℤ pos b)
-sum_of_places minus _ b = None
-
--- a location with a number added to it
-abbrev pub with_more : ℤ → Option ℕ → Option ℤ
-with_more plus None = None
-with_more plus (Some p) = Some (pos p +ℤ plus)
-
--- the value of an operand on a line of this segment; None if one of its names is unknown there
-abbrev pub operand_value : List Definition → Option ℕ → Operand → Option ℤ
-operand_value symbols segment (Number n) = Some (pos n)
-operand_value symbols segment (Label name plus) = with_more plus (place_on symbols segment name)
-operand_value symbols segment (Two first second minus) =
-    sum_of_places minus (place_on symbols segment first) (place_on symbols segment second)
+use Rattle.ed_symbols.specs.Operands.{operand_of, operand_value}
+use Rattle.ed_symbols.specs.Readers.{Resolved}
 
 -- whether an operand has a name that is unknown on its line
 abbrev pub is_unknown : List Definition → Option ℕ → Operand → Bool
@@ -51,10 +35,6 @@ abbrev pub is_no_address : List Definition → Option ℕ → Operand → Bool
 is_no_address symbols segment (Number n) = false
 is_no_address symbols segment (Label name plus) = is_far (operand_value symbols segment (Label name plus))
 is_no_address symbols segment (Two first second minus) = is_far (operand_value symbols segment (Two first second minus))
-
--- the operand of a setting
-abbrev pub operand_of : Setting → Operand
-operand_of t = t.operand
 
 -- whether an operand of a statement passes a test: that of an order, or one of the settings of a `use`
 abbrev pub any_operand : (Operand → Bool) → Option Statement → Bool
@@ -110,13 +90,7 @@ naming_fault_from symbols earlier s (l ∷ lines) =
     or_later l.number (naming_cause symbols (defines_again earlier l s) l s)
     (naming_fault_from symbols (earlier ++ line_definitions l s) (after_statement l.statement s) lines)
 
--- what resolving the names of a source gives: the location of each line, what is defined, and the first fault
-pub record Resolved : Type 0 where
-  pub positions : List LinePosition
-  pub symbols : List Definition
-  pub fault : Option SourceFault
-
--- the same for the lines of a source
+-- what resolving the names of these lines gives
 abbrev pub resolution : List Line → Resolved
 resolution lines = record {
   positions = positions_from first_counter lines;
