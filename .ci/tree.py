@@ -19,6 +19,8 @@ BUILT = CRATES / PROGRAM / "out" / PROGRAM
 SECONDS = 60
 # The beginning of an item of code, of a type, and of a definition in `specs/`, with its name.
 ITEM = re.compile(r'pub (?:const |unsafe |extern "C" )?(fn|struct|enum|trait|const|static|type) (\w+)')
+# Words that stand between `pub` and the name of an item that is not read, as in `pub static mut`.
+KEYWORDS = {"async", "extern", "fn", "mut", "unsafe"}
 TYPE = re.compile(r"^(?:pub(?:\(crate\))? )?(?:struct|enum|trait) (\w+)", re.M)
 DEFINED = re.compile(r"^(?:abbrev pub|unfoldable pub|pub record|pub data|pub(?! mod)) ([^ :({]+)", re.M)
 
@@ -154,6 +156,35 @@ def exported(name):
     for group in re.findall(r"^pub use [\w:]+::(\{[^}]*\}|\w+);", text, re.M):
         names |= {name.strip() for name in group.strip("{}").split(",") if name.strip()}
     return names
+
+
+def unread(name):
+    """Each line of a library's code with a form that the readers of its surface don't read: it could make an item public
+    that they don't see. The files are in the layout of `rt fmt`."""
+    passed_on = r"pub use [\w:]+::(\w+|\{[\w,\s]*\});"
+    wrong = {
+        r"\s*(pub(\(\w+\))? )?mod \w+ \{": "a module within a file",
+        r"\s+(unsafe )?impl\b": "an impl within another item",
+        r"\s*#\[macro_export\]": "a macro that is exported",
+        r"#!?\[[^\]]*\] *\w": "an attribute and an item in one line",
+    }
+    for path in sources(name):
+        text = path.read_text()
+        lines, above = text.splitlines(), len(lines_above_tests(path))
+        starts = itertools.accumulate((len(line) + 1 for line in lines), initial=0)
+        for number, (line, start) in enumerate(zip(lines, starts), 1):
+            found = None
+            if number > above:
+                found = "an item below the tests" if re.match(r"(pub|impl|unsafe)\b", line) else None
+            elif line.startswith("pub use "):
+                found = None if re.compile(passed_on).match(text, start) else "items passed on under other names or by a pattern"
+            elif line.startswith("pub ") and not re.fullmatch(r"pub mod \w+;", line):
+                item = ITEM.match(line)
+                found = None if item and item.group(2) not in KEYWORDS else "a form of public item"
+            else:
+                found = next((what for form, what in wrong.items() if re.match(form, line)), None)
+            if found:
+                yield f"{path.relative_to(CRATES)}:{number}: {found}, which the readers of the surface don't read"
 
 
 def public_modules(name):
