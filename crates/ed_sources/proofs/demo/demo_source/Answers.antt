@@ -15,4 +15,4 @@ returns c =
     let is =
     ap (λ v. v.items) c.into_bytes.ensures.value
     ∙ whole_source c.args.n c.in_ok-text.ensures c.in_ok-push_segments.ensures c.in_ok-push_str.ensures.bytes in
-    record { is = is; runs = demo_text_runs _ _ c.args.some c.args.few is }
+    record { is = is; runs = demo_text_runs _ _ c.requires.some c.requires.few is }

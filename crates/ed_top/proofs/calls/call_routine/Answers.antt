@@ -6,7 +6,7 @@ use Rattle.ed_top.proofs.Made.{made_replied, none_replied}
 use Rattle.ed_top.proofs.calls.call_routine.Goals as goal
 
 pub returns : goal.returns
-returns c = made_replied c.args.settings _ _ _ (c.deref.ensures.value ∙ c.in_ok-source.ensures) c.run.ensures
+returns c = made_replied c.args.settings _ _ _ (c.deref.ensures.value ∙ c.in_ok-source.ensures.is) c.run.ensures
 
 pub returns-in_err-source : goal.returns-in_err-source
 returns-in_err-source c =
