@@ -35,11 +35,10 @@ use Rattle.ed_link.specs.Tapes.{cost}
 use Rattle.ed_link.proofs.Bounds.{rows_few}
 use Rattle.ed_answers.specs.EntryState.{entry_state}
 use Rattle.ed_report.specs.Notes.{at_after, entry_note}
-use Rattle.ed_words.specs.Texts.{Text}
 use Rattle.ed_run.specs.declared.settings.Settings.{Settings}
 use Rattle.ed_sources.specs.CallRuns.{CallRuns, EachCallRuns, GuestStops, call_entry, call_orders, call_prints, call_stop}
 use Rattle.ed_answers.specs.FromEntry.{AnswersFromEntry}
-use Rattle.ed_answers.specs.Sources.{OfSource, run_outcome}
+use Rattle.ed_answers.specs.Sources.{run_outcome}
 use Rattle.ed_answers.proofs.Sources.{accepted_is, each_answer_is_from_entry}
 use Rattle.ed_sources.proofs.Stopped.{stopped_outcome}
 

@@ -1,14 +1,10 @@
 -- The sources of calls are accepted.
-use Rattle.std.proofs.Common.{◌≡◌, ℕ, ◌/◌, ◌%◌, ◌<◌, arith, true, None, List, refl, subst, lit≤, append-nil}
+use Rattle.std.proofs.Common.{◌≡◌, ℕ, ◌/◌, ◌%◌, ◌<◌, arith, true, refl, subst, lit≤, append-nil}
 use Rattle.std.specs.Prelude.{Ok}
 use Rattle.std.specs.Fmt.{decimal}
 use Rattle.std.specs.List.{list_all}
 use Rattle.ed_library.specs.declared.call.Call.TheVariants.{Print, Read, NewLine, Divide, Root, Check}
 use Rattle.ed_words.specs.Texts.{Text}
-use Rattle.ed_words.specs.declared.size.Size.{Size}
-use Rattle.ed_syntax.specs.declared.program.Line.{Line}
-use Rattle.ed_link.specs.FaultTests.{fault}
-use Rattle.ed_answers.proofs.EachSource.{read_is_accepted}
 use Rattle.ed_syntax.specs.Parts.{is_line_byte}
 use Rattle.ed_syntax.specs.Reading.Sources.{program_of}
 use Rattle.ed_library.specs.CallRanges.{IsDivisible}
@@ -16,8 +12,6 @@ use Rattle.ed_sources.specs.CallSources.{call_text}
 use Rattle.ed_sources.proofs.CallTexts.{call_is, call_lines}
 use Rattle.ed_routines.specs.Digits.{digits}
 use Rattle.ed_sources.proofs.Decimals.{are, decimal_is, line_bytes}
-use Rattle.ed_sources.proofs.Faultless.{divide_faultless, newline_faultless, print_faultless}
-use Rattle.ed_sources.proofs.Faultless.{read_faultless, root_faultless, check_faultless}
 use Rattle.ed_sources.proofs.Said.{newline_lines, newline_says, print_lines, print_says}
 use Rattle.ed_sources.proofs.Said.{read_lines, read_says, with_end, check_lines, check_says}
 use Rattle.ed_sources.proofs.SaidMaths.{divide_lines, divide_says, root_lines, root_says}

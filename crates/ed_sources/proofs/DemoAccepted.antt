@@ -13,7 +13,6 @@ use Rattle.ed_syntax.specs.Reading.Sources.{program_of}
 use Rattle.ed_sources.specs.CallSources.{text_of_lines}
 use Rattle.ed_sources.specs.DemoSources.{adding_pieces, demo_text, next, number_after, number_word, segments, word_lines}
 use Rattle.ed_sources.proofs.CallsAccepted.{decimal_plain}
-use Rattle.ed_sources.proofs.DemoFaultless.{demo_faultless}
 use Rattle.ed_sources.proofs.SaidDemo.{adding, demo_lines, demo_says, demo_source}
 use Rattle.ed_sources.proofs.TextLines.{program_is, said_lines}
 use Rattle.ed_sources.proofs.WovenLines.{woven_is}

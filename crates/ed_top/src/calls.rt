@@ -3,10 +3,10 @@ ghost use Rattle.ed_run.specs.SettingRanges.{AreSettingsInRange};
 ghost use Rattle.ed_top.specs.Calls.{call_answer};
 ghost use Rattle.ed_answers.specs.Replies.{Replies};
 
-use ed_sources::call_source;
 use ed_answers::{Rejection, Reply, run};
 use ed_library::Call;
 use ed_run::Settings;
+use ed_sources::call_source;
 use std::alloc::Global;
 
 /// `call`: the run of the source that calls a routine of the library.

@@ -3,9 +3,9 @@ ghost use Rattle.ed_run.specs.SettingRanges.{AreSettingsInRange, IsFromTo};
 ghost use Rattle.ed_top.specs.Demos.{demo_answer};
 ghost use Rattle.ed_answers.specs.Replies.{Replies};
 
-use ed_sources::demo_source;
 use ed_answers::{Rejection, Reply, run};
 use ed_run::Settings;
+use ed_sources::demo_source;
 use std::alloc::Global;
 
 /// `demo`: the run of the large source made from a number.
