@@ -6,6 +6,7 @@
 #![tactic(auto)]
 
 mod add;
+mod celsius;
 mod checked;
 mod decimals;
 mod difference;
@@ -14,6 +15,7 @@ mod greatest;
 mod hello;
 mod interlude;
 mod letters;
+mod lists;
 mod mirror;
 mod multiply;
 mod refusal;
@@ -22,6 +24,7 @@ mod squares;
 mod woven;
 
 pub use add::add_program;
+pub use celsius::celsius_program;
 pub use checked::checked_program;
 pub use decimals::decimals_program;
 pub use difference::difference_program;
