@@ -14,6 +14,7 @@ pub mod Kit
 pub mod AddRuns
 pub mod DifferenceRuns
 pub mod CelsiusRuns
+pub mod TotalRuns
 pub mod HelloRuns
 pub mod MultiplyRuns
 pub mod Answered

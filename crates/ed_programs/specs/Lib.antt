@@ -16,3 +16,4 @@ pub mod Interlude
 pub mod Guests
 pub mod Decimals
 pub mod Celsius
+pub mod Total

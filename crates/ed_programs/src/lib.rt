@@ -21,6 +21,7 @@ mod multiply;
 mod refusal;
 mod sort;
 mod squares;
+mod total;
 mod woven;
 
 pub use add::add_program;
@@ -37,3 +38,4 @@ pub use multiply::multiply_program;
 pub use refusal::Refusal;
 pub use sort::sort_program;
 pub use squares::squares_program;
+pub use total::total_program;
