@@ -26,6 +26,8 @@ mod lines;
 #[cfg(test)]
 mod linking;
 #[cfg(test)]
+mod lists;
+#[cfg(test)]
 mod parts;
 #[cfg(test)]
 mod post_mortems;

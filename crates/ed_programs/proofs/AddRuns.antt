@@ -7,7 +7,7 @@ use Rattle.ed_programs.proofs.Kit.{Settings, Frame, Moment, short, state, own, A
 use Rattle.ed_programs.proofs.Kit.{print_orders, few_digits, print_line, ComesToStop, IsIn, along, then, to_stop}
 use Rattle.ed_programs.proofs.Kit.{frame_at, moment_at, digits_printed, SourceRuns, HasRead, reads_number, are_small}
 use Rattle.ed_programs.proofs.Kit.{data_mark, number_rows, stops_from_entry, Marked, lines_of_pieces, program_runs, to}
-use Rattle.ed_programs.proofs.Kit.{calling, stop_counted, HasBoth, both_after, both_at_entry}
+use Rattle.ed_programs.proofs.Kit.{calling, stop_counted, HasPair, pair_after, pair_at_entry}
 
 -- its words, with the two cells that change
 abbrev cells : ℕ → ℕ → List ℕ
@@ -31,7 +31,7 @@ module _ (z : Size) (m : Moment) where
   }
 
   -- the two numbers are read, added and printed, and the machine stops
-  stops : HasBoth f m.words 70 94 12 → (a b : ℕ) → a + b < 65536 → (done : ℕ)
+  stops : HasPair f m.words 70 94 12 12 → (a b : ℕ) → a + b < 65536 → (done : ℕ)
       → ComesToStop (13 * length (digits a) + 13 * length (digits b) + print_orders (a + b) + 33)
       (state f (at 0 m.words 0 0 0 (number_rows (a ∷ b ∷ []))) done) (11 ∷ digits (a + b)) 68
   stops o a b small done =
@@ -39,12 +39,12 @@ module _ (z : Size) (m : Moment) where
       record { above = lit≤ tt; all = o.all; own = refl } in
       let one : HasRead start 0 12 70 a (number_rows (b ∷ [])) =
       reads_number start 0 12 a (number_rows (b ∷ [])) o.reads refl (omega arith) (lit< tt) (lit≤ tt) refl refl refl in
-      let after_one = both_after one o in
+      let after_one = pair_after one o in
       let second : IsIn f (at 4 one.words 0 a a (number_rows (b ∷ []))) =
       record { above = lit≤ tt; all = after_one.all; own = refl } in
       let two : HasRead second 4 12 70 b [] =
       reads_number second 4 12 b [] after_one.reads refl (omega arith) (lit< tt) (lit≤ tt) refl refl refl in
-      let after_two = both_after two after_one in
+      let after_two = pair_after two after_one in
       let last : IsIn f (at 9 two.words 0 (a + b) a []) = record { above = lit≤ tt; all = after_two.all; own = refl } in
       let number = get_own 0 two.words 56 (cells (a + b) a) 12 (lit< tt) in
       stop_counted (to_stop
@@ -78,6 +78,6 @@ module _ (a b : ℕ) (small : a + b < 65536) where
       (stops_from_entry z lines refl 14 (lit≤ tt) (cells 0 0) refl refl (number_rows (a ∷ b ∷ []))
       (sym (append-nil (number_rows (a ∷ b ∷ []))))
       (stops z (moment_at (entry_state z lines))
-      (both_at_entry z lines 14 (lit≤ tt) 70 94 12 refl (lit≤ tt) (lit≤ tt) (lit≤ tt)) a b small
+      (pair_at_entry z lines 14 (lit≤ tt) 70 94 12 12 refl (lit≤ tt) (lit≤ tt) (lit≤ tt)) a b small
       (entry_state z lines).orders))
       (omega arith) (omega arith) (digits_printed (a + b) small)

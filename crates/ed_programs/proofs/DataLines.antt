@@ -20,14 +20,10 @@ use Rattle.ed_syntax.proofs.PartLemmas.{quote_parts}
 use Rattle.ed_routines.specs.Digits.{digits}
 use Rattle.ed_sources.proofs.Decimals.{are, both, decimal_is, few_bytes, line_bytes, no_quotes, row_bytes, rows_are}
 use Rattle.ed_sources.proofs.Decimals.{written}
+use Rattle.ed_programs.specs.Lists.{numbers_text}
 use Rattle.ed_programs.proofs.SourceLines.{Marked, by_parts}
 
--- numbers in decimal, each with an F (70), which ends it
-abbrev pub numbers_text : List ℕ → Text
-numbers_text [] = []
-numbers_text (n ∷ ns) = decimal n ++ 70 ∷ numbers_text ns
-
--- the line `data` with them, between quotes (34)
+-- the line `data` with numbers, between quotes (34)
 abbrev pub numbers_line : List ℕ → Text
 numbers_line ns = codes "data " ++ 34 ∷ (numbers_text ns ++ 34 ∷ [])
 
@@ -59,7 +55,7 @@ pub record AreNumbers (ns : List ℕ) (bytes : Text) : Type 0 where
   pub rows : map (λ b. row (row_of b)) bytes ≡ number_rows ns
   pub few : length bytes ≤ 6 * length ns
 
-all_numbers : (ns : List ℕ) → are_small ns ≡ true → AreNumbers ns (numbers_text ns)
+pub all_numbers : (ns : List ℕ) → are_small ns ≡ true → AreNumbers ns (numbers_text ns)
 all_numbers [] h = record { line = refl; quote = refl; spelled = refl; rows = refl; few = omega arith }
 all_numbers (n ∷ ns) h =
     let p = and_parts (nat_lt n 65536) (are_small ns) h in
@@ -94,8 +90,8 @@ some_byte : (ns : List ℕ) → 1 ≤ length ns → 1 ≤ length (numbers_text n
 some_byte [] l = absurd (omega arith)
 some_byte (n ∷ ns) l = let long = length-append (decimal n) (70 ∷ numbers_text ns) in omega (arith, long)
 
-module _ (two : Bool) (k : ℕ) (ns : List ℕ) (later : 2 ≤ k) (some : 1 ≤ length ns) (few : length ns ≤ 18)
-    (small : are_small ns ≡ true) where
+module _ (two : Bool) (k : ℕ) (ns : List ℕ) (later : 2 ≤ k) (some : 1 ≤ length ns)
+    (fits : length (numbers_text ns) ≤ 113) (small : are_small ns ≡ true) where
   abbrev bytes : Text
   bytes = numbers_text ns
 
@@ -103,10 +99,7 @@ module _ (two : Bool) (k : ℕ) (ns : List ℕ) (later : 2 ≤ k) (some : 1 ≤ 
   data_plain = let plain = (all_numbers ns small).line in list_all-append is_line_byte bytes (34 ∷ []) ∙ rw plain refl
 
   pub data_short : length (numbers_line ns) ≤ 120
-  data_short =
-      let long = length-append bytes (34 ∷ []) in
-      let most = (all_numbers ns small).few in
-      omega (arith, long, most)
+  data_short = let long = length-append bytes (34 ∷ []) in omega (arith, long)
 
   pub data_says : line_of two k (numbers_line ns) ≡ Ok (record {
     label = None;
@@ -115,13 +108,12 @@ module _ (two : Bool) (k : ℕ) (ns : List ℕ) (later : 2 ≤ k) (some : 1 ≤ 
   data_says =
       let all = all_numbers ns small in
       let spelled = all.spelled in
-      let most = all.few in
       let there = le_true 1 (length bytes) (some_byte ns some) in
-      let fits = le_true (length bytes) 120 (omega arith) in
+      let short = le_true (length bytes) 120 (omega arith) in
       let no_version : (k == 1) ≡ false = eq_false k 1 (omega (arith, later)) in
       by_parts two k (numbers_line ns) (run (codes "data") ∷ quoted bytes ∷ []) data_plain data_short
       (let e = quote_parts [] bytes [] (without_quote bytes all.quote) in rw e refl)
-      (let e = all.rows in rw (no_version, there, fits, spelled, e) refl)
+      (let e = all.rows in rw (no_version, there, short, spelled, e) refl)
 
 -- the numbers, each ended by F, before the rest of their line
 abbrev pub numbers_and : List ℕ → Text → Text
@@ -134,17 +126,26 @@ numbers_and_is (n ∷ ns) rest =
     ap (λ (t : Text). decimal n ++ 70 ∷ t) (numbers_and_is ns rest)
     ∙ sym (append_assoc (decimal n) (70 ∷ numbers_text ns) rest)
 
--- a line `data` with numbers, as a mark
-abbrev pub data_mark : {two : Bool} (k : ℕ) (ns : List ℕ) → 2 ≤ k → 1 ≤ length ns → length ns ≤ 18 → are_small ns ≡ true
-    → Marked two
-data_mark {two} k ns later some few small = record {
-  number = k;
-  text = codes "data " ++ 34 ∷ numbers_and ns (34 ∷ []);
-  label = None;
-  statement = statements.Rows (array (number_rows ns));
-  says = ap (λ (t : Text). line_of two k (codes "data " ++ 34 ∷ t)) (numbers_and_is ns (34 ∷ []))
-      ∙ data_says two k ns later some few small;
-}
+-- a line `data` with numbers, as a mark: with each number as data of its own, and with all of them as one text
+module _ {two : Bool} (k : ℕ) (ns : List ℕ) (later : 2 ≤ k) (some : 1 ≤ length ns) where
+  abbrev pub data_mark : length ns ≤ 18 → are_small ns ≡ true → Marked two
+  data_mark few small = record {
+    number = k;
+    text = codes "data " ++ 34 ∷ numbers_and ns (34 ∷ []);
+    label = None;
+    statement = statements.Rows (array (number_rows ns));
+    says = ap (λ (t : Text). line_of two k (codes "data " ++ 34 ∷ t)) (numbers_and_is ns (34 ∷ []))
+        ∙ data_says two k ns later some (let most = (all_numbers ns small).few in omega arith) small;
+  }
+
+  abbrev pub list_mark : length (numbers_text ns) ≤ 113 → are_small ns ≡ true → Marked two
+  list_mark fits small = record {
+    number = k;
+    text = numbers_line ns;
+    label = None;
+    statement = statements.Rows (array (number_rows ns));
+    says = data_says two k ns later some fits small;
+  }
 
 -- a list of a known length by its numbers
 abbrev pub listed : ℕ → ℕ → List ℕ → List ℕ

@@ -25,7 +25,7 @@ abbrev pub line_orders : ℕ → List ℕ → ℕ
 line_orders zero ns = 18686 + 8 * units 10 ns
 line_orders (suc j) ns = 18688 + 8 * units 10 ns + line_orders j (after 10 ns)
 
--- the same of j + 1 lines of five groups
+-- the same for j + 1 lines of five groups
 abbrev pub page_codes : ℕ → List ℕ → List ℕ
 page_codes zero ns = line_codes 4 ns ++ 18 ∷ 24 ∷ []
 page_codes (suc j) ns = line_codes 4 ns ++ 18 ∷ 24 ∷ page_codes j (line_left 4 ns)
@@ -33,6 +33,10 @@ page_codes (suc j) ns = line_codes 4 ns ++ 18 ∷ 24 ∷ page_codes j (line_left
 abbrev pub page_orders : ℕ → List ℕ → ℕ
 page_orders zero ns = line_orders 4 ns + 13
 page_orders (suc j) ns = line_orders 4 ns + 13 + page_orders j (line_left 4 ns)
+
+abbrev pub page_left : ℕ → List ℕ → List ℕ
+page_left zero ns = line_left 4 ns
+page_left (suc j) ns = page_left j (line_left 4 ns)
 
 -- ---- no numerator is lost
 

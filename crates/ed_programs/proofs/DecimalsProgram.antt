@@ -1,49 +1,47 @@
 -- The program of `examples/decimals.edsac` from its entry to its stop: a decimal, a group, a line.
-use Rattle.std.proofs.Common.{◌≡◌, ◌∙◌, ◌⊎◌, inl, inr, ℕ, zero, suc, ◌+◌, ◌-◌, ◌*◌, ◌/◌, ◌%◌, ◌^◌, ◌<◌, ◌≤◌}
-use Rattle.std.proofs.Common.{refl, sym, ap, subst, arith, lit<, lit≤, List, [], ◌∷◌, Option, Some, get_or, length, set, replicate, append-nil}
+use Rattle.std.proofs.Common.{◌/◌, ◌%◌, ◌^◌, replicate, set}
 use Rattle.std.proofs.Math.Nat.{div-add-mod, div-lt_iff_lt-mul, mod-lt}
 use Rattle.std.proofs.lemmas.List.{get_or-set_same, get_or-set_other, length-set}
 use Rattle.ed_words.proofs.SizeLemmas.{least}
-use Rattle.ed_words.specs.declared.size.Size.{Size}
 use Rattle.ed_words.specs.declared.order_words.TheConstants.{A_F, L_D, T_F, Z_F}
-use Rattle.ed_machine.proofs.Kit.Frames.{Frame, Moment, short, state}
-use Rattle.ed_machine.proofs.Kit.Places.{IsOutside, any, early, own, out}
-use Rattle.ed_machine.proofs.Kit.Moves.{A, S, T, U, O, L, E_jumps, E_stays, G_jumps, G_stays, Z}
+use Rattle.ed_machine.proofs.Kit.Places.{IsOutside}
+use Rattle.ed_machine.proofs.Kit.Moves.{L}
 use Rattle.ed_machine.proofs.Kit.Sums.{Remains}
 use Rattle.ed_machine.proofs.Kit.Shifts.{LD, L1F, L512F}
-use Rattle.ed_machine.proofs.Kit.Paths.{Path, leads, stay, on, prints, followed}
-use Rattle.ed_routines.proofs.Journeys.{ComesToStop, along, stop_after, to_stop}
-use Rattle.ed_sources.proofs.Entries.{frame_at}
-use Rattle.ed_programs.proofs.Kit.{calls_own, counted, to}
 use Rattle.ed_programs.specs.Decimals.{carries, tenfold}
 use Rattle.ed_programs.proofs.DecimalsPass.{after, after_long, line_codes, line_left, line_long, line_orders}
-use Rattle.ed_programs.proofs.DecimalsPass.{page_codes, page_orders, tenfold_long, units}
+use Rattle.ed_programs.proofs.DecimalsPass.{page_codes, page_left, page_orders, tenfold_long, units}
+use Rattle.ed_programs.proofs.Kit.{◌≡◌, ◌∙◌, inr, ℕ, zero, suc, ◌+◌, ◌-◌, ◌*◌, ◌<◌, ◌≤◌, refl, sym, ap, subst}
+use Rattle.ed_programs.proofs.Kit.{arith, lit<, lit≤, List, [], ◌∷◌, ◌++◌, Option, Some, get_or, length, append-nil, Size}
+use Rattle.ed_programs.proofs.Kit.{Frame, Moment, short, state, any, early, own, out, A, S, T, U, O, E_jumps, E_stays}
+use Rattle.ed_programs.proofs.Kit.{G_jumps, G_stays, Z, Path, followed, on, prints, stay, ComesToStop, along}
+use Rattle.ed_programs.proofs.Kit.{to_stop, frame_at, calls_own, counted, to}
 
--- the cells that change
+-- the cells that change as a decimal is worked out, and those that count: the decimals left of a group, the groups of a
+-- line, and the lines
 pub record Work : Type 0 where
   pub plant : ℕ
   pub load : ℕ
   pub store : ℕ
   pub digit : ℕ
-  pub group : ℕ
-  pub line : ℕ
-  pub lines : ℕ
   pub divisor : ℕ
   pub carry : ℕ
   pub rest : ℕ
   pub scrap : ℕ
   pub link : ℕ
 
--- as it is loaded
+pub record Counts : Type 0 where
+  pub group : ℕ
+  pub line : ℕ
+  pub lines : ℕ
+
+-- as they are loaded
 abbrev pub loaded : Work
 loaded = record {
   plant = T_F + 2 * 163;
   load = 115014;
   store = 20806;
   digit = 0;
-  group = 131062;
-  line = 131067;
-  lines = 131070;
   divisor = 0;
   carry = 0;
   rest = 0;
@@ -51,9 +49,12 @@ loaded = record {
   link = 0;
 }
 
+abbrev pub none_done : Counts
+none_done = record { group = 131062; line = 131067; lines = 131070 }
+
 -- its words from 56 on, those of `newline` after it too; the list is behind them
-abbrev pub cells : Work → List ℕ
-cells k =
+abbrev pub cells : Work → Counts → List ℕ
+cells k c =
     to 9 79 ∷ to 9 80 ∷ to 9 81 ∷ to 28 3 ∷ to 27 100 ∷ to 5 95 ∷ to 28 87 ∷ k.plant ∷ to 28 7 ∷ 114692 ∷ to 7 7
     ∷ to 12 96 ∷ to 27 5
     ∷ to 5 95 ∷ to 28 97 ∷ to 5 22 ∷ to 28 98 ∷ to 5 40 ∷ to 28 91 ∷ to 5 92 ∷ to 5 93
@@ -64,7 +65,7 @@ cells k =
     ∷ to 5 95 ∷ to 28 93 ∷ 103424 ∷ L_D ∷ to 5 83 ∷ to 9 83 ∷ to 28 84 ∷ to 28 87 ∷ to 7 84 ∷ to 27 13
     ∷ to 12 90 ∷ to 5 84 ∷ to 28 85 ∷ to 28 87 ∷ to 7 85 ∷ to 3 70 ∷ to 9 82 ∷ to 27 13
     ∷ to 12 89 ∷ to 5 85 ∷ to 28 72 ∷ to 27 100 ∷ to 28 86 ∷ to 28 87 ∷ to 7 86 ∷ to 27 13 ∷ Z_F
-    ∷ 45056 ∷ 8192 ∷ 94208 ∷ 81920 ∷ k.digit ∷ k.group ∷ k.line ∷ k.lines ∷ 1 ∷ 2 ∷ 5 ∷ 10 ∷ 75
+    ∷ 45056 ∷ 8192 ∷ 94208 ∷ 81920 ∷ k.digit ∷ c.group ∷ c.line ∷ c.lines ∷ 1 ∷ 2 ∷ 5 ∷ 10 ∷ 75
     ∷ k.divisor ∷ k.carry ∷ k.rest ∷ k.scrap ∷ 20954 ∷ 115160 ∷ 20952 ∷ 0
     ∷ 114694 ∷ to 5 104 ∷ to 9 105 ∷ to 9 106 ∷ k.link ∷ 73728 ∷ 98304 ∷ []
 
@@ -82,27 +83,21 @@ stand_kept ws words q d (n ∷ ns) same o = (
   stand_kept ws words (suc q) (suc d) ns (λ a low. same a (omega arith)) o.2,
 )
 
+stand_after : (ws : List ℕ) (q d r : ℕ) (ns : List ℕ) → length ws ≡ 1024 → q < 1024 → r < d
+    → Stand ws (suc q) (suc d) ns
+    → Stand (set ws q r) q d (r ∷ ns)
+stand_after ws q d r ns all low less o = (
+  get_or-set_same ws q r 0 (omega (arith, all, low)),
+  less,
+  stand_kept ws (set ws q r) (suc q) (suc d) ns
+      (λ a high. get_or-set_other ws q a r 0 (λ e. absurd (omega (arith, e, high)))) o,
+)
+
 -- the words around it
 pub record IsAround (ws : List ℕ) : Type 0 where
   pub all : length ws ≡ 1024
   pub at2 : get_or ws 2 0 ≡ 2
   pub at3 : get_or ws 3 0 ≡ 28676
-
--- the accumulator's number at the test for the last divisor
-abbrev pub compared : ℕ → ℕ
-compared zero = 131070
-compared (suc zero) = 131071
-compared (suc (suc i)) = i
-
-compared_is : (e : ℕ) → 1 ≤ e → e ≤ 74 → Remains (short e) (2 * 2 ^ 18 * 2 ^ 36) (short (compared e))
-compared_is zero some most_e = absurd (omega arith)
-compared_is (suc zero) some most_e = omega arith
-compared_is (suc (suc i)) some most_e = omega arith
-
-compared_low : (e : ℕ) → 2 ≤ e → e ≤ 75 → compared e < 65536
-compared_low zero some most_e = absurd (omega arith)
-compared_low (suc zero) some most_e = absurd (omega arith)
-compared_low (suc (suc i)) some most_e = omega arith
 
 -- the numerator at a location changes
 around_set : (ws : List ℕ) (q v : ℕ) → 162 ≤ q → IsAround ws → IsAround (set ws q v)
@@ -112,37 +107,54 @@ around_set ws q v high o = record {
   at3 = get_or-set_other ws q 3 v 0 (λ e. absurd (omega (arith, e, high))) ∙ o.at3;
 }
 
+-- a numerator with its carry, divided
+record Divided (x d : ℕ) : Type 0 where
+  is : x ≡ d * (x / d) + x % d
+  few : x / d ≤ 9
+  left : x % d < d
+
+divided : (n c d : ℕ) → n < d → c ≤ 9 → Divided (10 * n + c) d
+divided n c d less few =
+    let x : ℕ = 10 * n + c in
+    let positive : 0 < d = omega arith in
+    let below : x / d < 10 = (div-lt_iff_lt-mul {k = d} {x = x} {y = 10} positive).1 (omega (arith, less, few)) in
+    record { is = sym (div-add-mod x d); few = omega (arith, below); left = mod-lt x positive }
+
 module _ (z : Size) (m : Moment) where
   abbrev pub f : Frame 107 0
   f = frame_at 107 z (lit≤ tt)
 
-  abbrev pub at : ℕ → List ℕ → ℕ → Work → Option ℕ → Moment
-  at i ws v k last = record m {
+  abbrev pub at : ℕ → List ℕ → ℕ → Work → Counts → Option ℕ → Moment
+  at i ws v k c last = record m {
     words = ws;
-    cells = cells k;
+    cells = cells k c;
     pairs = [];
     acc = short v;
     counter = 56 + i;
     last = last;
   }
 
-  -- ---- the division, by taking the divisor away
+  module _ (c : Counts) (last : Option ℕ) where
+    abbrev now : ℕ → List ℕ → ℕ → Work → Moment
+    now i ws v k = at i ws v k c last
 
-  module _ (ws : List ℕ) (k : Work) (last : Option ℕ) (e r : ℕ) (least_r : r ≤ e) (most_e : e ≤ 74) where
-    abbrev dividing : ℕ → ℕ → Work
-    dividing x y = record k { rest = x; carry = y; divisor = suc e }
+    -- ---- the division, by taking the divisor away
 
-    takes : (j x y w : ℕ) → x ≡ suc e * j + r → x < 800 → y + j ≡ w → w ≤ 9
-        → Path f (3 + 8 * j) (at 31 ws x (dividing x y) last) [] (at 40 ws r (dividing r w) last)
-    takes zero x y w is low sum few =
-        let same : r ≡ x = omega (arith, is) in
+    abbrev dividing : Work → ℕ → ℕ → ℕ → Work
+    dividing k e x y = record k { rest = x; carry = y; divisor = suc e }
+
+    takes : (ws : List ℕ) (k : Work) (e r : ℕ) → r ≤ e → e ≤ 74 → (j x y w : ℕ) → x ≡ suc e * j + r → x < 800
+        → y + j ≡ w → w ≤ 9
+        → Path f (3 + 8 * j) (now 31 ws x (dividing k e x y)) [] (now 40 ws r (dividing k e r w))
+    takes ws k e r least_r most_e zero x y w is low sum few =
+        let same : x ≡ r = omega (arith, is) in
         let carried : y ≡ w = omega (arith, sum) in
-        subst (λ u. Path f 3 (at 31 ws u (dividing u y) last) [] (at 40 ws r (dividing r w) last)) same
-        (subst (λ u. Path f 3 (at 31 ws r (dividing r y) last) [] (at 40 ws r (dividing r u) last)) carried
-        (on (S 31 (own 92) (short (131072 - (suc e - r))) refl (omega arith))
+        let path : Path f 3 (now 31 ws r (dividing k e r w)) [] (now 40 ws r (dividing k e r w)) =
+        on (S 31 (own 92) (short (131072 - (suc e - r))) refl (omega arith))
         (on (G_jumps 32 (own 39) refl (omega arith))
-        (on (A 39 (own 92) (short r) refl (omega arith)) stay))))
-    takes (suc j) x y w is low sum few =
+        (on (A 39 (own 92) (short r) refl (omega arith)) stay)) in
+        rw (same, carried) path
+    takes ws k e r least_r most_e (suc j) x y w is low sum few =
         let more : suc e ≤ x = omega (arith, is) in
         let next : x - suc e ≡ suc e * j + r = omega (arith, is) in
         counted
@@ -154,348 +166,249 @@ module _ (z : Size) (m : Moment) where
         (on (T 36 (own 93) _ refl refl)
         (on (A 37 (own 94) (short (x - suc e)) refl (omega arith))
         (on (E_jumps 38 (own 31) refl (omega arith))
-        (takes j (x - suc e) (y + 1) w next (omega arith) (omega arith) few))))))))) (omega arith)
+        (takes ws k e r least_r most_e j (x - suc e) (y + 1) w next (omega arith) (omega arith) few)))))))))
+        (omega arith)
 
-  -- ---- one numerator, at p + 1, by the divisor e + 1
+    -- ---- one numerator, at p + 1, by the divisor e + 1
 
-  abbrev pub begun : Work → ℕ → ℕ → ℕ → Work
-  begun k top most c = record k { load = A_F + 2 * top; store = T_F + 2 * top; divisor = most; carry = c }
+    abbrev begun : Work → ℕ → ℕ → ℕ → Work
+    begun k top most carry = record k {
+      load = A_F + 2 * top;
+      store = T_F + 2 * top;
+      divisor = most;
+      carry = carry;
+    }
 
-  abbrev pub done : Work → ℕ → ℕ → ℕ → ℕ → ℕ → Work
-  done k p e c rest scrap = record (begun k p e c) { rest = rest; scrap = scrap }
-
-  module _ (ws : List ℕ) (k : Work) (last : Option ℕ) (p e n c v : ℕ) (o : IsAround ws)
-      (here : get_or ws (suc p) 0 ≡ n) (less : n < suc e) (few_c : c ≤ 9) (low_p : 162 ≤ p) (high_p : p < 236)
-      (some : 1 ≤ e) (most_e : e ≤ 74) (small : v < 131072) where
-    outside : IsOutside f ws (suc p)
-    outside = let size = least z in record { below = omega arith; beside = inr (omega arith) }
-
-    multiplies : Path f 10 (at 21 ws v (begun k (suc p) (suc e) c) last) []
-        (at 31 ws (10 * n + c) (record (begun k (suc p) (suc e) 0) { rest = 10 * n + c; scrap = v }) last)
-    multiplies =
-        on (T 21 (own 95) _ refl refl)
+    turn : (ws : List ℕ) (k : Work) (p e n y v u j r : ℕ) → IsAround ws → get_or ws (suc p) 0 ≡ n → n < suc e → y ≤ 9
+        → 162 ≤ p → p < 236 → 1 ≤ e → e ≤ 74 → v < 131072 → Remains (short e) (2 * 2 ^ 18 * 2 ^ 36) (short u)
+        → 10 * n + y ≡ suc e * j + r → r < suc e → j ≤ 9
+        → Path f (24 + 8 * j) (now 21 ws v (begun k (suc p) (suc e) y)) []
+        (now 51 (set ws (suc p) r) u (begun (record k { rest = r; scrap = v }) p e j))
+    turn ws k p e n y v u j r o here less few_y low high some most_e small left is rest few =
+        let size = least z in
+        let outside : IsOutside f ws (suc p) = record { below = omega arith; beside = inr (omega arith) } in
+        let words : List ℕ = set ws (suc p) r in
+        let after = around_set ws (suc p) r (omega arith) o in
+        let all = after.all in let at2 = after.at2 in
+        let outside_after : IsOutside f words 2 = early 2 (lit≤ tt) (lit< tt) all in
+        counted
+        (on (T 21 (own 95) _ refl refl)
         (on (A 22 (out (suc p) outside) (short n) refl (omega arith))
         (on (L 23 LD (short (2 * n)) refl (omega arith))
         (on (U 24 (own 94) _ refl refl)
         (on (L 25 L1F (short (8 * n)) refl (omega arith))
         (on (A 26 (own 94) (short (10 * n)) refl (omega arith))
-        (on (A 27 (own 93) (short (10 * n + c)) refl (omega arith))
+        (on (A 27 (own 93) (short (10 * n + y)) refl (omega arith))
         (on (T 28 (own 94) _ refl refl)
         (on (T 29 (own 93) 0 refl refl)
-        (on (A 30 (own 94) (short (10 * n + c)) refl (omega arith)) stay)))))))))
+        (on (A 30 (own 94) (short (10 * n + y)) refl (omega arith))
+        (followed (takes ws (record (begun k (suc p) (suc e) 0) { scrap = v }) e r (omega arith) most_e j (10 * n + y) 0
+        j is (omega arith) (omega arith) few)
+        (on (T 40 (out (suc p) outside) _ refl refl)
+        (on (A 41 (own 22) (short (A_F + 2 * suc p)) refl (omega arith))
+        (on (S 42 (out 2 outside_after) (short (A_F + 2 * p)) refl (omega arith))
+        (on (T 43 (own 22) _ refl refl)
+        (on (A 44 (own 40) (short (T_F + 2 * suc p)) refl (omega arith))
+        (on (S 45 (out 2 outside_after) (short (T_F + 2 * p)) refl (omega arith))
+        (on (T 46 (own 40) _ refl refl)
+        (on (A 47 (own 92) (short (suc e)) refl (omega arith))
+        (on (S 48 (own 87) (short e) refl (omega arith))
+        (on (U 49 (own 92) _ refl refl)
+        (on (S 50 (own 88) (short u) refl left) stay)))))))))))))))))))))) (omega arith)
 
-    module _ (j r : ℕ) (is : 10 * n + c ≡ suc e * j + r) (least_r : r ≤ e) (few : j ≤ 9) where
-      abbrev words : List ℕ
-      words = set ws (suc p) r
+    -- ---- all numerators from p + 1 on, the last one first, but not the one of the divisor 2
 
-      stores : Path f 11 (at 40 ws r (record (begun k (suc p) (suc e) j) { rest = r; scrap = v }) last) []
-          (at 51 words (compared e) (done k p e j r v) last)
-      stores =
-          let now : IsAround words = around_set ws (suc p) r (omega arith) o in
-          let all : length words ≡ 1024 = now.all in
-          let at2 : get_or words 2 0 ≡ 2 = now.at2 in
-          on (T 40 (out (suc p) outside) _ refl refl)
-          (on (A 41 (own 22) (short (A_F + 2 * suc p)) refl (omega arith))
-          (on (S 42 (out 2 (early 2 (lit≤ tt) (lit< tt) all)) (short (A_F + 2 * p)) refl (omega arith))
-          (on (T 43 (own 22) _ refl refl)
-          (on (A 44 (own 40) (short (T_F + 2 * suc p)) refl (omega arith))
-          (on (S 45 (out 2 (early 2 (lit≤ tt) (lit< tt) all)) (short (T_F + 2 * p)) refl (omega arith))
-          (on (T 46 (own 40) _ refl refl)
-          (on (A 47 (own 92) (short (suc e)) refl (omega arith))
-          (on (S 48 (own 87) (short e) refl (omega arith))
-          (on (U 49 (own 92) _ refl refl)
-          (on (S 50 (own 88) (short (compared e)) refl (compared_is e some most_e)) stay))))))))))
+    record Passed (ws : List ℕ) (k : Work) (p e top most v : ℕ) (ns : List ℕ) : Type 0 where
+      words : List ℕ
+      rest : ℕ
+      scrap : ℕ
+      acc : ℕ
+      low : acc < 131072
+      around : IsAround words
+      keeps : (a : ℕ) → a ≤ p → get_or words a 0 ≡ get_or ws a 0
+      stand : Stand words (suc p) (suc e) (tenfold (suc e) ns).left
+      few : (tenfold (suc e) ns).carry ≤ 9
+      path : Path f (25 * length ns + 8 * (tenfold (suc e) ns).units) (now 21 ws v (begun k top most 0)) []
+          (now 21 words acc (begun (record k { rest = rest; scrap = scrap }) p e (tenfold (suc e) ns).carry))
 
-      turn : Path f (24 + 8 * j) (at 21 ws v (begun k (suc p) (suc e) c) last) []
-          (at 51 words (compared e) (done k p e j r v) last)
-      turn =
-          counted (followed multiplies
-          (followed (takes ws (record (begun k (suc p) (suc e) 0) { scrap = v }) last e r least_r most_e j (10 * n + c) 0
-          j is (omega arith) (omega arith) few) stores)) (omega arith)
+    passes : (ns : List ℕ) (ws : List ℕ) (k : Work) (p e top most v : ℕ) → IsAround ws → Stand ws (suc p) (suc e) ns
+        → p + length ns ≡ top → e + length ns ≡ most → top ≤ 236 → most ≤ 75 → 162 ≤ p → 2 ≤ e → v < 131072
+        → Passed ws k p e top most v ns
+    passes [] ws k p e top most v o there ends divisors high few low some small =
+        let first : top ≡ p = omega (arith, ends) in
+        let second : most ≡ e = omega (arith, divisors) in
+        record {
+          words = ws;
+          rest = k.rest;
+          scrap = k.scrap;
+          acc = v;
+          low = small;
+          around = o;
+          keeps = λ a l. refl;
+          stand = tt;
+          few = lit≤ tt;
+          path = rw (first, second) stay;
+        }
+    passes (n ∷ ns) ws k p e top most v o there ends divisors high few low some small =
+        let rest = passes ns ws k (suc p) (suc e) top most v o there.2 (omega (arith, ends)) (omega (arith, divisors))
+        high few (omega arith) (omega arith) small in
+        let y : ℕ = (tenfold (suc (suc e)) ns).carry in
+        let x : ℕ = 10 * n + y in
+        let is = divided n y (suc e) there.1 rest.few in
+        record {
+          words = set rest.words (suc p) (x % suc e);
+          rest = x % suc e;
+          scrap = rest.acc;
+          acc = e - 2;
+          low = omega (arith, divisors, few);
+          around = around_set rest.words (suc p) (x % suc e) (omega arith) rest.around;
+          keeps = λ a l. get_or-set_other rest.words (suc p) a (x % suc e) 0 (λ i. absurd (omega (arith, i, l)))
+              ∙ rest.keeps a (omega (arith, l));
+          stand = stand_after rest.words (suc p) (suc e) (x % suc e) (tenfold (suc (suc e)) ns).left rest.around.all
+              (omega (arith, ends, high)) is.left rest.stand;
+          few = is.few;
+          path = counted (followed rest.path (followed
+              (turn rest.words (record k { rest = rest.rest; scrap = rest.scrap }) p e n y rest.acc (e - 2) (x / suc e)
+              (x % suc e) rest.around (rest.keeps (suc p) (omega arith) ∙ there.0) there.1 rest.few low
+              (omega (arith, ends, high)) (omega (arith, some)) (omega (arith, divisors, few)) rest.low
+              (omega (arith, some, divisors, few)) is.is is.left is.few)
+              (on (E_jumps 51 (own 21) refl (omega (arith, divisors, few))) stay))) (omega arith);
+        }
 
-  -- ---- all numerators from p + 1 on, the last one first
+  -- ---- what is so after a number of orders: these numerators are left, and the counts are these
 
-  pub record Passed (ws : List ℕ) (k : Work) (last : Option ℕ) (p e top most v : ℕ) (ns : List ℕ) : Type 0 where
-    pub words : List ℕ
-    pub rest : ℕ
-    pub scrap : ℕ
-    pub orders : ℕ
-    pub around : IsAround words
-    pub keeps : (a : ℕ) → a ≤ p → get_or words a 0 ≡ get_or ws a 0
-    pub stand : Stand words (suc p) (suc e) (tenfold (suc e) ns).left
-    pub few : (tenfold (suc e) ns).carry ≤ 9
-    pub orders_are : orders + 1 ≡ 25 * length ns + 8 * (tenfold (suc e) ns).units
-    pub path : Path f orders (at 21 ws v (begun k top most 0) last) []
-        (at 51 words (compared e) (done k p e (tenfold (suc e) ns).carry rest scrap) last)
+  record Reached (start : Moment) (i u : ℕ) (c : Counts) (orders : ℕ) (codes left : List ℕ) : Type 0 where
+    words : List ℕ
+    work : Work
+    last : Option ℕ
+    around : IsAround words
+    stand : Stand words 163 2 left
+    path : Path f orders start codes (at i words u work c last)
 
-  -- the numerator before others that are done
-  adds_one : (ws : List ℕ) (k : Work) (last : Option ℕ) (p e n c v : ℕ) (o : IsAround ws)
-      → get_or ws (suc p) 0 ≡ n → n < suc e → c ≤ 9 → 162 ≤ p → p < 236 → 1 ≤ e → e ≤ 74 → v < 131072
-      → (((10 * n + c) / suc e ≤ 9) × ((10 * n + c) % suc e < suc e))
-      × Path f (24 + 8 * ((10 * n + c) / suc e)) (at 21 ws v (begun k (suc p) (suc e) c) last) []
-      (at 51 (set ws (suc p) ((10 * n + c) % suc e)) (compared e)
-      (done k p e ((10 * n + c) / suc e) ((10 * n + c) % suc e) v) last)
-  adds_one ws k last p e n c v o here less few_c low_p high_p some most_e small =
-      let x : ℕ = 10 * n + c in
-      let positive : 0 < suc e = omega arith in
-      let is = div-add-mod x (suc e) in
-      let left : x % suc e < suc e = mod-lt x positive in
-      let few : x / suc e < 10 = (div-lt_iff_lt-mul {k = suc e} {x = x} {y = 10} positive).1
-      (omega (arith, less, few_c)) in (
-        (omega (arith, few), left),
-        turn ws k last p e n c v o here less few_c low_p high_p some most_e small (x / suc e) (x % suc e) (sym is)
-            (omega (arith, left)) (omega (arith, few)),
-      )
+  -- after orders more, and then others
+  quietly : {start : Moment} {i j u w a b n : ℕ} {c d : Counts} {k : Work} {codes left : List ℕ}
+      (one : Reached start i u c a codes left)
+      → Path f b (at i one.words u one.work c one.last) [] (at j one.words w k d one.last) → a + b ≡ n
+      → Reached start j w d n codes left
+  quietly {start} {j = j} {w} {n = n} {d = d} {k} {codes} one path count = record {
+    words = one.words;
+    work = k;
+    last = one.last;
+    around = one.around;
+    stand = one.stand;
+    path = subst (λ cs. Path f n start cs (at j one.words w k d one.last)) (append-nil codes)
+        (counted (followed one.path path) count);
+  }
 
-  stand_after : (ws : List ℕ) (q d r : ℕ) (ns : List ℕ) → length ws ≡ 1024 → q < 1024 → r < d
-      → Stand ws (suc q) (suc d) ns
-      → Stand (set ws q r) q d (r ∷ ns)
-  stand_after ws q d r ns all low less o = (
-    get_or-set_same ws q r 0 (omega (arith, all, low)),
-    less,
-    stand_kept ws (set ws q r) (suc q) (suc d) ns
-        (λ a high. get_or-set_other ws q a r 0 (λ e. absurd (omega (arith, e, high)))) o,
-  )
-
-  passes : (n : ℕ) (ns : List ℕ) (ws : List ℕ) (k : Work) (last : Option ℕ) (p e top most v : ℕ) → IsAround ws
-      → Stand ws (suc p) (suc e) (n ∷ ns) → p + length (n ∷ ns) ≡ top → e + length (n ∷ ns) ≡ most → top ≤ 236
-      → most ≤ 75 → 162 ≤ p → 1 ≤ e → v < 131072 → Passed ws k last p e top most v (n ∷ ns)
-  passes n [] ws k last p e top most v o there ends divisors high few low some small =
-      let one = adds_one ws k last p e n 0 v o there.0 there.1 (lit≤ tt) low (omega arith) some (omega arith) small in
-      let x : ℕ = 10 * n + 0 in
-      record {
-        words = set ws (suc p) (x % suc e);
-        rest = x % suc e;
-        scrap = v;
-        orders = 24 + 8 * (x / suc e);
-        around = around_set ws (suc p) (x % suc e) (omega arith) o;
-        keeps = λ a l. get_or-set_other ws (suc p) a (x % suc e) 0 (λ i. absurd (omega (arith, i, l)));
-        stand = stand_after ws (suc p) (suc e) (x % suc e) [] o.all (omega arith) one.0.1 tt;
-        few = one.0.0;
-        orders_are = omega arith;
-        path =
-            let first : suc p ≡ top = omega (arith, ends) in
-            let second : suc e ≡ most = omega (arith, divisors) in
-            subst (λ i. Path f (24 + 8 * (x / suc e)) (at 21 ws v (begun k i most 0) last) []
-            (at 51 (set ws (suc p) (x % suc e)) (compared e) (done k p e (x / suc e) (x % suc e) v) last)) first
-            (subst (λ i. Path f (24 + 8 * (x / suc e)) (at 21 ws v (begun k (suc p) i 0) last) []
-            (at 51 (set ws (suc p) (x % suc e)) (compared e) (done k p e (x / suc e) (x % suc e) v) last)) second
-            one.1);
-      }
-  passes n (m ∷ ms) ws k last p e top most v o there ends divisors high few low some small =
-      let rest = passes m ms ws k last (suc p) (suc e) top most v o there.2 (omega (arith, ends))
-      (omega (arith, divisors)) high few (omega arith) (omega arith) small in
-      let c : ℕ = (tenfold (suc (suc e)) (m ∷ ms)).carry in
-      let back = compared_low (suc e) (omega arith) (omega (arith, divisors, few)) in
-      let one = adds_one rest.words (record k { rest = rest.rest; scrap = rest.scrap }) last p e n c (compared (suc e))
-      rest.around (rest.keeps (suc p) (omega arith) ∙ there.0) there.1 rest.few low (omega (arith, ends, high)) some
-      (omega (arith, divisors, few)) (omega (arith, back)) in
-      let x : ℕ = 10 * n + c in
-      record {
-        words = set rest.words (suc p) (x % suc e);
-        rest = x % suc e;
-        scrap = compared (suc e);
-        orders = rest.orders + suc (24 + 8 * (x / suc e));
-        around = around_set rest.words (suc p) (x % suc e) (omega arith) rest.around;
-        keeps = λ a l. get_or-set_other rest.words (suc p) a (x % suc e) 0 (λ i. absurd (omega (arith, i, l)))
-            ∙ rest.keeps a (omega (arith, l));
-        stand = stand_after rest.words (suc p) (suc e) (x % suc e) (tenfold (suc (suc e)) (m ∷ ms)).left rest.around.all
-            (omega (arith, ends, high)) one.0.1 rest.stand;
-        few = one.0.0;
-        orders_are = let before = rest.orders_are in omega (arith, before);
-        path = followed rest.path (on (E_jumps 51 (own 21) refl (omega (arith, back))) one.1);
-      }
+  onward : {start next : Moment} {i j u w a b e n : ℕ} {c d : Counts} {codes more others left right : List ℕ}
+      (one : Reached start i u c a codes left) → Path f b (at i one.words u one.work c one.last) more next
+      → Reached next j w d e others right → a + (b + e) ≡ n → Reached start j w d n (codes ++ (more ++ others)) right
+  onward one path two count = record {
+    words = two.words;
+    work = two.work;
+    last = two.last;
+    around = two.around;
+    stand = two.stand;
+    path = counted (followed one.path (followed path two.path)) count;
+  }
 
   -- ---- a decimal
 
-  pub record Shown (ws : List ℕ) (k : Work) (last : Option ℕ) (v gg : ℕ) (ns : List ℕ) : Type 0 where
-    pub words : List ℕ
-    pub work : Work
-    pub around : IsAround words
-    pub stand : Stand words 163 2 (tenfold 2 ns).left
-    pub group : work.group ≡ gg
-    pub line : work.line ≡ k.line
-    pub lines : work.lines ≡ k.lines
-    pub path : Path f (1867 + 8 * (tenfold 2 ns).units) (at 13 ws v k last) ((tenfold 2 ns).carry ∷ [])
-        (at 61 words gg work (Some (tenfold 2 ns).carry))
-
-  -- the carry is printed, and the decimals of the group are counted
-  counts : (words : List ℕ) (k : Work) (last : Option ℕ) (c rest scrap g gg : ℕ) → c ≤ 9 → k.group ≡ g
-      → ((short g + 2 ^ 18 * 2 ^ 36) % 2 ^ 71 ≡ short gg) → g < 131072
-      → Path f 10 (at 51 words 131071 (done k 162 1 c rest scrap) last) (c ∷ [])
-      (at 61 words gg (record (done k 162 1 c rest 131071) { digit = 4096 * c; group = gg }) (Some c))
-  counts words k last c rest scrap g gg few is sum low =
-      on (E_stays 51 (own 21) refl (lit≤ tt))
-      (on (T 52 (own 95) _ refl refl)
-      (on (A 53 (own 93) (short c) refl (omega arith))
-      (on (L 54 L512F (short (2048 * c)) refl (omega arith))
-      (on (L 55 LD (short (4096 * c)) refl (omega arith))
-      (on (T 56 (own 83) _ refl refl)
-      (prints (O 57 (own 83) c refl (omega arith))
-      (on (A 58 (own 84) (short g) refl (omega arith))
-      (on (A 59 (own 87) (short gg) refl sum)
-      (on (U 60 (own 84) _ refl refl) stay)))))))))
-
-  starts : (ws : List ℕ) (k : Work) (last : Option ℕ) (v : ℕ) → v < 131072
-      → Path f 8 (at 13 ws v k last) [] (at 21 ws 0 (begun (record k { scrap = v }) 236 75 0) last)
-  starts ws k last v small =
-      on (T 13 (own 95) _ refl refl)
-      (on (A 14 (own 97) (short (A_F + 2 * 236)) refl refl)
-      (on (T 15 (own 22) _ refl refl)
-      (on (A 16 (own 98) (short (T_F + 2 * 236)) refl refl)
-      (on (T 17 (own 40) _ refl refl)
-      (on (A 18 (own 91) (short 75) refl refl)
-      (on (T 19 (own 92) _ refl refl)
-      (on (T 20 (own 93) 0 refl refl) stay)))))))
-
-  shows : (ns : List ℕ) (ws : List ℕ) (k : Work) (last : Option ℕ) (v g gg : ℕ) → IsAround ws → Stand ws 163 2 ns
-      → length ns ≡ 74 → v < 131072 → k.group ≡ g → ((short g + 2 ^ 18 * 2 ^ 36) % 2 ^ 71 ≡ short gg) → g < 131072
-      → Shown ws k last v gg ns
-  shows [] ws k last v g gg o there long small is sum low = absurd (omega arith)
-  shows (n ∷ ns) ws k last v g gg o there long small is sum low =
-      let first : Work = record k { scrap = v } in
-      let all = passes n ns ws first last 162 1 236 75 0 o there (omega (arith, long)) (omega (arith, long)) (lit≤ tt)
-      (lit≤ tt) (lit≤ tt) (lit≤ tt) (lit< tt) in
-      let c : ℕ = (tenfold 2 (n ∷ ns)).carry in
+  shows : (ns : List ℕ) (ws : List ℕ) (k : Work) (c : Counts) (last : Option ℕ) (v gg : ℕ) → IsAround ws
+      → Stand ws 163 2 ns → length ns ≡ 74 → v < 131072 → ((short c.group + 2 ^ 18 * 2 ^ 36) % 2 ^ 71 ≡ short gg)
+      → c.group < 131072
+      → Reached (at 13 ws v k c last) 61 gg (record c { group = gg }) (1867 + 8 * (tenfold 2 ns).units)
+      ((tenfold 2 ns).carry ∷ []) (tenfold 2 ns).left
+  shows [] ws k c last v gg o there long small sum low = absurd (omega arith)
+  shows (n ∷ ns) ws k c last v gg o there long small sum low =
+      let all = passes c last ns ws (record k { scrap = v }) 163 2 236 75 0 o there.2 (omega (arith, long))
+      (omega (arith, long)) (lit≤ tt) (lit≤ tt) (lit≤ tt) (lit≤ tt) (lit< tt) in
+      let y : ℕ = (tenfold 3 ns).carry in
+      let x : ℕ = 10 * n + y in
+      let is = divided n y 2 there.1 all.few in
+      let words : List ℕ = set all.words 163 (x % 2) in
+      let few = is.few in
       record {
-        words = all.words;
-        work = record (done first 162 1 c all.rest 131071) { digit = 4096 * c; group = gg };
-        around = all.around;
-        stand = all.stand;
-        group = refl;
-        line = refl;
-        lines = refl;
-        path = let are = all.orders_are in
-            counted (followed (starts ws k last v small)
-            (followed all.path (counts all.words first last c all.rest all.scrap g gg all.few is sum low)))
-            (omega (arith, are, long));
+        words = words;
+        work = record (begun c last (record k { rest = x % 2; scrap = 131071 }) 162 1 (x / 2)) { digit = 4096 * (x / 2) };
+        last = Some (x / 2);
+        around = around_set all.words 163 (x % 2) (lit≤ tt) all.around;
+        stand = stand_after all.words 163 2 (x % 2) (tenfold 3 ns).left all.around.all (omega arith) is.left all.stand;
+        path = counted
+            (on (T 13 (own 95) _ refl refl)
+            (on (A 14 (own 97) (short (A_F + 2 * 236)) refl refl)
+            (on (T 15 (own 22) _ refl refl)
+            (on (A 16 (own 98) (short (T_F + 2 * 236)) refl refl)
+            (on (T 17 (own 40) _ refl refl)
+            (on (A 18 (own 91) (short 75) refl refl)
+            (on (T 19 (own 92) _ refl refl)
+            (on (T 20 (own 93) 0 refl refl)
+            (followed all.path
+            (followed (turn c last all.words (record k { rest = all.rest; scrap = all.scrap }) 162 1 n y all.acc 131071
+            (x / 2) (x % 2) all.around (all.keeps 163 (lit≤ tt) ∙ there.0) there.1 all.few (lit≤ tt) (lit< tt) (lit≤ tt)
+            (lit≤ tt) all.low (omega arith) is.is is.left is.few)
+            (on (E_stays 51 (own 21) refl (lit≤ tt))
+            (on (T 52 (own 95) _ refl refl)
+            (on (A 53 (own 93) (short (x / 2)) refl (omega (arith, few)))
+            (on (L 54 L512F (short (2048 * (x / 2))) refl (omega (arith, few)))
+            (on (L 55 LD (short (4096 * (x / 2))) refl (omega (arith, few)))
+            (on (T 56 (own 83) _ refl refl)
+            (prints (O 57 (own 83) (x / 2) refl (omega (arith, few)))
+            (on (A 58 (own 84) (short c.group) refl (omega arith))
+            (on (A 59 (own 87) (short gg) refl sum)
+            (on (U 60 (own 84) _ refl refl) stay)))))))))))))))))))) (omega (arith, long));
       }
 
-  -- ---- the decimals that are left of a group
+  -- ---- the decimals that are left of a group, the groups of a line, and the lines
 
-  pub record Grouped (ws : List ℕ) (k : Work) (last : Option ℕ) (v orders : ℕ) (codes left : List ℕ) : Type 0 where
-    pub words : List ℕ
-    pub work : Work
-    pub now : Option ℕ
-    pub around : IsAround words
-    pub stand : Stand words 163 2 left
-    pub group : work.group ≡ 0
-    pub line : work.line ≡ k.line
-    pub lines : work.lines ≡ k.lines
-    pub path : Path f orders (at 13 ws v k last) codes (at 62 words 0 work now)
+  groups : (j : ℕ) (ns : List ℕ) (ws : List ℕ) (k : Work) (c : Counts) (last : Option ℕ) (v : ℕ) → IsAround ws
+      → Stand ws 163 2 ns → length ns ≡ 74 → v < 131072 → j < 10
+      → Reached (at 13 ws v k (record c { group = 131072 - suc j }) last) 62 0 (record c { group = 0 })
+      (1868 * suc j + 8 * units (suc j) ns) (carries (suc j) ns) (after (suc j) ns)
+  groups zero ns ws k c last v o there long small few =
+      quietly (shows ns ws k (record c { group = 131071 }) last v 0 o there long small refl (lit< tt))
+      (on (G_stays 61 (own 13) refl (lit< tt)) stay) (omega arith)
+  groups (suc j) ns ws k c last v o there long small few =
+      let one = shows ns ws k (record c { group = 131072 - suc (suc j) }) last v (131072 - suc j) o there long small
+      (omega arith) (omega arith) in
+      onward one (on (G_jumps 61 (own 13) refl (omega arith)) stay)
+      (groups j (tenfold 2 ns).left one.words one.work c one.last (131072 - suc j) one.around one.stand
+      (tenfold_long 2 ns ∙ long) (omega arith) (omega arith)) (omega arith)
 
-  groups : (j : ℕ) (ns : List ℕ) (ws : List ℕ) (k : Work) (last : Option ℕ) (v : ℕ) → IsAround ws → Stand ws 163 2 ns
-      → length ns ≡ 74 → v < 131072 → k.group + suc j ≡ 131072 → j < 10
-      → Grouped ws k last v (1868 * suc j + 8 * units (suc j) ns) (carries (suc j) ns) (after (suc j) ns)
-  groups zero ns ws k last v o there long small is few =
-      let one = shows ns ws k last v 131071 0 o there long small (omega (arith, is)) refl (lit< tt) in
-      record {
-        words = one.words;
-        work = one.work;
-        now = Some (tenfold 2 ns).carry;
-        around = one.around;
-        stand = one.stand;
-        group = one.group;
-        line = one.line;
-        lines = one.lines;
-        path = counted (followed one.path (on (G_stays 61 (own 13) refl (lit< tt)) stay)) (omega arith);
-      }
-  groups (suc j) ns ws k last v o there long small is few =
-      let g : ℕ = 131072 - suc (suc j) in
-      let gg : ℕ = 131072 - suc j in
-      let one = shows ns ws k last v g gg o there long small (omega (arith, is)) (omega arith) (omega arith) in
-      let group = one.group in
-      let rest = groups j (tenfold 2 ns).left one.words one.work (Some (tenfold 2 ns).carry) gg one.around one.stand
-      (tenfold_long 2 ns ∙ long) (omega arith) (omega (arith, group, few)) (omega arith) in
-      record {
-        words = rest.words;
-        work = rest.work;
-        now = rest.now;
-        around = rest.around;
-        stand = rest.stand;
-        group = rest.group;
-        line = rest.line ∙ one.line;
-        lines = rest.lines ∙ one.lines;
-        path = counted (followed one.path (on (G_jumps 61 (own 13) refl (omega arith)) rest.path)) (omega arith);
-      }
-
-  -- ---- the groups that are left of a line
-
-  pub record Lined (ws : List ℕ) (k : Work) (last : Option ℕ) (v orders : ℕ) (codes left : List ℕ) : Type 0 where
-    pub words : List ℕ
-    pub work : Work
-    pub now : Option ℕ
-    pub around : IsAround words
-    pub stand : Stand words 163 2 left
-    pub group : work.group ≡ 131062
-    pub line : work.line ≡ 0
-    pub lines : work.lines ≡ k.lines
-    pub path : Path f orders (at 13 ws v k last) codes (at 70 words 0 work now)
-
-  lines_of : (j : ℕ) (ns : List ℕ) (ws : List ℕ) (k : Work) (last : Option ℕ) (v : ℕ) → IsAround ws → Stand ws 163 2 ns
-      → length ns ≡ 74 → v < 131072 → k.group ≡ 131062 → k.line + suc j ≡ 131072 → j < 5
-      → Lined ws k last v (line_orders j ns) (line_codes j ns) (line_left j ns)
-  lines_of zero ns ws k last v o there long small is counted_is few =
-      let one = groups 9 ns ws k last v o there long small (omega (arith, is)) (lit< tt) in
-      let line = one.line in let group = one.group in
-      let next : Path f 6 (at 62 one.words 0 one.work one.now) []
-      (at 70 one.words 0 (record one.work { group = 131062; line = 0 }) one.now) =
-      on (S 62 (own 90) (short 131062) refl (omega arith))
+  lines_of : (j : ℕ) (ns : List ℕ) (ws : List ℕ) (k : Work) (c : Counts) (last : Option ℕ) (v : ℕ) → IsAround ws
+      → Stand ws 163 2 ns → length ns ≡ 74 → v < 131072 → j < 5
+      → Reached (at 13 ws v k (record c { group = 131062; line = 131072 - suc j }) last) 70 0
+      (record c { group = 131062; line = 0 }) (line_orders j ns) (line_codes j ns) (line_left j ns)
+  lines_of zero ns ws k c last v o there long small few =
+      quietly (groups 9 ns ws k (record c { line = 131071 }) last v o there long small (lit< tt))
+      (on (S 62 (own 90) (short 131062) refl (omega arith))
       (on (T 63 (own 84) _ refl refl)
-      (on (A 64 (own 85) (short 131071) refl (omega (arith, line, counted_is)))
+      (on (A 64 (own 85) (short 131071) refl (omega arith))
       (on (A 65 (own 87) (short 0) refl (omega arith))
       (on (U 66 (own 85) 0 refl refl)
-      (on (E_jumps 67 (own 70) refl (lit< tt)) stay))))) in
-      record {
-        words = one.words;
-        work = record one.work { group = 131062; line = 0 };
-        now = one.now;
-        around = one.around;
-        stand = one.stand;
-        group = refl;
-        line = refl;
-        lines = one.lines;
-        path = subst (λ codes. Path f (line_orders zero ns) (at 13 ws v k last) codes
-            (at 70 one.words 0 (record one.work { group = 131062; line = 0 }) one.now)) (append-nil (carries 10 ns))
-            (counted (followed one.path next) (omega arith));
-      }
-  lines_of (suc j) ns ws k last v o there long small is counted_is few =
-      let one = groups 9 ns ws k last v o there long small (omega (arith, is)) (lit< tt) in
-      let line = one.line in let group = one.group in
-      let l : ℕ = 131072 - suc (suc j) in
-      let ll : ℕ = 131072 - suc j in
-      let work : Work = record one.work { group = 131062; line = ll } in
-      let rest = lines_of j (after 10 ns) one.words work (Some 20) ll one.around one.stand (after_long 10 ns ∙ long)
-      (omega arith) refl (omega (arith, few)) (omega arith) in
-      record {
-        words = rest.words;
-        work = rest.work;
-        now = rest.now;
-        around = rest.around;
-        stand = rest.stand;
-        group = rest.group;
-        line = rest.line;
-        lines = rest.lines ∙ one.lines;
-        path = counted (followed one.path
-            (on (S 62 (own 90) (short 131062) refl (omega arith))
-            (on (T 63 (own 84) _ refl refl)
-            (on (A 64 (own 85) (short l) refl (omega (arith, line, counted_is)))
-            (on (A 65 (own 87) (short ll) refl (omega arith))
-            (on (U 66 (own 85) _ refl refl)
-            (on (E_stays 67 (own 70) refl (omega arith))
-            (prints (O 68 (own 82) 20 refl refl)
-            (on (G_jumps 69 (own 13) refl (omega arith)) rest.path))))))))) (omega arith);
-      }
+      (on (E_jumps 67 (own 70) refl (lit< tt)) stay)))))) (omega arith)
+  lines_of (suc j) ns ws k c last v o there long small few =
+      let one = groups 9 ns ws k (record c { line = 131072 - suc (suc j) }) last v o there long small (lit< tt) in
+      onward one
+      (on (S 62 (own 90) (short 131062) refl (omega arith))
+      (on (T 63 (own 84) _ refl refl)
+      (on (A 64 (own 85) (short (131072 - suc (suc j))) refl (omega arith))
+      (on (A 65 (own 87) (short (131072 - suc j)) refl (omega arith))
+      (on (U 66 (own 85) _ refl refl)
+      (on (E_stays 67 (own 70) refl (omega arith))
+      (prints (O 68 (own 82) 20 refl refl)
+      (on (G_jumps 69 (own 13) refl (omega arith)) stay))))))))
+      (lines_of j (after 10 ns) one.words one.work c (Some 20) (131072 - suc j) one.around one.stand
+      (after_long 10 ns ∙ long) (omega arith) (omega arith)) (omega arith)
 
-  -- ---- a new line
-
+  -- a new line
   back : (i : ℕ) → i < 100 → 56 + (i + 2) < f.top
   back i low = let size = least z in omega arith
 
-  new_line : (ws : List ℕ) (k : Work) (last : Option ℕ) (i : ℕ) → IsAround ws → i < 100
-      → Path f 5 (at 100 ws (to 28 i) k last) (18 ∷ 24 ∷ [])
-      (at (i + 2) ws 0 (record k { link = to 3 (i + 2) }) (Some 24))
-  new_line ws k last i o low =
+  new_line : (ws : List ℕ) (k : Work) (c : Counts) (last : Option ℕ) (i : ℕ) → IsAround ws → i < 100
+      → Path f 5 (at 100 ws (to 28 i) k c last) (18 ∷ 24 ∷ [])
+      (at (i + 2) ws 0 (record k { link = to 3 (i + 2) }) c (Some 24))
+  new_line ws k c last i o low =
       let all = o.all in let at3 = o.at3 in
       on (A 100 (out 3 (early 3 (lit≤ tt) (lit< tt) all)) (short (to 3 (i + 2))) refl (omega arith))
       (on (T 101 (own 104) _ refl refl)
@@ -503,78 +416,62 @@ module _ (z : Size) (m : Moment) where
       (prints (O 103 (own 106) 24 refl refl)
       (on (E_jumps 104 (any (56 + (i + 2)) (back i low)) refl (lit< tt)) stay))))
 
-  -- ---- the lines that are left
+  -- the orders after a line, up to the test
+  turns_over : (ws : List ℕ) (k : Work) (c : Counts) (last : Option ℕ) (lines next : ℕ) → IsAround ws
+      → lines < 131072 → ((short lines + 2 ^ 18 * 2 ^ 36) % 2 ^ 71 ≡ short next)
+      → Path f 12 (at 70 ws 0 k (record c { group = 131062; line = 0; lines = lines }) last) (18 ∷ 24 ∷ [])
+      (at 77 ws next (record k { link = to 3 74 }) (record c { group = 131062; line = 131067; lines = next }) (Some 24))
+  turns_over ws k c last lines next o low sum =
+      on (S 70 (own 89) (short 131067) refl (omega arith))
+      (on (T 71 (own 85) _ refl refl)
+      (calls_own 72 100 refl refl refl (lit< tt)
+      (followed (new_line ws k (record c { group = 131062; line = 131067; lines = lines }) last 72 o (lit< tt))
+      (on (A 74 (own 86) (short lines) refl (omega arith))
+      (on (A 75 (own 87) (short next) refl sum)
+      (on (U 76 (own 86) _ refl refl) stay))))))
 
-  pub record Paged (ws : List ℕ) (k : Work) (last : Option ℕ) (v orders : ℕ) (codes : List ℕ) : Type 0 where
-    pub words : List ℕ
-    pub work : Work
-    pub now : Option ℕ
-    pub path : Path f orders (at 13 ws v k last) codes (at 78 words 0 work now)
-
+  -- the lines that are left
   pages : (j : ℕ) (ns : List ℕ) (ws : List ℕ) (k : Work) (last : Option ℕ) (v : ℕ) → IsAround ws → Stand ws 163 2 ns
-      → length ns ≡ 74 → v < 131072 → k.group ≡ 131062 → k.line ≡ 131067 → k.lines + suc j ≡ 131072 → j < 2
-      → Paged ws k last v (page_orders j ns) (page_codes j ns)
-  pages zero ns ws k last v o there long small is line_is lines_are few =
-      let one = lines_of 4 ns ws k last v o there long small is (omega (arith, line_is)) (lit< tt) in
-      let lines = one.lines in
-      let work : Work = record one.work { line = 131067; link = to 3 74 } in
+      → length ns ≡ 74 → v < 131072 → j < 2
+      → Reached (at 13 ws v k (record none_done { lines = 131072 - suc j }) last) 78 0 (record none_done { lines = 0 })
+      (page_orders j ns) (page_codes j ns) (page_left j ns)
+  pages zero ns ws k last v o there long small few =
+      let one = lines_of 4 ns ws k (record none_done { lines = 131071 }) last v o there long small (lit< tt) in
       record {
         words = one.words;
-        work = record work { lines = 0 };
-        now = Some 24;
+        work = record one.work { link = to 3 74 };
+        last = Some 24;
+        around = one.around;
+        stand = one.stand;
         path = counted (followed one.path
-            (on (S 70 (own 89) (short 131067) refl (omega arith))
-            (on (T 71 (own 85) _ refl refl)
-            (calls_own 72 100 refl refl refl (lit< tt)
-            (followed (new_line one.words (record one.work { line = 131067 }) one.now 72 one.around (lit< tt))
-            (on (A 74 (own 86) (short 131071) refl (omega (arith, lines, lines_are)))
-            (on (A 75 (own 87) (short 0) refl (omega arith))
-            (on (U 76 (own 86) 0 refl refl)
-            (on (G_stays 77 (own 13) refl (lit< tt)) stay))))))))) (omega arith);
+            (followed (turns_over one.words one.work none_done one.last 131071 0 one.around (lit< tt) refl)
+            (on (G_stays 77 (own 13) refl (lit< tt)) stay))) (omega arith);
       }
-  pages (suc j) ns ws k last v o there long small is line_is lines_are few =
-      let one = lines_of 4 ns ws k last v o there long small is (omega (arith, line_is)) (lit< tt) in
-      let lines = one.lines in
+  pages (suc j) ns ws k last v o there long small few =
       let l : ℕ = 131072 - suc (suc j) in
-      let ll : ℕ = 131072 - suc j in
-      let work : Work = record one.work { line = 131067; link = to 3 74; lines = ll } in
-      let group = one.group in
-      let rest = pages j (line_left 4 ns) one.words work (Some 24) ll one.around one.stand (line_long 4 ns ∙ long)
-      (omega arith) group refl (omega (arith, few)) (omega arith) in
-      record {
-        words = rest.words;
-        work = rest.work;
-        now = rest.now;
-        path = counted (followed one.path
-            (on (S 70 (own 89) (short 131067) refl (omega arith))
-            (on (T 71 (own 85) _ refl refl)
-            (calls_own 72 100 refl refl refl (lit< tt)
-            (followed (new_line one.words (record one.work { line = 131067 }) one.now 72 one.around (lit< tt))
-            (on (A 74 (own 86) (short l) refl (omega (arith, lines, lines_are)))
-            (on (A 75 (own 87) (short ll) refl (omega arith))
-            (on (U 76 (own 86) _ refl refl)
-            (on (G_jumps 77 (own 13) refl (omega arith)) rest.path))))))))) (omega arith);
-      }
+      let one = lines_of 4 ns ws k (record none_done { lines = l }) last v o there long small (lit< tt) in
+      onward one
+      (followed (turns_over one.words one.work none_done one.last l (131072 - suc j) one.around (omega arith) (omega arith))
+      (on (G_jumps 77 (own 13) refl (omega arith)) stay))
+      (pages j (line_left 4 ns) one.words (record one.work { link = to 3 74 }) (Some 24) (131072 - suc j) one.around
+      one.stand (line_long 4 ns ∙ long) (omega arith) (omega arith)) (omega arith)
 
   -- ---- the list is filled
 
-  pub record Filled (ws : List ℕ) (q many v : ℕ) (k : Work) (last : Option ℕ) : Type 0 where
-    pub words : List ℕ
-    pub work : Work
-    pub around : IsAround words
-    pub keeps : (a : ℕ) → a < q → get_or words a 0 ≡ get_or ws a 0
-    pub ones : (d : ℕ) → 2 ≤ d → Stand words q d (replicate many 1)
-    pub group : work.group ≡ k.group
-    pub line : work.line ≡ k.line
-    pub lines : work.lines ≡ k.lines
-    pub path : Path f (8 * many) (at 5 ws v (record k { plant = T_F + 2 * q }) last) [] (at 13 words 0 work last)
+  record Filled (ws : List ℕ) (q many v : ℕ) (k : Work) (c : Counts) (last : Option ℕ) : Type 0 where
+    words : List ℕ
+    work : Work
+    around : IsAround words
+    keeps : (a : ℕ) → a < q → get_or words a 0 ≡ get_or ws a 0
+    ones : (d : ℕ) → 2 ≤ d → Stand words q d (replicate many 1)
+    path : Path f (8 * many) (at 5 ws v (record k { plant = T_F + 2 * q }) c last) [] (at 13 words 0 work c last)
 
   -- one numerator
-  plants : (ws : List ℕ) (k : Work) (last : Option ℕ) (q u v : ℕ) → IsAround ws → 163 ≤ q → q < 237 → v < 131072
-      → (u + 474 ≡ 2 * suc q) ⊎ (u + 474 ≡ 131072 + 2 * suc q) → u < 131072
-      → Path f 7 (at 5 ws v (record k { plant = T_F + 2 * q }) last) []
-      (at 12 (set ws q 1) u (record k { plant = T_F + 2 * suc q; scrap = v }) last)
-  plants ws k last q u v o low high small is few =
+  plants : (ws : List ℕ) (k : Work) (c : Counts) (last : Option ℕ) (q u v : ℕ) → IsAround ws → 163 ≤ q → q < 237
+      → v < 131072 → Remains (short (T_F + 2 * suc q)) (20954 * 2 ^ 18 * 2 ^ 36) (short u)
+      → Path f 7 (at 5 ws v (record k { plant = T_F + 2 * q }) c last) []
+      (at 12 (set ws q 1) u (record k { plant = T_F + 2 * suc q; scrap = v }) c last)
+  plants ws k c last q u v o low high small left =
       let size = least z in
       let outside : IsOutside f ws q = record { below = omega arith; beside = inr (omega arith) } in
       let now = around_set ws q 1 (omega arith) o in
@@ -585,31 +482,22 @@ module _ (z : Size) (m : Moment) where
       (on (A 8 (own 7) (short (T_F + 2 * q)) refl (omega arith))
       (on (A 9 (out 2 (early 2 (lit≤ tt) (lit< tt) all)) (short (T_F + 2 * suc q)) refl (omega arith))
       (on (U 10 (own 7) _ refl refl)
-      (on (S 11 (own 96) (short u) refl (remains is)) stay))))))
-    where
-      remains : (u + 474 ≡ 2 * suc q) ⊎ (u + 474 ≡ 131072 + 2 * suc q)
-          → Remains (short (T_F + 2 * suc q)) (20954 * 2 ^ 18 * 2 ^ 36) (short u)
-      remains (inl i) = omega (arith, i)
-      remains (inr i) = omega (arith, i)
+      (on (S 11 (own 96) (short u) refl left) stay))))))
 
-  fills : (j : ℕ) (ws : List ℕ) (k : Work) (last : Option ℕ) (q v : ℕ) → IsAround ws → 163 ≤ q → q + suc j ≡ 237
-      → v < 131072 → Filled ws q (suc j) v k last
-  fills zero ws k last q v o low ends small = record {
+  fills : (j : ℕ) (ws : List ℕ) (k : Work) (c : Counts) (last : Option ℕ) (q v : ℕ) → IsAround ws → 163 ≤ q
+      → q + suc j ≡ 237 → v < 131072 → Filled ws q (suc j) v k c last
+  fills zero ws k c last q v o low ends small = record {
     words = set ws q 1;
     work = record k { plant = T_F + 2 * suc q; scrap = v };
     around = around_set ws q 1 (omega arith) o;
     keeps = λ a l. get_or-set_other ws q a 1 0 (λ i. absurd (omega (arith, i, l)));
     ones = λ d some. stand_after ws q d 1 [] o.all (omega (arith, ends)) some tt;
-    group = refl;
-    line = refl;
-    lines = refl;
-    path = followed (plants ws k last q 0 v o low (omega (arith, ends)) small (inl (omega (arith, ends))) (lit< tt))
+    path = followed (plants ws k c last q 0 v o low (omega (arith, ends)) small (omega (arith, ends)))
         (on (G_stays 12 (own 5) refl (lit< tt)) stay);
   }
-  fills (suc j) ws k last q v o low ends small =
+  fills (suc j) ws k c last q v o low ends small =
       let u : ℕ = 131072 - 2 * suc j in
-      let first = plants ws k last q u v o low (omega (arith, ends)) small (inr (omega (arith, ends))) (omega arith) in
-      let rest = fills j (set ws q 1) (record k { scrap = v }) last (suc q) u (around_set ws q 1 (omega arith) o)
+      let rest = fills j (set ws q 1) (record k { scrap = v }) c last (suc q) u (around_set ws q 1 (omega arith) o)
       (omega arith) (omega (arith, ends)) (omega arith) in
       record {
         words = rest.words;
@@ -622,38 +510,26 @@ module _ (z : Size) (m : Moment) where
           some,
           rest.ones (suc d) (omega (arith, some)),
         );
-        group = rest.group;
-        line = rest.line;
-        lines = rest.lines;
-        path = counted (followed first (on (G_jumps 12 (own 5) refl (omega (arith, ends))) rest.path)) (omega arith);
+        path = counted (followed (plants ws k c last q u v o low (omega (arith, ends)) small (omega (arith, ends)))
+            (on (G_jumps 12 (own 5) refl (omega (arith, ends))) rest.path)) (omega arith);
       }
 
-  -- ---- the program
-
-  -- all decimals, and the stop
-  prints_all : (ns : List ℕ) (ws : List ℕ) (k : Work) (last : Option ℕ) → IsAround ws → Stand ws 163 2 ns
-      → length ns ≡ 74 → k.group ≡ 131062 → k.line ≡ 131067 → k.lines ≡ 131070 → (done : ℕ)
-      → ComesToStop (page_orders 1 ns) (state f (at 13 ws 0 k last) done) (page_codes 1 ns) 135
-  prints_all ns ws k last o there long is line_is lines_are done =
-      let all = pages 1 ns ws k last 0 o there long (lit< tt) is line_is (omega (arith, lines_are)) (lit< tt) in
-      to_stop (along all.path) (Z 78 Z_F refl refl) done
+  -- ---- the program: the list, two lines, and the stop
 
   pub decimals_stop : (ns : List ℕ) → replicate 74 1 ≡ ns → (ws : List ℕ) (last : Option ℕ) → IsAround ws → (done : ℕ)
-      → ComesToStop (602 + page_orders 1 ns) (state f (at 0 ws 0 loaded last) done)
+      → ComesToStop (602 + page_orders 1 ns) (state f (at 0 ws 0 loaded none_done last) done)
       (11 ∷ 2 ∷ 23 ∷ 18 ∷ 24 ∷ page_codes 1 ns) 135
   decimals_stop ns is ws last o done =
-      let k : Work = record loaded { link = to 3 5 } in
-      let filled = fills 73 ws k (Some 24) 163 0 o (lit≤ tt) refl (lit< tt) in
-      let first : Path f 602 (at 0 ws 0 loaded last) (11 ∷ 2 ∷ 23 ∷ 18 ∷ 24 ∷ [])
-      (at 13 filled.words 0 filled.work (Some 24)) =
+      let filled = fills 73 ws (record loaded { link = to 3 5 }) none_done (Some 24) 163 0 o (lit≤ tt) refl (lit< tt) in
+      let begins : Path f 602 (at 0 ws 0 loaded none_done last) (11 ∷ 2 ∷ 23 ∷ 18 ∷ 24 ∷ [])
+      (at 13 filled.words 0 filled.work none_done (Some 24)) =
       prints (O 0 (own 79) 11 refl refl)
       (prints (O 1 (own 80) 2 refl refl)
       (prints (O 2 (own 81) 23 refl refl)
       (calls_own 3 100 refl refl refl (lit< tt)
-      (followed (new_line ws loaded (Some 23) 3 o (lit< tt)) filled.path)))) in
+      (followed (new_line ws loaded none_done (Some 23) 3 o (lit< tt)) filled.path)))) in
       let there : Stand filled.words 163 2 ns = subst (λ (xs : List ℕ). Stand filled.words 163 2 xs) is
       (filled.ones 2 (lit≤ tt)) in
       let long : length ns ≡ 74 = ap (λ (xs : List ℕ). length xs) (sym is) in
-      stop_after (leads first done) refl
-      (prints_all ns filled.words filled.work (Some 24) filled.around there long filled.group filled.line filled.lines
-      (done + 602))
+      let all = pages 1 ns filled.words filled.work (Some 24) 0 filled.around there long (lit< tt) (lit< tt) in
+      to_stop (along (followed begins all.path)) (Z 78 Z_F refl refl) done

@@ -1,26 +1,13 @@
 -- What the source of `examples/decimals.edsac` prints: its lines, its entry and its law.
-use Rattle.std.proofs.Common.{◌≡◌, true, ℕ, ◌+◌, refl, subst, lit≤, List, [], ◌∷◌, replicate}
-use Rattle.ed_words.specs.declared.size.Size.{Size}
-use Rattle.ed_machine.specs.State.{State}
-use Rattle.ed_run.specs.declared.settings.Settings.{Settings}
-use Rattle.ed_syntax.specs.Reading.Grammar.{settings}
-use Rattle.ed_syntax.specs.declared.program.Line.{Line}
-use Rattle.ed_library.specs.Images.{parameter_store}
-use Rattle.ed_answers.specs.EntryState.{entry_state}
-use Rattle.ed_printer.specs.Paper.{paper}
-use Rattle.ed_words.specs.Texts.{Text}
-use Rattle.std.specs.Prelude.{map}
-use Rattle.ed_routines.proofs.Journeys.{ComesToStop}
+use Rattle.std.proofs.Common.{replicate}
 use Rattle.ed_sources.proofs.AtEntry.{all_words}
-use Rattle.ed_sources.proofs.Entries.{moment_at}
 use Rattle.ed_programs.specs.declared.decimals.TheConstants.{DECIMALS}
 use Rattle.ed_programs.specs.Decimals.{decimals_orders, decimals_prints, decimals_text}
-use Rattle.ed_programs.specs.Programs.{SourceRuns}
 use Rattle.ed_programs.proofs.DecimalsPass.{page_codes, page_orders}
-use Rattle.ed_programs.proofs.DecimalsProgram.{IsAround, cells, decimals_stop, loaded}
-use Rattle.ed_programs.proofs.ProgramEntry.{stops_from_entry}
-use Rattle.ed_programs.proofs.SourceLines.{Marked}
-use Rattle.ed_programs.proofs.SourceRuns.{lines_of_pieces, program_runs}
+use Rattle.ed_programs.proofs.DecimalsProgram.{IsAround, cells, decimals_stop, loaded, none_done}
+use Rattle.ed_programs.proofs.Kit.{◌≡◌, true, ℕ, ◌+◌, refl, subst, lit≤, List, [], ◌∷◌, map, Size, State, parameter_store}
+use Rattle.ed_programs.proofs.Kit.{settings, Line, entry_state, paper, Settings, Text, ComesToStop, moment_at, SourceRuns}
+use Rattle.ed_programs.proofs.Kit.{stops_from_entry, Marked, lines_of_pieces, program_runs}
 
 -- what the two lines print
 abbrev lines_print : List ℕ
@@ -64,7 +51,7 @@ module _ (z : Size) where
   ends : ComesToStop 453712 (entry_state z lines) (11 ∷ 2 ∷ 23 ∷ 18 ∷ 24 ∷ lines_print) 135
   unfolding settings
   ends =
-      stops_from_entry z lines refl 107 (lit≤ tt) (cells loaded) refl refl [] refl
+      stops_from_entry z lines refl 107 (lit≤ tt) (cells loaded none_done) refl refl [] refl
       (printed (decimals_stop z (record (moment_at (entry_state z lines)) { tape = [] }) (replicate 74 1) refl
       (entry_state z lines).store.words (entry_state z lines).last is_around (entry_state z lines).orders))
 

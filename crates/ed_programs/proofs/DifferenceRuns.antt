@@ -10,7 +10,7 @@ use Rattle.ed_programs.proofs.Kit.{Z, Path, on, stay, get_own, digits, print_ord
 use Rattle.ed_programs.proofs.Kit.{ComesToStop, IsIn, along, then, to_stop, frame_at, moment_at, digits_printed}
 use Rattle.ed_programs.proofs.Kit.{SourceRuns, HasRead, reads_number, are_small, data_mark, number_rows}
 use Rattle.ed_programs.proofs.Kit.{stops_from_entry, Marked, lines_of_pieces, program_runs, to, calling, stop_counted}
-use Rattle.ed_programs.proofs.Kit.{HasBoth, both_after, both_at_entry}
+use Rattle.ed_programs.proofs.Kit.{HasPair, pair_after, pair_at_entry}
 
 -- its words, with the three cells that change
 abbrev cells : ℕ → ℕ → ℕ → List ℕ
@@ -59,7 +59,7 @@ module _ (z : Size) (m : Moment) where
       )
 
   -- the two numbers are read, the difference is printed, and the machine stops
-  stops : HasBoth f m.words 76 100 16 → (a b : ℕ) → a < 65536 → b < 65536 → (done : ℕ)
+  stops : HasPair f m.words 76 100 16 16 → (a b : ℕ) → a < 65536 → b < 65536 → (done : ℕ)
       → ComesToStop (13 * length (digits a) + 13 * length (digits b) + (if nat_lt b a then 3 else 0)
       + print_orders (distance a b) + 34)
       (state f (at 0 m.words 0 0 0 0 (number_rows (a ∷ b ∷ []))) done) (11 ∷ digits (distance a b)) 72
@@ -68,12 +68,12 @@ module _ (z : Size) (m : Moment) where
       record { above = lit≤ tt; all = o.all; own = refl } in
       let one : HasRead start 0 16 76 a (number_rows (b ∷ [])) =
       reads_number start 0 16 a (number_rows (b ∷ [])) o.reads refl first (lit< tt) (lit≤ tt) refl refl refl in
-      let after_one = both_after one o in
+      let after_one = pair_after one o in
       let next : IsIn f (at 4 one.words 0 a a 0 (number_rows (b ∷ []))) =
       record { above = lit≤ tt; all = after_one.all; own = refl } in
       let two : HasRead next 4 16 76 b [] =
       reads_number next 4 16 b [] after_one.reads refl second (lit< tt) (lit≤ tt) refl refl refl in
-      let after_two = both_after two after_one in
+      let after_two = pair_after two after_one in
       let takes = apart two.words a b first second (nat_lt b a) refl in
       let last : IsIn f (at 13 two.words 0 (distance a b) a takes.0 []) =
       record { above = lit≤ tt; all = after_two.all; own = refl } in
@@ -109,6 +109,6 @@ module _ (a b : ℕ) (first : a < 65536) (second : b < 65536) where
       (stops_from_entry z lines refl 19 (lit≤ tt) (cells 0 0 0) refl refl (number_rows (a ∷ b ∷ []))
       (sym (append-nil (number_rows (a ∷ b ∷ []))))
       (stops z (moment_at (entry_state z lines))
-      (both_at_entry z lines 19 (lit≤ tt) 76 100 16 refl (lit≤ tt) (lit≤ tt) (lit≤ tt)) a b first second
+      (pair_at_entry z lines 19 (lit≤ tt) 76 100 16 16 refl (lit≤ tt) (lit≤ tt) (lit≤ tt)) a b first second
       (entry_state z lines).orders))
       (omega arith) (omega arith) (digits_printed (distance a b) (omega arith))

@@ -1,7 +1,7 @@
 -- The names that the proof of a program cites, passed on from one place, and what its path says in few words.
 pub use Rattle.std.proofs.Common.{◌≡◌, ◌∙◌, ◌⊎◌, inl, inr, ℕ, zero, suc, ◌+◌, ◌-◌, ◌*◌, ◌<◌, ◌≤◌, refl, sym, ap, subst}
 pub use Rattle.std.proofs.Common.{arith, lit<, lit≤, true, false, List, [], ◌∷◌, ◌++◌, Ok, Some, None, codes, get_or}
-pub use Rattle.std.proofs.Common.{length}
+pub use Rattle.std.proofs.Common.{length, map, Option}
 pub use Rattle.std.proofs.Common.{append_assoc, append-nil, length-append}
 pub use Rattle.std.specs.Fmt.{decimal}
 pub use Rattle.ed_words.proofs.SizeLemmas.{least}
@@ -18,14 +18,15 @@ pub use Rattle.ed_run.specs.declared.settings.Settings.{Settings}
 pub use Rattle.ed_machine.proofs.Kit.Frames.{Frame, Moment, short, state}
 pub use Rattle.ed_machine.proofs.Kit.Places.{any, early, out, own}
 pub use Rattle.ed_machine.proofs.Kit.Orders.{word_is}
-pub use Rattle.ed_machine.proofs.Kit.Moves.{A, S, T, U, O, E_jumps, E_stays, G_jumps, G_stays, Jumps, Reads, Z}
+pub use Rattle.ed_machine.proofs.Kit.Moves.{A, S, H, V, T, T_top, U, O, E_jumps, E_stays, G_jumps, G_stays, Jumps, Reads}
+pub use Rattle.ed_machine.proofs.Kit.Moves.{Z}
 pub use Rattle.ed_machine.proofs.Kit.Paths.{Path, followed, on, prints, stay}
 pub use Rattle.ed_machine.proofs.Kit.Window.{get_own}
 pub use Rattle.ed_routines.specs.Catalogue.{newline, print, read, with_h}
 pub use Rattle.ed_routines.specs.Digits.{digits, print_orders}
 pub use Rattle.ed_routines.proofs.Digits.{few_digits}
 pub use Rattle.ed_routines.proofs.Journeys.{ComesToStop, HasRoutine, IsIn, Journey, along, elsewhere, no_working, then}
-pub use Rattle.ed_routines.proofs.Journeys.{to_stop}
+pub use Rattle.ed_routines.proofs.Journeys.{stop_after, to_stop}
 pub use Rattle.ed_routines.proofs.Lines.{print_line}
 use Rattle.std.specs.Prelude.{◌&&◌}
 use Rattle.std.proofs.lemmas.Bool.{and_parts}
@@ -36,7 +37,9 @@ pub use Rattle.ed_sources.proofs.Entries.{frame_at, moment_at}
 pub use Rattle.ed_sources.proofs.Papers.{digits_printed, number_shown}
 pub use Rattle.ed_programs.specs.Programs.{SourceRuns}
 pub use Rattle.ed_programs.proofs.Changes.{HasRead, reads_number}
-pub use Rattle.ed_programs.proofs.DataLines.{are_small, data_mark, number_rows}
+pub use Rattle.ed_programs.specs.Lists.{numbers_text, on_lines}
+pub use Rattle.ed_programs.proofs.DataLines.{are_small, data_mark, list_mark, number_rows}
+pub use Rattle.ed_programs.proofs.NumberLists.{ended_small, ended_some, few_codes, few_numbers, list_codes, list_shown}
 pub use Rattle.ed_programs.proofs.NumberLines.{word_mark, plain_mark}
 pub use Rattle.ed_programs.proofs.NumberShown.{HasShown, shows_number, then_on}
 pub use Rattle.ed_programs.proofs.ProgramEntry.{routine_after, stops_from_entry}
@@ -64,6 +67,10 @@ pub counted : {n a b : ℕ} {f : Frame n 0} {r t : Moment} {codes : List ℕ} �
     → Path f b r codes t
 counted {f = f} {r} {t} {codes} path e = subst (λ k. Path f k r codes t) e path
 
+pub journey_counted : {n a b : ℕ} {f : Frame n 0} {r t : Moment} {codes : List ℕ} → Journey f a r codes t → a ≡ b
+    → Journey f b r codes t
+journey_counted {f = f} {r} {t} {codes} journey e = subst (λ k. Journey f k r codes t) e journey
+
 pub stop_counted : {a b at : ℕ} {s : State} {codes : List ℕ} → ComesToStop a s codes at → a ≡ b
     → ComesToStop b s codes at
 stop_counted {at = at} {s} {codes} stop e = subst (λ k. ComesToStop k s codes at) e stop
@@ -81,35 +88,81 @@ calls_own {f = f} {r} i j clear first second low rest =
     on (A i (own i) (short (A_F + 2 * (f.base + i))) first (omega arith))
     (on (G_jumps (i + 1) (own j) second (omega arith)) rest)
 
--- `read` and `print` beside a program, both for its cell j, and what `read` leaves of them
-pub record HasBoth {n : ℕ} (f : Frame n 0) (words : List ℕ) (r p j : ℕ) : Type 0 where
+-- `read` and `print` beside a program, for its cells j and i, and what `read` leaves of them
+pub record HasPair {n : ℕ} (f : Frame n 0) (words : List ℕ) (r p j i : ℕ) : Type 0 where
   pub all : length words ≡ 1024
   pub reads : HasRoutine f words read r (with_h (f.base + j))
-  pub prints : HasRoutine f words print p (with_h (f.base + j))
+  pub prints : HasRoutine f words print p (with_h (f.base + i))
   pub apart : r + 24 ≤ p
 
-pub both_after : {n i j r p v : ℕ} {rest : List ℕ} {f : Frame n 0} {m : Moment} {o : IsIn f m}
-    (read_one : HasRead o i j r v rest) → HasBoth f m.words r p j → HasBoth f read_one.words r p j
-both_after {r = r} {p} read_one both =
-    let other = both.apart in
+pub pair_after : {n k j i r p v : ℕ} {rest : List ℕ} {f : Frame n 0} {m : Moment} {o : IsIn f m}
+    (read_one : HasRead o k j r v rest) → HasPair f m.words r p j i → HasPair f read_one.words r p j i
+pair_after {r = r} {p} read_one pair =
+    let other = pair.apart in
     record {
       all = read_one.still_in.all;
-      reads = read_one.has both.reads (λ k l free. no_working k free);
-      prints = read_one.has both.prints (λ k l free. elsewhere (p + k) (inr (omega arith)));
-      apart = both.apart;
+      reads = read_one.has pair.reads (λ k l free. no_working k free);
+      prints = read_one.has pair.prints (λ k l free. elsewhere (p + k) (inr (omega arith)));
+      apart = pair.apart;
     }
 
 -- the two at the entry of a source, whose program is n cells from 56 on
-pub both_at_entry : (z : Size) (lines : List Line) (n : ℕ) (few : n ≤ 456) (r p j : ℕ)
+pub pair_at_entry : (z : Size) (lines : List Line) (n : ℕ) (few : n ≤ 456) (r p j i : ℕ)
     → (have_places (placed lines) && (has_image (placed lines) read r (with_h (56 + j))
-    && has_image (placed lines) print p (with_h (56 + j)))) ≡ true
-    → 56 + n ≤ r → r + 24 ≤ p → p ≤ 400 → HasBoth (frame_at n z few) (entry_state z lines).store.words r p j
-both_at_entry z lines n few r p j test under apart high =
+    && has_image (placed lines) print p (with_h (56 + i)))) ≡ true
+    → 56 + n ≤ r → r + 24 ≤ p → p ≤ 400 → HasPair (frame_at n z few) (entry_state z lines).store.words r p j i
+pair_at_entry z lines n few r p j i test under apart high =
     let a = and_parts (have_places (placed lines)) _ test in
     let b = and_parts (has_image (placed lines) read r (with_h (56 + j))) _ a.1 in
     record {
       all = all_words z lines;
       reads = routine_after z lines a.0 few read r (with_h (56 + j)) b.0 under (omega arith) (omega arith);
-      prints = routine_after z lines a.0 few print p (with_h (56 + j)) b.1 (omega arith) (omega arith) (omega arith);
+      prints = routine_after z lines a.0 few print p (with_h (56 + i)) b.1 (omega arith) (omega arith) (omega arith);
       apart = apart;
     }
+
+-- `newline` beside them too
+pub record HasThree {n : ℕ} (f : Frame n 0) (words : List ℕ) (r p w j : ℕ) : Type 0 where
+  pub both : HasPair f words r p j j
+  pub lines : HasRoutine f words newline w []
+  pub beyond : p + 51 ≤ w
+
+pub three_read : {n i j r p w v : ℕ} {rest : List ℕ} {f : Frame n 0} {m : Moment} {o : IsIn f m}
+    (read_one : HasRead o i j r v rest) → HasThree f m.words r p w j → HasThree f read_one.words r p w j
+three_read {w = w} read_one three =
+    let apart = three.both.apart in
+    let beyond = three.beyond in
+    record {
+      both = pair_after read_one three.both;
+      lines = read_one.has three.lines (λ k l free. elsewhere (w + k) (inr (omega arith)));
+      beyond = beyond;
+    }
+
+pub three_shown : {n i j r p w v : ℕ} {f : Frame n 0} {m : Moment} {o : IsIn f m} (shown : HasShown o i j p w v)
+    → HasThree f m.words r p w j → HasThree f shown.words r p w j
+three_shown {r = r} shown three =
+    let apart = three.both.apart in
+    let beyond = three.beyond in
+    record {
+      both = record {
+        all = shown.still_in.all;
+        reads = shown.has three.both.reads (λ k l free. elsewhere (r + k) (inl (omega arith)))
+            (λ k l free. elsewhere (r + k) (inl (omega arith)));
+        prints = shown.prints;
+        apart = apart;
+      };
+      lines = shown.lines;
+      beyond = beyond;
+    }
+
+pub three_at_entry : (z : Size) (lines : List Line) (n : ℕ) (few : n ≤ 456) (r p w j : ℕ)
+    → (have_places (placed lines) && (has_image (placed lines) read r (with_h (56 + j))
+    && has_image (placed lines) print p (with_h (56 + j)))) ≡ true
+    → has_image (placed lines) newline w [] ≡ true
+    → 56 + n ≤ r → r + 24 ≤ p → p + 51 ≤ w → w ≤ 450 → HasThree (frame_at n z few) (entry_state z lines).store.words r p w j
+three_at_entry z lines n few r p w j test last under apart beyond high = record {
+  both = pair_at_entry z lines n few r p j j test under apart (omega arith);
+  lines = routine_after z lines (and_parts (have_places (placed lines)) _ test).0 few newline w [] last (omega arith)
+      (omega arith) (omega arith);
+  beyond = beyond;
+}

@@ -5,6 +5,7 @@ pub mod ProgramEntry
 pub mod NumberShown
 pub mod NumberLines
 pub mod DataLines
+pub mod NumberLists
 pub mod Capitals
 pub mod TextLines
 pub mod TextPrograms
@@ -12,6 +13,8 @@ pub mod Changes
 pub mod Kit
 pub mod AddRuns
 pub mod DifferenceRuns
+pub mod CelsiusRuns
+pub mod TotalRuns
 pub mod HelloRuns
 pub mod MultiplyRuns
 pub mod Answered

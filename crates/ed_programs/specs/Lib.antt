@@ -1,4 +1,5 @@
 pub mod Programs
+pub mod Lists
 pub mod Hello
 pub mod Multiply
 pub mod Add
@@ -14,3 +15,5 @@ pub mod TwoParts
 pub mod Interlude
 pub mod Guests
 pub mod Decimals
+pub mod Celsius
+pub mod Total

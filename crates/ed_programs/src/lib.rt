@@ -6,6 +6,7 @@
 #![tactic(auto)]
 
 mod add;
+mod celsius;
 mod checked;
 mod decimals;
 mod difference;
@@ -14,14 +15,17 @@ mod greatest;
 mod hello;
 mod interlude;
 mod letters;
+mod lists;
 mod mirror;
 mod multiply;
 mod refusal;
 mod sort;
 mod squares;
+mod total;
 mod woven;
 
 pub use add::add_program;
+pub use celsius::celsius_program;
 pub use checked::checked_program;
 pub use decimals::decimals_program;
 pub use difference::difference_program;
@@ -34,3 +38,4 @@ pub use multiply::multiply_program;
 pub use refusal::Refusal;
 pub use sort::sort_program;
 pub use squares::squares_program;
+pub use total::total_program;

@@ -15,6 +15,10 @@ pub enum Refusal {
     Count,
     /// A number, or what the program makes of the numbers, is 65,536 or more.
     Number,
+    /// A number before the end of a list would end it, or the one at the end would not.
+    End,
+    /// The numbers of a list do not fit on one line of a source.
+    Line,
     /// The lower number of a fraction is 0 or above 6,553.
     Divisor,
     /// The words of the program would not be in the store beside its orders.

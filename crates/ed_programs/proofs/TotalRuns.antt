@@ -1,0 +1,114 @@
+-- The source of `examples/total.edsac` for any list: its path, and what it prints.
+use Rattle.std.specs.Prelude.{nat_le, nat_lt}
+use Rattle.std.specs.List.{list_all}
+use Rattle.std.proofs.lemmas.Bool.{and_parts}
+use Rattle.ed_words.proofs.Numbers.{le_of}
+use Rattle.ed_words.specs.declared.order_words.TheConstants.{Z_F}
+use Rattle.ed_routines.specs.Digits.{sum}
+use Rattle.ed_sources.proofs.Decimals.{both}
+use Rattle.ed_programs.specs.Total.{adding_orders, total_orders, total_pieces, total_prints, total_text}
+use Rattle.ed_programs.proofs.Kit.{◌≡◌, ◌∙◌, ℕ, ◌+◌, ◌-◌, ◌*◌, ◌<◌, ◌≤◌, refl, sym, arith, lit<, lit≤, true, false}
+use Rattle.ed_programs.proofs.Kit.{List, [], ◌∷◌, ◌++◌, append-nil, length, lt_true, Text}
+use Rattle.ed_programs.proofs.Kit.{Size, parameter_store, settings, Line, entry_state, Settings, Frame, Moment, short}
+use Rattle.ed_programs.proofs.Kit.{state, own, A, S, T, E_jumps, G_jumps, G_stays, Z, on, stay, get_own}
+use Rattle.ed_programs.proofs.Kit.{digits, print_orders, few_digits, print_line, ComesToStop, IsIn, Journey, along, then}
+use Rattle.ed_programs.proofs.Kit.{to_stop, stop_after, frame_at, moment_at, digits_printed, SourceRuns, HasRead}
+use Rattle.ed_programs.proofs.Kit.{reads_number, are_small, numbers_text, list_mark, number_rows, ended_small, ended_some}
+use Rattle.ed_programs.proofs.Kit.{stops_from_entry, Marked, lines_of_pieces, program_runs, to, calling, journey_counted}
+use Rattle.ed_programs.proofs.Kit.{stop_counted}
+use Rattle.ed_programs.proofs.Kit.{HasPair, pair_after, pair_at_entry}
+
+-- its words, with the three cells that change
+abbrev cells : ℕ → ℕ → ℕ → List ℕ
+cells value sum scrap =
+    to 28 0 ∷ calling 74 ∷ to 28 13 ∷ to 12 15 ∷ to 27 9 ∷ to 28 15 ∷ to 28 14 ∷ to 5 14 ∷ to 3 0 ∷ to 5 16 ∷ to 28 10
+    ∷ calling 98 ∷ Z_F ∷ value ∷ sum ∷ 1 ∷ scrap ∷ []
+
+module _ (z : Size) (m : Moment) where
+  abbrev f : Frame 17 0
+  f = frame_at 17 z (lit≤ tt)
+
+  -- at the cell i: the words of the store, the number in the accumulator, the three cells, and the rows left
+  abbrev at : ℕ → List ℕ → ℕ → ℕ → ℕ → ℕ → List ℕ → Moment
+  at i words v value sum scrap tape = record m {
+    words = words;
+    cells = cells value sum scrap;
+    pairs = [];
+    acc = short v;
+    counter = 56 + i;
+    tape = tape;
+  }
+
+  -- the numbers are read and added to a sum, it is printed, and the machine stops
+  stops : (ns : List ℕ) (so_far all value : ℕ) (words : List ℕ) → HasPair f words 74 98 13 14
+      → list_all (λ n. nat_le 1 n) ns ≡ true → so_far + sum ns ≡ all → all < 65536 → (done : ℕ)
+      → ComesToStop (adding_orders ns + print_orders all + 32)
+      (state f (at 0 words 0 value so_far 0 (number_rows (ns ++ 0 ∷ []))) done) (11 ∷ digits all) 69
+  stops [] so_far all value words has least is small done =
+      let start : IsIn f (at 0 words 0 value so_far 0 (number_rows (0 ∷ []))) =
+      record { above = lit≤ tt; all = has.all; own = refl } in
+      let one : HasRead start 0 13 74 0 [] =
+      reads_number start 0 13 0 [] has.reads refl (lit< tt) (lit< tt) (lit≤ tt) refl refl refl in
+      let read = pair_after one has in
+      let last : IsIn f (at 10 one.words 0 0 so_far 131071 []) =
+      record { above = lit≤ tt; all = read.all; own = refl } in
+      let same : so_far ≡ all = omega (arith, is) in
+      let number = get_own 0 one.words 56 (cells 0 so_far 131071) 14 (lit< tt) ∙ same in
+      stop_counted (to_stop (then one.journey
+      (then (along (on (A 2 (own 13) (short 0) refl (omega arith))
+      (on (S 3 (own 15) (short 131071) refl (omega arith))
+      (on (G_jumps 4 (own 9) refl (omega arith))
+      (on (T 9 (own 16) _ refl refl) stay)))))
+      (print_line last {v = all} 10 14 read.prints number (lit< tt) small (lit≤ tt) refl refl refl)))
+      (Z 12 Z_F refl refl) done) (omega arith)
+  stops (n ∷ ns) so_far all value words has least is small done =
+      let l = and_parts (nat_le 1 n) (list_all (λ n. nat_le 1 n) ns) least in
+      let some = le_of 1 n l.0 in
+      let rest : List ℕ = number_rows (ns ++ 0 ∷ []) in
+      let start : IsIn f (at 0 words 0 value so_far 0 (digits n ++ 17 ∷ rest)) =
+      record { above = lit≤ tt; all = has.all; own = refl } in
+      let one : HasRead start 0 13 74 n rest =
+      reads_number start 0 13 n rest has.reads refl (omega (arith, is, small)) (lit< tt) (lit≤ tt) refl refl refl in
+      let turn : Journey f (13 * length (digits n) + 20)
+      (at 0 words 0 value so_far 0 (digits n ++ 17 ∷ rest)) [] (at 0 one.words 0 n (so_far + n) 0 rest) =
+      journey_counted (then one.journey (along (on (A 2 (own 13) (short n) refl (omega arith))
+      (on (S 3 (own 15) (short (n - 1)) refl (omega arith))
+      (on (G_stays 4 (own 9) refl (omega arith))
+      (on (A 5 (own 15) (short n) refl (omega arith))
+      (on (A 6 (own 14) (short (so_far + n)) refl (omega arith))
+      (on (T 7 (own 14) _ refl refl)
+      (on (E_jumps 8 (own 0) refl (lit< tt)) stay))))))))) (omega arith) in
+      stop_counted (stop_after (turn.leads done) refl
+      (stops ns (so_far + n) all n one.words (pair_after one has) l.1 (omega (arith, is)) small
+      (done + (13 * length (digits n) + 20)))) (omega arith)
+
+sum_bounds : (ns : List ℕ) → sum ns < 65536 → are_small ns ≡ true
+sum_bounds [] l = refl
+sum_bounds (n ∷ ns) l =
+    both (nat_lt n 65536) (are_small ns) (lt_true n 65536 (omega arith)) (sum_bounds ns (omega arith))
+
+module _ (ns : List ℕ) (least : list_all (λ n. nat_le 1 n) ns ≡ true) (small : sum ns < 65536)
+    (fits : length (numbers_text (ns ++ 0 ∷ [])) ≤ 113) where
+  -- the line with data
+  abbrev marks : List (Marked false)
+  marks = list_mark 24 (ns ++ 0 ∷ []) (lit≤ tt) (ended_some ns 0) fits
+      (ended_small ns 0 (sum_bounds ns small) (lit< tt)) ∷ []
+
+  abbrev texts : List Text
+  texts = numbers_text (ns ++ 0 ∷ []) ∷ []
+
+  abbrev lines : List Line
+  lines = lines_of_pieces false total_pieces texts marks
+
+  pub each_total : (s : Settings) → SourceRuns s (total_text ns) (total_orders ns) 69 (total_prints ns)
+  unfolding settings parameter_store
+  each_total s =
+      let z : Size = s.size in
+      let few = few_digits (sum ns) in
+      program_runs s false total_pieces texts marks refl
+      (stops_from_entry z lines refl 17 (lit≤ tt) (cells 0 0 0) refl refl (number_rows (ns ++ 0 ∷ []))
+      (sym (append-nil (number_rows (ns ++ 0 ∷ []))))
+      (stops z (moment_at (entry_state z lines)) ns 0 (sum ns) 0 (entry_state z lines).store.words
+      (pair_at_entry z lines 17 (lit≤ tt) 74 98 13 14 refl (lit≤ tt) (lit≤ tt) (lit≤ tt)) least (omega arith)
+      small (entry_state z lines).orders))
+      (omega arith) (omega arith) (digits_printed (sum ns) small)

@@ -1,0 +1,25 @@
+use Rattle.std.proofs.Common.{ap, subst, sym, ℕ, List, [], ◌∷◌}
+use Rattle.ed_words.specs.Texts.{Text}
+use Rattle.ed_sources.specs.CallSources.{woven_text}
+use Rattle.ed_programs.specs.Programs.{GivesProgram}
+use Rattle.ed_programs.specs.Celsius.{celsius_pieces, celsius_text}
+use Rattle.ed_programs.proofs.CelsiusRuns.{each_celsius}
+use Rattle.ed_programs.proofs.DataLines.{all_fit}
+use Rattle.ed_programs.proofs.NumberLists.{IsList, is_list}
+use Rattle.ed_programs.proofs.Texts.{prints_as, written}
+use Rattle.ed_programs.proofs.celsius.celsius_program.Goals as goal
+
+pub returns : goal.returns
+returns c =
+    let ns : List ℕ = c.args.temperatures.now in
+    let end : ℕ = c.args.end in
+    let taken = c.in_ok-rows.ensures.ok in
+    let is : IsList 32 ns end = is_list 32 ns end taken in
+    let gives = written _ c.program_of_text.result _ (celsius_text ns end)
+    (ap (λ (t : Text). woven_text celsius_pieces (t ∷ [])) c.in_ok-rows.ensures.rows) c.program_of_text.ensures
+    c.format.ensures.ok in
+    record {
+      is = subst (λ cause. GivesProgram cause (celsius_text ns end) c.program_of_text.result) (sym taken) gives;
+      law = prints_as _ c.program_of_text.result gives
+          (each_celsius ns end (all_fit ns c.type_inv.temperatures) is.all is.low is.fits);
+    }
