@@ -13,7 +13,8 @@ use Rattle.ed_printer.specs.Paper.{paper_from, struck_bytes}
 use Rattle.ed_printer.specs.declared.printer.Shift.TheVariants.{Letters}
 use Rattle.ed_syntax.specs.Reading.Grammar.{row}
 use Rattle.ed_sources.proofs.Decimals.{among, both}
-use Rattle.ed_programs.specs.Hello.{hello_rows, is_capital, is_row_byte, letters_refusal}
+use Rattle.ed_programs.specs.Hello.{is_capital, letters_refusal}
+use Rattle.ed_programs.proofs.RowTexts.{is_row_byte, text_rows}
 use Rattle.ed_programs.specs.declared.refusal.Refusal.TheVariants as refusal
 
 -- 1 to `most` capital letters
@@ -74,7 +75,7 @@ are_rows (b ∷ q) h =
 
 -- letters are printed as they are, and a new line follows
 pub letters_shown : (q : Text) → list_all (λ b. nat_le 65 b && nat_le b 90) q ≡ true
-    → paper_from Letters (hello_rows q ++ 18 ∷ 24 ∷ []) ≡ q ++ 13 ∷ 10 ∷ []
+    → paper_from Letters (text_rows q ++ 18 ∷ 24 ∷ []) ≡ q ++ 13 ∷ 10 ∷ []
 letters_shown [] h = refl
 letters_shown (b ∷ q) h =
     let p = and_parts (nat_le 65 b && nat_le b 90) (list_all (λ b. nat_le 65 b && nat_le b 90) q) h in

@@ -2,7 +2,7 @@
 use Rattle.std.proofs.Common.{nat_le, nat_lt, Option, pos, reverse, take}
 use Rattle.std.specs.List.{list_all}
 use Rattle.std.proofs.lemmas.List.{length-map}
-use Rattle.ed_words.proofs.Numbers.{le_true, lt_false}
+use Rattle.ed_words.proofs.Numbers.{le_of, le_true, lt_false}
 use Rattle.ed_words.specs.Decimals.{value}
 use Rattle.ed_codes.specs.Spelling.{row_of}
 use Rattle.ed_syntax.specs.Parts.{run, sign}
@@ -21,12 +21,12 @@ use Rattle.ed_machine.proofs.Kit.Places.{IsOutside}
 use Rattle.ed_routines.proofs.Lines.{newline_line}
 use Rattle.ed_sources.proofs.Blocks.{order_at}
 use Rattle.ed_sources.proofs.Said.{order, said, stop}
-use Rattle.ed_programs.specs.Hello.{EachTextIsPrinted, IsRows, hello_data, hello_orders, hello_pieces, hello_prints}
-use Rattle.ed_programs.specs.Hello.{hello_rows}
+use Rattle.ed_programs.specs.Hello.{EachTextIsPrinted, hello_data, hello_orders, hello_pieces, hello_prints}
 use Rattle.ed_programs.specs.Hello.{hello_text, is_capital, of_letters}
 use Rattle.ed_programs.proofs.Capitals.{are_rows, letters_shown}
 use Rattle.ed_link.proofs.Extents.{ExtentList, counter, one_by_one, past}
 use Rattle.ed_programs.proofs.ProgramEntry.{stops_by}
+use Rattle.ed_programs.proofs.RowTexts.{is_row_byte, rows_spelled, text_rows}
 use Rattle.ed_programs.proofs.SourceRuns.{read_runs}
 use Rattle.ed_programs.proofs.TextLines.{IsAround, all_plain, number_says, text_mark}
 use Rattle.ed_programs.proofs.TextPrograms.{Spells, before_text, last_lines, newline_after, text_sound, text_stands}
@@ -198,12 +198,18 @@ ends c cs few small z =
     (newline_after z lines 69 rows (lit≤ tt) (omega arith) front refl refl (lit≤ tt) (lit≤ tt)) c cs
     (text_stands z lines 69 rows (lit≤ tt) (omega arith) front refl refl small) refl (entry_state z lines).orders)
 
-module _ (b : ℕ) (r : Text) (o : IsRows (b ∷ r)) where
+-- 1 to 41 bytes that spell rows
+record IsRowText (q : Text) : Type 0 where
+  some : 1 ≤ length q
+  few : length q ≤ 41
+  spelled : list_all is_row_byte q ≡ true
+
+module _ (b : ℕ) (r : Text) (o : IsRowText (b ∷ r)) where
   abbrev q : Text
   q = b ∷ r
 
   abbrev rows : List ℕ
-  rows = hello_rows q
+  rows = text_rows q
 
   long : length rows ≡ length q
   long = length-map q (λ b. row (row_of b))
@@ -235,12 +241,19 @@ module _ (b : ℕ) (r : Text) (o : IsRows (b ∷ r)) where
   text_runs s =
       let e = length-append rows (18 ∷ 24 ∷ []) in
       read_runs s true hello_pieces (hello_data q) marks refl (faultless rows few s.size)
-      (ends (row (row_of b)) (hello_rows r) few (all_plain q o.spelled).codes s.size) (omega (arith, e, few))
+      (ends (row (row_of b)) (text_rows r) few (all_plain q o.spelled).codes s.size) (omega (arith, e, few))
       (omega (arith, long)) refl
 
+row_text_runs : (s : Settings) (q : Text) → IsRowText q
+    → SourceRuns s (hello_text q) (7 * length q + 9) 67 (paper (text_rows q ++ 18 ∷ 24 ∷ []))
+row_text_runs s [] o = let some = o.some in absurd (omega arith)
+row_text_runs s (b ∷ r) o = text_runs b r o s
+
 pub each_text : EachTextIsPrinted
-each_text s [] o = let some = o.some in absurd (omega arith)
-each_text s (b ∷ r) o = text_runs b r o s
+each_text s q rows are few =
+    let spelled = rows_spelled are in
+    subst (λ (rs : List ℕ). SourceRuns s (hello_text q) (7 * length q + 9) 67 (paper (rs ++ 18 ∷ 24 ∷ []))) spelled.1
+    (row_text_runs s q (record { some = le_of 1 (length q) are.some; few = few; spelled = spelled.0 }))
 
 -- 1 to 40 capital letters are printed as they are, on a line
 pub each_name : (letters : Text) → 1 ≤ length letters → length letters ≤ 40 → list_all is_capital letters ≡ true
@@ -250,5 +263,5 @@ each_name letters some few capital s =
     subst (λ k. SourceRuns s (hello_text (of_letters letters)) k 67 (hello_prints letters)) count
     (subst (λ (t : Text). SourceRuns s (hello_text (of_letters letters)) (7 * length (of_letters letters) + 9) 67 t)
     (letters_shown letters capital)
-    (each_text s (of_letters letters)
+    (row_text_runs s (of_letters letters)
     (record { some = omega arith; few = omega arith; spelled = are_rows letters capital })))

@@ -6,6 +6,7 @@ pub mod NumberShown
 pub mod NumberLines
 pub mod DataLines
 pub mod NumberLists
+pub mod RowTexts
 pub mod Capitals
 pub mod TextLines
 pub mod TextPrograms

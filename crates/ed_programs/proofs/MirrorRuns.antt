@@ -21,7 +21,8 @@ use Rattle.ed_run.specs.declared.settings.Settings.{Settings}
 use Rattle.ed_syntax.specs.Reading.Grammar.{row as code_of, spells}
 use Rattle.ed_routines.specs.Digits.{digits}
 use Rattle.ed_sources.proofs.Decimals.{decimal_is, few_bytes, written}
-use Rattle.ed_programs.specs.Hello.{hello_rows, is_capital}
+use Rattle.ed_programs.specs.Hello.{is_capital}
+use Rattle.ed_programs.proofs.RowTexts.{text_rows}
 use Rattle.ed_programs.specs.Mirror.{mirror_cost, mirror_orders, mirror_pieces, mirror_prints, mirror_text}
 use Rattle.ed_programs.specs.Tapes.{TapeRuns}
 use Rattle.ed_programs.proofs.Capitals.{AreLetters, are_rows, letter}
@@ -63,11 +64,11 @@ some_row : (o : Option ℕ) → spells o ≡ true → o ≡ Some (code_of o)
 some_row (Some code) h = refl
 some_row None h = cc
 
-letters_spell : (q : Text) → list_all (λ b. spells (row_of b)) q ≡ true → Spells q (hello_rows q)
+letters_spell : (q : Text) → list_all (λ b. spells (row_of b)) q ≡ true → Spells q (text_rows q)
 letters_spell [] h = none
 letters_spell (b ∷ q) h =
     let p = and_parts (spells (row_of b)) (list_all (λ b. spells (row_of b)) q) h in
-    row b (code_of (row_of b)) q (hello_rows q) (some_row (row_of b) p.0) (letters_spell q p.1)
+    row b (code_of (row_of b)) q (text_rows q) (some_row (row_of b) p.0) (letters_spell q p.1)
 
 -- the last line: the number of letters, and the letters
 abbrev mirror_line : Text → Text
@@ -78,7 +79,7 @@ text_is letters = ap (λ (t : Text). front ++ t) (append_assoc (decimal (length 
 
 module _ (letters : Text) (o : AreLetters 9 letters) where
   abbrev codes : List ℕ
-  codes = hello_rows letters
+  codes = text_rows letters
 
   spelled : list_all (λ b. spells (row_of b)) letters ≡ true
   spelled = (all_plain letters (are_rows letters o.capital)).spelled
@@ -102,7 +103,7 @@ module _ (letters : Text) (o : AreLetters 9 letters) where
 
 -- letters are printed as they are, in whatever order
 printed_back : (q : Text) (more : List ℕ) → list_all is_capital q ≡ true
-    → paper_from Letters (reverse (hello_rows q) ++ more) ≡ reverse q ++ paper_from Letters more
+    → paper_from Letters (reverse (text_rows q) ++ more) ≡ reverse q ++ paper_from Letters more
 printed_back [] more h = refl
 printed_back (b ∷ q) more h =
     let p = and_parts (is_capital b) (list_all is_capital q) h in
@@ -110,8 +111,8 @@ printed_back (b ∷ q) more h =
     let a = l.struck_is in let c = l.no_figures in let d = l.no_letters in
     let code : ℕ = code_of (row_of b) in
     let first : paper_from Letters (code ∷ more) ≡ b ∷ paper_from Letters more = rw (c, d, a) refl in
-    ap (λ (x : List ℕ). paper_from Letters (x ++ more)) (reverse-append (code ∷ []) (hello_rows q))
-    ∙ ap (paper_from Letters) (append_assoc (reverse (hello_rows q)) (code ∷ []) more)
+    ap (λ (x : List ℕ). paper_from Letters (x ++ more)) (reverse-append (code ∷ []) (text_rows q))
+    ∙ ap (paper_from Letters) (append_assoc (reverse (text_rows q)) (code ∷ []) more)
     ∙ printed_back q (code ∷ more) p.1
     ∙ ap (λ (t : Text). reverse q ++ t) first
     ∙ sym (append_assoc (reverse q) (b ∷ []) (paper_from Letters more))
@@ -122,7 +123,7 @@ pub each_word : (s : Settings) (letters : Text) → AreLetters 9 letters
 each_word s [] o = absurd (omega (arith, o.some))
 each_word s (b ∷ q) o =
     let letters : Text = b ∷ q in
-    let codes : List ℕ = hello_rows letters in
+    let codes : List ℕ = text_rows letters in
     let long : length codes ≡ length letters = length-map letters (λ b. code_of (row_of b)) in
     let back = length-reverse codes in
     let are : AreCodes codes = are_codes codes (all_plain letters (are_rows letters o.capital)).codes in
@@ -141,7 +142,7 @@ each_word s (b ∷ q) o =
     omega (arith, bytes, number, together, few, line, all, whole, before) in
     let runs = tape_runs s (mirror_text letters) (mirror_rows (length codes ∷ codes))
     (mirror_entry (length codes ∷ codes)) reads short (mirror_arrives s.size (length codes ∷ codes))
-    (mirror_ends s (code_of (row_of b)) (hello_rows q) are (omega (arith, long, few)))
+    (mirror_ends s (code_of (row_of b)) (text_rows q) are (omega (arith, long, few)))
     (omega (arith, back, long, few)) in
     let count : 21 * length codes + 2 + 1 ≡ mirror_orders letters = omega (arith, long) in
     let shown : paper (reverse codes) ≡ reverse letters =

@@ -28,7 +28,7 @@ use Rattle.ed_sources.proofs.Decimals.{among, are, both, decimal_is, digit_bytes
 use Rattle.ed_sources.proofs.Decimals.{some_digit}
 use Rattle.ed_sources.proofs.Decimals.{value_is, written}
 use Rattle.ed_sources.proofs.Said.{a_number}
-use Rattle.ed_programs.specs.Hello.{hello_rows, is_row_byte}
+use Rattle.ed_programs.proofs.RowTexts.{is_row_byte, text_rows}
 use Rattle.ed_programs.proofs.NumberLines.{is_short_label}
 use Rattle.ed_programs.proofs.SourceLines.{Marked, by_parts}
 
@@ -61,7 +61,7 @@ pub record Plain (q : Text) : Type 0 where
   pub line : list_all is_line_byte q ≡ true
   pub quote : has_quote q ≡ false
   pub spelled : list_all (λ b. spells (row_of b)) q ≡ true
-  pub codes : list_all (λ c. nat_lt c 32) (hello_rows q) ≡ true
+  pub codes : list_all (λ c. nat_lt c 32) (text_rows q) ≡ true
 
 pub all_plain : (q : Text) → list_all is_row_byte q ≡ true → Plain q
 all_plain [] h = record { line = refl; quote = refl; spelled = refl; codes = refl }
@@ -79,7 +79,7 @@ all_plain (b ∷ q) h =
 pub text_says : (two : Bool) (k : ℕ) (label q : Text) → 2 ≤ k → is_short_label two label ≡ true → 1 ≤ length q
     → length q ≤ 90 → list_all is_row_byte q ≡ true
     → line_of two k (label ++ (codes ": text " ++ 34 ∷ (q ++ 34 ∷ [])))
-    ≡ Ok (record { label = Some label; statement = Some (statements.Text (array (hello_rows q))) })
+    ≡ Ok (record { label = Some label; statement = Some (statements.Text (array (text_rows q))) })
 text_says true k [] q later fits some few rows = absurd (true≢false (sym fits))
 text_says false k [] q later fits some few rows = absurd (true≢false (sym fits))
 text_says two k (b ∷ r) q later fits some few rows =
@@ -110,7 +110,7 @@ text_mark {two} k label q later fits some few rows = record {
   number = k;
   text = label ++ (codes ": text " ++ 34 ∷ (q ++ 34 ∷ []));
   label = Some label;
-  statement = statements.Text (array (hello_rows q));
+  statement = statements.Text (array (text_rows q));
   says = text_says two k label q later fits some few rows;
 }
 

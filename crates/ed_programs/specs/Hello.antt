@@ -4,8 +4,7 @@ use Rattle.std.specs.Prelude.{◌==◌, ◌||◌, if◌then◌else◌, Option, S
 use Rattle.std.specs.Fmt.{decimal}
 use Rattle.std.specs.List.{list_all}
 use Rattle.ed_words.specs.Texts.{Text}
-use Rattle.ed_codes.specs.Spelling.{row_of}
-use Rattle.ed_syntax.specs.Reading.Grammar.{row, spells}
+use Rattle.ed_syntax.specs.Forms.{AreRowsOf}
 use Rattle.ed_printer.specs.Paper.{paper}
 use Rattle.ed_run.specs.declared.settings.Settings.{Settings}
 use Rattle.ed_sources.specs.CallSources.{woven_text}
@@ -43,25 +42,12 @@ letters_refusal most letters =
 abbrev pub hello_refusal : Text → Option Refusal
 hello_refusal letters = letters_refusal 40 letters
 
--- the rows of the text
-abbrev pub hello_rows : Text → List ℕ
-hello_rows q = map (λ b. row (row_of b)) q
-
--- a byte of ASCII that spells a row
-abbrev pub is_row_byte : ℕ → Bool
-is_row_byte b = nat_lt b 128 && spells (row_of b)
-
--- 1 to 41 of them
-pub record IsRows (q : Text) : Type 0 where
-  pub some : 1 ≤ length q
-  pub few : length q ≤ 41
-  pub spelled : list_all is_row_byte q ≡ true
-
--- for all rows, the program prints them and a new line, in 7 orders a row and 9 more, and stops at 67
+-- for every text of up to 41 bytes that spell rows, the program prints these rows and a new line, in 7 orders a row and 9
+-- more, and stops at 67
 abbrev pub EachTextIsPrinted : Type 0
 EachTextIsPrinted =
-    (s : Settings) (q : Text) → IsRows q
-    → SourceRuns s (hello_text q) (7 * length q + 9) 67 (paper (hello_rows q ++ 18 ∷ 24 ∷ []))
+    (s : Settings) (q : Text) (rows : List ℕ) → AreRowsOf q rows → length q ≤ 41
+    → SourceRuns s (hello_text q) (7 * length q + 9) 67 (paper (rows ++ 18 ∷ 24 ∷ []))
 
 -- the letters, then carriage return and line feed
 abbrev pub hello_prints : Text → Text

@@ -1,0 +1,65 @@
+-- Texts whose bytes spell rows of tape.
+use Rattle.std.proofs.Common.{◌≡◌, ◌∙◌, ℕ, ◌<◌, ◌×◌, Bool, true, false, true≢false, List, [], ◌∷◌, refl, sym, ap, subst}
+use Rattle.std.proofs.Common.{arith, length, map, nat_le, nat_lt}
+use Rattle.std.proofs.Math.ListN.{get_or}
+use Rattle.std.specs.Prelude.{◌==◌, ◌&&◌, ◌-◌, if◌then◌else◌, position, Option, Some}
+use Rattle.std.specs.List.{list_all}
+use Rattle.std.proofs.lemmas.Bool.{and_parts}
+use Rattle.std.proofs.lemmas.List.Folds.{list_all_at}
+use Rattle.std.proofs.lemmas.List.Quantifiers.{position-Some}
+use Rattle.ed_words.proofs.Numbers.{eq_of, le_of, lt_true, lt_of}
+use Rattle.ed_words.specs.Texts.{Text}
+use Rattle.ed_codes.specs.Spelling.{letters, row_of}
+use Rattle.ed_syntax.specs.Forms.{AreRowsOf}
+use Rattle.ed_syntax.specs.Reading.Grammar.{row, spells}
+use Rattle.ed_sources.proofs.Decimals.{both}
+
+-- the rows of a text
+abbrev pub text_rows : Text → List ℕ
+text_rows q = map (λ b. row (row_of b)) q
+
+-- a byte of ASCII that spells a row
+abbrev pub is_row_byte : ℕ → Bool
+is_row_byte b = nat_lt b 128 && spells (row_of b)
+
+-- a letter of the tape is below 128
+letter_below : (i : ℕ) → i < length letters → get_or letters i 0 < 128
+letter_below i l = by_test (nat_lt (get_or letters i 0) 128) refl
+  where
+    by_test : (t : Bool) → nat_lt (get_or letters i 0) 128 ≡ t → get_or letters i 0 < 128
+    by_test true e = lt_of (get_or letters i 0) 128 e
+    by_test false e =
+        absurd (true≢false (sym refl ∙ list_all_at (λ letter. nat_lt letter 128) letters i 0 l e))
+
+-- a byte that spells a row is below 128
+row_below : (b r : ℕ) → row_of b ≡ Some r → b < 128
+row_below b r is = by_digit (nat_le 48 b && nat_le b 57) refl
+  where
+    by_digit : (t : Bool) → (nat_le 48 b && nat_le b 57) ≡ t → b < 128
+    by_digit true e = let low = le_of b 57 (and_parts (nat_le 48 b) (nat_le b 57) e).1 in omega (arith, low)
+    by_digit false e =
+        let there : position (λ letter. letter == b) letters ≡ Some r =
+        subst (λ t. (if t then Some (b - 48) else position (λ letter. letter == b) letters) ≡ Some r) e is in
+        let found = position-Some (λ letter. letter == b) letters r 0 there in
+        let same : get_or letters r 0 ≡ b = eq_of (get_or letters r 0) b found.1.0 in
+        subst (λ c. c < 128) same (letter_below r found.0)
+
+-- the bytes of a text that spell rows are such bytes, and these rows are the text's
+spelled : (q : Text) (rows : List ℕ) → map row_of q ≡ map (λ r. Some r) rows
+    → (list_all is_row_byte q ≡ true) × (text_rows q ≡ rows)
+spelled [] [] e = (refl, refl)
+spelled [] (r ∷ rows) e = absurd (cc)
+spelled (b ∷ q) [] e = absurd (cc)
+spelled (b ∷ q) (r ∷ rows) e =
+    let first : row_of b ≡ Some r = cc in
+    let more : map row_of q ≡ map (λ r. Some r) rows = cc in
+    let rest = spelled q rows more in
+    let low : nat_lt b 128 ≡ true = lt_true b 128 (row_below b r first) in
+    let here : is_row_byte b ≡ true = both _ _ low (ap spells first) in (
+      both _ _ here rest.0,
+      (λ i. row (first i) ∷ rest.1 i),
+    )
+
+pub rows_spelled : {q : Text} {rows : List ℕ} → AreRowsOf q rows
+    → (list_all is_row_byte q ≡ true) × (text_rows q ≡ rows)
+rows_spelled {q} {rows} are = spelled q rows are.each
