@@ -1,5 +1,5 @@
 -- Texts whose bytes spell rows of tape.
-use Rattle.std.proofs.Common.{◌≡◌, ◌∙◌, ℕ, ◌<◌, ◌×◌, Bool, true, false, true≢false, List, [], ◌∷◌, refl, sym, ap, subst}
+use Rattle.std.proofs.Common.{◌≡◌, ◌∙◌, ℕ, ◌<◌, Bool, true, false, true≢false, List, [], ◌∷◌, refl, sym, ap, subst}
 use Rattle.std.proofs.Common.{arith, length, map, nat_le, nat_lt}
 use Rattle.std.proofs.Math.ListN.{get_or}
 use Rattle.std.specs.Prelude.{◌==◌, ◌&&◌, ◌-◌, if◌then◌else◌, position, Option, Some}
@@ -41,7 +41,7 @@ row_below b r is = by_digit (nat_le 48 b && nat_le b 57) refl
         let there : position (λ letter. letter == b) letters ≡ Some r =
         subst (λ t. (if t then Some (b - 48) else position (λ letter. letter == b) letters) ≡ Some r) e is in
         let found = position-Some (λ letter. letter == b) letters r 0 there in
-        let same : get_or letters r 0 ≡ b = eq_of (get_or letters r 0) b found.1.0 in
+        let same : get_or letters r 0 ≡ b = eq_of (get_or letters r 0) b found.1 in
         subst (λ c. c < 128) same (letter_below r found.0)
 
 -- the bytes of a text that spell rows are such bytes, and these rows are the text's
