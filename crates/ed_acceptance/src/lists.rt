@@ -1,9 +1,8 @@
 //! Each program that reads a list from its tape, compared with a plain computation.
 
-use crate::support::answers;
+use crate::support::{answers, expect_no_program};
 use ed_programs::{Refusal, celsius_program, total_program};
 use std::alloc::Global;
-use std::process::Abort;
 use std::test::Fail;
 
 /// Temperatures in degrees Fahrenheit, and a number below 32 that ends them.
@@ -142,27 +141,17 @@ fn total_prints_the_sum(rt: HostRuntime) -> Result<(), Fail> {
     Ok(())
 }
 
-/// Checks that there is no program for a list, for a cause.
-fn expect_refused(
-    rt: &impl Abort,
-    program: Result<String, Refusal>,
-    cause: Refusal,
-    numbers: &[u16],
-) {
-    assert!(rt; program == Err(cause), "{numbers:?}");
-}
-
 #[test]
 fn other_temperatures_are_refused(rt: HostRuntime) {
     for (temperatures, end, cause) in &NO_TEMPERATURES {
         let program = celsius_program(rt.alloc(), temperatures, *end);
-        expect_refused(&rt, program, *cause, temperatures);
+        expect_no_program(&rt, program, *cause, temperatures);
     }
 }
 
 #[test]
 fn other_lists_are_not_added(rt: HostRuntime) {
     for (numbers, cause) in &NOT_ADDED {
-        expect_refused(&rt, total_program(rt.alloc(), numbers), *cause, numbers);
+        expect_no_program(&rt, total_program(rt.alloc(), numbers), *cause, numbers);
     }
 }

@@ -1,6 +1,6 @@
 //! Each program compared with a plain computation.
 
-use crate::support::{answers, expect_that};
+use crate::support::{answers, expect_no_program, expect_that};
 use ed_programs::{
     Refusal, add_program, decimals_program, difference_program, fraction_program, greatest_program,
     hello_program, interlude_program, mirror_program, multiply_program, sort_program,
@@ -329,16 +329,6 @@ fn other_letters_are_not_mirrored(rt: HostRuntime) {
     for (letters, cause) in &NO_MIRROR {
         expect_refused(&rt, mirror_program(rt.alloc(), letters), *cause, letters);
     }
-}
-
-/// Checks that there is no program for numbers, for a cause.
-fn expect_no_program(
-    rt: &impl Abort,
-    program: Result<String, Refusal>,
-    cause: Refusal,
-    numbers: &[u16],
-) {
-    assert!(rt; program == Err(cause), "{numbers:?}");
 }
 
 #[test]

@@ -190,3 +190,13 @@ pub fn expect_usage(
     }
     Ok(())
 }
+
+/// Checks that there is no program for numbers, for a cause.
+pub fn expect_no_program(
+    rt: &impl Abort,
+    program: Result<String, Refusal>,
+    cause: Refusal,
+    numbers: &[u16],
+) {
+    assert!(rt; program == Err(cause), "{numbers:?}");
+}
