@@ -117,3 +117,8 @@ def read_all(screen):
 
 def script(folder):
     return str(Path(folder) / "edsac")
+
+
+def as_nobody():
+    """How to run a command as a user whom permissions hold, if this one is not."""
+    return {"user": 65534, "group": 65534, "extra_groups": []} if os.geteuid() == 0 else {}
