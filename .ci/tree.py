@@ -244,6 +244,20 @@ def end(script, failures, said):
     print(said)
 
 
+def try_all(script, checks, said):
+    """Runs tries, each a name, what was got and what is wanted, and ends with those that differ or with what was tried."""
+    tried, differ = 0, 0
+    for check in checks:
+        for name, got, want in check():
+            tried += 1
+            if got != want:
+                differ += 1
+                print(f"{script}: {name}\n  wanted {want!r}\n  got    {got!r}")
+    if differ:
+        sys.exit(f"{script}: {differ} of {tried} tries differ")
+    print(f"{said}: {tried} tries, all as they should be.")
+
+
 # ---- runs
 
 
