@@ -2,8 +2,8 @@
 // Draws the store and the tape, and makes the bell's sound. The compiled machine hands over what is drawn.
 const COLOURS = {
     dot: '#2c9b4a', dark: '#16301f', lit: '#fff3c4', litDark: '#8f8046', band: '#3d3719',
-    counter: '#ff8f7a', named: '#8ccbff', paper: '#e9dcae', ink: '#1d1a10', mark: '#ffcf3f',
-    old: '#a39c80', text: '#f0e9d2', ground: '#0b0e0a',
+    counter: '#ff8f7a', named: '#8ccbff', paper: '#efe3bf', ink: '#1d1a10', mark: '#ffcf3f', read: '#ffe9a3',
+    old: '#7a7050', brass: '#9a7425', lens: '#dfe8ea', ground: '#0f1511',
 };
 
 const binary = (value, digits) => value.toString(2).padStart(digits, '0');
@@ -43,17 +43,24 @@ class StoreView {
         const wide = box.clientWidth;
         const scale = window.devicePixelRatio || 1;
         const whole = (length) => Math.max(1, Math.floor(length * scale)) / scale;
-        const gap = whole(Math.max(6, wide / 160));
-        const across = wide < 640 ? 4 : 8, down = Math.ceil(tanks / across);
-        const widest = (wide - gap * (across + 1)) / (35 * across);
-        const highest = this.isOneScreen() ? (box.clientHeight - 2 - gap * (down + 1)) / (16 * down) : Infinity;
-        const dot = whole(widest), high = whole(Math.min(Math.max(widest, 2), highest));
-        const [tankWide, tankHigh] = [35 * dot + gap, 16 * high + gap];
-        return { wide, across, gap, dot, high, scale, tankWide, tankHigh, height: down * tankHigh + gap };
+        const gap = whole(Math.max(4, wide / 300));
+        const sizeOf = (across) => {
+            const down = Math.ceil(tanks / across);
+            const widest = (wide - gap * (across + 1)) / (35 * across);
+            const highest = this.isOneScreen() ? (box.clientHeight - gap * (down + 1)) / (16 * down) : Infinity;
+            return { across, down, dot: whole(widest), high: whole(Math.min(Math.max(widest, 2), highest)) };
+        };
+        const sizes = (wide < 640 ? [4] : [16, 8]).map(sizeOf); // tanks side by side
+        const least = ({ dot, high }) => Math.min(dot, high);
+        const [{ across, down, dot, high }] = sizes.sort((one, two) => least(two) - least(one));
+        const side = whole((wide - 35 * dot * across) / (across + 1)); // between tanks that are side by side
+        const [tankWide, tankHigh] = [35 * dot + side, 16 * high + gap];
+        return { wide, across, gap, side, dot, high, scale, tankWide, tankHigh, height: down * tankHigh + gap };
     }
 
-    // The order at the counter has a solid frame, and the location that it names a broken one.
-    draw(shown, before, small, named) {
+    // The order at the counter has a solid frame, the location that it names a broken one, and what is in the lens a light
+    // one.
+    draw(shown, before, small, named, seen) {
         const tanks = small ? 16 : 32;
         const plan = this.plan(tanks);
         const { context, isNew } = fitted(this.canvas, plan.wide, plan.height);
@@ -63,7 +70,7 @@ class StoreView {
             this.tanks = tanks;
             context.clearRect(0, 0, plan.wide, plan.height);
         }
-        this.frames.forEach((place) => this.unframe(context, plan, place));
+        this.frames.forEach(([first, last]) => this.unframe(context, plan, first, last));
         for (let pair = 0; pair < tanks * 16; pair++) {
             const [even, odd, middle] = [shown.words[2 * pair], shown.words[2 * pair + 1], shown.digits[pair]];
             const changed = [before && before.words[2 * pair + 1] !== odd, before && before.digits[pair] !== middle,
@@ -74,15 +81,18 @@ class StoreView {
                 this.drawRow(context, plan, pair, [odd, middle, even], changed);
             }
         }
-        this.frames = [named, shown.counter].filter((place) => place >= 0 && place < tanks * 32);
-        this.frames.forEach((place) => this.frame(context, plan, place, place === shown.counter));
+        const spans = spansOf(seen);
+        spans.forEach((span) => this.frameLens(context, plan, span));
+        const places = [named, shown.counter].filter((place) => place >= 0 && place < tanks * 32);
+        places.forEach((place) => this.frame(context, plan, place, place === shown.counter));
+        this.frames = [...spans, ...places.map((place) => [place >> 1, place >> 1])];
     }
 
     // The corner of a pair's row.
     corner(plan, pair) {
         const tank = pair >> 4;
         const [column, row] = [tank % plan.across, Math.floor(tank / plan.across)];
-        return [plan.gap + column * plan.tankWide, plan.gap + row * plan.tankHigh + (pair & 15) * plan.high];
+        return [plan.side + column * plan.tankWide, plan.gap + row * plan.tankHigh + (pair & 15) * plan.high];
     }
 
     // A changed word has a band under it, and its dots fill their room.
@@ -93,6 +103,9 @@ class StoreView {
         for (let k = 0; k < 35; k++) {
             const isOn = bits[k] === '1';
             const isNew = changed[k < 17 ? 0 : k === 17 ? 1 : 2];
+            if (!isOn && !isNew && plan.dot * plan.scale < 2) {
+                continue; // dark dots of a pixel would leave no ground
+            }
             if (isNew) {
                 context.fillStyle = COLOURS.band;
                 context.fillRect(left + k * plan.dot, y, plan.dot, plan.high);
@@ -115,70 +128,161 @@ class StoreView {
         context.setLineDash([]);
     }
 
+    // A frame about what the lens shows of a tank. It takes a part of the rows beside it, and not all of them.
+    frameLens(context, plan, [first, last]) {
+        const [left, y] = this.corner(plan, first);
+        const line = Math.max(1, Math.floor(plan.high / 3));
+        const [wide, high] = [35 * plan.dot + 6, (last - first + 1) * plan.high + 2 * line];
+        context.fillStyle = COLOURS.lens;
+        const sides = [[0, 0, wide, line], [0, high - line, wide, line], [0, 0, 2, high], [wide - 2, 0, 2, high]];
+        for (const [x, top, across, down] of sides) {
+            context.fillRect(left - 3 + x, y - line + top, across, down);
+        }
+    }
+
     // Removes a frame: the rows that it touched are drawn again.
-    unframe(context, plan, place) {
-        const pair = place >> 1;
-        const [left, y] = this.corner(plan, pair);
-        const edge = Math.max(3, plan.high / 2);
-        context.clearRect(left - edge, y - edge, 35 * plan.dot + 2 * edge, plan.high + 2 * edge);
-        [pair - 1, pair, pair + 1].forEach((row) => this.rows.delete(row));
+    unframe(context, plan, first, last) {
+        const [left, y] = this.corner(plan, first);
+        const edge = Math.min(3, plan.high);
+        context.clearRect(left - 4, y - edge, 35 * plan.dot + 8, (last - first + 1) * plan.high + 2 * edge);
+        for (let row = first - 1; row <= last + 1; row++) {
+            this.rows.delete(row);
+        }
     }
 
     // The location at a point of the canvas, if there is one.
     placeAt(x, y) {
         const plan = this.plan(this.tanks);
-        const column = Math.floor((x - plan.gap) / plan.tankWide), row = Math.floor((y - plan.gap) / plan.tankHigh);
+        const column = Math.floor((x - plan.side) / plan.tankWide), row = Math.floor((y - plan.gap) / plan.tankHigh);
         const line = Math.floor((y - plan.gap - row * plan.tankHigh) / plan.high);
         const tank = row * plan.across + column;
         if (column < 0 || column >= plan.across || line < 0 || line > 15 || tank < 0 || tank >= this.tanks) {
             return undefined;
         }
-        return tank * 32 + line * 2 + ((x - plan.gap - column * plan.tankWide) / plan.dot < 17.5 ? 1 : 0);
+        return tank * 32 + line * 2 + ((x - plan.side - column * plan.tankWide) / plan.dot < 17.5 ? 1 : 0);
     }
+}
+
+// The first and the last pair of what is seen in each tank.
+function spansOf([first, last]) {
+    const spans = [];
+    for (let pair = first >> 1; pair <= last >> 1;) {
+        const end = Math.min(last >> 1, pair | 15);
+        spans.push([pair, end]);
+        pair = end + 1;
+    }
+    return spans;
 }
 
 // The holes of a row as they were punched. The top hole is inverted: blank tape, the code 16, has no hole, and erase,
 // the code 15, has five.
 const punchedOf = (code) => code ^ 16;
 
-// The tape, with five tracks and the sprocket's holes between the third and the fourth; an arrow is at the next row.
-function drawTape(canvas, rows, rowsLeft, labels) {
-    const unit = letterHigh() / 16;
-    const [wide, high, step] = [canvas.clientWidth, 104 * unit, 21 * unit];
-    const { context } = fitted(canvas, wide, high);
-    const next = rows.length - rowsLeft, before = Math.floor(wide / step / 3);
-    const hole = (x, y, size) => {
-        context.beginPath();
-        context.arc(x, y * unit, size * unit, 0, 7);
-        context.fill();
-    };
-    context.clearRect(0, 0, wide, high);
-    context.font = `${15 * unit}px "DejaVu Sans Mono", Consolas, monospace`;
-    context.textAlign = 'center';
-    for (let x = 2, row = next - before; x < wide; x += step, row++) {
-        if (row < 0 || row >= rows.length) {
-            continue;
+// The tape under its reader: five tracks, and the sprocket's holes between the third and the fourth; below them what each
+// row says, with pencil lines between the items. It glides to its next row.
+const GLIDE = 450; // milliseconds
+const TAPE = {
+    high: 94, pitch: 22, top: 6, bottom: 91, tracks: [15, 26.5, 38, 55, 66.5], sprocket: 46.5, hole: 4.5, small: 1.6, said: 86,
+};
+
+class TapeView {
+    constructor(canvas) {
+        Object.assign(this, { canvas, at: 0, rows: undefined });
+    }
+
+    // `lit` are the first row that was read last, and the one after it.
+    draw(rows, rowsLeft, labels, items, lit, isGliding) {
+        const to = rows.length - rowsLeft, from = this.at;
+        const isOther = this.rows !== rows;
+        Object.assign(this, { rows, labels, to, lit, ends: new Set(items.map(({ after }) => after)) });
+        cancelAnimationFrame(this.frame);
+        if (isOther || !isGliding || to === from) {
+            this.paint(to);
+            return;
         }
-        const middle = x + step / 2;
-        context.fillStyle = row === next ? COLOURS.mark : COLOURS.paper;
-        context.fillRect(x, 8 * unit, step + 0.5, 76 * unit);
-        context.fillStyle = COLOURS.ink;
-        for (let track = 0; track < 5; track++) {
-            if ((punchedOf(rows[row]) >> (4 - track)) & 1) {
-                hole(middle, 16 + track * 12 + (track > 2 ? 12 : 0), 4.6);
-            }
+        const since = performance.now();
+        const glide = (now) => {
+            const part = Math.min(1, Math.max(0, now - since) / GLIDE);
+            this.paint(from + (to - from) * part * part * (3 - 2 * part));
+            this.frame = part < 1 ? requestAnimationFrame(glide) : undefined;
+        };
+        glide(since);
+    }
+
+    clear() {
+        this.rows = undefined;
+        this.canvas.getContext('2d').clearRect(0, 0, this.canvas.width, this.canvas.height);
+    }
+
+    // Where the reader is: a share of the width.
+    reader() {
+        return Math.floor(this.canvas.clientWidth * 0.3);
+    }
+
+    // The box of some rows in the window, where they are when the tape has come to rest.
+    boxOf(first, last) {
+        const unit = letterHigh() / 20, box = this.canvas.getBoundingClientRect();
+        const left = box.left + this.reader() + (first - this.to) * TAPE.pitch * unit;
+        const wide = (last - first + 1) * TAPE.pitch * unit;
+        return { left, top: box.top + TAPE.top * unit, width: wide, height: (TAPE.bottom - TAPE.top) * unit };
+    }
+
+    // The tape with a row, or a part of one, under the reader.
+    paint(at) {
+        this.at = at;
+        const unit = letterHigh() / 20;
+        const { rows, labels } = this;
+        const wide = this.canvas.clientWidth, pitch = TAPE.pitch * unit;
+        const { context } = fitted(this.canvas, wide, TAPE.high * unit);
+        const leftOf = (row) => this.reader() + (row - at) * pitch;
+        context.clearRect(0, 0, wide, TAPE.high * unit);
+        const fill = (first, last, colour) => {
+            context.fillStyle = colour;
+            context.fillRect(leftOf(first), TAPE.top * unit, (last - first) * pitch, (TAPE.bottom - TAPE.top) * unit);
+        };
+        fill(-2, rows.length + 2, COLOURS.paper);
+        fill(this.lit[0], this.lit[1], COLOURS.read);
+        const reached = Math.floor(at + 0.5);
+        if (reached < rows.length) {
+            fill(at, at + 1, COLOURS.mark);
         }
-        hole(middle, 52, 1.7);
-        context.fillStyle = row < next ? COLOURS.old : COLOURS.text;
-        context.fillText(labels[row], middle, 100 * unit);
-        if (row === next) {
-            context.fillStyle = COLOURS.counter;
+        context.textAlign = 'center';
+        context.font = `bold ${19 * unit}px "DejaVu Sans Mono", Consolas, monospace`;
+        const first = Math.max(0, Math.floor(at - this.reader() / pitch)), last = Math.min(rows.length, at + wide / pitch);
+        for (let row = first; row < last; row++) {
+            this.paintRow(context, unit, leftOf(row), row, row < reached);
+        }
+        this.paintReader(context, unit);
+    }
+
+    paintRow(context, unit, x, row, isRead) {
+        const middle = x + (TAPE.pitch / 2) * unit;
+        const hole = (y, size) => {
             context.beginPath();
-            context.moveTo(middle - 7 * unit, 0);
-            context.lineTo(middle + 7 * unit, 0);
-            context.lineTo(middle, 9 * unit);
+            context.arc(middle, y * unit, size * unit, 0, 7);
             context.fill();
+        };
+        context.fillStyle = COLOURS.ink;
+        TAPE.tracks.forEach((y, track) => {
+            if ((punchedOf(this.rows[row]) >> (4 - track)) & 1) {
+                hole(y, TAPE.hole);
+            }
+        });
+        hole(TAPE.sprocket, TAPE.small);
+        context.fillStyle = isRead && row < this.lit[0] ? COLOURS.old : COLOURS.ink;
+        context.fillText(this.labels[row], middle, TAPE.said * unit);
+        if (this.ends.has(row + 1)) {
+            context.fillRect(x + TAPE.pitch * unit - 0.5, 71 * unit, 1, 18 * unit);
         }
+    }
+
+    // The reader: a clamp about the row that is read next.
+    paintReader(context, unit) {
+        const x = this.reader(), wide = TAPE.pitch * unit;
+        context.fillStyle = COLOURS.brass;
+        context.fillRect(x - 5 * unit, 0, wide + 10 * unit, TAPE.top * unit);
+        context.fillRect(x - 5 * unit, 0, 5 * unit, TAPE.high * unit);
+        context.fillRect(x + wide, 0, 5 * unit, TAPE.high * unit);
     }
 }
 

@@ -40,6 +40,7 @@ class Kiosk {
             box.style.width = box.style.height = '';
         });
         tanks();
+        drawPace();
         follow(true);
         afterPrint();
         by('ask').hidden = by('linked').hidden = true;

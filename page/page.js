@@ -4,10 +4,16 @@ const FURTHEST = 100000000; // orders: the program goes no further either
 const TRIED = 2000000; // orders of a run to its end that nobody watches
 const TAIL = 8000; // codes of the paper that are laid out
 const DRAWN_ROWS = 7000; // of a tape as a picture
+const PAPER_LINES = 24; // of a paper that is shown whole
 const LONGEST_FRAME = 250; // milliseconds: a tab that was hidden doesn't catch up
 const by = (id) => document.getElementById(id);
-const isOneScreen = () => matchMedia('(min-width: 60rem) and (min-height: 38rem)').matches;
+const SPEEDS = [1, 5, 50, 650, 10000, 100000]; // orders a second, as the slider has them
+const SLOW = 5; // up to this speed what moves is seen to move
+const isOneScreen = () => matchMedia('(min-width: 60rem) and (min-height: 34rem)').matches;
 const store = new StoreView(by('store'), isOneScreen);
+const tape = new TapeView(by('tape'));
+const lens = new Lens(by('lens'));
+const travel = new Travel(by('stage'), by('trails'));
 const EMPTY = { words: new Uint32Array(1024), digits: new Uint8Array(512) };
 
 const page = {
@@ -23,15 +29,19 @@ const page = {
     fault: undefined, // why there is no way
     shown: undefined, // the picture that is drawn
     before: undefined, // the picture with which it is compared
+    moves: [], // what moved from the one to the other
+    peek: undefined, // a place that a visitor wants to see
     running: undefined, // how far a run is, and when it was seen last
     tour: undefined, // the story that is shown
     touched: false, // a browser lets a page sound only once somebody has touched it
     clock: () => performance.now(),
 };
 
+const speedNow = () => SPEEDS[Number(by('speed').value)];
 const orderText = (word) => writtenFor(page.program.kind, page.machine.order(word));
 const isAlive = () => page.shown !== undefined && page.shown.words !== undefined;
 const isOver = () => !isAlive() || !['limit', 'stopped'].includes(page.shown.ending) || page.shown.orders >= FURTHEST;
+const isFast = () => (page.running ? speedNow() > SLOW : Boolean(page.tour && page.tour.isFast));
 const isEnded = () => isAlive() && page.shown.ending !== 'limit';
 
 // ---- pictures
@@ -63,7 +73,10 @@ function show(shown, before) {
     }
     page.before = before && before.words ? before : undefined;
     page.shown = shown;
-    draw();
+    page.peek = undefined;
+    page.moves = was && was === before ? movesNow() : []; // nothing is seen to move if the visitor went back or far on
+    draw(page.moves.length > 0);
+    playMoves();
     if (isNewStop && by('sound').checked && page.touched) {
         ring();
     }
@@ -161,7 +174,7 @@ function frame(now) {
     }
     const passed = Math.max(0, Math.min(now - page.running.last, LONGEST_FRAME));
     page.running.last = now;
-    page.running.due += (passed / 1000) * Number(by('speed').value);
+    page.running.due += (passed / 1000) * speedNow();
     const due = Math.floor(page.running.due);
     if (due > page.shown.orders) {
         look(due, page.shown);
@@ -188,8 +201,8 @@ function loadStory() {
     put(example < 0 ? { text: tapeOf(printable(by('name').value)), kind: 'tape' } : EXAMPLES[example]);
 }
 
-// Shows the story that is chosen, from its beginning, or ends the one that is shown.
-async function tell() {
+// Shows the story that is chosen, from its beginning, or ends the one that is shown. A short one passes over the tape.
+async function tell(isShort = false) {
     if (page.tour) {
         halt();
         return;
@@ -198,7 +211,7 @@ async function tell() {
     if (!isAlive()) {
         return;
     }
-    const tour = (page.tour = new Tour(storyNow()));
+    const tour = (page.tour = new Tour(storyNow(), isShort));
     page.toured = tour;
     by('skip').hidden = false;
     drawButtons();
@@ -208,6 +221,16 @@ async function tell() {
         by('invite').hidden = false;
         drawButtons();
     }
+}
+
+// Prints another letter: its tape is mounted, and a short story shows it at work.
+function printLetter(letter) {
+    replacing(() => {
+        by('stories').value = 'name';
+        by('name').value = letter;
+        loadStory();
+        tell(true);
+    });
 }
 
 // The story after the one that is chosen.
@@ -234,8 +257,9 @@ function figures(value, digits) {
     return `${all[0]}.${all.slice(1).replace(/\d{10}(?=\d)/g, '$& ')}`;
 }
 
-function draw() {
+function draw(isGliding = false) {
     const { shown, words } = page;
+    travel.clear();
     document.body.classList.toggle('rings', shown.ending === 'stopped');
     by('ending').textContent = endingText(shown);
     drawButtons();
@@ -249,9 +273,12 @@ function draw() {
     const number = words.number(shown.orders + 1);
     by('place').textContent = words.say('place', { number, place: shown.counter, order });
     by('meaning').textContent = words.meaning(meaning);
+    by('done').textContent = doneText();
     by('did').textContent = didText();
-    drawTape(by('tape'), page.rows, shown.rowsLeft, page.labels);
-    store.draw(shown, page.before, page.program.small, meaning.named);
+    tape.draw(page.rows, shown.rowsLeft, page.labels, page.items, readNow(), isGliding);
+    drawLens(meaning.named);
+    drawAccumulator();
+    store.draw(shown, page.before, page.program.small, meaning.named, [lens.first, lens.first + lens.places.length - 1]);
     by('store').setAttribute('aria-label', words.say('storeNow', { changed: changedText() }));
     const [left, all] = [shown.rowsLeft, page.rows.length];
     const next = page.labels[all - left];
@@ -271,16 +298,35 @@ function draw() {
     markListing();
 }
 
-// The end of the paper: no more than a browser lays out at once.
+// The end of the paper: no more than a browser lays out at once. What was printed last has a part of its own.
 function drawPaper() {
     const { way, printed } = page.shown;
     const left = Math.max(0, printed - TAIL);
     const paper = way.text(left, printed).replace(/\r/g, '');
     const said = left > 0 ? `[${page.words.say('lines', { count: page.words.number(left) })}]\n${paper}` : paper;
     if (by('paper').textContent !== said) {
-        by('paper').textContent = said;
+        const last = document.createElement('span');
+        last.textContent = said.slice(-1).trim();
+        sizePaper(said);
+        by('paper').replaceChildren(said.slice(0, said.length - last.textContent.length), last);
         by('paper').scrollTop = by('paper').scrollHeight;
     }
+}
+
+// Large type for a few letters, smaller type for a picture of many lines.
+function sizePaper(said) {
+    const lines = said.slice(-2000).split('\n').slice(-PAPER_LINES);
+    const widest = Math.max(...lines.map((line) => line.length), 1);
+    const high = by('paper').parentElement.clientHeight - by('paperHead').offsetHeight - 1.2 * letterHigh();
+    const across = (by('paper').clientWidth * 0.9) / (widest * 0.61), down = (isOneScreen() ? high : 400) / (lines.length * 1.2);
+    const most = Math.min(across, down);
+    by('paper').style.fontSize = `${Math.max(0.6, Math.min(most / letterHigh(), 2)).toFixed(2)}rem`;
+}
+
+// The rows that were read last: the first one, and the one after them.
+function readNow() {
+    const { before, shown, rows } = page;
+    return [isFast() || !isBeside() ? shown : before, shown].map(({ rowsLeft }) => rows.length - rowsLeft);
 }
 
 // The last printed code: its letter and its five digits, or that nothing was printed.
@@ -288,11 +334,28 @@ function lastText(code) {
     return code === NO_CODE ? page.words.say('noCode') : `${page.machine.letter(code)}  ${binary(code, 5)}`;
 }
 
+// Whether the picture is beside the one of the order before, and is to be looked at.
+const isBeside = () => page.before !== undefined && page.before !== EMPTY;
+const isOneOrder = () => isBeside() && !isFast() && page.shown.orders - page.before.orders === 1;
+
+// The order that was obeyed last, and what it does; or who is at work while orders pass too fast to be named.
+function doneText() {
+    const { before, shown, machine, program, words } = page;
+    if (!isBeside()) {
+        return before ? words.say('press') : '';
+    }
+    if (!isOneOrder()) {
+        return words.say(shown.counter < placesOf(program.kind) ? 'runsLoader' : 'runsProgram');
+    }
+    const word = before.words[before.counter];
+    return words.say('told.order', { order: orderText(word), meaning: words.meaning(machine.meaning(word, program.small)) });
+}
+
 function didText() {
     if (page.before === EMPTY) {
         return page.words.say(page.program.kind === 'tape1' ? 'atStart1' : 'atStart');
     }
-    return page.before && page.shown.orders - page.before.orders === 1
+    return isOneOrder()
         ? page.words.say('before', { said: page.words.changes(page.before, page.shown, page.machine, page.rows) }) : '';
 }
 
@@ -316,23 +379,33 @@ function drawButtons() {
     by('run').disabled = !isAlive() || (!page.running && !isEnded() && isOver());
     by('run').textContent = words.say(page.running ? 'pause' : isEnded() ? 'startAgain' : 'run');
     by('show').textContent = words.say(page.tour ? 'stopShow' : 'show');
+    by('show').classList.toggle('first', !page.tour);
+    by('speed').parentElement.hidden = Boolean(page.tour);
+    const isLetter = storyNow()?.name === 'letter' || LETTER_TAPES.has(page.program.text);
+    const isTyping = isEnded() && !page.tour && isLetter;
+    by('keyboard').hidden = !isTyping;
+    by('now').classList.toggle('typing', isTyping);
+    by('stage').classList.toggle('unstarted', Boolean(page.tour && page.tour.isUnstarted));
     by('show').disabled = !isAlive();
     by('at').disabled = !isAlive();
 }
 
 // A refused text has no picture.
 function drawNothing() {
-    for (const id of ['place', 'meaning', 'did', 'orders', 'counter', 'order', 'acc', 'multiplier', 'last', 'paper', 'look']) {
+    const texts = ['place', 'meaning', 'done', 'did', 'who', 'paper', 'accNumber'];
+    for (const id of [...texts, 'orders', 'counter', 'order', 'acc', 'multiplier', 'last', 'look']) {
         by(id).textContent = '';
     }
+    lens.clear();
+    tape.clear();
+    light(by('accLamps'), '');
     if (page.shown.ending === 'refused' || page.shown.ending === 'too long') {
         by('meaning').textContent = page.words.say('cannotRun');
     }
     store.rows.clear();
+    by('store').getContext('2d').clearRect(0, 0, by('store').width, by('store').height);
     for (const id of ['store', 'tape']) {
-        const canvas = by(id);
-        canvas.getContext('2d').clearRect(0, 0, canvas.width, canvas.height);
-        canvas.setAttribute('aria-label', page.words.say('nothingShown'));
+        by(id).setAttribute('aria-label', page.words.say('nothingShown'));
     }
 }
 
@@ -477,7 +550,8 @@ function speakIn(name) {
     document.querySelectorAll('[data-label]').forEach((node) => {
         node.setAttribute('aria-label', say(node.dataset.label));
     });
-    fill('speed', [1, 5, 50, 650, 10000, 100000].map((speed) => [String(speed), say(`speed${speed}`)]));
+    drawPace();
+    by('name').placeholder = say('yourName');
     fill('stories', STORIES.map((story) => [story.name, say(`stories.${story.name}`)]));
     fill('figures', ['binary', 'decimal'].map((form) => [form, say(form)]));
     const examples = EXAMPLES.map((example, k) => [String(k), `${example.says} (${example.name})`]);
@@ -492,6 +566,12 @@ function speakIn(name) {
         drawListing();
         drawLesson();
     }
+}
+
+// The name of the speed that the slider stands at.
+function drawPace() {
+    by('pace').textContent = page.words.say(`speed${speedNow()}`);
+    by('speed').setAttribute('aria-valuetext', by('pace').textContent);
 }
 
 function chooseExample(number) {
@@ -511,6 +591,12 @@ function write() {
     halt();
     by('program').scrollIntoView();
     by('text').focus();
+}
+
+function more() {
+    by('moreBox').open = true;
+    by('moreBox').scrollIntoView();
+    by('moreBox').firstElementChild.focus();
 }
 
 // ---- saving and sharing
@@ -616,13 +702,14 @@ function worksheetNow() {
 
 function listen() {
     const press = (id, does) => { by(id).onclick = does; };
-    press('show', tell);
+    press('show', () => tell());
     press('skip', () => page.tour && page.tour.skip());
     press('start', () => { begin(); speak(); });
     press('run', run);
     press('step', () => { halt(); step(); });
     press('back', () => { halt(); back(); });
     press('write', write);
+    press('more', more);
     press('inviteWrite', write);
     press('inviteBack', () => { halt(); back(); });
     press('inviteNext', nextStory);
@@ -660,13 +747,14 @@ function listenToBoxes() {
             replacing(() => { loadStory(); tell(); });
         }
     };
+    by('speed').oninput = by('speed').onchange = drawPace;
     by('at').onchange = () => { halt(); look(Number(by('at').value)); speak(); };
     by('examples').onchange = () => {
         const chosen = by('examples').value;
         return chosen === '' ? undo() : chooseExample(Number(chosen));
     };
     by('tank').onchange = () => { follow(false); drawLook(); };
-    by('figures').onchange = draw;
+    by('figures').onchange = () => draw();
     by('small').onchange = () => { tanks(); begin(); };
     by('isTape').onchange = by('isTape1').onchange = by('isSource').onchange = begin;
     by('text').oninput = typed;
@@ -674,31 +762,39 @@ function listenToBoxes() {
     by('file').onchange = openFile;
     by('lesson').onchange = drawLesson;
     by('language').onchange = () => speakIn(by('language').value);
-    by('lookBox').ontoggle = draw;
+    by('lookBox').ontoggle = () => draw();
     by('traceBox').ontoggle = drawTrace;
     by('listingBox').ontoggle = drawListing;
-    by('store').onclick = (event) => {
+    by('store').onclick = (event) => { // the lens looks there until the next picture
         const box = by('store').getBoundingClientRect();
         const place = isAlive() ? store.placeAt(event.clientX - box.left, event.clientY - box.top) : undefined;
         if (place !== undefined) {
             by('lookBox').open = true;
             follow(false);
             by('tank').value = String(place >> 5);
-            drawLook();
+            page.peek = place;
+            draw();
         }
     };
 }
 
 function listenToPage() {
-    window.onresize = draw;
-    new ResizeObserver(() => page.shown && draw()).observe(by('store').parentElement);
+    const redraw = () => {
+        lens.fit();
+        if (page.shown) {
+            draw();
+        }
+    };
+    window.onresize = redraw;
+    const sized = new ResizeObserver(redraw);
+    ['store', 'lens', 'tape'].forEach((id) => sized.observe(by(id).parentElement));
     window.onafterprint = afterPrint;
     window.onhashchange = openLink;
     feel(() => { page.touched = true; });
     document.onkeydown = (event) => {
         const button = { w: 'show', 0: 'start', s: 'step', b: 'back', r: 'run' }[event.key.toLowerCase()];
         const { tagName, type } = event.target;
-        const isTyping = ['TEXTAREA', 'INPUT', 'SELECT'].includes(tagName) && type !== 'checkbox';
+        const isTyping = ['TEXTAREA', 'INPUT', 'SELECT'].includes(tagName) && !['checkbox', 'range'].includes(type);
         const isPlain = !event.ctrlKey && !event.altKey && !event.metaKey;
         if (button && by('keys').checked && isPlain && !isTyping && !by(button).disabled) {
             by(button).click();
@@ -728,7 +824,13 @@ async function load() {
     const bytes = Uint8Array.from(atob(wide ? MODULES.wide : MODULES.narrow), (c) => c.charCodeAt(0));
     page.machine = new Machine(await WebAssembly.compile(bytes));
     page.letters = Array.from({ length: 32 }, (_, code) => page.machine.letter(code));
-    by('speed').value = '650';
+    lampsIn(by('accLamps'), 71);
+    by('keyboard').append(...[...ALPHABET].map((letter) => {
+        const key = document.createElement('button');
+        key.textContent = letter;
+        key.onclick = () => printLetter(letter);
+        return key;
+    }));
     by('stories').value = STORIES[0].name;
     listen();
     loadStory();

@@ -13,6 +13,8 @@ const STORIES = [
     { name: 'own' }, // what the box holds
 ];
 const ITEMS = 9, ORDERS = 9; // how many are shown one by one
+const PREPARES = 12; // orders of the loader before its first item that are shown one by one
+const WATCHED = 60; // orders of the loader for an item, at most, that are shown one by one
 const LONGEST_ITEM = 2000; // orders: a loader that a tape has sent round in circles reads no item
 
 // The letters that a name can be printed in: capital letters without their marks, and blanks.
@@ -29,6 +31,10 @@ function tapeOf(letters) {
         + `T64K GK\n${orders} ZF\n${signs.map((sign) => `${sign}F`).join(' ')}\nEZPF\n`;
 }
 
+// The tapes that print one letter.
+const ALPHABET = 'ABCDEFGHIJKLMNOPQRSTUVWXYZ';
+const LETTER_TAPES = new Set([...ALPHABET].map(tapeOf));
+
 // A sentence that is already shown is not said again.
 function sayStory(text) {
     if (by('story').textContent !== text) {
@@ -37,10 +43,16 @@ function sayStory(text) {
 }
 
 class Tour {
-    constructor(story) {
-        this.story = story;
+    constructor(story, isShort) {
+        Object.assign(this, { story, isShort });
         this.isOver = false;
         this.waited = 0; // seconds, as they are planned
+        this.isUnstarted = true; // nobody has pressed Start yet
+        this.item = undefined; // of the tape, while it is told of
+        this.place = undefined; // the place that the item is about
+        this.hasWatched = false; // whether an item was shown order by order
+        this.isQuick = false; // whether orders pass too fast for anything to be seen to move
+        this.isFast = false; // whether orders pass too fast to be followed
     }
 
     // Waits; false if a button ended the story. Skip ends the waiting and all further ones of the part.
@@ -80,7 +92,8 @@ class Tour {
 
     // All of the story; true if it reached its end.
     async run() {
-        for (const part of [this.tellAim, this.tellLoader, this.tellTape, this.tellProgram]) {
+        const parts = this.isShort ? [this.tellAgain] : [this.tellAim, this.tellLoader, this.tellTape];
+        for (const part of [...parts, this.tellProgram]) {
             this.skips = false;
             await part.call(this);
             if (this.isOver) {
@@ -94,15 +107,25 @@ class Tour {
 
     async tellAim() {
         await this.tell(6, `aim.${this.story.name}`, { name: printable(by('name').value) });
+        this.isUnstarted = false;
+        drawButtons();
     }
 
-    // The loader's own first orders, as one picture.
+    // The loader's own first orders.
     async tellLoader() {
+        lens.appear();
         if (!(await this.tell(6, page.program.kind === 'tape1' ? 'told.loader1' : 'told.loader'))) {
             return;
         }
-        show(this.toNextItem(page.shown), page.shown);
-        await this.tell(5, 'told.ready');
+        const ready = this.toNextItem(page.shown);
+        while (page.shown.orders < ready.orders && ready.orders <= PREPARES) {
+            show(pictureAt(page.shown.orders + 1, page.shown), page.shown);
+            if (!(await this.tell(0.8, 'told.prepares'))) {
+                return;
+            }
+        }
+        show(ready, page.shown);
+        await this.tell(3, 'told.ready');
     }
 
     // The picture in which the loader waits for its next item, or has ended.
@@ -119,20 +142,54 @@ class Tour {
     // Each item as it lands: the first ones slowly, the others in a few seconds.
     async tellTape() {
         for (let item = 0; item < ITEMS && this.isReading(); item++) {
-            const from = page.shown;
-            show(this.toNextItem(from), from);
-            if (!(await this.tell(item < 4 ? 4 : 3, ...this.itemOf(from, page.shown)))) {
+            const from = page.shown, to = this.toNextItem(from);
+            const said = this.itemOf(from, to);
+            if (said[0] === 'told.landed' && !this.hasWatched && !(await this.watch(from, to, said[1].item))) {
+                return;
+            }
+            Object.assign(this, { item: said[1].item, place: this.placeOf(from, to, said[1].item) });
+            show(to, from);
+            if (!(await this.tell(item < 4 ? 4 : 3, ...said))) {
                 return;
             }
         }
+        this.item = this.place = undefined;
+        await this.readOn('told.on', {});
+    }
+
+    // The tape of a letter that a visitor has chosen.
+    async tellAgain() {
+        this.isUnstarted = false;
+        await this.readOn('told.again', { name: by('name').value });
+    }
+
+    // The rest of the tape, in a few seconds.
+    async readOn(key, values) {
+        this.isFast = true;
         const entry = this.entryAfter(page.shown.orders);
         for (let k = 1, from = page.shown.orders; k <= 24 && page.shown.orders < entry; k++) {
-            if (!(await this.tell(0.2, 'told.on'))) {
+            if (!(await this.tell(0.2, key, values))) {
                 return;
             }
             show(pictureAt(Math.round(from + ((entry - from) * k) / 24), page.shown), page.shown);
         }
+        this.isFast = false;
         await this.tell(4, 'told.program');
+    }
+
+    // The loader's orders that read one item, one by one; then the item is shown on its way as a whole.
+    async watch(from, to, item) {
+        this.hasWatched = this.isQuick = true;
+        this.item = this.place = undefined;
+        while (page.shown.orders < to.orders && to.orders < from.orders + WATCHED) {
+            show(pictureAt(page.shown.orders + 1, page.shown), page.shown);
+            if (!(await this.tell(0.16, 'told.reads', { item, count: to.orders - from.orders }))) {
+                return false;
+            }
+        }
+        this.isQuick = false;
+        page.shown = from;
+        return true;
     }
 
     isReading() {
@@ -175,6 +232,15 @@ class Tour {
             : item === 'GK' ? ['told.theta', { item, place: addressOf(to.words[42]) }] : ['told.control', { item }];
     }
 
+    // The place that an item is about: that of its word, the one in the loader that it changes, or the entry.
+    placeOf(from, to, item) {
+        const first = page.rows.length - from.rowsLeft;
+        const found = page.items.find((one) => one.first === first);
+        return found && found.location !== undefined ? found.location
+            : to.counter >= placesOf(page.program.kind) ? to.counter
+                : item === 'GK' ? 42 : /^T\d+K$/.test(item) ? 22 : undefined;
+    }
+
     // What is said of an item that places a word. The first of May 1949 names the place after the last word.
     placedItem(item, { first, location, word }) {
         if (first === 0 && page.program.kind === 'tape1') {
@@ -204,11 +270,14 @@ class Tour {
             return ['told.printed', { text: printed }];
         }
         const isChanged = changedPlaces(from, to).some((place) => isOwnOrder(from, to, place, page.machine));
-        return isChanged ? ['told.changed', {}] : ['told.program', {}];
+        const word = from.words[from.counter];
+        const meaning = page.words.meaning(page.machine.meaning(word, page.program.small));
+        return isChanged ? ['told.changed', {}] : ['told.order', { order: orderText(word), meaning }];
     }
 
     // The rest of the program, up to its end, in at most 18 seconds.
     async runOn() {
+        this.isFast = true;
         const end = pictureAt(TRIED, page.shown);
         const from = page.shown.orders, left = end.orders - from;
         const frames = Math.min(180, Math.max(1, Math.ceil(left / 65)));
@@ -218,6 +287,7 @@ class Tour {
             }
             show(pictureAt(from + Math.round((left * k) / frames), page.shown), page.shown);
         }
+        this.isFast = false;
         show(end, page.shown);
     }
 }

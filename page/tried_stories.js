@@ -94,6 +94,14 @@ async function storyParts(b) {
     await b.expect('and the program', await b.until('page.tour === undefined', 3), true);
     await b.click('inviteBack');
     await b.expect('Step back', await b.text('orders'), '192');
+    await b.click('step');
+    await b.expect(
+        'at its end, letters to choose from',
+        await b.ask('[by("keyboard").hidden, by("keyboard").querySelectorAll("button").length]'),
+        [false, 26],
+    );
+    await b.ask('by("keyboard").querySelectorAll("button")[10].click(); 0');
+    await b.expect('and one is printed', await b.until('page.tour === undefined && by("paper").textContent === "K"'), true);
 }
 
 async function lessons(b) {

@@ -11,6 +11,8 @@ const { sumOf, seenOf } = require('./lessons.js');
 const { punchedOf } = require('./draw.js');
 const { STRIP, stripOf } = require('./strip.js');
 const { partsOf } = require('./editor.js');
+const { lensFirst, lensPlaces, codePlaces } = require('./lens.js');
+const { wayOf } = require('./travel.js');
 
 let count = 0, wrong = 0;
 
@@ -124,10 +126,32 @@ same(
     ['TF', 'TS', 'T40D', 'T40L', 'FF', 'FS', 'D3F', 'D3S'],
 );
 
+same(
+    'orders in a few words',
+    [named('A', 66), named('A', 66, true), named('O', 66), named('E', 64), named('Z'), named('', 5)].map((order) => languages.en.brief(order)),
+    ['add 66', 'add 66, 67', 'print the sign in 66', 'if 0 or more, go to 64', 'stop', 'no order'],
+);
+same(
+    'the lens moves only if it has to',
+    [lensFirst(63, 66, 8, 1024), lensFirst(63, 69, 8, 1024), lensFirst(63, 20, 8, 1024), lensFirst(0, 1023, 8, 1024), lensFirst(5, 0, 8, 1024)],
+    [63, 68, 19, 1016, 0],
+);
+same(
+    'and its last two rows have what is far away',
+    [[], [25], [64, 22, 64], [64, 2], [25, 64]].map((others) => lensPlaces(20, 6, others).slice(3)),
+    [[23, 24, 25], [23, 24, 25], [23, 24, 64], [23, 2, 64], [23, 25, 64]],
+);
+// Words of a tape that prints AB, as the machine reports them: O4, O5, Z, 5, A, B.
+const six = [named('O', 4), named('O', 5), named('Z'), named('P', 2), named('A'), named('B')].map((order, k) => (
+    { ...order, named: 'OAB'.includes(order.letter) ? order.location : undefined, number: k === 3 ? 5 : 30000 }));
+same('codes to print', [...codePlaces([0, 1, 2, 3, 4, 5], 0, (word) => six[word])].sort(), [4, 5]);
+same('a way has its ends', [0, 12].map((k) => wayOf([1, 2], [30, 40], 0.2)[k]), [[1, 2], [30, 40]]);
+
 // Each order has a sentence in each language, and so has each cause of the manual.
 for (const [name, words] of Object.entries(languages)) {
     for (const letter of 'ASHVNTUCRLEGIOFXYZ') {
         same(`${name}: ${letter}`, /\{|undefined/.test(words.meaning(named(letter, 5))), false);
+        same(`${name}: ${letter} in a few words`, /\{|undefined/.test(words.brief(named(letter, 5))), false);
     }
     for (const cause of ['T1', 'T2', ...Array.from({ length: 17 }, (_, k) => `S${k + 1}`)]) {
         same(`${name}: ${cause}`, words.has(`cause.${cause}`), true);

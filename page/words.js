@@ -55,6 +55,14 @@ class Words {
         });
     }
 
+    // The same in a few words.
+    brief({ letter, location, pair, isLong, shift }) {
+        if (!this.has(`brief.${letter}`)) {
+            return this.say('brief.none');
+        }
+        return this.say(`brief.${letter}`, { at: isLong ? `${pair}, ${pair + 1}` : location, address: location, shift });
+    }
+
     // A word as it may be meant: a small one as a number, and any other as an order too.
     described(word, machine, kind) {
         const { number } = machine.meaning(word, false);
