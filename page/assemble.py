@@ -18,7 +18,10 @@ here = pathlib.Path("page")
 
 FIRST = ["letter.tape", "name.tape", "digits.tape", "hello.edsac", "squares.edsac", "roots.edsac"]
 KINDS = {".tape": "tape", ".tape1": "tape1", ".edsac": "source"}
-CODE = ["machine", "way", "words", "draw", "lens", "travel", "strip", "share", "editor", "stories", "lessons", "kiosk", "page"]
+CODE = [
+    "machine", "way", "words", "paint", "map", "tape", "lens", "rows", "registers", "paper", "travel", "moves", "sound", "sentence",
+    "strip", "share", "editor", "printing", "program", "below", "stories", "lessons", "kiosk", "controls", "listen", "page",
+]
 
 
 def in_script(value):

@@ -8,10 +8,11 @@ const { Words, writtenFor, signAt, lineAt, hintFor, figuresOf } = require('./wor
 const { packed, unpacked, formOf, kindOf } = require('./share.js');
 const { printable, tapeOf } = require('./stories.js');
 const { sumOf, seenOf } = require('./lessons.js');
-const { punchedOf } = require('./draw.js');
+const { punchedOf } = require('./tape.js');
 const { STRIP, stripOf } = require('./strip.js');
 const { partsOf } = require('./editor.js');
-const { lensFirst, lensPlaces, codePlaces } = require('./lens.js');
+const { lensFirst, lensPlaces } = require('./lens.js');
+const { codePlaces } = require('./rows.js');
 const { wayOf } = require('./travel.js');
 
 let count = 0, wrong = 0;

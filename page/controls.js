@@ -1,0 +1,150 @@
+'use strict';
+// The machine's buttons: Start, Step, Back, Run, the speed, and the stories.
+const SPEEDS = [1, 5, 50, 650, 10000, 100000]; // orders a second, as the slider has them
+const SLOW = 5; // up to this speed what moves is seen to move
+const LONGEST_FRAME = 250; // milliseconds: a tab that was hidden doesn't catch up
+const speedNow = () => SPEEDS[Number(by('speed').value)];
+
+// One more order. At a stop the machine continues past it.
+function step() {
+    if (!isOver()) {
+        look(page.shown.orders + 1, page.shown);
+        speak();
+    }
+}
+
+function back() {
+    if (isAlive() && page.shown.orders > 0) {
+        look(page.shown.orders - 1);
+        speak();
+    }
+}
+
+function halt() {
+    page.running = undefined;
+    if (page.tour) {
+        page.tour.end();
+        page.tour = undefined;
+    }
+    by('story').textContent = by('spoken').textContent = '';
+    by('invite').hidden = by('skip').hidden = true;
+    if (page.words) {
+        drawButtons();
+    }
+}
+
+// Run, Pause, or Start again if the machine has ended.
+function run() {
+    if (page.running) {
+        halt();
+        return;
+    }
+    halt();
+    if (isEnded()) {
+        begin();
+    }
+    if (isOver()) {
+        return;
+    }
+    page.running = { due: page.shown.orders, last: performance.now() };
+    drawButtons();
+    requestAnimationFrame(frame);
+}
+
+function frame(now) {
+    if (!page.running) {
+        return;
+    }
+    const passed = Math.max(0, Math.min(now - page.running.last, LONGEST_FRAME));
+    page.running.last = now;
+    page.running.due += (passed / 1000) * speedNow();
+    const due = Math.floor(page.running.due);
+    if (due > page.shown.orders) {
+        look(due, page.shown);
+        if (page.shown.ending !== 'limit' || isOver()) {
+            halt();
+            draw();
+            return;
+        }
+    }
+    requestAnimationFrame(frame);
+}
+
+const storyNow = () => STORIES.find((story) => story.name === by('stories').value);
+
+// Loads the text of the story that is chosen.
+function loadStory() {
+    const story = storyNow();
+    const example = story.example ? EXAMPLES.findIndex((one) => one.name === story.example) : -1;
+    by('nameLabel').hidden = story.name !== 'name';
+    if (story.name === 'own') {
+        return;
+    }
+    by('examples').value = example < 0 ? '' : String(example);
+    put(example < 0 ? { text: tapeOf(printable(by('name').value)), kind: 'tape' } : EXAMPLES[example]);
+}
+
+// Shows the story that is chosen, from its beginning, or ends the one that is shown. A short one passes over the tape.
+async function tell(isShort = false) {
+    if (page.tour) {
+        halt();
+        return;
+    }
+    begin();
+    if (!isAlive()) {
+        return;
+    }
+    const tour = (page.tour = new Tour(storyNow(), isShort));
+    page.toured = tour;
+    by('skip').hidden = false;
+    drawButtons();
+    if (await tour.run()) {
+        page.tour = undefined;
+        by('skip').hidden = true;
+        by('invite').hidden = false;
+        drawButtons();
+    }
+}
+
+// Prints another letter: its tape is mounted, and a short story shows it at work.
+function printLetter(letter) {
+    replacing(() => {
+        by('stories').value = 'name';
+        by('name').value = letter;
+        loadStory();
+        tell(true);
+    });
+}
+
+// The story after the one that is chosen.
+function nextStory() {
+    const at = STORIES.indexOf(storyNow());
+    by('stories').value = STORIES[(at + 1) % (STORIES.length - 1)].name;
+    loadStory();
+    return tell();
+}
+
+function drawButtons() {
+    const { words } = page;
+    by('back').disabled = !isAlive() || page.shown.orders === 0;
+    by('step').disabled = isOver();
+    by('punch').disabled = !isAlive() || page.program.kind !== 'source';
+    by('run').disabled = !isAlive() || (!page.running && !isEnded() && isOver());
+    by('run').textContent = words.say(page.running ? 'pause' : isEnded() ? 'startAgain' : 'run');
+    by('show').textContent = words.say(page.tour ? 'stopShow' : 'show');
+    by('show').classList.toggle('first', !page.tour);
+    by('speed').parentElement.hidden = Boolean(page.tour);
+    const isLetter = storyNow()?.name === 'letter' || LETTER_TAPES.has(page.program.text);
+    const isTyping = isEnded() && !page.tour && isLetter;
+    by('keyboard').hidden = !isTyping;
+    by('now').classList.toggle('typing', isTyping);
+    by('stage').classList.toggle('unstarted', Boolean(page.tour && page.tour.isUnstarted));
+    by('show').disabled = !isAlive();
+    by('at').disabled = !isAlive();
+}
+
+// The name of the speed that the slider stands at.
+function drawPace() {
+    by('pace').textContent = page.words.say(`speed${speedNow()}`);
+    by('speed').setAttribute('aria-valuetext', by('pace').textContent);
+}

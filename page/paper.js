@@ -1,0 +1,29 @@
+'use strict';
+// The paper of the teleprinter.
+const TAIL = 8000; // codes of the paper that are laid out
+const PAPER_LINES = 24; // of a paper that is shown whole
+
+// The end of the paper: no more than a browser lays out at once. What was printed last has a part of its own.
+function drawPaper() {
+    const { way, printed } = page.shown;
+    const left = Math.max(0, printed - TAIL);
+    const paper = way.text(left, printed).replace(/\r/g, '');
+    const said = left > 0 ? `[${page.words.say('lines', { count: page.words.number(left) })}]\n${paper}` : paper;
+    if (by('paper').textContent !== said) {
+        const last = document.createElement('span');
+        last.textContent = said.slice(-1).trim();
+        sizePaper(said);
+        by('paper').replaceChildren(said.slice(0, said.length - last.textContent.length), last);
+        by('paper').scrollTop = by('paper').scrollHeight;
+    }
+}
+
+// Large type for a few letters, smaller type for a picture of many lines.
+function sizePaper(said) {
+    const lines = said.slice(-2000).split('\n').slice(-PAPER_LINES);
+    const widest = Math.max(...lines.map((line) => line.length), 1);
+    const high = by('paper').parentElement.clientHeight - by('paperHead').offsetHeight - 1.2 * letterHigh();
+    const across = (by('paper').clientWidth * 0.9) / (widest * 0.61), down = (isOneScreen() ? high : 400) / (lines.length * 1.2);
+    const most = Math.min(across, down);
+    by('paper').style.fontSize = `${Math.max(0.6, Math.min(most / letterHigh(), 2)).toFixed(2)}rem`;
+}

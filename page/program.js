@@ -1,0 +1,106 @@
+'use strict';
+// The box of the program: what is wrong with its text, examples, files and links.
+
+// What the machine reports of a text that it refuses, and what that means.
+function tellRefusal(told) {
+    const key = `ends.${told.ending}`;
+    const isUntold = ['no memory', 'no room', 'fault'].includes(told.ending);
+    const { text, kind } = page.program;
+    page.refusal = told.note && !isUntold ? page.words.refusal(told.note, text, kind) : undefined;
+    const form = formOf(text), isMisread = form !== kind && text.trim() !== '';
+    const isOther = isMisread && form !== 'source' && kind !== 'source'; // a tape of the other loader is not refused
+    by('refusal').hidden = !isUntold && !isOther && page.refusal === undefined;
+    by('mark').hidden = page.refusal === undefined;
+    by('switch').hidden = !isOther && (page.refusal === undefined || !isMisread);
+    by('switch').textContent = page.words.say(`as.${form}`);
+    by('text').setAttribute('aria-invalid', String(page.refusal !== undefined));
+    by('refused').textContent = page.refusal ? page.words.say('refuses', { note: told.note.trim(), ...page.refusal })
+        : isUntold ? page.words.say(key, { note: told.note }) : isOther ? page.words.say(`looks.${form}`) : '';
+}
+
+function markRefusal() {
+    by('text').focus();
+    by('text').setSelectionRange(page.refusal.from, page.refusal.to);
+}
+
+// Punches the tape of the source in the box, and reads it again.
+function punch() {
+    if (isAlive() && page.program.kind === 'source') {
+        const text = new TextDecoder().decode(page.machine.punched(page.program).out);
+        replacing(() => {
+            by('examples').value = '';
+            by('stories').value = 'own';
+            put({ text, kind: 'tape' });
+        });
+    }
+}
+
+function chooseExample(number) {
+    replacing(() => {
+        by('examples').value = String(number);
+        by('stories').value = 'own';
+        by('nameLabel').hidden = true;
+        put(EXAMPLES[number]);
+    });
+}
+
+function write() {
+    halt();
+    by('program').scrollIntoView();
+    by('text').focus();
+}
+
+async function makeLink() {
+    const shared = { ...textNow(), orders: isAlive() ? page.shown.orders : 0 };
+    const address = `${location.href.split('#')[0]}#p=${await packed(shared)}`;
+    by('linked').hidden = false;
+    by('linkText').value = address;
+    by('linkText').select();
+    try {
+        await navigator.clipboard.writeText(address);
+        by('shared').textContent = page.words.say('copied');
+    } catch (fault) {
+        by('shared').textContent = ''; // the visitor copies it by hand
+    }
+}
+
+// Opens what the page's address holds; false if it holds nothing.
+async function openLink() {
+    const letters = addressed().get('p');
+    if (!letters) {
+        return false;
+    }
+    const shared = await unpacked(letters);
+    if (shared === undefined) {
+        by('shared').textContent = page.words.say('badLink');
+        return false;
+    }
+    replacing(() => {
+        by('examples').value = '';
+        by('stories').value = 'own';
+        put(shared);
+        if (isAlive() && shared.orders > 0) {
+            look(shared.orders);
+        }
+    });
+    return true;
+}
+
+async function openFile() {
+    const [file] = by('file').files;
+    by('file').value = '';
+    if (!file) {
+        return;
+    }
+    if (file.size > LONGEST) {
+        by('shared').textContent = page.words.say('badFile');
+        return;
+    }
+    by('shared').textContent = '';
+    const text = (await file.text()).replace(/\r\n/g, '\n');
+    replacing(() => {
+        by('examples').value = '';
+        by('stories').value = 'own';
+        put({ text, kind: kindOf(file.name, text) });
+    });
+}
