@@ -20,7 +20,7 @@ FIRST = ["letter.tape", "name.tape", "digits.tape", "hello.edsac", "squares.edsa
 KINDS = {".tape": "tape", ".tape1": "tape1", ".edsac": "source"}
 CODE = [
     "machine", "way", "words", "paint", "map", "tape", "lens", "rows", "registers", "paper", "travel", "moves", "sound", "sentence",
-    "strip", "share", "editor", "printing", "program", "below", "stories", "lessons", "kiosk", "controls", "listen", "page",
+    "strip", "share", "editor", "printing", "program", "below", "stories", "lessons", "loaders", "kiosk", "controls", "listen", "page",
 ]
 
 
@@ -101,13 +101,18 @@ def policy(page):
     ])
 
 
-languages = {file.stem: json.loads(file.read_text("utf-8")) for file in sorted((here / "languages").glob("*.json"))}
+def texts(folder):
+    """The texts of a folder, a file for each language."""
+    return {file.stem: json.loads(file.read_text("utf-8")) for file in sorted((here / folder).glob("*.json"))}
+
+
 code = [
     "'use strict';",
     f"const MODULES = {in_script({'wide': module('page64.wasm'), 'narrow': module('page32.wasm')})};",
     f"const EXAMPLES = {in_script(examples())};",
     f"const LESSONS = {in_script(lessons())};",
-    f"const LANGUAGES = {in_script(languages)};",
+    f"const LANGUAGES = {in_script(texts('languages'))};",
+    f"const LOADERS = {in_script(texts('loaders'))};",
     *[(here / f"{name}.js").read_text("utf-8").replace("'use strict';\n", "", 1) for name in CODE],
 ]
 parts = {

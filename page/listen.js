@@ -33,6 +33,7 @@ function listen() {
     press('printTape', () => printOut('tape'));
     press('printWorksheet', () => printOut('worksheet'));
     press('printSheet', () => printOut('sheet'));
+    press('printLoaders', () => printOut('loaders'));
     press('check', checkLesson);
     press('follow', () => { follow(by('follow').getAttribute('aria-pressed') !== 'true'); draw(); });
     listenToBoxes();

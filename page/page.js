@@ -192,6 +192,7 @@ function speakIn(name) {
     fill('lesson', [['0', say('noLesson')], ...lessons]);
     fill('language', Object.entries(LANGUAGES).map(([key, texts]) => [key, texts.name]));
     by('language').value = name;
+    drawLoaders();
     tanks();
     if (words && page.shown) {
         draw();

@@ -1,5 +1,5 @@
 'use strict';
-// What is printed: the tape, a worksheet, the cheat sheet.
+// What is printed: the tape, a worksheet, the cheat sheet, the loaders.
 const DRAWN_ROWS = 7000; // of a tape as a picture
 
 // What a text calls itself: its first comment, or the name of the example.
@@ -16,9 +16,10 @@ function stripNow() {
     return stripOf(page.rows.slice(0, DRAWN_ROWS), page.labels, punchedOf, titleNow(), says);
 }
 
-// Prints one thing: the tape, a worksheet or the cheat sheet.
+// Prints one thing: the tape, a worksheet, the cheat sheet or the loaders.
 function preparePrint(what) {
-    by('printed').innerHTML = { tape: stripNow, worksheet: worksheetNow, sheet: () => by('sheet').innerHTML }[what]();
+    const copy = () => by(what).innerHTML;
+    by('printed').innerHTML = { tape: stripNow, worksheet: worksheetNow, sheet: copy, loaders: copy }[what]();
     document.body.dataset.print = what;
 }
 

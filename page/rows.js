@@ -39,6 +39,7 @@ function drawLens(named) {
     });
     by('who').textContent = words.say(shown.counter < start ? (start === LOADER ? 'isLoader' : 'isLoader1') : 'isProgram');
     by('who').classList.toggle('on', shown.counter >= start);
+    by('lens').classList.toggle('reasons', isLoaderShown()); // what an order is for has the room of its lamps
 }
 
 // What a row of the lens has of a place.
@@ -46,7 +47,8 @@ function wordSaid(place, codes, isOne) {
     const { shown, before, words } = page;
     const word = shown.words[place], old = before ? before.words[place] : word;
     const isNew = word !== old;
-    const brief = isNew && isOne && old ? words.say('brief.was', { old: shortOf(old) }) : briefOf(word, codes.has(place));
+    const said = () => reasonFor(place) ?? briefOf(word, codes.has(place));
+    const brief = isNew && isOne && old ? words.say('brief.was', { old: shortOf(old) }) : said();
     return { bits: binary(word, 17), word: word ? orderText(word) : '', isNew, isIdle: word === 0, brief };
 }
 

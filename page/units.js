@@ -14,6 +14,7 @@ const { partsOf } = require('./editor.js');
 const { lensFirst, lensPlaces } = require('./lens.js');
 const { codePlaces } = require('./rows.js');
 const { wayOf } = require('./travel.js');
+const { texts } = require('./tried_loaders.js');
 
 let count = 0, wrong = 0;
 
@@ -242,6 +243,8 @@ same(
     (stripOf(new Array(STRIP.rows + 1).fill(0), new Array(STRIP.rows + 1).fill('P'), punchedOf, 'x', 'x').match(/class="cut"/g) || []).length,
     2,
 );
+
+texts(same);
 
 (async () => {
     for (const text of ['', 'T64K GK', 'ÄÖÜ \u{1F600}\n'.repeat(2000)]) {
