@@ -4,6 +4,7 @@
 const { Visitor } = require('./browser.js');
 const machine = require('./tried_machine.js');
 const stories = require('./tried_stories.js');
+const { lessons } = require('./tried_lessons.js');
 const sharing = require('./tried_sharing.js');
 const { loaders } = require('./tried_loaders.js');
 const looks = require('./tried_looks.js');
@@ -11,7 +12,7 @@ const looks = require('./tried_looks.js');
 const [command, file, folder, only] = process.argv.slice(2);
 const b = new Visitor(command, file, folder);
 const WHOLE = [
-    ...Object.values(machine), ...Object.values(stories), ...Object.values(sharing),
+    ...Object.values(machine), ...Object.values(stories), lessons, ...Object.values(sharing),
     loaders, looks.looks, looks.noScript, looks.kiosk,
 ];
 

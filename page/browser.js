@@ -117,6 +117,11 @@ class Browser {
         return this.send('Emulation.setDeviceMetricsOverride', { width, height, deviceScaleFactor: 1, mobile });
     }
 
+    // The window as it was at first.
+    unsize() {
+        return this.send('Emulation.clearDeviceMetricsOverride');
+    }
+
     // Opens the page in a tab of its own, with what follows its #.
     async open(hash, before) {
         const { targetId } = await this.send('Target.createTarget', { url: 'about:blank' }, undefined);

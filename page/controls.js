@@ -1,5 +1,5 @@
 'use strict';
-// The machine's buttons: Start, Step, Back, Run, the speed, and the stories.
+// The machine's buttons: Start, Step, Back, Run, and the speed.
 const SPEEDS = [1, 5, 50, 650, 10000, 100000]; // orders a second, as the slider has them
 const SLOW = 5; // up to this speed what moves is seen to move
 const LONGEST_FRAME = 250; // milliseconds: a tab that was hidden doesn't catch up
@@ -26,7 +26,8 @@ function halt() {
         page.tour.end();
         page.tour = undefined;
     }
-    by('story').textContent = by('spoken').textContent = '';
+    sayAt('story');
+    sayAt('spoken');
     by('invite').hidden = by('skip').hidden = true;
     if (page.words) {
         drawButtons();
@@ -68,60 +69,6 @@ function frame(now) {
         }
     }
     requestAnimationFrame(frame);
-}
-
-const storyNow = () => STORIES.find((story) => story.name === by('stories').value);
-
-// Loads the text of the story that is chosen.
-function loadStory() {
-    const story = storyNow();
-    const example = story.example ? EXAMPLES.findIndex((one) => one.name === story.example) : -1;
-    by('nameLabel').hidden = story.name !== 'name';
-    if (story.name === 'own') {
-        return;
-    }
-    by('examples').value = example < 0 ? '' : String(example);
-    put(example < 0 ? { text: tapeOf(printable(by('name').value)), kind: 'tape' } : EXAMPLES[example]);
-}
-
-// Shows the story that is chosen, from its beginning, or ends the one that is shown. A short one passes over the tape.
-async function tell(isShort = false) {
-    if (page.tour) {
-        halt();
-        return;
-    }
-    begin();
-    if (!isAlive()) {
-        return;
-    }
-    const tour = (page.tour = new Tour(storyNow(), isShort));
-    page.toured = tour;
-    by('skip').hidden = false;
-    drawButtons();
-    if (await tour.run()) {
-        page.tour = undefined;
-        by('skip').hidden = true;
-        by('invite').hidden = false;
-        drawButtons();
-    }
-}
-
-// Prints another letter: its tape is mounted, and a short story shows it at work.
-function printLetter(letter) {
-    replacing(() => {
-        by('stories').value = 'name';
-        by('name').value = letter;
-        loadStory();
-        tell(true);
-    });
-}
-
-// The story after the one that is chosen.
-function nextStory() {
-    const at = STORIES.indexOf(storyNow());
-    by('stories').value = STORIES[(at + 1) % (STORIES.length - 1)].name;
-    loadStory();
-    return tell();
 }
 
 function drawButtons() {

@@ -10,6 +10,7 @@ const path = require('path');
 const { Visitor } = require('./browser.js');
 const machine = require('./tried_machine.js');
 const stories = require('./tried_stories.js');
+const { lessons } = require('./tried_lessons.js');
 const sharing = require('./tried_sharing.js');
 
 // A web socket, as far as it is needed: texts there and back.
@@ -144,6 +145,10 @@ class Firefox extends Visitor {
         return this.tell('browsingContext.setViewport', { context: this.context, viewport: { width, height } });
     }
 
+    unsize() {
+        return this.size(...WINDOW);
+    }
+
     async shot(name) {
         const { data } = await this.tell('browsingContext.captureScreenshot', { context: this.context });
         fs.writeFileSync(path.join(this.folder, name), Buffer.from(data, 'base64'));
@@ -152,7 +157,7 @@ class Firefox extends Visitor {
     // Opens the page in a tab of its own, with what follows its #.
     async open(hash) {
         ({ context: this.context } = await this.tell('browsingContext.create', { type: 'tab' }));
-        await this.size(1280, 1000);
+        await this.unsize();
         await this.tell('browsingContext.navigate', { context: this.context, url: `${this.page}${hash}`, wait: 'complete' });
         await this.until('document.body !== null && document.body.dataset.ready !== undefined');
     }
@@ -166,8 +171,10 @@ class Firefox extends Visitor {
     }
 }
 
+const WINDOW = [1280, 1000]; // pixels
+
 // What is tried: what a visitor does with the machine, the stories, the lessons, links and languages.
-const PARTS = [...Object.values(machine), ...Object.values(stories), sharing.links, sharing.languages];
+const PARTS = [...Object.values(machine), ...Object.values(stories), lessons, sharing.links, sharing.languages];
 
 (async () => {
     const [command, file, folder, only] = process.argv.slice(2);

@@ -68,14 +68,14 @@ class Kiosk {
             return;
         }
         if (this.isTouched ? idle > this.seconds : idle > BETWEEN) {
-            const next = this.isTouched ? 0 : STORIES.indexOf(storyNow()) + 1;
+            const next = this.isTouched ? 0 : ROTATION.indexOf(storyNow().name) + 1;
             this.reset();
             this.tell(next);
         }
     }
 
     tell(number) {
-        by('stories').value = STORIES[number % (STORIES.length - 1)].name;
+        by('stories').value = ROTATION[number % ROTATION.length];
         loadStory();
         tell();
     }

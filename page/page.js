@@ -26,6 +26,7 @@ const page = {
     peek: undefined, // a place that a visitor wants to see
     running: undefined, // how far a run is, and when it was seen last
     tour: undefined, // the story that is shown
+    isNew: false, // whether the page has just been opened, and nothing was shown but Start
     touched: false, // a browser lets a page sound only once somebody has touched it
     clock: () => performance.now(),
 };
@@ -63,6 +64,7 @@ function show(shown, before) {
     page.before = before && before.words ? before : undefined;
     page.shown = shown;
     page.peek = undefined;
+    page.isNew = false;
     page.moves = was && was === before ? movesNow() : []; // nothing is seen to move if the visitor went back or far on
     draw(page.moves.length > 0);
     playMoves();
@@ -197,7 +199,7 @@ function speakIn(name) {
     if (words && page.shown) {
         draw();
         drawListing();
-        drawLesson();
+        sayAgain();
     }
 }
 
@@ -226,7 +228,8 @@ async function load() {
     by('stories').value = STORIES[0].name;
     listen();
     loadStory();
-    await openLink();
+    page.isNew = !(await openLink());
+    draw();
     if (addressed().has('kiosk')) {
         beginKiosk(addressed().get('kiosk'));
     }

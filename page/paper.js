@@ -2,6 +2,7 @@
 // The paper of the teleprinter.
 const TAIL = 8000; // codes of the paper that are laid out
 const PAPER_LINES = 24; // of a paper that is shown whole
+const LEAST_TYPE = 0.4, MOST_TYPE = 2; // sizes of a letter, in rem
 
 // The end of the paper: no more than a browser lays out at once. What was printed last has a part of its own.
 function drawPaper() {
@@ -22,8 +23,10 @@ function drawPaper() {
 function sizePaper(said) {
     const lines = said.slice(-2000).split('\n').slice(-PAPER_LINES);
     const widest = Math.max(...lines.map((line) => line.length), 1);
-    const high = by('paper').parentElement.clientHeight - by('paperHead').offsetHeight - 1.2 * letterHigh();
-    const across = (by('paper').clientWidth * 0.9) / (widest * 0.61), down = (isOneScreen() ? high : 400) / (lines.length * 1.2);
-    const most = Math.min(across, down);
-    by('paper').style.fontSize = `${Math.max(0.6, Math.min(most / letterHigh(), 2)).toFixed(2)}rem`;
+    const margins = parseFloat(getComputedStyle(by('paper')).paddingTop) + parseFloat(getComputedStyle(by('paper')).paddingBottom);
+    const most = isOneScreen() ? by('paper').parentElement.clientHeight - by('paperHead').offsetHeight
+        : parseFloat(getComputedStyle(by('paper')).maxHeight);
+    const across = (by('paper').clientWidth * 0.9) / (widest * 0.61), down = (most - margins) / (lines.length * 1.2);
+    const size = Math.min(across, down) / letterHigh();
+    by('paper').style.fontSize = `${Math.max(LEAST_TYPE, Math.min(Math.floor(100 * size) / 100, MOST_TYPE))}rem`;
 }

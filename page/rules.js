@@ -54,7 +54,7 @@ function styles() {
     const all = (list) => [...list].flatMap((rule) => (rule.cssRules && !(rule instanceof CSSKeyframesRule)
         ? [rule, ...all(rule.cssRules)] : [rule]));
     const atTimes = ['.rings', '.here', '.painted', '.faulty', '.comment', '.label', '.order', '.word', '.string', '.kiosk',
-        '.new', '.idle', '.done', '.named', '.far', '.on', '.unstarted', '.typing', '.traveller', '#trails',
+        '.long', '.reasons', '.new', '.idle', '.done', '.named', '.far', '.on', '.unstarted', '.typing', '.traveller', '#trails',
         '[data-print', '::selection', '#printed', 'noscript'];
     const rules = all(document.styleSheets[0].cssRules);
     const selectors = rules.flatMap((rule) => (rule.selectorText || '').split(',')).map((one) => one.trim()).filter(Boolean);

@@ -10,7 +10,7 @@ const isOneOrder = () => isBeside() && !isFast() && page.shown.orders - page.bef
 function doneText() {
     const { before, shown, machine, program, words } = page;
     if (!isBeside()) {
-        return before ? words.say('press') : '';
+        return before ? words.say(page.isNew ? 'told.why' : 'press') : '';
     }
     if (!isOneOrder()) {
         return words.say(shown.counter < placesOf(program.kind) ? 'runsLoader' : 'runsProgram');
@@ -20,6 +20,9 @@ function doneText() {
 }
 
 function didText() {
+    if (page.before === EMPTY && page.isNew) {
+        return page.words.say('press');
+    }
     if (page.before === EMPTY) {
         return page.words.say(page.program.kind === 'tape1' ? 'atStart1' : 'atStart');
     }
@@ -41,7 +44,7 @@ function endingText(shown) {
 
 // Says aloud, for those who can't see it, what a step did.
 function speak() {
-    by('spoken').textContent = isAlive() ? page.words.say('spoken', {
+    sayAt('spoken', () => (isAlive() ? page.words.say('spoken', {
         did: by('did').textContent, place: page.shown.counter, meaning: by('meaning').textContent,
-    }) : '';
+    }) : ''));
 }

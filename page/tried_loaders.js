@@ -77,7 +77,7 @@ async function loaders(b) {
     ]), ['none', 74]);
     await b.send('Emulation.setEmulatedMedia', { media: '' });
     await b.ask('afterPrint(); 0');
-    await b.send('Emulation.clearDeviceMetricsOverride');
+    await b.unsize();
 }
 
 module.exports = { texts, loaders };

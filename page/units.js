@@ -6,7 +6,7 @@ const fs = require('fs');
 const path = require('path');
 const { Words, writtenFor, signAt, lineAt, hintFor, figuresOf } = require('./words.js');
 const { packed, unpacked, formOf, kindOf } = require('./share.js');
-const { printable, tapeOf } = require('./stories.js');
+const { STORIES, printable, tapeOf } = require('./stories.js');
 const { sumOf, seenOf } = require('./lessons.js');
 const { punchedOf } = require('./tape.js');
 const { STRIP, stripOf } = require('./strip.js');
@@ -154,6 +154,7 @@ for (const [name, words] of Object.entries(languages)) {
     for (const letter of 'ASHVNTUCRLEGIOFXYZ') {
         same(`${name}: ${letter}`, /\{|undefined/.test(words.meaning(named(letter, 5))), false);
         same(`${name}: ${letter} in a few words`, /\{|undefined/.test(words.brief(named(letter, 5))), false);
+        same(`${name}: what ${letter} will do`, /\{|undefined|no order/.test(words.brief(named(letter, 5), 'later')), false);
     }
     for (const cause of ['T1', 'T2', ...Array.from({ length: 17 }, (_, k) => `S${k + 1}`)]) {
         same(`${name}: ${cause}`, words.has(`cause.${cause}`), true);
@@ -245,6 +246,23 @@ same(
 );
 
 texts(same);
+
+// What a story says is proved is what the table of docs/PROGRAMS.md has of its program, with the same numbers in each
+// language.
+const PROVED = {
+    changes: '1 to 40 capital letters', sum: 'sum is below 65,536', first: 'squares from 1 to 81', mirror: '1 to 9 capital letters',
+};
+const programs = fs.readFileSync(path.join(__dirname, '../docs/PROGRAMS.md'), 'utf8');
+const proved = STORIES.filter(({ isProved }) => isProved);
+same('the stories of proved programs', proved.map(({ name }) => name), Object.keys(PROVED));
+for (const { name, example } of proved) {
+    const row = programs.split('\n').find((line) => line.startsWith(`| \`examples/${example}\` |`)) || '';
+    const [english, german] = ['en', 'de'].map((language) => languages[language].say(`proved.${name}`));
+    same(`${example} has its row, with ${PROVED[name]}`, [row, english].map((text) => text.includes(PROVED[name])), [true, true]);
+    const [one, two] = [english.replace(/,(?=\d{3})/g, ''), german.replace(/\.(?=\d{3})/g, '')].map((text) => text.match(/\d+/g));
+    same(`${name}: the same numbers in both languages`, one, two);
+}
+same('the orders of the table of squares', programs.includes('`stopped at 61 after 1855`'), true);
 
 (async () => {
     for (const text of ['', 'T64K GK', 'ÄÖÜ \u{1F600}\n'.repeat(2000)]) {

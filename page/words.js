@@ -55,12 +55,12 @@ class Words {
         });
     }
 
-    // The same in a few words.
-    brief({ letter, location, pair, isLong, shift }) {
-        if (!this.has(`brief.${letter}`)) {
+    // The same in a few words; or, of an order that has just come into the store, what it will do.
+    brief({ letter, location, pair, isLong, shift }, part = 'brief') {
+        if (!this.has(`${part}.${letter}`)) {
             return this.say('brief.none');
         }
-        return this.say(`brief.${letter}`, { at: isLong ? `${pair}, ${pair + 1}` : location, address: location, shift });
+        return this.say(`${part}.${letter}`, { at: isLong ? `${pair}, ${pair + 1}` : location, address: location, shift });
     }
 
     // A word as it may be meant: a small one as a number, and any other as an order too.
