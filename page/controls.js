@@ -84,8 +84,9 @@ function loadStory() {
     put(example < 0 ? { text: tapeOf(printable(by('name').value)), kind: 'tape' } : EXAMPLES[example]);
 }
 
-// Shows the story that is chosen, from its beginning, or ends the one that is shown. A short one passes over the tape.
-async function tell(isShort = false) {
+// Shows the story that is chosen, from its beginning, or ends the one that is shown. A short one passes over the tape, with
+// a sentence of its own.
+async function tell(again) {
     if (page.tour) {
         halt();
         return;
@@ -94,7 +95,7 @@ async function tell(isShort = false) {
     if (!isAlive()) {
         return;
     }
-    const tour = (page.tour = new Tour(storyNow(), isShort));
+    const tour = (page.tour = new Tour(storyNow(), again));
     page.toured = tour;
     by('skip').hidden = false;
     drawButtons();
@@ -104,16 +105,6 @@ async function tell(isShort = false) {
         by('invite').hidden = false;
         drawButtons();
     }
-}
-
-// Prints another letter: its tape is mounted, and a short story shows it at work.
-function printLetter(letter) {
-    replacing(() => {
-        by('stories').value = 'name';
-        by('name').value = letter;
-        loadStory();
-        tell(true);
-    });
 }
 
 // The story after the one that is chosen.
@@ -134,10 +125,7 @@ function drawButtons() {
     by('show').textContent = words.say(page.tour ? 'stopShow' : 'show');
     by('show').classList.toggle('first', !page.tour);
     by('speed').parentElement.hidden = Boolean(page.tour);
-    const isLetter = storyNow()?.name === 'letter' || LETTER_TAPES.has(page.program.text);
-    const isTyping = isEnded() && !page.tour && isLetter;
-    by('keyboard').hidden = !isTyping;
-    by('now').classList.toggle('typing', isTyping);
+    drawKeyboard();
     by('stage').classList.toggle('unstarted', Boolean(page.tour && page.tour.isUnstarted));
     by('show').disabled = !isAlive();
     by('at').disabled = !isAlive();

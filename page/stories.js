@@ -43,14 +43,16 @@ function sayStory(text) {
 }
 
 class Tour {
-    constructor(story, isShort) {
-        Object.assign(this, { story, isShort });
+    // A short story passes over the tape: `again` is its sentence, if it is one.
+    constructor(story, again) {
+        Object.assign(this, { story, again });
         this.isOver = false;
         this.waited = 0; // seconds, as they are planned
         this.isUnstarted = true; // nobody has pressed Start yet
         this.item = undefined; // of the tape, while it is told of
         this.place = undefined; // the place that the item is about
         this.hasWatched = false; // whether an item was shown order by order
+        this.watched = undefined; // the first row of that item, until the next one
         this.isQuick = false; // whether orders pass too fast for anything to be seen to move
         this.isFast = false; // whether orders pass too fast to be followed
     }
@@ -92,7 +94,7 @@ class Tour {
 
     // All of the story; true if it reached its end.
     async run() {
-        const parts = this.isShort ? [this.tellAgain] : [this.tellAim, this.tellLoader, this.tellTape];
+        const parts = this.again ? [this.tellAgain] : [this.tellAim, this.tellLoader, this.tellTape];
         for (const part of [...parts, this.tellProgram]) {
             this.skips = false;
             await part.call(this);
@@ -143,6 +145,7 @@ class Tour {
     async tellTape() {
         for (let item = 0; item < ITEMS && this.isReading(); item++) {
             const from = page.shown, to = this.toNextItem(from);
+            this.watched = undefined;
             const said = this.itemOf(from, to);
             if (said[0] === 'told.landed' && !this.hasWatched && !(await this.watch(from, to, said[1].item))) {
                 return;
@@ -153,14 +156,14 @@ class Tour {
                 return;
             }
         }
-        this.item = this.place = undefined;
+        this.item = this.place = this.watched = undefined;
         await this.readOn('told.on', {});
     }
 
-    // The tape of a letter that a visitor has chosen.
+    // The tape of a letter or a word that a visitor has chosen.
     async tellAgain() {
         this.isUnstarted = false;
-        await this.readOn('told.again', { name: by('name').value });
+        await this.readOn(this.again.key, this.again.values);
     }
 
     // The rest of the tape, in a few seconds.
@@ -181,6 +184,7 @@ class Tour {
     async watch(from, to, item) {
         this.hasWatched = this.isQuick = true;
         this.item = this.place = undefined;
+        this.watched = page.rows.length - from.rowsLeft;
         while (page.shown.orders < to.orders && to.orders < from.orders + WATCHED) {
             show(pictureAt(page.shown.orders + 1, page.shown), page.shown);
             if (!(await this.tell(0.16, 'told.reads', { item, count: to.orders - from.orders }))) {
