@@ -20,7 +20,8 @@ FIRST = ["letter.tape", "name.tape", "digits.tape", "hello.edsac", "squares.edsa
 KINDS = {".tape": "tape", ".tape1": "tape1", ".edsac": "source"}
 CODE = [
     "machine", "way", "words", "paint", "map", "tape", "lens", "rows", "registers", "paper", "travel", "moves", "sound", "sentence",
-    "strip", "share", "editor", "printing", "program", "below", "said", "stories", "tour", "items", "fault", "lessons", "loaders", "kiosk", "controls", "listen", "page",
+    "parts", "strip", "share", "editor", "printing", "program", "below", "said", "stories", "tour", "items", "fault", "lessons",
+    "loaders", "kiosk", "keyboard", "copy", "word", "controls", "listen", "page",
 ]
 
 

@@ -81,10 +81,7 @@ function drawButtons() {
     by('show').textContent = words.say(page.tour ? 'stopShow' : 'show');
     by('show').classList.toggle('first', !page.tour);
     by('speed').parentElement.hidden = Boolean(page.tour);
-    const isLetter = storyNow()?.name === 'letter' || LETTER_TAPES.has(page.program.text);
-    const isTyping = isEnded() && !page.tour && isLetter;
-    by('keyboard').hidden = !isTyping;
-    by('now').classList.toggle('typing', isTyping);
+    drawKeyboard();
     by('stage').classList.toggle('unstarted', Boolean(page.tour && page.tour.isUnstarted));
     by('show').disabled = !isAlive();
     by('at').disabled = !isAlive();

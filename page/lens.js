@@ -1,9 +1,10 @@
 'use strict';
 // The lens: the words of the store near the one that matters, in large type. Each row has the location, the digits as
-// lamps, the order, and in few words what it does or is.
+// lamps, the order, and in few words what it does or is. A long word that an order uses takes the rows of its two places.
 const FEWEST_ROWS = 5, MOST_ROWS = 16;
-
 const RESTS = 400; // milliseconds that the lens stays where it is while the machine runs fast
+const SLIDE = 250; // milliseconds that the rows slide
+const APPEARS = 120; // milliseconds from one row to the next when the loader appears
 
 // The first place of the lens: it moves only if the place in focus would leave it.
 function lensFirst(first, focus, rows, places) {
@@ -54,16 +55,16 @@ class Lens {
         }
         while (this.body.rows.length < rows) {
             const row = this.body.insertRow();
-            row.innerHTML = '<th scope="row"></th><td class="lamps" aria-hidden="true"></td><td class="spelled"></td>'
-                + '<td class="brief"></td>';
+            row.innerHTML = '<th scope="row"><button></button></th><td class="lamps" aria-hidden="true"></td>'
+                + '<td class="spelled"></td><td class="brief"></td>';
             lampsIn(row.cells[1], 17);
         }
         return rows;
     }
 
-    // Draws the rows about a place. `others` must be seen too, `said` tells what is in a place, and `isFast` keeps the lens
-    // at rest.
-    draw({ focus, others, counter, done, named, places, isFast, said }) {
+    // Draws the rows about a place. `others` must be seen too, `said` tells what is in a place, `saidLong` what is in one of
+    // the `pairs`, and `isFast` keeps the lens at rest.
+    draw({ focus, others, pairs, counter, done, named, places, isFast, said, saidLong }) {
         const rows = this.body.rows.length || this.fit();
         const now = performance.now();
         const first = lensFirst(this.first, focus, rows, places);
@@ -74,23 +75,57 @@ class Lens {
         }
         this.first = Math.max(0, Math.min(this.first, places - rows));
         this.places = lensPlaces(this.first, rows, isFast ? [] : others);
+        const isPair = (k) => pairs.includes(this.places[k]) && this.places[k + 1] === this.places[k] + 1;
         this.places.forEach((place, k) => {
-            const { bits, word, brief, isNew, isIdle } = said(place);
+            const [isTop, isUnder] = [isPair(k), k > 0 && isPair(k - 1)];
+            const pair = isUnder ? place - 1 : place;
+            const is = isTop || isUnder ? { ...saidLong(pair), isTop, isUnder } : said(place);
+            const isAt = (one) => one === place || (is.number !== undefined && one === pair);
             const isFar = k > 0 && place !== this.places[k - 1] + 1;
-            const [here, past, aim] = [counter, done, named].map((one) => one === place);
-            const marks = { new: isNew, idle: isIdle, here, done: past, named: aim, far: isFar };
+            const marks = { new: is.isNew, idle: is.isIdle, here: counter === place, done: done === place, named: isAt(named),
+                far: isFar, top: isTop, under: isUnder };
             const name = Object.keys(marks).filter((mark) => marks[mark]).join(' ');
-            this.write(this.body.rows[k], bits, [place, word, brief, name].join('\n'), [place, word, brief], name);
+            this.write(this.body.rows[k], place, is, name);
         });
     }
 
     // Writes a row, if it has become different.
-    write(row, bits, all, [place, word, brief], name) {
-        light(row.cells[1], bits);
+    write(row, place, is, name) {
+        this.form(row, is);
+        if (!is.isUnder) {
+            light(row.cells[1], is.bits);
+        }
+        const brief = is.isUnder ? is.number : is.brief;
+        const all = [place, is.word, brief, name].join('\n');
         if (row.all !== all) {
             row.all = all;
-            [row.cells[0].textContent, row.cells[2].textContent, row.cells[3].textContent] = [place, word, brief];
+            row.cells[0].firstChild.textContent = place;
+            row.cells[row.cells.length - 1].textContent = brief;
             row.className = name;
+            if (row.cells.length > 3) {
+                row.cells[2].textContent = is.word;
+            }
+            if (is.isUnder) {
+                [...row.cells[1].children].forEach((node, k) => { node.textContent = [place, '', place - 1][k]; });
+            }
+        }
+    }
+
+    // A row of one word, or the upper or the lower row of a long one: its 35 lamps, and the places of its halves below them.
+    form(row, { isTop = false, isUnder = false }) {
+        const form = isTop ? 'top' : isUnder ? 'under' : 'one';
+        if ((row.form || 'one') === form) {
+            return;
+        }
+        row.form = form;
+        row.all = undefined;
+        while (row.cells.length > 3) {
+            row.deleteCell(2);
+        }
+        row.cells[1].colSpan = form === 'one' ? 1 : 2;
+        lampsIn(row.cells[1], { top: 35, under: 3, one: 17 }[form]);
+        if (form === 'one') {
+            row.insertCell(2).className = 'spelled';
         }
     }
 
@@ -99,7 +134,7 @@ class Lens {
         if (by !== 0 && Math.abs(by) < this.body.rows.length && isMoving()) {
             const high = this.body.rows[0].offsetHeight;
             const frames = [{ transform: `translateY(${by * high}px)` }, { transform: 'none' }];
-            this.body.animate(frames, { duration: 250, easing: 'ease-out' });
+            this.body.animate(frames, { duration: SLIDE, easing: 'ease-out' });
         }
     }
 
@@ -112,14 +147,14 @@ class Lens {
     appear() {
         if (isMoving()) {
             [...this.body.rows].forEach((row, k) => {
-                row.animate([{ opacity: 0 }, { opacity: 1 }], { delay: 120 * k, duration: 300, fill: 'backwards' });
+                row.animate([{ opacity: 0 }, { opacity: 1 }], { delay: APPEARS * k, duration: 300, fill: 'backwards' });
             });
         }
     }
 
     // The box of a row's cell in the window, where it is once the rows have come to rest.
     boxOf(row, cell) {
-        const box = row.cells[cell].getBoundingClientRect();
+        const box = row.cells[Math.min(cell, row.cells.length - 1)].getBoundingClientRect();
         const slid = this.body.getBoundingClientRect().top - this.table.parentElement.getBoundingClientRect().top;
         return { left: box.left, top: box.top - slid, width: box.width, height: box.height };
     }

@@ -13,6 +13,9 @@ function listen() {
     press('inviteWrite', write);
     press('inviteBack', () => { halt(); back(); });
     press('inviteNext', nextStory);
+    press('wordRun', runCopy);
+    press('wordUndo', () => { opened.word = opened.was; drawWord(); });
+    press('wordClose', closeWord);
     press('mark', markRefusal);
     press('replace', () => answerAsk(true));
     press('keep', () => answerAsk(false));
@@ -66,6 +69,10 @@ function listenToBoxes() {
     by('lookBox').ontoggle = () => draw();
     by('traceBox').ontoggle = drawTrace;
     by('listingBox').ontoggle = drawListing;
+    by('lens').onclick = (event) => { // a row opens its word
+        const row = event.target.closest('tr');
+        openWord(row ? lens.places[row.sectionRowIndex] : undefined);
+    };
     by('store').onclick = (event) => { // the lens looks there until the next picture
         const box = by('store').getBoundingClientRect();
         const place = isAlive() ? store.placeAt(event.clientX - box.left, event.clientY - box.top) : undefined;
@@ -84,6 +91,7 @@ function listenToPage() {
         lens.fit();
         if (page.shown) {
             draw();
+            playMoves(true);
         }
     };
     window.onresize = redraw;

@@ -5,14 +5,8 @@
 // The loader that reads a text of a kind; the tape of a source is read by the 41 orders.
 const loaderOf = (kind) => (kind === 'tape1' ? 'tape1' : 'tape');
 
-// Whether the loader's own orders are told of, and not what it has read.
-const isLoaderShown = () => page.shown.counter < placesOf(page.program.kind) && !(page.tour && page.tour.item);
-
-// What the order at a place is for while the loader works; undefined where there is nothing of the loader.
-function reasonFor(place) {
-    const found = isLoaderShown() && LOADERS[page.words.name][loaderOf(page.program.kind)][place];
-    return found ? found[1] : undefined;
-}
+// What the loader's order at a place is for.
+const commentOf = (place) => LOADERS[page.words.name][loaderOf(page.program.kind)][place][1];
 
 // The page of both loaders, order by order.
 function drawLoaders() {

@@ -26,6 +26,7 @@ class Machine {
         this.exports = new WebAssembly.Instance(this.module, {}).exports;
         this.orders = new Map();
         this.meanings = new Map();
+        this.signs = new Map();
         this.mounted = undefined; // the rows in the room of the tape
         this.rooms = {};
         ROOMS.forEach((name, kind) => {
@@ -136,6 +137,21 @@ class Machine {
     // The letter or sign of a code.
     letter(code) {
         return String.fromCharCode(this.call('page_letter', code));
+    }
+
+    // What a code prints after the last code that set a shift, if one did.
+    sign(shift, code) {
+        const key = `${shift} ${code}`;
+        if (!this.signs.has(key)) {
+            const codes = shift === null ? [code] : [shift, code];
+            this.bytes('codes', codes.length).set(codes);
+            const { at } = this.rooms.codes;
+            const before = BigInt(codes.length - 1);
+            const status = this.call('page_paper', at, before, at + before, 1n, 'paper', 'lengths');
+            const written = status === 0 ? Number(this.numbers('lengths', BigUint64Array)[0]) : 0;
+            this.signs.set(key, this.text('paper', written).trim());
+        }
+        return this.signs.get(key);
     }
 
     // The text of an order word.

@@ -23,7 +23,7 @@ class StoreView {
             const highest = this.isOneScreen() ? (box.clientHeight - gap * (down + 1)) / (16 * down) : Infinity;
             return { across, down, dot: whole(widest), high: whole(Math.min(Math.max(widest, 2), highest)) };
         };
-        const sizes = (wide < 640 ? [4] : [16, 8]).map(sizeOf); // tanks side by side
+        const sizes = (wide < 640 ? [4] : [16, 8, 4]).map(sizeOf); // tanks side by side
         const least = ({ dot, high }) => Math.min(dot, high);
         const [{ across, down, dot, high }] = sizes.sort((one, two) => least(two) - least(one));
         const side = whole((wide - 35 * dot * across) / (across + 1)); // between tanks that are side by side

@@ -1,23 +1,29 @@
 'use strict';
 // Which moves there are between two pictures, and where each begins and ends on the screen.
 
-// What moved between two pictures that are one order apart. Of a long word the half that says something is shown.
+// What moved between two pictures that are one order apart. A long word is named by the first of its two places, and `textOf`
+// says what is in a place.
 function movesOf(before, after, machine, textOf, rowText) {
     const at = before.counter;
-    const { letter, named, isLong, pair } = machine.meaning(before.words[at], after.way.small);
-    const halves = isLong ? [pair + 1, pair] : [named];
-    const changed = halves.find((place) => before.words[place] !== after.words[place]) ?? halves[0];
-    const filled = halves.find((place) => before.words[place] !== 0) ?? halves[0];
+    const { letter, named, isLong, pair, shift } = machine.meaning(before.words[at], after.way.small);
+    const place = isLong ? pair : named;
     const printed = printedBetween(before, after);
     const moves = [];
     if (printed) {
         moves.push({ kind: 'printed', text: printed, from: named });
     } else if (letter === 'I' && before.rowsLeft !== after.rowsLeft) {
-        moves.push({ kind: 'read', text: rowText, to: changed });
+        moves.push({ kind: 'read', text: rowText, to: place });
     } else if (named !== undefined && 'ASVNC'.includes(letter)) {
-        moves.push({ kind: 'added', text: textOf(before.words[filled]), from: filled });
+        moves.push({ kind: 'added', text: textOf(before, place, isLong), from: place });
+    } else if (letter === 'H') {
+        moves.push({ kind: 'taken', text: textOf(before, place, isLong), from: place });
     } else if (named !== undefined && 'TU'.includes(letter)) {
-        moves.push({ kind: 'stored', text: textOf(after.words[changed]), to: changed });
+        moves.push({ kind: 'stored', text: textOf(after, place, isLong), to: place });
+    } else if ('RL'.includes(letter) && shift > 0) {
+        moves.push({ kind: 'shifted', by: letter === 'R' ? shift : -shift });
+    }
+    if ('VNC'.includes(letter)) {
+        moves.push({ kind: 'multiplied' });
     }
     if (after.counter !== at && after.counter !== at + 1) {
         moves.push({ kind: 'jumped', from: at, to: after.counter });
@@ -35,34 +41,62 @@ function movesNow() {
         return [{ kind: 'read', text: tour.item, to: tour.place }];
     }
     const rowText = page.labels[page.rows.length - before.rowsLeft];
-    return shown.orders - before.orders === 1 ? movesOf(before, shown, machine, shortOf, rowText) : [];
+    const textOf = (picture, place, isLong) => (isLong ? longText(picture, place) : shortOf(picture.words[place]));
+    return shown.orders - before.orders === 1 ? movesOf(before, shown, machine, textOf, rowText) : [];
 }
 
-function playMoves() {
-    for (const { kind, text, from, to } of page.moves) {
+// Shows one move: each of them has its way.
+const WAYS = {
+    printed(text, source) {
+        const paper = by('paper').lastChild;
+        travel.go(text, besideOf(source), travel.pointOf(paper), [paper], -0.18, travel.pointOf(paper, 0.5, 0));
+    },
+    read(text, source, target) {
+        const [first, last] = [page.before, page.shown].map(({ rowsLeft }) => page.rows.length - rowsLeft);
+        arrive(text, travel.pointOf(tape.boxOf(first, last - 1), 0.5, 0.9), target, 0.12);
+    },
+    added(text, source) {
+        const number = by('accNumber');
+        travel.go(text, besideOf(source), travel.pointOf(number), [number], 0.12, travel.pointOf(number, 0.5, 0));
+    },
+    taken(text, source) {
+        const times = by('times');
+        travel.go(text, besideOf(source), travel.pointOf(times), [times], -0.1, travel.pointOf(times, 0.5, -0.2));
+    },
+    multiplied() {
+        const [times, lamps] = [by('times'), by('accLamps')];
+        travel.go(`\u00d7 ${times.textContent}`, travel.pointOf(times, 0.5, 0), travel.pointOf(lamps, 0.1, 0.5), [], -0.06);
+    },
+    stored(text, source, target) {
+        arrive(text, travel.pointOf(by('accNumber'), 0.5, 0), target, 0.12);
+    },
+    shifted(text, source, target, shift) {
+        travel.shift(by('accLamps'), shift);
+    },
+    jumped(text, source, target) {
+        jump(source, target);
+    },
+};
+const FROM_ROW = ['printed', 'added', 'taken'], TO_ROW = ['read', 'stored'];
+
+// Shows what moved; of a picture that is only drawn again the trails alone.
+function playMoves(isAgain = false) {
+    travel.isAgain = isAgain;
+    for (const { kind, text, from, to, by: shift } of page.moves) {
         const [source, target] = [from, to].map((place) => lens.rowOf(place));
-        const number = by('accNumber'), paper = by('paper').lastChild;
-        if (kind === 'printed' && source) {
-            travel.go(text, besideOf(source), travel.pointOf(paper), [paper], -0.18, travel.pointOf(paper, 0.5, 0));
-        } else if (kind === 'read' && target) {
-            const [first, last] = [page.before, page.shown].map(({ rowsLeft }) => page.rows.length - rowsLeft);
-            arrive(text, travel.pointOf(tape.boxOf(first, last - 1), 0.5, 0.9), target, 0.12);
-        } else if (kind === 'added' && source) {
-            travel.go(text, besideOf(source), travel.pointOf(number), [number], 0.12, travel.pointOf(number, 0.5, 0));
-        } else if (kind === 'stored' && target) {
-            arrive(text, travel.pointOf(number, 0.5, 0), target, 0.12);
-        } else if (kind === 'jumped') {
-            jump(source, target);
+        if (!(FROM_ROW.includes(kind) && !source) && !(TO_ROW.includes(kind) && !target)) {
+            WAYS[kind](text, source, target, shift);
         }
     }
 }
 
 // The gap in a row beside its order, where a trail begins or ends.
-const besideOf = (row) => travel.pointOf(lens.boxOf(row, 2), 0.88);
+const besideOf = (row) => travel.pointOf(lens.boxOf(row, 2), row.cells.length > 3 ? 0.88 : 0);
 
 // A text comes to the order of a row; its trail ends beside it.
 function arrive(text, from, row, bend) {
-    travel.go(text, from, travel.pointOf(lens.boxOf(row, 2), 0.35), [...row.cells].slice(1), bend, besideOf(row));
+    const to = row.cells.length > 3 ? travel.pointOf(lens.boxOf(row, 2), 0.35) : besideOf(row);
+    travel.go(text, from, to, [...row.cells].slice(1), bend, besideOf(row));
 }
 
 // An arrow from order to order, at the left of the lens. An order that the lens doesn't show is beyond its edge.
@@ -70,7 +104,7 @@ function jump(source, target) {
     const box = by('lens').parentElement.getBoundingClientRect();
     const edge = { left: box.left, width: 0, top: target ? box.top : box.bottom, height: 0 };
     const [from, to] = [source, target].map((row) => travel.pointOf(row ? lens.boxOf(row, 0) : edge, 0.12));
-    travel.trail(wayOf(from, to, from[1] < to[1] ? 0.22 : -0.22), isMoving());
+    travel.trail(wayOf(from, to, from[1] < to[1] ? 0.22 : -0.22));
 }
 
 if (typeof module !== 'undefined') {

@@ -68,8 +68,11 @@ function show(shown, before) {
     page.moves = was && was === before ? movesNow() : []; // nothing is seen to move if the visitor went back or far on
     draw(page.moves.length > 0);
     playMoves();
-    if (isNewStop && by('sound').checked && page.touched) {
+    if (isNewStop && maySound()) {
         ring();
+    }
+    if (was && was === before && shown.words && was.words && maySound()) {
+        clatter(clatterOf(was, shown));
     }
 }
 
@@ -82,6 +85,7 @@ function look(orders, beside) {
 // Start: the machine is cleared, the program's tape is mounted, and no order has been obeyed.
 function begin() {
     halt();
+    closeWord();
     page.program = textNow();
     by('small').disabled = page.program.kind === 'tape1'; // the loader of May 1949 has only the full store
     tanks();
@@ -123,8 +127,10 @@ function draw(isGliding = false) {
     by('done').textContent = doneText();
     by('did').textContent = didText();
     tape.draw(page.rows, shown.rowsLeft, page.labels, page.items, readNow(), isGliding);
-    drawLens(meaning.named);
+    drawLens(meaning);
     drawAccumulator();
+    drawParts();
+    drawWord();
     store.draw(shown, page.before, page.program.small, meaning.named, [lens.first, lens.first + lens.places.length - 1]);
     by('store').setAttribute('aria-label', words.say('storeNow', { changed: changedText() }));
     const [left, all] = [shown.rowsLeft, page.rows.length];
@@ -209,6 +215,8 @@ function languageAsked() {
 }
 
 async function load() {
+    makeKeyboard();
+    makeWord();
     speakIn(languageAsked());
     document.querySelector('main').hidden = false;
     if (typeof WebAssembly !== 'object') {
@@ -219,12 +227,6 @@ async function load() {
     page.machine = new Machine(await WebAssembly.compile(bytes));
     page.letters = Array.from({ length: 32 }, (_, code) => page.machine.letter(code));
     lampsIn(by('accLamps'), 71);
-    by('keyboard').append(...[...ALPHABET].map((letter) => {
-        const key = document.createElement('button');
-        key.textContent = letter;
-        key.onclick = () => printLetter(letter);
-        return key;
-    }));
     by('stories').value = STORIES[0].name;
     listen();
     loadStory();

@@ -54,11 +54,11 @@ function styles() {
     const all = (list) => [...list].flatMap((rule) => (rule.cssRules && !(rule instanceof CSSKeyframesRule)
         ? [rule, ...all(rule.cssRules)] : [rule]));
     const atTimes = ['.rings', '.here', '.painted', '.faulty', '.comment', '.label', '.order', '.word', '.string', '.kiosk',
-        '.long', '.reasons', '.new', '.idle', '.done', '.named', '.far', '.on', '.unstarted', '.typing', '.traveller', '#trails',
+        '.long', '.new', '.idle', '.done', '.named', '.far', '.top', '.under', '.on', '.unstarted', '.typing', '.traveller', '#trails', '#parts',
         '[data-print', '::selection', '#printed', 'noscript'];
     const rules = all(document.styleSheets[0].cssRules);
     const selectors = rules.flatMap((rule) => (rule.selectorText || '').split(',')).map((one) => one.trim()).filter(Boolean);
-    const bare = (one) => one.replace(/:not\(:empty\)|::before|:(focus-visible|disabled|empty)/g, '') || '*';
+    const bare = (one) => one.replace(/:not\(:empty\)|::before|:(focus-visible|focus|disabled|empty)/g, '') || '*';
     const dead = selectors.filter((one) => !atTimes.some((name) => one.includes(name)) && !document.querySelector(bare(one)));
     const keyframes = rules.filter((rule) => rule instanceof CSSKeyframesRule).reduce((sum, rule) => sum + rule.cssRules.length, 0);
     const written = document.querySelector('style').textContent.match(/\{/g).length;

@@ -10,7 +10,8 @@ const isOneOrder = () => isBeside() && !isFast() && page.shown.orders - page.bef
 function doneText() {
     const { before, shown, machine, program, words } = page;
     if (!isBeside()) {
-        return before ? words.say(page.isNew ? 'told.why' : 'press') : '';
+        const key = page.isNew ? 'told.why' : keysNow() === 'name' ? 'pressName' : 'press';
+        return before ? words.say(key) : '';
     }
     if (!isOneOrder()) {
         return words.say(shown.counter < placesOf(program.kind) ? 'runsLoader' : 'runsProgram');
@@ -27,7 +28,7 @@ function didText() {
         return page.words.say(page.program.kind === 'tape1' ? 'atStart1' : 'atStart');
     }
     return isOneOrder()
-        ? page.words.say('before', { said: page.words.changes(page.before, page.shown, page.machine, page.rows) }) : '';
+        ? page.words.say('before', { said: page.words.changes(page.before, page.shown, page.machine, page.rows, longText) }) : '';
 }
 
 function changedText() {

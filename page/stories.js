@@ -51,8 +51,9 @@ function loadStory() {
     put(example < 0 ? { text: story.text(), kind: 'tape' } : EXAMPLES[example]);
 }
 
-// Shows the story that is chosen, from its beginning, or ends the one that is shown. A short one passes over the tape.
-async function tell(isShort = false) {
+// Shows the story that is chosen, from its beginning, or ends the one that is shown. A short one passes over the tape, with
+// a sentence of its own.
+async function tell(again) {
     if (page.tour) {
         halt();
         return;
@@ -62,7 +63,7 @@ async function tell(isShort = false) {
         return;
     }
     const story = storyNow();
-    const tour = (page.tour = isShort ? new ShortTour(story) : story.name === 'fault' ? new FaultTour(story) : new Tour(story));
+    const tour = (page.tour = again ? new ShortTour(story, again) : story.name === 'fault' ? new FaultTour(story) : new Tour(story));
     page.toured = tour;
     by('skip').hidden = false;
     drawButtons();
@@ -72,16 +73,6 @@ async function tell(isShort = false) {
         by('invite').hidden = false;
         drawButtons();
     }
-}
-
-// Prints another letter: its tape is mounted, and a short story shows it at work.
-function printLetter(letter) {
-    replacing(() => {
-        by('stories').value = 'name';
-        by('name').value = letter;
-        loadStory();
-        tell(true);
-    });
 }
 
 // The story after the one that is chosen.

@@ -18,6 +18,7 @@ class Tour {
         this.item = undefined; // of the tape, while it is told of
         this.place = undefined; // the place that the item is about
         this.hasWatched = false; // whether an item was shown order by order
+        this.watched = undefined; // the first row of that item, until the next one
         this.isQuick = false; // whether orders pass too fast for anything to be seen to move
         this.isFast = false; // whether orders pass too fast to be followed
     }
@@ -129,6 +130,7 @@ class Tour {
     async tellItem(seconds) {
         const from = page.shown, to = this.toNextItem(from);
         const item = itemBetween(from, to);
+        this.watched = undefined;
         if (to.ending !== 'limit') {
             show(to, from);
             return true; // the tape has ended, or the loader stands still
@@ -140,7 +142,7 @@ class Tour {
         Object.assign(this, { item, place: placeOfItem(from, to) });
         show(to, from);
         const goesOn = await this.tell(seconds, key, values);
-        this.item = this.place = undefined;
+        this.item = this.place = this.watched = undefined;
         return goesOn;
     }
 
@@ -163,6 +165,7 @@ class Tour {
     // The loader's orders that read one item, one by one; then the item is shown on its way as a whole.
     async watch(from, to, item) {
         this.hasWatched = this.isQuick = true;
+        this.watched = page.rows.length - from.rowsLeft;
         while (page.shown.orders < to.orders && to.orders < from.orders + WATCHED) {
             show(pictureAt(page.shown.orders + 1, page.shown), page.shown);
             if (!(await this.tell(0.16, 'told.reads', { item, count: to.orders - from.orders }))) {
@@ -219,11 +222,11 @@ class Tour {
     }
 }
 
-// The story of a letter that a visitor has chosen: it passes over the tape.
+// The story of a letter, a name or a copy that a visitor has made: it passes over the tape, with a sentence of its own.
 class ShortTour extends Tour {
-    constructor(story) {
+    constructor(story, { key, values }) {
         super(story);
         this.isUnstarted = false;
-        this.parts = [() => this.readOn('told.again', { name: by('name').value }), this.tellProgram];
+        this.parts = [() => this.readOn(key, values), this.tellProgram];
     }
 }

@@ -21,7 +21,12 @@ function wayOf([x, y], [u, v], bend) {
 
 class Travel {
     constructor(stage, svg) {
-        Object.assign(this, { stage, svg, playing: [] });
+        Object.assign(this, { stage, svg, playing: [], isAgain: false });
+    }
+
+    // Whether anything is seen on its way.
+    isSeen() {
+        return isMoving() && !this.isAgain;
     }
 
     // Ends what is under way, and removes its trails.
@@ -41,8 +46,8 @@ class Travel {
     // Shows a text on its way. What it ends in is seen once it is there. The trail may end beside it.
     go(text, from, to, ends, bend, trailTo = to) {
         const points = wayOf(from, to, bend), duration = flightNow();
-        this.trail(wayOf(from, trailTo, bend), isMoving());
-        if (!isMoving()) {
+        this.trail(wayOf(from, trailTo, bend));
+        if (!this.isSeen()) {
             return;
         }
         const node = document.createElement('span');
@@ -60,8 +65,26 @@ class Travel {
         });
     }
 
+    // The lamps of a register slide by this many digits to the right, or to the left if it is below 0, and an arrow below
+    // the register's middle says so.
+    shift(lamps, by) {
+        const lefts = [...lamps.children].map((lamp) => lamp.offsetLeft);
+        const pitch = lefts[1] - lefts[0];
+        if (this.isSeen()) {
+            [...lamps.children].forEach((lamp, k) => {
+                const from = lefts[k - by] ?? lefts[k] - by * pitch;
+                if (lamp.className === 'on') {
+                    const slide = [{ transform: `translateX(${from - lefts[k]}px)` }, { transform: 'none' }];
+                    this.playing.push(lamp.animate(slide, { duration: flightNow(), easing: EASING }));
+                }
+            });
+        }
+        const middle = this.pointOf(lamps, 0.5, -0.15), reach = Math.max(Math.abs(by), 3) * pitch * Math.sign(by);
+        this.trail(wayOf([middle[0] - reach / 2, middle[1]], [middle[0] + reach / 2, middle[1]], 0));
+    }
+
     // The trail of a way, with an arrow at its end.
-    trail(points, isDrawn) {
+    trail(points) {
         const [x, y] = points[BENDS], [u, v] = points[BENDS - 2];
         const turn = (Math.atan2(y - v, x - u) * 180) / Math.PI;
         const size = letterHigh() * 0.42;
@@ -69,7 +92,7 @@ class Travel {
         const line = this.shape('path', { d: `M${drawn}` });
         const place = `translate(${x} ${y}) rotate(${turn})`;
         const head = this.shape('path', { class: 'head', d: `M0 0L${-1.6 * size} ${-size}V${size}Z`, transform: place });
-        if (isDrawn) {
+        if (this.isSeen()) {
             const long = line.getTotalLength(), duration = flightNow();
             const dashes = [{ strokeDasharray: `0 ${long}` }, { strokeDasharray: `${long} 0` }];
             const pale = [{ opacity: 1 }, { opacity: 0.6 }];
