@@ -53,7 +53,7 @@ function laterOf(place, word, shown) {
         return words.say('later.number', { number: meant.number });
     }
     if (codePlaces(shown.words, placesOf(program.kind), (one) => machine.meaning(one, program.small)).has(place)) {
-        return words.say('later.code', { sign: orderText(word)[0] });
+        return words.say('later.code', { code: codeText(word >> CODE_DIGITS) });
     }
     return ordersObeyed().get(place) === word ? words.brief(meant, 'later') : '';
 }

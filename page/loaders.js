@@ -1,5 +1,5 @@
 'use strict';
-// What each order of the two loaders is for: in the lens while a loader works, and as a page to read and to print. The
+// What each order of the two loaders is for: below the lens while a loader works, and as a page to read and to print. The
 // texts are in loaders/*.json, each order with its own.
 
 // The loader that reads a text of a kind; the tape of a source is read by the 41 orders.

@@ -117,7 +117,7 @@ class Tour {
     // Each item as it lands: the first ones slowly, the others in a few seconds.
     async tellTape() {
         for (let item = 0; item < ITEMS && this.isReading(); item++) {
-            if (!(await this.tellItem(item < 4 ? 4.5 : 3.5))) {
+            if (!(await this.tellItem(item < 4 ? 4 : 3.5))) {
                 return;
             }
         }
@@ -141,6 +141,11 @@ class Tour {
         }
         Object.assign(this, { item, place: placeOfItem(from, to) });
         show(to, from);
+        if (this.watched !== undefined) { // its parts are still to be seen
+            await this.tell(seconds, key, () => ({ ...values(), later: '' }));
+            this.watched = undefined;
+            drawParts();
+        }
         const goesOn = await this.tell(seconds, key, values);
         this.item = this.place = this.watched = undefined;
         return goesOn;

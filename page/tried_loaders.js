@@ -1,6 +1,6 @@
 'use strict';
-// What is said of each order of the loaders: beside the listings of the crates, beside docs/LOADING.md, in the lens, and on
-// a page of its own.
+// What is said of each order of the loaders: beside the listings of the crates, beside docs/LOADING.md, below the lens, and
+// on a page of its own.
 const fs = require('fs');
 const path = require('path');
 
@@ -39,7 +39,7 @@ function texts(same) {
     same('docs/LOADING.md says the same', tabled(readTop('docs/LOADING.md')), [...english.tape, ...english.tape1]);
 }
 
-// The lens while the loaders run, each order in its row, and none cut off.
+// The lens while the loaders run: what each order is for, on one line.
 async function loaders(b) {
     await b.size(1280, 720);
     for (const language of ['en', 'de']) {
@@ -47,22 +47,22 @@ async function loaders(b) {
         for (const [kind, example] of [['tape', 'letter.tape'], ['tape1', 'squares.tape1']]) {
             await b.choose(example);
             const told = await b.run((one) => LOADERS[page.words.name][one].map(([order, reason], place) => {
-                page.peek = place;
-                draw();
-                const [, , spelled, brief] = lens.rowOf(place).cells;
-                const isWhole = brief.scrollWidth <= brief.clientWidth;
-                return [spelled.textContent === order, brief.textContent === reason, isWhole].every(Boolean) ? '' : `${place} ${reason}`;
+                drawNote(place);
+                const isOneLine = by('note').offsetHeight < 1.5 * letterHigh() && by('note').scrollWidth <= by('note').clientWidth;
+                const isSaid = by('note').textContent === reason && orderText(page.shown.words[place]) === order;
+                return isSaid && isOneLine ? '' : `${place} ${reason}`;
             }).filter(Boolean), kind);
             await b.expect(`${language}, ${kind}: the machine has these orders, and the lens says what each is for`, told, []);
         }
     }
     await b.ask('speakIn("en"); 0');
     await b.choose('letter.tape');
-    await b.set('at', '49');
-    const row = (place) => b.ask(`lens.rowOf(${place}).cells[3].textContent`);
-    await b.expect('an order that has changed keeps its reason', await row(34), 'Read the first row of an item: its letter.');
-    await b.set('at', '191');
-    await b.expect('an order of the program has none', await row(64), 'print the sign in 66');
+    await b.expect('at Start, of the first order', await b.text('note'), 'Empty the accumulator. Later: the number so far.');
+    await b.set('at', '48');
+    await b.expect('then of the order just obeyed', [await b.ask('page.before.counter'), await b.text('note')],
+        [25, 'Into 22: it says where the next word goes.']);
+    await b.set('at', '192');
+    await b.expect('an order of the program has none', await b.text('note'), 'Touch a row to open its word.');
     await b.expect('the page of the loaders', await b.run(() => {
         by('loaderBox').open = true;
         const rows = [...by('loaders').querySelectorAll('table')].map((table) => table.rows.length - 1);

@@ -159,7 +159,7 @@ const FIRST = [
     'GK tells the loader: this is where the program begins. @ on the tape now means 64',
     'O2@ was read from the tape, and became O66F in place 64. Later it will print the sign in place 66.',
     'ZF was read from the tape, and went into place 65. Later it will stop the machine.',
-    'AF was read from the tape, and went into place 66. It is the code of A, to be printed.',
+    'AF was read from the tape, and went into place 66. There it is the code of A, to be printed.',
     'The teleprinter prints A.',
     'Now it is your turn',
 ];
