@@ -1,12 +1,12 @@
 'use strict';
 // The paper of the teleprinter.
-const TAIL = 8000; // codes of the paper that are laid out
+const TAIL = 8000, FAST_TAIL = 2000; // codes of the paper that are laid out, and those while the machine runs fast
 const PAPER_LINES = 24; // of a paper that is shown whole
 
 // The end of the paper: no more than a browser lays out at once. What was printed last has a part of its own.
 function drawPaper() {
     const { way, printed } = page.shown;
-    const left = Math.max(0, printed - TAIL);
+    const left = Math.max(0, printed - (isFast() ? FAST_TAIL : TAIL));
     const paper = way.text(left, printed).replace(/\r/g, '');
     const said = left > 0 ? `[${page.words.say('lines', { count: page.words.number(left) })}]\n${paper}` : paper;
     if (by('paper').textContent !== said) {
@@ -22,8 +22,9 @@ function drawPaper() {
 function sizePaper(said) {
     const lines = said.slice(-2000).split('\n').slice(-PAPER_LINES);
     const widest = Math.max(...lines.map((line) => line.length), 1);
-    const high = by('paper').parentElement.clientHeight - by('paperHead').offsetHeight - 1.2 * letterHigh();
-    const across = (by('paper').clientWidth * 0.9) / (widest * 0.61), down = (isOneScreen() ? high : 400) / (lines.length * 1.2);
+    const [wide, high] = measure('paper', () => [
+        by('paper').clientWidth, by('paper').parentElement.clientHeight - by('paperHead').offsetHeight - 1.2 * letterHigh()]);
+    const across = (wide * 0.9) / (widest * 0.61), down = (isOneScreen() ? high : 400) / (lines.length * 1.2);
     const most = Math.min(across, down);
     by('paper').style.fontSize = `${Math.max(0.6, Math.min(most / letterHigh(), 2)).toFixed(2)}rem`;
 }
