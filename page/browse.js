@@ -5,12 +5,14 @@ const { Visitor } = require('./browser.js');
 const machine = require('./tried_machine.js');
 const stories = require('./tried_stories.js');
 const sharing = require('./tried_sharing.js');
+const motion = require('./tried_motion.js');
+const touch = require('./tried_touch.js');
 const looks = require('./tried_looks.js');
 
 const [command, file, folder, only] = process.argv.slice(2);
 const b = new Visitor(command, file, folder);
 const WHOLE = [
-    ...Object.values(machine), ...Object.values(stories), ...Object.values(sharing),
+    ...Object.values(machine), ...Object.values(motion), ...Object.values(touch), ...Object.values(stories), ...Object.values(sharing),
     looks.looks, looks.noScript, looks.kiosk,
 ];
 
