@@ -7,13 +7,15 @@ const stories = require('./tried_stories.js');
 const { lessons } = require('./tried_lessons.js');
 const sharing = require('./tried_sharing.js');
 const { loaders } = require('./tried_loaders.js');
+const motion = require('./tried_motion.js');
+const touch = require('./tried_touch.js');
 const looks = require('./tried_looks.js');
 
 const [command, file, folder, only] = process.argv.slice(2);
 const b = new Visitor(command, file, folder);
 const WHOLE = [
-    ...Object.values(machine), ...Object.values(stories), lessons, ...Object.values(sharing),
-    loaders, looks.looks, looks.noScript, looks.kiosk,
+    ...Object.values(machine), ...Object.values(motion), ...Object.values(touch), ...Object.values(stories), lessons,
+    ...Object.values(sharing), loaders, looks.looks, looks.noScript, looks.kiosk,
 ];
 
 (async () => {

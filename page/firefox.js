@@ -89,6 +89,8 @@ function valueOf({ type, value }) {
     return type === 'null' ? null : value;
 }
 
+const KEY_VALUES = { Enter: '\uE007', Tab: '\uE004', ArrowRight: '\uE014', ArrowLeft: '\uE012' };
+
 class Firefox extends Visitor {
     start(command) {
         this.profile = fs.mkdtempSync(path.join(os.tmpdir(), 'page-'));
@@ -136,8 +138,17 @@ class Firefox extends Visitor {
         return said.result ? valueOf(said.result) : `FAULT ${JSON.stringify(said.exceptionDetails ? said.exceptionDetails.text : said)}`;
     }
 
+    // A press at a point of the window, with the mouse or with a finger.
+    point(x, y, kind) {
+        const at = { type: 'pointerMove', x: Math.floor(x), y: Math.floor(y) };
+        const press = ['pointerDown', 'pointerUp'].map((type) => ({ type, button: 0 }));
+        const actions = [{ type: 'pointer', id: kind, parameters: { pointerType: kind }, actions: [at, ...press] }];
+        return this.tell('input.performActions', { context: this.context, actions });
+    }
+
     key(name) {
-        const actions = ['keyDown', 'keyUp'].map((type) => ({ type, value: name }));
+        const value = KEY_VALUES[name] || name;
+        const actions = ['keyDown', 'keyUp'].map((type) => ({ type, value }));
         return this.tell('input.performActions', { context: this.context, actions: [{ type: 'key', id: 'keys', actions }] });
     }
 

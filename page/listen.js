@@ -88,6 +88,7 @@ function listenToBoxes() {
 
 function listenToPage() {
     const redraw = () => {
+        measured.clear();
         lens.fit();
         if (page.shown) {
             draw();

@@ -10,8 +10,12 @@ class StoreView {
         this.tanks = 32;
     }
 
-    // The corners of the tanks.
     plan(tanks) {
+        return measure(`map ${tanks}`, () => this.planned(tanks));
+    }
+
+    // The corners of the tanks.
+    planned(tanks) {
         const box = this.canvas.parentElement;
         const wide = box.clientWidth;
         const scale = window.devicePixelRatio || 1;
@@ -45,20 +49,25 @@ class StoreView {
         }
         this.frames.forEach(([first, last]) => this.unframe(context, plan, first, last));
         for (let pair = 0; pair < tanks * 16; pair++) {
-            const [even, odd, middle] = [shown.words[2 * pair], shown.words[2 * pair + 1], shown.digits[pair]];
-            const changed = [before && before.words[2 * pair + 1] !== odd, before && before.digits[pair] !== middle,
-                before && before.words[2 * pair] !== even];
-            const said = `${even} ${odd} ${middle} ${changed}`;
-            if (this.rows.get(pair) !== said) {
-                this.rows.set(pair, said);
-                this.drawRow(context, plan, pair, [odd, middle, even], changed);
-            }
+            this.drawPair(context, plan, pair, shown, before || shown);
         }
         const spans = spansOf(seen);
         spans.forEach((span) => this.frameLens(context, plan, span));
         const places = [named, shown.counter].filter((place) => place >= 0 && place < tanks * 32);
         places.forEach((place) => this.frame(context, plan, place, place === shown.counter));
         this.frames = [...spans, ...places.map((place) => [place >> 1, place >> 1])];
+    }
+
+    // Draws the row of a pair, if it has become different: its three parts, and which of them have changed.
+    drawPair(context, plan, pair, shown, before) {
+        const [even, odd, middle] = [shown.words[2 * pair], shown.words[2 * pair + 1], shown.digits[pair]];
+        const [isOdd, isMiddle, isEven] = [before.words[2 * pair + 1] !== odd, before.digits[pair] !== middle, before.words[2 * pair] !== even];
+        const drawn = this.rows.get(pair);
+        const bits = (isOdd ? 4 : 0) + (isMiddle ? 2 : 0) + (isEven ? 1 : 0);
+        if (!drawn || drawn[0] !== even || drawn[1] !== odd || drawn[2] !== middle || drawn[3] !== bits) {
+            this.rows.set(pair, [even, odd, middle, bits]);
+            this.drawRow(context, plan, pair, [odd, middle, even], [isOdd, isMiddle, isEven]);
+        }
     }
 
     // The corner of a pair's row.

@@ -9,8 +9,19 @@ const COLOURS = {
 
 const binary = (value, digits) => value.toString(2).padStart(digits, '0');
 
+// The sizes of parts of the page, which are measured once and again after the window has changed: to measure them in each
+// picture would lay out the page twice.
+const measured = new Map();
+
+function measure(name, does) {
+    if (!measured.has(name)) {
+        measured.set(name, does());
+    }
+    return measured.get(name);
+}
+
 // The height of a letter, in pixels: all that is drawn grows with it.
-const letterHigh = () => parseFloat(getComputedStyle(document.documentElement).fontSize);
+const letterHigh = () => measure('letter', () => parseFloat(getComputedStyle(document.documentElement).fontSize));
 
 // A canvas in the pixels of its screen, with its present width and this height.
 function fitted(canvas, wide, high) {

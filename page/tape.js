@@ -39,9 +39,13 @@ class TapeView {
         this.canvas.getContext('2d').clearRect(0, 0, this.canvas.width, this.canvas.height);
     }
 
+    wide() {
+        return measure('tape', () => this.canvas.clientWidth);
+    }
+
     // Where the reader is: a share of the width.
     reader() {
-        return Math.floor(this.canvas.clientWidth * 0.3);
+        return Math.floor(this.wide() * 0.3);
     }
 
     // The box of some rows in the window, where they are when the tape has come to rest.
@@ -57,7 +61,7 @@ class TapeView {
         this.at = at;
         const unit = letterHigh() / 20;
         const { rows, labels } = this;
-        const wide = this.canvas.clientWidth, pitch = TAPE.pitch * unit;
+        const wide = this.wide(), pitch = TAPE.pitch * unit;
         const { context } = fitted(this.canvas, wide, TAPE.high * unit);
         const leftOf = (row) => this.reader() + (row - at) * pitch;
         context.clearRect(0, 0, wide, TAPE.high * unit);

@@ -369,6 +369,7 @@ async function runs(b) {
         await b.key(name);
         await b.expect(`the key ${name}`, await b.text('orders'), wanted);
     }
+    await b.click('more');
     await b.click('keys');
     await b.key('s');
     await b.expect('keys that are turned off', await b.text('orders'), '0');
