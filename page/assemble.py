@@ -21,7 +21,7 @@ KINDS = {".tape": "tape", ".tape1": "tape1", ".edsac": "source"}
 CODE = [
     "machine", "way", "words", "paint", "map", "tape", "lens", "rows", "registers", "paper", "travel", "moves", "sound", "sentence",
     "parts", "strip", "share", "editor", "printing", "program", "below", "said", "stories", "tour", "items", "fault", "lessons",
-    "loaders", "kiosk", "keyboard", "copy", "word", "controls", "listen", "page",
+    "loaders", "guard", "kiosk", "keyboard", "copy", "word", "controls", "listen", "page",
 ]
 
 
@@ -107,9 +107,16 @@ def texts(folder):
     return {file.stem: json.loads(file.read_text("utf-8")) for file in sorted((here / folder).glob("*.json"))}
 
 
+def version():
+    """The newest version of CHANGELOG.md, if a heading has one."""
+    found = re.search(r"^## +(\d+\.\d+(?:\.\d+)?)\b", pathlib.Path("CHANGELOG.md").read_text("utf-8"), re.M)
+    return found.group(1) if found else ""
+
+
 code = [
     "'use strict';",
     f"const MODULES = {in_script({'wide': module('page64.wasm'), 'narrow': module('page32.wasm')})};",
+    f"const VERSION = {in_script(version())};",
     f"const EXAMPLES = {in_script(examples())};",
     f"const LESSONS = {in_script(lessons())};",
     f"const LANGUAGES = {in_script(texts('languages'))};",
@@ -128,5 +135,6 @@ for mark, text in parts.items():
     if mark != "/*SHEET*/" and re.search(r"</(script|style)|<!--", text):
         sys.exit(f"page/assemble.py: the text of {mark} would end before its end")
     page = page.replace(mark, text)
+page = page.replace("/*VERSION*/", version())
 page = page.replace("/*POLICY*/", policy(page))
 (out / "edsac.html").write_text(page, "utf-8")

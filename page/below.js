@@ -58,14 +58,15 @@ function printPostMortem() {
     const told = page.machine.postMortem(page.way, page.shown, first, count);
     by('pm').textContent = told.text.replace(/\r/g, '').trim();
     const last = (page.program.small ? 512 : 1024) - 1;
-    by('pmSaid').textContent = page.words.say(told.status === 0 ? 'pmSaid' : told.status === 3 ? 'pmRefused' : `ends.${told.ending}`,
-        { orders: page.words.number(page.shown.orders), last });
+    const key = told.status === 0 ? 'pmSaid' : told.status === 3 ? 'pmRefused' : `ends.${told.ending}`;
+    sayAt('pmSaid', () => page.words.say(key, { orders: page.words.number(page.shown.orders), last }));
 }
 
 // What a post-mortem printed is of one picture alone.
 function drawPostMortem() {
     by('pmPrint').disabled = !isAlive() || page.program.kind === 'tape1'; // it is a tape for the 41 orders
-    by('pm').textContent = by('pmSaid').textContent = '';
+    by('pm').textContent = '';
+    sayAt('pmSaid');
 }
 
 function drawListing() {

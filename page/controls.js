@@ -37,7 +37,7 @@ function halt() {
 // Run, Pause, or Start again if the machine has ended.
 function run() {
     if (page.running) {
-        halt();
+        endRun();
         return;
     }
     halt();
@@ -47,7 +47,7 @@ function run() {
     if (isOver()) {
         return;
     }
-    page.running = { due: page.shown.orders, last: performance.now() };
+    page.running = { due: page.shown.orders, last: performance.now(), printed: page.shown.printed };
     drawButtons();
     requestAnimationFrame(frame);
 }
@@ -63,12 +63,19 @@ function frame(now) {
     if (due > page.shown.orders) {
         look(due, page.shown);
         if (page.shown.ending !== 'limit' || isOver()) {
-            halt();
-            draw();
+            endRun();
             return;
         }
     }
     requestAnimationFrame(frame);
+}
+
+// A run has ended, or was ended: what it printed is said aloud. How it ended, the sentence says.
+function endRun() {
+    const { printed } = page.running;
+    halt();
+    draw();
+    speakPrinted(printed);
 }
 
 function drawButtons() {

@@ -42,6 +42,8 @@ class Lens {
         this.first = 0;
         this.moved = -RESTS;
         this.places = [];
+        table.createTHead().innerHTML = '<tr><th scope="col" data-say="lookPlace"></th><th aria-hidden="true"></th>'
+            + '<th scope="col" data-say="worksheetOrder"></th><th scope="col" data-say="rowMeans"></th></tr>';
         this.body = table.createTBody();
     }
 
@@ -96,10 +98,11 @@ class Lens {
             light(row.cells[1], is.bits);
         }
         const brief = is.isUnder ? is.number : is.brief;
-        const all = [place, is.word, brief, name].join('\n');
+        const all = [place, is.word, brief, name, page.words.name].join('\n');
         if (row.all !== all) {
             row.all = all;
             row.cells[0].firstChild.textContent = place;
+            this.mark(row, place, name.split(' '));
             row.cells[row.cells.length - 1].textContent = brief;
             row.className = name;
             if (row.cells.length > 3) {
@@ -127,6 +130,13 @@ class Lens {
         if (form === 'one') {
             row.insertCell(2).className = 'spelled';
         }
+    }
+
+    // What the marks of a row show to the eye, said of its place.
+    mark(row, place, marks) {
+        const said = marks.filter((mark) => page.words.has(`marks.${mark}`)).map((mark) => page.words.say(`marks.${mark}`));
+        row.cells[0].firstChild.setAttribute('aria-label', [place, ...said].join(', '));
+        row.toggleAttribute('aria-current', marks.includes('here'));
     }
 
     // The rows slide to their new places.

@@ -1,11 +1,24 @@
 'use strict';
 // What happens where a visitor presses, chooses or types.
+const DOUBLE = 500; // milliseconds in which a second press of a button that starts and stops is the same wish
+
+// Does something, but not a second time at once.
+function once(does) {
+    let last = -Infinity;
+    return (event) => {
+        if (event.timeStamp - last > DOUBLE) {
+            last = event.timeStamp;
+            does();
+        }
+    };
+}
+
 function listen() {
     const press = (id, does) => { by(id).onclick = does; };
-    press('show', () => tell());
+    press('show', once(() => tell()));
     press('skip', () => page.tour && page.tour.skip());
     press('start', () => { begin(); speak(); });
-    press('run', run);
+    press('run', once(run));
     press('step', () => { halt(); step(); });
     press('back', () => { halt(); back(); });
     press('write', write);
@@ -45,9 +58,16 @@ function listen() {
 
 function listenToBoxes() {
     by('stories').onchange = () => replacing(loadStory);
-    by('name').onchange = () => { by('stories').value = 'name'; replacing(loadStory); };
+    by('name').onchange = () => { // after Enter its tape is mounted already, and its story goes on
+        if (page.program.text !== tapeOf(printable(by('name').value))) {
+            by('stories').value = 'name';
+            replacing(loadStory);
+        }
+    };
     by('name').onkeydown = (event) => {
         if (event.key === 'Enter') {
+            halt();
+            by('stories').value = 'name';
             replacing(() => { loadStory(); tell(); });
         }
     };
@@ -65,7 +85,6 @@ function listenToBoxes() {
     by('text').onscroll = follows;
     by('file').onchange = openFile;
     by('lesson').onchange = drawLesson;
-    by('language').onchange = () => speakIn(by('language').value);
     by('lookBox').ontoggle = () => draw();
     by('traceBox').ontoggle = drawTrace;
     by('listingBox').ontoggle = drawListing;

@@ -186,6 +186,7 @@ function speakIn(name) {
     const say = (key) => page.words.say(key);
     document.documentElement.lang = name;
     document.title = say('title');
+    by('version').textContent = VERSION ? page.words.say('version', { version: VERSION }) : '';
     document.querySelectorAll('[data-say]').forEach((node) => { node.textContent = say(node.dataset.say); });
     document.querySelectorAll('[data-label]').forEach((node) => {
         node.setAttribute('aria-label', say(node.dataset.label));
@@ -198,15 +199,24 @@ function speakIn(name) {
     const lessons = LESSONS.map(({ number, title }) => [String(number), `${number}: ${title}`]);
     fill('examples', [['', say('own')], ...examples]);
     fill('lesson', [['0', say('noLesson')], ...lessons]);
-    fill('language', Object.entries(LANGUAGES).map(([key, texts]) => [key, texts.name]));
-    by('language').value = name;
+    [...by('language').children].forEach((button) => { button.setAttribute('aria-pressed', String(button.lang === name)); });
     drawLoaders();
     tanks();
     if (words && page.shown) {
         draw();
         drawListing();
+        drawLessonPrograms();
         sayAgain();
     }
+}
+
+// A button for each language, in that language.
+function makeLanguages() {
+    by('language').append(...Object.entries(LANGUAGES).map(([name, texts]) => {
+        const button = document.createElement('button');
+        Object.assign(button, { lang: name, textContent: texts.name, onclick: () => speakIn(name) });
+        return button;
+    }));
 }
 
 function languageAsked() {
@@ -215,10 +225,14 @@ function languageAsked() {
 }
 
 async function load() {
+    makeLanguages();
     makeKeyboard();
     makeWord();
+    if (addressed().has('kiosk')) {
+        page.watchdog = new Watchdog();
+    }
     speakIn(languageAsked());
-    document.querySelector('main').hidden = false;
+    showMain(true);
     if (typeof WebAssembly !== 'object') {
         throw new WebAssemblyMissing();
     }
@@ -238,12 +252,24 @@ async function load() {
     document.body.dataset.ready = wide ? 'wide' : 'narrow';
 }
 
+// Shows the page, or else the sentences that say why it isn't there.
+function showMain(isThere) {
+    document.querySelector('main').hidden = !isThere;
+    by('unable').hidden = isThere;
+}
+
 class WebAssemblyMissing extends Error {}
 
 // A browser without the WebAssembly that the machine needs is too old; any other fault is reported as what it is.
 function tellFault(fault) {
     const isOld = fault instanceof WebAssemblyMissing || fault.name === 'CompileError';
+    if (isOld) {
+        showMain(false);
+    }
     by('meaning').textContent = page.words.say(isOld ? 'tooOld' : 'ends.fault', { note: fault.message });
+    if (!isOld && page.watchdog) {
+        page.watchdog.begin();
+    }
     document.body.dataset.ready = 'never';
 }
 

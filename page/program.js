@@ -3,19 +3,20 @@
 
 // What the machine reports of a text that it refuses, and what that means.
 function tellRefusal(told) {
-    const key = `ends.${told.ending}`;
     const isUntold = ['no memory', 'no room', 'fault'].includes(told.ending);
     const { text, kind } = page.program;
-    page.refusal = told.note && !isUntold ? page.words.refusal(told.note, text, kind) : undefined;
+    const refusalNow = () => page.words.refusal(told.note, text, kind);
+    page.refusal = told.note && !isUntold ? refusalNow() : undefined;
     const form = formOf(text), isMisread = form !== kind && text.trim() !== '';
     const isOther = isMisread && form !== 'source' && kind !== 'source'; // a tape of the other loader is not refused
-    by('refusal').hidden = !isUntold && !isOther && page.refusal === undefined;
-    by('mark').hidden = page.refusal === undefined;
-    by('switch').hidden = !isOther && (page.refusal === undefined || !isMisread);
-    by('switch').textContent = page.words.say(`as.${form}`);
-    by('text').setAttribute('aria-invalid', String(page.refusal !== undefined));
-    by('refused').textContent = page.refusal ? page.words.say('refuses', { note: told.note.trim(), ...page.refusal })
-        : isUntold ? page.words.say(key, { note: told.note }) : isOther ? page.words.say(`looks.${form}`) : '';
+    const isRefused = page.refusal !== undefined;
+    by('refusal').hidden = !isUntold && !isOther && !isRefused;
+    by('mark').hidden = !isRefused;
+    by('switch').hidden = !isOther && (!isRefused || !isMisread);
+    by('text').setAttribute('aria-invalid', String(isRefused));
+    sayAt('switch', () => page.words.say(`as.${form}`));
+    sayAt('refused', () => (isRefused ? page.words.say('refuses', { note: told.note.trim(), ...refusalNow() })
+        : isUntold ? page.words.say(`ends.${told.ending}`, { note: told.note }) : isOther ? page.words.say(`looks.${form}`) : ''));
 }
 
 function markRefusal() {
@@ -58,9 +59,9 @@ async function makeLink() {
     by('linkText').select();
     try {
         await navigator.clipboard.writeText(address);
-        by('shared').textContent = page.words.say('copied');
+        sayAt('shared', () => page.words.say('copied'));
     } catch (fault) {
-        by('shared').textContent = ''; // the visitor copies it by hand
+        sayAt('shared'); // the visitor copies it by hand
     }
 }
 
@@ -72,7 +73,7 @@ async function openLink() {
     }
     const shared = await unpacked(letters);
     if (shared === undefined) {
-        by('shared').textContent = page.words.say('badLink');
+        sayAt('shared', () => page.words.say('badLink'));
         return false;
     }
     replacing(() => {
@@ -93,10 +94,10 @@ async function openFile() {
         return;
     }
     if (file.size > LONGEST) {
-        by('shared').textContent = page.words.say('badFile');
+        sayAt('shared', () => page.words.say('badFile'));
         return;
     }
-    by('shared').textContent = '';
+    sayAt('shared');
     const text = (await file.text()).replace(/\r\n/g, '\n');
     replacing(() => {
         by('examples').value = '';

@@ -55,7 +55,7 @@ function styles() {
         ? [rule, ...all(rule.cssRules)] : [rule]));
     const atTimes = ['.rings', '.here', '.painted', '.faulty', '.comment', '.label', '.order', '.word', '.string', '.kiosk',
         '.long', '.new', '.idle', '.done', '.named', '.far', '.top', '.under', '.on', '.unstarted', '.typing', '.traveller', '#trails', '#parts',
-        '[data-print', '::selection', '#printed', 'noscript'];
+        '[data-print', '::selection', '#printed', '#unable', '.alone'];
     const rules = all(document.styleSheets[0].cssRules);
     const selectors = rules.flatMap((rule) => (rule.selectorText || '').split(',')).map((one) => one.trim()).filter(Boolean);
     const bare = (one) => one.replace(/:not\(:empty\)|::before|:(focus-visible|focus|disabled|empty)/g, '') || '*';

@@ -1,5 +1,6 @@
 'use strict';
 // The large sentence: what the last order did, how a run has ended, and what is said aloud.
+const SPOKEN = 400; // characters of a paper, at most, that are said aloud
 
 // Whether the picture is beside the one of the order before, and is to be looked at.
 const isBeside = () => page.before !== undefined && page.before !== EMPTY;
@@ -41,6 +42,12 @@ function endingText(shown) {
         return shown.orders >= FURTHEST ? page.words.say('furthest', { count: page.words.number(FURTHEST) }) : '';
     }
     return page.words.has(`ends.${shown.ending}`) ? page.words.say(`ends.${shown.ending}`, { note: shown.note }) : '';
+}
+
+// Says aloud what was printed after a count of codes.
+function speakPrinted(from) {
+    const text = isAlive() ? page.shown.way.text(from, page.shown.printed).replace(/\s+/g, ' ').trim().slice(-SPOKEN) : '';
+    sayAt('spoken', () => page.words.say(text ? 'printedAloud' : 'printedNothing', { text }));
 }
 
 // Says aloud, for those who can't see it, what a step did.

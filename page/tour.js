@@ -204,7 +204,7 @@ class Tour {
     async runOn() {
         this.isFast = true;
         const end = pictureAt(TRIED, page.shown);
-        const from = page.shown.orders, left = end.orders - from;
+        const { orders: from, printed } = page.shown, left = end.orders - from;
         const frames = Math.min(180, Math.max(1, Math.ceil(left / 65), Math.min(left, 60)));
         for (let k = 1; k < frames; k++) {
             if (!(await this.tell(0.1, 'told.fast'))) {
@@ -214,6 +214,7 @@ class Tour {
         }
         this.isFast = false;
         show(end, page.shown);
+        speakPrinted(printed);
     }
 
     // What is proved of the program for all its data, as docs/PROGRAMS.md has it.
