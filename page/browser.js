@@ -5,7 +5,7 @@ const fs = require('fs');
 const os = require('os');
 const path = require('path');
 
-const KEY_CODES = { Enter: [13, '\r'], Tab: [9, undefined], ArrowRight: [39, undefined], ArrowLeft: [37, undefined] };
+const KEY_CODES = { Shift: [16, undefined], Enter: [13, '\r'], Tab: [9, undefined], ArrowRight: [39, undefined], ArrowLeft: [37, undefined] };
 
 // Where the middle of a part of the page is in the window, and what is over it; undefined if it isn't seen. It is scrolled to,
 // if it is outside.

@@ -89,7 +89,7 @@ function valueOf({ type, value }) {
     return type === 'null' ? null : value;
 }
 
-const KEY_VALUES = { Enter: '\uE007', Tab: '\uE004', ArrowRight: '\uE014', ArrowLeft: '\uE012' };
+const KEY_VALUES = { Shift: '\uE008', Enter: '\uE007', Tab: '\uE004', ArrowRight: '\uE014', ArrowLeft: '\uE012' };
 
 class Firefox extends Visitor {
     start(command) {

@@ -50,7 +50,8 @@ class Lens {
     // As many rows as fit.
     fit() {
         const box = this.table.parentElement;
-        const high = parseFloat(getComputedStyle(this.table).getPropertyValue('--row')) * letterHigh();
+        const due = parseFloat(getComputedStyle(this.table).getPropertyValue('--row')) * letterHigh();
+        const high = Math.max(due, this.body.rows.length ? this.body.rows[0].offsetHeight : 0);
         const rows = Math.max(FEWEST_ROWS, Math.min(Math.floor(box.clientHeight / high + 0.1), MOST_ROWS));
         while (this.body.rows.length > rows) {
             this.body.deleteRow(-1);

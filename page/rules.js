@@ -81,6 +81,13 @@ function outside() {
     return out.concat(document.documentElement.scrollWidth > innerWidth ? ['the page'] : []);
 }
 
+// Parts of the machine's screen whose text is cut off: what they hold is wider or higher than they are.
+function cutOff() {
+    const parts = seen('.now, .now p, #stage button, #stage h1, #stage h2:not(.unseen), header p, #lens .brief, #lens .spelled, #accNumber, #timesBox, #word, #word p, #note, #who');
+    return parts.filter((node) => node.scrollWidth > node.clientWidth + 2 && getComputedStyle(node).display !== 'inline'
+        || node.scrollHeight > node.clientHeight + 6 && ['.now', '#word'].some((one) => node.matches(one))).map(nameOf);
+}
+
 // Controls that a thumb misses: smaller than 24 pixels, or than 44 for the buttons of the machine.
 function smallControls() {
     return seen('button, select, input').filter((node) => {
@@ -105,4 +112,4 @@ const EACH = {
     'each id is there once': ids,
 };
 
-module.exports = { EACH, install, outside, smallControls, brightness };
+module.exports = { EACH, install, outside, cutOff, smallControls, brightness };

@@ -117,17 +117,18 @@ async function kiosk(b) {
     await b.type('T64K GK E@ EZPF');
     await b.set('examples', '2');
     await b.click('keep');
-    await b.click('link');
+    await b.ask('makeLink(); 0');
     await b.click('run');
     await b.expect(
         'an endless run in a kiosk',
         await b.until('page.shown.orders > 2000 && page.running !== undefined'),
         true,
     );
-    await later(59);
+    await b.key('Shift');
+    await later(50);
     await b.expect('not before its time', await b.ask('page.running !== undefined'), true);
     await b.ask('page.hurry = 1; 0');
-    await later(2);
+    await later(11);
     await b.expect('then it begins again', await b.run(() => [
         page.running === undefined, page.tour !== undefined, by('stories').value,
         scrollY, document.activeElement.tagName, document.documentElement.lang,
@@ -141,35 +142,53 @@ async function kiosk(b) {
         [...document.body.children].some((node) => node.tagName !== 'SCRIPT' && node.textContent.includes('BOB')),
     ]),
         [true, true, true, '', true, true, false]);
+    await b.run(rules.install);
     await screens(b);
 }
 
-// All of a kiosk on one screen, its letters and dots growing with it.
+// The screens on which all of a kiosk is seen at once: those that lie, and those that stand.
+const SCREENS = [[960, 544], [1280, 720], [1366, 768], [1920, 1080], [3840, 2160], [1080, 1920], [2160, 3840]];
+
+// All of a kiosk on one screen, its letters and dots growing with it, whatever it shows.
 async function screens(b) {
-    const seen = [];
-    for (const [wide, high] of [[1280, 720], [1366, 768], [1920, 1080], [3840, 2160]]) {
+    const seen = {};
+    for (const [wide, high] of SCREENS) {
         await b.size(wide, high);
         await pause(300);
         for (const language of ['en', 'de']) {
-            await b.run((name) => {
-                speakIn(name);
-                by('stories').value = 'letter';
-                loadStory();
-                by('skip').hidden = by('invite').hidden = false;
-                by('story').textContent = page.words.say('told.end');
-                look(193);
-            }, language);
-            await b.expect(`${wide} x ${high}, ${language}: all on one screen`, await b.run(rules.outside), []);
+            const name = `${wide} x ${high}, ${language}`;
+            await b.run(atEnd, language);
+            await b.expect(`${name}: all on one screen`, await b.run(rules.outside), []);
+            await b.expect(`${name}: no text is cut off`, await b.run(rules.cutOff), []);
             await b.shot(`kiosk${wide}${language}.png`);
+            await b.ask('openWord(66); flip(4); 0');
+            await b.expect(`${name}: a word that is open`, await b.run(rules.outside), []);
+            await b.expect(`${name}: its text is whole`, await b.run(rules.cutOff), []);
+            await b.shot(`word${wide}${language}.png`);
+            await b.ask('closeWord(); 0');
         }
-        seen.push(await b.ask('[letterHigh(), store.plan(32).high]'));
+        seen[wide] = await b.run(() => [letterHigh(), store.plan(32).high, lens.body.rows[0].offsetHeight,
+            parseFloat(getComputedStyle(lens.body.rows[0].cells[3]).fontSize), lens.places.length]);
     }
-    const sizes = seen.map((pair) => pair.map((one) => one.toFixed(1)).join(' and ')).join('; ');
-    console.log(`  letters and dots of a kiosk in pixels, at 1280, 1366, 1920 and 3840: ${sizes}`);
-    await b.expect('letters grow with the screen', seen[3][0] / seen[0][0], (times) => times > 2.9);
-    await b.expect('dots grow with the screen', seen[3][1] / seen[0][1], (times) => times > 2.5);
-    await b.expect('a dot is 2 pixels and more', seen[0][1], (dot) => dot >= 2);
+    const sizes = Object.entries(seen).map(([wide, all]) => `${wide}: ${all.map((one) => one.toFixed(0)).join(', ')}`).join('; ');
+    console.log(`  a kiosk by its width, in pixels: letters, dots, rows of the lens, their letters, and how many rows: ${sizes}`);
+    await b.expect('letters of 20 pixels at 1280', seen[1280][0], (letter) => letter >= 20);
+    await b.expect('rows of the lens, and their letters, of 22', seen[1280].slice(2, 4), ([row, letter]) => row >= 22 && letter >= 22);
+    await b.expect('letters grow with the screen', seen[3840][0] / seen[1280][0], (times) => times > 2.9);
+    await b.expect('dots grow with the screen', seen[3840][1] / seen[1280][1], (times) => times > 2.5);
+    await b.expect('a dot is 2 pixels and more', seen[1280][1], (dot) => dot >= 2);
+    await b.expect('eight rows of the lens and more', Object.values(seen).slice(1).map((all) => all[4]), (rows) => rows.every((row) => row >= 8));
     await b.send('Emulation.clearDeviceMetricsOverride');
+}
+
+// The first story at its end, with all its buttons.
+function atEnd(language) {
+    speakIn(language);
+    by('stories').value = 'letter';
+    loadStory();
+    by('skip').hidden = by('invite').hidden = false;
+    by('story').textContent = page.words.say('told.end');
+    look(193);
 }
 
 async function noScript(b) {

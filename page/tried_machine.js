@@ -370,12 +370,14 @@ async function runs(b) {
         await b.expect(`the key ${name}`, await b.text('orders'), wanted);
     }
     await b.click('more');
+    await b.click('more');
     await b.click('keys');
     await b.key('s');
     await b.expect('keys that are turned off', await b.text('orders'), '0');
     await b.click('keys');
     await b.key('s');
     await b.expect('and on again', await b.text('orders'), '1');
+    await b.ask(`by('moreBox').open = false; 0`);
 }
 
 async function longPaper(b) {
