@@ -10,12 +10,14 @@ const { loaders } = require('./tried_loaders.js');
 const motion = require('./tried_motion.js');
 const touch = require('./tried_touch.js');
 const looks = require('./tried_looks.js');
+const kiosk = require('./tried_kiosk.js');
+const access = require('./tried_access.js');
 
 const [command, file, folder, only] = process.argv.slice(2);
 const b = new Visitor(command, file, folder);
 const WHOLE = [
     ...Object.values(machine), ...Object.values(motion), ...Object.values(touch), ...Object.values(stories), lessons,
-    ...Object.values(sharing), loaders, looks.looks, looks.noScript, looks.kiosk,
+    ...Object.values(sharing), loaders, looks.looks, looks.screens, ...Object.values(access), ...Object.values(kiosk),
 ];
 
 (async () => {

@@ -116,14 +116,14 @@ class Browser {
     }
 
     // A press at a point of the window.
-    async point(x, y, kind) {
+    async point(x, y, kind, clickCount = 1) {
         if (kind === 'touch') {
             await this.send('Input.dispatchTouchEvent', { type: 'touchStart', touchPoints: [{ x, y }] });
             await this.send('Input.dispatchTouchEvent', { type: 'touchEnd', touchPoints: [] });
             return;
         }
         for (const type of ['mousePressed', 'mouseReleased']) {
-            await this.send('Input.dispatchMouseEvent', { type, x, y, button: 'left', clickCount: 1 });
+            await this.send('Input.dispatchMouseEvent', { type, x, y, button: 'left', clickCount });
         }
     }
 
@@ -131,6 +131,11 @@ class Browser {
         for (let k = 0; k < times; k++) {
             await this.press(`#${id}`);
         }
+    }
+
+    // Chooses a language by its button.
+    speak(name) {
+        return this.press(`#language [lang=${name}]`);
     }
 
     set(id, value, event = 'change') {

@@ -1,5 +1,5 @@
 'use strict';
-// How the page looks and how fast it is: on screens from a phone's to a wall's, in a museum, without JavaScript.
+// How the page looks and how fast it is: on screens from a phone's to a wall's, in a museum.
 const fs = require('fs');
 const { pause } = require('./browser.js');
 const rules = require('./rules.js');
@@ -10,12 +10,6 @@ function openAll(isOpen) {
     by('lesson').value = isOpen ? '3' : '0';
     drawLesson();
     by('linked').hidden = by('ask').hidden = by('invite').hidden = by('skip').hidden = !isOpen;
-}
-
-// What each box holds.
-function stateOf() {
-    const boxes = [...document.querySelectorAll('input, select, textarea, details')];
-    return boxes.map((box) => [box.id, box.open, box.checked, box.tagName === 'DETAILS' ? undefined : box.value]);
 }
 
 async function looks(b) {
@@ -80,77 +74,13 @@ async function looks(b) {
     );
 }
 
-async function kiosk(b) {
-    await b.size(1280, 720);
-    await b.open('#kiosk=60,quiet');
-    await b.expect(
-        'a kiosk begins at once, without its bell',
-        await b.run(() => [
-            page.tour !== undefined, by('sound').checked, page.kiosk.seconds, document.documentElement.className,
-        ]),
-        [true, false, 60, 'kiosk'],
-    );
-    await b.ask('page.hurry = 0.005; page.shift = 0; page.clock = () => performance.now() + page.shift; 0');
-    const later = (seconds) => b.ask(`page.shift += ${seconds * 1000}; page.kiosk.look(); 0`);
-    for (const name of ['letter', 'name', 'changes', 'disc', 'sum', 'first', 'letter']) {
-        await b.expect(
-            `its stories rotate: ${name}`,
-            [await b.ask('by("stories").value'), await b.until('page.tour === undefined')],
-            [name, true],
-        );
-        await later(13);
-    }
-    await b.until('page.tour === undefined');
-    await b.ask('page.kiosk.reset(); 0');
-    const wanted = await b.run(stateOf);
-    await b.set('language', 'de');
-    await b.run(() => {
-        document.querySelectorAll('details').forEach((box) => { box.open = true; });
-        document.querySelectorAll('input[type=checkbox]').forEach((box) => box.click());
-    });
-    const chosen = { figures: 'decimal', lesson: '3', name: 'BOB', examples: '9', speed: '5', tank: '5' };
-    for (const [id, value] of Object.entries(chosen)) {
-        await b.set(id, value);
-    }
-    await b.ask(`by('text').style.height = '700px'; window.scrollTo(0, 9999); by('text').focus(); 0`);
-    await b.click('isTape');
-    await b.type('T64K GK E@ EZPF');
-    await b.set('examples', '2');
-    await b.click('keep');
-    await b.ask('makeLink(); 0');
-    await b.click('run');
-    await b.expect(
-        'an endless run in a kiosk',
-        await b.until('page.shown.orders > 2000 && page.running !== undefined'),
-        true,
-    );
-    await b.key('Shift');
-    await later(50);
-    await b.expect('not before its time', await b.ask('page.running !== undefined'), true);
-    await b.ask('page.hurry = 1; 0');
-    await later(11);
-    await b.expect('then it begins again', await b.run(() => [
-        page.running === undefined, page.tour !== undefined, by('stories').value,
-        scrollY, document.activeElement.tagName, document.documentElement.lang,
-    ]),
-        [true, true, 'letter', 0, 'BODY', 'en']);
-    await b.ask('halt(); 0');
-    await b.expect('every box is as it was', await b.run(stateOf), wanted);
-    await b.expect('and nothing of a visitor is left', await b.run(() => [
-        by('ask').hidden, by('linked').hidden, by('refusal').hidden, by('text').style.height,
-        editor.former === undefined, by('undo').disabled,
-        [...document.body.children].some((node) => node.tagName !== 'SCRIPT' && node.textContent.includes('BOB')),
-    ]),
-        [true, true, true, '', true, true, false]);
-    await b.run(rules.install);
-    await screens(b);
-}
-
 // The screens on which all of a kiosk is seen at once: those that lie, and those that stand.
 const SCREENS = [[960, 544], [1280, 720], [1366, 768], [1920, 1080], [3840, 2160], [1080, 1920], [2160, 3840]];
 
 // All of a kiosk on one screen, its letters and dots growing with it, whatever it shows.
 async function screens(b) {
+    await b.open('#kiosk=60,quiet');
+    await b.run(rules.install);
     const seen = {};
     for (const [wide, high] of SCREENS) {
         await b.size(wide, high);
@@ -191,22 +121,6 @@ function atEnd(language) {
     look(193);
 }
 
-async function noScript(b) {
-    const was = b.session;
-    const { targetId } = await b.send('Target.createTarget', { url: 'about:blank' }, undefined);
-    b.session = (await b.send('Target.attachToTarget', { targetId, flatten: true }, undefined)).sessionId;
-    await b.send('Page.enable');
-    await b.send('Emulation.setScriptExecutionDisabled', { value: true });
-    await b.send('Page.navigate', { url: b.page });
-    await pause(1500);
-    const { root } = await b.send('DOM.getDocument', { depth: -1 });
-    const { nodeId } = await b.send('DOM.querySelector', { nodeId: root.nodeId, selector: 'noscript p' });
-    await b.expect('without JavaScript there is a sentence', nodeId, (id) => id > 0);
-    const { model } = await b.send('DOM.getBoxModel', { nodeId });
-    await b.expect('and it is seen', model && model.height, (high) => high > 10);
-    b.session = was;
-}
-
 const FRAME = 25000; // the most orders of a frame: a quarter of a second at 100,000 orders a second
 
 // The time of a frame of a run, with its picture drawn, on an order that jumps to itself and on the loads of bench/: the
@@ -237,4 +151,4 @@ async function speed(b, name) {
     console.log(`  with ${name} memories; all of a picture drawn in ${drawing.toFixed(1)} ms`);
 }
 
-module.exports = { looks, kiosk, noScript, speed };
+module.exports = { looks, screens, speed };

@@ -254,11 +254,11 @@ async function postMortem(b) {
         .map((place) => page.machine.order(page.shown.words[place]).replace(/^.(?=[FD])/, '$&0')).join('\n'));
     await b.expect('a post-mortem', [await b.text('pm'), await b.text('pmSaid')],
         [wanted, 'Printed of the store after 4,650 orders.']);
-    await b.set('language', 'de');
+    await b.speak('de');
     await b.click('pmPrint');
     await b.expect('and in German', [await b.text('pm'), await b.text('pmSaid')],
         [wanted, 'Gedruckt vom Speicher nach 4.650 Befehlen.']);
-    await b.set('language', 'en');
+    await b.speak('en');
     await b.expect('it is of one picture alone', await b.text('pm'), '');
     await b.set('pmFirst', '100');
     await b.click('pmPrint');
