@@ -173,6 +173,18 @@ class Browser {
         return this.send('Emulation.clearDeviceMetricsOverride');
     }
 
+    // Opens a page in a tab of its own as an old or strict browser would.
+    async openBare(url, { isScripted, hasWasm }) {
+        const { targetId } = await this.send('Target.createTarget', { url: 'about:blank' }, undefined);
+        this.session = (await this.send('Target.attachToTarget', { targetId, flatten: true }, undefined)).sessionId;
+        await this.send('Page.enable');
+        await this.send('Emulation.setScriptExecutionDisabled', { value: !isScripted });
+        if (!hasWasm) {
+            await this.send('Page.addScriptToEvaluateOnNewDocument', { source: 'delete window.WebAssembly;' });
+        }
+        await this.send('Page.navigate', { url });
+    }
+
     // Opens the page in a tab of its own, with what follows its #.
     async open(hash, before) {
         const { targetId } = await this.send('Target.createTarget', { url: 'about:blank' }, undefined);
