@@ -64,7 +64,7 @@ function show(shown, before) {
     page.shown = shown;
     page.peek = undefined;
     page.moves = was && was === before ? movesNow() : []; // nothing is seen to move if the visitor went back or far on
-    draw(page.moves.length > 0);
+    draw(page.moves.length > 0 && isMoving());
     playMoves();
     if (isNewStop && maySound()) {
         ring();

@@ -225,7 +225,12 @@ async function speed(b, name) {
         await b.type(fs.readFileSync(load, 'utf8'));
         const frame = (orders) => {
             look(orders);
-            return [page.shown.orders, timesOf(() => look(page.shown.orders + FRAME, page.shown))];
+            by('speed').value = '5';
+            page.running = { due: 0, last: 0 };
+            const told = [page.shown.orders, timesOf(() => look(page.shown.orders + FRAME, page.shown))];
+            by('speed').value = '2';
+            page.running = undefined;
+            return told;
         };
         const frames = await b.ask(`[10, 1000000, 10000000].map(${frame.toString().replace('FRAME', FRAME)})`);
         const told = frames.map(([orders, ms]) => `${ms[5].toFixed(1)} at ${orders}`).join(', ');
