@@ -35,7 +35,7 @@ async function atRest() {
     const hidden = [...document.querySelectorAll('#lens td, #accNumber, #times, #paper span')];
     return {
         travellers: document.querySelectorAll('.traveller').length,
-        hidden: hidden.filter((node) => getComputedStyle(node).opacity !== '1').length,
+        hidden: hidden.filter((node) => getComputedStyle(node).opacity !== '1' || getComputedStyle(node).color === 'rgba(0, 0, 0, 0)').length,
         slid: [...by('accLamps').children].filter((lamp) => getComputedStyle(lamp).transform !== 'none').length,
         ends: [...document.querySelectorAll('#trails .head')].map((head) => {
             const [x, y] = head.getAttribute('transform').match(/-?[\d.]+(?=[ )])/g).map(Number);
