@@ -160,6 +160,7 @@ async function screens(b) {
             await b.run(atEnd, language);
             await b.expect(`${name}: all on one screen`, await b.run(rules.outside), []);
             await b.expect(`${name}: no text is cut off`, await b.run(rules.cutOff), []);
+            await b.expect(`${name}: orders in few words`, await b.run(rules.cutBriefs), []);
             await b.shot(`kiosk${wide}${language}.png`);
             await b.ask('openWord(66); flip(4); 0');
             await b.expect(`${name}: a word that is open`, await b.run(rules.outside), []);
