@@ -13,7 +13,7 @@ const [command, file, folder, only] = process.argv.slice(2);
 const b = new Visitor(command, file, folder);
 const WHOLE = [
     ...Object.values(machine), ...Object.values(motion), ...Object.values(touch), ...Object.values(stories), ...Object.values(sharing),
-    looks.looks, looks.noScript, looks.kiosk,
+    looks.looks, looks.noScript, looks.opening, looks.sentences, looks.kiosk,
 ];
 
 (async () => {

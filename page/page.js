@@ -216,6 +216,7 @@ async function load() {
     makeWord();
     speakIn(languageAsked());
     document.querySelector('main').hidden = false;
+    by('done').textContent = page.words.say('press'); // seen while the machine is compiled
     if (typeof WebAssembly !== 'object') {
         throw new WebAssemblyMissing();
     }

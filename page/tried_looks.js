@@ -192,6 +192,66 @@ function atEnd(language) {
     look(193);
 }
 
+// Each sentence of each story is whole where it stands, with what is below it, on screens that lie and that stand.
+async function sentences(b) {
+    await b.run(() => {
+        page.hurry = 0.004;
+        page.cut = [];
+        const box = by('now');
+        const look = () => {
+            if (box.scrollHeight > box.clientHeight + 6 || box.scrollWidth > box.clientWidth + 2) {
+                const said = ['story', 'ending', 'done', 'did'].map((id) => by(id)).filter((node) => node.offsetHeight > 0);
+                page.cut.push(`${innerWidth}: ${said.map((node) => node.textContent).join(' / ')}`);
+            }
+        };
+        page.watching = new MutationObserver(look);
+        page.watching.observe(box, { childList: true, subtree: true, attributes: true, characterData: true });
+    });
+    for (const [wide, high] of [[1280, 720], [1080, 1920]]) {
+        await b.size(wide, high);
+        await pause(300);
+        for (const language of ['en', 'de']) {
+            await b.run((name) => speakIn(name), language);
+            for (const name of (await b.ask('STORIES.map((story) => story.name)')).filter((one) => one !== 'own')) {
+                await b.set('stories', name);
+                await b.press('#show');
+                await b.expect(`the story ${name} in ${language} at ${wide} ends`, await b.until('page.tour === undefined'), true);
+            }
+        }
+    }
+    await b.expect('each sentence of each story is whole', await b.ask('[...new Set(page.cut)]'), []);
+    await b.ask('page.watching.disconnect(); page.hurry = 1; speakIn("en"); 0');
+    await b.send('Emulation.clearDeviceMetricsOverride');
+    await b.set('stories', 'letter');
+}
+
+const FIRST_SENTENCE = 500; // milliseconds
+
+// The time from opening the page to its first sentence: the least of some tries, which other work on the processor doesn't touch.
+async function opening(b) {
+    const was = b.session;
+    const times = [];
+    for (let k = 0; k < 5; k++) {
+        await b.open('', () => b.send('Page.addScriptToEvaluateOnNewDocument', { source: `(${() => {
+            const look = () => {
+                const said = document.getElementById('done');
+                if (said && said.textContent && said.getClientRects().length) {
+                    window.firstSentence = performance.now();
+                } else {
+                    requestAnimationFrame(look);
+                }
+            };
+            requestAnimationFrame(look);
+        }})()` }));
+        await b.until('window.firstSentence !== undefined', 10);
+        times.push(await b.ask('window.firstSentence'));
+    }
+    b.session = was;
+    times.sort((one, two) => one - two);
+    console.log(`  the first sentence is seen after ${times.map((ms) => ms.toFixed(0)).join(', ')} ms`);
+    await b.expect('the first sentence is seen in half a second', times[0], (ms) => ms <= FIRST_SENTENCE);
+}
+
 async function noScript(b) {
     const was = b.session;
     const { targetId } = await b.send('Target.createTarget', { url: 'about:blank' }, undefined);
@@ -243,4 +303,4 @@ async function speed(b, name) {
     console.log(`  with ${name} memories; all of a picture drawn in ${drawing.toFixed(1)} ms`);
 }
 
-module.exports = { looks, kiosk, noScript, speed };
+module.exports = { looks, opening, sentences, kiosk, noScript, speed };
