@@ -9,6 +9,8 @@ const os = require('os');
 const path = require('path');
 const { Visitor } = require('./browser.js');
 const machine = require('./tried_machine.js');
+const motion = require('./tried_motion.js');
+const touch = require('./tried_touch.js');
 const stories = require('./tried_stories.js');
 const { lessons } = require('./tried_lessons.js');
 const sharing = require('./tried_sharing.js');
@@ -184,8 +186,12 @@ class Firefox extends Visitor {
 
 const WINDOW = [1280, 1000]; // pixels
 
-// What is tried: what a visitor does with the machine, the stories, the lessons, links and languages.
-const PARTS = [...Object.values(machine), ...Object.values(stories), lessons, sharing.links, sharing.languages];
+// What is tried: what a visitor does with the machine, what moves, what a hand does on the stage, the stories, the lessons,
+// links and languages.
+const PARTS = [
+    ...Object.values(machine), motion.landings, motion.rests, touch.words, touch.keys, touch.rows, touch.sounds,
+    ...Object.values(stories), lessons, sharing.links, sharing.languages,
+];
 
 (async () => {
     const [command, file, folder, only] = process.argv.slice(2);

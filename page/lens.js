@@ -1,7 +1,7 @@
 'use strict';
 // The lens: the words of the store near the one that matters, in large type. Each row has the location, the digits as
 // lamps, the order, and in few words what it does or is. A long word that an order uses takes the rows of its two places.
-const FEWEST_ROWS = 5, MOST_ROWS = 16;
+const FEWEST_ROWS = 5, MOST_ROWS = 20;
 const RESTS = 400; // milliseconds that the lens stays where it is while the machine runs fast
 const SLIDE = 250; // milliseconds that the rows slide
 const APPEARS = 120; // milliseconds from one row to the next when the loader appears

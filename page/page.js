@@ -66,7 +66,7 @@ function show(shown, before) {
     page.peek = undefined;
     page.isNew = false;
     page.moves = was && was === before ? movesNow() : []; // nothing is seen to move if the visitor went back or far on
-    draw(page.moves.length > 0);
+    draw(page.moves.length > 0 && isMoving());
     playMoves();
     if (isNewStop && maySound()) {
         ring();
@@ -233,6 +233,7 @@ async function load() {
     }
     speakIn(languageAsked());
     showMain(true);
+    by('done').textContent = page.words.say('told.why'); // seen while the machine is compiled
     if (typeof WebAssembly !== 'object') {
         throw new WebAssemblyMissing();
     }

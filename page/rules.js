@@ -88,6 +88,17 @@ function cutOff() {
         || node.scrollHeight > node.clientHeight + 6 && ['.now', '#word'].some((one) => node.matches(one))).map(nameOf);
 }
 
+// The orders whose few words are wider than their room in the lens.
+function cutBriefs() {
+    const cell = lens.body.rows[2].cells[3], was = cell.textContent;
+    const cut = [...'ASHVNTUCRLEGIOFXYZ'].filter((letter) => {
+        cell.textContent = page.words.brief({ letter, location: 100, pair: 100, isLong: false, shift: 12 });
+        return cell.scrollWidth > cell.clientWidth || cell.scrollHeight > cell.clientHeight + 2;
+    });
+    cell.textContent = was;
+    return cut;
+}
+
 // Controls that a thumb misses: smaller than 24 pixels, or than 44 for the buttons of the machine.
 function smallControls() {
     return seen('button, select, input').filter((node) => {
@@ -112,4 +123,4 @@ const EACH = {
     'each id is there once': ids,
 };
 
-module.exports = { EACH, install, outside, cutOff, smallControls, brightness };
+module.exports = { EACH, install, outside, cutOff, cutBriefs, smallControls, brightness };

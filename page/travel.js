@@ -59,7 +59,8 @@ class Travel {
         flight.onfinish = () => node.remove();
         this.playing.push(flight);
         ends.forEach((end) => {
-            this.playing.push(end.animate([{ opacity: 0 }, { opacity: 0 }], { duration }));
+            const hidden = end.matches('td') ? { opacity: 0 } : { color: 'transparent' }; // a register's glass stays
+            this.playing.push(end.animate([hidden, hidden], { duration }));
             const glow = [{ filter: 'brightness(1.7)' }, { filter: 'none' }];
             this.playing.push(end.animate(glow, { delay: duration, duration: 500 }));
         });

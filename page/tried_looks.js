@@ -90,6 +90,7 @@ async function screens(b) {
             await b.run(atEnd, language);
             await b.expect(`${name}: all on one screen`, await b.run(rules.outside), []);
             await b.expect(`${name}: no text is cut off`, await b.run(rules.cutOff), []);
+            await b.expect(`${name}: orders in few words`, await b.run(rules.cutBriefs), []);
             await b.shot(`kiosk${wide}${language}.png`);
             await b.ask('openWord(66); flip(4); 0');
             await b.expect(`${name}: a word that is open`, await b.run(rules.outside), []);
@@ -121,6 +122,66 @@ function atEnd(language) {
     look(193);
 }
 
+// Each sentence of each story is whole where it stands, with what is below it, on screens that lie and that stand.
+async function sentences(b) {
+    await b.run(() => {
+        page.hurry = 0.004;
+        page.cut = [];
+        const box = by('now');
+        const look = () => {
+            if (box.scrollHeight > box.clientHeight + 6 || box.scrollWidth > box.clientWidth + 2) {
+                const said = ['story', 'ending', 'done', 'did'].map((id) => by(id)).filter((node) => node.offsetHeight > 0);
+                page.cut.push(`${innerWidth}: ${said.map((node) => node.textContent).join(' / ')}`);
+            }
+        };
+        page.watching = new MutationObserver(look);
+        page.watching.observe(box, { childList: true, subtree: true, attributes: true, characterData: true });
+    });
+    for (const [wide, high] of [[1280, 720], [1080, 1920]]) {
+        await b.size(wide, high);
+        await pause(300);
+        for (const language of ['en', 'de']) {
+            await b.run((name) => speakIn(name), language);
+            for (const name of (await b.ask('STORIES.map((story) => story.name)')).filter((one) => one !== 'own')) {
+                await b.set('stories', name);
+                await b.press('#show');
+                await b.expect(`the story ${name} in ${language} at ${wide} ends`, await b.until('page.tour === undefined'), true);
+            }
+        }
+    }
+    await b.expect('each sentence of each story is whole', await b.ask('[...new Set(page.cut)]'), []);
+    await b.ask('page.watching.disconnect(); page.hurry = 1; speakIn("en"); 0');
+    await b.send('Emulation.clearDeviceMetricsOverride');
+    await b.set('stories', 'letter');
+}
+
+const FIRST_SENTENCE = 500; // milliseconds
+
+// The time from opening the page to its first sentence: the least of some tries, which other work on the processor doesn't touch.
+async function opening(b) {
+    const was = b.session;
+    const times = [];
+    for (let k = 0; k < 5; k++) {
+        await b.open('', () => b.send('Page.addScriptToEvaluateOnNewDocument', { source: `(${() => {
+            const look = () => {
+                const said = document.getElementById('done');
+                if (said && said.textContent && said.getClientRects().length) {
+                    window.firstSentence = performance.now();
+                } else {
+                    requestAnimationFrame(look);
+                }
+            };
+            requestAnimationFrame(look);
+        }})()` }));
+        await b.until('window.firstSentence !== undefined', 10);
+        times.push(await b.ask('window.firstSentence'));
+    }
+    b.session = was;
+    times.sort((one, two) => one - two);
+    console.log(`  the first sentence is seen after ${times.map((ms) => ms.toFixed(0)).join(', ')} ms`);
+    await b.expect('the first sentence is seen in half a second', times[0], (ms) => ms <= FIRST_SENTENCE);
+}
+
 const FRAME = 25000; // the most orders of a frame: a quarter of a second at 100,000 orders a second
 
 // The time of a frame of a run, with its picture drawn, on an order that jumps to itself and on the loads of bench/: the
@@ -139,7 +200,12 @@ async function speed(b, name) {
         await b.type(fs.readFileSync(load, 'utf8'));
         const frame = (orders) => {
             look(orders);
-            return [page.shown.orders, timesOf(() => look(page.shown.orders + FRAME, page.shown))];
+            by('speed').value = '5';
+            page.running = { due: 0, last: 0 };
+            const told = [page.shown.orders, timesOf(() => look(page.shown.orders + FRAME, page.shown))];
+            by('speed').value = '2';
+            page.running = undefined;
+            return told;
         };
         const frames = await b.ask(`[10, 1000000, 10000000].map(${frame.toString().replace('FRAME', FRAME)})`);
         const told = frames.map(([orders, ms]) => `${ms[5].toFixed(1)} at ${orders}`).join(', ');
@@ -151,4 +217,4 @@ async function speed(b, name) {
     console.log(`  with ${name} memories; all of a picture drawn in ${drawing.toFixed(1)} ms`);
 }
 
-module.exports = { looks, screens, speed };
+module.exports = { looks, screens, opening, sentences, speed };

@@ -35,7 +35,7 @@ async function atRest() {
     const hidden = [...document.querySelectorAll('#lens td, #accNumber, #times, #paper span')];
     return {
         travellers: document.querySelectorAll('.traveller').length,
-        hidden: hidden.filter((node) => getComputedStyle(node).opacity !== '1').length,
+        hidden: hidden.filter((node) => getComputedStyle(node).opacity !== '1' || getComputedStyle(node).color === 'rgba(0, 0, 0, 0)').length,
         slid: [...by('accLamps').children].filter((lamp) => getComputedStyle(lamp).transform !== 'none').length,
         ends: [...document.querySelectorAll('#trails .head')].map((head) => {
             const [x, y] = head.getAttribute('transform').match(/-?[\d.]+(?=[ )])/g).map(Number);
@@ -71,12 +71,12 @@ async function movesTo(b, letter, travels, trails, from) {
     const flying = await b.run(flights);
     const places = travels || [[undefined, 'accNumber'], [undefined, 'accLamps']];
     await b.expect(`${letter}: as many things travel`, flying.length, places.length);
+    const rest = await b.run(atRest);
     for (const [k, [text, part]] of places.entries()) {
         await b.expect(`${letter}: what travels`, flying[k]?.text, (said) => text === undefined || said === text);
         await b.expect(`${letter}: it lands in ${part}`, await b.run(isIn, flying[k]?.x, flying[k]?.y, part), true);
         await b.expect(`${letter}: in 650 milliseconds`, flying[k]?.ms, 650);
     }
-    const rest = await b.run(atRest);
     await b.expect(`${letter}: then nothing is on its way or hidden`, [rest.travellers, rest.hidden, rest.slid], [0, 0, 0]);
     await b.expect(`${letter}: its trails`, rest.ends.length, trails.length);
     for (const [k, part] of trails.entries()) {

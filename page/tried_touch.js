@@ -5,6 +5,7 @@
 // Opens the word in a place by a press on its row.
 async function openRow(b, place, kind) {
     await b.ask(`page.peek = ${place}; draw(); 0`);
+    await b.until('lens.body.getAnimations().length === 0', 3);
     const row = await b.ask(`lens.places.indexOf(${place}) + 1`);
     await b.press(`#lens tr:nth-child(${row}) .brief`, kind);
     await b.expect(`the word in place ${place} is open`, await b.ask('[by("word").hidden, opened.place]'), [false, place]);
@@ -44,7 +45,7 @@ async function tried(b, what, printed, place) {
     const word = await b.ask('opened.word');
     await b.ask('page.hurry = 0.01; 0');
     await b.press('#wordRun');
-    await b.expect(`${what}: a story begins`, await b.ask('[page.tour !== undefined, by("word").hidden, page.shown.orders < 3]'), [true, true, true]);
+    await b.expect(`${what}: a story begins`, await b.ask('[page.tour !== undefined, by("word").hidden]'), [true, true]);
     await b.expect(`${what}: and ends`, await b.until('page.tour === undefined'), true);
     await b.expect(`${what}: what is printed`, (await b.text('paper')).trim(), printed);
     await b.expect(`${what}: the word is there`, await b.ask(`page.shown.words[${place}]`), word);

@@ -4,7 +4,7 @@
 //   node page/units.js
 const fs = require('fs');
 const path = require('path');
-const { Words, writtenFor, signAt, lineAt, hintFor, figuresOf } = require('./words.js');
+const { Words, writtenFor, signAt, lineAt, hintFor, figuresOf, printedBetween } = require('./words.js');
 const { packed, unpacked, formOf, kindOf } = require('./share.js');
 const { STORIES, printable, tapeOf } = require('./stories.js');
 const { sumOf, seenOf } = require('./lessons.js');
@@ -14,8 +14,13 @@ const { partsOf } = require('./editor.js');
 const { lensFirst, lensPlaces } = require('./lens.js');
 const { codePlaces } = require('./rows.js');
 const { wayOf } = require('./travel.js');
+const { movesOf } = require('./moves.js');
+const { partsOfItem } = require('./parts.js');
+const { copyOf } = require('./copy.js');
+const { clatterOf } = require('./sound.js');
 const { texts } = require('./tried_loaders.js');
 
+Object.assign(globalThis, { printedBetween }); // the page's scripts are one script
 let count = 0, wrong = 0;
 
 function same(what, got, wanted) {
@@ -147,6 +152,49 @@ same(
 const six = [named('O', 4), named('O', 5), named('Z'), named('P', 2), named('A'), named('B')].map((order, k) => (
     { ...order, named: 'OAB'.includes(order.letter) ? order.location : undefined, number: k === 3 ? 5 : 30000 }));
 same('codes to print', [...codePlaces([0, 1, 2, 3, 4, 5], 0, (word) => six[word])].sort(), [4, 5]);
+// What each kind of order moves, from one picture to the next.
+const MOVED = [
+    [named('A', 66), {}, ['added from 66']],
+    [named('A', 67, true), {}, ['added long from 66']],
+    [named('S', 5), {}, ['added from 5']],
+    [named('H', 67, true), {}, ['taken long from 66']],
+    [named('V', 5), {}, ['added from 5', 'multiplied']],
+    [named('T', 7), {}, ['stored to 7']],
+    [named('U', 6, true), {}, ['stored long to 6']],
+    [named('I', 40, true), { rowsLeft: 8 }, ['read K to 40']],
+    [named('I', 40), {}, []],
+    [named('O', 66), { printed: 'A' }, ['printed A from 66']],
+    [named('O', 66), { printed: '' }, []],
+    [named('R', 0, false, 15), {}, ['shifted by 15']],
+    [named('L', 0, false, 3), {}, ['shifted by -3']],
+    [named('E', 64), { counter: 64 }, ['jumped from 10 to 64']],
+    [named('E', 64), {}, []],
+    [named('X', 0), {}, []],
+];
+for (const [order, after, wanted] of MOVED) {
+    const machine = { meaning: () => ({ ...order, named: 'ASHVTUIOE'.includes(order.letter) ? order.location : undefined }) };
+    const way = { small: false, text: () => after.printed || '' };
+    const before = { words: [], counter: 10, rowsLeft: 9, way };
+    const moves = movesOf(before, { counter: 11, rowsLeft: 9, way, ...after }, machine, (picture, place, isLong) => (isLong ? 'long' : ''), 'K');
+    const said = moves.map(({ kind, text, from, to, by }) => [kind, text, from !== undefined && `from ${from}`,
+        to !== undefined && `to ${to}`, by !== undefined && `by ${by}`].filter(Boolean).join(' '));
+    same(`what ${order.letter} ${order.location} moves`, said, wanted);
+}
+same('the parts of items', ['O2@', 'AF', 'T64K', 'GK', 'A12D', 'R1S'].map((item) => partsOfItem([...item], { first: 0, after: item.length })
+    .map(({ key, sign, read }) => `${key} ${sign} ${read}`).join(', ')), [
+    'letter O 1, digits 2 2, theta @ 3', 'letter A 1, short F 2', 'letter T 1, digits 64 3, other K 4', 'letter G 1, other K 2',
+    'letter A 1, digits 12 3, long D 4', 'letter R 1, digits 1 2, short S 3']);
+
+// T64K GK O2@ ZF AF EZPF, with a row of data after it.
+const labels = [...'T64KGKO2@ZFAFEZPFB'];
+const item = (first, after, location) => ({ first, after, location });
+const items = [item(0, 4), item(4, 6), item(6, 9, 64), item(9, 11, 65), item(11, 13, 66), item(13, 15), item(15, 17)];
+same('a copy of a tape with another word', [['tape', 66, 'BF'], ['tape', 70, 'CF'], ['tape1', 64, 'O3S'], ['tape1', 70, 'CS']]
+    .map((change) => copyOf(labels, items, ...change)), [
+    'T64K GK O2@ ZF BF EZ PF B', 'T64K GK O2@ ZF AF T70KCF EZ PF B', 'T64K GK O3S ZF AF EZ PF B', undefined]);
+same('a tape without an entry has no place for another word', copyOf(labels, items.slice(0, 5), 'tape', 70, 'CF'), undefined);
+same('what clatters', [[1, 9, 2, 8], [1, 9, 1, 8], [1, 9, 1, 9]].map(([printed, rowsLeft, after, left]) => (
+    clatterOf({ printed, rowsLeft }, { printed: after, rowsLeft: left }) || 'nothing')), ['printer', 'reader', 'nothing']);
 same('a way has its ends', [0, 12].map((k) => wayOf([1, 2], [30, 40], 0.2)[k]), [[1, 2], [30, 40]]);
 
 // Each order has a sentence in each language, and so has each cause of the manual.

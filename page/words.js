@@ -202,5 +202,5 @@ function labelsOf(rows, letter, items) {
 }
 
 if (typeof module !== 'undefined') {
-    module.exports = { Words, writtenFor, signAt, lineAt, hintFor, figuresOf, labelsOf };
+    module.exports = { Words, writtenFor, signAt, lineAt, hintFor, figuresOf, labelsOf, printedBetween };
 }
