@@ -20,7 +20,7 @@ FIRST = ["letter.tape", "name.tape", "digits.tape", "hello.edsac", "squares.edsa
 KINDS = {".tape": "tape", ".tape1": "tape1", ".edsac": "source"}
 CODE = [
     "machine", "way", "words", "paint", "map", "tape", "lens", "rows", "registers", "paper", "travel", "moves", "sound", "sentence",
-    "parts", "strip", "share", "editor", "printing", "program", "below", "said", "stories", "tour", "items", "fault", "lessons",
+    "parts", "strip", "share", "editor", "printing", "program", "below", "said", "tongues", "stories", "tour", "items", "fault", "lessons",
     "loaders", "guard", "kiosk", "keyboard", "copy", "word", "controls", "listen", "page",
 ]
 

@@ -11,6 +11,7 @@ const motion = require('./tried_motion.js');
 const touch = require('./tried_touch.js');
 const looks = require('./tried_looks.js');
 const kiosk = require('./tried_kiosk.js');
+const guard = require('./tried_guard.js');
 const access = require('./tried_access.js');
 
 const [command, file, folder, only] = process.argv.slice(2);
@@ -18,7 +19,7 @@ const b = new Visitor(command, file, folder);
 const WHOLE = [
     ...Object.values(machine), ...Object.values(motion), ...Object.values(touch), ...Object.values(stories), lessons,
     ...Object.values(sharing), loaders, looks.looks, looks.screens, looks.opening, looks.sentences, ...Object.values(access),
-    ...Object.values(kiosk),
+    ...Object.values(kiosk.parts), ...Object.values(guard),
 ];
 
 (async () => {

@@ -46,7 +46,7 @@ class Kiosk {
         halt();
         clearTimeout(editor.timer);
         Object.assign(editor, { isOwn: false, former: undefined, waiting: undefined, timer: undefined });
-        page.machine.forget();
+        [page.machine.orders, page.machine.meanings].forEach((known) => known.clear()); // it tells them again
         speakIn(this.language);
         this.boxes.forEach(({ box, value, checked, open }) => {
             if (box.tagName === 'DETAILS') {

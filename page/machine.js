@@ -34,12 +34,6 @@ class Machine {
         });
     }
 
-    // Forgets what words mean: it is told again when it is asked.
-    forget() {
-        this.orders.clear();
-        this.meanings.clear();
-    }
-
     // This many bytes of a room.
     bytes(name, count) {
         return new Uint8Array(this.exports.memory.buffer, Number(this.rooms[name].at), count);

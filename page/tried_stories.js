@@ -1,5 +1,6 @@
 'use strict';
 // The stories to their ends: what each says while it is true, what it prints, and how long it takes.
+const { pause } = require('./browser.js');
 
 const SQUARES = [1, 4, 9, 16, 25, 36, 49, 64, 81].map((square) => String(square).padStart(2, '0')).join('\n');
 
@@ -179,6 +180,7 @@ async function storyParts(b) {
     await b.ask('page.hurry = 1; 0');
     await b.click('show');
     await b.expect('stopped by its button', await b.ask('page.tour === undefined'), true);
+    await pause(600); // a second press at once would be the same wish
     await b.set('stories', 'letter');
     await b.click('show');
     await b.click('skip');

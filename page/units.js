@@ -18,6 +18,7 @@ const { movesOf } = require('./moves.js');
 const { partsOfItem } = require('./parts.js');
 const { copyOf } = require('./copy.js');
 const { clatterOf } = require('./sound.js');
+const { kioskAsked } = require('./kiosk.js');
 const { texts } = require('./tried_loaders.js');
 
 Object.assign(globalThis, { printedBetween }); // the page's scripts are one script
@@ -294,6 +295,16 @@ same(
 );
 
 texts(same);
+
+// What a kiosk's address asks for.
+const usual = { seconds: 90, between: 12, stories: ['letter', 'disc'], isQuiet: false, isStage: false };
+for (const [asked, wanted] of [
+    ['', {}], ['60,quiet', { seconds: 60, isQuiet: true }], ['quiet, 5', { seconds: 10, isQuiet: true }], ['99999', { seconds: 3600 }],
+    ['story=disc', { stories: ['disc'] }], ['60,story=disc,story=letter,story=none', { seconds: 60, stories: ['disc', 'letter'] }],
+    ['pause=0,stage', { between: 1, isStage: true }], ['pause=40,90', { between: 40 }], ['-5,pause=x,story=', {}],
+]) {
+    same(`a kiosk: ${asked}`, kioskAsked(asked, ['letter', 'disc']), { ...usual, ...wanted });
+}
 
 // What a story says is proved is what the table of docs/PROGRAMS.md has of its program, with the same numbers in each
 // language.
