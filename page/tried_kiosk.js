@@ -99,9 +99,9 @@ async function options(b) {
     await b.ask('page.hurry = 0.001; 0');
     for (const name of ['sum', 'disc', 'sum']) {
         await b.expect(`its own stories: ${name}`, [await b.ask('by("stories").value'), await b.until('page.tour === undefined')], [name, true]);
-        await later(b, 29);
+        await later(b, 24);
         await b.expect('not before its pause', await b.ask('page.tour === undefined'), true);
-        await later(b, 2);
+        await later(b, 7);
     }
     await b.unsize();
 }
