@@ -142,7 +142,7 @@ async function rests(b) {
     await b.expect('an order is seen', await b.ask(moving), (all) => all[1] > 0);
     await b.click('back');
     await b.expect('nothing travels back', await b.ask(moving), (all) => all[0] + all[1] === 0);
-    for (const [speed, wanted] of [['3', [0, 0]], ['1', [1, 160]]]) {
+    for (const [speed, wanted] of [['3', [0, 0]], ['2', [0, 0]], ['1', [1, 160]]]) {
         await b.set('speed', speed);
         const seen = await b.run(async () => {
             begin();
