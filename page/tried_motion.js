@@ -142,7 +142,7 @@ async function rests(b) {
     await b.expect('an order is seen', await b.ask(moving), (all) => all[1] > 0);
     await b.click('back');
     await b.expect('nothing travels back', await b.ask(moving), (all) => all[0] + all[1] === 0);
-    for (const [speed, wanted] of [['3', [0, 0]], ['1', [1, 160]]]) {
+    for (const [speed, wanted] of [['3', [0, 0]], ['2', [0, 0]], ['1', [1, 160]]]) {
         await b.set('speed', speed);
         const seen = await b.run(async () => {
             begin();
@@ -166,12 +166,19 @@ async function rests(b) {
 async function lessMotion(b) {
     await b.choose('letter.tape');
     await b.send('Emulation.setEmulatedMedia', { features: [{ name: 'prefers-reduced-motion', value: 'reduce' }] });
+    await b.run(() => {
+        page.painted = [];
+        tape.paint = (at) => {
+            page.painted.push(at);
+            TapeView.prototype.paint.call(tape, at);
+        };
+    });
     for (const letter of ['T', 'A', 'I', 'H', 'R', 'E']) {
         await b.ask(`look((${UP_TO})('${letter}', 0)); 0`);
         await b.click('step');
         await b.expect(`${letter}: nothing moves where less motion is asked for`, await b.ask(moving), [0, 0, 0]);
         await b.expect(`${letter}: its trail is there`, await b.ask('document.querySelectorAll("#trails .head").length > 0'), true);
-        await b.expect(`${letter}: the tape is at its row`, await b.ask('tape.at === tape.to'), true);
+        await b.expect(`${letter}: the tape is at its row at once`, await b.ask('tape.at === tape.to && page.painted.every(Number.isInteger)'), true);
     }
     const slid = await b.run(() => {
         page.peek = lens.first + lens.places.length - 2;
@@ -179,6 +186,7 @@ async function lessMotion(b) {
         lens.appear();
         return document.getAnimations().length;
     });
+    await b.ask('delete tape.paint; 0');
     await b.expect('nor does the lens slide, or its rows appear one by one', slid, 0);
     await b.send('Emulation.setEmulatedMedia', { features: [] });
     await b.click('start');
