@@ -7,7 +7,7 @@ const STUCK = 60000; // milliseconds in which a story that goes on says somethin
 const isBox = (node) => ['INPUT', 'TEXTAREA'].includes(node.tagName);
 
 // The keys that leave the page, print it or change its size: those with Control, Alt or Meta, and the function keys. In a
-// box a visitor may still copy and paste, and type signs that a keyboard has behind its third key.
+// box a visitor may still copy and paste, and type signs that need a keyboard's third key.
 function isLeaving(event) {
     const isTyped = event.getModifierState('AltGraph') || (isBox(event.target) && /^[acvxz]$/i.test(event.key) && !event.altKey);
     return /^(F\d+|Browser\w+|ContextMenu)$/.test(event.key) || ((event.ctrlKey || event.altKey || event.metaKey) && !isTyped);

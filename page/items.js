@@ -45,7 +45,7 @@ function placedSaid(item, { first, location, word }, to) {
 }
 
 // What a word that has come into the store is for: its number, the code that is printed, or the order that will be obeyed.
-// Of a word that is none of these nothing is said.
+// Of any other word nothing is said.
 function laterOf(place, word, shown) {
     const { machine, words, program } = page;
     const meant = machine.meaning(word, program.small);
@@ -58,8 +58,8 @@ function laterOf(place, word, shown) {
     return ordersObeyed().get(place) === word ? words.brief(meant, 'later') : '';
 }
 
-// The places that the program comes to among its first orders, as the machine shows them, with the word that it obeys there
-// for the first time.
+// The places of the program's first orders, as the machine shows them, each with the word that is obeyed there for the first
+// time.
 function ordersObeyed() {
     const { way } = page;
     if (way.obeyed === undefined) {

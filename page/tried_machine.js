@@ -4,6 +4,9 @@ const fs = require('fs');
 const { pause } = require('./browser.js');
 
 async function firstTape(b) {
+    await b.expect('on opening, why 1949 matters, and what to press', [await b.text('done'), await b.text('did')],
+        [await b.ask('page.words.say("told.why")'), 'The tape is under the reader. Press Show me, or go order by order with Step.']);
+    await b.click('start');
     await b.expect('at Start no order is done', [await b.text('orders'), await b.text('counter')], ['0', '0']);
     await b.expect('Start is seen', [await b.text('did'), (await b.pixels('lit')) > 100],
         ['Start: the store was cleared, and the machine put 41 orders into places 0 to 40. They are the loader.', true]);
@@ -194,6 +197,7 @@ async function faults(b) {
             tellFault(fault);
             return by('meaning').textContent.slice(0, 25);
         });
+        showMain(true);
         document.body.dataset.ready = 'wide';
         begin();
         return all;
