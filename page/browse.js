@@ -18,8 +18,8 @@ const [command, file, folder, only] = process.argv.slice(2);
 const b = new Visitor(command, file, folder);
 const WHOLE = [
     ...Object.values(machine), ...Object.values(motion), ...Object.values(touch), ...Object.values(stories), lessons,
-    ...Object.values(sharing), loaders, looks.looks, looks.screens, looks.opening, looks.sentences, ...Object.values(access),
-    ...Object.values(kiosk.parts), ...Object.values(guard),
+    ...Object.values(sharing), loaders, looks.looks, looks.sentences, ...Object.values(access), looks.opening,
+    looks.screens, ...Object.values(kiosk.parts), ...Object.values(guard), // each of these opens pages of its own
 ];
 
 (async () => {

@@ -144,7 +144,7 @@ class Tour {
         if (this.watched !== undefined) { // its parts are still to be seen
             await this.tell(seconds, key, () => ({ ...values(), later: '' }));
             this.watched = undefined;
-            drawParts();
+            draw(); // without the parts and the trail
         }
         const goesOn = await this.tell(seconds, key, values);
         this.item = this.place = this.watched = undefined;

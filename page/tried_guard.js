@@ -91,10 +91,10 @@ async function watchdog(b) {
 const DAY = 86400; // seconds
 const ROUNDS = 2; // of all stories, before memory is measured
 
-// 24 hours of a kiosk, by a clock that is moved, with a quarter of an hour between its stories: neither its memory nor its
+// 24 hours of a kiosk, by a clock that is moved, with half an hour between its stories: neither its memory nor its
 // nodes grow.
 async function day(b) {
-    await openKiosk(b, '#kiosk=60,quiet,pause=900');
+    await openKiosk(b, '#kiosk=60,quiet,pause=1800');
     await b.ask('page.hurry = 0.00001; window.planned = 0; 0');
     const round = `(async () => {
         for (let k = 0; k < ROTATION.length; k++) {
@@ -102,8 +102,8 @@ async function day(b) {
                 page.tour.skip();
                 await new Promise((done) => setTimeout(done));
             }
-            window.planned += 79 + 901; // no story is shorter than the first one
-            page.shift += 901000;
+            window.planned += 79 + 1801; // no story is shorter than the first one
+            page.shift += 1801000;
             page.kiosk.look();
         }
         return window.planned;

@@ -49,7 +49,7 @@ function hear() {
             isOut: shown.counter >= placesOf(program.kind), isResting: shown.counter === WAITS[program.kind],
             isOne: isBeside() && shown.orders - before.orders === 1, printed: isBeside() ? printedBetween(before, shown) : '',
             rowsRead: page.rows.length - shown.rowsLeft, word22: shown.words[22],
-            isCut: by('now').scrollHeight > by('now').clientHeight + 1,
+            isCut: by('now').scrollHeight > by('now').clientHeight + 1 || /\{\w+\}|undefined/.test(by('story').textContent),
         });
     };
 }
@@ -73,28 +73,23 @@ async function stories(b) {
     const printed = { letter: 'A', name: 'ADA', changes: 'HELLO', sum: '1981', first: SQUARES, mirror: 'EDSAC', fault: '' };
     const names = await b.ask('STORIES.map((story) => story.name)');
     await b.expect('the stories', names, ['letter', 'name', 'changes', 'disc', 'sum', 'first', 'mirror', 'fault', 'own']);
-    for (const language of ['de', 'en']) {
-        await b.ask(`speakIn('${language}'); 0`);
-        for (const name of names) {
-            if (name === 'own') {
-                await b.choose('digits.tape');
-            } else {
-                await b.set('stories', name);
-            }
-            if (name === 'name') {
-                await b.set('name', 'Ada');
-            }
-            await play(b, `${name} in ${language}`);
-            await b.expect(`the story ${name} ends`, await b.ask('page.shown.ending'), name === 'fault' ? 'no order' : 'stopped');
-            if (name in printed) {
-                await b.expect(`the story ${name} prints`, (await b.text('paper')).trim(), printed[name]);
-            }
-            const seconds = Math.round(await b.ask('page.toured.waited'));
-            if (language === 'en') {
-                console.log(`  the story ${name}: ${seconds} seconds`);
-            }
-            await b.expect(`the story ${name} takes at most two minutes`, seconds, (all) => all > 20 && all <= 120);
+    for (const name of names) {
+        if (name === 'own') {
+            await b.choose('digits.tape');
+        } else {
+            await b.set('stories', name);
         }
+        if (name === 'name') {
+            await b.set('name', 'Ada');
+        }
+        await play(b, name);
+        await b.expect(`the story ${name} ends`, await b.ask('page.shown.ending'), name === 'fault' ? 'no order' : 'stopped');
+        if (name in printed) {
+            await b.expect(`the story ${name} prints`, (await b.text('paper')).trim(), printed[name]);
+        }
+        const seconds = Math.round(await b.ask('page.toured.waited'));
+        console.log(`  the story ${name}: ${seconds} seconds`);
+        await b.expect(`the story ${name} takes at most two minutes`, seconds, (all) => all > 20 && all <= 120);
     }
     for (const [text, ending] of [['T64K GK E@ EZPF', 'told.endless'], ['T64K GK PF EZPF', 'told.still'], ['E8KPF', 'told.still']]) {
         await b.click('isTape');
