@@ -49,9 +49,9 @@ function drawLens(meant) {
     drawNote(isOne ? before.counter : shown.counter);
 }
 
-// The line below the rows: what the loader's order just obeyed is for, or else that a row can be touched.
+// The line below the rows: what the loader's order just obeyed is for, if it is seen, or else that a row can be touched.
 function drawNote(place) {
-    const comment = place < placesOf(page.program.kind) ? commentOf(place) : null;
+    const comment = lens.rowOf(place) && place < placesOf(page.program.kind) ? commentOf(place) : null;
     by('note').textContent = comment ?? page.words.say('touchRow');
     by('note').classList.toggle('comment', comment !== null);
 }
