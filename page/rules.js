@@ -83,7 +83,8 @@ function outside() {
 
 // Parts of the machine's screen whose text is cut off: what they hold is wider or higher than they are.
 function cutOff() {
-    const parts = seen('.now, .now p, #stage button, #stage h1, #stage h2:not(.unseen), header p, #lens .brief, #lens .spelled, #accNumber, #timesBox, #word, #word p, #note, #who');
+    const parts = seen('.now, .now p, #stage button, #stage h1, #stage h2:not(.unseen), header p, #lens .brief, #lens .spelled,'
+        + '#accNumber, #timesBox, #word, #word p, #note, #who');
     return parts.filter((node) => node.scrollWidth > node.clientWidth + 2 && getComputedStyle(node).display !== 'inline'
         || node.scrollHeight > node.clientHeight + 6 && ['.now', '#word'].some((one) => node.matches(one))).map(nameOf);
 }
