@@ -24,9 +24,7 @@ class Machine {
 
     begin() {
         this.exports = new WebAssembly.Instance(this.module, {}).exports;
-        this.orders = new Map();
-        this.meanings = new Map();
-        this.signs = new Map();
+        [this.orders, this.meanings, this.signs] = [new Map(), new Map(), new Map()];
         this.mounted = undefined; // the rows in the room of the tape
         this.rooms = {};
         ROOMS.forEach((name, kind) => {
