@@ -58,7 +58,7 @@ function styles() {
         '[data-print', '::selection', '#printed', 'noscript'];
     const rules = all(document.styleSheets[0].cssRules);
     const selectors = rules.flatMap((rule) => (rule.selectorText || '').split(',')).map((one) => one.trim()).filter(Boolean);
-    const bare = (one) => one.replace(/:not\(:empty\)|::before|:(focus-visible|focus|disabled|empty)/g, '') || '*';
+    const bare = (one) => one.replace(/:not\(:empty\)|::before|::-webkit-[a-z-]+|:(focus-visible|focus|disabled|empty)/g, '') || '*';
     const dead = selectors.filter((one) => !atTimes.some((name) => one.includes(name)) && !document.querySelector(bare(one)));
     const keyframes = rules.filter((rule) => rule instanceof CSSKeyframesRule).reduce((sum, rule) => sum + rule.cssRules.length, 0);
     const written = document.querySelector('style').textContent.match(/\{/g).length;
