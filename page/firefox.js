@@ -181,8 +181,7 @@ class Firefox extends Visitor {
 
 // What is tried: what a visitor does with the machine, what moves, what a hand does on the stage, the stories, the lessons,
 // links and languages.
-const PARTS = [...Object.values(machine), motion.landings, motion.rests, touch.words, touch.keys, touch.rows, touch.sounds,
-    ...Object.values(stories), sharing.links, sharing.languages];
+const PARTS = [...Object.values(machine), motion.landings, motion.rests, touch.words, touch.keys, touch.rows, touch.sounds, ...Object.values(stories), sharing.links, sharing.languages];
 
 (async () => {
     const [command, file, folder, only] = process.argv.slice(2);
