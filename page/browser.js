@@ -153,7 +153,8 @@ class Browser {
     async key(name) {
         const [code, text] = KEY_CODES[name] || [name.toUpperCase().charCodeAt(0), name];
         for (const type of ['keyDown', 'keyUp']) {
-            await this.send('Input.dispatchKeyEvent', { type, key: name, windowsVirtualKeyCode: code, ...(type === 'keyDown' ? { text } : {}) });
+            const typed = type === 'keyDown' ? { text } : {};
+            await this.send('Input.dispatchKeyEvent', { type, key: name, windowsVirtualKeyCode: code, ...typed });
         }
     }
 

@@ -24,9 +24,7 @@ class Machine {
 
     begin() {
         this.exports = new WebAssembly.Instance(this.module, {}).exports;
-        this.orders = new Map();
-        this.meanings = new Map();
-        this.signs = new Map();
+        [this.orders, this.meanings, this.signs] = [new Map(), new Map(), new Map()];
         this.mounted = undefined; // the rows in the room of the tape
         this.rooms = {};
         ROOMS.forEach((name, kind) => {
@@ -141,15 +139,10 @@ class Machine {
 
     // What a code prints after the last code that set a shift, if one did.
     sign(shift, code) {
-        const key = `${shift} ${code}`;
+        const codes = Uint8Array.from(shift === null ? [code] : [shift, code]);
+        const key = codes.join();
         if (!this.signs.has(key)) {
-            const codes = shift === null ? [code] : [shift, code];
-            this.bytes('codes', codes.length).set(codes);
-            const { at } = this.rooms.codes;
-            const before = BigInt(codes.length - 1);
-            const status = this.call('page_paper', at, before, at + before, 1n, 'paper', 'lengths');
-            const written = status === 0 ? Number(this.numbers('lengths', BigUint64Array)[0]) : 0;
-            this.signs.set(key, this.text('paper', written).trim());
+            this.signs.set(key, this.paper({ codes }, codes.length - 1, codes.length).trim());
         }
         return this.signs.get(key);
     }

@@ -1,6 +1,6 @@
 'use strict';
-// The whole store as a small map of its dots: tanks of 16 long words, each of 35 dots with the high end at the left. If the page is one
-// screen, the dots are as large as their room allows. Each begins at a whole pixel.
+// The whole store as a small map of its dots: tanks of 16 long words, each of 35 dots with the high end at the left. If the
+// page is one screen, the dots are as large as their room allows. Each begins at a whole pixel.
 class StoreView {
     constructor(canvas, isOneScreen) {
         this.canvas = canvas;
@@ -61,12 +61,12 @@ class StoreView {
     // Draws the row of a pair, if it has become different: its three parts, and which of them have changed.
     drawPair(context, plan, pair, shown, before) {
         const [even, odd, middle] = [shown.words[2 * pair], shown.words[2 * pair + 1], shown.digits[pair]];
-        const [isOdd, isMiddle, isEven] = [before.words[2 * pair + 1] !== odd, before.digits[pair] !== middle, before.words[2 * pair] !== even];
+        const changed = [before.words[2 * pair + 1] !== odd, before.digits[pair] !== middle, before.words[2 * pair] !== even];
         const drawn = this.rows.get(pair);
-        const bits = (isOdd ? 4 : 0) + (isMiddle ? 2 : 0) + (isEven ? 1 : 0);
+        const bits = changed.reduce((sum, one) => 2 * sum + Number(one), 0);
         if (!drawn || drawn[0] !== even || drawn[1] !== odd || drawn[2] !== middle || drawn[3] !== bits) {
             this.rows.set(pair, [even, odd, middle, bits]);
-            this.drawRow(context, plan, pair, [odd, middle, even], [isOdd, isMiddle, isEven]);
+            this.drawRow(context, plan, pair, [odd, middle, even], changed);
         }
     }
 

@@ -104,7 +104,8 @@ function jump(source, target) {
     const box = by('lens').parentElement.getBoundingClientRect();
     const edge = { left: box.left, width: 0, top: target ? box.top : box.bottom, height: 0 };
     const [from, to] = [source, target].map((row) => travel.pointOf(row ? lens.boxOf(row, 0) : edge, 0.12));
-    travel.trail(wayOf(from, to, from[1] < to[1] ? 0.22 : -0.22));
+    const bend = Math.min(0.22, (2 * letterHigh()) / Math.abs(to[1] - from[1])); // it stays within the window
+    travel.trail(wayOf(from, to, from[1] < to[1] ? bend : -bend));
 }
 
 if (typeof module !== 'undefined') {

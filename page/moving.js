@@ -1,7 +1,7 @@
 'use strict';
 // Makes the short moving picture of the README: some seconds of the first story, as an APNG of pictures of Chromium.
 //   node page/moving.js BROWSER PAGE.html FILE.png
-// Chromium's pictures are PNG files. Each becomes a frame, of which only the rows that differ from the frame before are kept.
+// Chromium's pictures are PNG files. Each becomes a frame: the part that differs from the frame before.
 const fs = require('fs');
 const zlib = require('zlib');
 const { Visitor } = require('./browser.js');

@@ -1,7 +1,7 @@
 'use strict';
 // The accumulator and the other registers.
 const SHORT = 17, LONG = 35, ACC = 71; // digits of a short word, a long one and the accumulator
-const SMALL = 4096; // a number of the last digits below this is told as one
+const SMALL = 4096; // a number below this, of the last digits alone, is written as that number
 
 const signed = (value, digits) => (value >> BigInt(digits - 1) ? value - (1n << BigInt(digits)) : value);
 
@@ -11,7 +11,7 @@ function numberText(value, digits) {
     return number.toLocaleString(page.words.name, { maximumFractionDigits: Math.abs(number) < 1 ? 5 : 3 });
 }
 
-// The number of a long word, as it is read beside those of short ones; a small one at its right end is told as such.
+// The number of a long word, as it is read beside those of short ones. A small one is said to stand at the right end.
 function longText(shown, pair) {
     const value = (BigInt(shown.words[pair + 1]) << 18n) | (BigInt(shown.digits[pair >> 1]) << 17n) | BigInt(shown.words[pair]);
     const whole = signed(value, LONG);

@@ -46,10 +46,11 @@ function drawLens(meant) {
     });
     by('who').textContent = words.say(shown.counter < start ? (start === LOADER ? 'isLoader' : 'isLoader1') : 'isProgram');
     by('who').classList.toggle('on', shown.counter >= start);
-    drawNote(isOne ? before.counter : shown.counter);
+    const at = isOne ? before.counter : shown.counter;
+    drawNote(lens.rowOf(at) ? at : undefined);
 }
 
-// The line below the rows: what the loader's order just obeyed is for, or else that a row can be touched.
+// The line below the rows: what the loader's order just obeyed is for, if one is seen, or else that a row can be touched.
 function drawNote(place) {
     const comment = place < placesOf(page.program.kind) ? commentOf(place) : null;
     by('note').textContent = comment ?? page.words.say('touchRow');

@@ -58,7 +58,7 @@ function styles() {
         '[data-print', '::selection', '#printed', '#unable', '.alone'];
     const rules = all(document.styleSheets[0].cssRules);
     const selectors = rules.flatMap((rule) => (rule.selectorText || '').split(',')).map((one) => one.trim()).filter(Boolean);
-    const bare = (one) => one.replace(/:not\(:empty\)|::before|:(focus-visible|focus|disabled|empty)/g, '') || '*';
+    const bare = (one) => one.replace(/:not\(:empty\)|::before|::-webkit-[a-z-]+|:(focus-visible|focus|disabled|empty)/g, '') || '*';
     const dead = selectors.filter((one) => !atTimes.some((name) => one.includes(name)) && !document.querySelector(bare(one)));
     const keyframes = rules.filter((rule) => rule instanceof CSSKeyframesRule).reduce((sum, rule) => sum + rule.cssRules.length, 0);
     const written = document.querySelector('style').textContent.match(/\{/g).length;
@@ -83,7 +83,8 @@ function outside() {
 
 // Parts of the machine's screen whose text is cut off: what they hold is wider or higher than they are.
 function cutOff() {
-    const parts = seen('.now, .now p, #stage button, #stage h1, #stage h2:not(.unseen), header p, #lens .brief, #lens .spelled, #accNumber, #timesBox, #word, #word p, #note, #who');
+    const parts = seen('.now, .now p, #stage button, #stage h1, #stage h2:not(.unseen), header p, #lens .brief, #lens .spelled,'
+        + '#accNumber, #timesBox, #word, #word p, #note, #who');
     return parts.filter((node) => node.scrollWidth > node.clientWidth + 2 && getComputedStyle(node).display !== 'inline'
         || node.scrollHeight > node.clientHeight + 6 && ['.now', '#word'].some((one) => node.matches(one))).map(nameOf);
 }

@@ -89,7 +89,7 @@ async function movesTo(b, letter, travels, trails, from) {
 // The digits of a shift come from where they were.
 async function shifts(b) {
     for (const [letter, name] of [['R', 'right'], ['L', 'left']]) {
-        const at = await b.ask(`(() => { look((${UP_TO})('${letter}', page.shown.orders - page.shown.orders + ${letter === 'L' ? 0 : 60}));
+        const at = await b.ask(`(() => { look((${UP_TO})('${letter}', ${letter === 'L' ? 0 : 60}));
             while (page.shown.acc === 0n) look((${UP_TO})('${letter}', page.shown.orders + 1)); return page.shown.orders; })()`);
         await b.expect(`an order ${letter} with something to shift`, at, (orders) => orders > 0);
         await b.click('step');
@@ -116,7 +116,8 @@ async function tapeAndLens(b) {
     await b.ask(`look((${UP_TO})('I', 0)); 0`);
     await b.click('step');
     await b.expect('the tape is on its way', await b.ask('tape.at < tape.to'), true);
-    await b.expect('and comes to rest at its next row', await b.until('tape.at === tape.to && tape.at === page.rows.length - page.shown.rowsLeft', 3), true);
+    const isThere = await b.until('tape.at === tape.to && tape.at === page.rows.length - page.shown.rowsLeft', 3);
+    await b.expect('and comes to rest at its next row', isThere, true);
     const slid = await b.run(async () => {
         const first = lens.first, high = lens.body.rows[0].offsetHeight;
         page.peek = first + lens.places.length - 2;

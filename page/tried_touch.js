@@ -206,7 +206,7 @@ async function sounds(b) {
             look(orders);
             return names[page.hear(does)] || 'too often';
         };
-        const all = [after(9, step), after(0, step), after(191, step), after(10, back)];
+        const all = [after(9, step), after(0, step), after(191, step), after(10, back), after(9, () => look(90))];
         by('sound').checked = false;
         all.push(after(9, step));
         by('sound').checked = true;
@@ -215,7 +215,7 @@ async function sounds(b) {
         sound.context = page.formerSound;
         return all;
     });
-    await b.expect('what is heard', heard, ['reader', 'silence', 'printer', 'silence', 'silence', true]);
+    await b.expect('what is heard', heard, ['reader', 'silence', 'printer', 'silence', 'silence', 'silence', true]);
     await b.click('start');
 }
 
