@@ -2,23 +2,24 @@
 // What happens where a visitor presses, chooses or types.
 const DOUBLE = 500; // milliseconds in which a second press of a button that starts and stops is the same wish
 
-// Does something, but not a second time at once.
-function once(does) {
-    let last = -Infinity;
+// Starts or stops something, but doesn't undo that at once.
+function once(does, isOn) {
+    let last = -Infinity, left = false; // when it was pressed, and what it left
     return (event) => {
-        if (event.timeStamp - last > DOUBLE) {
+        if (event.timeStamp - last > DOUBLE || isOn() !== left) {
             last = event.timeStamp;
             does();
+            left = isOn();
         }
     };
 }
 
 function listen() {
     const press = (id, does) => { by(id).onclick = does; };
-    press('show', once(() => tell()));
+    press('show', once(() => tell(), () => page.tour !== undefined));
     press('skip', () => page.tour && page.tour.skip());
     press('start', () => { begin(); speak(); });
-    press('run', once(run));
+    press('run', once(run, () => page.running !== undefined));
     press('step', () => { halt(); step(); });
     press('back', () => { halt(); back(); });
     press('write', write);

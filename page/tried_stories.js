@@ -45,7 +45,7 @@ function hear() {
         page.entry = page.entry ?? entryAfter(0);
         page.heard.push({
             key, text: by('story').textContent, orders: shown.orders, counter: shown.counter, ending: shown.ending,
-            isDark: getComputedStyle(by('lens')).visibility === 'hidden', isOn: shown.ending === 'limit', entry: page.entry,
+            isDark: getComputedStyle(by('store')).visibility === 'hidden', isOn: shown.ending === 'limit', entry: page.entry,
             isOut: shown.counter >= placesOf(program.kind), isResting: shown.counter === WAITS[program.kind],
             isOne: isBeside() && shown.orders - before.orders === 1, printed: isBeside() ? printedBetween(before, shown) : '',
             rowsRead: page.rows.length - shown.rowsLeft, word22: shown.words[22],
