@@ -124,6 +124,7 @@ function atEnd(language) {
 
 // Each sentence of each story is whole where it stands, with what is below it, on screens that lie and that stand.
 async function sentences(b) {
+    await b.send('Page.bringToFront'); // a tab that isn't seen is slowed down
     await b.run(() => {
         page.hurry = 0.004;
         page.cut = [];
