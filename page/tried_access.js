@@ -21,6 +21,8 @@ const SCHEMES = [
     [{ name: 'forced-colors', value: 'active' }, { name: 'prefers-color-scheme', value: 'dark' }],
 ];
 
+const STAGES = { 'at a stop': 'look(193)', 'in the loader': 'look(48)', 'a word that is open': 'openWord(66)' };
+
 // The rules of texts and borders in each scheme, at a stop, while a story is told, and with a word that is open.
 async function schemes(b) {
     await b.size(1280, 720);
@@ -30,7 +32,7 @@ async function schemes(b) {
         await b.send('Emulation.setEmulatedMedia', { features });
         const name = features.map((one) => `${one.name} ${one.value}`).join(', ');
         await b.run(openAll, true);
-        for (const [what, state] of Object.entries({ 'at a stop': 'look(193)', 'in the loader': 'look(48)', 'a word that is open': 'openWord(66)' })) {
+        for (const [what, state] of Object.entries(STAGES)) {
             await b.ask(`${state}; 0`);
             await b.expect(`${name}, ${what}: contrast`, await b.run(rules.EACH['contrast of 4.5 and more']), []);
             await b.expect(`${name}, ${what}: borders`, await b.run(rules.EACH['borders of 3 and more']), []);

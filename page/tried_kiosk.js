@@ -25,7 +25,8 @@ async function kiosk(b) {
     ]), [true, false, 60, 'kiosk']);
     await b.ask('page.hurry = 0.005; 0');
     for (const name of ['letter', 'name', 'changes', 'disc', 'sum', 'first', 'mirror', 'fault', 'letter']) {
-        await b.expect(`its stories rotate: ${name}`, [await b.ask('by("stories").value'), await b.until('page.tour === undefined')], [name, true]);
+        const told = [await b.ask('by("stories").value'), await b.until('page.tour === undefined')];
+        await b.expect(`its stories rotate: ${name}`, told, [name, true]);
         await later(b, WAIT);
     }
     await b.until('page.tour === undefined');
@@ -98,7 +99,8 @@ async function options(b) {
     ]), [20, 30, 'de', 0, ['stage'], true]);
     await b.ask('page.hurry = 0.001; 0');
     for (const name of ['sum', 'disc', 'sum']) {
-        await b.expect(`its own stories: ${name}`, [await b.ask('by("stories").value'), await b.until('page.tour === undefined')], [name, true]);
+        const told = [await b.ask('by("stories").value'), await b.until('page.tour === undefined')];
+        await b.expect(`its own stories: ${name}`, told, [name, true]);
         await later(b, 24);
         await b.expect('not before its pause', await b.ask('page.tour === undefined'), true);
         await later(b, 7);
