@@ -103,6 +103,7 @@ function begin() {
     page.rows = told.out;
     page.labels = labelsOf(page.rows, (code) => page.letters[code], page.items);
     tellRefusal(told);
+    tellProof();
     look(0);
     drawListing();
     paint();

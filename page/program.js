@@ -19,6 +19,14 @@ function tellRefusal(told) {
         : isUntold ? page.words.say(`ends.${told.ending}`, { note: told.note }) : isOther ? page.words.say(`looks.${form}`) : ''));
 }
 
+// What is proved of the program in the box, if it is an example of which something is, as it stands in `examples/`.
+function tellProof() {
+    const { text, kind } = page.program;
+    const proofs = () => page.words.found('exampleProof');
+    const example = EXAMPLES.find((one) => one.text === text && one.kind === kind && one.name in proofs());
+    sayAt('exampleProof', () => (example ? proofs()[example.name] : ''));
+}
+
 function markRefusal() {
     by('text').focus();
     by('text').setSelectionRange(page.refusal.from, page.refusal.to);

@@ -40,7 +40,28 @@ async function lessons(b) {
         await b.expect(`a hint for ${line}`, await b.text('refused'), (said) => said.includes(hint));
     }
     await b.set('lesson', '0');
+    await proofs(b);
     await b.choose('letter.tape');
+}
+
+// What is proved of an example is said where it is chosen, of no other text, and in each language.
+async function proofs(b) {
+    await b.choose('celsius.edsac');
+    await b.expect(
+        'what is proved of an example',
+        await b.text('exampleProof'),
+        (said) => said.startsWith('Proved for all its data: for every temperature'),
+    );
+    await b.type((await b.run(() => by('text').value)).replace('212F', '213F'));
+    await b.expect('nothing of a text that is changed', await b.text('exampleProof'), '');
+    await b.choose('letter.tape');
+    await b.expect('nothing of an example without a law', await b.text('exampleProof'), '');
+    await b.choose('decimals.edsac');
+    await b.expect(
+        'what is proved of the decimals of e',
+        await b.text('exampleProof'),
+        'These are the decimals of e: not only tried, but proved.',
+    );
 }
 
 module.exports = { lessons };
