@@ -1,6 +1,7 @@
 'use strict';
 // The keys on the screen: one of them prints its letter at once, or several of them make a name. A kiosk has no other keyboard.
 const NAME_LENGTH = 12;
+const keyboard = { isOfLetters: false }; // whether the last key printed its letter at once
 
 // The keys. What one does depends on the story.
 function makeKeyboard() {
@@ -19,8 +20,8 @@ function keysNow() {
     if (page.tour || page.running || !isAlive()) {
         return undefined;
     }
-    const story = storyNow()?.name;
-    if (story === 'name' && (isEnded() || page.shown.orders === 0)) {
+    const story = storyNow()?.name, isOfLetters = keyboard.isOfLetters && LETTER_TAPES.has(page.program.text);
+    if (story === 'name' && !(isEnded() && isOfLetters) && (isEnded() || page.shown.orders === 0)) {
         return 'name';
     }
     return isEnded() && (story === 'letter' || LETTER_TAPES.has(page.program.text)) ? 'letter' : undefined;
@@ -42,6 +43,7 @@ const nameTyped = () => by('name').value.toUpperCase();
 function strike(letter) {
     if (keysNow() === 'letter') {
         printName(letter);
+        keyboard.isOfLetters = true;
     } else {
         typeName((nameTyped() + letter).slice(0, NAME_LENGTH));
     }
@@ -54,6 +56,7 @@ function typeName(name) {
 
 // Prints a letter or a name: its tape is mounted, and a short story shows it at work.
 function printName(name) {
+    keyboard.isOfLetters = false;
     replacing(() => {
         by('stories').value = 'name';
         by('name').value = name;

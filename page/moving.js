@@ -11,7 +11,7 @@ const [WIDE, HIGH] = [960, 544]; // pixels, the smallest screen on which the who
 const EACH = 120; // milliseconds of a frame
 const LAST = 5000; // milliseconds of the last one
 const PLAYS = 3; // how often it is played
-const COLOURS = 64; // of the picture: a frame is stored by their numbers
+const COLOURS = 200; // of the picture: a frame is stored by their numbers
 
 // The bytes of the picture in a PNG file, three or four a pixel, without the filters of its rows.
 function pixelsOf(png) {

@@ -93,6 +93,9 @@ async function keys(b) {
     await b.press('#letters button:nth-child(17)');
     await b.until('page.tour === undefined && page.shown.ending === "stopped"');
     await b.expect('a letter', await b.text('paper'), 'Q');
+    await b.press('#letters button:nth-child(5)');
+    await b.until('page.tour === undefined && page.shown.ending === "stopped"');
+    await b.expect('and another one', await b.text('paper'), 'E');
     await b.set('stories', 'name');
     await b.expect('a name begins empty', await b.ask('[by("keyboard").hidden, by("printName").disabled]'), [false, false]);
     await b.press('#rubOut');
