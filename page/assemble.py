@@ -18,7 +18,11 @@ here = pathlib.Path("page")
 
 FIRST = ["letter.tape", "name.tape", "digits.tape", "hello.edsac", "squares.edsac", "roots.edsac"]
 KINDS = {".tape": "tape", ".tape1": "tape1", ".edsac": "source"}
-CODE = ["machine", "way", "words", "draw", "strip", "share", "editor", "stories", "lessons", "kiosk", "page"]
+CODE = [
+    "machine", "way", "words", "paint", "map", "tape", "lens", "rows", "registers", "paper", "travel", "moves", "sound", "sentence",
+    "parts", "strip", "share", "editor", "printing", "program", "below", "said", "tongues", "stories", "tour", "items", "fault", "lessons",
+    "loaders", "guard", "kiosk", "keyboard", "copy", "word", "controls", "listen", "page",
+]
 
 
 def in_script(value):
@@ -98,13 +102,25 @@ def policy(page):
     ])
 
 
-languages = {file.stem: json.loads(file.read_text("utf-8")) for file in sorted((here / "languages").glob("*.json"))}
+def texts(folder):
+    """The texts of a folder, a file for each language."""
+    return {file.stem: json.loads(file.read_text("utf-8")) for file in sorted((here / folder).glob("*.json"))}
+
+
+def version():
+    """The newest version of CHANGELOG.md, if a heading has one."""
+    found = re.search(r"^## +(\d+\.\d+(?:\.\d+)?)\b", pathlib.Path("CHANGELOG.md").read_text("utf-8"), re.M)
+    return found.group(1) if found else ""
+
+
 code = [
     "'use strict';",
     f"const MODULES = {in_script({'wide': module('page64.wasm'), 'narrow': module('page32.wasm')})};",
+    f"const VERSION = {in_script(version())};",
     f"const EXAMPLES = {in_script(examples())};",
     f"const LESSONS = {in_script(lessons())};",
-    f"const LANGUAGES = {in_script(languages)};",
+    f"const LANGUAGES = {in_script(texts('languages'))};",
+    f"const LOADERS = {in_script(texts('loaders'))};",
     *[(here / f"{name}.js").read_text("utf-8").replace("'use strict';\n", "", 1) for name in CODE],
 ]
 parts = {
@@ -119,5 +135,6 @@ for mark, text in parts.items():
     if mark != "/*SHEET*/" and re.search(r"</(script|style)|<!--", text):
         sys.exit(f"page/assemble.py: the text of {mark} would end before its end")
     page = page.replace(mark, text)
+page = page.replace("/*VERSION*/", version())
 page = page.replace("/*POLICY*/", policy(page))
 (out / "edsac.html").write_text(page, "utf-8")

@@ -5,6 +5,26 @@ const fs = require('fs');
 const os = require('os');
 const path = require('path');
 
+const KEY_CODES = { Shift: [16, undefined], Enter: [13, '\r'], Tab: [9, undefined], ArrowRight: [39, undefined], ArrowLeft: [37, undefined] };
+
+// Where the middle of a part of the page is in the window, and what is over it; undefined if it isn't seen. It is scrolled to,
+// if it is outside.
+function middleOf(selector) {
+    const node = document.querySelector(selector);
+    const isOut = ({ left, top, right, bottom }) => left < 0 || top < 0 || right > innerWidth || bottom > innerHeight;
+    if (!node || node.disabled || node.getClientRects().length === 0) {
+        return undefined;
+    }
+    if (isOut(node.getBoundingClientRect())) {
+        node.scrollIntoView({ block: 'center', inline: 'nearest', behavior: 'instant' });
+    }
+    const { left, top, width, height } = node.getBoundingClientRect();
+    const [x, y] = [left + width / 2, top + height / 2];
+    const hit = document.elementFromPoint(x, y);
+    const isOver = hit === null || !(node.contains(hit) || (node.labels && [...node.labels].some((label) => label.contains(hit))));
+    return { x, y, over: isOver ? `${hit && (hit.id || hit.tagName)} is over it` : '' };
+}
+
 class Browser {
     constructor(command, page, folder) {
         Object.assign(this, { page: `file://${path.resolve(page)}`, folder, wrong: 0, requested: [], said: [] });
@@ -86,8 +106,36 @@ class Browser {
         return this.ask(`document.getElementById('${id}').textContent`);
     }
 
-    click(id, times = 1) {
-        return this.ask(`for (let i = 0; i < ${times}; i++) document.getElementById('${id}').click(); 0`);
+    // Presses a part of the page as a hand does, with the mouse or with a finger, where the part is on the screen.
+    async press(selector, kind = 'mouse') {
+        const at = await this.run(middleOf, selector);
+        await this.expect(`${selector} can be pressed`, at && at.over, '');
+        if (at && at.over === '') {
+            await this.point(at.x, at.y, kind);
+        }
+    }
+
+    // A press at a point of the window.
+    async point(x, y, kind, clickCount = 1) {
+        if (kind === 'touch') {
+            await this.send('Input.dispatchTouchEvent', { type: 'touchStart', touchPoints: [{ x, y }] });
+            await this.send('Input.dispatchTouchEvent', { type: 'touchEnd', touchPoints: [] });
+            return;
+        }
+        for (const type of ['mousePressed', 'mouseReleased']) {
+            await this.send('Input.dispatchMouseEvent', { type, x, y, button: 'left', clickCount });
+        }
+    }
+
+    async click(id, times = 1) {
+        for (let k = 0; k < times; k++) {
+            await this.press(`#${id}`);
+        }
+    }
+
+    // Chooses a language by its button.
+    speak(name) {
+        return this.press(`#language [lang=${name}]`);
     }
 
     set(id, value, event = 'change') {
@@ -101,9 +149,13 @@ class Browser {
         await this.until('editor.timer === undefined');
     }
 
+    // A key: a sign, or one that has a name.
     async key(name) {
-        await this.send('Input.dispatchKeyEvent', { type: 'keyDown', key: name, text: name });
-        await this.send('Input.dispatchKeyEvent', { type: 'keyUp', key: name });
+        const [code, text] = KEY_CODES[name] || [name.toUpperCase().charCodeAt(0), name];
+        for (const type of ['keyDown', 'keyUp']) {
+            const typed = type === 'keyDown' ? { text } : {};
+            await this.send('Input.dispatchKeyEvent', { type, key: name, windowsVirtualKeyCode: code, ...typed });
+        }
     }
 
     async shot(name, params = {}) {
@@ -115,6 +167,23 @@ class Browser {
 
     size(width, height, mobile = false) {
         return this.send('Emulation.setDeviceMetricsOverride', { width, height, deviceScaleFactor: 1, mobile });
+    }
+
+    // The window as it was at first.
+    unsize() {
+        return this.send('Emulation.clearDeviceMetricsOverride');
+    }
+
+    // Opens a page in a tab of its own as an old or strict browser would.
+    async openBare(url, { isScripted, hasWasm }) {
+        const { targetId } = await this.send('Target.createTarget', { url: 'about:blank' }, undefined);
+        this.session = (await this.send('Target.attachToTarget', { targetId, flatten: true }, undefined)).sessionId;
+        await this.send('Page.enable');
+        await this.send('Emulation.setScriptExecutionDisabled', { value: !isScripted });
+        if (!hasWasm) {
+            await this.send('Page.addScriptToEvaluateOnNewDocument', { source: 'delete window.WebAssembly;' });
+        }
+        await this.send('Page.navigate', { url });
     }
 
     // Opens the page in a tab of its own, with what follows its #.

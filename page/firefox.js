@@ -9,7 +9,10 @@ const os = require('os');
 const path = require('path');
 const { Visitor } = require('./browser.js');
 const machine = require('./tried_machine.js');
+const motion = require('./tried_motion.js');
+const touch = require('./tried_touch.js');
 const stories = require('./tried_stories.js');
+const { lessons } = require('./tried_lessons.js');
 const sharing = require('./tried_sharing.js');
 
 // A web socket, as far as it is needed: texts there and back.
@@ -88,6 +91,8 @@ function valueOf({ type, value }) {
     return type === 'null' ? null : value;
 }
 
+const KEY_VALUES = { Shift: '\uE008', Enter: '\uE007', Tab: '\uE004', ArrowRight: '\uE014', ArrowLeft: '\uE012' };
+
 class Firefox extends Visitor {
     start(command) {
         this.profile = fs.mkdtempSync(path.join(os.tmpdir(), 'page-'));
@@ -135,13 +140,26 @@ class Firefox extends Visitor {
         return said.result ? valueOf(said.result) : `FAULT ${JSON.stringify(said.exceptionDetails ? said.exceptionDetails.text : said)}`;
     }
 
+    // A press at a point of the window, with the mouse or with a finger.
+    point(x, y, kind) {
+        const at = { type: 'pointerMove', x: Math.floor(x), y: Math.floor(y) };
+        const press = ['pointerDown', 'pointerUp'].map((type) => ({ type, button: 0 }));
+        const actions = [{ type: 'pointer', id: kind, parameters: { pointerType: kind }, actions: [at, ...press] }];
+        return this.tell('input.performActions', { context: this.context, actions });
+    }
+
     key(name) {
-        const actions = ['keyDown', 'keyUp'].map((type) => ({ type, value: name }));
+        const value = KEY_VALUES[name] || name;
+        const actions = ['keyDown', 'keyUp'].map((type) => ({ type, value }));
         return this.tell('input.performActions', { context: this.context, actions: [{ type: 'key', id: 'keys', actions }] });
     }
 
     size(width, height) {
         return this.tell('browsingContext.setViewport', { context: this.context, viewport: { width, height } });
+    }
+
+    unsize() {
+        return this.size(...WINDOW);
     }
 
     async shot(name) {
@@ -152,7 +170,7 @@ class Firefox extends Visitor {
     // Opens the page in a tab of its own, with what follows its #.
     async open(hash) {
         ({ context: this.context } = await this.tell('browsingContext.create', { type: 'tab' }));
-        await this.size(1280, 1000);
+        await this.unsize();
         await this.tell('browsingContext.navigate', { context: this.context, url: `${this.page}${hash}`, wait: 'complete' });
         await this.until('document.body !== null && document.body.dataset.ready !== undefined');
     }
@@ -166,8 +184,14 @@ class Firefox extends Visitor {
     }
 }
 
-// What is tried: what a visitor does with the machine, the stories, the lessons, links and languages.
-const PARTS = [...Object.values(machine), ...Object.values(stories), sharing.links, sharing.languages];
+const WINDOW = [1280, 1000]; // pixels
+
+// What is tried: what a visitor does with the machine, what moves, what a hand does on the stage, the stories, the lessons,
+// links and languages.
+const PARTS = [
+    ...Object.values(machine), motion.landings, motion.rests, touch.words, touch.keys, touch.rows, touch.sounds,
+    ...Object.values(stories), lessons, sharing.links, sharing.languages,
+];
 
 (async () => {
     const [command, file, folder, only] = process.argv.slice(2);

@@ -1,16 +1,33 @@
 'use strict';
 // A museum's screen: the page's address with #kiosk=60,quiet after it. The stories are shown one after the other. If
-// the page was touched, and then left alone for that many seconds, everything is reset to the beginning.
+// the page was touched, and then left alone for that many seconds, everything is reset to the beginning; before that it
+// counts down, and a touch stops the count.
 const BETWEEN = 12; // seconds from the end of a story to the next one
+const COUNTED = 10; // seconds that are counted down, or half of a short wait
+const LEAST_WAIT = 10, MOST_WAIT = 3600, USUAL_WAIT = 90; // seconds
+
+// What the address asks for: 60,quiet,story=disc,pause=20,stage are the seconds, no bell, one or more stories instead of
+// all, the seconds between two of them, and the machine alone, with nothing below it.
+function kioskAsked(asked, names) {
+    const words = (asked || '').split(',').map((word) => word.trim());
+    const valuesOf = (name) => words.filter((word) => word.startsWith(`${name}=`)).map((word) => word.slice(name.length + 1));
+    const within = (value, least, usual) => (/^\d+$/.test(value) ? Math.max(least, Math.min(Number(value), MOST_WAIT)) : usual);
+    const stories = valuesOf('story').filter((name) => names.includes(name));
+    return {
+        seconds: within(words.find((word) => /^\d+$/.test(word)), LEAST_WAIT, USUAL_WAIT),
+        between: within(valuesOf('pause')[0], 1, BETWEEN),
+        stories: stories.length ? stories : names,
+        isQuiet: words.includes('quiet'),
+        isStage: words.includes('stage'),
+    };
+}
 
 class Kiosk {
-    // 60,quiet: seconds, and no bell.
     constructor(asked) {
-        const [seconds, ...others] = (asked || '').split(',');
-        this.seconds = Math.min(3600, Math.max(10, Number(seconds) || 90));
+        Object.assign(this, kioskAsked(asked, ROTATION));
         this.isTouched = false;
         this.since = page.clock();
-        if (others.includes('quiet')) {
+        if (this.isQuiet) {
             by('sound').checked = false;
         }
         this.language = page.words.name;
@@ -21,6 +38,7 @@ class Kiosk {
     touch() {
         this.isTouched = true;
         this.since = page.clock();
+        this.count(undefined);
     }
 
     // Resets everything: each control, box, scroll and text.
@@ -28,6 +46,7 @@ class Kiosk {
         halt();
         clearTimeout(editor.timer);
         Object.assign(editor, { isOwn: false, former: undefined, waiting: undefined, timer: undefined });
+        [page.machine.orders, page.machine.meanings].forEach((known) => known.clear()); // it tells them again
         speakIn(this.language);
         this.boxes.forEach(({ box, value, checked, open }) => {
             if (box.tagName === 'DETAILS') {
@@ -40,15 +59,17 @@ class Kiosk {
             box.style.width = box.style.height = '';
         });
         tanks();
+        drawPace();
         follow(true);
         afterPrint();
         by('ask').hidden = by('linked').hidden = true;
-        by('shared').textContent = by('checked').textContent = '';
+        sayAt('shared');
         by('undo').disabled = true;
         drawLesson();
         begin();
         this.isTouched = false;
         this.since = page.clock();
+        this.count(undefined);
         if (document.activeElement) {
             document.activeElement.blur();
         }
@@ -61,20 +82,29 @@ class Kiosk {
 
     // Checks once a second whether it is time for something.
     look() {
-        const idle = (page.clock() - this.since) / 1000;
         if (page.tour) {
             this.since = page.clock(); // a story ends by itself
             return;
         }
-        if (this.isTouched ? idle > this.seconds : idle > BETWEEN) {
-            const next = this.isTouched ? 0 : STORIES.indexOf(storyNow()) + 1;
+        const idle = (page.clock() - this.since) / 1000;
+        const left = (this.isTouched ? this.seconds : this.between) - idle;
+        if (left < 0) {
+            const next = this.isTouched ? 0 : this.stories.indexOf(storyNow().name) + 1;
             this.reset();
             this.tell(next);
+        } else if (this.isTouched) {
+            this.count(left <= Math.min(COUNTED, this.seconds / 2) ? Math.ceil(left) : undefined);
         }
     }
 
+    // The seconds that are left, where a visitor sees them; or nothing.
+    count(left) {
+        by('countdown').hidden = left === undefined;
+        by('count').textContent = left ?? '';
+    }
+
     tell(number) {
-        by('stories').value = STORIES[number % (STORIES.length - 1)].name;
+        by('stories').value = this.stories[number % this.stories.length];
         loadStory();
         tell();
     }
@@ -83,8 +113,14 @@ class Kiosk {
 function beginKiosk(asked) {
     document.documentElement.classList.add('kiosk');
     const kiosk = (page.kiosk = new Kiosk(asked));
+    document.documentElement.classList.toggle('alone', kiosk.isStage);
     feel(() => kiosk.touch());
+    guard();
     setInterval(() => kiosk.look(), 1000);
     draw();
     kiosk.tell(0);
+}
+
+if (typeof module !== 'undefined') {
+    module.exports = { kioskAsked };
 }

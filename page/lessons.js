@@ -33,12 +33,18 @@ function isDue(due, shown, machine, text) {
 function drawLesson() {
     const lesson = LESSONS[Number(by('lesson').value) - 1];
     by('lessonBox').hidden = lesson === undefined;
-    by('checked').textContent = '';
+    sayAt('checked');
     if (lesson === undefined) {
         return;
     }
     by('lessonText').innerHTML = lesson.html;
-    by('lessonPrograms').replaceChildren(...lesson.programs.map((name) => {
+    drawLessonPrograms();
+}
+
+// A button for each program of the lesson.
+function drawLessonPrograms() {
+    const { programs } = LESSONS[Number(by('lesson').value) - 1] || { programs: [] };
+    by('lessonPrograms').replaceChildren(...programs.map((name) => {
         const button = document.createElement('button');
         button.textContent = page.words.say('load', { name });
         button.onclick = () => chooseExample(EXAMPLES.findIndex((example) => example.name === name));
@@ -50,12 +56,12 @@ function checkLesson() {
     const lesson = LESSONS[Number(by('lesson').value) - 1];
     begin();
     if (!isAlive()) {
-        by('checked').textContent = page.words.say('isRefused');
+        sayAt('checked', () => page.words.say('isRefused'));
         return;
     }
     const isRight = isDue(lesson.due, pictureAt(TRIED), page.machine, page.program.text);
     const isWrong = lesson.due.kind === 'paper' ? 'isWrongPaper' : 'isWrong';
-    by('checked').textContent = page.words.say(isRight ? 'isRight' : isWrong);
+    sayAt('checked', () => page.words.say(isRight ? 'isRight' : isWrong));
 }
 
 if (typeof module !== 'undefined') {

@@ -24,8 +24,7 @@ class Machine {
 
     begin() {
         this.exports = new WebAssembly.Instance(this.module, {}).exports;
-        this.orders = new Map();
-        this.meanings = new Map();
+        [this.orders, this.meanings, this.signs] = [new Map(), new Map(), new Map()];
         this.mounted = undefined; // the rows in the room of the tape
         this.rooms = {};
         ROOMS.forEach((name, kind) => {
@@ -136,6 +135,16 @@ class Machine {
     // The letter or sign of a code.
     letter(code) {
         return String.fromCharCode(this.call('page_letter', code));
+    }
+
+    // What a code prints after the last code that set a shift, if one did.
+    sign(shift, code) {
+        const codes = Uint8Array.from(shift === null ? [code] : [shift, code]);
+        const key = codes.join();
+        if (!this.signs.has(key)) {
+            this.signs.set(key, this.paper({ codes }, codes.length - 1, codes.length).trim());
+        }
+        return this.signs.get(key);
     }
 
     // The text of an order word.

@@ -54,10 +54,11 @@ function styles() {
     const all = (list) => [...list].flatMap((rule) => (rule.cssRules && !(rule instanceof CSSKeyframesRule)
         ? [rule, ...all(rule.cssRules)] : [rule]));
     const atTimes = ['.rings', '.here', '.painted', '.faulty', '.comment', '.label', '.order', '.word', '.string', '.kiosk',
-        '[data-print', '::selection', '#printed', 'noscript'];
+        '.long', '.new', '.idle', '.done', '.named', '.far', '.top', '.under', '.on', '.unstarted', '.typing', '.traveller', '#trails', '#parts',
+        '[data-print', '::selection', '#printed', '#unable', '.alone'];
     const rules = all(document.styleSheets[0].cssRules);
     const selectors = rules.flatMap((rule) => (rule.selectorText || '').split(',')).map((one) => one.trim()).filter(Boolean);
-    const bare = (one) => one.replace(/:(focus-visible|disabled|empty)/g, '') || '*';
+    const bare = (one) => one.replace(/:not\(:empty\)|::before|::-webkit-[a-z-]+|:(focus-visible|focus|disabled|empty)/g, '') || '*';
     const dead = selectors.filter((one) => !atTimes.some((name) => one.includes(name)) && !document.querySelector(bare(one)));
     const keyframes = rules.filter((rule) => rule instanceof CSSKeyframesRule).reduce((sum, rule) => sum + rule.cssRules.length, 0);
     const written = document.querySelector('style').textContent.match(/\{/g).length;
@@ -78,6 +79,25 @@ function outside() {
     const out = [...document.querySelectorAll(parts)].filter((node) => node.getClientRects().length > 0)
         .filter((node) => isOut(node.getBoundingClientRect())).map((node) => node.id || node.className);
     return out.concat(document.documentElement.scrollWidth > innerWidth ? ['the page'] : []);
+}
+
+// Parts of the machine's screen whose text is cut off: what they hold is wider or higher than they are.
+function cutOff() {
+    const parts = seen('.now, .now p, #stage button, #stage h1, #stage h2:not(.unseen), header p, #lens .brief, #lens .spelled,'
+        + '#accNumber, #timesBox, #word, #word p, #note, #who');
+    return parts.filter((node) => node.scrollWidth > node.clientWidth + 2 && getComputedStyle(node).display !== 'inline'
+        || node.scrollHeight > node.clientHeight + 6 && ['.now', '#word'].some((one) => node.matches(one))).map(nameOf);
+}
+
+// The orders whose few words are wider than their room in the lens.
+function cutBriefs() {
+    const cell = lens.body.rows[2].cells[3], was = cell.textContent;
+    const cut = [...'ASHVNTUCRLEGIOFXYZ'].filter((letter) => {
+        cell.textContent = page.words.brief({ letter, location: 100, pair: 100, isLong: false, shift: 12 });
+        return cell.scrollWidth > cell.clientWidth || cell.scrollHeight > cell.clientHeight + 2;
+    });
+    cell.textContent = was;
+    return cut;
 }
 
 // Controls that a thumb misses: smaller than 24 pixels, or than 44 for the buttons of the machine.
@@ -104,4 +124,4 @@ const EACH = {
     'each id is there once': ids,
 };
 
-module.exports = { EACH, install, outside, smallControls, brightness };
+module.exports = { EACH, install, outside, cutOff, cutBriefs, smallControls, brightness };

@@ -1,19 +1,6 @@
 'use strict';
-// The stories that the page tells by itself: what a tape is to do, how it fills the store, how its program works, and an
-// end that invites. What is shown comes from the machine's pictures; an item of the tape is what the loader reads between
-// two pictures in which it waits for the next one.
-const WAITS = { tape: 34, source: 34, tape1: 7 }; // the place of the loader's order that reads the first row of an item
-const STORIES = [
-    { name: 'letter', example: 'letter.tape' },
-    { name: 'name' },
-    { name: 'changes', example: 'hello.edsac' },
-    { name: 'disc', example: 'disc.edsac' },
-    { name: 'sum', example: 'add.edsac' },
-    { name: 'first', example: 'squares.tape1' },
-    { name: 'own' }, // what the box holds
-];
-const ITEMS = 9, ORDERS = 9; // how many are shown one by one
-const LONGEST_ITEM = 2000; // orders: a loader that a tape has sent round in circles reads no item
+// The stories that the page tells by itself, and the tapes that are made for them.
+const ALPHABET = 'ABCDEFGHIJKLMNOPQRSTUVWXYZ';
 
 // The letters that a name can be printed in: capital letters without their marks, and blanks.
 function printable(name) {
@@ -29,202 +16,72 @@ function tapeOf(letters) {
         + `T64K GK\n${orders} ZF\n${signs.map((sign) => `${sign}F`).join(' ')}\nEZPF\n`;
 }
 
-// A sentence that is already shown is not said again.
-function sayStory(text) {
-    if (by('story').textContent !== text) {
-        by('story').textContent = text;
+// The tape of one letter with a hole too many: the K of GK has become an erase.
+const FAULTY = '[The tape that prints A, with one hole too many: the K of GK has become *.]\nT64K G*\nO2@ ZF\nAF\nEZPF\n';
+
+const STORIES = [
+    { name: 'letter', example: 'letter.tape', isFirst: true }, // it begins with why 1949 matters
+    { name: 'name', text: () => tapeOf(printable(by('name').value)) },
+    { name: 'changes', example: 'hello.edsac', isProved: true },
+    { name: 'disc', example: 'disc.edsac' },
+    { name: 'sum', example: 'add.edsac', isProved: true },
+    { name: 'first', example: 'squares.tape1', isProved: true },
+    { name: 'mirror', example: 'mirror.tape', isProved: true },
+    { name: 'fault', text: () => FAULTY },
+    { name: 'own' }, // what the box holds
+];
+
+// The stories that follow one another, without the one of the visitor's own text.
+const ROTATION = STORIES.filter(({ name }) => name !== 'own').map(({ name }) => name);
+
+// The tapes that print one letter.
+const LETTER_TAPES = new Set([...ALPHABET].map(tapeOf));
+
+const storyNow = () => STORIES.find((story) => story.name === by('stories').value);
+
+// Loads the text of the story that is chosen.
+function loadStory() {
+    const story = storyNow();
+    const example = EXAMPLES.findIndex((one) => one.name === story.example);
+    by('nameLabel').hidden = story.name !== 'name';
+    if (story.name === 'own') {
+        return;
+    }
+    by('examples').value = example < 0 ? '' : String(example);
+    put(example < 0 ? { text: story.text(), kind: 'tape' } : EXAMPLES[example]);
+}
+
+// Shows the story that is chosen, from its beginning, or ends the one that is shown. A short one passes over the tape, with
+// a sentence of its own.
+async function tell(again) {
+    if (page.tour) {
+        halt();
+        return;
+    }
+    begin();
+    if (!isAlive()) {
+        return;
+    }
+    const story = storyNow();
+    const tour = (page.tour = again ? new ShortTour(story, again) : story.name === 'fault' ? new FaultTour(story) : new Tour(story));
+    page.toured = tour;
+    by('skip').hidden = false;
+    drawButtons();
+    if (await tour.run()) {
+        page.tour = undefined;
+        by('skip').hidden = true;
+        by('invite').hidden = false;
+        drawButtons();
     }
 }
 
-class Tour {
-    constructor(story) {
-        this.story = story;
-        this.isOver = false;
-        this.waited = 0; // seconds, as they are planned
-    }
-
-    // Waits; false if a button ended the story. Skip ends the waiting and all further ones of the part.
-    async wait(seconds) {
-        if (!this.skips && !this.isOver) {
-            this.waited += seconds;
-            await new Promise((done) => {
-                this.wake = done;
-                setTimeout(done, seconds * 1000 * (page.hurry || 1));
-            });
-        }
-        return !this.isOver;
-    }
-
-    skip() {
-        this.skips = true;
-        if (this.wake) {
-            this.wake();
-        }
-    }
-
-    end() {
-        this.isOver = true;
-        this.skip();
-    }
-
-    // Shows a sentence for a while.
-    async tell(seconds, key, values) {
-        if (this.isOver) {
-            return false;
-        }
-        if (!this.skips) {
-            sayStory(page.words.say(key, values));
-        }
-        return this.wait(seconds);
-    }
-
-    // All of the story; true if it reached its end.
-    async run() {
-        for (const part of [this.tellAim, this.tellLoader, this.tellTape, this.tellProgram]) {
-            this.skips = false;
-            await part.call(this);
-            if (this.isOver) {
-                return false;
-            }
-        }
-        this.skips = false;
-        sayStory(page.words.say({ stopped: 'told.end', limit: 'told.endless' }[page.shown.ending] || 'told.still'));
-        return true;
-    }
-
-    async tellAim() {
-        await this.tell(6, `aim.${this.story.name}`, { name: printable(by('name').value) });
-    }
-
-    // The loader's own first orders, as one picture.
-    async tellLoader() {
-        if (!(await this.tell(6, page.program.kind === 'tape1' ? 'told.loader1' : 'told.loader'))) {
-            return;
-        }
-        show(this.toNextItem(page.shown), page.shown);
-        await this.tell(5, 'told.ready');
-    }
-
-    // The picture in which the loader waits for its next item, or has ended.
-    toNextItem(from) {
-        const { kind } = page.program;
-        const isBusy = ({ ending, counter }) => ending === 'limit' && counter < placesOf(kind) && counter !== WAITS[kind];
-        let shown = from;
-        do {
-            shown = pictureAt(shown.orders + 1, shown);
-        } while (isBusy(shown) && shown.orders < from.orders + LONGEST_ITEM);
-        return shown;
-    }
-
-    // Each item as it lands: the first ones slowly, the others in a few seconds.
-    async tellTape() {
-        for (let item = 0; item < ITEMS && this.isReading(); item++) {
-            const from = page.shown;
-            show(this.toNextItem(from), from);
-            if (!(await this.tell(item < 4 ? 4 : 3, ...this.itemOf(from, page.shown)))) {
-                return;
-            }
-        }
-        const entry = this.entryAfter(page.shown.orders);
-        for (let k = 1, from = page.shown.orders; k <= 24 && page.shown.orders < entry; k++) {
-            if (!(await this.tell(0.2, 'told.on'))) {
-                return;
-            }
-            show(pictureAt(Math.round(from + ((entry - from) * k) / 24), page.shown), page.shown);
-        }
-        await this.tell(4, 'told.program');
-    }
-
-    isReading() {
-        return page.shown.ending === 'limit' && page.shown.counter < placesOf(page.program.kind);
-    }
-
-    // The number of orders after which the loader has ended, found by bisection: before it the counter is in the
-    // loader.
-    entryAfter(from) {
-        const hasLeft = (orders) => {
-            const shown = pictureAt(orders);
-            return shown.ending !== 'limit' || shown.counter >= placesOf(page.program.kind);
-        };
-        if (hasLeft(from)) {
-            return from;
-        }
-        let [low, high] = [from, 2 * from + 64];
-        while (!hasLeft(high) && high < TRIED) {
-            [low, high] = [high, 2 * high];
-        }
-        while (high - low > 1) {
-            const middle = Math.floor((low + high) / 2);
-            [low, high] = hasLeft(middle) ? [low, middle] : [middle, high];
-        }
-        return high;
-    }
-
-    // What is said of what was read between two pictures: an item of the tape, and what became of it.
-    itemOf(from, to) {
-        const first = page.rows.length - from.rowsLeft, last = page.rows.length - to.rowsLeft;
-        const item = page.labels.slice(first, last).join('');
-        const found = page.items.find((one) => one.first === first);
-        if (found && found.location !== undefined) {
-            return this.placedItem(item, found);
-        }
-        if (to.counter >= placesOf(page.program.kind)) {
-            return ['told.enter', { item }];
-        }
-        return /^T\d+K$/.test(item) ? ['told.from', { item, place: item.slice(1, -1) }]
-            : item === 'GK' ? ['told.theta', { item, place: addressOf(to.words[42]) }] : ['told.control', { item }];
-    }
-
-    // What is said of an item that places a word. The first of May 1949 names the place after the last word.
-    placedItem(item, { first, location, word }) {
-        if (first === 0 && page.program.kind === 'tape1') {
-            return ['told.first1', { item, place: addressOf(word) - 1 }];
-        }
-        const order = orderText(word);
-        return [order === item ? 'told.stored' : 'told.landed', { item, order, place: location }];
-    }
-
-    // The first orders slowly, the others in time.
-    async tellProgram() {
-        for (let order = 0; order < ORDERS && page.shown.ending === 'limit'; order++) {
-            const from = page.shown;
-            show(pictureAt(from.orders + 1, from), from);
-            if (!(await this.tell(order < 5 ? 3.5 : 2.5, ...this.orderOf(from, page.shown)))) {
-                return;
-            }
-        }
-        if (page.shown.ending === 'limit') {
-            await this.runOn();
-        }
-    }
-
-    orderOf(from, to) {
-        const printed = printedBetween(from, to);
-        if (printed) {
-            return ['told.printed', { text: printed }];
-        }
-        const isChanged = changedPlaces(from, to).some((place) => isOwnOrder(from, to, place, page.machine));
-        return isChanged ? ['told.changed', {}] : ['told.program', {}];
-    }
-
-    // The rest of the program, up to its end, in at most 18 seconds.
-    async runOn() {
-        const end = pictureAt(TRIED, page.shown);
-        const from = page.shown.orders, left = end.orders - from;
-        const frames = Math.min(180, Math.max(1, Math.ceil(left / 65)));
-        for (let k = 1; k < frames; k++) {
-            if (!(await this.tell(0.1, 'told.fast'))) {
-                return;
-            }
-            show(pictureAt(from + Math.round((left * k) / frames), page.shown), page.shown);
-        }
-        show(end, page.shown);
-    }
+// The story after the one that is chosen.
+function nextStory() {
+    by('stories').value = ROTATION[(ROTATION.indexOf(storyNow().name) + 1) % ROTATION.length];
+    loadStory();
+    return tell();
 }
-
-// The place in an order's address.
-const addressOf = (word) => page.machine.meaning(word, page.program.small).location;
 
 if (typeof module !== 'undefined') {
-    module.exports = { printable, tapeOf };
+    module.exports = { STORIES, printable, tapeOf };
 }

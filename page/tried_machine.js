@@ -4,6 +4,9 @@ const fs = require('fs');
 const { pause } = require('./browser.js');
 
 async function firstTape(b) {
+    await b.expect('on opening, why 1949 matters, and what to press', [await b.text('done'), await b.text('did')],
+        [await b.ask('page.words.say("told.why")'), 'The tape is under the reader. Press Show me, or go order by order with Step.']);
+    await b.click('start');
     await b.expect('at Start no order is done', [await b.text('orders'), await b.text('counter')], ['0', '0']);
     await b.expect('Start is seen', [await b.text('did'), (await b.pixels('lit')) > 100],
         ['Start: the store was cleared, and the machine put 41 orders into places 0 to 40. They are the loader.', true]);
@@ -45,6 +48,25 @@ async function firstTape(b) {
     await b.expect('Start', await b.text('orders'), '0');
 }
 
+// What an order moves is seen to move, and leaves a trail; not after Back.
+async function moves(b) {
+    const seen = '[page.moves.map((move) => move.kind).join(), document.querySelectorAll("#trails .head").length]';
+    for (const [order, kind] of [[5, 'stored'], [6, 'added'], [10, 'read'], [49, 'jumped'], [192, 'printed']]) {
+        await b.set('at', String(order - 1));
+        await b.expect('nothing moves before an order', await b.ask(seen), ['', 0]);
+        await b.click('step');
+        await b.expect(`order ${order}`, await b.ask(seen), [kind, 1]);
+        await b.click('back');
+        await b.expect('nothing moves back', await b.ask(seen), ['', 0]);
+    }
+    await b.expect(
+        'the program is read in the lens',
+        await b.run(() => [64, 65, 66].map((place) => [...lens.rowOf(place).cells].map((cell) => cell.textContent).join(' '))),
+        ['64  O66F print the sign in 66', '65  ZF stop', '66  AF the code of A'],
+    );
+    await b.click('start');
+}
+
 async function loaderOnItself(b) {
     await b.set('at', '48');
     await b.expect('the loader changes its own order', await b.text('did'),
@@ -56,7 +78,7 @@ async function examples(b) {
     const squares = '1\n4\n9\n16\n25\n36\n49\n64\n81\n100\n';
     for (const [name, printed, orders] of [['name.tape', 'EDSAC', '426'], ['squares.edsac', squares, '4,650']]) {
         await b.choose(name);
-        await b.set('speed', '100000');
+        await b.set('speed', '5');
         await b.click('run');
         await b.expect(`${name} runs to its end`, await b.until(`page.shown.ending === 'stopped'`), true);
         await b.expect(`${name}: the teleprinter`, [await b.text('paper'), await b.text('orders')], [printed, orders]);
@@ -175,6 +197,7 @@ async function faults(b) {
             tellFault(fault);
             return by('meaning').textContent.slice(0, 25);
         });
+        showMain(true);
         document.body.dataset.ready = 'wide';
         begin();
         return all;
@@ -235,11 +258,11 @@ async function postMortem(b) {
         .map((place) => page.machine.order(page.shown.words[place]).replace(/^.(?=[FD])/, '$&0')).join('\n'));
     await b.expect('a post-mortem', [await b.text('pm'), await b.text('pmSaid')],
         [wanted, 'Printed of the store after 4,650 orders.']);
-    await b.set('language', 'de');
+    await b.speak('de');
     await b.click('pmPrint');
     await b.expect('and in German', [await b.text('pm'), await b.text('pmSaid')],
         [wanted, 'Gedruckt vom Speicher nach 4.650 Befehlen.']);
-    await b.set('language', 'en');
+    await b.speak('en');
     await b.expect('it is of one picture alone', await b.text('pm'), '');
     await b.set('pmFirst', '100');
     await b.click('pmPrint');
@@ -315,7 +338,7 @@ async function ownWork(b) {
 
 async function runs(b) {
     await b.choose('endless.tape');
-    await b.set('speed', '100000');
+    await b.set('speed', '5');
     await b.set('at', '900000');
     await b.click('run');
     await b.expect('a run goes on', await b.until('page.shown.orders > 1000000 && page.running !== undefined'), true);
@@ -326,7 +349,7 @@ async function runs(b) {
     const jump = await b.run(() => {
         begin();
         page.running = { due: 0, last: 0 };
-        by('speed').value = '650';
+        by('speed').value = '3';
         frame(600000);
         const at = page.shown.orders;
         halt();
@@ -350,12 +373,15 @@ async function runs(b) {
         await b.key(name);
         await b.expect(`the key ${name}`, await b.text('orders'), wanted);
     }
+    await b.click('more');
+    await b.click('more');
     await b.click('keys');
     await b.key('s');
     await b.expect('keys that are turned off', await b.text('orders'), '0');
     await b.click('keys');
     await b.key('s');
     await b.expect('and on again', await b.text('orders'), '1');
+    await b.ask(`by('moreBox').open = false; 0`);
 }
 
 async function longPaper(b) {
@@ -411,4 +437,4 @@ async function farOn(b) {
     await b.choose('letter.tape');
 }
 
-module.exports = { firstTape, loaderOnItself, examples, faults, otherForms, postMortem, otherLoaders, ownWork, runs, longPaper, farOn };
+module.exports = { firstTape, moves, loaderOnItself, examples, faults, otherForms, postMortem, otherLoaders, ownWork, runs, longPaper, farOn };

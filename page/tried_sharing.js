@@ -160,7 +160,7 @@ async function languages(b) {
         const differ = await b.run(unlike, name);
         await b.expect(`the texts of ${name} are those of en, with the same values in them`, differ, []);
     }
-    await b.set('language', 'de');
+    await b.speak('de');
     await b.expect(
         'German',
         [await b.ask('document.documentElement.lang'), await b.text('show'), await b.text('programHead')],
@@ -184,7 +184,7 @@ async function languages(b) {
             .map((node) => node.dataset.say)),
         [],
     );
-    await b.set('language', 'en');
+    await b.speak('en');
 }
 
 module.exports = { links, files, strips, languages };

@@ -4,14 +4,24 @@
 //   node page/units.js
 const fs = require('fs');
 const path = require('path');
-const { Words, writtenFor, signAt, lineAt, hintFor, figuresOf } = require('./words.js');
+const { Words, writtenFor, signAt, lineAt, hintFor, figuresOf, printedBetween } = require('./words.js');
 const { packed, unpacked, formOf, kindOf } = require('./share.js');
-const { printable, tapeOf } = require('./stories.js');
+const { STORIES, printable, tapeOf } = require('./stories.js');
 const { sumOf, seenOf } = require('./lessons.js');
-const { punchedOf } = require('./draw.js');
+const { punchedOf } = require('./tape.js');
 const { STRIP, stripOf } = require('./strip.js');
 const { partsOf } = require('./editor.js');
+const { lensFirst, lensPlaces } = require('./lens.js');
+const { codePlaces } = require('./rows.js');
+const { wayOf } = require('./travel.js');
+const { movesOf } = require('./moves.js');
+const { partsOfItem } = require('./parts.js');
+const { copyOf } = require('./copy.js');
+const { clatterOf } = require('./sound.js');
+const { kioskAsked } = require('./kiosk.js');
+const { texts } = require('./tried_loaders.js');
 
+Object.assign(globalThis, { printedBetween }); // the page's scripts are one script
 let count = 0, wrong = 0;
 
 function same(what, got, wanted) {
@@ -124,10 +134,76 @@ same(
     ['TF', 'TS', 'T40D', 'T40L', 'FF', 'FS', 'D3F', 'D3S'],
 );
 
+same(
+    'orders in a few words',
+    [named('A', 66), named('A', 66, true), named('O', 66), named('E', 64), named('Z'), named('', 5)].map((order) => languages.en.brief(order)),
+    ['add 66', 'add 66, 67', 'print the sign in 66', 'if 0 or more, go to 64', 'stop', 'no order'],
+);
+same(
+    'the lens moves only if it has to',
+    [lensFirst(63, 66, 8, 1024), lensFirst(63, 69, 8, 1024), lensFirst(63, 20, 8, 1024), lensFirst(0, 1023, 8, 1024), lensFirst(5, 0, 8, 1024)],
+    [63, 68, 19, 1016, 0],
+);
+same(
+    'and its last two rows have what is far away',
+    [[], [25], [64, 22, 64], [64, 2], [25, 64]].map((others) => lensPlaces(20, 6, others).slice(3)),
+    [[23, 24, 25], [23, 24, 25], [23, 24, 64], [23, 2, 64], [23, 25, 64]],
+);
+// Words of a tape that prints AB, as the machine reports them: O4, O5, Z, 5, A, B.
+const six = [named('O', 4), named('O', 5), named('Z'), named('P', 2), named('A'), named('B')].map((order, k) => (
+    { ...order, named: 'OAB'.includes(order.letter) ? order.location : undefined, number: k === 3 ? 5 : 30000 }));
+same('codes to print', [...codePlaces([0, 1, 2, 3, 4, 5], 0, (word) => six[word])].sort(), [4, 5]);
+// What each kind of order moves, from one picture to the next.
+const MOVED = [
+    [named('A', 66), {}, ['added from 66']],
+    [named('A', 67, true), {}, ['added long from 66']],
+    [named('S', 5), {}, ['added from 5']],
+    [named('H', 67, true), {}, ['taken long from 66']],
+    [named('V', 5), {}, ['added from 5', 'multiplied']],
+    [named('T', 7), {}, ['stored to 7']],
+    [named('U', 6, true), {}, ['stored long to 6']],
+    [named('I', 40, true), { rowsLeft: 8 }, ['read K to 40']],
+    [named('I', 40), {}, []],
+    [named('O', 66), { printed: 'A' }, ['printed A from 66']],
+    [named('O', 66), { printed: '' }, []],
+    [named('R', 0, false, 15), {}, ['shifted by 15']],
+    [named('L', 0, false, 3), {}, ['shifted by -3']],
+    [named('E', 64), { counter: 64 }, ['jumped from 10 to 64']],
+    [named('E', 64), {}, []],
+    [named('X', 0), {}, []],
+];
+for (const [order, after, wanted] of MOVED) {
+    const machine = { meaning: () => ({ ...order, named: 'ASHVTUIOE'.includes(order.letter) ? order.location : undefined }) };
+    const way = { small: false, text: () => after.printed || '' };
+    const before = { words: [], counter: 10, rowsLeft: 9, way };
+    const moves = movesOf(before, { counter: 11, rowsLeft: 9, way, ...after }, machine, (picture, place, isLong) => (isLong ? 'long' : ''), 'K');
+    const said = moves.map(({ kind, text, from, to, by }) => [kind, text, from !== undefined && `from ${from}`,
+        to !== undefined && `to ${to}`, by !== undefined && `by ${by}`].filter(Boolean).join(' '));
+    same(`what ${order.letter} ${order.location} moves`, said, wanted);
+}
+same('the parts of items', ['O2@', 'AF', 'T64K', 'GK', 'A12D', 'R1S'].map((item) => partsOfItem([...item], { first: 0, after: item.length })
+    .map(({ key, sign, read }) => `${key} ${sign} ${read}`).join(', ')), [
+    'letter O 1, digits 2 2, theta @ 3', 'letter A 1, short F 2', 'letter T 1, digits 64 3, other K 4', 'letter G 1, other K 2',
+    'letter A 1, digits 12 3, long D 4', 'letter R 1, digits 1 2, short S 3']);
+
+// T64K GK O2@ ZF AF EZPF, with a row of data after it.
+const labels = [...'T64KGKO2@ZFAFEZPFB'];
+const item = (first, after, location) => ({ first, after, location });
+const items = [item(0, 4), item(4, 6), item(6, 9, 64), item(9, 11, 65), item(11, 13, 66), item(13, 15), item(15, 17)];
+same('a copy of a tape with another word', [['tape', 66, 'BF'], ['tape', 70, 'CF'], ['tape1', 64, 'O3S'], ['tape1', 70, 'CS']]
+    .map((change) => copyOf(labels, items, ...change)), [
+    'T64K GK O2@ ZF BF EZ PF B', 'T64K GK O2@ ZF AF T70KCF EZ PF B', 'T64K GK O3S ZF AF EZ PF B', undefined]);
+same('a tape without an entry has no place for another word', copyOf(labels, items.slice(0, 5), 'tape', 70, 'CF'), undefined);
+same('what clatters', [[1, 9, 2, 8], [1, 9, 1, 8], [1, 9, 1, 9]].map(([printed, rowsLeft, after, left]) => (
+    clatterOf({ printed, rowsLeft }, { printed: after, rowsLeft: left }) || 'nothing')), ['printer', 'reader', 'nothing']);
+same('a way has its ends', [0, 12].map((k) => wayOf([1, 2], [30, 40], 0.2)[k]), [[1, 2], [30, 40]]);
+
 // Each order has a sentence in each language, and so has each cause of the manual.
 for (const [name, words] of Object.entries(languages)) {
     for (const letter of 'ASHVNTUCRLEGIOFXYZ') {
         same(`${name}: ${letter}`, /\{|undefined/.test(words.meaning(named(letter, 5))), false);
+        same(`${name}: ${letter} in a few words`, /\{|undefined/.test(words.brief(named(letter, 5))), false);
+        same(`${name}: what ${letter} will do`, /\{|undefined|no order/.test(words.brief(named(letter, 5), 'later')), false);
     }
     for (const cause of ['T1', 'T2', ...Array.from({ length: 17 }, (_, k) => `S${k + 1}`)]) {
         same(`${name}: ${cause}`, words.has(`cause.${cause}`), true);
@@ -217,6 +293,35 @@ same(
     (stripOf(new Array(STRIP.rows + 1).fill(0), new Array(STRIP.rows + 1).fill('P'), punchedOf, 'x', 'x').match(/class="cut"/g) || []).length,
     2,
 );
+
+texts(same);
+
+// What a kiosk's address asks for.
+const usual = { seconds: 90, between: 12, stories: ['letter', 'disc'], isQuiet: false, isStage: false };
+for (const [asked, wanted] of [
+    ['', {}], ['60,quiet', { seconds: 60, isQuiet: true }], ['quiet, 5', { seconds: 10, isQuiet: true }], ['99999', { seconds: 3600 }],
+    ['story=disc', { stories: ['disc'] }], ['60,story=disc,story=letter,story=none', { seconds: 60, stories: ['disc', 'letter'] }],
+    ['pause=0,stage', { between: 1, isStage: true }], ['pause=40,90', { between: 40 }], ['-5,pause=x,story=', {}],
+]) {
+    same(`a kiosk: ${asked}`, kioskAsked(asked, ['letter', 'disc']), { ...usual, ...wanted });
+}
+
+// What a story says is proved is what the table of docs/PROGRAMS.md has of its program, with the same numbers in each
+// language.
+const PROVED = {
+    changes: '1 to 40 capital letters', sum: 'sum is below 65,536', first: 'squares from 1 to 81', mirror: '1 to 9 capital letters',
+};
+const programs = fs.readFileSync(path.join(__dirname, '../docs/PROGRAMS.md'), 'utf8');
+const proved = STORIES.filter(({ isProved }) => isProved);
+same('the stories of proved programs', proved.map(({ name }) => name), Object.keys(PROVED));
+for (const { name, example } of proved) {
+    const row = programs.split('\n').find((line) => line.startsWith(`| \`examples/${example}\` |`)) || '';
+    const [english, german] = ['en', 'de'].map((language) => languages[language].say(`proved.${name}`));
+    same(`${example} has its row, with ${PROVED[name]}`, [row, english].map((text) => text.includes(PROVED[name])), [true, true]);
+    const [one, two] = [english.replace(/,(?=\d{3})/g, ''), german.replace(/\.(?=\d{3})/g, '')].map((text) => text.match(/\d+/g));
+    same(`${name}: the same numbers in both languages`, one, two);
+}
+same('the orders of the table of squares', programs.includes('`stopped at 61 after 1855`'), true);
 
 (async () => {
     for (const text of ['', 'T64K GK', 'ÄÖÜ \u{1F600}\n'.repeat(2000)]) {

@@ -55,16 +55,31 @@ class Words {
         });
     }
 
+    // The same in a few words; or, of an order that has just come into the store, what it will do.
+    brief({ letter, location, pair, isLong, shift }, part = 'brief') {
+        if (!this.has(`${part}.${letter}`)) {
+            return this.say('brief.none');
+        }
+        return this.say(`${part}.${letter}`, { at: isLong ? `${pair}, ${pair + 1}` : location, address: location, shift });
+    }
+
     // A word as it may be meant: a small one as a number, and any other as an order too.
     described(word, machine, kind) {
         const { number } = machine.meaning(word, false);
         return Math.abs(number) < 2048 ? `${number}` : this.say('asNumber', { order: writtenFor(kind, machine.order(word)), number });
     }
 
-    // What became different between two pictures that are one order apart.
-    changes(before, after, machine, rows) {
+    // What became different between two pictures that are one order apart. The two places of a long order are told of as
+    // one, with the number that `longOf` says.
+    changes(before, after, machine, rows, longOf) {
         const said = [];
-        for (const place of changedPlaces(before, after)) {
+        const { named, isLong, pair } = machine.meaning(before.words[before.counter], after.way.small);
+        const isPair = (place) => isLong && named !== undefined && place >> 1 === pair >> 1;
+        const changed = changedPlaces(before, after);
+        if (changed.some(isPair) || (isPair(pair) && before.digits[pair >> 1] !== after.digits[pair >> 1])) {
+            said.push(this.say('did.long', { first: pair, second: pair + 1, number: longOf(after, pair) }));
+        }
+        for (const place of changed.filter((one) => !isPair(one))) {
             const [old, now] = [before.words[place], after.words[place]];
             const { kind } = after.way;
             const loader = placesOf(kind);
@@ -73,9 +88,9 @@ class Words {
             const form = own ? (word) => writtenFor(kind, machine.order(word)) : (word) => this.described(word, machine, kind);
             said.push(this.say(`did.${own || 'word'}`, { place, old: form(old), now: form(now) }));
         }
-        for (let pair = 0; pair < 512; pair++) {
-            if (before.digits[pair] !== after.digits[pair]) {
-                said.push(this.say('did.digit', { first: 2 * pair, second: 2 * pair + 1 }));
+        for (let half = 0; half < 512; half++) {
+            if (before.digits[half] !== after.digits[half] && !isPair(2 * half)) {
+                said.push(this.say('did.digit', { first: 2 * half, second: 2 * half + 1 }));
             }
         }
         if (before.rowsLeft !== after.rowsLeft) {
@@ -187,5 +202,5 @@ function labelsOf(rows, letter, items) {
 }
 
 if (typeof module !== 'undefined') {
-    module.exports = { Words, writtenFor, signAt, lineAt, hintFor, figuresOf, labelsOf };
+    module.exports = { Words, writtenFor, signAt, lineAt, hintFor, figuresOf, labelsOf, printedBetween };
 }

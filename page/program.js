@@ -1,0 +1,107 @@
+'use strict';
+// The box of the program: what is wrong with its text, examples, files and links.
+
+// What the machine reports of a text that it refuses, and what that means.
+function tellRefusal(told) {
+    const isUntold = ['no memory', 'no room', 'fault'].includes(told.ending);
+    const { text, kind } = page.program;
+    const refusalNow = () => page.words.refusal(told.note, text, kind);
+    page.refusal = told.note && !isUntold ? refusalNow() : undefined;
+    const form = formOf(text), isMisread = form !== kind && text.trim() !== '';
+    const isOther = isMisread && form !== 'source' && kind !== 'source'; // a tape of the other loader is not refused
+    const isRefused = page.refusal !== undefined;
+    by('refusal').hidden = !isUntold && !isOther && !isRefused;
+    by('mark').hidden = !isRefused;
+    by('switch').hidden = !isOther && (!isRefused || !isMisread);
+    by('text').setAttribute('aria-invalid', String(isRefused));
+    sayAt('switch', () => page.words.say(`as.${form}`));
+    sayAt('refused', () => (isRefused ? page.words.say('refuses', { note: told.note.trim(), ...refusalNow() })
+        : isUntold ? page.words.say(`ends.${told.ending}`, { note: told.note }) : isOther ? page.words.say(`looks.${form}`) : ''));
+}
+
+function markRefusal() {
+    by('text').focus();
+    by('text').setSelectionRange(page.refusal.from, page.refusal.to);
+}
+
+// Punches the tape of the source in the box, and reads it again.
+function punch() {
+    if (isAlive() && page.program.kind === 'source') {
+        const text = new TextDecoder().decode(page.machine.punched(page.program).out);
+        replacing(() => {
+            by('examples').value = '';
+            by('stories').value = 'own';
+            put({ text, kind: 'tape' });
+        });
+    }
+}
+
+function chooseExample(number) {
+    replacing(() => {
+        by('examples').value = String(number);
+        by('stories').value = 'own';
+        by('nameLabel').hidden = true;
+        put(EXAMPLES[number]);
+    });
+}
+
+function write() {
+    halt();
+    by('program').scrollIntoView();
+    by('text').focus();
+}
+
+async function makeLink() {
+    const shared = { ...textNow(), orders: isAlive() ? page.shown.orders : 0 };
+    const address = `${location.href.split('#')[0]}#p=${await packed(shared)}`;
+    by('linked').hidden = false;
+    by('linkText').value = address;
+    by('linkText').select();
+    try {
+        await navigator.clipboard.writeText(address);
+        sayAt('shared', () => page.words.say('copied'));
+    } catch (fault) {
+        sayAt('shared'); // the visitor copies it by hand
+    }
+}
+
+// Opens what the page's address holds; false if it holds nothing.
+async function openLink() {
+    const letters = addressed().get('p');
+    if (!letters) {
+        return false;
+    }
+    const shared = await unpacked(letters);
+    if (shared === undefined) {
+        sayAt('shared', () => page.words.say('badLink'));
+        return false;
+    }
+    replacing(() => {
+        by('examples').value = '';
+        by('stories').value = 'own';
+        put(shared);
+        if (isAlive() && shared.orders > 0) {
+            look(shared.orders);
+        }
+    });
+    return true;
+}
+
+async function openFile() {
+    const [file] = by('file').files;
+    by('file').value = '';
+    if (!file) {
+        return;
+    }
+    if (file.size > LONGEST) {
+        sayAt('shared', () => page.words.say('badFile'));
+        return;
+    }
+    sayAt('shared');
+    const text = (await file.text()).replace(/\r\n/g, '\n');
+    replacing(() => {
+        by('examples').value = '';
+        by('stories').value = 'own';
+        put({ text, kind: kindOf(file.name, text) });
+    });
+}

@@ -1,0 +1,58 @@
+'use strict';
+// The large sentence: what the last order did, how a run has ended, and what is said aloud.
+const SPOKEN = 400; // characters of a paper, at most, that are said aloud
+
+// Whether the picture is beside the one of the order before, and is to be looked at.
+const isBeside = () => page.before !== undefined && page.before !== EMPTY;
+
+const isOneOrder = () => isBeside() && !isFast() && page.shown.orders - page.before.orders === 1;
+
+// The order that was obeyed last, and what it does; or who is at work while orders pass too fast to be named.
+function doneText() {
+    const { before, shown, machine, program, words } = page;
+    if (!isBeside()) {
+        const key = page.isNew ? 'told.why' : keysNow() === 'name' ? 'pressName' : 'press';
+        return before ? words.say(key) : '';
+    }
+    if (!isOneOrder()) {
+        return words.say(shown.counter < placesOf(program.kind) ? 'runsLoader' : 'runsProgram');
+    }
+    const word = before.words[before.counter];
+    return words.say('told.order', { order: orderText(word), meaning: words.meaning(machine.meaning(word, program.small)) });
+}
+
+function didText() {
+    if (page.before === EMPTY && page.isNew) {
+        return page.words.say('press');
+    }
+    if (page.before === EMPTY) {
+        return page.words.say(page.program.kind === 'tape1' ? 'atStart1' : 'atStart');
+    }
+    return isOneOrder()
+        ? page.words.say('before', { said: page.words.changes(page.before, page.shown, page.machine, page.rows, longText) }) : '';
+}
+
+function changedText() {
+    const places = page.before ? changedPlaces(page.before, page.shown) : [];
+    return page.words.say(places.length ? 'changedPlaces' : 'noPlace', { places: places.slice(0, 8).join(', ') });
+}
+
+function endingText(shown) {
+    if (shown.ending === 'limit') {
+        return shown.orders >= FURTHEST ? page.words.say('furthest', { count: page.words.number(FURTHEST) }) : '';
+    }
+    return page.words.has(`ends.${shown.ending}`) ? page.words.say(`ends.${shown.ending}`, { note: shown.note }) : '';
+}
+
+// Says aloud what was printed after a count of codes.
+function speakPrinted(from) {
+    const text = isAlive() ? page.shown.way.text(from, page.shown.printed).replace(/\s+/g, ' ').trim().slice(-SPOKEN) : '';
+    sayAt('spoken', () => page.words.say(text ? 'printedAloud' : 'printedNothing', { text }));
+}
+
+// Says aloud, for those who can't see it, what a step did.
+function speak() {
+    sayAt('spoken', () => (isAlive() ? page.words.say('spoken', {
+        did: by('did').textContent, place: page.shown.counter, meaning: by('meaning').textContent,
+    }) : ''));
+}
