@@ -16,12 +16,12 @@ STYLE = """\
   .digit { font: 15px monospace; text-anchor: middle; } .tiny { font: 9px monospace; text-anchor: middle; }
   .middle { text-anchor: middle; } .end { text-anchor: end; }
   rect, path { stroke: #6d7768; fill: none; } .a { fill: #f6dfa0; } .b { fill: #cfe3f3; } .c { fill: #d7ead0; }
-  .d { fill: #f3d2cb; } .e { fill: #e7e5dc; } .hole { fill: #22281f; stroke: none; } .none { fill: none; stroke: #b3b9ac; }
+  .d { fill: #f3d2cb; } .e { fill: #e7e5dc; } .hole { fill: #22281f; stroke: none; } .none { fill: none; stroke: #a2935c; }
 """
 DARK = """\
   .ground { fill: #1b211d; } text { fill: #ece9db; }
   rect, path { stroke: #8b9684; } .a { fill: #6b5215; } .b { fill: #24496a; } .c { fill: #2f5a2c; }
-  .d { fill: #6d3329; } .e { fill: #3a413b; } .hole { fill: #ece9db; } .none { stroke: #59635a; }
+  .d { fill: #6d3329; } .e { fill: #3a413b; } .hole { fill: #ece9db; } .none { stroke: #b9a765; }
 """
 
 
