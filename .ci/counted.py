@@ -29,8 +29,8 @@ def tests():
 
 def counts():
     """Each thing that is counted, with its number."""
+    scripts = [path for path in (tree.ROOT / "page").rglob("*.js") if path.parent.name != "out"]
     examples = [path for path in (tree.ROOT / "examples").iterdir() if path.suffix in (".edsac", ".tape", ".tape1")]
-    page = [path for path in (tree.ROOT / "page").rglob("*.js")]
     return [
         ("crates, those of tests included", len(tree.stands_on())),
         *((f"lines of {what} (`{part}/`)", lines(part)) for part, what in KINDS.items()),
@@ -38,7 +38,7 @@ def counts():
         ("edits that must fail", len(list(tree.CRATES.glob("*/must-fail/*.edit")))),
         ("tests in the crates", tests()),
         ("examples, each with what it prints", len(examples)),
-        ("lines of the page's scripts, with those that test it", sum(path.read_bytes().count(b"\n") for path in page)),
+        ("lines of the page's scripts, with those that test it", sum(path.read_bytes().count(b"\n") for path in scripts)),
     ]
 
 
@@ -50,4 +50,4 @@ def table():
 
 def with_table(text):
     """The text of the page with this table in its place."""
-    return BETWEEN.sub(table(), text)
+    return BETWEEN.sub(lambda _: table(), text)
