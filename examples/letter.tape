@@ -1,4 +1,4 @@
-[Prints the letter A and stops. Look for: O2@, the order O with the address 2 behind theta, which is 66.]
+[Prints the letter A and stops. Look for: O2@, the order O with the address 2 after theta, which is 66.]
 T64K        [words go to location 64 and upwards]
 GK          [theta is 64]
 O2@         [64: print the code in the word two places on]

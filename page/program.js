@@ -19,7 +19,7 @@ function tellRefusal(told) {
         : isUntold ? page.words.say(`ends.${told.ending}`, { note: told.note }) : isOther ? page.words.say(`looks.${form}`) : ''));
 }
 
-// What is proved of the program in the box, if it is an example of which something is, as it stands in `examples/`.
+// What is proved of the program in the box, if it is one of the examples with a law, and unchanged.
 function tellProof() {
     const { text, kind } = page.program;
     const proofs = () => page.words.found('exampleProof');
