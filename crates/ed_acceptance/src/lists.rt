@@ -101,7 +101,7 @@ const NOT_ADDED: [(&[u16], Refusal); 5] = [
 fn celsius_lines(alloc: Global, temperatures: &[u16]) -> Result<String, Fail> {
     let mut lines = String::new(alloc);
     for temperature in temperatures {
-        let above = u32::from(*temperature) - 32;
+        let above = u32::from(temperature.saturating_sub(32));
         write!(lines, "{}\r\n", above * 5 / 9)?;
     }
     Ok(lines)
@@ -121,7 +121,7 @@ fn celsius_prints_whole_degrees(rt: HostRuntime) -> Result<(), Fail> {
 fn sum_text(alloc: Global, numbers: &[u16]) -> Result<String, Fail> {
     let mut sum: u32 = 0;
     for number in numbers {
-        sum += u32::from(*number);
+        sum = sum.saturating_add(u32::from(*number));
     }
     Ok(format!(in alloc; "{sum}")?)
 }
