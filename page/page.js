@@ -66,6 +66,7 @@ function show(shown, before) {
     page.peek = undefined;
     page.isNew = false;
     page.moves = was && was === before ? movesNow() : []; // nothing is seen to move if the visitor went back or far on
+    drawPostMortem();
     draw(page.moves.length > 0 && isMoving());
     playMoves();
     if (isNewStop && maySound()) {
@@ -115,7 +116,6 @@ function draw(isGliding = false) {
     document.body.classList.toggle('rings', shown.ending === 'stopped');
     by('ending').textContent = endingText(shown);
     drawButtons();
-    drawPostMortem();
     if (!isAlive()) {
         drawNothing();
         return;

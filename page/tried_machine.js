@@ -258,12 +258,22 @@ async function postMortem(b) {
         .map((place) => page.machine.order(page.shown.words[place]).replace(/^.(?=[FD])/, '$&0')).join('\n'));
     await b.expect('a post-mortem', [await b.text('pm'), await b.text('pmSaid')],
         [wanted, 'Printed of the store after 4,650 orders.']);
+    const printed = '[by("pm").textContent, by("pmSaid").textContent !== ""]';
+    await b.size(900, 700);
+    await b.until('innerWidth === 900');
+    await b.unsize();
+    await b.expect('it stays in a window of another size', await b.ask(printed), [wanted, true]);
+    await b.press('#traceBox > summary');
+    await b.until('by("trace").textContent !== ""');
+    await b.expect('it stays when a part is opened', await b.ask(printed), [wanted, true]);
+    await b.press('#traceBox > summary');
     await b.speak('de');
-    await b.click('pmPrint');
-    await b.expect('and in German', [await b.text('pm'), await b.text('pmSaid')],
+    await b.expect('and is said in German', [await b.text('pm'), await b.text('pmSaid')],
         [wanted, 'Gedruckt vom Speicher nach 4.650 Befehlen.']);
     await b.speak('en');
-    await b.expect('it is of one picture alone', await b.text('pm'), '');
+    await b.click('back');
+    await b.expect('it is of one picture alone', await b.ask(printed), ['', false]);
+    await b.set('at', '100000');
     await b.set('pmFirst', '100');
     await b.click('pmPrint');
     await b.expect('places that it can not print', [await b.text('pm'), await b.text('pmSaid')],
