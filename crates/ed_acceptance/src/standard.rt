@@ -180,4 +180,6 @@ fn a_refused_flush_is_a_failed_write(rt: HostRuntime) {
     writes(&rt, &mut sink, "AB", Some(2));
     writes(&rt, &mut sink, "AB", None);
     writes(&rt, &mut sink, "AB", Some(2));
+    drop(sink);
+    expect_that(&rt, tally.count == 6, "no piece is written twice");
 }

@@ -281,3 +281,22 @@ fn a_second_start_leaves_the_registers(rt: HostRuntime) -> Result<(), Fail> {
     let mut machine = machine_after(&rt, rt.alloc(), Full, REGISTERS, [114_688, 3, 0, 0])?;
     expect_registers_left(&rt, rt.alloc(), &mut machine)
 }
+
+/// Orders that put the digit 1 between the words at 20 and 21: it is shifted out of the word 1.
+const SANDWICH: &str = "A31F R0D T20D";
+
+/// Starts a machine again that has obeyed these orders, and checks the digit between the words that Start writes.
+fn expect_sandwich_left(rt: &impl Abort, alloc: Global, machine: &mut Machine) -> Result<(), Fail> {
+    expect(rt, machine.sandwich(20), "the digit before Start");
+    let image = image_of(rt, alloc, REGISTERS, [1, 2, 3, 4])?;
+    start_with(rt, machine, &image, Vec::new(alloc));
+    expect(rt, machine.sandwich(20), "the digit after Start");
+    Ok(())
+}
+
+/// Start writes words, and no sandwich digit.
+#[test]
+fn a_second_start_leaves_the_sandwich_digits(rt: HostRuntime) -> Result<(), Fail> {
+    let mut machine = machine_after(&rt, rt.alloc(), Full, SANDWICH, [0, 1, 0, 0])?;
+    expect_sandwich_left(&rt, rt.alloc(), &mut machine)
+}

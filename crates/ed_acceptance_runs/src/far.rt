@@ -12,21 +12,21 @@ fn is_at(moved: &Moved, at: u16, done: u64) -> bool {
 
 /// Goes far on and often back, and then on to the limit.
 fn goes_on_and_back(rt: &impl Abort, session: &mut Session) {
-    let moved = session.go(9_963_472);
+    let moved = session.go(1_968_080);
     expect(rt, matches!(moved.end, MoveEnd::Went), "far on");
     for _ in 0..2_000 {
         expect(rt, session.back(1).is_ok(), "often back");
     }
     let moved = session.go(100_000);
-    expect(rt, is_at(&moved, 64, 10_000_000), "on");
+    expect(rt, is_at(&moved, 64, 2_000_000), "on");
     expect(rt, matches!(moved.end, MoveEnd::Limit), "to the limit");
 }
 
-/// The latest copy is that after 9,961,472 orders, 152 times 65,536, so each move back obeys at most 2,000 orders. From
-/// the start, or from the earliest copy, they would be 20,000,000,000 in all, which no test has the time for.
+/// The latest copy is that after 1,966,080 orders, 30 times 65,536, so each move back obeys at most 2,000 orders. From
+/// the start, or from the earliest copy, they would be 4,000,000,000 in all, which no test has the time for.
 #[test]
 fn far_on_and_often_back(rt: HostRuntime) -> Result<(), Fail> {
-    let mut session = session_on(&rt, rt.alloc(), LOOP, 10_000_000)?;
+    let mut session = session_on(&rt, rt.alloc(), LOOP, 2_000_000)?;
     goes_on_and_back(&rt, &mut session);
     Ok(())
 }

@@ -24,7 +24,7 @@ const ORDERS: [&str; 28] = [
 ];
 
 /// Guests with the rows left on their tapes, and how they end.
-const GUESTS: [(&str, &str, &str, u32); 13] = [
+const GUESTS: [(&str, &str, &str, u32); 16] = [
     // Both jumps, taken and not taken.
     ("E62FZFS90FE61FG66FZFA90FG61FZF", "", "stopped", 7),
     // The same location is printed, and read into.
@@ -43,6 +43,10 @@ const GUESTS: [(&str, &str, &str, u32); 13] = [
     ("T164DZF", "", "refused", 0),
     ("E130FZF", "", "refused", 0),
     ("E62DZFZF", "", "refused", 0),
+    // A jump with the spare digit, and an order in the last location of the store and in the one before it.
+    ("E1086FZFZF", "", "refused", 0),
+    ("E1023FZF", "", "refused", 1),
+    ("E1022FZF", "", "blocked", 1),
     // Locations just outside of it.
     ("A99FS166FA166DA98DZF", "", "stopped", 5),
 ];

@@ -178,13 +178,20 @@ pub fn add_caller(tape: &mut String, caller: u16, base: u16) -> Result<(), Fail>
     Ok(write!(tape, "T{caller}KA{caller}FG{base}FE{caller}KPF")?)
 }
 
-/// Adds the items of a caller at 300 that adds 1 to the number at h after each call.
+/// The distance of the numbers that a counting program goes through. It divides 65,535, so that the least and the greatest
+/// number are among them; that the routines are right for every number is proved.
+pub const DISTANCE: u32 = 17;
+
+/// How many such numbers there are from 0 to 65,535.
+pub const NUMBERS: u32 = 3856;
+
+/// Adds the items of a caller at 300 that adds this distance to the number at h after each call.
 fn add_counting_caller(rt: &impl Abort, tape: &mut String, base: u16, h: u16) -> Result<(), Fail> {
     assert!(rt; h < 300);
     let one = h + 1;
     Ok(write!(
         tape,
-        "T{h}KPFPDT300KA300FG{base}FA{h}FA{one}FT{h}FE300FE300KPF"
+        "T{h}KPFP8DT300KA300FG{base}FA{h}FA{one}FT{h}FE300FE300KPF"
     )?)
 }
 
@@ -203,8 +210,8 @@ fn add_counting(
     add_counting_caller(rt, tape, base, h)
 }
 
-/// A machine that has a routine and has just called it with the number 0 at h, by a program that adds 1 to the number
-/// and calls it again, within six orders.
+/// A machine that has a routine and has just called it with the number 0 at h, by a program that adds
+/// the distance to the number and calls it again, within six orders.
 pub fn counting(
     rt: &impl Abort,
     alloc: Global,
