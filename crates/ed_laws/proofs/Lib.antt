@@ -1,9 +1,19 @@
 mod CallsByDefault
 mod MoveEndings
 mod Stepped
+mod CutRuns
+mod InParts
 mod TapeWalks
 mod TapeEntries
 mod FaultyTapes
+mod PunchedTexts
+mod CountedRuns
+mod TapeFacts
+mod TwoRuns
+mod PartsLimits
+mod MoreResumes
+mod TraceAccounts
 mod PartsRun
 mod ReadBack
+mod PrintedLines
 pub mod Theorems

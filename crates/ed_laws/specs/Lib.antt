@@ -1,6 +1,14 @@
 pub mod CallsByDefault
-pub mod TapeEntries
 pub mod FaultyTapes
+pub mod CutRuns
+pub mod TapeEntries
+pub mod FirstEntries
+pub mod SourceEntries
+pub mod PunchedTexts
+pub mod TapeFacts
 pub mod Stepped
+pub mod TraceAccounts
+pub mod MoreResumes
 pub mod PartsRun
 pub mod ReadBack
+pub mod PrintedLines
