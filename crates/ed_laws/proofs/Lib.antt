@@ -12,7 +12,10 @@ mod TapeFacts
 mod TwoRuns
 mod PartsLimits
 mod MoreResumes
+mod LetterTests
 mod TraceAccounts
+mod BlockedGuests
+mod OwnRules
 mod PartsRun
 mod ReadBack
 mod PrintedLines

@@ -96,7 +96,7 @@ source_keeps lines = record {
 -- ---- traces
 
 -- the letters of more orders begin with those of fewer
-letters_begin : (k m : ℕ) (s : State) → k ≤ m → StartsWith (letters_in (trace_to m s)) (letters_in (trace_to k s))
+pub letters_begin : (k m : ℕ) (s : State) → k ≤ m → StartsWith (letters_in (trace_to m s)) (letters_in (trace_to k s))
 letters_begin k m s fits =
     let whole : k + (m - k) ≡ m = omega (arith, fits) in (
       letters_in (trace_to (m - k) (state_after k s)),

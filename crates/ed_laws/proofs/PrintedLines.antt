@@ -283,7 +283,8 @@ line_back v w more others l m h =
         let of_v : function_in b ≡ v / 4096 = is_equal (function_in b) (v / 4096) (and_parts _ _ x).1 in
         let of_w : function_in c ≡ w / 4096 = is_equal (function_in c) (w / 4096) (and_parts _ _ y).1 in
         let functions : v / 4096 ≡ w / 4096 = sym of_v ∙ ap function_in same ∙ of_w in
-        (inl (omega (arith, functions, back.0)), back.1)
+        let word : v ≡ w = omega (arith, functions, back.0) in
+        (inl word, back.1)
     by_struck (b ∷ d ∷ bs) cs x y e = absurd (true≢false (sym x))
     by_struck [] (c ∷ d ∷ cs) x y e = absurd (true≢false (sym y))
     by_struck (b ∷ []) (c ∷ d ∷ cs) x y e = absurd (true≢false (sym y))

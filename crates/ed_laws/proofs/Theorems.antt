@@ -1,8 +1,10 @@
 -- The theorems of this crate: laws between the commands, and what `call` and `demo` print.
+use Rattle.ed_laws.specs.BlockedGuests.{EachGuestIsBlocked}
 use Rattle.ed_laws.specs.CallsByDefault.{CallsByDefault}
 use Rattle.ed_laws.specs.FaultyTapes.{EachFaultyTapeWaits}
 use Rattle.ed_laws.specs.FirstEntries.{EachFirstTapeRunsFromEntry}
 use Rattle.ed_laws.specs.MoreResumes.{EachLimitIsKept, EachResume}
+use Rattle.ed_laws.specs.OwnRules.{EachOwnRuleShows}
 use Rattle.ed_laws.specs.PartsRun.{EachTapeInPartsIsRun}
 use Rattle.ed_laws.specs.PrintedLines.{EachLineIsOfItsWord}
 use Rattle.ed_laws.specs.PunchedTexts.{EachPunchedTextIsSource}
@@ -15,12 +17,14 @@ use Rattle.ed_laws.specs.TraceAccounts.{EachTraceAccounts}
 use Rattle.ed_answers.specs.BothSizes.{EachSize}
 use Rattle.ed_answers.specs.FirstFaults.{EachFaultyTapeWaits1}
 use Rattle.ed_answers.specs.Listed.{EachListedIsLoaded}
+use Rattle.ed_laws.proofs.BlockedGuests.{each_guest_is_blocked}
 use Rattle.ed_laws.proofs.CallsByDefault.{calls_by_default as by_default}
 use Rattle.ed_sources.specs.DemoRuns.{EachDemoRuns}
 use Rattle.ed_sources.proofs.DemoRuns.{each_demo_runs}
 use Rattle.ed_laws.proofs.CutRuns.{first_tapes_run_from_entry, sources_run_from_entry}
 use Rattle.ed_laws.proofs.FaultyTapes.{faulty_tapes_wait}
 use Rattle.ed_laws.proofs.MoreResumes.{each_limit_is_kept, each_resume}
+use Rattle.ed_laws.proofs.OwnRules.{each_own_rule_shows}
 use Rattle.ed_laws.proofs.PartsRun.{each_tape_in_parts}
 use Rattle.ed_laws.proofs.PrintedLines.{each_line_is_of_its_word}
 use Rattle.ed_laws.proofs.PunchedTexts.{each_punched_text_is_source}
@@ -103,3 +107,11 @@ stepped = each_step_is_run
 -- a tape in parts runs as `parts` reports
 pub parts : EachTapeInPartsIsRun
 parts = each_tape_in_parts
+
+-- what a run prints that has a guest checked without a Z
+pub blocked_guests : EachGuestIsBlocked
+blocked_guests = each_guest_is_blocked
+
+-- a run doesn't rest on a rule that never applies in it
+pub own_rules : EachOwnRuleShows
+own_rules = each_own_rule_shows

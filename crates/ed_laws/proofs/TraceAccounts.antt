@@ -1,16 +1,16 @@
 -- The letters of a trace are the orders of its run, and its Zs are the stops.
 use Rattle.std.proofs.Common.{◌≡◌, ◌∙◌, ℕ, zero, suc, ◌+◌, ◌^◌, ◌<◌, ◌≤◌, refl, sym, ap, subst, arith}
-use Rattle.std.proofs.Common.{Bool, true, false, ◌&&◌, ◌≢◌, nat_eq, nat_lt, nat_le, Option, Some, None}
+use Rattle.std.proofs.Common.{Bool, true, false, ◌≢◌, nat_eq, nat_lt, nat_le, Option, Some, None}
 use Rattle.std.proofs.Common.{List, [], ◌∷◌, ◌++◌, length, length-append}
-use Rattle.std.specs.Prelude.{◌==◌, if◌then◌else◌, not, slice_index, slice_index_or}
+use Rattle.std.specs.Prelude.{◌==◌, if◌then◌else◌, not}
 use Rattle.std.specs.List.{filter}
 use Rattle.std.proofs.lemmas.Bool.Decides.{nat_tests}
 use Rattle.std.proofs.lemmas.List.Elements.{filter-append}
 use Rattle.std.proofs.lemmas.Option.{none-some, same_Some}
 use Rattle.ed_words.specs.Texts.{Text}
 use Rattle.ed_words.specs.Words.{function_of}
-use Rattle.ed_codes.specs.Spelling.{byte_of, letters}
-use Rattle.ed_orders.specs.Kinds.{kind_of_function, kinds}
+use Rattle.ed_codes.specs.Spelling.{byte_of}
+use Rattle.ed_orders.specs.Kinds.{kind_of_function}
 use Rattle.ed_orders.specs.declared.kind.Kind.{Kind}
 use Rattle.ed_orders.specs.declared.kind.Kind.TheVariants.{A, S, H, V, N, T, U, C, R, L, E, G, I, O, F, X, Y, Z}
 use Rattle.ed_machine.specs.State.{State}
@@ -22,7 +22,6 @@ use Rattle.ed_machine.specs.declared.turn.Turn.TheVariants.{NoOrder as IsNoOrder
 use Rattle.ed_machine.specs.declared.ending.Ending.{Ending}
 use Rattle.ed_machine.specs.declared.ending.Ending.TheVariants.{Stopped, Limit, NoOrder, NoTape, PaperFull}
 use Rattle.ed_report.specs.Traces.{functions_after}
-use Rattle.std.proofs.lemmas.Bool.{and_parts}
 use Rattle.std.specs.Prelude.{map}
 use Rattle.ed_machine.specs.OrderTable.{Obeyed, stop_order}
 use Rattle.ed_machine.specs.Steps.{Progress, is_obeyed}
@@ -35,6 +34,7 @@ use Rattle.ed_run.specs.Run.{RunEnd, end_by, run_end, run_orders}
 use Rattle.ed_run.proofs.Ends.{ran_ends}
 use Rattle.ed_stepper.specs.Traces.{trace_to}
 use Rattle.ed_top.specs.Traces.{letters_in}
+use Rattle.ed_laws.proofs.LetterTests.{letter_says}
 use Rattle.ed_laws.proofs.Stepped.{bare_trace, map_both}
 use Rattle.ed_laws.specs.TraceAccounts.{EachTraceAccounts, IsBehindStop, stops_in}
 
@@ -111,33 +111,12 @@ stops_by (Some X) turn h = h
 stops_by (Some Y) turn h = h
 stops_by (Some Z) turn h = h
 
-abbrev same : Bool → Bool → Bool
-same true b = b
-same false b = not b
-
-same_is : (a b : Bool) → same a b ≡ true → a ≡ b
-same_is true true h = refl
-same_is true false h = absurd (cc)
-same_is false true h = absurd (cc)
-same_is false false h = refl
-
--- whether a stop's letter is Z and no letter is a line feed, kind by kind and letter by letter
-abbrev match_up : List (Option Kind) → List ℕ → Bool
-match_up [] [] = true
-match_up (k ∷ ks) (l ∷ ls) = same (is_stop_kind k) (l == 90) && (not (l == 10) && match_up ks ls)
-match_up ks ls = false
-
-matched : (ks : List (Option Kind)) (ls : List ℕ) (f : ℕ) → match_up ks ls ≡ true
-    → (is_stop_kind (slice_index_or ks f None) ≡ (slice_index ls f == 90)) × (not (slice_index ls f == 10) ≡ true)
-matched [] [] f h = (refl, refl)
-matched (k ∷ ks) (l ∷ ls) zero h =
-    let parts = and_parts _ _ h in (same_is _ _ parts.0, (and_parts _ _ parts.1).0)
-matched (k ∷ ks) (l ∷ ls) (suc f) h = matched ks ls f (and_parts _ _ (and_parts _ _ h).1).1
-matched [] (l ∷ ls) f h = absurd (cc)
-matched (k ∷ ks) [] f h = absurd (cc)
-
+-- the letter of a function is Z if it is that of Z, and never a line feed
 letter_of : (f : ℕ) → (is_stop_kind (kind_of_function f) ≡ (byte_of f false == 90)) × (not (byte_of f false == 10) ≡ true)
-letter_of f = matched kinds letters f refl
+letter_of f = (
+  letter_says is_stop_kind (λ byte. byte == 90) refl refl f,
+  sym (letter_says (λ kind. true) (λ byte. not (byte == 10)) refl refl f),
+)
 
 -- the letter of an order is Z if it stops
 letter_stops : (s : State) → stops_of (step s).turn ≡ one_if (byte_of (function_of (next_word s)) false == 90)
@@ -166,11 +145,11 @@ one_zed byte = by_test (byte == 90)
     by_test false = refl
 
 -- the letter of the next order
-abbrev next_letter : State → ℕ
+abbrev pub next_letter : State → ℕ
 next_letter s = byte_of (function_of (next_word s)) false
 
 -- the trace of one order more has its letter more
-more_letters : (k : ℕ) (s : State)
+pub more_letters : (k : ℕ) (s : State)
     → letters_in (trace_to (suc k) s) ≡ letters_in (trace_to k s) ++ next_letter (state_after k s) ∷ []
 unfolding functions_after
 more_letters k s =

@@ -9,6 +9,8 @@ pub mod TapeFacts
 pub mod Stepped
 pub mod TraceAccounts
 pub mod MoreResumes
+pub mod BlockedGuests
+pub mod OwnRules
 pub mod PartsRun
 pub mod ReadBack
 pub mod PrintedLines
