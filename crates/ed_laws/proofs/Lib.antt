@@ -16,6 +16,8 @@ mod LetterTests
 mod TraceAccounts
 mod BlockedGuests
 mod OwnRules
+mod SmallerStore
+mod Relocation
 mod PartsRun
 mod ReadBack
 mod PrintedLines

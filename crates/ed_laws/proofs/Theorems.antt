@@ -9,6 +9,8 @@ use Rattle.ed_laws.specs.PartsRun.{EachTapeInPartsIsRun}
 use Rattle.ed_laws.specs.PrintedLines.{EachLineIsOfItsWord}
 use Rattle.ed_laws.specs.PunchedTexts.{EachPunchedTextIsSource}
 use Rattle.ed_laws.specs.ReadBack.{EachWordIsReadBack}
+use Rattle.ed_laws.specs.Relocation.{EachPartMoves}
+use Rattle.ed_laws.specs.SmallerStore.{EachSmallIsFull}
 use Rattle.ed_laws.specs.SourceEntries.{EachSourceRunsFromEntry}
 use Rattle.ed_laws.specs.Stepped.{EachStepIsRun}
 use Rattle.ed_laws.specs.TapeEntries.{EachTapeRunsFromEntry}
@@ -29,6 +31,8 @@ use Rattle.ed_laws.proofs.PartsRun.{each_tape_in_parts}
 use Rattle.ed_laws.proofs.PrintedLines.{each_line_is_of_its_word}
 use Rattle.ed_laws.proofs.PunchedTexts.{each_punched_text_is_source}
 use Rattle.ed_laws.proofs.ReadBack.{each_word_is_read_back}
+use Rattle.ed_laws.proofs.Relocation.{each_part_moves}
+use Rattle.ed_laws.proofs.SmallerStore.{each_small_is_full}
 use Rattle.ed_laws.proofs.Stepped.{each_step_is_run}
 use Rattle.ed_laws.proofs.TapeEntries.{tapes_run_from_entry}
 use Rattle.ed_laws.proofs.TapeFacts.{each_tape_is_so}
@@ -92,7 +96,11 @@ traces = each_trace_accounts
 pub sizes : EachSize
 sizes = each_size
 
--- a post-mortem shows every digit of its words
+-- what holds on the smaller store holds on the larger one
+pub smaller_store : EachSmallIsFull
+smaller_store = each_small_is_full
+
+-- the codes of a post-mortem hold every digit of its words
 pub read_back : EachWordIsReadBack
 read_back = each_word_is_read_back
 
@@ -115,3 +123,7 @@ blocked_guests = each_guest_is_blocked
 -- a run doesn't rest on a rule that never applies in it
 pub own_rules : EachOwnRuleShows
 own_rules = each_own_rule_shows
+
+-- a part of a tape may be read at any place
+pub relocation : EachPartMoves
+relocation = each_part_moves

@@ -11,6 +11,8 @@ pub mod TraceAccounts
 pub mod MoreResumes
 pub mod BlockedGuests
 pub mod OwnRules
+pub mod SmallerStore
+pub mod Relocation
 pub mod PartsRun
 pub mod ReadBack
 pub mod PrintedLines
