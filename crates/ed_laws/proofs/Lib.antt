@@ -6,6 +6,7 @@ mod InParts
 mod TapeWalks
 mod TapeEntries
 mod FaultyTapes
+mod PunchedBytes
 mod PunchedTexts
 mod CountedRuns
 mod TapeFacts

@@ -280,8 +280,10 @@ line_back v w more others l m h =
     by_struck (b ∷ []) (c ∷ []) x y e =
         let same : b ≡ c = ap (λ (t : Text). get_or t 0 0) e in
         let back = rest_back v w more others (ap (λ (t : Text). drop 1 t) e) in
-        let of_v : function_in b ≡ v / 4096 = is_equal (function_in b) (v / 4096) (and_parts _ _ x).1 in
-        let of_w : function_in c ≡ w / 4096 = is_equal (function_in c) (w / 4096) (and_parts _ _ y).1 in
+        let of_v : function_in b ≡ v / 4096 = is_equal (function_in b) (v / 4096)
+        (and_parts (no_digit b) (nat_eq (function_in b) (v / 4096)) x).1 in
+        let of_w : function_in c ≡ w / 4096 = is_equal (function_in c) (w / 4096)
+        (and_parts (no_digit c) (nat_eq (function_in c) (w / 4096)) y).1 in
         let functions : v / 4096 ≡ w / 4096 = sym of_v ∙ ap function_in same ∙ of_w in
         let word : v ≡ w = omega (arith, functions, back.0) in
         (inl word, back.1)

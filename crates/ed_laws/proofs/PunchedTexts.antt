@@ -17,6 +17,7 @@ use Rattle.ed_answers.proofs.PunchedTapes.{each_punched_is_run}
 use Rattle.ed_answers.proofs.PunchedTexts.{text_is_tape}
 use Rattle.ed_top.specs.Scripts.{OnText, on_reading, on_rows}
 use Rattle.ed_laws.specs.PunchedTexts.{EachPunchedTextIsSource}
+use Rattle.ed_laws.proofs.PunchedBytes.{punched_short}
 use Rattle.ed_laws.proofs.TapeEntries.{tapes_run_from_entry}
 
 module _ (s : Settings) (source : Text) (lines : List Line) (accepted : IsAcceptedAs s.size source lines)
@@ -42,6 +43,7 @@ pub each_punched_text_is_source : EachPunchedTextIsSource
 each_punched_text_is_source s source lines accepted =
     let loads = comes_to s.size source lines accepted (replicate 1024 0) (length-replicate {A = ℕ} 1024 0) in
     record {
+      short = punched_short s.size source lines accepted;
       run = each_punched_is_run s source lines accepted;
       stepped = λ commands o.
           (to_source s source lines accepted commands o, to_tape s source lines accepted commands o);
