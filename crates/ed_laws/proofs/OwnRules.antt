@@ -28,7 +28,7 @@ use Rattle.ed_stepper.specs.Traces.{trace_to}
 use Rattle.ed_answers.specs.Runs.{paper_room, run_of}
 use Rattle.ed_top.specs.Traces.{letters_in}
 use Rattle.ed_laws.specs.OwnRules.{EachOwnRuleShows, OtherRule, end_with, has_own_letter, is_own_kind, is_own_order}
-use Rattle.ed_laws.specs.OwnRules.{progress_with, run_with_rule, step_with}
+use Rattle.ed_laws.specs.OwnRules.{progress_with, run_letters, run_with_rule, step_with}
 use Rattle.ed_laws.proofs.LetterTests.{letter_says}
 use Rattle.ed_laws.proofs.MoreResumes.{letters_begin}
 use Rattle.ed_laws.proofs.TraceAccounts.{more_letters, next_letter}
@@ -222,9 +222,7 @@ no_end instead s = by_test (is_own_order s) refl
     by_test true is = inr (λ full. ap (λ (t : Turn). end_by t full) (own_turn s is))
 
 tapes : (instead : State → Obeyed) (s : Settings) (rows : List ℕ)
-    → has_own_letter
-    (letters_in (trace_to (run_orders s.limit s.resumes paper_room (first_state s.size rows)) (first_state s.size rows)))
-    ≡ false
+    → has_own_letter (run_letters s rows) ≡ false
     → run_with_rule (record { applies = is_own_order; instead = instead }) s.limit s.resumes paper_room
     (first_state s.size rows)
     ≡ run_of s rows

@@ -12,7 +12,8 @@ use Rattle.ed_printer.specs.declared.printer.Shift.{Shift}
 use Rattle.ed_printer.specs.declared.printer.Shift.TheVariants.{Letters, Figures}
 use Rattle.ed_notation.specs.Items.{AreDigits}
 use Rattle.ed_notation.specs.Spellings.{digit_at}
-use Rattle.ed_postmortem.specs.Codes.{address_digits, digits_before_units, is_even, length_code, number_in, printed_codes}
+use Rattle.ed_postmortem.specs.Codes.{address_digits, digits_before_units, is_even, length_code, number_in}
+use Rattle.ed_postmortem.specs.Codes.{printed_codes}
 use Rattle.ed_postmortem.specs.Codes.{word_codes}
 use Rattle.std.proofs.Math.ListN.{get_or}
 use Rattle.ed_routines.specs.Digits.{digits_value}

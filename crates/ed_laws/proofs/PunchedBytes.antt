@@ -20,9 +20,11 @@ use Rattle.ed_notation.specs.Spellings.{canonical, canonicals, item_rows, line_f
 use Rattle.ed_notation.proofs.ItemRows.{item_rows_are}
 use Rattle.ed_library.specs.Entries.{entry}
 use Rattle.ed_library.specs.Routines.{find, table_item}
-use Rattle.ed_syntax.specs.Forms.{AreRowsOf, HasLineParts, SpellsForm, SpellsPlaced, SpellsStatement, nothing, comment, blank}
+use Rattle.ed_syntax.specs.Forms.{AreRowsOf, HasLineParts, SpellsForm, SpellsPlaced, SpellsStatement, nothing}
+use Rattle.ed_syntax.specs.Forms.{comment, blank}
 use Rattle.ed_syntax.specs.Forms.{one_sign, one_string, one_run, order, bare_order, word, long, text, placed, segment}
-use Rattle.ed_syntax.specs.Forms.{segment_at, fetch, fetch_with, enter, data_rows as data_statement, empty, label, statement}
+use Rattle.ed_syntax.specs.Forms.{segment_at, fetch, fetch_with, enter, data_rows as data_statement, empty, label}
+use Rattle.ed_syntax.specs.Forms.{statement}
 use Rattle.ed_syntax.specs.Forms.{labelled, version}
 use Rattle.ed_syntax.specs.Parts.{LinePart, quoted}
 use Rattle.ed_syntax.specs.Sources.{LinesSay, no_more, and_more}
@@ -36,9 +38,11 @@ use Rattle.ed_syntax.specs.declared.fault.SourceCause.TheVariants.{Overlap, Stor
 use Rattle.ed_symbols.specs.declared.location_counter.LocationCounter.{LocationCounter}
 use Rattle.ed_symbols.specs.declared.symbols.Definition.{Definition}
 use Rattle.ed_symbols.specs.NameFaults.{StandsAfter, counter_after, counter_from}
-use Rattle.ed_symbols.specs.Places.{after_statement, even_from, first_counter, routine_places, segment_at as segment_of_counter}
+use Rattle.ed_symbols.specs.Places.{after_statement, even_from, first_counter, routine_places}
+use Rattle.ed_symbols.specs.Places.{segment_at as segment_of_counter}
 use Rattle.ed_link.specs.Faults.{HasNoFault, LineHasWord, on_line}
-use Rattle.ed_link.specs.Linked.{data_after, data_rows, end_place, first_place, long_words, operand_number, set_to, symbols_of}
+use Rattle.ed_link.specs.Linked.{data_after, data_rows, end_place, first_place, long_words, operand_number, set_to}
+use Rattle.ed_link.specs.Linked.{symbols_of}
 use Rattle.ed_link.specs.Linked.{parameter_letters}
 use Rattle.ed_link.specs.Punch.{goes_by_theta, heads, items_of, order_item, preset_items, punched_from, punched_items}
 use Rattle.ed_link.specs.Punch.{routine_items, use_items, with_heading, word_item}

@@ -28,7 +28,8 @@ use Rattle.ed_notation.proofs.Costs.{most}
 use Rattle.ed_notation.proofs.Laws.{reading_is_rules}
 use Rattle.ed_initial.specs.Entry.{at_entry, first_state}
 use Rattle.ed_initial.proofs.Quiet.{LeadsIn}
-use Rattle.ed_initial1.specs.Items.{AreItems, IsBegun1, IsFirst, Item1, begun_rows1, ending_row, rows_of1, spelled_rows1}
+use Rattle.ed_initial1.specs.Items.{AreItems, IsBegun1, IsFirst, Item1, begun_rows1, ending_row, rows_of1}
+use Rattle.ed_initial1.specs.Items.{spelled_rows1}
 use Rattle.ed_initial1.specs.Faults.{BeginsWith, Comes1, Tape}
 use Rattle.ed_answers.specs.Limits.{with_limit}
 use Rattle.ed_answers.specs.Runs.{paper_room, run_of}

@@ -32,7 +32,8 @@ pub record IsBlockedAfter (base q : ℕ) (m : State) : Type 0 where
   pub allowed : IsAllowed base (state_after q (guest base m))
   pub blocked : is_obeyed (step (state_after q (guest base m))).turn ≡ false
 
--- the codes that are printed: the checked codes of the orders, and the function of the word at which the guest is blocked
+-- the codes that are printed: the checked codes of the orders, and the function of the word at which the guest is
+-- blocked
 abbrev pub blocked_codes : ℕ → State → List ℕ
 blocked_codes q g = checked_codes g q ++ function_of (next_word (state_after q g)) ∷ []
 

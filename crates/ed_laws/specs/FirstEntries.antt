@@ -11,8 +11,8 @@ use Rattle.ed_answers.specs.FirstOrders.{IsChecked1, first_state1, tape1_outcome
 use Rattle.ed_answers.specs.Outcome.{done}
 use Rattle.ed_laws.specs.CutRuns.{limit_name}
 
--- `check-tape1` reports the entry at 31, its cost and its rows, and `tape1` runs from there. With a limit below the cost
--- nothing is printed, the note is `limit at C after K`, K the limit, and the status is 4.
+-- `check-tape1` reports the entry at 31, its cost and its rows, and `tape1` runs from there. With a limit below the
+-- cost nothing is printed, the note is `limit at C after K`, K the limit, and the status is 4.
 pub record FirstTapeRunsFromEntry (s : Settings) (rows : List ℕ) (t : Tape) : Type 0 where
   pub checked : IsChecked1 rows (done (entry_line 31 (cost1 t) (report1 t).rows))
   pub runs : RunsFrom31 s rows t

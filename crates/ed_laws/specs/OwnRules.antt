@@ -1,11 +1,10 @@
--- Which runs rest on the rules for orders that are this project's own: what F and X do, and what a long order with an odd
--- address and the end of the store mean.
-use Rattle.std.specs.Prelude.{◌≡◌, ◌⊎◌, ℕ, zero, suc, ◌+◌, ◌%◌, ◌<◌, ◌≤◌, Bool, true, false, ◌&&◌, ◌||◌, ◌==◌}
+-- Which runs rest on rules for orders that are this project's own: a run in which another rule would never apply
+-- doesn't.
+use Rattle.std.specs.Prelude.{◌≡◌, ◌⊎◌, ℕ, zero, suc, ◌+◌, ◌<◌, ◌≤◌, Bool, true, false, ◌||◌, ◌==◌}
 use Rattle.std.specs.Prelude.{nat_eq, nat_le, nat_lt, if◌then◌else◌, Option, Some, is_some, unwrap_or}
 use Rattle.std.specs.Prelude.{List, [], ◌∷◌, ◌++◌, length}
 use Rattle.std.specs.List.{list_any}
-use Rattle.ed_words.specs.Sizes.{locations}
-use Rattle.ed_words.specs.Words.{address_of, function_of, is_long}
+use Rattle.ed_words.specs.Words.{function_of}
 use Rattle.ed_orders.specs.Kinds.{kind_of_function}
 use Rattle.ed_orders.specs.declared.kind.Kind.{Kind}
 use Rattle.ed_orders.specs.declared.kind.Kind.TheVariants.{F, X}
@@ -71,23 +70,21 @@ is_own_kind kind = false
 abbrev pub is_own_order : State → Bool
 is_own_order s = is_own_kind (kind_of_function (function_of (next_word s)))
 
--- the next order is long, and its address is odd
-abbrev pub is_odd_long : State → Bool
-is_odd_long s = is_long (next_word s) && nat_eq (address_of (next_word s) % 2) 1
-
--- the next order is in the last location
-abbrev pub is_last_order : State → Bool
-is_last_order s = nat_eq (s.counter + 1) (locations s.size)
-
 -- a trace has a letter F (70) or X (88)
 abbrev pub has_own_letter : List ℕ → Bool
 has_own_letter letters = list_any (λ byte. byte == 70 || byte == 88) letters
 
+-- the letters of the orders that the run of rows obeys
+abbrev pub run_letters : Settings → List ℕ → List ℕ
+run_letters s rows =
+    let start = first_state s.size rows in
+    letters_in (trace_to (run_orders s.limit s.resumes paper_room start) start)
+
 -- ---- the law
 
 -- whatever another rule says, k orders before which it never applies lead where they lead with it, and a run that ends
--- before it applies is the same. In particular the run of a tape whose trace has no letter F and no letter X is the same
--- whatever these two orders do. What is printed after a shift doesn't depend on the shift at the beginning.
+-- before it applies is the same. In particular the run of a tape whose trace has no letter F and no letter X is the
+-- same whatever these two orders do. What is printed after a shift doesn't depend on the shift at the beginning.
 pub record EachOwnRuleShows : Type 0 where
   pub orders : (r : OtherRule) (k : ℕ) (s : State) → ((j : ℕ) → j < k → r.applies (state_after j s) ≡ false)
       → progress_with r k s ≡ progress k s
@@ -95,9 +92,7 @@ pub record EachOwnRuleShows : Type 0 where
       → ((j : ℕ) → j ≤ run_orders limit resumes room s → r.applies (state_after j s) ≡ false)
       → run_with_rule r limit resumes room s ≡ run_end limit resumes room s
   pub tapes : (instead : State → Obeyed) (s : Settings) (rows : List ℕ)
-      → has_own_letter
-      (letters_in (trace_to (run_orders s.limit s.resumes paper_room (first_state s.size rows)) (first_state s.size rows)))
-      ≡ false
+      → has_own_letter (run_letters s rows) ≡ false
       → run_with_rule (record { applies = is_own_order; instead = instead }) s.limit s.resumes paper_room
       (first_state s.size rows)
       ≡ run_of s rows

@@ -1,5 +1,6 @@
 -- What the lines of a post-mortem show of their words (this project's own rules).
-use Rattle.std.specs.Prelude.{◌≡◌, ◌⊎◌, ℕ, zero, suc, ◌+◌, ◌/◌, ◌%◌, ◌<◌, ◌≤◌, ◌==◌, ◌||◌, Bool, true, List, [], ◌∷◌, ◌++◌}
+use Rattle.std.specs.Prelude.{◌≡◌, ◌⊎◌, ℕ, zero, suc, ◌+◌, ◌/◌, ◌%◌, ◌<◌, ◌≤◌, ◌==◌, ◌||◌, Bool, true, List, [], ◌∷◌}
+use Rattle.std.specs.Prelude.{◌++◌}
 use Rattle.std.specs.Prelude.{Some, codes, map, slice_index, if◌then◌else◌}
 use Rattle.ed_words.specs.Texts.{Text}
 use Rattle.ed_store.specs.Cells.{IsStore, short_at}
@@ -10,8 +11,9 @@ use Rattle.ed_run.specs.declared.settings.Window.{Window}
 use Rattle.ed_postmortem.specs.Codes.{address_digits, is_even, number_in}
 use Rattle.ed_answers.specs.Runs.{post_mortem_codes}
 
--- the line of a word: what the code of its function prints in letter shift, the number of its address (`AddressDigitsLaw`
--- says that these digits are its decimal text), F for an even word and D for an odd one, and a new line
+-- the line of a word: what the code of its function prints in letter shift, the number of its address
+-- (`AddressDigitsLaw` says that these digits are its decimal text), F for an even word and D for an odd one, and a new
+-- line
 abbrev pub printed_line : ℕ → Text
 printed_line word = struck_bytes Letters (word / 4096) ++ map (λ d. 48 + d) (address_digits (number_in word))
     ++ (if is_even word then codes "F" else codes "D") ++ 13 ∷ 10 ∷ []
@@ -30,8 +32,8 @@ abbrev pub IsSameOnPaper : ℕ → ℕ → Type 0
 IsSameOnPaper v w = (v ≡ w)
     ⊎ ((is_silent (v / 4096) ≡ true) × (is_silent (w / 4096) ≡ true) × (v % 4096 ≡ w % 4096))
 
--- after what a run has printed, in whatever shift, a post-mortem prints the lines of its words. If the post-mortems of two
--- states print the same text, the words there are the same but for functions that print nothing.
+-- after what a run has printed, in whatever shift, a post-mortem prints the lines of its words. If the post-mortems of
+-- two states print the same text, the words there are the same but for functions that print nothing.
 pub record EachLineIsOfItsWord : Type 0 where
   pub prints : (before : List ℕ) (w : Window) (s : State)
       → paper (before ++ post_mortem_codes (Some w) s) ≡ paper before ++ printed_lines s.store.words w.first w.count

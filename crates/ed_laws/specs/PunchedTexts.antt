@@ -15,8 +15,8 @@ use Rattle.ed_answers.specs.Sources.{punch_outcome}
 use Rattle.ed_top.specs.Scripts.{OnText}
 use Rattle.ed_laws.specs.TapeEntries.{TapeRunsFromEntry}
 
--- The text may be an input of the program. `tape` and `check-tape` answer as `run` does for the source. `step` answers each script as it does on the source.
--- `trace` and `parts` answer as on a tape with the source's entry and cost.
+-- The text may be an input of the program. `tape` and `check-tape` answer as `run` does for the source. `step` answers
+-- each script as it does on the source. `trace` and `parts` answer as on a tape with the source's entry and cost.
 pub record PunchedTextIsSource (s : Settings) (source : Text) (lines : List Line) : Type 0 where
   pub short : length (punch_outcome lines).out ≤ INPUT_BYTES
   pub run : PunchedIsRun s lines

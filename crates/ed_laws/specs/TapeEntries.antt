@@ -44,16 +44,16 @@ pub record StepsToEntry (s : Settings) (codes : List ℕ) (e : TapeEntry) : Type
   pub stands : after_move Entry (stand_on s codes) ≡ record (stand_on s codes) { done = e.cost }
   pub line : line_of_move Entry (stand_on s codes) ≡ move_line e.at e.cost Entered
 
--- `parts` writes the line of `check-tape` first; if the limit comes before the entry it writes nothing, with the note and
--- the status of `tape`
+-- `parts` writes the line of `check-tape` first; if the limit comes before the entry it writes nothing, with the note
+-- and the status of `tape`
 pub record PartsFromEntry (s : Settings) (codes : List ℕ) (e : TapeEntry) (o : Outcome) : Type 0 where
   pub begins : e.cost ≤ s.limit → StartsWith o.out (entry_line e.at e.cost e.rows)
   pub short : s.limit < e.cost → o ≡ silent_outcome limit_name (limit_state s codes).counter s.limit 4
 
 -- `check-tape` reports the entry, its cost and its rows. The tape leads a cleared machine to the state at that entry,
 -- at that cost and with nothing printed. With a limit not below the cost, the answer of `tape` is the run from that
--- state with the limit less the cost; with a lower limit the run ends at its limit and prints nothing, and a post-mortem
--- is that of its state. `trace` and `step` reach that entry as `tape` does, and `parts` reports it first.
+-- state with the limit less the cost; with a lower limit the run ends at its limit and prints nothing, and a
+-- post-mortem is that of its state. `trace` and `step` reach that entry as `tape` does, and `parts` reports it first.
 pub record TapeRunsFromEntry (s : Settings) (codes : List ℕ) (e : TapeEntry) : Type 0 where
   pub checked : IsChecked s codes (done (entry_line e.at e.cost e.rows))
   pub enters : state_after e.cost (first_state s.size codes) ≡ tape_state s codes e

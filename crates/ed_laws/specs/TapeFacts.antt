@@ -1,5 +1,5 @@
--- Facts of the notation of tapes (this project's own rules): what blank tape before a tape changes, that no tape is one for
--- both loaders, and what loading costs at most.
+-- Facts of the notation of tapes (this project's own rules): what blank tape before a tape changes, that no tape is one
+-- for both loaders, and what loading costs at most.
 use Rattle.std.specs.Prelude.{◌≡◌, ℕ, ◌+◌, ◌*◌, ◌/◌, ◌%◌, ◌≤◌, nat_eq, if◌then◌else◌, List, [], ◌∷◌, ◌++◌}
 use Rattle.std.specs.Prelude.{length, replicate}
 use Rattle.ed_words.specs.Texts.{Text}
@@ -42,8 +42,8 @@ entry_later m e = record e { cost = e.cost + blank_cost m; rows = e.rows + (m + 
 abbrev pub end_later : ℕ → RunEnd → RunEnd
 end_later k r = record r { state = record r.state { orders = r.state.orders + k } }
 
--- the tape behind blank tape reaches the same entry later. With a limit that is as much greater its run ends in the same
--- way, prints the same, and leaves the same state, with the greater count of orders.
+-- the tape behind blank tape reaches the same entry later. With a limit that is as much greater its run ends in the
+-- same way, prints the same, and leaves the same state, with the greater count of orders.
 pub record BlankTapeIsPassed (s : Settings) (tape : List ℕ) (e : TapeEntry) (m : ℕ) : Type 0 where
   pub well : WellFormed s.size cleared_cells.words first_note (blank_tape m ++ tape)
   pub comes : ComesTo cleared_cells.words first_note 9 (blank_tape m ++ tape) (entry_later m e)

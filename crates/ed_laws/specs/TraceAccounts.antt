@@ -1,5 +1,5 @@
--- A trace accounts for its run (this project's own rules): its letters are the orders that were obeyed, and its Zs are the
--- stops.
+-- A trace accounts for its run (this project's own rules): its letters are the orders that were obeyed, and its Zs are
+-- the stops.
 use Rattle.std.specs.Prelude.{◌≡◌, ◌↔◌, ℕ, ◌+◌, ◌==◌, List, [], ◌∷◌, ◌++◌, Some, length}
 use Rattle.std.specs.List.{filter}
 use Rattle.ed_words.specs.Sizes.{within}
