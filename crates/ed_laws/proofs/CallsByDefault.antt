@@ -1,5 +1,5 @@
 -- Without an option the limit is not below the orders of any call.
-use Rattle.std.proofs.Common.{◌+◌, ◌≤◌, refl, subst, arith}
+use Rattle.std.proofs.Common.{refl, subst, arith}
 use Rattle.ed_words.specs.declared.size.Size.TheVariants.{Full}
 use Rattle.ed_answers.specs.Sources.{OfSource, run_outcome}
 use Rattle.ed_sources.specs.CallSources.{call_text}

@@ -24,18 +24,20 @@ use Rattle.ed_notation.specs.Items.{Begun, Written, row_kind, item, item_of, ite
 use Rattle.ed_notation.specs.Fold.{NotationState, act, cost_of, costs, ending_effect, enters_at, fold, item_word}
 use Rattle.ed_notation.specs.Fold.{letter_action_of, over, with_letter, word_with}
 use Rattle.ed_notation.specs.Openings.{opening}
-use Rattle.ed_notation.specs.Faults.{AreRead, Breaks, IsRead, breaks, is_broken}
+use Rattle.ed_notation.specs.Faults.{AreRead, Breaks, IsFault, IsRead, breaks, is_broken}
 use Rattle.ed_notation.specs.Beginnings.{IsSoundTo, orders_before, state_before}
 use Rattle.ed_notation.proofs.Beginnings.{ended, fault_sound}
 use Rattle.ed_initial.specs.Entry.{first_state}
 use Rattle.ed_initial.specs.Waits.{AwaitsRow, waiting_place}
 use Rattle.ed_initial.proofs.Awaited.{needs_row, waits, waits_at}
 use Rattle.ed_initial.proofs.Starts.{first_store, starts}
+use Rattle.ed_interlude.specs.Parts.{HasFault, first_part}
 use Rattle.ed_report.specs.Notes.{at_after}
 use Rattle.ed_answers.specs.Outcome.{line}
 use Rattle.ed_answers.specs.Runs.{paper_room, ran_outcome, with_post_mortem}
 use Rattle.ed_answers.specs.Tapes.{first_note, tape_outcome}
 use Rattle.ed_laws.specs.FaultyTapes.{EachFaultyTapeWaits, quiet_outcome}
+use Rattle.ed_laws.proofs.InParts.{parts_refuse}
 use Rattle.ed_laws.proofs.TapeEntries.{Agree, first_agrees, letter_from, over_agrees, value_agrees}
 
 -- ---- rows mean the same over words that agree from 41 upwards
@@ -120,7 +122,22 @@ module _ (v w : List ℕ) (same : Agree v w) where
             ∙ b.breaks;
       }
 
+  fault_over : {z : Size} {start : NotationState} {rows : List ℕ} {row : ℕ} {cause : TapeCause}
+      → ((r : ℕ) (other : TapeCause) → Breaks z w start rows r other → Breaks z v start rows r other)
+      → IsFault z v start rows row cause → IsFault z w start rows row cause
+  fault_over back f = record { is = broken_over f.is; least = λ r other b. f.least r other (back r other b) }
+
 -- ---- the machine on such a tape
+
+-- the first part of the tape has the fault
+part_fault : (z : Size) (rows : List ℕ) {row : ℕ} {cause : TapeCause}
+    → IsFault z cleared_cells.words first_note rows row cause → HasFault (first_part (first_state z rows)) row cause
+unfolding first_state
+part_fault z rows f =
+    let v = cleared_cells.words in
+    let w = (first_state z rows).store.words in
+    let same = first_agrees z rows in
+    fault_over v w same (λ r other b. broken_over w v (sym same) b) f
 
 -- from a cleared machine
 cleared_waits : (z : Size) (rows : List ℕ) {row : ℕ} (r : IsRead cleared_cells.words first_note rows row)
@@ -185,4 +202,5 @@ faulty_tapes_wait s rows row cause f =
           let broken = subst (λ (c : TapeCause).
           is_broken s.size cleared_cells.words (state_before r) r.part r.rest c ≡ true) is f.is.breaks in
           no_tape s rows there (ended s.size cleared_cells.words (state_before r) r.part r.rest broken) below;
+      in_parts = parts_refuse s rows row cause (part_fault s.size rows f);
     }

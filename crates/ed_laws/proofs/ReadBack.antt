@@ -47,7 +47,7 @@ decimal_digits n row rest l =
         ∙ ap (λ (ds : List ℕ). digit_at 1000 n ++ ds) (append_assoc (digit_at 100 n) (digit_at 10 n) (n % 10 ∷ []))
 
 -- the number that they spell
-decimal_value : (n : ℕ) → n < 2048 → digits_value (address_digits n) ≡ n
+pub decimal_value : (n : ℕ) → n < 2048 → digits_value (address_digits n) ≡ n
 decimal_value n small = by_tests (nat_le 1000 n) (nat_le 100 n) (nat_le 10 n) refl refl refl
   where
     by_tests : (a b c : Bool) → nat_le 1000 n ≡ a → nat_le 100 n ≡ b → nat_le 10 n ≡ c
@@ -69,7 +69,7 @@ decimal_value n small = by_tests (nat_le 1000 n) (nat_le 100 n) (nat_le 10 n) re
 abbrev tail_of : ℕ → List ℕ → List ℕ
 tail_of word rest = length_code (is_even word) ∷ 18 ∷ 24 ∷ rest
 
-laid : (word : ℕ) (rest : List ℕ) → word_codes word ++ rest
+pub laid : (word : ℕ) (rest : List ℕ) → word_codes word ++ rest
     ≡ 15 ∷ word / 4096 ∷ 11 ∷ (address_digits (number_in word) ++ 15 ∷ tail_of word rest)
 laid word rest =
     ap (λ (codes : List ℕ). 15 ∷ word / 4096 ∷ 11 ∷ codes)
@@ -93,7 +93,7 @@ same_below_2 p q below too = by_tests (nat_eq p 0) (nat_eq q 0) refl refl
     by_tests true false e f h = absurd (codes_differ h)
     by_tests false true e f h = absurd (codes_differ (sym h))
 
-same_parity : (v w : ℕ) → length_code (is_even v) ≡ length_code (is_even w) → v % 2 ≡ w % 2
+pub same_parity : (v w : ℕ) → length_code (is_even v) ≡ length_code (is_even w) → v % 2 ≡ w % 2
 same_parity v w = same_below_2 (v % 2) (w % 2) (omega arith) (omega arith)
 
 word_back : (v w : ℕ) (more others : List ℕ) → word_codes v ++ more ≡ word_codes w ++ others

@@ -48,7 +48,7 @@ run_cut k resumes room s fits few =
 -- ---- the letters of a trace
 
 -- the letters of functions
-abbrev bare : List ℕ → Text
+abbrev pub bare : List ℕ → Text
 bare fs = letters_in (map (λ f. byte_of f false) fs)
 
 letters_both : (xs ys : Text) → letters_in (xs ++ ys) ≡ letters_in xs ++ letters_in ys
@@ -78,13 +78,13 @@ no_last n = by_test (is_full n)
     by_test true = refl
     by_test false = refl
 
-bare_trace : (fs : List ℕ) → letters_in (trace_text fs) ≡ bare fs
+pub bare_trace : (fs : List ℕ) → letters_in (trace_text fs) ≡ bare fs
 bare_trace fs =
     letters_both (letters_from 0 fs) (last_end (length fs))
     ∙ (λ i. bare_from 0 fs i ++ no_last (length fs) i)
     ∙ append-nil (bare fs)
 
-map_both : (xs ys : List ℕ) → map (λ f. byte_of f false) (xs ++ ys)
+pub map_both : (xs ys : List ℕ) → map (λ f. byte_of f false) (xs ++ ys)
     ≡ map (λ f. byte_of f false) xs ++ map (λ f. byte_of f false) ys
 map_both [] ys = refl
 map_both (x ∷ xs) ys = ap (λ (t : Text). byte_of x false ∷ t) (map_both xs ys)

@@ -1,7 +1,7 @@
 -- A tape that is well formed from a cleared store is loaded as it means, and its run is that from its entry.
 use Rattle.std.proofs.Common.{◌≡◌, ◌∙◌, ℕ, ◌+◌, ◌-◌, ◌*◌, ◌<◌, ◌≤◌, refl, sym, ap, arith}
 use Rattle.std.proofs.Common.{Bool, true, false, true≢false, nat_eq, nat_lt, nat_le, Option, Some, None, inl}
-use Rattle.std.proofs.Common.{List, [], ◌∷◌, ◌++◌, drop, set}
+use Rattle.std.proofs.Common.{List, [], ◌∷◌, drop, set}
 use Rattle.std.specs.Prelude.{if◌then◌else◌, ◌&&◌, slice_index}
 use Rattle.std.proofs.Math.ListN.{get_or}
 use Rattle.std.proofs.lemmas.Bool.Decides.{nat_tests}
@@ -10,7 +10,6 @@ use Rattle.ed_words.specs.declared.size.Size.{Size}
 use Rattle.ed_store.specs.Cells.{cleared_cells}
 use Rattle.ed_run.specs.Run.{RunEnd, run_end}
 use Rattle.ed_run.proofs.Later.{ran_later}
-use Rattle.ed_printer.specs.Paper.{paper}
 use Rattle.ed_notation.specs.declared.cause.TapeCause.TheVariants.{BadRow, NumberTooLarge}
 use Rattle.ed_notation.specs.declared.kind.RowKind.{RowKind}
 use Rattle.ed_notation.specs.declared.kind.RowKind.TheVariants.{Digit, Mark, Zed, Kay, Blank, Letter, Other}
@@ -31,10 +30,12 @@ use Rattle.ed_notation.proofs.Laws.{reading_is_rules}
 use Rattle.ed_initial.specs.Entry.{Comes, first_state}
 use Rattle.ed_initial.proofs.Quiet.{LeadsIn, comes_in}
 use Rattle.ed_initial.proofs.Starts.{first_store, starts}
+use Rattle.ed_interlude.specs.Parts.{LeadsTo, first_part}
 use Rattle.ed_answers.specs.Tapes.{first_note}
-use Rattle.ed_answers.specs.Runs.{paper_room, post_mortem_codes, ran_outcome, run_of, with_post_mortem}
+use Rattle.ed_answers.specs.Runs.{paper_room, ran_outcome, with_post_mortem}
 use Rattle.ed_laws.specs.TapeEntries.{EachTapeRunsFromEntry}
-use Rattle.ed_answers.proofs.FromEntry.{silent}
+use Rattle.ed_laws.proofs.CutRuns.{tape_cut_off}
+use Rattle.ed_laws.proofs.InParts.{parts_from_entry}
 use Rattle.ed_laws.proofs.TapeWalks.{steps_to_entry, traces_from_entry}
 
 -- ---- words that agree from 41 upwards
@@ -223,10 +224,15 @@ comes z codes e well to =
     let rules = reading_is_rules z words (opening words) 9 codes set in
     record { well = rules.well e (sym same ∙ there); comes = rules.comes e (sym same ∙ there) }
 
-leads : (z : Size) (codes : List ℕ) (e : TapeEntry) → WellFormed z cleared_cells.words first_note codes
+pub leads : (z : Size) (codes : List ℕ) (e : TapeEntry) → WellFormed z cleared_cells.words first_note codes
     → ComesTo cleared_cells.words first_note 9 codes e → LeadsIn (first_state z codes) e
 leads z codes e well to =
     comes_in (first_state z codes) e (first_store z codes) (starts z codes) (comes z codes e well to)
+
+-- the first part of the tape leads there too
+leads_part : (z : Size) (codes : List ℕ) (e : TapeEntry) → WellFormed z cleared_cells.words first_note codes
+    → ComesTo cleared_cells.words first_note 9 codes e → LeadsTo (first_part (first_state z codes)) e
+leads_part z codes e well to = let c = comes z codes e well to in record { well = c.well; comes = c.comes }
 
 pub tapes_run_from_entry : EachTapeRunsFromEntry
 tapes_run_from_entry s codes e well to =
@@ -240,9 +246,8 @@ tapes_run_from_entry s codes e well to =
           ap (λ (r : RunEnd). ran_outcome [] (with_post_mortem s.post_mortem r))
           (ran_later s.limit s.resumes paper_room e.cost first in_order.went fits
           ∙ ap (run_end (s.limit - e.cost) s.resumes paper_room) in_order.arrives);
-      short = λ below.
-          ap (λ printed. paper (printed ++ post_mortem_codes s.post_mortem (run_of s codes).state))
-          (silent s.limit s.resumes paper_room e.cost first in_order.went below);
+      short = tape_cut_off s codes e.cost in_order.went;
       traced = traces_from_entry s codes e in_order;
       stepped = steps_to_entry s codes e in_order;
+      in_parts = parts_from_entry s codes e (leads_part s.size codes e well to) in_order.went;
     }

@@ -1,6 +1,6 @@
 -- What holds of every tape with a fault: up to the row that `check-tape` reports the machine reads what was meant, and
 -- where the rows end too early `tape` ends (this project's own rules).
-use Rattle.std.specs.Prelude.{◌≡◌, ℕ, ◌+◌, ◌<◌, List, codes}
+use Rattle.std.specs.Prelude.{◌≡◌, ℕ, ◌+◌, ◌<◌, ◌++◌, List, codes}
 use Rattle.ed_words.specs.Texts.{Text}
 use Rattle.ed_store.specs.Cells.{cleared_cells}
 use Rattle.ed_printer.specs.Paper.{paper}
@@ -16,6 +16,7 @@ use Rattle.ed_report.specs.Notes.{at_after, rule_line}
 use Rattle.ed_answers.specs.Outcome.{Outcome, line, refusal}
 use Rattle.ed_answers.specs.Runs.{post_mortem_codes}
 use Rattle.ed_answers.specs.Tapes.{IsChecked, first_note, tape_outcome}
+use Rattle.ed_top.specs.Parts.{IsInParts}
 
 -- a run of a tape that ends after k orders at a location and has printed nothing: the post-mortem alone, the note
 -- `NAME at C after K`, and the status
@@ -30,7 +31,8 @@ quiet_outcome s rows name place k status = record {
 -- machine waits for that row: each of these orders went on, none printed, and the machine rests in what the items
 -- before the row, and the part of an item before it, mean. With this number as the limit the run ends there, and a
 -- post-mortem shows the words placed so far. If the fault is that the tape ends, the run ends there with every greater
--- limit too: no tape, at 9 inside an item and at 34 between two.
+-- limit too: no tape, at 9 inside an item and at 34 between two. `parts` refuses the tape with the line of `check-tape`
+-- after `part 1, `.
 pub record TapeWaitsAtFault (s : Settings) (rows : List ℕ) (row : ℕ) (cause : TapeCause)
     (r : IsRead cleared_cells.words first_note rows row) : Type 0 where
   pub checked : IsChecked s rows (refusal (rule_line row cause))
@@ -39,6 +41,7 @@ pub record TapeWaitsAtFault (s : Settings) (rows : List ℕ) (row : ℕ) (cause 
       → tape_outcome s rows ≡ quiet_outcome s rows (codes "limit") (waiting_place r.part) (9 + orders_before r) 4
   pub no_tape : cause ≡ EndOfTape → 9 + orders_before r < s.limit
       → tape_outcome s rows ≡ quiet_outcome s rows (codes "no tape") (waiting_place r.part) (9 + orders_before r) 6
+  pub in_parts : (o : Outcome) → IsInParts s rows o → o ≡ refusal (codes "part 1, " ++ rule_line row cause)
 
 -- the same for every tape with a fault
 abbrev pub EachFaultyTapeWaits : Type 0

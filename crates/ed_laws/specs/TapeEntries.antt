@@ -5,7 +5,6 @@ use Rattle.ed_store.specs.Cells.{cleared_cells}
 use Rattle.ed_machine.specs.State.{State}
 use Rattle.ed_machine.specs.Steps.{progress, state_after}
 use Rattle.ed_run.specs.Run.{run_end}
-use Rattle.ed_printer.specs.Paper.{paper}
 use Rattle.ed_run.specs.declared.settings.Settings.{Settings}
 use Rattle.ed_notation.specs.Faults.{TapeEntry, ComesTo, WellFormed}
 use Rattle.ed_initial.specs.Entry.{at_entry, first_state}
@@ -14,12 +13,15 @@ use Rattle.ed_stepper.specs.Scripts.{line_of_move, move_line, after_move}
 use Rattle.ed_stepper.specs.declared.moves.MoveTarget.TheVariants.{Entry}
 use Rattle.ed_stepper.specs.declared.moves.MoveEnd.TheVariants.{Entered}
 use Rattle.ed_stepper.specs.Traces.{trace_to}
-use Rattle.ed_answers.specs.Limits.{with_limit}
+use Rattle.ed_answers.specs.FirstFaults.{silent_outcome}
+use Rattle.ed_answers.specs.Limits.{StartsWith, with_limit}
 use Rattle.ed_answers.specs.Outcome.{Outcome, done}
 use Rattle.ed_answers.specs.Tapes.{IsChecked, first_note, tape_outcome}
-use Rattle.ed_answers.specs.Runs.{paper_room, post_mortem_codes, ran_outcome, run_of, with_post_mortem}
+use Rattle.ed_answers.specs.Runs.{paper_room, ran_outcome, with_post_mortem}
+use Rattle.ed_top.specs.Parts.{IsInParts}
 use Rattle.ed_top.specs.Scripts.{stand_on}
 use Rattle.ed_top.specs.Traces.{letters_in, trace_outcome, traced_from}
+use Rattle.ed_laws.specs.CutRuns.{IsCutOff, limit_name, limit_state}
 
 -- the state at the entry of a tape on a cleared machine
 abbrev pub tape_state : Settings → List ℕ → TapeEntry → State
@@ -42,10 +44,16 @@ pub record StepsToEntry (s : Settings) (codes : List ℕ) (e : TapeEntry) : Type
   pub stands : after_move Entry (stand_on s codes) ≡ record (stand_on s codes) { done = e.cost }
   pub line : line_of_move Entry (stand_on s codes) ≡ move_line e.at e.cost Entered
 
+-- `parts` writes the line of `check-tape` first; if the limit comes before the entry it writes nothing, with the note
+-- and the status of `tape`
+pub record PartsFromEntry (s : Settings) (codes : List ℕ) (e : TapeEntry) (o : Outcome) : Type 0 where
+  pub begins : e.cost ≤ s.limit → StartsWith o.out (entry_line e.at e.cost e.rows)
+  pub short : s.limit < e.cost → o ≡ silent_outcome limit_name (limit_state s codes).counter s.limit 4
+
 -- `check-tape` reports the entry, its cost and its rows. The tape leads a cleared machine to the state at that entry,
 -- at that cost and with nothing printed. With a limit not below the cost, the answer of `tape` is the run from that
--- state with the limit less the cost; with a lower limit the run prints nothing, and a post-mortem is that of its
--- state. `trace` and `step` reach that entry as `tape` does.
+-- state with the limit less the cost; with a lower limit the run ends at its limit and prints nothing, and a
+-- post-mortem is that of its state. `trace` and `step` reach that entry as `tape` does, and `parts` reports it first.
 pub record TapeRunsFromEntry (s : Settings) (codes : List ℕ) (e : TapeEntry) : Type 0 where
   pub checked : IsChecked s codes (done (entry_line e.at e.cost e.rows))
   pub enters : state_after e.cost (first_state s.size codes) ≡ tape_state s codes e
@@ -53,10 +61,10 @@ pub record TapeRunsFromEntry (s : Settings) (codes : List ℕ) (e : TapeEntry) :
   pub runs : e.cost ≤ s.limit → tape_outcome s codes
       ≡ ran_outcome []
       (with_post_mortem s.post_mortem (run_end (s.limit - e.cost) s.resumes paper_room (tape_state s codes e)))
-  pub short : s.limit < e.cost
-      → (tape_outcome s codes).out ≡ paper (post_mortem_codes s.post_mortem (run_of s codes).state)
+  pub short : s.limit < e.cost → IsCutOff s codes (tape_outcome s codes)
   pub traced : e.cost ≤ s.limit → TracesFromEntry s codes e
   pub stepped : e.cost ≤ s.limit → StepsToEntry s codes e
+  pub in_parts : (o : Outcome) → IsInParts s codes o → PartsFromEntry s codes e o
 
 -- the same for every tape that is well formed from a cleared store, and the entry that it reaches
 abbrev pub EachTapeRunsFromEntry : Type 0

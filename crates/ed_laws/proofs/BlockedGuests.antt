@@ -1,0 +1,100 @@
+-- A run that has a guest checked ends where the guest is blocked.
+use Rattle.std.proofs.Common.{◌≡◌, ◌∙◌, ℕ, ◌+◌, ◌-◌, ◌<◌, ◌≤◌, refl, sym, ap, subst, arith, false, true≢false}
+use Rattle.std.proofs.Common.{Bool, Some, None, Option, List, ◌++◌, length, append-nil}
+use Rattle.ed_words.specs.Texts.{Text}
+use Rattle.ed_printer.specs.Paper.{paper}
+use Rattle.ed_machine.specs.State.{State}
+use Rattle.ed_machine.specs.OrderTable.{step}
+use Rattle.ed_machine.specs.Steps.{Progress, is_obeyed, progress, state_after}
+use Rattle.ed_machine.specs.declared.turn.Turn.{Turn}
+use Rattle.ed_machine.specs.declared.turn.Turn.TheVariants.{Went, Printed, Stopped as Stops}
+use Rattle.ed_machine.specs.declared.turn.Turn.TheVariants.{NoOrder as IsNoOrder, NoTape as HasNoTape}
+use Rattle.ed_machine.proofs.Counts.{counted_after}
+use Rattle.ed_run.specs.Run.{RunEnd, end_by}
+use Rattle.ed_run.specs.declared.settings.Settings.{Settings}
+use Rattle.ed_run.specs.declared.settings.Window.{Window}
+use Rattle.ed_run.proofs.Places as places
+use Rattle.ed_syntax.specs.declared.program.Line.{Line}
+use Rattle.ed_link.specs.Linked.{entry_of}
+use Rattle.ed_link.specs.Tapes.{cost}
+use Rattle.ed_report.specs.Notes.{entry_note}
+use Rattle.ed_checker.specs.Checker.{guest}
+use Rattle.ed_checker.proofs.Follow.{checker_law}
+use Rattle.ed_answers.specs.EntryState.{entry_state}
+use Rattle.ed_answers.specs.FromEntry.{AnswersFromEntry}
+use Rattle.ed_answers.specs.Outcome.{Outcome}
+use Rattle.ed_answers.specs.Refusals.{IsAcceptedAs}
+use Rattle.ed_answers.specs.Runs.{paper_room, post_mortem_codes, ran_outcome, with_post_mortem}
+use Rattle.ed_answers.proofs.Sources.{each_answer_is_from_entry}
+use Rattle.ed_laws.specs.BlockedGuests.{EachGuestIsBlocked, EndsBlocked, IsBlockedAfter, RunsToBlock, blocked_codes}
+use Rattle.ed_laws.specs.BlockedGuests.{ending_at, guest_ending, orders_to_block}
+use Rattle.ed_laws.proofs.MoveEndings.{ran_is}
+
+-- an order that can't be obeyed ends a run
+blocks : (turn : Turn) (full : Bool) → is_obeyed turn ≡ false → end_by turn full ≡ Some (ending_at turn)
+blocks (IsNoOrder function) full h = refl
+blocks HasNoTape full h = refl
+blocks Went full h = absurd (true≢false h)
+blocks (Printed code) full h = absurd (true≢false h)
+blocks Stops full h = absurd (true≢false h)
+
+machines : (base q : ℕ) (m : State) (limit resumes room : ℕ) → IsBlockedAfter base q m
+    → orders_to_block q (guest base m) < limit → length (blocked_codes q (guest base m)) ≤ room
+    → EndsBlocked base q m limit resumes room
+machines base q m limit resumes room b less fits =
+    let c = checker_law.to_block base q m b.stands b.followed b.allowed b.blocked in
+    let exact = c.exact in
+    let count : c.count ≡ orders_to_block q (guest base m) = omega (arith, exact) in
+    let there : state_after c.count m ≡ c.last = ap (λ (p : Progress). p.state) c.ran.is in
+    let codes : (progress c.count m).codes ≡ blocked_codes q (guest base m) =
+    ap (λ (p : Progress). p.codes) c.ran.is in
+    let stops : (progress c.count m).stops ≤ resumes =
+    omega (arith, ap (λ (p : Progress). p.stops) c.ran.is, b.no_stops) in
+    let turn : (step (state_after c.count m)).turn ≡ (step (state_after q (guest base m))).turn =
+    ap (λ (x : State). (step x).turn) there ∙ c.blocked in
+    let ends = λ (full : Bool).
+    ap (λ (t : Turn). end_by t full) turn ∙ blocks (step (state_after q (guest base m))).turn full b.blocked in
+    let ran = ran_is limit resumes room c.count m (guest_ending q (guest base m))
+    (places.at_block limit resumes
+    (record { obeyed = c.ran.free; printed = subst (λ (xs : List ℕ). length xs ≤ room) (sym codes) fits })
+    stops (omega (arith, count, less)) (ends _)) in
+    record {
+      last = c.last;
+      counter = c.counter;
+      orders = ap (λ (x : State). x.orders) (sym there) ∙ counted_after c.count m c.ran.free
+          ∙ ap (λ n. m.orders + n) count;
+      run = ran ∙ (λ i. record { ending = guest_ending q (guest base m); state = there i; codes = codes i });
+    }
+
+none_added : (window : Option Window) (r : RunEnd) → window ≡ None → (with_post_mortem window r).codes ≡ r.codes
+none_added window r is =
+    ap (λ (w : Option Window). r.codes ++ post_mortem_codes w r.state) is ∙ append-nil r.codes
+
+sources : (base q : ℕ) (s : Settings) (source : Text) (lines : List Line)
+    → IsAcceptedAs s.size source lines → IsBlockedAfter base q (entry_state s.size lines)
+    → cost lines + orders_to_block q (guest base (entry_state s.size lines)) < s.limit
+    → length (blocked_codes q (guest base (entry_state s.size lines))) ≤ paper_room → s.post_mortem ≡ None
+    → RunsToBlock base q s lines
+sources base q s source lines accepted b less fits none =
+    let from : AnswersFromEntry s lines = each_answer_is_from_entry s source lines accepted in
+    let m = entry_state s.size lines in
+    let e = machines base q m (s.limit - cost lines) s.resumes paper_room b (omega (arith, less)) fits in
+    let ran : RunEnd = record {
+      ending = guest_ending q (guest base m);
+      state = e.last;
+      codes = blocked_codes q (guest base m);
+    } in
+    let outcome = from.entered (omega (arith, less))
+    ∙ ap (λ (r : RunEnd). ran_outcome (entry_note (entry_of lines) (cost lines)) (with_post_mortem s.post_mortem r))
+    e.run in
+    record {
+      last = e.last;
+      counter = e.counter;
+      orders = e.orders;
+      out_is = ap (λ (o : Outcome). o.out) outcome ∙ ap paper (none_added s.post_mortem ran none);
+      note_is = ap (λ (o : Outcome). o.note) outcome;
+      status_is = ap (λ (o : Outcome). o.status) outcome;
+    }
+
+pub each_guest_is_blocked : EachGuestIsBlocked
+each_guest_is_blocked = record { machines = machines; sources = sources }

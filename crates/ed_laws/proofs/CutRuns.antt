@@ -1,0 +1,132 @@
+-- A run that its limit cuts off before the program is entered, of a tape, of a source and of a tape of May 1949.
+use Rattle.std.proofs.Common.{◌≡◌, ◌∙◌, ℕ, ◌<◌, refl, ap, arith, inl, Bool, List, []}
+use Rattle.std.specs.Prelude.{if◌then◌else◌}
+use Rattle.ed_words.proofs.Numbers.{le_false}
+use Rattle.ed_words.specs.Texts.{Text}
+use Rattle.ed_machine.specs.State.{State}
+use Rattle.ed_machine.specs.Steps.{is_obeyed, state_after}
+use Rattle.ed_machine.specs.declared.ending.Ending.TheVariants.{Limit}
+use Rattle.ed_machine.proofs.Counts.{counted_after}
+use Rattle.ed_run.specs.Run.{RunEnd, run_end}
+use Rattle.ed_run.specs.Laws.{AllWent}
+use Rattle.ed_run.specs.declared.settings.Settings.{Settings}
+use Rattle.ed_run.proofs.Quiet.{limit_there}
+use Rattle.ed_initial.specs.Entry.{first_state}
+use Rattle.ed_initial1.specs.Entry.{at_entry1}
+use Rattle.ed_initial1.specs.Faults.{Tape, Comes1}
+use Rattle.ed_initial1.proofs.Settled.{all_went}
+use Rattle.ed_initial1.proofs.Whole.{leads_in}
+use Rattle.ed_syntax.specs.declared.program.Line.{Line}
+use Rattle.ed_link.specs.Linked.{entry_of}
+use Rattle.ed_link.specs.Tapes.{cost, tape}
+use Rattle.ed_report.specs.Notes.{at_after, entry_note}
+use Rattle.ed_answers.specs.FirstEntry.{cost1}
+use Rattle.ed_answers.specs.FirstFaults.{silent_outcome}
+use Rattle.ed_answers.specs.FirstOrders.{first_state1}
+use Rattle.ed_answers.specs.Outcome.{line}
+use Rattle.ed_answers.specs.Runs.{paper_room, ran_outcome, with_post_mortem}
+use Rattle.ed_answers.specs.Sources.{entered_before}
+use Rattle.ed_answers.specs.Tapes.{tape_outcome}
+use Rattle.ed_answers.proofs.FirstEntries.{first_store, runs_from_31, starts}
+use Rattle.ed_answers.proofs.Sources.{each_answer_is_from_entry}
+use Rattle.ed_laws.specs.CutRuns.{IsCutOff, limit_name, limit_state}
+use Rattle.ed_laws.specs.FaultyTapes.{quiet_outcome}
+use Rattle.ed_laws.specs.FirstEntries.{EachFirstTapeRunsFromEntry}
+use Rattle.ed_laws.specs.SourceEntries.{EachSourceRunsFromEntry}
+
+-- ---- the orders up to the limit
+
+-- the run whose limit comes before k orders that neither print nor stop
+abbrev pub cut_run : ℕ → State → RunEnd
+cut_run limit s = record { ending = Limit; state = state_after limit s; codes = [] }
+
+module _ (limit k : ℕ) (s : State) (went : AllWent k s) (below : limit < k) where
+  few_went : AllWent limit s
+  few_went j less = went j (omega (arith, less, below))
+
+  pub cut_there : (resumes room : ℕ) → run_end limit resumes room s ≡ cut_run limit s
+  cut_there resumes room = limit_there limit resumes room s few_went
+
+  pub cut_orders : s.orders ≡ 0 → (state_after limit s).orders ≡ limit
+  cut_orders none =
+      let count = counted_after limit s (λ j less. ap is_obeyed (few_went j less)) in omega (arith, count, none)
+
+none_done : (s : Settings) (rows : List ℕ) → (first_state s.size rows).orders ≡ 0
+unfolding first_state
+none_done s rows = refl
+
+-- ---- a tape
+
+module _ (s : Settings) (rows : List ℕ) (k : ℕ) (went : AllWent k (first_state s.size rows)) (below : s.limit < k) where
+  pub limit_orders : (limit_state s rows).orders ≡ s.limit
+  limit_orders = cut_orders s.limit k (first_state s.size rows) went below (none_done s rows)
+
+  run_is : run_end s.limit s.resumes paper_room (first_state s.size rows) ≡ cut_run s.limit (first_state s.size rows)
+  run_is = cut_there s.limit k (first_state s.size rows) went below s.resumes paper_room
+
+  quiet_is : ran_outcome [] (with_post_mortem s.post_mortem (cut_run s.limit (first_state s.size rows)))
+      ≡ quiet_outcome s rows limit_name (limit_state s rows).counter s.limit 4
+  quiet_is =
+      ap (λ n. record (quiet_outcome s rows limit_name (limit_state s rows).counter s.limit 4) {
+        note = line (at_after limit_name (limit_state s rows).counter n);
+      }) limit_orders
+
+  pub tape_cut_off : IsCutOff s rows (tape_outcome s rows)
+  tape_cut_off = record {
+    state_is = ap (λ (r : RunEnd). r.state) run_is;
+    outcome = ap (λ (r : RunEnd). ran_outcome [] (with_post_mortem s.post_mortem r)) run_is ∙ quiet_is;
+  }
+
+-- ---- a source
+
+-- the entry isn't reported
+not_entered : (lines : List Line) (t : State) → t.orders < cost lines → entered_before lines t ≡ []
+not_entered lines t less =
+    ap (λ (b : Bool). if b then entry_note (entry_of lines) (cost lines) else []) (le_false (cost lines) t.orders less)
+
+pub sources_run_from_entry : EachSourceRunsFromEntry
+sources_run_from_entry s source lines accepted =
+    let from = each_answer_is_from_entry s source lines accepted in
+    record {
+      entered = from;
+      short = λ below.
+          let went = from.enters.went in
+          let rows = tape lines in
+          let first = first_state s.size rows in
+          let fewer : (limit_state s rows).orders < cost lines =
+          omega (arith, limit_orders s rows (cost lines) went below, below) in
+          record {
+            state_is = ap (λ (r : RunEnd). r.state) (run_is s rows (cost lines) went below);
+            outcome = ap (λ (r : RunEnd). ran_outcome (entered_before lines r.state) (with_post_mortem s.post_mortem r))
+                (run_is s rows (cost lines) went below)
+                ∙ ap (λ (t : Text). ran_outcome t (with_post_mortem s.post_mortem (cut_run s.limit first)))
+                (not_entered lines (limit_state s rows) fewer)
+                ∙ quiet_is s rows (cost lines) went below;
+          };
+    }
+
+-- ---- a tape of May 1949
+
+none_done1 : (rows : List ℕ) → (first_state1 rows).orders ≡ 0
+unfolding first_state1
+none_done1 rows = refl
+
+first_went : (rows : List ℕ) (t : Tape) → Comes1 rows t → AllWent (cost1 t) (first_state1 rows)
+unfolding first_state1
+first_went rows t comes =
+    let first = first_state1 rows in
+    all_went first (at_entry1 first t) (cost1 t) (leads_in first (first_store rows) (starts rows) t comes)
+
+pub first_tapes_run_from_entry : EachFirstTapeRunsFromEntry
+first_tapes_run_from_entry s rows t comes =
+    let first = first_state1 rows in
+    let went : AllWent (cost1 t) first = first_went rows t comes in
+    record {
+      checked = inl (record { tape = t; comes = comes; outcome = refl });
+      runs = runs_from_31 s rows t comes;
+      short = λ below.
+          ap (ran_outcome []) (cut_there s.limit (cost1 t) first went below s.resumes paper_room)
+          ∙ ap (λ n. record (silent_outcome limit_name (state_after s.limit first).counter s.limit 4) {
+            note = line (at_after limit_name (state_after s.limit first).counter n);
+          }) (cut_orders s.limit (cost1 t) first went below (none_done1 rows));
+    }

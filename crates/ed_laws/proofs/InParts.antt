@@ -1,0 +1,143 @@
+-- What `parts` reports first: the entry of a well-formed tape, or the fault of another one.
+use Rattle.std.proofs.Common.{◌≡◌, ◌∙◌, ℕ, zero, suc, ◌+◌, ◌-◌, ◌<◌, ◌≤◌, sym, ap, arith, List, [], ◌∷◌, ◌++◌}
+use Rattle.std.proofs.Common.{append_assoc, append-nil, length}
+use Rattle.std.specs.Prelude.{codes}
+use Rattle.std.specs.Fmt.{decimal}
+use Rattle.std.proofs.lemmas.Fmt.{decimal_digit}
+use Rattle.ed_machine.specs.State.{State}
+use Rattle.ed_machine.specs.Steps.{state_after}
+use Rattle.ed_machine.specs.declared.ending.Ending.TheVariants.{Limit}
+use Rattle.ed_run.specs.Laws.{AllWent}
+use Rattle.ed_run.specs.declared.settings.Settings.{Settings}
+use Rattle.ed_notation.specs.Faults.{TapeEntry}
+use Rattle.ed_notation.specs.Openings.{IsDirective, opening}
+use Rattle.ed_notation.specs.Reading.{Arrived, Faulty, ReadingIsRules}
+use Rattle.ed_notation.proofs.Laws.{reading_is_rules}
+use Rattle.ed_notation.specs.declared.cause.TapeCause.{TapeCause}
+use Rattle.ed_initial.specs.Entry.{first_state}
+use Rattle.ed_report.specs.Entries.{entry_line}
+use Rattle.ed_report.specs.Notes.{at_after, cause_text, part_line, rule_line}
+use Rattle.ed_interlude.specs.Parts.{HasFault, LeadsTo, PartsReport, ReportsParts, TapePart, cut, entry_report}
+use Rattle.ed_interlude.specs.Parts.{faulty, finished, first_part, return_report}
+use Rattle.ed_interlude.specs.declared.tape.PartsEnd.TheVariants.{Ended}
+use Rattle.ed_words.specs.Texts.{Text}
+use Rattle.ed_answers.specs.FirstFaults.{silent_outcome}
+use Rattle.ed_answers.specs.Limits.{StartsWith}
+use Rattle.ed_answers.specs.Outcome.{Outcome, line, refusal}
+use Rattle.ed_top.specs.Parts.{IsInParts, report_outcome}
+use Rattle.ed_laws.specs.CutRuns.{limit_name, limit_state}
+use Rattle.ed_laws.specs.TapeEntries.{PartsFromEntry}
+use Rattle.ed_laws.proofs.CutRuns.{limit_orders}
+
+-- ---- the first part has one entry or one fault
+
+same_entry : {e f : TapeEntry} → Arrived e ≡ Arrived f → e ≡ f
+same_entry is = cc
+
+same_fault : {r q : ℕ} {a b : TapeCause} → Faulty r a ≡ Faulty q b → (r ≡ q) × (a ≡ b)
+same_fault is = (cc, cc)
+
+module _ (s : State) where
+  opens : IsDirective 20568
+  opens = omega arith
+
+  rules : ReadingIsRules s.size s.store.words (opening s.store.words) 9 s.tape
+  rules = reading_is_rules s.size s.store.words (opening s.store.words) 9 s.tape opens
+
+  entry_once : (e f : TapeEntry) → LeadsTo (first_part s) e → LeadsTo (first_part s) f → e ≡ f
+  entry_once e f a b = same_entry (sym (rules.arrived e a.well a.comes) ∙ rules.arrived f b.well b.comes)
+
+  fault_once : (row other : ℕ) (cause rule : TapeCause) → HasFault (first_part s) row cause
+      → HasFault (first_part s) other rule
+      → (row ≡ other) × (cause ≡ rule)
+  fault_once row other cause rule a b = same_fault (sym (rules.found row cause a) ∙ rules.found other rule b)
+
+  not_both : (row : ℕ) (cause : TapeCause) (e : TapeEntry) → HasFault (first_part s) row cause
+      → LeadsTo (first_part s) e → ⊥
+  not_both row cause e fault leads = leads.well row cause fault.is
+
+-- ---- what is reported
+
+module _ (s : Settings) (rows : List ℕ) where
+  abbrev first : State
+  first = first_state s.size rows
+
+  abbrev part : TapePart
+  part = first_part first
+
+  abbrev count : ℕ
+  count = length first.tape
+
+  -- ---- a well-formed tape
+
+  module _ (e : TapeEntry) (leads : LeadsTo part e) where
+    same_cost : (f : TapeEntry) → LeadsTo part f → f.cost ≡ e.cost
+    same_cost f other = ap (λ (x : TapeEntry). x.cost) (entry_once first f e other leads)
+
+    -- the line of its entry is that of `check-tape`
+    line_is : (f : TapeEntry) → LeadsTo part f → entry_report count part f ≡ entry_line e.at e.cost e.rows
+    line_is f other =
+        let orders : 0 + e.cost ≡ e.cost = omega arith in
+        let read : count - count + e.rows ≡ e.rows = omega arith in
+        ap (entry_report count part) (entry_once first f e other leads)
+        ∙ (λ i. entry_line e.at (orders i) (read i))
+
+    begins : (n : ℕ) (t : PartsReport) → ReportsParts s.limit count n part t → e.cost ≤ s.limit
+        → StartsWith t.text (entry_line e.at e.cost e.rows)
+    begins zero t (faulty row cause fault is) fits = absurd (not_both first row cause e fault leads)
+    begins zero t (cut f other low is) fits = absurd (omega (arith, low, same_cost f other, fits))
+    begins zero t (finished f k ending other within ends is) fits = (
+      [],
+      ap (λ (r : PartsReport). r.text) is ∙ line_is f other ∙ sym (append-nil (entry_line e.at e.cost e.rows)),
+    )
+    begins (suc n) t (b, rest, told, is) fits = (
+      return_report part b ++ rest.text,
+      ap (λ (r : PartsReport). r.text) is
+          ∙ append_assoc (entry_report count part b.entry) (return_report part b) rest.text
+          ∙ ap (λ (x : Text). x ++ (return_report part b ++ rest.text)) (line_is b.entry b.leads),
+    )
+
+    -- with a limit below the cost
+    short : (n : ℕ) (t : PartsReport) → ReportsParts s.limit count n part t → AllWent e.cost first → s.limit < e.cost
+        → report_outcome t ≡ silent_outcome limit_name (limit_state s rows).counter s.limit 4
+    short zero t (faulty row cause fault is) went below = absurd (not_both first row cause e fault leads)
+    short zero t (cut f other low is) went below =
+        let all : s.limit - 0 ≡ s.limit = omega arith in
+        ap report_outcome is
+        ∙ ap (λ n. report_outcome (record { text = []; end = Ended Limit; last = state_after n first })) all
+        ∙ ap (λ n. record (silent_outcome limit_name (limit_state s rows).counter s.limit 4) {
+          note = line (at_after limit_name (limit_state s rows).counter n);
+        }) (limit_orders s rows e.cost went below)
+    short zero t (finished f k ending other within ends is) went below =
+        absurd (omega (arith, within, same_cost f other, below))
+    short (suc n) t (b, rest, told, is) went below = absurd (omega (arith, b.within, same_cost b.entry b.leads, below))
+
+    pub parts_from_entry : AllWent e.cost first → (o : Outcome) → IsInParts s rows o → PartsFromEntry s rows e o
+    parts_from_entry went o p =
+        let n = p.tells.returns in
+        let out : p.told.text ≡ o.out = ap (λ (x : Outcome). x.out) p.outcome in
+        record {
+          begins = λ fits.
+              let start = begins n p.told p.tells.told fits in (start.0, sym out ∙ start.1);
+          short = λ below. sym p.outcome ∙ short n p.told p.tells.told went below;
+        }
+
+  -- ---- a faulty tape
+
+  module _ (row : ℕ) (cause : TapeCause) (fault : HasFault part row cause) where
+    refused : (n : ℕ) (t : PartsReport) → ReportsParts s.limit count n part t
+        → report_outcome t ≡ refusal (codes "part 1, " ++ rule_line row cause)
+    refused zero t (faulty other rule found is) =
+        let same = fault_once first other row rule cause found fault in
+        let none : count - count + row ≡ row = omega arith in
+        ap report_outcome is
+        ∙ (λ i. refusal (part_line 1 (count - count + same.0 i) (same.1 i)))
+        ∙ ap (λ n. refusal (part_line 1 n cause)) none
+        ∙ ap (λ (number : Text). refusal (codes "part " ++ number ++ codes ", row " ++ decimal row ++ codes ": "
+        ++ cause_text cause ++ 10 ∷ [])) (decimal_digit 1 (omega arith))
+    refused zero t (cut f other low is) = absurd (not_both first row cause f fault other)
+    refused zero t (finished f k ending other within ends is) = absurd (not_both first row cause f fault other)
+    refused (suc n) t (b, rest, told, is) = absurd (not_both first row cause b.entry fault b.leads)
+
+    pub parts_refuse : (o : Outcome) → IsInParts s rows o → o ≡ refusal (codes "part 1, " ++ rule_line row cause)
+    parts_refuse o p = sym p.outcome ∙ refused p.tells.returns p.told p.tells.told

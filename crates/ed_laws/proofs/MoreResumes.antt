@@ -1,0 +1,140 @@
+-- A run with more resumes, and a trace with a greater limit.
+use Rattle.std.proofs.Common.{◌≡◌, ◌≢◌, ◌∙◌, ℕ, ◌+◌, ◌-◌, ◌≤◌, refl, sym, ap, arith, Option, None, List, [], ◌++◌}
+use Rattle.std.proofs.Common.{append_assoc, append-nil, ◌∷◌}
+use Rattle.ed_words.specs.Texts.{Text}
+use Rattle.ed_printer.specs.Paper.{paper, paper_from, shift_after, struck_bytes}
+use Rattle.ed_printer.specs.declared.printer.Shift.{Shift}
+use Rattle.ed_printer.specs.declared.printer.Shift.TheVariants.{Letters}
+use Rattle.ed_machine.specs.State.{State}
+use Rattle.ed_machine.specs.Steps.{state_after}
+use Rattle.ed_run.specs.Run.{RunEnd, run_end}
+use Rattle.ed_run.specs.declared.settings.Window.{Window}
+use Rattle.ed_initial.specs.Entry.{first_state}
+use Rattle.ed_syntax.specs.declared.program.Line.{Line}
+use Rattle.ed_link.specs.Tapes.{tape}
+use Rattle.ed_report.specs.Notes.{ending_line}
+use Rattle.ed_stepper.specs.Traces.{trace_to}
+use Rattle.ed_answers.specs.FirstOrders.{first_state1, tape1_outcome}
+use Rattle.ed_answers.specs.Limits.{StartsWith}
+use Rattle.ed_answers.specs.Outcome.{Outcome}
+use Rattle.ed_answers.specs.Runs.{paper_room, post_mortem_codes, ran_outcome, status_of, with_post_mortem}
+use Rattle.ed_answers.specs.Sources.{entered_before, run_outcome}
+use Rattle.ed_answers.specs.Tapes.{tape_outcome}
+use Rattle.ed_answers.proofs.Limits.{each_limit}
+use Rattle.ed_top.specs.Traces.{letters_in, trace_outcome}
+use Rattle.ed_laws.specs.MoreResumes.{EachLimitIsKept, EachResume, KeepsResumes, TraceKeepsLimits, letters_of, out_of}
+use Rattle.ed_laws.proofs.PartsLimits.{parts_keep_limits}
+use Rattle.ed_laws.proofs.Stepped.{letters_sum}
+use Rattle.ed_laws.proofs.TwoRuns.{resumed_begins, resumed_later, resumed_same, trace_later, trace_same}
+
+-- ---- on paper
+
+paper_starts : (shift : Shift) (part rest : List ℕ)
+    → StartsWith (paper_from shift (part ++ rest)) (paper_from shift part)
+paper_starts shift [] rest = (paper_from shift rest, refl)
+paper_starts shift (code ∷ part) rest =
+    let more = paper_starts (shift_after shift code) part rest in (
+      more.0,
+      ap (λ (t : Text). struck_bytes shift code ++ t) more.1
+          ∙ sym (append_assoc (struck_bytes shift code) (paper_from (shift_after shift code) part) more.0),
+    )
+
+-- whether a text begins with another doesn't depend on how the two are written
+starts_as : {whole part new_whole new_part : Text} → new_whole ≡ whole → new_part ≡ part → StartsWith whole part
+    → StartsWith new_whole new_part
+starts_as {new_part = new_part} w p (rest, is) = (rest, w ∙ is ∙ ap (λ (t : Text). t ++ rest) (sym p))
+
+printed_starts : (whole part : List ℕ) → StartsWith whole part → StartsWith (paper whole) (paper part)
+printed_starts whole part (rest, is) = starts_as (ap paper is) refl (paper_starts Letters part rest)
+
+-- no post-mortem adds no code
+none_added : (window : Option Window) (r : RunEnd) → window ≡ None → (with_post_mortem window r).codes ≡ r.codes
+none_added window r is =
+    ap (λ (w : Option Window). r.codes ++ post_mortem_codes w r.state) is ∙ append-nil r.codes
+
+-- ---- from the answers to the end of a run
+
+module _ (limit resumes more : ℕ) (s : State) (give : RunEnd → Outcome) (few : resumes ≤ more) where
+  same_of : (give (run_end limit resumes paper_room s)).status ≡ status_of (run_end limit resumes paper_room s).ending
+      → (give (run_end limit resumes paper_room s)).status ≢ 0
+      → give (run_end limit more paper_room s) ≡ give (run_end limit resumes paper_room s)
+  same_of is other = ap give (resumed_same limit resumes more paper_room s few (λ e. other (is ∙ ap status_of e))).run
+
+  begins_of : ((r : RunEnd) → (give r).out ≡ paper r.codes)
+      → StartsWith (give (run_end limit more paper_room s)).out (give (run_end limit resumes paper_room s)).out
+  begins_of out = starts_as (out _) (out _) (printed_starts _ _ (resumed_begins limit resumes more paper_room s few))
+
+tape_keeps : (codes : List ℕ) → KeepsResumes (λ s. tape_outcome s codes) out_of
+tape_keeps codes = record {
+  same = λ s more few.
+      same_of s.limit s.resumes more (first_state s.size codes)
+      (λ r. ran_outcome [] (with_post_mortem s.post_mortem r)) few refl;
+  begins = λ s more few none.
+      begins_of s.limit s.resumes more (first_state s.size codes)
+      (λ r. ran_outcome [] (with_post_mortem s.post_mortem r)) few
+      (λ r. ap paper (none_added s.post_mortem r none));
+}
+
+first_tape_keeps : (codes : List ℕ) → KeepsResumes (λ s. tape1_outcome s codes) out_of
+first_tape_keeps codes = record {
+  same = λ s more few. same_of s.limit s.resumes more (first_state1 codes) (ran_outcome []) few refl;
+  begins = λ s more few none.
+      begins_of s.limit s.resumes more (first_state1 codes) (ran_outcome []) few (λ r. refl);
+}
+
+source_keeps : (lines : List Line) → KeepsResumes (λ s. run_outcome s lines) out_of
+source_keeps lines = record {
+  same = λ s more few.
+      same_of s.limit s.resumes more (first_state s.size (tape lines))
+      (λ r. ran_outcome (entered_before lines r.state) (with_post_mortem s.post_mortem r)) few refl;
+  begins = λ s more few none.
+      begins_of s.limit s.resumes more (first_state s.size (tape lines))
+      (λ r. ran_outcome (entered_before lines r.state) (with_post_mortem s.post_mortem r)) few
+      (λ r. ap paper (none_added s.post_mortem r none));
+}
+
+-- ---- traces
+
+-- the letters of more orders begin with those of fewer
+pub letters_begin : (k m : ℕ) (s : State) → k ≤ m → StartsWith (letters_in (trace_to m s)) (letters_in (trace_to k s))
+letters_begin k m s fits =
+    let whole : k + (m - k) ≡ m = omega (arith, fits) in (
+      letters_in (trace_to (m - k) (state_after k s)),
+      ap (λ n. letters_in (trace_to n s)) (sym whole) ∙ letters_sum k (m - k) s,
+    )
+
+-- the answer of a trace by the run's orders and its end
+abbrev trace_by : State → ℕ → RunEnd → Outcome
+trace_by s k r = record { out = trace_to k s; note = ending_line r.ending r.state; status = status_of r.ending }
+
+trace_keeps : (codes : List ℕ) → KeepsResumes (λ s. trace_outcome s codes) letters_of
+trace_keeps codes = record {
+  same = λ s more few other.
+      let first = first_state s.size codes in
+      let one = resumed_same s.limit s.resumes more s.limit first few (λ e. other (ap status_of e)) in
+      λ i. trace_by first (one.orders i) (one.run i);
+  begins = λ s more few none.
+      letters_begin _ _ (first_state s.size codes)
+      (resumed_later s.limit s.resumes more s.limit (first_state s.size codes) few);
+}
+
+trace_keeps_limits : (codes : List ℕ) → TraceKeepsLimits codes
+trace_keeps_limits codes = record {
+  same = λ s more fits other.
+      let first = first_state s.size codes in
+      let one = trace_same s.limit more s.resumes first fits (λ e. other (ap status_of e)) in
+      λ i. trace_by first (one.orders i) (one.run i);
+  begins = λ s more fits.
+      letters_begin _ _ (first_state s.size codes) (trace_later s.limit more s.resumes (first_state s.size codes) fits);
+}
+
+pub each_resume : EachResume
+each_resume = record {
+  tapes = tape_keeps;
+  first_tapes = first_tape_keeps;
+  sources = source_keeps;
+  traces = trace_keeps;
+}
+
+pub each_limit_is_kept : EachLimitIsKept
+each_limit_is_kept = record { runs = each_limit; traces = trace_keeps_limits; parts = parts_keep_limits }

@@ -1,0 +1,236 @@
+-- A run in which another rule never applies is the same with it.
+use Rattle.std.proofs.Common.{◌≡◌, ◌∙◌, ◌⊎◌, inl, inr, ℕ, zero, suc, ◌+◌, ◌<◌, ◌≤◌, refl, sym, ap, arith}
+use Rattle.std.proofs.Common.{Bool, true, false, true≢false, ◌||◌, nat_eq, nat_le, nat_lt, Option, Some, None, is_some}
+use Rattle.std.proofs.Common.{List, [], ◌∷◌, ◌++◌, length, unwrap_or}
+use Rattle.std.specs.Prelude.{◌==◌, if◌then◌else◌}
+use Rattle.std.proofs.lemmas.Bool.{cases_lt}
+use Rattle.std.proofs.lemmas.Option.{none-some}
+use Rattle.ed_words.specs.Words.{function_of}
+use Rattle.ed_codes.specs.Spelling.{byte_of}
+use Rattle.ed_orders.specs.Kinds.{kind_of_function}
+use Rattle.ed_orders.specs.declared.kind.Kind.{Kind}
+use Rattle.ed_orders.specs.declared.kind.Kind.TheVariants.{A, S, H, V, N, T, U, C, R, L, E, G, I, O, F, X, Y, Z}
+use Rattle.ed_printer.specs.Paper.{paper_from}
+use Rattle.ed_printer.specs.declared.printer.Shift.{Shift}
+use Rattle.ed_printer.specs.declared.printer.Shift.TheVariants.{Letters, Figures}
+use Rattle.ed_machine.specs.State.{State}
+use Rattle.ed_machine.specs.OrderTable.{Obeyed, next_word, obey_word, step}
+use Rattle.ed_machine.specs.Steps.{Progress, codes_of, least, progress, state_after, stops_of}
+use Rattle.ed_machine.specs.declared.turn.Turn.{Turn}
+use Rattle.ed_machine.specs.declared.turn.Turn.TheVariants.{Went}
+use Rattle.ed_machine.specs.declared.ending.Ending.TheVariants.{Stopped, Limit}
+use Rattle.ed_machine.proofs.LeastNumbers.{least_below, least_found, least_none}
+use Rattle.ed_run.specs.Run.{end_by, run_end, run_orders}
+use Rattle.ed_run.specs.declared.settings.Settings.{Settings}
+use Rattle.ed_run.proofs.Ends.{ran_ends}
+use Rattle.ed_initial.specs.Entry.{first_state}
+use Rattle.ed_stepper.specs.Traces.{trace_to}
+use Rattle.ed_answers.specs.Runs.{paper_room, run_of}
+use Rattle.ed_top.specs.Traces.{letters_in}
+use Rattle.ed_laws.specs.OwnRules.{EachOwnRuleShows, OtherRule, end_with, has_own_letter, is_own_kind, is_own_order}
+use Rattle.ed_laws.specs.OwnRules.{progress_with, run_letters, run_with_rule, step_with}
+use Rattle.ed_laws.proofs.LetterTests.{letter_says}
+use Rattle.ed_laws.proofs.MoreResumes.{letters_begin}
+use Rattle.ed_laws.proofs.TraceAccounts.{more_letters, next_letter}
+
+-- ---- orders before which it doesn't apply
+
+step_same : (r : OtherRule) (s : State) → r.applies s ≡ false → step_with r s ≡ step s
+step_same r s not = ap (λ (b : Bool). if b then r.instead s else step s) not
+
+-- a progress after one more step that does this
+abbrev next_by : Progress → Obeyed → Progress
+next_by p o = record { state = o.state; codes = p.codes ++ codes_of o.turn; stops = p.stops + stops_of o.turn }
+
+orders_same : (r : OtherRule) (k : ℕ) (s : State) → ((j : ℕ) → j < k → r.applies (state_after j s) ≡ false)
+    → progress_with r k s ≡ progress k s
+unfolding progress_with progress
+orders_same r zero s never = refl
+orders_same r (suc k) s never =
+    ap (λ (p : Progress). next_by p (step_with r p.state)) (orders_same r k s (λ j less. never j (omega (arith, less))))
+    ∙ ap (next_by (progress k s)) (step_same r (state_after k s) (never k (omega arith)))
+
+-- ---- the run
+
+-- either it doesn't apply at a state, or the order there wouldn't end a run
+abbrev IsNoEnd : OtherRule → State → Type 0
+IsNoEnd r s = (r.applies s ≡ false) ⊎ ((full : Bool) → end_by (step s).turn full ≡ None)
+
+module _ (r : OtherRule) (limit resumes room : ℕ) (s : State)
+    (never : (j : ℕ) → j < run_orders limit resumes room s → r.applies (state_after j s) ≡ false)
+    (at_end : IsNoEnd r (state_after (run_orders limit resumes room s) s)) where
+  same : (j : ℕ) → j ≤ run_orders limit resumes room s → progress_with r j s ≡ progress j s
+  same j few = orders_same r j s (λ i less. never i (omega (arith, less, few)))
+
+  none_before : (j : ℕ) → j < run_orders limit resumes room s
+      → end_with r limit resumes room j (progress_with r j s) ≡ None
+  none_before j less =
+      ap (end_with r limit resumes room j) (same j (omega (arith, less)))
+      ∙ ap (λ (o : Obeyed). if nat_lt resumes (progress j s).stops then Some Stopped
+      else if nat_eq j limit then Some Limit
+      else end_by o.turn (nat_le room (length (progress j s).codes))) (step_same r (state_after j s) (never j less))
+      ∙ (ran_ends limit resumes room s).first j less
+
+  some_there : end_with r limit resumes room (run_orders limit resumes room s)
+      (progress_with r (run_orders limit resumes room s) s)
+      ≡ Some (run_end limit resumes room s).ending
+  some_there =
+      ap (end_with r limit resumes room (run_orders limit resumes room s)) (same (run_orders limit resumes room s) (omega arith))
+      ∙ by_end at_end
+    where
+      n : ℕ
+      n = run_orders limit resumes room s
+
+      by_tests : (b c : Bool) → ((full : Bool) → end_by (step (state_after n s)).turn full ≡ None)
+          → (if b then Some Stopped else if c then Some Limit
+          else end_by (step (state_after n s)).turn (nat_le room (length (progress n s).codes)))
+          ≡ Some (run_end limit resumes room s).ending
+          → (if b then Some Stopped else if c then Some Limit
+          else end_by (step_with r (state_after n s)).turn (nat_le room (length (progress n s).codes)))
+          ≡ Some (run_end limit resumes room s).ending
+      by_tests true c none h = h
+      by_tests false true none h = h
+      by_tests false false none h = absurd (none-some _ (sym (none _) ∙ h))
+
+      by_end : IsNoEnd r (state_after n s) → end_with r limit resumes room n (progress n s)
+          ≡ Some (run_end limit resumes room s).ending
+      by_end (inl not) =
+          ap (λ (o : Obeyed). if nat_lt resumes (progress n s).stops then Some Stopped
+          else if nat_eq n limit then Some Limit
+          else end_by o.turn (nat_le room (length (progress n s).codes))) (step_same r (state_after n s) not)
+          ∙ (ran_ends limit resumes room s).now
+      by_end (inr none) =
+          by_tests (nat_lt resumes (progress n s).stops) (nat_eq n limit) none (ran_ends limit resumes room s).now
+
+  found : least (λ j. is_some (end_with r limit resumes room j (progress_with r j s))) limit
+      ≡ run_orders limit resumes room s
+  found =
+      let holds = ap is_some some_there in
+      let fails = λ (j : ℕ) (less : j < run_orders limit resumes room s). ap is_some (none_before j less) in
+      let most : run_orders limit resumes room s ≤ limit = least_below _ limit in
+      elim (cases_lt (run_orders limit resumes room s) limit) [
+        | inl less ↦ least_found _ limit (run_orders limit resumes room s) holds fails less
+        | inr high ↦
+            let all : run_orders limit resumes room s ≡ limit = omega (arith, most, high) in
+            least_none _ limit (λ j less. fails j (omega (arith, less, all))) ∙ sym all
+      ]
+
+  pub run_is : run_with_rule r limit resumes room s ≡ run_end limit resumes room s
+  unfolding run_with_rule run_end
+  run_is =
+      let there = same (run_orders limit resumes room s) (omega arith) in
+      ap (λ n. record {
+        ending = unwrap_or (end_with r limit resumes room n (progress_with r n s)) Limit;
+        state = (progress_with r n s).state;
+        codes = (progress_with r n s).codes;
+      }) found
+      ∙ (λ i. record { ending = unwrap_or (some_there i) Limit; state = (there i).state; codes = (there i).codes })
+
+runs_same : (r : OtherRule) (limit resumes room : ℕ) (s : State)
+    → ((j : ℕ) → j ≤ run_orders limit resumes room s → r.applies (state_after j s) ≡ false)
+    → run_with_rule r limit resumes room s ≡ run_end limit resumes room s
+runs_same r limit resumes room s never =
+    run_is r limit resumes room s (λ j less. never j (omega (arith, less))) (inl (never _ (omega arith)))
+
+-- ---- shifts
+
+shifts_same : (before after : Shift) (code : ℕ) (codes : List ℕ) → (code ≡ 11) ⊎ (code ≡ 15)
+    → paper_from before (code ∷ codes) ≡ paper_from after (code ∷ codes)
+shifts_same before after code codes (inl is) =
+    ap (λ c. paper_from before (c ∷ codes)) is ∙ figures before after ∙ sym (ap (λ c. paper_from after (c ∷ codes)) is)
+  where
+    figures : (a b : Shift) → paper_from a (11 ∷ codes) ≡ paper_from b (11 ∷ codes)
+    figures Letters Letters = refl
+    figures Letters Figures = refl
+    figures Figures Letters = refl
+    figures Figures Figures = refl
+shifts_same before after code codes (inr is) =
+    ap (λ c. paper_from before (c ∷ codes)) is ∙ plain before after ∙ sym (ap (λ c. paper_from after (c ∷ codes)) is)
+  where
+    plain : (a b : Shift) → paper_from a (15 ∷ codes) ≡ paper_from b (15 ∷ codes)
+    plain Letters Letters = refl
+    plain Letters Figures = refl
+    plain Figures Letters = refl
+    plain Figures Figures = refl
+
+-- ---- F and X, by the letters of a trace
+
+own_letter : (f : ℕ) → is_own_kind (kind_of_function f) ≡ (byte_of f false == 70 || byte_of f false == 88)
+own_letter = letter_says is_own_kind (λ byte. byte == 70 || byte == 88) refl refl
+
+any_parts : (xs ys : List ℕ) → has_own_letter (xs ++ ys) ≡ false
+    → (has_own_letter xs ≡ false) × (has_own_letter ys ≡ false)
+any_parts [] ys h = (refl, h)
+any_parts (x ∷ xs) ys h = by_test (x == 70 || x == 88) (any_parts xs ys) h
+  where
+    by_test : (b : Bool)
+        → (has_own_letter (xs ++ ys) ≡ false → (has_own_letter xs ≡ false) × (has_own_letter ys ≡ false))
+        → (b || has_own_letter (xs ++ ys)) ≡ false
+        → ((b || has_own_letter xs) ≡ false) × (has_own_letter ys ≡ false)
+    by_test true on e = absurd (true≢false e)
+    by_test false on e = on e
+
+none_in_one : (byte : ℕ) → has_own_letter (byte ∷ []) ≡ false → (byte == 70 || byte == 88) ≡ false
+none_in_one byte = by_test (byte == 70 || byte == 88)
+  where
+    by_test : (b : Bool) → (b || false) ≡ false → b ≡ false
+    by_test true h = absurd (true≢false h)
+    by_test false h = refl
+
+-- none of the orders of a trace without such a letter is F or X
+never_own : (k : ℕ) (s : State) → has_own_letter (letters_in (trace_to k s)) ≡ false → (j : ℕ) → j < k
+    → is_own_order (state_after j s) ≡ false
+never_own k s none j less =
+    let start = letters_begin (suc j) k s (omega arith) in
+    let first = (any_parts (letters_in (trace_to (suc j) s)) start.0
+    (ap has_own_letter (sym start.1) ∙ none)).0 in
+    let letter = (any_parts (letters_in (trace_to j s)) (next_letter (state_after j s) ∷ [])
+    (ap has_own_letter (sym (more_letters j s)) ∙ first)).1 in
+    own_letter (function_of (next_word (state_after j s))) ∙ none_in_one (next_letter (state_after j s)) letter
+
+-- an order F or X ends no run
+own_goes : (k : Option Kind) (w : ℕ) (s : State) → is_own_kind k ≡ true → (obey_word k w s).turn ≡ Went
+own_goes (Some F) w s h = refl
+own_goes (Some X) w s h = refl
+own_goes None w s h = absurd (true≢false (sym h))
+own_goes (Some A) w s h = absurd (true≢false (sym h))
+own_goes (Some S) w s h = absurd (true≢false (sym h))
+own_goes (Some H) w s h = absurd (true≢false (sym h))
+own_goes (Some V) w s h = absurd (true≢false (sym h))
+own_goes (Some N) w s h = absurd (true≢false (sym h))
+own_goes (Some T) w s h = absurd (true≢false (sym h))
+own_goes (Some U) w s h = absurd (true≢false (sym h))
+own_goes (Some C) w s h = absurd (true≢false (sym h))
+own_goes (Some R) w s h = absurd (true≢false (sym h))
+own_goes (Some L) w s h = absurd (true≢false (sym h))
+own_goes (Some E) w s h = absurd (true≢false (sym h))
+own_goes (Some G) w s h = absurd (true≢false (sym h))
+own_goes (Some I) w s h = absurd (true≢false (sym h))
+own_goes (Some O) w s h = absurd (true≢false (sym h))
+own_goes (Some Y) w s h = absurd (true≢false (sym h))
+own_goes (Some Z) w s h = absurd (true≢false (sym h))
+
+own_turn : (s : State) → is_own_order s ≡ true → (step s).turn ≡ Went
+unfolding step
+own_turn s = own_goes (kind_of_function (function_of (next_word s))) (next_word s) s
+
+no_end : (instead : State → Obeyed) (s : State) → IsNoEnd (record { applies = is_own_order; instead = instead }) s
+no_end instead s = by_test (is_own_order s) refl
+  where
+    by_test : (b : Bool) → is_own_order s ≡ b → IsNoEnd (record { applies = is_own_order; instead = instead }) s
+    by_test false is = inl is
+    by_test true is = inr (λ full. ap (λ (t : Turn). end_by t full) (own_turn s is))
+
+tapes : (instead : State → Obeyed) (s : Settings) (rows : List ℕ)
+    → has_own_letter (run_letters s rows) ≡ false
+    → run_with_rule (record { applies = is_own_order; instead = instead }) s.limit s.resumes paper_room
+    (first_state s.size rows)
+    ≡ run_of s rows
+tapes instead s rows none =
+    let first = first_state s.size rows in
+    let n = run_orders s.limit s.resumes paper_room first in
+    run_is (record { applies = is_own_order; instead = instead }) s.limit s.resumes paper_room first
+    (never_own n first none) (no_end instead (state_after n first))
+
+pub each_own_rule_shows : EachOwnRuleShows
+each_own_rule_shows = record { orders = orders_same; runs = runs_same; tapes = tapes; shifts = shifts_same }

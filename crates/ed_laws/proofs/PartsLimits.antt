@@ -1,0 +1,271 @@
+-- `parts` with a greater limit: the same, if it ended before its limit, else it goes on.
+use Rattle.std.proofs.Common.{◌≡◌, ◌≢◌, ◌∙◌, ◌⊎◌, ℕ, zero, suc, ◌-◌, ◌<◌, ◌≤◌, refl, sym, ap, arith}
+use Rattle.std.proofs.Common.{inl, inr, Bool, true, false, nat_eq, nat_lt, Some, None, List, [], ◌++◌}
+use Rattle.std.proofs.Common.{append_assoc, append-nil, length}
+use Rattle.std.specs.Prelude.{if◌then◌else◌}
+use Rattle.std.proofs.lemmas.Bool.{cases_lt}
+use Rattle.std.proofs.lemmas.Bool.Decides.{nat_tests}
+use Rattle.std.proofs.lemmas.Option.{none-some, same_Some}
+use Rattle.ed_words.proofs.Numbers.{eq_false}
+use Rattle.ed_words.specs.Texts.{Text}
+use Rattle.ed_machine.specs.State.{State}
+use Rattle.ed_machine.specs.OrderTable.{step}
+use Rattle.ed_machine.specs.Steps.{progress, state_after}
+use Rattle.ed_machine.specs.declared.ending.Ending.{Ending}
+use Rattle.ed_machine.specs.declared.ending.Ending.TheVariants.{Stopped, Limit, NoOrder, NoTape, PaperFull}
+use Rattle.ed_run.specs.Run.{end_by}
+use Rattle.ed_run.specs.declared.settings.Settings.{Settings}
+use Rattle.ed_notation.specs.Faults.{TapeEntry}
+use Rattle.ed_notation.specs.Openings.{IsDirective}
+use Rattle.ed_initial.specs.Entry.{first_state}
+use Rattle.ed_interlude.specs.Parts.{ComesHome, Finishes, GoesBack, LeadsTo, PartsReport}
+use Rattle.ed_interlude.specs.Parts.{ReportsParts, RunsOn, TapePart, cut, entry_done, entry_report, faulty, finished}
+use Rattle.ed_interlude.specs.Parts.{first_part, notation_of, part_after, part_entry_state, part_report, program_end}
+use Rattle.ed_interlude.specs.Parts.{return_report}
+use Rattle.ed_interlude.specs.declared.tape.PartsEnd.TheVariants.{Ended}
+use Rattle.ed_interlude.proofs.Tales.{behind_opens, each_told_once, from_entry, some_told}
+use Rattle.ed_answers.specs.Limits.{StartsWith, with_limit}
+use Rattle.ed_answers.specs.Outcome.{Outcome}
+use Rattle.ed_top.specs.Parts.{IsInParts, end_status, report_outcome}
+use Rattle.ed_laws.specs.MoreResumes.{PartsKeepLimits}
+
+-- ---- a program that may obey more orders
+
+module _ (low high : ℕ) (s : State) (fits : low ≤ high) where
+  -- at its limit it has ended
+  not_at : (j : ℕ) → program_end low j s ≡ None → j ≢ low
+  not_at j = by_tests (nat_lt 0 (progress j s).stops) (nat_eq j low) refl
+    where
+      by_tests : (b c : Bool) → nat_eq j low ≡ c
+          → (if b then Some Stopped else if c then Some Limit else end_by (step (state_after j s)).turn false) ≡ None
+          → j ≢ low
+      by_tests true c is h = absurd (none-some Stopped (sym h))
+      by_tests false true is h = absurd (none-some Limit (sym h))
+      by_tests false false is h = λ e. grind (arith, nat_tests)
+
+  within : (k : ℕ) → RunsOn low k s → k ≤ low
+  within k runs = elim (cases_lt low k) [ inl less ↦ absurd (not_at low (runs low less).no_end refl) | inr few ↦ few ]
+
+  none_yet : (j : ℕ) → j < low → program_end low j s ≡ None → program_end high j s ≡ None
+  none_yet j less = by_tests (nat_lt 0 (progress j s).stops) (nat_eq j low) refl
+    where
+      by_tests : (b c : Bool) → nat_eq j low ≡ c
+          → (if b then Some Stopped else if c then Some Limit else end_by (step (state_after j s)).turn false) ≡ None
+          → (if b then Some Stopped else if nat_eq j high then Some Limit
+          else end_by (step (state_after j s)).turn false) ≡ None
+      by_tests true c is h = h
+      by_tests false true is h = absurd (none-some Limit (sym h))
+      by_tests false false is h = let other : nat_eq j high ≡ false = eq_false j high (omega (arith, less, fits)) in rw other h
+
+  runs_too : (k : ℕ) → RunsOn low k s → RunsOn high k s
+  runs_too k runs j less = record {
+    no_end = none_yet j (omega (arith, less, within k runs)) (runs j less).no_end;
+    away = (runs j less).away;
+  }
+
+  home_too : (k : ℕ) → ComesHome low k s → ComesHome high k s
+  home_too k c = record { runs = runs_too k c.runs; stops = c.stops; home = c.home }
+
+  ends_too : (k : ℕ) (ending : Ending) → k ≤ low → ending ≢ Limit → program_end low k s ≡ Some ending
+      → program_end high k s ≡ Some ending
+  ends_too k ending few other = by_tests (nat_lt 0 (progress k s).stops) (nat_eq k low) refl
+    where
+      by_tests : (b c : Bool) → nat_eq k low ≡ c
+          → (if b then Some Stopped else if c then Some Limit else end_by (step (state_after k s)).turn false)
+          ≡ Some ending
+          → (if b then Some Stopped else if nat_eq k high then Some Limit
+          else end_by (step (state_after k s)).turn false) ≡ Some ending
+      by_tests true c is h = h
+      by_tests false true is h = absurd (other (sym (same_Some Limit ending h)))
+      by_tests false false is h =
+          let less : k < low = grind (arith, nat_tests) in
+          let no_limit : nat_eq k high ≡ false = eq_false k high (omega (arith, less, fits)) in
+          rw no_limit h
+
+  finishes_too : (k : ℕ) (ending : Ending) → ending ≢ Limit → Finishes low k s ending → Finishes high k s ending
+  finishes_too k ending other f = record {
+    runs = runs_too k f.runs;
+    ends = ends_too k ending (within k f.runs) other f.ends;
+    stopped = f.stopped;
+  }
+
+-- ---- the report with a greater limit
+
+-- it begins as the other does, and is the same if that didn't end at its limit
+record Keeps (t u : PartsReport) : Type 0 where
+  pub begins : StartsWith u.text t.text
+  pub same : end_status t.end ≢ 4 → u ≡ t
+
+record Longer (high rows : ℕ) (p : TapePart) (t : PartsReport) : Type 0 where
+  pub returns : ℕ
+  pub report : PartsReport
+  pub told : ReportsParts high rows returns p report
+  pub keeps : Keeps t report
+
+itself : (t : PartsReport) → Keeps t t
+itself t = record { begins = ([], sym (append-nil t.text)); same = λ other. refl }
+
+module _ (low high rows : ℕ) (fits : low ≤ high) where
+  -- the part is cut off
+  from_cut : (p : TapePart) (t : PartsReport) → IsDirective (notation_of p).directive → t.text ≡ []
+      → end_status t.end ≡ 4 → Longer high rows p t
+  from_cut p t opens none cut_off =
+      let more = some_told high rows p opens in
+      record {
+        returns = more.0;
+        report = more.1;
+        told = more.2;
+        keeps = record {
+          begins = (more.1.text, ap (λ (x : Text). x ++ more.1.text) (sym none));
+          same = λ other. absurd (other cut_off);
+        };
+      }
+
+  -- its program is cut off
+  from_limit : (p : TapePart) (t : PartsReport) (e : TapeEntry) → LeadsTo p e → entry_done p e ≤ high
+      → t.text ≡ entry_report rows p e → end_status t.end ≡ 4 → Longer high rows p t
+  from_limit p t e leads in_time text cut_off = by_program (from_entry high rows p e leads in_time)
+    where
+      by_program : ((k : ℕ) × (ending : Ending) × Finishes (high - entry_done p e) k (part_entry_state p e) ending)
+          ⊎ ((k : ℕ) × ComesHome (high - entry_done p e) k (part_entry_state p e))
+          → Longer high rows p t
+      by_program (inl f) = record {
+        returns = 0;
+        report = record {
+          text = entry_report rows p e;
+          end = Ended f.1;
+          last = state_after f.0 (part_entry_state p e);
+        };
+        told = finished e f.0 f.1 leads in_time f.2 refl;
+        keeps = record {
+          begins = ([], sym text ∙ sym (append-nil t.text));
+          same = λ other. absurd (other cut_off);
+        };
+      }
+      by_program (inr h) =
+          let b : GoesBack high p = record {
+            entry = e;
+            leads = leads;
+            within = in_time;
+            orders = h.0;
+            comes = h.1;
+          } in
+          let rest = some_told high rows (part_after p b) (behind_opens p b) in
+          record {
+            returns = suc rest.0;
+            report = record rest.1 { text = part_report rows p b ++ rest.1.text };
+            told = (b, rest.1, rest.2, refl);
+            keeps = record {
+              begins = (
+                return_report p b ++ rest.1.text,
+                append_assoc (entry_report rows p e) (return_report p b) rest.1.text
+                    ∙ ap (λ (x : Text). x ++ (return_report p b ++ rest.1.text)) (sym text),
+              );
+              same = λ other. absurd (other cut_off);
+            };
+          }
+
+  of_text : {t u : PartsReport} → t ≡ u → t.text ≡ u.text
+  of_text is = ap (λ (r : PartsReport). r.text) is
+
+  longer : (n : ℕ) (p : TapePart) (t : PartsReport) → IsDirective (notation_of p).directive
+      → ReportsParts low rows n p t → Longer high rows p t
+  longer zero p t opens (faulty row cause fault is) = record {
+    returns = 0;
+    report = t;
+    told = faulty row cause fault is;
+    keeps = itself t;
+  }
+  longer zero p t opens (cut e leads short is) =
+      from_cut p t opens (of_text is) (ap (λ (r : PartsReport). end_status r.end) is)
+  longer zero p t opens (finished e k ending leads in_time ends is) = by_ending ending ends is
+    where
+      less : low - entry_done p e ≤ high - entry_done p e
+      less = omega (arith, fits)
+
+      later : entry_done p e ≤ high
+      later = omega (arith, in_time, fits)
+
+      whole : (d : Ending) → d ≢ Limit → Finishes (low - entry_done p e) k (part_entry_state p e) d
+          → t ≡ record { text = entry_report rows p e; end = Ended d; last = state_after k (part_entry_state p e) }
+          → Longer high rows p t
+      whole d other f as_told = record {
+        returns = 0;
+        report = t;
+        told = finished e k d leads later
+            (finishes_too (low - entry_done p e) (high - entry_done p e) (part_entry_state p e) less k d other f) as_told;
+        keeps = itself t;
+      }
+
+      by_ending : (d : Ending) → Finishes (low - entry_done p e) k (part_entry_state p e) d
+          → t ≡ record { text = entry_report rows p e; end = Ended d; last = state_after k (part_entry_state p e) }
+          → Longer high rows p t
+      by_ending Limit f as_told =
+          from_limit p t e leads later (of_text as_told) (ap (λ (r : PartsReport). end_status r.end) as_told)
+      by_ending Stopped f as_told = whole Stopped (λ h. cc) f as_told
+      by_ending NoOrder f as_told = whole NoOrder (λ h. cc) f as_told
+      by_ending NoTape f as_told = whole NoTape (λ h. cc) f as_told
+      by_ending PaperFull f as_told = whole PaperFull (λ h. cc) f as_told
+  longer (suc n) p t opens (b, rest, told, is) =
+      let b_too : GoesBack high p = record {
+        entry = b.entry;
+        leads = b.leads;
+        within = omega (arith, b.within, fits);
+        orders = b.orders;
+        comes = home_too (low - entry_done p b.entry) (high - entry_done p b.entry) (part_entry_state p b.entry)
+            (omega (arith, fits)) b.orders b.comes;
+      } in
+      let more = longer n (part_after p b) rest (behind_opens p b) told in
+      let lines = part_report rows p b in
+      record {
+        returns = suc more.returns;
+        report = record more.report { text = lines ++ more.report.text };
+        told = (b_too, more.report, more.told, refl);
+        keeps = record {
+          begins = (
+            more.keeps.begins.0,
+            ap (λ (x : Text). lines ++ x) more.keeps.begins.1
+                ∙ sym (append_assoc lines rest.text more.keeps.begins.0)
+                ∙ ap (λ (x : Text). x ++ more.keeps.begins.0) (sym (of_text is)),
+          );
+          same = λ other.
+              let unlike : end_status rest.end ≢ 4 =
+              λ h. other (ap (λ (r : PartsReport). end_status r.end) is ∙ h) in
+              ap (λ (r : PartsReport). record r { text = lines ++ r.text }) (more.keeps.same unlike) ∙ sym is;
+        };
+      }
+
+-- ---- the answers
+
+opens_first : IsDirective 20568
+opens_first = omega arith
+
+module _ (codes : List ℕ) (s : Settings) (more : ℕ) (o other : Outcome) (fits : s.limit ≤ more)
+    (a : IsInParts s codes o) (b : IsInParts (with_limit more s) codes other) where
+  abbrev first : State
+  first = first_state s.size codes
+
+  from_a : Longer more (length first.tape) (first_part first) a.told
+  from_a = longer s.limit more (length first.tape) fits a.tells.returns (first_part first) a.told opens_first a.tells.told
+
+  -- the report with the greater limit
+  is_b : b.told ≡ from_a.report
+  is_b =
+      (each_told_once more first).once b.told from_a.report b.tells
+      (record { returns = from_a.returns; told = from_a.told })
+
+  same : o.status ≢ 4 → other ≡ o
+  same not =
+      let unlike : end_status a.told.end ≢ 4 = λ h. not (ap (λ (x : Outcome). x.status) (sym a.outcome) ∙ h) in
+      sym b.outcome ∙ ap report_outcome (is_b ∙ from_a.keeps.same unlike) ∙ a.outcome
+
+  begins : StartsWith other.out o.out
+  begins =
+      let start = from_a.keeps.begins in (
+        start.0,
+        ap (λ (x : Outcome). x.out) (sym b.outcome) ∙ of_text s.limit more (length first.tape) fits is_b ∙ start.1
+            ∙ ap (λ (x : Outcome). x.out ++ start.0) a.outcome,
+      )
+
+pub parts_keep_limits : (codes : List ℕ) → PartsKeepLimits codes
+parts_keep_limits codes = record { same = same codes; begins = begins codes }

@@ -1,0 +1,430 @@
+-- The text that `punch` writes is short enough to be read.
+use Rattle.std.proofs.Common.{◌≡◌, ◌∙◌, ◌⊎◌, inl, inr, ℕ, zero, suc, ◌+◌, ◌-◌, ◌*◌, ◌/◌, ◌%◌, ◌^◌, ◌<◌, ◌≤◌, refl, sym}
+use Rattle.std.proofs.Common.{ap, arith}
+use Rattle.std.proofs.Common.{Bool, true, false, true≢false, ◌&&◌, ◌||◌, nat_eq, nat_le, nat_lt, Option, Some, None}
+use Rattle.std.proofs.Common.{List, [], ◌∷◌, ◌++◌, append_assoc, length, length-append, lit≤}
+use Rattle.std.specs.Prelude.{if◌then◌else◌, map}
+use Rattle.std.specs.List.{flat_map, list_all}
+use Rattle.std.proofs.lemmas.Bool.{and_parts, cases_lt}
+use Rattle.std.proofs.lemmas.Bool.Decides.{nat_tests}
+use Rattle.std.proofs.lemmas.List.{length-map}
+use Rattle.ed_words.proofs.Numbers.{lt_false}
+use Rattle.ed_words.proofs.SizeLemmas.{most}
+use Rattle.ed_words.specs.Sizes.{locations}
+use Rattle.ed_words.specs.Texts.{Text}
+use Rattle.ed_words.specs.declared.size.Size.{Size}
+use Rattle.ed_codes.specs.Spelling.{row_of}
+use Rattle.ed_notation.specs.declared.item.Item.{Item}
+use Rattle.ed_notation.specs.Items.{rows_of}
+use Rattle.ed_notation.specs.Spellings.{canonical, canonicals, item_rows, line_from, text_of}
+use Rattle.ed_notation.proofs.ItemRows.{item_rows_are}
+use Rattle.ed_library.specs.Entries.{entry}
+use Rattle.ed_library.specs.Routines.{find, table_item}
+use Rattle.ed_syntax.specs.Forms.{AreRowsOf, HasLineParts, SpellsForm, SpellsPlaced, SpellsStatement, nothing}
+use Rattle.ed_syntax.specs.Forms.{comment, blank}
+use Rattle.ed_syntax.specs.Forms.{one_sign, one_string, one_run, order, bare_order, word, long, text, placed, segment}
+use Rattle.ed_syntax.specs.Forms.{segment_at, fetch, fetch_with, enter, data_rows as data_statement, empty, label}
+use Rattle.ed_syntax.specs.Forms.{statement}
+use Rattle.ed_syntax.specs.Forms.{labelled, version}
+use Rattle.ed_syntax.specs.Parts.{LinePart, quoted}
+use Rattle.ed_syntax.specs.Sources.{LinesSay, no_more, and_more}
+use Rattle.ed_syntax.specs.declared.program.Operand.{Operand}
+use Rattle.ed_syntax.specs.declared.program.Setting.{Setting}
+use Rattle.ed_syntax.specs.declared.program.Statement.{Statement}
+use Rattle.ed_syntax.specs.declared.program.Statement.TheVariants.{Segment, Order, Number, Text as Letters, Long, Fetch}
+use Rattle.ed_syntax.specs.declared.program.Statement.TheVariants.{Enter, Rows}
+use Rattle.ed_syntax.specs.declared.program.Line.{Line}
+use Rattle.ed_syntax.specs.declared.fault.SourceCause.TheVariants.{Overlap, StoreEnd}
+use Rattle.ed_symbols.specs.declared.location_counter.LocationCounter.{LocationCounter}
+use Rattle.ed_symbols.specs.declared.symbols.Definition.{Definition}
+use Rattle.ed_symbols.specs.NameFaults.{StandsAfter, counter_after, counter_from}
+use Rattle.ed_symbols.specs.Places.{after_statement, even_from, first_counter, routine_places}
+use Rattle.ed_symbols.specs.Places.{segment_at as segment_of_counter}
+use Rattle.ed_link.specs.Faults.{HasNoFault, LineHasWord, on_line}
+use Rattle.ed_link.specs.Linked.{data_after, data_rows, end_place, first_place, long_words, operand_number, set_to}
+use Rattle.ed_link.specs.Linked.{symbols_of}
+use Rattle.ed_link.specs.Linked.{parameter_letters}
+use Rattle.ed_link.specs.Punch.{goes_by_theta, heads, items_of, order_item, preset_items, punched_from, punched_items}
+use Rattle.ed_link.specs.Punch.{routine_items, use_items, with_heading, word_item}
+use Rattle.ed_link.specs.Tapes.{after_text}
+use Rattle.ed_link.proofs.Bounds.{rows_few}
+use Rattle.ed_answers.specs.Refusals.{IsAcceptedAs}
+use Rattle.ed_answers.specs.Sources.{punch_outcome}
+
+-- ---- the rows of a line
+
+abbrev ShortRows : Option Statement → Type 0
+ShortRows (Some (Rows codes)) = length codes.items ≤ 120
+ShortRows st = Unit {0}
+
+abbrev is_short : LinePart → Bool
+is_short (quoted q) = nat_le (length q) 120
+is_short part = true
+
+few_bytes : (line : Text) (ps : List LinePart) → HasLineParts line ps → length line ≤ 120 → list_all is_short ps ≡ true
+few_bytes _ _ nothing le = refl
+few_bytes _ _ (comment bytes) le = refl
+few_bytes _ _ (blank b line ps e h) le = few_bytes line ps h (omega arith)
+few_bytes _ _ (one_sign b line ps e h) le = few_bytes line ps h (omega arith)
+few_bytes _ _ (one_string q line ps e h) le =
+    let size = length-append q (34 ∷ line) in
+    let le_q : length q ≤ 120 = omega (arith, size, le) in
+    let here : nat_le (length q) 120 ≡ true = grind (arith, nat_tests) in
+    rw here (few_bytes line ps h (omega (arith, size, le)))
+few_bytes _ _ (one_run b r line ps e g h) le =
+    let size = length-append (b ∷ r) line in few_bytes line ps h (omega (arith, size, le))
+
+placed_short : {two : Bool} {ps : List LinePart} {s : Statement} {fits : Bool} → SpellsPlaced two ps s fits
+    → ShortRows (Some s)
+placed_short (order b f e ps o l fits x y z) = tt
+placed_short (bare_order b f e l x y) = tt
+placed_short (word ps z fits x) = tt
+placed_short (long ps z fits x y) = tt
+placed_short (text q rows x) = tt
+
+rows_short : (q : Text) (rows : List ℕ) → AreRowsOf q rows → nat_le (length q) 120 ≡ true → length rows ≤ 120
+rows_short q rows are h =
+    let same : length q ≡ length rows =
+    sym (length-map q row_of) ∙ ap length are.each ∙ length-map rows (λ r. Some r) in
+    let few : length q ≤ 120 = grind (arith, nat_tests) in
+    omega (arith, same, few)
+
+statement_short : {two : Bool} {ps : List LinePart} {s : Statement} {fits : Bool} → SpellsStatement two ps s fits
+    → list_all is_short ps ≡ true → ShortRows (Some s)
+statement_short (placed ps s fits x) h = placed_short x
+statement_short (segment a x) h = tt
+statement_short (segment_at a n x y) h = tt
+statement_short (fetch a b x y) h = tt
+statement_short (fetch_with a b ps ss fits x y z w) h = tt
+statement_short (enter a x) h = tt
+statement_short (data_statement q rows are) h = rows_short q rows are (and_parts (nat_le (length q) 120) true h).0
+
+form_short : {two : Bool} {k : ℕ} {ps : List LinePart} {f : _} {fits : Bool}
+    → SpellsForm two k ps f fits → list_all is_short ps ≡ true → ShortRows f.statement
+form_short (empty k) h = tt
+form_short (label k a x) h = tt
+form_short (statement k ps s fits x) h = statement_short x h
+form_short (labelled k a ps s fits x y) h = placed_short y
+form_short (version n x y) h = tt
+
+AllShort : List Line → Type 0
+AllShort [] = Unit {0}
+AllShort (l ∷ lines) = ShortRows l.statement × AllShort lines
+
+lines_short : {two : Bool} {k : ℕ} {texts : List Text} {lines : List Line} → LinesSay two k texts lines
+    → AllShort lines × (length lines ≡ length texts)
+unfolding AllShort
+lines_short (no_more k) = (tt, refl)
+lines_short (and_more k line texts f said says rest) =
+    let more = lines_short rest in
+    let count : length said ≡ length texts = more.1 in
+    let one : suc (length said) ≡ suc (length texts) = omega (arith, count) in
+    ((form_short says.spells.spells (few_bytes line says.spells.parts says.spells.has_parts says.plain.short), more.0), one)
+
+-- ---- counting locations
+
+abbrev one_if : Bool → ℕ
+one_if true = 1
+one_if false = 0
+
+count : (ℕ → Bool) → ℕ → ℕ
+count f zero = 0
+count f (suc n) = count f n + one_if (f n)
+
+one_most : (b : Bool) → one_if b ≤ 1
+one_most true = lit≤ tt
+one_most false = lit≤ tt
+
+count_most : (f : ℕ → Bool) (n : ℕ) → count f n ≤ n
+unfolding count
+count_most f zero = omega arith
+count_most f (suc n) = omega (arith, count_most f n, one_most (f n))
+
+one_or : (a b : Bool) → (a ≡ true → b ≡ true → ⊥) → one_if (a || b) ≡ one_if a + one_if b
+one_or true true apart = absurd (apart refl refl)
+one_or true false apart = refl
+one_or false true apart = refl
+one_or false false apart = refl
+
+count_or : (f g : ℕ → Bool) (n : ℕ) → ((p : ℕ) → f p ≡ true → g p ≡ true → ⊥)
+    → count (λ p. f p || g p) n ≡ count f n + count g n
+unfolding count
+count_or f g zero apart = refl
+count_or f g (suc n) apart =
+    let first = count_or f g n apart in
+    let last = one_or (f n) (g n) (apart n) in
+    omega (arith, first, last)
+
+abbrev range : ℕ → ℕ → ℕ → Bool
+range a b p = nat_le a p && nat_lt p b
+
+count_within : (a b n : ℕ) → n ≤ b → count (range a b) n ≡ n - a
+unfolding count
+count_within a b zero fits = omega arith
+count_within a b (suc n) fits =
+    let before : count (range a b) n ≡ n - a = count_within a b n (omega (arith, fits)) in
+    let less : nat_lt n b ≡ true = let l : n < b = omega (arith, fits) in grind (arith, nat_tests) in
+    by_test (nat_le a n) refl before less
+  where
+    by_test : (t : Bool) → nat_le a n ≡ t → count (range a b) n ≡ n - a → nat_lt n b ≡ true
+        → count (range a b) n + one_if (nat_le a n && nat_lt n b) ≡ suc n - a
+    by_test true is before less =
+        let low : a ≤ n = grind (arith, nat_tests) in rw (is, less) (omega (arith, before, low))
+    by_test false is before less =
+        let high : n < a = grind (arith, nat_tests) in rw is (omega (arith, before, high))
+
+count_past : (a b d : ℕ) → count (range a b) (b + d) ≡ b - a
+unfolding count
+count_past a b zero =
+    let same : b + 0 ≡ b = omega arith in ap (count (range a b)) same ∙ count_within a b b (omega arith)
+count_past a b (suc d) =
+    let one : b + suc d ≡ suc (b + d) = omega arith in
+    let no : nat_lt (b + d) b ≡ false = lt_false (b + d) b (omega arith) in
+    ap (count (range a b)) one ∙ by_test (nat_le a (b + d)) no (count_past a b d)
+  where
+    by_test : (t : Bool) → nat_lt (b + d) b ≡ false → count (range a b) (b + d) ≡ b - a
+        → count (range a b) (b + d) + one_if (t && nat_lt (b + d) b) ≡ b - a
+    by_test true past before = rw past (omega (arith, before))
+    by_test false past before = omega (arith, before)
+
+count_range : (a b : ℕ) → b ≤ 1024 → count (range a b) 1024 ≡ b - a
+count_range a b fits =
+    let whole : b + (1024 - b) ≡ 1024 = omega (arith, fits) in
+    ap (count (range a b)) (sym whole) ∙ count_past a b (1024 - b)
+
+-- ---- the words of all lines
+
+words_total : LocationCounter → List Line → ℕ
+words_total s [] = 0
+words_total s (l ∷ lines) =
+    end_place l.statement s - first_place l.statement s + words_total (after_statement l.statement s) lines
+
+counter_next : (s : LocationCounter) (done : List Line) (l : Line)
+    → counter_from s (done ++ l ∷ []) ≡ after_statement l.statement (counter_from s done)
+counter_next s [] l = refl
+counter_next s (d ∷ done) l = counter_next (after_statement d.statement s) done l
+
+-- a line of the beginning has a word there
+HasWord : List Line → ℕ → Type 0
+HasWord done p = (earlier : List Line) × (e : Line) × StandsAfter done earlier e × LineHasWord earlier e p
+
+has_more : (done : List Line) (l : Line) (p : ℕ) → HasWord done p → HasWord (done ++ l ∷ []) p
+unfolding HasWord
+has_more done l p (earlier, e, stands, has) = (
+  earlier,
+  e,
+  record {
+    after = stands.after ++ l ∷ [];
+    lines_are = ap (λ (ls : List Line). ls ++ l ∷ []) stands.lines_are
+        ∙ append_assoc earlier (e ∷ stands.after) (l ∷ []);
+  },
+  has,
+)
+
+module _ (z : Size) (lines : List Line) (none : HasNoFault z lines) where
+  total : (rest done : List Line) (f : ℕ → Bool) → lines ≡ done ++ rest
+      → ((p : ℕ) → f p ≡ true → HasWord done p)
+      → count f 1024 + words_total (counter_after done) rest ≤ 1024
+  unfolding words_total HasWord
+  total [] done f is covers = omega (arith, count_most f 1024)
+  total (l ∷ rest) done f is covers = by_words (total rest (done ++ l ∷ [])) (cases_lt a b)
+    where
+      s : LocationCounter
+      s = counter_after done
+
+      a : ℕ
+      a = first_place l.statement (counter_after done)
+
+      b : ℕ
+      b = end_place l.statement (counter_after done)
+
+      stands : StandsAfter lines done l
+      stands = record { after = rest; lines_are = is }
+
+      next : lines ≡ (done ++ l ∷ []) ++ rest
+      next = is ∙ sym (append_assoc done (l ∷ []) rest)
+
+      same : words_total (counter_after (done ++ l ∷ [])) rest
+          ≡ words_total (after_statement l.statement (counter_after done)) rest
+      same = ap (λ (t : LocationCounter). words_total t rest) (counter_next first_counter done l)
+
+      old : (p : ℕ) → f p ≡ true → HasWord (done ++ l ∷ []) p
+      old p h = has_more done l p (covers p h)
+
+      new : (p : ℕ) → range a b p ≡ true → LineHasWord done l p
+      new p h =
+          let parts = and_parts (nat_le a p) (nat_lt p b) h in
+          let low : a ≤ p = let t = parts.0 in grind (arith, nat_tests) in
+          let high : p < b = let t = parts.1 in grind (arith, nat_tests) in
+          (low, high)
+
+      either : (p : ℕ) → (t u : Bool) → f p ≡ t → range a b p ≡ u → (t || u) ≡ true → HasWord (done ++ l ∷ []) p
+      either p true u e g h = old p e
+      either p false true e g h = (done, l, record { after = []; lines_are = refl }, new p g)
+      either p false false e g h = absurd (true≢false (sym h))
+
+      apart : (p : ℕ) → f p ≡ true → range a b p ≡ true → ⊥
+      apart p h g =
+          let earlier = covers p h in
+          none (length done + 1) Overlap (on_line stands (p, new p g, earlier.0, earlier.1, earlier.2, earlier.3))
+
+      end_low : a < b → b ≤ 1024
+      end_low less = elim (cases_lt (b - 1) (locations z)) [
+        | inl low ↦ omega (arith, low, most z)
+        | inr high ↦
+            absurd (none (length done + 1) StoreEnd
+            (on_line stands (b - 1, inl (omega (arith, less), omega (arith, less)), high)))
+      ]
+
+      by_words : ((g : ℕ → Bool) → lines ≡ (done ++ l ∷ []) ++ rest
+          → ((p : ℕ) → g p ≡ true → HasWord (done ++ l ∷ []) p)
+          → count g 1024 + words_total (counter_after (done ++ l ∷ [])) rest ≤ 1024)
+          → (a < b) ⊎ (b ≤ a)
+          → count f 1024 + (b - a + words_total (after_statement l.statement (counter_after done)) rest) ≤ 1024
+      by_words on (inr none_of_it) =
+          let few = on f next old in
+          omega (arith, few, same, none_of_it)
+      by_words on (inl less) =
+          let few = on (λ p. f p || range a b p) next (λ p h. either p (f p) (range a b p) refl refl h) in
+          omega (arith, few, same, count_or f (range a b) 1024 apart, count_range a b (end_low less))
+
+  words_few : words_total first_counter lines ≤ 1024
+  words_few =
+      let all = total lines [] (λ p. false) refl (λ p h. absurd (true≢false (sym h))) in omega (arith, all)
+
+-- ---- the items of a line
+
+heads_few : (first : Bool) (base : ℕ) → length (heads first base) ≤ 2
+heads_few true base = lit≤ tt
+heads_few false base = lit≤ tt
+
+headed_few : (is : List Item) (first : Bool) (base : ℕ) → length (with_heading is first base) ≤ length is + 2
+headed_few [] first base = omega arith
+headed_few (i ∷ is) first base = omega (arith, length-append (heads first base) (i ∷ is), heads_few first base)
+
+preset_few : (symbols : List Definition) (o : Option Operand) (c : ℕ) → length (preset_items symbols o c) ≤ 2
+preset_few symbols None c = lit≤ tt
+preset_few symbols (Some o) c = lit≤ tt
+
+presets_few : (symbols : List Definition) (ts : List Setting) (cs : List ℕ)
+    → length (flat_map (λ c. preset_items symbols (set_to ts c) c) cs) ≤ 2 * length cs
+presets_few symbols ts [] = lit≤ tt
+presets_few symbols ts (c ∷ cs) =
+    omega (
+      arith,
+      preset_few symbols (set_to ts c) c,
+      presets_few symbols ts cs,
+      length-append (preset_items symbols (set_to ts c) c) (flat_map (λ c. preset_items symbols (set_to ts c) c) cs),
+    )
+
+routine_is : (found : Option ℕ) → length (routine_items found) ≡ routine_places found
+routine_is None = refl
+routine_is (Some r) = length-map (entry r).items table_item
+
+use_few : (symbols : List Definition) (ts : List Setting) (base : ℕ) (found : Option ℕ)
+    → length (use_items symbols ts base found) ≤ routine_places found + 14
+use_few symbols ts base found =
+    omega (
+      arith,
+      presets_few symbols ts parameter_letters,
+      headed_few (routine_items found) true base,
+      routine_is found,
+      length-append (flat_map (λ c. preset_items symbols (set_to ts c) c) parameter_letters)
+          (with_heading (routine_items found) true base),
+    )
+
+long_few : (b : Bool) (v w : ℕ) → length (map word_item ((if b then 0 ∷ [] else []) ++ (v ∷ (w ∷ [])))) ≤ 3
+long_few true v w = lit≤ tt
+long_few false v w = lit≤ tt
+
+-- 9 bytes for each item, and one for each row of data: at most 126, and 9 for each word of the line
+line_few : (symbols : List Definition) (s : LocationCounter) (st : Option Statement) → ShortRows st
+    → 9 * length (items_of symbols s st) + length (data_rows st) ≤ 126 + 9 * (end_place st s - first_place st s)
+line_few symbols s None h = omega arith
+line_few symbols s (Some (Segment name base)) h = omega arith
+line_few symbols s (Some (Order f o is_long)) h =
+    omega (
+      arith,
+      headed_few (order_item (goes_by_theta symbols s o) s.base f
+          (operand_number symbols (segment_of_counter s) o) is_long ∷ []) (nat_eq s.place s.base) s.base,
+    )
+line_few symbols s (Some (Number w)) h =
+    omega (arith, headed_few (word_item w ∷ []) (nat_eq s.place s.base) s.base)
+line_few symbols s (Some (Letters codes)) h =
+    let ws = map (λ c. 4096 * c) codes.items in
+    omega (
+      arith,
+      headed_few (map word_item ws) (nat_eq s.place s.base) s.base,
+      length-map ws word_item,
+      length-map codes.items (λ c. 4096 * c),
+    )
+line_few symbols s (Some (Long v)) h =
+    omega (
+      arith,
+      headed_few (map word_item (long_words s.place v)) (nat_eq s.place s.base) s.base,
+      long_few (nat_eq (s.place % 2) 1) (v % 2 ^ 17) (v / 2 ^ 18),
+    )
+line_few symbols s (Some (Fetch routine name ts)) h =
+    omega (arith, use_few symbols ts.items (even_from s.place) (find routine))
+line_few symbols s (Some (Enter name)) h = omega arith
+line_few symbols s (Some (Rows codes)) h = omega (arith, h)
+
+lines_few : (symbols : List Definition) (s : LocationCounter) (lines : List Line) → AllShort lines
+    → 9 * length (punched_from symbols s lines) + length (data_after lines) ≤ 126 * length lines + 9 * words_total s lines
+unfolding AllShort words_total
+lines_few symbols s [] h = omega arith
+lines_few symbols s (l ∷ lines) h =
+    let t = after_statement l.statement s in
+    omega (
+      arith,
+      line_few symbols s l.statement h.0,
+      lines_few symbols t lines h.1,
+      length-append (items_of symbols s l.statement) (punched_from symbols t lines),
+      length-append (data_rows l.statement) (data_after lines),
+    )
+
+-- ---- the text
+
+line_bytes : (as_digit : Bool) (rows : List ℕ) → length (line_from as_digit rows) ≡ length rows + 1
+line_bytes as_digit [] = refl
+line_bytes as_digit (c ∷ rows) = let more = line_bytes true rows in omega (arith, more)
+
+item_bytes : (i : Item) → length (rows_of (canonical i)) ≤ 8
+item_bytes i =
+    omega (
+      arith,
+      rows_few (i ∷ []),
+      length-append (item_rows i) [],
+      ap (λ (rows : List ℕ). length rows) (item_rows_are i),
+    )
+
+items_bytes : (is : List Item) → length (text_of (canonicals is)) ≤ 9 * length is
+items_bytes [] = omega arith
+items_bytes (i ∷ is) =
+    omega (
+      arith,
+      item_bytes i,
+      line_bytes false (rows_of (canonical i)),
+      items_bytes is,
+      length-append (line_from false (rows_of (canonical i))) (text_of (canonicals is)),
+    )
+
+after_bytes : (rows : List ℕ) → length (after_text rows) ≤ length rows + 1
+after_bytes [] = omega arith
+after_bytes (c ∷ rows) = omega (arith, line_bytes true (c ∷ rows))
+
+pub punched_short : (z : Size) (source : Text) (lines : List Line) → IsAcceptedAs z source lines
+    → length (punch_outcome lines).out ≤ 262144
+punched_short z source lines accepted =
+    let short = lines_short accepted.says.says in
+    let count = short.1 in
+    omega (
+      arith,
+      count,
+      accepted.says.few,
+      lines_few (symbols_of lines) first_counter lines short.0,
+      words_few z lines accepted.faultless,
+      items_bytes (punched_items lines),
+      after_bytes (data_after lines),
+      length-append (text_of (canonicals (punched_items lines))) (after_text (data_after lines)),
+    )

@@ -1,0 +1,193 @@
+-- A part of a tape that is read at another place.
+use Rattle.std.proofs.Common.{◌≡◌, ◌∙◌, ◌⊎◌, inl, inr, ℕ, zero, suc, ◌+◌, ◌*◌, ◌/◌, ◌%◌, ◌^◌, ◌<◌, ◌≤◌, refl, sym, ap}
+use Rattle.std.proofs.Common.{subst}
+use Rattle.std.proofs.Common.{arith, true, false, nat_eq, Some, List, [], ◌∷◌, ◌++◌, length}
+use Rattle.std.specs.Prelude.{if◌then◌else◌, slice_index}
+use Rattle.ed_words.proofs.Numbers.{eq_false, eq_true}
+use Rattle.ed_words.specs.Words.{digit}
+use Rattle.ed_notation.specs.declared.kind.LetterAction.{LetterAction}
+use Rattle.ed_notation.specs.declared.kind.LetterAction.TheVariants.{Places}
+use Rattle.ed_notation.specs.Items.{Begun, Written, digits_number, item_of, items, row_kind}
+use Rattle.ed_notation.specs.Fold.{NotationState, act, address, begun_cost, costs, end_cost, enters_at, fold}
+use Rattle.ed_notation.specs.Fold.{letter_action_of, placed_at, with_letter, word_with}
+use Rattle.ed_notation.specs.Spellings.{digits_of}
+use Rattle.ed_notation.proofs.Canonical.{digits_are}
+use Rattle.ed_laws.specs.Relocation.{AreMovable, EachPartMoves, endings, moved, place_items}
+
+-- ---- one item
+
+-- the state of the notation after j items at b
+abbrev at_place : ℕ → List (ℕ × ℕ) → ℕ → NotationState
+at_place b placed j = record { directive = 20480 + 2 * (b + j); theta = 2 * b; placed = placed }
+
+-- the value of an ending, and the word of an item
+abbrev value_at : ℕ → ℕ → ℕ
+value_at b end = if nat_eq end 17 then 0 else if nat_eq end 18 then 2 * b else 1
+
+abbrev word_at : ℕ → Written → ℕ
+word_at b w = word_with w.begun.function (digits_number 0 w.begun.digits) w.begun.mark (value_at b w.end)
+
+module _ (v : List ℕ) (b : ℕ) (placed : List (ℕ × ℕ)) (j : ℕ) (low : b + j < 1024) where
+  abbrev n : NotationState
+  n = at_place b placed j
+
+  places : letter_action_of n.directive ≡ Places
+  places = let five : (20480 + 2 * (b + j)) / 4096 ≡ 5 = omega (arith, low) in rw five refl
+
+  here : address n.directive ≡ b + j
+  here = omega (arith, low)
+
+  next : n.directive + 2 ≡ 20480 + 2 * (b + (j + 1))
+  next = omega arith
+
+  placed_so : (word : ℕ) → with_letter (letter_action_of n.directive) n word
+      ≡ at_place b ((b + j, word) ∷ placed) (j + 1)
+  placed_so word =
+      ap (λ (a : LetterAction). with_letter a n word) places
+      ∙ (λ i. record { directive = next i; theta = 2 * b; placed = (here i, word) ∷ placed })
+
+  one_placed : (begun : Begun) (e : ℕ) → (e ≡ 17) ⊎ ((e ≡ 18) ⊎ (e ≡ 19))
+      → act v n (item_of begun e)
+      ≡ at_place b ((b + j, word_at b (record { begun = begun; end = e })) ∷ placed) (j + 1)
+  one_placed begun e (inl is) =
+      subst (λ x. act v n (item_of begun x)
+      ≡ at_place b ((b + j, word_at b (record { begun = begun; end = x })) ∷ placed) (j + 1)) (sym is) (placed_so _)
+  one_placed begun e (inr (inl is)) =
+      subst (λ x. act v n (item_of begun x)
+      ≡ at_place b ((b + j, word_at b (record { begun = begun; end = x })) ∷ placed) (j + 1)) (sym is) (placed_so _)
+  one_placed begun e (inr (inr is)) =
+      subst (λ x. act v n (item_of begun x)
+      ≡ at_place b ((b + j, word_at b (record { begun = begun; end = x })) ∷ placed) (j + 1)) (sym is) (placed_so _)
+
+  seventeen : (e : ℕ) → (e ≡ 17) ⊎ ((e ≡ 18) ⊎ (e ≡ 19)) → end_cost (row_kind e) n ≡ 17
+  seventeen e movable = by_end movable
+    where
+      plain : ◌≡◌ {A = ℕ} (if enters_at (letter_action_of n.directive) then 13 else 17) 17
+      plain = ap (λ (a : LetterAction). if enters_at a then 13 else 17) places
+
+      by_end : (e ≡ 17) ⊎ ((e ≡ 18) ⊎ (e ≡ 19)) → end_cost (row_kind e) n ≡ 17
+      by_end (inl is) = ap (λ x. end_cost (row_kind x) n) is ∙ plain
+      by_end (inr (inl is)) = ap (λ x. end_cost (row_kind x) n) is ∙ plain
+      by_end (inr (inr is)) = ap (λ x. end_cost (row_kind x) n) is ∙ plain
+
+-- ---- many items
+
+word_in : ℕ → List Written → ℕ → ℕ
+word_in b [] k = 0
+word_in b (w ∷ ws) zero = word_at b w
+word_in b (w ∷ ws) (suc k) = word_in b ws k
+
+abbrev plain_costs : List Written → ℕ
+plain_costs [] = 0
+plain_costs (w ∷ ws) = begun_cost w.begun + 17 + plain_costs ws
+
+module _ (v : List ℕ) (b : ℕ) where
+  -- words below stay
+  kept : (ws : List Written) (placed : List (ℕ × ℕ)) (j a : ℕ) → AreMovable ws → b + j + length ws ≤ 1024 → a < b + j
+      → placed_at (fold v (at_place b placed j) (items ws)).placed a ≡ placed_at placed a
+  kept [] placed j a are fits below = refl
+  kept (w ∷ ws) placed j a are fits below =
+      let other : nat_eq (b + j) a ≡ false = eq_false (b + j) a (omega (arith, below)) in
+      ap (λ (x : NotationState). placed_at (fold v x (items ws)).placed a)
+      (one_placed v b placed j (omega (arith, fits)) w.begun w.end are.0)
+      ∙ kept ws ((b + j, word_at b w) ∷ placed) (j + 1) a are.1 (omega (arith, fits)) (omega (arith, below))
+      ∙ rw other refl
+
+  -- each word is placed
+  laid : (ws : List Written) (placed : List (ℕ × ℕ)) (j k : ℕ) → AreMovable ws → b + j + length ws ≤ 1024
+      → k < length ws
+      → placed_at (fold v (at_place b placed j) (items ws)).placed (b + j + k) ≡ Some (word_in b ws k)
+  unfolding word_in
+  laid [] placed j k are fits less = absurd (omega arith)
+  laid (w ∷ ws) placed j zero are fits less =
+      let same : nat_eq (b + j) (b + j + 0) ≡ true = eq_true (b + j) (b + j + 0) (omega arith) in
+      ap (λ (x : NotationState). placed_at (fold v x (items ws)).placed (b + j + 0))
+      (one_placed v b placed j (omega (arith, fits)) w.begun w.end are.0)
+      ∙ kept ws ((b + j, word_at b w) ∷ placed) (j + 1) (b + j + 0) are.1 (omega (arith, fits)) (omega arith)
+      ∙ rw same refl
+  laid (w ∷ ws) placed j (suc k) are fits less =
+      let at : b + j + suc k ≡ b + (j + 1) + k = omega arith in
+      ap (λ (x : NotationState). placed_at (fold v x (items ws)).placed (b + j + suc k))
+      (one_placed v b placed j (omega (arith, fits)) w.begun w.end are.0)
+      ∙ ap (placed_at (fold v (at_place b ((b + j, word_at b w) ∷ placed) (j + 1)) (items ws)).placed) at
+      ∙ laid ws ((b + j, word_at b w) ∷ placed) (j + 1) k are.1 (omega (arith, fits)) (omega (arith, less))
+
+  -- at this cost
+  cost_is : (ws : List Written) (placed : List (ℕ × ℕ)) (j : ℕ) → AreMovable ws → b + j + length ws ≤ 1024
+      → costs v (at_place b placed j) ws ≡ plain_costs ws
+  cost_is [] placed j are fits = refl
+  cost_is (w ∷ ws) placed j are fits =
+      (λ i. begun_cost w.begun + seventeen v b placed j (omega (arith, fits)) w.end are.0 i
+      + costs v (one_placed v b placed j (omega (arith, fits)) w.begun w.end are.0 i) ws)
+      ∙ ap (λ n. begun_cost w.begun + 17 + n)
+      (cost_is ws ((b + j, word_at b w) ∷ placed) (j + 1) are.1 (omega (arith, fits)))
+
+-- ---- the place
+
+number_is : (b : ℕ) → b ≤ 1024 → digits_number 0 (digits_of b) ≡ b
+number_is b low = (digits_are b (omega (arith, low))).number_is
+
+module _ (v : List ℕ) (b : ℕ) (low : b ≤ 1024) (n : NotationState) where
+  leads : fold v n (items (place_items b)) ≡ at_place b n.placed 0
+  leads =
+      let number = number_is b low in
+      let directive : 4096 * 5 + 2 * digits_number 0 (digits_of b) ≡ 20480 + 2 * (b + 0) = omega (arith, number) in
+      let theta : (4096 * 27 + 2 * 0 + (4096 * 5 + 2 * digits_number 0 (digits_of b))) % 2 ^ 17 ≡ 2 * b =
+      omega (arith, number, low) in
+      λ i. record { directive = directive i; theta = theta i; placed = n.placed }
+
+-- ---- the law
+
+moves : (b c : ℕ) (ws : List Written) (k : ℕ) → b ≤ 1024 → c ≤ 1024 → AreMovable ws → k < length ws
+    → word_in c ws k ≡ moved b c (slice_index (endings ws) k) (word_in b ws k)
+unfolding word_in
+moves b c [] k low high are less = absurd (omega arith)
+moves b c (w ∷ ws) (suc k) low high are less = moves b c ws k low high are.1 (omega (arith, less))
+moves b c (w ∷ ws) zero low high are less = by_end are.0
+  where
+    x : ℕ
+    x = 4096 * w.begun.function + 2 * digits_number 0 w.begun.digits + digit w.begun.mark
+
+    by_end : (w.end ≡ 17) ⊎ ((w.end ≡ 18) ⊎ (w.end ≡ 19))
+        → (x + value_at c w.end) % 2 ^ 17 ≡ moved b c w.end ((x + value_at b w.end) % 2 ^ 17)
+    by_end (inl is) =
+        subst (λ e. (x + value_at c e) % 2 ^ 17 ≡ moved b c e ((x + value_at b e) % 2 ^ 17)) (sym is) refl
+    by_end (inr (inl is)) =
+        subst (λ e. (x + value_at c e) % 2 ^ 17 ≡ moved b c e ((x + value_at b e) % 2 ^ 17)) (sym is)
+        (omega (arith, low, high))
+    by_end (inr (inr is)) =
+        subst (λ e. (x + value_at c e) % 2 ^ 17 ≡ moved b c e ((x + value_at b e) % 2 ^ 17)) (sym is) refl
+
+pub each_part_moves : EachPartMoves
+each_part_moves b c ws fits too are = record { words = words; cost = cost }
+  where
+    there : (d : ℕ) → d + length ws ≤ 1024 → (v : List ℕ) (n : NotationState) (k : ℕ) → k < length ws
+        → placed_at (fold v n (items (place_items d ++ ws))).placed (d + k) ≡ Some (word_in d ws k)
+    there d low v n k less =
+        let at : d + k ≡ d + 0 + k = omega arith in
+        ap (λ (x : NotationState). placed_at (fold v x (items ws)).placed (d + k)) (leads v d (omega (arith, low)) n)
+        ∙ ap (placed_at (fold v (at_place d n.placed 0) (items ws)).placed) at
+        ∙ laid v d ws n.placed 0 k are (omega (arith, low)) less
+
+    words : (v w : List ℕ) (n m : NotationState) (k : ℕ) → k < length ws
+        → (word : ℕ) × (placed_at (fold v n (items (place_items b ++ ws))).placed (b + k) ≡ Some word)
+        × (placed_at (fold w m (items (place_items c ++ ws))).placed (c + k)
+        ≡ Some (moved b c (slice_index (endings ws) k) word))
+    words v w n m k less = (
+      word_in b ws k,
+      there b fits v n k less,
+      there c too w m k less ∙ ap Some (moves b c ws k (omega (arith, fits)) (omega (arith, too)) are less),
+    )
+
+    all : (d : ℕ) → d + length ws ≤ 1024 → (v : List ℕ) (n : NotationState)
+        → costs v n (place_items d ++ ws) ≡ 44 + 9 * length (digits_of d) + plain_costs ws
+    all d low v n =
+        let rest : costs v (fold v n (items (place_items d))) ws ≡ plain_costs ws =
+        ap (λ (x : NotationState). costs v x ws) (leads v d (omega (arith, low)) n)
+        ∙ cost_is v d ws n.placed 0 are (omega (arith, low)) in
+        omega (arith, rest)
+
+    cost : (v w : List ℕ) (n m : NotationState)
+        → costs v n (place_items b ++ ws) + 9 * length (digits_of c)
+        ≡ costs w m (place_items c ++ ws) + 9 * length (digits_of b)
+    cost v w n m = omega (arith, all b fits v n, all c too w m)

@@ -1,0 +1,375 @@
+-- Blank tape before a tape, tapes of the two loaders, and what loading costs at most.
+use Rattle.std.proofs.Common.{◌≡◌, ◌∙◌, ℕ, zero, suc, ◌+◌, ◌*◌, ◌/◌, ◌%◌, ◌^◌, ◌≤◌, refl, sym, ap, subst, arith}
+use Rattle.std.proofs.Common.{Bool, true, false, nat_eq, nat_lt, Option, Some, None, List, [], ◌∷◌, ◌++◌, length}
+use Rattle.std.proofs.Common.{append_assoc, append-nil, length-append, ◌≢◌, ◌-◌}
+use Rattle.std.specs.Prelude.{replicate}
+use Rattle.std.proofs.lemmas.Bool.Decides.{nat_tests}
+use Rattle.ed_words.proofs.Numbers.{lt_false, lt_true}
+use Rattle.ed_words.specs.Texts.{Text}
+use Rattle.ed_words.specs.declared.size.Size.{Size}
+use Rattle.ed_codes.specs.Reading.{IsReadingOf, Reading, reading, rows}
+use Rattle.ed_codes.proofs.Pieces.{few_rows}
+use Rattle.ed_codes.proofs.Readings.{has_one_reading}
+use Rattle.ed_store.specs.Cells.{cleared_cells}
+use Rattle.ed_run.specs.Run.{run_end}
+use Rattle.ed_run.proofs.Later.{ran_later}
+use Rattle.ed_run.specs.declared.settings.Settings.{Settings}
+use Rattle.ed_notation.specs.declared.cause.TapeCause.TheVariants.{BadRow}
+use Rattle.ed_notation.specs.declared.reader.PartialItem.{PartialItem}
+use Rattle.ed_notation.specs.declared.reader.RowEffect.{RowEffect}
+use Rattle.ed_notation.specs.declared.reader.RowEffect.TheVariants.{Refused, Longer, Ended, Placed, Entered}
+use Rattle.ed_notation.specs.Items.{AreDigits, Begun, begun_rows, digits_number, row_kind, rows_of}
+use Rattle.ed_notation.specs.Fold.{NotationState, over}
+use Rattle.ed_notation.specs.Openings.{IsDirective}
+use Rattle.ed_notation.specs.Faults.{ComesTo, TapeEntry, WellFormed}
+use Rattle.ed_notation.specs.Reading.{Arrived, Faulty, Verdict, entry_by, part_of, placed_by, reading_on, row_effect}
+use Rattle.ed_notation.specs.Reading.{set_by, setting_of}
+use Rattle.ed_notation.proofs.Costs.{most}
+use Rattle.ed_notation.proofs.Laws.{reading_is_rules}
+use Rattle.ed_initial.specs.Entry.{at_entry, first_state}
+use Rattle.ed_initial.proofs.Quiet.{LeadsIn}
+use Rattle.ed_initial1.specs.Items.{AreItems, IsBegun1, IsFirst, Item1, begun_rows1, ending_row, rows_of1}
+use Rattle.ed_initial1.specs.Items.{spelled_rows1}
+use Rattle.ed_initial1.specs.Faults.{BeginsWith, Comes1, Tape}
+use Rattle.ed_answers.specs.Limits.{with_limit}
+use Rattle.ed_answers.specs.Runs.{paper_room, run_of}
+use Rattle.ed_answers.specs.Tapes.{first_note}
+use Rattle.ed_laws.specs.TapeFacts.{BeginsAtPlace, BlankTapeIsPassed, EachTapeIsSo, blank_cost, blank_tape, end_later}
+use Rattle.ed_laws.specs.TapeFacts.{entry_later}
+use Rattle.ed_laws.proofs.CountedRuns.{counted, run_same}
+use Rattle.ed_laws.proofs.TapeEntries.{leads}
+
+-- ---- the cost of a text
+
+text_few : (r : Reading) (text tape : List ℕ) → IsReadingOf text r → r ≡ rows tape → length tape ≤ length text
+text_few (rows codes) text tape spells is =
+    let same : codes ≡ tape = rows_same is in
+    subst (λ (xs : List ℕ). length xs ≤ length text) same (few_rows text codes spells)
+  where
+    rows_same : {a b : List ℕ} → rows a ≡ rows b → a ≡ b
+    rows_same e = cc
+text_few r text tape spells is = absurd (cc)
+
+cheap : (text : Text) (tape : List ℕ) (e : TapeEntry) → reading text ≡ rows tape → length text ≤ 262144
+    → ComesTo cleared_cells.words first_note 9 tape e → e.cost ≤ 4456457
+cheap text tape e is short comes =
+    let few = text_few (reading text) text tape (has_one_reading.every text) is in
+    let all : length tape ≡ e.rows + length e.rest =
+    ap length (comes.rows_are ∙ sym (append_assoc _ (rows_of comes.last) e.rest)) ∙ length-append _ e.rest
+    ∙ ap (λ n. n + length e.rest) (length-append _ (rows_of comes.last) ∙ sym comes.read_is) in
+    omega (arith, few, short, all, most cleared_cells.words first_note 9 tape e comes)
+
+-- ---- no tape is one for both loaders
+
+-- S, the row 12, ends no item of the 41 orders
+first_breaks : (z : Size) (tape : List ℕ) (t : Tape) → (is : List Item1) → t.items ≡ is → Comes1 tape t
+    → WellFormed z cleared_cells.words first_note tape → ⊥
+first_breaks z tape t [] none comes well = subst (λ (is : List Item1). BeginsWith t.end is) none comes.first
+first_breaks z tape t (i ∷ is) some comes well =
+    let first : IsFirst t.end i = subst (λ (js : List Item1). BeginsWith t.end js) some comes.first in
+    let good : IsBegun1 i.begun = (subst AreItems some comes.good).0 in
+    let b : Begun = record { function = i.begun.function; digits = i.begun.digits; mark = false } in
+    let rest = spelled_rows1 is ++ t.rest in
+    let spelled : tape ≡ begun_rows1 i.begun ++ (12 ∷ rest) =
+    comes.rows_are
+    ∙ ap (λ (js : List Item1). spelled_rows1 js ++ t.rest) some
+    ∙ append_assoc (rows_of1 i) (spelled_rows1 is) t.rest
+    ∙ append_assoc (begun_rows1 i.begun) (ending_row i.long ∷ []) rest
+    ∙ ap (λ (long : Bool). begun_rows1 i.begun ++ (ending_row long ∷ rest)) first.short in
+    let plain : begun_rows b ≡ begun_rows1 i.begun =
+    ap (λ (ds : List ℕ). i.begun.function ∷ ds) (append-nil i.begun.digits) in
+    well (length (begun_rows b)) BadRow (record {
+      stands = record {
+        before = [];
+        part = Some b;
+        rest = 12 ∷ rest;
+        are_read = tt;
+        is_part = record { function = good.function; digits = good.digits; fits = good.fits };
+        rows_are = spelled ∙ ap (λ (xs : List ℕ). xs ++ (12 ∷ rest)) (sym plain);
+        row_is = omega arith;
+      };
+      breaks = refl;
+    })
+
+for_one_loader : (z : Size) (tape : List ℕ) (t : Tape) → Comes1 tape t
+    → WellFormed z cleared_cells.words first_note tape → ⊥
+for_one_loader z tape t comes well = first_breaks z tape t t.items refl comes well
+
+-- ---- a reading that begins later
+
+-- the result, so many rows and orders later
+abbrev later : ℕ → ℕ → Verdict → Verdict
+later a b (Faulty row cause) = Faulty (row + a) cause
+later a b (Arrived e) = Arrived (record e { cost = e.cost + b; rows = e.rows + a })
+
+-- what follows a row inside an item
+abbrev on_row : Size → List ℕ → ℕ → ℕ → NotationState → PartialItem → ℕ → List ℕ → RowEffect → Verdict
+on_row z words row cost notation part c rest t = elim t [
+  | Refused cause ↦ Faulty row cause
+  | Longer longer k ↦ reading_on z words (row + 1) (cost + k) notation (Some longer) rest
+  | Ended setting k ↦ reading_on z words (row + 1) (cost + k) (set_by setting notation) None rest
+  | Placed at word ↦ reading_on z words (row + 1) (cost + 17) (placed_by at word notation) None rest
+  | Entered at ↦ Arrived (entry_by words row cost notation part c rest at)
+]
+
+module _ (z : Size) (words : List ℕ) (a b : ℕ) where
+  module _ (rest : List ℕ) (ih : (row cost : ℕ) (notation : NotationState) (part : Option PartialItem)
+      → reading_on z words (row + a) (cost + b) notation part rest
+      ≡ later a b (reading_on z words row cost notation part rest)) (row cost : ℕ) where
+    next : row + a + 1 ≡ row + 1 + a
+    next = omega arith
+
+    more : (k : ℕ) → cost + b + k ≡ cost + k + b
+    more k = omega arith
+
+    go : (k : ℕ) (notation : NotationState) (part : Option PartialItem)
+        → reading_on z words (row + a + 1) (cost + b + k) notation part rest
+        ≡ later a b (reading_on z words (row + 1) (cost + k) notation part rest)
+    go k notation part =
+        (λ i. reading_on z words (next i) (more k i) notation part rest) ∙ ih (row + 1) (cost + k) notation part
+
+    row_later : (notation : NotationState) (part : PartialItem) (c : ℕ) (t : RowEffect)
+        → on_row z words (row + a) (cost + b) notation part c rest t
+        ≡ later a b (on_row z words row cost notation part c rest t)
+    row_later notation part c (Refused cause) = refl
+    row_later notation part c (Longer longer k) = go k notation (Some longer)
+    row_later notation part c (Ended setting k) = go k (set_by setting notation) None
+    row_later notation part c (Placed at word) = go 17 (placed_by at word notation) None
+    row_later notation part c (Entered at) = λ i. Arrived (record (entry_by words row cost notation part c rest at) {
+      cost = more 13 i;
+      rows = next i;
+    })
+
+    function_later : (notation : NotationState) (f : ℕ) (t : Bool)
+        → ◌≡◌ {A = Verdict}
+        (elim t [
+          | true ↦ reading_on z words (row + a + 1) (cost + b + 6) notation (Some (part_of f)) rest
+          | false ↦ Faulty (row + a) BadRow
+        ])
+        (later a b (elim t [
+          | true ↦ reading_on z words (row + 1) (cost + 6) notation (Some (part_of f)) rest
+          | false ↦ Faulty row BadRow
+        ]))
+    function_later notation f true = go 6 notation (Some (part_of f))
+    function_later notation f false = refl
+
+  reads_later : (rest : List ℕ) (row cost : ℕ) (notation : NotationState) (part : Option PartialItem)
+      → reading_on z words (row + a) (cost + b) notation part rest
+      ≡ later a b (reading_on z words row cost notation part rest)
+  unfolding reading_on
+  reads_later [] row cost notation part = refl
+  reads_later (f ∷ rest) row cost notation None =
+      function_later rest (reads_later rest) row cost notation f (nat_lt f 32)
+  reads_later (c ∷ rest) row cost notation (Some part) =
+      row_later rest (reads_later rest) row cost notation part c
+      (row_effect z (row_kind c) (over notation.placed words) (setting_of notation) part c)
+
+-- ---- digits
+
+-- a number with more digits is no less
+number_le : (ds : List ℕ) (n : ℕ) → n ≤ digits_number n ds
+number_le [] n = omega arith
+number_le (d ∷ ds) n = omega (arith, number_le ds (10 * n + d))
+
+-- an item with this function and number so far
+abbrev item_so_far : ℕ → ℕ → Bool → PartialItem
+item_so_far f n blank = record { function = f; number = n; mark = false; blank = blank }
+
+module _ (z : Size) (words : List ℕ) (f : ℕ) (m : NotationState) where
+  digits_read : (ds rest : List ℕ) (n : ℕ) (blank : Bool) (row cost : ℕ) → AreDigits ds → digits_number n ds ≤ 32767
+      → (left : Bool) × (reading_on z words row cost m (Some (item_so_far f n blank)) (ds ++ rest)
+      ≡ reading_on z words (row + length ds) (cost + 9 * length ds) m
+      (Some (item_so_far f (digits_number n ds) left)) rest)
+  unfolding reading_on
+  digits_read [] rest n blank row cost are fits =
+      let r : row ≡ row + 0 = omega arith in
+      let k : cost ≡ cost + 0 = omega arith in
+      (blank, λ i. reading_on z words (r i) (k i) m (Some (item_so_far f n blank)) rest)
+  digits_read (d ∷ ds) rest n blank row cost are fits =
+      let small : 10 * n + d ≤ 32767 = omega (arith, fits, number_le ds (10 * n + d)) in
+      let a = lt_true d 10 are.0 in
+      let b = lt_false 32767 (10 * n + d) small in
+      let t : row_effect z (row_kind d) (over m.placed words) (setting_of m) (item_so_far f n blank) d
+      ≡ Longer (item_so_far f (10 * n + d) false) 9 = rw (a, b) refl in
+      let on = digits_read ds rest (10 * n + d) false (row + 1) (cost + 9) are.1 fits in
+      let r : row + 1 + length ds ≡ row + suc (length ds) = omega arith in
+      let k : cost + 9 + 9 * length ds ≡ cost + 9 * suc (length ds) = omega arith in (
+        on.0,
+        ap (on_row z words row cost m (item_so_far f n blank) d (ds ++ rest)) t ∙ on.1
+            ∙ (λ i. reading_on z words (r i) (k i) m (Some (item_so_far f (digits_number (10 * n + d) ds) on.0)) rest),
+      )
+
+-- ---- the blank tape
+
+one_more_blank : (n : ℕ) (rest : List ℕ) → replicate (n + 1) 16 ++ rest ≡ replicate n 16 ++ (16 ∷ rest)
+one_more_blank zero rest = refl
+one_more_blank (suc n) rest =
+    let one : suc n + 1 ≡ suc (n + 1) = omega arith in
+    ap (λ k. replicate k 16 ++ rest) one ∙ ap (λ (xs : List ℕ). 16 ∷ xs) (one_more_blank n rest)
+
+blanks_before : (n : ℕ) (end rest : List ℕ)
+    → (replicate (n + 1) 16 ++ end) ++ rest ≡ replicate n 16 ++ (16 ∷ (end ++ rest))
+blanks_before n end rest = append_assoc (replicate (n + 1) 16) end rest ∙ one_more_blank n (end ++ rest)
+
+module _ (z : Size) (words : List ℕ) where
+  -- two blanks
+  pairs_read : (k : ℕ) (rest : List ℕ) (row cost : ℕ) (n : NotationState)
+      → (theta : ℕ) × (reading_on z words row cost n None (replicate (2 * k) 16 ++ rest)
+      ≡ reading_on z words (row + 2 * k) (cost + 20 * k) (record n { theta = theta }) None rest)
+  unfolding reading_on
+  pairs_read zero rest row cost n =
+      let r : row ≡ row + 0 = omega arith in
+      let c : cost ≡ cost + 0 = omega arith in
+      (n.theta, λ i. reading_on z words (r i) (c i) n None rest)
+  pairs_read (suc k) rest row cost n =
+      let two : 2 * suc k ≡ suc (suc (2 * k)) = omega arith in
+      let on = pairs_read k rest (row + 1 + 1) (cost + 6 + 14) (record n { theta = n.directive }) in
+      let r : row + 1 + 1 + 2 * k ≡ row + 2 * suc k = omega arith in
+      let c : cost + 6 + 14 + 20 * k ≡ cost + 20 * suc k = omega arith in (
+        on.0,
+        ap (λ m. reading_on z words row cost n None (replicate m 16 ++ rest)) two ∙ on.1
+            ∙ (λ i. reading_on z words (r i) (c i) (record n { theta = on.0 }) None rest),
+      )
+
+  -- what it leaves: some directive and some θ, and no word placed
+  record Passed (m : ℕ) (rest : List ℕ) (row cost : ℕ) (n : NotationState) : Type 0 where
+    pub directive : ℕ
+    pub theta : ℕ
+    pub reads : reading_on z words row cost n None (blank_tape m ++ rest)
+        ≡ reading_on z words (row + (m + 2)) (cost + blank_cost m)
+        (record { directive = directive; theta = theta; placed = n.placed }) None rest
+
+  even_passed : (k : ℕ) (rest : List ℕ) (row cost : ℕ) (n : NotationState) → Passed (2 * k) rest row cost n
+  unfolding reading_on
+  even_passed k rest row cost n =
+      let p = pairs_read k (0 ∷ 14 ∷ rest) row cost n in
+      let r : row + 2 * k + 1 + 1 ≡ row + (2 * k + 2) = omega arith in
+      let none : 2 * k % 2 ≡ 0 = omega arith in
+      let half : 2 * k / 2 ≡ k = omega arith in
+      let c : cost + 20 * k + 6 + 16 ≡ cost + blank_cost (2 * k) = rw (none, half) (omega arith) in
+      record {
+        directive = 0;
+        theta = p.0;
+        reads = ap (reading_on z words row cost n None) (append_assoc (replicate (2 * k) 16) (0 ∷ 14 ∷ []) rest)
+            ∙ p.1
+            ∙ (λ i. reading_on z words (r i) (c i) (record { directive = 0; theta = p.0; placed = n.placed }) None rest);
+      }
+
+  odd_passed : (k : ℕ) (rest : List ℕ) (row cost : ℕ) (n : NotationState) → Passed (2 * k + 1) rest row cost n
+  unfolding reading_on
+  odd_passed k rest row cost n =
+      let p = pairs_read k (16 ∷ 0 ∷ 14 ∷ rest) row cost n in
+      let r : row + 2 * k + 1 + 1 + 1 ≡ row + (2 * k + 1 + 2) = omega arith in
+      let one : (2 * k + 1) % 2 ≡ 1 = omega arith in
+      let half : (2 * k + 1) / 2 ≡ k = omega arith in
+      let c : cost + 20 * k + 6 + 9 + 16 ≡ cost + blank_cost (2 * k + 1) = rw (one, half) (omega arith) in
+      let theta = (4096 * 16 + 2 * 0 + n.directive) % 2 ^ 17 in
+      record {
+        directive = n.directive;
+        theta = theta;
+        reads = ap (reading_on z words row cost n None) (blanks_before (2 * k) (0 ∷ 14 ∷ []) rest)
+            ∙ p.1
+            ∙ (λ i. reading_on z words (r i) (c i)
+            (record { directive = n.directive; theta = theta; placed = n.placed }) None rest);
+      }
+
+  passed : (m : ℕ) (rest : List ℕ) (row cost : ℕ) (n : NotationState) → Passed m rest row cost n
+  passed m rest row cost n = by_test (nat_eq (m % 2) 0) refl
+    where
+      by_test : (b : Bool) → nat_eq (m % 2) 0 ≡ b → Passed m rest row cost n
+      by_test true is =
+          let none : m % 2 ≡ 0 = grind (arith, nat_tests) in
+          let two : 2 * (m / 2) ≡ m = omega (arith, none) in
+          subst (λ j. Passed j rest row cost n) two (even_passed (m / 2) rest row cost n)
+      by_test false is =
+          let other : m % 2 ≢ 0 = λ e. grind (arith, nat_tests) in
+          let two : 2 * (m / 2) + 1 ≡ m = omega (arith, other) in
+          subst (λ j. Passed j rest row cost n) two (odd_passed (m / 2) rest row cost n)
+
+  -- T n K G K sets the directive and θ, whatever they were
+  set_anew : (row cost : ℕ) (n : NotationState) (tape : List ℕ) (b : BeginsAtPlace tape) (directive theta : ℕ)
+      → reading_on z words row cost (record { directive = directive; theta = theta; placed = n.placed }) None tape
+      ≡ reading_on z words row cost n None tape
+  unfolding reading_on
+  set_anew row cost n tape b directive theta = from directive theta ∙ sym (from n.directive n.theta)
+    where
+      number : ℕ
+      number = digits_number 0 b.digits
+
+      after : ℕ
+      after = 9 * length b.digits
+
+      set : NotationState
+      set = record {
+        directive = 4096 * 5 + 2 * number;
+        theta = (4096 * 27 + 2 * 0 + (4096 * 5 + 2 * number)) % 2 ^ 17;
+        placed = n.placed;
+      }
+
+      from : (d t : ℕ)
+          → reading_on z words row cost (record { directive = d; theta = t; placed = n.placed }) None tape
+          ≡ reading_on z words (row + 1 + length b.digits + 1 + 1 + 1) (cost + 6 + after + 16 + 6 + 16) set None b.rest
+      from d t =
+          let m : NotationState = record { directive = d; theta = t; placed = n.placed } in
+          let fits : nat_lt 1023 number ≡ false = lt_false 1023 number b.fits in
+          let more = 14 ∷ 27 ∷ 14 ∷ b.rest in
+          let on = digits_read z words 5 m b.digits more 0 false (row + 1) (cost + 6) b.are_digits (omega (arith, b.fits)) in
+          let part = item_so_far 5 number on.0 in
+          let sets : row_effect z (row_kind 14) (over m.placed words) (setting_of m) part 14
+          ≡ Ended (record { directive = 4096 * 5 + 2 * number; theta = t }) 16 = rw fits refl in
+          ap (reading_on z words row cost m None) b.rows_are ∙ on.1
+          ∙ ap (on_row z words (row + 1 + length b.digits) (cost + 6 + after) m part 14 (27 ∷ 14 ∷ b.rest)) sets
+
+-- ---- a tape behind it
+
+opens : IsDirective 20568
+opens = omega arith
+
+module _ (s : Settings) (tape : List ℕ) (e : TapeEntry) (m : ℕ)
+    (well : WellFormed s.size cleared_cells.words first_note tape)
+    (to : ComesTo cleared_cells.words first_note 9 tape e) (begins : BeginsAtPlace tape) where
+  abbrev words : List ℕ
+  words = cleared_cells.words
+
+  abbrev whole : List ℕ
+  whole = blank_tape m ++ tape
+
+  arrives : reading_on s.size words 0 9 first_note None whole ≡ Arrived (entry_later m e)
+  arrives =
+      let p = passed s.size words m tape 0 9 first_note in
+      p.reads
+      ∙ set_anew s.size words (0 + (m + 2)) (9 + blank_cost m) first_note tape begins p.directive p.theta
+      ∙ reads_later s.size words (m + 2) (blank_cost m) tape 0 9 first_note None
+      ∙ ap (later (m + 2) (blank_cost m)) ((reading_is_rules s.size words first_note 9 tape opens).arrived e well to)
+
+  well_too : WellFormed s.size words first_note whole
+  well_too = (reading_is_rules s.size words first_note 9 whole opens).well (entry_later m e) arrives
+
+  comes_too : ComesTo words first_note 9 whole (entry_later m e)
+  comes_too = (reading_is_rules s.size words first_note 9 whole opens).comes (entry_later m e) arrives
+
+  state_there : at_entry (first_state s.size whole) (entry_later m e)
+      ≡ counted (blank_cost m) (at_entry (first_state s.size tape) e)
+  unfolding first_state
+  state_there =
+      let orders : 0 + (e.cost + blank_cost m) ≡ 0 + e.cost + blank_cost m = omega arith in
+      λ i. record (at_entry (first_state s.size tape) e) { orders = orders i }
+
+  runs : e.cost ≤ s.limit → run_of (with_limit (s.limit + blank_cost m) s) whole ≡ end_later (blank_cost m) (run_of s tape)
+  runs fits =
+      let k = blank_cost m in
+      let into : LeadsIn (first_state s.size tape) e = leads s.size tape e well to in
+      let too : LeadsIn (first_state s.size whole) (entry_later m e) =
+      leads s.size whole (entry_later m e) well_too comes_too in
+      let left : s.limit + k - (e.cost + k) ≡ s.limit - e.cost = omega arith in
+      ran_later (s.limit + k) s.resumes paper_room (e.cost + k) (first_state s.size whole) too.went (omega (arith, fits))
+      ∙ (λ i. run_end (left i) s.resumes paper_room ((too.arrives ∙ state_there) i))
+      ∙ run_same (s.limit - e.cost) s.resumes paper_room k (at_entry (first_state s.size tape) e)
+      ∙ ap (end_later k) (sym (ran_later s.limit s.resumes paper_room e.cost (first_state s.size tape) into.went fits
+      ∙ ap (run_end (s.limit - e.cost) s.resumes paper_room) into.arrives))
+
+  behind_blanks : BlankTapeIsPassed s tape e m
+  behind_blanks = record { well = well_too; comes = comes_too; runs = runs }
+
+pub each_tape_is_so : EachTapeIsSo
+each_tape_is_so = record { behind_blanks = behind_blanks; for_one_loader = for_one_loader; cheap = cheap }

@@ -1,0 +1,405 @@
+-- The letters of a trace are the orders of its run, and its Zs are the stops.
+use Rattle.std.proofs.Common.{◌≡◌, ◌∙◌, ℕ, zero, suc, ◌+◌, ◌^◌, ◌<◌, ◌≤◌, refl, sym, ap, subst, arith}
+use Rattle.std.proofs.Common.{Bool, true, false, ◌≢◌, nat_eq, nat_lt, nat_le, Option, Some, None}
+use Rattle.std.proofs.Common.{List, [], ◌∷◌, ◌++◌, length, length-append}
+use Rattle.std.specs.Prelude.{◌==◌, if◌then◌else◌, not}
+use Rattle.std.specs.List.{filter}
+use Rattle.std.proofs.lemmas.Bool.Decides.{nat_tests}
+use Rattle.std.proofs.lemmas.List.Elements.{filter-append}
+use Rattle.std.proofs.lemmas.Option.{none-some, same_Some}
+use Rattle.ed_words.specs.Texts.{Text}
+use Rattle.ed_words.specs.Words.{function_of}
+use Rattle.ed_codes.specs.Spelling.{byte_of}
+use Rattle.ed_orders.specs.Kinds.{kind_of_function}
+use Rattle.ed_orders.specs.declared.kind.Kind.{Kind}
+use Rattle.ed_orders.specs.declared.kind.Kind.TheVariants.{A, S, H, V, N, T, U, C, R, L, E, G, I, O, F, X, Y, Z}
+use Rattle.ed_machine.specs.State.{State}
+use Rattle.ed_machine.specs.OrderTable.{jump_order, next_word, obey_word, place_of, row_order, step}
+use Rattle.ed_machine.specs.Steps.{AreObeyed, progress, state_after, stops_of}
+use Rattle.ed_machine.specs.declared.turn.Turn.{Turn}
+use Rattle.ed_machine.specs.declared.turn.Turn.TheVariants.{Went, Printed, Stopped as Stops}
+use Rattle.ed_machine.specs.declared.turn.Turn.TheVariants.{NoOrder as IsNoOrder, NoTape as HasNoTape}
+use Rattle.ed_machine.specs.declared.ending.Ending.{Ending}
+use Rattle.ed_machine.specs.declared.ending.Ending.TheVariants.{Stopped, Limit, NoOrder, NoTape, PaperFull}
+use Rattle.ed_report.specs.Traces.{functions_after}
+use Rattle.std.specs.Prelude.{map}
+use Rattle.ed_machine.specs.OrderTable.{Obeyed, stop_order}
+use Rattle.ed_machine.specs.Steps.{Progress, is_obeyed}
+use Rattle.ed_machine.proofs.Counts.{counted_after}
+use Rattle.ed_words.specs.declared.size.Size.{Size}
+use Rattle.ed_initial.specs.Entry.{first_state}
+use Rattle.ed_answers.specs.Runs.{paper_room, status_of}
+use Rattle.ed_machine.proofs.Steps.{next_stops, past_next}
+use Rattle.ed_run.specs.Run.{RunEnd, end_by, run_end, run_orders}
+use Rattle.ed_run.proofs.Ends.{ran_ends}
+use Rattle.ed_stepper.specs.Traces.{trace_to}
+use Rattle.ed_top.specs.Traces.{letters_in}
+use Rattle.ed_laws.proofs.LetterTests.{letter_says}
+use Rattle.ed_laws.proofs.Stepped.{bare_trace, map_both}
+use Rattle.ed_laws.specs.TraceAccounts.{EachTraceAccounts, IsBehindStop, stops_in}
+
+-- ---- an order is a stop if its function is that of Z
+
+-- what is said of an order of a kind, or of none
+abbrev IsStopOf : Option Kind → Turn → Type 0
+IsStopOf (Some Z) turn = stops_of turn ≡ 1
+IsStopOf kind turn = stops_of turn ≡ 0
+
+module _ (w : ℕ) (s : State) where
+  jump_goes : (b : Bool) (n : ℕ) → stops_of (jump_order b n s).turn ≡ 0
+  jump_goes true n = refl
+  jump_goes false n = refl
+
+  row_goes : (rows : List ℕ) → stops_of (row_order rows w s).turn ≡ 0
+  row_goes [] = refl
+  row_goes (row ∷ rows) = refl
+
+  stops_by_kind : (k : Option Kind) → IsStopOf k (obey_word k w s).turn
+  stops_by_kind None = refl
+  stops_by_kind (Some A) = refl
+  stops_by_kind (Some S) = refl
+  stops_by_kind (Some H) = refl
+  stops_by_kind (Some V) = refl
+  stops_by_kind (Some N) = refl
+  stops_by_kind (Some T) = refl
+  stops_by_kind (Some U) = refl
+  stops_by_kind (Some C) = refl
+  stops_by_kind (Some R) = refl
+  stops_by_kind (Some L) = refl
+  stops_by_kind (Some E) = jump_goes (nat_lt s.acc (2 ^ 70)) (place_of s w)
+  stops_by_kind (Some G) = jump_goes (nat_le (2 ^ 70) s.acc) (place_of s w)
+  stops_by_kind (Some I) = row_goes s.tape
+  stops_by_kind (Some O) = refl
+  stops_by_kind (Some F) = refl
+  stops_by_kind (Some X) = refl
+  stops_by_kind (Some Y) = refl
+  stops_by_kind (Some Z) = refl
+
+stop_turn : (s : State) → IsStopOf (kind_of_function (function_of (next_word s))) (step s).turn
+unfolding step
+stop_turn s = stops_by_kind (next_word s) s (kind_of_function (function_of (next_word s)))
+
+-- ---- letters
+
+abbrev is_stop_kind : Option Kind → Bool
+is_stop_kind (Some Z) = true
+is_stop_kind kind = false
+
+-- a letter counts as a stop
+abbrev one_if : Bool → ℕ
+one_if true = 1
+one_if false = 0
+
+stops_by : (k : Option Kind) (turn : Turn) → IsStopOf k turn → stops_of turn ≡ one_if (is_stop_kind k)
+stops_by None turn h = h
+stops_by (Some A) turn h = h
+stops_by (Some S) turn h = h
+stops_by (Some H) turn h = h
+stops_by (Some V) turn h = h
+stops_by (Some N) turn h = h
+stops_by (Some T) turn h = h
+stops_by (Some U) turn h = h
+stops_by (Some C) turn h = h
+stops_by (Some R) turn h = h
+stops_by (Some L) turn h = h
+stops_by (Some E) turn h = h
+stops_by (Some G) turn h = h
+stops_by (Some I) turn h = h
+stops_by (Some O) turn h = h
+stops_by (Some F) turn h = h
+stops_by (Some X) turn h = h
+stops_by (Some Y) turn h = h
+stops_by (Some Z) turn h = h
+
+-- the letter of a function is Z if it is that of Z, and never a line feed
+letter_of : (f : ℕ) → (is_stop_kind (kind_of_function f) ≡ (byte_of f false == 90)) × (not (byte_of f false == 10) ≡ true)
+letter_of f = (
+  letter_says is_stop_kind (λ byte. byte == 90) refl refl f,
+  sym (letter_says (λ kind. true) (λ byte. not (byte == 10)) refl refl f),
+)
+
+-- the letter of an order is Z if it stops
+letter_stops : (s : State) → stops_of (step s).turn ≡ one_if (byte_of (function_of (next_word s)) false == 90)
+letter_stops s =
+    let f = function_of (next_word s) in
+    stops_by (kind_of_function f) (step s).turn (stop_turn s) ∙ ap one_if (letter_of f).0
+
+-- ---- the letters of many orders
+
+letters_both : (xs ys : Text) → letters_in (xs ++ ys) ≡ letters_in xs ++ letters_in ys
+letters_both = filter-append (λ byte. not (byte == 10))
+
+zeds_both : (xs ys : Text) → stops_in (xs ++ ys) ≡ stops_in xs + stops_in ys
+zeds_both xs ys =
+    ap length (filter-append (λ byte. byte == 90) xs ys)
+    ∙ length-append (filter (λ byte. byte == 90) xs) (filter (λ byte. byte == 90) ys)
+
+one_kept : (byte : ℕ) → not (byte == 10) ≡ true → letters_in (byte ∷ []) ≡ byte ∷ []
+one_kept byte h = rw h refl
+
+one_zed : (byte : ℕ) → stops_in (byte ∷ []) ≡ one_if (byte == 90)
+one_zed byte = by_test (byte == 90)
+  where
+    by_test : (b : Bool) → length (if b then byte ∷ [] else []) ≡ one_if b
+    by_test true = refl
+    by_test false = refl
+
+-- the letter of the next order
+abbrev pub next_letter : State → ℕ
+next_letter s = byte_of (function_of (next_word s)) false
+
+-- the trace of one order more has its letter more
+pub more_letters : (k : ℕ) (s : State)
+    → letters_in (trace_to (suc k) s) ≡ letters_in (trace_to k s) ++ next_letter (state_after k s) ∷ []
+unfolding functions_after
+more_letters k s =
+    let f = function_of (next_word (state_after k s)) in
+    bare_trace (functions_after (suc k) s)
+    ∙ ap letters_in (map_both (functions_after k s) (f ∷ []))
+    ∙ letters_both (map (λ g. byte_of g false) (functions_after k s)) (byte_of f false ∷ [])
+    ∙ (λ i. sym (bare_trace (functions_after k s)) i ++ one_kept (byte_of f false) (letter_of f).1 i)
+
+none_yet : (s : State) → letters_in (trace_to 0 s) ≡ []
+unfolding functions_after
+none_yet s = refl
+
+-- there are as many as orders
+pub letters_count : (k : ℕ) (s : State) → length (letters_in (trace_to k s)) ≡ k
+letters_count zero s = ap length (none_yet s)
+letters_count (suc k) s =
+    let one : length (letters_in (trace_to k s)) + 1 ≡ suc k = omega (arith, letters_count k s) in
+    ap length (more_letters k s) ∙ length-append (letters_in (trace_to k s)) (next_letter (state_after k s) ∷ []) ∙ one
+
+-- and as many Zs as stops
+pub zeds_count : (k : ℕ) (s : State) → stops_in (letters_in (trace_to k s)) ≡ (progress k s).stops
+unfolding progress
+zeds_count zero s = ap stops_in (none_yet s)
+zeds_count (suc k) s =
+    ap stops_in (more_letters k s)
+    ∙ zeds_both (letters_in (trace_to k s)) (next_letter (state_after k s) ∷ [])
+    ∙ (λ i. zeds_count k s i + (one_zed (next_letter (state_after k s)) ∙ sym (letter_stops (state_after k s))) i)
+
+-- ---- a run that ends at a stop
+
+none_at_first : (s : State) → (progress 0 s).stops ≡ 0
+unfolding progress
+none_at_first s = refl
+
+not_stopped_by : (turn : Turn) (full : Bool) → end_by turn full ≡ Some Stopped → ⊥
+not_stopped_by (IsNoOrder function) full h = cc
+not_stopped_by HasNoTape full h = cc
+not_stopped_by Went full h = cc
+not_stopped_by (Printed code) true h = cc
+not_stopped_by (Printed code) false h = cc
+not_stopped_by Stops full h = cc
+
+module _ (limit resumes room : ℕ) (s : State) where
+  abbrev k : ℕ
+  k = run_orders limit resumes room s
+
+  abbrev ran : RunEnd
+  ran = run_end limit resumes room s
+
+  -- then there are more stops than resumes
+  more_stops : ran.ending ≡ Stopped → resumes < (progress k s).stops
+  more_stops is = by_tests (nat_lt resumes (progress k s).stops) (nat_eq k limit) refl
+      ((ran_ends limit resumes room s).now ∙ ap Some is)
+    where
+      by_tests : (b c : Bool) → nat_lt resumes (progress k s).stops ≡ b
+          → (if b then Some Stopped else if c then Some Limit
+          else end_by (step (state_after k s)).turn (nat_le room (length (progress k s).codes))) ≡ Some Stopped
+          → resumes < (progress k s).stops
+      by_tests true c e h = grind (arith, nat_tests)
+      by_tests false true e h = absurd (cc)
+      by_tests false false e h = absurd (not_stopped_by (step (state_after k s)).turn _ h)
+
+  -- and not otherwise
+  no_more : ran.ending ≢ Stopped → (progress k s).stops ≤ resumes
+  no_more other = by_test (nat_lt resumes (progress k s).stops) refl (ran_ends limit resumes room s).now
+    where
+      by_test : (b : Bool) → nat_lt resumes (progress k s).stops ≡ b
+          → (if b then Some Stopped else if nat_eq k limit then Some Limit
+          else end_by (step (state_after k s)).turn (nat_le room (length (progress k s).codes))) ≡ Some ran.ending
+          → (progress k s).stops ≤ resumes
+      by_test true e h = absurd (other (sym (same_Some Stopped ran.ending h)))
+      by_test false e h = grind (arith, nat_tests)
+
+  -- before that there were not
+  few_before : (j : ℕ) → j < k → (progress j s).stops ≤ resumes
+  few_before j less = by_test (nat_lt resumes (progress j s).stops) refl ((ran_ends limit resumes room s).first j less)
+    where
+      by_test : (b : Bool) → nat_lt resumes (progress j s).stops ≡ b
+          → (if b then Some Stopped else if nat_eq j limit then Some Limit
+          else end_by (step (state_after j s)).turn (nat_le room (length (progress j s).codes))) ≡ None
+          → (progress j s).stops ≤ resumes
+      by_test true e h = absurd (none-some Stopped (sym h))
+      by_test false e h = grind (arith, nat_tests)
+
+  -- the last order was the stop
+  pub record EndsByStop : Type 0 where
+    pub before : ℕ
+    pub count : k ≡ suc before
+    pub turn : stops_of (step (state_after before s)).turn ≡ 1
+    pub all : (progress k s).stops ≡ resumes + 1
+
+  one_or_none : (t : Turn) → stops_of t ≤ 1
+  one_or_none Stops = omega arith
+  one_or_none Went = omega arith
+  one_or_none (Printed code) = omega arith
+  one_or_none (IsNoOrder function) = omega arith
+  one_or_none HasNoTape = omega arith
+
+  pub ends_by_stop : ran.ending ≡ Stopped → EndsByStop
+  ends_by_stop is = by_count k refl
+    where
+      by_count : (n : ℕ) → k ≡ n → EndsByStop
+      by_count zero e =
+          absurd (omega (arith, more_stops is, ap (λ n. (progress n s).stops) e, none_at_first s))
+      by_count (suc j) e =
+          let plus : j + 1 ≡ suc j = omega arith in
+          let stops : (progress k s).stops ≡ (progress j s).stops + stops_of (step (state_after j s)).turn =
+          ap (λ n. (progress n s).stops) (e ∙ sym plus) ∙ next_stops j s in
+          let less : j < k = omega (arith, e) in
+          record {
+            before = j;
+            count = e;
+            turn = omega (arith, stops, more_stops is, few_before j less, one_or_none (step (state_after j s)).turn);
+            all = omega (arith, stops, more_stops is, few_before j less, one_or_none (step (state_after j s)).turn);
+          }
+
+-- ---- the order before the counter
+
+stop_by : (k : Option Kind) (w : ℕ) (s : State) → stops_of (obey_word k w s).turn ≡ 1
+    → (k ≡ Some Z) × (obey_word k w s ≡ stop_order s)
+stop_by (Some Z) w s h = (refl, refl)
+stop_by None w s h = absurd (omega (arith, h))
+stop_by (Some A) w s h = absurd (omega (arith, h))
+stop_by (Some S) w s h = absurd (omega (arith, h))
+stop_by (Some H) w s h = absurd (omega (arith, h))
+stop_by (Some V) w s h = absurd (omega (arith, h))
+stop_by (Some N) w s h = absurd (omega (arith, h))
+stop_by (Some T) w s h = absurd (omega (arith, h))
+stop_by (Some U) w s h = absurd (omega (arith, h))
+stop_by (Some C) w s h = absurd (omega (arith, h))
+stop_by (Some R) w s h = absurd (omega (arith, h))
+stop_by (Some L) w s h = absurd (omega (arith, h))
+stop_by (Some E) w s h = absurd (omega (arith, h, jump_goes w s (nat_lt s.acc (2 ^ 70)) (place_of s w)))
+stop_by (Some G) w s h = absurd (omega (arith, h, jump_goes w s (nat_le (2 ^ 70) s.acc) (place_of s w)))
+stop_by (Some I) w s h = absurd (omega (arith, h, row_goes w s s.tape))
+stop_by (Some O) w s h = absurd (omega (arith, h))
+stop_by (Some F) w s h = absurd (omega (arith, h))
+stop_by (Some X) w s h = absurd (omega (arith, h))
+stop_by (Some Y) w s h = absurd (omega (arith, h))
+
+behind_stop : (s : State) → stops_of (step s).turn ≡ 1 → IsBehindStop (step s).state
+unfolding step
+behind_stop s h =
+    let both = stop_by (kind_of_function (function_of (next_word s))) (next_word s) s h in
+    subst (λ (o : Obeyed). IsBehindStop o.state) (sym both.1) (record { at = s.counter; next = refl; stop = both.0 })
+
+pub run_behind_stop : (limit resumes room : ℕ) (s : State) → (run_end limit resumes room s).ending ≡ Stopped
+    → IsBehindStop (run_end limit resumes room s).state
+unfolding run_end
+run_behind_stop limit resumes room s is =
+    let e = ends_by_stop limit resumes room s is in
+    let plus : run_orders limit resumes room s ≡ e.before + 1 = omega (arith, e.count) in
+    subst IsBehindStop
+    (sym (ap (λ n. state_after n s) plus ∙ ap (λ (p : Progress). p.state) (past_next e.before s)))
+    (behind_stop (state_after e.before s) e.turn)
+
+-- ---- the whole run
+
+free_by : (turn : Turn) (full : Bool) → end_by turn full ≡ None → is_obeyed turn ≡ true
+free_by Went full h = refl
+free_by Stops full h = refl
+free_by (Printed code) full h = refl
+free_by (IsNoOrder function) full h = absurd (none-some NoOrder (sym h))
+free_by HasNoTape full h = absurd (none-some NoTape (sym h))
+
+-- each of its orders is obeyed
+run_free : (limit resumes room : ℕ) (s : State) → AreObeyed (run_orders limit resumes room s) s
+run_free limit resumes room s j less =
+    by_tests (nat_lt resumes (progress j s).stops) (nat_eq j limit) ((ran_ends limit resumes room s).first j less)
+  where
+    turn : Turn
+    turn = (step (state_after j s)).turn
+
+    by_tests : (b c : Bool)
+        → (if b then Some Stopped else if c then Some Limit
+        else end_by turn (nat_le room (length (progress j s).codes))) ≡ None
+        → is_obeyed turn ≡ true
+    by_tests true c h = absurd (none-some Stopped (sym h))
+    by_tests false true h = absurd (none-some Limit (sym h))
+    by_tests false false h = free_by turn _ h
+
+-- so they are counted
+run_counted : (limit resumes room : ℕ) (s : State) → s.orders ≡ 0
+    → (run_end limit resumes room s).state.orders ≡ run_orders limit resumes room s
+unfolding run_end
+run_counted limit resumes room s none =
+    let count = counted_after (run_orders limit resumes room s) s (run_free limit resumes room s) in
+    omega (arith, count, none)
+
+none_done : (z : Size) (rows : List ℕ) → (first_state z rows).orders ≡ 0
+unfolding first_state
+none_done z rows = refl
+
+stopped_is : (e : Ending) → status_of e ≡ 0 → e ≡ Stopped
+stopped_is Stopped h = refl
+stopped_is Limit h = absurd (omega (arith, h))
+stopped_is NoOrder h = absurd (omega (arith, h))
+stopped_is NoTape h = absurd (omega (arith, h))
+stopped_is PaperFull h = absurd (omega (arith, h))
+
+zed_is : (byte : ℕ) → 1 ≡ one_if (byte == 90) → byte ≡ 90
+zed_is byte = by_test (byte == 90) refl
+  where
+    by_test : (b : Bool) → (byte == 90) ≡ b → 1 ≡ one_if b → byte ≡ 90
+    by_test true is h = grind (arith, nat_tests)
+    by_test false is h = absurd (omega (arith, h))
+
+module _ (limit resumes : ℕ) (s : State) where
+  abbrev n : ℕ
+  n = run_orders limit resumes limit s
+
+  abbrev end : Ending
+  end = (run_end limit resumes limit s).ending
+
+  stop_by_zeds : stops_in (letters_in (trace_to n s)) ≡ resumes + 1 → status_of end ≡ 0
+  stop_by_zeds zeds = by_ending end refl
+    where
+      other : end ≢ Stopped → status_of end ≡ 0
+      other not = absurd (omega (arith, no_more limit resumes limit s not, zeds, zeds_count n s))
+
+      by_ending : (e : Ending) → end ≡ e → status_of end ≡ 0
+      by_ending Stopped is = ap status_of is
+      by_ending Limit is = other (λ h. let bad : Limit ≡ Stopped = sym is ∙ h in cc)
+      by_ending NoOrder is = other (λ h. let bad : NoOrder ≡ Stopped = sym is ∙ h in cc)
+      by_ending NoTape is = other (λ h. let bad : NoTape ≡ Stopped = sym is ∙ h in cc)
+      by_ending PaperFull is = other (λ h. let bad : PaperFull ≡ Stopped = sym is ∙ h in cc)
+
+  last_zed : end ≡ Stopped → (before : Text) × (letters_in (trace_to n s) ≡ before ++ 90 ∷ [])
+  last_zed is =
+      let e = ends_by_stop limit resumes limit s is in
+      let letter : next_letter (state_after e.before s) ≡ 90 =
+      zed_is (next_letter (state_after e.before s)) (sym e.turn ∙ letter_stops (state_after e.before s)) in (
+        letters_in (trace_to e.before s),
+        ap (λ m. letters_in (trace_to m s)) e.count ∙ more_letters e.before s
+            ∙ ap (λ byte. letters_in (trace_to e.before s) ++ byte ∷ []) letter,
+      )
+
+pub each_trace_accounts : EachTraceAccounts
+each_trace_accounts s rows =
+    let first = first_state s.size rows in
+    let n = run_orders s.limit s.resumes s.limit first in
+    record {
+      orders = letters_count n first ∙ sym (run_counted s.limit s.resumes s.limit first (none_done s.size rows));
+      stops = (
+        λ done.
+            zeds_count n first ∙ (ends_by_stop s.limit s.resumes s.limit first (stopped_is _ done)).all,
+        stop_by_zeds s.limit s.resumes first,
+      );
+      last = λ done. last_zed s.limit s.resumes first (stopped_is _ done);
+      behind = λ done. run_behind_stop s.limit s.resumes s.limit first (stopped_is _ done);
+      tape_behind = λ done. run_behind_stop s.limit s.resumes paper_room first (stopped_is _ done);
+    }
