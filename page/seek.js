@@ -63,7 +63,7 @@ function seek(running) {
         return;
     }
     const orders = shown.orders - from;
-    const key = shown.ending !== 'limit' ? 'notReached' : shown.counter === place ? 'reached' : 'notReachedYet';
+    const key = shown.ending !== 'limit' ? 'notReached' : shown.counter !== place ? 'notReachedYet' : orders === 1 ? 'reachedNext' : 'reached';
     endRun();
     sayAt('reached', () => page.words.say(key, { place, orders: page.words.number(orders) }));
 }

@@ -168,26 +168,7 @@ async function places(b) {
         await b.press('#write', kind);
         await b.press('#new', kind);
         await b.write('#text', LOOP, kind);
-        await b.press('#toProgram', kind);
-        const entry = await b.run(() => {
-            let shown = pictureAt(0);
-            while (shown.counter < 41) {
-                shown = pictureAt(shown.orders + 1, shown);
-            }
-            return [shown.orders, page.shown.orders, page.shown.counter];
-        });
-        await b.expect(`${where}: the program's first order`, entry.slice(1), [entry[0], 56]);
-        for (const [place, orders, number] of [[59, 3, 3], [59, 8, 5], [56, 10, 2], [57, 11, 1]]) {
-            await b.write('#placeWanted', String(place), kind);
-            await (orders === 8 ? b.key('Enter') : b.press('#toPlace', kind));
-            await b.until('page.running === undefined');
-            await b.expect(`${where}: to place ${place}`, await b.ask('[page.shown.counter, page.shown.orders, by("reached").textContent]'),
-                [place, entry[0] + orders, await say('reached', { place, orders: number })]);
-        }
-        await b.expect(`${where}: the same picture as from Start`, await b.run(() => {
-            const wanted = page.machine.picture(page.program, page.shown.orders), { words, acc, counter } = page.shown;
-            return [words.join() === wanted.words.join(), acc === wanted.acc, counter === wanted.counter, page.shown.way.text(0, page.shown.printed) === wanted.paper];
-        }), [true, true, true, true]);
+        await reached(b, kind, where, say);
         await b.write('#placeWanted', '1024', kind);
         await b.press('#toPlace', kind);
         await b.expect(`${where}: no such place`, [await b.text('reached'), await b.ask('page.running === undefined')], [await say('noSuchPlace', { last: 1023 }), true]);
@@ -205,6 +186,30 @@ async function places(b) {
         await b.until('page.running === undefined && page.shown.ending === "stopped"');
         await b.expect(`${where}: the machine stops before`, await b.text('reached'), await say('notReached', { place: 900 }));
     });
+}
+
+// The program's first order, and places that are reached: it stops there, in the picture that a run from Start has too.
+async function reached(b, kind, where, say) {
+    await b.press('#toProgram', kind);
+    const [entry, ...at] = await b.run(() => {
+        let shown = pictureAt(0);
+        while (shown.counter < 41) {
+            shown = pictureAt(shown.orders + 1, shown);
+        }
+        return [shown.orders, page.shown.orders, page.shown.counter];
+    });
+    await b.expect(`${where}: the program's first order`, at, [entry, 56]);
+    for (const [place, orders, number] of [[59, 3, 3], [59, 8, 5], [56, 10, 2], [57, 11, 1]]) {
+        await b.write('#placeWanted', String(place), kind);
+        await (orders === 8 ? b.key('Enter') : b.press('#toPlace', kind));
+        await b.until('page.running === undefined');
+        await b.expect(`${where}: to place ${place}`, await b.ask('[page.shown.counter, page.shown.orders, by("reached").textContent]'),
+            [place, entry + orders, await say(number === 1 ? 'reachedNext' : 'reached', { place, orders: number })]);
+    }
+    await b.expect(`${where}: the same picture as from Start`, await b.run(() => {
+        const wanted = page.machine.picture(page.program, page.shown.orders), { words, acc, counter } = page.shown;
+        return [words.join() === wanted.words.join(), acc === wanted.acc, counter === wanted.counter, page.shown.way.text(0, page.shown.printed) === wanted.paper];
+    }), [true, true, true, true]);
 }
 
 // A place to which the program never comes: so many orders are tried, in slices.

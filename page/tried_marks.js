@@ -129,7 +129,36 @@ function bandContrasts() {
     return [Math.min(...texts) >= 4.5, ratio(value('next'), value('button')) >= 3, ratio(value('label'), value('button')) >= 3];
 }
 
-// The rules of the page in the workbench, with a lesson, at a stop, with marks, and with a refused text.
+const STATES = {
+    'with marks': () => { chooseExample(EXAMPLES.findIndex(({ name }) => name === 'hello.edsac')); look(1037); findPlace(70); },
+    'with a refused text': () => { put({ text: 'segment main\nz F\n', kind: 'source' }); },
+    'with a word that is open': () => {
+        chooseExample(EXAMPLES.findIndex(({ name }) => name === 'hello.edsac'));
+        look(1037);
+        openWord(57);
+        flip(3);
+    },
+};
+
+// The rules of what is shown, in some schemes.
+async function keepsRules(b, where, schemes) {
+    for (const features of schemes) {
+        await b.send('Emulation.setEmulatedMedia', { features });
+        const here = `${where}, ${features.map(({ value }) => value).join(', ')}`;
+        await b.expect(`${here}: contrast`, await b.run(rules.EACH['contrast of 4.5 and more']), []);
+        await b.expect(`${here}: borders`, await b.run(rules.EACH['borders of 3 and more']), []);
+        if (features.length === 1) {
+            await b.expect(`${here}: the marks`, await b.run(bandContrasts), [true, true, true]);
+        }
+    }
+    await b.send('Emulation.setEmulatedMedia', { features: [] });
+    for (const rule of ['each control has a name', 'headings are headings', 'each id is there once']) {
+        await b.expect(`${where}: ${rule}`, await b.run(rules.EACH[rule]), []);
+    }
+    await b.expect(`${where}: nothing beyond its sides`, await b.ask('document.documentElement.scrollWidth <= innerWidth'), true);
+}
+
+// The rules of the page in the workbench, with a lesson, with marks, with a refused text and with a word that is open.
 async function benchRules(b) {
     const was = b.session;
     for (const screen of [{ wide: 1366, high: 768, kind: 'mouse' }, { wide: 360, high: 740, kind: 'touch' }]) {
@@ -137,27 +166,9 @@ async function benchRules(b) {
         await b.run(rules.install);
         await b.press('#write', screen.kind);
         await chooseLesson(b, 3);
-        const STATES = {
-            'with marks': () => { chooseExample(EXAMPLES.findIndex(({ name }) => name === 'hello.edsac')); look(1037); findPlace(70); },
-            'with a refused text': () => { put({ text: 'segment main\nz F\n', kind: 'source' }); },
-            'with a word that is open': () => { chooseExample(EXAMPLES.findIndex(({ name }) => name === 'hello.edsac')); look(1037); openWord(57); flip(3); },
-        };
         for (const [what, state] of Object.entries(STATES)) {
             await b.run(state);
-            for (const features of screen.kind === 'mouse' ? SCHEMES : SCHEMES.slice(0, 2)) {
-                await b.send('Emulation.setEmulatedMedia', { features });
-                const where = `the workbench of ${screen.wide} ${what}, ${features.map(({ value }) => value).join(', ')}`;
-                await b.expect(`${where}: contrast`, await b.run(rules.EACH['contrast of 4.5 and more']), []);
-                await b.expect(`${where}: borders`, await b.run(rules.EACH['borders of 3 and more']), []);
-                if (features.length === 1) {
-                    await b.expect(`${where}: the marks`, await b.run(bandContrasts), [true, true, true]);
-                }
-            }
-            await b.send('Emulation.setEmulatedMedia', { features: [] });
-            for (const rule of ['each control has a name', 'headings are headings', 'each id is there once']) {
-                await b.expect(`the workbench of ${screen.wide} ${what}: ${rule}`, await b.run(rules.EACH[rule]), []);
-            }
-            await b.expect(`the workbench of ${screen.wide} ${what}: nothing beyond its sides`, await b.ask('document.documentElement.scrollWidth <= innerWidth'), true);
+            await keepsRules(b, `the workbench of ${screen.wide} ${what}`, screen.kind === 'mouse' ? SCHEMES : SCHEMES.slice(0, 2));
         }
         if (screen.kind === 'touch') {
             await b.expect('buttons for a thumb', await b.run(rules.smallControls), []);
