@@ -156,7 +156,7 @@ function draw(isGliding = false) {
 
 // A refused text has no picture.
 function drawNothing() {
-    const texts = ['place', 'meaning', 'done', 'did', 'who', 'note', 'paper', 'accNumber'];
+    const texts = ['place', 'meaning', 'done', 'did', 'who', 'note', 'paper', 'accNumber', 'times'];
     for (const id of [...texts, 'orders', 'counter', 'order', 'acc', 'multiplier', 'last', 'look']) {
         by(id).textContent = '';
     }

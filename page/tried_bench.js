@@ -157,7 +157,7 @@ async function typing(b) {
         await b.expect(`${where}: Run reads what was just typed`, await b.until('page.program.text.includes("Q F") && page.shown.ending === "stopped"', 20), true);
         await b.write('#text', LETTER.replace('Z F', 'Z'), kind);
         await b.key('Enter', CONTROL);
-        await b.expect(`${where}: a refused text doesn't run`, await b.ask('[by("refusal").hidden, isAlive(), page.running === undefined]'), [false, false, true]);
+        await b.expect(`${where}: a refused text doesn't run`, await b.ask('[by("refusal").hidden, isAlive(), page.running === undefined, by("times").textContent]'), [false, false, true, '']);
     });
 }
 

@@ -66,7 +66,7 @@ async function thereAndBack(b, kind, where) {
     await b.expect(`${where}: by the line's number`, await b.run(found), ['61']);
     await b.expect(`${where}: which shows the rows`, await b.run(() => {
         const { top, bottom } = document.querySelector('#lens .found').getBoundingClientRect();
-        return top >= 0 && bottom <= innerHeight;
+        return top >= 0 && bottom <= innerHeight - (isOneScreen() ? 0 : document.querySelector('.buttons').offsetHeight);
     }), true);
     const row = await b.ask('lens.places.indexOf(62) + 1');
     await b.press(`#lens tbody tr:nth-child(${row}) .brief`, kind);
@@ -75,6 +75,7 @@ async function thereAndBack(b, kind, where) {
         const { top, bottom } = document.querySelector('#marks .found').getBoundingClientRect(), box = by('text').getBoundingClientRect();
         return top >= box.top && bottom <= box.bottom && top >= 0 && bottom <= innerHeight;
     }), true);
+    await b.ask('by("lens").scrollIntoView({ block: "center" }); 0');
     await b.press(`#lens tbody tr:nth-child(${row}) button`, kind);
     await b.expect(`${where}: a row's number opens its word`, await b.ask('[by("word").hidden, opened.place]'), [false, 62]);
     await b.press('#wordClose', kind);
