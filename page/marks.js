@@ -88,14 +88,13 @@ function lineSizes() {
         const { paddingTop, paddingLeft, lineHeight } = getComputedStyle(by('text'));
         const first = boxOf(0), last = boxOf(numbers.length - DIGITS_OF_LINE), lines = numbers.data.split('\n').length;
         return { pitch: lines > 1 ? (last.top - first.top) / (lines - 1) : parseFloat(lineHeight), column: first.width / DIGITS_OF_LINE,
-            top: parseFloat(paddingTop), left: by('text').offsetLeft + parseFloat(paddingLeft), edge: by('text').offsetLeft,
-            high: by('text').clientHeight };
+            top: parseFloat(paddingTop), left: by('text').offsetLeft + parseFloat(paddingLeft), edge: by('text').offsetLeft };
     });
 }
 
 // Scrolls the text, if a line is outside of what is seen of it.
 function seeLine(line) {
-    const { pitch, high } = lineSizes();
+    const { pitch } = lineSizes(), high = by('text').clientHeight;
     if (line * pitch < marked.top || (line + 2) * pitch > marked.top + high) {
         by('text').scrollTop = Math.max(0, line * pitch - high / 3);
         follows();
@@ -141,7 +140,7 @@ function findNumber(event) {
     const { pitch, top } = lineSizes();
     const line = Math.floor((event.clientY - by('lines').getBoundingClientRect().top - top + marked.top) / pitch);
     const part = marked.parts.find((one) => one.line === line);
-    if (isTextShown() && line >= 0) {
+    if (isTextShown() && line >= 0 && line < page.program.text.split('\n').length) {
         halt();
         marked.lineless = part ? undefined : { line, shown: page.shown };
         findPlace(part && part.places[0]);
