@@ -5,7 +5,9 @@ const fs = require('fs');
 const os = require('os');
 const path = require('path');
 
-const KEY_CODES = { Shift: [16, undefined], Enter: [13, '\r'], Tab: [9, undefined], ArrowRight: [39, undefined], ArrowLeft: [37, undefined] };
+const ARROWS = { ArrowLeft: [37], ArrowUp: [38], ArrowRight: [39], ArrowDown: [40] };
+const KEY_CODES = { Shift: [16], Enter: [13, '\r'], Tab: [9], ...ARROWS };
+const CONTROL = 2; // among the keys that are held
 
 // Where the middle of a part of the page is in the window, and what is over it; undefined if it isn't seen. It is scrolled to,
 // if it is outside.
@@ -156,6 +158,15 @@ class Browser {
             const typed = type === 'keyDown' ? { text } : {};
             await this.send('Input.dispatchKeyEvent', { type, key: name, windowsVirtualKeyCode: code, ...typed });
         }
+    }
+
+    // Writes a text into the box that has the focus, instead of what is there.
+    async write(text) {
+        const all = { key: 'a', windowsVirtualKeyCode: 65, modifiers: CONTROL, commands: ['selectAll'] };
+        for (const type of ['rawKeyDown', 'keyUp']) {
+            await this.send('Input.dispatchKeyEvent', { type, ...all });
+        }
+        await this.send('Input.insertText', { text });
     }
 
     async shot(name, params = {}) {

@@ -91,7 +91,10 @@ function valueOf({ type, value }) {
     return type === 'null' ? null : value;
 }
 
-const KEY_VALUES = { Shift: '\uE008', Enter: '\uE007', Tab: '\uE004', ArrowRight: '\uE014', ArrowLeft: '\uE012' };
+const KEY_VALUES = {
+    Shift: '\uE008', Enter: '\uE007', Tab: '\uE004', Control: '\uE009',
+    ArrowRight: '\uE014', ArrowLeft: '\uE012', ArrowUp: '\uE013', ArrowDown: '\uE015',
+};
 
 class Firefox extends Visitor {
     start(command) {
@@ -151,6 +154,15 @@ class Firefox extends Visitor {
     key(name) {
         const value = KEY_VALUES[name] || name;
         const actions = ['keyDown', 'keyUp'].map((type) => ({ type, value }));
+        return this.tell('input.performActions', { context: this.context, actions: [{ type: 'key', id: 'keys', actions }] });
+    }
+
+    // Writes a text into the box that has the focus, instead of what is there, key by key.
+    write(text) {
+        const stroke = (value) => ['keyDown', 'keyUp'].map((type) => ({ type, value }));
+        const [down, up] = stroke(KEY_VALUES.Control);
+        const keys = [...text].map((sign) => (sign === '\n' ? KEY_VALUES.Enter : sign));
+        const actions = [down, ...stroke('a'), up, ...keys.flatMap(stroke)];
         return this.tell('input.performActions', { context: this.context, actions: [{ type: 'key', id: 'keys', actions }] });
     }
 

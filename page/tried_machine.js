@@ -261,7 +261,7 @@ async function postMortem(b) {
     await b.speak('de');
     await b.click('pmPrint');
     await b.expect('and in German', [await b.text('pm'), await b.text('pmSaid')],
-        [wanted, 'Gedruckt vom Speicher nach 4.650 Befehlen.']);
+        [wanted, 'Das stand nach 4.650 Befehlen im Speicher.']);
     await b.speak('en');
     await b.expect('it is of one picture alone', await b.text('pm'), '');
     await b.set('pmFirst', '100');
