@@ -19,9 +19,9 @@ here = pathlib.Path("page")
 FIRST = ["letter.tape", "name.tape", "digits.tape", "hello.edsac", "squares.edsac", "roots.edsac"]
 KINDS = {".tape": "tape", ".tape1": "tape1", ".edsac": "source"}
 CODE = [
-    "machine", "way", "words", "paint", "map", "tape", "lens", "rows", "registers", "paper", "travel", "moves", "sound", "sentence",
+    "machine", "way", "words", "figures", "paint", "map", "tape", "lens", "rows", "registers", "paper", "travel", "moves", "sound", "sentence",
     "parts", "strip", "share", "editor", "printing", "program", "below", "said", "tongues", "stories", "tour", "items", "fault", "lessons",
-    "loaders", "guard", "kiosk", "keyboard", "copy", "word", "controls", "listen", "page",
+    "loaders", "guard", "kiosk", "keyboard", "copy", "word", "controls", "seek", "lines", "marks", "bench", "listen", "page",
 ]
 
 
@@ -84,7 +84,7 @@ code = [
     *[(here / f"{name}.js").read_text("utf-8").replace("'use strict';\n", "", 1) for name in CODE],
 ]
 parts = {
-    "/*STYLE*/": (here / "page.css").read_text("utf-8"),
+    "/*STYLE*/": "\n".join((here / f"{name}.css").read_text("utf-8") for name in ("page", "bench")),
     "/*CODE*/": "\n".join(code),
 }
 page = (here / "page.html").read_text("utf-8")

@@ -53,12 +53,6 @@ function chooseExample(number) {
     });
 }
 
-function write() {
-    halt();
-    by('program').scrollIntoView();
-    by('text').focus();
-}
-
 async function makeLink() {
     const shared = { ...textNow(), orders: isAlive() ? page.shown.orders : 0 };
     const address = `${location.href.split('#')[0]}#p=${await packed(shared)}`;

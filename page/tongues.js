@@ -25,7 +25,7 @@ function speakIn(name) {
     drawPace();
     by('name').placeholder = say('yourName');
     fill('stories', STORIES.map((story) => [story.name, say(`stories.${story.name}`)]));
-    fill('figures', ['binary', 'decimal'].map((form) => [form, say(form)]));
+    fill('figures', FORMS.map((form) => [form, say(`forms.${form}`)]));
     const saysOf = (example) => (name in EXAMPLES_SAY ? EXAMPLES_SAY[name][example.name] : example.says); // it begins in English
     const examples = EXAMPLES.map((example, k) => [String(k), `${saysOf(example)} (${example.name})`]);
     const lessons = LESSONS.map((lesson) => [String(lesson.number), `${lesson.number}: ${textsOf(lesson).title}`]);
