@@ -121,7 +121,11 @@ function listenToBench() {
     press('toLesson', toLesson);
     press('toText', toText);
     by('lesson').addEventListener('change', chosenLesson);
-    by('placeWanted').onkeydown = (event) => event.key === 'Enter' && toPlace();
+    by('placeWanted').onkeydown = (event) => { // any other key does what it does in a box
+        if (event.key === 'Enter') {
+            toPlace();
+        }
+    };
     by('text').onkeydown = (event) => {
         if (event.key === 'Enter' && (event.ctrlKey || event.metaKey)) {
             event.preventDefault();

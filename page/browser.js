@@ -5,9 +5,8 @@ const fs = require('fs');
 const os = require('os');
 const path = require('path');
 
-const ARROWS = { ArrowLeft: [37], ArrowUp: [38], ArrowRight: [39], ArrowDown: [40] };
-const KEY_CODES = { Shift: [16], Enter: [13, '\r'], Tab: [9], ...ARROWS };
-const CONTROL = 2; // among the keys that are held
+const KEY_CODES = { Shift: [16], Enter: [13, '\r'], Tab: [9], ArrowLeft: [37], ArrowUp: [38], ArrowRight: [39], ArrowDown: [40] };
+const SELECT_ALL = { modifiers: 2, text: '', commands: ['selectAll'] }; // Control is held
 
 // Where the middle of a part of the page is in the window, and what is over it; undefined if it isn't seen. It is scrolled to,
 // if it is outside.
@@ -152,21 +151,21 @@ class Browser {
     }
 
     // A key: a sign, or one that has a name.
-    async key(name) {
+    async key(name, held = {}) {
         const [code, text] = KEY_CODES[name] || [name.toUpperCase().charCodeAt(0), name];
         for (const type of ['keyDown', 'keyUp']) {
             const typed = type === 'keyDown' ? { text } : {};
-            await this.send('Input.dispatchKeyEvent', { type, key: name, windowsVirtualKeyCode: code, ...typed });
+            await this.send('Input.dispatchKeyEvent', { type, key: name, windowsVirtualKeyCode: code, ...typed, ...held });
         }
     }
 
-    // Writes a text into the box that has the focus, instead of what is there.
+    // Writes a text into the box that has the focus, instead of what is there: a line key by key, more as if it was pasted.
     async write(text) {
-        const all = { key: 'a', windowsVirtualKeyCode: 65, modifiers: CONTROL, commands: ['selectAll'] };
-        for (const type of ['rawKeyDown', 'keyUp']) {
-            await this.send('Input.dispatchKeyEvent', { type, ...all });
+        await this.key('a', SELECT_ALL);
+        const isLine = !text.includes('\n');
+        for (const part of isLine ? text : [text]) {
+            await (isLine ? this.key(part) : this.send('Input.insertText', { text }));
         }
-        await this.send('Input.insertText', { text });
     }
 
     async shot(name, params = {}) {

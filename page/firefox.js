@@ -157,13 +157,15 @@ class Firefox extends Visitor {
         return this.tell('input.performActions', { context: this.context, actions: [{ type: 'key', id: 'keys', actions }] });
     }
 
-    // Writes a text into the box that has the focus, instead of what is there, key by key.
-    write(text) {
+    // Writes a text into the box that has the focus, instead of what is there: a line key by key, more as if it was pasted.
+    async write(text) {
         const stroke = (value) => ['keyDown', 'keyUp'].map((type) => ({ type, value }));
-        const [down, up] = stroke(KEY_VALUES.Control);
-        const keys = [...text].map((sign) => (sign === '\n' ? KEY_VALUES.Enter : sign));
-        const actions = [down, ...stroke('a'), up, ...keys.flatMap(stroke)];
-        return this.tell('input.performActions', { context: this.context, actions: [{ type: 'key', id: 'keys', actions }] });
+        const [down, up] = stroke(KEY_VALUES.Control), isLine = !text.includes('\n');
+        const actions = [down, ...stroke('a'), up, ...(isLine ? [...text].flatMap(stroke) : [])];
+        await this.tell('input.performActions', { context: this.context, actions: [{ type: 'key', id: 'keys', actions }] });
+        if (!isLine) {
+            await this.run((all) => document.execCommand('insertText', false, all), text);
+        }
     }
 
     size(width, height) {

@@ -78,12 +78,20 @@ function drawLesson() {
         `<details><summary>${escaped(page.words.say(`tables.${name}`))}</summary>${SHEETS[page.words.name][name]}</details>`));
     by('lessonText').innerHTML = `${textsOf(lesson).html}${tables.join('')}`;
     by('lessonText').querySelectorAll('details').forEach((box, k) => { box.open = isOpen[k]; });
-    by('lessonPrograms').replaceChildren(...lesson.programs.map((name) => {
-        const button = document.createElement('button');
-        button.textContent = page.words.say('load', { name });
-        button.onclick = () => loadProgram(name);
-        return button;
-    }));
+    by('lessonPrograms').replaceChildren(...lesson.programs.map(loadButton));
+    by('lessonText').querySelectorAll('.doing strong').forEach((said) => { // where the text names such a button, it has it
+        const name = lesson.programs.find((one) => page.words.say('load', { name: one }) === said.textContent);
+        if (name) {
+            said.replaceWith(loadButton(name));
+        }
+    });
+}
+
+function loadButton(name) {
+    const button = document.createElement('button');
+    button.textContent = page.words.say('load', { name });
+    button.onclick = () => loadProgram(name);
+    return button;
 }
 
 function loadProgram(name) {
@@ -101,13 +109,12 @@ function triedNow(program) {
 
 // What is said of a run that ended in another way than by a stop.
 function endingOf(shown, program) {
-    const orders = page.words.number(TRIED);
-    if (shown.words === undefined) {
-        const { note } = shown;
-        return shown.ending === 'refused' ? page.words.say('checked.refused', { note: note.trim(), ...page.words.refusal(note, program.text, program.kind) })
-            : page.words.say(`ends.${shown.ending}`, { note });
+    const { words } = page, { ending, note } = shown;
+    if (ending === 'refused') {
+        return words.say('checked.refused', { note: note.trim(), ...words.refusal(note, program.text, program.kind) });
     }
-    return page.words.say(`checked.${shown.ending}`, { orders, place: shown.counter });
+    return shown.words ? words.say(`checked.${ending}`, { orders: words.number(TRIED), place: shown.counter })
+        : words.say(ending === 'too long' ? 'tooLong' : `ends.${ending}`, { note });
 }
 
 // What is said of an exercise: whether the program is right, and if not, what differs.
@@ -118,7 +125,8 @@ function verdictOf(due, shown, program) {
         const isResult = shown.words && difference === undefined;
         return `${words.say('notYet')} ${isResult ? words.say('checked.result') : ''} ${endingOf(shown, program)}`;
     }
-    return difference ? `${words.say('notYet')} ${words.say(`checked.${difference.key}`, difference)}` : words.say(`isRight.${due.kind}`, due);
+    return difference ? `${words.say('notYet')} ${words.say(`checked.${difference.key}`, difference)}`
+        : words.say(`isRight.${due.kind}`, due);
 }
 
 function checkLesson() {

@@ -68,6 +68,7 @@ function course(same) {
     same('the sum of nothing', sumOf(''), 'cbf29ce484222325');
     same('the sum of a letter', sumOf('a'), 'af63dc4c8601ec8c');
     differences(same);
+    names(same);
 }
 
 module.exports = { course };
