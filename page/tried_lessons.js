@@ -138,8 +138,9 @@ async function oneLesson(b, number, language) {
 async function lessons(b) {
     const numbers = await b.ask('LESSONS.map((lesson) => lesson.number)');
     await b.expect('nine lessons', numbers, [1, 2, 3, 4, 5, 6, 7, 8, 9]);
-    for (const language of Object.keys(LANGUAGES)) {
+    for (const [language, { exercise }] of Object.entries(LANGUAGES)) {
         await b.speak(language);
+        await b.expect(`the lesson that is shown speaks ${language}`, await b.text('lessonText'), (said) => said === '' || said.includes(exercise));
         for (const number of numbers) {
             await oneLesson(b, number, language);
         }
