@@ -6,8 +6,8 @@ const fs = require('fs');
 const answer = (number) => fs.readFileSync(`examples/answer${number}.edsac`, 'utf8');
 const example = (name) => fs.readFileSync(`examples/${name}.edsac`, 'utf8');
 
-// What each block of the lesson says, step by step: the buttons and boxes, with how often and with which value; and the
-// words of the store that are to be seen then.
+// What each block of the lesson says, step by step: the buttons and boxes, with how often and with which value; the words
+// of the store that are to be seen then; and what is printed.
 function stepsOf() {
     const before = (node) => (node.previousSibling ? node.previousSibling.textContent : '');
     const steps = [...document.querySelectorAll('#lessonText .doing li, #lessonText .doing > p')];
@@ -20,6 +20,7 @@ function stepsOf() {
         })),
         words: [...step.textContent.matchAll(/(?:(?:word at|Wort auf Platz) (\d+)|\b[Ii]t is|\b[Ee]s ist)[^.]*? ([A-Z]\d+[FD])\b/g)]
             .map(([, place, order]) => ({ place, order })),
+        printed: [...step.textContent.matchAll(/(?:It prints|Es druckt) ([A-Z0-9]+)\./g)].map(([, text]) => text),
     }));
 }
 
@@ -85,7 +86,7 @@ async function doPress(b, { name, times, value }) {
 // Does all that a lesson says, and looks at the words that it names.
 async function doSteps(b, what) {
     let place;
-    for (const { presses, words } of await b.run(stepsOf)) {
+    for (const { presses, words, printed } of await b.run(stepsOf)) {
         for (const press of presses) {
             await doPress(b, press);
         }
@@ -93,11 +94,18 @@ async function doSteps(b, what) {
             place = word.place || place;
             await b.expect(`${what}: the word at ${place}`, await b.ask(`orderText(page.shown.words[${place}])`), word.order);
         }
+        for (const text of printed) {
+            await b.expect(`${what}: ${text} is printed`, [await b.text('paper'), await b.text('pm')].map((paper) => paper.trim()),
+                (papers) => papers.includes(text));
+        }
     }
 }
 
+let wrote = 0; // how often something was on the paper when Check was pressed
+
 const verdict = async (b) => {
     const before = await b.ask('window.wasShown = page.shown; by("paper").textContent');
+    wrote += before !== '';
     await b.click('check');
     await b.expect('Check leaves the machine and the paper as they are',
         [await b.ask('window.wasShown === page.shown'), await b.text('paper')], [true, before]);
@@ -131,6 +139,7 @@ async function oneLesson(b, number, language) {
     await b.expect(`${what}: the tables`, await b.run(() => [...document.querySelectorAll('#lessonText details')].map((box) => box.querySelectorAll('table').length)), [1, 2]);
     await b.expect(`${what}: the program is no answer`, await verdict(b), (said) => said.startsWith(notYet));
     await doSteps(b, what);
+    await b.expect(`${what}: nor is what the steps left`, await verdict(b), (said) => said.startsWith(notYet));
     await typeProgram(b, answer(number));
     await b.expect(`${what}: the answer`, await verdict(b), (said) => said.startsWith(right));
 }
@@ -145,6 +154,7 @@ async function lessons(b) {
             await oneLesson(b, number, language);
         }
     }
+    await b.expect('Check was pressed beside papers with something on them', wrote, (count) => count > 4);
     await turns(b);
     await mistakes(b);
     await b.speak('en');
