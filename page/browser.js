@@ -5,8 +5,9 @@ const fs = require('fs');
 const os = require('os');
 const path = require('path');
 
-const KEY_CODES = { Shift: [16], Enter: [13, '\r'], Tab: [9], ArrowLeft: [37], ArrowUp: [38], ArrowRight: [39], ArrowDown: [40] };
-const SELECT_ALL = { modifiers: 2, text: '', commands: ['selectAll'] }; // Control is held
+const KEY_CODES = { Shift: [16, undefined], Enter: [13, '\r'], Tab: [9, undefined], ArrowRight: [39, undefined], ArrowLeft: [37, undefined],
+    ArrowDown: [40, undefined], ArrowUp: [38, undefined], End: [35, undefined], Backspace: [8, undefined] };
+const CONTROL = 2; // of the keys that are held down with another
 
 // Where the middle of a part of the page is in the window, and what is over it; undefined if it isn't seen. It is scrolled to,
 // if it is outside.
@@ -150,22 +151,29 @@ class Browser {
         await this.until('editor.timer === undefined');
     }
 
-    // A key: a sign, or one that has a name.
-    async key(name, held = {}) {
+    // A key: a sign, or one that has a name. With others held down it types nothing.
+    async key(name, modifiers = 0) {
         const [code, text] = KEY_CODES[name] || [name.toUpperCase().charCodeAt(0), name];
         for (const type of ['keyDown', 'keyUp']) {
-            const typed = type === 'keyDown' ? { text } : {};
-            await this.send('Input.dispatchKeyEvent', { type, key: name, windowsVirtualKeyCode: code, ...typed, ...held });
+            const typed = type === 'keyDown' && !modifiers ? { text } : {};
+            await this.send('Input.dispatchKeyEvent', { type, key: name, windowsVirtualKeyCode: code, modifiers, ...typed });
         }
     }
 
-    // Writes a text into the box that has the focus, instead of what is there: a line key by key, more as if it was pasted.
-    async write(text) {
-        await this.key('a', SELECT_ALL);
-        const isLine = !text.includes('\n');
-        for (const part of isLine ? text : [text]) {
-            await (isLine ? this.key(part) : this.send('Input.insertText', { text }));
+    // Writes over what stands in a box, as by typing.
+    async write(selector, text, kind = 'mouse') {
+        await this.press(selector, kind);
+        await this.key('End', CONTROL);
+        const all = { key: 'a', windowsVirtualKeyCode: 65, modifiers: CONTROL };
+        await this.send('Input.dispatchKeyEvent', { type: 'rawKeyDown', commands: ['selectAll'], ...all });
+        await this.send('Input.dispatchKeyEvent', { type: 'keyUp', ...all });
+        if (await this.ask('document.activeElement.type === "number"')) { // where nothing can be selected by a key
+            await this.key('End');
+            for (let k = await this.ask('document.activeElement.value.length'); k > 0; k--) {
+                await this.key('Backspace');
+            }
         }
+        await this.send('Input.insertText', { text });
     }
 
     async shot(name, params = {}) {
@@ -246,4 +254,4 @@ class Visitor extends Browser {
 
 const pause = (ms) => new Promise((done) => setTimeout(done, ms));
 
-module.exports = { Browser, Visitor, pause };
+module.exports = { Browser, Visitor, pause, CONTROL };

@@ -157,8 +157,9 @@ class Firefox extends Visitor {
         return this.tell('input.performActions', { context: this.context, actions: [{ type: 'key', id: 'keys', actions }] });
     }
 
-    // Writes a text into the box that has the focus, instead of what is there: a line key by key, more as if it was pasted.
-    async write(text) {
+    // Writes a text into a box, instead of what is there: a line key by key, more as if it was pasted.
+    async write(selector, text) {
+        await this.press(selector);
         const stroke = (value) => ['keyDown', 'keyUp'].map((type) => ({ type, value }));
         const [down, up] = stroke(KEY_VALUES.Control), isLine = !text.includes('\n');
         const actions = [down, ...stroke('a'), up, ...(isLine ? [...text].flatMap(stroke) : [])];

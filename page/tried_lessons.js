@@ -2,119 +2,24 @@
 // The lessons, gone through by buttons alone: each is chosen, what its text says is done, the answer is typed, and Check says
 // that it is right; what Check says of a wrong answer; and what is said of examples.
 const fs = require('fs');
+const { chooseByKeys, doPress, doSteps, reach } = require('./tried_steps.js');
 
 const answer = (number) => fs.readFileSync(`examples/answer${number}.edsac`, 'utf8');
 const example = (name) => fs.readFileSync(`examples/${name}.edsac`, 'utf8');
 
-// What each block of the lesson says, step by step: the buttons and boxes, with how often and with which value; the words
-// of the store that are to be seen then; and what is printed.
-function stepsOf() {
-    const before = (node) => (node.previousSibling ? node.previousSibling.textContent : '');
-    const steps = [...document.querySelectorAll('#lessonText .doing li, #lessonText .doing > p')];
-    return steps.map((step) => ({
-        presses: [...step.querySelectorAll('strong, button')].map((name) => ({
-            name: name.textContent,
-            times: Number((/(\d+)-mal auf $/.exec(before(name)) || /^ (\d+) times/.exec(name.nextSibling?.textContent) || [0, 1])[1]),
-            value: / (at|beside|bei|neben) $/.test(before(name)) && name.previousSibling.previousSibling?.tagName === 'CODE'
-                ? name.previousSibling.previousSibling.textContent : undefined,
-        })),
-        words: [...step.textContent.matchAll(/(?:(?:word at|Wort auf Platz) (\d+)|\b[Ii]t is|\b[Ee]s ist)[^.]*? ([A-Z]\d+[FD])\b/g)]
-            .map(([, place, order]) => ({ place, order })),
-        printed: [...step.textContent.matchAll(/(?:It prints|Es druckt) ([A-Z0-9]+)\./g)].map(([, text]) => text),
-    }));
-}
-
-// Finds a button or box by the text that a visitor reads, and marks it; what kind of control it is.
-function findControl(name) {
-    document.querySelectorAll('[data-tried]').forEach((node) => node.removeAttribute('data-tried'));
-    const named = [...document.querySelectorAll('button, summary, label')].filter((node) => node.textContent.trim() === name
-        || (node.tagName === 'LABEL' && node.querySelector('span')?.textContent.trim() === name));
-    const seen = named.filter((node) => node.checkVisibility() && !node.closest('#lessonText'));
-    if (seen.length !== 1) {
-        return `${seen.length} controls with this name`;
-    }
-    const [found] = seen, box = found.tagName === 'LABEL' ? found.control : found;
-    box.dataset.tried = '';
-    return { INPUT: box.type, SELECT: 'list', SUMMARY: found.parentElement.open ? 'open' : 'closed' }[box.tagName]
-        || (found.nextElementSibling?.tagName === 'INPUT' ? 'beside' : 'button');
-}
-
-// Chooses from a list by the keys, until what is chosen has a text. A lesson that is chosen takes the focus.
-async function chooseByKeys(b, selector, text) {
-    const [now, wanted] = await b.run((one, to) => {
-        const { selectedIndex, options } = document.querySelector(one);
-        return [selectedIndex, [...options].findIndex((option) => option.text === to || option.value === to)];
-    }, selector, text);
-    await b.expect(`${selector} has ${text}`, wanted >= 0, true);
-    for (let at = now; at !== wanted && wanted >= 0; at += at < wanted ? 1 : -1) {
-        await b.run((one) => document.querySelector(one).focus(), selector);
-        await b.key(at < wanted ? 'ArrowDown' : 'ArrowUp');
-    }
-}
-
-// Presses one button or fills one box, as the lesson says.
-async function doPress(b, { name, times, value }) {
-    const kind = await b.run(findControl, name);
-    if (kind === 'range') {
-        await b.press('[data-tried]');
-        for (let k = 0; k < 6; k++) {
-            await b.key('ArrowRight');
-        }
-    } else if (kind === 'list') {
-        await (value === undefined ? undefined : chooseByKeys(b, '[data-tried]', value));
-    } else if (kind === 'number') {
-        await b.press('[data-tried]');
-        await b.write(value);
-        await b.key('Enter');
-    } else if (['button', 'beside', 'closed'].includes(kind)) {
-        if (value !== undefined) {
-            await b.press('[data-tried] + input');
-            await b.write(value);
-        }
-        for (let k = 0; k < times; k++) {
-            await b.press('[data-tried]');
-        }
-    } else {
-        await b.expect(`the lesson's ${name}`, kind, 'open');
-    }
-    if (await b.ask('!by("ask").hidden')) {
-        await b.click('replace');
-    }
-    await b.until('page.running === undefined');
-}
-
-// Does all that a lesson says, and looks at the words that it names.
-async function doSteps(b, what) {
-    let place;
-    for (const { presses, words, printed } of await b.run(stepsOf)) {
-        for (const press of presses) {
-            await doPress(b, press);
-        }
-        for (const word of words) {
-            place = word.place || place;
-            await b.expect(`${what}: the word at ${place}`, await b.ask(`orderText(page.shown.words[${place}])`), word.order);
-        }
-        for (const text of printed) {
-            await b.expect(`${what}: ${text} is printed`, [await b.text('paper'), await b.text('pm')].map((paper) => paper.trim()),
-                (papers) => papers.includes(text));
-        }
-    }
-}
-
 let wrote = 0; // how often something was on the paper when Check was pressed
 
-const verdict = async (b) => {
+const verdict = async (b, hand = 'mouse') => {
     const before = await b.ask('window.wasShown = page.shown; by("paper").textContent');
     wrote += before !== '';
-    await b.click('check');
+    await reach(b, hand, '#check');
     await b.expect('Check leaves the machine and the paper as they are',
         [await b.ask('window.wasShown === page.shown'), await b.text('paper')], [true, before]);
     return b.text('checked');
 };
 
-async function typeProgram(b, text) {
-    await b.press('#text');
-    await b.write(text);
+async function typeProgram(b, text, hand = 'mouse') {
+    await b.write('#text', text, hand);
     await b.until('editor.timer === undefined && page.program.text === by("text").value');
     await b.expect('what was typed is there', await b.ask('by("text").value'), text);
 }
@@ -124,11 +29,11 @@ const LANGUAGES = {
     de: { exercise: 'Übung', notYet: 'Noch nicht.', right: 'Richtig!', phrases: ['Am Terminal', 'Auf der Seite', 'Lösung'] },
 };
 
-async function oneLesson(b, number, language) {
+async function oneLesson(b, hand, number, language) {
     const what = `${language}, lesson ${number}`, { exercise, notYet, right, phrases } = LANGUAGES[language];
     await chooseByKeys(b, '#lesson', String(number));
     if (await b.ask('!by("ask").hidden')) {
-        await b.click('replace');
+        await reach(b, hand, '#replace');
     }
     await b.expect(`${what}: its first program is in the box`, await b.run(() => {
         const [name] = LESSONS[Number(by('lesson').value) - 1].programs;
@@ -137,24 +42,32 @@ async function oneLesson(b, number, language) {
     const text = await b.text('lessonText');
     await b.expect(`${what}: its text`, [text.includes(exercise), phrases.filter((one) => text.includes(one)), text.includes('./edsac')], [true, [], false]);
     await b.expect(`${what}: the tables`, await b.run(() => [...document.querySelectorAll('#lessonText details')].map((box) => box.querySelectorAll('table').length)), [1, 2]);
-    await b.expect(`${what}: the program is no answer`, await verdict(b), (said) => said.startsWith(notYet));
-    await doSteps(b, what);
-    await b.expect(`${what}: nor is what the steps left`, await verdict(b), (said) => said.startsWith(notYet));
-    await typeProgram(b, answer(number));
-    await b.expect(`${what}: the answer`, await verdict(b), (said) => said.startsWith(right));
+    await b.expect(`${what}: the program is no answer`, await verdict(b, hand), (said) => said.startsWith(notYet));
+    await doSteps(b, hand, what);
+    await b.expect(`${what}: nor is what the steps left`, await verdict(b, hand), (said) => said.startsWith(notYet));
+    await typeProgram(b, answer(number), hand);
+    await b.expect(`${what}: the answer`, await verdict(b, hand), (said) => said.startsWith(right));
 }
 
-async function lessons(b) {
+// The nine lessons in each language.
+async function allLessons(b, hand) {
     const numbers = await b.ask('LESSONS.map((lesson) => lesson.number)');
     await b.expect('nine lessons', numbers, [1, 2, 3, 4, 5, 6, 7, 8, 9]);
+    wrote = 0;
     for (const [language, { exercise }] of Object.entries(LANGUAGES)) {
-        await b.speak(language);
+        await b.press(`#language [lang=${language}]`, hand);
         await b.expect(`the lesson that is shown speaks ${language}`, await b.text('lessonText'), (said) => said === '' || said.includes(exercise));
         for (const number of numbers) {
-            await oneLesson(b, number, language);
+            await oneLesson(b, hand, number, language);
         }
     }
     await b.expect('Check was pressed beside papers with something on them', wrote, (count) => count > 4);
+}
+
+async function lessons(b) {
+    await b.size(1366, 768);
+    await allLessons(b, 'mouse');
+    await b.unsize();
     await turns(b);
     await mistakes(b);
     await b.speak('en');
@@ -170,6 +83,18 @@ async function lessons(b) {
     }
     await b.set('lesson', '0');
     await proofs(b);
+    await b.click('toExhibit');
+    await b.choose('letter.tape');
+}
+
+// All of it in a window as narrow as a telephone.
+async function narrowLessons(b) {
+    await b.size(360, 740);
+    await allLessons(b, 'mouse');
+    await b.click('toExhibit');
+    await b.unsize();
+    await b.speak('en');
+    await b.set('lesson', '0');
     await b.choose('letter.tape');
 }
 
@@ -180,7 +105,7 @@ async function turns(b) {
     let count = -1;
     do {
         count++;
-        await doPress(b, { name: await b.ask('page.words.say("toPlace")'), times: 1, value: '76' });
+        await doPress(b, 'mouse', { name: await b.ask('page.words.say("toPlace")'), times: 1, value: '76' });
     } while (await b.ask('!isEnded()') && count < 20);
     await b.expect('the loop goes round nine times', [count, await b.ask('page.shown.counter')], [9, 64]);
 }
@@ -235,4 +160,4 @@ async function proofs(b) {
     );
 }
 
-module.exports = { lessons };
+module.exports = { lessons, narrowLessons };

@@ -20,6 +20,7 @@ const { copyOf } = require('./copy.js');
 const { clatterOf } = require('./sound.js');
 const { kioskAsked } = require('./kiosk.js');
 const { texts } = require('./tried_loaders.js');
+const { bench } = require('./units_bench.js');
 
 Object.assign(globalThis, { printedBetween }); // the page's scripts are one script
 let count = 0, wrong = 0;
@@ -293,6 +294,7 @@ same(
 
 texts(same);
 course(same);
+bench(same, languages);
 
 // What a kiosk's address asks for.
 const usual = { seconds: 90, between: 12, stories: ['letter', 'disc'], isQuiet: false, isStage: false };
