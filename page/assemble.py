@@ -11,7 +11,7 @@ import re
 import sys
 
 sys.dont_write_bytecode = True
-from markdown import html_of
+import course
 
 out = pathlib.Path(sys.argv[1])
 here = pathlib.Path("page")
@@ -36,9 +36,10 @@ def module(name):
 
 
 def said(text):
-    """What a program does, by its first comment up to a full stop or a colon."""
-    comment = re.search(r"[\[;] *([^.:\n\]]*)", text)
-    return comment.group(1) if comment else "A program"
+    """What a program does, by its first comment up to the end of its first sentence, a colon or a semicolon."""
+    comment = re.match(r"(?:version 2\n)?((?:;.*\n)+|\[[^\]]*)", text).group(1)
+    words = " ".join(re.sub(r"^[;\[]", "", comment, flags=re.M).split())
+    return re.split(r"[.:;](?: |$)", words)[0]
 
 
 def examples():
@@ -48,44 +49,6 @@ def examples():
     files.sort(key=lambda file: (FIRST.index(file.name) if file.name in FIRST else len(FIRST), file.name))
     texts = [(file, file.read_text("utf-8")) for file in files]
     return [{"name": file.name, "kind": KINDS[file.suffix], "says": said(text), "text": text} for file, text in texts]
-
-
-def sum_of(text):
-    """FNV-1a of 64 bits, as page/lessons.js has it."""
-    value = 14695981039346656037
-    for byte in text.encode():
-        value = (value ^ byte) * 1099511628211 % 2**64
-    return f"{value:016x}"
-
-
-def due(number):
-    """What the answer to an exercise shows, as a sum: its paper, or if it prints nothing, its words or its word at 144."""
-    shown = pathlib.Path(f"examples/answer{number}.edsac.shown").read_text("utf-8").splitlines()
-    printed = shown[1 : next(k for k, line in enumerate(shown) if line.startswith("entered"))]
-    listed = [line.split()[2] for line in shown if re.fullmatch(r" +\d+ +\d+ \S+", line)]
-    if listed:
-        return {"kind": "words", "count": len(listed) - 1, "sum": sum_of(" ".join(listed[1:]))}
-    if "--post-mortem 144,1" in shown[0]:
-        return {"kind": "place", "place": 144, "sum": sum_of(printed[0])}
-    return {"kind": "paper", "sum": sum_of("\n".join(printed))}
-
-
-def lessons():
-    """The lessons of the course, each up to its answer."""
-    course = pathlib.Path("docs/COURSE.md").read_text("utf-8")
-    parts = re.findall(r"^## (\d+)\. (.*)\n([\s\S]*?)(?=^## )", course, re.M)
-    programs = dict(re.findall(r"^\| \[(\d+)\].*\| (.*) \|$", course, re.M))
-    made = []
-    for number, title, text in parts:
-        lesson, exercise = text.split("### Exercise")
-        exercise = exercise.split("The answer is")[0].strip()
-        named = re.findall(r"`([\w.]+)`", programs[number]) + re.findall(r"examples/([\w.]+)", lesson)
-        names = [name for name in dict.fromkeys(named) if not name.startswith("answer")]
-        made.append({
-            "number": int(number), "title": title, "programs": names, "due": due(number), "exercise": html_of(exercise),
-            "html": html_of(lesson, 2) + f"\n<h3>Exercise</h3>\n{html_of(exercise)}",
-        })
-    return made
 
 
 def policy(page):
@@ -102,11 +65,6 @@ def policy(page):
     ])
 
 
-def texts(folder):
-    """The texts of a folder, a file for each language."""
-    return {file.stem: json.loads(file.read_text("utf-8")) for file in sorted((here / folder).glob("*.json"))}
-
-
 def version():
     """The newest version of CHANGELOG.md, if a heading has one."""
     found = re.search(r"^## +(\d+\.\d+(?:\.\d+)?)\b", pathlib.Path("CHANGELOG.md").read_text("utf-8"), re.M)
@@ -118,21 +76,22 @@ code = [
     f"const MODULES = {in_script({'wide': module('page64.wasm'), 'narrow': module('page32.wasm')})};",
     f"const VERSION = {in_script(version())};",
     f"const EXAMPLES = {in_script(examples())};",
-    f"const LESSONS = {in_script(lessons())};",
-    f"const LANGUAGES = {in_script(texts('languages'))};",
-    f"const LOADERS = {in_script(texts('loaders'))};",
+    f"const LESSONS = {in_script(course.lessons())};",
+    f"const SHEETS = {in_script(course.sheets())};",
+    f"const LANGUAGES = {in_script(course.texts('languages'))};",
+    f"const EXAMPLES_SAY = {in_script(course.texts('examples'))};",
+    f"const LOADERS = {in_script(course.texts('loaders'))};",
     *[(here / f"{name}.js").read_text("utf-8").replace("'use strict';\n", "", 1) for name in CODE],
 ]
 parts = {
     "/*STYLE*/": "\n".join((here / f"{name}.css").read_text("utf-8") for name in ("page", "bench")),
-    "/*SHEET*/": html_of(pathlib.Path("docs/CHEATSHEET.md").read_text("utf-8"), 2),
     "/*CODE*/": "\n".join(code),
 }
 page = (here / "page.html").read_text("utf-8")
 for mark, text in parts.items():
     if page.count(mark) != 1:
         sys.exit(f"page/assemble.py: page.html must have {mark} once")
-    if mark != "/*SHEET*/" and re.search(r"</(script|style)|<!--", text):
+    if re.search(r"</(script|style)|<!--", text):
         sys.exit(f"page/assemble.py: the text of {mark} would end before its end")
     page = page.replace(mark, text)
 page = page.replace("/*VERSION*/", version())

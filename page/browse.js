@@ -4,7 +4,7 @@
 const { Visitor } = require('./browser.js');
 const machine = require('./tried_machine.js');
 const stories = require('./tried_stories.js');
-const { lessons } = require('./tried_lessons.js');
+const { lessons, narrowLessons } = require('./tried_lessons.js');
 const sharing = require('./tried_sharing.js');
 const { loaders } = require('./tried_loaders.js');
 const motion = require('./tried_motion.js');
@@ -20,7 +20,7 @@ const { numbers } = require('./tried_numbers.js');
 const [command, file, folder, only] = process.argv.slice(2);
 const b = new Visitor(command, file, folder);
 const WHOLE = [
-    ...Object.values(machine), ...Object.values(motion), ...Object.values(touch), ...Object.values(stories), lessons,
+    ...Object.values(machine), ...Object.values(motion), ...Object.values(touch), ...Object.values(stories), lessons, narrowLessons,
     ...Object.values(sharing), loaders, looks.looks, looks.sentences, ...Object.values(access), ...Object.values(bench.parts),
     ...Object.values(marks), numbers, looks.opening, looks.screens, ...Object.values(kiosk.parts), ...Object.values(guard), // each of these opens pages of its own
 ];

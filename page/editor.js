@@ -103,6 +103,7 @@ function answerAsk(isYes) {
 // Puts a text into the box, and begins with it.
 function put(program) {
     clearTimeout(editor.timer);
+    sayAt('checked');
     const now = textNow();
     if (now.text !== '' && now.text !== program.text) {
         editor.former = now;
@@ -134,6 +135,7 @@ function typed() {
     by('examples').value = '';
     by('stories').value = 'own';
     page.refusal = undefined;
+    sayAt('checked');
     paint();
     clearTimeout(editor.timer);
     editor.timer = setTimeout(() => { editor.timer = undefined; begin(); }, REST);

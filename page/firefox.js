@@ -91,7 +91,10 @@ function valueOf({ type, value }) {
     return type === 'null' ? null : value;
 }
 
-const KEY_VALUES = { Shift: '\uE008', Enter: '\uE007', Tab: '\uE004', ArrowRight: '\uE014', ArrowLeft: '\uE012' };
+const KEY_VALUES = {
+    Shift: '\uE008', Enter: '\uE007', Tab: '\uE004', Control: '\uE009',
+    ArrowRight: '\uE014', ArrowLeft: '\uE012', ArrowUp: '\uE013', ArrowDown: '\uE015',
+};
 
 class Firefox extends Visitor {
     start(command) {
@@ -152,6 +155,18 @@ class Firefox extends Visitor {
         const value = KEY_VALUES[name] || name;
         const actions = ['keyDown', 'keyUp'].map((type) => ({ type, value }));
         return this.tell('input.performActions', { context: this.context, actions: [{ type: 'key', id: 'keys', actions }] });
+    }
+
+    // Writes a text into a box, instead of what is there: a line key by key, more as if it was pasted.
+    async write(selector, text) {
+        await this.press(selector);
+        const stroke = (value) => ['keyDown', 'keyUp'].map((type) => ({ type, value }));
+        const [down, up] = stroke(KEY_VALUES.Control), isLine = !text.includes('\n');
+        const actions = [down, ...stroke('a'), up, ...(isLine ? [...text].flatMap(stroke) : [])];
+        await this.tell('input.performActions', { context: this.context, actions: [{ type: 'key', id: 'keys', actions }] });
+        if (!isLine) {
+            await this.run((all) => document.execCommand('insertText', false, all), text);
+        }
     }
 
     size(width, height) {

@@ -1,6 +1,6 @@
 'use strict';
-// The lessons of the course. An exercise is checked by what the machine prints or stores, beside a sum of the expected
-// result: the page's text holds no answer.
+// The lessons of the course, in the page's language. An exercise is checked by what its run prints or stores, beside sums
+// of the expected result, one a line or a word: the page's text holds no answer.
 
 // The sum of a text: FNV-1a of 64 bits.
 function sumOf(text) {
@@ -11,59 +11,129 @@ function sumOf(text) {
     return sum.toString(16).padStart(16, '0');
 }
 
-// A paper without the characters that nobody sees.
-const seenOf = (paper) => paper.replace(/\r/g, '').replace(/[ \t]+$/gm, '').replace(/\n+$/, '');
+// The lines of a paper, without the characters that nobody sees.
+function linesOf(paper) {
+    const seen = paper.replace(/\r/g, '').replace(/[ \t]+$/gm, '').replace(/\n+$/, '');
+    return seen === '' ? [] : seen.split('\n');
+}
 
-// Whether the picture in which a run ended holds what a lesson requires.
-function isDue(due, shown, machine, text) {
-    if (shown.words === undefined || shown.ending !== 'stopped') {
-        return false;
+// What differs between the lines of a paper and those that are due: the key of a sentence and its values; nothing if none.
+function differenceOfLines(lines, sums) {
+    const [have, wanted] = [lines.length, sums.length];
+    if (have !== wanted) {
+        return { key: have === 0 ? 'empty' : have === 1 ? 'oneLine' : wanted === 1 ? 'linesForOne' : 'lines', have, wanted };
     }
+    const at = lines.findIndex((line, k) => sumOf(line) !== sums[k]);
+    const key = wanted === 1 ? 'onlyLine' : at === wanted - 1 ? 'lastLine' : 'line';
+    return at < 0 ? undefined : { key, line: at + 1, printed: lines[at] };
+}
+
+// The same of the words that are due one below the other: as many as are right at the place that has most of them.
+function differenceOfWords(orders, sums, text) {
+    const rightAt = (at) => sums.filter((sum, k) => at + k < orders.length && sumOf(orders[at + k]) === sum).length;
+    const have = Math.max(...orders.map((_, at) => rightAt(at)));
+    if (have === sums.length && /\bword\b/.test(text)) {
+        return undefined;
+    }
+    return have === sums.length ? { key: 'noWord' } : { key: 'words', have, wanted: sums.length };
+}
+
+// What differs between what a lesson asks for and the machine at the end of a run.
+function differenceOf(due, shown, machine, text) {
     if (due.kind === 'paper') {
-        return sumOf(seenOf(shown.way.text(0, shown.printed))) === due.sum;
+        return differenceOfLines(linesOf(shown.way.text(0, shown.printed)), due.sums);
     }
     if (due.kind === 'place') {
-        return sumOf(machine.order(shown.words[due.place])) === due.sum;
+        const word = shown.words[due.place], order = machine.order(word);
+        const { number } = machine.meaning(word, false);
+        return sumOf(order) === due.sums[0] ? undefined : { key: 'place', place: due.place, order, number };
     }
-    const orders = [...shown.words.slice(LOADER)].map((word) => machine.order(word));
-    const isAt = (at) => sumOf(orders.slice(at, at + due.count).join(' ')) === due.sum;
-    return /\bword\b/.test(text) && orders.some((_, at) => isAt(at));
+    return differenceOfWords([...shown.words.slice(LOADER)].map((word) => machine.order(word)), due.sums, text);
+}
+
+const lessonNow = () => LESSONS[Number(by('lesson').value) - 1];
+
+// The title, the text and the exercise of a lesson, in the page's language.
+const textsOf = (lesson) => lesson.texts[page.words.name];
+
+// A lesson is chosen: it is shown, and its first program comes into the box.
+function chooseLesson() {
+    sayAt('checked');
+    drawLesson();
+    if (lessonNow()) {
+        loadProgram(lessonNow().programs[0]);
+    }
 }
 
 function drawLesson() {
-    const lesson = LESSONS[Number(by('lesson').value) - 1];
+    const lesson = lessonNow();
     by('lessonBox').hidden = lesson === undefined;
-    sayAt('checked');
     if (lesson === undefined) {
+        by('lessonText').textContent = '';
+        sayAt('checked');
         return;
     }
-    by('lessonText').innerHTML = lesson.html;
-    drawLessonPrograms();
+    const isOpen = [...by('lessonText').querySelectorAll('details')].map((box) => box.open);
+    const tables = ['orders', 'codes'].map((name) => (
+        `<details><summary>${escaped(page.words.say(`tables.${name}`))}</summary>${SHEETS[page.words.name][name]}</details>`));
+    by('lessonText').innerHTML = `${textsOf(lesson).html}${tables.join('')}`;
+    by('lessonText').querySelectorAll('details').forEach((box, k) => { box.open = isOpen[k]; });
+    by('lessonPrograms').replaceChildren(...lesson.programs.map(loadButton));
+    by('lessonText').querySelectorAll('.doing strong').forEach((said) => { // where the text names such a button, it has it
+        const name = lesson.programs.find((one) => page.words.say('load', { name: one }) === said.textContent);
+        if (name) {
+            said.replaceWith(loadButton(name));
+        }
+    });
 }
 
-// A button for each program of the lesson.
-function drawLessonPrograms() {
-    const { programs } = LESSONS[Number(by('lesson').value) - 1] || { programs: [] };
-    by('lessonPrograms').replaceChildren(...programs.map((name) => {
-        const button = document.createElement('button');
-        button.textContent = page.words.say('load', { name });
-        button.onclick = () => chooseExample(EXAMPLES.findIndex((example) => example.name === name));
-        return button;
-    }));
+function loadButton(name) {
+    const button = document.createElement('button');
+    button.textContent = page.words.say('load', { name });
+    button.onclick = () => loadProgram(name);
+    return button;
+}
+
+function loadProgram(name) {
+    chooseExample(EXAMPLES.findIndex((example) => example.name === name));
+}
+
+// A run of the text in the box that nobody sees, up to its first end: the machine that is shown stays as it is.
+function triedNow(program) {
+    try {
+        return new Way(page.machine, program, page.machine.rows(program).out).at(TRIED);
+    } catch (fault) {
+        return faultOf(fault);
+    }
+}
+
+// What is said of a run that ended in another way than by a stop.
+function endingOf(shown, program) {
+    const { words } = page, { ending, note } = shown;
+    if (ending === 'refused') {
+        return words.say('checked.refused', { note: note.trim(), ...words.refusal(note, program.text, program.kind) });
+    }
+    return shown.words ? words.say(`checked.${ending}`, { orders: words.number(TRIED), place: shown.counter })
+        : words.say(ending === 'too long' ? 'tooLong' : `ends.${ending}`, { note });
+}
+
+// What is said of an exercise: whether the program is right, and if not, what differs.
+function verdictOf(due, shown, program) {
+    const { words } = page;
+    const difference = shown.words && differenceOf(due, shown, page.machine, program.text);
+    if (shown.ending !== 'stopped') {
+        const isResult = shown.words && difference === undefined;
+        return `${words.say('notYet')} ${isResult ? words.say('checked.result') : ''} ${endingOf(shown, program)}`;
+    }
+    return difference ? `${words.say('notYet')} ${words.say(`checked.${difference.key}`, difference)}`
+        : words.say(`isRight.${due.kind}`, due);
 }
 
 function checkLesson() {
-    const lesson = LESSONS[Number(by('lesson').value) - 1];
-    begin();
-    if (!isAlive()) {
-        sayAt('checked', () => page.words.say('isRefused'));
-        return;
-    }
-    const isRight = isDue(lesson.due, pictureAt(TRIED), page.machine, page.program.text);
-    const isWrong = lesson.due.kind === 'paper' ? 'isWrongPaper' : 'isWrong';
-    sayAt('checked', () => page.words.say(isRight ? 'isRight' : isWrong));
+    const program = textNow(), { due } = lessonNow(), shown = triedNow(program);
+    sayAt('checked', () => verdictOf(due, shown, program).replace(/ +/g, ' '));
 }
 
 if (typeof module !== 'undefined') {
-    module.exports = { sumOf, seenOf };
+    module.exports = { sumOf, linesOf, differenceOfLines, differenceOfWords };
 }

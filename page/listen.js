@@ -85,7 +85,7 @@ function listenToBoxes() {
     by('text').oninput = typed;
     by('text').onscroll = follows;
     by('file').onchange = openFile;
-    by('lesson').onchange = drawLesson;
+    by('lesson').onchange = chooseLesson;
     by('lookBox').ontoggle = () => draw();
     by('traceBox').ontoggle = drawTrace;
     by('listingBox').ontoggle = drawListing;

@@ -36,11 +36,11 @@ function afterPrint() {
 // A worksheet: the text, and a table to be filled in by hand.
 function worksheetNow() {
     const say = (key) => escaped(page.words.say(key));
-    const lesson = LESSONS[Number(by('lesson').value) - 1];
+    const lesson = lessonNow();
     const heads = ['lookPlace', 'worksheetOrder', 'worksheetAcc', 'worksheetPrinted'];
     const rows = `<tr>${'<td>'.repeat(heads.length)}`.repeat(16);
     return `<h1>${say('worksheet')}: ${escaped(titleNow())}</h1><p>${say('worksheetName')}</p>`
-        + (lesson ? `<div>${lesson.exercise}</div>` : '')
+        + (lesson ? `<div>${textsOf(lesson).exercise}</div>` : '')
         + `<pre>${escaped(page.program.text)}</pre><p>${say('worksheetAsk')}</p>`
         + `<table><tr>${heads.map((key) => `<th>${say(key)}`).join('')}${rows}</table>`;
 }

@@ -26,17 +26,19 @@ function speakIn(name) {
     by('name').placeholder = say('yourName');
     fill('stories', STORIES.map((story) => [story.name, say(`stories.${story.name}`)]));
     fill('figures', FORMS.map((form) => [form, say(`forms.${form}`)]));
-    const examples = EXAMPLES.map((example, k) => [String(k), `${example.says} (${example.name})`]);
-    const lessons = LESSONS.map(({ number, title }) => [String(number), `${number}: ${title}`]);
+    const saysOf = (example) => (name in EXAMPLES_SAY ? EXAMPLES_SAY[name][example.name] : example.says); // it begins in English
+    const examples = EXAMPLES.map((example, k) => [String(k), `${saysOf(example)} (${example.name})`]);
+    const lessons = LESSONS.map((lesson) => [String(lesson.number), `${lesson.number}: ${textsOf(lesson).title}`]);
     fill('examples', [['', say('own')], ...examples]);
     fill('lesson', [['0', say('noLesson')], ...lessons]);
     [...by('language').children].forEach((button) => { button.setAttribute('aria-pressed', String(button.lang === name)); });
+    by('sheet').innerHTML = SHEETS[name].whole;
     drawLoaders();
     tanks();
     if (words && page.shown) {
         draw();
         drawListing();
-        drawLessonPrograms();
+        drawLesson();
         sayAgain();
     }
 }

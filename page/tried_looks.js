@@ -6,9 +6,9 @@ const rules = require('./rules.js');
 
 // Opens, or closes, everything that can be open.
 function openAll(isOpen) {
-    document.querySelectorAll('details').forEach((box) => { box.open = isOpen; });
-    by('lesson').value = isOpen ? '3' : '0';
+    by('lesson').value = isOpen ? '4' : '0';
     drawLesson();
+    document.querySelectorAll('details').forEach((box) => { box.open = isOpen; });
     by('linked').hidden = by('ask').hidden = by('invite').hidden = by('skip').hidden = !isOpen;
 }
 

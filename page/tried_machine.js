@@ -269,7 +269,7 @@ async function postMortem(b) {
     await b.press('#traceBox > summary');
     await b.speak('de');
     await b.expect('and is said in German', [await b.text('pm'), await b.text('pmSaid')],
-        [wanted, 'Gedruckt vom Speicher nach 4.650 Befehlen.']);
+        [wanted, 'Das stand nach 4.650 Befehlen im Speicher.']);
     await b.speak('en');
     await b.click('back');
     await b.expect('it is of one picture alone', await b.ask(printed), ['', false]);

@@ -170,7 +170,7 @@ async function languages(b) {
     await b.expect(
         'an order in German',
         await b.text('meaning'),
-        'Lies die nächste Reihe des Lochstreifens, und bring ihre Zahl nach Platz 40 und 41.',
+        'Lies die nächste Reihe des Lochstreifens, und bring ihre Zahl auf die Plätze 40 und 41.',
     );
     await b.expect(
         'no text is left open',

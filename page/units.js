@@ -7,7 +7,7 @@ const path = require('path');
 const { Words, writtenFor, signAt, lineAt, hintFor, figuresOf, printedBetween } = require('./words.js');
 const { packed, unpacked, formOf, kindOf } = require('./share.js');
 const { STORIES, printable, tapeOf } = require('./stories.js');
-const { sumOf, seenOf } = require('./lessons.js');
+const { course } = require('./tried_course.js');
 const { punchedOf } = require('./tape.js');
 const { STRIP, stripOf } = require('./strip.js');
 const { partsOf } = require('./editor.js');
@@ -62,12 +62,12 @@ const MEANINGS = [
     [
         named('T', 5),
         "Put the accumulator's number into place 5, then make the accumulator 0.",
-        'Bring die Zahl des Akkumulators nach Platz 5, dann setze den Akkumulator auf 0.',
+        'Bring die Zahl des Akkumulators auf Platz 5, dann setze den Akkumulator auf 0.',
     ],
     [
         named('U', 4, true),
         "Copy the accumulator's number into places 4 and 5. The accumulator keeps it.",
-        'Kopiere die Zahl des Akkumulators nach Platz 4 und 5. Der Akkumulator behält sie.',
+        'Kopiere die Zahl des Akkumulators auf die Plätze 4 und 5. Der Akkumulator behält sie.',
     ],
     [named('C', 5), 'Look at the number in place 5 and at the multiplier register: where both have a 1, add that 1 to the accumulator.',
         'Vergleiche die Zahl auf Platz 5 mit dem Multiplikatorregister: Wo beide eine 1 haben, addiere diese 1 zum Akkumulator.'],
@@ -104,17 +104,17 @@ const MEANINGS = [
     [
         named('I', 5),
         'Read the next row of the tape, and put its number into place 5.',
-        'Lies die nächste Reihe des Lochstreifens, und bring ihre Zahl nach Platz 5.',
+        'Lies die nächste Reihe des Lochstreifens, und bring ihre Zahl auf Platz 5.',
     ],
     [
         named('O', 5),
         'Print the letter or figure whose code is in place 5.',
-        'Druck den Buchstaben oder die Ziffer, deren Code auf Platz 5 steht.',
+        'Druck das Zeichen, dessen Code auf Platz 5 steht.',
     ],
     [
         named('F', 5),
         'Put the code of what was printed last into place 5, so that it can be checked.',
-        'Bring den Code des zuletzt gedruckten Zeichens nach Platz 5, damit man ihn prüfen kann.',
+        'Bring den Code des zuletzt gedruckten Zeichens auf Platz 5, damit man ihn prüfen kann.',
     ],
     [named('X'), 'Do nothing, and go on.', 'Tu nichts, und mach weiter.'],
     [named('Y'), 'Round the number in the accumulator.', 'Runde die Zahl im Akkumulator.'],
@@ -246,9 +246,6 @@ same(
 );
 same('a tape that prints a name', tapeOf('AB').split('\n').slice(1), ['T64K GK', 'O3@ O4@ ZF', 'AF BF', 'EZPF', '']);
 same('a blank in a name', tapeOf('A B').includes('AF !F BF'), true);
-same('the sum of nothing', sumOf(''), 'cbf29ce484222325');
-same('the sum of a letter', sumOf('a'), 'af63dc4c8601ec8c');
-same('what is seen of a paper', seenOf('1\r\n2  \r\n\n'), '1\n2');
 same(
     'a source by its name or its lines',
     [kindOf('a.tape', 'segment'), kindOf('a.edsac', ''), kindOf('a.txt', '; x\nsegment main'), kindOf('a.txt', 'T64K')],
@@ -296,6 +293,7 @@ same(
 );
 
 texts(same);
+course(same);
 bench(same, languages);
 
 // What a kiosk's address asks for.
