@@ -18,6 +18,7 @@ const page = {
     labels: [], // what is beside each row
     letters: [], // of each code
     refusal: undefined, // what is wrong with the text, if it is refused
+    slip: undefined, // what is perhaps meant otherwise on a tape that is read
     way: undefined, // from Start, as far as the machine came
     fault: undefined, // why there is no way
     shown: undefined, // the picture that is drawn

@@ -28,8 +28,8 @@ function didText() {
     if (page.before === EMPTY) {
         return page.words.say(page.program.kind === 'tape1' ? 'atStart1' : 'atStart');
     }
-    return isOneOrder()
-        ? page.words.say('before', { said: page.words.changes(page.before, page.shown, page.machine, page.rows, longText) }) : '';
+    return leftText(page.shown) || endlessText() || (isOneOrder()
+        ? page.words.say('before', { said: page.words.changes(page.before, page.shown, page.machine, page.rows, longText) }) : '');
 }
 
 function changedText() {
@@ -47,7 +47,8 @@ function endingText(shown) {
 // Says aloud what was printed after a count of codes.
 function speakPrinted(from) {
     const text = isAlive() ? page.shown.way.text(from, page.shown.printed).replace(/\s+/g, ' ').trim().slice(-SPOKEN) : '';
-    sayAt('spoken', () => page.words.say(text ? 'printedAloud' : 'printedNothing', { text }));
+    const why = isAlive() ? leftText(page.shown) || endlessText() : '';
+    sayAt('spoken', () => `${page.words.say(text ? 'printedAloud' : 'printedNothing', { text })} ${why}`.trim());
 }
 
 // Says aloud, for those who can't see it, what a step did.

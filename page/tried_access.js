@@ -112,6 +112,8 @@ async function everySentence(b) {
         'in a story': 'tell()',
         'a stop': 'halt(); look(193)',
         'a refused text': 'put({ text: "T64K ?", kind: "tape" })',
+        'a slip on a tape': 'put({ text: "T64K GK 02@ ZF EZPF", kind: "tape" })',
+        'a program that left its orders': 'put({ text: "segment main\\nX F\\nenter main", kind: "source" }); look(10000)',
         'a text for another loader': 'put({ text: "T35S ZS", kind: "tape" })',
         'a broken link': 'put(EXAMPLES[0]); sayAt("shared", () => page.words.say("badLink"))',
         'a lesson that is wrong': 'by("lesson").value = "3"; drawLesson(); chooseExample(3); checkLesson()',
