@@ -20,9 +20,9 @@ FIRST = ["letter.tape", "name.tape", "digits.tape", "hello.edsac", "squares.edsa
 KINDS = {".tape": "tape", ".tape1": "tape1", ".edsac": "source"}
 CODE = [
     "machine", "way", "hints", "words", "paint", "map", "tape", "lens", "rows", "registers", "paper", "travel", "moves",
-    "sound", "endings", "sentence", "parts", "strip", "share", "editor", "printing", "program", "below", "said",
-    "tongues", "stories", "tour", "items", "fault", "lessons", "loaders", "guard", "kiosk", "keyboard", "copy", "word",
-    "controls", "listen", "page",
+    "sound", "endings", "sentence", "parts", "strip", "share", "address", "editor", "printing", "program", "below",
+    "said", "tongues", "stories", "tour", "items", "fault", "lessons", "loaders", "guard", "kiosk", "kept", "keyboard",
+    "copy", "word", "controls", "links", "listen", "page",
 ]
 
 

@@ -108,6 +108,7 @@ function begin() {
     look(0);
     drawListing();
     paint();
+    keep();
 }
 
 function draw(isGliding = false) {
@@ -192,8 +193,11 @@ async function load() {
     lampsIn(by('accLamps'), 71);
     by('stories').value = STORIES[0].name;
     listen();
-    loadStory();
-    page.isNew = !(await openLink());
+    const isNew = !(await openAtFirst());
+    if (isNew) {
+        loadStory();
+    }
+    page.isNew = isNew;
     draw();
     if (addressed().has('kiosk')) {
         beginKiosk(addressed().get('kiosk'));

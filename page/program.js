@@ -1,5 +1,5 @@
 'use strict';
-// The box of the program: what is wrong with its text, examples, files and links.
+// The box of the program: what is wrong with its text, examples and files.
 
 // What the machine reports of a text that it refuses, and what that means; or what a tape may be mistaken in that it reads.
 function tellRefusal(told) {
@@ -60,42 +60,6 @@ function write() {
     halt();
     by('program').scrollIntoView();
     by('text').focus();
-}
-
-async function makeLink() {
-    const shared = { ...textNow(), orders: isAlive() ? page.shown.orders : 0 };
-    const address = `${location.href.split('#')[0]}#p=${await packed(shared)}`;
-    by('linked').hidden = false;
-    by('linkText').value = address;
-    by('linkText').select();
-    try {
-        await navigator.clipboard.writeText(address);
-        sayAt('shared', () => page.words.say('copied'));
-    } catch (fault) {
-        sayAt('shared'); // the visitor copies it by hand
-    }
-}
-
-// Opens what the page's address holds; false if it holds nothing.
-async function openLink() {
-    const letters = addressed().get('p');
-    if (!letters) {
-        return false;
-    }
-    const shared = await unpacked(letters);
-    if (shared === undefined) {
-        sayAt('shared', () => page.words.say('badLink'));
-        return false;
-    }
-    replacing(() => {
-        by('examples').value = '';
-        by('stories').value = 'own';
-        put(shared);
-        if (isAlive() && shared.orders > 0) {
-            look(shared.orders);
-        }
-    });
-    return true;
 }
 
 async function openFile() {

@@ -12,7 +12,8 @@ function openAll(isOpen) {
     document.querySelectorAll('details').forEach((box) => { box.open = isOpen; });
     by('lesson').value = isOpen ? '3' : '0';
     drawLesson();
-    by('linked').hidden = by('ask').hidden = by('invite').hidden = by('skip').hidden = by('countdown').hidden = !isOpen;
+    ['linked', 'ask', 'invite', 'skip', 'countdown', 'news', 'teacher', 'former'].forEach((id) => { by(id).hidden = !isOpen; });
+    by('teacherNote').textContent = isOpen ? 'abc' : '';
 }
 
 const SCHEMES = [
@@ -95,7 +96,7 @@ function sentences() {
     const walker = document.createTreeWalker(document.body, NodeFilter.SHOW_TEXT), found = [];
     while (walker.nextNode()) {
         const { parentElement: node, textContent } = walker.currentNode;
-        const isOwn = node.closest('script, pre, .editor, #lessonText, #sheet, #examples, #lesson, #unable, #spoken, h1, code, #pm');
+        const isOwn = node.closest('script, pre, .editor, #lessonText, #sheet, #examples, #lesson, #unable, #spoken, h1, code, #pm, #former');
         const isSeen = (node.closest('select') || node).checkVisibility();
         if (!isOwn && isSeen && /[a-z]{2}.* .*[a-z]{2}/i.test(textContent.trim())) {
             found.push(textContent.trim());
@@ -115,7 +116,7 @@ async function everySentence(b) {
         'a slip on a tape': 'put({ text: "T64K GK 02@ ZF EZPF", kind: "tape" })',
         'a program that left its orders': 'put({ text: "segment main\\nX F\\nenter main", kind: "source" }); look(10000)',
         'a text for another loader': 'put({ text: "T35S ZS", kind: "tape" })',
-        'a broken link': 'put(EXAMPLES[0]); sayAt("shared", () => page.words.say("badLink"))',
+        'a broken link': 'put(EXAMPLES[0]); tellNews(() => page.words.say("badLink"))',
         'a lesson that is wrong': 'by("lesson").value = "3"; drawLesson(); chooseExample(3); checkLesson()',
         'a word that is open': 'look(193); openWord(66); flip(4)',
         'a kiosk that counts': 'closeWord(); by("countdown").hidden = false',

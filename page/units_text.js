@@ -2,6 +2,8 @@
 // The page's rules for texts, without a browser: the slips of beginners and the part of a text that each is in.
 const { signAt, lineAt, partAt, hintFor, signsOf, slipOf } = require('./hints.js');
 const { leftFrom } = require('./endings.js');
+const { askedOf, noteOf, linkBase, linkOf } = require('./address.js');
+const { wordsOf } = require('./kept.js');
 
 // The hint for each slip: the cause that the machine reports, the line or the sign, and the hint.
 const SLIPS = [
@@ -60,4 +62,29 @@ function slips(same) {
         'left.entered.nothing', 'left.entered.number', 'loader']);
 }
 
-module.exports = { hints };
+// What an address asks for, and the address of a link.
+const HAVE = { lessons: [1, 2, 3], stories: ['letter', 'disc'], examples: ['hello.edsac'], speeds: [1, 50] };
+const ASKED = [
+    ['', {}], ['lesson=3', { lesson: '3' }], ['story=disc&speed=50', { story: 'disc', speed: '50' }], ['example=hello.edsac', { example: 'hello.edsac' }],
+    ['p=1AB', { letters: '1AB' }], ['view=bench', { view: 'bench' }], ['lang=de&kiosk=60,story=disc&narrow', {}],
+    ['note=Hello+class%21', { note: 'Hello class!' }], ['note=%3Cb%3E%0A%07x', { note: '<b>\n x' }],
+    ['lesson=4&speed=7', { faults: ['lesson=4', 'speed=7'] }], ['lesson=03', { faults: ['lesson=03'] }], ['story=own&example=', { faults: ['story=own', 'example='] }],
+    ['leson=3&lesson=2', { lesson: '2', faults: ['leson'] }], [`story=${'x'.repeat(99)}`, { faults: [`story=${'x'.repeat(34)}`] }],
+];
+
+function addresses(same) {
+    for (const [address, wanted] of ASKED) {
+        const asked = askedOf(new URLSearchParams(address), HAVE);
+        same(`what #${address} asks for`, { ...asked }, { ...askedOf(new URLSearchParams(''), HAVE), ...wanted });
+    }
+    same('a note has at most 300 letters', [...noteOf('\u{1F600}'.repeat(301))].length, 300);
+    same('the base of a link', [['https://a.org/e.html#x', ''], ['file:///e.html', 'https://a.org/e'], ['file:///e.html', ''], ['file:///e.html', 'javascript:1'],
+        ['file:///e.html', 'https://a.org/e#x'], ['https://a.org/e.html', 'https://b.org/']].map((given) => linkBase(...given) || 'none'),
+    ['https://a.org/e.html', 'https://a.org/e', 'none', 'none', 'none', 'https://a.org/e.html']);
+    const link = linkOf('https://a.org/e', { p: '1A-_', note: 'a & b\nc', lesson: '3', speed: undefined, view: '' });
+    same('a link', link, 'https://a.org/e#lesson=3&note=a+%26+b%0Ac&p=1A-_');
+    same('there and back', askedOf(new URLSearchParams(link.split('#')[1]), HAVE).note, 'a & b\nc');
+    same('the first words of a text', [wordsOf('; Prints A.\nsegment main\nO mark F'), wordsOf(`[x]${'a '.repeat(40)}`).length <= 44], ['Prints A. segment main O mark F', true]);
+}
+
+module.exports = { hints, addresses };
