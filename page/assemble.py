@@ -19,10 +19,10 @@ here = pathlib.Path("page")
 FIRST = ["letter.tape", "name.tape", "digits.tape", "hello.edsac", "squares.edsac", "roots.edsac"]
 KINDS = {".tape": "tape", ".tape1": "tape1", ".edsac": "source"}
 CODE = [
-    "machine", "way", "hints", "words", "paint", "map", "tape", "lens", "rows", "registers", "paper", "travel", "moves",
-    "sound", "endings", "sentence", "parts", "strip", "share", "address", "editor", "printing", "program", "below",
-    "said", "tongues", "stories", "tour", "items", "fault", "lessons", "loaders", "guard", "kiosk", "kept", "keyboard",
-    "copy", "word", "controls", "links", "listen", "page",
+    "machine", "way", "hints", "words", "figures", "paint", "map", "tape", "lens", "rows", "registers", "paper",
+    "travel", "moves", "sound", "endings", "sentence", "parts", "strip", "share", "address", "editor", "printing",
+    "program", "below", "said", "tongues", "stories", "tour", "items", "fault", "lessons", "loaders", "guard", "kiosk",
+    "kept", "keyboard", "copy", "word", "controls", "seek", "lines", "marks", "bench", "links", "listen", "page",
 ]
 
 
@@ -125,7 +125,7 @@ code = [
     *[(here / f"{name}.js").read_text("utf-8").replace("'use strict';\n", "", 1) for name in CODE],
 ]
 parts = {
-    "/*STYLE*/": (here / "page.css").read_text("utf-8"),
+    "/*STYLE*/": "\n".join((here / f"{name}.css").read_text("utf-8") for name in ("page", "bench")),
     "/*SHEET*/": html_of(pathlib.Path("docs/CHEATSHEET.md").read_text("utf-8"), 2),
     "/*CODE*/": "\n".join(code),
 }

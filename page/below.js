@@ -1,5 +1,6 @@
 'use strict';
 // The boxes below the machine: the store in figures, the last orders, a post-mortem, the listing.
+const LOOKED = ['order', 'whole', 'fraction', 'digits']; // how the words of a tank are read if no other way was chosen
 
 // The table of a tank's locations.
 function drawLook() {
@@ -11,13 +12,13 @@ function drawLook() {
         by('tank').value = String(shown.counter >> 5);
     }
     const first = 32 * Number(by('tank').value);
+    const forms = formNow() === FORMS[0] ? LOOKED : [formNow()];
     const row = (place) => {
-        const word = shown.words[place], order = escaped(orderText(word));
         const here = place === shown.counter ? ' class="here" aria-current="true"' : '';
-        return `<tr${here}><th scope="row">${place}<td>${order}<td>${page.machine.meaning(word, false).number}<td>${binary(word, 17)}`;
+        return `<tr${here}><th scope="row">${place}${forms.map((form) => `<td>${escaped(wordText(shown.words[place], form))}`).join('')}`;
     };
-    const heads = ['lookPlace', 'lookOrder', 'lookNumber', 'lookDigits'];
-    const head = heads.map((key) => `<th scope="col">${escaped(words.say(key))}`);
+    const heads = [words.say('lookPlace'), ...forms.map((form) => words.say(`forms.${form}`))];
+    const head = heads.map((text) => `<th scope="col">${escaped(text)}`);
     by('look').innerHTML = `<tr>${head.join('')}${Array.from({ length: 32 }, (_, k) => row(first + k)).join('')}`;
 }
 

@@ -28,6 +28,7 @@ function halt() {
     }
     sayAt('story');
     sayAt('spoken');
+    sayAt('reached');
     by('invite').hidden = by('skip').hidden = true;
     if (page.words) {
         drawButtons();
@@ -40,6 +41,7 @@ function run() {
         endRun();
         return;
     }
+    readTyped();
     halt();
     if (isEnded()) {
         begin();
@@ -90,7 +92,7 @@ function drawButtons() {
     by('speed').parentElement.hidden = Boolean(page.tour);
     drawKeyboard();
     by('stage').classList.toggle('unstarted', Boolean(page.tour && page.tour.isUnstarted));
-    by('show').disabled = !isAlive();
+    by('show').disabled = by('toProgram').disabled = by('toPlace').disabled = !isAlive();
     by('at').disabled = !isAlive();
 }
 

@@ -3,6 +3,7 @@
 // is replaced.
 const REST = 500; // milliseconds without a key after which a text is read
 const PAINTED = 40000; // characters: a longer text has no colours
+const DIGITS_OF_LINE = 4; // of the number beside a line
 const editor = {
     isOwn: false, // whether the text was typed here
     waiting: undefined, // what to do once own work may be replaced
@@ -59,13 +60,18 @@ function paint() {
         return span;
     });
     by('colours').replaceChildren(...spans, document.createTextNode('\n'));
+    by('lines').textContent = text.split('\n').map((_, line) => String(line + 1).padStart(DIGITS_OF_LINE)).join('\n');
+    drawMarks();
     follows();
 }
 
-// The colours are where the text is.
+// The colours, the numbers and the marks are where the text is.
 function follows() {
-    by('colours').scrollTop = by('text').scrollTop;
-    by('colours').scrollLeft = by('text').scrollLeft;
+    const { scrollTop, scrollLeft } = by('text');
+    by('colours').scrollTop = by('lines').scrollTop = scrollTop;
+    by('colours').scrollLeft = scrollLeft;
+    Object.assign(marked, { top: scrollTop, left: scrollLeft });
+    placeMarks();
 }
 
 // Does what replaces the text. If the text was typed here, it asks first.

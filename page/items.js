@@ -49,8 +49,8 @@ function placedSaid(item, { first, location, word }, to) {
 function laterOf(place, word, shown) {
     const { machine, words, program } = page;
     const meant = machine.meaning(word, program.small);
-    if (Math.abs(meant.number) < 2048) {
-        return words.say('later.number', { number: meant.number });
+    if (Math.abs(meant.number) < LEAST_ORDER) {
+        return words.say('later.number', { number: words.number(meant.number) });
     }
     if (codePlaces(shown.words, placesOf(program.kind), (one) => machine.meaning(one, program.small)).has(place)) {
         return words.say('later.code', { code: codeText(word >> CODE_DIGITS) });

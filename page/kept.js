@@ -36,7 +36,7 @@ function workNow() {
     const example = EXAMPLES[Number(by('examples').value || -1)];
     return {
         ...textNow(), isOwn: editor.isOwn, example: example && example.name, story: by('stories').value, name: by('name').value,
-        lesson: by('lesson').value,
+        lesson: by('lesson').value, isBench: isBench(),
     };
 }
 
@@ -102,6 +102,7 @@ function restore(work) {
     by('nameLabel').hidden = by('stories').value !== 'name';
     by('lesson').value = work.lesson || '0';
     drawLesson();
+    (work.isBench ? openBench : closeBench)();
     editor.isOwn = work.isOwn === true;
     keep();
 }

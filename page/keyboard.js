@@ -17,7 +17,7 @@ function makeKeyboard() {
 
 // Which keys are shown: those for one letter, those for a name, or none.
 function keysNow() {
-    if (page.tour || page.running || !isAlive()) {
+    if (page.tour || page.running || !isAlive() || isBench()) {
         return undefined;
     }
     const story = storyNow()?.name, isOfLetters = keyboard.isOfLetters && LETTER_TAPES.has(page.program.text);

@@ -67,7 +67,7 @@ class Lens {
 
     // Draws the rows about a place. `others` must be seen too, `said` tells what is in a place, `saidLong` what is in one of
     // the `pairs`, and `isFast` keeps the lens at rest.
-    draw({ focus, others, pairs, counter, done, named, places, isFast, said, saidLong }) {
+    draw({ focus, found, others, pairs, counter, done, named, places, isFast, said, saidLong }) {
         const rows = this.body.rows.length || this.fit();
         const now = performance.now();
         const first = lensFirst(this.first, focus, rows, places);
@@ -86,7 +86,7 @@ class Lens {
             const isAt = (one) => one === place || (is.number !== undefined && one === pair);
             const isFar = k > 0 && place !== this.places[k - 1] + 1;
             const marks = { new: is.isNew, idle: is.isIdle, here: counter === place, done: done === place, named: isAt(named),
-                far: isFar, top: isTop, under: isUnder };
+                found: found === place, far: isFar, top: isTop, under: isUnder };
             const name = Object.keys(marks).filter((mark) => marks[mark]).join(' ');
             this.write(this.body.rows[k], place, is, name);
         });

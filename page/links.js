@@ -34,7 +34,8 @@ async function openAddress() {
 function openProgram({ lesson, story, example }, shared) {
     if (lesson) {
         by('lesson').value = lesson;
-        drawLesson();
+        by('lesson').onchange();
+        chosenLesson();
     }
     if (shared) {
         by('examples').value = '';
@@ -53,12 +54,15 @@ function openProgram({ lesson, story, example }, shared) {
 }
 
 // What a link asks for beside a program: the note, the speed and the view.
-function openBeside({ note, speed }) {
+function openBeside({ note, speed, view }) {
     by('teacher').hidden = note === '';
     by('teacherNote').textContent = note;
     if (speed) {
         by('speed').value = SPEEDS.indexOf(Number(speed));
         drawPace();
+    }
+    if (view) {
+        (view === 'bench' && !addressed().has('kiosk') ? openBench : closeBench)();
     }
 }
 
@@ -96,7 +100,8 @@ async function drawLink() {
     const asked = await programAsked();
     const chosen = (id, value) => (by(id).checked && !by(id).disabled ? value : undefined);
     Object.assign(asked, {
-        lesson: chosen('linkLesson', by('lesson').value), speed: chosen('linkSpeed', String(speedNow())), note: noteOf(by('linkNote').value),
+        lesson: chosen('linkLesson', by('lesson').value), speed: chosen('linkSpeed', String(speedNow())), view: chosen('linkView', 'bench'),
+        note: noteOf(by('linkNote').value),
     });
     const base = linkBase(location.href, document.querySelector('meta[name=edsac-base]').content);
     by('linkText').value = linkOf(base || location.href.split('#')[0], asked);
@@ -106,6 +111,7 @@ async function drawLink() {
 
 async function makeLink() {
     by('linkLesson').disabled = by('lesson').value === '0';
+    by('linkView').disabled = !isBench();
     by('linked').hidden = false;
     await drawLink();
     await copyLink();
@@ -126,6 +132,6 @@ function listenToLinks() {
     by('copyLink').onclick = copyLink;
     by('newsClose').onclick = () => tellNews();
     by('linkNote').maxLength = NOTE_LENGTH;
-    ['linkLesson', 'linkSpeed', 'linkNote'].forEach((id) => { by(id).oninput = drawLink; });
+    ['linkLesson', 'linkSpeed', 'linkView', 'linkNote'].forEach((id) => { by(id).oninput = drawLink; });
     window.onhashchange = changeAddress;
 }

@@ -18,13 +18,11 @@ function listen() {
     const press = (id, does) => { by(id).onclick = does; };
     press('show', once(() => tell(), () => page.tour !== undefined));
     press('skip', () => page.tour && page.tour.skip());
-    press('start', () => { begin(); speak(); });
+    press('start', () => { readTyped(); begin(); speak(); });
     press('run', once(run, () => page.running !== undefined));
-    press('step', () => { halt(); step(); });
+    press('step', () => { readTyped(); halt(); step(); });
     press('back', () => { halt(); back(); });
-    press('write', write);
     press('more', more);
-    press('inviteWrite', write);
     press('inviteBack', () => { halt(); back(); });
     press('inviteNext', nextStory);
     press('wordRun', runCopy);
@@ -52,6 +50,8 @@ function listen() {
     press('check', checkLesson);
     press('follow', () => { follow(by('follow').getAttribute('aria-pressed') !== 'true'); draw(); });
     listenToBoxes();
+    listenToBench();
+    listenToMarks();
     listenToPage();
     listenToLinks();
     listenToKept();
@@ -77,10 +77,6 @@ function listenToBoxes() {
     by('lookBox').ontoggle = () => draw();
     by('traceBox').ontoggle = drawTrace;
     by('listingBox').ontoggle = drawListing;
-    by('lens').onclick = (event) => { // a row opens its word
-        const row = event.target.closest('tr');
-        openWord(row ? lens.places[row.sectionRowIndex] : undefined);
-    };
     by('store').onclick = (event) => { // the lens looks there until the next picture
         const box = by('store').getBoundingClientRect();
         const place = isAlive() ? store.placeAt(event.clientX - box.left, event.clientY - box.top) : undefined;
@@ -116,18 +112,21 @@ function listenToName() {
     };
 }
 
+// Measures all again, and draws it.
+function redraw() {
+    measured.clear();
+    lens.fit();
+    if (page.shown) {
+        draw();
+        playMoves(true);
+    }
+}
+
 function listenToPage() {
-    const redraw = () => {
-        measured.clear();
-        lens.fit();
-        if (page.shown) {
-            draw();
-            playMoves(true);
-        }
-    };
     window.onresize = redraw;
     const sized = new ResizeObserver(redraw);
     ['store', 'lens', 'tape'].forEach((id) => sized.observe(by(id).parentElement));
+    window.onbeforeprint = () => document.body.dataset.print || preparePrint('page');
     window.onafterprint = afterPrint;
     feel(() => { page.touched = true; });
     document.onkeydown = (event) => {

@@ -41,7 +41,7 @@ function movesNow() {
         return [{ kind: 'read', text: tour.item, to: tour.place }];
     }
     const rowText = page.labels[page.rows.length - before.rowsLeft];
-    const textOf = (picture, place, isLong) => (isLong ? longText(picture, place) : shortOf(picture.words[place]));
+    const textOf = (picture, place, isLong) => (isLong ? longText(picture, place) : wordText(picture.words[place]));
     return shown.orders - before.orders === 1 ? movesOf(before, shown, machine, textOf, rowText) : [];
 }
 
@@ -71,7 +71,9 @@ const WAYS = {
         arrive(text, travel.pointOf(by('accNumber'), 0.5, 0), target, 0.12);
     },
     shifted(text, source, target, shift) {
-        travel.shift(by('accLamps'), shift);
+        if (by('accLamps').offsetWidth > 0) { // read as digits, it has no lamps
+            travel.shift(by('accLamps'), shift);
+        }
     },
     jumped(text, source, target) {
         jump(source, target);

@@ -34,7 +34,7 @@ const page = {
 const orderText = (word) => writtenFor(page.program.kind, page.machine.order(word));
 const isAlive = () => page.shown !== undefined && page.shown.words !== undefined;
 const isOver = () => !isAlive() || !['limit', 'stopped'].includes(page.shown.ending) || page.shown.orders >= FURTHEST;
-const isFast = () => (page.running ? speedNow() > SLOW : Boolean(page.tour && page.tour.isFast));
+const isFast = () => (page.running ? page.running.place !== undefined || speedNow() > SLOW : Boolean(page.tour && page.tour.isFast));
 const isEnded = () => isAlive() && page.shown.ending !== 'limit';
 
 // What a fault of a call means: too little memory, or a fault of the page.
@@ -102,6 +102,7 @@ function begin() {
         page.items = [];
     }
     page.rows = told.out;
+    findParts();
     page.labels = labelsOf(page.rows, (code) => page.letters[code], page.items);
     tellRefusal(told);
     tellProof();
@@ -141,9 +142,9 @@ function draw(isGliding = false) {
     by('tape').setAttribute('aria-label', words.say(left ? 'tapeNow' : 'tapeDone', { left, all, next }));
     by('orders').textContent = words.number(shown.orders);
     by('counter').textContent = shown.counter;
-    by('order').textContent = `${order}  ${binary(word, 17)}`;
-    by('acc').textContent = figures(shown.acc, 71);
-    by('multiplier').textContent = figures(shown.multiplier, 35);
+    by('order').textContent = `${order}  ${binary(word, SHORT)}`;
+    by('acc').textContent = figures(shown.acc, ACC);
+    by('multiplier').textContent = figures(shown.multiplier, LONG);
     by('last').textContent = lastText(shown.last);
     drawPaper();
     if (document.activeElement !== by('at')) {
@@ -152,6 +153,7 @@ function draw(isGliding = false) {
     drawLook();
     drawTrace();
     markListing();
+    drawMarks();
 }
 
 // A refused text has no picture.
@@ -162,6 +164,7 @@ function drawNothing() {
     }
     lens.clear();
     tape.clear();
+    drawMarks();
     light(by('accLamps'), '');
     if (page.shown.ending === 'refused' || page.shown.ending === 'too long') {
         by('meaning').textContent = page.words.say('cannotRun');
@@ -190,7 +193,7 @@ async function load() {
     const bytes = Uint8Array.from(atob(wide ? MODULES.wide : MODULES.narrow), (c) => c.charCodeAt(0));
     page.machine = new Machine(await WebAssembly.compile(bytes));
     page.letters = Array.from({ length: 32 }, (_, code) => page.machine.letter(code));
-    lampsIn(by('accLamps'), 71);
+    lampsIn(by('accLamps'), ACC);
     by('stories').value = STORIES[0].name;
     listen();
     const isNew = !(await openAtFirst());

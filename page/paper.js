@@ -2,7 +2,7 @@
 // The paper of the teleprinter.
 const TAIL = 8000, FAST_TAIL = 2000; // codes of the paper that are laid out, and those while the machine runs fast
 const PAPER_LINES = 24; // of a paper that is shown whole
-const LEAST_TYPE = 0.4, MOST_TYPE = 2; // sizes of a letter, in rem
+const LEAST_TYPE = 0.4, LEAST_HERE = 0.65, MOST_TYPE = 2; // sizes of a letter, in rem; the second one in the workbench
 
 // The end of the paper: no more than a browser lays out at once. What was printed last has a part of its own.
 function drawPaper() {
@@ -29,5 +29,5 @@ function sizePaper(said) {
         return [by('paper').clientWidth, most - parseFloat(paddingTop) - parseFloat(paddingBottom)];
     });
     const size = Math.min((wide * 0.9) / (widest * 0.61), high / (lines.length * 1.2)) / letterHigh();
-    by('paper').style.fontSize = `${Math.max(LEAST_TYPE, Math.min(Math.floor(100 * size) / 100, MOST_TYPE))}rem`;
+    by('paper').style.fontSize = `${Math.max(isBench() ? LEAST_HERE : LEAST_TYPE, Math.min(Math.floor(100 * size) / 100, MOST_TYPE))}rem`;
 }

@@ -56,12 +56,6 @@ function chooseExample(number) {
     });
 }
 
-function write() {
-    halt();
-    by('program').scrollIntoView();
-    by('text').focus();
-}
-
 async function openFile() {
     const [file] = by('file').files;
     by('file').value = '';

@@ -38,7 +38,7 @@ function drawLens(meant) {
     const pairOf = (one) => (one && one.isLong && one.named !== undefined ? [one.pair, one.pair + 1] : []);
     const seen = [...pairOf(done), ...moved, ...pairOf(next), next && next.named];
     lens.draw({
-        ...focusNow(isOne), named: next && next.named, counter: isOfItem ? undefined : shown.counter,
+        ...focusNow(isOne), found: page.peek, named: next && next.named, counter: isOfItem ? undefined : shown.counter,
         done: isOne ? before.counter : undefined, places: program.small ? 512 : 1024,
         pairs: isFast() ? [] : [...pairOf(done), ...pairOf(next)].filter((place) => place % 2 === 0),
         others: seen.filter((place) => place !== undefined),
@@ -53,7 +53,7 @@ function drawLens(meant) {
 // The line below the rows: what the loader's order just obeyed is for, if one is seen, or else that a row can be touched.
 function drawNote(place) {
     const comment = place < placesOf(page.program.kind) ? commentOf(place) : null;
-    by('note').textContent = comment ?? page.words.say('touchRow');
+    by('note').textContent = comment ?? page.words.say(isBench() ? 'touchRowHere' : 'touchRow');
     by('note').classList.toggle('comment', comment !== null);
 }
 
@@ -62,32 +62,33 @@ function wordSaid(place, codes, isOne) {
     const { shown, before, words } = page;
     const word = shown.words[place], old = before ? before.words[place] : word;
     const isNew = word !== old;
-    const brief = isNew && isOne && old ? words.say('brief.was', { old: shortOf(old) }) : briefOf(word, codes.has(place));
-    return { bits: binary(word, 17), word: word ? orderText(word) : '', isNew, isIdle: word === 0, brief };
+    const brief = isNew && isOne && old ? words.say('brief.was', { old: wordText(old) }) : briefOf(word, codes.has(place));
+    return { bits: binary(word, SHORT), word: word ? spelledOf(word) : '', isNew, isIdle: word === 0, brief };
 }
 
 // What two rows of the lens have of a long word: its 35 digits, and its number.
 function longSaid(pair) {
     const { shown, before, words } = page;
-    const digitsOf = (picture) => binary(picture.words[pair + 1], 17) + picture.digits[pair >> 1] + binary(picture.words[pair], 17);
+    const digitsOf = (picture) => binary(picture.words[pair + 1], SHORT) + picture.digits[pair >> 1] + binary(picture.words[pair], SHORT);
     const bits = digitsOf(shown);
     return { bits, brief: words.say('brief.long'), number: longText(shown, pair), isNew: Boolean(before) && digitsOf(before) !== bits };
 }
 
-// A small word as a number, and any other as an order.
-function shortOf(word) {
-    const { number } = page.machine.meaning(word, false);
-    return Math.abs(number) < 2048 ? String(number) : orderText(word);
-}
+// What a row says large: the order, or the number as it is read now.
+const spelledOf = (word) => wordText(word, ['whole', 'fraction'].includes(formNow()) ? formNow() : 'order');
 
-// What a word is or does, in a few words: a small one is a number, and one that is printed a code.
+// What a word is or does, in a few words: a small one is a number, and one that is printed a code. Where words are read as
+// orders or as digits, it is what it does or its digits.
 function briefOf(word, isPrinted) {
     const { machine, words } = page;
-    const meant = machine.meaning(word, page.program.small);
-    if (Math.abs(meant.number) < 2048) {
-        return word === 0 ? '0' : words.say('brief.number', { number: meant.number });
+    const meant = machine.meaning(word, page.program.small), form = formNow();
+    if (form === 'digits') {
+        return wordText(word);
     }
-    return isPrinted ? codeText(word >> CODE_DIGITS) : words.brief(meant);
+    if (form !== 'order' && Math.abs(meant.number) < LEAST_ORDER) {
+        return word === 0 ? '0' : form === 'fraction' ? '' : words.say('brief.number', { number: words.number(meant.number) });
+    }
+    return isPrinted && form !== 'order' ? codeText(word >> CODE_DIGITS) : words.brief(meant);
 }
 
 // What a code prints in the present shift of the teleprinter.

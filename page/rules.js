@@ -54,8 +54,8 @@ function styles() {
     const all = (list) => [...list].flatMap((rule) => (rule.cssRules && !(rule instanceof CSSKeyframesRule)
         ? [rule, ...all(rule.cssRules)] : [rule]));
     const atTimes = ['.rings', '.here', '.painted', '.faulty', '.comment', '.label', '.order', '.word', '.string', '.kiosk',
-        '.long', '.new', '.idle', '.done', '.named', '.far', '.top', '.under', '.on', '.unstarted', '.typing', '.traveller', '#trails', '#parts',
-        '[data-print', '::selection', '#printed', '#unable', '.alone'];
+        '.long', '.new', '.idle', '.done', '.named', '.far', '.found', '.top', '.under', '.on', '.unstarted', '.typing', '.traveller', '#trails', '#parts',
+        '[data-print', '::selection', '#printed', '#unable', '.alone', '#marks', '[data-form', ...(isBench() ? ['#stage header', '#paper span'] : ['.bench'])];
     const rules = all(document.styleSheets[0].cssRules);
     const selectors = rules.flatMap((rule) => (rule.selectorText || '').split(',')).map((one) => one.trim()).filter(Boolean);
     const bare = (one) => one.replace(/:not\(:empty\)|::before|::-webkit-[a-z-]+|:(focus-visible|focus|disabled|empty)/g, '') || '*';

@@ -1,5 +1,6 @@
 'use strict';
 // The large sentence: what the last order did, how a run has ended, and what is said aloud.
+const READ = { word: wordSpoken, long: longText, register: (shown, name) => registerSpoken(shown[name], name === 'acc' ? ACC : LONG) };
 const SPOKEN = 400; // characters of a paper, at most, that are said aloud
 
 // Whether the picture is beside the one of the order before, and is to be looked at.
@@ -11,7 +12,7 @@ const isOneOrder = () => isBeside() && !isFast() && page.shown.orders - page.bef
 function doneText() {
     const { before, shown, machine, program, words } = page;
     if (!isBeside()) {
-        const key = page.isNew ? 'told.why' : keysNow() === 'name' ? 'pressName' : 'press';
+        const key = page.isNew ? 'told.why' : keysNow() === 'name' ? 'pressName' : isBench() ? 'pressRun' : 'press';
         return before ? words.say(key) : '';
     }
     if (!isOneOrder()) {
@@ -29,7 +30,7 @@ function didText() {
         return page.words.say(page.program.kind === 'tape1' ? 'atStart1' : 'atStart');
     }
     return leftText(page.shown) || endlessText() || (isOneOrder()
-        ? page.words.say('before', { said: page.words.changes(page.before, page.shown, page.machine, page.rows, longText) }) : '');
+        ? page.words.say('before', { said: page.words.changes(page.before, page.shown, page.machine, page.rows, READ) }) : '');
 }
 
 function changedText() {

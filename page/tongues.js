@@ -25,7 +25,7 @@ function speakIn(name) {
     drawPace();
     by('name').placeholder = say('yourName');
     fill('stories', STORIES.map((story) => [story.name, say(`stories.${story.name}`)]));
-    fill('figures', ['binary', 'decimal'].map((form) => [form, say(form)]));
+    fill('figures', FORMS.map((form) => [form, say(`forms.${form}`)]));
     const examples = EXAMPLES.map((example, k) => [String(k), `${example.says} (${example.name})`]);
     const lessons = LESSONS.map(({ number, title }) => [String(number), `${number}: ${title}`]);
     fill('examples', [['', say('own')], ...examples]);

@@ -12,8 +12,8 @@ async function lasting(b) {
         await write(b, '#text', OWN);
         await writeOn(b, '; and more'); // it is kept at once, even if typing has not rested
         await reload(b);
-        const wanted = [`${OWN}; and more`, 'source', true, '2', 'own'];
-        const now = () => b.ask('[by("text").value, page.program.kind, editor.isOwn, by("lesson").value, by("stories").value]');
+        const wanted = [`${OWN}; and more`, 'source', true, '2', 'own', true];
+        const now = () => b.ask('[by("text").value, page.program.kind, editor.isOwn, by("lesson").value, by("stories").value, isBench()]');
         await b.expect(`${where}: what was typed is there after a reload`, await now(), wanted);
         await b.send('Page.navigate', { url: 'data:text/html,<title>elsewhere</title>' });
         await b.until('document.title === "elsewhere"');
@@ -22,7 +22,7 @@ async function lasting(b) {
         await b.speak(language);
         await b.send('Page.navigate', { url: `${b.page}?${Math.random()}` });
         await b.until('document.body !== null && document.body.dataset.ready !== undefined && location.search !== ""');
-        await b.expect(`${where}: the page opened anew begins anew`, (await now()).slice(2), [false, '0', 'letter']);
+        await b.expect(`${where}: the page opened anew begins anew`, (await now()).slice(2), [false, '0', 'letter', false]);
         await b.speak(language);
         await press(b, '#undo');
         await press(b, '#former button');
@@ -32,6 +32,7 @@ async function lasting(b) {
         await b.speak(language);
         await b.ask('editor.isOwn = false; 0');
     });
+    await goTo(b, '#view=exhibit');
     await b.choose('letter.tape');
 }
 
@@ -48,7 +49,8 @@ const REPLACES = {
 
 async function asked(b) {
     await everywhere(b, async (language, where) => {
-        await goTo(b, '#example=letter.edsac&lesson=2');
+        await goTo(b, '#view=exhibit');
+        await goTo(b, '#example=letter.edsac&lesson=2&view=exhibit');
         await press(b, '#isSource');
         for (const [what, does] of Object.entries(REPLACES)) {
             await write(b, '#text', `${OWN}; ${what}\n`);

@@ -57,7 +57,7 @@ async function leaveTraces(b) {
         document.querySelectorAll('details').forEach((box) => { box.open = true; });
         document.querySelectorAll('input[type=checkbox]').forEach((box) => box.click());
     });
-    const chosen = { figures: 'decimal', lesson: '3', name: 'BOB', examples: '9', speed: '5', tank: '5' };
+    const chosen = { figures: 'whole', lesson: '3', name: 'BOB', examples: '9', speed: '5', tank: '5' };
     for (const [id, value] of Object.entries(chosen)) {
         await b.set(id, value);
     }

@@ -41,6 +41,7 @@ async function lessons(b) {
     }
     await b.set('lesson', '0');
     await proofs(b);
+    await b.click('toExhibit');
     await b.choose('letter.tape');
 }
 

@@ -7,7 +7,9 @@ const LONG_NOTE = `Change <b>the A</b> into your letter. ${'Then run it. '.repea
 
 // For each link what it opens: the example, the story, the lesson, the speed, and whether the text is that of the example.
 const LINKS = {
-    '#lesson=3': { lesson: '3' },
+    '#lesson=3': { lesson: '3', view: true },
+    '#view=exhibit': { view: false },
+    '#view=bench': { view: true },
     '#story=disc': { story: 'disc', example: 'disc.edsac' },
     '#example=squares.tape1': { example: 'squares.tape1', kind: 'tape1' },
     '#example=sort.edsac&speed=5': { example: 'sort.edsac', kind: 'source', pace: 5 },
@@ -22,7 +24,7 @@ async function opened(b) {
             await b.expect(`${where}: ${hash}`, await b.run((keys) => {
                 const example = EXAMPLES[Number(by('examples').value || -1)];
                 const all = { lesson: by('lesson').value, story: by('stories').value, example: example && example.name, kind: page.program.kind,
-                    pace: speedNow() };
+                    pace: speedNow(), view: isBench() };
                 return Object.fromEntries(keys.map((key) => [key, all[key]]));
             }, Object.keys(wanted)), wanted);
             await b.expect(`${where}: ${hash} is no damaged link`, await b.ask('by("news").hidden'), true);
@@ -38,7 +40,7 @@ async function opened(b) {
         await b.expect(`${where}: a link without a note has none`, await b.ask('by("teacher").hidden'), true);
         await damaged(b, language, where);
     });
-    await goTo(b, '#story=letter&speed=50');
+    await goTo(b, '#story=letter&speed=50&view=exhibit');
     await goTo(b, '');
 }
 
@@ -75,18 +77,20 @@ async function made(b) {
         await b.expect(`${where}: from a file`, await b.ask('by("linkAlone").textContent'), await b.ask('page.words.say("linkAlone")'));
         await press(b, '#linkLesson', kind);
         await press(b, '#linkSpeed', kind);
+        await press(b, '#linkView', kind);
         await write(b, '#linkNote', 'Für euch: A & B');
         await pause(200);
-        await b.expect(`${where}: with the lesson, the speed and a note`, (await link())[1],
-            `lesson=4&example=hello.edsac&speed=${await b.ask('speedNow()')}&note=F%C3%BCr+euch%3A+A+%26+B`);
+        await b.expect(`${where}: with the lesson, the speed, the view and a note`, (await link())[1],
+            `lesson=4&example=hello.edsac&speed=${await b.ask('speedNow()')}&view=bench&note=F%C3%BCr+euch%3A+A+%26+B`);
         await press(b, '#linkLesson', kind);
         await press(b, '#linkSpeed', kind);
+        await press(b, '#linkView', kind);
         await write(b, '#text', 'T64K GK ZF EZPF [own]');
         await press(b, '#link', kind);
         await b.until('by("linkText").value.includes("p=")');
         const [, own] = await link();
         await b.ask('editor.isOwn = false; 0');
-        await goTo(b, '#story=letter');
+        await goTo(b, `#story=letter&note=${Math.random()}`);
         await goTo(b, `#${own}`);
         await b.expect(`${where}: an own text there and back, with its note`, await b.ask('[by("text").value, by("teacherNote").textContent]'),
             ['T64K GK ZF EZPF [own]', 'Für euch: A & B']);
@@ -98,7 +102,7 @@ async function made(b) {
         await write(b, '#linkNote', '');
         await b.ask('by("linked").hidden = true; 0');
     });
-    await goTo(b, '#story=letter&speed=50');
+    await goTo(b, '#story=letter&speed=50&view=exhibit');
     await goTo(b, '');
 }
 
@@ -123,7 +127,7 @@ async function steps(b) {
         await b.speak(language);
         await b.ask('editor.isOwn = false; 0');
     });
-    await goTo(b, '');
+    await goTo(b, '#view=exhibit');
     await b.choose('letter.tape');
 }
 

@@ -104,10 +104,10 @@ async function examples(b) {
     await b.set('at', '4000');
     await b.ask(`document.getElementById('lookBox').open = true; 0`);
     await b.expect('the table of figures', await b.until(`document.querySelectorAll('#look tr').length === 33`), true);
-    await b.set('figures', 'decimal');
+    await b.set('figures', 'fraction');
     await b.expect('the registers in decimal', await b.text('multiplier'), (said) => /^-?[0-9.e-]+$/.test(said));
     await b.expect('the last printed code', await b.text('last'), (said) => /^(\S {2}[01]{5}|nothing yet)$/.test(said));
-    await b.set('figures', 'binary');
+    await b.set('figures', 'asIs');
     await b.ask(`document.getElementById('lookBox').open = document.getElementById('listingBox').open = false; 0`);
 }
 

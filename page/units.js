@@ -213,6 +213,7 @@ for (const [name, words] of Object.entries(languages)) {
 
 rules.hints(same, languages);
 rules.addresses(same);
+rules.titles(same);
 
 const codes = (text) => [...text].map((sign) => (/\d/.test(sign) ? Number(sign) : LETTERS.indexOf(sign)));
 const figured = (text, ...ends) => figuresOf(codes(text), ends.map((after, k) => ({ first: k ? ends[k - 1] : 0, after })))

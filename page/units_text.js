@@ -4,6 +4,8 @@ const { signAt, lineAt, partAt, hintFor, signsOf, slipOf } = require('./hints.js
 const { leftFrom } = require('./endings.js');
 const { askedOf, noteOf, linkBase, linkOf } = require('./address.js');
 const { wordsOf } = require('./kept.js');
+const { titleOf } = require('./printing.js');
+const { stripOf } = require('./strip.js');
 
 // The hint for each slip: the cause that the machine reports, the line or the sign, and the hint.
 const SLIPS = [
@@ -87,4 +89,12 @@ function addresses(same) {
     same('the first words of a text', [wordsOf('; Prints A.\nsegment main\nO mark F'), wordsOf(`[x]${'a '.repeat(40)}`).length <= 44], ['Prints A. segment main O mark F', true]);
 }
 
-module.exports = { hints, addresses };
+// What a program is called on what is printed of it.
+function titles(same) {
+    same('the title of a text', ['; Prints A. It stops.\nsegment main\nenter main', '[Prints B: now]', 'segment one\nX F\nenter two', 'T64K', `; ${'a'.repeat(80)}`]
+        .map((text) => titleOf(text)), ['Prints A', 'Prints B', 'two', '', `${'a'.repeat(60)} …`]);
+    const wide = (rows, says) => Number(stripOf(new Array(rows).fill(0), new Array(rows).fill('P'), () => 0, 'x', says).match(/viewBox="0 0 (\d+)/)[1]);
+    same('a short tape has room for what it says', [wide(70, 'x'), wide(2, 'x'), wide(2, 'x'.repeat(90)) > 90 * 3.6], [720, 40, true]);
+}
+
+module.exports = { hints, addresses, titles };

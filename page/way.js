@@ -20,8 +20,7 @@ class Way {
     at(orders, near) {
         let shown = this.nearest(orders, near);
         while (shown.words && shown.orders < orders && this.goesOn(shown)) {
-            const mark = (Math.floor(shown.orders / KEPT_EACH) + 1) * KEPT_EACH;
-            shown = this.after(shown, Math.min(orders, mark) - shown.orders);
+            shown = this.after(shown, Math.min(orders - shown.orders, this.upToKept(shown)));
         }
         return shown;
     }
@@ -30,11 +29,20 @@ class Way {
     after(from, orders) {
         const to = from.orders + orders;
         const passed = [...this.stops].filter((stop) => from.orders < stop && stop < to).length;
-        const shown = this.machine.goOn(this, from, orders, passed);
+        return this.keep(this.machine.goOn(this, from, orders, passed));
+    }
+
+    // Keeps a picture, if it is due, and gives it back.
+    keep(shown) {
         if (shown.words && shown.orders === KEPT_EACH * this.kept.length) {
             this.kept.push(shown);
         }
         return shown;
+    }
+
+    // The orders from a picture up to the next one that is kept.
+    upToKept(shown) {
+        return (Math.floor(shown.orders / KEPT_EACH) + 1) * KEPT_EACH - shown.orders;
     }
 
     goesOn(shown) {

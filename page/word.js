@@ -73,7 +73,8 @@ function drawWord() {
     by('word_length').textContent = words.say('DL'.includes(length) ? 'word.isLong' : 'word.isShort');
     by('wordHead').textContent = words.say(word === was ? 'word.head' : 'word.changed', { place, order, was: orderText(was) });
     by('wordMeans').textContent = `${order}: ${words.meaning(meant)}`;
-    by('wordNumber').textContent = words.say('word.number', { number: words.number(meant.number) });
+    by('wordNumber').textContent = words.say(meant.number < 0 ? 'word.numberBelow' : 'word.number', {
+        number: words.number(meant.number), listed: words.number(word) });
     opened.copy = word === was ? undefined : copyWith(place, word);
     by('wordRun').disabled = opened.copy === undefined;
     by('wordUndo').disabled = word === was;

@@ -63,21 +63,15 @@ class Words {
         return this.say(`${part}.${letter}`, { at: isLong ? `${pair}, ${pair + 1}` : location, address: location, shift });
     }
 
-    // A word as it may be meant: a small one as a number, and any other as an order too.
-    described(word, machine, kind) {
-        const { number } = machine.meaning(word, false);
-        return Math.abs(number) < 2048 ? `${number}` : this.say('asNumber', { order: writtenFor(kind, machine.order(word)), number });
-    }
-
     // What became different between two pictures that are one order apart. The two places of a long order are told of as
-    // one, with the number that `longOf` says.
-    changes(before, after, machine, rows, longOf) {
+    // one. `read` says how a word, a long one and a register are read.
+    changes(before, after, machine, rows, read) {
         const said = [];
         const { named, isLong, pair } = machine.meaning(before.words[before.counter], after.way.small);
         const isPair = (place) => isLong && named !== undefined && place >> 1 === pair >> 1;
         const changed = changedPlaces(before, after);
         if (changed.some(isPair) || (isPair(pair) && before.digits[pair >> 1] !== after.digits[pair >> 1])) {
-            said.push(this.say('did.long', { first: pair, second: pair + 1, number: longOf(after, pair) }));
+            said.push(this.say('did.long', { first: pair, second: pair + 1, number: read.long(after, pair) }));
         }
         for (const place of changed.filter((one) => !isPair(one))) {
             const [old, now] = [before.words[place], after.words[place]];
@@ -85,7 +79,7 @@ class Words {
             const loader = placesOf(kind);
             const own = place < loader && before.counter < loader ? 'loader'
                 : isOwnOrder(before, after, place, machine) ? 'self' : undefined;
-            const form = own ? (word) => writtenFor(kind, machine.order(word)) : (word) => this.described(word, machine, kind);
+            const form = own ? (word) => writtenFor(kind, machine.order(word)) : read.word;
             said.push(this.say(`did.${own || 'word'}`, { place, old: form(old), now: form(now) }));
         }
         for (let half = 0; half < 512; half++) {
@@ -100,11 +94,8 @@ class Words {
             const text = printedBetween(before, after);
             said.push(text ? this.say('did.printed', { text }) : this.say('did.moved'));
         }
-        if (before.acc !== after.acc) {
-            said.push(this.say(after.acc === 0n ? 'did.cleared' : 'did.acc'));
-        }
-        if (before.multiplier !== after.multiplier) {
-            said.push(this.say('did.multiplier'));
+        for (const name of ['acc', 'multiplier'].filter((one) => before[one] !== after[one])) {
+            said.push(this.say(`did.${name}`, { old: read.register(before, name), now: read.register(after, name) }));
         }
         if (after.counter !== before.counter + 1 && after.counter !== before.counter) {
             said.push(this.say('did.jumped', { place: after.counter }));
