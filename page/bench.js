@@ -43,7 +43,9 @@ function arranged() {
 function write() {
     halt();
     openBench();
-    by('program').scrollIntoView({ block: 'nearest' });
+    if (!isBench()) { // a museum's screen
+        by('program').scrollIntoView();
+    }
     by('text').focus();
 }
 
@@ -98,15 +100,19 @@ function toLesson() {
 }
 
 function toText() {
-    by('program').scrollIntoView({ block: 'start' });
+    by('text').scrollIntoView({ block: 'center' });
     by('text').focus({ preventScroll: true });
 }
 
-// A lesson that is chosen is shown beside the text.
+// A lesson that is chosen is shown beside the text. The focus stays in the list, for those who go through it by keys.
 function chosenLesson() {
-    if (by('lesson').value !== '0') {
-        openBench();
-        toLesson();
+    if (by('lesson').value === '0') {
+        return;
+    }
+    openBench();
+    by('lessons').scrollTop = 0;
+    if (isBench() && !isOneScreen()) {
+        by('lessonBox').scrollIntoView({ block: 'start' });
     }
 }
 
@@ -121,7 +127,11 @@ function listenToBench() {
     press('toLesson', toLesson);
     press('toText', toText);
     by('lesson').addEventListener('change', chosenLesson);
-    by('placeWanted').onkeydown = (event) => event.key === 'Enter' && toPlace();
+    by('placeWanted').onkeydown = (event) => {
+        if (event.key === 'Enter') {
+            toPlace();
+        }
+    };
     by('text').onkeydown = (event) => {
         if (event.key === 'Enter' && (event.ctrlKey || event.metaKey)) {
             event.preventDefault();

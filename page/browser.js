@@ -5,7 +5,9 @@ const fs = require('fs');
 const os = require('os');
 const path = require('path');
 
-const KEY_CODES = { Shift: [16, undefined], Enter: [13, '\r'], Tab: [9, undefined], ArrowRight: [39, undefined], ArrowLeft: [37, undefined] };
+const KEY_CODES = { Shift: [16, undefined], Enter: [13, '\r'], Tab: [9, undefined], ArrowRight: [39, undefined], ArrowLeft: [37, undefined],
+    ArrowDown: [40, undefined], ArrowUp: [38, undefined], End: [35, undefined], Backspace: [8, undefined] };
+const CONTROL = 2; // of the keys that are held down with another
 
 // Where the middle of a part of the page is in the window, and what is over it; undefined if it isn't seen. It is scrolled to,
 // if it is outside.
@@ -149,13 +151,29 @@ class Browser {
         await this.until('editor.timer === undefined');
     }
 
-    // A key: a sign, or one that has a name.
-    async key(name) {
+    // A key: a sign, or one that has a name. With others held down it types nothing.
+    async key(name, modifiers = 0) {
         const [code, text] = KEY_CODES[name] || [name.toUpperCase().charCodeAt(0), name];
         for (const type of ['keyDown', 'keyUp']) {
-            const typed = type === 'keyDown' ? { text } : {};
-            await this.send('Input.dispatchKeyEvent', { type, key: name, windowsVirtualKeyCode: code, ...typed });
+            const typed = type === 'keyDown' && !modifiers ? { text } : {};
+            await this.send('Input.dispatchKeyEvent', { type, key: name, windowsVirtualKeyCode: code, modifiers, ...typed });
         }
+    }
+
+    // Writes over what stands in a box, as by typing.
+    async write(selector, text, kind = 'mouse') {
+        await this.press(selector, kind);
+        await this.key('End', CONTROL);
+        const all = { key: 'a', windowsVirtualKeyCode: 65, modifiers: CONTROL };
+        await this.send('Input.dispatchKeyEvent', { type: 'rawKeyDown', commands: ['selectAll'], ...all });
+        await this.send('Input.dispatchKeyEvent', { type: 'keyUp', ...all });
+        if (await this.ask('document.activeElement.type === "number"')) { // where nothing can be selected by a key
+            await this.key('End');
+            for (let k = await this.ask('document.activeElement.value.length'); k > 0; k--) {
+                await this.key('Backspace');
+            }
+        }
+        await this.send('Input.insertText', { text });
     }
 
     async shot(name, params = {}) {
@@ -236,4 +254,4 @@ class Visitor extends Browser {
 
 const pause = (ms) => new Promise((done) => setTimeout(done, ms));
 
-module.exports = { Browser, Visitor, pause };
+module.exports = { Browser, Visitor, pause, CONTROL };

@@ -8,11 +8,12 @@ const { spawnSync } = require('child_process');
 const { Machine, NO_CODE } = require('./machine.js');
 const { Way } = require('./way.js');
 const { figuresOf } = require('./words.js');
+const { compareLines, EVERY_FORM } = require('./compare_lines.js');
 
 const [file, edsac, folder] = process.argv.slice(2);
 const machine = new Machine(new WebAssembly.Module(fs.readFileSync(file)));
 const seen = new Map();
-let pictures = 0, gone = 0, small = 0, figures = 0, landed = 0, printed = 0, wrong = 0;
+let pictures = 0, gone = 0, small = 0, figures = 0, landed = 0, printed = 0, lines = 0, wrong = 0;
 
 function program(words, input) {
     const ran = spawnSync(edsac, words, { input, maxBuffer: 1 << 26 });
@@ -319,13 +320,26 @@ function compareMeanings() {
     }
 }
 
+// The lines of a source that is not refused, beside their places in the listing.
+function compareSource(name, text) {
+    const source = { kind: 'source', text, small: false };
+    const listingOf = (changed) => new TextDecoder().decode(machine.listing({ ...source, text: changed }).out);
+    if (machine.rows(source).status === 0) {
+        lines += compareLines(name, text, listingOf, machine.items(source).items, same);
+    }
+}
+
 compareMeanings();
+compareSource('a source with every form', EVERY_FORM);
 for (const name of fs.readdirSync(folder).sort()) {
     const kind = KINDS[path.extname(name)];
     if (kind) {
         const text = fs.readFileSync(path.join(folder, name), 'utf8');
         compareAll(name, { kind, text, small: false }, 400000);
         compareFigures(name, { kind, text, small: false });
+        if (kind === 'source') {
+            compareSource(name, text);
+        }
         if (kind !== 'tape1') {
             compareAll(`${name} in the small store`, { kind, text, small: true }, 20000);
         }
@@ -360,6 +374,6 @@ for (const ending of ['stopped', 'limit', 'no order', 'no tape', 'refused']) {
 }
 const endings = [...seen].map(([ending, count]) => `${ending} ${count}`).join(', ');
 console.log(`${path.basename(file)}: ${pictures} pictures compared with the program, ${gone} gone on to, ${small} post-mortems of the small store, `
-    + `${printed} more of either, ${figures} rows with the loader, ${landed} words of items with the store, ${wrong} differences; endings ${endings}; `
+    + `${printed} more of either, ${figures} rows with the loader, ${landed} words of items with the store, ${lines} lines with the listing, ${wrong} differences; endings ${endings}; `
     + `the memory grew to ${machine.exports.memory.buffer.byteLength >> 20} MiB`);
 process.exit(wrong ? 1 : 0);

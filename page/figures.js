@@ -70,3 +70,7 @@ function longText(shown, pair) {
     const isAtRight = whole % (1n << BigInt(LONG - SHORT)) !== 0n && whole < SMALL && whole > -SMALL;
     return isAtRight ? page.words.say('atRight', { number: page.words.number(Number(whole)) }) : numberText(value, LONG);
 }
+
+if (typeof module !== 'undefined') {
+    module.exports = { FORMS, registerText, registerSpoken, wordText };
+}

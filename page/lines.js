@@ -73,5 +73,5 @@ function partsWithPlaces({ text, kind }, items, rows) {
 const partOfPlace = (parts, place) => parts.filter(({ places }) => places.includes(place)).pop();
 
 if (typeof module !== 'undefined') {
-    module.exports = { wordsOfLine, placesOfLines, partsOfSource, partsOfTape, partOfPlace };
+    module.exports = { statementOf, wordsOfLine, placesOfLines, partsOfSource, partsOfTape, partOfPlace };
 }

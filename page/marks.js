@@ -170,7 +170,11 @@ function listenToMarks() {
     by('lens').onclick = touchRow;
     by('lines').onclick = findNumber;
     by('text').onclick = findCaret;
-    by('text').onkeyup = (event) => CARET_KEYS.includes(event.key) && findCaret();
+    by('text').onkeyup = (event) => {
+        if (CARET_KEYS.includes(event.key)) {
+            findCaret();
+        }
+    };
 }
 
 if (typeof module !== 'undefined') {

@@ -35,9 +35,9 @@ function toPlace() {
     if (isEnded()) {
         begin();
     }
-    const place = Number(by('placeWanted').value);
-    sayAt('reached');
-    if (isOver()) {
+    const place = Number(by('placeWanted').value), last = (page.program.small ? 512 : 1024) - 1;
+    if (isOver() || by('placeWanted').value === '' || !(place >= 0 && place <= last && Number.isInteger(place))) {
+        sayAt('reached', () => (isOver() ? '' : page.words.say('noSuchPlace', { last })));
         return;
     }
     const running = { place, from: page.shown.orders, printed: page.shown.printed };

@@ -21,6 +21,7 @@ const { clatterOf } = require('./sound.js');
 const { kioskAsked } = require('./kiosk.js');
 const { texts } = require('./tried_loaders.js');
 const rules = require('./units_text.js');
+const { bench } = require('./units_bench.js');
 
 Object.assign(globalThis, { printedBetween, ...require('./hints.js') }); // the page's scripts are one script
 let count = 0, wrong = 0;
@@ -280,6 +281,7 @@ same(
 );
 
 texts(same);
+bench(same, languages);
 
 // What a kiosk's address asks for.
 const usual = { seconds: 90, between: 12, stories: ['letter', 'disc'], isQuiet: false, isStage: false };
