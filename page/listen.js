@@ -134,7 +134,8 @@ function listenToPage() {
         const { tagName, type } = event.target;
         const isTyping = ['TEXTAREA', 'INPUT', 'SELECT'].includes(tagName) && !['checkbox', 'range'].includes(type);
         const isPlain = !event.ctrlKey && !event.altKey && !event.metaKey;
-        if (button && by('keys').checked && isPlain && !isTyping && !by(button).disabled) {
+        const isHeld = event.repeat && ['show', 'run'].includes(button); // it would start and stop in turn
+        if (button && by('keys').checked && isPlain && !isTyping && !isHeld && !by(button).disabled) {
             by(button).click();
         }
     };

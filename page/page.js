@@ -197,7 +197,7 @@ async function load() {
     by('stories').value = STORIES[0].name;
     listen();
     const isNew = !(await openAtFirst());
-    if (isNew) {
+    if (page.shown === undefined) {
         loadStory();
     }
     page.isNew = isNew;

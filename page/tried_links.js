@@ -42,6 +42,18 @@ async function opened(b) {
     });
     await goTo(b, '#story=letter&speed=50&view=exhibit');
     await goTo(b, '');
+    await openedAtFirst(b);
+}
+
+// The same links in a new tab.
+async function openedAtFirst(b) {
+    const was = b.session;
+    for (const hash of [...Object.keys(LINKS), '#lesson=99', '#p=1AAAA', '#note=only']) {
+        await b.open(hash);
+        await b.expect(`${hash} in a new tab`, await b.ask('[document.body.dataset.ready !== "never", page.shown.orders, page.rows.length > 0, by("news").hidden]'),
+            [true, 0, true, !/99|AAAA/.test(hash)]);
+    }
+    b.session = was;
 }
 
 // A damaged link says so at the top of the window, wherever the page is, until that is closed or another link is opened.
