@@ -62,6 +62,8 @@ async function arrangement(b) {
         const before = await b.run(partsInOrder);
         await b.press('#write', screen.kind);
         await b.expect(`${where}: the text is at hand`, await b.ask('[isBench(), document.activeElement.id]'), [true, 'text']);
+        await b.expect(`${where}: what to press`, [await b.text('done'), await b.ask('page.words.say("pressRun").includes(by("run").textContent)')],
+            [await b.ask('page.words.say("pressRun")'), true]);
         if (screen.kind === 'mouse') {
             await besideOneAnother(b, where, ['#program', '#stage']);
         } else {
