@@ -27,12 +27,11 @@ async function write(b, selector, text) {
     await b.until('editor.timer === undefined');
 }
 
-// Writes more at the end of the box.
+// Writes more at the end of the box. It doesn't wait until typing has rested.
 async function writeOn(b, text) {
     await press(b, '#text');
     await key(b, 'End', 35, { modifiers: CONTROL, commands: ['moveToEndOfDocument'] });
     await b.send('Input.insertText', { text });
-    await b.until('editor.timer === undefined');
 }
 
 // Does something on each screen and in each language.

@@ -40,9 +40,9 @@ function workNow() {
     };
 }
 
-// Keeps the work for the present step of the browser's history.
+// Keeps the work for the present step of the browser's history, if there is one: a kiosk has none.
 function keep() {
-    if (kept.step === undefined || page.kiosk) {
+    if (kept.step === undefined) {
         return;
     }
     if (location.href === kept.address) {

@@ -70,7 +70,7 @@ function openBeside({ note, speed, view }) {
 // before, or what the address asks for, comes into the box.
 async function changeAddress() {
     keep();
-    const work = enter();
+    const work = page.kiosk ? undefined : enter();
     if (work === undefined) {
         await openAddress();
     } else {

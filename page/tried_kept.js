@@ -133,6 +133,8 @@ async function unkept(b) {
     await b.open('#kiosk=60,quiet&example=letter.edsac');
     await b.ask('halt(); 0');
     await write(b, '#text', OWN);
+    await goTo(b, '#kiosk=60,quiet&lang=en');
+    await write(b, '#text', OWN);
     await b.ask('dispatchEvent(new Event("pagehide")); 0');
     await b.expect('a kiosk keeps nothing', await b.ask('[sessionStorage.length, history.state]'), [0, null]);
     await b.ask('page.kiosk.reset(); 0');

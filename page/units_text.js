@@ -80,7 +80,7 @@ function addresses(same) {
         same(`what #${address} asks for`, { ...asked }, { ...askedOf(new URLSearchParams(''), HAVE), ...wanted });
     }
     same('a note has at most 300 letters', [...noteOf('\u{1F600}'.repeat(301))].length, 300);
-    same('the base of a link', [['https://a.org/e.html#x', ''], ['file:///e.html', 'https://a.org/e'], ['file:///e.html', ''], ['file:///e.html', 'javascript:1'],
+    same('the base of a link', [['https://a.org/e.html#x', ''], ['file:///e.html', 'https://a.org/e'], ['file:///e.html', ''], ['file:///e.html', 'javascript://a/%0a1'],
         ['file:///e.html', 'https://a.org/e#x'], ['https://a.org/e.html', 'https://b.org/']].map((given) => linkBase(...given) || 'none'),
     ['https://a.org/e.html', 'https://a.org/e', 'none', 'none', 'none', 'https://a.org/e.html']);
     const link = linkOf('https://a.org/e', { p: '1A-_', note: 'a & b\nc', lesson: '3', speed: undefined, view: '' });
