@@ -19,9 +19,10 @@ here = pathlib.Path("page")
 FIRST = ["letter.tape", "name.tape", "digits.tape", "hello.edsac", "squares.edsac", "roots.edsac"]
 KINDS = {".tape": "tape", ".tape1": "tape1", ".edsac": "source"}
 CODE = [
-    "machine", "way", "words", "figures", "paint", "map", "tape", "lens", "rows", "registers", "paper", "travel", "moves", "sound", "sentence",
-    "parts", "strip", "share", "editor", "printing", "program", "below", "said", "tongues", "stories", "tour", "items", "fault", "lessons",
-    "loaders", "guard", "kiosk", "keyboard", "copy", "word", "controls", "seek", "lines", "marks", "bench", "listen", "page",
+    "machine", "way", "hints", "words", "figures", "paint", "map", "tape", "lens", "rows", "registers", "paper",
+    "travel", "moves", "sound", "endings", "sentence", "parts", "strip", "share", "address", "editor", "printing",
+    "program", "below", "said", "tongues", "stories", "tour", "items", "fault", "lessons", "loaders", "guard", "kiosk",
+    "kept", "keyboard", "copy", "word", "controls", "seek", "lines", "marks", "bench", "links", "listen", "page",
 ]
 
 

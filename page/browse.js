@@ -13,6 +13,10 @@ const looks = require('./tried_looks.js');
 const kiosk = require('./tried_kiosk.js');
 const guard = require('./tried_guard.js');
 const access = require('./tried_access.js');
+const hints = require('./tried_hints.js');
+const links = require('./tried_links.js');
+const lasting = require('./tried_kept.js');
+const { printed } = require('./tried_print.js');
 const bench = require('./tried_bench.js');
 const marks = require('./tried_marks.js');
 const { numbers } = require('./tried_numbers.js');
@@ -21,8 +25,9 @@ const [command, file, folder, only] = process.argv.slice(2);
 const b = new Visitor(command, file, folder);
 const WHOLE = [
     ...Object.values(machine), ...Object.values(motion), ...Object.values(touch), ...Object.values(stories), lessons, narrowLessons,
-    ...Object.values(sharing), loaders, looks.looks, looks.sentences, ...Object.values(access), ...Object.values(bench.parts),
-    ...Object.values(marks), numbers, looks.opening, looks.screens, ...Object.values(kiosk.parts), ...Object.values(guard), // each of these opens pages of its own
+    ...Object.values(sharing), ...Object.values(hints), ...Object.values(links), ...Object.values(lasting), printed, loaders,
+    looks.looks, looks.sentences, ...Object.values(access), ...Object.values(bench.parts), ...Object.values(marks), numbers, looks.opening,
+    looks.screens, ...Object.values(kiosk.parts), ...Object.values(guard), // each of these opens pages of its own
 ];
 
 (async () => {

@@ -1,12 +1,11 @@
 'use strict';
-// The box for texts: it colours labels, orders and comments, marks a faulty line when typing rests, asks before own work
-// is replaced, and brings the text before back.
+// The box for texts: it colours labels, orders and comments, marks a faulty line when typing rests, and asks before own work
+// is replaced.
 const REST = 500; // milliseconds without a key after which a text is read
 const PAINTED = 40000; // characters: a longer text has no colours
 const DIGITS_OF_LINE = 4; // of the number beside a line
 const editor = {
     isOwn: false, // whether the text was typed here
-    former: undefined, // the text that was replaced last
     waiting: undefined, // what to do once own work may be replaced
     timer: undefined,
 };
@@ -95,6 +94,7 @@ function answerAsk(isYes) {
         by('examples').value = '';
         by('stories').value = 'own';
     } else if (does) {
+        remember({ ...textNow(), isOwn: true });
         editor.isOwn = false;
         does();
     }
@@ -106,9 +106,9 @@ function put(program) {
     sayAt('checked');
     const now = textNow();
     if (now.text !== '' && now.text !== program.text) {
-        editor.former = now;
+        remember({ ...now, isOwn: editor.isOwn });
+        drawFormer();
     }
-    by('undo').disabled = editor.former === undefined;
     by('text').value = program.text;
     by(KIND_BOXES[program.kind]).checked = true;
     if (program.small !== undefined && by('small').checked !== program.small) {
@@ -117,15 +117,6 @@ function put(program) {
     }
     editor.isOwn = false;
     begin();
-}
-
-function undo() {
-    if (editor.former) {
-        put(editor.former);
-        editor.isOwn = true;
-        by('examples').value = '';
-        by('stories').value = 'own';
-    }
 }
 
 // A key was typed: the text is read when typing rests.

@@ -45,7 +45,9 @@ class Kiosk {
     reset() {
         halt();
         clearTimeout(editor.timer);
-        Object.assign(editor, { isOwn: false, former: undefined, waiting: undefined, timer: undefined });
+        Object.assign(editor, { isOwn: false, waiting: undefined, timer: undefined });
+        forget();
+        tellNews();
         [page.machine.orders, page.machine.meanings].forEach((known) => known.clear()); // it tells them again
         speakIn(this.language);
         this.boxes.forEach(({ box, value, checked, open }) => {
@@ -64,7 +66,6 @@ class Kiosk {
         afterPrint();
         by('ask').hidden = by('linked').hidden = true;
         sayAt('shared');
-        by('undo').disabled = true;
         drawLesson();
         begin();
         this.isTouched = false;

@@ -31,7 +31,6 @@ function listen() {
     press('mark', markRefusal);
     press('replace', () => answerAsk(true));
     press('keep', () => answerAsk(false));
-    press('undo', undo);
     press('punch', punch);
     press('pmPrint', printPostMortem);
     press('switch', () => {
@@ -43,7 +42,6 @@ function listen() {
         saveFile(`program.${kind === 'source' ? 'edsac' : kind}`, text, 'text/plain');
     });
     press('open', () => by('file').click());
-    press('link', makeLink);
     press('saveTape', () => saveFile('tape.svg', stripNow(), 'image/svg+xml'));
     press('printTape', () => printOut('tape'));
     press('printWorksheet', () => printOut('worksheet'));
@@ -55,28 +53,18 @@ function listen() {
     listenToBench();
     listenToMarks();
     listenToPage();
+    listenToLinks();
+    listenToKept();
 }
 
 function listenToBoxes() {
     by('stories').onchange = () => replacing(loadStory);
-    by('name').onchange = () => { // after Enter its tape is mounted already, and its story goes on
-        if (page.program.text !== tapeOf(printable(by('name').value))) {
-            by('stories').value = 'name';
-            replacing(loadStory);
-        }
-    };
-    by('name').onkeydown = (event) => {
-        if (event.key === 'Enter') {
-            halt();
-            by('stories').value = 'name';
-            replacing(() => { loadStory(); tell(); });
-        }
-    };
+    listenToName();
     by('speed').oninput = by('speed').onchange = drawPace;
     by('at').onchange = () => { halt(); look(Number(by('at').value)); speak(); };
     by('examples').onchange = () => {
         const chosen = by('examples').value;
-        return chosen === '' ? undo() : chooseExample(Number(chosen));
+        return chosen === '' ? bringOwnBack() : chooseExample(Number(chosen));
     };
     by('tank').onchange = () => { follow(false); drawLook(); };
     by('figures').onchange = () => draw();
@@ -102,6 +90,28 @@ function listenToBoxes() {
     };
 }
 
+// A name is given by Enter, which shows its story, or by leaving the box. Enter changes the box too, and may leave it.
+function listenToName() {
+    let given; // the name that was given last
+    const give = (does) => {
+        given = by('name').value;
+        by('stories').value = 'name';
+        replacing(does);
+    };
+    by('name').onchange = () => {
+        if (by('name').value !== given && page.program.text !== tapeOf(printable(by('name').value))) {
+            give(loadStory);
+        }
+    };
+    by('name').onkeydown = (event) => {
+        if (event.key === 'Enter') {
+            event.preventDefault(); // it would press the button of the question too
+            halt();
+            give(() => { loadStory(); tell(); });
+        }
+    };
+}
+
 // Measures all again, and draws it.
 function redraw() {
     measured.clear();
@@ -116,15 +126,16 @@ function listenToPage() {
     window.onresize = redraw;
     const sized = new ResizeObserver(redraw);
     ['store', 'lens', 'tape'].forEach((id) => sized.observe(by(id).parentElement));
+    window.onbeforeprint = () => document.body.dataset.print || preparePrint('page');
     window.onafterprint = afterPrint;
-    window.onhashchange = openLink;
     feel(() => { page.touched = true; });
     document.onkeydown = (event) => {
         const button = { w: 'show', 0: 'start', s: 'step', b: 'back', r: 'run' }[event.key.toLowerCase()];
         const { tagName, type } = event.target;
         const isTyping = ['TEXTAREA', 'INPUT', 'SELECT'].includes(tagName) && !['checkbox', 'range'].includes(type);
         const isPlain = !event.ctrlKey && !event.altKey && !event.metaKey;
-        if (button && by('keys').checked && isPlain && !isTyping && !by(button).disabled) {
+        const isHeld = event.repeat && ['show', 'run'].includes(button); // it would start and stop in turn
+        if (button && by('keys').checked && isPlain && !isTyping && !isHeld && !by(button).disabled) {
             by(button).click();
         }
     };

@@ -18,6 +18,7 @@ const page = {
     labels: [], // what is beside each row
     letters: [], // of each code
     refusal: undefined, // what is wrong with the text, if it is refused
+    slip: undefined, // what is perhaps meant otherwise on a tape that is read
     way: undefined, // from Start, as far as the machine came
     fault: undefined, // why there is no way
     shown: undefined, // the picture that is drawn
@@ -109,6 +110,7 @@ function begin() {
     look(0);
     drawListing();
     paint();
+    keep();
 }
 
 function draw(isGliding = false) {
@@ -194,8 +196,11 @@ async function load() {
     lampsIn(by('accLamps'), ACC);
     by('stories').value = STORIES[0].name;
     listen();
-    loadStory();
-    page.isNew = !(await openLink());
+    const isNew = !(await openAtFirst());
+    if (page.shown === undefined) {
+        loadStory();
+    }
+    page.isNew = isNew;
     draw();
     if (addressed().has('kiosk')) {
         beginKiosk(addressed().get('kiosk'));

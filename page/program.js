@@ -1,22 +1,24 @@
 'use strict';
-// The box of the program: what is wrong with its text, examples, files and links.
+// The box of the program: what is wrong with its text, examples and files.
 
-// What the machine reports of a text that it refuses, and what that means.
+// What the machine reports of a text that it refuses, and what that means; or what a tape may be mistaken in that it reads.
 function tellRefusal(told) {
     const isUntold = ['no memory', 'no room', 'fault'].includes(told.ending);
     const { text, kind } = page.program;
-    const refusalNow = () => page.words.refusal(told.note, text, kind);
+    const refusalNow = () => page.words.refusal(told.note, text);
     page.refusal = told.note && !isUntold ? refusalNow() : undefined;
     const form = formOf(text), isMisread = form !== kind && text.trim() !== '';
     const isOther = isMisread && form !== 'source' && kind !== 'source'; // a tape of the other loader is not refused
     const isRefused = page.refusal !== undefined;
-    by('refusal').hidden = !isUntold && !isOther && !isRefused;
-    by('mark').hidden = !isRefused;
+    page.slip = isRefused || isUntold || isOther || kind === 'source' ? undefined : slipOf(text, page.items);
+    by('refusal').hidden = !isUntold && !isOther && !isRefused && !page.slip;
+    by('mark').hidden = !isRefused && !page.slip;
     by('switch').hidden = !isOther && (!isRefused || !isMisread);
     by('text').setAttribute('aria-invalid', String(isRefused));
     sayAt('switch', () => page.words.say(`as.${form}`));
     sayAt('refused', () => (isRefused ? page.words.say('refuses', { note: told.note.trim(), ...refusalNow() })
-        : isUntold ? page.words.say(`ends.${told.ending}`, { note: told.note }) : isOther ? page.words.say(`looks.${form}`) : ''));
+        : isUntold ? page.words.say(`ends.${told.ending}`, { note: told.note })
+            : isOther ? page.words.say(`looks.${form}`) : page.slip ? page.words.say(`hint.${page.slip.hint}`, page.slip) : ''));
 }
 
 // What is proved of the program in the box, if it is one of the examples with a law, and unchanged.
@@ -29,7 +31,8 @@ function tellProof() {
 
 function markRefusal() {
     by('text').focus();
-    by('text').setSelectionRange(page.refusal.from, page.refusal.to);
+    const { from, to } = page.refusal || page.slip;
+    by('text').setSelectionRange(from, to);
 }
 
 // Punches the tape of the source in the box, and reads it again.
@@ -51,42 +54,6 @@ function chooseExample(number) {
         by('nameLabel').hidden = true;
         put(EXAMPLES[number]);
     });
-}
-
-async function makeLink() {
-    const shared = { ...textNow(), orders: isAlive() ? page.shown.orders : 0 };
-    const address = `${location.href.split('#')[0]}#p=${await packed(shared)}`;
-    by('linked').hidden = false;
-    by('linkText').value = address;
-    by('linkText').select();
-    try {
-        await navigator.clipboard.writeText(address);
-        sayAt('shared', () => page.words.say('copied'));
-    } catch (fault) {
-        sayAt('shared'); // the visitor copies it by hand
-    }
-}
-
-// Opens what the page's address holds; false if it holds nothing.
-async function openLink() {
-    const letters = addressed().get('p');
-    if (!letters) {
-        return false;
-    }
-    const shared = await unpacked(letters);
-    if (shared === undefined) {
-        sayAt('shared', () => page.words.say('badLink'));
-        return false;
-    }
-    replacing(() => {
-        by('examples').value = '';
-        by('stories').value = 'own';
-        put(shared);
-        if (isAlive() && shared.orders > 0) {
-            look(shared.orders);
-        }
-    });
-    return true;
 }
 
 async function openFile() {

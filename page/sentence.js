@@ -29,8 +29,8 @@ function didText() {
     if (page.before === EMPTY) {
         return page.words.say(page.program.kind === 'tape1' ? 'atStart1' : 'atStart');
     }
-    return isOneOrder()
-        ? page.words.say('before', { said: page.words.changes(page.before, page.shown, page.machine, page.rows, READ) }) : '';
+    return leftText(page.shown) || endlessText() || (isOneOrder()
+        ? page.words.say('before', { said: page.words.changes(page.before, page.shown, page.machine, page.rows, READ) }) : '');
 }
 
 function changedText() {
@@ -45,15 +45,16 @@ function endingText(shown) {
     return page.words.has(`ends.${shown.ending}`) ? page.words.say(`ends.${shown.ending}`, { note: shown.note }) : '';
 }
 
-// Says aloud what was printed after a count of codes.
+// Says aloud what was printed after a count of codes, how the run ended, and why it stands still or does not stop.
 function speakPrinted(from) {
     const text = isAlive() ? page.shown.way.text(from, page.shown.printed).replace(/\s+/g, ' ').trim().slice(-SPOKEN) : '';
-    sayAt('spoken', () => page.words.say(text ? 'printedAloud' : 'printedNothing', { text }));
+    const why = isAlive() ? leftText(page.shown) || endlessText() : '';
+    const printed = page.words.say(text ? 'printedAloud' : 'printedNothing', { text }).replace(/([^.])$/, '$1.');
+    sayAt('spoken', () => [printed, endingText(page.shown), why].filter(Boolean).join(' '));
 }
 
 // Says aloud, for those who can't see it, what a step did.
 function speak() {
-    sayAt('spoken', () => (isAlive() ? page.words.say('spoken', {
-        did: by('did').textContent, place: page.shown.counter, meaning: by('meaning').textContent,
-    }) : ''));
+    const said = () => page.words.say('spoken', { did: by('did').textContent, place: page.shown.counter, meaning: by('meaning').textContent });
+    sayAt('spoken', () => (isAlive() ? `${endingText(page.shown)} ${said()}`.trim() : ''));
 }

@@ -67,9 +67,12 @@ function saveFile(name, text, type) {
     setTimeout(() => URL.revokeObjectURL(address), 1000);
 }
 
-// A source has lines of words. A tape of May 1949 begins with T, a number and S, and a later tape doesn't.
-const formOf = (text) => (/^\s*(segment|enter|version)\b/m.test(text) ? 'source'
-    : /^\s*T\s*(\d\s*)+S/.test(text.replace(/\[[^\]]*\]/g, '')) ? 'tape1' : 'tape');
+// A source has lines of words, labels and small letters, which no tape has outside its comments. A tape of May 1949 begins
+// with T, a number and S, and a later tape doesn't.
+const formOf = (text) => {
+    const bare = text.replace(/\[[^\]]*\]/g, '').replace(/;.*/g, '');
+    return /^\s*(segment|enter|version)\b/m.test(text) || /[a-z_:"]/.test(bare) ? 'source' : /^\s*T\s*(\d\s*)+S/.test(bare) ? 'tape1' : 'tape';
+};
 
 // The kind of a file: by its name, or else by its form.
 const kindOf = (name, text) => {

@@ -77,9 +77,12 @@ async function tell(again) {
 
 // The story after the one that is chosen.
 function nextStory() {
-    by('stories').value = ROTATION[(ROTATION.indexOf(storyNow().name) + 1) % ROTATION.length];
-    loadStory();
-    return tell();
+    const next = ROTATION[(ROTATION.indexOf(storyNow().name) + 1) % ROTATION.length];
+    replacing(() => {
+        by('stories').value = next;
+        loadStory();
+        tell();
+    });
 }
 
 if (typeof module !== 'undefined') {

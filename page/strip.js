@@ -4,6 +4,7 @@
 const STRIP = {
     pitch: 10, wide: 68.75, rows: 70, margin: 10, title: 14, text: 14, gap: 16,
     tracks: [9.4, 19.4, 29.4, 49.4, 59.4], sprocket: 39.4, hole: 3.6, small: 2.3,
+    titleSize: 11, saysSize: 6, letter: 0.62,
 };
 
 const MARKS = { '&': '&amp;', '<': '&lt;', '>': '&gt;', '"': '&quot;' };
@@ -11,6 +12,9 @@ const escaped = (text) => text.replace(/[&<>"]/g, (mark) => MARKS[mark]);
 
 // A text at a place of the picture.
 const lettered = (name, x, y, text, more = '') => `<text class="${name}" x="${x}" y="${y}"${more}>${escaped(text)}</text>`;
+
+// How wide a text is, in letters of one width.
+const widthOf = (text, size) => [...text].length * size * STRIP.letter;
 
 // The marks to cut along: the four sides of a piece, each a little longer than it.
 function cutsOf(left, right, top) {
@@ -41,7 +45,8 @@ function pieceOf(rows, labels, punched, first, top) {
 // The whole tape, cut into pieces that fit on a sheet of A4 or Letter.
 function stripOf(rows, labels, punched, title, says) {
     const pieces = Math.max(1, Math.ceil(rows.length / STRIP.rows));
-    const wide = 2 * STRIP.margin + Math.min(STRIP.rows, Math.max(1, rows.length)) * STRIP.pitch;
+    const drawnWide = Math.min(STRIP.rows, Math.max(1, rows.length)) * STRIP.pitch;
+    const wide = Math.ceil(2 * STRIP.margin + Math.max(drawnWide, widthOf(title, STRIP.titleSize), widthOf(says, STRIP.saysSize)));
     const each = STRIP.wide + STRIP.text + STRIP.gap;
     const head = STRIP.margin + 2 * STRIP.title;
     const high = (head + pieces * each + STRIP.margin).toFixed(2);
@@ -51,8 +56,8 @@ function stripOf(rows, labels, punched, title, says) {
     return `<svg xmlns="http://www.w3.org/2000/svg" role="img" width="${wide / 100}in" height="${(high / 100).toFixed(4)}in" `
         + `viewBox="0 0 ${wide} ${high}"><title>${escaped(title)}</title>`
         + '<g font-family="monospace" font-size="9" text-anchor="middle" fill="black">'
-        + lettered('title', STRIP.margin, line, title, ' text-anchor="start" font-size="11"')
-        + lettered('says', STRIP.margin, line + STRIP.title, says, ' text-anchor="start" font-size="6"')
+        + lettered('title', STRIP.margin, line, title, ` text-anchor="start" font-size="${STRIP.titleSize}"`)
+        + lettered('says', STRIP.margin, line + STRIP.title, says, ` text-anchor="start" font-size="${STRIP.saysSize}"`)
         + `${drawn.join('')}</g></svg>`;
 }
 

@@ -12,7 +12,8 @@ function openAll(isOpen) {
     by('lesson').value = isOpen ? '4' : '0';
     drawLesson();
     document.querySelectorAll('details').forEach((box) => { box.open = isOpen; });
-    by('linked').hidden = by('ask').hidden = by('invite').hidden = by('skip').hidden = by('countdown').hidden = !isOpen;
+    ['linked', 'ask', 'invite', 'skip', 'countdown', 'news', 'teacher', 'former'].forEach((id) => { by(id).hidden = !isOpen; });
+    by('teacherNote').textContent = isOpen ? 'abc' : '';
 }
 
 const SCHEMES = [
@@ -79,14 +80,18 @@ async function heard(b) {
     await b.until('page.running === undefined');
     const said = (await treeOf(b)).filter(({ role }) => role === 'status');
     await b.expect('what is said is a live part of the page', said.every(({ live }) => live === 'polite'), true);
-    await b.expect('what a run printed is said', await b.text('spoken'), 'The teleprinter has printed: EDSAC');
-    await b.expect('and how it ended', await b.run(() => [by('ending').getAttribute('role'), by('ending').textContent.slice(0, 46)]),
-        ['status', 'The bell rings: the machine has stopped. Press']);
+    await b.expect('what a run printed is said, and how it ended', await b.run(() => [by('spoken').getAttribute('role'), by('spoken').textContent]),
+        ['status', `The teleprinter has printed: EDSAC. ${await b.text('ending')}`]);
+    await b.expect('which is that it stopped', await b.text('ending'), (said) => said.startsWith('The bell rings: the machine has stopped.'));
+    await b.click('back');
+    await b.click('step');
+    await b.expect('a step to the stop says so too', await b.text('spoken'), (said) => said.startsWith('The bell rings: the machine has stopped.'));
     await b.choose('endless.tape');
     await b.click('run');
     await pause(600);
     await b.click('run');
-    await b.expect('a run that was ended printed nothing', await b.text('spoken'), 'The teleprinter has printed nothing.');
+    await b.expect('a run that was ended printed nothing', await b.text('spoken'),
+        (said) => said.startsWith('The teleprinter has printed nothing. This program does not stop'));
     await b.choose('letter.tape');
 }
 
@@ -95,7 +100,7 @@ function sentences() {
     const walker = document.createTreeWalker(document.body, NodeFilter.SHOW_TEXT), found = [];
     while (walker.nextNode()) {
         const { parentElement: node, textContent } = walker.currentNode;
-        const isOwn = node.closest('script, pre, .editor, #lessonText, #sheet, #examples, #lesson, #unable, #spoken, h1, code, #pm');
+        const isOwn = node.closest('script, pre, .editor, #lessonText, #sheet, #examples, #lesson, #unable, #spoken, h1, code, #pm, #former');
         const isSeen = (node.closest('select') || node).checkVisibility();
         if (!isOwn && isSeen && /[a-z]{2}.* .*[a-z]{2}/i.test(textContent.trim())) {
             found.push(textContent.trim());
@@ -112,8 +117,10 @@ async function everySentence(b) {
         'in a story': 'tell()',
         'a stop': 'halt(); look(193)',
         'a refused text': 'put({ text: "T64K ?", kind: "tape" })',
+        'a slip on a tape': 'put({ text: "T64K GK 02@ ZF EZPF", kind: "tape" })',
+        'a program that left its orders': 'put({ text: "segment main\\nX F\\nenter main", kind: "source" }); look(10000)',
         'a text for another loader': 'put({ text: "T35S ZS", kind: "tape" })',
-        'a broken link': 'put(EXAMPLES[0]); sayAt("shared", () => page.words.say("badLink"))',
+        'a broken link': 'put(EXAMPLES[0]); tellNews(() => page.words.say("badLink"))',
         'a lesson that is wrong': 'by("lesson").value = "3"; drawLesson(); chooseExample(3); checkLesson()',
         'a word that is open': 'look(193); openWord(66); flip(4)',
         'a kiosk that counts': 'closeWord(); by("countdown").hidden = false',
@@ -149,6 +156,16 @@ async function twice(b) {
         await pause(600);
         await b.click(button);
         await b.expect(`a later click on ${button}`, await b.ask(is), false);
+        await b.ask('document.activeElement.blur(); 0');
+        const key = { key: button === 'show' ? 'w' : 'r', windowsVirtualKeyCode: button === 'show' ? 87 : 82 };
+        await pause(600);
+        for (let k = 0; k < 6; k++) { // a key that is held
+            await b.send('Input.dispatchKeyEvent', { type: 'keyDown', text: key.key, autoRepeat: k > 0, ...key });
+            await pause(150);
+        }
+        await b.send('Input.dispatchKeyEvent', { type: 'keyUp', ...key });
+        await b.expect(`a held key for ${button}`, await b.ask(is), true);
+        await b.ask('halt(); 0');
     }
     await b.choose('letter.tape');
 }
@@ -192,4 +209,42 @@ async function unable(b) {
     ]), [true, 'light dark', true, true]);
 }
 
-module.exports = { schemes, heard, everySentence, twice, unable };
+// A story that is heard in one language and then in the other says in each sentence what it would have said in that one.
+async function storyTongues(b) {
+    await b.run(() => {
+        const { say } = Tour.prototype;
+        page.formerSay = say;
+        Tour.prototype.say = function hears(key, values) {
+            const was = by('story').textContent;
+            say.call(this, key, values);
+            if (was === by('story').textContent) {
+                return;
+            }
+            if (page.words.name === 'en') {
+                speakIn('de');
+                page.heardIn.push(by('story').textContent);
+                speakIn('en');
+            } else {
+                page.heardIn.push(by('story').textContent);
+            }
+        };
+    });
+    await b.ask('page.hurry = 0.002; 0');
+    for (const name of await b.ask('ROTATION')) {
+        const heard = [];
+        for (const language of ['en', 'de']) {
+            await b.speak(language);
+            await b.run((story) => { page.heardIn = []; by('stories').value = story; loadStory(); }, name);
+            await b.click('show');
+            await b.until('page.tour === undefined && !by("invite").hidden');
+            heard.push(await b.ask('page.heardIn'));
+        }
+        await b.expect(`the story ${name} changes its language in each sentence`, heard[0].filter((one, k) => one !== heard[1][k]), []);
+        await b.expect(`the story ${name} has as many in both`, heard[0].length, (all) => all === heard[1].length && all > 10);
+    }
+    await b.ask('Tour.prototype.say = page.formerSay; page.hurry = 1; halt(); 0');
+    await b.speak('en');
+    await b.choose('letter.tape');
+}
+
+module.exports = { schemes, heard, everySentence, storyTongues, twice, unable };

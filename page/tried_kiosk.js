@@ -44,7 +44,7 @@ async function kiosk(b) {
     await b.expect('every box is as it was', await b.run(stateOf), wanted);
     await b.expect('and nothing of a visitor is left', await b.run(() => [
         by('ask').hidden, by('linked').hidden, by('refusal').hidden, by('text').style.height,
-        editor.former === undefined, by('undo').disabled,
+        kept.former.length === 0, by('undo').disabled,
         [...document.body.children].some((node) => node.tagName !== 'SCRIPT' && node.textContent.includes('BOB')),
     ]), [true, true, true, '', true, true, false]);
     await options(b);

@@ -235,6 +235,7 @@ async function otherForms(b) {
         ['T56K', 'GK', 'T25@'],
     );
     await b.click('undo');
+    await b.press('#former button');
     await b.click('isTape');
     await b.expect(
         'a source that is read as a tape',
@@ -331,6 +332,7 @@ async function ownWork(b) {
     await b.click('replace');
     await b.expect('or replaced', await b.ask('by("text").value !== "T64K GK ZF EZPF"'), true);
     await b.click('undo');
+    await b.press('#former button');
     await b.expect('and brought back', await b.ask('by("text").value'), 'T64K GK ZF EZPF');
     await b.choose('letter.edsac');
     const classes = await b.run(() => [...document.querySelectorAll('#colours span')].map((node) => node.className));

@@ -24,14 +24,15 @@ async function links(b) {
         await b.ask('if (by("small").checked) by("small").click(); 0');
     }
     for (const bad of ['p=1AAAA', 'p=0eyJ', 'p=xyz', `p=0${Buffer.from('["tape",0,-1,"ZF"]').toString('base64')}`]) {
-        await b.ask(`by('shared').textContent = ''; location.hash = '${bad}'; 0`);
+        await b.ask(`tellNews(); location.hash = '${bad}'; 0`);
         await b.expect(
             `a broken link ${bad}`,
-            await b.until('by("shared").textContent.startsWith("This link is not whole")', 5),
+            await b.until('!by("news").hidden && by("newsSays").textContent.startsWith("This link is not whole")', 5),
             true,
         );
     }
-    await b.ask(`by('shared').textContent = ''; location.hash = ''; 0`);
+    await b.ask(`location.hash = ''; 0`);
+    await b.expect('no link is not broken', await b.until('by("news").hidden', 5), true);
     await b.expect(
         'unpacked where there is no packing',
         await b.ask(`unpacked('0' + btoa('["source",1,7,"x"]'))`),

@@ -4,7 +4,7 @@
 //   node page/units.js
 const fs = require('fs');
 const path = require('path');
-const { Words, writtenFor, signAt, lineAt, hintFor, figuresOf, printedBetween } = require('./words.js');
+const { Words, writtenFor, figuresOf, printedBetween } = require('./words.js');
 const { packed, unpacked, formOf, kindOf } = require('./share.js');
 const { STORIES, printable, tapeOf } = require('./stories.js');
 const { course } = require('./tried_course.js');
@@ -20,9 +20,10 @@ const { copyOf } = require('./copy.js');
 const { clatterOf } = require('./sound.js');
 const { kioskAsked } = require('./kiosk.js');
 const { texts } = require('./tried_loaders.js');
+const rules = require('./units_text.js');
 const { bench } = require('./units_bench.js');
 
-Object.assign(globalThis, { printedBetween }); // the page's scripts are one script
+Object.assign(globalThis, { printedBetween, ...require('./hints.js') }); // the page's scripts are one script
 let count = 0, wrong = 0;
 
 function same(what, got, wanted) {
@@ -211,25 +212,9 @@ for (const [name, words] of Object.entries(languages)) {
     }
 }
 
-for (const [cause, part, kind, hint] of [
-    ['S3', 'a 5 F', 'source', 'lower'], ['S3', 'A 5', 'source', 'length'], ['S3', 'next: A one', 'source', 'length'],
-    ['S3', 'text "HELLO YOU"', 'source', 'blank'], ['S1', 'A 5 F // five', 'source', 'comment'], ['S1', '[five]', 'source', 'comment'],
-    ['S7', 'A nowhere F', 'source', 'word'], ['S16', '', 'source', 'enter'], ['S4', 'word 999999', 'source', undefined],
-    ['T1', 'a', 'tape', 'lowerTape'], ['T1', '?', 'tape', undefined],
-]) {
-    same(`the hint for ${cause} ${part}`, hintFor(cause, part, kind), hint);
-}
-for (const [text, byte, from, to] of [
-    ['T64K ?', 5, 5, 6],
-    ['AÄ', 1, 1, 2],
-    ['A\u{1F469}\u200D\u{1F52C}B', 1, 1, 6],
-    ['ÄÄ\u{1F600}', 4, 2, 4],
-    ['A', 1, 1, 1],
-]) {
-    same(`the sign at byte ${byte} of ${text}`, signAt(text, byte), { from, to });
-}
-same('a line of a text', lineAt('one\ntwo\nthree', 2), { from: 4, to: 7 });
-same('a line after the last one', lineAt('one', 5), { from: 3, to: 3 });
+rules.hints(same, languages);
+rules.addresses(same);
+rules.titles(same);
 
 const codes = (text) => [...text].map((sign) => (/\d/.test(sign) ? Number(sign) : LETTERS.indexOf(sign)));
 const figured = (text, ...ends) => figuresOf(codes(text), ends.map((after, k) => ({ first: k ? ends[k - 1] : 0, after })))

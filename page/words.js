@@ -105,17 +105,16 @@ class Words {
 
     // What a refusal means, with a hint if a beginner's slip is seen in its line, and the part of the text that it is
     // about: from a character to another.
-    refusal(note, text, kind) {
+    refusal(note, text) {
         const said = note.match(/^(line|byte) (\d+): (\w+) /);
         if (!said) {
             return { meaning: this.say('tooLong'), hint: '', from: 0, to: 0 };
         }
-        const number = Number(said[2]);
-        const key = `cause.${said[3]}`;
+        const [cause, key] = [said[3], `cause.${said[3]}`];
         const meaning = this.has(key) ? this.say(key) : '';
-        const { from, to } = said[1] === 'byte' ? signAt(text, number) : lineAt(text, number);
-        const hint = hintFor(said[3], text.slice(from, to), kind);
-        return { meaning, hint: hint ? this.say(`hint.${hint}`) : '', from, to };
+        const { from, to } = partAt(text, { unit: said[1], number: Number(said[2]), cause });
+        const part = text.slice(from, to), hint = hintFor(cause, part);
+        return { meaning, hint: hint ? this.say(`hint.${hint}`, { sign: part, ...nameIn(text, part) }) : '', from, to };
     }
 }
 
@@ -136,45 +135,6 @@ function isOwnOrder(before, after, place, machine) {
     return before.counter >= placesOf(after.way.kind) && isOne && Math.abs(old.number) >= 2048;
 }
 
-// The sign that begins at a byte of a text. What a reader takes for one sign, such as an emoji, stays whole.
-function signAt(text, byte) {
-    const from = new TextDecoder().decode(new TextEncoder().encode(text).subarray(0, byte)).length;
-    const rest = text.slice(from, from + 64);
-    if (typeof Intl !== 'undefined' && Intl.Segmenter) {
-        const [first] = new Intl.Segmenter(undefined, { granularity: 'grapheme' }).segment(rest);
-        return { from, to: from + (first ? first.segment.length : 0) };
-    }
-    return { from, to: from + (String.fromCodePoint(rest.codePointAt(0) || 0).length) };
-}
-
-// A line of a text, by its number from 1 on.
-function lineAt(text, number) {
-    const lines = text.split('\n');
-    const from = Math.min(lines.slice(0, number - 1).join('\n').length + (number > 1 ? 1 : 0), text.length);
-    return { from, to: Math.min(from + (lines[number - 1] || '').length, text.length) };
-}
-
-// The slip of a beginner that a refused line shows, if it shows one.
-function hintFor(cause, part, kind) {
-    if (cause === 'T1') {
-        return /^[a-z]/.test(part) ? 'lowerTape' : undefined;
-    }
-    const line = part.replace(/;.*/, '').replace(/^\s*[A-Za-z_]\w*:/, '').trim();
-    if (/"[^"]* [^"]*"/.test(line)) {
-        return 'blank';
-    }
-    if (/^(\/\/|#|\[|--)/.test(line) || /\[|\/\//.test(line)) {
-        return 'comment';
-    }
-    if (/^[a-z](\s|$)/.test(line)) {
-        return 'lower';
-    }
-    if (cause === 'S3' && /^[A-Z](\s+[\w+-]+)?$/.test(line)) {
-        return 'length';
-    }
-    return { S7: 'word', S16: 'enter' }[cause];
-}
-
 // Which rows of a tape the loader reads as figures: those of an item, but its first and those that are no digit.
 function figuresOf(rows, items) {
     const isFigure = new Array(rows.length).fill(false);
@@ -193,5 +153,5 @@ function labelsOf(rows, letter, items) {
 }
 
 if (typeof module !== 'undefined') {
-    module.exports = { Words, writtenFor, signAt, lineAt, hintFor, figuresOf, labelsOf, printedBetween };
+    module.exports = { Words, writtenFor, figuresOf, labelsOf, printedBetween };
 }
