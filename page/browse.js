@@ -13,12 +13,13 @@ const looks = require('./tried_looks.js');
 const kiosk = require('./tried_kiosk.js');
 const guard = require('./tried_guard.js');
 const access = require('./tried_access.js');
+const { screen } = require('./tried_screen.js');
 
 const [command, file, folder, only] = process.argv.slice(2);
 const b = new Visitor(command, file, folder);
 const WHOLE = [
     ...Object.values(machine), ...Object.values(motion), ...Object.values(touch), ...Object.values(stories), lessons,
-    ...Object.values(sharing), loaders, looks.looks, looks.sentences, ...Object.values(access), looks.opening,
+    ...Object.values(sharing), screen, loaders, looks.looks, looks.sentences, ...Object.values(access), looks.opening,
     looks.screens, ...Object.values(kiosk.parts), ...Object.values(guard), // each of these opens pages of its own
 ];
 
