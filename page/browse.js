@@ -20,12 +20,13 @@ const { printed } = require('./tried_print.js');
 const bench = require('./tried_bench.js');
 const marks = require('./tried_marks.js');
 const { numbers } = require('./tried_numbers.js');
+const { screen } = require('./tried_screen.js');
 
 const [command, file, folder, only] = process.argv.slice(2);
 const b = new Visitor(command, file, folder);
 const WHOLE = [
     ...Object.values(machine), ...Object.values(motion), ...Object.values(touch), ...Object.values(stories), lessons, narrowLessons,
-    ...Object.values(sharing), ...Object.values(hints), ...Object.values(links), ...Object.values(lasting), printed, loaders,
+    ...Object.values(sharing), ...Object.values(hints), ...Object.values(links), ...Object.values(lasting), printed, screen, loaders,
     looks.looks, looks.sentences, ...Object.values(access), ...Object.values(bench.parts), ...Object.values(marks), numbers, looks.opening,
     looks.screens, ...Object.values(kiosk.parts), ...Object.values(guard), // each of these opens pages of its own
 ];
