@@ -175,4 +175,4 @@ async function unkept(b) {
     b.session = was;
 }
 
-module.exports = { lasting, asked, former, unkept };
+module.exports = { parts: { lasting, asked, former }, unkept };

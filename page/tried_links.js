@@ -46,7 +46,6 @@ async function opened(b) {
     });
     await goTo(b, '#story=letter&speed=50&view=exhibit');
     await goTo(b, '');
-    await openedAtFirst(b);
 }
 
 // The same links in a new tab.
@@ -168,4 +167,4 @@ async function steps(b) {
     await b.choose('letter.tape');
 }
 
-module.exports = { opened, made, steps };
+module.exports = { parts: { opened, made, steps }, openedAtFirst };
