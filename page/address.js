@@ -3,7 +3,8 @@
 // the view; and the address of a link.
 const NOTE_LENGTH = 300; // letters of a note
 const ASKED_LENGTH = 40; // letters of what is quoted from a damaged address
-const KNOWN = ['kiosk', 'narrow', 'lang', 'lesson', 'story', 'example', 'speed', 'view', 'note', 'p']; // the last one is missed first, if it is cut
+// The names of an address, in the order of a link: if its end is cut off, the program is missed.
+const KNOWN = ['kiosk', 'narrow', 'lang', 'lesson', 'story', 'example', 'speed', 'view', 'note', 'p'];
 const VIEWS = ['exhibit', 'bench'];
 
 // A note as it is shown: plain letters, and no more of them than a note may have.

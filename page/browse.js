@@ -26,9 +26,9 @@ const [command, file, folder, only] = process.argv.slice(2);
 const b = new Visitor(command, file, folder);
 const WHOLE = [
     ...Object.values(machine), ...Object.values(motion), ...Object.values(touch), ...Object.values(stories), lessons, narrowLessons,
-    ...Object.values(sharing), ...Object.values(hints), ...Object.values(links), ...Object.values(lasting), printed, screen, loaders,
+    ...Object.values(sharing), ...Object.values(hints), ...Object.values(links.parts), ...Object.values(lasting.parts), printed, screen, loaders,
     looks.looks, looks.sentences, ...Object.values(access), ...Object.values(bench.parts), ...Object.values(marks), numbers, looks.opening,
-    looks.screens, ...Object.values(kiosk.parts), ...Object.values(guard), // each of these opens pages of its own
+    looks.screens, links.openedAtFirst, lasting.unkept, ...Object.values(kiosk.parts), ...Object.values(guard), // each of these opens pages of its own
 ];
 
 (async () => {

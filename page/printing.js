@@ -64,8 +64,8 @@ function pageNow() {
     for (const [box, id] of Object.entries(PRINTED_BOXES)) {
         const content = by(id);
         if (by(box).open && content.textContent.trim()) {
-            const text = content.tagName === 'PRE' ? pre(content.textContent) : `<div>${content.innerHTML}</div>`;
-            parts.push(headed(by(box).firstElementChild.textContent, content.tagName === 'TABLE' ? `<table>${content.innerHTML}</table>` : text));
+            const mark = { PRE: 'pre', TABLE: 'table' }[content.tagName] || 'div';
+            parts.push(headed(by(box).firstElementChild.textContent, `<${mark}>${content.innerHTML}</${mark}>`));
         }
     }
     return parts.join('');

@@ -55,6 +55,8 @@ function speakPrinted(from) {
 
 // Says aloud, for those who can't see it, what a step did.
 function speak() {
-    const said = () => page.words.say('spoken', { did: by('did').textContent, place: page.shown.counter, meaning: by('meaning').textContent });
+    const said = () => page.words.say('spoken', {
+        did: by('did').textContent, place: page.shown.counter, meaning: by('meaning').textContent,
+    });
     sayAt('spoken', () => (isAlive() ? `${endingText(page.shown)} ${said()}`.trim() : ''));
 }

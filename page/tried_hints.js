@@ -36,7 +36,11 @@ async function slips(b) {
             await b.click(kind);
             await write(b, '#text', text);
             const parts = await b.run(textOf, language, hint);
-            await b.expect(`${where}, ${what}: the hint`, await b.text('refused'), (said) => parts.every((part) => said.includes(part)));
+            await b.expect(
+                `${where}, ${what}: the hint`,
+                await b.text('refused'),
+                (said) => parts.every((part) => said.includes(part)),
+            );
             await b.click('mark');
             await b.expect(`${where}, ${what}: what is marked`,
                 await b.run(() => [by('text').value.slice(by('text').selectionStart, by('text').selectionEnd), document.activeElement.id]),
@@ -47,7 +51,11 @@ async function slips(b) {
         await b.click('isTape');
         await write(b, '#text', main('Z F'));
         await b.click('switch');
-        await b.expect(`${where}: one click reads it as a source`, await b.ask('[page.program.kind, by("refusal").hidden]'), ['source', true]);
+        await b.expect(
+            `${where}: one click reads it as a source`,
+            await b.ask('[page.program.kind, by("refusal").hidden]'),
+            ['source', true],
+        );
     });
     await b.expect('no example has such a slip', await b.run(() => EXAMPLES.filter(({ text, kind }) => (
         kind !== 'source' && slipOf(text, page.machine.items({ text, kind, small: false }).items))).map(({ name }) => name)), []);
@@ -75,7 +83,11 @@ async function endings(b) {
             const wanted = await b.run((name, one, held) => new Words(name, LANGUAGES[name]).say(`left.${one}`, held), language, key, values);
             await b.expect(`${where}, ${what}: where it left its orders`, await b.run(() => [page.shown.ending, by('did').textContent]),
                 ['no order', wanted]);
-            await b.expect(`${where}, ${what}: that is seen`, await b.ask('by("did").checkVisibility() && by("did").getClientRects().length > 0'), true);
+            await b.expect(
+                `${where}, ${what}: that is seen`,
+                await b.ask('by("did").checkVisibility() && by("did").getClientRects().length > 0'),
+                true,
+            );
             await b.expect(`${where}, ${what}: and heard`, await b.text('spoken'), (said) => said.endsWith(wanted));
         }
         await endless(b, language, where);
@@ -89,22 +101,39 @@ async function endless(b, language, where) {
     const textNow = () => by('did').textContent;
     const wanted = await b.run((name) => LANGUAGES[name].endless.split('{first}')[0].split('{orders}')[1], language);
     for (const [what, text, places] of [
-        ['a loop', main('X F', 'next: X F', 'X F', 'E next F'), [57, 59]], ['a loop that prints', main('next: O mark F', 'E next F', 'mark: * F'), [56, 57]],
+        ['a loop', main('X F', 'next: X F', 'X F', 'E next F'), [57, 59]],
+        ['a loop that prints', main('next: O mark F', 'E next F', 'mark: * F'), [56, 57]],
     ]) {
         await write(b, '#text', text);
         await b.set('speed', '3');
         await b.click('run');
         await b.until('page.shown.counter >= 56');
-        await b.expect(`${where}, ${what}: nothing is said at first`, await b.run(textNow), (said) => !said.includes(wanted));
+        await b.expect(
+            `${where}, ${what}: nothing is said at first`,
+            await b.run(textNow),
+            (said) => !said.includes(wanted),
+        );
         await b.ask('watch.since -= PATIENCE; 0');
-        await b.expect(`${where}, ${what}: that it does not stop`, await b.until(`by("did").textContent.includes(${JSON.stringify(wanted)})`, 5), true);
-        await b.expect(`${where}, ${what}: and its places`, await b.run(textNow), (said) => places.every((place) => said.includes(place)));
+        await b.expect(
+            `${where}, ${what}: that it does not stop`,
+            await b.until(`by("did").textContent.includes(${JSON.stringify(wanted)})`, 5),
+            true,
+        );
+        await b.expect(
+            `${where}, ${what}: and its places`,
+            await b.run(textNow),
+            (said) => places.every((place) => said.includes(place)),
+        );
         await pause(600); // a second press at once would be the same wish
         await b.click('run');
         await b.expect(`${where}, ${what}: after Pause too`, await b.run(textNow), (said) => said.includes(wanted));
         await b.expect(`${where}, ${what}: and heard`, await b.text('spoken'), (said) => said.includes(wanted));
         await b.click('step');
-        await b.expect(`${where}, ${what}: but not after a step`, await b.run(textNow), (said) => !said.includes(wanted));
+        await b.expect(
+            `${where}, ${what}: but not after a step`,
+            await b.run(textNow),
+            (said) => !said.includes(wanted),
+        );
     }
     await write(b, '#text', main('A count F', 'next: S one F', 'U count F', 'E next F', 'Z F', 'count: word 20000', 'one: word 1'));
     await b.click('run');
@@ -112,7 +141,11 @@ async function endless(b, language, where) {
     await b.ask('watch.since -= PATIENCE; 0');
     await b.until('watch.isAsked');
     await pause(600);
-    await b.expect(`${where}: nothing is said of a long program that stops`, await b.run(textNow), (said) => !said.includes(wanted));
+    await b.expect(
+        `${where}: nothing is said of a long program that stops`,
+        await b.run(textNow),
+        (said) => !said.includes(wanted),
+    );
     await b.click('run');
 }
 

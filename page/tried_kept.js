@@ -22,7 +22,11 @@ async function lasting(b) {
         await b.speak(language);
         await b.send('Page.navigate', { url: `${b.page}?${Math.random()}` });
         await b.until('document.body !== null && document.body.dataset.ready !== undefined && location.search !== ""');
-        await b.expect(`${where}: the page opened anew begins anew`, (await now()).slice(2), [false, '0', 'letter', false]);
+        await b.expect(
+            `${where}: the page opened anew begins anew`,
+            (await now()).slice(2),
+            [false, '0', 'letter', false],
+        );
         await b.speak(language);
         await press(b, '#undo');
         await press(b, '#former button');
@@ -58,10 +62,15 @@ async function asked(b) {
             await b.expect(`${where}: ${what} asks first`, await b.ask('[by("ask").hidden, by("text").value, page.tour === undefined]'),
                 [false, `${OWN}; ${what}\n`, true]);
             await b.click('keep');
-            await b.expect(`${where}: ${what}: it is kept`, await b.ask('[by("ask").hidden, by("text").value]'), [true, `${OWN}; ${what}\n`]);
+            await b.expect(
+                `${where}: ${what}: it is kept`,
+                await b.ask('[by("ask").hidden, by("text").value]'),
+                [true, `${OWN}; ${what}\n`],
+            );
         }
         await b.click('show');
-        await b.expect(`${where}: Show me shows the own text`, await b.ask('[page.tour !== undefined, page.tour.story.name, by("text").value.startsWith("segment mine")]'),
+        await b.expect(`${where}: Show me shows the own text`,
+            await b.ask('[page.tour !== undefined, page.tour.story.name, by("text").value.startsWith("segment mine")]'),
             [true, 'own', true]);
         await b.ask('halt(); editor.isOwn = false; 0');
         await named(b, where);
@@ -77,9 +86,17 @@ async function named(b, where) {
     await b.ask('by("nameLabel").hidden = false; 0');
     await write(b, '#name', 'Ada');
     await b.key('Enter');
-    await b.expect(`${where}: a name asks first`, await b.ask('[by("ask").hidden, page.tour === undefined]'), [false, true]);
+    await b.expect(
+        `${where}: a name asks first`,
+        await b.ask('[by("ask").hidden, page.tour === undefined]'),
+        [false, true],
+    );
     await b.click('replace');
-    await b.expect(`${where}: then its story is told`, await b.ask('[page.tour !== undefined, by("text").value.includes("Prints ADA")]'), [true, true]);
+    await b.expect(
+        `${where}: then its story is told`,
+        await b.ask('[page.tour !== undefined, by("text").value.includes("Prints ADA")]'),
+        [true, true],
+    );
     await press(b, '#tapeHead');
     await b.expect(`${where}: and goes on`, await b.ask('page.tour !== undefined'), true);
     await b.ask('halt(); 0');
@@ -98,14 +115,26 @@ async function former(b) {
         await b.expect(`${where}: the list is closed`, await b.ask('by("former").hidden'), true);
         await press(b, '#undo');
         const heads = () => b.run(() => [...by('former').children].map((button) => button.textContent));
-        await b.expect(`${where}: the last five`, await heads(), [6, 5, 4, 3, 2].map((k) => `segment text${k} X F enter text${k}`));
+        await b.expect(
+            `${where}: the last five`,
+            await heads(),
+            [6, 5, 4, 3, 2].map((k) => `segment text${k} X F enter text${k}`),
+        );
         await b.expect(`${where}: what the list says is seen`, await b.run(() => [...by('former').children].every((button) => (
             button.checkVisibility() && button.scrollWidth <= button.clientWidth + 1))), true);
         await press(b, '#former button:nth-child(3)');
-        await b.expect(`${where}: one of them`, await b.ask('[by("text").value.slice(0, 13), by("former").hidden, editor.isOwn]'), ['segment text4', true, true]);
+        await b.expect(
+            `${where}: one of them`,
+            await b.ask('[by("text").value.slice(0, 13), by("former").hidden, editor.isOwn]'),
+            ['segment text4', true, true],
+        );
         await reload(b);
         await b.speak(language);
-        await b.expect(`${where}: they are there after a reload`, await b.ask('[by("undo").disabled, kept.former.length]'), [false, 5]);
+        await b.expect(
+            `${where}: they are there after a reload`,
+            await b.ask('[by("undo").disabled, kept.former.length]'),
+            [false, 5],
+        );
         await b.ask('editor.isOwn = false; 0');
     });
     await b.ask('forget(); enter(); 0');
@@ -138,8 +167,12 @@ async function unkept(b) {
     await b.ask('dispatchEvent(new Event("pagehide")); 0');
     await b.expect('a kiosk keeps nothing', await b.ask('[sessionStorage.length, history.state]'), [0, null]);
     await b.ask('page.kiosk.reset(); 0');
-    await b.expect('and forgets at its reset', await b.ask('[by("text").value.includes("segment mine"), kept.former.length, by("undo").disabled]'), [false, 0, true]);
+    await b.expect(
+        'and forgets at its reset',
+        await b.ask('[by("text").value.includes("segment mine"), kept.former.length, by("undo").disabled]'),
+        [false, 0, true],
+    );
     b.session = was;
 }
 
-module.exports = { lasting, asked, former, unkept };
+module.exports = { parts: { lasting, asked, former }, unkept };

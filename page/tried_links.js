@@ -28,7 +28,11 @@ async function opened(b) {
                 return Object.fromEntries(keys.map((key) => [key, all[key]]));
             }, Object.keys(wanted)), wanted);
             await b.expect(`${where}: ${hash} is no damaged link`, await b.ask('by("news").hidden'), true);
-            await b.expect(`${where}: ${hash} waits for a visitor`, await b.ask('[page.tour === undefined, page.running === undefined]'), [true, true]);
+            await b.expect(
+                `${where}: ${hash} waits for a visitor`,
+                await b.ask('[page.tour === undefined, page.running === undefined]'),
+                [true, true],
+            );
         }
         await goTo(b, `#example=letter.edsac&note=${encodeURIComponent(LONG_NOTE)}`);
         await b.expect(`${where}: a note of a teacher, as plain text, above the box`, await b.run(() => [
@@ -42,7 +46,6 @@ async function opened(b) {
     });
     await goTo(b, '#story=letter&speed=50&view=exhibit');
     await goTo(b, '');
-    await openedAtFirst(b);
 }
 
 // The same links in a new tab.
@@ -50,7 +53,8 @@ async function openedAtFirst(b) {
     const was = b.session;
     for (const hash of [...Object.keys(LINKS), '#lesson=99', '#p=1AAAA', '#note=only']) {
         await b.open(hash);
-        await b.expect(`${hash} in a new tab`, await b.ask('[document.body.dataset.ready !== "never", page.shown.orders, page.rows.length > 0, by("news").hidden]'),
+        await b.expect(`${hash} in a new tab`,
+            await b.run(() => [document.body.dataset.ready !== 'never', page.shown.orders, page.rows.length > 0, by('news').hidden]),
             [true, 0, true, !/99|AAAA/.test(hash)]);
     }
     b.session = was;
@@ -86,7 +90,11 @@ async function made(b) {
         await b.until('!by("linked").hidden && by("linkText").value !== ""');
         const link = () => b.ask('by("linkText").value.split("#")');
         await b.expect(`${where}: an example is named`, (await link())[1], 'example=hello.edsac');
-        await b.expect(`${where}: from a file`, await b.ask('by("linkAlone").textContent'), await b.ask('page.words.say("linkAlone")'));
+        await b.expect(
+            `${where}: from a file`,
+            await b.ask('by("linkAlone").textContent'),
+            await b.ask('page.words.say("linkAlone")'),
+        );
         await press(b, '#linkLesson', kind);
         await press(b, '#linkSpeed', kind);
         await press(b, '#linkView', kind);
@@ -124,18 +132,34 @@ async function steps(b) {
         await goTo(b, '#example=letter.edsac');
         await write(b, '#text', 'T64K GK ZF EZPF [mine]');
         await goTo(b, '#example=hello.edsac');
-        await b.expect(`${where}: a link asks first`, await b.ask('[by("ask").hidden, by("text").value]'), [false, 'T64K GK ZF EZPF [mine]']);
+        await b.expect(
+            `${where}: a link asks first`,
+            await b.ask('[by("ask").hidden, by("text").value]'),
+            [false, 'T64K GK ZF EZPF [mine]'],
+        );
         await b.click('replace');
-        await b.expect(`${where}: and is opened then`, await b.ask('by("text").value === EXAMPLES.find(({ name }) => name === "hello.edsac").text'), true);
+        await b.expect(
+            `${where}: and is opened then`,
+            await b.ask('by("text").value === EXAMPLES.find(({ name }) => name === "hello.edsac").text'),
+            true,
+        );
         await go(b);
         await b.expect(`${where}: Back brings the own work`, await b.ask('[by("ask").hidden, by("text").value, editor.isOwn]'),
             [true, 'T64K GK ZF EZPF [mine]', true]);
         await go(b, 1);
         await b.expect(`${where}: Forward asks as well`, await b.ask('by("ask").hidden'), false);
         await b.click('keep');
-        await b.expect(`${where}: and the own work can be kept`, await b.ask('by("text").value'), 'T64K GK ZF EZPF [mine]');
+        await b.expect(
+            `${where}: and the own work can be kept`,
+            await b.ask('by("text").value'),
+            'T64K GK ZF EZPF [mine]',
+        );
         await reload(b);
-        await b.expect(`${where}: a reload brings what was kept, and not the link`, await b.ask('by("text").value'), 'T64K GK ZF EZPF [mine]');
+        await b.expect(
+            `${where}: a reload brings what was kept, and not the link`,
+            await b.ask('by("text").value'),
+            'T64K GK ZF EZPF [mine]',
+        );
         await b.speak(language);
         await b.ask('editor.isOwn = false; 0');
     });
@@ -143,4 +167,4 @@ async function steps(b) {
     await b.choose('letter.tape');
 }
 
-module.exports = { opened, made, steps };
+module.exports = { parts: { opened, made, steps }, openedAtFirst };

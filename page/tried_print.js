@@ -4,7 +4,8 @@ const fs = require('fs');
 const { press, write, goTo, everywhere } = require('./hand.js');
 
 const SHEET = [718, 1043]; // pixels of a sheet of A4 between its margins
-const LONG = `; Adds many words.\nsegment long\n${Array.from({ length: 300 }, (_, k) => `A ${k + 1} F ; line ${k + 1}`).join('\n')}\nZ F\nenter long\n`;
+const ORDERS = Array.from({ length: 300 }, (_, k) => `A ${k + 1} F ; line ${k + 1}`);
+const LONG = `; Adds many words.\nsegment long\n${ORDERS.join('\n')}\nZ F\nenter long\n`;
 
 // What is seen of a print: whether the page itself is hidden, what is cut off, what is empty, and the name of the document.
 function lookAtPrint() {
@@ -43,14 +44,29 @@ async function printed(b) {
         for (const [text, name] of [['', 'decimals.edsac'], [LONG, 'Adds many words']]) {
             await (text && write(b, '#text', text));
             const whole = await b.ask('by("text").value');
-            for (const [what, does] of [['a worksheet', () => press(b, '#printWorksheet', kind)], ['the page', () => b.ask('dispatchEvent(new Event("beforeprint")); 0')]]) {
+            const prints = {
+                'a worksheet': () => press(b, '#printWorksheet', kind), 'the page': () => b.ask('dispatchEvent(new Event("beforeprint")); 0'),
+            };
+            for (const [what, does] of Object.entries(prints)) {
                 const { isAlone, cut, empty, name: called, heads, programs } = await printOf(b, does);
-                await b.expect(`${where}, ${what} of ${name}: it is alone, whole, and nothing is empty`, [isAlone, cut, empty], [true, [], []]);
-                await b.expect(`${where}, ${what} of ${name}: its name`, [called, heads[0].endsWith(name)], [name, true]);
+                await b.expect(
+                    `${where}, ${what} of ${name}: it is alone, whole, and nothing is empty`,
+                    [isAlone, cut, empty],
+                    [true, [], []],
+                );
+                await b.expect(
+                    `${where}, ${what} of ${name}: its name`,
+                    [called, heads[0].endsWith(name)],
+                    [name, true],
+                );
                 await b.expect(`${where}, ${what} of ${name}: all of the program`, programs[0] === whole, true);
             }
         }
-        await b.expect(`${where}: the name of the page afterwards`, await b.ask('document.title === page.words.say("title")'), true);
+        await b.expect(
+            `${where}: the name of the page afterwards`,
+            await b.ask('document.title === page.words.say("title")'),
+            true,
+        );
         await boxes(b, where);
         await strip(b, where, kind);
         await b.ask('editor.isOwn = false; 0');
@@ -76,8 +92,13 @@ async function boxes(b, where) {
     const heads = await b.ask('["paperHead", "traceHead", "listingHead"].map((key) => window.caught.includes(page.words.say(key)))');
     await b.expect(`${where}: the browser's command prints what is open`, heads, [true, true, true]);
     await b.expect(`${where}: the paper, the lesson and the last orders`,
-        await b.ask('["HELLO", by("lesson").selectedOptions[0].textContent, by("trace").textContent].map((text) => window.caught.includes(text))'), [true, true, true]);
-    await b.expect(`${where}: and nothing is left of it`, await b.ask('[by("printed").textContent, document.body.dataset.print === undefined]'), ['', true]);
+        await b.run(() => ['HELLO', by('lesson').selectedOptions[0].textContent, by('trace').textContent].map((text) => window.caught.includes(text))),
+        [true, true, true]);
+    await b.expect(
+        `${where}: and nothing is left of it`,
+        await b.ask('[by("printed").textContent, document.body.dataset.print === undefined]'),
+        ['', true],
+    );
     await b.ask('document.querySelectorAll("details").forEach((box) => { box.open = false; }); 0');
 }
 
@@ -92,7 +113,11 @@ async function strip(b, where, kind) {
         const svg = document.querySelector('#printed svg'), { right } = svg.getBoundingClientRect();
         return [...svg.querySelectorAll('text')].map((node) => Math.round(right - node.getBoundingClientRect().right));
     });
-    await b.expect(`${where}: a tape of two rows has room for its title and what is to be done`, room, (all) => all.length === 4 && all.every((one) => one >= 0));
+    await b.expect(
+        `${where}: a tape of two rows has room for its title and what is to be done`,
+        room,
+        (all) => all.length === 4 && all.every((one) => one >= 0),
+    );
     await b.send('Emulation.setEmulatedMedia', { media: '' });
     await b.ask('afterPrint(); 0');
 }

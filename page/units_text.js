@@ -48,7 +48,11 @@ function parts(same) {
     same('a line after the last one', lineAt('one', 5), { from: 3, to: 3 });
     const partOf = (text, cause) => { const { from, to } = partAt(text, { unit: 'line', number: 2, cause }); return text.slice(from, to); };
     same('the sign that no program may have', partOf('X F\nA 5 F ; für\nZ F', 'S1'), 'ü');
-    same('or all of its line', [partOf('X F\nA\t5 ~\nZ F', 'S1'), partOf('X F\nA für\nZ F', 'S3')], ['A\t5 ~', 'A für']);
+    same(
+        'or all of its line',
+        [partOf('X F\nA\t5 ~\nZ F', 'S1'), partOf('X F\nA für\nZ F', 'S3')],
+        ['A\t5 ~', 'A für'],
+    );
 }
 
 // What a tape may be mistaken in, and how a program came to a word that is no order.
@@ -58,7 +62,11 @@ function slips(same) {
     const slip = (text, ...items) => { const { hint, item: said, from } = slipOf(text, items) || {}; return [hint, said, from]; };
     same('a 0 where an order begins', slip('T64K 02@', item(0, 4), item(4, 7)), ['tapeZero', '02@', 5]);
     same('an O in a number', slip('T6OK O2@', item(0, 4), item(4, 7)), ['tapeOh', 'T6OK', 2]);
-    same('a letter O and a figure 0 where each belongs', slip('T60K O20@ OO', item(0, 4), item(4, 8), item(8, 10)), [undefined, undefined, undefined]);
+    same(
+        'a letter O and a figure 0 where each belongs',
+        slip('T60K O20@ OO', item(0, 4), item(4, 8), item(8, 10)),
+        [undefined, undefined, undefined],
+    );
     same('how a program came to a word that is no order', [[58, 59, 0], [58, 59, 7], [58, 70, 0], [58, 56, 7], [40, 56, 0], [40, 56, 7], [30, 31, 7]]
         .map((way) => leftFrom(...way, 41) || 'loader'), ['left.past.nothing', 'left.past.number', 'left.jumped.nothing', 'left.jumped.number',
         'left.entered.nothing', 'left.entered.number', 'loader']);
@@ -86,7 +94,11 @@ function addresses(same) {
     const link = linkOf('https://a.org/e', { p: '1A-_', note: 'a & b\nc', lesson: '3', speed: undefined, view: '' });
     same('a link', link, 'https://a.org/e#lesson=3&note=a+%26+b%0Ac&p=1A-_');
     same('there and back', askedOf(new URLSearchParams(link.split('#')[1]), HAVE).note, 'a & b\nc');
-    same('the first words of a text', [wordsOf('; Prints A.\nsegment main\nO mark F'), wordsOf(`[x]${'a '.repeat(40)}`).length <= 44], ['Prints A. segment main O mark F', true]);
+    same(
+        'the first words of a text',
+        [wordsOf('; Prints A.\nsegment main\nO mark F'), wordsOf(`[x]${'a '.repeat(40)}`).length <= 44],
+        ['Prints A. segment main O mark F', true],
+    );
 }
 
 // What a program is called on what is printed of it.
@@ -94,7 +106,11 @@ function titles(same) {
     same('the title of a text', ['; Prints A. It stops.\nsegment main\nenter main', '[Prints B: now]', 'segment one\nX F\nenter two', 'T64K', `; ${'a'.repeat(80)}`]
         .map((text) => titleOf(text)), ['Prints A', 'Prints B', 'two', '', `${'a'.repeat(60)} …`]);
     const wide = (rows, says) => Number(stripOf(new Array(rows).fill(0), new Array(rows).fill('P'), () => 0, 'x', says).match(/viewBox="0 0 (\d+)/)[1]);
-    same('a short tape has room for what it says', [wide(70, 'x'), wide(2, 'x'), wide(2, 'x'.repeat(90)) > 90 * 3.6], [720, 40, true]);
+    same(
+        'a short tape has room for what it says',
+        [wide(70, 'x'), wide(2, 'x'), wide(2, 'x'.repeat(90)) > 90 * 3.6],
+        [720, 40, true],
+    );
 }
 
 module.exports = { hints, addresses, titles };
