@@ -5,6 +5,7 @@ const fs = require('fs');
 const os = require('os');
 const path = require('path');
 
+const LONGEST_RUN = 3600000; // milliseconds of all tests, on a busy computer
 const KEY_CODES = { Shift: [16, undefined], Enter: [13, '\r'], Tab: [9, undefined], ArrowRight: [39, undefined], ArrowLeft: [37, undefined],
     ArrowDown: [40, undefined], ArrowUp: [38, undefined], End: [35, undefined], Backspace: [8, undefined] };
 const CONTROL = 2; // of the keys that are held down with another
@@ -41,7 +42,7 @@ class Browser {
         const stdio = ['ignore', 'ignore', 'ignore', 'pipe', 'pipe'];
         this.child = spawn(command, [...flags, 'about:blank'], { stdio });
         this.child.on('error', () => this.giveUp('the browser does not start'));
-        this.limit = setTimeout(() => this.giveUp('the browser gave no answer for 1500 seconds'), 1500000);
+        this.limit = setTimeout(() => this.giveUp('the tests took more than an hour'), LONGEST_RUN);
         this.child.stdio[4].on('data', (part) => this.hear(part));
     }
 
