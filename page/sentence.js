@@ -8,11 +8,14 @@ const isBeside = () => page.before !== undefined && page.before !== EMPTY;
 
 const isOneOrder = () => isBeside() && !isFast() && page.shown.orders - page.before.orders === 1;
 
+// Whether the exhibit has just been opened: it says what the machine is for, and to press Show me.
+const isFirst = () => page.isNew && !isBench();
+
 // The order that was obeyed last, and what it does; or who is at work while orders pass too fast to be named.
 function doneText() {
     const { before, shown, machine, program, words } = page;
     if (!isBeside()) {
-        const key = page.isNew ? 'told.why' : keysNow() === 'name' ? 'pressName' : isBench() ? 'pressRun' : 'press';
+        const key = isFirst() ? 'told.why' : keysNow() === 'name' ? 'pressName' : isBench() ? 'pressRun' : 'press';
         return before ? words.say(key) : '';
     }
     if (!isOneOrder()) {
@@ -23,7 +26,7 @@ function doneText() {
 }
 
 function didText() {
-    if (page.before === EMPTY && page.isNew) {
+    if (page.before === EMPTY && isFirst()) {
         return page.words.say('press');
     }
     if (page.before === EMPTY) {

@@ -56,6 +56,8 @@ async function openedAtFirst(b) {
         await b.expect(`${hash} in a new tab`,
             await b.run(() => [document.body.dataset.ready !== 'never', page.shown.orders, page.rows.length > 0, by('news').hidden]),
             [true, 0, true, !/99|AAAA/.test(hash)]);
+        await b.expect(`${hash} in a new tab: the workbench has no Show me, and asks for none`,
+            await b.run(() => isBench() && by('now').textContent.includes(by('show').textContent)), false);
     }
     b.session = was;
 }
