@@ -3,6 +3,7 @@
 //   node page/browse.js BROWSER PAGE.html FOLDER [PART]      FOLDER takes the pictures; PART is one of WHOLE
 const { Visitor } = require('./browser.js');
 const machine = require('./tried_machine.js');
+const runs = require('./tried_runs.js');
 const stories = require('./tried_stories.js');
 const { lessons, narrowLessons } = require('./tried_lessons.js');
 const sharing = require('./tried_sharing.js');
@@ -25,7 +26,7 @@ const { screen } = require('./tried_screen.js');
 const [command, file, folder, only] = process.argv.slice(2);
 const b = new Visitor(command, file, folder);
 const WHOLE = [
-    ...Object.values(machine), ...Object.values(motion), ...Object.values(touch), ...Object.values(stories), lessons, narrowLessons,
+    ...Object.values(machine), ...Object.values(runs), ...Object.values(motion), ...Object.values(touch), ...Object.values(stories), lessons, narrowLessons,
     ...Object.values(sharing), ...Object.values(hints), ...Object.values(links.parts), ...Object.values(lasting.parts), printed, screen, loaders,
     looks.looks, looks.sentences, ...Object.values(access), ...Object.values(bench.parts), ...Object.values(marks), numbers, looks.opening,
     looks.screens, links.openedAtFirst, lasting.unkept, ...Object.values(kiosk.parts), ...Object.values(guard), // each of these opens pages of its own

@@ -4,29 +4,12 @@ const { spawn } = require('child_process');
 const fs = require('fs');
 const os = require('os');
 const path = require('path');
+const { middleOf } = require('./middle.js');
 
 const LONGEST_RUN = 3600000; // milliseconds of all tests, on a busy computer
 const KEY_CODES = { Shift: [16, undefined], Enter: [13, '\r'], Tab: [9, undefined], ArrowRight: [39, undefined], ArrowLeft: [37, undefined],
     ArrowDown: [40, undefined], ArrowUp: [38, undefined], End: [35, undefined], Backspace: [8, undefined] };
 const CONTROL = 2; // of the keys that are held down with another
-
-// Where the middle of a part of the page is in the window, and what is over it; undefined if it isn't seen. It is scrolled to,
-// if it is outside.
-function middleOf(selector) {
-    const node = document.querySelector(selector);
-    const isOut = ({ left, top, right, bottom }) => left < 0 || top < 0 || right > innerWidth || bottom > innerHeight;
-    if (!node || node.disabled || node.getClientRects().length === 0) {
-        return undefined;
-    }
-    if (isOut(node.getBoundingClientRect())) {
-        node.scrollIntoView({ block: 'center', inline: 'nearest', behavior: 'instant' });
-    }
-    const { left, top, width, height } = node.getBoundingClientRect();
-    const [x, y] = [left + width / 2, top + height / 2];
-    const hit = document.elementFromPoint(x, y);
-    const isOver = hit === null || !(node.contains(hit) || (node.labels && [...node.labels].some((label) => label.contains(hit))));
-    return { x, y, over: isOver ? `${hit && (hit.id || hit.tagName)} is over it` : '' };
-}
 
 class Browser {
     constructor(command, page, folder) {
