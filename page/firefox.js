@@ -9,6 +9,7 @@ const os = require('os');
 const path = require('path');
 const { Visitor } = require('./browser.js');
 const machine = require('./tried_machine.js');
+const runs = require('./tried_runs.js');
 const motion = require('./tried_motion.js');
 const touch = require('./tried_touch.js');
 const stories = require('./tried_stories.js');
@@ -204,7 +205,7 @@ const WINDOW = [1280, 1000]; // pixels
 // What is tried: what a visitor does with the machine, what moves, what a hand does on the stage, the stories, the lessons,
 // links and languages.
 const PARTS = [
-    ...Object.values(machine), motion.landings, motion.rests, touch.words, touch.keys, touch.rows, touch.sounds,
+    ...Object.values(machine), ...Object.values(runs), motion.landings, motion.rests, touch.words, touch.keys, touch.rows, touch.sounds,
     ...Object.values(stories), lessons, sharing.links, sharing.languages,
 ];
 

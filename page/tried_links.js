@@ -1,6 +1,5 @@
 'use strict';
 // Links that teach: what each opens, a teacher's note, damaged ones, and how one is made. The address is changed as by hand.
-const { pause } = require('./browser.js');
 const { press, write, goTo, go, reload, everywhere } = require('./hand.js');
 
 const LONG_NOTE = `Change <b>the A</b> into your letter. ${'Then run it. '.repeat(30)}`;
@@ -101,7 +100,7 @@ async function made(b) {
         await press(b, '#linkSpeed', kind);
         await press(b, '#linkView', kind);
         await write(b, '#linkNote', 'Für euch: A & B');
-        await pause(200);
+        await b.until('by("linkText").value.endsWith("B")', 10);
         await b.expect(`${where}: with the lesson, the speed, the view and a note`, (await link())[1],
             `lesson=4&example=hello.edsac&speed=${await b.ask('speedNow()')}&view=bench&note=F%C3%BCr+euch%3A+A+%26+B`);
         await press(b, '#linkLesson', kind);
