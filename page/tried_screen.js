@@ -142,12 +142,14 @@ function pixels(places, rows) {
 const isNear = (one, other) => one.every((part, k) => Math.abs(part - other[k]) < 70) && Math.max(...one) > 130;
 const isNaming = (order) => 'ASHVNTUCOI'.includes(order[0]);
 
-// The dots of the store: a lit one is bright, and one of a word that has changed is nearly white. Where dots are small, the
-// frames cover those of the next order, of the place that it names and beside them.
+// The dots of the store: a lit one is bright, and one of a word that has changed is nearly white. Where dots are small, frames
+// cover those of the next order, of the place that it names and at the ends of the lens, and those beside them.
 async function comparePixels(b, what, state, outside, changed) {
     const framed = [state.counter, Number(state.orders[state.counter].slice(1, -1)) % 1024];
     const isLarge = await b.ask(`store.plan(32).high > ${SMALL_DOT}`);
-    const places = [...new Set([...framed, ...SPARE, ...changed])].filter((place) => isLarge || framed.every((one) => Math.abs(one - place) > 3));
+    const covered = [...framed, ...await b.ask('[lens.first, lens.first + lens.places.length - 1]')];
+    const isSeen = (place) => isLarge || covered.every((one) => Math.abs(one - place) > 3);
+    const places = [...new Set([...framed, ...SPARE, ...changed])].filter(isSeen);
     const rows = [-2, -1, 0, 1, 2].filter((row) => outside.codes[outside.read + row] !== undefined);
     const { dots, edges, holes } = await b.run(pixels, places, rows);
     for (const [k, place] of places.entries()) {
