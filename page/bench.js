@@ -25,7 +25,7 @@ function closeBench() {
     halt();
     closeWord();
     document.documentElement.classList.remove('bench');
-    document.querySelector('main').prepend(by('stage'));
+    by('news').after(by('stage'));
     by('stage').prepend(by('head'));
     by('countdown').before(by('controls'));
     arranged();
