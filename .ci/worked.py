@@ -76,7 +76,7 @@ MACHINE = [
     ),
 ]
 
-# An endless loop ends at the limit that holds where none is given.
+# An endless loop ends at the limit that holds if no limit is given.
 DEFAULT_LIMIT = ("no limit", ["tape"], b"T64KGKE@EZPF", (4, b"", b"limit at 64 after 10000000\n"))
 
 # ---- the notation of tapes

@@ -9,7 +9,7 @@ function openBench() {
     }
     halt();
     closeWord();
-    page.isNew = false; // nobody is told here to press Show me
+    page.isNew = false; // nothing here says to press Show me
     document.documentElement.classList.add('bench');
     document.querySelector('main').prepend(by('head'));
     by('program').after(by('stage'));

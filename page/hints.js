@@ -85,7 +85,7 @@ function hintFor(cause, part) {
     return line && (cause === 'S3' || line !== 'length') ? line : { S7: 'word', S9: 'segment', S16: 'enter' }[cause];
 }
 
-// The name that a hint speaks of: that of a label without its colon, or the first segment.
+// The name in a hint: that of a label without its colon, or the first segment.
 function nameIn(text, part) {
     const [, label] = part.match(/^\s*([a-z_]\w*)/) || [];
     const [, segment] = text.match(/^\s*segment\s+([a-z]\w*)/m) || [];
