@@ -74,15 +74,15 @@ one_fault : (z : Size) (text : Text) (k other : ℕ) (c another : SourceCause) �
 one_fault z text k other c another (for_form f) (for_form g) =
     has_one_meaning.one_fault text k other c another f g
 one_fault z text k other c another (for_form f) (for_meaning {two} {lines} p g) =
-    absurd (has_one_meaning.no_fault text two lines k c p f)
+    absurd (has_one_meaning.no_fault text two lines k c p f.is)
 one_fault z text k other c another (for_meaning {two} {lines} p g) (for_form f) =
-    absurd (has_one_meaning.no_fault text two lines other another p f)
+    absurd (has_one_meaning.no_fault text two lines other another p f.is)
 one_fault z text k other c another (for_meaning {two} {lines} p f) (for_meaning {two = also} {lines = others} q g) =
     same_fault z text two also lines others k other c another p q f g
 
 never_both : (z : Size) (text : Text) (lines : List Line) (k : ℕ) (c : SourceCause) → IsAcceptedAs z text lines
     → IsRefused z text k c → ⊥
-never_both z text lines k c a (for_form f) = has_one_meaning.no_fault text a.two lines k c a.says f
+never_both z text lines k c a (for_form f) = has_one_meaning.no_fault text a.two lines k c a.says f.is
 never_both z text lines k c a (for_meaning {two} {lines = others} p f) =
     let same = has_one_meaning.one_program text two a.two others lines p a.says in
     let none = (read_law z text lines (program_is_read text a.two lines a.says)).accepts a.faultless in

@@ -176,17 +176,17 @@ paper_starts shift (code ∷ part) rest =
     )
 
 -- whether a text begins with another doesn't depend on how the two are written
-starts_as : {whole part new_whole new_part : Text} → new_whole ≡ whole → new_part ≡ part → StartsWith whole part
+pub starts_as : {whole part new_whole new_part : Text} → new_whole ≡ whole → new_part ≡ part → StartsWith whole part
     → StartsWith new_whole new_part
 starts_as {new_part = new_part} w p (rest, is) = (rest, w ∙ is ∙ ap (λ (t : Text). t ++ rest) (sym p))
 
-printed_starts : (whole part : List ℕ) → StartsWith whole part → StartsWith (paper whole) (paper part)
+pub printed_starts : (whole part : List ℕ) → StartsWith whole part → StartsWith (paper whole) (paper part)
 printed_starts whole part (rest, is) = starts_as (ap paper is) refl (paper_starts Letters part rest)
 
 -- ---- outcomes
 
 -- no post-mortem adds no code
-none_added : (window : Option Window) (r : RunEnd) → window ≡ None → (with_post_mortem window r).codes ≡ r.codes
+pub none_added : (window : Option Window) (r : RunEnd) → window ≡ None → (with_post_mortem window r).codes ≡ r.codes
 none_added window r is =
     ap (λ (w : Option Window). r.codes ++ post_mortem_codes w r.state) is ∙ append-nil r.codes
 

@@ -12,7 +12,8 @@ use Rattle.ed_report.specs.Listings.{listing}
 use Rattle.ed_report.specs.Notes.{entry_note}
 use Rattle.ed_answers.specs.Outcome.{Outcome}
 use Rattle.ed_answers.specs.Runs.{paper_room, ran_outcome, with_post_mortem}
-use Rattle.ed_answers.specs.Listed.{EachListedIsLoaded, listed_places, up_to_entry}
+use Rattle.ed_link.specs.Words.{linked_places}
+use Rattle.ed_answers.specs.Listed.{EachListedIsLoaded, up_to_entry}
 use Rattle.ed_answers.proofs.Sources.{each_answer_is_from_entry}
 
 -- a run of no order leaves the state unchanged
@@ -28,7 +29,7 @@ pub each_listed_is_loaded : EachListedIsLoaded
 each_listed_is_loaded s source lines accepted =
     let enters = (each_answer_is_from_entry s source lines accepted).enters in
     record {
-      listed = ap (λ (t : State). listing t.store (listed_places lines)) (sym enters.state_is);
+      listed = ap (λ (t : State). listing t.store (linked_places lines)) (sym enters.state_is);
       shown = λ w.
           let t : Settings = up_to_entry s lines w in
           let whole = (each_answer_is_from_entry t source lines accepted).entered (omega arith) in

@@ -17,8 +17,7 @@ use Rattle.ed_syntax.specs.declared.fault.SourceCause.TheVariants as causes
 use Rattle.ed_syntax.specs.declared.fault.SourceFault.{SourceFault}
 use Rattle.ed_syntax.specs.declared.fault.SourceFault.TheVariants.{At, Memory}
 use Rattle.ed_syntax.proofs.SourceLaws.{has_one_meaning, source_answer}
-use Rattle.ed_symbols.specs.NameFaults.{number_of}
-use Rattle.ed_symbols.proofs.LeastFaults.{same_cause}
+use Rattle.ed_syntax.proofs.Causes.{one_least}
 use Rattle.ed_link.specs.Answers.{HasMeaningFault, IsLinked}
 use Rattle.ed_link.specs.Faults.{IsMeaningFault}
 use Rattle.ed_link.specs.declared.linked.Linked.{Linked}
@@ -43,7 +42,7 @@ Reads lines r = (r ≡ Err Memory) ⊎ IfOk r (λ p. p.lines.items ≡ lines)
 
 refused_alone : (text : Text) (k : ℕ) (c : SourceCause) → IsFormFault text k c → (r : Result Program SourceFault)
     → MeetsParse text r → Refuses k c r
-refused_alone text k c f (Ok p) m = absurd (has_one_meaning.no_fault text (p.version == 2) p.lines.items k c m.says f)
+refused_alone text k c f (Ok p) m = absurd (has_one_meaning.no_fault text (p.version == 2) p.lines.items k c m.says f.is)
 refused_alone text k c f (Err Memory) m = inl refl
 refused_alone text k c f (Err (At n d)) m =
     let same = has_one_meaning.one_fault text n k d c m.has_fault f in
@@ -54,7 +53,7 @@ read_alone : (text : Text) (two : Bool) (lines : List Line) → IsProgram text t
 read_alone text two lines f (Ok p) m =
     inr (has_one_meaning.one_program text (p.version == 2) two p.lines.items lines m.says f)
 read_alone text two lines f (Err Memory) m = inl refl
-read_alone text two lines f (Err (At n d)) m = absurd (has_one_meaning.no_fault text two lines n d f m.has_fault)
+read_alone text two lines f (Err (At n d)) m = absurd (has_one_meaning.no_fault text two lines n d f m.has_fault.is)
 
 -- a text in which a fault of form is found
 only : (text : Text) (k : ℕ) (c : SourceCause) → program_of text ≡ Err (record { line = k; cause = c })
@@ -120,15 +119,7 @@ unlinked_alone : (z : Size) (lines : List Line) (k : ℕ) (c : SourceCause) → 
 unlinked_alone z lines k c f (Ok l) m = absurd (m.linked.accepted k c f.is)
 unlinked_alone z lines k c f (Err Memory) m = inl refl
 unlinked_alone z lines k c f (Err (At n d)) m =
-    by_order (f.least n d m.has_fault.is) (m.has_fault.least k c f.is)
-  where
-    by_order : (k < n) ⊎ ((k ≡ n) × (number_of c ≤ number_of d)) → (n < k) ⊎ ((n ≡ k) × (number_of d ≤ number_of c))
-        → RefusesLink k c (Err (At n d))
-    by_order (inl x) (inl y) = absurd (omega (arith, x, y))
-    by_order (inl x) (inr y) = absurd (omega (arith, x, y.0))
-    by_order (inr x) (inl y) = absurd (omega (arith, x.0, y))
-    by_order (inr x) (inr y) =
-        let e : d ≡ c = same_cause d c (omega (arith, x.1, y.1)) in inr (λ i. Err (At (y.0 i) (e i)))
+    let same = one_least m.has_fault f in inr (λ i. Err (At (same.0 i) (same.1 i)))
 
 -- a text in whose lines a fault of meaning is found
 only_link : (text : Text) (k : ℕ) (c : SourceCause) → program_of text ≡ Ok (source text)

@@ -18,8 +18,7 @@ use Rattle.ed_syntax.specs.Sources.{HasFormFault, IsProgram}
 use Rattle.ed_link.specs.Answers.{HasMeaningFault, IsLinked}
 use Rattle.ed_answers.specs.Refusals.{IsAcceptedAs, IsAcceptedOrRefused, IsRefused, for_form, for_meaning}
 use Rattle.ed_answers.proofs.EachSource.{one_answer}
-use Rattle.ed_link.specs.Linked.{linked_words}
-use Rattle.ed_link.specs.Tables.{table_of, words_from}
+use Rattle.ed_link.specs.Words.{linked_places}
 use Rattle.ed_link.specs.Tapes.{after_text, tape}
 use Rattle.ed_link.specs.declared.linked.Linked.{Linked}
 use Rattle.ed_link.specs.declared.linked.Placed.{Placed}
@@ -244,5 +243,5 @@ listing_gives z k m words (Err e) entry same gives = tt
 listing_gives z k m words (Ok reply) entry same gives = λ lines is.
     let at : m.store ≡ entry_store lines = ap (λ (x : State). x.store) (entry lines is) in
     let places : List Placed → List ℕ = map (λ (p : Placed). p.place) in
-    let all : places words ≡ places (words_from 0 (table_of (linked_words lines))) = ap places (same ∙ is.words) in
+    let all : places words ≡ linked_places lines = ap places same ∙ is.places in
     subst (λ (t : Text). Gives reply (done t)) (λ i. listing (at i) (all i)) gives

@@ -1,5 +1,5 @@
 -- What holds of every tape with a fault for Initial Orders 1: up to the row that `check-tape1` reports the machine
--- reads what was meant, and where the rows end too early `tape1` ends (this project's own rules).
+-- reads what was meant, and if the rows end too early `tape1` ends (this project's own rules).
 use Rattle.std.specs.Prelude.{◌≡◌, ℕ, ◌<◌, List, [], codes}
 use Rattle.ed_words.specs.Texts.{Text}
 use Rattle.ed_run.specs.declared.settings.Settings.{Settings}

@@ -1,5 +1,5 @@
 -- The program's answers to a source (this project's own rules).
-use Rattle.std.specs.Prelude.{◌≡◌, ◌⊎◌, ℕ, ◌++◌, [], List, map, nat_le, if◌then◌else◌}
+use Rattle.std.specs.Prelude.{◌≡◌, ◌⊎◌, ℕ, ◌++◌, [], List, nat_le, if◌then◌else◌}
 use Rattle.ed_words.specs.declared.size.Size.{Size}
 use Rattle.ed_machine.specs.State.{State}
 use Rattle.ed_notation.specs.Spellings.{canonicals, text_of}
@@ -7,10 +7,10 @@ use Rattle.ed_syntax.specs.declared.program.Line.{Line}
 use Rattle.ed_syntax.specs.declared.fault.SourceCause.{SourceCause}
 use Rattle.ed_syntax.specs.declared.fault.SourceFault.TheVariants.{At}
 use Rattle.ed_answers.specs.Refusals.{IsAcceptedAs, IsRefused}
-use Rattle.ed_link.specs.Linked.{data_after, entry_of, linked_words}
+use Rattle.ed_link.specs.Linked.{data_after, entry_of}
 use Rattle.ed_link.specs.Punch.{punched_items}
-use Rattle.ed_link.specs.Tables.{table_of, words_from}
 use Rattle.ed_link.specs.Tapes.{after_text, cost, tape}
+use Rattle.ed_link.specs.Words.{linked_places}
 use Rattle.ed_answers.specs.EntryState.{entry_store}
 use Rattle.ed_report.specs.Listings.{listing}
 use Rattle.ed_report.specs.Notes.{entry_note, source_fault_line}
@@ -47,7 +47,7 @@ punch_outcome lines = done (text_of (canonicals (punched_items lines)) ++ after_
 
 -- `listing`: the locations of the linked program, with the words of the store at the entry
 abbrev pub listing_outcome : List Line → Outcome
-listing_outcome lines = done (listing (entry_store lines) (map (λ p. p.place) (words_from 0 (table_of (linked_words lines)))))
+listing_outcome lines = done (listing (entry_store lines) (linked_places lines))
 
 -- the answer of `run`
 abbrev pub run_answer : Settings → Answer

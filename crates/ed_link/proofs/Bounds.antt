@@ -31,7 +31,8 @@ mark_few : (m : Bool) → length (mark_rows m) ≤ 1
 mark_few true = lit≤ tt
 mark_few false = lit≤ tt
 
-one : (p n : ℕ) → length (digit_at p n) ≤ 1
+-- a digit of a number has at most one row
+pub one : (p n : ℕ) → length (digit_at p n) ≤ 1
 one p n = digit_few p n (nat_le p n)
 
 -- a number has at most 5 digit rows
@@ -80,7 +81,7 @@ heads_few true base = lit≤ tt
 heads_few false base = lit≤ tt
 
 -- the head of a segment is 2 items
-headed_few : (is : List Item) (first : Bool) (base : ℕ) → length (with_heading is first base) ≤ length is + 2
+pub headed_few : (is : List Item) (first : Bool) (base : ℕ) → length (with_heading is first base) ≤ length is + 2
 headed_few [] first base = omega arith
 headed_few (i ∷ is) first base = omega (arith, length-append (heads first base) (i ∷ is), heads_few first base)
 
@@ -101,7 +102,7 @@ presets_few symbols ts (c ∷ cs) =
     )
 
 -- the 6 parameters and the head of a routine are 14 items
-routine_few : (found : Option ℕ) (n : ℕ) → length (routine_items found) ≤ n
+pub routine_few : (found : Option ℕ) (n : ℕ) → length (routine_items found) ≤ n
     → (symbols : List Definition) (ts : List Setting) (base : ℕ)
     → length (use_items symbols ts base found) ≤ n + 14
 routine_few found n h symbols ts base =
@@ -113,7 +114,8 @@ routine_few found n h symbols ts base =
           (with_heading (routine_items found) true base),
     )
 
-long_few : (b : Bool) (v w : ℕ) → length (map word_item ((if b then 0 ∷ [] else []) ++ (v ∷ (w ∷ [])))) ≤ 3
+-- a long word is at most 3 words
+pub long_few : (b : Bool) (v w : ℕ) → length (map word_item ((if b then 0 ∷ [] else []) ++ (v ∷ (w ∷ [])))) ≤ 3
 long_few true v w = lit≤ tt
 long_few false v w = lit≤ tt
 

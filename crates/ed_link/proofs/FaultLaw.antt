@@ -23,11 +23,11 @@ use Rattle.ed_link.specs.FaultTests.{past_of}
 use Rattle.ed_link.specs.FaultTests.{sooner, word_extent, LinesBefore}
 use Rattle.ed_symbols.specs.NameFaults.{counter_from, counter_after}
 use Rattle.ed_link.specs.Faults.{HasEnter, SourceHasFault, on_line, no_enter}
-use Rattle.ed_symbols.specs.NameFaults.{number_of}
+use Rattle.ed_syntax.specs.Causes.{number_of}
 use Rattle.ed_link.specs.Faults.{IsMeaningFault, HasNoFault}
 use Rattle.ed_link.proofs.FaultSentences.{extents_from, any_says, any_tests}
 use Rattle.ed_symbols.specs.NameFaults.{HasNameFault, StandsAfter}
-use Rattle.ed_symbols.proofs.LeastFaults.{same_cause}
+use Rattle.ed_syntax.proofs.Causes.{one_least}
 use Rattle.ed_symbols.proofs.FaultPasses.{first, finds, Finds, Numbered}
 use Rattle.ed_symbols.proofs.NameLaw.{AtLine, SaysLeast, found_says, numbers, say_names, spot_snoc}
 use Rattle.ed_link.proofs.LineFaults.{OfMeaning, of_meaning, name_has_cause, few, cause_is_name}
@@ -233,19 +233,10 @@ module _ (z : Size) (lines : List Line) (numbered : Numbered lines) where
   pub is_fault : (k : ℕ) (c : SourceCause) → IsMeaningFault z lines k c → fault z lines ≡ Some (At k c)
   is_fault k c h = by_answer (fault z lines) tells
     where
-      one : (m : ℕ) (d : SourceCause) → (m < k) ⊎ ((m ≡ k) × (number_of d ≤ number_of c))
-          → (k < m) ⊎ ((k ≡ m) × (number_of c ≤ number_of d))
-          → ◌≡◌ {A = Option SourceFault} (Some (At m d)) (Some (At k c))
-      one m d (inl x) (inl y) = absurd (omega (arith, x, y))
-      one m d (inl x) (inr y) = absurd (omega (arith, x, y.0))
-      one m d (inr x) (inl y) = absurd (omega (arith, x.0, y))
-      one m d (inr x) (inr y) =
-          let e : d ≡ c = same_cause d c (omega (arith, x.1, y.1)) in λ i. Some (At (x.0 i) (e i))
-
       by_answer : (f : Option SourceFault) → Tells f → f ≡ Some (At k c)
       by_answer None t = absurd (t k c h.is)
       by_answer (Some Memory) t = absurd t
-      by_answer (Some (At m d)) t = one m d (t.least k c h.is) (h.least m d t.is)
+      by_answer (Some (At m d)) t = let same = one_least t h in λ i. Some (At (same.0 i) (same.1 i))
 
 -- ---- what the code answers
 

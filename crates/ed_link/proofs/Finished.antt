@@ -1,5 +1,5 @@
 -- A source that is linked has no fault, and its tape reaches its linked program.
-use Rattle.std.proofs.Common.{◌≡◌, refl, sym, ap, ◌∙◌, subst, ℕ, Bool, true, None, List, replicate}
+use Rattle.std.proofs.Common.{◌≡◌, refl, sym, ap, ◌∙◌, subst, ℕ, Bool, true, None, List, map, replicate}
 use Rattle.std.proofs.lemmas.List.{length-replicate}
 use Rattle.std.specs.List.{list_all}
 use Rattle.ed_words.specs.declared.size.Size.{Size}
@@ -18,8 +18,9 @@ use Rattle.ed_link.specs.Punch.{punched_from, punched_items}
 use Rattle.ed_link.specs.FaultTests.{any_enter, fault, fault_from}
 use Rattle.ed_link.specs.declared.linked.Placed.{Placed}
 use Rattle.ed_link.specs.Labels.{labels}
+use Rattle.ed_link.specs.Words.{linked_places}
 use Rattle.ed_link.specs.Tables.{table_of, word_at, words_from}
-use Rattle.ed_link.proofs.Maps.{words_are}
+use Rattle.ed_link.proofs.Maps.{places_are, words_are}
 use Rattle.ed_link.specs.Answers.{IsLinked}
 use Rattle.ed_link.specs.Private.Building.{first_past, IsBuilt, IsFinished}
 use Rattle.ed_link.proofs.Accepted.{accepted_law, can_be_spelled}
@@ -57,6 +58,7 @@ pub finished : {z : Size} {lines : List Line} {symbols : List Definition} {has_e
     → list_all is_ready catalogue ≡ true → AreNumbered lines → list_all (is_line two) lines ≡ true
     → symbols ≡ symbols_of lines → has_enter ≡ any_enter lines → (resolution lines).fault ≡ None → has_enter ≡ true
     → IsBuilt z symbols has_enter lines b → IsFinished symbols b k → IsLinked z lines k
+unfolding linked_places
 finished {z} {lines} {symbols} {has_enter} {b} {k} two tables numbered formed h a names there built f =
     let none : fault z lines ≡ None = accepted h a names there built in
     let words : k.words.items ≡ words_from 0 (table_of (linked_words lines)) =
@@ -65,8 +67,8 @@ finished {z} {lines} {symbols} {has_enter} {b} {k} two tables numbered formed h 
     record {
       accepted = (fault_law z lines numbered).accepted none;
       items = f.items ∙ items_are h built;
-      words = words;
-      map = λ a l. ap (λ (x : List Placed). word_at x a) words ∙ words_are (linked_words lines) a l;
+      places = ap (map (λ (p : Placed). p.place)) words ∙ places_are (linked_words lines);
+      words = λ a l. ap (λ (x : List Placed). word_at x a) words ∙ words_are (linked_words lines) a l;
       entry = f.entry ∙ built.entry ∙ ap (λ (x : List Definition). entry_from x lines) h;
       after = f.after ∙ built.after;
       labels = f.labels ∙ ap (λ (x : List Definition). labels x) h;

@@ -12,11 +12,13 @@ use Rattle.ed_link.specs.Linked.{symbols_of}
 use Rattle.ed_link.specs.FaultTests.{any_enter, cause_of, has_no_routine, has_sandwich, is_misplaced}
 use Rattle.ed_link.specs.FaultTests.{extent, is_outside, overlaps}
 use Rattle.ed_link.specs.FaultTests.{reach, sets_otherwise, word_extent}
-use Rattle.ed_symbols.specs.NameFaults.{counter_after, number_of}
+use Rattle.ed_syntax.specs.Causes.{number_of}
+use Rattle.ed_syntax.proofs.Causes.{most}
+use Rattle.ed_symbols.specs.NameFaults.{counter_after}
 use Rattle.ed_link.specs.Faults.{LineHasCause}
 use Rattle.ed_symbols.specs.NameFaults.{LineHasNameFault}
 use Rattle.ed_symbols.proofs.Sentences.{Ties}
-use Rattle.ed_symbols.proofs.LeastFaults.{Least, most, picks}
+use Rattle.ed_symbols.proofs.LeastFaults.{Least, picks}
 use Rattle.ed_link.proofs.FaultSentences.{extents_from, s9, s10_s11, s12, s13, s14, s16, s17}
 use Rattle.ed_link.proofs.SettingSentences.{s15}
 

@@ -2,13 +2,15 @@
 use Rattle.std.proofs.Common.{◌≡◌, ℕ, zero, suc, ◌+◌, ◌<◌, refl, sym, ap, ◌∙◌, arith, Bool, true, false, nat_eq}
 use Rattle.std.proofs.Common.{if◌then◌else◌, Option, Some, None}
 use Rattle.std.proofs.Common.{List, [], ◌∷◌, ◌++◌, length, get_or, set}
-use Rattle.std.specs.Prelude.{reverse}
+use Rattle.std.specs.Prelude.{reverse, map, is_some}
+use Rattle.std.specs.List.{filter, range_with_len}
 use Rattle.ed_words.proofs.Numbers.{eq_of, eq_true, eq_false, not_eq_of}
 use Rattle.std.proofs.lemmas.List.{get_or-set_same, get_or-set_other, length-set, get_or-replicate, append-nil}
 use Rattle.ed_notation.specs.Fold.{placed_at}
 use Rattle.ed_link.specs.Tables.{empty_table, put_all, table_of, word_at, words_from}
 use Rattle.ed_link.proofs.Orders.{placed_more}
-use Rattle.ed_link.proofs.Lengths.{empty_length}
+use Rattle.ed_link.specs.declared.linked.Placed.{Placed}
+use Rattle.ed_link.proofs.Lengths.{empty_length, put_all_length}
 
 -- one word is put
 one : {found : Option ℕ} (t : List (Option ℕ)) (p w a : ℕ) (b : Bool) → nat_eq p a ≡ b → a < length t
@@ -62,3 +64,28 @@ pub words_are : (ps : List (ℕ × ℕ)) (a : ℕ) → a < 1024
 words_are ps a h =
     let e : 0 + a ≡ a = omega arith in
     ap (λ x. word_at (words_from 0 (table_of ps)) x) (sym e) ∙ at (table_of ps) 0 a ∙ table_is ps a h
+
+-- the locations of a table's words, by a test that tells which of its cells have one
+places_from : (f : ℕ → Bool) (t : List (Option ℕ)) (b : ℕ)
+    → ((i : ℕ) → i < length t → f (b + i) ≡ is_some (get_or t i None))
+    → map (λ (p : Placed). p.place) (words_from b t) ≡ filter f (range_with_len b (length t))
+places_from f [] b h = refl
+places_from f (None ∷ t) b h =
+    let here : f b ≡ false = ap f (omega arith) ∙ h 0 (omega arith) in
+    rw here (places_from f t (b + 1) (λ i l. ap f (omega arith) ∙ h (suc i) (omega (arith, l))))
+places_from f (Some w ∷ t) b h =
+    let here : f b ≡ true = ap f (omega arith) ∙ h 0 (omega arith) in
+    rw here (ap (λ (places : List ℕ). b ∷ places)
+    (places_from f t (b + 1) (λ i l. ap f (omega arith) ∙ h (suc i) (omega (arith, l)))))
+
+-- the locations of the words are those at which the map has one
+pub places_are : (ps : List (ℕ × ℕ))
+    → map (λ (p : Placed). p.place) (words_from 0 (table_of ps))
+    ≡ filter (λ a. is_some (placed_at (reverse ps) a)) (range_with_len 0 1024)
+places_are ps =
+    let long : length (table_of ps) ≡ 1024 = put_all_length empty_table ps ∙ empty_length in
+    places_from (λ a. is_some (placed_at (reverse ps) a)) (table_of ps) 0
+    (λ i l. let at : 0 + i ≡ i = omega arith in
+    ap (λ a. is_some (placed_at (reverse ps) a)) at
+    ∙ ap (λ (w : Option ℕ). is_some w) (sym (table_is ps i (omega (arith, l, long)))))
+    ∙ ap (λ (n : ℕ). filter (λ a. is_some (placed_at (reverse ps) a)) (range_with_len 0 n)) long

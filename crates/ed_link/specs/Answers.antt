@@ -1,15 +1,15 @@
 -- The answers of linking, by the definitions of the linked program, the punched tape and the faults.
-use Rattle.std.specs.Prelude.{◌≡◌, ℕ, ◌<◌, reverse, List}
+use Rattle.std.specs.Prelude.{◌≡◌, ℕ, ◌<◌, map, List}
 use Rattle.ed_words.specs.declared.size.Size.{Size}
-use Rattle.ed_notation.specs.Fold.{placed_at}
 use Rattle.ed_syntax.specs.declared.program.Line.{Line}
 use Rattle.ed_syntax.specs.declared.fault.SourceFault.{SourceFault}
 use Rattle.ed_syntax.specs.declared.fault.SourceFault.TheVariants.{At, Memory}
 use Rattle.ed_link.specs.declared.linked.Linked.{Linked}
-use Rattle.ed_link.specs.Linked.{data_after, symbols_of, entry_of, linked_words}
+use Rattle.ed_link.specs.Linked.{data_after, symbols_of, entry_of}
 use Rattle.ed_link.specs.Punch.{punched_items}
 use Rattle.ed_link.specs.Faults.{HasNoFault, IsMeaningFault}
-use Rattle.ed_link.specs.Tables.{table_of, word_at, words_from}
+use Rattle.ed_link.specs.Tables.{word_at}
+use Rattle.ed_link.specs.Words.{linked_places, linked_word}
 use Rattle.ed_link.specs.Labels.{labels}
 use Rattle.ed_link.specs.Tapes.{ComesToLinked}
 
@@ -22,9 +22,9 @@ HasMeaningFault z lines Memory = Unit {0}
 pub record IsLinked (z : Size) (lines : List Line) (k : Linked) : Type 0 where
   pub accepted : HasNoFault z lines
   pub items : k.items.items ≡ punched_items lines
-  pub words : k.words.items ≡ words_from 0 (table_of (linked_words lines))
-  -- they are the map of the linked program
-  pub map : (a : ℕ) → a < 1024 → word_at k.words.items a ≡ placed_at (reverse (linked_words lines)) a
+  -- the words of the linked program, in ascending order of location
+  pub places : map (λ p. p.place) k.words.items ≡ linked_places lines
+  pub words : (place : ℕ) → place < 1024 → word_at k.words.items place ≡ linked_word lines place
   pub entry : k.entry ≡ entry_of lines
   pub after : k.after.items ≡ data_after lines
   pub labels : k.labels.items ≡ labels (symbols_of lines)

@@ -15,10 +15,10 @@ use Rattle.ed_syntax.specs.declared.program.Statement.TheVariants.{Rows}
 use Rattle.ed_syntax.specs.declared.program.Line.{Line}
 use Rattle.ed_syntax.specs.declared.fault.SourceCause.{SourceCause}
 use Rattle.ed_syntax.specs.declared.fault.SourceCause.TheVariants as causes
+use Rattle.ed_syntax.specs.Causes.{IsLeastFault}
 use Rattle.ed_symbols.specs.Names.{place_on}
 use Rattle.ed_symbols.specs.Places.{segment_at}
 use Rattle.ed_symbols.specs.NameFaults.{StandsAfter, counter_after, DefinesAgain, NamesUnknown, ReachesOutside}
-use Rattle.ed_symbols.specs.NameFaults.{number_of}
 use Rattle.ed_link.specs.Linked.{first_place, end_place, symbols_of}
 
 -- ---- the words of a line
@@ -135,11 +135,9 @@ pub data SourceHasFault (z : Size) (lines : List Line) : ℕ → SourceCause →
   -- S16 too, at the number of lines plus 1: no line is an `enter`
   no_enter : (HasEnter lines → ⊥) → SourceHasFault z lines (length lines + 1) causes.Enter
 
--- the fault of meaning of a source: that of the first line that has one, and there the one with the least number
-pub record IsMeaningFault (z : Size) (lines : List Line) (k : ℕ) (cause : SourceCause) : Type 0 where
-  pub is : SourceHasFault z lines k cause
-  pub least : (other : ℕ) (rule : SourceCause) → SourceHasFault z lines other rule
-      → (k < other) ⊎ ((k ≡ other) × (number_of cause ≤ number_of rule))
+-- the fault of meaning of a source
+abbrev pub IsMeaningFault : Size → List Line → ℕ → SourceCause → Type 0
+IsMeaningFault z lines = IsLeastFault (SourceHasFault z lines)
 
 -- the source has no fault of meaning
 abbrev pub HasNoFault : Size → List Line → Type 0

@@ -1,8 +1,8 @@
 -- The words of a linked program: those of its lines, each at its location, and the parameters that its `use` lines set
 -- (this project's own rule).
 use Rattle.std.specs.Prelude.{◌≡◌, ◌⊎◌, ℕ, ◌+◌, ◌*◌, ◌<◌, ◌≤◌, List, [], length, map, reverse, slice_index}
-use Rattle.std.specs.Prelude.{Option, Some, None}
-use Rattle.std.specs.List.{Contains}
+use Rattle.std.specs.Prelude.{Option, Some, None, is_some}
+use Rattle.std.specs.List.{Contains, filter, range_with_len}
 use Rattle.ed_words.specs.declared.size.Size.{Size}
 use Rattle.ed_words.specs.Sizes.{locations}
 use Rattle.ed_notation.specs.Fold.{placed_at}
@@ -57,6 +57,10 @@ pub record LineSets (lines : List Line) (l : Line) (place word : ℕ) : Type 0 w
 -- the word of the linked program at a location, if it has one there
 abbrev pub linked_word : List Line → ℕ → Option ℕ
 linked_word lines place = placed_at (reverse (linked_words lines)) place
+
+-- the locations at which the linked program has a word, in ascending order
+unfoldable pub linked_places : List Line → List ℕ
+linked_places lines = filter (λ place. is_some (linked_word lines place)) (range_with_len 0 1024)
 
 -- no line after this one sets the parameter at this location
 abbrev pub IsLastSet : List Line → List Line → ℕ → Type 0

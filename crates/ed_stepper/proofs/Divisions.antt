@@ -6,8 +6,8 @@ use Rattle.std.specs.Prelude.{◌==◌, not, slice_index_or, if◌then◌else◌
 use Rattle.std.proofs.lemmas.List.{append-nil, append_assoc, drop_all, length-append, take_at}
 use Rattle.ed_words.specs.Texts.{Text}
 use Rattle.ed_syntax.specs.Lines.{lines_of}
-use Rattle.ed_stepper.specs.Inputs.{Input, text_kind_of, at_line, after_line, input_of, input_at, first_line}
-use Rattle.ed_stepper.specs.Inputs.{with_byte_before}
+use Rattle.ed_stepper.specs.Inputs.{Input, text_kind_of}
+use Rattle.ed_stepper.specs.Private.Divisions.{at_line, after_line, input_of, input_at, first_line, with_byte_before}
 use Rattle.ed_stepper.specs.Private.Fronts.{line_feed_place}
 use Rattle.ed_stepper.specs.declared.inputs.TextKind.{TextKind}
 

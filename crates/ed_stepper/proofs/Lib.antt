@@ -6,6 +6,7 @@ mod Keeping
 mod Listed
 mod Heads
 mod Divisions
+pub mod InputLaws
 mod Plays
 mod CommandLaws
 mod CommandExamples

@@ -1,22 +1,13 @@
 -- The input of the command that runs a script: the script's lines, a dividing line, and a tape's text or a source
--- (this project's own rule).
-use Rattle.std.specs.Prelude.{◌≡◌, ℕ, ◌==◌, Bool, true, [], ◌∷◌, codes}
-use Rattle.std.specs.Prelude.{slice_index_or, if◌then◌else◌, Option, Some, None}
+-- (this project's own rule). Its lines are those of `HasLines`.
+use Rattle.std.specs.Prelude.{◌≡◌, ℕ, false, length, List, [], ◌∷◌, ◌++◌, codes, if◌then◌else◌, Option, Some, None}
 use Rattle.std.specs.Str.{bytes_eq}
+use Rattle.std.specs.List.{All}
 use Rattle.ed_words.specs.Texts.{Text}
-use Rattle.ed_syntax.specs.Lines.{lines_of}
+use Rattle.ed_syntax.specs.Lines.{HasLines, has_end, without_return}
 use Rattle.ed_stepper.specs.declared.inputs.Divided.{Divided}
 use Rattle.ed_stepper.specs.declared.inputs.TextKind.{TextKind}
 use Rattle.ed_stepper.specs.declared.inputs.TextKind.TheVariants.{Tape, Source}
-
--- the first line of a text, without its end
-abbrev pub first_line : Text → Text
-first_line text = slice_index_or (lines_of text) 0 []
-
--- what follows the first line and its end
-abbrev pub after_line : Text → Text
-after_line [] = []
-after_line (b ∷ bs) = if b == 10 then bs else after_line bs
 
 -- what a line announces, if it is a dividing line: it is exactly `tape` or `source`
 abbrev pub text_kind_of : Text → Option TextKind
@@ -29,28 +20,27 @@ pub record Input : Type 0 where
   pub kind : TextKind
   pub text : Text
 
--- one more byte before the script
-abbrev pub with_byte_before : ℕ → Option Input → Option Input
-with_byte_before b None = None
-with_byte_before b (Some i) = Some (record i { script = b ∷ i.script })
+-- An input is divided by the first of its lines that announces a text. The script is the lines before it, and the text
+-- is what follows it.
+pub data IsDivided : Text → Input → Type 0 where
+  by_last : (line : Text) (kind : TextKind) → has_end line ≡ false → text_kind_of line ≡ Some kind
+      → IsDivided line (record { script = []; kind = kind; text = [] })
+  by_line : (line text : Text) (kind : TextKind) → has_end line ≡ false
+      → text_kind_of (without_return line) ≡ Some kind
+      → IsDivided (line ++ 10 ∷ text) (record { script = []; kind = kind; text = text })
+  further_on : (line text : Text) (i : Input) → has_end line ≡ false → text_kind_of (without_return line) ≡ None
+      → IsDivided text i → IsDivided (line ++ 10 ∷ text) (record i { script = line ++ 10 ∷ i.script })
 
--- the input is divided here if a line announces a text, else further on
-abbrev pub at_line : Option TextKind → Text → Option Input → Option Input
-at_line (Some kind) text later = Some (record { script = []; kind = kind; text = after_line text })
-at_line None text later = later
+-- the input has these lines, and none of them announces a text
+pub record IsUndivided (input : Text) (lines : List Text) : Type 0 where
+  pub has_lines : HasLines input lines
+  pub none : All (λ line. text_kind_of line ≡ None) lines
 
--- an input, which begins at the beginning of a line or not, divided by the first line that announces a text
-abbrev pub input_at : Bool → Text → Option Input
-input_at begins [] = None
-input_at begins (b ∷ bs) =
-    at_line (if begins then text_kind_of (first_line (b ∷ bs)) else None) (b ∷ bs)
-    (with_byte_before b (input_at (b == 10) bs))
+-- the input has this number of lines
+abbrev pub HasLineCount : Text → ℕ → Type 0
+HasLineCount input count = (lines : List Text) × HasLines input lines × (count ≡ length lines)
 
--- an input, divided
-abbrev pub input_of : Text → Option Input
-input_of input = input_at true input
-
--- the parts found are those of the definition
+-- the parts that are found are those of the input, or it has none
 abbrev pub Divides : Text → Option Divided → Type 0
-Divides input None = input_of input ≡ None
-Divides input (Some d) = input_of input ≡ Some (record { script = d.script.now; kind = d.kind; text = d.text.now })
+Divides input None = (lines : List Text) × IsUndivided input lines
+Divides input (Some d) = IsDivided input (record { script = d.script.now; kind = d.kind; text = d.text.now })

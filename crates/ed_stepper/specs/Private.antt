@@ -1,6 +1,7 @@
 -- What the crate's own functions state for each other. No public clause cites these definitions, so nobody has to read
 -- them to know what the crate answers.
 pub mod Fronts
+pub mod Divisions
 pub mod Commands
 pub mod CommandReading
 pub mod Lines

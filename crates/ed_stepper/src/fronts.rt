@@ -3,7 +3,7 @@ ghost use Rattle.std.specs.Prelude.{◌≡◌, ◌==◌, ◌∷◌, ◌≤◌, �
 ghost use Rattle.std.specs.List.{position_or_len};
 ghost use Rattle.std.specs.Str.{bytes_eq};
 ghost use Rattle.ed_syntax.specs.Lines.{lines_of};
-ghost use Rattle.ed_stepper.specs.Inputs.{after_line};
+ghost use Rattle.ed_stepper.specs.Private.Divisions.{after_line};
 ghost use Rattle.ed_stepper.specs.Private.Fronts.{TakesPart, stop_of};
 
 /// The first line without its end, and what follows it.

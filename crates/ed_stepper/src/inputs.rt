@@ -1,7 +1,6 @@
 //! The input of the command that runs a script: the script, a dividing line, and a text.
 ghost use Rattle.std.specs.Prelude.{◌≡◌, ◌≤◌, ◌<◌, length};
-ghost use Rattle.ed_syntax.specs.Lines.{lines_of};
-ghost use Rattle.ed_stepper.specs.Inputs.{Divides, text_kind_of};
+ghost use Rattle.ed_stepper.specs.Inputs.{Divides, HasLineCount, text_kind_of};
 
 use crate::fronts::{first_line, spells};
 
@@ -60,7 +59,7 @@ fn text_kind_of(line: &[u8]) -> Option<TextKind>
 /// The number of lines of a text; a last line without an end counts if it isn't empty.
 pub fn line_count(text: &[u8]) -> u32
     requires { length text.now ≤ 1000000000 }
-    ensures is { result ≡ length (lines_of text.now) }
+    ensures is { HasLineCount text.entry.now result }
     ensures few { result ≤ length text.now }
 {
     let mut rest = text;

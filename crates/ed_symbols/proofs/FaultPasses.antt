@@ -8,7 +8,8 @@ use Rattle.ed_syntax.specs.declared.fault.SourceCause.{SourceCause}
 use Rattle.ed_syntax.specs.declared.fault.SourceFault.{SourceFault}
 use Rattle.ed_syntax.specs.declared.fault.SourceFault.TheVariants.{At, Memory}
 use Rattle.ed_symbols.specs.NameTests.{or_later}
-use Rattle.ed_symbols.specs.NameFaults.{StandsAfter, number_of}
+use Rattle.ed_syntax.specs.Causes.{number_of}
+use Rattle.ed_symbols.specs.NameFaults.{StandsAfter}
 use Rattle.ed_symbols.proofs.LeastFaults.{Least}
 
 -- what a pass finds that tests each line by the lines before it

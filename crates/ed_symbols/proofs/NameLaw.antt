@@ -4,6 +4,7 @@ use Rattle.std.proofs.Common.{Option, Some, None, List, [], ◌∷◌, ◌++◌,
 use Rattle.std.proofs.lemmas.List.{append-nil}
 use Rattle.std.proofs.Math.Seq.{get_or-append_seam}
 use Rattle.std.specs.Prelude.{slice_index_or}
+use Rattle.ed_syntax.specs.Causes.{number_of}
 use Rattle.ed_syntax.specs.Programs.{AreNumbered}
 use Rattle.ed_syntax.specs.declared.program.Line.{Line}
 use Rattle.ed_syntax.specs.declared.fault.SourceCause.{SourceCause}
@@ -15,12 +16,12 @@ use Rattle.ed_symbols.specs.Places.{after_statement, first_counter}
 use Rattle.ed_symbols.specs.Names.{line_definitions, symbols_from}
 use Rattle.ed_symbols.specs.NameTests.{or_later, defines_again, naming_cause, naming_fault_from, names_unknown}
 use Rattle.ed_symbols.specs.NameTests.{reaches_outside, resolution}
-use Rattle.ed_symbols.specs.NameFaults.{StandsAfter, counter_from, counter_after, number_of, LineHasNameFault}
-use Rattle.ed_symbols.specs.NameFaults.{HasNameFault}
-use Rattle.ed_symbols.specs.NameFaults.{NameFaultIs, EachHasOneNameFault}
+use Rattle.ed_symbols.specs.NameFaults.{StandsAfter, counter_from, counter_after, LineHasNameFault}
+use Rattle.ed_symbols.specs.NameFaults.{HasNameFault, NameFaultIs, EachHasOneNameFault}
+use Rattle.ed_syntax.proofs.Causes.{one_least}
 use Rattle.ed_symbols.proofs.NamingSentences.{s7, s8}
 use Rattle.ed_symbols.proofs.AgainSentences.{s6}
-use Rattle.ed_symbols.proofs.LeastFaults.{Least, picks, same_cause}
+use Rattle.ed_symbols.proofs.LeastFaults.{Least, picks}
 use Rattle.ed_symbols.proofs.FaultPasses.{first, finds, Finds, Numbered}
 
 -- ---- one line
@@ -151,15 +152,7 @@ one_fault lines None (Some (At k c)) h i = absurd (h k c i.is)
 one_fault lines (Some Memory) g h i = absurd h
 one_fault lines (Some (At k c)) None h i = absurd (i k c h.is)
 one_fault lines (Some (At k c)) (Some Memory) h i = absurd i
-one_fault lines (Some (At k c)) (Some (At m d)) h i = one (h.least m d i.is) (i.least k c h.is)
-  where
-    one : (k < m) ⊎ ((k ≡ m) × (number_of c ≤ number_of d)) → (m < k) ⊎ ((m ≡ k) × (number_of d ≤ number_of c))
-        → ◌≡◌ {A = Option SourceFault} (Some (At k c)) (Some (At m d))
-    one (inl x) (inl y) = absurd (omega (arith, x, y))
-    one (inl x) (inr y) = absurd (omega (arith, x, y.0))
-    one (inr x) (inl y) = absurd (omega (arith, x.0, y))
-    one (inr x) (inr y) =
-        let e : c ≡ d = same_cause c d (omega (arith, x.1, y.1)) in λ i. Some (At (x.0 i) (e i))
+one_fault lines (Some (At k c)) (Some (At m d)) h i = let same = one_least h i in λ j. Some (At (same.0 j) (same.1 j))
 
 pub each_has_one : EachHasOneNameFault
 each_has_one = record { every = λ lines are. ((resolution lines).fault, found_is lines are); one = one_fault }

@@ -3,6 +3,7 @@
 use Rattle.std.specs.Prelude.{◌≡◌, ◌⊎◌, ℕ, ◌+◌, ◌<◌, ◌≤◌, true, List, [], ◌∷◌, ◌++◌, length, map}
 use Rattle.std.specs.Prelude.{Option, Some, None, ℤ, pos, int_lt}
 use Rattle.std.specs.List.{Contains}
+use Rattle.ed_syntax.specs.Causes.{IsLeastFault}
 use Rattle.ed_syntax.specs.Programs.{AreNumbered}
 use Rattle.ed_syntax.specs.declared.program.Operand.{Operand}
 use Rattle.ed_syntax.specs.declared.program.Operand.TheVariants as operands
@@ -93,31 +94,9 @@ abbrev pub HasNameFault : List Line → ℕ → SourceCause → Type 0
 HasNameFault lines k cause = (before : List Line) × (l : Line) × StandsAfter lines before l × (k ≡ length before + 1)
     × LineHasNameFault lines before l cause
 
--- the numbers of the faults
-abbrev pub number_of : SourceCause → ℕ
-number_of causes.BadByte = 1
-number_of causes.LongLine = 2
-number_of causes.NotAStatement = 3
-number_of causes.NumberRange = 4
-number_of causes.TooManyLines = 5
-number_of causes.LabelTwice = 6
-number_of causes.LabelUnknown = 7
-number_of causes.AddressRange = 8
-number_of causes.OutsideSegment = 9
-number_of causes.LoaderStore = 10
-number_of causes.ParameterStore = 11
-number_of causes.StoreEnd = 12
-number_of causes.Overlap = 13
-number_of causes.NoSuchRoutine = 14
-number_of causes.Parameters = 15
-number_of causes.Enter = 16
-number_of causes.SandwichDigit = 17
-
--- the fault of the names of a source: that of the first line that has one, and there the one with the least number
-pub record IsNameFault (lines : List Line) (k : ℕ) (cause : SourceCause) : Type 0 where
-  pub is : HasNameFault lines k cause
-  pub least : (other : ℕ) (rule : SourceCause) → HasNameFault lines other rule
-      → (k < other) ⊎ ((k ≡ other) × (number_of cause ≤ number_of rule))
+-- the fault of the names of a source
+abbrev pub IsNameFault : List Line → ℕ → SourceCause → Type 0
+IsNameFault lines = IsLeastFault (HasNameFault lines)
 
 -- the source has no fault of names
 abbrev pub HasNoNameFault : List Line → Type 0

@@ -9,7 +9,7 @@ use Rattle.ed_syntax.specs.Lines.{lines_of, with_byte}
 use Rattle.ed_syntax.specs.Lines.{has_end, without_return}
 use Rattle.ed_syntax.specs.Private.LineFronts.{TakesLine}
 
-no_end_head : (b : ℕ) (bs : Text) → has_end (b ∷ bs) ≡ false → ((b == 10) ≡ false) × (has_end bs ≡ false)
+pub no_end_head : (b : ℕ) (bs : Text) → has_end (b ∷ bs) ≡ false → ((b == 10) ≡ false) × (has_end bs ≡ false)
 no_end_head b bs = go (b == 10) (has_end bs)
   where
     go : (c d : Bool) → (c || d) ≡ false → (c ≡ false) × (d ≡ false)

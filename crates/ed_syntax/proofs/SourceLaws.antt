@@ -1,16 +1,17 @@
 -- A source says what is read in it, or has the fault that is found.
 use Rattle.std.proofs.Common.{◌≡◌, ◌∙◌, ℕ, ◌+◌, ◌≤◌, ◌<◌, Bool, true, false, List, [], ◌∷◌, ◌++◌, refl, sym, ap}
-use Rattle.std.proofs.Common.{subst, arith, length, codes}
+use Rattle.std.proofs.Common.{subst, arith, length, codes, zero, suc, get_or, lit≤}
 use Rattle.std.specs.Prelude.{◌==◌, ◌&&◌, Option, Some, None, Result, Ok, Err, not, nat_lt}
-use Rattle.std.specs.Prelude.{if◌then◌else◌, IfErr, IfOk}
+use Rattle.std.specs.Prelude.{◌⊎◌, if◌then◌else◌, IfErr, IfOk}
 use Rattle.std.specs.List.{list_all}
 use Rattle.std.proofs.lemmas.Bool.Decides.{nat_tests, Decides-eqb}
 use Rattle.ed_words.specs.Texts.{Text}
 use Rattle.ed_syntax.specs.Lines.{lines_of, with_byte}
-use Rattle.ed_syntax.specs.Forms.{IsNoStatement}
-use Rattle.ed_syntax.specs.Sources.{IsPlain, LineSays, LineHasFault, bad_byte, long_line, not_a_statement, number_range}
-use Rattle.ed_syntax.specs.Sources.{too_many_lines, IsVersionTwo, IsOfVersion, LinesSay, no_more, and_more}
-use Rattle.ed_syntax.specs.Sources.{IsProgram, IsFormFault, IsProgramOrFault, HasOneMeaning, HasFormFault}
+use Rattle.ed_syntax.specs.Forms.{IsNoStatement, HasNumberOutOfRange}
+use Rattle.ed_syntax.specs.Causes.{number_of}
+use Rattle.ed_syntax.specs.Sources.{IsPlain, LineSays, LineHasFault, IsVersionTwo, IsOfVersion, LinesSay, no_more}
+use Rattle.ed_syntax.specs.Sources.{and_more, IsProgram, SourceHasFormFault, IsFormFault, IsProgramOrFault}
+use Rattle.ed_syntax.specs.Sources.{HasOneMeaning, HasFormFault}
 use Rattle.ed_syntax.specs.Private.Answers.{IsFaultOf}
 use Rattle.ed_syntax.specs.declared.fault.SourceFault.{SourceFault}
 use Rattle.ed_syntax.specs.declared.fault.SourceFault.TheVariants.{At, Memory}
@@ -25,9 +26,13 @@ use Rattle.ed_syntax.specs.declared.program.Program.{Program}
 use Rattle.ed_syntax.specs.declared.fault.SourceCause.{SourceCause}
 use Rattle.ed_syntax.specs.declared.fault.SourceCause.TheVariants.{BadByte, LongLine, NotAStatement}
 use Rattle.ed_syntax.specs.declared.fault.SourceCause.TheVariants.{NumberRange, TooManyLines}
-use Rattle.ed_syntax.proofs.LineLaws.{form_of, spelled_is_read, read_is_spelled, read_form_is_spelled}
-use Rattle.ed_syntax.proofs.LineLaws.{one_form, out_of_range_is_spelled, unread_is_unspelled}
-use Rattle.std.proofs.lemmas.Bool.{and_parts}
+use Rattle.ed_syntax.specs.declared.fault.SourceCause.TheVariants as causes
+use Rattle.ed_syntax.proofs.Causes.{one_least}
+use Rattle.ed_syntax.proofs.LineLaws.{form_of, spelled_is_read, read_form_is_spelled}
+use Rattle.ed_syntax.proofs.LineLaws.{fits_once, one_form, out_of_range_is_spelled, unread_is_unspelled}
+use Rattle.std.proofs.lemmas.Bool.{and_parts, cases_order}
+use Rattle.std.proofs.lemmas.List.{get_or_append_left, length-append}
+use Rattle.std.proofs.Math.Seq.{get_or-append_seam}
 use Rattle.std.specs.Str.{bytes_eq}
 use Rattle.std.proofs.lemmas.Slice.Eq.{bytes_eq-Decides}
 use Rattle.ed_words.specs.Decimals.{value}
@@ -47,6 +52,10 @@ lines_are_read _ _ nothing = refl
 lines_are_read _ _ (last b bs e) = Lines.unended b bs e
 lines_are_read _ _ (ended line text lines e h) =
     Lines.ended line text e ∙ ap (λ (t : List Text). without_return line ∷ t) (lines_are_read text lines h)
+
+-- a text has one list of lines
+pub one_lines : {text : Text} {lines others : List Text} → HasLines text lines → HasLines text others → lines ≡ others
+one_lines {text} {lines} {others} h g = sym (lines_are_read text lines h) ∙ lines_are_read text others g
 
 -- whether a line feed comes first
 begins_feed : Text → Bool
@@ -109,10 +118,51 @@ short_bytes line e = grind (arith, nat_tests)
 le_test : (line : Text) → length line ≤ 120 → nat_le (length line) 120 ≡ true
 le_test line le = grind (arith, nat_tests)
 
+-- what a line is not refused for is not its fault: one line for each cause of a fault of form
+of_form : (two : Bool) (k : ℕ) (line : Text) (P : SourceCause → Type 0)
+    → ((k ≤ 2000) × (list_all is_line_byte line ≡ false) → P BadByte) → ((k ≤ 2000) × (120 < length line) → P LongLine)
+    → ((k ≤ 2000) × IsNoStatement two k line → P NotAStatement)
+    → ((k ≤ 2000) × HasNumberOutOfRange two k line → P NumberRange) → (k ≡ 2001 → P TooManyLines) → (c : SourceCause)
+    → LineHasFault two k line c → P c
+of_form two k line P a b c d e BadByte h = a h
+of_form two k line P a b c d e LongLine h = b h
+of_form two k line P a b c d e NotAStatement h = c h
+of_form two k line P a b c d e NumberRange h = d h
+of_form two k line P a b c d e TooManyLines h = e h
+of_form two k line P a b c d e causes.LabelTwice h = absurd h
+of_form two k line P a b c d e causes.LabelUnknown h = absurd h
+of_form two k line P a b c d e causes.AddressRange h = absurd h
+of_form two k line P a b c d e causes.OutsideSegment h = absurd h
+of_form two k line P a b c d e causes.LoaderStore h = absurd h
+of_form two k line P a b c d e causes.ParameterStore h = absurd h
+of_form two k line P a b c d e causes.StoreEnd h = absurd h
+of_form two k line P a b c d e causes.Overlap h = absurd h
+of_form two k line P a b c d e causes.NoSuchRoutine h = absurd h
+of_form two k line P a b c d e causes.Parameters h = absurd h
+of_form two k line P a b c d e causes.Enter h = absurd h
+of_form two k line P a b c d e causes.SandwichDigit h = absurd h
+
+not_both : {b : Bool} → b ≡ true → b ≡ false → ⊥
+not_both e f = let same : true ≡ false = sym e ∙ f in absurd (cc)
+
+-- the fault of a line with the least number
+pub record IsLeastOfLine (two : Bool) (k : ℕ) (line : Text) (c : SourceCause) : Type 0 where
+  pub is : LineHasFault two k line c
+  pub least : (d : SourceCause) → LineHasFault two k line d → number_of c ≤ number_of d
+
 -- what is said of an answer for a line
 abbrev IsAnswer : Bool → ℕ → Text → Result Form SourceCause → Type 0
 IsAnswer two k line (Ok f) = LineSays two k line f
-IsAnswer two k line (Err c) = k ≤ 2000 → LineHasFault two k line c
+IsAnswer two k line (Err c) = k ≤ 2000 → IsLeastOfLine two k line c
+
+-- a plain line has no fault with a lower number than S3
+plain_least : (two : Bool) (k : ℕ) (line : Text) → IsPlain line → (d : SourceCause) → LineHasFault two k line d
+    → 3 ≤ number_of d
+plain_least two k line p =
+    let bytes = p.bytes in
+    let short = p.short in
+    of_form two k line (λ d. 3 ≤ number_of d) (λ h. absurd (not_both bytes h.1))
+    (λ h. absurd (omega (arith, short, h.1))) (λ h. lit≤ tt) (λ h. lit≤ tt) (λ h. lit≤ tt)
 
 pub line_answers : (two : Bool) (k : ℕ) (line : Text) → IsAnswer two k line (line_of two k line)
 line_answers two k line = go (list_all is_line_byte line) (nat_lt 120 (length line)) (form_of two k line) refl refl refl
@@ -120,14 +170,29 @@ line_answers two k line = go (list_all is_line_byte line) (nat_lt 120 (length li
     go : (a b : Bool) (o : Option (Option Form)) → list_all is_line_byte line ≡ a → nat_lt 120 (length line) ≡ b
         → form_of two k line ≡ o
         → IsAnswer two k line (if not a then Err BadByte else if b then Err LongLine else or_cause o)
-    go false b o e f g = λ le. bad_byte le e
-    go true true o e f g = λ le. long_line le e (long_bytes line f)
+    go false b o e f g = λ le. record {
+      is = (le, e);
+      least = of_form two k line (λ d. 1 ≤ number_of d) (λ h. lit≤ tt) (λ h. lit≤ tt) (λ h. lit≤ tt) (λ h. lit≤ tt) (λ h. lit≤ tt);
+    }
+    go true true o e f g = λ le. record {
+      is = (le, long_bytes line f);
+      least = of_form two k line (λ d. 2 ≤ number_of d) (λ h. absurd (not_both e h.1)) (λ h. lit≤ tt) (λ h. lit≤ tt)
+          (λ h. lit≤ tt) (λ h. lit≤ tt);
+    }
     go true false None e f g =
-        λ le. not_a_statement le (record { bytes = e; short = short_bytes line f })
-        (unread_is_unspelled two k line (le_test line (short_bytes line f)) g)
-    go true false (Some None) e f g = λ le.
-        let s = out_of_range_is_spelled two k line g in
-        number_range le (record { bytes = e; short = short_bytes line f }) s.0 s.1
+        let short = short_bytes line f in
+        λ le. record {
+          is = (le, unread_is_unspelled two k line (le_test line short) g);
+          least = plain_least two k line (record { bytes = e; short = short });
+        }
+    go true false (Some None) e f g =
+        let short = short_bytes line f in
+        let out = out_of_range_is_spelled two k line g in
+        λ le. record {
+          is = (le, out);
+          least = of_form two k line (λ d. 4 ≤ number_of d) (λ h. absurd (not_both e h.1)) (λ h. absurd (omega (arith, short, h.1)))
+              (λ h. absurd (h.1 out.0 false out.1)) (λ h. lit≤ tt) (λ h. lit≤ tt);
+        }
     go true false (Some (Some x)) e f g = record {
       plain = record { bytes = e; short = short_bytes line f };
       spells = read_form_is_spelled two k line x g;
@@ -135,9 +200,6 @@ line_answers two k line = go (list_all is_line_byte line) (nat_lt 120 (length li
 
 short_test : (line : Text) → length line ≤ 120 → nat_lt 120 (length line) ≡ false
 short_test line le = grind (arith, nat_tests)
-
-long_test : (line : Text) → 120 < length line → nat_lt 120 (length line) ≡ true
-long_test line lt = grind (arith, nat_tests)
 
 plain_line : (two : Bool) (k : ℕ) (line : Text) → IsPlain line
     → line_of two k line ≡ or_cause (form_of two k line)
@@ -149,24 +211,14 @@ pub said_is_read : (two : Bool) (k : ℕ) (line : Text) (f : Form) → LineSays 
 said_is_read two k line f s =
     plain_line two k line s.plain ∙ ap or_cause (spelled_is_read two k line f true s.plain.short s.spells)
 
--- a text that spells nothing is read as nothing
-nothing_is_read : (two : Bool) (k : ℕ) (line : Text) → IsNoStatement two k line → form_of two k line ≡ None
-nothing_is_read two k line none = go (form_of two k line) refl
-  where
-    go : (o : Option (Option Form)) → form_of two k line ≡ o → o ≡ None
-    go None e = refl
-    go (Some x) e = let r = read_is_spelled two k line x e in absurd (none r.form r.fits r.spells)
-
--- a fault of a line is found
-pub fault_is_found : (two : Bool) (k : ℕ) (line : Text) (c : SourceCause) → k ≤ 2000 → LineHasFault two k line c
-    → line_of two k line ≡ Err c
-fault_is_found two k line _ le (bad_byte h e) = rw e refl
-fault_is_found two k line _ le (long_line h e lt) = let long = long_test line lt in rw (e, long) refl
-fault_is_found two k line _ le (not_a_statement h p none) =
-    plain_line two k line p ∙ ap or_cause (nothing_is_read two k line none)
-fault_is_found two k line _ le (number_range h p f s) =
-    plain_line two k line p ∙ ap or_cause (spelled_is_read two k line f false p.short s)
-fault_is_found two k line _ le (too_many_lines e) = absurd (omega arith)
+-- a line that says something has no fault
+said_is_faultless : {two : Bool} {k : ℕ} {line : Text} {f : Form} → k ≤ 2000 → LineSays two k line f → (c : SourceCause)
+    → LineHasFault two k line c → ⊥
+said_is_faultless {two} {k} {line} {f} few s =
+    let bytes = s.plain.bytes in
+    let short = s.plain.short in
+    of_form two k line (λ c. ⊥) (λ h. not_both bytes h.1) (λ h. omega (arith, short, h.1))
+    (λ h. h.1 f true s.spells) (λ h. fits_once two k line f h.1.0 short s.spells h.1.1) (λ h. omega (arith, few, h))
 
 -- ---- the version
 
@@ -236,7 +288,8 @@ pub record FaultFrom (two : Bool) (k : ℕ) (lines : List Text) (number : ℕ) (
   pub lines_are : lines ≡ before ++ line ∷ after
   pub says : LinesSay two k before said
   pub number_is : number ≡ length before + k
-  pub faulty : LineHasFault two number line cause
+  pub few : number ≤ 2001
+  pub faulty : IsLeastOfLine two number line cause
 
 -- the lines say these, and there are not too many
 pub record SayFrom (two : Bool) (k : ℕ) (lines : List Text) (said : List Line) : Type 0 where
@@ -267,12 +320,13 @@ one_more two k line lines f (Err e) s h =
       lines_are = ap (λ (t : List Text). line ∷ t) h.lines_are;
       says = and_more k line h.before f h.said s h.says;
       number_is = omega (arith, is);
+      few = h.few;
       faulty = h.faulty;
     }
 
-at_once : (two : Bool) (k : ℕ) (line : Text) (lines : List Text) (c : SourceCause) → LineHasFault two k line c
-    → FaultFrom two k (line ∷ lines) k c
-at_once two k line lines c h = record {
+at_once : (two : Bool) (k : ℕ) (line : Text) (lines : List Text) (c : SourceCause) → k ≤ 2001
+    → IsLeastOfLine two k line c → FaultFrom two k (line ∷ lines) k c
+at_once two k line lines c few h = record {
   before = [];
   line = line;
   after = lines;
@@ -280,6 +334,7 @@ at_once two k line lines c h = record {
   lines_are = refl;
   says = no_more k;
   number_is = omega arith;
+  few = few;
   faulty = h;
 }
 
@@ -292,14 +347,20 @@ lines_answer two k (line ∷ lines) le = by_count (k == 2001) refl (lines_answer
         → IsAnswer two k line r → IsAnswerFrom two (k + 1) lines rest
         → IsAnswerFrom two k (line ∷ lines) (and_lines k r rest)
     by_line (Ok f) rest few s h = one_more two k line lines f rest s h
-    by_line (Err c) rest few s h = at_once two k line lines c (s few)
+    by_line (Err c) rest few s h = at_once two k line lines c le (s few)
 
     by_count : (c : Bool) → (k == 2001) ≡ c
         → (k + 1 ≤ 2001 → IsAnswerFrom two (k + 1) lines (lines_from two (k + 1) lines))
         → IsAnswerFrom two k (line ∷ lines)
         (if c then Err (record { line = k; cause = TooManyLines })
         else and_lines k (line_of two k line) (lines_from two (k + 1) lines))
-    by_count true e h = at_once two k line lines TooManyLines (too_many_lines ((Decides-eqb k 2001).0 e))
+    by_count true e h =
+        let is = (Decides-eqb k 2001).0 e in
+        at_once two k line lines TooManyLines le (record {
+          is = is;
+          least = of_form two k line (λ d. 5 ≤ number_of d) (λ h. absurd (omega (arith, is, h.0))) (λ h. absurd (omega (arith, is, h.0)))
+              (λ h. absurd (omega (arith, is, h.0))) (λ h. absurd (omega (arith, is, h.0))) (λ h. lit≤ tt);
+        })
     by_count false e h =
         let few : k ≤ 2000 = grind (arith, nat_tests) in
         by_line (line_of two k line) _ few (line_answers two k line) (h (omega (arith, few)))
@@ -318,51 +379,105 @@ say_is_read two _ _ _ (and_more k line lines f said s h) le =
     ∙ ap (λ (r : Result Form SourceCause). and_lines k r (lines_from two (k + 1) lines)) (said_is_read two k line f s)
     ∙ ap (with_first (numbered k f)) (say_is_read two (k + 1) lines said h (omega arith))
 
--- no line after number 2001 has a fault
-few_faulty : (two : Bool) (n : ℕ) (line : Text) (c : SourceCause) → LineHasFault two n line c → n ≤ 2001
-few_faulty two n line _ (bad_byte h e) = omega (arith, h)
-few_faulty two n line _ (long_line h e lt) = omega (arith, h)
-few_faulty two n line _ (not_a_statement h p none) = omega (arith, h)
-few_faulty two n line _ (number_range h p f s) = omega (arith, h)
-few_faulty two n line _ (too_many_lines e) = omega (arith, e)
-
-fault_here : (two : Bool) (k : ℕ) (line : Text) (lines : List Text) (c : SourceCause) → LineHasFault two k line c
-    → lines_from two k (line ∷ lines) ≡ Err (record { line = k; cause = c })
-fault_here two k line lines c h = by_count (k == 2001) refl c h
-  where
-    soon : (c : SourceCause) → k ≤ 2000 → LineHasFault two k line c
-        → lines_from two k (line ∷ lines) ≡ Err (record { line = k; cause = c })
-    soon c le h =
-        not_last two k line lines (omega arith)
-        ∙ ap (λ (r : Result Form SourceCause). and_lines k r (lines_from two (k + 1) lines))
-        (fault_is_found two k line c le h)
-
-    by_count : (b : Bool) → (k == 2001) ≡ b → (c : SourceCause) → LineHasFault two k line c
-        → lines_from two k (line ∷ lines) ≡ Err (record { line = k; cause = c })
-    by_count b e _ (bad_byte le g) = soon BadByte le (bad_byte le g)
-    by_count b e _ (long_line le g lt) = soon LongLine le (long_line le g lt)
-    by_count b e _ (not_a_statement le p none) = soon NotAStatement le (not_a_statement le p none)
-    by_count b e _ (number_range le p f s) = soon NumberRange le (number_range le p f s)
-    by_count true e _ (too_many_lines g) = rw e refl
-    by_count false e _ (too_many_lines g) = absurd (grind (arith, nat_tests))
-
--- the first fault is found
-pub first_fault_is_found : (two : Bool) (k n : ℕ) (before after : List Text) (line : Text) (said : List Line)
-    (c : SourceCause) → LinesSay two k before said → n ≡ length before + k → LineHasFault two n line c
-    → lines_from two k (before ++ line ∷ after) ≡ Err (record { line = n; cause = c })
-first_fault_is_found two _ n _ after line _ c (no_more k) e h =
-    let here : n ≡ k = omega (arith, e) in
-    subst (λ (m : ℕ). lines_from two k (line ∷ after) ≡ Err (record { line = m; cause = c })) (sym here)
-    (fault_here two k line after c (subst (λ (m : ℕ). LineHasFault two m line c) here h))
-first_fault_is_found two _ n _ after line _ c (and_more k first before f said s g) e h =
-    let few = few_faulty two n line c h in
-    not_last two k first (before ++ line ∷ after) (omega (arith, e, few))
-    ∙ ap (λ (r : Result Form SourceCause). and_lines k r (lines_from two (k + 1) (before ++ line ∷ after)))
-    (said_is_read two k first f s)
-    ∙ ap (with_first (numbered k f))
-    (first_fault_is_found two (k + 1) n before after line said c g (omega (arith, e)) h)
+-- the line at an index says what is said at its number
+says_at : {two : Bool} {k : ℕ} {lines : List Text} {said : List Line} (n : ℕ) → LinesSay two k lines said
+    → n < length lines → (f : Form) × LineSays two (k + n) (get_or lines n []) f
+says_at n (no_more k) lt = absurd (omega (arith, lt))
+says_at {two} zero (and_more k line lines f said s h) lt =
+    let number : k ≡ k + zero = omega arith in (f, subst (λ m. LineSays two m line f) number s)
+says_at {two} (suc n) (and_more k line lines f said s h) lt =
+    let later = says_at n h (omega (arith, lt)) in
+    let number : k + 1 + n ≡ k + suc n = omega arith in
+    (later.0, subst (λ m. LineSays two m (get_or lines n []) later.0) number later.1)
 
 -- ---- a source
+
+pub version_is_read : (text : Text) (two : Bool) (said : List Line) → IsProgram text two said
+    → is_two (lines_of text) ≡ two
+version_is_read text two said p =
+    ap is_two (lines_are_read text p.lines p.has_lines) ∙ only_version p.lines two p.version
+
+pub program_is_read : (text : Text) (two : Bool) (said : List Line) → IsProgram text two said
+    → program_of text ≡ Ok said
+program_is_read text two said p =
+    let few = p.few in
+    ap (λ (v : Bool). lines_from v 1 (lines_of text)) (version_is_read text two said p)
+    ∙ ap (lines_from two 1) (lines_are_read text p.lines p.has_lines)
+    ∙ say_is_read two 1 p.lines said p.says (omega (arith, few))
+
+-- whether the source is of version 2, as it is read, and its line at an index
+abbrev is_second : Text → Bool
+is_second text = is_two (lines_of text)
+
+abbrev line_at : Text → ℕ → Text
+line_at text i = get_or (lines_of text) i []
+
+-- the line of a fault, among the lines that are read
+faulty_line : {text : Text} {n : ℕ} {c : SourceCause} → (h : SourceHasFormFault text n c)
+    → LineHasFault (is_second text) n (line_at text (length h.before)) c
+faulty_line {text} {n} {c} h =
+    let lines = lines_are_read text (h.before ++ h.line ∷ h.after) h.has_lines in
+    let two : is_second text ≡ h.two = ap is_two lines ∙ only_version (h.before ++ h.line ∷ h.after) h.two h.version in
+    let line : line_at text (length h.before) ≡ h.line =
+    ap (λ (x : List Text). get_or x (length h.before) []) lines ∙ get_or-append_seam h.before h.line h.after [] in
+    subst (λ (v : Bool). LineHasFault v n (line_at text (length h.before)) c) (sym two)
+    (subst (λ (x : Text). LineHasFault h.two n x c) (sym line) h.faulty)
+
+-- the first fault that is found is the fault of the source
+fault_of : (text : Text) (n : ℕ) (c : SourceCause) → FaultFrom (is_second text) 1 (lines_of text) n c
+    → IsFormFault text n c
+fault_of text n c h = record {
+  is = record {
+    two = is_second text;
+    before = h.before;
+    line = h.line;
+    after = h.after;
+    has_lines = subst (HasLines text) h.lines_are (read_lines_are text);
+    version = subst (IsOfVersion (is_second text)) h.lines_are (version_is_of (lines_of text));
+    number_is = h.number_is;
+    faulty = h.faulty.is;
+  };
+  least = λ m d g. by_order m d g (cases_order (length h.before) (length g.before));
+}
+  where
+    line_is : line_at text (length h.before) ≡ h.line
+    line_is = ap (λ (x : List Text). get_or x (length h.before) []) h.lines_are
+        ∙ get_or-append_seam h.before h.line h.after []
+
+    -- a line before it says something
+    said : (i : ℕ) → i < length h.before → (f : Form) × LineSays (is_second text) (1 + i) (line_at text i) f
+    said i lt =
+        let says = says_at i h.says lt in
+        let same : get_or h.before i [] ≡ line_at text i =
+        sym (get_or_append_left h.before (h.line ∷ h.after) [] i lt)
+        ∙ sym (ap (λ (x : List Text). get_or x i []) h.lines_are) in
+        (says.0, subst (λ (x : Text). LineSays (is_second text) (1 + i) x says.0) same says.1)
+
+    by_order : (m : ℕ) (d : SourceCause) (g : SourceHasFormFault text m d)
+        → (length h.before ≡ length g.before) ⊎ ((length h.before < length g.before) ⊎ (length g.before < length h.before))
+        → (n < m) ⊎ ((n ≡ m) × (number_of c ≤ number_of d))
+    by_order m d g (inl e) =
+        let here = h.number_is in
+        let there = g.number_is in
+        let same : m ≡ n = omega (arith, here, there, e) in
+        let line : line_at text (length g.before) ≡ h.line =
+        ap (λ (i : ℕ). line_at text i) (sym e) ∙ line_is in
+        inr (
+          sym same,
+          h.faulty.least d (subst (λ (x : Text). LineHasFault (is_second text) n x d) line
+              (subst (λ (k : ℕ). LineHasFault (is_second text) k (line_at text (length g.before)) d) same
+              (faulty_line g))),
+        )
+    by_order m d g (inr (inl lt)) =
+        let here = h.number_is in let there = g.number_is in inl (omega (arith, here, there, lt))
+    by_order m d g (inr (inr lt)) =
+        let here = h.number_is in
+        let there = g.number_is in
+        let few = h.few in
+        let number : m ≡ 1 + length g.before = omega (arith, there) in
+        let says = said (length g.before) lt in
+        absurd (said_is_faultless (omega (arith, here, few, lt)) says.1 d
+        (subst (λ (k : ℕ). LineHasFault (is_second text) k (line_at text (length g.before)) d) number (faulty_line g)))
 
 -- what a reading of a source says
 abbrev pub IsSourceAnswer : Text → Result (List Line) Fault → Type 0
@@ -385,40 +500,7 @@ source_answer text r e =
           version = version_is_of (lines_of text);
           says = h.says;
         }
-    go (Err e) h = record {
-      two = is_two (lines_of text);
-      before = h.before;
-      line = h.line;
-      after = h.after;
-      said = h.said;
-      has_lines = subst (HasLines text) h.lines_are (read_lines_are text);
-      version = subst (IsOfVersion (is_two (lines_of text))) h.lines_are (version_is_of (lines_of text));
-      says = h.says;
-      number_is = h.number_is;
-      faulty = h.faulty;
-    }
-
-pub version_is_read : (text : Text) (two : Bool) (said : List Line) → IsProgram text two said
-    → is_two (lines_of text) ≡ two
-version_is_read text two said p =
-    ap is_two (lines_are_read text p.lines p.has_lines) ∙ only_version p.lines two p.version
-
-pub program_is_read : (text : Text) (two : Bool) (said : List Line) → IsProgram text two said
-    → program_of text ≡ Ok said
-program_is_read text two said p =
-    let few = p.few in
-    ap (λ (v : Bool). lines_from v 1 (lines_of text)) (version_is_read text two said p)
-    ∙ ap (lines_from two 1) (lines_are_read text p.lines p.has_lines)
-    ∙ say_is_read two 1 p.lines said p.says (omega (arith, few))
-
-pub fault_is_read : (text : Text) (n : ℕ) (c : SourceCause) → IsFormFault text n c
-    → program_of text ≡ Err (record { line = n; cause = c })
-fault_is_read text n c f =
-    let lines = lines_are_read text (f.before ++ f.line ∷ f.after) f.has_lines in
-    ap (λ (v : Bool). lines_from v 1 (lines_of text))
-    (ap is_two lines ∙ only_version (f.before ++ f.line ∷ f.after) f.two f.version)
-    ∙ ap (lines_from f.two 1) lines
-    ∙ first_fault_is_found f.two 1 n f.before f.after f.line f.said c f.says f.number_is f.faulty
+    go (Err e) h = fault_of text e.line e.cause h
 
 -- ---- the law of sources
 
@@ -429,15 +511,27 @@ every_source text = go (program_of text) refl
     go (Ok said) e = inl (is_two (lines_of text), said, source_answer text (Ok said) e)
     go (Err x) e = inr (x.line, x.cause, source_answer text (Err x) e)
 
+-- no line of a source that says something has a fault
+no_fault : (text : Text) (two : Bool) (said : List Line) (n : ℕ) (c : SourceCause) → IsProgram text two said
+    → SourceHasFormFault text n c → ⊥
+no_fault text two said n c p h =
+    let few = p.few in
+    let there = h.number_is in
+    let lines = lines_are_read text p.lines p.has_lines in
+    let same : h.before ++ h.line ∷ h.after ≡ p.lines = sym (lines_are_read text _ h.has_lines) ∙ lines in
+    let long : length h.before + length (h.line ∷ h.after) ≡ length p.lines =
+    sym (length-append h.before (h.line ∷ h.after)) ∙ ap (λ (x : List Text). length x) same in
+    let says = says_at (length h.before) p.says (omega (arith, long)) in
+    let number : n ≡ 1 + length h.before = omega (arith, there) in
+    said_is_faultless (omega (arith, few, long)) says.1 c
+    (subst (λ (k : ℕ). LineHasFault two k (get_or p.lines (length h.before) []) c) number
+    (subst (λ (x : List Text). LineHasFault two n (get_or x (length h.before) []) c) lines
+    (subst (λ (v : Bool). LineHasFault v n (line_at text (length h.before)) c) (version_is_read text two said p)
+    (faulty_line h))))
+
 -- two answers of one call are the same
 one_answer : (r : Result (List Line) Fault) (said others : List Line) → r ≡ Ok said → r ≡ Ok others → said ≡ others
 one_answer r said others e f = cc
-
-one_error : (r : Result (List Line) Fault) (x y : Fault) → r ≡ Err x → r ≡ Err y → x ≡ y
-one_error r x y e f = cc
-
-no_error : (r : Result (List Line) Fault) (said : List Line) (x : Fault) → r ≡ Ok said → r ≡ Err x → ⊥
-no_error r said x e f = absurd (cc)
 
 pub has_one_meaning : HasOneMeaning
 has_one_meaning = record {
@@ -447,11 +541,8 @@ has_one_meaning = record {
       sym (version_is_read text two said p) ∙ version_is_read text also others q;
   one_program = λ text two also said others p q.
       one_answer (program_of text) said others (program_is_read text two said p) (program_is_read text also others q);
-  no_fault = λ text two said n c p f.
-      no_error (program_of text) said _ (program_is_read text two said p) (fault_is_read text n c f);
-  one_fault = λ text n m c d f g.
-      let same = one_error (program_of text) _ _ (fault_is_read text n c f) (fault_is_read text m d g) in
-      (ap (λ (x : Fault). x.line) same, ap (λ (x : Fault). x.cause) same);
+  no_fault = no_fault;
+  one_fault = λ text n m c d f g. one_least f g;
 }
 
 -- what is read with its version is what the source says

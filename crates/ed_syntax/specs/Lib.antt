@@ -5,6 +5,7 @@ pub mod Lines
 pub mod Parts
 pub mod Versions
 pub mod Forms
+pub mod Causes
 pub mod Sources
 pub mod Written
 pub mod Answers

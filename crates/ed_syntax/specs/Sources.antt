@@ -6,7 +6,8 @@ use Rattle.ed_words.specs.Texts.{Text}
 use Rattle.ed_words.specs.Decimals.{value}
 use Rattle.ed_syntax.specs.Lines.{HasLines}
 use Rattle.ed_syntax.specs.Parts.{run, is_number, is_line_byte}
-use Rattle.ed_syntax.specs.Forms.{HasLineParts, SpellsLine, IsNoStatement}
+use Rattle.ed_syntax.specs.Forms.{HasLineParts, SpellsLine, IsNoStatement, HasNumberOutOfRange}
+use Rattle.ed_syntax.specs.Causes.{IsLeastFault}
 use Rattle.ed_syntax.specs.declared.form.Form.{Form}
 use Rattle.ed_syntax.specs.declared.program.Line.{Line}
 use Rattle.ed_syntax.specs.declared.fault.SourceCause.{SourceCause}
@@ -27,14 +28,15 @@ pub record LineSays (two : Bool) (k : ℕ) (line : Text) (f : Form) : Type 0 whe
   pub plain : IsPlain line
   pub spells : SpellsLine two k line f true
 
--- the line with the number k has this fault
-pub data LineHasFault (two : Bool) (k : ℕ) (line : Text) : SourceCause → Type 0 where
-  bad_byte : k ≤ 2000 → list_all is_line_byte line ≡ false → LineHasFault two k line BadByte
-  long_line : k ≤ 2000 → list_all is_line_byte line ≡ true → 120 < length line → LineHasFault two k line LongLine
-  not_a_statement : k ≤ 2000 → IsPlain line → IsNoStatement two k line → LineHasFault two k line NotAStatement
-  number_range : k ≤ 2000 → IsPlain line → (f : Form) → SpellsLine two k line f false
-      → LineHasFault two k line NumberRange
-  too_many_lines : k ≡ 2001 → LineHasFault two k line TooManyLines
+-- The line with the number k has this fault. No sentence depends on another one. S1 to S4 are faults of the first 2,000
+-- lines; line 2001 has the fault S5, and later lines have none.
+abbrev pub LineHasFault : Bool → ℕ → Text → SourceCause → Type 0
+LineHasFault two k line BadByte = (k ≤ 2000) × (list_all is_line_byte line ≡ false)
+LineHasFault two k line LongLine = (k ≤ 2000) × (120 < length line)
+LineHasFault two k line NotAStatement = (k ≤ 2000) × IsNoStatement two k line
+LineHasFault two k line NumberRange = (k ≤ 2000) × HasNumberOutOfRange two k line
+LineHasFault two k line TooManyLines = k ≡ 2001
+LineHasFault two k line cause = ⊥
 
 -- ---- a source
 
@@ -66,18 +68,20 @@ pub record IsProgram (text : Text) (two : Bool) (said : List Line) : Type 0 wher
   pub version : IsOfVersion two lines
   pub says : LinesSay two 1 lines said
 
--- the first line of the source that has a fault is this one, and has this fault
-pub record IsFormFault (text : Text) (number : ℕ) (cause : SourceCause) : Type 0 where
+-- the line of the source with this number, counted from 1, has this fault
+pub record SourceHasFormFault (text : Text) (number : ℕ) (cause : SourceCause) : Type 0 where
   pub two : Bool
   pub before : List Text
   pub line : Text
   pub after : List Text
-  pub said : List Line
   pub has_lines : HasLines text (before ++ line ∷ after)
   pub version : IsOfVersion two (before ++ line ∷ after)
-  pub says : LinesSay two 1 before said
   pub number_is : number ≡ length before + 1
   pub faulty : LineHasFault two number line cause
+
+-- the fault of form of a source
+abbrev pub IsFormFault : Text → ℕ → SourceCause → Type 0
+IsFormFault text = IsLeastFault (SourceHasFormFault text)
 
 -- if an answer is a fault of form, it is the source's
 abbrev pub HasFormFault : Text → SourceFault → Type 0
@@ -91,8 +95,8 @@ abbrev pub IsProgramOrFault : Text → Type 0
 IsProgramOrFault text = ((two : Bool) × (said : List Line) × IsProgram text two said)
     ⊎ ((number : ℕ) × (cause : SourceCause) × IsFormFault text number cause)
 
--- Every source has one version and says one list of lines, or has one fault of form, and never both. No line says two
--- things.
+-- Every source has one version and says one list of lines, or a line of it has a fault of form, and never both. Then one
+-- fault is the source's. No line says two things.
 pub record HasOneMeaning : Type 0 where
   pub one_form : (two : Bool) (k : ℕ) (line : Text) (f g : Form) → LineSays two k line f → LineSays two k line g → f ≡ g
   pub every : (text : Text) → IsProgramOrFault text
@@ -101,6 +105,6 @@ pub record HasOneMeaning : Type 0 where
   pub one_program : (text : Text) (two also : Bool) (said others : List Line) → IsProgram text two said
       → IsProgram text also others → said ≡ others
   pub no_fault : (text : Text) (two : Bool) (said : List Line) (number : ℕ) (cause : SourceCause)
-      → IsProgram text two said → IsFormFault text number cause → ⊥
+      → IsProgram text two said → SourceHasFormFault text number cause → ⊥
   pub one_fault : (text : Text) (number other : ℕ) (cause another : SourceCause) → IsFormFault text number cause
       → IsFormFault text other another → (number ≡ other) × (cause ≡ another)

@@ -1,8 +1,8 @@
 -- For all words, each input has exactly one outcome.
 use Rattle.std.proofs.Common.{◌≡◌, ◌⊎◌, inl, inr, ◌∙◌, ℕ, refl, sym, ap, subst}
-use Rattle.std.specs.Prelude.{Option, Some, None}
+use Rattle.std.specs.Prelude.{◌+◌, List, length, Some, None}
 use Rattle.ed_report.specs.Catalogue.{library_text}
-use Rattle.ed_report.specs.Notes.{bad_command_line}
+use Rattle.ed_report.specs.Notes.{bad_command_line, no_text_line}
 use Rattle.ed_command.specs.declared.command.Action.{Action}
 use Rattle.ed_command.specs.declared.command.Action.TheVariants.{Tape, CheckTape, Run, Punch, Listing, Library, Demo}
 use Rattle.ed_command.specs.declared.command.Action.TheVariants.{Call as CallOf, Tape1, CheckTape1, Step, Trace, Parts}
@@ -14,8 +14,10 @@ use Rattle.ed_answers.specs.FirstOrders.{tape1_outcome}
 use Rattle.ed_top.specs.Output.{EachLineHasOneOutcome, answer}
 use Rattle.ed_answers.specs.Tapes.{tape_outcome}
 use Rattle.ed_answers.specs.Sources.{listing_outcome, punch_outcome, run_outcome}
-use Rattle.ed_top.specs.Scripts.{OfDivided, OfStep, OnInput, OnText, on_rows}
-use Rattle.ed_stepper.specs.Inputs.{Input, input_of}
+use Rattle.ed_top.specs.Scripts.{OfStep, OnInput, OnText, on_rows}
+use Rattle.ed_syntax.proofs.SourceLaws.{one_lines}
+use Rattle.ed_stepper.specs.Inputs.{Input, IsDivided, IsUndivided}
+use Rattle.ed_stepper.proofs.InputLaws.{one_input}
 use Rattle.ed_stepper.specs.ScriptLines.{CommandList, IsFirstBadLine, IsScript}
 use Rattle.ed_stepper.proofs.ScriptLaws.{one_meaning}
 use Rattle.ed_stepper.specs.declared.inputs.TextKind.{TextKind}
@@ -61,20 +63,29 @@ input_same s i o other (inr a) (inr b) =
     let same = one_meaning.one_script i.script a.0 b.0 a.1 b.1 in
     text_same s b.0 i.kind i.text o other (subst (λ cs. OnText s cs i.kind i.text o) same a.2) b.2
 
-divided_some : (s : Settings) (input : Text) (d : Option Input) → (o : Outcome) × OfDivided s input d o
-divided_some s input None = (_, refl)
-divided_some s input (Some i) = input_some s i
+step_some : (s : Settings) (input : Text) → (o : Outcome) × OfStep s input o
+step_some s input = by_division (one_input.every input)
+  where
+    by_division : ((lines : List Text) × IsUndivided input lines) ⊎ ((i : Input) × IsDivided input i)
+        → (o : Outcome) × OfStep s input o
+    by_division (inl u) = (_, inl (u.0, u.1, refl))
+    by_division (inr d) = let o = input_some s d.0 in (o.0, inr (d.0, d.1, o.1))
 
-divided_same : (s : Settings) (input : Text) (d : Option Input) (o other : Outcome) → OfDivided s input d o
-    → OfDivided s input d other → o ≡ other
-divided_same s input None o other p q = sym p ∙ q
-divided_same s input (Some i) o other p q = input_same s i o other p q
+step_same : (s : Settings) (input : Text) (o other : Outcome) → OfStep s input o → OfStep s input other → o ≡ other
+step_same s input o other (inl a) (inl b) =
+    sym a.2 ∙ ap (λ (lines : List Text). refusal (no_text_line (length lines + 1)))
+    (one_lines a.1.has_lines b.1.has_lines)
+    ∙ b.2
+step_same s input o other (inl a) (inr b) = absurd (one_input.never_both input a.0 b.0 a.1 b.1)
+step_same s input o other (inr a) (inl b) = absurd (one_input.never_both input b.0 a.0 b.1 a.1)
+step_same s input o other (inr a) (inr b) =
+    let same = one_input.one_division input a.0 b.0 a.1 b.1 in
+    input_same s b.0 o other (subst (λ i. OnInput s i o) same a.2) b.2
 
 step_once : (s : Settings) → HasOneOutcome (of_input (OfStep s))
 step_once s = record {
-  some = λ input.
-      let d = divided_some s input (input_of input) in some_within (OfStep s) input d.0 d.1;
-  once = λ input o other. within_once (OfStep s) input o other (divided_same s input (input_of input) o other);
+  some = λ input. let o = step_some s input in some_within (OfStep s) input o.0 o.1;
+  once = λ input o other. within_once (OfStep s) input o other (step_same s input o other);
 }
 
 -- ---- every line of words

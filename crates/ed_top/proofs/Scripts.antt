@@ -3,7 +3,7 @@ use Rattle.std.proofs.Common.{◌≡◌, ◌∙◌, ℕ, List, [], ◌++◌, ref
 use Rattle.std.specs.Prelude.{Option, Some, Result, Ok, Err, IsErr, IsErrAnd, MatchResult, Vec}
 use Rattle.std.specs.declared.alloc.Global.{Global}
 use Rattle.ed_codes.specs.Reading.{Reading, rows, no_row, open_comment, reading}
-use Rattle.ed_stepper.specs.Inputs.{Input, input_of}
+use Rattle.ed_stepper.specs.Inputs.{Input, IsDivided}
 use Rattle.ed_stepper.specs.ScriptLines.{CommandList, HasBadLine, IsFirstBadLine, IsScript, OfScript}
 use Rattle.ed_stepper.specs.Scripts.{GoesTooFar, ScriptEnds, play}
 use Rattle.ed_stepper.specs.declared.script.ScriptFault.{ScriptFault}
@@ -22,7 +22,7 @@ use Rattle.ed_link.specs.declared.linked.Linked.{Linked}
 use Rattle.ed_words.specs.Texts.{Text}
 use Rattle.ed_run.specs.declared.settings.Settings.{Settings}
 use Rattle.ed_answers.specs.Answer.{of_input, of_made}
-use Rattle.ed_top.specs.Scripts.{OfDivided, OfStep, OnInput, OnText, on_reading, on_rows, played_outcome}
+use Rattle.ed_top.specs.Scripts.{OfStep, OnInput, OnText, on_reading, on_rows, played_outcome}
 use Rattle.ed_top.specs.Scripts.{script_outcome}
 use Rattle.ed_answers.specs.Replies.{Gives, LinksSource, RefusesText, Replies}
 use Rattle.ed_answers.specs.Sources.{OfSource}
@@ -32,7 +32,7 @@ use Rattle.ed_answers.specs.declared.reply.Rejection.TheVariants as rejection
 use Rattle.ed_answers.specs.declared.reply.Rejection.TheVariants.{Refused}
 use Rattle.ed_answers.specs.declared.reply.Reply.{Reply}
 use Rattle.ed_top.specs.Private.Stages.{HasRows}
-use Rattle.ed_top.proofs.Made.{as_input, as_made}
+use Rattle.ed_top.proofs.Made.{as_made}
 
 -- a tape's text that is refused
 pub text_refused : (s : Settings) (commands : CommandList) (r : Reading) (e : Rejection) → RefusesText r e
@@ -43,11 +43,11 @@ text_refused s commands (open_comment place) (Refused reply) w = (_, refl, w)
 text_refused s commands r rejection.Memory w = (on_reading s commands r, refl, tt)
 
 -- an input that is divided this way
-pub divided_replied : (s : Settings) (input : Text) (i : Input) (r : Result Reply Rejection) → input_of input ≡ Some i
-    → Replies (of_made (OfDivided s input (Some i))) [] r → Replies (of_input (OfStep s)) input r
-divided_replied s input i r is replies =
-    as_input (OfStep s) input r
-    (subst (λ (d : Option Input). Replies (of_made (OfDivided s input d)) [] r) (sym is) replies)
+pub divided_replied : (s : Settings) (input : Text) (i : Input) (r : Result Reply Rejection) → IsDivided input i
+    → Replies (of_made (OnInput s i)) [] r → Replies (of_input (OfStep s)) input r
+divided_replied s input i (Ok reply) is x = (x.0, inr (i, is, x.1), x.2)
+divided_replied s input i (Err (Refused reply)) is x = (x.0, inr (i, is, x.1), x.2)
+divided_replied s input i (Err rejection.Memory) is x = (x.0, inr (i, is, x.1), x.2)
 
 -- what follows a script that has been tested
 after_script : (s : Settings) (i : Input) (r : Result Reply Rejection) (commands : CommandList)
@@ -58,7 +58,7 @@ after_script s i (Err (Refused reply)) commands is x = (x.0, inr (commands, is, 
 after_script s i (Err rejection.Memory) commands is x = (x.0, inr (commands, is, x.1), x.2)
 
 -- in an input that is divided this way
-pub text_replied : (s : Settings) (input : Text) (i : Input) (r : Result Reply Rejection) → input_of input ≡ Some i
+pub text_replied : (s : Settings) (input : Text) (i : Input) (r : Result Reply Rejection) → IsDivided input i
     → HasBadLine i.script None
     → ((commands : CommandList) → IsScript i.script commands → Replies (of_made (OnText s commands i.kind i.text)) [] r)
     → Replies (of_input (OfStep s)) input r

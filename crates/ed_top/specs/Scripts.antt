@@ -2,10 +2,9 @@
 use Rattle.std.specs.Prelude.{◌≡◌, ◌⊎◌, ℕ, ◌+◌, List, length, Option, Some, None}
 use Rattle.ed_codes.specs.Reading.{Reading, rows, no_row, open_comment, reading}
 use Rattle.ed_codes.specs.declared.tape.TextFault.TheVariants.{NoRow, OpenComment}
-use Rattle.ed_syntax.specs.Lines.{lines_of}
 use Rattle.ed_link.specs.Tapes.{tape}
 use Rattle.ed_report.specs.Notes.{bad_command_line, no_text_line, text_fault_line, too_far_line}
-use Rattle.ed_stepper.specs.Inputs.{Input, input_of}
+use Rattle.ed_stepper.specs.Inputs.{Input, IsDivided, IsUndivided}
 use Rattle.ed_stepper.specs.ScriptLines.{CommandList, IsFirstBadLine, OfScript}
 use Rattle.ed_stepper.specs.Scripts.{Played, TooFar, play}
 use Rattle.ed_stepper.specs.Sessions.{Stand}
@@ -50,11 +49,11 @@ abbrev pub OnInput : Settings → Input → Outcome → Type 0
 OnInput s i o = ((line : ℕ) × IsFirstBadLine i.script line × (refusal (bad_command_line line) ≡ o))
     ⊎ OfScript i.script (λ commands. OnText s commands i.kind i.text o)
 
--- that the input has no dividing line is reported before anything else
-abbrev pub OfDivided : Settings → Text → Option Input → Outcome → Type 0
-OfDivided s input None o = refusal (no_text_line (length (lines_of input) + 1)) ≡ o
-OfDivided s input (Some i) o = OnInput s i o
+-- an input without a dividing line is refused, as if one were lacking after its last line
+abbrev pub OfUndivided : Text → Outcome → Type 0
+OfUndivided input o =
+    (lines : List Text) × IsUndivided input lines × (refusal (no_text_line (length lines + 1)) ≡ o)
 
 -- `step`
 abbrev pub OfStep : Settings → Text → Outcome → Type 0
-OfStep s input = OfDivided s input (input_of input)
+OfStep s input o = OfUndivided input o ⊎ ((i : Input) × IsDivided input i × OnInput s i o)

@@ -2,6 +2,7 @@ use Rattle.std.proofs.Common.{rules, ◌∙◌, ap, sym}
 use Rattle.ed_words.proofs.Numbers.{eq_of}
 use Rattle.ed_stepper.specs.Inputs.{text_kind_of}
 use Rattle.ed_stepper.proofs.Divisions.{at_end, at_start, ends_at, first_is, goes_on}
+use Rattle.ed_stepper.proofs.InputLaws.{read_is_division, read_is_undivided}
 use Rattle.ed_stepper.proofs.inputs.divide.Goals as goal
 
 pub loop-rest-preserved : goal.loop-rest-preserved
@@ -18,9 +19,11 @@ pub returns-in-Some : goal.returns-in-Some
 returns-in-Some c =
     let rest = c.loop-rest.rest.now in
     let line = first_is rest c.first_line.result.0.now _ c.first_line.ensures.lines in
-    ends_at c.args.input.now rest c.first_line.result.1.now c.in-Some.kind c.loop-rest.invariant (search rules)
-    (ap text_kind_of line ∙ sym c.text_kind_of.ensures ∙ c.in-Some.is) c.first_line.ensures.after
+    read_is_division c.args.input.now _
+    (ends_at c.args.input.now rest c.first_line.result.1.now c.in-Some.kind c.loop-rest.invariant (search rules)
+    (ap text_kind_of line ∙ sym c.text_kind_of.ensures ∙ c.in-Some.is) c.first_line.ensures.after)
 
 pub returns : goal.returns
 returns c =
-    at_end c.args.input.now c.loop-rest.rest.now c.loop-rest.invariant (eq_of _ 0 (sym c.loop-rest-test.ensures))
+    read_is_undivided c.args.input.now
+    (at_end c.args.input.now c.loop-rest.rest.now c.loop-rest.invariant (eq_of _ 0 (sym c.loop-rest-test.ensures)))

@@ -1,13 +1,13 @@
-use Rattle.std.proofs.Common.{ℕ, ◌+◌, [], ap, inl, refl, subst, sym}
-use Rattle.std.specs.Prelude.{Option, None, Ok, Err}
-use Rattle.ed_answers.specs.Answer.{of_made}
+use Rattle.std.proofs.Common.{◌≡◌, ◌∙◌, ℕ, ◌+◌, List, [], ap, inl, length, refl, sym}
+use Rattle.std.specs.Prelude.{Ok, Err}
+use Rattle.ed_words.specs.Texts.{Text}
+use Rattle.ed_syntax.proofs.SourceLaws.{one_lines}
 use Rattle.ed_answers.specs.Outcome.{refusal}
-use Rattle.ed_answers.specs.Replies.{Replies}
 use Rattle.ed_report.specs.Notes.{no_text_line}
 use Rattle.ed_stepper.specs.Inputs.{Input}
-use Rattle.ed_top.specs.Scripts.{OfDivided, OfStep, OnInput, OnText, on_rows}
+use Rattle.ed_top.specs.Scripts.{OfStep, OnInput, OnText, on_rows}
 use Rattle.ed_top.proofs.Scripts.{divided_replied, text_replied}
-use Rattle.ed_top.proofs.Made.{as_input, handed_on, line_replied, none_replied}
+use Rattle.ed_top.proofs.Made.{handed_on, line_replied, none_replied}
 use Rattle.ed_top.proofs.step.step.Goals as goal
 
 pub returns-in_default : goal.returns-in_default
@@ -15,11 +15,12 @@ returns-in_default c =
     let s = c.args.settings in
     let input = c.args.input.now in
     let made = c.with_line.ensures in
-    as_input (OfStep s) input (Err c.with_line.result)
-    (subst (λ (d : Option Input). Replies (of_made (OfDivided s input d)) [] (Err c.with_line.result))
-    (sym c.in_default.ensures)
-    (line_replied (OfDivided s input None) c.no_text-line.result _ c.with_line.result c.no_text-line.ensures
-    made.line made.memory (ap (λ (n : ℕ). refusal (no_text_line (n + 1))) (sym c.line_count.ensures.is))))
+    let undivided = c.in_default.ensures in
+    let counted = c.line_count.ensures.is in
+    let same : undivided.0 ≡ counted.0 = one_lines undivided.1.has_lines counted.1 in
+    let count : length undivided.0 ≡ c.line_count.result = ap (λ (x : List Text). length x) same ∙ sym counted.2 in
+    line_replied (OfStep s input) c.no_text-line.result _ c.with_line.result c.no_text-line.ensures made.line
+    made.memory (inl (undivided.0, undivided.1, ap (λ (n : ℕ). refusal (no_text_line (n + 1))) count))
 
 pub returns-in-Some-bad_line : goal.returns-in-Some-bad_line
 returns-in-Some-bad_line c =

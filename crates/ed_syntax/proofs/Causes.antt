@@ -1,0 +1,72 @@
+-- The numbers of the causes of faults, and that there is one least fault.
+use Rattle.std.proofs.Common.{◌≡◌, ℕ, ◌≤◌, ◌<◌, refl, sym, ap, ◌∙◌, arith, inl, inr}
+use Rattle.std.specs.Prelude.{◌⊎◌, nat_eq, if◌then◌else◌}
+use Rattle.ed_syntax.specs.declared.fault.SourceCause.{SourceCause}
+use Rattle.ed_syntax.specs.declared.fault.SourceCause.TheVariants as causes
+use Rattle.ed_syntax.specs.Causes.{IsLeastFault, number_of}
+
+-- the cause with a number
+abbrev numbered : ℕ → SourceCause
+numbered n =
+    if nat_eq n 1 then causes.BadByte else if nat_eq n 2 then causes.LongLine
+    else if nat_eq n 3 then causes.NotAStatement else if nat_eq n 4 then causes.NumberRange
+    else if nat_eq n 5 then causes.TooManyLines else if nat_eq n 6 then causes.LabelTwice
+    else if nat_eq n 7 then causes.LabelUnknown else if nat_eq n 8 then causes.AddressRange
+    else if nat_eq n 9 then causes.OutsideSegment else if nat_eq n 10 then causes.LoaderStore
+    else if nat_eq n 11 then causes.ParameterStore else if nat_eq n 12 then causes.StoreEnd
+    else if nat_eq n 13 then causes.Overlap else if nat_eq n 14 then causes.NoSuchRoutine
+    else if nat_eq n 15 then causes.Parameters else if nat_eq n 16 then causes.Enter
+    else causes.SandwichDigit
+
+numbered_back : (c : SourceCause) → numbered (number_of c) ≡ c
+numbered_back causes.BadByte = refl
+numbered_back causes.LongLine = refl
+numbered_back causes.NotAStatement = refl
+numbered_back causes.NumberRange = refl
+numbered_back causes.TooManyLines = refl
+numbered_back causes.LabelTwice = refl
+numbered_back causes.LabelUnknown = refl
+numbered_back causes.AddressRange = refl
+numbered_back causes.OutsideSegment = refl
+numbered_back causes.LoaderStore = refl
+numbered_back causes.ParameterStore = refl
+numbered_back causes.StoreEnd = refl
+numbered_back causes.Overlap = refl
+numbered_back causes.NoSuchRoutine = refl
+numbered_back causes.Parameters = refl
+numbered_back causes.Enter = refl
+numbered_back causes.SandwichDigit = refl
+
+pub same_cause : (a b : SourceCause) → number_of a ≡ number_of b → a ≡ b
+same_cause a b e = sym (numbered_back a) ∙ (ap (λ n. numbered n) e ∙ numbered_back b)
+
+pub most : (c : SourceCause) → number_of c ≤ 17
+most causes.BadByte = omega arith
+most causes.LongLine = omega arith
+most causes.NotAStatement = omega arith
+most causes.NumberRange = omega arith
+most causes.TooManyLines = omega arith
+most causes.LabelTwice = omega arith
+most causes.LabelUnknown = omega arith
+most causes.AddressRange = omega arith
+most causes.OutsideSegment = omega arith
+most causes.LoaderStore = omega arith
+most causes.ParameterStore = omega arith
+most causes.StoreEnd = omega arith
+most causes.Overlap = omega arith
+most causes.NoSuchRoutine = omega arith
+most causes.Parameters = omega arith
+most causes.Enter = omega arith
+most causes.SandwichDigit = omega arith
+
+-- two least faults are the same
+pub one_least : {Has : ℕ → SourceCause → Type 0} {k m : ℕ} {c d : SourceCause} → IsLeastFault Has k c
+    → IsLeastFault Has m d → (k ≡ m) × (c ≡ d)
+one_least {Has} {k} {m} {c} {d} f g = go (f.least m d g.is) (g.least k c f.is)
+  where
+    go : (k < m) ⊎ ((k ≡ m) × (number_of c ≤ number_of d)) → (m < k) ⊎ ((m ≡ k) × (number_of d ≤ number_of c))
+        → (k ≡ m) × (c ≡ d)
+    go (inl x) (inl y) = absurd (omega (arith, x, y))
+    go (inl x) (inr y) = absurd (omega (arith, x, y.0))
+    go (inr x) (inl y) = absurd (omega (arith, x.0, y))
+    go (inr x) (inr y) = (x.0, same_cause c d (omega (arith, x.1, y.1)))
