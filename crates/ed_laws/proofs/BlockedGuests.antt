@@ -1,6 +1,6 @@
 -- A run that has a guest checked ends where the guest is blocked.
 use Rattle.std.proofs.Common.{◌≡◌, ◌∙◌, ℕ, ◌+◌, ◌-◌, ◌<◌, ◌≤◌, refl, sym, ap, subst, arith, false, true≢false}
-use Rattle.std.proofs.Common.{Bool, Some, None, Option, List, ◌++◌, length, append-nil}
+use Rattle.std.proofs.Common.{Bool, Some, None, List, length}
 use Rattle.ed_words.specs.Texts.{Text}
 use Rattle.ed_printer.specs.Paper.{paper}
 use Rattle.ed_machine.specs.State.{State}
@@ -12,7 +12,6 @@ use Rattle.ed_machine.specs.declared.turn.Turn.TheVariants.{NoOrder as IsNoOrder
 use Rattle.ed_machine.proofs.Counts.{counted_after}
 use Rattle.ed_run.specs.Run.{RunEnd, end_by}
 use Rattle.ed_run.specs.declared.settings.Settings.{Settings}
-use Rattle.ed_run.specs.declared.settings.Window.{Window}
 use Rattle.ed_run.proofs.Places as places
 use Rattle.ed_syntax.specs.declared.program.Line.{Line}
 use Rattle.ed_link.specs.Linked.{entry_of}
@@ -24,7 +23,8 @@ use Rattle.ed_answers.specs.EntryState.{entry_state}
 use Rattle.ed_answers.specs.FromEntry.{AnswersFromEntry}
 use Rattle.ed_answers.specs.Outcome.{Outcome}
 use Rattle.ed_answers.specs.Refusals.{IsAcceptedAs}
-use Rattle.ed_answers.specs.Runs.{paper_room, post_mortem_codes, ran_outcome, with_post_mortem}
+use Rattle.ed_answers.specs.Runs.{paper_room, ran_outcome, with_post_mortem}
+use Rattle.ed_answers.proofs.Limits.{none_added}
 use Rattle.ed_answers.proofs.Sources.{each_answer_is_from_entry}
 use Rattle.ed_laws.specs.BlockedGuests.{EachGuestIsBlocked, EndsBlocked, IsBlockedAfter, RunsToBlock, blocked_codes}
 use Rattle.ed_laws.specs.BlockedGuests.{ending_at, guest_ending, orders_to_block}
@@ -41,8 +41,9 @@ blocks Stops full h = absurd (true≢false h)
 machines : (base q : ℕ) (m : State) (limit resumes room : ℕ) → IsBlockedAfter base q m
     → orders_to_block q (guest base m) < limit → length (blocked_codes q (guest base m)) ≤ room
     → EndsBlocked base q m limit resumes room
-machines base q m limit resumes room b less fits =
-    let c = checker_law.to_block base q m b.stands b.followed b.allowed b.blocked in
+machines base q m limit resumes room at less fits =
+    let b = at.guest_blocked in
+    let c = checker_law.to_block base q m at.stands b.followed b.allowed b.blocked in
     let exact = c.exact in
     let count : c.count ≡ orders_to_block q (guest base m) = omega (arith, exact) in
     let there : state_after c.count m ≡ c.last = ap (λ (p : Progress). p.state) c.ran.is in
@@ -66,15 +67,11 @@ machines base q m limit resumes room b less fits =
       run = ran ∙ (λ i. record { ending = guest_ending q (guest base m); state = there i; codes = codes i });
     }
 
-none_added : (window : Option Window) (r : RunEnd) → window ≡ None → (with_post_mortem window r).codes ≡ r.codes
-none_added window r is =
-    ap (λ (w : Option Window). r.codes ++ post_mortem_codes w r.state) is ∙ append-nil r.codes
-
 sources : (base q : ℕ) (s : Settings) (source : Text) (lines : List Line)
     → IsAcceptedAs s.size source lines → IsBlockedAfter base q (entry_state s.size lines)
     → cost lines + orders_to_block q (guest base (entry_state s.size lines)) < s.limit
     → length (blocked_codes q (guest base (entry_state s.size lines))) ≤ paper_room → s.post_mortem ≡ None
-    → RunsToBlock base q s lines
+    → RunsToBlock base q (guest base (entry_state s.size lines)) s lines
 sources base q s source lines accepted b less fits none =
     let from : AnswersFromEntry s lines = each_answer_is_from_entry s source lines accepted in
     let m = entry_state s.size lines in

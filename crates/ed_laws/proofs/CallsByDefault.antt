@@ -1,10 +1,23 @@
 -- Without an option the limit is not below the orders of any call.
-use Rattle.std.proofs.Common.{refl, subst, arith}
+use Rattle.std.proofs.Common.{◌≤◌, refl, subst, arith, lit≤}
 use Rattle.ed_words.specs.declared.size.Size.TheVariants.{Full}
 use Rattle.ed_answers.specs.Sources.{OfSource, run_outcome}
 use Rattle.ed_sources.specs.CallSources.{call_text}
+use Rattle.ed_sources.specs.CallRuns.{most_call_orders}
 use Rattle.ed_sources.proofs.CallRuns.{each_call_runs}
+use Rattle.ed_sources.proofs.MostOrders.{each_most_is_taken}
+use Rattle.ed_library.specs.declared.call.Call.{Call}
+use Rattle.ed_library.specs.declared.call.Call.TheVariants.{Print, Read, NewLine, Divide, Root, Check}
 use Rattle.ed_laws.specs.CallsByDefault.{CallsByDefault, usual_settings}
+
+-- the limit without an option is greater than the orders of the longest calls
+below_default : (call : Call) → most_call_orders call ≤ 10000000
+below_default (Print n) = lit≤ tt
+below_default (Read n) = lit≤ tt
+below_default NewLine = lit≤ tt
+below_default (Divide n by) = lit≤ tt
+below_default (Root n) = lit≤ tt
+below_default (Check n) = lit≤ tt
 
 pub calls_by_default : CallsByDefault
 calls_by_default = record {
@@ -12,11 +25,14 @@ calls_by_default = record {
   each = λ call made.
       let c = each_call_runs call usual_settings made in
       let few = c.few in
+      let most = below_default call in
       record {
         lines = c.lines;
         accepted = c.accepted;
+        costs = c.costs;
         few = few;
         due = subst (OfSource Full (run_outcome usual_settings) (call_text call)) (c.ends refl refl (omega arith))
             c.answers;
       };
+  most = each_most_is_taken;
 }

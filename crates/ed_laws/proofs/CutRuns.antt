@@ -33,6 +33,7 @@ use Rattle.ed_laws.specs.CutRuns.{IsCutOff, limit_name, limit_state}
 use Rattle.ed_laws.specs.FaultyTapes.{quiet_outcome}
 use Rattle.ed_laws.specs.FirstEntries.{EachFirstTapeRunsFromEntry}
 use Rattle.ed_laws.specs.SourceEntries.{EachSourceRunsFromEntry}
+use Rattle.ed_laws.proofs.Stepped.{none_done}
 
 -- ---- the orders up to the limit
 
@@ -51,15 +52,11 @@ module _ (limit k : ℕ) (s : State) (went : AllWent k s) (below : limit < k) wh
   cut_orders none =
       let count = counted_after limit s (λ j less. ap is_obeyed (few_went j less)) in omega (arith, count, none)
 
-none_done : (s : Settings) (rows : List ℕ) → (first_state s.size rows).orders ≡ 0
-unfolding first_state
-none_done s rows = refl
-
 -- ---- a tape
 
 module _ (s : Settings) (rows : List ℕ) (k : ℕ) (went : AllWent k (first_state s.size rows)) (below : s.limit < k) where
   pub limit_orders : (limit_state s rows).orders ≡ s.limit
-  limit_orders = cut_orders s.limit k (first_state s.size rows) went below (none_done s rows)
+  limit_orders = cut_orders s.limit k (first_state s.size rows) went below (none_done s.size rows)
 
   run_is : run_end s.limit s.resumes paper_room (first_state s.size rows) ≡ cut_run s.limit (first_state s.size rows)
   run_is = cut_there s.limit k (first_state s.size rows) went below s.resumes paper_room

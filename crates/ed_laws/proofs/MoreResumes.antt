@@ -1,14 +1,9 @@
 -- A run with more resumes, and a trace with a greater limit.
-use Rattle.std.proofs.Common.{◌≡◌, ◌≢◌, ◌∙◌, ℕ, ◌+◌, ◌-◌, ◌≤◌, refl, sym, ap, arith, Option, None, List, [], ◌++◌}
-use Rattle.std.proofs.Common.{append_assoc, append-nil, ◌∷◌}
-use Rattle.ed_words.specs.Texts.{Text}
-use Rattle.ed_printer.specs.Paper.{paper, paper_from, shift_after, struck_bytes}
-use Rattle.ed_printer.specs.declared.printer.Shift.{Shift}
-use Rattle.ed_printer.specs.declared.printer.Shift.TheVariants.{Letters}
+use Rattle.std.proofs.Common.{◌≡◌, ◌≢◌, ◌∙◌, ℕ, ◌+◌, ◌-◌, ◌≤◌, refl, sym, ap, arith, List, []}
+use Rattle.ed_printer.specs.Paper.{paper}
 use Rattle.ed_machine.specs.State.{State}
 use Rattle.ed_machine.specs.Steps.{state_after}
 use Rattle.ed_run.specs.Run.{RunEnd, run_end}
-use Rattle.ed_run.specs.declared.settings.Window.{Window}
 use Rattle.ed_initial.specs.Entry.{first_state}
 use Rattle.ed_syntax.specs.declared.program.Line.{Line}
 use Rattle.ed_link.specs.Tapes.{tape}
@@ -17,40 +12,15 @@ use Rattle.ed_stepper.specs.Traces.{trace_to}
 use Rattle.ed_answers.specs.FirstOrders.{first_state1, tape1_outcome}
 use Rattle.ed_answers.specs.Limits.{StartsWith}
 use Rattle.ed_answers.specs.Outcome.{Outcome}
-use Rattle.ed_answers.specs.Runs.{paper_room, post_mortem_codes, ran_outcome, status_of, with_post_mortem}
+use Rattle.ed_answers.specs.Runs.{paper_room, ran_outcome, status_of, with_post_mortem}
 use Rattle.ed_answers.specs.Sources.{entered_before, run_outcome}
 use Rattle.ed_answers.specs.Tapes.{tape_outcome}
-use Rattle.ed_answers.proofs.Limits.{each_limit}
+use Rattle.ed_answers.proofs.Limits.{each_limit, none_added, printed_starts, starts_as}
 use Rattle.ed_top.specs.Traces.{letters_in, trace_outcome}
 use Rattle.ed_laws.specs.MoreResumes.{EachLimitIsKept, EachResume, KeepsResumes, TraceKeepsLimits, letters_of, out_of}
 use Rattle.ed_laws.proofs.PartsLimits.{parts_keep_limits}
 use Rattle.ed_laws.proofs.Stepped.{letters_sum}
 use Rattle.ed_laws.proofs.TwoRuns.{resumed_begins, resumed_later, resumed_same, trace_later, trace_same}
-
--- ---- on paper
-
-paper_starts : (shift : Shift) (part rest : List ℕ)
-    → StartsWith (paper_from shift (part ++ rest)) (paper_from shift part)
-paper_starts shift [] rest = (paper_from shift rest, refl)
-paper_starts shift (code ∷ part) rest =
-    let more = paper_starts (shift_after shift code) part rest in (
-      more.0,
-      ap (λ (t : Text). struck_bytes shift code ++ t) more.1
-          ∙ sym (append_assoc (struck_bytes shift code) (paper_from (shift_after shift code) part) more.0),
-    )
-
--- whether a text begins with another doesn't depend on how the two are written
-starts_as : {whole part new_whole new_part : Text} → new_whole ≡ whole → new_part ≡ part → StartsWith whole part
-    → StartsWith new_whole new_part
-starts_as {new_part = new_part} w p (rest, is) = (rest, w ∙ is ∙ ap (λ (t : Text). t ++ rest) (sym p))
-
-printed_starts : (whole part : List ℕ) → StartsWith whole part → StartsWith (paper whole) (paper part)
-printed_starts whole part (rest, is) = starts_as (ap paper is) refl (paper_starts Letters part rest)
-
--- no post-mortem adds no code
-none_added : (window : Option Window) (r : RunEnd) → window ≡ None → (with_post_mortem window r).codes ≡ r.codes
-none_added window r is =
-    ap (λ (w : Option Window). r.codes ++ post_mortem_codes w r.state) is ∙ append-nil r.codes
 
 -- ---- from the answers to the end of a run
 

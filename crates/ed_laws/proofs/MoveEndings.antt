@@ -96,7 +96,8 @@ blocked_is Went full end ending h e = absurd (cc)
 blocked_is (Printed code) full end ending h e = absurd (cc)
 blocked_is Stops full end ending h e = absurd (cc)
 
-not_stopped_by : (turn : Turn) (full : Bool) → end_by turn full ≡ Some Stopped → ⊥
+-- the next order doesn't end a run at a stop: a stop is one that was obeyed
+pub not_stopped_by : (turn : Turn) (full : Bool) → end_by turn full ≡ Some Stopped → ⊥
 not_stopped_by (IsNoOrder function) full h = cc
 not_stopped_by HasNoTape full h = cc
 not_stopped_by Went full h = cc

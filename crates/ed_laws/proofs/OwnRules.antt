@@ -20,7 +20,7 @@ use Rattle.ed_machine.specs.declared.turn.Turn.{Turn}
 use Rattle.ed_machine.specs.declared.turn.Turn.TheVariants.{Went}
 use Rattle.ed_machine.specs.declared.ending.Ending.TheVariants.{Stopped, Limit}
 use Rattle.ed_machine.proofs.LeastNumbers.{least_below, least_found, least_none}
-use Rattle.ed_run.specs.Run.{end_by, run_end, run_orders}
+use Rattle.ed_run.specs.Run.{end_at, end_by, run_end, run_orders}
 use Rattle.ed_run.specs.declared.settings.Settings.{Settings}
 use Rattle.ed_run.proofs.Ends.{ran_ends}
 use Rattle.ed_initial.specs.Entry.{first_state}
@@ -62,20 +62,27 @@ module _ (r : OtherRule) (limit resumes room : ℕ) (s : State)
   same : (j : ℕ) → j ≤ run_orders limit resumes room s → progress_with r j s ≡ progress j s
   same j few = orders_same r j s (λ i less. never i (omega (arith, less, few)))
 
+  -- at a state where it doesn't apply the run ends as without it, or goes on as without it
+  ends_same : (k : ℕ) → r.applies (state_after k s) ≡ false
+      → end_with r limit resumes room k (progress k s) ≡ end_at limit resumes room k (progress k s)
+  ends_same k not =
+      ap (λ (o : Obeyed). if nat_lt resumes (progress k s).stops then Some Stopped
+      else if nat_eq k limit then Some Limit
+      else end_by o.turn (nat_le room (length (progress k s).codes))) (step_same r (state_after k s) not)
+
   none_before : (j : ℕ) → j < run_orders limit resumes room s
       → end_with r limit resumes room j (progress_with r j s) ≡ None
   none_before j less =
       ap (end_with r limit resumes room j) (same j (omega (arith, less)))
-      ∙ ap (λ (o : Obeyed). if nat_lt resumes (progress j s).stops then Some Stopped
-      else if nat_eq j limit then Some Limit
-      else end_by o.turn (nat_le room (length (progress j s).codes))) (step_same r (state_after j s) (never j less))
+      ∙ ends_same j (never j less)
       ∙ (ran_ends limit resumes room s).first j less
 
   some_there : end_with r limit resumes room (run_orders limit resumes room s)
       (progress_with r (run_orders limit resumes room s) s)
       ≡ Some (run_end limit resumes room s).ending
   some_there =
-      ap (end_with r limit resumes room (run_orders limit resumes room s)) (same (run_orders limit resumes room s) (omega arith))
+      ap (end_with r limit resumes room (run_orders limit resumes room s))
+      (same (run_orders limit resumes room s) (omega arith))
       ∙ by_end at_end
     where
       n : ℕ
@@ -94,11 +101,7 @@ module _ (r : OtherRule) (limit resumes room : ℕ) (s : State)
 
       by_end : IsNoEnd r (state_after n s) → end_with r limit resumes room n (progress n s)
           ≡ Some (run_end limit resumes room s).ending
-      by_end (inl not) =
-          ap (λ (o : Obeyed). if nat_lt resumes (progress n s).stops then Some Stopped
-          else if nat_eq n limit then Some Limit
-          else end_by o.turn (nat_le room (length (progress n s).codes))) (step_same r (state_after n s) not)
-          ∙ (ran_ends limit resumes room s).now
+      by_end (inl not) = ends_same n not ∙ (ran_ends limit resumes room s).now
       by_end (inr none) =
           by_tests (nat_lt resumes (progress n s).stops) (nat_eq n limit) none (ran_ends limit resumes room s).now
 

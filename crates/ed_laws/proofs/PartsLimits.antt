@@ -55,7 +55,8 @@ module _ (low high : ℕ) (s : State) (fits : low ≤ high) where
           else end_by (step (state_after j s)).turn false) ≡ None
       by_tests true c is h = h
       by_tests false true is h = absurd (none-some Limit (sym h))
-      by_tests false false is h = let other : nat_eq j high ≡ false = eq_false j high (omega (arith, less, fits)) in rw other h
+      by_tests false false is h =
+          let other : nat_eq j high ≡ false = eq_false j high (omega (arith, less, fits)) in rw other h
 
   runs_too : (k : ℕ) → RunsOn low k s → RunsOn high k s
   runs_too k runs j less = record {
@@ -193,7 +194,8 @@ module _ (low high rows : ℕ) (fits : low ≤ high) where
         returns = 0;
         report = t;
         told = finished e k d leads later
-            (finishes_too (low - entry_done p e) (high - entry_done p e) (part_entry_state p e) less k d other f) as_told;
+            (finishes_too (low - entry_done p e) (high - entry_done p e) (part_entry_state p e) less k d other f)
+            as_told;
         keeps = itself t;
       }
 
@@ -246,7 +248,8 @@ module _ (codes : List ℕ) (s : Settings) (more : ℕ) (o other : Outcome) (fit
   first = first_state s.size codes
 
   from_a : Longer more (length first.tape) (first_part first) a.told
-  from_a = longer s.limit more (length first.tape) fits a.tells.returns (first_part first) a.told opens_first a.tells.told
+  from_a =
+      longer s.limit more (length first.tape) fits a.tells.returns (first_part first) a.told opens_first a.tells.told
 
   -- the report with the greater limit
   is_b : b.told ≡ from_a.report

@@ -3,8 +3,8 @@ use Rattle.std.proofs.Common.{◌≡◌, ◌∙◌, ◌⊎◌, inl, inr, ℕ, ze
 use Rattle.std.proofs.Common.{ap, arith}
 use Rattle.std.proofs.Common.{Bool, true, false, true≢false, ◌&&◌, ◌||◌, nat_eq, nat_le, nat_lt, Option, Some, None}
 use Rattle.std.proofs.Common.{List, [], ◌∷◌, ◌++◌, append_assoc, length, length-append, lit≤}
-use Rattle.std.specs.Prelude.{if◌then◌else◌, map}
-use Rattle.std.specs.List.{flat_map, list_all}
+use Rattle.std.specs.Prelude.{map}
+use Rattle.std.specs.List.{list_all}
 use Rattle.std.proofs.lemmas.Bool.{and_parts, cases_lt}
 use Rattle.std.proofs.lemmas.Bool.Decides.{nat_tests}
 use Rattle.std.proofs.lemmas.List.{length-map}
@@ -12,6 +12,7 @@ use Rattle.ed_words.proofs.Numbers.{lt_false}
 use Rattle.ed_words.proofs.SizeLemmas.{most}
 use Rattle.ed_words.specs.Sizes.{locations}
 use Rattle.ed_words.specs.Texts.{Text}
+use Rattle.ed_words.specs.Words.{digit as one_if}
 use Rattle.ed_words.specs.declared.size.Size.{Size}
 use Rattle.ed_codes.specs.Spelling.{row_of}
 use Rattle.ed_notation.specs.declared.item.Item.{Item}
@@ -28,7 +29,6 @@ use Rattle.ed_syntax.specs.Forms.{statement}
 use Rattle.ed_syntax.specs.Forms.{labelled, version}
 use Rattle.ed_syntax.specs.Parts.{LinePart, quoted}
 use Rattle.ed_syntax.specs.Sources.{LinesSay, no_more, and_more}
-use Rattle.ed_syntax.specs.declared.program.Operand.{Operand}
 use Rattle.ed_syntax.specs.declared.program.Setting.{Setting}
 use Rattle.ed_syntax.specs.declared.program.Statement.{Statement}
 use Rattle.ed_syntax.specs.declared.program.Statement.TheVariants.{Segment, Order, Number, Text as Letters, Long, Fetch}
@@ -41,13 +41,12 @@ use Rattle.ed_symbols.specs.NameFaults.{StandsAfter, counter_after, counter_from
 use Rattle.ed_symbols.specs.Places.{after_statement, even_from, first_counter, routine_places}
 use Rattle.ed_symbols.specs.Places.{segment_at as segment_of_counter}
 use Rattle.ed_link.specs.Faults.{HasNoFault, LineHasWord, on_line}
-use Rattle.ed_link.specs.Linked.{data_after, data_rows, end_place, first_place, long_words, operand_number, set_to}
+use Rattle.ed_link.specs.Linked.{data_after, data_rows, end_place, first_place, long_words, operand_number}
 use Rattle.ed_link.specs.Linked.{symbols_of}
-use Rattle.ed_link.specs.Linked.{parameter_letters}
-use Rattle.ed_link.specs.Punch.{goes_by_theta, heads, items_of, order_item, preset_items, punched_from, punched_items}
-use Rattle.ed_link.specs.Punch.{routine_items, use_items, with_heading, word_item}
+use Rattle.ed_link.specs.Punch.{goes_by_theta, items_of, order_item, punched_from, punched_items}
+use Rattle.ed_link.specs.Punch.{routine_items, use_items, word_item}
 use Rattle.ed_link.specs.Tapes.{after_text}
-use Rattle.ed_link.proofs.Bounds.{rows_few}
+use Rattle.ed_link.proofs.Bounds.{headed_few, long_few, routine_few, rows_few}
 use Rattle.ed_answers.specs.Refusals.{IsAcceptedAs}
 use Rattle.ed_answers.specs.Sources.{punch_outcome}
 
@@ -122,10 +121,6 @@ lines_short (and_more k line texts f said says rest) =
     ((form_short says.spells.spells (few_bytes line says.spells.parts says.spells.has_parts says.plain.short), more.0), one)
 
 -- ---- counting locations
-
-abbrev one_if : Bool → ℕ
-one_if true = 1
-one_if false = 0
 
 count : (ℕ → Bool) → ℕ → ℕ
 count f zero = 0
@@ -294,29 +289,6 @@ module _ (z : Size) (lines : List Line) (none : HasNoFault z lines) where
 
 -- ---- the items of a line
 
-heads_few : (first : Bool) (base : ℕ) → length (heads first base) ≤ 2
-heads_few true base = lit≤ tt
-heads_few false base = lit≤ tt
-
-headed_few : (is : List Item) (first : Bool) (base : ℕ) → length (with_heading is first base) ≤ length is + 2
-headed_few [] first base = omega arith
-headed_few (i ∷ is) first base = omega (arith, length-append (heads first base) (i ∷ is), heads_few first base)
-
-preset_few : (symbols : List Definition) (o : Option Operand) (c : ℕ) → length (preset_items symbols o c) ≤ 2
-preset_few symbols None c = lit≤ tt
-preset_few symbols (Some o) c = lit≤ tt
-
-presets_few : (symbols : List Definition) (ts : List Setting) (cs : List ℕ)
-    → length (flat_map (λ c. preset_items symbols (set_to ts c) c) cs) ≤ 2 * length cs
-presets_few symbols ts [] = lit≤ tt
-presets_few symbols ts (c ∷ cs) =
-    omega (
-      arith,
-      preset_few symbols (set_to ts c) c,
-      presets_few symbols ts cs,
-      length-append (preset_items symbols (set_to ts c) c) (flat_map (λ c. preset_items symbols (set_to ts c) c) cs),
-    )
-
 routine_is : (found : Option ℕ) → length (routine_items found) ≡ routine_places found
 routine_is None = refl
 routine_is (Some r) = length-map (entry r).items table_item
@@ -324,18 +296,7 @@ routine_is (Some r) = length-map (entry r).items table_item
 use_few : (symbols : List Definition) (ts : List Setting) (base : ℕ) (found : Option ℕ)
     → length (use_items symbols ts base found) ≤ routine_places found + 14
 use_few symbols ts base found =
-    omega (
-      arith,
-      presets_few symbols ts parameter_letters,
-      headed_few (routine_items found) true base,
-      routine_is found,
-      length-append (flat_map (λ c. preset_items symbols (set_to ts c) c) parameter_letters)
-          (with_heading (routine_items found) true base),
-    )
-
-long_few : (b : Bool) (v w : ℕ) → length (map word_item ((if b then 0 ∷ [] else []) ++ (v ∷ (w ∷ [])))) ≤ 3
-long_few true v w = lit≤ tt
-long_few false v w = lit≤ tt
+    let is = routine_is found in routine_few found (routine_places found) (omega (arith, is)) symbols ts base
 
 -- 9 bytes for each item, and one for each row of data: at most 126, and 9 for each word of the line
 line_few : (symbols : List Definition) (s : LocationCounter) (st : Option Statement) → ShortRows st

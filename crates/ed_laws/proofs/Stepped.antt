@@ -51,7 +51,7 @@ run_cut k resumes room s fits few =
 abbrev pub bare : List ℕ → Text
 bare fs = letters_in (map (λ f. byte_of f false) fs)
 
-letters_both : (xs ys : Text) → letters_in (xs ++ ys) ≡ letters_in xs ++ letters_in ys
+pub letters_both : (xs ys : Text) → letters_in (xs ++ ys) ≡ letters_in xs ++ letters_in ys
 letters_both = filter-append (λ byte. not (byte == 10))
 
 no_letter : (full : Bool) → letters_in (line_end full) ≡ []
@@ -116,7 +116,7 @@ letters_sum a b s =
 
 -- ---- the state of a session
 
-none_done : (z : Size) (rows : List ℕ) → (first_state z rows).orders ≡ 0
+pub none_done : (z : Size) (rows : List ℕ) → (first_state z rows).orders ≡ 0
 unfolding first_state
 none_done z rows = refl
 

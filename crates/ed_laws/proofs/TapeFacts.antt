@@ -34,7 +34,7 @@ use Rattle.ed_initial1.specs.Faults.{BeginsWith, Comes1, Tape}
 use Rattle.ed_answers.specs.Limits.{with_limit}
 use Rattle.ed_answers.specs.Runs.{paper_room, run_of}
 use Rattle.ed_answers.specs.Tapes.{first_note}
-use Rattle.ed_laws.specs.TapeFacts.{BeginsAtPlace, BlankTapeIsPassed, EachTapeIsSo, blank_cost, blank_tape, end_later}
+use Rattle.ed_laws.specs.TapeFacts.{BeginsAtPlace, BlankTapeIsPassed, NotationFacts, blank_cost, blank_tape, end_later}
 use Rattle.ed_laws.specs.TapeFacts.{entry_later}
 use Rattle.ed_laws.proofs.CountedRuns.{counted, run_same}
 use Rattle.ed_laws.proofs.TapeEntries.{leads}
@@ -97,7 +97,7 @@ for_one_loader z tape t comes well = first_breaks z tape t t.items refl comes we
 
 -- ---- a reading that begins later
 
--- the result, so many rows and orders later
+-- the result, a rows and b orders later
 abbrev later : ℕ → ℕ → Verdict → Verdict
 later a b (Faulty row cause) = Faulty (row + a) cause
 later a b (Arrived e) = Arrived (record e { cost = e.cost + b; rows = e.rows + a })
@@ -252,7 +252,8 @@ module _ (z : Size) (words : List ℕ) where
         theta = p.0;
         reads = ap (reading_on z words row cost n None) (append_assoc (replicate (2 * k) 16) (0 ∷ 14 ∷ []) rest)
             ∙ p.1
-            ∙ (λ i. reading_on z words (r i) (c i) (record { directive = 0; theta = p.0; placed = n.placed }) None rest);
+            ∙ (λ i. reading_on z words (r i) (c i)
+            (record { directive = 0; theta = p.0; placed = n.placed }) None rest);
       }
 
   odd_passed : (k : ℕ) (rest : List ℕ) (row cost : ℕ) (n : NotationState) → Passed (2 * k + 1) rest row cost n
@@ -313,14 +314,15 @@ module _ (z : Size) (words : List ℕ) where
           let m : NotationState = record { directive = d; theta = t; placed = n.placed } in
           let fits : nat_lt 1023 number ≡ false = lt_false 1023 number b.fits in
           let more = 14 ∷ 27 ∷ 14 ∷ b.rest in
-          let on = digits_read z words 5 m b.digits more 0 false (row + 1) (cost + 6) b.are_digits (omega (arith, b.fits)) in
+          let on =
+          digits_read z words 5 m b.digits more 0 false (row + 1) (cost + 6) b.are_digits (omega (arith, b.fits)) in
           let part = item_so_far 5 number on.0 in
           let sets : row_effect z (row_kind 14) (over m.placed words) (setting_of m) part 14
           ≡ Ended (record { directive = 4096 * 5 + 2 * number; theta = t }) 16 = rw fits refl in
           ap (reading_on z words row cost m None) b.rows_are ∙ on.1
           ∙ ap (on_row z words (row + 1 + length b.digits) (cost + 6 + after) m part 14 (27 ∷ 14 ∷ b.rest)) sets
 
--- ---- a tape behind it
+-- ---- a tape after it
 
 opens : IsDirective 20568
 opens = omega arith
@@ -355,21 +357,23 @@ module _ (s : Settings) (tape : List ℕ) (e : TapeEntry) (m : ℕ)
       let orders : 0 + (e.cost + blank_cost m) ≡ 0 + e.cost + blank_cost m = omega arith in
       λ i. record (at_entry (first_state s.size tape) e) { orders = orders i }
 
-  runs : e.cost ≤ s.limit → run_of (with_limit (s.limit + blank_cost m) s) whole ≡ end_later (blank_cost m) (run_of s tape)
+  runs : e.cost ≤ s.limit
+      → run_of (with_limit (s.limit + blank_cost m) s) whole ≡ end_later (blank_cost m) (run_of s tape)
   runs fits =
       let k = blank_cost m in
       let into : LeadsIn (first_state s.size tape) e = leads s.size tape e well to in
       let too : LeadsIn (first_state s.size whole) (entry_later m e) =
       leads s.size whole (entry_later m e) well_too comes_too in
       let left : s.limit + k - (e.cost + k) ≡ s.limit - e.cost = omega arith in
-      ran_later (s.limit + k) s.resumes paper_room (e.cost + k) (first_state s.size whole) too.went (omega (arith, fits))
+      ran_later (s.limit + k) s.resumes paper_room (e.cost + k) (first_state s.size whole) too.went
+      (omega (arith, fits))
       ∙ (λ i. run_end (left i) s.resumes paper_room ((too.arrives ∙ state_there) i))
       ∙ run_same (s.limit - e.cost) s.resumes paper_room k (at_entry (first_state s.size tape) e)
       ∙ ap (end_later k) (sym (ran_later s.limit s.resumes paper_room e.cost (first_state s.size tape) into.went fits
       ∙ ap (run_end (s.limit - e.cost) s.resumes paper_room) into.arrives))
 
-  behind_blanks : BlankTapeIsPassed s tape e m
-  behind_blanks = record { well = well_too; comes = comes_too; runs = runs }
+  after_blanks : BlankTapeIsPassed s tape e m
+  after_blanks = record { well = well_too; comes = comes_too; runs = runs }
 
-pub each_tape_is_so : EachTapeIsSo
-each_tape_is_so = record { behind_blanks = behind_blanks; for_one_loader = for_one_loader; cheap = cheap }
+pub notation_facts : NotationFacts
+notation_facts = record { after_blanks = after_blanks; for_one_loader = for_one_loader; cheap = cheap }

@@ -14,14 +14,15 @@ use Rattle.ed_laws.specs.SmallerStore.{EachSmallIsFull}
 use Rattle.ed_laws.specs.SourceEntries.{EachSourceRunsFromEntry}
 use Rattle.ed_laws.specs.Stepped.{EachStepIsRun}
 use Rattle.ed_laws.specs.TapeEntries.{EachTapeRunsFromEntry}
-use Rattle.ed_laws.specs.TapeFacts.{EachTapeIsSo}
+use Rattle.ed_laws.specs.TapeFacts.{NotationFacts}
 use Rattle.ed_laws.specs.TraceAccounts.{EachTraceAccounts}
 use Rattle.ed_answers.specs.BothSizes.{EachSize}
 use Rattle.ed_answers.specs.FirstFaults.{EachFaultyTapeWaits1}
 use Rattle.ed_answers.specs.Listed.{EachListedIsLoaded}
 use Rattle.ed_laws.proofs.BlockedGuests.{each_guest_is_blocked}
 use Rattle.ed_laws.proofs.CallsByDefault.{calls_by_default as by_default}
-use Rattle.ed_sources.specs.DemoRuns.{EachDemoRuns}
+use Rattle.ed_sources.specs.DemoRuns.{EachDemoRuns, LastDemoIsLongest}
+use Rattle.ed_sources.proofs.DemoCost.{last_demo_is_longest}
 use Rattle.ed_sources.proofs.DemoRuns.{each_demo_runs}
 use Rattle.ed_laws.proofs.CutRuns.{first_tapes_run_from_entry, sources_run_from_entry}
 use Rattle.ed_laws.proofs.FaultyTapes.{faulty_tapes_wait}
@@ -35,7 +36,7 @@ use Rattle.ed_laws.proofs.Relocation.{each_part_moves}
 use Rattle.ed_laws.proofs.SmallerStore.{each_small_is_full}
 use Rattle.ed_laws.proofs.Stepped.{each_step_is_run}
 use Rattle.ed_laws.proofs.TapeEntries.{tapes_run_from_entry}
-use Rattle.ed_laws.proofs.TapeFacts.{each_tape_is_so}
+use Rattle.ed_laws.proofs.TapeFacts.{notation_facts}
 use Rattle.ed_laws.proofs.TraceAccounts.{each_trace_accounts}
 use Rattle.ed_answers.proofs.BothSizes.{each_size}
 use Rattle.ed_answers.proofs.FirstFaults.{faulty_tapes_wait1}
@@ -48,6 +49,10 @@ calls_by_default = by_default
 -- what `demo` prints
 pub demos : EachDemoRuns
 demos = each_demo_runs
+
+-- no `demo` takes more orders than the last one
+pub longest_demo : LastDemoIsLongest
+longest_demo = last_demo_is_longest
 
 -- what `run` answers to a source, by its run from the entry
 pub entered : EachSourceRunsFromEntry
@@ -69,8 +74,8 @@ pub faulty_first_tapes : EachFaultyTapeWaits1
 faulty_first_tapes = faulty_tapes_wait1
 
 -- what holds of the notation: blank tape before a tape, the two loaders, and the greatest cost
-pub notation : EachTapeIsSo
-notation = each_tape_is_so
+pub notation : NotationFacts
+notation = notation_facts
 
 -- what `punch` writes runs as the source does
 pub punched : EachPunchedTextIsSource

@@ -8,7 +8,7 @@ use Rattle.std.proofs.lemmas.Bool.Decides.{nat_tests}
 use Rattle.std.proofs.lemmas.List.Elements.{filter-append}
 use Rattle.std.proofs.lemmas.Option.{none-some, same_Some}
 use Rattle.ed_words.specs.Texts.{Text}
-use Rattle.ed_words.specs.Words.{function_of}
+use Rattle.ed_words.specs.Words.{digit as one_if, function_of}
 use Rattle.ed_codes.specs.Spelling.{byte_of}
 use Rattle.ed_orders.specs.Kinds.{kind_of_function}
 use Rattle.ed_orders.specs.declared.kind.Kind.{Kind}
@@ -26,7 +26,6 @@ use Rattle.std.specs.Prelude.{map}
 use Rattle.ed_machine.specs.OrderTable.{Obeyed, stop_order}
 use Rattle.ed_machine.specs.Steps.{Progress, is_obeyed}
 use Rattle.ed_machine.proofs.Counts.{counted_after}
-use Rattle.ed_words.specs.declared.size.Size.{Size}
 use Rattle.ed_initial.specs.Entry.{first_state}
 use Rattle.ed_answers.specs.Runs.{paper_room, status_of}
 use Rattle.ed_machine.proofs.Steps.{next_stops, past_next}
@@ -35,8 +34,9 @@ use Rattle.ed_run.proofs.Ends.{ran_ends}
 use Rattle.ed_stepper.specs.Traces.{trace_to}
 use Rattle.ed_top.specs.Traces.{letters_in}
 use Rattle.ed_laws.proofs.LetterTests.{letter_says}
-use Rattle.ed_laws.proofs.Stepped.{bare_trace, map_both}
-use Rattle.ed_laws.specs.TraceAccounts.{EachTraceAccounts, IsBehindStop, stops_in}
+use Rattle.ed_laws.proofs.MoveEndings.{not_stopped_by}
+use Rattle.ed_laws.proofs.Stepped.{bare_trace, letters_both, map_both, none_done}
+use Rattle.ed_laws.specs.TraceAccounts.{EachTraceAccounts, IsPastStop, stops_in}
 
 -- ---- an order is a stop if its function is that of Z
 
@@ -85,11 +85,6 @@ abbrev is_stop_kind : Option Kind → Bool
 is_stop_kind (Some Z) = true
 is_stop_kind kind = false
 
--- a letter counts as a stop
-abbrev one_if : Bool → ℕ
-one_if true = 1
-one_if false = 0
-
 stops_by : (k : Option Kind) (turn : Turn) → IsStopOf k turn → stops_of turn ≡ one_if (is_stop_kind k)
 stops_by None turn h = h
 stops_by (Some A) turn h = h
@@ -112,7 +107,8 @@ stops_by (Some Y) turn h = h
 stops_by (Some Z) turn h = h
 
 -- the letter of a function is Z if it is that of Z, and never a line feed
-letter_of : (f : ℕ) → (is_stop_kind (kind_of_function f) ≡ (byte_of f false == 90)) × (not (byte_of f false == 10) ≡ true)
+letter_of : (f : ℕ)
+    → (is_stop_kind (kind_of_function f) ≡ (byte_of f false == 90)) × (not (byte_of f false == 10) ≡ true)
 letter_of f = (
   letter_says is_stop_kind (λ byte. byte == 90) refl refl f,
   sym (letter_says (λ kind. true) (λ byte. not (byte == 10)) refl refl f),
@@ -125,9 +121,6 @@ letter_stops s =
     stops_by (kind_of_function f) (step s).turn (stop_turn s) ∙ ap one_if (letter_of f).0
 
 -- ---- the letters of many orders
-
-letters_both : (xs ys : Text) → letters_in (xs ++ ys) ≡ letters_in xs ++ letters_in ys
-letters_both = filter-append (λ byte. not (byte == 10))
 
 zeds_both : (xs ys : Text) → stops_in (xs ++ ys) ≡ stops_in xs + stops_in ys
 zeds_both xs ys =
@@ -184,14 +177,6 @@ zeds_count (suc k) s =
 none_at_first : (s : State) → (progress 0 s).stops ≡ 0
 unfolding progress
 none_at_first s = refl
-
-not_stopped_by : (turn : Turn) (full : Bool) → end_by turn full ≡ Some Stopped → ⊥
-not_stopped_by (IsNoOrder function) full h = cc
-not_stopped_by HasNoTape full h = cc
-not_stopped_by Went full h = cc
-not_stopped_by (Printed code) true h = cc
-not_stopped_by (Printed code) false h = cc
-not_stopped_by Stops full h = cc
 
 module _ (limit resumes room : ℕ) (s : State) where
   abbrev k : ℕ
@@ -291,21 +276,21 @@ stop_by (Some F) w s h = absurd (omega (arith, h))
 stop_by (Some X) w s h = absurd (omega (arith, h))
 stop_by (Some Y) w s h = absurd (omega (arith, h))
 
-behind_stop : (s : State) → stops_of (step s).turn ≡ 1 → IsBehindStop (step s).state
+past_stop : (s : State) → stops_of (step s).turn ≡ 1 → IsPastStop (step s).state
 unfolding step
-behind_stop s h =
+past_stop s h =
     let both = stop_by (kind_of_function (function_of (next_word s))) (next_word s) s h in
-    subst (λ (o : Obeyed). IsBehindStop o.state) (sym both.1) (record { at = s.counter; next = refl; stop = both.0 })
+    subst (λ (o : Obeyed). IsPastStop o.state) (sym both.1) (record { at = s.counter; next = refl; stop = both.0 })
 
-pub run_behind_stop : (limit resumes room : ℕ) (s : State) → (run_end limit resumes room s).ending ≡ Stopped
-    → IsBehindStop (run_end limit resumes room s).state
+pub run_past_stop : (limit resumes room : ℕ) (s : State) → (run_end limit resumes room s).ending ≡ Stopped
+    → IsPastStop (run_end limit resumes room s).state
 unfolding run_end
-run_behind_stop limit resumes room s is =
+run_past_stop limit resumes room s is =
     let e = ends_by_stop limit resumes room s is in
     let plus : run_orders limit resumes room s ≡ e.before + 1 = omega (arith, e.count) in
-    subst IsBehindStop
+    subst IsPastStop
     (sym (ap (λ n. state_after n s) plus ∙ ap (λ (p : Progress). p.state) (past_next e.before s)))
-    (behind_stop (state_after e.before s) e.turn)
+    (past_stop (state_after e.before s) e.turn)
 
 -- ---- the whole run
 
@@ -339,10 +324,6 @@ unfolding run_end
 run_counted limit resumes room s none =
     let count = counted_after (run_orders limit resumes room s) s (run_free limit resumes room s) in
     omega (arith, count, none)
-
-none_done : (z : Size) (rows : List ℕ) → (first_state z rows).orders ≡ 0
-unfolding first_state
-none_done z rows = refl
 
 stopped_is : (e : Ending) → status_of e ≡ 0 → e ≡ Stopped
 stopped_is Stopped h = refl
@@ -400,6 +381,6 @@ each_trace_accounts s rows =
         stop_by_zeds s.limit s.resumes first,
       );
       last = λ done. last_zed s.limit s.resumes first (stopped_is _ done);
-      behind = λ done. run_behind_stop s.limit s.resumes s.limit first (stopped_is _ done);
-      tape_behind = λ done. run_behind_stop s.limit s.resumes paper_room first (stopped_is _ done);
+      past = λ done. run_past_stop s.limit s.resumes s.limit first (stopped_is _ done);
+      tape_past = λ done. run_past_stop s.limit s.resumes paper_room first (stopped_is _ done);
     }

@@ -27,12 +27,12 @@ module _ (limit resumes room : ℕ) (limit_too resumes_too room_too : ℕ) (s : 
   abbrev pub after : ℕ
   after = run_orders limit_too resumes_too room_too s
 
-  -- where the one hasn't ended the other hasn't either
+  -- as long as the one hasn't ended, the other hasn't either
   abbrev pub GoesOnToo : Type 0
   GoesOnToo = (j : ℕ) → j < before → end_at limit resumes room j (progress j s) ≡ None
       → end_at limit_too resumes_too room_too j (progress j s) ≡ None
 
-  -- and where it ends the other does
+  -- and if it ends after these orders, the other does
   abbrev pub EndsToo : Type 0
   EndsToo = (e : Ending) → (run_end limit resumes room s).ending ≡ e
       → end_at limit resumes room before (progress before s) ≡ Some e
@@ -53,7 +53,8 @@ module _ (limit resumes room : ℕ) (limit_too resumes_too room_too : ℕ) (s : 
         let rest = progress (after - before) (state_after before s) in
         let whole : before + (after - before) ≡ after = omega (arith, no_sooner) in (
           rest.codes,
-          ap (λ n. (progress n s).codes) (sym whole) ∙ ap (λ (p : Progress). p.codes) (past_sum before (after - before) s),
+          ap (λ n. (progress n s).codes) (sym whole)
+              ∙ ap (λ (p : Progress). p.codes) (past_sum before (after - before) s),
         )
 
     pub record SameRun : Type 0 where
@@ -120,7 +121,8 @@ module _ (limit resumes more room : ℕ) (s : State) (few : resumes ≤ more) wh
   pub resumed_later : run_orders limit resumes room s ≤ run_orders limit more room s
   resumed_later = no_sooner limit resumes room limit more room s goes_on
 
-  pub resumed_same : (run_end limit resumes room s).ending ≢ Stopped → SameRun limit resumes room limit more room s goes_on
+  pub resumed_same : (run_end limit resumes room s).ending ≢ Stopped
+      → SameRun limit resumes room limit more room s goes_on
   resumed_same other = same_run limit resumes room limit more room s goes_on (ends_so other)
 
 -- ---- a trace with a greater limit: no paper is full

@@ -23,14 +23,18 @@ use Rattle.ed_answers.specs.Refusals.{IsAcceptedAs}
 use Rattle.ed_answers.specs.Runs.{paper_room, status_of}
 use Rattle.ed_answers.specs.Sources.{run_outcome}
 
--- the checking routine is at the start of a turn, its guest's first q orders are allowed and obeyed, none of them is a
--- stop, and the next one is allowed and can't be obeyed: it is not an order, or it needs a row and there is none
+-- the first q orders of a guest are allowed and obeyed, none of them is a stop, and the next one is allowed and can't
+-- be obeyed: it is not an order, or it reads a tape with no row left
+pub record IsBlockedAt (base q : ℕ) (g : State) : Type 0 where
+  pub followed : IsFollowed base q g
+  pub no_stops : (progress q g).stops ≡ 0
+  pub allowed : IsAllowed base (state_after q g)
+  pub blocked : is_obeyed (step (state_after q g)).turn ≡ false
+
+-- the checking routine is at the start of a turn, and its guest is blocked after q orders
 pub record IsBlockedAfter (base q : ℕ) (m : State) : Type 0 where
   pub stands : HasGuest base m
-  pub followed : IsFollowed base q (guest base m)
-  pub no_stops : (progress q (guest base m)).stops ≡ 0
-  pub allowed : IsAllowed base (state_after q (guest base m))
-  pub blocked : is_obeyed (step (state_after q (guest base m))).turn ≡ false
+  pub guest_blocked : IsBlockedAt base q (guest base m)
 
 -- the codes that are printed: the checked codes of the orders, and the function of the word at which the guest is
 -- blocked
@@ -58,15 +62,15 @@ pub record EndsBlocked (base q : ℕ) (m : State) (limit resumes room : ℕ) : T
   pub run : run_end limit resumes room m
       ≡ record { ending = guest_ending q (guest base m); state = last; codes = blocked_codes q (guest base m) }
 
--- the same of `run` for a source that is entered there, without a post-mortem
-pub record RunsToBlock (base q : ℕ) (s : Settings) (lines : List Line) : Type 0 where
+-- the same of `run` for a source that is entered there with a guest, without a post-mortem
+pub record RunsToBlock (base q : ℕ) (g : State) (s : Settings) (lines : List Line) : Type 0 where
   pub last : State
   pub counter : last.counter ≡ base + planting_place
-  pub orders : last.orders ≡ cost lines + orders_to_block q (guest base (entry_state s.size lines))
-  pub out_is : (run_outcome s lines).out ≡ paper (blocked_codes q (guest base (entry_state s.size lines)))
+  pub orders : last.orders ≡ cost lines + orders_to_block q g
+  pub out_is : (run_outcome s lines).out ≡ paper (blocked_codes q g)
   pub note_is : (run_outcome s lines).note ≡ entry_note (entry_of lines) (cost lines)
-      ++ ending_line (guest_ending q (guest base (entry_state s.size lines))) last
-  pub status_is : (run_outcome s lines).status ≡ status_of (guest_ending q (guest base (entry_state s.size lines)))
+      ++ ending_line (guest_ending q g) last
+  pub status_is : (run_outcome s lines).status ≡ status_of (guest_ending q g)
 
 -- the same for every machine with such a guest, and every source that is accepted and entered there
 pub record EachGuestIsBlocked : Type 0 where
@@ -77,4 +81,4 @@ pub record EachGuestIsBlocked : Type 0 where
       → IsAcceptedAs s.size source lines → IsBlockedAfter base q (entry_state s.size lines)
       → cost lines + orders_to_block q (guest base (entry_state s.size lines)) < s.limit
       → length (blocked_codes q (guest base (entry_state s.size lines))) ≤ paper_room → s.post_mortem ≡ None
-      → RunsToBlock base q s lines
+      → RunsToBlock base q (guest base (entry_state s.size lines)) s lines

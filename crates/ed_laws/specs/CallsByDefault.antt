@@ -9,7 +9,8 @@ use Rattle.ed_link.specs.Tapes.{cost}
 use Rattle.ed_answers.specs.Answer.{IsDue}
 use Rattle.ed_answers.specs.Refusals.{IsAcceptedAs}
 use Rattle.ed_sources.specs.CallSources.{call_text}
-use Rattle.ed_sources.specs.CallRuns.{call_orders, call_outcome, most_call_orders}
+use Rattle.ed_sources.specs.Costs.{call_cost}
+use Rattle.ed_sources.specs.CallRuns.{EachMostIsTaken, call_orders, call_outcome, most_call_orders}
 use Rattle.ed_command.specs.Settings.{options_by, settings_of}
 use Rattle.ed_top.specs.Calls.{call_answer}
 
@@ -21,10 +22,12 @@ usual_settings = record { limit = 10000000; resumes = 0; size = Full; post_morte
 pub record CallEnds (call : Call) : Type 0 where
   pub lines : List Line
   pub accepted : IsAcceptedAs Full (call_text call) lines
-  pub few : cost lines + call_orders call ≤ most_call_orders
+  pub costs : cost lines ≡ call_cost call
+  pub few : cost lines + call_orders call ≤ most_call_orders call
   pub due : IsDue (call_answer call usual_settings) [] (call_outcome Full lines call)
 
--- the same for each call with its numbers in range
+-- the same for each call with its numbers in range; and a call of each routine takes the greatest number of orders
 pub record CallsByDefault : Type 0 where
   pub usual : settings_of (options_by (λ name. [])) ≡ Some usual_settings
   pub each : (call : Call) → IsCallInRange call → CallEnds call
+  pub most : EachMostIsTaken

@@ -1,5 +1,5 @@
 -- What holds of every tape with a fault: up to the row that `check-tape` reports the machine reads what was meant, and
--- where the rows end too early `tape` ends (this project's own rules).
+-- if the rows end too early `tape` ends (this project's own rules).
 use Rattle.std.specs.Prelude.{◌≡◌, ℕ, ◌+◌, ◌<◌, ◌++◌, List, codes}
 use Rattle.ed_words.specs.Texts.{Text}
 use Rattle.ed_store.specs.Cells.{cleared_cells}
@@ -12,19 +12,17 @@ use Rattle.ed_notation.specs.Faults.{IsFault, IsRead}
 use Rattle.ed_notation.specs.Beginnings.{state_before, orders_before}
 use Rattle.ed_initial.specs.Entry.{first_state}
 use Rattle.ed_initial.specs.Waits.{AwaitsRow, waiting_place}
-use Rattle.ed_report.specs.Notes.{at_after, rule_line}
-use Rattle.ed_answers.specs.Outcome.{Outcome, line, refusal}
+use Rattle.ed_report.specs.Notes.{rule_line}
+use Rattle.ed_answers.specs.FirstFaults.{silent_outcome}
+use Rattle.ed_answers.specs.Outcome.{Outcome, refusal}
 use Rattle.ed_answers.specs.Runs.{post_mortem_codes}
 use Rattle.ed_answers.specs.Tapes.{IsChecked, first_note, tape_outcome}
 use Rattle.ed_top.specs.Parts.{IsInParts}
 
--- a run of a tape that ends after k orders at a location and has printed nothing: the post-mortem alone, the note
--- `NAME at C after K`, and the status
+-- a run of a tape that ends after k orders at a location and has printed nothing, with its post-mortem
 abbrev pub quiet_outcome : Settings → List ℕ → Text → ℕ → ℕ → ℕ → Outcome
-quiet_outcome s rows name place k status = record {
+quiet_outcome s rows name place k status = record (silent_outcome name place k status) {
   out = paper (post_mortem_codes s.post_mortem (state_after k (first_state s.size rows)));
-  note = line (at_after name place k);
-  status = status;
 }
 
 -- the fault of a tape is at a row: `check-tape` reports the row. After the orders that read the rows before it the

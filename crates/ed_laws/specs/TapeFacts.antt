@@ -34,15 +34,15 @@ pub record BeginsAtPlace (tape : List ℕ) : Type 0 where
   pub fits : digits_number 0 digits ≤ 1023
   pub rows_are : tape ≡ 5 ∷ digits ++ (14 ∷ 27 ∷ 14 ∷ rest)
 
--- the same entry, so many orders and m + 2 rows later
+-- the same entry, m + 2 rows and the orders that read them later
 abbrev pub entry_later : ℕ → TapeEntry → TapeEntry
 entry_later m e = record e { cost = e.cost + blank_cost m; rows = e.rows + (m + 2) }
 
--- the same end of a run, so many orders later
+-- the same end of a run, k orders later
 abbrev pub end_later : ℕ → RunEnd → RunEnd
 end_later k r = record r { state = record r.state { orders = r.state.orders + k } }
 
--- the tape behind blank tape reaches the same entry later. With a limit that is as much greater its run ends in the
+-- the tape after blank tape reaches the same entry later. With a limit that is as much greater its run ends in the
 -- same way, prints the same, and leaves the same state, with the greater count of orders.
 pub record BlankTapeIsPassed (s : Settings) (tape : List ℕ) (e : TapeEntry) (m : ℕ) : Type 0 where
   pub well : WellFormed s.size cleared_cells.words first_note (blank_tape m ++ tape)
@@ -53,9 +53,9 @@ pub record BlankTapeIsPassed (s : Settings) (tape : List ℕ) (e : TapeEntry) (m
 -- ---- the law
 
 -- all that holds of the notation
-pub record EachTapeIsSo : Type 0 where
+pub record NotationFacts : Type 0 where
   -- blank tape of any length may come before a well-formed tape that begins with T n K G K
-  pub behind_blanks : (s : Settings) (tape : List ℕ) (e : TapeEntry) (m : ℕ)
+  pub after_blanks : (s : Settings) (tape : List ℕ) (e : TapeEntry) (m : ℕ)
       → WellFormed s.size cleared_cells.words first_note tape → ComesTo cleared_cells.words first_note 9 tape e
       → BeginsAtPlace tape → BlankTapeIsPassed s tape e m
   -- no tape is without a fault for both loaders

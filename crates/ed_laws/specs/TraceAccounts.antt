@@ -29,7 +29,7 @@ abbrev pub stops_in : Text → ℕ
 stops_in letters = length (filter (λ byte. byte == 90) letters)
 
 -- the counter is one past the location of an order Z
-pub record IsBehindStop (s : State) : Type 0 where
+pub record IsPastStop (s : State) : Type 0 where
   pub at : ℕ
   pub next : s.counter ≡ within s.size (at + 1)
   pub stop : kind_of_function (function_of (short_at s.store at)) ≡ Some Z
@@ -40,8 +40,8 @@ pub record TraceAccounts (s : Settings) (rows : List ℕ) : Type 0 where
   pub orders : length (letters_traced s rows) ≡ (traced_run s rows).state.orders
   pub stops : (trace_outcome s rows).status ≡ 0 ↔ stops_in (letters_traced s rows) ≡ s.resumes + 1
   pub last : (trace_outcome s rows).status ≡ 0 → (before : Text) × (letters_traced s rows ≡ before ++ 90 ∷ [])
-  pub behind : (trace_outcome s rows).status ≡ 0 → IsBehindStop (traced_run s rows).state
-  pub tape_behind : (tape_outcome s rows).status ≡ 0 → IsBehindStop (run_of s rows).state
+  pub past : (trace_outcome s rows).status ≡ 0 → IsPastStop (traced_run s rows).state
+  pub tape_past : (tape_outcome s rows).status ≡ 0 → IsPastStop (run_of s rows).state
 
 -- the same for every tape
 abbrev pub EachTraceAccounts : Type 0

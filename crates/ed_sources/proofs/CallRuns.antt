@@ -4,7 +4,6 @@ use Rattle.std.proofs.Common.{arith, lit<, lit≤, List, [], ◌∷◌, ◌++◌
 use Rattle.std.proofs.Common.{length, length-append}
 use Rattle.std.specs.Prelude.{None, Ok, codes as codes_of_text}
 use Rattle.ed_words.proofs.SizeLemmas.{least}
-use Rattle.ed_library.specs.CallRanges.{IsCallInRange}
 use Rattle.ed_library.specs.declared.call.Call.{Call}
 use Rattle.ed_library.specs.declared.call.Call.TheVariants.{Print, Read, NewLine, Divide, Root, Check}
 use Rattle.ed_sources.specs.CallSources.{call_text}
@@ -18,44 +17,29 @@ use Rattle.ed_sources.proofs.Faultless.{read_faultless, root_faultless, check_fa
 use Rattle.ed_sources.proofs.Papers.{digits_printed, lines_printed}
 use Rattle.ed_sources.proofs.DivideAndPrint.{call_ends, quotient_low, remainder_low}
 use Rattle.ed_sources.proofs.RootAndPrint.{root_ends, root_small}
-use Rattle.ed_sources.proofs.CheckedPaper.{check_ends, few_orders, room_for_codes}
+use Rattle.ed_sources.proofs.CallCosts.{check_cost, divide_cost, newline_cost, print_cost, read_cost, root_cost}
+use Rattle.ed_sources.proofs.CheckedPaper.{check_ends, room_for_codes}
 use Rattle.ed_sources.proofs.CheckedPrint.{guest_stops}
+use Rattle.ed_sources.proofs.MostOrders.{most_orders}
 use Rattle.ed_sources.proofs.PrintAndNewline.{newline_ends, print_ends}
 use Rattle.ed_sources.proofs.ReadAndPrint.{read_ends}
 use Rattle.ed_sources.proofs.Stops.{StopsAt, comes_to_stop}
 use Rattle.ed_maths.specs.Roots.{root_of}
-use Rattle.ed_maths.proofs.Greatest.{root_is}
-use Rattle.ed_maths.proofs.RootCall.{few as below_256}
 use Rattle.ed_routines.specs.Digits.{digits}
 use Rattle.ed_routines.proofs.Digits.{few_digits}
 use Rattle.ed_printer.specs.Paper.{paper}
 use Rattle.ed_link.specs.Linked.{entry_of}
-use Rattle.ed_link.specs.Punch.{punched_items}
 use Rattle.ed_link.specs.Tapes.{cost}
-use Rattle.ed_link.proofs.Bounds.{rows_few}
 use Rattle.ed_answers.specs.EntryState.{entry_state}
 use Rattle.ed_report.specs.Notes.{at_after, entry_note}
 use Rattle.ed_run.specs.declared.settings.Settings.{Settings}
-use Rattle.ed_sources.specs.CallRuns.{CallRuns, EachCallRuns, GuestStops, call_entry, call_orders, call_prints, call_stop}
+use Rattle.ed_sources.specs.CallRuns.{CallRuns, EachCallRuns, GuestStops, call_entry, call_orders, call_prints}
+use Rattle.ed_sources.specs.CallRuns.{call_stop, most_call_orders}
+use Rattle.ed_sources.specs.Costs.{call_cost}
 use Rattle.ed_answers.specs.FromEntry.{AnswersFromEntry}
 use Rattle.ed_answers.specs.Sources.{run_outcome}
 use Rattle.ed_answers.proofs.Sources.{accepted_is, each_answer_is_from_entry}
 use Rattle.ed_sources.proofs.Stopped.{stopped_outcome}
-
--- the number of orders of a call from its entry
-orders_few : (call : Call) → IsCallInRange call → call_orders call ≤ 14000
-orders_few (Print n) small = let few = few_orders n small in omega arith
-orders_few (Read n) small = let few = few_orders n small in let long = few_digits n in omega arith
-orders_few NewLine made = lit≤ tt
-orders_few (Divide n by) made =
-    let first = few_orders (n / by) (quotient_low n by made.positive made.less) in
-    let second = few_orders (n % by) (remainder_low n by made.positive made.divisor) in
-    omega arith
-orders_few (Root n) small =
-    let low = below_256 n (root_of n) (root_is n) small in
-    let few = few_orders (root_of n) (root_small n small) in
-    omega arith
-orders_few (Check n) small = let few = few_orders n small in omega arith
 
 -- a call whose source is accepted, and which reaches its stop after its codes
 runs : (s : Settings) (call : Call) {lines : List Line} {k place : ℕ} {codes : List ℕ}
@@ -63,8 +47,9 @@ runs : (s : Settings) (call : Call) {lines : List Line} {k place : ℕ} {codes :
     → StopsAt k (entry_state s.size lines) codes place → length codes ≤ 1000000
     → (entry_of lines ≡ call_entry call) × (k + 1 ≡ call_orders call) × (place + 1 ≡ call_stop call) → place < 511
     → paper codes ≡ call_prints s.size lines call → GuestStops s.size lines call
-    → (length (punched_items lines) ≤ 190) × (call_orders call ≤ 14000) → CallRuns s call (call_text call)
-runs s call {lines} {k} {place} {codes} reads faultless stops few are low text guest short =
+    → (cost lines ≡ call_cost call) × (call_cost call + call_orders call ≤ most_call_orders call)
+    → CallRuns s call (call_text call)
+runs s call {lines} {k} {place} {codes} reads faultless stops few are low text guest costs =
     let accepted = read_is_accepted s.size (call_text call) lines reads faultless in
     let entry : AnswersFromEntry s lines = each_answer_is_from_entry s (call_text call) lines accepted in
     let count = are.1 in
@@ -73,10 +58,8 @@ runs s call {lines} {k} {place} {codes} reads faultless stops few are low text g
       accepted = accepted;
       answers = accepted_is s.size (run_outcome s) (call_text call) lines accepted;
       from_entry = entry;
-      few =
-          let items = short.0 in
-          let orders = short.1 in
-          omega (arith, entry.enters.cheap, rows_few (punched_items lines), items, orders);
+      costs = costs.0;
+      few = let is = costs.0 in let most = costs.1 in omega (arith, is, most);
       guest_stops = guest;
       ends = λ none plain fits.
           let size = least s.size in
@@ -93,14 +76,14 @@ pub each_call_runs : EachCallRuns
 each_call_runs (Print n) s small =
     let few = few_digits n in
     runs s (Print n) (print_read n small) (print_faultless s.size n) (print_ends s.size n small) (omega arith)
-    (refl, omega arith, refl) (lit< tt) (digits_printed n small) tt (lit≤ tt, orders_few (Print n) small)
+    (refl, omega arith, refl) (lit< tt) (digits_printed n small) tt (print_cost n, most_orders (Print n) small)
 each_call_runs (Read n) s small =
     let few = few_digits n in
     runs s (Read n) (read_read n small) (read_faultless s.size n) (read_ends s.size n small) (omega arith)
-    (refl, omega arith, refl) (lit< tt) (digits_printed n small) tt (lit≤ tt, orders_few (Read n) small)
+    (refl, omega arith, refl) (lit< tt) (digits_printed n small) tt (read_cost n, most_orders (Read n) small)
 each_call_runs NewLine s made =
     runs s NewLine newline_read (newline_faultless s.size) (newline_ends s.size) (lit≤ tt) (refl, refl, refl) (lit< tt)
-    refl tt (lit≤ tt, orders_few NewLine made)
+    refl tt (newline_cost, most_orders NewLine made)
 each_call_runs (Divide n by) s made =
     let few = few_digits (n / by) in
     let behind = few_digits (n % by) in
@@ -111,13 +94,13 @@ each_call_runs (Divide n by) s made =
     runs s (Divide n by) (divide_read n by made) (divide_faultless s.size (n / 65536) (n % 65536) by)
     (call_ends s.size n by made) (omega arith) (refl, omega arith, refl) (lit< tt)
     (lines_printed (n / by) (n % by) (quotient_low n by positive less) (remainder_low n by positive divisor)) tt
-    (lit≤ tt, orders_few (Divide n by) made)
+    (divide_cost (n / 65536) (n % 65536) by, most_orders (Divide n by) made)
 each_call_runs (Root n) s small =
     let few = few_digits (root_of n) in
     runs s (Root n) (root_read n small) (root_faultless s.size n) (root_ends s.size n small) (omega arith)
     (refl, omega arith, refl) (lit< tt) (digits_printed (root_of n) (root_small n small)) tt
-    (lit≤ tt, orders_few (Root n) small)
+    (root_cost n, most_orders (Root n) small)
 each_call_runs (Check n) s small =
     runs s (Check n) (check_read n small) (check_faultless s.size n) (check_ends s.size n small)
     (room_for_codes n _ small) (refl, omega arith, refl) (lit< tt) refl (guest_stops s.size n small)
-    (lit≤ tt, orders_few (Check n) small)
+    (check_cost n, most_orders (Check n) small)

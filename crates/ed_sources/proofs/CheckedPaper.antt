@@ -1,7 +1,7 @@
 -- What the guest of `call check N` prints has room on the paper, and the machine's orders lead to its stop.
-use Rattle.std.proofs.Common.{ℕ, zero, suc, ◌+◌, ◌*◌, ◌/◌, ◌%◌}
+use Rattle.std.proofs.Common.{ℕ, zero, suc, ◌+◌, ◌*◌}
 use Rattle.std.proofs.Common.{◌<◌, ◌≤◌, ap, subst, arith}
-use Rattle.std.proofs.Common.{List, [], ◌∷◌, length, length-append}
+use Rattle.std.proofs.Common.{◌∷◌, length, length-append}
 use Rattle.ed_words.specs.declared.size.Size.{Size}
 use Rattle.ed_words.specs.Words.{function_of}
 use Rattle.ed_machine.specs.State.{State}
@@ -9,11 +9,12 @@ use Rattle.ed_machine.specs.OrderTable.{next_word, step}
 use Rattle.ed_machine.specs.Steps.{Progress, codes_of, state_after}
 use Rattle.ed_answers.specs.EntryState.{entry_state}
 use Rattle.ed_machine.proofs.Kit.Leads.{all_go}
-use Rattle.ed_routines.specs.Digits.{before_units, print_orders, sum, without_zeros}
+use Rattle.ed_routines.specs.Digits.{before_units, print_orders, sum}
 use Rattle.ed_checker.specs.Checker.{checked_codes, guest, planting_place}
 use Rattle.ed_checker.specs.Laws.{ChecksToStop}
 use Rattle.ed_checker.proofs.Whole.{few_codes}
 use Rattle.ed_sources.proofs.CheckedPrint.{checks_print, count_is}
+use Rattle.ed_sources.proofs.PrintOrders.{print_few}
 use Rattle.ed_sources.proofs.Said.{check_lines}
 use Rattle.ed_sources.proofs.Stops.{StopsAt}
 
@@ -28,26 +29,8 @@ two_each (suc q) g =
     (function_of (next_word (state_after q g)) ∷ codes_of (step (state_after q g)).turn) in
     omega (arith, before, one, all)
 
--- `print` takes few orders
-less_sum : (ds : List ℕ) → sum (without_zeros ds) ≤ sum ds
-less_sum [] = omega arith
-less_sum (zero ∷ ds) = omega (arith, less_sum ds)
-less_sum (suc d ∷ ds) = omega arith
-
-less_long : (ds : List ℕ) → length (without_zeros ds) ≤ length ds
-less_long [] = omega arith
-less_long (zero ∷ ds) = omega (arith, less_long ds)
-less_long (suc d ∷ ds) = omega arith
-
-pub few_orders : (n : ℕ) → n < 65536 → print_orders n ≤ 400
-few_orders n small =
-    let ds : List ℕ = n / 10000 ∷ n / 1000 % 10 ∷ n / 100 % 10 ∷ n / 10 % 10 ∷ [] in
-    let a = less_sum ds in
-    let b = less_long ds in
-    omega (arith, a, b)
-
 pub room_for_codes : (n : ℕ) (g : State) → n < 65536 → length (checked_codes g (3 + print_orders n)) ≤ 1000000
-room_for_codes n g small = let two = two_each (3 + print_orders n) g in let few = few_orders n small in omega arith
+room_for_codes n g small = let two = two_each (3 + print_orders n) g in let few = print_few n small in omega arith
 
 -- the machine stops at the end of the guest
 pub checks_to_stop : (base q : ℕ) (m : State) (c : ChecksToStop base q m)

@@ -1,72 +1,149 @@
--- The tape of `demo` is short: reading it takes few orders.
-use Rattle.std.proofs.Common.{◌≡◌, ◌∙◌, ℕ, zero, suc, ◌+◌, ◌*◌, ◌≤◌, Bool, true, false, List, [], ◌∷◌, ◌++◌}
-use Rattle.std.proofs.Common.{refl, ap, arith, lit≤, length, length-append, codes, nat_eq, take}
+-- What reading the tape of `demo` costs: its program, the heads of its segments, and its words.
+use Rattle.std.proofs.Common.{◌≡◌, ◌∙◌, ℕ, zero, suc, ◌+◌, ◌*◌, ◌<◌, ◌≤◌, Bool, false, List, [], ◌∷◌, ◌++◌, refl}
+use Rattle.std.proofs.Common.{ap, arith, codes, drop, nat_eq, nat_le, take}
+use Rattle.std.specs.Prelude.{◌||◌, if◌then◌else◌, nat_lt, Option, Some, None, unwrap_or}
+use Rattle.std.specs.List.{sum_by}
+use Rattle.std.proofs.lemmas.List.Sums.{sum_by-append, sum_by-cons}
+use Rattle.ed_words.proofs.Numbers.{eq_false, eq_true, le_of, lt_false}
 use Rattle.ed_notation.specs.declared.item.Item.{Item}
 use Rattle.ed_syntax.specs.declared.program.Line.{Line}
 use Rattle.ed_symbols.specs.declared.symbols.Definition.{Definition}
+use Rattle.ed_symbols.specs.Names.{place_on}
 use Rattle.ed_link.specs.Linked.{symbols_of}
-use Rattle.ed_link.specs.Punch.{heads, punched_items, punched_from, word_item}
-use Rattle.ed_link.specs.Tapes.{punched_rows}
-use Rattle.ed_link.proofs.Bounds.{rows_few}
-use Rattle.ed_sources.specs.DemoSources.{next, number_after, number_word}
+use Rattle.ed_link.specs.Punch.{head, heads, item_with, punched_from, punched_items, word_item}
+use Rattle.ed_link.specs.Tapes.{cost, item_cost}
 use Rattle.ed_link.proofs.Extents.{counter}
+use Rattle.ed_sources.specs.Costs.{demo_cost, heads_cost, word_cost}
+use Rattle.ed_sources.specs.DemoRuns.{LastDemoIsLongest, demo_orders, most_demo_orders}
+use Rattle.ed_sources.specs.DemoSources.{next, number_after, number_word, words_after}
+use Rattle.ed_sources.proofs.Decimals.{among}
 use Rattle.ed_sources.proofs.DemoFaultless.{lines_behind, lines_with}
+use Rattle.ed_sources.proofs.DemoPlaced.{more_words}
 use Rattle.ed_sources.proofs.SaidDemo.{enter_line, segment_forms, word_forms}
+use Rattle.ed_sources.proofs.WordCosts.{cost_around}
 
--- a word has an item of its own, and two before it if it is the first of its segment
-one_word : (first : Bool) (base : ℕ) → length (heads first base) ≤ 2
-one_word true base = lit≤ tt
-one_word false base = lit≤ tt
+-- the item of a word, with those before it if it is the first of its segment, and with others after it
+one_word : (first : Bool) (base w : ℕ) (others : List Item)
+    → sum_by item_cost ((heads first base ++ word_item w ∷ []) ++ others)
+    ≡ sum_by item_cost (heads first base) + word_cost w + sum_by item_cost others
+one_word first base w others =
+    let all = sum_by-append item_cost (heads first base ++ word_item w ∷ []) others in
+    let own = cost_around (heads first base) (word_item w) [] in
+    omega (arith, all, own)
 
-words_few : (symbols : List Definition) (n l x p b g : ℕ) (rest : List Line) (k : ℕ)
-    → ((q : ℕ) → length (punched_from symbols (counter q b g) rest) ≤ k)
-    → length (punched_from symbols (counter p b g) (word_forms n l x ++ rest)) ≤ 3 * n + k
-words_few symbols zero l x p b g rest k tail = let few = tail p in omega (arith, few)
-words_few symbols (suc n) l x p b g rest k tail =
-    let few = words_few symbols n (l + 1) (next x) (p + 1) b g rest k tail in
-    let first = one_word (nat_eq p b) b in
-    let item : Item = word_item (number_word (next x)) in
-    let others : List Item = punched_from symbols (counter (p + 1) b g) (word_forms n (l + 1) (next x) ++ rest) in
-    let own = length-append (heads (nat_eq p b) b) (item ∷ []) in
-    let all = length-append (heads (nat_eq p b) b ++ item ∷ []) others in
-    omega (arith, few, first, own, all)
+module _ (symbols : List Definition) where
+  -- words after the first of their segment
+  words_cost : (n l x p b g : ℕ) (rest : List Line) (k : ℕ) → b < p
+      → ((q : ℕ) → q ≡ p + n → sum_by item_cost (punched_from symbols (counter q b g) rest) ≡ k)
+      → sum_by item_cost (punched_from symbols (counter p b g) (word_forms n l x ++ rest))
+      ≡ sum_by word_cost (words_after n x) + k
+  words_cost zero l x p b g rest k later tail = let e = tail p (omega arith) in e ∙ omega arith
+  words_cost (suc n) l x p b g rest k later tail =
+      let other = eq_false p b (omega arith) in
+      let none = ap (λ t. sum_by item_cost (heads t b)) other in
+      let more =
+      words_cost n (l + 1) (next x) (p + 1) b g rest k (omega arith) (λ q at. tail q (omega (arith, at))) in
+      let words = sum_by-cons word_cost (number_word (next x)) (words_after n (next x)) in
+      one_word (nat_eq p b) b (number_word (next x))
+      (punched_from symbols (counter (p + 1) b g) (word_forms n (l + 1) (next x) ++ rest))
+      ∙ omega (arith, none, more, words)
 
-segments_few : (symbols : List Definition) (n k l x m p b g : ℕ)
-    → length (punched_from symbols (counter p b g) (segment_forms n k l x ++ enter_line m ∷ [])) ≤ 24 * n + 2
-segments_few symbols zero k l x m p b g = lit≤ tt
-segments_few symbols (suc n) k l x m p b g =
-    let few =
-    words_few symbols 8 (l + 1) x p p (g + 1) (segment_forms n (k + 1) (l + 9) (number_after 8 x) ++ enter_line m ∷ [])
-    (24 * n + 2) (λ q. segments_few symbols n (k + 1) (l + 9) (number_after 8 x) m q p (g + 1)) in
-    omega (arith, few)
+  -- the words of a segment, with its head
+  segment_cost : (n l x p g : ℕ) (rest : List Line) (k : ℕ)
+      → ((q : ℕ) → q ≡ p + suc n → sum_by item_cost (punched_from symbols (counter q p g) rest) ≡ k)
+      → sum_by item_cost (punched_from symbols (counter p p g) (word_forms (suc n) l x ++ rest))
+      ≡ sum_by item_cost (head p) + sum_by word_cost (words_after (suc n) x) + k
+  segment_cost n l x p g rest k tail =
+      let first = eq_true p p refl in
+      let begun = ap (λ t. sum_by item_cost (heads t p)) first in
+      let more =
+      words_cost n (l + 1) (next x) (p + 1) p g rest k (omega arith) (λ q at. tail q (omega (arith, at))) in
+      let words = sum_by-cons word_cost (number_word (next x)) (words_after n (next x)) in
+      one_word (nat_eq p p) p (number_word (next x))
+      (punched_from symbols (counter (p + 1) p g) (word_forms n (l + 1) (next x) ++ rest))
+      ∙ omega (arith, begun, more, words)
+
+  -- a segment of 8 words before n others
+  segment_before : (n l x p g : ℕ) (rest : List Line)
+      → ((q : ℕ) → sum_by item_cost (punched_from symbols (counter q p g) rest)
+      ≡ heads_cost n q + sum_by word_cost (words_after (8 * n) (number_after 8 x)) + 63)
+      → sum_by item_cost (punched_from symbols (counter p p g) (word_forms 8 l x ++ rest))
+      ≡ heads_cost (suc n) p + sum_by word_cost (words_after (8 * suc n) x) + 63
+  segment_before n l x p g rest tail =
+      let e : 8 * suc n ≡ 8 + 8 * n = omega arith in
+      let others : ℕ = sum_by word_cost (words_after (8 * n) (number_after 8 x)) in
+      let words = ap (λ j. sum_by word_cost (words_after j x)) e
+      ∙ ap (λ (ws : List ℕ). sum_by word_cost ws) (more_words 8 (8 * n) x)
+      ∙ sum_by-append word_cost (words_after 8 x) (words_after (8 * n) (number_after 8 x)) in
+      segment_cost 7 l x p g rest (heads_cost n (p + 8) + others + 63)
+      (λ q at. tail q ∙ ap (λ j. heads_cost n j + others + 63) at)
+      ∙ omega (arith, words)
+
+  -- n segments and the line that enters
+  segments_cost : place_on symbols None (codes "main") ≡ Some 56 → (n k l x m p b g : ℕ)
+      → sum_by item_cost (punched_from symbols (counter p b g) (segment_forms n k l x ++ enter_line m ∷ []))
+      ≡ heads_cost n p + sum_by word_cost (words_after (8 * n) x) + 63
+  segments_cost main zero k l x m p b g =
+      ap (λ (place : Option ℕ).
+      sum_by item_cost (item_with 3 (unwrap_or place 0) false 14 ∷ item_with 0 0 false 17 ∷ [])) main
+  segments_cost main (suc n) k l x m p b g =
+      segment_before n (l + 1) x p (g + 1) (segment_forms n (k + 1) (l + 9) (number_after 8 x) ++ enter_line m ∷ [])
+      (λ q. segments_cost main n (k + 1) (l + 9) (number_after 8 x) m q p (g + 1))
 
 -- with n segments after the first
 module _ (words n x l : ℕ) where
   abbrev lines : List Line
   lines = lines_with (codes "s1") words n x l
 
-  -- the items of the program and of `print`
-  abbrev front : List Item
-  front = take 73 (punched_items lines)
+  -- the items of the program and of `print`: those before the order at `stop`, that order, and those after it
+  abbrev before : List Item
+  before = take 15 (punched_items lines)
+
+  abbrev number : ℕ
+  number = if nat_lt (123 + words) 0 || nat_lt 32767 (123 + words) then 0 else 123 + words
+
+  abbrev at_stop : Item
+  at_stop = item_with 28 number false 17
+
+  number_is : words ≤ 900 → number ≡ 123 + words
+  number_is few =
+      let low : nat_lt (123 + words) 0 ≡ false = lt_false (123 + words) 0 (omega arith) in
+      let high : nat_lt 32767 (123 + words) ≡ false = lt_false 32767 (123 + words) (omega arith) in
+      rw (low, high) refl
+
+  abbrev between : List Item
+  between = drop 16 (take 73 (punched_items lines))
 
   abbrev rest : List Item
   rest = punched_from (symbols_of lines) (counter 123 123 3) (lines_behind n x l)
 
-  parts : punched_items lines ≡ front ++ rest
+  parts : punched_items lines ≡ before ++ at_stop ∷ (between ++ rest)
   parts = refl
 
-  front_long : length front ≡ 73
-  front_long = refl
+  program_cost : sum_by item_cost before + sum_by item_cost between ≡ 2659
+  program_cost = refl
 
-  rest_few : length rest ≤ 24 * suc n + 2
-  rest_few =
-      let few =
-      words_few (symbols_of lines) 8 20 x 123 123 3 (segment_forms n 2 28 (number_after 8 x) ++ enter_line l ∷ [])
-      (24 * n + 2) (λ q. segments_few (symbols_of lines) n 2 28 (number_after 8 x) l q 123 3) in
-      omega (arith, few)
+  rest_cost : sum_by item_cost rest ≡ heads_cost (suc n) 123 + sum_by word_cost (words_after (8 * suc n) x) + 63
+  rest_cost =
+      segment_before (symbols_of lines) n 20 x 123 3 (segment_forms n 2 28 (number_after 8 x) ++ enter_line l ∷ [])
+      (λ q. segments_cost (symbols_of lines) refl n 2 28 (number_after 8 x) l q 123 3)
 
-  pub few_rows : length (punched_rows lines) ≤ 192 * suc n + 600
-  few_rows =
-      let long = ap (λ (is : List Item). length is) parts ∙ length-append front rest in
-      let first = front_long in let others = rest_few in let rows = rows_few (punched_items lines) in
-      omega (arith, long, first, others, rows)
+  pub cost_is : words ≤ 900 → cost lines
+      ≡ 2727 + item_cost (item_with 28 (123 + words) false 17) + heads_cost (suc n) 123
+      + sum_by word_cost (words_after (8 * suc n) x)
+  cost_is few =
+      let all = ap (λ (is : List Item). sum_by item_cost is) parts ∙ cost_around before at_stop (between ++ rest) in
+      let behind = sum_by-append item_cost between rest in
+      let fixed = program_cost in
+      let others = rest_cost in
+      let stop = ap (λ k. item_cost (item_with 28 k false 17)) (number_is few) in
+      omega (arith, all, behind, fixed, others, stop)
+
+-- the most orders are those of the greatest number
+pub demo_few : (n : ℕ) → 1 ≤ n → n ≤ 112 → demo_cost n + demo_orders n ≤ most_demo_orders
+demo_few n some few =
+    le_of (demo_cost n + demo_orders n) most_demo_orders
+    (among (λ k. nat_le (demo_cost k + demo_orders k) most_demo_orders) 1 112 n refl some (omega arith))
+
+pub last_demo_is_longest : LastDemoIsLongest
+last_demo_is_longest = refl

@@ -8,7 +8,7 @@ use Rattle.ed_words.specs.declared.size.Size.{Size}
 use Rattle.ed_machine.specs.State.{State}
 use Rattle.ed_syntax.specs.declared.program.Line.{Line}
 use Rattle.ed_link.specs.Linked.{entry_of}
-use Rattle.ed_link.specs.Tapes.{punched_rows}
+use Rattle.ed_link.specs.Tapes.{cost}
 use Rattle.ed_answers.specs.EntryState.{entry_state}
 use Rattle.ed_machine.proofs.Kit.Frames.{state}
 use Rattle.ed_machine.proofs.Kit.Standing.{opens}
@@ -16,10 +16,11 @@ use Rattle.ed_machine.proofs.Kit.Window.{patched}
 use Rattle.ed_routines.specs.Catalogue.{print, with_h}
 use Rattle.ed_routines.specs.Digits.{digits, print_orders}
 use Rattle.ed_routines.proofs.Journeys.{ComesToStop, HasRoutine}
+use Rattle.ed_sources.specs.Costs.{demo_cost}
 use Rattle.ed_sources.specs.DemoSources.{demo_sum, demo_words}
 use Rattle.ed_sources.proofs.AtEntry.{all_words}
 use Rattle.ed_sources.proofs.Decimals.{decimal_is}
-use Rattle.ed_sources.proofs.DemoCost.{few_rows}
+use Rattle.ed_sources.proofs.DemoCost.{cost_is}
 use Rattle.ed_sources.proofs.DemoFaultless.{lines_with}
 use Rattle.ed_sources.proofs.DemoLoop.{Fine, Given, Turning, at, cells, demo_stops, taking}
 use Rattle.ed_sources.proofs.DemoPlaced.{early_word, entry_is, front, long, print_image, small_sum, stop_word}
@@ -134,10 +135,9 @@ demo_ends z (suc n) some few fits =
     (subst (λ (ls : List Line). ComesToStop (9 * (8 * suc n) + (3 + print_orders (demo_sum (suc n)))) (entry_state z ls)
     (11 ∷ digits (demo_sum (suc n))) 69) (named_one n) (ends_so z n (omega arith) fits))
 
--- its tape is short, and so are its orders
-pub demo_rows : (n : ℕ) → 1 ≤ n → n ≤ 112 → length (punched_rows (demo_lines n)) ≤ 22104
-demo_rows zero some few = absurd (omega arith)
-demo_rows (suc n) some few =
-    let short : length (punched_rows (lines_with (codes "s1") (8 * suc n) n (suc n) (19 + 9 * suc n))) ≤ 22104 =
-    omega (arith, few_rows (8 * suc n) n (suc n) (19 + 9 * suc n)) in
-    subst (λ (ls : List Line). length (punched_rows ls) ≤ 22104) (named_one n) short
+-- what its tape costs
+pub demo_cost_is : (n : ℕ) → 1 ≤ n → n ≤ 112 → cost (demo_lines n) ≡ demo_cost n
+demo_cost_is zero some few = absurd (omega arith)
+demo_cost_is (suc n) some few =
+    subst (λ (ls : List Line). cost ls ≡ demo_cost (suc n)) (named_one n)
+    (cost_is (8 * suc n) n (suc n) (19 + 9 * suc n) (omega (arith, few)))

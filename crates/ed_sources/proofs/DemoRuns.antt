@@ -8,9 +8,9 @@ use Rattle.ed_report.specs.Notes.{at_after, entry_note}
 use Rattle.ed_routines.specs.Digits.{print_orders}
 use Rattle.ed_routines.proofs.Digits.{few_digits}
 use Rattle.ed_sources.specs.DemoSources.{demo_sum, demo_text}
-use Rattle.ed_sources.proofs.CheckedPaper.{few_orders}
 use Rattle.ed_sources.proofs.DemoAccepted.{demo_read}
-use Rattle.ed_sources.proofs.DemoEnds.{demo_ends, demo_entry, demo_rows, sum_small}
+use Rattle.ed_sources.proofs.DemoCost.{demo_few}
+use Rattle.ed_sources.proofs.DemoEnds.{demo_cost_is, demo_ends, demo_entry, sum_small}
 use Rattle.ed_sources.proofs.DemoFaultless.{demo_faultless}
 use Rattle.ed_sources.proofs.Papers.{digits_printed}
 use Rattle.ed_sources.proofs.SaidDemo.{demo_lines}
@@ -38,10 +38,6 @@ same_outcome o text other entry at k orders more is printed place count =
 counted : (k n p : ℕ) → k + (72 * n + 3 + p + 1) ≡ k + (9 * (8 * n) + p + 4)
 counted k n p = omega arith
 
-few_enough : (k rows n p : ℕ) → k ≤ 17 * rows + 9 → rows ≤ 22104 → p ≤ 400 → n ≤ 112
-    → k + (9 * (8 * n) + p + 4) ≤ 400000
-few_enough k rows n p most few_rows few_print few = omega arith
-
 pub each_demo_runs : EachDemoRuns
 each_demo_runs n some few s fits =
     let lines : List Line = demo_lines n in
@@ -61,7 +57,6 @@ each_demo_runs n some few s fits =
           let ends = stopped_outcome s entry (demo_ends s.size n some few fits) (omega (arith, digit_count)) none plain
           (subst (λ (k : ℕ). k ≤ s.limit) (sym count) enough) in
           same_outcome (run_outcome s lines) _ _ _ _ (cost lines) _ _ ends printed at count;
-      cheap =
-          few_enough (cost lines) _ n (print_orders (demo_sum n)) entry.enters.cheap (demo_rows n some few)
-          (few_orders (demo_sum n) (sum_small n few)) few;
+      costs = demo_cost_is n some few;
+      cheap = let is = demo_cost_is n some few in let most = demo_few n some few in omega (arith, is, most);
     }

@@ -19,16 +19,20 @@ pub mod Entries
 pub mod Blocks
 mod DemoLoop
 mod DemoPlaced
-mod DemoCost
+mod WordCosts
+pub mod DemoCost
 pub mod DemoEnds
 mod CalledMaths
 mod Along
 pub mod PrintAndNewline
 pub mod CheckedPrint
+pub mod PrintOrders
 pub mod CheckedPaper
 pub mod ReadAndPrint
 pub mod DivideAndPrint
 pub mod RootAndPrint
+mod CallCosts
+pub mod MostOrders
 pub mod Papers
 pub mod Stopped
 pub mod CallRuns

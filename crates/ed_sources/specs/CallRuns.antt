@@ -17,6 +17,7 @@ use Rattle.ed_checker.specs.Laws.{StopsAfter}
 use Rattle.ed_words.specs.declared.size.Size.{Size}
 use Rattle.ed_library.specs.CallRanges.{IsCallInRange}
 use Rattle.ed_sources.specs.CallSources.{call_text}
+use Rattle.ed_sources.specs.Costs.{call_cost}
 use Rattle.ed_words.specs.Texts.{Text}
 use Rattle.ed_run.specs.declared.settings.Settings.{Settings}
 use Rattle.ed_answers.specs.Outcome.{Outcome}
@@ -71,9 +72,27 @@ call_outcome z lines call = record {
   status = 0;
 }
 
--- no call takes more orders than this, including those that read its tape
-abbrev pub most_call_orders : ℕ
-most_call_orders = 40000
+-- the greatest number of orders that a call of its routine takes, including those that read its tape
+abbrev pub most_call_orders : Call → ℕ
+most_call_orders (Print n) = 2701
+most_call_orders (Read n) = 3799
+most_call_orders NewLine = 484
+most_call_orders (Divide n by) = 7635
+most_call_orders (Root n) = 5659
+most_call_orders (Check n) = 15779
+
+-- a call has its numbers in range and takes the greatest number of orders
+abbrev pub IsLongest : Call → Type 0
+IsLongest call = IsCallInRange call × (call_cost call + call_orders call ≡ most_call_orders call)
+
+-- a call of each routine does so
+pub record EachMostIsTaken : Type 0 where
+  pub print : IsLongest (Print 59990)
+  pub read : IsLongest (Read 59990)
+  pub newline : IsLongest NewLine
+  pub divide : IsLongest (Divide 1865781190 31100)
+  pub root : IsLongest (Root 65535)
+  pub check : IsLongest (Check 59990)
 
 -- the guest of `check` is obeyed up to its first Z, which is the last of its orders that are checked
 abbrev pub GuestStops : Size → List Line → Call → Type 0
@@ -87,7 +106,9 @@ pub record CallRuns (s : Settings) (call : Call) (text : Text) : Type 0 where
   pub accepted : IsAcceptedAs s.size text lines
   pub answers : OfSource s.size (run_outcome s) text (run_outcome s lines)
   pub from_entry : AnswersFromEntry s lines
-  pub few : cost lines + call_orders call ≤ most_call_orders
+  -- the cost of its tape is that of its numbers, and it takes at most as many orders as the longest call of its routine
+  pub costs : cost lines ≡ call_cost call
+  pub few : cost lines + call_orders call ≤ most_call_orders call
   pub guest_stops : GuestStops s.size lines call
   -- and if the limit is not below the number of orders that it takes, this is its outcome
   pub ends : s.resumes ≡ 0 → s.post_mortem ≡ None → cost lines + call_orders call ≤ s.limit

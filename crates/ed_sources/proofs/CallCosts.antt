@@ -1,0 +1,67 @@
+-- What reading the tape of a call costs: that of the words of its numbers, and that of all other items.
+use Rattle.std.proofs.Common.{◌≡◌, ◌∙◌, ℕ, ◌+◌, List, ◌∷◌, ◌++◌, refl, ap, arith, drop, take}
+use Rattle.std.specs.List.{sum_by}
+use Rattle.std.proofs.lemmas.List.Sums.{sum_by-cons}
+use Rattle.ed_notation.specs.declared.item.Item.{Item}
+use Rattle.ed_syntax.specs.declared.program.Line.{Line}
+use Rattle.ed_link.specs.Punch.{punched_items, word_item}
+use Rattle.ed_link.specs.Tapes.{cost, item_cost}
+use Rattle.ed_sources.specs.Costs.{word_cost}
+use Rattle.ed_sources.proofs.Said.{check_lines, newline_lines, print_lines, read_lines}
+use Rattle.ed_sources.proofs.SaidMaths.{divide_lines, root_lines}
+use Rattle.ed_sources.proofs.WordCosts.{cost_around}
+
+-- a source whose items are known up to that of a word
+with_word : (lines : List Line) (front rest : List Item) (w k : ℕ)
+    → punched_items lines ≡ front ++ word_item w ∷ rest
+    → sum_by item_cost front + sum_by item_cost rest ≡ k + 4
+    → cost lines ≡ k + 9 + word_cost w
+with_word lines front rest w k parts others =
+    let all = ap (λ (is : List Item). sum_by item_cost is) parts ∙ cost_around front (word_item w) rest in
+    omega (arith, all, others)
+
+pub print_cost : (n : ℕ) → cost (print_lines n) ≡ 2289 + word_cost n
+print_cost n =
+    with_word (print_lines n) (take 5 (punched_items (print_lines n))) (drop 6 (punched_items (print_lines n))) n 2280
+    refl refl
+
+pub read_cost : (n : ℕ) → cost (read_lines n) ≡ 3368
+read_cost n = refl
+
+pub newline_cost : cost newline_lines ≡ 476
+newline_cost = refl
+
+pub root_cost : (n : ℕ) → cost (root_lines n) ≡ 3399 + word_cost n
+root_cost n =
+    with_word (root_lines n) (take 7 (punched_items (root_lines n))) (drop 8 (punched_items (root_lines n))) n 3390
+    refl refl
+
+pub check_cost : (n : ℕ) → cost (check_lines n) ≡ 4793 + word_cost n
+check_cost n =
+    with_word (check_lines n) (take 5 (punched_items (check_lines n))) (drop 6 (punched_items (check_lines n))) n 4784
+    refl refl
+
+module _ (high low by : ℕ) where
+  abbrev items : List Item
+  items = punched_items (divide_lines high low by)
+
+  abbrev front : List Item
+  front = take 11 items
+
+  abbrev rest : List Item
+  rest = drop 14 items
+
+  parts : items ≡ front ++ word_item high ∷ word_item low ∷ word_item by ∷ rest
+  parts = refl
+
+  others : sum_by item_cost front + sum_by item_cost rest ≡ 6559
+  others = refl
+
+  pub divide_cost : cost (divide_lines high low by) ≡ 6564 + word_cost high + word_cost low + word_cost by
+  divide_cost =
+      let all = ap (λ (is : List Item). sum_by item_cost is) parts
+      ∙ cost_around front (word_item high) (word_item low ∷ word_item by ∷ rest) in
+      let second = sum_by-cons item_cost (word_item low) (word_item by ∷ rest) in
+      let third = sum_by-cons item_cost (word_item by) rest in
+      let k = others in
+      omega (arith, all, second, third, k)

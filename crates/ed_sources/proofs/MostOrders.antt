@@ -1,0 +1,103 @@
+-- The greatest number of orders that a call of each routine takes.
+use Rattle.std.proofs.Common.{◌≡◌, inl, inr, ℕ, ◌+◌, ◌*◌, ◌/◌, ◌%◌, ◌<◌, ◌≤◌}
+use Rattle.std.proofs.Common.{refl, arith, lit<, lit≤, nat_eq, nat_le}
+use Rattle.std.specs.Prelude.{◌||◌}
+use Rattle.std.proofs.Math.Nat.{mod-lt}
+use Rattle.std.proofs.lemmas.Bool.{cases_lt}
+use Rattle.ed_words.proofs.Numbers.{eq_of, le_of, or_of}
+use Rattle.ed_library.specs.CallRanges.{IsCallInRange}
+use Rattle.ed_library.specs.declared.call.Call.{Call}
+use Rattle.ed_library.specs.declared.call.Call.TheVariants.{Print, Read, NewLine, Divide, Root, Check}
+use Rattle.ed_routines.specs.Digits.{before_units, print_orders, sum}
+use Rattle.ed_routines.proofs.Digits.{few_digits}
+use Rattle.ed_maths.specs.Quotients.{divide_orders, ones}
+use Rattle.ed_maths.specs.Roots.{root_of, root_orders}
+use Rattle.ed_maths.proofs.Greatest.{root_is}
+use Rattle.ed_maths.proofs.RootCall.{few as below_256}
+use Rattle.ed_sources.specs.Costs.{call_cost}
+use Rattle.ed_sources.specs.CallRuns.{EachMostIsTaken, call_orders, most_call_orders}
+use Rattle.ed_sources.proofs.Decimals.{among}
+use Rattle.ed_sources.proofs.DivideAndPrint.{quotient_low}
+use Rattle.ed_sources.proofs.PrintOrders.{digits_long, digits_sum, print_few, sum_few}
+use Rattle.ed_sources.proofs.WordCosts.{word_cost_few}
+
+-- the digits of a remainder before its units are 2, 9, 9 and 9 at most
+remainder_few : (r : ℕ) → r < 32767 → print_orders r ≤ 326
+remainder_few r small = let digits = digits_sum r in let long = digits_long r in omega (arith, digits, long)
+
+-- ---- a quotient with the greatest sum of digits begins with 5999, and then at least 8 of its binary digits are 1
+
+ones_many : (q : ℕ) → 59990 ≤ q → q < 60000 → 8 ≤ ones 16 q
+unfolding ones
+ones_many q low high = le_of 8 (ones 16 q) (among (λ k. nat_le 8 (ones 16 k)) 59990 10 q refl low high)
+
+quotient_few : (q : ℕ) → q < 65536 → divide_orders q + print_orders q ≤ 554
+quotient_few q small =
+    let digits = digits_sum q in
+    let long = digits_long q in
+    let most = sum_few q small in
+    elim (cases_lt 31 (sum (before_units q))) [
+      | inl more ↦
+          let many = ones_many q (omega (arith, digits, more)) (omega (arith, digits, more)) in
+          omega (arith, long, most, many)
+      | inr few ↦ omega (arith, long, few)
+    ]
+
+-- ---- roots
+
+root_few : (r : ℕ) → r < 256 → root_orders r + print_orders r ≤ 2196
+root_few r small =
+    le_of (root_orders r + print_orders r) 2196
+    (among (λ k. nat_le (root_orders k + print_orders k) 2196) 0 256 r refl (omega arith) small)
+
+root_of_most : root_of 65535 ≡ 255
+root_of_most =
+    let is = root_is 65535 in
+    let r = root_of 65535 in
+    let low = below_256 65535 r is (lit< tt) in
+    let test =
+    among (λ k. nat_eq k 255 || nat_le ((k + 1) * (k + 1)) 65535) 0 256 r refl (omega arith) (omega (arith, low)) in
+    elim (or_of (nat_eq r 255) (nat_le ((r + 1) * (r + 1)) 65535) test) [
+      | inl same ↦ eq_of r 255 same
+      | inr square ↦
+          let high = le_of ((r + 1) * (r + 1)) 65535 square in
+          let above = is.greatest in
+          absurd (omega (arith, high, above))
+    ]
+
+-- ---- calls
+
+pub most_orders : (call : Call) → IsCallInRange call → call_cost call + call_orders call ≤ most_call_orders call
+most_orders (Print n) small = let word = word_cost_few n in let few = print_few n small in omega (arith, word, few)
+most_orders (Read n) small = let long = few_digits n in let few = print_few n small in omega (arith, long, few)
+most_orders NewLine made = lit≤ tt
+most_orders (Divide n by) made =
+    let high = word_cost_few (n / 65536) in
+    let low = word_cost_few (n % 65536) in
+    let divisor = word_cost_few by in
+    let quotient = quotient_few (n / by) (quotient_low n by made.positive made.less) in
+    let positive : 0 < by = omega (arith, made.positive) in
+    let less = mod-lt n positive in
+    let divisor_small = made.divisor in
+    let remainder = remainder_few (n % by) (omega (arith, less, divisor_small)) in
+    omega (arith, high, low, divisor, quotient, remainder)
+most_orders (Root n) small =
+    let word = word_cost_few n in
+    let few = root_few (root_of n) (below_256 n (root_of n) (root_is n) small) in
+    omega (arith, word, few)
+most_orders (Check n) small =
+    let word = word_cost_few n in
+    let digit_sum = sum_few n small in
+    let long = digits_long n in
+    omega (arith, word, digit_sum, long)
+
+pub each_most_is_taken : EachMostIsTaken
+unfolding ones
+each_most_is_taken = record {
+  print = (lit< tt, refl);
+  read = (lit< tt, refl);
+  newline = (tt, refl);
+  divide = (record { positive = lit≤ tt; divisor = lit≤ tt; less = lit< tt }, refl);
+  root = (lit< tt, rw root_of_most refl);
+  check = (lit< tt, refl);
+}

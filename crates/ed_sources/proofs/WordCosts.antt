@@ -1,0 +1,53 @@
+-- What reading the item of a word costs: 23 orders, and 9 for each digit of its address.
+use Rattle.std.proofs.Common.{◌≡◌, ℕ, ◌+◌, ◌*◌, ◌/◌, ◌%◌, ◌<◌, ◌≤◌, Bool, true, false, List, ◌∷◌, ◌++◌, refl}
+use Rattle.std.proofs.Common.{arith, length, length-append, nat_eq}
+use Rattle.std.specs.List.{sum_by}
+use Rattle.std.proofs.lemmas.List.Sums.{sum_by-append, sum_by-cons}
+use Rattle.ed_words.proofs.Numbers.{le_false}
+use Rattle.ed_notation.specs.declared.item.Item.{Item}
+use Rattle.ed_notation.specs.Spellings.{digit_at, digits_of}
+use Rattle.ed_link.specs.Punch.{ending, item_with}
+use Rattle.ed_link.specs.Tapes.{item_cost}
+use Rattle.ed_link.proofs.Bounds.{one}
+use Rattle.ed_sources.specs.Costs.{word_cost}
+
+none : (p n : ℕ) → n < p → length (digit_at p n) ≡ 0
+none p n less = let e = le_false p n less in rw e refl
+
+pub four_digits : (n : ℕ) → n < 10000 → length (digits_of n) ≤ 4
+four_digits n small =
+    let e = digit_at 1 n in
+    let d = digit_at 10 n ++ e in
+    let c = digit_at 100 n ++ d in
+    let b = digit_at 1000 n ++ c in
+    omega (
+      arith,
+      length-append (digit_at 10000 n) b,
+      length-append (digit_at 1000 n) c,
+      length-append (digit_at 100 n) d,
+      length-append (digit_at 10 n) e,
+      none 10000 n small,
+      one 1000 n,
+      one 100 n,
+      one 10 n,
+      one 1 n,
+    )
+
+ended : (f n : ℕ) (long : Bool) → item_cost (item_with f n false (ending long)) ≡ 23 + 9 * length (digits_of n)
+ended f n true = omega arith
+ended f n false = omega arith
+
+pub word_cost_is : (w : ℕ) → word_cost w ≡ 23 + 9 * length (digits_of (w % 4096 / 2))
+word_cost_is w = ended (w / 4096) (w % 4096 / 2) (nat_eq (w % 2) 1)
+
+pub word_cost_few : (w : ℕ) → word_cost w ≤ 59
+word_cost_few w =
+    let is = word_cost_is w in let few = four_digits (w % 4096 / 2) (omega arith) in omega (arith, is, few)
+
+-- the cost of items with one among them
+pub cost_around : (front : List Item) (i : Item) (rest : List Item)
+    → sum_by item_cost (front ++ i ∷ rest) ≡ sum_by item_cost front + item_cost i + sum_by item_cost rest
+cost_around front i rest =
+    let all = sum_by-append item_cost front (i ∷ rest) in
+    let own = sum_by-cons item_cost i rest in
+    omega (arith, all, own)
