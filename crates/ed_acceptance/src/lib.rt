@@ -6,6 +6,8 @@
 #![tactic(auto)]
 
 #[cfg(test)]
+mod calendar;
+#[cfg(test)]
 mod calls;
 #[cfg(test)]
 mod check_tape;

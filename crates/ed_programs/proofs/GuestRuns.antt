@@ -7,17 +7,19 @@ use Rattle.ed_words.specs.Sizes.{locations}
 use Rattle.ed_words.proofs.SizeLemmas.{most}
 use Rattle.ed_words.specs.Texts.{Text}
 use Rattle.ed_machine.specs.State.{State}
+use Rattle.ed_machine.specs.Steps.{state_after}
 use Rattle.ed_machine.proofs.Steps.{no_step}
 use Rattle.ed_routines.proofs.Journeys.{ComesToStop}
 use Rattle.ed_syntax.specs.Sources.{IsProgram}
 use Rattle.ed_syntax.specs.declared.program.Line.{Line}
 use Rattle.ed_link.specs.Linked.{symbols_of, operand_number}
+use Rattle.ed_link.specs.Tapes.{cost}
 use Rattle.ed_answers.specs.Refusals.{IsAcceptedAs}
 use Rattle.ed_answers.specs.EntryState.{entry_state}
 use Rattle.ed_printer.specs.Paper.{paper}
 use Rattle.ed_run.specs.declared.settings.Settings.{Settings}
-use Rattle.ed_checker.specs.Checker.{checked_codes, checked_orders, guest, planting_place}
-use Rattle.ed_checker.specs.Laws.{HasGuest}
+use Rattle.ed_checker.specs.Checker.{IsAllowed, checked_codes, checked_orders, guest, planting_place}
+use Rattle.ed_checker.specs.Laws.{HasGuest, IsFollowed}
 use Rattle.ed_checker.proofs.Follow.{checker_law}
 use Rattle.ed_sources.proofs.CheckedPaper.{checks_to_stop}
 use Rattle.ed_sources.proofs.Stops.{comes_to_stop}
@@ -25,6 +27,9 @@ use Rattle.ed_answers.specs.FromEntry.{AnswersFromEntry}
 use Rattle.ed_answers.specs.Sources.{OfSource, run_outcome}
 use Rattle.ed_answers.proofs.Sources.{accepted_is, each_answer_is_from_entry}
 use Rattle.ed_sources.proofs.Stopped.{stopped_outcome}
+use Rattle.ed_answers.specs.Runs.{paper_room}
+use Rattle.ed_laws.specs.BlockedGuests.{IsBlockedAt, RunsToBlock, blocked_codes, orders_to_block}
+use Rattle.ed_laws.proofs.Theorems.{blocked_guests}
 use Rattle.ed_programs.specs.Guests.{ChecksGuest, StopsAtZ, EachGuestIsChecked, EntersChecker}
 use Rattle.ed_programs.specs.Guests.{checker_base, entry_guest}
 use Rattle.ed_programs.specs.Guests.{ChecksItsGuest, checked_text, stopped_orders}
@@ -55,11 +60,12 @@ checked_to_stop base q m has z =
     }
 
 -- the guest's first order is in the store
-first_below : (base q : ℕ) (g : State) → StopsAtZ base q g → g.counter + 1 < locations g.size
-first_below base zero g z = subst (λ (x : State). x.counter + 1 < locations x.size) (sym (no_step g)) z.allowed.next
-first_below base (suc q) g z =
-    subst (λ (x : State). x.counter + 1 < locations x.size) (sym (no_step g))
-    (z.followed.allowed 0 (omega arith)).next
+first_below : (base q : ℕ) (g : State) → IsFollowed base q g → IsAllowed base (state_after q g)
+    → g.counter + 1 < locations g.size
+first_below base zero g followed last =
+    subst (λ (x : State). x.counter + 1 < locations x.size) (sym (no_step g)) last.next
+first_below base (suc q) g followed last =
+    subst (λ (x : State). x.counter + 1 < locations x.size) (sym (no_step g)) (followed.allowed 0 (omega arith)).next
 
 -- ---- the law
 
@@ -74,12 +80,16 @@ module _ (s : Settings) (source : Text) (lines : List Line) (c : EntersChecker l
   abbrev g : State
   g = entry_guest s.size lines c.first
 
+  -- H names a location of the store
+  first_low : (q : ℕ) → IsFollowed base q g → IsAllowed base (state_after q g)
+      → operand_number (symbols_of lines) None c.first < 1024
+  first_low q followed last =
+      let size = most s.size in let next = first_below base q g followed last in omega (arith, next, size)
+
   -- the guest of the machine is the guest of the source
   stopped : (q : ℕ) → StopsAtZ base q g → HasChecked base q m g
   stopped q z =
-      let size = most s.size in
-      let next = first_below base q g z in
-      let low : operand_number (symbols_of lines) None c.first < 1024 = omega (arith, next, size) in
+      let low = first_low q z.followed z.allowed in
       let same = guest_is s.size source lines accepted c low in
       subst (λ (x : State). HasChecked base q m x) same
       (checked_to_stop base q m (has_guest s.size source lines accepted c low)
@@ -105,11 +115,28 @@ module _ (s : Settings) (source : Text) (lines : List Line) (c : EntersChecker l
         );
       })
 
+  blocks : (q : ℕ) → IsBlockedAt base q g → cost lines + orders_to_block q g < s.limit
+      → length (blocked_codes q g) ≤ paper_room → s.post_mortem ≡ None → RunsToBlock base q g s lines
+  blocks q at =
+      let low = first_low q at.followed at.allowed in
+      let same = guest_is s.size source lines accepted c low in
+      subst (λ (x : State). cost lines + orders_to_block q x < s.limit → length (blocked_codes q x) ≤ paper_room
+      → s.post_mortem ≡ None → RunsToBlock base q x s lines) same
+      (blocked_guests.sources base q s source lines accepted (record {
+        stands = has_guest s.size source lines accepted c low;
+        guest_blocked = subst (IsBlockedAt base q) (sym same) at;
+      }))
+
   pub checks : ChecksGuest s source lines c
   checks = record {
     entry = entry_is s.size lines accepted.faultless c;
     finds = guest_is s.size source lines accepted c;
     runs = runs;
+    answers = inl (
+      source_short source accepted.two lines accepted.says,
+      accepted_is s.size (run_outcome s) source lines accepted,
+    );
+    blocks = blocks;
   }
 
 pub each_guest : EachGuestIsChecked

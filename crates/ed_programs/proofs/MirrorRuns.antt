@@ -2,7 +2,7 @@
 use Rattle.std.proofs.Common.{◌≡◌, ◌∙◌, ℕ, zero, suc, ◌+◌, ◌*◌, ◌≤◌, true, List, [], ◌∷◌, ◌++◌}
 use Rattle.std.proofs.Common.{refl, sym, ap, subst, arith}
 use Rattle.std.proofs.Common.{append_assoc, append-nil, get_or, length, length-append}
-use Rattle.std.specs.Prelude.{Option, Some, None, reverse}
+use Rattle.std.specs.Prelude.{reverse}
 use Rattle.std.specs.Fmt.{decimal}
 use Rattle.std.specs.List.{list_all}
 use Rattle.std.proofs.lemmas.Bool.{and_parts}
@@ -22,7 +22,7 @@ use Rattle.ed_syntax.specs.Reading.Grammar.{row as code_of, spells}
 use Rattle.ed_routines.specs.Digits.{digits}
 use Rattle.ed_sources.proofs.Decimals.{decimal_is, few_bytes, written}
 use Rattle.ed_programs.specs.Hello.{is_capital}
-use Rattle.ed_programs.proofs.RowTexts.{text_rows}
+use Rattle.ed_programs.proofs.RowTexts.{text_rows, text_spells}
 use Rattle.ed_programs.specs.Mirror.{mirror_cost, mirror_orders, mirror_pieces, mirror_prints, mirror_text}
 use Rattle.ed_programs.specs.Tapes.{TapeRuns}
 use Rattle.ed_programs.proofs.Capitals.{AreLetters, are_rows, letter}
@@ -60,16 +60,6 @@ digit_spells : (n : ℕ) → 1 ≤ n → n ≤ 9 → Spells (decimal n) (n ∷ [
 digit_spells n some few =
     subst (λ (t : Text). Spells t (n ∷ [])) (decimal_is n (omega (arith, few))) (written_spells n some few)
 
-some_row : (o : Option ℕ) → spells o ≡ true → o ≡ Some (code_of o)
-some_row (Some code) h = refl
-some_row None h = cc
-
-letters_spell : (q : Text) → list_all (λ b. spells (row_of b)) q ≡ true → Spells q (text_rows q)
-letters_spell [] h = none
-letters_spell (b ∷ q) h =
-    let p = and_parts (spells (row_of b)) (list_all (λ b. spells (row_of b)) q) h in
-    row b (code_of (row_of b)) q (text_rows q) (some_row (row_of b) p.0) (letters_spell q p.1)
-
 -- the last line: the number of letters, and the letters
 abbrev mirror_line : Text → Text
 mirror_line letters = decimal (length letters) ++ letters
@@ -88,7 +78,7 @@ module _ (letters : Text) (o : AreLetters 9 letters) where
   line_spells =
       let all = spells_append (mirror_line letters) (length letters ∷ codes) (10 ∷ []) []
       (spells_append (decimal (length letters)) (length letters ∷ []) letters codes
-      (digit_spells (length letters) o.some o.few) (letters_spell letters spelled))
+      (digit_spells (length letters) o.some o.few) (text_spells letters spelled))
       (spacing 10 [] [] refl none) in
       subst (Spells (mirror_line letters ++ 10 ∷ [])) (append-nil (length letters ∷ codes)) all
 

@@ -2,7 +2,7 @@
 use Rattle.std.proofs.Common.{◌≡◌, ◌∙◌, ℕ, ◌<◌, Bool, true, false, true≢false, List, [], ◌∷◌, refl, sym, ap, subst}
 use Rattle.std.proofs.Common.{arith, length, map, nat_le, nat_lt}
 use Rattle.std.proofs.Math.ListN.{get_or}
-use Rattle.std.specs.Prelude.{◌==◌, ◌&&◌, ◌-◌, if◌then◌else◌, position, Option, Some}
+use Rattle.std.specs.Prelude.{◌==◌, ◌&&◌, ◌-◌, if◌then◌else◌, position, Option, Some, None}
 use Rattle.std.specs.List.{list_all}
 use Rattle.std.proofs.lemmas.Bool.{and_parts}
 use Rattle.std.proofs.lemmas.List.Folds.{list_all_at}
@@ -10,6 +10,7 @@ use Rattle.std.proofs.lemmas.List.Quantifiers.{position-Some}
 use Rattle.ed_words.proofs.Numbers.{eq_of, le_of, lt_true, lt_of}
 use Rattle.ed_words.specs.Texts.{Text}
 use Rattle.ed_codes.specs.Spelling.{letters, row_of}
+use Rattle.ed_codes.specs.Text.{Spells, none, row as one_row}
 use Rattle.ed_syntax.specs.Forms.{AreRowsOf}
 use Rattle.ed_syntax.specs.Reading.Grammar.{row, spells}
 use Rattle.ed_sources.proofs.Decimals.{both}
@@ -17,6 +18,17 @@ use Rattle.ed_sources.proofs.Decimals.{both}
 -- the rows of a text
 abbrev pub text_rows : Text → List ℕ
 text_rows q = map (λ b. row (row_of b)) q
+
+some_row : (o : Option ℕ) → spells o ≡ true → o ≡ Some (row o)
+some_row (Some code) h = refl
+some_row None h = cc
+
+-- a text of such bytes spells its rows
+pub text_spells : (q : Text) → list_all (λ b. spells (row_of b)) q ≡ true → Spells q (text_rows q)
+text_spells [] h = none
+text_spells (b ∷ q) h =
+    let p = and_parts (spells (row_of b)) (list_all (λ b. spells (row_of b)) q) h in
+    one_row b (row (row_of b)) q (text_rows q) (some_row (row_of b) p.0) (text_spells q p.1)
 
 -- a byte of ASCII that spells a row
 abbrev pub is_row_byte : ℕ → Bool

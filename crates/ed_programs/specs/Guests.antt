@@ -17,12 +17,18 @@ use Rattle.ed_syntax.specs.declared.program.Line.{Line}
 use Rattle.ed_symbols.specs.Places.{even_from}
 use Rattle.ed_symbols.specs.NameFaults.{StandsAfter, counter_after}
 use Rattle.ed_link.specs.Linked.{entry_of, symbols_of, operand_number}
+use Rattle.ed_link.specs.Tapes.{cost}
 use Rattle.ed_answers.specs.Refusals.{IsAcceptedAs}
 use Rattle.ed_answers.specs.EntryState.{entry_state}
+use Rattle.ed_answers.specs.Answer.{IsDue}
+use Rattle.ed_answers.specs.Sources.{run_outcome}
 use Rattle.ed_checker.specs.Checker.{IsAllowed, checked_codes, checked_orders, guest, planting_place, saving_orders}
 use Rattle.ed_checker.specs.Laws.{IsFollowed, StopsAfter}
 use Rattle.ed_sources.specs.CallSources.{text_of_lines}
 use Rattle.ed_answers.specs.Runs.{paper_room}
+use Rattle.ed_laws.specs.BlockedGuests.{IsBlockedAt, RunsToBlock, blocked_codes, orders_to_block}
+use Rattle.ed_command.specs.declared.command.Action.TheVariants.{Run}
+use Rattle.ed_top.specs.Output.{output}
 use Rattle.ed_programs.specs.Programs.{SourceRuns}
 use Rattle.ed_programs.specs.declared.refusal.Refusal.{Refusal}
 
@@ -74,7 +80,9 @@ stopped_orders g q = checked_orders g q - saving_orders
 
 -- the program is entered at the routine, and the guest that the routine finds there is the machine with its
 -- counter at H. If that guest stops at a Z after q orders, and the paper has room, the run prints the checked codes of
--- these orders and of the Z, in exactly their turns, and stops at the routine's planting place
+-- these orders and of the Z, in exactly their turns, and stops at the routine's planting place. If instead it is
+-- blocked after q orders, what `run` answers is a run that prints their checked codes and the function of the word at
+-- which the guest is blocked, and that ends there as the guest does
 pub record ChecksGuest (s : Settings) (source : Text) (lines : List Line) (c : EntersChecker lines) : Type 0 where
   pub entry : entry_of lines ≡ checker_base c.before
   pub finds : operand_number (symbols_of lines) None c.first < 1024
@@ -83,6 +91,11 @@ pub record ChecksGuest (s : Settings) (source : Text) (lines : List Line) (c : E
       → length (checked_codes (entry_guest s.size lines c.first) (suc q)) ≤ paper_room
       → SourceRuns s source (stopped_orders (entry_guest s.size lines c.first) (suc q))
       (checker_base c.before + planting_place + 1) (paper (checked_codes (entry_guest s.size lines c.first) (suc q)))
+  pub answers : IsDue (output (Some (record { action = Run; settings = s }))) source (run_outcome s lines)
+  pub blocks : (q : ℕ) → IsBlockedAt (checker_base c.before) q (entry_guest s.size lines c.first)
+      → cost lines + orders_to_block q (entry_guest s.size lines c.first) < s.limit
+      → length (blocked_codes q (entry_guest s.size lines c.first)) ≤ paper_room → s.post_mortem ≡ None
+      → RunsToBlock (checker_base c.before) q (entry_guest s.size lines c.first) s lines
 
 -- the same for every source that is accepted and enters the routine
 abbrev pub EachGuestIsChecked : Type 0

@@ -9,6 +9,7 @@ pub mod Difference
 pub mod Fraction
 pub mod Tapes
 pub mod Mirror
+pub mod Calendar
 pub mod FirstTapes
 pub mod Squares
 pub mod TwoParts

@@ -6,6 +6,7 @@
 #![tactic(auto)]
 
 mod add;
+mod calendar;
 mod celsius;
 mod checked;
 mod decimals;
@@ -25,6 +26,7 @@ mod total;
 mod woven;
 
 pub use add::add_program;
+pub use calendar::calendar_program;
 pub use celsius::celsius_program;
 pub use checked::checked_program;
 pub use decimals::decimals_program;

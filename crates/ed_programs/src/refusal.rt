@@ -23,6 +23,10 @@ pub enum Refusal {
     Divisor,
     /// The words of the program would not be in the store beside its orders.
     Place,
+    /// The month is not 1 to 12.
+    Month,
+    /// The year is not 1901 to 2099.
+    Year,
     /// No memory was found for the text of the program.
     Memory,
 }

@@ -1,0 +1,47 @@
+-- The codes that the program of `examples/calendar.tape` prints.
+use Rattle.std.specs.Prelude.{ℕ, zero, suc, ◌-◌, ◌*◌, ◌/◌, ◌%◌, ◌==◌, nat_lt, if◌then◌else◌}
+use Rattle.std.specs.Prelude.{List, [], ◌∷◌, ◌++◌, get_or, replicate}
+use Rattle.ed_programs.specs.Calendar.{month_length, weekday_count}
+
+-- the days of a week before the first of the month, as the program counts them
+abbrev pub place : ℕ → ℕ → ℕ
+place month year = weekday_count month year % 7
+
+-- the letters of each month
+abbrev pub name_codes : List (List ℕ)
+name_codes =
+    (10 ∷ 28 ∷ 22 ∷ []) ∷ (17 ∷ 3 ∷ 29 ∷ []) ∷ (23 ∷ 28 ∷ 4 ∷ []) ∷ (28 ∷ 0 ∷ 4 ∷ []) ∷ (23 ∷ 28 ∷ 6 ∷ [])
+    ∷ (10 ∷ 7 ∷ 22 ∷ []) ∷ (10 ∷ 7 ∷ 25 ∷ []) ∷ (28 ∷ 7 ∷ 27 ∷ []) ∷ (12 ∷ 3 ∷ 0 ∷ []) ∷ (9 ∷ 30 ∷ 5 ∷ [])
+    ∷ (22 ∷ 9 ∷ 31 ∷ []) ∷ (19 ∷ 3 ∷ 30 ∷ []) ∷ []
+
+-- the title up to the year: 15 and 11 are the shifts to letters and to figures, and 20 is a space
+abbrev pub title_codes : ℕ → List ℕ
+title_codes month =
+    15 ∷ 20 ∷ 20 ∷ 20 ∷ 20 ∷ 20 ∷ 20 ∷ (get_or name_codes (month - 1) [] ++ 20 ∷ 11 ∷ [])
+
+-- the figures of a year
+abbrev pub year_codes : ℕ → List ℕ
+year_codes year = year / 1000 ∷ year / 100 % 10 ∷ year / 10 % 10 ∷ year % 10 ∷ []
+
+-- the heads of the columns, between two new lines, 18 and 24
+abbrev pub head_codes : List ℕ
+head_codes =
+    18 ∷ 24 ∷ 15 ∷ 20 ∷ 12 ∷ 7 ∷ 20 ∷ 23 ∷ 9 ∷ 20 ∷ 5 ∷ 7 ∷ 20 ∷ 2 ∷ 3 ∷ 20 ∷ 5 ∷ 21 ∷ 20 ∷ 17 ∷ 4 ∷ 20 ∷ 12 ∷ 28
+    ∷ 18 ∷ 24 ∷ 11 ∷ []
+
+-- a day: a space, the tens or a space, and the units
+abbrev pub day_codes : ℕ → List ℕ
+day_codes day = 20 ∷ (if nat_lt day 10 then 20 else day / 10) ∷ day % 10 ∷ []
+
+-- n days from one on, with the number of days in the first one's week before it
+abbrev pub days_codes : ℕ → ℕ → ℕ → List ℕ
+days_codes before day zero = []
+days_codes before day (suc n) =
+    if before == 6 then day_codes day ++ 18 ∷ 24 ∷ days_codes 0 (suc day) n
+    else day_codes day ++ days_codes (suc before) (suc day) n
+
+-- all that is printed
+abbrev pub calendar_codes : ℕ → ℕ → List ℕ
+calendar_codes month year =
+    title_codes month ++ (year_codes year ++ (head_codes
+    ++ (replicate (3 * place month year) 20 ++ days_codes (place month year) 1 (month_length month year))))

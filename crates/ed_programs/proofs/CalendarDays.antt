@@ -1,0 +1,60 @@
+-- What the program of `examples/calendar.tape` counts is the calendar, from 1901 to 2099.
+use Rattle.std.proofs.Common.{◌≡◌, ◌∙◌, ℕ, zero, suc, ◌+◌, ◌-◌, ◌*◌, ◌/◌, ◌%◌, ◌≤◌, Bool, true, false}
+use Rattle.std.proofs.Common.{refl, ap, arith, sum, take}
+use Rattle.std.specs.Prelude.{◌==◌, if◌then◌else◌, not}
+use Rattle.std.proofs.lemmas.Bool.Decides.{nat_tests}
+use Rattle.ed_sources.proofs.Decimals.{among}
+use Rattle.ed_programs.specs.Calendar.{days_before, is_leap, month_lengths, weekday, year_length, years_length}
+use Rattle.ed_programs.proofs.CalendarCodes.{place}
+
+-- ---- leap years and their days
+
+same_test : (a b : Bool) → (if a then b else not b) ≡ true → a ≡ b
+same_test true true h = refl
+same_test true false h = cc
+same_test false true h = cc
+same_test false false h = refl
+
+-- each fourth year is a leap year, 2000 too
+pub leap_is : (n : ℕ) → n ≤ 198 → is_leap (1901 + n) ≡ (n % 4 == 3)
+leap_is n few =
+    same_test (is_leap (1901 + n)) (n % 4 == 3)
+    (among (λ n. if is_leap (1901 + n) then n % 4 == 3 else not (n % 4 == 3)) 0 199 n refl (omega arith) (omega arith))
+
+days_next : (b : Bool) (n : ℕ) → (n % 4 == 3) ≡ b
+    → 365 + 365 * n + n / 4 + (if b then 366 else 365) ≡ 365 + 365 * suc n + suc n / 4
+days_next true n h = grind (arith, nat_tests)
+days_next false n h = grind (arith, nat_tests)
+
+next_year : (n : ℕ) → 1900 + suc n ≡ 1901 + n
+next_year n = omega arith
+
+-- the days from 1900 on up to the year 1901 + n
+pub years_length_is : (n : ℕ) → n ≤ 199 → years_length (suc n) ≡ 365 + 365 * n + n / 4
+years_length_is zero few = refl
+years_length_is (suc n) few =
+    ap (λ (y : ℕ). years_length (suc n) + year_length y) (next_year n)
+    ∙ ap (λ (b : Bool). years_length (suc n) + (if b then 366 else 365)) (leap_is n (omega arith))
+    ∙ ap (λ (d : ℕ). d + (if n % 4 == 3 then 366 else 365)) (years_length_is n (omega arith))
+    ∙ days_next (n % 4 == 3) n refl
+
+-- ---- the day of the week
+
+sevens : (n m x : ℕ) → ((365 + 365 * n + n / 4 + m + x) % 7 + 1) % 7 ≡ ((2 + n + n / 4 + m) % 7 + x) % 7
+sevens n m x = omega arith
+
+module _ (month year : ℕ) where
+  -- a day of the month, counted from the Sunday before the first or on it
+  pub weekday_is : (day : ℕ) → 1901 ≤ year → year ≤ 2099
+      → (weekday (suc day) month year + 1) % 7 ≡ (place month year + day) % 7
+  weekday_is day low high =
+      let n : ℕ = year - 1901 in
+      let from : year - 1900 ≡ suc n = omega arith in
+      let m : ℕ = sum (take (month - 1) (month_lengths year)) in
+      ap (λ (d : ℕ). ((d + m + (suc day - 1)) % 7 + 1) % 7) (ap years_length from ∙ years_length_is n (omega arith))
+      ∙ ap (λ (x : ℕ). ((365 + 365 * n + n / 4 + m + x) % 7 + 1) % 7) (omega arith)
+      ∙ sevens n m day
+
+  -- those before the first
+  pub days_before_is : 1901 ≤ year → year ≤ 2099 → days_before month year ≡ place month year
+  days_before_is low high = weekday_is 0 low high ∙ omega arith

@@ -1,0 +1,121 @@
+-- The count of the months in `examples/calendar.tape`, and the sevens that are taken away.
+use Rattle.std.proofs.Common.{◌%◌, ◌/◌, nat_lt, take}
+use Rattle.std.specs.Prelude.{sum}
+use Rattle.std.specs.List.{fold, list_all}
+use Rattle.std.proofs.lemmas.Bool.{and_parts}
+use Rattle.std.proofs.lemmas.List.{length-take-le}
+use Rattle.ed_words.proofs.Numbers.{lt_of}
+use Rattle.ed_programs.proofs.Kit.{[], ℕ, ◌*◌, ◌+◌, ◌-◌, ◌<◌, ◌∙◌, ◌∷◌, ◌≡◌, ◌≤◌, arith, counted, followed, get_or}
+use Rattle.ed_programs.proofs.Kit.{length, lit<, on, out, own, refl, short, stay, suc, to, true, zero, A, E_jumps}
+use Rattle.ed_programs.proofs.Kit.{E_stays, List, Moment, Option, Path, S, Size, T}
+use Rattle.ed_programs.proofs.CalendarCells.{adds_cell, at, frame, have_take, length_at, lengths, outside, Have}
+use Rattle.ed_programs.proofs.CalendarCells.{IsAround, Work}
+
+-- a sum by its first number
+sum_from : (w : ℕ) (ls : List ℕ) → fold ◌+◌ w ls ≡ w + sum ls
+sum_from w [] = omega arith
+sum_from w (l ∷ ls) =
+    let all = sum_from (w + l) ls in let rest = sum_from (0 + l) ls in omega (arith, all, rest)
+
+pub sum_cons : (l : ℕ) (ls : List ℕ) → sum (l ∷ ls) ≡ l + sum ls
+sum_cons l ls = sum_from (0 + l) ls ∙ (let e : 0 + l + sum ls ≡ l + sum ls = omega arith in e)
+
+pub sum_take : (i : ℕ) (xs : List ℕ) → sum (take i xs) ≤ sum xs
+sum_take zero xs = omega arith
+sum_take (suc i) [] = omega arith
+sum_take (suc i) (x ∷ xs) =
+    let rest = sum_take i xs in let a = sum_cons x (take i xs) in let b = sum_cons x xs in omega (arith, rest, a, b)
+
+pub all_below : (xs : List ℕ) (i : ℕ) → list_all (λ x. nat_lt x 100) xs ≡ true → get_or xs i 0 < 100
+all_below [] i h = lit< tt
+all_below (x ∷ xs) zero h = lt_of x 100 (and_parts (nat_lt x 100) (list_all (λ x. nat_lt x 100) xs) h).0
+all_below (x ∷ xs) (suc i) h = all_below xs i (and_parts (nat_lt x 100) (list_all (λ x. nat_lt x 100) xs) h).1
+
+module _ (z : Size) (m : Moment) (o : IsAround m.words) where
+  -- j months to go, from the month i on; the weekday is w
+  abbrev months_left : ℕ → ℕ → ℕ → Work → Work
+  months_left j i w k = record k { count = (131072 - j) % 131072; weekday = w; adds_month = to 28 (324 + i) }
+
+  -- the months that are left, up to month e; the weekday is then u
+  months : (ls : List ℕ) (k : Work) (i e w u : ℕ) (last : Option ℕ) → Have (lengths k.february) i ls
+      → i + length ls ≡ e
+      → e < 12 → w + sum ls ≡ u → u < 60000
+      → Path (frame z) (3 + 12 * length ls) (at m 45 0 (months_left (length ls) i w k) last) []
+      (at m 57 0 (record (months_left 0 e u k) { scrap = 0 }) last)
+  months [] k i e w u last have ends few total small =
+      let here : i ≡ e = omega (arith, ends) in
+      let none : sum [] ≡ 0 = refl in
+      let same : w ≡ u = omega (arith, total, none) in
+      let path : Path (frame z) 3 (at m 45 0 (months_left 0 e u k) last) []
+      (at m 57 0 (record (months_left 0 e u k) { scrap = 0 }) last) =
+      on (T 45 (own 300) 0 refl refl)
+      (on (A 46 (own 306) 0 refl refl)
+      (on (E_jumps 47 (own 57) refl (lit< tt)) stay)) in
+      rw (here, same) path
+  months (l ∷ ls) k i e w u last have ends few total small =
+      let at2 = o.at2 in
+      let j : ℕ = length ls in
+      let whole = sum_cons l ls in
+      counted
+      (on (T 45 (own 300) 0 refl refl)
+      (on (A 46 (own 306) (short (131072 - suc j)) refl (omega (arith, ends, few)))
+      (on (E_stays 47 (own 57) refl (omega (arith, ends, few)))
+      (on (A 48 (own 299) (short ((131072 - j) % 131072)) refl (omega (arith, ends, few)))
+      (on (T 49 (own 306) _ refl refl)
+      (on (A 50 (own 296) (short w) refl (omega (arith, total, small)))
+      (followed (adds_cell z m 51 (324 + i) l w (w + l) (record (months_left j i w k) { scrap = 0 }) last refl refl
+      (omega (arith, ends, few)) (length_at (record (months_left j i w k) { scrap = 0 }) i ∙ have.0) refl
+      (omega (arith, total, small, whole)))
+      (on (T 52 (own 296) _ refl refl)
+      (on (A 53 (own 51) (short (to 28 (324 + i))) refl (omega (arith, ends, few)))
+      (on (A 54 (out 2 (outside z o 2 (lit< tt))) (short (to 28 (324 + suc i))) refl (omega (arith, ends, few)))
+      (on (T 55 (own 51) _ refl refl)
+      (on (E_jumps 56 (own 45) refl (lit< tt))
+      (months ls (record k { scrap = 0 }) (suc i) e (w + l) u last have.1 (omega (arith, ends)) few
+      (omega (arith, total, whole)) small))))))))))))) (omega arith)
+
+  -- all of them, before the month i + 1, whose length is l; the weekday is then v
+  pub counts_months : (i w l v : ℕ) (k : Work) (last : Option ℕ) → k.month ≡ suc i → i < 12
+      → get_or (lengths k.february) i 0 ≡ l → l < 100 → w + sum (take i (lengths k.february)) ≡ v → v < 60000
+      → Path (frame z) (12 + 12 * i) (at m 40 0 (record k { weekday = w }) last) []
+      (at m 61 0 (record (months_left 0 i v k) { takes_month = to 28 (324 + i); scrap = 0; days = l }) last)
+  counts_months i w l v k last is few here less total small =
+      let ls : List ℕ = take i (lengths k.february) in
+      let long : length ls ≡ i = length-take-le i (lengths k.february) (omega (arith, few)) in
+      let at_end : Work = record (months_left 0 i v k) { takes_month = to 28 (324 + i); scrap = 0 } in
+      counted
+      (on (S 40 (own 295) (short (131072 - suc i)) refl (omega (arith, is, few)))
+      (on (A 41 (own 299) (short ((131072 - length ls) % 131072)) refl (omega (arith, few, long)))
+      (on (T 42 (own 306) _ refl refl)
+      (on (A 43 (own 313) (short (to 28 (324 + 0))) refl refl)
+      (on (T 44 (own 51) _ refl refl)
+      (followed (months ls k 0 i w v last (have_take i (lengths k.february)) (omega (arith, long)) few total small)
+      (on (A 57 (own 51) (short (to 28 (324 + i))) refl (omega (arith, few)))
+      (on (T 58 (own 59) _ refl refl)
+      (followed (adds_cell z m 59 (324 + i) l 0 l at_end last refl refl (omega (arith, few))
+      (length_at at_end i ∙ here)
+      (omega arith) (omega (arith, less)))
+      (on (T 60 (own 307) _ refl refl) stay)))))))))) (omega (arith, long))
+
+  -- sevens are taken away
+  sevens : (q r : ℕ) (k : Work) (last : Option ℕ) → r < 7 → 7 * q + r < 65536
+      → Path (frame z) (2 + 2 * q) (at m 62 (7 * q + r) k last) [] (at m 64 (131072 - (7 - r)) k last)
+  sevens zero r k last few small =
+      on (S 62 (own 321) (short (131072 - (7 - r))) refl (omega (arith, few)))
+      (on (E_stays 63 (own 62) refl (omega (arith, few))) stay)
+  sevens (suc q) r k last few small =
+      counted
+      (on (S 62 (own 321) (short (7 * q + r)) refl (omega (arith, few, small)))
+      (on (E_jumps 63 (own 62) refl (omega (arith, few, small)))
+      (sevens q r k last few (omega (arith, small))))) (omega arith)
+
+  pub takes_sevens : (k : Work) (w : ℕ) (last : Option ℕ) → w < 65536
+      → Path (frame z) (5 + 2 * (w / 7)) (at m 61 0 (record k { weekday = w }) last) []
+      (at m 66 0 (record k { weekday = w % 7 }) last)
+  takes_sevens k w last small =
+      let is : 7 * (w / 7) + w % 7 ≡ w = omega arith in
+      counted
+      (on (A 61 (own 296) (short (7 * (w / 7) + w % 7)) refl (omega (arith, small)))
+      (followed (sevens (w / 7) (w % 7) (record k { weekday = w }) last (omega arith) (omega (arith, small)))
+      (on (A 64 (own 321) (short (w % 7)) refl (omega arith))
+      (on (T 65 (own 296) _ refl refl) stay)))) (omega arith)

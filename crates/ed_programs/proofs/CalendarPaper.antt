@@ -1,0 +1,182 @@
+-- The codes that the program of `examples/calendar.tape` prints are the calendar on paper.
+use Rattle.std.proofs.Common.{◌≡◌, ◌∙◌, ℕ, zero, suc, ◌+◌, ◌-◌, ◌*◌, ◌/◌, ◌%◌, ◌<◌, ◌≤◌, Bool, true, false}
+use Rattle.std.proofs.Common.{refl, sym, ap, arith, lit<, append_assoc, append-nil}
+use Rattle.std.proofs.Common.{List, [], ◌∷◌, ◌++◌, codes, flat_map, get_or, nat_lt, replicate}
+use Rattle.std.specs.Prelude.{◌==◌, if◌then◌else◌}
+use Rattle.std.specs.Fmt.{decimal}
+use Rattle.std.proofs.lemmas.Bool.Decides.{nat_tests}
+use Rattle.ed_words.proofs.Numbers.{eq_of, lt_of, not_eq_of, not_lt_of}
+use Rattle.ed_words.specs.Texts.{Text}
+use Rattle.ed_printer.specs.Paper.{paper, paper_from}
+use Rattle.ed_printer.specs.declared.printer.Shift.TheVariants.{Figures}
+use Rattle.ed_routines.specs.Digits.{digits, without_zeros}
+use Rattle.ed_sources.proofs.Papers.{number_shown}
+use Rattle.ed_programs.specs.Calendar.{calendar_days, calendar_gap, calendar_heads, calendar_prints}
+use Rattle.ed_programs.specs.Calendar.{day_text, days_from, is_leap, month_length, month_names, new_line, week_end}
+use Rattle.ed_programs.specs.Calendar.{weekday}
+use Rattle.ed_programs.proofs.CalendarCodes.{calendar_codes, day_codes, days_codes, head_codes, place}
+use Rattle.ed_programs.proofs.CalendarCodes.{title_codes, year_codes}
+use Rattle.ed_programs.proofs.CalendarDays.{days_before_is, weekday_is}
+
+-- ---- the title
+
+title_shown : (k : ℕ) (rest : List ℕ) → k < 12
+    → paper (title_codes (suc k) ++ rest)
+    ≡ codes "      " ++ (get_or month_names k [] ++ 32 ∷ paper_from Figures rest)
+title_shown zero rest l = refl
+title_shown (suc zero) rest l = refl
+title_shown (suc (suc zero)) rest l = refl
+title_shown (suc (suc (suc zero))) rest l = refl
+title_shown (suc (suc (suc (suc zero)))) rest l = refl
+title_shown (suc (suc (suc (suc (suc zero))))) rest l = refl
+title_shown (suc (suc (suc (suc (suc (suc zero)))))) rest l = refl
+title_shown (suc (suc (suc (suc (suc (suc (suc zero))))))) rest l = refl
+title_shown (suc (suc (suc (suc (suc (suc (suc (suc zero)))))))) rest l = refl
+title_shown (suc (suc (suc (suc (suc (suc (suc (suc (suc zero))))))))) rest l = refl
+title_shown (suc (suc (suc (suc (suc (suc (suc (suc (suc (suc zero)))))))))) rest l = refl
+title_shown (suc (suc (suc (suc (suc (suc (suc (suc (suc (suc (suc zero))))))))))) rest l = refl
+title_shown (suc (suc (suc (suc (suc (suc (suc (suc (suc (suc (suc (suc k)))))))))))) rest l = absurd (omega arith)
+
+-- ---- figures
+
+-- noughts in front of a number are left out
+no_thousands : (a b c d u : ℕ) → a ≡ 0 → b ≡ 0 → c ≡ 0
+    → without_zeros (a ∷ b ∷ c ∷ d ∷ []) ++ u ∷ [] ≡ without_zeros (d ∷ []) ++ u ∷ []
+no_thousands a b c d u p q r = rw (p, q, r) refl
+
+with_first : (a b : ℕ) (cs : List ℕ) → a ≡ 0 → 1 ≤ b → without_zeros (a ∷ b ∷ cs) ≡ b ∷ cs
+with_first a zero cs p l = absurd (omega arith)
+with_first a (suc b) cs p l = rw p refl
+
+one_figure : (d : ℕ) → d < 10 → digits d ≡ d % 10 ∷ []
+one_figure d l =
+    no_thousands (d / 10000) (d / 1000 % 10) (d / 100 % 10) (d / 10 % 10) (d % 10) (omega arith) (omega arith)
+    (omega arith)
+    ∙ ap (λ (t : ℕ). without_zeros (t ∷ []) ++ d % 10 ∷ []) {y = 0} (omega arith)
+
+with_tens : (t u : ℕ) → 1 ≤ t → without_zeros (t ∷ []) ++ u ∷ [] ≡ t ∷ u ∷ []
+with_tens zero u l = absurd (omega arith)
+with_tens (suc t) u l = refl
+
+two_figures : (d : ℕ) → 10 ≤ d → d < 100 → digits d ≡ d / 10 ∷ d % 10 ∷ []
+two_figures d low high =
+    no_thousands (d / 10000) (d / 1000 % 10) (d / 100 % 10) (d / 10 % 10) (d % 10) (omega arith) (omega arith)
+    (omega arith)
+    ∙ with_tens (d / 10 % 10) (d % 10) (omega arith)
+    ∙ ap (λ (t : ℕ). t ∷ d % 10 ∷ []) {y = d / 10} (omega arith)
+
+year_figures : (year : ℕ) → 1000 ≤ year → year < 10000 → digits year ≡ year_codes year
+year_figures year low high =
+    ap (λ (ds : List ℕ). ds ++ year % 10 ∷ []) (with_first (year / 10000) (year / 1000 % 10)
+    (year / 100 % 10 ∷ year / 10 % 10 ∷ []) (omega arith) (omega arith))
+    ∙ ap (λ (t : ℕ). t ∷ year / 100 % 10 ∷ year / 10 % 10 ∷ year % 10 ∷ []) {y = year / 1000} (omega arith)
+
+-- ---- the days
+
+spaces_shown : (n : ℕ) (rest : List ℕ)
+    → paper_from Figures (replicate n 20 ++ rest) ≡ replicate n 32 ++ paper_from Figures rest
+spaces_shown zero rest = refl
+spaces_shown (suc n) rest = ap (λ (t : Text). 32 ∷ t) (spaces_shown n rest)
+
+day_shown : (day : ℕ) (rest : List ℕ) → day < 100
+    → paper_from Figures (day_codes day ++ rest) ≡ day_text day ++ paper_from Figures rest
+day_shown day rest few = by_test (nat_lt day 10) refl
+  where
+    by_test : (b : Bool) → nat_lt day 10 ≡ b
+        → paper_from Figures ((20 ∷ (if b then 20 else day / 10) ∷ day % 10 ∷ []) ++ rest)
+        ≡ (if b then 32 ∷ 32 ∷ decimal day else 32 ∷ decimal day) ++ paper_from Figures rest
+    by_test true h =
+        ap (λ (ds : List ℕ). 32 ∷ 32 ∷ paper_from Figures (ds ++ rest)) (sym (one_figure day (lt_of day 10 h)))
+        ∙ ap (λ (t : Text). 32 ∷ 32 ∷ t) (number_shown day (omega (arith, few)) rest)
+    by_test false h =
+        ap (λ (ds : List ℕ). 32 ∷ paper_from Figures (ds ++ rest)) (sym (two_figures day (not_lt_of day 10 h) few))
+        ∙ ap (λ (t : Text). 32 ∷ t) (number_shown day (omega (arith, few)) rest)
+
+regrouped : (a b c d e f g h : Text)
+    → a ++ b ++ c ++ d ++ e ++ f ++ g ++ h ≡ a ++ (b ++ (c ++ (d ++ (e ++ (f ++ (g ++ h))))))
+regrouped a b c d e f g h =
+    append_assoc (a ++ b ++ c ++ d ++ e ++ f) g h
+    ∙ append_assoc (a ++ b ++ c ++ d ++ e) f (g ++ h)
+    ∙ append_assoc (a ++ b ++ c ++ d) e (f ++ (g ++ h))
+    ∙ append_assoc (a ++ b ++ c) d (e ++ (f ++ (g ++ h)))
+    ∙ append_assoc (a ++ b) c (d ++ (e ++ (f ++ (g ++ h))))
+    ∙ append_assoc a b (c ++ (d ++ (e ++ (f ++ (g ++ h)))))
+
+-- no month has more than 31 days
+pub days_at_most : (leap : Bool) (k : ℕ)
+    → get_or (31 ∷ (if leap then 29 else 28) ∷ 31 ∷ 30 ∷ 31 ∷ 30 ∷ 31 ∷ 31 ∷ 30 ∷ 31 ∷ 30 ∷ 31 ∷ []) k 0 ≤ 31
+days_at_most leap k = grind arith
+
+module _ (month year : ℕ) (low : 1901 ≤ year) (high : year ≤ 2099) where
+  -- the day and what follows it
+  abbrev shown : ℕ → Text
+  shown day = day_text day ++ week_end (weekday day month year)
+
+  -- the codes of n days print them
+  abbrev AreShown : ℕ → ℕ → ℕ → Type 0
+  AreShown n before day = paper_from Figures (days_codes before day n) ≡ flat_map shown (days_from day n)
+
+  one_shown : (n before day : ℕ) → before < 7 → (place month year + day) % 7 ≡ before → suc day < 100
+      → ((b : ℕ) → b < 7 → (place month year + suc day) % 7 ≡ b → AreShown n b (suc (suc day)))
+      → AreShown (suc n) before (suc day)
+  one_shown n before day l is few more = by_test (before == 6) refl
+    where
+      falls : (weekday (suc day) month year + 1) % 7 ≡ before
+      falls = weekday_is month year day low high ∙ is
+
+      ends : (b : Bool) → (before == 6) ≡ b → (weekday (suc day) month year == 5) ≡ b
+      ends b h = grind (arith, nat_tests, falls)
+
+      rest : Text
+      rest = flat_map shown (days_from (suc (suc day)) n)
+
+      by_test : (b : Bool) → (before == 6) ≡ b
+          → paper_from Figures (if b then day_codes (suc day) ++ 18 ∷ 24 ∷ days_codes 0 (suc (suc day)) n
+          else day_codes (suc day) ++ days_codes (suc before) (suc (suc day)) n)
+          ≡ (day_text (suc day) ++ week_end (weekday (suc day) month year)) ++ rest
+      by_test true h =
+          day_shown (suc day) (18 ∷ 24 ∷ days_codes 0 (suc (suc day)) n) few
+          ∙ ap (λ (t : Text). day_text (suc day) ++ 13 ∷ 10 ∷ t)
+          (more 0 (lit< tt) (let e = eq_of before 6 h in omega (arith, is, e)))
+          ∙ sym (append_assoc (day_text (suc day)) new_line rest)
+          ∙ ap (λ (c : Bool). (day_text (suc day) ++ (if c then new_line else [])) ++ rest) (sym (ends true h))
+      by_test false h =
+          day_shown (suc day) (days_codes (suc before) (suc (suc day)) n) few
+          ∙ ap (λ (t : Text). day_text (suc day) ++ t)
+          (more (suc before) (let e = not_eq_of before 6 h in omega (arith, l, e))
+          (let e = not_eq_of before 6 h in omega (arith, is, l, e)))
+          ∙ ap (λ (t : Text). t ++ rest) (sym (append-nil (day_text (suc day))))
+          ∙ ap (λ (c : Bool). (day_text (suc day) ++ (if c then new_line else [])) ++ rest) (sym (ends false h))
+
+  days_shown : (n before day : ℕ) → before < 7 → (place month year + day) % 7 ≡ before → day + n < 100
+      → AreShown n before (suc day)
+  days_shown zero before day l is few = refl
+  days_shown (suc n) before day l is few =
+      one_shown n before day l is (omega (arith, few)) (λ b small falls.
+      days_shown n b (suc day) small falls (omega (arith, few)))
+
+  few_days : month_length month year ≤ 31
+  few_days = days_at_most (is_leap year) (month - 1)
+
+  pub calendar_shown : 1 ≤ month → month ≤ 12 → paper (calendar_codes month year) ≡ calendar_prints month year
+  calendar_shown some few =
+      let k : ℕ = month - 1 in
+      let name : Text = get_or month_names k [] in
+      let gap : List ℕ = replicate (3 * place month year) 20 in
+      let days : List ℕ = days_codes (place month year) 1 (month_length month year) in
+      let title : Text → Text = λ t. codes "      " ++ (name ++ 32 ∷ t) in
+      let text_gap : Text = calendar_gap month year in
+      let text_days : Text = calendar_days month year in
+      let days_few = few_days in
+      ap (λ (m : ℕ). paper (title_codes m ++ (year_codes year ++ (head_codes ++ (gap ++ days))))) {y = suc k} (omega arith)
+      ∙ title_shown k (year_codes year ++ (head_codes ++ (gap ++ days))) (omega arith)
+      ∙ ap (λ (ds : List ℕ). title (paper_from Figures (ds ++ (head_codes ++ (gap ++ days)))))
+      (sym (year_figures year (omega arith) (omega arith)))
+      ∙ ap title (number_shown year (omega arith) (head_codes ++ (gap ++ days)))
+      ∙ ap (λ (t : Text). title (decimal year ++ (new_line ++ (calendar_heads ++ t))))
+      (spaces_shown (3 * place month year) days)
+      ∙ ap (λ (n : ℕ). title (decimal year ++ (new_line ++ (calendar_heads
+      ++ (replicate (3 * n) 32 ++ paper_from Figures days))))) (sym (days_before_is month year low high))
+      ∙ ap (λ (t : Text). title (decimal year ++ (new_line ++ (calendar_heads ++ (text_gap ++ t)))))
+      (days_shown (month_length month year) (place month year) 0 (omega arith) (omega arith) (omega (arith, days_few)))
+      ∙ sym (regrouped (codes "      ") name (codes " ") (decimal year) new_line calendar_heads text_gap text_days)

@@ -1,0 +1,134 @@
+-- What `examples/calendar.tape` prints, for every month from January 1901 to December 2099.
+use Rattle.std.proofs.Common.{◌≡◌, ℕ, zero, suc, ◌+◌, ◌-◌, ◌*◌, ◌≤◌, Bool, true, false, List, [], ◌∷◌, ◌++◌}
+use Rattle.std.proofs.Common.{refl, ap, subst, arith, get_or, length, length-append, nat_le, replicate}
+use Rattle.std.specs.Prelude.{◌==◌, if◌then◌else◌}
+use Rattle.std.specs.Fmt.{decimal}
+use Rattle.std.specs.List.{list_all}
+use Rattle.std.proofs.lemmas.Bool.{and_parts}
+use Rattle.std.proofs.lemmas.List.{length-replicate}
+use Rattle.ed_words.proofs.Numbers.{le_of}
+use Rattle.ed_words.specs.Texts.{Text}
+use Rattle.ed_codes.specs.Reading.{IsReadingOf, reading, rows}
+use Rattle.ed_codes.specs.Text.{Spells, none, row, spacing}
+use Rattle.ed_codes.proofs.Pieces.{spells_append}
+use Rattle.ed_codes.proofs.Readings.{has_one_reading}
+use Rattle.ed_printer.specs.Paper.{paper}
+use Rattle.ed_run.specs.declared.settings.Settings.{Settings}
+use Rattle.ed_routines.specs.Digits.{digits}
+use Rattle.ed_sources.proofs.Decimals.{are, decimal_is, few_bytes, row_bytes, rows_are, written}
+use Rattle.ed_answers.specs.declared.input.TheConstants.{INPUT_BYTES}
+use Rattle.ed_answers.specs.Runs.{paper_room}
+use Rattle.ed_programs.specs.Calendar.{calendar_cost, calendar_orders, calendar_pieces, calendar_prints, calendar_text}
+use Rattle.ed_programs.specs.Calendar.{is_leap, month_length}
+use Rattle.ed_programs.specs.Tapes.{TapeRuns}
+use Rattle.ed_programs.proofs.CalendarCodes.{calendar_codes, day_codes, days_codes, head_codes, name_codes, place}
+use Rattle.ed_programs.proofs.CalendarCodes.{title_codes, year_codes}
+use Rattle.ed_programs.proofs.CalendarPaper.{calendar_shown, days_at_most}
+use Rattle.ed_programs.proofs.CalendarEnds.{calendar_arrives, calendar_ends, calendar_entry, calendar_rows, data_rows}
+use Rattle.ed_programs.proofs.RowTexts.{text_spells}
+use Rattle.ed_programs.proofs.TapeRuns.{tape_runs}
+
+-- ---- the rows of the text
+
+abbrev pub front : Text
+front = get_or calendar_pieces 0 []
+
+front_reading : reading front ≡ rows (calendar_rows [])
+front_reading = refl
+
+front_spells : Spells front (calendar_rows [])
+front_spells = subst (IsReadingOf front) front_reading (has_one_reading.every front)
+
+-- a number in decimal spells its digits
+number_spells : (n : ℕ) → n ≤ 65535 → Spells (decimal n) (digits n)
+number_spells n small =
+    let below : suc n ≤ 65536 = omega (arith, small) in
+    subst (λ (t : Text). Spells t (digits n)) (decimal_is n below)
+    (subst (Spells (written (digits n))) (rows_are (digits n) (are n below))
+    (text_spells (written (digits n)) (row_bytes (digits n) (are n below))))
+
+module _ (month year : ℕ) (small : month ≤ 65535) (low : year ≤ 65535) where
+  year_spells : Spells (decimal year ++ 70 ∷ 10 ∷ []) (digits year ++ 17 ∷ [])
+  year_spells =
+      spells_append (decimal year) (digits year) (70 ∷ 10 ∷ []) (17 ∷ []) (number_spells year low)
+      (row 70 17 (10 ∷ []) [] refl (spacing 10 [] [] refl none))
+
+  data_spells : Spells (decimal month ++ 70 ∷ (decimal year ++ 70 ∷ 10 ∷ [])) (data_rows month year)
+  data_spells =
+      spells_append (decimal month) (digits month) (70 ∷ (decimal year ++ 70 ∷ 10 ∷ []))
+      (17 ∷ (digits year ++ 17 ∷ [])) (number_spells month small)
+      (row 70 17 (decimal year ++ 70 ∷ 10 ∷ []) (digits year ++ 17 ∷ []) refl year_spells)
+
+  pub text_reads : reading (calendar_text month year) ≡ rows (calendar_rows (data_rows month year))
+  text_reads =
+      has_one_reading.only (calendar_text month year) (rows (calendar_rows (data_rows month year)))
+      (spells_append front (calendar_rows []) (decimal month ++ 70 ∷ (decimal year ++ 70 ∷ 10 ∷ []))
+      (data_rows month year) front_spells data_spells)
+
+  pub few_text : length (calendar_text month year) ≤ INPUT_BYTES
+  few_text =
+      let m = few_bytes month (omega (arith, small)) in
+      let y = few_bytes year (omega (arith, low)) in
+      let m_is = ap (λ (t : Text). length t) (decimal_is month (omega (arith, small))) in
+      let y_is = ap (λ (t : Text). length t) (decimal_is year (omega (arith, low))) in
+      let before : length front ≤ 10000 = le_of (length front) 10000 refl in
+      let last = length-append (decimal year) (70 ∷ 10 ∷ []) in
+      let both = length-append (decimal month) (70 ∷ (decimal year ++ 70 ∷ 10 ∷ [])) in
+      let all = length-append front (decimal month ++ 70 ∷ (decimal year ++ 70 ∷ 10 ∷ [])) in
+      omega (arith, m, y, m_is, y_is, before, last, both, all)
+
+-- ---- the number of codes
+
+-- each of some lists is short
+each_few : (k n : ℕ) (cs : List (List ℕ)) → list_all (λ c. nat_le (length c) n) cs ≡ true
+    → length (get_or cs k []) ≤ n
+each_few k n [] h = omega arith
+each_few zero n (c ∷ cs) h = le_of (length c) n (and_parts (nat_le (length c) n) _ h).0
+each_few (suc k) n (c ∷ cs) h = each_few k n cs (and_parts (nat_le (length c) n) _ h).1
+
+few_days_codes : (before day n : ℕ) → length (days_codes before day n) ≤ 5 * n
+few_days_codes before day zero = omega arith
+few_days_codes before day (suc n) = by_test (before == 6) (few_days_codes 0 (suc day) n)
+    (few_days_codes (suc before) (suc day) n)
+  where
+    by_test : (b : Bool) → length (days_codes 0 (suc day) n) ≤ 5 * n
+        → length (days_codes (suc before) (suc day) n) ≤ 5 * n
+        → length (if b then day_codes day ++ 18 ∷ 24 ∷ days_codes 0 (suc day) n
+        else day_codes day ++ days_codes (suc before) (suc day) n) ≤ 5 * suc n
+    by_test true l r =
+        let e = length-append (day_codes day) (18 ∷ 24 ∷ days_codes 0 (suc day) n) in omega (arith, e, l)
+    by_test false l r =
+        let e = length-append (day_codes day) (days_codes (suc before) (suc day) n) in omega (arith, e, r)
+
+few_codes : (month year : ℕ) → length (calendar_codes month year) ≤ paper_room
+few_codes month year =
+    let name : List ℕ = get_or name_codes (month - 1) [] in
+    let gap : List ℕ = replicate (3 * place month year) 20 in
+    let days : List ℕ = days_codes (place month year) 1 (month_length month year) in
+    let few_name = each_few (month - 1) 3 name_codes refl in
+    let named = length-append name (20 ∷ 11 ∷ []) in
+    let few_gap = length-replicate {A = ℕ} (3 * place month year) 20 in
+    let few = few_days_codes (place month year) 1 (month_length month year) in
+    let most = days_at_most (is_leap year) (month - 1) in
+    let a = length-append gap days in
+    let b = length-append head_codes (gap ++ days) in
+    let c = length-append (year_codes year) (head_codes ++ (gap ++ days)) in
+    let d = length-append (title_codes month) (year_codes year ++ (head_codes ++ (gap ++ days))) in
+    omega (arith, few_name, named, few_gap, few, most, a, b, c, d)
+
+-- ---- the law
+
+pub each_month : (s : Settings) (month year : ℕ) → 1 ≤ month → month ≤ 12 → 1901 ≤ year → year ≤ 2099
+    → TapeRuns s (calendar_text month year) calendar_cost (calendar_orders month year) 188 (calendar_prints month year)
+each_month s month year some few low high =
+    let rest : List ℕ = data_rows month year in
+    let stop = calendar_ends s month year some few low high in
+    let runs = tape_runs s (calendar_text month year) (calendar_rows rest) (calendar_entry rest)
+    (text_reads month year (omega (arith, few)) (omega (arith, high)))
+    (few_text month year (omega (arith, few)) (omega (arith, high)))
+    (calendar_arrives s.size rest) stop (few_codes month year) in
+    let count : calendar_orders month year - 1 + 1 ≡ calendar_orders month year = omega arith in
+    subst (λ (t : Text). TapeRuns s (calendar_text month year) calendar_cost (calendar_orders month year) 188 t)
+    (calendar_shown month year low high some few)
+    (subst (λ k. TapeRuns s (calendar_text month year) calendar_cost k 188 (paper (calendar_codes month year))) count
+    runs)
