@@ -6,14 +6,14 @@ const os = require('os');
 const path = require('path');
 const { middleOf } = require('./middle.js');
 
-const LONGEST_RUN = 3600000; // milliseconds of all tests, on a busy computer
+const LONGEST_RUN = 3600; // seconds of all that is done with a browser, on a busy computer
 const KEY_CODES = { Shift: [16, undefined], Enter: [13, '\r'], Tab: [9, undefined], ArrowRight: [39, undefined], ArrowLeft: [37, undefined],
     ArrowDown: [40, undefined], ArrowUp: [38, undefined], End: [35, undefined], Backspace: [8, undefined] };
 const CONTROL = 2; // of the keys that are held down with another
 
 class Browser {
     constructor(command, page, folder) {
-        Object.assign(this, { page: `file://${path.resolve(page)}`, folder, wrong: 0, requested: [], said: [] });
+        Object.assign(this, { page: `file://${path.resolve(page)}`, folder, tried: 0, wrong: 0, requested: [], said: [] });
         Object.assign(this, { waiting: new Map(), count: 0, rest: '' });
         this.start(command);
     }
@@ -25,8 +25,14 @@ class Browser {
         const stdio = ['ignore', 'ignore', 'ignore', 'pipe', 'pipe'];
         this.child = spawn(command, [...flags, 'about:blank'], { stdio });
         this.child.on('error', () => this.giveUp('the browser does not start'));
-        this.limit = setTimeout(() => this.giveUp('the tests took more than an hour'), LONGEST_RUN);
+        this.allow('what is done with it', LONGEST_RUN);
         this.child.stdio[4].on('data', (part) => this.hear(part));
+    }
+
+    // The time that something may take. After it the tests end, and say what it was.
+    allow(what, seconds) {
+        clearTimeout(this.limit);
+        this.limit = setTimeout(() => this.giveUp(`${what} took more than ${seconds} seconds`), seconds * 1000);
     }
 
     giveUp(why) {
@@ -70,6 +76,7 @@ class Browser {
 
     async expect(what, got, wanted) {
         const is = typeof wanted === 'function' ? wanted(got) : JSON.stringify(got) === JSON.stringify(wanted);
+        this.tried++;
         this.wrong += !is;
         if (!is) {
             const not = typeof wanted === 'function' ? '' : `, and not ${JSON.stringify(wanted)}`;

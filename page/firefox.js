@@ -1,6 +1,6 @@
 'use strict';
 // Tries the page in Firefox, with no library: it is spoken to by WebDriver BiDi over a socket.
-//   node page/firefox.js BROWSER PAGE.html FOLDER [PART]
+//   node page/firefox.js BROWSER PAGE.html FOLDER [PART]      PART as for page/browse.js
 const crypto = require('crypto');
 const { spawn } = require('child_process');
 const fs = require('fs');
@@ -8,13 +8,7 @@ const net = require('net');
 const os = require('os');
 const path = require('path');
 const { Visitor } = require('./browser.js');
-const machine = require('./tried_machine.js');
-const runs = require('./tried_runs.js');
-const motion = require('./tried_motion.js');
-const touch = require('./tried_touch.js');
-const stories = require('./tried_stories.js');
-const { lessons } = require('./tried_lessons.js');
-const sharing = require('./tried_sharing.js');
+const { IN_FIREFOX, partsFor, tryParts } = require('./tried.js');
 
 // A web socket, as far as it is needed: texts there and back.
 class Socket {
@@ -105,7 +99,7 @@ class Firefox extends Visitor {
         const flags = ['--headless', '--no-remote', '--profile', this.profile, '--remote-debugging-port', '0', 'about:blank'];
         this.child = spawn(command, flags, { stdio: ['ignore', 'ignore', 'pipe'], env: { ...process.env, HOME: this.profile } });
         this.child.on('error', () => this.giveUp('the browser does not start'));
-        this.limit = setTimeout(() => this.giveUp('the browser gave no answer for 600 seconds'), 600000);
+        this.allow('the browser', BEGINNING);
         this.port = new Promise((done) => {
             let said = '';
             this.child.stderr.on('data', (part) => {
@@ -201,26 +195,20 @@ class Firefox extends Visitor {
 }
 
 const WINDOW = [1280, 1000]; // pixels
-
-// What is tried: what a visitor does with the machine, what moves, what a hand does on the stage, the stories, the lessons,
-// links and languages.
-const PARTS = [
-    ...Object.values(machine), ...Object.values(runs), motion.landings, motion.rests, touch.words, touch.keys, touch.rows, touch.sounds,
-    ...Object.values(stories), lessons, sharing.links, sharing.languages,
-];
+const BEGINNING = 120; // seconds until the browser is there, on a busy computer
 
 (async () => {
-    const [command, file, folder, only] = process.argv.slice(2);
+    const [command, file, folder, asked] = process.argv.slice(2);
+    const parts = partsFor(IN_FIREFOX, asked);
     const b = new Firefox(command, file, folder);
     await b.begin();
     await b.open('');
-    for (const part of PARTS.filter((one) => !only || one.name === only)) {
-        await part(b);
-    }
+    await tryParts(b, parts);
     await b.expect('nothing is thrown', b.said.filter((said) => !said.includes('Content-Security-Policy')), []);
     await b.shot('firefox.png');
     const version = await b.ask('navigator.userAgent.match(/Firefox.[0-9.]+/)[0]');
-    console.log(`the page in ${version}, with ${await b.ask('document.body.dataset.ready')} memories: ${b.wrong} faults`);
+    const memories = await b.ask('document.body.dataset.ready');
+    console.log(`the page in ${version}, with ${memories} memories: ${parts.length} parts, ${b.tried} tries, ${b.wrong} faults`);
     await b.close();
     process.exit(b.wrong ? 1 : 0);
 })();

@@ -34,11 +34,12 @@ function borders() {
         .filter((node) => isPale(node, 'borderTopColor') && isPale(node, 'backgroundColor')).map(nameOf);
 }
 
-// The controls without a name.
+// The controls without a name, and the groups.
 function names() {
     const hasLabel = (box) => box.labels && [...box.labels].some((label) => label.textContent.trim());
     return seen('button, input, select, textarea, canvas')
-        .filter((box) => !box.textContent.trim() && !hasLabel(box) && !box.getAttribute('aria-label')).map(nameOf);
+        .filter((box) => !box.textContent.trim() && !hasLabel(box) && !box.getAttribute('aria-label'))
+        .concat(seen('[role=group]').filter((group) => !group.getAttribute('aria-label'))).map(nameOf);
 }
 
 // Headings two levels below the one before, and sections without one.

@@ -5,6 +5,7 @@ const fs = require('fs');
 const path = require('path');
 const crypto = require('crypto');
 const { pause } = require('./browser.js');
+const { seenBare } = require('./bare.js');
 const rules = require('./rules.js');
 
 // Opens, or closes, everything that can be open.
@@ -22,7 +23,7 @@ const SCHEMES = [
     [{ name: 'forced-colors', value: 'active' }, { name: 'prefers-color-scheme', value: 'dark' }],
 ];
 
-const STAGES = { 'at a stop': 'look(193)', 'in the loader': 'look(48)', 'a word that is open': 'openWord(66)' };
+const STAGES = { 'at a stop': 'by("invite").hidden = true; look(193)', 'in the loader': 'look(48)', 'a word that is open': 'openWord(66)' };
 
 // The rules of texts and borders in each scheme, at a stop, while a story is told, and with a word that is open.
 async function schemes(b) {
@@ -43,8 +44,7 @@ async function schemes(b) {
             const colours = [lamp('.on'), lamp(':not(.on)')].map((node) => numbers(getComputedStyle(node).backgroundColor));
             return [ratio(...colours), ratio(colours[0], behind(lamp('.on').parentElement))]; })()`;
         await b.expect(`${name}: lamps that are lit`, await b.ask(lamps), (all) => all.every((one) => one >= 3));
-        await b.run(openAll, false);
-        await b.ask('window.scrollTo(0, 0); 0');
+        await b.ask(`(${openAll})(false); scrollTo(0, 0); 0`);
         await b.shot(`scheme${SCHEMES.indexOf(features)}.png`);
     }
     await b.send('Emulation.setEmulatedMedia', { features: [] });
@@ -189,18 +189,15 @@ async function unable(b) {
         fs.writeFileSync(file, page);
         await b.openBare(`file://${path.resolve(file)}`, { isScripted: what !== 'no JavaScript', hasWasm: what !== 'no WebAssembly' });
         await pause(2500);
-        const { root } = await b.send('DOM.getDocument', { depth: -1 });
-        const seen = async (selector) => {
-            const { nodeIds } = await b.send('DOM.querySelectorAll', { nodeId: root.nodeId, selector });
-            return Promise.all(nodeIds.map(async (nodeId) => ((await b.send('DOM.getBoxModel', { nodeId })).model || { height: 0 }).height > 10));
-        };
-        await b.expect(`${what}: a sentence in both languages`, await seen('#unable p'), [true, true]);
-        await b.expect(`${what}: and nothing else`, await seen('main'), [false]);
+        const [sentences, others] = await seenBare(b, ['#unable p', 'main']);
+        await b.expect(`${what}: a sentence in both languages`, sentences, [true, true]);
+        await b.expect(`${what}: and nothing else`, others, [false]);
         fs.rmSync(file);
     }
     [b.session, b.page] = was;
     b.said = b.said.filter((said) => !/unable\.html|SyntaxError/.test(said));
-    await b.expect('where it runs, they are not seen', await b.ask('by("unable").getClientRects().length'), 0);
+    await b.expect('where it runs, they are not seen, each in its language',
+        await b.ask('[by("unable").getClientRects().length, ...[...by("unable").children].map(({ lang }) => lang)]'), [0, 'en', 'de']);
     await b.expect('the head of the page', await b.run(() => [
         document.querySelector('meta[name=description]').content.length > 60,
         document.querySelector('meta[name=color-scheme]').content,

@@ -138,9 +138,9 @@ async function typing(b) {
     await each(b, async (_, { kind }, language, where) => {
         await b.press('#write', kind);
         await b.press('#new', kind);
-        const made = await b.ask('[page.program.kind, page.program.text.split("\\n").slice(1), document.activeElement.id, by("refusal").hidden]');
+        const made = await b.ask('[page.program.kind, page.program.text.split("\\n").slice(1), document.activeElement.id, by("refusal").hidden, by("stories").value]');
         const stop = { en: 'Z F               ; stop', de: 'Z F               ; halt' }[language];
-        await b.expect(`${where}: a new source`, made, ['source', ['segment main', stop, 'enter main', ''], 'text', true]);
+        await b.expect(`${where}: a new source`, made, ['source', ['segment main', stop, 'enter main', ''], 'text', true, 'own']);
         await b.write('#text', LETTER, kind);
         await b.key('Enter', CONTROL);
         await b.expect(`${where}: Control and Enter run it`, await b.until('page.shown.ending === "stopped" && page.program.text.includes("Q F")'), true);

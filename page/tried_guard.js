@@ -46,6 +46,10 @@ async function guarded(b) {
             ['contextmenu', 'keydown', 'keydown', 'keydown', 'keydown', 'keydown', 'wheel'].map((kind) => `${kind} ${isKiosk}`));
         await b.send('Input.dispatchKeyEvent', { type: 'rawKeyDown', key: 'Tab', windowsVirtualKeyCode: 9 });
         await b.expect(`Tab ${where}`, await b.ask('window.stopped.pop()'), 'keydown false');
+        await b.ask('by("text").focus(); 0');
+        await b.send('Input.dispatchKeyEvent', { type: 'rawKeyDown', key: 'v', windowsVirtualKeyCode: 86, modifiers: 2 });
+        await b.expect(`Control and V in a box ${where}`, await b.ask('window.stopped.pop()'), 'keydown false');
+        await b.ask('document.activeElement.blur(); scrollTo(0, 0); 0');
         await pinch(b);
         await b.expect(`a pinch ${where}`, await b.ask('visualViewport.scale > 1.1'), !isKiosk);
     }
@@ -67,6 +71,8 @@ async function watchdog(b) {
         'an exception': `setTimeout(() => { throw new Error('${MEANT}'); })`,
         'a promise that failed': `Promise.reject(new Error('${MEANT}'))`,
         'a lost canvas': `by('store').dispatchEvent(new Event('contextlost'))`,
+        'a page that does not load': `tellFault(new TypeError('${MEANT}'))`,
+        'a story that is stuck': 'page.watchdog.look(); page.watchdog.seen.since -= 60001; page.watchdog.look()',
         'a machine with a fault': `halt(); page.machine.goOn = () => { throw new Error('${MEANT}'); }; look(3)`,
     };
     await openKiosk(b, '#kiosk=60,quiet&lang=de');

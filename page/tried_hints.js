@@ -113,7 +113,7 @@ async function endless(b, language, where) {
             await b.run(textNow),
             (said) => !said.includes(wanted),
         );
-        await b.ask('watch.since -= PATIENCE; 0');
+        await b.ask('watch.since -= 8000; 0'); // milliseconds
         await b.expect(
             `${where}, ${what}: that it does not stop`,
             await b.until(`by("did").textContent.includes(${JSON.stringify(wanted)})`, 5),
@@ -138,7 +138,7 @@ async function endless(b, language, where) {
     await write(b, '#text', main('A count F', 'next: S one F', 'U count F', 'E next F', 'Z F', 'count: word 20000', 'one: word 1'));
     await b.click('run');
     await b.until('page.shown.counter >= 56 && page.shown.orders > 500');
-    await b.ask('watch.since -= PATIENCE; 0');
+    await b.ask('watch.since -= 8000; 0'); // milliseconds
     await b.until('watch.isAsked');
     await pause(600);
     await b.expect(

@@ -141,6 +141,45 @@ async function former(b) {
     await b.choose('letter.tape');
 }
 
+// What is kept when a tab is hidden, what is heard of the list of texts, and the own text that is chosen again.
+async function hidden(b) {
+    await b.ask('forget(); enter(); 0');
+    await goTo(b, `#example=letter.edsac&note=${Math.random()}`);
+    await write(b, '#text', OWN);
+    await writeOn(b, '; and more');
+    await b.ask('document.dispatchEvent(new Event("visibilitychange")); 0');
+    await b.expect('a tab that is hidden keeps what was typed', await b.ask('sessionStorage.getItem("edsac").includes("; and more")'), true);
+    await b.until('editor.timer === undefined');
+    await writeOn(b, '; at once');
+    await goTo(b, '#example=sort.edsac');
+    await b.click('replace');
+    await go(b);
+    await b.expect('what was typed just before a link is there after Back', await b.ask('by("text").value'), `${OWN}; and more; at once`);
+    await goTo(b, '#example=hello.edsac');
+    await b.click('replace');
+    const isOpen = 'by("undo").getAttribute("aria-expanded")';
+    const closed = await b.ask(isOpen);
+    await press(b, '#undo');
+    await b.expect('whether the list of texts is open is heard', [closed, await b.ask(isOpen)], ['false', 'true']);
+    await press(b, '#undo');
+    await b.ask('by("examples").focus(); 0');
+    for (let k = await b.ask('by("examples").selectedIndex'); k > 0; k--) {
+        await b.key('ArrowUp');
+    }
+    await b.expect('your own in the list of programs', await b.ask('[by("text").value, editor.isOwn]'), [`${OWN}; and more; at once`, true]);
+    await b.ask('editor.isOwn = false; forget(); enter(); 0');
+    await goTo(b, '#story=name&view=exhibit');
+    await write(b, '#name', 'Bob');
+    await b.key('Enter');
+    await b.ask('halt(); 0');
+    await reload(b);
+    await b.expect('the story of a name is there after a reload, with its box', await b.ask('[by("stories").value, by("name").value, by("nameLabel").hidden]'),
+        ['name', 'Bob', false]);
+    await b.ask('forget(); enter(); 0');
+    await goTo(b, '#view=exhibit');
+    await b.choose('letter.tape');
+}
+
 // Where the session's store is forbidden, or is full, all goes on without it; a kiosk keeps nothing.
 async function unkept(b) {
     const was = b.session;
@@ -175,4 +214,4 @@ async function unkept(b) {
     b.session = was;
 }
 
-module.exports = { parts: { lasting, asked, former }, unkept };
+module.exports = { parts: { lasting, asked, former, hidden }, unkept };

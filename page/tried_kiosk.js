@@ -15,10 +15,11 @@ const later = (b, seconds) => b.ask(`page.shift += ${seconds * 1000}; page.kiosk
 
 async function openKiosk(b, hash, size = [1280, 720]) {
     await b.open(hash, () => b.size(...size));
-    await b.ask('page.shift = 0; page.clock = () => performance.now() + page.shift; 0');
+    await b.ask('page.shift = performance.now(); page.clock = () => page.shift; 0'); // on a busy computer seconds pass between two lines
 }
 
-async function kiosk(b) {
+// It begins at once, and its stories rotate.
+async function rotation(b) {
     await openKiosk(b, '#kiosk=60,quiet');
     await b.expect('a kiosk begins at once, without its bell', await b.run(() => [
         page.tour !== undefined, by('sound').checked, page.kiosk.seconds, document.documentElement.className,
@@ -29,6 +30,13 @@ async function kiosk(b) {
         await b.expect(`its stories rotate: ${name}`, told, [name, true]);
         await later(b, WAIT);
     }
+    await b.unsize();
+}
+
+// What a visitor leaves is gone, after a countdown.
+async function kiosk(b) {
+    await openKiosk(b, '#kiosk=60,quiet');
+    await b.ask('page.hurry = 0.005; 0');
     await b.until('page.tour === undefined');
     await b.ask('page.kiosk.reset(); 0');
     const wanted = await b.run(stateOf);
@@ -43,11 +51,16 @@ async function kiosk(b) {
     await b.ask('halt(); 0');
     await b.expect('every box is as it was', await b.run(stateOf), wanted);
     await b.expect('and nothing of a visitor is left', await b.run(() => [
-        by('ask').hidden, by('linked').hidden, by('refusal').hidden, by('text').style.height,
+        by('ask').hidden, by('linked').hidden, by('refusal').hidden, by('text').style.height, by('follow').getAttribute('aria-pressed'),
         kept.former.length === 0, by('undo').disabled,
         [...document.body.children].some((node) => node.tagName !== 'SCRIPT' && node.textContent.includes('BOB')),
-    ]), [true, true, true, '', true, true, false]);
-    await options(b);
+    ]), [true, true, true, '', 'true', true, true, false]);
+    await b.ask('by("write").click(); 0');
+    await b.expect('it has no workbench', await b.ask('isBench()'), false);
+    await b.ask('halt(); by("text").focus(); page.kiosk.reset(); page.shift += 13000; 0');
+    await b.expect('nor a box that is typed in', await b.ask('document.activeElement.tagName'), 'BODY');
+    await b.expect('and looks at its clock by itself', await b.until('page.tour !== undefined', 4), true);
+    await b.unsize();
 }
 
 // What a visitor leaves: another language, open boxes, choices, an own text.
@@ -90,7 +103,7 @@ async function countdown(b) {
 }
 
 // What the address may ask for.
-async function options(b) {
+async function kioskAddress(b) {
     await openKiosk(b, '#kiosk=20,quiet,story=sum,story=disc,pause=30,stage&lang=de');
     await b.expect('its seconds, its pause, its language, the machine alone', await b.run(() => [
         page.kiosk.seconds, page.kiosk.between, document.documentElement.lang, by('write').getClientRects().length,
@@ -161,4 +174,4 @@ async function enter(b) {
     await b.unsize();
 }
 
-module.exports = { openKiosk, parts: { kiosk, leaves, enter } };
+module.exports = { openKiosk, parts: { rotation, kiosk, kioskAddress, leaves, enter } };

@@ -68,21 +68,13 @@ async function lessons(b) {
     await b.size(1366, 768);
     await allLessons(b, 'mouse');
     await b.unsize();
-    await turns(b);
-    await mistakes(b);
+    await leave(b);
+}
+
+// Back to the exhibit.
+async function leave(b) {
     await b.speak('en');
-    await b.expect(
-        'no answer is in the page',
-        await b.ask('EXAMPLES.some((example) => example.name.startsWith("answer"))'),
-        false,
-    );
-    const hints = { 'a 5 F': 'capital letters', 'A 5': 'F (a short word) or D', 'text "HELLO YOU"': 'has no blank' };
-    for (const [line, hint] of Object.entries(hints)) {
-        await b.type(`segment main\n${line}\nZ F\nenter main\n`);
-        await b.expect(`a hint for ${line}`, await b.text('refused'), (said) => said.includes(hint));
-    }
     await b.set('lesson', '0');
-    await proofs(b);
     await b.click('toExhibit');
     await b.choose('letter.tape');
 }
@@ -91,11 +83,8 @@ async function lessons(b) {
 async function narrowLessons(b) {
     await b.size(360, 740);
     await allLessons(b, 'mouse');
-    await b.click('toExhibit');
     await b.unsize();
-    await b.speak('en');
-    await b.set('lesson', '0');
-    await b.choose('letter.tape');
+    await leave(b);
 }
 
 // The ninth lesson counts how often the machine comes to 76.
@@ -130,6 +119,8 @@ const WRONG = [
 ];
 
 async function mistakes(b) {
+    await b.set('lesson', '9');
+    await turns(b);
     for (const [number, text, english, german] of WRONG) {
         await b.set('lesson', String(number));
         await typeProgram(b, text());
@@ -138,10 +129,30 @@ async function mistakes(b) {
         await b.speak('de');
         await b.expect(`lesson ${number}: ${german}`, await b.text('checked'), `Noch nicht. ${german}`.trim());
     }
+    await leave(b);
 }
 
-// What is proved of an example is said where it is chosen, of no other text, and in each language.
-async function proofs(b) {
+// No answer is in the page. Some hints. What is proved of an example is said where it is chosen, and of no other text.
+async function answers(b) {
+    await b.expect(
+        'no answer is in the page',
+        await b.ask('EXAMPLES.some((example) => example.name.startsWith("answer"))'),
+        false,
+    );
+    const told = await b.run((phrases) => LESSONS.flatMap(({ texts }) => Object.values(texts)).filter(({ html }) => phrases.some((one) => html.includes(one))).length,
+        Object.values(LANGUAGES).flatMap(({ phrases }) => phrases.map((phrase) => `${phrase}:`)));
+    await b.expect('nor in the lessons, or what is done at a terminal', told, 0);
+    const hints = { 'a 5 F': 'capital letters', 'A 5': 'F (a short word) or D', 'text "HELLO YOU"': 'has no blank' };
+    await b.set('lesson', '9');
+    await reach(b, 'mouse', '#lessonText summary');
+    await b.speak('de');
+    await b.expect('a table of the lesson that was opened stays open', await b.run(() => [...by('lessonText').querySelectorAll('details')].map((box) => box.open)), [true, false]);
+    await b.speak('en');
+    for (const [line, hint] of Object.entries(hints)) {
+        await b.type(`segment main\n${line}\nZ F\nenter main\n`);
+        await b.expect(`a hint for ${line}`, await b.text('refused'), (said) => said.includes(hint));
+    }
+    await b.set('lesson', '0');
     await b.choose('celsius.edsac');
     await b.expect(
         'what is proved of an example',
@@ -158,6 +169,7 @@ async function proofs(b) {
         await b.text('exampleProof'),
         'These are the decimals of e: not only tried, but proved.',
     );
+    await leave(b);
 }
 
-module.exports = { lessons, narrowLessons };
+module.exports = { lessons, narrowLessons, mistakes, answers };

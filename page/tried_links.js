@@ -127,6 +127,41 @@ async function made(b) {
     await goTo(b, '');
 }
 
+// A link is copied when it is made, and by its button; where the browser doesn't copy, it is ready to be copied by hand.
+async function copied(b) {
+    await b.choose('hello.edsac');
+    await b.run(() => {
+        const clipboard = { writeText: async (text) => { window.copied = text; } };
+        Object.defineProperty(navigator, 'clipboard', { configurable: true, value: clipboard });
+    });
+    for (const button of ['#link', '#copyLink']) {
+        await b.ask('window.copied = undefined; sayAt("shared"); 0');
+        await press(b, button);
+        await b.expect(`${button}: the link is copied`, [await b.until('by("shared").textContent !== ""', 5),
+            await b.ask('[window.copied === by("linkText").value, by("shared").textContent]')], [true, [true, 'The link is copied.']]);
+    }
+    await b.run(() => {
+        navigator.clipboard.writeText = async () => { throw new Error('not here'); };
+        getSelection().removeAllRanges();
+    });
+    await press(b, '#copyLink');
+    await b.expect('a link that is not copied is selected', [await b.until('by("shared").textContent === ""', 5),
+        await b.run(() => { const { value, selectionStart: from, selectionEnd: to } = by('linkText'); return value !== '' && to - from === value.length; })],
+    [true, true]);
+    await b.expect('a note is as long as a link holds', await b.ask('by("linkNote").maxLength'), 300);
+    await b.choose('letter.tape');
+    await b.click('step');
+    await press(b, '#link');
+    await b.until('by("linkText").value.includes("p=")');
+    const [, own] = await b.ask('by("linkText").value.split("#")');
+    await b.ask('by("linked").hidden = true; delete navigator.clipboard; 0');
+    await b.choose('hello.edsac');
+    await goTo(b, `#${own}`);
+    await b.expect('a link to the machine after one order', await b.ask('[page.shown.orders, page.program.kind]'), [1, 'tape']);
+    await goTo(b, '#view=exhibit');
+    await b.choose('letter.tape');
+}
+
 // A link is asked about if own work is in the box; Back brings the work of the step before, and Forward that of the step after.
 async function steps(b) {
     await everywhere(b, async (language, where) => {
@@ -168,4 +203,4 @@ async function steps(b) {
     await b.choose('letter.tape');
 }
 
-module.exports = { parts: { opened, made, steps }, openedAtFirst };
+module.exports = { parts: { opened, made, copied, steps }, openedAtFirst };

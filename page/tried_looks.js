@@ -48,6 +48,8 @@ async function looks(b) {
         await b.run(rules.brightness),
         (all) => all.every((one) => one >= 3),
     );
+    await b.ask('look(100000); 0');
+    await b.expect('the sentence of a stop moves', await b.ask(`getComputedStyle(by('ending')).animationName`), 'ring');
     await b.send('Emulation.setEmulatedMedia', { features: [{ name: 'prefers-reduced-motion', value: 'reduce' }] });
     await b.expect(
         'nothing moves where nobody wants it',
@@ -122,8 +124,8 @@ function atEnd(language) {
     look(193);
 }
 
-// Each sentence of each story is whole where it stands, with what is below it, on screens that lie and that stand.
-async function sentences(b) {
+// No sentence of a story is cut off, nor what is below it, on a screen in both languages.
+async function wholeSentences(b, wide, high) {
     await b.send('Page.bringToFront'); // a tab that isn't seen is slowed down
     await b.run(() => {
         page.hurry = 0.004;
@@ -138,16 +140,14 @@ async function sentences(b) {
         page.watching = new MutationObserver(look);
         page.watching.observe(box, { childList: true, subtree: true, attributes: true, characterData: true });
     });
-    for (const [wide, high] of [[1280, 720], [1080, 1920]]) {
-        await b.size(wide, high);
-        await pause(300);
-        for (const language of ['en', 'de']) {
-            await b.run((name) => speakIn(name), language);
-            for (const name of (await b.ask('STORIES.map((story) => story.name)')).filter((one) => one !== 'own')) {
-                await b.set('stories', name);
-                await b.press('#show');
-                await b.expect(`the story ${name} in ${language} at ${wide} ends`, await b.until('page.tour === undefined'), true);
-            }
+    await b.size(wide, high);
+    await pause(300);
+    for (const language of ['en', 'de']) {
+        await b.run((name) => speakIn(name), language);
+        for (const name of (await b.ask('STORIES.map((story) => story.name)')).filter((one) => one !== 'own')) {
+            await b.set('stories', name);
+            await b.press('#show');
+            await b.expect(`the story ${name} in ${language} at ${wide} ends`, await b.until('page.tour === undefined'), true);
         }
     }
     await b.expect('each sentence of each story is whole', await b.ask('[...new Set(page.cut)]'), []);
@@ -155,6 +155,10 @@ async function sentences(b) {
     await b.send('Emulation.clearDeviceMetricsOverride');
     await b.set('stories', 'letter');
 }
+
+// On a screen that lies, and on one that stands.
+const sentences = (b) => wholeSentences(b, 1280, 720);
+const sentencesUpright = (b) => wholeSentences(b, 1080, 1920);
 
 const FIRST_SENTENCE = 500; // milliseconds
 const FRAME_TIME = 16; // milliseconds
@@ -188,8 +192,9 @@ async function opening(b) {
 const FRAME = 25000; // the most orders of a frame: a quarter of a second at 100,000 orders a second
 
 // The time of a frame of a run, with its picture drawn, on an order that jumps to itself and on the loads of bench/: the
-// middle of eleven tries, and the least of them.
+// middle of eleven tries, and the least of them. It opens a page of its own.
 async function speed(b, name) {
+    await b.open(name === 'narrow' ? '#narrow' : '');
     const loads = ['examples/endless.tape', ...['short', 'long', 'squares', 'print'].map((one) => `bench/${one}.tape`)];
     await b.choose('endless.tape');
     await b.run(() => {
@@ -224,4 +229,4 @@ async function speed(b, name) {
     console.log(`  with ${name} memories; all of a picture drawn in ${drawing.toFixed(1)} ms`);
 }
 
-module.exports = { looks, screens, opening, sentences, speed };
+module.exports = { looks, screens, opening, sentences, sentencesUpright, speed };

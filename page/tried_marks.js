@@ -107,6 +107,17 @@ async function tapes(b) {
     };
     await b.expect('the mark of an item is where the item is', await b.run(box), (all) => all.every((apart) => apart < 1.5));
     await b.expect('and is named', await b.text('marked'), '▶ O7@ in line 3 comes next: place 65.');
+    await b.ask('findPlace(300); 0');
+    await b.expect('a place without a line', await b.text('marked'), '▶ O7@ in line 3 comes next: place 65. Place 300 has no line in this text.');
+    await b.choose('decimals.edsac');
+    await b.expect('the text follows the order that comes next', await b.run(() => {
+        look(entryAfter(0) + 5);
+        by('text').scrollTop = by('text').scrollHeight;
+        follows();
+        look(entryAfter(0));
+        const { part: { line } } = marksNow().find(({ kind }) => kind === 'next'), { pitch } = lineSizes();
+        return line * pitch >= marked.top - 1 && (line + 1) * pitch <= marked.top + by('text').clientHeight + 1;
+    }), true);
     b.session = was;
 }
 

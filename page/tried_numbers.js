@@ -76,6 +76,9 @@ async function oneNumber(b) {
     await b.expect('the listing is that of the program', await b.text('listing'), (said) => said.includes('56 114810 A61F'));
     await b.expect('with a sentence that ties them', await b.run(() => document.querySelector('[data-say=listingSays]').textContent),
         (said) => said.includes('114,810 is -16,262'));
+    await b.press('#wordClose');
+    await b.set('figures', 'digits');
+    await b.expect('read as digits, a row has those of its word', await b.run(() => lens.rowOf(57).cells[3].textContent), '01101000000000000');
 }
 
 module.exports = { numbers };

@@ -36,13 +36,23 @@ async function printOf(b, does) {
     return seen;
 }
 
-async function printed(b) {
+// Prints something of an example on each screen and in each language.
+async function printedOf(b, address, does) {
     await everywhere(b, async (language, where, kind) => {
-        await goTo(b, '#example=decimals.edsac');
+        await goTo(b, address);
         await b.ask('document.querySelectorAll("details").forEach((box) => { box.open = false; }); 0');
+        await does(where, kind);
+        await b.ask('editor.isOwn = false; document.querySelectorAll("details").forEach((box) => { box.open = false; }); 0');
+        await goTo(b, '#view=exhibit');
+    });
+    await b.choose('letter.tape');
+}
+
+async function printed(b) {
+    await printedOf(b, '#example=decimals.edsac', async (where, kind) => {
         await b.click('isSource');
         for (const [text, name] of [['', 'decimals.edsac'], [LONG, 'Adds many words']]) {
-            await (text && write(b, '#text', text));
+            await (text && b.type(text)); // a press into the box and keys for each of its lines take a minute
             const whole = await b.ask('by("text").value');
             const prints = {
                 'a worksheet': () => press(b, '#printWorksheet', kind), 'the page': () => b.ask('dispatchEvent(new Event("beforeprint")); 0'),
@@ -67,20 +77,35 @@ async function printed(b) {
             await b.ask('document.title === page.words.say("title")'),
             true,
         );
-        await boxes(b, where);
-        await strip(b, where, kind);
-        await b.ask('editor.isOwn = false; 0');
     });
-    await goTo(b, '#view=exhibit');
-    await b.choose('letter.tape');
     const { data } = await b.send('Page.printToPDF', { paperWidth: 8.27, paperHeight: 11.69 });
     fs.writeFileSync(`${b.folder}/page.pdf`, Buffer.from(data, 'base64'));
 }
 
+async function printedBoxes(b) {
+    await printedOf(b, '#lesson=3&example=hello.edsac', (where) => boxes(b, where));
+}
+
+async function printedTape(b) {
+    await printedOf(b, '#example=hello.edsac', (where, kind) => strip(b, where, kind));
+}
+
+// The sheets are printed by their buttons, each with its name.
+async function printedSheets(b) {
+    await b.ask('window.prints = []; window.print = () => window.prints.push(document.body.dataset.print); 0');
+    for (const [box, button, what, says] of [['sheetBox', 'printSheet', 'sheet', 'sheetHead'], ['loaderBox', 'printLoaders', 'loaders', 'loaderHead']]) {
+        await press(b, `#${box} > summary`);
+        await press(b, `#${button}`);
+        await b.expect(`${what}: it is printed, whole and with its name`, await b.run((id, key) => [
+            window.prints.pop(), by('printed').innerHTML === by(id).innerHTML && by('printed').textContent.length > 1000, document.title === page.words.say(key),
+        ], what, says), [what, true, true]);
+        await b.ask('afterPrint(); 0');
+        await press(b, `#${box} > summary`);
+    }
+}
+
 // The browser's own command prints the boxes that are open, the lesson and the paper too: it is pressed for real once.
 async function boxes(b, where) {
-    await b.ask('editor.isOwn = false; 0');
-    await goTo(b, `#lesson=3&example=hello.edsac&note=${Math.random()}`);
     await b.run(() => {
         look(2000);
         ['traceBox', 'listingBox'].forEach((id) => { by(id).open = true; });
@@ -99,7 +124,6 @@ async function boxes(b, where) {
         await b.ask('[by("printed").textContent, document.body.dataset.print === undefined]'),
         ['', true],
     );
-    await b.ask('document.querySelectorAll("details").forEach((box) => { box.open = false; }); 0');
 }
 
 // The shortest tape has room for all that stands above it.
@@ -122,4 +146,4 @@ async function strip(b, where, kind) {
     await b.ask('afterPrint(); 0');
 }
 
-module.exports = { printed };
+module.exports = { printed, printedBoxes, printedTape, printedSheets };

@@ -90,6 +90,12 @@ async function ownWork(b) {
     await b.click('undo');
     await b.press('#former button');
     await b.expect('and brought back', await b.ask('by("text").value'), 'T64K GK ZF EZPF');
+    await b.ask('editor.isOwn = false; 0');
+    await b.choose('hello.edsac');
+    await b.choose('letter.tape');
+    await b.click('undo');
+    await b.press('#former button');
+    await b.expect('an example that was replaced is brought back too', await b.ask('by("text").value === EXAMPLES.find(({ name }) => name === "hello.edsac").text'), true);
     await b.choose('letter.edsac');
     const classes = await b.run(() => [...document.querySelectorAll('#colours span')].map((node) => node.className));
     await b.expect(
@@ -167,11 +173,11 @@ async function longPaper(b) {
     await b.expect('the paper is full', [all, await b.ask('page.shown.ending')], [1000000, 'paper full']);
     await b.expect('the memory stays below its most', memory, (bytes) => bytes < 32 << 20);
     await b.expect('a long paper is not laid out whole', [laid > 5000, laid < 8200], [true, true]);
-    const back = await b.run(() => {
+    const back = await b.run(() => Math.min(...Array.from({ length: 5 }, () => { // other work on the processor disturbs a measure
         const since = performance.now();
         look(page.shown.orders - 1);
         return performance.now() - since;
-    });
+    })));
     await b.expect('a step back from a long paper doesn\'t freeze the page', back, (took) => took < 100);
     await b.choose('letter.tape');
 }

@@ -8,7 +8,7 @@ const PROGRAM = ['crates/edsac/out/edsac', 'ready/edsac-linux-x86_64'].find((fil
 const LETTERS = 'PQWERTYUIOJ#SZK*.F@D!HNM&LXGABCV'; // of the 32 codes
 const FIGURES = '0123456789';
 const LANGUAGES = ['en', 'de'];
-const STORIES = ['letter', 'changes', 'disc', 'sum', 'mirror', 'fault', 'own'];
+const STORIES = ['changes', 'disc', 'sum', 'mirror', 'fault', 'own']; // besides that of one letter
 const SIZES = [[1920, 1080, false], [360, 740, true]];
 const SMALL_DOT = 2; // pixels
 const NEXT = [255, 143, 122], NAMED = [140, 203, 255]; // the colours of the two frames
@@ -193,12 +193,13 @@ function storyProgram(name) {
     return page.program;
 }
 
-async function screen(b) {
+// The programs of some stories on each screen.
+async function compareStories(b, names) {
     await b.run(() => { by('moreBox').open = by('lookBox').open = true; });
     for (const [wide, high, isMobile] of SIZES) {
         await b.size(wide, high, isMobile);
         await b.until(`innerWidth === ${wide}`);
-        for (const name of STORIES) {
+        for (const name of names) {
             const program = await b.run(storyProgram, name);
             const tape = program.kind === 'source' ? answer(['punch'], program.text).out : program.text;
             for (const [k, orders] of countsOf(program).entries()) {
@@ -213,4 +214,7 @@ async function screen(b) {
     await b.unsize();
 }
 
-module.exports = { screen };
+const screenLetter = (b) => compareStories(b, ['letter']);
+const screen = (b) => compareStories(b, STORIES);
+
+module.exports = { screenLetter, screen };

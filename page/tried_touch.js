@@ -20,10 +20,11 @@ async function words(b) {
     await openRow(b, 66, 'mouse');
     await b.expect('its parts', await b.run(() => ['wordHead', 'word_letter', 'word_address', 'word_length'].map((id) => by(id).textContent)),
         ['Place 66: AF', 'letter: A', 'address: 0', 'short']);
+    await b.expect('each has its name', await b.run(() => [...by('wordLamps').children].map((part) => part.getAttribute('aria-label'))), ['The letter', 'The address', 'The length']);
     await b.expect('nothing is to be tried yet', await b.ask('[by("wordRun").disabled, by("wordUndo").disabled]'), [true, true]);
-    await b.press(lamp(4));
-    await b.press(lamp(14));
-    await b.press(lamp(16));
+    for (const digit of [4, 14, 16]) {
+        await b.press(lamp(digit));
+    }
     await b.expect('what it becomes', await b.run(() => ['wordHead', 'word_letter', 'word_address', 'word_length', 'wordSays']
         .map((id) => by(id).textContent.slice(0, 33))), ['Place 66: AF would become B2D', 'letter: B', 'address: 2', 'long', 'This is tried on a copy: a new ta']);
     await b.expect('the lamp is pressed', await b.run((one) => document.querySelector(one).getAttribute('aria-pressed'), lamp(4)), 'true');
@@ -74,6 +75,9 @@ async function copies(b) {
     await b.press('#wordClose');
     await b.expect('closed', await b.ask('by("word").hidden'), true);
     await b.choose('letter.tape');
+    await openRow(b, 22, 'mouse');
+    await b.press(lamp(16));
+    await b.expect('a word of the loader, which reads the copy, can not be tried', await b.ask('by("wordRun").disabled'), true);
     await b.type('T64K GK ZF EZPF');
     await b.set('at', '60');
     await openRow(b, 64, 'mouse');
@@ -108,6 +112,7 @@ async function keys(b) {
     await b.expect('a story begins, and the keys are gone', await b.ask('[page.tour !== undefined, by("keyboard").hidden]'), [true, true]);
     await b.until('page.tour === undefined && page.shown.ending === "stopped"');
     await b.expect('and printed', await b.text('paper'), 'AOB');
+    await b.set('speed', '2');
     await b.ask('page.hurry = 1; by("speed").focus(); 0');
     await b.key('ArrowRight');
     await b.expect('the slider by a key', [await b.ask('by("speed").value'), await b.text('pace')], ['3', '650, as in 1949']);
@@ -228,9 +233,9 @@ async function fingers(b) {
     await b.send('Emulation.setTouchEmulationEnabled', { enabled: true });
     await b.choose('letter.tape');
     await b.ask('scrollTo(0, 0); 0');
-    await b.press('#step', 'touch');
-    await b.press('#step', 'touch');
-    await b.press('#back', 'touch');
+    for (const button of ['#step', '#step', '#back']) {
+        await b.press(button, 'touch');
+    }
     await b.expect('Step, Step, Back', await b.text('orders'), '1');
     await openRow(b, 1, 'touch');
     await b.press(lamp(0), 'touch');
@@ -239,7 +244,7 @@ async function fingers(b) {
     await b.press('#start', 'touch');
     await b.expect('Start', await b.text('orders'), '0');
     await b.send('Emulation.setTouchEmulationEnabled', { enabled: false });
-    await b.send('Emulation.clearDeviceMetricsOverride');
+    await b.unsize();
 }
 
 module.exports = { words, keys, rows, sounds, fingers };

@@ -4,24 +4,18 @@
 //   node page/units.js
 const fs = require('fs');
 const path = require('path');
-const { Words, writtenFor, figuresOf, printedBetween } = require('./words.js');
-const { packed, unpacked, formOf, kindOf } = require('./share.js');
-const { STORIES, printable, tapeOf } = require('./stories.js');
-const { course } = require('./tried_course.js');
-const { punchedOf } = require('./tape.js');
-const { STRIP, stripOf } = require('./strip.js');
-const { partsOf } = require('./editor.js');
-const { lensFirst, lensPlaces } = require('./lens.js');
-const { codePlaces } = require('./rows.js');
-const { wayOf } = require('./travel.js');
-const { movesOf } = require('./moves.js');
-const { partsOfItem } = require('./parts.js');
-const { copyOf } = require('./copy.js');
-const { clatterOf } = require('./sound.js');
+const { Words, printedBetween } = require('./words.js');
+const { packed, unpacked, LONGEST } = require('./share.js');
+const { STORIES } = require('./stories.js');
 const { kioskAsked } = require('./kiosk.js');
+const { course } = require('./tried_course.js');
 const { texts } = require('./tried_loaders.js');
+const { orders } = require('./units_orders.js');
+const { tapes } = require('./units_tapes.js');
+const { changes } = require('./units_changes.js');
 const rules = require('./units_text.js');
 const { bench } = require('./units_bench.js');
+const { shares } = require('./units_shares.js');
 
 Object.assign(globalThis, { printedBetween, ...require('./hints.js') }); // the page's scripts are one script
 let count = 0, wrong = 0;
@@ -34,252 +28,19 @@ function same(what, got, wanted) {
     }
 }
 
-const LETTERS = 'PQWERTYUIOJ#SZK*.F@D!HNM&LXGABCV';
 const languages = Object.fromEntries(fs.readdirSync(path.join(__dirname, 'languages')).map((file) => (
     [file.slice(0, -5), new Words(file.slice(0, -5), JSON.parse(fs.readFileSync(path.join(__dirname, 'languages', file), 'utf8')))])));
 
-// What the machine says of an order: its letter, its location, whether it is long, and its shift.
-const named = (letter, location = 0, isLong = false, shift = 0) => (
-    { letter, location, pair: location - (location % 2), isLong, shift });
-
-// Each order with what it does, in English and in German.
-const MEANINGS = [
-    [named('A', 66), 'Add the number in place 66 to the accumulator.', 'Addiere die Zahl auf Platz 66 zum Akkumulator.'],
-    [
-        named('A', 67, true),
-        'Add the long number in places 66 and 67 to the accumulator.',
-        'Addiere die lange Zahl auf den Plätzen 66 und 67 zum Akkumulator.',
-    ],
-    [named('S', 5), 'Take the number in place 5 away from the accumulator.', 'Zieh die Zahl auf Platz 5 vom Akkumulator ab.'],
-    [
-        named('H', 5),
-        'Copy the number in place 5 into the multiplier register.',
-        'Kopiere die Zahl auf Platz 5 in das Multiplikatorregister.',
-    ],
-    [named('V', 5), 'Multiply the number in place 5 by the multiplier register, and add the result to the accumulator.',
-        'Multipliziere die Zahl auf Platz 5 mit dem Multiplikatorregister, und addiere das Ergebnis zum Akkumulator.'],
-    [named('N', 5), 'Multiply the number in place 5 by the multiplier register, and take the result away from the accumulator.',
-        'Multipliziere die Zahl auf Platz 5 mit dem Multiplikatorregister, und zieh das Ergebnis vom Akkumulator ab.'],
-    [
-        named('T', 5),
-        "Put the accumulator's number into place 5, then make the accumulator 0.",
-        'Bring die Zahl des Akkumulators auf Platz 5, dann setze den Akkumulator auf 0.',
-    ],
-    [
-        named('U', 4, true),
-        "Copy the accumulator's number into places 4 and 5. The accumulator keeps it.",
-        'Kopiere die Zahl des Akkumulators auf die Plätze 4 und 5. Der Akkumulator behält sie.',
-    ],
-    [named('C', 5), 'Look at the number in place 5 and at the multiplier register: where both have a 1, add that 1 to the accumulator.',
-        'Vergleiche die Zahl auf Platz 5 mit dem Multiplikatorregister: Wo beide eine 1 haben, addiere diese 1 zum Akkumulator.'],
-    [
-        named('R', 0, true, 1),
-        "Move the accumulator's digits 1 to the right: this halves its number once.",
-        'Schieb die Ziffern des Akkumulators um 1 nach rechts: Das halbiert seine Zahl einmal.',
-    ],
-    [
-        named('L', 1, false, 2),
-        "Move the accumulator's digits 2 to the left: this doubles its number twice.",
-        'Schieb die Ziffern des Akkumulators um 2 nach links: Das verdoppelt seine Zahl zweimal.',
-    ],
-    [
-        named('L', 0, false, 13),
-        "Move the accumulator's digits 13 to the left: this doubles its number 13 times.",
-        'Schieb die Ziffern des Akkumulators um 13 nach links: Das verdoppelt seine Zahl 13-mal.',
-    ],
-    [
-        named('R', 0, false, 15),
-        "Move the accumulator's digits 15 to the right: this halves its number 15 times.",
-        'Schieb die Ziffern des Akkumulators um 15 nach rechts: Das halbiert seine Zahl 15-mal.',
-    ],
-    [
-        named('E', 64),
-        'If the accumulator is 0 or more, go to place 64. If it is below 0, just go on.',
-        'Ist der Akkumulator 0 oder mehr, geh zu Platz 64. Ist er unter 0, mach einfach weiter.',
-    ],
-    [
-        named('G', 64),
-        'If the accumulator is below 0, go to place 64. If it is 0 or more, just go on.',
-        'Ist der Akkumulator unter 0, geh zu Platz 64. Ist er 0 oder mehr, mach einfach weiter.',
-    ],
-    [
-        named('I', 5),
-        'Read the next row of the tape, and put its number into place 5.',
-        'Lies die nächste Reihe des Lochstreifens, und bring ihre Zahl auf Platz 5.',
-    ],
-    [
-        named('O', 5),
-        'Print the letter or figure whose code is in place 5.',
-        'Druck das Zeichen, dessen Code auf Platz 5 steht.',
-    ],
-    [
-        named('F', 5),
-        'Put the code of what was printed last into place 5, so that it can be checked.',
-        'Bring den Code des zuletzt gedruckten Zeichens auf Platz 5, damit man ihn prüfen kann.',
-    ],
-    [named('X'), 'Do nothing, and go on.', 'Tu nichts, und mach weiter.'],
-    [named('Y'), 'Round the number in the accumulator.', 'Runde die Zahl im Akkumulator.'],
-    [named('Z'), 'Stop, and ring the bell.', 'Halt an, und läute die Glocke.'],
-    [
-        named('', 5),
-        'This is a number and no order. The machine can go no further here.',
-        'Das ist eine Zahl und kein Befehl. Hier geht es für die Maschine nicht weiter.',
-    ],
-];
-for (const [order, english, german] of MEANINGS) {
-    same(`${order.letter} ${order.location} in English`, languages.en.meaning(order), english);
-    same(`${order.letter} ${order.location} in German`, languages.de.meaning(order), german);
-}
-same(
-    'orders as they are written for either loader',
-    ['TF', 'T40D', 'FF', 'D3F'].flatMap((order) => ['tape', 'tape1'].map((kind) => writtenFor(kind, order))),
-    ['TF', 'TS', 'T40D', 'T40L', 'FF', 'FS', 'D3F', 'D3S'],
-);
-
-same(
-    'orders in a few words',
-    [named('A', 66), named('A', 66, true), named('O', 66), named('E', 64), named('Z'), named('', 5)].map((order) => languages.en.brief(order)),
-    ['add 66', 'add 66, 67', 'print the sign in 66', 'if 0 or more, go to 64', 'stop', 'no order'],
-);
-same(
-    'the lens moves only if it has to',
-    [lensFirst(63, 66, 8, 1024), lensFirst(63, 69, 8, 1024), lensFirst(63, 20, 8, 1024), lensFirst(0, 1023, 8, 1024), lensFirst(5, 0, 8, 1024)],
-    [63, 68, 19, 1016, 0],
-);
-same(
-    'and its last two rows have what is far away',
-    [[], [25], [64, 22, 64], [64, 2], [25, 64]].map((others) => lensPlaces(20, 6, others).slice(3)),
-    [[23, 24, 25], [23, 24, 25], [23, 24, 64], [23, 2, 64], [23, 25, 64]],
-);
-// Words of a tape that prints AB, as the machine reports them: O4, O5, Z, 5, A, B.
-const six = [named('O', 4), named('O', 5), named('Z'), named('P', 2), named('A'), named('B')].map((order, k) => (
-    { ...order, named: 'OAB'.includes(order.letter) ? order.location : undefined, number: k === 3 ? 5 : 30000 }));
-same('codes to print', [...codePlaces([0, 1, 2, 3, 4, 5], 0, (word) => six[word])].sort(), [4, 5]);
-// What each kind of order moves, from one picture to the next.
-const MOVED = [
-    [named('A', 66), {}, ['added from 66']],
-    [named('A', 67, true), {}, ['added long from 66']],
-    [named('S', 5), {}, ['added from 5']],
-    [named('H', 67, true), {}, ['taken long from 66']],
-    [named('V', 5), {}, ['added from 5', 'multiplied']],
-    [named('T', 7), {}, ['stored to 7']],
-    [named('U', 6, true), {}, ['stored long to 6']],
-    [named('I', 40, true), { rowsLeft: 8 }, ['read K to 40']],
-    [named('I', 40), {}, []],
-    [named('O', 66), { printed: 'A' }, ['printed A from 66']],
-    [named('O', 66), { printed: '' }, []],
-    [named('R', 0, false, 15), {}, ['shifted by 15']],
-    [named('L', 0, false, 3), {}, ['shifted by -3']],
-    [named('E', 64), { counter: 64 }, ['jumped from 10 to 64']],
-    [named('E', 64), {}, []],
-    [named('X', 0), {}, []],
-];
-for (const [order, after, wanted] of MOVED) {
-    const machine = { meaning: () => ({ ...order, named: 'ASHVTUIOE'.includes(order.letter) ? order.location : undefined }) };
-    const way = { small: false, text: () => after.printed || '' };
-    const before = { words: [], counter: 10, rowsLeft: 9, way };
-    const moves = movesOf(before, { counter: 11, rowsLeft: 9, way, ...after }, machine, (picture, place, isLong) => (isLong ? 'long' : ''), 'K');
-    const said = moves.map(({ kind, text, from, to, by }) => [kind, text, from !== undefined && `from ${from}`,
-        to !== undefined && `to ${to}`, by !== undefined && `by ${by}`].filter(Boolean).join(' '));
-    same(`what ${order.letter} ${order.location} moves`, said, wanted);
-}
-same('the parts of items', ['O2@', 'AF', 'T64K', 'GK', 'A12D', 'R1S'].map((item) => partsOfItem([...item], { first: 0, after: item.length })
-    .map(({ key, sign, read }) => `${key} ${sign} ${read}`).join(', ')), [
-    'letter O 1, digits 2 2, theta @ 3', 'letter A 1, short F 2', 'letter T 1, digits 64 3, other K 4', 'letter G 1, other K 2',
-    'letter A 1, digits 12 3, long D 4', 'letter R 1, digits 1 2, short S 3']);
-
-// T64K GK O2@ ZF AF EZPF, with a row of data after it.
-const labels = [...'T64KGKO2@ZFAFEZPFB'];
-const item = (first, after, location) => ({ first, after, location });
-const items = [item(0, 4), item(4, 6), item(6, 9, 64), item(9, 11, 65), item(11, 13, 66), item(13, 15), item(15, 17)];
-same('a copy of a tape with another word', [['tape', 66, 'BF'], ['tape', 70, 'CF'], ['tape1', 64, 'O3S'], ['tape1', 70, 'CS']]
-    .map((change) => copyOf(labels, items, ...change)), [
-    'T64K GK O2@ ZF BF EZ PF B', 'T64K GK O2@ ZF AF T70KCF EZ PF B', 'T64K GK O3S ZF AF EZ PF B', undefined]);
-same('a tape without an entry has no place for another word', copyOf(labels, items.slice(0, 5), 'tape', 70, 'CF'), undefined);
-same('what clatters', [[1, 9, 2, 8], [1, 9, 1, 8], [1, 9, 1, 9]].map(([printed, rowsLeft, after, left]) => (
-    clatterOf({ printed, rowsLeft }, { printed: after, rowsLeft: left }) || 'nothing')), ['printer', 'reader', 'nothing']);
-same('a way has its ends', [0, 12].map((k) => wayOf([1, 2], [30, 40], 0.2)[k]), [[1, 2], [30, 40]]);
-
-// Each order has a sentence in each language, and so has each cause of the manual.
-for (const [name, words] of Object.entries(languages)) {
-    for (const letter of 'ASHVNTUCRLEGIOFXYZ') {
-        same(`${name}: ${letter}`, /\{|undefined/.test(words.meaning(named(letter, 5))), false);
-        same(`${name}: ${letter} in a few words`, /\{|undefined/.test(words.brief(named(letter, 5))), false);
-        same(`${name}: what ${letter} will do`, /\{|undefined|no order/.test(words.brief(named(letter, 5), 'later')), false);
-    }
-    for (const cause of ['T1', 'T2', ...Array.from({ length: 17 }, (_, k) => `S${k + 1}`)]) {
-        same(`${name}: ${cause}`, words.has(`cause.${cause}`), true);
-    }
-}
-
+orders(same, languages);
+changes(same, languages.en);
 rules.hints(same, languages);
 rules.addresses(same);
 rules.titles(same);
-
-const codes = (text) => [...text].map((sign) => (/\d/.test(sign) ? Number(sign) : LETTERS.indexOf(sign)));
-const figured = (text, ...ends) => figuresOf(codes(text), ends.map((after, k) => ({ first: k ? ends[k - 1] : 0, after })))
-    .map((is) => (is ? '9' : '-')).join('');
-same('the figures of a tape', figured('T64KGKO2@', 4, 6, 9), '-99---' + '-9-');
-same('what follows the entry is not the loader\'s', figured('E64KPF12F', 4, 6), '-99-' + '--' + '---');
-same('a function and a mark are no figures', figured('1#F12', 3), '-----');
-same('no figure without an item', figured('12'), '--');
-same('blank tape has no hole, erase has five', ['.', '*'].map((sign) => punchedOf(LETTERS.indexOf(sign))), [0, 31]);
-same(
-    'names that the teleprinter can print',
-    ['ada', ' Jürgen ', 'Strauß', '1234', 'Anna Maria Luise'].map(printable),
-    ['ADA', 'JURGEN', 'STRAUSS', 'EDSAC', 'ANNA MARIA L'],
-);
-same('a tape that prints a name', tapeOf('AB').split('\n').slice(1), ['T64K GK', 'O3@ O4@ ZF', 'AF BF', 'EZPF', '']);
-same('a blank in a name', tapeOf('A B').includes('AF !F BF'), true);
-same(
-    'a source by its name or its lines',
-    [kindOf('a.tape', 'segment'), kindOf('a.edsac', ''), kindOf('a.txt', '; x\nsegment main'), kindOf('a.txt', 'T64K')],
-    ['tape', 'source', 'source', 'tape'],
-);
-same(
-    'a tape of May 1949 by its name or its form',
-    [kindOf('a.tape1', 'T64K'), kindOf('a.TAPE1', ''), kindOf('a.tape', 'T35S'), kindOf('a.txt', 'T35S')],
-    ['tape1', 'tape1', 'tape', 'tape1'],
-);
-same(
-    'the form of a text',
-    ['[T9K] T 7\n4 S', 'TS', 'T64K GK', 'A5S', '', 'segment main'].map(formOf),
-    ['tape1', 'tape', 'tape', 'tape', 'tape', 'source'],
-);
-for (const name of fs.readdirSync(path.join(__dirname, '../examples')).filter((one) => /\.(tape1?|edsac)$/.test(one))) {
-    const text = fs.readFileSync(path.join(__dirname, '../examples', name), 'utf8');
-    same(`the form of ${name}`, formOf(text), kindOf(name, text));
-}
-const whole = (parts) => parts.map(([, part]) => part).join('');
-for (const [kind, text] of [['source', 'a: A b F ; x\ntext "A;B"\n'], ['tape', 'T64K [x] GK']]) {
-    same(`no character of a ${kind} is lost`, whole(partsOf(text, kind)), text);
-}
-same(
-    'the parts of a line',
-    partsOf('_a: T _b F ; "x" F', 'source'),
-    [['label', '_a: '], ['order', 'T'], ['', ' _b F '], ['comment', '; "x" F']],
-);
-same('a string is no comment', partsOf('text "A;B"', 'source'), [['word', 'text'], ['', ' '], ['string', '"A;B"']]);
-const strip = stripOf(codes('.*A'), ['.', '*', '<!--'], punchedOf, '<b>', 'x');
-same(
-    'holes of three rows',
-    (strip.match(/class="hole"/g) || []).length,
-    0 + 5 + punchedOf(28).toString(2).replace(/0/g, '').length,
-);
-same(
-    'what a tape says is escaped',
-    [strip.includes('<!--'), strip.includes('&lt;!--'), strip.includes('&lt;b&gt;')],
-    [false, true, true],
-);
-same(
-    'a long tape is cut into pieces',
-    (stripOf(new Array(STRIP.rows + 1).fill(0), new Array(STRIP.rows + 1).fill('P'), punchedOf, 'x', 'x').match(/class="cut"/g) || []).length,
-    2,
-);
-
+tapes(same);
 texts(same);
 course(same);
 bench(same, languages);
+shares(same);
 
 // What a kiosk's address asks for.
 const usual = { seconds: 90, between: 12, stories: ['letter', 'disc'], isQuiet: false, isStage: false };
@@ -308,6 +69,20 @@ for (const { name, example } of proved) {
 }
 same('the orders of the table of squares', programs.includes('`stopped at 61 after 1855`'), true);
 
+// Whether no more of a link is unpacked than a text may have.
+async function takenOf(letters) {
+    const { prototype } = ReadableStreamDefaultReader, { read } = prototype;
+    let taken = 0;
+    prototype.read = async function reads() {
+        const part = await read.call(this);
+        taken += part.done ? 0 : part.value.length;
+        return part;
+    };
+    await unpacked(letters);
+    prototype.read = read;
+    return taken < 3 * LONGEST;
+}
+
 (async () => {
     for (const text of ['', 'T64K GK', 'ÄÖÜ \u{1F600}\n'.repeat(2000)]) {
         const shared = { kind: 'tape', small: true, orders: 7, text };
@@ -320,7 +95,8 @@ same('the orders of the table of squares', programs.includes('`stopped at 61 aft
         await unpacked(await packed({ kind: 'tape', small: false, orders: 0, text: 'A'.repeat(600000) })),
         undefined,
     );
-    for (const bad of ['', '1', '1AAAA', '0e30', '0bnVsbA', `0${btoa('["tape",0,1.5,"x"]')}`]) {
+    same('and that is given up early', await takenOf(await packed({ kind: 'tape', small: false, orders: 0, text: 'A'.repeat(9000000) })), true);
+    for (const bad of ['', '1', '1AAAA', `0${btoa('["odd",0,1,"x"]')}`, '0e30', '0bnVsbA', `0${btoa('["tape",0,1.5,"x"]')}`]) {
         same(`no link: ${bad}`, await unpacked(bad), undefined);
     }
     console.log(`the page's own rules: ${count} tried, ${wrong} faults`);

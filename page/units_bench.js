@@ -10,7 +10,7 @@ const words = (...places) => places.map((place) => item(place));
 function lines(same) {
     for (const [line, form, count] of [
         ['A 5 F', 'word', 1], ['  ', '', 0], ['; Z F', '', 0], ['loop: A5F ; text "AB"', 'word', 1], ['word: # F', 'word', 1],
-        ['_a:word -5', 'word', 1], ['text "HELLO"', 'text', 5], ['text"A;" ; "B"', 'text', 2], ['long 5', 'long', 2], ['n :\tlong 5', 'long', 2],
+        ['_a:word -5', 'word', 1], [' \t a: long 5 ; x', 'long', 2], ['text "HELLO"', 'text', 5], ['text"A;" ; "B"', 'text', 2], ['long 5', 'long', 2], ['n :\tlong 5', 'long', 2],
         ['use print as p with H=word', 'use', 0], ['segment word', 'segment', 0], ['enter text', 'enter', 0], ['data "12F"', 'data', 0],
         ['version 2', 'version', 0], ['here:', '', 0], ['Z F\r', 'word', 1],
     ]) {

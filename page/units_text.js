@@ -16,7 +16,7 @@ const SLIPS = [
     ['S3', '0 letter F', 'zero'], ['S3', 'next: 05F', 'zero'], ['S3', 'A 1O F', 'oh'], ['S3', 'word 1O', 'oh'], ['S3', 'A one+1O F', 'oh'],
     ['S3', 'A O F', 'oh'], ['S3', 'word 5 ; O', undefined], ['S3', 'text "O', undefined],
     ['S7', 'A nowhere F', 'word'], ['S16', '', 'enter'], ['S9', 'A 5 F', 'segment'], ['S4', 'word 999999', undefined],
-    ['S1', '“', 'quote'], ['S1', '«', 'quote'], ['S1', '\u00a0', 'noBreak'], ['S1', '\u200b', 'unseen'], ['S1', '–', 'dash'], ['S1', 'ü', 'sign'],
+    ['S1', '“', 'quote'], ['S1', '«', 'quote'], ['S1', '\u00a0', 'noBreak'], ['S1', '\u200b', 'unseen'], ['S1', '–', 'dash'], ['S1', '\u2212', 'dash'], ['S1', 'ü', 'sign'],
     ['T1', 'a', 'lowerTape'], ['T1', '?', undefined], ['T1', ';', 'semicolon'], ['T1', '\u00a0', 'noBreak'], ['T1', '”', 'quote'],
     ['T1', 'ü', undefined],
 ];
@@ -34,6 +34,7 @@ function hints(same, languages) {
         'Is letter a label? A label has a colon: letter:', '“ is a curved quote. Write the straight one of the keyboard: "',
         'Write a last line, such as: enter own',
     ]);
+    same('a text that is too long', languages.en.refusal('input too long', 'A').meaning, 'The text is too long for the machine.');
     slips(same);
 }
 
@@ -45,6 +46,7 @@ function parts(same) {
         same(`the sign at byte ${byte} of ${text}`, signAt(text, byte), { from, to });
     }
     same('a line of a text', lineAt('one\ntwo\nthree', 2), { from: 4, to: 7 });
+    same('the first line of a text', lineAt('one\ntwo', 1), { from: 0, to: 3 });
     same('a line after the last one', lineAt('one', 5), { from: 3, to: 3 });
     const partOf = (text, cause) => { const { from, to } = partAt(text, { unit: 'line', number: 2, cause }); return text.slice(from, to); };
     same('the sign that no program may have', partOf('X F\nA 5 F ; für\nZ F', 'S1'), 'ü');
@@ -87,6 +89,7 @@ function addresses(same) {
         const asked = askedOf(new URLSearchParams(address), HAVE);
         same(`what #${address} asks for`, { ...asked }, { ...askedOf(new URLSearchParams(''), HAVE), ...wanted });
     }
+    same('a note has plain letters', noteOf('a\u202eb\u0007c'), 'a b c');
     same('a note has at most 300 letters', [...noteOf('\u{1F600}'.repeat(301))].length, 300);
     same('the base of a link', [['https://a.org/e.html#x', ''], ['file:///e.html', 'https://a.org/e'], ['file:///e.html', ''], ['file:///e.html', 'javascript://a/%0a1'],
         ['file:///e.html', 'https://a.org/e#x'], ['https://a.org/e.html', 'https://b.org/']].map((given) => linkBase(...given) || 'none'),
