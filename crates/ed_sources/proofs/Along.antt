@@ -1,17 +1,8 @@
 -- A source's program on its way from call to call: which words are still those of its entry.
-use Rattle.std.proofs.Common.{◌≡◌, inl, inr, ℕ, ◌+◌, ◌*◌, ◌<◌, ◌≤◌, refl, ◌∙◌, arith, true, List, length}
-use Rattle.std.specs.Prelude.{unwrap_or}
-use Rattle.ed_words.specs.declared.size.Size.{Size}
-use Rattle.ed_words.proofs.SizeLemmas.{least}
-use Rattle.ed_words.specs.declared.order_words.TheConstants.{A_F, G_F}
-use Rattle.ed_store.specs.Cells.{short_at}
-use Rattle.ed_machine.specs.State.{State}
-use Rattle.ed_notation.specs.Fold.{placed_at}
-use Rattle.ed_library.specs.Routines.{place_count}
-use Rattle.ed_syntax.specs.declared.program.Line.{Line}
-use Rattle.ed_answers.specs.EntryState.{entry_state}
+use Rattle.ed_sources.proofs.Kit.{◌≡◌, ℕ, ◌+◌, ◌*◌, ◌<◌, ◌≤◌, true, List, length, unwrap_or, refl, ◌∙◌, inl, inr, arith}
+use Rattle.ed_sources.proofs.Kit.{A_F, G_F, Size, least, short_at, State, placed_at, Line, place_count, HasWord}
+use Rattle.ed_sources.proofs.Kit.{entry_state}
 use Rattle.ed_sources.proofs.AtEntry.{all_words, has_image, have_places, image_at, placed, word_at}
-use Rattle.ed_routines.specs.Standing.{HasWord}
 use Rattle.ed_sources.proofs.CalledRoutines.{IsBeside, Passes}
 use Rattle.ed_sources.proofs.Calling.{HasRoutine, IsBefore}
 

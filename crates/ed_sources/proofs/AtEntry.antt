@@ -1,23 +1,15 @@
 -- The words in the store at the entry of a source's program.
-use Rattle.std.proofs.Common.{◌≡◌, ℕ, ◌+◌, ◌<◌, ◌≤◌, ◌∙◌, arith, Bool, true, List, [], ◌∷◌}
-use Rattle.std.proofs.Common.{length, length-append, drop, nat_eq, nat_lt}
-use Rattle.std.specs.Prelude.{replicate, reverse, unwrap_or}
-use Rattle.std.specs.List.{list_all}
-use Rattle.std.proofs.lemmas.Bool.{and_parts}
-use Rattle.std.proofs.lemmas.List.{length-drop, length-replicate}
-use Rattle.ed_words.specs.declared.size.Size.{Size}
-use Rattle.ed_words.proofs.Numbers.{eq_of, lt_of}
-use Rattle.ed_store.specs.Cells.{short_at}
+use Rattle.ed_sources.proofs.Kit.{◌≡◌, ℕ, ◌+◌, ◌<◌, ◌≤◌, Bool, true, [], List, ◌∷◌, length, drop, nat_eq, nat_lt, ◌∙◌}
+use Rattle.ed_sources.proofs.Kit.{unwrap_or, arith, length-append, list_all, and_parts, length-replicate, Size, eq_of}
+use Rattle.ed_sources.proofs.Kit.{lt_of, short_at, placed_at, Line, image_word, place_count, linked_words, HasWord}
+use Rattle.ed_sources.proofs.Kit.{entry_state}
+use Rattle.std.specs.Prelude.{replicate, reverse}
+use Rattle.std.proofs.lemmas.List.{length-drop}
 use Rattle.ed_notation.specs.Checks.{ArePlaces}
-use Rattle.ed_notation.specs.Fold.{over, placed_at}
+use Rattle.ed_notation.specs.Fold.{over}
 use Rattle.ed_notation.proofs.Contents.{length-over}
-use Rattle.ed_library.specs.Images.{image_word}
-use Rattle.ed_library.specs.Routines.{place_count}
-use Rattle.ed_syntax.specs.declared.program.Line.{Line}
-use Rattle.ed_link.specs.Linked.{linked_words}
-use Rattle.ed_answers.specs.EntryState.{entry_state, loader_words}
+use Rattle.ed_answers.specs.EntryState.{loader_words}
 use Rattle.ed_answers.proofs.EntryWords.{entry_word}
-use Rattle.ed_routines.specs.Standing.{HasWord}
 use Rattle.ed_sources.proofs.Decimals.{among, numbers}
 
 -- the words that a source places, the last one first

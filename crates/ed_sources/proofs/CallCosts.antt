@@ -1,12 +1,7 @@
 -- What reading the tape of a call costs: that of the words of its numbers, and that of all other items.
-use Rattle.std.proofs.Common.{◌≡◌, ◌∙◌, ℕ, ◌+◌, List, ◌∷◌, ◌++◌, refl, ap, arith, drop, take}
-use Rattle.std.specs.List.{sum_by}
-use Rattle.std.proofs.lemmas.List.Sums.{sum_by-cons}
-use Rattle.ed_notation.specs.declared.item.Item.{Item}
-use Rattle.ed_syntax.specs.declared.program.Line.{Line}
+use Rattle.ed_sources.proofs.Kit.{◌≡◌, ℕ, ◌+◌, List, ◌∷◌, ◌++◌, take, drop, sum_by, refl, ap, ◌∙◌, arith, sum_by-cons}
+use Rattle.ed_sources.proofs.Kit.{Item, Line, cost, item_cost, word_cost}
 use Rattle.ed_link.specs.Punch.{punched_items, word_item}
-use Rattle.ed_link.specs.Tapes.{cost, item_cost}
-use Rattle.ed_sources.specs.Costs.{word_cost}
 use Rattle.ed_sources.proofs.Said.{check_lines, newline_lines, print_lines, read_lines}
 use Rattle.ed_sources.proofs.SaidMaths.{divide_lines, root_lines}
 use Rattle.ed_sources.proofs.WordCosts.{cost_around}

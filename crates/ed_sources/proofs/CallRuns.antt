@@ -1,19 +1,13 @@
 -- A call is the run of its source, from the state at its entry.
-use Rattle.std.proofs.Common.{◌≡◌, ◌∙◌, ℕ, ◌+◌, ◌/◌, ◌%◌, ◌<◌, ◌≤◌, refl}
-use Rattle.std.proofs.Common.{arith, lit<, lit≤, List, [], ◌∷◌, ◌++◌}
-use Rattle.std.proofs.Common.{length, length-append}
-use Rattle.std.specs.Prelude.{None, Ok, codes as codes_of_text}
-use Rattle.ed_words.proofs.SizeLemmas.{least}
-use Rattle.ed_library.specs.declared.call.Call.{Call}
-use Rattle.ed_library.specs.declared.call.Call.TheVariants.{Print, Read, NewLine, Divide, Root, Check}
-use Rattle.ed_sources.specs.CallSources.{call_text}
-use Rattle.ed_syntax.specs.declared.program.Line.{Line}
-use Rattle.ed_syntax.specs.Reading.Sources.{program_of}
-use Rattle.ed_link.specs.FaultTests.{fault}
+use Rattle.ed_sources.proofs.Kit.{◌≡◌, ℕ, ◌+◌, ◌/◌, ◌%◌, ◌<◌, ◌≤◌, [], List, ◌∷◌, ◌++◌, length, None, Ok, refl, ◌∙◌}
+use Rattle.ed_sources.proofs.Kit.{arith, lit<, lit≤, length-append, least, paper, program_of, Line, Call, Check, Divide}
+use Rattle.ed_sources.proofs.Kit.{NewLine, Print, Read, Root, fault, entry_of, cost, digits, few_digits, root_of}
+use Rattle.ed_sources.proofs.Kit.{at_after, entry_note, entry_state, AnswersFromEntry, run_outcome, call_text, StopsAt}
+use Rattle.std.specs.Prelude.{codes as codes_of_text}
 use Rattle.ed_answers.proofs.EachSource.{read_is_accepted}
 use Rattle.ed_sources.proofs.CallsAccepted.{divide_read, newline_read, print_read, read_read, root_read, check_read}
-use Rattle.ed_sources.proofs.Faultless.{divide_faultless, newline_faultless, print_faultless}
-use Rattle.ed_sources.proofs.Faultless.{read_faultless, root_faultless, check_faultless}
+use Rattle.ed_sources.proofs.Faultless.{divide_faultless, newline_faultless, print_faultless, read_faultless}
+use Rattle.ed_sources.proofs.Faultless.{root_faultless, check_faultless}
 use Rattle.ed_sources.proofs.Papers.{digits_printed, lines_printed}
 use Rattle.ed_sources.proofs.DivideAndPrint.{call_ends, quotient_low, remainder_low}
 use Rattle.ed_sources.proofs.RootAndPrint.{root_ends, root_small}
@@ -23,21 +17,11 @@ use Rattle.ed_sources.proofs.CheckedPrint.{guest_stops}
 use Rattle.ed_sources.proofs.MostOrders.{most_orders}
 use Rattle.ed_sources.proofs.PrintAndNewline.{newline_ends, print_ends}
 use Rattle.ed_sources.proofs.ReadAndPrint.{read_ends}
-use Rattle.ed_sources.proofs.Stops.{StopsAt, comes_to_stop}
-use Rattle.ed_maths.specs.Roots.{root_of}
-use Rattle.ed_routines.specs.Digits.{digits}
-use Rattle.ed_routines.proofs.Digits.{few_digits}
-use Rattle.ed_printer.specs.Paper.{paper}
-use Rattle.ed_link.specs.Linked.{entry_of}
-use Rattle.ed_link.specs.Tapes.{cost}
-use Rattle.ed_answers.specs.EntryState.{entry_state}
-use Rattle.ed_report.specs.Notes.{at_after, entry_note}
+use Rattle.ed_sources.proofs.Stops.{comes_to_stop}
 use Rattle.ed_run.specs.declared.settings.Settings.{Settings}
 use Rattle.ed_sources.specs.CallRuns.{CallRuns, EachCallRuns, GuestStops, call_entry, call_orders, call_prints}
 use Rattle.ed_sources.specs.CallRuns.{call_stop, most_call_orders}
 use Rattle.ed_sources.specs.Costs.{call_cost}
-use Rattle.ed_answers.specs.FromEntry.{AnswersFromEntry}
-use Rattle.ed_answers.specs.Sources.{run_outcome}
 use Rattle.ed_answers.proofs.Sources.{accepted_is, each_answer_is_from_entry}
 use Rattle.ed_sources.proofs.Stopped.{stopped_outcome}
 

@@ -1,13 +1,8 @@
 -- The lines of the sources of calls.
-use Rattle.std.proofs.Common.{◌≡◌, ◌∙◌, true, false, List, [], sym, ap}
-use Rattle.std.specs.Prelude.{Ok}
-use Rattle.std.specs.List.{list_all}
-use Rattle.ed_words.specs.Texts.{Text}
-use Rattle.ed_syntax.specs.Parts.{is_line_byte}
-use Rattle.ed_syntax.specs.Reading.Sources.{is_two, lines_from, program_of}
-use Rattle.ed_syntax.specs.declared.program.Line.{Line}
-use Rattle.ed_library.specs.declared.call.Call.{Call}
-use Rattle.ed_sources.specs.CallSources.{call_data, call_pieces, call_text}
+use Rattle.ed_sources.proofs.Kit.{◌≡◌, true, false, [], List, Ok, sym, ap, ◌∙◌, list_all, Text, is_line_byte, Line}
+use Rattle.ed_sources.proofs.Kit.{program_of, Call, call_text}
+use Rattle.ed_syntax.specs.Reading.Sources.{is_two, lines_from}
+use Rattle.ed_sources.specs.CallSources.{call_data, call_pieces}
 use Rattle.ed_sources.proofs.TextLines.{program_is}
 use Rattle.ed_sources.proofs.WovenLines.{unended, woven_is, woven_lines}
 

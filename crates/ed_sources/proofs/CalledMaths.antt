@@ -1,18 +1,14 @@
 -- A call of `divide` and one of `root`, up to the state after it.
-use Rattle.std.proofs.Common.{◌≡◌, ◌≢◌, inl, inr, ℕ, ◌+◌, ◌/◌, ◌%◌, ◌<◌, ◌≤◌, refl, ap, arith, [], length}
-use Rattle.ed_words.specs.Sizes.{locations}
-use Rattle.ed_store.specs.Cells.{short_at}
-use Rattle.ed_machine.specs.State.{State}
+use Rattle.ed_sources.proofs.Kit.{◌≡◌, ℕ, ◌+◌, ◌/◌, ◌%◌, ◌<◌, ◌≤◌, [], ◌≢◌, length, refl, ap, inl, inr, arith, short_at}
+use Rattle.ed_sources.proofs.Kit.{locations, State, joined, IsOutside, Stands, divide_orders, root_orders}
 use Rattle.ed_routines.specs.Returns.{IsOther}
-use Rattle.ed_routines.specs.Standing.{IsOutside, Stands}
 use Rattle.ed_routines.proofs.Called.{within_size}
-use Rattle.ed_maths.specs.Quotients.{HasDivided, IsDivision, divide, divide_orders, dividend, with_hnm}
-use Rattle.ed_maths.specs.Roots.{IsRoot, root, root_orders, with_hn}
+use Rattle.ed_maths.specs.Quotients.{HasDivided, IsDivision, divide, dividend, with_hnm}
+use Rattle.ed_maths.specs.Roots.{IsRoot, root, with_hn}
 use Rattle.ed_maths.proofs.DivideCall as divide_call
 use Rattle.ed_maths.proofs.RootCall as root_call
 use Rattle.ed_sources.proofs.CalledRoutines.{IsBeside, Passes}
 use Rattle.ed_sources.proofs.Calling.{HasRoutine, IsBefore, called, caller_is, calls, outside, stands}
-use Rattle.ed_machine.proofs.Kit.Leads.{joined}
 
 -- `divide` is called: after the call its quotient and its remainder are in the store
 pub record Divides (s : State) (m from to high low by : ℕ) : Type 0 where

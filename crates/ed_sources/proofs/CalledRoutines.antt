@@ -1,24 +1,16 @@
 -- A call of a routine, up to the order after it, and up to that order if it is a stop.
-use Rattle.std.proofs.Common.{◌≡◌, ◌≢◌, ◌⊎◌, inl, inr, ℕ, ◌+◌, ◌*◌, ◌%◌, ◌^◌, ◌<◌, ◌≤◌, refl, ap, ◌∙◌, subst, arith}
-use Rattle.std.proofs.Common.{List, [], ◌∷◌}
-use Rattle.std.proofs.Common.{get_or, length}
-use Rattle.ed_words.specs.Sizes.{locations}
-use Rattle.ed_words.specs.declared.order_words.TheConstants.{Z_F}
-use Rattle.ed_store.specs.Cells.{short_at}
-use Rattle.ed_machine.specs.State.{State}
-use Rattle.ed_machine.specs.OrderTable.{step}
+use Rattle.ed_sources.proofs.Kit.{◌≡◌, ℕ, ◌+◌, ◌*◌, ◌%◌, ◌^◌, ◌<◌, ◌≤◌, [], ◌≢◌, ◌⊎◌, List, ◌∷◌, length, get_or, refl}
+use Rattle.ed_sources.proofs.Kit.{ap, ◌∙◌, subst, inl, inr, arith, locations, Z_F, short_at, step, State, joined, Leads}
+use Rattle.ed_sources.proofs.Kit.{newline, print, with_h, digits, print_orders, IsOutside, Stands, StopsAt}
 use Rattle.ed_machine.specs.declared.turn.Turn.TheVariants.{Stopped}
-use Rattle.ed_routines.specs.Catalogue.{newline, print, read, with_h}
-use Rattle.ed_routines.specs.Digits.{after_digits, digit_rows, digits, digits_value, print_orders}
-use Rattle.ed_routines.specs.Standing.{IsOutside, Stands}
-use Rattle.ed_machine.proofs.Kit.Leads.{Leads, joined}
+use Rattle.ed_routines.specs.Catalogue.{read}
+use Rattle.ed_routines.specs.Digits.{after_digits, digit_rows, digits_value}
 use Rattle.ed_routines.specs.Returns.{IsOther}
 use Rattle.ed_routines.proofs.Called.{IsCalled, IsWithin, called as routine_called}
 use Rattle.ed_routines.proofs.NewLine as new_line
 use Rattle.ed_routines.proofs.PrintCall as print_call
 use Rattle.ed_routines.proofs.ReadCall as read_call
 use Rattle.ed_sources.proofs.Calling.{HasRoutine, IsBefore, back, called, caller_is, calls, outside, stands}
-use Rattle.ed_sources.proofs.Stops.{StopsAt}
 
 -- the order Z F at the counter
 pub stop_at : (s : State) → get_or s.store.words s.counter 0 ≡ Z_F → (step s).turn ≡ Stopped

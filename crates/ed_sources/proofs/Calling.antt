@@ -1,21 +1,14 @@
 -- The two orders that call a routine: A m F at m, and after it G to the routine's base.
-use Rattle.std.proofs.Common.{◌≡◌, ℕ, zero, suc, ◌+◌, ◌*◌, ◌^◌, ◌<◌, ◌≤◌}
-use Rattle.std.proofs.Common.{refl, sym, ap, ◌∙◌, subst, arith, List, [], ◌∷◌}
-use Rattle.std.proofs.Common.{Some, None, get_or, length}
-use Rattle.ed_words.specs.Sizes.{locations}
+use Rattle.ed_sources.proofs.Kit.{◌≡◌, ℕ, zero, suc, ◌+◌, ◌*◌, ◌^◌, ◌<◌, ◌≤◌, [], List, ◌∷◌, length, get_or, Some, None}
+use Rattle.ed_sources.proofs.Kit.{sym, refl, ap, ◌∙◌, subst, arith, locations, A_F, G_F, short_at, State, short, state}
+use Rattle.ed_sources.proofs.Kit.{Frame, Moment, Leads, place_count, HasWord, IsOutside, Stands}
 use Rattle.ed_words.proofs.SizeLemmas.{most}
-use Rattle.ed_words.specs.declared.order_words.TheConstants.{A_F, G_F}
-use Rattle.ed_store.specs.Cells.{short_at}
-use Rattle.ed_machine.specs.State.{State}
-use Rattle.ed_machine.proofs.Kit.Frames.{Frame, Moment, state, short}
-use Rattle.ed_machine.proofs.Kit.Leads.{Leads}
 use Rattle.ed_machine.proofs.Kit.Moves.{A, G_jumps}
 use Rattle.ed_machine.proofs.Kit.Paths.{Path, leads, on, stay}
 use Rattle.ed_machine.proofs.Kit.Places.{any, own}
 use Rattle.ed_machine.proofs.Kit.Standing.{Holds, opens}
 use Rattle.ed_machine.proofs.Kit.Window.{patched}
-use Rattle.ed_library.specs.Routines.{place_count}
-use Rattle.ed_routines.specs.Standing.{HasWord, IsOutside, Stands, caller}
+use Rattle.ed_routines.specs.Standing.{caller}
 
 -- a state before such a call, from m to a base
 pub record IsBefore (s : State) (m base : ℕ) : Type 0 where

@@ -1,19 +1,12 @@
 -- The sources of calls are accepted.
-use Rattle.std.proofs.Common.{◌≡◌, ℕ, ◌/◌, ◌%◌, ◌<◌, arith, true, refl, subst, lit≤, append-nil}
-use Rattle.std.specs.Prelude.{Ok}
-use Rattle.std.specs.Fmt.{decimal}
-use Rattle.std.specs.List.{list_all}
-use Rattle.ed_library.specs.declared.call.Call.TheVariants.{Print, Read, NewLine, Divide, Root, Check}
-use Rattle.ed_words.specs.Texts.{Text}
-use Rattle.ed_syntax.specs.Parts.{is_line_byte}
-use Rattle.ed_syntax.specs.Reading.Sources.{program_of}
+use Rattle.ed_sources.proofs.Kit.{◌≡◌, ℕ, ◌/◌, ◌%◌, ◌<◌, true, Ok, decimal, refl, subst, append-nil, arith, lit≤, Text}
+use Rattle.ed_sources.proofs.Kit.{list_all, is_line_byte, program_of, Check, Divide, NewLine, Print, Read, Root, digits}
+use Rattle.ed_sources.proofs.Kit.{call_text}
 use Rattle.ed_library.specs.CallRanges.{IsDivisible}
-use Rattle.ed_sources.specs.CallSources.{call_text}
 use Rattle.ed_sources.proofs.CallTexts.{call_is, call_lines}
-use Rattle.ed_routines.specs.Digits.{digits}
 use Rattle.ed_sources.proofs.Decimals.{are, decimal_is, line_bytes}
-use Rattle.ed_sources.proofs.Said.{newline_lines, newline_says, print_lines, print_says}
-use Rattle.ed_sources.proofs.Said.{read_lines, read_says, with_end, check_lines, check_says}
+use Rattle.ed_sources.proofs.Said.{newline_lines, newline_says, print_lines, print_says, read_lines, read_says}
+use Rattle.ed_sources.proofs.Said.{with_end, check_lines, check_says}
 use Rattle.ed_sources.proofs.SaidMaths.{divide_lines, divide_says, root_lines, root_says}
 use Rattle.ed_sources.proofs.TextLines.{said_lines}
 

@@ -1,22 +1,16 @@
 -- What the guest of `call check N` prints has room on the paper, and the machine's orders lead to its stop.
-use Rattle.std.proofs.Common.{ℕ, zero, suc, ◌+◌, ◌*◌}
-use Rattle.std.proofs.Common.{◌<◌, ◌≤◌, ap, subst, arith}
-use Rattle.std.proofs.Common.{◌∷◌, length, length-append}
-use Rattle.ed_words.specs.declared.size.Size.{Size}
+use Rattle.ed_sources.proofs.Kit.{ℕ, zero, suc, ◌+◌, ◌*◌, ◌<◌, ◌≤◌, ◌∷◌, length, ap, subst, arith, length-append, Size}
+use Rattle.ed_sources.proofs.Kit.{step, State, before_units, print_orders, sum, entry_state, StopsAt}
 use Rattle.ed_words.specs.Words.{function_of}
-use Rattle.ed_machine.specs.State.{State}
-use Rattle.ed_machine.specs.OrderTable.{next_word, step}
+use Rattle.ed_machine.specs.OrderTable.{next_word}
 use Rattle.ed_machine.specs.Steps.{Progress, codes_of, state_after}
-use Rattle.ed_answers.specs.EntryState.{entry_state}
 use Rattle.ed_machine.proofs.Kit.Leads.{all_go}
-use Rattle.ed_routines.specs.Digits.{before_units, print_orders, sum}
 use Rattle.ed_checker.specs.Checker.{checked_codes, guest, planting_place}
 use Rattle.ed_checker.specs.Laws.{ChecksToStop}
 use Rattle.ed_checker.proofs.Whole.{few_codes}
 use Rattle.ed_sources.proofs.CheckedPrint.{checks_print, count_is}
 use Rattle.ed_sources.proofs.PrintOrders.{print_few}
 use Rattle.ed_sources.proofs.Said.{check_lines}
-use Rattle.ed_sources.proofs.Stops.{StopsAt}
 
 -- each order of a guest prints at most two codes
 two_each : (q : ℕ) (g : State) → length (checked_codes g q) ≤ 2 * q

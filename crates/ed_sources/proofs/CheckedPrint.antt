@@ -1,41 +1,33 @@
 -- The source of `call check N`: at its entry the checking routine is at the start of a turn, and its guest prints the
 -- number and stops.
-use Rattle.std.proofs.Common.{◌≡◌, inl, inr, ◌∙◌, ℕ, zero, suc, ◌+◌, ◌-◌, ◌*◌, ◌/◌, ◌%◌}
-use Rattle.std.proofs.Common.{◌^◌, ◌<◌, ◌≤◌, refl, sym, ap, subst, arith, lit≤, lit<}
-use Rattle.std.proofs.Common.{Bool, true, false, ◌&&◌, ◌||◌, nat_eq, nat_le, nat_lt, Some}
-use Rattle.std.proofs.Common.{List, [], ◌∷◌, ◌++◌, drop, get_or, length, set}
-use Rattle.std.specs.Prelude.{replicate, unwrap_or}
-use Rattle.std.specs.List.{list_all}
-use Rattle.std.proofs.lemmas.Bool.{and_parts, cases_lt}
+use Rattle.ed_sources.proofs.Kit.{◌≡◌, ℕ, zero, suc, ◌+◌, ◌-◌, ◌*◌, ◌/◌, ◌%◌, ◌^◌, ◌<◌, ◌≤◌, Bool, true, false, [], ◌∷◌}
+use Rattle.ed_sources.proofs.Kit.{◌||◌, List, ◌++◌, length, get_or, drop, nat_eq, nat_lt, nat_le, Some, unwrap_or, sym}
+use Rattle.ed_sources.proofs.Kit.{refl, ap, ◌∙◌, subst, inl, inr, arith, lit<, lit≤, list_all, cases_lt, and_parts, Z_F}
+use Rattle.ed_sources.proofs.Kit.{length-replicate, locations, Size, eq_of, lt_of, lt_true, least, short_at, step, sum}
+use Rattle.ed_sources.proofs.Kit.{State, short, joined, Leads, placed_at, image_word, parameter_store, print, with_h}
+use Rattle.ed_sources.proofs.Kit.{before_units, digits, print_orders, IsOutside, Stands, tens, entry_state}
+use Rattle.std.proofs.Common.{◌&&◌, set}
+use Rattle.std.specs.Prelude.{replicate}
 use Rattle.std.proofs.Math.ListN.{get_or-append}
-use Rattle.std.proofs.lemmas.List.{get_or-append_right, get_or-drop, length-replicate}
-use Rattle.ed_words.specs.declared.size.Size.{Size}
-use Rattle.ed_words.specs.Sizes.{locations, within}
+use Rattle.std.proofs.lemmas.List.{get_or-append_right, get_or-drop}
+use Rattle.ed_words.specs.Sizes.{within}
 use Rattle.ed_words.specs.Words.{address_of, function_of}
-use Rattle.ed_words.proofs.Numbers.{eq_of, lt_of, lt_true}
-use Rattle.ed_words.proofs.SizeLemmas.{least, within_below}
-use Rattle.ed_words.specs.declared.order_words.TheConstants.{Z_F}
-use Rattle.ed_store.specs.Cells.{long_at, short_at}
+use Rattle.ed_words.proofs.SizeLemmas.{within_below}
+use Rattle.ed_store.specs.Cells.{long_at}
 use Rattle.ed_orders.specs.Kinds.{kind_of_function}
 use Rattle.ed_orders.specs.declared.kind.Kind.TheVariants.{A, G}
-use Rattle.ed_machine.specs.State.{State}
-use Rattle.ed_machine.specs.OrderTable.{jump_order, next_word, obey_word, place_of, step}
+use Rattle.ed_machine.specs.OrderTable.{jump_order, next_word, obey_word, place_of}
 use Rattle.ed_machine.specs.Sound.{IsSound}
 use Rattle.ed_machine.specs.Steps.{progress, state_after}
-use Rattle.ed_notation.specs.Fold.{over, placed_at}
-use Rattle.ed_library.specs.Images.{image_word, parameter_store}
+use Rattle.ed_notation.specs.Fold.{over}
 use Rattle.ed_library.specs.Routines.{is_working}
-use Rattle.ed_answers.specs.EntryState.{entry_state, loader_words}
+use Rattle.ed_answers.specs.EntryState.{loader_words}
 use Rattle.ed_machine.proofs.Steps.{after_sum}
-use Rattle.ed_machine.proofs.Kit.Frames.{short}
-use Rattle.ed_machine.proofs.Kit.Leads.{Leads, first_order, free, joined, no_stops}
+use Rattle.ed_machine.proofs.Kit.Leads.{first_order, free, no_stops}
 use Rattle.ed_machine.proofs.Kit.Zeros.{begun, shown}
 use Rattle.ed_initial.proofs.Starts.{all_fit}
-use Rattle.ed_routines.specs.Catalogue.{print, with_h}
-use Rattle.ed_routines.specs.Digits.{before_units, digits, print_orders, sum}
-use Rattle.ed_routines.specs.Standing.{IsOutside, Stands, caller}
+use Rattle.ed_routines.specs.Standing.{caller}
 use Rattle.ed_routines.proofs.Called.{IsCalled}
-use Rattle.ed_routines.proofs.Digits.{tens}
 use Rattle.ed_routines.proofs.Print.{before_tens, print_weight, shown_weight, shows_is, sum_is}
 use Rattle.ed_routines.proofs.PrintCall as print_call
 use Rattle.ed_routines.proofs.Walks.{total, total_sum}

@@ -1,20 +1,14 @@
 -- The digits of a number in a source: as a word of it, and as rows of its tape.
-use Rattle.std.proofs.Common.{◌≡◌, ◌∙◌, inl, inr, ℕ, zero, suc, ◌+◌, ◌-◌, ◌*◌}
-use Rattle.std.proofs.Common.{◌/◌, ◌%◌, ◌<◌, ◌≤◌, Bool, true, List, [], ◌∷◌, ◌++◌}
-use Rattle.std.proofs.Common.{refl, ap, subst, arith, length, length-append, map, nat_lt, nat_eq}
-use Rattle.std.specs.Prelude.{◌&&◌, ◌==◌, not, fold}
-use Rattle.std.specs.Fmt.{decimal}
-use Rattle.std.specs.List.{list_all}
-use Rattle.std.proofs.lemmas.Bool.{and_parts, cases_lt}
-use Rattle.std.proofs.lemmas.List.{length-map}
-use Rattle.ed_words.proofs.Numbers.{eq_of, lt_of, lt_true}
+use Rattle.ed_sources.proofs.Kit.{◌≡◌, ℕ, zero, suc, ◌+◌, ◌-◌, ◌*◌, ◌/◌, ◌%◌, ◌<◌, ◌≤◌, Bool, true, not, [], List, ◌∷◌}
+use Rattle.ed_sources.proofs.Kit.{◌++◌, map, length, ◌==◌, nat_eq, nat_lt, decimal, refl, ap, ◌∙◌, subst, inl, inr}
+use Rattle.ed_sources.proofs.Kit.{arith, length-append, list_all, cases_lt, and_parts, length-map, eq_of, lt_of, digits}
+use Rattle.ed_sources.proofs.Kit.{lt_true, is_run_byte, is_line_byte, before_units, few_digits, tens}
+use Rattle.std.specs.Prelude.{◌&&◌, fold}
 use Rattle.ed_codes.specs.Spelling.{row_of}
 use Rattle.ed_syntax.specs.Reading.Grammar.{row, spells}
 use Rattle.ed_words.specs.Decimals.{is_digit, value as spelled_value}
-use Rattle.ed_syntax.specs.Names.{is_run_byte}
-use Rattle.ed_syntax.specs.Parts.{is_line_byte}
-use Rattle.ed_routines.specs.Digits.{before_units, digits, value_after, without_zeros}
-use Rattle.ed_routines.proofs.Digits.{digits_law, few_digits, tens}
+use Rattle.ed_routines.specs.Digits.{value_after, without_zeros}
+use Rattle.ed_routines.proofs.Digits.{digits_law}
 
 abbrev pub are_digits : List ℕ → Bool
 are_digits ds = list_all (λ d. nat_lt d 10) ds

@@ -1,17 +1,11 @@
 -- The source of `demo` is accepted.
-use Rattle.std.proofs.Common.{◌≡◌, ◌∙◌, ℕ, zero, suc, ◌+◌, ◌*◌, ◌<◌, ◌≤◌, codes, true, [], ◌∷◌, ◌++◌, refl}
-use Rattle.std.proofs.Common.{List, ap, sym, arith, length, length-append}
-use Rattle.std.specs.Prelude.{Ok}
-use Rattle.std.specs.Fmt.{decimal}
-use Rattle.std.specs.List.{list_all}
+use Rattle.ed_sources.proofs.Kit.{◌≡◌, ℕ, zero, suc, ◌+◌, ◌*◌, ◌<◌, ◌≤◌, true, [], List, ◌∷◌, ◌++◌, length, Ok, codes}
+use Rattle.ed_sources.proofs.Kit.{decimal, sym, refl, ap, ◌∙◌, arith, length-append, list_all, list_all-append, Text}
+use Rattle.ed_sources.proofs.Kit.{is_line_byte, program_of, text_of_lines, next, number_after, number_word, segments}
+use Rattle.ed_sources.proofs.Kit.{word_lines, demo_text}
 use Rattle.std.proofs.lemmas.Grind.{flat_map-append}
-use Rattle.std.proofs.lemmas.List.Folds.{list_all-append}
-use Rattle.ed_words.specs.Texts.{Text}
 use Rattle.ed_sources.proofs.Decimals.{both}
-use Rattle.ed_syntax.specs.Parts.{is_line_byte}
-use Rattle.ed_syntax.specs.Reading.Sources.{program_of}
-use Rattle.ed_sources.specs.CallSources.{text_of_lines}
-use Rattle.ed_sources.specs.DemoSources.{adding_pieces, demo_text, next, number_after, number_word, segments, word_lines}
+use Rattle.ed_sources.specs.DemoSources.{adding_pieces}
 use Rattle.ed_sources.proofs.CallsAccepted.{decimal_plain}
 use Rattle.ed_sources.proofs.SaidDemo.{adding, demo_lines, demo_says, demo_source}
 use Rattle.ed_sources.proofs.TextLines.{program_is, said_lines}

@@ -1,21 +1,15 @@
 -- What reading the tape of `demo` costs: its program, the heads of its segments, and its words.
-use Rattle.std.proofs.Common.{◌≡◌, ◌∙◌, ℕ, zero, suc, ◌+◌, ◌*◌, ◌<◌, ◌≤◌, Bool, false, List, [], ◌∷◌, ◌++◌, refl}
-use Rattle.std.proofs.Common.{ap, arith, codes, drop, nat_eq, nat_le, take}
-use Rattle.std.specs.Prelude.{◌||◌, if◌then◌else◌, nat_lt, Option, Some, None, unwrap_or}
-use Rattle.std.specs.List.{sum_by}
-use Rattle.std.proofs.lemmas.List.Sums.{sum_by-append, sum_by-cons}
-use Rattle.ed_words.proofs.Numbers.{eq_false, eq_true, le_of, lt_false}
-use Rattle.ed_notation.specs.declared.item.Item.{Item}
-use Rattle.ed_syntax.specs.declared.program.Line.{Line}
-use Rattle.ed_symbols.specs.declared.symbols.Definition.{Definition}
+use Rattle.ed_sources.proofs.Kit.{◌≡◌, ℕ, zero, suc, ◌+◌, ◌*◌, ◌<◌, ◌≤◌, Bool, false, [], ◌||◌, List, ◌∷◌, ◌++◌, take}
+use Rattle.ed_sources.proofs.Kit.{drop, if◌then◌else◌, nat_eq, nat_lt, nat_le, Some, None, codes, sum_by, Option, refl}
+use Rattle.ed_sources.proofs.Kit.{unwrap_or, ap, ◌∙◌, arith, sum_by-cons, eq_false, lt_false, Item, Line, Definition}
+use Rattle.ed_sources.proofs.Kit.{symbols_of, cost, item_cost, counter, word_cost, next, number_after, number_word}
+use Rattle.std.proofs.lemmas.List.Sums.{sum_by-append}
+use Rattle.ed_words.proofs.Numbers.{eq_true, le_of}
 use Rattle.ed_symbols.specs.Names.{place_on}
-use Rattle.ed_link.specs.Linked.{symbols_of}
 use Rattle.ed_link.specs.Punch.{head, heads, item_with, punched_from, punched_items, word_item}
-use Rattle.ed_link.specs.Tapes.{cost, item_cost}
-use Rattle.ed_link.proofs.Extents.{counter}
-use Rattle.ed_sources.specs.Costs.{demo_cost, heads_cost, word_cost}
+use Rattle.ed_sources.specs.Costs.{demo_cost, heads_cost}
 use Rattle.ed_sources.specs.DemoRuns.{LastDemoIsLongest, demo_orders, most_demo_orders}
-use Rattle.ed_sources.specs.DemoSources.{next, number_after, number_word, words_after}
+use Rattle.ed_sources.specs.DemoSources.{words_after}
 use Rattle.ed_sources.proofs.Decimals.{among}
 use Rattle.ed_sources.proofs.DemoFaultless.{lines_behind, lines_with}
 use Rattle.ed_sources.proofs.DemoPlaced.{more_words}

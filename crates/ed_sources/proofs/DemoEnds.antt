@@ -1,21 +1,11 @@
 -- The source of `demo` from its entry to its stop.
-use Rattle.std.proofs.Common.{◌≡◌, ◌∙◌, inr, ℕ, zero, suc, ◌+◌, ◌*◌, ◌<◌, ◌≤◌, refl, sym, ap, subst, arith, lit≤}
-use Rattle.std.proofs.Common.{List, [], ◌∷◌, ◌++◌, Option, Some, None, get_or, length, map, take, codes}
-use Rattle.ed_words.specs.Texts.{Text}
-use Rattle.ed_words.proofs.SizeLemmas.{least}
-use Rattle.ed_words.specs.Sizes.{locations}
-use Rattle.ed_words.specs.declared.size.Size.{Size}
-use Rattle.ed_machine.specs.State.{State}
-use Rattle.ed_syntax.specs.declared.program.Line.{Line}
-use Rattle.ed_link.specs.Linked.{entry_of}
-use Rattle.ed_link.specs.Tapes.{cost}
-use Rattle.ed_answers.specs.EntryState.{entry_state}
-use Rattle.ed_machine.proofs.Kit.Frames.{state}
+use Rattle.ed_sources.proofs.Kit.{◌≡◌, ℕ, zero, suc, ◌+◌, ◌*◌, ◌<◌, ◌≤◌, [], List, ◌∷◌, ◌++◌, map, length, get_or, take}
+use Rattle.ed_sources.proofs.Kit.{Some, None, codes, Option, sym, refl, ap, ◌∙◌, subst, inr, arith, lit≤, locations}
+use Rattle.ed_sources.proofs.Kit.{Text, Size, least, State, state, Line, entry_of, cost, print, with_h, digits}
+use Rattle.ed_sources.proofs.Kit.{print_orders, ComesToStop, entry_state}
 use Rattle.ed_machine.proofs.Kit.Standing.{opens}
 use Rattle.ed_machine.proofs.Kit.Window.{patched}
-use Rattle.ed_routines.specs.Catalogue.{print, with_h}
-use Rattle.ed_routines.specs.Digits.{digits, print_orders}
-use Rattle.ed_routines.proofs.Journeys.{ComesToStop, HasRoutine}
+use Rattle.ed_routines.proofs.Journeys.{HasRoutine}
 use Rattle.ed_sources.specs.Costs.{demo_cost}
 use Rattle.ed_sources.specs.DemoSources.{demo_sum, demo_words}
 use Rattle.ed_sources.proofs.AtEntry.{all_words}

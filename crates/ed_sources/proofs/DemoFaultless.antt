@@ -1,27 +1,17 @@
 -- The source of `demo` has no fault of meaning, as long as its words are within the store.
-use Rattle.std.proofs.Common.{◌≡◌, ◌∙◌, ℕ, zero, suc, ◌+◌, ◌*◌, ◌≤◌, true, false, List, [], ◌∷◌, ◌++◌}
-use Rattle.std.proofs.Common.{refl, sym, ap, subst, arith}
-use Rattle.std.proofs.Common.{codes, length, nat_lt}
-use Rattle.std.specs.Prelude.{max, min, Option, None}
-use Rattle.ed_words.proofs.Numbers.{lt_false}
-use Rattle.ed_words.specs.Sizes.{locations}
-use Rattle.ed_words.specs.declared.size.Size.{Size}
+use Rattle.ed_sources.proofs.Kit.{◌≡◌, ℕ, zero, suc, ◌+◌, ◌*◌, ◌≤◌, true, false, [], List, ◌∷◌, ◌++◌, length, nat_lt}
+use Rattle.ed_sources.proofs.Kit.{None, codes, Option, sym, refl, ap, ◌∙◌, subst, arith, locations, Text, Size, Line}
+use Rattle.ed_sources.proofs.Kit.{lt_false, Definition, fault, symbols_of, counter, next, number_after, number_word}
+use Rattle.std.specs.Prelude.{max, min}
 use Rattle.ed_words.specs.declared.size.Size.TheVariants.{Small, Full}
-use Rattle.ed_words.specs.Texts.{Text}
 use Rattle.ed_syntax.specs.declared.fault.SourceFault.{SourceFault}
-use Rattle.ed_syntax.specs.declared.program.Line.{Line}
 use Rattle.ed_syntax.specs.declared.program.Statement.TheVariants as statements
 use Rattle.ed_symbols.specs.declared.location_counter.LocationCounter.{LocationCounter}
-use Rattle.ed_symbols.specs.declared.symbols.Definition.{Definition}
 use Rattle.ed_symbols.specs.NameTests.{resolution}
 use Rattle.ed_symbols.specs.Names.{symbols_from}
 use Rattle.ed_symbols.specs.Places.{first_counter}
-use Rattle.ed_link.specs.FaultTests.{any_enter, cause_of, extent, fault, fault_from, missing}
-use Rattle.ed_link.specs.FaultTests.{sooner}
-use Rattle.ed_link.specs.Linked.{symbols_of}
-use Rattle.ed_link.proofs.Extents.{ExtentList, apart, are_below, counter, fits_store, none_later, one_by_one}
-use Rattle.ed_link.proofs.Extents.{one_more, past}
-use Rattle.ed_sources.specs.DemoSources.{number_after, next, number_word}
+use Rattle.ed_link.specs.FaultTests.{any_enter, cause_of, extent, fault_from, missing, sooner}
+use Rattle.ed_link.proofs.Extents.{ExtentList, apart, are_below, fits_store, none_later, one_by_one, one_more, past}
 use Rattle.ed_sources.proofs.Decimals.{decimal_is}
 use Rattle.ed_sources.proofs.DemoNames.{enter_named, first_free, first_homes, program_named, segments_named}
 use Rattle.ed_sources.proofs.DemoNames.{words_named}

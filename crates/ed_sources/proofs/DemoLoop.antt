@@ -1,20 +1,17 @@
 -- The program of `demo`, at any base and for any number of words: the loop whose order changes its own address, the
 -- call of `print`, and the stop.
-use Rattle.std.proofs.Common.{◌≡◌, ℕ, ◌+◌, ◌-◌, ◌*◌, ◌<◌, ◌≤◌, refl, ◌∙◌, subst, arith, lit<, lit≤, inr}
-use Rattle.std.proofs.Common.{List, [], ◌∷◌, get_or, length}
+use Rattle.ed_sources.proofs.Kit.{◌≡◌, ℕ, ◌+◌, ◌-◌, ◌*◌, ◌<◌, ◌≤◌, [], List, ◌∷◌, length, get_or, refl, ◌∙◌, subst, inr}
+use Rattle.ed_sources.proofs.Kit.{arith, lit<, lit≤, sum_by-cons, A_F, G_F, Z_F, short, state, Frame, Moment, print}
+use Rattle.ed_sources.proofs.Kit.{with_h, digits, print_orders, ComesToStop}
 use Rattle.std.specs.Prelude.{sum}
-use Rattle.std.proofs.lemmas.List.Sums.{sum_by-cons}
 use Rattle.ed_words.proofs.SizeLemmas.{most}
-use Rattle.ed_words.specs.declared.order_words.TheConstants.{A_F, G_F, S_F, T_F, U_F, Z_F}
-use Rattle.ed_machine.proofs.Kit.Frames.{Frame, Moment, short, state}
+use Rattle.ed_words.specs.declared.order_words.TheConstants.{S_F, T_F, U_F}
 use Rattle.ed_machine.proofs.Kit.Places.{IsOutside, early, own, out}
 use Rattle.ed_machine.proofs.Kit.Moves.{A, S, T, U, Z, G_jumps, G_stays}
 use Rattle.ed_machine.proofs.Kit.Paths.{Path, stay, on, followed, leads}
 use Rattle.ed_machine.proofs.Kit.Loops.{all_spent, quiet_walks, walked}
 use Rattle.ed_machine.proofs.Kit.Window.{get_own}
-use Rattle.ed_routines.specs.Catalogue.{print, with_h}
-use Rattle.ed_routines.specs.Digits.{digits, print_orders}
-use Rattle.ed_routines.proofs.Journeys.{ComesToStop, HasRoutine, IsIn, along, stop_after, then, to_stop}
+use Rattle.ed_routines.proofs.Journeys.{HasRoutine, IsIn, along, stop_after, then, to_stop}
 use Rattle.ed_routines.proofs.Lines.{print_line}
 
 -- the order that adds the word at q

@@ -1,25 +1,15 @@
 -- The names that the source of `demo` defines are different, and each operand has a value.
-use Rattle.std.proofs.Common.{◌≡◌, ◌≢◌, ◌∙◌, ℕ, zero, suc, ◌+◌, ◌<◌, ◌≤◌, Bool, true, false, List}
-use Rattle.std.proofs.Common.{[], ◌∷◌, ◌++◌}
-use Rattle.std.proofs.Common.{refl, sym, ap, subst, arith, append-nil, codes, nat_lt}
-use Rattle.std.specs.Prelude.{not, Option, Some, None}
-use Rattle.std.specs.Fmt.{decimal}
-use Rattle.std.specs.List.{list_all}
+use Rattle.ed_sources.proofs.Kit.{◌≡◌, ℕ, zero, suc, ◌+◌, ◌<◌, ◌≤◌, Bool, true, false, not, [], ◌≢◌, List, ◌∷◌, ◌++◌}
+use Rattle.ed_sources.proofs.Kit.{nat_lt, Some, None, codes, decimal, Option, sym, refl, ap, ◌∙◌, subst, append-nil}
+use Rattle.ed_sources.proofs.Kit.{arith, list_all, and_parts, list_all-append, value, Text, lt_false, Line, Definition}
+use Rattle.ed_sources.proofs.Kit.{digits, next, number_after}
 use Rattle.std.specs.Str.{bytes_eq}
-use Rattle.std.proofs.lemmas.Bool.{and_parts, not-true}
-use Rattle.std.proofs.lemmas.List.Folds.{list_all-append}
+use Rattle.std.proofs.lemmas.Bool.{not-true}
 use Rattle.std.proofs.lemmas.Slice.Eq.{bytes_eq-Decides}
-use Rattle.ed_words.proofs.Numbers.{lt_false}
-use Rattle.ed_words.specs.Texts.{Text}
-use Rattle.ed_words.specs.Decimals.{value}
-use Rattle.ed_syntax.specs.declared.program.Line.{Line}
 use Rattle.ed_symbols.specs.declared.location_counter.LocationCounter.{LocationCounter}
-use Rattle.ed_symbols.specs.declared.symbols.Definition.{Definition}
 use Rattle.ed_symbols.specs.NameTests.{naming_fault_from}
 use Rattle.ed_symbols.specs.Names.{definition_of}
 use Rattle.ed_symbols.specs.Places.{first_counter}
-use Rattle.ed_routines.specs.Digits.{digits}
-use Rattle.ed_sources.specs.DemoSources.{number_after, next}
 use Rattle.ed_sources.proofs.Decimals.{among, decimal_is, value_is, written}
 use Rattle.ed_sources.proofs.SaidDemo.{adding_lines, enter_line, name, segment_forms, segment_line, word_forms}
 

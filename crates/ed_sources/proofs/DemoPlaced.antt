@@ -1,25 +1,16 @@
 -- The store at the entry of `demo`: the words of the program and of `print`, and after them the words of all
 -- segments, one after the other.
-use Rattle.std.proofs.Common.{◌≡◌, ◌∙◌, inl, ℕ, zero, suc, ◌+◌, ◌*◌, ◌<◌, ◌≤◌, true, List, [], ◌∷◌, ◌++◌}
-use Rattle.std.proofs.Common.{refl, sym, ap, arith, lit<, lit≤, length, codes, get_or, nat_eq}
-use Rattle.std.specs.Prelude.{sum, take, unwrap_or}
-use Rattle.std.specs.List.{list_all}
-use Rattle.std.proofs.lemmas.List.Sums.{sum_by-cons}
-use Rattle.ed_words.specs.declared.size.Size.{Size}
-use Rattle.ed_words.specs.declared.order_words.TheConstants.{A_F}
-use Rattle.ed_store.specs.Cells.{short_at}
-use Rattle.ed_library.specs.Images.{image_word, parameter_store}
-use Rattle.ed_library.specs.Routines.{place_count}
-use Rattle.ed_syntax.specs.declared.program.Line.{Line}
-use Rattle.ed_symbols.specs.declared.symbols.Definition.{Definition}
-use Rattle.ed_link.specs.Linked.{entry_from, entry_of, symbols_of, placed_words, linked_words, placed_from}
-use Rattle.ed_answers.specs.EntryState.{entry_state}
-use Rattle.ed_routines.specs.Catalogue.{print, with_h}
-use Rattle.ed_sources.specs.DemoSources.{next, number_after, number_word, words_after}
+use Rattle.ed_sources.proofs.Kit.{◌≡◌, ℕ, zero, suc, ◌+◌, ◌*◌, ◌<◌, ◌≤◌, true, [], List, ◌∷◌, ◌++◌, length, get_or, sym}
+use Rattle.ed_sources.proofs.Kit.{take, nat_eq, codes, unwrap_or, refl, ap, ◌∙◌, inl, arith, lit<, lit≤, list_all, A_F}
+use Rattle.ed_sources.proofs.Kit.{sum_by-cons, Size, short_at, Line, image_word, parameter_store, place_count, entry_of}
+use Rattle.ed_sources.proofs.Kit.{Definition, linked_words, symbols_of, counter, print, with_h, entry_state, next}
+use Rattle.ed_sources.proofs.Kit.{number_after, number_word}
+use Rattle.std.specs.Prelude.{sum}
+use Rattle.ed_link.specs.Linked.{entry_from, placed_words, placed_from}
+use Rattle.ed_sources.specs.DemoSources.{words_after}
 use Rattle.ed_sources.proofs.AtEntry.{have_places}
 use Rattle.ed_sources.proofs.Blocks.{beside_block, block_places, front_word, in_block, last_at, order_at, rest_word}
 use Rattle.ed_sources.proofs.Decimals.{numbers}
-use Rattle.ed_link.proofs.Extents.{counter}
 use Rattle.ed_sources.proofs.DemoFaultless.{lines_behind, lines_with}
 use Rattle.ed_sources.proofs.DemoLoop.{StandFrom}
 use Rattle.ed_sources.proofs.SaidDemo.{enter_line, segment_forms, word_forms}

@@ -1,13 +1,9 @@
 -- `demo` is the run of its source, from the state at its entry to its stop.
-use Rattle.std.proofs.Common.{◌≡◌, ◌∙◌, ℕ, ◌+◌, ◌*◌, ◌≤◌, arith, subst, sym, List, [], ◌∷◌, ◌++◌, codes}
-use Rattle.ed_words.specs.Texts.{Text}
-use Rattle.ed_syntax.specs.declared.program.Line.{Line}
-use Rattle.ed_link.specs.Tapes.{cost}
+use Rattle.ed_sources.proofs.Kit.{◌≡◌, ℕ, ◌+◌, ◌*◌, ◌≤◌, [], List, ◌∷◌, ◌++◌, codes, sym, ◌∙◌, subst, arith, Text, Line}
+use Rattle.ed_sources.proofs.Kit.{cost, print_orders, few_digits, at_after, entry_note, AnswersFromEntry, run_outcome}
+use Rattle.ed_sources.proofs.Kit.{demo_text}
 use Rattle.ed_answers.proofs.EachSource.{read_is_accepted}
-use Rattle.ed_report.specs.Notes.{at_after, entry_note}
-use Rattle.ed_routines.specs.Digits.{print_orders}
-use Rattle.ed_routines.proofs.Digits.{few_digits}
-use Rattle.ed_sources.specs.DemoSources.{demo_sum, demo_text}
+use Rattle.ed_sources.specs.DemoSources.{demo_sum}
 use Rattle.ed_sources.proofs.DemoAccepted.{demo_read}
 use Rattle.ed_sources.proofs.DemoCost.{demo_few}
 use Rattle.ed_sources.proofs.DemoEnds.{demo_cost_is, demo_ends, demo_entry, sum_small}
@@ -16,8 +12,6 @@ use Rattle.ed_sources.proofs.Papers.{digits_printed}
 use Rattle.ed_sources.proofs.SaidDemo.{demo_lines}
 use Rattle.ed_sources.specs.DemoRuns.{EachDemoRuns}
 use Rattle.ed_answers.specs.Outcome.{Outcome}
-use Rattle.ed_answers.specs.FromEntry.{AnswersFromEntry}
-use Rattle.ed_answers.specs.Sources.{run_outcome}
 use Rattle.ed_answers.proofs.Sources.{accepted_is, each_answer_is_from_entry}
 use Rattle.ed_sources.proofs.Stopped.{stopped_outcome}
 

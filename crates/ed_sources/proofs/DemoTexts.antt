@@ -1,11 +1,9 @@
 -- The text of a source that grows by words and segments.
-use Rattle.std.proofs.Common.{◌≡◌, ◌∙◌, ℕ, zero, suc, ◌+◌, ◌*◌, ◌<◌, [], ◌∷◌, ◌++◌, refl, ap, sym, append_assoc, append-nil}
-use Rattle.std.proofs.Common.{arith, codes}
-use Rattle.std.specs.Fmt.{decimal}
+use Rattle.ed_sources.proofs.Kit.{◌≡◌, ℕ, zero, suc, ◌+◌, ◌*◌, ◌<◌, [], ◌∷◌, ◌++◌, codes, decimal, sym, refl, ap, ◌∙◌}
+use Rattle.ed_sources.proofs.Kit.{append_assoc, append-nil, arith, Text, text_of_lines, next, number_after, number_word}
+use Rattle.ed_sources.proofs.Kit.{segments, word_lines, demo_text}
 use Rattle.std.proofs.lemmas.Grind.{flat_map-append}
-use Rattle.ed_words.specs.Texts.{Text}
-use Rattle.ed_sources.specs.CallSources.{text_of_lines}
-use Rattle.ed_sources.specs.DemoSources.{adding_text, number_after, demo_text, next, segments, word_lines, number_word}
+use Rattle.ed_sources.specs.DemoSources.{adding_text}
 
 -- a line, of those that are left
 pub one_line : (before line digits rest whole : Text) → line ≡ digits ++ codes "\n"

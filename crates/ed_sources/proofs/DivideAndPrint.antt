@@ -1,19 +1,10 @@
 -- The source that divides a number and prints the quotient and the remainder, from its entry to its stop.
-use Rattle.std.proofs.Common.{◌≡◌, inl, ℕ, ◌+◌, ◌*◌, ◌/◌, ◌%◌, ◌<◌, ◌≤◌, refl}
-use Rattle.std.proofs.Common.{◌∙◌, subst, arith, true, false, Bool, [], ◌∷◌, ◌++◌}
-use Rattle.std.proofs.Common.{length, lit≤, lit<}
-use Rattle.std.proofs.lemmas.List.{length-replicate}
+use Rattle.ed_sources.proofs.Kit.{◌≡◌, ℕ, ◌+◌, ◌*◌, ◌/◌, ◌%◌, ◌<◌, ◌≤◌, Bool, true, false, [], ◌∷◌, ◌++◌, length, refl}
+use Rattle.ed_sources.proofs.Kit.{◌∙◌, subst, inl, arith, lit<, lit≤, length-replicate, Z_F, Size, least, short_at}
+use Rattle.ed_sources.proofs.Kit.{State, parameter_store, newline, print, with_h, digits, print_orders, divide_orders}
+use Rattle.ed_sources.proofs.Kit.{entry_state, behind, StopsAt}
 use Rattle.std.proofs.Math.Nat.{div-lt_iff_lt-mul, mod-lt}
-use Rattle.ed_words.specs.declared.size.Size.{Size}
-use Rattle.ed_words.proofs.SizeLemmas.{least}
-use Rattle.ed_words.specs.declared.order_words.TheConstants.{Z_F}
-use Rattle.ed_store.specs.Cells.{short_at}
-use Rattle.ed_machine.specs.State.{State}
-use Rattle.ed_library.specs.Images.{parameter_store}
-use Rattle.ed_answers.specs.EntryState.{entry_state}
-use Rattle.ed_routines.specs.Catalogue.{newline, print, with_h}
-use Rattle.ed_routines.specs.Digits.{digits, print_orders}
-use Rattle.ed_maths.specs.Quotients.{IsDivision, divide, divide_orders, dividend, with_hnm}
+use Rattle.ed_maths.specs.Quotients.{IsDivision, divide, dividend, with_hnm}
 use Rattle.ed_library.specs.CallRanges.{IsDivisible}
 use Rattle.ed_sources.proofs.Along.{IsAt, before, entered, has, passed, word_there}
 use Rattle.ed_sources.proofs.AtEntry.{has_image, placed, word_at}
@@ -21,7 +12,6 @@ use Rattle.ed_sources.proofs.CalledMaths.{Divides, divides}
 use Rattle.ed_sources.proofs.CalledRoutines.{Passes, newline_passes, print_passes, stopped}
 use Rattle.ed_sources.proofs.Calling.{HasRoutine, IsBefore}
 use Rattle.ed_sources.proofs.SaidMaths.{divide_lines}
-use Rattle.ed_sources.proofs.Stops.{StopsAt, behind}
 
 -- the quotient and the remainder of a division in range are below 65536
 pub quotient_low : (n by : ℕ) → 1 ≤ by → n < 65536 * by → n / by < 65536

@@ -1,20 +1,7 @@
 -- A program whose words are known at its entry is at its base, by one test.
-use Rattle.std.proofs.Common.{◌≡◌, ◌∙◌, ◌⊎◌, refl, ℕ, ◌+◌, ◌<◌, ◌≤◌, Bool, true, List, [], arith, get_or, length}
-use Rattle.std.proofs.Common.{nat_eq}
-use Rattle.std.specs.Prelude.{Option, Some, None, unwrap_or}
-use Rattle.std.specs.List.{list_all}
-use Rattle.ed_words.proofs.Numbers.{eq_of}
-use Rattle.ed_words.specs.declared.size.Size.{Size}
-use Rattle.ed_notation.specs.Fold.{placed_at}
-use Rattle.ed_syntax.specs.declared.program.Line.{Line}
-use Rattle.ed_answers.specs.EntryState.{entry_state}
-use Rattle.ed_words.proofs.SizeLemmas.{least}
-use Rattle.ed_library.specs.Images.{image_word}
-use Rattle.ed_library.specs.Routines.{place_count}
-use Rattle.ed_store.specs.Cells.{short_at}
-use Rattle.ed_machine.specs.State.{State}
-use Rattle.ed_words.specs.Sizes.{locations}
-use Rattle.ed_machine.proofs.Kit.Frames.{Frame, Moment}
+use Rattle.ed_sources.proofs.Kit.{◌≡◌, ℕ, ◌+◌, ◌<◌, ◌≤◌, Bool, true, [], ◌⊎◌, List, length, get_or, nat_eq, Some, None}
+use Rattle.ed_sources.proofs.Kit.{Option, unwrap_or, refl, ◌∙◌, arith, list_all, locations, Size, eq_of, least, State}
+use Rattle.ed_sources.proofs.Kit.{short_at, Frame, Moment, placed_at, Line, image_word, place_count, entry_state}
 use Rattle.ed_routines.proofs.Journeys.{HasRoutine}
 use Rattle.ed_machine.proofs.Kit.Standing.{Holds, Meets}
 use Rattle.ed_sources.proofs.AtEntry.{has_image, have_places, placed, word_at}

@@ -1,8 +1,6 @@
 -- The sources of calls have no fault of meaning, whatever their numbers are.
-use Rattle.std.proofs.Common.{◌≡◌, ℕ, refl, None}
-use Rattle.ed_words.specs.declared.size.Size.{Size}
+use Rattle.ed_sources.proofs.Kit.{◌≡◌, ℕ, None, refl, Size, fault}
 use Rattle.ed_words.specs.declared.size.Size.TheVariants as size
-use Rattle.ed_link.specs.FaultTests.{fault}
 use Rattle.ed_sources.proofs.Said.{newline_lines, print_lines, read_lines, check_lines}
 use Rattle.ed_sources.proofs.SaidMaths.{divide_lines, root_lines}
 

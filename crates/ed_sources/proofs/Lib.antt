@@ -12,6 +12,7 @@ pub mod DemoFaultless
 pub mod CallsAccepted
 pub mod DemoAccepted
 pub mod Stops
+pub mod Kit
 mod Calling
 mod CalledRoutines
 pub mod AtEntry

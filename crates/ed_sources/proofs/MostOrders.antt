@@ -1,17 +1,11 @@
 -- The greatest number of orders that a call of each routine takes.
-use Rattle.std.proofs.Common.{◌≡◌, inl, inr, ℕ, ◌+◌, ◌*◌, ◌/◌, ◌%◌, ◌<◌, ◌≤◌}
-use Rattle.std.proofs.Common.{refl, arith, lit<, lit≤, nat_eq, nat_le}
-use Rattle.std.specs.Prelude.{◌||◌}
+use Rattle.ed_sources.proofs.Kit.{◌≡◌, ℕ, ◌+◌, ◌*◌, ◌/◌, ◌%◌, ◌<◌, ◌≤◌, ◌||◌, nat_eq, nat_le, refl, inl, inr, arith}
+use Rattle.ed_sources.proofs.Kit.{lit<, lit≤, cases_lt, eq_of, Call, Check, Divide, NewLine, Print, Read, Root, sum}
+use Rattle.ed_sources.proofs.Kit.{before_units, print_orders, few_digits, divide_orders, root_of, root_orders}
 use Rattle.std.proofs.Math.Nat.{mod-lt}
-use Rattle.std.proofs.lemmas.Bool.{cases_lt}
-use Rattle.ed_words.proofs.Numbers.{eq_of, le_of, or_of}
+use Rattle.ed_words.proofs.Numbers.{le_of, or_of}
 use Rattle.ed_library.specs.CallRanges.{IsCallInRange}
-use Rattle.ed_library.specs.declared.call.Call.{Call}
-use Rattle.ed_library.specs.declared.call.Call.TheVariants.{Print, Read, NewLine, Divide, Root, Check}
-use Rattle.ed_routines.specs.Digits.{before_units, print_orders, sum}
-use Rattle.ed_routines.proofs.Digits.{few_digits}
-use Rattle.ed_maths.specs.Quotients.{divide_orders, ones}
-use Rattle.ed_maths.specs.Roots.{root_of, root_orders}
+use Rattle.ed_maths.specs.Quotients.{ones}
 use Rattle.ed_maths.proofs.Greatest.{root_is}
 use Rattle.ed_maths.proofs.RootCall.{few as below_256}
 use Rattle.ed_sources.specs.Costs.{call_cost}

@@ -1,12 +1,8 @@
 -- What the teleprinter makes of the digits of a number.
-use Rattle.std.proofs.Common.{◌≡◌, ◌∙◌, ℕ, zero, suc, ◌+◌, ◌<◌, refl, sym, ap}
-use Rattle.std.proofs.Common.{arith, true, nat_lt, List, [], ◌∷◌, ◌++◌, append-nil}
-use Rattle.std.specs.Fmt.{decimal}
-use Rattle.std.proofs.lemmas.Bool.{and_parts}
-use Rattle.ed_words.proofs.Numbers.{lt_of}
-use Rattle.ed_printer.specs.Paper.{paper, paper_from}
+use Rattle.ed_sources.proofs.Kit.{◌≡◌, ℕ, zero, suc, ◌+◌, ◌<◌, true, [], List, ◌∷◌, ◌++◌, nat_lt, decimal, sym, refl}
+use Rattle.ed_sources.proofs.Kit.{ap, ◌∙◌, append-nil, arith, and_parts, lt_of, paper, digits}
+use Rattle.ed_printer.specs.Paper.{paper_from}
 use Rattle.ed_printer.specs.declared.printer.Shift.TheVariants.{Figures}
-use Rattle.ed_routines.specs.Digits.{digits}
 use Rattle.ed_sources.proofs.Decimals.{are, are_digits, decimal_is, written}
 
 digit_struck : (d : ℕ) (rest : List ℕ) → d < 10 → paper_from Figures (d ∷ rest) ≡ (48 + d) ∷ paper_from Figures rest

@@ -1,18 +1,11 @@
 -- The sources that print a number and a new line, from their entries to their stops.
-use Rattle.std.proofs.Common.{◌≡◌, inl, ℕ, ◌+◌, ◌<◌, refl, arith, true, [], ◌∷◌, lit≤, lit<}
-use Rattle.ed_words.specs.declared.size.Size.{Size}
-use Rattle.ed_words.proofs.SizeLemmas.{least}
-use Rattle.ed_machine.specs.State.{State}
-use Rattle.ed_library.specs.Images.{parameter_store}
-use Rattle.ed_answers.specs.EntryState.{entry_state}
-use Rattle.ed_routines.specs.Catalogue.{newline, print, with_h}
-use Rattle.ed_routines.specs.Digits.{digits, print_orders}
+use Rattle.ed_sources.proofs.Kit.{◌≡◌, ℕ, ◌+◌, ◌<◌, true, [], ◌∷◌, refl, inl, arith, lit<, lit≤, Size, least, State}
+use Rattle.ed_sources.proofs.Kit.{parameter_store, newline, print, with_h, digits, print_orders, entry_state, StopsAt}
 use Rattle.ed_sources.proofs.Along.{IsAt, before, entered, has}
 use Rattle.ed_sources.proofs.AtEntry.{has_image, placed, word_at}
 use Rattle.ed_sources.proofs.CalledRoutines.{newline_passes, print_passes, stopped}
 use Rattle.ed_sources.proofs.Calling.{HasRoutine, IsBefore}
 use Rattle.ed_sources.proofs.Said.{newline_lines, print_lines}
-use Rattle.ed_sources.proofs.Stops.{StopsAt}
 
 -- ---- `call print N`
 

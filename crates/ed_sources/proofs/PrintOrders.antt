@@ -1,7 +1,7 @@
 -- `print` takes few orders.
-use Rattle.std.proofs.Common.{ℕ, zero, suc, ◌+◌, ◌/◌, ◌%◌, ◌<◌, ◌≤◌, arith, List, [], ◌∷◌, length}
-use Rattle.ed_routines.specs.Digits.{before_units, print_orders, sum, without_zeros}
-use Rattle.ed_routines.proofs.Digits.{tens}
+use Rattle.ed_sources.proofs.Kit.{ℕ, zero, suc, ◌+◌, ◌/◌, ◌%◌, ◌<◌, ◌≤◌, [], List, ◌∷◌, length, arith, before_units}
+use Rattle.ed_sources.proofs.Kit.{print_orders, sum, tens}
+use Rattle.ed_routines.specs.Digits.{without_zeros}
 
 less_sum : (ds : List ℕ) → sum (without_zeros ds) ≤ sum ds
 less_sum [] = omega arith

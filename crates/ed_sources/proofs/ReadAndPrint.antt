@@ -1,16 +1,10 @@
 -- The source that reads a number and prints it, from its entry to its stop.
-use Rattle.std.proofs.Common.{◌≡◌, inl, ℕ, ◌+◌, ◌*◌, ◌%◌, ◌^◌, ◌<◌, refl, ap, ◌∙◌, subst, arith, true}
-use Rattle.std.proofs.Common.{List, [], ◌∷◌, ◌++◌, append-nil, length, nat_lt, lit≤, lit<}
-use Rattle.std.proofs.lemmas.Bool.{and_parts}
-use Rattle.ed_words.specs.declared.size.Size.{Size}
-use Rattle.ed_words.proofs.SizeLemmas.{least}
-use Rattle.ed_words.specs.declared.order_words.TheConstants.{Z_F}
-use Rattle.ed_store.specs.Cells.{short_at}
-use Rattle.ed_machine.specs.State.{State}
-use Rattle.ed_library.specs.Images.{parameter_store}
-use Rattle.ed_answers.specs.EntryState.{entry_state}
-use Rattle.ed_routines.specs.Catalogue.{print, read, with_h}
-use Rattle.ed_routines.specs.Digits.{after_digits, digit_rows, digits, print_orders, digits_value}
+use Rattle.ed_sources.proofs.Kit.{◌≡◌, ℕ, ◌+◌, ◌*◌, ◌%◌, ◌^◌, ◌<◌, true, [], List, ◌∷◌, ◌++◌, length, nat_lt, refl, ap}
+use Rattle.ed_sources.proofs.Kit.{◌∙◌, subst, inl, append-nil, arith, lit<, lit≤, and_parts, Z_F, Size, least, short_at}
+use Rattle.ed_sources.proofs.Kit.{State, parameter_store, print, with_h, digits, print_orders, entry_state, behind}
+use Rattle.ed_sources.proofs.Kit.{StopsAt}
+use Rattle.ed_routines.specs.Catalogue.{read}
+use Rattle.ed_routines.specs.Digits.{after_digits, digit_rows, digits_value}
 use Rattle.ed_routines.proofs.Digits.{digits_law}
 use Rattle.ed_sources.proofs.Along.{IsAt, before, entered, has, passed, word_there}
 use Rattle.ed_sources.proofs.AtEntry.{has_image, placed}
@@ -18,7 +12,6 @@ use Rattle.ed_sources.proofs.CalledRoutines.{Passes, ReadsNumber, print_passes, 
 use Rattle.ed_sources.proofs.Calling.{HasRoutine, IsBefore}
 use Rattle.ed_sources.proofs.Decimals.{are, are_digits}
 use Rattle.ed_sources.proofs.Said.{read_lines}
-use Rattle.ed_sources.proofs.Stops.{StopsAt, behind}
 
 -- the digit rows of a tape are the digits that it begins with, and then its other rows are left
 pub rows_are : (ds rest : List ℕ) → are_digits ds ≡ true → digit_rows (ds ++ 17 ∷ rest) ≡ ds

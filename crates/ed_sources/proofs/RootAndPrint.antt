@@ -1,15 +1,8 @@
 -- The source that takes a square root and prints it, from its entry to its stop.
-use Rattle.std.proofs.Common.{◌≡◌, inl, ℕ, ◌+◌, ◌<◌, refl, arith, true, [], ◌∷◌, lit≤, lit<}
-use Rattle.ed_words.specs.declared.size.Size.{Size}
-use Rattle.ed_words.proofs.SizeLemmas.{least}
-use Rattle.ed_words.specs.declared.order_words.TheConstants.{Z_F}
-use Rattle.ed_store.specs.Cells.{short_at}
-use Rattle.ed_machine.specs.State.{State}
-use Rattle.ed_library.specs.Images.{parameter_store}
-use Rattle.ed_answers.specs.EntryState.{entry_state}
-use Rattle.ed_routines.specs.Catalogue.{print, with_h}
-use Rattle.ed_routines.specs.Digits.{digits, print_orders}
-use Rattle.ed_maths.specs.Roots.{IsRoot, root, root_of, root_orders, with_hn}
+use Rattle.ed_sources.proofs.Kit.{◌≡◌, ℕ, ◌+◌, ◌<◌, true, [], ◌∷◌, refl, inl, arith, lit<, lit≤, Z_F, Size, least}
+use Rattle.ed_sources.proofs.Kit.{short_at, State, parameter_store, print, with_h, digits, print_orders, root_of}
+use Rattle.ed_sources.proofs.Kit.{root_orders, entry_state, behind, StopsAt}
+use Rattle.ed_maths.specs.Roots.{IsRoot, root, with_hn}
 use Rattle.ed_maths.proofs.Greatest.{root_is}
 use Rattle.ed_maths.proofs.RootCall.{few}
 use Rattle.ed_sources.proofs.Along.{IsAt, before, entered, has, passed, word_there}
@@ -18,7 +11,6 @@ use Rattle.ed_sources.proofs.CalledMaths.{TakesRoot, takes_root}
 use Rattle.ed_sources.proofs.CalledRoutines.{Passes, print_passes, stopped}
 use Rattle.ed_sources.proofs.Calling.{HasRoutine, IsBefore}
 use Rattle.ed_sources.proofs.SaidMaths.{root_lines}
-use Rattle.ed_sources.proofs.Stops.{StopsAt, behind}
 
 pub root_small : (n : ℕ) → n < 65536 → root_of n < 65536
 root_small n small = let low = few n (root_of n) (root_is n) small in omega arith

@@ -1,40 +1,27 @@
 -- What the lines of the sources of calls say.
-use Rattle.std.proofs.Common.{◌≡◌, ◌∙◌, ℕ, ◌+◌, ◌<◌, ◌≤◌, Bool, true, false}
-use Rattle.std.proofs.Common.{List, [], ◌∷◌, ◌++◌, refl, sym, ap, subst, arith}
-use Rattle.std.proofs.Common.{append_assoc, append-nil, length}
-use Rattle.std.proofs.Common.{length-append, map, codes, pos, nat_le, lit≤}
-use Rattle.std.specs.Prelude.{◌==◌, not, Option, Some, None, Ok}
-use Rattle.std.specs.Fmt.{decimal}
-use Rattle.std.specs.List.{list_all}
-use Rattle.std.proofs.lemmas.Bool.{and_parts, not-true}
-use Rattle.std.proofs.lemmas.List.{length-map, map-append}
-use Rattle.std.proofs.lemmas.List.Folds.{list_all-append}
-use Rattle.ed_words.proofs.Numbers.{le_true, lt_false}
+use Rattle.ed_sources.proofs.Kit.{◌≡◌, ℕ, ◌+◌, ◌<◌, ◌≤◌, Bool, true, false, not, [], List, ◌∷◌, ◌++◌, map, length, ◌==◌}
+use Rattle.ed_sources.proofs.Kit.{nat_le, Some, None, Ok, codes, decimal, Option, sym, refl, ap, ◌∙◌, subst, append-nil}
+use Rattle.ed_sources.proofs.Kit.{append_assoc, arith, lit≤, length-append, list_all, and_parts, length-map, value}
+use Rattle.ed_sources.proofs.Kit.{list_all-append, Text, lt_false, is_run_byte, is_line_byte, settings, parts_of, Line}
+use Rattle.ed_sources.proofs.Kit.{line_of, Statement, Check, NewLine, Print, Read, digits}
+use Rattle.std.proofs.Common.{pos}
+use Rattle.std.proofs.lemmas.Bool.{not-true}
+use Rattle.std.proofs.lemmas.List.{map-append}
+use Rattle.ed_words.proofs.Numbers.{le_true}
 use Rattle.ed_codes.specs.Spelling.{row_of}
-use Rattle.ed_words.specs.Texts.{Text}
 use Rattle.ed_words.specs.Decimals.{is_digit}
-use Rattle.ed_syntax.specs.Parts.{LinePart, run, sign, quoted}
-use Rattle.ed_syntax.specs.Names.{is_run_byte}
-use Rattle.ed_syntax.specs.Reading.Parts.{parts_from, parts_of}
-use Rattle.ed_words.specs.Decimals.{value}
-use Rattle.ed_syntax.specs.Parts.{array, is_number, modulo}
+use Rattle.ed_syntax.specs.Parts.{LinePart, run, sign, quoted, array, is_number, modulo}
 use Rattle.ed_syntax.specs.Names.{is_name}
-use Rattle.ed_syntax.specs.Reading.Grammar.{form_at, row, settings, spells}
-use Rattle.ed_syntax.specs.Parts.{is_line_byte}
-use Rattle.ed_syntax.specs.Reading.Sources.{line_of}
-use Rattle.ed_syntax.specs.declared.program.Line.{Line}
+use Rattle.ed_syntax.specs.Reading.Parts.{parts_from}
+use Rattle.ed_syntax.specs.Reading.Grammar.{form_at, row, spells}
 use Rattle.ed_syntax.specs.declared.program.Operand.TheVariants as operands
 use Rattle.ed_syntax.specs.declared.program.Setting.{Setting}
-use Rattle.ed_syntax.specs.declared.program.Statement.{Statement}
 use Rattle.ed_syntax.specs.declared.program.Statement.TheVariants as statements
 use Rattle.ed_syntax.proofs.PartLemmas.{run_parts}
-use Rattle.ed_library.specs.declared.call.Call.TheVariants.{Check, NewLine, Print, Read}
 use Rattle.ed_sources.proofs.CallTexts.{call_lines}
 use Rattle.ed_sources.proofs.TextLines.{Says, ends, says, by_parts}
-use Rattle.ed_sources.proofs.Decimals.{are, are_digits, decimal_is, digit_bytes}
-use Rattle.ed_sources.proofs.Decimals.{few_bytes, line_bytes, no_quotes, row_bytes}
-use Rattle.ed_sources.proofs.Decimals.{rows_are, run_bytes, some_digit, value_is, written}
-use Rattle.ed_routines.specs.Digits.{digits}
+use Rattle.ed_sources.proofs.Decimals.{are, are_digits, decimal_is, digit_bytes, few_bytes, line_bytes, no_quotes}
+use Rattle.ed_sources.proofs.Decimals.{row_bytes, rows_are, run_bytes, some_digit, value_is, written}
 
 -- ---- lines
 

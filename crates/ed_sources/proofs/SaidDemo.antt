@@ -1,30 +1,17 @@
 -- What the lines of the source of `demo` say.
-use Rattle.std.proofs.Common.{◌≡◌, ◌∙◌, ℕ, zero, suc, ◌+◌, ◌*◌, ◌<◌, ◌≤◌, true, false, List, [], ◌∷◌, ◌++◌}
-use Rattle.std.proofs.Common.{refl, sym, ap, subst}
-use Rattle.std.proofs.Common.{arith, lit≤, length, length-append, codes, pos, nat_le}
-use Rattle.std.specs.Prelude.{◌==◌, Some, None, Ok}
-use Rattle.std.specs.Fmt.{decimal}
-use Rattle.std.specs.List.{list_all}
-use Rattle.std.proofs.lemmas.List.{length-map}
-use Rattle.std.proofs.lemmas.List.Folds.{list_all-append}
-use Rattle.ed_words.proofs.Numbers.{eq_false, le_true, lt_false}
-use Rattle.ed_words.specs.Texts.{Text}
-use Rattle.ed_syntax.specs.Parts.{run, sign}
-use Rattle.ed_syntax.specs.Names.{is_run_byte}
-use Rattle.ed_syntax.specs.Reading.Parts.{parts_of}
-use Rattle.ed_words.specs.Decimals.{value}
-use Rattle.ed_syntax.specs.Parts.{is_number}
+use Rattle.ed_sources.proofs.Kit.{◌≡◌, ℕ, zero, suc, ◌+◌, ◌*◌, ◌<◌, ◌≤◌, true, false, [], List, ◌∷◌, ◌++◌, length, ◌==◌}
+use Rattle.ed_sources.proofs.Kit.{nat_le, Some, None, Ok, codes, decimal, sym, refl, ap, ◌∙◌, subst, arith, lit≤, value}
+use Rattle.ed_sources.proofs.Kit.{length-append, list_all, length-map, list_all-append, Text, eq_false, lt_false, Line}
+use Rattle.ed_sources.proofs.Kit.{is_run_byte, is_line_byte, settings, parts_of, line_of, Statement, digits, next}
+use Rattle.ed_sources.proofs.Kit.{number_after, number_word, segments, word_lines}
+use Rattle.std.proofs.Common.{pos}
+use Rattle.ed_words.proofs.Numbers.{le_true}
+use Rattle.ed_syntax.specs.Parts.{run, sign, is_number}
 use Rattle.ed_syntax.specs.Names.{is_name}
-use Rattle.ed_syntax.specs.Reading.Grammar.{settings}
-use Rattle.ed_syntax.specs.Parts.{is_line_byte}
-use Rattle.ed_syntax.specs.Reading.Sources.{line_of}
-use Rattle.ed_syntax.specs.declared.program.Line.{Line}
 use Rattle.ed_syntax.specs.declared.program.Operand.TheVariants as operands
-use Rattle.ed_syntax.specs.declared.program.Statement.{Statement}
 use Rattle.ed_syntax.specs.declared.program.Statement.TheVariants as statements
 use Rattle.ed_syntax.proofs.PartLemmas.{run_parts}
-use Rattle.ed_routines.specs.Digits.{digits}
-use Rattle.ed_sources.specs.DemoSources.{adding_pieces, number_after, next, segments, word_lines, number_word}
+use Rattle.ed_sources.specs.DemoSources.{adding_pieces}
 use Rattle.ed_sources.proofs.WovenLines.{woven_lines}
 use Rattle.ed_sources.proofs.Decimals.{are, decimal_is, digit_bytes, few_bytes, line_bytes, run_bytes, some_digit}
 use Rattle.ed_sources.proofs.Decimals.{value_is, written}

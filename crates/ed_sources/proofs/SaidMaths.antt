@@ -1,14 +1,8 @@
 -- What the lines of the sources of `call divide` and `call root` say.
-use Rattle.std.proofs.Common.{◌≡◌, ℕ, ◌/◌, ◌%◌, ◌<◌, false, List, [], ◌∷◌, refl, lit≤, codes}
-use Rattle.std.specs.Prelude.{Some, None, Ok}
-use Rattle.ed_words.specs.Texts.{Text}
-use Rattle.ed_syntax.specs.Reading.Grammar.{settings}
-use Rattle.ed_syntax.specs.Reading.Sources.{line_of}
-use Rattle.ed_syntax.specs.declared.program.Line.{Line}
+use Rattle.ed_sources.proofs.Kit.{◌≡◌, ℕ, ◌/◌, ◌%◌, ◌<◌, false, [], List, ◌∷◌, Some, None, Ok, codes, refl, lit≤, Text}
+use Rattle.ed_sources.proofs.Kit.{settings, line_of, Line, Statement, Divide, Root}
 use Rattle.ed_syntax.specs.declared.program.Operand.TheVariants as operands
-use Rattle.ed_syntax.specs.declared.program.Statement.{Statement}
 use Rattle.ed_syntax.specs.declared.program.Statement.TheVariants as statements
-use Rattle.ed_library.specs.declared.call.Call.TheVariants.{Divide, Root}
 use Rattle.ed_sources.proofs.CallTexts.{call_lines}
 use Rattle.ed_sources.proofs.Said.{IsWordFront, at_place, label_parts, main_calls, named_front, said, use_on, use_with}
 use Rattle.ed_sources.proofs.Said.{woven_says}

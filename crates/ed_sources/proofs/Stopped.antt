@@ -1,22 +1,11 @@
 -- The outcome of a source whose program reaches its stop.
-use Rattle.std.proofs.Common.{◌≡◌, ◌∙◌, ℕ, ◌+◌, ◌-◌, ◌≤◌, suc, ap, arith, List, [], ◌∷◌, ◌++◌, length, append-nil, codes}
-use Rattle.std.specs.Prelude.{None}
-use Rattle.ed_words.specs.Texts.{Text}
-use Rattle.ed_machine.specs.State.{State}
-use Rattle.ed_machine.specs.OrderTable.{step}
+use Rattle.ed_sources.proofs.Kit.{◌≡◌, ℕ, suc, ◌+◌, ◌-◌, ◌≤◌, [], List, ◌∷◌, ◌++◌, length, None, codes, ap, ◌∙◌, arith}
+use Rattle.ed_sources.proofs.Kit.{append-nil, Text, paper, step, State, Line, entry_of, cost, ComesToStop, at_after}
+use Rattle.ed_sources.proofs.Kit.{entry_note, entry_state, AnswersFromEntry, run_outcome}
 use Rattle.ed_run.specs.Run.{RunEnd, run_end}
-use Rattle.ed_printer.specs.Paper.{paper}
 use Rattle.ed_run.specs.declared.settings.Settings.{Settings}
-use Rattle.ed_syntax.specs.declared.program.Line.{Line}
-use Rattle.ed_link.specs.Linked.{entry_of}
-use Rattle.ed_link.specs.Tapes.{cost}
-use Rattle.ed_answers.specs.EntryState.{entry_state}
-use Rattle.ed_report.specs.Notes.{at_after, entry_note}
-use Rattle.ed_routines.proofs.Journeys.{ComesToStop}
 use Rattle.ed_sources.proofs.Stops.{RanToStop, ran_to_stop}
-use Rattle.ed_answers.specs.FromEntry.{AnswersFromEntry}
 use Rattle.ed_answers.specs.Runs.{paper_room, ran_outcome, with_post_mortem}
-use Rattle.ed_answers.specs.Sources.{run_outcome}
 
 -- no post-mortem prints nothing
 pub nothing_after : (r : RunEnd) → with_post_mortem None r ≡ r

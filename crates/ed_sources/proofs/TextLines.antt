@@ -1,23 +1,16 @@
 -- The lines of a text that is made of lines, and what they say one after the other.
-use Rattle.std.proofs.Common.{◌≡◌, ◌∙◌, ◌≤◌, ℕ, ◌+◌, arith, Bool, true, false, true≢false}
-use Rattle.std.proofs.Common.{List, [], ◌∷◌, ◌++◌, refl, sym, ap, append_assoc}
-use Rattle.std.proofs.Common.{length, nat_lt}
-use Rattle.std.specs.Prelude.{◌==◌, Option, Some, Ok, Err, if◌then◌else◌}
-use Rattle.std.specs.List.{list_all}
-use Rattle.std.proofs.lemmas.Bool.{and_parts}
+use Rattle.ed_sources.proofs.Kit.{◌≡◌, ℕ, ◌+◌, ◌≤◌, Bool, true, false, [], List, ◌∷◌, ◌++◌, length, if◌then◌else◌, ◌==◌}
+use Rattle.ed_sources.proofs.Kit.{nat_lt, Some, Ok, Option, sym, refl, ap, ◌∙◌, append_assoc, arith, list_all, Text}
+use Rattle.ed_sources.proofs.Kit.{and_parts, eq_false, is_line_byte, parts_of, line_of, program_of, Line, Statement}
+use Rattle.ed_sources.proofs.Kit.{text_of_lines}
+use Rattle.std.proofs.Common.{true≢false}
+use Rattle.std.specs.Prelude.{Err}
 use Rattle.std.proofs.lemmas.Bool.Decides.{Decides-eqb}
-use Rattle.ed_words.proofs.Numbers.{eq_false}
-use Rattle.ed_words.specs.Texts.{Text}
 use Rattle.ed_syntax.specs.Lines.{lines_of, with_byte}
 use Rattle.ed_syntax.specs.Parts.{LinePart}
-use Rattle.ed_syntax.specs.Reading.Parts.{parts_of}
 use Rattle.ed_syntax.specs.Reading.Grammar.{form_at}
-use Rattle.ed_syntax.specs.Reading.Sources.{and_lines, is_two, line_of, lines_from, program_of}
-use Rattle.ed_syntax.specs.Parts.{is_line_byte}
+use Rattle.ed_syntax.specs.Reading.Sources.{and_lines, is_two, lines_from}
 use Rattle.ed_syntax.specs.declared.fault.SourceCause.TheVariants.{TooManyLines}
-use Rattle.ed_syntax.specs.declared.program.Line.{Line}
-use Rattle.ed_syntax.specs.declared.program.Statement.{Statement}
-use Rattle.ed_sources.specs.CallSources.{text_of_lines}
 
 -- a byte of a line is not one that ends a line
 is_no_end : (b k : ℕ) → is_line_byte b ≡ true → is_line_byte k ≡ false → (b == k) ≡ false

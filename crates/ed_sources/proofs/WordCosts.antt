@@ -1,15 +1,11 @@
 -- What reading the item of a word costs: 23 orders, and 9 for each digit of its address.
-use Rattle.std.proofs.Common.{◌≡◌, ℕ, ◌+◌, ◌*◌, ◌/◌, ◌%◌, ◌<◌, ◌≤◌, Bool, true, false, List, ◌∷◌, ◌++◌, refl}
-use Rattle.std.proofs.Common.{arith, length, length-append, nat_eq}
-use Rattle.std.specs.List.{sum_by}
-use Rattle.std.proofs.lemmas.List.Sums.{sum_by-append, sum_by-cons}
+use Rattle.ed_sources.proofs.Kit.{◌≡◌, ℕ, ◌+◌, ◌*◌, ◌/◌, ◌%◌, ◌<◌, ◌≤◌, Bool, true, false, List, ◌∷◌, ◌++◌, length}
+use Rattle.ed_sources.proofs.Kit.{nat_eq, sum_by, refl, arith, length-append, sum_by-cons, Item, item_cost, word_cost}
+use Rattle.std.proofs.lemmas.List.Sums.{sum_by-append}
 use Rattle.ed_words.proofs.Numbers.{le_false}
-use Rattle.ed_notation.specs.declared.item.Item.{Item}
 use Rattle.ed_notation.specs.Spellings.{digit_at, digits_of}
 use Rattle.ed_link.specs.Punch.{ending, item_with}
-use Rattle.ed_link.specs.Tapes.{item_cost}
 use Rattle.ed_link.proofs.Bounds.{one}
-use Rattle.ed_sources.specs.Costs.{word_cost}
 
 none : (p n : ℕ) → n < p → length (digit_at p n) ≡ 0
 none p n less = let e = le_false p n less in rw e refl

@@ -1,9 +1,7 @@
 -- The lines of a text that is woven of pieces and data.
-use Rattle.std.proofs.Common.{◌≡◌, ◌∙◌, List, [], ◌∷◌, ◌++◌, refl, sym, ap, append_assoc, append-nil}
-use Rattle.std.specs.Prelude.{◌==◌, Bool, true, false, if◌then◌else◌}
-use Rattle.ed_words.proofs.Numbers.{eq_of}
-use Rattle.ed_words.specs.Texts.{Text}
-use Rattle.ed_sources.specs.CallSources.{text_of_lines, woven_text}
+use Rattle.ed_sources.proofs.Kit.{◌≡◌, Bool, true, false, [], List, ◌∷◌, ◌++◌, if◌then◌else◌, ◌==◌, sym, refl, ap, ◌∙◌}
+use Rattle.ed_sources.proofs.Kit.{append_assoc, append-nil, Text, eq_of, text_of_lines}
+use Rattle.ed_sources.specs.CallSources.{woven_text}
 
 -- texts with line ends between them
 abbrev ended : List Text → Text

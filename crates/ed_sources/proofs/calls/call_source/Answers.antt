@@ -1,7 +1,4 @@
-use Rattle.std.proofs.Common.{◌≡◌, ◌∙◌, ap, sym, subst}
-use Rattle.ed_words.specs.Texts.{Text}
-use Rattle.ed_library.specs.declared.call.Call.{Call}
-use Rattle.ed_sources.specs.CallSources.{call_text}
+use Rattle.ed_sources.proofs.Kit.{◌≡◌, sym, ap, ◌∙◌, subst, Text, Call, call_text}
 use Rattle.ed_sources.specs.CallRuns.{RunsAsCall}
 use Rattle.ed_sources.proofs.CallRuns.{each_call_runs}
 use Rattle.ed_sources.proofs.calls.call_source.Goals as goal

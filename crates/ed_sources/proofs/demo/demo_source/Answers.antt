@@ -1,6 +1,4 @@
-use Rattle.std.proofs.Common.{◌≡◌, ◌∙◌, ℕ, ◌≤◌, ap, sym, subst}
-use Rattle.ed_words.specs.Texts.{Text}
-use Rattle.ed_sources.specs.DemoSources.{demo_text}
+use Rattle.ed_sources.proofs.Kit.{◌≡◌, ℕ, ◌≤◌, sym, ap, ◌∙◌, subst, Text, demo_text}
 use Rattle.ed_sources.specs.DemoRuns.{RunsAsDemo}
 use Rattle.ed_sources.proofs.DemoRuns.{each_demo_runs}
 use Rattle.ed_sources.proofs.DemoTexts.{whole_source}

@@ -1,5 +1,4 @@
-use Rattle.std.proofs.Common.{◌≡◌, ◌+◌, ◌-◌, ◌<◌, suc, arith, subst, sym}
-use Rattle.std.specs.Prelude.{string_bytes}
+use Rattle.ed_sources.proofs.Kit.{◌≡◌, suc, ◌+◌, ◌-◌, ◌<◌, string_bytes, sym, subst, arith}
 use Rattle.ed_sources.proofs.DemoTexts.{behind_low, no_segment, one_segment}
 use Rattle.ed_sources.proofs.demo.push_segments.Goals as goal
 

@@ -1,7 +1,4 @@
-use Rattle.std.proofs.Common.{◌≡◌, ◌++◌, ◌+◌, ◌-◌, ◌<◌}
-use Rattle.std.specs.Prelude.{string_bytes}
-use Rattle.ed_sources.specs.CallSources.{text_of_lines}
-use Rattle.ed_sources.specs.DemoSources.{segments}
+use Rattle.ed_sources.proofs.Kit.{◌≡◌, ◌+◌, ◌-◌, ◌<◌, ◌++◌, string_bytes, text_of_lines, segments}
 use Rattle.ed_sources.proofs.demo.push_segments.Given as goal
 
 -- the text so far, and then the segments that are left, whose words are those of the numbers after this one

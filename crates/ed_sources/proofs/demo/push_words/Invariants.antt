@@ -1,7 +1,4 @@
-use Rattle.std.proofs.Common.{◌≡◌, ◌++◌, ◌-◌, ◌<◌}
-use Rattle.std.specs.Prelude.{string_bytes}
-use Rattle.ed_sources.specs.CallSources.{text_of_lines}
-use Rattle.ed_sources.specs.DemoSources.{number_after, word_lines}
+use Rattle.ed_sources.proofs.Kit.{◌≡◌, ◌-◌, ◌<◌, ◌++◌, string_bytes, text_of_lines, number_after, word_lines}
 use Rattle.ed_sources.proofs.demo.push_words.Given as goal
 
 -- the number so far is on the way to the last; the text so far, and then the lines of the words that are left

@@ -1,6 +1,4 @@
-use Rattle.std.proofs.Common.{◌≡◌, ◌++◌, drop, map}
-use Rattle.std.specs.Prelude.{string_bytes}
-use Rattle.std.specs.Fmt.{decimal}
+use Rattle.ed_sources.proofs.Kit.{◌≡◌, ◌++◌, map, drop, string_bytes, decimal}
 use Rattle.ed_sources.specs.CallSources.{woven_text}
 use Rattle.ed_sources.proofs.weaving.woven.Given as goal
 
