@@ -1,13 +1,12 @@
 -- Runs over devices whose calls never fail.
-use Rattle.std.proofs.Common.{◌≡◌, ◌≢◌, ◌⊎◌, inl, inr, ℕ, Bool, false, refl, sym, subst, arith, []}
-use Rattle.std.specs.Prelude.{None, Some, if◌then◌else◌}
+use Rattle.ed_sources.proofs.Kit.{false, if◌then◌else◌}
+use Rattle.ed_top.proofs.Kit.{◌≡◌, ℕ, Bool, [], ◌≢◌, ◌⊎◌, Some, None, sym, refl, subst, inl, inr, arith, Text, known}
+use Rattle.ed_top.proofs.Kit.{of_input, of_made, Answer, Outcome, ProgramEnded}
 use Rattle.ed_io.specs.Bytes.{Gains}
 use Rattle.ed_io.specs.Causes.{next_count}
 use Rattle.ed_io.specs.Memory.{Roll}
-use Rattle.ed_words.specs.Texts.{Text}
-use Rattle.ed_answers.specs.Outcome.{Outcome}
-use Rattle.ed_answers.specs.Answer.{Answer, IsDue, known, of_made, of_input}
-use Rattle.ed_top.specs.Clause.{BrokeNote, BrokeOut, ForDue, ProgramEnded}
+use Rattle.ed_answers.specs.Answer.{IsDue}
+use Rattle.ed_top.specs.Clause.{BrokeNote, BrokeOut, ForDue}
 use Rattle.ed_top.specs.Complete.{EachRunIsComplete, IsWhole, sure_sink, sure_source}
 use Rattle.ed_top.specs.Output.{output}
 use Rattle.ed_top.proofs.Endings.{due_told}

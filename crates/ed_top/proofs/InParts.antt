@@ -1,22 +1,15 @@
 -- Each list of rows has one outcome as a tape in parts, and what was written on the way is a part of it.
-use Rattle.std.proofs.Common.{◌≡◌, ◌∙◌, ℕ, List, [], refl, sym, ap, subst, append-nil}
-use Rattle.std.specs.Prelude.{Ok, Err}
-use Rattle.ed_machine.specs.State.{State}
-use Rattle.ed_run.specs.declared.settings.Settings.{Settings}
+use Rattle.ed_top.proofs.Kit.{◌≡◌, ℕ, [], List, Ok, sym, refl, ap, ◌∙◌, subst, append-nil, State, Err, Settings, Failed}
+use Rattle.ed_top.proofs.Kit.{WriteStop, Memory, of_input, Answer, ForInput, Device, Wrote, WrotePart, IsInParts}
+use Rattle.ed_top.proofs.Kit.{none_written}
 use Rattle.ed_initial.specs.Entry.{first_state}
 use Rattle.ed_interlude.specs.Parts.{PartsAnswer, IsReportOfTape, PartsReport}
 use Rattle.ed_interlude.specs.declared.tape.PartsEnd.{PartsEnd}
 use Rattle.ed_io.specs.Causes.{stop_faults}
-use Rattle.ed_io.specs.declared.stop.WriteStop.{WriteStop}
-use Rattle.ed_io.specs.declared.stop.WriteStop.TheVariants.{Failed, Memory}
 use Rattle.ed_interlude.proofs.Tales.{each_told_once}
-use Rattle.ed_answers.specs.Answer.{Answer, of_input}
-use Rattle.ed_top.specs.Clause.{Device, Wrote, WrotePart}
-use Rattle.ed_top.specs.Parts.{IsInParts, end_note, end_status, report_outcome}
+use Rattle.ed_top.specs.Parts.{end_note, end_status, report_outcome}
 use Rattle.ed_top.specs.Private.Stages.{Carried, IsToTell}
-use Rattle.ed_answers.specs.Replies.{ForInput}
 use Rattle.ed_answers.proofs.Replies.{HasOne}
-use Rattle.ed_top.proofs.FirstParts.{none_written}
 
 pub parts_one : (s : Settings) → HasOne (IsInParts s)
 parts_one s = record {

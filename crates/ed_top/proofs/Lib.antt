@@ -1,5 +1,6 @@
 mod Made
 mod FirstParts
+pub mod Kit
 pub mod Scripts
 mod InParts
 mod Traced

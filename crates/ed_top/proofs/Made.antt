@@ -1,19 +1,13 @@
 -- Replies with an outcome that is stated: from one of an input and back, and that no memory was found, passed on by
 -- `?`.
-use Rattle.std.proofs.Common.{◌≡◌, ℕ, [], Vec, refl, subst, sym}
-use Rattle.std.specs.Prelude.{Result, Ok, Err, IfOk, IsErr, IsErrAnd}
-use Rattle.std.specs.declared.alloc.Global.{Global}
+use Rattle.ed_top.proofs.Kit.{◌≡◌, ℕ, [], Ok, sym, refl, subst, Text, run_outcome, Err, Result, Vec, Global, Settings}
+use Rattle.ed_top.proofs.Kit.{of_input, of_made, refusal, Outcome, Gives, Replies, OfSource, Rejection, Reply}
+use Rattle.std.specs.Prelude.{IfOk, IsErr, IsErrAnd}
 use Rattle.ed_words.specs.declared.memory.NoMemory.{NoMemory}
-use Rattle.ed_words.specs.Texts.{Text}
-use Rattle.ed_answers.specs.Answer.{of_input, of_made}
-use Rattle.ed_answers.specs.Outcome.{Outcome, refusal}
-use Rattle.ed_answers.specs.Sources.{OfSource, of_source, run_outcome}
-use Rattle.ed_run.specs.declared.settings.Settings.{Settings}
+use Rattle.ed_answers.specs.Sources.{of_source}
 use Rattle.ed_top.specs.Calls.{of_made_source}
-use Rattle.ed_answers.specs.Replies.{Gives, Refuses, Replies}
-use Rattle.ed_answers.specs.declared.reply.Rejection.{Rejection}
+use Rattle.ed_answers.specs.Replies.{Refuses}
 use Rattle.ed_answers.specs.declared.reply.Rejection.TheVariants.{Memory, Refused}
-use Rattle.ed_answers.specs.declared.reply.Reply.{Reply}
 
 -- if no memory is found for a reply, there is an outcome all the same
 pub none_replied : (answers : Outcome → Type 0) (r : Result Reply Rejection)

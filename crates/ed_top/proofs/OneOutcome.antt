@@ -1,31 +1,28 @@
 -- For all words, each input has exactly one outcome.
-use Rattle.std.proofs.Common.{◌≡◌, ◌⊎◌, inl, inr, ◌∙◌, ℕ, refl, sym, ap, subst}
-use Rattle.std.specs.Prelude.{◌+◌, List, length, Some, None}
+use Rattle.ed_sources.proofs.Kit.{call_text, demo_text}
+use Rattle.ed_top.proofs.Kit.{◌≡◌, ℕ, ◌+◌, ◌⊎◌, List, length, Some, None, sym, refl, ap, ◌∙◌, subst, inl, inr, Text}
+use Rattle.ed_top.proofs.Kit.{run_outcome, Settings, of_input, refusal, Outcome, some_outcome, Input, answer, on_rows}
+use Rattle.ed_top.proofs.Kit.{OfStep, OnInput, OnText}
 use Rattle.ed_report.specs.Catalogue.{library_text}
 use Rattle.ed_report.specs.Notes.{bad_command_line, no_text_line}
 use Rattle.ed_command.specs.declared.command.Action.{Action}
 use Rattle.ed_command.specs.declared.command.Action.TheVariants.{Tape, CheckTape, Run, Punch, Listing, Library, Demo}
 use Rattle.ed_command.specs.declared.command.Action.TheVariants.{Call as CallOf, Tape1, CheckTape1, Step, Trace, Parts}
-use Rattle.ed_words.specs.Texts.{Text}
-use Rattle.ed_run.specs.declared.settings.Settings.{Settings}
-use Rattle.ed_answers.specs.Outcome.{Outcome, done, refusal, usage_outcome}
-use Rattle.ed_answers.specs.Answer.{HasOneOutcome, of_input}
+use Rattle.ed_answers.specs.Outcome.{done, usage_outcome}
+use Rattle.ed_answers.specs.Answer.{HasOneOutcome}
 use Rattle.ed_answers.specs.FirstOrders.{tape1_outcome}
-use Rattle.ed_top.specs.Output.{EachLineHasOneOutcome, answer}
+use Rattle.ed_top.specs.Output.{EachLineHasOneOutcome}
 use Rattle.ed_answers.specs.Tapes.{tape_outcome}
-use Rattle.ed_answers.specs.Sources.{listing_outcome, punch_outcome, run_outcome}
-use Rattle.ed_top.specs.Scripts.{OfStep, OnInput, OnText, on_rows}
+use Rattle.ed_answers.specs.Sources.{listing_outcome, punch_outcome}
 use Rattle.ed_syntax.proofs.SourceLaws.{one_lines}
-use Rattle.ed_stepper.specs.Inputs.{Input, IsDivided, IsUndivided}
+use Rattle.ed_stepper.specs.Inputs.{IsDivided, IsUndivided}
 use Rattle.ed_stepper.proofs.InputLaws.{one_input}
 use Rattle.ed_stepper.specs.ScriptLines.{CommandList, IsFirstBadLine, IsScript}
 use Rattle.ed_stepper.proofs.ScriptLaws.{one_meaning}
 use Rattle.ed_stepper.specs.declared.inputs.TextKind.{TextKind}
 use Rattle.ed_stepper.specs.declared.inputs.TextKind.TheVariants as kinds
 use Rattle.ed_link.specs.Tapes.{tape}
-use Rattle.ed_sources.specs.CallSources.{call_text}
-use Rattle.ed_sources.specs.DemoSources.{demo_text}
-use Rattle.ed_answers.proofs.Sources.{some_outcome, source_outcome}
+use Rattle.ed_answers.proofs.Sources.{source_outcome}
 use Rattle.ed_top.specs.Traces.{trace_outcome}
 use Rattle.ed_answers.proofs.Replies.{exactly_one}
 use Rattle.ed_answers.proofs.Checks.{checked_one}

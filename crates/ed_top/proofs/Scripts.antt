@@ -1,9 +1,11 @@
 -- From the rows of a text and the reply to a script to the outcome of an input.
-use Rattle.std.proofs.Common.{◌≡◌, ◌∙◌, ℕ, List, [], ◌++◌, refl, sym, ap, subst, inr, None}
-use Rattle.std.specs.Prelude.{Option, Some, Result, Ok, Err, IsErr, IsErrAnd, MatchResult, Vec}
-use Rattle.std.specs.declared.alloc.Global.{Global}
+use Rattle.ed_sources.proofs.Kit.{Line}
+use Rattle.ed_top.proofs.Kit.{◌≡◌, ℕ, [], List, ◌++◌, None, Ok, sym, refl, ap, ◌∙◌, subst, inr, Text, Err, Result, Vec}
+use Rattle.ed_top.proofs.Kit.{Global, Settings, of_input, of_made, refusal, Outcome, Gives, Replies, OfSource, Reply}
+use Rattle.ed_top.proofs.Kit.{Rejection, Input, on_rows, OfStep, OnInput, OnText}
+use Rattle.std.specs.Prelude.{IsErr, IsErrAnd, MatchResult}
 use Rattle.ed_codes.specs.Reading.{Reading, rows, no_row, open_comment, reading}
-use Rattle.ed_stepper.specs.Inputs.{Input, IsDivided}
+use Rattle.ed_stepper.specs.Inputs.{IsDivided}
 use Rattle.ed_stepper.specs.ScriptLines.{CommandList, HasBadLine, IsFirstBadLine, IsScript, OfScript}
 use Rattle.ed_stepper.specs.Scripts.{GoesTooFar, ScriptEnds, play}
 use Rattle.ed_stepper.specs.declared.script.ScriptFault.{ScriptFault}
@@ -11,26 +13,18 @@ use Rattle.ed_stepper.specs.declared.script.ScriptFault.TheVariants.{BackTooFar,
 use Rattle.ed_stepper.specs.Sessions.{Stand}
 use Rattle.ed_stepper.proofs.ScriptLaws.{never_both, one_script}
 use Rattle.ed_report.specs.Notes.{too_far_line}
-use Rattle.ed_answers.specs.Outcome.{Outcome, done, refusal}
+use Rattle.ed_answers.specs.Outcome.{done}
 use Rattle.std.specs.List.{flat_map}
 use Rattle.ed_notation.specs.Spellings.{item_rows}
 use Rattle.ed_stepper.specs.declared.inputs.TextKind.{TextKind}
 use Rattle.ed_stepper.specs.declared.inputs.TextKind.TheVariants as kinds
-use Rattle.ed_syntax.specs.declared.program.Line.{Line}
 use Rattle.ed_link.specs.Tapes.{tape}
 use Rattle.ed_link.specs.declared.linked.Linked.{Linked}
-use Rattle.ed_words.specs.Texts.{Text}
-use Rattle.ed_run.specs.declared.settings.Settings.{Settings}
-use Rattle.ed_answers.specs.Answer.{of_input, of_made}
-use Rattle.ed_top.specs.Scripts.{OfStep, OnInput, OnText, on_reading, on_rows, played_outcome}
-use Rattle.ed_top.specs.Scripts.{script_outcome}
-use Rattle.ed_answers.specs.Replies.{Gives, LinksSource, RefusesText, Replies}
-use Rattle.ed_answers.specs.Sources.{OfSource}
+use Rattle.ed_top.specs.Scripts.{on_reading, played_outcome, script_outcome}
+use Rattle.ed_answers.specs.Replies.{LinksSource, RefusesText}
 use Rattle.ed_answers.proofs.Sources.{source_refused, source_unanswered}
-use Rattle.ed_answers.specs.declared.reply.Rejection.{Rejection}
 use Rattle.ed_answers.specs.declared.reply.Rejection.TheVariants as rejection
 use Rattle.ed_answers.specs.declared.reply.Rejection.TheVariants.{Refused}
-use Rattle.ed_answers.specs.declared.reply.Reply.{Reply}
 use Rattle.ed_top.specs.Private.Stages.{HasRows}
 use Rattle.ed_top.proofs.Made.{as_made}
 

@@ -1,20 +1,12 @@
 -- What is on `out` of a trace that is not told whole.
-use Rattle.std.proofs.Common.{◌≡◌, ℕ, List, Option, [], sym, subst, append-nil}
-use Rattle.std.specs.Prelude.{Ok, Err}
+use Rattle.ed_top.proofs.Kit.{◌≡◌, ℕ, [], List, Ok, Option, sym, subst, append-nil, State, Err, Settings, WriteStop}
+use Rattle.ed_top.proofs.Kit.{Failed, Memory, gains_none, known, Device, WrotePart, none_written}
 use Rattle.ed_io.specs.Bytes.{Gains}
 use Rattle.ed_io.specs.Causes.{stop_faults}
-use Rattle.ed_io.specs.declared.stop.WriteStop.{WriteStop}
-use Rattle.ed_io.specs.declared.stop.WriteStop.TheVariants.{Failed, Memory}
-use Rattle.ed_io.proofs.Calls.{gains_none}
-use Rattle.ed_machine.specs.State.{State}
 use Rattle.ed_machine.specs.declared.ending.Ending.{Ending}
-use Rattle.ed_run.specs.declared.settings.Settings.{Settings}
 use Rattle.ed_stepper.specs.Traces.{TraceEnds, trace_of}
-use Rattle.ed_answers.specs.Answer.{known}
-use Rattle.ed_top.specs.Clause.{Device, WrotePart}
 use Rattle.ed_top.specs.Traces.{traced_from}
 use Rattle.ed_top.specs.Private.Stages.{Carried}
-use Rattle.ed_top.proofs.FirstParts.{none_written}
 
 module _ (s : Settings) (start : State) (out : Device) where
   -- a fault stops the command

@@ -1,20 +1,12 @@
 -- From what a command wrote on `out` to the outcome of a tape's text.
-use Rattle.std.proofs.Common.{◌≡◌, ◌∙◌, ◌<◌, ℕ, List, [], refl, sym, ap, subst}
-use Rattle.std.specs.Prelude.{Result, Ok, Err}
+use Rattle.ed_top.proofs.Kit.{◌≡◌, ℕ, ◌<◌, [], List, Ok, sym, refl, ap, ◌∙◌, subst, Text, Err, Result, WriteStop, known}
+use Rattle.ed_top.proofs.Kit.{Failed, Memory, of_input, of_made, of_rows, Answer, Outcome, ForInput, Gives, Replies}
+use Rattle.ed_top.proofs.Kit.{Rejection, Reply, Device, Wrote, WrotePart, none_written}
 use Rattle.ed_codes.specs.Reading.{Reading, rows, reading}
-use Rattle.ed_words.specs.Texts.{Text}
-use Rattle.ed_answers.specs.Outcome.{Outcome}
-use Rattle.ed_answers.specs.Answer.{Answer, OfReading, exactly, known, of_input, of_made, of_rows}
-use Rattle.ed_top.specs.Clause.{Device, Wrote, WrotePart}
+use Rattle.ed_answers.specs.Answer.{OfReading, exactly}
 use Rattle.ed_top.specs.Private.Stages.{Carried, WritesReply, WritesText}
-use Rattle.ed_answers.specs.Replies.{ForInput, Gives, Replies}
-use Rattle.ed_answers.specs.declared.reply.Rejection.{Rejection}
 use Rattle.ed_answers.specs.declared.reply.Rejection.TheVariants as rejection
-use Rattle.ed_answers.specs.declared.reply.Reply.{Reply}
 use Rattle.ed_top.specs.declared.devices.Rest.{Rest}
-use Rattle.ed_io.specs.declared.stop.WriteStop.{WriteStop}
-use Rattle.ed_io.specs.declared.stop.WriteStop.TheVariants.{Failed, Memory}
-use Rattle.ed_top.proofs.FirstParts.{none_written}
 
 for_more : (answer : Answer) (input : Text) (P Q : Outcome → Type 0) → ((o : Outcome) → P o → Q o) → ForInput answer
     input P → ForInput answer input Q

@@ -1,8 +1,7 @@
-use Rattle.std.proofs.Common.{ap, rules}
-use Rattle.ed_top.specs.Output.{answer}
+use Rattle.ed_top.proofs.Kit.{ap, rules, answer}
 use Rattle.ed_top.proofs.Writing.{known_carried, made_carried, written}
-use Rattle.ed_top.proofs.commands.carry_out.Goals.{in-Tape, in-CheckTape, in-Tape1, in-CheckTape1, in-Run, in-Punch, in-Listing}
-use Rattle.ed_top.proofs.commands.carry_out.Goals.{in-Call, in-Library, in-Demo, in-Step}
+use Rattle.ed_top.proofs.commands.carry_out.Goals.{in-Tape, in-CheckTape, in-Tape1, in-CheckTape1, in-Run, in-Punch}
+use Rattle.ed_top.proofs.commands.carry_out.Goals.{in-Listing, in-Call, in-Library, in-Demo, in-Step}
 use Rattle.ed_top.proofs.commands.carry_out.Goals as goal
 
 pub returns : goal.returns

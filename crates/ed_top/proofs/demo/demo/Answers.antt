@@ -1,7 +1,5 @@
-use Rattle.std.proofs.Common.{◌∙◌}
-use Rattle.ed_sources.specs.DemoSources.{demo_text}
-use Rattle.ed_answers.specs.Sources.{OfSource, run_outcome}
-use Rattle.ed_answers.proofs.Sources.{some_outcome}
+use Rattle.ed_sources.proofs.Kit.{demo_text}
+use Rattle.ed_top.proofs.Kit.{◌∙◌, run_outcome, OfSource, some_outcome}
 use Rattle.ed_top.proofs.Made.{made_replied, none_replied}
 use Rattle.ed_top.proofs.demo.demo.Goals as goal
 

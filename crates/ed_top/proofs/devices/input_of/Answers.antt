@@ -1,9 +1,7 @@
-use Rattle.std.proofs.Common.{ℕ, ◌≡◌, ◌≢◌, ◌<◌, ◌≤◌, ◌⊎◌, inl, inr, arith, refl, Bool, true, Result, Err, Vec}
-use Rattle.std.specs.declared.alloc.Global.{Global}
-use Rattle.std.proofs.lemmas.Result.{err_from_is_err_and}
+use Rattle.ed_top.proofs.Kit.{◌≡◌, ℕ, ◌<◌, ◌≤◌, Bool, true, ◌≢◌, ◌⊎◌, refl, inl, inr, arith, Err, Result, Vec, Global}
+use Rattle.ed_top.proofs.Kit.{err_from_is_err_and, device, Device}
 use Rattle.ed_top.specs.declared.devices.InputStop.{InputStop}
 use Rattle.ed_top.specs.declared.devices.InputStop.TheVariants as input
-use Rattle.ed_top.specs.Clause.{Device, device}
 use Rattle.ed_top.specs.Private.Stages.{HasInput, input_faults}
 use Rattle.ed_top.proofs.devices.input_of.Goals as goal
 

@@ -1,9 +1,7 @@
-use Rattle.std.proofs.Common.{ℕ, ◌≡◌, ◌≢◌, ◌≤◌, ap, rules, arith, ◌∙◌, refl, subst, sym, inl, inr, List, [], Option}
-use Rattle.std.proofs.Common.{◌++◌, drop, length, length-append, take}
-use Rattle.ed_words.specs.Texts.{Text}
-use Rattle.std.proofs.lemmas.List.{append-nil, take-append-le, length-take, length-take-le}
-use Rattle.std.proofs.lemmas.Result.{err_from_is_err_and}
-use Rattle.ed_io.specs.Bytes.{Loses}
+use Rattle.ed_sources.proofs.Kit.{take, drop, length-append}
+use Rattle.ed_top.proofs.Kit.{◌≡◌, ℕ, ◌≤◌, [], ◌≢◌, List, ◌++◌, length, Option, sym, refl, ap, ◌∙◌, subst, inl, inr}
+use Rattle.ed_top.proofs.Kit.{append-nil, arith, Text, rules, err_from_is_err_and, Loses}
+use Rattle.std.proofs.lemmas.List.{take-append-le, length-take, length-take-le}
 use Rattle.ed_io.specs.Causes.{next_count}
 use Rattle.ed_io.proofs.Calls.{loses_more, loses_none, still_at_end}
 use Rattle.ed_top.specs.declared.devices.InputStop.TheVariants as input

@@ -1,4 +1,4 @@
-use Rattle.std.proofs.Common.{refl}
+use Rattle.ed_top.proofs.Kit.{refl}
 use Rattle.ed_top.proofs.devices.tell.Goals as goal
 
 pub returns-in-Ok : goal.returns-in-Ok

@@ -1,11 +1,4 @@
-use Rattle.std.proofs.Common.{refl}
-use Rattle.std.proofs.lemmas.Result.{err_from_is_err_and}
-use Rattle.std.specs.Prelude.{Err}
-use Rattle.ed_io.proofs.Calls.{gains_none}
-use Rattle.ed_io.specs.declared.stop.WriteStop.TheVariants.{Memory}
-use Rattle.ed_answers.specs.Answer.{of_rows}
-use Rattle.ed_top.specs.Clause.{device}
-use Rattle.ed_top.specs.Parts.{IsInParts}
+use Rattle.ed_top.proofs.Kit.{refl, Err, err_from_is_err_and, Memory, gains_none, of_rows, device, IsInParts}
 use Rattle.ed_top.proofs.InParts.{parts_none, parts_one}
 use Rattle.ed_answers.proofs.Replies.{rejected}
 use Rattle.ed_top.proofs.Writing.{reply_carried, rows_carried_by}

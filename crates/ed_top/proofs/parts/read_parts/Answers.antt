@@ -1,7 +1,4 @@
-use Rattle.std.proofs.lemmas.Result.{err_from_is_err_and}
-use Rattle.ed_answers.specs.Answer.{of_input}
-use Rattle.ed_top.specs.Clause.{device}
-use Rattle.ed_top.specs.Parts.{IsInParts}
+use Rattle.ed_top.proofs.Kit.{err_from_is_err_and, of_input, device, IsInParts}
 use Rattle.ed_top.proofs.InParts.{parts_broken, parts_stopped, parts_told, parts_untold}
 use Rattle.ed_top.proofs.parts.read_parts.Goals as goal
 

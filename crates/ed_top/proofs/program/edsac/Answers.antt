@@ -1,15 +1,13 @@
-use Rattle.std.proofs.Common.{◌≡◌, ℕ, refl, sym, subst, map, string_bytes}
-use Rattle.std.specs.Prelude.{Option, Some, None, Err}
+use Rattle.ed_sources.proofs.Kit.{map, string_bytes}
+use Rattle.ed_top.proofs.Kit.{◌≡◌, ℕ, Some, None, Option, sym, refl, subst, Err, gains_none, known, device, Device}
+use Rattle.ed_top.proofs.Kit.{ProgramEnded}
 use Rattle.ed_command.specs.Answers.{AnswersWords}
 use Rattle.ed_command.specs.Lines.{command_line}
 use Rattle.ed_command.specs.declared.command.Command.{Command}
 use Rattle.ed_command.specs.declared.reading.CommandFault.{CommandFault}
 use Rattle.ed_command.specs.declared.reading.CommandFault.TheVariants.{Usage, Memory}
-use Rattle.ed_answers.specs.Answer.{known}
 use Rattle.ed_answers.specs.Outcome.{usage_outcome}
 use Rattle.ed_top.specs.Output.{output}
-use Rattle.ed_top.specs.Clause.{Device, ProgramEnded, device}
-use Rattle.ed_io.proofs.Calls.{gains_none}
 use Rattle.ed_top.proofs.Endings.{none_due, with_due, with_no_memory}
 use Rattle.ed_top.proofs.Completing.{each_complete}
 use Rattle.ed_top.proofs.OneOutcome.{line_once}

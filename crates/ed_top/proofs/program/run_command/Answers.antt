@@ -1,15 +1,10 @@
-use Rattle.std.proofs.Common.{arith, refl, subst}
-use Rattle.std.specs.Prelude.{◌≤◌, ℕ, Bool, true, false, Ok, Vec, length}
-use Rattle.std.specs.declared.alloc.Global.{Global}
-use Rattle.ed_answers.specs.declared.input.TheConstants.{INPUT_BYTES}
+use Rattle.ed_sources.proofs.Kit.{false}
+use Rattle.ed_top.proofs.Kit.{ℕ, ◌≤◌, Bool, true, length, Ok, refl, subst, arith, Text, Vec, Global, gains_none, device}
+use Rattle.ed_top.proofs.Kit.{ForInput, INPUT_BYTES, Device, WrotePart, answer}
 use Rattle.ed_top.specs.declared.devices.InputStop.TheVariants as input
 use Rattle.ed_io.specs.declared.stop.WriteStop.TheVariants as stop
-use Rattle.ed_words.specs.Texts.{Text}
 use Rattle.ed_top.specs.Private.Stages.{Carried, HasInput}
-use Rattle.ed_answers.specs.Replies.{ForInput}
-use Rattle.ed_top.specs.Output.{answer}
-use Rattle.ed_top.specs.Clause.{Device, WritesLastLine, WrotePart, device}
-use Rattle.ed_io.proofs.Calls.{gains_none}
+use Rattle.ed_top.specs.Clause.{WritesLastLine}
 use Rattle.ed_top.proofs.Endings.{carried_stop, due_input, fine_source, fine_unread, input_by, none_due, stop_by}
 use Rattle.ed_top.proofs.Endings.{with_broken_out, with_long, with_no_memory, with_read_fault, with_rest}
 use Rattle.ed_top.proofs.OneOutcome.{answer_once}

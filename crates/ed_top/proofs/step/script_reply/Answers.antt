@@ -1,6 +1,4 @@
-use Rattle.std.proofs.Common.{subst}
-use Rattle.ed_answers.specs.Outcome.{refusal}
-use Rattle.ed_answers.specs.Replies.{Gives}
+use Rattle.ed_top.proofs.Kit.{subst, refusal, Gives}
 use Rattle.ed_top.proofs.Scripts.{far_given, never_refused, played_given}
 use Rattle.ed_top.proofs.step.script_reply.Goals as goal
 

@@ -1,11 +1,7 @@
-use Rattle.std.proofs.Common.{◌≡◌, ◌∙◌, ℕ, ◌+◌, List, [], ap, inl, length, refl, sym}
-use Rattle.std.specs.Prelude.{Ok, Err}
-use Rattle.ed_words.specs.Texts.{Text}
+use Rattle.ed_top.proofs.Kit.{◌≡◌, ℕ, ◌+◌, List, length, Ok, sym, refl, ap, ◌∙◌, inl, Text, Err, refusal, Input, OfStep}
+use Rattle.ed_top.proofs.Kit.{on_rows, OnInput, OnText}
 use Rattle.ed_syntax.proofs.SourceLaws.{one_lines}
-use Rattle.ed_answers.specs.Outcome.{refusal}
 use Rattle.ed_report.specs.Notes.{no_text_line}
-use Rattle.ed_stepper.specs.Inputs.{Input}
-use Rattle.ed_top.specs.Scripts.{OfStep, OnInput, OnText, on_rows}
 use Rattle.ed_top.proofs.Scripts.{divided_replied, text_replied}
 use Rattle.ed_top.proofs.Made.{handed_on, line_replied, none_replied}
 use Rattle.ed_top.proofs.step.step.Goals as goal

@@ -1,6 +1,5 @@
-use Rattle.std.proofs.Common.{◌≡◌, subst, rules}
+use Rattle.ed_top.proofs.Kit.{◌≡◌, subst, rules, Gives}
 use Rattle.std.specs.Prelude.{IfOk}
-use Rattle.ed_answers.specs.Replies.{Gives}
 use Rattle.ed_stepper.specs.Scripts.{play}
 use Rattle.ed_stepper.specs.Sessions.{Stand}
 use Rattle.ed_top.specs.Scripts.{played_outcome, stand_on}

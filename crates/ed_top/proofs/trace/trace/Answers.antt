@@ -1,15 +1,9 @@
-use Rattle.std.proofs.Common.{[], refl, subst}
-use Rattle.std.proofs.lemmas.Result.{err_from_is_err_and}
-use Rattle.std.specs.Prelude.{Err}
-use Rattle.ed_io.proofs.Calls.{gains_none}
-use Rattle.ed_io.specs.declared.stop.WriteStop.TheVariants.{Memory}
-use Rattle.ed_machine.specs.State.{State}
-use Rattle.ed_answers.specs.Answer.{exactly, known, of_rows}
-use Rattle.ed_top.specs.Clause.{device}
+use Rattle.ed_top.proofs.Kit.{[], refl, subst, State, Err, err_from_is_err_and, Memory, gains_none, known, of_rows}
+use Rattle.ed_top.proofs.Kit.{device, none_written}
+use Rattle.ed_answers.specs.Answer.{exactly}
 use Rattle.ed_top.specs.Private.Stages.{Carried}
 use Rattle.ed_top.specs.Traces.{trace_outcome, traced_from}
 use Rattle.ed_answers.proofs.Replies.{exactly_one, rejected}
-use Rattle.ed_top.proofs.FirstParts.{none_written}
 use Rattle.ed_top.proofs.Writing.{reply_carried, rows_carried}
 use Rattle.ed_top.proofs.trace.trace.Goals as goal
 

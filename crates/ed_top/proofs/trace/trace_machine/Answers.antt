@@ -1,5 +1,4 @@
-use Rattle.std.proofs.lemmas.Result.{err_from_is_err_and}
-use Rattle.ed_top.specs.Clause.{device}
+use Rattle.ed_top.proofs.Kit.{err_from_is_err_and, device}
 use Rattle.ed_top.proofs.Traced.{trace_stopped, trace_untold}
 use Rattle.ed_top.proofs.trace.trace_machine.Goals as goal
 
