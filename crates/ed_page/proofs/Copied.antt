@@ -1,12 +1,13 @@
 -- Lists that grow at their ends: a loop that takes the items of a list one after the other, and texts that are added.
-use Rattle.std.proofs.Common.{◌≡◌, ◌∙◌, ℕ, ◌+◌, ◌<◌, ◌≤◌, refl, sym, ap, add-one, arith, List, [], ◌∷◌, ◌++◌}
-use Rattle.std.proofs.Common.{append_assoc, append-nil, length, get_or, set, take, drop, drop-cons}
-use Rattle.std.specs.List.{flat_map}
+use Rattle.ed_page.proofs.Kit.{◌≡◌, ℕ, ◌+◌, ◌<◌, ◌≤◌, List, [], ◌∷◌, ◌++◌, reverse, length, get_or, take, drop, IfSome}
+use Rattle.ed_page.proofs.Kit.{ap, Some, None, Option, flat_map, sym, refl, ◌∙◌, append_assoc, append-nil, arith}
+use Rattle.ed_page.proofs.Kit.{drop_all, latest_shift}
+use Rattle.std.proofs.Common.{add-one, set, drop-cons}
 use Rattle.std.specs.Option.{UnwrapsOrElse}
-use Rattle.std.specs.Prelude.{◌↔◌, IfSome, IsNone, None, Option, Some, reverse}
-use Rattle.std.proofs.lemmas.List.{drop_all, length-take-le}
+use Rattle.std.specs.Prelude.{◌↔◌, IsNone}
+use Rattle.std.proofs.lemmas.List.{length-take-le}
 use Rattle.std.proofs.Math.Seq.{set-append_seam, take-suc}
-use Rattle.ed_printer.specs.Paper.{latest_shift, paper_from}
+use Rattle.ed_printer.specs.Paper.{paper_from}
 use Rattle.ed_printer.specs.declared.printer.Shift.{Shift}
 use Rattle.ed_printer.proofs.Texts.{Strikes, struck_alone}
 use Rattle.ed_page.specs.Going.{added_text}

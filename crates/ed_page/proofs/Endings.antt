@@ -1,22 +1,14 @@
 -- From a run that ended, with its note, to what the program answers of it.
-use Rattle.std.proofs.Common.{◌≡◌, ◌∙◌, ℕ, ap, subst, Option, None, List, [], ◌++◌}
+use Rattle.ed_page.proofs.Kit.{◌≡◌, ℕ, List, [], ◌++◌, ap, None, Option, ◌∙◌, subst, append-nil, Text, RunEnd, Settings}
+use Rattle.ed_page.proofs.Kit.{Line, tape, IsRan, run_of, run_outcome, FinishedRun, NotedRun}
 use Rattle.std.specs.Prelude.{Result, Ok, IfOk}
 use Rattle.ed_words.specs.declared.memory.NoMemory.{NoMemory}
-use Rattle.std.proofs.lemmas.List.{append-nil}
-use Rattle.ed_syntax.specs.declared.program.Line.{Line}
-use Rattle.ed_link.specs.Tapes.{tape}
 use Rattle.ed_printer.specs.Paper.{paper}
-use Rattle.ed_run.specs.Run.{RunEnd}
 use Rattle.ed_report.specs.Notes.{ending_line}
-use Rattle.ed_words.specs.Texts.{Text}
-use Rattle.ed_run.specs.declared.settings.Settings.{Settings}
 use Rattle.ed_run.specs.declared.settings.Window.{Window}
-use Rattle.ed_answers.specs.Runs.{post_mortem_codes, ran_outcome, run_of, status_of, with_post_mortem}
-use Rattle.ed_answers.specs.Sources.{entered_before, run_outcome}
+use Rattle.ed_answers.specs.Runs.{post_mortem_codes, ran_outcome, status_of, with_post_mortem}
+use Rattle.ed_answers.specs.Sources.{entered_before}
 use Rattle.ed_answers.specs.Tapes.{tape_outcome}
-use Rattle.ed_answers.specs.Replies.{IsRan}
-use Rattle.ed_answers.specs.declared.running.FinishedRun.{FinishedRun}
-use Rattle.ed_answers.specs.declared.source.NotedRun.{NotedRun}
 use Rattle.ed_page.specs.Private.Stages.{noted_outcome}
 
 -- no post-mortem prints nothing

@@ -1,12 +1,10 @@
 -- That the plain program over rows makes the table of the items of May 1949 that the rows spell.
-use Rattle.std.proofs.Common.{◌≡◌, ◌∙◌, ℕ, ◌+◌, ◌*◌, ◌<◌, ◌≤◌, refl, sym, ap, subst, arith, inl, inr, lit≤, Bool, true}
-use Rattle.std.proofs.Common.{false}
-use Rattle.std.proofs.Common.{nat_lt, Option, Some, None, List, [], ◌∷◌, ◌++◌, append_assoc, drop, get_or, length}
-use Rattle.std.proofs.Common.{length-append}
-use Rattle.std.proofs.Common.{if◌then◌else◌, take}
-use Rattle.std.proofs.lemmas.List.{append-nil, drop_all}
+use Rattle.ed_page.proofs.Kit.{◌≡◌, ℕ, ◌+◌, ◌*◌, ◌<◌, ◌≤◌, Bool, true, false, List, [], ◌∷◌, ◌++◌, length, get_or, take}
+use Rattle.ed_page.proofs.Kit.{drop, if◌then◌else◌, nat_lt, ap, Some, None, Option, sym, refl, ◌∙◌, subst, inl, inr}
+use Rattle.ed_page.proofs.Kit.{append_assoc, append-nil, arith, lit≤, length-append, drop_all, lt_false, done, Outcome}
+use Rattle.ed_page.proofs.Kit.{Gives, Reply}
 use Rattle.std.proofs.Math.Seq.{take-append_seam}
-use Rattle.ed_words.proofs.Numbers.{lt_false, lt_true}
+use Rattle.ed_words.proofs.Numbers.{lt_true}
 use Rattle.ed_notation.specs.Items.{AreDigits, digits_number}
 use Rattle.ed_notation.specs.declared.kind.RowKind.TheVariants.{Digit}
 use Rattle.ed_notation.proofs.Loop.{next_row}
@@ -15,9 +13,6 @@ use Rattle.ed_initial1.specs.Checks.{Accepts1, Report1}
 use Rattle.ed_initial1.specs.Faults.{IsFault1, IsPart1, part_rows1}
 use Rattle.ed_initial1.specs.Items.{AreItems, Begun1, IsBegun1, Item1, ending_row, rows_of1, spelled_rows1, word1}
 use Rattle.ed_report.specs.FirstNotes.{rule1_line}
-use Rattle.ed_answers.specs.Outcome.{Outcome, done}
-use Rattle.ed_answers.specs.Replies.{Gives}
-use Rattle.ed_answers.specs.declared.reply.Reply.{Reply}
 use Rattle.ed_page.specs.TapeItems.{IsItemsOutcome1, item_line, item_table1}
 use Rattle.ed_page.specs.Private.ItemTables.{first_word, item_at, table_on1, opened_with}
 use Rattle.ed_page.specs.Private.Stages.{IsReplied}

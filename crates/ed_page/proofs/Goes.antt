@@ -1,22 +1,18 @@
 -- Where the run from the state of a picture ends, and that continuing twice is continuing once.
-use Rattle.std.proofs.Common.{◌≡◌, ◌∙◌, ℕ, ◌+◌, ◌-◌, ◌<◌, ◌≤◌, refl, sym, ap, arith, List, length, length-append}
-use Rattle.std.proofs.Common.{Bool, true, false, nat_eq, nat_lt, nat_le, Option, Some, None, is_some, unwrap_or}
-use Rattle.std.specs.Prelude.{if◌then◌else◌}
+use Rattle.ed_page.proofs.Kit.{◌≡◌, ℕ, ◌+◌, ◌-◌, ◌<◌, ◌≤◌, Bool, true, false, List, length, if◌then◌else◌, nat_lt, ap}
+use Rattle.ed_page.proofs.Kit.{Some, None, Option, sym, refl, ◌∙◌, arith, length-append, lt_false, State, state_after}
+use Rattle.ed_page.proofs.Kit.{run_end, Settings, first_state, run1_of, first_state1, paper_room, run_of}
+use Rattle.std.proofs.Common.{nat_eq, nat_le, is_some, unwrap_or}
 use Rattle.std.proofs.lemmas.Bool.Decides.{nat_tests}
-use Rattle.ed_words.proofs.Numbers.{eq_false, lt_false}
-use Rattle.ed_machine.specs.State.{State}
+use Rattle.ed_words.proofs.Numbers.{eq_false}
 use Rattle.ed_machine.specs.OrderTable.{step}
-use Rattle.ed_machine.specs.Steps.{Progress, least, progress, state_after}
+use Rattle.ed_machine.specs.Steps.{Progress, least, progress}
 use Rattle.ed_machine.specs.declared.ending.Ending.{Ending}
 use Rattle.ed_machine.specs.declared.ending.Ending.TheVariants.{Stopped, Limit}
 use Rattle.ed_machine.proofs.LeastNumbers.{least_on}
 use Rattle.ed_machine.proofs.Steps.{after_sum, no_step, past_sum}
-use Rattle.ed_run.specs.Run.{end_at, end_by, run_end, run_orders}
+use Rattle.ed_run.specs.Run.{end_at, end_by, run_orders}
 use Rattle.ed_run.proofs.Ends.{ran_ends}
-use Rattle.ed_run.specs.declared.settings.Settings.{Settings}
-use Rattle.ed_initial.specs.Entry.{first_state}
-use Rattle.ed_answers.specs.FirstOrders.{first_state1, run1_of}
-use Rattle.ed_answers.specs.Runs.{paper_room, run_of}
 use Rattle.ed_page.specs.Going.{GoingLaw, run_following}
 
 -- if a run goes on, the next order doesn't end it

@@ -1,20 +1,15 @@
 -- From a run that continued to the cause of an answer.
-use Rattle.std.proofs.Common.{◌≡◌, ◌≢◌, ◌⊎◌, inl, inr, ◌∙◌, ℕ, ◌+◌, ◌-◌, ◌<◌, refl, sym, ap, subst, arith, lit<, List, [], length}
-use Rattle.ed_machine.specs.State.{State}
+use Rattle.ed_page.proofs.Kit.{◌≡◌, ℕ, ◌+◌, ◌-◌, ◌<◌, ◌≢◌, ◌⊎◌, List, [], length, ap, sym, refl, ◌∙◌, subst, inl, inr}
+use Rattle.ed_page.proofs.Kit.{arith, lit<, Text, State, state_after, RunEnd, run_end, IsRan, paper_room, FinishedRun}
+use Rattle.ed_page.proofs.Kit.{IsShown, AreCodes, Pictures, Registers}
 use Rattle.ed_machine.specs.declared.ending.Ending.{Ending}
 use Rattle.ed_machine.specs.declared.ending.Ending.TheVariants.{Stopped, Limit, NoOrder, NoTape, PaperFull}
 use Rattle.ed_machine.specs.Sheet.{Sheet}
-use Rattle.ed_machine.specs.Steps.{state_after}
-use Rattle.ed_run.specs.Run.{IsLeft, RunEnd, run_end}
-use Rattle.ed_words.specs.Texts.{Text}
+use Rattle.ed_run.specs.Run.{IsLeft}
 use Rattle.ed_answers.specs.Answer.{Answer}
-use Rattle.ed_answers.specs.Replies.{IsRan}
-use Rattle.ed_answers.specs.Runs.{paper_room, status_of}
-use Rattle.ed_answers.specs.declared.running.FinishedRun.{FinishedRun}
-use Rattle.ed_page.specs.Answers.{Buffers, IsShown}
-use Rattle.ed_page.specs.Going.{AreCodes, BeginsOnTheWay, GoingBuffers, HasStoreRoom, IsGoneOn, IsOnTheWay, ShowsRun}
-use Rattle.ed_page.specs.Pictures.{Pictures}
-use Rattle.ed_page.specs.declared.writing.Registers.{Registers}
+use Rattle.ed_answers.specs.Runs.{status_of}
+use Rattle.ed_page.specs.Answers.{Buffers}
+use Rattle.ed_page.specs.Going.{BeginsOnTheWay, GoingBuffers, HasStoreRoom, IsGoneOn, IsOnTheWay, ShowsRun}
 use Rattle.ed_page.proofs.Goes.{stays}
 
 low_status : (e : Ending) → status_of e < 8

@@ -1,14 +1,13 @@
 -- That the plain program over rows makes the table of the items that the rows spell.
-use Rattle.std.proofs.Common.{◌≡◌, ◌∙◌, ℕ, ◌+◌, ◌*◌, ◌^◌, drop, ◌<◌, ◌≤◌, refl, sym, ap, arith, Bool, true, false}
-use Rattle.std.proofs.Common.{nat_lt}
-use Rattle.std.proofs.Common.{Option, Some, None, List, [], ◌∷◌, ◌++◌, append_assoc, length, length-append}
-use Rattle.std.proofs.Common.{if◌then◌else◌, subst, take, inl, inr, lit<, lit≤, get_or}
-use Rattle.std.proofs.lemmas.List.{append-nil, drop_all, get_or-replicate}
+use Rattle.ed_page.proofs.Kit.{◌≡◌, ℕ, ◌+◌, ◌*◌, ◌^◌, ◌<◌, ◌≤◌, Bool, true, false, List, [], ◌∷◌, ◌++◌, length, get_or}
+use Rattle.ed_page.proofs.Kit.{take, drop, if◌then◌else◌, nat_lt, ap, Some, None, Option, sym, refl, ◌∙◌, subst, inl}
+use Rattle.ed_page.proofs.Kit.{inr, append_assoc, append-nil, arith, lit<, lit≤, length-append, drop_all, Size, Cells}
+use Rattle.ed_page.proofs.Kit.{lt_false, cleared_cells, IsStore, done, Outcome, Gives, Reply}
+use Rattle.std.proofs.lemmas.List.{get_or-replicate}
 use Rattle.std.proofs.Math.Seq.{set_out, take-append-add, take-append_seam}
 use Rattle.std.specs.Prelude.{slice_set}
-use Rattle.ed_words.specs.declared.size.Size.{Size}
-use Rattle.ed_words.proofs.Numbers.{lt_false, lt_true}
-use Rattle.ed_store.specs.Cells.{Cells, IsStore, cleared_cells, with_short}
+use Rattle.ed_words.proofs.Numbers.{lt_true}
+use Rattle.ed_store.specs.Cells.{with_short}
 use Rattle.ed_notation.specs.declared.item.Item.{Item}
 use Rattle.ed_notation.specs.declared.kind.LetterAction.{LetterAction}
 use Rattle.ed_notation.specs.declared.kind.LetterAction.TheVariants.{Enters}
@@ -23,22 +22,18 @@ use Rattle.ed_notation.specs.Reports.{Report}
 use Rattle.ed_notation.proofs.Cuts.{spelled-append}
 use Rattle.ed_notation.proofs.Loop.{next_row}
 use Rattle.ed_report.specs.Notes.{rule_line}
-use Rattle.ed_answers.specs.Outcome.{Outcome, done}
 use Rattle.ed_answers.specs.Tapes.{first_note}
 use Rattle.ed_notation.specs.Fold.{NotationState, act, ending_effect, address, letter_action_of, control_of, enters_at}
-use Rattle.ed_notation.specs.Fold.{item_word, over, value_of}
-use Rattle.ed_notation.specs.Fold.{with_kay, with_letter, with_zed, word_with}
+use Rattle.ed_notation.specs.Fold.{item_word, over, value_of, with_kay, with_letter, with_zed, word_with}
 use Rattle.ed_notation.specs.Items.{AreDigits, Begun, IsBegun, IsWritten, Written, digits_number, ends, item, mark_rows}
 use Rattle.ed_notation.specs.Items.{row_kind, rows_of, spelled_rows}
 use Rattle.ed_notation.specs.Spellings.{AreWritten}
-use Rattle.ed_page.specs.TapeItems.{IsItemsOutcome, PlacingLaw, item_line, item_table, placing, placing_by, tape_table, with_placing}
-use Rattle.ed_page.specs.Private.ItemTables.{IsSetBelow, cells_with, first_notation, is_last_row, item_at, notation_after, note_over}
-use Rattle.ed_page.specs.Private.ItemTables.{placing_over}
-use Rattle.ed_page.specs.Private.ItemTables.{table_on, whole_item, opened_with}
+use Rattle.ed_page.specs.TapeItems.{IsItemsOutcome, PlacingLaw, item_line, item_table, placing, placing_by, tape_table}
+use Rattle.ed_page.specs.TapeItems.{with_placing}
+use Rattle.ed_page.specs.Private.ItemTables.{IsSetBelow, cells_with, first_notation, is_last_row, item_at, note_over}
+use Rattle.ed_page.specs.Private.ItemTables.{notation_after, placing_over, table_on, whole_item, opened_with}
 use Rattle.ed_page.specs.declared.items.Notation.{Notation}
 use Rattle.ed_page.specs.declared.items.OpenItem.{OpenItem}
-use Rattle.ed_answers.specs.Replies.{Gives}
-use Rattle.ed_answers.specs.declared.reply.Reply.{Reply}
 use Rattle.ed_page.specs.Private.Stages.{IsReplied}
 
 -- ---- what the fold places

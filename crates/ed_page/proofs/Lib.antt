@@ -1,3 +1,4 @@
+mod Kit
 mod Endings
 mod Replies
 mod Copied

@@ -1,31 +1,26 @@
 -- The states on the way of a tape, from Start with either Initial Orders: they are within their bounds, Start and
 -- orders lead to them, and a picture shows one of them alone.
-use Rattle.std.proofs.Common.{◌≡◌, ◌∙◌, ℕ, ◌+◌, ◌-◌, ◌/◌, ◌%◌, ◌^◌, ◌<◌, ◌≤◌, refl, sym, ap, subst, arith, lit<, lit≤}
-use Rattle.std.proofs.Common.{rules}
-use Rattle.std.proofs.Common.{Bool, false, inl, inr, Option, Some, None, List, ◌++◌, drop, get_or, length}
-use Rattle.std.proofs.Common.{length-append}
-use Rattle.std.specs.Prelude.{◌↔◌, IfSome, IsNone, replicate, unwrap_or}
+use Rattle.ed_page.proofs.Kit.{◌≡◌, ℕ, ◌+◌, ◌-◌, ◌^◌, ◌<◌, ◌≤◌, Bool, false, List, ◌++◌, length, get_or, drop, IfSome}
+use Rattle.ed_page.proofs.Kit.{ap, Some, None, Option, sym, refl, ◌∙◌, subst, inl, inr, arith, lit<, lit≤, Size, Cells}
+use Rattle.ed_page.proofs.Kit.{length-append, IsStore, State, state_after, first_state, first_state1, AreCodes}
+use Rattle.ed_page.proofs.Kit.{size_shown, Pictures, PicturesStore, Registers}
+use Rattle.std.proofs.Common.{◌/◌, ◌%◌, rules}
+use Rattle.std.specs.Prelude.{◌↔◌, IsNone, replicate, unwrap_or}
 use Rattle.std.proofs.Math.Seq.{drop-append_seam}
 use Rattle.std.proofs.lemmas.List.{length-drop, length-replicate}
 use Rattle.ed_words.specs.Sizes.{locations}
-use Rattle.ed_words.specs.declared.size.Size.{Size}
 use Rattle.ed_words.specs.declared.size.Size.TheVariants.{Small, Full}
-use Rattle.ed_store.specs.Cells.{Cells, IsStore}
-use Rattle.ed_machine.specs.State.{State, cleared_state}
+use Rattle.ed_machine.specs.State.{cleared_state}
 use Rattle.ed_machine.specs.Reached.{IsReached}
 use Rattle.ed_machine.specs.Reached.IsReached.{clear, start, obey}
 use Rattle.ed_machine.specs.Sound.{IsSound}
-use Rattle.ed_machine.specs.Steps.{state_after}
 use Rattle.ed_machine.proofs.Keeping.{steps_follow}
 use Rattle.ed_machine.proofs.SoundSteps.{sound_after}
 use Rattle.ed_initial.specs.Listing.{initial_orders}
-use Rattle.ed_initial.specs.Entry.{first_state}
 use Rattle.ed_initial.proofs.Starts.{all_fit, first_sound}
 use Rattle.ed_initial1.specs.Listing.{first_orders}
-use Rattle.ed_answers.specs.FirstOrders.{first_state1}
-use Rattle.ed_page.specs.Going.{AreCodes, CanGoOn, IsAfterStart}
-use Rattle.ed_page.specs.Pictures.{Pictures, PicturesStore, last_shown, size_shown}
-use Rattle.ed_page.specs.declared.writing.Registers.{Registers}
+use Rattle.ed_page.specs.Going.{CanGoOn, IsAfterStart}
+use Rattle.ed_page.specs.Pictures.{last_shown}
 use Rattle.ed_page.proofs.Stores.{words_fit}
 use Rattle.ed_page.proofs.TapeRows.{by_steps}
 

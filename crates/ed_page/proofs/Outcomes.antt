@@ -1,9 +1,6 @@
 -- The run of each kind of program has an outcome.
-use Rattle.ed_words.specs.Texts.{Text}
-use Rattle.ed_run.specs.declared.settings.Settings.{Settings}
-use Rattle.ed_answers.specs.Answer.{IsDue, of_input}
-use Rattle.ed_answers.specs.Outcome.{Outcome}
-use Rattle.ed_answers.specs.Sources.{run_outcome}
+use Rattle.ed_page.proofs.Kit.{Text, Settings, of_input, Outcome, run_outcome}
+use Rattle.ed_answers.specs.Answer.{IsDue}
 use Rattle.ed_answers.proofs.OneOutcome.{rows_once, source_once}
 use Rattle.ed_answers.proofs.Replies.{exactly_one}
 use Rattle.ed_page.specs.Private.Asked.{answers_of, tape_outcome_by}

@@ -1,11 +1,9 @@
 -- The text that codes add to the paper after others.
-use Rattle.std.proofs.Common.{◌≡◌, ◌∙◌, ℕ, refl, sym, ap, List, [], ◌∷◌, ◌++◌, append_assoc, append-nil}
-use Rattle.std.proofs.Common.{◌≢◌, ◌⊎◌, inl, inr}
-use Rattle.std.specs.Prelude.{reverse}
+use Rattle.ed_page.proofs.Kit.{◌≡◌, ℕ, ◌≢◌, ◌⊎◌, List, [], ◌∷◌, ◌++◌, reverse, ap, sym, refl, ◌∙◌, inl, inr, append-nil}
+use Rattle.ed_page.proofs.Kit.{append_assoc, Text, latest_shift}
 use Rattle.ed_words.proofs.Numbers.{eq_false}
 use Rattle.std.proofs.lemmas.List.{reverse-append}
-use Rattle.ed_words.specs.Texts.{Text}
-use Rattle.ed_printer.specs.Paper.{latest_shift, paper, paper_from, shift_after, struck_bytes}
+use Rattle.ed_printer.specs.Paper.{paper, paper_from, shift_after, struck_bytes}
 use Rattle.ed_printer.specs.declared.printer.Shift.{Shift}
 use Rattle.ed_printer.proofs.Latest.{in_latest_shift}
 use Rattle.ed_page.specs.Going.{PaperLaw}

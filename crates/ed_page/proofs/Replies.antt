@@ -1,29 +1,21 @@
 -- From the answer to the rows or the lines of a text to that to the text.
-use Rattle.std.proofs.Common.{◌≡◌, ◌∙◌, ◌++◌, ℕ, inl, inr, refl, sym, ap}
-use Rattle.std.proofs.Common.{subst, Some, List, []}
-use Rattle.std.specs.Prelude.{Result, Ok, Err, IsErr, IsErrAnd}
+use Rattle.ed_page.proofs.Kit.{◌≡◌, ℕ, List, [], ◌++◌, ap, Some, Err, sym, refl, ◌∙◌, subst, inl, inr, Text, Size, Line}
+use Rattle.ed_page.proofs.Kit.{State, RunEnd, Settings, tape, of_input, Outcome, Gives, IsRan, run_of, run_outcome}
+use Rattle.ed_page.proofs.Kit.{Reply, NotedRun}
+use Rattle.std.specs.Prelude.{Result, Ok, IsErr, IsErrAnd}
 use Rattle.std.proofs.lemmas.Result.{err_from_is_err_and}
-use Rattle.ed_words.specs.declared.size.Size.{Size}
 use Rattle.ed_codes.specs.Reading.{Reading, rows, no_row, open_comment, reading}
-use Rattle.ed_machine.specs.State.{State}
-use Rattle.ed_syntax.specs.declared.program.Line.{Line}
 use Rattle.ed_syntax.specs.declared.fault.SourceFault.TheVariants.{At}
 use Rattle.ed_answers.specs.Refusals.{IsAcceptedAs}
 use Rattle.ed_answers.proofs.EachSource.{one_answer}
-use Rattle.ed_link.specs.Tapes.{tape}
 use Rattle.ed_report.specs.Notes.{ending_line, source_fault_line}
-use Rattle.ed_answers.specs.Answer.{OfReading, exactly, of_input}
-use Rattle.ed_words.specs.Texts.{Text}
-use Rattle.ed_answers.specs.Outcome.{Outcome, refusal}
-use Rattle.ed_answers.specs.Replies.{Gives, IsRan, IsRanOf, LinksSource, RefusesText, Replies, RunsSource}
-use Rattle.ed_answers.specs.Runs.{run_of, ran_outcome}
-use Rattle.ed_answers.specs.Sources.{OfSource, entered_before, run_outcome}
+use Rattle.ed_answers.specs.Answer.{OfReading, exactly}
+use Rattle.ed_answers.specs.Outcome.{refusal}
+use Rattle.ed_answers.specs.Replies.{IsRanOf, LinksSource, RefusesText, Replies, RunsSource}
+use Rattle.ed_answers.specs.Runs.{ran_outcome}
+use Rattle.ed_answers.specs.Sources.{OfSource, entered_before}
 use Rattle.ed_answers.specs.declared.reply.Rejection.{Rejection}
 use Rattle.ed_answers.specs.declared.reply.Rejection.TheVariants.{Memory, Refused}
-use Rattle.ed_answers.specs.declared.reply.Reply.{Reply}
-use Rattle.ed_answers.specs.declared.source.NotedRun.{NotedRun}
-use Rattle.ed_run.specs.Run.{RunEnd}
-use Rattle.ed_run.specs.declared.settings.Settings.{Settings}
 use Rattle.ed_page.specs.Answers.{RowsEnd, SourceEnds}
 use Rattle.ed_page.specs.Private.Stages.{IsAnswered, IsReplied, Runs}
 use Rattle.ed_page.proofs.Endings.{noted_run}

@@ -1,17 +1,15 @@
 -- The rows that a run leaves are the end of its tape's rows.
-use Rattle.std.proofs.Common.{◌≡◌, ◌∙◌, ℕ, zero, suc, ◌^◌, refl, sym, ap, Bool, true, false, nat_le, nat_lt}
-use Rattle.std.proofs.Common.{List, [], ◌∷◌, ◌++◌, append_assoc, Option, Some, None}
+use Rattle.ed_page.proofs.Kit.{◌≡◌, ℕ, zero, suc, ◌^◌, Bool, true, false, List, [], ◌∷◌, ◌++◌, nat_lt, ap, Some, None}
+use Rattle.ed_page.proofs.Kit.{Option, sym, refl, ◌∙◌, append_assoc, State, state_after, run_end, first_state}
+use Rattle.ed_page.proofs.Kit.{first_state1, paper_room}
+use Rattle.std.proofs.Common.{nat_le}
 use Rattle.ed_words.specs.Words.{function_of}
 use Rattle.ed_orders.specs.Kinds.{kind_of_function}
 use Rattle.ed_orders.specs.declared.kind.Kind.{Kind}
 use Rattle.ed_orders.specs.declared.kind.Kind.TheVariants.{E, G, I}
-use Rattle.ed_machine.specs.State.{State}
 use Rattle.ed_machine.specs.OrderTable.{jump_order, next_word, obey_word, place_of, step, row_order}
-use Rattle.ed_machine.specs.Steps.{progress, state_after}
-use Rattle.ed_run.specs.Run.{run_end, run_orders}
-use Rattle.ed_initial.specs.Entry.{first_state}
-use Rattle.ed_answers.specs.FirstOrders.{first_state1}
-use Rattle.ed_answers.specs.Runs.{paper_room}
+use Rattle.ed_machine.specs.Steps.{progress}
+use Rattle.ed_run.specs.Run.{run_orders}
 use Rattle.ed_page.specs.Answers.{EachRun1ReadsOn, EachRunReadsOn, IsEndOf}
 
 -- one order reads at most one row

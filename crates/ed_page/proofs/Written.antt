@@ -1,23 +1,17 @@
 -- From what was written into buffers to the cause of an answer.
-use Rattle.std.proofs.Common.{◌≡◌, ◌≢◌, ◌⊎◌, ◌∙◌, ◌<◌, ◌≤◌, ℕ, inl, inr, refl, subst, arith}
-use Rattle.std.proofs.Common.{Option, Some, None, List, length}
+use Rattle.ed_page.proofs.Kit.{◌≡◌, ℕ, ◌<◌, ◌≤◌, ◌≢◌, ◌⊎◌, List, length, IfSome, Some, None, Option, refl, ◌∙◌, subst}
+use Rattle.ed_page.proofs.Kit.{inl, inr, arith, Text, State, of_input, Outcome, Gives, Reply, picture_buffers, IsShown}
+use Rattle.ed_page.proofs.Kit.{Pictures, Registers}
 use Rattle.std.proofs.lemmas.Bool.{cases_lt}
-use Rattle.std.specs.Prelude.{IfSome}
-use Rattle.ed_machine.specs.State.{State}
-use Rattle.ed_words.specs.Texts.{Text}
 use Rattle.ed_answers.specs.declared.input.TheConstants.{INPUT_BYTES}
-use Rattle.ed_answers.specs.declared.reply.Reply.{Reply}
-use Rattle.ed_answers.specs.Outcome.{Outcome, too_long, too_long_outcome}
-use Rattle.ed_answers.specs.Answer.{IsDue, of_input}
-use Rattle.ed_answers.specs.Replies.{Gives}
-use Rattle.ed_page.specs.Answers.{Buffers, HasBufferRoom, HasItsCause, HasPictureRoom, IsShown, IsTextWritten}
-use Rattle.ed_page.specs.Answers.{LacksLine, LacksRoom, ShowsNone, TextBuffers, picture_buffers, text_buffers}
-use Rattle.ed_page.specs.Pictures.{Pictures}
-use Rattle.ed_page.specs.Private.Stages.{AreTextsWritten, IsPicture, IsReplied, IsWrittenOut}
-use Rattle.ed_page.specs.Private.Stages.{WritesBuffers, told_outcome}
+use Rattle.ed_answers.specs.Outcome.{too_long, too_long_outcome}
+use Rattle.ed_answers.specs.Answer.{IsDue}
+use Rattle.ed_page.specs.Answers.{Buffers, HasBufferRoom, HasItsCause, HasPictureRoom, IsTextWritten, LacksLine}
+use Rattle.ed_page.specs.Answers.{LacksRoom, ShowsNone, TextBuffers, text_buffers}
+use Rattle.ed_page.specs.Private.Stages.{AreTextsWritten, IsPicture, IsReplied, IsWrittenOut, WritesBuffers}
+use Rattle.ed_page.specs.Private.Stages.{told_outcome}
 use Rattle.ed_page.specs.declared.running.Shown.{Shown}
 use Rattle.ed_page.specs.declared.writing.Lengths.{Lengths}
-use Rattle.ed_page.specs.declared.writing.Registers.{Registers}
 
 same_number : (m n : ℕ) → ((m ≢ n) → ⊥) → (m < n) ⊎ (n ≤ m) → (n < m) ⊎ (m ≤ n) → m ≡ n
 same_number m n h (inl less) other = absurd (h (λ e. omega (arith, less, e)))

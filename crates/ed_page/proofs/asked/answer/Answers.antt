@@ -1,13 +1,8 @@
-use Rattle.std.proofs.Common.{◌≡◌, ◌∙◌, ◌≤◌, ◌++◌, ℕ, List, arith, inr, refl, subst}
-use Rattle.ed_words.specs.declared.size.Size.{Size}
-use Rattle.std.specs.List.{flat_map}
+use Rattle.ed_page.proofs.Kit.{◌≡◌, ℕ, ◌≤◌, List, ◌++◌, flat_map, refl, ◌∙◌, subst, inr, arith, Size, Line, done, Gives}
+use Rattle.ed_page.proofs.Kit.{Reply}
 use Rattle.ed_notation.specs.Spellings.{item_rows}
-use Rattle.ed_syntax.specs.declared.program.Line.{Line}
 use Rattle.ed_link.specs.Answers.{IsLinked}
 use Rattle.ed_link.specs.declared.linked.Linked.{Linked}
-use Rattle.ed_answers.specs.Outcome.{done}
-use Rattle.ed_answers.specs.Replies.{Gives}
-use Rattle.ed_answers.specs.declared.reply.Reply.{Reply}
 use Rattle.ed_answers.specs.Sources.{OfSource, listing_outcome, punch_outcome}
 use Rattle.ed_page.specs.Answers.{source_rows}
 use Rattle.ed_page.specs.Private.Asked.{answers_to, answers_to_rows}

@@ -1,4 +1,4 @@
-use Rattle.std.proofs.Common.{arith, lit<}
+use Rattle.ed_page.proofs.Kit.{arith, lit<}
 use Rattle.ed_page.specs.Answers.{text_buffers}
 use Rattle.ed_page.specs.Private.Stages.{IsReplied}
 use Rattle.ed_page.specs.Private.Asked.{answers_to}

@@ -1,13 +1,9 @@
-use Rattle.std.proofs.Common.{◌≡◌, List, ℕ, arith, lit<, refl, subst}
-use Rattle.std.proofs.lemmas.Grind.{common_steps}
-use Rattle.std.specs.Prelude.{Err}
+use Rattle.ed_page.proofs.Kit.{◌≡◌, ℕ, List, Err, refl, subst, arith, lit<, common_steps, done, Gives}
 use Rattle.ed_initial1.specs.Checks.{Answers1}
 use Rattle.ed_initial1.specs.Faults.{IsFault1}
 use Rattle.ed_initial1.specs.declared.cause.Tape1Cause.{Tape1Cause}
 use Rattle.ed_initial1.specs.declared.cause.Tape1Fault.{Tape1Fault}
 use Rattle.ed_initial1.specs.declared.cause.Tape1Fault.TheVariants.{At, Memory}
-use Rattle.ed_answers.specs.Outcome.{done}
-use Rattle.ed_answers.specs.Replies.{Gives}
 use Rattle.ed_page.specs.TapeItems.{IsItemsOutcome1}
 use Rattle.ed_page.proofs.FirstItemRows.{fault_told1, program_told1}
 use Rattle.ed_page.proofs.Replies.{none_answered}

@@ -1,4 +1,4 @@
-use Rattle.std.proofs.Common.{◌≤◌, length, subst, sym, arith}
+use Rattle.ed_page.proofs.Kit.{◌≤◌, length, sym, subst, arith}
 use Rattle.ed_page.specs.Going.{going_buffers}
 use Rattle.ed_page.proofs.Goes.{going_law}
 use Rattle.ed_page.proofs.GoneOn.{gone_nowhere, gone_shown, gone_unmade, next_on, no_store_room}

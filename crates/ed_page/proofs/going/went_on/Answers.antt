@@ -1,8 +1,4 @@
-use Rattle.std.proofs.Common.{refl, subst, ℕ}
-use Rattle.ed_machine.specs.State.{State}
-use Rattle.ed_run.specs.Run.{run_end}
-use Rattle.ed_answers.specs.Replies.{IsRan}
-use Rattle.ed_answers.specs.declared.running.FinishedRun.{FinishedRun}
+use Rattle.ed_page.proofs.Kit.{ℕ, refl, subst, State, run_end, IsRan, FinishedRun}
 use Rattle.ed_page.proofs.GoneOn.{gone_of}
 use Rattle.ed_page.proofs.going.went_on.Goals as goal
 

@@ -1,4 +1,4 @@
-use Rattle.std.proofs.Common.{◌∙◌, sym}
+use Rattle.ed_page.proofs.Kit.{sym, ◌∙◌}
 use Rattle.ed_page.proofs.ItemRows.{tabled_end, tabled_first, tabled_function, tabled_last, tabled_longer}
 use Rattle.ed_page.proofs.items.push_items.Goals.{in-None, in-Some+else-is_last_row}
 use Rattle.ed_page.proofs.items.push_items.Goals.{in-Some+then-is_last_row+in_ok-push_line-in-Some}

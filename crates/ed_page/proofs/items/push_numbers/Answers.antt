@@ -1,5 +1,4 @@
-use Rattle.std.proofs.Common.{arith}
-use Rattle.std.proofs.lemmas.Grind.{common_steps}
+use Rattle.ed_page.proofs.Kit.{arith, common_steps}
 use Rattle.ed_page.proofs.Copied.{pushed_all}
 use Rattle.ed_page.proofs.items.push_numbers.Goals as goal
 

@@ -1,5 +1,4 @@
-use Rattle.std.proofs.Common.{◌≡◌, ◌++◌, drop}
-use Rattle.std.specs.List.{flat_map}
+use Rattle.ed_page.proofs.Kit.{◌≡◌, ◌++◌, drop, flat_map}
 use Rattle.ed_page.specs.TapeItems.{four_bytes}
 use Rattle.ed_page.proofs.items.push_numbers.Given as goal
 

@@ -1,14 +1,9 @@
-use Rattle.std.proofs.Common.{◌≡◌, List, ℕ, arith, lit<, refl, subst}
-use Rattle.std.proofs.lemmas.Grind.{common_steps}
-use Rattle.std.specs.Prelude.{Err}
-use Rattle.ed_store.specs.Cells.{cleared_cells}
+use Rattle.ed_page.proofs.Kit.{◌≡◌, ℕ, List, Err, refl, subst, arith, lit<, common_steps, cleared_cells, done, Gives}
 use Rattle.ed_notation.specs.Checks.{AnswersCheck}
 use Rattle.ed_notation.specs.Faults.{IsFault}
 use Rattle.ed_notation.specs.declared.cause.TapeCause.{TapeCause}
 use Rattle.ed_notation.specs.declared.cause.TapeFault.{TapeFault}
 use Rattle.ed_notation.specs.declared.cause.TapeFault.TheVariants.{At, Memory}
-use Rattle.ed_answers.specs.Outcome.{done}
-use Rattle.ed_answers.specs.Replies.{Gives}
 use Rattle.ed_answers.specs.Tapes.{first_note}
 use Rattle.ed_page.specs.TapeItems.{IsItemsOutcome}
 use Rattle.ed_page.proofs.ItemRows.{entered_told, entered_within, fault_told}

@@ -1,4 +1,4 @@
-use Rattle.std.proofs.Common.{◌∙◌}
+use Rattle.ed_page.proofs.Kit.{◌∙◌}
 use Rattle.ed_page.proofs.Copied.{text_added}
 use Rattle.ed_page.proofs.papers.added_text.Goals as goal
 

@@ -1,4 +1,5 @@
-use Rattle.std.proofs.Common.{◌≡◌, ◌⊎◌, inl, inr, ◌∙◌, ap, rules, sym}
+use Rattle.ed_page.proofs.Kit.{◌≡◌, ◌⊎◌, ap, sym, ◌∙◌, inl, inr}
+use Rattle.std.proofs.Common.{rules}
 use Rattle.ed_printer.specs.Paper.{shift_after}
 use Rattle.ed_page.proofs.PaperTails.{set_last, unset_last}
 use Rattle.ed_page.proofs.papers.printer_after.Goals.{then-code-eq-FIGURE_SHIFT-via-then-code-eq-FIGURE_SHIFT}

@@ -1,6 +1,4 @@
-use Rattle.std.proofs.Common.{◌≡◌, length}
-use Rattle.std.specs.Prelude.{reverse}
-use Rattle.ed_printer.specs.Paper.{latest_shift}
+use Rattle.ed_page.proofs.Kit.{◌≡◌, reverse, length, latest_shift}
 use Rattle.ed_page.proofs.papers.printer_after.Given as goal
 
 -- no code after the rest sets a shift

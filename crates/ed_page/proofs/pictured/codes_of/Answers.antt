@@ -1,4 +1,4 @@
-use Rattle.std.proofs.Common.{refl}
+use Rattle.ed_page.proofs.Kit.{refl}
 use Rattle.ed_page.proofs.Copied.{copied_all, copied_more, known_code}
 use Rattle.ed_page.proofs.pictured.codes_of.Goals as goal
 

@@ -1,4 +1,4 @@
-use Rattle.std.proofs.Common.{◌≡◌, ◌++◌, drop}
+use Rattle.ed_page.proofs.Kit.{◌≡◌, ◌++◌, drop}
 use Rattle.ed_page.proofs.pictured.codes_of.Given as goal
 
 abbrev pub invariant-loop-number : goal.invariant-loop-number

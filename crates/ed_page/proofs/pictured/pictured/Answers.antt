@@ -1,11 +1,8 @@
-use Rattle.std.proofs.Common.{◌∙◌, ◌<◌, ◌≤◌, refl, sym, subst, arith}
+use Rattle.ed_page.proofs.Kit.{◌<◌, ◌≤◌, sym, refl, ◌∙◌, subst, arith, Size, size_shown}
 use Rattle.ed_words.specs.Sizes.{locations}
-use Rattle.ed_words.specs.declared.size.Size.{Size}
 use Rattle.ed_machine.specs.Reached.{IsReached}
-use Rattle.ed_page.specs.Pictures.{size_shown}
 use Rattle.ed_page.proofs.OnTheWay.{begun, fit_counter, fit_last, fit_multiplier, fit_rows, fit_words, is_first}
-use Rattle.ed_page.proofs.OnTheWay.{most_places}
-use Rattle.ed_page.proofs.OnTheWay.{shown_state, way_reached}
+use Rattle.ed_page.proofs.OnTheWay.{most_places, shown_state, way_reached}
 use Rattle.ed_page.proofs.RowCodes.{are_after, codes_after}
 use Rattle.ed_page.proofs.pictured.pictured.Goals as goal
 

@@ -1,5 +1,4 @@
-use Rattle.std.proofs.Common.{sym, subst, arith}
-use Rattle.ed_store.specs.Cells.{Cells, IsStore}
+use Rattle.ed_page.proofs.Kit.{sym, subst, arith, Cells, IsStore}
 use Rattle.ed_page.proofs.Stores.{cleared_store, same_cells}
 use Rattle.ed_page.proofs.pictured.store_of.Goals as goal
 

@@ -1,6 +1,4 @@
-use Rattle.std.proofs.Common.{ℕ, ◌<◌}
-use Rattle.ed_store.specs.Cells.{Cells, IsStore}
-use Rattle.ed_page.specs.Pictures.{PicturesStore}
+use Rattle.ed_page.proofs.Kit.{ℕ, ◌<◌, Cells, IsStore, PicturesStore}
 use Rattle.ed_page.proofs.Stores.{SamePair}
 use Rattle.ed_page.proofs.pictured.store_of.Given as goal
 

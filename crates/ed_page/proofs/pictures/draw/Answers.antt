@@ -1,5 +1,4 @@
-use Rattle.std.proofs.Common.{arith, lit<}
-use Rattle.ed_page.specs.Answers.{picture_buffers}
+use Rattle.ed_page.proofs.Kit.{arith, lit<, picture_buffers}
 use Rattle.ed_page.specs.Private.Asked.{answers_of, ends_of}
 use Rattle.ed_page.proofs.Outcomes.{program_due}
 use Rattle.ed_page.proofs.Written.{found_status, long_shown, low_status, picture_early, picture_shown, picture_unmade}

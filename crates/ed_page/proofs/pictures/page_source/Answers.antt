@@ -1,10 +1,6 @@
-use Rattle.std.proofs.Common.{ap, refl, subst}
-use Rattle.ed_run.specs.declared.settings.Settings.{Settings}
-use Rattle.ed_link.specs.Tapes.{tape}
-use Rattle.ed_answers.specs.Runs.{run_of}
+use Rattle.ed_page.proofs.Kit.{ap, refl, subst, Settings, tape, run_of, picture_buffers, IsShown, run_settings}
 use Rattle.ed_answers.specs.Sources.{run_answer}
-use Rattle.ed_page.specs.Answers.{IsShown, SourceEnds, picture_buffers}
-use Rattle.ed_page.specs.Pictures.{run_settings}
+use Rattle.ed_page.specs.Answers.{SourceEnds}
 use Rattle.ed_page.proofs.Goes.{from_start}
 use Rattle.ed_page.proofs.GoneOn.{begins_on}
 use Rattle.ed_page.proofs.RowCodes.{source_codes}

@@ -1,9 +1,6 @@
-use Rattle.std.proofs.Common.{ap, refl, subst}
-use Rattle.ed_run.specs.declared.settings.Settings.{Settings}
-use Rattle.ed_answers.specs.Runs.{run_of}
+use Rattle.ed_page.proofs.Kit.{ap, refl, subst, Settings, run_of, picture_buffers, IsShown, run_settings}
 use Rattle.ed_answers.specs.Tapes.{tape_answer}
-use Rattle.ed_page.specs.Answers.{IsShown, TapeEnds, picture_buffers}
-use Rattle.ed_page.specs.Pictures.{run_settings}
+use Rattle.ed_page.specs.Answers.{TapeEnds}
 use Rattle.ed_page.proofs.Goes.{from_start}
 use Rattle.ed_page.proofs.GoneOn.{begins_on}
 use Rattle.ed_page.proofs.RowCodes.{read_codes}

@@ -1,9 +1,6 @@
-use Rattle.std.proofs.Common.{ap, refl, subst}
-use Rattle.std.specs.Prelude.{false}
-use Rattle.ed_run.specs.declared.settings.Settings.{Settings}
-use Rattle.ed_answers.specs.FirstOrders.{run1_of, tape1_answer}
-use Rattle.ed_page.specs.Answers.{IsShown, Tape1Ends, picture_buffers}
-use Rattle.ed_page.specs.Pictures.{run_settings}
+use Rattle.ed_page.proofs.Kit.{false, ap, refl, subst, Settings, run1_of, picture_buffers, IsShown, run_settings}
+use Rattle.ed_answers.specs.FirstOrders.{tape1_answer}
+use Rattle.ed_page.specs.Answers.{Tape1Ends}
 use Rattle.ed_page.proofs.Goes.{from_start1}
 use Rattle.ed_page.proofs.GoneOn.{begins_on}
 use Rattle.ed_page.proofs.RowCodes.{read_codes}

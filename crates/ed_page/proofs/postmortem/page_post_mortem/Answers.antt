@@ -1,4 +1,4 @@
-use Rattle.std.proofs.Common.{◌≡◌, ◌≢◌, ◌⊎◌, inl, inr, refl, subst, ℕ}
+use Rattle.ed_page.proofs.Kit.{◌≡◌, ℕ, ◌≢◌, ◌⊎◌, refl, subst, inl, inr}
 use Rattle.ed_run.specs.SettingRanges.{IsWindowOf}
 use Rattle.ed_page.proofs.postmortem.page_post_mortem.Goals as goal
 

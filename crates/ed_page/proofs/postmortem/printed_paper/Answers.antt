@@ -1,8 +1,5 @@
-use Rattle.std.proofs.Common.{◌≡◌, ◌∙◌, ap, subst, sym}
-use Rattle.ed_words.specs.declared.size.Size.{Size}
-use Rattle.ed_machine.specs.State.{State}
+use Rattle.ed_page.proofs.Kit.{◌≡◌, ap, sym, ◌∙◌, subst, Size, State, size_shown}
 use Rattle.ed_run.specs.SettingRanges.{IsWindowOf}
-use Rattle.ed_page.specs.Pictures.{size_shown}
 use Rattle.ed_page.proofs.OnTheWay.{begun, way_size}
 use Rattle.ed_page.proofs.postmortem.printed_paper.Goals as goal
 

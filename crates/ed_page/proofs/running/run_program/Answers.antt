@@ -1,8 +1,6 @@
-use Rattle.std.proofs.Common.{◌∙◌, refl, sym}
-use Rattle.ed_answers.specs.FirstOrders.{run1_of, tape1_outcome}
-use Rattle.ed_answers.specs.Runs.{run_of}
+use Rattle.ed_page.proofs.Kit.{sym, refl, ◌∙◌, run1_of, run_of, NotedRun}
+use Rattle.ed_answers.specs.FirstOrders.{tape1_outcome}
 use Rattle.ed_answers.specs.Tapes.{tape_outcome}
-use Rattle.ed_answers.specs.declared.source.NotedRun.{NotedRun}
 use Rattle.ed_page.specs.Private.Asked.{run_by, tape_outcome_by}
 use Rattle.ed_page.proofs.Endings.{plain_source, plain_tape, ran_is}
 use Rattle.ed_page.proofs.Replies.{rows_not_run, rows_run, source_run}

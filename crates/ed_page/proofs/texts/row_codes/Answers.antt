@@ -1,7 +1,5 @@
-use Rattle.std.proofs.Common.{◌∙◌, List, ℕ, subst}
+use Rattle.ed_page.proofs.Kit.{ℕ, List, ◌∙◌, subst, done, Gives}
 use Rattle.std.proofs.lemmas.List.{get_or_read}
-use Rattle.ed_answers.specs.Outcome.{done}
-use Rattle.ed_answers.specs.Replies.{Gives}
 use Rattle.ed_page.proofs.Copied.{copied_all, copied_more}
 use Rattle.ed_page.proofs.texts.row_codes.Goals as goal
 

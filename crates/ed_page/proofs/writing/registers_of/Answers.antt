@@ -1,5 +1,4 @@
-use Rattle.std.proofs.Common.{arith}
-use Rattle.std.proofs.lemmas.Grind.{common_steps}
+use Rattle.ed_page.proofs.Kit.{arith, common_steps}
 use Rattle.ed_page.proofs.writing.registers_of.Goals as goal
 
 pub returns-clause-registers : goal.returns-clause-registers
