@@ -1,29 +1,13 @@
 -- A run that has a guest checked ends where the guest is blocked.
-use Rattle.std.proofs.Common.{◌≡◌, ◌∙◌, ℕ, ◌+◌, ◌-◌, ◌<◌, ◌≤◌, refl, sym, ap, subst, arith, false, true≢false}
-use Rattle.std.proofs.Common.{Bool, Some, None, List, length}
-use Rattle.ed_words.specs.Texts.{Text}
-use Rattle.ed_printer.specs.Paper.{paper}
-use Rattle.ed_machine.specs.State.{State}
-use Rattle.ed_machine.specs.OrderTable.{step}
-use Rattle.ed_machine.specs.Steps.{Progress, is_obeyed, progress, state_after}
-use Rattle.ed_machine.specs.declared.turn.Turn.{Turn}
-use Rattle.ed_machine.specs.declared.turn.Turn.TheVariants.{Went, Printed, Stopped as Stops}
-use Rattle.ed_machine.specs.declared.turn.Turn.TheVariants.{NoOrder as IsNoOrder, NoTape as HasNoTape}
-use Rattle.ed_machine.proofs.Counts.{counted_after}
-use Rattle.ed_run.specs.Run.{RunEnd, end_by}
-use Rattle.ed_run.specs.declared.settings.Settings.{Settings}
+use Rattle.ed_sources.proofs.Kit.{entry_of, cost, entry_note, entry_state, AnswersFromEntry}
+use Rattle.ed_laws.proofs.Kit.{◌≡◌, ℕ, ◌+◌, ◌-◌, ◌<◌, ◌≤◌, Bool, false, List, length, ap, Some, None, sym, refl, ◌∙◌}
+use Rattle.ed_laws.proofs.Kit.{subst, arith, Text, paper, State, Line, step, Settings, Outcome, true≢false, is_obeyed}
+use Rattle.ed_laws.proofs.Kit.{state_after, Progress, progress, Turn, Printed, Went, counted_after, end_by, RunEnd}
+use Rattle.ed_laws.proofs.Kit.{IsAcceptedAs, paper_room, ran_outcome, with_post_mortem}
+use Rattle.ed_machine.specs.declared.turn.Turn.TheVariants.{Stopped as Stops, NoOrder as IsNoOrder, NoTape as HasNoTape}
 use Rattle.ed_run.proofs.Places as places
-use Rattle.ed_syntax.specs.declared.program.Line.{Line}
-use Rattle.ed_link.specs.Linked.{entry_of}
-use Rattle.ed_link.specs.Tapes.{cost}
-use Rattle.ed_report.specs.Notes.{entry_note}
 use Rattle.ed_checker.specs.Checker.{guest}
 use Rattle.ed_checker.proofs.Follow.{checker_law}
-use Rattle.ed_answers.specs.EntryState.{entry_state}
-use Rattle.ed_answers.specs.FromEntry.{AnswersFromEntry}
-use Rattle.ed_answers.specs.Outcome.{Outcome}
-use Rattle.ed_answers.specs.Refusals.{IsAcceptedAs}
-use Rattle.ed_answers.specs.Runs.{paper_room, ran_outcome, with_post_mortem}
 use Rattle.ed_answers.proofs.Limits.{none_added}
 use Rattle.ed_answers.proofs.Sources.{each_answer_is_from_entry}
 use Rattle.ed_laws.specs.BlockedGuests.{EachGuestIsBlocked, EndsBlocked, IsBlockedAfter, RunsToBlock, blocked_codes}

@@ -1,13 +1,10 @@
 -- Without an option the limit is not below the orders of any call.
-use Rattle.std.proofs.Common.{◌≤◌, refl, subst, arith, lit≤}
+use Rattle.ed_sources.proofs.Kit.{lit≤, Call, Check, Divide, NewLine, Print, Read, Root, run_outcome, call_text}
+use Rattle.ed_laws.proofs.Kit.{◌≤◌, refl, subst, arith, OfSource}
 use Rattle.ed_words.specs.declared.size.Size.TheVariants.{Full}
-use Rattle.ed_answers.specs.Sources.{OfSource, run_outcome}
-use Rattle.ed_sources.specs.CallSources.{call_text}
 use Rattle.ed_sources.specs.CallRuns.{most_call_orders}
 use Rattle.ed_sources.proofs.CallRuns.{each_call_runs}
 use Rattle.ed_sources.proofs.MostOrders.{each_most_is_taken}
-use Rattle.ed_library.specs.declared.call.Call.{Call}
-use Rattle.ed_library.specs.declared.call.Call.TheVariants.{Print, Read, NewLine, Divide, Root, Check}
 use Rattle.ed_laws.specs.CallsByDefault.{CallsByDefault, usual_settings}
 
 -- the limit without an option is greater than the orders of the longest calls

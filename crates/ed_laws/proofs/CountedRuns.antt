@@ -1,17 +1,11 @@
 -- A run doesn't depend on the count of orders: from a state with a greater count it is the same, with a greater count.
-use Rattle.std.proofs.Common.{◌≡◌, ◌∙◌, ℕ, zero, suc, ◌+◌, ◌^◌, refl, ap, arith, Bool, true, false, nat_eq, nat_lt}
-use Rattle.std.proofs.Common.{nat_le, length}
-use Rattle.std.proofs.Common.{Option, Some, None, List, [], ◌∷◌, ◌++◌, is_some, unwrap_or}
-use Rattle.std.specs.Prelude.{if◌then◌else◌}
-use Rattle.ed_words.specs.Words.{function_of}
-use Rattle.ed_orders.specs.Kinds.{kind_of_function}
-use Rattle.ed_orders.specs.declared.kind.Kind.{Kind}
-use Rattle.ed_orders.specs.declared.kind.Kind.TheVariants.{A, S, H, V, N, T, U, C, R, L, E, G, I, O, F, X, Y, Z}
-use Rattle.ed_machine.specs.State.{State}
-use Rattle.ed_machine.specs.OrderTable.{Obeyed, jump_order, next_word, obey_word, place_of, step, row_order}
-use Rattle.ed_machine.specs.Steps.{Progress, codes_of, least, next_progress, progress, stops_of}
-use Rattle.ed_machine.specs.declared.ending.Ending.TheVariants.{Limit, Stopped}
-use Rattle.ed_run.specs.Run.{end_at, end_by, run_end}
+use Rattle.ed_laws.proofs.Kit.{◌≡◌, ℕ, zero, suc, ◌+◌, ◌^◌, Bool, true, false, [], List, ◌∷◌, ◌++◌, length, nat_eq, ap}
+use Rattle.ed_laws.proofs.Kit.{if◌then◌else◌, nat_lt, nat_le, Some, None, Option, unwrap_or, refl, ◌∙◌, arith, State, A}
+use Rattle.ed_laws.proofs.Kit.{step, is_some, function_of, kind_of_function, Kind, C, E, F, G, H, I, L, N, O, R, S, T}
+use Rattle.ed_laws.proofs.Kit.{U, V, X, Y, Z, next_word, obey_word, Obeyed, codes_of, stops_of, Progress, progress}
+use Rattle.ed_laws.proofs.Kit.{Limit, Stopped, end_at, end_by, run_end}
+use Rattle.ed_machine.specs.OrderTable.{jump_order, place_of, row_order}
+use Rattle.ed_machine.specs.Steps.{least, next_progress}
 use Rattle.ed_laws.specs.TapeFacts.{end_later}
 
 -- a state with k more orders counted

@@ -1,32 +1,18 @@
 -- A run that its limit cuts off before the program is entered, of a tape, of a source and of a tape of May 1949.
-use Rattle.std.proofs.Common.{◌≡◌, ◌∙◌, ℕ, ◌<◌, refl, ap, arith, inl, Bool, List, []}
-use Rattle.std.specs.Prelude.{if◌then◌else◌}
-use Rattle.ed_words.proofs.Numbers.{le_false}
-use Rattle.ed_words.specs.Texts.{Text}
-use Rattle.ed_machine.specs.State.{State}
-use Rattle.ed_machine.specs.Steps.{is_obeyed, state_after}
-use Rattle.ed_machine.specs.declared.ending.Ending.TheVariants.{Limit}
-use Rattle.ed_machine.proofs.Counts.{counted_after}
-use Rattle.ed_run.specs.Run.{RunEnd, run_end}
-use Rattle.ed_run.specs.Laws.{AllWent}
-use Rattle.ed_run.specs.declared.settings.Settings.{Settings}
+use Rattle.ed_sources.proofs.Kit.{entry_of, cost, entry_note}
+use Rattle.ed_laws.proofs.Kit.{◌≡◌, ℕ, ◌<◌, Bool, [], List, if◌then◌else◌, ap, refl, ◌∙◌, inl, arith, Text, State, Line}
+use Rattle.ed_laws.proofs.Kit.{at_after, Settings, le_false, is_obeyed, state_after, Limit, counted_after, AllWent}
+use Rattle.ed_laws.proofs.Kit.{RunEnd, run_end, first_state, tape, line, paper_room, ran_outcome, with_post_mortem}
+use Rattle.ed_laws.proofs.Kit.{tape_outcome}
 use Rattle.ed_run.proofs.Quiet.{limit_there}
-use Rattle.ed_initial.specs.Entry.{first_state}
 use Rattle.ed_initial1.specs.Entry.{at_entry1}
 use Rattle.ed_initial1.specs.Faults.{Tape, Comes1}
 use Rattle.ed_initial1.proofs.Settled.{all_went}
 use Rattle.ed_initial1.proofs.Whole.{leads_in}
-use Rattle.ed_syntax.specs.declared.program.Line.{Line}
-use Rattle.ed_link.specs.Linked.{entry_of}
-use Rattle.ed_link.specs.Tapes.{cost, tape}
-use Rattle.ed_report.specs.Notes.{at_after, entry_note}
 use Rattle.ed_answers.specs.FirstEntry.{cost1}
 use Rattle.ed_answers.specs.FirstFaults.{silent_outcome}
 use Rattle.ed_answers.specs.FirstOrders.{first_state1}
-use Rattle.ed_answers.specs.Outcome.{line}
-use Rattle.ed_answers.specs.Runs.{paper_room, ran_outcome, with_post_mortem}
 use Rattle.ed_answers.specs.Sources.{entered_before}
-use Rattle.ed_answers.specs.Tapes.{tape_outcome}
 use Rattle.ed_answers.proofs.FirstEntries.{first_store, runs_from_31, starts}
 use Rattle.ed_answers.proofs.Sources.{each_answer_is_from_entry}
 use Rattle.ed_laws.specs.CutRuns.{IsCutOff, limit_name, limit_state}

@@ -1,41 +1,23 @@
 -- A tape with a fault: the machine waits for the row of the fault, in the state that the rows before it mean.
-use Rattle.std.proofs.Common.{◌≡◌, ◌∙◌, ℕ, ◌+◌, ◌<◌, refl, sym, ap, subst, arith, inr}
-use Rattle.std.proofs.Common.{true, nat_le, ◌&&◌, Option, Some, None, List, [], ◌∷◌}
-use Rattle.std.specs.Prelude.{codes}
-use Rattle.ed_words.specs.declared.size.Size.{Size}
-use Rattle.ed_words.specs.Texts.{Text}
-use Rattle.ed_store.specs.Cells.{cleared_cells}
-use Rattle.ed_machine.specs.State.{State}
-use Rattle.ed_machine.specs.Steps.{state_after}
-use Rattle.ed_machine.specs.declared.ending.Ending.TheVariants.{Limit}
-use Rattle.ed_run.specs.Run.{RunEnd}
-use Rattle.ed_run.specs.Laws.{AllWent}
-use Rattle.ed_run.specs.declared.settings.Settings.{Settings}
+use Rattle.ed_sources.proofs.Kit.{Item}
+use Rattle.ed_laws.proofs.Kit.{◌≡◌, ℕ, ◌+◌, ◌<◌, true, [], List, ◌∷◌, ap, nat_le, Some, None, codes, Option, sym, refl}
+use Rattle.ed_laws.proofs.Kit.{◌∙◌, subst, inr, arith, Text, Size, State, at_after, Settings, ◌&&◌, cleared_cells, fold}
+use Rattle.ed_laws.proofs.Kit.{state_after, Limit, AllWent, RunEnd, enters_at, letter_action_of, over, word_with, items}
+use Rattle.ed_laws.proofs.Kit.{NotationState, row_kind, Begun, opening, TapeCause, BadRow, NumberTooLarge, RowKind, Kay}
+use Rattle.ed_laws.proofs.Kit.{Digit, Letter, Other, first_state, line, paper_room, ran_outcome, with_post_mortem}
+use Rattle.ed_laws.proofs.Kit.{first_note, tape_outcome, first_part}
 use Rattle.ed_run.proofs.Quiet.{limit_there, no_tape_there}
-use Rattle.ed_notation.specs.declared.item.Item.{Item}
-use Rattle.ed_notation.specs.declared.cause.TapeCause.{TapeCause}
-use Rattle.ed_notation.specs.declared.cause.TapeCause.TheVariants.{EndOfTape, BadRow, NumberTooLarge}
-use Rattle.ed_notation.specs.declared.cause.TapeCause.TheVariants.{AfterMark, BadControl}
-use Rattle.ed_notation.specs.declared.cause.TapeCause.TheVariants.{LoaderStore, StoreEnd, NoPlace}
-use Rattle.ed_notation.specs.declared.cause.TapeCause.TheVariants.{EntryNegative, EntryInLoader}
-use Rattle.ed_notation.specs.declared.kind.RowKind.{RowKind}
-use Rattle.ed_notation.specs.declared.kind.RowKind.TheVariants.{Digit, Kay, Letter, Other}
-use Rattle.ed_notation.specs.Items.{Begun, Written, row_kind, item, item_of, items}
-use Rattle.ed_notation.specs.Fold.{NotationState, act, cost_of, costs, ending_effect, enters_at, fold, item_word}
-use Rattle.ed_notation.specs.Fold.{letter_action_of, over, with_letter, word_with}
-use Rattle.ed_notation.specs.Openings.{opening}
+use Rattle.ed_notation.specs.declared.cause.TapeCause.TheVariants.{EndOfTape, AfterMark, BadControl, LoaderStore}
+use Rattle.ed_notation.specs.declared.cause.TapeCause.TheVariants.{StoreEnd, NoPlace, EntryNegative, EntryInLoader}
+use Rattle.ed_notation.specs.Items.{Written, item, item_of}
+use Rattle.ed_notation.specs.Fold.{act, cost_of, costs, ending_effect, item_word, with_letter}
 use Rattle.ed_notation.specs.Faults.{AreRead, Breaks, IsFault, IsRead, breaks, is_broken}
 use Rattle.ed_notation.specs.Beginnings.{IsSoundTo, orders_before, state_before}
 use Rattle.ed_notation.proofs.Beginnings.{ended, fault_sound}
-use Rattle.ed_initial.specs.Entry.{first_state}
 use Rattle.ed_initial.specs.Waits.{AwaitsRow, waiting_place}
 use Rattle.ed_initial.proofs.Awaited.{needs_row, waits, waits_at}
 use Rattle.ed_initial.proofs.Starts.{first_store, starts}
-use Rattle.ed_interlude.specs.Parts.{HasFault, first_part}
-use Rattle.ed_report.specs.Notes.{at_after}
-use Rattle.ed_answers.specs.Outcome.{line}
-use Rattle.ed_answers.specs.Runs.{paper_room, ran_outcome, with_post_mortem}
-use Rattle.ed_answers.specs.Tapes.{first_note, tape_outcome}
+use Rattle.ed_interlude.specs.Parts.{HasFault}
 use Rattle.ed_laws.specs.FaultyTapes.{EachFaultyTapeWaits, quiet_outcome}
 use Rattle.ed_laws.proofs.InParts.{parts_refuse}
 use Rattle.ed_laws.proofs.TapeEntries.{Agree, first_agrees, letter_from, over_agrees, value_agrees}

@@ -1,30 +1,19 @@
 -- What `parts` reports first: the entry of a well-formed tape, or the fault of another one.
-use Rattle.std.proofs.Common.{◌≡◌, ◌∙◌, ℕ, zero, suc, ◌+◌, ◌-◌, ◌<◌, ◌≤◌, sym, ap, arith, List, [], ◌∷◌, ◌++◌}
-use Rattle.std.proofs.Common.{append_assoc, append-nil, length}
-use Rattle.std.specs.Prelude.{codes}
-use Rattle.std.specs.Fmt.{decimal}
+use Rattle.ed_sources.proofs.Kit.{decimal}
+use Rattle.ed_top.proofs.Kit.{refusal, IsInParts}
+use Rattle.ed_laws.proofs.Kit.{◌≡◌, ℕ, zero, suc, ◌+◌, ◌-◌, ◌<◌, ◌≤◌, [], List, ◌∷◌, ◌++◌, length, ap, codes, sym, ◌∙◌}
+use Rattle.ed_laws.proofs.Kit.{append_assoc, append-nil, arith, Text, State, at_after, Settings, Outcome, state_after}
+use Rattle.ed_laws.proofs.Kit.{Limit, AllWent, TapeEntry, opening, IsDirective, Arrived, Faulty, TapeCause, first_state}
+use Rattle.ed_laws.proofs.Kit.{reading_is_rules, StartsWith, line, first_part, LeadsTo}
 use Rattle.std.proofs.lemmas.Fmt.{decimal_digit}
-use Rattle.ed_machine.specs.State.{State}
-use Rattle.ed_machine.specs.Steps.{state_after}
-use Rattle.ed_machine.specs.declared.ending.Ending.TheVariants.{Limit}
-use Rattle.ed_run.specs.Laws.{AllWent}
-use Rattle.ed_run.specs.declared.settings.Settings.{Settings}
-use Rattle.ed_notation.specs.Faults.{TapeEntry}
-use Rattle.ed_notation.specs.Openings.{IsDirective, opening}
-use Rattle.ed_notation.specs.Reading.{Arrived, Faulty, ReadingIsRules}
-use Rattle.ed_notation.proofs.Laws.{reading_is_rules}
-use Rattle.ed_notation.specs.declared.cause.TapeCause.{TapeCause}
-use Rattle.ed_initial.specs.Entry.{first_state}
+use Rattle.ed_notation.specs.Reading.{ReadingIsRules}
 use Rattle.ed_report.specs.Entries.{entry_line}
-use Rattle.ed_report.specs.Notes.{at_after, cause_text, part_line, rule_line}
-use Rattle.ed_interlude.specs.Parts.{HasFault, LeadsTo, PartsReport, ReportsParts, TapePart, cut, entry_report}
-use Rattle.ed_interlude.specs.Parts.{faulty, finished, first_part, return_report}
+use Rattle.ed_report.specs.Notes.{cause_text, part_line, rule_line}
+use Rattle.ed_interlude.specs.Parts.{HasFault, PartsReport, ReportsParts, TapePart, cut, entry_report, faulty, finished}
+use Rattle.ed_interlude.specs.Parts.{return_report}
 use Rattle.ed_interlude.specs.declared.tape.PartsEnd.TheVariants.{Ended}
-use Rattle.ed_words.specs.Texts.{Text}
 use Rattle.ed_answers.specs.FirstFaults.{silent_outcome}
-use Rattle.ed_answers.specs.Limits.{StartsWith}
-use Rattle.ed_answers.specs.Outcome.{Outcome, line, refusal}
-use Rattle.ed_top.specs.Parts.{IsInParts, report_outcome}
+use Rattle.ed_top.specs.Parts.{report_outcome}
 use Rattle.ed_laws.specs.CutRuns.{limit_name, limit_state}
 use Rattle.ed_laws.specs.TapeEntries.{PartsFromEntry}
 use Rattle.ed_laws.proofs.CutRuns.{limit_orders}

@@ -1,10 +1,9 @@
 -- What is said of kinds of orders is said of their letters.
-use Rattle.std.proofs.Common.{◌≡◌, ℕ, zero, suc, refl, Bool, true, false, ◌&&◌, Option, None, List, [], ◌∷◌}
-use Rattle.std.specs.Prelude.{not, slice_index, slice_index_or}
-use Rattle.std.proofs.lemmas.Bool.{and_parts}
-use Rattle.ed_codes.specs.Spelling.{byte_of, letters}
-use Rattle.ed_orders.specs.Kinds.{kind_of_function, kinds}
-use Rattle.ed_orders.specs.declared.kind.Kind.{Kind}
+use Rattle.ed_laws.proofs.Kit.{◌≡◌, ℕ, zero, suc, Bool, true, false, not, [], List, ◌∷◌, None, Option, refl, and_parts}
+use Rattle.ed_laws.proofs.Kit.{◌&&◌, slice_index, byte_of, kind_of_function, Kind}
+use Rattle.std.specs.Prelude.{slice_index_or}
+use Rattle.ed_codes.specs.Spelling.{letters}
+use Rattle.ed_orders.specs.Kinds.{kinds}
 
 abbrev same : Bool → Bool → Bool
 same true b = b

@@ -1,3 +1,4 @@
+pub mod Kit
 mod CallsByDefault
 mod MoveEndings
 mod Stepped

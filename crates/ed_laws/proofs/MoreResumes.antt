@@ -1,22 +1,11 @@
 -- A run with more resumes, and a trace with a greater limit.
-use Rattle.std.proofs.Common.{◌≡◌, ◌≢◌, ◌∙◌, ℕ, ◌+◌, ◌-◌, ◌≤◌, refl, sym, ap, arith, List, []}
-use Rattle.ed_printer.specs.Paper.{paper}
-use Rattle.ed_machine.specs.State.{State}
-use Rattle.ed_machine.specs.Steps.{state_after}
-use Rattle.ed_run.specs.Run.{RunEnd, run_end}
-use Rattle.ed_initial.specs.Entry.{first_state}
-use Rattle.ed_syntax.specs.declared.program.Line.{Line}
-use Rattle.ed_link.specs.Tapes.{tape}
-use Rattle.ed_report.specs.Notes.{ending_line}
-use Rattle.ed_stepper.specs.Traces.{trace_to}
+use Rattle.ed_laws.proofs.Kit.{◌≡◌, ℕ, ◌+◌, ◌-◌, ◌≤◌, [], ◌≢◌, List, ap, sym, refl, ◌∙◌, arith, paper, State, Line}
+use Rattle.ed_laws.proofs.Kit.{Outcome, state_after, RunEnd, run_end, first_state, tape, ending_line, StartsWith}
+use Rattle.ed_laws.proofs.Kit.{paper_room, ran_outcome, status_of, with_post_mortem, tape_outcome, trace_to, letters_in}
 use Rattle.ed_answers.specs.FirstOrders.{first_state1, tape1_outcome}
-use Rattle.ed_answers.specs.Limits.{StartsWith}
-use Rattle.ed_answers.specs.Outcome.{Outcome}
-use Rattle.ed_answers.specs.Runs.{paper_room, ran_outcome, status_of, with_post_mortem}
 use Rattle.ed_answers.specs.Sources.{entered_before, run_outcome}
-use Rattle.ed_answers.specs.Tapes.{tape_outcome}
 use Rattle.ed_answers.proofs.Limits.{each_limit, none_added, printed_starts, starts_as}
-use Rattle.ed_top.specs.Traces.{letters_in, trace_outcome}
+use Rattle.ed_top.specs.Traces.{trace_outcome}
 use Rattle.ed_laws.specs.MoreResumes.{EachLimitIsKept, EachResume, KeepsResumes, TraceKeepsLimits, letters_of, out_of}
 use Rattle.ed_laws.proofs.PartsLimits.{parts_keep_limits}
 use Rattle.ed_laws.proofs.Stepped.{letters_sum}

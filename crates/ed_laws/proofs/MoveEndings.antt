@@ -1,25 +1,18 @@
 -- A move that doesn't end by its own end stops where a run ends.
-use Rattle.std.proofs.Common.{◌≡◌, ◌∙◌, ℕ, zero, suc, ◌+◌, ◌-◌, ◌<◌, ◌≤◌, refl, sym, ap, subst, arith}
-use Rattle.std.proofs.Common.{Bool, true, false, ◌&&◌, nat_eq, nat_le, Option, Some, None, is_some, unwrap_or, length}
-use Rattle.std.specs.Prelude.{if◌then◌else◌}
-use Rattle.std.proofs.lemmas.Bool.Decides.{nat_tests}
+use Rattle.ed_laws.proofs.Kit.{◌≡◌, ℕ, zero, suc, ◌+◌, ◌-◌, ◌<◌, ◌≤◌, Bool, true, false, length, if◌then◌else◌, nat_eq}
+use Rattle.ed_laws.proofs.Kit.{ap, nat_le, Some, None, Option, unwrap_or, sym, refl, ◌∙◌, subst, arith, State, step}
+use Rattle.ed_laws.proofs.Kit.{◌&&◌, is_some, nat_tests, state_after, stops_of, AreObeyed, progress, Ending, Limit}
+use Rattle.ed_laws.proofs.Kit.{NoOrder, NoTape, PaperFull, Stopped, Turn, Printed, Went, after_sum, end_by, EndsAfter}
+use Rattle.ed_laws.proofs.Kit.{run_end, ends_once, ran_ends, move_orders}
 use Rattle.ed_words.proofs.Numbers.{eq_true}
-use Rattle.ed_machine.specs.State.{State}
-use Rattle.ed_machine.specs.OrderTable.{step}
-use Rattle.ed_machine.specs.Steps.{AreObeyed, is_stop, progress, state_after, stops_of}
-use Rattle.ed_machine.specs.declared.turn.Turn.{Turn}
-use Rattle.ed_machine.specs.declared.turn.Turn.TheVariants.{Went, Printed, Stopped as Stops}
-use Rattle.ed_machine.specs.declared.turn.Turn.TheVariants.{NoOrder as IsNoOrder, NoTape as HasNoTape}
-use Rattle.ed_machine.specs.declared.ending.Ending.{Ending}
-use Rattle.ed_machine.specs.declared.ending.Ending.TheVariants.{Stopped, Limit, NoOrder, NoTape, PaperFull}
+use Rattle.ed_machine.specs.Steps.{is_stop}
+use Rattle.ed_machine.specs.declared.turn.Turn.TheVariants.{Stopped as Stops, NoOrder as IsNoOrder, NoTape as HasNoTape}
 use Rattle.ed_machine.proofs.LeastNumbers.{least_holds}
-use Rattle.ed_machine.proofs.Steps.{after_sum, free_sum, next_stops}
+use Rattle.ed_machine.proofs.Steps.{free_sum, next_stops}
 use Rattle.ed_run.specs.Laws.{HasRoom}
-use Rattle.ed_run.specs.Run.{EndsAfter, end_by, run_end}
-use Rattle.ed_run.proofs.Ends.{ends_once, ran_ends}
 use Rattle.ed_run.proofs.Places as places
-use Rattle.ed_stepper.specs.MoveEnds.{blocked_end, end_after, entered_after, is_some_order, move_end, move_orders}
-use Rattle.ed_stepper.specs.MoveEnds.{or_else, own_end, stopped_after}
+use Rattle.ed_stepper.specs.MoveEnds.{blocked_end, end_after, entered_after, is_some_order, move_end, or_else, own_end}
+use Rattle.ed_stepper.specs.MoveEnds.{stopped_after}
 use Rattle.ed_stepper.specs.declared.moves.MoveTarget.{MoveTarget}
 use Rattle.ed_stepper.specs.declared.moves.MoveTarget.TheVariants.{Orders, Address, Entry}
 use Rattle.ed_stepper.specs.declared.moves.MoveEnd.{MoveEnd}

@@ -1,32 +1,16 @@
 -- A run in which another rule never applies is the same with it.
-use Rattle.std.proofs.Common.{◌≡◌, ◌∙◌, ◌⊎◌, inl, inr, ℕ, zero, suc, ◌+◌, ◌<◌, ◌≤◌, refl, sym, ap, arith}
-use Rattle.std.proofs.Common.{Bool, true, false, true≢false, ◌||◌, nat_eq, nat_le, nat_lt, Option, Some, None, is_some}
-use Rattle.std.proofs.Common.{List, [], ◌∷◌, ◌++◌, length, unwrap_or}
-use Rattle.std.specs.Prelude.{◌==◌, if◌then◌else◌}
-use Rattle.std.proofs.lemmas.Bool.{cases_lt}
-use Rattle.std.proofs.lemmas.Option.{none-some}
-use Rattle.ed_words.specs.Words.{function_of}
-use Rattle.ed_codes.specs.Spelling.{byte_of}
-use Rattle.ed_orders.specs.Kinds.{kind_of_function}
-use Rattle.ed_orders.specs.declared.kind.Kind.{Kind}
-use Rattle.ed_orders.specs.declared.kind.Kind.TheVariants.{A, S, H, V, N, T, U, C, R, L, E, G, I, O, F, X, Y, Z}
+use Rattle.ed_laws.proofs.Kit.{◌≡◌, ℕ, zero, suc, ◌+◌, ◌<◌, ◌≤◌, Bool, true, false, [], ◌||◌, ◌⊎◌, List, ◌∷◌, ◌++◌, ap}
+use Rattle.ed_laws.proofs.Kit.{length, if◌then◌else◌, ◌==◌, nat_eq, nat_lt, nat_le, Some, None, Option, unwrap_or, sym}
+use Rattle.ed_laws.proofs.Kit.{refl, ◌∙◌, inl, inr, arith, cases_lt, State, step, Settings, is_some, true≢false, Kind}
+use Rattle.ed_laws.proofs.Kit.{none-some, function_of, byte_of, kind_of_function, A, C, E, F, G, H, I, L, N, O, R, S, T}
+use Rattle.ed_laws.proofs.Kit.{U, V, X, Y, Z, next_word, obey_word, Obeyed, codes_of, state_after, stops_of, Progress}
+use Rattle.ed_laws.proofs.Kit.{progress, Limit, Stopped, Turn, Went, least_below, end_at, end_by, run_orders, run_end}
+use Rattle.ed_laws.proofs.Kit.{ran_ends, first_state, paper_room, run_of, trace_to, letters_in}
 use Rattle.ed_printer.specs.Paper.{paper_from}
 use Rattle.ed_printer.specs.declared.printer.Shift.{Shift}
 use Rattle.ed_printer.specs.declared.printer.Shift.TheVariants.{Letters, Figures}
-use Rattle.ed_machine.specs.State.{State}
-use Rattle.ed_machine.specs.OrderTable.{Obeyed, next_word, obey_word, step}
-use Rattle.ed_machine.specs.Steps.{Progress, codes_of, least, progress, state_after, stops_of}
-use Rattle.ed_machine.specs.declared.turn.Turn.{Turn}
-use Rattle.ed_machine.specs.declared.turn.Turn.TheVariants.{Went}
-use Rattle.ed_machine.specs.declared.ending.Ending.TheVariants.{Stopped, Limit}
-use Rattle.ed_machine.proofs.LeastNumbers.{least_below, least_found, least_none}
-use Rattle.ed_run.specs.Run.{end_at, end_by, run_end, run_orders}
-use Rattle.ed_run.specs.declared.settings.Settings.{Settings}
-use Rattle.ed_run.proofs.Ends.{ran_ends}
-use Rattle.ed_initial.specs.Entry.{first_state}
-use Rattle.ed_stepper.specs.Traces.{trace_to}
-use Rattle.ed_answers.specs.Runs.{paper_room, run_of}
-use Rattle.ed_top.specs.Traces.{letters_in}
+use Rattle.ed_machine.specs.Steps.{least}
+use Rattle.ed_machine.proofs.LeastNumbers.{least_found, least_none}
 use Rattle.ed_laws.specs.OwnRules.{EachOwnRuleShows, OtherRule, end_with, has_own_letter, is_own_kind, is_own_order}
 use Rattle.ed_laws.specs.OwnRules.{progress_with, run_letters, run_with_rule, step_with}
 use Rattle.ed_laws.proofs.LetterTests.{letter_says}

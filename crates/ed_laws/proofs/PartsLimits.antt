@@ -1,32 +1,16 @@
 -- `parts` with a greater limit: the same, if it ended before its limit, else it goes on.
-use Rattle.std.proofs.Common.{◌≡◌, ◌≢◌, ◌∙◌, ◌⊎◌, ℕ, zero, suc, ◌-◌, ◌<◌, ◌≤◌, refl, sym, ap, arith}
-use Rattle.std.proofs.Common.{inl, inr, Bool, true, false, nat_eq, nat_lt, Some, None, List, [], ◌++◌}
-use Rattle.std.proofs.Common.{append_assoc, append-nil, length}
-use Rattle.std.specs.Prelude.{if◌then◌else◌}
-use Rattle.std.proofs.lemmas.Bool.{cases_lt}
-use Rattle.std.proofs.lemmas.Bool.Decides.{nat_tests}
-use Rattle.std.proofs.lemmas.Option.{none-some, same_Some}
-use Rattle.ed_words.proofs.Numbers.{eq_false}
-use Rattle.ed_words.specs.Texts.{Text}
-use Rattle.ed_machine.specs.State.{State}
-use Rattle.ed_machine.specs.OrderTable.{step}
-use Rattle.ed_machine.specs.Steps.{progress, state_after}
-use Rattle.ed_machine.specs.declared.ending.Ending.{Ending}
-use Rattle.ed_machine.specs.declared.ending.Ending.TheVariants.{Stopped, Limit, NoOrder, NoTape, PaperFull}
-use Rattle.ed_run.specs.Run.{end_by}
-use Rattle.ed_run.specs.declared.settings.Settings.{Settings}
-use Rattle.ed_notation.specs.Faults.{TapeEntry}
-use Rattle.ed_notation.specs.Openings.{IsDirective}
-use Rattle.ed_initial.specs.Entry.{first_state}
-use Rattle.ed_interlude.specs.Parts.{ComesHome, Finishes, GoesBack, LeadsTo, PartsReport}
-use Rattle.ed_interlude.specs.Parts.{ReportsParts, RunsOn, TapePart, cut, entry_done, entry_report, faulty, finished}
-use Rattle.ed_interlude.specs.Parts.{first_part, notation_of, part_after, part_entry_state, part_report, program_end}
-use Rattle.ed_interlude.specs.Parts.{return_report}
+use Rattle.ed_laws.proofs.Kit.{◌≡◌, ℕ, zero, suc, ◌-◌, ◌<◌, ◌≤◌, Bool, true, false, [], ◌≢◌, ◌⊎◌, List, ◌++◌, length}
+use Rattle.ed_laws.proofs.Kit.{if◌then◌else◌, nat_eq, ap, nat_lt, Some, None, sym, refl, ◌∙◌, inl, inr, append_assoc}
+use Rattle.ed_laws.proofs.Kit.{append-nil, arith, cases_lt, Text, eq_false, State, step, Settings, Outcome, nat_tests}
+use Rattle.ed_laws.proofs.Kit.{none-some, same_Some, state_after, progress, Ending, Limit, NoOrder, NoTape, PaperFull}
+use Rattle.ed_laws.proofs.Kit.{Stopped, end_by, TapeEntry, IsDirective, first_state, StartsWith, first_part, LeadsTo}
+use Rattle.ed_interlude.specs.Parts.{ComesHome, Finishes, GoesBack, PartsReport, ReportsParts, RunsOn, TapePart, cut}
+use Rattle.ed_interlude.specs.Parts.{entry_done, entry_report, faulty, finished, notation_of, part_after, part_report}
+use Rattle.ed_interlude.specs.Parts.{part_entry_state, program_end, return_report}
 use Rattle.ed_interlude.specs.declared.tape.PartsEnd.TheVariants.{Ended}
 use Rattle.ed_interlude.proofs.Tales.{behind_opens, each_told_once, from_entry, some_told}
-use Rattle.ed_answers.specs.Limits.{StartsWith, with_limit}
-use Rattle.ed_answers.specs.Outcome.{Outcome}
-use Rattle.ed_top.specs.Parts.{IsInParts, end_status, report_outcome}
+use Rattle.ed_answers.specs.Limits.{with_limit}
+use Rattle.ed_top.specs.Parts.{end_status, report_outcome, IsInParts}
 use Rattle.ed_laws.specs.MoreResumes.{PartsKeepLimits}
 
 -- ---- a program that may obey more orders

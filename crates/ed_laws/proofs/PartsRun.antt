@@ -1,33 +1,21 @@
 -- With `tape`, a tape in parts is the run that ends as the parts do and prints what their programs print.
-use Rattle.std.proofs.Common.{◌≡◌, ◌∙◌, ℕ, zero, suc, ◌+◌, ◌-◌, ◌<◌, ◌≤◌, refl, sym, ap, subst, arith}
-use Rattle.std.proofs.Common.{Bool, true, false, nat_eq, nat_le, nat_lt, Some, None, List, [], ◌++◌, length}
-use Rattle.std.proofs.Common.{append-nil, length-append, take, ◌⊎◌, inl, inr}
+use Rattle.ed_sources.proofs.Kit.{take}
+use Rattle.ed_laws.proofs.Kit.{◌≡◌, ℕ, zero, suc, ◌+◌, ◌-◌, ◌<◌, ◌≤◌, Bool, true, false, [], ◌⊎◌, List, ◌++◌, length}
+use Rattle.ed_laws.proofs.Kit.{if◌then◌else◌, nat_eq, ap, nat_lt, nat_le, Some, None, sym, refl, ◌∙◌, subst, inl, inr}
+use Rattle.ed_laws.proofs.Kit.{append-nil, arith, length-append, cases_lt, paper, State, step, Settings, nat_tests}
+use Rattle.ed_laws.proofs.Kit.{le_false, codes_of, state_after, Progress, progress, Ending, Limit, PaperFull, Stopped}
+use Rattle.ed_laws.proofs.Kit.{Turn, Printed, Went, least_below, few_codes, past_sum, end_at, end_by, run_orders}
+use Rattle.ed_laws.proofs.Kit.{EndsAfter, RunEnd, run_end, ends_once, ran_ends, first_state, paper_room, ran_outcome}
 use Rattle.std.proofs.Math.Seq.{take-append_seam}
-use Rattle.std.proofs.lemmas.Bool.{cases_lt}
-use Rattle.std.specs.Prelude.{if◌then◌else◌}
-use Rattle.std.proofs.lemmas.Bool.Decides.{nat_tests}
-use Rattle.ed_words.proofs.Numbers.{le_false, le_true}
-use Rattle.ed_machine.specs.State.{State}
-use Rattle.ed_machine.specs.OrderTable.{step}
-use Rattle.ed_machine.specs.Steps.{Progress, codes_of, progress, state_after}
-use Rattle.ed_machine.specs.declared.turn.Turn.{Turn}
-use Rattle.ed_machine.specs.declared.turn.Turn.TheVariants.{Went, Printed, Stopped as Stops}
-use Rattle.ed_machine.specs.declared.turn.Turn.TheVariants.{NoOrder as IsNoOrder, NoTape as HasNoTape}
-use Rattle.ed_machine.specs.declared.ending.Ending.{Ending}
-use Rattle.ed_machine.specs.declared.ending.Ending.TheVariants.{Stopped, Limit, PaperFull}
-use Rattle.ed_machine.proofs.LeastNumbers.{least_below}
-use Rattle.ed_machine.proofs.Steps.{few_codes, past_next, past_sum}
-use Rattle.ed_run.specs.Run.{EndsAfter, RunEnd, end_at, end_by, prints, run_end, run_orders}
-use Rattle.ed_run.proofs.Ends.{ends_once, ran_ends}
-use Rattle.ed_printer.specs.Paper.{paper}
-use Rattle.ed_run.specs.declared.settings.Settings.{Settings}
-use Rattle.ed_initial.specs.Entry.{first_state}
+use Rattle.ed_words.proofs.Numbers.{le_true}
+use Rattle.ed_machine.specs.declared.turn.Turn.TheVariants.{Stopped as Stops, NoOrder as IsNoOrder, NoTape as HasNoTape}
+use Rattle.ed_machine.proofs.Steps.{past_next}
+use Rattle.ed_run.specs.Run.{prints}
 use Rattle.ed_interlude.specs.Laws.{EndsAsRun}
 use Rattle.ed_interlude.specs.declared.tape.PartsEnd.{PartsEnd}
 use Rattle.ed_interlude.proofs.Runs.{each_end}
 use Rattle.ed_top.specs.Parts.{end_note, end_status}
 use Rattle.ed_laws.specs.PartsRun.{EachTapeInPartsIsRun, EndsInParts, PartsAreRun, PartsFillPaper, printed_by, run_once}
-use Rattle.ed_answers.specs.Runs.{paper_room, ran_outcome}
 use Rattle.ed_laws.proofs.MoveEndings.{ran_is}
 
 -- ---- on a paper that has room

@@ -1,21 +1,16 @@
 -- The lines of a post-mortem, and the words that are read back from them.
-use Rattle.std.proofs.Common.{◌≡◌, ◌∙◌, ◌⊎◌, inl, inr, ℕ, zero, suc, ◌+◌, ◌/◌, ◌%◌, ◌^◌, ◌<◌, ◌≤◌, refl, sym, ap, subst}
-use Rattle.std.proofs.Common.{arith, Bool, true, false, true≢false, ◌&&◌, ◌||◌, nat_eq, nat_le, nat_lt, Some}
-use Rattle.std.proofs.Common.{List, [], ◌∷◌, ◌++◌, append_assoc, drop, length, length-append, unwrap_or, ◌≢◌}
-use Rattle.std.specs.Prelude.{codes, if◌then◌else◌, map, position, slice_index, slice_index_or}
-use Rattle.std.proofs.lemmas.Bool.{and_parts, cases_lt}
-use Rattle.std.proofs.lemmas.Bool.Decides.{nat_tests}
-use Rattle.ed_words.proofs.Numbers.{eq_false}
-use Rattle.ed_words.specs.Texts.{Text}
-use Rattle.ed_printer.specs.Paper.{figures_printed, letters_printed, paper, paper_from, shift_after, struck_bytes}
+use Rattle.ed_laws.proofs.Kit.{◌≡◌, ℕ, zero, suc, ◌+◌, ◌/◌, ◌%◌, ◌^◌, ◌<◌, ◌≤◌, Bool, true, false, [], ◌||◌, ◌≢◌, ◌⊎◌}
+use Rattle.ed_laws.proofs.Kit.{List, ◌∷◌, ◌++◌, map, length, if◌then◌else◌, nat_eq, ap, nat_lt, nat_le, Some, codes}
+use Rattle.ed_laws.proofs.Kit.{unwrap_or, sym, refl, ◌∙◌, subst, inl, inr, append_assoc, arith, length-append, cases_lt}
+use Rattle.ed_laws.proofs.Kit.{and_parts, Text, eq_false, paper, ◌&&◌, slice_index, true≢false, nat_tests}
+use Rattle.std.specs.Prelude.{position, slice_index_or, drop, get_or}
+use Rattle.ed_printer.specs.Paper.{figures_printed, letters_printed, paper_from, shift_after, struck_bytes}
 use Rattle.ed_printer.specs.declared.printer.Shift.{Shift}
 use Rattle.ed_printer.specs.declared.printer.Shift.TheVariants.{Letters, Figures}
 use Rattle.ed_notation.specs.Items.{AreDigits}
 use Rattle.ed_notation.specs.Spellings.{digit_at}
-use Rattle.ed_postmortem.specs.Codes.{address_digits, digits_before_units, is_even, length_code, number_in}
+use Rattle.ed_postmortem.specs.Codes.{address_digits, digits_before_units, is_even, length_code, number_in, word_codes}
 use Rattle.ed_postmortem.specs.Codes.{printed_codes}
-use Rattle.ed_postmortem.specs.Codes.{word_codes}
-use Rattle.std.proofs.Math.ListN.{get_or}
 use Rattle.ed_routines.specs.Digits.{digits_value}
 use Rattle.ed_answers.specs.Runs.{post_mortem_codes}
 use Rattle.ed_laws.specs.PrintedLines.{EachLineIsOfItsWord, IsSameOnPaper, is_silent, printed_line, printed_lines}

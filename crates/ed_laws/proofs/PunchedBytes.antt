@@ -1,64 +1,44 @@
 -- The text that `punch` writes is short enough to be read.
-use Rattle.std.proofs.Common.{◌≡◌, ◌∙◌, ◌⊎◌, inl, inr, ℕ, zero, suc, ◌+◌, ◌-◌, ◌*◌, ◌/◌, ◌%◌, ◌^◌, ◌<◌, ◌≤◌, refl, sym}
-use Rattle.std.proofs.Common.{ap, arith}
-use Rattle.std.proofs.Common.{Bool, true, false, true≢false, ◌&&◌, ◌||◌, nat_eq, nat_le, nat_lt, Option, Some, None}
-use Rattle.std.proofs.Common.{List, [], ◌∷◌, ◌++◌, append_assoc, length, length-append, lit≤}
-use Rattle.std.specs.Prelude.{map}
-use Rattle.std.specs.List.{list_all}
-use Rattle.std.proofs.lemmas.Bool.{and_parts, cases_lt}
-use Rattle.std.proofs.lemmas.Bool.Decides.{nat_tests}
-use Rattle.std.proofs.lemmas.List.{length-map}
-use Rattle.ed_words.proofs.Numbers.{lt_false}
+use Rattle.ed_sources.proofs.Kit.{lit≤, list_all, length-map, locations, Item, Statement, Definition, symbols_of}
+use Rattle.ed_laws.proofs.Kit.{◌≡◌, ℕ, zero, suc, ◌+◌, ◌-◌, ◌*◌, ◌/◌, ◌%◌, ◌^◌, ◌<◌, ◌≤◌, Bool, true, false, [], ◌||◌}
+use Rattle.ed_laws.proofs.Kit.{◌⊎◌, List, ◌∷◌, ◌++◌, map, length, nat_eq, ap, nat_lt, nat_le, Some, None, Option, sym}
+use Rattle.ed_laws.proofs.Kit.{refl, ◌∙◌, inl, inr, append_assoc, arith, length-append, cases_lt, and_parts, Text, Size}
+use Rattle.ed_laws.proofs.Kit.{lt_false, Line, ◌&&◌, true≢false, nat_tests, IsAcceptedAs, punch_outcome}
 use Rattle.ed_words.proofs.SizeLemmas.{most}
-use Rattle.ed_words.specs.Sizes.{locations}
-use Rattle.ed_words.specs.Texts.{Text}
 use Rattle.ed_words.specs.Words.{digit as one_if}
-use Rattle.ed_words.specs.declared.size.Size.{Size}
 use Rattle.ed_codes.specs.Spelling.{row_of}
-use Rattle.ed_notation.specs.declared.item.Item.{Item}
 use Rattle.ed_notation.specs.Items.{rows_of}
 use Rattle.ed_notation.specs.Spellings.{canonical, canonicals, item_rows, line_from, text_of}
 use Rattle.ed_notation.proofs.ItemRows.{item_rows_are}
 use Rattle.ed_library.specs.Entries.{entry}
 use Rattle.ed_library.specs.Routines.{find, table_item}
-use Rattle.ed_syntax.specs.Forms.{AreRowsOf, HasLineParts, SpellsForm, SpellsPlaced, SpellsStatement, nothing}
-use Rattle.ed_syntax.specs.Forms.{comment, blank}
-use Rattle.ed_syntax.specs.Forms.{one_sign, one_string, one_run, order, bare_order, word, long, text, placed, segment}
-use Rattle.ed_syntax.specs.Forms.{segment_at, fetch, fetch_with, enter, data_rows as data_statement, empty, label}
-use Rattle.ed_syntax.specs.Forms.{statement}
-use Rattle.ed_syntax.specs.Forms.{labelled, version}
-use Rattle.ed_syntax.specs.Parts.{LinePart, quoted}
+use Rattle.ed_syntax.specs.Forms.{AreRowsOf, HasLineParts, SpellsForm, SpellsPlaced, SpellsStatement, nothing, comment}
+use Rattle.ed_syntax.specs.Forms.{blank, one_sign, one_string, one_run, order, bare_order, word, long, text, placed}
+use Rattle.ed_syntax.specs.Forms.{segment, segment_at, fetch, fetch_with, enter, data_rows as data_statement, empty}
+use Rattle.ed_syntax.specs.Forms.{label, statement, labelled, version}
+use Rattle.ed_syntax.specs.Parts.{LinePart}
+use Rattle.ed_syntax.proofs.PlacedLaws.{is_short}
 use Rattle.ed_syntax.specs.Sources.{LinesSay, no_more, and_more}
 use Rattle.ed_syntax.specs.declared.program.Setting.{Setting}
-use Rattle.ed_syntax.specs.declared.program.Statement.{Statement}
 use Rattle.ed_syntax.specs.declared.program.Statement.TheVariants.{Segment, Order, Number, Text as Letters, Long, Fetch}
 use Rattle.ed_syntax.specs.declared.program.Statement.TheVariants.{Enter, Rows}
-use Rattle.ed_syntax.specs.declared.program.Line.{Line}
 use Rattle.ed_syntax.specs.declared.fault.SourceCause.TheVariants.{Overlap, StoreEnd}
 use Rattle.ed_symbols.specs.declared.location_counter.LocationCounter.{LocationCounter}
-use Rattle.ed_symbols.specs.declared.symbols.Definition.{Definition}
 use Rattle.ed_symbols.specs.NameFaults.{StandsAfter, counter_after, counter_from}
 use Rattle.ed_symbols.specs.Places.{after_statement, even_from, first_counter, routine_places}
 use Rattle.ed_symbols.specs.Places.{segment_at as segment_of_counter}
 use Rattle.ed_link.specs.Faults.{HasNoFault, LineHasWord, on_line}
 use Rattle.ed_link.specs.Linked.{data_after, data_rows, end_place, first_place, long_words, operand_number}
-use Rattle.ed_link.specs.Linked.{symbols_of}
-use Rattle.ed_link.specs.Punch.{goes_by_theta, items_of, order_item, punched_from, punched_items}
-use Rattle.ed_link.specs.Punch.{routine_items, use_items, word_item}
+use Rattle.ed_link.specs.Punch.{goes_by_theta, items_of, order_item, punched_from, punched_items, routine_items}
+use Rattle.ed_link.specs.Punch.{use_items, word_item}
 use Rattle.ed_link.specs.Tapes.{after_text}
 use Rattle.ed_link.proofs.Bounds.{headed_few, long_few, routine_few, rows_few}
-use Rattle.ed_answers.specs.Refusals.{IsAcceptedAs}
-use Rattle.ed_answers.specs.Sources.{punch_outcome}
 
 -- ---- the rows of a line
 
 abbrev ShortRows : Option Statement → Type 0
 ShortRows (Some (Rows codes)) = length codes.items ≤ 120
 ShortRows st = Unit {0}
-
-abbrev is_short : LinePart → Bool
-is_short (quoted q) = nat_le (length q) 120
-is_short part = true
 
 few_bytes : (line : Text) (ps : List LinePart) → HasLineParts line ps → length line ≤ 120 → list_all is_short ps ≡ true
 few_bytes _ _ nothing le = refl

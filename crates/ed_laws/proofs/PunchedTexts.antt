@@ -1,21 +1,16 @@
 -- The commands for tapes answer to the text that `punch` writes as on the source.
-use Rattle.std.proofs.Common.{◌≡◌, ◌∙◌, ℕ, ap, sym, inl, inr, List}
+use Rattle.ed_sources.proofs.Kit.{length-replicate}
+use Rattle.ed_laws.proofs.Kit.{◌≡◌, ℕ, List, ap, sym, ◌∙◌, inl, inr, Text, Line, Settings, Outcome, OfSource, tape}
+use Rattle.ed_laws.proofs.Kit.{IsAcceptedAs, punch_outcome}
 use Rattle.std.specs.Prelude.{replicate}
-use Rattle.std.proofs.lemmas.List.{length-replicate}
-use Rattle.ed_words.specs.Texts.{Text}
 use Rattle.ed_codes.specs.Reading.{reading}
-use Rattle.ed_run.specs.declared.settings.Settings.{Settings}
-use Rattle.ed_syntax.specs.declared.program.Line.{Line}
-use Rattle.ed_link.specs.Tapes.{arrival, tape}
+use Rattle.ed_link.specs.Tapes.{arrival}
 use Rattle.ed_stepper.specs.ScriptLines.{CommandList}
 use Rattle.ed_stepper.specs.declared.inputs.TextKind.TheVariants as kinds
-use Rattle.ed_answers.specs.Outcome.{Outcome}
-use Rattle.ed_answers.specs.Refusals.{IsAcceptedAs}
-use Rattle.ed_answers.specs.Sources.{OfSource, punch_outcome}
 use Rattle.ed_answers.proofs.EachSource.{each_source as comes_to, one_answer}
 use Rattle.ed_answers.proofs.PunchedTapes.{each_punched_is_run}
 use Rattle.ed_answers.proofs.PunchedTexts.{text_is_tape}
-use Rattle.ed_top.specs.Scripts.{OnText, on_reading, on_rows}
+use Rattle.ed_top.specs.Scripts.{on_reading, OnText, on_rows}
 use Rattle.ed_laws.specs.PunchedTexts.{EachPunchedTextIsSource}
 use Rattle.ed_laws.proofs.PunchedBytes.{punched_short}
 use Rattle.ed_laws.proofs.TapeEntries.{tapes_run_from_entry}

@@ -1,10 +1,7 @@
 -- The words that a post-mortem prints are read back from its codes.
-use Rattle.std.proofs.Common.{◌≡◌, ◌∙◌, ℕ, zero, suc, ◌+◌, ◌/◌, ◌%◌, ◌<◌, ◌≤◌, refl, sym, ap, subst, arith}
-use Rattle.std.proofs.Common.{Bool, true, false, nat_eq, nat_lt, nat_le, inl, inr, lit≤}
-use Rattle.std.proofs.Common.{List, [], ◌∷◌, ◌++◌, drop, append_assoc}
-use Rattle.std.specs.Prelude.{if◌then◌else◌, slice_index}
-use Rattle.std.proofs.Math.ListN.{get_or}
-use Rattle.std.proofs.lemmas.Bool.{cases_lt}
+use Rattle.ed_sources.proofs.Kit.{sym, ap, ◌∙◌, subst, inl, inr, append_assoc, arith, lit≤, cases_lt}
+use Rattle.std.specs.Prelude.{slice_index, ◌≡◌, ℕ, zero, suc, ◌+◌, ◌/◌, ◌%◌, ◌<◌, ◌≤◌, refl, Bool, true, false, nat_eq}
+use Rattle.std.specs.Prelude.{nat_lt, nat_le, List, [], ◌∷◌, ◌++◌, drop, if◌then◌else◌, get_or}
 use Rattle.std.proofs.lemmas.Bool.Decides.{nat_tests}
 use Rattle.ed_notation.specs.Spellings.{digit_at}
 use Rattle.ed_postmortem.specs.Codes.{address_digits, is_even, length_code, number_in, printed_codes, word_codes}

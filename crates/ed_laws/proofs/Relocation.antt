@@ -1,15 +1,14 @@
 -- A part of a tape that is read at another place.
-use Rattle.std.proofs.Common.{◌≡◌, ◌∙◌, ◌⊎◌, inl, inr, ℕ, zero, suc, ◌+◌, ◌*◌, ◌/◌, ◌%◌, ◌^◌, ◌<◌, ◌≤◌, refl, sym, ap}
-use Rattle.std.proofs.Common.{subst}
-use Rattle.std.proofs.Common.{arith, true, false, nat_eq, Some, List, [], ◌∷◌, ◌++◌, length}
-use Rattle.std.specs.Prelude.{if◌then◌else◌, slice_index}
-use Rattle.ed_words.proofs.Numbers.{eq_false, eq_true}
+use Rattle.ed_laws.proofs.Kit.{◌≡◌, ℕ, zero, suc, ◌+◌, ◌*◌, ◌/◌, ◌%◌, ◌^◌, ◌<◌, ◌≤◌, true, false, [], ◌⊎◌, List, ◌∷◌}
+use Rattle.ed_laws.proofs.Kit.{◌++◌, length, if◌then◌else◌, nat_eq, ap, Some, sym, refl, ◌∙◌, subst, inl, inr, arith}
+use Rattle.ed_laws.proofs.Kit.{eq_false, slice_index, enters_at, fold, letter_action_of, word_with, NotationState}
+use Rattle.ed_laws.proofs.Kit.{items, row_kind, Begun}
+use Rattle.ed_words.proofs.Numbers.{eq_true}
 use Rattle.ed_words.specs.Words.{digit}
 use Rattle.ed_notation.specs.declared.kind.LetterAction.{LetterAction}
 use Rattle.ed_notation.specs.declared.kind.LetterAction.TheVariants.{Places}
-use Rattle.ed_notation.specs.Items.{Begun, Written, digits_number, item_of, items, row_kind}
-use Rattle.ed_notation.specs.Fold.{NotationState, act, address, begun_cost, costs, end_cost, enters_at, fold}
-use Rattle.ed_notation.specs.Fold.{letter_action_of, placed_at, with_letter, word_with}
+use Rattle.ed_notation.specs.Items.{Written, digits_number, item_of}
+use Rattle.ed_notation.specs.Fold.{act, address, begun_cost, costs, end_cost, with_letter, placed_at}
 use Rattle.ed_notation.specs.Spellings.{digits_of}
 use Rattle.ed_notation.proofs.Canonical.{digits_are}
 use Rattle.ed_laws.specs.Relocation.{AreMovable, EachPartMoves, endings, moved, place_items}

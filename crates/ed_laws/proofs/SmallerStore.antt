@@ -1,28 +1,19 @@
 -- A fault for 1,024 locations is one for 512.
-use Rattle.std.proofs.Common.{◌≡◌, inl, inr, ℕ, ap, arith, Bool, true, false}
-use Rattle.std.proofs.Common.{◌&&◌, ◌||◌, nat_le, Option, Some, None, List, [], ◌∷◌}
-use Rattle.std.proofs.lemmas.Bool.Decides.{nat_tests}
-use Rattle.ed_words.specs.Texts.{Text}
+use Rattle.ed_laws.proofs.Kit.{◌≡◌, ℕ, Bool, true, false, [], ◌||◌, List, ◌∷◌, ap, nat_le, Some, None, Option, inl, inr}
+use Rattle.ed_laws.proofs.Kit.{arith, Text, Line, Settings, Outcome, OfSource, ◌&&◌, nat_tests, WellFormed, enters_at}
+use Rattle.ed_laws.proofs.Kit.{fold, letter_action_of, NotationState, items, row_kind, Begun, TapeCause, BadRow, Digit}
+use Rattle.ed_laws.proofs.Kit.{NumberTooLarge, RowKind, Kay, Letter, Other, IsAcceptedAs, punch_outcome}
 use Rattle.ed_words.specs.declared.size.Size.TheVariants.{Small, Full}
-use Rattle.ed_run.specs.declared.settings.Settings.{Settings}
-use Rattle.ed_notation.specs.declared.cause.TapeCause.{TapeCause}
-use Rattle.ed_notation.specs.declared.cause.TapeCause.TheVariants.{EndOfTape, BadRow, NumberTooLarge}
-use Rattle.ed_notation.specs.declared.cause.TapeCause.TheVariants.{AfterMark, BadControl}
-use Rattle.ed_notation.specs.declared.cause.TapeCause.TheVariants.{LoaderStore, StoreEnd, NoPlace}
-use Rattle.ed_notation.specs.declared.cause.TapeCause.TheVariants.{EntryNegative, EntryInLoader}
-use Rattle.ed_notation.specs.declared.kind.RowKind.{RowKind}
-use Rattle.ed_notation.specs.declared.kind.RowKind.TheVariants.{Digit, Kay, Letter, Other}
-use Rattle.ed_notation.specs.Items.{Begun, items, row_kind}
-use Rattle.ed_notation.specs.Fold.{NotationState, address, enters_at, fold, letter_action_of}
-use Rattle.ed_notation.specs.Faults.{WellFormed, breaks, is_broken, places_at}
-use Rattle.ed_syntax.specs.declared.program.Line.{Line}
+use Rattle.ed_notation.specs.declared.cause.TapeCause.TheVariants.{EndOfTape, AfterMark, BadControl, LoaderStore}
+use Rattle.ed_notation.specs.declared.cause.TapeCause.TheVariants.{StoreEnd, NoPlace, EntryNegative, EntryInLoader}
+use Rattle.ed_notation.specs.Fold.{address}
+use Rattle.ed_notation.specs.Faults.{breaks, is_broken, places_at}
 use Rattle.ed_syntax.specs.declared.fault.SourceCause.{SourceCause}
 use Rattle.ed_syntax.specs.declared.fault.SourceCause.TheVariants as causes
 use Rattle.ed_link.specs.Faults.{LineHasCause, SourceHasFault, no_enter, on_line}
 use Rattle.ed_answers.specs.BothSizes.{with_store}
-use Rattle.ed_answers.specs.Outcome.{Outcome, done, refusal}
-use Rattle.ed_answers.specs.Refusals.{IsAcceptedAs}
-use Rattle.ed_answers.specs.Sources.{OfSource, listing_outcome, punch_outcome}
+use Rattle.ed_answers.specs.Outcome.{done, refusal}
+use Rattle.ed_answers.specs.Sources.{listing_outcome}
 use Rattle.ed_answers.specs.Tapes.{IsChecked}
 use Rattle.ed_laws.specs.SmallerStore.{EachSmallIsFull}
 

@@ -1,37 +1,22 @@
 -- What `step` reports is what `trace`, `tape` and a post-mortem report after the same number of orders.
-use Rattle.std.proofs.Common.{◌≡◌, ◌∙◌, ℕ, zero, suc, ◌+◌, ◌-◌, ◌≤◌, refl, sym, ap, subst, arith}
-use Rattle.std.proofs.Common.{Bool, true, false, List, [], ◌∷◌, ◌++◌, length, append_assoc, append-nil, Some}
-use Rattle.std.specs.Prelude.{◌==◌, if◌then◌else◌, map, not}
+use Rattle.ed_laws.proofs.Kit.{◌≡◌, ℕ, zero, suc, ◌+◌, ◌-◌, ◌≤◌, Bool, true, false, not, [], List, ◌∷◌, ◌++◌, map, ◌==◌}
+use Rattle.ed_laws.proofs.Kit.{length, if◌then◌else◌, ap, Some, sym, refl, ◌∙◌, subst, append_assoc, append-nil, arith}
+use Rattle.ed_laws.proofs.Kit.{Text, Size, State, Settings, function_of, byte_of, next_word, state_after, AreObeyed}
+use Rattle.ed_laws.proofs.Kit.{progress, Limit, counted_after, after_sum, few_codes, run_orders, RunEnd, run_end}
+use Rattle.ed_laws.proofs.Kit.{ends_once, ran_ends, first_state, ending_line, paper_room, ran_outcome, run_of, trace_to}
+use Rattle.ed_laws.proofs.Kit.{with_post_mortem, move_orders, letters_in}
 use Rattle.std.specs.List.{range_with_len}
 use Rattle.std.proofs.lemmas.List.Elements.{filter-append}
-use Rattle.ed_words.specs.Texts.{Text}
-use Rattle.ed_words.specs.declared.size.Size.{Size}
-use Rattle.ed_words.specs.Words.{function_of}
-use Rattle.ed_codes.specs.Spelling.{byte_of}
-use Rattle.ed_machine.specs.State.{State}
-use Rattle.ed_machine.specs.OrderTable.{next_word}
-use Rattle.ed_machine.specs.Steps.{AreObeyed, progress, state_after}
-use Rattle.ed_machine.specs.declared.ending.Ending.TheVariants.{Limit}
-use Rattle.ed_machine.proofs.Counts.{counted_after}
-use Rattle.ed_machine.proofs.Steps.{after_sum, few_codes, free_sum}
+use Rattle.ed_machine.proofs.Steps.{free_sum}
 use Rattle.ed_run.specs.Laws.{HasRoom}
-use Rattle.ed_run.specs.Run.{RunEnd, run_end, run_orders}
-use Rattle.ed_run.proofs.Ends.{ends_once, ran_ends}
 use Rattle.ed_run.proofs.Places.{at_limit}
-use Rattle.ed_run.specs.declared.settings.Settings.{Settings}
-use Rattle.ed_initial.specs.Entry.{first_state}
 use Rattle.ed_report.specs.Listings.{listing}
-use Rattle.ed_report.specs.Notes.{ending_line}
 use Rattle.ed_report.specs.Traces.{functions_after, is_full, last_end, letters_from, line_end, trace_text}
 use Rattle.ed_report.specs.Traces.{traced_letter}
 use Rattle.ed_stepper.specs.Sessions.{Stand, left}
-use Rattle.ed_stepper.specs.MoveEnds.{move_orders}
 use Rattle.ed_stepper.specs.declared.moves.MoveTarget.TheVariants.{Orders}
-use Rattle.ed_stepper.specs.Traces.{trace_to}
-use Rattle.ed_answers.specs.Runs.{paper_room, ran_outcome, run_of, with_post_mortem}
 use Rattle.ed_top.specs.Scripts.{stand_on}
 use Rattle.ed_laws.specs.Stepped.{EachStepIsRun, StepsAreRun, cut_at, limit_note}
-use Rattle.ed_top.specs.Traces.{letters_in}
 use Rattle.ed_laws.proofs.MoveEndings.{ran_is, run_ends}
 use Rattle.ed_stepper.proofs.Stands.{Keeps, left_keeps, move_free}
 

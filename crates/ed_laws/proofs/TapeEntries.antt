@@ -1,38 +1,27 @@
 -- A tape that is well formed from a cleared store is loaded as it means, and its run is that from its entry.
-use Rattle.std.proofs.Common.{◌≡◌, ◌∙◌, ℕ, ◌+◌, ◌-◌, ◌*◌, ◌<◌, ◌≤◌, refl, sym, ap, arith}
-use Rattle.std.proofs.Common.{Bool, true, false, true≢false, nat_eq, nat_lt, nat_le, Option, Some, None, inl}
-use Rattle.std.proofs.Common.{List, [], ◌∷◌, drop, set}
-use Rattle.std.specs.Prelude.{if◌then◌else◌, ◌&&◌, slice_index}
-use Rattle.std.proofs.Math.ListN.{get_or}
-use Rattle.std.proofs.lemmas.Bool.Decides.{nat_tests}
+use Rattle.ed_laws.proofs.Kit.{◌≡◌, ℕ, ◌+◌, ◌-◌, ◌*◌, ◌<◌, ◌≤◌, Bool, true, false, [], List, ◌∷◌, if◌then◌else◌, nat_eq}
+use Rattle.ed_laws.proofs.Kit.{ap, nat_lt, nat_le, Some, None, Option, sym, refl, ◌∙◌, inl, arith, Size, ◌&&◌, RunEnd}
+use Rattle.ed_laws.proofs.Kit.{slice_index, true≢false, nat_tests, cleared_cells, run_end, TapeEntry, WellFormed, over}
+use Rattle.ed_laws.proofs.Kit.{letter_action_of, word_with, NotationState, row_kind, opening, IsDirective, Arrived, Kay}
+use Rattle.ed_laws.proofs.Kit.{Faulty, BadRow, NumberTooLarge, RowKind, Digit, Letter, Other, reading_is_rules, LeadsIn}
+use Rattle.ed_laws.proofs.Kit.{first_state, paper_room, ran_outcome, with_post_mortem, first_note, first_part, LeadsTo}
+use Rattle.std.proofs.Common.{set, drop, get_or}
 use Rattle.std.proofs.lemmas.List.{drop-set-lt, drop-set-add, get_or-drop}
-use Rattle.ed_words.specs.declared.size.Size.{Size}
-use Rattle.ed_store.specs.Cells.{cleared_cells}
-use Rattle.ed_run.specs.Run.{RunEnd, run_end}
 use Rattle.ed_run.proofs.Later.{ran_later}
-use Rattle.ed_notation.specs.declared.cause.TapeCause.TheVariants.{BadRow, NumberTooLarge}
-use Rattle.ed_notation.specs.declared.kind.RowKind.{RowKind}
-use Rattle.ed_notation.specs.declared.kind.RowKind.TheVariants.{Digit, Mark, Zed, Kay, Blank, Letter, Other}
+use Rattle.ed_notation.specs.declared.kind.RowKind.TheVariants.{Mark, Zed, Blank}
 use Rattle.ed_notation.specs.declared.kind.Control.{Control}
 use Rattle.ed_notation.specs.declared.kind.Control.TheVariants.{Directive, ThetaByBlank, ThetaByG, Neither}
 use Rattle.ed_notation.specs.declared.reader.DirectiveState.{DirectiveState}
 use Rattle.ed_notation.specs.declared.reader.PartialItem.{PartialItem}
 use Rattle.ed_notation.specs.declared.reader.RowEffect.{RowEffect}
 use Rattle.ed_notation.specs.declared.reader.RowEffect.TheVariants.{Refused, Longer, Ended, Placed, Entered}
-use Rattle.ed_notation.specs.Items.{row_kind}
-use Rattle.ed_notation.specs.Fold.{NotationState, letter_action_of, control_of, over, value_of, word_with}
-use Rattle.ed_notation.specs.Faults.{TapeEntry, ComesTo, WellFormed, is_place}
-use Rattle.ed_notation.specs.Openings.{IsDirective, opening}
-use Rattle.ed_notation.specs.Reading.{Verdict, Arrived, Faulty, part_word, reading_on, setting_of, row_effect}
-use Rattle.ed_notation.specs.Reading.{kay_sets, zed_sets}
+use Rattle.ed_notation.specs.Fold.{control_of, value_of}
+use Rattle.ed_notation.specs.Faults.{ComesTo, is_place}
+use Rattle.ed_notation.specs.Reading.{Verdict, part_word, reading_on, setting_of, row_effect, kay_sets, zed_sets}
 use Rattle.ed_notation.specs.Reading.{letter_effect, entry_by, part_of, set_by, placed_by}
-use Rattle.ed_notation.proofs.Laws.{reading_is_rules}
-use Rattle.ed_initial.specs.Entry.{Comes, first_state}
-use Rattle.ed_initial.proofs.Quiet.{LeadsIn, comes_in}
+use Rattle.ed_initial.specs.Entry.{Comes}
+use Rattle.ed_initial.proofs.Quiet.{comes_in}
 use Rattle.ed_initial.proofs.Starts.{first_store, starts}
-use Rattle.ed_interlude.specs.Parts.{LeadsTo, first_part}
-use Rattle.ed_answers.specs.Tapes.{first_note}
-use Rattle.ed_answers.specs.Runs.{paper_room, ran_outcome, with_post_mortem}
 use Rattle.ed_laws.specs.TapeEntries.{EachTapeRunsFromEntry}
 use Rattle.ed_laws.proofs.CutRuns.{tape_cut_off}
 use Rattle.ed_laws.proofs.InParts.{parts_from_entry}

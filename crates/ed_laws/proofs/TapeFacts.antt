@@ -1,39 +1,29 @@
 -- Blank tape before a tape, tapes of the two loaders, and what loading costs at most.
-use Rattle.std.proofs.Common.{◌≡◌, ◌∙◌, ℕ, zero, suc, ◌+◌, ◌*◌, ◌/◌, ◌%◌, ◌^◌, ◌≤◌, refl, sym, ap, subst, arith}
-use Rattle.std.proofs.Common.{Bool, true, false, nat_eq, nat_lt, Option, Some, None, List, [], ◌∷◌, ◌++◌, length}
-use Rattle.std.proofs.Common.{append_assoc, append-nil, length-append, ◌≢◌, ◌-◌}
+use Rattle.ed_sources.proofs.Kit.{lt_true}
+use Rattle.ed_laws.proofs.Kit.{◌≡◌, ℕ, zero, suc, ◌+◌, ◌-◌, ◌*◌, ◌/◌, ◌%◌, ◌^◌, ◌≤◌, Bool, true, false, [], ◌≢◌, List}
+use Rattle.ed_laws.proofs.Kit.{◌∷◌, ◌++◌, length, nat_eq, ap, nat_lt, Some, None, Option, sym, refl, ◌∙◌, subst, arith}
+use Rattle.ed_laws.proofs.Kit.{append_assoc, append-nil, length-append, Text, Size, lt_false, Settings, nat_tests, over}
+use Rattle.ed_laws.proofs.Kit.{cleared_cells, run_end, TapeEntry, WellFormed, NotationState, row_kind, Begun, Arrived}
+use Rattle.ed_laws.proofs.Kit.{IsDirective, Faulty, BadRow, reading_is_rules, first_state, LeadsIn, paper_room, run_of}
+use Rattle.ed_laws.proofs.Kit.{first_note}
 use Rattle.std.specs.Prelude.{replicate}
-use Rattle.std.proofs.lemmas.Bool.Decides.{nat_tests}
-use Rattle.ed_words.proofs.Numbers.{lt_false, lt_true}
-use Rattle.ed_words.specs.Texts.{Text}
-use Rattle.ed_words.specs.declared.size.Size.{Size}
 use Rattle.ed_codes.specs.Reading.{IsReadingOf, Reading, reading, rows}
 use Rattle.ed_codes.proofs.Pieces.{few_rows}
 use Rattle.ed_codes.proofs.Readings.{has_one_reading}
-use Rattle.ed_store.specs.Cells.{cleared_cells}
-use Rattle.ed_run.specs.Run.{run_end}
 use Rattle.ed_run.proofs.Later.{ran_later}
-use Rattle.ed_run.specs.declared.settings.Settings.{Settings}
-use Rattle.ed_notation.specs.declared.cause.TapeCause.TheVariants.{BadRow}
 use Rattle.ed_notation.specs.declared.reader.PartialItem.{PartialItem}
 use Rattle.ed_notation.specs.declared.reader.RowEffect.{RowEffect}
 use Rattle.ed_notation.specs.declared.reader.RowEffect.TheVariants.{Refused, Longer, Ended, Placed, Entered}
-use Rattle.ed_notation.specs.Items.{AreDigits, Begun, begun_rows, digits_number, row_kind, rows_of}
-use Rattle.ed_notation.specs.Fold.{NotationState, over}
-use Rattle.ed_notation.specs.Openings.{IsDirective}
-use Rattle.ed_notation.specs.Faults.{ComesTo, TapeEntry, WellFormed}
-use Rattle.ed_notation.specs.Reading.{Arrived, Faulty, Verdict, entry_by, part_of, placed_by, reading_on, row_effect}
-use Rattle.ed_notation.specs.Reading.{set_by, setting_of}
+use Rattle.ed_notation.specs.Items.{AreDigits, begun_rows, digits_number, rows_of}
+use Rattle.ed_notation.specs.Faults.{ComesTo}
+use Rattle.ed_notation.specs.Reading.{Verdict, entry_by, part_of, placed_by, reading_on, row_effect, set_by, setting_of}
 use Rattle.ed_notation.proofs.Costs.{most}
-use Rattle.ed_notation.proofs.Laws.{reading_is_rules}
-use Rattle.ed_initial.specs.Entry.{at_entry, first_state}
-use Rattle.ed_initial.proofs.Quiet.{LeadsIn}
+use Rattle.ed_notation.proofs.Follow.{number_le}
+use Rattle.ed_initial.specs.Entry.{at_entry}
 use Rattle.ed_initial1.specs.Items.{AreItems, IsBegun1, IsFirst, Item1, begun_rows1, ending_row, rows_of1}
 use Rattle.ed_initial1.specs.Items.{spelled_rows1}
 use Rattle.ed_initial1.specs.Faults.{BeginsWith, Comes1, Tape}
 use Rattle.ed_answers.specs.Limits.{with_limit}
-use Rattle.ed_answers.specs.Runs.{paper_room, run_of}
-use Rattle.ed_answers.specs.Tapes.{first_note}
 use Rattle.ed_laws.specs.TapeFacts.{BeginsAtPlace, BlankTapeIsPassed, NotationFacts, blank_cost, blank_tape, end_later}
 use Rattle.ed_laws.specs.TapeFacts.{entry_later}
 use Rattle.ed_laws.proofs.CountedRuns.{counted, run_same}
@@ -165,11 +155,6 @@ module _ (z : Size) (words : List ℕ) (a b : ℕ) where
       (row_effect z (row_kind c) (over notation.placed words) (setting_of notation) part c)
 
 -- ---- digits
-
--- a number with more digits is no less
-number_le : (ds : List ℕ) (n : ℕ) → n ≤ digits_number n ds
-number_le [] n = omega arith
-number_le (d ∷ ds) n = omega (arith, number_le ds (10 * n + d))
 
 -- an item with this function and number so far
 abbrev item_so_far : ℕ → ℕ → Bool → PartialItem

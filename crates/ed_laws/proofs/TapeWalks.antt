@@ -1,37 +1,19 @@
 -- A trace and a session reach the entry of a tape as its run does.
-use Rattle.std.proofs.Common.{◌≡◌, ◌∙◌, ℕ, zero, suc, ◌+◌, ◌-◌, ◌<◌, ◌≤◌, refl, sym, ap, subst, arith}
-use Rattle.std.proofs.Common.{Bool, true, false, nat_eq, nat_le, nat_lt, Option, Some, None, inl, inr, List, [], ◌++◌}
-use Rattle.std.proofs.Common.{length}
-use Rattle.std.specs.Prelude.{if◌then◌else◌}
-use Rattle.std.proofs.lemmas.Bool.{cases_lt}
-use Rattle.std.proofs.lemmas.Bool.Decides.{nat_tests}
-use Rattle.ed_words.proofs.Numbers.{eq_false, le_false, lt_false}
-use Rattle.ed_machine.specs.State.{State}
-use Rattle.ed_machine.specs.OrderTable.{step}
-use Rattle.ed_machine.specs.Steps.{is_stop, progress, state_after}
-use Rattle.ed_machine.specs.declared.turn.Turn.{Turn}
-use Rattle.ed_machine.specs.declared.ending.Ending.{Ending}
-use Rattle.ed_machine.specs.declared.ending.Ending.TheVariants.{Stopped, Limit}
-use Rattle.ed_machine.proofs.LeastNumbers.{least_below}
-use Rattle.ed_machine.proofs.Steps.{after_sum, few_codes, no_step, past_sum}
-use Rattle.ed_run.specs.Laws.{AllWent}
-use Rattle.ed_run.specs.Run.{EndsAfter, end_at, end_by, run_end, run_orders}
-use Rattle.ed_run.proofs.Ends.{ends_once, ran_ends}
+use Rattle.ed_laws.proofs.Kit.{◌≡◌, ℕ, zero, suc, ◌+◌, ◌-◌, ◌<◌, ◌≤◌, Bool, true, false, [], List, ◌++◌, length, nat_eq}
+use Rattle.ed_laws.proofs.Kit.{if◌then◌else◌, ap, nat_lt, nat_le, Some, None, Option, sym, refl, ◌∙◌, subst, inl, inr}
+use Rattle.ed_laws.proofs.Kit.{arith, cases_lt, eq_false, lt_false, State, step, Settings, nat_tests, le_false, Ending}
+use Rattle.ed_laws.proofs.Kit.{state_after, progress, Limit, Stopped, Turn, least_below, after_sum, few_codes, past_sum}
+use Rattle.ed_laws.proofs.Kit.{AllWent, end_at, end_by, run_orders, EndsAfter, run_end, ends_once, ran_ends, TapeEntry}
+use Rattle.ed_laws.proofs.Kit.{first_state, LeadsIn, ending_line, status_of, move_orders, trace_to, letters_in}
+use Rattle.ed_machine.specs.Steps.{is_stop}
+use Rattle.ed_machine.proofs.Steps.{no_step}
 use Rattle.ed_run.proofs.Later.{quiet_stops}
-use Rattle.ed_run.specs.declared.settings.Settings.{Settings}
-use Rattle.ed_notation.specs.Faults.{TapeEntry}
-use Rattle.ed_initial.proofs.Quiet.{LeadsIn}
-use Rattle.ed_initial.specs.Entry.{first_state}
-use Rattle.ed_report.specs.Notes.{ending_line}
-use Rattle.ed_stepper.specs.MoveEnds.{Ends, entered_after, move_end, move_orders, stopped_after}
+use Rattle.ed_stepper.specs.MoveEnds.{Ends, entered_after, move_end, stopped_after}
 use Rattle.ed_stepper.specs.Scripts.{move_line}
 use Rattle.ed_stepper.specs.declared.moves.MoveTarget.TheVariants.{Entry}
 use Rattle.ed_stepper.specs.declared.moves.MoveEnd.TheVariants.{Entered}
 use Rattle.ed_stepper.proofs.Founds.{end_found, orders_found}
-use Rattle.ed_stepper.specs.Traces.{trace_to}
-use Rattle.ed_answers.specs.Runs.{status_of}
 use Rattle.ed_laws.specs.TapeEntries.{StepsToEntry, TracesFromEntry}
-use Rattle.ed_top.specs.Traces.{letters_in}
 use Rattle.ed_laws.proofs.Stepped.{letters_sum}
 
 -- ---- a trace whose first orders neither print nor stop

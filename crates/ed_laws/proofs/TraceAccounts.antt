@@ -1,38 +1,19 @@
 -- The letters of a trace are the orders of its run, and its Zs are the stops.
-use Rattle.std.proofs.Common.{◌≡◌, ◌∙◌, ℕ, zero, suc, ◌+◌, ◌^◌, ◌<◌, ◌≤◌, refl, sym, ap, subst, arith}
-use Rattle.std.proofs.Common.{Bool, true, false, ◌≢◌, nat_eq, nat_lt, nat_le, Option, Some, None}
-use Rattle.std.proofs.Common.{List, [], ◌∷◌, ◌++◌, length, length-append}
-use Rattle.std.specs.Prelude.{◌==◌, if◌then◌else◌, not}
+use Rattle.ed_laws.proofs.Kit.{◌≡◌, ℕ, zero, suc, ◌+◌, ◌^◌, ◌<◌, ◌≤◌, Bool, true, false, not, [], ◌≢◌, List, ◌∷◌, ◌++◌}
+use Rattle.ed_laws.proofs.Kit.{map, length, if◌then◌else◌, ◌==◌, nat_eq, ap, nat_lt, nat_le, Some, None, Option, sym, A}
+use Rattle.ed_laws.proofs.Kit.{refl, ◌∙◌, subst, arith, length-append, Text, State, step, nat_tests, none-some, byte_of}
+use Rattle.ed_laws.proofs.Kit.{same_Some, function_of, kind_of_function, Kind, C, E, F, G, H, I, L, N, O, R, S, T, U, V}
+use Rattle.ed_laws.proofs.Kit.{X, Y, Z, next_word, obey_word, Obeyed, is_obeyed, state_after, stops_of, AreObeyed, Turn}
+use Rattle.ed_laws.proofs.Kit.{Progress, progress, Ending, Limit, NoOrder, NoTape, PaperFull, Stopped, Printed, Went}
+use Rattle.ed_laws.proofs.Kit.{counted_after, end_by, run_orders, RunEnd, run_end, ran_ends, first_state, paper_room}
+use Rattle.ed_laws.proofs.Kit.{status_of, trace_to, letters_in}
 use Rattle.std.specs.List.{filter}
-use Rattle.std.proofs.lemmas.Bool.Decides.{nat_tests}
 use Rattle.std.proofs.lemmas.List.Elements.{filter-append}
-use Rattle.std.proofs.lemmas.Option.{none-some, same_Some}
-use Rattle.ed_words.specs.Texts.{Text}
-use Rattle.ed_words.specs.Words.{digit as one_if, function_of}
-use Rattle.ed_codes.specs.Spelling.{byte_of}
-use Rattle.ed_orders.specs.Kinds.{kind_of_function}
-use Rattle.ed_orders.specs.declared.kind.Kind.{Kind}
-use Rattle.ed_orders.specs.declared.kind.Kind.TheVariants.{A, S, H, V, N, T, U, C, R, L, E, G, I, O, F, X, Y, Z}
-use Rattle.ed_machine.specs.State.{State}
-use Rattle.ed_machine.specs.OrderTable.{jump_order, next_word, obey_word, place_of, row_order, step}
-use Rattle.ed_machine.specs.Steps.{AreObeyed, progress, state_after, stops_of}
-use Rattle.ed_machine.specs.declared.turn.Turn.{Turn}
-use Rattle.ed_machine.specs.declared.turn.Turn.TheVariants.{Went, Printed, Stopped as Stops}
-use Rattle.ed_machine.specs.declared.turn.Turn.TheVariants.{NoOrder as IsNoOrder, NoTape as HasNoTape}
-use Rattle.ed_machine.specs.declared.ending.Ending.{Ending}
-use Rattle.ed_machine.specs.declared.ending.Ending.TheVariants.{Stopped, Limit, NoOrder, NoTape, PaperFull}
+use Rattle.ed_words.specs.Words.{digit as one_if}
+use Rattle.ed_machine.specs.OrderTable.{jump_order, place_of, row_order, stop_order}
+use Rattle.ed_machine.specs.declared.turn.Turn.TheVariants.{Stopped as Stops, NoOrder as IsNoOrder, NoTape as HasNoTape}
 use Rattle.ed_report.specs.Traces.{functions_after}
-use Rattle.std.specs.Prelude.{map}
-use Rattle.ed_machine.specs.OrderTable.{Obeyed, stop_order}
-use Rattle.ed_machine.specs.Steps.{Progress, is_obeyed}
-use Rattle.ed_machine.proofs.Counts.{counted_after}
-use Rattle.ed_initial.specs.Entry.{first_state}
-use Rattle.ed_answers.specs.Runs.{paper_room, status_of}
 use Rattle.ed_machine.proofs.Steps.{next_stops, past_next}
-use Rattle.ed_run.specs.Run.{RunEnd, end_by, run_end, run_orders}
-use Rattle.ed_run.proofs.Ends.{ran_ends}
-use Rattle.ed_stepper.specs.Traces.{trace_to}
-use Rattle.ed_top.specs.Traces.{letters_in}
 use Rattle.ed_laws.proofs.LetterTests.{letter_says}
 use Rattle.ed_laws.proofs.MoveEndings.{not_stopped_by}
 use Rattle.ed_laws.proofs.Stepped.{bare_trace, letters_both, map_both, none_done}

@@ -1,22 +1,9 @@
 -- Two runs from a state, of which one ends no sooner than the other.
-use Rattle.std.proofs.Common.{◌≡◌, ◌≢◌, ◌∙◌, ℕ, ◌+◌, ◌-◌, ◌<◌, ◌≤◌, refl, sym, ap, arith, inl, inr}
-use Rattle.std.proofs.Common.{Bool, true, false, nat_eq, nat_lt, nat_le, Option, Some, None}
-use Rattle.std.proofs.Common.{length}
-use Rattle.std.specs.Prelude.{if◌then◌else◌}
-use Rattle.std.proofs.lemmas.Bool.{cases_lt}
-use Rattle.std.proofs.lemmas.Bool.Decides.{nat_tests}
-use Rattle.std.proofs.lemmas.Option.{none-some, same_Some}
-use Rattle.ed_words.proofs.Numbers.{eq_false, le_false, lt_false}
-use Rattle.ed_machine.specs.State.{State}
-use Rattle.ed_machine.specs.OrderTable.{step}
-use Rattle.ed_machine.specs.Steps.{Progress, progress, state_after}
-use Rattle.ed_machine.specs.declared.ending.Ending.{Ending}
-use Rattle.ed_machine.specs.declared.ending.Ending.TheVariants.{Stopped, Limit}
-use Rattle.ed_machine.proofs.LeastNumbers.{least_below}
-use Rattle.ed_machine.proofs.Steps.{few_codes, past_sum}
-use Rattle.ed_run.specs.Run.{EndsAfter, end_at, end_by, run_end, run_orders}
-use Rattle.ed_run.proofs.Ends.{ends_once, ran_ends}
-use Rattle.ed_answers.specs.Limits.{StartsWith}
+use Rattle.ed_laws.proofs.Kit.{◌≡◌, ℕ, ◌+◌, ◌-◌, ◌<◌, ◌≤◌, Bool, true, false, ◌≢◌, length, if◌then◌else◌, nat_eq, ap}
+use Rattle.ed_laws.proofs.Kit.{nat_lt, nat_le, Some, None, Option, sym, refl, ◌∙◌, inl, inr, arith, cases_lt, eq_false}
+use Rattle.ed_laws.proofs.Kit.{lt_false, State, step, nat_tests, none-some, same_Some, le_false, state_after, Progress}
+use Rattle.ed_laws.proofs.Kit.{progress, Ending, Limit, Stopped, least_below, few_codes, past_sum, end_at, end_by}
+use Rattle.ed_laws.proofs.Kit.{run_orders, EndsAfter, run_end, ends_once, ran_ends, StartsWith}
 
 -- ---- whatever the limits, the resumes and the papers
 
