@@ -12,22 +12,7 @@ none p n less = let e = le_false p n less in rw e refl
 
 pub four_digits : (n : ℕ) → n < 10000 → length (digits_of n) ≤ 4
 four_digits n small =
-    let e = digit_at 1 n in
-    let d = digit_at 10 n ++ e in
-    let c = digit_at 100 n ++ d in
-    let b = digit_at 1000 n ++ c in
-    omega (
-      arith,
-      length-append (digit_at 10000 n) b,
-      length-append (digit_at 1000 n) c,
-      length-append (digit_at 100 n) d,
-      length-append (digit_at 10 n) e,
-      none 10000 n small,
-      one 1000 n,
-      one 100 n,
-      one 10 n,
-      one 1 n,
-    )
+    simp length-append (omega (arith, none 10000 n small, one 1000 n, one 100 n, one 10 n, one 1 n))
 
 ended : (f n : ℕ) (long : Bool) → item_cost (item_with f n false (ending long)) ≡ 23 + 9 * length (digits_of n)
 ended f n true = omega arith
