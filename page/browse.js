@@ -2,7 +2,7 @@
 // Tries the page in a real browser as a visitor does.
 //   node page/browse.js BROWSER PAGE.html FOLDER [PART]      FOLDER takes the pictures
 // PART is the name of a part of page/tried.js, or several with commas between them, or a share such as 2/4.
-const { Visitor } = require('./browser.js');
+const { Visitor } = require('./visitor.js');
 const { IN_CHROMIUM, partsFor, tryParts } = require('./tried.js');
 
 const [command, file, folder, asked] = process.argv.slice(2);

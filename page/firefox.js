@@ -7,7 +7,7 @@ const fs = require('fs');
 const net = require('net');
 const os = require('os');
 const path = require('path');
-const { Visitor } = require('./browser.js');
+const { Visitor } = require('./visitor.js');
 const { IN_FIREFOX, partsFor, tryParts } = require('./tried.js');
 
 // A web socket, as far as it is needed: texts there and back.

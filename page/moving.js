@@ -4,7 +4,7 @@
 // Chromium's pictures are PNG files. Each becomes a frame: the part that differs from the frame before.
 const fs = require('fs');
 const zlib = require('zlib');
-const { Visitor } = require('./browser.js');
+const { Visitor } = require('./visitor.js');
 
 const [command, file, target] = process.argv.slice(2);
 const [WIDE, HIGH] = [960, 544]; // pixels, the smallest screen on which the whole machine is seen

@@ -1,7 +1,8 @@
 'use strict';
 // Takes pictures of a story as a visitor sees it, on screens from a telephone's to a wall's, at some seconds and at its end.
 //   node page/pictures.js BROWSER PAGE.html FOLDER [WIDTHxHEIGHT[,LANGUAGE[,STORY[,dark]]] ...]
-const { Visitor, pause } = require('./browser.js');
+const { pause } = require('./browser.js');
+const { Visitor } = require('./visitor.js');
 
 const [command, file, folder, ...asked] = process.argv.slice(2);
 const SCREENS = ['1280x720', '1920x1080', '3840x2160', '1080x1920', '1366x768', '360x740'];

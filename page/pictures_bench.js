@@ -2,7 +2,8 @@
 // Takes pictures of the workbench, to be looked at: with a lesson, a refused text, an open word, after a run; at a desk and on a
 // telephone, in both schemes and both languages.
 //   node page/pictures_bench.js BROWSER PAGE.html FOLDER [WIDTHxHEIGHT ...]
-const { Visitor, pause } = require('./browser.js');
+const { pause } = require('./browser.js');
+const { Visitor } = require('./visitor.js');
 
 const [command, file, folder, ...asked] = process.argv.slice(2);
 const SCREENS = ['1280x720', '1366x768', '1920x1080', '960x544', '1080x1920', '360x740'];

@@ -5,7 +5,6 @@
 // Opens the word in a place by a press on its row.
 async function openRow(b, place, kind) {
     await b.ask(`page.peek = ${place}; draw(); 0`);
-    await b.until('lens.body.getAnimations().length === 0', 3);
     const row = await b.ask(`lens.places.indexOf(${place}) + 1`);
     await b.press(`#lens tr:nth-child(${row}) .brief`, kind);
     await b.expect(`the word in place ${place} is open`, await b.ask('[by("word").hidden, opened.place]'), [false, place]);
