@@ -6,6 +6,8 @@ const os = require('os');
 const path = require('path');
 
 const LONGEST_RUN = 3600; // seconds of all that is done with a browser, on a busy computer
+const LOOK = 50; // milliseconds from one look at something to the next, but for the first ones
+const SOON = 5; // looks that come sooner
 const CONTROL = 2; // of the keys that are held down with another
 
 class Browser {
@@ -81,14 +83,15 @@ class Browser {
         }
     }
 
-    // Waits until something holds.
+    // Waits until something holds. A wait in vain is a fault.
     async until(expression, seconds = 90) {
-        for (let i = 0; i < seconds * 20; i++) {
+        for (let i = 0; i < (seconds * 1000) / LOOK; i++) {
             if ((await this.ask(expression)) === true) {
                 return true;
             }
-            await pause(50);
+            await pause(i < SOON ? LOOK / SOON : LOOK);
         }
+        await this.expect(`in ${seconds} seconds`, expression, () => false);
         return false;
     }
 

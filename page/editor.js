@@ -103,6 +103,7 @@ function answerAsk(isYes) {
 // Puts a text into the box, and begins with it.
 function put(program) {
     clearTimeout(editor.timer);
+    editor.timer = undefined;
     sayAt('checked');
     const now = textNow();
     if (now.text !== '' && now.text !== program.text) {

@@ -7,6 +7,7 @@ const crypto = require('crypto');
 const { pause } = require('./browser.js');
 const { seenBare } = require('./bare.js');
 const rules = require('./rules.js');
+const { hasten } = require('./hasten.js');
 
 // Opens, or closes, everything that can be open.
 function openAll(isOpen) {
@@ -226,7 +227,7 @@ async function storyTongues(b) {
             }
         };
     });
-    await b.ask('page.hurry = 0.002; 0');
+    await b.run(hasten, 0.002);
     for (const name of await b.ask('ROTATION')) {
         const heard = [];
         for (const language of ['en', 'de']) {
@@ -239,7 +240,8 @@ async function storyTongues(b) {
         await b.expect(`the story ${name} changes its language in each sentence`, heard[0].filter((one, k) => one !== heard[1][k]), []);
         await b.expect(`the story ${name} has as many in both`, heard[0].length, (all) => all === heard[1].length && all > 10);
     }
-    await b.ask('Tour.prototype.say = page.formerSay; page.hurry = 1; halt(); 0');
+    await b.ask('Tour.prototype.say = page.formerSay; halt(); 0');
+    await b.run(hasten, 1);
     await b.speak('en');
     await b.choose('letter.tape');
 }

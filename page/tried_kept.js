@@ -153,6 +153,7 @@ async function hidden(b) {
     await writeOn(b, '; at once');
     await goTo(b, '#example=sort.edsac');
     await b.click('replace');
+    await b.expect('a text that is put in its place was not typed', await b.ask('editor.timer === undefined'), true);
     await go(b);
     await b.expect('what was typed just before a link is there after Back', await b.ask('by("text").value'), `${OWN}; and more; at once`);
     await goTo(b, '#example=hello.edsac');

@@ -1,6 +1,7 @@
 'use strict';
 // A museum's screen: its stories, its countdown, what its address asks for, and that nothing leaves it.
 const { pause } = require('./browser.js');
+const { hasten } = require('./hasten.js');
 
 const WAIT = 13; // seconds after a story in which the next one has begun
 
@@ -24,7 +25,7 @@ async function rotation(b) {
     await b.expect('a kiosk begins at once, without its bell', await b.run(() => [
         page.tour !== undefined, by('sound').checked, page.kiosk.seconds, document.documentElement.className,
     ]), [true, false, 60, 'kiosk']);
-    await b.ask('page.hurry = 0.005; 0');
+    await b.run(hasten, 0.005);
     for (const name of ['letter', 'name', 'changes', 'disc', 'sum', 'first', 'mirror', 'fault', 'letter']) {
         const told = [await b.ask('by("stories").value'), await b.until('page.tour === undefined')];
         await b.expect(`its stories rotate: ${name}`, told, [name, true]);
@@ -36,7 +37,7 @@ async function rotation(b) {
 // What a visitor leaves is gone, after a countdown.
 async function kiosk(b) {
     await openKiosk(b, '#kiosk=60,quiet');
-    await b.ask('page.hurry = 0.005; 0');
+    await b.run(hasten, 0.005);
     await b.until('page.tour === undefined');
     await b.ask('page.kiosk.reset(); 0');
     const wanted = await b.run(stateOf);
@@ -110,7 +111,7 @@ async function kioskAddress(b) {
         [...document.querySelectorAll('main > *')].filter((node) => node.getClientRects().length > 0).map((node) => node.id),
         document.documentElement.scrollHeight <= innerHeight,
     ]), [20, 30, 'de', 0, ['stage'], true]);
-    await b.ask('page.hurry = 0.001; 0');
+    await b.run(hasten, 0.001);
     for (const name of ['sum', 'disc', 'sum']) {
         const told = [await b.ask('by("stories").value'), await b.until('page.tour === undefined')];
         await b.expect(`its own stories: ${name}`, told, [name, true]);

@@ -3,6 +3,7 @@
 const fs = require('fs');
 const { pause } = require('./browser.js');
 const rules = require('./rules.js');
+const { hasten } = require('./hasten.js');
 
 // Opens, or closes, everything that can be open.
 function openAll(isOpen) {
@@ -128,7 +129,6 @@ function atEnd(language) {
 async function wholeSentences(b, wide, high) {
     await b.send('Page.bringToFront'); // a tab that isn't seen is slowed down
     await b.run(() => {
-        page.hurry = 0.004;
         page.cut = [];
         const box = by('now');
         const look = () => {
@@ -140,6 +140,7 @@ async function wholeSentences(b, wide, high) {
         page.watching = new MutationObserver(look);
         page.watching.observe(box, { childList: true, subtree: true, attributes: true, characterData: true });
     });
+    await b.run(hasten, 0.004);
     await b.size(wide, high);
     await pause(300);
     for (const language of ['en', 'de']) {
@@ -151,7 +152,8 @@ async function wholeSentences(b, wide, high) {
         }
     }
     await b.expect('each sentence of each story is whole', await b.ask('[...new Set(page.cut)]'), []);
-    await b.ask('page.watching.disconnect(); page.hurry = 1; speakIn("en"); 0');
+    await b.ask('page.watching.disconnect(); speakIn("en"); 0');
+    await b.run(hasten, 1);
     await b.send('Emulation.clearDeviceMetricsOverride');
     await b.set('stories', 'letter');
 }

@@ -1,6 +1,7 @@
 'use strict';
 // The stories to their ends: what each says while it is true, what it prints, and how long it takes.
 const { pause } = require('./browser.js');
+const { hasten } = require('./hasten.js');
 
 const SQUARES = [1, 4, 9, 16, 25, 36, 49, 64, 81].map((square) => String(square).padStart(2, '0')).join('\n');
 
@@ -73,7 +74,7 @@ async function play(b, name) {
 
 async function stories(b) {
     await b.size(1280, 720);
-    await b.ask('page.hurry = 0.01; 0');
+    await b.run(hasten, 0.01);
     await b.run(hear);
     const printed = { letter: 'A', name: 'ADA', changes: 'HELLO', sum: '1981', first: SQUARES, mirror: 'EDSAC', fault: '' };
     const names = await b.ask('STORIES.map((story) => story.name)');
@@ -102,7 +103,8 @@ async function stories(b) {
         const heard = await play(b, text);
         await b.expect(`a story of ${text} ends`, heard.pop().key, ending);
     }
-    await b.ask('editor.isOwn = false; page.hurry = 1; 0');
+    await b.ask('editor.isOwn = false; 0');
+    await b.run(hasten, 1);
     await b.set('stories', 'letter');
     await b.unsize();
 }
@@ -119,7 +121,7 @@ const TOLD = {
 
 async function storiesSaid(b) {
     await b.run(hear);
-    await b.ask('page.hurry = 0.01; 0');
+    await b.run(hasten, 0.01);
     for (const [name, sentences] of Object.entries(TOLD)) {
         await b.set('stories', name);
         const heard = (await play(b, name)).map(({ text }) => text);
@@ -129,7 +131,7 @@ async function storiesSaid(b) {
         await b.expect(`the story ${name} shows one item order by order, or none`, watched.size, name === 'sum' ? 1 : 0);
         await pause(600); // a second press at once would be the same wish
     }
-    await b.ask('page.hurry = 1; 0');
+    await b.run(hasten, 1);
     await b.set('stories', 'letter');
 }
 
