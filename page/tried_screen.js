@@ -17,9 +17,15 @@ const SPARE = [0, 22, 43, 64, 66]; // places whose dots are looked at besides th
 const binary = (value, digits) => BigInt(value).toString(2).padStart(digits, '0');
 const signed = (word) => (word >= 65536 ? word - 131072 : word);
 
+const answers = new Map(); // of the program: on each screen it is asked the same
+
 function answer(words, input) {
-    const ran = spawnSync(PROGRAM, words, { input, maxBuffer: 1 << 27 });
-    return { out: ran.stdout.toString('utf8'), note: ran.stderr.toString('utf8') };
+    const asked = JSON.stringify([words, input]);
+    if (!answers.has(asked)) {
+        const ran = spawnSync(PROGRAM, words, { input, maxBuffer: 1 << 27 });
+        answers.set(asked, { out: ran.stdout.toString('utf8'), note: ran.stderr.toString('utf8') });
+    }
+    return answers.get(asked);
 }
 
 // The codes of a tape's text, in which digits are the codes of their letters.
