@@ -1,7 +1,6 @@
 'use strict';
 // How a person writes on the page: with a click into a box, keys that are pressed, and lists that are opened with keys. Every
 // event is the browser's own.
-const { pause } = require('./browser.js');
 
 const CONTROL = 2; // the modifier of a key that is pressed with Control
 const SCREENS = [[1366, 768, false], [360, 740, true]];
@@ -47,18 +46,34 @@ async function everywhere(b, does) {
     await b.unsize();
 }
 
+// Notes when the page has done what a changed address asks for; after some time too, where nothing has changed.
+function hearAddress() {
+    const LONGEST = 1000; // milliseconds
+    const does = window.onhashchange, hasArrived = () => { window.isArrived = true; };
+    window.isArrived = false;
+    window.onhashchange = async (event) => {
+        window.onhashchange = does;
+        await (does && does(event));
+        hasArrived();
+    };
+    setTimeout(() => window.onhashchange !== does && hasArrived(), LONGEST);
+}
+
+const ARRIVED = 'document.body !== null && document.body.dataset.ready !== undefined && window.isArrived !== false';
+
 // Changes what stands after the # of the address, as by hand.
 async function goTo(b, hash) {
+    await b.run(hearAddress);
     await b.send('Page.navigate', { url: `${b.page}${hash}`, transitionType: 'typed' });
-    await pause(300);
+    await b.until(ARRIVED);
 }
 
 // The browser's Back, or with 1 its Forward.
 async function go(b, steps = -1) {
     const { currentIndex, entries } = await b.send('Page.getNavigationHistory');
+    await b.run(hearAddress);
     await b.send('Page.navigateToHistoryEntry', { entryId: entries[currentIndex + steps].id });
-    await pause(300);
-    await b.until('document.body !== null && document.body.dataset.ready !== undefined');
+    await b.until(ARRIVED);
 }
 
 async function reload(b) {

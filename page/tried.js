@@ -58,7 +58,7 @@ const IN_FIREFOX = [
 const SECONDS = {
     storyTongues: 45, lessons: 65, sentences: 25, sentencesUpright: 25, stories: 20, rotation: 14, typing: 40, narrowLessons: 40, endings: 30,
     screen: 26, slips: 25, places: 25, watchdog: 22, asked: 20, former: 20, lasting: 18, screens: 17, storiesSaid: 9, mistakes: 15, kiosk: 9,
-    kioskAddress: 8, numbers: 14, opened: 14, landings: 14, storyEnds: 14, marks: 12, day: 12, unable: 12, storyParts: 10, printed: 10,
+    kioskAddress: 8, numbers: 14, opened: 14, landings: 14, storyEnds: 8, marks: 12, day: 12, unable: 12, storyParts: 10, printed: 10,
     openedAtFirst: 9, steps: 9, everySentence: 9, arrangement: 8, benchRules: 8, made: 8, looks: 8, narrow: 8, unkept: 7, enter: 7, printedBoxes: 6,
     printedTape: 6, speed: 6, inText: 6, boxesBelow: 6, onStage: 6, screenLetter: 5, wholeDisc: 5, atEnds: 5, hidden: 8,
 };

@@ -1,6 +1,7 @@
 'use strict';
 // A story that is ended, at each kind of moment: the machine stays where it is, and nothing invites to go on.
 const { pause } = require('./browser.js');
+const { hasten } = require('./hasten.js');
 
 const MOMENTS = [
     ['letter', ['told.why', 'aim.letter', 'told.loader', 'told.prepares', 'told.ready', 'told.from', 'told.reads', 'told.landed', 'told.order', 'told.printed']],
@@ -9,7 +10,8 @@ const MOMENTS = [
     ['sum', ['proved.sum']],
 ];
 
-// Begins the story that is chosen, and ends it as soon as it has said something: after how many orders that was.
+// Begins the story that is chosen, and ends it as soon as it has said something: after how many orders that was. Up to there it
+// passes fast.
 function endAt(wanted) {
     return new Promise((done) => {
         const { say } = Tour.prototype;
@@ -17,7 +19,10 @@ function endAt(wanted) {
             say.call(this, key, values);
             if (key === wanted) {
                 Tour.prototype.say = say;
+                const fast = page.hurry;
+                page.hurry = 1;
                 setTimeout(() => {
+                    page.hurry = fast;
                     halt();
                     done(page.shown.orders);
                 });
@@ -28,7 +33,7 @@ function endAt(wanted) {
 }
 
 async function storyEnds(b) {
-    await b.ask('page.hurry = 0.02; 0');
+    await b.run(hasten, 0.02);
     for (const [name, keys] of MOMENTS) {
         await b.set('stories', name);
         for (const key of keys) {
@@ -39,7 +44,7 @@ async function storyEnds(b) {
             ]), [orders, true, true, true, '', 'Show me']);
         }
     }
-    await b.ask('page.hurry = 1; 0');
+    await b.run(hasten, 1);
     await b.set('stories', 'letter');
 }
 
