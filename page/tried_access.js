@@ -151,8 +151,8 @@ async function twice(b) {
             const { left, top, width, height } = by(id).getBoundingClientRect();
             return [left + width / 2, top + height / 2];
         }, button);
-        await b.point(...at, 'mouse', 1);
-        await b.point(...at, 'mouse', 2);
+        await Promise.all([1, 2].flatMap((clickCount) => ['mousePressed', 'mouseReleased'].map((type) => ( // also on a busy computer at once
+            b.send('Input.dispatchMouseEvent', { type, x: at[0], y: at[1], button: 'left', clickCount })))));
         await b.expect(`a double click on ${button}`, await b.ask(is), true);
         await pause(600);
         await b.click(button);
