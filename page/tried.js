@@ -9,6 +9,7 @@ const { loaders } = require('./tried_loaders.js');
 const motion = require('./tried_motion.js');
 const touch = require('./tried_touch.js');
 const { atFirst, ...controls } = require('./tried_controls.js');
+const each = require('./tried_each.js');
 const looks = require('./tried_looks.js');
 const kiosk = require('./tried_kiosk.js');
 const guard = require('./tried_guard.js');
@@ -44,7 +45,7 @@ const IN_CHROMIUM = [
     ...Object.values(machine), ...Object.values(runs), ...Object.values(motion), ...Object.values(touch), ...Object.values(controls), ...Object.values(stories), ...Object.values(lessons),
     ...Object.values(sharing), ...Object.values(hints), ...Object.values(links.parts), ...Object.values(lasting.parts), ...Object.values(prints), ...Object.values(screens), loaders,
     looks.looks, looks.sentences, looks.sentencesUpright, ...Object.values(access), ...Object.values(bench.parts), ...Object.values(marks), numbers, looks.opening,
-    atFirst, looks.screens, looks.speed, narrow, links.openedAtFirst, lasting.unkept, ...Object.values(kiosk.parts), ...Object.values(guard), // each opens pages of its own
+    atFirst, looks.screens, looks.speed, narrow, links.openedAtFirst, lasting.unkept, ...Object.values(kiosk.parts), ...Object.values(guard), ...Object.values(each), // each opens pages of its own
 ];
 
 // In Firefox what a visitor does with the machine, what moves, what a hand does on the stage, the stories, the lessons, links
