@@ -1,27 +1,31 @@
 'use strict';
 // How a control is pressed in each of the ways, by events of the browser alone; and how a page is made new for each press.
+const { CONTROL } = require('./browser.js');
 const { key } = require('./hand.js');
 const { middleOf } = require('./middle.js');
 
 const PRESSED = '[data-pressed]'; // the control that is at hand
-const SHIFT = 8, CONTROL = 2; // the modifiers of a key that is pressed with another
+const SHIFT = 8; // the modifier of a key that is pressed with Shift
 const ARROWS = 3; // of a group of radio buttons, at most
 
-// What the tries use in the page: what a visitor sees of it, and how it is made new by its own means.
-function install() {
-    const boxes = [...document.querySelectorAll('main input, main select, main textarea')].map((box) => ({ box, value: box.value, checked: box.checked }));
-    const left = []; // what left the page: the names of files, and what was printed
-    HTMLAnchorElement.prototype.click = function click() { left.push(this.download); };
+// Notes in the page what leaves it, which is the names of files and what is printed, and which buttons of the machine are pressed.
+function note() {
+    const leaving = [], pressing = [];
+    HTMLAnchorElement.prototype.click = function click() { leaving.push(this.download); };
     by('file').addEventListener('click', (event) => {
         event.preventDefault();
-        left.push('file');
+        leaving.push('file');
     });
-    window.print = () => { left.push(document.body.dataset.print); afterPrint(); };
-    const pressed = []; // the buttons of the machine that were pressed
-    document.addEventListener('click', ({ target }) => target.closest('.buttons') && pressed.push(target.id), true);
+    window.print = () => { leaving.push(document.body.dataset.print); afterPrint(); };
+    document.addEventListener('click', ({ target }) => target.closest('.buttons') && pressing.push(target.id), true);
+    window.left = () => leaving;
+    window.pressed = () => pressing.splice(0);
+    window.forgetNoted = () => { leaving.length = pressing.length = 0; };
+}
+
+// What a visitor sees of the page, and states of it that several controls need.
+function see() {
     Object.assign(window, {
-        left: () => left,
-        pressed: () => pressed.splice(0),
         isSeen: (id) => by(id).checkVisibility(),
         seen: (id) => (isSeen(id) ? by(id).textContent.trim() : ''),
         value: (id) => by(id).value,
@@ -38,17 +42,23 @@ function install() {
         choose: (chosen, id = 'stories') => { by(id).value = chosen; by(id).dispatchEvent(new Event('change')); },
         invite: () => { look(193); by('invite').hidden = false; },
     });
+}
+
+// Makes it possible that the page is made new by its own means, in the exhibit or in the workbench.
+function makeRenewable() {
+    const boxes = [...document.querySelectorAll('main input:not([type=file]), main select, main textarea')]
+        .map((box) => ({ box, value: box.value, checked: box.checked }));
     forget();
     window.renew = (inBench) => {
         halt();
+        forgetNoted();
         kept.former = [];
         showFormer(false);
         clearTimeout(editor.timer);
         Object.assign(editor, { isOwn: false, waiting: undefined, timer: undefined });
-        Object.assign(keyboard, { isOfLetters: false });
-        left.length = pressed.length = 0;
+        keyboard.isOfLetters = false;
         (inBench ? openBench : closeBench)();
-        boxes.filter(({ box }) => box !== by('file')).forEach(({ box, value, checked }) => Object.assign(box, { value, checked }));
+        boxes.forEach(({ box, value, checked }) => Object.assign(box, { value, checked }));
         document.querySelectorAll('details').forEach((box) => { box.open = false; });
         ['ask', 'linked', 'invite', 'nameLabel', 'teacher'].forEach((id) => { by(id).hidden = true; });
         tellNews();
@@ -63,6 +73,12 @@ function install() {
         document.activeElement.blur();
         scrollTo(0, 0);
     };
+}
+
+async function install(b) {
+    for (const part of [note, see, makeRenewable]) {
+        await b.run(part);
+    }
 }
 
 // Marks one of the controls with a selector as the one at hand: what kind it is; nothing if there is none.
@@ -178,22 +194,16 @@ async function byLetter(b, { letter }) {
     return true;
 }
 
-// Presses a letter with others held down, without its sign; and holds one until it has been pressed so often.
-async function strike(b, letter, modifiers = 0) {
-    for (const type of ['rawKeyDown', 'keyUp']) {
-        await b.send('Input.dispatchKeyEvent', { type, key: letter, windowsVirtualKeyCode: letter.toUpperCase().charCodeAt(0), modifiers });
-    }
-}
-
-async function hold(b, letter, times) {
-    const pressed = { key: letter, windowsVirtualKeyCode: letter.toUpperCase().charCodeAt(0) };
+// Presses a letter without its sign, with others held down; or holds it until it has been pressed so often.
+async function strike(b, letter, { modifiers = 0, times = 1 } = {}) {
+    const struck = { key: letter, windowsVirtualKeyCode: letter.toUpperCase().charCodeAt(0), modifiers };
     for (let k = 0; k < times; k++) {
-        await b.send('Input.dispatchKeyEvent', { type: 'rawKeyDown', autoRepeat: k > 0, ...pressed });
+        await b.send('Input.dispatchKeyEvent', { type: 'rawKeyDown', autoRepeat: k > 0, ...struck });
     }
-    await b.send('Input.dispatchKeyEvent', { type: 'keyUp', ...pressed });
+    await b.send('Input.dispatchKeyEvent', { type: 'keyUp', ...struck });
 }
 
 // The ways: each says whether the control could be pressed so. A button is pressed by two keys, and some by a letter.
 const WAYS = { mouse: press('mouse'), touch: press('touch'), key: byKey('Enter'), space: byKey(' '), letter: byLetter };
 
-module.exports = { WAYS, install, takeUp, strike, hold };
+module.exports = { WAYS, install, takeUp, strike, SHIFT };

@@ -45,7 +45,7 @@ const IN_CHROMIUM = [
     ...Object.values(machine), ...Object.values(runs), ...Object.values(motion), ...Object.values(touch), ...Object.values(controls), ...Object.values(stories), ...Object.values(lessons),
     ...Object.values(sharing), ...Object.values(hints), ...Object.values(links.parts), ...Object.values(lasting.parts), ...Object.values(prints), ...Object.values(screens), loaders,
     looks.looks, looks.sentences, looks.sentencesUpright, ...Object.values(access), ...Object.values(bench.parts), ...Object.values(marks), numbers, looks.opening,
-    atFirst, looks.screens, looks.speed, narrow, links.openedAtFirst, lasting.unkept, ...Object.values(kiosk.parts), ...Object.values(guard), ...Object.values(each), // each opens pages of its own
+    atFirst, looks.screens, looks.speed, narrow, links.openedAtFirst, lasting.unkept, ...Object.values(kiosk.parts), ...Object.values(guard), ...Object.values(each.parts), // each opens pages of its own
 ];
 
 // In Firefox what a visitor does with the machine, what moves, what a hand does on the stage, the stories, the lessons, links
@@ -57,8 +57,8 @@ const IN_FIREFOX = [
 
 // The seconds that each of the longer parts takes in Chromium; every other one takes about as many as OTHERS.
 const SECONDS = {
-    storyTongues: 45, lessons: 65, sentences: 25, sentencesUpright: 25, stories: 20, rotation: 14, typing: 40, narrowLessons: 40, endings: 30,
-    screen: 26, slips: 25, places: 25, watchdog: 22, asked: 20, former: 20, lasting: 18, screens: 17, storiesSaid: 9, mistakes: 15, kiosk: 9,
+    storyTongues: 45, lessons: 65, eachByKeys: 45, sentences: 25, sentencesUpright: 25, stories: 20, rotation: 14, typing: 40, eachByMouse: 30, eachByTouch: 25, narrowLessons: 40, endings: 30,
+    screen: 26, slips: 25, lettersTyped: 8, lettersHeld: 8, eachIsListed: 6, places: 25, watchdog: 22, asked: 20, former: 20, lasting: 18, screens: 17, storiesSaid: 9, mistakes: 15, kiosk: 9,
     kioskAddress: 8, numbers: 14, opened: 14, landings: 14, storyEnds: 8, marks: 12, day: 12, unable: 12, storyParts: 10, printed: 10,
     openedAtFirst: 9, steps: 9, everySentence: 9, arrangement: 8, benchRules: 8, made: 8, looks: 8, narrow: 8, unkept: 7, enter: 7, printedBoxes: 6,
     printedTape: 6, speed: 6, inText: 6, boxesBelow: 6, onStage: 6, screenLetter: 5, wholeDisc: 5, atEnds: 5, hidden: 8,

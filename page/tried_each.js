@@ -5,8 +5,8 @@ const { STAGE } = require('./each_stage.js');
 const { BENCH } = require('./each_program.js');
 const fs = require('fs');
 const path = require('path');
-const { pause } = require('./browser.js');
-const { WAYS, install, takeUp, strike, hold } = require('./each_way.js');
+const { pause, CONTROL } = require('./browser.js');
+const { WAYS, install, takeUp, strike, SHIFT } = require('./each_way.js');
 
 const ROWS = [...STAGE, ...BENCH];
 const CONTROLS = 'a[href], area, button, summary, input, select, textarea, canvas, iframe, object, audio, video, [contenteditable], [tabindex]:not([tabindex="-1"]), '
@@ -15,7 +15,7 @@ const CONTROLS = 'a[href], area, button, summary, input, select, textarea, canva
 const NO_HAND = ['toggle', 'scroll', 'visibilitychange'];
 const OWN_WORK = 'openBench(); by("lesson").value = "2"; by("lesson").onchange(); replacing(() => put({ text: "T64K", kind: "tape" })); showFormer(true)';
 const STATES = [['', ''], ['', `${OWN_WORK}; makeLink()`], ['', `${OWN_WORK}; preparePrint("page")`], ['#kiosk=60,quiet', '']];
-const HELD = { Control: 2, Alt: 1, Meta: 4 }, SHIFT = 8;
+const HELD = { Control: CONTROL, Alt: 1, Meta: 4 };
 const SCREENS = { desk: [1280, 800, false], telephone: [360, 740, true] };
 const LOOKS = 20, BETWEEN = 50; // how often it is looked whether a press is seen, and the milliseconds between
 const SAME_PRESS = 600; // milliseconds, and some more, in which a second press is the same
@@ -28,7 +28,7 @@ async function openOn(b, screen) {
     await b.open('', () => b.size(...SCREENS[screen]));
     await b.send('Emulation.setTouchEmulationEnabled', { enabled: isTouch });
     await b.send('Emulation.setEmulatedMedia', { features: [{ name: 'prefers-reduced-motion', value: 'reduce' }] }); // it is quicker
-    await b.run(install);
+    await install(b);
 }
 
 // The controls that are on the page and that no row has, or more than one; a copy on paper is none.
@@ -89,15 +89,15 @@ async function tryRow(b, way, row) {
 }
 
 // Each row by one way, on its own screen or else on the one given.
-async function tryAll(b, way, usual) {
+async function tryAll(b, way, usual, all = ROWS) {
     for (const screen of Object.keys(SCREENS)) {
-        const rows = ROWS.filter((row) => (row.screen || usual) === screen);
+        const rows = all.filter((row) => (row.screen || usual) === screen);
         if (rows.length) {
             await openOn(b, screen);
         }
         for (const row of rows) {
             await tryRow(b, way, row);
-            await b.expect(`controls that have no row, after ${row.control}`, await b.run(unlisted, CONTROLS, SELECTORS), []);
+            await b.expect(`controls that have no row, after ${row.control}`, way === 'mouse' ? await b.run(unlisted, CONTROLS, SELECTORS) : [], []);
         }
     }
     await b.unsize();
@@ -157,10 +157,10 @@ async function lettersHeld(b) {
     for (const [control, letter] of LETTERS) {
         const id = control.slice(1);
         const wanted = ['show', 'run'].includes(id) ? [id] : [id, id, id];
-        await b.expect(`${letter} that is held`, await pressedBy(b, 'look(10)', () => hold(b, letter, 3)), wanted);
-        await b.expect(`${letter} with Shift`, await pressedBy(b, 'look(10)', () => strike(b, letter.toUpperCase(), SHIFT)), [id]);
-        for (const [name, modifier] of Object.entries(HELD)) {
-            await b.expect(`${letter} with ${name}`, await pressedBy(b, 'look(10)', () => strike(b, letter, modifier)), []);
+        await b.expect(`${letter} that is held`, await pressedBy(b, 'look(10)', () => strike(b, letter, { times: 3 })), wanted);
+        await b.expect(`${letter} with Shift`, await pressedBy(b, 'look(10)', () => strike(b, letter.toUpperCase(), { modifiers: SHIFT })), [id]);
+        for (const [name, modifiers] of Object.entries(HELD)) {
+            await b.expect(`${letter} with ${name}`, await pressedBy(b, 'look(10)', () => strike(b, letter, { modifiers })), []);
         }
         await b.expect(`${letter} where the keys are off`, await pressedBy(b, 'look(10); by("keys").checked = false', () => strike(b, letter)), []);
         await b.expect(`${letter} where a button has the focus`, await pressedBy(b, 'look(10); by("write").focus()', () => strike(b, letter)), [id]);
@@ -191,4 +191,4 @@ async function lettersTyped(b) {
     await b.unsize();
 }
 
-module.exports = { eachByMouse, eachByKeys, eachByTouch, eachIsListed, lettersHeld, lettersTyped };
+module.exports = { ROWS, tryAll, parts: { eachByMouse, eachByKeys, eachByTouch, eachIsListed, lettersHeld, lettersTyped } };
