@@ -13,6 +13,7 @@ const CONTROLS = 'a[href], area, button, summary, input, select, textarea, canva
     + '[role=button], [role=link], [role=checkbox], [role=tab], [role=menuitem], [role=slider], [data-listens]';
 // What no hand does: it follows from something else.
 const NO_HAND = ['toggle', 'scroll', 'visibilitychange'];
+const MARK = 'function mark() { if (this.dataset) { this.dataset.listens = ""; } }'; // the document can't be marked
 const OWN_WORK = 'openBench(); by("lesson").value = "2"; by("lesson").onchange(); replacing(() => put({ text: "T64K", kind: "tape" })); showFormer(true)';
 const STATES = [['', ''], ['', `${OWN_WORK}; makeLink()`], ['', `${OWN_WORK}; preparePrint("page")`], ['#kiosk=60,quiet', '']];
 const HELD = { Control: CONTROL, Alt: 1, Meta: 4 };
@@ -97,7 +98,9 @@ async function tryAll(b, way, usual, all = ROWS) {
         }
         for (const row of rows) {
             await tryRow(b, way, row);
-            await b.expect(`controls that have no row, after ${row.control}`, way === 'mouse' ? await b.run(unlisted, CONTROLS, SELECTORS) : [], []);
+            if (way === 'mouse') { // the other ways come to the same states
+                await b.expect(`controls that have no row, after ${row.control}`, await b.run(unlisted, CONTROLS, SELECTORS), []);
+            }
         }
     }
     await b.unsize();
@@ -107,15 +110,14 @@ const eachByMouse = (b) => tryAll(b, 'mouse', 'desk');
 const eachByKeys = (b) => tryAll(b, 'key', 'desk');
 const eachByTouch = (b) => tryAll(b, 'touch', 'telephone');
 
-// What listens to a hand or a key, by the browser's own account: each part that does is marked. What the document itself
-// listens to besides.
+// Marks each part that listens to a hand or a key, by the browser's own account. How many of its listeners there are.
 async function markListeners(b) {
     await b.send('DOM.getDocument');
     const { result } = await b.send('Runtime.evaluate', { expression: 'document' });
     const { listeners } = await b.send('DOMDebugger.getEventListeners', { objectId: result.objectId, depth: -1 });
     for (const { backendNodeId } of listeners.filter(({ type }) => !NO_HAND.includes(type))) {
-        const { object } = await b.send('DOM.resolveNode', { backendNodeId });
-        await b.send('Runtime.callFunctionOn', { objectId: object.objectId, functionDeclaration: 'function () { this.dataset && (this.dataset.listens = ""); }' });
+        const { object: { objectId } } = await b.send('DOM.resolveNode', { backendNodeId });
+        await b.send('Runtime.callFunctionOn', { objectId, functionDeclaration: MARK });
     }
     return listeners.length;
 }
