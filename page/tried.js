@@ -57,11 +57,13 @@ const IN_FIREFOX = [
 
 // The seconds that each of the longer parts takes in Chromium; every other one takes about as many as OTHERS.
 const SECONDS = {
-    lessons: 65, storyTongues: 45, eachByKeys: 45, typing: 40, narrowLessons: 40, eachByMouse: 30, endings: 30, screen: 20, sentences: 25,
-    sentencesUpright: 25, eachByTouch: 25, slips: 25, places: 25, watchdog: 22, stories: 20, asked: 20, former: 20, lasting: 18, screens: 17, mistakes: 15, rotation: 14, numbers: 14, opened: 14, landings: 14, marks: 12, day: 12, unable: 12, storyParts: 10, printed: 10,
-    storiesSaid: 9, kiosk: 9, openedAtFirst: 9, steps: 9, everySentence: 9, lettersTyped: 8, lettersHeld: 8, kioskAddress: 8, storyEnds: 8,
-    arrangement: 8, benchRules: 8, made: 8, looks: 8, narrow: 8, hidden: 8, unkept: 7, enter: 7, eachIsListed: 6, printedBoxes: 6,
-    printedTape: 6, speed: 6, inText: 6, boxesBelow: 6, onStage: 6, screenLetter: 5, wholeDisc: 5, atEnds: 5,
+    lessons: 65, storyTongues: 45, eachByKeys: 45, narrowLessons: 40, eachByMouse: 30, endings: 30, sentences: 25,
+    sentencesUpright: 25, eachByTouch: 25, slips: 25, places: 25, watchdog: 22, screen: 20, stories: 20, asked: 20, former: 20,
+    lasting: 18, screens: 17, mistakes: 15, typing: 14, rotation: 14, numbers: 14, opened: 14, landings: 14, marks: 12, day: 12,
+    unable: 12, storyParts: 10, printed: 10, storiesSaid: 9, kiosk: 9, openedAtFirst: 9, steps: 9, everySentence: 9,
+    lettersTyped: 8, lettersHeld: 8, kioskAddress: 8, storyEnds: 8, arrangement: 8, benchRules: 8, made: 8, looks: 8, narrow: 8,
+    hidden: 8, unkept: 7, enter: 7, eachIsListed: 6, printedBoxes: 6, printedTape: 6, speed: 6, inText: 6, boxesBelow: 6,
+    onStage: 6, screenLetter: 5, wholeDisc: 5, atEnds: 5,
 };
 const OTHERS = 2;
 const secondsOf = (part) => SECONDS[part.name] || OTHERS;

@@ -136,6 +136,7 @@ async function lessonAndBack(b, { kind }, where) {
 // New, own work that is asked about, and Control with Enter.
 async function typing(b) {
     await each(b, async (_, { kind }, language, where) => {
+        await b.set('speed', '3'); // 650 orders a second: at 50 the runs would take a minute
         await b.press('#write', kind);
         await b.press('#new', kind);
         const made = await b.ask('[page.program.kind, page.program.text.split("\\n").slice(1), document.activeElement.id, by("refusal").hidden, by("stories").value]');
