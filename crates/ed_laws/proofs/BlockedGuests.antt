@@ -11,11 +11,13 @@ use Rattle.ed_checker.proofs.Follow.{checker_law}
 use Rattle.ed_answers.proofs.Limits.{none_added}
 use Rattle.ed_answers.proofs.Sources.{each_answer_is_from_entry}
 use Rattle.ed_laws.specs.BlockedGuests.{EachGuestIsBlocked, EndsBlocked, IsBlockedAfter, RunsToBlock, blocked_codes}
-use Rattle.ed_laws.specs.BlockedGuests.{ending_at, guest_ending, orders_to_block}
+use Rattle.ed_laws.specs.BlockedGuests.{guest_ending, orders_to_block}
 use Rattle.ed_laws.proofs.MoveEndings.{ran_is}
+use Rattle.ed_machine.specs.declared.ending.Ending.TheVariants.{NoOrder}
+use Rattle.std.proofs.Common.{unwrap_or}
 
 -- an order that can't be obeyed ends a run
-blocks : (turn : Turn) (full : Bool) → is_obeyed turn ≡ false → end_by turn full ≡ Some (ending_at turn)
+blocks : (turn : Turn) (full : Bool) → is_obeyed turn ≡ false → end_by turn full ≡ Some (unwrap_or (end_by turn false) NoOrder)
 blocks (IsNoOrder function) full h = refl
 blocks HasNoTape full h = refl
 blocks Went full h = absurd (true≢false h)

@@ -15,13 +15,18 @@ use Rattle.ed_answers.specs.FirstOrders.{first_state1}
 use Rattle.ed_answers.specs.Sources.{entered_before}
 use Rattle.ed_answers.proofs.FirstEntries.{first_store, runs_from_31, starts}
 use Rattle.ed_answers.proofs.Sources.{each_answer_is_from_entry}
-use Rattle.ed_laws.specs.CutRuns.{IsCutOff, limit_name, limit_state}
+use Rattle.ed_laws.specs.CutRuns.{IsCutOff, limit_state}
 use Rattle.ed_laws.specs.FaultyTapes.{quiet_outcome}
 use Rattle.ed_laws.specs.FirstEntries.{EachFirstTapeRunsFromEntry}
 use Rattle.ed_laws.specs.SourceEntries.{EachSourceRunsFromEntry}
 use Rattle.ed_laws.proofs.Stepped.{none_done}
+use Rattle.std.specs.Prelude.{codes}
 
 -- ---- the orders up to the limit
+
+-- the name of its ending in the note
+abbrev pub limit_name : Text
+limit_name = codes "limit"
 
 -- the run whose limit comes before k orders that neither print nor stop
 abbrev pub cut_run : ℕ → State → RunEnd

@@ -14,9 +14,9 @@ use Rattle.ed_interlude.specs.Parts.{return_report}
 use Rattle.ed_interlude.specs.declared.tape.PartsEnd.TheVariants.{Ended}
 use Rattle.ed_answers.specs.FirstFaults.{silent_outcome}
 use Rattle.ed_top.specs.Parts.{report_outcome}
-use Rattle.ed_laws.specs.CutRuns.{limit_name, limit_state}
+use Rattle.ed_laws.specs.CutRuns.{limit_state}
 use Rattle.ed_laws.specs.TapeEntries.{PartsFromEntry}
-use Rattle.ed_laws.proofs.CutRuns.{limit_orders}
+use Rattle.ed_laws.proofs.CutRuns.{limit_orders, limit_name}
 
 -- ---- the first part has one entry or one fault
 

@@ -6,7 +6,7 @@ use Rattle.ed_answers.specs.FirstOrders.{first_state1, tape1_outcome}
 use Rattle.ed_answers.specs.Sources.{entered_before, run_outcome}
 use Rattle.ed_answers.proofs.Limits.{each_limit, none_added, printed_starts, starts_as}
 use Rattle.ed_top.specs.Traces.{trace_outcome}
-use Rattle.ed_laws.specs.MoreResumes.{EachLimitIsKept, EachResume, KeepsResumes, TraceKeepsLimits, letters_of, out_of}
+use Rattle.ed_laws.specs.MoreResumes.{EachLimitIsKept, EachResume, KeepsResumes, TraceKeepsLimits, letters_of}
 use Rattle.ed_laws.proofs.PartsLimits.{parts_keep_limits}
 use Rattle.ed_laws.proofs.Stepped.{letters_sum}
 use Rattle.ed_laws.proofs.TwoRuns.{resumed_begins, resumed_later, resumed_same, trace_later, trace_same}
@@ -23,7 +23,7 @@ module _ (limit resumes more : ℕ) (s : State) (give : RunEnd → Outcome) (few
       → StartsWith (give (run_end limit more paper_room s)).out (give (run_end limit resumes paper_room s)).out
   begins_of out = starts_as (out _) (out _) (printed_starts _ _ (resumed_begins limit resumes more paper_room s few))
 
-tape_keeps : (codes : List ℕ) → KeepsResumes (λ s. tape_outcome s codes) out_of
+tape_keeps : (codes : List ℕ) → KeepsResumes (λ s. tape_outcome s codes) (λ o. o.out)
 tape_keeps codes = record {
   same = λ s more few.
       same_of s.limit s.resumes more (first_state s.size codes)
@@ -34,14 +34,14 @@ tape_keeps codes = record {
       (λ r. ap paper (none_added s.post_mortem r none));
 }
 
-first_tape_keeps : (codes : List ℕ) → KeepsResumes (λ s. tape1_outcome s codes) out_of
+first_tape_keeps : (codes : List ℕ) → KeepsResumes (λ s. tape1_outcome s codes) (λ o. o.out)
 first_tape_keeps codes = record {
   same = λ s more few. same_of s.limit s.resumes more (first_state1 codes) (ran_outcome []) few refl;
   begins = λ s more few none.
       begins_of s.limit s.resumes more (first_state1 codes) (ran_outcome []) few (λ r. refl);
 }
 
-source_keeps : (lines : List Line) → KeepsResumes (λ s. run_outcome s lines) out_of
+source_keeps : (lines : List Line) → KeepsResumes (λ s. run_outcome s lines) (λ o. o.out)
 source_keeps lines = record {
   same = λ s more few.
       same_of s.limit s.resumes more (first_state s.size (tape lines))

@@ -1,4 +1,4 @@
--- A run in which another rule never applies is the same with it.
+-- A run in which each step does the same by another rule is the same by it.
 use Rattle.ed_laws.proofs.Kit.{◌≡◌, ℕ, zero, suc, ◌+◌, ◌<◌, ◌≤◌, Bool, true, false, [], ◌||◌, ◌⊎◌, List, ◌∷◌, ◌++◌, ap}
 use Rattle.ed_laws.proofs.Kit.{length, if◌then◌else◌, ◌==◌, nat_eq, nat_lt, nat_le, Some, None, Option, unwrap_or, sym}
 use Rattle.ed_laws.proofs.Kit.{refl, ◌∙◌, inl, inr, arith, cases_lt, State, step, Settings, is_some, true≢false, Kind}
@@ -11,48 +11,46 @@ use Rattle.ed_printer.specs.declared.printer.Shift.{Shift}
 use Rattle.ed_printer.specs.declared.printer.Shift.TheVariants.{Letters, Figures}
 use Rattle.ed_machine.specs.Steps.{least}
 use Rattle.ed_machine.proofs.LeastNumbers.{least_found, least_none}
-use Rattle.ed_laws.specs.OwnRules.{EachOwnRuleShows, OtherRule, end_with, has_own_letter, is_own_kind, is_own_order}
-use Rattle.ed_laws.specs.OwnRules.{progress_with, run_letters, run_with_rule, step_with}
+use Rattle.ed_laws.specs.OwnRules.{EachOwnRuleShows, end_with, is_own_order, is_own_letter, run_with}
+use Rattle.ed_laws.specs.OwnRules.{progress_with, run_letters}
 use Rattle.ed_laws.proofs.LetterTests.{letter_says}
 use Rattle.ed_laws.proofs.MoreResumes.{letters_begin}
 use Rattle.ed_laws.proofs.TraceAccounts.{more_letters, next_letter}
+use Rattle.std.specs.List.{list_any}
 
--- ---- orders before which it doesn't apply
-
-step_same : (r : OtherRule) (s : State) → r.applies s ≡ false → step_with r s ≡ step s
-step_same r s not = ap (λ (b : Bool). if b then r.instead s else step s) not
+-- ---- orders that do the same
 
 -- a progress after one more step that does this
 abbrev next_by : Progress → Obeyed → Progress
 next_by p o = record { state = o.state; codes = p.codes ++ codes_of o.turn; stops = p.stops + stops_of o.turn }
 
-orders_same : (r : OtherRule) (k : ℕ) (s : State) → ((j : ℕ) → j < k → r.applies (state_after j s) ≡ false)
-    → progress_with r k s ≡ progress k s
+orders_same : (other : State → Obeyed) (k : ℕ) (s : State)
+    → ((j : ℕ) → j < k → other (state_after j s) ≡ step (state_after j s)) → progress_with other k s ≡ progress k s
 unfolding progress_with progress
-orders_same r zero s never = refl
-orders_same r (suc k) s never =
-    ap (λ (p : Progress). next_by p (step_with r p.state)) (orders_same r k s (λ j less. never j (omega (arith, less))))
-    ∙ ap (next_by (progress k s)) (step_same r (state_after k s) (never k (omega arith)))
+orders_same other zero s agrees = refl
+orders_same other (suc k) s agrees =
+    ap (λ (p : Progress). next_by p (other p.state)) (orders_same other k s (λ j less. agrees j (omega (arith, less))))
+    ∙ ap (next_by (progress k s)) (agrees k (omega arith))
 
 -- ---- the run
 
--- either it doesn't apply at a state, or the order there wouldn't end a run
-abbrev IsNoEnd : OtherRule → State → Type 0
-IsNoEnd r s = (r.applies s ≡ false) ⊎ ((full : Bool) → end_by (step s).turn full ≡ None)
+-- either a step does the same at a state, or the order there wouldn't end a run
+abbrev IsNoEnd : (State → Obeyed) → State → Type 0
+IsNoEnd other s = (other s ≡ step s) ⊎ ((full : Bool) → end_by (step s).turn full ≡ None)
 
-module _ (r : OtherRule) (limit resumes room : ℕ) (s : State)
-    (never : (j : ℕ) → j < run_orders limit resumes room s → r.applies (state_after j s) ≡ false)
+module _ (r : State → Obeyed) (limit resumes room : ℕ) (s : State)
+    (never : (j : ℕ) → j < run_orders limit resumes room s → r (state_after j s) ≡ step (state_after j s))
     (at_end : IsNoEnd r (state_after (run_orders limit resumes room s) s)) where
   same : (j : ℕ) → j ≤ run_orders limit resumes room s → progress_with r j s ≡ progress j s
   same j few = orders_same r j s (λ i less. never i (omega (arith, less, few)))
 
-  -- at a state where it doesn't apply the run ends as without it, or goes on as without it
-  ends_same : (k : ℕ) → r.applies (state_after k s) ≡ false
+  -- at a state where a step does the same the run ends as by the order table, or goes on so
+  ends_same : (k : ℕ) → r (state_after k s) ≡ step (state_after k s)
       → end_with r limit resumes room k (progress k s) ≡ end_at limit resumes room k (progress k s)
   ends_same k not =
       ap (λ (o : Obeyed). if nat_lt resumes (progress k s).stops then Some Stopped
       else if nat_eq k limit then Some Limit
-      else end_by o.turn (nat_le room (length (progress k s).codes))) (step_same r (state_after k s) not)
+      else end_by o.turn (nat_le room (length (progress k s).codes))) not
 
   none_before : (j : ℕ) → j < run_orders limit resumes room s
       → end_with r limit resumes room j (progress_with r j s) ≡ None
@@ -77,7 +75,7 @@ module _ (r : OtherRule) (limit resumes room : ℕ) (s : State)
           else end_by (step (state_after n s)).turn (nat_le room (length (progress n s).codes)))
           ≡ Some (run_end limit resumes room s).ending
           → (if b then Some Stopped else if c then Some Limit
-          else end_by (step_with r (state_after n s)).turn (nat_le room (length (progress n s).codes)))
+          else end_by (r (state_after n s)).turn (nat_le room (length (progress n s).codes)))
           ≡ Some (run_end limit resumes room s).ending
       by_tests true c none h = h
       by_tests false true none h = h
@@ -102,8 +100,8 @@ module _ (r : OtherRule) (limit resumes room : ℕ) (s : State)
             least_none _ limit (λ j less. fails j (omega (arith, less, all))) ∙ sym all
       ]
 
-  pub run_is : run_with_rule r limit resumes room s ≡ run_end limit resumes room s
-  unfolding run_with_rule run_end
+  pub run_is : run_with r limit resumes room s ≡ run_end limit resumes room s
+  unfolding run_with run_end
   run_is =
       let there = same (run_orders limit resumes room s) (omega arith) in
       ap (λ n. record {
@@ -113,9 +111,9 @@ module _ (r : OtherRule) (limit resumes room : ℕ) (s : State)
       }) found
       ∙ (λ i. record { ending = unwrap_or (some_there i) Limit; state = (there i).state; codes = (there i).codes })
 
-runs_same : (r : OtherRule) (limit resumes room : ℕ) (s : State)
-    → ((j : ℕ) → j ≤ run_orders limit resumes room s → r.applies (state_after j s) ≡ false)
-    → run_with_rule r limit resumes room s ≡ run_end limit resumes room s
+runs_same : (r : State → Obeyed) (limit resumes room : ℕ) (s : State)
+    → ((j : ℕ) → j ≤ run_orders limit resumes room s → r (state_after j s) ≡ step (state_after j s))
+    → run_with r limit resumes room s ≡ run_end limit resumes room s
 runs_same r limit resumes room s never =
     run_is r limit resumes room s (λ j less. never j (omega (arith, less))) (inl (never _ (omega arith)))
 
@@ -142,8 +140,16 @@ shifts_same before after code codes (inr is) =
 
 -- ---- F and X, by the letters of a trace
 
-own_letter : (f : ℕ) → is_own_kind (kind_of_function f) ≡ (byte_of f false == 70 || byte_of f false == 88)
-own_letter = letter_says is_own_kind (λ byte. byte == 70 || byte == 88) refl refl
+abbrev is_own_kind : Option Kind → Bool
+is_own_kind (Some F) = true
+is_own_kind (Some X) = true
+is_own_kind kind = false
+
+own_letter : (f : ℕ) → is_own_kind (kind_of_function f) ≡ is_own_letter (byte_of f false)
+own_letter = letter_says is_own_kind is_own_letter refl refl
+
+abbrev has_own_letter : List ℕ → Bool
+has_own_letter = list_any is_own_letter
 
 any_parts : (xs ys : List ℕ) → has_own_letter (xs ++ ys) ≡ false
     → (has_own_letter xs ≡ false) × (has_own_letter ys ≡ false)
@@ -173,7 +179,7 @@ never_own k s none j less =
     (ap has_own_letter (sym start.1) ∙ none)).0 in
     let letter = (any_parts (letters_in (trace_to j s)) (next_letter (state_after j s) ∷ [])
     (ap has_own_letter (sym (more_letters j s)) ∙ first)).1 in
-    own_letter (function_of (next_word (state_after j s))) ∙ none_in_one (next_letter (state_after j s)) letter
+    none_in_one (next_letter (state_after j s)) letter
 
 -- an order F or X ends no run
 own_goes : (k : Option Kind) (w : ℕ) (s : State) → is_own_kind k ≡ true → (obey_word k w s).turn ≡ Went
@@ -199,25 +205,26 @@ own_goes (Some Z) w s h = absurd (true≢false (sym h))
 
 own_turn : (s : State) → is_own_order s ≡ true → (step s).turn ≡ Went
 unfolding step
-own_turn s = own_goes (kind_of_function (function_of (next_word s))) (next_word s) s
+own_turn s own =
+    own_goes (kind_of_function (function_of (next_word s))) (next_word s) s (own_letter (function_of (next_word s)) ∙ own)
 
-no_end : (instead : State → Obeyed) (s : State) → IsNoEnd (record { applies = is_own_order; instead = instead }) s
-no_end instead s = by_test (is_own_order s) refl
+no_end : (other : State → Obeyed) → ((t : State) → is_own_order t ≡ false → other t ≡ step t) → (s : State)
+    → IsNoEnd other s
+no_end other agrees s = by_test (is_own_order s) refl
   where
-    by_test : (b : Bool) → is_own_order s ≡ b → IsNoEnd (record { applies = is_own_order; instead = instead }) s
-    by_test false is = inl is
+    by_test : (b : Bool) → is_own_order s ≡ b → IsNoEnd other s
+    by_test false is = inl (agrees s is)
     by_test true is = inr (λ full. ap (λ (t : Turn). end_by t full) (own_turn s is))
 
-tapes : (instead : State → Obeyed) (s : Settings) (rows : List ℕ)
+tapes : (other : State → Obeyed) (s : Settings) (rows : List ℕ)
+    → ((t : State) → is_own_order t ≡ false → other t ≡ step t)
     → has_own_letter (run_letters s rows) ≡ false
-    → run_with_rule (record { applies = is_own_order; instead = instead }) s.limit s.resumes paper_room
-    (first_state s.size rows)
-    ≡ run_of s rows
-tapes instead s rows none =
+    → run_with other s.limit s.resumes paper_room (first_state s.size rows) ≡ run_of s rows
+tapes other s rows agrees none =
     let first = first_state s.size rows in
     let n = run_orders s.limit s.resumes paper_room first in
-    run_is (record { applies = is_own_order; instead = instead }) s.limit s.resumes paper_room first
-    (never_own n first none) (no_end instead (state_after n first))
+    run_is other s.limit s.resumes paper_room first (λ j less. agrees _ (never_own n first none j less))
+    (no_end other agrees (state_after n first))
 
 pub each_own_rule_shows : EachOwnRuleShows
 each_own_rule_shows = record { orders = orders_same; runs = runs_same; tapes = tapes; shifts = shifts_same }

@@ -3,7 +3,7 @@ use Rattle.ed_laws.proofs.Kit.{◌≡◌, ℕ, zero, suc, ◌+◌, ◌/◌, ◌%
 use Rattle.ed_laws.proofs.Kit.{List, ◌∷◌, ◌++◌, map, length, if◌then◌else◌, nat_eq, ap, nat_lt, nat_le, Some, codes}
 use Rattle.ed_laws.proofs.Kit.{unwrap_or, sym, refl, ◌∙◌, subst, inl, inr, append_assoc, arith, length-append, cases_lt}
 use Rattle.ed_laws.proofs.Kit.{and_parts, Text, eq_false, paper, ◌&&◌, slice_index, true≢false, nat_tests}
-use Rattle.std.specs.Prelude.{position, slice_index_or, drop, get_or}
+use Rattle.std.specs.Prelude.{position, slice_index_or, drop, get_or, flat_map}
 use Rattle.ed_printer.specs.Paper.{figures_printed, letters_printed, paper_from, shift_after, struck_bytes}
 use Rattle.ed_printer.specs.declared.printer.Shift.{Shift}
 use Rattle.ed_printer.specs.declared.printer.Shift.TheVariants.{Letters, Figures}
@@ -13,8 +13,9 @@ use Rattle.ed_postmortem.specs.Codes.{address_digits, digits_before_units, is_ev
 use Rattle.ed_postmortem.specs.Codes.{printed_codes}
 use Rattle.ed_routines.specs.Digits.{digits_value}
 use Rattle.ed_answers.specs.Runs.{post_mortem_codes}
-use Rattle.ed_laws.specs.PrintedLines.{EachLineIsOfItsWord, IsSameOnPaper, is_silent, printed_line, printed_lines}
+use Rattle.ed_laws.specs.PrintedLines.{EachLineIsOfItsWord, IsSameOnPaper, is_silent, printed_line}
 use Rattle.ed_laws.proofs.ReadBack.{decimal_value, laid, same_parity}
+use Rattle.std.specs.List.{range_with_len}
 
 -- ---- tests of all small numbers
 
@@ -127,6 +128,18 @@ line_is word rest =
     sym (append_assoc (f ++ n ++ end) (13 ∷ 10 ∷ []) rest
     ∙ append_assoc (f ++ n) end (13 ∷ 10 ∷ rest)
     ∙ append_assoc f n (end ++ (13 ∷ 10 ∷ rest)))
+
+-- the lines of words one after the other
+unfoldable printed_lines : List ℕ → ℕ → ℕ → Text
+printed_lines words first zero = []
+printed_lines words first (suc count) = printed_line (slice_index words first) ++ printed_lines words (first + 1) count
+
+lines_are : (words : List ℕ) (first count : ℕ)
+    → printed_lines words first count ≡ flat_map (λ a. printed_line (slice_index words a)) (range_with_len first count)
+unfolding printed_lines
+lines_are words first zero = refl
+lines_are words first (suc count) =
+    ap (λ (t : Text). printed_line (slice_index words first) ++ t) (lines_are words (first + 1) count)
 
 lines_struck : (words : List ℕ) (first count : ℕ) (shift : Shift)
     → paper_from shift (printed_codes words first count) ≡ printed_lines words first count
@@ -310,7 +323,8 @@ each_line_is_of_its_word = record {
   prints = λ before w s.
       let after = after_others before Letters in
       after.1 (post_mortem_codes (Some w) s)
-      ∙ ap (λ (t : Text). paper before ++ t) (lines_struck s.store.words w.first w.count after.0);
+      ∙ ap (λ (t : Text). paper before ++ t)
+      (lines_struck s.store.words w.first w.count after.0 ∙ lines_are s.store.words w.first w.count);
   read = λ w s t one other same.
       lines_back s.store.words t.store.words w.first w.count one.fits other.fits
       (sym (lines_struck s.store.words w.first w.count Letters) ∙ same

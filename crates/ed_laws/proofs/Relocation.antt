@@ -11,7 +11,8 @@ use Rattle.ed_notation.specs.Items.{Written, digits_number, item_of}
 use Rattle.ed_notation.specs.Fold.{act, address, begun_cost, costs, end_cost, with_letter, placed_at}
 use Rattle.ed_notation.specs.Spellings.{digits_of}
 use Rattle.ed_notation.proofs.Canonical.{digits_are}
-use Rattle.ed_laws.specs.Relocation.{AreMovable, EachPartMoves, endings, moved, place_items}
+use Rattle.ed_laws.specs.Relocation.{AreMovable, EachPartMoves, moved, place_items}
+use Rattle.std.specs.Prelude.{map}
 
 -- ---- one item
 
@@ -138,7 +139,7 @@ module _ (v : List ℕ) (b : ℕ) (low : b ≤ 1024) (n : NotationState) where
 -- ---- the law
 
 moves : (b c : ℕ) (ws : List Written) (k : ℕ) → b ≤ 1024 → c ≤ 1024 → AreMovable ws → k < length ws
-    → word_in c ws k ≡ moved b c (slice_index (endings ws) k) (word_in b ws k)
+    → word_in c ws k ≡ moved b c (slice_index (map (λ w. w.end) ws) k) (word_in b ws k)
 unfolding word_in
 moves b c [] k low high are less = absurd (omega arith)
 moves b c (w ∷ ws) (suc k) low high are less = moves b c ws k low high are.1 (omega (arith, less))
@@ -171,7 +172,7 @@ each_part_moves b c ws fits too are = record { words = words; cost = cost }
     words : (v w : List ℕ) (n m : NotationState) (k : ℕ) → k < length ws
         → (word : ℕ) × (placed_at (fold v n (items (place_items b ++ ws))).placed (b + k) ≡ Some word)
         × (placed_at (fold w m (items (place_items c ++ ws))).placed (c + k)
-        ≡ Some (moved b c (slice_index (endings ws) k) word))
+        ≡ Some (moved b c (slice_index (map (λ w. w.end) ws) k) word))
     words v w n m k less = (
       word_in b ws k,
       there b fits v n k less,

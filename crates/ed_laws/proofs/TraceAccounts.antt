@@ -17,7 +17,7 @@ use Rattle.ed_machine.proofs.Steps.{next_stops, past_next}
 use Rattle.ed_laws.proofs.LetterTests.{letter_says}
 use Rattle.ed_laws.proofs.MoveEndings.{not_stopped_by}
 use Rattle.ed_laws.proofs.Stepped.{bare_trace, letters_both, map_both, none_done}
-use Rattle.ed_laws.specs.TraceAccounts.{EachTraceAccounts, IsPastStop, stops_in}
+use Rattle.ed_laws.specs.TraceAccounts.{EachTraceAccounts, IsPastStop}
 
 -- ---- an order is a stop if its function is that of Z
 
@@ -102,6 +102,10 @@ letter_stops s =
     stops_by (kind_of_function f) (step s).turn (stop_turn s) ∙ ap one_if (letter_of f).0
 
 -- ---- the letters of many orders
+
+-- how often the letter Z (90) is among letters
+abbrev pub stops_in : Text → ℕ
+stops_in letters = length (filter (λ byte. byte == 90) letters)
 
 zeds_both : (xs ys : Text) → stops_in (xs ++ ys) ≡ stops_in xs + stops_in ys
 zeds_both xs ys =

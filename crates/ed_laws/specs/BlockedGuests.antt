@@ -1,5 +1,5 @@
 -- What a run prints that has a guest checked whose next order can't be obeyed (this project's own rule).
-use Rattle.std.specs.Prelude.{◌≡◌, ℕ, suc, ◌+◌, ◌-◌, ◌<◌, ◌≤◌, false, None, List, [], ◌∷◌, ◌++◌, length}
+use Rattle.std.specs.Prelude.{◌≡◌, ℕ, suc, ◌+◌, ◌-◌, ◌<◌, ◌≤◌, false, None, List, [], ◌∷◌, ◌++◌, length, unwrap_or}
 use Rattle.ed_words.specs.Texts.{Text}
 use Rattle.ed_words.specs.Words.{function_of}
 use Rattle.ed_printer.specs.Paper.{paper}
@@ -7,10 +7,8 @@ use Rattle.ed_machine.specs.State.{State}
 use Rattle.ed_machine.specs.OrderTable.{next_word, step}
 use Rattle.ed_machine.specs.Steps.{is_obeyed, progress, state_after}
 use Rattle.ed_machine.specs.declared.ending.Ending.{Ending}
-use Rattle.ed_machine.specs.declared.ending.Ending.TheVariants.{NoOrder, NoTape}
-use Rattle.ed_machine.specs.declared.turn.Turn.{Turn}
-use Rattle.ed_machine.specs.declared.turn.Turn.TheVariants.{NoTape as HasNoTape}
-use Rattle.ed_run.specs.Run.{run_end}
+use Rattle.ed_machine.specs.declared.ending.Ending.TheVariants.{NoOrder}
+use Rattle.ed_run.specs.Run.{end_by, run_end}
 use Rattle.ed_run.specs.declared.settings.Settings.{Settings}
 use Rattle.ed_syntax.specs.declared.program.Line.{Line}
 use Rattle.ed_link.specs.Linked.{entry_of}
@@ -45,14 +43,9 @@ blocked_codes q g = checked_codes g q ++ function_of (next_word (state_after q g
 abbrev pub orders_to_block : ℕ → State → ℕ
 orders_to_block q g = checked_orders g (suc q) - (1 + saving_orders)
 
--- how a run ends at such an order
-abbrev pub ending_at : Turn → Ending
-ending_at HasNoTape = NoTape
-ending_at turn = NoOrder
-
 -- the ending of a run at the order that the guest can't obey
 abbrev pub guest_ending : ℕ → State → Ending
-guest_ending q g = ending_at (step (state_after q g)).turn
+guest_ending q g = unwrap_or (end_by (step (state_after q g)).turn false) NoOrder
 
 -- a run from there with a greater limit and enough room prints these codes and ends at the routine's copy of the word
 pub record EndsBlocked (base q : ℕ) (m : State) (limit resumes room : ℕ) : Type 0 where

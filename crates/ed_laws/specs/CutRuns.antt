@@ -1,6 +1,5 @@
 -- A run that its limit cuts off before the program is entered (this project's own rule).
 use Rattle.std.specs.Prelude.{◌≡◌, ℕ, List, codes}
-use Rattle.ed_words.specs.Texts.{Text}
 use Rattle.ed_machine.specs.State.{State}
 use Rattle.ed_machine.specs.Steps.{state_after}
 use Rattle.ed_run.specs.declared.settings.Settings.{Settings}
@@ -8,10 +7,6 @@ use Rattle.ed_initial.specs.Entry.{first_state}
 use Rattle.ed_answers.specs.Outcome.{Outcome}
 use Rattle.ed_answers.specs.Runs.{run_of}
 use Rattle.ed_laws.specs.FaultyTapes.{quiet_outcome}
-
--- the name of its ending in the note
-abbrev pub limit_name : Text
-limit_name = codes "limit"
 
 -- the state of the run of rows after as many orders as its limit
 abbrev pub limit_state : Settings → List ℕ → State
@@ -21,4 +16,4 @@ limit_state s rows = state_after s.limit (first_state s.size rows)
 -- note `limit at C after K`, K the limit, and the status 4
 pub record IsCutOff (s : Settings) (rows : List ℕ) (o : Outcome) : Type 0 where
   pub state_is : (run_of s rows).state ≡ limit_state s rows
-  pub outcome : o ≡ quiet_outcome s rows limit_name (limit_state s rows).counter s.limit 4
+  pub outcome : o ≡ quiet_outcome s rows (codes "limit") (limit_state s rows).counter s.limit 4

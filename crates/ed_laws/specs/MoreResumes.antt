@@ -13,30 +13,23 @@ use Rattle.ed_top.specs.Traces.{letters_in, trace_outcome}
 
 -- ---- more resumes
 
--- the same settings with another number of resumes
-abbrev pub with_resumes : ℕ → Settings → Settings
-with_resumes n s = record s { resumes = n }
-
 -- the answers of runs, by their settings: a run that doesn't end at a stop, which is status 0, has the same answer with
 -- more resumes; and what a run without a post-mortem prints is the beginning of what it prints with more
 pub record KeepsResumes (outcome : Settings → Outcome) (shown : Outcome → Text) : Type 0 where
   pub same : (s : Settings) (more : ℕ) → s.resumes ≤ more → (outcome s).status ≢ 0
-      → outcome (with_resumes more s) ≡ outcome s
+      → outcome (record s { resumes = more }) ≡ outcome s
   pub begins : (s : Settings) (more : ℕ) → s.resumes ≤ more → s.post_mortem ≡ None
-      → StartsWith (shown (outcome (with_resumes more s))) (shown (outcome s))
+      → StartsWith (shown (outcome (record s { resumes = more }))) (shown (outcome s))
 
 -- what is printed, and the letters of a trace
-abbrev pub out_of : Outcome → Text
-out_of o = o.out
-
 abbrev pub letters_of : Outcome → Text
 letters_of o = letters_in o.out
 
 -- the same for every tape, every tape of May 1949, every source and every trace
 pub record EachResume : Type 0 where
-  pub tapes : (codes : List ℕ) → KeepsResumes (λ s. tape_outcome s codes) out_of
-  pub first_tapes : (codes : List ℕ) → KeepsResumes (λ s. tape1_outcome s codes) out_of
-  pub sources : (lines : List Line) → KeepsResumes (λ s. run_outcome s lines) out_of
+  pub tapes : (codes : List ℕ) → KeepsResumes (λ s. tape_outcome s codes) (λ o. o.out)
+  pub first_tapes : (codes : List ℕ) → KeepsResumes (λ s. tape1_outcome s codes) (λ o. o.out)
+  pub sources : (lines : List Line) → KeepsResumes (λ s. run_outcome s lines) (λ o. o.out)
   pub traces : (codes : List ℕ) → KeepsResumes (λ s. trace_outcome s codes) letters_of
 
 -- ---- a greater limit

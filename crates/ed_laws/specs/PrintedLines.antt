@@ -1,7 +1,8 @@
 -- What the lines of a post-mortem show of their words (this project's own rules).
-use Rattle.std.specs.Prelude.{◌≡◌, ◌⊎◌, ℕ, zero, suc, ◌+◌, ◌/◌, ◌%◌, ◌<◌, ◌≤◌, ◌==◌, ◌||◌, Bool, true, List, [], ◌∷◌}
+use Rattle.std.specs.Prelude.{◌≡◌, ◌⊎◌, ℕ, ◌+◌, ◌/◌, ◌%◌, ◌<◌, ◌≤◌, ◌==◌, ◌||◌, Bool, true, List, [], ◌∷◌}
 use Rattle.std.specs.Prelude.{◌++◌}
-use Rattle.std.specs.Prelude.{Some, codes, map, slice_index, if◌then◌else◌}
+use Rattle.std.specs.Prelude.{Some, codes, flat_map, map, slice_index, if◌then◌else◌}
+use Rattle.std.specs.List.{range_with_len}
 use Rattle.ed_words.specs.Texts.{Text}
 use Rattle.ed_store.specs.Cells.{IsStore, short_at}
 use Rattle.ed_printer.specs.Paper.{paper, struck_bytes}
@@ -18,11 +19,6 @@ abbrev pub printed_line : ℕ → Text
 printed_line word = struck_bytes Letters (word / 4096) ++ map (λ d. 48 + d) (address_digits (number_in word))
     ++ (if is_even word then codes "F" else codes "D") ++ 13 ∷ 10 ∷ []
 
--- the lines of words one after the other
-unfoldable pub printed_lines : List ℕ → ℕ → ℕ → Text
-printed_lines words first zero = []
-printed_lines words first (suc count) = printed_line (slice_index words first) ++ printed_lines words (first + 1) count
-
 -- the codes of functions that print nothing in letter shift: figure shift, letter shift and blank
 abbrev pub is_silent : ℕ → Bool
 is_silent f = f == 11 || (f == 15 || f == 16)
@@ -36,7 +32,8 @@ IsSameOnPaper v w = (v ≡ w)
 -- two states print the same text, the words there are the same but for functions that print nothing.
 pub record EachLineIsOfItsWord : Type 0 where
   pub prints : (before : List ℕ) (w : Window) (s : State)
-      → paper (before ++ post_mortem_codes (Some w) s) ≡ paper before ++ printed_lines s.store.words w.first w.count
+      → paper (before ++ post_mortem_codes (Some w) s) ≡ paper before
+      ++ flat_map (λ a. printed_line (slice_index s.store.words a)) (range_with_len w.first w.count)
   pub read : (w : Window) (s t : State) → IsStore s.store → IsStore t.store
       → paper (post_mortem_codes (Some w) s) ≡ paper (post_mortem_codes (Some w) t)
       → (a : ℕ) → w.first ≤ a → a < w.first + w.count → IsSameOnPaper (short_at s.store a) (short_at t.store a)

@@ -5,12 +5,9 @@ use Rattle.ed_machine.specs.State.{State}
 use Rattle.ed_run.specs.declared.settings.Window.{Window}
 use Rattle.ed_answers.specs.Runs.{post_mortem_codes}
 
--- two states have the same words at the locations of a window
-abbrev pub HaveSameWords : Window → State → State → Type 0
-HaveSameWords w s t = (a : ℕ) → w.first ≤ a → a < w.first + w.count → short_at s.store a ≡ short_at t.store a
-
--- if post-mortems of two states print the same codes, the states have the same words there; the same holds for the
--- states in which two runs end
+-- if post-mortems of two states print the same codes, the states have the same words at the locations of the window;
+-- the same holds for the states in which two runs end
 abbrev pub EachWordIsReadBack : Type 0
 EachWordIsReadBack =
-    (w : Window) (s t : State) → post_mortem_codes (Some w) s ≡ post_mortem_codes (Some w) t → HaveSameWords w s t
+    (w : Window) (s t : State) → post_mortem_codes (Some w) s ≡ post_mortem_codes (Some w) t
+    → (a : ℕ) → w.first ≤ a → a < w.first + w.count → short_at s.store a ≡ short_at t.store a

@@ -16,10 +16,6 @@ abbrev pub AreMovable : List Written → Type 0
 AreMovable [] = Unit {0}
 AreMovable (w ∷ ws) = ((w.end ≡ 17) ⊎ ((w.end ≡ 18) ⊎ (w.end ≡ 19))) × AreMovable ws
 
--- the endings of items
-abbrev pub endings : List Written → List ℕ
-endings = map (λ w. w.end)
-
 -- the word that an item with this ending gives at c, if it gives this word at b: θ adds twice the difference modulo
 -- 2^17
 abbrev pub moved : ℕ → ℕ → ℕ → ℕ → ℕ
@@ -32,7 +28,7 @@ pub record MovesWords (b c : ℕ) (ws : List Written) : Type 0 where
   pub words : (v w : List ℕ) (n m : NotationState) (k : ℕ) → k < length ws
       → (word : ℕ) × (placed_at (fold v n (items (place_items b ++ ws))).placed (b + k) ≡ Some word)
       × (placed_at (fold w m (items (place_items c ++ ws))).placed (c + k)
-      ≡ Some (moved b c (slice_index (endings ws) k) word))
+      ≡ Some (moved b c (slice_index (map (λ w. w.end) ws) k) word))
   pub cost : (v w : List ℕ) (n m : NotationState)
       → costs v n (place_items b ++ ws) + 9 * length (digits_of c)
       ≡ costs w m (place_items c ++ ws) + 9 * length (digits_of b)

@@ -6,7 +6,6 @@ use Rattle.std.specs.List.{range_with_len}
 use Rattle.ed_machine.specs.Steps.{Progress, progress}
 use Rattle.ed_machine.specs.declared.ending.Ending.{Ending}
 use Rattle.ed_machine.specs.declared.ending.Ending.TheVariants.{Stopped, Limit, NoOrder, NoTape}
-use Rattle.ed_run.specs.Run.{RunEnd}
 use Rattle.ed_printer.specs.Paper.{paper}
 use Rattle.ed_postmortem.specs.Codes.{printed_codes}
 use Rattle.ed_report.specs.Listings.{listing}
@@ -32,10 +31,6 @@ use Rattle.ed_top.specs.Traces.{letters_in, trace_outcome}
 -- the same settings for a run that is cut off after as many orders as a session obeyed, with this number of resumes
 abbrev pub cut_at : Stand → ℕ → Settings → Settings
 cut_at t resumes s = record s { limit = t.done; resumes = resumes }
-
--- the same settings with a post-mortem of a window
-abbrev pub with_window : Window → Settings → Settings
-with_window w s = record s { post_mortem = Some w }
 
 -- the run of a session so far: its state, the codes printed, and the number of stops
 abbrev pub way : Stand → Progress
@@ -71,10 +66,6 @@ abbrev pub resumes_to : Ending → ℕ → ℕ
 resumes_to Stopped stops = stops - 1
 resumes_to ending stops = stops
 
--- the run of rows with the limit of a session and this number of resumes
-abbrev pub run_with : ℕ → Settings → List ℕ → RunEnd
-run_with resumes s rows = run_of (record s { resumes = resumes }) rows
-
 -- ---- the law
 
 -- a session, and a run that is cut off after the same number of orders and has enough resumes, report the same
@@ -91,7 +82,8 @@ pub record StepsAreRun (s : Settings) (rows : List ℕ) (t : Stand) (resumes : �
   -- run itself printed
   pub shown : HasRoomFor t → (a b : ℕ)
       → words_shown a b t ≡ listing (run_of (cut_at t resumes s) rows).state.store (range_with_len a (b + 1 - a))
-  pub printed : HasRoomFor t → (w : Window) → (tape_outcome (with_window w (cut_at t resumes s)) rows).out
+  pub printed : HasRoomFor t → (w : Window)
+      → (tape_outcome (record (cut_at t resumes s) { post_mortem = Some w }) rows).out
       ≡ paper ((way t).codes ++ printed_codes (stands_at t).store.words w.first w.count)
   -- a line `trace N` writes the letters by which the trace up to its end is longer than the trace up to here
   pub letters : (n : ℕ) → IsResumed resumes (after_move (Orders n) t)
@@ -101,7 +93,7 @@ pub record StepsAreRun (s : Settings) (rows : List ℕ) (t : Stand) (resumes : �
   -- ends, and reports the same ending
   pub ends : (aim : MoveTarget) (ending : Ending) → ending_of (move_end aim (left t) (stands_at t)) ≡ Some ending
       → HasRoomFor (after_move aim t)
-      → run_with (resumes_to ending (way (after_move aim t)).stops) s rows
+      → run_of (record s { resumes = resumes_to ending (way (after_move aim t)).stops }) rows
       ≡ record { ending = ending; state = stands_at (after_move aim t); codes = (way (after_move aim t)).codes }
 
 -- the same wherever a line of a script leaves a session, on the rows of a tape or of a source's tape

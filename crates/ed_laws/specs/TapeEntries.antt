@@ -1,6 +1,6 @@
 -- What holds of every well-formed tape: it leads to the entry that `check-tape` reports, and its run is the run from
 -- there (this project's own rules).
-use Rattle.std.specs.Prelude.{◌≡◌, ℕ, ◌-◌, ◌<◌, ◌≤◌, List, [], ◌++◌}
+use Rattle.std.specs.Prelude.{◌≡◌, ℕ, ◌-◌, ◌<◌, ◌≤◌, List, [], ◌++◌, codes}
 use Rattle.ed_store.specs.Cells.{cleared_cells}
 use Rattle.ed_machine.specs.State.{State}
 use Rattle.ed_machine.specs.Steps.{progress, state_after}
@@ -21,7 +21,7 @@ use Rattle.ed_answers.specs.Runs.{paper_room, ran_outcome, with_post_mortem}
 use Rattle.ed_top.specs.Parts.{IsInParts}
 use Rattle.ed_top.specs.Scripts.{stand_on}
 use Rattle.ed_top.specs.Traces.{letters_in, trace_outcome, traced_from}
-use Rattle.ed_laws.specs.CutRuns.{IsCutOff, limit_name, limit_state}
+use Rattle.ed_laws.specs.CutRuns.{IsCutOff, limit_state}
 
 -- the state at the entry of a tape on a cleared machine
 abbrev pub tape_state : Settings → List ℕ → TapeEntry → State
@@ -46,9 +46,9 @@ pub record StepsToEntry (s : Settings) (codes : List ℕ) (e : TapeEntry) : Type
 
 -- `parts` writes the line of `check-tape` first; if the limit comes before the entry it writes nothing, with the note
 -- and the status of `tape`
-pub record PartsFromEntry (s : Settings) (codes : List ℕ) (e : TapeEntry) (o : Outcome) : Type 0 where
+pub record PartsFromEntry (s : Settings) (rows : List ℕ) (e : TapeEntry) (o : Outcome) : Type 0 where
   pub begins : e.cost ≤ s.limit → StartsWith o.out (entry_line e.at e.cost e.rows)
-  pub short : s.limit < e.cost → o ≡ silent_outcome limit_name (limit_state s codes).counter s.limit 4
+  pub short : s.limit < e.cost → o ≡ silent_outcome (codes "limit") (limit_state s rows).counter s.limit 4
 
 -- `check-tape` reports the entry, its cost and its rows. The tape leads a cleared machine to the state at that entry,
 -- at that cost and with nothing printed. With a limit not below the cost, the answer of `tape` is the run from that

@@ -14,19 +14,12 @@ use Rattle.ed_run.specs.declared.settings.Settings.{Settings}
 use Rattle.ed_initial.specs.Entry.{first_state}
 use Rattle.ed_answers.specs.Runs.{run_of}
 use Rattle.ed_answers.specs.Tapes.{tape_outcome}
-use Rattle.ed_top.specs.Traces.{letters_in, trace_outcome}
-
--- the letters of the trace of rows
-abbrev pub letters_traced : Settings → List ℕ → Text
-letters_traced s rows = letters_in (trace_outcome s rows).out
+use Rattle.ed_top.specs.Traces.{trace_outcome}
+use Rattle.ed_laws.specs.MoreResumes.{letters_of}
 
 -- the run that is traced, whose paper is never full; the note of the trace has the count of orders of its state
 abbrev pub traced_run : Settings → List ℕ → RunEnd
 traced_run s rows = run_end s.limit s.resumes s.limit (first_state s.size rows)
-
--- how often the letter Z (90) is among letters
-abbrev pub stops_in : Text → ℕ
-stops_in letters = length (filter (λ byte. byte == 90) letters)
 
 -- the counter is one past the location of an order Z
 pub record IsPastStop (s : State) : Type 0 where
@@ -34,12 +27,13 @@ pub record IsPastStop (s : State) : Type 0 where
   pub next : s.counter ≡ within s.size (at + 1)
   pub stop : kind_of_function (function_of (short_at s.store at)) ≡ Some Z
 
--- there are as many letters as orders in the note. The status is 0 exactly if Z occurs one time more than there are
+-- there are as many letters as orders in the note. The status is 0 exactly if Z (90) occurs one time more than there are
 -- resumes; then Z is the last letter. A run of `trace` or `tape` that has stopped at C has an order Z before C.
 pub record TraceAccounts (s : Settings) (rows : List ℕ) : Type 0 where
-  pub orders : length (letters_traced s rows) ≡ (traced_run s rows).state.orders
-  pub stops : (trace_outcome s rows).status ≡ 0 ↔ stops_in (letters_traced s rows) ≡ s.resumes + 1
-  pub last : (trace_outcome s rows).status ≡ 0 → (before : Text) × (letters_traced s rows ≡ before ++ 90 ∷ [])
+  pub orders : length (letters_of (trace_outcome s rows)) ≡ (traced_run s rows).state.orders
+  pub stops : (trace_outcome s rows).status ≡ 0
+      ↔ length (filter (λ byte. byte == 90) (letters_of (trace_outcome s rows))) ≡ s.resumes + 1
+  pub last : (trace_outcome s rows).status ≡ 0 → (before : Text) × (letters_of (trace_outcome s rows) ≡ before ++ 90 ∷ [])
   pub past : (trace_outcome s rows).status ≡ 0 → IsPastStop (traced_run s rows).state
   pub tape_past : (tape_outcome s rows).status ≡ 0 → IsPastStop (run_of s rows).state
 

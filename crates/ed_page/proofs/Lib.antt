@@ -1,4 +1,5 @@
 mod Kit
+mod Letters
 mod Endings
 mod Replies
 mod Copied

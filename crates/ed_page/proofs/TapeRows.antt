@@ -10,7 +10,9 @@ use Rattle.ed_orders.specs.declared.kind.Kind.TheVariants.{E, G, I}
 use Rattle.ed_machine.specs.OrderTable.{jump_order, next_word, obey_word, place_of, step, row_order}
 use Rattle.ed_machine.specs.Steps.{progress}
 use Rattle.ed_run.specs.Run.{run_orders}
-use Rattle.ed_page.specs.Answers.{EachRun1ReadsOn, EachRunReadsOn, IsEndOf}
+use Rattle.ed_page.specs.Answers.{EachRunReadsOn, IsEndOf}
+use Rattle.ed_answers.specs.FirstOrders.{run1_of}
+use Rattle.ed_answers.specs.Runs.{run_of}
 
 -- one order reads at most one row
 by_order : (k : Option Kind) (w : ℕ) (s : State) → IsEndOf (obey_word k w s).state.tape s.tape
@@ -46,12 +48,12 @@ by_steps (suc k) s =
     ∙ ap (λ (rows : List ℕ). before.0 ++ rows) here.1 ∙ before.1 in
     (before.0 ++ here.0, all)
 
-pub each_run_reads_on : EachRunReadsOn
+pub each_run_reads_on : EachRunReadsOn run_of
 unfolding run_end first_state
 each_run_reads_on s codes =
     let first = first_state s.size codes in by_steps (run_orders s.limit s.resumes paper_room first) first
 
-pub each_run1_reads_on : EachRun1ReadsOn
+pub each_run1_reads_on : EachRunReadsOn run1_of
 unfolding run_end first_state1
 each_run1_reads_on s codes =
     let first = first_state1 codes in by_steps (run_orders s.limit s.resumes paper_room first) first

@@ -10,7 +10,6 @@ use Rattle.ed_words.specs.Texts.{Text}
 use Rattle.ed_answers.specs.declared.input.TheConstants.{INPUT_BYTES}
 use Rattle.ed_answers.specs.Outcome.{Outcome, done, too_long}
 use Rattle.ed_answers.specs.Answer.{Answer, IsDue}
-use Rattle.ed_answers.specs.FirstOrders.{run1_of}
 use Rattle.ed_answers.specs.Runs.{run_of}
 use Rattle.ed_run.specs.Run.{RunEnd}
 use Rattle.ed_run.specs.declared.settings.Settings.{Settings}
@@ -78,14 +77,6 @@ source_rows lines = done (tape lines)
 -- a text spells rows, and their run ends in a state
 abbrev pub RowsEnd : (run : List ℕ → RunEnd) → Text → State → Type 0
 RowsEnd run text m = (codes : List ℕ) × (reading text ≡ rows codes) × (m ≡ (run codes).state)
-
--- the run of a tape's text ends in a state
-abbrev pub TapeEnds : Settings → Text → State → Type 0
-TapeEnds s = RowsEnd (run_of s)
-
--- the same for its run with the Initial Orders of May 1949
-abbrev pub Tape1Ends : Settings → Text → State → Type 0
-Tape1Ends s = RowsEnd (run1_of s)
 
 -- the run of a source's tape ends in a state
 abbrev pub SourceEnds : Settings → Text → State → Type 0
@@ -159,10 +150,7 @@ pub record IsShown (wanted : Answer) (Ends : Text → State → Type 0) (text : 
 abbrev pub IsEndOf : (left all : List ℕ) → Type 0
 IsEndOf left all = (read : List ℕ) × (read ++ left ≡ all)
 
--- the rows left at the end of a tape's run are the end of the tape's rows
-abbrev pub EachRunReadsOn : Type 0
-EachRunReadsOn = (s : Settings) (codes : List ℕ) → IsEndOf (run_of s codes).state.tape codes
-
--- the same with the Initial Orders of May 1949
-abbrev pub EachRun1ReadsOn : Type 0
-EachRun1ReadsOn = (s : Settings) (codes : List ℕ) → IsEndOf (run1_of s codes).state.tape codes
+-- the rows left at the end of a tape's run are the end of the tape's rows, for the run with the 41 Initial Orders or
+-- that with the 31 of May 1949
+abbrev pub EachRunReadsOn : (run : Settings → List ℕ → RunEnd) → Type 0
+EachRunReadsOn run = (s : Settings) (codes : List ℕ) → IsEndOf (run s codes).state.tape codes

@@ -2,3 +2,4 @@
 pub mod Stages
 pub mod ItemTables
 pub mod Asked
+pub mod Letters

@@ -17,7 +17,7 @@ use Rattle.ed_initial1.specs.Items.{Item1, rows_of1, word1}
 use Rattle.ed_report.specs.FirstNotes.{rule1_line}
 use Rattle.ed_report.specs.Notes.{rule_line}
 use Rattle.ed_answers.specs.Answer.{Answer, of_rows}
-use Rattle.ed_answers.specs.Outcome.{Outcome, done}
+use Rattle.ed_answers.specs.Outcome.{Outcome, done, refusal}
 use Rattle.ed_answers.specs.Tapes.{first_note}
 
 -- ---- what an item places
@@ -84,8 +84,7 @@ pub record OfFaultyTape (z : Size) (codes : List ℕ) (o : Outcome) : Type 0 whe
   pub row : ℕ
   pub cause : TapeCause
   pub fault : IsFault z cleared_cells.words first_note codes row cause
-  pub outcome : ◌≡◌ {A = Outcome}
-      (record { out = tape_table fault.is.stands.before; note = rule_line row cause; status = 3 }) o
+  pub outcome : record (refusal (rule_line row cause)) { out = tape_table fault.is.stands.before } ≡ o
 
 -- of either
 abbrev pub IsItemsOutcome : Size → List ℕ → Outcome → Type 0
@@ -115,8 +114,7 @@ pub record OfFaultyTape1 (codes : List ℕ) (o : Outcome) : Type 0 where
   pub row : ℕ
   pub cause : Tape1Cause
   pub fault : IsFault1 codes row cause
-  pub outcome : ◌≡◌ {A = Outcome}
-      (record { out = item_table1 0 31 fault.is.stands.before; note = rule1_line row cause; status = 3 }) o
+  pub outcome : record (refusal (rule1_line row cause)) { out = item_table1 0 31 fault.is.stands.before } ≡ o
 
 -- of either
 abbrev pub IsItemsOutcome1 : List ℕ → Outcome → Type 0

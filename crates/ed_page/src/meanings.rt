@@ -4,8 +4,9 @@ ghost use Rattle.std.specs.Prelude.{◌≡◌, ◌↔◌, ◌<◌, ◌≤◌, �
 ghost use Rattle.ed_words.specs.Signed.{signed};
 ghost use Rattle.ed_words.specs.Words.{digit, function_of};
 ghost use Rattle.ed_orders.specs.Kinds.{kind_of_function};
-ghost use Rattle.ed_page.specs.Meanings.{IsMeaning, letter_shown, names_shown, shift_shown};
+ghost use Rattle.ed_page.specs.Meanings.{IsMeaning, names_shown, shift_shown};
 ghost use Rattle.ed_page.specs.Pictures.{size_shown};
+ghost use Rattle.ed_page.specs.Private.Letters.{letter_byte};
 
 use crate::running::size_of;
 use ed_orders::{Kind, kind_of, places};
@@ -70,7 +71,7 @@ impl Meaning {
 
 /// The letter of an order; 0 for no order.
 fn letter_of(kind: Option<Kind>) -> u8
-    ensures { result ≡ letter_shown kind }
+    ensures { result ≡ letter_byte kind }
 {
     match kind {
         None => 0,

@@ -5,11 +5,12 @@ ghost use Rattle.ed_syntax.specs.declared.program.Line.{Line};
 ghost use Rattle.ed_answers.specs.Refusals.{IsAcceptedAs};
 ghost use Rattle.ed_link.specs.Tapes.{tape};
 ghost use Rattle.ed_answers.specs.Answer.{of_input};
-ghost use Rattle.ed_answers.specs.FirstOrders.{first_state1, tape1_answer};
+ghost use Rattle.ed_answers.specs.FirstOrders.{first_state1, run1_of, tape1_answer};
+ghost use Rattle.ed_answers.specs.Runs.{run_of};
 ghost use Rattle.ed_answers.specs.Sources.{run_answer};
 ghost use Rattle.ed_answers.specs.Tapes.{tape_answer};
-ghost use Rattle.ed_page.specs.Answers.{EachRunReadsOn, IsShown, SourceEnds, TapeEnds};
-ghost use Rattle.ed_page.specs.Answers.{EachRun1ReadsOn, Tape1Ends, picture_buffers};
+ghost use Rattle.ed_page.specs.Answers.{EachRunReadsOn, IsShown, RowsEnd, SourceEnds};
+ghost use Rattle.ed_page.specs.Answers.{picture_buffers};
 ghost use Rattle.ed_page.specs.Going.{BeginsOnTheWay};
 ghost use Rattle.ed_page.specs.Pictures.{run_settings, size_shown};
 ghost use Rattle.ed_page.specs.Private.Asked.{answers_of, ends_of};
@@ -46,10 +47,10 @@ pub extern "C" fn page_tape(
     note: &mut [u8],
     registers: &mut Registers,
 ) -> u32
-    ensures shown { let s = run_settings small orders resumes in IsShown (tape_answer s) (TapeEnds s) text.now
+    ensures shown { let s = run_settings small orders resumes in IsShown (tape_answer s) (RowsEnd (run_of s)) text.now
         (picture_buffers words.old digits.old paper.old note.old registers.old)
         (picture_buffers words.new digits.new paper.new note.new registers.new) result }
-    ensures rows { EachRunReadsOn }
+    ensures rows { EachRunReadsOn run_of }
     ensures next { (codes : List ℕ) → reading text.now ≡ rows codes
         → BeginsOnTheWay (first_state (size_shown small) codes) codes text.now words.new digits.new registers.new result }
 {
@@ -81,10 +82,10 @@ pub extern "C" fn page_tape1(
     note: &mut [u8],
     registers: &mut Registers,
 ) -> u32
-    ensures shown { let s = run_settings false orders resumes in IsShown (tape1_answer s) (Tape1Ends s) text.now
+    ensures shown { let s = run_settings false orders resumes in IsShown (tape1_answer s) (RowsEnd (run1_of s)) text.now
         (picture_buffers words.old digits.old paper.old note.old registers.old)
         (picture_buffers words.new digits.new paper.new note.new registers.new) result }
-    ensures rows { EachRun1ReadsOn }
+    ensures rows { EachRunReadsOn run1_of }
     ensures next { (codes : List ℕ) → reading text.now ≡ rows codes
         → BeginsOnTheWay (first_state1 codes) codes text.now words.new digits.new registers.new result }
 {
@@ -120,7 +121,7 @@ pub extern "C" fn page_source(
     ensures shown { let s = run_settings small orders resumes in IsShown (run_answer s) (SourceEnds s) text.now
         (picture_buffers words.old digits.old paper.old note.old registers.old)
         (picture_buffers words.new digits.new paper.new note.new registers.new) result }
-    ensures rows { EachRunReadsOn }
+    ensures rows { EachRunReadsOn run_of }
     ensures next { (lines : List Line) → IsAcceptedAs (size_shown small) text.now lines
         → BeginsOnTheWay (first_state (size_shown small) (tape lines)) (tape lines) text.now
         words.new digits.new registers.new result }

@@ -1,13 +1,24 @@
 -- The source of `examples/add.edsac` for any two numbers: its path, and what it prints.
-use Rattle.ed_words.specs.declared.order_words.TheConstants.{Z_F}
-use Rattle.ed_programs.specs.Add.{add_data, add_orders, add_pieces, add_prints, add_text}
-use Rattle.ed_programs.proofs.Kit.{◌≡◌, ℕ, ◌+◌, ◌*◌, ◌<◌, refl, sym, arith, lit<, lit≤, true, false, List, [], ◌∷◌}
-use Rattle.ed_programs.proofs.Kit.{append-nil, length, lt_true, Size, parameter_store, settings, Line, entry_state}
-use Rattle.ed_programs.proofs.Kit.{Settings, Frame, Moment, short, state, own, A, T, Z, on, stay, get_own, digits}
-use Rattle.ed_programs.proofs.Kit.{print_orders, few_digits, print_line, ComesToStop, IsIn, along, then, to_stop}
-use Rattle.ed_programs.proofs.Kit.{frame_at, moment_at, digits_printed, SourceRuns, HasRead, reads_number, are_small}
-use Rattle.ed_programs.proofs.Kit.{data_mark, number_rows, stops_from_entry, Marked, lines_of_pieces, program_runs, to}
-use Rattle.ed_programs.proofs.Kit.{calling, stop_counted, HasPair, pair_after, pair_at_entry}
+use Rattle.ed_programs.proofs.Kit.{◌≡◌, ℕ, ◌+◌, ◌*◌, ◌<◌, true, false, [], List, ◌∷◌, length, sym, refl, append-nil, A}
+use Rattle.ed_programs.proofs.Kit.{arith, lit<, lit≤, Z_F, Size, lt_true, short, state, Frame, Moment, Line, digits, T}
+use Rattle.ed_programs.proofs.Kit.{print_orders, few_digits, ComesToStop, entry_state, settings, parameter_store, Z, on}
+use Rattle.ed_programs.proofs.Kit.{Settings, stay, own, get_own, along, then, to_stop, IsIn, print_line, frame_at, to}
+use Rattle.ed_programs.proofs.Kit.{moment_at, digits_printed, SourceRuns, reads_number, HasRead, are_small, data_mark}
+use Rattle.ed_programs.proofs.Kit.{number_rows, stops_from_entry, Marked, calling, stop_counted, HasPair, pair_after}
+use Rattle.ed_programs.proofs.Kit.{pair_at_entry}
+use Rattle.ed_programs.specs.Add.{add_orders, add_text}
+use Rattle.ed_programs.proofs.SourceRuns.{lines_of_pieces, program_runs}
+use Rattle.ed_programs.specs.declared.add.TheConstants.{ADD}
+use Rattle.ed_words.specs.Texts.{Text}
+use Rattle.std.proofs.Common.{map}
+use Rattle.std.specs.Fmt.{decimal}
+
+-- the pieces of the source, and the numbers between them
+abbrev add_pieces : List Text
+add_pieces = map (λ piece. piece.now) ADD
+
+abbrev add_data : ℕ → ℕ → List Text
+add_data a b = decimal a ∷ decimal b ∷ []
 
 -- its words, with the two cells that change
 abbrev cells : ℕ → ℕ → List ℕ
@@ -69,7 +80,7 @@ module _ (a b : ℕ) (small : a + b < 65536) where
   abbrev lines : List Line
   lines = lines_of_pieces false add_pieces (add_data a b) marks
 
-  pub each_sum : (s : Settings) → SourceRuns s (add_text a b) (add_orders a b) 68 (add_prints a b)
+  pub each_sum : (s : Settings) → SourceRuns s (add_text a b) (add_orders a b) 68 (decimal (a + b))
   unfolding settings parameter_store
   each_sum s =
       let z : Size = s.size in

@@ -1,12 +1,9 @@
 -- The words of `examples/calendar.tape` from 56 to 391.
-use Rattle.std.proofs.Common.{◌&&◌, drop, nat_lt, take}
+use Rattle.ed_programs.proofs.Kit.{◌≡◌, ℕ, zero, suc, ◌+◌, ◌<◌, true, [], List, ◌∷◌, ◌++◌, length, get_or, take, drop}
+use Rattle.ed_programs.proofs.Kit.{Some, nat_lt, Option, refl, ◌∙◌, arith, lit≤, Z_F, Size, lt_true, least, short, ◌&&◌}
+use Rattle.ed_programs.proofs.Kit.{Frame, Moment, L_D, A, on, stay, Path, early, own, IsOutside, frame_at, to}
 use Rattle.std.proofs.lemmas.List.{get_or_append_left}
-use Rattle.ed_words.specs.declared.order_words.TheConstants.{L_D, Z_F}
-use Rattle.ed_machine.proofs.Kit.Places.{IsOutside}
 use Rattle.ed_machine.proofs.Kit.Window.{get_right}
-use Rattle.ed_programs.proofs.Kit.{[], ℕ, ◌++◌, ◌+◌, ◌<◌, ◌∙◌, ◌∷◌, ◌≡◌, arith, early, frame_at, get_or, least}
-use Rattle.ed_programs.proofs.Kit.{length, lit≤, lt_true, on, own, refl, short, stay, suc, to, true, zero, A, Frame}
-use Rattle.ed_programs.proofs.Kit.{List, Moment, Option, Path, Size, Some}
 
 -- the cells that change: the numbers from 0H on, the order that prints a sign, with its link and the title's letters,
 -- the order that takes a power of ten away, the links of the other two routines, and the master's made orders

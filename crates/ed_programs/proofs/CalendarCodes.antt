@@ -1,7 +1,9 @@
 -- The codes that the program of `examples/calendar.tape` prints.
-use Rattle.std.specs.Prelude.{ℕ, zero, suc, ◌-◌, ◌*◌, ◌/◌, ◌%◌, ◌==◌, nat_lt, if◌then◌else◌}
-use Rattle.std.specs.Prelude.{List, [], ◌∷◌, ◌++◌, get_or, replicate}
+use Rattle.std.specs.Prelude.{replicate, ℕ, zero, suc, ◌-◌, ◌*◌, ◌/◌, ◌%◌, ◌==◌, nat_lt, if◌then◌else◌, List, [], ◌∷◌}
+use Rattle.std.specs.Prelude.{◌++◌, get_or}
 use Rattle.ed_programs.specs.Calendar.{month_length, weekday_count}
+use Rattle.std.proofs.Common.{ap, arith, refl, ◌+◌, ◌∙◌, ◌≡◌}
+use Rattle.std.specs.List.{range_with_len}
 
 -- the days of a week before the first of the month, as the program counts them
 abbrev pub place : ℕ → ℕ → ℕ
@@ -32,6 +34,17 @@ head_codes =
 -- a day: a space, the tens or a space, and the units
 abbrev pub day_codes : ℕ → List ℕ
 day_codes day = 20 ∷ (if nat_lt day 10 then 20 else day / 10) ∷ day % 10 ∷ []
+
+-- n days from one on
+abbrev pub days_from : ℕ → ℕ → List ℕ
+days_from day zero = []
+days_from day (suc n) = day ∷ days_from (suc day) n
+
+pub range_is : (day n : ℕ) → range_with_len day n ≡ days_from day n
+range_is day zero = refl
+range_is day (suc n) =
+    ap (λ (ds : List ℕ). day ∷ ds)
+    (range_is (day + 1) n ∙ (let next : day + 1 ≡ suc day = omega arith in ap (λ (d : ℕ). days_from d n) next))
 
 -- n days from one on, with the number of days in the first one's week before it
 abbrev pub days_codes : ℕ → ℕ → ℕ → List ℕ

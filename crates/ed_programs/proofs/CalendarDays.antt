@@ -1,11 +1,8 @@
 -- What the program of `examples/calendar.tape` counts is the calendar, from 1901 to 2099.
-use Rattle.std.proofs.Common.{◌≡◌, ◌∙◌, ℕ, zero, suc, ◌+◌, ◌-◌, ◌*◌, ◌/◌, ◌%◌, ◌≤◌, Bool, true, false}
-use Rattle.std.proofs.Common.{refl, ap, arith, sum, take}
-use Rattle.std.specs.Prelude.{◌==◌, if◌then◌else◌, not}
-use Rattle.std.proofs.lemmas.Bool.Decides.{nat_tests}
-use Rattle.ed_sources.proofs.Decimals.{among}
-use Rattle.ed_programs.specs.Calendar.{days_before, is_leap, month_lengths, weekday, year_length, years_length}
-use Rattle.ed_programs.proofs.CalendarCodes.{place}
+use Rattle.ed_programs.proofs.Kit.{◌≡◌, ℕ, zero, suc, ◌+◌, ◌-◌, ◌*◌, ◌/◌, ◌%◌, ◌≤◌, Bool, true, false, not, take, ◌==◌}
+use Rattle.ed_programs.proofs.Kit.{if◌then◌else◌, refl, ap, ◌∙◌, arith, nat_tests, sum, among, is_leap, place}
+use Rattle.ed_programs.specs.Calendar.{days_before, month_lengths, weekday, years_length}
+use Rattle.std.proofs.Common.{[], ◌∷◌}
 
 -- ---- leap years and their days
 
@@ -26,6 +23,15 @@ days_next : (b : Bool) (n : ℕ) → (n % 4 == 3) ≡ b
 days_next true n h = grind (arith, nat_tests)
 days_next false n h = grind (arith, nat_tests)
 
+year_length_is : (year : ℕ) → sum (month_lengths year) ≡ (if is_leap year then 366 else 365)
+year_length_is year = by_test (is_leap year)
+  where
+    by_test : (b : Bool)
+        → sum (31 ∷ (if b then 29 else 28) ∷ 31 ∷ 30 ∷ 31 ∷ 30 ∷ 31 ∷ 31 ∷ 30 ∷ 31 ∷ 30 ∷ 31 ∷ [])
+        ≡ (if b then 366 else 365)
+    by_test true = refl
+    by_test false = refl
+
 next_year : (n : ℕ) → 1900 + suc n ≡ 1901 + n
 next_year n = omega arith
 
@@ -33,7 +39,8 @@ next_year n = omega arith
 pub years_length_is : (n : ℕ) → n ≤ 199 → years_length (suc n) ≡ 365 + 365 * n + n / 4
 years_length_is zero few = refl
 years_length_is (suc n) few =
-    ap (λ (y : ℕ). years_length (suc n) + year_length y) (next_year n)
+    ap (λ (y : ℕ). years_length (suc n) + sum (month_lengths y)) (next_year n)
+    ∙ ap (λ (d : ℕ). years_length (suc n) + d) (year_length_is (1901 + n))
     ∙ ap (λ (b : Bool). years_length (suc n) + (if b then 366 else 365)) (leap_is n (omega arith))
     ∙ ap (λ (d : ℕ). d + (if n % 4 == 3 then 366 else 365)) (years_length_is n (omega arith))
     ∙ days_next (n % 4 == 3) n refl

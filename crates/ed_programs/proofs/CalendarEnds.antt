@@ -1,68 +1,19 @@
 -- The tape `examples/calendar.tape` from its first row to its stop, for any month and year.
-use Rattle.std.proofs.Common.{◌≡◌, ℕ, ◌-◌, ◌≤◌, refl, subst, false, List, [], ◌∷◌, ◌++◌}
-use Rattle.ed_words.specs.declared.size.Size.{Size}
-use Rattle.ed_words.specs.declared.size.Size.TheVariants.{Small, Full}
-use Rattle.ed_machine.specs.State.{State}
-use Rattle.ed_notation.specs.Faults.{TapeEntry}
-use Rattle.ed_notation.specs.Reading.{reading_on}
-use Rattle.ed_machine.proofs.Kit.Frames.{Moment, state}
-use Rattle.ed_machine.proofs.Kit.Window.{patched}
-use Rattle.ed_run.specs.declared.settings.Settings.{Settings}
-use Rattle.ed_initial.specs.Entry.{first_state}
-use Rattle.ed_routines.specs.Digits.{digits}
-use Rattle.ed_routines.proofs.Journeys.{ComesToStop}
-use Rattle.ed_sources.proofs.Entries.{moment_at}
-use Rattle.ed_laws.specs.TapeEntries.{tape_state}
-use Rattle.ed_programs.specs.Calendar.{calendar_orders}
+use Rattle.ed_programs.proofs.Kit.{◌≡◌, ℕ, ◌-◌, ◌≤◌, false, [], List, ◌∷◌, ◌++◌, map, get_or, refl, subst, Text, Size, State}
+use Rattle.ed_programs.proofs.Kit.{state, Moment, digits, ComesToStop, Settings, TapeEntry, first_state, Full, Small}
+use Rattle.ed_programs.proofs.Kit.{patched, reading_on, moment_at, tape_state, calendar_orders, calendar_codes}
+use Rattle.ed_programs.specs.declared.calendar.TheConstants.{CALENDAR}
 use Rattle.ed_programs.proofs.CalendarCells.{IsAround, cells, frame, loaded}
-use Rattle.ed_programs.proofs.CalendarCodes.{calendar_codes}
 use Rattle.ed_programs.proofs.CalendarProgram.{calendar_stops, entering}
-use Rattle.ed_programs.proofs.TapeRuns.{Arrives}
+use Rattle.ed_programs.proofs.TapeRuns.{Arrives, rows_in}
 
--- the rows up to the entry, and the rest
+-- the text up to the entry
+abbrev pub front : Text
+front = get_or (map (λ piece. piece.now) CALENDAR) 0 []
+
+-- its rows, and the rest
 abbrev pub calendar_rows : List ℕ → List ℕ
-calendar_rows rest =
-    5 ∷ 4 ∷ 5 ∷ 14 ∷ 0 ∷ 3 ∷ 5 ∷ 0 ∷ 17 ∷ 5 ∷ 4 ∷ 6 ∷ 14 ∷ 0 ∷ 2 ∷ 9 ∷ 0 ∷ 17 ∷ 5 ∷ 4 ∷ 7 ∷ 14 ∷ 0 ∷ 3 ∷ 3 ∷ 0 ∷ 17
-    ∷ 5 ∷ 4 ∷ 9 ∷ 14 ∷ 0 ∷ 2 ∷ 0 ∷ 0 ∷ 17 ∷ 5 ∷ 3 ∷ 5 ∷ 0 ∷ 14 ∷ 0 ∷ 17 ∷ 0 ∷ 17 ∷ 0 ∷ 1 ∷ 17 ∷ 0 ∷ 17 ∷ 0 ∷ 17 ∷ 0
-    ∷ 19 ∷ 0 ∷ 17 ∷ 1 ∷ 17 ∷ 0 ∷ 17 ∷ 0 ∷ 5 ∷ 17 ∷ 0 ∷ 9 ∷ 5 ∷ 0 ∷ 19 ∷ 31 ∷ 2 ∷ 0 ∷ 4 ∷ 6 ∷ 19 ∷ 0 ∷ 17 ∷ 0 ∷ 17 ∷ 0
-    ∷ 17 ∷ 12 ∷ 2 ∷ 0 ∷ 21 ∷ 20 ∷ 17 ∷ 12 ∷ 2 ∷ 3 ∷ 21 ∷ 0 ∷ 2 ∷ 17 ∷ 28 ∷ 3 ∷ 0 ∷ 21 ∷ 0 ∷ 5 ∷ 0 ∷ 0 ∷ 17 ∷ 0 ∷ 5 ∷ 0
-    ∷ 17 ∷ 0 ∷ 5 ∷ 17 ∷ 12 ∷ 2 ∷ 2 ∷ 21 ∷ 18 ∷ 17 ∷ 9 ∷ 2 ∷ 4 ∷ 25 ∷ 0 ∷ 17 ∷ 0 ∷ 3 ∷ 19 ∷ 0 ∷ 17 ∷ 24 ∷ 17 ∷ 0 ∷ 1
-    ∷ 5 ∷ 19 ∷ 0 ∷ 1 ∷ 4 ∷ 17 ∷ 0 ∷ 1 ∷ 5 ∷ 19 ∷ 0 ∷ 1 ∷ 5 ∷ 17 ∷ 0 ∷ 1 ∷ 5 ∷ 19 ∷ 0 ∷ 1 ∷ 5 ∷ 17 ∷ 0 ∷ 1 ∷ 5 ∷ 19 ∷ 0
-    ∷ 1 ∷ 5 ∷ 19 ∷ 0 ∷ 1 ∷ 5 ∷ 17 ∷ 0 ∷ 1 ∷ 5 ∷ 19 ∷ 0 ∷ 1 ∷ 5 ∷ 17 ∷ 0 ∷ 1 ∷ 5 ∷ 19 ∷ 5 ∷ 2 ∷ 0 ∷ 0 ∷ 14 ∷ 27 ∷ 14
-    ∷ 28 ∷ 3 ∷ 17 ∷ 5 ∷ 1 ∷ 0 ∷ 18 ∷ 5 ∷ 6 ∷ 21 ∷ 9 ∷ 1 ∷ 2 ∷ 18 ∷ 28 ∷ 3 ∷ 18 ∷ 28 ∷ 2 ∷ 17 ∷ 7 ∷ 3 ∷ 18 ∷ 12 ∷ 2 ∷ 5
-    ∷ 21 ∷ 27 ∷ 2 ∷ 18 ∷ 5 ∷ 6 ∷ 21 ∷ 0 ∷ 17 ∷ 9 ∷ 5 ∷ 1 ∷ 18 ∷ 15 ∷ 17 ∷ 20 ∷ 17 ∷ 20 ∷ 17 ∷ 20 ∷ 17 ∷ 20 ∷ 17 ∷ 20
-    ∷ 17 ∷ 20 ∷ 17 ∷ 20 ∷ 17 ∷ 20 ∷ 17 ∷ 20 ∷ 17 ∷ 20 ∷ 17 ∷ 11 ∷ 17 ∷ 18 ∷ 17 ∷ 24 ∷ 17 ∷ 15 ∷ 17 ∷ 20 ∷ 17 ∷ 12 ∷ 17
-    ∷ 7 ∷ 17 ∷ 20 ∷ 17 ∷ 23 ∷ 17 ∷ 9 ∷ 17 ∷ 20 ∷ 17 ∷ 5 ∷ 17 ∷ 7 ∷ 17 ∷ 20 ∷ 17 ∷ 2 ∷ 17 ∷ 3 ∷ 17 ∷ 20 ∷ 17 ∷ 5 ∷ 17
-    ∷ 21 ∷ 17 ∷ 20 ∷ 17 ∷ 17 ∷ 17 ∷ 4 ∷ 17 ∷ 20 ∷ 17 ∷ 12 ∷ 17 ∷ 28 ∷ 17 ∷ 18 ∷ 17 ∷ 24 ∷ 17 ∷ 11 ∷ 17 ∷ 10 ∷ 17 ∷ 28
-    ∷ 17 ∷ 22 ∷ 17 ∷ 17 ∷ 17 ∷ 3 ∷ 17 ∷ 29 ∷ 17 ∷ 23 ∷ 17 ∷ 28 ∷ 17 ∷ 4 ∷ 17 ∷ 28 ∷ 17 ∷ 0 ∷ 17 ∷ 4 ∷ 17 ∷ 23 ∷ 17
-    ∷ 28 ∷ 17 ∷ 6 ∷ 17 ∷ 10 ∷ 17 ∷ 7 ∷ 17 ∷ 22 ∷ 17 ∷ 10 ∷ 17 ∷ 7 ∷ 17 ∷ 25 ∷ 17 ∷ 28 ∷ 17 ∷ 7 ∷ 17 ∷ 27 ∷ 17 ∷ 12
-    ∷ 17 ∷ 3 ∷ 17 ∷ 0 ∷ 17 ∷ 9 ∷ 17 ∷ 30 ∷ 17 ∷ 5 ∷ 17 ∷ 22 ∷ 17 ∷ 9 ∷ 17 ∷ 31 ∷ 17 ∷ 19 ∷ 17 ∷ 3 ∷ 17 ∷ 30 ∷ 17 ∷ 5
-    ∷ 2 ∷ 9 ∷ 0 ∷ 14 ∷ 27 ∷ 14 ∷ 28 ∷ 3 ∷ 17 ∷ 5 ∷ 3 ∷ 8 ∷ 18 ∷ 5 ∷ 1 ∷ 4 ∷ 21 ∷ 28 ∷ 1 ∷ 5 ∷ 21 ∷ 5 ∷ 8 ∷ 18 ∷ 5 ∷ 6
-    ∷ 21 ∷ 5 ∷ 4 ∷ 21 ∷ 28 ∷ 3 ∷ 21 ∷ 0 ∷ 17 ∷ 27 ∷ 1 ∷ 5 ∷ 18 ∷ 5 ∷ 3 ∷ 21 ∷ 28 ∷ 4 ∷ 21 ∷ 28 ∷ 7 ∷ 21 ∷ 5 ∷ 4 ∷ 21
-    ∷ 3 ∷ 7 ∷ 18 ∷ 5 ∷ 6 ∷ 21 ∷ 28 ∷ 4 ∷ 21 ∷ 28 ∷ 1 ∷ 4 ∷ 21 ∷ 12 ∷ 7 ∷ 21 ∷ 27 ∷ 2 ∷ 5 ∷ 18 ∷ 9 ∷ 4 ∷ 21 ∷ 5 ∷ 6
-    ∷ 21 ∷ 28 ∷ 7 ∷ 21 ∷ 5 ∷ 1 ∷ 4 ∷ 21 ∷ 3 ∷ 2 ∷ 6 ∷ 18 ∷ 9 ∷ 1 ∷ 6 ∷ 21 ∷ 5 ∷ 6 ∷ 21 ∷ 28 ∷ 8 ∷ 18 ∷ 28 ∷ 2 ∷ 17 ∷ 7
-    ∷ 8 ∷ 18 ∷ 12 ∷ 1 ∷ 7 ∷ 21 ∷ 27 ∷ 5 ∷ 18 ∷ 5 ∷ 6 ∷ 21 ∷ 28 ∷ 3 ∷ 21 ∷ 25 ∷ 5 ∷ 1 ∷ 2 ∷ 17 ∷ 25 ∷ 19 ∷ 5 ∷ 4 ∷ 21
-    ∷ 9 ∷ 4 ∷ 21 ∷ 0 ∷ 17 ∷ 5 ∷ 3 ∷ 3 ∷ 0 ∷ 14 ∷ 27 ∷ 14 ∷ 28 ∷ 3 ∷ 17 ∷ 5 ∷ 1 ∷ 7 ∷ 18 ∷ 5 ∷ 3 ∷ 21 ∷ 8 ∷ 8 ∷ 21 ∷ 28
-    ∷ 8 ∷ 21 ∷ 12 ∷ 9 ∷ 21 ∷ 3 ∷ 1 ∷ 6 ∷ 18 ∷ 5 ∷ 6 ∷ 21 ∷ 28 ∷ 3 ∷ 21 ∷ 25 ∷ 19 ∷ 7 ∷ 6 ∷ 21 ∷ 25 ∷ 1 ∷ 17 ∷ 28 ∷ 6
-    ∷ 21 ∷ 28 ∷ 8 ∷ 21 ∷ 5 ∷ 3 ∷ 21 ∷ 3 ∷ 3 ∷ 18 ∷ 5 ∷ 6 ∷ 21 ∷ 0 ∷ 17 ∷ 5 ∷ 5 ∷ 6 ∷ 14 ∷ 27 ∷ 14 ∷ 28 ∷ 18 ∷ 27 ∷ 23
-    ∷ 28 ∷ 3 ∷ 21 ∷ 5 ∷ 1 ∷ 21 ∷ 28 ∷ 4 ∷ 18 ∷ 27 ∷ 23 ∷ 28 ∷ 3 ∷ 21 ∷ 5 ∷ 21 ∷ 5 ∷ 6 ∷ 21 ∷ 28 ∷ 1 ∷ 0 ∷ 21 ∷ 12 ∷ 21
-    ∷ 3 ∷ 3 ∷ 2 ∷ 18 ∷ 5 ∷ 6 ∷ 21 ∷ 28 ∷ 2 ∷ 21 ∷ 28 ∷ 5 ∷ 21 ∷ 5 ∷ 2 ∷ 21 ∷ 28 ∷ 1 ∷ 1 ∷ 21 ∷ 27 ∷ 2 ∷ 4 ∷ 18 ∷ 5 ∷ 6
-    ∷ 21 ∷ 28 ∷ 2 ∷ 21 ∷ 28 ∷ 5 ∷ 21 ∷ 5 ∷ 2 ∷ 21 ∷ 12 ∷ 1 ∷ 8 ∷ 21 ∷ 5 ∷ 1 ∷ 1 ∷ 21 ∷ 5 ∷ 6 ∷ 21 ∷ 28 ∷ 1 ∷ 1 ∷ 21
-    ∷ 28 ∷ 5 ∷ 21 ∷ 5 ∷ 1 ∷ 1 ∷ 21 ∷ 28 ∷ 1 ∷ 0 ∷ 21 ∷ 28 ∷ 5 ∷ 21 ∷ 5 ∷ 1 ∷ 0 ∷ 21 ∷ 3 ∷ 8 ∷ 18 ∷ 5 ∷ 6 ∷ 21 ∷ 28 ∷ 1
-    ∷ 1 ∷ 21 ∷ 27 ∷ 3 ∷ 9 ∷ 18 ∷ 5 ∷ 6 ∷ 21 ∷ 28 ∷ 3 ∷ 1 ∷ 21 ∷ 28 ∷ 5 ∷ 21 ∷ 5 ∷ 3 ∷ 1 ∷ 21 ∷ 5 ∷ 6 ∷ 21 ∷ 12 ∷ 1
-    ∷ 21 ∷ 28 ∷ 5 ∷ 21 ∷ 5 ∷ 1 ∷ 2 ∷ 21 ∷ 28 ∷ 1 ∷ 9 ∷ 21 ∷ 5 ∷ 5 ∷ 1 ∷ 18 ∷ 5 ∷ 6 ∷ 21 ∷ 28 ∷ 1 ∷ 2 ∷ 21 ∷ 3 ∷ 5 ∷ 7
-    ∷ 18 ∷ 28 ∷ 5 ∷ 21 ∷ 5 ∷ 1 ∷ 2 ∷ 21 ∷ 28 ∷ 2 ∷ 21 ∷ 0 ∷ 17 ∷ 5 ∷ 2 ∷ 21 ∷ 28 ∷ 5 ∷ 1 ∷ 18 ∷ 28 ∷ 2 ∷ 17 ∷ 5 ∷ 5
-    ∷ 1 ∷ 18 ∷ 3 ∷ 4 ∷ 5 ∷ 18 ∷ 28 ∷ 5 ∷ 1 ∷ 18 ∷ 5 ∷ 5 ∷ 9 ∷ 18 ∷ 0 ∷ 17 ∷ 5 ∷ 1 ∷ 3 ∷ 21 ∷ 28 ∷ 2 ∷ 21 ∷ 12 ∷ 2 ∷ 7
-    ∷ 21 ∷ 3 ∷ 6 ∷ 2 ∷ 18 ∷ 28 ∷ 2 ∷ 7 ∷ 21 ∷ 5 ∷ 2 ∷ 21 ∷ 28 ∷ 1 ∷ 21 ∷ 12 ∷ 5 ∷ 21 ∷ 25 ∷ 19 ∷ 7 ∷ 6 ∷ 21 ∷ 25 ∷ 19
-    ∷ 28 ∷ 6 ∷ 21 ∷ 28 ∷ 1 ∷ 3 ∷ 2 ∷ 18 ∷ 7 ∷ 7 ∷ 8 ∷ 18 ∷ 28 ∷ 2 ∷ 17 ∷ 7 ∷ 8 ∷ 0 ∷ 18 ∷ 28 ∷ 2 ∷ 17 ∷ 5 ∷ 8 ∷ 2 ∷ 18
-    ∷ 0 ∷ 17 ∷ 5 ∷ 1 ∷ 9 ∷ 25 ∷ 0 ∷ 17 ∷ 5 ∷ 2 ∷ 0 ∷ 25 ∷ 0 ∷ 17 ∷ 5 ∷ 2 ∷ 1 ∷ 25 ∷ 28 ∷ 8 ∷ 4 ∷ 18 ∷ 27 ∷ 25 ∷ 28
-    ∷ 21 ∷ 5 ∷ 3 ∷ 21 ∷ 28 ∷ 8 ∷ 8 ∷ 18 ∷ 27 ∷ 22 ∷ 28 ∷ 1 ∷ 1 ∷ 25 ∷ 5 ∷ 2 ∷ 5 ∷ 21 ∷ 28 ∷ 9 ∷ 2 ∷ 18 ∷ 27 ∷ 25 ∷ 28
-    ∷ 2 ∷ 3 ∷ 21 ∷ 5 ∷ 1 ∷ 5 ∷ 21 ∷ 28 ∷ 2 ∷ 21 ∷ 12 ∷ 2 ∷ 7 ∷ 21 ∷ 5 ∷ 2 ∷ 6 ∷ 21 ∷ 12 ∷ 2 ∷ 21 ∷ 5 ∷ 1 ∷ 2 ∷ 21 ∷ 5
-    ∷ 6 ∷ 21 ∷ 28 ∷ 1 ∷ 2 ∷ 21 ∷ 3 ∷ 1 ∷ 1 ∷ 0 ∷ 18 ∷ 28 ∷ 5 ∷ 21 ∷ 5 ∷ 1 ∷ 2 ∷ 21 ∷ 9 ∷ 1 ∷ 6 ∷ 21 ∷ 9 ∷ 1 ∷ 6 ∷ 21
-    ∷ 9 ∷ 1 ∷ 6 ∷ 21 ∷ 3 ∷ 1 ∷ 0 ∷ 1 ∷ 18 ∷ 5 ∷ 6 ∷ 21 ∷ 28 ∷ 2 ∷ 8 ∷ 21 ∷ 28 ∷ 5 ∷ 21 ∷ 7 ∷ 2 ∷ 8 ∷ 21 ∷ 7 ∷ 3 ∷ 21
-    ∷ 12 ∷ 1 ∷ 3 ∷ 21 ∷ 12 ∷ 5 ∷ 21 ∷ 3 ∷ 1 ∷ 3 ∷ 1 ∷ 18 ∷ 9 ∷ 1 ∷ 6 ∷ 21 ∷ 5 ∷ 6 ∷ 21 ∷ 28 ∷ 1 ∷ 2 ∷ 0 ∷ 18 ∷ 27 ∷ 22
-    ∷ 28 ∷ 2 ∷ 6 ∷ 21 ∷ 28 ∷ 5 ∷ 21 ∷ 7 ∷ 2 ∷ 6 ∷ 21 ∷ 27 ∷ 1 ∷ 1 ∷ 0 ∷ 18 ∷ 12 ∷ 2 ∷ 7 ∷ 21 ∷ 5 ∷ 2 ∷ 6 ∷ 21 ∷ 9 ∷ 2
-    ∷ 4 ∷ 21 ∷ 9 ∷ 2 ∷ 9 ∷ 21 ∷ 3 ∷ 1 ∷ 1 ∷ 0 ∷ 18 ∷ 13 ∷ 17 ∷ 28 ∷ 5 ∷ 1 ∷ 25 ∷ 3 ∷ 5 ∷ 6 ∷ 14 ∷ 0 ∷ 17 ∷ rest
+calendar_rows rest = rows_in front ++ rest
 
 -- the words that they place, the last one first
 abbrev placed : List (ℕ × ℕ)

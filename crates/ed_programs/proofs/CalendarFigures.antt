@@ -1,11 +1,7 @@
 -- The printing of a number in `examples/calendar.tape`.
-use Rattle.std.proofs.Common.{◌^◌}
-use Rattle.ed_machine.proofs.Kit.Moves.{L}
-use Rattle.ed_machine.proofs.Kit.Shifts.{L512F, LD}
-use Rattle.ed_machine.proofs.Kit.Sums.{Remains}
-use Rattle.ed_programs.proofs.Kit.{[], ℕ, ◌*◌, ◌+◌, ◌-◌, ◌<◌, ◌∷◌, ◌≡◌, ◌≤◌, any, arith, counted, followed, lit<}
-use Rattle.ed_programs.proofs.Kit.{lit≤, on, out, own, prints, refl, short, stay, suc, to, zero, A, E_jumps, G_jumps}
-use Rattle.ed_programs.proofs.Kit.{G_stays, Moment, O, Option, Path, S, Size, Some, T, U}
+use Rattle.ed_programs.proofs.Kit.{◌≡◌, ℕ, zero, suc, ◌+◌, ◌-◌, ◌*◌, ◌^◌, ◌<◌, ◌≤◌, [], ◌∷◌, Some, Option, refl, arith}
+use Rattle.ed_programs.proofs.Kit.{lit<, lit≤, Size, short, Moment, A, E_jumps, G_jumps, G_stays, L, O, S, T, U, on, LD}
+use Rattle.ed_programs.proofs.Kit.{followed, prints, stay, Path, any, out, own, L512F, Remains, to, counted}
 use Rattle.ed_programs.proofs.CalendarCells.{ahead, at, frame, outside, IsAround, Work}
 
 -- the powers of ten, the greatest first

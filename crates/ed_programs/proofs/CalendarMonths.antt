@@ -1,15 +1,12 @@
 -- The count of the months in `examples/calendar.tape`, and the sevens that are taken away.
-use Rattle.std.proofs.Common.{◌%◌, ◌/◌, nat_lt, take}
-use Rattle.std.specs.Prelude.{sum}
-use Rattle.std.specs.List.{fold, list_all}
-use Rattle.std.proofs.lemmas.Bool.{and_parts}
+use Rattle.ed_programs.proofs.Kit.{◌≡◌, ℕ, zero, suc, ◌+◌, ◌-◌, ◌*◌, ◌/◌, ◌%◌, ◌<◌, ◌≤◌, true, [], List, ◌∷◌, length, A}
+use Rattle.ed_programs.proofs.Kit.{get_or, take, nat_lt, Option, refl, ◌∙◌, arith, lit<, list_all, and_parts, Size, sum}
+use Rattle.ed_programs.proofs.Kit.{lt_of, short, Moment, E_jumps, E_stays, S, T, followed, on, stay, Path, out, own, to}
+use Rattle.ed_programs.proofs.Kit.{counted}
+use Rattle.std.specs.List.{fold}
 use Rattle.std.proofs.lemmas.List.{length-take-le}
-use Rattle.ed_words.proofs.Numbers.{lt_of}
-use Rattle.ed_programs.proofs.Kit.{[], ℕ, ◌*◌, ◌+◌, ◌-◌, ◌<◌, ◌∙◌, ◌∷◌, ◌≡◌, ◌≤◌, arith, counted, followed, get_or}
-use Rattle.ed_programs.proofs.Kit.{length, lit<, on, out, own, refl, short, stay, suc, to, true, zero, A, E_jumps}
-use Rattle.ed_programs.proofs.Kit.{E_stays, List, Moment, Option, Path, S, Size, T}
-use Rattle.ed_programs.proofs.CalendarCells.{adds_cell, at, frame, have_take, length_at, lengths, outside, Have}
-use Rattle.ed_programs.proofs.CalendarCells.{IsAround, Work}
+use Rattle.ed_programs.proofs.CalendarCells.{adds_cell, at, frame, have_take, length_at, lengths, outside, Have, Work}
+use Rattle.ed_programs.proofs.CalendarCells.{IsAround}
 
 -- a sum by its first number
 sum_from : (w : ℕ) (ls : List ℕ) → fold ◌+◌ w ls ≡ w + sum ls

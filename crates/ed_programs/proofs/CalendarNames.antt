@@ -1,15 +1,7 @@
 -- The name of the month in `examples/calendar.tape`.
-use Rattle.std.proofs.Common.{nat_lt, Bool}
-use Rattle.std.specs.Prelude.{◌&&◌, ◌==◌}
-use Rattle.std.proofs.lemmas.Bool.{and_parts}
-use Rattle.ed_words.proofs.Numbers.{eq_of, lt_of}
-use Rattle.ed_machine.proofs.Kit.Moves.{L}
-use Rattle.ed_machine.proofs.Kit.Shifts.{LD}
-use Rattle.ed_sources.proofs.Decimals.{among}
-use Rattle.ed_programs.proofs.CalendarCodes.{name_codes}
-use Rattle.ed_programs.proofs.Kit.{[], ℕ, ◌*◌, ◌+◌, ◌<◌, ◌∙◌, ◌∷◌, ◌≡◌, arith, followed, get_or, length, lit<, on}
-use Rattle.ed_programs.proofs.Kit.{out, own, refl, short, stay, subst, suc, to, true, A, List, Moment, Option, Path}
-use Rattle.ed_programs.proofs.Kit.{S, Size, T, U}
+use Rattle.ed_programs.proofs.Kit.{◌≡◌, ℕ, suc, ◌+◌, ◌*◌, ◌<◌, Bool, true, [], List, ◌∷◌, length, get_or, ◌==◌, nat_lt}
+use Rattle.ed_programs.proofs.Kit.{Option, refl, ◌∙◌, subst, arith, lit<, and_parts, Size, eq_of, lt_of, short, Moment}
+use Rattle.ed_programs.proofs.Kit.{◌&&◌, A, L, S, T, U, followed, on, stay, Path, out, own, LD, among, name_codes, to}
 use Rattle.ed_programs.proofs.CalendarCells.{adds_cell, at, frame, outside, sign_at, signs, Have, IsAround, Work}
 use Rattle.ed_programs.proofs.CalendarSigns.{in_words}
 

@@ -1,18 +1,14 @@
 -- The days in `examples/calendar.tape`: the spaces before the first, and each day.
-use Rattle.std.proofs.Common.{◌%◌, ◌/◌, replicate}
-use Rattle.std.specs.Prelude.{◌==◌, sum}
-use Rattle.std.proofs.lemmas.Bool.{cases_lt}
-use Rattle.std.proofs.lemmas.Bool.Decides.{nat_tests}
-use Rattle.ed_words.proofs.Numbers.{lt_false}
-use Rattle.ed_programs.specs.Calendar.{day_orders, days_from}
-use Rattle.ed_programs.proofs.CalendarCodes.{day_codes, days_codes}
-use Rattle.ed_programs.proofs.Kit.{[], ℕ, ◌*◌, ◌+◌, ◌-◌, ◌<◌, ◌∙◌, ◌∷◌, ◌≡◌, ◌≤◌, arith, calls_own, counted, false}
-use Rattle.ed_programs.proofs.Kit.{followed, inl, inr, lit<, lt_true, map, on, own, prints, refl, short, stay, subst}
-use Rattle.ed_programs.proofs.Kit.{suc, sym, to, zero, A, E_jumps, E_stays, G_jumps, G_stays, List, Moment, O, Option}
-use Rattle.ed_programs.proofs.Kit.{Path, S, Size, Some, T, U}
+use Rattle.ed_programs.proofs.Kit.{◌≡◌, ℕ, zero, suc, ◌+◌, ◌-◌, ◌*◌, ◌/◌, ◌%◌, ◌<◌, ◌≤◌, false, [], List, ◌∷◌, map, sym}
+use Rattle.ed_programs.proofs.Kit.{◌==◌, Some, Option, refl, ◌∙◌, subst, inl, inr, arith, lit<, cases_lt, Size, lt_true}
+use Rattle.ed_programs.proofs.Kit.{lt_false, short, Moment, nat_tests, replicate, sum, A, E_jumps, E_stays, G_jumps, O}
+use Rattle.ed_programs.proofs.Kit.{G_stays, S, T, U, followed, on, prints, stay, Path, own, day_codes, to}
+use Rattle.ed_programs.proofs.Kit.{days_codes, counted, calls_own}
+use Rattle.ed_programs.specs.Calendar.{day_orders}
 use Rattle.ed_programs.proofs.CalendarMonths.{sum_cons}
 use Rattle.ed_programs.proofs.CalendarCells.{at, frame, IsAround, Work}
 use Rattle.ed_programs.proofs.CalendarFigures.{prints_one, prints_two}
+use Rattle.ed_programs.proofs.CalendarCodes.{days_from}
 
 module _ (z : Size) (m : Moment) (o : IsAround m.words) where
   -- ---- three spaces for each day before the first

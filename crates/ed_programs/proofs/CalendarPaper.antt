@@ -1,22 +1,18 @@
 -- The codes that the program of `examples/calendar.tape` prints are the calendar on paper.
-use Rattle.std.proofs.Common.{◌≡◌, ◌∙◌, ℕ, zero, suc, ◌+◌, ◌-◌, ◌*◌, ◌/◌, ◌%◌, ◌<◌, ◌≤◌, Bool, true, false}
-use Rattle.std.proofs.Common.{refl, sym, ap, arith, lit<, append_assoc, append-nil}
-use Rattle.std.proofs.Common.{List, [], ◌∷◌, ◌++◌, codes, flat_map, get_or, nat_lt, replicate}
-use Rattle.std.specs.Prelude.{◌==◌, if◌then◌else◌}
-use Rattle.std.specs.Fmt.{decimal}
-use Rattle.std.proofs.lemmas.Bool.Decides.{nat_tests}
-use Rattle.ed_words.proofs.Numbers.{eq_of, lt_of, not_eq_of, not_lt_of}
-use Rattle.ed_words.specs.Texts.{Text}
-use Rattle.ed_printer.specs.Paper.{paper, paper_from}
-use Rattle.ed_printer.specs.declared.printer.Shift.TheVariants.{Figures}
-use Rattle.ed_routines.specs.Digits.{digits, without_zeros}
-use Rattle.ed_sources.proofs.Papers.{number_shown}
-use Rattle.ed_programs.specs.Calendar.{calendar_days, calendar_gap, calendar_heads, calendar_prints}
-use Rattle.ed_programs.specs.Calendar.{day_text, days_from, is_leap, month_length, month_names, new_line, week_end}
-use Rattle.ed_programs.specs.Calendar.{weekday}
-use Rattle.ed_programs.proofs.CalendarCodes.{calendar_codes, day_codes, days_codes, head_codes, place}
-use Rattle.ed_programs.proofs.CalendarCodes.{title_codes, year_codes}
+use Rattle.ed_programs.proofs.Kit.{◌≡◌, ℕ, zero, suc, ◌+◌, ◌-◌, ◌*◌, ◌/◌, ◌%◌, ◌<◌, ◌≤◌, Bool, true, false, [], List}
+use Rattle.ed_programs.proofs.Kit.{◌∷◌, ◌++◌, get_or, ◌==◌, if◌then◌else◌, nat_lt, codes, decimal, sym, refl, ap, ◌∙◌}
+use Rattle.ed_programs.proofs.Kit.{append_assoc, append-nil, arith, lit<, Text, eq_of, lt_of, paper, digits, nat_tests}
+use Rattle.ed_programs.proofs.Kit.{replicate, not_lt_of, paper_from, Figures, number_shown, is_leap, place}
+use Rattle.ed_programs.proofs.Kit.{month_length, calendar_codes, day_codes, days_codes, head_codes, title_codes}
+use Rattle.ed_programs.proofs.Kit.{year_codes}
+use Rattle.std.proofs.Common.{flat_map}
+use Rattle.ed_words.proofs.Numbers.{not_eq_of}
+use Rattle.ed_routines.specs.Digits.{without_zeros}
+use Rattle.ed_programs.specs.Calendar.{calendar_days, calendar_prints, day_text, new_line, days_before}
+use Rattle.ed_programs.specs.Calendar.{month_names, weekday}
+use Rattle.ed_programs.proofs.RowTexts.{no_thousands, one_figure}
 use Rattle.ed_programs.proofs.CalendarDays.{days_before_is, weekday_is}
+use Rattle.ed_programs.proofs.CalendarCodes.{days_from, range_is}
 
 -- ---- the title
 
@@ -39,20 +35,9 @@ title_shown (suc (suc (suc (suc (suc (suc (suc (suc (suc (suc (suc (suc k)))))))
 
 -- ---- figures
 
--- noughts in front of a number are left out
-no_thousands : (a b c d u : ℕ) → a ≡ 0 → b ≡ 0 → c ≡ 0
-    → without_zeros (a ∷ b ∷ c ∷ d ∷ []) ++ u ∷ [] ≡ without_zeros (d ∷ []) ++ u ∷ []
-no_thousands a b c d u p q r = rw (p, q, r) refl
-
 with_first : (a b : ℕ) (cs : List ℕ) → a ≡ 0 → 1 ≤ b → without_zeros (a ∷ b ∷ cs) ≡ b ∷ cs
 with_first a zero cs p l = absurd (omega arith)
 with_first a (suc b) cs p l = rw p refl
-
-one_figure : (d : ℕ) → d < 10 → digits d ≡ d % 10 ∷ []
-one_figure d l =
-    no_thousands (d / 10000) (d / 1000 % 10) (d / 100 % 10) (d / 10 % 10) (d % 10) (omega arith) (omega arith)
-    (omega arith)
-    ∙ ap (λ (t : ℕ). without_zeros (t ∷ []) ++ d % 10 ∷ []) {y = 0} (omega arith)
 
 with_tens : (t u : ℕ) → 1 ≤ t → without_zeros (t ∷ []) ++ u ∷ [] ≡ t ∷ u ∷ []
 with_tens zero u l = absurd (omega arith)
@@ -102,6 +87,10 @@ regrouped a b c d e f g h =
     ∙ append_assoc (a ++ b) c (d ++ (e ++ (f ++ (g ++ h))))
     ∙ append_assoc a b (c ++ (d ++ (e ++ (f ++ (g ++ h)))))
 
+-- the line of the weekdays
+abbrev calendar_heads : Text
+calendar_heads = codes " SU MO TU WE TH FR SA" ++ new_line
+
 -- no month has more than 31 days
 pub days_at_most : (leap : Bool) (k : ℕ)
     → get_or (31 ∷ (if leap then 29 else 28) ∷ 31 ∷ 30 ∷ 31 ∷ 30 ∷ 31 ∷ 31 ∷ 30 ∷ 31 ∷ 30 ∷ 31 ∷ []) k 0 ≤ 31
@@ -110,7 +99,7 @@ days_at_most leap k = grind arith
 module _ (month year : ℕ) (low : 1901 ≤ year) (high : year ≤ 2099) where
   -- the day and what follows it
   abbrev shown : ℕ → Text
-  shown day = day_text day ++ week_end (weekday day month year)
+  shown day = day_text day ++ (if weekday day month year == 5 then new_line else [])
 
   -- the codes of n days print them
   abbrev AreShown : ℕ → ℕ → ℕ → Type 0
@@ -133,7 +122,7 @@ module _ (month year : ℕ) (low : 1901 ≤ year) (high : year ≤ 2099) where
       by_test : (b : Bool) → (before == 6) ≡ b
           → paper_from Figures (if b then day_codes (suc day) ++ 18 ∷ 24 ∷ days_codes 0 (suc (suc day)) n
           else day_codes (suc day) ++ days_codes (suc before) (suc (suc day)) n)
-          ≡ (day_text (suc day) ++ week_end (weekday (suc day) month year)) ++ rest
+          ≡ (day_text (suc day) ++ (if weekday (suc day) month year == 5 then new_line else [])) ++ rest
       by_test true h =
           day_shown (suc day) (18 ∷ 24 ∷ days_codes 0 (suc (suc day)) n) few
           ∙ ap (λ (t : Text). day_text (suc day) ++ 13 ∷ 10 ∷ t)
@@ -165,7 +154,7 @@ module _ (month year : ℕ) (low : 1901 ≤ year) (high : year ≤ 2099) where
       let gap : List ℕ = replicate (3 * place month year) 20 in
       let days : List ℕ = days_codes (place month year) 1 (month_length month year) in
       let title : Text → Text = λ t. codes "      " ++ (name ++ 32 ∷ t) in
-      let text_gap : Text = calendar_gap month year in
+      let text_gap : Text = replicate (3 * days_before month year) 32 in
       let text_days : Text = calendar_days month year in
       let days_few = few_days in
       ap (λ (m : ℕ). paper (title_codes m ++ (year_codes year ++ (head_codes ++ (gap ++ days))))) {y = suc k} (omega arith)
@@ -179,4 +168,6 @@ module _ (month year : ℕ) (low : 1901 ≤ year) (high : year ≤ 2099) where
       ++ (replicate (3 * n) 32 ++ paper_from Figures days))))) (sym (days_before_is month year low high))
       ∙ ap (λ (t : Text). title (decimal year ++ (new_line ++ (calendar_heads ++ (text_gap ++ t)))))
       (days_shown (month_length month year) (place month year) 0 (omega arith) (omega arith) (omega (arith, days_few)))
+      ∙ ap (λ (ds : List ℕ). title (decimal year ++ (new_line ++ (calendar_heads ++ (text_gap ++ flat_map shown ds)))))
+      (sym (range_is 1 (month_length month year)))
       ∙ sym (regrouped (codes "      ") name (codes " ") (decimal year) new_line calendar_heads text_gap text_days)

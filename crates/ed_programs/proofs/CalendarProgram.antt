@@ -1,19 +1,14 @@
 -- The program of `examples/calendar.tape` from its entry to its stop, for each month from 1901 to 2099.
-use Rattle.std.proofs.Common.{if◌then◌else◌, ◌%◌, ◌/◌, nat_lt, Bool}
-use Rattle.std.specs.Prelude.{◌==◌, replicate, sum}
-use Rattle.std.specs.List.{list_all}
-use Rattle.ed_words.specs.declared.order_words.TheConstants.{Z_F}
+use Rattle.ed_programs.proofs.Kit.{◌≡◌, ℕ, suc, ◌+◌, ◌-◌, ◌*◌, ◌/◌, ◌%◌, ◌<◌, ◌≤◌, Bool, true, false, [], List, ◌∷◌, ap}
+use Rattle.ed_programs.proofs.Kit.{◌++◌, map, length, ◌==◌, Some, if◌then◌else◌, nat_lt, sym, refl, ◌∙◌, subst, arith}
+use Rattle.ed_programs.proofs.Kit.{append_assoc, lit<, lit≤, list_all, Z_F, Size, short, state, Moment, digits, sum, A}
+use Rattle.ed_programs.proofs.Kit.{ComesToStop, replicate, T, Z, followed, on, stay, Path, own, along, to_stop, are, to}
+use Rattle.ed_programs.proofs.Kit.{calendar_orders, is_leap, month_length, calendar_codes, days_codes}
+use Rattle.ed_programs.proofs.Kit.{head_codes, title_codes, year_codes, counted, stop_counted, calls_own}
 use Rattle.ed_routines.specs.Digits.{value_after}
 use Rattle.ed_routines.proofs.Digits.{digits_law}
-use Rattle.ed_sources.proofs.Decimals.{are}
-use Rattle.ed_programs.specs.Calendar.{calendar_orders, day_orders, days_before, days_from, is_leap, month_length}
-use Rattle.ed_programs.specs.Calendar.{month_lengths, weekday_count}
-use Rattle.ed_programs.proofs.CalendarCodes.{calendar_codes, days_codes, head_codes, title_codes, year_codes}
+use Rattle.ed_programs.specs.Calendar.{day_orders, days_before, month_lengths, weekday_count}
 use Rattle.ed_programs.proofs.CalendarDays.{days_before_is, leap_is}
-use Rattle.ed_programs.proofs.Kit.{[], ℕ, ◌*◌, ◌++◌, ◌+◌, ◌-◌, ◌<◌, ◌∙◌, ◌∷◌, ◌≡◌, ◌≤◌, along, ap, append_assoc}
-use Rattle.ed_programs.proofs.Kit.{arith, calls_own, counted, digits, false, followed, length, lit<, lit≤, map, on}
-use Rattle.ed_programs.proofs.Kit.{own, refl, short, state, stay, stop_counted, subst, suc, sym, to, to_stop, true, A}
-use Rattle.ed_programs.proofs.Kit.{ComesToStop, List, Moment, Path, Size, Some, T, Z}
 use Rattle.ed_programs.proofs.CalendarCells.{at, frame, lengths, loaded, IsAround, Work}
 use Rattle.ed_programs.proofs.CalendarReads.{reads}
 use Rattle.ed_programs.proofs.CalendarYears.{after_years, counts_years, weekday_word}
@@ -21,6 +16,7 @@ use Rattle.ed_programs.proofs.CalendarMonths.{all_below, counts_months, sum_take
 use Rattle.ed_programs.proofs.CalendarNames.{is_name, letter, name_taken, named}
 use Rattle.ed_programs.proofs.CalendarTitle.{headed, lines_above}
 use Rattle.ed_programs.proofs.CalendarPage.{begins_page, days}
+use Rattle.ed_programs.proofs.CalendarCodes.{days_from, range_is}
 
 module _ (z : Size) (m : Moment) (o : IsAround m.words) where
   -- at the entry: the month and the year are on the tape
@@ -185,4 +181,4 @@ module _ (z : Size) (m : Moment) (o : IsAround m.words) where
         stop_counted (subst (λ (cs : List ℕ). ComesToStop (sheet_orders + last_orders) (state (frame z)
         (entering month year) done) cs 188) codes
         (to_stop (along (followed begun.1 (followed sheet.1 all.path))) (Z 131 Z_F refl refl) done))
-        (omega (arith, same))
+        (let listed = ap (λ (ds : List ℕ). sum (map day_orders ds)) (range_is 1 l) in omega (arith, same, listed))

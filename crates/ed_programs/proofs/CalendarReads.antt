@@ -1,14 +1,10 @@
 -- The reading of a number in `examples/calendar.tape`.
-use Rattle.std.proofs.Common.{nat_lt}
-use Rattle.std.proofs.lemmas.Bool.{and_parts}
-use Rattle.ed_words.proofs.Numbers.{lt_of}
-use Rattle.ed_machine.proofs.Kit.Moves.{I, L}
-use Rattle.ed_machine.proofs.Kit.Shifts.{L1F, LD}
+use Rattle.ed_programs.proofs.Kit.{◌≡◌, ℕ, ◌+◌, ◌*◌, ◌<◌, ◌≤◌, true, [], List, ◌∷◌, ◌++◌, length, nat_lt, Option, refl}
+use Rattle.ed_programs.proofs.Kit.{arith, lit<, and_parts, Size, lt_of, short, Moment, A, E_jumps, E_stays, L, S, T, U}
+use Rattle.ed_programs.proofs.Kit.{followed, on, stay, Path, any, out, own, L1F, LD, to, counted}
+use Rattle.ed_machine.proofs.Kit.Moves.{I}
 use Rattle.ed_routines.specs.Digits.{value_after}
 use Rattle.ed_sources.proofs.Decimals.{are_digits}
-use Rattle.ed_programs.proofs.Kit.{[], ℕ, ◌*◌, ◌++◌, ◌+◌, ◌<◌, ◌∷◌, ◌≡◌, ◌≤◌, any, arith, counted, followed, length}
-use Rattle.ed_programs.proofs.Kit.{lit<, on, out, own, refl, short, stay, to, true, A, E_jumps, E_stays, List, Moment}
-use Rattle.ed_programs.proofs.Kit.{Option, Path, S, Size, T, U}
 use Rattle.ed_programs.proofs.CalendarCells.{ahead, at, frame, outside, IsAround, Work}
 
 -- what is read only grows

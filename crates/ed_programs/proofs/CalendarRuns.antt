@@ -1,51 +1,22 @@
 -- What `examples/calendar.tape` prints, for every month from January 1901 to December 2099.
-use Rattle.std.proofs.Common.{◌≡◌, ℕ, zero, suc, ◌+◌, ◌-◌, ◌*◌, ◌≤◌, Bool, true, false, List, [], ◌∷◌, ◌++◌}
-use Rattle.std.proofs.Common.{refl, ap, subst, arith, get_or, length, length-append, nat_le, replicate}
-use Rattle.std.specs.Prelude.{◌==◌, if◌then◌else◌}
-use Rattle.std.specs.Fmt.{decimal}
-use Rattle.std.specs.List.{list_all}
-use Rattle.std.proofs.lemmas.Bool.{and_parts}
-use Rattle.std.proofs.lemmas.List.{length-replicate}
-use Rattle.ed_words.proofs.Numbers.{le_of}
-use Rattle.ed_words.specs.Texts.{Text}
-use Rattle.ed_codes.specs.Reading.{IsReadingOf, reading, rows}
-use Rattle.ed_codes.specs.Text.{Spells, none, row, spacing}
-use Rattle.ed_codes.proofs.Pieces.{spells_append}
-use Rattle.ed_codes.proofs.Readings.{has_one_reading}
-use Rattle.ed_printer.specs.Paper.{paper}
-use Rattle.ed_run.specs.declared.settings.Settings.{Settings}
-use Rattle.ed_routines.specs.Digits.{digits}
-use Rattle.ed_sources.proofs.Decimals.{are, decimal_is, few_bytes, row_bytes, rows_are, written}
-use Rattle.ed_answers.specs.declared.input.TheConstants.{INPUT_BYTES}
-use Rattle.ed_answers.specs.Runs.{paper_room}
-use Rattle.ed_programs.specs.Calendar.{calendar_cost, calendar_orders, calendar_pieces, calendar_prints, calendar_text}
-use Rattle.ed_programs.specs.Calendar.{is_leap, month_length}
-use Rattle.ed_programs.specs.Tapes.{TapeRuns}
-use Rattle.ed_programs.proofs.CalendarCodes.{calendar_codes, day_codes, days_codes, head_codes, name_codes, place}
-use Rattle.ed_programs.proofs.CalendarCodes.{title_codes, year_codes}
+use Rattle.ed_sources.proofs.Kit.{length-replicate}
+use Rattle.ed_programs.proofs.Kit.{◌≡◌, ℕ, zero, suc, ◌+◌, ◌-◌, ◌*◌, ◌≤◌, Bool, true, false, [], List, ◌∷◌, ◌++◌, ◌==◌}
+use Rattle.ed_programs.proofs.Kit.{length, get_or, if◌then◌else◌, nat_le, decimal, refl, ap, subst, arith, Text, paper}
+use Rattle.ed_programs.proofs.Kit.{length-append, list_all, and_parts, digits, Settings, INPUT_BYTES, paper_room, le_of}
+use Rattle.ed_programs.proofs.Kit.{replicate, reading, rows, none, Spells, spells_append, has_one_reading, decimal_is}
+use Rattle.ed_programs.proofs.Kit.{few_bytes, calendar_orders, is_leap, month_length, TapeRuns, calendar_codes, place}
+use Rattle.ed_programs.proofs.Kit.{day_codes, days_codes, head_codes, name_codes, title_codes, year_codes}
+use Rattle.ed_codes.specs.Text.{row, spacing}
+use Rattle.ed_programs.specs.Calendar.{calendar_cost, calendar_prints, calendar_text}
 use Rattle.ed_programs.proofs.CalendarPaper.{calendar_shown, days_at_most}
-use Rattle.ed_programs.proofs.CalendarEnds.{calendar_arrives, calendar_ends, calendar_entry, calendar_rows, data_rows}
-use Rattle.ed_programs.proofs.RowTexts.{text_spells}
-use Rattle.ed_programs.proofs.TapeRuns.{tape_runs}
+use Rattle.ed_programs.proofs.CalendarEnds.{front, calendar_arrives, calendar_ends, calendar_entry, calendar_rows}
+use Rattle.ed_programs.proofs.CalendarEnds.{data_rows}
+use Rattle.ed_programs.proofs.RowTexts.{number_spells}
+use Rattle.ed_programs.proofs.TapeRuns.{reads_spell, rows_in, tape_runs}
+use Rattle.ed_programs.specs.declared.calendar.TheConstants.{CALENDAR}
+use Rattle.std.proofs.Common.{map}
 
 -- ---- the rows of the text
-
-abbrev pub front : Text
-front = get_or calendar_pieces 0 []
-
-front_reading : reading front ≡ rows (calendar_rows [])
-front_reading = refl
-
-front_spells : Spells front (calendar_rows [])
-front_spells = subst (IsReadingOf front) front_reading (has_one_reading.every front)
-
--- a number in decimal spells its digits
-number_spells : (n : ℕ) → n ≤ 65535 → Spells (decimal n) (digits n)
-number_spells n small =
-    let below : suc n ≤ 65536 = omega (arith, small) in
-    subst (λ (t : Text). Spells t (digits n)) (decimal_is n below)
-    (subst (Spells (written (digits n))) (rows_are (digits n) (are n below))
-    (text_spells (written (digits n)) (row_bytes (digits n) (are n below))))
 
 module _ (month year : ℕ) (small : month ≤ 65535) (low : year ≤ 65535) where
   year_spells : Spells (decimal year ++ 70 ∷ 10 ∷ []) (digits year ++ 17 ∷ [])
@@ -62,8 +33,8 @@ module _ (month year : ℕ) (small : month ≤ 65535) (low : year ≤ 65535) whe
   pub text_reads : reading (calendar_text month year) ≡ rows (calendar_rows (data_rows month year))
   text_reads =
       has_one_reading.only (calendar_text month year) (rows (calendar_rows (data_rows month year)))
-      (spells_append front (calendar_rows []) (decimal month ++ 70 ∷ (decimal year ++ 70 ∷ 10 ∷ []))
-      (data_rows month year) front_spells data_spells)
+      (spells_append front (rows_in front) (decimal month ++ 70 ∷ (decimal year ++ 70 ∷ 10 ∷ []))
+      (data_rows month year) (reads_spell front (rows_in front) refl) data_spells)
 
   pub few_text : length (calendar_text month year) ≤ INPUT_BYTES
   few_text =

@@ -1,11 +1,9 @@
 -- The printing of signs in `examples/calendar.tape`.
-use Rattle.std.proofs.Common.{◌^◌}
+use Rattle.ed_programs.proofs.Kit.{◌≡◌, ℕ, suc, ◌+◌, ◌-◌, ◌*◌, ◌^◌, ◌<◌, ◌≤◌, [], List, ◌∷◌, map, length, get_or, Some}
+use Rattle.ed_programs.proofs.Kit.{Option, refl, ◌∙◌, arith, lit<, Size, lt_true, short, Moment, A, E_jumps, G_jumps, O}
+use Rattle.ed_programs.proofs.Kit.{G_stays, S, T, U, followed, on, prints, stay, Path, any, out, own, Remains, to}
+use Rattle.ed_programs.proofs.Kit.{counted}
 use Rattle.ed_machine.proofs.Kit.Orders.{there_is}
-use Rattle.ed_machine.proofs.Kit.Sums.{Remains}
-use Rattle.ed_programs.proofs.Kit.{[], ℕ, ◌*◌, ◌+◌, ◌-◌, ◌<◌, ◌∙◌, ◌∷◌, ◌≡◌, ◌≤◌, any, arith, counted, followed}
-use Rattle.ed_programs.proofs.Kit.{get_or, length, lit<, lt_true, map, on, out, own, prints, refl, short, stay, suc}
-use Rattle.ed_programs.proofs.Kit.{to, A, E_jumps, G_jumps, G_stays, List, Moment, O, Option, Path, S, Size, Some, T}
-use Rattle.ed_programs.proofs.Kit.{U}
 use Rattle.ed_programs.proofs.CalendarCells.{ahead, at, cells, frame, latest, outside, sign_at, signs, Have, IsAround}
 use Rattle.ed_programs.proofs.CalendarCells.{Work}
 

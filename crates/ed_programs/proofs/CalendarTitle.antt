@@ -1,9 +1,8 @@
 -- The lines above the days in `examples/calendar.tape`.
-use Rattle.std.proofs.Common.{◌%◌, ◌/◌}
-use Rattle.ed_programs.proofs.CalendarCodes.{head_codes, name_codes, title_codes, year_codes}
-use Rattle.ed_programs.proofs.Kit.{[], ℕ, ◌*◌, ◌++◌, ◌+◌, ◌-◌, ◌<◌, ◌∙◌, ◌∷◌, ◌≡◌, ◌≤◌, ap, append-nil, arith}
-use Rattle.ed_programs.proofs.Kit.{calls_own, counted, followed, get_or, lit<, lit≤, on, own, refl, short, stay}
-use Rattle.ed_programs.proofs.Kit.{subst, suc, sym, to, A, List, Moment, Option, Path, Size, Some, T}
+use Rattle.ed_programs.proofs.Kit.{◌≡◌, ℕ, suc, ◌+◌, ◌-◌, ◌*◌, ◌/◌, ◌%◌, ◌<◌, ◌≤◌, [], List, ◌∷◌, ◌++◌, get_or, Some, A}
+use Rattle.ed_programs.proofs.Kit.{Option, sym, refl, ap, ◌∙◌, subst, append-nil, arith, lit<, lit≤, Size, short, T, on}
+use Rattle.ed_programs.proofs.Kit.{Moment, followed, stay, Path, own, head_codes, name_codes, title_codes, year_codes}
+use Rattle.ed_programs.proofs.Kit.{to, counted, calls_own}
 use Rattle.ed_programs.proofs.CalendarCells.{at, frame, have_part, signs, IsAround, Work}
 use Rattle.ed_programs.proofs.CalendarSigns.{prints_signs}
 use Rattle.ed_programs.proofs.CalendarFigures.{left_by, prints_four}

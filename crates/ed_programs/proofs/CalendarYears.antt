@@ -1,11 +1,8 @@
 -- The count of the years in `examples/calendar.tape`: the weekday of 1 January, and whether it is a leap year.
-use Rattle.std.proofs.Common.{if◌then◌else◌, ◌%◌, ◌/◌, Bool}
-use Rattle.std.specs.Prelude.{◌==◌}
-use Rattle.std.proofs.lemmas.Bool.Decides.{nat_tests}
-use Rattle.std.proofs.lemmas.Bool.{cases_lt}
-use Rattle.ed_programs.proofs.Kit.{[], ℕ, ◌*◌, ◌+◌, ◌-◌, ◌<◌, ◌≡◌, ◌≤◌, arith, counted, false, followed, inl, inr}
-use Rattle.ed_programs.proofs.Kit.{lit<, on, own, refl, short, stay, suc, true, zero, A, E_jumps, E_stays, G_jumps}
-use Rattle.ed_programs.proofs.Kit.{G_stays, Moment, Option, Path, S, Size, T}
+use Rattle.ed_programs.proofs.Kit.{◌≡◌, ℕ, zero, suc, ◌+◌, ◌-◌, ◌*◌, ◌/◌, ◌%◌, ◌<◌, ◌≤◌, Bool, true, false, [], ◌==◌, A}
+use Rattle.ed_programs.proofs.Kit.{if◌then◌else◌, Option, refl, inl, inr, arith, lit<, cases_lt, Size, short, Moment, S}
+use Rattle.ed_programs.proofs.Kit.{nat_tests, E_jumps, E_stays, G_jumps, G_stays, T, followed, on, stay, Path, own}
+use Rattle.ed_programs.proofs.Kit.{counted}
 use Rattle.ed_programs.proofs.CalendarCells.{at, frame, Work}
 
 -- n years after 1901: the years to the next leap year, below 0, and the weekday before sevens are taken away

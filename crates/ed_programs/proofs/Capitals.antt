@@ -1,19 +1,13 @@
 -- Capital letters: each spells a row of tape, and is printed as it is.
-use Rattle.std.proofs.Common.{◌≡◌, ℕ, ◌≤◌, Bool, true, false, [], ◌∷◌, ◌++◌, length, refl, ap, arith, nat_le, nat_lt}
-use Rattle.std.specs.Prelude.{◌==◌, ◌&&◌, ◌||◌, not, if◌then◌else◌, None, Some}
-use Rattle.std.specs.List.{list_all}
+use Rattle.ed_programs.proofs.Kit.{◌≡◌, ℕ, ◌≤◌, Bool, true, false, not, [], ◌||◌, ◌∷◌, ◌++◌, length, ◌==◌, Some, nat_lt}
+use Rattle.ed_programs.proofs.Kit.{if◌then◌else◌, nat_le, None, refl, ap, arith, Text, list_all, and_parts, ◌&&◌, le_of}
+use Rattle.ed_programs.proofs.Kit.{nat_tests, row_of, paper_from, row, among, both, is_capital}
 use Rattle.std.specs.Str.{bytes_eq}
-use Rattle.std.proofs.lemmas.Bool.{and_parts, not-true}
-use Rattle.std.proofs.lemmas.Bool.Decides.{nat_tests}
+use Rattle.std.proofs.lemmas.Bool.{not-true}
 use Rattle.std.proofs.lemmas.Slice.Eq.{bytes_eq-Decides}
-use Rattle.ed_words.proofs.Numbers.{le_of}
-use Rattle.ed_words.specs.Texts.{Text}
-use Rattle.ed_codes.specs.Spelling.{row_of}
-use Rattle.ed_printer.specs.Paper.{paper_from, struck_bytes}
+use Rattle.ed_printer.specs.Paper.{struck_bytes}
 use Rattle.ed_printer.specs.declared.printer.Shift.TheVariants.{Letters}
-use Rattle.ed_syntax.specs.Reading.Grammar.{row}
-use Rattle.ed_sources.proofs.Decimals.{among, both}
-use Rattle.ed_programs.specs.Hello.{is_capital, letters_refusal}
+use Rattle.ed_programs.specs.Hello.{letters_refusal}
 use Rattle.ed_programs.proofs.RowTexts.{is_row_byte, text_rows}
 use Rattle.ed_programs.specs.declared.refusal.Refusal.TheVariants as refusal
 

@@ -1,27 +1,44 @@
 -- The source of `examples/celsius.edsac` for any list: its path, and what it prints.
-use Rattle.std.specs.Prelude.{◌/◌, ◌^◌, nat_le, nat_lt}
-use Rattle.std.specs.List.{list_all}
-use Rattle.std.proofs.lemmas.Bool.{and_parts}
-use Rattle.std.proofs.lemmas.List.{length-map}
-use Rattle.ed_words.proofs.Numbers.{le_of}
-use Rattle.ed_words.specs.declared.order_words.TheConstants.{Z_F}
-use Rattle.ed_sources.proofs.Decimals.{both}
-use Rattle.ed_programs.specs.Celsius.{celsius, celsius_orders, celsius_pieces, celsius_prints, celsius_text}
-use Rattle.ed_programs.specs.Celsius.{conversion_orders}
-use Rattle.ed_programs.proofs.Kit.{◌≡◌, ℕ, ◌+◌, ◌-◌, ◌*◌, ◌<◌, ◌≤◌, refl, sym, arith, lit<, lit≤, true, false}
-use Rattle.ed_programs.proofs.Kit.{List, [], ◌∷◌, ◌++◌, append-nil, length, map, Option, Some, None, lt_of, lt_true, Text}
-use Rattle.ed_programs.proofs.Kit.{Size, parameter_store, settings, Line, entry_state, Settings, Frame, Moment, short}
-use Rattle.ed_programs.proofs.Kit.{state, own, A, S, H, V, T, T_top, E_jumps, G_jumps, G_stays, Z, Path, on, stay}
-use Rattle.ed_programs.proofs.Kit.{digits, print_orders, ComesToStop, IsIn, Journey, along, then, to_stop, stop_after}
-use Rattle.ed_programs.proofs.Kit.{frame_at, moment_at, SourceRuns, HasRead, reads_number, HasShown, shows_number}
-use Rattle.ed_programs.proofs.Kit.{then_on, are_small, numbers_text, list_mark, number_rows, ended_small, ended_some}
-use Rattle.ed_programs.proofs.Kit.{few_codes, few_numbers, list_codes, list_shown, stops_from_entry, Marked}
-use Rattle.ed_programs.proofs.Kit.{lines_of_pieces, program_runs, to, calling, journey_counted, stop_counted}
-use Rattle.ed_programs.proofs.Kit.{HasThree, three_read, three_shown, three_at_entry}
+use Rattle.ed_programs.proofs.Kit.{◌≡◌, ℕ, ◌+◌, ◌-◌, ◌*◌, ◌/◌, ◌^◌, ◌<◌, ◌≤◌, true, false, [], List, ◌∷◌, ◌++◌, map, A}
+use Rattle.ed_programs.proofs.Kit.{length, Some, nat_lt, nat_le, None, Option, sym, refl, append-nil, arith, lit<, lit≤}
+use Rattle.ed_programs.proofs.Kit.{Text, list_all, and_parts, length-map, Z_F, Size, lt_of, lt_true, short, state, Line}
+use Rattle.ed_programs.proofs.Kit.{Frame, Moment, digits, print_orders, ComesToStop, entry_state, settings, Settings, S}
+use Rattle.ed_programs.proofs.Kit.{parameter_store, le_of, E_jumps, G_jumps, G_stays, T, Z, on, stay, Path, own, along}
+use Rattle.ed_programs.proofs.Kit.{stop_after, then, to_stop, IsIn, Journey, both, frame_at, moment_at, numbers_text}
+use Rattle.ed_programs.proofs.Kit.{SourceRuns, reads_number, HasRead, are_small, number_rows, shows_number, HasShown}
+use Rattle.ed_programs.proofs.Kit.{stops_from_entry, Marked, to, calling, journey_counted, stop_counted, HasThree}
+use Rattle.ed_programs.proofs.Kit.{three_read, three_shown, three_at_entry}
+use Rattle.ed_programs.specs.Celsius.{celsius, celsius_orders, celsius_text}
+use Rattle.ed_machine.proofs.Kit.Moves.{H, V, T_top}
+use Rattle.ed_programs.proofs.NumberShown.{then_on}
+use Rattle.ed_programs.proofs.DataLines.{list_mark}
+use Rattle.ed_programs.proofs.NumberLists.{ended_small, ended_some, few_codes, few_numbers, list_codes, list_shown}
+use Rattle.ed_programs.proofs.SourceRuns.{lines_of_pieces, program_runs}
+use Rattle.ed_programs.specs.Lists.{on_lines}
+use Rattle.ed_programs.specs.declared.celsius.TheConstants.{CELSIUS}
+use Rattle.std.proofs.lemmas.List.Sums.{sum_by-cons}
+use Rattle.std.specs.List.{sum_by}
 
 -- 36,409 of 65,536 is five ninths as far as the words go
 ninths : (v : ℕ) → v < 65536 → v * (36409 * 2 ^ 38) / 2 ^ 54 ≡ 5 * v / 9
 ninths v small = omega arith
+
+-- the pieces of the source
+abbrev pub celsius_pieces : List Text
+celsius_pieces = map (λ piece. piece.now) CELSIUS
+
+-- the orders for temperatures
+abbrev conversion_orders : List ℕ → ℕ
+conversion_orders [] = 0
+conversion_orders (n ∷ ns) = 13 * length (digits n) + print_orders (celsius n) + 30 + conversion_orders ns
+
+conversions_are : (ns : List ℕ)
+    → conversion_orders ns ≡ sum_by (λ n. 13 * length (digits n) + print_orders (celsius n) + 30) ns
+conversions_are [] = refl
+conversions_are (n ∷ ns) =
+    let rest = conversions_are ns in
+    let all = sum_by-cons (λ n. 13 * length (digits n) + print_orders (celsius n) + 30) n ns in
+    omega (arith, rest, all)
 
 -- its words, with the cell that changes
 abbrev cells : ℕ → List ℕ
@@ -128,13 +145,14 @@ module _ (ns : List ℕ) (end : ℕ) (small : are_small ns ≡ true) (least : li
   abbrev lines : List Line
   lines = lines_of_pieces false celsius_pieces texts marks
 
-  pub each_celsius : (s : Settings) → SourceRuns s (celsius_text ns end) (celsius_orders ns end) 71 (celsius_prints ns)
+  pub each_celsius : (s : Settings) → SourceRuns s (celsius_text ns end) (celsius_orders ns end) 71 (on_lines (map celsius ns))
   unfolding settings parameter_store
   each_celsius s =
       let z : Size = s.size in
       let many = few_numbers ns end in
       let few = few_codes (map celsius ns) in
       let same = length-map ns celsius in
+      let orders = conversions_are ns in
       program_runs s false celsius_pieces texts marks refl
       (stops_from_entry z lines refl 18 (lit≤ tt) (cells 0) refl refl (number_rows (ns ++ end ∷ []))
       (sym (append-nil (number_rows (ns ++ end ∷ []))))
@@ -142,4 +160,4 @@ module _ (ns : List ℕ) (end : ℕ) (small : are_small ns ≡ true) (least : li
       (entry_state z lines).store.words None
       (three_at_entry z lines 18 (lit≤ tt) 74 98 150 15 refl refl (lit≤ tt) (lit≤ tt) (lit≤ tt) (lit≤ tt)) small least
       low (entry_state z lines).orders))
-      (omega arith) (omega arith) (list_shown (map celsius ns) (celsius_small ns small))
+      (omega arith) (omega (arith, orders)) (list_shown (map celsius ns) (celsius_small ns small))

@@ -1,27 +1,22 @@
 -- A call of a routine that writes in a cell of the piece, as one line; and so `read`.
-use Rattle.std.proofs.Common.{◌≡◌, ◌≢◌, ◌⊎◌, inl, inr, ℕ, ◌+◌, ◌*◌, ◌/◌, ◌%◌, ◌^◌, ◌<◌, ◌≤◌, refl, sym, ap, ◌∙◌, subst}
-use Rattle.std.proofs.Common.{arith}
-use Rattle.std.proofs.Common.{Bool, false, lit<, List, [], ◌∷◌, ◌++◌, Option, get_or, length, set}
-use Rattle.std.proofs.lemmas.Bool.{cases_lt}
+use Rattle.ed_sources.proofs.Kit.{cases_lt, locations, A_F, State, joined, Leads}
+use Rattle.std.proofs.Common.{set, ◌≡◌, ◌≢◌, ◌⊎◌, inl, inr, ℕ, ◌+◌, ◌*◌, ◌/◌, ◌%◌, ◌^◌, ◌<◌, ◌≤◌, refl, sym, ap, ◌∙◌}
+use Rattle.std.proofs.Common.{subst, arith, Bool, false, lit<, List, [], ◌∷◌, ◌++◌, Option, get_or, length}
 use Rattle.std.proofs.lemmas.List.{get_or-set_same, get_or-set_other, length-set}
-use Rattle.ed_words.specs.Sizes.{locations}
 use Rattle.ed_words.proofs.SizeLemmas.{most}
-use Rattle.ed_words.specs.declared.order_words.TheConstants.{A_F}
-use Rattle.ed_machine.specs.State.{State}
 use Rattle.ed_library.specs.Routines.{is_working, place_count}
-use Rattle.ed_machine.proofs.Kit.Frames.{Frame, Moment, all_digits, all_words, state, short}
-use Rattle.ed_machine.proofs.Kit.Leads.{Leads, joined}
+use Rattle.ed_machine.proofs.Kit.Frames.{all_digits, all_words, Frame, Moment, state, short}
 use Rattle.ed_machine.proofs.Kit.Moves.{A, G_jumps, Reads, Jumps}
 use Rattle.ed_machine.proofs.Kit.Paths.{Path, leads, on, stay}
 use Rattle.ed_machine.proofs.Kit.Places.{any, own}
 use Rattle.ed_machine.proofs.Kit.Window.{patched, patched_self, get_own}
 use Rattle.ed_routines.specs.Catalogue.{read, with_h}
-use Rattle.ed_routines.specs.Digits.{after_digits, digit_rows, digits, digits_value}
+use Rattle.ed_routines.specs.Digits.{after_digits, digit_rows, digits_value, digits}
 use Rattle.ed_routines.proofs.Digits.{digits_law}
 use Rattle.ed_sources.proofs.Decimals.{are}
 use Rattle.ed_sources.proofs.ReadAndPrint.{rest_is, rows_are}
 use Rattle.ed_routines.specs.Returns.{IsOther}
-use Rattle.ed_routines.specs.Standing.{Stands, caller}
+use Rattle.ed_routines.specs.Standing.{caller, Stands}
 use Rattle.ed_routines.proofs.Called.{IsCalled, called as routine_called}
 use Rattle.ed_routines.proofs.ReadCall as read_call
 use Rattle.ed_routines.proofs.Journeys.{HasRoutine, IsIn, Journey, all_long, beside_word, called, caller_is, stands}

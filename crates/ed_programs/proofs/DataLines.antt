@@ -1,23 +1,16 @@
 -- A line `data` with numbers, each ended by F: what it says, and what its rows are.
-use Rattle.std.proofs.Common.{◌≡◌, ◌∙◌, ℕ, zero, suc, ◌+◌, ◌*◌, ◌<◌, ◌≤◌, Bool, true, false, List, [], ◌∷◌, ◌++◌, ap}
-use Rattle.std.proofs.Common.{refl, sym, subst, arith}
-use Rattle.std.proofs.Common.{append_assoc, codes, Fits, get_or, length, drop, drop-cons, length-append, map, nat_lt}
-use Rattle.std.proofs.Common.{slice_index_or, w16}
-use Rattle.std.specs.Prelude.{◌==◌, not, Some, None, Ok}
-use Rattle.std.specs.Fmt.{decimal}
-use Rattle.std.specs.List.{list_all}
-use Rattle.std.proofs.lemmas.Bool.{and_parts, not-true}
-use Rattle.std.proofs.lemmas.List.{drop_all, map-append}
-use Rattle.std.proofs.lemmas.List.Folds.{list_all-append}
-use Rattle.ed_words.proofs.Numbers.{eq_false, le_true, lt_of, lt_true}
-use Rattle.ed_words.specs.Texts.{Text}
+use Rattle.ed_sources.proofs.Kit.{list_all, list_all-append, Text, line_of, digits}
+use Rattle.std.proofs.Common.{Fits, drop-cons, slice_index_or, w16, ◌≡◌, ◌∙◌, ℕ, zero, suc, ◌+◌, ◌*◌, ◌<◌, ◌≤◌, Bool}
+use Rattle.std.proofs.Common.{true, false, List, [], ◌∷◌, ◌++◌, ap, refl, sym, subst, arith, codes, get_or, length, map}
+use Rattle.std.proofs.Common.{drop, nat_lt, ◌==◌, not, Some, None, Ok, decimal}
+use Rattle.std.proofs.lemmas.Bool.{not-true, and_parts}
+use Rattle.std.proofs.lemmas.List.{drop_all, map-append, append_assoc, length-append}
+use Rattle.ed_words.proofs.Numbers.{le_true, eq_false, lt_of, lt_true}
 use Rattle.ed_codes.specs.Spelling.{row_of}
-use Rattle.ed_syntax.specs.Parts.{quoted, run, array, is_line_byte, has_quote}
+use Rattle.ed_syntax.specs.Parts.{quoted, run, array, has_quote, is_line_byte}
 use Rattle.ed_syntax.specs.Reading.Grammar.{row, spells}
-use Rattle.ed_syntax.specs.Reading.Sources.{line_of}
 use Rattle.ed_syntax.specs.declared.program.Statement.TheVariants as statements
 use Rattle.ed_syntax.proofs.PartLemmas.{quote_parts}
-use Rattle.ed_routines.specs.Digits.{digits}
 use Rattle.ed_sources.proofs.Decimals.{are, both, decimal_is, few_bytes, line_bytes, no_quotes, row_bytes, rows_are}
 use Rattle.ed_sources.proofs.Decimals.{written}
 use Rattle.ed_programs.specs.Lists.{numbers_text}

@@ -1,10 +1,11 @@
 -- Why the method is right: what it gives with any number of divisors are the decimals of the sum of the fractions.
-use Rattle.std.proofs.Common.{◌≡◌, ◌∙◌, ℕ, zero, suc, ◌+◌, ◌*◌, ◌/◌, ◌%◌, ◌^◌, ◌<◌, ◌≤◌, refl, sym, ap, subst, arith}
-use Rattle.std.proofs.Common.{lit<, lit≤, List, [], ◌∷◌, replicate}
-use Rattle.std.proofs.Math.Nat.{div-add-mod, mod-lt, mul-le-mul_right, pow-suc}
+use Rattle.ed_programs.proofs.Kit.{◌≡◌, ℕ, zero, suc, ◌+◌, ◌*◌, ◌/◌, ◌%◌, ◌^◌, ◌<◌, ◌≤◌, [], List, ◌∷◌, sym, refl, ap}
+use Rattle.ed_programs.proofs.Kit.{◌∙◌, subst, arith, lit<, lit≤, replicate, mod-lt, div-add-mod, carries, tenfold}
+use Rattle.std.proofs.Math.Nat.{mul-le-mul_right, pow-suc}
 use Rattle.std.proofs.lemmas.Nat.{div-mul-add}
-use Rattle.ed_programs.specs.Decimals.{MethodIsRight, carries, factorial, parts, tenfold, with_figures}
+use Rattle.ed_programs.specs.Decimals.{MethodIsRight, factorial, parts}
 use Rattle.ed_programs.proofs.DecimalsPass.{after}
+use Rattle.ed_notation.specs.Items.{digits_number}
 
 -- the product of the divisors, and the sum of the fractions in parts of it
 abbrev weight : ℕ → List ℕ → ℕ
@@ -59,16 +60,16 @@ tenfold_is d (n ∷ ns) =
 
 -- 10^m times a number and the sum, by the decimals
 decimals_are : (m : ℕ) (ns : List ℕ) (h : ℕ) → 10 ^ m * (h * weight 2 ns + value 2 ns)
-    ≡ with_figures h (carries m ns) * weight 2 ns + value 2 (after m ns)
+    ≡ digits_number h (carries m ns) * weight 2 ns + value 2 (after m ns)
 decimals_are zero ns h = omega arith
 decimals_are (suc m) ns h =
     let left : List ℕ = (tenfold 2 ns).left in
     let c : ℕ = (tenfold 2 ns).carry in
     let w : ℕ = weight 2 ns in
     let rest : 10 ^ m * ((10 * h + c) * w + value 2 left)
-    ≡ with_figures (10 * h + c) (carries m left) * w + value 2 (after m left) =
+    ≡ digits_number (10 * h + c) (carries m left) * w + value 2 (after m left) =
     subst (λ y. 10 ^ m * ((10 * h + c) * y + value 2 left)
-    ≡ with_figures (10 * h + c) (carries m left) * y + value 2 (after m left)) (weight_left 2 ns)
+    ≡ digits_number (10 * h + c) (carries m left) * y + value 2 (after m left)) (weight_left 2 ns)
     (decimals_are m left (10 * h + c)) in
     let ten : 10 * (h * w + value 2 ns) ≡ (10 * h + c) * w + value 2 left =
     let e = tenfold_is 2 ns in omega (arith, e) in
@@ -84,12 +85,12 @@ after_small (suc m) ns o = after_small m (tenfold 2 ns).left (small_left 2 ns (l
 
 -- so they are the decimals of the sum
 floor_is : (m : ℕ) (ns : List ℕ) (h : ℕ) → Small 2 ns
-    → with_figures h (carries m ns) ≡ 10 ^ m * (h * weight 2 ns + value 2 ns) / weight 2 ns
+    → digits_number h (carries m ns) ≡ 10 ^ m * (h * weight 2 ns + value 2 ns) / weight 2 ns
 floor_is m ns h o =
     let low : value 2 (after m ns) < weight 2 ns = subst (λ y. value 2 (after m ns) < y) (after_weight m ns)
     (less_than_one 2 (after m ns) (after_small m ns o)) in
     sym (ap (λ y. y / weight 2 ns) (decimals_are m ns h)
-    ∙ div-mul-add (with_figures h (carries m ns)) (weight 2 ns) (value 2 (after m ns)) low)
+    ∙ div-mul-add (digits_number h (carries m ns)) (weight 2 ns) (value 2 (after m ns)) low)
   where
     after_weight : (m : ℕ) (ns : List ℕ) → weight 2 (after m ns) ≡ weight 2 ns
     after_weight zero ns = refl

@@ -1,7 +1,6 @@
 -- What is left of the numerators after some decimals of e, and what the lines of `examples/decimals.edsac` print.
-use Rattle.std.proofs.Common.{◌≡◌, ◌∙◌, ℕ, zero, suc, ◌+◌, ◌*◌, refl, ap}
-use Rattle.std.proofs.Common.{List, [], ◌∷◌, ◌++◌, length}
-use Rattle.ed_programs.specs.Decimals.{carries, tenfold}
+use Rattle.ed_programs.proofs.Kit.{◌≡◌, ℕ, zero, suc, ◌+◌, ◌*◌, [], List, ◌∷◌, ◌++◌, length, refl, ap, ◌∙◌, carries}
+use Rattle.ed_programs.proofs.Kit.{tenfold}
 
 -- the numerators after m decimals, and the sum of all carries
 abbrev pub after : ℕ → List ℕ → List ℕ

@@ -1,21 +1,13 @@
 -- The program of `examples/decimals.edsac` from its entry to its stop: a decimal, a group, a line.
-use Rattle.std.proofs.Common.{◌/◌, ◌%◌, ◌^◌, replicate, set}
-use Rattle.std.proofs.Math.Nat.{div-add-mod, div-lt_iff_lt-mul, mod-lt}
-use Rattle.std.proofs.lemmas.List.{get_or-set_same, get_or-set_other, length-set}
-use Rattle.ed_words.proofs.SizeLemmas.{least}
-use Rattle.ed_words.specs.declared.order_words.TheConstants.{A_F, L_D, T_F, Z_F}
-use Rattle.ed_machine.proofs.Kit.Places.{IsOutside}
-use Rattle.ed_machine.proofs.Kit.Moves.{L}
-use Rattle.ed_machine.proofs.Kit.Sums.{Remains}
-use Rattle.ed_machine.proofs.Kit.Shifts.{LD, L1F, L512F}
-use Rattle.ed_programs.specs.Decimals.{carries, tenfold}
-use Rattle.ed_programs.proofs.DecimalsPass.{after, after_long, line_codes, line_left, line_long, line_orders}
-use Rattle.ed_programs.proofs.DecimalsPass.{page_codes, page_left, page_orders, tenfold_long, units}
-use Rattle.ed_programs.proofs.Kit.{◌≡◌, ◌∙◌, inr, ℕ, zero, suc, ◌+◌, ◌-◌, ◌*◌, ◌<◌, ◌≤◌, refl, sym, ap, subst}
-use Rattle.ed_programs.proofs.Kit.{arith, lit<, lit≤, List, [], ◌∷◌, ◌++◌, Option, Some, get_or, length, append-nil, Size}
-use Rattle.ed_programs.proofs.Kit.{Frame, Moment, short, state, any, early, own, out, A, S, T, U, O, E_jumps, E_stays}
-use Rattle.ed_programs.proofs.Kit.{G_jumps, G_stays, Z, Path, followed, on, prints, stay, ComesToStop, along}
-use Rattle.ed_programs.proofs.Kit.{to_stop, frame_at, calls_own, counted, to}
+use Rattle.ed_programs.proofs.Kit.{◌≡◌, ℕ, zero, suc, ◌+◌, ◌-◌, ◌*◌, ◌/◌, ◌%◌, ◌^◌, ◌<◌, ◌≤◌, [], List, ◌∷◌, ◌++◌, Some}
+use Rattle.ed_programs.proofs.Kit.{length, get_or, Option, sym, refl, ap, ◌∙◌, subst, inr, append-nil, arith, lit<, A_F}
+use Rattle.ed_programs.proofs.Kit.{lit≤, Z_F, Size, least, short, state, Frame, Moment, ComesToStop, set, replicate, A}
+use Rattle.ed_programs.proofs.Kit.{mod-lt, div-lt_iff_lt-mul, length-set, get_or-set_other, get_or-set_same, L_D, T_F}
+use Rattle.ed_programs.proofs.Kit.{div-add-mod, E_jumps, E_stays, G_jumps, G_stays, L, O, S, T, U, Z, followed, on, any}
+use Rattle.ed_programs.proofs.Kit.{prints, stay, Path, early, out, own, IsOutside, L1F, L512F, LD, Remains, along, to}
+use Rattle.ed_programs.proofs.Kit.{to_stop, frame_at, carries, tenfold, counted, calls_own}
+use Rattle.ed_programs.proofs.DecimalsPass.{after, after_long, line_codes, line_left, line_long, line_orders, page_left}
+use Rattle.ed_programs.proofs.DecimalsPass.{page_codes, page_orders, tenfold_long, units}
 
 -- the cells that change as a decimal is worked out, and those that count: the decimals left of a group, the groups of a
 -- line, and the lines

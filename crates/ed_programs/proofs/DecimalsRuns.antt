@@ -1,13 +1,12 @@
 -- What the source of `examples/decimals.edsac` prints: its lines, its entry and its law.
-use Rattle.std.proofs.Common.{replicate}
-use Rattle.ed_sources.proofs.AtEntry.{all_words}
+use Rattle.ed_programs.proofs.Kit.{◌≡◌, ℕ, ◌+◌, true, [], List, ◌∷◌, map, refl, subst, lit≤, Text, Size, paper, State}
+use Rattle.ed_programs.proofs.Kit.{Line, ComesToStop, entry_state, settings, parameter_store, Settings, replicate}
+use Rattle.ed_programs.proofs.Kit.{all_words, moment_at, SourceRuns, stops_from_entry, Marked}
 use Rattle.ed_programs.specs.declared.decimals.TheConstants.{DECIMALS}
 use Rattle.ed_programs.specs.Decimals.{decimals_orders, decimals_prints, decimals_text}
 use Rattle.ed_programs.proofs.DecimalsPass.{page_codes, page_orders}
 use Rattle.ed_programs.proofs.DecimalsProgram.{IsAround, cells, decimals_stop, loaded, none_done}
-use Rattle.ed_programs.proofs.Kit.{◌≡◌, true, ℕ, ◌+◌, refl, subst, lit≤, List, [], ◌∷◌, map, Size, State, parameter_store}
-use Rattle.ed_programs.proofs.Kit.{settings, Line, entry_state, paper, Settings, Text, ComesToStop, moment_at, SourceRuns}
-use Rattle.ed_programs.proofs.Kit.{stops_from_entry, Marked, lines_of_pieces, program_runs}
+use Rattle.ed_programs.proofs.SourceRuns.{lines_of_pieces, program_runs}
 
 -- what the two lines print
 abbrev lines_print : List ℕ

@@ -1,16 +1,26 @@
 -- The source of `examples/difference.edsac` for any two numbers: its path, and what it prints.
-use Rattle.std.specs.Prelude.{Bool, if◌then◌else◌, nat_lt}
-use Rattle.ed_words.specs.declared.order_words.TheConstants.{Z_F}
-use Rattle.ed_programs.specs.Difference.{difference_data, difference_orders, difference_pieces, difference_prints}
+use Rattle.ed_programs.proofs.Kit.{◌≡◌, ℕ, ◌+◌, ◌-◌, ◌*◌, ◌<◌, Bool, true, false, [], List, ◌∷◌, length, if◌then◌else◌}
+use Rattle.ed_programs.proofs.Kit.{nat_lt, sym, refl, append-nil, arith, lit<, lit≤, Z_F, Size, lt_of, lt_true, short}
+use Rattle.ed_programs.proofs.Kit.{state, Frame, Moment, Line, digits, print_orders, few_digits, ComesToStop, settings}
+use Rattle.ed_programs.proofs.Kit.{entry_state, parameter_store, Settings, not_lt_of, A, E_jumps, E_stays, S, T, Z, on}
+use Rattle.ed_programs.proofs.Kit.{stay, Path, own, get_own, along, then, to_stop, IsIn, print_line, frame_at, HasRead}
+use Rattle.ed_programs.proofs.Kit.{moment_at, digits_printed, SourceRuns, reads_number, are_small, data_mark, Marked}
+use Rattle.ed_programs.proofs.Kit.{number_rows, stops_from_entry, to, calling, stop_counted, HasPair, pair_after}
+use Rattle.ed_programs.proofs.Kit.{pair_at_entry}
+use Rattle.ed_programs.specs.Difference.{difference_orders}
 use Rattle.ed_programs.specs.Difference.{difference_text, distance}
-use Rattle.ed_programs.proofs.Kit.{◌≡◌, ℕ, ◌+◌, ◌-◌, ◌*◌, ◌<◌, refl, sym, arith, lit<, lit≤, true, false, List, [], ◌∷◌}
-use Rattle.ed_programs.proofs.Kit.{append-nil, length, lt_of, lt_true, not_lt_of, Size, parameter_store, settings, Line}
-use Rattle.ed_programs.proofs.Kit.{entry_state, Settings, Frame, Moment, short, state, own, A, S, T, E_jumps, E_stays}
-use Rattle.ed_programs.proofs.Kit.{Z, Path, on, stay, get_own, digits, print_orders, few_digits, print_line}
-use Rattle.ed_programs.proofs.Kit.{ComesToStop, IsIn, along, then, to_stop, frame_at, moment_at, digits_printed}
-use Rattle.ed_programs.proofs.Kit.{SourceRuns, HasRead, reads_number, are_small, data_mark, number_rows}
-use Rattle.ed_programs.proofs.Kit.{stops_from_entry, Marked, lines_of_pieces, program_runs, to, calling, stop_counted}
-use Rattle.ed_programs.proofs.Kit.{HasPair, pair_after, pair_at_entry}
+use Rattle.ed_programs.proofs.SourceRuns.{lines_of_pieces, program_runs}
+use Rattle.ed_programs.specs.declared.difference.TheConstants.{DIFFERENCE}
+use Rattle.ed_words.specs.Texts.{Text}
+use Rattle.std.proofs.Common.{map}
+use Rattle.std.specs.Fmt.{decimal}
+
+-- the pieces of the source, and the numbers between them
+abbrev difference_pieces : List Text
+difference_pieces = map (λ piece. piece.now) DIFFERENCE
+
+abbrev difference_data : ℕ → ℕ → List Text
+difference_data a b = decimal a ∷ decimal b ∷ []
 
 -- its words, with the three cells that change
 abbrev cells : ℕ → ℕ → ℕ → List ℕ
@@ -100,7 +110,7 @@ module _ (a b : ℕ) (first : a < 65536) (second : b < 65536) where
   lines = lines_of_pieces true difference_pieces (difference_data a b) marks
 
   pub each_difference : (s : Settings)
-      → SourceRuns s (difference_text a b) (difference_orders a b) 72 (difference_prints a b)
+      → SourceRuns s (difference_text a b) (difference_orders a b) 72 (decimal (distance a b))
   unfolding settings parameter_store
   each_difference s =
       let z : Size = s.size in

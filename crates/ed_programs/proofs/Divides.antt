@@ -1,26 +1,20 @@
 -- A call of `divide` as one line: the three words are cells of the piece, and it writes two of them.
-use Rattle.std.proofs.Common.{◌≡◌, ◌≢◌, ◌⊎◌, inl, inr, ℕ, ◌+◌, ◌*◌, ◌/◌, ◌%◌, ◌<◌, ◌≤◌, Bool, false, refl, sym, ap, ◌∙◌}
-use Rattle.std.proofs.Common.{subst, arith}
-use Rattle.std.proofs.Common.{List, [], get_or, length, set}
-use Rattle.std.proofs.lemmas.Bool.{cases_lt}
-use Rattle.std.proofs.lemmas.List.{get_or-set_same, get_or-set_other, length-set}
-use Rattle.ed_words.specs.Sizes.{locations}
-use Rattle.ed_words.proofs.SizeLemmas.{most}
-use Rattle.ed_words.specs.declared.order_words.TheConstants.{A_F}
-use Rattle.ed_store.specs.Cells.{short_at}
-use Rattle.ed_machine.specs.State.{State}
-use Rattle.ed_library.specs.Routines.{is_working, place_count}
-use Rattle.ed_machine.proofs.Kit.Frames.{Frame, Moment, all_words, short, state}
+use Rattle.ed_sources.proofs.Kit.{place_count, IsOutside, Stands}
+use Rattle.ed_programs.proofs.Kit.{◌≡◌, ℕ, ◌+◌, ◌*◌, ◌/◌, ◌%◌, ◌<◌, ◌≤◌, Bool, false, [], ◌≢◌, ◌⊎◌, List, length, sym}
+use Rattle.ed_programs.proofs.Kit.{get_or, refl, ap, ◌∙◌, subst, inl, inr, arith, cases_lt, locations, A_F, short_at}
+use Rattle.ed_programs.proofs.Kit.{State, short, state, Frame, Moment, divide_orders, set, length-set, get_or-set_other}
+use Rattle.ed_programs.proofs.Kit.{get_or-set_same, most, any, own, get_own, HasRoutine, IsIn, Journey, divide}
+use Rattle.ed_programs.proofs.Kit.{with_hnm}
+use Rattle.ed_library.specs.Routines.{is_working}
+use Rattle.ed_machine.proofs.Kit.Frames.{all_words}
 use Rattle.ed_machine.proofs.Kit.Moves.{Jumps, Reads}
-use Rattle.ed_machine.proofs.Kit.Places.{any, own}
-use Rattle.ed_machine.proofs.Kit.Window.{get_own, length_patched}
+use Rattle.ed_machine.proofs.Kit.Window.{length_patched}
 use Rattle.ed_routines.specs.Returns.{IsOther}
-use Rattle.ed_routines.specs.Standing.{IsOutside, Stands}
 use Rattle.ed_routines.proofs.Called.{within_size}
-use Rattle.ed_maths.specs.Quotients.{divide, divide_orders, dividend, with_hnm}
+use Rattle.ed_maths.specs.Quotients.{dividend}
 use Rattle.ed_maths.proofs.DivideCall as divide_call
 use Rattle.ed_programs.proofs.Changes.{after_change, changes, still_has}
-use Rattle.ed_routines.proofs.Journeys.{HasRoutine, IsIn, Journey, all_long, beside_word, called, stands}
+use Rattle.ed_routines.proofs.Journeys.{all_long, beside_word, called, stands}
 
 -- the words of the division: cells jh, jl and jy of a piece of n, with the numbers in them; and the store's digits
 pub record IsDivided (n : ℕ) (r : Moment) (jh jl jy high low by : ℕ) : Type 0 where

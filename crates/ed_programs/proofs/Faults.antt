@@ -1,19 +1,15 @@
 -- Lines whose locations are after those of all earlier lines have no fault.
-use Rattle.std.proofs.Common.{◌≡◌, ℕ, ◌+◌, ◌≤◌, Bool, true, false, List, refl, arith, length}
-use Rattle.std.specs.Prelude.{Option, Some, None, is_none}
-use Rattle.ed_words.specs.Sizes.{locations}
-use Rattle.ed_words.specs.Texts.{Text}
-use Rattle.ed_words.specs.declared.size.Size.{Size}
+use Rattle.ed_sources.proofs.Kit.{arith, locations, Text, Size, Definition}
+use Rattle.std.specs.Prelude.{is_none, ◌≡◌, ℕ, ◌+◌, ◌≤◌, Bool, true, false, List, refl, length, Option, Some, None}
 use Rattle.ed_library.specs.Routines.{find}
 use Rattle.ed_syntax.specs.Parts.{array}
 use Rattle.ed_syntax.specs.declared.program.Setting.{Setting}
 use Rattle.ed_syntax.specs.declared.program.Statement.TheVariants as statements
-use Rattle.ed_symbols.specs.declared.symbols.Definition.{Definition}
 use Rattle.ed_symbols.specs.Names.{place_on}
 use Rattle.ed_symbols.specs.Places.{even_from, routine_places}
 use Rattle.ed_sources.proofs.Said.{said}
 use Rattle.ed_link.specs.FaultTests.{cause_of, sets}
-use Rattle.ed_link.proofs.Extents.{ExtentList, apart, are_below, counter, fits_store, past}
+use Rattle.ed_link.proofs.Extents.{ExtentList, apart, are_below, fits_store, past, counter}
 
 -- ---- lines after a program: a block of words, a routine of the library, and the entry
 

@@ -1,36 +1,17 @@
 -- The outcome of a tape of May 1949 whose program reaches its stop, as the answer of the command `tape1`.
-use Rattle.std.proofs.Common.{◌≡◌, ◌∙◌, inl, ℕ, ◌+◌, ◌-◌, ◌≤◌, refl, sym, subst, arith, Bool, true, false}
-use Rattle.std.proofs.Common.{◌&&◌, nat_le, nat_lt, List, [], ◌∷◌, ◌++◌, codes, length}
-use Rattle.std.specs.Prelude.{None, Result, Ok, Err, String}
-use Rattle.std.specs.List.{list_all}
-use Rattle.std.specs.declared.alloc.Global.{Global}
-use Rattle.std.proofs.lemmas.Bool.{and_parts}
-use Rattle.ed_words.proofs.Numbers.{le_of, lt_of}
-use Rattle.ed_words.specs.Texts.{Text}
-use Rattle.ed_codes.specs.Reading.{reading, rows}
-use Rattle.ed_machine.specs.OrderTable.{step}
-use Rattle.ed_machine.specs.State.{State}
+use Rattle.ed_programs.proofs.Kit.{◌≡◌, ℕ, ◌+◌, ◌-◌, ◌≤◌, Bool, true, false, [], List, ◌∷◌, ◌++◌, length, nat_lt, None}
+use Rattle.ed_programs.proofs.Kit.{nat_le, Ok, codes, sym, refl, ◌∙◌, subst, inl, arith, Text, list_all, and_parts, Err}
+use Rattle.ed_programs.proofs.Kit.{lt_of, paper, State, ComesToStop, at_after, step, Result, Global, Settings, Outcome}
+use Rattle.ed_programs.proofs.Kit.{INPUT_BYTES, ◌&&◌, run_end, paper_room, ran_outcome, String, le_of, reading, rows}
+use Rattle.ed_programs.proofs.Kit.{exactly, OfReading, answered, ran_to_stop, GivesProgram, Refusal}
 use Rattle.ed_notation.specs.Items.{AreDigits}
 use Rattle.ed_initial1.specs.Entry.{at_entry1}
 use Rattle.ed_initial1.specs.Faults.{Comes1, Tape}
 use Rattle.ed_initial1.specs.Items.{AreItems, Item1, item_number}
-use Rattle.ed_run.specs.Run.{run_end}
-use Rattle.ed_printer.specs.Paper.{paper}
-use Rattle.ed_run.specs.declared.settings.Settings.{Settings}
-use Rattle.ed_report.specs.Notes.{at_after}
-use Rattle.ed_routines.proofs.Journeys.{ComesToStop}
-use Rattle.ed_sources.proofs.Stops.{ran_to_stop}
-use Rattle.ed_answers.specs.declared.input.TheConstants.{INPUT_BYTES}
-use Rattle.ed_answers.specs.Answer.{OfReading, exactly}
 use Rattle.ed_answers.specs.FirstEntry.{cost1}
 use Rattle.ed_answers.specs.FirstOrders.{first_state1, tape1_outcome}
-use Rattle.ed_answers.specs.Outcome.{Outcome}
-use Rattle.ed_answers.specs.Runs.{paper_room, ran_outcome}
 use Rattle.ed_answers.proofs.FirstEntries.{runs_from_31}
-use Rattle.ed_sources.proofs.Stopped.{answered}
 use Rattle.ed_programs.specs.FirstTapes.{FirstTapePrints, FirstTapeRuns}
-use Rattle.ed_programs.specs.Programs.{GivesProgram}
-use Rattle.ed_programs.specs.declared.refusal.Refusal.{Refusal}
 
 -- ---- items, by one test
 

@@ -1,22 +1,12 @@
 -- The program of `examples/fraction.edsac`, at any base and for all its numbers: division as on paper.
-use Rattle.std.proofs.Common.{◌≡◌, ◌∙◌, inl, inr, ℕ, suc, ◌+◌, ◌*◌, ◌/◌, ◌%◌, ◌<◌, ◌≤◌, refl, subst, arith, lit<, lit≤}
-use Rattle.std.proofs.Common.{List, [], ◌∷◌, ◌++◌, Some, append-nil, length}
-use Rattle.ed_words.proofs.SizeLemmas.{most}
-use Rattle.ed_words.specs.declared.order_words.TheConstants.{A_F, E_F, G_F, L_D, O_F, S_F, T_F, U_F, Z_F}
-use Rattle.ed_machine.proofs.Kit.Frames.{Frame, Moment, short}
-use Rattle.ed_machine.proofs.Kit.Places.{own}
-use Rattle.ed_machine.proofs.Kit.Moves.{A, S, T, U, L, E_jumps, G_stays}
-use Rattle.ed_machine.proofs.Kit.Shifts.{LD, L1F}
-use Rattle.ed_machine.proofs.Kit.Paths.{Path, stay, on}
-use Rattle.ed_machine.proofs.Kit.Window.{get_own}
-use Rattle.ed_routines.specs.Catalogue.{print, read, with_h}
-use Rattle.ed_routines.specs.Digits.{digits, print_orders}
-use Rattle.ed_maths.specs.Quotients.{divide, divide_orders, with_hnm}
-use Rattle.ed_programs.proofs.Changes.{HasRead}
+use Rattle.ed_programs.proofs.Kit.{◌≡◌, ℕ, suc, ◌+◌, ◌*◌, ◌/◌, ◌%◌, ◌<◌, ◌≤◌, [], List, ◌∷◌, ◌++◌, length, Some, refl}
+use Rattle.ed_programs.proofs.Kit.{◌∙◌, subst, inl, inr, append-nil, arith, lit<, lit≤, A_F, G_F, Z_F, short, Frame, A}
+use Rattle.ed_programs.proofs.Kit.{Moment, print, with_h, digits, print_orders, divide_orders, E_F, L_D, O_F, S_F, T_F}
+use Rattle.ed_programs.proofs.Kit.{U_F, most, E_jumps, G_stays, L, S, T, U, on, stay, Path, own, L1F, LD, get_own, read}
+use Rattle.ed_programs.proofs.Kit.{along, then, HasRoutine, IsIn, Journey, print_line, divide, with_hnm, HasRead}
 use Rattle.ed_programs.proofs.Divides.{HasDivided, IsDivided, divide_line}
-use Rattle.ed_routines.proofs.Journeys.{HasRoutine, IsIn, Journey, after_call, along, elsewhere, has_after, no_working}
-use Rattle.ed_routines.proofs.Journeys.{still_in, then}
-use Rattle.ed_routines.proofs.Lines.{number_at, print_goes, print_left, print_line}
+use Rattle.ed_routines.proofs.Journeys.{after_call, elsewhere, has_after, no_working, still_in}
+use Rattle.ed_routines.proofs.Lines.{number_at, print_goes, print_left}
 
 -- the cells that change
 pub record Work : Type 0 where

@@ -1,30 +1,27 @@
 -- What the source of `examples/fraction.edsac` prints, for any fraction in range: its lines, its entry and its law.
-use Rattle.std.proofs.Common.{◌≡◌, ℕ, ◌+◌, ◌*◌, ◌/◌, ◌<◌, ◌≤◌, Bool, true, false, List, [], ◌∷◌, ◌++◌, refl, arith}
-use Rattle.std.proofs.Common.{append-nil, length, length-append, lit≤}
-use Rattle.std.proofs.lemmas.List.{length-replicate}
-use Rattle.ed_words.proofs.Numbers.{lt_true}
-use Rattle.ed_words.specs.declared.size.Size.{Size}
-use Rattle.ed_run.specs.declared.settings.Settings.{Settings}
-use Rattle.ed_library.specs.Images.{parameter_store}
-use Rattle.ed_maths.specs.Quotients.{divide, divide_orders, with_hnm}
-use Rattle.ed_syntax.specs.Reading.Grammar.{settings}
-use Rattle.ed_syntax.specs.declared.program.Line.{Line}
-use Rattle.ed_answers.specs.EntryState.{entry_state}
-use Rattle.ed_routines.specs.Catalogue.{print, read, with_h}
-use Rattle.ed_routines.specs.Digits.{digits, print_orders}
-use Rattle.ed_routines.proofs.Digits.{few_digits}
-use Rattle.ed_routines.proofs.Journeys.{ComesToStop}
-use Rattle.ed_sources.proofs.AtEntry.{all_words}
-use Rattle.ed_sources.proofs.Entries.{frame_at, moment_at}
-use Rattle.ed_programs.specs.Fraction.{figure_orders, fraction_orders, fraction_prints, fraction_data, fraction_pieces}
+use Rattle.ed_sources.proofs.Kit.{length-replicate}
+use Rattle.ed_programs.proofs.Kit.{◌≡◌, ℕ, ◌+◌, ◌*◌, ◌/◌, ◌<◌, ◌≤◌, Bool, true, false, [], List, ◌∷◌, ◌++◌, length}
+use Rattle.ed_programs.proofs.Kit.{refl, append-nil, arith, lit≤, length-append, Size, lt_true, Line, print, with_h}
+use Rattle.ed_programs.proofs.Kit.{digits, print_orders, few_digits, ComesToStop, divide_orders, entry_state, settings}
+use Rattle.ed_programs.proofs.Kit.{parameter_store, Settings, read, divide, with_hnm, all_words, frame_at, moment_at}
+use Rattle.ed_programs.proofs.Kit.{SourceRuns, are_small, data_mark, number_rows, routine_after, stops_from_entry}
+use Rattle.ed_programs.proofs.Kit.{Marked}
+use Rattle.ed_programs.specs.Fraction.{figure_orders, fraction_orders, fraction_prints}
 use Rattle.ed_programs.specs.Fraction.{fraction_text}
-use Rattle.ed_programs.specs.Programs.{SourceRuns}
 use Rattle.ed_programs.proofs.FractionProgram.{Given, IsAround, Work, cells}
 use Rattle.ed_programs.proofs.FractionWhole.{all_shown, few_codes, figure_codes, fraction_stops, quotient_small}
-use Rattle.ed_programs.proofs.DataLines.{are_small, data_mark, number_rows}
-use Rattle.ed_programs.proofs.ProgramEntry.{routine_after, stops_from_entry}
-use Rattle.ed_programs.proofs.SourceLines.{Marked}
 use Rattle.ed_programs.proofs.SourceRuns.{lines_of_pieces, program_runs}
+use Rattle.ed_programs.specs.declared.fraction.TheConstants.{FRACTION}
+use Rattle.ed_words.specs.Texts.{Text}
+use Rattle.std.proofs.Common.{map}
+use Rattle.std.specs.Fmt.{decimal}
+
+-- the pieces of the source, and the numbers between them
+abbrev fraction_pieces : List Text
+fraction_pieces = map (λ piece. piece.now) FRACTION
+
+abbrev fraction_data : ℕ → ℕ → ℕ → List Text
+fraction_data u l n = decimal u ∷ decimal l ∷ decimal n ∷ []
 
 module _ (u l n : ℕ) (first : u < 65536) (some : 1 ≤ l) (few : l ≤ 6553) (third : n < 65536) where
   abbrev three : List ℕ

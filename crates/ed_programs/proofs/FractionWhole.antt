@@ -1,30 +1,15 @@
 -- The program of `examples/fraction.edsac` from its entry to its stop, and the figures that it prints.
-use Rattle.std.proofs.Common.{◌≡◌, ◌∙◌, ℕ, zero, suc, ◌+◌, ◌*◌, ◌/◌, ◌%◌, ◌^◌, ◌<◌, ◌≤◌, refl, sym, ap, subst, arith}
-use Rattle.std.proofs.Common.{lit<, lit≤}
-use Rattle.std.proofs.Common.{List, [], ◌∷◌, ◌++◌, Some, append-nil, append_assoc, length, length-append}
-use Rattle.std.proofs.Math.Nat.{add-mul-div_left, add-mul-mod_self_left, div-add-mod, div-lt_iff_lt-mul, mod-lt}
-use Rattle.std.proofs.Math.Nat.{mul_assoc, pow-succ'}
-use Rattle.std.specs.Fmt.{decimal}
-use Rattle.ed_words.specs.Texts.{Text}
-use Rattle.ed_words.specs.declared.order_words.TheConstants.{Z_F}
-use Rattle.ed_machine.proofs.Kit.Frames.{Moment, short, state}
-use Rattle.ed_machine.proofs.Kit.Places.{own}
-use Rattle.ed_machine.proofs.Kit.Moves.{A, S, T, O, G_jumps, Z}
-use Rattle.ed_machine.proofs.Kit.Paths.{Path, stay, on, prints}
-use Rattle.ed_printer.specs.Paper.{paper, paper_from}
-use Rattle.ed_printer.specs.declared.printer.Shift.TheVariants.{Figures}
-use Rattle.ed_routines.specs.Digits.{digits, print_orders}
-use Rattle.ed_routines.proofs.Digits.{few_digits}
-use Rattle.ed_maths.specs.Quotients.{divide_orders}
-use Rattle.ed_sources.proofs.Papers.{number_shown}
+use Rattle.ed_programs.proofs.Kit.{◌≡◌, ℕ, zero, suc, ◌+◌, ◌*◌, ◌/◌, ◌%◌, ◌^◌, ◌<◌, ◌≤◌, [], List, ◌∷◌, ◌++◌, length, A}
+use Rattle.ed_programs.proofs.Kit.{Some, decimal, sym, refl, ap, ◌∙◌, subst, append_assoc, append-nil, arith, lit<, Z_F}
+use Rattle.ed_programs.proofs.Kit.{lit≤, Text, length-append, paper, short, state, Moment, digits, print_orders, mod-lt}
+use Rattle.ed_programs.proofs.Kit.{few_digits, ComesToStop, divide_orders, div-lt_iff_lt-mul, div-add-mod, paper_from}
+use Rattle.ed_programs.proofs.Kit.{Figures, G_jumps, O, S, T, Z, on, prints, stay, Path, own, along, stop_after, then}
+use Rattle.ed_programs.proofs.Kit.{to_stop, Journey, print_line, number_shown, reads_number, HasRead, number_rows}
+use Rattle.std.proofs.Math.Nat.{add-mul-div_left, add-mul-mod_self_left, mul_assoc, pow-succ'}
 use Rattle.ed_programs.specs.Fraction.{figure, figure_orders, figures}
-use Rattle.ed_programs.proofs.Changes.{HasRead, reads_number}
-use Rattle.ed_programs.proofs.DataLines.{number_rows}
 use Rattle.ed_programs.proofs.Divides.{HasDivided, IsDivided, divide_line}
 use Rattle.ed_programs.proofs.FractionProgram.{Given, IsAround, Turned, Work, after_divide, after_print, after_read, at}
 use Rattle.ed_programs.proofs.FractionProgram.{in_at, number_is, printed_words, turn}
-use Rattle.ed_routines.proofs.Journeys.{ComesToStop, Journey, along, stop_after, then, to_stop}
-use Rattle.ed_routines.proofs.Lines.{print_line}
 
 -- ---- division as on paper: the figure and what is left, by those of the place before
 

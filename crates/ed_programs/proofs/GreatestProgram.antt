@@ -1,21 +1,12 @@
 -- The program of `examples/answer6.edsac`, at any base and for a list of any length: two orders go along the list.
-use Rattle.std.proofs.Common.{◌≡◌, ◌∙◌, inr, ℕ, ◌+◌, ◌-◌, ◌*◌, ◌<◌, ◌≤◌, Bool, true, false, max, refl, ap, subst, arith}
-use Rattle.std.proofs.Common.{lit<, lit≤}
-use Rattle.std.proofs.Common.{List, [], ◌∷◌, get_or, length, nat_lt}
-use Rattle.std.specs.Prelude.{if◌then◌else◌}
-use Rattle.ed_words.proofs.Numbers.{lt_of, not_lt_of}
-use Rattle.ed_words.proofs.SizeLemmas.{most}
-use Rattle.ed_words.specs.declared.order_words.TheConstants.{A_F, G_F, S_F, T_F, U_F, Z_F}
-use Rattle.ed_machine.proofs.Kit.Frames.{Frame, Moment, short, state}
-use Rattle.ed_machine.proofs.Kit.Places.{IsOutside, early, own, out}
-use Rattle.ed_machine.proofs.Kit.Moves.{A, S, T, U, G_jumps, G_stays, Z}
-use Rattle.ed_machine.proofs.Kit.Paths.{Path, stay, on, followed}
-use Rattle.ed_machine.proofs.Kit.Window.{get_own}
-use Rattle.ed_routines.specs.Catalogue.{print, with_h}
-use Rattle.ed_routines.specs.Digits.{digits, print_orders}
+use Rattle.ed_programs.proofs.Kit.{◌≡◌, ℕ, ◌+◌, ◌-◌, ◌*◌, ◌<◌, ◌≤◌, Bool, true, false, [], List, ◌∷◌, length, get_or, A}
+use Rattle.ed_programs.proofs.Kit.{if◌then◌else◌, nat_lt, refl, ap, ◌∙◌, subst, inr, arith, lit<, lit≤, A_F, G_F, Z_F}
+use Rattle.ed_programs.proofs.Kit.{lt_of, short, state, Frame, Moment, print, with_h, digits, print_orders, ComesToStop}
+use Rattle.ed_programs.proofs.Kit.{S_F, T_F, U_F, not_lt_of, most, G_jumps, G_stays, S, T, U, Z, followed, on, stay}
+use Rattle.ed_programs.proofs.Kit.{Path, early, out, own, IsOutside, get_own, along, then, to_stop, HasRoutine, IsIn}
+use Rattle.ed_programs.proofs.Kit.{print_line}
+use Rattle.std.proofs.Common.{max}
 use Rattle.ed_programs.specs.Greatest.{greatest_of, rises}
-use Rattle.ed_routines.proofs.Journeys.{ComesToStop, HasRoutine, IsIn, along, then, to_stop}
-use Rattle.ed_routines.proofs.Lines.{print_line}
 use Rattle.ed_machine.proofs.Kit.Loops.{all_spent, quiet_walks, walked}
 
 -- the order that gets the word at q

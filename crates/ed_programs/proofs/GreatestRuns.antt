@@ -1,33 +1,24 @@
 -- What the source of `examples/answer6.edsac` prints, for any eight numbers: its lines, its entry and its law.
-use Rattle.std.proofs.Common.{◌≡◌, ◌∙◌, ℕ, ◌+◌, ◌*◌, ◌<◌, ◌≤◌, true, List, [], ◌∷◌, refl, ap, arith, codes, drop}
-use Rattle.std.proofs.Common.{get_or, map, subst}
-use Rattle.std.proofs.Common.{length, lit<, lit≤, nat_lt}
-use Rattle.std.specs.Fmt.{decimal}
-use Rattle.std.proofs.lemmas.Bool.{and_parts}
-use Rattle.ed_words.proofs.Numbers.{lt_of}
-use Rattle.ed_words.proofs.SizeLemmas.{least}
-use Rattle.ed_words.specs.declared.size.Size.{Size}
-use Rattle.ed_run.specs.declared.settings.Settings.{Settings}
-use Rattle.ed_library.specs.Images.{parameter_store}
-use Rattle.ed_syntax.specs.Reading.Grammar.{settings}
-use Rattle.ed_syntax.specs.declared.program.Line.{Line}
-use Rattle.ed_answers.specs.EntryState.{entry_state}
-use Rattle.ed_routines.specs.Catalogue.{print, with_h}
-use Rattle.ed_routines.specs.Digits.{digits, print_orders}
-use Rattle.ed_routines.proofs.Digits.{few_digits}
-use Rattle.ed_routines.proofs.Journeys.{ComesToStop}
-use Rattle.ed_sources.proofs.AtEntry.{all_words, have_places, placed, word_at}
-use Rattle.ed_sources.proofs.Entries.{frame_at, moment_at}
-use Rattle.ed_sources.proofs.Papers.{digits_printed}
-use Rattle.ed_programs.specs.Greatest.{greatest_of, greatest_orders, greatest_prints, greatest_pieces, greatest_text}
+use Rattle.ed_programs.proofs.Kit.{◌≡◌, ℕ, ◌+◌, ◌*◌, ◌<◌, ◌≤◌, true, [], List, ◌∷◌, map, length, get_or, drop, nat_lt}
+use Rattle.ed_programs.proofs.Kit.{codes, decimal, refl, ap, ◌∙◌, subst, arith, lit<, lit≤, and_parts, Size, lt_of}
+use Rattle.ed_programs.proofs.Kit.{least, Line, print, with_h, digits, print_orders, few_digits, ComesToStop, settings}
+use Rattle.ed_programs.proofs.Kit.{entry_state, parameter_store, Settings, all_words, frame_at, moment_at, SourceRuns}
+use Rattle.ed_programs.proofs.Kit.{digits_printed, are_small, routine_after, stops_from_entry, Marked}
+use Rattle.ed_sources.proofs.AtEntry.{have_places, placed, word_at}
+use Rattle.ed_programs.specs.Greatest.{greatest_of, greatest_orders, greatest_text}
 use Rattle.ed_programs.specs.Greatest.{rises}
-use Rattle.ed_programs.specs.Programs.{SourceRuns}
 use Rattle.ed_programs.proofs.GreatestProgram.{Given, Stand, Turning, cells, getting, greatest_stops}
-use Rattle.ed_programs.proofs.DataLines.{are_small, listed, listed_is, small_at}
+use Rattle.ed_programs.proofs.DataLines.{listed, listed_is, small_at}
 use Rattle.ed_programs.proofs.NumberLines.{plain_mark, word_mark}
-use Rattle.ed_programs.proofs.ProgramEntry.{routine_after, stops_from_entry, words_from}
-use Rattle.ed_programs.proofs.SourceLines.{Marked}
+use Rattle.ed_programs.proofs.ProgramEntry.{words_from}
 use Rattle.ed_programs.proofs.SourceRuns.{lines_of_pieces, program_runs}
+use Rattle.ed_programs.specs.Programs.{spread_pieces}
+use Rattle.ed_programs.specs.declared.greatest.TheConstants.{GREATEST}
+use Rattle.ed_words.specs.Texts.{Text}
+
+-- the pieces of the source around eight numbers
+abbrev greatest_pieces : List Text
+greatest_pieces = spread_pieces 7 (10 ∷ codes "word ") (map (λ piece. piece.now) GREATEST)
 
 greatest_small : (ns : List ℕ) → are_small ns ≡ true → greatest_of ns < 65536
 greatest_small [] h = lit< tt
@@ -95,7 +86,7 @@ module _ (a b c d e f g h : ℕ) (small : are_small (a ∷ b ∷ c ∷ d ∷ e �
         (record { stand = stand; ends = refl; from = lit≤ tt; small = lit< tt; low = lit< tt }) refl
         (entry_state z lines).orders)
 
-  eight_run : (s : Settings) → SourceRuns s (greatest_text ns) (greatest_orders ns) 76 (greatest_prints ns)
+  eight_run : (s : Settings) → SourceRuns s (greatest_text ns) (greatest_orders ns) 76 (decimal (greatest_of ns))
   unfolding settings
   eight_run s =
       let low = greatest_small ns small in
@@ -104,11 +95,11 @@ module _ (a b c d e f g h : ℕ) (small : are_small (a ∷ b ∷ c ∷ d ∷ e �
       (digits_printed (greatest_of ns) low)
 
 pub each_greatest : (s : Settings) (ns : List ℕ) → length ns ≡ 8 → are_small ns ≡ true
-    → SourceRuns s (greatest_text ns) (greatest_orders ns) 76 (greatest_prints ns)
+    → SourceRuns s (greatest_text ns) (greatest_orders ns) 76 (decimal (greatest_of ns))
 each_greatest s ns eight small =
     let is = listed_is 8 ns eight in
     let all : are_small (listed 0 8 ns) ≡ true = ap are_small is ∙ small in
-    subst (λ (ns : List ℕ). SourceRuns s (greatest_text ns) (greatest_orders ns) 76 (greatest_prints ns)) is
+    subst (λ (ns : List ℕ). SourceRuns s (greatest_text ns) (greatest_orders ns) 76 (decimal (greatest_of ns))) is
     (eight_run (get_or ns 0 0) (get_or ns 1 0) (get_or ns 2 0) (get_or ns 3 0) (get_or ns 4 0) (get_or ns 5 0)
     (get_or ns 6 0)
     (get_or ns 7 0) all s)

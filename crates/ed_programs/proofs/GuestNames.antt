@@ -1,27 +1,22 @@
 -- A source that enters the checking routine is entered at the routine's base.
-use Rattle.std.proofs.Common.{◌≡◌, ◌∙◌, inl, inr, ℕ, refl, sym, ap, subst, Bool, true, false, true≢false}
-use Rattle.std.proofs.Common.{List, [], ◌∷◌, ◌++◌, append_assoc, if◌then◌else◌}
-use Rattle.std.specs.Prelude.{Option, Some, None, not, ◌&&◌, ◌||◌, is_some, option_map, unwrap_or}
+use Rattle.ed_sources.proofs.Kit.{Definition, entry_of}
+use Rattle.ed_programs.proofs.Kit.{◌≡◌, ℕ, Bool, true, false, not, [], ◌||◌, List, ◌∷◌, ◌++◌, Some, if◌then◌else◌, None}
+use Rattle.ed_programs.proofs.Kit.{Option, unwrap_or, sym, refl, ap, ◌∙◌, subst, inl, inr, append_assoc, Size, Line}
+use Rattle.ed_programs.proofs.Kit.{Statement, symbols_of, ◌&&◌, true≢false, Enter, checker_base, EntersChecker}
+use Rattle.std.specs.Prelude.{option_map, is_some}
 use Rattle.std.specs.Str.{bytes_eq}
 use Rattle.std.proofs.lemmas.Slice.Eq.{bytes_eq-Decides}
-use Rattle.ed_words.specs.declared.size.Size.{Size}
-use Rattle.ed_syntax.specs.declared.program.Statement.{Statement}
-use Rattle.ed_syntax.specs.declared.program.Statement.TheVariants.{Segment, Order, Number, Text, Long, Fetch, Enter}
-use Rattle.ed_syntax.specs.declared.program.Statement.TheVariants.{Rows}
-use Rattle.ed_syntax.specs.declared.program.Line.{Line}
+use Rattle.ed_syntax.specs.declared.program.Statement.TheVariants.{Segment, Order, Number, Text, Long, Fetch, Rows}
 use Rattle.ed_syntax.specs.declared.fault.SourceCause.TheVariants as causes
 use Rattle.ed_symbols.specs.declared.location_counter.LocationCounter.{LocationCounter}
-use Rattle.ed_symbols.specs.declared.symbols.Definition.{Definition}
 use Rattle.ed_symbols.specs.Places.{first_counter, after_statement}
 use Rattle.ed_symbols.specs.Names.{line_definitions, definition_of, definition_place, symbols_from, is_definition_of}
-use Rattle.ed_symbols.specs.Names.{is_local, label_definition, as_list}
-use Rattle.ed_symbols.specs.Names.{statement_definition, place_on, same_segment}
+use Rattle.ed_symbols.specs.Names.{is_local, label_definition, as_list, statement_definition, place_on, same_segment}
 use Rattle.ed_symbols.specs.NameTests.{defines_again, is_again}
 use Rattle.ed_symbols.specs.NameFaults.{counter_after, counter_from}
 use Rattle.ed_symbols.proofs.AgainSentences.{s6}
 use Rattle.ed_link.specs.Faults.{HasEnter, HasNoFault, IsData, on_line}
-use Rattle.ed_link.specs.Linked.{entered_place, entry_from, entry_of, symbols_of}
-use Rattle.ed_programs.specs.Guests.{EntersChecker, checker_base}
+use Rattle.ed_link.specs.Linked.{entered_place, entry_from}
 
 -- ---- the line that enters
 

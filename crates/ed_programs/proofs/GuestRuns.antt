@@ -1,40 +1,24 @@
 -- What the command `run` answers to a source that enters the checking routine.
-use Rattle.std.proofs.Common.{◌≡◌, inl, ℕ, zero, suc, ◌+◌, ◌<◌, ◌≤◌, sym, subst, arith}
-use Rattle.std.proofs.Common.{List, length}
-use Rattle.std.specs.Prelude.{None, Result, Ok, Err, String, string_bytes}
-use Rattle.std.specs.declared.alloc.Global.{Global}
-use Rattle.ed_words.specs.Sizes.{locations}
-use Rattle.ed_words.proofs.SizeLemmas.{most}
-use Rattle.ed_words.specs.Texts.{Text}
-use Rattle.ed_machine.specs.State.{State}
-use Rattle.ed_machine.specs.Steps.{state_after}
+use Rattle.ed_sources.proofs.Kit.{string_bytes, cost, AnswersFromEntry}
+use Rattle.ed_laws.proofs.Kit.{IsAcceptedAs}
+use Rattle.ed_programs.proofs.Kit.{◌≡◌, ℕ, zero, suc, ◌+◌, ◌<◌, ◌≤◌, List, length, None, Ok, sym, subst, inl, arith}
+use Rattle.ed_programs.proofs.Kit.{Text, locations, paper, State, Line, symbols_of, ComesToStop, entry_state, Err, most}
+use Rattle.ed_programs.proofs.Kit.{run_outcome, Result, Global, Settings, OfSource, state_after, paper_room, String}
+use Rattle.ed_programs.proofs.Kit.{checker_base, entry_guest, EntersChecker, GivesProgram, SourceRuns, Refusal}
 use Rattle.ed_machine.proofs.Steps.{no_step}
-use Rattle.ed_routines.proofs.Journeys.{ComesToStop}
 use Rattle.ed_syntax.specs.Sources.{IsProgram}
-use Rattle.ed_syntax.specs.declared.program.Line.{Line}
-use Rattle.ed_link.specs.Linked.{symbols_of, operand_number}
-use Rattle.ed_link.specs.Tapes.{cost}
-use Rattle.ed_answers.specs.Refusals.{IsAcceptedAs}
-use Rattle.ed_answers.specs.EntryState.{entry_state}
-use Rattle.ed_printer.specs.Paper.{paper}
-use Rattle.ed_run.specs.declared.settings.Settings.{Settings}
+use Rattle.ed_link.specs.Linked.{operand_number}
 use Rattle.ed_checker.specs.Checker.{IsAllowed, checked_codes, checked_orders, guest, planting_place}
 use Rattle.ed_checker.specs.Laws.{HasGuest, IsFollowed}
 use Rattle.ed_checker.proofs.Follow.{checker_law}
 use Rattle.ed_sources.proofs.CheckedPaper.{checks_to_stop}
 use Rattle.ed_sources.proofs.Stops.{comes_to_stop}
-use Rattle.ed_answers.specs.FromEntry.{AnswersFromEntry}
-use Rattle.ed_answers.specs.Sources.{OfSource, run_outcome}
 use Rattle.ed_answers.proofs.Sources.{accepted_is, each_answer_is_from_entry}
 use Rattle.ed_sources.proofs.Stopped.{stopped_outcome}
-use Rattle.ed_answers.specs.Runs.{paper_room}
 use Rattle.ed_laws.specs.BlockedGuests.{IsBlockedAt, RunsToBlock, blocked_codes, orders_to_block}
 use Rattle.ed_laws.proofs.Theorems.{blocked_guests}
-use Rattle.ed_programs.specs.Guests.{ChecksGuest, StopsAtZ, EachGuestIsChecked, EntersChecker}
-use Rattle.ed_programs.specs.Guests.{checker_base, entry_guest}
-use Rattle.ed_programs.specs.Guests.{ChecksItsGuest, checked_text, stopped_orders}
-use Rattle.ed_programs.specs.Programs.{GivesProgram, SourceRuns}
-use Rattle.ed_programs.specs.declared.refusal.Refusal.{Refusal}
+use Rattle.ed_programs.specs.Guests.{ChecksGuest, StopsAtZ, EachGuestIsChecked, ChecksItsGuest, checked_text}
+use Rattle.ed_programs.specs.Guests.{stopped_orders}
 use Rattle.ed_programs.proofs.GuestNames.{entry_is}
 use Rattle.ed_programs.proofs.GuestStands.{guest_is, has_guest}
 use Rattle.ed_programs.proofs.GuestTexts.{enters_from_main, source_short}

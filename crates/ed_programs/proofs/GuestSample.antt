@@ -1,41 +1,23 @@
 -- A guest of three lines, for which everything that the law requires is shown: it prints A and stops.
-use Rattle.std.proofs.Common.{◌≡◌, ◌∙◌, inl, ℕ, zero, suc, ◌+◌, ◌-◌, ◌*◌, ◌/◌, ◌^◌, ◌<◌, ◌≤◌}
-use Rattle.std.proofs.Common.{refl, sym, ap, subst, arith, lit<, lit≤}
-use Rattle.std.proofs.Common.{true, false, List, [], ◌∷◌, ◌++◌, length, take, Some, codes, pos}
-use Rattle.std.specs.Prelude.{None, Ok, unwrap_or}
-use Rattle.ed_words.specs.declared.size.Size.{Size}
-use Rattle.ed_words.specs.declared.size.Size.TheVariants.{Small, Full}
-use Rattle.ed_words.specs.Words.{function_of}
-use Rattle.ed_words.proofs.SizeLemmas.{least}
-use Rattle.ed_words.specs.Texts.{Text}
-use Rattle.ed_words.specs.declared.order_words.TheConstants.{A_F, Z_F}
-use Rattle.ed_store.specs.Cells.{short_at}
-use Rattle.ed_orders.specs.Kinds.{kind_of_function}
-use Rattle.ed_orders.specs.declared.kind.Kind.TheVariants.{O}
-use Rattle.ed_machine.specs.State.{State}
-use Rattle.ed_machine.specs.OrderTable.{next_word, obey_word, step}
+use Rattle.ed_sources.proofs.Kit.{placed_at, program_of}
+use Rattle.ed_laws.proofs.Kit.{function_of, kind_of_function, O, next_word, obey_word, codes_of, is_obeyed, stops_of}
+use Rattle.ed_laws.proofs.Kit.{progress, Printed}
+use Rattle.ed_programs.proofs.Kit.{◌≡◌, ℕ, zero, suc, ◌+◌, ◌-◌, ◌*◌, ◌/◌, ◌^◌, ◌<◌, ◌≤◌, true, false, [], List, ◌∷◌, Ok}
+use Rattle.ed_programs.proofs.Kit.{◌++◌, length, take, Some, None, codes, unwrap_or, sym, refl, ap, ◌∙◌, subst, inl}
+use Rattle.ed_programs.proofs.Kit.{arith, lit<, lit≤, Text, A_F, Z_F, Size, least, paper, short_at, State, line_of, pos}
+use Rattle.ed_programs.proofs.Kit.{Line, fault, text_of_lines, step, settings, parameter_store, state_after, Full}
+use Rattle.ed_programs.proofs.Kit.{Small, Enter, entry_guest, EntersChecker, SourceRuns, Marked}
 use Rattle.ed_machine.proofs.Kit.Leads.{first_order}
-use Rattle.ed_machine.specs.Steps.{codes_of, is_obeyed, progress, state_after, stops_of}
-use Rattle.ed_machine.specs.declared.turn.Turn.TheVariants.{Printed, Stopped}
+use Rattle.ed_machine.specs.declared.turn.Turn.TheVariants.{Stopped}
 use Rattle.ed_machine.proofs.Steps.{no_step}
-use Rattle.ed_notation.specs.Fold.{placed_at}
-use Rattle.ed_library.specs.Images.{parameter_store}
-use Rattle.ed_syntax.specs.Reading.Grammar.{settings}
-use Rattle.ed_syntax.specs.Reading.Sources.{line_of, program_of}
 use Rattle.ed_syntax.specs.declared.program.Operand.TheVariants.{Label}
-use Rattle.ed_syntax.specs.declared.program.Statement.TheVariants.{Enter, Fetch}
-use Rattle.ed_syntax.specs.declared.program.Line.{Line}
-use Rattle.ed_link.specs.FaultTests.{fault}
+use Rattle.ed_syntax.specs.declared.program.Statement.TheVariants.{Fetch}
 use Rattle.ed_answers.proofs.EachSource.{read_is_accepted}
 use Rattle.ed_checker.specs.Checker.{IsAllowed, IsAllowedOrder, checked_codes, checked_orders, orders_by}
-use Rattle.ed_sources.specs.CallSources.{text_of_lines}
 use Rattle.ed_sources.proofs.AtEntry.{placed, word_at}
-use Rattle.ed_printer.specs.Paper.{paper}
-use Rattle.ed_programs.specs.Guests.{EntersChecker, SampleIsChecked, StopsAtZ, entry_guest, use_check}
-use Rattle.ed_programs.specs.Guests.{stopped_orders}
-use Rattle.ed_programs.specs.Programs.{SourceRuns}
+use Rattle.ed_programs.specs.Guests.{SampleIsChecked, StopsAtZ, use_check, stopped_orders}
 use Rattle.ed_programs.proofs.GuestRuns.{each_guest}
-use Rattle.ed_programs.proofs.SourceLines.{Marked, lines_said, source_read, source_said}
+use Rattle.ed_programs.proofs.SourceLines.{lines_said, source_read, source_said}
 
 -- ---- the source
 

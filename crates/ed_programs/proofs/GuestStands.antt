@@ -1,45 +1,33 @@
 -- At the entry of a source that enters the checking routine the routine is at the start of a turn, with the guest at H.
-use Rattle.std.proofs.Common.{◌≡◌, ◌∙◌, ℕ, ◌+◌, ◌*◌, ◌/◌, ◌%◌, ◌^◌, ◌<◌, ◌≤◌}
-use Rattle.std.proofs.Common.{refl, sym, ap, subst, arith, lit<}
-use Rattle.std.proofs.Common.{Bool, true, false, true≢false, ◌||◌, nat_eq, List}
-use Rattle.std.proofs.Common.{◌++◌, get_or, length, map}
-use Rattle.std.specs.Prelude.{None}
+use Rattle.ed_sources.proofs.Kit.{nat_eq, Item, image_word, cost}
+use Rattle.ed_laws.proofs.Kit.{tape, IsAcceptedAs}
+use Rattle.ed_programs.proofs.Kit.{◌≡◌, ℕ, ◌+◌, ◌*◌, ◌/◌, ◌%◌, ◌^◌, ◌<◌, ◌≤◌, Bool, true, false, ◌||◌, List, ◌++◌, map}
+use Rattle.ed_programs.proofs.Kit.{length, get_or, None, sym, refl, ap, ◌∙◌, subst, arith, lit<, Text, locations, A_F}
+use Rattle.ed_programs.proofs.Kit.{Size, short_at, State, Line, symbols_of, with_h, entry_state, parameter_store, most}
+use Rattle.ed_programs.proofs.Kit.{true≢false, first_state, canonicals, checker_base, entry_guest, EntersChecker}
 use Rattle.std.proofs.lemmas.List.{get_or-replicate}
 use Rattle.std.proofs.Math.ListN.{get_or-map}
-use Rattle.ed_words.specs.declared.size.Size.{Size}
-use Rattle.ed_words.specs.Sizes.{locations}
 use Rattle.ed_words.specs.Words.{address_of, long_of_halves}
-use Rattle.ed_words.proofs.SizeLemmas.{most}
-use Rattle.ed_words.specs.Texts.{Text}
-use Rattle.ed_words.specs.declared.order_words.TheConstants.{A_F}
 use Rattle.ed_codes.proofs.Below.{from_below}
-use Rattle.ed_store.specs.Cells.{even, long_at, odd, sandwich_at, short_at}
-use Rattle.ed_machine.specs.State.{State}
+use Rattle.ed_store.specs.Cells.{even, long_at, odd, sandwich_at}
 use Rattle.ed_machine.specs.Sound.{IsSound}
 use Rattle.ed_machine.proofs.SoundSteps.{sound_after}
-use Rattle.ed_notation.specs.declared.item.Item.{Item}
 use Rattle.ed_library.specs.Entries.{entry}
-use Rattle.ed_library.specs.Images.{image_word, parameter_store, routine_word}
+use Rattle.ed_library.specs.Images.{routine_word}
 use Rattle.ed_library.specs.Routines.{is_working, missing_row, routine_item, table_item}
-use Rattle.ed_syntax.specs.declared.program.Line.{Line}
 use Rattle.ed_symbols.specs.NameFaults.{counter_after}
-use Rattle.ed_notation.specs.Spellings.{canonicals, text_of}
-use Rattle.ed_initial.specs.Entry.{first_state}
+use Rattle.ed_notation.specs.Spellings.{text_of}
 use Rattle.ed_initial.proofs.Starts.{sound_start}
-use Rattle.ed_link.specs.Linked.{data_after, first_place, symbols_of, operand_number}
+use Rattle.ed_link.specs.Linked.{data_after, first_place, operand_number}
 use Rattle.ed_link.specs.Punch.{punched_items}
-use Rattle.ed_answers.specs.Refusals.{IsAcceptedAs}
-use Rattle.ed_link.specs.Tapes.{after_text, cost, tape}
+use Rattle.ed_link.specs.Tapes.{after_text}
 use Rattle.ed_link.specs.Words.{LinePlaces, words_of_line}
 use Rattle.ed_answers.proofs.PunchedTexts.{text_is_tape}
 use Rattle.ed_link.proofs.WordLaws.{each_word_stands}
-use Rattle.ed_answers.specs.EntryState.{entry_state}
 use Rattle.ed_answers.proofs.Entries.{each_source}
 use Rattle.ed_answers.proofs.EntryWords.{each_entry_store_is}
-use Rattle.ed_routines.specs.Catalogue.{with_h}
 use Rattle.ed_checker.specs.Checker.{HasImage, check, guest}
 use Rattle.ed_checker.specs.Laws.{HasGuest}
-use Rattle.ed_programs.specs.Guests.{EntersChecker, checker_base, entry_guest}
 use Rattle.ed_programs.proofs.GuestNames.{entry_is}
 
 -- ---- the machine that is started on the tape of a source

@@ -1,22 +1,16 @@
 -- The text of an accepted source is never too long for the program, and ends with the lines that its text ends with.
-use Rattle.std.proofs.Common.{◌≡◌, ◌∙◌, ℕ, ◌+◌, ◌*◌, ◌≤◌, refl, sym, ap, subst, arith, Bool, true, false}
-use Rattle.std.proofs.Common.{List, [], ◌∷◌, ◌++◌, length, length-append, append_assoc, nat_le, if◌then◌else◌, lit≤}
-use Rattle.std.specs.Prelude.{◌==◌, Some, None, Result, Ok, codes, pos}
-use Rattle.std.proofs.lemmas.Bool.{and_from, and_parts}
-use Rattle.ed_words.proofs.Numbers.{le_of, le_true}
-use Rattle.ed_words.specs.Texts.{Text}
+use Rattle.ed_programs.proofs.Kit.{◌≡◌, ℕ, ◌+◌, ◌*◌, ◌≤◌, Bool, true, false, [], List, ◌∷◌, ◌++◌, length, ◌==◌, Some}
+use Rattle.ed_programs.proofs.Kit.{if◌then◌else◌, nat_le, None, Ok, codes, sym, refl, ap, ◌∙◌, subst, append_assoc, pos}
+use Rattle.ed_programs.proofs.Kit.{arith, lit≤, Text, length-append, and_parts, line_of, Line, text_of_lines, settings}
+use Rattle.ed_programs.proofs.Kit.{Result, INPUT_BYTES, le_of, le_true, Enter, EntersChecker}
+use Rattle.std.proofs.lemmas.Bool.{and_from}
 use Rattle.ed_syntax.specs.Lines.{HasLines, nothing, last, ended, lines_of, with_byte, without_return}
 use Rattle.ed_syntax.specs.Sources.{IsProgram, LinesSay, no_more, and_more}
-use Rattle.ed_syntax.specs.declared.program.Line.{Line}
-use Rattle.ed_syntax.specs.Reading.Grammar.{settings}
-use Rattle.ed_syntax.specs.Reading.Sources.{Fault, and_lines, line_of, lines_from}
+use Rattle.ed_syntax.specs.Reading.Sources.{Fault, and_lines, lines_from}
 use Rattle.ed_syntax.specs.declared.program.Operand.TheVariants.{Label}
-use Rattle.ed_syntax.specs.declared.program.Statement.TheVariants.{Enter}
 use Rattle.ed_syntax.proofs.SourceLaws.{lines_are_read, say_is_read}
-use Rattle.ed_sources.specs.CallSources.{text_of_lines}
-use Rattle.ed_programs.specs.Guests.{EntersChecker, checked_text, use_check}
+use Rattle.ed_programs.specs.Guests.{checked_text, use_check}
 use Rattle.ed_programs.proofs.SourceLines.{Says, ends, said_lines, says}
-use Rattle.ed_answers.specs.declared.input.TheConstants.{INPUT_BYTES}
 use Rattle.ed_programs.proofs.Answered.{are_short}
 
 -- ---- how long it is

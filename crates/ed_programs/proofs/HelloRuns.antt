@@ -1,41 +1,40 @@
 -- The source of `examples/hello.edsac` for any text: its lines, its path, and what it prints.
-use Rattle.std.proofs.Common.{nat_le, nat_lt, Option, pos, reverse, take}
-use Rattle.std.specs.List.{list_all}
-use Rattle.std.proofs.lemmas.List.{length-map}
-use Rattle.ed_words.proofs.Numbers.{le_of, le_true, lt_false}
-use Rattle.ed_words.specs.Decimals.{value}
-use Rattle.ed_codes.specs.Spelling.{row_of}
+use Rattle.ed_sources.proofs.Kit.{value, linked_words, counter}
+use Rattle.ed_programs.proofs.Kit.{◌≡◌, ℕ, ◌+◌, ◌-◌, ◌*◌, ◌<◌, ◌≤◌, true, false, [], List, ◌∷◌, ◌++◌, length, get_or, A}
+use Rattle.ed_programs.proofs.Kit.{take, Some, nat_lt, nat_le, None, Ok, codes, decimal, Option, refl, ap, ◌∙◌, subst}
+use Rattle.ed_programs.proofs.Kit.{inr, arith, lit<, lit≤, Text, length-append, list_all, length-map, G_F, Z_F, Size, O}
+use Rattle.ed_programs.proofs.Kit.{lt_false, least, paper, short, state, Frame, Moment, line_of, Line, Statement, fault}
+use Rattle.ed_programs.proofs.Kit.{symbols_of, newline, ComesToStop, entry_state, Settings, reverse, pos, Full, Small}
+use Rattle.ed_programs.proofs.Kit.{le_of, le_true, row_of, G_jumps, G_stays, S, T, U, Z, followed, on, prints, stay, to}
+use Rattle.ed_programs.proofs.Kit.{Path, early, out, own, IsOutside, row, along, then, to_stop, HasRoutine, IsIn}
+use Rattle.ed_programs.proofs.Kit.{all_words, frame_at, moment_at, is_capital, SourceRuns, Marked, printing, counted}
 use Rattle.ed_syntax.specs.Parts.{run, sign}
-use Rattle.ed_syntax.specs.Reading.Grammar.{row}
-use Rattle.ed_syntax.specs.Reading.Sources.{line_of}
 use Rattle.ed_syntax.specs.declared.program.Operand.TheVariants as operands
-use Rattle.ed_syntax.specs.declared.program.Statement.{Statement}
 use Rattle.ed_syntax.specs.declared.program.Statement.TheVariants as statements
-use Rattle.ed_words.specs.declared.size.Size.TheVariants.{Small, Full}
-use Rattle.ed_words.specs.declared.order_words.TheConstants.{G_F, Z_F}
 use Rattle.ed_symbols.specs.NameTests.{resolution}
 use Rattle.ed_symbols.specs.Places.{even_from, first_counter}
-use Rattle.ed_link.specs.FaultTests.{extent, fault, fault_from, missing, sooner}
-use Rattle.ed_link.specs.Linked.{symbols_of, linked_words}
-use Rattle.ed_machine.proofs.Kit.Places.{IsOutside}
+use Rattle.ed_link.specs.FaultTests.{extent, fault_from, missing, sooner}
 use Rattle.ed_routines.proofs.Lines.{newline_line}
 use Rattle.ed_sources.proofs.Blocks.{order_at}
 use Rattle.ed_sources.proofs.Said.{order, said, stop}
-use Rattle.ed_programs.specs.Hello.{EachTextIsPrinted, hello_data, hello_orders, hello_pieces, hello_prints}
-use Rattle.ed_programs.specs.Hello.{hello_text, is_capital, of_letters}
+use Rattle.ed_programs.specs.Hello.{EachTextIsPrinted, hello_orders, hello_text}
+use Rattle.ed_programs.specs.Hello.{of_letters}
 use Rattle.ed_programs.proofs.Capitals.{are_rows, letters_shown}
-use Rattle.ed_link.proofs.Extents.{ExtentList, counter, one_by_one, past}
+use Rattle.ed_link.proofs.Extents.{ExtentList, one_by_one, past}
 use Rattle.ed_programs.proofs.ProgramEntry.{stops_by}
 use Rattle.ed_programs.proofs.RowTexts.{is_row_byte, rows_spelled, text_rows}
 use Rattle.ed_programs.proofs.SourceRuns.{read_runs}
 use Rattle.ed_programs.proofs.TextLines.{IsAround, all_plain, number_says, text_mark}
 use Rattle.ed_programs.proofs.TextPrograms.{Spells, before_text, last_lines, newline_after, text_sound, text_stands}
-use Rattle.ed_programs.proofs.Kit.{◌≡◌, ◌∙◌, inr, ℕ, ◌+◌, ◌-◌, ◌*◌, ◌<◌, ◌≤◌, refl, ap, subst, arith, lit<, lit≤, true}
-use Rattle.ed_programs.proofs.Kit.{false, List, [], ◌∷◌, ◌++◌, Ok, Some, None, codes, get_or, length, length-append}
-use Rattle.ed_programs.proofs.Kit.{decimal, least, Text, Size, Line, entry_state, paper, Settings, Frame, Moment, short}
-use Rattle.ed_programs.proofs.Kit.{state, early, out, own, A, S, T, U, O, G_jumps, G_stays, Z, Path, followed, on}
-use Rattle.ed_programs.proofs.Kit.{prints, stay, newline, ComesToStop, HasRoutine, IsIn, along, then, to_stop}
-use Rattle.ed_programs.proofs.Kit.{all_words, frame_at, moment_at, SourceRuns, Marked, printing, to, counted}
+use Rattle.ed_programs.specs.declared.hello.TheConstants.{HELLO}
+use Rattle.std.proofs.Common.{map}
+
+-- the pieces of the source, and between them the number of rows and the bytes that spell them
+abbrev pub hello_pieces : List Text
+hello_pieces = map (λ piece. piece.now) HELLO
+
+abbrev hello_data : Text → List Text
+hello_data q = decimal (length q) ∷ q ∷ []
 
 -- ---- its path
 
@@ -257,10 +256,10 @@ each_text s q rows are few =
 
 -- 1 to 40 capital letters are printed as they are, on a line
 pub each_name : (letters : Text) → 1 ≤ length letters → length letters ≤ 40 → list_all is_capital letters ≡ true
-    → (s : Settings) → SourceRuns s (hello_text (of_letters letters)) (hello_orders letters) 67 (hello_prints letters)
+    → (s : Settings) → SourceRuns s (hello_text (of_letters letters)) (hello_orders letters) 67 (letters ++ 13 ∷ 10 ∷ [])
 each_name letters some few capital s =
     let count : 7 * length (of_letters letters) + 9 ≡ 7 * length letters + 16 = omega arith in
-    subst (λ k. SourceRuns s (hello_text (of_letters letters)) k 67 (hello_prints letters)) count
+    subst (λ k. SourceRuns s (hello_text (of_letters letters)) k 67 (letters ++ 13 ∷ 10 ∷ [])) count
     (subst (λ (t : Text). SourceRuns s (hello_text (of_letters letters)) (7 * length (of_letters letters) + 9) 67 t)
     (letters_shown letters capital)
     (row_text_runs s (of_letters letters)

@@ -1,37 +1,24 @@
 -- The two programs of the tape `examples/interlude.tape`, for any number: the interlude from its entry to its return,
 -- and the program after it from its entry to its stop.
-use Rattle.std.proofs.Common.{◌≡◌, ◌∙◌, ℕ, zero, suc, ◌+◌, ◌-◌, ◌*◌, ◌≤◌, refl, ap}
-use Rattle.std.proofs.Common.{subst, arith, lit<, lit≤, true, false, List, [], ◌∷◌, Option, Some, None}
-use Rattle.std.proofs.Common.{drop, get_or, length, nat_eq, set}
-use Rattle.std.specs.Prelude.{slice_index}
-use Rattle.std.specs.List.{list_all}
-use Rattle.std.proofs.lemmas.List.{get_or-append_right, get_or-drop, get_or-set_other, get_or-set_same, length-append}
-use Rattle.std.proofs.lemmas.List.{length-drop, length-set}
-use Rattle.ed_words.proofs.Numbers.{eq_of, lt_true}
-use Rattle.ed_words.proofs.SizeLemmas.{least, most}
-use Rattle.ed_words.specs.Sizes.{locations}
-use Rattle.ed_words.specs.declared.size.Size.{Size}
-use Rattle.ed_words.specs.declared.order_words.TheConstants.{H_F, O_F, T_F, Z_F}
-use Rattle.ed_store.specs.Cells.{IsStore, short_at}
-use Rattle.ed_machine.specs.State.{State}
-use Rattle.ed_notation.specs.Fold.{over, word_with}
-use Rattle.ed_notation.specs.Faults.{TapeEntry}
+use Rattle.ed_sources.proofs.Kit.{nat_eq, Leads}
+use Rattle.ed_laws.proofs.Kit.{slice_index, over, word_with}
+use Rattle.ed_programs.proofs.Kit.{◌≡◌, ℕ, zero, suc, ◌+◌, ◌-◌, ◌*◌, ◌≤◌, true, false, [], List, ◌∷◌, length, get_or, A}
+use Rattle.ed_programs.proofs.Kit.{drop, Some, None, Option, refl, ap, ◌∙◌, subst, arith, lit<, lit≤, length-append, O}
+use Rattle.ed_programs.proofs.Kit.{list_all, locations, Z_F, Size, eq_of, lt_true, least, short_at, State, short, state}
+use Rattle.ed_programs.proofs.Kit.{Frame, Moment, ComesToStop, TapeEntry, first_state, set, length-set, get_or-set_same}
+use Rattle.ed_programs.proofs.Kit.{get_or-set_other, O_F, T_F, most, E_jumps, U, Z, on, prints, stay, Path, any, early}
+use Rattle.ed_programs.proofs.Kit.{out, own, patched, plain, along, to_stop, directive, among, numbers}
+use Rattle.std.proofs.lemmas.List.{get_or-append_right, get_or-drop, length-drop}
+use Rattle.ed_words.specs.declared.order_words.TheConstants.{H_F}
+use Rattle.ed_store.specs.Cells.{IsStore}
 use Rattle.ed_notation.proofs.Contents.{length-over}
-use Rattle.ed_notation.proofs.Steps.{plain}
-use Rattle.ed_initial.specs.Entry.{at_entry, entry_words, first_state}
+use Rattle.ed_initial.specs.Entry.{at_entry, entry_words}
 use Rattle.ed_initial.specs.Listing.{initial_orders}
 use Rattle.ed_initial.specs.Rests.{initial_words}
-use Rattle.ed_interlude.specs.Returned.{AreListed, IsReturned, directive, reopening}
-use Rattle.ed_machine.proofs.Kit.Frames.{Frame, Moment, short, state}
-use Rattle.ed_machine.proofs.Kit.Leads.{Leads}
-use Rattle.ed_machine.proofs.Kit.Moves.{A, E_jumps, O, U, Z}
-use Rattle.ed_machine.proofs.Kit.Paths.{Path, leads, on, prints, stay}
-use Rattle.ed_machine.proofs.Kit.Places.{any, early, out, own}
+use Rattle.ed_interlude.specs.Returned.{AreListed, IsReturned, reopening}
+use Rattle.ed_machine.proofs.Kit.Paths.{leads}
 use Rattle.ed_machine.proofs.Kit.Standing.{Holds, filled, opens}
-use Rattle.ed_machine.proofs.Kit.Window.{patched}
 use Rattle.ed_initial.proofs.Starts.{all_fit}
-use Rattle.ed_routines.proofs.Journeys.{ComesToStop, along, to_stop}
-use Rattle.ed_sources.proofs.Decimals.{among, numbers}
 use Rattle.ed_programs.proofs.InterludeLoads.{from_return, interlude_note, program_note, program_placed}
 use Rattle.ed_programs.proofs.TwoPartsRuns.{IsAway, away, away_to_stop}
 

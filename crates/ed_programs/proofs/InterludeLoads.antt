@@ -1,22 +1,17 @@
 -- The loads of the two parts of the tape `examples/interlude.tape`, for any number: their entries, and what they cost.
-use Rattle.std.proofs.Common.{◌≡◌, ◌∙◌, ℕ, ◌+◌, ◌*◌, ◌/◌, ◌<◌, ◌≤◌, refl, sym, ap, subst, arith, lit≤, true}
-use Rattle.std.proofs.Common.{List, [], ◌∷◌, ◌++◌, get_or, length, set}
-use Rattle.std.proofs.lemmas.List.{get_or-set_other}
-use Rattle.ed_words.proofs.Numbers.{le_true}
-use Rattle.ed_words.proofs.SizeLemmas.{least, most}
-use Rattle.ed_words.specs.Sizes.{locations}
-use Rattle.ed_words.specs.declared.size.Size.{Size}
-use Rattle.ed_words.specs.declared.order_words.TheConstants.{E_F, H_F, T_F}
-use Rattle.ed_notation.specs.declared.item.Item.{Item}
-use Rattle.ed_notation.specs.Items.{rows_of, spelled_rows}
-use Rattle.ed_notation.specs.Fold.{NotationState, cost_of, is_entry, over}
-use Rattle.ed_notation.specs.Openings.{IsDirective, opening}
-use Rattle.ed_notation.specs.Faults.{ComesTo, EndsSound, WellFormed}
-use Rattle.ed_notation.specs.Spellings.{canonical, canonicals, digits_of}
+use Rattle.ed_sources.proofs.Kit.{Item}
+use Rattle.ed_laws.proofs.Kit.{WellFormed, over, NotationState, opening, IsDirective}
+use Rattle.ed_programs.proofs.Kit.{◌≡◌, ℕ, ◌+◌, ◌*◌, ◌/◌, ◌<◌, ◌≤◌, true, [], List, ◌∷◌, ◌++◌, length, get_or, sym, ap}
+use Rattle.ed_programs.proofs.Kit.{refl, ◌∙◌, subst, arith, lit≤, locations, Size, least, set, get_or-set_other, E_F}
+use Rattle.ed_programs.proofs.Kit.{T_F, le_true, most, rows_of, spelled_rows, canonicals, plain}
+use Rattle.ed_words.specs.declared.order_words.TheConstants.{H_F}
+use Rattle.ed_notation.specs.Fold.{cost_of, is_entry}
+use Rattle.ed_notation.specs.Faults.{ComesTo, EndsSound}
+use Rattle.ed_notation.specs.Spellings.{canonical, digits_of}
 use Rattle.ed_notation.proofs.Canonical.{is_written}
 use Rattle.ed_notation.proofs.Placing.{all_letters, block, laid, placing_all}
 use Rattle.ed_notation.proofs.Sound.{sound_well}
-use Rattle.ed_notation.proofs.Steps.{Enters, Reads, aiming, aiming_entry, entering_at, plain, reads_both, reads_none}
+use Rattle.ed_notation.proofs.Steps.{Enters, Reads, aiming, aiming_entry, entering_at, reads_both, reads_none}
 use Rattle.ed_notation.proofs.Steps.{reads_one, setting_theta}
 
 -- items before an entry item P F, and the entry to which they lead from a state of the notation

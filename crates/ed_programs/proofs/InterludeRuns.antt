@@ -1,44 +1,36 @@
 -- The text of `examples/interlude.tape`, for any number in range, and what the commands `parts` and `tape` answer to
 -- it.
-use Rattle.std.proofs.Common.{◌≡◌, ◌∙◌, inl, inr, ℕ, ◌+◌, ◌-◌, ◌*◌, ◌/◌, ◌%◌, ◌<◌, ◌≤◌, refl, sym, ap, subst}
-use Rattle.std.proofs.Common.{arith, lit≤}
-use Rattle.std.proofs.Common.{true, List, [], ◌∷◌, ◌++◌, append_assoc, append-nil, codes, length, length-append}
-use Rattle.std.proofs.Common.{Some}
-use Rattle.std.specs.Fmt.{decimal}
-use Rattle.std.proofs.lemmas.Bool.{cases_lt}
+use Rattle.ed_laws.proofs.Kit.{le_false, WellFormed, NotationState}
+use Rattle.ed_programs.proofs.Kit.{◌≡◌, ℕ, ◌+◌, ◌-◌, ◌*◌, ◌/◌, ◌%◌, ◌<◌, ◌≤◌, [], List, ◌∷◌, ◌++◌, length, Some}
+use Rattle.ed_programs.proofs.Kit.{codes, decimal, sym, refl, ap, ◌∙◌, subst, inl, inr, append_assoc, append-nil, arith}
+use Rattle.ed_programs.proofs.Kit.{lit≤, Text, length-append, cases_lt, length-map, locations, Size, least, State, rows}
+use Rattle.ed_programs.proofs.Kit.{Settings, TapeEntry, first_state, le_true, reading, row_of, none}
+use Rattle.ed_programs.proofs.Kit.{Spells, spells_append, has_one_reading, rows_of, spelled_rows, canonicals, plain}
+use Rattle.ed_programs.proofs.Kit.{Comes, directive, decimal_is, few_bytes}
 use Rattle.std.proofs.lemmas.Fmt.{decimal_digit, decimal_step}
-use Rattle.std.proofs.lemmas.List.{length-map}
-use Rattle.ed_words.proofs.Numbers.{le_false, le_true}
-use Rattle.ed_words.specs.Sizes.{locations}
-use Rattle.ed_words.specs.Texts.{Text}
-use Rattle.ed_words.specs.declared.size.Size.{Size}
-use Rattle.ed_words.proofs.SizeLemmas.{least}
-use Rattle.ed_machine.specs.State.{State}
-use Rattle.ed_codes.specs.Spelling.{row_of}
-use Rattle.ed_codes.specs.Text.{Spells, none, row}
-use Rattle.ed_codes.specs.Reading.{IsReadingOf, reading, rows}
-use Rattle.ed_codes.proofs.Pieces.{spells_append}
-use Rattle.ed_codes.proofs.Readings.{has_one_reading}
-use Rattle.ed_run.specs.declared.settings.Settings.{Settings}
-use Rattle.ed_notation.specs.Items.{AreDigits, rows_of, spelled_rows}
+use Rattle.ed_codes.specs.Text.{row}
+use Rattle.ed_notation.specs.Items.{AreDigits}
 use Rattle.ed_notation.proofs.Canonical.{digits_are}
-use Rattle.ed_notation.specs.Faults.{ComesTo, TapeEntry, WellFormed}
-use Rattle.ed_notation.specs.Fold.{NotationState, address}
-use Rattle.ed_notation.specs.Spellings.{canonical, canonicals, digits_of}
-use Rattle.ed_notation.proofs.Steps.{plain}
-use Rattle.ed_initial.specs.Entry.{Comes, first_state}
-use Rattle.ed_interlude.specs.Returned.{ComesBack, directive}
-use Rattle.ed_sources.specs.CallSources.{text_of_lines}
-use Rattle.ed_sources.proofs.Decimals.{decimal_is, few_bytes, written}
-use Rattle.ed_programs.specs.Interlude.{interlude_front, interlude_line, interlude_parts, interlude_prints}
-use Rattle.ed_programs.specs.Interlude.{interlude_rest}
-use Rattle.ed_programs.specs.Interlude.{interlude_room, interlude_text}
-use Rattle.ed_programs.specs.TwoParts.{TwoParts, TwoPartsRun}
-use Rattle.ed_programs.proofs.Answered.{are_short, text_length}
+use Rattle.ed_notation.specs.Faults.{ComesTo}
+use Rattle.ed_notation.specs.Fold.{address}
+use Rattle.ed_notation.specs.Spellings.{canonical, digits_of}
+use Rattle.ed_interlude.specs.Returned.{ComesBack}
+use Rattle.ed_sources.proofs.Decimals.{written}
+use Rattle.ed_programs.specs.Interlude.{interlude_text, InterludePrints, InterludeRuns, interlude_cost}
 use Rattle.ed_programs.proofs.InterludeEnds.{back, back_store, entry, entry_on, interlude_away, interlude_leads}
 use Rattle.ed_programs.proofs.InterludeEnds.{program_away, program_stops, reopens, returned}
 use Rattle.ed_programs.proofs.InterludeLoads.{entered, interlude_items, interlude_reads, program_items, program_reads}
+use Rattle.ed_programs.proofs.TapeRuns.{reads_spell}
 use Rattle.ed_programs.proofs.TwoPartsRuns.{Course, numbers_of, two_parts_run}
+use Rattle.ed_answers.specs.declared.input.TheConstants.{INPUT_BYTES}
+use Rattle.ed_programs.proofs.TwoParts.{TwoParts, TwoPartsRun}
+use Rattle.ed_programs.specs.Programs.{GivesProgram}
+use Rattle.ed_programs.specs.declared.interlude.TheConstants.{INTERLUDE}
+use Rattle.ed_programs.specs.declared.refusal.Refusal.{Refusal}
+use Rattle.ed_words.proofs.Numbers.{le_of}
+use Rattle.std.proofs.Common.{get_or, map}
+use Rattle.std.specs.Prelude.{Err, None, Ok, Result, String}
+use Rattle.std.specs.declared.alloc.Global.{Global}
 
 -- ---- the number on the tape
 
@@ -101,20 +93,23 @@ module _ (n : ℕ) (low : 10 ≤ n) (high : n < 1000) where
 
 -- ---- the rows of the text
 
-abbrev front : Text
-front = text_of_lines interlude_front ++ codes "P"
+abbrev pieces : List Text
+pieces = map (λ piece. piece.now) INTERLUDE
 
-abbrev back_line : Text
-back_line = codes "F        [106: the number]"
+abbrev front : Text
+front = get_or pieces 0 []
 
 abbrev behind_number : Text
-behind_number = back_line ++ 10 ∷ text_of_lines interlude_rest
+behind_number = get_or pieces 1 []
 
-pub text_is : (n : ℕ) → front ++ (decimal n ++ behind_number) ≡ interlude_text n
-text_is n =
-    let rest = text_of_lines interlude_rest in
-    ap (λ (t : Text). front ++ t)
-    (sym (append_assoc (decimal n ++ back_line) (10 ∷ []) rest ∙ append_assoc (decimal n) back_line (10 ∷ rest)))
+few_text : (n : ℕ) → 10 ≤ n → n < 1000 → length (interlude_text n) ≤ INPUT_BYTES
+few_text n low high =
+    let digits = few_figures n low high in
+    let before : length front ≤ 10000 = le_of (length front) 10000 refl in
+    let behind : length behind_number ≤ 10000 = le_of (length behind_number) 10000 refl in
+    let last = length-append (decimal n) behind_number in
+    let all = length-append front (decimal n ++ behind_number) in
+    omega (arith, digits, before, behind, last, all)
 
 -- the items up to the number, and those after it
 abbrev last_rows : List ℕ
@@ -146,24 +141,28 @@ rows_are n =
     ∙ ap (λ (x : List ℕ). x ++ rows_behind) (append-nil ds)))
 
 front_spells : Spells front front_rows
-front_spells =
-    let reads : reading front ≡ rows front_rows = refl in
-    subst (IsReadingOf front) reads (has_one_reading.every front)
+front_spells = reads_spell front front_rows refl
 
 behind_spells : Spells behind_number rows_behind
-behind_spells =
-    let reads : reading behind_number ≡ rows rows_behind = refl in
-    subst (IsReadingOf behind_number) reads (has_one_reading.every behind_number)
+behind_spells = reads_spell behind_number rows_behind refl
 
 pub text_reads : (n : ℕ) → 10 ≤ n → n < 1000 → reading (interlude_text n) ≡ rows (tape_rows n)
 text_reads n low high =
     has_one_reading.only (interlude_text n) (rows (tape_rows n))
-    (subst (λ (t : Text). Spells t (tape_rows n)) (text_is n)
     (subst (Spells (front ++ (decimal n ++ behind_number))) (rows_are n)
     (spells_append front front_rows (decimal n ++ behind_number) (digits_of n ++ rows_behind) front_spells
-    (spells_append (decimal n) (digits_of n) behind_number rows_behind (decimal_spells n low high) behind_spells))))
+    (spells_append (decimal n) (digits_of n) behind_number rows_behind (decimal_spells n low high) behind_spells)))
 
 -- ---- the course of the tape
+
+-- the course in plain numbers
+abbrev interlude_parts : ℕ → TwoParts
+interlude_parts n = record {
+  interlude = record { entry = 100; cost = interlude_cost n; rows = 35 + length (decimal n); orders = 5 };
+  returns_for = 2 * n;
+  program = record { entry = 64; cost = 280; rows = 26; orders = 4 };
+  stop = 68;
+}
 
 -- the two loads: the entry to which the rows lead, and the one to which the rows left at the return lead
 module _ (z : Size) (n : ℕ) (low : 34 ≤ n) (small : n ≤ 510) (fits : 2 * n + 3 ≤ locations z) where
@@ -238,16 +237,18 @@ module _ (z : Size) (n : ℕ) (low : 34 ≤ n) (small : n ≤ 510) (fits : 2 * n
 
 -- ---- the answers
 
-pub each_number : (s : Settings) (n : ℕ) → 34 ≤ n → n ≤ 510 → interlude_room n ≤ locations s.size
-    → TwoPartsRun s (interlude_text n) (interlude_parts n) interlude_prints
+pub each_number : (s : Settings) (n : ℕ) → 34 ≤ n → n ≤ 510 → 2 * n + 3 ≤ locations s.size
+    → InterludeRuns s (interlude_text n) n
 each_number s n low small fits =
-    let lines : List Text = interlude_front ++ interlude_line n ∷ interlude_rest in
-    let few = figure_count n (omega arith) (omega arith) in
-    let digits = few_figures n (omega arith) (omega arith) in
-    let together = length-append (decimal n) back_line in
-    let line = le_true (length (interlude_line n)) 120 (omega (arith, few, digits, together)) in
-    let are_all : are_short lines ≡ true = rw line refl in
-    let size : length (interlude_text n) ≤ 121 * 17 = text_length lines are_all in
-    subst (λ (t : TwoParts). TwoPartsRun s (interlude_text n) t interlude_prints) (numbers_are s.size n low small fits)
-    (two_parts_run s (interlude_text n) (tape_rows n) (text_reads n (omega arith) (omega arith)) (omega (arith, size))
-    (course s.size n low small fits) (lit≤ tt))
+    let runs : TwoPartsRun s (interlude_text n) (interlude_parts n) (codes "HI") =
+    subst (λ (t : TwoParts). TwoPartsRun s (interlude_text n) t (codes "HI")) (numbers_are s.size n low small fits)
+    (two_parts_run s (interlude_text n) (tape_rows n) (text_reads n (omega arith) (omega arith))
+    (few_text n (omega arith) (omega arith)) (course s.size n low small fits) (lit≤ tt)) in
+    record { codes_of = runs.codes_of; spelled = runs.spelled; parts = runs.parts; whole = runs.whole }
+
+-- a law of the tape's text is one of the text that is answered
+pub interlude_prints_of : (n : ℕ) (r : Result (String Global) Refusal) → GivesProgram None (interlude_text n) r
+    → ((s : Settings) → 2 * n + 3 ≤ locations s.size → InterludeRuns s (interlude_text n) n) → InterludePrints n r
+interlude_prints_of n (Ok text) gives law = λ s fits.
+    subst (λ (x : Text). InterludeRuns s x n) (sym gives.1) (law s fits)
+interlude_prints_of n (Err refusal) gives law = tt

@@ -1,50 +1,81 @@
 -- The names that the proof of a program cites, passed on from one place, and what its path says in few words.
-pub use Rattle.std.proofs.Common.{◌≡◌, ◌∙◌, ◌⊎◌, inl, inr, ℕ, zero, suc, ◌+◌, ◌-◌, ◌*◌, ◌<◌, ◌≤◌, refl, sym, ap, subst}
-pub use Rattle.std.proofs.Common.{arith, lit<, lit≤, true, false, List, [], ◌∷◌, ◌++◌, Ok, Some, None, codes, get_or}
-pub use Rattle.std.proofs.Common.{length, map, Option}
-pub use Rattle.std.proofs.Common.{append_assoc, append-nil, length-append}
-pub use Rattle.std.specs.Fmt.{decimal}
-pub use Rattle.ed_words.proofs.SizeLemmas.{least}
-pub use Rattle.ed_words.proofs.Numbers.{lt_of, lt_true, not_lt_of}
-pub use Rattle.ed_words.specs.Texts.{Text}
-pub use Rattle.ed_words.specs.declared.size.Size.{Size}
-pub use Rattle.ed_machine.specs.State.{State}
-unfoldable pub use Rattle.ed_library.specs.Images.{parameter_store}
-unfoldable pub use Rattle.ed_syntax.specs.Reading.Grammar.{settings}
-pub use Rattle.ed_syntax.specs.declared.program.Line.{Line}
-pub use Rattle.ed_answers.specs.EntryState.{entry_state}
-pub use Rattle.ed_printer.specs.Paper.{paper}
-pub use Rattle.ed_run.specs.declared.settings.Settings.{Settings}
-pub use Rattle.ed_machine.proofs.Kit.Frames.{Frame, Moment, short, state}
-pub use Rattle.ed_machine.proofs.Kit.Places.{any, early, out, own}
-pub use Rattle.ed_machine.proofs.Kit.Orders.{word_is}
-pub use Rattle.ed_machine.proofs.Kit.Moves.{A, S, H, V, T, T_top, U, O, E_jumps, E_stays, G_jumps, G_stays, Jumps, Reads}
-pub use Rattle.ed_machine.proofs.Kit.Moves.{Z}
-pub use Rattle.ed_machine.proofs.Kit.Paths.{Path, followed, on, prints, stay}
+pub use Rattle.ed_sources.proofs.Kit.{◌≡◌, ℕ, zero, suc, ◌+◌, ◌-◌, ◌*◌, ◌/◌, ◌%◌, ◌^◌, ◌<◌, ◌≤◌, Bool, true, false, not}
+pub use Rattle.ed_sources.proofs.Kit.{[], ◌||◌, ◌≢◌, ◌⊎◌, List, ◌∷◌, ◌++◌, map, length, get_or, take, drop, ◌==◌, Some}
+pub use Rattle.ed_sources.proofs.Kit.{if◌then◌else◌, nat_lt, nat_le, None, Ok, codes, decimal, Option, unwrap_or, sym}
+pub use Rattle.ed_sources.proofs.Kit.{refl, ap, ◌∙◌, subst, inl, inr, append_assoc, append-nil, arith, lit<, lit≤, Text}
+pub use Rattle.ed_sources.proofs.Kit.{length-append, list_all, cases_lt, and_parts, length-map, locations, A_F, G_F}
+pub use Rattle.ed_sources.proofs.Kit.{Z_F, Size, eq_of, lt_false, lt_of, lt_true, least, paper, short_at, State, short}
+pub use Rattle.ed_sources.proofs.Kit.{state, Frame, Moment, line_of, Line, Statement, fault, symbols_of, newline, print}
+pub use Rattle.ed_sources.proofs.Kit.{with_h, digits, print_orders, few_digits, ComesToStop, divide_orders, at_after}
+pub use Rattle.ed_sources.proofs.Kit.{entry_state, run_outcome, text_of_lines}
+unfoldable pub use Rattle.ed_sources.proofs.Kit.{step, settings, parameter_store}
+pub use Rattle.ed_top.proofs.Kit.{Err, Result, rules, Global, Settings, Outcome, OfSource, INPUT_BYTES}
+pub use Rattle.ed_laws.proofs.Kit.{◌&&◌, true≢false, nat_tests, state_after, run_end, TapeEntry, paper_room}
+pub use Rattle.ed_laws.proofs.Kit.{ran_outcome}
+unfoldable pub use Rattle.ed_laws.proofs.Kit.{first_state}
+pub use Rattle.std.proofs.Common.{reverse, set, replicate, pos, sum, String, mod-lt, div-lt_iff_lt-mul, length-set}
+pub use Rattle.std.proofs.Common.{get_or-set_other, get_or-set_same}
+pub use Rattle.std.proofs.Math.Nat.{div-add-mod}
+pub use Rattle.ed_words.specs.declared.order_words.TheConstants.{E_F, L_D, O_F, S_F, T_F, U_F}
+pub use Rattle.ed_words.specs.declared.size.Size.TheVariants.{Full, Small}
+pub use Rattle.ed_words.proofs.Numbers.{le_of, le_true, not_lt_of}
+pub use Rattle.ed_words.proofs.SizeLemmas.{most}
+pub use Rattle.ed_codes.specs.Reading.{reading, rows}
+pub use Rattle.ed_codes.specs.Spelling.{row_of}
+pub use Rattle.ed_codes.specs.Text.{none, Spells}
+pub use Rattle.ed_codes.proofs.Pieces.{spells_append}
+pub use Rattle.ed_codes.proofs.Readings.{has_one_reading}
+pub use Rattle.ed_printer.specs.Paper.{paper_from}
+pub use Rattle.ed_printer.specs.declared.printer.Shift.TheVariants.{Figures}
+pub use Rattle.ed_machine.proofs.Kit.Moves.{A, E_jumps, E_stays, G_jumps, G_stays, L, O, S, T, U, Z}
+pub use Rattle.ed_machine.proofs.Kit.Paths.{followed, on, prints, stay, Path}
+pub use Rattle.ed_machine.proofs.Kit.Places.{any, early, out, own, IsOutside}
+pub use Rattle.ed_machine.proofs.Kit.Shifts.{L1F, L512F, LD}
+pub use Rattle.ed_machine.proofs.Kit.Sums.{Remains}
 pub use Rattle.ed_machine.proofs.Kit.Window.{get_own}
-pub use Rattle.ed_routines.specs.Catalogue.{newline, print, read, with_h}
-pub use Rattle.ed_routines.specs.Digits.{digits, print_orders}
-pub use Rattle.ed_routines.proofs.Digits.{few_digits}
-pub use Rattle.ed_routines.proofs.Journeys.{ComesToStop, HasRoutine, IsIn, Journey, along, elsewhere, no_working, then}
-pub use Rattle.ed_routines.proofs.Journeys.{stop_after, to_stop}
+unfoldable pub use Rattle.ed_machine.proofs.Kit.Window.{patched}
+pub use Rattle.ed_notation.specs.Items.{rows_of, spelled_rows}
+unfoldable pub use Rattle.ed_notation.specs.Reading.{reading_on}
+pub use Rattle.ed_notation.specs.Spellings.{canonicals}
+pub use Rattle.ed_notation.proofs.Steps.{plain}
+pub use Rattle.ed_notation.proofs.Texts.{AreCodes}
+pub use Rattle.ed_initial.specs.Entry.{Comes}
+pub use Rattle.ed_syntax.specs.Reading.Grammar.{row, spells}
+pub use Rattle.ed_syntax.specs.declared.program.Statement.TheVariants.{Enter}
+pub use Rattle.ed_routines.specs.Catalogue.{read}
+pub use Rattle.ed_routines.proofs.Journeys.{along, stop_after, then, to_stop, HasRoutine, IsIn, Journey}
 pub use Rattle.ed_routines.proofs.Lines.{print_line}
-use Rattle.std.specs.Prelude.{◌&&◌}
-use Rattle.std.proofs.lemmas.Bool.{and_parts}
-use Rattle.ed_words.specs.declared.order_words.TheConstants.{A_F, G_F, O_F}
-use Rattle.ed_sources.proofs.AtEntry.{has_image, have_places, placed}
+pub use Rattle.ed_maths.specs.Quotients.{divide, with_hnm}
+pub use Rattle.ed_answers.specs.Answer.{exactly, OfReading}
+pub use Rattle.ed_interlude.specs.Returned.{directive}
+pub use Rattle.ed_sources.specs.CallSources.{woven_text}
 pub use Rattle.ed_sources.proofs.AtEntry.{all_words}
+pub use Rattle.ed_sources.proofs.Decimals.{among, are, both, decimal_is, few_bytes, numbers}
 pub use Rattle.ed_sources.proofs.Entries.{frame_at, moment_at}
 pub use Rattle.ed_sources.proofs.Papers.{digits_printed, number_shown}
-pub use Rattle.ed_programs.specs.Programs.{SourceRuns}
-pub use Rattle.ed_programs.proofs.Changes.{HasRead, reads_number}
-pub use Rattle.ed_programs.specs.Lists.{numbers_text, on_lines}
-pub use Rattle.ed_programs.proofs.DataLines.{are_small, data_mark, list_mark, number_rows}
-pub use Rattle.ed_programs.proofs.NumberLists.{ended_small, ended_some, few_codes, few_numbers, list_codes, list_shown}
-pub use Rattle.ed_programs.proofs.NumberLines.{word_mark, plain_mark}
-pub use Rattle.ed_programs.proofs.NumberShown.{HasShown, shows_number, then_on}
+pub use Rattle.ed_sources.proofs.Stopped.{answered}
+pub use Rattle.ed_sources.proofs.Stops.{ran_to_stop}
+pub use Rattle.ed_laws.specs.TapeEntries.{tape_state}
+pub use Rattle.ed_programs.specs.Calendar.{calendar_orders, days_from, is_leap, month_length}
+pub use Rattle.ed_programs.specs.Decimals.{carries, tenfold}
+pub use Rattle.ed_programs.specs.Guests.{checker_base, entry_guest, EntersChecker}
+pub use Rattle.ed_programs.specs.Hello.{is_capital}
+pub use Rattle.ed_programs.specs.Lists.{numbers_text}
+pub use Rattle.ed_programs.specs.Programs.{GivesProgram, SourceRuns}
+pub use Rattle.ed_programs.specs.Sort.{sent_along}
+pub use Rattle.ed_programs.specs.Tapes.{TapeRuns}
+pub use Rattle.ed_programs.specs.declared.refusal.Refusal.{Refusal}
+pub use Rattle.ed_programs.proofs.CalendarCodes.{calendar_codes, day_codes, days_codes, head_codes, name_codes, place}
+pub use Rattle.ed_programs.proofs.CalendarCodes.{title_codes, year_codes}
+pub use Rattle.ed_programs.proofs.Changes.{reads_number, HasRead}
+pub use Rattle.ed_programs.proofs.DataLines.{all_fit, are_small, data_mark, number_rows}
+pub use Rattle.ed_programs.proofs.NumberShown.{shows_number, HasShown}
 pub use Rattle.ed_programs.proofs.ProgramEntry.{routine_after, stops_from_entry}
 pub use Rattle.ed_programs.proofs.SourceLines.{Marked}
-pub use Rattle.ed_programs.proofs.SourceRuns.{lines_of_pieces, program_runs}
+pub use Rattle.ed_programs.proofs.Texts.{prints_as, written}
+use Rattle.ed_machine.proofs.Kit.Moves.{Jumps, Reads}
+use Rattle.ed_routines.proofs.Journeys.{elsewhere, no_working}
+use Rattle.ed_sources.proofs.AtEntry.{has_image, have_places, placed}
 
 -- the order with a function that names cell j of a program at 56
 abbrev pub to : ℕ → ℕ → ℕ

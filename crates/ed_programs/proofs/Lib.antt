@@ -52,6 +52,7 @@ pub mod CalendarRuns
 pub mod FirstTapeRuns
 pub mod SquaresProgram
 pub mod SquaresRuns
+mod TwoParts
 pub mod TwoPartsRuns
 pub mod InterludeLoads
 pub mod InterludeEnds

@@ -1,37 +1,22 @@
 -- The tape `examples/mirror.tape` from its first row to its stop, for any word.
-use Rattle.std.proofs.Common.{◌≡◌, ℕ, ◌+◌, ◌*◌, ◌≤◌, refl, subst, arith, true, false, lit≤}
-use Rattle.std.proofs.Common.{List, [], ◌∷◌, Option, Some, None, get_or, length, map}
-use Rattle.std.specs.Prelude.{reverse}
-use Rattle.std.specs.List.{list_all}
-use Rattle.ed_words.proofs.SizeLemmas.{least}
-use Rattle.ed_words.specs.Sizes.{locations}
-use Rattle.ed_words.specs.declared.size.Size.{Size}
-use Rattle.ed_words.specs.declared.size.Size.TheVariants.{Small, Full}
-use Rattle.ed_words.specs.declared.order_words.TheConstants.{L_D, R_F, Z_F}
-use Rattle.ed_machine.specs.State.{State}
-use Rattle.ed_notation.specs.Faults.{TapeEntry}
-use Rattle.ed_notation.specs.Reading.{reading_on}
-use Rattle.ed_notation.proofs.Texts.{AreCodes}
-use Rattle.ed_machine.proofs.Kit.Frames.{state}
+use Rattle.ed_programs.proofs.Kit.{◌≡◌, ℕ, ◌+◌, ◌*◌, ◌≤◌, true, false, [], List, ◌∷◌, ◌++◌, map, length, get_or, Some}
+use Rattle.ed_programs.proofs.Kit.{None, Option, refl, subst, arith, lit≤, Text, list_all, locations, Z_F, Size, least}
+use Rattle.ed_programs.proofs.Kit.{State, state, ComesToStop, Settings, TapeEntry, first_state, reverse, L_D, Full}
+use Rattle.ed_programs.proofs.Kit.{Small, patched, reading_on, AreCodes, numbers, moment_at, tape_state}
+use Rattle.ed_programs.specs.declared.mirror.TheConstants.{MIRROR}
+use Rattle.ed_words.specs.declared.order_words.TheConstants.{R_F}
 use Rattle.ed_machine.proofs.Kit.Standing.{opens}
-use Rattle.ed_machine.proofs.Kit.Window.{patched}
-use Rattle.ed_run.specs.declared.settings.Settings.{Settings}
-use Rattle.ed_initial.specs.Entry.{first_state}
-use Rattle.ed_routines.proofs.Journeys.{ComesToStop}
-use Rattle.ed_sources.proofs.Decimals.{numbers}
-use Rattle.ed_sources.proofs.Entries.{is_met, moment_at}
-use Rattle.ed_laws.specs.TapeEntries.{tape_state}
+use Rattle.ed_sources.proofs.Entries.{is_met}
 use Rattle.ed_programs.proofs.MirrorProgram.{Given, Work, cells, entering, mirror_stops}
-use Rattle.ed_programs.proofs.TapeRuns.{Arrives, holds_in}
+use Rattle.ed_programs.proofs.TapeRuns.{Arrives, rows_in, holds_in}
 
--- the rows up to the entry, and the rest
+-- the text up to the entry
+abbrev pub front : Text
+front = get_or (map (λ piece. piece.now) MIRROR) 0 []
+
+-- its rows, and the rest
 abbrev pub mirror_rows : List ℕ → List ℕ
-mirror_rows rest =
-    5 ∷ 6 ∷ 4 ∷ 14 ∷ 27 ∷ 14 ∷ 8 ∷ 2 ∷ 8 ∷ 18 ∷ 5 ∷ 2 ∷ 9 ∷ 18 ∷ 8 ∷ 3 ∷ 0 ∷ 18 ∷ 28 ∷ 3 ∷ 0 ∷ 18 ∷ 25 ∷ 5 ∷ 1
-    ∷ 2 ∷ 17 ∷ 25 ∷ 19 ∷ 5 ∷ 4 ∷ 0 ∷ 18 ∷ 28 ∷ 6 ∷ 18 ∷ 28 ∷ 2 ∷ 17 ∷ 5 ∷ 6 ∷ 18 ∷ 28 ∷ 2 ∷ 8 ∷ 18 ∷ 12 ∷ 2 ∷ 7
-    ∷ 18 ∷ 7 ∷ 2 ∷ 8 ∷ 18 ∷ 12 ∷ 2 ∷ 7 ∷ 18 ∷ 3 ∷ 1 ∷ 18 ∷ 5 ∷ 2 ∷ 9 ∷ 18 ∷ 28 ∷ 6 ∷ 18 ∷ 28 ∷ 3 ∷ 1 ∷ 18 ∷ 12
-    ∷ 2 ∷ 17 ∷ 7 ∷ 2 ∷ 0 ∷ 18 ∷ 0 ∷ 17 ∷ 12 ∷ 3 ∷ 2 ∷ 18 ∷ 27 ∷ 2 ∷ 6 ∷ 18 ∷ 28 ∷ 3 ∷ 2 ∷ 18 ∷ 3 ∷ 1 ∷ 8 ∷ 18
-    ∷ 13 ∷ 17 ∷ 13 ∷ 17 ∷ 0 ∷ 19 ∷ 0 ∷ 17 ∷ 0 ∷ 17 ∷ 0 ∷ 17 ∷ 4 ∷ 17 ∷ 9 ∷ 4 ∷ 1 ∷ 18 ∷ 3 ∷ 13 ∷ 0 ∷ 17 ∷ rest
+mirror_rows rest = rows_in front ++ rest
 
 -- the words that they place, the last one first
 abbrev placed : List (ℕ × ℕ)

@@ -1,23 +1,15 @@
 -- The program of `examples/mirror.tape`, at any base and for any word: one loop that stores letters, and one that
 -- prints them.
-use Rattle.std.proofs.Common.{◌≡◌, ◌≢◌, ◌∙◌, ℕ, suc, ◌+◌, ◌*◌, ◌^◌, ◌<◌, ◌≤◌, refl, sym, ap, subst, arith, lit<, lit≤}
-use Rattle.std.proofs.Common.{inr}
-use Rattle.std.proofs.Common.{append_assoc, append-nil}
-use Rattle.std.proofs.Common.{List, [], ◌∷◌, ◌++◌, Option, Some, get_or, length, set}
-use Rattle.std.specs.Prelude.{reverse}
-use Rattle.std.proofs.lemmas.List.{length-reverse, reverse-append, get_or-set_same, get_or-set_other, length-set}
-use Rattle.ed_words.proofs.SizeLemmas.{most}
-use Rattle.ed_words.specs.declared.order_words.TheConstants.{A_F, E_F, G_F, I_F, L_D, O_F, R_F, S_F, T_F, U_F, Z_F}
-use Rattle.ed_notation.proofs.Texts.{AreCodes}
-use Rattle.ed_machine.proofs.Kit.Frames.{Frame, Moment, short, state}
-use Rattle.ed_machine.proofs.Kit.Places.{IsOutside, early, own, out}
-use Rattle.ed_machine.proofs.Kit.Moves.{A, S, T, U, I, O, L, Z, E_jumps, E_stays, G_jumps, G_stays}
-use Rattle.ed_machine.proofs.Kit.Sums.{Remains}
-use Rattle.ed_machine.proofs.Kit.Shifts.{L512F, LD}
-use Rattle.ed_machine.proofs.Kit.Paths.{Path, stay, on, prints, followed}
+use Rattle.ed_programs.proofs.Kit.{◌≡◌, ℕ, suc, ◌+◌, ◌*◌, ◌^◌, ◌<◌, ◌≤◌, [], ◌≢◌, List, ◌∷◌, ◌++◌, length, get_or, Some}
+use Rattle.ed_programs.proofs.Kit.{Option, sym, refl, ap, ◌∙◌, subst, inr, append_assoc, append-nil, arith, lit<, lit≤}
+use Rattle.ed_programs.proofs.Kit.{A_F, G_F, Z_F, short, state, Frame, Moment, ComesToStop, reverse, set, length-set, A}
+use Rattle.ed_programs.proofs.Kit.{get_or-set_other, get_or-set_same, E_F, L_D, O_F, S_F, T_F, U_F, most, E_jumps, L, O}
+use Rattle.ed_programs.proofs.Kit.{E_stays, G_jumps, G_stays, S, T, U, Z, followed, on, prints, stay, Path, early, out}
+use Rattle.ed_programs.proofs.Kit.{own, IsOutside, L512F, LD, Remains, AreCodes, along, to_stop, printing}
+use Rattle.std.proofs.lemmas.List.{length-reverse, reverse-append}
+use Rattle.ed_words.specs.declared.order_words.TheConstants.{I_F, R_F}
+use Rattle.ed_machine.proofs.Kit.Moves.{I}
 use Rattle.ed_machine.proofs.Kit.Loops.{all_spent, quiet_walks, walked}
-use Rattle.ed_routines.proofs.Journeys.{ComesToStop, along, to_stop}
-use Rattle.ed_programs.proofs.Kit.{printing}
 
 -- the cells that change
 pub record Work : Type 0 where

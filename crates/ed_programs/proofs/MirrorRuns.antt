@@ -1,71 +1,32 @@
 -- What `examples/mirror.tape` prints, for any word.
-use Rattle.std.proofs.Common.{◌≡◌, ◌∙◌, ℕ, zero, suc, ◌+◌, ◌*◌, ◌≤◌, true, List, [], ◌∷◌, ◌++◌}
-use Rattle.std.proofs.Common.{refl, sym, ap, subst, arith}
-use Rattle.std.proofs.Common.{append_assoc, append-nil, get_or, length, length-append}
-use Rattle.std.specs.Prelude.{reverse}
-use Rattle.std.specs.Fmt.{decimal}
-use Rattle.std.specs.List.{list_all}
-use Rattle.std.proofs.lemmas.Bool.{and_parts}
-use Rattle.std.proofs.lemmas.List.{length-map, length-reverse, reverse-append}
-use Rattle.ed_words.proofs.Numbers.{le_of}
-use Rattle.ed_words.specs.Texts.{Text}
-use Rattle.ed_codes.specs.Reading.{IsReadingOf, reading, rows}
-use Rattle.ed_codes.specs.Spelling.{row_of}
-use Rattle.ed_codes.specs.Text.{Spells, none, row, spacing}
-use Rattle.ed_codes.proofs.Pieces.{spells_append}
-use Rattle.ed_codes.proofs.Readings.{has_one_reading}
-use Rattle.ed_notation.proofs.Texts.{AreCodes, are_codes}
-use Rattle.ed_printer.specs.Paper.{paper, paper_from}
+use Rattle.ed_programs.proofs.Kit.{◌≡◌, ℕ, ◌+◌, ◌*◌, ◌≤◌, true, [], List, ◌∷◌, ◌++◌, length, decimal, sym, refl, ap}
+use Rattle.ed_programs.proofs.Kit.{◌∙◌, subst, append_assoc, append-nil, arith, Text, length-append, list_all, paper}
+use Rattle.ed_programs.proofs.Kit.{and_parts, length-map, digits, Settings, INPUT_BYTES, reverse, le_of, reading, rows}
+use Rattle.ed_programs.proofs.Kit.{row_of, none, Spells, spells_append, has_one_reading, paper_from, AreCodes, spells}
+use Rattle.ed_programs.proofs.Kit.{decimal_is, few_bytes, is_capital, TapeRuns}
+use Rattle.std.proofs.lemmas.List.{length-reverse, reverse-append}
+use Rattle.ed_codes.specs.Text.{spacing}
+use Rattle.ed_notation.proofs.Texts.{are_codes}
 use Rattle.ed_printer.specs.declared.printer.Shift.TheVariants.{Letters}
-use Rattle.ed_run.specs.declared.settings.Settings.{Settings}
-use Rattle.ed_syntax.specs.Reading.Grammar.{row as code_of, spells}
-use Rattle.ed_routines.specs.Digits.{digits}
-use Rattle.ed_sources.proofs.Decimals.{decimal_is, few_bytes, written}
-use Rattle.ed_programs.specs.Hello.{is_capital}
-use Rattle.ed_programs.proofs.RowTexts.{text_rows, text_spells}
-use Rattle.ed_programs.specs.Mirror.{mirror_cost, mirror_orders, mirror_pieces, mirror_prints, mirror_text}
-use Rattle.ed_programs.specs.Tapes.{TapeRuns}
+use Rattle.ed_syntax.specs.Reading.Grammar.{row as code_of}
+use Rattle.ed_sources.proofs.Decimals.{written}
+use Rattle.ed_programs.proofs.RowTexts.{figure_spells, text_rows, text_spells}
+use Rattle.ed_programs.specs.Mirror.{mirror_cost, mirror_orders, mirror_text}
 use Rattle.ed_programs.proofs.Capitals.{AreLetters, are_rows, letter}
 use Rattle.ed_programs.proofs.TextLines.{all_plain}
-use Rattle.ed_programs.proofs.MirrorEnds.{mirror_arrives, mirror_ends, mirror_entry, mirror_rows}
-use Rattle.ed_answers.specs.declared.input.TheConstants.{INPUT_BYTES}
-use Rattle.ed_programs.proofs.TapeRuns.{tape_runs}
+use Rattle.ed_programs.proofs.MirrorEnds.{front, mirror_arrives, mirror_ends, mirror_entry, mirror_rows}
+use Rattle.ed_programs.proofs.TapeRuns.{reads_spell, rows_in, tape_runs}
+use Rattle.ed_programs.specs.declared.mirror.TheConstants.{MIRROR}
+use Rattle.std.proofs.Common.{map}
 
 -- ---- the rows of the text
-
-abbrev pub front : Text
-front = get_or mirror_pieces 0 []
-
-front_reading : reading front ≡ rows (mirror_rows [])
-front_reading = refl
-
-front_spells : Spells front (mirror_rows [])
-front_spells = subst (IsReadingOf front) front_reading (has_one_reading.every front)
-
--- the number of letters is one digit
-written_spells : (n : ℕ) → 1 ≤ n → n ≤ 9 → Spells (written (digits n)) (n ∷ [])
-written_spells zero some few = absurd (omega (arith, some))
-written_spells (suc zero) some few = row 49 1 [] [] refl none
-written_spells (suc (suc zero)) some few = row 50 2 [] [] refl none
-written_spells (suc (suc (suc zero))) some few = row 51 3 [] [] refl none
-written_spells (suc (suc (suc (suc zero)))) some few = row 52 4 [] [] refl none
-written_spells (suc (suc (suc (suc (suc zero))))) some few = row 53 5 [] [] refl none
-written_spells (suc (suc (suc (suc (suc (suc zero)))))) some few = row 54 6 [] [] refl none
-written_spells (suc (suc (suc (suc (suc (suc (suc zero))))))) some few = row 55 7 [] [] refl none
-written_spells (suc (suc (suc (suc (suc (suc (suc (suc zero)))))))) some few = row 56 8 [] [] refl none
-written_spells (suc (suc (suc (suc (suc (suc (suc (suc (suc zero))))))))) some few = row 57 9 [] [] refl none
-written_spells (suc (suc (suc (suc (suc (suc (suc (suc (suc (suc n)))))))))) some few = absurd (omega (arith, few))
-
-digit_spells : (n : ℕ) → 1 ≤ n → n ≤ 9 → Spells (decimal n) (n ∷ [])
-digit_spells n some few =
-    subst (λ (t : Text). Spells t (n ∷ [])) (decimal_is n (omega (arith, few))) (written_spells n some few)
 
 -- the last line: the number of letters, and the letters
 abbrev mirror_line : Text → Text
 mirror_line letters = decimal (length letters) ++ letters
 
-text_is : (letters : Text) → front ++ (mirror_line letters ++ 10 ∷ []) ≡ mirror_text letters
-text_is letters = ap (λ (t : Text). front ++ t) (append_assoc (decimal (length letters)) letters (10 ∷ []))
+pub text_is : (letters : Text) → front ++ (decimal (length letters) ++ (letters ++ 10 ∷ [])) ≡ mirror_text letters
+text_is letters = ap (λ (t : Text). front ++ t) (sym (append_assoc (decimal (length letters)) letters (10 ∷ [])))
 
 module _ (letters : Text) (o : AreLetters 9 letters) where
   abbrev codes : List ℕ
@@ -78,16 +39,15 @@ module _ (letters : Text) (o : AreLetters 9 letters) where
   line_spells =
       let all = spells_append (mirror_line letters) (length letters ∷ codes) (10 ∷ []) []
       (spells_append (decimal (length letters)) (length letters ∷ []) letters codes
-      (digit_spells (length letters) o.some o.few) (text_spells letters spelled))
+      (figure_spells (length letters) (omega (arith, o.few))) (text_spells letters spelled))
       (spacing 10 [] [] refl none) in
       subst (Spells (mirror_line letters ++ 10 ∷ [])) (append-nil (length letters ∷ codes)) all
 
   pub text_reads : reading (mirror_text letters) ≡ rows (mirror_rows (length letters ∷ codes))
   text_reads =
       has_one_reading.only (mirror_text letters) (rows (mirror_rows (length letters ∷ codes)))
-      (subst (λ (t : Text). Spells t (mirror_rows (length letters ∷ codes))) (text_is letters)
-      (spells_append front (mirror_rows []) (mirror_line letters ++ 10 ∷ []) (length letters ∷ codes) front_spells
-      line_spells))
+      (spells_append front (rows_in front) (mirror_line letters ++ 10 ∷ []) (length letters ∷ codes)
+      (reads_spell front (rows_in front) refl) line_spells)
 
 -- ---- what is printed
 
@@ -109,7 +69,7 @@ printed_back (b ∷ q) more h =
     ∙ ap (λ (t : Text). t ++ paper_from Letters more) (sym (reverse-append (b ∷ []) q))
 
 pub each_word : (s : Settings) (letters : Text) → AreLetters 9 letters
-    → TapeRuns s (mirror_text letters) mirror_cost (mirror_orders letters) 91 (mirror_prints letters)
+    → TapeRuns s (mirror_text letters) mirror_cost (mirror_orders letters) 91 (reverse letters)
 each_word s [] o = absurd (omega (arith, o.some))
 each_word s (b ∷ q) o =
     let letters : Text = b ∷ q in
@@ -126,10 +86,9 @@ each_word s (b ∷ q) o =
     let together = length-append (decimal (length letters)) letters in
     let line = length-append (mirror_line letters) (10 ∷ []) in
     let all = length-append front (mirror_line letters ++ 10 ∷ []) in
-    let whole = ap (λ (t : Text). length t) (text_is letters) in
     let before : length front ≤ 3000 = le_of (length front) 3000 refl in
     let short : length (mirror_text letters) ≤ INPUT_BYTES =
-    omega (arith, bytes, number, together, few, line, all, whole, before) in
+    omega (arith, bytes, number, together, few, line, all, before) in
     let runs = tape_runs s (mirror_text letters) (mirror_rows (length codes ∷ codes))
     (mirror_entry (length codes ∷ codes)) reads short (mirror_arrives s.size (length codes ∷ codes))
     (mirror_ends s (code_of (row_of b)) (text_rows q) are (omega (arith, long, few)))

@@ -1,15 +1,26 @@
 -- The source of `examples/answer5.edsac` for any numbers: its path, and what it prints.
-use Rattle.ed_words.specs.declared.order_words.TheConstants.{Z_F}
-use Rattle.ed_programs.specs.Multiply.{multiply_data, multiply_orders, multiply_pieces, multiply_prints, multiply_text}
-use Rattle.ed_programs.proofs.Kit.{◌≡◌, ◌∙◌, ℕ, zero, suc, ◌+◌, ◌*◌, ◌<◌, ◌≤◌, refl, ap, subst, arith, lit<, lit≤, true}
-use Rattle.ed_programs.proofs.Kit.{List, [], ◌∷◌, ◌++◌, Some, codes, length, append_assoc, length-append, decimal}
-use Rattle.ed_programs.proofs.Kit.{least, Size, parameter_store, settings, Line, entry_state, paper, Settings, Frame}
-use Rattle.ed_programs.proofs.Kit.{Moment, short, state, any, early, out, own, A, S, T, U, E_jumps, G_jumps, G_stays, Z}
-use Rattle.ed_programs.proofs.Kit.{Path, followed, on, stay, newline, print, with_h, digits, print_orders, few_digits}
-use Rattle.ed_programs.proofs.Kit.{ComesToStop, HasRoutine, IsIn, Journey, along, then, to_stop, all_words, frame_at}
-use Rattle.ed_programs.proofs.Kit.{moment_at, number_shown, SourceRuns, word_mark, HasShown, shows_number, then_on}
-use Rattle.ed_programs.proofs.Kit.{counted, stop_counted, routine_after, stops_from_entry, Marked, lines_of_pieces}
-use Rattle.ed_programs.proofs.Kit.{program_runs, to, calling, link, calls_own}
+use Rattle.ed_programs.proofs.Kit.{◌≡◌, ℕ, zero, suc, ◌+◌, ◌*◌, ◌<◌, ◌≤◌, true, [], List, ◌∷◌, ◌++◌, length, Some, refl}
+use Rattle.ed_programs.proofs.Kit.{codes, decimal, ap, ◌∙◌, subst, append_assoc, arith, lit<, lit≤, length-append, Z_F}
+use Rattle.ed_programs.proofs.Kit.{Size, least, paper, short, state, Frame, Moment, Line, newline, print, with_h, A, S}
+use Rattle.ed_programs.proofs.Kit.{digits, print_orders, few_digits, ComesToStop, entry_state, settings, Settings, T, U}
+use Rattle.ed_programs.proofs.Kit.{parameter_store, E_jumps, G_jumps, G_stays, Z, followed, on, stay, Path, any, early}
+use Rattle.ed_programs.proofs.Kit.{out, own, along, then, to_stop, HasRoutine, IsIn, Journey, all_words, frame_at, to}
+use Rattle.ed_programs.proofs.Kit.{moment_at, number_shown, SourceRuns, shows_number, HasShown, routine_after, Marked}
+use Rattle.ed_programs.proofs.Kit.{stops_from_entry, calling, link, counted, stop_counted, calls_own}
+use Rattle.ed_programs.specs.Multiply.{multiply_orders, multiply_prints, multiply_text}
+use Rattle.ed_programs.proofs.NumberLines.{word_mark}
+use Rattle.ed_programs.proofs.NumberShown.{then_on}
+use Rattle.ed_programs.proofs.SourceRuns.{lines_of_pieces, program_runs}
+use Rattle.ed_programs.specs.declared.multiply.TheConstants.{MULTIPLY}
+use Rattle.ed_words.specs.Texts.{Text}
+use Rattle.std.proofs.Common.{map}
+
+-- the pieces of the source, and the numbers between them: a and b are multiplied, and c is squared
+abbrev multiply_pieces : List Text
+multiply_pieces = map (λ piece. piece.now) MULTIPLY
+
+abbrev multiply_data : ℕ → ℕ → ℕ → List Text
+multiply_data a b c = decimal c ∷ decimal a ∷ decimal b ∷ []
 
 -- its words, with the cells that change: the numbers, the product, the spare cell and the links
 abbrev pub cells : ℕ → ℕ → ℕ → ℕ → ℕ → ℕ → ℕ → List ℕ

@@ -1,24 +1,15 @@
 -- Lines of a source with data: one that ends with `word N`, for any number, and a `use` line with H.
-use Rattle.std.proofs.Common.{◌≡◌, ◌∙◌, ℕ, ◌+◌, ◌<◌, ◌≤◌, Bool, true, false, List, [], ◌∷◌, ◌++◌, refl, sym, ap, subst}
-use Rattle.std.proofs.Common.{arith, true≢false}
-use Rattle.std.proofs.Common.{append-nil, append_assoc, codes, length, length-append, lit≤, nat_le, pos}
-use Rattle.std.specs.Prelude.{◌==◌, ◌&&◌, Option, Some, None, Ok}
-use Rattle.std.specs.Fmt.{decimal}
-use Rattle.std.specs.List.{list_all}
-use Rattle.std.proofs.lemmas.Bool.{and_parts}
-use Rattle.std.proofs.lemmas.List.{length-map}
-use Rattle.std.proofs.lemmas.List.Folds.{list_all-append}
-use Rattle.ed_words.proofs.Numbers.{eq_false, le_of, le_true}
-use Rattle.ed_words.specs.Decimals.{value}
-use Rattle.ed_words.specs.Texts.{Text}
-use Rattle.ed_syntax.specs.Parts.{LinePart, run, is_number, modulo, is_line_byte}
-use Rattle.ed_syntax.specs.Names.{is_place_name, is_run_byte}
+use Rattle.ed_sources.proofs.Kit.{◌≡◌, ℕ, ◌+◌, ◌<◌, ◌≤◌, Bool, true, false, [], List, ◌∷◌, ◌++◌, length, ◌==◌, nat_le}
+use Rattle.ed_sources.proofs.Kit.{Some, None, Ok, codes, decimal, Option, sym, refl, ap, ◌∙◌, subst, append_assoc, lit≤}
+use Rattle.ed_sources.proofs.Kit.{append-nil, arith, length-append, list_all, and_parts, length-map, list_all-append}
+use Rattle.ed_sources.proofs.Kit.{value, Text, eq_false, is_run_byte, is_line_byte, parts_of, line_of, digits}
+use Rattle.std.proofs.Common.{pos, true≢false, ◌&&◌}
+use Rattle.ed_words.proofs.Numbers.{le_of, le_true}
+use Rattle.ed_syntax.specs.Parts.{LinePart, run, is_number, modulo}
+use Rattle.ed_syntax.specs.Names.{is_place_name}
 use Rattle.ed_syntax.specs.Reading.Grammar.{form_at}
-use Rattle.ed_syntax.specs.Reading.Parts.{parts_of}
-use Rattle.ed_syntax.specs.Reading.Sources.{line_of}
 use Rattle.ed_syntax.specs.declared.program.Statement.TheVariants as statements
 use Rattle.ed_syntax.proofs.PartLemmas.{run_parts}
-use Rattle.ed_routines.specs.Digits.{digits}
 use Rattle.ed_sources.proofs.Decimals.{are, decimal_is, digit_bytes, few_bytes, line_bytes, run_bytes, some_digit}
 use Rattle.ed_sources.proofs.Decimals.{value_is, written}
 use Rattle.ed_sources.proofs.Said.{a_number, label_parts, number_parts}

@@ -1,8 +1,10 @@
 -- The whole part of 10^n e: which number it is, by two comparisons.
-use Rattle.std.proofs.Common.{◌≡◌, ◌∙◌, ℕ, zero, suc, ◌+◌, ◌-◌, ◌*◌, ◌/◌, ◌^◌, ◌<◌, ◌≤◌, refl, sym, subst, arith}
-use Rattle.std.proofs.Common.{lit<, lit≤}
-use Rattle.std.proofs.Math.Nat.{div-lt_iff_lt-mul, le-div_iff_mul-le, mul-le-mul_left, mul-le-mul_right, mul-pos}
-use Rattle.ed_programs.specs.Decimals.{FiguresAreCarries, IsOneNumber, IsWholePart, decimals_prints, factorial, figures_in, parts}
+use Rattle.ed_programs.proofs.Kit.{◌≡◌, ℕ, zero, suc, ◌+◌, ◌-◌, ◌*◌, ◌/◌, ◌^◌, ◌<◌, ◌≤◌, sym, refl, ◌∙◌, subst, arith}
+use Rattle.ed_programs.proofs.Kit.{lit<, lit≤, div-lt_iff_lt-mul}
+use Rattle.std.proofs.Math.Nat.{le-div_iff_mul-le, mul-le-mul_left, mul-le-mul_right, mul-pos}
+use Rattle.ed_programs.specs.Decimals.{FiguresAreCarries, IsOneNumber, IsWholePart, decimals_prints, factorial, parts}
+use Rattle.ed_words.specs.Decimals.{is_digit, value}
+use Rattle.std.specs.Prelude.{filter}
 
 -- the product of the i numbers after k, and what is added to the parts in their course
 abbrev rising : ℕ → ℕ → ℕ
@@ -94,7 +96,7 @@ by_numbers n k m f p some is_f is_p low high =
     (subst (λ x. 10 ^ n * (parts k + 1) + 1 ≤ (m + 1) * x) (sym is_f)
     (subst (λ x. 10 ^ n * (x + 1) + 1 ≤ (m + 1) * f) (sym is_p) high))
 
-number_is : figures_in 0 decimals_prints
+number_is : value (filter is_digit decimals_prints)
     ≡ 27182818284590452353602874713526624977572470936999595749669676277240766303535475945713821785251664274
 number_is = refl
 
@@ -106,7 +108,7 @@ pub figures_are_carries : FiguresAreCarries
 figures_are_carries = number_is ∙ refl
 
 -- the figures of the text, by the sum up to 1/75!
-pub hundred : IsWholePart 100 (figures_in 0 decimals_prints)
+pub hundred : IsWholePart 100 (value (filter is_digit decimals_prints))
 hundred =
     subst (λ m. IsWholePart 100 m) (sym number_is)
     (by_numbers 100 75

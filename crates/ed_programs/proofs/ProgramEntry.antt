@@ -1,20 +1,11 @@
 -- A source's program at its entry: its cells and the routines of the library after them, each by one test.
-use Rattle.std.proofs.Common.{◌≡◌, ◌∙◌, inr, ℕ, zero, suc, ◌+◌, ◌<◌, ◌≤◌, refl, sym, ap, subst, arith, true, List, []}
-use Rattle.std.proofs.Common.{◌∷◌, get_or, length}
-use Rattle.std.specs.Prelude.{unwrap_or}
-use Rattle.ed_words.proofs.SizeLemmas.{least}
-use Rattle.ed_words.specs.declared.size.Size.{Size}
-use Rattle.ed_machine.specs.State.{State}
-use Rattle.ed_notation.specs.Fold.{placed_at}
-use Rattle.ed_library.specs.Routines.{place_count}
-use Rattle.ed_syntax.specs.declared.program.Line.{Line}
-use Rattle.ed_link.specs.Linked.{entry_of}
-use Rattle.ed_answers.specs.EntryState.{entry_state}
-use Rattle.ed_machine.proofs.Kit.Frames.{state}
+use Rattle.ed_sources.proofs.Kit.{◌≡◌, ℕ, zero, suc, ◌+◌, ◌<◌, ◌≤◌, true, [], List, ◌∷◌, length, get_or, unwrap_or, sym}
+use Rattle.ed_sources.proofs.Kit.{refl, ap, ◌∙◌, subst, inr, arith, Size, least, State, state, placed_at, Line}
+use Rattle.ed_sources.proofs.Kit.{place_count, entry_of, ComesToStop, entry_state}
 use Rattle.ed_machine.proofs.Kit.Window.{patched, patched_self}
 use Rattle.ed_sources.proofs.AtEntry.{all_words, has_image, have_places, placed, word_at}
 use Rattle.ed_sources.proofs.Entries.{frame_at, moment_at, routine_at}
-use Rattle.ed_routines.proofs.Journeys.{ComesToStop, HasRoutine}
+use Rattle.ed_routines.proofs.Journeys.{HasRoutine}
 
 -- the n words from location a upwards
 abbrev pub words_from : List (ℕ × ℕ) → ℕ → ℕ → List ℕ

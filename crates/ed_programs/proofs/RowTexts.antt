@@ -1,19 +1,16 @@
 -- Texts whose bytes spell rows of tape.
-use Rattle.std.proofs.Common.{◌≡◌, ◌∙◌, ℕ, ◌<◌, Bool, true, false, true≢false, List, [], ◌∷◌, refl, sym, ap, subst}
-use Rattle.std.proofs.Common.{arith, length, map, nat_le, nat_lt}
-use Rattle.std.proofs.Math.ListN.{get_or}
-use Rattle.std.specs.Prelude.{◌==◌, ◌&&◌, ◌-◌, if◌then◌else◌, position, Option, Some, None}
-use Rattle.std.specs.List.{list_all}
-use Rattle.std.proofs.lemmas.Bool.{and_parts}
+use Rattle.ed_programs.proofs.Kit.{◌≡◌, ℕ, suc, ◌-◌, ◌/◌, ◌%◌, ◌<◌, ◌≤◌, Bool, true, false, [], List, ◌∷◌, ◌++◌, map}
+use Rattle.ed_programs.proofs.Kit.{length, get_or, ◌==◌, Some, if◌then◌else◌, nat_lt, nat_le, None, decimal, Option, ap}
+use Rattle.ed_programs.proofs.Kit.{sym, refl, ◌∙◌, subst, arith, Text, list_all, and_parts, eq_of, lt_of, lt_true, ◌&&◌}
+use Rattle.ed_programs.proofs.Kit.{digits, true≢false, le_of, row_of, none, Spells, row, spells, are, both, decimal_is}
+use Rattle.std.specs.Prelude.{position}
 use Rattle.std.proofs.lemmas.List.Folds.{list_all_at}
 use Rattle.std.proofs.lemmas.List.Quantifiers.{position-Some}
-use Rattle.ed_words.proofs.Numbers.{eq_of, le_of, lt_true, lt_of}
-use Rattle.ed_words.specs.Texts.{Text}
-use Rattle.ed_codes.specs.Spelling.{letters, row_of}
-use Rattle.ed_codes.specs.Text.{Spells, none, row as one_row}
+use Rattle.ed_codes.specs.Spelling.{letters}
+use Rattle.ed_codes.specs.Text.{row as one_row}
 use Rattle.ed_syntax.specs.Forms.{AreRowsOf}
-use Rattle.ed_syntax.specs.Reading.Grammar.{row, spells}
-use Rattle.ed_sources.proofs.Decimals.{both}
+use Rattle.ed_routines.specs.Digits.{without_zeros}
+use Rattle.ed_sources.proofs.Decimals.{row_bytes, rows_are, written}
 
 -- the rows of a text
 abbrev pub text_rows : Text → List ℕ
@@ -75,3 +72,30 @@ spelled (b ∷ q) (r ∷ rows) e =
 pub rows_spelled : {q : Text} {rows : List ℕ} → AreRowsOf q rows
     → (list_all is_row_byte q ≡ true) × (text_rows q ≡ rows)
 rows_spelled {q} {rows} are = spelled q rows are.each
+
+-- ---- numbers
+
+-- a number in decimal spells its digits
+pub number_spells : (n : ℕ) → n ≤ 65535 → Spells (decimal n) (digits n)
+number_spells n small =
+    let below : suc n ≤ 65536 = omega (arith, small) in
+    subst (λ (t : Text). Spells t (digits n)) (decimal_is n below)
+    (subst (Spells (written (digits n))) (rows_are (digits n) (are n below))
+    (text_spells (written (digits n)) (row_bytes (digits n) (are n below))))
+
+-- noughts in front of a number are left out
+pub no_thousands : (a b c d u : ℕ) → a ≡ 0 → b ≡ 0 → c ≡ 0
+    → without_zeros (a ∷ b ∷ c ∷ d ∷ []) ++ u ∷ [] ≡ without_zeros (d ∷ []) ++ u ∷ []
+no_thousands a b c d u p q r = rw (p, q, r) refl
+
+-- a number below 10 has one digit
+pub one_figure : (d : ℕ) → d < 10 → digits d ≡ d % 10 ∷ []
+one_figure d l =
+    no_thousands (d / 10000) (d / 1000 % 10) (d / 100 % 10) (d / 10 % 10) (d % 10) (omega arith) (omega arith)
+    (omega arith)
+    ∙ ap (λ (t : ℕ). without_zeros (t ∷ []) ++ d % 10 ∷ []) {y = 0} (omega arith)
+
+pub figure_spells : (n : ℕ) → n < 10 → Spells (decimal n) (n ∷ [])
+figure_spells n few =
+    let one : n % 10 ≡ n = omega (arith, few) in
+    subst (Spells (decimal n)) (one_figure n few ∙ ap (λ d. d ∷ []) one) (number_spells n (omega (arith, few)))

@@ -1,23 +1,18 @@
 -- What the lines of a source say: most lines by computation, those with data by a proof.
 --
 -- Only this module uses the definitions of how a source is read.
-use Rattle.std.proofs.Common.{◌≡◌, ◌∙◌, ℕ, suc, ◌+◌, ◌-◌, ◌≤◌, Bool, true, false, List, [], ◌∷◌, ap, sym, refl, subst}
-use Rattle.std.proofs.Common.{arith, length, nat_lt}
-use Rattle.std.proofs.Common.{drop, get_or, lit≤, map, nat_eq, nat_le}
-use Rattle.std.specs.Prelude.{◌==◌, ◌||◌, ◌&&◌, not, Option, Some, None, if◌then◌else◌, Result, Ok, Err, is_ok}
-use Rattle.std.specs.List.{list_all}
-use Rattle.std.proofs.lemmas.Bool.{and_parts}
-use Rattle.ed_words.proofs.Numbers.{eq_false, eq_of, le_true, lt_false, not_lt_of}
-use Rattle.ed_words.specs.Texts.{Text}
+use Rattle.ed_sources.proofs.Kit.{sym, ap, ◌∙◌, subst, arith, lit≤, list_all, and_parts, Text, parts_of, Line}
+use Rattle.ed_sources.proofs.Kit.{Statement, text_of_lines}
+use Rattle.ed_top.proofs.Kit.{Err, Result}
+use Rattle.ed_laws.proofs.Kit.{◌&&◌}
+use Rattle.std.specs.Prelude.{is_ok, ◌≡◌, ℕ, suc, ◌+◌, ◌-◌, ◌≤◌, Bool, true, false, List, [], ◌∷◌, refl, length, nat_lt}
+use Rattle.std.specs.Prelude.{drop, get_or, map, nat_eq, nat_le, ◌==◌, ◌||◌, not, Option, Some, None, if◌then◌else◌, Ok}
+use Rattle.ed_words.proofs.Numbers.{le_true, not_lt_of, eq_false, eq_of, lt_false}
 use Rattle.ed_syntax.specs.Parts.{LinePart, is_line_byte}
 use Rattle.ed_syntax.specs.Reading.Grammar.{form_at}
-use Rattle.ed_syntax.specs.Reading.Parts.{parts_of}
-use Rattle.ed_syntax.specs.Reading.Sources.{Fault, and_lines, is_two, line_of, lines_from, program_of}
+use Rattle.ed_syntax.specs.Reading.Sources.{Fault, and_lines, is_two, lines_from, line_of, program_of}
 use Rattle.ed_syntax.specs.declared.fault.SourceCause.{SourceCause}
 use Rattle.ed_syntax.specs.declared.fault.SourceCause.TheVariants.{BadByte, LongLine, TooManyLines}
-use Rattle.ed_syntax.specs.declared.program.Line.{Line}
-use Rattle.ed_syntax.specs.declared.program.Statement.{Statement}
-use Rattle.ed_sources.specs.CallSources.{text_of_lines}
 use Rattle.ed_sources.proofs.TextLines.{lines_back}
 
 -- what the lines from a number upwards say

@@ -1,29 +1,17 @@
 -- The outcome of a source whose program reaches its stop, as the answer of the command `run`.
-use Rattle.std.proofs.Common.{◌≡◌, ℕ, ◌+◌, ◌≤◌, Bool, true, ap, subst, arith, List, [], length, nat_le}
-use Rattle.std.specs.Prelude.{◌&&◌, None, Ok, Option}
-use Rattle.std.proofs.lemmas.Bool.{and_parts}
-use Rattle.ed_words.proofs.Numbers.{le_of}
-use Rattle.ed_words.specs.declared.size.Size.{Size}
-use Rattle.ed_words.specs.declared.size.Size.TheVariants.{Small, Full}
-use Rattle.ed_words.specs.Texts.{Text}
-use Rattle.ed_printer.specs.Paper.{paper}
-use Rattle.ed_run.specs.declared.settings.Settings.{Settings}
-use Rattle.ed_syntax.specs.declared.program.Line.{Line}
+use Rattle.ed_sources.proofs.Kit.{program_of, AnswersFromEntry}
+use Rattle.ed_programs.proofs.Kit.{◌≡◌, ℕ, ◌+◌, ◌≤◌, Bool, true, [], List, length, nat_le, None, Ok, Option, ap, subst}
+use Rattle.ed_programs.proofs.Kit.{arith, Text, and_parts, Size, paper, Line, fault, ComesToStop, entry_state, Settings}
+use Rattle.ed_programs.proofs.Kit.{run_outcome, text_of_lines, OfSource, ◌&&◌, Full, Small, le_of, woven_text, Marked}
+use Rattle.ed_programs.proofs.Kit.{SourceRuns}
 use Rattle.ed_syntax.specs.declared.fault.SourceFault.{SourceFault}
-use Rattle.ed_syntax.specs.Reading.Sources.{is_two, program_of}
-use Rattle.ed_link.specs.FaultTests.{fault}
+use Rattle.ed_syntax.specs.Reading.Sources.{is_two}
 use Rattle.ed_answers.proofs.EachSource.{read_is_accepted}
-use Rattle.ed_answers.specs.EntryState.{entry_state}
-use Rattle.ed_routines.proofs.Journeys.{ComesToStop}
-use Rattle.ed_sources.specs.CallSources.{text_of_lines, woven_text}
-use Rattle.ed_answers.specs.FromEntry.{AnswersFromEntry}
-use Rattle.ed_answers.specs.Sources.{OfSource, run_outcome}
 use Rattle.ed_answers.proofs.Sources.{accepted_is, each_answer_is_from_entry}
 use Rattle.ed_sources.proofs.Stopped.{stopped_outcome}
-use Rattle.ed_programs.specs.Programs.{SourceRuns}
 use Rattle.ed_programs.proofs.Answered.{are_short, is_due}
-use Rattle.ed_programs.proofs.SourceLines.{Marked, are_read, lines_said, marked_texts, said_fine, source_read}
-use Rattle.ed_programs.proofs.SourceLines.{source_said, texts_at}
+use Rattle.ed_programs.proofs.SourceLines.{are_read, lines_said, marked_texts, said_fine, source_read, source_said}
+use Rattle.ed_programs.proofs.SourceLines.{texts_at}
 use Rattle.ed_sources.proofs.WovenLines.{unended, woven_is, woven_lines}
 
 -- a source that is read as these lines, has no fault and reaches its stop

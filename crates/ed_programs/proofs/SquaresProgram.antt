@@ -1,16 +1,10 @@
 -- The program of `examples/squares.tape1`: a loop that counts the tens of a square, in a loop over the squares.
-use Rattle.std.proofs.Common.{◌≡◌, ℕ, zero, suc, ◌+◌, ◌-◌, ◌*◌, ◌/◌, ◌%◌, ◌<◌, ◌≤◌, refl, arith, lit<, lit≤}
-use Rattle.std.proofs.Common.{List, [], ◌∷◌, Option, Some}
+use Rattle.ed_programs.proofs.Kit.{◌≡◌, ℕ, zero, suc, ◌+◌, ◌-◌, ◌*◌, ◌/◌, ◌%◌, ◌<◌, ◌≤◌, [], List, ◌∷◌, Some, Option, A}
+use Rattle.ed_programs.proofs.Kit.{refl, arith, lit<, lit≤, A_F, G_F, Z_F, short, state, Frame, Moment, ComesToStop, L}
+use Rattle.ed_programs.proofs.Kit.{E_F, O_F, S_F, T_F, Full, E_jumps, G_jumps, G_stays, O, S, T, Z, followed, on, stay}
+use Rattle.ed_programs.proofs.Kit.{prints, Path, own, L512F, along, to_stop}
 use Rattle.std.proofs.lemmas.Nat.{mul-le}
-use Rattle.ed_words.specs.declared.size.Size.TheVariants.{Full}
-use Rattle.ed_words.specs.declared.order_words.TheConstants.{A_F, E_F, G_F, O_F, S_F, T_F, Z_F}
-use Rattle.ed_machine.proofs.Kit.Frames.{Frame, Moment, short, state}
-use Rattle.ed_machine.proofs.Kit.Places.{own}
-use Rattle.ed_machine.proofs.Kit.Moves.{A, S, T, O, L, Z, E_jumps, G_jumps, G_stays}
-use Rattle.ed_machine.proofs.Kit.Shifts.{L512F}
-use Rattle.ed_machine.proofs.Kit.Paths.{Path, stay, on, prints, followed}
 use Rattle.ed_machine.proofs.Kit.Loops.{printed, quiet_rounds, varying}
-use Rattle.ed_routines.proofs.Journeys.{ComesToStop, along, to_stop}
 
 -- the cells that change
 pub record Work : Type 0 where

@@ -1,18 +1,10 @@
 -- What `examples/squares.tape1` prints.
-use Rattle.std.proofs.Common.{◌≡◌, ℕ, refl, subst, List, [], ◌∷◌, length, lit≤}
-use Rattle.ed_words.proofs.Numbers.{le_of}
-use Rattle.ed_codes.specs.Reading.{reading, rows}
-use Rattle.ed_machine.specs.State.{State}
+use Rattle.ed_programs.proofs.Kit.{◌≡◌, ℕ, [], List, ◌∷◌, length, refl, subst, lit≤, State, state, Moment, ComesToStop}
+use Rattle.ed_programs.proofs.Kit.{Settings, INPUT_BYTES, paper_room, le_of, reading, rows, patched}
 use Rattle.ed_initial1.specs.Entry.{at_entry1}
 use Rattle.ed_initial1.specs.Faults.{Comes1, Tape}
 use Rattle.ed_initial1.specs.Items.{Item1, spelled_rows1}
-use Rattle.ed_machine.proofs.Kit.Frames.{Moment, state}
-use Rattle.ed_machine.proofs.Kit.Window.{patched}
-use Rattle.ed_run.specs.declared.settings.Settings.{Settings}
-use Rattle.ed_routines.proofs.Journeys.{ComesToStop}
-use Rattle.ed_answers.specs.declared.input.TheConstants.{INPUT_BYTES}
 use Rattle.ed_answers.specs.FirstOrders.{first_state1}
-use Rattle.ed_answers.specs.Runs.{paper_room}
 use Rattle.ed_programs.specs.FirstTapes.{FirstTapeRuns}
 use Rattle.ed_programs.specs.Squares.{squares_cost, squares_orders, squares_prints, squares_text}
 use Rattle.ed_programs.proofs.FirstTapeRuns.{are_items, first_tape_runs, short_item}

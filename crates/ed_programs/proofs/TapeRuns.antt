@@ -1,42 +1,28 @@
 -- The outcome of a tape whose program reaches its stop, as the answer of the command `tape`.
-use Rattle.std.proofs.Common.{◌≡◌, ◌∙◌, inl, ℕ, ◌+◌, ◌-◌, ◌≤◌, refl, sym, ap, subst, arith, lit≤, true, List, []}
-use Rattle.std.proofs.Common.{◌∷◌, ◌++◌, codes, length, get_or}
-use Rattle.std.specs.Prelude.{None, Option, Result, Ok, Err, String}
-use Rattle.std.specs.declared.alloc.Global.{Global}
-use Rattle.std.specs.List.{list_all}
-use Rattle.ed_words.specs.Texts.{Text}
-use Rattle.ed_report.specs.Notes.{at_after}
-use Rattle.ed_answers.specs.declared.input.TheConstants.{INPUT_BYTES}
-use Rattle.ed_answers.specs.Outcome.{Outcome}
-use Rattle.ed_words.specs.declared.size.Size.{Size}
-use Rattle.ed_codes.specs.Reading.{reading, rows}
-use Rattle.ed_store.specs.Cells.{cleared_cells}
-use Rattle.ed_machine.specs.State.{State}
-use Rattle.ed_machine.specs.OrderTable.{step}
-use Rattle.ed_notation.specs.Faults.{TapeEntry}
-use Rattle.ed_notation.specs.Openings.{IsDirective, opening}
-use Rattle.ed_notation.specs.Reading.{Arrived, reading_on}
-use Rattle.ed_notation.proofs.Laws.{reading_is_rules}
-use Rattle.ed_initial.specs.Entry.{Comes, first_state}
-use Rattle.ed_initial.proofs.Quiet.{LeadsIn, comes_in}
-use Rattle.ed_run.specs.Run.{RunEnd, run_end}
+use Rattle.ed_laws.proofs.Kit.{cleared_cells, RunEnd, opening, IsDirective, Arrived, reading_is_rules, LeadsIn, run_of}
+use Rattle.ed_laws.proofs.Kit.{with_post_mortem, first_note, tape_outcome}
+use Rattle.ed_programs.proofs.Kit.{◌≡◌, ℕ, ◌+◌, ◌-◌, ◌≤◌, true, [], List, ◌∷◌, ◌++◌, length, get_or, None, Ok, codes}
+use Rattle.ed_programs.proofs.Kit.{Option, sym, refl, ap, ◌∙◌, subst, inl, arith, lit≤, Text, list_all, Size, paper}
+use Rattle.ed_programs.proofs.Kit.{State, ComesToStop, at_after, step, Err, Result, Global, Settings, Outcome, run_end}
+use Rattle.ed_programs.proofs.Kit.{INPUT_BYTES, TapeEntry, paper_room, ran_outcome, first_state, String, reading, rows}
+use Rattle.ed_programs.proofs.Kit.{Spells, has_one_reading, reading_on, Comes, exactly, OfReading, among, numbers}
+use Rattle.ed_programs.proofs.Kit.{answered, ran_to_stop, tape_state, GivesProgram, TapeRuns, Refusal}
+use Rattle.ed_codes.specs.Reading.{IsReadingOf, no_row, open_comment}
+use Rattle.ed_initial.proofs.Quiet.{comes_in}
 use Rattle.ed_run.proofs.Later.{ran_later}
-use Rattle.ed_printer.specs.Paper.{paper}
 use Rattle.ed_machine.proofs.Kit.Standing.{Holds}
-use Rattle.ed_run.specs.declared.settings.Settings.{Settings}
 use Rattle.ed_initial.proofs.Starts.{first_store, starts}
-use Rattle.ed_routines.proofs.Journeys.{ComesToStop}
-use Rattle.ed_sources.proofs.Stops.{ran_to_stop}
-use Rattle.ed_sources.proofs.Decimals.{among, numbers}
 use Rattle.ed_sources.proofs.Entries.{is_met, meets_of}
-use Rattle.ed_answers.specs.Answer.{OfReading, exactly}
-use Rattle.ed_answers.specs.Tapes.{first_note, tape_outcome}
-use Rattle.ed_answers.specs.Runs.{paper_room, ran_outcome, run_of, with_post_mortem}
-use Rattle.ed_laws.specs.TapeEntries.{tape_state}
-use Rattle.ed_sources.proofs.Stopped.{answered, nothing_after}
-use Rattle.ed_programs.specs.Programs.{GivesProgram}
-use Rattle.ed_programs.specs.Tapes.{TapePrints, TapeRuns}
-use Rattle.ed_programs.specs.declared.refusal.Refusal.{Refusal}
+use Rattle.ed_sources.proofs.Stopped.{nothing_after}
+use Rattle.ed_programs.specs.Tapes.{TapePrints}
+
+-- a text whose reading is rows spells them
+pub reads_spell : (text : Text) (codes : List ℕ) → reading text ≡ rows codes → Spells text codes
+reads_spell text codes is = subst (IsReadingOf text) is (has_one_reading.every text)
+
+-- the rows of a text, none if it has a fault
+abbrev pub rows_in : Text → List ℕ
+rows_in text = elim (reading text) [ rows codes ↦ codes | no_row place byte ↦ [] | open_comment place ↦ [] ]
 
 -- an image is in words, by one test
 pub holds_in : (words : List ℕ) (image : List (Option ℕ)) (base : ℕ)

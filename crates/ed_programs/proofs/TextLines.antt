@@ -1,36 +1,21 @@
 -- Lines of a source with data: one with a text of rows, and one that has a number between other parts.
-use Rattle.std.proofs.Common.{◌≡◌, ◌∙◌, ℕ, ◌+◌, ◌<◌, ◌≤◌, Bool, true, false, true≢false, List, [], ◌∷◌, ◌++◌, refl, sym}
-use Rattle.std.proofs.Common.{ap}
-use Rattle.std.proofs.Common.{subst, arith, codes, length, length-append, nat_le, nat_lt}
-use Rattle.std.specs.Prelude.{◌==◌, ◌&&◌, ◌||◌, not, Option, Some, Ok}
-use Rattle.std.specs.Fmt.{decimal}
-use Rattle.std.specs.List.{list_all}
-use Rattle.std.proofs.lemmas.Bool.{and_parts, not-true}
-use Rattle.std.proofs.lemmas.List.{length-map}
-use Rattle.std.proofs.lemmas.List.Folds.{list_all-append}
-use Rattle.ed_words.proofs.Numbers.{eq_false, le_of, le_true, lt_of}
-use Rattle.ed_words.specs.Texts.{Text}
-use Rattle.ed_words.specs.Decimals.{value}
-use Rattle.ed_codes.specs.Spelling.{row_of}
-use Rattle.ed_syntax.specs.Parts.{LinePart, run, sign, quoted, begins_run, array, is_number}
+use Rattle.ed_sources.proofs.Kit.{list_all-append, value, eq_false, is_run_byte, is_line_byte, parts_of}
+use Rattle.ed_programs.proofs.Kit.{◌≡◌, ℕ, ◌+◌, ◌<◌, ◌≤◌, Bool, true, false, not, [], ◌||◌, List, ◌∷◌, ◌++◌, length, Ok}
+use Rattle.ed_programs.proofs.Kit.{◌==◌, Some, nat_lt, nat_le, codes, decimal, Option, sym, refl, ap, ◌∙◌, subst, arith}
+use Rattle.ed_programs.proofs.Kit.{Text, length-append, list_all, and_parts, length-map, lt_of, line_of, Statement, row}
+use Rattle.ed_programs.proofs.Kit.{digits, ◌&&◌, true≢false, le_of, le_true, row_of, spells, among, are, both, Marked}
+use Rattle.ed_programs.proofs.Kit.{decimal_is, few_bytes}
+use Rattle.std.proofs.lemmas.Bool.{not-true}
+use Rattle.ed_syntax.specs.Parts.{LinePart, run, sign, quoted, begins_run, array, is_number, has_quote}
 use Rattle.ed_syntax.specs.Names.{is_place_name}
-use Rattle.ed_syntax.specs.Parts.{is_line_byte}
-use Rattle.ed_syntax.specs.Parts.{has_quote}
-use Rattle.ed_syntax.specs.Names.{is_run_byte}
-use Rattle.ed_syntax.specs.Reading.Grammar.{form_at, row, spells}
-use Rattle.ed_syntax.specs.Reading.Parts.{parts_of}
-use Rattle.ed_syntax.specs.Reading.Sources.{line_of}
-use Rattle.ed_syntax.specs.declared.program.Statement.{Statement}
+use Rattle.ed_syntax.specs.Reading.Grammar.{form_at}
 use Rattle.ed_syntax.specs.declared.program.Statement.TheVariants as statements
 use Rattle.ed_syntax.proofs.PartLemmas.{quote_parts, run_parts}
-use Rattle.ed_routines.specs.Digits.{digits}
-use Rattle.ed_sources.proofs.Decimals.{among, are, both, decimal_is, digit_bytes, few_bytes, line_bytes, run_bytes}
-use Rattle.ed_sources.proofs.Decimals.{some_digit}
-use Rattle.ed_sources.proofs.Decimals.{value_is, written}
+use Rattle.ed_sources.proofs.Decimals.{digit_bytes, line_bytes, run_bytes, some_digit, value_is, written}
 use Rattle.ed_sources.proofs.Said.{a_number}
 use Rattle.ed_programs.proofs.RowTexts.{is_row_byte, text_rows}
 use Rattle.ed_programs.proofs.NumberLines.{is_short_label}
-use Rattle.ed_programs.proofs.SourceLines.{Marked, by_parts}
+use Rattle.ed_programs.proofs.SourceLines.{by_parts}
 
 -- ---- a line that ends with `text` and a string
 

@@ -1,37 +1,24 @@
 -- A source that ends with a text of any length, the routine `newline` after it, and its entry at 56: it has no fault there,
 -- and where its words stand at the entry.
-use Rattle.std.proofs.Common.{◌≡◌, inl, inr, ◌∙◌, ℕ, zero, suc, ◌+◌, ◌*◌, ◌<◌, ◌≤◌, true, List, [], ◌∷◌, ◌++◌}
-use Rattle.std.proofs.Common.{refl, ap, sym, arith, length, get_or, map, nat_lt, append-nil, codes}
-use Rattle.std.specs.Prelude.{◌&&◌, Some, None, reverse, unwrap_or}
-use Rattle.std.specs.List.{list_all}
-use Rattle.std.proofs.lemmas.Bool.{and_parts}
-use Rattle.std.proofs.lemmas.List.{length-map}
-use Rattle.std.proofs.lemmas.List.Folds.{list_all-append}
-use Rattle.ed_words.proofs.Numbers.{lt_of}
-use Rattle.ed_words.proofs.SizeLemmas.{least}
-use Rattle.ed_words.specs.Texts.{Text}
-use Rattle.ed_words.specs.declared.size.Size.{Size}
-use Rattle.ed_notation.specs.Fold.{placed_at}
+use Rattle.ed_sources.proofs.Kit.{list_all-append, placed_at, image_word, Definition, linked_words, counter}
+use Rattle.ed_programs.proofs.Kit.{◌≡◌, ℕ, zero, suc, ◌+◌, ◌*◌, ◌<◌, ◌≤◌, true, [], List, ◌∷◌, ◌++◌, map, length, Some}
+use Rattle.ed_programs.proofs.Kit.{get_or, nat_lt, None, codes, unwrap_or, sym, refl, ap, ◌∙◌, inl, inr, append-nil}
+use Rattle.ed_programs.proofs.Kit.{arith, Text, list_all, and_parts, length-map, Size, lt_of, least, Line, newline}
+use Rattle.ed_programs.proofs.Kit.{entry_state, parameter_store, ◌&&◌, reverse, HasRoutine, frame_at}
 use Rattle.ed_library.specs.Entries.{entry}
-use Rattle.ed_library.specs.Images.{image_word, parameter_store, routine_word}
+use Rattle.ed_library.specs.Images.{routine_word}
 use Rattle.ed_library.specs.Routines.{table_item}
 use Rattle.ed_syntax.specs.Parts.{array}
-use Rattle.ed_syntax.specs.declared.program.Line.{Line}
 use Rattle.ed_syntax.specs.declared.program.Statement.TheVariants as statements
-use Rattle.ed_symbols.specs.declared.symbols.Definition.{Definition}
 use Rattle.ed_symbols.specs.Names.{place_on}
 use Rattle.ed_symbols.specs.Places.{even_from}
-use Rattle.ed_link.specs.Linked.{placed_words, linked_words}
+use Rattle.ed_link.specs.Linked.{placed_words}
 use Rattle.ed_link.specs.FaultTests.{extent, fault_from}
-use Rattle.ed_answers.specs.EntryState.{entry_state}
-use Rattle.ed_routines.specs.Catalogue.{newline}
-use Rattle.ed_routines.proofs.Journeys.{HasRoutine}
 use Rattle.ed_sources.proofs.AtEntry.{have_places}
 use Rattle.ed_sources.proofs.Blocks.{beside_block, block_places, in_block, last_append, last_at, last_is, or_else}
 use Rattle.ed_sources.proofs.Blocks.{word_of}
-use Rattle.ed_sources.proofs.Entries.{frame_at}
 use Rattle.ed_sources.proofs.Said.{said}
-use Rattle.ed_link.proofs.Extents.{ExtentList, are_below, counter, none_later, one_more, past}
+use Rattle.ed_link.proofs.Extents.{ExtentList, are_below, none_later, one_more, past}
 use Rattle.ed_programs.proofs.Faults.{block_sound, enter_sound, use_sound}
 
 -- ---- faults

@@ -1,11 +1,9 @@
 -- What a call that writes a program's text answers.
-use Rattle.std.proofs.Common.{◌≡◌, ◌∙◌, inl, ℕ, List, [], ◌∷◌, ◌++◌, ap, sym, refl, subst, append_assoc}
-use Rattle.std.specs.Prelude.{Option, Result, Ok, Err, None, Some, IfOk, IfSome, String, string_bytes}
+use Rattle.ed_sources.proofs.Kit.{◌≡◌, ℕ, [], List, ◌∷◌, ◌++◌, Some, None, Ok, string_bytes, Option, sym, refl, ap, ◌∙◌}
+use Rattle.ed_sources.proofs.Kit.{subst, inl, append_assoc, Text, text_of_lines}
+use Rattle.ed_top.proofs.Kit.{Err, Result, Global, Settings}
+use Rattle.std.specs.Prelude.{IfOk, IfSome, String}
 use Rattle.std.specs.declared.alloc.AllocError.{AllocError}
-use Rattle.std.specs.declared.alloc.Global.{Global}
-use Rattle.ed_words.specs.Texts.{Text}
-use Rattle.ed_run.specs.declared.settings.Settings.{Settings}
-use Rattle.ed_sources.specs.CallSources.{text_of_lines}
 use Rattle.ed_programs.specs.Programs.{AnswersWritten, GivesProgram, Prints, SourceRuns}
 use Rattle.ed_programs.specs.declared.refusal.Refusal.{Refusal}
 

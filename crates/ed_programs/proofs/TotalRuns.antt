@@ -1,22 +1,38 @@
 -- The source of `examples/total.edsac` for any list: its path, and what it prints.
-use Rattle.std.specs.Prelude.{nat_le, nat_lt}
-use Rattle.std.specs.List.{list_all}
-use Rattle.std.proofs.lemmas.Bool.{and_parts}
-use Rattle.ed_words.proofs.Numbers.{le_of}
-use Rattle.ed_words.specs.declared.order_words.TheConstants.{Z_F}
-use Rattle.ed_routines.specs.Digits.{sum}
-use Rattle.ed_sources.proofs.Decimals.{both}
-use Rattle.ed_programs.specs.Total.{adding_orders, total_orders, total_pieces, total_prints, total_text}
-use Rattle.ed_programs.proofs.Kit.{◌≡◌, ◌∙◌, ℕ, ◌+◌, ◌-◌, ◌*◌, ◌<◌, ◌≤◌, refl, sym, arith, lit<, lit≤, true, false}
-use Rattle.ed_programs.proofs.Kit.{List, [], ◌∷◌, ◌++◌, append-nil, length, lt_true, Text}
-use Rattle.ed_programs.proofs.Kit.{Size, parameter_store, settings, Line, entry_state, Settings, Frame, Moment, short}
-use Rattle.ed_programs.proofs.Kit.{state, own, A, S, T, E_jumps, G_jumps, G_stays, Z, on, stay, get_own}
-use Rattle.ed_programs.proofs.Kit.{digits, print_orders, few_digits, print_line, ComesToStop, IsIn, Journey, along, then}
-use Rattle.ed_programs.proofs.Kit.{to_stop, stop_after, frame_at, moment_at, digits_printed, SourceRuns, HasRead}
-use Rattle.ed_programs.proofs.Kit.{reads_number, are_small, numbers_text, list_mark, number_rows, ended_small, ended_some}
-use Rattle.ed_programs.proofs.Kit.{stops_from_entry, Marked, lines_of_pieces, program_runs, to, calling, journey_counted}
-use Rattle.ed_programs.proofs.Kit.{stop_counted}
-use Rattle.ed_programs.proofs.Kit.{HasPair, pair_after, pair_at_entry}
+use Rattle.ed_sources.proofs.Kit.{sum}
+use Rattle.ed_programs.proofs.Kit.{◌≡◌, ℕ, ◌+◌, ◌-◌, ◌*◌, ◌<◌, ◌≤◌, true, false, [], List, ◌∷◌, ◌++◌, length, nat_lt, A}
+use Rattle.ed_programs.proofs.Kit.{nat_le, sym, refl, ◌∙◌, append-nil, arith, lit<, lit≤, Text, list_all, and_parts, S}
+use Rattle.ed_programs.proofs.Kit.{Z_F, Size, lt_true, short, state, Frame, Moment, Line, digits, print_orders, le_of}
+use Rattle.ed_programs.proofs.Kit.{few_digits, ComesToStop, entry_state, settings, parameter_store, Settings, E_jumps}
+use Rattle.ed_programs.proofs.Kit.{G_jumps, G_stays, T, Z, on, stay, own, get_own, along, stop_after, then, to_stop, to}
+use Rattle.ed_programs.proofs.Kit.{IsIn, Journey, print_line, both, frame_at, moment_at, digits_printed, numbers_text}
+use Rattle.ed_programs.proofs.Kit.{SourceRuns, reads_number, HasRead, are_small, number_rows, stops_from_entry, Marked}
+use Rattle.ed_programs.proofs.Kit.{calling, journey_counted, stop_counted, HasPair, pair_after, pair_at_entry}
+use Rattle.ed_programs.specs.Total.{total_orders, total_text}
+use Rattle.ed_programs.proofs.DataLines.{list_mark}
+use Rattle.ed_programs.proofs.NumberLists.{ended_small, ended_some}
+use Rattle.ed_programs.proofs.SourceRuns.{lines_of_pieces, program_runs}
+use Rattle.ed_programs.specs.declared.total.TheConstants.{TOTAL}
+use Rattle.std.proofs.Common.{map}
+use Rattle.std.proofs.lemmas.List.Sums.{sum_by-cons}
+use Rattle.std.specs.Fmt.{decimal}
+use Rattle.std.specs.List.{sum_by}
+
+-- the pieces of the source
+abbrev pub total_pieces : List Text
+total_pieces = map (λ piece. piece.now) TOTAL
+
+-- the orders for numbers
+abbrev adding_orders : List ℕ → ℕ
+adding_orders [] = 0
+adding_orders (n ∷ ns) = 13 * length (digits n) + 20 + adding_orders ns
+
+additions_are : (ns : List ℕ) → adding_orders ns ≡ sum_by (λ n. 13 * length (digits n) + 20) ns
+additions_are [] = refl
+additions_are (n ∷ ns) =
+    let rest = additions_are ns in
+    let all = sum_by-cons (λ n. 13 * length (digits n) + 20) n ns in
+    omega (arith, rest, all)
 
 -- its words, with the three cells that change
 abbrev cells : ℕ → ℕ → ℕ → List ℕ
@@ -100,15 +116,16 @@ module _ (ns : List ℕ) (least : list_all (λ n. nat_le 1 n) ns ≡ true) (smal
   abbrev lines : List Line
   lines = lines_of_pieces false total_pieces texts marks
 
-  pub each_total : (s : Settings) → SourceRuns s (total_text ns) (total_orders ns) 69 (total_prints ns)
+  pub each_total : (s : Settings) → SourceRuns s (total_text ns) (total_orders ns) 69 (decimal (sum ns))
   unfolding settings parameter_store
   each_total s =
       let z : Size = s.size in
       let few = few_digits (sum ns) in
+      let orders = additions_are ns in
       program_runs s false total_pieces texts marks refl
       (stops_from_entry z lines refl 17 (lit≤ tt) (cells 0 0 0) refl refl (number_rows (ns ++ 0 ∷ []))
       (sym (append-nil (number_rows (ns ++ 0 ∷ []))))
       (stops z (moment_at (entry_state z lines)) ns 0 (sum ns) 0 (entry_state z lines).store.words
       (pair_at_entry z lines 17 (lit≤ tt) 74 98 13 14 refl (lit≤ tt) (lit≤ tt) (lit≤ tt)) least (omega arith)
       small (entry_state z lines).orders))
-      (omega arith) (omega arith) (digits_printed (sum ns) small)
+      (omega arith) (omega (arith, orders)) (digits_printed (sum ns) small)

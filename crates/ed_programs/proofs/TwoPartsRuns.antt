@@ -1,60 +1,35 @@
 -- A tape whose first program returns to the Initial Orders and whose second one reaches its stop, as the answers of the
 -- commands `parts` and `tape`.
-use Rattle.std.proofs.Common.{◌≡◌, ◌≢◌, ◌∙◌, inl, ℕ, zero, suc, ◌+◌, ◌-◌, ◌<◌, ◌≤◌, refl, sym, ap, subst, arith}
-use Rattle.std.proofs.Common.{true, false, List, [], ◌∷◌, ◌++◌, append_assoc, codes, length, length-append, inr}
-use Rattle.std.proofs.lemmas.Bool.{cases_lt}
-use Rattle.std.specs.Prelude.{None, Some, Result, Ok, Err, String}
-use Rattle.std.specs.declared.alloc.Global.{Global}
-use Rattle.ed_words.proofs.Numbers.{eq_false, lt_false, lt_true}
-use Rattle.ed_words.specs.Sizes.{locations}
-use Rattle.ed_words.specs.Texts.{Text}
-use Rattle.ed_words.specs.declared.size.Size.{Size}
-use Rattle.ed_codes.specs.Reading.{reading, rows}
+use Rattle.ed_sources.proofs.Kit.{eq_false, joined, Leads}
+use Rattle.ed_top.proofs.Kit.{IsInParts}
+use Rattle.ed_laws.proofs.Kit.{Obeyed, is_obeyed, stops_of, progress, Stopped, Turn, Printed, Went, counted_after}
+use Rattle.ed_laws.proofs.Kit.{end_by, LeadsIn, with_post_mortem, tape_outcome, first_part, LeadsTo}
+use Rattle.ed_programs.proofs.Kit.{◌≡◌, ℕ, zero, suc, ◌+◌, ◌-◌, ◌<◌, ◌≤◌, true, false, [], ◌≢◌, List, ◌∷◌, ◌++◌, length}
+use Rattle.ed_programs.proofs.Kit.{Some, None, Ok, codes, sym, refl, ap, ◌∙◌, subst, inl, inr, append_assoc, arith, Err}
+use Rattle.ed_programs.proofs.Kit.{Text, length-append, cases_lt, Size, lt_false, lt_true, paper, State, on}
+use Rattle.ed_programs.proofs.Kit.{state, Frame, Moment, ComesToStop, at_after, step, Result, Settings, Outcome}
+use Rattle.ed_programs.proofs.Kit.{INPUT_BYTES, state_after, run_end, TapeEntry, paper_room, ran_outcome, first_state}
+use Rattle.ed_programs.proofs.Kit.{String, reading, rows, prints, stay, Path, rows_of, spelled_rows, Comes, stop_after}
+use Rattle.ed_programs.proofs.Kit.{exactly, OfReading, directive, answered, ran_to_stop}
 use Rattle.ed_store.specs.Cells.{IsStore}
-use Rattle.ed_machine.specs.State.{State}
-use Rattle.ed_machine.specs.OrderTable.{Obeyed, step}
-use Rattle.ed_machine.specs.Steps.{is_obeyed, progress, state_after, stops_of}
-use Rattle.ed_machine.specs.declared.turn.Turn.{Turn}
-use Rattle.ed_machine.specs.declared.turn.Turn.TheVariants.{Went, Printed, Stopped as Stops, NoOrder, NoTape}
-use Rattle.ed_machine.specs.declared.ending.Ending.TheVariants.{Stopped}
-use Rattle.ed_machine.proofs.Counts.{counted_after}
+use Rattle.ed_machine.specs.declared.turn.Turn.TheVariants.{Stopped as Stops, NoOrder, NoTape}
 use Rattle.ed_machine.proofs.Steps.{next_state, next_stops}
-use Rattle.ed_run.specs.Run.{end_by, run_end}
-use Rattle.ed_printer.specs.Paper.{paper}
 use Rattle.ed_notation.specs.Fold.{address}
-use Rattle.ed_notation.specs.Faults.{TapeEntry}
-use Rattle.ed_notation.specs.Items.{rows_of, spelled_rows}
-use Rattle.ed_initial.specs.Entry.{Comes, at_entry, first_state}
-use Rattle.ed_initial.proofs.Quiet.{LeadsIn, comes_in}
-use Rattle.ed_interlude.specs.Returned.{ComesBack, IsReturned, directive}
+use Rattle.ed_initial.specs.Entry.{at_entry}
+use Rattle.ed_initial.proofs.Quiet.{comes_in}
+use Rattle.ed_interlude.specs.Returned.{ComesBack, IsReturned}
 use Rattle.ed_interlude.proofs.Resumed.{leads_back}
-use Rattle.ed_machine.proofs.Kit.Frames.{Frame, Moment, state}
-use Rattle.ed_machine.proofs.Kit.Leads.{Leads, free, goes_on, joined, no_stops, obeyed_of}
-use Rattle.ed_machine.proofs.Kit.Paths.{Path, no_state, on, prints, stay}
+use Rattle.ed_machine.proofs.Kit.Leads.{free, goes_on, no_stops, obeyed_of}
+use Rattle.ed_machine.proofs.Kit.Paths.{no_state}
 use Rattle.ed_machine.proofs.Kit.Paths as paths
-use Rattle.ed_run.specs.declared.settings.Settings.{Settings}
 use Rattle.ed_initial.proofs.Starts.{first_store, starts}
-use Rattle.ed_routines.proofs.Journeys.{ComesToStop, stop_after}
 use Rattle.ed_report.specs.Entries.{entry_line, returned_line}
-use Rattle.ed_report.specs.Notes.{at_after}
-use Rattle.ed_sources.proofs.Stops.{ran_to_stop}
-use Rattle.ed_interlude.specs.Parts.{ComesHome, Concludes, Finishes, GoesBack, IsUnderWay, LeadsTo, RunsOn, TapePart}
-use Rattle.ed_interlude.specs.Parts.{IsReportOfTape}
-use Rattle.ed_interlude.specs.Parts.{PartsReport, entry_done, entry_report, finished, first_part, part_after}
-use Rattle.ed_interlude.specs.Parts.{part_entry_state}
+use Rattle.ed_interlude.specs.Parts.{ComesHome, Concludes, Finishes, GoesBack, IsUnderWay, RunsOn, TapePart, entry_done}
+use Rattle.ed_interlude.specs.Parts.{IsReportOfTape, PartsReport, entry_report, finished, part_after, part_entry_state}
 use Rattle.ed_interlude.specs.Parts.{program_end, part_report}
 use Rattle.ed_interlude.specs.declared.tape.PartsEnd.TheVariants.{Ended}
-use Rattle.ed_answers.specs.declared.input.TheConstants.{INPUT_BYTES}
-use Rattle.ed_answers.specs.Answer.{OfReading, exactly}
-use Rattle.ed_answers.specs.Outcome.{Outcome}
-use Rattle.ed_answers.specs.Tapes.{tape_outcome}
-use Rattle.ed_top.specs.Parts.{IsInParts}
-use Rattle.ed_answers.specs.Runs.{paper_room, ran_outcome, with_post_mortem}
-use Rattle.ed_sources.proofs.Stopped.{answered, nothing_after}
-use Rattle.ed_programs.specs.Programs.{GivesProgram}
-use Rattle.ed_programs.specs.TwoParts.{TwoParts, TwoPartsPrint, TwoPartsRun, orders_to_program, orders_to_return}
-use Rattle.ed_programs.specs.TwoParts.{orders_to_stop, two_parts_lines, two_parts_note}
-use Rattle.ed_programs.specs.declared.refusal.Refusal.{Refusal}
+use Rattle.ed_sources.proofs.Stopped.{nothing_after}
+use Rattle.ed_programs.proofs.TwoParts.{TwoParts, TwoPartsRun, orders_to_program, orders_to_return, orders_to_stop, two_parts_lines, two_parts_note}
 
 -- ---- a program of a part
 
@@ -348,11 +323,3 @@ two_parts_run s tape tape_rows {at} {printed} reads short c few =
           ∙ answered [] (run_end s.limit 0 paper_room first) ended o.counter count in
           inl (short, subst (λ r. OfReading (exactly (tape_outcome s)) r due) (sym reads) answer);
     }
-
--- a law of a tape's text is one of the text that is answered
-pub two_parts_print_of : {room : ℕ} {t : TwoParts} {tape printed : Text} (r : Result (String Global) Refusal)
-    → GivesProgram None tape r
-    → ((s : Settings) → room ≤ locations s.size → TwoPartsRun s tape t printed) → TwoPartsPrint room t printed r
-two_parts_print_of {t = t} {printed = printed} (Ok text) gives law = λ s fits.
-    subst (λ (x : Text). TwoPartsRun s x t printed) (sym gives.1) (law s fits)
-two_parts_print_of (Err refusal) gives law = tt

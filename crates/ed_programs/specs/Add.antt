@@ -1,5 +1,5 @@
 -- The source of `examples/add.edsac` for any two numbers, and what it prints.
-use Rattle.std.specs.Prelude.{ℕ, ◌+◌, ◌*◌, List, [], ◌∷◌, length, map, nat_lt, if◌then◌else◌, Option, Some, None}
+use Rattle.std.specs.Prelude.{ℕ, ◌+◌, ◌*◌, [], ◌∷◌, length, map, nat_lt, if◌then◌else◌, Option, Some, None}
 use Rattle.std.specs.Fmt.{decimal}
 use Rattle.ed_words.specs.Texts.{Text}
 use Rattle.ed_routines.specs.Digits.{digits, print_orders}
@@ -8,25 +8,14 @@ use Rattle.ed_programs.specs.declared.add.TheConstants.{ADD}
 use Rattle.ed_programs.specs.declared.refusal.Refusal.{Refusal}
 use Rattle.ed_programs.specs.declared.refusal.Refusal.TheVariants.{Number}
 
--- its pieces, and the numbers between them
-abbrev pub add_pieces : List Text
-add_pieces = map (λ piece. piece.now) ADD
-
-abbrev pub add_data : ℕ → ℕ → List Text
-add_data a b = decimal a ∷ decimal b ∷ []
-
--- the whole text
+-- the whole text: the pieces of the source, and the numbers between them
 abbrev pub add_text : ℕ → ℕ → Text
-add_text a b = woven_text add_pieces (add_data a b)
+add_text a b = woven_text (map (λ piece. piece.now) ADD) (decimal a ∷ decimal b ∷ [])
 
 -- why the data of `examples/add.edsac`, two numbers below 65536, are refused, if they are: `print` can't print their
 -- sum
 abbrev pub add_refusal : ℕ → ℕ → Option Refusal
 add_refusal a b = if nat_lt (a + b) 65536 then None else Some Number
-
--- the sum in decimal
-abbrev pub add_prints : ℕ → ℕ → Text
-add_prints a b = decimal (a + b)
 
 -- 13 orders for each digit that is read, those of `print`, and 34 more
 abbrev pub add_orders : ℕ → ℕ → ℕ

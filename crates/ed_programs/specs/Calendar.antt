@@ -1,6 +1,7 @@
 -- The tape of `examples/calendar.tape` for any month from January 1901 to December 2099, and what it prints.
 use Rattle.std.specs.Prelude.{ℕ, zero, suc, ◌+◌, ◌-◌, ◌*◌, ◌/◌, ◌%◌, Bool, not, ◌==◌, ◌&&◌, ◌||◌, if◌then◌else◌}
 use Rattle.std.specs.Prelude.{List, [], ◌∷◌, ◌++◌, codes, flat_map, get_or, length, map, nat_lt, replicate, sum, take}
+use Rattle.std.specs.List.{range_with_len}
 use Rattle.std.specs.Prelude.{Option, Some, None}
 use Rattle.std.specs.Fmt.{decimal}
 use Rattle.ed_words.specs.Texts.{Text}
@@ -10,13 +11,9 @@ use Rattle.ed_programs.specs.declared.calendar.TheConstants.{CALENDAR}
 use Rattle.ed_programs.specs.declared.refusal.Refusal.{Refusal}
 use Rattle.ed_programs.specs.declared.refusal.Refusal.TheVariants.{Month, Year}
 
--- its pieces; the month and the year stand between them
-abbrev pub calendar_pieces : List Text
-calendar_pieces = map (λ piece. piece.now) CALENDAR
-
 -- the whole tape
 abbrev pub calendar_text : ℕ → ℕ → Text
-calendar_text month year = woven_text calendar_pieces (decimal month ∷ decimal year ∷ [])
+calendar_text month year = woven_text (map (λ piece. piece.now) CALENDAR) (decimal month ∷ decimal year ∷ [])
 
 -- why a month and a year are refused, if they are
 abbrev pub calendar_refusal : ℕ → ℕ → Option Refusal
@@ -30,10 +27,6 @@ calendar_refusal month year =
 abbrev pub is_leap : ℕ → Bool
 is_leap year = year % 4 == 0 && (not (year % 100 == 0) || year % 400 == 0)
 
--- the days of a year
-abbrev pub year_length : ℕ → ℕ
-year_length year = if is_leap year then 366 else 365
-
 -- the days of each month of a year
 abbrev pub month_lengths : ℕ → List ℕ
 month_lengths year =
@@ -46,15 +39,11 @@ month_length month year = get_or (month_lengths year) (month - 1) 0
 -- the days of n years, from 1900 on
 abbrev pub years_length : ℕ → ℕ
 years_length zero = 0
-years_length (suc n) = years_length n + year_length (1900 + n)
+years_length (suc n) = years_length n + sum (month_lengths (1900 + n))
 
--- how many days after 1 January 1900 a day is
-abbrev pub day_number : ℕ → ℕ → ℕ → ℕ
-day_number day month year = years_length (year - 1900) + sum (take (month - 1) (month_lengths year)) + (day - 1)
-
--- the weekday of a day, from 0 for a Monday to 6 for a Sunday: 1 January 1900 was a Monday
+-- the weekday of a day, from 0 for a Monday to 6 for a Sunday, by the days from 1 January 1900, a Monday, up to that day
 abbrev pub weekday : ℕ → ℕ → ℕ → ℕ
-weekday day month year = day_number day month year % 7
+weekday day month year = (years_length (year - 1900) + sum (take (month - 1) (month_lengths year)) + (day - 1)) % 7
 
 -- ---- what is printed
 
@@ -73,62 +62,39 @@ abbrev pub calendar_title : ℕ → ℕ → Text
 calendar_title month year =
     codes "      " ++ get_or month_names (month - 1) [] ++ codes " " ++ decimal year ++ new_line
 
--- the line of the weekdays
-abbrev pub calendar_heads : Text
-calendar_heads = codes " SU MO TU WE TH FR SA" ++ new_line
-
 -- the days of a week before the first of the month; a week begins on a Sunday
 abbrev pub days_before : ℕ → ℕ → ℕ
 days_before month year = (weekday 1 month year + 1) % 7
-
--- three spaces for each day before the first
-abbrev pub calendar_gap : ℕ → ℕ → Text
-calendar_gap month year = replicate (3 * days_before month year) 32
 
 -- a space and the day in two places: before a single figure there is one more space
 abbrev pub day_text : ℕ → Text
 day_text day = if nat_lt day 10 then 32 ∷ 32 ∷ decimal day else 32 ∷ decimal day
 
--- a new line after a Saturday
-abbrev pub week_end : ℕ → Text
-week_end weekday = if weekday == 5 then new_line else []
-
--- n days from one on
-abbrev pub days_from : ℕ → ℕ → List ℕ
-days_from day zero = []
-days_from day (suc n) = day ∷ days_from (suc day) n
-
--- the days of the month, with the ends of its weeks
+-- the days of the month, with a new line after each Saturday
 abbrev pub calendar_days : ℕ → ℕ → Text
 calendar_days month year =
-    flat_map (λ day. day_text day ++ week_end (weekday day month year)) (days_from 1 (month_length month year))
+    flat_map (λ day. day_text day ++ (if weekday day month year == 5 then new_line else []))
+    (range_with_len 1 (month_length month year))
 
--- the whole calendar
+-- the whole calendar: its title, the line of the weekdays, three spaces for each day before the first, and the days
 abbrev pub calendar_prints : ℕ → ℕ → Text
 calendar_prints month year =
-    calendar_title month year ++ calendar_heads ++ calendar_gap month year ++ calendar_days month year
+    calendar_title month year ++ (codes " SU MO TU WE TH FR SA" ++ new_line)
+    ++ replicate (3 * days_before month year) 32 ++ calendar_days month year
 
 -- ---- the orders from the entry to the stop
 
--- the years since 1901
-abbrev pub years_past : ℕ → ℕ
-years_past year = year - 1901
-
--- how many of these years were leap years: each fourth
-abbrev pub leap_years_past : ℕ → ℕ
-leap_years_past year = years_past year / 4
-
--- how far the weekday of the first of the month is counted up: from 2, a Tuesday, by one for a year, one more for a
--- leap year, and the days of the months before it
+-- how far the weekday of the first of the month is counted up: from 2, a Tuesday, by one for each year since 1901, one
+-- more for a leap year, which each fourth of these is, and the days of the months before it
 abbrev pub weekday_count : ℕ → ℕ → ℕ
 weekday_count month year =
-    2 + years_past year + leap_years_past year + sum (take (month - 1) (month_lengths year))
+    2 + (year - 1901) + (year - 1901) / 4 + sum (take (month - 1) (month_lengths year))
 
 -- the orders that count: 18 for a year since 1901 and 6 more for a leap year; 4 if the year is one itself; 12 for a
 -- month before; 2 for seven days that are taken away
 abbrev pub counting_orders : ℕ → ℕ → ℕ
 counting_orders month year =
-    18 * years_past year + 6 * leap_years_past year + (if is_leap year then 4 else 0) + 12 * (month - 1)
+    18 * (year - 1901) + 6 * ((year - 1901) / 4) + (if is_leap year then 4 else 0) + 12 * (month - 1)
     + 2 * (weekday_count month year / 7)
 
 -- the orders for the figures of the year, 8 for each unit of its thousands, hundreds and tens, and 9 for each day before
@@ -144,7 +110,7 @@ day_orders day = if nat_lt day 10 then 45 else 49 + 8 * (day / 10)
 -- the orders for all days, and 5 for each Saturday
 abbrev pub days_orders : ℕ → ℕ → ℕ
 days_orders month year =
-    sum (map day_orders (days_from 1 (month_length month year)))
+    sum (map day_orders (range_with_len 1 (month_length month year)))
     + 5 * ((days_before month year + month_length month year) / 7)
 
 -- the orders that load the tape

@@ -1,7 +1,9 @@
 -- The source of `examples/decimals.edsac`, what it prints, and what the decimals of e are.
-use Rattle.std.specs.Prelude.{◌≡◌, ℕ, zero, suc, ◌+◌, ◌-◌, ◌*◌, ◌/◌, ◌%◌, ◌^◌, ◌≤◌, List, [], ◌∷◌, ◌++◌, codes, map}
-use Rattle.std.specs.Prelude.{nat_le, ◌&&◌, Bool, true, false, replicate}
+use Rattle.std.specs.Prelude.{◌≡◌, ℕ, zero, suc, ◌+◌, ◌*◌, ◌/◌, ◌%◌, ◌^◌, ◌≤◌, List, [], ◌∷◌, ◌++◌, codes, filter, map}
+use Rattle.std.specs.Prelude.{replicate}
+use Rattle.ed_words.specs.Decimals.{is_digit, value}
 use Rattle.ed_words.specs.Texts.{Text}
+use Rattle.ed_notation.specs.Items.{digits_number}
 use Rattle.ed_sources.specs.CallSources.{woven_text}
 use Rattle.ed_programs.specs.declared.decimals.TheConstants.{DECIMALS}
 
@@ -57,15 +59,10 @@ abbrev pub carries : ℕ → List ℕ → List ℕ
 carries zero ns = []
 carries (suc m) ns = let t = tenfold 2 ns in t.carry ∷ carries m t.left
 
--- figures behind a number
-abbrev pub with_figures : ℕ → List ℕ → ℕ
-with_figures n [] = n
-with_figures n (c ∷ cs) = with_figures (10 * n + c) cs
-
 -- if k numerators are 1, whatever k is, then 2 and the first m carries are the sum up to 1/(k + 1)! to m decimals
 abbrev pub MethodIsRight : Type 0
 MethodIsRight = (k m : ℕ)
-    → with_figures 2 (carries m (replicate k 1)) ≡ 10 ^ m * parts (suc k) / factorial (suc k)
+    → digits_number 2 (carries m (replicate k 1)) ≡ 10 ^ m * parts (suc k) / factorial (suc k)
 
 -- ---- what is printed, and in how many orders
 
@@ -75,20 +72,10 @@ decimals_prints =
     codes "2." ++ 13 ∷ 10 ∷ codes "7182818284 5904523536 0287471352 6624977572 4709369995"
     ++ 13 ∷ 10 ∷ codes "9574966967 6277240766 3035354759 4571382178 5251664274" ++ 13 ∷ 10 ∷ []
 
--- a character of a text as a digit of a number: all that are not figures are left out
-abbrev pub with_character : Bool → ℕ → ℕ → ℕ
-with_character true n c = 10 * n + (c - 48)
-with_character false n c = n
-
--- the figures of a text, behind a number, as one number
-abbrev pub figures_in : ℕ → Text → ℕ
-figures_in n [] = n
-figures_in n (c ∷ text) = figures_in (with_character (nat_le 48 c && nat_le c 57) n c) text
-
 -- the orders from the entry: 8 for each unit of each carry, whose sum is 33276, and 187505 more
 abbrev pub decimals_orders : ℕ
 decimals_orders = 187505 + 8 * 33276
 
 -- the figures are the carries of 74 numerators, with the divisors from 2 to 75
 abbrev pub FiguresAreCarries : Type 0
-FiguresAreCarries = figures_in 0 decimals_prints ≡ with_figures 2 (carries 100 (replicate 74 1))
+FiguresAreCarries = value (filter is_digit decimals_prints) ≡ digits_number 2 (carries 100 (replicate 74 1))

@@ -1,29 +1,18 @@
 -- The source of `examples/difference.edsac` for any two numbers, and what it prints.
-use Rattle.std.specs.Prelude.{ℕ, ◌+◌, ◌-◌, ◌*◌, List, [], ◌∷◌, length, map, max, min, nat_lt, if◌then◌else◌}
+use Rattle.std.specs.Prelude.{ℕ, ◌+◌, ◌-◌, ◌*◌, [], ◌∷◌, length, map, max, min, nat_lt, if◌then◌else◌}
 use Rattle.std.specs.Fmt.{decimal}
 use Rattle.ed_words.specs.Texts.{Text}
 use Rattle.ed_routines.specs.Digits.{digits, print_orders}
 use Rattle.ed_sources.specs.CallSources.{woven_text}
 use Rattle.ed_programs.specs.declared.difference.TheConstants.{DIFFERENCE}
 
--- its pieces, and the numbers between them
-abbrev pub difference_pieces : List Text
-difference_pieces = map (λ piece. piece.now) DIFFERENCE
-
-abbrev pub difference_data : ℕ → ℕ → List Text
-difference_data a b = decimal a ∷ decimal b ∷ []
-
--- the whole text
+-- the whole text: the pieces of the source, and the numbers between them
 abbrev pub difference_text : ℕ → ℕ → Text
-difference_text a b = woven_text difference_pieces (difference_data a b)
+difference_text a b = woven_text (map (λ piece. piece.now) DIFFERENCE) (decimal a ∷ decimal b ∷ [])
 
 -- how far two numbers are apart
 abbrev pub distance : ℕ → ℕ → ℕ
 distance a b = max a b - min a b
-
--- it is printed in decimal
-abbrev pub difference_prints : ℕ → ℕ → Text
-difference_prints a b = decimal (distance a b)
 
 -- 13 orders for each digit that is read, 3 if the second number is smaller, those of `print`, and 35 more
 abbrev pub difference_orders : ℕ → ℕ → ℕ

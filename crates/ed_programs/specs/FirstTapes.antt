@@ -1,16 +1,16 @@
 -- What is stated of a whole tape of May 1949: what the command `tape1` answers to it.
-use Rattle.std.specs.Prelude.{◌≡◌, ℕ, ◌+◌, ◌≤◌, List, [], ◌∷◌, ◌++◌, codes, Some}
+use Rattle.std.specs.Prelude.{◌≡◌, ℕ, ◌+◌, ◌≤◌, List, []}
 use Rattle.std.specs.Prelude.{Result, Ok, Err, String, string_bytes}
 use Rattle.std.specs.declared.alloc.Global.{Global}
 use Rattle.ed_words.specs.Texts.{Text}
 use Rattle.ed_codes.specs.Reading.{reading, rows}
 use Rattle.ed_run.specs.declared.settings.Settings.{Settings}
 use Rattle.ed_initial1.specs.Faults.{Comes1, Tape}
-use Rattle.ed_report.specs.Notes.{at_after}
 use Rattle.ed_command.specs.declared.command.Action.TheVariants.{Tape1}
 use Rattle.ed_answers.specs.Answer.{IsDue}
 use Rattle.ed_answers.specs.FirstEntry.{cost1}
-use Rattle.ed_top.specs.Output.{output}
+use Rattle.ed_top.specs.Output.{answer}
+use Rattle.ed_programs.specs.Programs.{stop_outcome}
 use Rattle.ed_programs.specs.declared.refusal.Refusal.{Refusal}
 
 -- the text spells rows that give a program at this cost, whose run continues from its entry at 31 (the law
@@ -23,11 +23,7 @@ pub record FirstTapeRuns (s : Settings) (tape : Text) (cost orders at : ℕ) (pa
   pub comes : Comes1 codes_of program
   pub cost_is : cost1 program ≡ cost
   pub outcome : s.resumes ≡ 0 → cost + orders ≤ s.limit
-      → IsDue (output (Some (record { action = Tape1; settings = s }))) tape (record {
-        out = paper;
-        note = at_after (codes "stopped") at (cost + orders) ++ 10 ∷ [];
-        status = 0;
-      })
+      → IsDue (answer Tape1 s) tape (stop_outcome [] paper at (cost + orders))
 
 -- for all settings, the tape that is answered is loaded and run in exactly these orders, prints this, and
 -- stops there

@@ -1,5 +1,5 @@
 -- The source of `examples/fraction.edsac` for any fraction, and what it prints.
-use Rattle.std.specs.Prelude.{ℕ, zero, suc, ◌+◌, ◌*◌, ◌/◌, ◌%◌, ◌^◌, List, [], ◌∷◌, ◌++◌, length, map, nat_le, ◌&&◌}
+use Rattle.std.specs.Prelude.{ℕ, zero, suc, ◌+◌, ◌*◌, ◌/◌, ◌%◌, ◌^◌, [], ◌∷◌, ◌++◌, length, map, nat_le, ◌&&◌}
 use Rattle.std.specs.Prelude.{if◌then◌else◌}
 use Rattle.std.specs.Prelude.{Option, Some, None}
 use Rattle.std.specs.Fmt.{decimal}
@@ -11,16 +11,9 @@ use Rattle.ed_programs.specs.declared.fraction.TheConstants.{FRACTION}
 use Rattle.ed_programs.specs.declared.refusal.Refusal.{Refusal}
 use Rattle.ed_programs.specs.declared.refusal.Refusal.TheVariants.{Divisor}
 
--- its pieces, and the numbers between them
-abbrev pub fraction_pieces : List Text
-fraction_pieces = map (λ piece. piece.now) FRACTION
-
-abbrev pub fraction_data : ℕ → ℕ → ℕ → List Text
-fraction_data u l n = decimal u ∷ decimal l ∷ decimal n ∷ []
-
--- the whole text
+-- the whole text: the pieces of the source, and the numbers between them
 abbrev pub fraction_text : ℕ → ℕ → ℕ → Text
-fraction_text u l n = woven_text fraction_pieces (fraction_data u l n)
+fraction_text u l n = woven_text (map (λ piece. piece.now) FRACTION) (decimal u ∷ decimal l ∷ decimal n ∷ [])
 
 -- why numbers below 65536 are refused as its data, if they are
 abbrev pub fraction_refusal : ℕ → Option Refusal

@@ -10,13 +10,11 @@ use Rattle.ed_programs.specs.declared.greatest.TheConstants.{GREATEST}
 use Rattle.ed_programs.specs.declared.refusal.Refusal.{Refusal}
 use Rattle.ed_programs.specs.declared.refusal.Refusal.TheVariants.{Count}
 
--- its pieces; the eight numbers stand between them, each but the first on a line of its own (10)
-abbrev pub greatest_pieces : List Text
-greatest_pieces = spread_pieces 7 (10 ∷ codes "word ") (map (λ piece. piece.now) GREATEST)
-
--- the whole text
+-- the whole text: the pieces of the source, and the eight numbers between them, each but the first on a line of its own
+-- (10)
 abbrev pub greatest_text : List ℕ → Text
-greatest_text ns = woven_text greatest_pieces (map decimal ns)
+greatest_text ns =
+    woven_text (spread_pieces 7 (10 ∷ codes "word ") (map (λ piece. piece.now) GREATEST)) (map decimal ns)
 
 -- why numbers below 65536 are refused as the data of `examples/answer6.edsac`, if they are
 abbrev pub greatest_refusal : List ℕ → Option Refusal
@@ -31,10 +29,6 @@ greatest_of (n ∷ ns) = max n (greatest_of ns)
 abbrev pub rises : ℕ → List ℕ → ℕ
 rises most [] = 0
 rises most (n ∷ ns) = if nat_lt n most then rises most ns else 1 + rises n ns
-
--- the greatest in decimal
-abbrev pub greatest_prints : List ℕ → Text
-greatest_prints ns = decimal (greatest_of ns)
 
 -- 13 orders for each of the eight, 3 for each that is at least as great as those before it, those of `print`, and 4
 abbrev pub greatest_orders : List ℕ → ℕ

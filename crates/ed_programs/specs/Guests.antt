@@ -28,7 +28,7 @@ use Rattle.ed_sources.specs.CallSources.{text_of_lines}
 use Rattle.ed_answers.specs.Runs.{paper_room}
 use Rattle.ed_laws.specs.BlockedGuests.{IsBlockedAt, RunsToBlock, blocked_codes, orders_to_block}
 use Rattle.ed_command.specs.declared.command.Action.TheVariants.{Run}
-use Rattle.ed_top.specs.Output.{output}
+use Rattle.ed_top.specs.Output.{answer}
 use Rattle.ed_programs.specs.Programs.{SourceRuns}
 use Rattle.ed_programs.specs.declared.refusal.Refusal.{Refusal}
 
@@ -91,7 +91,7 @@ pub record ChecksGuest (s : Settings) (source : Text) (lines : List Line) (c : E
       → length (checked_codes (entry_guest s.size lines c.first) (suc q)) ≤ paper_room
       → SourceRuns s source (stopped_orders (entry_guest s.size lines c.first) (suc q))
       (checker_base c.before + planting_place + 1) (paper (checked_codes (entry_guest s.size lines c.first) (suc q)))
-  pub answers : IsDue (output (Some (record { action = Run; settings = s }))) source (run_outcome s lines)
+  pub answers : IsDue (answer Run s) source (run_outcome s lines)
   pub blocks : (q : ℕ) → IsBlockedAt (checker_base c.before) q (entry_guest s.size lines c.first)
       → cost lines + orders_to_block q (entry_guest s.size lines c.first) < s.limit
       → length (blocked_codes q (entry_guest s.size lines c.first)) ≤ paper_room → s.post_mortem ≡ None

@@ -13,16 +13,9 @@ use Rattle.ed_programs.specs.declared.hello.TheConstants.{HELLO}
 use Rattle.ed_programs.specs.declared.refusal.Refusal.{Refusal}
 use Rattle.ed_programs.specs.declared.refusal.Refusal.TheVariants.{Length, Letter}
 
--- its pieces, and between them the number of rows and the bytes that spell them
-abbrev pub hello_pieces : List Text
-hello_pieces = map (λ piece. piece.now) HELLO
-
-abbrev pub hello_data : Text → List Text
-hello_data q = decimal (length q) ∷ q ∷ []
-
--- the whole text
+-- the whole text: the pieces of the source, and between them the number of rows and the bytes that spell them
 abbrev pub hello_text : Text → Text
-hello_text q = woven_text hello_pieces (hello_data q)
+hello_text q = woven_text (map (λ piece. piece.now) HELLO) (decimal (length q) ∷ q ∷ [])
 
 -- a text of letters, after the letter shift with which it begins (42 is *)
 abbrev pub of_letters : Text → Text
@@ -38,20 +31,12 @@ letters_refusal most letters =
     if length letters == 0 || nat_lt most (length letters) then Some Length
     else if list_all is_capital letters then None else Some Letter
 
--- why a text is refused as the data of `examples/hello.edsac`, if it is
-abbrev pub hello_refusal : Text → Option Refusal
-hello_refusal letters = letters_refusal 40 letters
-
 -- for every text of up to 41 bytes that spell rows, the program prints these rows and a new line, in 7 orders a row and 9
 -- more, and stops at 67
 abbrev pub EachTextIsPrinted : Type 0
 EachTextIsPrinted =
     (s : Settings) (q : Text) (rows : List ℕ) → AreRowsOf q rows → length q ≤ 41
     → SourceRuns s (hello_text q) (7 * length q + 9) 67 (paper (rows ++ 18 ∷ 24 ∷ []))
-
--- the letters, then carriage return and line feed
-abbrev pub hello_prints : Text → Text
-hello_prints letters = letters ++ 13 ∷ 10 ∷ []
 
 -- 7 orders a letter, and 16 more
 abbrev pub hello_orders : Text → ℕ

@@ -1,69 +1,58 @@
 -- The tape of `examples/interlude.tape` for any number, and what is stated of it.
-use Rattle.std.specs.Prelude.{ℕ, ◌+◌, ◌*◌, ◌||◌, List, [], ◌∷◌, ◌++◌, codes, length, nat_lt}
-use Rattle.std.specs.Prelude.{if◌then◌else◌, Option, Some, None}
+use Rattle.std.specs.Prelude.{◌≡◌, ℕ, ◌+◌, ◌*◌, ◌≤◌, ◌||◌, List, [], ◌∷◌, ◌++◌, codes, length, map, nat_lt}
+use Rattle.std.specs.Prelude.{if◌then◌else◌, Option, Some, None, Result, Ok, Err, String, string_bytes}
+use Rattle.std.specs.declared.alloc.Global.{Global}
 use Rattle.std.specs.Fmt.{decimal}
+use Rattle.ed_words.specs.Sizes.{locations}
 use Rattle.ed_words.specs.Texts.{Text}
-use Rattle.ed_sources.specs.CallSources.{text_of_lines}
-use Rattle.ed_programs.specs.TwoParts.{TwoParts}
+use Rattle.ed_codes.specs.Reading.{reading, rows}
+use Rattle.ed_run.specs.declared.settings.Settings.{Settings}
+use Rattle.ed_report.specs.Entries.{entry_line, returned_line}
+use Rattle.ed_command.specs.declared.command.Action.TheVariants.{Parts, Tape}
+use Rattle.ed_answers.specs.Answer.{IsDue}
+use Rattle.ed_sources.specs.CallSources.{woven_text}
+use Rattle.ed_top.specs.Output.{answer}
+use Rattle.ed_programs.specs.Programs.{stop_outcome}
+use Rattle.ed_programs.specs.declared.interlude.TheConstants.{INTERLUDE}
 use Rattle.ed_programs.specs.declared.refusal.Refusal.{Refusal}
 use Rattle.ed_programs.specs.declared.refusal.Refusal.TheVariants.{Place}
 
--- the lines before the number
-abbrev pub interlude_front : List Text
-interlude_front =
-    codes "[A tape that works out where its own words go. The first part is an interlude: it doubles a number, and"
-    ∷ codes "leaves the double at 45, where the letter H refers to it. It also makes an order T with the double as its"
-    ∷ codes "address, and returns with that order to the Initial Orders, which read on and put the next words there."
-    ∷ codes "Look for: the order T at 105, an order that is never obeyed: the loader uses it as its directive.]"
-    ∷ codes "T100K GK"
-    ∷ codes "A6@ A6@     [100: twice the number]"
-    ∷ codes "U45F        [102: for the letter H]"
-    ∷ codes "A5@ E25F    [103: make an order T of it, and go back to the Initial Orders]"
-    ∷ codes "TF          [105: the order T, with no address yet]"
-    ∷ []
-
--- the line of the number
-abbrev pub interlude_line : ℕ → Text
-interlude_line number = codes "P" ++ (decimal number ++ codes "F        [106: the number]")
-
--- the lines after it
-abbrev pub interlude_rest : List Text
-interlude_rest =
-    codes "E100K PF    [enter it]"
-    ∷ codes "[The interlude has returned. H is twice the number, and so is the location of the next word.]"
-    ∷ codes "*F HF IF    [letter shift, H, I]"
-    ∷ codes "T64K"
-    ∷ codes "OH O1H O2H  [64: print the words at H, H + 1 and H + 2]"
-    ∷ codes "ZF          [67: stop]"
-    ∷ codes "E64K PF"
-    ∷ []
-
--- the whole tape
+-- the whole tape: its pieces, and the number between them
 abbrev pub interlude_text : ℕ → Text
-interlude_text number = text_of_lines (interlude_front ++ interlude_line number ∷ interlude_rest)
+interlude_text number = woven_text (map (λ piece. piece.now) INTERLUDE) (decimal number ∷ [])
 
 -- why a number is refused, if it is: the words, from its double upwards, must be above the program and in the store
 abbrev pub interlude_refusal : ℕ → Option Refusal
 interlude_refusal number = if nat_lt number 34 || nat_lt 510 number then Some Place else None
 
--- how the tape goes: 9 orders and a row for each figure of the number, and otherwise the same for each number
-abbrev pub interlude_parts : ℕ → TwoParts
-interlude_parts number = record {
-  interlude = record {
-    entry = 100;
-    cost = 372 + 9 * length (decimal number);
-    rows = 35 + length (decimal number);
-    orders = 5;
-  };
-  returns_for = 2 * number;
-  program = record { entry = 64; cost = 280; rows = 26; orders = 4 };
-  stop = 68;
-}
+-- the orders that load the interlude: 9 for each figure of the number, and 372 others
+abbrev pub interlude_cost : ℕ → ℕ
+interlude_cost number = 372 + 9 * length (decimal number)
 
--- how many locations the tape needs
-abbrev pub interlude_room : ℕ → ℕ
-interlude_room number = 2 * number + 3
+-- the orders up to the stop: those, the 5 of the interlude, 280 that load the program, and its 4
+abbrev pub interlude_orders : ℕ → ℕ
+interlude_orders number = interlude_cost number + 5 + 280 + 4
 
--- what is printed, for all numbers
-abbrev pub interlude_prints : Text
-interlude_prints = codes "HI"
+-- the lines of `parts`: the entry of the interlude, its return, and the entry of the program; the rows that lead to
+-- these entries are one for each figure of the number and 35 others, and 26 more
+abbrev pub interlude_lines : ℕ → Text
+interlude_lines number =
+    entry_line 100 (interlude_cost number) (35 + length (decimal number))
+    ++ (returned_line (2 * number) (interlude_cost number + 5)
+    ++ entry_line 64 (interlude_cost number + 5 + 280) (35 + length (decimal number) + 26))
+
+-- the text spells rows; and if the limit is at least the orders up to the stop, the answer of `parts` is these lines
+-- and that of `tape` is HI, each with the note of the stop and status 0
+pub record InterludeRuns (s : Settings) (tape : Text) (number : ℕ) : Type 0 where
+  pub codes_of : List ℕ
+  pub spelled : reading tape ≡ rows codes_of
+  pub parts : interlude_orders number ≤ s.limit
+      → IsDue (answer Parts s) tape (stop_outcome [] (interlude_lines number) 68 (interlude_orders number))
+  pub whole : s.resumes ≡ 0 → s.post_mortem ≡ None → interlude_orders number ≤ s.limit
+      → IsDue (answer Tape s) tape (stop_outcome [] (codes "HI") 68 (interlude_orders number))
+
+-- for all settings, if the store has the locations for its words, the tape that is answered runs so
+abbrev pub InterludePrints : ℕ → Result (String Global) Refusal → Type 0
+InterludePrints number (Ok tape) = (s : Settings) → 2 * number + 3 ≤ locations s.size
+    → InterludeRuns s (string_bytes tape) number
+InterludePrints number (Err refusal) = Unit {0}

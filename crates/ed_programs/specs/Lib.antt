@@ -12,7 +12,6 @@ pub mod Mirror
 pub mod Calendar
 pub mod FirstTapes
 pub mod Squares
-pub mod TwoParts
 pub mod Interlude
 pub mod Guests
 pub mod Decimals

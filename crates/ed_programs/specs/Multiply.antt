@@ -1,5 +1,5 @@
 -- The source of `examples/answer5.edsac` for any numbers.
-use Rattle.std.specs.Prelude.{ℕ, ◌+◌, ◌*◌, List, [], ◌∷◌, ◌++◌, map, nat_lt, ◌&&◌, if◌then◌else◌, Option, Some, None}
+use Rattle.std.specs.Prelude.{ℕ, ◌+◌, ◌*◌, [], ◌∷◌, ◌++◌, map, nat_lt, ◌&&◌, if◌then◌else◌, Option, Some, None}
 use Rattle.std.specs.Fmt.{decimal}
 use Rattle.ed_words.specs.Texts.{Text}
 use Rattle.ed_routines.specs.Digits.{print_orders}
@@ -8,16 +8,9 @@ use Rattle.ed_programs.specs.declared.multiply.TheConstants.{MULTIPLY}
 use Rattle.ed_programs.specs.declared.refusal.Refusal.{Refusal}
 use Rattle.ed_programs.specs.declared.refusal.Refusal.TheVariants.{Number}
 
--- its pieces, and the numbers between them: a and b are multiplied, and c is squared
-abbrev pub multiply_pieces : List Text
-multiply_pieces = map (λ piece. piece.now) MULTIPLY
-
-abbrev pub multiply_data : ℕ → ℕ → ℕ → List Text
-multiply_data a b c = decimal c ∷ decimal a ∷ decimal b ∷ []
-
--- the whole text
+-- the whole text: the pieces of the source, and the numbers between them: a and b are multiplied, and c is squared
 abbrev pub multiply_text : ℕ → ℕ → ℕ → Text
-multiply_text a b c = woven_text multiply_pieces (multiply_data a b c)
+multiply_text a b c = woven_text (map (λ piece. piece.now) MULTIPLY) (decimal c ∷ decimal a ∷ decimal b ∷ [])
 
 -- why three numbers below 65536 are refused as the data of `examples/answer5.edsac`, if they are
 abbrev pub multiply_refusal : ℕ → ℕ → ℕ → Option Refusal

@@ -13,10 +13,17 @@ use Rattle.ed_link.specs.Tapes.{cost}
 use Rattle.ed_report.specs.Notes.{at_after, entry_note}
 use Rattle.ed_command.specs.declared.command.Action.TheVariants.{Run}
 use Rattle.ed_answers.specs.Answer.{IsDue}
+use Rattle.ed_answers.specs.Outcome.{Outcome, line}
 use Rattle.ed_answers.specs.FromEntry.{AnswersFromEntry}
-use Rattle.ed_top.specs.Output.{output}
+use Rattle.ed_top.specs.Output.{answer}
 use Rattle.ed_programs.specs.declared.refusal.Refusal.{Refusal}
 use Rattle.ed_programs.specs.declared.refusal.Refusal.TheVariants.{Memory}
+
+-- the outcome of a run that stops: its text, the note of the stop at a location after this number of orders, which
+-- comes after another note, and the status 0
+abbrev pub stop_outcome : Text → Text → ℕ → ℕ → Outcome
+stop_outcome before out at orders =
+    record { out = out; note = before ++ line (at_after (codes "stopped") at orders); status = 0 }
 
 -- the source is accepted with these lines, and its run is that from the state at their entry; and if the limit is at
 -- least the orders up to the entry and those of the program together, the answer of the command `run` is this text, the
@@ -26,12 +33,8 @@ pub record SourceRuns (s : Settings) (source : Text) (orders at : ℕ) (text : T
   pub accepted : IsAcceptedAs s.size source lines
   pub from_entry : AnswersFromEntry s lines
   pub outcome : s.resumes ≡ 0 → s.post_mortem ≡ None → cost lines + orders ≤ s.limit
-      → IsDue (output (Some (record { action = Run; settings = s }))) source (record {
-        out = text;
-        note = entry_note (entry_of lines) (cost lines)
-            ++ (at_after (codes "stopped") at (cost lines + orders) ++ 10 ∷ []);
-        status = 0;
-      })
+      → IsDue (answer Run s) source
+      (stop_outcome (entry_note (entry_of lines) (cost lines)) text at (cost lines + orders))
 
 -- the two pieces around k + 1 data, and a text between each two of these
 abbrev pub spread_pieces : ℕ → Text → List Text → List Text

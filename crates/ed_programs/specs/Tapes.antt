@@ -1,5 +1,5 @@
 -- What is stated of a whole tape: what the command `tape` answers to it.
-use Rattle.std.specs.Prelude.{◌≡◌, ℕ, ◌+◌, ◌≤◌, List, [], ◌∷◌, ◌++◌, codes, Some, None}
+use Rattle.std.specs.Prelude.{◌≡◌, ℕ, ◌+◌, ◌≤◌, List, [], None}
 use Rattle.std.specs.Prelude.{Result, Ok, Err, String, string_bytes}
 use Rattle.std.specs.declared.alloc.Global.{Global}
 use Rattle.ed_words.specs.Texts.{Text}
@@ -7,11 +7,11 @@ use Rattle.ed_codes.specs.Reading.{reading, rows}
 use Rattle.ed_store.specs.Cells.{cleared_cells}
 use Rattle.ed_run.specs.declared.settings.Settings.{Settings}
 use Rattle.ed_notation.specs.Faults.{ComesTo, TapeEntry, WellFormed}
-use Rattle.ed_report.specs.Notes.{at_after}
 use Rattle.ed_command.specs.declared.command.Action.TheVariants.{Tape}
 use Rattle.ed_answers.specs.Answer.{IsDue}
-use Rattle.ed_top.specs.Output.{output}
+use Rattle.ed_top.specs.Output.{answer}
 use Rattle.ed_answers.specs.Tapes.{first_note}
+use Rattle.ed_programs.specs.Programs.{stop_outcome}
 use Rattle.ed_programs.specs.declared.refusal.Refusal.{Refusal}
 
 -- the text spells rows that are well formed and reach an entry at this cost, from which their run continues (the law
@@ -25,11 +25,7 @@ pub record TapeRuns (s : Settings) (tape : Text) (cost orders at : ℕ) (paper :
   pub comes : ComesTo cleared_cells.words first_note 9 codes_of entry
   pub cost_is : entry.cost ≡ cost
   pub outcome : s.resumes ≡ 0 → s.post_mortem ≡ None → cost + orders ≤ s.limit
-      → IsDue (output (Some (record { action = Tape; settings = s }))) tape (record {
-        out = paper;
-        note = at_after (codes "stopped") at (cost + orders) ++ 10 ∷ [];
-        status = 0;
-      })
+      → IsDue (answer Tape s) tape (stop_outcome [] paper at (cost + orders))
 
 -- for all settings, the tape that is answered is loaded and run in exactly these orders, prints this, and
 -- stops there

@@ -1,6 +1,6 @@
 -- The source of `examples/total.edsac` for any list of numbers, and what it prints.
 use Rattle.std.specs.Prelude.{ℕ, ◌+◌, ◌*◌, List, [], ◌∷◌, ◌++◌, length, map, nat_lt, if◌then◌else◌, Option, Some}
-use Rattle.std.specs.Fmt.{decimal}
+use Rattle.std.specs.Prelude.{sum_by}
 use Rattle.ed_words.specs.Texts.{Text}
 use Rattle.ed_routines.specs.Digits.{digits, print_orders, sum}
 use Rattle.ed_sources.specs.CallSources.{woven_text}
@@ -9,28 +9,15 @@ use Rattle.ed_programs.specs.declared.total.TheConstants.{TOTAL}
 use Rattle.ed_programs.specs.declared.refusal.Refusal.{Refusal}
 use Rattle.ed_programs.specs.declared.refusal.Refusal.TheVariants.{Number}
 
--- its pieces; the numbers stand between them, and the 0 that ends them
-abbrev pub total_pieces : List Text
-total_pieces = map (λ piece. piece.now) TOTAL
-
--- the whole text
+-- the whole text: the pieces of the source, and the numbers between them, and the 0 that ends them
 abbrev pub total_text : List ℕ → Text
-total_text ns = woven_text total_pieces (numbers_text (ns ++ 0 ∷ []) ∷ [])
+total_text ns = woven_text (map (λ piece. piece.now) TOTAL) (numbers_text (ns ++ 0 ∷ []) ∷ [])
 
 -- why numbers below 65536 are refused as its data, if they are: one of them is 0, their sum is too large, or they don't
 -- fit on the line
 abbrev pub total_refusal : List ℕ → Option Refusal
 total_refusal ns = if nat_lt (sum ns) 65536 then list_refusal 1 ns 0 else Some Number
 
--- the sum in decimal
-abbrev pub total_prints : List ℕ → Text
-total_prints ns = decimal (sum ns)
-
--- the orders for numbers: 13 for each digit that is read, and 20 for each number
-abbrev pub adding_orders : List ℕ → ℕ
-adding_orders [] = 0
-adding_orders (n ∷ ns) = 13 * length (digits n) + 20 + adding_orders ns
-
--- and those of `print`, and 33 more
+-- the orders: for each number 13 for each digit that is read, and 20; those of `print`, and 33 more
 abbrev pub total_orders : List ℕ → ℕ
-total_orders ns = adding_orders ns + print_orders (sum ns) + 33
+total_orders ns = sum_by (λ n. 13 * length (digits n) + 20) ns + print_orders (sum ns) + 33

@@ -1,5 +1,6 @@
 ghost use Rattle.std.specs.Prelude.{◌≡◌, ◌+◌, ◌<◌, None};
-ghost use Rattle.ed_programs.specs.Add.{add_orders, add_prints, add_refusal, add_text};
+ghost use Rattle.std.specs.Fmt.{decimal};
+ghost use Rattle.ed_programs.specs.Add.{add_orders, add_refusal, add_text};
 ghost use Rattle.ed_programs.specs.Programs.{GivesProgram, Prints};
 
 use crate::refusal::{LIMIT, Refusal};
@@ -37,7 +38,7 @@ pub const ADD: [&str; 3] = [
 /// The source that prints the sum of two numbers: `examples/add.edsac` with these instead of 1949 and 32.
 pub fn add_program(alloc: Global, first: u16, second: u16) -> Result<String, Refusal>
     ensures is { GivesProgram (add_refusal first second) (add_text first second) result }
-    ensures law { Prints (add_orders first second) 68 (add_prints first second) result }
+    ensures law { Prints (add_orders first second) 68 (decimal (first + second)) result }
 {
     if LIMIT <= first as u32 + (second as u32) {
         return Err(Refusal::Number);

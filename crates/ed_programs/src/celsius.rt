@@ -1,4 +1,6 @@
-ghost use Rattle.ed_programs.specs.Celsius.{celsius_orders, celsius_prints, celsius_refusal, celsius_text};
+ghost use Rattle.std.specs.Prelude.{map};
+ghost use Rattle.ed_programs.specs.Celsius.{celsius, celsius_orders, celsius_text};
+ghost use Rattle.ed_programs.specs.Lists.{list_refusal, on_lines};
 ghost use Rattle.ed_programs.specs.Programs.{GivesProgram, Prints};
 
 use crate::lists::list_rows;
@@ -42,8 +44,8 @@ pub const CELSIUS: [&str; 2] = [
 /// The source that prints temperatures in degrees Celsius: `examples/celsius.edsac` with these on its tape, in degrees
 /// Fahrenheit, and with the one that ends them.
 pub fn celsius_program(alloc: Global, temperatures: &[u16], end: u16) -> Result<String, Refusal>
-    ensures is { GivesProgram (celsius_refusal temperatures.now end) (celsius_text temperatures.now end) result }
-    ensures law { Prints (celsius_orders temperatures.now end) 71 (celsius_prints temperatures.now) result }
+    ensures is { GivesProgram (list_refusal 32 temperatures.now end) (celsius_text temperatures.now end) result }
+    ensures law { Prints (celsius_orders temperatures.now end) 71 (on_lines (map celsius temperatures.now)) result }
 {
     let rows = list_rows(alloc, FREEZING, temperatures, end)?;
     let [head, tail] = CELSIUS;

@@ -1,6 +1,7 @@
-ghost use Rattle.std.specs.Prelude.{None};
+ghost use Rattle.std.specs.Prelude.{None, filter};
+ghost use Rattle.ed_words.specs.Decimals.{is_digit, value};
 ghost use Rattle.ed_programs.specs.Decimals.{FiguresAreCarries, IsOneNumber, IsWholePart, MethodIsRight};
-ghost use Rattle.ed_programs.specs.Decimals.{decimals_orders, decimals_prints, decimals_text, figures_in};
+ghost use Rattle.ed_programs.specs.Decimals.{decimals_orders, decimals_prints, decimals_text};
 ghost use Rattle.ed_programs.specs.Programs.{GivesProgram, Prints};
 
 use crate::refusal::Refusal;
@@ -131,7 +132,7 @@ pub const DECIMALS: [&str; 1] = [
 pub fn decimals_program(alloc: Global) -> Result<String, Refusal>
     ensures is { GivesProgram None decimals_text result }
     ensures law { Prints decimals_orders 135 decimals_prints result }
-    ensures of_e { IsWholePart 100 (figures_in 0 decimals_prints) }
+    ensures of_e { IsWholePart 100 (value (filter is_digit decimals_prints)) }
     ensures one { IsOneNumber }
     ensures by_carries { FiguresAreCarries }
     ensures method { MethodIsRight }

@@ -1,5 +1,6 @@
 ghost use Rattle.std.specs.Prelude.{None};
-ghost use Rattle.ed_programs.specs.Difference.{difference_orders, difference_prints, difference_text};
+ghost use Rattle.std.specs.Fmt.{decimal};
+ghost use Rattle.ed_programs.specs.Difference.{difference_orders, difference_text, distance};
 ghost use Rattle.ed_programs.specs.Programs.{GivesProgram, Prints};
 
 use crate::refusal::Refusal;
@@ -43,7 +44,7 @@ pub const DIFFERENCE: [&str; 3] = [
 /// The source that prints how far two numbers are apart: `examples/difference.edsac` with these on its tape.
 pub fn difference_program(alloc: Global, first: u16, second: u16) -> Result<String, Refusal>
     ensures is { GivesProgram None (difference_text first second) result }
-    ensures law { Prints (difference_orders first second) 72 (difference_prints first second) result }
+    ensures law { Prints (difference_orders first second) 72 (decimal (distance first second)) result }
 {
     woven_program(alloc, &DIFFERENCE, &[first, second])
 }

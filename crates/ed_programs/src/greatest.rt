@@ -1,4 +1,5 @@
-ghost use Rattle.ed_programs.specs.Greatest.{greatest_orders, greatest_prints, greatest_refusal, greatest_text};
+ghost use Rattle.std.specs.Fmt.{decimal};
+ghost use Rattle.ed_programs.specs.Greatest.{greatest_of, greatest_orders, greatest_refusal, greatest_text};
 ghost use Rattle.ed_programs.specs.Programs.{GivesProgram, Prints};
 
 use crate::refusal::Refusal;
@@ -45,7 +46,7 @@ pub const GREATEST: [&str; 2] = [
 /// The source that prints the greatest of eight numbers: `examples/answer6.edsac` with these for its list.
 pub fn greatest_program(alloc: Global, numbers: &[u16]) -> Result<String, Refusal>
     ensures is { GivesProgram (greatest_refusal numbers.now) (greatest_text numbers.now) result }
-    ensures law { Prints (greatest_orders numbers.now) 76 (greatest_prints numbers.now) result }
+    ensures law { Prints (greatest_orders numbers.now) 76 (decimal (greatest_of numbers.now)) result }
 {
     if numbers.len() != 8 {
         return Err(Refusal::Count);

@@ -1,4 +1,5 @@
-ghost use Rattle.ed_programs.specs.Hello.{EachTextIsPrinted, hello_orders, hello_prints, hello_refusal, hello_text};
+ghost use Rattle.std.specs.Prelude.{[], ◌∷◌, ◌++◌};
+ghost use Rattle.ed_programs.specs.Hello.{EachTextIsPrinted, hello_orders, hello_text, letters_refusal};
 ghost use Rattle.ed_programs.specs.Hello.{of_letters};
 ghost use Rattle.ed_programs.specs.Programs.{GivesProgram, Prints};
 
@@ -38,8 +39,8 @@ const MOST_LETTERS: usize = 40;
 
 /// The source that prints these letters and a new line: `examples/hello.edsac` with these instead of `HELLO`.
 pub fn hello_program(alloc: Global, letters: &str) -> Result<String, Refusal>
-    ensures is { GivesProgram (hello_refusal letters.now) (hello_text (of_letters letters.now)) result }
-    ensures law { Prints (hello_orders letters.now) 67 (hello_prints letters.now) result }
+    ensures is { GivesProgram (letters_refusal 40 letters.now) (hello_text (of_letters letters.now)) result }
+    ensures law { Prints (hello_orders letters.now) 67 (letters.now ++ 13 ∷ 10 ∷ []) result }
     ensures texts { EachTextIsPrinted }
 {
     check_letters(letters, MOST_LETTERS)?;

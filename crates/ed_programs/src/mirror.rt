@@ -1,4 +1,6 @@
-ghost use Rattle.ed_programs.specs.Mirror.{mirror_cost, mirror_orders, mirror_prints, mirror_refusal, mirror_text};
+ghost use Rattle.std.specs.Prelude.{reverse};
+ghost use Rattle.ed_programs.specs.Hello.{letters_refusal};
+ghost use Rattle.ed_programs.specs.Mirror.{mirror_cost, mirror_orders, mirror_text};
 ghost use Rattle.ed_programs.specs.Programs.{GivesProgram};
 ghost use Rattle.ed_programs.specs.Tapes.{TapePrints};
 
@@ -46,8 +48,8 @@ const MOST_LETTERS: usize = 9;
 
 /// The tape that prints this word backwards: `examples/mirror.tape` with this instead of `CASDE`.
 pub fn mirror_program(alloc: Global, letters: &str) -> Result<String, Refusal>
-    ensures is { GivesProgram (mirror_refusal letters.now) (mirror_text letters.now) result }
-    ensures law { TapePrints mirror_cost (mirror_orders letters.now) 91 (mirror_prints letters.now) result }
+    ensures is { GivesProgram (letters_refusal 9 letters.now) (mirror_text letters.now) result }
+    ensures law { TapePrints mirror_cost (mirror_orders letters.now) 91 (reverse letters.now) result }
 {
     check_letters(letters, MOST_LETTERS)?;
     let count = letters.len();

@@ -1,7 +1,8 @@
 ghost use Rattle.std.specs.Prelude.{◌≡◌, nat_lt};
+ghost use Rattle.std.specs.Fmt.{decimal};
 ghost use Rattle.ed_routines.specs.Digits.{sum};
 ghost use Rattle.ed_programs.specs.Programs.{GivesProgram, Prints};
-ghost use Rattle.ed_programs.specs.Total.{total_orders, total_prints, total_refusal, total_text};
+ghost use Rattle.ed_programs.specs.Total.{total_orders, total_refusal, total_text};
 
 use crate::lists::list_rows;
 use crate::refusal::{LIMIT, Refusal, program_of_text};
@@ -45,7 +46,7 @@ pub const TOTAL: [&str; 2] = [
 /// The source that prints the sum of some numbers: `examples/total.edsac` with these on its tape, and a 0 after them.
 pub fn total_program(alloc: Global, numbers: &[u16]) -> Result<String, Refusal>
     ensures is { GivesProgram (total_refusal numbers.now) (total_text numbers.now) result }
-    ensures law { Prints (total_orders numbers.now) 69 (total_prints numbers.now) result }
+    ensures law { Prints (total_orders numbers.now) 69 (decimal (sum numbers.now)) result }
 {
     if !has_small_sum(numbers) {
         return Err(Refusal::Number);

@@ -1,11 +1,11 @@
 use Rattle.ed_page.proofs.Kit.{ap, refl, subst, Settings, run_of, picture_buffers, IsShown, run_settings}
 use Rattle.ed_answers.specs.Tapes.{tape_answer}
-use Rattle.ed_page.specs.Answers.{TapeEnds}
 use Rattle.ed_page.proofs.Goes.{from_start}
 use Rattle.ed_page.proofs.GoneOn.{begins_on}
 use Rattle.ed_page.proofs.RowCodes.{read_codes}
 use Rattle.ed_page.proofs.TapeRows.{each_run_reads_on}
 use Rattle.ed_page.proofs.pictures.page_tape.Goals as goal
+use Rattle.ed_page.specs.Answers.{RowsEnd}
 
 pub draw-requires : goal.draw-requires
 draw-requires c = ap (λ (s : Settings). s.post_mortem) c.run_settings-settings.ensures
@@ -13,7 +13,7 @@ draw-requires c = ap (λ (s : Settings). s.post_mortem) c.run_settings-settings.
 pub returns-clause-shown : goal.returns-clause-shown
 returns-clause-shown c =
     subst
-    (λ (s : Settings). IsShown (tape_answer s) (TapeEnds s) c.args.text.now
+    (λ (s : Settings). IsShown (tape_answer s) (RowsEnd (run_of s)) c.args.text.now
     (picture_buffers c.args.words.now c.args.digits.now c.args.paper.now c.args.note.now c.args.registers.now)
     (picture_buffers c.draw.new.words c.draw.new.digits c.draw.new.paper c.draw.new.note c.draw.new.registers)
     c.draw.result)
@@ -26,5 +26,5 @@ pub returns-clause-next : goal.returns-clause-next
 returns-clause-next c codes is =
     let s = run_settings c.args.small c.args.orders c.args.resumes in
     let text = c.args.text.now in
-    begins_on (tape_answer s) (TapeEnds s) text _ _ _ _ c.args.orders c.args.resumes codes (run_of s codes)
+    begins_on (tape_answer s) (RowsEnd (run_of s)) text _ _ _ _ c.args.orders c.args.resumes codes (run_of s codes)
     (returns-clause-shown c) (read_codes text codes is) (from_start s codes) (codes, is, refl)

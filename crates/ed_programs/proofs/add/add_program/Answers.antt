@@ -1,6 +1,5 @@
-use Rattle.std.proofs.Common.{arith}
+use Rattle.ed_programs.proofs.Kit.{arith, prints_as}
 use Rattle.ed_programs.proofs.AddRuns.{each_sum}
-use Rattle.ed_programs.proofs.Texts.{prints_as}
 use Rattle.ed_programs.proofs.add.add_program.Goals as goal
 
 pub returns-clause-law : goal.returns-clause-law

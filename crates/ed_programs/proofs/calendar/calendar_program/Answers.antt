@@ -1,4 +1,4 @@
-use Rattle.std.proofs.Common.{arith}
+use Rattle.ed_programs.proofs.Kit.{arith}
 use Rattle.ed_programs.proofs.CalendarRuns.{each_month}
 use Rattle.ed_programs.proofs.TapeRuns.{tape_prints_of}
 use Rattle.ed_programs.proofs.calendar.calendar_program.Goals as goal

@@ -1,12 +1,8 @@
-use Rattle.std.proofs.Common.{ap, subst, sym, ℕ, List, [], ◌∷◌}
-use Rattle.ed_words.specs.Texts.{Text}
-use Rattle.ed_sources.specs.CallSources.{woven_text}
-use Rattle.ed_programs.specs.Programs.{GivesProgram}
-use Rattle.ed_programs.specs.Celsius.{celsius_pieces, celsius_text}
-use Rattle.ed_programs.proofs.CelsiusRuns.{each_celsius}
-use Rattle.ed_programs.proofs.DataLines.{all_fit}
+use Rattle.ed_programs.proofs.Kit.{ℕ, [], List, ◌∷◌, sym, ap, subst, Text, woven_text, GivesProgram, all_fit, prints_as}
+use Rattle.ed_programs.proofs.Kit.{written}
+use Rattle.ed_programs.specs.Celsius.{celsius_text}
+use Rattle.ed_programs.proofs.CelsiusRuns.{each_celsius, celsius_pieces}
 use Rattle.ed_programs.proofs.NumberLists.{IsList, is_list}
-use Rattle.ed_programs.proofs.Texts.{prints_as, written}
 use Rattle.ed_programs.proofs.celsius.celsius_program.Goals as goal
 
 pub returns : goal.returns

@@ -1,7 +1,6 @@
-use Rattle.std.proofs.Common.{refl}
+use Rattle.ed_programs.proofs.Kit.{refl, written}
 use Rattle.ed_programs.proofs.GuestRuns.{checks_from_main, each_guest}
 use Rattle.ed_programs.proofs.GuestSample.{sample_is_checked}
-use Rattle.ed_programs.proofs.Texts.{written}
 use Rattle.ed_programs.proofs.checked.checked_program.Goals as goal
 
 pub returns-clause-is : goal.returns-clause-is

@@ -1,7 +1,7 @@
+use Rattle.ed_programs.proofs.Kit.{prints_as}
 use Rattle.ed_programs.proofs.DecimalsMethod.{method_is_right}
 use Rattle.ed_programs.proofs.DecimalsRuns.{hundred_run}
 use Rattle.ed_programs.proofs.PartsOfE.{figures_are_carries, hundred, one_number}
-use Rattle.ed_programs.proofs.Texts.{prints_as}
 use Rattle.ed_programs.proofs.decimals.decimals_program.Goals as goal
 
 pub returns-clause-law : goal.returns-clause-law

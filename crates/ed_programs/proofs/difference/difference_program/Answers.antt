@@ -1,5 +1,5 @@
+use Rattle.ed_programs.proofs.Kit.{prints_as}
 use Rattle.ed_programs.proofs.DifferenceRuns.{each_difference}
-use Rattle.ed_programs.proofs.Texts.{prints_as}
 use Rattle.ed_programs.proofs.difference.difference_program.Goals as goal
 
 pub returns-clause-law : goal.returns-clause-law

@@ -1,6 +1,5 @@
-use Rattle.ed_programs.proofs.DataLines.{all_fit}
+use Rattle.ed_programs.proofs.Kit.{all_fit, prints_as}
 use Rattle.ed_programs.proofs.GreatestRuns.{each_greatest}
-use Rattle.ed_programs.proofs.Texts.{prints_as}
 use Rattle.ed_programs.proofs.greatest.greatest_program.Goals as goal
 
 pub returns-clause-law : goal.returns-clause-law

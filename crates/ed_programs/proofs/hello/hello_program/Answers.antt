@@ -1,12 +1,8 @@
-use Rattle.std.proofs.Common.{◌≡◌, ◌+◌, suc, [], ◌∷◌, arith, length, ap, rules, subst, sym}
-use Rattle.std.specs.Fmt.{decimal}
-use Rattle.ed_words.specs.Texts.{Text}
-use Rattle.ed_sources.specs.CallSources.{woven_text}
-use Rattle.ed_programs.specs.Programs.{GivesProgram}
-use Rattle.ed_programs.specs.Hello.{hello_pieces, hello_text, of_letters}
+use Rattle.ed_programs.proofs.Kit.{◌≡◌, suc, ◌+◌, [], ◌∷◌, length, decimal, sym, ap, subst, arith, Text, rules, written}
+use Rattle.ed_programs.proofs.Kit.{woven_text, GivesProgram, prints_as}
+use Rattle.ed_programs.specs.Hello.{hello_text, of_letters}
 use Rattle.ed_programs.proofs.Capitals.{AreLetters, are_letters}
-use Rattle.ed_programs.proofs.HelloRuns.{each_name, each_text}
-use Rattle.ed_programs.proofs.Texts.{prints_as, written}
+use Rattle.ed_programs.proofs.HelloRuns.{each_name, each_text, hello_pieces}
 use Rattle.ed_programs.proofs.hello.hello_program.Goals as goal
 
 pub returns-in_err-check_letters : goal.returns-in_err-check_letters

@@ -1,7 +1,6 @@
-use Rattle.std.proofs.Common.{◌≡◌, ◌∙◌, ℕ, List, [], ◌∷◌, ◌++◌, append_assoc, ap, refl, sym, arith}
-use Rattle.std.specs.Fmt.{decimal}
+use Rattle.ed_programs.proofs.Kit.{◌≡◌, ℕ, [], List, ◌∷◌, ◌++◌, decimal, sym, refl, ap, ◌∙◌, append_assoc, arith}
+use Rattle.ed_programs.proofs.Kit.{numbers_text}
 use Rattle.std.proofs.lemmas.Grind.{common_steps}
-use Rattle.ed_programs.specs.Lists.{numbers_text}
 use Rattle.ed_programs.proofs.lists.rows_of.Goals as goal
 
 -- one more number

@@ -1,6 +1,5 @@
-use Rattle.std.proofs.Common.{◌≡◌, ◌++◌, drop}
-use Rattle.std.specs.Prelude.{string_bytes}
-use Rattle.ed_programs.specs.Lists.{numbers_text}
+use Rattle.ed_sources.proofs.Kit.{string_bytes}
+use Rattle.ed_programs.proofs.Kit.{◌≡◌, ◌++◌, drop, numbers_text}
 use Rattle.ed_programs.proofs.lists.rows_of.Given as goal
 
 abbrev pub invariant-loop-number : goal.invariant-loop-number

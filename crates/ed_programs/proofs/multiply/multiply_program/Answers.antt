@@ -1,6 +1,5 @@
-use Rattle.std.proofs.Common.{arith}
+use Rattle.ed_programs.proofs.Kit.{arith, prints_as}
 use Rattle.ed_programs.proofs.MultiplyRuns.{each_product}
-use Rattle.ed_programs.proofs.Texts.{prints_as}
 use Rattle.ed_programs.proofs.multiply.multiply_program.Goals as goal
 
 pub returns-clause-law : goal.returns-clause-law

@@ -1,16 +1,11 @@
-use Rattle.std.proofs.Common.{◌≡◌, ap, subst, sym, ℕ, List, [], ◌∷◌, ◌∙◌, true}
-use Rattle.std.specs.Prelude.{nat_lt, if◌then◌else◌, Some}
-use Rattle.ed_words.proofs.Numbers.{lt_of}
-use Rattle.ed_words.specs.Texts.{Text}
-use Rattle.ed_routines.specs.Digits.{sum}
-use Rattle.ed_sources.specs.CallSources.{woven_text}
+use Rattle.ed_sources.proofs.Kit.{sum}
+use Rattle.ed_programs.proofs.Kit.{◌≡◌, ℕ, true, [], List, ◌∷◌, Some, if◌then◌else◌, nat_lt, sym, ap, ◌∙◌, subst, Text}
+use Rattle.ed_programs.proofs.Kit.{lt_of, woven_text, GivesProgram, prints_as, written}
 use Rattle.ed_programs.specs.Lists.{list_refusal}
-use Rattle.ed_programs.specs.Programs.{GivesProgram}
-use Rattle.ed_programs.specs.Total.{total_pieces, total_refusal, total_text}
+use Rattle.ed_programs.specs.Total.{total_refusal, total_text}
 use Rattle.ed_programs.specs.declared.refusal.Refusal.TheVariants.{Number}
 use Rattle.ed_programs.proofs.NumberLists.{IsList, is_list}
-use Rattle.ed_programs.proofs.Texts.{prints_as, written}
-use Rattle.ed_programs.proofs.TotalRuns.{each_total}
+use Rattle.ed_programs.proofs.TotalRuns.{each_total, total_pieces}
 use Rattle.ed_programs.proofs.total.total_program.Goals as goal
 
 -- numbers whose sum is small are refused as a list

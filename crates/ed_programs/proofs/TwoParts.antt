@@ -1,9 +1,6 @@
 -- What is stated of a whole tape in two parts, an interlude and the program after it: what the commands `parts` and
 -- `tape` answer to it.
 use Rattle.std.specs.Prelude.{◌≡◌, ℕ, ◌+◌, ◌≤◌, List, [], ◌∷◌, ◌++◌, codes, Some, None}
-use Rattle.std.specs.Prelude.{Result, Ok, Err, String, string_bytes}
-use Rattle.std.specs.declared.alloc.Global.{Global}
-use Rattle.ed_words.specs.Sizes.{locations}
 use Rattle.ed_words.specs.Texts.{Text}
 use Rattle.ed_codes.specs.Reading.{reading, rows}
 use Rattle.ed_run.specs.declared.settings.Settings.{Settings}
@@ -12,7 +9,6 @@ use Rattle.ed_report.specs.Notes.{at_after}
 use Rattle.ed_command.specs.declared.command.Action.TheVariants.{Parts, Tape}
 use Rattle.ed_answers.specs.Answer.{IsDue}
 use Rattle.ed_top.specs.Output.{output}
-use Rattle.ed_programs.specs.declared.refusal.Refusal.{Refusal}
 
 -- a part of a tape: its entry point, the orders and the rows that lead there, and the orders of its program up to its
 -- return or its stop
@@ -69,10 +65,3 @@ pub record TwoPartsRun (s : Settings) (tape : Text) (t : TwoParts) (paper : Text
         note = two_parts_note t;
         status = 0;
       })
-
--- for all settings, if the store has this many locations, the tape that is answered runs in these parts and
--- prints this
-abbrev pub TwoPartsPrint : ℕ → TwoParts → Text → Result (String Global) Refusal → Type 0
-TwoPartsPrint room t paper (Ok tape) = (s : Settings) → room ≤ locations s.size
-    → TwoPartsRun s (string_bytes tape) t paper
-TwoPartsPrint room t paper (Err refusal) = Unit {0}
