@@ -102,8 +102,7 @@ function answerAsk(isYes) {
 
 // Puts a text into the box, and begins with it.
 function put(program) {
-    clearTimeout(editor.timer);
-    editor.timer = undefined;
+    editor.timer = clearTimeout(editor.timer); // nobody is typing any more
     sayAt('checked');
     const now = textNow();
     if (now.text !== '' && now.text !== program.text) {

@@ -56,7 +56,7 @@ pub use Rattle.ed_sources.proofs.Papers.{digits_printed, number_shown}
 pub use Rattle.ed_sources.proofs.Stopped.{answered}
 pub use Rattle.ed_sources.proofs.Stops.{ran_to_stop}
 pub use Rattle.ed_laws.specs.TapeEntries.{tape_state}
-pub use Rattle.ed_programs.specs.Calendar.{calendar_orders, days_from, is_leap, month_length}
+pub use Rattle.ed_programs.specs.Calendar.{calendar_orders, is_leap, month_length}
 pub use Rattle.ed_programs.specs.Decimals.{carries, tenfold}
 pub use Rattle.ed_programs.specs.Guests.{checker_base, entry_guest, EntersChecker}
 pub use Rattle.ed_programs.specs.Hello.{is_capital}
