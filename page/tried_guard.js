@@ -1,9 +1,11 @@
 'use strict';
 // What a museum's screen prevents, that it begins again after a fault, and that a day of it leaves nothing behind.
 const { pause } = require('./browser.js');
+const { expectWithin } = require('./busy.js');
 const { openKiosk } = require('./tried_kiosk.js');
 
 const MEANT = 'thrown by the test';
+const AGAIN = 10000; // milliseconds from a fault to the page that begins again
 
 // Two fingers that move apart.
 async function pinch(b) {
@@ -82,7 +84,7 @@ async function watchdog(b) {
         await b.ask(`${fault}; 0`);
         const again = 'window.stain === undefined && page.tour !== undefined && page.kiosk !== undefined';
         await b.expect(`${what}: it begins again`, await b.until(again, 15), true);
-        await b.expect(`${what}: within ten seconds`, Date.now() - since, (ms) => ms < 10000);
+        await expectWithin(b, `${what}: within ten seconds`, Date.now() - since, AGAIN);
     }
     await b.expect('in its language', await b.ask('document.documentElement.lang'), 'de');
     const ignored = await b.run(() => {

@@ -3,6 +3,7 @@
 const fs = require('fs');
 const { pause } = require('./browser.js');
 const rules = require('./rules.js');
+const { expectWithin } = require('./busy.js');
 const { hasten } = require('./hasten.js');
 
 // Opens, or closes, everything that can be open.
@@ -188,7 +189,7 @@ async function opening(b) {
     b.session = was;
     times.sort((one, two) => one - two);
     console.log(`  the first sentence is seen after ${times.map((ms) => ms.toFixed(0)).join(', ')} ms`);
-    await b.expect('the first sentence is seen in half a second', times[0], (ms) => ms <= FIRST_SENTENCE);
+    await expectWithin(b, 'the first sentence is seen in half a second', times[0], FIRST_SENTENCE);
 }
 
 const FRAME = 25000; // the most orders of a frame: a quarter of a second at 100,000 orders a second
@@ -224,7 +225,7 @@ async function speed(b, name) {
         }
         const told = frames.map(([orders, ms]) => `${ms[5].toFixed(1)} at ${orders}`).join(', ');
         console.log(`  ${load}: a frame of ${FRAME} orders, in ms: ${told}`);
-        await b.expect(`${load}: a frame in ${FRAME_TIME} ms`, slowest(), (ms) => ms <= FRAME_TIME);
+        await expectWithin(b, `${load}: a frame in ${FRAME_TIME} ms`, slowest(), FRAME_TIME);
     }
     const drawing = await b.ask(`(() => { const since = performance.now();
         for (let i = 0; i < 20; i++) { store.rows.clear(); draw(); } return (performance.now() - since) / 20; })()`);

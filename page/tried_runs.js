@@ -2,6 +2,7 @@
 // Post-mortems, texts for another loader, a visitor's own work, and runs to their ends, far on and back.
 const fs = require('fs');
 const { pause } = require('./browser.js');
+const { expectWithin } = require('./busy.js');
 
 // A post-mortem of a run that has stopped, in both languages; places that it can't print; and none of a tape of May 1949.
 async function postMortem(b) {
@@ -184,7 +185,7 @@ async function longPaper(b) {
         }
         return least;
     }, FROZEN, 25);
-    await b.expect('a step back from a long paper doesn\'t freeze the page', back, (took) => took < FROZEN);
+    await expectWithin(b, 'a step back from a long paper doesn\'t freeze the page', back, FROZEN);
     await b.choose('letter.tape');
 }
 
@@ -211,7 +212,7 @@ async function farOn(b) {
     );
     const [middle, most] = [backs[100], backs[199]].map((ms) => ms.toFixed(1));
     console.log(`  order 50,000,000 in ${far.toFixed(0)} ms, and one order back in ${middle} ms, at most ${most}`);
-    await b.expect('one order back in 50 ms', backs[0], (ms) => ms < 50);
+    await expectWithin(b, 'one order back in 50 ms', backs[0], 50);
     await b.click('start');
     await b.set('at', '1000');
     await b.choose('letter.tape');
