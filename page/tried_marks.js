@@ -44,6 +44,7 @@ async function marks(b) {
         await b.press('#back', kind);
         await b.expect(`${where}: back`, await b.run(linesMarked), { next: 'T' });
         await thereAndBack(b, kind, where);
+        await wordless(b, kind, where, language);
         await b.write('#text', `${LOOP} `, kind);
         await b.expect(`${where}: no marks while keys are typed`, await b.run(linesMarked), {});
     });
@@ -80,6 +81,16 @@ async function thereAndBack(b, kind, where) {
     await b.expect(`${where}: a row's number opens its word`, await b.ask('[by("word").hidden, opened.place]'), [false, 62]);
     await b.press('#wordClose', kind);
     await b.expect(`${where}: the machine stands where it stood`, await b.ask('page.shown.orders'), shown);
+}
+
+// A press on the number of a line that puts no word into the store, which is the first one, six above `number:`.
+async function wordless(b, kind, where, language) {
+    await b.ask('by("text").scrollIntoView({ block: "center" }); 0');
+    const [, top] = await b.run(labelAt, 'number:');
+    const [left, pitch] = await b.ask('[by("lines").getBoundingClientRect().left + 20, lineSizes().pitch]');
+    await b.point(left, top - 6 * pitch, kind);
+    const said = { en: 'Line 1 puts no word into the store.', de: 'Zeile 1 bringt kein Wort in den Speicher.' };
+    await b.expect(`${where}: the number of a line without words`, (await b.text('marked')).endsWith(said[language]), true);
 }
 
 // A tape's items have marks of their own, in a line of several.
