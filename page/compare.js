@@ -1,12 +1,13 @@
 'use strict';
 // Compares the compiled machine with the program, picture by picture: on the tapes and sources of a folder, and on two
 // hundred more that are made from a stated sequence.
-//   node page/compare.js MODULE PROGRAM FOLDER [NAME ..]      only these files of FOLDER, or what BESIDES names
+//   node page/compare.js MODULE[,MODULE] PROGRAM FOLDER [NAME ..]     only these files of FOLDER, or what BESIDES names
+// The name files means each file of FOLDER, and besides all of BESIDES. Two modules share what the program answers.
 // Before node 24 a module of 64-bit memories needs --experimental-wasm-memory64.
 const fs = require('fs');
 const path = require('path');
 const { Way } = require('./way.js');
-const { Beside } = require('./compare_beside.js');
+const { Beside, Program } = require('./compare_beside.js');
 const { compareRun, compareGoing, comparePostMortem, compareStates } = require('./compare_runs.js');
 const { compareItems, compareFigures, compareTexts } = require('./compare_tapes.js');
 const { compareLines, EVERY_FORM } = require('./compare_lines.js');
@@ -130,18 +131,32 @@ const BESIDES = {
     made: compareMade, large: compareLarge, ends: compareEnds,
 };
 
-function main(file, edsac, folder, ...names) {
-    const beside = new Beside(file, edsac);
+// What is compared, by the names that are given: all of it if no name is.
+function namesOf(folder, asked) {
     const files = fs.readdirSync(folder).sort().filter((name) => KINDS[path.extname(name)]);
-    for (const name of names.length ? names : [...files, ...Object.keys(BESIDES)]) {
-        (BESIDES[name] || ((one, from) => compareFile(one, from, name)))(beside, folder);
+    const all = { files, besides: Object.keys(BESIDES) };
+    return (asked.length ? asked : Object.keys(all)).flatMap((name) => all[name] || [name]);
+}
+
+function report({ name, count, seen, machine }) {
+    const { pictures, gone, small, printed, figures, landed, lines, tried, wrong } = count;
+    const endings = [...seen].map(([ending, times]) => `${ending} ${times}`).join(', ');
+    const memory = machine.exports.memory.buffer.byteLength >> 20;
+    console.log(`${name}: ${pictures} pictures compared with the program, ${gone} gone on to, `
+        + `${small} post-mortems of the small store, ${printed} more of either, ${figures} rows with the loader, `
+        + `${landed} words of items with the store, ${lines} lines with the listing, `
+        + `${tried} tries, ${wrong} differences; endings ${endings}; the memory grew to ${memory} MiB`);
+}
+
+function main(modules, edsac, folder, ...asked) {
+    const program = new Program(edsac);
+    const all = modules.split(',').map((file) => new Beside(file, program));
+    for (const name of namesOf(folder, asked)) {
+        all.forEach((beside) => (BESIDES[name] || ((one, from) => compareFile(one, from, name)))(beside, folder));
+        program.answers.clear(); // another name asks for something else
     }
-    const { pictures, gone, small, printed, figures, landed, lines, tried, wrong } = beside.count;
-    const endings = [...beside.seen].map(([ending, count]) => `${ending} ${count}`).join(', ');
-    console.log(`${path.basename(file)}: ${pictures} pictures compared with the program, ${gone} gone on to, ${small} post-mortems of the small store, `
-        + `${printed} more of either, ${figures} rows with the loader, ${landed} words of items with the store, ${lines} lines with the listing, `
-        + `${tried} tries, ${wrong} differences; endings ${endings}; the memory grew to ${beside.machine.exports.memory.buffer.byteLength >> 20} MiB`);
-    process.exit(wrong ? 1 : 0);
+    all.forEach(report);
+    process.exit(all.some(({ count }) => count.wrong) ? 1 : 0);
 }
 
 main(...process.argv.slice(2));

@@ -45,9 +45,10 @@ function compareFigures(beside, name, text) {
     const { status, items } = machine.items(text);
     const labelled = figuresOf(rows, items);
     const end = status === 0 ? rows.length : items.length ? items.at(-1).after : 0; // beyond a fault no row is labelled
-    let before = machine.picture(text, 0);
+    const way = new Way(machine, text, rows); // each picture from Start would make the tape of a source anew
+    let before = way.first;
     for (let orders = 1; orders < 1500 && before.words && before.ending === 'limit' && before.counter < places; orders++) {
-        const shown = machine.picture(text, orders);
+        const shown = way.at(orders, before);
         if (shown.rowsLeft < before.rowsLeft) {
             const at = rows.length - before.rowsLeft;
             if (at >= end) {

@@ -2,7 +2,7 @@
 // How a control is pressed in each of the ways, by events of the browser alone; and how a page is made new for each press.
 const { CONTROL } = require('./browser.js');
 const { key } = require('./hand.js');
-const { middleOf } = require('./middle.js');
+const { middleOf, bringIntoSight } = require('./middle.js');
 
 const PRESSED = '[data-pressed]'; // the control that is at hand
 const SHIFT = 8; // the modifier of a key that is pressed with Shift
@@ -82,16 +82,22 @@ async function install(b) {
 }
 
 // Marks one of the controls with a selector as the one at hand: what kind it is; nothing if there is none.
-function takeUp(selector, number) {
+function mark(selector, number) {
     document.querySelectorAll('[data-pressed]').forEach((node) => node.removeAttribute('data-pressed'));
     const node = document.querySelectorAll(selector)[number];
     if (!node) {
         return undefined;
     }
     node.dataset.pressed = '';
-    node.scrollIntoView({ block: 'center', behavior: 'instant' });
     const isBox = node.tagName === 'TEXTAREA' || ['text', 'number'].includes(node.type);
     return { SELECT: 'list', BUTTON: 'button', SUMMARY: 'button', INPUT: isBox ? 'box' : node.type, TEXTAREA: 'box' }[node.tagName] || 'part';
+}
+
+// Takes up one of the controls with a selector, and scrolls to it: what kind it is.
+async function takeUp(b, selector, number) {
+    const kind = await b.run(mark, selector, number);
+    await b.run(bringIntoSight, PRESSED);
+    return kind;
 }
 
 // Where a control is pressed: in its middle, or in another point of it, or on a text that is seen there.

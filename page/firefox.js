@@ -95,7 +95,8 @@ class Firefox extends Visitor {
     start(command) {
         this.profile = fs.mkdtempSync(path.join(os.tmpdir(), 'page-'));
         fs.writeFileSync(path.join(this.profile, 'user.js'), 'user_pref("intl.locale.requested", "en-GB");\n'
-            + 'user_pref("intl.accept_languages", "en-GB");\nuser_pref("remote.active-protocols", 1);\n');
+            + 'user_pref("intl.accept_languages", "en-GB");\nuser_pref("remote.active-protocols", 1);\n'
+            + 'user_pref("layout.frame_rate", 30);\n'); // pictures a second, as in Chromium
         const flags = ['--headless', '--no-remote', '--profile', this.profile, '--remote-debugging-port', '0', 'about:blank'];
         this.child = spawn(command, flags, { stdio: ['ignore', 'ignore', 'pipe'], env: { ...process.env, HOME: this.profile } });
         this.child.on('error', () => this.giveUp('the browser does not start'));

@@ -1,6 +1,7 @@
 'use strict';
 // How a person writes on the page: with a click into a box, keys that are pressed, and lists that are opened with keys. Every
 // event is the browser's own.
+const { bringIntoSight } = require('./middle.js');
 
 const CONTROL = 2; // the modifier of a key that is pressed with Control
 const SCREENS = [[1366, 768, false], [360, 740, true]];
@@ -12,9 +13,9 @@ async function key(b, name, code, more = {}) {
     }
 }
 
-// Presses a part of the page in the middle of the window: a telephone's buttons are over its lower edge.
+// Presses a part of the page where nothing is over it: a telephone's buttons are over its lower edge.
 async function press(b, selector, kind) {
-    await b.ask(`document.querySelector(${JSON.stringify(selector)})?.scrollIntoView({ block: 'center', behavior: 'instant' }); 0`);
+    await b.run(bringIntoSight, selector);
     await b.press(selector, kind);
 }
 

@@ -38,6 +38,20 @@ async function middleOf(selector) {
     return { x, y, over: isOver ? `${hit && (hit.id || hit.tagName)} is over it` : '' };
 }
 
+// Scrolls to a part of the page, if it is outside the window or something is over it, such as a bar of buttons.
+// Otherwise nothing is scrolled: that would paint all of the window anew.
+function bringIntoSight(selector) {
+    const node = document.querySelector(selector);
+    if (!node) {
+        return;
+    }
+    const { left, top, right, bottom } = node.getBoundingClientRect();
+    const isInside = left >= 0 && top >= 0 && right <= innerWidth && bottom <= innerHeight;
+    if (!isInside || !node.contains(document.elementFromPoint((left + right) / 2, (top + bottom) / 2))) {
+        node.scrollIntoView({ block: 'center', behavior: 'instant' });
+    }
+}
+
 // The next click that the page hears, as a promise of the window: the one of a finger comes some time after its touch.
 function hearClick() {
     const LONGEST = 1000; // milliseconds, where there is none
@@ -47,4 +61,4 @@ function hearClick() {
     });
 }
 
-module.exports = { middleOf, hearClick };
+module.exports = { middleOf, bringIntoSight, hearClick };

@@ -55,17 +55,17 @@ const IN_FIREFOX = [
     ...Object.values(stories), lessons.lessons, lessons.mistakes, lessons.answers, sharing.links, sharing.languages,
 ];
 
-// The seconds that each of the longer parts takes in Chromium; every other one takes about as many as OTHERS.
+// The seconds that each of the longer parts takes in Chromium: the mean of those by the clock and of the processors.
+// Every other one takes about as many as OTHERS.
 const SECONDS = {
-    lessons: 65, storyTongues: 45, eachByKeys: 45, narrowLessons: 40, eachByMouse: 30, endings: 30, sentences: 25,
-    sentencesUpright: 25, eachByTouch: 25, slips: 25, places: 25, watchdog: 22, screen: 20, stories: 20, asked: 20, former: 20,
-    lasting: 18, screens: 17, mistakes: 15, typing: 14, rotation: 14, numbers: 14, opened: 14, landings: 14, marks: 12, day: 12,
-    unable: 12, storyParts: 10, printed: 10, storiesSaid: 9, kiosk: 9, openedAtFirst: 9, steps: 9, everySentence: 9,
-    lettersTyped: 8, lettersHeld: 8, kioskAddress: 8, storyEnds: 8, arrangement: 8, benchRules: 8, made: 8, looks: 8, narrow: 8,
-    hidden: 8, unkept: 7, enter: 7, eachIsListed: 6, printedBoxes: 6, printedTape: 6, speed: 6, inText: 6, boxesBelow: 6,
-    onStage: 6, screenLetter: 5, wholeDisc: 5, atEnds: 5,
+    slips: 30, day: 29, lessons: 28, endings: 25, storyTongues: 21, narrowLessons: 21, eachByKeys: 20, watchdog: 20,
+    eachByMouse: 18, asked: 16, former: 13, eachByTouch: 13, places: 13, rotation: 13, landings: 12,
+    sentencesUpright: 12, storyParts: 11, sentences: 10, typing: 9, numbers: 9, mistakes: 9, screens: 9, lasting: 9,
+    stories: 8, unable: 8, screen: 8, kiosk: 8, storyEnds: 8, opened: 6, arrangement: 6, enter: 6, kioskAddress: 6,
+    narrow: 6, printed: 5, looks: 5, made: 5, lettersTyped: 5, marks: 5, openedAtFirst: 5, everySentence: 5, guarded: 4,
+    unkept: 4, steps: 4, benchRules: 4, words: 4, printedTape: 4,
 };
-const OTHERS = 2;
+const OTHERS = 1.4;
 const secondsOf = (part) => SECONDS[part.name] || OTHERS;
 const SLOWEST = 10; // how many times as long a part may take on a busy computer
 const longestOf = (part) => 300 + SLOWEST * secondsOf(part);

@@ -213,17 +213,16 @@ async function storyTongues(b) {
         const { say } = Tour.prototype;
         page.formerSay = say;
         Tour.prototype.say = function hears(key, values) {
-            const was = by('story').textContent;
+            const was = by('story').textContent, { words } = page;
             say.call(this, key, values);
-            if (was === by('story').textContent) {
-                return;
-            }
-            if (page.words.name === 'en') {
+            const said = by('story').textContent;
+            if (was !== said && words.name === 'en') {
                 speakIn('de');
                 page.heardIn.push(by('story').textContent);
-                speakIn('en');
-            } else {
-                page.heardIn.push(by('story').textContent);
+                page.words = words; // the story goes on in English; nobody looks at the rest of the page
+                by('story').textContent = said;
+            } else if (was !== said) {
+                page.heardIn.push(said);
             }
         };
     });

@@ -213,7 +213,9 @@ async function reached(b, kind, where, say) {
     }), [true, true, true, true]);
 }
 
-// A place to which the program never comes: so many orders are tried, in slices.
+const PICTURES = 50; // that the page paints at least while it tries them: the browsers of the tests paint thirty a second
+
+// A place to which the program never comes: a stated number of orders is tried, in slices.
 async function tooFar(b, say) {
     const from = await b.ask('page.shown.orders');
     await b.run(() => {
@@ -225,7 +227,7 @@ async function tooFar(b, say) {
     await b.expect('a place that is never reached', await b.until('page.running === undefined', 120), true);
     await b.expect('is given up', [(await b.ask('page.shown.orders')) - from, await b.text('reached')],
         [await b.ask('SOUGHT'), await say('notReachedYet', { place: 900, orders: '200,000' })]);
-    await b.expect('while the page stays alive', await b.ask('window.slices'), (frames) => frames > 100);
+    await b.expect('while the page stays alive', await b.ask('window.slices'), (frames) => frames > PICTURES);
 }
 
 module.exports = { openOn, each, boxesOf, chooseLesson, LOOP, parts: { arrangement, typing, places } };

@@ -59,7 +59,7 @@ async function tryPress(b, way, row, number) {
     const what = `${row.control} ${number || ''} by ${way}, ${row.does}`;
     const isNot = row.not[way === 'space' ? 'key' : way] !== undefined;
     await b.expect(`${what}: before`, await settled(b, row.see, row.was), row.was);
-    const kind = await b.run(takeUp, row.control, number);
+    const kind = await takeUp(b, row.control, number);
     if (row.rests) {
         await pause(SAME_PRESS);
     }
@@ -178,7 +178,7 @@ async function lettersTyped(b) {
     const tried = [];
     for (const { control, from } of boxes.values()) {
         await anew(b, `look(10); ${from}`);
-        if (!['box', 'list'].includes(await b.run(takeUp, control, 0))) {
+        if (!['box', 'list'].includes(await takeUp(b, control, 0))) {
             continue;
         }
         tried.push(control);

@@ -76,6 +76,7 @@ async function leave(b) {
     await b.speak('en');
     await b.set('lesson', '0');
     await b.click('toExhibit');
+    await b.ask('follow(true); 0'); // a lesson looks into another tank
     await b.choose('letter.tape');
 }
 

@@ -127,9 +127,12 @@ async function compareRows(b, what, told, state, changed, language) {
 // The colours at the middle of the dots of some places and on the upper edge of their frames, and at the holes of the rows
 // about the reader.
 function pixels(places, rows) {
-    const pick = (canvas, points) => {
-        const context = canvas.getContext('2d'), scale = devicePixelRatio;
-        return points.map(([x, y]) => [...context.getImageData(Math.floor(x * scale), Math.floor(y * scale), 1, 1).data].slice(0, 3));
+    const picture = (canvas) => { // all of it is read at once: each reading takes long
+        const { data, width, height } = canvas.getContext('2d').getImageData(0, 0, canvas.width, canvas.height);
+        return (points) => points.map((point) => {
+            const [x, y] = point.map((length) => Math.floor(length * devicePixelRatio)), at = 4 * (y * width + x);
+            return x >= 0 && x < width && y >= 0 && y < height ? [...data.subarray(at, at + 3)] : [0, 0, 0];
+        });
     };
     const { across, gap, side, dot, high, tankWide, tankHigh } = store.plan(32);
     const corner = (place) => {
@@ -141,8 +144,9 @@ function pixels(places, rows) {
     const unit = parseFloat(getComputedStyle(document.documentElement).fontSize) / 20;
     const reader = Math.floor(by('tape').clientWidth * 0.3);
     const holes = rows.map((row) => [15, 26.5, 38, 55, 66.5].map((y) => [reader + (row + 0.5) * 22 * unit, y * unit]));
-    const ofStore = (points) => places.map((place) => pick(by('store'), points(place)));
-    return { dots: ofStore(dots), edges: ofStore(edge), holes: holes.map((points) => pick(by('tape'), points)) };
+    const inStore = picture(by('store')), inTape = picture(by('tape'));
+    const ofStore = (points) => places.map((place) => inStore(points(place)));
+    return { dots: ofStore(dots), edges: ofStore(edge), holes: holes.map(inTape) };
 }
 
 const isNear = (one, other) => one.every((part, k) => Math.abs(part - other[k]) < 70) && Math.max(...one) > 130;
@@ -208,10 +212,12 @@ async function compareStories(b, names) {
         for (const name of names) {
             const program = await b.run(storyProgram, name);
             const tape = program.kind === 'source' ? answer(['punch'], program.text).out : program.text;
-            for (const [k, orders] of countsOf(program).entries()) {
-                const language = LANGUAGES[k % LANGUAGES.length];
+            const counts = countsOf(program);
+            for (const [at, language] of LANGUAGES.entries()) {
                 await b.speak(language);
-                await compareAt(b, `${wide}: ${name}`, { program, tape, orders }, language);
+                for (const orders of counts.filter((_, k) => k % LANGUAGES.length === at)) {
+                    await compareAt(b, `${wide}: ${name}`, { program, tape, orders }, language);
+                }
             }
         }
     }

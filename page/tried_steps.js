@@ -1,6 +1,7 @@
 'use strict';
 // What a lesson says is done on the page, done: its buttons are pressed by the mouse or by a finger, its boxes are filled by
 // keys, and the words of the store and the prints that it names are looked at.
+const { bringIntoSight } = require('./middle.js');
 
 // What each block of the lesson says, step by step: the buttons and boxes, with how often and with which value; the words
 // of the store that are to be seen then; and what is printed.
@@ -48,9 +49,9 @@ async function chooseByKeys(b, selector, text) {
     }
 }
 
-// Scrolls to a part of the page, so that no bar of buttons is over it, and presses it.
+// Presses a part of the page where no bar of buttons is over it.
 async function reach(b, hand, selector) {
-    await b.run((one) => document.querySelector(one).scrollIntoView({ block: 'center', behavior: 'instant' }), selector);
+    await b.run(bringIntoSight, selector);
     await b.press(selector, hand);
 }
 

@@ -193,9 +193,9 @@ async function sounds(b) {
     await b.choose('letter.tape');
     await b.run(() => {
         const node = () => ({ connect: (next) => next, start() {}, stop() {}, frequency: {}, gain: { setValueAtTime() {}, exponentialRampToValueAtTime() {} } });
-        const heard = (page.heard = []);
+        const heard = [];
         const band = () => ({ ...node(), frequency: { set value(pitch) { heard.push(pitch); } } });
-        page.formerSound = sound.context;
+        page.formerSounds = { ...sound, touched: page.touched };
         sound.context = { currentTime: 0, sampleRate: 1000, destination: {}, createGain: node, createBufferSource: node, createOscillator: node,
             createBiquadFilter: band, createBuffer: () => ({ getChannelData: () => [] }) };
         page.touched = true;
@@ -219,10 +219,15 @@ async function sounds(b) {
         by('sound').checked = true;
         look(9);
         all.push(page.hear(() => { for (let k = 0; k < 90; k++) { step(); } }).split(',').length < 10);
-        sound.context = page.formerSound;
+        const { touched, ...former } = page.formerSounds;
+        Object.assign(sound, former);
+        page.touched = touched;
+        delete page.hear;
         return all;
     });
     await b.expect('what is heard', heard, ['reader', 'silence', 'printer', 'silence', 'silence', 'silence', true]);
+    await b.expect('then the sounds are the browser\'s again', await b.run(() => [sound.context, sound.noise]
+        .every((one) => one === undefined || one instanceof AudioContext || one instanceof AudioBuffer)), true);
     await b.click('start');
 }
 

@@ -14,12 +14,12 @@ pub record IsWithin (n : ℕ) (z : ℤ) : Type 0 where
   pub high : z ≤ℤ pos n
 
 -- a signed long word that is passed as one of 64 binary digits is itself
-pub widened : (x : ℤ) → IsWithin (2 ^ 34) x → to_z w64 (of_z w64 x) ≡ x
-widened x within = to_z-of_z w64 x (omega (arith, ints, within.low, within.high))
+pub to_z-widened : (x : ℤ) → IsWithin (2 ^ 34) x → to_z w64 (of_z w64 x) ≡ x
+to_z-widened x within = to_z-of_z w64 x (omega (arith, ints, within.low, within.high))
 
 -- and stays within the same bounds
 pub widened_within : (x y : ℤ) → y ≡ to_z w64 (of_z w64 x) → IsWithin (2 ^ 34) x → IsWithin (2 ^ 34) y
-widened_within x y is within = rw (is ∙ widened x within) within
+widened_within x y is within = rw (is ∙ to_z-widened x within) within
 
 -- four times a product as it is computed
 abbrev computed : ℤ → ℤ → ℤ
@@ -86,8 +86,8 @@ module _ (a : ℕ) (p : ℤ) (within : IsWithin (2 ^ 70) p) where
         rw (whole, wrapped_is) (omega (arith, low))
 
   -- a product that a call is passed is itself
-  pub passed : to_z w128 (of_z w128 p) ≡ p
-  passed = to_z-of_z w128 p (omega (arith, ints, within.low, within.high))
+  pub to_z-passed : to_z w128 (of_z w128 p) ≡ p
+  to_z-passed = to_z-of_z w128 p (omega (arith, ints, within.low, within.high))
 
   -- a product added, and subtracted, after it was reduced below 2^71
   pub plus_wrapped : modulo71 (pos a +ℤ p) ≡ (a + modulo71 p) % 2 ^ 71

@@ -101,10 +101,9 @@ fn put_program(rt: &impl Abort, image: &mut Vec<Word>) -> Result<(), Fail> {
 }
 
 /// Obeys the next orders.
-fn obey(rt: &impl Abort, machine: &mut Machine, orders: u32) {
-    for _ in 0..orders {
-        next_turn(rt, machine);
-    }
+fn obey(rt: &impl Abort, machine: &mut Machine, orders: u64) {
+    assert!(rt; machine.orders_done() < 1 << 40 && orders < 1 << 40);
+    machine.obey_next(orders);
 }
 
 /// Runs that program.
@@ -284,7 +283,7 @@ fn the_largest_tape(rt: HostRuntime) -> Result<(), Fail> {
 }
 
 /// Whether a cleared machine of a size counts as started after this many orders of the listing.
-fn is_started_after(rt: &impl Abort, alloc: Global, size: Size, orders: u32) -> Result<bool, Fail> {
+fn is_started_after(rt: &impl Abort, alloc: Global, size: Size, orders: u64) -> Result<bool, Fail> {
     let mut machine = Machine::cleared_of(alloc, size)?;
     start(&mut machine, Vec::new(alloc));
     obey(rt, &mut machine, orders);
@@ -296,7 +295,7 @@ fn expect_started(
     rt: &impl Abort,
     alloc: Global,
     size: Size,
-    orders: u32,
+    orders: u64,
     wanted: bool,
 ) -> Result<(), Fail> {
     let started = is_started_after(rt, alloc, size, orders)?;

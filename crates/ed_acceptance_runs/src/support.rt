@@ -2,7 +2,7 @@
 ghost use Rattle.std.specs.Prelude.{◌≡◌, ◌<◌, ◌≤◌, IsTrue};
 ghost use Rattle.ed_library.specs.Entries.{how_many};
 ghost use Rattle.ed_routines.specs.Catalogue.{with_h};
-ghost use Rattle.ed_routines.specs.Standing.{IsOutside, Stands};
+ghost use Rattle.ed_routines.specs.Standing.{IsOutside, IsLoadedAt};
 
 use ed_codes::{Code, tape_of_text};
 use ed_initial::{Loaded, begin, is_started, load};
@@ -104,7 +104,7 @@ fn with_h(h: u16) -> Parameters
 /// Whether the routine with an index is at a base with H = 2h, and is called. No routine here is above 1000.
 pub fn stands_at(machine: &Machine, index: u16, base: u16, h: u16) -> bool
     requires { index < how_many }
-    ensures { IsTrue result → Stands index (with_h h) base machine.now }
+    ensures { IsTrue result → IsLoadedAt index (with_h h) base machine.now }
 {
     stands_with(machine, index, base, &with_h(h))
 }
@@ -112,7 +112,7 @@ pub fn stands_at(machine: &Machine, index: u16, base: u16, h: u16) -> bool
 /// Whether the routine with an index is at a base with these parameters, and is called. No routine here is above 1000.
 pub fn stands_with(machine: &Machine, index: u16, base: u16, parameters: &Parameters) -> bool
     requires { index < how_many }
-    ensures { IsTrue result → Stands index parameters.now base machine.now }
+    ensures { IsTrue result → IsLoadedAt index parameters.now base machine.now }
 {
     let routine = routine(index);
     if base < 56 || base > 1000 {
@@ -226,10 +226,8 @@ pub fn counting(
 
 /// Obeys the six orders after a call of such a program.
 pub fn count(rt: &impl Abort, machine: &mut Machine) {
-    for _ in 0..6 {
-        assert!(rt; machine.orders_done() < 1 << 40);
-        machine.step();
-    }
+    assert!(rt; machine.orders_done() < 1 << 40);
+    machine.obey_next(6);
 }
 
 /// Adds the items of a routine, of a number at h and of a caller, and rows.
@@ -276,10 +274,8 @@ pub fn start(rt: &impl Abort, machine: &mut Machine, rows: Vec<Code>) {
 /// Starts a machine on the rows of a tape, loads it, and obeys the first two orders of its program.
 fn enter(rt: &impl Abort, machine: &mut Machine, rows: Vec<Code>) {
     start(rt, machine, rows);
-    for _ in 0..2 {
-        assert!(rt; machine.orders_done() < 1 << 40);
-        machine.step();
-    }
+    assert!(rt; machine.orders_done() < 1 << 40);
+    machine.obey_next(2);
 }
 
 /// A machine that has obeyed the first two orders of a tape's program, which are those of a call.

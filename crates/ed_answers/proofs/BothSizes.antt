@@ -1,31 +1,17 @@
 -- A run that stays in the first 512 locations is the same on both sizes of the store.
-use Rattle.std.proofs.Common.{◌≡◌, ◌∙◌, ℕ, zero, suc, ◌+◌, ◌^◌, ◌<◌, ◌≤◌, refl, ap, arith}
-use Rattle.std.proofs.Common.{Bool, true, false, nat_eq, nat_lt, nat_le, Option, Some, None, List, [], ◌∷◌, ◌++◌}
-use Rattle.std.proofs.Common.{length}
-use Rattle.std.specs.Prelude.{if◌then◌else◌}
-use Rattle.std.proofs.lemmas.Bool.Decides.{nat_tests}
-use Rattle.ed_words.specs.declared.size.Size.{Size}
-use Rattle.ed_words.specs.declared.size.Size.TheVariants.{Small, Full}
-use Rattle.ed_words.specs.Words.{address_of, function_of}
-use Rattle.ed_orders.specs.Kinds.{kind_of_function}
+use Rattle.ed_answers.proofs.Kit.{Size, Full, Small, paper, Ending, Limit, NoOrder, NoTape, PaperFull, Stopped, RunEnd}
+use Rattle.ed_answers.proofs.Kit.{Settings, Window, ran_ends, step, State, progress, Progress, state_after, end_at}
+use Rattle.ed_answers.proofs.Kit.{end_by, EndsAfter, run_end, run_orders, first_state, Text, tape, [], ap, arith, Bool}
+use Rattle.ed_answers.proofs.Kit.{false, if◌then◌else◌, length, List, nat_eq, nat_le, nat_lt, None, Option, refl, Some}
+use Rattle.ed_answers.proofs.Kit.{suc, true, ℕ, ◌++◌, ◌+◌, ◌<◌, ◌^◌, ◌∙◌, ◌∷◌, ◌≡◌, ◌≤◌, nat_tests, ending_line}
+use Rattle.ed_answers.proofs.Kit.{paper_room, post_mortem_codes, ran_outcome, status_of, with_post_mortem}
+use Rattle.ed_answers.proofs.Kit.{entered_before}
+use Rattle.ed_machine.proofs.Names.{zero, address_of, function_of, kind_of_function, jump_order, next_word, obey_word}
+use Rattle.ed_machine.proofs.Names.{Obeyed, place_of, row_order, codes_of, stops_of}
 use Rattle.ed_orders.specs.declared.kind.Kind.{Kind}
 use Rattle.ed_orders.specs.declared.kind.Kind.TheVariants.{A, S, H, V, N, T, U, C, R, L, E, G, I, O, F, X, Y, Z}
-use Rattle.ed_machine.specs.State.{State}
-use Rattle.ed_machine.specs.OrderTable.{Obeyed, jump_order, next_word, obey_word, place_of, step, row_order}
-use Rattle.ed_machine.specs.Steps.{Progress, codes_of, next_progress, progress, state_after, stops_of}
-use Rattle.ed_machine.specs.declared.ending.Ending.{Ending}
-use Rattle.ed_machine.specs.declared.ending.Ending.TheVariants.{Stopped, Limit, NoOrder, NoTape, PaperFull}
-use Rattle.ed_run.specs.Run.{EndsAfter, RunEnd, end_at, end_by, run_end, run_orders}
-use Rattle.ed_run.proofs.Ends.{ends_once, ran_ends}
-use Rattle.ed_link.specs.Tapes.{tape}
-use Rattle.ed_report.specs.Notes.{ending_line}
-use Rattle.ed_words.specs.Texts.{Text}
-use Rattle.ed_printer.specs.Paper.{paper}
-use Rattle.ed_run.specs.declared.settings.Settings.{Settings}
-use Rattle.ed_run.specs.declared.settings.Window.{Window}
-use Rattle.ed_initial.specs.Entry.{first_state}
-use Rattle.ed_answers.specs.Runs.{paper_room, post_mortem_codes, ran_outcome, status_of, with_post_mortem}
-use Rattle.ed_answers.specs.Sources.{entered_before}
+use Rattle.ed_machine.specs.Steps.{next_progress}
+use Rattle.ed_machine.proofs.LeastNumbers.{first_once}
 use Rattle.ed_answers.specs.BothSizes.{EachSize, NamesBelow, RunStaysBelow, StaysBelow}
 
 -- ---- one order
@@ -166,7 +152,7 @@ run_same z limit resumes room s low =
       now = at k (omega arith) ∙ ends.now;
       first = λ j l. at j (omega (arith, l)) ∙ ends.first j l;
     } in
-    let one = ends_once (ran_ends limit resumes room (sized z s)) there in
+    let one = first_once (ran_ends limit resumes room (sized z s)) there in
     let left : progress (run_orders limit resumes room (sized z s)) (sized z s) ≡ past_sized z (progress k s) =
     ap (λ n. progress n (sized z s)) one.0 ∙ past_same z k s low in
     λ i. record { ending = one.1 i; state = (left i).state; codes = (left i).codes }

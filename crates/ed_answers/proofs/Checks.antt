@@ -1,41 +1,33 @@
 -- The check of rows from a cleared store: each list of rows has one outcome, and the check's answer is that.
-use Rattle.std.proofs.Common.{ap, ◌≡◌, ◌≢◌, ◌⊎◌, inl, inr, ◌∙◌, ℕ, List, refl, sym, subst, arith}
-use Rattle.std.specs.Prelude.{Result, Ok, Err, IfOk}
-use Rattle.ed_words.specs.declared.memory.NoMemory.{NoMemory}
-use Rattle.ed_words.specs.declared.size.Size.{Size}
+use Rattle.ed_answers.proofs.Kit.{NoMemory, Size, Settings, ◌≢◌, TapeEntry, Err, IfOk, Ok, Result, Text, ap, arith}
+use Rattle.ed_answers.proofs.Kit.{inl, inr, List, refl, subst, sym, ℕ, ◌∙◌, ◌≡◌, ◌⊎◌, entry_line, done, Outcome}
+use Rattle.ed_answers.proofs.Kit.{refusal, Gives, IsChecked, Reply}
+use Rattle.ed_notation.proofs.Kit.{IsFault, RowsReachEntry, WellFormed, IsDirective, ReadingIsRules}
 use Rattle.ed_store.specs.Cells.{Cells, cleared_cells}
-use Rattle.ed_notation.specs.Openings.{opening, IsDirective}
+use Rattle.ed_notation.specs.Openings.{opening}
 use Rattle.ed_notation.specs.Reports.{Report}
-use Rattle.ed_notation.specs.Checks as checks
-use Rattle.ed_notation.specs.Faults.{ComesTo, TapeEntry, IsFault, WellFormed}
 use Rattle.ed_notation.specs.declared.cause.TapeCause.{TapeCause}
 use Rattle.ed_notation.specs.declared.cause.TapeFault.{TapeFault}
 use Rattle.ed_notation.specs.declared.cause.TapeFault.TheVariants.{At, Memory}
-use Rattle.ed_notation.specs.Reading.{ReadingIsRules}
 use Rattle.ed_notation.proofs.Laws.{reading_is_rules}
 use Rattle.ed_notation.proofs.Verdicts.{entry_once, fault_once}
 use Rattle.ed_report.specs.Notes.{rule_line, tape_fault_line}
-use Rattle.ed_words.specs.Texts.{Text}
-use Rattle.ed_run.specs.declared.settings.Settings.{Settings}
-use Rattle.ed_answers.specs.Outcome.{Outcome, done, refusal}
-use Rattle.ed_report.specs.Entries.{entry_line}
-use Rattle.ed_answers.specs.Tapes.{IsChecked, first_note}
-use Rattle.ed_answers.specs.Replies.{Gives}
-use Rattle.ed_answers.specs.declared.reply.Reply.{Reply}
+use Rattle.ed_answers.specs.Tapes.{opening_notation}
 use Rattle.ed_answers.proofs.Replies.{HasOne}
+use Rattle.ed_notation.specs.Checks as checks
 
-law : (s : Settings) (codes : List ℕ) → ReadingIsRules s.size cleared_cells.words first_note 9 codes
+law : (s : Settings) (codes : List ℕ) → ReadingIsRules s.size cleared_cells.words opening_notation 9 codes
 law s codes =
     let set : IsDirective 20568 = omega arith in
-    reading_is_rules s.size cleared_cells.words first_note 9 codes set
+    reading_is_rules s.size cleared_cells.words opening_notation 9 codes set
 
 -- the rows reach an entry or have a fault
 has_checked : (s : Settings) (codes : List ℕ) → (o : Outcome) × IsChecked s codes o
 has_checked s codes = by_case (law s codes).either
   where
-    by_case : (WellFormed s.size cleared_cells.words first_note codes
-        × ((e : TapeEntry) × ComesTo cleared_cells.words first_note 9 codes e))
-        ⊎ ((row : ℕ) × (cause : TapeCause) × IsFault s.size cleared_cells.words first_note codes row cause)
+    by_case : (WellFormed s.size cleared_cells.words opening_notation codes
+        × ((e : TapeEntry) × RowsReachEntry cleared_cells.words opening_notation 9 codes e))
+        ⊎ ((row : ℕ) × (cause : TapeCause) × IsFault s.size cleared_cells.words opening_notation codes row cause)
         → (o : Outcome) × IsChecked s codes o
     by_case (inl (well, (entry, comes))) = (
       done (entry_line entry.at entry.cost entry.rows),
@@ -67,13 +59,13 @@ checked_one s = record { some = has_checked s; once = checked_once s }
 -- the check from a store that is cleared
 pub from_cleared : (z : Size) (codes : List ℕ) {store : Cells} (result : Result Report TapeFault) → store ≡ cleared_cells
     → checks.AnswersCheck z store.words (opening store.words) 9 codes result
-    → checks.AnswersCheck z cleared_cells.words first_note 9 codes result
+    → checks.AnswersCheck z cleared_cells.words opening_notation 9 codes result
 from_cleared z codes result is =
     subst (λ (c : Cells). checks.AnswersCheck z c.words (opening c.words) 9 codes result) is
 
 -- the reply to a well-formed tape
 pub entry_found : (s : Settings) {codes : List ℕ} {r : Report} {at orders count : ℕ} (given : Result Reply NoMemory)
-    → checks.Accepts s.size cleared_cells.words first_note 9 codes r
+    → checks.Accepts s.size cleared_cells.words opening_notation 9 codes r
     → at ≡ r.entry → orders ≡ r.orders → count ≡ r.rows
     → IfOk given (λ reply. Gives reply (done (entry_line at orders count)))
     → IfOk given (λ reply. (o : Outcome) × IsChecked s codes o × Gives reply o)
@@ -88,7 +80,7 @@ entry_found s {at = at} {orders} {count} (Ok reply) f a o n gives =
 
 -- the reply to a tape with a fault
 pub fault_found : (s : Settings) (codes : List ℕ) (fault : TapeFault) {line : Text} (reply : Reply)
-    → checks.AnswersCheck s.size cleared_cells.words first_note 9 codes (Err fault)
+    → checks.AnswersCheck s.size cleared_cells.words opening_notation 9 codes (Err fault)
     → fault ≢ Memory → line ≡ tape_fault_line fault → Gives reply (refusal line)
     → (o : Outcome) × IsChecked s codes o × Gives reply o
 fault_found s codes Memory reply answers other told gives = absurd (other refl)

@@ -1,27 +1,16 @@
 -- Each source is accepted or refused, and the tape of each one that is accepted reaches its linked program.
-use Rattle.std.proofs.Common.{◌≡◌, ◌∙◌, inl, inr, ℕ, Bool, true, List, refl, sym, ap}
-use Rattle.std.specs.Prelude.{Option, Some, None, Ok}
-use Rattle.std.specs.List.{list_all}
-use Rattle.ed_words.specs.declared.size.Size.{Size}
-use Rattle.ed_words.specs.Texts.{Text}
+use Rattle.ed_answers.proofs.Kit.{Size, is_two, program_of, SourceCause, SourceFault, At, Memory, Line, program_formed}
+use Rattle.ed_answers.proofs.Kit.{Ok, Text, lines_of, IsProgram, has_one_meaning, program_is_read, source_answer}
+use Rattle.ed_answers.proofs.Kit.{IsMeaningFault, ap, Bool, inl, inr, List, None, Option, refl, Some, sym, true, ℕ}
+use Rattle.ed_answers.proofs.Kit.{◌∙◌, ◌≡◌, list_all, fault, for_form, for_meaning, IsAcceptedAs, IsAcceptedOrRefused}
+use Rattle.ed_answers.proofs.Kit.{IsRefused}
+use Rattle.ed_syntax.specs.Sources.{IsProgramOrFault}
 use Rattle.ed_library.specs.Entries.{catalogue}
 use Rattle.ed_library.specs.Ready.{is_ready}
-use Rattle.ed_syntax.specs.Lines.{lines_of}
-use Rattle.ed_syntax.specs.Sources.{IsProgram, IsProgramOrFault}
-use Rattle.ed_syntax.specs.Reading.Sources.{is_two, program_of}
-use Rattle.ed_syntax.specs.declared.program.Line.{Line}
-use Rattle.ed_syntax.specs.declared.fault.SourceCause.{SourceCause}
-use Rattle.ed_syntax.specs.declared.fault.SourceFault.{SourceFault}
-use Rattle.ed_syntax.specs.declared.fault.SourceFault.TheVariants.{At, Memory}
-use Rattle.ed_syntax.proofs.Formed.{program_formed}
-use Rattle.ed_syntax.proofs.SourceLaws.{has_one_meaning, program_is_read, source_answer}
-use Rattle.ed_link.specs.Faults.{IsMeaningFault}
-use Rattle.ed_answers.specs.Refusals.{IsAcceptedAs, IsRefused, for_form, for_meaning, IsAcceptedOrRefused}
-use Rattle.ed_answers.specs.Refusals.{EachSourceHasOneAnswer}
-use Rattle.ed_link.specs.FaultTests.{fault}
 use Rattle.ed_link.proofs.Accepted.{accepted_law}
 use Rattle.ed_link.proofs.FaultLaw.{FaultIsFound, fault_law}
 use Rattle.ed_answers.specs.EntryState.{EachSourceComes}
+use Rattle.ed_answers.specs.Refusals.{EachSourceHasOneAnswer}
 
 -- ---- accepted or refused
 
@@ -119,14 +108,15 @@ accepted_is_read z text lines a =
 
 -- ---- the tape
 
-pub tables : list_all is_ready catalogue ≡ true
-tables = refl
+pub list_all-tables : list_all is_ready catalogue ≡ true
+list_all-tables = refl
 
 pub each_source : EachSourceComes
 each_source z source lines a =
     let formed =
     (program_formed (is_two (lines_of source)) (lines_of source) lines
     (program_is_read source a.two lines a.says)).formed in
-    λ words whole. accepted_law tables z (is_two (lines_of source)) lines (accepted_is_read z source lines a) formed
+    λ words whole. accepted_law list_all-tables z (is_two (lines_of source)) lines
+    (accepted_is_read z source lines a) formed
     words
     whole

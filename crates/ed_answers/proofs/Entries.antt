@@ -1,28 +1,22 @@
 -- The tape of a linked program leads to its state at the entry.
-use Rattle.std.proofs.Common.{◌≡◌, ℕ, ◌+◌, ◌-◌, ◌*◌, ◌^◌, ◌<◌, ◌≤◌, refl, sym, ap, ◌∙◌, subst, arith}
-use Rattle.std.proofs.Common.{Bool, true, false, nat_lt, List, [], ◌∷◌, ◌++◌, drop, set, None}
-use Rattle.std.specs.Prelude.{reverse, replicate}
-use Rattle.std.proofs.lemmas.Bool.Decides.{nat_tests}
-use Rattle.std.proofs.lemmas.List.{drop-set-lt, drop-set-add}
-use Rattle.ed_words.specs.declared.size.Size.{Size}
-use Rattle.ed_words.specs.declared.order_words.TheConstants.{T_F}
-use Rattle.ed_machine.specs.State.{State}
-use Rattle.ed_notation.specs.Fold.{over}
-use Rattle.ed_notation.specs.Faults.{TapeEntry}
-use Rattle.ed_notation.specs.Spellings.{item_rows}
+use Rattle.ed_answers.proofs.Kit.{Size, State, TapeEntry, over, first_state, Line, entry_of, arrival, cost, tape}
+use Rattle.ed_answers.proofs.Kit.{Linked, [], ap, arith, Bool, drop, false, List, nat_lt, None, refl, replicate}
+use Rattle.ed_answers.proofs.Kit.{reverse, subst, sym, true, ℕ, ◌++◌, ◌+◌, ◌-◌, ◌<◌, ◌^◌, ◌∙◌, ◌∷◌, ◌≡◌, ◌≤◌}
+use Rattle.ed_answers.proofs.Kit.{nat_tests, IsLinked, data_after, linked_words, Enters, entry_state, entry_store}
+use Rattle.ed_answers.proofs.Kit.{loader_words}
+use Rattle.ed_initial.proofs.Kit.{set, ◌*◌, at_entry, ReachesEntry}
 use Rattle.std.specs.List.{flat_map}
-use Rattle.ed_notation.proofs.Costs.{most}
-use Rattle.ed_initial.specs.Entry.{at_entry, Comes, IsLoaded, first_state}
+use Rattle.std.proofs.lemmas.List.{drop-set-lt, drop-set-add}
+use Rattle.ed_words.specs.declared.order_words.TheConstants.{T_F}
+use Rattle.ed_notation.specs.Spellings.{item_rows}
+use Rattle.ed_notation.proofs.Costs.{cost-most}
+use Rattle.ed_initial.specs.Entry.{IsLoaded}
 use Rattle.ed_initial.specs.declared.loading.Loaded.{Loaded}
-use Rattle.ed_initial.proofs.Starts.{first_length, first_store, first_words, starts}
 use Rattle.ed_initial.proofs.Quiet.{LeadsIn, comes_in}
-use Rattle.ed_syntax.specs.declared.program.Line.{Line}
-use Rattle.ed_link.specs.declared.linked.Linked.{Linked}
-use Rattle.ed_link.specs.Answers.{IsLinked}
-use Rattle.ed_link.specs.Linked.{linked_words, entry_of, data_after}
+use Rattle.ed_initial.proofs.Starts.{first_length, first_store, first_words, starts}
+use Rattle.ed_link.specs.Tapes.{ReachesLinkedEntry}
+use Rattle.ed_answers.specs.EntryState.{EachSourceEnters}
 use Rattle.ed_answers.proofs.EachSource.{each_source as comes_to}
-use Rattle.ed_link.specs.Tapes.{ComesToLinked, arrival, cost, tape}
-use Rattle.ed_answers.specs.EntryState.{Enters, EachSourceEnters, entry_state, entry_store, loader_words}
 
 -- words placed over stores that agree from 44 upwards agree there
 one : (v w : List ℕ) (p x : ℕ) (t : Bool) → nat_lt p 44 ≡ t → drop 44 v ≡ drop 44 w
@@ -65,8 +59,8 @@ entered z lines = λ i.
       orders = k;
     }
 
-module _ (z : Size) (lines : List Line) (loads : ComesToLinked z lines) where
-  comes : Comes (first_state z (tape lines)) (arrival (first_state z (tape lines)).store.words lines)
+module _ (z : Size) (lines : List Line) (loads : ReachesLinkedEntry z lines) where
+  comes : ReachesEntry (first_state z (tape lines)) (arrival (first_state z (tape lines)).store.words lines)
   unfolding first_state
   comes = let w = loads first_words first_length in record { well = w.0; comes = w.1 }
 
@@ -78,20 +72,20 @@ module _ (z : Size) (lines : List Line) (loads : ComesToLinked z lines) where
     state_is = leads.arrives ∙ entered z lines;
     silent = leads.prints_none;
     went = leads.went;
-    cheap = let m = most _ _ _ _ _ comes.comes in omega (arith, m);
+    cheap = let m = cost-most _ _ _ _ _ comes.comes in omega (arith, m);
   }
 
 pub each_source : EachSourceEnters
 each_source z source lines a = enters z lines (comes_to z source lines a)
 
 -- what `load` leaves of the machine that is started on the tape of a linked program
-pub loaded : {z : Size} {lines : List Line} {program : Linked} {rows : List ℕ} {s t : State} {r : Loaded}
+pub entry_state-loaded : {z : Size} {lines : List Line} {program : Linked} {rows : List ℕ} {s t : State} {r : Loaded}
     → IsLinked z lines program
     → s ≡ first_state z rows → rows ≡ flat_map item_rows program.items.items ++ program.after.items
-    → ((e : TapeEntry) → Comes s e → IsLoaded s e r t) → t ≡ entry_state z lines
-loaded {z} {lines} {rows = rows} {s} is begun written load =
+    → ((e : TapeEntry) → ReachesEntry s e → IsLoaded s e r t) → t ≡ entry_state z lines
+entry_state-loaded {z} {lines} {rows = rows} {s} is begun written load =
     let tape_is : rows ≡ tape lines = written ∙ (λ i. flat_map item_rows (is.items i) ++ is.after i) in
     let first : s ≡ first_state z (tape lines) = begun ∙ ap (first_state z) tape_is in
     let e = arrival (first_state z (tape lines)).store.words lines in
-    let there = load e (subst (λ (x : State). Comes x e) (sym first) (comes z lines is.loads)) in
+    let there = load e (subst (λ (x : State). ReachesEntry x e) (sym first) (comes z lines is.loads)) in
     there.state_is ∙ ap (λ (x : State). at_entry x e) first ∙ entered z lines

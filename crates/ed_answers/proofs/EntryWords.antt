@@ -1,22 +1,17 @@
 -- The store at the entry of a source: the Initial Orders, and the words of its lines.
-use Rattle.std.proofs.Common.{◌≡◌, ℕ, ◌+◌, ◌-◌, ◌<◌, ◌≤◌, refl, ap, ◌∙◌, arith, Bool, true, false}
-use Rattle.std.proofs.Common.{List, [], ◌∷◌, length, drop, get_or, nat_eq, Option, Some, None}
-use Rattle.std.specs.Prelude.{replicate, reverse, unwrap_or}
-use Rattle.std.proofs.lemmas.List.{get_or-append_right, get_or-drop, get_or-replicate, length-append, length-drop, length-replicate}
+use Rattle.ed_answers.proofs.Kit.{length-append, length-drop, Size, over, Line, [], ap, arith, Bool, drop, false}
+use Rattle.ed_answers.proofs.Kit.{get_or, length, List, nat_eq, None, Option, refl, replicate, reverse, Some, true, ℕ}
+use Rattle.ed_answers.proofs.Kit.{◌+◌, ◌-◌, ◌<◌, ◌∙◌, ◌∷◌, ◌≡◌, ◌≤◌, length-replicate, linked_words, entry_store}
+use Rattle.ed_answers.proofs.Kit.{loader_words, IsEntryStore}
+use Rattle.ed_link.proofs.Kit.{unwrap_or, eq-eqb, eqb-true, locations_most, placed_at}
 use Rattle.std.proofs.Math.ListN.{get_or-append}
-use Rattle.ed_words.specs.declared.size.Size.{Size}
-use Rattle.ed_words.proofs.Numbers.{eq_of, eq_true}
-use Rattle.ed_words.proofs.SizeLemmas.{most}
+use Rattle.std.proofs.lemmas.List.{get_or-append_right, get_or-drop, get_or-replicate}
 use Rattle.ed_store.specs.Cells.{short_at}
 use Rattle.ed_notation.specs.Checks.{ArePlaces}
-use Rattle.ed_notation.specs.Fold.{over, placed_at}
 use Rattle.ed_notation.proofs.Contents.{content_is, length-over}
-use Rattle.ed_syntax.specs.declared.program.Line.{Line}
-use Rattle.ed_link.specs.Linked.{linked_words}
 use Rattle.ed_link.specs.Words.{WordsStand, linked_word}
 use Rattle.ed_link.proofs.WordLaws.{each_word_stands}
-use Rattle.ed_answers.specs.EntryState.{entry_store, loader_words}
-use Rattle.ed_answers.specs.EntryWords.{EachEntryStoreIs, IsEntryStore, IsFreePlace}
+use Rattle.ed_answers.specs.EntryWords.{EachEntryStoreIs, IsFreePlace}
 
 -- all words of a list have locations of the store if each does
 are_places : (ps : List (ℕ × ℕ)) → ((a w : ℕ) → placed_at ps a ≡ Some w → a < 1024) → ArePlaces ps
@@ -24,13 +19,13 @@ are_places [] within = tt
 are_places (p ∷ ps) within = (first, are_places ps (λ a w e. by_test a w (nat_eq p.0 a) refl e))
   where
     same : nat_eq p.0 p.0 ≡ true
-    same = eq_true p.0 p.0 refl
+    same = eq-eqb p.0 p.0 refl
 
     first : p.0 < 1024
     first = within p.0 p.1 (rw same refl)
 
     by_test : (a w : ℕ) (t : Bool) → nat_eq p.0 a ≡ t → placed_at ps a ≡ Some w → a < 1024
-    by_test a w true e h = let is : p.0 ≡ a = eq_of p.0 a e in omega (arith, is, first)
+    by_test a w true e h = let is : p.0 ≡ a = eqb-true p.0 a e in omega (arith, is, first)
     by_test a w false e h = within a w (rw e h)
 
 module _ (lines : List Line) where
@@ -62,13 +57,13 @@ module _ (lines : List Line) where
 module _ (z : Size) (lines : List Line) (w : WordsStand z lines) where
   are : ArePlaces (reverse (linked_words lines))
   are = are_places (reverse (linked_words lines))
-      (λ a v e. let p = w.within a v e in let m = most z in omega (arith, p.1, m))
+      (λ a v e. let p = w.within a v e in let m = locations_most z in omega (arith, p.1, m))
 
   -- a location with a word
   has : (a v : ℕ) → linked_word lines a ≡ Some v → short_at (entry_store lines) a ≡ v
   has a v e =
       let p = w.within a v e in
-      let m = most z in
+      let m = locations_most z in
       entry_word lines are a p.0 (omega (arith, p.1, m)) ∙ ap (λ o. unwrap_or o 0) e
 
   free : (a : ℕ) → 44 ≤ a → a < 1024 → IsFreePlace lines a → short_at (entry_store lines) a ≡ 0

@@ -1,19 +1,13 @@
 -- Worked sources: the text, and the fault or the acceptance that the law gives from the computed answer.
-use Rattle.std.proofs.Common.{◌≡◌, inl, ℕ, refl, lit≤, false, Some, None, List, [], ◌∷◌, ◌++◌}
-use Rattle.std.specs.Prelude.{codes, Ok, Err, Result}
-use Rattle.ed_words.specs.declared.size.Size.{Size}
-use Rattle.ed_words.specs.declared.size.Size.TheVariants.{Small, Full}
-use Rattle.ed_syntax.specs.Reading.Grammar.{settings}
-use Rattle.ed_syntax.specs.Reading.Sources.{program_of, Fault}
-use Rattle.ed_syntax.specs.declared.program.Line.{Line}
-use Rattle.ed_syntax.specs.declared.fault.SourceCause.{SourceCause}
-use Rattle.ed_syntax.specs.declared.fault.SourceCause.TheVariants as causes
-use Rattle.ed_syntax.specs.declared.fault.SourceFault.TheVariants.{At}
-use Rattle.ed_link.specs.FaultTests.{fault}
-use Rattle.ed_syntax.specs.declared.program.Operand.TheVariants.{Number}
-use Rattle.ed_syntax.specs.declared.program.Statement.TheVariants.{Segment, Order}
-use Rattle.ed_link.specs.Faults.{IsMeaningFault, HasNoFault, LineHasCause}
+use Rattle.ed_answers.proofs.Kit.{Size, Full, Small, program_of, SourceCause, At, Line, Number, Order, codes, Err, Ok}
+use Rattle.ed_answers.proofs.Kit.{Result, settings, IsMeaningFault, [], false, inl, List, None, refl, Some, ℕ, ◌++◌}
+use Rattle.ed_answers.proofs.Kit.{◌∷◌, ◌≡◌, fault}
+use Rattle.std.proofs.Common.{lit≤}
+use Rattle.ed_syntax.specs.Reading.Sources.{Fault}
+use Rattle.ed_syntax.specs.declared.program.Statement.TheVariants.{Segment}
+use Rattle.ed_link.specs.Faults.{HasNoFault, LineHasCause}
 use Rattle.ed_answers.proofs.EachSource.{read_law}
+use Rattle.ed_syntax.specs.declared.fault.SourceCause.TheVariants as causes
 
 -- the lines of a text that is read
 abbrev lines_in : Result (List Line) Fault → List Line

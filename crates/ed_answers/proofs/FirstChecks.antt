@@ -1,17 +1,11 @@
 -- The check of rows for Initial Orders 1: each list of rows has one outcome, and the check's answer is that.
-use Rattle.std.proofs.Common.{ap, ◌≡◌, ◌⊎◌, inl, inr, ◌∙◌, ℕ, List, refl, sym}
-use Rattle.std.specs.Prelude.{Result, Ok, Err, IfOk}
-use Rattle.ed_words.specs.declared.memory.NoMemory.{NoMemory}
-use Rattle.ed_initial1.specs.Faults.{Tape, Comes1, IsFault1}
+use Rattle.ed_answers.proofs.Kit.{NoMemory, ReachesEntry1, Tape, Tape1Cause, Err, IfOk, Ok, Result, ap, inl, inr, List}
+use Rattle.ed_answers.proofs.Kit.{refl, sym, ℕ, ◌∙◌, ◌≡◌, ◌⊎◌, entry_line, IsChecked1, done, Outcome, refusal, Gives}
+use Rattle.ed_answers.proofs.Kit.{Reply}
 use Rattle.ed_initial1.specs.Checks.{Report1, Accepts1, report1}
-use Rattle.ed_initial1.specs.declared.cause.Tape1Cause.{Tape1Cause}
+use Rattle.ed_initial1.specs.Faults.{IsFault1}
 use Rattle.ed_initial1.proofs.Unique.{one_verdict}
 use Rattle.ed_report.specs.FirstNotes.{rule1_line}
-use Rattle.ed_report.specs.Entries.{entry_line}
-use Rattle.ed_answers.specs.FirstOrders.{IsChecked1}
-use Rattle.ed_answers.specs.Outcome.{Outcome, done, refusal}
-use Rattle.ed_answers.specs.Replies.{Gives}
-use Rattle.ed_answers.specs.declared.reply.Reply.{Reply}
 use Rattle.ed_answers.proofs.Replies.{HasOne}
 
 -- the line of a program
@@ -22,7 +16,7 @@ told t = done (entry_line 31 (report1 t).orders (report1 t).rows)
 has_checked : (codes : List ℕ) → (o : Outcome) × IsChecked1 codes o
 has_checked codes = by_case (one_verdict codes).some
   where
-    by_case : ((t : Tape) × Comes1 codes t) ⊎ ((row : ℕ) × (cause : Tape1Cause) × IsFault1 codes row cause)
+    by_case : ((t : Tape) × ReachesEntry1 codes t) ⊎ ((row : ℕ) × (cause : Tape1Cause) × IsFault1 codes row cause)
         → (o : Outcome) × IsChecked1 codes o
     by_case (inl (t, comes)) = (told t, inl (record { tape = t; comes = comes; outcome = refl }))
     by_case (inr (row, cause, fault)) =

@@ -1,24 +1,16 @@
 -- The run of a tape without a fault for Initial Orders 1 is the run from the state at its entry.
-use Rattle.std.proofs.Common.{◌∙◌, ℕ, ◌-◌, refl, ap, arith, Bool, false, [], List, drop}
-use Rattle.std.proofs.lemmas.List.{length-append, length-drop, length-replicate}
-use Rattle.std.specs.Prelude.{replicate}
-use Rattle.ed_initial1.specs.Listing.{first_orders}
-use Rattle.ed_printer.specs.Paper.{paper}
+use Rattle.ed_answers.proofs.Kit.{length-append, length-drop, Full, paper, run_end, ran_later, ReachesEntry1, Tape, []}
+use Rattle.ed_answers.proofs.Kit.{ap, arith, Bool, drop, false, List, refl, replicate, ℕ, ◌-◌, ◌∙◌, length-replicate}
+use Rattle.ed_answers.proofs.Kit.{first_state1, paper_room, ran_outcome}
+use Rattle.ed_initial1.proofs.Kit.{at_entry1, IsStarted1, first_orders}
 use Rattle.ed_machine.specs.State.{cleared_state}
-use Rattle.ed_words.specs.declared.size.Size.TheVariants.{Full}
-use Rattle.ed_run.specs.Run.{run_end}
-use Rattle.ed_run.proofs.Later.{ran_later}
-use Rattle.ed_initial1.specs.Entry.{IsStarted1, at_entry1}
-use Rattle.ed_initial1.specs.Faults.{Tape, Comes1}
-use Rattle.ed_initial1.proofs.Started.{is_started}
 use Rattle.ed_initial1.proofs.Opened.{HasItsLengths}
+use Rattle.ed_initial1.proofs.Settled.{state_after-comes, all_went}
+use Rattle.ed_initial1.proofs.Started.{is_started}
 use Rattle.ed_initial1.proofs.Walks.{Reaches}
-use Rattle.ed_initial1.proofs.Settled.{comes, all_went}
 use Rattle.ed_initial1.proofs.Whole.{leads_in}
 use Rattle.ed_answers.specs.FirstEntry.{EachProgramRunsFrom31, cost1}
-use Rattle.ed_answers.specs.FirstOrders.{first_state1}
-use Rattle.ed_answers.specs.Runs.{paper_room, ran_outcome}
-use Rattle.ed_answers.proofs.FromEntry.{silent}
+use Rattle.ed_answers.proofs.FromEntry.{run_end-silent}
 
 pub first_store : (codes : List ℕ) → HasItsLengths (first_state1 codes).store
 unfolding first_state1
@@ -36,7 +28,7 @@ pub starts : (codes : List ℕ) → IsStarted1 (first_state1 codes)
 unfolding first_state1
 starts codes = is_started codes (cleared_state Full) refl
 
-reaches : (codes : List ℕ) (t : Tape) → Comes1 codes t
+reaches : (codes : List ℕ) (t : Tape) → ReachesEntry1 codes t
     → Reaches (cost1 t) (first_state1 codes) (at_entry1 (first_state1 codes) t)
 unfolding first_state1
 reaches codes t c = leads_in (first_state1 codes) (first_store codes) (starts codes) t c
@@ -47,7 +39,7 @@ runs_from_31 s codes t c =
     let k = cost1 t in
     let r = reaches codes t c in
     let went = all_went first (at_entry1 first t) k r in
-    let there = comes first (at_entry1 first t) k r in
+    let there = state_after-comes first (at_entry1 first t) k r in
     record {
       enters = there;
       silent = r.silent;
@@ -55,5 +47,5 @@ runs_from_31 s codes t c =
           ap (ran_outcome [])
           (ran_later s.limit s.resumes paper_room k first went fits
           ∙ ap (run_end (s.limit - k) s.resumes paper_room) there);
-      short = λ below. ap paper (silent s.limit s.resumes paper_room k first went below);
+      short = λ below. ap paper (run_end-silent s.limit s.resumes paper_room k first went below);
     }

@@ -1,26 +1,17 @@
 -- A tape with a fault for Initial Orders 1: the machine waits for the row of the fault, in the state that the rows before
 -- it mean.
-use Rattle.std.proofs.Common.{◌≡◌, ◌∙◌, ℕ, ◌<◌, refl, sym, ap, subst, arith, inr}
-use Rattle.std.proofs.Common.{true, true≢false, Option, Some, None, List, [], ◌∷◌}
-use Rattle.std.specs.Prelude.{codes}
-use Rattle.ed_words.specs.Texts.{Text}
-use Rattle.ed_machine.specs.State.{State}
-use Rattle.ed_machine.specs.Steps.{state_after}
-use Rattle.ed_machine.specs.declared.ending.Ending.TheVariants.{Limit}
-use Rattle.ed_run.specs.Laws.{AllWent}
-use Rattle.ed_run.specs.declared.settings.Settings.{Settings}
+use Rattle.ed_answers.proofs.Kit.{Limit, Settings, State, state_after, AllWent, true≢false, Tape1Cause, codes, Text}
+use Rattle.ed_answers.proofs.Kit.{[], ap, arith, inr, List, None, Option, refl, Some, subst, sym, true, ℕ, ◌<◌, ◌∙◌}
+use Rattle.ed_answers.proofs.Kit.{◌∷◌, ◌≡◌, first_state1, tape1_outcome, paper_room, ran_outcome}
+use Rattle.ed_initial1.proofs.Kit.{is_broken1, Begun1, Item1}
 use Rattle.ed_run.proofs.Quiet.{limit_there, no_tape_there}
-use Rattle.ed_initial1.specs.declared.cause.Tape1Cause.{Tape1Cause}
-use Rattle.ed_initial1.specs.declared.cause.Tape1Cause.TheVariants.{EndOfTape}
-use Rattle.ed_initial1.specs.Items.{Begun1, Item1}
-use Rattle.ed_initial1.specs.Faults.{IsRead1, is_broken1}
+use Rattle.ed_initial1.specs.Faults.{IsRead1}
 use Rattle.ed_initial1.specs.Waits.{AwaitsRow1, orders_before1, waiting_place1}
+use Rattle.ed_initial1.specs.declared.cause.Tape1Cause.TheVariants.{EndOfTape}
 use Rattle.ed_initial1.proofs.Awaited.{needs_row, waits, waits_at}
 use Rattle.ed_report.specs.Notes.{at_after}
 use Rattle.ed_answers.specs.FirstFaults.{EachFaultyTapeWaits1, silent_outcome}
-use Rattle.ed_answers.specs.FirstOrders.{first_state1, tape1_outcome}
 use Rattle.ed_answers.specs.Outcome.{line}
-use Rattle.ed_answers.specs.Runs.{paper_room, ran_outcome}
 use Rattle.ed_answers.proofs.FirstEntries.{first_store, starts}
 
 -- where a tape must not end, it ends

@@ -1,32 +1,16 @@
 -- The run of an accepted source's tape is the run from the state at its entry.
-use Rattle.std.proofs.Common.{◌≡◌, ◌∙◌, ℕ, ◌-◌, ◌<◌, ◌≤◌, ◌++◌, Bool, refl, sym, ap, subst, arith, List, []}
-use Rattle.std.specs.Prelude.{if◌then◌else◌, Result, Ok, Err, IfOk}
-use Rattle.ed_words.specs.declared.memory.NoMemory.{NoMemory}
-use Rattle.ed_machine.specs.State.{State}
-use Rattle.ed_machine.specs.Steps.{least, progress, state_after}
-use Rattle.ed_printer.specs.Paper.{paper}
-use Rattle.ed_run.specs.Run.{RunEnd, run_end}
-use Rattle.ed_run.specs.Laws.{AllWent}
-use Rattle.ed_run.proofs.Later.{ran_later}
-use Rattle.ed_syntax.specs.declared.program.Line.{Line}
-use Rattle.ed_link.specs.Answers.{IsLinked}
-use Rattle.ed_link.specs.Linked.{entry_of}
-use Rattle.ed_link.specs.Tapes.{cost, tape}
-use Rattle.ed_link.specs.declared.linked.Linked.{Linked}
-use Rattle.ed_answers.specs.EntryState.{Enters, entry_state, entry_store}
-use Rattle.ed_answers.specs.EntryWords.{IsEntryStore}
-use Rattle.ed_answers.proofs.Entries.{enters as enters_of}
-use Rattle.ed_report.specs.Notes.{entry_note}
-use Rattle.ed_words.specs.Texts.{Text}
-use Rattle.ed_words.proofs.Numbers.{le_true}
-use Rattle.ed_run.specs.declared.settings.Settings.{Settings}
-use Rattle.ed_initial.specs.Entry.{first_state}
-use Rattle.ed_answers.specs.Runs.{paper_room, post_mortem_codes, ran_outcome, run_of, with_post_mortem}
-use Rattle.ed_answers.specs.Sources.{entered_before}
-use Rattle.ed_answers.specs.Headline.{RunsFromEntry}
+use Rattle.ed_answers.proofs.Kit.{NoMemory, paper, least, RunEnd, Settings, State, progress, state_after, AllWent}
+use Rattle.ed_answers.proofs.Kit.{run_end, ran_later, first_state, Line, Err, IfOk, Ok, Result, Text, entry_of, cost}
+use Rattle.ed_answers.proofs.Kit.{tape, Linked, [], ap, arith, Bool, if◌then◌else◌, List, refl, subst, sym, ℕ, ◌++◌}
+use Rattle.ed_answers.proofs.Kit.{◌-◌, ◌<◌, ◌∙◌, ◌≡◌, ◌≤◌, IsLinked, entry_note, Enters, entry_state, entry_store}
+use Rattle.ed_answers.proofs.Kit.{IsEntryStore, paper_room, post_mortem_codes, ran_outcome, run_of, with_post_mortem}
+use Rattle.ed_answers.proofs.Kit.{entered_before}
+use Rattle.std.proofs.lemmas.Bool.{le-leb}
 use Rattle.ed_answers.specs.FromEntry.{AnswersFromEntry}
-use Rattle.ed_answers.specs.Replies.{IsRan}
+use Rattle.ed_answers.specs.Headline.{RunsFromEntry}
+use Rattle.ed_answers.specs.Replies.{IsRunResult}
 use Rattle.ed_answers.specs.declared.running.FinishedRun.{FinishedRun}
+use Rattle.ed_answers.proofs.Entries.{enters as enters_of}
 use Rattle.ed_answers.proofs.Keeping.{run_follows}
 
 -- ---- from the entry
@@ -34,16 +18,17 @@ use Rattle.ed_answers.proofs.Keeping.{run_follows}
 reached : (lines : List Line) (s : State) → cost lines ≤ s.orders
     → entered_before lines s ≡ entry_note (entry_of lines) (cost lines)
 reached lines s h =
-    ap (λ (b : Bool). if b then entry_note (entry_of lines) (cost lines) else []) (le_true (cost lines) s.orders h)
+    ap (λ (b : Bool). if b then entry_note (entry_of lines) (cost lines) else []) (le-leb (cost lines) s.orders h)
 
 -- a run with no order prints nothing
-none_first : (resumes room : ℕ) (s : State) → (run_end 0 resumes room s).codes ≡ []
+pub none_first : (resumes room : ℕ) (s : State) → (run_end 0 resumes room s).codes ≡ []
 unfolding run_end progress least
 none_first resumes room s = refl
 
 -- nor does one whose limit is below the number of orders that neither print nor stop
-pub silent : (limit resumes room k : ℕ) (s : State) → AllWent k s → limit < k → (run_end limit resumes room s).codes ≡ []
-silent limit resumes room k s went below =
+pub run_end-silent : (limit resumes room k : ℕ) (s : State) → AllWent k s → limit < k
+    → (run_end limit resumes room s).codes ≡ []
+run_end-silent limit resumes room k s went below =
     let zero : limit - limit ≡ 0 = omega arith in
     let later : run_end limit resumes room s ≡ run_end (limit - limit) resumes room (state_after limit s) =
     ran_later limit resumes room limit s (λ j l. went j (omega (arith, l, below))) (omega arith) in
@@ -60,17 +45,18 @@ run_on s lines enters fits =
 -- so the run of a machine that was led to the entry of a linked program only has to continue
 pub goes_on : (s : Settings) (k : Linked) (entered : State) (r : Result FinishedRun NoMemory) → entered.orders ≤ s.limit
     → ((lines : List Line) → IsLinked s.size lines k → entered ≡ entry_state s.size lines)
-    → IfOk r (IsRan (run_end (s.limit - entered.orders) s.resumes paper_room entered))
-    → IfOk r (λ run. (lines : List Line) → IsLinked s.size lines k → IsRan (run_of s (tape lines)) run)
+    → IfOk r (IsRunResult (run_end (s.limit - entered.orders) s.resumes paper_room entered))
+    → IfOk r (λ run. (lines : List Line) → IsLinked s.size lines k → IsRunResult (run_of s (tape lines)) run)
 goes_on s k entered (Err e) fits at is = tt
 goes_on s k entered (Ok left) fits at is = λ lines linked.
-    let whole : entered.orders ≤ s.limit → IsRan (run_end (s.limit - entered.orders) s.resumes paper_room entered) left
-    → IsRan (run_of s (tape lines)) left =
+    let whole : entered.orders ≤ s.limit → IsRunResult (run_end (s.limit - entered.orders) s.resumes
+    paper_room entered) left
+    → IsRunResult (run_of s (tape lines)) left =
     subst
-    (λ (t : State). t.orders ≤ s.limit → IsRan (run_end (s.limit - t.orders) s.resumes paper_room t) left
-    → IsRan (run_of s (tape lines)) left)
+    (λ (t : State). t.orders ≤ s.limit → IsRunResult (run_end (s.limit - t.orders) s.resumes paper_room t) left
+    → IsRunResult (run_of s (tape lines)) left)
     (sym (at lines linked))
-    (λ few went. subst (λ (e : RunEnd). IsRan e left)
+    (λ few went. subst (λ (e : RunEnd). IsRunResult e left)
     (sym (run_on s lines (enters_of s.size lines linked.loads) few)) went) in
     whole fits is
 
@@ -81,7 +67,7 @@ runs_from_entry s lines enters store_is = record {
   store_is = store_is;
   enters = enters;
   runs = run_on s lines enters;
-  short = silent s.limit s.resumes paper_room (cost lines) (first_state s.size (tape lines)) enters.went;
+  short = run_end-silent s.limit s.resumes paper_room (cost lines) (first_state s.size (tape lines)) enters.went;
 }
 
 -- ---- what `run` answers
@@ -98,6 +84,7 @@ answers_from_entry s lines enters = record {
       ∙ ap (λ (before : Text). ran_outcome before (with_post_mortem s.post_mortem from))
       (reached lines from.state kept);
   short = λ below.
-      let none = silent s.limit s.resumes paper_room (cost lines) (first_state s.size (tape lines)) enters.went below in
+      let none = run_end-silent s.limit s.resumes paper_room (cost lines)
+      (first_state s.size (tape lines)) enters.went below in
       ap (λ codes. paper (codes ++ post_mortem_codes s.post_mortem (run_of s (tape lines)).state)) none;
 }

@@ -1,15 +1,9 @@
 -- What a run keeps: the size of a machine, and a bound on the count of its orders. So a post-mortem can be printed.
-use Rattle.std.proofs.Common.{◌≡◌, ◌∙◌, ℕ, ◌+◌, ◌≤◌, ap, arith, sym, subst, List, Option, Some, None}
-use Rattle.std.specs.Prelude.{IfSome}
-use Rattle.ed_words.specs.declared.size.Size.{Size}
-use Rattle.ed_machine.specs.State.{State}
+use Rattle.ed_answers.proofs.Kit.{Size, least_below, Settings, Window, State, run_end, run_orders, first_state, ap}
+use Rattle.ed_answers.proofs.Kit.{arith, List, None, Option, Some, subst, sym, ℕ, ◌+◌, ◌∙◌, ◌≡◌, ◌≤◌}
+use Rattle.std.proofs.Common.{IfSome}
 use Rattle.ed_machine.proofs.Keeping.{Follows, steps_follow}
-use Rattle.ed_machine.proofs.LeastNumbers.{least_below}
-use Rattle.ed_run.specs.Run.{run_end, run_orders}
 use Rattle.ed_run.specs.SettingRanges.{AreSettingsInRange, IsWindowOf}
-use Rattle.ed_run.specs.declared.settings.Settings.{Settings}
-use Rattle.ed_run.specs.declared.settings.Window.{Window}
-use Rattle.ed_initial.specs.Entry.{first_state}
 use Rattle.ed_answers.specs.Replies.{IsPrintableIn}
 
 pub run_follows : (limit resumes room : ℕ) (s : State) → Follows limit s (run_end limit resumes room s).state
@@ -44,7 +38,7 @@ printable_in m z None size orders is = tt
 printable_in m z (Some w) size orders is =
     (subst (λ (y : Size). IsWindowOf y w) (sym size) is, omega (arith, orders))
 
-pub printable : (s : Settings) (m : State) → AreSettingsInRange s → m.size ≡ s.size → m.orders ≤ s.limit
+pub is_fitting-printable : (s : Settings) (m : State) → AreSettingsInRange s → m.size ≡ s.size → m.orders ≤ s.limit
     → IfSome s.post_mortem (IsPrintableIn m)
-printable s m ranges size orders =
+is_fitting-printable s m ranges size orders =
     printable_in m s.size s.post_mortem size (omega (arith, orders, ranges.limit.1)) ranges.window

@@ -2,7 +2,7 @@ pub mod EachSource
 pub mod Entries
 pub mod EntryWords
 pub mod FaultExamples
-pub mod OneAnswers
+pub mod AnswerExamples
 pub mod PunchedTexts
 pub mod Replies
 pub mod Checks
@@ -17,3 +17,4 @@ pub mod BothSizes
 pub mod PunchedTapes
 pub mod Listed
 pub mod OneOutcome
+pub mod Kit

@@ -1,44 +1,30 @@
 -- A run with a greater limit: the same if it ended before its limit, else one that continues.
-use Rattle.std.proofs.Common.{◌≡◌, ◌≢◌, ◌∙◌, ℕ, ◌+◌, ◌-◌, ◌≤◌, refl, sym, ap, arith}
-use Rattle.std.proofs.Common.{Bool, true, false, true≢false, nat_eq, nat_lt, nat_le, Option, Some, None, inl, inr}
-use Rattle.std.proofs.Common.{List, [], ◌∷◌, ◌++◌, length, append_assoc, append-nil}
-use Rattle.std.specs.Prelude.{if◌then◌else◌}
-use Rattle.std.proofs.lemmas.Bool.{cases_lt}
-use Rattle.std.proofs.lemmas.Bool.Decides.{nat_tests}
-use Rattle.std.proofs.lemmas.Option.{none-some, same_Some}
-use Rattle.ed_words.specs.Texts.{Text}
-use Rattle.ed_words.proofs.Numbers.{eq_false}
-use Rattle.ed_machine.specs.State.{State}
-use Rattle.ed_machine.specs.OrderTable.{step}
-use Rattle.ed_machine.specs.Steps.{Progress, progress, state_after}
-use Rattle.ed_machine.specs.declared.turn.Turn.{Turn}
-use Rattle.ed_machine.specs.declared.turn.Turn.TheVariants.{Went, Printed, Stopped as Stops}
-use Rattle.ed_machine.specs.declared.turn.Turn.TheVariants.{NoOrder as IsNoOrder, NoTape as HasNoTape}
-use Rattle.ed_machine.specs.declared.ending.Ending.{Ending}
-use Rattle.ed_machine.specs.declared.ending.Ending.TheVariants.{Stopped, Limit, NoOrder, NoTape, PaperFull}
-use Rattle.ed_machine.proofs.LeastNumbers.{least_below}
-use Rattle.ed_machine.proofs.Steps.{past_sum}
-use Rattle.ed_run.specs.Run.{EndsAfter, RunEnd, end_at, end_by, run_end, run_orders}
-use Rattle.ed_run.proofs.Ends.{ends_once, ran_ends}
-use Rattle.ed_printer.specs.Paper.{paper, paper_from, shift_after, struck_bytes}
+use Rattle.ed_answers.proofs.Kit.{paper, Ending, Limit, NoOrder, NoTape, PaperFull, Stopped, least_below, RunEnd}
+use Rattle.ed_answers.proofs.Kit.{Window, ran_ends, step, State, progress, Progress, state_after, end_at, end_by}
+use Rattle.ed_answers.proofs.Kit.{EndsAfter, run_end, run_orders, true≢false, ◌≢◌, first_state, Line, Text, tape, []}
+use Rattle.ed_answers.proofs.Kit.{ap, append-nil, append_assoc, arith, Bool, false, if◌then◌else◌, length, List}
+use Rattle.ed_answers.proofs.Kit.{nat_eq, nat_le, nat_lt, None, Option, refl, Some, sym, true, ℕ, ◌++◌, ◌+◌, ◌-◌, ◌<◌}
+use Rattle.ed_answers.proofs.Kit.{◌∙◌, ◌∷◌, ◌≡◌, ◌≤◌, nat_tests, first_state1, tape1_outcome, Outcome, paper_room}
+use Rattle.ed_answers.proofs.Kit.{post_mortem_codes, ran_outcome, status_of, with_post_mortem, entered_before}
+use Rattle.ed_answers.proofs.Kit.{run_outcome, tape_outcome}
+use Rattle.ed_link.proofs.Kit.{is_some, ne_eqb, same_Some}
+use Rattle.std.proofs.lemmas.Option.{none-some}
+use Rattle.ed_printer.specs.Paper.{paper_from, shift_after, struck_bytes}
 use Rattle.ed_printer.specs.declared.printer.Shift.{Shift}
 use Rattle.ed_printer.specs.declared.printer.Shift.TheVariants.{Letters}
-use Rattle.ed_run.specs.declared.settings.Window.{Window}
-use Rattle.ed_initial.specs.Entry.{first_state}
-use Rattle.ed_syntax.specs.declared.program.Line.{Line}
-use Rattle.ed_link.specs.Tapes.{tape}
-use Rattle.ed_answers.specs.Outcome.{Outcome}
-use Rattle.ed_answers.specs.FirstOrders.{first_state1, tape1_outcome}
-use Rattle.ed_answers.specs.Tapes.{tape_outcome}
-use Rattle.ed_answers.specs.Runs.{paper_room, post_mortem_codes, ran_outcome, status_of, with_post_mortem}
-use Rattle.ed_answers.specs.Sources.{entered_before, run_outcome}
+use Rattle.ed_machine.specs.declared.turn.Turn.{Turn}
+use Rattle.ed_machine.specs.declared.turn.Turn.TheVariants.{Went, Printed, Stopped as Stops, NoOrder as IsNoOrder}
+use Rattle.ed_machine.specs.declared.turn.Turn.TheVariants.{NoTape as HasNoTape}
+use Rattle.ed_machine.proofs.LeastNumbers.{first_within}
+use Rattle.ed_machine.proofs.Steps.{past_sum}
+use Rattle.ed_run.proofs.Ends.{ran_is}
 use Rattle.ed_answers.specs.Limits.{EachLimit, KeepsLimits, StartsWith}
 
 -- ---- ends
 
 -- at a number below both limits they make no difference
 no_limit : (low high k : ℕ) → low ≤ high → k ≤ low → nat_eq k low ≡ false → nat_eq k high ≡ false
-no_limit low high k l below other = eq_false k high (grind (arith, nat_tests))
+no_limit low high k l below other = ne_eqb k high (grind (arith, nat_tests))
 
 -- an end before the limit is the end with a greater limit too
 end_stands : (low high resumes room k : ℕ) (p : Progress) (e : Ending) → low ≤ high → k ≤ low → e ≢ Limit
@@ -86,8 +72,7 @@ longer low high resumes room s l other =
       now = end_stands low high resumes room k (progress k s) _ l few other ends.now;
       first = λ j h. none_stands low high resumes room j (progress j s) l (omega (arith, h, few)) (ends.first j h);
     } in
-    let one = ends_once (ran_ends high resumes room s) stands in
-    λ i. record { ending = one.1 i; state = (progress (one.0 i) s).state; codes = (progress (one.0 i) s).codes }
+    ran_is high resumes room k s _ stands
 
 -- ---- a run that is cut off
 
@@ -121,14 +106,9 @@ no_sooner low high resumes room s l is =
     let m = run_orders high resumes room s in
     let high_ends = ran_ends high resumes room s in
     let at : run_orders low resumes room s ≡ low = at_limit low resumes room _ _ (ends.now ∙ ap Some is) in
-    let late : low ≤ m = elim (cases_lt m low) [
-      | inl h ↦
-          absurd (none-some _
-          (sym (none_stands low high resumes room m (progress m s) l (omega (arith, h))
-          (ends.first m (omega (arith, h, at)))) ∙ high_ends.now))
-      | inr h ↦ h
-    ] in
-    (at, late)
+    let on = λ (j : ℕ) (h : j < low). none_stands low high resumes room j (progress j s) l (omega (arith, h))
+    (ends.first j (omega (arith, h, at))) in
+    (at, first_within low m on (ap is_some high_ends.now))
 
 cut : (low high resumes room : ℕ) (s : State) → low ≤ high → (run_end low resumes room s).ending ≡ Limit
     → StartsWith (run_end high resumes room s).codes (run_end low resumes room s).codes

@@ -1,29 +1,15 @@
 -- What `listing` shows is what the store holds at the entry.
-use Rattle.std.proofs.Common.{◌≡◌, ◌∙◌, ℕ, ◌-◌, sym, ap, arith, refl, []}
-use Rattle.std.specs.Prelude.{Some}
-use Rattle.ed_machine.specs.State.{State}
-use Rattle.ed_machine.specs.Steps.{least, progress}
-use Rattle.ed_run.specs.Run.{RunEnd, run_end}
-use Rattle.ed_run.specs.declared.settings.Settings.{Settings}
-use Rattle.ed_link.specs.Linked.{entry_of}
-use Rattle.ed_link.specs.Tapes.{cost}
-use Rattle.ed_answers.specs.EntryState.{entry_state}
-use Rattle.ed_report.specs.Listings.{listing}
-use Rattle.ed_report.specs.Notes.{entry_note}
-use Rattle.ed_answers.specs.Outcome.{Outcome}
-use Rattle.ed_answers.specs.Runs.{paper_room, ran_outcome, with_post_mortem}
-use Rattle.ed_link.specs.Words.{linked_places}
+use Rattle.ed_answers.proofs.Kit.{least, RunEnd, Settings, State, progress, run_end, entry_of, cost, ap, arith, refl}
+use Rattle.ed_answers.proofs.Kit.{Some, sym, ℕ, ◌-◌, ◌∙◌, ◌≡◌, linked_places, listing, entry_note, entry_state}
+use Rattle.ed_answers.proofs.Kit.{Outcome, paper_room, ran_outcome, with_post_mortem}
 use Rattle.ed_answers.specs.Listed.{EachListedIsLoaded, up_to_entry}
+use Rattle.ed_answers.proofs.FromEntry.{none_first}
 use Rattle.ed_answers.proofs.Sources.{each_answer_is_from_entry}
 
 -- a run of no order leaves the state unchanged
 no_order : (resumes room : ℕ) (s : State) → (run_end 0 resumes room s).state ≡ s
 unfolding run_end progress least
 no_order resumes room s = refl
-
-no_code : (resumes room : ℕ) (s : State) → (run_end 0 resumes room s).codes ≡ []
-unfolding run_end progress least
-no_code resumes room s = refl
 
 pub each_listed_is_loaded : EachListedIsLoaded
 each_listed_is_loaded s source lines accepted =
@@ -41,6 +27,6 @@ each_listed_is_loaded s source lines accepted =
           ∙ (λ i. (ran_outcome (entry_note (entry_of lines) (cost lines)) (with_post_mortem (Some w) (record {
             ending = (run_end 0 s.resumes paper_room (entry_state s.size lines)).ending;
             state = no_order s.resumes paper_room (entry_state s.size lines) i;
-            codes = no_code s.resumes paper_room (entry_state s.size lines) i;
+            codes = none_first s.resumes paper_room (entry_state s.size lines) i;
           }))).out);
     }

@@ -1,13 +1,10 @@
 -- Each answer to a text gives it one outcome.
-use Rattle.std.proofs.Common.{◌≡◌, ◌∙◌, ◌⊎◌, ◌≤◌, ◌<◌, ℕ, List, inl, inr, refl, sym, arith, length}
-use Rattle.ed_words.specs.declared.size.Size.{Size}
-use Rattle.ed_words.specs.Texts.{Text}
-use Rattle.ed_codes.specs.Reading.{Reading, rows, no_row, open_comment, reading}
-use Rattle.ed_syntax.specs.declared.program.Line.{Line}
+use Rattle.ed_answers.proofs.Kit.{Size, no_row, open_comment, Reading, Line, Text, arith, inl, inr, length, List, refl}
+use Rattle.ed_answers.proofs.Kit.{sym, ℕ, ◌<◌, ◌∙◌, ◌≡◌, ◌≤◌, ◌⊎◌, reading, rows, of_rows, OfReading, Outcome}
+use Rattle.ed_answers.proofs.Kit.{of_source, OfSource}
+use Rattle.ed_answers.specs.Answer.{HasOneOutcome, WithinLimit, known, of_made}
+use Rattle.ed_answers.specs.Outcome.{too_long_outcome}
 use Rattle.ed_answers.specs.declared.input.TheConstants.{INPUT_BYTES}
-use Rattle.ed_answers.specs.Answer.{HasOneOutcome, OfReading, WithinLimit, exactly, known, of_input, of_made, of_rows}
-use Rattle.ed_answers.specs.Outcome.{Outcome, too_long_outcome}
-use Rattle.ed_answers.specs.Sources.{OfSource, of_source}
 use Rattle.ed_answers.proofs.Replies.{HasOne, text_outcome}
 use Rattle.ed_answers.proofs.Sources.{some_outcome, source_outcome}
 
@@ -54,13 +51,6 @@ rows_once answers one = record {
 }
 
 -- ---- a source
-
--- if a function of the input gives the outcome
-pub input_once : (f : Text → Outcome) → HasOneOutcome (of_input (exactly f))
-input_once f = record {
-  some = λ input. some_within (exactly f) input (f input) refl;
-  once = λ input o other. within_once (exactly f) input o other (λ p q. sym p ∙ q);
-}
 
 pub source_once : (z : Size) (accepted : List Line → Outcome) → HasOneOutcome (of_source z accepted)
 source_once z accepted = record {

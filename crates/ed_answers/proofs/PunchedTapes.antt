@@ -1,11 +1,8 @@
 -- What `punch` writes is the tape that `run` runs.
-use Rattle.std.proofs.Common.{ℕ, inl, refl}
-use Rattle.std.specs.Prelude.{replicate}
-use Rattle.std.proofs.lemmas.List.{length-replicate}
-use Rattle.ed_link.specs.Tapes.{arrival}
+use Rattle.ed_answers.proofs.Kit.{arrival, inl, refl, replicate, ℕ, length-replicate}
+use Rattle.ed_answers.specs.PunchedTapes.{EachPunchedIsRun}
 use Rattle.ed_answers.proofs.EachSource.{each_source as comes_to}
 use Rattle.ed_answers.proofs.PunchedTexts.{text_is_tape}
-use Rattle.ed_answers.specs.PunchedTapes.{EachPunchedIsRun}
 
 pub each_punched_is_run : EachPunchedIsRun
 each_punched_is_run s source lines accepted =

@@ -1,35 +1,22 @@
 -- The text of an accepted source's tape is read as its tape.
-use Rattle.std.proofs.Common.{◌≡◌, ◌∙◌, ℕ, refl, ap, sym, Bool, true, nat_lt}
-use Rattle.std.proofs.Common.{Option, Some, List, [], ◌∷◌, ◌++◌}
-use Rattle.std.specs.Prelude.{replicate}
-use Rattle.std.specs.List.{list_all}
-use Rattle.std.proofs.lemmas.Bool.{and_parts}
-use Rattle.std.proofs.lemmas.List.{length-replicate}
-use Rattle.ed_words.specs.declared.size.Size.{Size}
-use Rattle.ed_words.specs.Texts.{Text}
-use Rattle.ed_codes.specs.Reading.{reading, rows}
-use Rattle.ed_codes.specs.Text.{Spells, none}
-use Rattle.ed_notation.specs.Spellings.{canonicals, text_of}
+use Rattle.ed_answers.proofs.Kit.{Size, text_of, is_two, Line, program_formed, Text, lines_of, program_is_read, tape}
+use Rattle.ed_answers.proofs.Kit.{[], ap, Bool, List, nat_lt, Option, refl, replicate, Some, sym, true, ℕ, ◌++◌, ◌∙◌}
+use Rattle.ed_answers.proofs.Kit.{◌∷◌, ◌≡◌, list_all, length-replicate, reading, rows, canonicals, data_after}
+use Rattle.ed_answers.proofs.Kit.{after_text, IsAcceptedAs}
+use Rattle.ed_link.proofs.Kit.{and_parts, Spells, all_rows_are, is_line, punched_items}
+use Rattle.ed_codes.specs.Text.{none}
 use Rattle.ed_notation.proofs.Canonical.{are_written}
 use Rattle.ed_notation.proofs.Texts.{are_codes, line_spells, text_reads}
-use Rattle.ed_syntax.specs.Lines.{lines_of}
-use Rattle.ed_syntax.specs.Reading.Sources.{is_two}
-use Rattle.ed_syntax.specs.Programs.{is_line, is_statement}
-use Rattle.ed_syntax.specs.declared.program.Line.{Line}
+use Rattle.ed_syntax.specs.Programs.{is_statement}
 use Rattle.ed_syntax.specs.declared.program.Statement.{Statement}
 use Rattle.ed_syntax.specs.declared.program.Statement.TheVariants.{Rows}
-use Rattle.ed_syntax.proofs.Formed.{program_formed}
 use Rattle.ed_syntax.proofs.RunTests.{each_append}
-use Rattle.ed_syntax.proofs.SourceLaws.{program_is_read}
-use Rattle.ed_link.specs.Linked.{data_after, data_rows}
-use Rattle.ed_notation.proofs.ItemRows.{all_rows_are}
-use Rattle.ed_link.specs.Punch.{punched_items}
-use Rattle.ed_answers.specs.Refusals.{IsAcceptedAs}
-use Rattle.ed_link.specs.Tapes.{after_text, punched_rows, tape}
+use Rattle.ed_link.specs.Linked.{data_rows}
+use Rattle.ed_link.specs.Tapes.{punched_rows}
 use Rattle.ed_link.proofs.Accepted.{can_be_spelled}
-use Rattle.ed_answers.proofs.EachSource.{accepted_is_read, tables}
 use Rattle.ed_link.proofs.Inductions.{formed_statement}
 use Rattle.ed_link.proofs.Texts.{both_read}
+use Rattle.ed_answers.proofs.EachSource.{accepted_is_read, list_all-tables}
 
 -- ---- the rows after the items
 
@@ -60,7 +47,7 @@ text_is_tape z source lines a =
     let two = is_two (lines_of source) in
     let formed = (program_formed two (lines_of source) lines (program_is_read source a.two lines a.says)).formed in
     let spellable =
-    can_be_spelled tables z two lines (accepted_is_read z source lines a) formed (replicate 1024 0)
+    can_be_spelled list_all-tables z two lines (accepted_is_read z source lines a) formed (replicate 1024 0)
     (length-replicate {A = ℕ} 1024 0) in
     both_read (text_of (canonicals (punched_items lines))) (after_text (data_after lines)) (punched_rows lines)
     (data_after lines)

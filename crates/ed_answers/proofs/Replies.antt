@@ -1,16 +1,11 @@
 -- From what a command gives to the outcome of a tape's text.
-use Rattle.std.proofs.Common.{◌≡◌, ◌∙◌, ℕ, List, refl, sym, subst}
-use Rattle.std.specs.Prelude.{Result, Ok, Err, IsErr, IsErrAnd}
-use Rattle.ed_codes.specs.Reading.{Reading, rows, no_row, open_comment, reading}
+use Rattle.ed_answers.proofs.Kit.{IsErr, IsErrAnd, no_row, open_comment, Reading, Err, Ok, Result, Text, List, refl}
+use Rattle.ed_answers.proofs.Kit.{subst, sym, ℕ, ◌∙◌, ◌≡◌, reading, rows, exactly, of_rows, OfReading, Outcome}
+use Rattle.ed_answers.proofs.Kit.{refusal, Gives, Replies, Rejection, Reply}
 use Rattle.ed_codes.specs.declared.tape.TextFault.TheVariants.{NoRow, OpenComment}
 use Rattle.ed_report.specs.Notes.{text_fault_line}
-use Rattle.ed_words.specs.Texts.{Text}
-use Rattle.ed_answers.specs.Outcome.{Outcome, refusal}
-use Rattle.ed_answers.specs.Answer.{of_rows, exactly, OfReading}
-use Rattle.ed_answers.specs.Replies.{Gives, RefusesText, Replies}
-use Rattle.ed_answers.specs.declared.reply.Rejection.{Rejection}
+use Rattle.ed_answers.specs.Replies.{RefusesText}
 use Rattle.ed_answers.specs.declared.reply.Rejection.TheVariants.{Memory, Refused}
-use Rattle.ed_answers.specs.declared.reply.Reply.{Reply}
 
 -- every list of rows has an outcome, and only one
 pub record HasOne (answers : List ℕ → Outcome → Type 0) : Type 0 where
@@ -50,16 +45,16 @@ exactly_replied f input codes reply is gives =
     (f codes, at_reading (exactly f) (reading input) codes (f codes) is refl, gives)
 
 -- the refusal of a text is the reply to it
-refused_at : (answers : List ℕ → Outcome → Type 0) (q : Reading) (reply : Reply) → RefusesText q (Refused reply)
+pub refused_at : (answers : List ℕ → Outcome → Type 0) (q : Reading) (reply : Reply) → RefusesText q (Refused reply)
     → (o : Outcome) × OfReading answers q o × Gives reply o
 refused_at answers (rows codes) reply r = absurd r
 refused_at answers (no_row place byte) reply r = (refusal (text_fault_line (NoRow place byte)), refl, r)
 refused_at answers (open_comment place) reply r = (refusal (text_fault_line (OpenComment place)), refl, r)
 
-pub rejected : (answers : List ℕ → Outcome → Type 0) (input : Text) (e : Rejection) → HasOne answers
+pub Replies-rejected : (answers : List ℕ → Outcome → Type 0) (input : Text) (e : Rejection) → HasOne answers
     → RefusesText (reading input) e → Replies (of_rows answers) input (Err e)
-rejected answers input (Refused reply) one refuses = refused_at answers (reading input) reply refuses
-rejected answers input Memory one refuses = text_outcome answers one (reading input)
+Replies-rejected answers input (Refused reply) one refuses = refused_at answers (reading input) reply refuses
+Replies-rejected answers input Memory one refuses = text_outcome answers one (reading input)
 
 -- a rejection passed on by `?` is the reply to a text
 pub refusal_replied : (answers : List ℕ → Outcome → Type 0) (input : Text) (r : Result Reply Rejection) (e : Rejection)
@@ -67,7 +62,7 @@ pub refusal_replied : (answers : List ℕ → Outcome → Type 0) (input : Text)
     → Replies (of_rows answers) input r
 refusal_replied answers input (Ok reply) e one refuses handed = absurd (cc)
 refusal_replied answers input (Err handed) e one refuses is =
-    rejected answers input handed one (subst (RefusesText (reading input)) (sym is.1) refuses)
+    Replies-rejected answers input handed one (subst (RefusesText (reading input)) (sym is.1) refuses)
 
 -- if no memory is found, there is an outcome all the same
 pub none_replied : (answers : List ℕ → Outcome → Type 0) (input : Text) (r : Result Reply Rejection) → HasOne answers

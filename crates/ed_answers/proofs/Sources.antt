@@ -1,46 +1,23 @@
 -- From what is made of a source to the outcome of an input.
-use Rattle.std.proofs.Common.{◌≡◌, inl, inr, ◌∙◌, ℕ, Bool, refl, sym, ap, subst}
-use Rattle.std.proofs.Common.{Option, None, List, [], ◌++◌, append-nil, map}
-use Rattle.std.specs.Prelude.{Result, Ok, Err, IfErr, IfOk, IsErr, IsErrAnd, MatchResult}
-use Rattle.std.proofs.lemmas.Result.{err_from_is_err_and}
-use Rattle.ed_words.specs.declared.size.Size.{Size}
-use Rattle.ed_words.specs.declared.memory.NoMemory.{NoMemory}
-use Rattle.ed_machine.specs.State.{State}
-use Rattle.ed_notation.specs.Spellings.{canonicals, text_of}
-use Rattle.ed_machine.specs.declared.ending.Ending.{Ending}
-use Rattle.ed_run.specs.Run.{RunEnd}
-use Rattle.ed_printer.specs.Paper.{paper}
-use Rattle.ed_syntax.specs.declared.program.Line.{Line}
-use Rattle.ed_syntax.specs.declared.fault.SourceCause.{SourceCause}
-use Rattle.ed_syntax.specs.declared.fault.SourceFault.{SourceFault}
-use Rattle.ed_syntax.specs.declared.fault.SourceFault.TheVariants.{At, Memory}
-use Rattle.ed_syntax.specs.Sources.{HasFormFault, IsProgram}
-use Rattle.ed_link.specs.Answers.{HasMeaningFault, IsLinked}
-use Rattle.ed_answers.specs.Refusals.{IsAcceptedAs, IsAcceptedOrRefused, IsRefused, for_form, for_meaning}
+use Rattle.ed_answers.proofs.Kit.{IsErr, IsErrAnd, NoMemory, Size, paper, Ending, RunEnd, Settings, Window, State}
+use Rattle.ed_answers.proofs.Kit.{text_of, HasFormFault, SourceCause, SourceFault, At, Memory, Line, Err, IfErr, IfOk}
+use Rattle.ed_answers.proofs.Kit.{Ok, Result, Text, IsProgram, HasMeaningFault, tape, Linked, Placed, [], ap}
+use Rattle.ed_answers.proofs.Kit.{append-nil, Bool, inl, inr, List, map, None, Option, refl, subst, sym, ℕ, ◌++◌, ◌∙◌}
+use Rattle.ed_answers.proofs.Kit.{◌≡◌, canonicals, IsLinked, after_text, linked_places, listing, ending_line}
+use Rattle.ed_answers.proofs.Kit.{entry_state, entry_store, done, Outcome, refusal, for_form, for_meaning}
+use Rattle.ed_answers.proofs.Kit.{IsAcceptedAs, IsAcceptedOrRefused, IsRefused, Gives, Replies, post_mortem_codes}
+use Rattle.ed_answers.proofs.Kit.{ran_outcome, run_of, status_of, with_post_mortem, entered_before, listing_outcome}
+use Rattle.ed_answers.proofs.Kit.{of_source, OfSource, punch_outcome, run_outcome, Rejection, Reply}
+use Rattle.ed_report.specs.Notes.{source_fault_line}
+use Rattle.ed_answers.specs.FromEntry.{EachAnswerIsFromEntry}
+use Rattle.ed_answers.specs.Headline.{Headline}
+use Rattle.ed_answers.specs.Replies.{Refuses, LinksSource, RunsSource}
+use Rattle.ed_answers.specs.declared.source.NotedRun.{NotedRun}
 use Rattle.ed_answers.proofs.EachSource.{one_answer}
-use Rattle.ed_link.specs.Words.{linked_places}
-use Rattle.ed_link.specs.Tapes.{after_text, tape}
-use Rattle.ed_link.specs.declared.linked.Linked.{Linked}
-use Rattle.ed_link.specs.declared.linked.Placed.{Placed}
-use Rattle.ed_answers.specs.EntryState.{entry_state, entry_store}
 use Rattle.ed_answers.proofs.Entries.{each_source}
 use Rattle.ed_answers.proofs.EntryWords.{each_entry_store_is}
-use Rattle.ed_report.specs.Listings.{listing}
-use Rattle.ed_report.specs.Notes.{ending_line, source_fault_line}
-use Rattle.ed_words.specs.Texts.{Text}
-use Rattle.ed_run.specs.declared.settings.Settings.{Settings}
-use Rattle.ed_run.specs.declared.settings.Window.{Window}
-use Rattle.ed_answers.specs.Outcome.{Outcome, done, refusal}
-use Rattle.ed_answers.specs.Runs.{post_mortem_codes, ran_outcome, run_of, status_of, with_post_mortem}
-use Rattle.ed_answers.specs.Sources.{OfSource, entered_before, listing_outcome, of_source, punch_outcome, run_outcome}
-use Rattle.ed_answers.specs.Headline.{Headline}
-use Rattle.ed_answers.specs.FromEntry.{EachAnswerIsFromEntry}
-use Rattle.ed_answers.specs.Replies.{Refuses, Gives, LinksSource, Replies, RunsSource}
-use Rattle.ed_answers.specs.declared.reply.Rejection.{Rejection}
-use Rattle.ed_answers.specs.declared.reply.Rejection.TheVariants as rejection
-use Rattle.ed_answers.specs.declared.reply.Reply.{Reply}
-use Rattle.ed_answers.specs.declared.source.NotedRun.{NotedRun}
 use Rattle.ed_answers.proofs.FromEntry.{answers_from_entry, runs_from_entry}
+use Rattle.ed_answers.specs.declared.reply.Rejection.TheVariants as rejection
 
 -- ---- what is made of a source
 
@@ -108,21 +85,6 @@ refused : (z : Size) (text : Text) (f : SourceFault) (e : Rejection)
 refused z text f rejection.Memory is gives none = tt
 refused z text Memory (rejection.Refused reply) is gives none = absurd (never (none refl))
 refused z text (At line cause) (rejection.Refused reply) is gives none = (line, cause, is line cause refl, gives)
-
--- the linked program, or the rejection that was made of the fault
-pub linked_or_refused : (z : Size) (text : Text) (r : Result Linked SourceFault) (told : Result Linked Rejection)
-    (Q : SourceFault → Rejection → Type 0)
-    → IfOk r (λ k. (lines : List Line) × IsAcceptedAs z text lines × IsLinked z lines k)
-    → IfErr r (λ f. (line : ℕ) (cause : SourceCause) → f ≡ At line cause → IsRefused z text line cause)
-    → MatchResult r (λ k. told ≡ Ok k) (λ f. IsErrAnd told (Q f))
-    → ((f : SourceFault) (e : Rejection) → Q f e
-    → Refuses (source_fault_line f) e × (f ≡ Memory → e ≡ rejection.Memory))
-    → LinksSource z text told
-linked_or_refused z text (Ok k) told Q linked faulty is made = rw is linked
-linked_or_refused z text (Err f) told Q linked faulty is made =
-    let e = err_from_is_err_and told is in
-    let refuses = made f e.0 e.2 in
-    rw e.1 (refused z text f e.0 faulty refuses.0 refuses.1)
 
 -- ---- the outcome of an input
 

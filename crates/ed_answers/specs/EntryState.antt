@@ -17,7 +17,7 @@ use Rattle.ed_words.specs.declared.order_words.TheConstants.{A_F, E_F, T_F}
 use Rattle.ed_syntax.specs.declared.program.Line.{Line}
 use Rattle.ed_symbols.specs.Places.{first_counter}
 use Rattle.ed_link.specs.Linked.{linked_words, entry_of, theta_from, data_after}
-use Rattle.ed_link.specs.Tapes.{ComesToLinked, cost, punched_rows, tape}
+use Rattle.ed_link.specs.Tapes.{ReachesLinkedEntry, cost, punched_rows, tape}
 use Rattle.ed_answers.specs.Refusals.{IsAcceptedAs}
 
 -- the locations 0 to 43 at the entry: the Initial Orders as listed, and 0 after them, but for seven words, as they are
@@ -60,7 +60,7 @@ entry_state z lines = entered_state z lines (entry_store lines)
 -- for every source without a fault, reading its tape gives its linked program, from every store
 abbrev pub EachSourceComes : Type 0
 EachSourceComes =
-    (z : Size) (source : Text) (lines : List Line) → IsAcceptedAs z source lines → ComesToLinked z lines
+    (z : Size) (source : Text) (lines : List Line) → IsAcceptedAs z source lines → ReachesLinkedEntry z lines
 
 -- a cleared machine that is started on the punched tape reaches the state at the entry, with this store, after the stated cost, which is at most 17
 -- orders for each row of the punched items, and 9 more; none of these orders prints or stops, so nothing is printed

@@ -6,7 +6,7 @@ use Rattle.ed_run.specs.Run.{run_end}
 use Rattle.ed_run.specs.declared.settings.Settings.{Settings}
 use Rattle.ed_initial1.specs.Checks.{report1}
 use Rattle.ed_initial1.specs.Entry.{at_entry1}
-use Rattle.ed_initial1.specs.Faults.{Tape, Comes1}
+use Rattle.ed_initial1.specs.Faults.{Tape, ReachesEntry1}
 use Rattle.ed_answers.specs.FirstOrders.{first_state1, tape1_outcome}
 use Rattle.ed_answers.specs.Runs.{paper_room, ran_outcome}
 
@@ -26,4 +26,4 @@ pub record RunsFrom31 (s : Settings) (codes : List ℕ) (t : Tape) : Type 0 wher
 
 -- the same for every tape that gives a program
 abbrev pub EachProgramRunsFrom31 : Type 0
-EachProgramRunsFrom31 = (s : Settings) (codes : List ℕ) (t : Tape) → Comes1 codes t → RunsFrom31 s codes t
+EachProgramRunsFrom31 = (s : Settings) (codes : List ℕ) (t : Tape) → ReachesEntry1 codes t → RunsFrom31 s codes t

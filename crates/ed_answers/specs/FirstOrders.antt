@@ -6,7 +6,7 @@ use Rattle.ed_machine.specs.Start.{start_state}
 use Rattle.ed_run.specs.Run.{RunEnd, run_end}
 use Rattle.ed_run.specs.declared.settings.Settings.{Settings}
 use Rattle.ed_initial1.specs.Listing.{first_orders}
-use Rattle.ed_initial1.specs.Faults.{Tape, Comes1, IsFault1}
+use Rattle.ed_initial1.specs.Faults.{Tape, ReachesEntry1, IsFault1}
 use Rattle.ed_initial1.specs.Checks.{report1}
 use Rattle.ed_initial1.specs.declared.cause.Tape1Cause.{Tape1Cause}
 use Rattle.ed_report.specs.FirstNotes.{rule1_line}
@@ -34,7 +34,7 @@ tape1_answer s = of_rows (exactly (tape1_outcome s))
 -- `check-tape1` for a tape without a fault: its program, which is entered at 31
 pub record OfProgram (codes : List ℕ) (o : Outcome) : Type 0 where
   pub tape : Tape
-  pub comes : Comes1 codes tape
+  pub comes : ReachesEntry1 codes tape
   pub outcome : done (entry_line 31 (report1 tape).orders (report1 tape).rows) ≡ o
 
 -- `check-tape1` for a tape with a fault

@@ -61,7 +61,7 @@ RefusesText (no_row place byte) (Refused reply) = Gives reply (refusal (text_fau
 RefusesText (open_comment place) (Refused reply) = Gives reply (refusal (text_fault_line (OpenComment place)))
 
 -- a run that ended is the one of the definition
-pub record IsRan (r : RunEnd) (ran : FinishedRun) : Type 0 where
+pub record IsRunResult (r : RunEnd) (ran : FinishedRun) : Type 0 where
   pub ending_is : ran.ending ≡ r.ending
   pub state_is : ran.machine ≡ r.state
   pub codes_are : ran.paper.codes ≡ r.codes
@@ -71,8 +71,8 @@ abbrev pub IsPrintableIn : State → Window → Type 0
 IsPrintableIn s w = IsWindowOf s.size w × (s.orders + enough_orders ≤ 2 ^ 63)
 
 -- a run of a source that ended is that of its tape, with its note
-pub record IsRanOf (s : Settings) (lines : List Line) (noted : NotedRun) : Type 0 where
-  pub ran : IsRan (run_of s (tape lines)) noted.ran
+pub record IsRunResultOf (s : Settings) (lines : List Line) (noted : NotedRun) : Type 0 where
+  pub ran : IsRunResult (run_of s (tape lines)) noted.ran
   pub note_is : noted.note.items
       ≡ entered_before lines noted.ran.machine ++ ending_line noted.ran.ending noted.ran.machine
 
@@ -85,5 +85,5 @@ LinksSource z text (Err Memory) = Unit {0}
 
 -- the run of a source that is accepted, or the reply that refuses the source
 abbrev pub RunsSource : Settings → Text → Result NotedRun Rejection → Type 0
-RunsSource s text (Ok noted) = (lines : List Line) × IsAcceptedAs s.size text lines × IsRanOf s lines noted
+RunsSource s text (Ok noted) = (lines : List Line) × IsAcceptedAs s.size text lines × IsRunResultOf s lines noted
 RunsSource s text (Err e) = LinksSource s.size text (Err e)

@@ -5,7 +5,7 @@ use Rattle.ed_store.specs.Cells.{cleared_cells}
 use Rattle.ed_run.specs.declared.settings.Settings.{Settings}
 use Rattle.ed_notation.specs.Fold.{NotationState}
 use Rattle.ed_notation.specs.Openings.{opening}
-use Rattle.ed_notation.specs.Faults.{TapeEntry, ComesTo, IsFault, WellFormed}
+use Rattle.ed_notation.specs.Faults.{TapeEntry, RowsReachEntry, IsFault, WellFormed}
 use Rattle.ed_notation.specs.declared.cause.TapeCause.{TapeCause}
 use Rattle.ed_report.specs.Entries.{entry_line}
 use Rattle.ed_report.specs.Notes.{rule_line}
@@ -26,21 +26,21 @@ tape_answer s = of_rows (exactly (tape_outcome s))
 -- ---- checks
 
 -- the state of the notation before the first row, on a cleared store
-abbrev pub first_note : NotationState
-first_note = opening cleared_cells.words
+abbrev pub opening_notation : NotationState
+opening_notation = opening cleared_cells.words
 
 -- `check-tape` for a well-formed tape: the entry that the fold of its items reaches
 pub record OfWellFormed (z : Size) (codes : List ℕ) (o : Outcome) : Type 0 where
-  pub well : WellFormed z cleared_cells.words first_note codes
+  pub well : WellFormed z cleared_cells.words opening_notation codes
   pub entry : TapeEntry
-  pub comes : ComesTo cleared_cells.words first_note 9 codes entry
+  pub comes : RowsReachEntry cleared_cells.words opening_notation 9 codes entry
   pub outcome : done (entry_line entry.at entry.cost entry.rows) ≡ o
 
 -- `check-tape` for a tape with a fault: the first one
 pub record OfFaulty (z : Size) (codes : List ℕ) (o : Outcome) : Type 0 where
   pub row : ℕ
   pub cause : TapeCause
-  pub fault : IsFault z cleared_cells.words first_note codes row cause
+  pub fault : IsFault z cleared_cells.words opening_notation codes row cause
   pub outcome : refusal (rule_line row cause) ≡ o
 
 -- `check-tape`

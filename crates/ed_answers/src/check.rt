@@ -2,7 +2,7 @@ ghost use Rattle.std.specs.Prelude.{◌≡◌, ◌≤◌, ◌^◌, IfOk, length}
 ghost use Rattle.ed_answers.specs.Replies.{Gives, Replies};
 ghost use Rattle.ed_answers.specs.Outcome.{Outcome, done};
 ghost use Rattle.ed_report.specs.Entries.{entry_line};
-ghost use Rattle.ed_answers.specs.Tapes.{IsChecked, check_tape_answer, first_note};
+ghost use Rattle.ed_answers.specs.Tapes.{IsChecked, check_tape_answer, opening_notation};
 ghost use Rattle.ed_notation.specs.Checks.{AnswersCheck};
 ghost use Rattle.ed_store.specs.Cells.{cleared_cells};
 
@@ -39,7 +39,7 @@ fn check_rows(alloc: Global, settings: Settings, rows: &[Code]) -> Result<Reply,
 /// Whether a whole tape is well formed from a cleared store: its entry and words, or its fault.
 pub fn check_from_cleared(alloc: Global, size: Size, rows: &[Code]) -> Result<Checked, TapeFault>
     requires { length rows.now ≤ 2 ^ 32 }
-    ensures { AnswersCheck size cleared_cells.words first_note 9 rows.now result }
+    ensures { AnswersCheck size cleared_cells.words opening_notation 9 rows.now result }
 {
     check(alloc, size, &Store::cleared(alloc)?, rows)
 }

@@ -2,7 +2,7 @@ ghost use Rattle.std.specs.Prelude.{◌≡◌, ◌≤◌, ◌^◌, IfOk, length}
 ghost use Rattle.ed_answers.specs.FirstOrders.{IsChecked1, check_tape1_answer, first_state1, tape1_answer};
 ghost use Rattle.ed_answers.specs.FirstOrders.{run1_of};
 ghost use Rattle.ed_answers.specs.Outcome.{Outcome};
-ghost use Rattle.ed_answers.specs.Replies.{Gives, IsRan, Replies};
+ghost use Rattle.ed_answers.specs.Replies.{Gives, IsRunResult, Replies};
 
 use crate::check::entry_reply;
 use crate::reply::{Rejection, Reply};
@@ -35,7 +35,7 @@ pub fn run_rows1(
     settings: Settings,
     rows: Vec<Code>,
 ) -> Result<FinishedRun, NoMemory>
-    ensures { IfOk result (λ ran. IsRan (run1_of settings rows.items) ran) }
+    ensures { IfOk result (λ ran. IsRunResult (run1_of settings rows.items) ran) }
 {
     run_machine(alloc, settings, started1(alloc, rows)?)
 }

@@ -5,7 +5,7 @@ ghost use Rattle.ed_run.specs.SettingRanges.{IsWindowOf};
 ghost use Rattle.ed_postmortem.specs.Answers.{enough_orders};
 ghost use Rattle.ed_postmortem.specs.Codes.{printed_codes};
 ghost use Rattle.ed_report.specs.Notes.{ending_line};
-ghost use Rattle.ed_answers.specs.Replies.{Gives, IsPrintableIn, IsRan};
+ghost use Rattle.ed_answers.specs.Replies.{Gives, IsPrintableIn, IsRunResult};
 ghost use Rattle.ed_answers.specs.Runs.{paper_room, post_mortem_codes, run_of, status_of};
 
 use crate::entering::started;
@@ -36,7 +36,7 @@ pub struct FinishedRun {
 /// because inlined into `main` it would run out of registers and take longer.
 #[inline(never)]
 pub fn run_rows(alloc: Global, settings: Settings, rows: Vec<Code>) -> Result<FinishedRun, NoMemory>
-    ensures is { IfOk result (λ ran. IsRan (run_of settings rows.items) ran) }
+    ensures is { IfOk result (λ ran. IsRunResult (run_of settings rows.items) ran) }
     ensures size { IfOk result (λ ran. ran.machine.size ≡ settings.size) }
     ensures orders { IfOk result (λ ran. ran.machine.orders ≤ settings.limit) }
 {
@@ -52,7 +52,7 @@ pub fn run_machine(
 ) -> Result<FinishedRun, NoMemory>
     requires { machine.orders ≤ settings.limit }
     ensures is { IfOk result (λ left.
-        IsRan (run_end (settings.limit - machine.orders) settings.resumes paper_room machine) left) }
+        IsRunResult (run_end (settings.limit - machine.orders) settings.resumes paper_room machine) left) }
     ensures size { IfOk result (λ left. left.machine.size ≡ machine.size) }
     ensures orders { IfOk result (λ left. left.machine.orders ≤ settings.limit) }
 {

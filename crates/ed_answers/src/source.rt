@@ -10,7 +10,7 @@ ghost use Rattle.ed_answers.specs.Refusals.{IsAcceptedAs, IsRefused};
 ghost use Rattle.ed_report.specs.Listings.{listing};
 ghost use Rattle.ed_report.specs.Notes.{ending_line, entry_note};
 ghost use Rattle.ed_answers.specs.Outcome.{done};
-ghost use Rattle.ed_answers.specs.Replies.{Gives, IsRan, IsRanOf, LinksSource, Replies, RunsSource};
+ghost use Rattle.ed_answers.specs.Replies.{Gives, IsRunResult, IsRunResultOf, LinksSource, Replies, RunsSource};
 ghost use Rattle.ed_answers.specs.Runs.{run_of};
 ghost use Rattle.ed_answers.specs.Sources.{listing_answer, listing_outcome, punch_answer};
 ghost use Rattle.ed_answers.specs.Sources.{run_answer};
@@ -93,7 +93,7 @@ pub fn run_source(alloc: Global, settings: Settings, input: &[u8]) -> Result<Not
 fn run_linked(alloc: Global, settings: Settings, linked: &Linked) -> Result<NotedRun, NoMemory>
     requires { (lines : List Line) × IsLinked settings.size lines linked.now }
     ensures is { IfOk result (λ noted. (lines : List Line) → IsLinked settings.size lines linked.now
-        → IsRanOf settings lines noted) }
+        → IsRunResultOf settings lines noted) }
     ensures size { IfOk result (λ noted. noted.ran.machine.size ≡ settings.size) }
     ensures orders { IfOk result (λ noted. noted.ran.machine.orders ≤ settings.limit) }
 {
@@ -117,7 +117,7 @@ fn run_entered(
     requires entry { (lines : List Line) → IsLinked settings.size lines linked.now
         → entered ≡ entry_state settings.size lines }
     ensures is { IfOk result (λ ran. (lines : List Line) → IsLinked settings.size lines linked.now
-        → IsRan (run_of settings (tape lines)) ran) }
+        → IsRunResult (run_of settings (tape lines)) ran) }
     ensures size { IfOk result (λ ran. ran.machine.size ≡ settings.size) }
     ensures orders { IfOk result (λ ran. ran.machine.orders ≤ settings.limit) }
 {

@@ -1,9 +1,7 @@
 -- The accumulator has 71 digits after each order.
-use Rattle.std.proofs.Common.{ℕ, ◌^◌, ◌<◌, lit<, Bool, true, false, nat_lt, nat_le, List, [], ◌∷◌, Option, Some, None}
-use Rattle.ed_orders.specs.declared.kind.Kind.{Kind}
-use Rattle.ed_orders.specs.declared.kind.Kind.TheVariants.{A, S, H, V, N, T, U, C, R, L, E, G, I, O, F, X, Y, Z}
-use Rattle.ed_machine.specs.State.{State}
-use Rattle.ed_machine.specs.OrderTable.{obey_word, place_of, jump_order, row_order}
+use Rattle.ed_checker.proofs.Kit.{nat_le, Kind, A, C, E, F, G, H, I, L, N, O, R, S, T, U, V, X, Y, Z, [], Bool, false}
+use Rattle.ed_checker.proofs.Kit.{List, lit<, nat_lt, None, Option, Some, true, ℕ, ◌<◌, ◌^◌, ◌∷◌, jump_order}
+use Rattle.ed_checker.proofs.Kit.{obey_word, place_of, row_order, State}
 use Rattle.ed_machine.proofs.SoundSteps.{plus71_fits, minus71_fits, plus_product_fits, minus_product_fits}
 use Rattle.ed_machine.proofs.SoundSteps.{collated_fits, left71_fits, right71_fits}
 

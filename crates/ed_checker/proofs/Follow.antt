@@ -1,48 +1,22 @@
 -- The routine obeys the guest order by order.
-use Rattle.std.proofs.Common.{◌≡◌, ℕ, zero, suc, ◌+◌, ◌%◌, ◌^◌, ◌<◌, refl, sym, ap, ◌∙◌, subst, arith, lit<}
-use Rattle.std.proofs.Common.{Bool, true, false, nat_lt, nat_le, [], ◌∷◌, ◌++◌, Option, Some, inl, inr}
-use Rattle.std.proofs.lemmas.Bool.{cases_eq}
-use Rattle.ed_words.specs.Sizes.{within}
-use Rattle.ed_words.specs.Words.{function_of, address_of}
-use Rattle.ed_store.specs.Cells.{IsStore, short_at}
-use Rattle.ed_orders.specs.Kinds.{kind_of_function}
-use Rattle.ed_orders.specs.declared.kind.Kind.{Kind}
-use Rattle.ed_orders.specs.declared.kind.Kind.TheVariants.{E, G}
-use Rattle.ed_machine.specs.State.{State}
-use Rattle.ed_machine.specs.OrderTable.{Obeyed, step, next_word, obey_word, jump_order, place_of, after, done_at}
-use Rattle.ed_machine.specs.Steps.{Progress, progress, state_after, codes_of, stops_of, is_obeyed}
-use Rattle.ed_machine.specs.declared.turn.Turn.TheVariants.{Went, Stopped}
-use Rattle.ed_checker.specs.Checker.{IsOutsideChecker, IsAllowed, IsAllowedOrder, Agree, guest, checked_codes}
-use Rattle.ed_checker.specs.Checker.{checked_orders, orders_by, turn_orders}
-use Rattle.ed_checker.proofs.Alike.{Alike, Outcome, agree_with, is_planted, planted}
+use Rattle.ed_checker.proofs.Kit.{cases_eq, Kind, E, G, Stopped, [], ap, arith, false, inl, inr, Option, refl, rules}
+use Rattle.ed_checker.proofs.Kit.{Some, subst, suc, sym, true, zero, ℕ, ◌%◌, ◌++◌, ◌+◌, ◌∙◌, ◌∷◌, ◌≡◌, within}
+use Rattle.ed_checker.proofs.Kit.{function_of, IsStore, kind_of_function, after, next_word, obey_word, Obeyed, step}
+use Rattle.ed_checker.proofs.Kit.{State, codes_of, is_obeyed, progress, Progress, state_after, stops_of, short_at}
+use Rattle.ed_checker.proofs.Kit.{Agree, checked_orders, guest, IsAllowed, orders_by, turn_orders, HasRun}
 use Rattle.ed_machine.specs.Sound.{IsSound}
 use Rattle.ed_machine.proofs.SoundSteps.{sound_after}
-use Rattle.ed_checker.specs.Laws.{CheckerLaw, HasChecked, ChecksToBlock, ChecksToStop, HasGuest, IsFollowed, HasRun}
-use Rattle.ed_checker.proofs.Halves.{long_fits}
-use Rattle.ed_checker.proofs.HasRun.{joined, none, renamed}
-use Rattle.ed_checker.proofs.Turns.{turn, turn_halts, turn_stuck, other_planted}
+use Rattle.ed_checker.specs.Checker.{checked_codes}
+use Rattle.ed_checker.specs.Laws.{CheckerLaw, HasChecked, ChecksToBlock, ChecksToStop, HasGuest, IsFollowed}
+use Rattle.ed_checker.proofs.Alike.{Alike, Outcome, agree_with, is_planted, Outcome-planted}
+use Rattle.ed_checker.proofs.HasRun.{HasRun-joined, HasRun-none, HasRun-renamed}
+use Rattle.ed_checker.proofs.Turns.{step-turn, turn_halts, turn_stuck, other_planted}
 
 agree_self : (base : ℕ) (s : State) → Agree base s s
-agree_self base s = record {
-  size = refl;
-  words = λ a i. refl;
-  digits = λ a i. refl;
-  acc = refl;
-  multiplier = refl;
-  counter = refl;
-  tape = refl;
-}
+agree_self base s = search rules
 
 agree_trans : {base : ℕ} {s t u : State} → Agree base s t → Agree base t u → Agree base s u
-agree_trans p q = record {
-  size = p.size ∙ q.size;
-  words = λ a i. p.words a i ∙ q.words a i;
-  digits = λ a i. p.digits a i ∙ q.digits a i;
-  acc = p.acc ∙ q.acc;
-  multiplier = p.multiplier ∙ q.multiplier;
-  counter = p.counter ∙ q.counter;
-  tape = p.tape ∙ q.tape;
-}
+agree_trans p q = search rules
 
 -- two guests that agree, if the second is allowed its next order
 module _ {base : ℕ} (even_base : base % 2 ≡ 0) {s t : State} (p : Agree base s t) (ok : IsAllowed base t) where
@@ -50,16 +24,7 @@ module _ {base : ℕ} (even_base : base % 2 ≡ 0) {s t : State} (p : Agree base
   same_word = ap (short_at s.store) p.counter ∙ p.words t.counter ok.outside
 
   pub allowed : IsAllowed base s
-  allowed =
-      let x = next_word t in
-      let order : IsAllowedOrder (kind_of_function (function_of (next_word s))) base (next_word s) s.size =
-      subst (λ w. IsAllowedOrder (kind_of_function (function_of w)) base w s.size) (sym same_word)
-      (subst (λ z. IsAllowedOrder (kind_of_function (function_of x)) base x z) (sym p.size) ok.order) in
-      record {
-        outside = subst (IsOutsideChecker base) (sym p.counter) ok.outside;
-        next = rw (p.counter, p.size) ok.next;
-        order = order;
-      }
+  allowed = search rules
 
   -- the order that both obey
   abbrev x : ℕ
@@ -77,56 +42,22 @@ module _ {base : ℕ} (even_base : base % 2 ≡ 0) {s t : State} (p : Agree base
     turn : a.turn ≡ b.turn
     agree : Agree base a.state b.state
 
-  -- both go on at the same location
-  both_moved : {n m : ℕ} → n ≡ m
-      → Both (record { state = done_at n s; turn = Went }) (record { state = done_at m t; turn = Went })
-  both_moved e = record {
-    turn = refl;
-    agree = record {
-      size = p.size;
-      words = p.words;
-      digits = p.digits;
-      acc = p.acc;
-      multiplier = p.multiplier;
-      counter = e;
-      tape = p.tape;
-    };
-  }
-
-  both_jump : (b : Bool) (j : ℕ) → Both (jump_order b j s) (jump_order b j t)
-  both_jump true j = both_moved refl
-  both_jump false j = both_moved (λ i. within (p.size i) (p.counter i + 1))
-
-  place : place_of s x ≡ place_of t x
-  place = ap (λ z. within z (address_of x)) p.size
-
   both_E : Both (obey_word (Some E) x s) (obey_word (Some E) x t)
-  both_E = subst (Both (obey_word (Some E) x s)) (λ i. jump_order (nat_lt (p.acc i) (2 ^ 70)) (place i) t)
-      (both_jump (nat_lt s.acc (2 ^ 70)) (place_of s x))
+  both_E = search rules
 
   both_G : Both (obey_word (Some G) x s) (obey_word (Some G) x t)
-  both_G = subst (Both (obey_word (Some G) x s)) (λ i. jump_order (nat_le (2 ^ 70) (p.acc i)) (place i) t)
-      (both_jump (nat_le (2 ^ 70) s.acc) (place_of s x))
+  both_G = search rules
 
   module _ (a : IsStore s.store) (b : IsStore t.store) where
     alike : Alike base s t
-    alike = record {
-      size = p.size;
-      words = p.words;
-      digits = p.digits;
-      word_count = a.words_are ∙ sym b.words_are;
-      digit_count = a.digits_are ∙ sym b.digits_are;
-      acc = p.acc;
-      multiplier = p.multiplier;
-      tape = p.tape;
-    }
+    alike = search rules
 
     abbrev kind : Option Kind
     kind = kind_of_function (function_of x)
 
     -- what a planted order does to both
     both_outcome : is_planted kind ≡ true → Outcome base s t (obey_word kind x s) (obey_word kind x t)
-    both_outcome may = planted even_base alike kind x may allowed.order
+    both_outcome may = Outcome-planted even_base alike kind x may allowed.order
 
     both_planted : is_planted kind ≡ true → is_obeyed (step t).turn ≡ true
         → Both (obey_word kind x s) (obey_word kind x t)
@@ -178,22 +109,8 @@ module _ {base : ℕ} (even_base : base % 2 ≡ 0) {s t : State} (p : Agree base
 
 -- ---- the guest of a machine that has the routine
 
-guest_fits : (base : ℕ) (m : State) → HasGuest base m → (guest base m).acc < 2 ^ 71
-guest_fits base m h =
-    let high = long_fits base h.even m h.sound.store 60 refl in
-    let middle = h.stands.middle in
-    let low = h.stands.low_few in
-    omega arith
-
 guest_sound : (base : ℕ) (m : State) → HasGuest base m → IsAllowed base (guest base m) → IsSound (guest base m)
-guest_sound base m h ok = record {
-  store = h.sound.store;
-  acc = guest_fits base m h;
-  multiplier = h.sound.multiplier;
-  counter = let next = ok.next in omega arith;
-  tape = h.sound.tape;
-  last = lit< tt;
-}
+guest_sound base m h ok = search rules
 
 at_first : (base : ℕ) (g : State) → IsAllowed base (state_after 0 g) → IsAllowed base g
 unfolding progress
@@ -222,14 +139,14 @@ module _ (base : ℕ) (m : State) (has : HasGuest base m) where
       let g_sound : IsSound gq = sound_after q g (guest_sound base m has first) in
       let b = steps has.even c.agree ok a_sound.store g_sound.store obeyed in
       let word : next_word (guest base a) ≡ next_word gq = same_word has.even c.agree ok in
-      let t = turn base has.even a a_sound.store (rw c.size has.room) c.stands
+      let t = step-turn base has.even a a_sound.store (rw c.size has.room) c.stands
       (allowed has.even c.agree ok)
       (ap is_obeyed b.0 ∙ obeyed) in
       let codes : function_of (next_word (guest base a)) ∷ codes_of (step (guest base a)).turn
       ≡ function_of (next_word gq) ∷ codes_of (step gq).turn
       = (λ i. function_of (word i) ∷ codes_of (b.0 i)) in
       let orders : t.count ≡ turn_orders gq = t.exact ∙ same_orders (guest base a) gq word c.agree.acc in
-      let r = renamed (joined c.ran t.ran) (ap (λ cs. checked_codes g q ++ cs) codes)
+      let r = HasRun-renamed (HasRun-joined c.ran t.ran) (ap (λ cs. checked_codes g q ++ cs) codes)
       (ap (λ n. (progress q g).stops + n) (ap stops_of b.0)) in
       record {
         last = t.after;
@@ -247,7 +164,7 @@ module _ (base : ℕ) (m : State) (has : HasGuest base m) where
   checks_from zero h = record {
     last = m;
     most = omega arith;
-    ran = none m;
+    ran = HasRun-none m;
     stands = has.stands;
     agree = agree_self base g;
     size = refl;
@@ -284,7 +201,7 @@ module _ (base : ℕ) (m : State) (has : HasGuest base m) where
         count = checked_orders g q + t.count;
         exact = omega (arith, orders);
         most = omega (arith, c.most, t.most);
-        ran = renamed (joined c.ran t.ran)
+        ran = HasRun-renamed (HasRun-joined c.ran t.ran)
             (λ i. checked_codes g q ++ (function_of (word i) ∷ codes_of (sym stop i))) (omega (arith, no_stop));
         counter = t.counter;
         stops = t.turn;
@@ -310,7 +227,8 @@ module _ (base : ℕ) (m : State) (has : HasGuest base m) where
         last = t.after;
         count = checked_orders g q + t.count;
         exact = omega (arith, orders);
-        ran = renamed (joined c.ran t.ran) (λ i. checked_codes g q ++ (function_of (word i) ∷ [])) (omega arith);
+        ran = HasRun-renamed (HasRun-joined c.ran t.ran) (λ i. checked_codes g q ++
+            (function_of (word i) ∷ [])) (omega arith);
         agree = agree_trans t.agree c.agree;
         counter = t.counter;
         blocked = t.turn ∙ turn_is;

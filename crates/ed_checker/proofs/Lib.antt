@@ -10,3 +10,4 @@ pub mod Follow
 pub mod Whole
 pub mod Guests
 pub mod Weights
+pub mod Kit

@@ -1,27 +1,19 @@
 -- A machine that has the routine, as a state of its paths, and back.
-use Rattle.std.proofs.Common.{◌≡◌, ◌∷◌, inl, inr, ℕ, zero, suc, ◌+◌, ◌-◌, ◌*◌, ◌/◌, ◌%◌}
-use Rattle.std.proofs.Common.{◌<◌, ◌≤◌, refl, sym, ap, ◌∙◌, arith, lit<, lit≤}
-use Rattle.std.proofs.Common.{false, List, [], Option, None, length, get_or}
-use Rattle.ed_words.specs.Sizes.{locations}
-use Rattle.ed_words.specs.Words.{address_of}
-use Rattle.ed_words.proofs.SizeLemmas.{most}
-use Rattle.ed_words.specs.declared.order_words.TheConstants.{A_F}
-use Rattle.ed_store.specs.Cells.{IsStore, short_at, long_at}
-use Rattle.ed_machine.specs.State.{State}
+use Rattle.ed_checker.proofs.Kit.{A_F, long_at, pair, parted, get_own, [], ap, arith, false, get_or, inr, length, List}
+use Rattle.ed_checker.proofs.Kit.{lit<, None, Option, refl, rules, sym, ℕ, ◌%◌, ◌*◌, ◌+◌, ◌-◌, ◌/◌, ◌<◌, ◌∙◌, ◌∷◌, ◌≡◌}
+use Rattle.ed_checker.proofs.Kit.{◌≤◌, locations, address_of, locations_most, IsStore, State, lit≤, short_at, Frame, Moment}
+use Rattle.ed_checker.proofs.Kit.{state, CheckerStands, guest, IsOutsideChecker}
+use Rattle.ed_routines.proofs.Kit.{Holds, length_patched, patched, with_h, IsOther}
+use Rattle.ed_machine.proofs.Kit.Places.{reads}
+use Rattle.ed_machine.proofs.Kit.Standing.{filled, opens}
+use Rattle.ed_machine.proofs.Kit.Window.{get_below, get_above, patched_self}
 use Rattle.ed_library.specs.Routines.{is_working}
-use Rattle.ed_routines.specs.Catalogue.{with_h}
-use Rattle.ed_routines.specs.Returns.{IsOther}
+use Rattle.ed_routines.proofs.Called.{holds_words, image, get_or-kept}
 use Rattle.ed_routines.proofs.Image.{Makes, none, more}
-use Rattle.ed_routines.proofs.Called.{holds_words, image, kept}
-use Rattle.ed_machine.proofs.Kit.Sums.{parted}
-use Rattle.ed_machine.proofs.Kit.Frames.{Frame, Moment, state}
-use Rattle.ed_machine.proofs.Kit.Places.{pair, reads}
-use Rattle.ed_machine.proofs.Kit.Standing.{Holds, filled, opens}
-use Rattle.ed_machine.proofs.Kit.Window.{patched, get_own, get_below, get_above, patched_self, length_patched}
-use Rattle.ed_checker.specs.Checker.{IsOutsideChecker, CheckerStands, HasImage, guest, check}
-use Rattle.ed_checker.proofs.Halves.{low_half, high_half, middle_digit}
-use Rattle.ed_checker.proofs.Paths.{IsSaved, Work, Around, cells, cells_with, pairs, moment}
+use Rattle.ed_checker.specs.Checker.{HasImage, check}
 use Rattle.ed_checker.proofs.Alike.{Alike}
+use Rattle.ed_checker.proofs.Halves.{low_half, high_half}
+use Rattle.ed_checker.proofs.Paths.{IsSaved, Work, Around, cells, cells_with, pairs, moment}
 use Rattle.ed_checker.proofs.Saving.{whole}
 
 -- what a state has outside the routine
@@ -36,22 +28,10 @@ pub record HasCells (f : Frame 66 30) (w : Work) (s : State) : Type 0 where
   pub words : (j : ℕ) → j < 66 → get_or (cells f.base w) j 0 ≡ get_or s.store.words (f.base + j) 0
   pub digits : (j : ℕ) → j < 3 → get_or (pairs w) j false ≡ get_or s.store.sandwich (f.base / 2 + 30 + j) false
 
-pub opened : (f : Frame 66 30) (even : f.base % 2 ≡ 0) (w : Work) (s : State) (at : ℕ) → HasCells f w s
+pub state-opened : (f : Frame 66 30) (even : f.base % 2 ≡ 0) (w : Work) (s : State) (at : ℕ) → HasCells f w s
     → s.counter ≡ f.base + at
     → state f (moment f.base (around s) w s.acc at s.last) s.orders ≡ s
-opened f even w s at h counter =
-    let b = most f.size in
-    let g = f.fits in
-    let u = f.under in
-    let c1 = h.word_count in
-    let c2 = h.digit_count in
-    let words = patched_self 0 s.store.words f.base (cells f.base w) (omega arith) h.words in
-    let digits = patched_self false s.store.sandwich (f.base / 2 + 30) (pairs w) (omega arith) h.digits in
-    λ i. record s {
-      size = h.size i;
-      store = record { words = words i; sandwich = digits i };
-      counter = sym counter i;
-    }
+state-opened f even w s at h counter = search (rules, locations_most, patched_self)
 
 -- the routine's image at a base
 abbrev check_image : ℕ → List (Option ℕ)
@@ -90,23 +70,16 @@ module _ (base : ℕ) (even_base : base % 2 ≡ 0) (s : State) (is_store : IsSto
       let e65 = high_half base even_base s is_store 64 refl in
       λ i. cells_with base work (e60 i) (e61 i) (e62 i) (e63 i) (e64 i) (e65 i)
 
-  digit_at : (j k : ℕ) → base / 2 + j ≡ base / 2 + 30 + k
-      → get_or s.store.sandwich (base / 2 + j) false ≡ get_or s.store.sandwich (base / 2 + 30 + k) false
-  digit_at j k e = ap (λ x. get_or s.store.sandwich x false) e
-
   pair_is : (j : ℕ) → j < 3 → get_or (pairs work) j false ≡ get_or s.store.sandwich (base / 2 + 30 + j) false
-  pair_is zero h = middle_digit base even_base s is_store 60 refl ∙ digit_at 30 0 (omega arith)
-  pair_is (suc zero) h = middle_digit base even_base s is_store 62 refl ∙ digit_at 31 1 (omega arith)
-  pair_is (suc (suc zero)) h = middle_digit base even_base s is_store 64 refl ∙ digit_at 32 2 (omega arith)
-  pair_is (suc (suc (suc j))) h = absurd (omega arith)
+  pair_is j h = search rules
 
-  pub holds : CheckerStands base s → HasCells frame work s
-  holds stands = record {
+  pub HasCells-holds : CheckerStands base s → HasCells frame work s
+  HasCells-holds stands = record {
     size = refl;
     word_count = is_store.words_are;
     digit_count = is_store.digits_are;
     words = λ j lj.
-        let b = most s.size in
+        let b = locations_most s.size in
         let c = is_store.words_are in
         let whole = opens (check_image base) s.store.words base (omega arith)
         (holds_image (omega arith) stands.image) in
@@ -153,7 +126,7 @@ module _ (f : Frame 66 30) (even : f.base % 2 ≡ 0) (o : Around) (w : Work) whe
   image_is : {m : State} → HasImage f.base m → HasImage f.base the_state
   image_is {m} h i l = record {
     has = λ free.
-        let b = most f.size in
+        let b = locations_most f.size in
         let u = f.under in
         let v = f.fits in
         let e : f.base + i - f.base ≡ i = omega arith in
@@ -162,7 +135,7 @@ module _ (f : Frame 66 30) (even : f.base % 2 ≡ 0) (o : Around) (w : Work) whe
         } in
         get_own 0 o.words f.base (cells f.base w) i l
         ∙ sym (get_own 0 m.store.words f.base (cells f.base w) i l)
-        ∙ kept (0 ∷ []) other m.store.words (cells f.base w) refl refl (holds_image (omega arith) h)
+        ∙ get_or-kept (0 ∷ []) other m.store.words (cells f.base w) refl refl (holds_image (omega arith) h)
         ∙ (h i l).has free;
   }
 
@@ -187,28 +160,13 @@ module _ (f : Frame 66 30) (w : Work) (t : State) (same : f.size ≡ t.size)
     (words_are : length t.store.words ≡ 1024) (digits_are : length t.store.sandwich ≡ 512) where
   word : (a : ℕ) → IsOutsideChecker f.base a
       → get_or (patched 0 t.store.words f.base (cells f.base w)) a 0 ≡ get_or t.store.words a 0
-  word a (inl l) = get_below 0 t.store.words f.base (cells f.base w) a l
-  word a (inr m) = get_above 0 t.store.words f.base (cells f.base w) a m
+  word a h = search (rules, get_below, get_above)
 
   digit : (a : ℕ) → IsOutsideChecker f.base a
       → get_or (patched false t.store.sandwich (f.base / 2 + 30) (pairs w)) (a / 2) false
       ≡ get_or t.store.sandwich (a / 2) false
-  digit a (inl l) = get_below false t.store.sandwich (f.base / 2 + 30) (pairs w) (a / 2) (omega arith)
-  digit a (inr m) = get_above false t.store.sandwich (f.base / 2 + 30) (pairs w) (a / 2) (omega arith)
+  digit a h = search (rules, get_below, get_above)
 
   pub alike_around : {k : ℕ} {last : Option ℕ} (at : ℕ)
       → Alike f.base (state f (moment f.base (around t) w t.acc at last) k) t
-  alike_around at =
-      let b = most f.size in
-      let g = f.fits in
-      let u = f.under in
-      record {
-        size = same;
-        words = word;
-        digits = digit;
-        word_count = length_patched 0 t.store.words f.base (cells f.base w) (omega arith);
-        digit_count = length_patched false t.store.sandwich (f.base / 2 + 30) (pairs w) (omega arith);
-        acc = refl;
-        multiplier = refl;
-        tape = refl;
-      }
+  alike_around at = search (rules, locations_most, word, digit, length_patched)

@@ -1,15 +1,14 @@
 -- The routine's paths: it fetches the guest's order, tests it, restores and saves the 71 digits, and advances the
 -- guest's counter.
-use Rattle.std.proofs.Common.{◌≡◌, ℕ, ◌+◌, ◌-◌, ◌*◌, ◌/◌, ◌%◌, ◌^◌, ◌<◌, ◌≤◌, refl, arith}
-use Rattle.std.proofs.Common.{lit<, Bool, nat_eq, List, [], ◌∷◌, Option, Some, get_or}
-use Rattle.ed_words.specs.declared.order_words.TheConstants.{A_D, A_F, E_F, G_F, L_F, O_F, R_F, S_D, S_F, T_D, T_F, U_D, U_F}
-use Rattle.ed_machine.proofs.Kit.Sums.{parted}
-use Rattle.ed_machine.proofs.Kit.Frames.{Frame, Moment}
-use Rattle.ed_machine.proofs.Kit.Places.{IsOutside, own, out, pair}
+use Rattle.ed_checker.proofs.Kit.{A_F, L_F, followed, pair, parted, [], arith, Bool, get_or, List, lit<, nat_eq}
+use Rattle.ed_checker.proofs.Kit.{Option, refl, Some, ℕ, ◌%◌, ◌*◌, ◌+◌, ◌-◌, ◌/◌, ◌<◌, ◌^◌, ◌∷◌, ◌≡◌, ◌≤◌, Frame}
+use Rattle.ed_checker.proofs.Kit.{Moment, Path}
+use Rattle.ed_routines.proofs.Kit.{A, E_jumps, G_jumps, L, S, on, prints, stay, out, own}
+use Rattle.ed_words.specs.declared.order_words.TheConstants.{A_D, E_F, G_F, O_F, R_F, S_D, S_F, T_D, T_F, U_D, U_F}
+use Rattle.ed_machine.proofs.Kit.Moves.{T_top, U_top, R, E_stays, G_stays, O}
 use Rattle.ed_machine.proofs.Kit.Orders.{word_is}
+use Rattle.ed_machine.proofs.Kit.Places.{IsOutside}
 use Rattle.ed_machine.proofs.Kit.Shifts.{RF, R4F, LF, L64F}
-use Rattle.ed_machine.proofs.Kit.Moves.{A, S, T_top, U_top, R, L, E_jumps, E_stays, G_jumps, G_stays, O}
-use Rattle.ed_machine.proofs.Kit.Paths.{Path, stay, on, prints, followed}
 use Rattle.ed_checker.proofs.Saving.{high_of, middle_of, low_of, whole}
 
 -- the routine's changing words: 0, 40, 58 and 59, and its three long words
@@ -76,9 +75,9 @@ pub record IsSaved (high middle low : ℕ) : Type 0 where
 
 module _ (f : Frame 66 30) (f_even : f.base % 2 ≡ 0) (o : Around) where
   -- words 22 to 25: the guest's counter is increased by one
-  pub advance : (w : Work) (last : Option ℕ) → w.at0 + 2 < 2 ^ 17
+  pub Path-advance : (w : Work) (last : Option ℕ) → w.at0 + 2 < 2 ^ 17
       → Path f 4 (moment f.base o w 0 22 last) [] (moment f.base o (record w { at0 = w.at0 + 2 }) 0 0 last)
-  advance w last h =
+  Path-advance w last h =
       on (A 22 (own 0) (w.at0 * 2 ^ 54) refl (omega arith))
       (on (A 23 (own 57) ((w.at0 + 2) * 2 ^ 54) refl (omega arith))
       (on (T_top 24 (own 0) (w.at0 + 2) refl (omega arith))
@@ -95,10 +94,10 @@ module _ (f : Frame 66 30) (f_even : f.base % 2 ≡ 0) (o : Around) where
       (on (E_jumps 29 (own 0) refl (lit< tt)) stay)))
 
   -- words 30 to 39: the accumulator is restored
-  pub restore : {acc : ℕ} {last : Option ℕ} (w : Work) → IsSaved w.high w.middle w.low
+  pub Path-restore : {acc : ℕ} {last : Option ℕ} (w : Work) → IsSaved w.high w.middle w.low
       → Path f 10 (moment f.base o w acc 30 last) []
       (moment f.base o (record w { at59 = acc / 2 ^ 54 }) (whole w.high w.middle w.low) 40 last)
-  restore {acc} w saved =
+  Path-restore {acc} w saved =
       let l = saved.digits in
       let lf = saved.few in
       let is = saved.low_is in
@@ -117,10 +116,10 @@ module _ (f : Frame 66 30) (f_even : f.base % 2 ≡ 0) (o : Around) where
       (on (A 39 (pair 60 0 f_even) (whole w.high w.middle w.low) refl (rw (parted w.high) (omega arith))) stay)))))))))
 
   -- words 41 to 52: the accumulator is saved
-  pub save : (w : Work) (a : ℕ) (last : Option ℕ) → a < 2 ^ 71
+  pub Path-save : (w : Work) (a : ℕ) (last : Option ℕ) → a < 2 ^ 71
       → Path f 12 (moment f.base o w a 41 last) []
       (moment f.base o (record w { high = high_of a; middle = middle_of a; low = low_of a }) 0 22 last)
-  save w a last h =
+  Path-save w a last h =
       let d : a % 2 ^ 36 < 2 ^ 36 = omega arith in
       let e : a % 4 < 4 = omega arith in
       on (U_top 41 (pair 60 0 f_even) (high_of a) refl refl)
@@ -137,11 +136,11 @@ module _ (f : Frame 66 30) (f_even : f.base % 2 ≡ 0) (o : Around) where
       (on (E_jumps 52 (own 22) refl (lit< tt)) stay)))))))))))
 
   -- words 0 to 2: the guest's order is fetched and copied, and its function printed
-  pub fetch : {c x : ℕ} {last : Option ℕ} (w : Work) → w.at0 ≡ A_F + 2 * c → IsOutside f o.words c
+  pub Path-fetch : {c x : ℕ} {last : Option ℕ} (w : Work) → w.at0 ≡ A_F + 2 * c → IsOutside f o.words c
       → get_or o.words c 0 ≡ x → x < 2 ^ 17
       → Path f 3 (moment f.base o w 0 0 last) (x / 4096 ∷ [])
       (moment f.base o (record w { at40 = x }) (x * 2 ^ 54) 3 (Some (x / 4096)))
-  fetch {c} {x} w is outside word fits =
+  Path-fetch {c} {x} w is outside word fits =
       on (A 0 (out c outside) (x * 2 ^ 54) (word_is is) (omega arith))
       (on (U_top 1 (own 40) x refl (omega arith))
       (prints (O 2 (own 40) (x / 4096) refl (omega arith)) stay))
@@ -230,7 +229,7 @@ module _ (f : Frame 66 30) (f_even : f.base % 2 ≡ 0) (o : Around) where
       followed (at_E w x range fits)
       (on (E_stays 20 (own 26) refl (omega arith))
       (on (T_top 21 (own 59) (w.high * 2 ^ 36 / 2 ^ 54) refl refl)
-      (advance (record w { at58 = x + L_F; at59 = w.high * 2 ^ 36 / 2 ^ 54 }) last room)))
+      (Path-advance (record w { at58 = x + L_F; at59 = w.high * 2 ^ 36 / 2 ^ 54 }) last room)))
 
   pub G_taken : {last : Option ℕ} (w : Work) (x : ℕ) → (G_F ≤ x) × (x < A_F)
       → (2 ^ 34 ≤ w.high) × (w.high < 2 ^ 35)
@@ -252,4 +251,4 @@ module _ (f : Frame 66 30) (f_even : f.base % 2 ≡ 0) (o : Around) where
       (on (G_stays 11 (own 26) refl (omega arith))
       (on (E_jumps 12 (own 21) refl (omega arith))
       (on (T_top 21 (own 59) (w.high * 2 ^ 36 / 2 ^ 54) refl refl)
-      (advance (record w { at58 = x + 4096; at59 = w.high * 2 ^ 36 / 2 ^ 54 }) last room))))
+      (Path-advance (record w { at58 = x + 4096; at59 = w.high * 2 ^ 36 / 2 ^ 54 }) last room))))

@@ -1,5 +1,5 @@
 -- Saving the 71 digits of an accumulator in three long words, and restoring them: the numbers alone.
-use Rattle.std.proofs.Common.{◌≡◌, ℕ, ◌+◌, ◌*◌, ◌/◌, ◌%◌, ◌^◌, ◌<◌, arith}
+use Rattle.ed_checker.proofs.Kit.{arith, ℕ, ◌%◌, ◌*◌, ◌+◌, ◌/◌, ◌<◌, ◌^◌, ◌≡◌}
 
 -- the three long words of an accumulator
 abbrev pub high_of : ℕ → ℕ
@@ -16,8 +16,8 @@ abbrev pub whole : ℕ → ℕ → ℕ → ℕ
 whole high middle low = high * 2 ^ 36 + 4 * middle + low / 2 ^ 32
 
 -- what was saved is restored
-pub saved : (a : ℕ) → whole (high_of a) (middle_of a) (low_of a) ≡ a
-saved a = omega arith
+pub whole-saved : (a : ℕ) → whole (high_of a) (middle_of a) (low_of a) ≡ a
+whole-saved a = omega arith
 
 pub middle_fits : (a : ℕ) → middle_of a < 2 ^ 34
 middle_fits a = omega arith

@@ -1,40 +1,28 @@
 -- One turn of the routine: it obeys one order of its guest.
-use Rattle.std.proofs.Common.{◌≡◌, ◌≢◌, ℕ, zero, suc, ◌+◌, ◌*◌, ◌/◌, ◌%◌, ◌^◌, ◌<◌, ◌≤◌, refl, sym, ap, ◌∙◌}
-use Rattle.std.proofs.Common.{subst, arith, lit<, lit≤, Bool, true, false, true≢false, nat_eq, nat_lt, nat_le}
-use Rattle.std.proofs.Common.{◌||◌, ◌&&◌, List, [], ◌∷◌, ◌++◌, append-nil, Option, Some, None, get_or, inl, inr}
-use Rattle.std.proofs.lemmas.Bool.{cases_lt, cases_eq, and_parts}
-use Rattle.std.specs.Prelude.{if◌then◌else◌}
-use Rattle.std.proofs.lemmas.Bool.Decides.{nat_tests}
-use Rattle.ed_words.specs.Sizes.{locations, within}
-use Rattle.ed_words.specs.Words.{function_of, address_of}
-use Rattle.ed_words.proofs.SizeLemmas.{most, within_below}
-use Rattle.ed_store.specs.Cells.{IsStore}
-use Rattle.ed_orders.specs.Kinds.{kind_of_function, kinds}
-use Rattle.ed_orders.specs.declared.kind.Kind.{Kind}
-use Rattle.ed_orders.specs.declared.kind.Kind.TheVariants.{E, G}
-use Rattle.ed_machine.specs.State.{State}
-use Rattle.ed_machine.specs.OrderTable.{Obeyed, step, next_word, obey_word, done_at, jump_order}
-use Rattle.ed_machine.specs.Steps.{codes_of, stops_of, is_obeyed}
-use Rattle.ed_machine.specs.declared.turn.Turn.TheVariants.{Went, Stopped}
-use Rattle.ed_checker.specs.Checker.{IsOutsideChecker, CheckerStands, IsAllowed, IsAllowedOrder}
-use Rattle.ed_checker.specs.Checker.{IsPlainJump, Agree, guest, turn_orders}
-use Rattle.ed_words.proofs.Numbers.{eq_true, eq_false, lt_true, lt_false, le_true, le_false}
-use Rattle.ed_words.specs.declared.order_words.TheConstants.{A_F, L_F}
-use Rattle.ed_checker.proofs.AccFits.{acc_fits}
-use Rattle.ed_machine.proofs.Kit.Frames.{Frame, Beside, state}
+use Rattle.ed_checker.proofs.Kit.{nat_le, ◌≢◌, cases_eq, A_F, L_F, kinds, Kind, E, G, Stopped, followed, get_own, []}
+use Rattle.ed_checker.proofs.Kit.{ap, arith, Bool, false, get_or, inl, inr, List, nat_eq, nat_lt, None, Option, refl}
+use Rattle.ed_checker.proofs.Kit.{rules, Some, subst, suc, sym, true, true≢false, zero, ℕ, ◌%◌, ◌&&◌, ◌*◌, ◌++◌, ◌+◌}
+use Rattle.ed_checker.proofs.Kit.{◌/◌, ◌<◌, ◌^◌, ◌∙◌, ◌∷◌, ◌≡◌, ◌≤◌, and_parts, cases_lt, nat_tests, locations, within}
+use Rattle.ed_checker.proofs.Kit.{address_of, function_of, locations_most, IsStore, kind_of_function, done_at, jump_order}
+use Rattle.ed_checker.proofs.Kit.{next_word, obey_word, Obeyed, step, State, codes_of, is_obeyed, stops_of}
+use Rattle.ed_checker.proofs.Kit.{if◌then◌else◌, lit≤, Frame, state, Path, Agree, CheckerStands, guest, IsAllowed}
+use Rattle.ed_checker.proofs.Kit.{IsAllowedOrder, turn_orders, HasRun}
+use Rattle.ed_routines.proofs.Kit.{le-ltb, lt-ltb, leads}
+use Rattle.std.proofs.Common.{◌||◌, append-nil}
+use Rattle.std.proofs.lemmas.Bool.{eq-eqb, ne_eqb, le-leb, lt-leb}
+use Rattle.ed_words.proofs.SizeLemmas.{within_below}
+use Rattle.ed_machine.specs.declared.turn.Turn.TheVariants.{Went}
 use Rattle.ed_machine.proofs.Kit.Places.{IsOutside as IsPlaceOutside}
-use Rattle.ed_machine.proofs.Kit.Paths.{Path, followed, leads}
-use Rattle.ed_machine.proofs.Kit.Window.{get_own}
-use Rattle.ed_checker.proofs.Saving.{high_of, middle_of, low_of, saved, middle_fits, high_fits as high_of_fits}
+use Rattle.ed_checker.specs.Checker.{IsPlainJump}
+use Rattle.ed_checker.proofs.AccFits.{acc_fits}
+use Rattle.ed_checker.proofs.Alike.{Alike, Outcome, agree_with, is_planted, Outcome-planted}
 use Rattle.ed_checker.proofs.Halves.{long_fits}
-use Rattle.ed_checker.proofs.Paths.{IsSaved, Work, Around, cells, pairs, moment, fetch, below_E}
-use Rattle.ed_checker.proofs.Paths.{above_E, below_G, above_G, restore, save, advance}
-use Rattle.ed_checker.proofs.Paths.{E_taken, E_passed, G_taken, G_passed}
-use Rattle.ed_checker.proofs.Alike.{Alike, Outcome, agree_with, is_planted, planted}
-use Rattle.ed_checker.specs.Laws.{HasRun}
-use Rattle.ed_checker.proofs.HasRun.{joined, one, along}
-use Rattle.ed_checker.proofs.Opening.{around, HasCells, opened, frame, work, holds}
-use Rattle.ed_checker.proofs.Opening.{guest_counter, guest_acc, stands_again, alike_around}
+use Rattle.ed_checker.proofs.HasRun.{HasRun-joined, HasRun-one, HasRun-along}
+use Rattle.ed_checker.proofs.Opening.{around, HasCells, state-opened, frame, work, HasCells-holds, guest_counter, guest_acc}
+use Rattle.ed_checker.proofs.Opening.{stands_again, alike_around}
+use Rattle.ed_checker.proofs.Paths.{IsSaved, Work, Around, cells, pairs, moment, Path-fetch, below_E, above_E, below_G}
+use Rattle.ed_checker.proofs.Paths.{above_G, Path-restore, Path-save, Path-advance, E_taken, E_passed, G_taken, G_passed}
+use Rattle.ed_checker.proofs.Saving.{high_of, middle_of, low_of, whole-saved, middle_fits, high_fits as high_of_fits}
 
 -- what a turn does: k orders lead from m to t, where the routine is at the start of a turn and the guest past its order
 pub record Turned (base : ℕ) (m : State) : Type 0 where
@@ -75,9 +63,7 @@ all_but [] i = true
 all_but (k ∷ ks) i = (is_planted k || (nat_eq i 3 || nat_eq i 27)) && all_but ks (i + 1)
 
 apart_from : (i : ℕ) (b : Bool) → i ≢ 3 → i ≢ 27 → (b || (nat_eq i 3 || nat_eq i 27)) ≡ true → b ≡ true
-apart_from i true a b h = refl
-apart_from i false a b h = let e : nat_eq i 3 ≡ false = eq_false i 3 a in let d : nat_eq i 27 ≡ false =
-    eq_false i 27 b in rw (e, d) at h
+apart_from i b a b0 h = search rules
 
 planted_at : (ks : List (Option Kind)) (i n : ℕ) → all_but ks i ≡ true → i + n ≢ 3 → i + n ≢ 27
     → is_planted (get_or ks n None) ≡ true
@@ -124,7 +110,7 @@ module _ (base : ℕ) (even_base : base % 2 ≡ 0) (m : State) (store : IsStore 
   x_fits = store.fits c
 
   c_fits : c + 1 < 1024
-  c_fits = let b = most m.size in omega (arith, ok.next)
+  c_fits = let b = locations_most m.size in omega (arith, ok.next)
 
   low_count : ℕ
   low_count = w0.low / 2 ^ 32
@@ -141,35 +127,26 @@ module _ (base : ℕ) (even_base : base % 2 ≡ 0) (m : State) (store : IsStore 
   high_fits = long_fits base even_base m store 60 refl
 
   saved_now : IsSaved w0.high w0.middle w0.low
-  saved_now = record {
-    digits = low_count;
-    few = low_fits;
-    low_is = low_is;
-    middle_fits = stands.middle;
-    high_fits = high_fits;
-  }
+  saved_now = search (rules, low_count, low_fits, low_is, middle_fits, high_fits)
 
   begins : state f (moment base o w0 0 0 m.last) m.orders ≡ m
   begins =
       subst (λ a. state f (moment base o w0 a 0 m.last) m.orders ≡ m) stands.acc
-      (opened f even_base w0 m 0 (holds base even_base m store room stands) (omega (arith, stands.counter)))
+      (state-opened f even_base w0 m 0 (HasCells-holds base even_base m store room stands)
+      (omega (arith, stands.counter)))
 
   at0_is : w0.at0 ≡ A_F + 2 * c
   at0_is = let z : base + 0 ≡ base = omega arith in ap (λ j. get_or m.store.words j 0) z ∙ stands.fetch
 
   c_outside : IsPlaceOutside f o.words c
-  c_outside = record { below = omega (arith, ok.next); beside = by_side ok.outside }
-    where
-      by_side : IsOutsideChecker base c → Beside o.words base 66 c
-      by_side (inl l) = let all = store.words_are in inl (l, omega (arith, c_fits))
-      by_side (inr g) = inr g
+  c_outside = search rules
 
   -- the words after the order is copied
   abbrev w1 : Work
   w1 = record w0 { at40 = x }
 
   fetched : Path f 3 (moment base o w0 0 0 m.last) (n ∷ []) (moment base o w1 (x * 2 ^ 54) 3 (Some n))
-  fetched = fetch f even_base o w0 at0_is c_outside refl x_fits
+  fetched = Path-fetch f even_base o w0 at0_is c_outside refl x_fits
 
   -- the routine reaches the copied order
   record Arrives : Type 0 where
@@ -188,7 +165,7 @@ module _ (base : ℕ) (even_base : base % 2 ≡ 0) (m : State) (store : IsStore 
     exact = e;
     at59 = acc / 2 ^ 54;
     runs = followed fetched (followed r
-        (restore f even_base o w1 saved_now));
+        (Path-restore f even_base o w1 saved_now));
   }
 
   by_tests : {a3 a27 b3 b16 b27 : Bool} → nat_eq n 3 ≡ a3 → nat_eq n 27 ≡ a27 → nat_lt n 3 ≡ b3 → nat_lt n 16 ≡ b16
@@ -204,28 +181,28 @@ module _ (base : ℕ) (even_base : base % 2 ≡ 0) (m : State) (store : IsStore 
 
   arrives : n ≢ 3 → n ≢ 27 → Arrives
   arrives no3 no27 =
-      let e3 = eq_false n 3 no3 in
-      let e27 = eq_false n 27 no27 in
+      let e3 = ne_eqb n 3 no3 in
+      let e27 = ne_eqb n 27 no27 in
       elim (cases_lt n 3) [
-        | inl l ↦ restored 3 _ (lit≤ tt) (sym (by_tests e3 e27 (lt_true n 3 l) refl refl))
+        | inl l ↦ restored 3 _ (lit≤ tt) (sym (by_tests e3 e27 (lt-ltb n 3 l) refl refl))
             (below_E f even_base o w1 x (Some n) (omega arith))
         | inr g3 ↦
             elim (cases_lt n 16) [
               | inl l ↦
                   restored 5 _ (lit≤ tt) (sym
-                  (by_tests e3 e27 (lt_false n 3 g3) (lt_true n 16 l) refl))
+                  (by_tests e3 e27 (le-ltb n 3 g3) (lt-ltb n 16 l) refl))
                   (above_E f even_base o w1 x (Some n) (let h : 4 ≤ n = omega arith in omega arith) (omega arith))
               | inr g16 ↦
                   elim (cases_lt n 27) [
                     | inl l ↦
                         restored 3 _ (lit≤ tt) (sym
-                        (by_tests e3 e27 (lt_false n 3 g3) (lt_false n 16 g16)
-                        (lt_true n 27 l)))
+                        (by_tests e3 e27 (le-ltb n 3 g3) (le-ltb n 16 g16)
+                        (lt-ltb n 27 l)))
                         (below_G f even_base o w1 x (Some n) (omega arith) (omega arith))
                     | inr g27 ↦
                         restored 5 _ (lit≤ tt) (sym
-                        (by_tests e3 e27 (lt_false n 3 g3) (lt_false n 16 g16)
-                        (lt_false n 27 g27)))
+                        (by_tests e3 e27 (le-ltb n 3 g3) (le-ltb n 16 g16)
+                        (le-ltb n 27 g27)))
                         (above_G f even_base o w1 x (Some n) (let h : 28 ≤ n = omega arith in omega arith) x_fits)
                   ]
             ]
@@ -246,7 +223,7 @@ module _ (base : ℕ) (even_base : base % 2 ≡ 0) (m : State) (store : IsStore 
     m1 = state f (moment base o w2 g.acc 40 (Some n)) (m.orders + to.count)
 
     reached : HasRun to.count m (n ∷ []) 0 m1
-    reached = subst (λ s. HasRun to.count s (n ∷ []) 0 m1) begins (along (leads to.runs m.orders))
+    reached = subst (λ s. HasRun to.count s (n ∷ []) 0 m1) begins (HasRun-along (leads to.runs m.orders))
 
     -- what the copied order does, to the machine and to the guest
     abbrev r1 : Obeyed
@@ -254,8 +231,7 @@ module _ (base : ℕ) (even_base : base % 2 ≡ 0) (m : State) (store : IsStore 
 
     at_m1 : step m1 ≡ r1
     unfolding step
-    at_m1 = ap (λ w. obey_word (kind_of_function (function_of w)) w m1)
-        (get_own 0 m.store.words base (cells base w2) 40 (lit< tt))
+    at_m1 = search (rules, get_own)
 
     at_g : step g ≡ obey_word (kind_of_function n) x g
     unfolding step
@@ -265,7 +241,7 @@ module _ (base : ℕ) (even_base : base % 2 ≡ 0) (m : State) (store : IsStore 
     a1 = alike_around f w2 g refl store.words_are store.digits_are 40
 
     result : Outcome base m1 g r1 (obey_word (kind_of_function n) x g)
-    result = planted even_base a1 (kind_of_function n) x may ok.order
+    result = Outcome-planted even_base a1 (kind_of_function n) x may ok.order
 
     same_turn : r1.turn ≡ (step g).turn
     same_turn = result.turn ∙ ap (λ (y : Obeyed). y.turn) (sym at_g)
@@ -300,12 +276,7 @@ module _ (base : ℕ) (even_base : base % 2 ≡ 0) (m : State) (store : IsStore 
     m2 = r1.state
 
     acc_whole : g.acc < 2 ^ 71
-    acc_whole =
-        let a = high_fits in
-        let b = stands.middle in
-        let d = low_fits in
-        let e : g.acc ≡ w0.high * 2 ^ 36 + 4 * w0.middle + low_count * 2 ^ 32 / 2 ^ 32 = rw (← low_is) refl in
-        rw e (omega arith)
+    acc_whole = search rules
 
     m2_acc : m2.acc < 2 ^ 71
     m2_acc = acc_fits (kind_of_function n) x m1 acc_whole
@@ -317,38 +288,26 @@ module _ (base : ℕ) (even_base : base % 2 ≡ 0) (m : State) (store : IsStore 
     m1_digit j h = get_own false m.store.sandwich (base / 2 + 30) (pairs w2) j h
 
     still : HasCells f w2 m2
-    still = record {
-      size = sym result.size;
-      word_count = result.kept.word_count ∙ a1.word_count ∙ store.words_are;
-      digit_count = result.kept.digit_count ∙ a1.digit_count ∙ store.digits_are;
-      words = λ j h. sym (m1_word j h) ∙ sym (result.kept.words (base + j) (record {
-        from = omega arith;
-        below = omega arith;
-      }));
-      digits = λ j h.
-          let e : (base + (60 + 2 * j)) / 2 ≡ base / 2 + 30 + j = omega arith in
-          let k = result.kept.digits (base + (60 + 2 * j)) (record { from = omega arith; below = omega arith }) in
-          sym (m1_digit j h) ∙ sym (rw e at k);
-    }
+    still = grind (arith, nat_tests, result, a1, m1_word, m1_digit)
 
     pub turned : is_obeyed (step g).turn ≡ true → Turned base m
     turned h =
         let went : is_obeyed r1.turn ≡ true = ap is_obeyed same_turn ∙ h in
-        let b = most m.size in
+        let b = locations_most m.size in
         let next : within m.size (base + 40 + 1) ≡ base + 41 =
         (let e : base + 40 + 1 ≡ base + 41 = omega arith in ap (within m.size) e
         ∙ within_below m.size (base + 41) (omega arith)) in
-        let opens = opened f even_base w2 m2 41 still (result.counter went ∙ next) in
+        let opens = state-opened f even_base w2 m2 41 still (result.counter went ∙ next) in
         let w3 : Work = record w2 { high = high_of m2.acc; middle = middle_of m2.acc; low = low_of m2.acc } in
         let w4 : Work = record w3 { at0 = w0.at0 + 2 } in
         let o2 : Around = around m2 in
         let at_next : w0.at0 + 2 ≡ A_F + 2 * (c + 1) = rw at0_is (omega arith) in
-        let runs = followed (save f even_base o2 w2 m2.acc m2.last m2_acc)
-        (advance f even_base o2 w3 m2.last (rw at_next (omega (arith, c_fits)))) in
+        let runs = followed (Path-save f even_base o2 w2 m2.acc m2.last m2_acc)
+        (Path-advance f even_base o2 w3 m2.last (rw at_next (omega (arith, c_fits)))) in
         let m3 : State = state f (moment base o2 w4 0 0 m2.last) (m2.orders + 16) in
-        let middle : HasRun 1 m1 (codes_of r1.turn) (stops_of r1.turn) m2 = one m1 m2 r1.turn at_m1 went in
-        let end : HasRun 16 m2 [] 0 m3 = subst (λ s. HasRun 16 s [] 0 m3) opens (along (leads runs m2.orders)) in
-        let whole_run = joined reached (joined middle end) in
+        let middle : HasRun 1 m1 (codes_of r1.turn) (stops_of r1.turn) m2 = HasRun-one m1 m2 r1.turn at_m1 went in
+        let end : HasRun 16 m2 [] 0 m3 = subst (λ s. HasRun 16 s [] 0 m3) opens (HasRun-along (leads runs m2.orders)) in
+        let whole_run = HasRun-joined reached (HasRun-joined middle end) in
         let codes : codes_of r1.turn ++ [] ≡ codes_of (step g).turn = append-nil (codes_of r1.turn)
         ∙ ap codes_of same_turn in
         let stops : 0 + (stops_of r1.turn + 0) ≡ stops_of (step g).turn = omega arith ∙ ap stops_of same_turn in
@@ -357,7 +316,7 @@ module _ (base : ℕ) (even_base : base % 2 ≡ 0) (m : State) (store : IsStore 
         let same : (obey_word (kind_of_function n) x g).state ≡ (step g).state =
         ap (λ (y : Obeyed). y.state) (sym at_g) in
         let acc_is : (guest base m3).acc ≡ m2.acc =
-        guest_acc f even_base o2 w4 ∙ saved m2.acc in
+        guest_acc f even_base o2 w4 ∙ whole-saved m2.acc in
         let counter_is : (guest base m3).counter ≡ c + 1 =
         guest_counter f even_base o2 w4 (c + 1) at_next c_fits in
         let other : (obey_word (kind_of_function n) x g).state.counter ≡ c + 1 = result.other_counter went
@@ -400,7 +359,7 @@ module _ (base : ℕ) (even_base : base % 2 ≡ 0) (m : State) (store : IsStore 
       let a : Alike base m3 (record m { acc = 0 }) =
       alike_around f w (record m { acc = 0 }) refl store.words_are store.digits_are 0 in
       let there : HasRun k m (n ∷ []) 0 m3 = subst (λ s. HasRun k s (n ∷ []) 0 m3) begins
-      (along (leads runs m.orders)) in
+      (HasRun-along (leads runs m.orders)) in
       let turn : (step g).turn ≡ Went = ap (λ (y : Obeyed). y.turn) is in
       let three : IsSaved w.high w.middle w.low = rw (same.0, same.1, same.2) saved_now in
       record {
@@ -418,26 +377,14 @@ module _ (base : ℕ) (even_base : base % 2 ≡ 0) (m : State) (store : IsStore 
 
   -- an E or G order as a word, without further digits
   plain_word : (j : ℕ) → n ≡ j → IsPlainJump base x m.size → x ≡ 4096 * j + 2 * address_of x
-  plain_word j e p =
-      let s = p.short in
-      let d = p.plain in
-      let a : x % 2 ≡ 0 = even_of x s in
-      let b : x / 2048 % 2 ≡ 0 = even_of (x / 2048) d in
-      omega arith
-    where
-      even_of : (y : ℕ) → nat_eq (y % 2) 1 ≡ false → y % 2 ≡ 0
-      even_of y h = grind (arith, nat_tests)
+  plain_word j e p = grind (arith, nat_tests)
 
   step_at : (k : Option Kind) → kind_of_function n ≡ k → step g ≡ obey_word k x g
   unfolding step
   step_at k e = ap (λ k. obey_word k x g) e
 
   acc_low : w0.high < 2 ^ 34 → g.acc < 2 ^ 70
-  acc_low h =
-      let b = stands.middle in
-      let d = low_fits in
-      let e : g.acc ≡ w0.high * 2 ^ 36 + 4 * w0.middle + low_count * 2 ^ 32 / 2 ^ 32 = rw (← low_is) refl in
-      rw e (omega arith)
+  acc_low h = omega arith
 
   acc_high : 2 ^ 34 ≤ w0.high → 2 ^ 70 ≤ g.acc
   acc_high h = omega arith
@@ -462,20 +409,20 @@ module _ (base : ℕ) (even_base : base % 2 ≡ 0) (m : State) (store : IsStore 
       let v = plain_word 3 e p in
       let q = place_is p in
       let r = next_is in
-      let b = most m.size in
+      let b = locations_most m.size in
       elim (cases_lt w0.high (2 ^ 34)) [
         | inl l ↦
-            let t : nat_lt g.acc (2 ^ 70) ≡ true = lt_true g.acc (2 ^ 70) (acc_low l) in
+            let t : nat_lt g.acc (2 ^ 70) ≡ true = lt-ltb g.acc (2 ^ 70) (acc_low l) in
             jump_end (record w1 { at0 = x + L_F; at58 = x + L_F; at59 = w0.high * 2 ^ 36 / 2 ^ 54 })
             (address_of x) (followed fetched (E_taken f even_base o w1 x (omega arith, omega arith) l))
-            (sym (by_tests (eq_true n 3 e) refl refl refl refl ∙ rw t refl), lit≤ tt)
+            (sym (by_tests (eq-eqb n 3 e) refl refl refl refl ∙ rw t refl), lit≤ tt)
             (omega arith, omega (arith, p.below)) (refl, refl, refl)
             (s ∙ rw (t, q) refl)
         | inr h ↦
-            let t : nat_lt g.acc (2 ^ 70) ≡ false = lt_false g.acc (2 ^ 70) (acc_high h) in
+            let t : nat_lt g.acc (2 ^ 70) ≡ false = le-ltb g.acc (2 ^ 70) (acc_high h) in
             jump_end (record w1 { at0 = w0.at0 + 2; at58 = x + L_F; at59 = w0.high * 2 ^ 36 / 2 ^ 54 }) (c + 1)
             (followed fetched (E_passed f even_base o w1 x (omega arith, omega arith) (h, high_fits) room_next))
-            (sym (by_tests (eq_true n 3 e) refl refl refl refl ∙ rw t refl), lit≤ tt)
+            (sym (by_tests (eq-eqb n 3 e) refl refl refl refl ∙ rw t refl), lit≤ tt)
             (at_next_is, c_fits) (refl, refl, refl)
             (s ∙ rw (t, r) refl)
       ]
@@ -488,29 +435,29 @@ module _ (base : ℕ) (even_base : base % 2 ≡ 0) (m : State) (store : IsStore 
       let v = plain_word 27 e p in
       let q = place_is p in
       let r = next_is in
-      let b = most m.size in
+      let b = locations_most m.size in
       elim (cases_lt w0.high (2 ^ 34)) [
         | inl l ↦
-            let t : nat_le (2 ^ 70) g.acc ≡ false = le_false (2 ^ 70) g.acc (acc_low l) in
-            let u : nat_lt g.acc (2 ^ 70) ≡ true = lt_true g.acc (2 ^ 70) (acc_low l) in
+            let t : nat_le (2 ^ 70) g.acc ≡ false = lt-leb (2 ^ 70) g.acc (acc_low l) in
+            let u : nat_lt g.acc (2 ^ 70) ≡ true = lt-ltb g.acc (2 ^ 70) (acc_low l) in
             jump_end (record w1 { at0 = w0.at0 + 2; at58 = x + 4096; at59 = w0.high * 2 ^ 36 / 2 ^ 54 }) (c + 1)
             (followed fetched (G_passed f even_base o w1 x (omega arith, omega arith) l room_next))
-            (sym (by_tests (ap (λ y. nat_eq y 3) e) (eq_true n 27 e) refl refl refl ∙ rw u refl), lit≤ tt)
+            (sym (by_tests (ap (λ y. nat_eq y 3) e) (eq-eqb n 27 e) refl refl refl ∙ rw u refl), lit≤ tt)
             (at_next_is, c_fits) (refl, refl, refl)
             (s ∙ rw (t, r) refl)
         | inr h ↦
-            let t : nat_le (2 ^ 70) g.acc ≡ true = le_true (2 ^ 70) g.acc (acc_high h) in
-            let u : nat_lt g.acc (2 ^ 70) ≡ false = lt_false g.acc (2 ^ 70) (acc_high h) in
+            let t : nat_le (2 ^ 70) g.acc ≡ true = le-leb (2 ^ 70) g.acc (acc_high h) in
+            let u : nat_lt g.acc (2 ^ 70) ≡ false = le-ltb g.acc (2 ^ 70) (acc_high h) in
             jump_end (record w1 { at0 = x + 4096; at58 = x + 4096; at59 = w0.high * 2 ^ 36 / 2 ^ 54 }) (address_of x)
             (followed fetched (G_taken f even_base o w1 x (omega arith, omega arith) (h, high_fits)))
-            (sym (by_tests (ap (λ y. nat_eq y 3) e) (eq_true n 27 e) refl refl refl ∙ rw u refl), lit≤ tt)
+            (sym (by_tests (ap (λ y. nat_eq y 3) e) (eq-eqb n 27 e) refl refl refl ∙ rw u refl), lit≤ tt)
             (omega arith, omega (arith, p.below)) (refl, refl, refl)
             (s ∙ rw (t, q) refl)
       ]
 
   -- the guest obeys its order
-  pub turn : is_obeyed (step g).turn ≡ true → Turned base m
-  turn h =
+  pub step-turn : is_obeyed (step g).turn ≡ true → Turned base m
+  step-turn h =
       elim (cases_eq n 3) [
         | inl e ↦ turned_E e
         | inr no3 ↦

@@ -1,18 +1,10 @@
 -- The weights of a guest's orders, if the weight of an order is the number of orders of its turn.
-use Rattle.std.proofs.Common.{◌≡◌, ℕ, zero, suc, ◌+◌, ◌≤◌, refl, ap, ◌∙◌, subst, arith}
-use Rattle.std.proofs.Common.{Bool, true, false, ◌&&◌, not, nat_eq, List, [], ◌∷◌, Option, Some, None, get_or}
-use Rattle.std.proofs.lemmas.Bool.{and_parts, not-true}
-use Rattle.std.proofs.lemmas.Bool.Decides.{nat_tests}
-use Rattle.ed_words.specs.Words.{function_of}
-use Rattle.ed_words.proofs.Numbers.{eq_of}
-use Rattle.ed_orders.specs.Kinds.{kind_of_function, kinds}
-use Rattle.ed_orders.specs.declared.kind.Kind.{Kind}
-use Rattle.ed_orders.specs.declared.kind.Kind.TheVariants.{E, G}
-use Rattle.ed_machine.specs.State.{State}
-use Rattle.ed_machine.specs.OrderTable.{next_word}
-use Rattle.ed_machine.specs.Steps.{state_after}
+use Rattle.ed_checker.proofs.Kit.{kinds, Kind, E, G, [], ap, arith, Bool, get_or, List, nat_eq, None, Option, refl}
+use Rattle.ed_checker.proofs.Kit.{rules, Some, subst, suc, true, zero, ℕ, ◌&&◌, ◌+◌, ◌∷◌, ◌≡◌, and_parts, function_of}
+use Rattle.ed_checker.proofs.Kit.{kind_of_function, next_word, State, state_after, checked_orders, orders_by}
+use Rattle.ed_checker.proofs.Kit.{turn_orders}
+use Rattle.std.proofs.Common.{not}
 use Rattle.ed_routines.proofs.Walks.{Weights, total, weight}
-use Rattle.ed_checker.specs.Checker.{checked_orders, orders_by, turn_orders}
 
 -- the orders of a turn by the kind of the guest's order
 abbrev pub turn_weights : Weights
@@ -41,25 +33,8 @@ weighs_at (k ∷ ks) i (suc n) h =
     subst (λ j. weighs_as j (get_or ks n None) ≡ true) e
     (weighs_at ks (i + 1) n (and_parts (weighs_as i k) (all_weigh ks (i + 1)) h).1)
 
--- a turn has at most 35 orders
-pub few_orders : (function acc : ℕ) → orders_by function acc ≤ 35
-few_orders function acc = grind (arith, nat_tests)
-
--- an order that is not a jump: the accumulator makes no difference
-no_jump : (n v acc : ℕ) → (not (nat_eq n 3) && (not (nat_eq n 27) && nat_eq (orders_by n 0) v)) ≡ true
-    → orders_by n acc ≡ v
-no_jump n v acc h =
-    let p = and_parts (not (nat_eq n 3)) (not (nat_eq n 27) && nat_eq (orders_by n 0) v) h in
-    let q = and_parts (not (nat_eq n 27)) (nat_eq (orders_by n 0) v) p.1 in
-    let a : nat_eq n 3 ≡ false = not-true (nat_eq n 3) p.0 in
-    let b : nat_eq n 27 ≡ false = not-true (nat_eq n 27) q.0 in
-    let same : orders_by n acc ≡ orders_by n 0 = rw (a, b) refl in
-    same ∙ eq_of (orders_by n 0) v q.1
-
 by_kind : (kind : Kind) (n acc : ℕ) → weighs_as n (Some kind) ≡ true → orders_by n acc ≡ weight turn_weights kind acc
-by_kind E n acc h = ap (λ x. orders_by x acc) (eq_of n 3 h)
-by_kind G n acc h = ap (λ x. orders_by x acc) (eq_of n 27 h)
-by_kind kind n acc h = no_jump n (weight turn_weights kind 0) acc h
+by_kind kind n acc h = search rules
 
 -- the turn of a guest whose next order is of a kind
 pub turn_weighs : (kind : Kind) (s : State) → kind_of_function (function_of (next_word s)) ≡ Some kind

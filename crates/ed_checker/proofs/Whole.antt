@@ -1,104 +1,41 @@
 -- What a turn does, for a run of the machine that obeys as many orders.
-use Rattle.std.proofs.Common.{◌≡◌, ℕ, ◌+◌, ◌-◌, ◌%◌, ◌^◌, ◌<◌, ◌≤◌, refl, sym, ap, ◌∙◌, subst}
-use Rattle.std.proofs.Common.{arith, lit≤, Bool, true, false, true≢false, nat_lt, nat_le}
-use Rattle.std.proofs.Common.{List, [], ◌∷◌, ◌++◌, length, Option, Some, None, ◌⊎◌, inl, inr}
-use Rattle.std.specs.Prelude.{if◌then◌else◌}
-use Rattle.ed_words.specs.Sizes.{locations}
-use Rattle.ed_words.specs.Words.{function_of}
-use Rattle.ed_store.specs.Cells.{IsStore}
-use Rattle.ed_orders.specs.Kinds.{kind_of_function}
-use Rattle.ed_orders.specs.declared.kind.Kind.{Kind}
-use Rattle.ed_orders.specs.declared.kind.Kind.TheVariants.{E, G, I}
-use Rattle.ed_machine.specs.State.{State}
-use Rattle.ed_machine.specs.OrderTable.{Obeyed, step, next_word, obey_word, jump_order, row_order, place_of}
-use Rattle.ed_machine.specs.Steps.{Progress, progress, codes_of, stops_of, is_obeyed}
-use Rattle.ed_machine.specs.Sheet.{Sheet}
-use Rattle.ed_machine.specs.declared.turn.Turn.{Turn}
-use Rattle.ed_machine.specs.declared.turn.Turn.TheVariants.{Went, Printed, Stopped, NoOrder, NoTape}
+use Rattle.ed_checker.proofs.Kit.{nat_le, Kind, Turn, [], ap, arith, Bool, false, inl, inr, length, Option, refl}
+use Rattle.ed_checker.proofs.Kit.{rules, Some, subst, sym, true, true≢false, ℕ, ◌%◌, ◌++◌, ◌+◌, ◌-◌, ◌<◌, ◌∙◌, ◌∷◌}
+use Rattle.ed_checker.proofs.Kit.{◌≡◌, ◌≤◌, ◌⊎◌, locations, function_of, IsStore, kind_of_function, next_word}
+use Rattle.ed_checker.proofs.Kit.{obey_word, Obeyed, step, State, codes_of, is_obeyed, progress, Progress, stops_of}
+use Rattle.ed_checker.proofs.Kit.{if◌then◌else◌, Agree, CheckerStands, guest, IsAllowed, turn_orders, ChecksOne}
+use Rattle.ed_run.proofs.Kit.{Sheet, first_once, end_by, EndsAfter, IsRun}
 use Rattle.ed_machine.specs.declared.ending.Ending.{Ending}
 use Rattle.ed_machine.specs.declared.ending.Ending.TheVariants.{Limit, NoOrder as EndsNoOrder, NoTape as EndsNoTape}
-use Rattle.ed_run.specs.Run.{EndsAfter, IsRun, end_by}
-use Rattle.ed_run.proofs.Ends.{ends_once}
+use Rattle.ed_machine.proofs.Steps.{one_code}
 use Rattle.ed_run.proofs.Places.{at_limit, at_block}
-use Rattle.ed_checker.specs.Checker.{CheckerStands, IsAllowed, Agree, guest, turn_orders, is_Z}
-use Rattle.ed_checker.specs.Contract.{ChecksOne, answer_by}
+use Rattle.ed_checker.specs.Checker.{is_Z}
+use Rattle.ed_checker.specs.Contract.{answer_by}
 use Rattle.ed_checker.specs.declared.checking.Checking.TheVariants.{Went as HasGone, Stopped as HasStopped}
 use Rattle.ed_checker.specs.declared.checking.Checking.TheVariants.{Blocked as IsBlocked}
-use Rattle.ed_checker.proofs.Turns.{Turned, Stuck, turn, turn_stuck}
-
-pub few_codes : (t : Turn) → length (codes_of t) ≤ 1
-few_codes Went = lit≤ tt
-few_codes (Printed code) = lit≤ tt
-few_codes Stopped = lit≤ tt
-few_codes (NoOrder function) = lit≤ tt
-few_codes NoTape = lit≤ tt
+use Rattle.ed_checker.proofs.Turns.{Turned, Stuck, step-turn, turn_stuck}
 
 few_stops : (t : Turn) → stops_of t ≤ 1
-few_stops Went = lit≤ tt
-few_stops (Printed code) = lit≤ tt
-few_stops Stopped = lit≤ tt
-few_stops (NoOrder function) = lit≤ tt
-few_stops NoTape = lit≤ tt
+few_stops t = search rules
 
 -- a state in which no order can be obeyed
 same_state : (k : Option Kind) (w : ℕ) (s : State) → is_obeyed (obey_word k w s).turn ≡ false
     → ((obey_word k w s).state ≡ s) × (codes_of (obey_word k w s).turn ≡ [])
-same_state (Some E) w s h = absurd (by_test (nat_lt s.acc (2 ^ 70)) h)
-  where
-    by_test : (b : Bool) → is_obeyed (jump_order b (place_of s w) s).turn ≡ false → ⊥
-    by_test true h = true≢false h
-    by_test false h = true≢false h
-same_state (Some G) w s h = absurd (by_test (nat_le (2 ^ 70) s.acc) h)
-  where
-    by_test : (b : Bool) → is_obeyed (jump_order b (place_of s w) s).turn ≡ false → ⊥
-    by_test true h = true≢false h
-    by_test false h = true≢false h
-same_state (Some I) w s h = by_tape s.tape h
-  where
-    by_tape : (xs : List ℕ) → is_obeyed (row_order xs w s).turn ≡ false
-        → ((row_order xs w s).state ≡ s) × (codes_of (row_order xs w s).turn ≡ [])
-    by_tape [] h = (refl, refl)
-    by_tape (x ∷ xs) h = absurd (true≢false h)
-same_state None w s h = (refl, refl)
-same_state (Some k) w s h = absurd (true≢false h)
+same_state k w s h = search rules
 
 -- the answer by the kind of the order
 answer_of : (k : Option Kind) (w n : ℕ) (s : State) → is_obeyed (obey_word k w s).turn ≡ true
     → answer_by (obey_word k w s).turn n ≡ (if is_Z k then HasStopped n else HasGone n)
-answer_of (Some E) w n s h = by_test (nat_lt s.acc (2 ^ 70))
-  where
-    by_test : (b : Bool) → answer_by (jump_order b (place_of s w) s).turn n ≡ HasGone n
-    by_test true = refl
-    by_test false = refl
-answer_of (Some G) w n s h = by_test (nat_le (2 ^ 70) s.acc)
-  where
-    by_test : (b : Bool) → answer_by (jump_order b (place_of s w) s).turn n ≡ HasGone n
-    by_test true = refl
-    by_test false = refl
-answer_of (Some I) w n s h = by_tape s.tape h
-  where
-    by_tape : (xs : List ℕ) → is_obeyed (row_order xs w s).turn ≡ true → answer_by (row_order xs w s).turn n ≡ HasGone n
-    by_tape [] h = absurd (true≢false (sym h))
-    by_tape (x ∷ xs) h = refl
-answer_of None w n s h = absurd (true≢false (sym h))
-answer_of (Some k) w n s h = refl
+answer_of k w n s h = search rules
 
 -- the answer if the order is blocked
 blocked_answer : (t : Turn) (n : ℕ) → is_obeyed t ≡ false → answer_by t n ≡ IsBlocked n
-blocked_answer Went n h = absurd (true≢false h)
-blocked_answer (Printed code) n h = absurd (true≢false h)
-blocked_answer Stopped n h = absurd (true≢false h)
-blocked_answer (NoOrder function) n h = refl
-blocked_answer NoTape n h = refl
+blocked_answer t n h = search rules
 
 -- and how a run ends there
 blocked_end : (t : Turn) (full : Bool) → is_obeyed t ≡ false
     → (e : Ending) × (end_by t full ≡ Some e) × ((e ≡ EndsNoOrder) ⊎ (e ≡ EndsNoTape))
-blocked_end Went full h = absurd (true≢false h)
-blocked_end (Printed code) full h = absurd (true≢false h)
-blocked_end Stopped full h = absurd (true≢false h)
-blocked_end (NoOrder function) full h = (EndsNoOrder, refl, inl refl)
-blocked_end NoTape full h = (EndsNoTape, refl, inr refl)
+blocked_end t full h = search rules
 
 -- a run of as many orders as a turn takes, from a state in which the routine is at the start of one and its guest's
 -- order is allowed
@@ -141,9 +78,9 @@ module _ {base count : ℕ} {s t : State} {sheet full : Sheet} {ending : Ending}
 
   done : is_obeyed (step g).turn ≡ true → Done
   done h =
-      let r : Turned base s = turn base o.even s o.store o.room o.stands o.allowed h in
+      let r : Turned base s = step-turn base o.even s o.store o.room o.stands o.allowed h in
       let cs = function_of (next_word g) ∷ codes_of (step g).turn in
-      let few = few_codes (step g).turn in
+      let few = one_code (step g).turn in
       let space = o.space in
       let printed : length (progress r.count s).codes ≡ length cs = ap (λ (p : Progress). length p.codes) r.ran.is in
       let stopped : (progress r.count s).stops ≡ stops_of (step g).turn = ap (λ (p : Progress). p.stops) r.ran.is in
@@ -151,7 +88,7 @@ module _ {base count : ℕ} {s t : State} {sheet full : Sheet} {ending : Ending}
       (at_limit r.count 1 {room = space_left} {s = s}
       (record { obeyed = r.ran.free; printed = omega (arith, few, printed) })
       (omega (arith, few_stops (step g).turn, stopped))) in
-      let u = ends_once runs.ends e in
+      let u = first_once runs.ends e in
       let there : (progress runs.orders s) ≡ record { state = r.after; codes = cs; stops = stops_of (step g).turn } =
       ap (λ i. progress i s) u.0 ∙ r.ran.is in
       let state : t ≡ r.after = runs.state_is ∙ ap (λ (p : Progress). p.state) there in
@@ -190,7 +127,7 @@ module _ {base count : ℕ} {s t : State} {sheet full : Sheet} {ending : Ending}
       ap (λ (p : Progress). end_by (step p.state).turn (nat_le space_left (length p.codes))) r.ran.is ∙ b.1 in
       let e = at_block (turn_orders g) 1 {room = space_left} {k = r.count} {s = s}
       (record { obeyed = r.ran.free; printed = omega (arith, printed) }) (omega (arith, stopped)) below there_too in
-      let u = ends_once runs.ends e in
+      let u = first_once runs.ends e in
       let there : (progress runs.orders s) ≡ record { state = r.after; codes = cs; stops = 0 } =
       ap (λ i. progress i s) u.0
       ∙ r.ran.is in
@@ -231,8 +168,7 @@ module _ {base count : ℕ} {s t : State} {sheet full : Sheet} {ending : Ending}
   answered = by_test (is_obeyed (step g).turn) refl
 
   no_end : (ending ≡ Limit) → ((ending ≡ EndsNoOrder) ⊎ (ending ≡ EndsNoTape)) → ⊥
-  no_end l (inl e) = let bad : Limit ≡ EndsNoOrder = sym l ∙ e in absurd (cc)
-  no_end l (inr e) = let bad : Limit ≡ EndsNoTape = sym l ∙ e in absurd (cc)
+  no_end l h = search rules
 
   pub when_blocked : ((ending ≡ EndsNoOrder) ⊎ (ending ≡ EndsNoTape))
       → (17 ≤ count) × ChecksOne base s t sheet full (IsBlocked (count - 17))
@@ -242,8 +178,7 @@ module _ {base count : ℕ} {s t : State} {sheet full : Sheet} {ending : Ending}
 
   not_blocked : (ending ≡ EndsNoOrder → ⊥) → (ending ≡ EndsNoTape → ⊥)
       → ((ending ≡ EndsNoOrder) ⊎ (ending ≡ EndsNoTape)) → ⊥
-  not_blocked a b (inl e) = a e
-  not_blocked a b (inr e) = b e
+  not_blocked a b h = search rules
 
   pub when_done : {b : Bool} → (ending ≡ EndsNoOrder → ⊥) → (ending ≡ EndsNoTape → ⊥)
       → is_Z (kind_of_function (function_of (next_word g))) ≡ b

@@ -26,7 +26,7 @@ with_rows (code ∷ codes) r = with_row code (with_rows codes r)
 -- ---- one byte
 
 -- a byte that passes a test is not one that fails it
-other_byte : (test : ℕ → Bool) (b k : ℕ) → test b ≡ true → test k ≡ false → (b == k) ≡ false
+pub other_byte : (test : ℕ → Bool) (b k : ℕ) → test b ≡ true → test k ≡ false → (b == k) ≡ false
 other_byte test b k passes fails = by_test (b == k) refl
   where
     by_test : (t : Bool) → (b == k) ≡ t → (b == k) ≡ false
@@ -154,8 +154,8 @@ pub record IsReadTo (text codes : List ℕ) (within : Option ℕ) (place : ℕ) 
   pub whole : with_rows codes (reading_from within place (drop place text)) ≡ reading text
 
 -- no byte is read
-pub begins : {text codes : List ℕ} → codes ≡ [] → IsReadTo text codes None 0
-begins {text} empty = rw empty (record { whole = refl })
+pub IsReadTo-begins : {text codes : List ℕ} → codes ≡ [] → IsReadTo text codes None 0
+IsReadTo-begins {text} empty = rw empty (record { whole = refl })
 
 -- the same, with the next byte
 next : {text codes : List ℕ} {within : Option ℕ} {place : ℕ} → place < length text → IsReadTo text codes within place
@@ -163,46 +163,49 @@ next : {text codes : List ℕ} {within : Option ℕ} {place : ℕ} → place < l
 next {text} {place = place} below h = rw (drop_more text place 0 below) at h.whole
 
 -- a comment ends
-pub closes : {text codes : List ℕ} {within : Option ℕ} {place : ℕ} → place < length text → true ≡ is_some within
+pub IsReadTo-closes : {text codes : List ℕ} {within : Option ℕ} {place : ℕ} → place < length text
+    → true ≡ is_some within
     → get_or text place 0 ≡ 93 → IsReadTo text codes within place → IsReadTo text codes None (place + 1)
-closes {within = None} below some is h = absurd (cc)
-closes {within = Some start} below some is h = record { whole = rw is at (next below h) }
+IsReadTo-closes {within = None} below some is h = absurd (cc)
+IsReadTo-closes {within = Some start} below some is h = record { whole = rw is at (next below h) }
 
 -- a comment goes on
-pub stays : {text codes : List ℕ} {within : Option ℕ} {place : ℕ} → place < length text → true ≡ is_some within
+pub IsReadTo-stays : {text codes : List ℕ} {within : Option ℕ} {place : ℕ} → place < length text → true ≡ is_some within
     → get_or text place 0 ≢ 93 → IsReadTo text codes within place → IsReadTo text codes within (place + 1)
-stays {within = None} below some other h = absurd (cc)
-stays {within = Some start} below some other h = record { whole = rw (differs _ 93 other) at (next below h) }
+IsReadTo-stays {within = None} below some other h = absurd (cc)
+IsReadTo-stays {within = Some start} below some other h = record { whole = rw (differs _ 93 other) at (next below h) }
 
 -- a comment begins
-pub opens : {text codes : List ℕ} {within : Option ℕ} {place : ℕ} → place < length text → false ≡ is_some within
+pub IsReadTo-opens : {text codes : List ℕ} {within : Option ℕ} {place : ℕ} → place < length text
+    → false ≡ is_some within
     → get_or text place 0 ≡ 91 → IsReadTo text codes within place → IsReadTo text codes (Some place) (place + 1)
-opens {within = None} below outside is h = record { whole = rw is at (next below h) }
-opens {within = Some start} below outside is h = absurd (cc)
+IsReadTo-opens {within = None} below outside is h = record { whole = rw is at (next below h) }
+IsReadTo-opens {within = Some start} below outside is h = absurd (cc)
 
 -- a spacing byte
-pub skips : {text codes : List ℕ} {within : Option ℕ} {place : ℕ} → place < length text → false ≡ is_some within
+pub IsReadTo-skips : {text codes : List ℕ} {within : Option ℕ} {place : ℕ} → place < length text
+    → false ≡ is_some within
     → true ≡ is_spacing (get_or text place 0) → IsReadTo text codes within place
     → IsReadTo text codes within (place + 1)
-skips {text} {codes} {within = None} {place} below outside is h =
+IsReadTo-skips {text} {codes} {within = None} {place} below outside is h =
     record { whole = rw (spacing_byte (get_or text place 0) place (drop (place + 1) text) (sym is)) at (next below h) }
-skips {within = Some start} below outside is h = absurd (cc)
+IsReadTo-skips {within = Some start} below outside is h = absurd (cc)
 
 one_more : (codes : List ℕ) (code : ℕ) (r : Reading) → with_rows (codes ++ code ∷ []) r ≡ with_rows codes (with_row code r)
 one_more [] code r = refl
 one_more (first ∷ codes) code r = ap (with_row first) (one_more codes code r)
 
 -- a row
-pub gains : {text codes : List ℕ} {within : Option ℕ} {place : ℕ} (code : ℕ) → place < length text
+pub IsReadTo-gains : {text codes : List ℕ} {within : Option ℕ} {place : ℕ} (code : ℕ) → place < length text
     → false ≡ is_some within → row_of (get_or text place 0) ≡ Some code → IsReadTo text codes within place
     → IsReadTo text (codes ++ code ∷ []) within (place + 1)
-gains {text} {codes} {within = None} {place} code below outside is h =
+IsReadTo-gains {text} {codes} {within = None} {place} code below outside is h =
     let after = drop (place + 1) text in
     record {
       whole = one_more codes code (reading_from None (place + 1) after)
           ∙ rw (row_byte (get_or text place 0) code place after is) at (next below h);
     }
-gains {within = Some start} code below outside is h = absurd (cc)
+IsReadTo-gains {within = Some start} code below outside is h = absurd (cc)
 
 -- a byte that spells no row
 pub finds_none : {text codes : List ℕ} {within : Option ℕ} {place : ℕ} → place < length text
@@ -221,9 +224,9 @@ ends_open {text} {codes} {start} {place} past h =
     sym (rw (drop_all place text past) at h.whole) ∙ open_comment_stays codes start
 
 -- and outside
-pub ends : {text codes : List ℕ} {place : ℕ} → length text ≤ place → IsReadTo text codes None place
+pub reading-ends : {text codes : List ℕ} {place : ℕ} → length text ≤ place → IsReadTo text codes None place
     → reading text ≡ rows codes
-ends {text} {codes} {place} past h = sym (rw (drop_all place text past) at h.whole) ∙ rows_stay codes
+reading-ends {text} {codes} {place} past h = sym (rw (drop_all place text past) at h.whole) ∙ rows_stay codes
 
 -- an answer that says its text's reading says what the text has
 pub reads_text : (text : List ℕ) (r : Result (Vec Code Global) TextFault) → AnswersText (reading text) r

@@ -1,14 +1,9 @@
 -- The command of the program, made of its options in turn and of its words.
-use Rattle.std.proofs.Common.{◌≡◌, ◌∙◌, ◌+◌, ◌<◌, ◌≤◌, ℕ, Bor, List, length, false, sym, ap, ap₂, drop, get_or, map, Some}
-use Rattle.std.proofs.lemmas.List.{at_drop_all, at_drop_more}
-use Rattle.std.specs.Prelude.{fold}
-use Rattle.clap.specs.Words.{AddsArg, App, app_of, new_rule, rule_of, with_rule}
-use Rattle.clap.specs.Walk.{Rule}
-use Rattle.clap.specs.declared.builder.action.ArgAction.TheVariants.{Append}
-use Rattle.clap.specs.declared.builder.arg.Arg.{Arg}
-use Rattle.clap.specs.declared.builder.command.Command.{Command}
-use Rattle.ed_words.specs.Texts.{Text}
-use Rattle.ed_command.specs.Rules.{app, option_rule, options_app, with_option, words_rule}
+use Rattle.ed_command.proofs.Kit.{Rule, App, app_of, rule_of, Append, Arg, Command, ap₂, Bor, drop, fold, get_or, List}
+use Rattle.ed_command.proofs.Kit.{map, at_drop_all, at_drop_more, Text, ap, false, length, Some, sym, ℕ, ◌+◌, ◌<◌, ◌∙◌}
+use Rattle.ed_command.proofs.Kit.{◌≡◌, ◌≤◌, app, option_rule, with_option, words_rule}
+use Rattle.clap.specs.Words.{AddsArg, new_rule, with_rule}
+use Rattle.ed_command.specs.Rules.{options_app}
 
 -- with the options that are left, the command is the one with all of them
 abbrev pub IsWithout : List (Bor Text) → Command → Type 0

@@ -1,19 +1,16 @@
 -- The arguments of a command, its size of the store, and the lines of the table as the program holds them.
-use Rattle.std.proofs.Common.{◌≡◌, ◌≢◌, ◌<◌, ◌≤◌, ℕ, Bool, true, false, Bor, List, [], ◌∷◌}
-use Rattle.std.proofs.Common.{◌+◌, ◌-◌, ◌∙◌, refl, sym, subst, arith, length, map, codes, drop, get_or, take}
-use Rattle.std.proofs.lemmas.Slice.Eq.{bytes_eq-Decides}
-use Rattle.std.proofs.lemmas.List.{at_drop_all, at_drop_more, take_all}
-use Rattle.std.specs.Prelude.{Option, Some, None, option_and_then, option_map, slice_index_or, if◌then◌else◌}
-use Rattle.std.specs.Str.{bytes_eq}
-use Rattle.ed_library.specs.declared.call.Call.TheVariants.{NewLine}
-use Rattle.ed_words.specs.Decimals.{number, number_within}
-use Rattle.ed_words.specs.Texts.{Text}
-use Rattle.ed_command.specs.Held.{action_by, call_with, line_in}
-use Rattle.ed_command.specs.Lines.{TableLine, call_of, command, command_of, division, line_named, lines, with_only}
+use Rattle.ed_command.proofs.Kit.{Bor, codes, drop, get_or, if◌then◌else◌, List, map, Option, option_and_then}
+use Rattle.ed_command.proofs.Kit.{option_map, slice_index_or, ◌∷◌, bytes_eq, at_drop_all, at_drop_more}
+use Rattle.ed_command.proofs.Kit.{bytes_eq-Decides, number, number_within, Text, [], arith, Bool, false, length, None}
+use Rattle.ed_command.proofs.Kit.{refl, Some, sym, true, ℕ, ◌+◌, ◌<◌, ◌∙◌, ◌≡◌, ◌≤◌, NewLine, line_in, call_of}
+use Rattle.ed_command.proofs.Kit.{command, command_of, division, line_named, lines, TableLine, with_only, option_value}
+use Rattle.ed_command.proofs.Kit.{Options, settings_of, Action}
+use Rattle.std.proofs.Common.{◌≢◌, ◌-◌, take}
+use Rattle.std.proofs.lemmas.List.{take_all}
 use Rattle.ed_words.specs.declared.size.Size.TheVariants.{Full}
-use Rattle.ed_command.specs.Settings.{Options, has_only, option_value, settings_of}
+use Rattle.ed_command.specs.Held.{action_by, call_with}
+use Rattle.ed_command.specs.Settings.{has_only}
 use Rattle.ed_command.specs.Windows.{size_named}
-use Rattle.ed_command.specs.declared.command.Action.{Action}
 use Rattle.ed_command.specs.declared.command.Action.TheVariants.{Demo}
 use Rattle.ed_command.specs.declared.lines.LineAction.{LineAction}
 use Rattle.ed_command.specs.declared.lines.LineAction.TheVariants.{Alone, Demo as Demonstrates}
@@ -38,7 +35,7 @@ pub name_alone : (arguments : List (Bor Text)) (x : Bor Text) → 1 ≤ length a
 name_alone [] x least most h = absurd (omega (arith, least))
 name_alone (name ∷ []) x least most h =
     let is = bytes_eq name.now in
-    rw (differs name.now (codes "newline") h)
+    rw (differs name.now _ h)
     (neither (is (codes "print")) _ (neither (is (codes "read")) _ (neither (is (codes "divide")) _
     (neither (is (codes "root")) _ (neither (is (codes "check")) None refl)))))
 name_alone (name ∷ more ∷ others) x least most h = absurd (omega (arith, most))
@@ -46,15 +43,13 @@ name_alone (name ∷ more ∷ others) x least most h = absurd (omega (arith, mos
 -- a name and two numbers are a call only if it is `divide`
 pub two_numbers : (arguments : List (Bor Text)) (x : Bor Text) → 3 ≤ length arguments → length arguments < 4
     → (slice_index_or arguments 0 x).now ≢ codes "divide" → call_of (map (λ a. a.now) arguments) ≡ None
-two_numbers [] x least most h = absurd (omega (arith, least))
-two_numbers (name ∷ []) x least most h = absurd (omega (arith, least))
-two_numbers (name ∷ n ∷ []) x least most h = absurd (omega (arith, least))
 two_numbers (name ∷ n ∷ by ∷ []) x least most h =
     let is = bytes_eq name.now in
-    rw (differs name.now (codes "divide") h)
+    rw (differs name.now _ h)
     (neither (is (codes "print")) _ (neither (is (codes "read")) _ (neither (is (codes "newline")) _
     (neither (is (codes "root")) _ (neither (is (codes "check")) None refl)))))
 two_numbers (name ∷ n ∷ by ∷ more ∷ others) x least most h = absurd (omega (arith, most))
+two_numbers arguments x least most h = absurd (omega (arith, least))
 
 -- no arguments, and too many
 pub no_name : (arguments : List (Bor Text)) → length arguments < 1 → call_of (map (λ a. a.now) arguments) ≡ None
@@ -70,15 +65,13 @@ newline_alone (name ∷ []) x least most is = rw is refl
 newline_alone (name ∷ more ∷ others) x least most is = absurd (omega (arith, most))
 
 -- `divide`
-pub divided : (arguments : List (Bor Text)) (x : Bor Text) → 3 ≤ length arguments → length arguments < 4
+pub call_of-divided : (arguments : List (Bor Text)) (x : Bor Text) → 3 ≤ length arguments → length arguments < 4
     → (slice_index_or arguments 0 x).now ≡ codes "divide"
     → call_of (map (λ a. a.now) arguments)
     ≡ division (number (slice_index_or arguments 1 x).now) (number_within 1 32767 (slice_index_or arguments 2 x).now)
-divided [] x least most is = absurd (omega (arith, least))
-divided (name ∷ []) x least most is = absurd (omega (arith, least))
-divided (name ∷ n ∷ []) x least most is = absurd (omega (arith, least))
-divided (name ∷ n ∷ by ∷ []) x least most is = rw is refl
-divided (name ∷ n ∷ by ∷ more ∷ others) x least most is = absurd (omega (arith, most))
+call_of-divided (name ∷ n ∷ by ∷ []) x least most is = rw is refl
+call_of-divided (name ∷ n ∷ by ∷ more ∷ others) x least most is = absurd (omega (arith, most))
+call_of-divided arguments x least most is = absurd (omega (arith, least))
 
 word_is : (name word : Text) → bytes_eq name word ≡ true → name ≡ word
 word_is name word e = (bytes_eq-Decides name word).0 e
@@ -99,28 +92,24 @@ one_number_by name n o is = by_words (is_name (codes "newline")) (is_name (codes
     by_words false true e f (Some k) is = rw (word_is name (codes "divide") f) refl
     by_words false false e f None is =
         rw (is, e, f) (neither (is_name (codes "print")) _ (neither (is_name (codes "read")) _
-        (neither (is_name (codes "root")) _ (neither (is_name (codes "check")) None refl))))
+        (neither _ _ (neither _ None refl))))
     by_words false false e f (Some k) is = rw (is, e, f) refl
 
 -- a name and one number
 pub one_number_after : (arguments : List (Bor Text)) (x : Bor Text) (o : Option ℕ) → 2 ≤ length arguments
     → length arguments < 3 → o ≡ number_within 0 65535 (slice_index_or arguments 1 x).now
     → call_of (map (λ a. a.now) arguments) ≡ option_and_then (call_with (slice_index_or arguments 0 x).now) o
-one_number_after [] x o least most is = absurd (omega (arith, least))
-one_number_after (name ∷ []) x o least most is = absurd (omega (arith, least))
 one_number_after (name ∷ n ∷ []) x o least most is = one_number_by name.now n.now o (sym is)
 one_number_after (name ∷ n ∷ more ∷ others) x o least most is = absurd (omega (arith, most))
+one_number_after arguments x o least most is = absurd (omega (arith, least))
 
 -- too many numbers
 pub many_numbers : (arguments : List (Bor Text)) → 4 ≤ length arguments → call_of (map (λ a. a.now) arguments) ≡ None
-many_numbers [] least = absurd (omega (arith, least))
-many_numbers (name ∷ []) least = absurd (omega (arith, least))
-many_numbers (name ∷ n ∷ []) least = absurd (omega (arith, least))
-many_numbers (name ∷ n ∷ by ∷ []) least = absurd (omega (arith, least))
 many_numbers (name ∷ n ∷ by ∷ more ∷ others) least =
     let is = bytes_eq name.now in
     neither (is (codes "print")) _ (neither (is (codes "read")) _ (neither (is (codes "newline")) _
     (neither (is (codes "divide")) _ (neither (is (codes "root")) _ (neither (is (codes "check")) None refl)))))
+many_numbers arguments least = absurd (omega (arith, least))
 
 -- ---- actions
 
@@ -150,9 +139,8 @@ demo_of_none action (text ∷ others) is most = absurd (omega (arith, most))
 
 pub demo_of_many : (action : LineAction) (arguments : List (Bor Text)) → action ≡ Demonstrates → 2 ≤ length arguments
     → action_by action (map (λ a. a.now) arguments) ≡ None
-demo_of_many action [] is least = absurd (omega (arith, least))
-demo_of_many action (text ∷ []) is least = absurd (omega (arith, least))
 demo_of_many action (text ∷ more ∷ others) is least = rw is refl
+demo_of_many action arguments is least = absurd (omega (arith, least))
 
 -- ---- the size of the store
 
@@ -161,8 +149,7 @@ pub no_size : (values : List (Bor Text)) (x : Bor Text) → 1 ≤ length values 
     → (slice_index_or values 0 x).now ≢ codes "512" → (slice_index_or values 0 x).now ≢ codes "1024"
     → option_value Full size_named (map (λ v. v.now) values) ≡ None
 no_size [] x least most h k = absurd (omega (arith, least))
-no_size (value ∷ []) x least most h k =
-    simp (differs value.now (codes "512") h, differs value.now (codes "1024") k)
+no_size (value ∷ []) x least most h k = simp (differs value.now _ h, differs value.now _ k)
 no_size (value ∷ more ∷ others) x least most h k = absurd (omega (arith, most))
 
 -- ---- lines
@@ -175,9 +162,7 @@ taken l o arguments h = simp h
 line_taken : (t : Option TableLine) (l : TableLine) → Some l ≡ t → (o : Options) (arguments : List Text)
     → has_only l.options o ≡ true
     → option_and_then (λ l. with_only l.options o (l.action arguments)) t ≡ command (l.action arguments) (settings_of o)
-line_taken t l e o arguments h =
-    subst (λ (found : Option TableLine). option_and_then (λ l. with_only l.options o (l.action arguments)) found
-    ≡ command (l.action arguments) (settings_of o)) e (taken l o arguments h)
+line_taken t l e o arguments h = rw (← e) (taken l o arguments h)
 
 -- the command of the words, by the line that the first of them begins
 pub command_found : (words : List (Bor Text)) (x : Bor Text) (line : held.TableLine) (o : Options) → 1 ≤ length words
@@ -189,8 +174,7 @@ command_found [] x line o least is h = absurd (omega (arith, least))
 command_found (word ∷ arguments) x line o least is h =
     let many : length arguments ≤ length (word ∷ arguments) - 1 = omega arith in
     let rest : take (length (word ∷ arguments) - 1) arguments ≡ arguments = take_all _ arguments many in
-    rw rest
-    (line_taken (line_named lines word.now) (line_in line) is o (map (λ a. a.now) arguments) h)
+    rw rest (line_taken _ _ is o _ h)
 
 -- at a line of the table, in a search from the first one on: it is the one that begins with the word, or a later one is
 pub at_line : (ls : List held.TableLine) (i : ℕ) (d : held.TableLine) (word : Text) (c : Bool) → i < length ls
@@ -200,8 +184,7 @@ pub at_line : (ls : List held.TableLine) (i : ℕ) (d : held.TableLine) (word : 
 at_line ls i d word c below same is =
     let here =
     sym (at_drop_more (λ (xs : List held.TableLine). line_named (map line_in xs) word) ls i d below) ∙ same in
-    subst (λ (b : Bool). (if b then Some (line_in (get_or ls i d)) else line_named (map line_in (drop (i + 1) ls)) word)
-    ≡ line_named lines word) is here
+    rw (← is) here
 
 -- past the last of them
 pub no_line : (ls : List held.TableLine) (i : ℕ) (word : Text) → length ls ≤ i

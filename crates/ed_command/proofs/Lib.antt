@@ -8,3 +8,4 @@ pub mod Whole
 pub mod Filtered
 pub mod Arguments
 pub mod Adding
+pub mod Kit

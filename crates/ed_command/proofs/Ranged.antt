@@ -1,31 +1,23 @@
 -- The numbers of a command that words are lie in their ranges.
-use Rattle.std.proofs.Common.{◌≡◌, ◌≤◌, ◌<◌, ◌*◌, ◌+◌, ℕ, Bool, true, false, List, [], ◌∷◌}
-use Rattle.std.proofs.Common.{refl, arith, lit≤, subst, sym}
-use Rattle.std.proofs.lemmas.Bool.Decides.{nat_tests}
-use Rattle.std.specs.Prelude.{Option, Some, None, IfSome, ◌&&◌, if◌then◌else◌}
-use Rattle.std.specs.Prelude.{nat_le, nat_lt, option_map, option_and_then, codes}
-use Rattle.std.specs.List.{after_first, before_first, list_any}
-use Rattle.std.specs.Str.{bytes_eq}
-use Rattle.ed_words.specs.Decimals.{in_range, number, number_within}
+use Rattle.ed_command.proofs.Kit.{codes, if◌then◌else◌, List, nat_lt, Option, option_and_then, option_map, subst, ◌&&◌}
+use Rattle.ed_command.proofs.Kit.{◌∷◌, after_first, before_first, list_any, bytes_eq, number, number_within, Text}
+use Rattle.ed_command.proofs.Kit.{Size, [], arith, Bool, false, None, refl, Some, sym, true, ℕ, ◌+◌, ◌<◌, ◌≡◌, ◌≤◌}
+use Rattle.ed_command.proofs.Kit.{nat_tests, NewLine, call_of, command, command_of, division, line_named, lines}
+use Rattle.ed_command.proofs.Kit.{TableLine, with_only, all_settings, limit_of, option_value, Options, post_mortem_of}
+use Rattle.ed_command.proofs.Kit.{resumes_of, is_comma, window, window_named, Action}
+use Rattle.std.proofs.Common.{◌*◌, lit≤, IfSome, nat_le}
+use Rattle.ed_words.specs.Decimals.{in_range}
 use Rattle.ed_words.specs.Sizes.{locations}
-use Rattle.ed_words.specs.declared.size.Size.{Size}
-use Rattle.ed_library.specs.CallRanges.{IsCallInRange}
-use Rattle.ed_library.specs.declared.call.Call.{Call}
-use Rattle.ed_library.specs.declared.call.Call.TheVariants.{Print, Read, NewLine, Divide, Root, Check}
-use Rattle.ed_words.specs.Texts.{Text}
 use Rattle.ed_run.specs.SettingRanges.{AreSettingsInRange, IsFromTo, IsWindowOf}
 use Rattle.ed_run.specs.declared.settings.Settings.{Settings}
 use Rattle.ed_run.specs.declared.settings.Window.{Window}
-use Rattle.ed_command.specs.Windows.{is_comma, window, window_named}
-use Rattle.ed_command.specs.Settings.{Options, all_settings, has_only, option_value, settings_of}
-use Rattle.ed_command.specs.Settings.{limit_of, post_mortem_of, resumes_of, size_of}
-use Rattle.ed_command.specs.Lines.{TableLine, alone, call_of, command, command_of, division, line_named, lines}
-use Rattle.ed_command.specs.Lines.{one_number}
-use Rattle.ed_command.specs.Lines.{with_division, with_only}
+use Rattle.ed_library.specs.CallRanges.{IsCallInRange}
+use Rattle.ed_library.specs.declared.call.Call.{Call}
+use Rattle.ed_library.specs.declared.call.Call.TheVariants.{Print, Read, Divide, Root, Check}
+use Rattle.ed_command.specs.Lines.{alone, one_number, with_division}
 use Rattle.ed_command.specs.Ranges.{IsActionInRange, IsInRange}
-use Rattle.ed_command.specs.declared.command.Action.{Action}
-use Rattle.ed_command.specs.declared.command.Action.TheVariants as doing
 use Rattle.ed_command.specs.declared.command.Command.{Command}
+use Rattle.ed_command.specs.declared.command.Action.TheVariants as doing
 
 -- ---- what holds of the value in an option
 
@@ -51,9 +43,8 @@ read_within : (least most : ℕ) (text : Text) → IfSome (number_within least m
 read_within least most text = within_by least most (number text)
 
 one_within : (least most : ℕ) (arguments : List Text) → IfSome (one_number least most arguments) (IsFromTo least most)
-one_within least most [] = tt
 one_within least most (text ∷ []) = read_within least most text
-one_within least most (text ∷ more ∷ others) = tt
+one_within least most arguments = tt
 
 -- ---- options
 
@@ -64,8 +55,7 @@ set_to P default read (value ∷ []) usual given = given value
 set_to P default read (value ∷ more ∷ others) usual given = tt
 
 limit_set : (o : Options) → IfSome (limit_of o) (IsFromTo 1 100000000)
-limit_set o = set_to (IsFromTo 1 100000000) 10000000 (number_within 1 100000000) o.limits (lit≤ tt, lit≤ tt)
-    (read_within 1 100000000)
+limit_set o = set_to _ 10000000 _ o.limits (lit≤ tt, lit≤ tt) (read_within 1 100000000)
 
 resumes_set : (o : Options) → IfSome (resumes_of o) (IsFromTo 0 1000)
 resumes_set o = set_to (IsFromTo 0 1000) 0 (number_within 0 1000) o.resumes (lit≤ tt, lit≤ tt) (read_within 0 1000)
@@ -107,8 +97,7 @@ all_set z None r w l_in r_in w_in = tt
 settings_by : (o : Options) (z : Option Size)
     → IfSome (option_and_then (λ z. all_settings z (limit_of o) (resumes_of o) (post_mortem_of z o)) z)
     AreSettingsInRange
-settings_by o (Some z) =
-    all_set z (limit_of o) (resumes_of o) (post_mortem_of z o) (limit_set o) (resumes_set o) (window_set z o)
+settings_by o (Some z) = all_set z _ _ _ (limit_set o) (resumes_set o) (window_set z o)
 settings_by o None = tt
 
 -- ---- arguments
@@ -128,10 +117,8 @@ division_in (Some n) None h = tt
 division_in None by h = tt
 
 divide_in : (numbers : List Text) → IfSome (with_division numbers) IsCallInRange
-divide_in [] = tt
-divide_in (n ∷ []) = tt
 divide_in (n ∷ by ∷ []) = division_in (number n) (number_within 1 32767 by) (read_within 1 32767 by)
-divide_in (n ∷ by ∷ more ∷ others) = tt
+divide_in numbers = tt
 
 no_number_in : {A : Type 0} (P : A → Type 0) (a : A) (arguments : List Text) → P a → IfSome (alone a arguments) P
 no_number_in P a [] h = h
@@ -141,8 +128,7 @@ no_number_in P a (argument ∷ others) h = tt
 short_in : (made : ℕ → Call) (numbers : List Text) → ((n : ℕ) → n ≤ 65535 → IsCallInRange (made n))
     → IfSome (option_map made (one_number 0 65535 numbers)) IsCallInRange
 short_in made numbers more =
-    mapped (IsFromTo 0 65535) IsCallInRange made (one_number 0 65535 numbers) (λ n h. more n h.1)
-    (one_within 0 65535 numbers)
+    mapped _ IsCallInRange made _ (λ n h. more n h.1) (one_within 0 65535 numbers)
 
 -- a call of two numbers
 either_in : {A : Type 0} (P : A → Type 0) (c : Bool) (first second : Option A) → IfSome first P → IfSome second P
@@ -185,8 +171,7 @@ asked_in arguments = mapped IsCallInRange IsActionInRange doing.Call (call_of ar
 
 demo_in : (arguments : List Text) → IfSome (option_map doing.Demo (one_number 1 112 arguments)) IsActionInRange
 demo_in arguments =
-    mapped (IsFromTo 1 112) IsActionInRange doing.Demo (one_number 1 112 arguments) (λ n h. h)
-    (one_within 1 112 arguments)
+    mapped _ IsActionInRange doing.Demo _ (λ n h. h) (one_within 1 112 arguments)
 
 all_in : AreInRange lines
 all_in =
@@ -206,8 +191,7 @@ all_in =
 
 named_in : (ls : List TableLine) (word : Text) → AreInRange ls → IfSome (line_named ls word) IsLineInRange
 named_in _ word none = tt
-named_in _ word (with_line l ls first others) =
-    either_in IsLineInRange (bytes_eq word l.word) (Some l) (line_named ls word) first (named_in ls word others)
+named_in _ word (with_line l ls first others) = either_in IsLineInRange _ (Some l) _ first (named_in ls word others)
 
 command_by : (action : Option Action) (settings : Option Settings) → IfSome action IsActionInRange
     → IfSome settings AreSettingsInRange → IfSome (command action settings) IsInRange
@@ -218,8 +202,7 @@ command_by None s a_in s_in = tt
 line_by : (l : Option TableLine) (o : Options) (arguments : List Text) → IfSome l IsLineInRange
     → IfSome (option_and_then (λ l. with_only l.options o (l.action arguments)) l) IsInRange
 line_by (Some l) o arguments h =
-    either_in IsInRange (has_only l.options o) (command (l.action arguments) (settings_of o)) None
-    (command_by (l.action arguments) (settings_of o) (h.in_range arguments) (settings_by o (size_of o))) tt
+    either_in IsInRange _ _ None (command_by _ _ (h.in_range arguments) (settings_by o _)) tt
 line_by None o arguments h = tt
 
 command_in_range : (words : List Text) (o : Options) → IfSome (command_of words o) IsInRange

@@ -1,7 +1,9 @@
 -- A loop that compares the words of a store with a list, location by location: what the test at one location means.
-use Rattle.std.proofs.Common.{◌≡◌, ◌≢◌, ◌∙◌, ℕ, ◌<◌, Bool, true, false, eqb, List, length, get_or, sym, ap}
+use Rattle.ed_initial.proofs.Kit.{false≢true, not-true, ap, Bool, false, get_or, length, List, sym, true, ℕ, ◌<◌, ◌∙◌}
+use Rattle.ed_initial.proofs.Kit.{◌≡◌, ◌≢◌}
+use Rattle.std.proofs.Common.{eqb}
 use Rattle.std.proofs.Math.Bool.{not}
-use Rattle.std.proofs.lemmas.Bool.{eqb-true, eq-eqb, not-true, not-false, false≢true}
+use Rattle.std.proofs.lemmas.Bool.{eqb-true, eq-eqb, not-false}
 use Rattle.std.proofs.lemmas.List.{get_or_read}
 
 -- a test that reads the item of the list once more

@@ -1,13 +1,10 @@
 -- The words from 44 upwards, and the value of a code letter in the store.
-use Rattle.std.proofs.Common.{◌≡◌, ℕ, ◌+◌, ◌-◌, ◌≤◌, refl, ◌∙◌, arith, inl}
-use Rattle.std.proofs.Common.{inr, List, ◌++◌, get_or, drop}
-use Rattle.std.proofs.lemmas.Bool.{cases_eq}
+use Rattle.ed_initial.proofs.Kit.{patched, value_of, arith, drop, get_or, inl, inr, List, refl, ℕ, ◌++◌, ◌+◌, ◌-◌, ◌∙◌}
+use Rattle.ed_initial.proofs.Kit.{◌≡◌, ◌≤◌, Working}
+use Rattle.std.proofs.lemmas.Bool.{cases_eq, ne_eqb}
 use Rattle.std.proofs.lemmas.List.{get_or-drop}
-use Rattle.ed_notation.specs.Fold.{value_of}
-use Rattle.ed_machine.proofs.Kit.Window.{patched, get_right}
-use Rattle.ed_initial.specs.Rests.{Working}
+use Rattle.ed_machine.proofs.Kit.Window.{get_right}
 use Rattle.ed_initial.proofs.Paths.{cells}
-use Rattle.ed_words.proofs.Numbers.{eq_false}
 
 -- the location of a code letter holds its value: 0 at 41, θ at 42, 1 at 43, and a word of the program above
 -- them
@@ -28,9 +25,9 @@ value_here w contents c low at41 at43 =
                       let word : get_or (cells w ++ drop 44 contents) (44 + (c - 20)) 0
                       ≡ get_or contents (44 + (c - 20)) 0 =
                       get_right 0 (cells w) (drop 44 contents) (c - 20) ∙ get_or-drop 44 contents (c - 20) 0 in
-                      let t17 = eq_false c 17 no17 in
-                      let t18 = eq_false c 18 no18 in
-                      let t19 = eq_false c 19 no19 in
+                      let t17 = ne_eqb c 17 no17 in
+                      let t18 = ne_eqb c 18 no18 in
+                      let t19 = ne_eqb c 19 no19 in
                       rw (t17, t18, t19, at) word
                 ]
           ]

@@ -1,37 +1,24 @@
 -- What the Initial Orders do with a row inside an item is what the notation says of it: from one rest to the next, or
 -- to the entry. One lemma for each kind of row.
-use Rattle.std.proofs.Common.{◌≡◌, ℕ, ◌+◌, ◌*◌, ◌%◌, ◌^◌, ◌<◌, ◌≤◌, refl, sym, ap, subst, arith, lit≤}
-use Rattle.std.proofs.Common.{Bool, true, false, nat_lt, nat_le, List, ◌∷◌}
-use Rattle.ed_words.specs.Words.{digit}
-use Rattle.ed_words.specs.Sizes.{locations}
-use Rattle.ed_words.proofs.SizeLemmas.{most}
-use Rattle.ed_notation.specs.declared.kind.RowKind.{RowKind}
-use Rattle.ed_notation.specs.declared.kind.RowKind.TheVariants.{Digit, Mark, Zed, Kay, Blank, Letter, Other}
+use Rattle.ed_initial.proofs.Kit.{A_F, E_F, Moment, ◌^◌, value_of, RowKind, PartialItem, RowEffect, Ended, Entered}
+use Rattle.ed_initial.proofs.Kit.{Longer, Placed, Refused, ap, arith, Bool, false, List, lit≤, nat_le, nat_lt, refl}
+use Rattle.ed_initial.proofs.Kit.{subst, sym, true, ℕ, ◌%◌, ◌*◌, ◌+◌, ◌<◌, ◌∷◌, ◌≡◌, ◌≤◌, locations, digit}
+use Rattle.ed_initial.proofs.Kit.{NotationState, over, row_kind, entry_by, placed_by, row_effect, set_by, setting_of}
+use Rattle.ed_initial.proofs.Kit.{entry_words, IsNotationState, IsPartSoFar, Scratch, scratch_of, working, Working}
+use Rattle.ed_notation.proofs.Kit.{leb-false, ltb-false, if_means, locations_most, is_place, address, control_of}
+use Rattle.ed_notation.proofs.Kit.{letter_action_of, letter_effect}
+use Rattle.ed_notation.specs.Reading.{digit_effect, mark_effect, kay_effect, zed_effect, blank_effect, part_word}
 use Rattle.ed_notation.specs.declared.kind.Control.{Control}
 use Rattle.ed_notation.specs.declared.kind.Control.TheVariants.{Directive, ThetaByBlank, ThetaByG, Neither}
 use Rattle.ed_notation.specs.declared.kind.LetterAction.{LetterAction}
 use Rattle.ed_notation.specs.declared.kind.LetterAction.TheVariants.{Places, Enters, Nowhere, Unset}
-use Rattle.ed_notation.specs.declared.reader.PartialItem.{PartialItem}
-use Rattle.ed_notation.specs.declared.reader.RowEffect.{RowEffect}
-use Rattle.ed_notation.specs.declared.reader.RowEffect.TheVariants.{Refused, Longer, Ended, Placed, Entered}
-use Rattle.ed_notation.specs.Items.{row_kind}
-use Rattle.ed_notation.specs.Fold.{NotationState, over, value_of, address, control_of, letter_action_of}
-use Rattle.ed_notation.specs.Faults.{is_place}
-use Rattle.ed_notation.specs.Reading.{row_effect, digit_effect, mark_effect, kay_effect, zed_effect, blank_effect}
-use Rattle.ed_notation.specs.Reading.{letter_effect}
-use Rattle.ed_notation.specs.Reading.{part_word, setting_of, set_by, placed_by, entry_by}
-use Rattle.ed_initial.specs.Rests.{Working, Scratch, working, scratch_of, IsNotationState, IsPartSoFar}
-use Rattle.ed_initial.specs.Entry.{entry_words}
-use Rattle.ed_machine.proofs.Kit.Frames.{Moment}
-use Rattle.ed_initial.proofs.Paths.{Kept, Walk, ToRest, moment, Enters as EntersBy}
-use Rattle.ed_initial.proofs.Paths.{digit_path, mark_path, kay_directive_path}
-use Rattle.ed_initial.proofs.Paths.{kay_theta_path, zed_directive_path}
-use Rattle.ed_initial.proofs.Paths.{zed_theta_path, blank_path, IsLetter, letter_row, placed_path, entry_order}
-use Rattle.ed_words.proofs.Numbers.{not_lt_of, not_le_of, if_means}
-use Rattle.ed_words.specs.declared.order_words.TheConstants.{A_F, E_F}
+use Rattle.ed_notation.specs.declared.kind.RowKind.TheVariants.{Digit, Mark, Zed, Kay, Blank, Letter, Other}
 use Rattle.ed_notation.proofs.Tests.{RowMeans, row_means, ControlMeans, control_means, AimMeans, aim_means}
 use Rattle.ed_notation.proofs.Tests.{is_place_means}
 use Rattle.ed_initial.proofs.Contents.{value_here}
+use Rattle.ed_initial.proofs.Paths.{Kept, Walk, ToRest, moment, Enters as EntersBy, digit_path, mark_path}
+use Rattle.ed_initial.proofs.Paths.{kay_directive_path, kay_theta_path, zed_directive_path, zed_theta_path, blank_path}
+use Rattle.ed_initial.proofs.Paths.{IsLetter, letter_row, placed_path, entry_order}
 
 -- the two rests
 abbrev pub between : Kept → List ℕ → Scratch → NotationState → List ℕ → Moment
@@ -117,7 +104,7 @@ module _ (row : AtRow) (good : IsNotationState row.notation) (phase : IsPartSoFa
       if_means After part.mark _ _ (λ _. tt) (λ m.
       if_means After (nat_lt 32767 (10 * part.number + c)) _ _ (λ _. tt) (λ n.
       let none = unmarked m in
-      let fits : 10 * part.number + c ≤ 32767 = not_lt_of _ _ n in
+      let fits : 10 * part.number + c ≤ 32767 = ltb-false _ _ n in
       record {
         one = c;
         twenty = at20;
@@ -173,18 +160,18 @@ module _ (row : AtRow) (good : IsNotationState row.notation) (phase : IsPartSoFa
       if_means After part.mark _ _ (λ _. tt) (λ m.
       if_means After (nat_lt 1023 part.number) _ _ (λ _. tt) (λ n.
       let none = unmarked m in
-      let fits : part.number ≤ 1023 = not_lt_of _ _ n in
+      let fits : part.number ≤ 1023 = ltb-false _ _ n in
       let u = 4096 * part.function + 2 * part.number in
       closes (record notation { directive = u }) 16 14 is (lit≤ tt) (omega (arith, good))
       (kay_directive_path f w high false u rows (omega arith) (omega arith))))
   by_kay ThetaByBlank means is =
       if_means After part.mark _ _ (λ _. tt) (λ m.
       if_means After (nat_lt 1023 part.number) _ _ (λ _. tt) (λ n.
-      by_kay_theta _ refl is (unmarked m) (omega arith) (not_lt_of _ _ n)))
+      by_kay_theta _ refl is (unmarked m) (omega arith) (ltb-false _ _ n)))
   by_kay ThetaByG means is =
       if_means After part.mark _ _ (λ _. tt) (λ m.
       if_means After (nat_lt 1023 part.number) _ _ (λ _. tt) (λ n.
-      by_kay_theta _ refl is (unmarked m) (omega arith) (not_lt_of _ _ n)))
+      by_kay_theta _ refl is (unmarked m) (omega arith) (ltb-false _ _ n)))
   by_kay Neither means is = if_means After part.mark _ _ (λ _. tt) (λ _. tt)
 
   by_zed : (k : Control) → ControlMeans k part.function → c ≡ 13 → After (zed_effect k (setting_of notation) part)
@@ -203,7 +190,7 @@ module _ (row : AtRow) (good : IsNotationState row.notation) (phase : IsPartSoFa
       if_means After part.mark _ _ (λ _. tt) (λ m.
       if_means After (nat_le 65536 (2 * part.number + notation.theta)) _ _ (λ _. tt) (λ n.
       let none = unmarked m in
-      let fits : 2 * part.number + notation.theta < 65536 = not_le_of _ _ n in
+      let fits : 2 * part.number + notation.theta < 65536 = leb-false _ _ n in
       closes (record notation { theta = u }) 17 13 is (lit≤ tt) (omega (arith, good))
       (zed_theta_path f w high false (omega arith) (omega arith) (omega arith))))
   by_zed ThetaByG means is = if_means After part.mark _ _ (λ _. tt) (λ _. tt)
@@ -244,9 +231,9 @@ module _ (row : AtRow) (good : IsNotationState row.notation) (phase : IsPartSoFa
       let a = address notation.directive in
       if_means After (nat_lt a 44) _ _ (λ _. tt) (λ p.
       if_means After (nat_le (locations f.size) a) _ _ (λ _. tt) (λ q.
-      let above : 44 ≤ a = not_lt_of _ _ p in
-      let below : a < locations f.size = not_le_of _ _ q in
-      let last : a < 1024 = omega (arith, most f.size) in
+      let above : 44 ≤ a = ltb-false _ _ p in
+      let below : a < locations f.size = leb-false _ _ q in
+      let last : a < 1024 = omega (arith, locations_most f.size) in
       record {
         scratch = scratch_of part c (114736 + 2 * c);
         path = placed_path f w high false a (letter low code) (omega (arith, good, means)) (above, below);
@@ -258,9 +245,9 @@ module _ (row : AtRow) (good : IsNotationState row.notation) (phase : IsPartSoFa
       if_means After (nat_le (locations f.size) a) _ _ (λ _. tt) (λ p.
       if_means After (nat_le 65536 word) _ _ (λ _. tt) (λ q.
       if_means After (nat_lt a 44) _ _ (λ _. tt) (λ r.
-      let below : a < locations f.size = not_le_of _ _ p in
-      let last : a < 1024 = omega (arith, most f.size) in
-      let positive : word < 65536 = not_le_of _ _ q in
+      let below : a < locations f.size = leb-false _ _ p in
+      let last : a < 1024 = omega (arith, locations_most f.size) in
+      let positive : word < 65536 = leb-false _ _ q in
       let twenty : 114736 + 2 * c ≡ A_F + 2 * (24 + c) = omega arith in
       let order : notation.directive ≡ E_F + 2 * a = omega (arith, good) in
       record {
@@ -285,5 +272,5 @@ module _ (row : AtRow) (good : IsNotationState row.notation) (phase : IsPartSoFa
   by_row Other means = tt
 
   -- every row
-  pub follows : After (row_effect f.size (row_kind c) (over notation.placed ws) (setting_of notation) part c)
-  follows = by_row (row_kind c) (row_means c)
+  pub After-follows : After (row_effect f.size (row_kind c) (over notation.placed ws) (setting_of notation) part c)
+  After-follows = by_row (row_kind c) (row_means c)

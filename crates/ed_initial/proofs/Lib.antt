@@ -1,5 +1,4 @@
 pub mod Runs
-mod Steps
 pub mod Paths
 pub mod Goes
 mod Contents
@@ -17,3 +16,4 @@ pub mod Walked
 pub mod Itemwise
 pub mod Trips
 pub mod Awaited
+pub mod Kit

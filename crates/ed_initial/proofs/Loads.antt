@@ -1,28 +1,17 @@
 -- The induction over the rows of a tape: from any rest, a tape that the notation accepts leads to its entry at its
 -- cost.
-use Rattle.std.proofs.Common.{◌≡◌, ℕ, suc, ◌+◌, ◌*◌, ◌^◌, ◌<◌, refl, subst, arith, lit≤, Bool, true, false, nat_lt}
-use Rattle.std.proofs.Common.{Option, Some, None, List, [], ◌∷◌}
-use Rattle.ed_machine.specs.State.{State}
-use Rattle.ed_machine.specs.OrderTable.{step}
-use Rattle.ed_machine.specs.declared.turn.Turn.TheVariants.{Went}
-use Rattle.ed_notation.specs.declared.reader.PartialItem.{PartialItem}
-use Rattle.ed_notation.specs.declared.reader.RowEffect.{RowEffect}
-use Rattle.ed_notation.specs.declared.reader.RowEffect.TheVariants.{Refused, Longer, Ended, Placed, Entered}
+use Rattle.ed_initial.proofs.Kit.{Went, Moment, ◌^◌, step, State, PartialItem, RowEffect, Ended, Entered, Longer}
+use Rattle.ed_initial.proofs.Kit.{Placed, Refused, Reader, [], arith, Bool, false, List, lit≤, nat_lt, None, Option}
+use Rattle.ed_initial.proofs.Kit.{refl, Some, subst, suc, true, ℕ, ◌*◌, ◌+◌, ◌<◌, ◌∷◌, ◌≡◌, ltb-true, TapeEntry}
+use Rattle.ed_initial.proofs.Kit.{NotationState, over, row_kind, Arrived, entry_by, part_of, placed_by, reading_on}
+use Rattle.ed_initial.proofs.Kit.{row_effect, set_by, setting_of, entry_words, enters, IsNotationState, IsPartSoFar}
+use Rattle.ed_initial.proofs.Kit.{Scratch, working}
+use Rattle.ed_notation.specs.Reading.{Faulty}
 use Rattle.ed_notation.specs.declared.cause.TapeCause.TheVariants.{BadRow}
-use Rattle.ed_notation.specs.Items.{row_kind}
-use Rattle.ed_notation.specs.Fold.{NotationState, over}
-use Rattle.ed_notation.specs.Faults.{TapeEntry}
-use Rattle.ed_notation.specs.Reading.{Faulty, Arrived, reading_on, row_effect}
-use Rattle.ed_notation.specs.Reading.{part_of, setting_of, set_by, placed_by, entry_by}
-use Rattle.ed_notation.proofs.Follow.{Reader, reads, passed, follow}
-use Rattle.ed_initial.specs.Rests.{Scratch, working, IsNotationState, IsPartSoFar}
-use Rattle.ed_initial.specs.Entry.{entry_words}
-use Rattle.ed_initial.specs.Load.{enters}
-use Rattle.ed_machine.proofs.Kit.Frames.{Moment}
+use Rattle.ed_notation.proofs.Follow.{reads, passed, follow}
+use Rattle.ed_initial.proofs.Goes.{Goes, Goes-joined, Goes-along, Goes-whole}
+use Rattle.ed_initial.proofs.Inside.{between, inside, AtRow, Follows, After-follows}
 use Rattle.ed_initial.proofs.Paths.{Kept, state, ToRest, moment, function_path}
-use Rattle.ed_initial.proofs.Goes.{Goes, joined, along, whole}
-use Rattle.ed_words.proofs.Numbers.{lt_of}
-use Rattle.ed_initial.proofs.Inside.{between, inside, AtRow, Follows, follows}
 
 -- the machine at the entry, after this number of orders
 abbrev pub entered : Kept → List ℕ → TapeEntry → ℕ → State
@@ -47,17 +36,17 @@ pub record Rest : Type 0 where
 
 module _ (f : Kept) (ws : List ℕ) (first : ℕ) where
   -- a load that goes on from where a path leads
-  pub prepend : {r t : Moment} {e : TapeEntry} (k cost : ℕ) → ToRest f k r t
+  pub Reaches-prepend : {r t : Moment} {e : TapeEntry} (k cost : ℕ) → ToRest f k r t
       → Reaches f ws first (cost + k) (state f t (first + (cost + k))) e
       → Reaches f ws first cost (state f r (first + cost)) e
-  prepend {r} {t} {e} k cost path a =
+  Reaches-prepend {r} {t} {e} k cost path a =
       let sum : first + cost + k ≡ first + (cost + k) = omega arith in
       let goes : Goes k (state f r (first + cost)) (state f t (first + (cost + k))) =
-      subst (λ x. Goes k (state f r (first + cost)) (state f t x)) sum (whole path (first + cost)) in
+      subst (λ x. Goes k (state f r (first + cost)) (state f t x)) sum (Goes-whole path (first + cost)) in
       record {
         steps = k + a.steps;
         middle = a.middle;
-        goes = joined k a.steps (state f r (first + cost)) (state f t (first + (cost + k))) a.middle goes a.goes;
+        goes = Goes-joined k a.steps (state f r (first + cost)) (state f t (first + (cost + k))) a.middle goes a.goes;
         enters = a.enters;
         enters_by = a.enters_by;
         cost_is = omega (arith, a.cost_is);
@@ -93,12 +82,12 @@ module _ (f : Kept) (ws : List ℕ) (first : ℕ) where
         | false ↦ Faulty r.row BadRow
       ] ≡ Arrived e → Reaches f ws first r.cost (state f (rests r None (c ∷ rows)) (first + r.cost)) e
   by_function rows ih r c {e} good {b = true} t h =
-      let small : c < 32 = lt_of c 32 t in
+      let small : c < 32 = ltb-true c 32 t in
       let begins : IsPartSoFar (part_of c) = record { function = small; number = lit≤ tt; blank = λ b. (refl, refl) } in
       let after : Rest = record { scratch = r.scratch; row = r.row + 1; cost = r.cost + 6; notation = r.notation } in
       let path = function_path f (working r.scratch r.notation) (over r.notation.placed ws) r.scratch.digit40 c
       rows small in
-      prepend 6 r.cost path (ih after (Some (part_of c)) e good begins h)
+      Reaches-prepend 6 r.cost path (ih after (Some (part_of c)) e good begins h)
   by_function rows ih r c good {b = false} t h = cc
 
   -- every tape, from every rest
@@ -110,7 +99,7 @@ module _ (f : Kept) (ws : List ℕ) (first : ℕ) where
   loads_on (c ∷ rows) r (Some part) e good phase h =
       by_taken (loads_on rows) (row_effect f.size (row_kind c) (over r.notation.placed ws)
       (setting_of r.notation) part c)
-      (follows row good phase) h
+      (After-follows row good phase) h
     where
       row : AtRow
       row = record {
@@ -131,12 +120,13 @@ module _ (f : Kept) (ws : List ℕ) (first : ℕ) where
           → Reaches f ws first r.cost (state f (rests r (Some part) (c ∷ rows)) (first + r.cost)) e
       by_taken ih (Refused cause) o h = cc
       by_taken ih (Longer longer k) o h =
-          prepend k r.cost o.path (ih (behind (record r.scratch { at1 = o.one; at20 = o.twenty }) k r.notation)
+          Reaches-prepend k r.cost o.path (ih (behind (record r.scratch { at1 = o.one; at20 = o.twenty }) k r.notation)
           (Some longer) e good o.part_is h)
       by_taken ih (Ended setting k) o h =
-          prepend k r.cost o.path (ih (behind o.scratch k (set_by setting r.notation)) None e o.notation_is tt h)
+          Reaches-prepend k r.cost o.path (ih (behind o.scratch k (set_by setting r.notation)) None
+          e o.notation_is tt h)
       by_taken ih (Placed place word) o h =
-          prepend 17 r.cost o.path (ih (behind o.scratch 17 (placed_by place word r.notation)) None e
+          Reaches-prepend 17 r.cost o.path (ih (behind o.scratch 17 (placed_by place word r.notation)) None e
           o.notation_is tt h)
       by_taken ih (Entered place) o h =
           let here = rests r (Some part) (c ∷ rows) in
@@ -145,7 +135,7 @@ module _ (f : Kept) (ws : List ℕ) (first : ℕ) where
           let arrives : Reaches f ws first r.cost (state f here (first + r.cost)) x = record {
             steps = 12;
             middle = state f o.middle (first + r.cost + 12);
-            goes = along o.runs (first + r.cost);
+            goes = Goes-along o.runs (first + r.cost);
             enters = o.last.jumps (first + r.cost + 12);
             enters_by = subst (λ k. step (state f o.middle (first + r.cost + 12))
                 ≡ record { state = entered f ws x k; turn = Went }) sum
@@ -155,7 +145,7 @@ module _ (f : Kept) (ws : List ℕ) (first : ℕ) where
           subst (λ y. Reaches f ws first r.cost (state f here (first + r.cost)) y) (entry_same x e h) arrives
 
   -- and from a rest between two items
-  pub loads : (rows : List ℕ) (r : Rest) {e : TapeEntry} → IsNotationState r.notation
+  pub Reaches-loads : (rows : List ℕ) (r : Rest) {e : TapeEntry} → IsNotationState r.notation
       → reading_on f.size ws r.row r.cost r.notation None rows ≡ Arrived e
       → Reaches f ws first r.cost (state f (rests r None rows) (first + r.cost)) e
-  loads rows r {e} good h = loads_on rows r None e good tt h
+  Reaches-loads rows r {e} good h = loads_on rows r None e good tt h

@@ -1,18 +1,13 @@
 -- The state in which a load begins, as the paths see it.
-use Rattle.std.proofs.Common.{◌≡◌, ℕ, ◌*◌, ◌/◌, ◌^◌, ◌<◌, refl, sym, ap, ◌∙◌, arith, false, List, ◌∷◌, ◌++◌}
-use Rattle.std.proofs.Common.{length, get_or, set, drop, drop-cons, Bool}
+use Rattle.ed_initial.proofs.Kit.{T_F, Moment, patched, ◌^◌, IsStore, State, opening, ap, arith, Bool, drop, false}
+use Rattle.ed_initial.proofs.Kit.{get_or, length, List, refl, set, sym, ℕ, ◌*◌, ◌++◌, ◌/◌, ◌<◌, ◌∙◌, ◌∷◌, ◌≡◌}
+use Rattle.ed_initial.proofs.Kit.{IsStarted, initial_orders, IsNotationState, Scratch, Working}
+use Rattle.std.proofs.Common.{drop-cons}
 use Rattle.std.proofs.lemmas.List.{set-get_or}
-use Rattle.ed_words.specs.declared.order_words.TheConstants.{T_F}
-use Rattle.ed_store.specs.Cells.{IsStore}
-use Rattle.ed_machine.specs.State.{State}
-use Rattle.ed_notation.specs.Openings.{opening}
-use Rattle.ed_initial.specs.Listing.{initial_orders}
-use Rattle.ed_initial.specs.Rests.{Working, Scratch, IsNotationState}
-use Rattle.ed_initial.specs.Entry.{IsStarted}
-use Rattle.ed_machine.proofs.Kit.Frames.{Moment, same_state}
-use Rattle.ed_machine.proofs.Kit.Window.{patched, patched_one, headed}
-use Rattle.ed_initial.proofs.Paths.{Kept, state, ToRest, cells, moment, start_path}
+use Rattle.ed_machine.proofs.Kit.Frames.{same_state}
+use Rattle.ed_machine.proofs.Kit.Window.{patched_one, headed}
 use Rattle.ed_initial.proofs.Inside.{between}
+use Rattle.ed_initial.proofs.Paths.{Kept, state, ToRest, cells, moment, start_path}
 
 -- what does not change during a load from this state
 abbrev pub frame : (s : State) → IsStore s.store → Kept
@@ -52,8 +47,9 @@ words_are ws long orders =
     ∙ sym (drop-cons ws 41 0 (omega arith)) in
     ap (λ x. initial_orders ++ x) behind ∙ headed 0 initial_orders ws (omega arith) (λ j l. sym (orders j l))
 
-pub opened : (s : State) (store : IsStore s.store) → IsStarted s → state (frame s store) (begins s store) s.orders ≡ s
-opened s store started =
+pub state-opened : (s : State) (store : IsStore s.store) → IsStarted s
+    → state (frame s store) (begins s store) s.orders ≡ s
+state-opened s store started =
     let words = words_are s.store.words store.words_are started.orders in
     let digits =
     patched_one false s.store.sandwich 20 (get_or s.store.sandwich 20 false) (omega (arith, store.digits_are))
@@ -79,11 +75,11 @@ first_path s store =
     start_path (frame s store) (listed s.store.words) s.store.words (get_or s.store.sandwich 20 false) s.acc
     s.multiplier s.tape
 
-pub first_note : (ws : List ℕ) → get_or ws 42 0 < 2 ^ 17 → IsNotationState (opening ws)
-first_note ws h = omega arith
+pub opening_notation : (ws : List ℕ) → get_or ws 42 0 < 2 ^ 17 → IsNotationState (opening ws)
+opening_notation ws h = omega arith
 
 -- the state of a path, as the definitions of the rests and of the entry write it
-pub shown : (f : Kept) (w : Working) (words : List ℕ) (b : Bool) (acc counter : ℕ) (tape : List ℕ) (k : ℕ)
+pub state-shown : (f : Kept) (w : Working) (words : List ℕ) (b : Bool) (acc counter : ℕ) (tape : List ℕ) (k : ℕ)
     → state f (moment f w words b acc counter tape) k ≡ record {
       size = f.size;
       store = record { words = cells w ++ drop 44 words; sandwich = set f.digits 20 b };
@@ -95,4 +91,4 @@ pub shown : (f : Kept) (w : Working) (words : List ℕ) (b : Bool) (acc counter 
       orders = k;
     }
 unfolding patched
-shown f w words b acc counter tape k = rw (patched_one false f.digits 20 b f.room) refl
+state-shown f w words b acc counter tape k = rw (patched_one false f.digits 20 b f.room) refl

@@ -1,27 +1,18 @@
 -- What the Initial Orders do with each kind of row, as the paths of their listing: each line is one order, by its
 -- cell and what it names, with the number that it leaves.
-use Rattle.std.proofs.Common.{◌≡◌, ℕ, suc, ◌+◌, ◌-◌, ◌*◌, ◌/◌, ◌%◌, ◌^◌, ◌<◌, ◌≤◌}
-use Rattle.std.proofs.Common.{refl, arith, lit<, lit≤, Bool, true, false, not}
-use Rattle.std.proofs.Common.{◌&&◌, nat_eq, List, [], ◌∷◌, set, get_or, length, Option, Some, inr}
-use Rattle.std.proofs.lemmas.Bool.Decides.{nat_tests}
-use Rattle.ed_words.specs.declared.size.Size.{Size}
-use Rattle.ed_words.specs.Sizes.{locations}
-use Rattle.ed_words.proofs.SizeLemmas.{least, most as most_locations}
-use Rattle.ed_orders.specs.declared.kind.Kind.{Kind}
+use Rattle.ed_initial.proofs.Kit.{not, A_F, E_F, T_F, Size, least, Kind, Went, Moment, Moves, ◌^◌, nat_tests, step}
+use Rattle.ed_initial.proofs.Kit.{State, [], arith, Bool, false, get_or, inr, length, List, lit<, lit≤, nat_eq, Option}
+use Rattle.ed_initial.proofs.Kit.{refl, set, Some, suc, true, ℕ, ◌%◌, ◌&&◌, ◌*◌, ◌+◌, ◌-◌, ◌/◌, ◌<◌, ◌∷◌, ◌≡◌, ◌≤◌}
+use Rattle.ed_initial.proofs.Kit.{locations, enters, is_E, Working, is_rest}
+use Rattle.std.proofs.lemmas.Bool.{lt-ltb}
+use Rattle.ed_words.specs.declared.order_words.TheConstants.{L_D, V_F}
+use Rattle.ed_words.proofs.SizeLemmas.{locations_most as most_locations}
 use Rattle.ed_orders.specs.declared.kind.Kind.TheVariants.{E as KindE, I as KindI, T as KindT}
-use Rattle.ed_machine.specs.State.{State}
-use Rattle.ed_machine.specs.OrderTable.{step}
-use Rattle.ed_machine.specs.declared.turn.Turn.TheVariants.{Went}
-use Rattle.ed_words.proofs.Numbers.{lt_true}
-use Rattle.ed_words.specs.declared.order_words.TheConstants.{A_F, E_F, L_D, T_F, V_F}
-use Rattle.ed_machine.proofs.Kit.Frames.{Frame, Moment, all_words, short, state as piece_state}
-use Rattle.ed_machine.proofs.Kit.Places.{own, out, pair, any}
+use Rattle.ed_machine.proofs.Kit.Frames.{Frame, all_words, short, state as piece_state}
+use Rattle.ed_machine.proofs.Kit.Moves.{A, S, T, T_top, I, H, E_jumps, E_stays, G_jumps, G_stays, R, L, V}
 use Rattle.ed_machine.proofs.Kit.Orders.{word_is}
+use Rattle.ed_machine.proofs.Kit.Places.{own, out, pair, any}
 use Rattle.ed_machine.proofs.Kit.Shifts.{R4F, R16F, LD, L8F}
-use Rattle.ed_machine.proofs.Kit.Moves.{Moves, A, S, T, T_top, I, H, E_jumps, E_stays, G_jumps, G_stays, R, L, V}
-use Rattle.ed_initial.specs.Load.{is_E, enters}
-use Rattle.ed_initial.specs.Rests.{Working}
-use Rattle.ed_initial.specs.Walks.{is_rest}
 
 -- what does not change during a load
 pub record Kept : Type 0 where
@@ -309,4 +300,4 @@ module _ (f : Kept) (w : Working) (words : List ℕ) (digit40 : Bool) where
   entry_order u {a} {rest} order below low =
       let m : Moves (piece f) KindE (at w (short u) 22 rest) (at w (short u) a rest) =
       E_jumps 22 (any a below) (word_is order) (omega arith) in
-      record { does = m.does; jumps = λ k. rw ((m.order k).kind_is, lt_true (short u) (2 ^ 70) (omega arith)) refl }
+      record { does = m.does; jumps = λ k. rw ((m.order k).kind_is, lt-ltb (short u) (2 ^ 70) (omega arith)) refl }

@@ -1,14 +1,8 @@
 -- A machine on which Start has just acted is at the first of the Initial Orders, and a well-formed tape reaches an
 -- entry.
-use Rattle.std.proofs.Common.{ℕ, inl, inr, refl, arith, List, drop}
+use Rattle.ed_initial.proofs.Kit.{start_state, State, opening, arith, drop, inl, inr, List, refl, ℕ, TapeEntry}
+use Rattle.ed_initial.proofs.Kit.{WellFormed, IsDirective, reading_is_rules, IsStarted, ReachesEntry, initial_orders}
 use Rattle.std.proofs.Math.ListN.{get_or-append}
-use Rattle.ed_machine.specs.State.{State}
-use Rattle.ed_machine.specs.Start.{start_state}
-use Rattle.ed_notation.specs.Openings.{IsDirective, opening}
-use Rattle.ed_notation.specs.Faults.{TapeEntry, WellFormed}
-use Rattle.ed_notation.proofs.Laws.{reading_is_rules}
-use Rattle.ed_initial.specs.Listing.{initial_orders}
-use Rattle.ed_initial.specs.Entry.{IsStarted, Comes}
 
 pub is_started : (rows : List ℕ) (s : State) → IsStarted (start_state initial_orders rows s)
 is_started rows s = record {
@@ -17,7 +11,7 @@ is_started rows s = record {
 }
 
 pub well_comes : (s : State) → WellFormed s.size s.store.words (opening s.store.words) s.tape → (e : TapeEntry)
-    × Comes s e
+    × ReachesEntry s e
 well_comes s well =
     let set : IsDirective 20568 = omega arith in
     elim (reading_is_rules s.size s.store.words (opening s.store.words) 9 s.tape set).either [

@@ -1,26 +1,21 @@
 -- A cleared machine that is started on the rows of a text is within the bounds of a machine, and at the first of the
 -- Initial Orders.
-use Rattle.std.proofs.Common.{◌≡◌, ℕ, zero, suc, ◌-◌, ◌^◌, ◌<◌, ◌≤◌, refl, subst, arith, lit<, lit≤}
-use Rattle.std.proofs.Common.{Bool, true, false, nat_le, nat_lt, List, [], ◌∷◌, ◌++◌, Some, drop, length}
-use Rattle.std.specs.Prelude.{◌==◌, ◌&&◌, if◌then◌else◌, position, replicate, slice_index}
-use Rattle.std.specs.List.{list_all}
-use Rattle.std.proofs.lemmas.Bool.{and_parts}
-use Rattle.std.proofs.lemmas.Bool.Decides.{nat_tests}
-use Rattle.std.proofs.lemmas.List.{length-append, length-drop, length-replicate}
+use Rattle.ed_initial.proofs.Kit.{Size, least, zero, ◌^◌, nat_tests, IsStore, [], arith, Bool, drop, false}
+use Rattle.ed_initial.proofs.Kit.{if◌then◌else◌, length, List, lit<, lit≤, nat_le, nat_lt, refl, Some, subst, suc}
+use Rattle.ed_initial.proofs.Kit.{true, ℕ, ◌&&◌, ◌++◌, ◌-◌, ◌<◌, ◌∷◌, ◌≡◌, ◌≤◌, and_parts, ltb-true, IsStarted}
+use Rattle.ed_initial.proofs.Kit.{initial_orders}
+use Rattle.ed_notation.proofs.Kit.{replicate, list_all, length-replicate, row_of}
+use Rattle.std.proofs.Common.{◌==◌, position, slice_index}
+use Rattle.std.proofs.lemmas.List.{length-append, length-drop}
 use Rattle.std.proofs.lemmas.List.Quantifiers.{position-Some}
 use Rattle.std.proofs.lemmas.Option.{same_Some}
-use Rattle.ed_words.specs.declared.size.Size.{Size}
-use Rattle.ed_words.proofs.Numbers.{lt_of}
-use Rattle.ed_words.proofs.SizeLemmas.{least}
-use Rattle.ed_codes.specs.Spelling.{letters, row_of}
-use Rattle.ed_codes.specs.Text.{Spells, none, row, spacing, comment}
 use Rattle.ed_codes.specs.Reading.{IsReadingOf, reading, rows}
+use Rattle.ed_codes.specs.Spelling.{letters}
+use Rattle.ed_codes.specs.Text.{Spells, none, row, spacing, comment}
 use Rattle.ed_codes.proofs.Every.{every_text}
-use Rattle.ed_store.specs.Cells.{IsStore}
 use Rattle.ed_machine.specs.Sound.{IsSound}
 use Rattle.ed_machine.specs.State.{cleared_state}
-use Rattle.ed_initial.specs.Listing.{initial_orders}
-use Rattle.ed_initial.specs.Entry.{IsStarted, first_state}
+use Rattle.ed_initial.specs.Entry.{first_state}
 use Rattle.ed_initial.proofs.Started.{is_started}
 
 -- its words: those of the Initial Orders, and 0
@@ -39,7 +34,7 @@ first_length =
 -- words that pass the test are below 2^17, and so is 0, for any index past the last
 pub all_fit : (ws : List ℕ) → list_all (λ w. nat_lt w (2 ^ 17)) ws ≡ true → (i : ℕ) → slice_index ws i < 2 ^ 17
 all_fit [] h i = lit≤ tt
-all_fit (w ∷ ws) h zero = lt_of w (2 ^ 17) (and_parts _ _ h).0
+all_fit (w ∷ ws) h zero = ltb-true w (2 ^ 17) (and_parts _ _ h).0
 all_fit (w ∷ ws) h (suc i) = all_fit ws (and_parts (nat_lt w (2 ^ 17)) _ h).1 i
 
 pub first_store : (z : Size) (tape : List ℕ) → IsStore (first_state z tape).store

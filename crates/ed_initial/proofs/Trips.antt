@@ -1,26 +1,19 @@
 -- From one rest to another over rows that break no rule: a part of an item, an item, and items one after the other.
-use Rattle.std.proofs.Common.{◌≡◌, ℕ, suc, ◌+◌, ◌*◌, ◌≤◌, refl, sym, ap, ◌∙◌, subst, arith, Bool, true, false}
-use Rattle.std.proofs.Common.{true≢false, Some, None, List, [], ◌∷◌, ◌++◌, length, append_assoc}
-use Rattle.ed_words.specs.Words.{digit}
-use Rattle.ed_notation.specs.declared.kind.RowKind.{RowKind}
-use Rattle.ed_notation.specs.declared.reader.PartialItem.{PartialItem}
-use Rattle.ed_notation.specs.declared.reader.RowEffect.{RowEffect}
-use Rattle.ed_notation.specs.declared.reader.RowEffect.TheVariants.{Refused, Longer, Ended, Placed, Entered}
-use Rattle.ed_notation.specs.Items.{row_kind, Begun, Written, digits_number, mark_rows, begun_rows, rows_of, spelled_rows}
-use Rattle.ed_notation.specs.Items.{AreDigits, IsBegun, IsWritten, ends, item, item_of, items}
-use Rattle.ed_notation.specs.Fold.{NotationState, over, act, ending_effect, entering, is_entry, fold, begun_cost, end_cost}
-use Rattle.ed_notation.specs.Fold.{cost_of, costs}
-use Rattle.ed_notation.specs.Faults.{AreRead, AreSound, EndsSound}
-use Rattle.ed_notation.specs.Reading.{part_of, set_by, placed_by}
-use Rattle.ed_notation.proofs.Rows.{RowLaw, as_part, first}
-use Rattle.ed_notation.proofs.Follow.{Reader, law, number_le, seen}
+use Rattle.ed_initial.proofs.Kit.{Moment, RowKind, PartialItem, RowEffect, Ended, Entered, Longer, Placed, Refused}
+use Rattle.ed_initial.proofs.Kit.{law, Reader, [], ap, arith, Bool, false, length, List, None, refl, Some, subst, suc}
+use Rattle.ed_initial.proofs.Kit.{sym, true, ℕ, ◌*◌, ◌++◌, ◌+◌, ◌∙◌, ◌∷◌, ◌≡◌, ◌≤◌, digit, costs, end_cost}
+use Rattle.ed_initial.proofs.Kit.{NotationState, over, Begun, digits_number, IsBegun, row_kind, rows_of, spelled_rows}
+use Rattle.ed_initial.proofs.Kit.{part_of, placed_by, set_by, RowLaw, IsNotationState, Scratch, scratch_of, working}
+use Rattle.ed_notation.proofs.Kit.{append_assoc, true≢false, AreRead, AreSound, EndsSound, act, begun_cost, cost_of}
+use Rattle.ed_notation.proofs.Kit.{ending_effect, entering, fold, is_entry, AreDigits, begun_rows, ends, IsWritten}
+use Rattle.ed_notation.proofs.Kit.{item, item_of, items, mark_rows, Written}
+use Rattle.ed_notation.proofs.Follow.{number_le, seen}
+use Rattle.ed_notation.proofs.Rows.{as_part, first}
 use Rattle.ed_notation.proofs.Sound.{no_rule}
-use Rattle.ed_initial.specs.Rests.{Scratch, working, scratch_of, IsNotationState}
-use Rattle.ed_machine.proofs.Kit.Frames.{Moment}
-use Rattle.ed_initial.proofs.Paths.{Kept, state, ToRest, function_path, digit_path, mark_path}
-use Rattle.ed_initial.proofs.Goes.{Goes, none, joined, whole}
-use Rattle.ed_initial.proofs.Inside.{between, inside, AtRow, Closes, Follows, follows}
+use Rattle.ed_initial.proofs.Goes.{Goes, Goes-none, Goes-joined, Goes-whole}
+use Rattle.ed_initial.proofs.Inside.{between, inside, AtRow, Closes, Follows, After-follows}
 use Rattle.ed_initial.proofs.Itemwise.{is_directive, is_part}
+use Rattle.ed_initial.proofs.Paths.{Kept, state, ToRest, function_path, digit_path, mark_path}
 
 -- k orders that go on, from a moment to another, however many came before
 pub record Trip (f : Kept) (k : ℕ) (a b : Moment) : Type 0 where
@@ -28,18 +21,18 @@ pub record Trip (f : Kept) (k : ℕ) (a b : Moment) : Type 0 where
 
 -- no orders
 pub here : {f : Kept} {a : Moment} → Trip f 0 a a
-here {f} {a} = record { goes = λ o. let e : o + 0 ≡ o = omega arith in rw e (none (state f a o)) }
+here {f} {a} = record { goes = λ o. let e : o + 0 ≡ o = omega arith in rw e (Goes-none (state f a o)) }
 
 -- the orders of a path
 pub by_path : {f : Kept} {k : ℕ} {a b : Moment} → ToRest f k a b → Trip f k a b
-by_path path = record { goes = λ o. whole path o }
+by_path path = record { goes = λ o. Goes-whole path o }
 
 -- two trips, one after the other
-pub further : {f : Kept} {a b c : Moment} {j k : ℕ} → Trip f j a b → Trip f k b c → Trip f (j + k) a c
-further {f} {a} {b} {c} {j} {k} p q = record {
+pub Trip-further : {f : Kept} {a b c : Moment} {j k : ℕ} → Trip f j a b → Trip f k b c → Trip f (j + k) a c
+Trip-further {f} {a} {b} {c} {j} {k} p q = record {
   goes = λ o.
       let e : o + (j + k) ≡ o + j + k = omega arith in
-      rw e (joined j k (state f a o) (state f b (o + j)) (state f c (o + j + k)) (p.goes o) (q.goes (o + j)));
+      rw e (Goes-joined j k (state f a o) (state f b (o + j)) (state f c (o + j + k)) (p.goes o) (q.goes (o + j)));
 }
 
 module _ (f : Kept) (ws : List ℕ) where
@@ -69,7 +62,7 @@ module _ (f : Kept) (ws : List ℕ) where
       digit_path f w (over notation.placed ws) false low (omega arith) (omega arith) (omega arith) in
       let more = digits notation function (10 * n + d) d at20 ds rest are.1 fits in
       let e : 9 * suc (length ds) ≡ 9 + 9 * length ds = omega arith in
-      record { one = more.one; twenty = more.twenty; trip = rw e (further (by_path path) more.trip) }
+      record { one = more.one; twenty = more.twenty; trip = rw e (Trip-further (by_path path) more.trip) }
 
   -- a mark, or none
   marks : (notation : NotationState) (function n at1 at20 : ℕ) (m : Bool) (rest : List ℕ) → n ≤ 32767
@@ -108,7 +101,7 @@ module _ (f : Kept) (ws : List ℕ) where
         twenty = q.twenty;
         trip = subst (λ x. Trip f (begun_cost b) (between f ws scratch notation x)
             (inside f ws (as_part b) q.one q.twenty notation rest)) rows
-            (further (further (by_path path) p.trip) q.trip);
+            (Trip-further (Trip-further (by_path path) p.trip) q.trip);
       }
 
   -- from between two items to between two items
@@ -152,7 +145,7 @@ module _ (f : Kept) (ws : List ℕ) where
         → Closes row (ending_effect kind ws notation (item_of b c)) (end_cost kind notation)
     closes good begun =
         closes_by (seen f.size ws notation b c) (law f.size ws notation b c (is_directive notation good) begun)
-        (follows row good (is_part b begun))
+        (After-follows row good (is_part b begun))
 
   -- an item that is not the entry item
   one_item : (scratch : Scratch) (notation : NotationState) (w : Written) (rest : List ℕ) → IsNotationState notation
@@ -171,7 +164,7 @@ module _ (f : Kept) (ws : List ℕ) where
         good = c.notation_is;
         trip = subst (λ x. Trip f (cost_of notation w) (between f ws scratch notation x)
             (between f ws c.scratch (act ws notation (item w)) rest)) rows
-            (further begun.trip (by_path c.path));
+            (Trip-further begun.trip (by_path c.path));
       }
 
   -- items, none of them the entry item
@@ -191,5 +184,5 @@ module _ (f : Kept) (ws : List ℕ) where
         good = q.good;
         trip = subst (λ x. Trip f (costs ws notation (w ∷ ws')) (between f ws scratch notation x)
             (between f ws q.left (fold ws next (items ws')) rest)) rows
-            (further p.trip q.trip);
+            (Trip-further p.trip q.trip);
       }

@@ -1,27 +1,15 @@
 -- The walk from one rest to the next does what the notation says of the row.
-use Rattle.std.proofs.Common.{◌≡◌, ℕ, ◌+◌, ◌<◌, ◌≤◌, refl, sym, ap, ◌∙◌, subst}
-use Rattle.std.proofs.Common.{arith, lit<, lit≤, true, List, ◌∷◌, length, set}
+use Rattle.ed_initial.proofs.Kit.{Moment, IsStore, State, state_after, opening, PartialItem, RowEffect, Ended, Entered}
+use Rattle.ed_initial.proofs.Kit.{Longer, Placed, Refused, ap, arith, length, List, lit<, lit≤, refl, set, subst, sym}
+use Rattle.ed_initial.proofs.Kit.{true, ℕ, ◌+◌, ◌<◌, ◌∙◌, ◌∷◌, ◌≡◌, ◌≤◌, NotationState, over, row_kind, part_of}
+use Rattle.ed_initial.proofs.Kit.{row_effect, setting_of, IsStarted, IsNotationState, IsPartSoFar, Scratch, scratch_of}
+use Rattle.ed_initial.proofs.Kit.{working, Between, DoesRow, Inside, is_rest, walk_orders, WalkEnds, Rested, At}
 use Rattle.std.proofs.lemmas.List.{length-set}
-use Rattle.ed_store.specs.Cells.{IsStore}
-use Rattle.ed_machine.specs.State.{State}
-use Rattle.ed_machine.specs.Steps.{state_after}
-use Rattle.ed_notation.specs.declared.reader.PartialItem.{PartialItem}
-use Rattle.ed_notation.specs.declared.reader.RowEffect.{RowEffect}
-use Rattle.ed_notation.specs.declared.reader.RowEffect.TheVariants.{Refused, Longer, Ended, Placed, Entered}
-use Rattle.ed_notation.specs.Items.{row_kind}
-use Rattle.ed_notation.specs.Fold.{NotationState, over}
-use Rattle.ed_notation.specs.Openings.{opening}
-use Rattle.ed_notation.specs.Reading.{part_of, setting_of, row_effect}
-use Rattle.ed_initial.specs.declared.resting.Rested.{Rested}
-use Rattle.ed_initial.specs.declared.resting.Rested.TheVariants.{At}
-use Rattle.ed_initial.specs.Rests.{Scratch, working, scratch_of, rest34, rest9, rest_at, IsNotationState, IsPartSoFar}
-use Rattle.ed_initial.specs.Entry.{IsStarted}
-use Rattle.ed_initial.specs.Walks.{WalkEnds, walk_orders, Between, Inside, DoesRow, is_rest}
-use Rattle.ed_machine.proofs.Kit.Frames.{Moment}
-use Rattle.ed_initial.proofs.Paths.{Kept, state, ToRest, function_path}
-use Rattle.ed_initial.proofs.Inside.{between, inside, AtRow, Follows, follows}
-use Rattle.ed_initial.proofs.Opened.{frame, opened, first_path, first_scratch, shown}
+use Rattle.ed_initial.specs.Rests.{rest34, rest9, rest_at}
 use Rattle.ed_initial.proofs.Arrivals.{walks_path, walks_in}
+use Rattle.ed_initial.proofs.Inside.{between, inside, AtRow, Follows, After-follows}
+use Rattle.ed_initial.proofs.Opened.{frame, state-opened, first_path, first_scratch, state-shown}
+use Rattle.ed_initial.proofs.Paths.{Kept, state, ToRest, function_path}
 
 -- a walk from a state: how it ended, and in which state
 pub record IsWalked (s t : State) (r : Rested) : Type 0 where
@@ -46,8 +34,8 @@ pub from_start : {s t : State} {r : Rested} → IsWalked s t r → IsStarted s
     → Between s (opening s.store.words) s.tape 9 r t
 from_start {s} w started =
     let store = w.store in
-    let p = moved s.orders w (sym (opened s store started)) (first_path s store) refl (lit≤ tt) in
-    record { result_is = p.0; scratch = first_scratch s; state_is = p.1 ∙ shown (frame s store) _ _ _ _ _ _ _ }
+    let p = moved s.orders w (sym (state-opened s store started)) (first_path s store) refl (lit≤ tt) in
+    record { result_is = p.0; scratch = first_scratch s; state_is = p.1 ∙ state-shown (frame s store) _ _ _ _ _ _ _ }
 
 module _ (o : State) {s t : State} {r : Rested} (w : IsWalked s t r) where
   -- the opening store has sandwich digits as the machine's has
@@ -69,14 +57,14 @@ module _ (o : State) {s t : State} {r : Rested} (w : IsWalked s t r) where
       let f = held (has_room 34 scratch notation e) in
       let ws = o.store.words in
       let same : s ≡ state f (between f ws scratch notation (c ∷ rows)) o.orders =
-      e ∙ (λ i. rest34 scratch notation (record o { tape = tape i })) ∙ sym (shown f _ _ _ _ _ _ _) in
+      e ∙ (λ i. rest34 scratch notation (record o { tape = tape i })) ∙ sym (state-shown f _ _ _ _ _ _ _) in
       let path = function_path f (working scratch notation) (over notation.placed ws) scratch.digit40 c rows small in
       let p = moved o.orders w same path refl (lit≤ tt) in
       record {
         result_is = p.0;
         at1 = scratch.at1;
         at20 = scratch.at20;
-        state_is = p.1 ∙ shown f _ _ _ _ _ _ _;
+        state_is = p.1 ∙ state-shown f _ _ _ _ _ _ _;
       }
 
   -- a row inside an item
@@ -87,7 +75,7 @@ module _ (o : State) {s t : State} {r : Rested} (w : IsWalked s t r) where
       (row_effect o.size (row_kind c) (over notation.placed o.store.words) (setting_of notation) part c)
   by_row {part} at1 at20 {notation} {c} {rows} good phase tape e =
       by_taken (row_effect o.size (row_kind c) (over notation.placed o.store.words) (setting_of notation) part c)
-      (follows row good phase)
+      (After-follows row good phase)
     where
       room : 20 < length o.store.sandwich
       room = has_room 9 (scratch_of part at1 at20) notation e
@@ -108,20 +96,20 @@ module _ (o : State) {s t : State} {r : Rested} (w : IsWalked s t r) where
       }
 
       same : s ≡ state f (inside f o.store.words part at1 at20 notation (c ∷ rows)) o.orders
-      same = e ∙ (λ i. rest9 part at1 at20 notation (record o { tape = tape i })) ∙ sym (shown f _ _ _ _ _ _ _)
+      same = e ∙ (λ i. rest9 part at1 at20 notation (record o { tape = tape i })) ∙ sym (state-shown f _ _ _ _ _ _ _)
 
       by_taken : (k : RowEffect) → Follows row k → DoesRow o notation part c rows r t k
       by_taken (Refused cause) h = tt
       by_taken (Longer next k) h =
           let p = moved o.orders w same h.path refl h.few in
-          record { result_is = p.0; at1 = h.one; at20 = h.twenty; state_is = p.1 ∙ shown f _ _ _ _ _ _ _ }
+          record { result_is = p.0; at1 = h.one; at20 = h.twenty; state_is = p.1 ∙ state-shown f _ _ _ _ _ _ _ }
       by_taken (Ended setting k) h =
           let p = moved o.orders w same h.path refl h.few in
-          record { result_is = p.0; scratch = h.scratch; state_is = p.1 ∙ shown f _ _ _ _ _ _ _ }
+          record { result_is = p.0; scratch = h.scratch; state_is = p.1 ∙ state-shown f _ _ _ _ _ _ _ }
       by_taken (Placed at word) h =
           let p = moved o.orders w same h.path refl h.few in
-          record { result_is = p.0; scratch = h.scratch; state_is = p.1 ∙ shown f _ _ _ _ _ _ _ }
+          record { result_is = p.0; scratch = h.scratch; state_is = p.1 ∙ state-shown f _ _ _ _ _ _ _ }
       by_taken (Entered at) h =
           let here = subst (λ x. WalkEnds x r) same w.ends in
           let p = walks_in h.runs h.last (lit< tt) o.orders t r here (w.is ∙ ap (state_after (walk_orders r)) same) in
-          record { result_is = p.0; state_is = p.1 ∙ shown f _ _ _ _ _ _ _ }
+          record { result_is = p.0; state_is = p.1 ∙ state-shown f _ _ _ _ _ _ _ }

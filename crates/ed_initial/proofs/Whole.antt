@@ -1,43 +1,38 @@
 -- The loading theorem: a load of a well-formed tape ends at its entry, at its cost, in the state at the entry.
-use Rattle.std.proofs.Common.{◌≡◌, ℕ, suc, ◌+◌, ◌*◌, ◌≤◌, ap, ◌∙◌, arith, List, ◌++◌, length, length-append}
-use Rattle.ed_store.specs.Cells.{IsStore}
-use Rattle.ed_machine.specs.State.{State}
-use Rattle.ed_machine.specs.OrderTable.{Obeyed, step}
-use Rattle.ed_machine.specs.Steps.{state_after, progress}
-use Rattle.ed_machine.specs.declared.turn.Turn.TheVariants.{Went}
-use Rattle.ed_notation.specs.Items.{rows_of, spelled_rows}
-use Rattle.ed_notation.specs.Fold.{NotationState}
-use Rattle.ed_notation.specs.Openings.{opening}
-use Rattle.ed_notation.specs.Faults.{TapeEntry, WellFormed, ComesTo}
-use Rattle.ed_notation.proofs.Costs.{most}
-use Rattle.ed_initial.specs.declared.loading.Loaded.{Loaded}
+use Rattle.ed_initial.proofs.Kit.{Went, IsStore, Obeyed, step, State, progress, state_after, opening, ap, arith}
+use Rattle.ed_initial.proofs.Kit.{length, List, suc, ℕ, ◌*◌, ◌++◌, ◌+◌, ◌∙◌, ◌≡◌, ◌≤◌, TapeEntry, WellFormed}
+use Rattle.ed_initial.proofs.Kit.{NotationState, rows_of, spelled_rows, at_entry, IsStarted, ReachesEntry, EndsAs}
+use Rattle.ed_initial.proofs.Kit.{Loaded}
+use Rattle.std.proofs.Common.{length-append}
+use Rattle.ed_notation.specs.Faults.{RowsReachEntry}
+use Rattle.ed_notation.proofs.Costs.{cost-most}
+use Rattle.ed_initial.specs.Entry.{IsLoaded}
+use Rattle.ed_initial.specs.Load.{orders_of}
 use Rattle.ed_initial.specs.declared.loading.Loaded.TheVariants.{Entered}
-use Rattle.ed_initial.specs.Entry.{IsStarted, IsLoaded, Comes, at_entry}
-use Rattle.ed_initial.specs.Load.{EndsAs, orders_of}
-use Rattle.ed_initial.proofs.Settled.{settled}
-use Rattle.ed_initial.proofs.Started.{well_comes}
 use Rattle.ed_initial.proofs.Quiet.{LeadsIn, comes_in}
+use Rattle.ed_initial.proofs.Settled.{Entered-settled}
+use Rattle.ed_initial.proofs.Started.{well_comes}
 
 -- no tape costs more than 17 orders a row
 pub cost_fits : (words : List ℕ) (start : NotationState) (base : ℕ) (rows : List ℕ) (e : TapeEntry)
-    → ComesTo words start base rows e
+    → RowsReachEntry words start base rows e
     → e.cost ≤ 17 * length rows + base
 cost_fits words start base rows e c =
     let all : length rows ≡ length (spelled_rows c.before) + length (rows_of c.last ++ e.rest) =
     ap length c.rows_are ∙ length-append (spelled_rows c.before) (rows_of c.last ++ e.rest) in
-    omega (arith, most words start base rows e c, c.read_is, all, length-append (rows_of c.last) e.rest)
+    omega (arith, cost-most words start base rows e c, c.read_is, all, length-append (rows_of c.last) e.rest)
 
 -- a load that leads to an entry within its bound
-pub ended : {s : State} {e : TapeEntry} (bound : ℕ) {t : State} {r : Loaded} → LeadsIn s e → e.cost ≤ bound
+pub IsLoaded-ended : {s : State} {e : TapeEntry} (bound : ℕ) {t : State} {r : Loaded} → LeadsIn s e → e.cost ≤ bound
     → EndsAs s bound r → t ≡ state_after (orders_of r) s → IsLoaded s e r t
 unfolding progress
-ended {s} {e} bound {r = r} a fits ends is =
+IsLoaded-ended {s} {e} bound {r = r} a fits ends is =
     let m = a.before in
     let went : (step (state_after m s)).turn ≡ Went = ap (λ (o : Obeyed). o.turn) a.last in
     let end : (step (state_after m s)).state ≡ at_entry s e = ap (λ (o : Obeyed). o.state) a.last in
     let below : suc m ≤ bound = omega (arith, a.cost_is) in
     let result : r ≡ Entered (state_after (suc m) s).counter (suc m) =
-    settled s bound m a.quiet went a.enters_is below ends in
+    Entered-settled s bound m a.quiet went a.enters_is below ends in
     let place : (state_after (suc m) s).counter ≡ e.at = ap (λ (x : State). x.counter) end in
     let cost = a.cost_is in
     record {
@@ -49,12 +44,12 @@ ended {s} {e} bound {r = r} a fits ends is =
 module _ (s t : State) (r : Loaded) (store : IsStore s.store) (started : IsStarted s)
     (ends : EndsAs s (17 * length s.tape + 9) r)
     (is : t ≡ state_after (orders_of r) s) where
-  pub whole_load : (e : TapeEntry) → Comes s e → IsLoaded s e r t
+  pub whole_load : (e : TapeEntry) → ReachesEntry s e → IsLoaded s e r t
   whole_load e h =
-      ended (17 * length s.tape + 9) (comes_in s e store started h)
+      IsLoaded-ended (17 * length s.tape + 9) (comes_in s e store started h)
       (cost_fits s.store.words (opening s.store.words) 9 s.tape e h.comes) ends is
 
   -- the same without a given entry
   pub total_load : WellFormed s.size s.store.words (opening s.store.words) s.tape
-      → (e : TapeEntry) × Comes s e × IsLoaded s e r t
+      → (e : TapeEntry) × ReachesEntry s e × IsLoaded s e r t
   total_load well = let h = well_comes s well in (h.0, h.1, whole_load h.0 h.1)

@@ -2,7 +2,7 @@ ghost use Rattle.std.specs.Prelude.{◌≡◌, ◌+◌, ◌*◌, ◌^◌, ◌≤
 ghost use Rattle.ed_machine.specs.Steps.{state_after};
 ghost use Rattle.ed_notation.specs.Faults.{TapeEntry, WellFormed};
 ghost use Rattle.ed_notation.specs.Openings.{opening};
-ghost use Rattle.ed_initial.specs.Entry.{IsStarted, Comes, IsLoaded};
+ghost use Rattle.ed_initial.specs.Entry.{IsStarted, ReachesEntry, IsLoaded};
 ghost use Rattle.ed_initial.specs.Load.{EndsAs, orders_of};
 ghost use Rattle.ed_initial.specs.Waits.{IsLostAtEnd, WaitsForRows};
 
@@ -35,10 +35,10 @@ pub fn load(machine: &mut Machine) -> Loaded
     requires room { machine.old.orders + (17 * length machine.old.tape + 9) ≤ 2 ^ 63 }
     ensures ends { EndsAs machine.old (17 * length machine.old.tape + 9) result }
     ensures state { machine.new ≡ state_after (orders_of result) machine.old }
-    ensures loads { (e : TapeEntry) → Comes machine.old e → IsLoaded machine.old e result machine.new }
+    ensures loads { (e : TapeEntry) → ReachesEntry machine.old e → IsLoaded machine.old e result machine.new }
     ensures total { WellFormed machine.old.size machine.old.store.words (opening machine.old.store.words)
         machine.old.tape →
-        (e : TapeEntry) × Comes machine.old e × IsLoaded machine.old e result machine.new }
+        (e : TapeEntry) × ReachesEntry machine.old e × IsLoaded machine.old e result machine.new }
     ensures waits { WaitsForRows machine.old }
     ensures no_tape { IsLostAtEnd machine.old result }
 {
@@ -63,14 +63,14 @@ pub fn obey_orders(machine: &mut Machine, bound: u64) -> Loaded
             return Loaded::Lost { orders };
         }
         let orders = orders + 1;
-        if let Turn::Printed(_) | Turn::Stopped = turn {
-            return Loaded::Lost { orders };
-        }
         if enters {
             return Loaded::Entered {
                 at: machine.counter(),
                 orders,
             };
+        }
+        if let Turn::Printed(_) | Turn::Stopped = turn {
+            return Loaded::Lost { orders };
         }
     }
     Loaded::Lost { orders: bound }

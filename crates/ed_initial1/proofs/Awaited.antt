@@ -1,31 +1,20 @@
 -- A started machine waits for each row of its tape that is read.
-use Rattle.std.proofs.Common.{◌≡◌, ℕ, ◌+◌, ◌*◌, ◌/◌, ◌^◌, ◌<◌, ◌≤◌, refl, sym, ap, ◌∙◌, subst, arith, lit≤, Bool}
-use Rattle.std.proofs.Common.{false, Option, Some, None, List, [], ◌∷◌, ◌++◌, length, set, drop, drop-cons, get_or}
-use Rattle.ed_words.specs.declared.order_words.TheConstants.{T_F}
-use Rattle.ed_machine.specs.State.{State}
-use Rattle.ed_machine.specs.OrderTable.{step}
-use Rattle.ed_machine.specs.Steps.{progress, state_after}
+use Rattle.ed_initial1.proofs.Kit.{drop-cons, T_F, short, T_top, leads, own, patched_one, [], ap, arith, Bool, drop}
+use Rattle.ed_initial1.proofs.Kit.{false, get_or, length, List, lit≤, None, Option, refl, set, Some, subst, sym, ℕ}
+use Rattle.ed_initial1.proofs.Kit.{◌*◌, ◌++◌, ◌+◌, ◌/◌, ◌<◌, ◌^◌, ◌∙◌, ◌∷◌, ◌≡◌, ◌≤◌, step, State, progress}
+use Rattle.ed_initial1.proofs.Kit.{state_after, Moment, patched, digits_number, IsStarted1, IsLoading, IsPart1}
+use Rattle.ed_initial1.proofs.Kit.{part_rows1, AreItems, Begun1, costs1, Item1, item_number, last_of, word1, words}
+use Rattle.ed_initial1.proofs.Kit.{IsQuiet1}
 use Rattle.ed_machine.specs.declared.turn.Turn.TheVariants.{NoTape}
-use Rattle.ed_machine.proofs.Kit.Frames.{Moment, short}
-use Rattle.ed_machine.proofs.Kit.Moves.{T_top}
-use Rattle.ed_machine.proofs.Kit.Paths.{leads}
-use Rattle.ed_machine.proofs.Kit.Places.{own}
-use Rattle.ed_machine.proofs.Kit.Window.{patched, patched_one}
-use Rattle.ed_notation.specs.Items.{digits_number}
 use Rattle.ed_initial.specs.Walks.{later}
-use Rattle.ed_initial1.specs.Items.{Begun1, Item1, item_number, AreItems, word1, words, costs1}
-use Rattle.ed_initial1.specs.Items.{last_of}
-use Rattle.ed_initial1.specs.Faults.{IsLoading, IsPart1, part_rows1}
-use Rattle.ed_initial1.specs.Entry.{IsStarted1}
-use Rattle.ed_initial1.specs.Load.{IsQuiet1}
-use Rattle.ed_initial1.specs.Waits.{RestsAfter1, Scratch1, AwaitsRow1, WaitsForRows1, part_cost1, orders_before1, rest1_at}
-use Rattle.ed_initial1.specs.Waits.{waiting_place1}
-use Rattle.ed_initial1.proofs.Paths.{Walk, stay, on, followed, Working, Kept, moment, function_path, start_path}
-use Rattle.ed_initial1.proofs.Paths.{first_placed, placed}
-use Rattle.ed_initial1.proofs.Rests.{tape_of, tape_is, third, written, left, head_cost, first_word, digit_walk, head_walk, back_tail}
-use Rattle.ed_initial1.proofs.Rests.{to_come}
+use Rattle.ed_initial1.specs.Waits.{RestsAfter1, Scratch1, AwaitsRow1, WaitsForRows1, part_cost1, orders_before1}
+use Rattle.ed_initial1.specs.Waits.{rest1_at, waiting_place1}
+use Rattle.ed_initial1.proofs.Opened.{HasItsLengths, kept, listed, begins, state-opened, drop-behind, length_words}
+use Rattle.ed_initial1.proofs.Paths.{Walk, stay, on, Walk-followed, Working, Kept, moment, function_path, start_path}
+use Rattle.ed_initial1.proofs.Paths.{first_placed, Walk-placed}
+use Rattle.ed_initial1.proofs.Rests.{tape_of, tape_is, third, written, left, head_cost, first_word, digit_walk}
+use Rattle.ed_initial1.proofs.Rests.{head_walk, back_tail, to_come}
 use Rattle.ed_initial1.proofs.Walks.{state, path_of, quiet}
-use Rattle.ed_initial1.proofs.Opened.{HasItsLengths, kept, listed, begins, opened, behind, length_words}
 
 -- ---- from one rest to another
 
@@ -61,9 +50,9 @@ module _ (q : Kept) where
         working = more.working;
         digit0 = more.digit0;
         acc = more.acc;
-        walk = rw cost (followed (head_walk q ws w b acc i (tape_of is rest) good.0)
-            (followed (placed q (left w i) ws false i a next (low, omega arith))
-            (followed (back_tail q (left w i) (a + 1) e (omega arith) end (omega arith) most) more.walk)));
+        walk = rw cost (Walk-followed (head_walk q ws w b acc i (tape_of is rest) good.0)
+            (Walk-followed (Walk-placed q (left w i) ws false i a next (low, omega arith))
+            (Walk-followed (back_tail q (left w i) (a + 1) e (omega arith) end (omega arith) most) more.walk)));
         next_is = omega (arith, more.next_is);
         first_is = more.first_is;
       }
@@ -122,13 +111,13 @@ module _ (s : State) (store : HasItsLengths s.store) (started : IsStarted1 s) wh
         digit0 = more.digit0;
         acc = more.acc;
         now = written ws 32 (words is);
-        walk = rw cost (followed (start (tape_of (i ∷ is) rest))
-            (followed (head_walk q ws first digit 0 i (tape_of is rest) good.0)
-            (followed (first_placed q (left first i) ws false i refl)
-            (followed (back_tail q then 32 e (omega arith) end (omega arith) most) more.walk))));
+        walk = rw cost (Walk-followed (start (tape_of (i ∷ is) rest))
+            (Walk-followed (head_walk q ws first digit 0 i (tape_of is rest) good.0)
+            (Walk-followed (first_placed q (left first i) ws false i refl)
+            (Walk-followed (back_tail q then 32 e (omega arith) end (omega arith) most) more.walk))));
         next_is = omega (arith, more.next_is);
         words_are = ap (λ x. x ∷ drop 32 (written ws 32 (words is))) more.first_is
-            ∙ ap (λ x. word1 i ∷ x) (behind ws 32 (words is) (omega (arith, store.words, length_words is)))
+            ∙ ap (λ x. word1 i ∷ x) (drop-behind ws 32 (words is) (omega (arith, store.words, length_words is)))
             ∙ ap (λ n. word1 i ∷ (words is ++ drop n ws)) last;
       }
 
@@ -176,7 +165,7 @@ module _ (s : State) (store : HasItsLengths s.store) (started : IsStarted1 s) wh
       let w : Working = record six.working { at0 = six.acc / 2 ^ 54 } in
       record {
         at = moment q w six.now six.digit0 0 7 rest;
-        walk = followed six.walk (on (T_top 6 (own 0) _ refl refl) refl stay);
+        walk = Walk-followed six.walk (on (T_top 6 (own 0) _ refl refl) refl stay);
         rests = (scratch w six.digit0, shown _ before rest w six.digit0 six.now 7 six.next_is six.words_are);
       }
   by_part {k} {before} (Some b) rest is six =
@@ -189,7 +178,8 @@ module _ (s : State) (store : HasItsLengths s.store) (started : IsStarted1 s) wh
       } in
       record {
         at = moment q w six.now false 0 11 rest;
-        walk = followed six.walk (followed (function_path q six.working six.now six.digit0 six.acc b.function (ds ++ rest)
+        walk = Walk-followed six.walk (Walk-followed (function_path q six.working six.now six.digit0 six.acc
+            b.function (ds ++ rest)
             is.function) (digit_walk q begun ds is.digits is.fits));
         rests = (w.at2, w.at3, shown _ before rest w false six.now 11 six.next_is six.words_are);
       }
@@ -197,7 +187,7 @@ module _ (s : State) (store : HasItsLengths s.store) (started : IsStarted1 s) wh
   waits_by : {k : ℕ} {before : List Item1} {part : Option Begun1} {rest : List ℕ} → Arrives k before part s.tape rest
       → AwaitsRow1 s k before part rest
   waits_by {k} {before} {part} {rest} a =
-      let open_is = opened s store started in
+      let open_is = state-opened s store started in
       let there = leads (path_of a.walk) s.orders in
       record {
         quiet = subst (λ x. IsQuiet1 k x) open_is (quiet a.walk s.orders);

@@ -1,6 +1,5 @@
 mod Paths
 mod Rests
-mod Turns
 pub mod Walks
 pub mod Settled
 pub mod Started
@@ -10,3 +9,4 @@ mod Reading
 pub mod Unique
 mod Loop
 pub mod Awaited
+pub mod Kit

@@ -1,27 +1,20 @@
 -- What the loop of the check keeps, and what each row does to it.
-use Rattle.std.proofs.Common.{◌≡◌, ℕ, suc, ◌+◌, ◌*◌, ◌%◌, ◌^◌, ◌<◌, ◌≤◌, ◌≢◌, refl, sym, ap, ◌∙◌, subst, arith, Bool}
-use Rattle.std.proofs.Common.{nat_eq}
-use Rattle.std.proofs.Common.{if◌then◌else◌, Option, Some, None, List, [], ◌∷◌, ◌++◌, length, length-append}
-use Rattle.std.proofs.Common.{append_assoc, lit≤, get_or, drop}
+use Rattle.ed_initial1.proofs.Kit.{ne_eqb, append_assoc, length-append, digits_more, number_more, [], ap, arith, Bool}
+use Rattle.ed_initial1.proofs.Kit.{drop, get_or, if◌then◌else◌, length, List, lit≤, nat_eq, None, Option, refl, Some}
+use Rattle.ed_initial1.proofs.Kit.{subst, suc, sym, ℕ, ◌%◌, ◌*◌, ◌++◌, ◌+◌, ◌<◌, ◌^◌, ◌∙◌, ◌∷◌, ◌≡◌, ◌≤◌, digit}
+use Rattle.ed_initial1.proofs.Kit.{digits_number, BeginsWith, is_none, IsFault1, ReachesEntry1, Tape, AreItems, Begun1}
+use Rattle.ed_initial1.proofs.Kit.{costs1, ending_row, Item1, spelled_rows1, word1, words, row_effect1, Tape1Cause}
+use Rattle.ed_initial1.proofs.Kit.{EndOfTape, PartialItem1, RowEffect1, Ended, Longer, Refused}
+use Rattle.std.proofs.Common.{◌≢◌}
 use Rattle.std.proofs.Math.ListN.{drop_of_length-le}
-use Rattle.ed_words.proofs.Numbers.{eq_false}
-use Rattle.ed_words.specs.Words.{digit}
-use Rattle.ed_initial1.specs.declared.cause.Tape1Cause.{Tape1Cause}
-use Rattle.ed_initial1.specs.declared.cause.Tape1Cause.TheVariants.{EndOfTape}
-use Rattle.ed_initial1.specs.declared.reader.PartialItem1.{PartialItem1}
-use Rattle.ed_initial1.specs.declared.reader.RowEffect1.{RowEffect1}
-use Rattle.ed_initial1.specs.declared.reader.RowEffect1.TheVariants.{Refused, Longer, Ended}
-use Rattle.ed_initial1.specs.Reading.{row_effect1}
-use Rattle.ed_initial1.specs.Checks.{Accepts1}
-use Rattle.ed_notation.specs.Items.{digits_number}
-use Rattle.ed_notation.proofs.Rows.{number_more, digits_more}
+use Rattle.std.proofs.lemmas.Option.{same_Some}
 use Rattle.ed_notation.proofs.Loop.{next_row}
-use Rattle.ed_initial1.specs.Items.{Begun1, Item1, ending_row, spelled_rows1, AreItems, word1, words, costs1, cost_of1}
-use Rattle.ed_initial1.specs.Faults.{Tape, Comes1, is_none, IsFault1, BeginsWith}
-use Rattle.ed_initial1.proofs.Reading.{Here, part_of, longer, began, ended, end_of, faulty, TakenMeans, taken_means}
+use Rattle.ed_initial1.specs.Checks.{Accepts1}
+use Rattle.ed_initial1.specs.Items.{cost_of1}
+use Rattle.ed_initial1.proofs.Opened.{length_words}
+use Rattle.ed_initial1.proofs.Reading.{Here, part_of, longer, began, ended, end_of, Breaks1-faulty, TakenMeans, taken_means}
 use Rattle.ed_initial1.proofs.Reading.{item_more, begins_more, goes_on_more, items_more, length_spelled}
 use Rattle.ed_initial1.proofs.Unique.{no_fault, fault_of}
-use Rattle.ed_initial1.proofs.Opened.{length_words}
 use Rattle.ed_initial1.proofs.Whole.{costs_fit}
 
 -- the orders of a part of an item
@@ -44,8 +37,8 @@ pub record StandsAt (rows : List ℕ) (row : ℕ) (ws : List ℕ) (orders end : 
   pub item_is : item ≡ item_of part
   pub few : orders ≤ 14 * row + 4
 
-pub begins : (rows : List ℕ) → StandsAt rows 0 [] 4 0 None
-begins rows = record {
+pub StandsAt-begins : (rows : List ℕ) → StandsAt rows 0 [] 4 0 None
+StandsAt-begins rows = record {
   before = [];
   part = None;
   here = record { good = tt; goes_on = tt; is_part = tt; rows_are = refl; row_is = refl };
@@ -72,9 +65,6 @@ pub record Inside (rows : List ℕ) (row : ℕ) (ws : List ℕ) (orders end : �
   pub part_is : p ≡ part_of begun
   pub few : orders ≤ 14 * row + 4
 
-some_is : (p q : PartialItem1) → Some p ≡ Some q → p ≡ q
-some_is p q h = cc
-
 pub inside : (rows : List ℕ) (row : ℕ) (ws : List ℕ) (orders end : ℕ) (p : PartialItem1)
     → StandsAt rows row ws orders end (Some p) → Inside rows row ws orders end p
 inside rows row ws orders end p s = by_part s.part s.here s.orders_are s.item_is
@@ -91,7 +81,7 @@ inside rows row ws orders end p s = by_part s.part s.here s.orders_are s.item_is
           words_are = s.words_are;
           orders_are = o;
           end_is = s.end_is;
-          part_is = some_is p (part_of b) i;
+          part_is = same_Some p (part_of b) i;
           few = s.few;
         }
 
@@ -131,7 +121,7 @@ function_row {rows} {row} {ws} {orders} {end} {c} s l is small = by_part s.part 
 first_is : (before : List Item1) (ws : List ℕ) → ws ≡ words before → (b : Bool) → b ≡ nat_eq (length ws) 0
     → b ≡ is_none before
 first_is [] ws e b h = h ∙ ap (λ x. nat_eq (length x) 0) e
-first_is (i ∷ is) ws e b h = let z = eq_false (suc (length (words is))) 0 (omega arith) in h
+first_is (i ∷ is) ws e b h = let z = ne_eqb (suc (length (words is))) 0 (omega arith) in h
     ∙ ap (λ x. nat_eq (length x) 0) e ∙ z
 
 -- an item more
@@ -164,9 +154,9 @@ module _ {rows : List ℕ} {row : ℕ} {ws : List ℕ} {orders end : ℕ} {p : P
       (sym (e ∙ (λ k. row_effect1 (first_is i.before ws i.words_are first empty k) (i.part_is k) c)))
       (taken_means i.before i.begun c)
 
-  pub refused : {cause : Tape1Cause} → Refused cause ≡ row_effect1 first p c → IsFault1 rows row cause
-  refused {cause} e =
-      fault_of rows row cause (faulty rows row i.before (Some i.begun) (c ∷ drop (row + 1) rows) cause here
+  pub IsFault1-refused : {cause : Tape1Cause} → Refused cause ≡ row_effect1 first p c → IsFault1 rows row cause
+  IsFault1-refused {cause} e =
+      fault_of rows row cause (Breaks1-faulty rows row i.before (Some i.begun) (c ∷ drop (row + 1) rows) cause here
       (meant (Refused cause) e))
 
   pub made_longer : {n : ℕ} → Longer n ≡ row_effect1 first p c
@@ -264,7 +254,7 @@ module _ {rows : List ℕ} {row : ℕ} {ws : List ℕ} {orders end : ℕ} {p : P
     made_whole at =
         let t : Tape = record { end = end_of (all long); items = all long; rest = drop (row + 1) rows } in
         let count : 31 + length (all long) ≡ end_of (all long) = omega (arith, length_is, is_end, at) in
-        let c : Comes1 rows t = record { rows_are = rows_are; good = good; first = begin.0; count = count } in
+        let c : ReachesEntry1 rows t = record { rows_are = rows_are; good = good; first = begin.0; count = count } in
         record {
           well = no_fault rows t c;
           tape = t;
@@ -278,7 +268,8 @@ pub at_end : {rows : List ℕ} {row : ℕ} {ws : List ℕ} {orders end : ℕ} {i
 at_end {rows} {row} s e =
     let none : drop row rows ≡ [] = none_left rows row e in
     fault_of rows row EndOfTape
-    (faulty rows row s.before s.part [] EndOfTape (subst (λ x. Here rows row s.before s.part x) none s.here) refl)
+    (Breaks1-faulty rows row s.before s.part [] EndOfTape (subst
+    (λ x. Here rows row s.before s.part x) none s.here) refl)
   where
     none_left : (rows : List ℕ) (row : ℕ) → row ≡ length rows → drop row rows ≡ []
     none_left rows row e = drop_of_length-le rows (omega arith)

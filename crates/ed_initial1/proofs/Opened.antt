@@ -1,23 +1,16 @@
 -- The state in which a load begins and the state at the entry, as the paths see them.
-use Rattle.std.proofs.Common.{◌≡◌, ℕ, suc, ◌+◌, ◌*◌, ◌^◌, ◌<◌, ◌≤◌, refl, sym, ap, ◌∙◌, arith, false, List, [], ◌∷◌}
-use Rattle.std.proofs.Common.{◌++◌, ◌%◌}
-use Rattle.std.proofs.Common.{length, get_or, set, drop, drop-cons, length-append}
-use Rattle.std.proofs.lemmas.List.{get_or-set_same, get_or-set_other, drop-set-lt, length-set, set-get_or}
-use Rattle.ed_words.specs.declared.size.Size.TheVariants.{Full}
-use Rattle.ed_words.specs.Words.{function_of, address_of, is_long}
-use Rattle.ed_words.specs.Sizes.{within}
+use Rattle.ed_initial1.proofs.Kit.{drop-cons, T_F, Full, with_short, patched_one, length-append, [], ap, arith, drop}
+use Rattle.ed_initial1.proofs.Kit.{false, get_or, length, List, refl, set, suc, sym, ℕ, ◌%◌, ◌*◌, ◌++◌, ◌+◌, ◌<◌, ◌^◌}
+use Rattle.ed_initial1.proofs.Kit.{◌∙◌, ◌∷◌, ◌≡◌, ◌≤◌, step, State, Moment, patched, digits_number, at_entry1}
+use Rattle.ed_initial1.proofs.Kit.{IsStarted1, costs1, IsFirst, Item1, item_number, last_of, word1, words}
+use Rattle.ed_initial1.proofs.Kit.{first_orders}
+use Rattle.ed_machine.proofs.Names.{length-set, within, address_of, function_of, is_long, Cells, kind_of_function}
+use Rattle.ed_machine.proofs.Names.{next_word, obey_word}
+use Rattle.std.proofs.lemmas.List.{get_or-set_same, get_or-set_other, drop-set-lt, set-get_or}
 use Rattle.ed_words.proofs.SizeLemmas.{within_below}
-use Rattle.ed_words.specs.declared.order_words.TheConstants.{T_F}
-use Rattle.ed_store.specs.Cells.{Cells, with_short}
-use Rattle.ed_orders.specs.Kinds.{kind_of_function}
-use Rattle.ed_machine.specs.State.{State}
-use Rattle.ed_machine.specs.OrderTable.{step, next_word, obey_word}
-use Rattle.ed_notation.specs.Items.{digits_number}
-use Rattle.ed_machine.proofs.Kit.Frames.{Moment, same_state}
-use Rattle.ed_machine.proofs.Kit.Window.{patched, patched_one, headed}
-use Rattle.ed_initial1.specs.Listing.{first_orders}
-use Rattle.ed_initial1.specs.Items.{Item1, item_number, words, word1, costs1, item_digits, last_of, IsFirst}
-use Rattle.ed_initial1.specs.Entry.{IsStarted1, at_entry1}
+use Rattle.ed_machine.proofs.Kit.Frames.{same_state}
+use Rattle.ed_machine.proofs.Kit.Window.{headed}
+use Rattle.ed_initial1.specs.Items.{item_digits}
 use Rattle.ed_initial1.proofs.Paths.{Working, Kept, cells, moment}
 use Rattle.ed_initial1.proofs.Rests.{third, thirds, written, final}
 use Rattle.ed_initial1.proofs.Walks.{state}
@@ -49,8 +42,8 @@ words_are ws long orders =
     ap (λ x. first_orders ++ x) (sym (drop-cons ws 31 0 (omega arith)))
     ∙ headed 0 first_orders ws (omega arith) (λ j l. sym (orders j l))
 
-pub opened : (s : State) → HasItsLengths s.store → IsStarted1 s → state (begins s s.tape) s.orders ≡ s
-opened s store started =
+pub state-opened : (s : State) → HasItsLengths s.store → IsStarted1 s → state (begins s s.tape) s.orders ≡ s
+state-opened s store started =
     let words = words_are s.store.words store.words started.orders in
     let digits =
     patched_one false s.store.sandwich 0 (get_or s.store.sandwich 0 false) (omega (arith, store.sandwich))
@@ -67,10 +60,10 @@ below_written ws a [] j h = refl
 below_written ws a (v ∷ vs) j h =
     below_written (set ws a v) (a + 1) vs j (omega arith) ∙ get_or-set_other ws a j v 0 (omega arith)
 
-pub behind : (ws : List ℕ) (a : ℕ) (vs : List ℕ) → a + length vs ≤ length ws
+pub drop-behind : (ws : List ℕ) (a : ℕ) (vs : List ℕ) → a + length vs ≤ length ws
     → drop a (written ws a vs) ≡ vs ++ drop (a + length vs) ws
-behind ws a [] h = let e : a + 0 ≡ a = omega arith in rw e refl
-behind ws a (v ∷ vs) h =
+drop-behind ws a [] h = let e : a + 0 ≡ a = omega arith in rw e refl
+drop-behind ws a (v ∷ vs) h =
     let x = written (set ws a v) (a + 1) vs in
     let long : length x ≡ length ws = length_written (set ws a v) (a + 1) vs ∙ length-set ws a v in
     let head : get_or x a 0 ≡ v =
@@ -79,7 +72,7 @@ behind ws a (v ∷ vs) h =
     let sum : a + suc (length vs) ≡ a + 1 + length vs = omega arith in
     drop-cons x a 0 (omega arith)
     ∙ (λ i. head i ∷ drop (next i) x)
-    ∙ ap (λ y. v ∷ y) (behind (set ws a v) (a + 1) vs (omega (arith, length-set ws a v)))
+    ∙ ap (λ y. v ∷ y) (drop-behind (set ws a v) (a + 1) vs (omega (arith, length-set ws a v)))
     ∙ ap (λ y. v ∷ (vs ++ y)) (drop-set-lt (a + 1 + length vs) ws a v (omega arith))
     ∙ ap (λ n. v ∷ (vs ++ drop n ws)) (sym sum)
 
@@ -115,19 +108,19 @@ three i is h =
     ∙ third_last 12300 (item_digits (i ∷ is))
     (omega (arith, some_digit i.begun.digits h, length-append i.begun.digits (item_digits is)))
 
-pub closed : {s : State} → HasItsLengths s.store → IsStarted1 s → {e : ℕ} {i : Item1} (is : List Item1)
+pub state-closed : {s : State} → HasItsLengths s.store → IsStarted1 s → {e : ℕ} {i : Item1} (is : List Item1)
     (rest : List ℕ) → IsFirst e i → 31 + length (i ∷ is) ≡ e
     → state (moment (kept s) (final e 12300 (word1 i) i is) (written s.store.words 32 (words is)) false 0 31 rest)
     (s.orders + (4 + costs1 (i ∷ is)))
     ≡ at_entry1 s (record { end = e; items = i ∷ is; rest = rest })
 unfolding patched
-closed {s} store started {e} {i} is rest first count =
+state-closed {s} store started {e} {i} is rest first count =
     let ws = s.store.words in
     let t = three i is (omega (arith, first)) in
     let all = store.words in
     let last : 32 + length (words is) ≡ e = omega (arith, length_words is) in
     let d : drop 32 (written ws 32 (words is)) ≡ words is ++ drop e ws =
-    behind ws 32 (words is) (omega (arith, first.high)) ∙ ap (λ n. words is ++ drop n ws) last in
+    drop-behind ws 32 (words is) (omega (arith, first.high)) ∙ ap (λ n. words is ++ drop n ws) last in
     let ds = patched_one false s.store.sandwich 0 false (omega (arith, store.sandwich)) in
     let size = sym started.size in
     let f = final e 12300 (word1 i) i is in
@@ -143,10 +136,10 @@ closed {s} store started {e} {i} is rest first count =
     }
 
 -- T e S with the accumulator 0 clears location e
-pub clears : (u : State) (e : ℕ) → u.size ≡ Full → u.acc ≡ 0 → next_word u ≡ T_F + 2 * e → e < 1024
+pub step-clears : (u : State) (e : ℕ) → u.size ≡ Full → u.acc ≡ 0 → next_word u ≡ T_F + 2 * e → e < 1024
     → (step u).state.store ≡ with_short u.store e 0
 unfolding step
-clears u e size acc word1 fits =
+step-clears u e size acc word1 fits =
     let function : function_of (T_F + 2 * e) ≡ 5 = omega arith in
     let address : address_of (T_F + 2 * e) ≡ e = omega arith in
     let short : is_long (T_F + 2 * e) ≡ false = (let even : (T_F + 2 * e) % 2 ≡ 0 = omega arith in rw even refl) in

@@ -1,19 +1,16 @@
 -- What Initial Orders 1 do with each kind of row, as the paths of their listing: each line is one order, by its cell
 -- and what it names, with the number that it leaves.
-use Rattle.std.proofs.Common.{◌≡◌, ℕ, suc, ◌+◌, ◌*◌, ◌/◌, ◌%◌, ◌^◌, ◌<◌, ◌≤◌, refl, arith, lit<, lit≤, Bool, true}
-use Rattle.std.proofs.Common.{false}
-use Rattle.std.proofs.Common.{inr, nat_eq, List, [], ◌∷◌, set, Option}
-use Rattle.ed_words.specs.declared.size.Size.TheVariants.{Full}
+use Rattle.ed_initial1.proofs.Kit.{T_F, Full, short, T_top, own, [], arith, Bool, false, inr, List, lit<, lit≤, nat_eq}
+use Rattle.ed_initial1.proofs.Kit.{Option, refl, set, suc, true, ℕ, ◌%◌, ◌*◌, ◌+◌, ◌/◌, ◌<◌, ◌^◌, ◌∷◌, ◌≡◌, ◌≤◌, digit}
+use Rattle.ed_initial1.proofs.Kit.{Moment, ending_row, Item1, word1}
+use Rattle.ed_words.specs.declared.order_words.TheConstants.{A_F, I_F, L_D, T_D}
 use Rattle.ed_orders.specs.declared.kind.Kind.{Kind}
 use Rattle.ed_orders.specs.declared.kind.Kind.TheVariants.{T as KindT}
-use Rattle.ed_words.specs.Words.{digit}
-use Rattle.ed_words.specs.declared.order_words.TheConstants.{A_F, I_F, L_D, T_D, T_F}
-use Rattle.ed_initial1.specs.Items.{Item1, ending_row, word1}
-use Rattle.ed_machine.proofs.Kit.Frames.{Frame, Moment, short}
-use Rattle.ed_machine.proofs.Kit.Places.{own, out, pair}
+use Rattle.ed_machine.proofs.Kit.Frames.{Frame}
+use Rattle.ed_machine.proofs.Kit.Moves.{Moves, A, S, T, U, H, V, I, R, L, E_jumps, E_stays, G_jumps, G_stays}
 use Rattle.ed_machine.proofs.Kit.Orders.{word_is}
+use Rattle.ed_machine.proofs.Kit.Places.{out, pair}
 use Rattle.ed_machine.proofs.Kit.Shifts.{R4F, R16F, LD, L8F}
-use Rattle.ed_machine.proofs.Kit.Moves.{Moves, A, S, T, T_top, U, H, V, I, R, L, E_jumps, E_stays, G_jumps, G_stays}
 
 -- the 31 orders and the first word after them, at 0 of a store of full size, with the digit of the pair 0, 1
 abbrev pub piece : Frame 32 0
@@ -25,19 +22,19 @@ pub data Walk : ℕ → Moment → Moment → Type 0 where
   on : {k : ℕ} {kind : Kind} {r m t : Moment} → Moves piece kind r m → nat_eq m.counter 31 ≡ false → Walk k m t
       → Walk (suc k) r t
 
-pub followed : {a b : ℕ} {r m t : Moment} → Walk a r m → Walk b m t → Walk (a + b) r t
-followed {b = b} stay next = let e : 0 + b ≡ b = omega arith in rw e next
-followed {b = b} (on {k = k} first away rest) next =
-    let e : suc k + b ≡ suc (k + b) = omega arith in rw e (on first away (followed rest next))
+pub Walk-followed : {a b : ℕ} {r m t : Moment} → Walk a r m → Walk b m t → Walk (a + b) r t
+Walk-followed {b = b} stay next = let e : 0 + b ≡ b = omega arith in rw e next
+Walk-followed {b = b} (on {k = k} first away rest) next =
+    let e : suc k + b ≡ suc (k + b) = omega arith in rw e (on first away (Walk-followed rest next))
 
 -- the same with one more order, which reaches 31
 pub data ToProgram : ℕ → Moment → Moment → Type 0 where
   ends : {k : ℕ} {kind : Kind} {r m t : Moment} → Walk k r m → Moves piece kind m t → nat_eq t.counter 31 ≡ true
       → ToProgram (suc k) r t
 
-pub then : {a b : ℕ} {r m t : Moment} → Walk a r m → ToProgram b m t → ToProgram (a + b) r t
-then {a = a} first (ends {k = k} walk last at) =
-    let e : a + suc k ≡ suc (a + k) = omega arith in rw e (ends (followed first walk) last at)
+pub ToProgram-then : {a b : ℕ} {r m t : Moment} → Walk a r m → ToProgram b m t → ToProgram (a + b) r t
+ToProgram-then {a = a} first (ends {k = k} walk last at) =
+    let e : a + suc k ≡ suc (a + k) = omega arith in rw e (ends (Walk-followed first walk) last at)
 
 -- the words that change
 pub record Working : Type 0 where
@@ -172,18 +169,18 @@ module _ (q : Kept) (w : Working) (words : List ℕ) (digit0 : Bool) where
       let low = bit i.long in on (T_top 25 (own 31) (word1 i) (word_is here) (omega arith)) refl stay
 
   -- or at a location a above it
-  pub placed : (i : Item1) (a : ℕ) {rest : List ℕ} → w.at25 ≡ T_F + 2 * a → (32 ≤ a) × (a < 1024)
+  pub Walk-placed : (i : Item1) (a : ℕ) {rest : List ℕ} → w.at25 ≡ T_F + 2 * a → (32 ≤ a) × (a < 1024)
       → Walk 1 (at w (with_word i) 25 rest) (moment q w (set words a (word1 i)) digit0 0 26 rest)
-  placed i a here range =
+  Walk-placed i a here range =
       let low = bit i.long in
       on (T_top 25 (out a (record { below = range.1; beside = inr range.0 })) (word1 i) (word_is here) (omega arith))
       refl stay
 
   -- the order at 25 becomes the next one, and is compared with the first word
-  pub counted : {next : ℕ} (u : ℕ) {rest : List ℕ} → w.at25 + 2 ≡ next → (next < 2 ^ 17) × (u < 2 ^ 17)
+  pub Walk-counted : {next : ℕ} (u : ℕ) {rest : List ℕ} → w.at25 + 2 ≡ next → (next < 2 ^ 17) × (u < 2 ^ 17)
       → (u + w.at31) % 2 ^ 17 ≡ next
       → Walk 4 (at w 0 26 rest) (at (record w { at25 = next }) (short u) 30 rest)
-  counted {next} u rises range is =
+  Walk-counted {next} u rises range is =
       let fits = range.0 in
       let small = range.1 in
       on (A 26 (own 25) (short w.at25) refl (omega arith)) refl

@@ -1,24 +1,14 @@
 -- The reading of a tape row by row, and that it finds the one fault that the rules give, or the one program.
-use Rattle.std.proofs.Common.{◌≡◌, ℕ, ◌+◌, ◌*◌, ◌<◌, ◌≤◌, refl, sym, ap, ◌∙◌, arith, Bool, true, false, not, nat_eq}
-use Rattle.std.proofs.Common.{nat_lt, nat_le}
-use Rattle.std.proofs.Common.{if◌then◌else◌, Option, Some, None, List, [], ◌∷◌, ◌++◌, length, length-append}
-use Rattle.std.proofs.Common.{append_assoc, append-nil, lit≤}
-use Rattle.std.proofs.lemmas.Bool.{and_parts}
-use Rattle.ed_words.proofs.Numbers.{lt_of, not_lt_of, eq_of, not_eq_of, le_of, if_means}
-use Rattle.ed_notation.specs.Items.{digits_number}
-use Rattle.ed_notation.proofs.Rows.{number_more, digits_more}
-use Rattle.ed_initial1.specs.declared.cause.Tape1Cause.{Tape1Cause}
-use Rattle.ed_initial1.specs.declared.cause.Tape1Cause.TheVariants.{EndOfTape, BadRow, FirstWord}
-use Rattle.ed_initial1.specs.declared.reader.PartialItem1.{PartialItem1}
-use Rattle.ed_initial1.specs.declared.reader.RowEffect1.{RowEffect1}
-use Rattle.ed_initial1.specs.declared.reader.RowEffect1.TheVariants.{Refused, Longer, Ended}
-use Rattle.ed_initial1.specs.Reading.{row_effect1, end_effect1}
-use Rattle.ed_initial1.specs.Items.{Begun1, Item1, item_number, ending_row, begun_rows1, rows_of1, spelled_rows1, IsBegun1}
-use Rattle.ed_initial1.specs.Items.{AreItems}
-use Rattle.ed_initial1.specs.Items.{IsFirst}
-use Rattle.ed_initial1.specs.Faults.{Tape, Comes1, BeginsWith, IsLoading, part_rows1, IsPart1, is_first, is_none, ends1}
-use Rattle.ed_initial1.specs.Faults.{breaks1, is_broken1}
-use Rattle.ed_initial1.specs.Faults.{Breaks1, WellFormed1}
+use Rattle.ed_initial1.proofs.Kit.{append-nil, append_assoc, length-append, eqb-true, digits_more, number_more, [], ap}
+use Rattle.ed_initial1.proofs.Kit.{arith, Bool, false, if◌then◌else◌, length, List, lit≤, nat_eq, nat_lt, None, not}
+use Rattle.ed_initial1.proofs.Kit.{Option, refl, Some, sym, true, ℕ, ◌*◌, ◌++◌, ◌+◌, ◌<◌, ◌∙◌, ◌∷◌, ◌≡◌, ◌≤◌}
+use Rattle.ed_initial1.proofs.Kit.{and_parts, digits_number, BeginsWith, breaks1, Breaks1, ends1, is_broken1, is_first}
+use Rattle.ed_initial1.proofs.Kit.{is_none, IsLoading, IsPart1, part_rows1, ReachesEntry1, Tape, WellFormed1, AreItems}
+use Rattle.ed_initial1.proofs.Kit.{Begun1, begun_rows1, ending_row, IsBegun1, IsFirst, Item1, item_number, rows_of1}
+use Rattle.ed_initial1.proofs.Kit.{spelled_rows1, row_effect1, Tape1Cause, BadRow, EndOfTape, FirstWord, PartialItem1}
+use Rattle.ed_initial1.proofs.Kit.{RowEffect1, Ended, Longer, Refused}
+use Rattle.ed_notation.proofs.Kit.{nat_le, eqb-false, leb-true, ltb-false, ltb-true, if_means}
+use Rattle.ed_initial1.specs.Reading.{end_effect1}
 
 -- an item so far, as the plain program has it
 abbrev pub part_of : Begun1 → PartialItem1
@@ -99,11 +89,11 @@ first_means b long h =
     let q = and_parts (nat_eq (ending_row long) 12) _ p.1 in
     let r = and_parts (nat_le 32 (digits_number 0 b.digits)) _ q.1 in
     record {
-      function = eq_of b.function 5 p.0;
+      function = eqb-true b.function 5 p.0;
       short = is_short long q.0;
       number = refl;
-      low = le_of 32 (digits_number 0 b.digits) r.0;
-      high = le_of (digits_number 0 b.digits) 1023 r.1;
+      low = leb-true 32 (digits_number 0 b.digits) r.0;
+      high = leb-true (digits_number 0 b.digits) 1023 r.1;
     }
   where
     is_short : (long : Bool) → nat_eq (ending_row long) 12 ≡ true → long ≡ false
@@ -129,9 +119,9 @@ taken_means before b c =
     let P : RowEffect1 → Type 0 = TakenMeans before b c in
     if_means P (nat_lt c 10) _ _
     (λ d. if_means P (nat_lt 32767 (10 * digits_number 0 b.digits + c)) _ _ (λ n. rw (d, n) refl)
-    (λ n. (refl, lt_of c 10 d, not_lt_of _ _ n)))
-    (λ d. if_means P (nat_eq c 12) _ _ (λ s. end_means before b c false (eq_of c 12 s)) (λ s.
-    if_means P (nat_eq c 25) _ _ (λ l. end_means before b c true (eq_of c 25 l)) (λ l. rw (d, s, l) refl)))
+    (λ n. (refl, ltb-true c 10 d, ltb-false _ _ n)))
+    (λ d. if_means P (nat_eq c 12) _ _ (λ s. end_means before b c false (eqb-true c 12 s)) (λ s.
+    if_means P (nat_eq c 25) _ _ (λ l. end_means before b c true (eqb-true c 25 l)) (λ l. rw (d, s, l) refl)))
 
 -- a row as it is read
 pub record Here (rows : List ℕ) (row : ℕ) (before : List Item1) (part : Option Begun1) (rest : List ℕ) : Type 0 where
@@ -143,12 +133,13 @@ pub record Here (rows : List ℕ) (row : ℕ) (before : List Item1) (part : Opti
 
 abbrev pub Holds : List ℕ → Verdict → Type 0
 Holds rows (Faulty row cause) = Breaks1 rows row cause
-Holds rows (Whole t) = Comes1 rows t
+Holds rows (Whole t) = ReachesEntry1 rows t
 
-pub faulty : (rows : List ℕ) (row : ℕ) (before : List Item1) (part : Option Begun1) (rest : List ℕ) (cause : Tape1Cause)
+pub Breaks1-faulty : (rows : List ℕ) (row : ℕ) (before : List Item1) (part : Option Begun1)
+    (rest : List ℕ) (cause : Tape1Cause)
     → Here rows row before part rest
     → is_broken1 before part rest cause ≡ true → Breaks1 rows row cause
-faulty rows row before part rest cause h is = record {
+Breaks1-faulty rows row before part rest cause h is = record {
   stands = record {
     before = before;
     part = part;
@@ -201,7 +192,7 @@ by_taken : {rows rest : List ℕ} → Follows rows rest → {row : ℕ} {before 
     → Here rows row before (Some b) (c ∷ rest) → (t : RowEffect1) → TakenMeans before b c t
     → Holds rows (follow row before b c rest t)
 by_taken {rows} {rest} ih {row} {before} {b} {c} h (Refused cause) m =
-    faulty rows row before (Some b) (c ∷ rest) cause h m
+    Breaks1-faulty rows row before (Some b) (c ∷ rest) cause h m
 by_taken {rest = rest} ih {row} {before} {b} {c} h (Longer next) m = ih (row + 1) before (Some (longer b c)) (record {
   good = h.good;
   goes_on = h.goes_on;
@@ -219,10 +210,10 @@ by_taken {rows} ih {row} {before} {b} h (Ended long) m =
     let rows_are = item_more long h m.0 in
     let begins = begins_more before b long h.goes_on m.1 in
     if_means (Holds rows) (reaches_end is) _ _
-    (λ e. record { rows_are = rows_are; good = good; first = begins.0; count = eq_of _ _ e })
+    (λ e. record { rows_are = rows_are; good = good; first = begins.0; count = eqb-true _ _ e })
     (λ e. ih (row + 1) is None (record {
       good = good;
-      goes_on = goes_on_more is begins.0 (let n = not_eq_of _ _ e in omega (arith, begins.1, n));
+      goes_on = goes_on_more is begins.0 (let n = eqb-false _ _ e in omega (arith, begins.1, n));
       is_part = tt;
       rows_are = rows_are;
       row_is = omega (
@@ -235,17 +226,17 @@ by_taken {rows} ih {row} {before} {b} h (Ended long) m =
 
 pub sound : (rows rest : List ℕ) → Follows rows rest
 unfolding read
-sound rows [] row before part h = faulty rows row before part [] EndOfTape h refl
+sound rows [] row before part h = Breaks1-faulty rows row before part [] EndOfTape h refl
 sound rows (c ∷ rest) row before None h =
     if_means (Holds rows) (nat_lt c 32) _ _
     (λ small. sound rows rest (row + 1) before (Some (began c)) (record {
       good = h.good;
       goes_on = h.goes_on;
-      is_part = record { function = lt_of c 32 small; digits = tt; fits = lit≤ tt };
+      is_part = record { function = ltb-true c 32 small; digits = tt; fits = lit≤ tt };
       rows_are = h.rows_are;
       row_is = omega (arith, h.row_is);
     }))
-    (λ large. faulty rows row before None (c ∷ rest) BadRow h (rw large refl))
+    (λ large. Breaks1-faulty rows row before None (c ∷ rest) BadRow h (rw large refl))
 sound rows (c ∷ rest) row before (Some b) h =
     by_taken (sound rows rest) h (row_effect1 (is_none before) (part_of b) c) (taken_means before b c)
 
@@ -253,8 +244,8 @@ sound rows (c ∷ rest) row before (Some b) h =
 abbrev pub verdict : List ℕ → Verdict
 verdict rows = read 0 [] None rows
 
-pub right : (rows : List ℕ) → Holds rows (verdict rows)
-right rows = sound rows rows 0 [] None (record {
+pub Holds-right : (rows : List ℕ) → Holds rows (verdict rows)
+Holds-right rows = sound rows rows 0 [] None (record {
   good = tt;
   goes_on = tt;
   is_part = tt;
@@ -263,9 +254,9 @@ right rows = sound rows rows 0 [] None (record {
 })
 
 -- a tape that breaks no rule gives a whole program
-pub programmed : (rows : List ℕ) → WellFormed1 rows → (t : Tape) × Comes1 rows t
-programmed rows well = by_verdict (verdict rows) (right rows)
+pub ReachesEntry1-programmed : (rows : List ℕ) → WellFormed1 rows → (t : Tape) × ReachesEntry1 rows t
+ReachesEntry1-programmed rows well = by_verdict (verdict rows) (Holds-right rows)
   where
-    by_verdict : (v : Verdict) → Holds rows v → (t : Tape) × Comes1 rows t
+    by_verdict : (v : Verdict) → Holds rows v → (t : Tape) × ReachesEntry1 rows t
     by_verdict (Faulty row cause) h = absurd (well row cause h)
     by_verdict (Whole t) h = (t, h)

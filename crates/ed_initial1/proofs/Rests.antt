@@ -1,19 +1,13 @@
 -- The induction over the items of a tape, between the rests at 6 and 11: from the first of the 31 orders to the
 -- program.
-use Rattle.std.proofs.Common.{◌≡◌, ℕ, suc, ◌+◌, ◌-◌, ◌*◌, ◌^◌, ◌<◌, ◌≤◌, refl, ap, ◌∙◌, arith, lit<, lit≤, Bool}
-use Rattle.std.proofs.Common.{false}
-use Rattle.std.proofs.Common.{List, [], ◌∷◌, ◌++◌, length, set, append_assoc}
-use Rattle.ed_words.specs.Words.{digit}
-use Rattle.ed_words.specs.declared.order_words.TheConstants.{T_F}
-use Rattle.ed_notation.specs.Items.{digits_number, AreDigits}
-use Rattle.ed_notation.proofs.Follow.{number_le}
-use Rattle.ed_machine.proofs.Kit.Frames.{short}
-use Rattle.ed_initial1.specs.Items.{Item1, item_number, ending_row, rows_of1, spelled_rows1, IsBegun1, AreItems, word1}
-use Rattle.ed_initial1.specs.Items.{words, costs1}
-use Rattle.ed_initial1.specs.Items.{last_of, IsFirst}
-use Rattle.ed_initial1.proofs.Paths.{Walk, followed, stay, ToProgram, then, Working, Kept, moment, with_word}
-use Rattle.ed_initial1.proofs.Paths.{start_path, function_path}
-use Rattle.ed_initial1.proofs.Paths.{digit_path, ending_path, first_placed, placed, counted, goes_back, goes_on}
+use Rattle.ed_initial1.proofs.Kit.{T_F, short, append_assoc, AreDigits, number_le, [], ap, arith, Bool, false, length}
+use Rattle.ed_initial1.proofs.Kit.{List, lit<, lit≤, refl, set, suc, ℕ, ◌*◌, ◌++◌, ◌+◌, ◌<◌, ◌^◌, ◌∙◌, ◌∷◌, ◌≡◌, ◌≤◌}
+use Rattle.ed_initial1.proofs.Kit.{digit, digits_number, AreItems, costs1, ending_row, IsBegun1, IsFirst, Item1}
+use Rattle.ed_initial1.proofs.Kit.{item_number, last_of, rows_of1, spelled_rows1, word1, words}
+use Rattle.std.proofs.Common.{◌-◌}
+use Rattle.ed_initial1.proofs.Paths.{Walk, Walk-followed, stay, ToProgram, ToProgram-then, Working, Kept, moment, with_word}
+use Rattle.ed_initial1.proofs.Paths.{start_path, function_path, digit_path, ending_path, first_placed, Walk-placed, Walk-counted}
+use Rattle.ed_initial1.proofs.Paths.{goes_back, goes_on}
 
 -- the rows of items with others after them
 abbrev pub tape_of : List Item1 → List ℕ → List ℕ
@@ -92,7 +86,7 @@ module _ (q : Kept) where
   digit_walk {ws} w {b} (d ∷ ds) {n} {x} {y} good fits =
       let e : 10 * suc (length ds) ≡ 10 + 10 * length ds = omega arith in
       let now : Working = record w { at1 = n; at2 = x; at3 = y } in
-      rw e (followed (digit_path q now ws b (10 * n + d) good.0 refl (omega (arith, number_le ds (10 * n + d))))
+      rw e (Walk-followed (digit_path q now ws b (10 * n + d) good.0 refl (omega (arith, number_le ds (10 * n + d))))
       (digit_walk w ds good.1 fits))
 
   -- an item from the rest at 6 to the order at 25
@@ -103,15 +97,15 @@ module _ (q : Kept) where
       let ds = i.begun.digits in
       let begun : Working = record w { at0 = 4096 * i.begun.function } in
       let ended : Working = record begun { at1 = item_number i; at2 = last_of w.at2 ds; at3 = third w.at3 ds } in
-      followed (function_path q w ws b acc i.begun.function (ds ++ (ending_row i.long ∷ rest)) good.function)
-      (followed (digit_walk begun ds good.digits good.fits) (ending_path q ended ws false i good.fits refl))
+      Walk-followed (function_path q w ws b acc i.begun.function (ds ++ (ending_row i.long ∷ rest)) good.function)
+      (Walk-followed (digit_walk begun ds good.digits good.fits) (ending_path q ended ws false i good.fits refl))
 
   -- from the order at 26 to the program
   last_tail : (ws : List ℕ) (w : Working) (b : Bool) (e : ℕ) (rest : List ℕ) → w.at25 + 2 ≡ T_F + 2 * e
       → w.at31 ≡ T_F + 2 * e
       → e ≤ 1023 → ToProgram 5 (moment q w ws b 0 26 rest) (moment q (record w { at25 = T_F + 2 * e }) ws b 0 31 rest)
   last_tail ws w b e rest rises end most =
-      then (counted q w ws b 0 rises (omega arith, lit< tt) (omega arith))
+      ToProgram-then (Walk-counted q w ws b 0 rises (omega arith, lit< tt) (omega arith))
       (goes_on q (record w { at25 = T_F + 2 * e }) ws b rest)
 
   -- or back to the rest at 6: the accumulator holds the number of words still to come, as a negative number
@@ -123,7 +117,7 @@ module _ (q : Kept) where
       → Walk 5 (moment q w ws b 0 26 rest)
       (moment q (record w { at25 = T_F + 2 * a }) ws b (short (to_come a e)) 6 rest)
   back_tail {ws} w {b} a e {rest} rises end less most =
-      followed (counted q w ws b (to_come a e) rises (omega arith, omega arith) (omega arith))
+      Walk-followed (Walk-counted q w ws b (to_come a e) rises (omega arith, omega arith) (omega arith))
       (goes_back q (record w { at25 = T_F + 2 * a }) ws b (to_come a e) rest (omega arith))
 
   -- the items after the first one
@@ -136,8 +130,8 @@ module _ (q : Kept) where
       let most = c.most in
       let next = c.next in
       let cost : costs1 (i ∷ []) ≡ head_cost i + (1 + 5) = omega arith in
-      rw cost (then (head_walk ws w b acc i rest good.0)
-      (then (placed q (left w i) ws false i a next (c.low, omega arith))
+      rw cost (ToProgram-then (head_walk ws w b acc i rest good.0)
+      (ToProgram-then (Walk-placed q (left w i) ws false i a next (c.low, omega arith))
       (last_tail (set ws a (word1 i)) (left w i) false e rest (omega arith) c.end most)))
   loop {ws} w {b} {acc} {a} {e} i (j ∷ js) {rest} good c =
       let count = c.count in
@@ -146,9 +140,9 @@ module _ (q : Kept) where
       let low = c.low in
       let cost : costs1 (i ∷ (j ∷ js)) ≡ head_cost i + (1 + (5 + costs1 (j ∷ js))) = omega arith in
       let w' : Working = record (left w i) { at25 = T_F + 2 * (a + 1) } in
-      rw cost (then (head_walk ws w b acc i (tape_of (j ∷ js) rest) good.0)
-      (then (placed q (left w i) ws false i a next (low, omega arith))
-      (then (back_tail (left w i) (a + 1) e (omega arith) c.end (omega arith) most)
+      rw cost (ToProgram-then (head_walk ws w b acc i (tape_of (j ∷ js) rest) good.0)
+      (ToProgram-then (Walk-placed q (left w i) ws false i a next (low, omega arith))
+      (ToProgram-then (back_tail (left w i) (a + 1) e (omega arith) c.end (omega arith) most)
       (loop {ws = set ws a (word1 i)} w' j js good.1
       (record { next = refl; end = c.end; low = omega arith; count = omega arith; most = most })))))
 
@@ -160,16 +154,16 @@ module _ (q : Kept) where
   items_path {ws} w {b} {acc} {e} i [] {rest} good next first count =
       let cost : costs1 (i ∷ []) ≡ head_cost i + (1 + 5) = omega arith in
       let end = first_word e i first in
-      rw cost (then (head_walk ws w b acc i rest good.0)
-      (then (first_placed q (left w i) ws false i next)
+      rw cost (ToProgram-then (head_walk ws w b acc i rest good.0)
+      (ToProgram-then (first_placed q (left w i) ws false i next)
       (last_tail ws (record (left w i) { at31 = word1 i }) false e rest (omega arith) end first.high)))
   items_path {ws} w {b} {acc} {e} i (j ∷ js) {rest} good next first count =
       let cost : costs1 (i ∷ (j ∷ js)) ≡ head_cost i + (1 + (5 + costs1 (j ∷ js))) = omega arith in
       let end = first_word e i first in
       let w' : Working = record (left w i) { at25 = 20544; at31 = word1 i } in
-      rw cost (then (head_walk ws w b acc i (tape_of (j ∷ js) rest) good.0)
-      (then (first_placed q (left w i) ws false i next)
-      (then (back_tail (record (left w i) { at31 = word1 i }) 32 e (omega arith) end (omega arith) first.high)
+      rw cost (ToProgram-then (head_walk ws w b acc i (tape_of (j ∷ js) rest) good.0)
+      (ToProgram-then (first_placed q (left w i) ws false i next)
+      (ToProgram-then (back_tail (record (left w i) { at31 = word1 i }) 32 e (omega arith) end (omega arith) first.high)
       (loop w' j js good.1
       (record { next = refl; end = end; low = lit≤ tt; count = omega arith; most = first.high })))))
 
@@ -183,5 +177,5 @@ module _ (q : Kept) where
       (moment q (final e 12300 (word1 i) i is) (written ws 32 (words is)) false 0 31 rest)
   whole_path {ws} w {b} {acc} {multiplier} i is {rest} good next first count =
       let started : Working = record w { at0 = 0; at1 = 86020; at2 = T_F; at3 = 12300 } in
-      then (start_path q w ws b acc multiplier (tape_of (i ∷ is) rest))
+      ToProgram-then (start_path q w ws b acc multiplier (tape_of (i ∷ is) rest))
       (items_path started i is good next first (omega arith))

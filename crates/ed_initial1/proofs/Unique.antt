@@ -1,38 +1,31 @@
 -- The reading finds each fault and each program that the rules give: so a tape has exactly one fault or exactly one
 -- program.
-use Rattle.std.proofs.Common.{◌⊎◌, inl, inr, ◌≡◌, ℕ, suc, ◌+◌, ◌*◌, ◌<◌, ◌≤◌, refl, sym, ap, ◌∙◌, arith, Bool, true}
-use Rattle.std.proofs.Common.{false, ◌&&◌, not, nat_eq, nat_lt}
-use Rattle.std.proofs.Common.{if◌then◌else◌, Option, Some, None, List, [], ◌∷◌, ◌++◌, length, length-append}
-use Rattle.std.proofs.Common.{append_assoc, append-nil}
-use Rattle.std.proofs.lemmas.Bool.{and_parts, not-true}
-use Rattle.ed_words.proofs.Numbers.{eq_of, eq_true, eq_false, lt_true, lt_false, le_true}
-use Rattle.ed_notation.specs.Items.{digits_number, AreDigits}
-use Rattle.ed_initial1.specs.declared.cause.Tape1Cause.{Tape1Cause}
-use Rattle.ed_initial1.specs.declared.cause.Tape1Cause.TheVariants.{EndOfTape, BadRow, NumberTooLarge, FirstWord}
-use Rattle.ed_initial1.specs.declared.reader.RowEffect1.TheVariants.{Refused, Longer, Ended}
-use Rattle.ed_initial1.specs.Reading.{row_effect1}
-use Rattle.ed_initial1.specs.Items.{Begun1, Item1, item_number, ending_row, begun_rows1, rows_of1, spelled_rows1, IsBegun1}
-use Rattle.ed_initial1.specs.Items.{AreItems}
-use Rattle.ed_initial1.specs.Items.{IsFirst}
-use Rattle.ed_initial1.specs.Faults.{Tape, Comes1, BeginsWith, IsLoading, part_rows1, IsPart1, is_first, is_none, ends1}
-use Rattle.ed_initial1.specs.Faults.{breaks1, is_broken1}
-use Rattle.ed_initial1.specs.Faults.{rule, Breaks1, IsFault1, WellFormed1}
-use Rattle.ed_notation.proofs.Rows.{number_more}
-use Rattle.ed_notation.proofs.Follow.{number_le}
+use Rattle.ed_initial1.proofs.Kit.{eq-eqb, ne_eqb, append-nil, append_assoc, length-append, eqb-true, AreDigits}
+use Rattle.ed_initial1.proofs.Kit.{number_le, number_more, [], ap, arith, Bool, false, if◌then◌else◌, inl, inr, length}
+use Rattle.ed_initial1.proofs.Kit.{List, nat_eq, nat_lt, None, not, Option, refl, Some, suc, sym, true, ℕ, ◌*◌, ◌++◌}
+use Rattle.ed_initial1.proofs.Kit.{◌+◌, ◌<◌, ◌∙◌, ◌∷◌, ◌≡◌, ◌≤◌, and_parts, digits_number, BeginsWith, breaks1}
+use Rattle.ed_initial1.proofs.Kit.{Breaks1, ends1, is_broken1, is_first, is_none, IsFault1, IsLoading, IsPart1}
+use Rattle.ed_initial1.proofs.Kit.{part_rows1, ReachesEntry1, Tape, WellFormed1, AreItems, Begun1, begun_rows1}
+use Rattle.ed_initial1.proofs.Kit.{ending_row, IsBegun1, IsFirst, Item1, item_number, rows_of1, spelled_rows1}
+use Rattle.ed_initial1.proofs.Kit.{row_effect1, Tape1Cause, BadRow, EndOfTape, FirstWord, Ended, Longer, Refused}
+use Rattle.ed_notation.proofs.Kit.{◌&&◌, ◌⊎◌, le-leb, le-ltb, lt-ltb}
+use Rattle.std.proofs.lemmas.Bool.{not-true}
 use Rattle.ed_initial1.specs.Checks.{EachTapeHasOneVerdict}
-use Rattle.ed_initial1.proofs.Reading.{Verdict, Faulty, Whole, Holds, right, read, verdict, follow, part_of, longer}
+use Rattle.ed_initial1.specs.Faults.{rule}
+use Rattle.ed_initial1.specs.declared.cause.Tape1Cause.TheVariants.{NumberTooLarge}
+use Rattle.ed_initial1.proofs.Reading.{Verdict, Faulty, Whole, Holds, Holds-right, read, verdict, follow, part_of, longer}
 use Rattle.ed_initial1.proofs.Reading.{began, end_of, reaches_end, FirstFits}
 
 digit_effect : (before : List Item1) (b : Begun1) (c : ℕ) → c < 10 → 10 * digits_number 0 b.digits + c ≤ 32767
     → row_effect1 (is_none before) (part_of b) c ≡ Longer (10 * digits_number 0 b.digits + c)
-digit_effect before b c h fits = rw (lt_true c 10 h, lt_false 32767 (10 * digits_number 0 b.digits + c) fits) refl
+digit_effect before b c h fits = rw (lt-ltb c 10 h, le-ltb 32767 (10 * digits_number 0 b.digits + c) fits) refl
 
 is_first_of : (b : Begun1) (long : Bool) → IsFirst (digits_number 0 b.digits) (record { begun = b; long = long })
     → is_first b (ending_row long) ≡ true
 is_first_of b true f = absurd (let s = f.short in cc)
 is_first_of b false f =
     let n = digits_number 0 b.digits in rw
-    (eq_true b.function 5 f.function, le_true 32 n f.low, le_true n 1023 f.high) refl
+    (eq-eqb b.function 5 f.function, le-leb 32 n f.low, le-leb n 1023 f.high) refl
 
 end_is_taken : (before : List Item1) (b : Begun1) (long : Bool) → FirstFits before b long
     → row_effect1 (is_none before) (part_of b) (ending_row long) ≡ Ended long
@@ -71,7 +64,7 @@ begin_reads : (before : List Item1) (row : ℕ) (b : Begun1) (rest : List ℕ) �
 unfolding read more_digits
 begin_reads before row b rest good =
     let e : row + 1 + length b.digits ≡ row + suc (length b.digits) = omega arith in
-    rw (lt_true b.function 32 good.function)
+    rw (lt-ltb b.function 32 good.function)
     (reads_digits before (row + 1) (began b.function) b.digits rest good.digits good.fits
     ∙ (λ i. read (e i) before (Some b) rest))
 
@@ -102,11 +95,7 @@ end_same (x ∷ xs) i is = refl
 goes_on_by : (before : List Item1) (i : Item1) (is : List Item1)
     → 31 + length (before ++ (i ∷ [])) < end_of (before ++ (i ∷ is))
     → reaches_end (before ++ (i ∷ [])) ≡ false
-goes_on_by before i is h = eq_false _ _ (omega (arith, h, end_same before i is))
-
-begins_of : (is : List Item1) → IsLoading is → BeginsWith (end_of is) is ⊎ (is ≡ [])
-begins_of [] h = inr refl
-begins_of (i ∷ is) h = inl h.0
+goes_on_by before i is h = ne_eqb _ _ (omega (arith, h, end_same before i is))
 
 snoc : (before : List Item1) (i : Item1) (is : List Item1) → (before ++ (i ∷ [])) ++ is ≡ before ++ (i ∷ is)
 snoc before i is = append_assoc before (i ∷ []) is
@@ -142,7 +131,7 @@ reads_whole : (i : Item1) (is before : List Item1) (row : ℕ) (rest : List ℕ)
 reads_whole i [] before row rest good first count =
     ap (λ x. read row before None (x ++ rest)) (append-nil (rows_of1 i))
     ∙ reads_item before row i rest good.0 (first_fits before i [] first)
-    ∙ rw (eq_true _ _ count) refl
+    ∙ rw (eq-eqb _ _ count) refl
 reads_whole i (j ∷ js) before row rest good first count =
     let same = snoc before i (j ∷ js) in
     let on = goes_on_by before i (j ∷ js)
@@ -172,8 +161,8 @@ refused before b c FirstWord h =
     by_tests : (y z : Bool) → nat_eq c 12 ≡ y → nat_eq c 25 ≡ z → ends1 c ≡ true
         → (is_none before && not (is_first b c)) ≡ true
         → row_effect1 (is_none before) (part_of b) c ≡ Refused FirstWord
-    by_tests true z q r e t = let big = lt_false c 10 (let k = eq_of c 12 q in omega arith) in rw (t, big, q) refl
-    by_tests false true q r e t = let big = lt_false c 10 (let k = eq_of c 25 r in omega arith)
+    by_tests true z q r e t = let big = le-ltb c 10 (let k = eqb-true c 12 q in omega arith) in rw (t, big, q) refl
+    by_tests false true q r e t = let big = le-ltb c 10 (let k = eqb-true c 25 r in omega arith)
         in rw (t, big, q, r) refl
     by_tests false false q r e t = absurd (let k : false ≡ true = rw (q, r) at e in cc)
 
@@ -214,16 +203,16 @@ finds_items (i ∷ is) e rest good first count =
     reads_whole i is [] 0 rest good (rw n first) (count ∙ sym n)
     ∙ ap (λ x. Whole (record { end = x; items = i ∷ is; rest = rest })) n
 
-finds_program : (rows : List ℕ) (t : Tape) → Comes1 rows t → verdict rows ≡ Whole t
+finds_program : (rows : List ℕ) (t : Tape) → ReachesEntry1 rows t → verdict rows ≡ Whole t
 finds_program rows t c = ap (λ x. read 0 [] None x) c.rows_are ∙ finds_items t.items t.end t.rest c.good c.first c.count
 
 -- a tape that gives a program breaks no rule; a tape gives at most one program, and has at most one fault, at one
 -- row
-pub no_fault : (rows : List ℕ) (t : Tape) → Comes1 rows t → WellFormed1 rows
+pub no_fault : (rows : List ℕ) (t : Tape) → ReachesEntry1 rows t → WellFormed1 rows
 no_fault rows t c row cause f = let e : Whole t ≡ Faulty row cause = sym (finds_program rows t c)
     ∙ finds_fault rows row cause f in cc
 
-one_program : (rows : List ℕ) (t u : Tape) → Comes1 rows t → Comes1 rows u → t ≡ u
+one_program : (rows : List ℕ) (t u : Tape) → ReachesEntry1 rows t → ReachesEntry1 rows u → t ≡ u
 one_program rows t u c d = let e : Whole t ≡ Whole u = sym (finds_program rows t c) ∙ finds_program rows u d in cc
 
 one_broken : (rows : List ℕ) (r q : ℕ) (a b : Tape1Cause) → Breaks1 rows r a → Breaks1 rows q b → (r ≡ q) × (a ≡ b)
@@ -246,13 +235,13 @@ fault_of rows row cause f = record {
 -- every tape has one verdict
 pub one_verdict : EachTapeHasOneVerdict
 one_verdict rows = record {
-  some = by_verdict (verdict rows) (right rows);
+  some = by_verdict (verdict rows) (Holds-right rows);
   program = one_program rows;
   fault = one_fault rows;
   apart = no_fault rows;
 }
   where
     by_verdict : (v : Verdict) → Holds rows v
-        → ((t : Tape) × Comes1 rows t) ⊎ ((row : ℕ) × (cause : Tape1Cause) × IsFault1 rows row cause)
+        → ((t : Tape) × ReachesEntry1 rows t) ⊎ ((row : ℕ) × (cause : Tape1Cause) × IsFault1 rows row cause)
     by_verdict (Whole t) h = inl (t, h)
     by_verdict (Faulty row cause) h = inr (row, cause, fault_of rows row cause h)

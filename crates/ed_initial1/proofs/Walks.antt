@@ -1,13 +1,11 @@
 -- From the walks of the listing to steps of the machine.
-use Rattle.std.proofs.Common.{◌≡◌, ℕ, suc, zero, ◌+◌, refl, sym, ap, ◌∙◌, subst, arith, [], true}
-use Rattle.ed_machine.specs.State.{State}
-use Rattle.ed_machine.specs.OrderTable.{Obeyed, step}
-use Rattle.ed_machine.specs.Steps.{state_after, progress}
-use Rattle.ed_machine.specs.declared.turn.Turn.TheVariants.{Went}
-use Rattle.ed_machine.proofs.Kit.Frames.{Moment, state as piece_state}
-use Rattle.ed_machine.proofs.Kit.Paths.{Path, stay as path_stays, on as path_on, followed as paths_followed, leads, no_state}
+use Rattle.ed_initial1.proofs.Kit.{Went, leads, [], ap, arith, refl, subst, suc, sym, true, ℕ, ◌+◌, ◌∙◌, ◌≡◌, Obeyed}
+use Rattle.ed_initial1.proofs.Kit.{step, State, progress, state_after, Moment, at_31, IsQuiet1}
+use Rattle.std.proofs.Common.{zero}
+use Rattle.ed_machine.proofs.Kit.Frames.{state as piece_state}
+use Rattle.ed_machine.proofs.Kit.Paths.{Path, stay as path_stays, on as path_on, followed as paths_followed, no_state}
 use Rattle.ed_machine.proofs.Kit.Paths.{first_state}
-use Rattle.ed_initial1.specs.Load.{GoesOn1, IsQuiet1, at_31}
+use Rattle.ed_initial1.specs.Load.{GoesOn1}
 use Rattle.ed_initial1.proofs.Paths.{piece, Walk, stay, on, ToProgram, ends}
 
 -- the machine at a moment of a load, after k orders

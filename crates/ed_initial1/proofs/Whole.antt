@@ -1,23 +1,18 @@
 -- The theorem of Initial Orders 1: a load of a tape that gives a whole program ends at 31, at its cost, in the state
 -- at the entry.
-use Rattle.std.proofs.Common.{◌≡◌, ℕ, ◌+◌, ◌*◌, ◌≤◌, refl, sym, ap, ◌∙◌, subst, arith, List, [], ◌∷◌, ◌++◌, length}
-use Rattle.std.proofs.Common.{length-append}
-use Rattle.std.proofs.Common.{false}
-use Rattle.ed_store.specs.Cells.{IsStore, with_short}
-use Rattle.ed_machine.specs.State.{State}
-use Rattle.ed_machine.specs.OrderTable.{step}
-use Rattle.ed_machine.specs.Steps.{state_after}
-use Rattle.ed_initial1.specs.declared.loading.Loaded1.{Loaded1}
-use Rattle.ed_initial1.specs.Items.{Item1, AreItems, spelled_rows1, rows_of1, ending_row, word1, words, costs1}
+use Rattle.ed_initial1.proofs.Kit.{with_short, length-append, [], ap, arith, false, length, List, refl, subst, sym, ℕ}
+use Rattle.ed_initial1.proofs.Kit.{◌*◌, ◌++◌, ◌+◌, ◌∙◌, ◌∷◌, ◌≡◌, ◌≤◌, step, State, state_after, at_entry1, IsStarted1}
+use Rattle.ed_initial1.proofs.Kit.{BeginsWith, ReachesEntry1, Tape, WellFormed1, AreItems, costs1, ending_row, Item1}
+use Rattle.ed_initial1.proofs.Kit.{rows_of1, spelled_rows1, word1, words, EndsAs1, Loaded1}
+use Rattle.ed_store.specs.Cells.{IsStore}
+use Rattle.ed_initial1.specs.Entry.{IsLoaded1}
+use Rattle.ed_initial1.specs.Load.{orders_of1}
+use Rattle.ed_initial1.proofs.Opened.{HasItsLengths, kept, listed, begins, state-opened, state-closed, step-clears}
 use Rattle.ed_initial1.proofs.Paths.{ToProgram, moment}
-use Rattle.ed_initial1.specs.Faults.{Tape, Comes1, BeginsWith, WellFormed1}
-use Rattle.ed_initial1.specs.Entry.{IsStarted1, IsLoaded1, at_entry1}
-use Rattle.ed_initial1.specs.Load.{EndsAs1, orders_of1}
+use Rattle.ed_initial1.proofs.Reading.{ReachesEntry1-programmed}
 use Rattle.ed_initial1.proofs.Rests.{tape_of, tape_is, written, final, whole_path, first_word}
+use Rattle.ed_initial1.proofs.Settled.{Entered-settled, state_after-comes}
 use Rattle.ed_initial1.proofs.Walks.{state, Reaches, reaches}
-use Rattle.ed_initial1.proofs.Opened.{HasItsLengths, kept, listed, begins, opened, closed, clears}
-use Rattle.ed_initial1.proofs.Settled.{settled, comes}
-use Rattle.ed_initial1.proofs.Reading.{programmed}
 
 -- no tape costs more than 14 orders a row
 pub costs_fit : (is : List Item1) → costs1 is ≤ 14 * length (spelled_rows1 is)
@@ -46,13 +41,13 @@ reached {s} store started {e} (i ∷ is) rest rows good first count =
     whole_path (kept s) (listed ws) i is good refl first count in
     let tape : tape_of (i ∷ is) rest ≡ s.tape = sym (tape_is (i ∷ is) rest) ∙ sym rows in
     let start : state (begins s (tape_of (i ∷ is) rest)) s.orders ≡ s =
-    ap (λ x. state (begins s x) s.orders) tape ∙ opened s store started in
-    let end = closed store started is rest first count in
+    ap (λ x. state (begins s x) s.orders) tape ∙ state-opened s store started in
+    let end = state-closed store started is rest first count in
     subst (λ x. Reaches k x (entry_of s e (i ∷ is) rest)) start
     (subst (λ x. Reaches k (state (begins s (tape_of (i ∷ is) rest)) s.orders) x) end (reaches path s.orders))
 
 -- the same for a tape
-pub leads_in : (s : State) → HasItsLengths s.store → IsStarted1 s → (t : Tape) → Comes1 s.tape t
+pub leads_in : (s : State) → HasItsLengths s.store → IsStarted1 s → (t : Tape) → ReachesEntry1 s.tape t
     → Reaches (4 + costs1 t.items) s (at_entry1 s t)
 leads_in s store started t c = reached store started t.items t.rest c.rows_are c.good c.first c.count
 
@@ -61,12 +56,12 @@ cleared : (s : State) → IsStarted1 s → (e : ℕ) (is : List Item1) (rest : L
     → (step (entry_of s e is rest)).state.store ≡ with_short (entry_of s e is rest).store e 0
 cleared s started e [] rest first = absurd first
 cleared s started e (i ∷ is) rest first =
-    clears (entry_of s e (i ∷ is) rest) e started.size refl (first_word e i first) (omega (arith, first.high))
+    step-clears (entry_of s e (i ∷ is) rest) e started.size refl (first_word e i first) (omega (arith, first.high))
 
 module _ (s u : State) (r : Loaded1) (store : IsStore s.store) (started : IsStarted1 s)
     (ends : EndsAs1 s (14 * length s.tape + 4) r)
     (is : u ≡ state_after (orders_of1 r) s) where
-  pub whole_load : (t : Tape) → Comes1 s.tape t → IsLoaded1 s t r u
+  pub whole_load : (t : Tape) → ReachesEntry1 s.tape t → IsLoaded1 s t r u
   whole_load t c =
       let k = 4 + costs1 t.items in
       let bound = 14 * length s.tape + 4 in
@@ -74,9 +69,9 @@ module _ (s u : State) (r : Loaded1) (store : IsStore s.store) (started : IsStar
       let rows : length s.tape ≡ length (spelled_rows1 t.items) + length t.rest = ap length c.rows_are
       ∙ length-append (spelled_rows1 t.items) t.rest in
       let fits : k ≤ bound = omega (arith, costs_fit t.items) in
-      let result = settled s (at_entry1 s t) k g bound fits r ends in
+      let result = Entered-settled s (at_entry1 s t) k g bound fits r ends in
       let there : u ≡ at_entry1 s t =
-      is ∙ ap (λ x. state_after (orders_of1 x) s) result ∙ comes s (at_entry1 s t) k g in
+      is ∙ ap (λ x. state_after (orders_of1 x) s) result ∙ state_after-comes s (at_entry1 s t) k g in
       record {
         result_is = result;
         state_is = there;
@@ -86,5 +81,5 @@ module _ (s u : State) (r : Loaded1) (store : IsStore s.store) (started : IsStar
       }
 
   -- the same without a given program
-  pub total_load : WellFormed1 s.tape → (t : Tape) × Comes1 s.tape t × IsLoaded1 s t r u
-  total_load well = let p = programmed s.tape well in (p.0, p.1, whole_load p.0 p.1)
+  pub total_load : WellFormed1 s.tape → (t : Tape) × ReachesEntry1 s.tape t × IsLoaded1 s t r u
+  total_load well = let p = ReachesEntry1-programmed s.tape well in (p.0, p.1, whole_load p.0 p.1)

@@ -6,7 +6,7 @@ use Rattle.ed_initial1.specs.declared.cause.Tape1Cause.{Tape1Cause}
 use Rattle.ed_initial1.specs.declared.cause.Tape1Fault.{Tape1Fault}
 use Rattle.ed_initial1.specs.declared.cause.Tape1Fault.TheVariants.{At, Memory}
 use Rattle.ed_initial1.specs.Items.{spelled_rows1, words, costs1}
-use Rattle.ed_initial1.specs.Faults.{Tape, Comes1, IsFault1, WellFormed1}
+use Rattle.ed_initial1.specs.Faults.{Tape, ReachesEntry1, IsFault1, WellFormed1}
 
 -- the cost in orders, the rows read up to the end of the last item, the location e, and the words of 31 to e - 1
 pub record Report1 : Type 0 where
@@ -32,7 +32,7 @@ report1 t = record {
 pub record Accepts1 (rows : List ℕ) (r : Report1) : Type 0 where
   pub well : WellFormed1 rows
   pub tape : Tape
-  pub comes : Comes1 rows tape
+  pub comes : ReachesEntry1 rows tape
   pub report_is : r ≡ report1 tape
   pub most : r.orders ≤ 14 * r.rows + 4
 
@@ -44,10 +44,10 @@ Answers1 rows (Err Memory) = Unit {0}
 
 -- a tape gives a whole program or has a fault; at most one program and at most one fault, and never both
 pub record HasOneVerdict (rows : List ℕ) : Type 0 where
-  pub some : ((t : Tape) × Comes1 rows t) ⊎ ((row : ℕ) × (cause : Tape1Cause) × IsFault1 rows row cause)
-  pub program : (t u : Tape) → Comes1 rows t → Comes1 rows u → t ≡ u
+  pub some : ((t : Tape) × ReachesEntry1 rows t) ⊎ ((row : ℕ) × (cause : Tape1Cause) × IsFault1 rows row cause)
+  pub program : (t u : Tape) → ReachesEntry1 rows t → ReachesEntry1 rows u → t ≡ u
   pub fault : (r q : ℕ) (a b : Tape1Cause) → IsFault1 rows r a → IsFault1 rows q b → (r ≡ q) × (a ≡ b)
-  pub apart : (t : Tape) → Comes1 rows t → WellFormed1 rows
+  pub apart : (t : Tape) → ReachesEntry1 rows t → WellFormed1 rows
 
 -- every tape has one verdict
 abbrev pub EachTapeHasOneVerdict : Type 0

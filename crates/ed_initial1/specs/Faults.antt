@@ -27,7 +27,7 @@ BeginsWith e [] = ⊥
 BeginsWith e (i ∷ is) = IsFirst e i
 
 -- the rows begin with a whole program: T e S, and in all one item for each of the locations 31 to e - 1
-pub record Comes1 (rows : List ℕ) (t : Tape) : Type 0 where
+pub record ReachesEntry1 (rows : List ℕ) (t : Tape) : Type 0 where
   pub rows_are : rows ≡ spelled_rows1 t.items ++ t.rest
   pub good : AreItems t.items
   pub first : BeginsWith t.end t.items

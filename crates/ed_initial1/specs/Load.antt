@@ -1,11 +1,11 @@
 -- How a load ends. The program is entered when the counter reaches 31. Before that, a turn that prints, stops or
 -- cannot be obeyed, or too many orders, ends a load that is lost (this project's own rule).
-use Rattle.std.specs.Prelude.{ℕ, suc, ◌≡◌, ◌<◌, ◌≤◌, Bool, true, false, nat_eq}
+use Rattle.std.specs.Prelude.{ℕ, suc, ◌≡◌, ◌<◌, Bool, false, nat_eq, Option}
 use Rattle.ed_machine.specs.State.{State}
 use Rattle.ed_machine.specs.OrderTable.{step}
-use Rattle.ed_machine.specs.Steps.{is_obeyed, state_after}
+use Rattle.ed_machine.specs.Steps.{state_after}
 use Rattle.ed_machine.specs.declared.turn.Turn.TheVariants.{Went}
-use Rattle.ed_initial.specs.Load.{is_quiet_turn}
+use Rattle.ed_initial.specs.Load.{EndsBy, Event, Enters, Sounds, event}
 use Rattle.ed_initial1.specs.declared.loading.Loaded1.{Loaded1}
 use Rattle.ed_initial1.specs.declared.loading.Loaded1.TheVariants.{Entered, Lost}
 
@@ -22,28 +22,19 @@ pub record GoesOn1 (s : State) : Type 0 where
 abbrev pub IsQuiet1 : ℕ → State → Type 0
 IsQuiet1 k s = (j : ℕ) → j < k → GoesOn1 (state_after j s)
 
--- the last of k orders is the first that reaches 31
-pub record IsEntered1 (s : State) (bound k : ℕ) : Type 0 where
-  pub before : ℕ
-  pub count : k ≡ suc before
-  pub most : k ≤ bound
-  pub quiet : IsQuiet1 before s
-  pub obeyed : is_obeyed (step (state_after before s)).turn ≡ true
-  pub enters : at_31 (step (state_after before s)).state ≡ true
+-- what the next order does to a load, or None if the load goes on
+abbrev pub load1_end : State → Option Event
+load1_end s = event (λ t. at_31 (step t).state) (λ t. false) s
 
--- the load is lost after k orders: all orders that it may take went on, the next one cannot be obeyed, or the last one
--- printed or stopped and did not reach 31
-pub data IsLost1 (s : State) (bound k : ℕ) : Type 0 where
-  ran_out : k ≡ bound → IsQuiet1 k s → IsLost1 s bound k
-  blocked : k < bound → IsQuiet1 k s → is_obeyed (step (state_after k s)).turn ≡ false → IsLost1 s bound k
-  sounded : (before : ℕ) → k ≡ suc before → k ≤ bound → IsQuiet1 before s
-      → is_obeyed (step (state_after before s)).turn ≡ true → is_quiet_turn (step (state_after before s)).turn ≡ false
-      → at_31 (step (state_after before s)).state ≡ false → IsLost1 s bound k
+-- the result of a load that an order ends after some others
+abbrev pub load1_result : State → ℕ → Event → Loaded1
+load1_result s before Enters = Entered (suc before)
+load1_result s before Sounds = Lost (suc before)
+load1_result s before event = Lost before
 
 -- how a load from a state ends when it may take at most `bound` orders
 abbrev pub EndsAs1 : State → ℕ → Loaded1 → Type 0
-EndsAs1 s bound (Entered orders) = IsEntered1 s bound orders
-EndsAs1 s bound (Lost orders) = IsLost1 s bound orders
+EndsAs1 s bound loaded = EndsBy load1_end load1_result s bound loaded
 
 -- the number of orders of a load
 abbrev pub orders_of1 : Loaded1 → ℕ

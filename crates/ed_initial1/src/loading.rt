@@ -1,6 +1,6 @@
 ghost use Rattle.std.specs.Prelude.{◌≡◌, ◌+◌, ◌*◌, ◌^◌, ◌≤◌, length};
 ghost use Rattle.ed_machine.specs.Steps.{state_after};
-ghost use Rattle.ed_initial1.specs.Faults.{Tape, Comes1, WellFormed1};
+ghost use Rattle.ed_initial1.specs.Faults.{Tape, ReachesEntry1, WellFormed1};
 ghost use Rattle.ed_initial1.specs.Entry.{IsStarted1, IsLoaded1};
 ghost use Rattle.ed_initial1.specs.Load.{EndsAs1, orders_of1};
 ghost use Rattle.ed_initial1.specs.Waits.{WaitsForRows1};
@@ -34,8 +34,8 @@ pub fn load1(machine: &mut Machine) -> Loaded1
     requires room { machine.old.orders + (14 * length machine.old.tape + 4) ≤ 2 ^ 63 }
     ensures ends { EndsAs1 machine.old (14 * length machine.old.tape + 4) result }
     ensures state { machine.new ≡ state_after (orders_of1 result) machine.old }
-    ensures loads { (t : Tape) → Comes1 machine.old.tape t → IsLoaded1 machine.old t result machine.new }
-    ensures total { WellFormed1 machine.old.tape → (t : Tape) × Comes1 machine.old.tape t
+    ensures loads { (t : Tape) → ReachesEntry1 machine.old.tape t → IsLoaded1 machine.old t result machine.new }
+    ensures total { WellFormed1 machine.old.tape → (t : Tape) × ReachesEntry1 machine.old.tape t
         × IsLoaded1 machine.old t result machine.new }
     ensures waits { WaitsForRows1 machine.old }
 {

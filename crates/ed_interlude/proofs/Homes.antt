@@ -1,18 +1,12 @@
 -- Whether a machine has returned can be decided.
-use Rattle.std.proofs.Common.{◌≡◌, ◌⊎◌, inl, inr, ℕ, zero, suc, ◌+◌, ◌*◌, ◌%◌, ◌^◌, ◌<◌, ◌≤◌, arith, get_or}
-use Rattle.std.proofs.lemmas.Bool.{cases_eq, cases_lt}
-use Rattle.ed_words.specs.declared.order_words.TheConstants.{T_F}
+use Rattle.ed_interlude.proofs.Kit.{cases_eq, T_F, rules, arith, get_or, inl, inr, suc, zero, ℕ, ◌*◌, ◌<◌, ◌^◌, ◌≡◌}
+use Rattle.ed_interlude.proofs.Kit.{◌≤◌, ◌⊎◌, cases_lt, State, initial_orders, IsReturned, LeavesDirective}
 use Rattle.ed_store.specs.Cells.{Cells, short_at}
-use Rattle.ed_machine.specs.State.{State}
-use Rattle.ed_initial.specs.Listing.{initial_orders}
-use Rattle.ed_interlude.specs.Returned.{AreListed, IsReturned, LeavesDirective, directive}
+use Rattle.ed_interlude.specs.Returned.{AreListed}
 
 -- a fact holds or does not
 abbrev pub Decided : Type 0 → Type 0
 Decided P = P ⊎ (P → ⊥)
-
-at_most : (m n : ℕ) → Decided (m ≤ n)
-at_most m n = elim (cases_lt n m) [ inl low ↦ inr (λ h. omega arith) | inr h ↦ inl h ]
 
 listed : (c : Cells) (first n : ℕ) → Decided (AreListed c first n)
 listed c first zero = inl (λ i low high. absurd (omega arith))
@@ -32,15 +26,7 @@ listed c first (suc n) =
         by_place i low high (inr never) = all i low (omega arith)
 
 leaves : (s : State) → Decided (LeavesDirective s)
-leaves s = by_parts (cases_eq (directive s % 2) 0) (at_most T_F (directive s))
-    (at_most (directive s) (T_F + 2 * 1023))
-  where
-    by_parts : Decided (directive s % 2 ≡ 0) → Decided (T_F ≤ directive s) → Decided (directive s ≤ T_F + 2 * 1023)
-        → Decided (LeavesDirective s)
-    by_parts (inr never) b c = inr (λ l. never l.even)
-    by_parts (inl a) (inr never) c = inr (λ l. never l.least)
-    by_parts (inl a) (inl b) (inr never) = inr (λ l. never l.most)
-    by_parts (inl a) (inl b) (inl c) = inl (record { even = a; least = b; most = c })
+leaves s = search rules
 
 -- the parts of a return that are in the store
 abbrev pub IsListedWhole : Cells → Type 0

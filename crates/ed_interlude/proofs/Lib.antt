@@ -8,3 +8,4 @@ pub mod Tales
 mod Passing
 mod Reached
 pub mod Runs
+pub mod Kit

@@ -1,17 +1,12 @@
 -- A part has one fault or one entry.
-use Rattle.std.proofs.Common.{◌≡◌, ◌≢◌, ◌⊎◌, refl, inl, inr, ℕ, arith, Bool, true, false, nat_eq}
-use Rattle.std.specs.Prelude.{if◌then◌else◌}
-use Rattle.ed_words.proofs.Numbers.{not_eq_of}
-use Rattle.ed_machine.specs.State.{State}
-use Rattle.ed_notation.specs.Openings.{IsDirective, opening}
-use Rattle.ed_notation.specs.Faults.{TapeEntry}
+use Rattle.ed_interlude.proofs.Kit.{TapeCause, arith, Bool, false, if◌then◌else◌, inl, inr, nat_eq, refl, true, ℕ, ◌≡◌}
+use Rattle.ed_interlude.proofs.Kit.{◌≢◌, ◌⊎◌, State, TapeEntry, IsDirective, opening, reading_is_rules, first_part}
+use Rattle.ed_interlude.proofs.Kit.{HasFault, LeadsTo, TapePart, IsReturned, reopening}
+use Rattle.std.proofs.lemmas.Bool.{eqb-false}
 use Rattle.ed_notation.specs.Reading.{ReadingIsRules}
-use Rattle.ed_notation.specs.declared.cause.TapeCause.{TapeCause}
-use Rattle.ed_notation.proofs.Laws.{reading_is_rules}
-use Rattle.ed_notation.proofs.Verdicts as verdicts
-use Rattle.ed_interlude.specs.Returned.{IsReturned, reopening}
+use Rattle.ed_interlude.specs.Parts.{base_of, notation_of}
 use Rattle.ed_interlude.proofs.Resumed.{is_directive}
-use Rattle.ed_interlude.specs.Parts.{HasFault, LeadsTo, TapePart, base_of, first_part, notation_of}
+use Rattle.ed_notation.proofs.Verdicts as verdicts
 
 -- the directive under which a part begins is an order P, E or T
 abbrev pub Opens : TapePart → Type 0
@@ -26,7 +21,7 @@ part_opens p home = by_number (nat_eq p.number 1) refl
     by_number : (b : Bool) → nat_eq p.number 1 ≡ b
         → IsDirective (if b then opening p.state.store.words else reopening p.state).directive
     by_number true is = let set : IsDirective 20568 = omega arith in set
-    by_number false is = is_directive p.state (home (not_eq_of p.number 1 is)).leaves
+    by_number false is = is_directive p.state (home (eqb-false p.number 1 is)).leaves
 
 pub home_opens : (p : TapePart) → IsReturned p.state → Opens p
 home_opens p home = part_opens p (λ e. home)

@@ -1,32 +1,23 @@
 -- From the stages of a part to the report.
-use Rattle.std.proofs.Common.{◌≡◌, ◌⊎◌, inl, inr, ℕ, suc, ◌+◌, ◌-◌, ◌*◌, ◌/◌, ◌%◌, ◌≤◌, refl, sym, ap, ◌∙◌}
-use Rattle.std.proofs.Common.{subst, arith, List, [], ◌++◌, append_assoc, length}
-use Rattle.std.specs.Prelude.{Option, Result, Ok, Err, IfOk, Vec}
+use Rattle.ed_interlude.proofs.Kit.{Err, T_F, Ending, append_assoc, address, [], ap, arith, inl, inr, length, List}
+use Rattle.ed_interlude.proofs.Kit.{Option, refl, subst, suc, sym, ℕ, ◌*◌, ◌++◌, ◌+◌, ◌-◌, ◌/◌, ◌∙◌, ◌≡◌, ◌≤◌, ◌⊎◌}
+use Rattle.ed_interlude.proofs.Kit.{State, state_after, TapeEntry, Failed, Memory, gains_more, gains_none}
+use Rattle.ed_interlude.proofs.Kit.{returned_line, entry_done, entry_report, finished, Finishes, first_part, GoesBack}
+use Rattle.ed_interlude.proofs.Kit.{LeadsTo, part_after, part_entry_state, part_report, PartsReport, read_before}
+use Rattle.ed_interlude.proofs.Kit.{ReportsParts, ReturnsToLoader, TapePart, Ahead, directive, IsReturned, PartsEnd}
+use Rattle.std.proofs.Common.{◌%◌, Result, Ok, IfOk, Vec}
 use Rattle.std.specs.declared.alloc.Global.{Global}
 use Rattle.ed_words.specs.Words.{order_of}
 use Rattle.ed_words.specs.declared.memory.NoMemory.{NoMemory}
 use Rattle.ed_words.specs.declared.order.Order.{Order}
-use Rattle.ed_words.specs.declared.order_words.TheConstants.{T_F}
-use Rattle.ed_machine.specs.State.{State}
-use Rattle.ed_machine.specs.Steps.{state_after}
-use Rattle.ed_machine.specs.declared.ending.Ending.{Ending}
 use Rattle.ed_machine.proofs.Keeping.{steps_follow}
-use Rattle.ed_notation.specs.Fold.{address}
-use Rattle.ed_notation.specs.Faults.{TapeEntry}
-use Rattle.ed_interlude.specs.Returned.{IsReturned, directive}
 use Rattle.ed_io.specs.Bytes.{Gains, GainsPart}
-use Rattle.ed_io.proofs.Calls.{gains_more, gains_none}
-use Rattle.ed_report.specs.Entries.{entry_line, returned_line}
-use Rattle.ed_interlude.specs.declared.part.Passed.TheVariants.{Over, Back}
-use Rattle.ed_interlude.specs.declared.tape.PartsEnd.{PartsEnd}
 use Rattle.ed_io.specs.declared.stop.WriteStop.{WriteStop}
-use Rattle.ed_io.specs.declared.stop.WriteStop.TheVariants.{Failed, Memory}
-use Rattle.ed_interlude.specs.Parts.{ComesHome, Finishes, GoesBack, ReportsParts, LeadsTo, TapePart, PartsAnswer}
-use Rattle.ed_interlude.specs.Parts.{IsReportOfTape, PartsReport}
-use Rattle.ed_interlude.specs.Parts.{entry_done, part_entry_state, entry_report, finished, first_part}
-use Rattle.ed_interlude.specs.Parts.{BreaksPart, ReachesPart, of_entry, of_return, return_report, part_report}
-use Rattle.ed_interlude.specs.Parts.{part_after, read_before}
-use Rattle.ed_interlude.specs.Private.Stages.{Ahead, BreaksReport, Passes}
+use Rattle.ed_report.specs.Entries.{entry_line}
+use Rattle.ed_interlude.specs.Parts.{PartsAnswer, IsReportOfTape, BreaksPart, ReachesPart, of_entry, of_return}
+use Rattle.ed_interlude.specs.Parts.{return_report}
+use Rattle.ed_interlude.specs.Private.Stages.{BreaksReport, Passes}
+use Rattle.ed_interlude.specs.declared.part.PartOutcome.TheVariants.{Ended as PartEnded, Returned as PartReturned}
 use Rattle.ed_interlude.proofs.Parting.{Opens}
 use Rattle.ed_interlude.proofs.Programs.{home_within}
 use Rattle.ed_interlude.proofs.Rows.{some_cost}
@@ -87,7 +78,8 @@ module _ (limit rows : ℕ) (p : TapePart) where
   entry_breaks e {a} {c} leads within g = by_program (from_entry limit rows p e leads within)
     where
       by_program : ((k : ℕ) × (ending : Ending) × Finishes (limit - entry_done p e) k (part_entry_state p e) ending)
-          ⊎ ((k : ℕ) × ComesHome (limit - entry_done p e) k (part_entry_state p e)) → BreaksReport limit rows p a c
+          ⊎ ((k : ℕ) × ReturnsToLoader (limit - entry_done p e) k (part_entry_state p e))
+          → BreaksReport limit rows p a c
       by_program (inl f) =
           record { returns = 0; tale = _; told = finished e f.0 f.1 leads within f.2 refl; gains = g }
       by_program (inr h) =
@@ -152,7 +144,7 @@ module _ {limit rows : ℕ} {p first : TapePart} {a c : Option (List ℕ)} (h : 
       (whole.0, _, whole.1, and_part a c d h.text b.tale.text h.gains b.gains)
 
   -- it is the last one
-  pub tells_all : {end : PartsEnd} {last : State} → Passes limit rows p (Ok (Over end)) last c d
+  pub tells_all : {end : PartsEnd} {last : State} → Passes limit rows p (Ok (PartEnded end)) last c d
       → (m : ℕ) × (t : PartsReport) × ReportsParts limit rows m first t × (end ≡ t.end) × (last ≡ t.last)
       × Gains a d t.text
   tells_all q =
@@ -204,8 +196,8 @@ entry_is rows p e a o n = λ i. entry_line (a i) (p.done + o i) (n i)
 
 module _ (limit : ℕ) (p : TapePart) (e : TapeEntry) {cost : ℕ} {m : State} (same : cost ≡ e.cost)
     (at : m ≡ state_after cost p.state) where
-  pub there : m ≡ part_entry_state p e
-  there = at ∙ ap (λ n. state_after n p.state) same
+  pub part_entry_state-there : m ≡ part_entry_state p e
+  part_entry_state-there = at ∙ ap (λ n. state_after n p.state) same
 
   pub left_is : limit - (p.done + cost) ≡ limit - entry_done p e
   left_is = ap (λ n. limit - (p.done + n)) same
@@ -213,22 +205,22 @@ module _ (limit : ℕ) (p : TapePart) (e : TapeEntry) {cost : ℕ} {m : State} (
   pub finishes_there : {k : ℕ} {ending : Ending} → Finishes (limit - (p.done + cost)) k m ending
       → Finishes (limit - entry_done p e) k (part_entry_state p e) ending
   finishes_there {k} {ending} f =
-      subst (λ (s : State). Finishes (limit - entry_done p e) k s ending) there
+      subst (λ (s : State). Finishes (limit - entry_done p e) k s ending) part_entry_state-there
       (subst (λ n. Finishes n k m ending) left_is f)
 
-  abbrev pub back_from : {k : ℕ} → LeadsTo p e → p.done + cost ≤ limit → ComesHome (limit - (p.done + cost)) k m
+  abbrev pub back_from : {k : ℕ} → LeadsTo p e → p.done + cost ≤ limit → ReturnsToLoader (limit - (p.done + cost)) k m
       → GoesBack limit p
   back_from {k} leads within h = record {
     entry = e;
     leads = leads;
     within = omega (arith, same);
     orders = k;
-    comes = subst (λ (s : State). ComesHome (limit - entry_done p e) k s) there
-        (subst (λ n. ComesHome n k m) left_is h);
+    comes = subst (λ (s : State). ReturnsToLoader (limit - entry_done p e) k s) part_entry_state-there
+        (subst (λ n. ReturnsToLoader n k m) left_is h);
   }
 
   pub behind_is : (k : ℕ) {last : State} → last ≡ state_after k m → last ≡ state_after k (part_entry_state p e)
-  behind_is k is = is ∙ ap (λ (s : State). state_after k s) there
+  behind_is k is = is ∙ ap (λ (s : State). state_after k s) part_entry_state-there
 
 -- the part after a return: the rows that it has left, and the orders counted in its state and up to it
 pub record Later (limit : ℕ) (p q : TapePart) : Type 0 where
@@ -271,10 +263,10 @@ module _ {limit l rows : ℕ} {s : State} {p : TapePart} {a c : Option (List ℕ
   tells : (m : ℕ) (t : PartsReport) → ReportsParts limit rows m (first_part s) t → IsReportOfTape limit s t
   tells m t told = record { returns = m; told = subst (λ n. ReportsParts limit n m (first_part s) t) count told }
 
-  pub answers_over : {end : PartsEnd} {last : State} → Passes l rows p (Ok (Over end)) last c d
+  pub answers_over : {end : PartsEnd} {last : State} → Passes l rows p (Ok (PartEnded end)) last c d
       → PartsAnswer limit s (Ok end) last a d
   answers_over {end} {last} q =
-      let w = tells_all h d (subst (λ n. Passes n rows p (Ok (Over end)) last c d) same q) in
+      let w = tells_all h d (subst (λ n. Passes n rows p (Ok (PartEnded end)) last c d) same q) in
       (w.1, tells w.0 w.1 w.2, w.3, w.4, w.5)
 
   pub answers_broken : (fault : WriteStop) (last : State) → Passes l rows p (Err fault) last c d
@@ -296,10 +288,10 @@ module _ {limit l rows : ℕ} {s : State} {p : TapePart} {a c : Option (List ℕ
         },
       )
 
-  pub goes_onward : {done : ℕ} {last : State} → Passes l rows p (Ok (Back done)) last c d
+  pub goes_onward : {done : ℕ} {last : State} → Passes l rows p (Ok (PartReturned done)) last c d
       → Onward limit rows (first_part s) p (record { number = p.number + 1; done = done; state = last }) a d
   goes_onward {done} {last} q =
-      let b = subst (λ n. Passes n rows p (Ok (Back done)) last c d) same q in
+      let b = subst (λ n. Passes n rows p (Ok (PartReturned done)) last c d) same q in
       let next : part_after p b.0 ≡ record { number = p.number + 1; done = done; state = last } =
       λ i. record { number = p.number + 1; done = sym b.1 i; state = sym b.2 i } in
       subst (λ (x : TapePart). Onward limit rows (first_part s) p x a d) next (record {

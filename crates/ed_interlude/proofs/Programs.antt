@@ -1,135 +1,80 @@
 -- A program that may obey at most a number of orders ends or returns, after exactly one number of them.
-use Rattle.std.proofs.Common.{◌≡◌, ◌⊎◌, inl, inr, ℕ, zero, suc, ◌+◌, ◌≢◌, ◌<◌, ◌≤◌, refl, sym, ap, ◌∙◌, subst, arith}
-use Rattle.std.proofs.Common.{below_more, false, Option, Some, None}
-use Rattle.std.proofs.lemmas.Bool.{cases_lt, cases_order}
-use Rattle.ed_words.proofs.Numbers.{eq_false, eq_true, lt_false, lt_true}
-use Rattle.ed_machine.specs.State.{State}
-use Rattle.ed_machine.specs.OrderTable.{step}
-use Rattle.ed_machine.specs.Steps.{progress, state_after, stops_of}
-use Rattle.ed_machine.specs.declared.turn.Turn.{Turn}
-use Rattle.ed_machine.specs.declared.turn.Turn.TheVariants.{Went, Printed, Stopped as Stops, NoOrder as IsNoOrder}
-use Rattle.ed_machine.specs.declared.turn.Turn.TheVariants.{NoTape as HasNoTape}
-use Rattle.ed_machine.specs.declared.ending.Ending.{Ending}
-use Rattle.ed_machine.specs.declared.ending.Ending.TheVariants.{Stopped, Limit}
-use Rattle.ed_run.specs.Run.{end_by}
-use Rattle.ed_machine.proofs.Steps.{next_state, next_stops}
-use Rattle.ed_interlude.specs.Returned.{IsReturned}
-use Rattle.ed_interlude.specs.Parts.{ComesHome, Finishes, IsUnderWay, RunsOn, program_end}
+use Rattle.ed_interlude.proofs.Kit.{same_Some, Ending, Limit, Stopped, Turn, Printed, Went, rules, Progress, stops_of}
+use Rattle.ed_interlude.proofs.Kit.{end_by, [], ap, arith, false, inl, inr, None, Option, refl, Some, subst, suc, sym}
+use Rattle.ed_interlude.proofs.Kit.{zero, ℕ, ◌+◌, ◌<◌, ◌∙◌, ◌≡◌, ◌≢◌, ◌≤◌, ◌⊎◌, cases_lt, step, State, progress}
+use Rattle.ed_interlude.proofs.Kit.{state_after, next_state, Finishes, ReturnsToLoader, RunsOn, IsReturned}
+use Rattle.std.proofs.Common.{below_more}
+use Rattle.std.proofs.lemmas.Bool.{cases_order}
+use Rattle.std.proofs.lemmas.Option.{none-some}
+use Rattle.ed_machine.specs.declared.turn.Turn.TheVariants.{Stopped as Stops}
+use Rattle.ed_machine.proofs.LeastNumbers.{first_within}
+use Rattle.ed_machine.proofs.Steps.{next_stops}
+use Rattle.ed_interlude.specs.Parts.{IsUnderWay, program_end}
 use Rattle.ed_interlude.proofs.Homes.{Decided, home_or_not}
+use Rattle.ed_run.proofs.Ends as ends
 
 -- a turn that only goes on or prints
 pub record GoesOn (turn : Turn) : Type 0 where
   pub no_end : end_by turn false ≡ None
   pub no_stop : stops_of turn ≡ 0
 
-pub going : (turn : Turn) → (turn ≡ Went) ⊎ ((code : ℕ) × (turn ≡ Printed code)) → GoesOn turn
-going turn (inl is) = record { no_end = ap (λ t. end_by t false) is; no_stop = ap stops_of is }
-going turn (inr p) = record { no_end = ap (λ t. end_by t false) p.1; no_stop = ap stops_of p.1 }
-
-no_end : (ending : Ending) → None ≡ Some ending → ⊥
-no_end ending h = cc
-
-pub some_end : (d e : Ending) → Some d ≡ Some e → d ≡ e
-some_end d e h = cc
+pub GoesOn-going : (turn : Turn) → (turn ≡ Went) ⊎ ((code : ℕ) × (turn ≡ Printed code)) → GoesOn turn
+GoesOn-going turn (inl is) = record { no_end = ap (λ t. end_by t false) is; no_stop = ap stops_of is }
+GoesOn-going turn (inr p) = record { no_end = ap (λ t. end_by t false) p.1; no_stop = ap stops_of p.1 }
 
 -- a program returned or ended
 abbrev pub CameTo : ℕ → State → Type 0
-CameTo left s = (k : ℕ) × (ComesHome left k s ⊎ ((ending : Ending) × Finishes left k s ending))
+CameTo left s = (k : ℕ) × (ReturnsToLoader left k s ⊎ ((ending : Ending) × Finishes left k s ending))
 
 module _ (left : ℕ) (s : State) where
+  -- the orders of a program whose codes are dropped
+  abbrev unprinted : ℕ → Progress
+  unprinted k = record (progress k s) { codes = [] }
+
   -- after a stop the end is that stop
   pub stop_ends : (k : ℕ) → 0 < (progress k s).stops → program_end left k s ≡ Some Stopped
-  stop_ends k h = let a = lt_true 0 (progress k s).stops h in rw a refl
+  stop_ends k h = ends.stop_ends left 0 1 k (unprinted k) h
 
   -- at the limit
   pub limit_ends : (k : ℕ) → k ≡ left → (progress k s).stops ≡ 0 → program_end left k s ≡ Some Limit
-  limit_ends k is none =
-      let a = lt_false 0 (progress k s).stops (omega arith) in
-      let b = eq_true k left is in
-      rw (a, b) refl
+  limit_ends k is none = ends.limit_ends left 0 1 k (unprinted k) (omega (arith, none)) is
 
   -- and otherwise by the next order
   pub next_ends : (k : ℕ) → k < left → (progress k s).stops ≡ 0
       → program_end left k s ≡ end_by (step (state_after k s)).turn false
-  next_ends k below none =
-      let a = lt_false 0 (progress k s).stops (omega arith) in
-      let b = eq_false k left (omega arith) in
-      rw (a, b) refl
-
-  not_stopped : (turn : Turn) → end_by turn false ≡ Some Stopped → ⊥
-  not_stopped Went h = cc
-  not_stopped (Printed code) h = cc
-  not_stopped Stops h = cc
-  not_stopped (IsNoOrder function) h = cc
-  not_stopped HasNoTape h = cc
-
-  -- if no stop was obeyed, the end is not a stop
-  no_stop_end : (k : ℕ) → (progress k s).stops ≡ 0 → program_end left k s ≡ Some Stopped → ⊥
-  no_stop_end k none is = by_place (cases_order k left)
-    where
-      by_place : (k ≡ left) ⊎ ((k < left) ⊎ (left < k)) → ⊥
-      by_place (inl e) = let bad : Some Limit ≡ Some Stopped = sym (limit_ends k e none) ∙ is in cc
-      by_place (inr (inl low)) = not_stopped _ (sym (next_ends k low none) ∙ is)
-      by_place (inr (inr high)) =
-          let a = lt_false 0 (progress k s).stops (omega arith) in
-          let b = eq_false k left (omega arith) in
-          not_stopped (step (state_after k s)).turn (rw (a, b) at is)
+  next_ends k below none = ends.next_ends left 0 1 k (unprinted k) (omega (arith, none)) below
 
   -- what is under way is within its limit
   pub way_within : (k : ℕ) → IsUnderWay left k s → k ≢ left
-  way_within k way is = by_stops (cases_lt 0 (progress k s).stops)
-    where
-      by_stops : (0 < (progress k s).stops) ⊎ ((progress k s).stops ≤ 0) → ⊥
-      by_stops (inl many) = no_end Stopped (sym way.no_end ∙ stop_ends k many)
-      by_stops (inr none) = no_end Limit (sym way.no_end ∙ limit_ends k is (omega arith))
+  way_within k way is = search rules
 
   pub runs_within : (k : ℕ) → RunsOn left k s → k ≤ left
   runs_within k runs =
-      elim (cases_lt left k) [
-        | inl over ↦ absurd (way_within left (runs left over) refl)
-        | inr within ↦ within
-      ]
+      first_within k left (λ j l. (runs j l).no_end) (ends.ends_at_limit left 0 1 (unprinted left))
 
-  pub home_within : (k : ℕ) → ComesHome left k s → k ≤ left
+  pub home_within : (k : ℕ) → ReturnsToLoader left k s → k ≤ left
   home_within k h = runs_within k h.runs
 
   -- and has obeyed no stop
   pub way_stops : (k : ℕ) → IsUnderWay left k s → (progress k s).stops ≡ 0
-  way_stops k way =
-      elim (cases_lt 0 (progress k s).stops) [
-        | inl many ↦ absurd (no_end Stopped (sym way.no_end ∙ stop_ends k many))
-        | inr none ↦ omega arith
-      ]
+  way_stops k way = search rules
 
   -- it returns after one number of orders
-  pub home_once : (j k : ℕ) → ComesHome left j s → ComesHome left k s → j ≡ k
-  home_once j k a b = by_place (cases_order j k)
-    where
-      by_place : (j ≡ k) ⊎ ((j < k) ⊎ (k < j)) → j ≡ k
-      by_place (inl e) = e
-      by_place (inr (inl low)) = absurd ((b.runs j low).away a.home)
-      by_place (inr (inr high)) = absurd ((a.runs k high).away b.home)
+  pub home_once : (j k : ℕ) → ReturnsToLoader left j s → ReturnsToLoader left k s → j ≡ k
+  home_once j k a b = search rules
 
   -- and does not end then
-  pub home_or_end : (j k : ℕ) (ending : Ending) → ComesHome left j s → Finishes left k s ending → ⊥
-  home_or_end j k ending a b = by_place (cases_order j k)
-    where
-      by_place : (j ≡ k) ⊎ ((j < k) ⊎ (k < j)) → ⊥
-      by_place (inl e) =
-          let home : IsReturned (state_after k s) = subst (λ n. IsReturned (state_after n s)) e a.home in
-          let none : (progress k s).stops ≡ 0 = subst (λ n. (progress n s).stops ≡ 0) e a.stops in
-          no_stop_end k none (b.ends ∙ ap Some (b.stopped home))
-      by_place (inr (inl low)) = (b.runs j low).away a.home
-      by_place (inr (inr high)) = no_end ending (sym (a.runs k high).no_end ∙ b.ends)
+  pub home_or_end : (j k : ℕ) (ending : Ending) → ReturnsToLoader left j s → Finishes left k s ending → ⊥
+  home_or_end j k ending a b = search rules
 
   -- it ends at one number of orders, with one ending
   pub end_once : (j k : ℕ) (d e : Ending) → Finishes left j s d → Finishes left k s e → (j ≡ k) × (d ≡ e)
   end_once j k d e a b = by_place (cases_order j k)
     where
       by_place : (j ≡ k) ⊎ ((j < k) ⊎ (k < j)) → (j ≡ k) × (d ≡ e)
-      by_place (inl same) = (same, some_end d e (sym a.ends ∙ ap (λ n. program_end left n s) same ∙ b.ends))
-      by_place (inr (inl low)) = absurd (no_end d (sym (b.runs j low).no_end ∙ a.ends))
-      by_place (inr (inr high)) = absurd (no_end e (sym (a.runs k high).no_end ∙ b.ends))
+      by_place (inl same) = (same, same_Some d e (sym a.ends ∙ ap (λ n. program_end left n s) same ∙ b.ends))
+      by_place (inr (inl low)) = absurd (none-some d (sym (b.runs j low).no_end ∙ a.ends))
+      by_place (inr (inr high)) = absurd (none-some e (sym (a.runs k high).no_end ∙ b.ends))
 
   -- ---- there is one of them
 
@@ -173,7 +118,7 @@ module _ (left : ℕ) (s : State) where
 -- such a program
 module _ {left : ℕ} {s : State} {k : ℕ} {m : State} (r : Running left s k m) where
   -- it has returned
-  pub is_definition_of : IsReturned m → ComesHome left k s
+  pub is_definition_of : IsReturned m → ReturnsToLoader left k s
   is_definition_of home = record { runs = r.runs; stops = r.stops; home = subst (λ t. IsReturned t) r.state home }
 
   away_there : (IsReturned m → ⊥) → IsReturned (state_after k s) → ⊥
@@ -188,12 +133,8 @@ module _ {left : ℕ} {s : State} {k : ℕ} {m : State} (r : Running left s k m)
     end_there = next_ends left s k below r.stops ∙ ap (λ t. end_by t false) (sym turn_there)
 
     -- it cannot go on
-    pub blocks : {ending : Ending} → end_by turn false ≡ Some ending → Finishes left k s ending
-    blocks ends = record {
-      runs = r.runs;
-      ends = end_there ∙ ends;
-      stopped = λ home. absurd (away_there away home);
-    }
+    pub Finishes-blocks : {ending : Ending} → end_by turn false ≡ Some ending → Finishes left k s ending
+    Finishes-blocks ends = search rules
 
     way : end_by turn false ≡ None → RunsOn left (k + 1) s
     way none = one_more left s k r.runs (record { no_end = end_there ∙ none; away = away_there away })
@@ -223,8 +164,4 @@ module _ {left : ℕ} {s : State} {k : ℕ} {m : State} (r : Running left s k m)
 
 -- it reaches its limit
 pub at_limit : {left k : ℕ} {s m : State} → k ≡ left → Running left s k m → (IsReturned m → ⊥) → Finishes left k s Limit
-at_limit {left} {k} {s} is r away = record {
-  runs = r.runs;
-  ends = limit_ends left s k is r.stops;
-  stopped = λ home. absurd (away_there r away home);
-}
+at_limit {left} {k} {s} is r away = search rules

@@ -1,19 +1,14 @@
 -- The state of a machine that returned, as the paths see it, and the two orders that place the directive.
-use Rattle.std.proofs.Common.{◌≡◌, ℕ, suc, ◌+◌, ◌/◌, ◌^◌, ◌<◌, ◌≤◌, refl, sym}
-use Rattle.std.proofs.Common.{ap, ◌∙◌, arith, lit<, false, Bool, List, ◌∷◌, ◌++◌}
-use Rattle.std.proofs.Common.{length, get_or, drop, take, drop-cons}
+use Rattle.ed_interlude.proofs.Kit.{ap, arith, Bool, false, get_or, length, List, refl, suc, sym, ℕ, ◌++◌, ◌+◌, ◌/◌}
+use Rattle.ed_interlude.proofs.Kit.{◌<◌, ◌^◌, ◌∙◌, ◌≡◌, ◌≤◌, IsStore, State, initial_orders, frame, state, IsReturned}
+use Rattle.ed_initial.proofs.Kit.{drop, lit<, ◌∷◌, Moment, patched, Working}
+use Rattle.std.proofs.Common.{take, drop-cons}
 use Rattle.std.proofs.lemmas.List.{set-get_or, get_or-drop, get_or-take, drop-drop, length-drop}
-use Rattle.ed_store.specs.Cells.{IsStore}
-use Rattle.ed_machine.specs.State.{State}
-use Rattle.ed_initial.specs.Listing.{initial_orders}
-use Rattle.ed_initial.specs.Rests.{Working}
-use Rattle.ed_machine.proofs.Kit.Frames.{Moment, same_state}
-use Rattle.ed_machine.proofs.Kit.Window.{patched, patched_one, headed}
-use Rattle.ed_machine.proofs.Kit.Places.{own}
+use Rattle.ed_machine.proofs.Kit.Frames.{same_state}
 use Rattle.ed_machine.proofs.Kit.Moves.{T_top, E_jumps}
-use Rattle.ed_initial.proofs.Paths.{Kept, ToRest, ends, on, stay, state, cells, moment}
-use Rattle.ed_initial.proofs.Opened.{frame}
-use Rattle.ed_interlude.specs.Returned.{IsReturned}
+use Rattle.ed_machine.proofs.Kit.Places.{own}
+use Rattle.ed_machine.proofs.Kit.Window.{patched_one, headed}
+use Rattle.ed_initial.proofs.Paths.{Kept, ToRest, ends, on, stay, cells, moment}
 
 -- the changing words as the program left them
 abbrev pub held : List ℕ → Working
@@ -73,10 +68,10 @@ abbrev pub reopens : (s : State) → IsStore s.store → Moment
 reopens s store =
     moment (frame s store) (held s.store.words) s.store.words (get_or s.store.sandwich 20 false) s.acc 25 s.tape
 
-pub reopened : (s : State) (store : IsStore s.store) → IsReturned s
+pub state-reopened : (s : State) (store : IsStore s.store) → IsReturned s
     → state (frame s store) (reopens s store) s.orders ≡ s
 unfolding patched
-reopened s store back =
+state-reopened s store back =
     let words = held_words s back store.words_are in
     let digits =
     patched_one false s.store.sandwich 20 (get_or s.store.sandwich 20 false) (omega (arith, store.digits_are))

@@ -1,25 +1,17 @@
 -- A load that is resumed: from a machine that returned, a well-formed rest of a tape leads to the state at the
 -- entry, by the same induction as the load of a whole tape.
-use Rattle.std.proofs.Common.{◌≡◌, ◌+◌, ◌*◌, ◌^◌, ◌<◌, refl, ap, ◌∙◌, subst}
-use Rattle.std.proofs.Common.{arith, inl, inr, false, None, get_or, length}
-use Rattle.ed_store.specs.Cells.{IsStore}
-use Rattle.ed_machine.specs.State.{State}
-use Rattle.ed_machine.specs.Steps.{state_after}
-use Rattle.ed_notation.specs.Openings.{IsDirective}
-use Rattle.ed_notation.specs.Faults.{TapeEntry}
-use Rattle.ed_notation.specs.Reading.{reading_on, Arrived}
-use Rattle.ed_notation.proofs.Laws.{reading_is_rules}
-use Rattle.ed_initial.specs.declared.loading.Loaded.{Loaded}
-use Rattle.ed_initial.specs.Rests.{Scratch, IsNotationState}
+use Rattle.ed_interlude.proofs.Kit.{ap, arith, false, get_or, inl, inr, length, None, refl, subst, ◌*◌, ◌+◌, ◌<◌, ◌^◌}
+use Rattle.ed_interlude.proofs.Kit.{◌∙◌, ◌≡◌, IsStore, State, state_after, TapeEntry, IsDirective, reading_is_rules}
+use Rattle.ed_interlude.proofs.Kit.{frame, state, LeadsIn, directive, IsReturned, LeavesDirective, reopening}
+use Rattle.ed_initial.proofs.Kit.{Arrived, reading_on, EndsAs, IsNotationState, Scratch}
 use Rattle.ed_initial.specs.Entry.{IsLoaded}
-use Rattle.ed_initial.specs.Load.{EndsAs, orders_of}
-use Rattle.ed_initial.proofs.Paths.{state}
-use Rattle.ed_initial.proofs.Loads.{Reaches, Rest, prepend, loads}
-use Rattle.ed_initial.proofs.Opened.{frame}
-use Rattle.ed_initial.proofs.Quiet.{LeadsIn, leads_in}
-use Rattle.ed_initial.proofs.Whole.{cost_fits, ended}
-use Rattle.ed_interlude.specs.Returned.{IsReturned, IsRestWellFormed, LeavesDirective, ComesBack, directive, reopening}
-use Rattle.ed_interlude.proofs.Reopened.{held, reopens, reopened, return_path}
+use Rattle.ed_initial.specs.Load.{orders_of}
+use Rattle.ed_initial.specs.declared.loading.Loaded.{Loaded}
+use Rattle.ed_initial.proofs.Loads.{Reaches, Rest, Reaches-prepend, Reaches-loads}
+use Rattle.ed_initial.proofs.Quiet.{leads_in}
+use Rattle.ed_initial.proofs.Whole.{cost_fits, IsLoaded-ended}
+use Rattle.ed_interlude.specs.Returned.{IsRestWellFormed, ReachesNextEntry}
+use Rattle.ed_interlude.proofs.Reopened.{held, reopens, state-reopened, return_path}
 
 pub is_directive : (s : State) → LeavesDirective s → IsDirective (directive s)
 is_directive s leaves =
@@ -34,7 +26,7 @@ is_note s leaves theta =
     let most = leaves.most in
     omega arith
 
-pub comes_back : (s : State) → IsReturned s → IsRestWellFormed s → (e : TapeEntry) × ComesBack s e
+pub comes_back : (s : State) → IsReturned s → IsRestWellFormed s → (e : TapeEntry) × ReachesNextEntry s e
 comes_back s back well =
     elim (reading_is_rules s.size s.store.words (reopening s) 2 s.tape (is_directive s back.leaves)).either [
       | inl h ↦ (h.1.0, record { well = h.0; comes = h.1.1 })
@@ -52,7 +44,7 @@ left s = record {
   digit40 = get_or s.store.sandwich 20 false;
 }
 
-pub leads_back : (s : State) (e : TapeEntry) → IsStore s.store → IsReturned s → ComesBack s e → LeadsIn s e
+pub leads_back : (s : State) (e : TapeEntry) → IsStore s.store → IsReturned s → ReachesNextEntry s e → LeadsIn s e
 leads_back s e store back h =
     let ws = s.store.words in
     let f = frame s store in
@@ -60,23 +52,23 @@ leads_back s e store back h =
     let read : reading_on s.size ws 0 2 (reopening s) None s.tape ≡ Arrived e =
     (reading_is_rules s.size ws (reopening s) 2 s.tape set).arrived e h.well h.comes in
     let first : Rest = record { scratch = left s; row = 0; cost = 2; notation = reopening s } in
-    let rest = loads f ws s.orders s.tape first (is_note s back.leaves (store.fits 42)) read in
+    let rest = Reaches-loads f ws s.orders s.tape first (is_note s back.leaves (store.fits 42)) read in
     let path = return_path f (held ws) ws (get_or s.store.sandwich 20 false) s.acc (directive s) s.tape refl in
     let begun : Reaches f ws s.orders 0 (state f (reopens s store) (s.orders + 0)) e =
-    prepend f ws s.orders 2 0 path rest in
+    Reaches-prepend f ws s.orders 2 0 path rest in
     let zero : s.orders + 0 ≡ s.orders = omega arith in
     let same : state f (reopens s store) (s.orders + 0) ≡ s = ap (state f (reopens s store)) zero
-    ∙ reopened s store back in
+    ∙ state-reopened s store back in
     leads_in s store e (subst (λ x. Reaches f ws s.orders 0 x e) same begun)
 
 module _ (s t : State) (r : Loaded) (store : IsStore s.store) (back : IsReturned s)
     (ends : EndsAs s (17 * length s.tape + 2) r)
     (is : t ≡ state_after (orders_of r) s) where
-  pub resumed_load : (e : TapeEntry) → ComesBack s e → IsLoaded s e r t
+  pub resumed_load : (e : TapeEntry) → ReachesNextEntry s e → IsLoaded s e r t
   resumed_load e h =
-      ended (17 * length s.tape + 2) (leads_back s e store back h)
+      IsLoaded-ended (17 * length s.tape + 2) (leads_back s e store back h)
       (cost_fits s.store.words (reopening s) 2 s.tape e h.comes) ends is
 
   -- the same without a given entry
-  pub total_resume : IsRestWellFormed s → (e : TapeEntry) × ComesBack s e × IsLoaded s e r t
+  pub total_resume : IsRestWellFormed s → (e : TapeEntry) × ReachesNextEntry s e × IsLoaded s e r t
   total_resume well = let h = comes_back s back well in (h.0, h.1, resumed_load h.0 h.1)

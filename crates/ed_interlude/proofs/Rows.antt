@@ -1,10 +1,7 @@
 -- How far into a tape faults and entries are, and that every part reads at least one row.
-use Rattle.std.proofs.Common.{◌≡◌, ℕ, ◌+◌, ◌≤◌, ap, ◌∙◌, arith, Bool, true, false, nat_eq, if◌then◌else◌, ◌++◌}
-use Rattle.std.proofs.Common.{length, length-append}
-use Rattle.ed_notation.specs.Items.{rows_of, spelled_rows}
-use Rattle.ed_notation.specs.Faults.{TapeEntry, part_rows}
-use Rattle.ed_notation.specs.declared.cause.TapeCause.{TapeCause}
-use Rattle.ed_interlude.specs.Parts.{HasFault, LeadsTo, TapePart}
+use Rattle.ed_interlude.proofs.Kit.{TapeCause, ap, arith, Bool, false, if◌then◌else◌, length, nat_eq, true, ℕ, ◌++◌}
+use Rattle.ed_interlude.proofs.Kit.{◌+◌, ◌∙◌, ◌≡◌, ◌≤◌, TapeEntry, HasFault, LeadsTo, TapePart}
+use Rattle.ed_notation.proofs.Kit.{length-append, part_rows, rows_of, spelled_rows}
 
 pub fault_within : (p : TapePart) (row : ℕ) (cause : TapeCause) → HasFault p row cause → row ≤ length p.state.tape
 fault_within p row cause f =

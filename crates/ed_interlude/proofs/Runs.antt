@@ -1,33 +1,26 @@
 -- If parts end by the end of a program or at the limit, the run of the whole tape ends too.
-use Rattle.std.proofs.Common.{◌≡◌, ◌⊎◌, inl, inr, ℕ, zero, suc, ◌+◌, ◌-◌, ◌<◌, ◌≤◌, refl, sym, ap, ◌∙◌, subst, arith}
-use Rattle.std.proofs.Common.{Bool, true, false, Some, None, List, [], ◌++◌, length, append_assoc, append-nil}
-use Rattle.std.proofs.lemmas.Bool.{cases_lt}
-use Rattle.ed_machine.specs.State.{State}
-use Rattle.ed_machine.specs.OrderTable.{step}
+use Rattle.ed_interlude.proofs.Kit.{same_Some, Ending, Limit, Stopped, Turn, Printed, Went, append_assoc, rules}
+use Rattle.ed_interlude.proofs.Kit.{Progress, stops_of, end_by, TapeCause, [], ap, arith, Bool, false, inl, inr}
+use Rattle.ed_interlude.proofs.Kit.{length, List, refl, Some, subst, suc, sym, zero, ℕ, ◌++◌, ◌+◌, ◌-◌, ◌<◌, ◌∙◌, ◌≡◌}
+use Rattle.ed_interlude.proofs.Kit.{◌≤◌, ◌⊎◌, cases_lt, step, State, progress, state_after, TapeEntry, Begins}
+use Rattle.ed_interlude.proofs.Kit.{Concludes, cut, entry_done, faulty, finished, Finishes, first_part, GoesBack}
+use Rattle.ed_interlude.proofs.Kit.{LeadsTo, part_after, part_entry_state, PartsReport, ReportsParts, RunsOn, TapePart}
+use Rattle.ed_interlude.proofs.Kit.{Ended, Faulty}
+use Rattle.ed_machine.proofs.Names.{append-nil, AreObeyed, codes_of, is_obeyed}
 use Rattle.ed_machine.specs.Sound.{IsSound}
-use Rattle.ed_machine.specs.Steps.{AreObeyed, Progress, codes_of, is_obeyed, progress, state_after, stops_of}
-use Rattle.ed_machine.specs.declared.turn.Turn.{Turn}
-use Rattle.ed_machine.specs.declared.turn.Turn.TheVariants.{Went, Printed, Stopped as Stops}
-use Rattle.ed_machine.specs.declared.turn.Turn.TheVariants.{NoOrder as IsNoOrder, NoTape as HasNoTape}
-use Rattle.ed_machine.specs.declared.ending.Ending.{Ending}
-use Rattle.ed_machine.specs.declared.ending.Ending.TheVariants.{Stopped, Limit}
+use Rattle.ed_machine.specs.declared.turn.Turn.TheVariants.{Stopped as Stops, NoOrder as IsNoOrder}
+use Rattle.ed_machine.specs.declared.turn.Turn.TheVariants.{NoTape as HasNoTape}
 use Rattle.ed_machine.proofs.SoundSteps.{sound_after}
-use Rattle.ed_machine.proofs.Steps.{after_sum, few_codes, free_more, free_sum, no_step, past_sum}
+use Rattle.ed_machine.proofs.Steps.{after_sum, few_codes, free_more, free_sum, no_step, past_sum, quiet_codes}
+use Rattle.ed_machine.proofs.Steps.{quiet_stops}
 use Rattle.ed_run.specs.Laws.{AllWent, HasRoom}
-use Rattle.ed_run.specs.Run.{end_by}
-use Rattle.ed_run.proofs.Later.{quiet_stops}
-use Rattle.ed_run.proofs.Places as places
 use Rattle.ed_initial.specs.Entry.{IsStarted, first_state}
-use Rattle.ed_notation.specs.Faults.{TapeEntry}
-use Rattle.ed_notation.specs.declared.cause.TapeCause.{TapeCause}
 use Rattle.ed_initial.proofs.Starts.{starts, sound_start}
-use Rattle.ed_interlude.specs.declared.tape.PartsEnd.TheVariants.{Ended, Faulty}
-use Rattle.ed_interlude.specs.Laws.{Begins, EachEndIsTheRuns, EndsAsParts, EndsAsRun}
-use Rattle.ed_interlude.specs.Parts.{Concludes, Finishes, GoesBack, ReportsParts, LeadsTo}
-use Rattle.ed_interlude.specs.Parts.{TapePart, RunsOn, PartsReport, cut, entry_done, part_entry_state}
-use Rattle.ed_interlude.specs.Parts.{faulty, finished, first_part, last_printed, part_after, printed_from}
-use Rattle.ed_interlude.proofs.Programs.{home_within, limit_ends, next_ends, runs_within, some_end, stop_ends, way_stops}
+use Rattle.ed_interlude.specs.Laws.{EachEndIsTheRuns, EndsAsParts, EndsAsRun}
+use Rattle.ed_interlude.specs.Parts.{last_printed, printed_from}
+use Rattle.ed_interlude.proofs.Programs.{home_within, limit_ends, next_ends, runs_within, stop_ends, way_stops}
 use Rattle.ed_interlude.proofs.Reached.{leads_in}
+use Rattle.ed_run.proofs.Places as places
 
 -- ---- orders one after the other
 
@@ -49,14 +42,6 @@ and_then a b {s} first next = record {
       ∙ (λ i. first.prints i ++ (sym (ap (λ (t : State). (progress b t).codes) first.there) ∙ next.prints) i);
 }
 
-quiet_codes : (k : ℕ) (s : State) → AllWent k s → (progress k s).codes ≡ []
-unfolding progress
-quiet_codes zero s went = refl
-quiet_codes (suc k) s went =
-    let before : (progress k s).codes ≡ [] = quiet_codes k s (λ j h. went j (omega arith)) in
-    let turn = went k (omega arith) in
-    rw (before, turn) refl
-
 -- orders that only go on
 quiet_walk : (k : ℕ) (s : State) → AllWent k s → Walks k s (state_after k s) []
 quiet_walk k s went = record {
@@ -67,13 +52,6 @@ quiet_walk k s went = record {
 }
 
 -- ---- the walk of a program
-
-obeyed_of : (turn : Turn) → end_by turn false ≡ None → is_obeyed turn ≡ true
-obeyed_of Went h = refl
-obeyed_of (Printed code) h = refl
-obeyed_of Stops h = refl
-obeyed_of (IsNoOrder function) h = absurd (cc)
-obeyed_of HasNoTape h = absurd (cc)
 
 blocked_of : (turn : Turn) (full : Bool) (ending : Ending) → end_by turn false ≡ Some ending
     → end_by turn full ≡ Some ending
@@ -98,10 +76,7 @@ no_fault part row cause ending e = cc
 
 module _ (left : ℕ) (m : State) where
   run_free : (k : ℕ) → RunsOn left k m → AreObeyed k m
-  run_free k runs j h =
-      let way = runs j h in
-      obeyed_of (step (state_after j m)).turn
-      (sym (next_ends left m j (omega (arith, runs_within left m k runs)) (way_stops left m j way)) ∙ way.no_end)
+  run_free k runs j h = search rules
 
   run_walk : (k : ℕ) → RunsOn left k m → (progress k m).stops ≡ 0 → Walks k m (state_after k m) (progress k m).codes
   run_walk k runs none = record { there = refl; free = run_free k runs; stops = none; prints = refl }
@@ -150,7 +125,7 @@ module _ (limit : ℕ) (s : State) where
         by_place (inr high) =
             let e : k ≡ left = omega (arith, runs_within left m k f.runs) in
             let total : a + k ≡ limit = omega arith in
-            let is : Limit ≡ ending = some_end Limit ending (sym (limit_ends left m k e none) ∙ f.ends) in
+            let is : Limit ≡ ending = same_Some Limit ending (sym (limit_ends left m k e none) ∙ f.ends) in
             subst (λ (d : Ending). EndsAsRun limit s d (state_after k m) codes) is
             (at_limit (state_after k m) codes (subst (λ n. Walks n s (state_after k m) codes) total walk))
 
@@ -168,7 +143,7 @@ module _ (limit : ℕ) (s : State) where
         let turn : (step (state_after (a + j) s)).turn ≡ Stops =
         ap (λ (t : State). (step t).turn) (sym walk.there) ∙ stop in
         let free : AreObeyed (suc (a + j)) s = free_more (a + j) s walk.free (ap is_obeyed turn) in
-        let is : Stopped ≡ ending = some_end Stopped ending (sym (stop_ends left m (suc j) many) ∙ f.ends) in
+        let is : Stopped ≡ ending = same_Some Stopped ending (sym (stop_ends left m (suc j) many) ∙ f.ends) in
         let within = runs_within left m (suc j) f.runs in
         let codes = before ++ (progress (suc j) m).codes in
         subst (λ (d : Ending). EndsAsRun limit s d (state_after (suc j) m) codes) is (record {

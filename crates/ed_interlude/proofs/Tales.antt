@@ -1,22 +1,13 @@
 -- There is exactly one report on a tape in parts.
-use Rattle.std.proofs.Common.{◌≡◌, ◌⊎◌, inl, inr, ℕ, zero, suc, ◌+◌, ◌-◌, ◌<◌, ◌≤◌, refl, sym, ap, ◌∙◌, subst, arith}
-use Rattle.std.proofs.Common.{[], ◌++◌, length}
-use Rattle.std.proofs.lemmas.Bool.{cases_lt}
-use Rattle.ed_machine.specs.Steps.{state_after}
-use Rattle.ed_machine.specs.declared.ending.Ending.{Ending}
-use Rattle.ed_notation.specs.Faults.{TapeEntry}
-use Rattle.ed_notation.specs.declared.cause.TapeCause.{TapeCause}
-use Rattle.ed_notation.specs.Fold.{address}
-use Rattle.ed_interlude.specs.Returned.{directive}
-use Rattle.ed_report.specs.Entries.{returned_line}
-use Rattle.ed_interlude.specs.declared.tape.PartsEnd.TheVariants.{Ended, Faulty}
+use Rattle.ed_interlude.proofs.Kit.{Ending, address, TapeCause, [], ap, arith, inl, inr, length, refl, subst, suc, sym}
+use Rattle.ed_interlude.proofs.Kit.{zero, ℕ, ◌++◌, ◌+◌, ◌-◌, ◌<◌, ◌∙◌, ◌≡◌, ◌≤◌, ◌⊎◌, cases_lt, state_after, TapeEntry}
+use Rattle.ed_interlude.proofs.Kit.{returned_line, Concludes, cut, entry_done, entry_report, faulty, finished}
+use Rattle.ed_interlude.proofs.Kit.{Finishes, first_part, GoesBack, HasFault, LeadsTo, part_after, part_entry_state}
+use Rattle.ed_interlude.proofs.Kit.{part_report, PartsReport, read_before, ReportsParts, ReturnsToLoader, TapePart}
+use Rattle.ed_interlude.proofs.Kit.{directive, Ended, Faulty}
 use Rattle.ed_interlude.specs.Laws.{EachTapeHasOneReport}
-use Rattle.ed_interlude.specs.Parts.{ComesHome, Concludes, Finishes, GoesBack, HasFault, ReportsParts, LeadsTo, TapePart}
-use Rattle.ed_interlude.specs.Parts.{PartsReport}
-use Rattle.ed_interlude.specs.Parts.{cut, entry_done, part_entry_state, entry_report, faulty, finished, first_part}
-use Rattle.ed_interlude.specs.Parts.{part_report}
-use Rattle.ed_interlude.specs.Parts.{part_after, read_before}
-use Rattle.ed_interlude.proofs.Parting.{Opens, entry_once, fault_once, fault_or_entry, first_opens, home_opens, not_both}
+use Rattle.ed_interlude.proofs.Parting.{Opens, entry_once, fault_once, fault_or_entry, first_opens, home_opens}
+use Rattle.ed_interlude.proofs.Parting.{not_both}
 use Rattle.ed_interlude.proofs.Programs.{comes_to, end_once, home_once, home_or_end}
 use Rattle.ed_interlude.proofs.Rows.{some_cost}
 
@@ -30,7 +21,7 @@ module _ (limit rows : ℕ) where
   -- a part that is entered is the last one, or returns
   pub from_entry : (p : TapePart) (e : TapeEntry) → LeadsTo p e → entry_done p e ≤ limit
       → ((k : ℕ) × (ending : Ending) × Finishes (limit - entry_done p e) k (part_entry_state p e) ending)
-      ⊎ ((k : ℕ) × ComesHome (limit - entry_done p e) k (part_entry_state p e))
+      ⊎ ((k : ℕ) × ReturnsToLoader (limit - entry_done p e) k (part_entry_state p e))
   from_entry p e leads within =
       let c = comes_to (limit - entry_done p e) (part_entry_state p e) in
       elim c.1 [ inl home ↦ inr (c.0, home) | inr end ↦ inl (c.0, end.0, end.1) ]
@@ -40,7 +31,7 @@ module _ (limit rows : ℕ) where
     where
       by_program : (e : TapeEntry) → LeadsTo p e → (within : entry_done p e ≤ limit)
           → ((k : ℕ) × (ending : Ending) × Finishes (limit - entry_done p e) k (part_entry_state p e) ending)
-          ⊎ ((k : ℕ) × ComesHome (limit - entry_done p e) k (part_entry_state p e))
+          ⊎ ((k : ℕ) × ReturnsToLoader (limit - entry_done p e) k (part_entry_state p e))
           → ((t : PartsReport) × Concludes limit rows p t) ⊎ GoesBack limit p
       by_program e leads within (inl f) = inl (_, finished e f.0 f.1 leads within f.2 refl)
       by_program e leads within (inr h) = inr (record {
@@ -132,8 +123,9 @@ module _ (limit rows : ℕ) where
   back_once : (p : TapePart) (b c : GoesBack limit p) → Opens p → BackOnce p b c
   back_once p b c opens =
       let same = entry_once p b.entry c.entry opens b.leads c.leads in
-      let there : ComesHome (limit - entry_done p c.entry) b.orders (part_entry_state p c.entry) =
-      subst (λ (x : TapeEntry). ComesHome (limit - entry_done p x) b.orders (part_entry_state p x)) same b.comes in
+      let there : ReturnsToLoader (limit - entry_done p c.entry) b.orders (part_entry_state p c.entry) =
+      subst (λ (x : TapeEntry). ReturnsToLoader (limit - entry_done p x) b.orders
+      (part_entry_state p x)) same b.comes in
       let orders = home_once (limit - entry_done p c.entry)
       (part_entry_state p c.entry) b.orders c.orders there c.comes in
       let part : part_after p b ≡ part_after p c =

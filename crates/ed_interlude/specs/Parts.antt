@@ -10,7 +10,7 @@ use Rattle.ed_machine.specs.declared.ending.Ending.TheVariants.{Stopped, Limit}
 use Rattle.ed_run.specs.Run.{end_at}
 use Rattle.ed_notation.specs.Fold.{NotationState, address}
 use Rattle.ed_notation.specs.Openings.{opening}
-use Rattle.ed_notation.specs.Faults.{TapeEntry, ComesTo, IsFault, WellFormed}
+use Rattle.ed_notation.specs.Faults.{TapeEntry, RowsReachEntry, IsFault, WellFormed}
 use Rattle.ed_notation.specs.declared.cause.TapeCause.{TapeCause}
 use Rattle.ed_interlude.specs.Returned.{IsReturned, directive, reopening}
 use Rattle.ed_io.specs.Bytes.{Gains, GainsPart}
@@ -48,7 +48,7 @@ HasFault p row cause = IsFault p.state.size p.state.store.words (notation_of p) 
 -- its rows are well formed, and reach this entry
 pub record LeadsTo (p : TapePart) (e : TapeEntry) : Type 0 where
   pub well : WellFormed p.state.size p.state.store.words (notation_of p) p.state.tape
-  pub comes : ComesTo p.state.store.words (notation_of p) (base_of p) p.state.tape e
+  pub comes : RowsReachEntry p.state.store.words (notation_of p) (base_of p) p.state.tape e
 
 -- the number of the tape's rows that were read before the part
 abbrev pub read_before : ℕ → TapePart → ℕ
@@ -83,7 +83,7 @@ abbrev pub RunsOn : ℕ → ℕ → State → Type 0
 RunsOn left k s = (j : ℕ) → j < k → IsUnderWay left j s
 
 -- the program returns after k orders without a stop
-pub record ComesHome (left k : ℕ) (s : State) : Type 0 where
+pub record ReturnsToLoader (left k : ℕ) (s : State) : Type 0 where
   pub runs : RunsOn left k s
   pub stops : (progress k s).stops ≡ 0
   pub home : IsReturned (state_after k s)
@@ -124,7 +124,7 @@ pub record GoesBack (limit : ℕ) (p : TapePart) : Type 0 where
   pub leads : LeadsTo p entry
   pub within : entry_done p entry ≤ limit
   pub orders : ℕ
-  pub comes : ComesHome (limit - entry_done p entry) orders (part_entry_state p entry)
+  pub comes : ReturnsToLoader (limit - entry_done p entry) orders (part_entry_state p entry)
 
 -- the part that begins at that return
 abbrev pub part_after : {limit : ℕ} → (p : TapePart) → GoesBack limit p → TapePart

@@ -6,7 +6,7 @@ use Rattle.ed_store.specs.Cells.{Cells, short_at}
 use Rattle.ed_machine.specs.State.{State}
 use Rattle.ed_notation.specs.Fold.{NotationState}
 use Rattle.ed_notation.specs.Openings.{opening_with}
-use Rattle.ed_notation.specs.Faults.{TapeEntry, WellFormed, ComesTo}
+use Rattle.ed_notation.specs.Faults.{TapeEntry, WellFormed, RowsReachEntry}
 use Rattle.ed_initial.specs.Listing.{initial_orders}
 
 -- the locations from `first` to before `end` hold the Initial Orders
@@ -43,6 +43,6 @@ abbrev pub IsRestWellFormed : State → Type 0
 IsRestWellFormed s = WellFormed s.size s.store.words (reopening s) s.tape
 
 -- the rows left also reach an entry at its cost: 2 orders, and then those of its items
-pub record ComesBack (s : State) (e : TapeEntry) : Type 0 where
+pub record ReachesNextEntry (s : State) (e : TapeEntry) : Type 0 where
   pub well : IsRestWellFormed s
-  pub comes : ComesTo s.store.words (reopening s) 2 s.tape e
+  pub comes : RowsReachEntry s.store.words (reopening s) 2 s.tape e

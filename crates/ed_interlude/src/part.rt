@@ -7,9 +7,9 @@ ghost use Rattle.ed_interlude.specs.Returned.{IsReturned};
 ghost use Rattle.ed_io.specs.Bytes.{Gains, GainsPart};
 ghost use Rattle.ed_io.specs.Causes.{stop_faults};
 ghost use Rattle.ed_interlude.specs.Parts.{base_of, notation_of, read_before};
-ghost use Rattle.ed_interlude.specs.Private.Stages.{IsArrival, Passes, stage_part};
+ghost use Rattle.ed_interlude.specs.Private.Stages.{IsArrival, Passes, part_at_start};
 
-use crate::program::{Met, obey, run_program};
+use crate::program::{ProgramOutcome, run_program};
 use crate::resuming::check_rest;
 use crate::returning::directive;
 use crate::tape::PartsEnd;
@@ -23,7 +23,7 @@ use std::alloc::Global;
 /// The beginning of a part: the most orders of the run, the number of rows of the whole tape, the part's number,
 /// counted from 1, and the number of orders before it.
 #[derive(Clone, Copy)]
-pub(crate) struct Stage {
+pub(crate) struct PartStart {
     pub limit: u64,
     pub rows: usize,
     pub number: u32,
@@ -32,11 +32,11 @@ pub(crate) struct Stage {
 
 /// How a part was passed.
 #[derive(Clone, Copy)]
-pub(crate) enum Passed {
+pub(crate) enum PartOutcome {
     /// It is the last one, and the run is over.
-    Over(PartsEnd),
+    Ended(PartsEnd),
     /// Its program returned, after `done` orders in all.
-    Back { done: u64 },
+    Returned { done: u64 },
 }
 
 /// The entry of a part: its location, the number of orders from the part's beginning to it, and the rows read up to it,
@@ -51,32 +51,32 @@ pub(crate) struct Arrival {
 /// Reads a part and runs its program. The part is checked before any of its orders is obeyed.
 pub(crate) fn run_part<K: Sink>(
     alloc: Global,
-    stage: Stage,
+    part_start: PartStart,
     machine: &mut Machine,
     out: &mut K,
-) -> Result<Passed, WriteStop>
-    requires limit { stage.limit < 2 ^ 32 }
-    requires done { stage.done ≤ stage.limit }
-    requires orders { machine.old.orders + (stage.limit - stage.done) ≤ 2 ^ 63 }
-    requires rows { stage.rows ≤ 2 ^ 32 }
-    requires tape { length machine.old.tape ≤ stage.rows }
-    requires back { stage.number ≢ 1 → IsReturned machine.old }
-    ensures passes { Passes stage.limit stage.rows (stage_part stage machine.old) result machine.new
+) -> Result<PartOutcome, WriteStop>
+    requires limit { part_start.limit < 2 ^ 32 }
+    requires done { part_start.done ≤ part_start.limit }
+    requires orders { machine.old.orders + (part_start.limit - part_start.done) ≤ 2 ^ 63 }
+    requires rows { part_start.rows ≤ 2 ^ 32 }
+    requires tape { length machine.old.tape ≤ part_start.rows }
+    requires back { part_start.number ≢ 1 → IsReturned machine.old }
+    ensures passes { Passes part_start.limit part_start.rows (part_at_start part_start machine.old) result machine.new
         (K.held out.old) (K.held out.new) }
     ensures faults { K.faults out.new ≡ stop_faults result (K.faults out.old) }
 {
-    let read = stage.rows - machine.rows_left().len();
-    match check_part(alloc, stage.number, machine) {
+    let read = part_start.rows - machine.rows_left().len();
+    match check_part(alloc, part_start.number, machine) {
         Ok(checked) => {
             let arrival = Arrival {
                 at: checked.entry(),
                 orders: checked.orders(),
                 rows: read + checked.rows(),
             };
-            enter_part(alloc, stage, arrival, machine, out)
+            enter_part(alloc, part_start, arrival, machine, out)
         }
-        Err(TapeFault::At { row, cause }) => Ok(Passed::Over(PartsEnd::Faulty {
-            part: stage.number,
+        Err(TapeFault::At { row, cause }) => Ok(PartOutcome::Ended(PartsEnd::Faulty {
+            part: part_start.number,
             row: read + row,
             cause,
         })),
@@ -101,34 +101,34 @@ fn check_part(alloc: Global, number: u32, machine: &Machine) -> Result<Checked, 
 /// Reads a well-formed part up to its entry, or to the limit if that comes first, and runs its program.
 fn enter_part<K: Sink>(
     alloc: Global,
-    stage: Stage,
+    part_start: PartStart,
     arrival: Arrival,
     machine: &mut Machine,
     out: &mut K,
-) -> Result<Passed, WriteStop>
-    requires limit { stage.limit < 2 ^ 32 }
-    requires done { stage.done ≤ stage.limit }
-    requires orders { machine.old.orders + (stage.limit - stage.done) ≤ 2 ^ 63 }
-    requires arrival { (e : TapeEntry) × IsArrival stage.rows (stage_part stage machine.old) arrival e }
-    ensures passes { Passes stage.limit stage.rows (stage_part stage machine.old) result machine.new
+) -> Result<PartOutcome, WriteStop>
+    requires limit { part_start.limit < 2 ^ 32 }
+    requires done { part_start.done ≤ part_start.limit }
+    requires orders { machine.old.orders + (part_start.limit - part_start.done) ≤ 2 ^ 63 }
+    requires arrival { (e : TapeEntry) × IsArrival part_start.rows (part_at_start part_start machine.old) arrival e }
+    ensures passes { Passes part_start.limit part_start.rows (part_at_start part_start machine.old) result machine.new
         (K.held out.old) (K.held out.new) }
     ensures faults { K.faults out.new ≡ stop_faults result (K.faults out.old) }
 {
-    let left = stage.limit - stage.done;
+    let left = part_start.limit - part_start.done;
     if left < arrival.orders {
-        obey(machine, left);
-        return Ok(Passed::Over(PartsEnd::Ended(Ending::Limit)));
+        machine.obey_next(left);
+        return Ok(PartOutcome::Ended(PartsEnd::Ended(Ending::Limit)));
     }
-    obey(machine, arrival.orders);
-    let entered = stage.done + arrival.orders;
+    machine.obey_next(arrival.orders);
+    let entered = part_start.done + arrival.orders;
     write_line(out, entry_text(alloc, arrival.at, entered, arrival.rows))?;
-    match run_program(machine, stage.limit - entered) {
-        Met::Finished(ending) => Ok(Passed::Over(PartsEnd::Ended(ending))),
-        Met::Returned { orders } => {
+    match run_program(machine, part_start.limit - entered) {
+        ProgramOutcome::Finished(ending) => Ok(PartOutcome::Ended(PartsEnd::Ended(ending))),
+        ProgramOutcome::Returned { orders } => {
             let done = entered + orders;
             let address = directive(machine).order().address;
             write_line(out, returned_text(alloc, address, done))?;
-            Ok(Passed::Back { done })
+            Ok(PartOutcome::Returned { done })
         }
     }
 }

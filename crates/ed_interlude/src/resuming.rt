@@ -4,7 +4,7 @@ ghost use Rattle.ed_notation.specs.Faults.{TapeEntry};
 ghost use Rattle.ed_notation.specs.Checks.{AnswersCheck};
 ghost use Rattle.ed_initial.specs.Entry.{IsLoaded};
 ghost use Rattle.ed_initial.specs.Load.{EndsAs, orders_of};
-ghost use Rattle.ed_interlude.specs.Returned.{ComesBack, IsRestWellFormed, IsReturned, reopening};
+ghost use Rattle.ed_interlude.specs.Returned.{ReachesNextEntry, IsRestWellFormed, IsReturned, reopening};
 
 use crate::returning::directive;
 use ed_initial::{Loaded, obey_orders};
@@ -41,9 +41,9 @@ pub fn resume(machine: &mut Machine) -> Loaded
     requires room { machine.old.orders + (17 * length machine.old.tape + 2) ≤ 2 ^ 63 }
     ensures ends { EndsAs machine.old (17 * length machine.old.tape + 2) result }
     ensures state { machine.new ≡ state_after (orders_of result) machine.old }
-    ensures loads { (e : TapeEntry) → ComesBack machine.old e → IsLoaded machine.old e result machine.new }
+    ensures loads { (e : TapeEntry) → ReachesNextEntry machine.old e → IsLoaded machine.old e result machine.new }
     ensures total { IsRestWellFormed machine.old →
-        (e : TapeEntry) × ComesBack machine.old e × IsLoaded machine.old e result machine.new }
+        (e : TapeEntry) × ReachesNextEntry machine.old e × IsLoaded machine.old e result machine.new }
 {
     let rows = machine.rows_left().len() as u64;
     // Called only for its clause `store`: the proof needs that the store has all its words within their bounds.

@@ -4,7 +4,7 @@ ghost use Rattle.ed_io.specs.Causes.{stop_faults};
 ghost use Rattle.ed_interlude.specs.Laws.{EachEndIsTheRuns, EachEntryIsReached, EachTapeHasOneReport};
 ghost use Rattle.ed_interlude.specs.Parts.{PartsAnswer};
 
-use crate::part::{Passed, Stage, run_part};
+use crate::part::{PartOutcome, PartStart, run_part};
 use ed_io::{Sink, WriteStop};
 use ed_machine::{Ending, Machine};
 use ed_notation::TapeCause;
@@ -50,15 +50,15 @@ pub fn run_parts<K: Sink>(
     let mut number = 1u32;
     let mut done = 0u64;
     'parts: loop {
-        let stage = Stage {
+        let part_start = PartStart {
             limit: u64::from(limit),
             rows,
             number,
             done,
         };
-        match run_part(alloc, stage, machine, out)? {
-            Passed::Over(end) => return Ok(end),
-            Passed::Back { done: now } => {
+        match run_part(alloc, part_start, machine, out)? {
+            PartOutcome::Ended(end) => return Ok(end),
+            PartOutcome::Returned { done: now } => {
                 number += 1;
                 done = now;
             }

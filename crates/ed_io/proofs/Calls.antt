@@ -1,10 +1,10 @@
 -- What two calls of a device in a row take and give. The layers above cite these lemmas too.
-use Rattle.std.proofs.Common.{take, drop, length, length-drop, ◌-◌, ◌≡◌, ◌<◌, ◌∙◌, ℕ, List, [], ◌∷◌, ◌++◌, refl}
-use Rattle.std.proofs.Common.{sym, ap, append_assoc, arith, true, false}
-use Rattle.std.specs.Prelude.{◌==◌, Option, Some, None}
-use Rattle.std.proofs.lemmas.List.{append-nil, take-append-drop, take_rest}
-use Rattle.ed_words.proofs.Numbers.{eq_false}
-use Rattle.ed_io.specs.Bytes.{Gains, GainsPart, Loses, IsAtEnd}
+use Rattle.ed_io.proofs.Kit.{[], ap, arith, drop, false, length, List, None, Option, refl, Some, sym, take, true, ℕ}
+use Rattle.ed_io.proofs.Kit.{◌++◌, ◌-◌, ◌<◌, ◌==◌, ◌∙◌, ◌≡◌, take-append-drop, take_rest, Gains, IsAtEnd, Loses}
+use Rattle.std.proofs.Common.{length-drop, ◌∷◌, append_assoc}
+use Rattle.std.proofs.lemmas.Bool.{ne_eqb}
+use Rattle.std.proofs.lemmas.List.{append-nil}
+use Rattle.ed_io.specs.Bytes.{GainsPart}
 
 -- two writes, one after the other
 pub gains_more : (a b c : Option (List ℕ)) (xs ys : List ℕ) → Gains a b xs → Gains b c ys → Gains a c (xs ++ ys)
@@ -33,7 +33,7 @@ pub gains_all : (a b : Option (List ℕ)) (text done rest : List ℕ) → text �
     → Gains a b done → Gains a b text
 gains_all a b text done [] is none p = rw (is ∙ append-nil done) p
 gains_all a b text done (x ∷ rest) is none p =
-    let bad : true ≡ false = none ∙ eq_false (length (x ∷ rest)) 0 (omega arith) in absurd (cc)
+    let bad : true ≡ false = none ∙ ne_eqb (length (x ∷ rest)) 0 (omega arith) in absurd (cc)
 
 -- after a byte or more was written, less is left
 pub left_after : (rest : List ℕ) (k : ℕ) → false ≡ (length rest == 0) → (0 < length rest → 0 < k)

@@ -1,10 +1,8 @@
 -- What std's clauses on known bytes give if all values of a type report bytes, or none does.
-use Rattle.std.proofs.Common.{take, length, ◌≡◌, ◌∙◌, ◌<◌, ℕ, List, [], ◌++◌, sym, ap}
-use Rattle.std.specs.Prelude.{Option, Some, None, nat_lt, Bool, true, false, if◌then◌else◌}
-use Rattle.std.specs.Io.KnownBytes.{Appends, Consumes, Keeps}
-use Rattle.std.specs.Io.KnownBytes.{IsAtEnd as IsKnownEnd}
-use Rattle.ed_words.proofs.Numbers.{lt_true}
-use Rattle.ed_io.specs.Bytes.{Gains, Loses, IsAtEnd}
+use Rattle.ed_io.proofs.Kit.{[], ap, Bool, false, if◌then◌else◌, length, List, nat_lt, None, Option, Some, sym, take}
+use Rattle.ed_io.proofs.Kit.{true, ℕ, ◌++◌, ◌<◌, ◌∙◌, ◌≡◌, Gains, IsAtEnd, Loses}
+use Rattle.std.specs.Io.KnownBytes.{Appends, Consumes, Keeps, IsAtEnd as IsKnownEnd}
+use Rattle.std.proofs.lemmas.Bool.{lt-ltb}
 use Rattle.ed_io.specs.Streams.{Alike, unless_failed}
 
 -- a read that gave k bytes
@@ -39,4 +37,4 @@ gains_known faults a b bs s p = by_test (nat_lt 0 faults) a b s p
 -- a write after which the bytes are not reported
 pub gains_unknown : (faults : ℕ) (a b : Option (List ℕ)) (bs : List ℕ) → 0 < faults
     → Gains a (unless_failed faults b) bs
-gains_unknown faults a b bs some = rw (lt_true 0 faults some) tt
+gains_unknown faults a b bs some = rw (lt-ltb 0 faults some) tt

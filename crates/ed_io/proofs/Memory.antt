@@ -1,12 +1,12 @@
 -- What calls of devices over memory take and give, and whether their number is in the list of those that fail.
-use Rattle.std.proofs.Common.{ℕ, ◌≡◌, ◌≤◌, ◌<◌, ◌+◌, ◌-◌, ◌++◌, ◌∙◌, List, [], ◌∷◌, true, false, min, take, drop}
-use Rattle.std.proofs.Common.{length, get_or, sym, ap, refl, arith}
-use Rattle.std.specs.Prelude.{◌==◌, ◌||◌, Bool, None, Some, if◌then◌else◌, nat_lt}
+use Rattle.ed_io.proofs.Kit.{[], ap, arith, Bool, drop, false, if◌then◌else◌, length, List, nat_lt, None, refl, Some}
+use Rattle.ed_io.proofs.Kit.{sym, take, true, ℕ, ◌++◌, ◌+◌, ◌-◌, ◌<◌, ◌==◌, ◌∙◌, ◌≡◌, ◌≤◌, nat_tests, take-append-drop}
+use Rattle.ed_io.proofs.Kit.{take_all, take_rest, Gains}
+use Rattle.std.proofs.Common.{min, get_or, ◌||◌}
 use Rattle.std.specs.List.{Contains}
-use Rattle.std.proofs.lemmas.Bool.Decides.{Decides-eqb, nat_tests}
-use Rattle.std.proofs.lemmas.List.{drop-drop, take-append-drop, take_all, take_rest}
 use Rattle.std.proofs.Math.Seq.{take-append-add}
-use Rattle.ed_io.specs.Bytes.{Gains}
+use Rattle.std.proofs.lemmas.Bool.Decides.{Decides-eqb}
+use Rattle.std.proofs.lemmas.List.{drop-drop, nil_from_length}
 
 -- the number is in the list
 pub is_among : {read xs : List ℕ} {x : ℕ} (k : ℕ) → read ≡ xs → k < length read → (get_or read k x == x) ≡ true
@@ -20,10 +20,6 @@ pub none_among : {read xs : List ℕ} {x : ℕ} → read ≡ xs
 none_among {read} {xs} {x} e none among =
     let here : Contains read x = rw e among in
     sym (none here.0 x (omega arith) here.1) ∙ (Decides-eqb (get_or read here.0 x) x).1 here.2
-
-none_left : (xs : List ℕ) → length xs ≡ 0 → xs ≡ []
-none_left [] e = refl
-none_left (x ∷ xs) e = absurd (omega arith)
 
 -- the first n of the bytes from `at` onwards stand at the front of a piece; n is 0 only if no byte is left or the piece
 -- is empty
@@ -45,7 +41,7 @@ hands_over {at} {n} {most} {read} {bytes} {into} old e count front same some =
       whole = sym (ap (λ (l : List ℕ). l ++ drop (at + n) read) first
           ∙ ap (λ (l : List ℕ). take n (drop at read) ++ l) (sym (drop-drop n at read))
           ∙ take-append-drop n (drop at read));
-      ends = λ z l. none_left (drop at read) (omega arith);
+      ends = λ z l. nil_from_length (drop at read) (omega arith);
     })
 
 -- the first n bytes of a text that begins with at most n bytes

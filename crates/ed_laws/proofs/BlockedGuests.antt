@@ -1,28 +1,19 @@
 -- A run that has a guest checked ends where the guest is blocked.
-use Rattle.ed_sources.proofs.Kit.{entry_of, cost, entry_note, entry_state, AnswersFromEntry}
-use Rattle.ed_laws.proofs.Kit.{◌≡◌, ℕ, ◌+◌, ◌-◌, ◌<◌, ◌≤◌, Bool, false, List, length, ap, Some, None, sym, refl, ◌∙◌}
-use Rattle.ed_laws.proofs.Kit.{subst, arith, Text, paper, State, Line, step, Settings, Outcome, true≢false, is_obeyed}
-use Rattle.ed_laws.proofs.Kit.{state_after, Progress, progress, Turn, Printed, Went, counted_after, end_by, RunEnd}
-use Rattle.ed_laws.proofs.Kit.{IsAcceptedAs, paper_room, ran_outcome, with_post_mortem}
-use Rattle.ed_machine.specs.declared.turn.Turn.TheVariants.{Stopped as Stops, NoOrder as IsNoOrder, NoTape as HasNoTape}
-use Rattle.ed_run.proofs.Places as places
-use Rattle.ed_checker.specs.Checker.{guest}
+use Rattle.ed_laws.proofs.Kit.{NoOrder, Turn, counted_after, Settings, ran_is, unwrap_or, Line, ap, arith, Bool, false}
+use Rattle.ed_laws.proofs.Kit.{length, List, None, rules, Some, subst, sym, ℕ, ◌+◌, ◌-◌, ◌<◌, ◌∙◌, ◌≡◌, ◌≤◌, Text}
+use Rattle.ed_laws.proofs.Kit.{paper, step, State, Progress, progress, state_after, end_by, RunEnd, entry_of, cost}
+use Rattle.ed_laws.proofs.Kit.{entry_note, Outcome, IsAcceptedAs, paper_room, ran_outcome, with_post_mortem}
+use Rattle.ed_laws.proofs.Kit.{none_added, is_obeyed, each_answer_is_from_entry}
+use Rattle.ed_sources.proofs.Kit.{guest, entry_state, AnswersFromEntry}
 use Rattle.ed_checker.proofs.Follow.{checker_law}
-use Rattle.ed_answers.proofs.Limits.{none_added}
-use Rattle.ed_answers.proofs.Sources.{each_answer_is_from_entry}
 use Rattle.ed_laws.specs.BlockedGuests.{EachGuestIsBlocked, EndsBlocked, IsBlockedAfter, RunsToBlock, blocked_codes}
 use Rattle.ed_laws.specs.BlockedGuests.{guest_ending, orders_to_block}
-use Rattle.ed_laws.proofs.MoveEndings.{ran_is}
-use Rattle.ed_machine.specs.declared.ending.Ending.TheVariants.{NoOrder}
-use Rattle.std.proofs.Common.{unwrap_or}
+use Rattle.ed_run.proofs.Places as places
 
 -- an order that can't be obeyed ends a run
-blocks : (turn : Turn) (full : Bool) → is_obeyed turn ≡ false → end_by turn full ≡ Some (unwrap_or (end_by turn false) NoOrder)
-blocks (IsNoOrder function) full h = refl
-blocks HasNoTape full h = refl
-blocks Went full h = absurd (true≢false h)
-blocks (Printed code) full h = absurd (true≢false h)
-blocks Stops full h = absurd (true≢false h)
+blocks : (turn : Turn) (full : Bool) → is_obeyed turn ≡ false
+    → end_by turn full ≡ Some (unwrap_or (end_by turn false) NoOrder)
+blocks turn full h = search rules
 
 machines : (base q : ℕ) (m : State) (limit resumes room : ℕ) → IsBlockedAfter base q m
     → orders_to_block q (guest base m) < limit → length (blocked_codes q (guest base m)) ≤ room

@@ -1,20 +1,15 @@
 -- Without an option the limit is not below the orders of any call.
-use Rattle.ed_sources.proofs.Kit.{lit≤, Call, Check, Divide, NewLine, Print, Read, Root, run_outcome, call_text}
-use Rattle.ed_laws.proofs.Kit.{◌≤◌, refl, subst, arith, OfSource}
-use Rattle.ed_words.specs.declared.size.Size.TheVariants.{Full}
+use Rattle.ed_laws.proofs.Kit.{Full, arith, refl, rules, subst, ◌≤◌, OfSource, run_outcome}
+use Rattle.ed_library.specs.declared.call.Call.{Call}
 use Rattle.ed_sources.specs.CallRuns.{most_call_orders}
+use Rattle.ed_sources.specs.CallSources.{call_text}
 use Rattle.ed_sources.proofs.CallRuns.{each_call_runs}
 use Rattle.ed_sources.proofs.MostOrders.{each_most_is_taken}
 use Rattle.ed_laws.specs.CallsByDefault.{CallsByDefault, usual_settings}
 
 -- the limit without an option is greater than the orders of the longest calls
 below_default : (call : Call) → most_call_orders call ≤ 10000000
-below_default (Print n) = lit≤ tt
-below_default (Read n) = lit≤ tt
-below_default NewLine = lit≤ tt
-below_default (Divide n by) = lit≤ tt
-below_default (Root n) = lit≤ tt
-below_default (Check n) = lit≤ tt
+below_default call = search rules
 
 pub calls_by_default : CallsByDefault
 calls_by_default = record {

@@ -1,26 +1,19 @@
 -- A run that its limit cuts off before the program is entered, of a tape, of a source and of a tape of May 1949.
-use Rattle.ed_sources.proofs.Kit.{entry_of, cost, entry_note}
-use Rattle.ed_laws.proofs.Kit.{◌≡◌, ℕ, ◌<◌, Bool, [], List, if◌then◌else◌, ap, refl, ◌∙◌, inl, arith, Text, State, Line}
-use Rattle.ed_laws.proofs.Kit.{at_after, Settings, le_false, is_obeyed, state_after, Limit, counted_after, AllWent}
-use Rattle.ed_laws.proofs.Kit.{RunEnd, run_end, first_state, tape, line, paper_room, ran_outcome, with_post_mortem}
-use Rattle.ed_laws.proofs.Kit.{tape_outcome}
-use Rattle.ed_run.proofs.Quiet.{limit_there}
+use Rattle.ed_laws.proofs.Kit.{Limit, counted_after, Settings, limit_there, lt-leb, Line, silent_outcome, line, [], ap}
+use Rattle.ed_laws.proofs.Kit.{arith, Bool, codes, if◌then◌else◌, inl, List, refl, rules, ℕ, ◌<◌, ◌∙◌, ◌≡◌, Text}
+use Rattle.ed_laws.proofs.Kit.{State, state_after, AllWent, run_end, RunEnd, first_state, ReachesEntry1, Tape}
+use Rattle.ed_laws.proofs.Kit.{entry_of, cost, tape, entry_note, first_state1, paper_room, ran_outcome}
+use Rattle.ed_laws.proofs.Kit.{with_post_mortem, entered_before, tape_outcome, is_obeyed, at_after}
+use Rattle.ed_laws.proofs.Kit.{each_answer_is_from_entry, limit_state, quiet_outcome}
 use Rattle.ed_initial1.specs.Entry.{at_entry1}
-use Rattle.ed_initial1.specs.Faults.{Tape, Comes1}
 use Rattle.ed_initial1.proofs.Settled.{all_went}
 use Rattle.ed_initial1.proofs.Whole.{leads_in}
 use Rattle.ed_answers.specs.FirstEntry.{cost1}
-use Rattle.ed_answers.specs.FirstFaults.{silent_outcome}
-use Rattle.ed_answers.specs.FirstOrders.{first_state1}
-use Rattle.ed_answers.specs.Sources.{entered_before}
 use Rattle.ed_answers.proofs.FirstEntries.{first_store, runs_from_31, starts}
-use Rattle.ed_answers.proofs.Sources.{each_answer_is_from_entry}
-use Rattle.ed_laws.specs.CutRuns.{IsCutOff, limit_state}
-use Rattle.ed_laws.specs.FaultyTapes.{quiet_outcome}
+use Rattle.ed_laws.specs.CutRuns.{IsCutOff}
 use Rattle.ed_laws.specs.FirstEntries.{EachFirstTapeRunsFromEntry}
 use Rattle.ed_laws.specs.SourceEntries.{EachSourceRunsFromEntry}
 use Rattle.ed_laws.proofs.Stepped.{none_done}
-use Rattle.std.specs.Prelude.{codes}
 
 -- ---- the orders up to the limit
 
@@ -54,23 +47,17 @@ module _ (s : Settings) (rows : List ℕ) (k : ℕ) (went : AllWent k (first_sta
 
   quiet_is : ran_outcome [] (with_post_mortem s.post_mortem (cut_run s.limit (first_state s.size rows)))
       ≡ quiet_outcome s rows limit_name (limit_state s rows).counter s.limit 4
-  quiet_is =
-      ap (λ n. record (quiet_outcome s rows limit_name (limit_state s rows).counter s.limit 4) {
-        note = line (at_after limit_name (limit_state s rows).counter n);
-      }) limit_orders
+  quiet_is = search (rules, limit_orders)
 
   pub tape_cut_off : IsCutOff s rows (tape_outcome s rows)
-  tape_cut_off = record {
-    state_is = ap (λ (r : RunEnd). r.state) run_is;
-    outcome = ap (λ (r : RunEnd). ran_outcome [] (with_post_mortem s.post_mortem r)) run_is ∙ quiet_is;
-  }
+  tape_cut_off = search (rules, run_is, quiet_is)
 
 -- ---- a source
 
 -- the entry isn't reported
 not_entered : (lines : List Line) (t : State) → t.orders < cost lines → entered_before lines t ≡ []
 not_entered lines t less =
-    ap (λ (b : Bool). if b then entry_note (entry_of lines) (cost lines) else []) (le_false (cost lines) t.orders less)
+    ap (λ (b : Bool). if b then entry_note (entry_of lines) (cost lines) else []) (lt-leb (cost lines) t.orders less)
 
 pub sources_run_from_entry : EachSourceRunsFromEntry
 sources_run_from_entry s source lines accepted =
@@ -99,7 +86,7 @@ none_done1 : (rows : List ℕ) → (first_state1 rows).orders ≡ 0
 unfolding first_state1
 none_done1 rows = refl
 
-first_went : (rows : List ℕ) (t : Tape) → Comes1 rows t → AllWent (cost1 t) (first_state1 rows)
+first_went : (rows : List ℕ) (t : Tape) → ReachesEntry1 rows t → AllWent (cost1 t) (first_state1 rows)
 unfolding first_state1
 first_went rows t comes =
     let first = first_state1 rows in

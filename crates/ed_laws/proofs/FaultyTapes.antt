@@ -1,24 +1,19 @@
 -- A tape with a fault: the machine waits for the row of the fault, in the state that the rows before it mean.
-use Rattle.ed_sources.proofs.Kit.{Item}
-use Rattle.ed_laws.proofs.Kit.{◌≡◌, ℕ, ◌+◌, ◌<◌, true, [], List, ◌∷◌, ap, nat_le, Some, None, codes, Option, sym, refl}
-use Rattle.ed_laws.proofs.Kit.{◌∙◌, subst, inr, arith, Text, Size, State, at_after, Settings, ◌&&◌, cleared_cells, fold}
-use Rattle.ed_laws.proofs.Kit.{state_after, Limit, AllWent, RunEnd, enters_at, letter_action_of, over, word_with, items}
-use Rattle.ed_laws.proofs.Kit.{NotationState, row_kind, Begun, opening, TapeCause, BadRow, NumberTooLarge, RowKind, Kay}
-use Rattle.ed_laws.proofs.Kit.{Digit, Letter, Other, first_state, line, paper_room, ran_outcome, with_post_mortem}
-use Rattle.ed_laws.proofs.Kit.{first_note, tape_outcome, first_part}
-use Rattle.ed_run.proofs.Quiet.{limit_there, no_tape_there}
-use Rattle.ed_notation.specs.declared.cause.TapeCause.TheVariants.{EndOfTape, AfterMark, BadControl, LoaderStore}
-use Rattle.ed_notation.specs.declared.cause.TapeCause.TheVariants.{StoreEnd, NoPlace, EntryNegative, EntryInLoader}
-use Rattle.ed_notation.specs.Items.{Written, item, item_of}
-use Rattle.ed_notation.specs.Fold.{act, cost_of, costs, ending_effect, item_word, with_letter}
-use Rattle.ed_notation.specs.Faults.{AreRead, Breaks, IsFault, IsRead, breaks, is_broken}
-use Rattle.ed_notation.specs.Beginnings.{IsSoundTo, orders_before, state_before}
+use Rattle.ed_laws.proofs.Kit.{Size, cleared_cells, Limit, Settings, limit_there, TapeCause, Item, RowKind, Letter}
+use Rattle.ed_laws.proofs.Kit.{breaks, is_broken, act, costs, fold, NotationState, Begun, item_of, items, row_kind}
+use Rattle.ed_laws.proofs.Kit.{Written, first_store, starts, line, opening_notation, [], ap, arith, codes, inr, List}
+use Rattle.ed_laws.proofs.Kit.{None, Option, refl, rules, Some, subst, sym, true, ℕ, ◌+◌, ◌<◌, ◌∙◌, ◌∷◌, ◌≡◌, Text}
+use Rattle.ed_laws.proofs.Kit.{State, state_after, AllWent, RunEnd, first_state, paper_room, ran_outcome}
+use Rattle.ed_laws.proofs.Kit.{with_post_mortem, tape_outcome, opening, first_part, HasFault, at_after, quiet_outcome}
+use Rattle.ed_notation.proofs.Kit.{IsSoundTo, AreRead, Breaks, IsFault, IsRead, ending_effect, item_word}
+use Rattle.ed_notation.proofs.Kit.{letter_action_of, item}
+use Rattle.ed_run.proofs.Quiet.{no_tape_there}
+use Rattle.ed_notation.specs.Beginnings.{orders_before, state_before}
+use Rattle.ed_notation.specs.Fold.{with_letter}
 use Rattle.ed_notation.proofs.Beginnings.{ended, fault_sound}
 use Rattle.ed_initial.specs.Waits.{AwaitsRow, waiting_place}
 use Rattle.ed_initial.proofs.Awaited.{needs_row, waits, waits_at}
-use Rattle.ed_initial.proofs.Starts.{first_store, starts}
-use Rattle.ed_interlude.specs.Parts.{HasFault}
-use Rattle.ed_laws.specs.FaultyTapes.{EachFaultyTapeWaits, quiet_outcome}
+use Rattle.ed_laws.specs.FaultyTapes.{EachFaultyTapeWaits}
 use Rattle.ed_laws.proofs.InParts.{parts_refuse}
 use Rattle.ed_laws.proofs.TapeEntries.{Agree, first_agrees, letter_from, over_agrees, value_agrees}
 
@@ -26,10 +21,7 @@ use Rattle.ed_laws.proofs.TapeEntries.{Agree, first_agrees, letter_from, over_ag
 
 module _ (v w : List ℕ) (same : Agree v w) where
   word_agrees : (n : NotationState) (i : Item) → row_kind i.end ≡ Letter → item_word v n i ≡ item_word w n i
-  word_agrees n i k =
-      ap (word_with i.function i.number i.mark)
-      (value_agrees (over n.placed v) (over n.placed w) n.theta i.end (letter_from i.end k)
-      (over_agrees n.placed v w same))
+  word_agrees n i k = search (rules, value_agrees, letter_from, over_agrees)
 
   effect_agrees : (k : RowKind) (n : NotationState) (i : Item) → (k ≡ Letter → item_word v n i ≡ item_word w n i)
       → ending_effect k v n i ≡ ending_effect k w n i
@@ -44,10 +36,7 @@ module _ (v w : List ℕ) (same : Agree v w) where
   fold_agrees n (i ∷ is) = fold_agrees (act v n i) is ∙ ap (λ (x : NotationState). fold w x is) (act_agrees n i)
 
   costs_agree : (n : NotationState) (ws : List Written) → costs v n ws ≡ costs w n ws
-  costs_agree n [] = refl
-  costs_agree n (x ∷ xs) =
-      ap (λ k. cost_of n x + k)
-      (costs_agree (act v n (item x)) xs ∙ ap (λ (y : NotationState). costs w y xs) (act_agrees n (item x)))
+  costs_agree n ws = search (rules, act_agrees)
 
   read_agrees : (n : NotationState) (ws : List Written) → AreRead v n ws → AreRead w n ws
   read_agrees n [] h = tt
@@ -61,18 +50,7 @@ module _ (v w : List ℕ) (same : Agree v w) where
   breaks_agrees : (cause : TapeCause) (k : RowKind) (z : Size) (n : NotationState) (b : Begun) (c : ℕ)
       → (k ≡ Letter → item_word v n (item_of b c) ≡ item_word w n (item_of b c))
       → breaks cause k z v n b c ≡ breaks cause k z w n b c
-  breaks_agrees EntryNegative Letter z n b c h =
-      ap (λ x. enters_at (letter_action_of n.directive) && nat_le 65536 x) (h refl)
-  breaks_agrees EndOfTape Digit z n b c h = refl
-  breaks_agrees BadRow Other z n b c h = refl
-  breaks_agrees NumberTooLarge Digit z n b c h = refl
-  breaks_agrees AfterMark Digit z n b c h = refl
-  breaks_agrees BadControl Kay z n b c h = refl
-  breaks_agrees LoaderStore Letter z n b c h = refl
-  breaks_agrees StoreEnd Letter z n b c h = refl
-  breaks_agrees NoPlace Letter z n b c h = refl
-  breaks_agrees EntryInLoader Letter z n b c h = refl
-  breaks_agrees cause k z n b c h = refl
+  breaks_agrees cause k z n b c h = search rules
 
   broken_agrees : (z : Size) (n : NotationState) (part : Option Begun) (rest : List ℕ) (cause : TapeCause)
       → is_broken z v n part rest cause ≡ is_broken z w n part rest cause
@@ -99,7 +77,8 @@ module _ (v w : List ℕ) (same : Agree v w) where
       let r = b.stands in
       record {
         stands = read_over r;
-        breaks = ap (λ (n : NotationState). is_broken z w n r.part r.rest cause) (sym (fold_agrees start (items r.before)))
+        breaks = ap (λ (n : NotationState). is_broken z w n r.part r.rest cause)
+            (sym (fold_agrees start (items r.before)))
             ∙ sym (broken_agrees z (fold v start (items r.before)) r.part r.rest cause)
             ∙ b.breaks;
       }
@@ -113,17 +92,14 @@ module _ (v w : List ℕ) (same : Agree v w) where
 
 -- the first part of the tape has the fault
 part_fault : (z : Size) (rows : List ℕ) {row : ℕ} {cause : TapeCause}
-    → IsFault z cleared_cells.words first_note rows row cause → HasFault (first_part (first_state z rows)) row cause
+    → IsFault z cleared_cells.words opening_notation rows row cause
+    → HasFault (first_part (first_state z rows)) row cause
 unfolding first_state
-part_fault z rows f =
-    let v = cleared_cells.words in
-    let w = (first_state z rows).store.words in
-    let same = first_agrees z rows in
-    fault_over v w same (λ r other b. broken_over w v (sym same) b) f
+part_fault z rows f = search (rules, first_agrees, fault_over, broken_over)
 
 -- from a cleared machine
-cleared_waits : (z : Size) (rows : List ℕ) {row : ℕ} (r : IsRead cleared_cells.words first_note rows row)
-    → IsSoundTo z cleared_cells.words first_note rows row
+cleared_waits : (z : Size) (rows : List ℕ) {row : ℕ} (r : IsRead cleared_cells.words opening_notation rows row)
+    → IsSoundTo z cleared_cells.words opening_notation rows row
     → AwaitsRow (first_state z rows) (9 + orders_before r) (state_before r) r.part r.rest
 unfolding first_state
 cleared_waits z rows {row} r to =
@@ -132,7 +108,7 @@ cleared_waits z rows {row} r to =
     let same = first_agrees z rows in
     let to' : IsSoundTo z w (opening w) rows row = λ at cause b. to at cause (broken_over w v (sym same) b) in
     let there = waits (first_state z rows) (first_store z rows) (starts z rows) row to' (read_over v w same r) in
-    rw (costs_agree v w same first_note r.before, fold_agrees v w same first_note (items r.before)) there
+    rw (costs_agree v w same opening_notation r.before, fold_agrees v w same opening_notation (items r.before)) there
 
 -- a run that prints nothing and ends there
 module _ (s : Settings) (rows : List ℕ) {k : ℕ} {notation : NotationState} {part : Option Begun} {rest : List ℕ}

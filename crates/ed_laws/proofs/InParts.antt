@@ -1,20 +1,16 @@
 -- What `parts` reports first: the entry of a well-formed tape, or the fault of another one.
-use Rattle.ed_sources.proofs.Kit.{decimal}
-use Rattle.ed_top.proofs.Kit.{refusal, IsInParts}
-use Rattle.ed_laws.proofs.Kit.{◌≡◌, ℕ, zero, suc, ◌+◌, ◌-◌, ◌<◌, ◌≤◌, [], List, ◌∷◌, ◌++◌, length, ap, codes, sym, ◌∙◌}
-use Rattle.ed_laws.proofs.Kit.{append_assoc, append-nil, arith, Text, State, at_after, Settings, Outcome, state_after}
-use Rattle.ed_laws.proofs.Kit.{Limit, AllWent, TapeEntry, opening, IsDirective, Arrived, Faulty, TapeCause, first_state}
-use Rattle.ed_laws.proofs.Kit.{reading_is_rules, StartsWith, line, first_part, LeadsTo}
+use Rattle.ed_laws.proofs.Kit.{Limit, Settings, TapeCause, IsDirective, Arrived, Faulty, silent_outcome, StartsWith}
+use Rattle.ed_laws.proofs.Kit.{line, [], ap, append-nil, append_assoc, arith, codes, length, List, suc, sym, ℕ, ◌++◌}
+use Rattle.ed_laws.proofs.Kit.{◌+◌, ◌-◌, ◌<◌, ◌∙◌, ◌∷◌, ◌≡◌, ◌≤◌, Text, State, state_after, AllWent, TapeEntry}
+use Rattle.ed_laws.proofs.Kit.{first_state, Outcome, refusal, return_report, zero, opening, reading_is_rules, cut}
+use Rattle.ed_laws.proofs.Kit.{entry_report, faulty, finished, first_part, HasFault, LeadsTo, PartsReport}
+use Rattle.ed_laws.proofs.Kit.{ReportsParts, TapePart, at_after, IsInParts, report_outcome, limit_state}
+use Rattle.std.proofs.Common.{decimal}
 use Rattle.std.proofs.lemmas.Fmt.{decimal_digit}
 use Rattle.ed_notation.specs.Reading.{ReadingIsRules}
 use Rattle.ed_report.specs.Entries.{entry_line}
 use Rattle.ed_report.specs.Notes.{cause_text, part_line, rule_line}
-use Rattle.ed_interlude.specs.Parts.{HasFault, PartsReport, ReportsParts, TapePart, cut, entry_report, faulty, finished}
-use Rattle.ed_interlude.specs.Parts.{return_report}
 use Rattle.ed_interlude.specs.declared.tape.PartsEnd.TheVariants.{Ended}
-use Rattle.ed_answers.specs.FirstFaults.{silent_outcome}
-use Rattle.ed_top.specs.Parts.{report_outcome}
-use Rattle.ed_laws.specs.CutRuns.{limit_state}
 use Rattle.ed_laws.specs.TapeEntries.{PartsFromEntry}
 use Rattle.ed_laws.proofs.CutRuns.{limit_orders, limit_name}
 

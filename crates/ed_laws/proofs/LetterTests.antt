@@ -1,7 +1,6 @@
 -- What is said of kinds of orders is said of their letters.
-use Rattle.ed_laws.proofs.Kit.{◌≡◌, ℕ, zero, suc, Bool, true, false, not, [], List, ◌∷◌, None, Option, refl, and_parts}
-use Rattle.ed_laws.proofs.Kit.{◌&&◌, slice_index, byte_of, kind_of_function, Kind}
-use Rattle.std.specs.Prelude.{slice_index_or}
+use Rattle.ed_laws.proofs.Kit.{slice_index, Kind, ◌&&◌, and_parts, byte_of, [], Bool, false, List, None, Option, rules}
+use Rattle.ed_laws.proofs.Kit.{suc, true, ℕ, ◌∷◌, ◌≡◌, not, slice_index_or, zero, kind_of_function}
 use Rattle.ed_codes.specs.Spelling.{letters}
 use Rattle.ed_orders.specs.Kinds.{kinds}
 
@@ -10,10 +9,7 @@ same true b = b
 same false b = not b
 
 same_is : (a b : Bool) → same a b ≡ true → a ≡ b
-same_is true true h = refl
-same_is true false h = absurd (cc)
-same_is false true h = absurd (cc)
-same_is false false h = refl
+same_is a b h = search rules
 
 module _ (of_kind : Option Kind → Bool) (of_letter : ℕ → Bool) where
   -- whether both say the same, kind by kind and letter by letter

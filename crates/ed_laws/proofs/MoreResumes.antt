@@ -1,10 +1,10 @@
 -- A run with more resumes, and a trace with a greater limit.
-use Rattle.ed_laws.proofs.Kit.{◌≡◌, ℕ, ◌+◌, ◌-◌, ◌≤◌, [], ◌≢◌, List, ap, sym, refl, ◌∙◌, arith, paper, State, Line}
-use Rattle.ed_laws.proofs.Kit.{Outcome, state_after, RunEnd, run_end, first_state, tape, ending_line, StartsWith}
-use Rattle.ed_laws.proofs.Kit.{paper_room, ran_outcome, status_of, with_post_mortem, tape_outcome, trace_to, letters_in}
-use Rattle.ed_answers.specs.FirstOrders.{first_state1, tape1_outcome}
-use Rattle.ed_answers.specs.Sources.{entered_before, run_outcome}
-use Rattle.ed_answers.proofs.Limits.{each_limit, none_added, printed_starts, starts_as}
+use Rattle.ed_laws.proofs.Kit.{Line, StartsWith, [], ap, arith, List, refl, rules, sym, ℕ, ◌+◌, ◌-◌, ◌∙◌, ◌≡◌, ◌≢◌}
+use Rattle.ed_laws.proofs.Kit.{◌≤◌, paper, State, state_after, run_end, RunEnd, first_state, tape, ending_line}
+use Rattle.ed_laws.proofs.Kit.{first_state1, Outcome, paper_room, ran_outcome, status_of, with_post_mortem}
+use Rattle.ed_laws.proofs.Kit.{entered_before, run_outcome, tape_outcome, none_added, trace_to, letters_in}
+use Rattle.ed_answers.specs.FirstOrders.{tape1_outcome}
+use Rattle.ed_answers.proofs.Limits.{each_limit, printed_starts, starts_as}
 use Rattle.ed_top.specs.Traces.{trace_outcome}
 use Rattle.ed_laws.specs.MoreResumes.{EachLimitIsKept, EachResume, KeepsResumes, TraceKeepsLimits, letters_of}
 use Rattle.ed_laws.proofs.PartsLimits.{parts_keep_limits}
@@ -88,12 +88,7 @@ trace_keeps_limits codes = record {
 }
 
 pub each_resume : EachResume
-each_resume = record {
-  tapes = tape_keeps;
-  first_tapes = first_tape_keeps;
-  sources = source_keeps;
-  traces = trace_keeps;
-}
+each_resume = search (rules, tape_keeps, first_tape_keeps, source_keeps, trace_keeps)
 
 pub each_limit_is_kept : EachLimitIsKept
 each_limit_is_kept = record { runs = each_limit; traces = trace_keeps_limits; parts = parts_keep_limits }

@@ -1,117 +1,41 @@
 -- A move that doesn't end by its own end stops where a run ends.
-use Rattle.ed_laws.proofs.Kit.{◌≡◌, ℕ, zero, suc, ◌+◌, ◌-◌, ◌<◌, ◌≤◌, Bool, true, false, length, if◌then◌else◌, nat_eq}
-use Rattle.ed_laws.proofs.Kit.{ap, nat_le, Some, None, Option, unwrap_or, sym, refl, ◌∙◌, subst, arith, State, step}
-use Rattle.ed_laws.proofs.Kit.{◌&&◌, is_some, nat_tests, state_after, stops_of, AreObeyed, progress, Ending, Limit}
-use Rattle.ed_laws.proofs.Kit.{NoOrder, NoTape, PaperFull, Stopped, Turn, Printed, Went, after_sum, end_by, EndsAfter}
-use Rattle.ed_laws.proofs.Kit.{run_end, ends_once, ran_ends, move_orders}
-use Rattle.ed_words.proofs.Numbers.{eq_true}
-use Rattle.ed_machine.specs.Steps.{is_stop}
-use Rattle.ed_machine.specs.declared.turn.Turn.TheVariants.{Stopped as Stops, NoOrder as IsNoOrder, NoTape as HasNoTape}
-use Rattle.ed_machine.proofs.LeastNumbers.{least_holds}
-use Rattle.ed_machine.proofs.Steps.{free_sum, next_stops}
-use Rattle.ed_run.specs.Laws.{HasRoom}
-use Rattle.ed_run.proofs.Places as places
-use Rattle.ed_stepper.specs.MoveEnds.{blocked_end, end_after, entered_after, is_some_order, move_end, or_else, own_end}
-use Rattle.ed_stepper.specs.MoveEnds.{stopped_after}
-use Rattle.ed_stepper.specs.declared.moves.MoveTarget.{MoveTarget}
-use Rattle.ed_stepper.specs.declared.moves.MoveTarget.TheVariants.{Orders, Address, Entry}
+use Rattle.ed_laws.proofs.Kit.{none-some, Ending, Limit, Stopped, Turn, next_stops, HasRoom, ran_is, ap, arith, Bool}
+use Rattle.ed_laws.proofs.Kit.{false, if◌then◌else◌, length, nat_eq, nat_le, None, Option, refl, rules, Some, subst}
+use Rattle.ed_laws.proofs.Kit.{suc, sym, true, ℕ, ◌+◌, ◌-◌, ◌<◌, ◌∙◌, ◌≡◌, ◌≤◌, nat_tests, step, State, progress}
+use Rattle.ed_laws.proofs.Kit.{state_after, end_by, EndsAfter, run_end, move_end, AreObeyed, after_sum, free_sum}
+use Rattle.ed_laws.proofs.Kit.{move_orders, move_free, zero, same_Some, stops_of}
+use Rattle.ed_stepper.proofs.Kit.{is_stop, blocked_end, own_end, stopped_after}
+use Rattle.ed_machine.specs.declared.turn.Turn.TheVariants.{Stopped as Stops}
+use Rattle.ed_stepper.specs.MoveEnds.{or_else}
 use Rattle.ed_stepper.specs.declared.moves.MoveEnd.{MoveEnd}
-use Rattle.ed_stepper.specs.declared.moves.MoveEnd.TheVariants as ends
+use Rattle.ed_stepper.specs.declared.moves.MoveTarget.{MoveTarget}
+use Rattle.ed_stepper.proofs.Founds.{move_ends}
+use Rattle.ed_stepper.proofs.Stands.{move_within}
 use Rattle.ed_laws.specs.Stepped.{ending_of, resumes_to}
-use Rattle.ed_stepper.proofs.Stands.{move_free, move_within}
-
--- ---- a run with this end
-
-pub ran_is : (limit resumes room k : ℕ) (s : State) (e : Ending) → EndsAfter limit resumes room s k e
-    → run_end limit resumes room s ≡ record { ending = e; state = state_after k s; codes = (progress k s).codes }
-unfolding run_end
-ran_is limit resumes room k s e ends =
-    let one = ends_once (ran_ends limit resumes room s) ends in
-    (λ i. record { ending = one.1 i; state = state_after (one.0 i) s; codes = (progress (one.0 i) s).codes })
+use Rattle.ed_run.proofs.Places as places
+use Rattle.ed_stepper.specs.declared.moves.MoveEnd.TheVariants as ends
 
 -- ---- the end of a move
 
-none_is : (ending : Ending) → None ≡ Some ending → ⊥
-none_is ending h = cc
-
-some_is : {A : Type 0} (x y : A) → Some x ≡ Some y → x ≡ y
-some_is x y h = cc
-
--- at the limit there is an end
-ends_at_limit : (aim : MoveTarget) (left : ℕ) (s : State) → is_some (end_after aim left left s) ≡ true
-ends_at_limit aim left s = by_tests (stopped_after left s) (own_end aim left s) (nat_eq left left)
-    (eq_true left left refl)
-  where
-    by_tests : (stop : Bool) (own : Option MoveEnd) (same : Bool) → same ≡ true
-        → is_some (if stop then Some ends.Stopped else or_else own
-        (if same then Some ends.Limit else blocked_end (step (state_after left s)).turn)) ≡ true
-    by_tests true own same e = refl
-    by_tests false (Some end) same e = refl
-    by_tests false None true e = refl
-    by_tests false None false e = absurd (cc)
-
--- the end is that after the orders of the move
-end_there : (aim : MoveTarget) (left : ℕ) (s : State)
-    → end_after aim left (move_orders aim left s) s ≡ Some (move_end aim left s)
-unfolding move_orders move_end
-end_there aim left s =
-    by_end (end_after aim left (move_orders aim left s) s)
-    (least_holds (λ j. is_some (end_after aim left j s)) left (ends_at_limit aim left s))
-  where
-    by_end : (o : Option MoveEnd) → is_some o ≡ true → o ≡ Some (unwrap_or o ends.Limit)
-    by_end (Some end) h = refl
-    by_end None h = absurd (cc)
-
 -- a move's own end is not an ending of a run
 own_is_none : (aim : MoveTarget) (k : ℕ) (s : State) (end : MoveEnd) → own_end aim k s ≡ Some end → ending_of end ≡ None
-own_is_none (Orders n) k s end = by_test (nat_eq k n)
-  where
-    by_test : (b : Bool) → (if b then Some ends.Went else None) ≡ Some end → ending_of end ≡ None
-    by_test true h = ap ending_of (sym (some_is ends.Went end h))
-    by_test false h = absurd (cc)
-own_is_none (Address a) k s end = by_test (is_some_order k && nat_eq (state_after k s).counter a)
-  where
-    by_test : (b : Bool) → (if b then Some ends.There else None) ≡ Some end → ending_of end ≡ None
-    by_test true h = ap ending_of (sym (some_is ends.There end h))
-    by_test false h = absurd (cc)
-own_is_none Entry k s end = by_test (entered_after k s)
-  where
-    by_test : (b : Bool) → (if b then Some ends.Entered else None) ≡ Some end → ending_of end ≡ None
-    by_test true h = ap ending_of (sym (some_is ends.Entered end h))
-    by_test false h = absurd (cc)
+own_is_none aim k s end = search rules
 
 -- an order that can't be obeyed ends a run as it ends a move
 blocked_is : (turn : Turn) (full : Bool) (end : MoveEnd) (ending : Ending) → blocked_end turn ≡ Some end
     → ending_of end ≡ Some ending → end_by turn full ≡ Some ending
-blocked_is (IsNoOrder function) full end ending h e = ap ending_of (some_is ends.NoOrder end h) ∙ e
-blocked_is HasNoTape full end ending h e = ap ending_of (some_is ends.NoTape end h) ∙ e
-blocked_is Went full end ending h e = absurd (cc)
-blocked_is (Printed code) full end ending h e = absurd (cc)
-blocked_is Stops full end ending h e = absurd (cc)
+blocked_is turn full end ending h e = search rules
 
 -- the next order doesn't end a run at a stop: a stop is one that was obeyed
 pub not_stopped_by : (turn : Turn) (full : Bool) → end_by turn full ≡ Some Stopped → ⊥
-not_stopped_by (IsNoOrder function) full h = cc
-not_stopped_by HasNoTape full h = cc
-not_stopped_by Went full h = cc
-not_stopped_by (Printed code) true h = cc
-not_stopped_by (Printed code) false h = cc
-not_stopped_by Stops full h = cc
+not_stopped_by turn full h = search rules
 
 stop_is : (t : Turn) → is_stop t ≡ true → t ≡ Stops
-stop_is Stops h = refl
-stop_is Went h = cc
-stop_is (Printed code) h = cc
-stop_is (IsNoOrder function) h = cc
-stop_is HasNoTape h = cc
+stop_is t h = search rules
 
 -- the resumes of an ending that is not a stop
 all_resumes : (ending : Ending) (stops : ℕ) → (ending ≡ Stopped → ⊥) → resumes_to ending stops ≡ stops
-all_resumes Stopped stops other = absurd (other refl)
-all_resumes Limit stops other = refl
-all_resumes NoOrder stops other = refl
-all_resumes NoTape stops other = refl
-all_resumes PaperFull stops other = refl
+all_resumes ending stops other = search rules
 
 -- of a session that has obeyed n orders
 module _ (limit room n : ℕ) (s : State) (free : AreObeyed n s) (most : n ≤ limit) (aim : MoveTarget) where
@@ -156,15 +80,15 @@ module _ (limit room n : ℕ) (s : State) (free : AreObeyed n s) (most : n ≤ l
         → ending_of end ≡ Some ending
         → EndsAfter limit (resumes_to ending (progress (n + orders) s).stops) room s (n + orders) ending
     by_tests true own same end stop_is_it own_is same_is h e =
-        let is : Stopped ≡ ending = some_is Stopped ending (ap ending_of (some_is ends.Stopped end h) ∙ e) in
+        let is : Stopped ≡ ending = same_Some Stopped ending (ap ending_of (same_Some ends.Stopped end h) ∙ e) in
         subst (λ (d : Ending). EndsAfter limit (resumes_to d (progress (n + orders) s).stops) room s (n + orders) d) is
         (by_stop orders refl stop_is_it)
     by_tests false (Some mine) same end stop_is_it own_is same_is h e =
         let none : ending_of end ≡ None =
-        ap ending_of (sym (some_is mine end h)) ∙ own_is_none aim orders at mine own_is in
-        absurd (none_is ending (sym none ∙ e))
+        ap ending_of (sym (same_Some mine end h)) ∙ own_is_none aim orders at mine own_is in
+        absurd (none-some ending (sym none ∙ e))
     by_tests false None true end stop_is_it own_is same_is h e =
-        let is : Limit ≡ ending = some_is Limit ending (ap ending_of (some_is ends.Limit end h) ∙ e) in
+        let is : Limit ≡ ending = same_Some Limit ending (ap ending_of (same_Some ends.Limit end h) ∙ e) in
         let all : orders ≡ left = grind (arith, nat_tests) in
         let whole : n + orders ≡ limit = omega (arith, all, most) in
         subst (λ (d : Ending). EndsAfter limit (resumes_to d (progress (n + orders) s).stops) room s (n + orders) d) is
@@ -191,4 +115,4 @@ module _ (limit room n : ℕ) (s : State) (free : AreObeyed n s) (most : n ≤ l
         ran_is limit _ room (n + orders) s ending
         (by_tests (stopped_after orders at) (own_end aim orders at) (nat_eq orders left) (move_end aim left at)
         refl refl refl
-        (end_there aim left at) is)
+        (move_ends aim left at).now is)

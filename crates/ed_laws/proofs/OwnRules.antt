@@ -1,22 +1,19 @@
 -- A run in which each step does the same by another rule is the same by it.
-use Rattle.ed_laws.proofs.Kit.{◌≡◌, ℕ, zero, suc, ◌+◌, ◌<◌, ◌≤◌, Bool, true, false, [], ◌||◌, ◌⊎◌, List, ◌∷◌, ◌++◌, ap}
-use Rattle.ed_laws.proofs.Kit.{length, if◌then◌else◌, ◌==◌, nat_eq, nat_lt, nat_le, Some, None, Option, unwrap_or, sym}
-use Rattle.ed_laws.proofs.Kit.{refl, ◌∙◌, inl, inr, arith, cases_lt, State, step, Settings, is_some, true≢false, Kind}
-use Rattle.ed_laws.proofs.Kit.{none-some, function_of, byte_of, kind_of_function, A, C, E, F, G, H, I, L, N, O, R, S, T}
-use Rattle.ed_laws.proofs.Kit.{U, V, X, Y, Z, next_word, obey_word, Obeyed, codes_of, state_after, stops_of, Progress}
-use Rattle.ed_laws.proofs.Kit.{progress, Limit, Stopped, Turn, Went, least_below, end_at, end_by, run_orders, run_end}
-use Rattle.ed_laws.proofs.Kit.{ran_ends, first_state, paper_room, run_of, trace_to, letters_in}
-use Rattle.ed_printer.specs.Paper.{paper_from}
-use Rattle.ed_printer.specs.declared.printer.Shift.{Shift}
-use Rattle.ed_printer.specs.declared.printer.Shift.TheVariants.{Letters, Figures}
-use Rattle.ed_machine.specs.Steps.{least}
+use Rattle.ed_laws.proofs.Kit.{none-some, paper_from, Shift, Kind, Limit, Stopped, Turn, Went, Settings, unwrap_or}
+use Rattle.ed_laws.proofs.Kit.{byte_of, Obeyed, [], ap, arith, Bool, false, if◌then◌else◌, inl, inr, length, List}
+use Rattle.ed_laws.proofs.Kit.{nat_eq, nat_le, nat_lt, None, Option, refl, rules, Some, suc, sym, true, true≢false, ℕ}
+use Rattle.ed_laws.proofs.Kit.{◌++◌, ◌+◌, ◌<◌, ◌∙◌, ◌∷◌, ◌≡◌, ◌≤◌, ◌⊎◌, step, State, least, Progress, progress}
+use Rattle.ed_laws.proofs.Kit.{state_after, least_below, end_at, end_by, run_end, run_orders, ran_ends, first_state}
+use Rattle.ed_laws.proofs.Kit.{paper_room, run_of, is_some, ◌==◌, trace_to, zero, cases_lt, stops_of, ◌||◌}
+use Rattle.ed_laws.proofs.Kit.{function_of, kind_of_function, next_word, obey_word, codes_of, letters_in}
+use Rattle.std.specs.List.{list_any}
+use Rattle.ed_orders.specs.declared.kind.Kind.TheVariants.{F, X}
 use Rattle.ed_machine.proofs.LeastNumbers.{least_found, least_none}
-use Rattle.ed_laws.specs.OwnRules.{EachOwnRuleShows, end_with, is_own_order, is_own_letter, run_with}
-use Rattle.ed_laws.specs.OwnRules.{progress_with, run_letters}
+use Rattle.ed_laws.specs.OwnRules.{EachOwnRuleShows, end_with, is_own_order, is_own_letter, run_with, progress_with}
+use Rattle.ed_laws.specs.OwnRules.{run_letters}
 use Rattle.ed_laws.proofs.LetterTests.{letter_says}
 use Rattle.ed_laws.proofs.MoreResumes.{letters_begin}
 use Rattle.ed_laws.proofs.TraceAccounts.{more_letters, next_letter}
-use Rattle.std.specs.List.{list_any}
 
 -- ---- orders that do the same
 
@@ -47,10 +44,7 @@ module _ (r : State → Obeyed) (limit resumes room : ℕ) (s : State)
   -- at a state where a step does the same the run ends as by the order table, or goes on so
   ends_same : (k : ℕ) → r (state_after k s) ≡ step (state_after k s)
       → end_with r limit resumes room k (progress k s) ≡ end_at limit resumes room k (progress k s)
-  ends_same k not =
-      ap (λ (o : Obeyed). if nat_lt resumes (progress k s).stops then Some Stopped
-      else if nat_eq k limit then Some Limit
-      else end_by o.turn (nat_le room (length (progress k s).codes))) not
+  ends_same k not = search rules
 
   none_before : (j : ℕ) → j < run_orders limit resumes room s
       → end_with r limit resumes room j (progress_with r j s) ≡ None
@@ -121,22 +115,7 @@ runs_same r limit resumes room s never =
 
 shifts_same : (before after : Shift) (code : ℕ) (codes : List ℕ) → (code ≡ 11) ⊎ (code ≡ 15)
     → paper_from before (code ∷ codes) ≡ paper_from after (code ∷ codes)
-shifts_same before after code codes (inl is) =
-    ap (λ c. paper_from before (c ∷ codes)) is ∙ figures before after ∙ sym (ap (λ c. paper_from after (c ∷ codes)) is)
-  where
-    figures : (a b : Shift) → paper_from a (11 ∷ codes) ≡ paper_from b (11 ∷ codes)
-    figures Letters Letters = refl
-    figures Letters Figures = refl
-    figures Figures Letters = refl
-    figures Figures Figures = refl
-shifts_same before after code codes (inr is) =
-    ap (λ c. paper_from before (c ∷ codes)) is ∙ plain before after ∙ sym (ap (λ c. paper_from after (c ∷ codes)) is)
-  where
-    plain : (a b : Shift) → paper_from a (15 ∷ codes) ≡ paper_from b (15 ∷ codes)
-    plain Letters Letters = refl
-    plain Letters Figures = refl
-    plain Figures Letters = refl
-    plain Figures Figures = refl
+shifts_same before after code codes h = search rules
 
 -- ---- F and X, by the letters of a trace
 
@@ -164,11 +143,7 @@ any_parts (x ∷ xs) ys h = by_test (x == 70 || x == 88) (any_parts xs ys) h
     by_test false on e = on e
 
 none_in_one : (byte : ℕ) → has_own_letter (byte ∷ []) ≡ false → (byte == 70 || byte == 88) ≡ false
-none_in_one byte = by_test (byte == 70 || byte == 88)
-  where
-    by_test : (b : Bool) → (b || false) ≡ false → b ≡ false
-    by_test true h = absurd (true≢false h)
-    by_test false h = refl
+none_in_one byte = search rules
 
 -- none of the orders of a trace without such a letter is F or X
 never_own : (k : ℕ) (s : State) → has_own_letter (letters_in (trace_to k s)) ≡ false → (j : ℕ) → j < k
@@ -183,30 +158,13 @@ never_own k s none j less =
 
 -- an order F or X ends no run
 own_goes : (k : Option Kind) (w : ℕ) (s : State) → is_own_kind k ≡ true → (obey_word k w s).turn ≡ Went
-own_goes (Some F) w s h = refl
-own_goes (Some X) w s h = refl
-own_goes None w s h = absurd (true≢false (sym h))
-own_goes (Some A) w s h = absurd (true≢false (sym h))
-own_goes (Some S) w s h = absurd (true≢false (sym h))
-own_goes (Some H) w s h = absurd (true≢false (sym h))
-own_goes (Some V) w s h = absurd (true≢false (sym h))
-own_goes (Some N) w s h = absurd (true≢false (sym h))
-own_goes (Some T) w s h = absurd (true≢false (sym h))
-own_goes (Some U) w s h = absurd (true≢false (sym h))
-own_goes (Some C) w s h = absurd (true≢false (sym h))
-own_goes (Some R) w s h = absurd (true≢false (sym h))
-own_goes (Some L) w s h = absurd (true≢false (sym h))
-own_goes (Some E) w s h = absurd (true≢false (sym h))
-own_goes (Some G) w s h = absurd (true≢false (sym h))
-own_goes (Some I) w s h = absurd (true≢false (sym h))
-own_goes (Some O) w s h = absurd (true≢false (sym h))
-own_goes (Some Y) w s h = absurd (true≢false (sym h))
-own_goes (Some Z) w s h = absurd (true≢false (sym h))
+own_goes k w s h = search rules
 
 own_turn : (s : State) → is_own_order s ≡ true → (step s).turn ≡ Went
 unfolding step
 own_turn s own =
-    own_goes (kind_of_function (function_of (next_word s))) (next_word s) s (own_letter (function_of (next_word s)) ∙ own)
+    own_goes (kind_of_function (function_of (next_word s))) (next_word s) s
+    (own_letter (function_of (next_word s)) ∙ own)
 
 no_end : (other : State → Obeyed) → ((t : State) → is_own_order t ≡ false → other t ≡ step t) → (s : State)
     → IsNoEnd other s

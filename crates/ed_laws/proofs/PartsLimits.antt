@@ -1,16 +1,14 @@
 -- `parts` with a greater limit: the same, if it ended before its limit, else it goes on.
-use Rattle.ed_laws.proofs.Kit.{◌≡◌, ℕ, zero, suc, ◌-◌, ◌<◌, ◌≤◌, Bool, true, false, [], ◌≢◌, ◌⊎◌, List, ◌++◌, length}
-use Rattle.ed_laws.proofs.Kit.{if◌then◌else◌, nat_eq, ap, nat_lt, Some, None, sym, refl, ◌∙◌, inl, inr, append_assoc}
-use Rattle.ed_laws.proofs.Kit.{append-nil, arith, cases_lt, Text, eq_false, State, step, Settings, Outcome, nat_tests}
-use Rattle.ed_laws.proofs.Kit.{none-some, same_Some, state_after, progress, Ending, Limit, NoOrder, NoTape, PaperFull}
-use Rattle.ed_laws.proofs.Kit.{Stopped, end_by, TapeEntry, IsDirective, first_state, StartsWith, first_part, LeadsTo}
-use Rattle.ed_interlude.specs.Parts.{ComesHome, Finishes, GoesBack, PartsReport, ReportsParts, RunsOn, TapePart, cut}
-use Rattle.ed_interlude.specs.Parts.{entry_done, entry_report, faulty, finished, notation_of, part_after, part_report}
-use Rattle.ed_interlude.specs.Parts.{part_entry_state, program_end, return_report}
+use Rattle.ed_laws.proofs.Kit.{Ending, Limit, NoOrder, NoTape, PaperFull, Stopped, Settings, first_directive}
+use Rattle.ed_laws.proofs.Kit.{IsDirective, StartsWith, with_limit, [], ap, append-nil, append_assoc, arith, inl, inr}
+use Rattle.ed_laws.proofs.Kit.{length, List, None, refl, rules, Some, suc, sym, ℕ, ◌++◌, ◌-◌, ◌<◌, ◌∙◌, ◌≡◌, ◌≢◌, ◌≤◌}
+use Rattle.ed_laws.proofs.Kit.{◌⊎◌, Text, State, state_after, TapeEntry, first_state, Outcome, return_report, zero}
+use Rattle.ed_laws.proofs.Kit.{cases_lt, cut, entry_report, faulty, finished, first_part, LeadsTo, PartsReport}
+use Rattle.ed_laws.proofs.Kit.{ReportsParts, TapePart, end_status, IsInParts, report_outcome}
+use Rattle.ed_interlude.specs.Parts.{ReturnsToLoader, Finishes, GoesBack, RunsOn, entry_done, notation_of, part_after}
+use Rattle.ed_interlude.specs.Parts.{part_report, part_entry_state, program_end}
 use Rattle.ed_interlude.specs.declared.tape.PartsEnd.TheVariants.{Ended}
 use Rattle.ed_interlude.proofs.Tales.{behind_opens, each_told_once, from_entry, some_told}
-use Rattle.ed_answers.specs.Limits.{with_limit}
-use Rattle.ed_top.specs.Parts.{end_status, report_outcome, IsInParts}
 use Rattle.ed_laws.specs.MoreResumes.{PartsKeepLimits}
 
 -- ---- a program that may obey more orders
@@ -18,61 +16,26 @@ use Rattle.ed_laws.specs.MoreResumes.{PartsKeepLimits}
 module _ (low high : ℕ) (s : State) (fits : low ≤ high) where
   -- at its limit it has ended
   not_at : (j : ℕ) → program_end low j s ≡ None → j ≢ low
-  not_at j = by_tests (nat_lt 0 (progress j s).stops) (nat_eq j low) refl
-    where
-      by_tests : (b c : Bool) → nat_eq j low ≡ c
-          → (if b then Some Stopped else if c then Some Limit else end_by (step (state_after j s)).turn false) ≡ None
-          → j ≢ low
-      by_tests true c is h = absurd (none-some Stopped (sym h))
-      by_tests false true is h = absurd (none-some Limit (sym h))
-      by_tests false false is h = λ e. grind (arith, nat_tests)
+  not_at j = search rules
 
   within : (k : ℕ) → RunsOn low k s → k ≤ low
   within k runs = elim (cases_lt low k) [ inl less ↦ absurd (not_at low (runs low less).no_end refl) | inr few ↦ few ]
 
   none_yet : (j : ℕ) → j < low → program_end low j s ≡ None → program_end high j s ≡ None
-  none_yet j less = by_tests (nat_lt 0 (progress j s).stops) (nat_eq j low) refl
-    where
-      by_tests : (b c : Bool) → nat_eq j low ≡ c
-          → (if b then Some Stopped else if c then Some Limit else end_by (step (state_after j s)).turn false) ≡ None
-          → (if b then Some Stopped else if nat_eq j high then Some Limit
-          else end_by (step (state_after j s)).turn false) ≡ None
-      by_tests true c is h = h
-      by_tests false true is h = absurd (none-some Limit (sym h))
-      by_tests false false is h =
-          let other : nat_eq j high ≡ false = eq_false j high (omega (arith, less, fits)) in rw other h
+  none_yet j less = search rules
 
   runs_too : (k : ℕ) → RunsOn low k s → RunsOn high k s
-  runs_too k runs j less = record {
-    no_end = none_yet j (omega (arith, less, within k runs)) (runs j less).no_end;
-    away = (runs j less).away;
-  }
+  runs_too k runs j less = search (rules, less, none_yet, within)
 
-  home_too : (k : ℕ) → ComesHome low k s → ComesHome high k s
+  home_too : (k : ℕ) → ReturnsToLoader low k s → ReturnsToLoader high k s
   home_too k c = record { runs = runs_too k c.runs; stops = c.stops; home = c.home }
 
   ends_too : (k : ℕ) (ending : Ending) → k ≤ low → ending ≢ Limit → program_end low k s ≡ Some ending
       → program_end high k s ≡ Some ending
-  ends_too k ending few other = by_tests (nat_lt 0 (progress k s).stops) (nat_eq k low) refl
-    where
-      by_tests : (b c : Bool) → nat_eq k low ≡ c
-          → (if b then Some Stopped else if c then Some Limit else end_by (step (state_after k s)).turn false)
-          ≡ Some ending
-          → (if b then Some Stopped else if nat_eq k high then Some Limit
-          else end_by (step (state_after k s)).turn false) ≡ Some ending
-      by_tests true c is h = h
-      by_tests false true is h = absurd (other (sym (same_Some Limit ending h)))
-      by_tests false false is h =
-          let less : k < low = grind (arith, nat_tests) in
-          let no_limit : nat_eq k high ≡ false = eq_false k high (omega (arith, less, fits)) in
-          rw no_limit h
+  ends_too k ending few other = search rules
 
   finishes_too : (k : ℕ) (ending : Ending) → ending ≢ Limit → Finishes low k s ending → Finishes high k s ending
-  finishes_too k ending other f = record {
-    runs = runs_too k f.runs;
-    ends = ends_too k ending (within k f.runs) other f.ends;
-    stopped = f.stopped;
-  }
+  finishes_too k ending other f = search (rules, runs_too, ends_too, within)
 
 -- ---- the report with a greater limit
 
@@ -112,7 +75,7 @@ module _ (low high rows : ℕ) (fits : low ≤ high) where
   from_limit p t e leads in_time text cut_off = by_program (from_entry high rows p e leads in_time)
     where
       by_program : ((k : ℕ) × (ending : Ending) × Finishes (high - entry_done p e) k (part_entry_state p e) ending)
-          ⊎ ((k : ℕ) × ComesHome (high - entry_done p e) k (part_entry_state p e))
+          ⊎ ((k : ℕ) × ReturnsToLoader (high - entry_done p e) k (part_entry_state p e))
           → Longer high rows p t
       by_program (inl f) = record {
         returns = 0;
@@ -223,9 +186,6 @@ module _ (low high rows : ℕ) (fits : low ≤ high) where
 
 -- ---- the answers
 
-opens_first : IsDirective 20568
-opens_first = omega arith
-
 module _ (codes : List ℕ) (s : Settings) (more : ℕ) (o other : Outcome) (fits : s.limit ≤ more)
     (a : IsInParts s codes o) (b : IsInParts (with_limit more s) codes other) where
   abbrev first : State
@@ -233,7 +193,8 @@ module _ (codes : List ℕ) (s : Settings) (more : ℕ) (o other : Outcome) (fit
 
   from_a : Longer more (length first.tape) (first_part first) a.told
   from_a =
-      longer s.limit more (length first.tape) fits a.tells.returns (first_part first) a.told opens_first a.tells.told
+      longer s.limit more (length first.tape) fits a.tells.returns (first_part first) a.told
+      first_directive a.tells.told
 
   -- the report with the greater limit
   is_b : b.told ≡ from_a.report
@@ -242,17 +203,10 @@ module _ (codes : List ℕ) (s : Settings) (more : ℕ) (o other : Outcome) (fit
       (record { returns = from_a.returns; told = from_a.told })
 
   same : o.status ≢ 4 → other ≡ o
-  same not =
-      let unlike : end_status a.told.end ≢ 4 = λ h. not (ap (λ (x : Outcome). x.status) (sym a.outcome) ∙ h) in
-      sym b.outcome ∙ ap report_outcome (is_b ∙ from_a.keeps.same unlike) ∙ a.outcome
+  same not = search (rules, end_status, report_outcome, is_b, from_a)
 
   begins : StartsWith other.out o.out
-  begins =
-      let start = from_a.keeps.begins in (
-        start.0,
-        ap (λ (x : Outcome). x.out) (sym b.outcome) ∙ of_text s.limit more (length first.tape) fits is_b ∙ start.1
-            ∙ ap (λ (x : Outcome). x.out ++ start.0) a.outcome,
-      )
+  begins = search (rules, from_a, of_text, is_b)
 
 pub parts_keep_limits : (codes : List ℕ) → PartsKeepLimits codes
 parts_keep_limits codes = record { same = same codes; begins = begins codes }

@@ -1,42 +1,36 @@
 -- With `tape`, a tape in parts is the run that ends as the parts do and prints what their programs print.
-use Rattle.ed_sources.proofs.Kit.{take}
-use Rattle.ed_laws.proofs.Kit.{◌≡◌, ℕ, zero, suc, ◌+◌, ◌-◌, ◌<◌, ◌≤◌, Bool, true, false, [], ◌⊎◌, List, ◌++◌, length}
-use Rattle.ed_laws.proofs.Kit.{if◌then◌else◌, nat_eq, ap, nat_lt, nat_le, Some, None, sym, refl, ◌∙◌, subst, inl, inr}
-use Rattle.ed_laws.proofs.Kit.{append-nil, arith, length-append, cases_lt, paper, State, step, Settings, nat_tests}
-use Rattle.ed_laws.proofs.Kit.{le_false, codes_of, state_after, Progress, progress, Ending, Limit, PaperFull, Stopped}
-use Rattle.ed_laws.proofs.Kit.{Turn, Printed, Went, least_below, few_codes, past_sum, end_at, end_by, run_orders}
-use Rattle.ed_laws.proofs.Kit.{EndsAfter, RunEnd, run_end, ends_once, ran_ends, first_state, paper_room, ran_outcome}
+use Rattle.ed_laws.proofs.Kit.{Ending, Limit, PaperFull, Stopped, Turn, Went, few_codes, past_next, past_sum, Settings}
+use Rattle.ed_laws.proofs.Kit.{ran_is, length-append, lt-leb, [], ap, append-nil, arith, Bool, false, if◌then◌else◌}
+use Rattle.ed_laws.proofs.Kit.{inl, inr, length, List, nat_eq, nat_le, nat_lt, None, refl, rules, Some, subst, suc}
+use Rattle.ed_laws.proofs.Kit.{sym, true, ℕ, ◌++◌, ◌+◌, ◌-◌, ◌<◌, ◌∙◌, ◌≡◌, ◌≤◌, ◌⊎◌, nat_tests, paper, step, State}
+use Rattle.ed_laws.proofs.Kit.{Progress, progress, state_after, end_at, end_by, EndsAfter, run_end, RunEnd}
+use Rattle.ed_laws.proofs.Kit.{first_state, paper_room, ran_outcome, first_within, zero, cases_lt, codes_of}
+use Rattle.ed_laws.proofs.Kit.{end_status}
+use Rattle.std.proofs.Common.{take}
 use Rattle.std.proofs.Math.Seq.{take-append_seam}
-use Rattle.ed_words.proofs.Numbers.{le_true}
-use Rattle.ed_machine.specs.declared.turn.Turn.TheVariants.{Stopped as Stops, NoOrder as IsNoOrder, NoTape as HasNoTape}
-use Rattle.ed_machine.proofs.Steps.{past_next}
+use Rattle.std.proofs.lemmas.Bool.{le-leb}
+use Rattle.ed_machine.specs.declared.turn.Turn.TheVariants.{Printed, Stopped as Stops, NoOrder as IsNoOrder}
+use Rattle.ed_machine.specs.declared.turn.Turn.TheVariants.{NoTape as HasNoTape}
 use Rattle.ed_run.specs.Run.{prints}
+use Rattle.ed_run.proofs.Ends.{ends_at_limit}
 use Rattle.ed_interlude.specs.Laws.{EndsAsRun}
 use Rattle.ed_interlude.specs.declared.tape.PartsEnd.{PartsEnd}
 use Rattle.ed_interlude.proofs.Runs.{each_end}
-use Rattle.ed_top.specs.Parts.{end_note, end_status}
-use Rattle.ed_laws.specs.PartsRun.{EachTapeInPartsIsRun, EndsInParts, PartsAreRun, PartsFillPaper, printed_by, run_once}
-use Rattle.ed_laws.proofs.MoveEndings.{ran_is}
+use Rattle.ed_top.specs.Parts.{end_note}
+use Rattle.ed_laws.specs.PartsRun.{EachTapeInPartsIsRun, EndsInParts, PartsAreRun, PartsFillPaper, printed_by}
+use Rattle.ed_laws.specs.PartsRun.{run_once}
 
 -- ---- on a paper that has room
 
 -- what doesn't end a run whose paper is never full doesn't end one whose paper has room
 none_by : (turn : Turn) (full other : Bool) → (prints turn ≡ true → other ≡ false) → end_by turn full ≡ None
     → end_by turn other ≡ None
-none_by Went full other room h = refl
-none_by Stops full other room h = refl
-none_by (Printed code) full other room h = let e = room refl in rw e refl
-none_by (IsNoOrder function) full other room h = absurd (cc)
-none_by HasNoTape full other room h = absurd (cc)
+none_by turn full other room h = search rules
 
 -- and what ends it ends both
 some_by : (turn : Turn) (full other : Bool) (e : Ending) → full ≡ false → end_by turn full ≡ Some e
     → end_by turn other ≡ Some e
-some_by Went full other e not h = absurd (cc)
-some_by Stops full other e not h = absurd (cc)
-some_by (Printed code) full other e not h = let bad : None ≡ Some e = sym (rw not refl) ∙ h in absurd (cc)
-some_by (IsNoOrder function) full other e not h = h
-some_by HasNoTape full other e not h = h
+some_by turn full other e not h = search rules
 
 -- no end comes before k orders whose codes have room
 module _ (limit room : ℕ) (s : State) (k : ℕ)
@@ -60,7 +54,7 @@ module _ (limit room : ℕ) (s : State) (k : ℕ)
           ap (λ n. length (progress n s).codes) (sym whole)
           ∙ ap (λ (x : Progress). length x.codes) (past_sum (j + 1) (k - (j + 1)) s)
           ∙ length-append (progress (j + 1) s).codes later.codes in
-          le_false _ _ (omega (arith, fits, next, all))
+          lt-leb _ _ (omega (arith, fits, next, all))
       by_turn Went is p = absurd (cc)
       by_turn Stops is p = absurd (cc)
       by_turn (IsNoOrder function) is p = absurd (cc)
@@ -91,9 +85,7 @@ module _ (limit room : ℕ) (s : State) (k : ℕ)
       turn = (step (state_after k s)).turn
 
       within : k ≤ limit
-      within = let one = ends_once (ran_ends limit 0 limit s) ends in
-          let few : run_orders limit 0 limit s ≤ limit = least_below _ limit in
-          omega (arith, one.0, few)
+      within = first_within k limit ends.first (ends_at_limit limit 0 limit (progress limit s))
 
       by_tests : (b c : Bool) → nat_eq k limit ≡ c
           → (if b then Some Stopped else if c then Some Limit
@@ -104,7 +96,7 @@ module _ (limit room : ℕ) (s : State) (k : ℕ)
       by_tests false true is h = h
       by_tests false false is h =
           let below : k < limit = let in_it = within in grind (arith, nat_tests) in
-          some_by turn _ _ e (le_false _ _ (omega (arith, few_codes k s))) h
+          some_by turn _ _ e (lt-leb _ _ (omega (arith, few_codes k s))) h
 
       some_there : end_at limit 0 room k (progress k s) ≡ Some e
       some_there = by_tests (nat_lt 0 (progress k s).stops) (nat_eq k limit) refl ends.now
@@ -121,7 +113,7 @@ module _ (limit room : ℕ) (s : State) (k : ℕ)
       })
     where
       no_room : nat_le room (length (progress k s).codes) ≡ true
-      no_room = le_true _ _ (omega (arith, full))
+      no_room = le-leb _ _ (omega (arith, full))
 
       by_tests : (b c : Bool) (turn : Turn) → prints turn ≡ true
           → (if b then Some Stopped else if c then Some Limit

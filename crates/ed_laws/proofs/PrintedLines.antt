@@ -1,21 +1,18 @@
 -- The lines of a post-mortem, and the words that are read back from them.
-use Rattle.ed_laws.proofs.Kit.{◌≡◌, ℕ, zero, suc, ◌+◌, ◌/◌, ◌%◌, ◌^◌, ◌<◌, ◌≤◌, Bool, true, false, [], ◌||◌, ◌≢◌, ◌⊎◌}
-use Rattle.ed_laws.proofs.Kit.{List, ◌∷◌, ◌++◌, map, length, if◌then◌else◌, nat_eq, ap, nat_lt, nat_le, Some, codes}
-use Rattle.ed_laws.proofs.Kit.{unwrap_or, sym, refl, ◌∙◌, subst, inl, inr, append_assoc, arith, length-append, cases_lt}
-use Rattle.ed_laws.proofs.Kit.{and_parts, Text, eq_false, paper, ◌&&◌, slice_index, true≢false, nat_tests}
-use Rattle.std.specs.Prelude.{position, slice_index_or, drop, get_or, flat_map}
-use Rattle.ed_printer.specs.Paper.{figures_printed, letters_printed, paper_from, shift_after, struck_bytes}
-use Rattle.ed_printer.specs.declared.printer.Shift.{Shift}
+use Rattle.ed_laws.proofs.Kit.{slice_index, range_with_len, paper_from, Shift, length-append, unwrap_or, ◌%◌, ◌&&◌}
+use Rattle.ed_laws.proofs.Kit.{◌/◌, and_parts, AreDigits, address_digits, is_even, length_code, number_in}
+use Rattle.ed_laws.proofs.Kit.{printed_codes, word_codes, [], ap, append_assoc, arith, Bool, codes, drop, false}
+use Rattle.ed_laws.proofs.Kit.{get_or, if◌then◌else◌, inl, inr, length, List, map, nat_eq, nat_le, nat_lt, refl, rules}
+use Rattle.ed_laws.proofs.Kit.{Some, subst, suc, sym, true, true≢false, ℕ, ◌++◌, ◌+◌, ◌<◌, ◌^◌, ◌∙◌, ◌∷◌, ◌≡◌, ◌≢◌}
+use Rattle.ed_laws.proofs.Kit.{◌≤◌, ◌⊎◌, nat_tests, Text, paper, slice_index_or, zero, cases_lt, ◌||◌}
+use Rattle.std.proofs.Common.{position, flat_map}
+use Rattle.ed_printer.specs.Paper.{letters_printed, shift_after, struck_bytes}
 use Rattle.ed_printer.specs.declared.printer.Shift.TheVariants.{Letters, Figures}
-use Rattle.ed_notation.specs.Items.{AreDigits}
-use Rattle.ed_notation.specs.Spellings.{digit_at}
-use Rattle.ed_postmortem.specs.Codes.{address_digits, digits_before_units, is_even, length_code, number_in, word_codes}
-use Rattle.ed_postmortem.specs.Codes.{printed_codes}
-use Rattle.ed_routines.specs.Digits.{digits_value}
+use Rattle.ed_printer.proofs.Silent.{eleven_silent, fifteen_silent}
+use Rattle.ed_postmortem.specs.Codes.{digits_before_units}
 use Rattle.ed_answers.specs.Runs.{post_mortem_codes}
 use Rattle.ed_laws.specs.PrintedLines.{EachLineIsOfItsWord, IsSameOnPaper, is_silent, printed_line}
-use Rattle.ed_laws.proofs.ReadBack.{decimal_value, laid, same_parity}
-use Rattle.std.specs.List.{range_with_len}
+use Rattle.ed_laws.proofs.ReadBack.{decimal_value, word_codes-laid}
 
 -- ---- tests of all small numbers
 
@@ -34,23 +31,8 @@ each_below test (suc n) h f less =
 
 -- ---- digits
 
-digit_of : (p n : ℕ) → AreDigits (digit_at p n)
-digit_of p n = by_test (nat_le p n)
-  where
-    by_test : (b : Bool) → AreDigits (if b then (n / p % 10) ∷ [] else [])
-    by_test true = (omega arith, tt)
-    by_test false = tt
-
-digits_both : (ds es : List ℕ) → AreDigits ds → AreDigits es → AreDigits (ds ++ es)
-digits_both [] es a b = b
-digits_both (d ∷ ds) es a b = (a.0, digits_both ds es a.1 b)
-
 all_digits : (n : ℕ) → AreDigits (address_digits n)
-all_digits n =
-    digits_both (digits_before_units n) (n % 10 ∷ [])
-    (digits_both (digit_at 1000 n) (digit_at 100 n ++ digit_at 10 n) (digit_of 1000 n)
-    (digits_both (digit_at 100 n) (digit_at 10 n) (digit_of 100 n) (digit_of 10 n)))
-    (omega arith, tt)
+all_digits n = search rules
 
 -- a byte is the one of a digit
 abbrev is_one : List ℕ → ℕ → Bool
@@ -58,22 +40,12 @@ is_one [] x = false
 is_one (b ∷ []) x = nat_eq b x
 is_one (b ∷ c ∷ bs) x = false
 
-one_is : (bs : List ℕ) (x : ℕ) → is_one bs x ≡ true → bs ≡ x ∷ []
-one_is [] x h = absurd (cc)
-one_is (b ∷ []) x h = let e : b ≡ x = grind (arith, nat_tests) in ap (λ y. y ∷ []) e
-one_is (b ∷ c ∷ bs) x h = absurd (cc)
-
 -- a digit prints itself in figure shift
 digit_struck : (d : ℕ) → d < 10 → struck_bytes Figures d ≡ (48 + d) ∷ []
-digit_struck d less =
-    one_is (struck_bytes Figures d) (48 + d)
-    (each_below (λ f. is_one (slice_index_or figures_printed f []) (48 + f)) 10 refl d less)
+digit_struck d less = search rules
 
 digit_stays : (d : ℕ) → d < 10 → shift_after Figures d ≡ Figures
-digit_stays d less =
-    let a : nat_eq d 11 ≡ false = eq_false d 11 (omega arith) in
-    let b : nat_eq d 15 ≡ false = eq_false d 15 (omega arith) in
-    rw (a, b) refl
+digit_stays d less = search rules
 
 digits_struck : (ds rest : List ℕ) → AreDigits ds
     → paper_from Figures (ds ++ rest) ≡ map (λ d. 48 + d) ds ++ paper_from Figures rest
@@ -83,15 +55,6 @@ digits_struck (d ∷ ds) rest are =
     ∙ ap (λ (t : Text). (48 + d) ∷ t) (digits_struck ds rest are.1)
 
 -- ---- a line
-
--- shifts print nothing
-no_letter_shift : (shift : Shift) → struck_bytes shift 15 ≡ []
-no_letter_shift Letters = refl
-no_letter_shift Figures = refl
-
-no_figure_shift : (shift : Shift) → struck_bytes shift 11 ≡ []
-no_figure_shift Letters = refl
-no_figure_shift Figures = refl
 
 length_struck : (even : Bool) (rest : List ℕ)
     → paper_from Letters (length_code even ∷ 18 ∷ 24 ∷ rest)
@@ -110,24 +73,18 @@ line_struck shift word rest =
     let f = word / 4096 in
     let digits = address_digits (number_in word) in
     let tail = 15 ∷ length_code (is_even word) ∷ 18 ∷ 24 ∷ rest in
-    ap (paper_from shift) (laid word rest)
+    ap (paper_from shift) (word_codes-laid word rest)
     ∙ ap (λ (t : Text). t ++ (struck_bytes Letters f ++ paper_from (shift_after Letters f) (11 ∷ (digits ++ tail))))
-    (no_letter_shift shift)
+    (fifteen_silent shift)
     ∙ ap (λ (t : Text). struck_bytes Letters f ++ (t ++ paper_from Figures (digits ++ tail)))
-    (no_figure_shift (shift_after Letters f))
+    (eleven_silent (shift_after Letters f))
     ∙ ap (λ (t : Text). struck_bytes Letters f ++ t)
     (digits_struck digits tail (all_digits (number_in word))
     ∙ ap (λ (t : Text). map (λ d. 48 + d) digits ++ t) (length_struck (is_even word) rest))
 
 -- it is the line of the definition
 line_is : (word : ℕ) (rest : Text) → line_on word rest ≡ printed_line word ++ rest
-line_is word rest =
-    let f = struck_bytes Letters (word / 4096) in
-    let end = if is_even word then codes "F" else codes "D" in
-    let n = map (λ d. 48 + d) (address_digits (number_in word)) in
-    sym (append_assoc (f ++ n ++ end) (13 ∷ 10 ∷ []) rest
-    ∙ append_assoc (f ++ n) end (13 ∷ 10 ∷ rest)
-    ∙ append_assoc f n (end ++ (13 ∷ 10 ∷ rest)))
+line_is word rest = search (rules, append_assoc)
 
 -- the lines of words one after the other
 unfoldable printed_lines : List ℕ → ℕ → ℕ → Text
@@ -153,32 +110,19 @@ lines_struck words first (suc count) shift =
 
 -- after other codes
 after_others : (before : List ℕ) (shift : Shift)
-    → (left : Shift) × ((codes : List ℕ) → paper_from shift (before ++ codes) ≡ paper_from shift before ++ paper_from left codes)
+    → (left : Shift)
+    × ((codes : List ℕ) → paper_from shift (before ++ codes) ≡ paper_from shift before ++ paper_from left codes)
 after_others [] shift = (shift, λ codes. refl)
 after_others (c ∷ before) shift =
     let more = after_others before (shift_after shift c) in (
       more.0,
       λ codes.
           ap (λ (t : Text). struck_bytes shift c ++ t) (more.1 codes)
-          ∙ sym (append_assoc (struck_bytes shift c) (paper_from (shift_after shift c) before) (paper_from more.0 codes)),
+          ∙ sym (append_assoc (struck_bytes shift c) (paper_from (shift_after shift c) before)
+          (paper_from more.0 codes)),
     )
 
 -- ---- a line is read back
-
--- the digits before something that is no digit
-digits_back : (ds es : List ℕ) (x y : ℕ) (r q : Text) → AreDigits ds → AreDigits es → 58 ≤ x → 58 ≤ y
-    → map (λ d. 48 + d) ds ++ x ∷ r ≡ map (λ d. 48 + d) es ++ y ∷ q
-    → (ds ≡ es) × (x ≡ y) × (r ≡ q)
-digits_back [] [] x y r q a b l m h = (refl, ap (λ (t : Text). get_or t 0 0) h, ap (λ (t : Text). drop 1 t) h)
-digits_back [] (e ∷ es) x y r q a b l m h =
-    let same : x ≡ 48 + e = ap (λ (t : Text). get_or t 0 0) h in absurd (omega (arith, same, l, b.0))
-digits_back (d ∷ ds) [] x y r q a b l m h =
-    let same : 48 + d ≡ y = ap (λ (t : Text). get_or t 0 0) h in absurd (omega (arith, same, m, a.0))
-digits_back (d ∷ ds) (e ∷ es) x y r q a b l m h =
-    let same : 48 + d ≡ 48 + e = ap (λ (t : Text). get_or t 0 0) h in
-    let one : d ≡ e = omega (arith, same) in
-    let more = digits_back ds es x y r q a.1 b.1 l m (ap (λ (t : Text). drop 1 t) h) in
-    (λ i. one i ∷ more.0 i, more.1, more.2)
 
 -- F or D, as a byte
 abbrev length_byte : Bool → ℕ
@@ -190,40 +134,12 @@ rest_of word rest = map (λ d. 48 + d) (address_digits (number_in word))
     ++ length_byte (is_even word) ∷ 13 ∷ 10 ∷ rest
 
 laid_out : (word : ℕ) (rest : Text) → line_on word rest ≡ struck_bytes Letters (word / 4096) ++ rest_of word rest
-laid_out word rest = by_test (is_even word)
-  where
-    front : Text
-    front = struck_bytes Letters (word / 4096)
-
-    by_test : (b : Bool)
-        → front ++ (map (λ d. 48 + d) (address_digits (number_in word))
-        ++ ((if b then codes "F" else codes "D") ++ (13 ∷ 10 ∷ rest)))
-        ≡ front ++ (map (λ d. 48 + d) (address_digits (number_in word)) ++ length_byte b ∷ 13 ∷ 10 ∷ rest)
-    by_test true = refl
-    by_test false = refl
-
-byte_above : (b : Bool) → 58 ≤ length_byte b
-byte_above true = omega arith
-byte_above false = omega arith
-
-same_byte : (a b : Bool) → length_byte a ≡ length_byte b → length_code a ≡ length_code b
-same_byte true true h = refl
-same_byte false false h = refl
-same_byte true false h = absurd (omega (arith, h))
-same_byte false true h = absurd (omega (arith, h))
+laid_out word rest = search rules
 
 -- the number and the length of a word
 rest_back : (v w : ℕ) (more others : Text) → rest_of v more ≡ rest_of w others
     → (v % 4096 ≡ w % 4096) × (more ≡ others)
-rest_back v w more others h =
-    let back = digits_back (address_digits (number_in v)) (address_digits (number_in w)) (length_byte (is_even v))
-    (length_byte (is_even w)) (13 ∷ 10 ∷ more) (13 ∷ 10 ∷ others) (all_digits (number_in v)) (all_digits (number_in w))
-    (byte_above (is_even v)) (byte_above (is_even w)) h in
-    let numbers : number_in v ≡ number_in w =
-    sym (decimal_value (number_in v) (omega arith)) ∙ ap digits_value back.0
-    ∙ decimal_value (number_in w) (omega arith) in
-    let parity = same_parity v w (same_byte (is_even v) (is_even w) back.1) in
-    (omega (arith, numbers, parity), ap (λ (t : Text). drop 2 t) back.2)
+rest_back v w more others h = search rules
 
 is_equal : (a b : ℕ) → nat_eq a b ≡ true → a ≡ b
 is_equal a b h = grind (arith, nat_tests)
@@ -247,7 +163,8 @@ is_no_digit : (byte : ℕ) → no_digit byte ≡ true → (byte < 48) ⊎ (58 �
 is_no_digit byte h = grind (arith, nat_tests)
 
 -- what begins with a digit doesn't begin with such a byte
-begins_with_digit : (word : ℕ) (rest : Text) → (d : ℕ) × (more : Text) × (d < 10) × (rest_of word rest ≡ (48 + d) ∷ more)
+begins_with_digit : (word : ℕ) (rest : Text)
+    → (d : ℕ) × (more : Text) × (d < 10) × (rest_of word rest ≡ (48 + d) ∷ more)
 begins_with_digit word rest = from (address_digits (number_in word)) (all_digits (number_in word)) some
   where
     some : address_digits (number_in word) ≢ []

@@ -1,38 +1,34 @@
 -- The text that `punch` writes is short enough to be read.
-use Rattle.ed_sources.proofs.Kit.{lit≤, list_all, length-map, locations, Item, Statement, Definition, symbols_of}
-use Rattle.ed_laws.proofs.Kit.{◌≡◌, ℕ, zero, suc, ◌+◌, ◌-◌, ◌*◌, ◌/◌, ◌%◌, ◌^◌, ◌<◌, ◌≤◌, Bool, true, false, [], ◌||◌}
-use Rattle.ed_laws.proofs.Kit.{◌⊎◌, List, ◌∷◌, ◌++◌, map, length, nat_eq, ap, nat_lt, nat_le, Some, None, Option, sym}
-use Rattle.ed_laws.proofs.Kit.{refl, ◌∙◌, inl, inr, append_assoc, arith, length-append, cases_lt, and_parts, Text, Size}
-use Rattle.ed_laws.proofs.Kit.{lt_false, Line, ◌&&◌, true≢false, nat_tests, IsAcceptedAs, punch_outcome}
-use Rattle.ed_words.proofs.SizeLemmas.{most}
+use Rattle.ed_laws.proofs.Kit.{Size, Item, length-append, ◌%◌, ◌&&◌, ◌*◌, ◌/◌, and_parts, le-ltb, rows_of, Line}
+use Rattle.ed_laws.proofs.Kit.{on_line, [], ap, append_assoc, arith, Bool, false, inl, inr, length, List, map, nat_eq}
+use Rattle.ed_laws.proofs.Kit.{nat_le, nat_lt, None, Option, refl, rules, Some, suc, sym, true, true≢false, ℕ, ◌++◌}
+use Rattle.ed_laws.proofs.Kit.{◌+◌, ◌-◌, ◌<◌, ◌^◌, ◌∙◌, ◌∷◌, ◌≡◌, ◌≤◌, ◌⊎◌, nat_tests, Text, IsAcceptedAs}
+use Rattle.ed_laws.proofs.Kit.{punch_outcome, zero, cases_lt, ◌||◌}
+use Rattle.ed_link.proofs.Kit.{lit≤, list_all, length-map, locations, locations_most, canonical, canonicals, line_from, entry}
+use Rattle.ed_link.proofs.Kit.{find, table_item, counter_after, IsLineAfter, after_statement, even_from, first_counter}
+use Rattle.ed_link.proofs.Kit.{routine_places, HasNoFault, data_after, end_place, first_place, long_words}
+use Rattle.ed_link.proofs.Kit.{operand_number, symbols_of, goes_by_theta, items_of, order_item, punched_from}
+use Rattle.ed_link.proofs.Kit.{punched_items, routine_items, use_items, word_item, after_text}
+use Rattle.ed_syntax.proofs.Kit.{row_of, AreRowsOf, empty, enter, fetch, fetch_with, label, labelled, placed, segment}
+use Rattle.ed_syntax.proofs.Kit.{segment_at, SpellsForm, SpellsPlaced, SpellsStatement, statement, version, LinePart}
+use Rattle.ed_syntax.proofs.Kit.{and_more, LinesSay, no_more}
 use Rattle.ed_words.specs.Words.{digit as one_if}
-use Rattle.ed_codes.specs.Spelling.{row_of}
-use Rattle.ed_notation.specs.Items.{rows_of}
-use Rattle.ed_notation.specs.Spellings.{canonical, canonicals, item_rows, line_from, text_of}
-use Rattle.ed_notation.proofs.ItemRows.{item_rows_are}
-use Rattle.ed_library.specs.Entries.{entry}
-use Rattle.ed_library.specs.Routines.{find, table_item}
-use Rattle.ed_syntax.specs.Forms.{AreRowsOf, HasLineParts, SpellsForm, SpellsPlaced, SpellsStatement, nothing, comment}
-use Rattle.ed_syntax.specs.Forms.{blank, one_sign, one_string, one_run, order, bare_order, word, long, text, placed}
-use Rattle.ed_syntax.specs.Forms.{segment, segment_at, fetch, fetch_with, enter, data_rows as data_statement, empty}
-use Rattle.ed_syntax.specs.Forms.{label, statement, labelled, version}
-use Rattle.ed_syntax.specs.Parts.{LinePart}
-use Rattle.ed_syntax.proofs.PlacedLaws.{is_short}
-use Rattle.ed_syntax.specs.Sources.{LinesSay, no_more, and_more}
-use Rattle.ed_syntax.specs.declared.program.Setting.{Setting}
-use Rattle.ed_syntax.specs.declared.program.Statement.TheVariants.{Segment, Order, Number, Text as Letters, Long, Fetch}
-use Rattle.ed_syntax.specs.declared.program.Statement.TheVariants.{Enter, Rows}
+use Rattle.ed_notation.specs.Spellings.{text_of}
+use Rattle.ed_syntax.specs.Forms.{data_rows as data_statement}
 use Rattle.ed_syntax.specs.declared.fault.SourceCause.TheVariants.{Overlap, StoreEnd}
-use Rattle.ed_symbols.specs.declared.location_counter.LocationCounter.{LocationCounter}
-use Rattle.ed_symbols.specs.NameFaults.{StandsAfter, counter_after, counter_from}
-use Rattle.ed_symbols.specs.Places.{after_statement, even_from, first_counter, routine_places}
+use Rattle.ed_syntax.specs.declared.program.Setting.{Setting}
+use Rattle.ed_syntax.specs.declared.program.Statement.{Statement}
+use Rattle.ed_syntax.specs.declared.program.Statement.TheVariants.{Segment, Order, Number, Text as Letters, Long}
+use Rattle.ed_syntax.specs.declared.program.Statement.TheVariants.{Fetch, Enter, Rows}
+use Rattle.ed_syntax.proofs.LineLaws.{few_bytes}
+use Rattle.ed_syntax.proofs.PlacedLaws.{is_short}
 use Rattle.ed_symbols.specs.Places.{segment_at as segment_of_counter}
-use Rattle.ed_link.specs.Faults.{HasNoFault, LineHasWord, on_line}
-use Rattle.ed_link.specs.Linked.{data_after, data_rows, end_place, first_place, long_words, operand_number}
-use Rattle.ed_link.specs.Punch.{goes_by_theta, items_of, order_item, punched_from, punched_items, routine_items}
-use Rattle.ed_link.specs.Punch.{use_items, word_item}
-use Rattle.ed_link.specs.Tapes.{after_text}
-use Rattle.ed_link.proofs.Bounds.{headed_few, long_few, routine_few, rows_few}
+use Rattle.ed_symbols.specs.declared.location_counter.LocationCounter.{LocationCounter}
+use Rattle.ed_symbols.specs.declared.symbols.Definition.{Definition}
+use Rattle.ed_symbols.proofs.NameLaw.{spot_snoc}
+use Rattle.ed_link.specs.Faults.{LineHasWord}
+use Rattle.ed_link.specs.Linked.{data_rows}
+use Rattle.ed_link.proofs.Bounds.{headed_few, long_few, routine_few}
 
 -- ---- the rows of a line
 
@@ -40,26 +36,9 @@ abbrev ShortRows : Option Statement → Type 0
 ShortRows (Some (Rows codes)) = length codes.items ≤ 120
 ShortRows st = Unit {0}
 
-few_bytes : (line : Text) (ps : List LinePart) → HasLineParts line ps → length line ≤ 120 → list_all is_short ps ≡ true
-few_bytes _ _ nothing le = refl
-few_bytes _ _ (comment bytes) le = refl
-few_bytes _ _ (blank b line ps e h) le = few_bytes line ps h (omega arith)
-few_bytes _ _ (one_sign b line ps e h) le = few_bytes line ps h (omega arith)
-few_bytes _ _ (one_string q line ps e h) le =
-    let size = length-append q (34 ∷ line) in
-    let le_q : length q ≤ 120 = omega (arith, size, le) in
-    let here : nat_le (length q) 120 ≡ true = grind (arith, nat_tests) in
-    rw here (few_bytes line ps h (omega (arith, size, le)))
-few_bytes _ _ (one_run b r line ps e g h) le =
-    let size = length-append (b ∷ r) line in few_bytes line ps h (omega (arith, size, le))
-
 placed_short : {two : Bool} {ps : List LinePart} {s : Statement} {fits : Bool} → SpellsPlaced two ps s fits
     → ShortRows (Some s)
-placed_short (order b f e ps o l fits x y z) = tt
-placed_short (bare_order b f e l x y) = tt
-placed_short (word ps z fits x) = tt
-placed_short (long ps z fits x y) = tt
-placed_short (text q rows x) = tt
+placed_short h = search rules
 
 rows_short : (q : Text) (rows : List ℕ) → AreRowsOf q rows → nat_le (length q) 120 ≡ true → length rows ≤ 120
 rows_short q rows are h =
@@ -97,8 +76,10 @@ lines_short (no_more k) = (tt, refl)
 lines_short (and_more k line texts f said says rest) =
     let more = lines_short rest in
     let count : length said ≡ length texts = more.1 in
-    let one : suc (length said) ≡ suc (length texts) = omega (arith, count) in
-    ((form_short says.spells.spells (few_bytes line says.spells.parts says.spells.has_parts says.plain.short), more.0), one)
+    let one : suc (length said) ≡ suc (length texts) = omega (arith, count) in (
+      (form_short says.spells.spells (few_bytes line says.spells.parts says.spells.has_parts says.plain.short), more.0),
+      one,
+    )
 
 -- ---- counting locations
 
@@ -116,10 +97,7 @@ count_most f zero = omega arith
 count_most f (suc n) = omega (arith, count_most f n, one_most (f n))
 
 one_or : (a b : Bool) → (a ≡ true → b ≡ true → ⊥) → one_if (a || b) ≡ one_if a + one_if b
-one_or true true apart = absurd (apart refl refl)
-one_or true false apart = refl
-one_or false true apart = refl
-one_or false false apart = refl
+one_or a b apart = search rules
 
 count_or : (f g : ℕ → Bool) (n : ℕ) → ((p : ℕ) → f p ≡ true → g p ≡ true → ⊥)
     → count (λ p. f p || g p) n ≡ count f n + count g n
@@ -154,7 +132,7 @@ count_past a b zero =
     let same : b + 0 ≡ b = omega arith in ap (count (range a b)) same ∙ count_within a b b (omega arith)
 count_past a b (suc d) =
     let one : b + suc d ≡ suc (b + d) = omega arith in
-    let no : nat_lt (b + d) b ≡ false = lt_false (b + d) b (omega arith) in
+    let no : nat_lt (b + d) b ≡ false = le-ltb (b + d) b (omega arith) in
     ap (count (range a b)) one ∙ by_test (nat_le a (b + d)) no (count_past a b d)
   where
     by_test : (t : Bool) → nat_lt (b + d) b ≡ false → count (range a b) (b + d) ≡ b - a
@@ -174,27 +152,13 @@ words_total s [] = 0
 words_total s (l ∷ lines) =
     end_place l.statement s - first_place l.statement s + words_total (after_statement l.statement s) lines
 
-counter_next : (s : LocationCounter) (done : List Line) (l : Line)
-    → counter_from s (done ++ l ∷ []) ≡ after_statement l.statement (counter_from s done)
-counter_next s [] l = refl
-counter_next s (d ∷ done) l = counter_next (after_statement d.statement s) done l
-
 -- a line of the beginning has a word there
 HasWord : List Line → ℕ → Type 0
-HasWord done p = (earlier : List Line) × (e : Line) × StandsAfter done earlier e × LineHasWord earlier e p
+HasWord done p = (earlier : List Line) × (e : Line) × IsLineAfter done earlier e × LineHasWord earlier e p
 
 has_more : (done : List Line) (l : Line) (p : ℕ) → HasWord done p → HasWord (done ++ l ∷ []) p
 unfolding HasWord
-has_more done l p (earlier, e, stands, has) = (
-  earlier,
-  e,
-  record {
-    after = stands.after ++ l ∷ [];
-    lines_are = ap (λ (ls : List Line). ls ++ l ∷ []) stands.lines_are
-        ∙ append_assoc earlier (e ∷ stands.after) (l ∷ []);
-  },
-  has,
-)
+has_more done l p (earlier, e, stands, has) = search (rules, stands, append_assoc)
 
 module _ (z : Size) (lines : List Line) (none : HasNoFault z lines) where
   total : (rest done : List Line) (f : ℕ → Bool) → lines ≡ done ++ rest
@@ -213,7 +177,7 @@ module _ (z : Size) (lines : List Line) (none : HasNoFault z lines) where
       b : ℕ
       b = end_place l.statement (counter_after done)
 
-      stands : StandsAfter lines done l
+      stands : IsLineAfter lines done l
       stands = record { after = rest; lines_are = is }
 
       next : lines ≡ (done ++ l ∷ []) ++ rest
@@ -221,7 +185,7 @@ module _ (z : Size) (lines : List Line) (none : HasNoFault z lines) where
 
       same : words_total (counter_after (done ++ l ∷ [])) rest
           ≡ words_total (after_statement l.statement (counter_after done)) rest
-      same = ap (λ (t : LocationCounter). words_total t rest) (counter_next first_counter done l)
+      same = ap (λ (t : LocationCounter). words_total t rest) (spot_snoc first_counter done l)
 
       old : (p : ℕ) → f p ≡ true → HasWord (done ++ l ∷ []) p
       old p h = has_more done l p (covers p h)
@@ -245,7 +209,7 @@ module _ (z : Size) (lines : List Line) (none : HasNoFault z lines) where
 
       end_low : a < b → b ≤ 1024
       end_low less = elim (cases_lt (b - 1) (locations z)) [
-        | inl low ↦ omega (arith, low, most z)
+        | inl low ↦ omega (arith, low, locations_most z)
         | inr high ↦
             absurd (none (length done + 1) StoreEnd
             (on_line stands (b - 1, inl (omega (arith, less), omega (arith, less)), high)))
@@ -311,7 +275,8 @@ line_few symbols s (Some (Enter name)) h = omega arith
 line_few symbols s (Some (Rows codes)) h = omega (arith, h)
 
 lines_few : (symbols : List Definition) (s : LocationCounter) (lines : List Line) → AllShort lines
-    → 9 * length (punched_from symbols s lines) + length (data_after lines) ≤ 126 * length lines + 9 * words_total s lines
+    → 9 * length (punched_from symbols s lines) + length (data_after lines)
+    ≤ 126 * length lines + 9 * words_total s lines
 unfolding AllShort words_total
 lines_few symbols s [] h = omega arith
 lines_few symbols s (l ∷ lines) h =
@@ -331,13 +296,7 @@ line_bytes as_digit [] = refl
 line_bytes as_digit (c ∷ rows) = let more = line_bytes true rows in omega (arith, more)
 
 item_bytes : (i : Item) → length (rows_of (canonical i)) ≤ 8
-item_bytes i =
-    omega (
-      arith,
-      rows_few (i ∷ []),
-      length-append (item_rows i) [],
-      ap (λ (rows : List ℕ). length rows) (item_rows_are i),
-    )
+item_bytes i = search rules
 
 items_bytes : (is : List Item) → length (text_of (canonicals is)) ≤ 9 * length is
 items_bytes [] = omega arith

@@ -1,19 +1,17 @@
 -- The commands for tapes answer to the text that `punch` writes as on the source.
-use Rattle.ed_sources.proofs.Kit.{length-replicate}
-use Rattle.ed_laws.proofs.Kit.{◌≡◌, ℕ, List, ap, sym, ◌∙◌, inl, inr, Text, Line, Settings, Outcome, OfSource, tape}
-use Rattle.ed_laws.proofs.Kit.{IsAcceptedAs, punch_outcome}
-use Rattle.std.specs.Prelude.{replicate}
-use Rattle.ed_codes.specs.Reading.{reading}
+use Rattle.ed_laws.proofs.Kit.{Settings, Line, ap, inl, inr, List, replicate, sym, ℕ, ◌∙◌, ◌≡◌, Text, reading, tape}
+use Rattle.ed_laws.proofs.Kit.{Outcome, IsAcceptedAs, OfSource, punch_outcome}
+use Rattle.ed_top.proofs.Kit.{CommandList, on_rows, OnText}
+use Rattle.std.proofs.lemmas.List.{length-replicate}
 use Rattle.ed_link.specs.Tapes.{arrival}
-use Rattle.ed_stepper.specs.ScriptLines.{CommandList}
-use Rattle.ed_stepper.specs.declared.inputs.TextKind.TheVariants as kinds
 use Rattle.ed_answers.proofs.EachSource.{each_source as comes_to, one_answer}
 use Rattle.ed_answers.proofs.PunchedTapes.{each_punched_is_run}
 use Rattle.ed_answers.proofs.PunchedTexts.{text_is_tape}
-use Rattle.ed_top.specs.Scripts.{on_reading, OnText, on_rows}
+use Rattle.ed_top.specs.Scripts.{on_reading}
 use Rattle.ed_laws.specs.PunchedTexts.{EachPunchedTextIsSource}
 use Rattle.ed_laws.proofs.PunchedBytes.{punched_short}
 use Rattle.ed_laws.proofs.TapeEntries.{tapes_run_from_entry}
+use Rattle.ed_stepper.specs.declared.inputs.TextKind.TheVariants as kinds
 
 module _ (s : Settings) (source : Text) (lines : List Line) (accepted : IsAcceptedAs s.size source lines)
     (commands : CommandList) (o : Outcome) where

@@ -1,18 +1,12 @@
 -- A part of a tape that is read at another place.
-use Rattle.ed_laws.proofs.Kit.{◌≡◌, ℕ, zero, suc, ◌+◌, ◌*◌, ◌/◌, ◌%◌, ◌^◌, ◌<◌, ◌≤◌, true, false, [], ◌⊎◌, List, ◌∷◌}
-use Rattle.ed_laws.proofs.Kit.{◌++◌, length, if◌then◌else◌, nat_eq, ap, Some, sym, refl, ◌∙◌, subst, inl, inr, arith}
-use Rattle.ed_laws.proofs.Kit.{eq_false, slice_index, enters_at, fold, letter_action_of, word_with, NotationState}
-use Rattle.ed_laws.proofs.Kit.{items, row_kind, Begun}
-use Rattle.ed_words.proofs.Numbers.{eq_true}
-use Rattle.ed_words.specs.Words.{digit}
-use Rattle.ed_notation.specs.declared.kind.LetterAction.{LetterAction}
-use Rattle.ed_notation.specs.declared.kind.LetterAction.TheVariants.{Places}
-use Rattle.ed_notation.specs.Items.{Written, digits_number, item_of}
-use Rattle.ed_notation.specs.Fold.{act, address, begun_cost, costs, end_cost, with_letter, placed_at}
-use Rattle.ed_notation.specs.Spellings.{digits_of}
-use Rattle.ed_notation.proofs.Canonical.{digits_are}
+use Rattle.ed_laws.proofs.Kit.{slice_index, word_with, ◌%◌, ◌*◌, act, costs, fold, NotationState, Begun, digits_number}
+use Rattle.ed_laws.proofs.Kit.{item_of, items, row_kind, Written, [], ap, arith, false, if◌then◌else◌, inl, inr}
+use Rattle.ed_laws.proofs.Kit.{length, List, map, nat_eq, refl, rules, Some, subst, suc, sym, true, ℕ, ◌++◌, ◌+◌, ◌<◌}
+use Rattle.ed_laws.proofs.Kit.{◌^◌, ◌∙◌, ◌∷◌, ◌≡◌, ◌≤◌, ◌⊎◌, zero, ne_eqb}
+use Rattle.ed_notation.proofs.Kit.{digit, begun_cost, end_cost, digits_of}
+use Rattle.std.proofs.lemmas.Bool.{eq-eqb}
+use Rattle.ed_notation.specs.Fold.{placed_at}
 use Rattle.ed_laws.specs.Relocation.{AreMovable, EachPartMoves, moved, place_items}
-use Rattle.std.specs.Prelude.{map}
 
 -- ---- one item
 
@@ -31,44 +25,13 @@ module _ (v : List ℕ) (b : ℕ) (placed : List (ℕ × ℕ)) (j : ℕ) (low : 
   abbrev n : NotationState
   n = at_place b placed j
 
-  places : letter_action_of n.directive ≡ Places
-  places = let five : (20480 + 2 * (b + j)) / 4096 ≡ 5 = omega (arith, low) in rw five refl
-
-  here : address n.directive ≡ b + j
-  here = omega (arith, low)
-
-  next : n.directive + 2 ≡ 20480 + 2 * (b + (j + 1))
-  next = omega arith
-
-  placed_so : (word : ℕ) → with_letter (letter_action_of n.directive) n word
-      ≡ at_place b ((b + j, word) ∷ placed) (j + 1)
-  placed_so word =
-      ap (λ (a : LetterAction). with_letter a n word) places
-      ∙ (λ i. record { directive = next i; theta = 2 * b; placed = (here i, word) ∷ placed })
-
   one_placed : (begun : Begun) (e : ℕ) → (e ≡ 17) ⊎ ((e ≡ 18) ⊎ (e ≡ 19))
       → act v n (item_of begun e)
       ≡ at_place b ((b + j, word_at b (record { begun = begun; end = e })) ∷ placed) (j + 1)
-  one_placed begun e (inl is) =
-      subst (λ x. act v n (item_of begun x)
-      ≡ at_place b ((b + j, word_at b (record { begun = begun; end = x })) ∷ placed) (j + 1)) (sym is) (placed_so _)
-  one_placed begun e (inr (inl is)) =
-      subst (λ x. act v n (item_of begun x)
-      ≡ at_place b ((b + j, word_at b (record { begun = begun; end = x })) ∷ placed) (j + 1)) (sym is) (placed_so _)
-  one_placed begun e (inr (inr is)) =
-      subst (λ x. act v n (item_of begun x)
-      ≡ at_place b ((b + j, word_at b (record { begun = begun; end = x })) ∷ placed) (j + 1)) (sym is) (placed_so _)
+  one_placed begun e h = search rules
 
   seventeen : (e : ℕ) → (e ≡ 17) ⊎ ((e ≡ 18) ⊎ (e ≡ 19)) → end_cost (row_kind e) n ≡ 17
-  seventeen e movable = by_end movable
-    where
-      plain : ◌≡◌ {A = ℕ} (if enters_at (letter_action_of n.directive) then 13 else 17) 17
-      plain = ap (λ (a : LetterAction). if enters_at a then 13 else 17) places
-
-      by_end : (e ≡ 17) ⊎ ((e ≡ 18) ⊎ (e ≡ 19)) → end_cost (row_kind e) n ≡ 17
-      by_end (inl is) = ap (λ x. end_cost (row_kind x) n) is ∙ plain
-      by_end (inr (inl is)) = ap (λ x. end_cost (row_kind x) n) is ∙ plain
-      by_end (inr (inr is)) = ap (λ x. end_cost (row_kind x) n) is ∙ plain
+  seventeen e movable = search rules
 
 -- ---- many items
 
@@ -87,7 +50,7 @@ module _ (v : List ℕ) (b : ℕ) where
       → placed_at (fold v (at_place b placed j) (items ws)).placed a ≡ placed_at placed a
   kept [] placed j a are fits below = refl
   kept (w ∷ ws) placed j a are fits below =
-      let other : nat_eq (b + j) a ≡ false = eq_false (b + j) a (omega (arith, below)) in
+      let other : nat_eq (b + j) a ≡ false = ne_eqb (b + j) a (omega (arith, below)) in
       ap (λ (x : NotationState). placed_at (fold v x (items ws)).placed a)
       (one_placed v b placed j (omega (arith, fits)) w.begun w.end are.0)
       ∙ kept ws ((b + j, word_at b w) ∷ placed) (j + 1) a are.1 (omega (arith, fits)) (omega (arith, below))
@@ -100,7 +63,7 @@ module _ (v : List ℕ) (b : ℕ) where
   unfolding word_in
   laid [] placed j k are fits less = absurd (omega arith)
   laid (w ∷ ws) placed j zero are fits less =
-      let same : nat_eq (b + j) (b + j + 0) ≡ true = eq_true (b + j) (b + j + 0) (omega arith) in
+      let same : nat_eq (b + j) (b + j + 0) ≡ true = eq-eqb (b + j) (b + j + 0) (omega arith) in
       ap (λ (x : NotationState). placed_at (fold v x (items ws)).placed (b + j + 0))
       (one_placed v b placed j (omega (arith, fits)) w.begun w.end are.0)
       ∙ kept ws ((b + j, word_at b w) ∷ placed) (j + 1) (b + j + 0) are.1 (omega (arith, fits)) (omega arith)
@@ -124,17 +87,9 @@ module _ (v : List ℕ) (b : ℕ) where
 
 -- ---- the place
 
-number_is : (b : ℕ) → b ≤ 1024 → digits_number 0 (digits_of b) ≡ b
-number_is b low = (digits_are b (omega (arith, low))).number_is
-
 module _ (v : List ℕ) (b : ℕ) (low : b ≤ 1024) (n : NotationState) where
   leads : fold v n (items (place_items b)) ≡ at_place b n.placed 0
-  leads =
-      let number = number_is b low in
-      let directive : 4096 * 5 + 2 * digits_number 0 (digits_of b) ≡ 20480 + 2 * (b + 0) = omega (arith, number) in
-      let theta : (4096 * 27 + 2 * 0 + (4096 * 5 + 2 * digits_number 0 (digits_of b))) % 2 ^ 17 ≡ 2 * b =
-      omega (arith, number, low) in
-      λ i. record { directive = directive i; theta = theta i; placed = n.placed }
+  leads = search rules
 
 -- ---- the law
 

@@ -1,24 +1,20 @@
 -- What `step` reports is what `trace`, `tape` and a post-mortem report after the same number of orders.
-use Rattle.ed_laws.proofs.Kit.{◌≡◌, ℕ, zero, suc, ◌+◌, ◌-◌, ◌≤◌, Bool, true, false, not, [], List, ◌∷◌, ◌++◌, map, ◌==◌}
-use Rattle.ed_laws.proofs.Kit.{length, if◌then◌else◌, ap, Some, sym, refl, ◌∙◌, subst, append_assoc, append-nil, arith}
-use Rattle.ed_laws.proofs.Kit.{Text, Size, State, Settings, function_of, byte_of, next_word, state_after, AreObeyed}
-use Rattle.ed_laws.proofs.Kit.{progress, Limit, counted_after, after_sum, few_codes, run_orders, RunEnd, run_end}
-use Rattle.ed_laws.proofs.Kit.{ends_once, ran_ends, first_state, ending_line, paper_room, ran_outcome, run_of, trace_to}
-use Rattle.ed_laws.proofs.Kit.{with_post_mortem, move_orders, letters_in}
-use Rattle.std.specs.List.{range_with_len}
-use Rattle.std.proofs.lemmas.List.Elements.{filter-append}
-use Rattle.ed_machine.proofs.Steps.{free_sum}
-use Rattle.ed_run.specs.Laws.{HasRoom}
+use Rattle.ed_laws.proofs.Kit.{range_with_len, filter-append, Size, Limit, counted_after, few_codes, HasRoom, Settings}
+use Rattle.ed_laws.proofs.Kit.{ran_is, byte_of, [], ap, append-nil, append_assoc, arith, false, length, List, map}
+use Rattle.ed_laws.proofs.Kit.{refl, rules, Some, subst, suc, sym, ℕ, ◌++◌, ◌+◌, ◌-◌, ◌∙◌, ◌∷◌, ◌≡◌, ◌≤◌, Text, State}
+use Rattle.ed_laws.proofs.Kit.{progress, state_after, run_end, run_orders, RunEnd, ran_ends, first_state, ending_line}
+use Rattle.ed_laws.proofs.Kit.{paper_room, ran_outcome, run_of, with_post_mortem, not, ◌==◌, AreObeyed, first_once}
+use Rattle.ed_laws.proofs.Kit.{after_sum, free_sum, functions_after, move_orders, trace_to, move_free, zero}
+use Rattle.ed_laws.proofs.Kit.{function_of, next_word, letters_in}
 use Rattle.ed_run.proofs.Places.{at_limit}
 use Rattle.ed_report.specs.Listings.{listing}
-use Rattle.ed_report.specs.Traces.{functions_after, is_full, last_end, letters_from, line_end, trace_text}
-use Rattle.ed_report.specs.Traces.{traced_letter}
+use Rattle.ed_report.specs.Traces.{last_end, letters_from, trace_text, traced_letter}
 use Rattle.ed_stepper.specs.Sessions.{Stand, left}
 use Rattle.ed_stepper.specs.declared.moves.MoveTarget.TheVariants.{Orders}
+use Rattle.ed_stepper.proofs.Stands.{Keeps, left_keeps}
 use Rattle.ed_top.specs.Scripts.{stand_on}
 use Rattle.ed_laws.specs.Stepped.{EachStepIsRun, StepsAreRun, cut_at, limit_note}
-use Rattle.ed_laws.proofs.MoveEndings.{ran_is, run_ends}
-use Rattle.ed_stepper.proofs.Stands.{Keeps, left_keeps, move_free}
+use Rattle.ed_laws.proofs.MoveEndings.{run_ends}
 
 -- ---- a run that is cut off
 
@@ -28,7 +24,7 @@ run_cut : (k resumes room : ℕ) (s : State) → HasRoom room k s → (progress 
     × (run_end k resumes room s ≡ record { ending = Limit; state = state_after k s; codes = (progress k s).codes })
 run_cut k resumes room s fits few =
     let ends = at_limit k resumes fits few in
-    ((ends_once (ran_ends k resumes room s) ends).0, ran_is k resumes room k s Limit ends)
+    ((first_once (ran_ends k resumes room s) ends).0, ran_is k resumes room k s Limit ends)
 
 -- ---- the letters of a trace
 
@@ -39,15 +35,8 @@ bare fs = letters_in (map (λ f. byte_of f false) fs)
 pub letters_both : (xs ys : Text) → letters_in (xs ++ ys) ≡ letters_in xs ++ letters_in ys
 letters_both = filter-append (λ byte. not (byte == 10))
 
-no_letter : (full : Bool) → letters_in (line_end full) ≡ []
-no_letter true = refl
-no_letter false = refl
-
 one_letter : (n f : ℕ) → letters_in (traced_letter n f) ≡ letters_in (byte_of f false ∷ [])
-one_letter n f =
-    letters_both (byte_of f false ∷ []) (line_end (is_full n))
-    ∙ ap (λ (t : Text). letters_in (byte_of f false ∷ []) ++ t) (no_letter (is_full n))
-    ∙ append-nil (letters_in (byte_of f false ∷ []))
+one_letter n f = search rules
 
 bare_from : (n : ℕ) (fs : List ℕ) → letters_in (letters_from n fs) ≡ bare fs
 bare_from n [] = refl
@@ -57,17 +46,10 @@ bare_from n (f ∷ fs) =
     ∙ sym (letters_both (byte_of f false ∷ []) (map (λ g. byte_of g false) fs))
 
 no_last : (n : ℕ) → letters_in (last_end n) ≡ []
-no_last n = by_test (is_full n)
-  where
-    by_test : (b : Bool) → letters_in (if b then [] else 10 ∷ []) ≡ []
-    by_test true = refl
-    by_test false = refl
+no_last n = search rules
 
 pub bare_trace : (fs : List ℕ) → letters_in (trace_text fs) ≡ bare fs
-bare_trace fs =
-    letters_both (letters_from 0 fs) (last_end (length fs))
-    ∙ (λ i. bare_from 0 fs i ++ no_last (length fs) i)
-    ∙ append-nil (bare fs)
+bare_trace fs = search (rules, letters_both, bare_from, no_last, append-nil)
 
 pub map_both : (xs ys : List ℕ) → map (λ f. byte_of f false) (xs ++ ys)
     ≡ map (λ f. byte_of f false) xs ++ map (λ f. byte_of f false) ys

@@ -1,27 +1,17 @@
 -- A tape that is well formed from a cleared store is loaded as it means, and its run is that from its entry.
-use Rattle.ed_laws.proofs.Kit.{◌≡◌, ℕ, ◌+◌, ◌-◌, ◌*◌, ◌<◌, ◌≤◌, Bool, true, false, [], List, ◌∷◌, if◌then◌else◌, nat_eq}
-use Rattle.ed_laws.proofs.Kit.{ap, nat_lt, nat_le, Some, None, Option, sym, refl, ◌∙◌, inl, arith, Size, ◌&&◌, RunEnd}
-use Rattle.ed_laws.proofs.Kit.{slice_index, true≢false, nat_tests, cleared_cells, run_end, TapeEntry, WellFormed, over}
-use Rattle.ed_laws.proofs.Kit.{letter_action_of, word_with, NotationState, row_kind, opening, IsDirective, Arrived, Kay}
-use Rattle.ed_laws.proofs.Kit.{Faulty, BadRow, NumberTooLarge, RowKind, Digit, Letter, Other, reading_is_rules, LeadsIn}
-use Rattle.ed_laws.proofs.Kit.{first_state, paper_room, ran_outcome, with_post_mortem, first_note, first_part, LeadsTo}
-use Rattle.std.proofs.Common.{set, drop, get_or}
+use Rattle.ed_laws.proofs.Kit.{slice_index, Size, cleared_cells, word_with, BadRow, RowKind, Letter, PartialItem}
+use Rattle.ed_laws.proofs.Kit.{RowEffect, Ended, Entered, Longer, Placed, Refused, RowsReachEntry, WellFormed}
+use Rattle.ed_laws.proofs.Kit.{NotationState, row_kind, IsDirective, Arrived, entry_by, Faulty, part_of, placed_by}
+use Rattle.ed_laws.proofs.Kit.{reading_on, row_effect, set_by, setting_of, Verdict, first_store, starts}
+use Rattle.ed_laws.proofs.Kit.{opening_notation, [], ap, arith, Bool, drop, false, get_or, inl, List, nat_lt, None}
+use Rattle.ed_laws.proofs.Kit.{Option, refl, rules, Some, sym, true, ℕ, ◌+◌, ◌-◌, ◌<◌, ◌∙◌, ◌∷◌, ◌≡◌, ◌≤◌, nat_tests}
+use Rattle.ed_laws.proofs.Kit.{run_end, RunEnd, ran_later, TapeEntry, over, first_state, paper_room, ran_outcome}
+use Rattle.ed_laws.proofs.Kit.{with_post_mortem, opening, reading_is_rules, LeadsIn, first_part, LeadsTo}
+use Rattle.ed_initial.proofs.Kit.{set, value_of, ReachesEntry}
 use Rattle.std.proofs.lemmas.List.{drop-set-lt, drop-set-add, get_or-drop}
-use Rattle.ed_run.proofs.Later.{ran_later}
-use Rattle.ed_notation.specs.declared.kind.RowKind.TheVariants.{Mark, Zed, Blank}
-use Rattle.ed_notation.specs.declared.kind.Control.{Control}
-use Rattle.ed_notation.specs.declared.kind.Control.TheVariants.{Directive, ThetaByBlank, ThetaByG, Neither}
+use Rattle.ed_notation.specs.Reading.{part_word}
 use Rattle.ed_notation.specs.declared.reader.DirectiveState.{DirectiveState}
-use Rattle.ed_notation.specs.declared.reader.PartialItem.{PartialItem}
-use Rattle.ed_notation.specs.declared.reader.RowEffect.{RowEffect}
-use Rattle.ed_notation.specs.declared.reader.RowEffect.TheVariants.{Refused, Longer, Ended, Placed, Entered}
-use Rattle.ed_notation.specs.Fold.{control_of, value_of}
-use Rattle.ed_notation.specs.Faults.{ComesTo, is_place}
-use Rattle.ed_notation.specs.Reading.{Verdict, part_word, reading_on, setting_of, row_effect, kay_sets, zed_sets}
-use Rattle.ed_notation.specs.Reading.{letter_effect, entry_by, part_of, set_by, placed_by}
-use Rattle.ed_initial.specs.Entry.{Comes}
 use Rattle.ed_initial.proofs.Quiet.{comes_in}
-use Rattle.ed_initial.proofs.Starts.{first_store, starts}
 use Rattle.ed_laws.specs.TapeEntries.{EachTapeRunsFromEntry}
 use Rattle.ed_laws.proofs.CutRuns.{tape_cut_off}
 use Rattle.ed_laws.proofs.InParts.{parts_from_entry}
@@ -62,20 +52,7 @@ pub value_agrees : (v w : List ℕ) (theta c : ℕ) → 17 ≤ c → Agree v w �
 value_agrees v w theta c l h = rw (index_agrees v w (24 + c) (omega (arith, l)) h) refl
 
 pub letter_from : (c : ℕ) → row_kind c ≡ Letter → 17 ≤ c
-letter_from c =
-    by_tests (nat_lt c 10) (nat_eq c 11) (nat_eq c 13) (nat_eq c 14) (nat_eq c 16) (nat_le 17 c) (nat_lt c 32) refl
-  where
-    by_tests : (a b d e f g h : Bool) → nat_le 17 c ≡ g
-        → (if a then Digit else if b then Mark else if d then Zed else if e then Kay else if f then Blank
-        else if g && h then Letter else Other) ≡ Letter
-        → 17 ≤ c
-    by_tests true b d e f g h is k = absurd (cc)
-    by_tests false true d e f g h is k = absurd (cc)
-    by_tests false false true e f g h is k = absurd (cc)
-    by_tests false false false true f g h is k = absurd (cc)
-    by_tests false false false false true g h is k = absurd (cc)
-    by_tests false false false false false true h is k = grind (arith, nat_tests)
-    by_tests false false false false false false h is k = absurd (cc)
+letter_from c = search rules
 
 -- an entry comes only at a code letter
 abbrev is_entered : RowEffect → Bool
@@ -85,53 +62,14 @@ is_entered (Longer part k) = false
 is_entered (Ended setting k) = false
 is_entered (Placed at word) = false
 
-neither : (b : Bool) (t u : RowEffect) → is_entered t ≡ false → is_entered u ≡ false
-    → is_entered (if b then t else u) ≡ false
-neither true t u first second = first
-neither false t u first second = second
-
-digit_goes_on : (b : Bool) (part : PartialItem)
-    → is_entered (if b then Refused NumberTooLarge else Longer part 9) ≡ false
-digit_goes_on b part = neither b (Refused NumberTooLarge) (Longer part 9) refl refl
-
-kay_goes_on : (c : Control) (setting : DirectiveState) (part : PartialItem)
-    → is_entered (kay_sets c setting part) ≡ false
-kay_goes_on Directive setting part = neither (nat_lt 1023 part.number) _ _ refl refl
-kay_goes_on Neither setting part = refl
-kay_goes_on ThetaByBlank setting part = neither (nat_lt 1023 part.number) _ _ refl refl
-kay_goes_on ThetaByG setting part = neither (nat_lt 1023 part.number) _ _ refl refl
-
-zed_goes_on : (c : Control) (setting : DirectiveState) (part : PartialItem)
-    → is_entered (zed_sets c setting part) ≡ false
-zed_goes_on Directive setting part =
-    neither (is_place (4096 * part.function + 2 * part.number + setting.theta)) _ _ refl refl
-zed_goes_on ThetaByBlank setting part = neither (nat_le 65536 (2 * part.number + setting.theta)) _ _ refl refl
-zed_goes_on ThetaByG setting part = refl
-zed_goes_on Neither setting part = refl
-
 goes_on : (z : Size) (k : RowKind) (contents : List ℕ) (setting : DirectiveState) (part : PartialItem) (c : ℕ)
     → is_entered (row_effect z k contents setting part c) ≡ true → k ≡ Letter
-goes_on z Letter contents setting part c h = refl
-goes_on z Digit contents setting part c h =
-    absurd (true≢false (sym h ∙ neither part.mark _ _ refl (digit_goes_on (nat_lt 32767 (10 * part.number + c)) _)))
-goes_on z Mark contents setting part c h = absurd (true≢false (sym h ∙ neither part.mark _ _ refl refl))
-goes_on z Zed contents setting part c h =
-    absurd (true≢false (sym h ∙ neither part.mark _ _ refl (zed_goes_on (control_of part.function) setting part)))
-goes_on z Kay contents setting part c h =
-    absurd (true≢false (sym h ∙ neither part.mark _ _ refl (kay_goes_on (control_of part.function) setting part)))
-goes_on z Blank contents setting part c h = absurd (true≢false (sym h ∙ neither part.blank _ _ refl refl))
-goes_on z Other contents setting part c h = absurd (true≢false (sym h))
+goes_on z k contents setting part c h = search rules
 
 taken_agrees : (z : Size) (k : RowKind) (v w : List ℕ) (setting : DirectiveState) (part : PartialItem) (c : ℕ)
     → (k ≡ Letter → part_word v setting part c ≡ part_word w setting part c)
     → row_effect z k v setting part c ≡ row_effect z k w setting part c
-taken_agrees z Letter v w setting part c h = ap (letter_effect z (letter_action_of setting.directive) setting) (h refl)
-taken_agrees z Digit v w setting part c h = refl
-taken_agrees z Mark v w setting part c h = refl
-taken_agrees z Zed v w setting part c h = refl
-taken_agrees z Kay v w setting part c h = refl
-taken_agrees z Blank v w setting part c h = refl
-taken_agrees z Other v w setting part c h = refl
+taken_agrees z k v w setting part c h = search rules
 
 -- the result of the reading at a row inside an item
 abbrev on_row : Size → List ℕ → ℕ → ℕ → NotationState → PartialItem → ℕ → List ℕ → RowEffect → Verdict
@@ -151,15 +89,7 @@ row_agrees : (z : Size) (v w : List ℕ) (row cost : ℕ) (notation : NotationSt
     → part_word (over notation.placed v) (setting_of notation) part c
     ≡ part_word (over notation.placed w) (setting_of notation) part c)
     → on_row z v row cost notation part c rows t ≡ on_row z w row cost notation part c rows t
-row_agrees z v w row cost notation part c rows (Refused cause) ih same = refl
-row_agrees z v w row cost notation part c rows (Longer longer k) ih same =
-    ih (row + 1) (cost + k) notation (Some longer)
-row_agrees z v w row cost notation part c rows (Ended setting k) ih same =
-    ih (row + 1) (cost + k) (set_by setting notation) None
-row_agrees z v w row cost notation part c rows (Placed at word) ih same =
-    ih (row + 1) (cost + 17) (placed_by at word notation) None
-row_agrees z v w row cost notation part c rows (Entered at) ih same =
-    ap (λ word. Arrived (record (entry_by v row cost notation part c rows at) { word = word })) (same refl)
+row_agrees z v w row cost notation part c rows t ih same = search rules
 
 reading_agrees : (z : Size) (v w : List ℕ) → Agree v w
     → (rows : List ℕ) (row cost : ℕ) (notation : NotationState) (part : Option PartialItem)
@@ -202,25 +132,25 @@ unfolding first_state
 first_agrees z codes = refl
 
 -- it reaches the entry
-comes : (z : Size) (codes : List ℕ) (e : TapeEntry) → WellFormed z cleared_cells.words first_note codes
-    → ComesTo cleared_cells.words first_note 9 codes e → Comes (first_state z codes) e
+comes : (z : Size) (codes : List ℕ) (e : TapeEntry) → WellFormed z cleared_cells.words opening_notation codes
+    → RowsReachEntry cleared_cells.words opening_notation 9 codes e → ReachesEntry (first_state z codes) e
 unfolding first_state
 comes z codes e well to =
     let words = (first_state z codes).store.words in
     let set : IsDirective 20568 = omega arith in
-    let there = (reading_is_rules z cleared_cells.words first_note 9 codes set).arrived e well to in
-    let same = reading_agrees z cleared_cells.words words (first_agrees z codes) codes 0 9 first_note None in
+    let there = (reading_is_rules z cleared_cells.words opening_notation 9 codes set).arrived e well to in
+    let same = reading_agrees z cleared_cells.words words (first_agrees z codes) codes 0 9 opening_notation None in
     let rules = reading_is_rules z words (opening words) 9 codes set in
     record { well = rules.well e (sym same ∙ there); comes = rules.comes e (sym same ∙ there) }
 
-pub leads : (z : Size) (codes : List ℕ) (e : TapeEntry) → WellFormed z cleared_cells.words first_note codes
-    → ComesTo cleared_cells.words first_note 9 codes e → LeadsIn (first_state z codes) e
+pub leads : (z : Size) (codes : List ℕ) (e : TapeEntry) → WellFormed z cleared_cells.words opening_notation codes
+    → RowsReachEntry cleared_cells.words opening_notation 9 codes e → LeadsIn (first_state z codes) e
 leads z codes e well to =
     comes_in (first_state z codes) e (first_store z codes) (starts z codes) (comes z codes e well to)
 
 -- the first part of the tape leads there too
-leads_part : (z : Size) (codes : List ℕ) (e : TapeEntry) → WellFormed z cleared_cells.words first_note codes
-    → ComesTo cleared_cells.words first_note 9 codes e → LeadsTo (first_part (first_state z codes)) e
+leads_part : (z : Size) (codes : List ℕ) (e : TapeEntry) → WellFormed z cleared_cells.words opening_notation codes
+    → RowsReachEntry cleared_cells.words opening_notation 9 codes e → LeadsTo (first_part (first_state z codes)) e
 leads_part z codes e well to = let c = comes z codes e well to in record { well = c.well; comes = c.comes }
 
 pub tapes_run_from_entry : EachTapeRunsFromEntry

@@ -1,30 +1,23 @@
 -- Blank tape before a tape, tapes of the two loaders, and what loading costs at most.
-use Rattle.ed_sources.proofs.Kit.{lt_true}
-use Rattle.ed_laws.proofs.Kit.{◌≡◌, ℕ, zero, suc, ◌+◌, ◌-◌, ◌*◌, ◌/◌, ◌%◌, ◌^◌, ◌≤◌, Bool, true, false, [], ◌≢◌, List}
-use Rattle.ed_laws.proofs.Kit.{◌∷◌, ◌++◌, length, nat_eq, ap, nat_lt, Some, None, Option, sym, refl, ◌∙◌, subst, arith}
-use Rattle.ed_laws.proofs.Kit.{append_assoc, append-nil, length-append, Text, Size, lt_false, Settings, nat_tests, over}
-use Rattle.ed_laws.proofs.Kit.{cleared_cells, run_end, TapeEntry, WellFormed, NotationState, row_kind, Begun, Arrived}
-use Rattle.ed_laws.proofs.Kit.{IsDirective, Faulty, BadRow, reading_is_rules, first_state, LeadsIn, paper_room, run_of}
-use Rattle.ed_laws.proofs.Kit.{first_note}
-use Rattle.std.specs.Prelude.{replicate}
-use Rattle.ed_codes.specs.Reading.{IsReadingOf, Reading, reading, rows}
+use Rattle.ed_laws.proofs.Kit.{Size, cleared_cells, Settings, BadRow, PartialItem, RowEffect, Ended, Entered, Longer}
+use Rattle.ed_laws.proofs.Kit.{Placed, Refused, first_directive, length-append, ◌%◌, ◌*◌, ◌/◌, le-ltb, RowsReachEntry}
+use Rattle.ed_laws.proofs.Kit.{WellFormed, NotationState, AreDigits, Begun, digits_number, row_kind, rows_of, Arrived}
+use Rattle.ed_laws.proofs.Kit.{entry_by, Faulty, part_of, placed_by, reading_on, row_effect, set_by, setting_of}
+use Rattle.ed_laws.proofs.Kit.{Verdict, with_limit, opening_notation, [], ap, append-nil, append_assoc, arith, Bool}
+use Rattle.ed_laws.proofs.Kit.{false, length, List, nat_eq, nat_lt, None, Option, refl, replicate, rules, Some, subst}
+use Rattle.ed_laws.proofs.Kit.{suc, sym, true, ℕ, ◌++◌, ◌+◌, ◌-◌, ◌^◌, ◌∙◌, ◌∷◌, ◌≡◌, ◌≢◌, ◌≤◌, nat_tests, Text}
+use Rattle.ed_laws.proofs.Kit.{reading, run_end, ran_later, TapeEntry, over, first_state, ReachesEntry1, Tape}
+use Rattle.ed_laws.proofs.Kit.{paper_room, run_of, zero, reading_is_rules, LeadsIn, end_later}
+use Rattle.ed_initial1.proofs.Kit.{number_le, BeginsWith, AreItems, begun_rows1, ending_row, IsBegun1, IsFirst, Item1}
+use Rattle.ed_initial1.proofs.Kit.{rows_of1, spelled_rows1}
+use Rattle.std.proofs.lemmas.Bool.{lt-ltb}
+use Rattle.ed_codes.specs.Reading.{IsReadingOf, Reading, rows}
 use Rattle.ed_codes.proofs.Pieces.{few_rows}
 use Rattle.ed_codes.proofs.Readings.{has_one_reading}
-use Rattle.ed_run.proofs.Later.{ran_later}
-use Rattle.ed_notation.specs.declared.reader.PartialItem.{PartialItem}
-use Rattle.ed_notation.specs.declared.reader.RowEffect.{RowEffect}
-use Rattle.ed_notation.specs.declared.reader.RowEffect.TheVariants.{Refused, Longer, Ended, Placed, Entered}
-use Rattle.ed_notation.specs.Items.{AreDigits, begun_rows, digits_number, rows_of}
-use Rattle.ed_notation.specs.Faults.{ComesTo}
-use Rattle.ed_notation.specs.Reading.{Verdict, entry_by, part_of, placed_by, reading_on, row_effect, set_by, setting_of}
-use Rattle.ed_notation.proofs.Costs.{most}
-use Rattle.ed_notation.proofs.Follow.{number_le}
+use Rattle.ed_notation.specs.Items.{begun_rows}
+use Rattle.ed_notation.proofs.Costs.{cost-most}
 use Rattle.ed_initial.specs.Entry.{at_entry}
-use Rattle.ed_initial1.specs.Items.{AreItems, IsBegun1, IsFirst, Item1, begun_rows1, ending_row, rows_of1}
-use Rattle.ed_initial1.specs.Items.{spelled_rows1}
-use Rattle.ed_initial1.specs.Faults.{BeginsWith, Comes1, Tape}
-use Rattle.ed_answers.specs.Limits.{with_limit}
-use Rattle.ed_laws.specs.TapeFacts.{BeginsAtPlace, BlankTapeIsPassed, NotationFacts, blank_cost, blank_tape, end_later}
+use Rattle.ed_laws.specs.TapeFacts.{BeginsAtPlace, BlankTapeIsPassed, NotationFacts, blank_cost, blank_tape}
 use Rattle.ed_laws.specs.TapeFacts.{entry_later}
 use Rattle.ed_laws.proofs.CountedRuns.{counted, run_same}
 use Rattle.ed_laws.proofs.TapeEntries.{leads}
@@ -41,19 +34,19 @@ text_few (rows codes) text tape spells is =
 text_few r text tape spells is = absurd (cc)
 
 cheap : (text : Text) (tape : List ℕ) (e : TapeEntry) → reading text ≡ rows tape → length text ≤ 262144
-    → ComesTo cleared_cells.words first_note 9 tape e → e.cost ≤ 4456457
+    → RowsReachEntry cleared_cells.words opening_notation 9 tape e → e.cost ≤ 4456457
 cheap text tape e is short comes =
     let few = text_few (reading text) text tape (has_one_reading.every text) is in
     let all : length tape ≡ e.rows + length e.rest =
     ap length (comes.rows_are ∙ sym (append_assoc _ (rows_of comes.last) e.rest)) ∙ length-append _ e.rest
     ∙ ap (λ n. n + length e.rest) (length-append _ (rows_of comes.last) ∙ sym comes.read_is) in
-    omega (arith, few, short, all, most cleared_cells.words first_note 9 tape e comes)
+    omega (arith, few, short, all, cost-most cleared_cells.words opening_notation 9 tape e comes)
 
 -- ---- no tape is one for both loaders
 
 -- S, the row 12, ends no item of the 41 orders
-first_breaks : (z : Size) (tape : List ℕ) (t : Tape) → (is : List Item1) → t.items ≡ is → Comes1 tape t
-    → WellFormed z cleared_cells.words first_note tape → ⊥
+first_breaks : (z : Size) (tape : List ℕ) (t : Tape) → (is : List Item1) → t.items ≡ is → ReachesEntry1 tape t
+    → WellFormed z cleared_cells.words opening_notation tape → ⊥
 first_breaks z tape t [] none comes well = subst (λ (is : List Item1). BeginsWith t.end is) none comes.first
 first_breaks z tape t (i ∷ is) some comes well =
     let first : IsFirst t.end i = subst (λ (js : List Item1). BeginsWith t.end js) some comes.first in
@@ -81,8 +74,8 @@ first_breaks z tape t (i ∷ is) some comes well =
       breaks = refl;
     })
 
-for_one_loader : (z : Size) (tape : List ℕ) (t : Tape) → Comes1 tape t
-    → WellFormed z cleared_cells.words first_note tape → ⊥
+for_one_loader : (z : Size) (tape : List ℕ) (t : Tape) → ReachesEntry1 tape t
+    → WellFormed z cleared_cells.words opening_notation tape → ⊥
 for_one_loader z tape t comes well = first_breaks z tape t t.items refl comes well
 
 -- ---- a reading that begins later
@@ -121,14 +114,7 @@ module _ (z : Size) (words : List ℕ) (a b : ℕ) where
     row_later : (notation : NotationState) (part : PartialItem) (c : ℕ) (t : RowEffect)
         → on_row z words (row + a) (cost + b) notation part c rest t
         ≡ later a b (on_row z words row cost notation part c rest t)
-    row_later notation part c (Refused cause) = refl
-    row_later notation part c (Longer longer k) = go k notation (Some longer)
-    row_later notation part c (Ended setting k) = go k (set_by setting notation) None
-    row_later notation part c (Placed at word) = go 17 (placed_by at word notation) None
-    row_later notation part c (Entered at) = λ i. Arrived (record (entry_by words row cost notation part c rest at) {
-      cost = more 13 i;
-      rows = next i;
-    })
+    row_later notation part c t = search rules
 
     function_later : (notation : NotationState) (f : ℕ) (t : Bool)
         → ◌≡◌ {A = Verdict}
@@ -172,8 +158,8 @@ module _ (z : Size) (words : List ℕ) (f : ℕ) (m : NotationState) where
       (blank, λ i. reading_on z words (r i) (k i) m (Some (item_so_far f n blank)) rest)
   digits_read (d ∷ ds) rest n blank row cost are fits =
       let small : 10 * n + d ≤ 32767 = omega (arith, fits, number_le ds (10 * n + d)) in
-      let a = lt_true d 10 are.0 in
-      let b = lt_false 32767 (10 * n + d) small in
+      let a = lt-ltb d 10 are.0 in
+      let b = le-ltb 32767 (10 * n + d) small in
       let t : row_effect z (row_kind d) (over m.placed words) (setting_of m) (item_so_far f n blank) d
       ≡ Longer (item_so_far f (10 * n + d) false) 9 = rw (a, b) refl in
       let on = digits_read ds rest (10 * n + d) false (row + 1) (cost + 9) are.1 fits in
@@ -297,7 +283,7 @@ module _ (z : Size) (words : List ℕ) where
           ≡ reading_on z words (row + 1 + length b.digits + 1 + 1 + 1) (cost + 6 + after + 16 + 6 + 16) set None b.rest
       from d t =
           let m : NotationState = record { directive = d; theta = t; placed = n.placed } in
-          let fits : nat_lt 1023 number ≡ false = lt_false 1023 number b.fits in
+          let fits : nat_lt 1023 number ≡ false = le-ltb 1023 number b.fits in
           let more = 14 ∷ 27 ∷ 14 ∷ b.rest in
           let on =
           digits_read z words 5 m b.digits more 0 false (row + 1) (cost + 6) b.are_digits (omega (arith, b.fits)) in
@@ -309,38 +295,34 @@ module _ (z : Size) (words : List ℕ) where
 
 -- ---- a tape after it
 
-opens : IsDirective 20568
-opens = omega arith
-
 module _ (s : Settings) (tape : List ℕ) (e : TapeEntry) (m : ℕ)
-    (well : WellFormed s.size cleared_cells.words first_note tape)
-    (to : ComesTo cleared_cells.words first_note 9 tape e) (begins : BeginsAtPlace tape) where
+    (well : WellFormed s.size cleared_cells.words opening_notation tape)
+    (to : RowsReachEntry cleared_cells.words opening_notation 9 tape e) (begins : BeginsAtPlace tape) where
   abbrev words : List ℕ
   words = cleared_cells.words
 
   abbrev whole : List ℕ
   whole = blank_tape m ++ tape
 
-  arrives : reading_on s.size words 0 9 first_note None whole ≡ Arrived (entry_later m e)
+  arrives : reading_on s.size words 0 9 opening_notation None whole ≡ Arrived (entry_later m e)
   arrives =
-      let p = passed s.size words m tape 0 9 first_note in
+      let p = passed s.size words m tape 0 9 opening_notation in
       p.reads
-      ∙ set_anew s.size words (0 + (m + 2)) (9 + blank_cost m) first_note tape begins p.directive p.theta
-      ∙ reads_later s.size words (m + 2) (blank_cost m) tape 0 9 first_note None
-      ∙ ap (later (m + 2) (blank_cost m)) ((reading_is_rules s.size words first_note 9 tape opens).arrived e well to)
+      ∙ set_anew s.size words (0 + (m + 2)) (9 + blank_cost m) opening_notation tape begins p.directive p.theta
+      ∙ reads_later s.size words (m + 2) (blank_cost m) tape 0 9 opening_notation None
+      ∙ ap (later (m + 2) (blank_cost m)) ((reading_is_rules s.size words opening_notation 9 tape
+      first_directive).arrived e well to)
 
-  well_too : WellFormed s.size words first_note whole
-  well_too = (reading_is_rules s.size words first_note 9 whole opens).well (entry_later m e) arrives
+  well_too : WellFormed s.size words opening_notation whole
+  well_too = (reading_is_rules s.size words opening_notation 9 whole first_directive).well (entry_later m e) arrives
 
-  comes_too : ComesTo words first_note 9 whole (entry_later m e)
-  comes_too = (reading_is_rules s.size words first_note 9 whole opens).comes (entry_later m e) arrives
+  comes_too : RowsReachEntry words opening_notation 9 whole (entry_later m e)
+  comes_too = (reading_is_rules s.size words opening_notation 9 whole first_directive).comes (entry_later m e) arrives
 
   state_there : at_entry (first_state s.size whole) (entry_later m e)
       ≡ counted (blank_cost m) (at_entry (first_state s.size tape) e)
   unfolding first_state
-  state_there =
-      let orders : 0 + (e.cost + blank_cost m) ≡ 0 + e.cost + blank_cost m = omega arith in
-      λ i. record (at_entry (first_state s.size tape) e) { orders = orders i }
+  state_there = search rules
 
   runs : e.cost ≤ s.limit
       → run_of (with_limit (s.limit + blank_cost m) s) whole ≡ end_later (blank_cost m) (run_of s tape)

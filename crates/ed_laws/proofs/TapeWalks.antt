@@ -1,45 +1,37 @@
 -- A trace and a session reach the entry of a tape as its run does.
-use Rattle.ed_laws.proofs.Kit.{◌≡◌, ℕ, zero, suc, ◌+◌, ◌-◌, ◌<◌, ◌≤◌, Bool, true, false, [], List, ◌++◌, length, nat_eq}
-use Rattle.ed_laws.proofs.Kit.{if◌then◌else◌, ap, nat_lt, nat_le, Some, None, Option, sym, refl, ◌∙◌, subst, inl, inr}
-use Rattle.ed_laws.proofs.Kit.{arith, cases_lt, eq_false, lt_false, State, step, Settings, nat_tests, le_false, Ending}
-use Rattle.ed_laws.proofs.Kit.{state_after, progress, Limit, Stopped, Turn, least_below, after_sum, few_codes, past_sum}
-use Rattle.ed_laws.proofs.Kit.{AllWent, end_at, end_by, run_orders, EndsAfter, run_end, ends_once, ran_ends, TapeEntry}
-use Rattle.ed_laws.proofs.Kit.{first_state, LeadsIn, ending_line, status_of, move_orders, trace_to, letters_in}
-use Rattle.ed_machine.specs.Steps.{is_stop}
-use Rattle.ed_machine.proofs.Steps.{no_step}
-use Rattle.ed_run.proofs.Later.{quiet_stops}
-use Rattle.ed_stepper.specs.MoveEnds.{Ends, entered_after, move_end, stopped_after}
+use Rattle.ed_laws.proofs.Kit.{Ending, Limit, Stopped, Turn, few_codes, Settings, le-ltb, lt-leb, ap, arith, Bool}
+use Rattle.ed_laws.proofs.Kit.{false, if◌then◌else◌, length, List, nat_eq, nat_le, nat_lt, None, Option, refl, rules}
+use Rattle.ed_laws.proofs.Kit.{Some, sym, true, ℕ, ◌++◌, ◌+◌, ◌-◌, ◌<◌, ◌∙◌, ◌≡◌, ◌≤◌, nat_tests, step, State}
+use Rattle.ed_laws.proofs.Kit.{progress, state_after, least_below, AllWent, end_at, end_by, EndsAfter, run_end}
+use Rattle.ed_laws.proofs.Kit.{run_orders, ran_ends, TapeEntry, first_state, ending_line, status_of, move_end}
+use Rattle.ed_laws.proofs.Kit.{first_once, after_sum, move_orders, trace_to, ne_eqb, LeadsIn, letters_in}
+use Rattle.ed_machine.proofs.LeastNumbers.{first_later}
+use Rattle.ed_machine.proofs.Steps.{no_step, quiet_stops}
+use Rattle.ed_run.proofs.Later.{past_on}
+use Rattle.ed_stepper.specs.MoveEnds.{Ends}
 use Rattle.ed_stepper.specs.Scripts.{move_line}
-use Rattle.ed_stepper.specs.declared.moves.MoveTarget.TheVariants.{Entry}
 use Rattle.ed_stepper.specs.declared.moves.MoveEnd.TheVariants.{Entered}
+use Rattle.ed_stepper.specs.declared.moves.MoveTarget.TheVariants.{Entry}
 use Rattle.ed_stepper.proofs.Founds.{end_found, orders_found}
 use Rattle.ed_laws.specs.TapeEntries.{StepsToEntry, TracesFromEntry}
 use Rattle.ed_laws.proofs.Stepped.{letters_sum}
 
 -- ---- a trace whose first orders neither print nor stop
 
-module _ (limit resumes k : ℕ) (s : State) (went : AllWent k s) (silent : (progress k s).codes
-    ≡ []) (fits : k ≤ limit) where
+module _ (limit resumes k : ℕ) (s : State) (went : AllWent k s) (fits : k ≤ limit) where
   abbrev pub t : State
   t = state_after k s
-
-  past_on : (j : ℕ) → progress (k + j) s ≡ progress j t
-  past_on j =
-      let q = progress j t in
-      let stops : (progress k s).stops + q.stops ≡ q.stops =
-      ap (λ n. n + q.stops) (quiet_stops k s went) ∙ omega arith in
-      past_sum k j s ∙ (λ i. record { state = q.state; codes = silent i ++ q.codes; stops = stops i })
 
   -- an end of the run from there is one of the whole run
   same_end : (j : ℕ) → j ≤ limit - k → end_at limit resumes limit (k + j) (progress (k + j) s)
       ≡ end_at (limit - k) resumes (limit - k) j (progress j t)
   same_end j below =
       let p = progress j t in
-      ap (end_at limit resumes limit (k + j)) (past_on j)
+      ap (end_at limit resumes limit (k + j)) (past_on j k s went)
       ∙ by_tests (nat_lt resumes p.stops) (nat_eq j (limit - k)) (nat_eq (k + j) limit)
       (nat_le limit (length p.codes)) (nat_le (limit - k) (length p.codes)) eq_is
-      (λ other. le_false _ _ (omega (arith, few_codes j t, low other)))
-      (λ other. le_false _ _ (omega (arith, few_codes j t, low other)))
+      (λ other. lt-leb _ _ (omega (arith, few_codes j t, low other)))
+      (λ other. lt-leb _ _ (omega (arith, few_codes j t, low other)))
     where
       eq_is : nat_eq (k + j) limit ≡ nat_eq j (limit - k)
       eq_is = grind (arith, nat_tests)
@@ -66,8 +58,8 @@ module _ (limit resumes k : ℕ) (s : State) (went : AllWent k s) (silent : (pro
       let stops : (progress j s).stops ≡ 0 = quiet_stops j s (λ i l. went i (omega (arith, l, below))) in
       let turn = went j below in
       rw (
-        lt_false resumes (progress j s).stops (omega (arith, stops)),
-        eq_false j limit (omega (arith, below, fits)),
+        le-ltb resumes (progress j s).stops (omega (arith, stops)),
+        ne_eqb j limit (omega (arith, below, fits)),
         turn,
       )
       refl
@@ -75,20 +67,9 @@ module _ (limit resumes k : ℕ) (s : State) (went : AllWent k s) (silent : (pro
   whole_ends : EndsAfter limit resumes limit s (k + run_orders (limit - k) resumes (limit - k) t)
       (run_end (limit - k) resumes (limit - k) t).ending
   whole_ends =
-      let m = run_orders (limit - k) resumes (limit - k) t in
-      let ends = ran_ends (limit - k) resumes (limit - k) t in
-      let most : m ≤ limit - k = least_below _ (limit - k) in
-      record {
-        now = same_end m most ∙ ends.now;
-        first = λ j below. elim (cases_lt j k) [
-          | inl low ↦ none_before j low
-          | inr high ↦
-              let e : k + (j - k) ≡ j = omega arith in
-              let less : j - k < m = omega arith in
-              ap (λ n. end_at limit resumes limit n (progress n s)) (sym e)
-              ∙ same_end (j - k) (omega (arith, less, most)) ∙ ends.first (j - k) less
-        ];
-      }
+      let most : run_orders (limit - k) resumes (limit - k) t ≤ limit - k = least_below _ (limit - k) in
+      first_later none_before (λ j few. same_end j (omega (arith, few, most)))
+      (ran_ends (limit - k) resumes (limit - k) t)
 
   -- so the run obeys as many orders more, and ends as the other does
   pub record GoesOn : Type 0 where
@@ -99,7 +80,7 @@ module _ (limit resumes k : ℕ) (s : State) (went : AllWent k s) (silent : (pro
   pub goes_on : GoesOn
   unfolding run_end
   goes_on =
-      let one = ends_once (ran_ends limit resumes limit s) whole_ends in
+      let one = first_once (ran_ends limit resumes limit s) whole_ends in
       record {
         orders = one.0;
         ending = one.1;
@@ -109,28 +90,8 @@ module _ (limit resumes k : ℕ) (s : State) (went : AllWent k s) (silent : (pro
 -- ---- a session that moves to the entry
 
 module _ (s : State) (e : TapeEntry) (into : LeadsIn s e) where
-  not_entered : (j : ℕ) → j < e.cost → entered_after j s ≡ false
-  not_entered zero below = refl
-  not_entered (suc i) below = (into.quiet i (omega (arith, below, into.cost_is))).stays
-
-  not_stopped : (j : ℕ) → j ≤ e.cost → stopped_after j s ≡ false
-  not_stopped zero below = refl
-  not_stopped (suc i) below = ap is_stop (into.went i (omega arith))
-
-  entered_there : entered_after e.cost s ≡ true
-  entered_there = subst (λ n. entered_after n s ≡ true) into.cost_is into.enters_is
-
   pub moves_there : (left : ℕ) → e.cost ≤ left → Ends Entry left s e.cost Entered
-  moves_there left fits = record {
-    now = rw (not_stopped e.cost (omega arith), entered_there) refl;
-    first = λ j below.
-        rw (
-          not_stopped j (omega arith),
-          not_entered j below,
-          eq_false j left (omega (arith, below, fits)),
-          into.went j below,
-        ) refl;
-  }
+  moves_there left fits = search rules
 
 -- ---- of a tape
 
@@ -142,7 +103,7 @@ module _ (s : Settings) (codes : List ℕ) (e : TapeEntry) (into : LeadsIn (firs
   pub traces_from_entry : TracesFromEntry s codes e
   traces_from_entry =
       let less = s.limit - e.cost in
-      let on = goes_on s.limit s.resumes e.cost first into.went into.prints_none fits in
+      let on = goes_on s.limit s.resumes e.cost first into.went fits in
       let note = λ (x : State). ending_line (run_end less s.resumes less x).ending (run_end less s.resumes less x).state in
       let letters = λ (x : State). letters_in (trace_to (run_orders less s.resumes less x) x) in
       record {

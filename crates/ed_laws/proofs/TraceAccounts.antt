@@ -1,23 +1,20 @@
 -- The letters of a trace are the orders of its run, and its Zs are the stops.
-use Rattle.ed_laws.proofs.Kit.{◌≡◌, ℕ, zero, suc, ◌+◌, ◌^◌, ◌<◌, ◌≤◌, Bool, true, false, not, [], ◌≢◌, List, ◌∷◌, ◌++◌}
-use Rattle.ed_laws.proofs.Kit.{map, length, if◌then◌else◌, ◌==◌, nat_eq, ap, nat_lt, nat_le, Some, None, Option, sym, A}
-use Rattle.ed_laws.proofs.Kit.{refl, ◌∙◌, subst, arith, length-append, Text, State, step, nat_tests, none-some, byte_of}
-use Rattle.ed_laws.proofs.Kit.{same_Some, function_of, kind_of_function, Kind, C, E, F, G, H, I, L, N, O, R, S, T, U, V}
-use Rattle.ed_laws.proofs.Kit.{X, Y, Z, next_word, obey_word, Obeyed, is_obeyed, state_after, stops_of, AreObeyed, Turn}
-use Rattle.ed_laws.proofs.Kit.{Progress, progress, Ending, Limit, NoOrder, NoTape, PaperFull, Stopped, Printed, Went}
-use Rattle.ed_laws.proofs.Kit.{counted_after, end_by, run_orders, RunEnd, run_end, ran_ends, first_state, paper_room}
-use Rattle.ed_laws.proofs.Kit.{status_of, trace_to, letters_in}
+use Rattle.ed_laws.proofs.Kit.{filter-append, none-some, Kind, Ending, Limit, NoOrder, NoTape, PaperFull, Stopped}
+use Rattle.ed_laws.proofs.Kit.{Turn, counted_after, next_stops, past_next, length-append, byte_of, [], ap, arith, Bool}
+use Rattle.ed_laws.proofs.Kit.{false, if◌then◌else◌, length, map, nat_eq, nat_le, nat_lt, None, Option, refl, rules}
+use Rattle.ed_laws.proofs.Kit.{Some, subst, suc, sym, true, ℕ, ◌++◌, ◌+◌, ◌<◌, ◌∙◌, ◌∷◌, ◌≡◌, ◌≢◌, ◌≤◌, nat_tests}
+use Rattle.ed_laws.proofs.Kit.{Text, step, State, Progress, progress, state_after, end_by, run_end, run_orders, RunEnd}
+use Rattle.ed_laws.proofs.Kit.{ran_ends, first_state, paper_room, status_of, not, ◌==◌, AreObeyed, is_obeyed}
+use Rattle.ed_laws.proofs.Kit.{functions_after, trace_to, zero, same_Some, stops_of, function_of, kind_of_function}
+use Rattle.ed_laws.proofs.Kit.{next_word, obey_word, letters_in}
 use Rattle.std.specs.List.{filter}
-use Rattle.std.proofs.lemmas.List.Elements.{filter-append}
 use Rattle.ed_words.specs.Words.{digit as one_if}
-use Rattle.ed_machine.specs.OrderTable.{jump_order, place_of, row_order, stop_order}
-use Rattle.ed_machine.specs.declared.turn.Turn.TheVariants.{Stopped as Stops, NoOrder as IsNoOrder, NoTape as HasNoTape}
-use Rattle.ed_report.specs.Traces.{functions_after}
-use Rattle.ed_machine.proofs.Steps.{next_stops, past_next}
+use Rattle.ed_orders.specs.declared.kind.Kind.TheVariants.{Z}
+use Rattle.ed_machine.specs.OrderTable.{stop_order}
+use Rattle.ed_laws.specs.TraceAccounts.{EachTraceAccounts, IsPastStop}
 use Rattle.ed_laws.proofs.LetterTests.{letter_says}
 use Rattle.ed_laws.proofs.MoveEndings.{not_stopped_by}
 use Rattle.ed_laws.proofs.Stepped.{bare_trace, letters_both, map_both, none_done}
-use Rattle.ed_laws.specs.TraceAccounts.{EachTraceAccounts, IsPastStop}
 
 -- ---- an order is a stop if its function is that of Z
 
@@ -27,34 +24,8 @@ IsStopOf (Some Z) turn = stops_of turn ≡ 1
 IsStopOf kind turn = stops_of turn ≡ 0
 
 module _ (w : ℕ) (s : State) where
-  jump_goes : (b : Bool) (n : ℕ) → stops_of (jump_order b n s).turn ≡ 0
-  jump_goes true n = refl
-  jump_goes false n = refl
-
-  row_goes : (rows : List ℕ) → stops_of (row_order rows w s).turn ≡ 0
-  row_goes [] = refl
-  row_goes (row ∷ rows) = refl
-
   stops_by_kind : (k : Option Kind) → IsStopOf k (obey_word k w s).turn
-  stops_by_kind None = refl
-  stops_by_kind (Some A) = refl
-  stops_by_kind (Some S) = refl
-  stops_by_kind (Some H) = refl
-  stops_by_kind (Some V) = refl
-  stops_by_kind (Some N) = refl
-  stops_by_kind (Some T) = refl
-  stops_by_kind (Some U) = refl
-  stops_by_kind (Some C) = refl
-  stops_by_kind (Some R) = refl
-  stops_by_kind (Some L) = refl
-  stops_by_kind (Some E) = jump_goes (nat_lt s.acc (2 ^ 70)) (place_of s w)
-  stops_by_kind (Some G) = jump_goes (nat_le (2 ^ 70) s.acc) (place_of s w)
-  stops_by_kind (Some I) = row_goes s.tape
-  stops_by_kind (Some O) = refl
-  stops_by_kind (Some F) = refl
-  stops_by_kind (Some X) = refl
-  stops_by_kind (Some Y) = refl
-  stops_by_kind (Some Z) = refl
+  stops_by_kind k = search rules
 
 stop_turn : (s : State) → IsStopOf (kind_of_function (function_of (next_word s))) (step s).turn
 unfolding step
@@ -67,25 +38,7 @@ is_stop_kind (Some Z) = true
 is_stop_kind kind = false
 
 stops_by : (k : Option Kind) (turn : Turn) → IsStopOf k turn → stops_of turn ≡ one_if (is_stop_kind k)
-stops_by None turn h = h
-stops_by (Some A) turn h = h
-stops_by (Some S) turn h = h
-stops_by (Some H) turn h = h
-stops_by (Some V) turn h = h
-stops_by (Some N) turn h = h
-stops_by (Some T) turn h = h
-stops_by (Some U) turn h = h
-stops_by (Some C) turn h = h
-stops_by (Some R) turn h = h
-stops_by (Some L) turn h = h
-stops_by (Some E) turn h = h
-stops_by (Some G) turn h = h
-stops_by (Some I) turn h = h
-stops_by (Some O) turn h = h
-stops_by (Some F) turn h = h
-stops_by (Some X) turn h = h
-stops_by (Some Y) turn h = h
-stops_by (Some Z) turn h = h
+stops_by k turn h = search rules
 
 -- the letter of a function is Z if it is that of Z, and never a line feed
 letter_of : (f : ℕ)
@@ -108,19 +61,13 @@ abbrev pub stops_in : Text → ℕ
 stops_in letters = length (filter (λ byte. byte == 90) letters)
 
 zeds_both : (xs ys : Text) → stops_in (xs ++ ys) ≡ stops_in xs + stops_in ys
-zeds_both xs ys =
-    ap length (filter-append (λ byte. byte == 90) xs ys)
-    ∙ length-append (filter (λ byte. byte == 90) xs) (filter (λ byte. byte == 90) ys)
+zeds_both xs ys = search (rules, filter-append, length-append, filter)
 
 one_kept : (byte : ℕ) → not (byte == 10) ≡ true → letters_in (byte ∷ []) ≡ byte ∷ []
 one_kept byte h = rw h refl
 
 one_zed : (byte : ℕ) → stops_in (byte ∷ []) ≡ one_if (byte == 90)
-one_zed byte = by_test (byte == 90)
-  where
-    by_test : (b : Bool) → length (if b then byte ∷ [] else []) ≡ one_if b
-    by_test true = refl
-    by_test false = refl
+one_zed byte = search rules
 
 -- the letter of the next order
 abbrev pub next_letter : State → ℕ
@@ -213,11 +160,7 @@ module _ (limit resumes room : ℕ) (s : State) where
     pub all : (progress k s).stops ≡ resumes + 1
 
   one_or_none : (t : Turn) → stops_of t ≤ 1
-  one_or_none Stops = omega arith
-  one_or_none Went = omega arith
-  one_or_none (Printed code) = omega arith
-  one_or_none (IsNoOrder function) = omega arith
-  one_or_none HasNoTape = omega arith
+  one_or_none t = search rules
 
   pub ends_by_stop : ran.ending ≡ Stopped → EndsByStop
   ends_by_stop is = by_count k refl
@@ -241,31 +184,11 @@ module _ (limit resumes room : ℕ) (s : State) where
 
 stop_by : (k : Option Kind) (w : ℕ) (s : State) → stops_of (obey_word k w s).turn ≡ 1
     → (k ≡ Some Z) × (obey_word k w s ≡ stop_order s)
-stop_by (Some Z) w s h = (refl, refl)
-stop_by None w s h = absurd (omega (arith, h))
-stop_by (Some A) w s h = absurd (omega (arith, h))
-stop_by (Some S) w s h = absurd (omega (arith, h))
-stop_by (Some H) w s h = absurd (omega (arith, h))
-stop_by (Some V) w s h = absurd (omega (arith, h))
-stop_by (Some N) w s h = absurd (omega (arith, h))
-stop_by (Some T) w s h = absurd (omega (arith, h))
-stop_by (Some U) w s h = absurd (omega (arith, h))
-stop_by (Some C) w s h = absurd (omega (arith, h))
-stop_by (Some R) w s h = absurd (omega (arith, h))
-stop_by (Some L) w s h = absurd (omega (arith, h))
-stop_by (Some E) w s h = absurd (omega (arith, h, jump_goes w s (nat_lt s.acc (2 ^ 70)) (place_of s w)))
-stop_by (Some G) w s h = absurd (omega (arith, h, jump_goes w s (nat_le (2 ^ 70) s.acc) (place_of s w)))
-stop_by (Some I) w s h = absurd (omega (arith, h, row_goes w s s.tape))
-stop_by (Some O) w s h = absurd (omega (arith, h))
-stop_by (Some F) w s h = absurd (omega (arith, h))
-stop_by (Some X) w s h = absurd (omega (arith, h))
-stop_by (Some Y) w s h = absurd (omega (arith, h))
+stop_by k w s h = search rules
 
 past_stop : (s : State) → stops_of (step s).turn ≡ 1 → IsPastStop (step s).state
 unfolding step
-past_stop s h =
-    let both = stop_by (kind_of_function (function_of (next_word s))) (next_word s) s h in
-    subst (λ (o : Obeyed). IsPastStop o.state) (sym both.1) (record { at = s.counter; next = refl; stop = both.0 })
+past_stop s h = search (rules, stop_by)
 
 pub run_past_stop : (limit resumes room : ℕ) (s : State) → (run_end limit resumes room s).ending ≡ Stopped
     → IsPastStop (run_end limit resumes room s).state
@@ -280,11 +203,7 @@ run_past_stop limit resumes room s is =
 -- ---- the whole run
 
 free_by : (turn : Turn) (full : Bool) → end_by turn full ≡ None → is_obeyed turn ≡ true
-free_by Went full h = refl
-free_by Stops full h = refl
-free_by (Printed code) full h = refl
-free_by (IsNoOrder function) full h = absurd (none-some NoOrder (sym h))
-free_by HasNoTape full h = absurd (none-some NoTape (sym h))
+free_by turn full h = search rules
 
 -- each of its orders is obeyed
 run_free : (limit resumes room : ℕ) (s : State) → AreObeyed (run_orders limit resumes room s) s
@@ -306,23 +225,13 @@ run_free limit resumes room s j less =
 run_counted : (limit resumes room : ℕ) (s : State) → s.orders ≡ 0
     → (run_end limit resumes room s).state.orders ≡ run_orders limit resumes room s
 unfolding run_end
-run_counted limit resumes room s none =
-    let count = counted_after (run_orders limit resumes room s) s (run_free limit resumes room s) in
-    omega (arith, count, none)
+run_counted limit resumes room s none = search (rules, counted_after, run_free)
 
 stopped_is : (e : Ending) → status_of e ≡ 0 → e ≡ Stopped
-stopped_is Stopped h = refl
-stopped_is Limit h = absurd (omega (arith, h))
-stopped_is NoOrder h = absurd (omega (arith, h))
-stopped_is NoTape h = absurd (omega (arith, h))
-stopped_is PaperFull h = absurd (omega (arith, h))
+stopped_is e h = search rules
 
 zed_is : (byte : ℕ) → 1 ≡ one_if (byte == 90) → byte ≡ 90
-zed_is byte = by_test (byte == 90) refl
-  where
-    by_test : (b : Bool) → (byte == 90) ≡ b → 1 ≡ one_if b → byte ≡ 90
-    by_test true is h = grind (arith, nat_tests)
-    by_test false is h = absurd (omega (arith, h))
+zed_is byte = search rules
 
 module _ (limit resumes : ℕ) (s : State) where
   abbrev n : ℕ

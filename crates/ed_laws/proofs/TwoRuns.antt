@@ -1,9 +1,9 @@
 -- Two runs from a state, of which one ends no sooner than the other.
-use Rattle.ed_laws.proofs.Kit.{◌≡◌, ℕ, ◌+◌, ◌-◌, ◌<◌, ◌≤◌, Bool, true, false, ◌≢◌, length, if◌then◌else◌, nat_eq, ap}
-use Rattle.ed_laws.proofs.Kit.{nat_lt, nat_le, Some, None, Option, sym, refl, ◌∙◌, inl, inr, arith, cases_lt, eq_false}
-use Rattle.ed_laws.proofs.Kit.{lt_false, State, step, nat_tests, none-some, same_Some, le_false, state_after, Progress}
-use Rattle.ed_laws.proofs.Kit.{progress, Ending, Limit, Stopped, least_below, few_codes, past_sum, end_at, end_by}
-use Rattle.ed_laws.proofs.Kit.{run_orders, EndsAfter, run_end, ends_once, ran_ends, StartsWith}
+use Rattle.ed_laws.proofs.Kit.{none-some, Ending, Limit, Stopped, few_codes, past_sum, ran_is, lt-leb, StartsWith, ap}
+use Rattle.ed_laws.proofs.Kit.{arith, Bool, false, if◌then◌else◌, length, nat_eq, nat_le, nat_lt, None, Option, refl}
+use Rattle.ed_laws.proofs.Kit.{rules, Some, sym, true, ℕ, ◌+◌, ◌-◌, ◌<◌, ◌∙◌, ◌≡◌, ◌≢◌, ◌≤◌, nat_tests, step, State}
+use Rattle.ed_laws.proofs.Kit.{Progress, progress, state_after, least_below, end_at, end_by, EndsAfter, run_end}
+use Rattle.ed_laws.proofs.Kit.{run_orders, ran_ends, is_some, first_once, first_within, ne_eqb, same_Some}
 
 -- ---- whatever the limits, the resumes and the papers
 
@@ -27,12 +27,9 @@ module _ (limit resumes room : ℕ) (limit_too resumes_too room_too : ℕ) (s : 
 
   module _ (on : GoesOnToo) where
     pub no_sooner : before ≤ after
-    no_sooner = elim (cases_lt after before) [
-      | inl less ↦
-          absurd (none-some _ (sym (on after less ((ran_ends limit resumes room s).first after less))
-          ∙ (ran_ends limit_too resumes_too room_too s).now))
-      | inr fits ↦ fits
-    ]
+    no_sooner =
+        first_within before after (λ j less. on j less ((ran_ends limit resumes room s).first j less))
+        (ap is_some (ran_ends limit_too resumes_too room_too s).now)
 
     pub codes_begin : StartsWith (run_end limit_too resumes_too room_too s).codes (run_end limit resumes room s).codes
     unfolding run_end
@@ -56,51 +53,19 @@ module _ (limit resumes room : ℕ) (limit_too resumes_too room_too : ℕ) (s : 
           now = ends (run_end limit resumes room s).ending refl one.now;
           first = λ j less. on j less (one.first j less);
         } in
-        let same = ends_once (ran_ends limit_too resumes_too room_too s) there in
         record {
-          orders = same.0;
-          run = λ i. record {
-            ending = same.1 i;
-            state = (progress (same.0 i) s).state;
-            codes = (progress (same.0 i) s).codes;
-          };
+          orders = (first_once (ran_ends limit_too resumes_too room_too s) there).0;
+          run = ran_is limit_too resumes_too room_too before s _ there;
         }
 
 -- ---- more resumes
 
 module _ (limit resumes more room : ℕ) (s : State) (few : resumes ≤ more) where
   pub goes_on : GoesOnToo limit resumes room limit more room s
-  goes_on j less = by_test (nat_lt resumes (progress j s).stops) refl
-    where
-      by : Option Ending
-      by = if nat_eq j limit then Some Limit
-          else end_by (step (state_after j s)).turn (nat_le room (length (progress j s).codes))
-
-      by_test : (b : Bool) → nat_lt resumes (progress j s).stops ≡ b → (if b then Some Stopped else by) ≡ None
-          → (if nat_lt more (progress j s).stops then Some Stopped else by) ≡ None
-      by_test true is h = absurd (none-some Stopped (sym h))
-      by_test false is h =
-          let no : nat_lt more (progress j s).stops ≡ false =
-          lt_false more (progress j s).stops (grind (arith, nat_tests)) in
-          rw no h
+  goes_on j less = search rules
 
   ends_so : (run_end limit resumes room s).ending ≢ Stopped → EndsToo limit resumes room limit more room s
-  ends_so other e is = by_test (nat_lt resumes (progress k s).stops) refl
-    where
-      k : ℕ
-      k = run_orders limit resumes room s
-
-      by : Option Ending
-      by = if nat_eq k limit then Some Limit
-          else end_by (step (state_after k s)).turn (nat_le room (length (progress k s).codes))
-
-      by_test : (b : Bool) → nat_lt resumes (progress k s).stops ≡ b → (if b then Some Stopped else by) ≡ Some e
-          → (if nat_lt more (progress k s).stops then Some Stopped else by) ≡ Some e
-      by_test true here h = absurd (other (is ∙ sym (same_Some Stopped e h)))
-      by_test false here h =
-          let no : nat_lt more (progress k s).stops ≡ false =
-          lt_false more (progress k s).stops (grind (arith, nat_tests)) in
-          rw no h
+  ends_so other e is = search rules
 
   pub resumed_begins : StartsWith (run_end limit more room s).codes (run_end limit resumes room s).codes
   resumed_begins = codes_begin limit resumes room limit more room s goes_on
@@ -118,10 +83,7 @@ module _ (low high resumes : ℕ) (s : State) (fits : low ≤ high) where
   -- below the limit neither paper is full
   roomy : (k : ℕ) → k < low → (nat_le low (length (progress k s).codes) ≡ false)
       × (nat_le high (length (progress k s).codes) ≡ false)
-  roomy k less = (
-    le_false low (length (progress k s).codes) (omega (arith, few_codes k s, less)),
-    le_false high (length (progress k s).codes) (omega (arith, few_codes k s, less, fits)),
-  )
+  roomy k less = search (rules, lt-leb, few_codes)
 
   not_yet : (k : ℕ) → k ≤ low → nat_eq k low ≡ false → k < low
   not_yet k most other = grind (arith, nat_tests)
@@ -142,7 +104,7 @@ module _ (low high resumes : ℕ) (s : State) (fits : low ≤ high) where
       by_tests false true is h = absurd (none-some Limit (sym h))
       by_tests false false is h =
           let below = not_yet j (omega (arith, less, most_orders)) is in
-          let no : nat_eq j high ≡ false = eq_false j high (omega (arith, below, fits)) in
+          let no : nat_eq j high ≡ false = ne_eqb j high (omega (arith, below, fits)) in
           let papers = roomy j below in
           rw (no, papers.1) (rw (papers.0) at h)
 
@@ -162,7 +124,7 @@ module _ (low high resumes : ℕ) (s : State) (fits : low ≤ high) where
       by_tests false true here h = absurd (other (is ∙ sym (same_Some Limit e h)))
       by_tests false false here h =
           let below = not_yet k most_orders here in
-          let no : nat_eq k high ≡ false = eq_false k high (omega (arith, below, fits)) in
+          let no : nat_eq k high ≡ false = ne_eqb k high (omega (arith, below, fits)) in
           let papers = roomy k below in
           rw (no, papers.1) (rw (papers.0) at h)
 

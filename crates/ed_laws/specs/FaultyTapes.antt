@@ -16,7 +16,7 @@ use Rattle.ed_report.specs.Notes.{rule_line}
 use Rattle.ed_answers.specs.FirstFaults.{silent_outcome}
 use Rattle.ed_answers.specs.Outcome.{Outcome, refusal}
 use Rattle.ed_answers.specs.Runs.{post_mortem_codes}
-use Rattle.ed_answers.specs.Tapes.{IsChecked, first_note, tape_outcome}
+use Rattle.ed_answers.specs.Tapes.{IsChecked, opening_notation, tape_outcome}
 use Rattle.ed_top.specs.Parts.{IsInParts}
 
 -- a run of a tape that ends after k orders at a location and has printed nothing, with its post-mortem
@@ -32,7 +32,7 @@ quiet_outcome s rows name place k status = record (silent_outcome name place k s
 -- limit too: no tape, at 9 inside an item and at 34 between two. `parts` refuses the tape with the line of `check-tape`
 -- after `part 1, `.
 pub record TapeWaitsAtFault (s : Settings) (rows : List ℕ) (row : ℕ) (cause : TapeCause)
-    (r : IsRead cleared_cells.words first_note rows row) : Type 0 where
+    (r : IsRead cleared_cells.words opening_notation rows row) : Type 0 where
   pub checked : IsChecked s rows (refusal (rule_line row cause))
   pub waits : AwaitsRow (first_state s.size rows) (9 + orders_before r) (state_before r) r.part r.rest
   pub limited : s.limit ≡ 9 + orders_before r
@@ -45,5 +45,5 @@ pub record TapeWaitsAtFault (s : Settings) (rows : List ℕ) (row : ℕ) (cause 
 abbrev pub EachFaultyTapeWaits : Type 0
 EachFaultyTapeWaits =
     (s : Settings) (rows : List ℕ) (row : ℕ) (cause : TapeCause)
-    → (f : IsFault s.size cleared_cells.words first_note rows row cause)
+    → (f : IsFault s.size cleared_cells.words opening_notation rows row cause)
     → TapeWaitsAtFault s rows row cause f.is.stands

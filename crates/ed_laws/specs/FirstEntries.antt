@@ -3,7 +3,7 @@ use Rattle.std.specs.Prelude.{◌≡◌, ℕ, ◌<◌, List, codes}
 use Rattle.ed_machine.specs.Steps.{state_after}
 use Rattle.ed_run.specs.declared.settings.Settings.{Settings}
 use Rattle.ed_initial1.specs.Checks.{report1}
-use Rattle.ed_initial1.specs.Faults.{Tape, Comes1}
+use Rattle.ed_initial1.specs.Faults.{Tape, ReachesEntry1}
 use Rattle.ed_report.specs.Entries.{entry_line}
 use Rattle.ed_answers.specs.FirstEntry.{RunsFrom31, cost1}
 use Rattle.ed_answers.specs.FirstFaults.{silent_outcome}
@@ -21,4 +21,4 @@ pub record FirstTapeRunsFromEntry (s : Settings) (rows : List ℕ) (t : Tape) : 
 -- the same for every tape that gives a program
 abbrev pub EachFirstTapeRunsFromEntry : Type 0
 EachFirstTapeRunsFromEntry =
-    (s : Settings) (rows : List ℕ) (t : Tape) → Comes1 rows t → FirstTapeRunsFromEntry s rows t
+    (s : Settings) (rows : List ℕ) (t : Tape) → ReachesEntry1 rows t → FirstTapeRunsFromEntry s rows t

@@ -6,7 +6,7 @@ use Rattle.ed_machine.specs.State.{State}
 use Rattle.ed_machine.specs.Steps.{progress, state_after}
 use Rattle.ed_run.specs.Run.{run_end}
 use Rattle.ed_run.specs.declared.settings.Settings.{Settings}
-use Rattle.ed_notation.specs.Faults.{TapeEntry, ComesTo, WellFormed}
+use Rattle.ed_notation.specs.Faults.{TapeEntry, RowsReachEntry, WellFormed}
 use Rattle.ed_initial.specs.Entry.{at_entry, first_state}
 use Rattle.ed_report.specs.Entries.{entry_line}
 use Rattle.ed_stepper.specs.Scripts.{line_of_move, move_line, after_move}
@@ -16,7 +16,7 @@ use Rattle.ed_stepper.specs.Traces.{trace_to}
 use Rattle.ed_answers.specs.FirstFaults.{silent_outcome}
 use Rattle.ed_answers.specs.Limits.{StartsWith, with_limit}
 use Rattle.ed_answers.specs.Outcome.{Outcome, done}
-use Rattle.ed_answers.specs.Tapes.{IsChecked, first_note, tape_outcome}
+use Rattle.ed_answers.specs.Tapes.{IsChecked, opening_notation, tape_outcome}
 use Rattle.ed_answers.specs.Runs.{paper_room, ran_outcome, with_post_mortem}
 use Rattle.ed_top.specs.Parts.{IsInParts}
 use Rattle.ed_top.specs.Scripts.{stand_on}
@@ -69,5 +69,5 @@ pub record TapeRunsFromEntry (s : Settings) (codes : List ℕ) (e : TapeEntry) :
 -- the same for every tape that is well formed from a cleared store, and the entry that it reaches
 abbrev pub EachTapeRunsFromEntry : Type 0
 EachTapeRunsFromEntry =
-    (s : Settings) (codes : List ℕ) (e : TapeEntry) → WellFormed s.size cleared_cells.words first_note codes
-    → ComesTo cleared_cells.words first_note 9 codes e → TapeRunsFromEntry s codes e
+    (s : Settings) (codes : List ℕ) (e : TapeEntry) → WellFormed s.size cleared_cells.words opening_notation codes
+    → RowsReachEntry cleared_cells.words opening_notation 9 codes e → TapeRunsFromEntry s codes e

@@ -9,12 +9,12 @@ use Rattle.ed_store.specs.Cells.{cleared_cells}
 use Rattle.ed_run.specs.Run.{RunEnd}
 use Rattle.ed_run.specs.declared.settings.Settings.{Settings}
 use Rattle.ed_notation.specs.Items.{AreDigits, digits_number}
-use Rattle.ed_notation.specs.Faults.{TapeEntry, ComesTo, WellFormed}
-use Rattle.ed_initial1.specs.Faults.{Tape, Comes1}
+use Rattle.ed_notation.specs.Faults.{TapeEntry, RowsReachEntry, WellFormed}
+use Rattle.ed_initial1.specs.Faults.{Tape, ReachesEntry1}
 use Rattle.ed_answers.specs.declared.input.TheConstants.{INPUT_BYTES}
 use Rattle.ed_answers.specs.Limits.{with_limit}
 use Rattle.ed_answers.specs.Runs.{run_of}
-use Rattle.ed_answers.specs.Tapes.{first_note}
+use Rattle.ed_answers.specs.Tapes.{opening_notation}
 
 -- ---- blank tape before a tape
 
@@ -45,8 +45,8 @@ end_later k r = record r { state = record r.state { orders = r.state.orders + k 
 -- the tape after blank tape reaches the same entry later. With a limit that is as much greater its run ends in the
 -- same way, prints the same, and leaves the same state, with the greater count of orders.
 pub record BlankTapeIsPassed (s : Settings) (tape : List ℕ) (e : TapeEntry) (m : ℕ) : Type 0 where
-  pub well : WellFormed s.size cleared_cells.words first_note (blank_tape m ++ tape)
-  pub comes : ComesTo cleared_cells.words first_note 9 (blank_tape m ++ tape) (entry_later m e)
+  pub well : WellFormed s.size cleared_cells.words opening_notation (blank_tape m ++ tape)
+  pub comes : RowsReachEntry cleared_cells.words opening_notation 9 (blank_tape m ++ tape) (entry_later m e)
   pub runs : e.cost ≤ s.limit
       → run_of (with_limit (s.limit + blank_cost m) s) (blank_tape m ++ tape) ≡ end_later (blank_cost m) (run_of s tape)
 
@@ -56,11 +56,12 @@ pub record BlankTapeIsPassed (s : Settings) (tape : List ℕ) (e : TapeEntry) (m
 pub record NotationFacts : Type 0 where
   -- blank tape of any length may come before a well-formed tape that begins with T n K G K
   pub after_blanks : (s : Settings) (tape : List ℕ) (e : TapeEntry) (m : ℕ)
-      → WellFormed s.size cleared_cells.words first_note tape → ComesTo cleared_cells.words first_note 9 tape e
+      → WellFormed s.size cleared_cells.words opening_notation tape
+      → RowsReachEntry cleared_cells.words opening_notation 9 tape e
       → BeginsAtPlace tape → BlankTapeIsPassed s tape e m
   -- no tape is without a fault for both loaders
-  pub for_one_loader : (z : Size) (tape : List ℕ) (t : Tape) → Comes1 tape t
-      → WellFormed z cleared_cells.words first_note tape → ⊥
+  pub for_one_loader : (z : Size) (tape : List ℕ) (t : Tape) → ReachesEntry1 tape t
+      → WellFormed z cleared_cells.words opening_notation tape → ⊥
   -- a text that may be the input of the program costs at most 4,456,457 orders
   pub cheap : (text : Text) (tape : List ℕ) (e : TapeEntry) → reading text ≡ rows tape → length text ≤ INPUT_BYTES
-      → ComesTo cleared_cells.words first_note 9 tape e → e.cost ≤ 4456457
+      → RowsReachEntry cleared_cells.words opening_notation 9 tape e → e.cost ≤ 4456457

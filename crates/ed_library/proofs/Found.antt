@@ -11,9 +11,9 @@ pub passed_over : (text : List ℕ) (r : ℕ) → r < length catalogue → bytes
 passed_over text r below other = rw (drop_more catalogue r no_entry below) (simp other)
 
 -- a routine of this name is found
-pub found : (text : List ℕ) (r : ℕ) → r < length catalogue → bytes_eq (entry r).name text ≡ true
+pub find_from-found : (text : List ℕ) (r : ℕ) → r < length catalogue → bytes_eq (entry r).name text ≡ true
     → find_from text r (drop r catalogue) ≡ Some r
-found text r below same = rw (drop_more catalogue r no_entry below) (simp same)
+find_from-found text r below same = rw (drop_more catalogue r no_entry below) (simp same)
 
 -- none is found after the last routine
 pub none_left : (text : List ℕ) (r : ℕ) → length catalogue ≤ r → find_from text r (drop r catalogue) ≡ None

@@ -1,27 +1,13 @@
 -- The number of rows that a line gives.
-use Rattle.std.proofs.Common.{◌≡◌, ℕ, ◌+◌, ◌*◌, ◌/◌, ◌%◌, ◌^◌, ◌≤◌, subst, ap, arith, lit≤, Bool, true, false, nat_eq}
-use Rattle.std.proofs.Common.{nat_le, if◌then◌else◌, Option, Some, None}
-use Rattle.std.proofs.Common.{List, [], ◌∷◌, ◌++◌, length, map, length-append}
-use Rattle.std.specs.List.{flat_map}
-use Rattle.std.proofs.lemmas.List.{length-map}
-use Rattle.ed_notation.specs.declared.item.Item.{Item}
-use Rattle.ed_notation.specs.Items.{mark_rows, begun_rows}
-use Rattle.ed_notation.specs.Spellings.{canonical, digit_at, digits_of, item_rows}
+use Rattle.ed_link.proofs.Kit.{item_rows, Item, [], ap, arith, Bool, false, if◌then◌else◌, length, length-append, List}
+use Rattle.ed_link.proofs.Kit.{lit≤, nat_eq, nat_le, None, Option, Some, true, ℕ, ◌%◌, ◌*◌, ◌++◌, ◌+◌, ◌/◌, ◌∷◌, ◌≡◌}
+use Rattle.ed_link.proofs.Kit.{◌≤◌, flat_map, canonical, Operand, Setting, Statement, Enter, Fetch, Long, Number}
+use Rattle.ed_link.proofs.Kit.{Order, Rows, Segment, Text, map, ◌^◌, length-map, entry, find, place_count, table_item}
+use Rattle.ed_link.proofs.Kit.{even_from, segment_at, LocationCounter, Definition, long_words, operand_number}
+use Rattle.ed_link.proofs.Kit.{parameter_letters, set_to, IsFew, goes_by_theta, heads, items_of, order_item}
+use Rattle.ed_link.proofs.Kit.{preset_items, routine_items, use_items, with_heading, word_item}
+use Rattle.ed_notation.proofs.Kit.{begun_rows, mark_rows, digit_at, digits_of}
 use Rattle.ed_notation.proofs.ItemRows.{item_rows_are}
-use Rattle.ed_library.specs.Entries.{entry}
-use Rattle.ed_library.specs.Routines.{find, table_item, place_count}
-use Rattle.ed_syntax.specs.declared.program.Operand.{Operand}
-use Rattle.ed_syntax.specs.declared.program.Setting.{Setting}
-use Rattle.ed_syntax.specs.declared.program.Statement.{Statement}
-use Rattle.ed_syntax.specs.declared.program.Statement.TheVariants.{Segment, Order, Number, Text}
-use Rattle.ed_syntax.specs.declared.program.Statement.TheVariants.{Long, Fetch, Enter, Rows}
-use Rattle.ed_symbols.specs.declared.symbols.Definition.{Definition}
-use Rattle.ed_symbols.specs.declared.location_counter.LocationCounter.{LocationCounter}
-use Rattle.ed_symbols.specs.Places.{even_from, segment_at}
-use Rattle.ed_link.specs.Linked.{parameter_letters, long_words, operand_number, set_to}
-use Rattle.ed_link.specs.Punch.{goes_by_theta, heads, with_heading, order_item, items_of, preset_items, routine_items}
-use Rattle.ed_link.specs.Punch.{use_items, word_item}
-use Rattle.ed_link.specs.Private.Building.{IsFew}
 
 digit_few : (p n : ℕ) (t : Bool) → length (if t then (n / p % 10) ∷ [] else []) ≤ 1
 digit_few p n true = lit≤ tt
@@ -32,8 +18,8 @@ mark_few true = lit≤ tt
 mark_few false = lit≤ tt
 
 -- a digit of a number has at most one row
-pub one : (p n : ℕ) → length (digit_at p n) ≤ 1
-one p n = digit_few p n (nat_le p n)
+pub length-one : (p n : ℕ) → length (digit_at p n) ≤ 1
+length-one p n = digit_few p n (nat_le p n)
 
 -- a number has at most 5 digit rows
 digits_few : (n : ℕ) → length (digits_of n) ≤ 5
@@ -48,11 +34,11 @@ digits_few n =
       length-append (digit_at 1000 n) c,
       length-append (digit_at 100 n) d,
       length-append (digit_at 10 n) e,
-      one 10000 n,
-      one 1000 n,
-      one 100 n,
-      one 10 n,
-      one 1 n,
+      length-one 10000 n,
+      length-one 1000 n,
+      length-one 100 n,
+      length-one 10 n,
+      length-one 1 n,
     )
 
 -- an item has at most 8 rows
@@ -156,7 +142,7 @@ items_few symbols s (Some (Rows codes)) h = lit≤ tt
 pub found_few : (found : Option ℕ) (r : ℕ) → Some r ≡ found → place_count r ≤ 128 → length (routine_items found) ≤ 128
 found_few found r e h =
     let l : length (routine_items (Some r)) ≤ 128 = omega (arith, h, length-map (entry r).items table_item) in
-    subst (λ (x : Option ℕ). length (routine_items x) ≤ 128) e l
+    rw (← e) l
 
 pub none_few : (found : Option ℕ) → found ≡ None → length (routine_items found) ≤ 128
 none_few found e = rw e (lit≤ tt)

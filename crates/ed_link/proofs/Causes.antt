@@ -1,8 +1,6 @@
 -- The fault of a line with the least number: its test holds, and those before it fail.
-use Rattle.std.proofs.Common.{◌≡◌, ℕ, refl, Bool, true, false, Option, Some, None}
-use Rattle.std.specs.Prelude.{if◌then◌else◌}
-use Rattle.ed_link.specs.declared.faults.Extent.{Extent}
-use Rattle.ed_link.specs.FaultTests.{extent, overlaps}
+use Rattle.ed_link.proofs.Kit.{Bool, false, if◌then◌else◌, List, None, Option, refl, Some, true, ℕ, ◌∙◌, ◌≡◌, list_any}
+use Rattle.ed_link.proofs.Kit.{extent, overlaps, Extent}
 
 -- a test that holds gives its value
 pub holds : {A : Type 0} (t : Bool) (x y : A) → true ≡ t → x ≡ (if t then x else y)
@@ -26,6 +24,11 @@ pub within : {A : Type 0} (t : Bool) (r r' : Extent) (n n' : ℕ) (a b c d y z :
     else (if overlaps r' (extent n' r'.after) then d else y))))
 within t r r' n n' a b c d y z same size outside loader parameters past e =
     rw (← same, ← size, ← outside, ← loader, ← parameters, ← past) e
+
+-- the test of the extents before a line, by the extent and the list that the code has
+pub among : {t : Bool} {a b : Extent} {xs ys : List Extent} → t ≡ list_any (λ o. overlaps a o) xs → a ≡ b → xs ≡ ys
+    → t ≡ list_any (λ o. overlaps b o) ys
+among h e f = h ∙ (λ i. list_any (λ o. overlaps (e i) o) (f i))
 
 -- the cause that one of two tests gives
 pub used : {A : Type 0} (t u : Bool) (a b x : A) (y : Option A)

@@ -1,23 +1,12 @@
 -- What the catalogue says of a routine that is found: it has an item, its items can be spelled, and its code letters
 -- are F, θ, D or its parameters. `tables` is the clause of the catalogue that all its routines are ready.
-use Rattle.std.proofs.Common.{◌≡◌, ℕ, suc, ◌+◌, ◌<◌, inl, inr, refl, sym, subst, arith}
-use Rattle.std.proofs.Common.{Bool, true, false, ◌&&◌, nat_lt, nat_le, Option}
-use Rattle.std.proofs.Common.{Some, None, List, [], ◌∷◌, length, is_some}
-use Rattle.std.specs.Prelude.{◌==◌, if◌then◌else◌}
-use Rattle.std.specs.List.{list_all, list_any}
-use Rattle.std.specs.Str.{bytes_eq}
-use Rattle.std.proofs.lemmas.Bool.{and_parts}
-use Rattle.std.proofs.lemmas.List.Sums.{AllPass-from_list_all}
-use Rattle.ed_words.proofs.Numbers.{eq_of, le_of, lt_of, or_of}
-use Rattle.ed_notation.specs.Spellings.{is_spellable}
-use Rattle.ed_library.specs.Entries.{Routine, catalogue, entry, no_entry}
-use Rattle.ed_library.specs.Ready.{is_ready, is_ready_row, is_parameter, are_letters, are_rising}
-use Rattle.ed_library.specs.Routines.{find, find_from, missing_row, table_item, routine_item, place_count}
-use Rattle.ed_library.specs.declared.tables.TableRow.{TableRow}
-use Rattle.ed_syntax.specs.declared.program.Operand.{Operand}
-use Rattle.ed_syntax.specs.declared.program.Setting.{Setting}
-use Rattle.ed_link.specs.Linked.{set_to}
-use Rattle.ed_link.specs.FaultTests.{sets}
+use Rattle.ed_link.proofs.Kit.{AllPass-from_list_all, [], arith, Bool, false, if◌then◌else◌, inl, inr, length, List}
+use Rattle.ed_link.proofs.Kit.{None, Option, refl, Some, suc, sym, true, ℕ, ◌+◌, ◌<◌, ◌∷◌, ◌≡◌, list_all, and_parts}
+use Rattle.ed_link.proofs.Kit.{eqb-true, leb-true, ltb-true, Operand, Setting, ◌==◌, catalogue, entry, is_ready}
+use Rattle.ed_link.proofs.Kit.{is_ready_row, find, TableRow, is_some, list_any, or_cases, sets, set_to}
+use Rattle.ed_library.specs.Entries.{Routine, no_entry}
+use Rattle.ed_library.specs.Ready.{is_parameter}
+use Rattle.ed_library.specs.Routines.{find_from}
 use Rattle.ed_link.proofs.Uses.{IsKnown, AreKnown}
 
 -- a routine is found among those from an index upwards
@@ -29,17 +18,16 @@ found_by k r n false later more h = let i = more h in omega arith
 -- the same of the whole list
 found_in : (text : List ℕ) (k r : ℕ) (es : List Routine) → find_from text k es ≡ Some r → r < k + length es
 found_in text k r [] h = cc
-found_in text k r (e ∷ es) h =
-    found_by k r (length es) (bytes_eq e.name text) (find_from text (k + 1) es) (found_in text (k + 1) r es) h
+found_in text k r (e ∷ es) h = found_by k r (length es) _ _ (found_in text (k + 1) r es) h
 
 -- what holds of all holds of one among them
 one_of : (test : ℕ → Bool) (cs : List ℕ) (c : ℕ) → list_all test cs ≡ true → list_any (λ x. x == c) cs ≡ true
     → test c ≡ true
 one_of test [] c h g = cc
 one_of test (x ∷ cs) c h g =
-    let p = and_parts (test x) (list_all test cs) h in
-    elim (or_of (x == c) (list_any (λ y. y == c) cs) g) [
-      | inl e ↦ subst (λ y. test y ≡ true) (eq_of x c e) p.0
+    let p = and_parts (test x) _ h in
+    elim (or_cases (x == c) _ g) [
+      | inl e ↦ rw (← (eqb-true x c e)) p.0
       | inr e ↦ one_of test cs c p.1 e
     ]
 
@@ -51,13 +39,11 @@ record IsClosed (e : Routine) : Type 0 where
 -- what it means for a routine to be ready
 of_ready : (e : Routine) → is_ready e ≡ true → IsClosed e
 of_ready e h =
-    let p = and_parts (nat_lt 0 (length e.items) && list_all (λ q. nat_lt q (length e.items)) e.working)
-    (are_letters e.parameters && list_all (is_ready_row e.parameters) e.items) h in
-    let q = and_parts (are_letters e.parameters) (list_all (is_ready_row e.parameters) e.items) p.1 in
+    let p = and_parts _ _ h in
+    let q = and_parts _ _ p.1 in
     record {
-      some = lt_of _ _ (and_parts (nat_lt 0 (length e.items))
-          (list_all (λ q. nat_lt q (length e.items)) e.working) p.0).0;
-      letters = (and_parts (are_rising e.parameters) (list_all is_parameter e.parameters) q.0).1;
+      some = ltb-true _ _ (and_parts _ _ p.0).0;
+      letters = (and_parts _ _ q.0).1;
       rows = q.1;
     }
 
@@ -69,12 +55,6 @@ module _ (tables : list_all is_ready catalogue ≡ true) (text : List ℕ) (r : 
 
   pub some_items : 0 < length (entry r).items
   some_items = closed.some
-
-  pub spelled_item : (place : ℕ) → place < place_count r → is_spellable (routine_item r place) ≡ true
-  spelled_item place h =
-      let row = AllPass-from_list_all (is_ready_row (entry r).parameters) (entry r).items closed.rows place
-      missing_row h in
-      (and_parts (is_spellable (routine_item r place)) _ row).0
 
   pub rows_are_ready : list_all (is_ready_row (entry r).parameters) (entry r).items ≡ true
   rows_are_ready = closed.rows
@@ -88,16 +68,17 @@ module _ (ts : List Setting) where
       → list_all is_parameter letters ≡ true
       → list_any (λ x. x == c) (17 ∷ 18 ∷ 19 ∷ letters) ≡ true → IsKnown ts c
   known letters c set range g =
-      elim (or_of (17 == c) _ g) [
-        | inl e ↦ inl (sym (eq_of 17 c e))
-        | inr g1 ↦ elim (or_of (18 == c) _ g1) [
-          | inl e ↦ inr (inl (sym (eq_of 18 c e)))
-          | inr g2 ↦ elim (or_of (19 == c) _ g2) [
-            | inl e ↦ inr (inr (inl (sym (eq_of 19 c e))))
+      elim (or_cases (17 == c) _ g) [
+        | inl e ↦ inl (sym (eqb-true 17 c e))
+        | inr g1 ↦ elim (or_cases (18 == c) _ g1) [
+          | inl e ↦ inr (inl (sym (eqb-true 18 c e)))
+          | inr g2 ↦ elim (or_cases (19 == c) _ g2) [
+            | inl e ↦ inr (inr (inl (sym (eqb-true 19 c e))))
             | inr g3 ↦
-                let p = and_parts (nat_le 21 c) (nat_le c 26) (one_of is_parameter letters c range g3) in
-                let o = operand_of (set_to ts c) (one_of (λ x. is_some (set_to ts x)) letters c set g3) in
-                inr (inr (inr (record { low = le_of 21 c p.0; high = le_of c 26 p.1; operand = o.0; is_set = o.1 })))
+                let p = and_parts _ _ (one_of is_parameter letters c range g3) in
+                let o = operand_of _ (one_of (λ x. is_some (set_to ts x)) letters c set g3) in
+                inr
+                (inr (inr (record { low = leb-true 21 c p.0; high = leb-true c 26 p.1; operand = o.0; is_set = o.1 })))
           ]
         ]
       ]
@@ -108,8 +89,8 @@ module _ (ts : List Setting) where
       → AreKnown ts rows
   all_known letters [] set range h = tt
   all_known letters (row ∷ rows) set range h =
-      let p = and_parts (is_ready_row letters row) (list_all (is_ready_row letters) rows) h in
-      let q = and_parts (is_spellable (table_item row)) _ p.0 in
+      let p = and_parts _ _ h in
+      let q = and_parts _ _ p.0 in
       (known letters row.end set range q.1, all_known letters rows set range p.1)
 
   -- the code letters of a routine whose parameters are set

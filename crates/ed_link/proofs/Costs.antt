@@ -1,14 +1,8 @@
 -- What the items of a punched tape cost in the notation is what they are said to cost.
-use Rattle.std.proofs.Common.{◌≡◌, ◌⊎◌, inl, inr, ℕ, refl, sym, ap, ◌∙◌, Bool, true, false, nat_eq}
-use Rattle.ed_words.proofs.Numbers.{eq_of}
-use Rattle.ed_notation.specs.declared.item.Item.{Item}
+use Rattle.ed_link.proofs.Kit.{Item, Letter, ap, Bool, false, inl, inr, nat_eq, refl, sym, true, ℕ, ◌∙◌, ◌≡◌, ◌⊎◌}
+use Rattle.ed_link.proofs.Kit.{eqb-true, cost_of, is_entry, NotationState, row_kind, canonical, item_with, item_cost}
+use Rattle.ed_notation.specs.Fold.{entering, enters_at, letter_action_of}
 use Rattle.ed_notation.specs.declared.kind.RowKind.{RowKind}
-use Rattle.ed_notation.specs.declared.kind.RowKind.TheVariants.{Letter}
-use Rattle.ed_notation.specs.Items.{row_kind}
-use Rattle.ed_notation.specs.Fold.{NotationState, cost_of, entering, is_entry, enters_at, letter_action_of}
-use Rattle.ed_notation.specs.Spellings.{canonical}
-use Rattle.ed_link.specs.Punch.{item_with}
-use Rattle.ed_link.specs.Tapes.{item_cost}
 
 -- an item ends with K or with a code letter
 abbrev pub EndsPlainly : ℕ → Type 0
@@ -19,7 +13,7 @@ no_kay : (c : ℕ) → row_kind c ≡ Letter → nat_eq c 14 ≡ false
 no_kay c letter = by_test (nat_eq c 14) refl
   where
     by_test : (t : Bool) → nat_eq c 14 ≡ t → t ≡ false
-    by_test true e = let k : row_kind 14 ≡ Letter = ap row_kind (sym (eq_of c 14 e)) ∙ letter in cc
+    by_test true e = let k : row_kind 14 ≡ Letter = ap row_kind (sym (eqb-true c 14 e)) ∙ letter in cc
     by_test false e = refl
 
 -- an item that doesn't enter

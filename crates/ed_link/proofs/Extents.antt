@@ -1,17 +1,10 @@
 -- Extents of lines that are below a location: what is from there upwards doesn't overlap them.
-use Rattle.std.proofs.Common.{◌≡◌, ◌∙◌, ℕ, zero, suc, ◌+◌, ◌≤◌, Bool, true, false, List, [], ◌∷◌, ◌++◌, refl, ap, arith}
-use Rattle.std.proofs.Common.{nat_le, nat_lt}
-use Rattle.std.specs.Prelude.{max, min, Option, None}
-use Rattle.std.specs.List.{list_all, list_any}
-use Rattle.std.proofs.lemmas.Bool.{and_parts}
+use Rattle.ed_link.proofs.Kit.{max, min, [], ap, arith, Bool, false, List, nat_le, nat_lt, None, Option, refl, suc}
+use Rattle.ed_link.proofs.Kit.{true, ℕ, ◌++◌, ◌+◌, ◌∙◌, ◌∷◌, ◌≡◌, ◌≤◌, list_all, and_parts, le-ltb, leb-true}
+use Rattle.ed_link.proofs.Kit.{SourceCause, SourceFault, zero, LocationCounter, list_any, or_later, extent}
+use Rattle.ed_link.proofs.Kit.{LinesBefore, overlaps, Extent}
+use Rattle.std.proofs.lemmas.Bool.{le-leb}
 use Rattle.std.proofs.lemmas.List.Folds.{list_all-append}
-use Rattle.ed_words.proofs.Numbers.{le_of, le_true, lt_false}
-use Rattle.ed_syntax.specs.declared.fault.SourceCause.{SourceCause}
-use Rattle.ed_syntax.specs.declared.fault.SourceFault.{SourceFault}
-use Rattle.ed_symbols.specs.declared.location_counter.LocationCounter.{LocationCounter}
-use Rattle.ed_symbols.specs.NameTests.{or_later}
-use Rattle.ed_link.specs.FaultTests.{LinesBefore, extent, overlaps}
-use Rattle.ed_link.specs.declared.faults.Extent.{Extent}
 
 -- the extents of lines
 abbrev pub ExtentList : Type 0
@@ -24,30 +17,25 @@ are_below p extents = list_all (λ e. nat_le e.after p) extents
 pub below_more : (p q : ℕ) (extents : ExtentList) → p ≤ q → are_below p extents ≡ true → are_below q extents ≡ true
 below_more p q [] l h = refl
 below_more p q (e ∷ extents) l h =
-    let s = and_parts (nat_le e.after p) (are_below p extents) h in
-    let under = le_of e.after p s.0 in
-    let first : nat_le e.after q ≡ true = le_true e.after q (omega arith) in
-    let rest = below_more p q extents l s.1 in
-    rw (first, rest) refl
+    let s = and_parts _ _ h in
+    let under = leb-true e.after p s.0 in
+    rw (le-leb e.after q (omega arith), below_more p q extents l s.1) refl
 
 -- and so are those of one more line
 pub one_more : (p a q : ℕ) (extents : ExtentList) → p ≤ q → are_below p extents ≡ true
     → are_below q (extents ++ extent a q ∷ []) ≡ true
 one_more p a q extents l h =
-    let before = below_more p q extents l h in
-    let last : nat_le q q ≡ true = le_true q q (omega arith) in
-    list_all-append (λ e. nat_le e.after q) extents (extent a q ∷ []) ∙ rw (before, last) refl
+    list_all-append (λ e. nat_le e.after q) extents _
+    ∙ rw (below_more p q extents l h, le-leb q q (omega arith)) refl
 
 -- extents from there upwards don't overlap them
-pub apart : (p a b : ℕ) (extents : ExtentList) → p ≤ a → are_below p extents ≡ true
+pub list_any-apart : (p a b : ℕ) (extents : ExtentList) → p ≤ a → are_below p extents ≡ true
     → list_any (λ other. overlaps (extent a b) other) extents ≡ false
-apart p a b [] l h = refl
-apart p a b (e ∷ extents) l h =
-    let s = and_parts (nat_le e.after p) (are_below p extents) h in
-    let under = le_of e.after p s.0 in
-    let none : nat_lt (max a e.from) (min b e.after) ≡ false = lt_false (max a e.from) (min b e.after) (omega arith) in
-    let rest = apart p a b extents l s.1 in
-    rw (none, rest) refl
+list_any-apart p a b [] l h = refl
+list_any-apart p a b (e ∷ extents) l h =
+    let s = and_parts _ _ h in
+    let under = leb-true e.after p s.0 in
+    rw (le-ltb (max a e.from) (min b e.after) (omega arith), list_any-apart p a b extents l s.1) refl
 
 -- a line, and those after it
 pub none_later : (l : ℕ) (cause : Option SourceCause) (later : Option SourceFault) → cause ≡ None → later ≡ None
@@ -62,9 +50,9 @@ pub record FitsStore (top a b : ℕ) : Type 0 where
 
 pub fits_store : (top a b : ℕ) → 56 ≤ a → b ≤ top → FitsStore top a b
 fits_store top a b low fits = record {
-  loader = lt_false (max a 0) (min b 44) (omega arith);
-  parameters = lt_false (max a 44) (min b 56) (omega arith);
-  store = lt_false (max a top) (min b b) (omega arith);
+  loader = le-ltb (max a 0) (min b 44) (omega arith);
+  parameters = le-ltb (max a 44) (min b 56) (omega arith);
+  store = le-ltb (max a top) (min b b) (omega arith);
 }
 
 -- a location counter inside a segment, and lines before any `enter`

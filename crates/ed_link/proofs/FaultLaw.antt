@@ -1,36 +1,25 @@
 -- The fault that is looked for is that of the definition, and no fault is found if the source has none.
-use Rattle.std.proofs.Common.{◌≡◌, ◌⊎◌, inl, inr, ℕ, ◌+◌, ◌<◌, ◌≤◌, refl, sym, ap, ◌∙◌, subst, arith}
-use Rattle.std.proofs.Common.{Bool, true, false, ◌||◌, Option, Some, None, List, [], ◌∷◌, ◌++◌, length, nat_le}
-use Rattle.std.proofs.Common.{length-append, if◌then◌else◌}
-use Rattle.std.proofs.lemmas.Bool.Decides.{nat_tests}
-use Rattle.ed_words.proofs.Numbers.{le_of, not_le_of}
-use Rattle.ed_words.specs.declared.size.Size.{Size}
-use Rattle.std.specs.Prelude.{Result, Ok, Err, IfErr}
-use Rattle.ed_link.specs.Answers.{HasMeaningFault}
-use Rattle.ed_syntax.specs.Programs.{AreNumbered}
-use Rattle.ed_syntax.specs.declared.program.Line.{Line}
-use Rattle.ed_syntax.specs.declared.fault.SourceCause.{SourceCause}
-use Rattle.ed_syntax.specs.declared.fault.SourceCause.TheVariants as causes
-use Rattle.ed_syntax.specs.declared.fault.SourceFault.{SourceFault}
-use Rattle.ed_syntax.specs.declared.fault.SourceFault.TheVariants.{At, Memory}
-use Rattle.ed_symbols.specs.declared.symbols.Definition.{Definition}
-use Rattle.ed_symbols.specs.declared.location_counter.LocationCounter.{LocationCounter}
-use Rattle.ed_symbols.specs.Places.{after_statement, first_counter}
-use Rattle.ed_symbols.specs.NameTests.{or_later, resolution}
-use Rattle.ed_link.specs.Linked.{symbols_of}
-use Rattle.ed_link.specs.FaultTests.{IsFirstFault, any_enter, cause_of, fault, fault_from, is_enter, missing}
-use Rattle.ed_link.specs.FaultTests.{past_of}
-use Rattle.ed_link.specs.FaultTests.{sooner, word_extent, LinesBefore}
-use Rattle.ed_symbols.specs.NameFaults.{counter_from, counter_after}
-use Rattle.ed_link.specs.Faults.{HasEnter, SourceHasFault, on_line, no_enter}
-use Rattle.ed_syntax.specs.Causes.{number_of}
-use Rattle.ed_link.specs.Faults.{IsMeaningFault, HasNoFault}
-use Rattle.ed_link.proofs.FaultSentences.{extents_from, any_says, any_tests}
-use Rattle.ed_symbols.specs.NameFaults.{HasNameFault, StandsAfter}
+use Rattle.ed_link.proofs.Kit.{both_ways, Size, [], ap, arith, Bool, false, if◌then◌else◌, inl, inr, length}
+use Rattle.ed_link.proofs.Kit.{length-append, List, nat_le, None, Option, refl, Some, subst, sym, true, ℕ, ◌++◌, ◌+◌}
+use Rattle.ed_link.proofs.Kit.{◌<◌, ◌∙◌, ◌∷◌, ◌≡◌, ◌≤◌, ◌⊎◌, leb-true, SourceCause, SourceFault, At, Line, nat_tests}
+use Rattle.ed_link.proofs.Kit.{AreNumbered, resolution, LocationCounter, Definition, ◌||◌, number_of, counter_after}
+use Rattle.ed_link.proofs.Kit.{counter_from, IsLineAfter, or_later, after_statement, first_counter, any_enter}
+use Rattle.ed_link.proofs.Kit.{cause_of, earlier_fault, fault, fault_from, is_enter, LinesBefore, missing, past_of}
+use Rattle.ed_link.proofs.Kit.{word_extent, HasEnter, HasNoFault, on_line, symbols_of}
+use Rattle.std.proofs.Common.{Result, Err, IfErr}
+use Rattle.std.proofs.Math.Bool.{or-false, or_assoc}
+use Rattle.std.proofs.lemmas.Bool.{leb-false}
+use Rattle.ed_syntax.specs.declared.fault.SourceFault.TheVariants.{Memory}
 use Rattle.ed_syntax.proofs.Causes.{one_least}
-use Rattle.ed_symbols.proofs.FaultPasses.{first, finds, Finds, Numbered}
+use Rattle.ed_symbols.specs.NameFaults.{HasNameFault}
+use Rattle.ed_symbols.proofs.FaultPasses.{first, finds, Numbered}
 use Rattle.ed_symbols.proofs.NameLaw.{AtLine, SaysLeast, found_says, numbers, say_names, spot_snoc}
-use Rattle.ed_link.proofs.LineFaults.{OfMeaning, of_meaning, name_has_cause, few, cause_is_name}
+use Rattle.ed_link.specs.Answers.{HasMeaningFault}
+use Rattle.ed_link.specs.FaultTests.{IsFirstFault}
+use Rattle.ed_link.specs.Faults.{SourceHasFault, no_enter, IsMeaningFault}
+use Rattle.ed_link.proofs.FaultSentences.{extents_from, any_says, any_tests}
+use Rattle.ed_link.proofs.LineFaults.{OfMeaning, of_meaning, name_has_cause, number_of-few, cause_is_name}
+use Rattle.ed_syntax.specs.declared.fault.SourceCause.TheVariants as causes
 
 -- ---- the passes of the code, by what comes before a line
 
@@ -39,18 +28,10 @@ extents_snoc : (s : LocationCounter) (b : List Line) (l : Line)
 extents_snoc s [] l = refl
 extents_snoc s (e ∷ b) l = ap (λ x. word_extent e.statement s ∷ x) (extents_snoc (after_statement e.statement s) b l)
 
-or_last : (x : Bool) → (x || false) ≡ x
-or_last true = refl
-or_last false = refl
-
-or_assoc : (x y w : Bool) → (x || (y || w)) ≡ ((x || y) || w)
-or_assoc true y w = refl
-or_assoc false y w = refl
-
 any_snoc : (b : List Line) (l : Line) → any_enter (b ++ l ∷ []) ≡ (any_enter b || is_enter l.statement)
-any_snoc [] l = or_last (is_enter l.statement)
+any_snoc [] l = or-false (is_enter l.statement)
 any_snoc (e ∷ b) l = ap (λ x. is_enter e.statement || x) (any_snoc b l)
-    ∙ or_assoc (is_enter e.statement) (any_enter b) (is_enter l.statement)
+    ∙ sym (or_assoc (is_enter e.statement) _ _)
 
 module _ (z : Size) (lines : List Line) where
   abbrev past_after : List Line → LinesBefore
@@ -71,32 +52,18 @@ module _ (z : Size) (lines : List Line) where
       (after_statement l.statement (counter_after b)) rest)
       (past_snoc b l)
       ∙ (ap (λ s. fault_from z (symbols_of lines) (any_enter lines) (past_after (b ++ l ∷ [])) s rest)
-      (sym (spot_snoc first_counter b l))
-      ∙ meaning_pass (b ++ l ∷ []) rest))
+      (sym (spot_snoc first_counter b l)) ∙ meaning_pass _ rest))
 
 -- ---- the least of several
 
 module _ (H G : ℕ → SourceCause → Type 0)
     (order : (k : ℕ) (c d : SourceCause) → H k c → G k d → number_of c ≤ number_of d) where
-  merge : (a b : Option SourceFault) → SaysLeast H a → SaysLeast G b → SaysLeast (λ k c. H k c ⊎ G k c) (sooner a b)
-  merge None None h g = λ k c x. neither k c x
-    where
-      neither : (k : ℕ) (c : SourceCause) → H k c ⊎ G k c → ⊥
-      neither k c (inl x) = h k c x
-      neither k c (inr x) = g k c x
-  merge None (Some Memory) h g = absurd g
-  merge None (Some (At k c)) h g = (inr g.0, λ r o x. least r o x)
-    where
-      least : (r : ℕ) (o : SourceCause) → H r o ⊎ G r o → (k < r) ⊎ ((k ≡ r) × (number_of c ≤ number_of o))
-      least r o (inl x) = absurd (h r o x)
-      least r o (inr x) = g.1 r o x
+  merge : (a b : Option SourceFault) → SaysLeast H a → SaysLeast G b
+      → SaysLeast (λ k c. H k c ⊎ G k c) (earlier_fault a b)
+  merge None None h g = λ k c. elim [ inl x ↦ h k c x | inr x ↦ g k c x ]
+  merge None (Some (At k c)) h g = (inr g.0, λ r o. elim [ inl x ↦ absurd (h r o x) | inr x ↦ g.1 r o x ])
   merge (Some Memory) b h g = absurd h
-  merge (Some (At k c)) None h g = (inl h.0, λ r o x. least r o x)
-    where
-      least : (r : ℕ) (o : SourceCause) → H r o ⊎ G r o → (k < r) ⊎ ((k ≡ r) × (number_of c ≤ number_of o))
-      least r o (inl x) = h.1 r o x
-      least r o (inr x) = absurd (g r o x)
-  merge (Some (At k c)) (Some Memory) h g = absurd g
+  merge (Some (At k c)) None h g = (inl h.0, λ r o. elim [ inl x ↦ h.1 r o x | inr x ↦ absurd (g r o x) ])
   merge (Some (At k c)) (Some (At m d)) h g = by_test (nat_le k m) refl
     where
       split : (n p : ℕ) → n ≤ p → (n < p) ⊎ (n ≡ p)
@@ -105,12 +72,10 @@ module _ (H G : ℕ → SourceCause → Type 0)
       later : (r : ℕ) (o : SourceCause) → k ≤ m → G r o → (m < r) ⊎ ((m ≡ r) × (number_of d ≤ number_of o))
           → (k < r) ⊎ ((k ≡ r) × (number_of c ≤ number_of o))
       later r o e x (inl y) = inl (omega (arith, e, y))
-      later r o e x (inr y) = by_order (split k m e)
-        where
-          by_order : (k < m) ⊎ (k ≡ m) → (k < r) ⊎ ((k ≡ r) × (number_of c ≤ number_of o))
-          by_order (inl w) = inl (omega (arith, w, y.0))
-          by_order (inr w) =
-              inr (omega (arith, w, y.0), order k c o h.0 (subst (λ n. G n o) (omega (arith, w, y.0)) x))
+      later r o e x (inr y) = elim (split k m e) [
+        | inl w ↦ inl (omega (arith, w, y.0))
+        | inr w ↦ inr (omega (arith, w, y.0), order k c o h.0 (subst (λ n. G n o) (omega (arith, w, y.0)) x))
+      ]
 
       ahead : (r : ℕ) (o : SourceCause) → m < k → (k < r) ⊎ ((k ≡ r) × (number_of c ≤ number_of o))
           → (m < r) ⊎ ((m ≡ r) × (number_of d ≤ number_of o))
@@ -119,16 +84,10 @@ module _ (H G : ℕ → SourceCause → Type 0)
 
       by_test : (t : Bool) → nat_le k m ≡ t
           → SaysLeast (λ n x. H n x ⊎ G n x) (if t then Some (At k c) else Some (At m d))
-      by_test true e = (inl h.0, λ r o x. least r o x)
-        where
-          least : (r : ℕ) (o : SourceCause) → H r o ⊎ G r o → (k < r) ⊎ ((k ≡ r) × (number_of c ≤ number_of o))
-          least r o (inl x) = h.1 r o x
-          least r o (inr x) = later r o (le_of k m e) x (g.1 r o x)
-      by_test false e = (inr g.0, λ r o x. least r o x)
-        where
-          least : (r : ℕ) (o : SourceCause) → H r o ⊎ G r o → (m < r) ⊎ ((m ≡ r) × (number_of d ≤ number_of o))
-          least r o (inl x) = ahead r o (not_le_of k m e) (h.1 r o x)
-          least r o (inr x) = g.1 r o x
+      by_test true e = (inl h.0, λ r o. elim [ inl x ↦ h.1 r o x | inr x ↦ later r o (leb-true k m e) x (g.1 r o x) ])
+      by_test false e =
+          (inr g.0, λ r o. elim [ inl x ↦ ahead r o (leb-false k m e) (h.1 r o x) | inr x ↦ g.1 r o x ])
+  merge a (Some Memory) h g = absurd g
 
 -- ---- the law
 
@@ -146,8 +105,7 @@ module _ (z : Size) (lines : List Line) (numbered : Numbered lines) where
   second = fault_from z (symbols_of lines) (any_enter lines) (record { extents = []; entered = false }) first_counter lines
 
   say_meaning : SaysLeast Meanings second
-  say_meaning = found_says (λ b l c. OfMeaning z lines b l c) lines second
-      (subst (Finds (λ b l c. OfMeaning z lines b l c) lines) (sym (meaning_pass z lines [] lines))
+  say_meaning = found_says (λ b l c. OfMeaning z lines b l c) lines second (rw (meaning_pass z lines [] lines)
       (finds (ask_meaning z lines) (λ b l c. OfMeaning z lines b l c) lines numbered
       (λ b l. of_meaning z lines b l) [] lines refl (λ b l c st h. omega arith)))
 
@@ -157,12 +115,9 @@ module _ (z : Size) (lines : List Line) (numbered : Numbered lines) where
       by_test : (t : Bool) → any_enter lines ≡ t → SaysLeast Lacking (missing t (length lines))
       by_test true e = λ k c h. h.0 (any_says lines e)
       by_test false e = (
-        (λ h. let g : any_enter lines ≡ true = any_tests lines h in none g, refl, refl),
-        λ r o h. inr (sym h.1, subst (λ x. 16 ≤ number_of x) (sym h.2) (omega arith)),
+        (λ h. both_ways _ e (any_tests lines h), refl, refl),
+        λ r o h. inr (sym h.1, rw h.2 (omega arith)),
       )
-        where
-          none : any_enter lines ≡ true → ⊥
-          none g = cc
 
   abbrev All : ℕ → SourceCause → Type 0
   All k c = Names k c ⊎ (Meanings k c ⊎ Lacking k c)
@@ -170,35 +125,31 @@ module _ (z : Size) (lines : List Line) (numbered : Numbered lines) where
   not_both : (k : ℕ) (c d : SourceCause) → Meanings k c → Lacking k d → number_of c ≤ number_of d
   not_both k c d m h =
       let n : length lines ≡ length m.0 + length (m.1 ∷ m.2.after) =
-      ap (λ (x : List Line). length x) m.2.lines_are ∙ length-append m.0 (m.1 ∷ m.2.after) in
+      ap (λ (x : List Line). length x) m.2.lines_are ∙ length-append m.0 _ in
       absurd (omega (arith, n, m.3, h.1))
 
   names_first : (k : ℕ) (c d : SourceCause) → Names k c → Meanings k d ⊎ Lacking k d → number_of c ≤ number_of d
-  names_first k c d n (inl m) = omega (arith, few lines n.0 n.1 c n.4, m.4.1)
-  names_first k c d n (inr m) =
-      subst (λ x. number_of c ≤ number_of x) (sym m.2) (omega (arith, few lines n.0 n.1 c n.4))
+  names_first k c d n (inl m) = omega (arith, number_of-few lines n.0 n.1 c n.4, m.4.1)
+  names_first k c d n (inr m) = rw m.2 (omega (arith, number_of-few lines n.0 n.1 c n.4))
 
   say_all : SaysLeast All (fault z lines)
   say_all = merge Names (λ k c. Meanings k c ⊎ Lacking k c) names_first (resolution lines).fault
-      (sooner second (missing (any_enter lines) (length lines))) (say_names lines numbered)
+      (earlier_fault second (missing (any_enter lines) (length lines))) (say_names lines numbered)
       (merge Meanings Lacking not_both second (missing (any_enter lines) (length lines)) say_meaning say_lacking)
 
   to_has : (k : ℕ) (c : SourceCause) → All k c → SourceHasFault z lines k c
-  to_has k c (inl n) =
-      subst (λ m. SourceHasFault z lines m c) (sym n.3) (on_line n.2 (name_has_cause z lines n.0 n.1 c n.4))
-  to_has k c (inr (inl n)) = subst (λ m. SourceHasFault z lines m c) (sym n.3) (on_line n.2 n.4.0)
-  to_has k c (inr (inr n)) = subst (λ m. SourceHasFault z lines m c) (sym n.1)
-      (subst (λ x. SourceHasFault z lines (length lines + 1) x) (sym n.2) (no_enter n.0))
+  to_has k c (inl n) = rw n.3 (on_line n.2 (name_has_cause z lines n.0 n.1 c n.4))
+  to_has k c (inr (inl n)) = rw n.3 (on_line n.2 n.4.0)
+  to_has k c (inr (inr n)) = rw (n.1, n.2) (no_enter n.0)
 
   split_at : (n : ℕ) → (n ≤ 8) ⊎ (9 ≤ n)
   split_at n = grind arith
 
   of_has : {k : ℕ} {c : SourceCause} → SourceHasFault z lines k c → All k c
-  of_has (on_line {before} {l} {cause} st h) = by_number (split_at (number_of cause))
-    where
-      by_number : (number_of cause ≤ 8) ⊎ (9 ≤ number_of cause) → All (length before + 1) cause
-      by_number (inl n) = inl (before, l, st, refl, cause_is_name z lines before l cause h n)
-      by_number (inr n) = inr (inl (before, l, st, refl, (h, n)))
+  of_has (on_line {before} {l} {cause} st h) = elim (split_at (number_of cause)) [
+    | inl n ↦ inl (before, l, st, refl, cause_is_name z lines before l cause h n)
+    | inr n ↦ inr (inl (before, l, st, refl, (h, n)))
+  ]
   of_has (no_enter h) = inr (inr (h, refl, refl))
 
   -- what the answer says of the source
@@ -223,20 +174,18 @@ module _ (z : Size) (lines : List Line) (numbered : Numbered lines) where
   none_is e = subst Tells e tells
 
   pub is_none_fault : HasNoFault z lines → fault z lines ≡ None
-  is_none_fault h = by_answer (fault z lines) tells
-    where
-      by_answer : (f : Option SourceFault) → Tells f → f ≡ None
-      by_answer None t = refl
-      by_answer (Some Memory) t = absurd t
-      by_answer (Some (At k c)) t = absurd (h k c t.is)
+  is_none_fault h = (elim (fault z lines) as (λ (f : Option SourceFault). Tells f → f ≡ None) [
+    | None ↦ λ t. refl
+    | Some Memory ↦ λ t. absurd t
+    | Some (At k c) ↦ λ t. absurd (h k c t.is)
+  ]) tells
 
   pub is_fault : (k : ℕ) (c : SourceCause) → IsMeaningFault z lines k c → fault z lines ≡ Some (At k c)
-  is_fault k c h = by_answer (fault z lines) tells
-    where
-      by_answer : (f : Option SourceFault) → Tells f → f ≡ Some (At k c)
-      by_answer None t = absurd (t k c h.is)
-      by_answer (Some Memory) t = absurd t
-      by_answer (Some (At m d)) t = let same = one_least t h in λ i. Some (At (same.0 i) (same.1 i))
+  is_fault k c h = (elim (fault z lines) as (λ (f : Option SourceFault). Tells f → f ≡ Some (At k c)) [
+    | None ↦ λ t. absurd (t k c h.is)
+    | Some Memory ↦ λ t. absurd t
+    | Some (At m d) ↦ λ t. let same = one_least t h in λ i. Some (At (same.0 i) (same.1 i))
+  ]) tells
 
 -- ---- what the code answers
 
@@ -253,7 +202,7 @@ is_memory wanted Memory h = tt
 
 -- the fault of a source without an `enter` is later than one of its lines
 before_missing : (k n : ℕ) (c : SourceCause) (has_enter : Bool) → k ≤ n
-    → sooner (Some (At k c)) (missing has_enter n) ≡ Some (At k c)
+    → earlier_fault (Some (At k c)) (missing has_enter n) ≡ Some (At k c)
 before_missing k n c true h = refl
 before_missing k n c false h = let e : nat_le k (n + 1) ≡ true = grind (arith, nat_tests) in rw e refl
 
@@ -264,44 +213,43 @@ looked_for z lines symbols has_enter = fault_from z symbols has_enter (record { 
 
 module _ (z : Size) (lines : List Line) (numbered : Numbered lines) where
   -- the number of a line
-  within : (k : ℕ) (before : List Line) (l : Line) → StandsAfter lines before l → k ≡ length before + 1
+  within : (k : ℕ) (before : List Line) (l : Line) → IsLineAfter lines before l → k ≡ length before + 1
       → (nat_le k 0 ≡ false) × (k ≤ length lines)
   within k before l stands is =
       let n : length lines ≡ length before + length (l ∷ stands.after) =
-      ap (λ (x : List Line). length x) stands.lines_are ∙ length-append before (l ∷ stands.after) in
-      let some : 0 < k = omega (arith, is) in
-      (grind (arith, nat_tests, some), omega (arith, n, is))
+      ap (λ (x : List Line). length x) stands.lines_are ∙ length-append before _ in
+      (grind (arith, nat_tests), omega (arith, n, is))
 
   -- the fault of a line, or one of names that is sooner
   pub line_first : (e f : SourceFault) → IsFirstFault (looked_for z lines (symbols_of lines) (any_enter lines)) e
-      → Some f ≡ sooner (resolution lines).fault (Some e)
+      → Some f ≡ earlier_fault (resolution lines).fault (Some e)
       → IsFirstFault (fault z lines) f
   line_first (At m d) f h is =
       let says = subst (SaysLeast (Meanings z lines numbered)) h (say_meaning z lines numbered) in
       let a = says.0 in
-      let first : sooner (looked_for z lines (symbols_of lines) (any_enter lines)) (missing (any_enter lines) (length lines)) ≡ Some (At m d) =
-      ap (λ x. sooner x (missing (any_enter lines) (length lines))) h
-      ∙ before_missing m (length lines) d (any_enter lines) (within m a.0 a.1 a.2 a.3).1 in
-      is_first (fault z lines) f (ap (λ x. sooner (resolution lines).fault x) first ∙ sym is)
+      let first : earlier_fault (looked_for z lines (symbols_of lines) (any_enter lines))
+      (missing (any_enter lines) (length lines)) ≡ Some (At m d) =
+      ap (λ x. earlier_fault x (missing (any_enter lines) (length lines))) h
+      ∙ before_missing m _ d _ (within m a.0 a.1 a.2 a.3).1 in
+      is_first _ f (ap (λ x. earlier_fault (resolution lines).fault x) first ∙ sym is)
   line_first Memory f h is = by_names (resolution lines).fault (say_names lines numbered) is
     where
       by_names : (names : Option SourceFault) → SaysLeast (HasNameFault lines) names
-          → Some f ≡ sooner names (Some Memory) → IsFirstFault (fault z lines) f
+          → Some f ≡ earlier_fault names (Some Memory) → IsFirstFault (fault z lines) f
       by_names None says is = is_memory (fault z lines) f is
       by_names (Some Memory) says is = absurd says
       by_names (Some (At k c)) says is =
           let a = says.0 in
           let late = (within k a.0 a.1 a.2 a.3).0 in
-          is_memory (fault z lines) f
-          (is ∙ ap (λ (b : Bool). if b then Some (At k c) else Some Memory) late)
+          is_memory _ f (is ∙ ap (λ (b : Bool). if b then Some (At k c) else Some Memory) late)
 
   -- a fault of names, if no line has another
   pub names_alone : (f : SourceFault) → (resolution lines).fault ≡ Some f → (looked_for z lines (symbols_of lines) (any_enter lines)) ≡ None
       → IsFirstFault (fault z lines) f
   names_alone (At k c) h e =
       let a = (subst (SaysLeast (HasNameFault lines)) h (say_names lines numbered)).0 in
-      (λ i. sooner (h i) (sooner (e i) (missing (any_enter lines) (length lines))))
-      ∙ before_missing k (length lines) c (any_enter lines) (within k a.0 a.1 a.2 a.3).1
+      (λ i. earlier_fault (h i) (earlier_fault (e i) (missing (any_enter lines) (length lines))))
+      ∙ before_missing k _ c _ (within k a.0 a.1 a.2 a.3).1
   names_alone Memory h e = tt
 
 -- the fault that is looked for is that of the definition, both ways
@@ -325,9 +273,8 @@ fault_law z lines e =
 -- an answer that is the fault that is looked for is that of the definition
 pub answer_has_fault : {A : Type 0} (z : Size) (lines : List Line) → AreNumbered lines → (r : Result A SourceFault)
     → IfErr r (λ e. IsFirstFault (fault z lines) e) → IfErr r (λ e. HasMeaningFault z lines e)
-answer_has_fault z lines n (Ok a) h = tt
 answer_has_fault z lines n (Err (At k c)) h = (fault_law z lines n).refused k c h
-answer_has_fault z lines n (Err Memory) h = tt
+answer_has_fault z lines n r h = tt
 
 -- the answers about a source whose lines are numbered; what the code has are its definitions, and whether it has an
 -- `enter`
@@ -337,18 +284,12 @@ module _ (z : Size) (lines : List Line) {symbols : List Definition} {has_enter :
   same = λ i. looked_for z lines (known i) (there i)
 
   pub line_fault : {names : Option SourceFault} (e f : SourceFault) → names ≡ (resolution lines).fault
-      → IsFirstFault (looked_for z lines symbols has_enter) e → Some f ≡ sooner names (Some e) → IsFirstFault (fault z lines) f
+      → IsFirstFault (looked_for z lines symbols has_enter) e → Some f ≡ earlier_fault names (Some e)
+      → IsFirstFault (fault z lines) f
   line_fault {names} e f are h is =
-      line_first z lines (numbers lines n) e f (subst (λ (x : Option SourceFault). IsFirstFault x e) same h)
-      (is ∙ ap (λ (x : Option SourceFault). sooner x (Some e)) are)
+      line_first z lines (numbers lines n) e f (rw (← same) h)
+      (is ∙ ap (λ (x : Option SourceFault). earlier_fault x (Some e)) are)
 
   pub name_fault : (f : SourceFault) → (resolution lines).fault ≡ Some f → looked_for z lines symbols has_enter ≡ None
       → IsFirstFault (fault z lines) f
   name_fault f h e = names_alone z lines (numbers lines n) f h (sym same ∙ e)
-
-  pub no_enter_fault : (resolution lines).fault ≡ None → looked_for z lines symbols has_enter ≡ None → has_enter ≡ false
-      → fault z lines ≡ Some (At (length lines + 1) causes.Enter)
-  no_enter_fault h e none =
-      let lacks : any_enter lines ≡ false = sym there ∙ none in
-      let clear : looked_for z lines (symbols_of lines) (any_enter lines) ≡ None = sym same ∙ e in
-      λ i. sooner (h i) (sooner (clear i) (missing (lacks i) (length lines)))

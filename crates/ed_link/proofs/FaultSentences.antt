@@ -1,105 +1,61 @@
 -- The tests of a line and the sentences of the manual say the same, both ways, for the faults S9 to S14, S16 and S17.
-use Rattle.std.proofs.Common.{◌≡◌, ◌⊎◌, inl, inr, ℕ, ◌/◌, ◌%◌, ◌^◌, ◌<◌, ◌≤◌, refl, sym, ap, ◌∙◌, subst, arith}
-use Rattle.std.proofs.Common.{Bool, true, false, not, ◌&&◌, ◌||◌, Option, Some, None, List, [], ◌∷◌, ◌++◌}
-use Rattle.std.proofs.Common.{is_some, is_none}
-use Rattle.std.specs.Prelude.{min, max}
-use Rattle.std.specs.List.{list_any}
-use Rattle.std.proofs.lemmas.Bool.{or_cases}
-use Rattle.ed_words.specs.declared.size.Size.{Size}
-use Rattle.ed_words.specs.Sizes.{locations}
-use Rattle.ed_words.proofs.Numbers.{eq_of, eq_true, lt_of, lt_true}
-use Rattle.ed_library.specs.Routines.{find}
-use Rattle.ed_syntax.specs.declared.program.Statement.{Statement}
-use Rattle.ed_syntax.specs.declared.program.Statement.TheVariants.{Segment, Order, Number, Text, Long, Fetch, Enter}
-use Rattle.ed_syntax.specs.declared.program.Statement.TheVariants.{Rows}
-use Rattle.ed_syntax.specs.declared.program.Line.{Line}
-use Rattle.ed_symbols.specs.declared.location_counter.LocationCounter.{LocationCounter}
-use Rattle.ed_symbols.specs.declared.symbols.Definition.{Definition}
-use Rattle.ed_symbols.specs.Places.{after_statement, first_counter, segment_at}
-use Rattle.ed_symbols.specs.Names.{place_on}
-use Rattle.ed_link.specs.Linked.{first_place, end_place, symbols_of}
-use Rattle.ed_symbols.proofs.Sentences.{Ties, or_left, or_right, and_of, and_true, not_true, true_not}
-use Rattle.ed_link.specs.FaultTests.{any_enter, has_no_routine, has_sandwich, is_enter, is_in_segment}
-use Rattle.ed_link.specs.FaultTests.{is_misplaced}
-use Rattle.ed_link.specs.FaultTests.{extent, extent_at, is_outside, is_rows, overlaps, reach, word_extent}
-use Rattle.ed_link.specs.declared.faults.Extent.{Extent}
-use Rattle.ed_symbols.specs.NameFaults.{StandsAfter, counter_from, counter_after}
-use Rattle.ed_link.specs.Faults.{HasEnter}
-use Rattle.ed_link.specs.Faults.{PlacesWords, IsData, IsOutsideSegments, NeedsWithin, NeedsPast, Overlaps}
-use Rattle.ed_link.specs.Faults.{UsesUnknown, IsMisplaced, HasSandwichDigit}
+use Rattle.ed_link.proofs.Kit.{max, min, both_ways, eq-eqb, Size, [], ap, arith, Bool, false, inl, inr, List, None}
+use Rattle.ed_link.proofs.Kit.{Option, refl, Some, subst, sym, true, ℕ, ◌%◌, ◌&&◌, ◌++◌, ◌/◌, ◌<◌, ◌∙◌, ◌∷◌, ◌≡◌, ◌≤◌}
+use Rattle.ed_link.proofs.Kit.{◌⊎◌, and_parts, eqb-true, lt-ltb, ltb-true, locations, Line, Statement, Enter, Fetch}
+use Rattle.ed_link.proofs.Kit.{Long, Number, Order, Rows, Text, ◌^◌, and_from, find, place_on, segment_at}
+use Rattle.ed_link.proofs.Kit.{LocationCounter, Definition, is_none, is_some, not, ◌||◌, list_any, or_cases}
+use Rattle.ed_link.proofs.Kit.{counter_after, counter_from, IsLineAfter, after_statement, first_counter, not_true}
+use Rattle.ed_link.proofs.Kit.{Ties, true_not, any_enter, extent, extent_at, has_no_routine, has_sandwich, is_enter}
+use Rattle.ed_link.proofs.Kit.{is_misplaced, is_outside, is_rows, overlaps, reach, word_extent, HasEnter, end_place}
+use Rattle.ed_link.proofs.Kit.{first_place, symbols_of, Extent}
+use Rattle.std.proofs.lemmas.Bool.{or_left, or_right}
+use Rattle.ed_link.specs.FaultTests.{is_in_segment}
+use Rattle.ed_link.specs.Faults.{PlacesWords, IsData, IsOutsideSegments, NeedsWithin, NeedsPast, Overlaps, UsesUnknown}
+use Rattle.ed_link.specs.Faults.{IsMisplaced, HasSandwichDigit}
 
 -- ---- S14 and S17
 
 unknown_says : (st : Option Statement) → has_no_routine st ≡ true → UsesUnknown st
-unknown_says None h = cc
 unknown_says (Some (Fetch routine name ts)) h = no_routine (find routine) h
   where
     no_routine : (r : Option ℕ) → is_none r ≡ true → ◌≡◌ {A = Option ℕ} r None
     no_routine None g = refl
     no_routine (Some r) g = cc
-unknown_says (Some (Segment n b)) h = cc
-unknown_says (Some (Order f o d)) h = cc
-unknown_says (Some (Number w)) h = cc
-unknown_says (Some (Text codes)) h = cc
-unknown_says (Some (Long v)) h = cc
-unknown_says (Some (Enter n)) h = cc
-unknown_says (Some (Rows codes)) h = cc
+unknown_says st h = cc
 
 unknown_tests : (st : Option Statement) → UsesUnknown st → has_no_routine st ≡ true
 unknown_tests (Some (Fetch routine name ts)) h = ap is_none h
-unknown_tests None h = absurd h
-unknown_tests (Some (Segment n b)) h = absurd h
-unknown_tests (Some (Order f o d)) h = absurd h
-unknown_tests (Some (Number w)) h = absurd h
-unknown_tests (Some (Text codes)) h = absurd h
-unknown_tests (Some (Long v)) h = absurd h
-unknown_tests (Some (Enter n)) h = absurd h
-unknown_tests (Some (Rows codes)) h = absurd h
+unknown_tests st h = absurd h
 
-pub s14 : (l : Line) → Ties (has_no_routine l.statement) (UsesUnknown l.statement)
-s14 l = record { says = unknown_says l.statement; tests = unknown_tests l.statement }
+pub Ties-s14 : (l : Line) → Ties (has_no_routine l.statement) (UsesUnknown l.statement)
+Ties-s14 l = record { says = unknown_says l.statement; tests = unknown_tests l.statement }
 
 sandwich_says : (st : Option Statement) → has_sandwich st ≡ true
     → (v : ℕ) × (st ≡ Some (Long v)) × (v / 2 ^ 17 % 2 ≡ 1)
-sandwich_says (Some (Long v)) h = (v, refl, eq_of (v / 2 ^ 17 % 2) 1 h)
-sandwich_says None h = cc
-sandwich_says (Some (Segment n b)) h = cc
-sandwich_says (Some (Order f o d)) h = cc
-sandwich_says (Some (Number w)) h = cc
-sandwich_says (Some (Text codes)) h = cc
-sandwich_says (Some (Fetch r n ts)) h = cc
-sandwich_says (Some (Enter n)) h = cc
-sandwich_says (Some (Rows codes)) h = cc
+sandwich_says (Some (Long v)) h = (v, refl, eqb-true (v / 2 ^ 17 % 2) 1 h)
+sandwich_says st h = cc
 
-pub s17 : (l : Line) → Ties (has_sandwich l.statement) (HasSandwichDigit l)
-s17 l = record {
+pub Ties-s17 : (l : Line) → Ties (has_sandwich l.statement) (HasSandwichDigit l)
+Ties-s17 l = record {
   says = sandwich_says l.statement;
-  tests = λ h. ap has_sandwich h.1 ∙ eq_true (h.0 / 2 ^ 17 % 2) 1 h.2;
+  tests = λ h. ap has_sandwich h.1 ∙ eq-eqb _ 1 h.2;
 }
 
 -- ---- S9
 
 words_says : (st : Option Statement) → is_in_segment st ≡ true → PlacesWords st
-words_says None h = cc
 words_says (Some (Order f o d)) h = tt
 words_says (Some (Number w)) h = tt
 words_says (Some (Text codes)) h = tt
 words_says (Some (Long v)) h = tt
-words_says (Some (Segment n b)) h = cc
-words_says (Some (Fetch r n ts)) h = cc
-words_says (Some (Enter n)) h = cc
-words_says (Some (Rows codes)) h = cc
+words_says st h = cc
 
 words_tests : (st : Option Statement) → PlacesWords st → is_in_segment st ≡ true
-words_tests None h = absurd h
 words_tests (Some (Order f o d)) h = refl
 words_tests (Some (Number w)) h = refl
 words_tests (Some (Text codes)) h = refl
 words_tests (Some (Long v)) h = refl
-words_tests (Some (Segment n b)) h = absurd h
-words_tests (Some (Fetch r n ts)) h = absurd h
-words_tests (Some (Enter n)) h = absurd h
-words_tests (Some (Rows codes)) h = absurd h
+words_tests st h = absurd h
 
 outside_says : (inside : Bool) (label : Option (List ℕ)) (st : Option Statement)
     → (not inside && (is_some label || is_in_segment st)) ≡ true
@@ -127,8 +83,8 @@ closed_tests s h = by_test s.inside refl
     by_test false e = refl
     by_test true e = let some : Some s.segments ≡ None = (rw e at h) in cc
 
-pub s9 : (before : List Line) (l : Line) → Ties (is_outside l (counter_after before)) (IsOutsideSegments before l)
-s9 before l = record {
+pub Ties-s9 : (before : List Line) (l : Line) → Ties (is_outside l (counter_after before)) (IsOutsideSegments before l)
+Ties-s9 before l = record {
   says = λ h. let p = outside_says (counter_after before).inside l.label l.statement h in
       (closed_says (counter_after before) p.0, p.1);
   tests = λ h. outside_tests (counter_after before).inside l.label l.statement
@@ -142,7 +98,7 @@ abbrev IsIn : Extent → ℕ → Type 0
 IsIn e p = (e.from ≤ p) × (p < e.after)
 
 meets_says : (a b c d : ℕ) → overlaps (extent a b) (extent c d) ≡ true → (p : ℕ) × IsIn (extent a b) p × IsIn (extent c d) p
-meets_says a b c d h = let e : max a c < min b d = lt_of (max a c) (min b d) h in (
+meets_says a b c d h = let e : max a c < min b d = ltb-true (max a c) (min b d) h in (
   max a c,
   (omega arith, omega (arith, e)),
   (omega arith, omega (arith, e)),
@@ -150,7 +106,7 @@ meets_says a b c d h = let e : max a c < min b d = lt_of (max a c) (min b d) h i
 
 meets_tests : (a b c d p : ℕ) → IsIn (extent a b) p → IsIn (extent c d) p → overlaps (extent a b) (extent c d) ≡ true
 meets_tests a b c d p h g =
-    lt_true (max a c) (min b d) (omega (arith, h.0, h.1, g.0, g.1))
+    lt-ltb (max a c) (min b d) (omega (arith, h.0, h.1, g.0, g.1))
 
 -- a line needs a location, by its statement and location counter alone
 abbrev NeedsAt : List Definition → Option Statement → LocationCounter → ℕ → Type 0
@@ -159,35 +115,20 @@ NeedsAt symbols st s p = ((first_place st s ≤ p) × (p < end_place st s))
 
 need_in : (symbols : List Definition) (st : Option Statement) (s : LocationCounter) (p : ℕ) → NeedsAt symbols st s p
     → IsIn (reach symbols st s) p
-need_in symbols st s p (inr h) = subst (λ x. IsIn (reach symbols x s) p) (sym h.1)
-    (subst (λ o. IsIn (extent_at o) p) (sym h.2) (omega arith, omega arith))
-need_in symbols None s p (inl h) = h
-need_in symbols (Some (Segment n b)) s p (inl h) = h
-need_in symbols (Some (Order f o d)) s p (inl h) = h
-need_in symbols (Some (Number w)) s p (inl h) = h
-need_in symbols (Some (Text codes)) s p (inl h) = h
-need_in symbols (Some (Long v)) s p (inl h) = h
-need_in symbols (Some (Fetch r n ts)) s p (inl h) = h
+need_in symbols st s p (inr h) = rw h.1 (rw h.2 (omega arith, omega arith))
 need_in symbols (Some (Enter n)) s p (inl h) = absurd (omega (arith, h.0, h.1))
-need_in symbols (Some (Rows codes)) s p (inl h) = h
+need_in symbols st s p (inl h) = h
 
 in_need : (symbols : List Definition) (st : Option Statement) (s : LocationCounter) (p : ℕ)
     → IsIn (reach symbols st s) p
     → NeedsAt symbols st s p
-in_need symbols None s p h = inl h
-in_need symbols (Some (Segment n b)) s p h = inl h
-in_need symbols (Some (Order f o d)) s p h = inl h
-in_need symbols (Some (Number w)) s p h = inl h
-in_need symbols (Some (Text codes)) s p h = inl h
-in_need symbols (Some (Long v)) s p h = inl h
-in_need symbols (Some (Fetch r n ts)) s p h = inl h
-in_need symbols (Some (Rows codes)) s p h = inl h
 in_need symbols (Some (Enter n)) s p h = entered (place_on symbols None n) refl h
   where
     entered : (o : Option ℕ) → place_on symbols None n ≡ o → IsIn (extent_at o) p → NeedsAt symbols (Some (Enter n)) s p
     entered None e g = absurd (omega (arith, g.0, g.1))
     entered (Some q) e g =
         let same : q ≡ p = omega (arith, g.0, g.1) in inr (n, refl, e ∙ ap (λ x. Some x) same)
+in_need symbols st s p h = inl h
 
 within : (symbols : List Definition) (st : Option Statement) (s : LocationCounter) (c d : ℕ)
     → Ties (overlaps (reach symbols st s) (extent c d)) ((p : ℕ) × NeedsAt symbols st s p × (c ≤ p) × (p < d))
@@ -213,12 +154,12 @@ past symbols st s c =
       tests = λ h. t.tests (h.0, h.1, h.2, (need_in symbols st s h.0 h.1).1);
     }
 
-pub s12 : (z : Size) (lines before : List Line) (l : Line)
+pub Ties-s12 : (z : Size) (lines before : List Line) (l : Line)
     → Ties
     (overlaps (reach (symbols_of lines) l.statement (counter_after before))
     (extent (locations z) (reach (symbols_of lines) l.statement (counter_after before)).after))
     (NeedsPast lines before l (locations z))
-s12 z lines before l = past (symbols_of lines) l.statement (counter_after before) (locations z)
+Ties-s12 z lines before l = past (symbols_of lines) l.statement (counter_after before) (locations z)
 
 -- ---- S13
 
@@ -229,29 +170,21 @@ extents_from s (l ∷ lines) = word_extent l.statement s ∷ extents_from (after
 
 -- one of these lines, from a location counter onwards, has a word at a location of the extent
 abbrev Shares : Extent → LocationCounter → List Line → Type 0
-Shares shared s lines = (p : ℕ) × IsIn shared p × (earlier : List Line) × (e : Line) × StandsAfter lines earlier e
+Shares shared s lines = (p : ℕ) × IsIn shared p × (earlier : List Line) × (e : Line) × IsLineAfter lines earlier e
     × IsIn (word_extent e.statement (counter_from s earlier)) p
 
 shares_says : (a b : ℕ) (s : LocationCounter) (lines : List Line)
     → list_any (λ o. overlaps (extent a b) o) (extents_from s lines) ≡ true
     → Shares (extent a b) s lines
 shares_says a b s [] h = cc
-shares_says a b s (l ∷ lines) h =
-    by_case (λ g. shares_says a b (after_statement l.statement s) lines g)
-    (or_cases (overlaps (extent a b) (word_extent l.statement s))
-    (list_any (λ o. overlaps (extent a b) o) (extents_from (after_statement l.statement s) lines)) h)
-  where
-    by_case : (list_any (λ o. overlaps (extent a b) o) (extents_from (after_statement l.statement s) lines) ≡ true
-        → Shares (extent a b) (after_statement l.statement s) lines)
-        → (overlaps (extent a b) (word_extent l.statement s) ≡ true)
-        ⊎ (list_any (λ o. overlaps (extent a b) o) (extents_from (after_statement l.statement s) lines) ≡ true)
-        → Shares (extent a b) s (l ∷ lines)
-    by_case more (inl g) =
-        let m = meets_says a b (word_extent l.statement s).from (word_extent l.statement s).after g in
-        (m.0, m.1, [], l, record { after = lines; lines_are = refl }, m.2)
-    by_case more (inr g) =
-        let r = more g in
-        (r.0, r.1, l ∷ r.2, r.3, record { after = r.4.after; lines_are = ap (λ x. l ∷ x) r.4.lines_are }, r.5)
+shares_says a b s (l ∷ lines) h = elim (or_cases _ _ h) [
+  | inl g ↦
+      let m = meets_says a b (word_extent l.statement s).from (word_extent l.statement s).after g in
+      (m.0, m.1, [], l, record { after = lines; lines_are = refl }, m.2)
+  | inr g ↦
+      let r = shares_says a b (after_statement l.statement s) lines g in
+      (r.0, r.1, l ∷ r.2, r.3, record { after = r.4.after; lines_are = ap (λ x. l ∷ x) r.4.lines_are }, r.5)
+]
 
 shared : (a b : ℕ) (s : LocationCounter) (earlier : List Line) (e : Line) (after : List Line) (p : ℕ) → IsIn (extent a b) p
     → IsIn (word_extent e.statement (counter_from s earlier)) p
@@ -261,81 +194,51 @@ shared a b s [] e after p h g = or_left _ _
 shared a b s (l ∷ earlier) e after p h g =
     or_right _ _ (shared a b (after_statement l.statement s) earlier e after p h g)
 
-pub s13 : (before : List Line) (l : Line)
+pub Ties-s13 : (before : List Line) (l : Line)
     → Ties (list_any (λ o. overlaps (word_extent l.statement (counter_after before)) o) (extents_from first_counter before))
     (Overlaps before l)
-s13 before l = record {
-  says = shares_says (first_place l.statement (counter_after before)) (end_place l.statement (counter_after before))
-      first_counter before;
+Ties-s13 before l = record {
+  says = shares_says _ _ first_counter before;
   tests = λ h. subst
       (λ x. list_any (λ o. overlaps (word_extent l.statement (counter_after before)) o) (extents_from first_counter x) ≡ true)
-      (sym h.4.lines_are)
-      (shared (first_place l.statement (counter_after before)) (end_place l.statement (counter_after before))
-      first_counter
-      h.2 h.3 h.4.after h.0 h.1 h.5);
+      (sym h.4.lines_are) (shared _ _ first_counter h.2 h.3 h.4.after h.0 h.1 h.5);
 }
 
 -- ---- S16
 
 enter_says : (st : Option Statement) → is_enter st ≡ true → (name : List ℕ) × (st ≡ Some (Enter name))
 enter_says (Some (Enter name)) h = (name, refl)
-enter_says None h = cc
-enter_says (Some (Segment n b)) h = cc
-enter_says (Some (Order f o d)) h = cc
-enter_says (Some (Number w)) h = cc
-enter_says (Some (Text codes)) h = cc
-enter_says (Some (Long v)) h = cc
-enter_says (Some (Fetch r n ts)) h = cc
-enter_says (Some (Rows codes)) h = cc
+enter_says st h = cc
 
 pub any_says : (lines : List Line) → any_enter lines ≡ true → HasEnter lines
 any_says [] h = cc
-any_says (l ∷ lines) h = by_case (λ g. any_says lines g) (or_cases (is_enter l.statement) (any_enter lines) h)
-  where
-    by_case : (any_enter lines ≡ true → HasEnter lines)
-        → (is_enter l.statement ≡ true) ⊎ (any_enter lines ≡ true) → HasEnter (l ∷ lines)
-    by_case more (inl g) = ([], l, record { after = lines; lines_are = refl }, enter_says l.statement g)
-    by_case more (inr g) =
-        let r = more g in
-        (l ∷ r.0, r.1, record { after = r.2.after; lines_are = ap (λ x. l ∷ x) r.2.lines_are }, r.3)
+any_says (l ∷ lines) h = elim (or_cases (is_enter l.statement) (any_enter lines) h) [
+  | inl g ↦ ([], l, record { after = lines; lines_are = refl }, enter_says l.statement g)
+  | inr g ↦
+      let r = any_says lines g in
+      (l ∷ r.0, r.1, record { after = r.2.after; lines_are = ap (λ x. l ∷ x) r.2.lines_are }, r.3)
+]
 
 any_among : (before : List Line) (l : Line) (after : List Line) → is_enter l.statement ≡ true
     → any_enter (before ++ l ∷ after) ≡ true
 any_among [] l after h = or_left (is_enter l.statement) (any_enter after) h
-any_among (e ∷ before) l after h =
-    or_right (is_enter e.statement) (any_enter (before ++ l ∷ after)) (any_among before l after h)
+any_among (e ∷ before) l after h = or_right _ _ (any_among before l after h)
 
 pub any_tests : (lines : List Line) → HasEnter lines → any_enter lines ≡ true
-any_tests lines h = subst (λ x. any_enter x ≡ true) (sym h.2.lines_are)
-    (any_among h.0 h.1 h.2.after (ap is_enter h.3.1))
+any_tests lines h = rw h.2.lines_are (any_among h.0 h.1 h.2.after (ap is_enter h.3.1))
 
 data_says : (st : Option Statement) → is_rows st ≡ true → IsData st
 data_says (Some (Rows codes)) h = tt
-data_says None h = cc
-data_says (Some (Segment n b)) h = cc
-data_says (Some (Order f o d)) h = cc
-data_says (Some (Number w)) h = cc
-data_says (Some (Text codes)) h = cc
-data_says (Some (Long v)) h = cc
-data_says (Some (Fetch r n ts)) h = cc
-data_says (Some (Enter n)) h = cc
+data_says st h = cc
 
 data_tests : (st : Option Statement) → IsData st → is_rows st ≡ true
 data_tests (Some (Rows codes)) h = refl
-data_tests None h = absurd h
-data_tests (Some (Segment n b)) h = absurd h
-data_tests (Some (Order f o d)) h = absurd h
-data_tests (Some (Number w)) h = absurd h
-data_tests (Some (Text codes)) h = absurd h
-data_tests (Some (Long v)) h = absurd h
-data_tests (Some (Fetch r n ts)) h = absurd h
-data_tests (Some (Enter n)) h = absurd h
+data_tests st h = absurd h
 
 form_says : (label : Option (List ℕ)) (st : Option Statement) → (is_some label || is_some st) ≡ true
     → (label ≡ None) × (st ≡ None) → ⊥
 form_says (Some n) st h g = cc
-form_says None (Some st) h g = cc
-form_says None None h g = cc
+form_says None x h g = cc
 
 form_tests : (label : Option (List ℕ)) (st : Option Statement) → ((label ≡ None) × (st ≡ None) → ⊥)
     → (is_some label || is_some st) ≡ true
@@ -346,32 +249,23 @@ form_tests None None h = absurd (h (refl, refl))
 misplaced_says : (lines before : List Line) (l : Line) (entered : Bool) → any_enter before ≡ entered
     → is_misplaced entered (any_enter lines) l ≡ true → IsMisplaced lines before l
 misplaced_says lines before l true e h =
-    let p = and_of (is_some l.label || is_some l.statement) (not (is_rows l.statement)) h in
-    inl (
-      any_says before e,
-      form_says l.label l.statement p.0,
-      λ d. not_true (is_rows l.statement) p.1 (data_tests l.statement d),
-    )
+    let p = and_parts _ _ h in
+    inl (any_says before e, form_says l.label l.statement p.0, λ d. not_true _ p.1 (data_tests l.statement d))
 misplaced_says lines before l false e h =
-    let p = and_of (any_enter lines) (is_rows l.statement) h in
-    inr (λ g. none_before (any_tests before g), data_says l.statement p.1, any_says lines p.0)
-  where
-    none_before : any_enter before ≡ true → ⊥
-    none_before g = cc
+    let p = and_parts _ _ h in
+    inr (λ g. both_ways _ e (any_tests before g), data_says l.statement p.1, any_says lines p.0)
 
 misplaced_tests : (lines before : List Line) (l : Line) (entered : Bool) → any_enter before ≡ entered
     → IsMisplaced lines before l → is_misplaced entered (any_enter lines) l ≡ true
 misplaced_tests lines before l true e (inl h) =
-    and_true (is_some l.label || is_some l.statement) (not (is_rows l.statement)) (form_tests l.label l.statement h.1)
-    (true_not (is_rows l.statement) (λ d. h.2 (data_says l.statement d)))
+    and_from _ _ (form_tests l.label l.statement h.1) (true_not _ (λ d. h.2 (data_says l.statement d)))
 misplaced_tests lines before l false e (inl h) = let g : any_enter before ≡ true = any_tests before h.0 in cc
 misplaced_tests lines before l true e (inr h) = absurd (h.0 (any_says before e))
-misplaced_tests lines before l false e (inr h) =
-    and_true (any_enter lines) (is_rows l.statement) (any_tests lines h.2) (data_tests l.statement h.1)
+misplaced_tests lines before l false e (inr h) = and_from _ _ (any_tests lines h.2) (data_tests l.statement h.1)
 
-pub s16 : (lines before : List Line) (l : Line)
+pub Ties-s16 : (lines before : List Line) (l : Line)
     → Ties (is_misplaced (any_enter before) (any_enter lines) l) (IsMisplaced lines before l)
-s16 lines before l = record {
-  says = misplaced_says lines before l (any_enter before) refl;
-  tests = misplaced_tests lines before l (any_enter before) refl;
+Ties-s16 lines before l = record {
+  says = misplaced_says lines before l _ refl;
+  tests = misplaced_tests lines before l _ refl;
 }

@@ -1,30 +1,13 @@
 -- A source that is linked has no fault, and its tape reaches its linked program.
-use Rattle.std.proofs.Common.{◌≡◌, refl, sym, ap, ◌∙◌, subst, ℕ, Bool, true, None, List, map, replicate}
-use Rattle.std.proofs.lemmas.List.{length-replicate}
-use Rattle.std.specs.List.{list_all}
-use Rattle.ed_words.specs.declared.size.Size.{Size}
-use Rattle.ed_notation.specs.Spellings.{AreSpellable}
-use Rattle.ed_library.specs.Entries.{catalogue}
-use Rattle.ed_library.specs.Ready.{is_ready}
-use Rattle.ed_syntax.specs.declared.program.Line.{Line}
-use Rattle.ed_syntax.specs.Programs.{AreNumbered, is_line}
-use Rattle.ed_symbols.specs.declared.symbols.Definition.{Definition}
-use Rattle.ed_symbols.specs.Places.{first_counter}
-use Rattle.ed_symbols.specs.NameTests.{resolution}
-use Rattle.ed_link.specs.declared.linked.Linked.{Linked}
-use Rattle.ed_link.specs.declared.building.Built.{Built}
-use Rattle.ed_link.specs.Linked.{symbols_of, linked_words, entry_from, placed_from}
-use Rattle.ed_link.specs.Punch.{punched_from, punched_items}
-use Rattle.ed_link.specs.FaultTests.{any_enter, fault, fault_from}
-use Rattle.ed_link.specs.declared.linked.Placed.{Placed}
-use Rattle.ed_link.specs.Labels.{labels}
-use Rattle.ed_link.specs.Words.{linked_places}
-use Rattle.ed_link.specs.Tables.{table_of, word_at, words_from}
-use Rattle.ed_link.proofs.Maps.{places_are, words_are}
-use Rattle.ed_link.specs.Answers.{IsLinked}
-use Rattle.ed_link.specs.Private.Building.{first_past, IsBuilt, IsFinished}
+use Rattle.ed_link.proofs.Kit.{Size, AreSpellable, ap, Bool, List, None, refl, replicate, subst, sym, true, ℕ, ◌∙◌}
+use Rattle.ed_link.proofs.Kit.{◌≡◌, list_all, length-replicate, Line, map, AreNumbered, is_line, catalogue, is_ready}
+use Rattle.ed_link.proofs.Kit.{resolution, Definition, first_counter, IsLinked, any_enter, fault, fault_from, labels}
+use Rattle.ed_link.proofs.Kit.{entry_from, linked_words, placed_from, symbols_of, first_past, IsBuilt, IsFinished}
+use Rattle.ed_link.proofs.Kit.{punched_from, punched_items, table_of, word_at, words_from, linked_places, Built}
+use Rattle.ed_link.proofs.Kit.{Linked, Placed}
 use Rattle.ed_link.proofs.Accepted.{accepted_law, can_be_spelled}
 use Rattle.ed_link.proofs.FaultLaw.{fault_law}
+use Rattle.ed_link.proofs.Maps.{places_are, words_are}
 
 -- lines that are built have no fault, if no name has one and there is an `enter`
 accepted : {z : Size} {lines : List Line} {symbols : List Definition} {has_enter : Bool} {b : Built}
@@ -32,8 +15,7 @@ accepted : {z : Size} {lines : List Line} {symbols : List Definition} {has_enter
     → IsBuilt z symbols has_enter lines b → fault z lines ≡ None
 accepted {z} {lines} {symbols} {has_enter} h a names there built =
     let clear : fault_from z (symbols_of lines) (any_enter lines) first_past first_counter lines ≡ None =
-    subst (λ (x : List Definition). fault_from z x (any_enter lines) first_past first_counter lines ≡ None) h
-    (subst (λ (x : Bool). fault_from z symbols x first_past first_counter lines ≡ None) a built.accepted) in
+    rw (← h) (rw (← a) built.accepted) in
     let enters : any_enter lines ≡ true = sym a ∙ there in
     rw (names, clear, enters) refl
 
@@ -53,13 +35,14 @@ built_spelled {z} {lines} two tables formed h a names there built =
     (length-replicate {A = ℕ} 1024 0))
 
 -- what the code has built from lines without a fault is the answer of linking
-pub finished : {z : Size} {lines : List Line} {symbols : List Definition} {has_enter : Bool} {b : Built} {k : Linked}
+pub IsLinked-finished : {z : Size} {lines : List Line} {symbols : List Definition} {has_enter : Bool}
+    {b : Built} {k : Linked}
     (two : Bool)
     → list_all is_ready catalogue ≡ true → AreNumbered lines → list_all (is_line two) lines ≡ true
     → symbols ≡ symbols_of lines → has_enter ≡ any_enter lines → (resolution lines).fault ≡ None → has_enter ≡ true
     → IsBuilt z symbols has_enter lines b → IsFinished symbols b k → IsLinked z lines k
 unfolding linked_places
-finished {z} {lines} {symbols} {has_enter} {b} {k} two tables numbered formed h a names there built f =
+IsLinked-finished {z} {lines} {symbols} {has_enter} {b} {k} two tables numbered formed h a names there built f =
     let none : fault z lines ≡ None = accepted h a names there built in
     let words : k.words.items ≡ words_from 0 (table_of (linked_words lines)) =
     f.words ∙ ap (λ t. words_from 0 t)

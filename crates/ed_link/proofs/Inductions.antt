@@ -1,48 +1,26 @@
 -- The tape of an accepted source reaches its linked program.
-use Rattle.std.proofs.Common.{◌≡◌, inl, ℕ, ◌+◌, ◌*◌, ◌<◌, ◌≤◌, refl, sym, ap, ◌∙◌, subst, arith}
-use Rattle.std.proofs.Common.{Bool, true, false, not, ◌&&◌, Option, Some, None, List, [], ◌∷◌, ◌++◌, length}
-use Rattle.std.proofs.Common.{append_assoc, is_some, is_none, if◌then◌else◌}
-use Rattle.std.specs.Prelude.{◌||◌, max, min, reverse, unwrap_or}
-use Rattle.std.specs.List.{list_all}
-use Rattle.std.proofs.lemmas.Bool.{and_parts, not-false, or_parts}
-use Rattle.ed_words.specs.declared.size.Size.{Size}
-use Rattle.ed_words.specs.Sizes.{locations}
-use Rattle.ed_notation.specs.declared.item.Item.{Item}
-use Rattle.ed_notation.specs.Fold.{NotationState}
-use Rattle.ed_notation.specs.Spellings.{AreSpellable}
-use Rattle.ed_library.specs.Entries.{catalogue, entry}
-use Rattle.ed_library.specs.Ready.{is_ready}
-use Rattle.ed_library.specs.Routines.{find}
-use Rattle.ed_syntax.specs.declared.program.Setting.{Setting}
-use Rattle.ed_syntax.specs.declared.program.Statement.{Statement}
-use Rattle.ed_syntax.specs.declared.program.Statement.TheVariants.{Order, Number, Text}
-use Rattle.ed_syntax.specs.declared.program.Statement.TheVariants.{Long, Fetch, Enter, Rows}
-use Rattle.ed_syntax.specs.declared.program.Line.{Line as SourceLine}
-use Rattle.ed_syntax.specs.declared.fault.SourceCause.{SourceCause}
-use Rattle.ed_syntax.specs.declared.fault.SourceFault.{SourceFault}
-use Rattle.ed_syntax.specs.Programs.{is_line, is_statement}
-use Rattle.ed_syntax.proofs.Meaning.{statement_fact}
-use Rattle.ed_symbols.specs.declared.symbols.Definition.{Definition}
-use Rattle.ed_symbols.specs.declared.location_counter.LocationCounter.{LocationCounter}
-use Rattle.ed_symbols.specs.Places.{even_from, routine_places as places_of, after_statement, segment_of}
-use Rattle.ed_symbols.specs.Names.{place_on}
-use Rattle.ed_symbols.specs.NameTests.{or_later, any_operand, enters_unknown, is_unknown, defines_again}
-use Rattle.ed_symbols.specs.NameTests.{naming_cause as names_cause, naming_fault_from as names_from}
-use Rattle.ed_link.specs.Linked.{placed_by_line, placed_from, theta_from, entry_from, entered_place}
-use Rattle.ed_link.specs.Punch.{item_with, items_of, punched_from}
-use Rattle.ed_link.specs.FaultTests.{extent, extent_at, reach, overlaps, has_no_routine, sets}
-use Rattle.ed_link.specs.declared.faults.Extent.{Extent}
-use Rattle.ed_link.specs.FaultTests.{sets_otherwise, is_enter, is_rows, any_enter, is_misplaced}
-use Rattle.ed_link.specs.FaultTests.{LinesBefore, past_of, cause_of, fault_from}
-use Rattle.ed_words.proofs.Numbers.{le_of, not_lt_of}
-use Rattle.ed_words.proofs.SizeLemmas.{most}
-use Rattle.ed_words.specs.declared.order_words.TheConstants.{E_F}
+use Rattle.ed_link.proofs.Kit.{max, min, reverse, E_F, Size, AreSpellable, Item, [], ap, append_assoc, arith, Bool}
+use Rattle.ed_link.proofs.Kit.{false, if◌then◌else◌, inl, length, List, None, Option, refl, Some, subst, sym, true}
+use Rattle.ed_link.proofs.Kit.{unwrap_or, ℕ, ◌&&◌, ◌*◌, ◌++◌, ◌+◌, ◌<◌, ◌∙◌, ◌∷◌, ◌≡◌, ◌≤◌, list_all, and_parts}
+use Rattle.ed_link.proofs.Kit.{leb-true, locations, locations_most, NotationState, SourceCause, SourceFault, Setting, Statement}
+use Rattle.ed_link.proofs.Kit.{Enter, Fetch, Long, Number, Order, Rows, Text, is_line, catalogue, entry, is_ready}
+use Rattle.ed_link.proofs.Kit.{find, place_on, LocationCounter, Definition, is_none, is_some, not, ◌||◌, or_later}
+use Rattle.ed_link.proofs.Kit.{after_statement, any_enter, cause_of, extent, extent_at, fault_from, has_no_routine}
+use Rattle.ed_link.proofs.Kit.{is_enter, is_misplaced, is_rows, LinesBefore, overlaps, past_of, reach, sets}
+use Rattle.ed_link.proofs.Kit.{sets_otherwise, entered_place, entry_from, placed_by_line, placed_from, theta_from}
+use Rattle.ed_link.proofs.Kit.{item_with, items_of, punched_from, Extent}
+use Rattle.std.proofs.lemmas.Bool.{not-false, or_parts, ltb-false}
 use Rattle.ed_notation.proofs.Steps.{Enters, aiming_entry, entering_at}
-use Rattle.ed_link.proofs.Passes.{Passes, stays, goes, join}
-use Rattle.ed_link.proofs.Spelled.{aiming_spelled, joined, line_spelled}
-use Rattle.ed_link.proofs.Uses.{reversed}
-use Rattle.ed_link.proofs.Lines.{IsReady, IsUse, IsSound, line, lt_same}
+use Rattle.ed_syntax.specs.Programs.{is_statement}
+use Rattle.ed_syntax.specs.declared.program.Line.{Line as SourceLine}
+use Rattle.ed_syntax.proofs.Meaning.{statement_fact}
+use Rattle.ed_symbols.specs.NameTests.{enters_unknown, naming_fault_from as names_from}
+use Rattle.ed_symbols.specs.Places.{routine_places as places_of}
 use Rattle.ed_link.proofs.Closed.{some_items, are_known}
+use Rattle.ed_link.proofs.Lines.{IsReady, IsUse, IsSound, line, lt_same}
+use Rattle.ed_link.proofs.Passes.{Passes, stays, goes, Passes-join}
+use Rattle.ed_link.proofs.Spelled.{aiming_spelled, AreSpellable-joined, line_spelled}
+use Rattle.ed_link.proofs.Uses.{reversed}
 
 -- what the absence of a fault says of a line
 
@@ -85,17 +63,17 @@ faultless z symbols has_enter past l s h =
 -- locations without a fault
 fits : (z : Size) (a b : ℕ) → a < b → IsClear z (extent a b) → (56 ≤ a) × (b ≤ locations z)
 fits z a b some clear =
-    let below : min b 44 ≤ max a 0 = not_lt_of _ _ clear.0 in
-    let beside : min b 56 ≤ max a 44 = not_lt_of _ _ clear.1 in
-    let above : min b b ≤ max a (locations z) = not_lt_of _ _ clear.2 in
+    let below : min b 44 ≤ max a 0 = ltb-false _ _ clear.0 in
+    let beside : min b 56 ≤ max a 44 = ltb-false _ _ clear.1 in
+    let above : min b b ≤ max a (locations z) = ltb-false _ _ clear.2 in
     (omega arith, omega arith)
 
 -- a `text` has a row
 some_rows : (two : Bool) (label : Option (List ℕ)) (n : ℕ) (codes : _)
     → is_line two (record { number = n; label = label; statement = Some (Text codes) }) ≡ true
     → 0 < length codes.items
-some_rows two None n codes h = le_of 1 (length codes.items) (and_parts _ _ h).0
-some_rows two (Some name) n codes h = le_of 1 (length codes.items) (and_parts _ _ (and_parts _ _ h).1).0
+some_rows two None n codes h = leb-true 1 (length codes.items) (and_parts _ _ h).0
+some_rows two (Some name) n codes h = leb-true 1 (length codes.items) (and_parts _ _ (and_parts _ _ h).1).0
 
 same_statement : (x y : Statement) → ◌≡◌ {A = Option Statement} (Some x) (Some y) → x ≡ y
 same_statement x y e = cc
@@ -105,10 +83,9 @@ pub formed_statement : (two : Bool) (n : ℕ) (label : Option (List ℕ)) (st : 
     → is_line two (record { number = n; label = label; statement = st }) ≡ true
     → (x : Statement) → st ≡ Some x → is_statement two x ≡ true
 formed_statement two n label None h x e = cc
-formed_statement two n None (Some y) h x e =
-    subst (λ (s : Statement). is_statement two s ≡ true) (same_statement y x e) h
+formed_statement two n None (Some y) h x e = rw (← (same_statement y x e)) h
 formed_statement two n (Some name) (Some y) h x e =
-    subst (λ (s : Statement). is_statement two s ≡ true) (same_statement y x e) (and_parts _ _ (and_parts _ _ h).1).1
+    rw (← (same_statement y x e)) (and_parts _ _ (and_parts _ _ h).1).1
 
 module _ (tables : list_all is_ready catalogue ≡ true) (z : Size) where
   -- a `use` without a fault has what its items need
@@ -118,8 +95,8 @@ module _ (tables : list_all is_ready catalogue ≡ true) (z : Size) where
   is_use text ts base None e n s clear = cc
   is_use text ts base (Some r) e n s clear =
       let some = some_items tables text r e in
-      let f = fits z base (base + length (entry r).items) (omega (arith, some)) clear in
-      (some, f.0, f.1, are_known ts tables text r e (not-false (sets ts (Some r)) s))
+      let f = fits z base _ (omega (arith, some)) clear in
+      (some, f.0, f.1, are_known ts tables text r e (not-false _ s))
 
   -- so has every line without a fault that is not an `enter`
   sound_line : {symbols : List Definition} {has_enter : Bool} {past : LinesBefore} {n : ℕ} {label : Option (List ℕ)}
@@ -132,12 +109,11 @@ module _ (tables : list_all is_ready catalogue ≡ true) (z : Size) where
   sound_line {s = s} two (Some (Number w)) formed f e = fits z s.place (s.place + 1) (omega arith) f.clear
   sound_line {n = n} {label = label} {s = s} two (Some (Text codes)) formed f e =
       let some = some_rows two label n codes formed in
-      let g = fits z s.place (s.place + length codes.items) (omega (arith, some)) f.clear in
+      let g = fits z s.place _ (omega (arith, some)) f.clear in
       (some, g.0, g.1)
-  sound_line {s = s} two (Some (Long v)) formed f e =
-      fits z s.place (even_from s.place + 2) (omega arith) f.clear
+  sound_line {s = s} two (Some (Long v)) formed f e = fits z s.place _ (omega arith) f.clear
   sound_line {s = s} two (Some (Fetch routine name ts)) formed f e =
-      is_use routine ts.items (even_from s.place) (find routine) refl f.routine f.settings f.clear
+      is_use routine ts.items _ _ refl f.routine f.settings f.clear
   sound_line two (Some (Enter name)) formed f e = cc
   sound_line two st formed f e = tt
 
@@ -182,10 +158,10 @@ behind : {symbols : List Definition} {theta : ℕ} {s : LocationCounter} (z : Si
     → fault_from z symbols has_enter past s lines ≡ None → IsBehind symbols theta s lines
 behind z has_enter past [] e h = record { items = refl; placed = refl; theta_is = refl }
 behind {symbols} {theta} {s} z has_enter past (l ∷ lines) e h =
-    let a = later_of l.number (cause_of z symbols has_enter past l s) _ h in
+    let a = later_of l.number _ _ h in
     let f = faultless z symbols has_enter past l s a.0 in
     after_line l.statement (rw e at f.misplaced)
-    (behind {s = after_statement l.statement s} z has_enter (past_of past l s) lines (rw e refl) a.1)
+    (behind {s = after_statement l.statement s} z has_enter _ lines (rw e refl) a.1)
 
 -- the induction over the lines
 
@@ -244,15 +220,15 @@ module _ {z : Size} {words : List ℕ} {symbols : List Definition} {has_enter : 
       (λ x e. (two, statement_fact two x (formed_statement two l.number l.label st formed x e))) sound ready.base in
       let a = line {z = z} {words = words} ready whole symbols st sound are in
       let r = more a.last _ a.ready in
-      let q = sym (entry_later symbols st (entry_from symbols lines) e) in
+      let q = sym (entry_later symbols st _ e) in
       record {
         before = is ++ r.before;
-        items = ap (λ x. is ++ x) r.items ∙ sym (append_assoc is r.before (item_with 0 0 false 17 ∷ []));
-        spelled = joined is r.before are r.spelled;
+        items = ap (λ x. is ++ x) r.items ∙ sym (append_assoc is r.before _);
+        spelled = AreSpellable-joined is r.before are r.spelled;
         last = r.last;
-        passes = join a.passes r.passes;
+        passes = Passes-join a.passes r.passes;
         enters = subst (λ p. Enters z words r.last p) q r.enters;
-        directive = subst (λ p. r.last.directive ≡ E_F + 2 * p) q r.directive;
+        directive = rw (← q) r.directive;
         theta_is = r.theta_is;
         placed = r.placed ∙ ap (λ m. reverse (placed_from symbols (after_statement st s) lines) ++ m) a.placed
             ∙ reversed (placed_by_line symbols s st) (placed_from symbols (after_statement st s) lines) notation.placed;
@@ -272,8 +248,8 @@ module _ {z : Size} {words : List ℕ} {symbols : List Definition} {has_enter : 
       } ∷ lines)
   entering {s = s} {notation} name f known ready b =
       let p = unwrap_or (place_on symbols None name) 0 in
-      let g = placed_entry z (place_on symbols None name) known f.clear in
-      let m = most z in
+      let g = placed_entry z _ known f.clear in
+      let m = locations_most z in
       let last : NotationState = record notation { directive = E_F + 2 * p } in
       record {
         before = item_with 3 p false 14 ∷ [];
@@ -307,13 +283,12 @@ module _ {z : Size} {words : List ℕ} {symbols : List Definition} {has_enter : 
   ends [] are ready = let none = are.enter in cc
   ends {past} {earlier} {s} {notation} {theta} (l ∷ lines) are ready =
       let e = are.before in
-      let a = later_of l.number (cause_of z symbols has_enter past l s) _ are.sound in
-      let b = later_of l.number (names_cause symbols (defines_again earlier l s) l s) _ are.named in
+      let a = later_of l.number _ _ are.sound in
+      let b = later_of l.number _ _ are.named in
       let c6 = none_of _ _ _ b.0 in
       let c7 = none_of _ _ _ c6.1 in
       let formed = and_parts _ _ are.formed in
-      let known = or_parts (any_operand (is_unknown symbols (segment_of l s)) l.statement)
-      (enters_unknown symbols l.statement) c7.0 in
+      let known = or_parts _ _ c7.0 in
       ends_at l.statement (faultless z symbols has_enter past l s a.0) formed.0 known.1 ready
       (λ g next t r. ends {past = past_of past l s} lines (record {
         formed = formed.1;
@@ -321,5 +296,4 @@ module _ {z : Size} {words : List ℕ} {symbols : List Definition} {has_enter : 
         named = b.1;
         before = rw (e, g) refl;
         enter = rw g at are.enter;
-      }) r)
-      (λ g. behind z has_enter (past_of past l s) lines (rw (e, g) refl) a.1)
+      }) r) (λ g. behind z has_enter _ lines (rw (e, g) refl) a.1)

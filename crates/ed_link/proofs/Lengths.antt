@@ -1,12 +1,7 @@
 -- A table keeps its length; how words are put into it.
-use Rattle.std.proofs.Common.{◌≡◌, ℕ, ◌+◌, ◌<◌, refl, sym, ap, ◌∙◌, arith, Option, Some}
-use Rattle.std.proofs.Common.{None, List, [], ◌∷◌, ◌++◌, length, map, drop, set, get_or}
-use Rattle.std.specs.Prelude.{replicate}
-use Rattle.std.proofs.lemmas.List.{length-set, length-replicate, drop_more}
-use Rattle.ed_library.specs.Routines.{missing_row}
-use Rattle.ed_library.specs.declared.tables.TableRow.{TableRow}
-use Rattle.ed_link.specs.Linked.{placed_words}
-use Rattle.ed_link.specs.Tables.{empty_table, put_all}
+use Rattle.ed_link.proofs.Kit.{length-set, [], ap, arith, drop, get_or, length, List, None, Option, refl, replicate}
+use Rattle.ed_link.proofs.Kit.{set, Some, sym, ℕ, ◌++◌, ◌+◌, ◌<◌, ◌∙◌, ◌∷◌, ◌≡◌, length-replicate, map, missing_row}
+use Rattle.ed_link.proofs.Kit.{TableRow, drop_more, placed_words, empty_table, put_all}
 
 -- words that are put into a table leave its length
 pub put_all_length : (table : List (Option ℕ)) (ps : List (ℕ × ℕ)) → length (put_all table ps) ≡ length table

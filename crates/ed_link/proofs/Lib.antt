@@ -25,3 +25,4 @@ pub mod SettingSentences
 pub mod LineFaults
 pub mod FaultLaw
 pub mod WordLaws
+pub mod Kit

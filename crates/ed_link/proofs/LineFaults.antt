@@ -1,26 +1,15 @@
 -- A line has the fault with the least number that its tests answer, and no fault if they answer none.
-use Rattle.std.proofs.Common.{ℕ, ◌≤◌, refl, arith}
-use Rattle.std.proofs.Common.{Bool, List, [], ◌∷◌}
-use Rattle.std.specs.List.{list_any}
-use Rattle.ed_words.specs.declared.size.Size.{Size}
-use Rattle.ed_words.specs.Sizes.{locations}
-use Rattle.ed_syntax.specs.declared.program.Line.{Line}
-use Rattle.ed_syntax.specs.declared.fault.SourceCause.{SourceCause}
-use Rattle.ed_syntax.specs.declared.fault.SourceCause.TheVariants as causes
-use Rattle.ed_symbols.specs.Places.{first_counter}
-use Rattle.ed_link.specs.Linked.{symbols_of}
-use Rattle.ed_link.specs.FaultTests.{any_enter, cause_of, has_no_routine, has_sandwich, is_misplaced}
-use Rattle.ed_link.specs.FaultTests.{extent, is_outside, overlaps}
-use Rattle.ed_link.specs.FaultTests.{reach, sets_otherwise, word_extent}
-use Rattle.ed_syntax.specs.Causes.{number_of}
-use Rattle.ed_syntax.proofs.Causes.{most}
-use Rattle.ed_symbols.specs.NameFaults.{counter_after}
-use Rattle.ed_link.specs.Faults.{LineHasCause}
+use Rattle.ed_link.proofs.Kit.{Size, [], arith, Bool, List, refl, ℕ, ◌∷◌, ◌≤◌, locations, SourceCause, Line, list_any}
+use Rattle.ed_link.proofs.Kit.{number_of, counter_after, first_counter, Ties, any_enter, cause_of, extent}
+use Rattle.ed_link.proofs.Kit.{has_no_routine, has_sandwich, is_misplaced, is_outside, overlaps, reach, sets_otherwise}
+use Rattle.ed_link.proofs.Kit.{word_extent, symbols_of}
+use Rattle.ed_syntax.proofs.Causes.{number_of-most}
 use Rattle.ed_symbols.specs.NameFaults.{LineHasNameFault}
-use Rattle.ed_symbols.proofs.Sentences.{Ties}
-use Rattle.ed_symbols.proofs.LeastFaults.{Least, picks}
-use Rattle.ed_link.proofs.FaultSentences.{extents_from, s9, s10_s11, s12, s13, s14, s16, s17}
-use Rattle.ed_link.proofs.SettingSentences.{s15}
+use Rattle.ed_symbols.proofs.LeastFaults.{Least, Least-picks}
+use Rattle.ed_link.specs.Faults.{LineHasCause}
+use Rattle.ed_link.proofs.FaultSentences.{extents_from, Ties-s9, s10_s11, Ties-s12, Ties-s13, Ties-s14, Ties-s16, Ties-s17}
+use Rattle.ed_link.proofs.SettingSentences.{Ties-s15}
+use Rattle.ed_syntax.specs.declared.fault.SourceCause.TheVariants as causes
 
 -- a fault of names is one of the faults of a line
 pub name_has_cause : (z : Size) (lines before : List Line) (l : Line) (c : SourceCause)
@@ -43,25 +32,25 @@ name_has_cause z lines before l causes.Parameters h = absurd h
 name_has_cause z lines before l causes.Enter h = absurd h
 name_has_cause z lines before l causes.SandwichDigit h = absurd h
 
-pub few : (lines before : List Line) (l : Line) (c : SourceCause) → LineHasNameFault lines before l c
+pub number_of-few : (lines before : List Line) (l : Line) (c : SourceCause) → LineHasNameFault lines before l c
     → number_of c ≤ 8
-few lines before l causes.BadByte h = absurd h
-few lines before l causes.LongLine h = absurd h
-few lines before l causes.NotAStatement h = absurd h
-few lines before l causes.NumberRange h = absurd h
-few lines before l causes.TooManyLines h = absurd h
-few lines before l causes.LabelTwice h = omega arith
-few lines before l causes.LabelUnknown h = omega arith
-few lines before l causes.AddressRange h = omega arith
-few lines before l causes.OutsideSegment h = absurd h
-few lines before l causes.LoaderStore h = absurd h
-few lines before l causes.ParameterStore h = absurd h
-few lines before l causes.StoreEnd h = absurd h
-few lines before l causes.Overlap h = absurd h
-few lines before l causes.NoSuchRoutine h = absurd h
-few lines before l causes.Parameters h = absurd h
-few lines before l causes.Enter h = absurd h
-few lines before l causes.SandwichDigit h = absurd h
+number_of-few lines before l causes.BadByte h = absurd h
+number_of-few lines before l causes.LongLine h = absurd h
+number_of-few lines before l causes.NotAStatement h = absurd h
+number_of-few lines before l causes.NumberRange h = absurd h
+number_of-few lines before l causes.TooManyLines h = absurd h
+number_of-few lines before l causes.LabelTwice h = omega arith
+number_of-few lines before l causes.LabelUnknown h = omega arith
+number_of-few lines before l causes.AddressRange h = omega arith
+number_of-few lines before l causes.OutsideSegment h = absurd h
+number_of-few lines before l causes.LoaderStore h = absurd h
+number_of-few lines before l causes.ParameterStore h = absurd h
+number_of-few lines before l causes.StoreEnd h = absurd h
+number_of-few lines before l causes.Overlap h = absurd h
+number_of-few lines before l causes.NoSuchRoutine h = absurd h
+number_of-few lines before l causes.Parameters h = absurd h
+number_of-few lines before l causes.Enter h = absurd h
+number_of-few lines before l causes.SandwichDigit h = absurd h
 
 -- each fault with such a number is one of names
 pub cause_is_name : (z : Size) (lines before : List Line) (l : Line) (c : SourceCause)
@@ -97,7 +86,7 @@ module _ (z : Size) (lines before : List Line) (l : Line) where
       (record { extents = extents_from first_counter before; entered = any_enter before }) l (counter_after before))
   of_meaning =
       let needs = reach (symbols_of lines) l.statement (counter_after before) in
-      picks OfMeaning 9
+      Least-picks OfMeaning 9
       ((is_outside l (counter_after before), causes.OutsideSegment)
       ∷ (overlaps needs (extent 0 44), causes.LoaderStore)
       ∷ (overlaps needs (extent 44 56), causes.ParameterStore)
@@ -110,7 +99,7 @@ module _ (z : Size) (lines before : List Line) (l : Line) where
       ∷ (sets_otherwise l.statement, causes.Parameters)
       ∷ (is_misplaced (any_enter before) (any_enter lines) l, causes.Enter)
       ∷ (has_sandwich l.statement, causes.SandwichDigit) ∷ []) (
-        over (s9 before l) (omega arith),
+        over (Ties-s9 before l) (omega arith),
         refl,
         (
           over (s10_s11 lines before l 0 44) (omega arith),
@@ -119,24 +108,24 @@ module _ (z : Size) (lines before : List Line) (l : Line) where
             over (s10_s11 lines before l 44 56) (omega arith),
             refl,
             (
-              over (s12 z lines before l) (omega arith),
+              over (Ties-s12 z lines before l) (omega arith),
               refl,
               (
-                over (s13 before l) (omega arith),
+                over (Ties-s13 before l) (omega arith),
                 refl,
                 (
-                  over (s14 l) (omega arith),
+                  over (Ties-s14 l) (omega arith),
                   refl,
                   (
-                    over (s15 l) (omega arith),
+                    over (Ties-s15 l) (omega arith),
                     refl,
                     (
-                      over (s16 lines before l) (omega arith),
+                      over (Ties-s16 lines before l) (omega arith),
                       refl,
                       (
-                        over (s17 l) (omega arith),
+                        over (Ties-s17 l) (omega arith),
                         refl,
-                        λ c h g. let m = most c in omega (arith, m, g),
+                        λ c h g. let m = number_of-most c in omega (arith, m, g),
                       ),
                     ),
                   ),

@@ -1,46 +1,24 @@
 -- What the loop over the lines needs.
-use Rattle.std.proofs.Common.{◌≡◌, ℕ, ◌+◌, ◌*◌, ◌<◌, ◌≤◌, refl, sym, ap, ◌∙◌, arith, Bool, false, Option, Some, None}
-use Rattle.std.proofs.Common.{List, [], ◌∷◌, ◌++◌, length, drop, get_or, append_assoc, append-nil, length-append}
-use Rattle.std.specs.Prelude.{◌||◌, unwrap_or}
-use Rattle.std.proofs.lemmas.List.{at_drop_all, drop_more, length-replicate}
-use Rattle.std.proofs.lemmas.Bool.Decides.{nat_tests}
-use Rattle.ed_words.specs.declared.size.Size.{Size}
-use Rattle.ed_words.specs.Sizes.{locations}
-use Rattle.ed_syntax.specs.declared.program.Statement.{Statement}
-use Rattle.ed_syntax.specs.declared.program.Statement.TheVariants.{Segment, Order, Number, Text}
-use Rattle.ed_syntax.specs.declared.program.Statement.TheVariants.{Long, Fetch, Enter, Rows}
-use Rattle.ed_syntax.specs.declared.program.Line.{Line}
-use Rattle.ed_syntax.specs.declared.fault.SourceCause.{SourceCause}
-use Rattle.ed_syntax.specs.declared.fault.SourceFault.TheVariants.{At}
-use Rattle.ed_symbols.specs.declared.symbols.Definition.{Definition}
-use Rattle.ed_symbols.specs.declared.location_counter.LocationCounter.{LocationCounter}
-use Rattle.ed_symbols.specs.NameTests.{or_later}
-use Rattle.ed_symbols.specs.Places.{after_statement, first_counter}
-use Rattle.ed_link.proofs.Lengths.{put_all_append, put_all_length}
-use Rattle.ed_link.specs.declared.building.Built.{Built}
-use Rattle.ed_link.specs.Private.Building.{IsBuilt, first_past}
-use Rattle.ed_link.specs.Linked.{data_after, data_rows, entered_place, entry_from, placed_by_line, placed_from}
-use Rattle.ed_link.specs.Punch.{items_of, punched_from}
-use Rattle.ed_link.specs.Tables.{empty_table, put_all, table_of}
-use Rattle.ed_link.specs.FaultTests.{LinesBefore, cause_of, extent, is_enter, overlaps, past_of, reach, word_extent}
-use Rattle.ed_link.specs.FaultTests.{fault_from}
-use Rattle.ed_link.specs.Private.Building.{IsFew}
+use Rattle.ed_link.proofs.Kit.{append-nil, Size, [], ap, append_assoc, arith, Bool, drop, false, get_or, length}
+use Rattle.ed_link.proofs.Kit.{length-append, List, None, Option, refl, Some, sym, unwrap_or, ℕ, ◌*◌, ◌++◌, ◌+◌, ◌<◌}
+use Rattle.ed_link.proofs.Kit.{◌∙◌, ◌∷◌, ◌≡◌, ◌≤◌, at_drop_all, length-replicate, locations, locations_most, SourceCause, At}
+use Rattle.ed_link.proofs.Kit.{Line, Statement, Enter, Rows, nat_tests, LocationCounter, Definition, ◌||◌, drop_more}
+use Rattle.ed_link.proofs.Kit.{or_later, after_statement, first_counter, cause_of, extent, fault_from, is_enter}
+use Rattle.ed_link.proofs.Kit.{LinesBefore, overlaps, past_of, reach, word_extent, data_after, entered_place}
+use Rattle.ed_link.proofs.Kit.{entry_from, placed_by_line, placed_from, first_past, IsBuilt, IsFew, items_of}
+use Rattle.ed_link.proofs.Kit.{punched_from, empty_table, put_all, table_of, Built}
+use Rattle.ed_link.specs.Linked.{data_rows}
 use Rattle.ed_link.proofs.Bounds.{items_few}
-use Rattle.ed_words.proofs.SizeLemmas.{most}
 use Rattle.ed_link.proofs.Inductions.{faultless}
+use Rattle.ed_link.proofs.Lengths.{put_all_append, put_all_length}
 
 -- a base is not above its location
 pub base_under : (st : Option Statement) (s : LocationCounter) → s.base ≤ s.place
     → (after_statement st s).base ≤ (after_statement st s).place
 base_under None s h = h
-base_under (Some (Segment name base)) s h = omega arith
-base_under (Some (Order f o long)) s h = omega arith
-base_under (Some (Number w)) s h = omega arith
-base_under (Some (Text codes)) s h = omega arith
-base_under (Some (Fetch routine name ts)) s h = omega arith
 base_under (Some (Enter name)) s h = h
 base_under (Some (Rows codes)) s h = h
-base_under (Some (Long v)) s h = omega arith
+base_under st s h = omega arith
 
 -- a line without a fault needs locations below 1024
 pub reach_fits : (z : Size) (symbols : List Definition) (has_enter : Bool) (past : LinesBefore) (l : Line)
@@ -48,7 +26,7 @@ pub reach_fits : (z : Size) (symbols : List Definition) (has_enter : Bool) (past
     → cause_of z symbols has_enter past l s ≡ None
     → (reach symbols l.statement s).from < (reach symbols l.statement s).after → (reach symbols l.statement s).after ≤ 1024
 reach_fits z symbols has_enter past l s h some =
-    let m = most z in
+    let m = locations_most z in
     of (reach symbols l.statement s).from (reach symbols l.statement s).after (locations z) m some
     (faultless z symbols has_enter past l s h).clear.2
   where
@@ -104,11 +82,11 @@ pub record Does (z : Size) (symbols : List Definition) (has_enter : Bool) (l : L
   pub entered : m'.past.entered ≡ (m.past.entered || is_enter l.statement)
 
 -- what is made of the lines with one more of them
-pub step : {z : Size} {symbols : List Definition} {has_enter : Bool} {lines : List Line} {n : ℕ} {l : Line}
+pub Doing-step : {z : Size} {symbols : List Definition} {has_enter : Bool} {lines : List Line} {n : ℕ} {l : Line}
     {m m' : Made}
     → Doing z symbols has_enter lines n m → n < length lines → l ≡ get_or lines n l → Does z symbols has_enter l m m'
     → Doing z symbols has_enter lines (n + 1) m'
-step {z} {symbols} {has_enter} {lines} {n} {l} {m} {m'} d below is e =
+Doing-step {z} {symbols} {has_enter} {lines} {n} {l} {m} {m'} d below is e =
     let rest = drop (n + 1) lines in
     let s = after_statement l.statement m.counter in
     let b = base_under l.statement m.counter d.base in
@@ -118,8 +96,7 @@ step {z} {symbols} {has_enter} {lines} {n} {l} {m} {m'} d below is e =
     record {
       fault = rw (past, sp) (sym (goes_on z symbols has_enter m.past m.counter l rest e.cause)
           ∙ ap (λ (x : List Line). fault_from z symbols has_enter m.past m.counter x) (sym q) ∙ d.fault);
-      items_are = rw (e.items_are, sp)
-          (append_assoc m.built.items.items (items_of symbols m.counter l.statement) (punched_from symbols s rest)
+      items_are = rw (e.items_are, sp) (append_assoc m.built.items.items _ _
           ∙ ap (λ (x : List Line). m.built.items.items ++ punched_from symbols m.counter x) (sym q) ∙ d.items_are);
       table_is = rw (e.table_is, sp)
           (put_all_append m.built.table.items (placed_by_line symbols m.counter l.statement)
@@ -127,7 +104,7 @@ step {z} {symbols} {has_enter} {lines} {n} {l} {m} {m'} d below is e =
           ∙ ap (λ (x : List Line). put_all m.built.table.items (placed_from symbols m.counter x)) (sym q) ∙ d.table_is);
       size = ap (λ (t : List (Option ℕ)). length t) e.table_is
           ∙ put_all_length m.built.table.items (placed_by_line symbols m.counter l.statement) ∙ d.size;
-      rows_are = rw e.rows_are (append_assoc m.built.after.items (data_rows l.statement) (data_after rest)
+      rows_are = rw e.rows_are (append_assoc m.built.after.items _ _
           ∙ ap (λ (x : List Line). m.built.after.items ++ data_after x) (sym q) ∙ d.rows_are);
       entry_is = e.entry_is (entry_from symbols rest)
           ∙ ap (λ (x : List Line). unwrap_or m.built.entry (entry_from symbols x)) (sym q) ∙ d.entry_is;
@@ -149,11 +126,11 @@ step {z} {symbols} {has_enter} {lines} {n} {l} {m} {m'} d below is e =
     }
 
 -- before the first line
-pub start : {z : Size} {symbols : List Definition} {has_enter : Bool} {lines : List Line} {m : Made}
+pub Doing-start : {z : Size} {symbols : List Definition} {has_enter : Bool} {lines : List Line} {m : Made}
     → m.past ≡ first_past → m.counter ≡ first_counter → m.built.items.items ≡ [] → m.built.table.items ≡ empty_table
     → m.built.entry ≡ None → m.built.after.items ≡ [] → Doing z symbols has_enter lines 0 m
 unfolding empty_table
-start past counter items table entry rows = record {
+Doing-start past counter items table entry rows = record {
   fault = rw (past, counter) refl;
   items_are = rw (counter, items) refl;
   table_is = rw (counter, table) refl;
@@ -187,12 +164,13 @@ all_built {z} {symbols} {has_enter} {lines} {n} {m} d past within limit =
     }
 
 -- the fault of a line is the first one
-pub stopped : {z : Size} {symbols : List Definition} {has_enter : Bool} {lines : List Line} {n : ℕ} {l : Line}
+pub fault_from-stopped : {z : Size} {symbols : List Definition} {has_enter : Bool}
+    {lines : List Line} {n : ℕ} {l : Line}
     {m : Made} {cause : SourceCause}
     → Doing z symbols has_enter lines n m → n < length lines → l ≡ get_or lines n l
     → cause_of z symbols has_enter m.past l m.counter ≡ Some cause
     → fault_from z symbols has_enter first_past first_counter lines ≡ Some (At l.number cause)
-stopped {z} {symbols} {has_enter} {lines} {n} {l} {m} d below is has =
+fault_from-stopped {z} {symbols} {has_enter} {lines} {n} {l} {m} d below is has =
     let rest = drop (n + 1) lines in
     let q : drop n lines ≡ l ∷ rest = drop_more lines n l below ∙ ap (λ (x : Line). x ∷ rest) (sym is) in
     sym d.fault ∙ ap (λ (x : List Line). fault_from z symbols has_enter m.past m.counter x) q

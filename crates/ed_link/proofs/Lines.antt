@@ -1,45 +1,25 @@
 -- What the fold does at the items of one line.
-use Rattle.std.proofs.Common.{◌≡◌, ℕ, ◌+◌, ◌*◌, ◌/◌, ◌%◌, ◌^◌, ◌<◌, ◌≤◌, refl, sym, ap, ◌∙◌, subst, arith}
-use Rattle.std.proofs.Common.{Bool, true, false, nat_eq, nat_lt, Option, Some, None, List, [], ◌∷◌, ◌++◌, length, map}
-use Rattle.std.specs.Prelude.{reverse, unwrap_or, if◌then◌else◌}
-use Rattle.std.specs.List.{flat_map}
-use Rattle.std.proofs.lemmas.List.{length-map}
-use Rattle.std.proofs.lemmas.Bool.Decides.{nat_tests}
-use Rattle.ed_words.specs.declared.size.Size.{Size}
-use Rattle.ed_words.specs.Sizes.{locations}
-use Rattle.ed_words.specs.Words.{digit}
-use Rattle.ed_notation.specs.declared.item.Item.{Item}
-use Rattle.ed_notation.specs.Fold.{NotationState, word_with}
-use Rattle.ed_notation.specs.Spellings.{AreSpellable}
-use Rattle.ed_library.specs.Entries.{entry}
-use Rattle.ed_library.specs.Routines.{find, table_item}
-use Rattle.ed_library.specs.Images.{routine_word}
-use Rattle.ed_syntax.specs.declared.program.Setting.{Setting}
-use Rattle.ed_syntax.specs.declared.program.Statement.{Statement}
-use Rattle.ed_syntax.specs.declared.program.Statement.TheVariants.{Segment, Order, Number, Text}
-use Rattle.ed_syntax.specs.declared.program.Statement.TheVariants.{Long, Fetch, Enter, Rows}
-use Rattle.ed_symbols.specs.declared.symbols.Definition.{Definition}
-use Rattle.ed_symbols.specs.declared.location_counter.LocationCounter.{LocationCounter}
-use Rattle.ed_symbols.specs.Places.{even_from, routine_places as places_of, after_statement, segment_at}
-use Rattle.ed_link.specs.Linked.{operand_number, long_words, placed_words, parameter_letters, set_to, presets}
-use Rattle.ed_link.specs.Linked.{parameters}
-use Rattle.ed_link.specs.Linked.{image}
-use Rattle.ed_link.specs.Linked.{placed_by_line, first_place}
-use Rattle.ed_link.specs.Punch.{word_item, order_item, goes_by_theta, with_heading}
-use Rattle.ed_link.specs.Punch.{preset_items, routine_items, use_items, items_of}
-use Rattle.ed_words.proofs.Numbers.{eq_true, lt_true, lt_false}
-use Rattle.ed_words.specs.declared.order_words.TheConstants.{T_F}
-use Rattle.ed_link.proofs.Passes.{Passes, stays, join, at}
-use Rattle.ed_link.proofs.Orders.{split, laid_pass, order_pass, headed_pass, unheaded}
+use Rattle.ed_link.proofs.Kit.{reverse, eq-eqb, T_F, Size, word_with, AreSpellable, Item, [], ap, arith, Bool, false}
+use Rattle.ed_link.proofs.Kit.{if◌then◌else◌, length, List, nat_eq, nat_lt, None, Option, refl, Some, subst, sym, true}
+use Rattle.ed_link.proofs.Kit.{unwrap_or, ℕ, ◌%◌, ◌*◌, ◌++◌, ◌+◌, ◌/◌, ◌<◌, ◌∙◌, ◌∷◌, ◌≡◌, ◌≤◌, flat_map, le-ltb}
+use Rattle.ed_link.proofs.Kit.{lt-ltb, locations, digit, NotationState, Setting, Statement, Enter, Fetch, Long, Number}
+use Rattle.ed_link.proofs.Kit.{Order, Rows, Segment, Text, map, ◌^◌, nat_tests, length-map, entry, routine_word, find}
+use Rattle.ed_link.proofs.Kit.{table_item, even_from, segment_at, LocationCounter, Definition, after_statement}
+use Rattle.ed_link.proofs.Kit.{first_place, image, long_words, operand_number, parameter_letters, parameters}
+use Rattle.ed_link.proofs.Kit.{placed_by_line, placed_words, presets, set_to, items_of, preset_items, routine_items}
+use Rattle.ed_link.proofs.Kit.{use_items, with_heading, word_item}
+use Rattle.ed_symbols.specs.Places.{routine_places as places_of}
+use Rattle.ed_link.proofs.Orders.{AreSpellable-split, laid_pass, order_pass, headed_pass, AreSpellable-unheaded}
+use Rattle.ed_link.proofs.Passes.{Passes, stays, Passes-join, at}
 use Rattle.ed_link.proofs.Uses.{AreKnown, all, holds, image_pass, reversed}
 
 -- no location is before itself
 pub lt_same : (a : ℕ) → nat_lt a a ≡ false
-lt_same a = lt_false a a (omega arith)
+lt_same a = le-ltb a a (omega arith)
 
 -- a location is equal to itself
 eq_same : (a : ℕ) → nat_eq a a ≡ true
-eq_same a = eq_true a a refl
+eq_same a = eq-eqb a a refl
 
 -- the state of the notation at a line
 pub record IsReady (theta : ℕ) (s : LocationCounter) (notation : NotationState) : Type 0 where
@@ -114,11 +94,11 @@ module _ {z : Size} {words : List ℕ} {theta : ℕ} {s : LocationCounter} {nota
       (placed_words s.place ws)
   in_segment is ws some more high p = record {
     last = at (s.place + length ws) s.base (reverse (placed_words s.place ws) ++ notation.placed);
-    passes = headed_pass s.place s.base (nat_eq s.place s.base) refl (omega arith) some ready.follows p;
+    passes = headed_pass s.place s.base _ refl (omega arith) some ready.follows p;
     ready = record {
-      base = let b = ready.base in omega arith;
+      base = omega arith;
       follows = λ h. (refl, refl);
-      theta_is = let e = lt_true s.place (s.place + length ws) (omega arith) in rw e refl;
+      theta_is = let e = lt-ltb s.place (s.place + length ws) (omega arith) in rw e refl;
     };
     placed = refl;
   }
@@ -130,8 +110,8 @@ module _ {z : Size} {words : List ℕ} {theta : ℕ} {s : LocationCounter} {nota
       → Line z words theta s.place (record s { place = s.place + length ws }) notation
       (with_heading (map word_item ws) (nat_eq s.place s.base) s.base) (placed_words s.place ws)
   numbered ws are some low high =
-      in_segment (map word_item ws) ws (let l = length-map ws word_item in omega arith) some high
-      (laid_pass s.base ws s.place (unheaded (map word_item ws) _ _ are) (omega arith) high)
+      in_segment _ ws (let l = length-map ws word_item in omega arith) some high
+      (laid_pass s.base ws s.place (AreSpellable-unheaded _ _ _ are) (omega arith) high)
 
   use_line : (ts : List Setting) (base : ℕ) (found : Option ℕ) (segments : ℕ) → IsUse z ts base found
       → AreSpellable (use_items symbols ts base found)
@@ -142,7 +122,7 @@ module _ {z : Size} {words : List ℕ} {theta : ℕ} {s : LocationCounter} {nota
   use_line ts base (Some r) segments is are =
       let rows = (entry r).items in
       let js = flat_map (λ c. preset_items symbols (set_to ts c) c) parameter_letters in
-      let sp = split js (with_heading (routine_items (Some r)) true base) are in
+      let sp = AreSpellable-split js (with_heading (routine_items (Some r)) true base) are in
       let a = all {z = z} {words = words} whole symbols ts parameter_letters refl notation sp.0 in
       let m = a.0.next in
       let held = holds words symbols ts m.placed a.1 in
@@ -154,11 +134,11 @@ module _ {z : Size} {words : List ℕ} {theta : ℕ} {s : LocationCounter} {nota
       (λ e. cc) p in
       record {
         last = last;
-        passes = join a.0.passes h;
+        passes = Passes-join a.0.passes h;
         ready = record {
           base = omega arith;
           follows = λ e. (refl, refl);
-          theta_is = let e = lt_true base (base + length rows) (omega (arith, is.0)) in rw e refl;
+          theta_is = let e = lt-ltb base (base + length rows) (omega (arith, is.0)) in rw e refl;
         };
         placed = ap (λ x. reverse img ++ x) a.0.placed ∙ reversed (presets symbols ts) img notation.placed;
       }
@@ -172,32 +152,26 @@ module _ {z : Size} {words : List ℕ} {theta : ℕ} {s : LocationCounter} {nota
     passes = stays;
     ready = record {
       base = omega arith;
-      follows = λ h. let e = eq_same (unwrap_or base s.place) in let q = sym e ∙ h in cc;
+      follows = λ h. let e = eq_same _ in let q = sym e ∙ h in cc;
       theta_is = let e = lt_same (unwrap_or base s.place) in rw e ready.theta_is;
     };
     placed = refl;
   }
   line (Some (Order f o long)) is are =
       let w = word_with f (operand_number symbols (segment_at s) o) false (digit long) in
-      in_segment (order_item (goes_by_theta symbols s o) s.base f (operand_number symbols (segment_at s) o) long ∷ [])
-      (w ∷ [])
-      (omega arith) (omega arith) is.1
+      in_segment _ (w ∷ []) (omega arith) (omega arith) is.1
       (order_pass symbols s f o long (omega (arith, is.0)) (omega (arith, is.1)))
   line (Some (Number w)) is are = numbered (w ∷ []) are (omega arith) is.0 is.1
   line (Some (Text codes)) is are =
       let l = length-map codes.items (λ c. 4096 * c) in
       subst (λ (x : LocationCounter). Line z words theta s.place x notation (items_of symbols s (Some (Text codes)))
-      (placed_by_line symbols s (Some (Text codes))))
-      (λ i. record s { place = s.place + l i })
-      (numbered (map (λ c. 4096 * c) codes.items) are (omega (arith, l, is.0)) is.1 (omega (arith, l, is.2)))
+      (placed_by_line symbols s (Some (Text codes)))) (λ i. record s { place = s.place + l i })
+      (numbered _ are (omega (arith, l, is.0)) is.1 (omega (arith, l, is.2)))
   line (Some (Long v)) is are =
       let e = long_spot s v in
       let p : s.place + length (long_words s.place v) ≡ even_from s.place + 2 =
       ap (λ (x : LocationCounter). x.place) e in
-      subst (λ (x : LocationCounter). Line z words theta s.place x notation (items_of symbols s (Some (Long v)))
-      (placed_by_line symbols s (Some (Long v))))
-      e (numbered (long_words s.place v) are (omega (arith, p)) is.0 (omega (arith, p, is.1)))
-  line (Some (Fetch routine name ts)) is are =
-      use_line ts.items (even_from s.place) (find routine) (s.segments + 1) is are
+      rw (← e) (numbered _ are (omega (arith, p)) is.0 (omega (arith, p, is.1)))
+  line (Some (Fetch routine name ts)) is are = use_line ts.items _ _ _ is are
   line (Some (Enter name)) is are = absurd is
   line (Some (Rows codes)) is are = quiet

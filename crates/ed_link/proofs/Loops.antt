@@ -1,6 +1,6 @@
 -- A function of a list, in a loop over the list that keeps its value at the items that are left.
-use Rattle.std.proofs.Common.{◌≡◌, ◌∙◌, sym, ℕ, ◌+◌, ◌<◌, ◌≤◌, List, [], ◌∷◌, length, drop, get_or}
-use Rattle.std.proofs.lemmas.List.{at_drop_more, at_drop_all}
+use Rattle.ed_link.proofs.Kit.{at_drop_more, [], drop, get_or, length, List, sym, ℕ, ◌+◌, ◌<◌, ◌∙◌, ◌∷◌, ◌≡◌, ◌≤◌}
+use Rattle.ed_link.proofs.Kit.{at_drop_all}
 
 -- at the current item
 pub at_item : {X Y : Type 0} (F : List X → Y) (xs : List X) (i : ℕ) (d : X) (y : Y)

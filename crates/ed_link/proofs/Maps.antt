@@ -1,25 +1,22 @@
 -- The words in ascending order of location are the map of the words in the order of the lines.
-use Rattle.std.proofs.Common.{◌≡◌, ℕ, zero, suc, ◌+◌, ◌<◌, refl, sym, ap, ◌∙◌, arith, Bool, true, false, nat_eq}
-use Rattle.std.proofs.Common.{if◌then◌else◌, Option, Some, None}
-use Rattle.std.proofs.Common.{List, [], ◌∷◌, ◌++◌, length, get_or, set}
-use Rattle.std.specs.Prelude.{reverse, map, is_some}
+use Rattle.ed_link.proofs.Kit.{reverse, eq-eqb, ne_eqb, get_or-set_same, length-set, placed_at, [], ap, arith, Bool}
+use Rattle.ed_link.proofs.Kit.{false, get_or, if◌then◌else◌, length, List, nat_eq, None, Option, refl, set, Some, suc}
+use Rattle.ed_link.proofs.Kit.{sym, true, ℕ, ◌++◌, ◌+◌, ◌<◌, ◌∙◌, ◌∷◌, ◌≡◌, eqb-true, get_or-set_other, map, zero}
+use Rattle.ed_link.proofs.Kit.{is_some, empty_table, put_all, table_of, word_at, words_from, Placed}
 use Rattle.std.specs.List.{filter, range_with_len}
-use Rattle.ed_words.proofs.Numbers.{eq_of, eq_true, eq_false, not_eq_of}
-use Rattle.std.proofs.lemmas.List.{get_or-set_same, get_or-set_other, length-set, get_or-replicate, append-nil}
-use Rattle.ed_notation.specs.Fold.{placed_at}
-use Rattle.ed_link.specs.Tables.{empty_table, put_all, table_of, word_at, words_from}
-use Rattle.ed_link.proofs.Orders.{placed_more}
-use Rattle.ed_link.specs.declared.linked.Placed.{Placed}
+use Rattle.std.proofs.lemmas.Bool.{eqb-false}
+use Rattle.std.proofs.lemmas.List.{get_or-replicate, append-nil}
 use Rattle.ed_link.proofs.Lengths.{empty_length, put_all_length}
+use Rattle.ed_link.proofs.Orders.{placed_more}
 
 -- one word is put
 one : {found : Option ℕ} (t : List (Option ℕ)) (p w a : ℕ) (b : Bool) → nat_eq p a ≡ b → a < length t
     → get_or t a None ≡ found
     → get_or (set t p (Some w)) a None ≡ (if b then Some w else found)
 one t p w a true e l h =
-    let q = eq_of p a e in
+    let q = eqb-true p a e in
     ap (λ x. get_or (set t x (Some w)) a None) q ∙ get_or-set_same t a (Some w) None l
-one t p w a false e l h = get_or-set_other t p a (Some w) None (λ q. not_eq_of p a e (sym q)) ∙ h
+one t p w a false e l h = get_or-set_other t p a (Some w) None (λ q. eqb-false p a e (sym q)) ∙ h
 
 -- words are put
 put_is : (ps m : List (ℕ × ℕ)) (t : List (Option ℕ)) (a : ℕ) → a < length t → get_or t a None ≡ placed_at m a
@@ -27,8 +24,7 @@ put_is : (ps m : List (ℕ × ℕ)) (t : List (Option ℕ)) (a : ℕ) → a < le
 put_is [] m t a l h = h
 put_is (p ∷ ps) m t a l h =
     let l2 : a < length (set t p.0 (Some p.1)) = omega (arith, length-set t p.0 (Some p.1)) in
-    put_is ps (p ∷ m) (set t p.0 (Some p.1)) a l2 (one t p.0 p.1 a (nat_eq p.0 a) refl l h)
-    ∙ ap (λ x. placed_at x a) (placed_more p ps m)
+    put_is ps (p ∷ m) _ a l2 (one t p.0 p.1 a _ refl l h) ∙ ap (λ x. placed_at x a) (placed_more p ps m)
 
 -- the empty table has no word
 empty_none : (a : ℕ) → a < 1024 → get_or empty_table a None ≡ None
@@ -39,24 +35,23 @@ empty_none a h = get_or-replicate {A = Option ℕ} 1024 a None None h
 table_is : (ps : List (ℕ × ℕ)) (a : ℕ) → a < 1024 → get_or (table_of ps) a None ≡ placed_at (reverse ps) a
 table_is ps a h =
     let l : a < length empty_table = omega (arith, empty_length) in
-    put_is ps [] empty_table a l (empty_none a h) ∙ ap (λ x. placed_at x a) (append-nil (reverse ps))
+    put_is ps [] empty_table a l (empty_none a h) ∙ ap (λ x. placed_at x a) (append-nil _)
 
 -- there is no word below the first location
 below : (t : List (Option ℕ)) (b a : ℕ) → a < b → word_at (words_from b t) a ≡ None
 below [] b a h = refl
 below (None ∷ t) b a h = below t (b + 1) a (omega arith)
-below (Some w ∷ t) b a h = let e = eq_false b a (omega arith) in rw e (below t (b + 1) a (omega arith))
+below (Some w ∷ t) b a h = let e = ne_eqb b a (omega arith) in rw e (below t (b + 1) a (omega arith))
 
 -- the word at a location
 at : (t : List (Option ℕ)) (b k : ℕ) → word_at (words_from b t) (b + k) ≡ get_or t k None
 at [] b k = refl
 at (None ∷ t) b zero = below t (b + 1) (b + 0) (omega arith)
 at (None ∷ t) b (suc k) = let e : b + suc k ≡ b + 1 + k = omega arith in rw e (at t (b + 1) k)
-at (Some w ∷ t) b zero = let e : nat_eq b (b + 0) ≡ true = eq_true b (b + 0) (omega arith) in rw e refl
+at (Some w ∷ t) b zero = let e : nat_eq b (b + 0) ≡ true = eq-eqb b (b + 0) (omega arith) in rw e refl
 at (Some w ∷ t) b (suc k) =
     let e : b + suc k ≡ b + 1 + k = omega arith in
-    let n = eq_false b (b + suc k) (omega arith) in
-    rw n (rw e (at t (b + 1) k))
+    rw (ne_eqb b (b + suc k) (omega arith), e) (at t (b + 1) k)
 
 -- the words in ascending order of location are the map
 pub words_are : (ps : List (ℕ × ℕ)) (a : ℕ) → a < 1024
@@ -84,8 +79,7 @@ pub places_are : (ps : List (ℕ × ℕ))
     ≡ filter (λ a. is_some (placed_at (reverse ps) a)) (range_with_len 0 1024)
 places_are ps =
     let long : length (table_of ps) ≡ 1024 = put_all_length empty_table ps ∙ empty_length in
-    places_from (λ a. is_some (placed_at (reverse ps) a)) (table_of ps) 0
-    (λ i l. let at : 0 + i ≡ i = omega arith in
+    places_from (λ a. is_some (placed_at (reverse ps) a)) _ 0 (λ i l. let at : 0 + i ≡ i = omega arith in
     ap (λ a. is_some (placed_at (reverse ps) a)) at
     ∙ ap (λ (w : Option ℕ). is_some w) (sym (table_is ps i (omega (arith, l, long)))))
     ∙ ap (λ (n : ℕ). filter (λ a. is_some (placed_at (reverse ps) a)) (range_with_len 0 n)) long

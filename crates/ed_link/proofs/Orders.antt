@@ -1,48 +1,28 @@
 -- What the fold does at the items of the words of a line in a segment.
-use Rattle.std.proofs.Common.{◌≡◌, ℕ, suc, ◌+◌, ◌*◌, ◌/◌, ◌%◌, ◌^◌, ◌<◌, ◌≤◌, refl, sym, ap, ◌∙◌, subst, arith, Bool}
-use Rattle.std.proofs.Common.{true, false, inr}
-use Rattle.std.proofs.Common.{◌&&◌, nat_eq, nat_lt, nat_le, List, [], ◌∷◌, ◌++◌, length, map, append_assoc}
-use Rattle.std.specs.Prelude.{reverse}
-use Rattle.std.proofs.lemmas.List.{reverse-append}
-use Rattle.std.proofs.lemmas.Bool.{and_parts}
-use Rattle.std.proofs.lemmas.Bool.Decides.{nat_tests}
-use Rattle.ed_words.specs.declared.size.Size.{Size}
-use Rattle.ed_words.specs.Sizes.{locations}
-use Rattle.ed_words.specs.Words.{digit}
-use Rattle.ed_notation.specs.declared.item.Item.{Item}
-use Rattle.ed_notation.specs.declared.kind.RowKind.TheVariants.{Letter}
-use Rattle.ed_notation.specs.Items.{row_kind, ends}
-use Rattle.ed_notation.specs.Fold.{NotationState, item_word, word_with}
-use Rattle.ed_notation.specs.Spellings.{canonical, is_spellable, AreSpellable}
-use Rattle.ed_syntax.specs.declared.program.Operand.{Operand}
-use Rattle.ed_syntax.specs.declared.program.Operand.TheVariants.{Number, Label, Two}
-use Rattle.ed_symbols.specs.declared.symbols.Definition.{Definition}
-use Rattle.ed_symbols.specs.declared.location_counter.LocationCounter.{LocationCounter}
-use Rattle.ed_symbols.specs.Places.{segment_at}
-use Rattle.ed_symbols.specs.Names.{definition_of}
-use Rattle.ed_link.specs.Linked.{operand_number, placed_words}
-use Rattle.ed_link.specs.Punch.{word_item, order_item, goes_by_theta, is_in, with_heading}
-use Rattle.ed_notation.proofs.Steps.{placing}
-use Rattle.ed_words.proofs.Numbers.{lt_of, le_of, eq_of}
-use Rattle.ed_words.proofs.SizeLemmas.{most}
-use Rattle.ed_words.specs.declared.order_words.TheConstants.{T_F}
-use Rattle.ed_link.proofs.Passes.{Passes, stays, goes, join, at, heading}
+use Rattle.ed_link.proofs.Kit.{reverse, reverse-append, T_F, Size, word_with, AreSpellable, Item, Letter, [], ap}
+use Rattle.ed_link.proofs.Kit.{append_assoc, arith, Bool, false, inr, length, List, nat_eq, refl, subst, suc, sym}
+use Rattle.ed_link.proofs.Kit.{true, ℕ, ◌%◌, ◌*◌, ◌++◌, ◌+◌, ◌/◌, ◌<◌, ◌∙◌, ◌∷◌, ◌≡◌, ◌≤◌, and_parts, eqb-true}
+use Rattle.ed_link.proofs.Kit.{leb-true, ltb-true, locations, digit, locations_most, item_word, NotationState, row_kind}
+use Rattle.ed_link.proofs.Kit.{is_spellable, Does-placing, Operand, map, ◌^◌, nat_tests, segment_at, LocationCounter}
+use Rattle.ed_link.proofs.Kit.{Definition, operand_number, placed_words, goes_by_theta, order_item, with_heading}
+use Rattle.ed_link.proofs.Kit.{word_item}
+use Rattle.ed_syntax.specs.declared.program.Operand.TheVariants.{Label}
+use Rattle.ed_link.proofs.Passes.{Passes, stays, goes, Passes-join, at, Passes-heading}
 
 -- the function of an item that can be spelled
 function_fits : (i : Item) → is_spellable i ≡ true → i.function < 32
-function_fits i h = lt_of _ _
-    (and_parts (nat_lt i.function 32) (nat_le i.number 32767 && ends (row_kind i.end) (canonical i).begun) h).0
+function_fits i h = ltb-true _ _ (and_parts _ _ h).0
 
 -- items that can be spelled, in two parts
-pub split : (is js : List Item) → AreSpellable (is ++ js) → AreSpellable is × AreSpellable js
-split [] js are = (tt, are)
-split (i ∷ is) js are = let s = split is js are.1 in ((are.0, s.0), s.1)
+pub AreSpellable-split : (is js : List Item) → AreSpellable (is ++ js) → AreSpellable is × AreSpellable js
+AreSpellable-split [] js are = (tt, are)
+AreSpellable-split (i ∷ is) js are = let s = AreSpellable-split is js are.1 in ((are.0, s.0), s.1)
 
 -- words one after the other
 
 word_is : (words : List ℕ) (notation : NotationState) (w : ℕ) (odd : Bool) → nat_eq (w % 2) 1 ≡ odd → w < 2 ^ 17
     → (item_word words notation (word_item w) ≡ w) × (row_kind (word_item w).end ≡ Letter)
-word_is words notation w true e h = let m : w % 2 ≡ 1 = eq_of _ _ e in (rw e (omega arith), rw e refl)
+word_is words notation w true e h = let m : w % 2 ≡ 1 = eqb-true _ _ e in (rw e (omega arith), rw e refl)
 word_is words notation w false e h = let m : w % 2 ≡ 0 = grind (arith, nat_tests)
     in (rw e (omega arith), rw e refl)
 
@@ -61,10 +41,10 @@ pub laid_pass : {z : Size} {words : List ℕ} {placed : List (ℕ × ℕ)} (base
     (at (place + length ws) base (reverse (placed_words place ws) ++ placed))
 laid_pass base [] place are low high = let e : place + 0 ≡ place = omega arith in rw e stays
 laid_pass {z} {words} {placed} base (w ∷ ws) place are low high =
-    let k = word_is words (at place base placed) w (nat_eq (w % 2) 1) refl (small w are.0) in
+    let k = word_is words (at place base placed) w _ refl (small w are.0) in
     let e : place + suc (length ws) ≡ place + 1 + length ws = omega arith in
     let r = laid_pass {placed = (place, w) ∷ placed} base ws (place + 1) are.1 (omega arith) (omega arith) in
-    goes (placing z words place k.1 refl low (omega arith) k.0) (inr k.1)
+    goes (Does-placing z words place k.1 refl low (omega arith) k.0) (inr k.1)
     (subst (λ (n : NotationState). Passes z words (at (place + 1) base ((place, w) ∷ placed)) (map word_item ws) n)
     (λ i. at (sym e i) base (placed_more (place, w) (placed_words (place + 1) ws) placed i)) r)
 
@@ -72,10 +52,8 @@ laid_pass {z} {words} {placed} base (w ∷ ws) place are low high =
 
 theta_base : (symbols : List Definition) (s : LocationCounter) (o : Operand) → goes_by_theta symbols s o ≡ true
     → s.base ≤ operand_number symbols (segment_at s) o
-theta_base symbols s (Number n) h = cc
-theta_base symbols s (Label name plus) h =
-    le_of _ _ (and_parts (is_in (segment_at s) (definition_of (segment_at s) name symbols)) _ h).1
-theta_base symbols s (Two first second minus) h = cc
+theta_base symbols s (Label name plus) h = leb-true _ _ (and_parts _ _ h).1
+theta_base symbols s o h = cc
 
 -- it ends with a code letter
 order_letter : (b : Bool) (base f n : ℕ) (long : Bool)
@@ -97,7 +75,8 @@ order_pass {z} {words} {placed} symbols s f o long low high =
     let n = operand_number symbols (segment_at s) o in
     let b = goes_by_theta symbols s o in
     let letter = order_letter b s.base f n long in
-    goes (placing z words s.place letter refl low high (its_word n b long (theta_base symbols s o))) (inr letter) stays
+    goes (Does-placing z words s.place letter refl low high (its_word n b long (theta_base symbols s o))) (inr letter)
+    stays
   where
     -- its word, by θ or by its number
     its_word : (n : ℕ) (b long : Bool) → (b ≡ true → s.base ≤ n)
@@ -115,9 +94,10 @@ pub headed_pass : {z : Size} {words : List ℕ} {notation last : NotationState} 
     → Passes z words (at place base notation.placed) is last → Passes z words notation (with_heading is first base) last
 headed_pass {is = []} place base first e high some follows p = absurd (omega arith)
 headed_pass {z} {words} {notation} {last} {is = i ∷ is} place base true e high some follows p =
-    let m = most z in
-    let q : place ≡ base = eq_of _ _ e in
-    join (heading base (omega arith)) (subst (λ (n : ℕ). Passes z words (at n base notation.placed) (i ∷ is) last) q p)
+    let m = locations_most z in
+    let q : place ≡ base = eqb-true _ _ e in
+    Passes-join (Passes-heading base (omega arith)) (subst (λ (n : ℕ). Passes z words
+    (at n base notation.placed) (i ∷ is) last) q p)
 headed_pass {z} {words} {notation} {last} {is = i ∷ is} place base false e high some follows p =
     let f = follows refl in
     let n : at place base notation.placed ≡ notation = λ k. record {
@@ -125,10 +105,11 @@ headed_pass {z} {words} {notation} {last} {is = i ∷ is} place base false e hig
       theta = sym (f.1) k;
       placed = notation.placed;
     } in
-    subst (λ (x : NotationState). Passes z words x (i ∷ is) last) n p
+    rw (← n) p
 
 -- items after a head can be spelled
-pub unheaded : (is : List Item) (first : Bool) (base : ℕ) → AreSpellable (with_heading is first base) → AreSpellable is
-unheaded [] first base are = tt
-unheaded (i ∷ is) true base are = are.1.1
-unheaded (i ∷ is) false base are = are
+pub AreSpellable-unheaded : (is : List Item) (first : Bool) (base : ℕ)
+    → AreSpellable (with_heading is first base) → AreSpellable is
+AreSpellable-unheaded [] first base are = tt
+AreSpellable-unheaded (i ∷ is) true base are = are.1.1
+AreSpellable-unheaded (i ∷ is) false base are = are

@@ -1,15 +1,8 @@
 -- The locations of a linked program's words are in the store.
-use Rattle.std.proofs.Common.{◌≡◌, ◌∙◌, ◌<◌, ◌+◌, ℕ, zero, suc, sym, ap, subst}
-use Rattle.std.proofs.Common.{arith, Option, Some, None, List, [], ◌∷◌, length, map}
-use Rattle.std.specs.Prelude.{All}
-use Rattle.ed_words.specs.declared.size.Size.{Size}
-use Rattle.ed_syntax.specs.declared.program.Line.{Line}
-use Rattle.ed_link.specs.Answers.{IsLinked}
-use Rattle.ed_link.specs.Linked.{linked_words}
-use Rattle.ed_link.specs.Words.{linked_places}
-use Rattle.ed_link.specs.Tables.{empty_table, table_of, words_from}
-use Rattle.ed_link.specs.declared.linked.Linked.{Linked}
-use Rattle.ed_link.specs.declared.linked.Placed.{Placed}
+use Rattle.ed_link.proofs.Kit.{Size, [], arith, length, List, None, Option, Some, suc, sym, ℕ, ◌+◌, ◌<◌, ◌∙◌, ◌∷◌, ◌≡◌}
+use Rattle.ed_link.proofs.Kit.{Line, map, zero, IsLinked, linked_words, empty_table, table_of, words_from}
+use Rattle.ed_link.proofs.Kit.{linked_places, Linked, Placed}
+use Rattle.std.proofs.Common.{All}
 use Rattle.ed_link.proofs.Lengths.{empty_length, put_all_length}
 use Rattle.ed_link.proofs.Maps.{places_are}
 
@@ -29,5 +22,4 @@ places_below z lines k places is e =
     let size : length table ≡ 1024 = put_all_length empty_table (linked_words lines) ∙ empty_length in
     let same : places ≡ map (λ (p : Placed). p.place) (words_from 0 table) =
     e ∙ is.places ∙ sym (places_are (linked_words lines)) in
-    subst (λ (xs : List ℕ). All (λ a. a < 1024) xs) (sym same)
-    (λ i d h. let b = below 0 table i d h in omega (arith, b, size))
+    rw same (λ i d h. let b = below 0 table i d h in omega (arith, b, size))

@@ -1,36 +1,19 @@
 -- The items of a line without a fault can be spelled.
-use Rattle.std.proofs.Common.{◌≡◌, ℕ, ◌+◌, ◌-◌, ◌*◌, ◌/◌, ◌%◌, ◌^◌, ◌<◌, ◌≤◌, refl}
-use Rattle.std.proofs.Common.{arith, Bool, true, false, nat_lt, nat_le, nat_eq}
-use Rattle.std.proofs.Common.{Option, Some, None, List, [], ◌∷◌, ◌++◌, map, ℤ, pos, if◌then◌else◌}
-use Rattle.std.specs.Prelude.{◌||◌, int_lt, unsigned_abs}
-use Rattle.std.specs.List.{flat_map, list_all}
-use Rattle.std.proofs.lemmas.Bool.{and_parts}
-use Rattle.std.proofs.lemmas.Bool.Decides.{nat_tests}
-use Rattle.std.proofs.lemmas.Int.{ints}
-use Rattle.ed_words.specs.declared.size.Size.{Size}
-use Rattle.ed_words.proofs.Numbers.{le_of, lt_of}
-use Rattle.ed_words.proofs.SizeLemmas.{most}
-use Rattle.ed_notation.specs.declared.item.Item.{Item}
-use Rattle.ed_notation.specs.Items.{ends, row_kind}
-use Rattle.ed_notation.specs.Spellings.{AreSpellable, canonical, is_spellable}
-use Rattle.ed_library.specs.Entries.{catalogue, entry}
-use Rattle.ed_library.specs.Ready.{is_ready, is_ready_row}
-use Rattle.ed_library.specs.Routines.{find, table_item}
-use Rattle.ed_library.specs.declared.tables.TableRow.{TableRow}
+use Rattle.ed_link.proofs.Kit.{Size, AreSpellable, Item, [], arith, Bool, false, if◌then◌else◌, List, nat_eq, nat_le}
+use Rattle.ed_link.proofs.Kit.{nat_lt, None, Option, refl, Some, true, ℕ, ◌%◌, ◌*◌, ◌++◌, ◌+◌, ◌-◌, ◌/◌, ◌<◌, ◌∷◌, ◌≡◌}
+use Rattle.ed_link.proofs.Kit.{◌≤◌, flat_map, list_all, and_parts, leb-true, ltb-true, locations_most, row_kind, canonical}
+use Rattle.ed_link.proofs.Kit.{is_spellable, Operand, Setting, Statement, Enter, Fetch, Long, Number, Order, Text, map}
+use Rattle.ed_link.proofs.Kit.{◌^◌, nat_tests, catalogue, entry, is_ready, is_ready_row, find, table_item, TableRow}
+use Rattle.ed_link.proofs.Kit.{segment_at, LocationCounter, Definition, ◌||◌, operand_number, parameter_letters}
+use Rattle.ed_link.proofs.Kit.{set_to, goes_by_theta, heads, item_with, items_of, order_item, preset_items}
+use Rattle.ed_link.proofs.Kit.{routine_items, use_items, with_heading, word_item}
+use Rattle.ed_syntax.proofs.Kit.{pos, unsigned_abs, ℤ, ints}
+use Rattle.std.proofs.Common.{int_lt}
+use Rattle.ed_notation.specs.Items.{ends}
 use Rattle.ed_syntax.proofs.Meaning.{IsStatement}
-use Rattle.ed_syntax.specs.declared.program.Operand.{Operand}
-use Rattle.ed_syntax.specs.declared.program.Setting.{Setting}
-use Rattle.ed_syntax.specs.declared.program.Statement.{Statement}
-use Rattle.ed_syntax.specs.declared.program.Statement.TheVariants.{Order, Number, Text}
-use Rattle.ed_syntax.specs.declared.program.Statement.TheVariants.{Long, Fetch, Enter}
-use Rattle.ed_symbols.specs.declared.symbols.Definition.{Definition}
-use Rattle.ed_symbols.specs.declared.location_counter.LocationCounter.{LocationCounter}
-use Rattle.ed_symbols.specs.Places.{even_from, segment_at}
 use Rattle.ed_symbols.specs.Operands.{operand_value}
-use Rattle.ed_link.specs.Linked.{parameter_letters, long_words, operand_number, order_number, set_to}
-use Rattle.ed_link.specs.Punch.{ending, goes_by_theta, with_heading, heads, item_with}
-use Rattle.ed_link.specs.Punch.{items_of, order_item, preset_items, routine_items}
-use Rattle.ed_link.specs.Punch.{use_items, word_item}
+use Rattle.ed_link.specs.Linked.{order_number}
+use Rattle.ed_link.specs.Punch.{ending}
 use Rattle.ed_link.proofs.Closed.{rows_are_ready}
 use Rattle.ed_link.proofs.Lines.{IsSound, IsUse}
 
@@ -39,9 +22,9 @@ spelled : (f n e : ℕ) (mark : Bool) → f < 32 → n ≤ 32767
     → is_spellable (item_with f n mark e) ≡ true
 spelled f n e mark low few ended = rw ended (grind (arith, nat_tests))
 
-pub joined : (is js : List Item) → AreSpellable is → AreSpellable js → AreSpellable (is ++ js)
-joined [] js p q = q
-joined (i ∷ is) js p q = (p.0, joined is js p.1 q)
+pub AreSpellable-joined : (is js : List Item) → AreSpellable is → AreSpellable js → AreSpellable (is ++ js)
+AreSpellable-joined [] js p q = q
+AreSpellable-joined (i ∷ is) js p q = (p.0, AreSpellable-joined is js p.1 q)
 
 head_spelled : (first : Bool) (base : ℕ) → base ≤ 32767 → AreSpellable (heads first base)
 head_spelled true base few = (spelled 5 base 14 false (omega arith) few refl, (refl, tt))
@@ -50,7 +33,8 @@ head_spelled false base few = tt
 headed_spelled : (is : List Item) (first : Bool) (base : ℕ) → base ≤ 32767 → AreSpellable is
     → AreSpellable (with_heading is first base)
 headed_spelled [] first base few are = tt
-headed_spelled (i ∷ is) first base few are = joined (heads first base) (i ∷ is) (head_spelled first base few) are
+headed_spelled (i ∷ is) first base few are = AreSpellable-joined (heads first base) (i ∷ is)
+    (head_spelled first base few) are
 
 -- ---- words
 
@@ -68,8 +52,8 @@ text_spelled : (codes : List ℕ) → list_all (λ c. nat_lt c 32) codes ≡ tru
     → AreSpellable (map word_item (map (λ c. 4096 * c) codes))
 text_spelled [] h = tt
 text_spelled (c ∷ codes) h =
-    let p = and_parts (nat_lt c 32) (list_all (λ x. nat_lt x 32) codes) h in
-    let fits : c < 32 = lt_of c 32 p.0 in
+    let p = and_parts _ _ h in
+    let fits : c < 32 = ltb-true c 32 p.0 in
     (word_spelled (4096 * c) (omega (arith, fits)), text_spelled codes p.1)
 
 halves_spelled : (v : ℕ) → v < 2 ^ 35 → AreSpellable (map word_item (v % 2 ^ 17 ∷ v / 2 ^ 18 ∷ []))
@@ -105,8 +89,7 @@ preset_spelled symbols None c h = tt
 preset_spelled symbols (Some o) c h = (
   spelled 5 (24 + c) 14 false (omega arith) (omega (arith, h)) refl,
   (
-    spelled 0 (operand_number symbols None o) 17 false (omega arith)
-        (number_few (operand_value symbols None o)) refl,
+    spelled 0 _ 17 false (omega arith) (number_few (operand_value symbols None o)) refl,
     tt,
   ),
 )
@@ -115,9 +98,8 @@ presets_spelled : (symbols : List Definition) (ts : List Setting) (cs : List ℕ
     → AreSpellable (flat_map (λ c. preset_items symbols (set_to ts c) c) cs)
 presets_spelled symbols ts [] h = tt
 presets_spelled symbols ts (c ∷ cs) h =
-    let p = and_parts (nat_le c 26) (list_all (λ x. nat_le x 26) cs) h in
-    joined (preset_items symbols (set_to ts c) c) (flat_map (λ x. preset_items symbols (set_to ts x) x) cs)
-    (preset_spelled symbols (set_to ts c) c (le_of c 26 p.0)) (presets_spelled symbols ts cs p.1)
+    let p = and_parts _ _ h in
+    AreSpellable-joined _ _ (preset_spelled symbols _ c (leb-true c 26 p.0)) (presets_spelled symbols ts cs p.1)
 
 -- ---- routines
 
@@ -125,24 +107,22 @@ rows_spelled : (own : List ℕ) (rows : List TableRow) → list_all (is_ready_ro
     → AreSpellable (map table_item rows)
 rows_spelled own [] h = tt
 rows_spelled own (row ∷ rows) h =
-    let p = and_parts (is_ready_row own row) (list_all (is_ready_row own) rows) h in
-    ((and_parts (is_spellable (table_item row)) _ p.0).0, rows_spelled own rows p.1)
+    let p = and_parts _ _ h in
+    ((and_parts _ _ p.0).0, rows_spelled own rows p.1)
 
 routine_spelled : list_all is_ready catalogue ≡ true
     → (z : Size) (ts : List Setting) (base : ℕ) (text : List ℕ) (found : Option ℕ) → find text ≡ found
     → IsUse z ts base found → (base ≤ 32767) × AreSpellable (routine_items found)
 routine_spelled tables z ts base text None e held = absurd held
 routine_spelled tables z ts base text (Some r) e held =
-    let m = most z in
+    let m = locations_most z in
     let few = held.2 in
     (omega (arith, m, few), rows_spelled (entry r).parameters (entry r).items (rows_are_ready tables text r e))
 
 use_spelled : (symbols : List Definition) (ts : List Setting) (base : ℕ) (found : Option ℕ)
     → (base ≤ 32767) × AreSpellable (routine_items found) → AreSpellable (use_items symbols ts base found)
 use_spelled symbols ts base found r =
-    joined (flat_map (λ c. preset_items symbols (set_to ts c) c) parameter_letters)
-    (with_heading (routine_items found) true base)
-    (presets_spelled symbols ts parameter_letters refl) (headed_spelled (routine_items found) true base r.0 r.1)
+    AreSpellable-joined _ _ (presets_spelled symbols ts parameter_letters refl) (headed_spelled _ true base r.0 r.1)
 
 -- ---- lines
 
@@ -153,11 +133,10 @@ pub line_spelled : list_all is_ready catalogue ≡ true
     → AreSpellable (items_of symbols s st)
 line_spelled tables z symbols s (Some (Enter name)) formed sound base = absurd sound
 line_spelled tables z symbols s (Some (Fetch routine name ts)) formed sound base =
-    use_spelled symbols ts.items (even_from s.place) (find routine)
-    (routine_spelled tables z ts.items (even_from s.place) routine (find routine) refl sound)
+    use_spelled symbols ts.items _ _ (routine_spelled tables z ts.items _ routine _ refl sound)
 line_spelled tables z symbols s (Some (Order f o long)) formed sound base =
     let fact = (formed (Order f o long) refl).1 in
-    let m = most z in
+    let m = locations_most z in
     headed_spelled (order_item (goes_by_theta symbols s o) s.base f (operand_number symbols (segment_at s) o) long ∷ [])
     (nat_eq s.place s.base)
     s.base (omega (arith, m, base, sound.1)) (
@@ -167,21 +146,17 @@ line_spelled tables z symbols s (Some (Order f o long)) formed sound base =
     )
 line_spelled tables z symbols s (Some (Number w)) formed sound base =
     let fact = (formed (Number w) refl).1 in
-    let m = most z in
+    let m = locations_most z in
     headed_spelled (word_item w ∷ []) (nat_eq s.place s.base) s.base (omega (arith, m, base, sound.1))
     (word_spelled w fact, tt)
 line_spelled tables z symbols s (Some (Text codes)) formed sound base =
     let fact = (formed (Text codes) refl).1 in
-    let m = most z in
-    headed_spelled (map word_item (map (λ c. 4096 * c) codes.items)) (nat_eq s.place s.base) s.base
-    (omega (arith, m, base, sound.2))
-    (text_spelled codes.items fact.1)
+    let m = locations_most z in
+    headed_spelled _ _ s.base (omega (arith, m, base, sound.2)) (text_spelled codes.items fact.1)
 line_spelled tables z symbols s (Some (Long v)) formed sound base =
     let fact = (formed (Long v) refl).1 in
-    let m = most z in
-    headed_spelled (map word_item (long_words s.place v)) (nat_eq s.place s.base) s.base
-    (omega (arith, m, base, sound.1))
-    (long_spelled (nat_eq (s.place % 2) 1) v fact.1)
+    let m = locations_most z in
+    headed_spelled _ _ s.base (omega (arith, m, base, sound.1)) (long_spelled _ v fact.1)
 line_spelled tables z symbols s st formed sound base = tt
 
 -- the item that aims an `enter`

@@ -1,31 +1,15 @@
 -- The steps of loops that make, of each element of a list, a part of what they give; what stands after the head of a
 -- segment.
-use Rattle.std.proofs.Common.{◌≡◌, ◌⊎◌, inl, inr, ℕ, ◌+◌, ◌*◌, ◌/◌, ◌%◌, ◌^◌, ◌<◌, ◌≤◌, nat_eq, map, if◌then◌else◌}
-use Rattle.std.proofs.Common.{Some, None, refl, sym, ap, ◌∙◌, arith, lit≤, Bool, true, false, nat_lt}
-use Rattle.std.proofs.Common.{List, [], ◌∷◌, ◌++◌, length, drop, get_or, append_assoc, append-nil, Option}
-use Rattle.std.specs.List.{flat_map}
-use Rattle.std.specs.Prelude.{◌&&◌, not, unwrap_or}
-use Rattle.std.proofs.lemmas.Bool.Decides.{nat_tests}
-use Rattle.std.proofs.lemmas.List.{at_drop_more, at_drop_all}
-use Rattle.ed_notation.specs.declared.item.Item.{Item}
-use Rattle.ed_library.specs.Entries.{entry}
-use Rattle.ed_library.specs.Routines.{find, table_item}
-use Rattle.ed_library.specs.declared.tables.TableRow.{TableRow}
-use Rattle.ed_syntax.specs.declared.program.Operand.{Operand}
-use Rattle.ed_syntax.specs.declared.program.Setting.{Setting}
-use Rattle.ed_syntax.specs.declared.program.Statement.{Statement}
-use Rattle.ed_syntax.specs.declared.program.Statement.TheVariants.{Segment, Order, Number, Text}
-use Rattle.ed_syntax.specs.declared.program.Statement.TheVariants.{Long, Fetch, Enter, Rows}
-use Rattle.ed_symbols.specs.declared.symbols.Definition.{Definition}
-use Rattle.ed_symbols.specs.declared.location_counter.LocationCounter.{LocationCounter}
-use Rattle.ed_symbols.specs.Names.{is_local, place_on}
-use Rattle.ed_symbols.specs.Places.{even_from, routine_places}
-use Rattle.ed_link.specs.Labels.{label_of}
-use Rattle.ed_link.specs.Private.Building.{bare_items}
-use Rattle.ed_link.specs.FaultTests.{extent_at, has_words, reach}
-use Rattle.ed_link.specs.Linked.{entered_place, operand_number, parameter_letters, set_to}
-use Rattle.ed_link.specs.Punch.{head, heads, item_with, items_of, preset_items, use_items, with_heading, word_item, word_items}
-use Rattle.ed_link.specs.Tables.{put_all}
+use Rattle.ed_link.proofs.Kit.{append-nil, at_drop_more, Item, [], ap, append_assoc, arith, Bool, drop, false, get_or}
+use Rattle.ed_link.proofs.Kit.{if◌then◌else◌, inl, inr, length, List, lit≤, nat_eq, nat_lt, None, Option, refl, Some}
+use Rattle.ed_link.proofs.Kit.{sym, true, unwrap_or, ℕ, ◌%◌, ◌&&◌, ◌*◌, ◌++◌, ◌+◌, ◌/◌, ◌<◌, ◌∙◌, ◌∷◌, ◌≡◌, ◌≤◌, ◌⊎◌}
+use Rattle.ed_link.proofs.Kit.{flat_map, at_drop_all, Operand, Setting, Statement, Enter, Fetch, Long, Number, Order}
+use Rattle.ed_link.proofs.Kit.{Text, map, ◌^◌, nat_tests, entry, find, table_item, TableRow, place_on, even_from}
+use Rattle.ed_link.proofs.Kit.{routine_places, LocationCounter, Definition, not, extent_at, has_words, reach, label_of}
+use Rattle.ed_link.proofs.Kit.{entered_place, operand_number, parameter_letters, set_to, bare_items, head, heads}
+use Rattle.ed_link.proofs.Kit.{item_with, items_of, preset_items, use_items, with_heading, word_item, put_all}
+use Rattle.ed_symbols.specs.Names.{is_local}
+use Rattle.ed_link.specs.Punch.{word_items}
 use Rattle.ed_link.proofs.Lengths.{put_all_append, put_all_length}
 
 -- all is given after the last element
@@ -57,16 +41,16 @@ same_length table ps same known =
     ap (λ (t : List (Option ℕ)). length t) same ∙ put_all_length table ps ∙ known
 
 -- a name that is reported
-pub shown : (h : Definition) → is_local h.name ≡ false → h.place ≤ 1023
+pub label_of-shown : (h : Definition) → is_local h.name ≡ false → h.place ≤ 1023
     → label_of h ≡ record { name = h.name; place = h.place } ∷ []
-shown h own near = rw (own, under h.place near) refl
+label_of-shown h own near = rw (own, under h.place near) refl
   where
     under : (x : ℕ) → x ≤ 1023 → nat_lt 1023 x ≡ false
     under x near = grind (arith, nat_tests)
 
 -- a name that isn't, since it is local
-pub hidden : (h : Definition) → is_local h.name ≡ true → label_of h ≡ []
-hidden h own = rw own refl
+pub label_of-hidden : (h : Definition) → is_local h.name ≡ true → label_of h ≡ []
+label_of-hidden h own = rw own refl
 
 -- a name that isn't, since it is too far
 pub hidden_far : (h : Definition) → is_local h.name ≡ false → 1023 < h.place → label_of h ≡ []
@@ -85,10 +69,6 @@ some c codes = of (length (c ∷ codes)) (omega arith)
 -- items after the head of their segment: there is a head where there is a word
 pub headed : (symbols : List Definition) (s : LocationCounter) (st : Option Statement) (first : Bool) (base : ℕ)
     → heads (has_words st && first) base ++ word_items symbols s st ≡ with_heading (word_items symbols s st) first base
-headed symbols s None first base = refl
-headed symbols s (Some (Segment name at)) first base = refl
-headed symbols s (Some (Order f o long)) first base = refl
-headed symbols s (Some (Number w)) first base = refl
 headed symbols s (Some (Text codes)) first base = of codes.items
   where
     of : (codes : List ℕ)
@@ -105,9 +85,7 @@ headed symbols s (Some (Long v)) first base = of (nat_eq (s.place % 2) 1) (v % 2
         ≡ with_heading (map word_item ((if skips then 0 ∷ [] else []) ++ even ∷ odd ∷ [])) first base
     of true even odd = refl
     of false even odd = refl
-headed symbols s (Some (Fetch routine name ts)) first base = refl
-headed symbols s (Some (Enter name)) first base = refl
-headed symbols s (Some (Rows codes)) first base = refl
+headed symbols s st first base = refl
 
 -- the items of a line stand after the head of its segment
 pub line_items : (symbols : List Definition) (s : LocationCounter) (st : Option Statement)
@@ -125,7 +103,6 @@ with_head {has} {place} {base} h at = let e : nat_eq place base ≡ true = grind
 pub without_head : {has : Bool} {place base : ℕ} → ((has ≡ true) × (place ≡ base → ⊥)) ⊎ (has ≡ false)
     → heads (has && nat_eq place base) base ≡ []
 without_head {has} {place} {base} (inl h) =
-    let apart : place ≡ base → ⊥ = h.1 in
     let e : nat_eq place base ≡ false = grind (arith, nat_tests) in rw (h.0, e) refl
 without_head (inr h) = rw h refl
 
@@ -143,8 +120,6 @@ set_preset {b = b} symbols o done p q x k y v =
 pub base_fits : (symbols : List Definition) (s : LocationCounter) (st : Option Statement)
     → ((reach symbols st s).from < (reach symbols st s).after → (reach symbols st s).after ≤ 1024)
     → s.base ≤ s.place → has_words st ≡ true → s.base ≤ 32767
-base_fits symbols s None fits base has = absurd (cc)
-base_fits symbols s (Some (Segment name at)) fits base has = absurd (cc)
 base_fits symbols s (Some (Order f o long)) fits base has = omega arith
 base_fits symbols s (Some (Number w)) fits base has = omega arith
 base_fits symbols s (Some (Text codes)) fits base has = of codes.items fits has
@@ -154,9 +129,7 @@ base_fits symbols s (Some (Text codes)) fits base has = of codes.items fits has
     of [] fits has = absurd (cc)
     of (c ∷ codes) fits has = omega arith
 base_fits symbols s (Some (Long v)) fits base has = omega arith
-base_fits symbols s (Some (Fetch routine name ts)) fits base has = absurd (cc)
-base_fits symbols s (Some (Enter name)) fits base has = absurd (cc)
-base_fits symbols s (Some (Rows codes)) fits base has = absurd (cc)
+base_fits symbols s st fits base has = absurd (cc)
 
 -- the base of a `use` of a routine with a word is within the store
 pub use_base : {base : ℕ} (symbols : List Definition) (s : LocationCounter) {st : Option Statement}
@@ -199,7 +172,7 @@ used symbols ts base found r done is some first second third =
     let p = flat_map (λ c. preset_items symbols (set_to ts c) c) parameter_letters in
     let m = map table_item (entry r).items in
     third ∙ ap (λ (xs : List Item). xs ++ m) (second ∙ ap (λ (xs : List Item). xs ++ head base) first)
-    ∙ append_assoc (done ++ p) (head base) m ∙ append_assoc done p (head base ++ m)
+    ∙ append_assoc (done ++ p) (head base) m ∙ append_assoc done p _
     ∙ ap (λ (xs : List Item). done ++ (p ++ xs)) (of (entry r).items some)
     ∙ ap (λ (x : Option ℕ). done ++ use_items symbols ts base x) (sym is)
   where

@@ -1,16 +1,13 @@
 -- The text of a tape spells its rows.
-use Rattle.std.proofs.Common.{◌≡◌, ◌<◌, ◌≤◌, ℕ, ◌+◌, refl, sym, subst, arith}
-use Rattle.std.proofs.Common.{true, false, List, [], ◌∷◌, ◌++◌, length, drop, get_or}
-use Rattle.std.specs.Prelude.{◌==◌, Some}
-use Rattle.std.proofs.lemmas.Bool.Decides.{nat_tests}
-use Rattle.std.proofs.lemmas.List.{drop_all, drop_more}
-use Rattle.ed_codes.specs.Reading.{reading, rows, IsReadingOf, Reading}
-use Rattle.ed_codes.specs.Spelling.{byte_of, row_of}
-use Rattle.ed_codes.specs.Text.{Spells, none, row, spacing}
+use Rattle.ed_link.proofs.Kit.{reading, rows, Spells, [], arith, drop, false, get_or, length, List, refl, Some, subst}
+use Rattle.ed_link.proofs.Kit.{true, ℕ, ◌++◌, ◌+◌, ◌<◌, ◌∷◌, ◌≡◌, ◌≤◌, byte_of, line_from, ◌==◌, nat_tests, drop_more}
+use Rattle.ed_link.proofs.Kit.{after_text}
+use Rattle.std.proofs.lemmas.List.{drop_all}
+use Rattle.ed_codes.specs.Reading.{IsReadingOf, Reading}
+use Rattle.ed_codes.specs.Spelling.{row_of}
+use Rattle.ed_codes.specs.Text.{none, row, spacing}
 use Rattle.ed_codes.proofs.Pieces.{spells_append}
 use Rattle.ed_codes.proofs.Readings.{has_one_reading}
-use Rattle.ed_notation.specs.Spellings.{line_from}
-use Rattle.ed_link.specs.Tapes.{after_text}
 
 -- a text that reads as rows, and one after it that spells rows
 pub both_read : (before after : List ℕ) (cs ds : List ℕ) → reading before ≡ rows cs → Spells after ds
@@ -42,8 +39,6 @@ pub one_spells : {c byte : ℕ} (cs : List ℕ) (k : ℕ) → k < length cs → 
     → Spells (line_from true (drop (k + 1) cs)) (drop (k + 1) cs) → Spells (line_from true (drop k cs)) (drop k cs)
 one_spells {c} cs k below is spelled back s =
     let e : drop k cs ≡ c ∷ drop (k + 1) cs =
-    subst (λ x. drop k cs ≡ x ∷ drop (k + 1) cs) (sym is) (drop_more cs k c below) in
+    rw is (drop_more cs k c below) in
     let b : row_of (byte_of c true) ≡ Some c = rw spelled at back in
-    subst (λ (xs : List ℕ). Spells (line_from true xs) xs) (sym e)
-    (row (byte_of c true) c (line_from true (drop (k + 1) cs))
-    (drop (k + 1) cs) b s)
+    rw e (row (byte_of c true) c (line_from true (drop (k + 1) cs)) (drop (k + 1) cs) b s)

@@ -1,13 +1,7 @@
 -- The words of a `use`, by what the code puts.
-use Rattle.std.proofs.Common.{◌≡◌, ℕ, ◌+◌, ◌<◌, ◌≤◌, ap, ◌∙◌, subst, arith, Option, Some, List, ◌++◌, length, map}
-use Rattle.ed_library.specs.Entries.{entry}
-use Rattle.ed_library.specs.Routines.{table_item, place_count}
-use Rattle.ed_library.specs.Images.{routine_word}
-use Rattle.ed_syntax.specs.declared.program.Setting.{Setting}
-use Rattle.ed_symbols.specs.declared.symbols.Definition.{Definition}
-use Rattle.ed_symbols.specs.Places.{routine_places}
-use Rattle.ed_link.specs.Linked.{image, placed_words, parameters, presets}
-use Rattle.ed_link.specs.Tables.{put_all}
+use Rattle.ed_link.proofs.Kit.{ap, arith, length, List, Option, Some, subst, ℕ, ◌++◌, ◌+◌, ◌<◌, ◌∙◌, ◌≡◌, ◌≤◌, Setting}
+use Rattle.ed_link.proofs.Kit.{map, entry, routine_word, place_count, table_item, routine_places, Definition, image}
+use Rattle.ed_link.proofs.Kit.{parameters, placed_words, presets, put_all}
 use Rattle.ed_link.proofs.Lengths.{put_all_append, put_all_length}
 
 -- the parameters and then the routine are the words of the `use`
@@ -18,8 +12,7 @@ pub use_words : {before behind : List (Option ℕ)} {r : ℕ} {found : Option �
     → before ≡ put_all table (presets symbols ts) → Some r ≡ found
     → behind ≡ put_all table (presets symbols ts ++ image symbols ts base found)
 use_words {before} {behind} {r} {ps = ps} table symbols ts base h p q f =
-    subst (λ (x : Option ℕ). behind ≡ put_all table (presets symbols ts ++ image symbols ts base x)) f
-    (h ∙ ap (λ (x : List ℕ). put_all before
+    rw (← f) (h ∙ ap (λ (x : List ℕ). put_all before
     (placed_words base (map (λ row. routine_word x base (table_item row)) (entry r).items))) p
     ∙ ap (λ (x : List (Option ℕ)). put_all x (image symbols ts base (Some r))) q
     ∙ put_all_append table (presets symbols ts) (image symbols ts base (Some r)))

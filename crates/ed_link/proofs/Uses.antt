@@ -1,66 +1,40 @@
 -- What the fold does at the items of a `use` line: preset parameters, and a routine's items.
-use Rattle.std.proofs.Common.{◌≡◌, ◌≢◌, ℕ, suc, ◌+◌, ◌-◌, ◌*◌, ◌<◌, ◌≤◌, ◌⊎◌}
-use Rattle.std.proofs.Common.{inl, inr, refl, sym, ap, ◌∙◌, subst, arith}
-use Rattle.std.proofs.Common.{Bool, true, false, ◌&&◌, nat_le, nat_lt}
-use Rattle.std.proofs.Common.{Option, Some, None, List, [], ◌∷◌, ◌++◌, length, map}
-use Rattle.std.proofs.Common.{append_assoc, get_or}
-use Rattle.std.specs.Prelude.{reverse}
-use Rattle.std.specs.List.{flat_map, list_all}
-use Rattle.std.proofs.lemmas.List.{reverse-append, get_or-set_same, get_or-set_other}
-use Rattle.std.proofs.lemmas.Bool.{and_parts, cases_eq}
-use Rattle.std.proofs.lemmas.Bool.Decides.{nat_tests}
-use Rattle.ed_words.specs.declared.size.Size.{Size}
-use Rattle.ed_words.specs.Sizes.{locations}
-use Rattle.ed_notation.specs.declared.item.Item.{Item}
-use Rattle.ed_notation.specs.declared.kind.RowKind.TheVariants.{Letter}
-use Rattle.ed_notation.specs.Items.{row_kind}
-use Rattle.ed_notation.specs.Fold.{NotationState, over, value_of, word_with, item_word as word_in_fold}
-use Rattle.ed_notation.specs.Spellings.{is_spellable, AreSpellable}
+use Rattle.ed_link.proofs.Kit.{reverse, cases_eq, ne_eqb, get_or-set_same, reverse-append, same_Some, T_F, Size, least}
+use Rattle.ed_link.proofs.Kit.{word_with, AreSpellable, Item, Letter, [], ap, append_assoc, arith, Bool, false, get_or}
+use Rattle.ed_link.proofs.Kit.{inl, inr, length, List, nat_le, nat_lt, None, Option, refl, Some, subst, suc, sym, true}
+use Rattle.ed_link.proofs.Kit.{ℕ, ◌&&◌, ◌*◌, ◌++◌, ◌+◌, ◌-◌, ◌<◌, ◌∙◌, ◌∷◌, ◌≡◌, ◌≤◌, ◌⊎◌, flat_map, list_all}
+use Rattle.ed_link.proofs.Kit.{and_parts, leb-true, ltb-true, get_or-set_other, locations, NotationState, row_kind}
+use Rattle.ed_link.proofs.Kit.{is_spellable, Does-aiming, Does-placing, Operand, Setting, map, zero, nat_tests, routine_word}
+use Rattle.ed_link.proofs.Kit.{table_item, TableRow, Definition, operand_number, parameter_letters, parameters}
+use Rattle.ed_link.proofs.Kit.{placed_words, preset, set_to, item_with, preset_items}
+use Rattle.std.proofs.Common.{◌≢◌}
+use Rattle.ed_notation.specs.Fold.{over, value_of, item_word as word_in_fold}
 use Rattle.ed_notation.proofs.Contents.{length-over}
-use Rattle.ed_library.specs.Routines.{table_item}
-use Rattle.ed_library.specs.Images.{routine_word, parameter_store}
-use Rattle.ed_library.specs.declared.tables.TableRow.{TableRow}
+use Rattle.ed_library.specs.Images.{parameter_store}
 use Rattle.ed_library.proofs.Letters.{value_of_parameter}
-use Rattle.ed_syntax.specs.declared.program.Operand.{Operand}
-use Rattle.ed_syntax.specs.declared.program.Setting.{Setting}
-use Rattle.ed_symbols.specs.declared.symbols.Definition.{Definition}
-use Rattle.ed_link.specs.Linked.{operand_number, placed_words, parameter_letters, set_to, preset, parameter, parameters}
-use Rattle.ed_link.specs.Punch.{item_with, preset_items}
-use Rattle.ed_words.proofs.Numbers.{eq_false, le_of, lt_of}
-use Rattle.ed_words.proofs.SizeLemmas.{least}
-use Rattle.ed_words.specs.declared.order_words.TheConstants.{T_F}
-use Rattle.ed_notation.proofs.Steps.{aiming, placing}
-use Rattle.ed_link.proofs.Passes.{Passes, stays, goes, join, at}
-use Rattle.ed_link.proofs.Orders.{split, placed_more}
+use Rattle.ed_link.specs.Linked.{parameter}
+use Rattle.ed_link.proofs.Orders.{AreSpellable-split, placed_more}
+use Rattle.ed_link.proofs.Passes.{Passes, stays, goes, Passes-join, at}
+
+-- a fact of `count` numbers, from n onwards
+abbrev Each : (ℕ → Type 0) → ℕ → ℕ → Type 0
+Each P zero n = Unit {0}
+Each P (suc count) n = P n × Each P count (n + 1)
+
+each_at : (P : ℕ → Type 0) (count n c : ℕ) → Each P count n → n ≤ c → c < n + count → P c
+each_at P zero n c p l h = absurd (omega (arith, l, h))
+each_at P (suc count) n c p l h = elim (cases_eq c n) [
+  | inl e ↦ rw e p.0
+  | inr m ↦ each_at P count (n + 1) c p.1 (omega arith) (omega arith)
+]
 
 -- a fact of each letter of a parameter
-pub six : (P : ℕ → Type 0) → P 21 × P 22 × P 23 × P 24 × P 25 × P 26 → (c : ℕ) → 21 ≤ c → c ≤ 26 → P c
-six P p c l h =
-    elim (cases_eq c 21) [
-      | inl e ↦ subst P (sym e) p.0
-      | inr n1 ↦
-          elim (cases_eq c 22) [
-            | inl e ↦ subst P (sym e) p.1
-            | inr n2 ↦
-                elim (cases_eq c 23) [
-                  | inl e ↦ subst P (sym e) p.2
-                  | inr n3 ↦
-                      elim (cases_eq c 24) [
-                        | inl e ↦ subst P (sym e) p.3
-                        | inr n4 ↦
-                            elim (cases_eq c 25) [
-                              | inl e ↦ subst P (sym e) p.4
-                              | inr n5 ↦
-                                  let e : c ≡ 26 = omega arith in subst P (sym e) p.5
-                            ]
-                      ]
-                ]
-          ]
-    ]
+six : (P : ℕ → Type 0) → Each P 6 21 → (c : ℕ) → 21 ≤ c → c ≤ 26 → P c
+six P p c l h = each_at P 6 21 c p l (omega arith)
 
 -- the letter of a parameter is a code letter
 pub letter_kind : (c : ℕ) → 21 ≤ c → c ≤ 26 → row_kind c ≡ Letter
-letter_kind c l h = six (λ x. row_kind x ≡ Letter) (refl, refl, refl, refl, refl, refl) c l h
+letter_kind c l h = six (λ x. row_kind x ≡ Letter) (refl, (refl, (refl, (refl, (refl, (refl, tt)))))) c l h
 
 -- the number of an item that can be spelled
 spelled_number : (i : Item) → is_spellable i ≡ true → i.number ≤ 32767
@@ -88,7 +62,7 @@ module _ (words : List ℕ) (symbols : List Definition) (ts : List Setting) wher
 
   pub holds : (placed : List (ℕ × ℕ)) → AreHeld placed parameter_letters → HoldsAll placed
   holds placed h = record {
-    held = six (λ c. IsHeld placed c) (h.0, h.1.0, h.1.1.0, h.1.1.1.0, h.1.1.1.1.0, h.1.1.1.1.1.0);
+    held = six (λ c. IsHeld placed c) h;
   }
 
   put_other : {p : ℕ} (placed : List (ℕ × ℕ)) (w d : ℕ) → 24 + d ≢ p → IsHeld placed d → IsHeld ((p, w) ∷ placed) d
@@ -109,9 +83,6 @@ module _ (words : List ℕ) (symbols : List Definition) (ts : List Setting) wher
 abbrev pub are_letters : List ℕ → Bool
 are_letters cs = list_all (λ c. nat_le 20 c && nat_lt c 32) cs
 
-same_operand : (a b : Operand) → Some a ≡ Some b → a ≡ b
-same_operand a b e = cc
-
 module _ {z : Size} {words : List ℕ} (whole : length words ≡ 1024) (symbols : List Definition) (ts : List Setting) where
   one : (c : ℕ) (found : Option Operand) → set_to ts c ≡ found → 20 ≤ c → c < 32 → (notation : NotationState)
       → AreSpellable (preset_items symbols found c)
@@ -119,8 +90,7 @@ module _ {z : Size} {words : List ℕ} (whole : length words ≡ 1024) (symbols 
       × IsHeld words symbols ts s.next.placed c
   one c None e low high notation are = (
     record { next = notation; passes = stays; theta = refl; placed = refl; keeps = λ d h. h },
-    λ o f. let q =
-        sym e ∙ f in cc,
+    λ o f. let q = sym e ∙ f in cc,
   )
   one c (Some o) e low high notation are =
       let n = operand_number symbols None o in
@@ -137,19 +107,18 @@ module _ {z : Size} {words : List ℕ} (whole : length words ≡ 1024) (symbols 
       let here : IsHeld words symbols ts next.placed c = λ p f.
       let inside : 24 + c < length (over notation.placed words) = omega (arith, length-over notation.placed words) in
       get_or-set_same (over notation.placed words) (24 + c) (2 * n) 0 inside
-      ∙ ap (λ (x : Operand). 2 * operand_number symbols None x) (same_operand o p (sym e ∙ f)) in (
+      ∙ ap (λ (x : Operand). 2 * operand_number symbols None x) (same_Some o p (sym e ∙ f)) in (
         record {
           next = next;
-          passes = goes (aiming z words notation (24 + c) (omega arith)) (inl refl) (goes
-              (placing z words (24 + c) refl refl (omega arith) (omega arith) w)
+          passes = goes (Does-aiming z words notation (24 + c) (omega arith)) (inl refl) (goes
+              (Does-placing z words (24 + c) refl refl (omega arith) (omega arith) w)
               (inr refl) stays);
           theta = refl;
           placed = refl;
-          keeps = λ d h.
-              elim (cases_eq d c) [
-                | inl q ↦ subst (λ x. IsHeld words symbols ts next.placed x) (sym q) here
-                | inr q ↦ put_other words symbols ts {p = 24 + c} notation.placed (2 * n) d (omega arith) h
-              ];
+          keeps = λ d h. elim (cases_eq d c) [
+            | inl q ↦ rw q here
+            | inr q ↦ put_other words symbols ts {p = 24 + c} notation.placed (2 * n) d (omega arith) h
+          ];
         },
         here,
       )
@@ -159,30 +128,21 @@ module _ {z : Size} {words : List ℕ} (whole : length words ≡ 1024) (symbols 
       → (s : Sets words symbols ts z notation (flat_map (λ c. preset_items symbols (set_to ts c) c) cs)
       (flat_map (λ c. preset symbols (set_to ts c) c) cs))
       × AreHeld words symbols ts s.next.placed cs
-  all [] are notation spelled = (
-    record {
-      next = notation;
-      passes = stays;
-      theta = refl;
-      placed = refl;
-      keeps =
-          λ d h. h;
-    },
-    tt,
-  )
+  all [] are notation spelled =
+      (record { next = notation; passes = stays; theta = refl; placed = refl; keeps = λ d h. h }, tt)
   all (c ∷ cs) are notation spelled =
       let is = preset_items symbols (set_to ts c) c in
       let js = flat_map (λ c. preset_items symbols (set_to ts c) c) cs in
       let ps = preset symbols (set_to ts c) c in
       let qs = flat_map (λ c. preset symbols (set_to ts c) c) cs in
-      let sp = split is js spelled in
-      let letters = and_parts (nat_le 20 c && nat_lt c 32) (are_letters cs) are in
-      let range = and_parts (nat_le 20 c) (nat_lt c 32) letters.0 in
-      let a = one c (set_to ts c) refl (le_of 20 c range.0) (lt_of c 32 range.1) notation sp.0 in
+      let sp = AreSpellable-split is js spelled in
+      let letters = and_parts _ _ are in
+      let range = and_parts _ _ letters.0 in
+      let a = one c _ refl (leb-true 20 c range.0) (ltb-true c 32 range.1) notation sp.0 in
       let b = all cs letters.1 a.0.next sp.1 in (
         record {
           next = b.0.next;
-          passes = join a.0.passes b.0.passes;
+          passes = Passes-join a.0.passes b.0.passes;
           theta = b.0.theta ∙ a.0.theta;
           placed = b.0.placed ∙ ap (λ m. reverse qs ++ m) a.0.placed ∙ reversed ps qs notation.placed;
           keeps = λ d h. b.0.keeps d (a.0.keeps d h);
@@ -217,15 +177,12 @@ parameter_is : (symbols : List Definition) (ts : List Setting) (c : ℕ) → 21 
     → get_or (parameters symbols ts) (c - 21) 0 ≡ parameter symbols (set_to ts c)
 parameter_is symbols ts c l h =
     six (λ x. get_or (parameters symbols ts) (x - 21) 0 ≡ parameter symbols (set_to ts x))
-    (refl, refl, refl, refl, refl, refl) c l h
+    (refl, (refl, (refl, (refl, (refl, (refl, tt)))))) c l h
 
 -- the value of a letter of a parameter is the content of its location
 content : (contents : List ℕ) (theta c : ℕ) → 21 ≤ c → value_of contents theta c ≡ get_or contents (24 + c) 0
 content contents theta c l =
-    let a = eq_false c 17 (omega arith) in
-    let b = eq_false c 18 (omega arith) in
-    let d = eq_false c 19 (omega arith) in
-    rw (a, b, d) refl
+    rw (ne_eqb c 17 (omega arith), ne_eqb c 18 (omega arith), ne_eqb c 19 (omega arith)) refl
 
 -- a code letter of a routine has the same value over the store with the parameters of this use
 value_is : {words : List ℕ} {symbols : List Definition} {ts : List Setting} {placed : List (ℕ × ℕ)} (base c : ℕ)
@@ -236,8 +193,8 @@ value_is base c (inl e) h = rw e refl
 value_is base c (inr (inl e)) h = rw e refl
 value_is base c (inr (inr (inl e))) h = rw e refl
 value_is {words} {symbols} {ts} {placed} base c (inr (inr (inr k))) h =
-    content (over placed words) (2 * base) c k.low ∙ h.held c k.low k.high k.operand k.is_set
-    ∙ sym (value_of_parameter (parameters symbols ts) (2 * base) c k.low ∙ parameter_is symbols ts c k.low k.high
+    content _ (2 * base) c k.low ∙ h.held c k.low k.high k.operand k.is_set
+    ∙ sym (value_of_parameter _ (2 * base) c k.low ∙ parameter_is symbols ts c k.low k.high
     ∙ ap (λ (x : Option Operand). parameter symbols x) k.is_set)
 
 -- a routine's items
@@ -258,6 +215,6 @@ image_pass {z} {words} {symbols} {ts} {placed} (row ∷ rows) place base are low
     let kind = kind_of ts row.end are.0 in
     let r = image_pass {z = z} {placed = (place, w) ∷ placed} rows (place + 1) base are.1 (omega arith) (omega arith)
     (still words symbols ts placed place w low h) in
-    goes (placing z words place kind refl (omega arith) (omega arith) v) (inr kind)
+    goes (Does-placing z words place kind refl (omega arith) (omega arith) v) (inr kind)
     (subst (λ (n : NotationState). Passes z words (at (place + 1) base ((place, w) ∷ placed)) (map table_item rows) n)
     (λ i. at (sym e i) base (placed_more (place, w) (placed_words (place + 1) ws) placed i)) r)

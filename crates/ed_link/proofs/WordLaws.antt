@@ -1,39 +1,22 @@
 -- The words of the linked program are those of its lines, and the parameters that its `use` lines set.
-use Rattle.std.proofs.Common.{◌≡◌, ◌⊎◌, inl, inr, ℕ, zero, suc, ◌+◌, ◌*◌, ◌<◌, ◌≤◌, refl, sym, ap, ◌∙◌, subst, arith}
-use Rattle.std.proofs.Common.{Bool, true, false, nat_eq, Option, Some, None, List, [], ◌∷◌, ◌++◌, length, get_or}
-use Rattle.std.proofs.Common.{append_assoc, if◌then◌else◌}
-use Rattle.std.specs.Prelude.{reverse}
-use Rattle.std.specs.List.{flat_map, Contains}
-use Rattle.std.proofs.lemmas.List.{append-nil, length-map, reverse-append}
-use Rattle.std.proofs.Common.{nat_le}
-use Rattle.std.proofs.lemmas.List.Sums.{AllPass-from_list_all}
-use Rattle.std.proofs.lemmas.List.Elements.{All-contains}
-use Rattle.ed_words.proofs.Numbers.{eq_of, eq_true, le_of}
-use Rattle.ed_words.specs.declared.size.Size.{Size}
-use Rattle.ed_words.specs.Sizes.{locations}
-use Rattle.ed_words.proofs.SizeLemmas.{least}
-use Rattle.ed_notation.specs.Fold.{placed_at}
-use Rattle.ed_library.specs.Entries.{entry}
-use Rattle.ed_library.specs.Images.{routine_word}
-use Rattle.ed_library.specs.Routines.{find, table_item}
-use Rattle.ed_syntax.specs.declared.program.Operand.{Operand}
-use Rattle.ed_syntax.specs.declared.program.Setting.{Setting}
-use Rattle.ed_syntax.specs.declared.program.Statement.{Statement}
-use Rattle.ed_syntax.specs.declared.program.Statement.TheVariants.{Segment, Order, Number, Text, Long, Fetch, Enter}
-use Rattle.ed_syntax.specs.declared.program.Statement.TheVariants.{Rows}
-use Rattle.ed_syntax.specs.declared.program.Line.{Line}
-use Rattle.ed_syntax.specs.declared.fault.SourceCause.TheVariants as causes
-use Rattle.ed_symbols.specs.declared.location_counter.LocationCounter.{LocationCounter}
-use Rattle.ed_symbols.specs.declared.symbols.Definition.{Definition}
-use Rattle.ed_symbols.specs.Places.{even_from, first_counter, after_statement, routine_places}
-use Rattle.ed_symbols.specs.NameFaults.{StandsAfter, counter_after, counter_from}
-use Rattle.ed_link.specs.Faults.{HasNoFault, LineHasWord, on_line}
-use Rattle.ed_link.specs.Linked.{end_place, first_place, symbols_of, image, placed_words, linked_words, operand_number}
-use Rattle.ed_link.specs.Linked.{parameter_letters, parameters, placed_by_line, placed_from, preset, presets, set_to}
+use Rattle.ed_link.proofs.Kit.{reverse, Contains, cases_eq, eq-eqb, ne_eqb, reverse-append, All-contains}
+use Rattle.ed_link.proofs.Kit.{AllPass-from_list_all, same_Some, Size, least, placed_at, [], ap, append_assoc, arith}
+use Rattle.ed_link.proofs.Kit.{get_or, inl, inr, length, List, nat_le, None, Option, refl, Some, subst, suc, sym, true}
+use Rattle.ed_link.proofs.Kit.{ℕ, ◌*◌, ◌++◌, ◌+◌, ◌<◌, ◌∙◌, ◌∷◌, ◌≡◌, ◌≤◌, ◌⊎◌, flat_map, leb-true, locations, Line}
+use Rattle.ed_link.proofs.Kit.{Operand, Setting, Statement, Fetch, Long, Number, Order, Text, zero, length-map, entry}
+use Rattle.ed_link.proofs.Kit.{routine_word, find, table_item, even_from, routine_places, LocationCounter, Definition}
+use Rattle.ed_link.proofs.Kit.{counter_after, counter_from, IsLineAfter, after_statement, first_counter, HasNoFault}
+use Rattle.ed_link.proofs.Kit.{on_line, end_place, first_place, image, linked_words, operand_number, parameter_letters}
+use Rattle.ed_link.proofs.Kit.{parameters, placed_by_line, placed_from, placed_words, preset, presets, set_to}
+use Rattle.ed_link.proofs.Kit.{symbols_of}
+use Rattle.std.proofs.lemmas.Bool.{cases_lt}
+use Rattle.std.proofs.lemmas.List.{append-nil}
+use Rattle.ed_link.specs.Faults.{LineHasWord}
 use Rattle.ed_link.specs.Words.{EachWordStands, IsLastSet, LinePlaces, LineSets, linked_word, words_of_line}
 use Rattle.ed_link.specs.Words.{routine_words}
 use Rattle.ed_link.proofs.Lines.{long_spot}
 use Rattle.ed_link.proofs.Orders.{placed_more}
+use Rattle.ed_syntax.specs.declared.fault.SourceCause.TheVariants as causes
 
 -- ---- words with their locations
 
@@ -53,58 +36,37 @@ Found ps m a = ((w : ℕ) × Among ps a w × (placed_at (reverse ps ++ m) a ≡ 
 
 found : (ps m : List (ℕ × ℕ)) (a : ℕ) → Found ps m a
 found [] m a = inr (λ w h. h, refl)
-found (p ∷ ps) m a = by_rest (found ps (p ∷ m) a)
-  where
-    cut : placed_at (reverse (p ∷ ps) ++ m) a ≡ placed_at (reverse ps ++ (p ∷ m)) a
-    cut = ap (λ x. placed_at x a) (sym (placed_more p ps m))
-
-    by_test : (t : Bool) → nat_eq p.0 a ≡ t → Nowhere ps a
-        → placed_at (reverse ps ++ (p ∷ m)) a ≡ (if t then Some p.1 else placed_at m a) → Found (p ∷ ps) m a
-    by_test true e none is = inl (p.1, inl (eq_of p.0 a e, refl), cut ∙ is)
-    by_test false e none is = inr (λ w h. other w h, cut ∙ is)
-      where
-        other : (w : ℕ) → Among (p ∷ ps) a w → ⊥
-        other w (inl h) = let t = eq_true p.0 a h.0 in absurd (cc)
-        other w (inr h) = none w h
-
-    by_rest : Found ps (p ∷ m) a → Found (p ∷ ps) m a
-    by_rest (inl h) = inl (h.0, inr h.1, cut ∙ h.2)
-    by_rest (inr h) = by_test (nat_eq p.0 a) refl h.0 h.1
+found (p ∷ ps) m a =
+    let cut = ap (λ x. placed_at x a) (sym (placed_more p ps m)) in
+    elim (found ps (p ∷ m) a) [
+      | inl h ↦ inl (h.0, inr h.1, cut ∙ h.2)
+      | inr h ↦ elim (cases_eq p.0 a) [
+        | inl e ↦ let t = eq-eqb p.0 a e in inl (p.1, inl (e, refl), cut ∙ h.1 ∙ rw t refl)
+        | inr n ↦ let t = ne_eqb p.0 a n in inr (λ w. elim [ inl g ↦ n g.0 | inr g ↦ h.0 w g ], cut ∙ h.1 ∙ rw t refl)
+      ]
+    ]
 
 -- a location that some of them have, all with one word
 settled : (ps m : List (ℕ × ℕ)) (a w : ℕ) → Among ps a w → ((v : ℕ) → Among ps a v → v ≡ w)
     → placed_at (reverse ps ++ m) a ≡ Some w
-settled ps m a w h one = by_found (found ps m a)
-  where
-    by_found : Found ps m a → placed_at (reverse ps ++ m) a ≡ Some w
-    by_found (inl f) = f.2 ∙ ap Some (one f.0 f.1)
-    by_found (inr f) = absurd (f.0 w h)
+settled ps m a w h one = elim (found ps m a) [ inl f ↦ f.2 ∙ ap Some (one f.0 f.1) | inr f ↦ absurd (f.0 w h) ]
 
 -- a location that none of them has
 passed_over : (ps m : List (ℕ × ℕ)) (a : ℕ) → Nowhere ps a → placed_at (reverse ps ++ m) a ≡ placed_at m a
-passed_over ps m a none = by_found (found ps m a)
-  where
-    by_found : Found ps m a → placed_at (reverse ps ++ m) a ≡ placed_at m a
-    by_found (inl f) = absurd (none f.0 f.1)
-    by_found (inr f) = f.1
+passed_over ps m a none = elim (found ps m a) [ inl f ↦ absurd (none f.0 f.1) | inr f ↦ f.1 ]
 
 -- in three parts: the last has nothing at the location, and the second one word
 between : (xs ys zs : List (ℕ × ℕ)) (a w : ℕ) → Nowhere zs a → Among ys a w → ((v : ℕ) → Among ys a v → v ≡ w)
     → placed_at (reverse (xs ++ (ys ++ zs))) a ≡ Some w
 between xs ys zs a w none h one =
-    ap (λ m. placed_at m a)
-    (reverse-append xs (ys ++ zs) ∙ ap (λ m. m ++ reverse xs) (reverse-append ys zs)
+    ap (λ m. placed_at m a) (reverse-append xs (ys ++ zs) ∙ ap (λ m. m ++ reverse xs) (reverse-append ys zs)
     ∙ append_assoc (reverse zs) (reverse ys) (reverse xs))
-    ∙ passed_over zs (reverse ys ++ reverse xs) a none ∙ settled ys (reverse xs) a w h one
+    ∙ passed_over zs _ a none ∙ settled ys (reverse xs) a w h one
 
 among_split : (xs ys : List (ℕ × ℕ)) (a w : ℕ) → Among (xs ++ ys) a w → Among xs a w ⊎ Among ys a w
 among_split [] ys a w h = inr h
 among_split (x ∷ xs) ys a w (inl h) = inl (inl h)
-among_split (x ∷ xs) ys a w (inr h) = by_rest (among_split xs ys a w h)
-  where
-    by_rest : Among xs a w ⊎ Among ys a w → Among (x ∷ xs) a w ⊎ Among ys a w
-    by_rest (inl g) = inl (inr g)
-    by_rest (inr g) = inr g
+among_split (x ∷ xs) ys a w (inr h) = elim (among_split xs ys a w h) [ inl g ↦ inl (inr g) | inr g ↦ inr g ]
 
 among_left : (xs ys : List (ℕ × ℕ)) (a w : ℕ) → Among xs a w → Among (xs ++ ys) a w
 among_left [] ys a w h = absurd h
@@ -132,8 +94,7 @@ laid_has place [] k low = absurd (omega (arith, low))
 laid_has place (v ∷ ws) zero low = inl (omega arith, refl)
 laid_has place (v ∷ ws) (suc k) low =
     let e : place + 1 + k ≡ place + suc k = omega arith in
-    inr (subst (λ a. Among (placed_words (place + 1) ws) a (get_or ws k 0)) e
-    (laid_has (place + 1) ws k (omega (arith, low))))
+    inr (rw (← e) (laid_has (place + 1) ws k (omega (arith, low))))
 
 -- ---- the words of a line
 
@@ -153,15 +114,12 @@ module _ (symbols : List Definition) (s : LocationCounter) where
 
   -- they fill the locations of the line
   fills : (st : Option Statement) → first_place st s + length (words_of_line symbols s st) ≡ end_place st s
-  fills None = omega arith
-  fills (Some (Segment n b)) = omega arith
   fills (Some (Order f o d)) = refl
   fills (Some (Number w)) = refl
   fills (Some (Text codes)) = ap (λ n. s.place + n) (length-map codes.items (λ c. 4096 * c))
   fills (Some (Long v)) = ap (λ (t : LocationCounter). t.place) (long_spot s v)
   fills (Some (Fetch r n ts)) = routine_fits ts.items (even_from s.place) (find r)
-  fills (Some (Enter n)) = omega arith
-  fills (Some (Rows codes)) = omega arith
+  fills st = omega arith
 
   -- a letter that is set
   abbrev IsPreset : List Setting → List ℕ → ℕ → ℕ → Type 0
@@ -177,8 +135,7 @@ module _ (symbols : List Definition) (s : LocationCounter) where
   preset_is : (ts : List Setting) (cs : List ℕ) (a w : ℕ) → Among (presets_of ts cs) a w → IsPreset ts cs a w
   preset_is ts [] a w h = absurd h
   preset_is ts (c ∷ cs) a w h =
-      by_parts (set_to ts c) refl (among_split (preset symbols (set_to ts c) c) (presets_of ts cs) a w h)
-      (λ g. preset_is ts cs a w g)
+      by_parts _ refl (among_split _ _ a w h) (λ g. preset_is ts cs a w g)
     where
       by_parts : (o : Option Operand) → set_to ts c ≡ o
           → Among (preset symbols o c) a w ⊎ Among (presets_of ts cs) a w
@@ -194,13 +151,10 @@ module _ (symbols : List Definition) (s : LocationCounter) where
   preset_has ts [] c o (k, low, is) e = absurd (omega (arith, low))
   preset_has ts (d ∷ cs) c o (zero, low, is) e =
       let read : set_to ts d ≡ Some o = ap (set_to ts) is ∙ e in
-      among_left (preset symbols (set_to ts d) d) (presets_of ts cs) _ _
-      (subst (λ (x : Option Operand). Among (preset symbols x d) (24 + c)
-      (2 * operand_number symbols None o)) (sym read)
-      (inl (ap (λ n. 24 + n) is, refl)))
+      among_left _ _ _ _ (subst (λ (x : Option Operand). Among (preset symbols x d) (24 + c)
+      (2 * operand_number symbols None o)) (sym read) (inl (ap (λ n. 24 + n) is, refl)))
   preset_has ts (d ∷ cs) c o (suc k, low, is) e =
-      among_right (preset symbols (set_to ts d) d) (presets_of ts cs) _ _
-      (preset_has ts cs c o (k, omega (arith, low), is) e)
+      among_right _ _ _ _ (preset_has ts cs c o (k, omega (arith, low), is) e)
 
   -- what a line places, by its statement
   abbrev IsOwn : Option Statement → ℕ → ℕ → Type 0
@@ -211,41 +165,27 @@ module _ (symbols : List Definition) (s : LocationCounter) where
   IsSet st a w = ⊥
 
   by_line : (st : Option Statement) (a w : ℕ) → Among (placed_by_line symbols s st) a w → IsOwn st a w ⊎ IsSet st a w
-  by_line None a w h = absurd h
-  by_line (Some (Segment n b)) a w h = absurd h
   by_line (Some (Order f o d)) a w h = inl (laid_is s.place (words_of_line symbols s (Some (Order f o d))) a w h)
   by_line (Some (Number v)) a w h = inl (laid_is s.place (words_of_line symbols s (Some (Number v))) a w h)
   by_line (Some (Text codes)) a w h = inl (laid_is s.place (words_of_line symbols s (Some (Text codes))) a w h)
   by_line (Some (Long v)) a w h = inl (laid_is s.place (words_of_line symbols s (Some (Long v))) a w h)
-  by_line (Some (Fetch r n ts)) a w h =
-      by_parts (among_split (presets symbols ts.items) (image symbols ts.items (even_from s.place) (find r)) a w h)
-    where
-      by_parts : Among (presets symbols ts.items) a w
-          ⊎ Among (image symbols ts.items (even_from s.place) (find r)) a w
-          → IsOwn (Some (Fetch r n ts)) a w ⊎ IsSet (Some (Fetch r n ts)) a w
-      by_parts (inl g) = inr (preset_is ts.items parameter_letters a w g)
-      by_parts (inr g) =
-          inl (laid_is (even_from s.place) (routine_words symbols ts.items (even_from s.place) (find r)) a w
-          (subst (λ x. Among x a w) (routine_is ts.items (even_from s.place) (find r)) g))
-  by_line (Some (Enter n)) a w h = absurd h
-  by_line (Some (Rows codes)) a w h = absurd h
+  by_line (Some (Fetch r n ts)) a w h = elim (among_split _ _ a w h) [
+    | inl g ↦ inr (preset_is ts.items parameter_letters a w g)
+    | inr g ↦ inl (laid_is _ _ a w (rw (← (routine_is ts.items _ (find r))) g))
+  ]
+  by_line st a w h = absurd h
 
   own_placed : (st : Option Statement) (k : ℕ) → k < length (words_of_line symbols s st)
       → Among (placed_by_line symbols s st) (first_place st s + k) (get_or (words_of_line symbols s st) k 0)
-  own_placed None k low = absurd (omega (arith, low))
-  own_placed (Some (Segment n b)) k low = absurd (omega (arith, low))
   own_placed (Some (Order f o d)) k low = laid_has s.place (words_of_line symbols s (Some (Order f o d))) k low
   own_placed (Some (Number v)) k low = laid_has s.place (words_of_line symbols s (Some (Number v))) k low
   own_placed (Some (Text codes)) k low = laid_has s.place (words_of_line symbols s (Some (Text codes))) k low
   own_placed (Some (Long v)) k low = laid_has s.place (words_of_line symbols s (Some (Long v))) k low
   own_placed (Some (Fetch r n ts)) k low =
-      among_right (presets symbols ts.items) (image symbols ts.items (even_from s.place) (find r)) _ _
-      (subst (λ x. Among x (even_from s.place + k)
+      among_right _ _ _ _ (subst (λ x. Among x (even_from s.place + k)
       (get_or (routine_words symbols ts.items (even_from s.place) (find r)) k 0))
-      (sym (routine_is ts.items (even_from s.place) (find r)))
-      (laid_has (even_from s.place) (routine_words symbols ts.items (even_from s.place) (find r)) k low))
-  own_placed (Some (Enter n)) k low = absurd (omega (arith, low))
-  own_placed (Some (Rows codes)) k low = absurd (omega (arith, low))
+      (sym (routine_is ts.items _ (find r))) (laid_has _ _ k low))
+  own_placed st k low = absurd (omega (arith, low))
 
 -- ---- the words of all lines
 
@@ -264,47 +204,36 @@ placed_append symbols s (x ∷ xs) ys =
 
 -- a word among those of some lines is one of a line
 abbrev OfALine : List Definition → LocationCounter → List Line → ℕ → ℕ → Type 0
-OfALine symbols s lines a w = (before : List Line) × (l : Line) × StandsAfter lines before l
+OfALine symbols s lines a w = (before : List Line) × (l : Line) × IsLineAfter lines before l
     × Among (placed_by_line symbols (counter_from s before) l.statement) a w
 
 of_a_line : (symbols : List Definition) (s : LocationCounter) (lines : List Line) (a w : ℕ)
     → Among (placed_from symbols s lines) a w
     → OfALine symbols s lines a w
 of_a_line symbols s [] a w h = absurd h
-of_a_line symbols s (l ∷ lines) a w h =
-    by_parts (among_split (placed_by_line symbols s l.statement)
-    (placed_from symbols (after_statement l.statement s) lines) a w h)
-    (λ g. of_a_line symbols (after_statement l.statement s) lines a w g)
-  where
-    by_parts : Among (placed_by_line symbols s l.statement) a w
-        ⊎ Among (placed_from symbols (after_statement l.statement s) lines) a w
-        → (Among (placed_from symbols (after_statement l.statement s) lines) a w
-        → OfALine symbols (after_statement l.statement s) lines a w)
-        → OfALine symbols s (l ∷ lines) a w
-    by_parts (inl g) more = ([], l, record { after = lines; lines_are = refl }, g)
-    by_parts (inr g) more =
-        let r = more g in
-        (l ∷ r.0, r.1, record { after = r.2.after; lines_are = ap (λ x. l ∷ x) r.2.lines_are }, r.3)
+of_a_line symbols s (l ∷ lines) a w h = elim (among_split _ _ a w h) [
+  | inl g ↦ ([], l, record { after = lines; lines_are = refl }, g)
+  | inr g ↦
+      let r = (of_a_line symbols (after_statement l.statement s) lines a w g) in
+      (l ∷ r.0, r.1, record { after = r.2.after; lines_are = ap (λ x. l ∷ x) r.2.lines_are }, r.3)
+]
 
 -- the location of a parameter is below those of the program
 low_letter : (c : ℕ) → Contains parameter_letters c → c ≤ 26
 low_letter c h =
     let test = All-contains (λ x. nat_le x 26 ≡ true) parameter_letters c
     (AllPass-from_list_all (λ x. nat_le x 26) parameter_letters refl) h in
-    le_of c 26 test
+    leb-true c 26 test
 
 high_letter : (c : ℕ) → Contains parameter_letters c → 21 ≤ c
 high_letter c h =
     let test = All-contains (λ x. nat_le 21 x ≡ true) parameter_letters c
     (AllPass-from_list_all (λ x. nat_le 21 x) parameter_letters refl) h in
-    le_of 21 c test
+    leb-true 21 c test
 
 abbrev settings_of : Option Statement → List Setting
 settings_of (Some (Fetch r n ts)) = ts.items
 settings_of st = []
-
-some_same : {A : Type 0} (x y : A) → ◌≡◌ {A = Option A} (Some x) (Some y) → x ≡ y
-some_same x y e = cc
 
 -- ---- the law
 
@@ -317,32 +246,28 @@ module _ (z : Size) (lines : List Line) (faultless : HasNoFault z lines) where
       let e = fills symbols (counter_after before) l.statement in
       (omega (arith, p.place_is), omega (arith, p.place_is, p.below, e))
 
-  high : (before : List Line) (l : Line) (a w : ℕ) → StandsAfter lines before l → LinePlaces lines before l a w → 56 ≤ a
-  high before l a w st p = by_place (split a 44) (split a 56)
-    where
-      split : (a b : ℕ) → (a < b) ⊎ (b ≤ a)
-      split a b = grind arith
-
-      has : LineHasWord before l a
-      has = has_word before l a w p
-
-      by_place : (a < 44) ⊎ (44 ≤ a) → (a < 56) ⊎ (56 ≤ a) → 56 ≤ a
-      by_place (inl g) h = absurd (faultless _ causes.LoaderStore (on_line st (a, inl has, omega arith, g)))
-      by_place (inr g) (inl h) = absurd (faultless _ causes.ParameterStore (on_line st (a, inl has, g, h)))
-      by_place (inr g) (inr h) = h
+  high : (before : List Line) (l : Line) (a w : ℕ) → IsLineAfter lines before l → LinePlaces lines before l a w → 56 ≤ a
+  high before l a w st p =
+      let has = has_word before l a w p in
+      elim (cases_lt a 44) [
+        | inl g ↦ absurd (faultless _ causes.LoaderStore (on_line st (a, inl has, omega arith, g)))
+        | inr g ↦ elim (cases_lt a 56) [
+          | inl h ↦ absurd (faultless _ causes.ParameterStore (on_line st (a, inl has, g, h)))
+          | inr h ↦ h
+        ]
+      ]
 
   low : (l : Line) (a w : ℕ) → LineSets lines l a w → a < 56
   low l a w p = omega (arith, p.place_is, low_letter p.letter p.is_letter)
 
+  -- a word of a line and a parameter are at two locations
+  apart : {before : List Line} {l m : Line} {a v w : ℕ} → IsLineAfter lines before l → LinePlaces lines before l a v
+      → LineSets lines m a w → ⊥
+  apart {before} {l} {m} {a} {v} {w} st p q = omega (arith, high before l a v st p, low m a w q)
+
   set_by : (s : LocationCounter) (l : Line) (st : Option Statement) (a w : ℕ) → l.statement ≡ st
       → IsSet symbols s st a w
       → LineSets lines l a w
-  set_by s l None a w e h = absurd h
-  set_by s l (Some (Segment n b)) a w e h = absurd h
-  set_by s l (Some (Order f o d)) a w e h = absurd h
-  set_by s l (Some (Number v)) a w e h = absurd h
-  set_by s l (Some (Text codes)) a w e h = absurd h
-  set_by s l (Some (Long v)) a w e h = absurd h
   set_by s l (Some (Fetch r n ts)) a w e h = record {
     routine = r;
     name = n;
@@ -355,27 +280,22 @@ module _ (z : Size) (lines : List Line) (faultless : HasNoFault z lines) where
     place_is = h.4;
     word_is = h.5;
   }
-  set_by s l (Some (Enter n)) a w e h = absurd h
-  set_by s l (Some (Rows codes)) a w e h = absurd h
+  set_by s l st a w e h = absurd h
 
   -- what a line places is its own or a parameter
   kinds : (before : List Line) (l : Line) (a w : ℕ)
       → Among (placed_by_line symbols (counter_after before) l.statement) a w
       → LinePlaces lines before l a w ⊎ LineSets lines l a w
-  kinds before l a w h = by_kind (by_line symbols (counter_after before) l.statement a w h)
-    where
-      by_kind : IsOwn symbols (counter_after before) l.statement a w
-          ⊎ IsSet symbols (counter_after before) l.statement a w
-          → LinePlaces lines before l a w ⊎ LineSets lines l a w
-      by_kind (inl g) = inl (record { index = g.0; below = g.1; place_is = g.2; word_is = g.3 })
-      by_kind (inr g) = inr (set_by (counter_after before) l l.statement a w refl g)
+  kinds before l a w h = elim (by_line symbols (counter_after before) l.statement a w h) [
+    | inl g ↦ inl (record { index = g.0; below = g.1; place_is = g.2; word_is = g.3 })
+    | inr g ↦ inr (set_by (counter_after before) l l.statement a w refl g)
+  ]
 
   own_among : (before : List Line) (l : Line) (a w : ℕ) → LinePlaces lines before l a w
       → Among (placed_by_line symbols (counter_after before) l.statement) a w
   own_among before l a w p =
-      let at = own_placed symbols (counter_after before) l.statement p.index p.below in
-      subst (λ x. Among (placed_by_line symbols (counter_after before) l.statement) x w) (sym p.place_is)
-      (subst (λ x. Among (placed_by_line symbols (counter_after before) l.statement)
+      let at = own_placed symbols _ l.statement p.index p.below in
+      rw p.place_is (subst (λ x. Among (placed_by_line symbols (counter_after before) l.statement)
       (first_place l.statement (counter_after before) + p.index) x) (sym p.word_is) at)
 
   set_among : (s : LocationCounter) (l : Line) (a w : ℕ) → LineSets lines l a w
@@ -383,22 +303,18 @@ module _ (z : Size) (lines : List Line) (faultless : HasNoFault z lines) where
   set_among s l a w p =
       let at = preset_has symbols s p.settings parameter_letters p.letter p.operand p.is_letter p.set in
       let moved : Among (presets symbols p.settings) a w =
-      subst (λ x. Among (presets symbols p.settings) x w) (sym p.place_is)
-      (subst (λ x. Among (presets symbols p.settings) (24 + p.letter) x) (sym p.word_is) at) in
-      subst (λ st. Among (placed_by_line symbols s st) a w) (sym p.statement_is)
-      (among_left (presets symbols p.settings) (image symbols p.settings (even_from s.place)
-      (find p.routine)) a w moved)
+      rw p.place_is (subst (λ x. Among (presets symbols p.settings) (24 + p.letter) x) (sym p.word_is) at) in
+      rw p.statement_is (among_left _ _ a w moved)
 
-  whole : (before : List Line) (l : Line) (st : StandsAfter lines before l) → linked_words lines
+  whole : (before : List Line) (l : Line) (st : IsLineAfter lines before l) → linked_words lines
       ≡ placed_from symbols first_counter before ++ (placed_by_line symbols (counter_after before) l.statement
       ++ placed_from symbols (after_statement l.statement (counter_after before)) st.after)
   whole before l st =
-      ap (λ x. placed_from symbols first_counter x) st.lines_are
-      ∙ placed_append symbols first_counter before (l ∷ st.after)
+      ap (λ x. placed_from symbols first_counter x) st.lines_are ∙ placed_append symbols first_counter before _
 
   -- a line after another one
-  after_line : (before b after : List Line) (l m : Line) (st : StandsAfter lines before l) → st.after ≡ b ++ m ∷ after
-      → StandsAfter lines (before ++ l ∷ b) m
+  after_line : (before b after : List Line) (l m : Line) (st : IsLineAfter lines before l) → st.after ≡ b ++ m ∷ after
+      → IsLineAfter lines (before ++ l ∷ b) m
   after_line before b after l m st e = record {
     after = after;
     lines_are = st.lines_are ∙ ap (λ x. before ++ l ∷ x) e
@@ -406,131 +322,95 @@ module _ (z : Size) (lines : List Line) (faultless : HasNoFault z lines) where
   }
 
   -- what a later line places
-  record Later (before : List Line) (l : Line) (st : StandsAfter lines before l) (a w : ℕ) : Type 0 where
+  record Later (before : List Line) (l : Line) (st : IsLineAfter lines before l) (a w : ℕ) : Type 0 where
     pub b : List Line
     pub m : Line
-    pub among : StandsAfter st.after b m
-    pub stands : StandsAfter lines (before ++ l ∷ b) m
+    pub among : IsLineAfter st.after b m
+    pub stands : IsLineAfter lines (before ++ l ∷ b) m
     pub kind : LinePlaces lines (before ++ l ∷ b) m a w ⊎ LineSets lines m a w
 
-  later : (before : List Line) (l : Line) (st : StandsAfter lines before l) (a w : ℕ)
+  later : (before : List Line) (l : Line) (st : IsLineAfter lines before l) (a w : ℕ)
       → Among (placed_from symbols (after_statement l.statement (counter_after before)) st.after) a w
       → Later before l st a w
   later before l st a w h =
-      let r = of_a_line symbols (after_statement l.statement (counter_after before)) st.after a w h in
+      let r = of_a_line symbols _ st.after a w h in
       let counter = spot_append first_counter before (l ∷ r.0) in
       record {
         b = r.0;
         m = r.1;
         among = r.2;
         stands = after_line before r.0 r.2.after l r.1 st r.2.lines_are;
-        kind = kinds (before ++ l ∷ r.0) r.1 a w
-            (subst (λ s. Among (placed_by_line symbols s r.1.statement) a w) (sym counter) r.3);
+        kind = kinds _ r.1 a w (rw counter r.3);
       }
 
-  line_stands : (before : List Line) (l : Line) (a w : ℕ) → StandsAfter lines before l
+  -- a line's one word at a location is linked if no later line has a word there
+  linked_once : {before : List Line} {l : Line} {a w : ℕ} (st : IsLineAfter lines before l)
+      → Among (placed_by_line symbols (counter_after before) l.statement) a w
+      → ((v : ℕ) → Later before l st a v → ⊥)
+      → ((v : ℕ) → LinePlaces lines before l a v ⊎ LineSets lines l a v → v ≡ w) → linked_word lines a ≡ Some w
+  linked_once {before} {l} {a} {w} st among none one =
+      ap (λ x. placed_at (reverse x) a) (whole before l st)
+      ∙ between (placed_from symbols first_counter before) _ _ a w (λ v h. none v (later before l st a v h)) among
+      (λ v h. one v (kinds before l a v h))
+
+  line_stands : (before : List Line) (l : Line) (a w : ℕ) → IsLineAfter lines before l
       → LinePlaces lines before l a w → linked_word lines a ≡ Some w
-  line_stands before l a w st p =
-      ap (λ x. placed_at (reverse x) a) (whole before l st)
-      ∙ between (placed_from symbols first_counter before) (placed_by_line symbols (counter_after before) l.statement)
-      (placed_from symbols (after_statement l.statement (counter_after before)) st.after) a w none_later
-      (own_among before l a w p) one
-    where
-      none_later : Nowhere (placed_from symbols (after_statement l.statement (counter_after before)) st.after) a
-      none_later v h = by_kind (later before l st a v h)
-        where
-          by_kind : Later before l st a v → ⊥
-          by_kind r = clash r.kind
-            where
-              clash : LinePlaces lines (before ++ l ∷ r.b) r.m a v ⊎ LineSets lines r.m a v → ⊥
-              clash (inl q) =
-                  let earlier : StandsAfter (before ++ l ∷ r.b) before l = record { after = r.b; lines_are = refl } in
-                  faultless _ causes.Overlap
-                  (on_line r.stands
-                  (a, has_word (before ++ l ∷ r.b) r.m a v q, before, l, earlier, has_word before l a w p))
-              clash (inr q) = let x = low r.m a v q in let y = high before l a w st p in absurd (omega (arith, x, y))
+  line_stands before l a w st p = linked_once st (own_among before l a w p)
+      (λ v r. elim r.kind [
+        | inl q ↦
+            let earlier : IsLineAfter (before ++ l ∷ r.b) before l = record { after = r.b; lines_are = refl } in
+            faultless _ causes.Overlap (on_line r.stands
+            (a, has_word _ r.m a v q, before, l, earlier, has_word before l a w p))
+        | inr q ↦ apart st p q
+      ])
+      (λ v k. elim k [
+        | inl q ↦
+            let same : q.index ≡ p.index = omega (arith, q.place_is, p.place_is) in
+            q.word_is ∙ ap (λ k. get_or (words_of_line symbols (counter_after before) l.statement) k 0) same
+            ∙ sym p.word_is
+        | inr q ↦ absurd (apart st p q)
+      ])
 
-      one : (v : ℕ) → Among (placed_by_line symbols (counter_after before) l.statement) a v → v ≡ w
-      one v h = by_kind (kinds before l a v h)
-        where
-          by_kind : LinePlaces lines before l a v ⊎ LineSets lines l a v → v ≡ w
-          by_kind (inl q) =
-              let same : q.index ≡ p.index = omega (arith, q.place_is, p.place_is) in
-              q.word_is ∙ ap (λ k. get_or (words_of_line symbols (counter_after before) l.statement) k 0) same
-              ∙ sym p.word_is
-          by_kind (inr q) = let x = low l a v q in let y = high before l a w st p in absurd (omega (arith, x, y))
-
-  parameter_stands : (before : List Line) (l : Line) (a w : ℕ) (st : StandsAfter lines before l)
+  parameter_stands : (before : List Line) (l : Line) (a w : ℕ) (st : IsLineAfter lines before l)
       → LineSets lines l a w → IsLastSet lines st.after a → linked_word lines a ≡ Some w
-  parameter_stands before l a w st p last =
-      ap (λ x. placed_at (reverse x) a) (whole before l st)
-      ∙ between (placed_from symbols first_counter before) (placed_by_line symbols (counter_after before) l.statement)
-      (placed_from symbols (after_statement l.statement (counter_after before)) st.after) a w none_later
-      (set_among (counter_after before) l a w p) one
-    where
-      none_later : Nowhere (placed_from symbols (after_statement l.statement (counter_after before)) st.after) a
-      none_later v h = by_kind (later before l st a v h)
-        where
-          by_kind : Later before l st a v → ⊥
-          by_kind r = clash r.kind
-            where
-              clash : LinePlaces lines (before ++ l ∷ r.b) r.m a v ⊎ LineSets lines r.m a v → ⊥
-              clash (inl q) =
-                  let x = low l a w p in
-                  let y = high (before ++ l ∷ r.b) r.m a v r.stands q in omega (arith, x, y)
-              clash (inr q) = last r.b r.m v r.among q
-
-      one : (v : ℕ) → Among (placed_by_line symbols (counter_after before) l.statement) a v → v ≡ w
-      one v h = by_kind (kinds before l a v h)
-        where
-          by_kind : LinePlaces lines before l a v ⊎ LineSets lines l a v → v ≡ w
-          by_kind (inl q) = let x = low l a w p in let y = high before l a v st q in absurd (omega (arith, x, y))
-          by_kind (inr q) =
-              let settings : q.settings ≡ p.settings = ap settings_of (sym q.statement_is ∙ p.statement_is) in
-              let letter : q.letter ≡ p.letter = omega (arith, q.place_is, p.place_is) in
-              let set : Some q.operand ≡ Some p.operand =
-              sym q.set ∙ (λ i. set_to (settings i) (letter i)) ∙ p.set in
-              let operand : q.operand ≡ p.operand = some_same q.operand p.operand set in
-              q.word_is ∙ ap (λ o. 2 * operand_number symbols None o) operand ∙ sym p.word_is
+  parameter_stands before l a w st p last = linked_once st (set_among (counter_after before) l a w p)
+      (λ v r. elim r.kind [ inl q ↦ apart r.stands q p | inr q ↦ last r.b r.m v r.among q ])
+      (λ v k. elim k [
+        | inl q ↦ absurd (apart st q p)
+        | inr q ↦
+            let settings : q.settings ≡ p.settings = ap settings_of (sym q.statement_is ∙ p.statement_is) in
+            let letter : q.letter ≡ p.letter = omega (arith, q.place_is, p.place_is) in
+            let operand = same_Some _ _ (sym q.set ∙ (λ i. set_to (settings i) (letter i)) ∙ p.set) in
+            q.word_is ∙ ap (λ o. 2 * operand_number symbols None o) operand ∙ sym p.word_is
+      ])
 
   no_other : (a w : ℕ) → linked_word lines a ≡ Some w
-      → (before : List Line) × (l : Line) × StandsAfter lines before l
+      → (before : List Line) × (l : Line) × IsLineAfter lines before l
       × (LinePlaces lines before l a w ⊎ LineSets lines l a w)
-  no_other a w e = by_found (found (linked_words lines) [] a)
-    where
-      is : placed_at (reverse (linked_words lines) ++ []) a ≡ Some w
-      is = ap (λ x. placed_at x a) (append-nil (reverse (linked_words lines))) ∙ e
-
-      by_found : Found (linked_words lines) [] a
-          → (before : List Line) × (l : Line) × StandsAfter lines before l
-          × (LinePlaces lines before l a w ⊎ LineSets lines l a w)
-      by_found (inl f) =
-          let same : f.0 ≡ w = some_same f.0 w (sym f.2 ∙ is) in
-          let r = of_a_line symbols first_counter lines a w (subst (λ x. Among (linked_words lines) a x) same f.1) in
-          (r.0, r.1, r.2, kinds r.0 r.1 a w r.3)
-      by_found (inr f) = let none : ◌≡◌ {A = Option ℕ} None (Some w) = sym f.1 ∙ is in absurd (cc)
+  no_other a w e =
+      let is = ap (λ x. placed_at x a) (append-nil (reverse (linked_words lines))) ∙ e in
+      elim (found (linked_words lines) [] a) [
+        | inl f ↦
+            let same : f.0 ≡ w = same_Some _ _ (sym f.2 ∙ is) in
+            let r = of_a_line symbols first_counter lines a w (rw (← same) f.1) in
+            (r.0, r.1, r.2, kinds r.0 r.1 a w r.3)
+        | inr f ↦ absurd (cc)
+      ]
 
   in_store : (a w : ℕ) → linked_word lines a ≡ Some w → (44 ≤ a) × (a < locations z)
-  in_store a w e = by_kind (no_other a w e)
-    where
-      split : (a b : ℕ) → (a < b) ⊎ (b ≤ a)
-      split a b = grind arith
-
-      by_place : (before : List Line) (l : Line) → StandsAfter lines before l → LinePlaces lines before l a w
-          → (a < locations z) ⊎ (locations z ≤ a) → (44 ≤ a) × (a < locations z)
-      by_place before l st p (inl g) = let h = high before l a w st p in (omega (arith, h), g)
-      by_place before l st p (inr g) =
-          absurd (faultless _ causes.StoreEnd (on_line st (a, inl (has_word before l a w p), g)))
-
-      by_kind : (before : List Line) × (l : Line) × StandsAfter lines before l
-          × (LinePlaces lines before l a w ⊎ LineSets lines l a w) → (44 ≤ a) × (a < locations z)
-      by_kind (before, l, st, inl p) = by_place before l st p (split a (locations z))
-      by_kind (before, l, st, inr p) =
-          let x = low l a w p in
-          let y = least z in
-          let c = high_letter p.letter p.is_letter in
-          let place = p.place_is in
-          (omega (arith, place, c), omega (arith, x, y))
+  in_store a w e =
+      let r = no_other a w e in
+      elim r.3 [
+        | inl p ↦
+            let h = high r.0 r.1 a w r.2 p in
+            elim (cases_lt a (locations z)) [
+              | inl g ↦ (omega (arith, h), g)
+              | inr g ↦ absurd (faultless _ causes.StoreEnd (on_line r.2 (a, inl (has_word r.0 r.1 a w p), g)))
+            ]
+        | inr p ↦
+            let place = p.place_is in
+            (omega (arith, place, high_letter p.letter p.is_letter), omega (arith, low r.1 a w p, least z))
+      ]
 
 pub each_word_stands : EachWordStands
 each_word_stands z lines faultless = record {

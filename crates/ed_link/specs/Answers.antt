@@ -11,7 +11,7 @@ use Rattle.ed_link.specs.Faults.{HasNoFault, IsMeaningFault}
 use Rattle.ed_link.specs.Tables.{word_at}
 use Rattle.ed_link.specs.Words.{linked_places, linked_word}
 use Rattle.ed_link.specs.Labels.{labels}
-use Rattle.ed_link.specs.Tapes.{ComesToLinked}
+use Rattle.ed_link.specs.Tapes.{ReachesLinkedEntry}
 
 -- if an answer is a fault of meaning, it is the source's
 abbrev pub HasMeaningFault : Size → List Line → SourceFault → Type 0
@@ -29,4 +29,4 @@ pub record IsLinked (z : Size) (lines : List Line) (k : Linked) : Type 0 where
   pub after : k.after.items ≡ data_after lines
   pub labels : k.labels.items ≡ labels (symbols_of lines)
   -- from every store, reading the tape gives the linked program
-  pub loads : ComesToLinked z lines
+  pub loads : ReachesLinkedEntry z lines

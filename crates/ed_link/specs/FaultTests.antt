@@ -157,16 +157,16 @@ fault_line (At line cause) = line
 fault_line Memory = 0
 
 -- the fault of the earlier line; of two on one line the first
-abbrev pub sooner : Option SourceFault → Option SourceFault → Option SourceFault
-sooner None b = b
-sooner (Some a) None = Some a
-sooner (Some a) (Some b) = if nat_le (fault_line a) (fault_line b) then Some a else Some b
+abbrev pub earlier_fault : Option SourceFault → Option SourceFault → Option SourceFault
+earlier_fault None b = b
+earlier_fault (Some a) None = Some a
+earlier_fault (Some a) (Some b) = if nat_le (fault_line a) (fault_line b) then Some a else Some b
 
 -- the fault of a source on a machine of this size: the least number on the first faulty line
 abbrev pub fault : Size → List Line → Option SourceFault
 fault z lines =
-    sooner (resolution lines).fault
-    (sooner (fault_from z (symbols_of lines) (any_enter lines) (record { extents = []; entered = false })
+    earlier_fault (resolution lines).fault
+    (earlier_fault (fault_from z (symbols_of lines) (any_enter lines) (record { extents = []; entered = false })
     first_counter lines)
     (missing (any_enter lines) (length lines)))
 

@@ -18,7 +18,7 @@ use Rattle.ed_syntax.specs.declared.fault.SourceCause.TheVariants as causes
 use Rattle.ed_syntax.specs.Causes.{IsLeastFault}
 use Rattle.ed_symbols.specs.Names.{place_on}
 use Rattle.ed_symbols.specs.Places.{segment_at}
-use Rattle.ed_symbols.specs.NameFaults.{StandsAfter, counter_after, DefinesAgain, NamesUnknown, ReachesOutside}
+use Rattle.ed_symbols.specs.NameFaults.{IsLineAfter, counter_after, DefinesAgain, NamesUnknown, ReachesOutside}
 use Rattle.ed_link.specs.Linked.{first_place, end_place, symbols_of}
 
 -- ---- the words of a line
@@ -45,7 +45,7 @@ IsEnter l = (name : List ℕ) × (l.statement ≡ Some (Enter name))
 
 -- some line is an `enter`
 abbrev pub HasEnter : List Line → Type 0
-HasEnter lines = (before : List Line) × (l : Line) × StandsAfter lines before l × IsEnter l
+HasEnter lines = (before : List Line) × (l : Line) × IsLineAfter lines before l × IsEnter l
 
 -- an order, a `word`, a `text` or a `long`
 abbrev pub PlacesWords : Option Statement → Type 0
@@ -82,7 +82,7 @@ NeedsPast lines before l from = (p : ℕ) × NeedsPlace lines before l p × (fro
 -- S13: a word of the line is at the location of a word of an earlier line
 abbrev pub Overlaps : List Line → Line → Type 0
 Overlaps before l = (p : ℕ) × LineHasWord before l p
-    × (earlier : List Line) × (e : Line) × StandsAfter before earlier e × LineHasWord earlier e p
+    × (earlier : List Line) × (e : Line) × IsLineAfter before earlier e × LineHasWord earlier e p
 
 -- S14: a `use` of a name that isn't in the catalogue
 abbrev pub UsesUnknown : Option Statement → Type 0
@@ -130,7 +130,7 @@ LineHasCause z lines before l cause = ⊥
 
 -- the source has the fault at the line with this number, counted from 1
 pub data SourceHasFault (z : Size) (lines : List Line) : ℕ → SourceCause → Type 0 where
-  on_line : {before : List Line} {l : Line} {cause : SourceCause} → StandsAfter lines before l
+  on_line : {before : List Line} {l : Line} {cause : SourceCause} → IsLineAfter lines before l
       → LineHasCause z lines before l cause → SourceHasFault z lines (length before + 1) cause
   -- S16 too, at the number of lines plus 1: no line is an `enter`
   no_enter : (HasEnter lines → ⊥) → SourceHasFault z lines (length lines + 1) causes.Enter

@@ -10,7 +10,7 @@ use Rattle.ed_notation.specs.declared.item.Item.{Item}
 use Rattle.ed_syntax.specs.declared.program.Line.{Line}
 use Rattle.ed_symbols.specs.Places.{first_counter}
 use Rattle.ed_notation.specs.Openings.{opening}
-use Rattle.ed_notation.specs.Faults.{TapeEntry, WellFormed, ComesTo}
+use Rattle.ed_notation.specs.Faults.{TapeEntry, WellFormed, RowsReachEntry}
 use Rattle.ed_notation.specs.Spellings.{digits_of, item_rows, line_from}
 use Rattle.ed_link.specs.Linked.{linked_words, entry_of, theta_from, data_after}
 use Rattle.ed_link.specs.Punch.{item_with, punched_items}
@@ -50,11 +50,11 @@ arrival words lines = record {
 }
 
 -- from every store, the tape is well formed and reaches that entry
-abbrev pub ComesToLinked : Size → List Line → Type 0
-ComesToLinked z lines =
+abbrev pub ReachesLinkedEntry : Size → List Line → Type 0
+ReachesLinkedEntry z lines =
     (words : List ℕ) → length words ≡ 1024
     → WellFormed z words (opening words) (tape lines)
-    × ComesTo words (opening words) 9 (tape lines) (arrival words lines)
+    × RowsReachEntry words (opening words) 9 (tape lines) (arrival words lines)
 
 -- the text of the rows after the items: one line if there are any, digits as digits and other rows as letters or signs
 abbrev pub after_text : List ℕ → List ℕ

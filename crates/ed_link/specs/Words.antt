@@ -17,7 +17,7 @@ use Rattle.ed_syntax.specs.declared.program.Line.{Line}
 use Rattle.ed_symbols.specs.declared.location_counter.LocationCounter.{LocationCounter}
 use Rattle.ed_symbols.specs.declared.symbols.Definition.{Definition}
 use Rattle.ed_symbols.specs.Places.{even_from}
-use Rattle.ed_symbols.specs.NameFaults.{StandsAfter, counter_after}
+use Rattle.ed_symbols.specs.NameFaults.{IsLineAfter, counter_after}
 use Rattle.ed_link.specs.Faults.{HasNoFault}
 use Rattle.ed_link.specs.Linked.{first_place, symbols_of, line_words, linked_words, operand_number, parameter_letters}
 use Rattle.ed_link.specs.Linked.{parameters, set_to}
@@ -65,17 +65,17 @@ linked_places lines = filter (λ place. is_some (linked_word lines place)) (rang
 -- no line after this one sets the parameter at this location
 abbrev pub IsLastSet : List Line → List Line → ℕ → Type 0
 IsLastSet lines after place =
-    (before : List Line) (l : Line) (word : ℕ) → StandsAfter after before l → LineSets lines l place word → ⊥
+    (before : List Line) (l : Line) (word : ℕ) → IsLineAfter after before l → LineSets lines l place word → ⊥
 
 -- the words of the linked program: each line has its words at its locations, the last `use` that sets a parameter
 -- decides it, no other location has a word, and each location is in the store
 pub record WordsStand (z : Size) (lines : List Line) : Type 0 where
-  pub stands : (before : List Line) (l : Line) (place word : ℕ) → StandsAfter lines before l
+  pub stands : (before : List Line) (l : Line) (place word : ℕ) → IsLineAfter lines before l
       → LinePlaces lines before l place word → linked_word lines place ≡ Some word
-  pub sets : (before : List Line) (l : Line) (place word : ℕ) (s : StandsAfter lines before l)
+  pub sets : (before : List Line) (l : Line) (place word : ℕ) (s : IsLineAfter lines before l)
       → LineSets lines l place word → IsLastSet lines s.after place → linked_word lines place ≡ Some word
   pub only : (place word : ℕ) → linked_word lines place ≡ Some word
-      → (before : List Line) × (l : Line) × StandsAfter lines before l
+      → (before : List Line) × (l : Line) × IsLineAfter lines before l
       × (LinePlaces lines before l place word ⊎ LineSets lines l place word)
   pub within : (place word : ℕ) → linked_word lines place ≡ Some word → (44 ≤ place) × (place < locations z)
 

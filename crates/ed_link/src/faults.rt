@@ -8,7 +8,7 @@ ghost use Rattle.ed_link.specs.FaultTests.{any_enter, cause_of, has_no_routine, 
 ghost use Rattle.ed_link.specs.FaultTests.{is_in_segment};
 ghost use Rattle.ed_link.specs.FaultTests.{is_misplaced, is_outside};
 ghost use Rattle.ed_link.specs.FaultTests.{extent_at, is_rows, overlaps, reach, sets_otherwise, word_extent};
-ghost use Rattle.ed_link.specs.FaultTests.{fault_line, sooner};
+ghost use Rattle.ed_link.specs.FaultTests.{fault_line, earlier_fault};
 
 use crate::building::Built;
 use crate::operands::setting;
@@ -223,8 +223,8 @@ pub(crate) fn any_enter(lines: &[Line]) -> bool
 }
 
 /// The earlier of a fault of names, if there is one, and another fault.
-pub(crate) fn sooner(names: Option<SourceFault>, fault: SourceFault) -> SourceFault
-    ensures { Some result ≡ sooner names (Some fault) }
+pub(crate) fn earlier_fault(names: Option<SourceFault>, fault: SourceFault) -> SourceFault
+    ensures { Some result ≡ earlier_fault names (Some fault) }
 {
     match names {
         Some(names) => {

@@ -11,7 +11,7 @@ ghost use Rattle.ed_link.specs.Labels.{labels};
 ghost use Rattle.ed_link.specs.Linked.{symbols_of};
 
 use crate::building::{Built, build};
-use crate::faults::{any_enter, sooner};
+use crate::faults::{any_enter, earlier_fault};
 use crate::linked::{LabelPlace, Linked};
 use crate::words::words_of;
 use ed_library::catalogue_size;
@@ -59,7 +59,7 @@ fn link_names(
                 }
             }
         },
-        Err(fault) => Err(sooner(names, fault)),
+        Err(fault) => Err(earlier_fault(names, fault)),
     }
 }
 

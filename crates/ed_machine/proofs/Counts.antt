@@ -1,7 +1,5 @@
 -- Steps that each obey an order are counted.
-use Rattle.std.proofs.Common.{◌≡◌, zero, suc, ◌+◌, arith}
-use Rattle.ed_machine.specs.OrderTable.{step}
-use Rattle.ed_machine.specs.Steps.{progress, state_after}
+use Rattle.ed_machine.proofs.Names.{suc, zero, arith, ◌+◌, ◌≡◌, step, progress, state_after}
 use Rattle.ed_machine.specs.Sound.{CountsOrders}
 use Rattle.ed_machine.proofs.Keeping.{step_leaves}
 

@@ -1,8 +1,9 @@
 -- One more word of an image.
-use Rattle.std.proofs.Common.{◌≡◌, ℕ, zero, suc, ◌+◌, ◌<◌, refl, sym, ap, ◌∙◌, List, [], ◌∷◌, ◌++◌, take}
-use Rattle.std.proofs.Common.{drop, set, length, get_or, arith, add-one, Bool, length-append, length-drop}
+use Rattle.ed_machine.proofs.Names.{add-one, drop, length-append, List, set, suc, take, zero, ◌++◌, IsStore, get_or}
+use Rattle.ed_machine.proofs.Names.{Cells, [], ap, arith, Bool, length, refl, sym, ℕ, ◌+◌, ◌<◌, ◌∙◌, ◌∷◌, ◌≡◌}
+use Rattle.std.proofs.Common.{length-drop}
 use Rattle.std.proofs.lemmas.List.{get_or_read, length-take}
-use Rattle.ed_store.specs.Cells.{Cells, IsStore, with_short}
+use Rattle.ed_store.specs.Cells.{with_short}
 
 written_image : (xs ys : List ℕ) (i : ℕ) → i < length xs → i < length ys
     → set (take i xs ++ drop i ys) i (get_or xs i 0) ≡ take (suc i) xs ++ drop (suc i) ys

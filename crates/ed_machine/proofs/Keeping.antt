@@ -1,12 +1,9 @@
 -- What orders keep: the size of a machine, no new row on its tape, and how many orders are counted.
-use Rattle.std.proofs.Common.{◌≡◌, ◌∙◌, ℕ, zero, suc, ◌+◌, ◌≤◌, Bool, true, false, true≢false, refl, sym, ap, arith}
-use Rattle.std.proofs.Common.{Option, Some, None, List, [], ◌∷◌, length}
-use Rattle.ed_orders.specs.declared.kind.Kind.{Kind}
-use Rattle.ed_orders.specs.declared.kind.Kind.TheVariants.{A, S, H, V, N, T, U, C, R, L, E, G, I, O, F, X, Y, Z}
-use Rattle.ed_machine.specs.State.{State}
-use Rattle.ed_machine.specs.OrderTable.{Obeyed, blocked_order, jump_order, obey_word, place_of, step, row_order}
-use Rattle.ed_machine.specs.Steps.{is_obeyed, progress, state_after}
-use Rattle.ed_machine.specs.declared.turn.Turn.{Turn}
+use Rattle.ed_machine.proofs.Names.{List, suc, true≢false, zero, Kind, A, C, E, F, G, H, I, L, N, O, R, S, T, U, V, X}
+use Rattle.ed_machine.proofs.Names.{Y, Z, [], ap, arith, Bool, false, length, None, Option, refl, Some, sym, true, ℕ}
+use Rattle.ed_machine.proofs.Names.{◌+◌, ◌∙◌, ◌∷◌, ◌≡◌, ◌≤◌, jump_order, obey_word, Obeyed, place_of, row_order, step}
+use Rattle.ed_machine.proofs.Names.{State, is_obeyed, progress, state_after, Turn}
+use Rattle.ed_machine.specs.OrderTable.{blocked_order}
 
 -- a state reached by at most a number of orders
 pub record Follows (most : ℕ) (s t : State) : Type 0 where

@@ -1,8 +1,8 @@
--- The least number below a bound for which a test holds.
-use Rattle.std.proofs.Common.{◌≡◌, ◌⊎◌, inl, inr, ℕ, zero, suc, ◌+◌, ◌<◌, ◌≤◌, refl}
-use Rattle.std.proofs.Common.{sym, ap, ◌∙◌, arith, Bool, true, false, true≢false}
-use Rattle.std.specs.Prelude.{if◌then◌else◌}
-use Rattle.ed_machine.specs.Steps.{least}
+-- The least number below a bound for which a test holds, and the first answer of a test.
+use Rattle.ed_machine.proofs.Names.{inl, inr, rules, suc, true≢false, unwrap_or, zero, ◌-◌, ◌⊎◌, cases_lt, ap, arith}
+use Rattle.ed_machine.proofs.Names.{Bool, false, None, Option, refl, Some, sym, true, ℕ, ◌+◌, ◌<◌, ◌∙◌, ◌≡◌, ◌≤◌}
+use Rattle.std.proofs.Common.{is_some, if◌then◌else◌}
+use Rattle.ed_machine.specs.Steps.{IsFirstAnswer, least}
 
 -- the number that is found is at most the bound
 pub least_below : (test : ℕ → Bool) (n : ℕ) → least test n ≤ n
@@ -80,17 +80,47 @@ least_first test (suc n) j h = by_test (test (least test n)) refl h (λ below. l
     by_test true e h before = before h
     by_test false e h before = let k : least test n ≡ n = least_end test n e in by_place (grind arith) e before
 
--- if a test fails at the first k numbers, the number found is k more than that found by the test from k onwards
-pub least_on : (test later : ℕ → Bool) (k m : ℕ) → ((j : ℕ) → j < k → test j ≡ false)
-    → ((j : ℕ) → test (k + j) ≡ later j)
-    → least test (k + m) ≡ k + least later m
-unfolding least
-least_on test later k zero fails same = let z : k + 0 ≡ k = omega arith in rw z (least_none test k fails)
-least_on test later k (suc m) fails same =
-    let s : k + suc m ≡ suc (k + m) = omega arith in
-    let ih = least_on test later k m fails same in
-    rw (s, ih, same (least later m)) (if_same (later (least later m)) (least later m) m)
-  where
-    if_same : (b : Bool) (a c : ℕ) → (if b then k + a else suc (k + c)) ≡ k + (if b then a else suc c)
-    if_same true a c = refl
-    if_same false a c = omega arith
+-- ---- the first answer of a test
+
+-- an option with a value, and one without
+some_of : {A : Type 0} (o : Option A) (d : A) → is_some o ≡ true → o ≡ Some (unwrap_or o d)
+some_of None d h = absurd (true≢false (sym h))
+some_of (Some a) d h = refl
+
+none_of : {A : Type 0} (o : Option A) → is_some o ≡ false → o ≡ None
+none_of None h = refl
+none_of (Some a) h = absurd (true≢false h)
+
+-- the least number below n at which a test gives an answer, or n if it gives none
+abbrev pub first_number : {A : Type 0} → (ℕ → Option A) → ℕ → ℕ
+first_number test n = least (λ j. is_some (test j)) n
+
+module _ {A : Type 0} {test : ℕ → Option A} where
+  -- there is one first answer, at one number
+  pub first_once : {j k : ℕ} {a b : A} → IsFirstAnswer test j a → IsFirstAnswer test k b → (j ≡ k) × (a ≡ b)
+  first_once {j} {k} {a} {b} g h = search rules
+
+  -- numbers without an answer are below each number with one
+  pub first_within : (k n : ℕ) → ((j : ℕ) → j < k → test j ≡ None) → is_some (test n) ≡ true → k ≤ n
+  first_within k n none some = search rules
+
+  -- the first answer is at the least number with one
+  pub first_found : (n : ℕ) (d : A) → is_some (test n) ≡ true
+      → IsFirstAnswer test (first_number test n) (unwrap_or (test (first_number test n)) d)
+  first_found n d some = record {
+    now = some_of _ d (least_holds (λ j. is_some (test j)) n some);
+    first = λ j h. none_of _ (least_first (λ j. is_some (test j)) n j h);
+  }
+
+-- the first answer of a test that gives none at the first k numbers, and from there on those of another
+pub first_later : {A : Type 0} {test later : ℕ → Option A} {k m : ℕ} {a : A} → ((j : ℕ) → j < k → test j ≡ None)
+    → ((j : ℕ) → j ≤ m → test (k + j) ≡ later j) → IsFirstAnswer later m a → IsFirstAnswer test (k + m) a
+first_later {test = test} {k = k} {m = m} none same f = record {
+  now = same m (omega arith) ∙ f.now;
+  first = λ j h. elim (cases_lt j k) [
+    | inl low ↦ none j low
+    | inr high ↦
+        let e : k + (j - k) ≡ j = omega arith in
+        ap test (sym e) ∙ same (j - k) (omega arith) ∙ f.first (j - k) (omega arith)
+  ];
+}

@@ -5,3 +5,4 @@ pub mod LeastNumbers
 pub mod SoundSteps
 pub mod Steps
 pub mod Kit
+pub mod Names

@@ -1,18 +1,17 @@
 -- A step leads from a state within its bounds to another.
-use Rattle.std.proofs.Common.{ℕ, zero, suc, ◌+◌, ◌*◌, ◌/◌, ◌^◌, ◌<◌, ◌∙◌, arith, lit<, Bool, true, false}
-use Rattle.std.proofs.Common.{nat_lt, nat_le, List, [], ◌∷◌, Option, Some, None, get_or, set, pos, negsuc, ℤ}
-use Rattle.std.proofs.lemmas.List.{length-set}
-use Rattle.ed_words.specs.Sizes.{locations}
-use Rattle.ed_words.specs.Words.{address_of, is_long, halves_of, long_of_halves}
+use Rattle.ed_machine.proofs.Names.{List, lit<, negsuc, pos, set, suc, zero, length-set, locations, address_of}
+use Rattle.ed_machine.proofs.Names.{is_long, long_of_halves, left71, minus71, minus_product, plus71, plus_common}
+use Rattle.ed_machine.proofs.Names.{plus_product, right71, IsStore, get_or, ◌*◌, ◌/◌, ◌^◌, Cells, Kind, A, C, E, F, G}
+use Rattle.ed_machine.proofs.Names.{H, I, L, N, O, R, S, T, U, V, X, Y, Z, [], arith, Bool, false, nat_lt, None}
+use Rattle.ed_machine.proofs.Names.{Option, Some, true, ℕ, ◌+◌, ◌<◌, ◌∙◌, ◌∷◌, after, done_at, jump_order, obey_word}
+use Rattle.ed_machine.proofs.Names.{place_of, read_at, row_order, step, written_cells, written_store, State, progress}
+use Rattle.ed_machine.proofs.Names.{state_after}
+use Rattle.std.proofs.Common.{nat_le, ℤ}
+use Rattle.ed_words.specs.Words.{halves_of}
 use Rattle.ed_words.proofs.SizeLemmas.{within_fits}
-use Rattle.ed_acc.specs.Arithmetic.{modulo71, plus71, minus71, plus_product, minus_product, plus_common, left71, right71}
-use Rattle.ed_store.specs.Cells.{Cells, IsStore, even, odd}
-use Rattle.ed_orders.specs.declared.kind.Kind.{Kind}
-use Rattle.ed_orders.specs.declared.kind.Kind.TheVariants.{A, S, H, V, N, T, U, C, R, L, E, G, I, O, F, X, Y, Z}
-use Rattle.ed_machine.specs.State.{State}
-use Rattle.ed_machine.specs.OrderTable.{step, obey_word, read_at, written_store, written_cells}
-use Rattle.ed_machine.specs.OrderTable.{place_of, operand35, done_at, after, jump_order, row_order}
-use Rattle.ed_machine.specs.Steps.{progress, state_after}
+use Rattle.ed_acc.specs.Arithmetic.{modulo71}
+use Rattle.ed_store.specs.Cells.{even, odd}
+use Rattle.ed_machine.specs.OrderTable.{operand35}
 use Rattle.ed_machine.specs.Sound.{IsSound, StaysSound}
 
 -- the arithmetic of the accumulator gives 71 digits

@@ -1,13 +1,9 @@
 -- Where steps lead: none, one more, and some after others.
-use Rattle.std.proofs.Common.{◌≡◌, ◌⊎◌, inl, inr, ℕ, zero, suc, ◌+◌, ◌-◌, ◌<◌, ◌≤◌, refl, sym, ap, ◌∙◌, subst, arith}
-use Rattle.std.proofs.Common.{add-one, below_more, true, ◌++◌, append_assoc, append-nil, length, length-append}
-use Rattle.std.proofs.lemmas.Bool.{cases_lt}
-use Rattle.ed_machine.specs.State.{State}
-use Rattle.ed_machine.specs.OrderTable.{step}
-use Rattle.ed_machine.specs.Steps.{AreObeyed, Progress, codes_of, is_obeyed, next_progress, progress, state_after}
-use Rattle.ed_machine.specs.Steps.{stops_of}
-use Rattle.ed_machine.specs.declared.turn.Turn.{Turn}
-use Rattle.ed_machine.specs.declared.turn.Turn.TheVariants.{Went, Printed, Stopped, NoOrder, NoTape}
+use Rattle.ed_machine.proofs.Names.{add-one, append-nil, append_assoc, inl, inr, length-append, rules, subst, suc}
+use Rattle.ed_machine.proofs.Names.{zero, ◌++◌, ◌-◌, ◌⊎◌, cases_lt, [], ap, arith, length, refl, sym, true, ℕ, ◌+◌}
+use Rattle.ed_machine.proofs.Names.{◌<◌, ◌∙◌, ◌≡◌, ◌≤◌, step, State, AreObeyed, codes_of, is_obeyed, progress}
+use Rattle.ed_machine.proofs.Names.{Progress, state_after, stops_of, Turn, NoOrder, NoTape, Printed, Stopped, Went}
+use Rattle.ed_machine.specs.Steps.{next_progress}
 
 -- ---- none, and one more
 
@@ -75,12 +71,31 @@ free_sum = each_sum (λ (x : State). is_obeyed (step x).turn ≡ true)
 -- one more order obeyed after some
 pub free_more : (k : ℕ) (s : State) → AreObeyed k s → is_obeyed (step (state_after k s)).turn ≡ true
     → AreObeyed (suc k) s
-free_more k s free more j h =
-    below_more (λ j. is_obeyed (step (state_after j s)).turn ≡ true) k free more j (omega arith)
+free_more k s free more j h = search rules
 
 -- ---- what is printed
 
-one_code : (t : Turn) → length (codes_of t) ≤ 1
+-- orders that only go on print nothing, and none of them is a stop
+pub quiet_past : (k : ℕ) (s : State) → ((j : ℕ) → j < k → (step (state_after j s)).turn ≡ Went)
+    → progress k s ≡ record { state = state_after k s; codes = []; stops = 0 }
+unfolding progress
+quiet_past zero s went = refl
+quiet_past (suc k) s went =
+    let before = quiet_past k s (λ j l. went j (omega arith)) in
+    let codes : (progress k s).codes ≡ [] = ap (λ (p : Progress). p.codes) before in
+    let stops : (progress k s).stops ≡ 0 = ap (λ (p : Progress). p.stops) before in
+    let turn = went k (omega arith) in
+    rw (codes, stops, turn) refl
+
+pub quiet_codes : (k : ℕ) (s : State) → ((j : ℕ) → j < k → (step (state_after j s)).turn ≡ Went)
+    → (progress k s).codes ≡ []
+quiet_codes k s went = ap (λ (p : Progress). p.codes) (quiet_past k s went)
+
+pub quiet_stops : (k : ℕ) (s : State) → ((j : ℕ) → j < k → (step (state_after j s)).turn ≡ Went)
+    → (progress k s).stops ≡ 0
+quiet_stops k s went = ap (λ (p : Progress). p.stops) (quiet_past k s went)
+
+pub one_code : (t : Turn) → length (codes_of t) ≤ 1
 one_code Went = omega arith
 one_code (Printed code) = omega arith
 one_code Stopped = omega arith

@@ -1,6 +1,7 @@
 -- Many orders one after the other. A state in which no order can be obeyed stays the same, so any number of steps leads
 -- to a state; `AreObeyed` says that each of them obeyed an order.
 use Rattle.std.specs.Prelude.{◌≡◌, ℕ, zero, suc, ◌+◌, ◌<◌, List, [], ◌∷◌, ◌++◌, Bool, true, false, if◌then◌else◌}
+use Rattle.std.specs.Prelude.{Option, Some, None}
 use Rattle.ed_machine.specs.State.{State}
 use Rattle.ed_machine.specs.OrderTable.{step}
 use Rattle.ed_machine.specs.declared.turn.Turn.{Turn}
@@ -58,3 +59,8 @@ AreObeyed k s = (j : ℕ) → j < k → is_obeyed (step (state_after j s)).turn 
 unfoldable pub least : (ℕ → Bool) → ℕ → ℕ
 least test zero = zero
 least test (suc n) = if test (least test n) then least test n else suc n
+
+-- a test that may give an answer after each number of orders gives this one after k of them, and none before
+pub record IsFirstAnswer {A : Type 0} (test : ℕ → Option A) (k : ℕ) (answer : A) : Type 0 where
+  pub now : test k ≡ Some answer
+  pub first : (j : ℕ) → j < k → test j ≡ None

@@ -5,7 +5,7 @@ ghost use Rattle.ed_store.specs.Cells.{Cells, IsStore, long_at, sandwich_at, sho
 ghost use Rattle.ed_machine.specs.State.{State, cleared_state};
 ghost use Rattle.ed_machine.specs.OrderTable.{step};
 ghost use Rattle.ed_machine.specs.Sound.{CountsOrders, StaysSound};
-ghost use Rattle.ed_machine.specs.Steps.{is_obeyed};
+ghost use Rattle.ed_machine.specs.Steps.{is_obeyed, state_after};
 ghost use Rattle.ed_machine.specs.Reached.{IsReached, state_of};
 ghost use Rattle.ed_machine.specs.Start.{EndsWith, start_state, with_image};
 
@@ -185,6 +185,17 @@ impl Machine {
         match kind_of(function) {
             Some(kind) => self.obey(kind, word),
             None => Turn::NoOrder(function),
+        }
+    }
+
+    /// Obeys the next `count` orders, whatever they do.
+    pub fn obey_next(&mut self, count: u64)
+        requires { self.old.orders + count ≤ 2 ^ 63 }
+        ensures state { self.new ≡ state_after count self.old }
+        ensures count { self.new.orders ≤ self.old.orders + count }
+    {
+        for done in 0..count {
+            self.step();
         }
     }
 

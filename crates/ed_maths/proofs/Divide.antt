@@ -1,23 +1,20 @@
 -- The routine `divide`, by its listing. Its long word at 38 is four times a number that begins as the dividend and ends
 -- as the remainder and the quotient side by side.
-use Rattle.std.proofs.Common.{◌≡◌, ℕ, zero, suc, ◌+◌, ◌-◌, ◌*◌, ◌/◌, ◌%◌, ◌^◌}
-use Rattle.std.proofs.Common.{◌<◌, ◌≤◌, refl, arith, lit<, Bool, true, false}
-use Rattle.std.proofs.Common.{nat_eq, List, [], ◌∷◌, get_or, set, length}
-use Rattle.std.proofs.lemmas.Bool.Decides.{nat_tests}
-use Rattle.std.proofs.lemmas.List.{get_or-set_same}
+use Rattle.ed_maths.proofs.Kit.{nat_tests, get_or-set_same, A_F, E_F, G_F, R_D, S_F, T_F, G_stays, R, T_top, followed}
+use Rattle.ed_maths.proofs.Kit.{RD, Call, moment, [], arith, Bool, false, get_or, length, List, lit<, refl, set, suc}
+use Rattle.ed_maths.proofs.Kit.{true, zero, ℕ, ◌%◌, ◌*◌, ◌+◌, ◌-◌, ◌/◌, ◌<◌, ◌^◌, ◌∷◌, ◌≡◌, ◌≤◌, locations_most, Moment, short}
+use Rattle.ed_maths.proofs.Kit.{A, E_jumps, G_jumps, S, T, on, Path, stay, any, early, out, own, ones}
+use Rattle.ed_routines.proofs.Kit.{L, U, LD}
+use Rattle.std.proofs.Common.{nat_eq}
 use Rattle.ed_words.specs.Words.{long_of_halves}
-use Rattle.ed_words.proofs.SizeLemmas.{most}
-use Rattle.ed_words.specs.declared.order_words.TheConstants.{A_D, A_F, E_F, G_F, L_D, L_F, R_D, R_F, S_F, T_D, T_F, U_F}
-use Rattle.ed_machine.proofs.Kit.Frames.{Moment, short, long}
-use Rattle.ed_machine.proofs.Kit.Places.{IsOutside, early, own, pair, out, any}
-use Rattle.ed_machine.proofs.Kit.Shifts.{RF, RD, LD, LF, L2F}
+use Rattle.ed_words.specs.declared.order_words.TheConstants.{A_D, L_D, L_F, R_F, T_D, U_F}
+use Rattle.ed_machine.proofs.Kit.Frames.{long}
+use Rattle.ed_machine.proofs.Kit.Moves.{U_top, E_stays}
+use Rattle.ed_machine.proofs.Kit.Places.{IsOutside, pair}
+use Rattle.ed_machine.proofs.Kit.Shifts.{RF, LF, L2F}
 use Rattle.ed_machine.proofs.Kit.Sums.{parted}
-use Rattle.ed_machine.proofs.Kit.Moves.{A, S, T, T_top, U, U_top, R, L, E_jumps, E_stays, G_jumps, G_stays}
-use Rattle.ed_machine.proofs.Kit.Paths.{Path, stay, on, followed}
-use Rattle.ed_routines.proofs.Called.{Call, moment}
-use Rattle.ed_maths.proofs.Quotient.{bit, next, numbers, quotient, decided}
-use Rattle.ed_maths.proofs.Quotient.{small as small_quotient, hit, hits, hits_ones}
-use Rattle.ed_maths.specs.Quotients.{ones}
+use Rattle.ed_maths.proofs.Quotient.{bit, next, numbers, quotient, numbers-decided, quotient-small as small_quotient, hit, hits}
+use Rattle.ed_maths.proofs.Quotient.{hits_ones}
 
 -- a long word by its two cells and the digit between
 pub record Long : Type 0 where
@@ -174,7 +171,7 @@ module _ (given : Given) where
   opened : (w : Work) → Path f 13 (run ws w (short (A_F + 2 * m)) 0) []
       (run ws (work (2 ^ 17 - 16) (4 * (65536 * h + l)) w.at40) (short (2 ^ 17 - 16)) 13)
   opened w =
-      let b = most f.size in
+      let b = locations_most f.size in
       let top = f.fits in
       let back = room in
       let third = at3 in
@@ -216,18 +213,18 @@ module _ (given : Given) where
   abbrev n : ℕ
   n = 65536 * h + l
 
-  pub whole : (w : Work) (k : ℕ) → k + ones 16 (n / d) ≡ 212
+  pub Path-whole : (w : Work) (k : ℕ) → k + ones 16 (n / d) ≡ 212
       → Path f k (run ws w (short (A_F + 2 * m)) 0) []
       (record (run (set (set ws high (n % d)) low (n / d)) (work 0 (4 * numbers d 15 n) (2 ^ 17 - 1)) 0 0)
       { counter = m + 2 })
   unfolding ones
-  whole w k total =
+  Path-whole w k total =
       let e : 65536 * d - 1 + 1 ≡ 65536 * d = omega (arith, positive) in
       let few = small in
       let smaller = less in
       let divisor = fits in
       let one = positive in
-      let r = decided d (65536 * d - 1) e n (quotient d 15 0 n) refl (omega arith) positive in
+      let r = numbers-decided d (65536 * d - 1) e n (quotient d 15 0 n) refl (omega arith) positive in
       let fits_q : n / d < 65536 = rw r.0 (small_quotient d (65536 * d - 1) e n) in
       let sum : numbers d 15 n ≡ 65536 * (n % d) + n / d = rw r.0 (r.1) in
       let fits_r : n % d < 32768 = omega (arith, r.2) in

@@ -1,36 +1,23 @@
 -- `divide`, from the library's table to what it does.
-use Rattle.std.proofs.Common.{◌≡◌, ◌≢◌, ℕ, zero, suc, ◌+◌, ◌-◌, ◌*◌, ◌/◌, ◌%◌, ◌^◌}
-use Rattle.std.proofs.Common.{◌<◌, refl, sym, ap, ◌∙◌, subst, arith, false}
-use Rattle.std.proofs.Common.{List, [], ◌∷◌, get_or, set, length, inl, inr}
-use Rattle.std.proofs.lemmas.List.{get_or-set_same, get_or-set_other, length-set}
-use Rattle.ed_words.proofs.SizeLemmas.{most}
-use Rattle.ed_words.specs.declared.order_words.TheConstants.{A_F}
-use Rattle.ed_orders.specs.declared.kind.Kind.{Kind}
-use Rattle.ed_store.specs.Cells.{short_at}
-use Rattle.ed_machine.specs.State.{State}
-use Rattle.ed_machine.specs.Steps.{state_after}
-use Rattle.ed_machine.proofs.Kit.Frames.{Frame, state, short}
+use Rattle.ed_maths.proofs.Kit.{◌≢◌, get_or-set_other, get_or-set_same, length-set, A_F, get_above, get_below, beside}
+use Rattle.ed_maths.proofs.Kit.{Call, call_of, holds, image, IsWithin, get_or-kept, Makes, more, none, [], ap, arith, false}
+use Rattle.ed_maths.proofs.Kit.{get_or, inl, inr, length, List, refl, set, subst, suc, sym, zero, ℕ, ◌%◌, ◌*◌, ◌+◌}
+use Rattle.ed_maths.proofs.Kit.{◌-◌, ◌/◌, ◌<◌, ◌^◌, ◌∙◌, ◌∷◌, ◌≡◌, locations_most, short_at, State, Frame, short, state, Leads}
+use Rattle.ed_maths.proofs.Kit.{leads, Path, Holds, length_patched, patched, IsOther, caller, IsLoadedAt, IsOutside}
+use Rattle.ed_maths.proofs.Kit.{divide_orders, dividend, ones}
 use Rattle.ed_machine.proofs.Kit.Places.{IsOutside as IsBeside}
-use Rattle.ed_machine.proofs.Kit.Orders.{IsOrder}
-use Rattle.ed_machine.proofs.Kit.Paths.{Path, leads, each}
-use Rattle.ed_machine.proofs.Kit.Leads.{Leads}
-use Rattle.ed_machine.proofs.Kit.Standing.{Holds, opens}
-use Rattle.ed_machine.proofs.Kit.Window.{patched, patched_self, get_below, get_above, length_patched}
-use Rattle.ed_routines.specs.Standing.{Stands, IsOutside, caller}
-use Rattle.ed_routines.specs.Returns.{IsOther}
-use Rattle.ed_routines.proofs.Image.{Makes, none, more}
-use Rattle.ed_routines.proofs.Called.{Call, IsWithin, image, holds, kept, beside, call_of}
-use Rattle.ed_maths.specs.Quotients.{divide, with_hnm, dividend, divide_orders, ones, IsDivision, IsOtherPair}
-use Rattle.ed_maths.specs.Quotients.{HasDivided}
-use Rattle.ed_maths.proofs.Quotient.{numbers}
+use Rattle.ed_machine.proofs.Kit.Standing.{opens}
+use Rattle.ed_machine.proofs.Kit.Window.{patched_self}
+use Rattle.ed_maths.specs.Quotients.{divide, with_hnm, IsDivision, IsOtherPair, HasDivided}
+use Rattle.ed_maths.proofs.Divide.{Given, Work, cells, digits, run, work, Path-whole}
 use Rattle.ed_maths.proofs.Ones.{few_ones}
-use Rattle.ed_maths.proofs.Divide.{Given, Work, cells, digits, run, work, whole}
+use Rattle.ed_maths.proofs.Quotient.{numbers}
 
 -- `divide` is called in a state, and all is below a location
 pub record CallsDivide (b high low by top : ℕ) (s : State) : Type 0 where
   pub all : length s.store.words ≡ 1024
   pub all_digits : length s.store.sandwich ≡ 512
-  pub stands : Stands divide (with_hnm high low by) b s
+  pub stands : IsLoadedAt divide (with_hnm high low by) b s
   pub even : b % 2 ≡ 0
   pub division : IsDivision b high low by s
   pub within : IsWithin 41 b high top s
@@ -57,7 +44,7 @@ module _ {b high low by top : ℕ} {s : State} (o : CallsDivide b high low by to
 
   makes : Makes (with_hnm high low by) hs
   makes =
-      let size = most s.size in
+      let size = locations_most s.size in
       let first = high_outside.below in
       let second = low_outside.below in
       let third = by_outside.below in
@@ -93,7 +80,7 @@ module _ {b high low by top : ℕ} {s : State} (o : CallsDivide b high low by to
     all = o.all;
     at3 = o.stands.at3;
     room = o.within.back;
-    inside = let size = most s.size in let below = high_outside.below in omega arith;
+    inside = let size = locations_most s.size in let below = high_outside.below in omega arith;
     away_high = away s.store.words o.all high_outside o.within.near;
     away_low = away s.store.words o.all low_outside o.near_low;
     away_by = away s.store.words o.all by_outside o.near_by;
@@ -125,7 +112,7 @@ module _ {b high low by top : ℕ} {s : State} (o : CallsDivide b high low by to
 
   begins : state f (run given s.store.words first (short (A_F + 2 * caller s)) 0) s.orders ≡ s
   begins =
-      let size = most s.size in
+      let size = locations_most s.size in
       let fits = o.stands.fits in
       let words : patched 0 s.store.words b (cells b high low by first) ≡ s.store.words =
       opens (image divide b hs) s.store.words b (omega (arith, fits, o.all)) image_holds in
@@ -151,7 +138,7 @@ module _ {b high low by top : ℕ} {s : State} (o : CallsDivide b high low by to
 
   path : Path f (divide_orders (n / d)) (run given s.store.words first (short (A_F + 2 * caller s)) 0) []
       (record (run given ws left 0 0) { counter = caller s + 2 })
-  path = whole given first (divide_orders (n / d)) total
+  path = Path-whole given first (divide_orders (n / d)) total
 
   abbrev pub last : State
   last = record s {
@@ -166,7 +153,7 @@ module _ {b high low by top : ℕ} {s : State} (o : CallsDivide b high low by to
 
   pub all_last : length last.store.words ≡ 1024
   all_last =
-      let size = most s.size in
+      let size = locations_most s.size in
       let fits = o.stands.fits in
       let long : length ws ≡ 1024 = length-set (set s.store.words high (n % d)) low (n / d) ∙ long_set (n % d) in
       length_patched 0 ws b (cells b high low by left) (omega (arith, long, fits)) ∙ long
@@ -174,12 +161,6 @@ module _ {b high low by top : ℕ} {s : State} (o : CallsDivide b high low by to
   -- that many orders lead to the order after the call
   pub leads_to : Leads (divide_orders (n / d)) s [] last
   leads_to = subst (λ x. Leads (divide_orders (n / d)) x [] last) begins (leads path s.orders)
-
-  -- what holds of every order that stays below the location holds before each of them
-  pub keeps_below : (P : State → Type 0) → ((kind : Kind) (x : State) → IsOrder top kind x → P x) → (j : ℕ)
-      → j < divide_orders (n / d)
-      → P (state_after j s)
-  keeps_below P order j l = subst (λ x. P (state_after j x)) begins (each P order path s.orders j l)
 
   -- a word outside the routine
   outside : (h : ℕ) → IsOutside divide b h s → get_or last.store.words h 0 ≡ get_or ws h 0
@@ -202,18 +183,18 @@ module _ {b high low by top : ℕ} {s : State} (o : CallsDivide b high low by to
 
   stays : (i : ℕ) → i ≢ high → i ≢ low → IsOther divide b i → get_or last.store.words i 0 ≡ get_or s.store.words i 0
   stays i not_high not_low free =
-      kept hs free ws (cells b high low by left) refl refl still ∙ others i not_high not_low
+      get_or-kept hs free ws (cells b high low by left) refl refl still ∙ others i not_high not_low
 
   at_low : get_or last.store.words low 0 ≡ n / d
   at_low =
-      let size = most s.size in
+      let size = locations_most s.size in
       let below = low_outside.below in
       let long = long_set (n % d) in
       outside low low_outside ∙ get_or-set_same (set s.store.words high (n % d)) low (n / d) 0 (omega arith)
 
   at_high : get_or last.store.words high 0 ≡ n % d
   at_high =
-      let size = most s.size in
+      let size = locations_most s.size in
       let below = high_outside.below in
       outside high high_outside
       ∙ get_or-set_other (set s.store.words high (n % d)) low high (n / d) 0 o.division.high_low

@@ -1,15 +1,15 @@
 -- The integer square root of a number is the greatest whose square is at most that number.
-use Rattle.std.proofs.Common.{◌≡◌, ℕ, zero, suc, ◌+◌, ◌*◌, ◌<◌, refl, arith, Bool, true, false, nat_le}
-use Rattle.std.specs.Prelude.{if◌then◌else◌}
-use Rattle.ed_words.proofs.Numbers.{le_of, not_le_of}
-use Rattle.ed_maths.specs.Roots.{IsRoot, root_of, root_up_to}
+use Rattle.ed_maths.proofs.Kit.{nat_le, arith, Bool, false, refl, suc, true, zero, ℕ, ◌*◌, ◌+◌, ◌<◌, ◌≡◌, IsRoot}
+use Rattle.std.proofs.Common.{if◌then◌else◌}
+use Rattle.std.proofs.lemmas.Bool.{leb-true, leb-false}
+use Rattle.ed_maths.specs.Roots.{root_of, root_up_to}
 
 by_test : (k n below : ℕ) (t : Bool) → nat_le (suc k * suc k) n ≡ t → n < (suc k + 1) * (suc k + 1)
     → (n < (k + 1) * (k + 1) → IsRoot n below)
     → IsRoot n (if t then suc k else below)
-by_test k n below true e low rest = record { square = le_of (suc k * suc k) n e; greatest = low }
+by_test k n below true e low rest = record { square = leb-true (suc k * suc k) n e; greatest = low }
 by_test k n below false e low rest =
-    let high = not_le_of (suc k * suc k) n e in
+    let high = leb-false (suc k * suc k) n e in
     let s : suc k * suc k ≡ (k + 1) * (k + 1) = omega arith in
     rest (omega arith)
 

@@ -5,3 +5,4 @@ pub mod Quotient
 pub mod Divide
 pub mod DivideCall
 pub mod Greatest
+pub mod Kit

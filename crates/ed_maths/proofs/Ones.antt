@@ -1,18 +1,18 @@
 -- One binary digit more.
-use Rattle.std.proofs.Common.{◌≡◌, ℕ, zero, suc, ◌+◌, ◌-◌, ◌/◌, ◌%◌, ◌<◌, ◌≤◌, refl, arith, lit≤}
-use Rattle.ed_maths.specs.Quotients.{ones}
+use Rattle.ed_maths.proofs.Kit.{arith, refl, suc, zero, ℕ, ◌%◌, ◌+◌, ◌-◌, ◌/◌, ◌<◌, ◌≡◌, ◌≤◌, ones}
+use Rattle.std.proofs.Common.{lit≤}
 
 next : (k q : ℕ) → ones (suc k) q ≡ q % 2 + ones k (q / 2)
 unfolding ones
 next k q = refl
 
-pub none : (q : ℕ) → ones 0 q ≡ 0
+pub ones-none : (q : ℕ) → ones 0 q ≡ 0
 unfolding ones
-none q = refl
+ones-none q = refl
 
-pub counted : (done sum rest number : ℕ) → done < 16 → sum + ones (16 - done) rest ≡ ones 16 number
+pub ones-counted : (done sum rest number : ℕ) → done < 16 → sum + ones (16 - done) rest ≡ ones 16 number
     → (sum + rest % 2) + ones (16 - (done + 1)) (rest / 2) ≡ ones 16 number
-counted done sum rest number below h =
+ones-counted done sum rest number below h =
     let e : 16 - done ≡ suc (16 - (done + 1)) = omega arith in
     let n = next (16 - (done + 1)) rest in
     let g : sum + ones (suc (16 - (done + 1))) rest ≡ ones 16 number = rw e at h in

@@ -1,15 +1,10 @@
 -- The routine `root`, by its listing: it subtracts the odd numbers 1, 3, 5 and so on from the number, as long as it
 -- can.
-use Rattle.std.proofs.Common.{◌≡◌, ℕ, zero, suc, ◌+◌, ◌-◌, ◌*◌, ◌^◌, ◌<◌, ◌≤◌, refl, arith}
-use Rattle.std.proofs.Common.{List, [], ◌∷◌, get_or, set, length, lit<}
-use Rattle.ed_words.proofs.SizeLemmas.{most}
-use Rattle.ed_words.specs.declared.order_words.TheConstants.{A_F, E_F, G_F, R_D, S_F, T_F}
-use Rattle.ed_machine.proofs.Kit.Frames.{Moment, short}
-use Rattle.ed_machine.proofs.Kit.Places.{IsOutside, early, own, out, any}
-use Rattle.ed_machine.proofs.Kit.Shifts.{RD}
-use Rattle.ed_machine.proofs.Kit.Moves.{A, S, T, T_top, R, E_jumps, G_jumps, G_stays}
-use Rattle.ed_machine.proofs.Kit.Paths.{Path, stay, on, followed}
-use Rattle.ed_routines.proofs.Called.{Call, moment}
+use Rattle.ed_maths.proofs.Kit.{A_F, E_F, G_F, R_D, S_F, T_F, G_stays, R, T_top, followed, RD, Call, moment, [], arith}
+use Rattle.ed_maths.proofs.Kit.{get_or, length, List, lit<, refl, set, suc, zero, ℕ, ◌*◌, ◌+◌, ◌-◌, ◌<◌, ◌^◌, ◌∷◌, ◌≡◌}
+use Rattle.ed_maths.proofs.Kit.{◌≤◌, locations_most, Moment, short, A, E_jumps, G_jumps, S, T, on, Path, stay, any, early, out}
+use Rattle.ed_maths.proofs.Kit.{own}
+use Rattle.ed_machine.proofs.Kit.Places.{IsOutside}
 
 -- the words that change: the order that returns, what is left of the number, and the next odd number
 pub record Work : Type 0 where
@@ -54,7 +49,7 @@ module _ (given : Given) where
 
   opened : (w : Work) → Path f 6 (run ws w (A_F + 2 * m) 0) [] (run ws (rest n 1) 0 6)
   opened w =
-      let b = most f.size in
+      let b = locations_most f.size in
       let fits = f.fits in
       let third = at3 in
       let back = room in
@@ -112,10 +107,10 @@ module _ (given : Given) where
       (on (T_top 17 (out target away_target) r refl (omega arith))
       (on (E_jumps 18 (any (m + 2) there) refl (lit< tt)) stay)))))))
 
-  pub whole : (w : Work) (r : ℕ) → r * r ≤ n → n < (r + 1) * (r + 1) → r < 256
+  pub Path-whole : (w : Work) (r : ℕ) → r * r ≤ n → n < (r + 1) * (r + 1) → r < 256
       → Path f (14 + 8 * r) (run ws w (A_F + 2 * m) 0) []
       (record (run (set ws target r) (rest (n - r * r + 2 ^ 17 - (2 * r + 1)) (2 * r + 1)) 0 0) { counter = m + 2 })
-  whole w r below above fits =
+  Path-whole w r below above fits =
       let e : 14 + 8 * r ≡ 6 + (8 * r + 8) = omega arith in
       let t : (r + 1) * (r + 1) ≡ r * r + (2 * r + 1) = omega arith in
       let z : 0 + r ≡ r = omega arith in

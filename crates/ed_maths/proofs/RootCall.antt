@@ -1,26 +1,14 @@
 -- `root`, from the library's table to what it does.
-use Rattle.std.proofs.Common.{◌≡◌, ◌≢◌, ℕ, ◌+◌, ◌-◌, ◌*◌, ◌^◌, ◌<◌, refl, ap, ◌∙◌, subst, arith}
-use Rattle.std.proofs.Common.{List, [], ◌∷◌, get_or, set, length, inl, inr}
+use Rattle.ed_maths.proofs.Kit.{◌≢◌, get_or-set_other, get_or-set_same, length-set, A_F, get_above, get_below, beside}
+use Rattle.ed_maths.proofs.Kit.{call_of, holds, image, IsWithin, get_or-kept, Makes, more, none, [], ap, arith, get_or, inl}
+use Rattle.ed_maths.proofs.Kit.{inr, length, List, refl, set, subst, ℕ, ◌*◌, ◌+◌, ◌-◌, ◌<◌, ◌^◌, ◌∙◌, ◌∷◌, ◌≡◌, locations_most}
+use Rattle.ed_maths.proofs.Kit.{short_at, State, Frame, state, Leads, leads, Path, Holds, length_patched, patched}
+use Rattle.ed_maths.proofs.Kit.{IsOther, caller, IsLoadedAt, IsOutside, IsRoot, root_orders}
 use Rattle.std.proofs.lemmas.Bool.{cases_lt}
-use Rattle.std.proofs.lemmas.List.{get_or-set_same, get_or-set_other, length-set}
-use Rattle.ed_words.proofs.SizeLemmas.{most}
-use Rattle.ed_words.specs.declared.order_words.TheConstants.{A_F}
-use Rattle.ed_orders.specs.declared.kind.Kind.{Kind}
-use Rattle.ed_store.specs.Cells.{short_at}
-use Rattle.ed_machine.specs.State.{State}
-use Rattle.ed_machine.specs.Steps.{state_after}
-use Rattle.ed_machine.proofs.Kit.Frames.{Frame, state}
-use Rattle.ed_machine.proofs.Kit.Orders.{IsOrder}
-use Rattle.ed_machine.proofs.Kit.Paths.{Path, leads, each}
-use Rattle.ed_machine.proofs.Kit.Leads.{Leads}
-use Rattle.ed_machine.proofs.Kit.Standing.{Holds}
-use Rattle.ed_machine.proofs.Kit.Window.{patched, get_below, get_above, length_patched}
-use Rattle.ed_routines.specs.Standing.{Stands, IsOutside, caller}
-use Rattle.ed_routines.specs.Returns.{IsOther, KeepsBut, Returned}
-use Rattle.ed_routines.proofs.Image.{Makes, none, more}
-use Rattle.ed_routines.proofs.Called.{IsWithin, image, holds, kept, beside, call_of, begins}
-use Rattle.ed_maths.specs.Roots.{root, with_hn, IsRoot, root_orders}
-use Rattle.ed_maths.proofs.Root.{Given, Work, cells, run, rest, whole}
+use Rattle.ed_routines.specs.Returns.{KeepsBut, Returned}
+use Rattle.ed_routines.proofs.Called.{state-begins}
+use Rattle.ed_maths.specs.Roots.{root, with_hn}
+use Rattle.ed_maths.proofs.Root.{Given, Work, cells, run, rest, Path-whole}
 
 -- a number below 65536 has a root below 256
 pub few : (n r : ℕ) → IsRoot n r → n < 65536 → r < 256
@@ -40,7 +28,7 @@ few n r is small =
 -- `root` is called in a state, for the root r of the number at one location, and all is below a location
 pub record CallsRoot (b source target top r : ℕ) (s : State) : Type 0 where
   pub all : length s.store.words ≡ 1024
-  pub stands : Stands root (with_hn source target) b s
+  pub stands : IsLoadedAt root (with_hn source target) b s
   pub source_outside : IsOutside root b source s
   pub target_outside : IsOutside root b target s
   pub within : IsWithin 23 b source top s
@@ -73,7 +61,7 @@ module _ {b source target top r : ℕ} {s : State} (o : CallsRoot b source targe
 
   makes : Makes (with_hn source target) hs
   makes =
-      let size = most s.size in
+      let size = locations_most s.size in
       let first = o.source_outside.below in
       let second = o.target_outside.below in
       more (omega arith) refl (more (omega arith) refl none)
@@ -89,7 +77,7 @@ module _ {b source target top r : ℕ} {s : State} (o : CallsRoot b source targe
   }
 
   starts : state f (run given s.store.words first (A_F + 2 * caller s) 0) s.orders ≡ s
-  starts = begins hs o.stands o.within o.all image_holds
+  starts = state-begins hs o.stands o.within o.all image_holds
 
   abbrev ws : List ℕ
   ws = set s.store.words target r
@@ -100,7 +88,8 @@ module _ {b source target top r : ℕ} {s : State} (o : CallsRoot b source targe
 
   path : Path f (root_orders r) (run given s.store.words first (A_F + 2 * caller s) 0) []
       (record (run given ws left 0 0) { counter = caller s + 2 })
-  path = whole given first r o.is_root.square o.is_root.greatest (few (short_at s.store source) r o.is_root o.small)
+  path = Path-whole given first r o.is_root.square o.is_root.greatest
+      (few (short_at s.store source) r o.is_root o.small)
 
   abbrev pub last : State
   last = record s {
@@ -112,7 +101,7 @@ module _ {b source target top r : ℕ} {s : State} (o : CallsRoot b source targe
 
   pub all_last : length last.store.words ≡ 1024
   all_last =
-      let size = most s.size in
+      let size = locations_most s.size in
       let fits = o.stands.fits in
       let long : length ws ≡ 1024 = length-set s.store.words target r ∙ o.all in
       length_patched 0 ws b (cells b source target left) (omega (arith, long, fits)) ∙ long
@@ -121,16 +110,10 @@ module _ {b source target top r : ℕ} {s : State} (o : CallsRoot b source targe
   pub leads_to : Leads (root_orders r) s [] last
   leads_to = subst (λ x. Leads (root_orders r) x [] last) starts (leads path s.orders)
 
-  -- what holds of every order that stays below the location holds before each of them
-  pub keeps_below : (P : State → Type 0) → ((kind : Kind) (x : State) → IsOrder top kind x → P x) → (j : ℕ)
-      → j < root_orders r
-      → P (state_after j s)
-  keeps_below P order j l = subst (λ x. P (state_after j x)) starts (each P order path s.orders j l)
-
   -- a word outside the working locations is unchanged, and the root is at its target
   stays : (i : ℕ) → i ≢ target → IsOther root b i → get_or last.store.words i 0 ≡ get_or s.store.words i 0
   stays i other free =
-      kept hs free ws (cells b source target left) refl refl still
+      get_or-kept hs free ws (cells b source target left) refl refl still
       ∙ get_or-set_other s.store.words target i r 0 other
     where
       apart : (j : ℕ) → j < 23 → b + j ≢ target
@@ -141,7 +124,7 @@ module _ {b source target top r : ℕ} {s : State} (o : CallsRoot b source targe
 
   at_target : get_or last.store.words target 0 ≡ r
   at_target =
-      let size = most s.size in
+      let size = locations_most s.size in
       let below = o.target_outside.below in
       let all = o.all in
       elim o.target_outside.beside [

@@ -1,16 +1,16 @@
 ghost use Rattle.std.specs.Prelude.{◌≡◌, ◌≢◌, ◌+◌, ◌*◌, ◌^◌, ◌<◌, ◌≤◌};
 ghost use Rattle.ed_store.specs.Cells.{short_at};
 ghost use Rattle.ed_routines.specs.Returns.{IsAfter, KeepsBut, Returned};
-ghost use Rattle.ed_routines.specs.Standing.{IsOutside, Stands, caller};
+ghost use Rattle.ed_routines.specs.Standing.{IsOutside, IsLoadedAt, caller};
 ghost use Rattle.ed_maths.specs.Roots.{IsRoot, root, root_orders, with_hn};
 
 use ed_machine::Machine;
-use ed_routines::{Back, obey_count, way_back};
+use ed_routines::{Back, return_address};
 
 /// Runs `root` at `base` with H = 2 · source and N = 2 · target: it puts the integer square root of the word at
 /// `source`, which is below 65536, at `target`.
 pub fn square_root(machine: &mut Machine, base: u16, source: u16, target: u16) -> Back
-    requires stands { Stands root (with_hn source target) base machine.old }
+    requires stands { IsLoadedAt root (with_hn source target) base machine.old }
     requires source { IsOutside root base source machine.old }
     requires target { IsOutside root base target machine.old }
     requires differ { source ≢ target }
@@ -24,9 +24,9 @@ pub fn square_root(machine: &mut Machine, base: u16, source: u16, target: u16) -
     ensures returned { Returned result.orders machine.old.tape machine.old.last machine.old machine.new }
     ensures words { KeepsBut target root base machine.old machine.new }
 {
-    let at = way_back(machine);
+    let at = return_address(machine);
     let orders = 14 + 8 * u64::from(root_of(machine.word(source).value()));
-    obey_count(machine, orders);
+    machine.obey_next(orders);
     Back { at, orders }
 }
 

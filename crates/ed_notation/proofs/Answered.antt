@@ -1,17 +1,16 @@
 -- From what a reading leaves to what a check answers.
-use Rattle.std.proofs.Common.{◌≡◌, ℕ, ◌+◌, ◌*◌, ◌≤◌, ◌∙◌, ap, sym, subst, arith, Bool, List, length, take, ◌++◌, Err}
+use Rattle.ed_notation.proofs.Kit.{Bool, length, List, take, ℕ, ◌++◌, ◌+◌, ◌≡◌, ◌≤◌, Size, ap, arith, sym, ◌*◌, ◌∙◌}
+use Rattle.ed_notation.proofs.Kit.{Arrives, NotationState, opening_with}
+use Rattle.std.proofs.Common.{Err}
 use Rattle.std.proofs.Math.Seq.{take-append_seam}
-use Rattle.ed_words.specs.declared.size.Size.{Size}
 use Rattle.ed_store.specs.Cells.{Cells}
-use Rattle.ed_notation.specs.declared.reader.Reached.{Reached}
+use Rattle.ed_notation.specs.Checks.{Accepts, AnswersCheck, ReadsCopy}
+use Rattle.ed_notation.specs.Reports.{Report}
 use Rattle.ed_notation.specs.declared.cause.TapeFault.{TapeFault}
 use Rattle.ed_notation.specs.declared.cause.TapeFault.TheVariants.{At, Memory}
-use Rattle.ed_notation.specs.Fold.{NotationState}
-use Rattle.ed_notation.specs.Openings.{opening_with}
-use Rattle.ed_notation.specs.Checks.{Accepts, AnswersCheck, Arrives, ReadsCopy}
-use Rattle.ed_notation.specs.Reports.{Report}
+use Rattle.ed_notation.specs.declared.reader.Reached.{Reached}
 use Rattle.ed_notation.proofs.Contents.{word_is}
-use Rattle.ed_notation.proofs.Costs.{most}
+use Rattle.ed_notation.proofs.Costs.{cost-most}
 use Rattle.ed_notation.proofs.Sound.{well_sound}
 
 abbrev pub report_of : Reached → List ℕ → List Bool → Report
@@ -25,8 +24,8 @@ report_of r contents marks = record {
 }
 
 -- the marks, as the slice that was read through gives them back
-pub whole : (m xs : List Bool) (n : ℕ) → length m ≡ n → take n (m ++ xs) ≡ m
-whole m xs n l = ap (λ k. take k (m ++ xs)) (sym l) ∙ take-append_seam m xs
+pub take-whole : (m xs : List Bool) (n : ℕ) → length m ≡ n → take n (m ++ xs) ≡ m
+take-whole m xs n l = ap (λ k. take k (m ++ xs)) (sym l) ∙ take-append_seam m xs
 
 module _ {z : Size} {words : List ℕ} {start : NotationState} {base : ℕ} {rows : List ℕ} {r : Reached}
     {contents : List ℕ}
@@ -46,13 +45,12 @@ module _ {z : Size} {words : List ℕ} {start : NotationState} {base : ℕ} {row
         (word_is words a.locations_are a.entry.notation.placed i h a.places);
   }
 
-  pub bounded : r.orders ≤ 17 * r.rows + base
-  bounded = omega (arith, a.orders_are, a.rows_are, most words start base rows a.entry a.comes)
+  pub orders-bounded : r.orders ≤ 17 * r.rows + base
+  orders-bounded = omega (arith, a.orders_are, a.rows_are, cost-most words start base rows a.entry a.comes)
 
 -- a fault over a copy of the store is the answer over the store
-pub refused : (z : Size) {store copy : Cells} (directive base : ℕ) (rows : List ℕ) (f : TapeFault)
+pub AnswersCheck-refused : (z : Size) {store copy : Cells} (directive base : ℕ) (rows : List ℕ) (f : TapeFault)
     (left : List ℕ × List Bool) → copy ≡ store → ReadsCopy z copy.words directive base rows (Err f) left.0 left.1
     → AnswersCheck z store.words (opening_with directive store.words) base rows (Err f)
-refused z directive base rows Memory left same h = tt
-refused z directive base rows (At row cause) left same h =
-    subst (λ (s : Cells). AnswersCheck z s.words (opening_with directive s.words) base rows (Err (At row cause))) same h
+AnswersCheck-refused z directive base rows Memory left same h = tt
+AnswersCheck-refused z directive base rows (At row cause) left same h = rw (← same) h

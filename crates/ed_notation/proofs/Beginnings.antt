@@ -1,23 +1,16 @@
 -- The beginning of a tape up to its fault: no rule is broken before it, and no row of it costs more than 17 orders.
-use Rattle.std.proofs.Common.{◌≡◌, ◌⊎◌, ℕ, ◌+◌, ◌*◌, ◌<◌, ◌≤◌, inl, inr, refl, sym, arith, lit≤, true, true≢false}
-use Rattle.std.proofs.Common.{Option, Some, None, List, [], ◌∷◌, ◌++◌, ap, ◌∙◌, length, length-append}
-use Rattle.ed_words.specs.declared.size.Size.{Size}
-use Rattle.ed_notation.specs.declared.cause.TapeCause.{TapeCause}
-use Rattle.ed_notation.specs.declared.cause.TapeCause.TheVariants.{EndOfTape}
-use Rattle.ed_notation.specs.Items.{Begun, mark_rows, spelled_rows}
-use Rattle.ed_notation.specs.Fold.{NotationState}
-use Rattle.ed_notation.specs.Faults.{IsFault, IsRead, cause_number, is_broken, part_rows}
-use Rattle.ed_notation.specs.Beginnings.{IsSoundTo, part_cost, orders_before}
+use Rattle.ed_notation.proofs.Kit.{[], inl, inr, length, length-append, List, lit≤, None, Option, refl, Some, true}
+use Rattle.ed_notation.proofs.Kit.{true≢false, ℕ, ◌++◌, ◌+◌, ◌∷◌, ◌≡◌, ◌≤◌, Size, ap, arith, sym, ◌*◌, ◌∙◌, IsSoundTo}
+use Rattle.ed_notation.proofs.Kit.{is_broken, IsFault, IsRead, part_rows, NotationState, Begun, mark_rows}
+use Rattle.ed_notation.proofs.Kit.{spelled_rows, TapeCause, EndOfTape}
+use Rattle.ed_notation.specs.Beginnings.{part_cost, orders_before}
 use Rattle.ed_notation.proofs.Costs.{all_most, mark_most}
 
 -- no rule is broken before a fault
 pub fault_sound : {z : Size} {words : List ℕ} {start : NotationState} {rows : List ℕ} {row : ℕ} {cause : TapeCause}
     → IsFault z words start rows row cause → IsSoundTo z words start rows row
-fault_sound {row = row} {cause} f r other b = by_order (f.least r other b)
-  where
-    by_order : (row < r) ⊎ ((row ≡ r) × (cause_number cause ≤ cause_number other)) → row ≤ r
-    by_order (inl less) = omega arith
-    by_order (inr same) = omega (arith, same.0)
+fault_sound {row = row} {cause} f r other b =
+    elim (f.least r other b) [ inl less ↦ omega arith | inr same ↦ omega (arith, same.0) ]
 
 -- where a tape must not end, it ends
 pub ended : (z : Size) (words : List ℕ) (n : NotationState) (part : Option Begun) (rest : List ℕ)
@@ -35,7 +28,7 @@ pub beginning_most : {words : List ℕ} {start : NotationState} {rows : List ℕ
     (r : IsRead words start rows row) → orders_before r ≤ 17 * length rows
 beginning_most {words} {start} {rows} r =
     let all : length rows ≡ length (spelled_rows r.before) + length (part_rows r.part ++ r.rest) =
-    ap length r.rows_are ∙ length-append (spelled_rows r.before) (part_rows r.part ++ r.rest) in
+    ap length r.rows_are ∙ length-append _ _ in
     omega (
       arith,
       all,

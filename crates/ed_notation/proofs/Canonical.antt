@@ -1,19 +1,12 @@
 -- The canonical spelling is a spelling.
-use Rattle.std.proofs.Common.{◌≡◌, ℕ, ◌<◌, ◌≤◌, refl, sym, ap, ◌∙◌, subst, arith, Bool, true}
-use Rattle.std.proofs.Common.{false, ◌&&◌, nat_lt, nat_le, List, [], ◌∷◌, ◌++◌}
-use Rattle.std.proofs.Common.{length, drop}
-use Rattle.std.proofs.lemmas.List.{append-nil, drop_all}
-use Rattle.ed_notation.specs.declared.item.Item.{Item}
-use Rattle.ed_notation.specs.declared.kind.RowKind.{RowKind}
-use Rattle.ed_notation.specs.declared.kind.RowKind.TheVariants.{Digit, Mark, Zed, Kay, Blank, Letter, Other}
-use Rattle.ed_notation.specs.Items.{row_kind, ends, digits_number, Written, AreDigits}
-use Rattle.ed_notation.specs.Items.{IsWritten, rows_of, spelled_rows, item, items}
-use Rattle.ed_notation.specs.Spellings.{AreWritten, SpellsAll, NoLeadingZero}
-use Rattle.ed_notation.specs.Spellings.{AreCanonical, digits_of, canonical, canonicals}
-use Rattle.ed_notation.specs.Spellings.{is_spellable, AreSpellable, IsSpelling, SpellableIsSpelled}
+use Rattle.ed_notation.proofs.Kit.{[], Bool, drop, false, length, List, nat_le, refl, true, ℕ, ◌++◌, ◌<◌, ◌∷◌, ◌≡◌}
+use Rattle.ed_notation.proofs.Kit.{◌≤◌, and_parts, le-leb, leb-false, leb-true, lt-ltb, ltb-true, append-nil, drop_all}
+use Rattle.ed_notation.proofs.Kit.{ap, arith, sym, ◌∙◌, AreDigits, digits_number, ends, IsWritten, item, items}
+use Rattle.ed_notation.proofs.Kit.{row_kind, rows_of, spelled_rows, Written, AreWritten, canonical, canonicals}
+use Rattle.ed_notation.proofs.Kit.{digits_of, is_spellable, SpellsAll, Item, RowKind, Blank, Digit, Mark, Other}
+use Rattle.std.proofs.lemmas.Bool.{and_from}
+use Rattle.ed_notation.specs.Spellings.{NoLeadingZero, AreCanonical, AreSpellable, IsSpelling, SpellableIsSpelled}
 use Rattle.ed_notation.proofs.Unique.{no_other}
-use Rattle.ed_words.proofs.Numbers.{le_of, not_le_of, le_true, lt_of, lt_true}
-use Rattle.std.proofs.lemmas.Bool.{and_from, and_parts}
 
 -- the digits of a number, without a leading zero
 pub record AreDigitsOf (n : ℕ) (ds : List ℕ) : Type 0 where
@@ -24,34 +17,34 @@ pub record AreDigitsOf (n : ℕ) (ds : List ℕ) : Type 0 where
 by_tests : {n : ℕ} {a b c d e : Bool} → n ≤ 32767 → nat_le 10000 n ≡ a → nat_le 1000 n ≡ b → nat_le 100 n ≡ c
     → nat_le 10 n ≡ d → nat_le 1 n ≡ e → AreDigitsOf n (digits_of n)
 by_tests {n} {a = true} h p q r s t =
-    let p' = le_of _ _ p in
-    let q' = le_true 1000 n (omega (arith, p')) in
-    let r' = le_true 100 n (omega (arith, p')) in
-    let s' = le_true 10 n (omega (arith, p')) in
-    let t' = le_true 1 n (omega (arith, p')) in
+    let p' = leb-true _ _ p in
+    let q' = le-leb 1000 n (omega (arith, p')) in
+    let r' = le-leb 100 n (omega (arith, p')) in
+    let s' = le-leb 10 n (omega (arith, p')) in
+    let t' = le-leb 1 n (omega (arith, p')) in
     rw (p, q', r', s', t') (omega (arith, p', h))
 by_tests {n} {a = false} {b = true} h p q r s t =
-    let p' = not_le_of _ _ p in
-    let q' = le_of _ _ q in
-    let r' = le_true 100 n (omega (arith, q')) in
-    let s' = le_true 10 n (omega (arith, q')) in
-    let t' = le_true 1 n (omega (arith, q')) in
+    let p' = leb-false _ _ p in
+    let q' = leb-true _ _ q in
+    let r' = le-leb 100 n (omega (arith, q')) in
+    let s' = le-leb 10 n (omega (arith, q')) in
+    let t' = le-leb 1 n (omega (arith, q')) in
     rw (p, q, r', s', t') (omega (arith, p', q'))
 by_tests {n} {a = false} {b = false} {c = true} h p q r s t =
-    let q' = not_le_of _ _ q in
-    let r' = le_of _ _ r in
-    let s' = le_true 10 n (omega (arith, r')) in
-    let t' = le_true 1 n (omega (arith, r')) in
+    let q' = leb-false _ _ q in
+    let r' = leb-true _ _ r in
+    let s' = le-leb 10 n (omega (arith, r')) in
+    let t' = le-leb 1 n (omega (arith, r')) in
     rw (p, q, r, s', t') (omega (arith, q', r'))
 by_tests {n} {a = false} {b = false} {c = false} {d = true} h p q r s t =
-    let r' = not_le_of _ _ r in
-    let s' = le_of _ _ s in
-    let t' = le_true 1 n (omega (arith, s')) in
+    let r' = leb-false _ _ r in
+    let s' = leb-true _ _ s in
+    let t' = le-leb 1 n (omega (arith, s')) in
     rw (p, q, r, s, t') (omega (arith, r', s'))
 by_tests {a = false} {b = false} {c = false} {d = false} {e = true} h p q r s t =
-    rw (p, q, r, s, t) (omega (arith, not_le_of _ _ s, le_of _ _ t))
+    rw (p, q, r, s, t) (omega (arith, leb-false _ _ s, leb-true _ _ t))
 by_tests {a = false} {b = false} {c = false} {d = false} {e = false} h p q r s t =
-    rw (p, q, r, s, t) (omega (arith, not_le_of _ _ t))
+    rw (p, q, r, s, t) (omega (arith, leb-false _ _ t))
 
 -- the digits of a number are its digits
 pub digits_are : (n : ℕ) → n ≤ 32767 → AreDigitsOf n (digits_of n)
@@ -64,11 +57,11 @@ record CanBeSpelled (i : Item) : Type 0 where
 
 can_be : (i : Item) → is_spellable i ≡ true → CanBeSpelled i
 can_be i h =
-    let all = and_parts (nat_lt i.function 32) (nat_le i.number 32767 && ends (row_kind i.end) (canonical i).begun) h in
-    let rest = and_parts (nat_le i.number 32767) (ends (row_kind i.end) (canonical i).begun) all.1 in
+    let all = and_parts _ _ h in
+    let rest = and_parts _ _ all.1 in
     record {
-      function = lt_of _ _ all.0;
-      number = le_of _ _ rest.0;
+      function = ltb-true _ _ all.0;
+      number = leb-true _ _ rest.0;
       ended = rest.1;
     }
 
@@ -121,18 +114,16 @@ ends_canonical : (r : RowKind) (f : ℕ) (ds : List ℕ) (m : Bool)
     → ends r (record { function = f; digits = digits_of (digits_number 0 ds); mark = m }) ≡ true
 ends_canonical Blank f [] m h = h
 ends_canonical Blank f (d ∷ ds) m h = cc
-ends_canonical Zed f ds m h = refl
-ends_canonical Kay f ds m h = refl
-ends_canonical Letter f ds m h = refl
 ends_canonical Digit f ds m h = cc
 ends_canonical Mark f ds m h = cc
 ends_canonical Other f ds m h = cc
+ends_canonical r f ds m h = refl
 
 spelled_can_be : (w : Written) → IsWritten w → is_spellable (item w) ≡ true
 spelled_can_be w good =
     let b = w.begun in
-    let ended = ends_canonical (row_kind w.end) b.function b.digits b.mark good.ended in
-    and_from _ _ (lt_true _ _ good.begun.function) (and_from _ _ (le_true _ _ good.begun.fits) ended)
+    let ended = ends_canonical _ _ b.digits b.mark good.ended in
+    and_from _ _ (lt-ltb _ _ good.begun.function) (and_from _ _ (le-leb _ _ good.begun.fits) ended)
 
 -- what can be spelled is what is spelled
 pub spellable_law : (i : Item) → SpellableIsSpelled i
@@ -141,7 +132,7 @@ spellable_law i = record {
     rows_of (canonical i),
     record { written = canonical i; good = is_written i h; item_is = same_item i h; rows_are = refl },
   );
-  spellable = λ rows s. subst (λ (j : Item). is_spellable j ≡ true) s.item_is (spelled_can_be s.written s.good);
+  spellable = λ rows s. rw (← s.item_is) (spelled_can_be _ s.good);
 }
 
 -- after the last item

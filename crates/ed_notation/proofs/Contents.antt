@@ -1,11 +1,10 @@
 -- The content of a location is the map's if it has the location, and the store's otherwise.
-use Rattle.std.proofs.Common.{◌≡◌, ◌≢◌, ℕ, ◌<◌, refl, sym, ◌∙◌, arith, Bool, true, false, nat_eq, if◌then◌else◌, Option}
-use Rattle.std.proofs.Common.{Some, None, List, [], ◌∷◌, length, get_or, set}
-use Rattle.std.specs.Prelude.{unwrap_or}
-use Rattle.std.proofs.lemmas.List.{get_or-set_same, get_or-set_other, length-set, length-replicate, get_or-replicate}
-use Rattle.ed_notation.specs.Fold.{over, placed_at}
-use Rattle.ed_notation.specs.Checks.{ArePlaces, ContentIsMapOrStore, marks_of}
-use Rattle.ed_words.proofs.Numbers.{eq_of, not_eq_of}
+use Rattle.ed_notation.proofs.Kit.{[], Bool, false, if◌then◌else◌, length, List, None, Option, refl, set, Some, true}
+use Rattle.ed_notation.proofs.Kit.{unwrap_or, ℕ, ◌<◌, ◌∷◌, ◌≡◌, ◌≢◌, eqb-false, eqb-true, get_or-set_other}
+use Rattle.ed_notation.proofs.Kit.{length-replicate, arith, get_or, nat_eq, sym, ◌∙◌, ArePlaces, marks_of, over}
+use Rattle.std.proofs.lemmas.List.{get_or-set_same, length-set, get_or-replicate}
+use Rattle.ed_notation.specs.Checks.{ContentIsMapOrStore}
+use Rattle.ed_notation.specs.Fold.{placed_at}
 
 pub length-over : (placed : List (ℕ × ℕ)) (words : List ℕ) → length (over placed words) ≡ length words
 length-over [] words = refl
@@ -16,7 +15,7 @@ length-marked [] = length-replicate {A = Bool} 1024 false
 length-marked (p ∷ placed) = length-set (marks_of placed) p.0 true ∙ length-marked placed
 
 differs : (a b : ℕ) → nat_eq a b ≡ false → b ≢ a
-differs a b h e = not_eq_of a b h (sym e)
+differs a b h e = eqb-false a b h (sym e)
 
 -- the content of a location
 pub content_is : ContentIsMapOrStore
@@ -30,7 +29,7 @@ content_is words l (p ∷ placed) a are = by_test (nat_eq p.0 a) refl (content_i
         → get_or (set W p.0 p.1) a 0 ≡ unwrap_or (if t then Some p.1 else placed_at placed a) (get_or words a 0)
     by_test true e h =
         let inside : p.0 < length W = omega (arith, are.0, length-over placed words, l) in
-        rw (sym (eq_of p.0 a e)) (get_or-set_same W p.0 p.1 0 inside)
+        rw (sym (eqb-true p.0 a e)) (get_or-set_same W p.0 p.1 0 inside)
     by_test false e h = get_or-set_other W p.0 a p.1 0 (differs p.0 a e) ∙ h
 
 abbrev word_where : Bool → ℕ → Option ℕ
@@ -54,7 +53,7 @@ word_is words l (p ∷ placed) a h are = by_test (nat_eq p.0 a) refl (word_is wo
     by_test true e h =
         let m : p.0 < length M = omega (arith, are.0, length-marked placed) in
         let inside : p.0 < length W = omega (arith, are.0, length-over placed words, l) in
-        let q = sym (eq_of p.0 a e) in
+        let q = sym (eqb-true p.0 a e) in
         rw (q, get_or-set_same M p.0 true false m, get_or-set_same W p.0 p.1 0 inside) refl
     by_test false e h =
         let d = differs p.0 a e in

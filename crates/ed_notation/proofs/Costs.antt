@@ -1,12 +1,8 @@
 -- No row costs more than 17 orders.
-use Rattle.std.proofs.Common.{ℕ, ◌+◌, ◌*◌, ◌≤◌, arith, lit≤, Bool, true, false, if◌then◌else◌, List, [], ◌∷◌, length}
-use Rattle.std.proofs.Common.{length-append}
-use Rattle.ed_words.specs.Words.{digit}
-use Rattle.ed_notation.specs.declared.kind.RowKind.{RowKind}
-use Rattle.ed_notation.specs.declared.kind.RowKind.TheVariants.{Letter}
-use Rattle.ed_notation.specs.Items.{row_kind, Written, mark_rows, begun_rows, rows_of, spelled_rows, item}
-use Rattle.ed_notation.specs.Fold.{NotationState, act, letter_action_of, enters_at, end_cost, cost_of, costs}
-use Rattle.ed_notation.specs.Faults.{TapeEntry, ComesTo}
+use Rattle.ed_notation.proofs.Kit.{[], Bool, false, if◌then◌else◌, length, length-append, List, lit≤, true, ℕ, ◌+◌}
+use Rattle.ed_notation.proofs.Kit.{◌∷◌, ◌≤◌, digit, arith, ◌*◌, RowsReachEntry, TapeEntry, act, cost_of, costs}
+use Rattle.ed_notation.proofs.Kit.{end_cost, enters_at, letter_action_of, NotationState, begun_rows, item, mark_rows}
+use Rattle.ed_notation.proofs.Kit.{row_kind, rows_of, spelled_rows, Written, RowKind, Letter}
 
 if_most : (b : Bool) → (if b then 13 else 17) ≤ 17
 if_most true = lit≤ tt
@@ -37,8 +33,8 @@ all_most words notation (w ∷ ws) =
       length-append (rows_of w) (spelled_rows ws),
     )
 
-pub most : (words : List ℕ) (start : NotationState) (base : ℕ) (rows : List ℕ) (e : TapeEntry)
-    → ComesTo words start base rows e
+pub cost-most : (words : List ℕ) (start : NotationState) (base : ℕ) (rows : List ℕ) (e : TapeEntry)
+    → RowsReachEntry words start base rows e
     → e.cost ≤ base + 17 * e.rows
-most words start base rows e c =
+cost-most words start base rows e c =
     omega (arith, c.cost_is, c.read_is, all_most words start c.before, one_most e.notation c.last)

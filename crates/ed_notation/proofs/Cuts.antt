@@ -1,11 +1,7 @@
 -- A tape cut at an item's end: rows, states and costs of the two sides.
-use Rattle.std.proofs.Common.{◌≡◌, ℕ, ◌+◌, refl, sym, ap, ◌∙◌, arith, List, [], ◌∷◌, ◌++◌, append_assoc}
-use Rattle.ed_notation.specs.declared.item.Item.{Item}
-use Rattle.ed_notation.specs.Items.{Written, rows_of, spelled_rows, item, items}
-use Rattle.ed_notation.specs.Fold.{NotationState, act, fold, costs}
-use Rattle.ed_words.specs.declared.size.Size.{Size}
-use Rattle.ed_notation.specs.Faults.{AreRead, AreSound}
-use Rattle.ed_notation.specs.Spellings.{canonical, canonicals}
+use Rattle.ed_notation.proofs.Kit.{[], append_assoc, List, refl, ℕ, ◌++◌, ◌+◌, ◌∷◌, ◌≡◌, Size, ap, arith, sym, ◌∙◌}
+use Rattle.ed_notation.proofs.Kit.{AreRead, AreSound, act, costs, fold, NotationState, item, items, rows_of}
+use Rattle.ed_notation.proofs.Kit.{spelled_rows, Written, canonical, canonicals, Item}
 
 pub items-append : (vs ws : List Written) → items (vs ++ ws) ≡ items vs ++ items ws
 items-append [] ws = refl
@@ -14,7 +10,7 @@ items-append (v ∷ vs) ws = ap (λ is. item v ∷ is) (items-append vs ws)
 pub spelled-append : (vs ws : List Written) → spelled_rows (vs ++ ws) ≡ spelled_rows vs ++ spelled_rows ws
 spelled-append [] ws = refl
 spelled-append (v ∷ vs) ws =
-    ap (λ rows. rows_of v ++ rows) (spelled-append vs ws) ∙ sym (append_assoc (rows_of v) (spelled_rows vs) (spelled_rows ws))
+    ap (λ rows. rows_of v ++ rows) (spelled-append vs ws) ∙ sym (append_assoc (rows_of v) _ _)
 
 pub fold-append : (words : List ℕ) (notation : NotationState) (is js : List Item)
     → fold words notation (is ++ js) ≡ fold words (fold words notation is) js

@@ -1,23 +1,11 @@
 -- The directive is a P, an E or a T at every row that the reader reaches.
-use Rattle.std.proofs.Common.{◌≡◌, ◌≢◌, ℕ, ◌+◌, ◌*◌, ◌≤◌, refl, subst, arith, Bool, true, false}
-use Rattle.std.proofs.Common.{nat_lt, nat_le, if◌then◌else◌, List}
-use Rattle.ed_words.specs.declared.size.Size.{Size}
-use Rattle.ed_words.specs.Sizes.{locations}
-use Rattle.ed_words.proofs.SizeLemmas.{most}
-use Rattle.ed_notation.specs.declared.reader.PartialItem.{PartialItem}
-use Rattle.ed_notation.specs.declared.reader.RowEffect.{RowEffect}
-use Rattle.ed_notation.specs.declared.reader.RowEffect.TheVariants.{Ended, Placed}
-use Rattle.ed_notation.specs.declared.kind.RowKind.{RowKind}
-use Rattle.ed_notation.specs.declared.kind.RowKind.TheVariants.{Digit, Mark, Zed, Kay, Blank, Letter, Other}
-use Rattle.ed_notation.specs.declared.kind.Control.{Control}
-use Rattle.ed_notation.specs.declared.kind.Control.TheVariants.{Directive, ThetaByBlank, ThetaByG, Neither}
-use Rattle.ed_notation.specs.declared.kind.LetterAction.{LetterAction}
-use Rattle.ed_notation.specs.declared.kind.LetterAction.TheVariants.{Places, Enters, Nowhere, Unset}
-use Rattle.ed_notation.specs.Fold.{NotationState, over, address, control_of, letter_action_of}
-use Rattle.ed_notation.specs.Openings.{IsDirective}
-use Rattle.ed_notation.specs.Faults.{is_place}
-use Rattle.ed_notation.specs.Reading.{row_effect, setting_of, kay_sets, zed_sets, letter_effect}
-use Rattle.ed_words.proofs.Numbers.{not_lt_of, not_le_of}
+use Rattle.ed_notation.proofs.Kit.{Bool, false, if◌then◌else◌, List, nat_le, nat_lt, refl, subst, true, ℕ, ◌+◌, ◌≡◌}
+use Rattle.ed_notation.proofs.Kit.{◌≢◌, ◌≤◌, leb-false, ltb-false, locations, Size, locations_most, arith, ◌*◌, is_place}
+use Rattle.ed_notation.proofs.Kit.{address, control_of, letter_action_of, NotationState, over, IsDirective}
+use Rattle.ed_notation.proofs.Kit.{letter_effect, row_effect, setting_of, Control, Directive, Neither, ThetaByBlank}
+use Rattle.ed_notation.proofs.Kit.{LetterAction, Enters, Places, RowKind, Blank, Digit, Kay, Letter, Mark, Other, Zed}
+use Rattle.ed_notation.proofs.Kit.{PartialItem, RowEffect, Ended, Placed}
+use Rattle.ed_notation.specs.Reading.{kay_sets, zed_sets}
 use Rattle.ed_notation.proofs.Tests.{ControlMeans, control_means, is_place_means}
 
 -- what a row does leaves a directive
@@ -52,30 +40,28 @@ module _ (z : Size) (words : List ℕ) (notation : NotationState) (i : PartialIt
   kay Directive e =
       let q = sets_directive i.function e in
       keep_if (nat_lt 1023 i.number) _ _ (λ h. tt) (λ h.
-      let l = not_lt_of _ _ h in
+      let l = ltb-false _ _ h in
       record {
         no_1 = omega (arith, l, q.no_1);
         no_2 = omega (arith, l, q.no_2);
         no_4 = omega (arith, l, q.no_4);
         most = omega (arith, l, q.most);
       })
-  kay ThetaByBlank e = keep_if (nat_lt 1023 i.number) _ _ (λ h. tt) (λ h. d)
-  kay ThetaByG e = keep_if (nat_lt 1023 i.number) _ _ (λ h. tt) (λ h. d)
   kay Neither e = tt
+  kay k e = keep_if (nat_lt 1023 i.number) _ _ (λ h. tt) (λ h. d)
 
   zed : (k : Control) → KeepsDirective notation (zed_sets k (setting_of notation) i)
   zed Directive =
       keep_if (is_place (4096 * i.function + 2 * i.number + notation.theta)) _ _ (λ h. place_directive _ h) (λ h. tt)
   zed ThetaByBlank = keep_if (nat_le 65536 (2 * i.number + notation.theta)) _ _ (λ h. tt) (λ h. d)
-  zed ThetaByG = tt
-  zed Neither = tt
+  zed k = tt
 
   letter : (k : LetterAction) (word : ℕ) → KeepsDirective notation (letter_effect z k (setting_of notation) word)
   letter Places word =
       keep_if (nat_lt (address notation.directive) 44) _ _ (λ h. tt) (λ h.
       keep_if (nat_le (locations z) (address notation.directive)) _ _ (λ g. tt) (λ g.
-      let l = not_le_of _ _ g in
-      let m = most z in
+      let l = leb-false _ _ g in
+      let m = locations_most z in
       record {
         no_1 = omega (arith, l, m, d.no_1);
         no_2 = omega (arith, l, m, d.no_2);
@@ -86,8 +72,7 @@ module _ (z : Size) (words : List ℕ) (notation : NotationState) (i : PartialIt
       keep_if (nat_le (locations z) (address notation.directive)) _ _ (λ h. tt) (λ h.
       keep_if (nat_le 65536 word) _ _ (λ h. tt) (λ h.
       keep_if (nat_lt (address notation.directive) 44) _ _ (λ h. tt) (λ h. tt)))
-  letter Nowhere word = tt
-  letter Unset word = tt
+  letter k word = tt
 
   -- whatever a row does
   pub keeps : (r : RowKind) → KeepsDirective notation
@@ -99,3 +84,7 @@ module _ (z : Size) (words : List ℕ) (notation : NotationState) (i : PartialIt
   keeps Blank = keep_if i.blank _ _ (λ h. d) (λ h. tt)
   keeps Letter = letter (letter_action_of notation.directive) _
   keeps Other = tt
+
+-- that of a tape before its first row
+pub first_directive : IsDirective 20568
+first_directive = omega arith

@@ -1,25 +1,12 @@
 -- The numbers of what a row does are in range.
-use Rattle.std.proofs.Common.{◌≡◌, ℕ, ◌+◌, ◌*◌, ◌/◌, ◌<◌, ◌≤◌, refl, arith, Bool, true, false, List}
-use Rattle.std.proofs.Common.{nat_eq, nat_le, nat_lt, if◌then◌else◌}
-use Rattle.ed_words.specs.declared.size.Size.{Size}
-use Rattle.ed_words.specs.Sizes.{locations}
-use Rattle.ed_words.proofs.Numbers.{eq_of, not_le_of, not_lt_of}
-use Rattle.ed_words.proofs.SizeLemmas.{most}
-use Rattle.ed_notation.specs.declared.cause.TapeCause.TheVariants.{AfterMark, BadRow, EntryInLoader}
-use Rattle.ed_notation.specs.declared.cause.TapeCause.TheVariants.{EntryNegative, LoaderStore, NumberTooLarge, StoreEnd}
-use Rattle.ed_notation.specs.declared.kind.RowKind.{RowKind}
-use Rattle.ed_notation.specs.declared.kind.RowKind.TheVariants.{Digit, Mark, Zed, Kay, Blank, Letter, Other}
-use Rattle.ed_notation.specs.declared.kind.Control.{Control}
-use Rattle.ed_notation.specs.declared.kind.Control.TheVariants.{Directive, ThetaByBlank, ThetaByG, Neither}
-use Rattle.ed_notation.specs.declared.kind.LetterAction.{LetterAction}
-use Rattle.ed_notation.specs.declared.kind.LetterAction.TheVariants.{Places, Enters, Nowhere, Unset}
-use Rattle.ed_notation.specs.declared.reader.DirectiveState.{DirectiveState}
-use Rattle.ed_notation.specs.declared.reader.PartialItem.{PartialItem}
-use Rattle.ed_notation.specs.declared.reader.RowEffect.{RowEffect}
-use Rattle.ed_notation.specs.declared.reader.RowEffect.TheVariants.{Refused, Longer, Ended, Placed, Entered}
-use Rattle.ed_notation.specs.Faults.{is_place}
-use Rattle.ed_notation.specs.Fold.{address, control_of, letter_action_of}
-use Rattle.ed_notation.specs.Reading.{digit_effect, kay_effect, zed_effect, letter_effect, part_word, row_effect}
+use Rattle.ed_notation.proofs.Kit.{Bool, false, if◌then◌else◌, List, nat_le, nat_lt, refl, true, ℕ, ◌+◌, ◌<◌, ◌≡◌, ◌≤◌}
+use Rattle.ed_notation.proofs.Kit.{eqb-true, leb-false, ltb-false, locations, Size, locations_most, arith, nat_eq, ◌*◌, ◌/◌}
+use Rattle.ed_notation.proofs.Kit.{is_place, address, control_of, letter_action_of, letter_effect, row_effect}
+use Rattle.ed_notation.proofs.Kit.{AfterMark, BadRow, EntryInLoader, EntryNegative, LoaderStore, NumberTooLarge}
+use Rattle.ed_notation.proofs.Kit.{StoreEnd, Control, Directive, Neither, ThetaByBlank, LetterAction, Enters, Nowhere}
+use Rattle.ed_notation.proofs.Kit.{Places, Unset, RowKind, Blank, Digit, Kay, Letter, Mark, Other, Zed, DirectiveState}
+use Rattle.ed_notation.proofs.Kit.{PartialItem, RowEffect, Ended, Entered, Longer, Placed, Refused}
+use Rattle.ed_notation.specs.Reading.{digit_effect, kay_effect, zed_effect}
 
 -- the numbers of what a row does are in range
 abbrev pub IsEffectInRange : DirectiveState → RowEffect → Type 0
@@ -31,13 +18,12 @@ IsEffectInRange setting (Entered at) = at < 1024
 
 -- a T directive is below 24576
 places_low : (d : ℕ) → letter_action_of d ≡ Places → d < 24576
-places_low d is =
-    by_test (nat_eq (d / 4096) 5) (nat_eq (d / 4096) 3) (nat_eq (d / 4096) 0) refl is
+places_low d is = by_test _ _ _ refl is
   where
     by_test : (t e p : Bool) → nat_eq (d / 4096) 5 ≡ t
         → ◌≡◌ {A = LetterAction} (if t then Places else if e then Enters else if p then Nowhere else Unset) Places
         → d < 24576
-    by_test true e p is h = let five = eq_of (d / 4096) 5 is in omega (arith, five)
+    by_test true e p is h = let five = eqb-true (d / 4096) 5 is in omega (arith, five)
     by_test false true p is h = cc
     by_test false false true is h = cc
     by_test false false false is h = cc
@@ -62,7 +48,7 @@ module _ (z : Size) (setting : DirectiveState) (part : PartialItem) where
           else Longer (record part { number = 10 * part.number + c; blank = false }) 9)
       by_tests true t is = tt
       by_tests false true is = tt
-      by_tests false false is = (not_lt_of 32767 (10 * part.number + c) is, omega arith)
+      by_tests false false is = (ltb-false 32767 (10 * part.number + c) is, omega arith)
 
   mark : (m : Bool) → part.number ≤ 32767
       → IsEffectInRange setting (if m then Refused AfterMark else Longer (record part { mark = true; blank = false }) 15)
@@ -76,20 +62,17 @@ module _ (z : Size) (setting : DirectiveState) (part : PartialItem) where
 
   kay : (m : Bool) (control : Control) → IsEffectInRange setting (kay_effect control setting (record part { mark = m }))
   kay true control = tt
-  kay false Directive = ended (nat_lt 1023 part.number) _ 16 (omega arith)
-  kay false ThetaByBlank = ended (nat_lt 1023 part.number) _ 16 (omega arith)
-  kay false ThetaByG = ended (nat_lt 1023 part.number) _ 16 (omega arith)
   kay false Neither = tt
+  kay false control = ended (nat_lt 1023 part.number) _ 16 (omega arith)
 
   zed : (m : Bool) (control : Control) → IsEffectInRange setting (zed_effect control setting (record part { mark = m }))
-  zed true control = tt
   zed false Directive = placed (is_place (4096 * part.function + 2 * part.number + setting.theta)) _
   zed false ThetaByBlank = ended (nat_le 65536 (2 * part.number + setting.theta)) _ 17 (omega arith)
-  zed false ThetaByG = tt
-  zed false Neither = tt
+  zed m control = tt
 
   in_store : (a : ℕ) → nat_le (locations z) a ≡ false → a < 1024
-  in_store a below = let few = most z in let under = not_le_of (locations z) a below in omega (arith, few, under)
+  in_store a below = let few = locations_most z in let under =
+      leb-false (locations z) a below in omega (arith, few, under)
 
   letter : (action : LetterAction) (word : ℕ) → letter_action_of setting.directive ≡ action
       → IsEffectInRange setting (letter_effect z action setting word)
@@ -103,8 +86,7 @@ module _ (z : Size) (setting : DirectiveState) (part : PartialItem) where
       by_tests true u below = tt
       by_tests false true below = tt
       by_tests false false below = (in_store at below, places_low setting.directive is)
-  letter Enters word is =
-      by_tests (nat_le (locations z) at) (nat_le 65536 word) (nat_lt at 44) refl
+  letter Enters word is = by_tests _ _ (nat_lt at 44) refl
     where
       at : ℕ
       at = address setting.directive
@@ -116,8 +98,7 @@ module _ (z : Size) (setting : DirectiveState) (part : PartialItem) where
       by_tests false true l below = tt
       by_tests false false true below = tt
       by_tests false false false below = in_store at below
-  letter Nowhere word is = tt
-  letter Unset word is = tt
+  letter action word is = tt
 
 -- what a row of some kind does
 pub in_range : (z : Size) (kind : RowKind) (words : List ℕ) (setting : DirectiveState) (part : PartialItem) (c : ℕ)
@@ -127,6 +108,5 @@ in_range z Mark words setting part c few = mark z setting part part.mark few
 in_range z Zed words setting part c few = zed z setting part part.mark (control_of part.function)
 in_range z Kay words setting part c few = kay z setting part part.mark (control_of part.function)
 in_range z Blank words setting part c few = blank z setting part part.blank
-in_range z Letter words setting part c few =
-    letter z setting part (letter_action_of setting.directive) (part_word words setting part c) refl
+in_range z Letter words setting part c few = letter z setting part _ _ refl
 in_range z Other words setting part c few = tt

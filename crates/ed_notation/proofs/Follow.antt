@@ -1,28 +1,15 @@
 -- The reader goes over rows that spell items as the fold of the items says, or it finds a fault on the way.
-use Rattle.std.proofs.Common.{◌≡◌, ℕ, suc, ◌+◌, ◌*◌, ◌<◌, ◌≤◌, ◌⊎◌, inl, inr}
-use Rattle.std.proofs.Common.{refl, sym, ap, ◌∙◌, subst, arith, Bool, true}
-use Rattle.std.proofs.Common.{false, ◌&&◌, nat_lt, nat_eq, Option, Some, None, List, [], ◌∷◌, ◌++◌, length}
-use Rattle.std.proofs.Common.{length-append, append_assoc, true≢false}
-use Rattle.ed_words.specs.declared.size.Size.{Size}
-use Rattle.ed_words.specs.Words.{digit}
-use Rattle.ed_notation.specs.declared.cause.TapeCause.{TapeCause}
-use Rattle.ed_notation.specs.declared.cause.TapeCause.TheVariants.{BadRow}
-use Rattle.ed_notation.specs.declared.reader.PartialItem.{PartialItem}
-use Rattle.ed_notation.specs.declared.reader.RowEffect.{RowEffect}
-use Rattle.ed_notation.specs.declared.reader.RowEffect.TheVariants.{Refused, Longer, Ended, Placed, Entered}
-use Rattle.ed_notation.specs.declared.kind.RowKind.{RowKind}
-use Rattle.ed_notation.specs.Items.{row_kind, Begun, Written, digits_number, is_empty, mark_rows}
-use Rattle.ed_notation.specs.Items.{begun_rows, rows_of, IsBegun, IsWritten, AreDigits, ends, item, item_of}
-use Rattle.ed_notation.specs.Openings.{IsDirective}
-use Rattle.ed_notation.specs.Fold.{NotationState, over, address, act, ending_effect, entering, begun_cost, end_cost}
-use Rattle.ed_notation.specs.Fold.{cost_of}
-use Rattle.ed_notation.specs.Faults.{part_rows}
-use Rattle.ed_notation.specs.Reading.{row_effect, setting_of, set_by, placed_by, entry_by}
-use Rattle.ed_notation.specs.Reading.{reading_on, Verdict, Faulty, Arrived, part_of}
-use Rattle.ed_notation.proofs.Rows.{RowLaw, row_law_of, as_part, first}
+use Rattle.ed_notation.proofs.Kit.{[], append_assoc, Bool, false, inl, inr, length, length-append, List, nat_lt, None}
+use Rattle.ed_notation.proofs.Kit.{Option, refl, Some, suc, true, true≢false, ℕ, ◌&&◌, ◌++◌, ◌+◌, ◌<◌, ◌∷◌, ◌≡◌, ◌≤◌}
+use Rattle.ed_notation.proofs.Kit.{◌⊎◌, and-false, add-zero, le-ltb, lt-ltb, digit, Size, ap, arith, nat_eq, sym, ◌*◌}
+use Rattle.ed_notation.proofs.Kit.{◌∙◌, part_rows, act, address, begun_cost, cost_of, end_cost, ending_effect}
+use Rattle.ed_notation.proofs.Kit.{entering, NotationState, over, AreDigits, Begun, begun_rows, digits_number, ends}
+use Rattle.ed_notation.proofs.Kit.{is_empty, IsBegun, IsWritten, item, item_of, mark_rows, row_kind, rows_of, Written}
+use Rattle.ed_notation.proofs.Kit.{IsDirective, Arrived, entry_by, Faulty, part_of, placed_by, reading_on, row_effect}
+use Rattle.ed_notation.proofs.Kit.{set_by, setting_of, Verdict, TapeCause, BadRow, RowKind, PartialItem, RowEffect}
+use Rattle.ed_notation.proofs.Kit.{Ended, Entered, Longer, Placed, Refused}
 use Rattle.ed_notation.proofs.Directives.{KeepsDirective, keeps}
-use Rattle.ed_words.proofs.Numbers.{lt_true, lt_false}
-use Rattle.std.proofs.Math.Bool.{and-false}
+use Rattle.ed_notation.proofs.Rows.{RowLaw, row_law_of, as_part, first}
 
 -- where the reader is: the store that it reads for, the number of rows and orders before it, and the state of the
 -- notation
@@ -105,7 +92,7 @@ function_read p f rows h =
 
 pub function_begins : (p : Reader) (f : ℕ) (rows : List ℕ) → f < 32
     → reads p None (f ∷ rows) ≡ reads (passed p 1 6 p.notation) (Some (part_of f)) rows
-function_begins p f rows h = function_read p f rows (lt_true f 32 h)
+function_begins p f rows h = function_read p f rows (lt-ltb f 32 h)
 
 -- digit rows
 digits_read : (p : Reader) (ds rest : List ℕ) (f n : ℕ) (blank : Bool) → AreDigits ds → digits_number n ds ≤ 32767
@@ -113,16 +100,13 @@ digits_read : (p : Reader) (ds rest : List ℕ) (f n : ℕ) (blank : Bool) → A
     ≡ reads (passed p (length ds) (9 * length ds) p.notation)
     (Some (record { function = f; number = digits_number n ds; mark = false; blank = is_empty ds && blank })) rest
 unfolding reading_on
-digits_read p [] rest f n blank are fits =
-    let r : p.row + 0 ≡ p.row = omega arith in
-    let k : p.cost + 0 ≡ p.cost = omega arith in
-    rw (r, k) refl
+digits_read p [] rest f n blank are fits = rw (add-zero p.row, add-zero p.cost) refl
 digits_read p (d ∷ ds) rest f n blank are fits =
     let small : 10 * n + d ≤ 32767 = omega (arith, fits, number_le ds (10 * n + d)) in
     let r : p.row + suc (length ds) ≡ p.row + 1 + length ds = omega arith in
     let k : p.cost + 9 * suc (length ds) ≡ p.cost + 9 + 9 * length ds = omega arith in
-    let a = lt_true d 10 are.0 in
-    let b = lt_false 32767 (10 * n + d) small in
+    let a = lt-ltb d 10 are.0 in
+    let b = le-ltb 32767 _ small in
     let part : PartialItem = record { function = f; number = n; mark = false; blank = blank } in
     let t : row_effect p.size (row_kind d) (over p.notation.placed p.words) (setting_of p.notation) part d
     ≡ Longer (record { function = f; number = 10 * n + d; mark = false; blank = false }) 9 = rw (a, b) refl in
@@ -135,10 +119,7 @@ mark_read : (p : Reader) (f : ℕ) (ds rest : List ℕ) (m : Bool)
     ≡ reads (passed p (length (mark_rows m)) (15 * digit m) p.notation)
     (Some (as_part (record { function = f; digits = ds; mark = m }))) rest
 unfolding reading_on
-mark_read p f ds rest false =
-    let r : p.row + 0 ≡ p.row = omega arith in
-    let k : p.cost + 0 ≡ p.cost = omega arith in
-    rw (r, k) refl
+mark_read p f ds rest false = rw (add-zero p.row, add-zero p.cost) refl
 mark_read p f ds rest true = rw (and-false (is_empty ds)) refl
 
 -- the rows of an item before its ending
@@ -165,7 +146,7 @@ pub to_end : (p : Reader) (w : Written) (rest : List ℕ) → IsWritten w
     → reads p None (rows_of w ++ rest) ≡ reads (inside p (Some w.begun)) (Some (as_part w.begun)) (w.end ∷ rest)
 to_end p w rest good =
     ap (λ x. reads p None x) (append_assoc (begun_rows w.begun) (w.end ∷ []) rest)
-    ∙ begun_read p w.begun (w.end ∷ rest) good.begun
+    ∙ begun_read p w.begun _ good.begun
 
 -- a fault before a row
 pub record Early (v : Verdict) (row : ℕ) : Type 0 where
@@ -218,11 +199,10 @@ module _ (p : Reader) (w : Written) (rest : List ℕ) where
       → entering r p.notation ≡ false → (next t ≡ reads closed None rest) × IsDirective closed.notation.directive
   goes_by (Refused cause) u h s e n = let q : Some cause ≡ None = sym h ∙ s in absurd (cc)
   goes_by (Longer i k) u h s e n = absurd (true≢false (sym e ∙ h.1))
-  goes_by (Ended m k) u h s e n =
-      (rw (h.1.notation_is, h.1.cost_is) refl, subst (λ (x : NotationState). IsDirective x.directive) h.1.notation_is u)
+  goes_by (Ended m k) u h s e n = (rw (h.1.notation_is, h.1.cost_is) refl, rw (← h.1.notation_is) u)
   goes_by (Placed at word) u h s e n = (
     rw (h.1.notation_is, sym h.1.cost_is) refl,
-    subst (λ (x : NotationState). IsDirective x.directive) h.1.notation_is u,
+    rw (← h.1.notation_is) u,
   )
   goes_by (Entered at) u h s e n = absurd (true≢false (sym h.1.entered ∙ n))
 
@@ -230,33 +210,23 @@ module _ (p : Reader) (w : Written) (rest : List ℕ) where
       → next t ≡ arrived
   arrives_by (Refused cause) h s e n = let q : Some cause ≡ None = sym h ∙ s in absurd (cc)
   arrives_by (Longer i k) h s e n = absurd (true≢false (sym e ∙ h.1))
-  arrives_by (Ended m k) h s e n = absurd (true≢false (sym n ∙ h.1.goes_on))
-  arrives_by (Placed at word) h s e n = absurd (true≢false (sym n ∙ h.1.goes_on))
   arrives_by (Entered at) h s e n = rw h.1.at_is refl
+  arrives_by t h s e n = absurd (true≢false (sym n ∙ h.1.goes_on))
 
   ended_by : (t : RowEffect) → KeepsDirective p.notation t → Law t → ends r b ≡ true → entering r p.notation ≡ false
       → Goes (next t) (reads closed None rest) closed.row closed.notation.directive
   ended_by (Refused cause) u h e n = inr (record { at = p.row; cause = cause; is = refl; before = omega arith })
-  ended_by (Longer i k) u h e n = inl (goes_by (Longer i k) u h h.0 e n)
-  ended_by (Ended m k) u h e n = inl (goes_by (Ended m k) u h h.0 e n)
-  ended_by (Placed at word) u h e n = inl (goes_by (Placed at word) u h h.0 e n)
-  ended_by (Entered at) u h e n = inl (goes_by (Entered at) u h h.0 e n)
+  ended_by t u h e n = inl (goes_by t u h h.0 e n)
 
   entered_by : (t : RowEffect) → Law t → ends r b ≡ true → entering r p.notation ≡ true
       → Passes (next t) arrived (p.row + 1)
   entered_by (Refused cause) h e n = inr (record { at = p.row; cause = cause; is = refl; before = omega arith })
-  entered_by (Longer i k) h e n = inl (arrives_by (Longer i k) h h.0 e n)
-  entered_by (Ended m k) h e n = inl (arrives_by (Ended m k) h h.0 e n)
-  entered_by (Placed at word) h e n = inl (arrives_by (Placed at word) h h.0 e n)
-  entered_by (Entered at) h e n = inl (arrives_by (Entered at) h h.0 e n)
+  entered_by t h e n = inl (arrives_by t h h.0 e n)
 
   refused_by : (t : RowEffect) {cause : TapeCause} → Law t → first_broken ≡ Some cause → next t ≡ Faulty p.row cause
   refused_by (Refused k) {cause} h e =
-      let q : Some k ≡ Some cause = sym h ∙ e in let s : k ≡ cause = cc in rw s refl
-  refused_by (Longer i k) {cause} h e = let q : None ≡ Some cause = sym h.0 ∙ e in cc
-  refused_by (Ended m k) {cause} h e = let q : None ≡ Some cause = sym h.0 ∙ e in cc
-  refused_by (Placed at word) {cause} h e = let q : None ≡ Some cause = sym h.0 ∙ e in cc
-  refused_by (Entered at) {cause} h e = let q : None ≡ Some cause = sym h.0 ∙ e in cc
+      let s : k ≡ cause = cc in rw s refl
+  refused_by t {cause} h e = let q : None ≡ Some cause = sym h.0 ∙ e in cc
 
   module _ (set : IsDirective p.notation.directive) where
     abbrev t : RowEffect
@@ -277,14 +247,14 @@ module _ (p : Reader) (w : Written) (rest : List ℕ) where
     arrives good s n = arrives_by t (is_law good.begun) s good.ended n
 
     -- the same of a row that may break a rule
-    pub ended : IsWritten w → entering r p.notation ≡ false
+    pub Goes-ended : IsWritten w → entering r p.notation ≡ false
         → Goes here (reads closed None rest) closed.row closed.notation.directive
     unfolding reading_on
-    ended good n = ended_by t (seen_keeps p.size p.words p.notation b c set) (is_law good.begun) good.ended n
+    Goes-ended good n = ended_by t (seen_keeps p.size p.words p.notation b c set) (is_law good.begun) good.ended n
 
-    pub entered : IsWritten w → entering r p.notation ≡ true → Passes here arrived (p.row + 1)
+    pub Passes-entered : IsWritten w → entering r p.notation ≡ true → Passes here arrived (p.row + 1)
     unfolding reading_on
-    entered good n = entered_by t (is_law good.begun) good.ended n
+    Passes-entered good n = entered_by t (is_law good.begun) good.ended n
 
     -- it breaks a rule
     pub refused : IsBegun b → {cause : TapeCause} → first_broken ≡ Some cause → here ≡ Faulty p.row cause

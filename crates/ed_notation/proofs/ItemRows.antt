@@ -1,11 +1,8 @@
 -- The rows of items are those of their canonical spellings.
-use Rattle.std.proofs.Common.{◌≡◌, ℕ, refl, ap, ◌∙◌, Bool, true, false, List, [], ◌∷◌, ◌++◌}
-use Rattle.std.proofs.Common.{if◌then◌else◌}
-use Rattle.std.specs.List.{flat_map}
+use Rattle.ed_notation.proofs.Kit.{[], Bool, false, if◌then◌else◌, List, refl, true, ℕ, ◌++◌, ◌∷◌, ◌≡◌, flat_map, ap}
+use Rattle.ed_notation.proofs.Kit.{◌∙◌, mark_rows, rows_of, spelled_rows, canonical, canonicals, digits_of, Item}
 use Rattle.ed_codes.specs.declared.letters.TheConstants.{PI}
-use Rattle.ed_notation.specs.declared.item.Item.{Item}
-use Rattle.ed_notation.specs.Items.{mark_rows, rows_of, spelled_rows}
-use Rattle.ed_notation.specs.Spellings.{canonical, canonicals, digits_of, item_rows}
+use Rattle.ed_notation.specs.Spellings.{item_rows}
 
 marks_are : (mark : Bool) → ◌≡◌ {A = List ℕ} (if mark then PI ∷ [] else []) (mark_rows mark)
 marks_are true = refl

@@ -1,23 +1,16 @@
 -- The reader by rows and the rules by items say the same, both ways.
-use Rattle.std.proofs.Common.{◌≡◌, ℕ, Bool, false, if◌then◌else◌, ◌+◌, ◌<◌}
-use Rattle.std.proofs.Common.{◌≤◌, ◌⊎◌, inl, inr, refl, sym, ap, ◌∙◌, subst}
-use Rattle.std.proofs.Common.{arith, true, None, Some, List, [], ◌∷◌, ◌++◌, length-append}
-use Rattle.ed_words.specs.declared.size.Size.{Size}
-use Rattle.ed_notation.specs.declared.cause.TapeCause.{TapeCause}
-use Rattle.ed_notation.specs.declared.kind.RowKind.{RowKind}
-use Rattle.ed_notation.specs.declared.kind.RowKind.TheVariants.{Letter}
-use Rattle.ed_notation.specs.Items.{row_kind, begun_rows, rows_of, item_of}
-use Rattle.ed_notation.specs.Openings.{IsDirective}
-use Rattle.ed_notation.specs.Fold.{NotationState, item_word, address, letter_action_of, enters_at}
-use Rattle.ed_notation.specs.Fold.{entering, end_cost, cost_of}
-use Rattle.ed_notation.specs.Faults.{cause_number, TapeEntry, Breaks, IsFault, WellFormed, ComesTo}
-use Rattle.ed_notation.specs.Reading.{ReadingIsRules, ReadingAlwaysIsRules, reading_on, Verdict, Faulty, Arrived}
-use Rattle.ed_notation.specs.Reading.{entry_by}
-use Rattle.ed_notation.proofs.Rows.{as_part}
+use Rattle.ed_notation.proofs.Kit.{[], Bool, false, if◌then◌else◌, inl, inr, length-append, List, None, refl, Some}
+use Rattle.ed_notation.proofs.Kit.{subst, true, ℕ, ◌++◌, ◌+◌, ◌<◌, ◌∷◌, ◌≡◌, ◌≤◌, ◌⊎◌, Size, ap, arith, sym, ◌∙◌}
+use Rattle.ed_notation.proofs.Kit.{Breaks, cause_number, IsFault, RowsReachEntry, TapeEntry, WellFormed, address}
+use Rattle.ed_notation.proofs.Kit.{cost_of, end_cost, entering, enters_at, item_word, letter_action_of, NotationState}
+use Rattle.ed_notation.proofs.Kit.{begun_rows, item_of, row_kind, rows_of, IsDirective, Arrived, entry_by, Faulty}
+use Rattle.ed_notation.proofs.Kit.{reading_on, ReadingIsRules, Verdict, TapeCause, RowKind, Letter}
+use Rattle.ed_notation.specs.Reading.{ReadingAlwaysIsRules}
+use Rattle.ed_notation.proofs.Follow.{Reader, reads, inside, to_end, Early, Passes, Goes, Passes-entered}
 use Rattle.ed_notation.proofs.Least.{same}
-use Rattle.ed_notation.proofs.Follow.{Reader, reads, inside, to_end, Early, Passes, Goes, entered}
-use Rattle.ed_notation.proofs.Passes.{behind_all, many, broken_found}
-use Rattle.ed_notation.proofs.Tells.{Tells, TellsFault, TellsEntry, tells}
+use Rattle.ed_notation.proofs.Passes.{behind_all, Goes-many, broken_found}
+use Rattle.ed_notation.proofs.Rows.{as_part}
+use Rattle.ed_notation.proofs.Tells.{Tells, TellsFault, TellsEntry, Told-tells}
 
 row_same : {a b : ℕ} {k l : TapeCause} → Faulty a k ≡ Faulty b l → a ≡ b
 row_same e = cc
@@ -57,7 +50,7 @@ module _ (z : Size) (words : List ℕ) (start : NotationState) (base : ℕ) (row
   here = record { size = z; words = words; row = 0; cost = base; notation = start }
 
   told : Tells here rows answer
-  told = let none : base + 0 ≡ base = omega arith in rw none at (tells rows here None set tt)
+  told = let none : base + 0 ≡ base = omega arith in rw none at (Told-tells rows here None set tt)
 
   moved : {a row : ℕ} {cause : TapeCause} → row ≡ 0 + a → Breaks z words start rows a cause
       → Breaks z words start rows row cause
@@ -80,11 +73,11 @@ module _ (z : Size) (words : List ℕ) (start : NotationState) (base : ℕ) (row
   arrived_well h row cause b = let f = broken_found base set b in not_both (sym f.is ∙ h)
 
   -- and the entry is that of the items
-  pub arrived_comes : {e : TapeEntry} → answer ≡ Arrived e → ComesTo words start base rows e
+  pub arrived_comes : {e : TapeEntry} → answer ≡ Arrived e → RowsReachEntry words start base rows e
   arrived_comes {e} h =
       let t : TellsEntry here rows e = subst (λ v. Tells here rows v) h told in
       let q : t.read ≡ e.rows = omega (arith, t.rows_are) in
-      subst (λ x. ComesTo words start base rows (record e { rows = x })) q t.comes
+      rw (← q) t.comes
 
   if_faulty : (v : Verdict) (row : ℕ) (cause : TapeCause)
       → ((r : ℕ) (c : TapeCause) → v ≡ Faulty r c → IsFault z words start rows r c)
@@ -115,7 +108,7 @@ module _ (z : Size) (words : List ℕ) (start : NotationState) (base : ℕ) (row
       absurd (no_fault well n (record { at = h.at; cause = h.cause; is = e ∙ h.is; before = h.before }))
 
   -- if no rule is broken the reader reaches the entry of the items
-  pub comes_arrived : (e : TapeEntry) → WellFormed z words start rows → ComesTo words start base rows e
+  pub comes_arrived : (e : TapeEntry) → WellFormed z words start rows → RowsReachEntry words start base rows e
       → answer ≡ Arrived e
   comes_arrived e well c =
       let w = c.last in
@@ -124,9 +117,9 @@ module _ (z : Size) (words : List ℕ) (start : NotationState) (base : ℕ) (row
       let q : Reader = inside p (Some b) in
       let notation = p.notation in
       let a = kept_set (no_fault well) (ap (λ x. reads here None x) c.rows_are)
-      (many c.before here (rows_of w ++ e.rest) set c.are_read) in
+      (Goes-many c.before here (rows_of w ++ e.rest) set c.are_read) in
       let is_entry = rw c.notation_is at c.is_entry in
-      let f = entered q w e.rest a.1 c.is_written is_entry in
+      let f = Passes-entered q w e.rest a.1 c.is_written is_entry in
       let entry = entry_by words q.row q.cost notation (as_part b) w.end e.rest (address notation.directive) in
       let h : answer ≡ Arrived entry = kept well (a.0 ∙ to_end p w e.rest c.is_written) f in
       let n : e.notation ≡ notation = c.notation_is in
@@ -152,7 +145,7 @@ module _ (z : Size) (words : List ℕ) (start : NotationState) (base : ℕ) (row
 
   abbrev Either : Type 0
   Either =
-      (WellFormed z words start rows × ((e : TapeEntry) × ComesTo words start base rows e))
+      (WellFormed z words start rows × ((e : TapeEntry) × RowsReachEntry words start base rows e))
       ⊎ ((row : ℕ) × (cause : TapeCause) × IsFault z words start rows row cause)
 
   by_answer : (v : Verdict) → answer ≡ v → Either

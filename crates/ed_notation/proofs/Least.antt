@@ -1,10 +1,7 @@
 -- The least rule that a row breaks.
-use Rattle.std.proofs.Common.{◌≡◌, ℕ, ◌+◌, ◌-◌, ◌<◌, ◌≤◌, sym, ap, ◌∙◌, refl}
-use Rattle.std.proofs.Common.{true≢false, arith, lit≤, lit<, Bool, true, false, Option}
-use Rattle.std.proofs.Common.{Some, List, [], ◌∷◌, length, get_or}
-use Rattle.ed_notation.specs.declared.cause.TapeCause.{TapeCause}
-use Rattle.ed_notation.specs.declared.cause.TapeCause.TheVariants.{EndOfTape}
-use Rattle.ed_notation.specs.Faults.{cause_number}
+use Rattle.ed_notation.proofs.Kit.{[], Bool, false, length, List, lit<, lit≤, Option, refl, Some, true, true≢false, ℕ}
+use Rattle.ed_notation.proofs.Kit.{◌+◌, ◌-◌, ◌<◌, ◌∷◌, ◌≡◌, ◌≤◌, ap, arith, get_or, sym, ◌∙◌, cause_number, TapeCause}
+use Rattle.ed_notation.proofs.Kit.{EndOfTape}
 use Rattle.ed_notation.proofs.Rows.{first_of, causes}
 
 -- the cause of a number

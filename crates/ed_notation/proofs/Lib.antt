@@ -22,4 +22,5 @@ pub mod Sound
 pub mod Beginnings
 pub mod Steps
 pub mod Placing
-pub mod Worked
+pub mod TapeExamples
+pub mod Kit

@@ -1,24 +1,11 @@
 -- The loop of the check, one lemma a turn.
-use Rattle.std.proofs.Common.{◌≡◌, ℕ, suc, ◌+◌, ◌*◌, ◌<◌, ◌≤◌, refl, sym, ap}
-use Rattle.std.proofs.Common.{◌∙◌, subst, arith, lit≤, Bool, true, false}
-use Rattle.std.proofs.Common.{Option, Some, None, List, [], ◌∷◌, length, drop}
-use Rattle.std.proofs.Common.{get_or, drop-cons, replicate, slice_index}
-use Rattle.std.proofs.Common.{slice_set}
-use Rattle.std.proofs.lemmas.List.{drop_all}
-use Rattle.ed_words.specs.declared.size.Size.{Size}
-use Rattle.ed_notation.specs.declared.cause.TapeCause.{TapeCause}
-use Rattle.ed_notation.specs.declared.cause.TapeCause.TheVariants.{EndOfTape}
-use Rattle.ed_notation.specs.declared.reader.DirectiveState.{DirectiveState}
-use Rattle.ed_notation.specs.declared.reader.PartialItem.{PartialItem}
-use Rattle.ed_notation.specs.declared.reader.RowEffect.{RowEffect}
-use Rattle.ed_notation.specs.declared.reader.RowEffect.TheVariants.{Refused, Longer, Ended, Placed, Entered}
-use Rattle.ed_notation.specs.Items.{row_kind}
-use Rattle.ed_notation.specs.Openings.{IsDirective, opening_with}
-use Rattle.ed_notation.specs.Fold.{NotationState, over}
-use Rattle.ed_notation.specs.Faults.{IsFault}
-use Rattle.ed_notation.specs.Reading.{row_effect, setting_of, set_by, placed_by, entry_by}
-use Rattle.ed_notation.specs.Reading.{reading_on, part_of, IsPartial}
-use Rattle.ed_notation.specs.Checks.{marks_of, ArePlaces, Arrives}
+use Rattle.ed_notation.proofs.Kit.{[], Bool, drop, false, length, List, lit≤, None, Option, refl, replicate, Some, suc}
+use Rattle.ed_notation.proofs.Kit.{true, ℕ, ◌+◌, ◌<◌, ◌∷◌, ◌≡◌, ◌≤◌, drop_all, Size, ap, arith, get_or, sym, ◌*◌, ◌∙◌}
+use Rattle.ed_notation.proofs.Kit.{ArePlaces, Arrives, marks_of, IsFault, NotationState, over, row_kind, IsDirective}
+use Rattle.ed_notation.proofs.Kit.{opening_with, entry_by, IsPartial, part_of, placed_by, reading_on, row_effect}
+use Rattle.ed_notation.proofs.Kit.{set_by, setting_of, TapeCause, EndOfTape, DirectiveState, PartialItem, RowEffect}
+use Rattle.ed_notation.proofs.Kit.{Ended, Entered, Longer, Placed, Refused}
+use Rattle.std.proofs.Common.{drop-cons, slice_index, slice_set}
 use Rattle.ed_notation.proofs.Effects.{IsEffectInRange, in_range}
 use Rattle.ed_notation.proofs.Follow.{Reader, reads, follow, function_begins}
 use Rattle.ed_notation.proofs.Laws.{faulty_is, arrived_well, arrived_comes}
@@ -56,11 +43,11 @@ pub record StandsAt (k : Check) (row cost : ℕ) (setting : DirectiveState) (par
   pub partial : IsPartial part
   pub cheap : cost ≤ k.base + 17 * row
 
-pub began : {z : Size} {words : List ℕ} {directive theta base : ℕ} {rows : List ℕ} {marks : List Bool}
+pub StandsAt-began : {z : Size} {words : List ℕ} {directive theta base : ℕ} {rows : List ℕ} {marks : List Bool}
     → theta ≡ slice_index words 42 → length words ≡ 1024 → marks ≡ replicate 1024 false → IsDirective directive
     → StandsAt (record { size = z; words = words; start = opening_with directive words; base = base; rows = rows })
     0 base (record { directive = directive; theta = theta }) None words marks
-began {words = words} {directive} t l m o = record {
+StandsAt-began {words = words} {directive} t l m o = record {
   notation = opening_with directive words;
   same = refl;
   state = record {
@@ -89,9 +76,8 @@ module _ {k : Check} {row cost : ℕ} {setting : DirectiveState} {contents : Lis
   function_row a l e small = record {
     notation = a.notation;
     same =
-        a.same
-        ∙ ap (λ x. reads (reader k row cost a.notation) None x) (next_row k.rows row c l e)
-        ∙ function_begins (reader k row cost a.notation) c (drop (row + 1) k.rows) small;
+        a.same ∙ ap (λ x. reads (reader k row cost a.notation) None x) (next_row k.rows row c l e)
+        ∙ function_begins _ c _ small;
     state = a.state;
     locations_are = a.locations_are;
     opened = a.opened;
@@ -105,10 +91,9 @@ module _ {k : Check} {row cost : ℕ} {setting : DirectiveState} {contents : Lis
     Row t = t ≡ row_effect k.size (row_kind c) contents setting i c
 
     -- the numbers of what the row does are in range
-    pub taken : (t : RowEffect) → Row t → IsEffectInRange setting t
-    taken t h =
-        subst (λ (t : RowEffect). IsEffectInRange setting t) (sym h)
-        (in_range k.size (row_kind c) contents setting i c a.partial)
+    pub IsEffectInRange-taken : (t : RowEffect) → Row t → IsEffectInRange setting t
+    IsEffectInRange-taken t h =
+        rw h (in_range k.size (row_kind c) contents setting i c a.partial)
 
     abbrev here : Reader
     here = reader k row cost a.notation
@@ -123,9 +108,9 @@ module _ {k : Check} {row cost : ℕ} {setting : DirectiveState} {contents : Lis
         ∙ ap (λ x. reads here (Some i) x) (next_row k.rows row c l e)
         ∙ ap (λ t. follow here i c (drop (row + 1) k.rows) t) seen
 
-    pub longer : {j : PartialItem} {n : ℕ} → Row (Longer j n)
+    pub StandsAt-longer : {j : PartialItem} {n : ℕ} → Row (Longer j n)
         → StandsAt k (row + 1) (cost + n) setting (Some j) contents marks
-    longer {j} {n} h = let f = taken (Longer j n) h in record {
+    StandsAt-longer {j} {n} h = let f = IsEffectInRange-taken _ h in record {
       notation = a.notation;
       same = same (Longer j n) h;
       state = a.state;
@@ -135,9 +120,9 @@ module _ {k : Check} {row cost : ℕ} {setting : DirectiveState} {contents : Lis
       cheap = omega (arith, a.cheap, f.1);
     }
 
-    pub ended : {s : DirectiveState} {n : ℕ} → Row (Ended s n)
+    pub StandsAt-ended : {s : DirectiveState} {n : ℕ} → Row (Ended s n)
         → StandsAt k (row + 1) (cost + n) s None contents marks
-    ended {s} {n} h = let f = taken (Ended s n) h in record {
+    StandsAt-ended {s} {n} h = let f = IsEffectInRange-taken (Ended s n) h in record {
       notation = set_by s a.notation;
       same = same (Ended s n) h;
       state = record {
@@ -152,10 +137,10 @@ module _ {k : Check} {row cost : ℕ} {setting : DirectiveState} {contents : Lis
       cheap = omega (arith, a.cheap, f);
     }
 
-    pub placed : {at word : ℕ} → Row (Placed at word)
+    pub StandsAt-placed : {at word : ℕ} → Row (Placed at word)
         → StandsAt k (row + 1) (cost + 17) (record { directive = setting.directive + 2; theta = setting.theta }) None
         (slice_set contents at word) (slice_set marks at true)
-    placed {at} {word} h = let f = taken (Placed at word) h in record {
+    StandsAt-placed {at} {word} h = let f = IsEffectInRange-taken _ h in record {
       notation = placed_by at word a.notation;
       same = same (Placed at word) h;
       state = record {
@@ -173,10 +158,10 @@ module _ {k : Check} {row cost : ℕ} {setting : DirectiveState} {contents : Lis
       cheap = omega (arith, a.cheap);
     }
 
-    pub refused : {cause : TapeCause} → Row (Refused cause) → IsFault k.size k.words k.start k.rows row cause
-    refused {cause} h = faulty_is k.size k.words k.start k.base k.rows a.opened (same (Refused cause) h)
+    pub IsFault-refused : {cause : TapeCause} → Row (Refused cause) → IsFault k.size k.words k.start k.rows row cause
+    IsFault-refused {cause} h = faulty_is k.size k.words k.start k.base k.rows a.opened (same (Refused cause) h)
 
-    pub entered : {at : ℕ} → Row (Entered at)
+    pub Arrives-entered : {at : ℕ} → Row (Entered at)
         → Arrives k.size k.words k.start k.base k.rows (record {
           entry = at;
           orders = cost + 13;
@@ -184,7 +169,7 @@ module _ {k : Check} {row cost : ℕ} {setting : DirectiveState} {contents : Lis
           theta = setting.theta;
         })
         contents marks
-    entered {at} h =
+    Arrives-entered {at} h =
         let q = same (Entered at) h in
         record {
           well = arrived_well k.size k.words k.start k.base k.rows a.opened q;
@@ -201,11 +186,12 @@ module _ {k : Check} {row cost : ℕ} {setting : DirectiveState} {contents : Lis
         }
 
 -- the loop at a row, with what it holds written in another way
-pub written : {k : Check} {row cost cost' : ℕ} {setting setting' : DirectiveState} {part part' : Option PartialItem}
+pub StandsAt-written : {k : Check} {row cost cost' : ℕ} {setting setting' : DirectiveState}
+    {part part' : Option PartialItem}
     {contents contents' : List ℕ} {marks marks' : List Bool}
     → cost ≡ cost' → setting ≡ setting' → part ≡ part' → contents ≡ contents' → marks ≡ marks'
     → StandsAt k row cost' setting' part' contents' marks' → StandsAt k row cost setting part contents marks
-written {k} {row} a b c d e stands =
+StandsAt-written {k} {row} a b c d e stands =
     rw (a, b, c, d, e) stands
 
 -- at the end of the rows
@@ -217,5 +203,4 @@ unfolding reading_on
 at_end {k} {row} {cost} {part = part} a l =
     let d : drop row k.rows ≡ [] = drop_all row k.rows (omega (arith, l)) in
     let q = a.same ∙ ap (λ x. reads (reader k row cost a.notation) part x) d in
-    subst (λ n. IsFault k.size k.words k.start k.rows n EndOfTape) l
-    (faulty_is k.size k.words k.start k.base k.rows a.opened q)
+    rw (← l) (faulty_is k.size k.words k.start k.base k.rows a.opened q)

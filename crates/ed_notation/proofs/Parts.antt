@@ -1,12 +1,9 @@
 -- Lists that are made part after part.
-use Rattle.std.proofs.Common.{◌≡◌, ℕ, ◌+◌, ◌/◌, ◌%◌, ◌<◌, ◌≤◌, sym, ap, refl, ◌∙◌, arith, Bool, true, nat_lt}
-use Rattle.std.proofs.Common.{List, [], ◌∷◌, ◌++◌, length, drop, get_or, append_assoc, append-nil}
-use Rattle.std.specs.List.{flat_map, list_all}
-use Rattle.std.proofs.lemmas.Bool.{and_parts}
+use Rattle.ed_notation.proofs.Kit.{[], append_assoc, Bool, drop, length, List, nat_lt, refl, true, ℕ, ◌++◌, ◌+◌, ◌<◌}
+use Rattle.ed_notation.proofs.Kit.{◌∷◌, ◌≡◌, ◌≤◌, flat_map, list_all, and_parts, le-leb, lt-leb, lt-ltb, byte_of, ap}
+use Rattle.ed_notation.proofs.Kit.{arith, get_or, sym, ◌%◌, ◌/◌, ◌∙◌, digit_at, digits_of, line_from}
+use Rattle.std.proofs.Common.{append-nil}
 use Rattle.std.proofs.lemmas.List.{at_drop_more}
-use Rattle.ed_words.proofs.Numbers.{le_false, le_true, lt_true}
-use Rattle.ed_codes.specs.Spelling.{byte_of}
-use Rattle.ed_notation.specs.Spellings.{digit_at, digits_of, line_from}
 
 -- a part, and then another
 pub joined : {A : Type 0} {next last : List A} (done part more : List A)
@@ -32,17 +29,17 @@ next_passes p xs i d below all = and_parts _ _ (sym (at_drop_more (list_all p) x
 
 -- the digit row at a power of ten that a number reaches
 pub digit_there : (p n : ℕ) → p ≤ n → digit_at p n ≡ (n / p % 10) ∷ []
-digit_there p n h = let e = le_true p n h in rw e refl
+digit_there p n h = let e = le-leb p n h in rw e refl
 
 -- and none at one that it doesn't reach
 pub no_digit : (p n : ℕ) → n < p → digit_at p n ≡ []
-no_digit p n h = let e = le_false p n h in rw e refl
+no_digit p n h = let e = lt-leb p n h in rw e refl
 
 -- the digit rows of a number, at one power after the other
 pub digits_are : (n : ℕ) → flat_map (λ power. digit_at power n) (10000 ∷ 1000 ∷ 100 ∷ 10 ∷ 1 ∷ []) ≡ digits_of n
 digits_are n =
     ap (λ (ds : List ℕ). digit_at 10000 n ++ (digit_at 1000 n ++ (digit_at 100 n ++ (digit_at 10 n ++ ds))))
-    (append-nil (digit_at 1 n))
+    (append-nil _)
 
 -- the byte of one more row of an item
 pub more_line : {next whole : List ℕ} (rows : List ℕ) (i c : ℕ) (done : List ℕ)
@@ -50,9 +47,8 @@ pub more_line : {next whole : List ℕ} (rows : List ℕ) (i c : ℕ) (done : Li
     → done ++ line_from (nat_lt 0 i) (drop i rows) ≡ whole
     → next ++ line_from (nat_lt 0 (i + 1)) (drop (i + 1) rows) ≡ whole
 more_line rows i c done below is same before =
-    one_more (line_from (nat_lt 0 i)) rows i c done (byte_of c (nat_lt 0 i) ∷ [])
-    (line_from (nat_lt 0 (i + 1)) (drop (i + 1) rows)) below is
+    one_more (line_from (nat_lt 0 i)) rows i c done _ _ below is
     (ap (λ b. byte_of c (nat_lt 0 i) ∷ line_from b (drop (i + 1) rows)) (sym (after i))) same before
   where
     after : (i : ℕ) → nat_lt 0 (i + 1) ≡ true
-    after i = lt_true 0 (i + 1) (omega arith)
+    after i = lt-ltb 0 (i + 1) (omega arith)

@@ -1,19 +1,16 @@
 -- Whatever the items before a row are, the reader reaches the row in the state that the fold gives, or finds a fault
 -- before it.
-use Rattle.std.proofs.Common.{◌≡◌, ℕ, ◌+◌, ◌<◌, ◌≤◌, ◌⊎◌, inl, inr, refl, sym, ap, ◌∙◌, arith, lit≤, Bool, true, false}
-use Rattle.std.proofs.Common.{◌&&◌, not, nat_lt, Option, Some, None, List, []}
-use Rattle.std.proofs.Common.{◌∷◌, ◌++◌, length, length-append, append_assoc}
-use Rattle.ed_words.specs.declared.size.Size.{Size}
-use Rattle.ed_notation.specs.declared.cause.TapeCause.{TapeCause}
-use Rattle.ed_notation.specs.declared.cause.TapeCause.TheVariants.{EndOfTape, BadRow}
-use Rattle.ed_notation.specs.Items.{row_kind, Begun, Written, begun_rows, rows_of, spelled_rows, IsWritten, item, items}
-use Rattle.ed_notation.specs.Openings.{IsDirective}
-use Rattle.ed_notation.specs.Fold.{NotationState, is_entry, fold, end_cost, cost_of, costs}
-use Rattle.ed_notation.specs.Faults.{cause_number, breaks, is_broken, is_bad_row, part_rows, AreRead, IsPart, Breaks}
-use Rattle.ed_notation.specs.Reading.{reading_on, Verdict, Faulty}
+use Rattle.ed_notation.proofs.Kit.{[], append_assoc, Bool, false, inl, inr, length, length-append, List, lit≤, None}
+use Rattle.ed_notation.proofs.Kit.{Option, refl, Some, true, ℕ, ◌&&◌, ◌++◌, ◌+◌, ◌<◌, ◌∷◌, ◌≡◌, ◌≤◌, ◌⊎◌, add-zero}
+use Rattle.ed_notation.proofs.Kit.{Size, ap, arith, sym, ◌∙◌, AreRead, Breaks, breaks, cause_number, is_broken, IsPart}
+use Rattle.ed_notation.proofs.Kit.{part_rows, cost_of, costs, end_cost, fold, is_entry, NotationState, Begun}
+use Rattle.ed_notation.proofs.Kit.{begun_rows, IsWritten, item, items, row_kind, rows_of, spelled_rows, Written}
+use Rattle.ed_notation.proofs.Kit.{IsDirective, Faulty, reading_on, Verdict, TapeCause, BadRow, EndOfTape}
+use Rattle.std.proofs.Common.{not}
+use Rattle.ed_notation.specs.Faults.{is_bad_row}
+use Rattle.ed_notation.proofs.Follow.{Reader, reads, passed, behind, inside, Goes, reader_part, begun_read}
+use Rattle.ed_notation.proofs.Follow.{function_read, to_end, Goes-ended, refused, early_later}
 use Rattle.ed_notation.proofs.Least.{least_of, one_least}
-use Rattle.ed_notation.proofs.Follow.{Reader, reads, passed, behind, inside, Goes, reader_part}
-use Rattle.ed_notation.proofs.Follow.{begun_read, function_read, to_end, ended, refused, early_later}
 
 -- the causes other than the first have a number of 2 and more
 record BadRowBroken (cause : TapeCause) (t : Bool) : Type 0 where
@@ -39,7 +36,7 @@ one p w rest set good goes =
     let q : Reader = inside p (Some w.begun) in
     let l : q.row + 1 ≡ p.row + length (rows_of w) = omega (arith, length-append (begun_rows w.begun) (w.end ∷ [])) in
     let k : q.cost + end_cost (row_kind w.end) p.notation ≡ p.cost + cost_of p.notation w = omega arith in
-    rw (sym l, sym k) (carried (to_end p w rest good) (ended q w rest set good goes))
+    rw (sym l, sym k) (carried (to_end p w rest good) (Goes-ended q w rest set good goes))
 
 -- one stretch of rows after the other
 chained : {v w x : Verdict} {n m d d' : ℕ} → n ≤ m → Goes v w n d → (IsDirective d → Goes w x m d') → Goes v x m d'
@@ -50,31 +47,25 @@ chained l (inr e) h = inr (early_later refl l e)
 abbrev pub behind_all : Reader → List Written → Reader
 behind_all p ws = passed p (length (spelled_rows ws)) (costs p.words p.notation ws) (fold p.words p.notation (items ws))
 
-pub many : (before : List Written) (p : Reader) (rest : List ℕ) → IsDirective p.notation.directive
+pub Goes-many : (before : List Written) (p : Reader) (rest : List ℕ) → IsDirective p.notation.directive
     → AreRead p.words p.notation before
     → Goes (reads p None (spelled_rows before ++ rest)) (reads (behind_all p before) None rest) (behind_all p before).row
     (behind_all p before).notation.directive
-many [] p rest set are =
-    let r : p.row + 0 ≡ p.row = omega arith in
-    let k : p.cost + 0 ≡ p.cost = omega arith in
-    rw (r, k) (inl (refl, set))
-many (w ∷ ws) p rest set are =
+Goes-many [] p rest set are = rw (add-zero p.row, add-zero p.cost) (inl (refl, set))
+Goes-many (w ∷ ws) p rest set are =
     let q : Reader = behind p w in
     let l : q.row + length (spelled_rows ws) ≡ p.row + length (spelled_rows (w ∷ ws)) =
     omega (arith, length-append (rows_of w) (spelled_rows ws)) in
     let k : q.cost + costs p.words q.notation ws ≡ p.cost + costs p.words p.notation (w ∷ ws) = omega arith in
-    let a = one p w (spelled_rows ws ++ rest) set are.0 are.1 in
-    let ih = λ (s : IsDirective q.notation.directive). many ws q rest s are.2 in
-    let e = ap (λ x. reads p None x) (append_assoc (rows_of w) (spelled_rows ws) rest) in
+    let a = one p w _ set are.0 are.1 in
+    let ih = λ (s : IsDirective q.notation.directive). Goes-many ws q rest s are.2 in
+    let e = ap (λ x. reads p None x) (append_assoc (rows_of w) _ rest) in
     rw (sym l, sym k) (carried e (chained (omega arith) a ih))
 
 -- and the part of an item after them
 to_part : (p : Reader) (part : Option Begun) (rest : List ℕ) → IsPart part
     → reads p None (part_rows part ++ rest) ≡ reads (inside p part) (reader_part part) rest
-to_part p None rest is =
-    let r : p.row + 0 ≡ p.row = omega arith in
-    let k : p.cost + 0 ≡ p.cost = omega arith in
-    rw (r, k) refl
+to_part p None rest is = rw (add-zero p.row, add-zero p.cost) refl
 to_part p (Some b) rest is = begun_read p b rest is
 
 -- if a rule is broken the reader finds a fault, with a number that is no greater
@@ -87,14 +78,13 @@ broken_here : (p : Reader) (part : Option Begun) (rest : List ℕ) (cause : Tape
     → IsPart part → is_broken p.size p.words p.notation part rest cause ≡ true
     → Refuses (reads p (reader_part part) rest) p.row cause
 unfolding reading_on
-broken_here p None [] cause set is h = record { found = EndOfTape; is = refl; least = one_least cause }
-broken_here p (Some b) [] cause set is h = record { found = EndOfTape; is = refl; least = one_least cause }
 broken_here p None (c ∷ rest) cause set is h =
-    let f = bad_row cause (nat_lt c 32) h in
+    let f = bad_row cause _ h in
     record { found = BadRow; is = function_read p c rest f.test; least = f.least }
 broken_here p (Some b) (c ∷ rest) cause set is h =
     let f = least_of (λ k. breaks k (row_kind c) p.size p.words p.notation b c) cause h in
     record { found = f.found; is = refused p (record { begun = b; end = c }) rest set is f.is; least = f.least }
+broken_here p part [] cause set is h = record { found = EndOfTape; is = refl; least = one_least cause }
 
 -- the reader's fault is no later than a broken rule
 pub record NoLater (v : Verdict) (row : ℕ) (cause : TapeCause) : Type 0 where
@@ -119,8 +109,7 @@ broken_found {z} {words} {start} base {row = row} {cause = cause} set b =
     let s = b.stands in
     let p : Reader = record { size = z; words = words; row = 0; cost = base; notation = start } in
     let q : Reader = behind_all p s.before in
-    let r = λ (d : IsDirective q.notation.directive).
-    broken_here (inside q s.part) s.part s.rest cause d s.is_part b.breaks in
+    let r = λ (d : IsDirective q.notation.directive). broken_here _ s.part s.rest cause d s.is_part b.breaks in
     let l : q.row + length (part_rows s.part) ≡ row = omega (arith, s.row_is) in
-    rw (s.rows_are) (no_later (omega (arith, s.row_is)) (many s.before p (part_rows s.part ++ s.rest) set s.are_read)
+    rw (s.rows_are) (no_later (omega (arith, s.row_is)) (Goes-many s.before p _ set s.are_read)
     (λ d. rw (to_part q s.part s.rest s.is_part, sym l) (r d)))

@@ -1,21 +1,13 @@
 -- Items that place words one after the other, as the fold takes them: a segment's words, a routine, a whole tape.
-use Rattle.std.proofs.Common.{◌≡◌, ℕ, zero, suc, ◌+◌, ◌*◌, ◌<◌, ◌≤◌, refl, sym, ap, ◌∙◌}
-use Rattle.std.proofs.Common.{subst, arith, Bool, true, false, ◌&&◌, List, [], ◌∷◌, ◌++◌}
-use Rattle.std.proofs.Common.{length, get_or, set, take, drop}
-use Rattle.std.proofs.lemmas.Bool.{and_parts}
+use Rattle.ed_notation.proofs.Kit.{[], Bool, drop, false, length, List, refl, set, suc, take, true, ℕ, ◌&&◌, ◌++◌, ◌+◌}
+use Rattle.ed_notation.proofs.Kit.{◌<◌, ◌∷◌, ◌≡◌, ◌≤◌, and_parts, get_or-set_other, locations, T_F, Size, ap, arith}
+use Rattle.ed_notation.proofs.Kit.{get_or, sym, ◌*◌, ◌∙◌, begun_cost, item_word, NotationState, over, row_kind}
+use Rattle.ed_notation.proofs.Kit.{canonical, is_spellable, Item, RowKind, Letter}
+use Rattle.std.proofs.Common.{zero}
 use Rattle.std.proofs.lemmas.Bool.Decides.{nat_tests}
-use Rattle.std.proofs.lemmas.List.{get_or-set_other}
-use Rattle.ed_words.specs.declared.size.Size.{Size}
-use Rattle.ed_words.specs.Sizes.{locations}
-use Rattle.ed_words.specs.declared.order_words.TheConstants.{T_F}
-use Rattle.ed_notation.specs.declared.item.Item.{Item}
-use Rattle.ed_notation.specs.declared.kind.RowKind.{RowKind}
-use Rattle.ed_notation.specs.declared.kind.RowKind.TheVariants.{Letter}
-use Rattle.ed_notation.specs.Items.{row_kind}
-use Rattle.ed_notation.specs.Fold.{NotationState, over, value_of, word_with, item_word, begun_cost}
-use Rattle.ed_notation.specs.Spellings.{canonical, is_spellable}
+use Rattle.ed_notation.specs.Fold.{value_of, word_with}
 use Rattle.ed_notation.proofs.Contents.{length-over}
-use Rattle.ed_notation.proofs.Steps.{Reads, reads_none, reads_one, placing, placing_cost}
+use Rattle.ed_notation.proofs.Steps.{Reads, reads_none, reads_one, Does-placing, placing_cost}
 
 -- a code letter
 abbrev pub is_letter : RowKind → Bool
@@ -78,8 +70,7 @@ pub over_laid : (words : List ℕ) (a : ℕ) (ws : List ℕ) (placed : List (ℕ
     → over (laid a ws placed) words ≡ with_block (over placed words) a ws
 over_laid words a [] placed h = sym (none_laid (over placed words) a (omega (arith, length-over placed words)))
 over_laid words a (w ∷ ws) placed h =
-    over_laid words (a + 1) ws ((a, w) ∷ placed) (omega arith)
-    ∙ set_block (over placed words) a w ws (omega (arith, length-over placed words))
+    over_laid words (a + 1) ws _ (omega arith) ∙ set_block _ a w ws (omega (arith, length-over placed words))
 
 value_same : (xs ys : List ℕ) (theta c : ℕ) → c < 32 → ((j : ℕ) → j < 56 → get_or ys j 0 ≡ get_or xs j 0)
     → value_of ys theta c ≡ value_of xs theta c
@@ -103,11 +94,11 @@ placing_all {z} {words} contents {notation} a [] h d low fits same =
     let e : a + 0 ≡ a = omega arith in
     let is : notation ≡ behind contents notation a [] =
     rw e (λ k. record { directive = d k; theta = notation.theta; placed = notation.placed }) in
-    subst (λ (n : NotationState). Reads z words notation [] n 0) is (reads_none z words notation)
+    rw (← is) (reads_none z words notation)
 placing_all {z} {words} contents {notation} a (i ∷ is) h d low fits same =
-    let p = and_parts (is_spellable i && is_letter (row_kind i.end)) (all_letters is) h in
-    let q = and_parts (is_spellable i) (is_letter (row_kind i.end)) p.0 in
-    let k : row_kind i.end ≡ Letter = letter_of (row_kind i.end) q.1 in
+    let p = and_parts _ _ h in
+    let q = and_parts _ _ p.0 in
+    let k : row_kind i.end ≡ Letter = letter_of _ q.1 in
     let below : a < locations z = omega arith in
     let word : ℕ = word_with i.function i.number i.mark (value_of contents notation.theta i.end) in
     let next : NotationState = record {
@@ -115,11 +106,11 @@ placing_all {z} {words} contents {notation} a (i ∷ is) h d low fits same =
       theta = notation.theta;
       placed = (a, word) ∷ notation.placed;
     } in
-    let value = value_same contents (over notation.placed words) notation.theta i.end (code_of i.end k) same in
+    let value = value_same contents _ _ i.end (code_of i.end k) same in
     let word_is : item_word words notation i ≡ word = ap (λ v. word_with i.function i.number i.mark v) value in
     let rest : Reads z words next is (behind contents next (a + 1) is) (block_cost is) =
     placing_all contents {notation = next} (a + 1) is p.1 refl (omega arith) (omega arith)
-    (λ j l. get_or-set_other (over notation.placed words) a j word 0 (omega arith) ∙ same j l) in
+    (λ j l. get_or-set_other _ a j word 0 (omega arith) ∙ same j l) in
     let n : a + suc (length is) ≡ a + 1 + length is = omega arith in
     let cost = placing_cost z words notation i a k d below in
-    rw (n, sym cost) (reads_one z words i q.0 (placing z words a k d (omega arith) below word_is) rest)
+    rw (n, sym cost) (reads_one z words i q.0 (Does-placing z words a k d (omega arith) below word_is) rest)

@@ -1,34 +1,17 @@
 -- What the reader does at a row inside an item, in the words of the rules.
-use Rattle.std.proofs.Common.{◌≡◌, ℕ, ◌+◌, ◌*◌, ◌/◌, ◌<◌, refl, sym, ap, ◌∙◌, arith, Bool, true, false}
-use Rattle.std.proofs.Common.{nat_eq, nat_lt, nat_le, Option, Some, None, List, [], ◌∷◌, ◌++◌}
-use Rattle.std.proofs.Common.{length-append}
-use Rattle.std.proofs.lemmas.List.{append-nil}
-use Rattle.ed_words.specs.declared.size.Size.{Size}
-use Rattle.ed_words.specs.Sizes.{locations}
-use Rattle.ed_notation.specs.declared.cause.TapeCause.{TapeCause}
-use Rattle.ed_notation.specs.declared.cause.TapeCause.TheVariants.{EndOfTape, BadRow, NumberTooLarge}
-use Rattle.ed_notation.specs.declared.cause.TapeCause.TheVariants.{AfterMark, BadControl}
-use Rattle.ed_notation.specs.declared.cause.TapeCause.TheVariants.{LoaderStore, StoreEnd, NoPlace}
-use Rattle.ed_notation.specs.declared.cause.TapeCause.TheVariants.{EntryNegative, EntryInLoader}
-use Rattle.ed_notation.specs.declared.reader.PartialItem.{PartialItem}
-use Rattle.ed_notation.specs.declared.reader.RowEffect.{RowEffect}
-use Rattle.ed_notation.specs.declared.reader.RowEffect.TheVariants.{Refused, Longer, Ended, Placed, Entered}
-use Rattle.ed_notation.specs.declared.kind.RowKind.{RowKind}
-use Rattle.ed_notation.specs.declared.kind.RowKind.TheVariants.{Digit, Mark, Zed, Kay, Blank, Letter, Other}
-use Rattle.ed_notation.specs.declared.kind.Control.{Control}
-use Rattle.ed_notation.specs.declared.kind.Control.TheVariants.{Directive, ThetaByBlank, ThetaByG, Neither}
-use Rattle.ed_notation.specs.declared.kind.LetterAction.{LetterAction}
-use Rattle.ed_notation.specs.declared.kind.LetterAction.TheVariants.{Places, Enters, Nowhere, Unset}
-use Rattle.ed_notation.specs.Items.{row_kind, Begun, digits_number, is_empty, begun_rows}
-use Rattle.ed_notation.specs.Items.{IsBegun, AreDigits, is_blank_row, ends, item_of}
-use Rattle.ed_notation.specs.Fold.{NotationState, over, item_word, address, control_of}
-use Rattle.ed_notation.specs.Fold.{letter_action_of, ending_effect, entering, begun_cost, end_cost}
-use Rattle.ed_notation.specs.Openings.{IsDirective}
-use Rattle.ed_notation.specs.Faults.{breaks, is_place}
-use Rattle.ed_notation.specs.Reading.{row_effect, setting_of, set_by, placed_by}
-use Rattle.ed_words.proofs.Numbers.{not_lt_of, not_eq_of, if_means}
+use Rattle.ed_notation.proofs.Kit.{[], Bool, false, length-append, List, nat_le, nat_lt, None, Option, refl, Some}
+use Rattle.ed_notation.proofs.Kit.{true, ℕ, ◌++◌, ◌+◌, ◌<◌, ◌∷◌, ◌≡◌, and-false, eqb-false, ltb-false, append-nil}
+use Rattle.ed_notation.proofs.Kit.{locations, Size, if_means, ap, arith, nat_eq, sym, ◌*◌, ◌/◌, ◌∙◌, breaks, is_place}
+use Rattle.ed_notation.proofs.Kit.{address, begun_cost, control_of, end_cost, ending_effect, entering, item_word}
+use Rattle.ed_notation.proofs.Kit.{letter_action_of, NotationState, over, AreDigits, Begun, begun_rows, digits_number}
+use Rattle.ed_notation.proofs.Kit.{ends, is_empty, IsBegun, item_of, row_kind, IsDirective, placed_by, row_effect}
+use Rattle.ed_notation.proofs.Kit.{set_by, setting_of, TapeCause, AfterMark, BadControl, BadRow, EndOfTape}
+use Rattle.ed_notation.proofs.Kit.{EntryInLoader, EntryNegative, LoaderStore, NoPlace, NumberTooLarge, StoreEnd}
+use Rattle.ed_notation.proofs.Kit.{Control, Directive, Neither, ThetaByBlank, LetterAction, Enters, Nowhere, Places}
+use Rattle.ed_notation.proofs.Kit.{Unset, RowKind, Blank, Digit, Kay, Letter, Mark, Other, Zed, PartialItem, RowEffect}
+use Rattle.ed_notation.proofs.Kit.{Ended, Entered, Longer, Placed, Refused}
+use Rattle.ed_notation.specs.Items.{is_blank_row}
 use Rattle.ed_notation.proofs.Tests.{RowMeans, row_means}
-use Rattle.std.proofs.Math.Bool.{and-false}
 
 abbrev first_if : Bool → TapeCause → Option TapeCause → Option TapeCause
 first_if true c x = Some c
@@ -110,7 +93,7 @@ not_unset d s =
     if_means P (nat_eq (d / 4096) 5) _ _ (λ h e. cc) (λ h.
     if_means P (nat_eq (d / 4096) 3) _ _ (λ g e. cc) (λ g.
     if_means P (nat_eq (d / 4096) 0) _ _ (λ o e. cc) (λ o e.
-    omega (arith, not_eq_of _ _ h, not_eq_of _ _ g, not_eq_of _ _ o, s.no_1, s.no_2, s.no_4, s.most))))
+    omega (arith, eqb-false _ _ h, eqb-false _ _ g, eqb-false _ _ o, s.no_1, s.no_2, s.no_4, s.most))))
 
 module _ (z : Size) (words : List ℕ) (notation : NotationState) (c : ℕ) (set : IsDirective notation.directive) where
   module _ (f : ℕ) (ds : List ℕ) where
@@ -135,10 +118,10 @@ module _ (z : Size) (words : List ℕ) (notation : NotationState) (c : ℕ) (set
             good = record {
               function = good.function;
               digits = digits_more ds c good.digits h;
-              fits = rw n (not_lt_of _ _ e);
+              fits = rw n (ltb-false _ _ e);
             };
             part_is = rw (n, empty_more ds c) refl;
-            rows_are = ap (λ x. f ∷ x) (append-nil (ds ++ (c ∷ [])) ∙ ap (λ x. x ++ (c ∷ [])) (sym (append-nil ds)));
+            rows_are = ap (λ x. f ∷ x) (append-nil _ ∙ ap (λ x. x ++ (c ∷ [])) (sym (append-nil ds)));
             cost_is = omega (arith, l);
           },
         )
@@ -166,29 +149,22 @@ module _ (z : Size) (words : List ℕ) (notation : NotationState) (c : ℕ) (set
     by_kay : (m : Bool) (k : Control) (x : Bool) → control_of f ≡ k → nat_lt 1023 (digits_number 0 ds) ≡ x → Law Kay m
     by_kay true k x h e = refl
     by_kay false Neither x h e = rw (h, h) refl
-    by_kay false Directive true h e = rw (h, e, h, e) refl
-    by_kay false ThetaByBlank true h e = rw (h, e, h, e) refl
-    by_kay false ThetaByG true h e = rw (h, e, h, e) refl
-    by_kay false Directive false h e =
+    by_kay false k false h e =
         rw (h, e) (rw (h, e) refl, record { ended = refl; goes_on = refl; notation_is = rw h refl; cost_is = refl })
-    by_kay false ThetaByBlank false h e =
-        rw (h, e) (rw (h, e) refl, record { ended = refl; goes_on = refl; notation_is = rw h refl; cost_is = refl })
-    by_kay false ThetaByG false h e =
-        rw (h, e) (rw (h, e) refl, record { ended = refl; goes_on = refl; notation_is = rw h refl; cost_is = refl })
+    by_kay false k true h e = rw (h, e, h, e) refl
 
     by_zed : (m : Bool) (k : Control) (x y : Bool) → control_of f ≡ k
         → is_place (4096 * f + 2 * digits_number 0 ds + notation.theta) ≡ x
         → nat_le 65536 (2 * digits_number 0 ds + notation.theta) ≡ y
         → Law Zed m
     by_zed true k x y h e g = refl
-    by_zed false Neither x y h e g = rw (h, h) refl
-    by_zed false ThetaByG x y h e g = rw (h, h) refl
     by_zed false Directive false y h e g = rw (h, e, h, e) refl
     by_zed false Directive true y h e g =
         rw (h, e) (rw (h, e) refl, record { ended = refl; goes_on = refl; notation_is = rw h refl; cost_is = refl })
     by_zed false ThetaByBlank x true h e g = rw (h, g, h, g) refl
     by_zed false ThetaByBlank x false h e g =
         rw (h, g) (rw (h, g) refl, record { ended = refl; goes_on = refl; notation_is = rw h refl; cost_is = refl })
+    by_zed false k x y h e g = rw (h, h) refl
 
     by_letter : (m : Bool) {k : LetterAction} {x y w : Bool} → letter_action_of notation.directive ≡ k
         → nat_lt (address notation.directive) 44 ≡ x

@@ -1,22 +1,15 @@
 -- A tape is well formed if and only if its items break no rule.
-use Rattle.std.proofs.Common.{◌≡◌, ℕ, ◌+◌, ◌≤◌, refl, sym, ap, ◌∙◌, arith, Bool, true, false, subst, None, Some, List, []}
-use Rattle.std.proofs.Common.{◌∷◌, ◌++◌}
-use Rattle.std.proofs.Common.{length, length-append, append_assoc}
-use Rattle.std.proofs.lemmas.List.{append-nil}
-use Rattle.ed_words.specs.declared.size.Size.{Size}
-use Rattle.ed_notation.specs.declared.cause.TapeCause.{TapeCause}
-use Rattle.ed_notation.specs.Items.{row_kind, Written, begun_rows, rows_of, spelled_rows, IsWritten, item, items}
-use Rattle.ed_notation.specs.Openings.{IsDirective}
-use Rattle.ed_notation.specs.Fold.{NotationState, address, act, is_entry, fold, end_cost, cost_of, costs}
-use Rattle.ed_notation.specs.Faults.{breaks, AreRead, IsRead, WellFormed, ComesTo, TapeEntry, EndsSound, AreSound}
-use Rattle.ed_notation.specs.Faults.{part_rows}
-use Rattle.ed_notation.specs.Beginnings.{IsSoundTo}
-use Rattle.ed_notation.specs.Reading.{entry_by, Arrived}
-use Rattle.ed_notation.proofs.Rows.{first, first_of, causes, as_part}
-use Rattle.ed_notation.proofs.Follow.{Reader, reads, behind, inside, to_end, goes_on, arrives}
-use Rattle.ed_notation.proofs.Passes.{behind_all}
-use Rattle.ed_notation.proofs.Laws.{arrived_well}
+use Rattle.ed_notation.proofs.Kit.{[], append_assoc, Bool, false, length, length-append, List, None, refl, Some, subst}
+use Rattle.ed_notation.proofs.Kit.{true, ℕ, ◌++◌, ◌+◌, ◌∷◌, ◌≡◌, ◌≤◌, add-zero, append-nil, Size, ap, arith, sym, ◌∙◌}
+use Rattle.ed_notation.proofs.Kit.{IsSoundTo, AreRead, AreSound, breaks, EndsSound, IsRead, part_rows, RowsReachEntry}
+use Rattle.ed_notation.proofs.Kit.{TapeEntry, WellFormed, act, address, cost_of, costs, end_cost, fold, is_entry}
+use Rattle.ed_notation.proofs.Kit.{NotationState, begun_rows, IsWritten, item, items, row_kind, rows_of, spelled_rows}
+use Rattle.ed_notation.proofs.Kit.{Written, IsDirective, Arrived, entry_by, TapeCause}
 use Rattle.ed_notation.proofs.Cuts.{items-append, spelled-append, fold-append, AreRead-append}
+use Rattle.ed_notation.proofs.Follow.{Reader, reads, behind, inside, to_end, goes_on, arrives}
+use Rattle.ed_notation.proofs.Laws.{arrived_well}
+use Rattle.ed_notation.proofs.Passes.{behind_all}
+use Rattle.ed_notation.proofs.Rows.{first, first_of, causes, as_part}
 
 none_first : (f : TapeCause → Bool) (cs : List TapeCause) → ((k : TapeCause) → f k ≡ false) → first_of f cs ≡ None
 none_first f [] h = refl
@@ -42,18 +35,15 @@ pub many : (before : List Written) (p : Reader) (rest : List ℕ) → IsDirectiv
     → AreRead p.words p.notation before → AreSound p.size p.words p.notation before
     → (reads p None (spelled_rows before ++ rest) ≡ reads (behind_all p before) None rest)
     × IsDirective (behind_all p before).notation.directive
-many [] p rest set are sound =
-    let r : p.row + 0 ≡ p.row = omega arith in
-    let k : p.cost + 0 ≡ p.cost = omega arith in
-    rw (r, k) (refl, set)
+many [] p rest set are sound = rw (add-zero p.row, add-zero p.cost) (refl, set)
 many (w ∷ ws) p rest set are sound =
     let q : Reader = behind p w in
     let l : q.row + length (spelled_rows ws) ≡ p.row + length (spelled_rows (w ∷ ws)) =
     omega (arith, length-append (rows_of w) (spelled_rows ws)) in
     let k : q.cost + costs p.words q.notation ws ≡ p.cost + costs p.words p.notation (w ∷ ws) = omega arith in
-    let a = one p w (spelled_rows ws ++ rest) set are.0 are.1 sound.0 in
+    let a = one p w _ set are.0 are.1 sound.0 in
     let ih = many ws q rest a.1 are.2 sound.1 in
-    let e = ap (λ x. reads p None x) (append_assoc (rows_of w) (spelled_rows ws) rest) in
+    let e = ap (λ x. reads p None x) (append_assoc (rows_of w) _ rest) in
     rw (sym l, sym k) (e ∙ a.0 ∙ ih.0, ih.1)
 
 -- it reaches the entry item
@@ -76,9 +66,9 @@ pub sound_well : {z : Size} {words : List ℕ} {start : NotationState} (before :
     → WellFormed z words start (spelled_rows before ++ (rows_of last ++ rest))
 sound_well {z} {words} {start} before {last} rest set are sound good enters s =
     let p : Reader = record { size = z; words = words; row = 0; cost = 0; notation = start } in
-    let a = many before p (rows_of last ++ rest) set are sound in
-    let e = last_read (behind_all p before) last rest a.1 good enters s in
-    arrived_well z words start 0 (spelled_rows before ++ (rows_of last ++ rest)) set (a.0 ∙ e)
+    let a = many before p _ set are sound in
+    let e = last_read _ last rest a.1 good enters s in
+    arrived_well z words start 0 _ set (a.0 ∙ e)
 
 -- an item before a row up to which no rule is broken breaks none
 module _ {z : Size} {words : List ℕ} {start : NotationState} {rows : List ℕ} {row : ℕ}
@@ -100,7 +90,7 @@ module _ {z : Size} {words : List ℕ} {start : NotationState} {rows : List ℕ}
               rest = w.end ∷ rest;
               are_read = are;
               is_part = good.begun;
-              rows_are = e ∙ ap (λ x. spelled_rows before ++ x) (append_assoc (begun_rows w.begun) (w.end ∷ []) rest);
+              rows_are = e ∙ ap (λ x. spelled_rows before ++ x) (append_assoc (begun_rows w.begun) _ rest);
               row_is = refl;
             };
             breaks = h;
@@ -130,7 +120,7 @@ module _ {z : Size} {words : List ℕ} {start : NotationState} {rows : List ℕ}
       let k : length (spelled_rows after) ≡ length (spelled_rows before) + length (rows_of w) =
       ap length t ∙ length-append (spelled_rows before) (rows_of w) in
       let r = all_sound ws after rest a m g (omega (arith, fits, l, k)) in
-      (s, subst (λ (x : NotationState). AreSound z words x ws) n r)
+      (s, rw (← n) r)
 
   -- so do all items before it
   pub read_sound : (r : IsRead words start rows row) → AreSound z words start r.before
@@ -139,11 +129,11 @@ module _ {z : Size} {words : List ℕ} {start : NotationState} {rows : List ℕ}
 
 -- the items of a well-formed tape break no rule
 pub well_sound : {z : Size} {words : List ℕ} {start : NotationState} {rows : List ℕ} → WellFormed z words start rows
-    → {base : ℕ} {e : TapeEntry} (c : ComesTo words start base rows e)
+    → {base : ℕ} {e : TapeEntry} (c : RowsReachEntry words start base rows e)
     → AreSound z words start c.before × EndsSound z words e.notation c.last
 well_sound {z} {words} {start} {rows} well {e = e} c =
     let to : IsSoundTo z words start rows e.rows = λ r cause b. absurd (well r cause b) in
     let last = item_sound to c.before c.last e.rest c.are_read c.is_written c.rows_are (omega (arith, c.read_is)) in (
       all_sound to c.before [] (rows_of c.last ++ e.rest) tt c.are_read c.rows_are (omega (arith, c.read_is)),
-      subst (λ (x : NotationState). EndsSound z words x c.last) (sym c.notation_is) last,
+      rw c.notation_is last,
     )

@@ -1,27 +1,19 @@
 -- What the fold does at the items that place words and enter: `T p K`, `E p K`, `G K`, a code letter under T, and the
 -- entry item `P F`. None of them breaks a rule, so a tape of them is well formed and its fold is known.
-use Rattle.std.proofs.Common.{◌≡◌, ℕ, ◌+◌, ◌*◌, ◌/◌, ◌%◌, ◌^◌, ◌<◌, ◌≤◌, refl, ap, ◌∙◌, subst, sym, arith, true, false}
-use Rattle.std.proofs.Common.{nat_lt, nat_le, List, [], ◌∷◌, ◌++◌}
-use Rattle.ed_words.proofs.Numbers.{lt_false, le_false}
-use Rattle.ed_words.proofs.SizeLemmas.{most}
-use Rattle.ed_words.specs.declared.size.Size.{Size}
-use Rattle.ed_words.specs.Sizes.{locations}
-use Rattle.ed_words.specs.declared.order_words.TheConstants.{E_F, G_F, T_F}
-use Rattle.ed_notation.specs.declared.item.Item.{Item}
-use Rattle.ed_notation.specs.declared.cause.TapeCause.{TapeCause}
-use Rattle.ed_notation.specs.declared.cause.TapeCause.TheVariants.{BadControl, LoaderStore, StoreEnd, NoPlace}
-use Rattle.ed_notation.specs.declared.cause.TapeCause.TheVariants.{EntryNegative, EntryInLoader}
-use Rattle.ed_notation.specs.declared.kind.RowKind.{RowKind}
-use Rattle.ed_notation.specs.declared.kind.RowKind.TheVariants.{Letter}
-use Rattle.ed_notation.specs.declared.kind.LetterAction.TheVariants.{Places, Enters as EntersAt}
-use Rattle.ed_notation.specs.Items.{row_kind, Begun, item, items}
-use Rattle.ed_notation.specs.Fold.{NotationState, act, letter_action_of, address, control_of, is_entry}
-use Rattle.ed_notation.specs.Fold.{item_word, fold, begun_cost, cost_of, costs}
-use Rattle.ed_notation.specs.Faults.{breaks, bad_kay, AreRead, EndsSound, AreSound}
-use Rattle.ed_notation.specs.Spellings.{canonical, canonicals, is_spellable}
+use Rattle.ed_notation.proofs.Kit.{[], false, List, nat_le, nat_lt, refl, true, ℕ, ◌++◌, ◌+◌, ◌<◌, ◌∷◌, ◌≡◌, ◌≤◌}
+use Rattle.ed_notation.proofs.Kit.{le-ltb, lt-leb, locations, E_F, T_F, Size, locations_most, ap, arith, ◌%◌, ◌*◌, ◌/◌, ◌∙◌}
+use Rattle.ed_notation.proofs.Kit.{AreRead, AreSound, breaks, EndsSound, act, address, begun_cost, control_of, cost_of}
+use Rattle.ed_notation.proofs.Kit.{costs, fold, is_entry, item_word, letter_action_of, NotationState, Begun, item}
+use Rattle.ed_notation.proofs.Kit.{items, row_kind, canonical, canonicals, is_spellable, TapeCause, BadControl}
+use Rattle.ed_notation.proofs.Kit.{EntryInLoader, EntryNegative, LoaderStore, NoPlace, StoreEnd, Item, Places, RowKind}
+use Rattle.ed_notation.proofs.Kit.{Letter}
+use Rattle.std.proofs.Common.{◌^◌}
+use Rattle.ed_words.specs.declared.order_words.TheConstants.{G_F}
+use Rattle.ed_notation.specs.Faults.{bad_kay}
+use Rattle.ed_notation.specs.declared.kind.LetterAction.TheVariants.{Enters as EntersAt}
 use Rattle.ed_notation.proofs.Canonical.{digits_are, is_written, same_item}
-use Rattle.ed_notation.proofs.Cuts.{items-append, fold-append, costs-append}
-use Rattle.ed_notation.proofs.Cuts.{canonicals-append, AreRead-append, AreSound-append}
+use Rattle.ed_notation.proofs.Cuts.{items-append, fold-append, costs-append, canonicals-append, AreRead-append}
+use Rattle.ed_notation.proofs.Cuts.{AreSound-append}
 
 -- an item without π
 abbrev pub plain : ℕ → ℕ → ℕ → Item
@@ -54,9 +46,9 @@ module _ (z : Size) (words : List ℕ) where
         are_read = (
           is_written i can,
           ap (is_entry notation) it ∙ d.goes_on,
-          subst (λ (n : NotationState). AreRead words n (canonicals is)) (sym e) r.are_read,
+          rw e r.are_read,
         );
-        are_sound = (d.sound, subst (λ (n : NotationState). AreSound z words n (canonicals is)) (sym e) r.are_sound);
+        are_sound = (d.sound, rw e r.are_sound);
         folds = ap (λ (n : NotationState). fold words n (items (canonicals is))) e ∙ r.folds;
         costs_are = ap (λ (n : NotationState). cost_of notation (canonical i) + costs words n (canonicals is)) e
             ∙ ap (λ k. cost_of notation (canonical i) + k) r.costs_are;
@@ -71,11 +63,9 @@ module _ (z : Size) (words : List ℕ) where
       let e : fold words notation (items vs) ≡ m = a.folds in
       let both : canonicals (is ++ js) ≡ vs ++ ws = canonicals-append is js in
       record {
-        are_read = rw both (AreRead-append words notation vs ws a.are_read
-            (subst (λ (n : NotationState). AreRead words n ws) (sym e) b.are_read));
+        are_read = rw both (AreRead-append words notation vs ws a.are_read (rw e b.are_read));
         are_sound =
-            rw both (AreSound-append z words notation vs ws a.are_sound
-            (subst (λ (n : NotationState). AreSound z words n ws) (sym e) b.are_sound));
+            rw both (AreSound-append z words notation vs ws a.are_sound (rw e b.are_sound));
         folds = ap (λ us. fold words notation (items us)) both ∙ ap (fold words notation) (items-append vs ws)
             ∙ fold-append words notation (items vs) (items ws)
             ∙ ap (λ (n : NotationState). fold words n (items ws)) e ∙ b.folds;
@@ -89,13 +79,13 @@ module _ (z : Size) (words : List ℕ) where
       → EndsSound z words notation (canonical (plain f n 14))
   kay_sound notation f n good few BadControl = good
   kay_sound notation f n good few StoreEnd = let l : n ≤ 32767 = omega arith
-      in rw ((digits_are n l).number_is) (lt_false 1023 n few)
+      in rw ((digits_are n l).number_is) (le-ltb 1023 n few)
   kay_sound notation f n good few cause = refl
 
   -- T p K
-  pub aiming : (notation : NotationState) (p : ℕ) → p ≤ 1023
+  pub Does-aiming : (notation : NotationState) (p : ℕ) → p ≤ 1023
       → Does notation (plain 5 p 14) (record notation { directive = T_F + 2 * p })
-  aiming notation p h = record { goes_on = refl; sound = kay_sound notation 5 p refl h; acts = refl }
+  Does-aiming notation p h = record { goes_on = refl; sound = kay_sound notation 5 p refl h; acts = refl }
 
   -- E p K
   pub aiming_entry : (notation : NotationState) (p : ℕ) → p ≤ 1023
@@ -116,8 +106,7 @@ module _ (z : Size) (words : List ℕ) where
       → letter_action_of notation.directive ≡ Places
       → nat_lt (address notation.directive) 44 ≡ false → nat_le (locations z) (address notation.directive) ≡ false
       → (cause : TapeCause) → breaks cause r z words notation b c ≡ false
-  letter_rule e notation b c action low high cause =
-      subst (λ x. breaks cause x z words notation b c ≡ false) (sym e) (of cause)
+  letter_rule e notation b c action low high cause = rw e (of cause)
     where
       of : (k : TapeCause) → breaks k Letter z words notation b c ≡ false
       of LoaderStore = rw action low
@@ -128,15 +117,15 @@ module _ (z : Size) (words : List ℕ) where
       of k = refl
 
   -- a code letter under T p K places its word
-  pub placing : {notation : NotationState} {i : Item} (place : ℕ) {w : ℕ} → row_kind i.end ≡ Letter
+  pub Does-placing : {notation : NotationState} {i : Item} (place : ℕ) {w : ℕ} → row_kind i.end ≡ Letter
       → notation.directive ≡ T_F + 2 * place → 44 ≤ place → place < locations z → item_word words notation i ≡ w
       → Does notation i (record {
         directive = T_F + 2 * (place + 1);
         theta = notation.theta;
         placed = (place, w) ∷ notation.placed;
       })
-  placing {notation} {i} place letter d low high is =
-      let m = most z in
+  Does-placing {notation} {i} place letter d low high is =
+      let m = locations_most z in
       let five : notation.directive / 4096 ≡ 5 = omega arith in
       let action : letter_action_of notation.directive ≡ Places = rw five refl in
       let a : address notation.directive ≡ place = omega arith in
@@ -144,7 +133,7 @@ module _ (z : Size) (words : List ℕ) where
       record {
         goes_on = rw (letter, action) refl;
         sound = letter_rule letter notation (canonical i).begun i.end action
-            (rw a (lt_false place 44 low)) (rw a (le_false (locations z) place high));
+            (rw a (le-ltb place 44 low)) (rw a (lt-leb _ place high));
         acts = rw (letter, action, a, is, n) refl;
       }
 
@@ -153,7 +142,7 @@ module _ (z : Size) (words : List ℕ) where
       → notation.directive ≡ T_F + 2 * place → place < locations z
       → cost_of notation (canonical i) ≡ begun_cost (canonical i).begun + 17
   placing_cost notation i place letter d high =
-      let m = most z in
+      let m = locations_most z in
       let five : notation.directive / 4096 ≡ 5 = omega arith in
       let action : letter_action_of notation.directive ≡ Places = rw five refl in
       rw (letter, action) refl
@@ -169,13 +158,12 @@ module _ (z : Size) (words : List ℕ) where
   pub entering_at : (notation : NotationState) (p : ℕ) → notation.directive ≡ E_F + 2 * p → 44 ≤ p → p < locations z
       → Enters notation p
   entering_at notation p d low high =
-      let m = most z in
+      let m = locations_most z in
       let three : notation.directive / 4096 ≡ 3 = omega arith in
       let a : address notation.directive ≡ p = omega arith in
       record {
         enters = rw three refl;
-        sound = λ cause. by_cause (rw three refl) (rw a (lt_false p 44 low))
-            (rw a (le_false (locations z) p high)) cause;
+        sound = λ cause. by_cause (rw three refl) (rw a (le-ltb p 44 low)) (rw a (lt-leb _ p high)) cause;
         place = a;
         word = refl;
       }

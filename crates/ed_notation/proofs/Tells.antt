@@ -1,21 +1,16 @@
 -- Whatever the reader answers, there are items that say the same.
-use Rattle.std.proofs.Common.{◌≡◌, ℕ, ◌+◌, refl, sym, ap, ◌∙◌, subst, arith, lit≤, Bool, true, false, nat_lt}
-use Rattle.std.proofs.Common.{Option, Some, None, List, [], ◌∷◌, ◌++◌, length, length-append, append_assoc}
-use Rattle.ed_notation.specs.declared.cause.TapeCause.{TapeCause}
-use Rattle.ed_notation.specs.declared.cause.TapeCause.TheVariants.{EndOfTape, BadRow}
-use Rattle.ed_notation.specs.declared.reader.RowEffect.{RowEffect}
-use Rattle.ed_notation.specs.declared.reader.RowEffect.TheVariants.{Refused, Longer, Ended, Placed, Entered}
-use Rattle.ed_notation.specs.Items.{row_kind, Begun, Written, begun_rows, rows_of, spelled_rows, IsBegun, IsWritten, item}
-use Rattle.ed_notation.specs.Openings.{IsDirective}
-use Rattle.ed_notation.specs.Fold.{NotationState, act, is_entry, begun_cost, cost_of}
-use Rattle.ed_notation.specs.Faults.{breaks, is_broken, part_rows, IsPart, TapeEntry, Breaks, ComesTo}
-use Rattle.ed_notation.specs.Reading.{reading_on, Verdict, Faulty, Arrived}
-use Rattle.ed_notation.proofs.Rows.{RowLaw, EndsItem, as_part, causes}
+use Rattle.ed_notation.proofs.Kit.{[], append_assoc, Bool, false, length, length-append, List, lit≤, nat_lt, None}
+use Rattle.ed_notation.proofs.Kit.{Option, refl, Some, subst, true, ℕ, ◌++◌, ◌+◌, ◌∷◌, ◌≡◌, ltb-true, ap, arith, sym}
+use Rattle.ed_notation.proofs.Kit.{◌∙◌, Breaks, breaks, is_broken, IsPart, part_rows, RowsReachEntry, TapeEntry, act}
+use Rattle.ed_notation.proofs.Kit.{begun_cost, cost_of, is_entry, NotationState, Begun, begun_rows, IsBegun, IsWritten}
+use Rattle.ed_notation.proofs.Kit.{item, row_kind, rows_of, spelled_rows, Written, IsDirective, Arrived, Faulty}
+use Rattle.ed_notation.proofs.Kit.{reading_on, Verdict, TapeCause, BadRow, EndOfTape, RowEffect, Entered, Longer}
+use Rattle.ed_notation.proofs.Kit.{Refused}
 use Rattle.ed_notation.proofs.Directives.{KeepsDirective}
+use Rattle.ed_notation.proofs.Follow.{Reader, reads, passed, behind, inside, follow, seen_keeps, law, reader_part}
+use Rattle.ed_notation.proofs.Follow.{function_read}
 use Rattle.ed_notation.proofs.Least.{found_is}
-use Rattle.ed_notation.proofs.Follow.{Reader, reads, passed, behind, inside, follow, seen, seen_keeps, law}
-use Rattle.ed_notation.proofs.Follow.{reader_part, function_read}
-use Rattle.ed_words.proofs.Numbers.{lt_of}
+use Rattle.ed_notation.proofs.Rows.{RowLaw, EndsItem, as_part, causes}
 
 -- what items say of the rows of a tape, from where the reader is: the fault, or the entry
 pub record TellsFault (p : Reader) (tape : List ℕ) (row : ℕ) (cause : TapeCause) : Type 0 where
@@ -26,7 +21,7 @@ pub record TellsFault (p : Reader) (tape : List ℕ) (row : ℕ) (cause : TapeCa
 pub record TellsEntry (p : Reader) (tape : List ℕ) (e : TapeEntry) : Type 0 where
   pub read : ℕ
   pub rows_are : e.rows ≡ p.row + read
-  pub comes : ComesTo p.words p.notation p.cost tape (record e { rows = read })
+  pub comes : RowsReachEntry p.words p.notation p.cost tape (record e { rows = read })
 
 abbrev pub Tells : Reader → List ℕ → Verdict → Type 0
 Tells p tape (Faulty row cause) = TellsFault p tape row cause
@@ -48,8 +43,7 @@ before p w rows (Faulty row cause) good goes t =
           are_read = (good, goes, s.are_read);
           is_part = s.is_part;
           rows_are =
-              ap (λ x. rows_of w ++ x) s.rows_are
-              ∙ sym (append_assoc (rows_of w) (spelled_rows s.before) (part_rows s.part ++ s.rest));
+              ap (λ x. rows_of w ++ x) s.rows_are ∙ sym (append_assoc (rows_of w) _ _);
           row_is = omega (arith, s.row_is, length-append (rows_of w) (spelled_rows s.before));
         };
         breaks = t.breaks.breaks;
@@ -68,8 +62,7 @@ before p w rows (Arrived e) good goes t =
         notation_is = c.notation_is;
         is_entry = c.is_entry;
         rows_are =
-            ap (λ x. rows_of w ++ x) c.rows_are
-            ∙ sym (append_assoc (rows_of w) (spelled_rows c.before) (rows_of c.last ++ e.rest));
+            ap (λ x. rows_of w ++ x) c.rows_are ∙ sym (append_assoc (rows_of w) _ _);
         last_is = c.last_is;
         at_is = c.at_is;
         word_is = c.word_is;
@@ -125,7 +118,7 @@ module _ (p : Reader) (b : Begun) (c : ℕ) (rows : List ℕ) (told : Told rows)
       let ih : Tells (behind p w) rows v = (rw (row_is, cost_is) at (told (behind p w) None d tt)) in
       let e : rows_of w ++ rows ≡ begun_rows b ++ (c ∷ rows) = append_assoc (begun_rows b) (c ∷ []) rows in
       let is : IsWritten w = record { begun = good; ended = x.ended } in
-      rw (x.notation_is) (subst (λ y. Tells p y v) e (before p w rows v is x.goes_on ih))
+      rw (x.notation_is) (rw (← e) (before p w rows v is x.goes_on ih))
 
   by_taken : (t : RowEffect) → KeepsDirective p.notation t → RowLaw (row_kind c) p.size p.words p.notation b c t
       → Tells p (begun_rows b ++ (c ∷ rows)) (follow here (as_part b) c rows t)
@@ -142,9 +135,7 @@ module _ (p : Reader) (b : Begun) (c : ℕ) (rows : List ℕ) (told : Told rows)
       let ih : Tells p (begun_rows x.next ++ rows) v = (rw (row_is, cost_is) at (told p (Some x.next) set x.good)) in
       let e : begun_rows x.next ++ rows ≡ begun_rows b ++ (c ∷ rows) =
       ap (λ y. y ++ rows) x.rows_are ∙ append_assoc (begun_rows b) (c ∷ []) rows in
-      rw (x.part_is) (subst (λ y. Tells p y v) e ih)
-  by_taken (Ended s n) u law = by_end law.1 u
-  by_taken (Placed at word) u law = by_end law.1 u
+      rw (x.part_is) (rw (← e) ih)
   by_taken (Entered at) u law =
       let x = law.1 in
       let l = length-append (begun_rows b) (c ∷ []) in
@@ -166,30 +157,28 @@ module _ (p : Reader) (b : Begun) (c : ℕ) (rows : List ℕ) (told : Told rows)
           read_is = omega arith;
         };
       }
+  by_taken t u law = by_end law.1 u
 
   after_row : Tells p (begun_rows b ++ (c ∷ rows)) (reads here (Some (as_part b)) (c ∷ rows))
   unfolding reading_on
   after_row =
-      by_taken (seen p.size p.words p.notation b c) (seen_keeps p.size p.words p.notation b c set)
-      (law p.size p.words p.notation b c set good)
+      by_taken _ (seen_keeps p.size p.words p.notation b c set) (law p.size p.words p.notation b c set good)
 
 -- a function row
 by_function : (p : Reader) (f : ℕ) (rows : List ℕ) {t : Bool} → Told rows → IsDirective p.notation.directive
     → nat_lt f 32 ≡ t → Tells p (f ∷ rows) (reads (inside p None) None (f ∷ rows))
 by_function p f rows {t = true} told d h =
     let good : IsBegun (record { function = f; digits = []; mark = false }) =
-    record { function = lt_of f 32 h; digits = tt; fits = lit≤ tt } in
+    record { function = ltb-true f 32 h; digits = tt; fits = lit≤ tt } in
     let row_is : p.row + 0 + 1 ≡ p.row + 1 = omega arith in
     let cost_is : p.cost + 0 + 6 ≡ p.cost + 6 = omega arith in
-    subst (λ v. Tells p (f ∷ rows) v) (sym (function_read (inside p None) f rows h))
+    rw (function_read _ f rows h)
     (rw (row_is, cost_is) (told p (Some (record { function = f; digits = []; mark = false })) d good))
 by_function p f rows {t = false} told d h =
-    subst (λ v. Tells p (f ∷ rows) v) (sym (function_read (inside p None) f rows h))
-    (at_end p None (f ∷ rows) BadRow tt (rw h refl))
+    rw (function_read _ f rows h) (at_end p None (f ∷ rows) BadRow tt (rw h refl))
 
-pub tells : (rows : List ℕ) → Told rows
+pub Told-tells : (rows : List ℕ) → Told rows
 unfolding reading_on
-tells [] p None d is = at_end p None [] EndOfTape is refl
-tells [] p (Some b) d is = at_end p (Some b) [] EndOfTape is refl
-tells (f ∷ rows) p None d is = by_function p f rows (tells rows) d refl
-tells (c ∷ rows) p (Some b) d is = after_row p b c rows (tells rows) d is
+Told-tells (f ∷ rows) p None d is = by_function p f rows (Told-tells rows) d refl
+Told-tells (c ∷ rows) p (Some b) d is = after_row p b c rows (Told-tells rows) d is
+Told-tells [] p x d is = at_end p x [] EndOfTape is refl

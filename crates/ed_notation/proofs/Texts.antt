@@ -1,38 +1,24 @@
 -- The text of items spells their rows.
-use Rattle.std.proofs.Common.{◌≡◌, ℕ, ◌+◌, ◌-◌, ◌<◌, ◌≤◌, refl, sym, ap, ◌∙◌}
-use Rattle.std.proofs.Common.{arith, lit<, Bool, true, false}
-use Rattle.std.proofs.Common.{nat_lt, nat_le, List, [], ◌∷◌, ◌++◌, length, drop}
-use Rattle.std.specs.Prelude.{Some}
-use Rattle.std.specs.List.{list_all}
-use Rattle.std.proofs.lemmas.Bool.{and_parts}
-use Rattle.std.proofs.lemmas.Bool.Decides.{nat_tests}
-use Rattle.std.proofs.lemmas.List.{append-nil, drop_all}
-use Rattle.ed_codes.specs.Spelling.{byte_of, row_of}
-use Rattle.ed_codes.specs.Text.{Spells, none, row, spacing}
+use Rattle.ed_notation.proofs.Kit.{[], Bool, drop, false, length, List, lit<, nat_lt, refl, Some, true, ℕ, ◌++◌, ◌+◌}
+use Rattle.ed_notation.proofs.Kit.{◌-◌, ◌<◌, ◌∷◌, ◌≡◌, ◌≤◌, list_all, and_parts, le-leb, ltb-true, append-nil}
+use Rattle.ed_notation.proofs.Kit.{drop_all, byte_of, row_of, ap, arith, sym, ◌∙◌, AreDigits, Begun, begun_rows, ends}
+use Rattle.ed_notation.proofs.Kit.{IsWritten, mark_rows, row_kind, rows_of, spelled_rows, Written, AreWritten}
+use Rattle.ed_notation.proofs.Kit.{canonicals, line_from, text_of, Item, RowKind, Digit, Mark, Other}
 use Rattle.ed_codes.specs.Reading.{reading, rows}
-use Rattle.ed_codes.proofs.Spellings.{letter_back}
+use Rattle.ed_codes.specs.Text.{Spells, none, row, spacing}
 use Rattle.ed_codes.proofs.Pieces.{spells_append}
 use Rattle.ed_codes.proofs.Readings.{has_one_reading}
-use Rattle.ed_notation.specs.declared.item.Item.{Item}
-use Rattle.ed_notation.specs.declared.kind.RowKind.{RowKind}
-use Rattle.ed_notation.specs.declared.kind.RowKind.TheVariants.{Digit, Mark, Other}
-use Rattle.ed_notation.specs.Items.{row_kind, Begun, Written, mark_rows, begun_rows}
-use Rattle.ed_notation.specs.Items.{rows_of, spelled_rows, AreDigits, IsWritten, ends}
-use Rattle.ed_notation.specs.Spellings.{AreWritten, canonicals, line_from, text_of}
-use Rattle.ed_words.proofs.Numbers.{lt_of}
+use Rattle.ed_codes.proofs.Spellings.{letter_back}
 use Rattle.ed_notation.proofs.Tests.{RowMeans, row_means}
 
 -- ---- bytes
 
-digit_back : (code : ℕ) → code < 10 → row_of (48 + code) ≡ Some code
+pub digit_back : (code : ℕ) → code < 10 → row_of (48 + code) ≡ Some code
 digit_back code h =
-    let a : nat_le 48 (48 + code) ≡ true = grind (arith, nat_tests) in
-    let b : nat_le (48 + code) 57 ≡ true = grind (arith, nat_tests) in
-    let c : 48 + code - 48 ≡ code = omega arith in
-    rw (a, b) (ap Some c)
+    rw (le-leb 48 (48 + code) (omega arith), le-leb (48 + code) 57 (omega arith)) (ap Some (omega arith))
 
 as_digit_back : (code : ℕ) (t : Bool) → nat_lt code 10 ≡ t → code < 32 → row_of (byte_of code true) ≡ Some code
-as_digit_back code true e h = rw e (digit_back code (lt_of _ _ e))
+as_digit_back code true e h = rw e (digit_back code (ltb-true _ _ e))
 as_digit_back code false e h = rw e (letter_back code h)
 
 -- the byte of a code spells it
@@ -49,8 +35,8 @@ AreCodes (c ∷ cs) = (c < 32) × AreCodes cs
 -- the same, by a test
 pub are_codes : (cs : List ℕ) → list_all (λ c. nat_lt c 32) cs ≡ true → AreCodes cs
 are_codes [] h = tt
-are_codes (c ∷ cs) h = let p = and_parts (nat_lt c 32) (list_all (λ c. nat_lt c 32) cs) h in
-    (lt_of c 32 p.0, are_codes cs p.1)
+are_codes (c ∷ cs) h = let p = and_parts _ _ h in
+    (ltb-true c 32 p.0, are_codes cs p.1)
 
 codes_append : (xs ys : List ℕ) → AreCodes xs → AreCodes ys → AreCodes (xs ++ ys)
 codes_append [] ys h k = k
@@ -90,8 +76,7 @@ line_spells as_digit (c ∷ cs) h =
 text_spells : (ws : List Written) → AreWritten ws → Spells (text_of ws) (spelled_rows ws)
 text_spells [] h = none
 text_spells (w ∷ ws) h =
-    spells_append (line_from false (rows_of w)) (rows_of w) (text_of ws) (spelled_rows ws)
-    (line_spells false (rows_of w) (row_codes w h.0)) (text_spells ws h.1)
+    spells_append _ (rows_of w) _ _ (line_spells false (rows_of w) (row_codes w h.0)) (text_spells ws h.1)
 
 pub text_reads : (ws : List Written) → AreWritten ws → reading (text_of ws) ≡ rows (spelled_rows ws)
 text_reads ws h = has_one_reading.only (text_of ws) (rows (spelled_rows ws)) (text_spells ws h)

@@ -1,14 +1,9 @@
 -- No spelling of an item is the beginning of a spelling of another item.
-use Rattle.std.proofs.Common.{◌≡◌, ℕ, ◌≤◌, refl, sym, ap, ◌∙◌, arith, Bool, true, false}
-use Rattle.std.proofs.Common.{List, [], ◌∷◌, ◌++◌, append_assoc}
-use Rattle.std.proofs.lemmas.List.{append-nil}
-use Rattle.ed_notation.specs.declared.item.Item.{Item}
-use Rattle.ed_notation.specs.declared.kind.RowKind.{RowKind}
-use Rattle.ed_notation.specs.declared.kind.RowKind.TheVariants.{Digit, Mark, Other}
-use Rattle.ed_notation.specs.Items.{row_kind, Begun, Written, mark_rows, begun_rows}
-use Rattle.ed_notation.specs.Items.{rows_of, spelled_rows, AreDigits, IsWritten}
-use Rattle.ed_notation.specs.Items.{ends, item, items}
-use Rattle.ed_notation.specs.Spellings.{AreWritten, SpellsAll, NoSpellingBeginsAnother}
+use Rattle.ed_notation.proofs.Kit.{[], append_assoc, Bool, false, List, refl, true, ℕ, ◌++◌, ◌∷◌, ◌≡◌, ◌≤◌, append-nil}
+use Rattle.ed_notation.proofs.Kit.{ap, arith, sym, ◌∙◌, AreDigits, Begun, begun_rows, ends, IsWritten, item, items}
+use Rattle.ed_notation.proofs.Kit.{mark_rows, row_kind, rows_of, spelled_rows, Written, AreWritten, SpellsAll, Item}
+use Rattle.ed_notation.proofs.Kit.{RowKind, Digit, Mark, Other}
+use Rattle.ed_notation.specs.Spellings.{NoSpellingBeginsAnother}
 use Rattle.ed_notation.proofs.Tests.{RowMeans, row_means}
 
 -- an ending row is at least 13
@@ -59,8 +54,7 @@ record SameItem (v w : Written) (a b : List ℕ) : Type 0 where
 apart : (w : Written) (a : List ℕ)
     → rows_of w ++ a ≡ w.begun.function ∷ (w.begun.digits ++ (mark_rows w.begun.mark ++ (w.end ∷ a)))
 apart w a =
-    append_assoc (begun_rows w.begun) (w.end ∷ []) a
-    ∙ ap (λ x. w.begun.function ∷ x) (append_assoc w.begun.digits (mark_rows w.begun.mark) (w.end ∷ a))
+    append_assoc (begun_rows w.begun) (w.end ∷ []) a ∙ ap (λ x. w.begun.function ∷ x) (append_assoc _ _ (w.end ∷ a))
 
 -- the item that the first rows spell is one item
 one_item : (v w : Written) (a b : List ℕ) → IsWritten v → IsWritten w → rows_of v ++ a ≡ rows_of w ++ b
@@ -79,8 +73,8 @@ one_item v w a b p q e =
 -- the law
 pub none_begins : NoSpellingBeginsAnother
 none_begins i j rows more p q =
-    let e = ap (λ x. x ++ more) p.rows_are ∙ sym q.rows_are ∙ sym (append-nil (rows_of q.written)) in
-    let r = one_item p.written q.written more [] p.good q.good e in
+    let e = ap (λ x. x ++ more) p.rows_are ∙ sym q.rows_are ∙ sym (append-nil _) in
+    let r = one_item _ _ more [] p.good q.good e in
     (sym p.item_is ∙ ap item r.item ∙ q.item_is, r.rest)
 
 none_empty : (w : Written) (xs : List ℕ) → (let x : List ℕ = [] in x) ≡ rows_of w ++ xs → ⊥
@@ -91,7 +85,7 @@ one_list [] [] p q e = refl
 one_list [] (w ∷ ws) p q e = absurd (none_empty w (spelled_rows ws) e)
 one_list (v ∷ vs) [] p q e = absurd (none_empty v (spelled_rows vs) (sym e))
 one_list (v ∷ vs) (w ∷ ws) p q e =
-    let r = one_item v w (spelled_rows vs) (spelled_rows ws) p.0 q.0 e in
+    let r = one_item v w _ _ p.0 q.0 e in
     let x = r.item in
     let y = one_list vs ws p.1 q.1 r.rest in
     cc
@@ -99,5 +93,5 @@ one_list (v ∷ vs) (w ∷ ws) p q e =
 -- the rows spell no other list of items
 pub no_other : (is js : List Item) (rows : List ℕ) → SpellsAll is rows → SpellsAll js rows → is ≡ js
 no_other is js rows p q =
-    let e = one_list p.written q.written p.good q.good (p.rows_are ∙ sym q.rows_are) in
+    let e = one_list _ _ p.good q.good (p.rows_are ∙ sym q.rows_are) in
     sym p.items_are ∙ ap items e ∙ q.items_are

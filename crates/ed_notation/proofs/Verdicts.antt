@@ -1,10 +1,6 @@
 -- A list of rows reaches one entry, or has one fault.
-use Rattle.std.proofs.Common.{◌≡◌, ℕ, sym, ◌∙◌, List}
-use Rattle.ed_words.specs.declared.size.Size.{Size}
-use Rattle.ed_notation.specs.Fold.{NotationState}
-use Rattle.ed_notation.specs.Faults.{ComesTo, IsFault, TapeEntry, WellFormed}
-use Rattle.ed_notation.specs.Reading.{Arrived, Faulty, ReadingIsRules}
-use Rattle.ed_notation.specs.declared.cause.TapeCause.{TapeCause}
+use Rattle.ed_notation.proofs.Kit.{List, ℕ, ◌≡◌, Size, sym, ◌∙◌, IsFault, RowsReachEntry, TapeEntry, WellFormed}
+use Rattle.ed_notation.proofs.Kit.{NotationState, Arrived, Faulty, ReadingIsRules, TapeCause}
 
 entry_of : {e f : TapeEntry} → Arrived e ≡ Arrived f → e ≡ f
 entry_of is = cc
@@ -14,8 +10,8 @@ row_of is = (cc, cc)
 
 module _ {z : Size} {words : List ℕ} {start : NotationState} {base : ℕ} {rows : List ℕ}
     (law : ReadingIsRules z words start base rows) where
-  pub entry_once : {e f : TapeEntry} → WellFormed z words start rows → ComesTo words start base rows e
-      → ComesTo words start base rows f → e ≡ f
+  pub entry_once : {e f : TapeEntry} → WellFormed z words start rows → RowsReachEntry words start base rows e
+      → RowsReachEntry words start base rows f → e ≡ f
   entry_once {e} {f} well a b = entry_of (sym (law.arrived e well a) ∙ law.arrived f well b)
 
   pub fault_once : {row other : ℕ} {cause rule : TapeCause} → IsFault z words start rows row cause

@@ -7,7 +7,7 @@ use Rattle.ed_notation.specs.declared.cause.TapeFault.{TapeFault}
 use Rattle.ed_notation.specs.declared.cause.TapeFault.TheVariants.{At, Memory}
 use Rattle.ed_notation.specs.Fold.{NotationState, placed_at, over}
 use Rattle.ed_notation.specs.Openings.{opening_with}
-use Rattle.ed_notation.specs.Faults.{TapeEntry, IsFault, WellFormed, ComesTo, EndsSound, AreSound}
+use Rattle.ed_notation.specs.Faults.{TapeEntry, IsFault, WellFormed, RowsReachEntry, EndsSound, AreSound}
 use Rattle.ed_notation.specs.Reports.{Report, word_in}
 
 -- the answer for a well-formed tape: no rule is broken at any row; the first rows spell items that the fold takes
@@ -16,7 +16,7 @@ pub record Accepts (z : Size) (words : List ℕ) (start : NotationState) (base :
     Type 0 where
   pub well : WellFormed z words start rows
   pub entry : TapeEntry
-  pub comes : ComesTo words start base rows entry
+  pub comes : RowsReachEntry words start base rows entry
   pub sound : AreSound z words start comes.before
   pub last_sound : EndsSound z words entry.notation comes.last
   pub entry_is : r.entry ≡ entry.at
@@ -52,7 +52,7 @@ pub record Arrives (z : Size) (words : List ℕ) (start : NotationState) (base :
     (contents : List ℕ) (marks : List Bool) : Type 0 where
   pub well : WellFormed z words start rows
   pub entry : TapeEntry
-  pub comes : ComesTo words start base rows entry
+  pub comes : RowsReachEntry words start base rows entry
   pub entry_is : r.entry ≡ entry.at
   pub orders_are : r.orders ≡ entry.cost
   pub rows_are : r.rows ≡ entry.rows

@@ -164,7 +164,8 @@ pub record TapeEntry : Type 0 where
 
 -- the first rows of the tape spell items, only the last of them an entry item, and the entry is what their fold gives;
 -- `base` is the cost before the first row
-pub record ComesTo (words : List ℕ) (start : NotationState) (base : ℕ) (rows : List ℕ) (e : TapeEntry) : Type 0 where
+pub record RowsReachEntry (words : List ℕ) (start : NotationState) (base : ℕ) (rows : List ℕ)
+    (e : TapeEntry) : Type 0 where
   pub before : List Written
   pub last : Written
   pub are_read : AreRead words start before

@@ -22,7 +22,7 @@ use Rattle.ed_notation.specs.declared.reader.RowEffect.TheVariants.{Refused, Lon
 use Rattle.ed_notation.specs.Items.{row_kind}
 use Rattle.ed_notation.specs.Fold.{NotationState, over, value_of, word_with, address, control_of, letter_action_of}
 use Rattle.ed_notation.specs.Openings.{IsDirective}
-use Rattle.ed_notation.specs.Faults.{is_place, TapeEntry, IsFault, WellFormed, ComesTo}
+use Rattle.ed_notation.specs.Faults.{is_place, TapeEntry, IsFault, WellFormed, RowsReachEntry}
 
 -- a digit row
 abbrev pub digit_effect : PartialItem → ℕ → RowEffect
@@ -164,11 +164,12 @@ pub record ReadingIsRules (z : Size) (words : List ℕ) (start : NotationState) 
   pub found : (row : ℕ) (cause : TapeCause) → IsFault z words start rows row cause
       → reading_on z words 0 base start None rows ≡ Faulty row cause
   pub well : (e : TapeEntry) → reading_on z words 0 base start None rows ≡ Arrived e → WellFormed z words start rows
-  pub comes : (e : TapeEntry) → reading_on z words 0 base start None rows ≡ Arrived e → ComesTo words start base rows e
-  pub arrived : (e : TapeEntry) → WellFormed z words start rows → ComesTo words start base rows e
+  pub comes : (e : TapeEntry) → reading_on z words 0 base start None rows ≡ Arrived e
+      → RowsReachEntry words start base rows e
+  pub arrived : (e : TapeEntry) → WellFormed z words start rows → RowsReachEntry words start base rows e
       → reading_on z words 0 base start None rows ≡ Arrived e
   -- every tape is well formed and reaches an entry, or has a fault
-  pub either : (WellFormed z words start rows × ((e : TapeEntry) × ComesTo words start base rows e))
+  pub either : (WellFormed z words start rows × ((e : TapeEntry) × RowsReachEntry words start base rows e))
       ⊎ ((row : ℕ) × (cause : TapeCause) × IsFault z words start rows row cause)
 
 -- that holds from every opening state whose directive is an order P, E or T

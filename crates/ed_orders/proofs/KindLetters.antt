@@ -1,15 +1,13 @@
 -- Each order's function is the code of its letter.
-use Rattle.std.proofs.Common.{◌≡◌, ℕ, ◌<◌, refl, sym, ap, ◌∙◌, [], ◌∷◌, Option, Some}
-use Rattle.std.proofs.Common.{None, unwrap_or, Bool, true, false, nat_eq, nat_lt, lit<}
-use Rattle.std.specs.Prelude.{slice_index}
-use Rattle.std.proofs.lemmas.List.{get_or_past}
-use Rattle.ed_words.proofs.Numbers.{eq_of, lt_of, not_lt_of}
-use Rattle.ed_codes.specs.Spelling.{letters, byte_of, row_of}
-use Rattle.ed_codes.proofs.Below.{from_below}
+use Rattle.ed_orders.proofs.Kit.{[], ap, Bool, false, nat_lt, None, Option, refl, slice_index, Some, sym, true, ℕ, ◌<◌}
+use Rattle.ed_orders.proofs.Kit.{◌∙◌, ◌∷◌, ◌≡◌, ltb-true, get_or_past, letters, from_below, kind_of_function, kinds}
+use Rattle.ed_orders.proofs.Kit.{Kind, L, R}
+use Rattle.std.proofs.Common.{unwrap_or, nat_eq, lit<}
+use Rattle.std.proofs.lemmas.Bool.{eqb-true, ltb-false}
+use Rattle.ed_codes.specs.Spelling.{byte_of, row_of}
 use Rattle.ed_codes.proofs.Spellings.{letter_back}
-use Rattle.ed_orders.specs.Kinds.{kinds, kind_of_function, letter_of, FunctionIsByLetter}
-use Rattle.ed_orders.specs.declared.kind.Kind.{Kind}
-use Rattle.ed_orders.specs.declared.kind.Kind.TheVariants.{A, S, H, V, N, T, U, C, R, L, E, G, I, O, F, X, Y, Z}
+use Rattle.ed_orders.specs.Kinds.{letter_of, FunctionIsByLetter}
+use Rattle.ed_orders.specs.declared.kind.Kind.TheVariants.{A, S, H, V, N, T, U, C, E, G, I, O, F, X, Y, Z}
 
 -- the function of an order
 abbrev function_of_kind : Kind → ℕ
@@ -67,9 +65,10 @@ from_kind : (f : ℕ) (k : Kind) → kind_of_function f ≡ Some k → f ≡ fun
 from_kind f k e = by_test (nat_lt f 32) refl
   where
     by_test : (b : Bool) → nat_lt f 32 ≡ b → f ≡ function_of_kind k
-    by_test true t = eq_of f _
-        (sym (ap (has_function f) e) ∙ from_below (λ n. has_function n (kind_of_function n)) 32 f refl (lt_of f 32 t))
-    by_test false t = let none = sym (get_or_past kinds f None (not_lt_of f 32 t)) ∙ e in absurd (cc)
+    by_test true t = eqb-true f _
+        (sym (ap (has_function f) e) ∙ from_below (λ n. has_function n (kind_of_function n)) 32 f
+        refl (ltb-true f 32 t))
+    by_test false t = let none = sym (get_or_past kinds f None (ltb-false f 32 t)) ∙ e in absurd (cc)
 
 -- the function that an order's letter spells is that order's
 from_letter : (f : ℕ) (k : Kind) → letter_of k ≡ byte_of f false ∷ [] → f ≡ function_of_kind k
@@ -81,8 +80,8 @@ from_letter f k e = by_test (nat_lt f 32) refl
         ∙ letter_back (function_of_kind k) (own k).below
 
     by_test : (b : Bool) → nat_lt f 32 ≡ b → f ≡ function_of_kind k
-    by_test true t = ap (λ row. unwrap_or row 0) (sym (letter_back f (lt_of f 32 t)) ∙ same)
-    by_test false t = let none = sym (ap row_of (get_or_past letters f 0 (not_lt_of f 32 t))) ∙ same in absurd (cc)
+    by_test true t = ap (λ row. unwrap_or row 0) (sym (letter_back f (ltb-true f 32 t)) ∙ same)
+    by_test false t = let none = sym (ap row_of (get_or_past letters f 0 (ltb-false f 32 t))) ∙ same in absurd (cc)
 
 -- a function is an order's if and only if the order's letter spells it
 pub by_letter : FunctionIsByLetter

@@ -1,6 +1,6 @@
 -- Decimal numerals.
-use Rattle.std.proofs.Common.{ℕ, ◌<◌, ◌≤◌, length, arith}
-use Rattle.std.specs.Prelude.{decimal}
+use Rattle.ed_orders.proofs.Kit.{arith, length, ℕ, ◌<◌, ◌≤◌}
+use Rattle.std.proofs.Common.{decimal}
 use Rattle.std.proofs.lemmas.Fmt.{length-decimal-le}
 
 -- a number below 2048 has at most four digits

@@ -1,17 +1,13 @@
 -- How far the shift orders shift.
-use Rattle.std.proofs.Common.{◌≡◌, ℕ, zero, suc, ◌+◌, ◌-◌, ◌/◌, ◌%◌, ◌^◌, ◌<◌, ◌≤◌, refl, ap}
-use Rattle.std.proofs.Common.{arith, add-one, Bool, true, false, ◌||◌, not, nat_lt, Option, Some}
-use Rattle.std.specs.Int.{w32, trailing_zeros}
+use Rattle.ed_orders.proofs.Kit.{ap, arith, Bool, false, nat_lt, Option, refl, Some, true, ℕ, ◌+◌, ◌<◌, ◌≡◌, ◌≤◌}
+use Rattle.ed_orders.proofs.Kit.{trailing_zeros, w32, from_below, kind_of_function, places, Kind, L, R}
+use Rattle.std.proofs.Common.{zero, suc, ◌-◌, ◌/◌, ◌%◌, ◌^◌, add-one, ◌||◌, not}
 use Rattle.std.proofs.lemmas.Bool.Decides.{nat_tests}
 use Rattle.std.proofs.lemmas.Nat.{mod-pow-add}
 use Rattle.std.proofs.lemmas.Nat.Bits.{bit_at-trailing_zeros}
-use lib.Count.{count_trailing_zeros, under}
 use Rattle.ed_words.specs.Words.{function_of}
-use Rattle.ed_orders.specs.Kinds.{kind_of_function}
-use Rattle.ed_orders.specs.Places.{IsPlaces, places}
-use Rattle.ed_orders.specs.declared.kind.Kind.{Kind}
-use Rattle.ed_orders.specs.declared.kind.Kind.TheVariants.{R, L}
-use Rattle.ed_codes.proofs.Below.{from_below}
+use Rattle.ed_orders.specs.Places.{IsPlaces}
+use lib.Count.{count_trailing_zeros, under}
 
 -- the places of a number that isn't 0 are those that the law describes
 pub places_are : (w : ℕ) → 0 < w → w < 2 ^ 32 → IsPlaces w (places w)

@@ -1,17 +1,13 @@
 -- Lists that grow at their ends: a loop that takes the items of a list one after the other, and texts that are added.
-use Rattle.ed_page.proofs.Kit.{◌≡◌, ℕ, ◌+◌, ◌<◌, ◌≤◌, List, [], ◌∷◌, ◌++◌, reverse, length, get_or, take, drop, IfSome}
-use Rattle.ed_page.proofs.Kit.{ap, Some, None, Option, flat_map, sym, refl, ◌∙◌, append_assoc, append-nil, arith}
-use Rattle.ed_page.proofs.Kit.{drop_all, latest_shift}
+use Rattle.ed_page.proofs.Kit.{flat_map, IfSome, IsNone, ◌↔◌, latest_shift, paper_from, Shift, take, drop_all, [], ap}
+use Rattle.ed_page.proofs.Kit.{append-nil, append_assoc, arith, drop, get_or, length, List, None, Option, refl}
+use Rattle.ed_page.proofs.Kit.{reverse, Some, sym, ℕ, ◌++◌, ◌+◌, ◌<◌, ◌∙◌, ◌∷◌, ◌≡◌, ◌≤◌, four_bytes}
 use Rattle.std.proofs.Common.{add-one, set, drop-cons}
 use Rattle.std.specs.Option.{UnwrapsOrElse}
-use Rattle.std.specs.Prelude.{◌↔◌, IsNone}
-use Rattle.std.proofs.lemmas.List.{length-take-le}
 use Rattle.std.proofs.Math.Seq.{set-append_seam, take-suc}
-use Rattle.ed_printer.specs.Paper.{paper_from}
-use Rattle.ed_printer.specs.declared.printer.Shift.{Shift}
+use Rattle.std.proofs.lemmas.List.{length-take-le}
 use Rattle.ed_printer.proofs.Texts.{Strikes, struck_alone}
 use Rattle.ed_page.specs.Going.{added_text}
-use Rattle.ed_page.specs.TapeItems.{four_bytes}
 
 -- the item taken, and those left after it
 left_by : (s : List ℕ) (i x : ℕ) → i < length s → x ≡ get_or s i 0 → drop i s ≡ x ∷ drop (i + 1) s

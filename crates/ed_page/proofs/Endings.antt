@@ -1,14 +1,10 @@
 -- From a run that ended, with its note, to what the program answers of it.
-use Rattle.ed_page.proofs.Kit.{◌≡◌, ℕ, List, [], ◌++◌, ap, None, Option, ◌∙◌, subst, append-nil, Text, RunEnd, Settings}
-use Rattle.ed_page.proofs.Kit.{Line, tape, IsRan, run_of, run_outcome, FinishedRun, NotedRun}
-use Rattle.std.specs.Prelude.{Result, Ok, IfOk}
+use Rattle.ed_page.proofs.Kit.{Settings, Line, IsRunResult, FinishedRun, NotedRun, [], ap, append-nil, List, None, Ok}
+use Rattle.ed_page.proofs.Kit.{Option, Result, subst, ℕ, ◌++◌, ◌∙◌, ◌≡◌, Text, paper, RunEnd, tape, ending_line}
+use Rattle.ed_page.proofs.Kit.{ran_outcome, run_of, status_of, entered_before, run_outcome, tape_outcome}
+use Rattle.ed_answers.proofs.Kit.{IfOk, post_mortem_codes, with_post_mortem}
 use Rattle.ed_words.specs.declared.memory.NoMemory.{NoMemory}
-use Rattle.ed_printer.specs.Paper.{paper}
-use Rattle.ed_report.specs.Notes.{ending_line}
 use Rattle.ed_run.specs.declared.settings.Window.{Window}
-use Rattle.ed_answers.specs.Runs.{post_mortem_codes, ran_outcome, status_of, with_post_mortem}
-use Rattle.ed_answers.specs.Sources.{entered_before}
-use Rattle.ed_answers.specs.Tapes.{tape_outcome}
 use Rattle.ed_page.specs.Private.Stages.{noted_outcome}
 
 -- no post-mortem prints nothing
@@ -30,7 +26,7 @@ plain_source s none lines =
     let r = run_of s (tape lines) in unasked (entered_before lines r.state) s.post_mortem r none
 
 -- a run that ended is the one of an outcome
-pub noted_run : (before : Text) {r : RunEnd} (noted : NotedRun) → IsRan r noted.ran
+pub noted_run : (before : Text) {r : RunEnd} (noted : NotedRun) → IsRunResult r noted.ran
     → noted.note.items ≡ before ++ ending_line noted.ran.ending noted.ran.machine
     → noted_outcome noted ≡ ran_outcome before r
 noted_run before {r} noted is n =

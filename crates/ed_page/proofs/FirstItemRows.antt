@@ -1,23 +1,17 @@
 -- That the plain program over rows makes the table of the items of May 1949 that the rows spell.
-use Rattle.ed_page.proofs.Kit.{◌≡◌, ℕ, ◌+◌, ◌*◌, ◌<◌, ◌≤◌, Bool, true, false, List, [], ◌∷◌, ◌++◌, length, get_or, take}
-use Rattle.ed_page.proofs.Kit.{drop, if◌then◌else◌, nat_lt, ap, Some, None, Option, sym, refl, ◌∙◌, subst, inl, inr}
-use Rattle.ed_page.proofs.Kit.{append_assoc, append-nil, arith, lit≤, length-append, drop_all, lt_false, done, Outcome}
-use Rattle.ed_page.proofs.Kit.{Gives, Reply}
-use Rattle.std.proofs.Math.Seq.{take-append_seam}
-use Rattle.ed_words.proofs.Numbers.{lt_true}
-use Rattle.ed_notation.specs.Items.{AreDigits, digits_number}
-use Rattle.ed_notation.specs.declared.kind.RowKind.TheVariants.{Digit}
-use Rattle.ed_notation.proofs.Loop.{next_row}
-use Rattle.ed_initial1.specs.declared.cause.Tape1Cause.{Tape1Cause}
+use Rattle.ed_page.proofs.Kit.{take-append_seam, Digit, length-append, lit≤, take, ◌*◌, le-ltb, lt-ltb, drop_all}
+use Rattle.ed_page.proofs.Kit.{AreDigits, digits_number, next_row, IsFault1, Tape1Cause, Reply, [], ap, append-nil}
+use Rattle.ed_page.proofs.Kit.{append_assoc, arith, Bool, drop, false, get_or, if◌then◌else◌, inl, inr, length, List}
+use Rattle.ed_page.proofs.Kit.{nat_lt, None, Option, refl, Some, subst, sym, true, ℕ, ◌++◌, ◌+◌, ◌<◌, ◌∙◌, ◌∷◌, ◌≡◌}
+use Rattle.ed_page.proofs.Kit.{◌≤◌, done, Outcome, Gives, item_at, opened_with, IsReplied, IsItemsOutcome1, item_line}
+use Rattle.ed_page.proofs.Kit.{OpenItem}
 use Rattle.ed_initial1.specs.Checks.{Accepts1, Report1}
-use Rattle.ed_initial1.specs.Faults.{IsFault1, IsPart1, part_rows1}
+use Rattle.ed_initial1.specs.Faults.{IsPart1, part_rows1}
 use Rattle.ed_initial1.specs.Items.{AreItems, Begun1, IsBegun1, Item1, ending_row, rows_of1, spelled_rows1, word1}
 use Rattle.ed_report.specs.FirstNotes.{rule1_line}
-use Rattle.ed_page.specs.TapeItems.{IsItemsOutcome1, item_line, item_table1}
-use Rattle.ed_page.specs.Private.ItemTables.{first_word, item_at, table_on1, opened_with}
-use Rattle.ed_page.specs.Private.Stages.{IsReplied}
-use Rattle.ed_page.specs.declared.items.OpenItem.{OpenItem}
-use Rattle.ed_page.proofs.ItemRows.{IsOpen, larger, with_number}
+use Rattle.ed_page.specs.Private.ItemTables.{first_word, table_on1}
+use Rattle.ed_page.specs.TapeItems.{item_table1}
+use Rattle.ed_page.proofs.ItemRows.{IsOpen, digits_number-larger, with_number}
 
 -- ---- the rows of an item
 
@@ -35,11 +29,11 @@ digit_rows1 : (row location : ℕ) (p : OpenItem) (ds more : List ℕ) → AreDi
 digit_rows1 row location p [] more are few =
     let same : row + 0 ≡ row = omega arith in ap (λ r. table_on1 r location (Some p) more) (sym same)
 digit_rows1 row location p (d ∷ ds) more are few =
-    let low : p.number ≤ 32767 = let a = larger p.number (d ∷ ds) in omega (arith, a, few) in
+    let low : p.number ≤ 32767 = let a = digits_number-larger p.number (d ∷ ds) in omega (arith, a, few) in
     let fits : (if nat_lt 32767 p.number then p.number else 10 * p.number + d) ≡ 10 * p.number + d =
-    rw (lt_false 32767 p.number low) refl in
+    rw (le-ltb 32767 p.number low) refl in
     let same : row + 1 + length ds ≡ row + length (d ∷ ds) = omega arith in
-    digit_row1 row location p d (ds ++ more) (lt_true d 10 are.0)
+    digit_row1 row location p d (ds ++ more) (lt-ltb d 10 are.0)
     ∙ ap (λ m. table_on1 (row + 1) location (Some (with_number p m)) (ds ++ more)) fits
     ∙ digit_rows1 (row + 1) location (with_number p (10 * p.number + d)) ds more are.1 few
     ∙ ap (λ r. table_on1 r location (Some (with_number p (digits_number p.number (d ∷ ds)))) more) same
@@ -172,7 +166,7 @@ module _ {row location c : ℕ} {table rows : List ℕ} where
         → IsTabled1 (row + 1) location (Some q) table rows
     tabled_digit1 is {q} same few = record {
       whole = ap (λ x. table ++ table_on1 (row + 1) location (Some x) (drop (row + 1) rows)) same
-          ∙ ap (λ xs. table ++ xs) (sym (digit_row1 row location p c (drop (row + 1) rows) (lt_true c 10 is)))
+          ∙ ap (λ xs. table ++ xs) (sym (digit_row1 row location p c (drop (row + 1) rows) (lt-ltb c 10 is)))
           ∙ ap (λ xs. table ++ table_on1 row location (Some p) xs) (sym (next_row rows row c low e)) ∙ t.whole;
       in_range = few;
       most = omega (arith, t.most);
@@ -189,7 +183,7 @@ module _ {row location c : ℕ} {table rows : List ℕ} where
               ∙ (λ i. (table ++ item_line p.first (row + 1) (Some (location, word i)))
               ++ table_on1 (row + 1) (location + 1) None more)
               ∙ append_assoc table one (table_on1 (row + 1) (location + 1) None more)
-              ∙ ap (λ xs. table ++ xs) (sym (last_row1 row location p c more (lt_false c 10 is)))
+              ∙ ap (λ xs. table ++ xs) (sym (last_row1 row location p c more (le-ltb c 10 is)))
               ∙ ap (λ xs. table ++ table_on1 row location (Some p) xs) (sym (next_row rows row c low e)) ∙ t.whole;
           in_range = tt;
           most = omega (arith, t.most);

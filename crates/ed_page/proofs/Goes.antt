@@ -1,18 +1,12 @@
 -- Where the run from the state of a picture ends, and that continuing twice is continuing once.
-use Rattle.ed_page.proofs.Kit.{◌≡◌, ℕ, ◌+◌, ◌-◌, ◌<◌, ◌≤◌, Bool, true, false, List, length, if◌then◌else◌, nat_lt, ap}
-use Rattle.ed_page.proofs.Kit.{Some, None, Option, sym, refl, ◌∙◌, arith, length-append, lt_false, State, state_after}
-use Rattle.ed_page.proofs.Kit.{run_end, Settings, first_state, run1_of, first_state1, paper_room, run_of}
-use Rattle.std.proofs.Common.{nat_eq, nat_le, is_some, unwrap_or}
-use Rattle.std.proofs.lemmas.Bool.Decides.{nat_tests}
-use Rattle.ed_words.proofs.Numbers.{eq_false}
-use Rattle.ed_machine.specs.OrderTable.{step}
-use Rattle.ed_machine.specs.Steps.{Progress, least, progress}
-use Rattle.ed_machine.specs.declared.ending.Ending.{Ending}
-use Rattle.ed_machine.specs.declared.ending.Ending.TheVariants.{Stopped, Limit}
-use Rattle.ed_machine.proofs.LeastNumbers.{least_on}
+use Rattle.ed_page.proofs.Kit.{ne_eqb, Ending, Limit, Stopped, Settings, length-append, le-ltb, run1_of, ap, arith}
+use Rattle.ed_page.proofs.Kit.{Bool, false, if◌then◌else◌, length, List, nat_eq, nat_le, nat_lt, None, Option, refl}
+use Rattle.ed_page.proofs.Kit.{Some, sym, true, ℕ, ◌+◌, ◌-◌, ◌<◌, ◌∙◌, ◌≡◌, ◌≤◌, step, State, progress, state_after}
+use Rattle.ed_page.proofs.Kit.{run_end, run_orders, first_state, first_state1, paper_room, run_of}
+use Rattle.ed_answers.proofs.Kit.{nat_tests, Progress, end_at, end_by, ran_ends}
+use Rattle.ed_machine.proofs.LeastNumbers.{first_later}
 use Rattle.ed_machine.proofs.Steps.{after_sum, no_step, past_sum}
-use Rattle.ed_run.specs.Run.{end_at, end_by, run_orders}
-use Rattle.ed_run.proofs.Ends.{ran_ends}
+use Rattle.ed_run.proofs.Ends.{ran_is}
 use Rattle.ed_page.specs.Going.{GoingLaw, run_following}
 
 -- if a run goes on, the next order doesn't end it
@@ -59,18 +53,17 @@ goes_on limit resumes room orders more s =
     let k = run_orders limit resumes room s in
     let p = progress k s in
     let left = room - length p.codes in
-    let test : ℕ → Bool = λ j. is_some (end_at (k + orders) (p.stops + more) room j (progress j s)) in
-    let later : ℕ → Bool = λ j. is_some (end_at orders more left j (progress j p.state)) in
-    let none : (j : ℕ) → j < k → test j ≡ false = λ j l.
+    let m = run_orders orders more left p.state in
+    let none : (j : ℕ) → j < k → end_at (k + orders) (p.stops + more) room j (progress j s) ≡ None = λ j l.
     let open_at = next_open limit resumes room j (progress j s) ((ran_ends limit resumes room s).first j l) in
     let few = more_stops j k s (omega arith) in
     rw (
-      lt_false (p.stops + more) (progress j s).stops (omega (arith, few)),
-      eq_false j (k + orders) (omega (arith, l)),
+      le-ltb (p.stops + more) (progress j s).stops (omega (arith, few)),
+      ne_eqb j (k + orders) (omega (arith, l)),
       open_at,
     ) refl in
-    let at : (j : ℕ) → end_at (k + orders) (p.stops + more) room (k + j) (progress (k + j) s)
-    ≡ end_at orders more left j (progress j p.state) = λ j.
+    let at : (j : ℕ) → j ≤ m → end_at (k + orders) (p.stops + more) room (k + j) (progress (k + j) s)
+    ≡ end_at orders more left j (progress j p.state) = λ j l.
     let q = progress j p.state in
     rw (
       past_sum k j s,
@@ -79,11 +72,10 @@ goes_on limit resumes room orders more s =
       length-append p.codes q.codes,
       later_room room (length p.codes) (length q.codes),
     ) refl in
-    let place : least test (k + orders) ≡ k + least later orders =
-    least_on test later k orders none (λ j. ap is_some (at j)) in
-    let m = least later orders in
-    rw place (λ i. record {
-      ending = unwrap_or (at m i) Limit;
+    ran_is (k + orders) (p.stops + more) room (k + m) s (run_end orders more left p.state).ending
+    (first_later none at (ran_ends orders more left p.state))
+    ∙ (λ i. record {
+      ending = (run_end orders more left p.state).ending;
       state = (past_sum k m s i).state;
       codes = (past_sum k m s i).codes;
     })
@@ -98,11 +90,11 @@ pub from_start1 : (s : Settings) (codes : List ℕ)
 from_start1 s codes = ap (run_end s.limit s.resumes paper_room) (no_step (first_state1 codes))
 
 -- and where a run ends is on the way
-pub stays : (first : State) (k limit resumes room : ℕ)
+pub run_end-stays : (first : State) (k limit resumes room : ℕ)
     → (j : ℕ) × ((run_end limit resumes room (state_after k first)).state ≡ state_after (k + j) first)
 unfolding run_end
-stays first k limit resumes room =
+run_end-stays first k limit resumes room =
     let j = run_orders limit resumes room (state_after k first) in (j, sym (after_sum k j first))
 
 pub going_law : GoingLaw
-going_law = record { goes_on = goes_on; from_start = from_start; from_start1 = from_start1; stays = stays }
+going_law = record { goes_on = goes_on; from_start = from_start; from_start1 = from_start1; stays = run_end-stays }

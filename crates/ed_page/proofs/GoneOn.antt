@@ -1,16 +1,13 @@
 -- From a run that continued to the cause of an answer.
-use Rattle.ed_page.proofs.Kit.{◌≡◌, ℕ, ◌+◌, ◌-◌, ◌<◌, ◌≢◌, ◌⊎◌, List, [], length, ap, sym, refl, ◌∙◌, subst, inl, inr}
-use Rattle.ed_page.proofs.Kit.{arith, lit<, Text, State, state_after, RunEnd, run_end, IsRan, paper_room, FinishedRun}
-use Rattle.ed_page.proofs.Kit.{IsShown, AreCodes, Pictures, Registers}
-use Rattle.ed_machine.specs.declared.ending.Ending.{Ending}
-use Rattle.ed_machine.specs.declared.ending.Ending.TheVariants.{Stopped, Limit, NoOrder, NoTape, PaperFull}
+use Rattle.ed_page.proofs.Kit.{Ending, Limit, Stopped, lit<, IsRunResult, FinishedRun, [], ap, arith, inl, inr, length}
+use Rattle.ed_page.proofs.Kit.{List, refl, subst, sym, ℕ, ◌+◌, ◌-◌, ◌<◌, ◌∙◌, ◌≡◌, ◌≢◌, ◌⊎◌, Text, State, state_after}
+use Rattle.ed_page.proofs.Kit.{run_end, RunEnd, paper_room, status_of, Buffers, IsShown, AreCodes, Pictures, Registers}
 use Rattle.ed_machine.specs.Sheet.{Sheet}
-use Rattle.ed_run.specs.Run.{IsLeft}
+use Rattle.ed_machine.specs.declared.ending.Ending.TheVariants.{NoOrder, NoTape, PaperFull}
+use Rattle.ed_run.specs.Run.{RunLeaves}
 use Rattle.ed_answers.specs.Answer.{Answer}
-use Rattle.ed_answers.specs.Runs.{status_of}
-use Rattle.ed_page.specs.Answers.{Buffers}
-use Rattle.ed_page.specs.Going.{BeginsOnTheWay, GoingBuffers, HasStoreRoom, IsGoneOn, IsOnTheWay, ShowsRun}
-use Rattle.ed_page.proofs.Goes.{stays}
+use Rattle.ed_page.specs.Going.{BeginsOnTheWay, GoingBuffers, HasStoreRoom, IsRunResumed, IsOnTheWay, ShowsRun}
+use Rattle.ed_page.proofs.Goes.{run_end-stays}
 
 low_status : (e : Ending) → status_of e < 8
 low_status Stopped = lit< tt
@@ -26,7 +23,7 @@ no_store_room b (inl words) room = words room.0
 no_store_room b (inr digits) room = digits.1 room.1
 
 -- there was no room
-pub gone_nowhere : (r : RunEnd) (before : GoingBuffers) → (HasStoreRoom before → ⊥) → IsGoneOn r before before 12
+pub gone_nowhere : (r : RunEnd) (before : GoingBuffers) → (HasStoreRoom before → ⊥) → IsRunResumed r before before 12
 gone_nowhere r before none = record {
   memory = λ e. absurd (cc);
   gone = λ not10. record {
@@ -38,7 +35,7 @@ gone_nowhere r before none = record {
 }
 
 -- no memory was found
-pub gone_unmade : (r : RunEnd) (before : GoingBuffers) → HasStoreRoom before → IsGoneOn r before before 10
+pub gone_unmade : (r : RunEnd) (before : GoingBuffers) → HasStoreRoom before → IsRunResumed r before before 10
 gone_unmade r before room = record {
   memory = λ e. refl;
   gone = λ not10. absurd (not10 refl);
@@ -47,7 +44,7 @@ gone_unmade r before room = record {
 
 -- the end of the run was written
 pub gone_shown : (r : RunEnd) (before after : GoingBuffers) (answer : ℕ) → HasStoreRoom before
-    → ShowsRun r before after answer → IsGoneOn r before after answer
+    → ShowsRun r before after answer → IsRunResumed r before after answer
 gone_shown r before after answer room shows =
     let low : answer < 8 = subst (λ (n : ℕ). n < 8) (sym shows.status) (low_status r.ending) in
     record {
@@ -65,7 +62,7 @@ pub next_on : (first : State) (rows : List ℕ) (k limit resumes room : ℕ) (wo
     → AreCodes rows → Pictures (run_end limit resumes room (state_after k first)).state words digits registers
     → IsOnTheWay first rows words digits registers
 next_on first rows k limit resumes room words digits registers are pictures =
-    let on = stays first k limit resumes room in
+    let on = run_end-stays first k limit resumes room in
     record {
       rows_are = are;
       orders = k + on.0;
@@ -86,14 +83,14 @@ begins_on wanted Ends text before after answer first limit resumes rows run show
 -- a run on a fresh paper with this room
 pub gone_of : (limit resumes room : ℕ) (m : State) (sheet full : Sheet) (gone : FinishedRun)
     → sheet ≡ record { codes = []; room = room }
-    → IsLeft (run_end limit resumes (sheet.room - length sheet.codes) m) sheet gone.ending gone.machine full
-    → gone.paper.codes ≡ full.codes → IsRan (run_end limit resumes room m) gone
+    → RunLeaves (run_end limit resumes (sheet.room - length sheet.codes) m) sheet gone.ending gone.machine full
+    → gone.paper.codes ≡ full.codes → IsRunResult (run_end limit resumes room m) gone
 gone_of limit resumes room m sheet full gone fresh left codes =
     let whole : room - 0 ≡ room = omega arith in
     let same : run_end limit resumes (room - 0) m ≡ run_end limit resumes room m = ap (λ n. run_end limit resumes n m) whole in
-    let is : IsLeft (run_end limit resumes (room - 0) m) (record { codes = []; room = room }) gone.ending
+    let is : RunLeaves (run_end limit resumes (room - 0) m) (record { codes = []; room = room }) gone.ending
     gone.machine full =
-    subst (λ (x : Sheet). IsLeft (run_end limit resumes (x.room - length x.codes) m) x gone.ending gone.machine full)
+    subst (λ (x : Sheet). RunLeaves (run_end limit resumes (x.room - length x.codes) m) x gone.ending gone.machine full)
     fresh left in
     record {
       ending_is = is.ending_is ∙ ap (λ (r : RunEnd). r.ending) same;

@@ -1,40 +1,33 @@
 -- That the plain program over rows makes the table of the items that the rows spell.
-use Rattle.ed_page.proofs.Kit.{◌≡◌, ℕ, ◌+◌, ◌*◌, ◌^◌, ◌<◌, ◌≤◌, Bool, true, false, List, [], ◌∷◌, ◌++◌, length, get_or}
-use Rattle.ed_page.proofs.Kit.{take, drop, if◌then◌else◌, nat_lt, ap, Some, None, Option, sym, refl, ◌∙◌, subst, inl}
-use Rattle.ed_page.proofs.Kit.{inr, append_assoc, append-nil, arith, lit<, lit≤, length-append, drop_all, Size, Cells}
-use Rattle.ed_page.proofs.Kit.{lt_false, cleared_cells, IsStore, done, Outcome, Gives, Reply}
+use Rattle.ed_page.proofs.Kit.{take-append_seam, Size, cleared_cells, Cells, IsStore, TapeCause, Digit, length-append}
+use Rattle.ed_page.proofs.Kit.{lit<, lit≤, take, ◌*◌, le-ltb, lt-ltb, drop_all, IsFault, AreDigits, digits_number}
+use Rattle.ed_page.proofs.Kit.{next_row, opening_notation, Reply, [], ap, append-nil, append_assoc, arith, Bool, drop}
+use Rattle.ed_page.proofs.Kit.{false, get_or, if◌then◌else◌, inl, inr, length, List, nat_lt, None, Option, refl, Some}
+use Rattle.ed_page.proofs.Kit.{subst, sym, true, ℕ, ◌++◌, ◌+◌, ◌<◌, ◌^◌, ◌∙◌, ◌∷◌, ◌≡◌, ◌≤◌, done, Outcome, Gives}
+use Rattle.ed_page.proofs.Kit.{item_at, opened_with, IsReplied, IsItemsOutcome, item_line, OpenItem}
+use Rattle.ed_notation.proofs.Kit.{AreRead, IsPart, part_rows, act, address, control_of, ending_effect, enters_at}
+use Rattle.ed_notation.proofs.Kit.{item_word, letter_action_of, NotationState, over, Begun, ends, IsBegun, IsWritten}
+use Rattle.ed_notation.proofs.Kit.{item, mark_rows, row_kind, rows_of, spelled_rows, Written, AreWritten}
+use Rattle.std.proofs.Common.{slice_set}
+use Rattle.std.proofs.Math.Seq.{set_out, take-append-add}
 use Rattle.std.proofs.lemmas.List.{get_or-replicate}
-use Rattle.std.proofs.Math.Seq.{set_out, take-append-add, take-append_seam}
-use Rattle.std.specs.Prelude.{slice_set}
-use Rattle.ed_words.proofs.Numbers.{lt_true}
 use Rattle.ed_store.specs.Cells.{with_short}
+use Rattle.ed_notation.specs.Checks.{Accepts}
+use Rattle.ed_notation.specs.Fold.{value_of, with_kay, with_letter, with_zed, word_with}
+use Rattle.ed_notation.specs.Reports.{Report}
 use Rattle.ed_notation.specs.declared.item.Item.{Item}
-use Rattle.ed_notation.specs.declared.kind.LetterAction.{LetterAction}
-use Rattle.ed_notation.specs.declared.kind.LetterAction.TheVariants.{Enters}
 use Rattle.ed_notation.specs.declared.kind.Control.{Control}
 use Rattle.ed_notation.specs.declared.kind.Control.TheVariants.{ThetaByBlank, ThetaByG}
+use Rattle.ed_notation.specs.declared.kind.LetterAction.{LetterAction}
+use Rattle.ed_notation.specs.declared.kind.LetterAction.TheVariants.{Enters}
 use Rattle.ed_notation.specs.declared.kind.RowKind.{RowKind}
-use Rattle.ed_notation.specs.declared.kind.RowKind.TheVariants.{Blank, Digit, Kay, Letter, Mark, Other, Zed}
-use Rattle.ed_notation.specs.declared.cause.TapeCause.{TapeCause}
-use Rattle.ed_notation.specs.Checks.{Accepts}
-use Rattle.ed_notation.specs.Faults.{AreRead, IsFault, IsPart, part_rows}
-use Rattle.ed_notation.specs.Reports.{Report}
+use Rattle.ed_notation.specs.declared.kind.RowKind.TheVariants.{Blank, Kay, Letter, Mark, Other, Zed}
 use Rattle.ed_notation.proofs.Cuts.{spelled-append}
-use Rattle.ed_notation.proofs.Loop.{next_row}
 use Rattle.ed_report.specs.Notes.{rule_line}
-use Rattle.ed_answers.specs.Tapes.{first_note}
-use Rattle.ed_notation.specs.Fold.{NotationState, act, ending_effect, address, letter_action_of, control_of, enters_at}
-use Rattle.ed_notation.specs.Fold.{item_word, over, value_of, with_kay, with_letter, with_zed, word_with}
-use Rattle.ed_notation.specs.Items.{AreDigits, Begun, IsBegun, IsWritten, Written, digits_number, ends, item, mark_rows}
-use Rattle.ed_notation.specs.Items.{row_kind, rows_of, spelled_rows}
-use Rattle.ed_notation.specs.Spellings.{AreWritten}
-use Rattle.ed_page.specs.TapeItems.{IsItemsOutcome, PlacingLaw, item_line, item_table, placing, placing_by, tape_table}
-use Rattle.ed_page.specs.TapeItems.{with_placing}
-use Rattle.ed_page.specs.Private.ItemTables.{IsSetBelow, cells_with, first_notation, is_last_row, item_at, note_over}
-use Rattle.ed_page.specs.Private.ItemTables.{notation_after, placing_over, table_on, whole_item, opened_with}
+use Rattle.ed_page.specs.Private.ItemTables.{IsSetBelow, cells_with, first_notation, is_last_row, notation_state}
+use Rattle.ed_page.specs.Private.ItemTables.{notation_after, placing_over, table_on, whole_item}
+use Rattle.ed_page.specs.TapeItems.{PlacingLaw, item_table, placing, placing_by, tape_table, with_placing}
 use Rattle.ed_page.specs.declared.items.Notation.{Notation}
-use Rattle.ed_page.specs.declared.items.OpenItem.{OpenItem}
-use Rattle.ed_page.specs.Private.Stages.{IsReplied}
 
 -- ---- what the fold places
 
@@ -70,67 +63,70 @@ pub record IsNoteOver (words : List ℕ) (note : NotationState) (n : Notation) :
   pub contents : n.contents.words ≡ over note.placed words
 
 module _ {words : List ℕ} {note : NotationState} {n : Notation} (o : IsNoteOver words note n) (i : Item) where
-  same_word : item_word n.contents.words (note_over n) i ≡ item_word words note i
+  same_word : item_word n.contents.words (notation_state n) i ≡ item_word words note i
   same_word = λ k. word_with i.function i.number i.mark (value_of (o.contents k) (o.theta k) i.end)
 
   pub same_placing : placing_over n i ≡ placing words note i
   same_placing = by_kind (row_kind i.end)
     where
-      by_kind : (r : RowKind) → placing_by r n.contents.words (note_over n) i ≡ placing_by r words note i
+      by_kind : (r : RowKind) → placing_by r n.contents.words (notation_state n) i ≡ placing_by r words note i
       by_kind Letter =
           λ k. if enters_at (letter_action_of (o.directive k)) then None
           else Some (address (o.directive k), same_word k)
       by_kind r = refl
 
-  same_directive : (act n.contents.words (note_over n) i).directive ≡ (act words note i).directive
+  same_directive : (act n.contents.words (notation_state n) i).directive ≡ (act words note i).directive
   same_directive = by_kind (row_kind i.end)
     where
-      by_kay : (k : Control) → (with_kay k (note_over n) i).directive ≡ (with_kay k note i).directive
+      by_kay : (k : Control) → (with_kay k (notation_state n) i).directive ≡ (with_kay k note i).directive
       by_kay ThetaByBlank = o.directive
       by_kay ThetaByG = o.directive
       by_kay k = refl
 
-      by_zed : (k : Control) → (with_zed k (note_over n) i).directive ≡ (with_zed k note i).directive
+      by_zed : (k : Control) → (with_zed k (notation_state n) i).directive ≡ (with_zed k note i).directive
       by_zed ThetaByBlank = o.directive
       by_zed k = ap (λ t. 4096 * i.function + 2 * i.number + t) o.theta
 
-      by_aim : (a : LetterAction) (w v : ℕ) → (with_letter a (note_over n) w).directive ≡ (with_letter a note v).directive
+      by_aim : (a : LetterAction) (w v : ℕ) → (with_letter a (notation_state n) w).directive
+          ≡ (with_letter a note v).directive
       by_aim Enters w v = o.directive
       by_aim a w v = ap (λ d. d + 2) o.directive
 
-      by_kind : (r : RowKind) → (ending_effect r n.contents.words (note_over n) i).directive ≡ (ending_effect r words note i).directive
+      by_kind : (r : RowKind) → (ending_effect r n.contents.words (notation_state n) i).directive
+          ≡ (ending_effect r words note i).directive
       by_kind Kay = by_kay (control_of i.function)
       by_kind Zed = by_zed (control_of i.function)
       by_kind Letter =
-          ap (λ d. (with_letter (letter_action_of d) (note_over n)
-          (item_word n.contents.words (note_over n) i)).directive) o.directive
+          ap (λ d. (with_letter (letter_action_of d) (notation_state n)
+          (item_word n.contents.words (notation_state n) i)).directive) o.directive
           ∙ by_aim (letter_action_of note.directive) _ _
       by_kind r = o.directive
 
-  same_theta : (act n.contents.words (note_over n) i).theta ≡ (act words note i).theta
+  same_theta : (act n.contents.words (notation_state n) i).theta ≡ (act words note i).theta
   same_theta = by_kind (row_kind i.end)
     where
-      by_kay : (k : Control) → (with_kay k (note_over n) i).theta ≡ (with_kay k note i).theta
+      by_kay : (k : Control) → (with_kay k (notation_state n) i).theta ≡ (with_kay k note i).theta
       by_kay ThetaByBlank = λ j. (with_kay ThetaByBlank (record note { directive = o.directive j }) i).theta
       by_kay ThetaByG = λ j. (with_kay ThetaByG (record note { directive = o.directive j }) i).theta
       by_kay k = o.theta
 
-      by_zed : (k : Control) → (with_zed k (note_over n) i).theta ≡ (with_zed k note i).theta
+      by_zed : (k : Control) → (with_zed k (notation_state n) i).theta ≡ (with_zed k note i).theta
       by_zed ThetaByBlank =
           λ j. (with_zed ThetaByBlank (record note { directive = o.directive j; theta = o.theta j }) i).theta
       by_zed k = o.theta
 
-      by_aim : (a : LetterAction) (w v : ℕ) → (with_letter a (note_over n) w).theta ≡ (with_letter a note v).theta
+      by_aim : (a : LetterAction) (w v : ℕ) → (with_letter a (notation_state n) w).theta ≡ (with_letter a note v).theta
       by_aim Enters w v = o.theta
       by_aim a w v = o.theta
 
-      by_kind : (r : RowKind) → (ending_effect r n.contents.words (note_over n) i).theta ≡ (ending_effect r words note i).theta
+      by_kind : (r : RowKind) → (ending_effect r n.contents.words (notation_state n) i).theta
+          ≡ (ending_effect r words note i).theta
       by_kind Blank = o.directive
       by_kind Kay = by_kay (control_of i.function)
       by_kind Zed = by_zed (control_of i.function)
       by_kind Letter =
-          ap (λ d. (with_letter (letter_action_of d) (note_over n)
-          (item_word n.contents.words (note_over n) i)).theta) o.directive
+          ap (λ d. (with_letter (letter_action_of d) (notation_state n)
+          (item_word n.contents.words (notation_state n) i)).theta) o.directive
           ∙ by_aim (letter_action_of note.directive) _ _
       by_kind r = o.theta
 
@@ -149,9 +145,9 @@ module _ {words : List ℕ} {note : NotationState} {n : Notation} (o : IsNoteOve
 -- ---- the rows of an item
 
 -- digits only make a number larger
-pub larger : (n : ℕ) (ds : List ℕ) → n ≤ digits_number n ds
-larger n [] = omega arith
-larger n (d ∷ ds) = let more = larger (10 * n + d) ds in omega (arith, more)
+pub digits_number-larger : (n : ℕ) (ds : List ℕ) → n ≤ digits_number n ds
+digits_number-larger n [] = omega arith
+digits_number-larger n (d ∷ ds) = let more = digits_number-larger (10 * n + d) ds in omega (arith, more)
 
 -- an item with another number
 abbrev pub with_number : OpenItem → ℕ → OpenItem
@@ -165,10 +161,10 @@ digit_row row n p d more low few = ap by_kind kind
     ∙ ap (λ (m : ℕ). table_on (row + 1) n (Some (with_number p m)) more) fits
   where
     kind : row_kind d ≡ Digit
-    kind = rw (lt_true d 10 low) refl
+    kind = rw (lt-ltb d 10 low) refl
 
     fits : (if nat_lt 32767 p.number then p.number else 10 * p.number + d) ≡ 10 * p.number + d
-    fits = rw (lt_false 32767 p.number few) refl
+    fits = rw (le-ltb 32767 p.number few) refl
 
     by_kind : RowKind → List ℕ
     by_kind k = elim (is_last_row k) [
@@ -185,7 +181,7 @@ digit_rows : (row : ℕ) (n : Notation) (p : OpenItem) (ds more : List ℕ) → 
 digit_rows row n p [] more are few =
     let same : row + 0 ≡ row = omega arith in ap (λ r. table_on r n (Some p) more) (sym same)
 digit_rows row n p (d ∷ ds) more are few =
-    let low : p.number ≤ 32767 = let a = larger p.number (d ∷ ds) in omega (arith, a, few) in
+    let low : p.number ≤ 32767 = let a = digits_number-larger p.number (d ∷ ds) in omega (arith, a, few) in
     let same : row + 1 + length ds ≡ row + length (d ∷ ds) = omega arith in
     digit_row row n p d (ds ++ more) are.0 low
     ∙ digit_rows (row + 1) n (with_number p (10 * p.number + d)) ds more are.1 few
@@ -302,7 +298,7 @@ beyond cells a v is past =
 
 -- ---- the items of a tape
 
-first_over : IsNoteOver cleared_cells.words first_note first_notation
+first_over : IsNoteOver cleared_cells.words opening_notation first_notation
 first_over = record {
   directive = refl;
   theta = sym (get_or-replicate 1024 42 0 0 (lit< tt));
@@ -315,7 +311,7 @@ AreWritten-append (v ∷ vs) ws a b = (a.0, AreWritten-append vs ws a.1 b)
 
 -- a well-formed tape has the rows up to its entry
 pub entered_within : {z : Size} {codes : List ℕ} {r : Report} {count : ℕ}
-    → Accepts z cleared_cells.words first_note 9 codes r → count ≡ r.rows → count ≤ length codes
+    → Accepts z cleared_cells.words opening_notation 9 codes r → count ≡ r.rows → count ≤ length codes
 entered_within f many =
     let ws = f.comes.before in
     let last = f.comes.last in
@@ -325,7 +321,7 @@ entered_within f many =
 
 -- what is answered to a well-formed tape
 pub entered_told : (z : Size) {codes : List ℕ} {r : Report} {count : ℕ} {reply : Reply}
-    → Accepts z cleared_cells.words first_note 9 codes r → count ≡ r.rows
+    → Accepts z cleared_cells.words opening_notation 9 codes r → count ≡ r.rows
     → Gives reply (done (table_on 0 first_notation None (take count codes))) → IsReplied (IsItemsOutcome z) codes reply
 entered_told z {codes} {r} {count} {reply} f many tells =
     let ws = f.comes.before in
@@ -341,8 +337,8 @@ entered_told z {codes} {r} {count} {reply} f many tells =
     ∙ ap (λ xs. spelled_rows ws ++ xs) (append-nil (rows_of last)) in
     let same : table_on 0 first_notation None (take count codes) ≡ tape_table all =
     ap (table_on 0 first_notation None) (head ∙ sym rows_are)
-    ∙ table_is cleared_cells.words 0 first_note first_notation all None first_over
-    (AreWritten-append ws (last ∷ []) (are_written cleared_cells.words first_note ws f.comes.are_read)
+    ∙ table_is cleared_cells.words 0 opening_notation first_notation all None first_over
+    (AreWritten-append ws (last ∷ []) (are_written cleared_cells.words opening_notation ws f.comes.are_read)
     (f.comes.is_written, tt))
     tt in (
       done (tape_table all),
@@ -352,7 +348,7 @@ entered_told z {codes} {r} {count} {reply} f many tells =
 
 -- what is answered to a tape with a fault
 pub fault_told : (z : Size) {codes : List ℕ} {row : ℕ} {cause : TapeCause} {reply : Reply}
-    → IsFault z cleared_cells.words first_note codes row cause
+    → IsFault z cleared_cells.words opening_notation codes row cause
     → Gives reply (record {
       out = table_on 0 first_notation None (take row codes);
       note = rule_line row cause;
@@ -368,8 +364,8 @@ fault_told z {codes} {row} {cause} {reply} f tells =
     let head : take row codes ≡ read = (λ i. take (n i) (whole i)) ∙ take-append_seam read s.rest in
     let same : table_on 0 first_notation None (take row codes) ≡ tape_table ws =
     ap (table_on 0 first_notation None) head
-    ∙ table_is cleared_cells.words 0 first_note first_notation ws s.part first_over
-    (are_written cleared_cells.words first_note ws s.are_read) s.is_part in
+    ∙ table_is cleared_cells.words 0 opening_notation first_notation ws s.part first_over
+    (are_written cleared_cells.words opening_notation ws s.are_read) s.is_part in
     let outcome : List ℕ → Outcome = λ (out : List ℕ). record { out = out; note = rule_line row cause; status = 3 } in (
       outcome (tape_table ws),
       inr (record { row = row; cause = cause; fault = f; outcome = refl }),

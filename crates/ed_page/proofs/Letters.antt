@@ -1,13 +1,10 @@
 -- The letter of an order is what its function prints in letter shift.
-use Rattle.std.proofs.Common.{◌≡◌, ℕ, false, refl, ap, List, Option, Some, None, is_some}
-use Rattle.std.specs.Prelude.{if◌then◌else◌, slice_index}
-use Rattle.ed_words.specs.Words.{function_of}
+use Rattle.ed_page.proofs.Kit.{Kind, function_of, kind_of_function, ap, false, if◌then◌else◌, List, None, Option, refl}
+use Rattle.ed_page.proofs.Kit.{Some, ℕ, ◌≡◌, letter_byte}
+use Rattle.std.proofs.Common.{is_some, slice_index}
 use Rattle.ed_codes.specs.Spelling.{byte_of}
-use Rattle.ed_orders.specs.Kinds.{kind_of_function}
-use Rattle.ed_orders.specs.declared.kind.Kind.{Kind}
 use Rattle.ed_orders.proofs.KindLetters.{by_letter}
 use Rattle.ed_page.specs.Meanings.{letter_shown}
-use Rattle.ed_page.specs.Private.Letters.{letter_byte}
 
 by_kind : (f : ℕ) (kind : Option Kind) → kind_of_function f ≡ kind
     → letter_byte kind ≡ (if is_some kind then byte_of f false else 0)

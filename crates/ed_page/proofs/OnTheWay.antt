@@ -1,19 +1,16 @@
 -- The states on the way of a tape, from Start with either Initial Orders: they are within their bounds, Start and
 -- orders lead to them, and a picture shows one of them alone.
-use Rattle.ed_page.proofs.Kit.{◌≡◌, ℕ, ◌+◌, ◌-◌, ◌^◌, ◌<◌, ◌≤◌, Bool, false, List, ◌++◌, length, get_or, drop, IfSome}
-use Rattle.ed_page.proofs.Kit.{ap, Some, None, Option, sym, refl, ◌∙◌, subst, inl, inr, arith, lit<, lit≤, Size, Cells}
-use Rattle.ed_page.proofs.Kit.{length-append, IsStore, State, state_after, first_state, first_state1, AreCodes}
-use Rattle.ed_page.proofs.Kit.{size_shown, Pictures, PicturesStore, Registers}
-use Rattle.std.proofs.Common.{◌/◌, ◌%◌, rules}
-use Rattle.std.specs.Prelude.{◌↔◌, IsNone, replicate, unwrap_or}
+use Rattle.ed_page.proofs.Kit.{IfSome, IsNone, ◌↔◌, Size, IsReached, Cells, IsStore, length-append, lit<, lit≤, ◌%◌}
+use Rattle.ed_page.proofs.Kit.{◌/◌, locations, ap, arith, Bool, drop, false, get_or, inl, inr, length, List, None}
+use Rattle.ed_page.proofs.Kit.{Option, refl, replicate, rules, Some, subst, sym, ℕ, ◌++◌, ◌+◌, ◌-◌, ◌<◌, ◌^◌, ◌∙◌, ◌≡◌}
+use Rattle.ed_page.proofs.Kit.{◌≤◌, length-drop, length-replicate, State, state_after, first_state, first_state1}
+use Rattle.ed_page.proofs.Kit.{AreCodes, Pictures, PicturesStore, size_shown, Registers}
+use Rattle.std.proofs.Common.{unwrap_or}
 use Rattle.std.proofs.Math.Seq.{drop-append_seam}
-use Rattle.std.proofs.lemmas.List.{length-drop, length-replicate}
-use Rattle.ed_words.specs.Sizes.{locations}
 use Rattle.ed_words.specs.declared.size.Size.TheVariants.{Small, Full}
-use Rattle.ed_machine.specs.State.{cleared_state}
-use Rattle.ed_machine.specs.Reached.{IsReached}
 use Rattle.ed_machine.specs.Reached.IsReached.{clear, start, obey}
 use Rattle.ed_machine.specs.Sound.{IsSound}
+use Rattle.ed_machine.specs.State.{cleared_state}
 use Rattle.ed_machine.proofs.Keeping.{steps_follow}
 use Rattle.ed_machine.proofs.SoundSteps.{sound_after}
 use Rattle.ed_initial.specs.Listing.{initial_orders}
@@ -139,11 +136,11 @@ module _ {small : Bool} {rows words digits : List ℕ} {r : Registers} (p : CanG
   abbrev shown : State
   shown = state_after p.way.orders p.first
 
-  pub begun : IsFirst (size_shown small) rows p.first
-  begun = is_first p.way.rows_are p.begins
+  pub IsFirst-begun : IsFirst (size_shown small) rows p.first
+  IsFirst-begun = is_first p.way.rows_are p.begins
 
   sound : IsSound shown
-  sound = way_sound begun p.way.orders
+  sound = way_sound IsFirst-begun p.way.orders
 
   pub fit_words : length words ≡ 1024 → (a : ℕ) → get_or words a 0 < 2 ^ 17
   fit_words = words_fit shown.store words digits sound.store p.way.pictured.store
@@ -154,14 +151,14 @@ module _ {small : Bool} {rows words digits : List ℕ} {r : Registers} (p : CanG
   pub fit_counter : r.counter < locations (size_shown small)
   fit_counter =
       subst (λ n. n < locations (size_shown small)) (sym p.way.pictured.registers.counter)
-      (subst (λ (z : Size). shown.counter < locations z) (way_size begun p.way.orders) sound.counter)
+      (subst (λ (z : Size). shown.counter < locations z) (way_size IsFirst-begun p.way.orders) sound.counter)
 
   pub fit_last : r.last ≤ 32
   fit_last = subst (λ n. n ≤ 32) (sym p.way.pictured.registers.last) (shown_fits shown.last sound.last)
 
   pub fit_rows : r.rows_left ≤ length rows
   fit_rows =
-      subst (λ n. n ≤ length rows) (sym p.way.pictured.registers.rows_left) (way_left begun p.way.orders)
+      subst (λ n. n ≤ length rows) (sym p.way.pictured.registers.rows_left) (way_left IsFirst-begun p.way.orders)
 
 pub most_places : (z : Size) → locations z ≤ 1024
 most_places Small = lit≤ tt

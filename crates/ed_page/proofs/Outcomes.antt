@@ -1,9 +1,7 @@
 -- The run of each kind of program has an outcome.
-use Rattle.ed_page.proofs.Kit.{Text, Settings, of_input, Outcome, run_outcome}
-use Rattle.ed_answers.specs.Answer.{IsDue}
+use Rattle.ed_page.proofs.Kit.{Settings, IsDue, of_input, Text, Outcome, run_outcome, answers_of, tape_outcome_by}
 use Rattle.ed_answers.proofs.OneOutcome.{rows_once, source_once}
 use Rattle.ed_answers.proofs.Replies.{exactly_one}
-use Rattle.ed_page.specs.Private.Asked.{answers_of, tape_outcome_by}
 use Rattle.ed_page.specs.declared.running.ProgramKind.{ProgramKind}
 use Rattle.ed_page.specs.declared.running.ProgramKind.TheVariants.{Tape, Source}
 

@@ -1,10 +1,8 @@
 -- The text that codes add to the paper after others.
-use Rattle.ed_page.proofs.Kit.{◌≡◌, ℕ, ◌≢◌, ◌⊎◌, List, [], ◌∷◌, ◌++◌, reverse, ap, sym, refl, ◌∙◌, inl, inr, append-nil}
-use Rattle.ed_page.proofs.Kit.{append_assoc, Text, latest_shift}
-use Rattle.ed_words.proofs.Numbers.{eq_false}
+use Rattle.ed_page.proofs.Kit.{ne_eqb, latest_shift, paper_from, shift_after, Shift, [], ap, append-nil, append_assoc}
+use Rattle.ed_page.proofs.Kit.{inl, inr, List, refl, reverse, sym, ℕ, ◌++◌, ◌∙◌, ◌∷◌, ◌≡◌, ◌≢◌, ◌⊎◌, Text, paper}
 use Rattle.std.proofs.lemmas.List.{reverse-append}
-use Rattle.ed_printer.specs.Paper.{paper, paper_from, shift_after, struck_bytes}
-use Rattle.ed_printer.specs.declared.printer.Shift.{Shift}
+use Rattle.ed_printer.specs.Paper.{struck_bytes}
 use Rattle.ed_printer.proofs.Latest.{in_latest_shift}
 use Rattle.ed_page.specs.Going.{PaperLaw}
 
@@ -31,7 +29,7 @@ last_first rest before code is =
 pub unset_last : (rest before : List ℕ) (code : ℕ) → rest ≡ before ++ (code ∷ []) → code ≢ 11 → code ≢ 15
     → latest_shift (reverse rest) ≡ latest_shift (reverse before)
 unset_last rest before code is not11 not15 =
-    last_first rest before code is ∙ rw (eq_false code 11 not11, eq_false code 15 not15) refl
+    last_first rest before code is ∙ rw (ne_eqb code 11 not11, ne_eqb code 15 not15) refl
 
 -- a last code that sets a shift
 pub set_last : (shift : Shift) (rest before : List ℕ) (code : ℕ) → rest ≡ before ++ (code ∷ [])

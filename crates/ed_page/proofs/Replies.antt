@@ -1,23 +1,18 @@
 -- From the answer to the rows or the lines of a text to that to the text.
-use Rattle.ed_page.proofs.Kit.{◌≡◌, ℕ, List, [], ◌++◌, ap, Some, Err, sym, refl, ◌∙◌, subst, inl, inr, Text, Size, Line}
-use Rattle.ed_page.proofs.Kit.{State, RunEnd, Settings, tape, of_input, Outcome, Gives, IsRan, run_of, run_outcome}
-use Rattle.ed_page.proofs.Kit.{Reply, NotedRun}
-use Rattle.std.specs.Prelude.{Result, Ok, IsErr, IsErrAnd}
+use Rattle.ed_page.proofs.Kit.{Size, Settings, Line, of_input, IsRunResult, Reply, NotedRun, [], ap, Err, inl, inr}
+use Rattle.ed_page.proofs.Kit.{List, Ok, refl, Result, Some, subst, sym, ℕ, ◌++◌, ◌∙◌, ◌≡◌, Text, reading, rows, State}
+use Rattle.ed_page.proofs.Kit.{RunEnd, tape, ending_line, Outcome, IsAcceptedAs, ran_outcome, run_of, entered_before}
+use Rattle.ed_page.proofs.Kit.{OfSource, run_outcome, RowsEnd, SourceEnds, IsReplied}
+use Rattle.ed_answers.proofs.Kit.{IsErr, IsErrAnd, no_row, open_comment, Reading, exactly, OfReading, refusal, Replies}
 use Rattle.std.proofs.lemmas.Result.{err_from_is_err_and}
-use Rattle.ed_codes.specs.Reading.{Reading, rows, no_row, open_comment, reading}
 use Rattle.ed_syntax.specs.declared.fault.SourceFault.TheVariants.{At}
-use Rattle.ed_answers.specs.Refusals.{IsAcceptedAs}
-use Rattle.ed_answers.proofs.EachSource.{one_answer}
-use Rattle.ed_report.specs.Notes.{ending_line, source_fault_line}
-use Rattle.ed_answers.specs.Answer.{OfReading, exactly}
-use Rattle.ed_answers.specs.Outcome.{refusal}
-use Rattle.ed_answers.specs.Replies.{IsRanOf, LinksSource, RefusesText, Replies, RunsSource}
-use Rattle.ed_answers.specs.Runs.{ran_outcome}
-use Rattle.ed_answers.specs.Sources.{OfSource, entered_before}
+use Rattle.ed_report.specs.Notes.{source_fault_line}
+use Rattle.ed_answers.specs.Replies.{IsRunResultOf, LinksSource, RefusesText, RunsSource}
 use Rattle.ed_answers.specs.declared.reply.Rejection.{Rejection}
 use Rattle.ed_answers.specs.declared.reply.Rejection.TheVariants.{Memory, Refused}
-use Rattle.ed_page.specs.Answers.{RowsEnd, SourceEnds}
-use Rattle.ed_page.specs.Private.Stages.{IsAnswered, IsReplied, Runs}
+use Rattle.ed_answers.proofs.EachSource.{one_answer}
+use Rattle.ed_answers.proofs.Replies.{refused_at}
+use Rattle.ed_page.specs.Private.Stages.{IsAnswered, Runs}
 use Rattle.ed_page.proofs.Endings.{noted_run}
 
 -- what `?` passes on
@@ -55,13 +50,6 @@ rows_answered answers text (Err (Refused reply)) is same a =
     of_codes answers text is (subst (λ (x : List ℕ). IsReplied answers x reply) same a)
 rows_answered answers text (Err Memory) is same a = tt
 
--- its refusal
-refused_at : (answers : List ℕ → Outcome → Type 0) (q : Reading) (reply : Reply) → RefusesText q (Refused reply)
-    → (o : Outcome) × OfReading answers q o × Gives reply o
-refused_at answers (rows codes) reply refuses = absurd refuses
-refused_at answers (no_row place byte) reply refuses = (_, refl, refuses)
-refused_at answers (open_comment place) reply refuses = (_, refl, refuses)
-
 refused_rows : (answers : List ℕ → Outcome → Type 0) (text : Text) (e : Rejection) → RefusesText (reading text) e
     → IsAnswered (OfRows answers) text (Err e)
 refused_rows answers text (Refused reply) refuses = refused_at answers (reading text) reply refuses
@@ -84,7 +72,7 @@ same_codes r codes others is same = ap codes_of (sym is ∙ same)
 -- the run of its rows
 pub rows_run : (outcome : List ℕ → Outcome) (run : List ℕ → RunEnd) (text : Text) {codes : List ℕ} (noted : NotedRun)
     → reading text ≡ rows codes → outcome codes ≡ ran_outcome [] (run codes)
-    → IsRan (run codes) noted.ran → noted.note.items ≡ ending_line noted.ran.ending noted.ran.machine
+    → IsRunResult (run codes) noted.ran → noted.note.items ≡ ending_line noted.ran.ending noted.ran.machine
     → Runs (OfRows (exactly outcome)) (RowsEnd run) text (Ok noted)
 rows_run outcome run text {codes} noted is gives of line = (
   at_rows (exactly outcome) is (gives ∙ sym (noted_run [] noted of line)),
@@ -132,17 +120,17 @@ pub source_refused : (z : Size) (f : List Line → Outcome) (text : Text) (e : R
 source_refused z f text e r l handed = passed (IsAnswered (OfSource z f) text) e r (refused_lines z f text e l) handed
 
 -- the program's reply
-pub replied : (answers : Text → Outcome → Type 0) (text : Text) (r : Result Reply Rejection)
+pub IsAnswered-replied : (answers : Text → Outcome → Type 0) (text : Text) (r : Result Reply Rejection)
     → Replies (of_input answers) text r → IsAnswered answers text r
-replied answers text (Ok reply) is = is
-replied answers text (Err (Refused reply)) is = is
-replied answers text (Err Memory) is = tt
+IsAnswered-replied answers text (Ok reply) is = is
+IsAnswered-replied answers text (Err (Refused reply)) is = is
+IsAnswered-replied answers text (Err Memory) is = tt
 
 -- the run of its tape
 ran_source : (s : Settings) (text : Text) (noted : NotedRun)
     → ((lines : List Line) → run_outcome s lines
     ≡ ran_outcome (entered_before lines (run_of s (tape lines)).state) (run_of s (tape lines)))
-    → (lines : List Line) × IsAcceptedAs s.size text lines × IsRanOf s lines noted
+    → (lines : List Line) × IsAcceptedAs s.size text lines × IsRunResultOf s lines noted
     → Runs (OfSource s.size (run_outcome s)) (SourceEnds s) text (Ok noted)
 ran_source s text noted plain (lines, accepted, is) =
     let state = (λ (lines : List Line). (run_of s (tape lines)).state) in

@@ -1,15 +1,10 @@
 -- The rows that a text spells, and those of the tape of a source, are codes.
-use Rattle.ed_page.proofs.Kit.{◌≡◌, ℕ, zero, suc, ◌-◌, List, [], ◌∷◌, ◌++◌, length, take, drop, ap, sym, ◌∙◌, subst}
-use Rattle.ed_page.proofs.Kit.{Text, Size, Line, tape, AreCodes}
-use Rattle.std.proofs.lemmas.List.{length-drop}
-use Rattle.std.proofs.Math.Seq.{take-length}
-use Rattle.ed_codes.specs.Reading.{reading, rows}
-use Rattle.ed_notation.specs.Spellings.{canonicals, text_of}
+use Rattle.ed_page.proofs.Kit.{take-length, Size, zero, take, Line, [], ap, drop, length, List, subst, suc, sym, ℕ}
+use Rattle.ed_page.proofs.Kit.{◌++◌, ◌-◌, ◌∙◌, ◌∷◌, ◌≡◌, length-drop, Text, reading, rows, tape, IsAcceptedAs}
+use Rattle.ed_page.proofs.Kit.{AreCodes}
+use Rattle.ed_link.proofs.Kit.{canonicals, data_after, punched_items, after_text}
+use Rattle.ed_notation.specs.Spellings.{text_of}
 use Rattle.ed_initial.proofs.Starts.{read_fit}
-use Rattle.ed_answers.specs.Refusals.{IsAcceptedAs}
-use Rattle.ed_link.specs.Linked.{data_after}
-use Rattle.ed_link.specs.Punch.{punched_items}
-use Rattle.ed_link.specs.Tapes.{after_text}
 use Rattle.ed_answers.proofs.PunchedTexts.{text_is_tape}
 
 pub read_codes : (text : Text) (codes : List ℕ) → reading text ≡ rows codes → AreCodes codes

@@ -1,10 +1,8 @@
 -- A store that is made pair by pair of what a picture shows is the store that was pictured.
-use Rattle.ed_page.proofs.Kit.{◌≡◌, ℕ, zero, suc, ◌+◌, ◌*◌, ◌^◌, ◌<◌, ◌≤◌, Bool, false, ◌⊎◌, List, length, get_or, sym}
-use Rattle.ed_page.proofs.Kit.{◌∙◌, subst, inl, inr, arith, lit<, cleared_cells, Cells, IsStore, PicturesStore}
-use Rattle.std.proofs.Common.{◌/◌}
-use Rattle.std.specs.Prelude.{replicate}
-use Rattle.std.proofs.lemmas.Bool.{cases_lt}
-use Rattle.std.proofs.lemmas.List.{ext_get_or, get_or_past, length-replicate}
+use Rattle.ed_page.proofs.Kit.{cleared_cells, zero, cases_lt, Cells, IsStore, lit<, ◌*◌, ◌/◌, arith, Bool, false}
+use Rattle.ed_page.proofs.Kit.{get_or, inl, inr, length, List, replicate, subst, suc, sym, ℕ, ◌+◌, ◌<◌, ◌^◌, ◌∙◌, ◌≡◌}
+use Rattle.ed_page.proofs.Kit.{◌≤◌, ◌⊎◌, length-replicate, PicturesStore}
+use Rattle.std.proofs.lemmas.List.{ext_get_or, get_or_past}
 
 zeros : (n i : ℕ) → get_or (replicate n 0) i 0 < 2 ^ 17
 zeros zero i = lit< tt

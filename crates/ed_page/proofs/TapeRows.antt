@@ -1,18 +1,11 @@
 -- The rows that a run leaves are the end of its tape's rows.
-use Rattle.ed_page.proofs.Kit.{◌≡◌, ℕ, zero, suc, ◌^◌, Bool, true, false, List, [], ◌∷◌, ◌++◌, nat_lt, ap, Some, None}
-use Rattle.ed_page.proofs.Kit.{Option, sym, refl, ◌∙◌, append_assoc, State, state_after, run_end, first_state}
-use Rattle.ed_page.proofs.Kit.{first_state1, paper_room}
-use Rattle.std.proofs.Common.{nat_le}
-use Rattle.ed_words.specs.Words.{function_of}
-use Rattle.ed_orders.specs.Kinds.{kind_of_function}
-use Rattle.ed_orders.specs.declared.kind.Kind.{Kind}
+use Rattle.ed_page.proofs.Kit.{Kind, zero, function_of, kind_of_function, run1_of, [], ap, append_assoc, Bool, false}
+use Rattle.ed_page.proofs.Kit.{List, nat_le, nat_lt, None, Option, refl, Some, suc, sym, true, ℕ, ◌++◌, ◌^◌, ◌∙◌, ◌∷◌}
+use Rattle.ed_page.proofs.Kit.{◌≡◌, step, State, progress, state_after, run_end, run_orders, first_state, first_state1}
+use Rattle.ed_page.proofs.Kit.{paper_room, run_of}
 use Rattle.ed_orders.specs.declared.kind.Kind.TheVariants.{E, G, I}
-use Rattle.ed_machine.specs.OrderTable.{jump_order, next_word, obey_word, place_of, step, row_order}
-use Rattle.ed_machine.specs.Steps.{progress}
-use Rattle.ed_run.specs.Run.{run_orders}
+use Rattle.ed_machine.specs.OrderTable.{jump_order, next_word, obey_word, place_of, row_order}
 use Rattle.ed_page.specs.Answers.{EachRunReadsOn, IsEndOf}
-use Rattle.ed_answers.specs.FirstOrders.{run1_of}
-use Rattle.ed_answers.specs.Runs.{run_of}
 
 -- one order reads at most one row
 by_order : (k : Option Kind) (w : ℕ) (s : State) → IsEndOf (obey_word k w s).state.tape s.tape

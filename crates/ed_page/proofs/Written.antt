@@ -1,15 +1,13 @@
 -- From what was written into buffers to the cause of an answer.
-use Rattle.ed_page.proofs.Kit.{◌≡◌, ℕ, ◌<◌, ◌≤◌, ◌≢◌, ◌⊎◌, List, length, IfSome, Some, None, Option, refl, ◌∙◌, subst}
-use Rattle.ed_page.proofs.Kit.{inl, inr, arith, Text, State, of_input, Outcome, Gives, Reply, picture_buffers, IsShown}
-use Rattle.ed_page.proofs.Kit.{Pictures, Registers}
-use Rattle.std.proofs.lemmas.Bool.{cases_lt}
-use Rattle.ed_answers.specs.declared.input.TheConstants.{INPUT_BYTES}
+use Rattle.ed_page.proofs.Kit.{IfSome, cases_lt, IsDue, of_input, Reply, arith, inl, inr, length, List, None, Option}
+use Rattle.ed_page.proofs.Kit.{refl, Some, subst, ℕ, ◌<◌, ◌∙◌, ◌≡◌, ◌≢◌, ◌≤◌, ◌⊎◌, Text, State, Outcome, Gives}
+use Rattle.ed_page.proofs.Kit.{Buffers, IsShown, picture_buffers, text_buffers, Pictures, IsReplied, told_outcome}
+use Rattle.ed_page.proofs.Kit.{Registers}
 use Rattle.ed_answers.specs.Outcome.{too_long, too_long_outcome}
-use Rattle.ed_answers.specs.Answer.{IsDue}
-use Rattle.ed_page.specs.Answers.{Buffers, HasBufferRoom, HasItsCause, HasPictureRoom, IsTextWritten, LacksLine}
-use Rattle.ed_page.specs.Answers.{LacksRoom, ShowsNone, TextBuffers, text_buffers}
-use Rattle.ed_page.specs.Private.Stages.{AreTextsWritten, IsPicture, IsReplied, IsWrittenOut, WritesBuffers}
-use Rattle.ed_page.specs.Private.Stages.{told_outcome}
+use Rattle.ed_answers.specs.declared.input.TheConstants.{INPUT_BYTES}
+use Rattle.ed_page.specs.Answers.{HasBufferRoom, HasItsCause, HasPictureRoom, IsTextWritten, LacksLine, LacksRoom}
+use Rattle.ed_page.specs.Answers.{ShowsNone, TextBuffers}
+use Rattle.ed_page.specs.Private.Stages.{AreTextsWritten, IsPicture, IsWrittenOut, WritesBuffers}
 use Rattle.ed_page.specs.declared.running.Shown.{Shown}
 use Rattle.ed_page.specs.declared.writing.Lengths.{Lengths}
 

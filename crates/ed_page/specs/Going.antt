@@ -73,7 +73,7 @@ pub record ShowsRun (r : RunEnd) (before after : GoingBuffers) (answer : ℕ) : 
 
 -- a run was written into buffers; or no memory was found (10), and the buffers are unchanged. 12 comes first, exactly
 -- if a buffer of the store has the wrong length
-pub record IsGoneOn (r : RunEnd) (before after : GoingBuffers) (answer : ℕ) : Type 0 where
+pub record IsRunResumed (r : RunEnd) (before after : GoingBuffers) (answer : ℕ) : Type 0 where
   pub memory : answer ≡ 10 → after ≡ before
   pub gone : answer ≢ 10 → HasItsCause (HasStoreRoom before) (after ≡ before) (ShowsRun r before after answer) answer
   pub early : (HasStoreRoom before → ⊥) → answer ≡ 12

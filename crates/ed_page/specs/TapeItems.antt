@@ -8,17 +8,17 @@ use Rattle.ed_notation.specs.declared.cause.TapeCause.{TapeCause}
 use Rattle.ed_notation.specs.declared.item.Item.{Item}
 use Rattle.ed_notation.specs.declared.kind.RowKind.{RowKind}
 use Rattle.ed_notation.specs.declared.kind.RowKind.TheVariants.{Letter}
-use Rattle.ed_notation.specs.Faults.{ComesTo, IsFault, TapeEntry, WellFormed}
+use Rattle.ed_notation.specs.Faults.{RowsReachEntry, IsFault, TapeEntry, WellFormed}
 use Rattle.ed_notation.specs.Fold.{NotationState, act, address, letter_action_of, enters_at, item_word}
 use Rattle.ed_notation.specs.Items.{Written, item, row_kind, rows_of}
 use Rattle.ed_initial1.specs.declared.cause.Tape1Cause.{Tape1Cause}
-use Rattle.ed_initial1.specs.Faults.{Comes1, IsFault1, Tape}
+use Rattle.ed_initial1.specs.Faults.{ReachesEntry1, IsFault1, Tape}
 use Rattle.ed_initial1.specs.Items.{Item1, rows_of1, word1}
 use Rattle.ed_report.specs.FirstNotes.{rule1_line}
 use Rattle.ed_report.specs.Notes.{rule_line}
 use Rattle.ed_answers.specs.Answer.{Answer, of_rows}
 use Rattle.ed_answers.specs.Outcome.{Outcome, done, refusal}
-use Rattle.ed_answers.specs.Tapes.{first_note}
+use Rattle.ed_answers.specs.Tapes.{opening_notation}
 
 -- ---- what an item places
 
@@ -68,22 +68,22 @@ item_table words note row (w ∷ ws) =
 
 -- the table of the items of a whole tape, on a cleared store
 abbrev pub tape_table : List Written → List ℕ
-tape_table = item_table cleared_cells.words first_note 0
+tape_table = item_table cleared_cells.words opening_notation 0
 
 -- ---- the answer
 
 -- of a well-formed tape: its items, the entry item included
 pub record OfEnteredTape (z : Size) (codes : List ℕ) (o : Outcome) : Type 0 where
-  pub well : WellFormed z cleared_cells.words first_note codes
+  pub well : WellFormed z cleared_cells.words opening_notation codes
   pub entry : TapeEntry
-  pub comes : ComesTo cleared_cells.words first_note 9 codes entry
+  pub comes : RowsReachEntry cleared_cells.words opening_notation 9 codes entry
   pub outcome : done (tape_table (comes.before ++ (comes.last ∷ []))) ≡ o
 
 -- of a tape with a fault: the items before it, and the line of the fault
 pub record OfFaultyTape (z : Size) (codes : List ℕ) (o : Outcome) : Type 0 where
   pub row : ℕ
   pub cause : TapeCause
-  pub fault : IsFault z cleared_cells.words first_note codes row cause
+  pub fault : IsFault z cleared_cells.words opening_notation codes row cause
   pub outcome : record (refusal (rule_line row cause)) { out = tape_table fault.is.stands.before } ≡ o
 
 -- of either
@@ -106,7 +106,7 @@ item_table1 row location (i ∷ is) =
 -- of a tape without a fault: its items, which go to 31 and on
 pub record OfWholeTape1 (codes : List ℕ) (o : Outcome) : Type 0 where
   pub tape : Tape
-  pub comes : Comes1 codes tape
+  pub comes : ReachesEntry1 codes tape
   pub outcome : done (item_table1 0 31 tape.items) ≡ o
 
 -- of a tape with a fault: the items before it, and the line of the fault

@@ -7,8 +7,8 @@ ghost use Rattle.ed_page.specs.Private.Stages.{IsAnswered};
 ghost use Rattle.ed_page.specs.TapeItems.{IsItemsOutcome1, items1_answer};
 ghost use Rattle.ed_answers.specs.declared.input.TheConstants.{INPUT_BYTES};
 
-use crate::asked::{Asked, AskedOfRows, write_answer};
 use crate::items::{OpenItem, REFUSED, push_numbers};
+use crate::request::{Request, RowsRequest, write_answer};
 use crate::writing::Lengths;
 use ed_answers::{Rejection, Reply};
 use ed_codes::{Code, letters};
@@ -32,8 +32,8 @@ pub extern "C" fn page_items1(
     ensures { IsTextWritten items1_answer text.now (text_buffers items.old note.old lengths.old)
         (text_buffers items.new note.new lengths.new) result }
 {
-    let asked = Asked::Tape(AskedOfRows::Items1);
-    write_answer(alloc, asked, text, items, note, lengths)
+    let request = Request::Tape(RowsRequest::Items1);
+    write_answer(alloc, request, text, items, note, lengths)
 }
 
 /// What is answered about the items of rows.

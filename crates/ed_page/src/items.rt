@@ -9,15 +9,15 @@ ghost use Rattle.ed_notation.specs.Items.{row_kind};
 ghost use Rattle.ed_notation.specs.declared.kind.RowKind.TheVariants.{Digit};
 ghost use Rattle.ed_page.specs.Answers.{IsTextWritten, text_buffers};
 ghost use Rattle.ed_page.specs.Pictures.{size_shown};
-ghost use Rattle.ed_answers.specs.Tapes.{first_note};
+ghost use Rattle.ed_answers.specs.Tapes.{opening_notation};
 ghost use Rattle.ed_page.specs.Private.ItemTables.{IsSetAs, IsSetBelow, first_notation, is_last_row, item_at};
-ghost use Rattle.ed_page.specs.Private.ItemTables.{notation_after, note_over};
+ghost use Rattle.ed_page.specs.Private.ItemTables.{notation_after, notation_state};
 ghost use Rattle.ed_page.specs.Private.ItemTables.{placing_over, table_on, whole_item, opened_with};
 ghost use Rattle.ed_page.specs.Private.Stages.{HasRowsToEntry, IsAnswered};
 ghost use Rattle.ed_page.specs.TapeItems.{IsItemsOutcome, PlacingLaw, four_bytes, item_line, items_answer};
 ghost use Rattle.ed_answers.specs.declared.input.TheConstants.{INPUT_BYTES};
 
-use crate::asked::{Asked, AskedOfRows, write_answer};
+use crate::request::{Request, RowsRequest, write_answer};
 use crate::running::size_of;
 use crate::writing::Lengths;
 use ed_answers::{Rejection, Reply, check_from_cleared};
@@ -70,8 +70,8 @@ pub extern "C" fn page_items(
         (text_buffers items.new note.new lengths.new) result }
     ensures law { PlacingLaw }
 {
-    let asked = Asked::Tape(AskedOfRows::Items(size_of(small)));
-    write_answer(alloc, asked, text, items, note, lengths)
+    let request = Request::Tape(RowsRequest::Items(size_of(small)));
+    write_answer(alloc, request, text, items, note, lengths)
 }
 
 /// What is answered about the items of rows.
@@ -99,7 +99,7 @@ fn rows_to_entry(alloc: Global, size: Size, rows: &[Code]) -> Result<usize, Tape
     requires { length rows.now ≤ INPUT_BYTES }
     ensures { MatchResult result
         (λ count. HasRowsToEntry size rows.now count)
-        (λ fault. AnswersCheck size cleared_cells.words first_note 9 rows.now (Err fault)) }
+        (λ fault. AnswersCheck size cleared_cells.words opening_notation 9 rows.now (Err fault)) }
 {
     Ok(check_from_cleared(alloc, size, rows)?.rows())
 }
@@ -253,7 +253,7 @@ impl Notation {
     fn word(&self, item: &OpenItem, letter: Code) -> Word
         requires number { item.now.number ≤ 327679 }
         requires theta { self.now.theta ≤ 2 ^ 42 }
-        ensures { result ≡ item_word self.now.contents.words (note_over self.now) (whole_item item.now letter) }
+        ensures { result ≡ item_word self.now.contents.words (notation_state self.now) (whole_item item.now letter) }
     {
         let value = match letter.value() {
             letters::F => 0,
@@ -304,7 +304,7 @@ impl Notation {
     fn take_kay(&mut self, item: &OpenItem)
         requires number { item.now.number ≤ 327679 }
         requires bound { (self.old.directive ≤ 2 ^ 42) × (self.old.theta ≤ 2 ^ 42) }
-        ensures is { IsSetAs (with_kay (control_of item.now.function) (note_over self.old) (whole_item item.now 14))
+        ensures is { IsSetAs (with_kay (control_of item.now.function) (notation_state self.old) (whole_item item.now 14))
             self.old self.new }
         ensures bound { IsSetBelow self.old self.new }
     {
@@ -319,7 +319,7 @@ impl Notation {
     fn take_zed(&mut self, item: &OpenItem)
         requires number { item.now.number ≤ 327679 }
         requires bound { (self.old.directive ≤ 2 ^ 42) × (self.old.theta ≤ 2 ^ 42) }
-        ensures is { IsSetAs (with_zed (control_of item.now.function) (note_over self.old) (whole_item item.now 13))
+        ensures is { IsSetAs (with_zed (control_of item.now.function) (notation_state self.old) (whole_item item.now 13))
             self.old self.new }
         ensures bound { IsSetBelow self.old self.new }
     {

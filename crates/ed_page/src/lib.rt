@@ -6,28 +6,28 @@
 //! on `ed_notation`, `ed_initial1`, `ed_orders`, `ed_run` and `ed_report`.
 #![tactic(auto)]
 
-mod asked;
 mod first_items;
-mod going;
 mod items;
 mod meanings;
 mod papers;
-mod pictured;
 mod pictures;
 mod postmortem;
+mod reply;
+mod request;
+mod resume;
 mod running;
-mod signs;
+mod snapshot;
+mod symbols;
 mod texts;
-mod told;
 mod writing;
 
 pub use first_items::page_items1;
-pub use going::page_go_on;
 pub use items::page_items;
 pub use meanings::{Meaning, page_meaning};
 pub use papers::page_paper;
 pub use pictures::{page_source, page_tape, page_tape1};
 pub use postmortem::page_post_mortem;
-pub use signs::{page_letter, page_order};
+pub use resume::page_go_on;
+pub use symbols::{page_letter, page_order};
 pub use texts::{page_listing, page_punch, page_source_rows, page_tape_rows};
 pub use writing::{Lengths, NO_CODE, Registers};

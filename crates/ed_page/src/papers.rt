@@ -4,8 +4,8 @@ ghost use Rattle.std.specs.Prelude.{◌≡◌, IfOk, reverse};
 ghost use Rattle.ed_printer.specs.Paper.{latest_shift};
 ghost use Rattle.ed_page.specs.Going.{AreCodes, IsPaperWritten, PaperLaw, added_text};
 
-use crate::pictured::codes_of;
-use crate::told::{NO_MEMORY, NO_ROOM};
+use crate::reply::{NO_MEMORY, NO_ROOM};
+use crate::snapshot::codes_of;
 use crate::writing::write_text;
 use ed_codes::Code;
 use ed_codes::letters::{FIGURE_SHIFT, LETTER_SHIFT};

@@ -13,11 +13,11 @@ ghost use Rattle.ed_page.specs.Answers.{EachRunReadsOn, IsShown, RowsEnd, Source
 ghost use Rattle.ed_page.specs.Answers.{picture_buffers};
 ghost use Rattle.ed_page.specs.Going.{BeginsOnTheWay};
 ghost use Rattle.ed_page.specs.Pictures.{run_settings, size_shown};
-ghost use Rattle.ed_page.specs.Private.Asked.{answers_of, ends_of};
+ghost use Rattle.ed_page.specs.Private.Requests.{answers_of, ends_of};
 ghost use Rattle.ed_page.specs.Private.Stages.{WritesBuffers, told_outcome};
 
+use crate::reply::{NO_MEMORY, NO_ROOM, TOO_LONG_STATUS, write_texts};
 use crate::running::{InitialOrders, ProgramKind, picture_of, run_settings};
-use crate::told::{NO_MEMORY, NO_ROOM, TOO_LONG_STATUS, write_texts};
 use crate::writing::{NO_CODE, Registers, registers_of, write_store};
 use ed_answers::{INPUT_BYTES, TOO_LONG};
 use ed_machine::Machine;

@@ -11,9 +11,9 @@ ghost use Rattle.ed_page.specs.Going.{CanGoOn, IsAfterStart};
 ghost use Rattle.ed_page.specs.Pictures.{Pictures, size_shown};
 ghost use Rattle.ed_page.specs.PostMortems.{IsPostMortemWritten, IsWindowWritten, code_buffer};
 
-use crate::pictured::pictured;
+use crate::reply::{NO_MEMORY, NO_ROOM};
 use crate::running::size_of;
-use crate::told::{NO_MEMORY, NO_ROOM};
+use crate::snapshot::snapshot;
 use crate::writing::{Registers, write_codes};
 use ed_answers::window_printed;
 use ed_codes::Code;
@@ -65,7 +65,7 @@ pub extern "C" fn page_post_mortem(
         return REFUSED;
     }
     match printed_paper(alloc, rows, small, window, words, digits, registers) {
-        Ok(paper) => tell(paper.codes(), codes, printed),
+        Ok(paper) => write_printed(paper.codes(), codes, printed),
         Err(NoMemory) => NO_MEMORY,
     }
 }
@@ -97,12 +97,12 @@ fn printed_paper(
         → Pictures (state_after k s) words.now digits.now registers.now
         → paper.codes ≡ post_mortem_codes (Some window) (state_after k s)) }
 {
-    let mut machine = pictured(alloc, small, rows, words, digits, registers)?;
+    let mut machine = snapshot(alloc, small, rows, words, digits, registers)?;
     window_printed(alloc, window, &mut machine)
 }
 
 /// Writes codes and their number, if the buffer has room.
-fn tell(found: &[Code], codes: &mut [u8], printed: &mut u64) -> u32
+fn write_printed(found: &[Code], codes: &mut [u8], printed: &mut u64) -> u32
     ensures { (w : Window) (s : State) → found.now ≡ post_mortem_codes (Some w) s
         → IsWindowWritten w s (code_buffer codes.old printed.old) (code_buffer codes.new printed.new) result }
 {

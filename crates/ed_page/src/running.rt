@@ -1,6 +1,6 @@
 ghost use Rattle.std.specs.Prelude.{◌≡◌, IfOk, None};
 ghost use Rattle.ed_page.specs.Pictures.{run_settings, size_shown};
-ghost use Rattle.ed_page.specs.Private.Asked.{answers_of, ends_of};
+ghost use Rattle.ed_page.specs.Private.Requests.{answers_of, ends_of};
 ghost use Rattle.ed_page.specs.Private.Stages.{IsPicture, Runs};
 
 use ed_answers::{NotedRun, Rejection, Reply, ran_reply, rows_of, run_rows, run_rows1, run_source};

@@ -6,7 +6,7 @@ ghost use Rattle.ed_answers.specs.Sources.{listing_answer, of_source, punch_answ
 ghost use Rattle.ed_page.specs.Answers.{IsTextWritten, source_rows, text_buffers};
 ghost use Rattle.ed_page.specs.Pictures.{run_settings, size_shown};
 
-use crate::asked::{Asked, AskedOfRows, write_answer};
+use crate::request::{Request, RowsRequest, write_answer};
 use crate::running::{run_settings, size_of};
 use crate::writing::Lengths;
 use ed_answers::Reply;
@@ -28,8 +28,8 @@ pub extern "C" fn page_tape_rows(
     ensures { IsTextWritten (of_rows (exactly done)) text.now (text_buffers rows.old note.old lengths.old)
         (text_buffers rows.new note.new lengths.new) result }
 {
-    let asked = Asked::Tape(AskedOfRows::Codes);
-    write_answer(alloc, asked, text, rows, note, lengths)
+    let request = Request::Tape(RowsRequest::Codes);
+    write_answer(alloc, request, text, rows, note, lengths)
 }
 
 /// Writes the codes of the rows of a source's tape, as `page_tape_rows` does.
@@ -46,8 +46,8 @@ pub extern "C" fn page_source_rows(
         (text_buffers rows.old note.old lengths.old)
         (text_buffers rows.new note.new lengths.new) result }
 {
-    let asked = Asked::SourceRows(size_of(small));
-    write_answer(alloc, asked, text, rows, note, lengths)
+    let request = Request::SourceRows(size_of(small));
+    write_answer(alloc, request, text, rows, note, lengths)
 }
 
 /// Writes the text of a source's tape as `edsac punch` does, as `page_tape_rows` writes rows.
@@ -63,8 +63,8 @@ pub extern "C" fn page_punch(
     ensures { IsTextWritten (punch_answer (run_settings small 0 0)) text.now (text_buffers tape.old note.old lengths.old)
         (text_buffers tape.new note.new lengths.new) result }
 {
-    let asked = Asked::Punch(run_settings(small, 0, 0));
-    write_answer(alloc, asked, text, tape, note, lengths)
+    let request = Request::Punch(run_settings(small, 0, 0));
+    write_answer(alloc, request, text, tape, note, lengths)
 }
 
 /// Writes the listing of a source, as `page_tape_rows` writes rows.
@@ -80,8 +80,8 @@ pub extern "C" fn page_listing(
     ensures { IsTextWritten (listing_answer (run_settings small 0 0)) text.now (text_buffers listing.old note.old lengths.old)
         (text_buffers listing.new note.new lengths.new) result }
 {
-    let asked = Asked::Listing(run_settings(small, 0, 0));
-    write_answer(alloc, asked, text, listing, note, lengths)
+    let request = Request::Listing(run_settings(small, 0, 0));
+    write_answer(alloc, request, text, listing, note, lengths)
 }
 
 /// The reply that has the codes of rows as bytes.

@@ -1,18 +1,14 @@
 -- The digits that are printed of an address.
-use Rattle.std.proofs.Common.{◌≡◌, inl, inr, ℕ, ◌+◌, ◌/◌, ◌%◌, ◌<◌, ◌≤◌, refl, sym, ap, ◌∙◌, arith}
-use Rattle.std.proofs.Common.{[], ◌∷◌, ◌++◌, map}
+use Rattle.ed_postmortem.proofs.Kit.{le-leb, digit_at, [], ap, arith, inl, inr, refl, sym, ℕ, ◌%◌, ◌++◌, ◌+◌, ◌/◌, ◌<◌}
+use Rattle.ed_postmortem.proofs.Kit.{◌∙◌, ◌∷◌, ◌≡◌, ◌≤◌, cases_lt, address_digits}
+use Rattle.std.proofs.Common.{map}
 use Rattle.std.specs.Fmt.{decimal}
 use Rattle.std.proofs.lemmas.Fmt.{decimal_digit, decimal_step}
-use Rattle.std.proofs.lemmas.Bool.{cases_lt}
-use Rattle.ed_words.proofs.Numbers.{le_false, le_true}
-use Rattle.ed_notation.specs.Spellings.{digit_at}
-use Rattle.ed_postmortem.specs.Codes.{AddressDigitsLaw, address_digits}
-
-none_at : (p n : ℕ) → n < p → digit_at p n ≡ []
-none_at p n h = let e = le_false p n h in rw e refl
+use Rattle.ed_notation.proofs.Parts.{no_digit}
+use Rattle.ed_postmortem.specs.Codes.{AddressDigitsLaw}
 
 some_at : (p n : ℕ) → p ≤ n → digit_at p n ≡ n / p % 10 ∷ []
-some_at p n h = let e = le_true p n h in rw e refl
+some_at p n h = let e = le-leb p n h in rw e refl
 
 -- a digit after the others
 one_more : (n m d : ℕ) → 10 ≤ n → n < 2048 → n / 10 ≡ m → n % 10 ≡ d → decimal n ≡ decimal m ++ (48 + d) ∷ []
@@ -21,16 +17,16 @@ one_more n m d some small e f = decimal_step n some (omega (arith, small)) ∙ (
 module _ (n : ℕ) (small : n < 2048) where
   of_1 : n < 10 → map (λ d. 48 + d) (address_digits n) ≡ decimal n
   of_1 l =
-      let a = none_at 1000 n (omega arith) in
-      let b = none_at 100 n (omega arith) in
-      let c = none_at 10 n (omega arith) in
+      let a = no_digit 1000 n (omega arith) in
+      let b = no_digit 100 n (omega arith) in
+      let c = no_digit 10 n (omega arith) in
       let u : n % 10 ≡ n = omega arith in
       rw (a, b, c, u) (sym (decimal_digit n l))
 
   of_2 : 10 ≤ n → n < 100 → map (λ d. 48 + d) (address_digits n) ≡ decimal n
   of_2 g l =
-      let a = none_at 1000 n (omega arith) in
-      let b = none_at 100 n (omega arith) in
+      let a = no_digit 1000 n (omega arith) in
+      let b = no_digit 100 n (omega arith) in
       let c = some_at 10 n g in
       let top : n / 10 ≡ n / 10 % 10 = omega arith in
       rw (a, b, c) (sym (one_more n (n / 10 % 10) (n % 10) g small top refl
@@ -38,7 +34,7 @@ module _ (n : ℕ) (small : n < 2048) where
 
   of_3 : 100 ≤ n → n < 1000 → map (λ d. 48 + d) (address_digits n) ≡ decimal n
   of_3 g l =
-      let a = none_at 1000 n l in
+      let a = no_digit 1000 n l in
       let b = some_at 100 n g in
       let c = some_at 10 n (omega arith) in
       let top : n / 10 / 10 ≡ n / 100 % 10 = omega arith in

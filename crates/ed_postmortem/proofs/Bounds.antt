@@ -1,12 +1,9 @@
 -- The most codes and orders that print a word, and how long the tape's numbers are.
-use Rattle.std.proofs.Common.{ℕ, zero, suc, ◌+◌, ◌*◌, ◌/◌, ◌%◌, ◌≤◌, arith, Bool, true, false, nat_le, if◌then◌else◌}
-use Rattle.std.proofs.Common.{List, [], ◌∷◌, ◌++◌, length, get_or, length-append}
-use Rattle.ed_words.proofs.SizeLemmas.{most}
-use Rattle.ed_notation.specs.Spellings.{digit_at, digits_of}
+use Rattle.ed_postmortem.proofs.Kit.{length-append, locations_most, digit_at, digits_of, [], arith, Bool, false, get_or}
+use Rattle.ed_postmortem.proofs.Kit.{if◌then◌else◌, length, List, nat_le, suc, true, zero, ℕ, ◌%◌, ◌*◌, ◌++◌, ◌+◌, ◌/◌}
+use Rattle.ed_postmortem.proofs.Kit.{◌∷◌, ◌≤◌, address_digits, digits_before_units, is_even, length_code}
+use Rattle.ed_postmortem.proofs.Kit.{length_orders, number_in, printed_codes, word_codes, word_orders, words_orders}
 use Rattle.ed_postmortem.specs.Answers.{PaperIsEnough}
-use Rattle.ed_postmortem.specs.Codes.{digits_before_units, address_digits, is_even, length_code}
-use Rattle.ed_postmortem.specs.Codes.{length_orders, number_in, printed_codes, word_codes}
-use Rattle.ed_postmortem.specs.Codes.{word_orders, words_orders}
 use Rattle.ed_postmortem.proofs.Digits.{Digits, began, digits_are, one_shown}
 
 -- no word is printed with more than 11 codes
@@ -39,7 +36,7 @@ pub enough : PaperIsEnough
 enough s first count range =
     let behind = range.above in
     let within = range.within in
-    omega (arith, few_codes count s.store.words first, most s.size)
+    omega (arith, few_codes count s.store.words first, locations_most s.size)
 
 -- no word takes more than 257 orders
 few_length : (even : Bool) → length_orders even ≤ 2

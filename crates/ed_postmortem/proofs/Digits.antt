@@ -1,11 +1,9 @@
 -- What the post-mortem prints of a number's digits before its units, and what each digit's printing leaves.
-use Rattle.std.proofs.Common.{◌≡◌, ℕ, zero, suc, ◌+◌, ◌/◌, ◌%◌, ◌<◌, ◌≤◌, refl}
-use Rattle.std.proofs.Common.{ap, sym, ◌∙◌, arith, Bool, true, false, ◌||◌}
-use Rattle.std.proofs.Common.{if◌then◌else◌, nat_lt, nat_le, List, [], ◌∷◌, ◌++◌, length, length-append}
-use Rattle.std.proofs.lemmas.Bool.Decides.{nat_tests}
-use Rattle.ed_notation.specs.Spellings.{digit_at}
-use Rattle.ed_machine.proofs.Kit.Zeros.{shown, begun}
-use Rattle.ed_postmortem.specs.Codes.{digits_before_units, digit_sum}
+use Rattle.ed_postmortem.proofs.Kit.{begun, shown, length-append, digit_at, [], ap, arith, Bool, false, if◌then◌else◌}
+use Rattle.ed_postmortem.proofs.Kit.{length, List, nat_le, nat_lt, refl, suc, sym, true, zero, ℕ, ◌%◌, ◌++◌, ◌+◌, ◌/◌}
+use Rattle.ed_postmortem.proofs.Kit.{◌<◌, ◌∙◌, ◌∷◌, ◌≡◌, ◌≤◌, nat_tests, digits_before_units}
+use Rattle.std.proofs.Common.{◌||◌}
+use Rattle.ed_postmortem.specs.Codes.{digit_sum}
 
 -- what is printed of the digits are the digits shown
 is_begun : (b : Bool) (q : ℕ) → begun b q ≡ (b || nat_lt 0 q)

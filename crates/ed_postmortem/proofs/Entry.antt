@@ -1,25 +1,19 @@
 -- The entry of the post-mortem's tape.
-use Rattle.std.proofs.Common.{◌≡◌, ℕ, ◌+◌, ◌*◌, ◌<◌, ◌≤◌, refl, sym, ap, ◌∙◌, subst, arith, true, nat_lt, if◌then◌else◌}
-use Rattle.std.proofs.Common.{Option, Some, None, List, [], ◌∷◌, ◌++◌, length, lit<, lit≤, append_assoc}
-use Rattle.std.specs.Prelude.{codes}
-use Rattle.ed_words.specs.Sizes.{locations}
-use Rattle.ed_words.specs.declared.size.Size.{Size}
-use Rattle.ed_words.proofs.Numbers.{le_true}
-use Rattle.ed_words.proofs.SizeLemmas.{least}
-use Rattle.ed_words.specs.declared.order_words.TheConstants.{E_F, T_F}
-use Rattle.ed_notation.specs.declared.item.Item.{Item}
-use Rattle.ed_notation.specs.Items.{rows_of, spelled_rows}
-use Rattle.ed_notation.specs.Fold.{NotationState, over, is_entry}
-use Rattle.ed_notation.specs.Openings.{opening, IsDirective}
-use Rattle.ed_notation.specs.Faults.{TapeEntry, WellFormed, ComesTo, EndsSound}
-use Rattle.ed_notation.specs.Spellings.{canonical, canonicals, digits_of, is_spellable}
+use Rattle.ed_postmortem.proofs.Kit.{codes, T_F, Size, Item, append_assoc, le-leb, canonicals, digits_of, is_spellable}
+use Rattle.ed_postmortem.proofs.Kit.{block, block_cost, [], ap, arith, if◌then◌else◌, length, List, lit<, lit≤, nat_lt}
+use Rattle.ed_postmortem.proofs.Kit.{None, Option, refl, Some, subst, sym, true, ℕ, ◌*◌, ◌++◌, ◌+◌, ◌<◌, ◌∙◌, ◌∷◌, ◌≡◌}
+use Rattle.ed_postmortem.proofs.Kit.{◌≤◌, locations, least, TapeEntry, over, spelled_rows, count_item, orders}
+use Rattle.ed_postmortem.proofs.Kit.{rows_of_text, tape_rows}
+use Rattle.ed_notation.proofs.Kit.{EndsSound, RowsReachEntry, WellFormed, is_entry, NotationState, rows_of}
+use Rattle.ed_notation.proofs.Kit.{IsDirective, canonical}
+use Rattle.ed_words.specs.declared.order_words.TheConstants.{E_F}
+use Rattle.ed_notation.specs.Openings.{opening}
 use Rattle.ed_notation.proofs.Canonical.{is_written}
 use Rattle.ed_notation.proofs.Cuts.{spelled-append, canonicals-append}
+use Rattle.ed_notation.proofs.Placing.{placing_all, laid}
 use Rattle.ed_notation.proofs.Sound.{sound_well}
-use Rattle.ed_notation.proofs.Steps.{Reads, plain, reads_none, reads_one, reads_both}
-use Rattle.ed_notation.proofs.Steps.{aiming, aiming_entry, setting_theta, placing, entering_at}
-use Rattle.ed_notation.proofs.Placing.{placing_all, block, laid, block_cost}
-use Rattle.ed_postmortem.specs.Tape.{orders, count_item, rows_of_text, tape_rows}
+use Rattle.ed_notation.proofs.Steps.{Reads, plain, reads_none, reads_one, reads_both, Does-aiming, aiming_entry}
+use Rattle.ed_notation.proofs.Steps.{setting_theta, Does-placing, entering_at}
 
 -- the items that rows without a π spell; of one that has begun, its function and its number so far
 abbrev parsed : Option (ℕ × ℕ) → List ℕ → List Item
@@ -67,7 +61,7 @@ rows_are first count =
     ∙ whole
 
 pub parameter_spellable : (n : ℕ) → n ≤ 1024 → is_spellable (count_item n) ≡ true
-parameter_spellable n h = rw (le_true n 32767 (omega arith)) refl
+parameter_spellable n h = rw (le-leb n 32767 (omega arith)) refl
 
 module _ (z : Size) (words : List ℕ) (first count : ℕ) (f_fits : first ≤ 1024) (c_fits : count ≤ 1024) where
   -- the two words that the head places
@@ -92,13 +86,13 @@ module _ (z : Size) (words : List ℕ) (first count : ℕ) (f_fits : first ≤ 1
       let r5 = reads_one z words (plain 27 0 14) refl
       (setting_theta z words n4 56 (lit≤ tt) refl)
       (reads_none z words at_head) in
-      let r4 = reads_one z words (plain 5 56 14) refl (aiming z words n3 56 (lit≤ tt)) r5 in
+      let r4 = reads_one z words (plain 5 56 14) refl (Does-aiming z words n3 56 (lit≤ tt)) r5 in
       let r3 = reads_one z words (count_item count) (parameter_spellable count c_fits)
-      (placing z words 46 refl refl (lit≤ tt) (low 46 (lit< tt)) (omega arith)) r4 in
+      (Does-placing z words 46 refl refl (lit≤ tt) (low 46 (lit< tt)) (omega arith)) r4 in
       let r2 = reads_one z words (count_item first) (parameter_spellable first f_fits)
-      (placing z words 45 refl refl (lit≤ tt) (low 45 (lit< tt)) (omega arith)) r3 in
+      (Does-placing z words 45 refl refl (lit≤ tt) (low 45 (lit< tt)) (omega arith)) r3 in
       let r1 = reads_one z words (plain 5 45 14) refl
-      (aiming z words (opening words) 45 (lit≤ tt)) r2 in
+      (Does-aiming z words (opening words) 45 (lit≤ tt)) r2 in
       record {
         are_read = r1.are_read;
         are_sound = r1.are_sound;
@@ -149,7 +143,7 @@ module _ (z : Size) (words : List ℕ) (first count : ℕ) (f_fits : first ≤ 1
     rest = [];
   }
 
-  pub comes : ComesTo words (opening words) 9 (tape_rows first count) entry
+  pub comes : RowsReachEntry words (opening words) 9 (tape_rows first count) entry
   comes = record {
     before = canonicals (before first count);
     last = canonical last;

@@ -7,3 +7,4 @@ pub mod Needed
 pub mod Lists
 pub mod Whole
 mod AddressDigits
+pub mod Kit

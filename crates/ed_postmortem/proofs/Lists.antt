@@ -1,7 +1,7 @@
 -- Words laid over a list of words, and a list with a new front.
-use Rattle.std.proofs.Common.{◌≡◌, ℕ, zero, suc, ◌+◌, ◌≤◌, refl, ap, arith, List, [], ◌∷◌, ◌++◌, length, get_or, drop}
+use Rattle.ed_postmortem.proofs.Kit.{get_above, [], ap, arith, drop, get_or, length, List, refl, suc, zero, ℕ, ◌++◌}
+use Rattle.ed_postmortem.proofs.Kit.{◌+◌, ◌∷◌, ◌≡◌, ◌≤◌, patched}
 use Rattle.ed_notation.proofs.Placing.{with_block}
-use Rattle.ed_machine.proofs.Kit.Window.{patched, get_above}
 
 -- words laid over a store are a window on it
 pub block_window : (xs : List ℕ) (a : ℕ) (cs : List ℕ) → a ≤ length xs → with_block xs a cs ≡ patched 0 xs a cs

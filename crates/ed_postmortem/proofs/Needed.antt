@@ -1,7 +1,6 @@
 -- How many codes are needed, word by word.
-use Rattle.std.proofs.Common.{◌≡◌, ℕ, suc, ◌+◌, ◌-◌, ◌<◌, ◌≤◌, refl, arith, List, length, get_or}
-use Rattle.std.proofs.Common.{length-append}
-use Rattle.ed_postmortem.specs.Codes.{printed_codes, word_codes}
+use Rattle.ed_postmortem.proofs.Kit.{length-append, arith, get_or, length, List, refl, suc, ℕ, ◌+◌, ◌-◌, ◌<◌, ◌≡◌, ◌≤◌}
+use Rattle.ed_postmortem.proofs.Kit.{printed_codes, word_codes}
 
 pub next_codes : (words : List ℕ) (first done count : ℕ) → done < count
     → length (printed_codes words (first + done) (count - done))

@@ -1,26 +1,20 @@
 -- The orders of the post-mortem, by their listing: paths that print a word, the loop over the words, and the stop.
-use Rattle.std.proofs.Common.{◌≡◌, ℕ, zero, suc, ◌+◌, ◌-◌, ◌*◌, ◌/◌, ◌%◌, ◌^◌, ◌<◌}
-use Rattle.std.proofs.Common.{◌≤◌, refl, ap, sym, ◌∙◌, arith, Bool, true, false}
-use Rattle.std.proofs.Common.{nat_lt, nat_eq, List, [], ◌∷◌, ◌++◌, Option, Some, get_or}
-use Rattle.std.proofs.Common.{length, lit<, lit≤, append_assoc, append-nil, inr}
-use Rattle.std.proofs.lemmas.Bool.Decides.{nat_tests}
-use Rattle.ed_words.specs.declared.size.Size.{Size}
-use Rattle.ed_words.specs.Sizes.{locations}
-use Rattle.ed_words.proofs.SizeLemmas.{most}
-use Rattle.ed_words.specs.declared.order_words.TheConstants.{C_F, O_F, S_F, V_F, Z_F}
+use Rattle.ed_postmortem.proofs.Kit.{append-nil, C_F, O_F, Size, Stopped, Frame, begun, shown, append_assoc, locations_most, []}
+use Rattle.ed_postmortem.proofs.Kit.{ap, arith, Bool, false, get_or, inr, length, List, lit<, lit≤, nat_lt, Option}
+use Rattle.ed_postmortem.proofs.Kit.{refl, Some, suc, sym, true, zero, ℕ, ◌%◌, ◌*◌, ◌++◌, ◌+◌, ◌-◌, ◌/◌, ◌<◌, ◌^◌, ◌∙◌}
+use Rattle.ed_postmortem.proofs.Kit.{◌∷◌, ◌≡◌, ◌≤◌, nat_tests, locations, Moment, address_digits, is_even, length_code}
+use Rattle.ed_postmortem.proofs.Kit.{length_orders, number_in, printed_codes, word_codes, word_orders, words_orders}
+use Rattle.std.proofs.Common.{nat_eq}
+use Rattle.ed_words.specs.declared.order_words.TheConstants.{S_F, V_F, Z_F}
 use Rattle.ed_orders.specs.declared.kind.Kind.TheVariants.{Z as KindZ}
-use Rattle.ed_machine.specs.declared.turn.Turn.TheVariants.{Stopped}
-use Rattle.ed_machine.proofs.Kit.Sums.{common_4095, common_1}
-use Rattle.ed_machine.proofs.Kit.Shifts.{L512F}
-use Rattle.ed_machine.proofs.Kit.Frames.{Frame, Moment, short}
-use Rattle.ed_machine.proofs.Kit.Places.{IsOutside, early, own, out}
-use Rattle.ed_machine.proofs.Kit.Orders.{Does, there_is}
+use Rattle.ed_machine.proofs.Kit.Frames.{short}
 use Rattle.ed_machine.proofs.Kit.Moves.{A, S, T, U, O, H, C, L, Z, E_jumps, E_stays, G_jumps, G_stays}
+use Rattle.ed_machine.proofs.Kit.Orders.{Does, there_is}
 use Rattle.ed_machine.proofs.Kit.Paths.{Path, stay, on, prints, followed}
-use Rattle.ed_postmortem.specs.Codes.{address_digits, is_even, length_code, length_orders, number_in, word_codes}
-use Rattle.ed_postmortem.specs.Codes.{word_orders}
-use Rattle.ed_postmortem.specs.Codes.{printed_codes, words_orders}
-use Rattle.ed_machine.proofs.Kit.Zeros.{flag_of, shown, begun, spared, last_of, taken_away}
+use Rattle.ed_machine.proofs.Kit.Places.{IsOutside, early, own, out}
+use Rattle.ed_machine.proofs.Kit.Shifts.{L512F}
+use Rattle.ed_machine.proofs.Kit.Sums.{common_4095, common_1}
+use Rattle.ed_machine.proofs.Kit.Zeros.{flag_of, spared, last_of, taken_away}
 use Rattle.ed_postmortem.proofs.Digits.{began, Digits, digits_are}
 
 -- the cells that change
@@ -370,7 +364,7 @@ module _ (given : Given) where
               (followed (turn q3 (2 * d + o) b2 p3 (omega arith, omega arith) (omega arith) (omega arith))
               (followed (units d u (omega arith) (omega arith) refl)
               (followed (length_printed u e (omega arith) refl refl)
-              (moved_on u (omega (arith, away.below, most size)))))))))));
+              (moved_on u (omega (arith, away.below, locations_most size)))))))))));
         }
 
   -- all words: the loop
@@ -382,7 +376,7 @@ module _ (given : Given) where
       let e : p + 0 ≡ p = omega arith in
       rw e (record { work = w; last = last; unit = m; path = stay })
   words (suc c) w p m last behind fits low =
-      let b = most size in
+      let b = locations_most size in
       let e : suc c ≡ c + 1 = omega arith in
       let g : p + suc c ≡ p + 1 + c = omega arith in
       let away : IsOutside f ws p = record { below = omega arith; beside = inr (omega arith) } in

@@ -1,21 +1,14 @@
 -- A run from a state whose orders lead to a stop ends there, and prints what these orders print.
-use Rattle.std.proofs.Common.{◌≡◌, ℕ, suc, ◌-◌, ◌<◌, ◌≤◌, ◌⊎◌, inl}
-use Rattle.std.proofs.Common.{inr, ap, ◌∙◌, arith, true, List, ◌++◌, length}
-use Rattle.std.proofs.Common.{append-nil}
-use Rattle.std.proofs.lemmas.Bool.{cases_lt}
-use Rattle.ed_machine.specs.State.{State}
-use Rattle.ed_machine.specs.OrderTable.{Obeyed, step}
-use Rattle.ed_machine.specs.Sheet.{Sheet}
-use Rattle.ed_machine.specs.Steps.{progress, state_after, codes_of, is_obeyed}
-use Rattle.ed_machine.specs.declared.ending.Ending.{Ending}
+use Rattle.ed_postmortem.proofs.Kit.{append-nil, Sheet, Ending, Leads, IsRun, ap, arith, inl, inr, length, List, suc}
+use Rattle.ed_postmortem.proofs.Kit.{true, ℕ, ◌++◌, ◌-◌, ◌<◌, ◌∙◌, ◌≡◌, ◌≤◌, cases_lt, Obeyed, step, State}
+use Rattle.ed_postmortem.proofs.Kit.{state_after}
+use Rattle.ed_run.proofs.Kit.{◌⊎◌, codes_of, is_obeyed, progress, first_once, EndsAfter}
 use Rattle.ed_machine.specs.declared.ending.Ending.TheVariants.{Stopped}
 use Rattle.ed_machine.specs.declared.turn.Turn.{Turn}
 use Rattle.ed_machine.specs.declared.turn.Turn.TheVariants.{Stopped as Stops}
-use Rattle.ed_run.specs.Run.{EndsAfter, IsRun}
+use Rattle.ed_machine.proofs.Kit.Leads.{free, no_stops}
 use Rattle.ed_run.specs.Laws.{HasRoom}
-use Rattle.ed_run.proofs.Ends.{ends_once}
 use Rattle.ed_run.proofs.Places.{at_stop}
-use Rattle.ed_machine.proofs.Kit.Leads.{Leads, free, no_stops}
 
 -- k orders lead from s to t, and the next one stops the machine and leaves u
 module _ {k : ℕ} {s t u : State} {codes : List ℕ} (l : Leads k s codes t)
@@ -53,7 +46,7 @@ module _ {k : ℕ} {s t u : State} {codes : List ℕ} (l : Leads k s codes t)
       let ends : EndsAfter limit 0 room s (suc k) Stopped =
       at_stop limit 0 has (no_stops k s l.goes) fits turn_is in
       let orders : run.orders ≡ suc k =
-      (ends_once run.ends ends).0 in (
+      (first_once run.ends ends).0 in (
         run.state_is ∙ ap (λ j. state_after j s) orders ∙ behind_stop,
         run.sheet_is ∙ (λ i. record {
           codes = sheet.codes ++ (ap (λ j. (progress j s).codes) orders ∙ codes_are) i;

@@ -1,42 +1,28 @@
 -- The post-mortem from its start to its stop.
-use Rattle.std.proofs.Common.{◌≡◌, ℕ, zero, suc, ◌+◌, ◌-◌, ◌*◌, ◌%◌, ◌^◌, ◌≤◌}
-use Rattle.std.proofs.Common.{refl, sym, ap, ◌∙◌, subst, arith, Bool, false}
-use Rattle.std.proofs.Common.{List, [], ◌++◌, Option, length, get_or, set, drop, inl, inr, length-append}
+use Rattle.ed_postmortem.proofs.Kit.{C_F, O_F, T_F, Sheet, Ending, Stopped, Frame, Leads, get_above, IsRun}
+use Rattle.ed_postmortem.proofs.Kit.{length-append, locations_most, block, block_cost, [], ap, arith, Bool, drop, false, get_or}
+use Rattle.ed_postmortem.proofs.Kit.{inl, inr, length, List, Option, refl, subst, suc, sym, zero, ℕ, ◌%◌, ◌*◌, ◌++◌}
+use Rattle.ed_postmortem.proofs.Kit.{◌+◌, ◌-◌, ◌^◌, ◌∙◌, ◌≡◌, ◌≤◌, locations, least, Obeyed, step, State, state_after}
+use Rattle.ed_postmortem.proofs.Kit.{Moment, patched, TapeEntry, over, IsPrinted, printed_codes, words_orders}
+use Rattle.ed_postmortem.proofs.Kit.{tape_rows}
+use Rattle.ed_initial.proofs.Kit.{set, IsStore, start_state, at_entry, entry_words, ReachesEntry, initial_orders}
 use Rattle.std.proofs.lemmas.List.{get_or-set_same, get_or-set_other, length-set, length-drop}
-use Rattle.ed_words.specs.Sizes.{locations}
-use Rattle.ed_words.proofs.SizeLemmas.{most, least}
-use Rattle.ed_words.specs.declared.order_words.TheConstants.{C_F, O_F, T_F}
-use Rattle.ed_store.specs.Cells.{IsStore}
-use Rattle.ed_machine.specs.State.{State}
-use Rattle.ed_machine.specs.OrderTable.{Obeyed, step}
-use Rattle.ed_machine.specs.Steps.{state_after}
-use Rattle.ed_machine.specs.Sheet.{Sheet}
-use Rattle.ed_machine.specs.Start.{start_state}
-use Rattle.ed_machine.specs.declared.ending.Ending.{Ending}
-use Rattle.ed_machine.specs.declared.turn.Turn.TheVariants.{Stopped}
-use Rattle.ed_notation.specs.Fold.{over}
-use Rattle.ed_notation.specs.Faults.{TapeEntry}
-use Rattle.ed_notation.proofs.Placing.{block, block_cost, over_laid}
-use Rattle.ed_initial.specs.Listing.{initial_orders}
-use Rattle.ed_initial.specs.Entry.{Comes, IsLoaded, at_entry, entry_words}
+use Rattle.ed_machine.proofs.Kit.Frames.{state}
+use Rattle.ed_machine.proofs.Kit.Paths.{leads}
+use Rattle.ed_machine.proofs.Kit.Window.{get_below}
+use Rattle.ed_machine.proofs.Steps.{after_sum}
+use Rattle.ed_notation.proofs.Placing.{over_laid}
+use Rattle.ed_initial.specs.Entry.{IsLoaded}
 use Rattle.ed_initial.specs.Load.{orders_of}
 use Rattle.ed_initial.specs.Rests.{initial_words}
 use Rattle.ed_initial.specs.declared.loading.Loaded.{Loaded}
-use Rattle.ed_run.specs.Run.{IsRun}
-use Rattle.ed_machine.proofs.Kit.Frames.{Frame, Moment, state}
-use Rattle.ed_machine.proofs.Kit.Leads.{Leads}
-use Rattle.ed_machine.proofs.Steps.{after_sum}
-use Rattle.ed_machine.proofs.Kit.Paths.{leads}
-use Rattle.ed_machine.proofs.Kit.Window.{patched, get_below, get_above}
-use Rattle.ed_postmortem.specs.Answers.{IsUntouched, InRange, IsPrinted, begun_on, needed_of, room_of}
-use Rattle.ed_postmortem.specs.Codes.{printed_codes, words_orders}
-use Rattle.ed_postmortem.specs.Tape.{tape_rows}
-use Rattle.ed_postmortem.proofs.Entry.{listing, parameters}
-use Rattle.ed_postmortem.proofs.Entry as tape
+use Rattle.ed_postmortem.specs.Answers.{IsUntouched, InRange, begun_on, needed_of, room_of}
 use Rattle.ed_postmortem.proofs.Bounds.{all_few, few_digits}
+use Rattle.ed_postmortem.proofs.Entry.{listing, parameters}
 use Rattle.ed_postmortem.proofs.Lists.{block_window, behind_head, drop_window, headed_same}
 use Rattle.ed_postmortem.proofs.Paths.{Given, Work, cells, ready, f, moment, PrintsAll, prints_all}
 use Rattle.ed_postmortem.proofs.Stops.{behind_stop, run_stops}
+use Rattle.ed_postmortem.proofs.Entry as tape
 
 -- what is printed, and in how many orders, depends only on the words from the first one upwards
 codes_same : (count : ℕ) (xs ys : List ℕ) (p : ℕ) → ((i : ℕ) → p ≤ i → get_or xs i 0 ≡ get_or ys i 0)
@@ -67,10 +53,10 @@ module _ {s : State} {first count : ℕ} (store : IsStore s.store) (range : InRa
   b = begun_on s first count
 
   pub f_fits : first ≤ 1024
-  f_fits = omega (arith, range.within, most s.size)
+  f_fits = omega (arith, range.within, locations_most s.size)
 
   pub c_fits : count ≤ 1024
-  c_fits = omega (arith, range.within, most s.size)
+  c_fits = omega (arith, range.within, locations_most s.size)
 
   room : 56 + 84 ≤ locations s.size
   room = omega (arith, least s.size)
@@ -89,7 +75,7 @@ module _ {s : State} {first count : ℕ} (store : IsStore s.store) (range : InRa
   few_cost : entry.cost ≤ 10000
   few_cost = omega (arith, few_digits first, few_digits count, listing_cost)
 
-  comes : Comes b entry
+  comes : ReachesEntry b entry
   comes = record {
     well = tape.well s.size ws first count f_fits c_fits;
     comes = tape.comes s.size ws first count f_fits c_fits;
@@ -102,12 +88,13 @@ module _ {s : State} {first count : ℕ} (store : IsStore s.store) (range : InRa
 
   -- the load of a machine that was started on the tape
   pub loads_so : {m0 m1 : State} {image rows : List ℕ} {r : Loaded} → image ≡ initial_orders
-      → rows ≡ tape_rows first count → m0 ≡ start_state image rows s → ((e : TapeEntry) → Comes m0 e → IsLoaded m0 e r m1)
+      → rows ≡ tape_rows first count → m0 ≡ start_state image rows s
+      → ((e : TapeEntry) → ReachesEntry m0 e → IsLoaded m0 e r m1)
       → m1 ≡ state_after (orders_of r) m0 → LoadsTape m1 r
   loads_so {m0} {m1} {r = r} e h is loads after =
       let same : m0 ≡ b = is ∙ (λ i. start_state (e i) (h i) s) in
       record {
-        is = subst (λ (x : State). Comes x entry → IsLoaded x entry r m1) same (loads entry) comes;
+        is = subst (λ (x : State). ReachesEntry x entry → IsLoaded x entry r m1) same (loads entry) comes;
         after = subst (λ (x : State). m1 ≡ state_after (orders_of r) x) same after;
       }
 
@@ -262,7 +249,7 @@ module _ {s : State} {first count : ℕ} (store : IsStore s.store) (range : InRa
   orders_are = orders_same count around s.store.words first kept_far
 
   few : suc k ≤ 230000
-  few = omega (arith, all_few count around first, range.within, range.above, most s.size)
+  few = omega (arith, all_few count around first, range.within, range.above, locations_most s.size)
 
   -- the load and the run print the words
   pub printed : {limit : ℕ} {loaded t : State} {sheet full : Sheet} {r : Loaded} {ending : Ending} → LoadsTape loaded r

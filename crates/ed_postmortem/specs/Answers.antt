@@ -9,7 +9,7 @@ use Rattle.ed_machine.specs.Steps.{state_after}
 use Rattle.ed_machine.specs.Sheet.{Sheet}
 use Rattle.ed_machine.specs.declared.turn.Turn.TheVariants.{Stopped}
 use Rattle.ed_notation.specs.Faults.{TapeEntry}
-use Rattle.ed_initial.specs.Entry.{Comes}
+use Rattle.ed_initial.specs.Entry.{ReachesEntry}
 use Rattle.ed_initial.specs.Listing.{initial_orders}
 use Rattle.ed_postmortem.specs.Codes.{printed_codes, printing_orders}
 use Rattle.ed_postmortem.specs.Tape.{tape_rows}
@@ -40,7 +40,7 @@ pub record InRange (s : State) (first count : ℕ) : Type 0 where
 pub record IsPrinted (s : State) (sheet : Sheet) (first count n : ℕ) (t : State) (full : Sheet) : Type 0 where
   -- the tape is well formed from the store and reaches an entry at its cost
   pub entry : TapeEntry
-  pub comes : Comes (begun_on s first count) entry
+  pub comes : ReachesEntry (begun_on s first count) entry
   -- the orders are that cost and those that print
   pub orders_are : n ≡ entry.cost + printing_orders s.store.words first count
   -- the state is the one n orders after the start, and the last order was a stop

@@ -5,11 +5,11 @@ use Rattle.ed_printer.specs.Paper.{bytes_of, shift_after, struck_bytes}
 use Rattle.ed_printer.specs.declared.printer.Shift.{Shift}
 use Rattle.ed_printer.specs.declared.printer.Shift.TheVariants.{Letters, Figures}
 
-eleven_silent : (shift : Shift) → struck_bytes shift 11 ≡ []
+pub eleven_silent : (shift : Shift) → struck_bytes shift 11 ≡ []
 eleven_silent Letters = refl
 eleven_silent Figures = refl
 
-fifteen_silent : (shift : Shift) → struck_bytes shift 15 ≡ []
+pub fifteen_silent : (shift : Shift) → struck_bytes shift 15 ≡ []
 fifteen_silent Letters = refl
 fifteen_silent Figures = refl
 

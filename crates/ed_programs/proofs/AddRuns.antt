@@ -1,17 +1,15 @@
 -- The source of `examples/add.edsac` for any two numbers: its path, and what it prints.
-use Rattle.ed_programs.proofs.Kit.{◌≡◌, ℕ, ◌+◌, ◌*◌, ◌<◌, true, false, [], List, ◌∷◌, length, sym, refl, append-nil, A}
-use Rattle.ed_programs.proofs.Kit.{arith, lit<, lit≤, Z_F, Size, lt_true, short, state, Frame, Moment, Line, digits, T}
-use Rattle.ed_programs.proofs.Kit.{print_orders, few_digits, ComesToStop, entry_state, settings, parameter_store, Z, on}
-use Rattle.ed_programs.proofs.Kit.{Settings, stay, own, get_own, along, then, to_stop, IsIn, print_line, frame_at, to}
-use Rattle.ed_programs.proofs.Kit.{moment_at, digits_printed, SourceRuns, reads_number, HasRead, are_small, data_mark}
-use Rattle.ed_programs.proofs.Kit.{number_rows, stops_from_entry, Marked, calling, stop_counted, HasPair, pair_after}
-use Rattle.ed_programs.proofs.Kit.{pair_at_entry}
-use Rattle.ed_programs.specs.Add.{add_orders, add_text}
-use Rattle.ed_programs.proofs.SourceRuns.{lines_of_pieces, program_runs}
-use Rattle.ed_programs.specs.declared.add.TheConstants.{ADD}
-use Rattle.ed_words.specs.Texts.{Text}
-use Rattle.std.proofs.Common.{map}
+use Rattle.ed_programs.proofs.Kit.{Z_F, Size, Z, Settings, Line, along, IsIn, then, to_stop, T, print_line, get_own}
+use Rattle.ed_programs.proofs.Kit.{frame_at, moment_at, [], append-nil, arith, false, length, List, lit<, lit≤, map}
+use Rattle.ed_programs.proofs.Kit.{refl, sym, true, ℕ, ◌*◌, ◌+◌, ◌<◌, ◌∷◌, ◌≡◌, lt-ltb, Text, Frame, Moment, short}
+use Rattle.ed_programs.proofs.Kit.{state, A, on, stay, own, settings, parameter_store, digits, print_orders}
+use Rattle.ed_programs.proofs.Kit.{few_digits, ReachesStop, entry_state, digits_printed, SourceRuns, HasRead}
+use Rattle.ed_programs.proofs.Kit.{reads_number, are_small, data_mark, number_rows, stops_from_entry, Marked}
 use Rattle.std.specs.Fmt.{decimal}
+use Rattle.ed_programs.specs.Add.{add_orders, add_text}
+use Rattle.ed_programs.specs.declared.add.TheConstants.{ADD}
+use Rattle.ed_programs.proofs.Kit.{to, calling, stop_counted, HasPair, pair_after, pair_at_entry}
+use Rattle.ed_programs.proofs.SourceRuns.{lines_of_pieces, program_runs}
 
 -- the pieces of the source, and the numbers between them
 abbrev add_pieces : List Text
@@ -43,7 +41,7 @@ module _ (z : Size) (m : Moment) where
 
   -- the two numbers are read, added and printed, and the machine stops
   stops : HasPair f m.words 70 94 12 12 → (a b : ℕ) → a + b < 65536 → (done : ℕ)
-      → ComesToStop (13 * length (digits a) + 13 * length (digits b) + print_orders (a + b) + 33)
+      → ReachesStop (13 * length (digits a) + 13 * length (digits b) + print_orders (a + b) + 33)
       (state f (at 0 m.words 0 0 0 (number_rows (a ∷ b ∷ []))) done) (11 ∷ digits (a + b)) 68
   stops o a b small done =
       let start : IsIn f (at 0 m.words 0 0 0 (number_rows (a ∷ b ∷ []))) =
@@ -71,7 +69,7 @@ module _ (z : Size) (m : Moment) where
 
 module _ (a b : ℕ) (small : a + b < 65536) where
   two_small : are_small (a ∷ b ∷ []) ≡ true
-  two_small = let x = lt_true a 65536 (omega arith) in let y = lt_true b 65536 (omega arith) in rw (x, y) refl
+  two_small = let x = lt-ltb a 65536 (omega arith) in let y = lt-ltb b 65536 (omega arith) in rw (x, y) refl
 
   -- the line with data
   abbrev marks : List (Marked false)

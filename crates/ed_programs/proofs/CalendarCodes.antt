@@ -1,9 +1,8 @@
 -- The codes that the program of `examples/calendar.tape` prints.
-use Rattle.std.specs.Prelude.{replicate, ℕ, zero, suc, ◌-◌, ◌*◌, ◌/◌, ◌%◌, ◌==◌, nat_lt, if◌then◌else◌, List, [], ◌∷◌}
-use Rattle.std.specs.Prelude.{◌++◌, get_or}
-use Rattle.ed_programs.specs.Calendar.{month_length, weekday_count}
-use Rattle.std.proofs.Common.{ap, arith, refl, ◌+◌, ◌∙◌, ◌≡◌}
+use Rattle.std.proofs.Common.{replicate, ℕ, zero, suc, ◌-◌, ◌*◌, ◌/◌, ◌%◌, ◌==◌, nat_lt, if◌then◌else◌, List, [], ◌∷◌}
+use Rattle.std.proofs.Common.{◌++◌, get_or, ap, arith, refl, ◌+◌, ◌∙◌, ◌≡◌}
 use Rattle.std.specs.List.{range_with_len}
+use Rattle.ed_programs.specs.Calendar.{month_length, weekday_count}
 
 -- the days of a week before the first of the month, as the program counts them
 abbrev pub place : ℕ → ℕ → ℕ

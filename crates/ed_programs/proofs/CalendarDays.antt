@@ -1,8 +1,8 @@
 -- What the program of `examples/calendar.tape` counts is the calendar, from 1901 to 2099.
-use Rattle.ed_programs.proofs.Kit.{◌≡◌, ℕ, zero, suc, ◌+◌, ◌-◌, ◌*◌, ◌/◌, ◌%◌, ◌≤◌, Bool, true, false, not, take, ◌==◌}
-use Rattle.ed_programs.proofs.Kit.{if◌then◌else◌, refl, ap, ◌∙◌, arith, nat_tests, sum, among, is_leap, place}
-use Rattle.ed_programs.specs.Calendar.{days_before, month_lengths, weekday, years_length}
-use Rattle.std.proofs.Common.{[], ◌∷◌}
+use Rattle.ed_programs.proofs.Kit.{sum, among, [], ap, arith, Bool, false, if◌then◌else◌, not, refl, rules, suc, true}
+use Rattle.ed_programs.proofs.Kit.{zero, ℕ, ◌%◌, ◌*◌, ◌+◌, ◌/◌, ◌==◌, ◌∙◌, ◌∷◌, ◌≡◌, ◌≤◌, nat_tests, days_before}
+use Rattle.ed_programs.proofs.Kit.{is_leap, month_lengths, weekday, place}
+use Rattle.ed_programs.specs.Calendar.{years_length}
 
 -- ---- leap years and their days
 
@@ -54,13 +54,7 @@ module _ (month year : ℕ) where
   -- a day of the month, counted from the Sunday before the first or on it
   pub weekday_is : (day : ℕ) → 1901 ≤ year → year ≤ 2099
       → (weekday (suc day) month year + 1) % 7 ≡ (place month year + day) % 7
-  weekday_is day low high =
-      let n : ℕ = year - 1901 in
-      let from : year - 1900 ≡ suc n = omega arith in
-      let m : ℕ = sum (take (month - 1) (month_lengths year)) in
-      ap (λ (d : ℕ). ((d + m + (suc day - 1)) % 7 + 1) % 7) (ap years_length from ∙ years_length_is n (omega arith))
-      ∙ ap (λ (x : ℕ). ((365 + 365 * n + n / 4 + m + x) % 7 + 1) % 7) (omega arith)
-      ∙ sevens n m day
+  weekday_is day low high = search (rules, years_length_is, sevens)
 
   -- those before the first
   pub days_before_is : 1901 ≤ year → year ≤ 2099 → days_before month year ≡ place month year

@@ -1,7 +1,8 @@
 -- The tape `examples/calendar.tape` from its first row to its stop, for any month and year.
-use Rattle.ed_programs.proofs.Kit.{◌≡◌, ℕ, ◌-◌, ◌≤◌, false, [], List, ◌∷◌, ◌++◌, map, get_or, refl, subst, Text, Size, State}
-use Rattle.ed_programs.proofs.Kit.{state, Moment, digits, ComesToStop, Settings, TapeEntry, first_state, Full, Small}
-use Rattle.ed_programs.proofs.Kit.{patched, reading_on, moment_at, tape_state, calendar_orders, calendar_codes}
+use Rattle.ed_programs.proofs.Kit.{Size, Full, Small, Settings, moment_at, [], false, get_or, List, map, refl, subst}
+use Rattle.ed_programs.proofs.Kit.{ℕ, ◌++◌, ◌-◌, ◌∷◌, ◌≡◌, ◌≤◌, Text, State, Moment, state, patched, digits}
+use Rattle.ed_programs.proofs.Kit.{ReachesStop, tape_state, TapeEntry, reading_on, first_state, calendar_orders}
+use Rattle.ed_programs.proofs.Kit.{calendar_codes}
 use Rattle.ed_programs.specs.declared.calendar.TheConstants.{CALENDAR}
 use Rattle.ed_programs.proofs.CalendarCells.{IsAround, cells, frame, loaded}
 use Rattle.ed_programs.proofs.CalendarProgram.{calendar_stops, entering}
@@ -110,7 +111,7 @@ module _ (t : Settings) (month year : ℕ) where
 
   -- the month is printed, and the machine stops
   pub calendar_ends : 1 ≤ month → month ≤ 12 → 1901 ≤ year → year ≤ 2099
-      → ComesToStop (calendar_orders month year - 1) s (calendar_codes month year) 188
+      → ReachesStop (calendar_orders month year - 1) s (calendar_codes month year) 188
   calendar_ends some few low high =
-      subst (λ (x : State). ComesToStop (calendar_orders month year - 1) x (calendar_codes month year) 188) begins
+      subst (λ (x : State). ReachesStop (calendar_orders month year - 1) x (calendar_codes month year) 188) begins
       (calendar_stops t.size around is_around month year some few low high s.orders)

@@ -1,8 +1,9 @@
 -- The printing of a number in `examples/calendar.tape`.
-use Rattle.ed_programs.proofs.Kit.{◌≡◌, ℕ, zero, suc, ◌+◌, ◌-◌, ◌*◌, ◌^◌, ◌<◌, ◌≤◌, [], ◌∷◌, Some, Option, refl, arith}
-use Rattle.ed_programs.proofs.Kit.{lit<, lit≤, Size, short, Moment, A, E_jumps, G_jumps, G_stays, L, O, S, T, U, on, LD}
-use Rattle.ed_programs.proofs.Kit.{followed, prints, stay, Path, any, out, own, L512F, Remains, to, counted}
-use Rattle.ed_programs.proofs.CalendarCells.{ahead, at, frame, outside, IsAround, Work}
+use Rattle.ed_programs.proofs.Kit.{Size, G_stays, O, L512F, Remains, E_jumps, L, S, T, U, prints, any, out, LD}
+use Rattle.ed_programs.proofs.Kit.{followed, [], arith, lit<, lit≤, Option, refl, Some, suc, zero, ℕ, ◌*◌, ◌+◌, ◌-◌}
+use Rattle.ed_programs.proofs.Kit.{◌<◌, ◌^◌, ◌∷◌, ◌≡◌, ◌≤◌, Moment, short, A, G_jumps, on, Path, stay, own}
+use Rattle.ed_programs.proofs.CalendarCells.{frame-ahead, at, frame, outside, IsAround, Work}
+use Rattle.ed_programs.proofs.Kit.{to, Path-counted}
 
 -- the powers of ten, the greatest first
 abbrev pub power : ℕ → ℕ
@@ -61,7 +62,7 @@ module _ (z : Size) (m : Moment) (o : IsAround m.words) where
       let left : ℕ = power t * q + r in
       let step : power t * suc q ≡ power t + power t * q = omega arith in
       let whole : left + power t ≡ v = omega (arith, is, step) in
-      counted
+      Path-counted
       (on (A 241 (own 297) (short v) refl (omega (arith, small)))
       (followed (takes t (record k { number = v; figure = 4096 * g }) v left last few
       (omega (arith, whole, small)))
@@ -101,7 +102,7 @@ module _ (z : Size) (m : Moment) (o : IsAround m.words) where
       })) (Some q))
   shows t q k x r s u last few less small nine room some most left =
       let p = some_power t in
-      counted
+      Path-counted
       (on (T 239 (own 300) _ refl refl)
       (on (T 240 (own 298) 0 refl refl)
       (followed (all_taken q t (record k { shown = s; scrap = x }) (power t * q + r) r 0 q last few refl less small
@@ -150,7 +151,7 @@ module _ (z : Size) (m : Moment) (o : IsAround m.words) where
       (on (L 269 LD (short (4096 * v)) refl (omega arith))
       (on (T 270 (own 298) _ refl refl)
       (prints (O 271 (own 298) v refl (omega arith))
-      (on (E_jumps 272 (any (56 + i) (ahead z i low)) refl (lit< tt)) stay))))))
+      (on (E_jumps 272 (any (56 + i) (frame-ahead z i low)) refl (lit< tt)) stay))))))
 
   -- called from cell i, with t as the first power
   begins : (i t : ℕ) (k : Work) (last : Option ℕ) → i < 150 → t < 3
@@ -175,7 +176,7 @@ module _ (z : Size) (m : Moment) (o : IsAround m.words) where
       (a ∷ b ∷ c ∷ d ∷ []) (at m (i + 2) 0 (left_by i d (record k { first_power = to 12 314 })) (Some d))
   prints_four i a b c d k last low some few_a few_b few_c few_d =
       let k0 : Work = record k { first_power = to 12 314; print_link = to 3 (i + 2) } in
-      counted
+      Path-counted
       (followed (begins i 0 (record k { number = 1000 * a + (100 * b + (10 * c + d)) }) last (omega (arith, low))
       (lit< tt))
       (followed (shows 0 a k0 0 (100 * b + (10 * c + d)) 0 131068 last (lit< tt) (omega (arith, few_b, few_c, few_d))
@@ -199,7 +200,7 @@ module _ (z : Size) (m : Moment) (o : IsAround m.words) where
       (c ∷ d ∷ []) (at m (i + 2) 0 (left_by i d (record k { first_power = to 12 316 })) (Some d))
   prints_two i c d k last low some few_c few_d =
       let k0 : Work = record k { first_power = to 12 316; print_link = to 3 (i + 2) } in
-      counted
+      Path-counted
       (followed (begins i 2 (record k { number = 10 * c + d }) last (omega (arith, low)) (lit< tt))
       (followed (shows 2 c k0 0 d 0 0 last (lit< tt) few_d
       (omega (arith, few_c, few_d)) (omega (arith, few_c)) (lit< tt) (omega (arith, some)) (lit≤ tt) (omega arith))

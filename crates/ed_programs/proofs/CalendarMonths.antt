@@ -1,12 +1,13 @@
 -- The count of the months in `examples/calendar.tape`, and the sevens that are taken away.
-use Rattle.ed_programs.proofs.Kit.{◌≡◌, ℕ, zero, suc, ◌+◌, ◌-◌, ◌*◌, ◌/◌, ◌%◌, ◌<◌, ◌≤◌, true, [], List, ◌∷◌, length, A}
-use Rattle.ed_programs.proofs.Kit.{get_or, take, nat_lt, Option, refl, ◌∙◌, arith, lit<, list_all, and_parts, Size, sum}
-use Rattle.ed_programs.proofs.Kit.{lt_of, short, Moment, E_jumps, E_stays, S, T, followed, on, stay, Path, out, own, to}
-use Rattle.ed_programs.proofs.Kit.{counted}
+use Rattle.ed_programs.proofs.Kit.{sum, Size, E_stays, E_jumps, S, T, out, followed, [], arith, get_or, length, List}
+use Rattle.ed_programs.proofs.Kit.{lit<, nat_lt, Option, refl, suc, take, true, zero, ℕ, ◌%◌, ◌*◌, ◌+◌, ◌-◌, ◌/◌, ◌<◌}
+use Rattle.ed_programs.proofs.Kit.{◌∙◌, ◌∷◌, ◌≡◌, ◌≤◌, list_all, and_parts, ltb-true, Moment, short, A, on, Path, stay}
+use Rattle.ed_programs.proofs.Kit.{own}
 use Rattle.std.specs.List.{fold}
 use Rattle.std.proofs.lemmas.List.{length-take-le}
 use Rattle.ed_programs.proofs.CalendarCells.{adds_cell, at, frame, have_take, length_at, lengths, outside, Have, Work}
 use Rattle.ed_programs.proofs.CalendarCells.{IsAround}
+use Rattle.ed_programs.proofs.Kit.{to, Path-counted}
 
 -- a sum by its first number
 sum_from : (w : ℕ) (ls : List ℕ) → fold ◌+◌ w ls ≡ w + sum ls
@@ -25,7 +26,7 @@ sum_take (suc i) (x ∷ xs) =
 
 pub all_below : (xs : List ℕ) (i : ℕ) → list_all (λ x. nat_lt x 100) xs ≡ true → get_or xs i 0 < 100
 all_below [] i h = lit< tt
-all_below (x ∷ xs) zero h = lt_of x 100 (and_parts (nat_lt x 100) (list_all (λ x. nat_lt x 100) xs) h).0
+all_below (x ∷ xs) zero h = ltb-true x 100 (and_parts (nat_lt x 100) (list_all (λ x. nat_lt x 100) xs) h).0
 all_below (x ∷ xs) (suc i) h = all_below xs i (and_parts (nat_lt x 100) (list_all (λ x. nat_lt x 100) xs) h).1
 
 module _ (z : Size) (m : Moment) (o : IsAround m.words) where
@@ -53,7 +54,7 @@ module _ (z : Size) (m : Moment) (o : IsAround m.words) where
       let at2 = o.at2 in
       let j : ℕ = length ls in
       let whole = sum_cons l ls in
-      counted
+      Path-counted
       (on (T 45 (own 300) 0 refl refl)
       (on (A 46 (own 306) (short (131072 - suc j)) refl (omega (arith, ends, few)))
       (on (E_stays 47 (own 57) refl (omega (arith, ends, few)))
@@ -80,7 +81,7 @@ module _ (z : Size) (m : Moment) (o : IsAround m.words) where
       let ls : List ℕ = take i (lengths k.february) in
       let long : length ls ≡ i = length-take-le i (lengths k.february) (omega (arith, few)) in
       let at_end : Work = record (months_left 0 i v k) { takes_month = to 28 (324 + i); scrap = 0 } in
-      counted
+      Path-counted
       (on (S 40 (own 295) (short (131072 - suc i)) refl (omega (arith, is, few)))
       (on (A 41 (own 299) (short ((131072 - length ls) % 131072)) refl (omega (arith, few, long)))
       (on (T 42 (own 306) _ refl refl)
@@ -101,7 +102,7 @@ module _ (z : Size) (m : Moment) (o : IsAround m.words) where
       on (S 62 (own 321) (short (131072 - (7 - r))) refl (omega (arith, few)))
       (on (E_stays 63 (own 62) refl (omega (arith, few))) stay)
   sevens (suc q) r k last few small =
-      counted
+      Path-counted
       (on (S 62 (own 321) (short (7 * q + r)) refl (omega (arith, few, small)))
       (on (E_jumps 63 (own 62) refl (omega (arith, few, small)))
       (sevens q r k last few (omega (arith, small))))) (omega arith)
@@ -111,7 +112,7 @@ module _ (z : Size) (m : Moment) (o : IsAround m.words) where
       (at m 66 0 (record k { weekday = w % 7 }) last)
   takes_sevens k w last small =
       let is : 7 * (w / 7) + w % 7 ≡ w = omega arith in
-      counted
+      Path-counted
       (on (A 61 (own 296) (short (7 * (w / 7) + w % 7)) refl (omega (arith, small)))
       (followed (sevens (w / 7) (w % 7) (record k { weekday = w }) last (omega arith) (omega (arith, small)))
       (on (A 64 (own 321) (short (w % 7)) refl (omega arith))

@@ -1,9 +1,11 @@
 -- The name of the month in `examples/calendar.tape`.
-use Rattle.ed_programs.proofs.Kit.{◌≡◌, ℕ, suc, ◌+◌, ◌*◌, ◌<◌, Bool, true, [], List, ◌∷◌, length, get_or, ◌==◌, nat_lt}
-use Rattle.ed_programs.proofs.Kit.{Option, refl, ◌∙◌, subst, arith, lit<, and_parts, Size, eq_of, lt_of, short, Moment}
-use Rattle.ed_programs.proofs.Kit.{◌&&◌, A, L, S, T, U, followed, on, stay, Path, out, own, LD, among, name_codes, to}
+use Rattle.ed_programs.proofs.Kit.{Size, L, S, T, U, out, LD, followed, among, [], arith, Bool, get_or, length, List}
+use Rattle.ed_programs.proofs.Kit.{lit<, nat_lt, Option, refl, subst, suc, true, ℕ, ◌*◌, ◌+◌, ◌<◌, ◌==◌, ◌∙◌, ◌∷◌, ◌≡◌}
+use Rattle.ed_programs.proofs.Kit.{and_parts, eqb-true, ltb-true, Moment, short, A, on, Path, stay, own, ◌&&◌}
+use Rattle.ed_programs.proofs.Kit.{name_codes}
 use Rattle.ed_programs.proofs.CalendarCells.{adds_cell, at, frame, outside, sign_at, signs, Have, IsAround, Work}
 use Rattle.ed_programs.proofs.CalendarSigns.{in_words}
+use Rattle.ed_programs.proofs.Kit.{to}
 
 -- a, b and c are the letters of name i: they are the signs from 39 + 3 i on
 pub record IsName (i a b c : ℕ) : Type 0 where
@@ -49,7 +51,7 @@ is_name i few = record { letters = λ x y u. have x y u; few = codes }
         → (get_or (signs x y u) (39 + 3 * i + t) 0 ≡ 4096 * letter i t) × (letter i t < 32)
     here x y u t e =
         let p = and_parts (get_or (signs x y u) (39 + 3 * i + t) 0 == 4096 * letter i t) (nat_lt (letter i t) 32) e in
-        (eq_of (get_or (signs x y u) (39 + 3 * i + t) 0) (4096 * letter i t) p.0, lt_of (letter i t) 32 p.1)
+        (eqb-true (get_or (signs x y u) (39 + 3 * i + t) 0) (4096 * letter i t) p.0, ltb-true (letter i t) 32 p.1)
 
     at_place : (x y u t j : ℕ) → 39 + 3 * i + t ≡ j → has_letter x y u i t ≡ true
         → get_or (signs x y u) j 0 ≡ 4096 * letter i t
@@ -75,7 +77,7 @@ three (x ∷ []) h = cc
 three (x ∷ y ∷ []) h = cc
 three (x ∷ y ∷ u ∷ []) h = refl
 three (x ∷ y ∷ u ∷ v ∷ xs) h =
-    let long = eq_of (length (x ∷ y ∷ u ∷ v ∷ xs)) 3 h in absurd (omega (arith, long))
+    let long = eqb-true (length (x ∷ y ∷ u ∷ v ∷ xs)) 3 h in absurd (omega (arith, long))
 
 pub name_is : (i : ℕ) → i < 12 → get_or name_codes i [] ≡ letter i 0 ∷ letter i 1 ∷ letter i 2 ∷ []
 name_is i few =

@@ -1,14 +1,14 @@
 -- The days in `examples/calendar.tape`: the spaces before the first, and each day.
-use Rattle.ed_programs.proofs.Kit.{◌≡◌, ℕ, zero, suc, ◌+◌, ◌-◌, ◌*◌, ◌/◌, ◌%◌, ◌<◌, ◌≤◌, false, [], List, ◌∷◌, map, sym}
-use Rattle.ed_programs.proofs.Kit.{◌==◌, Some, Option, refl, ◌∙◌, subst, inl, inr, arith, lit<, cases_lt, Size, lt_true}
-use Rattle.ed_programs.proofs.Kit.{lt_false, short, Moment, nat_tests, replicate, sum, A, E_jumps, E_stays, G_jumps, O}
-use Rattle.ed_programs.proofs.Kit.{G_stays, S, T, U, followed, on, prints, stay, Path, own, day_codes, to}
-use Rattle.ed_programs.proofs.Kit.{days_codes, counted, calls_own}
-use Rattle.ed_programs.specs.Calendar.{day_orders}
-use Rattle.ed_programs.proofs.CalendarMonths.{sum_cons}
+use Rattle.ed_programs.proofs.Kit.{sum, Size, E_stays, G_stays, O, E_jumps, S, T, U, prints, followed, [], arith}
+use Rattle.ed_programs.proofs.Kit.{false, inl, inr, List, lit<, map, Option, refl, Some, subst, suc, sym, zero, ℕ, ◌%◌}
+use Rattle.ed_programs.proofs.Kit.{◌*◌, ◌+◌, ◌-◌, ◌/◌, ◌<◌, ◌==◌, ◌∙◌, ◌∷◌, ◌≡◌, ◌≤◌, cases_lt, le-ltb, lt-ltb}
+use Rattle.ed_programs.proofs.Kit.{nat_tests, Moment, short, A, G_jumps, on, Path, stay, own, replicate, day_orders}
+use Rattle.ed_programs.proofs.Kit.{day_codes, days_codes}
 use Rattle.ed_programs.proofs.CalendarCells.{at, frame, IsAround, Work}
-use Rattle.ed_programs.proofs.CalendarFigures.{prints_one, prints_two}
 use Rattle.ed_programs.proofs.CalendarCodes.{days_from}
+use Rattle.ed_programs.proofs.CalendarFigures.{prints_one, prints_two}
+use Rattle.ed_programs.proofs.CalendarMonths.{sum_cons}
+use Rattle.ed_programs.proofs.Kit.{to, Path-counted, calls_own}
 
 module _ (z : Size) (m : Moment) (o : IsAround m.words) where
   -- ---- three spaces for each day before the first
@@ -28,7 +28,7 @@ module _ (z : Size) (m : Moment) (o : IsAround m.words) where
         rest.0,
         subst (λ j. Path (frame z) (3 + 9 * suc n) (at m 101 0 (record k { count = (131072 - suc n) % 131072 }) last)
             (replicate j 20) (at m 110 0 (record k { count = 0; scrap = 0 }) rest.0)) three
-            (counted
+            (Path-counted
             (on (T 101 (own 300) 0 refl refl)
             (on (A 102 (own 306) (short (131072 - suc n)) refl (omega (arith, few)))
             (on (E_stays 103 (own 110) refl (omega (arith, few)))
@@ -52,7 +52,7 @@ module _ (z : Size) (m : Moment) (o : IsAround m.words) where
   begins_page b k last is few =
       let rest = gap b (record k { first_power = to 12 316; place = 131072 - (7 - b) }) last (omega (arith, few)) in (
         rest.0,
-        counted
+        Path-counted
             (on (A 94 (own 317) (short (to 12 316)) refl refl)
             (on (T 95 (own 309) _ refl refl)
             (on (A 96 (own 296) (short b) refl (omega (arith, is, few)))
@@ -123,13 +123,13 @@ module _ (z : Size) (m : Moment) (o : IsAround m.words) where
       let called : Path (frame z) (35 + 8 * c)
       (at m 120 0 (record (before_day (suc d) b k) { number = 10 * c + u; scrap = scrap }) (Some 20)) (c ∷ u ∷ [])
       (at m 122 0 (before_day (suc d) b after) (Some u)) =
-      counted (calls_own 120 234 refl refl refl (lit< tt)
+      Path-counted (calls_own 120 234 refl refl refl (lit< tt)
       (prints_two z m o 120 c u (record (before_day (suc d) b k) { scrap = scrap }) (Some 20) (lit< tt) some
       (omega (arith, parts, more, few)) few_u)) (omega arith) in
       record {
         work = after;
         length_kept = refl;
-        path = counted (followed counts
+        path = Path-counted (followed counts
             (subst (λ n. Path (frame z) (35 + 8 * c)
             (at m 120 0 (record (before_day (suc d) b k) { number = n; scrap = scrap }) (Some 20)) (c ∷ u ∷ [])
             (at m 122 0 (before_day (suc d) b after) (Some u))) parts called)) (omega arith);
@@ -140,11 +140,11 @@ module _ (z : Size) (m : Moment) (o : IsAround m.words) where
   shows_day k d b v l last is more few small =
       elim (cases_lt (suc d) 10) [
         | inl low ↦
-            let test = lt_true (suc d) 10 low in
+            let test = lt-ltb (suc d) 10 low in
             let unit : suc d % 10 ≡ suc d = omega (arith, low) in
             rw (test, unit) (shows_one k d b v l last is more few small low)
         | inr high ↦
-            let test = lt_false (suc d) 10 high in
+            let test = le-ltb (suc d) 10 high in
             let parts : 10 * (suc d / 10) + suc d % 10 ≡ suc d = omega arith in
             rw test (shows_two k d b v l (suc d / 10) (suc d % 10) last is more few small parts (omega (arith, high))
             (omega arith))
@@ -203,12 +203,12 @@ module _ (z : Size) (m : Moment) (o : IsAround m.words) where
   six b few = grind (arith, nat_tests)
 
   -- n days from day suc d on, with b days of the week before it
-  pub days : (n : ℕ) (k : Work) (d b v l : ℕ) (last : Option ℕ) → k.days ≡ l → d + n ≡ l → l < 100 → b < 7
+  pub HasEnded-days : (n : ℕ) (k : Work) (d b v l : ℕ) (last : Option ℕ) → k.days ≡ l → d + n ≡ l → l < 100 → b < 7
       → v < 131072
       → HasEnded (sum (map day_orders (days_from (suc d) n)) + 5 * ((b + n) / 7) + 8) (at m 110 v
       (before_day d b k) last)
       (days_codes b (suc d) n)
-  days zero k d b v l last is ends few week small =
+  HasEnded-days zero k d b v l last is ends few week small =
       let none : sum (map day_orders (days_from (suc d) 0)) ≡ 0 = refl in
       let here : d ≡ l = omega (arith, ends) in
       record {
@@ -217,9 +217,9 @@ module _ (z : Size) (m : Moment) (o : IsAround m.words) where
         path = subst (λ x. Path (frame z) (sum (map day_orders (days_from (suc d) 0)) + 5 * ((b + 0) / 7) + 8)
             (at m 110 v (before_day x b k) last) []
             (at m 131 0 (record (before_day (suc l) b k) { scrap = v; number = suc l }) last)) (sym here)
-            (counted (no_day k b v l last is few small) (omega (arith, week, none)));
+            (Path-counted (no_day k b v l last is few small) (omega (arith, week, none)));
       }
-  days (suc n) k d b v l last is ends few week small =
+  HasEnded-days (suc n) k d b v l last is ends few week small =
       let whole = sum_cons (day_orders (suc d)) (map day_orders (days_from (suc (suc d)) n)) in
       let some = enough (suc d) in
       elim (cases_lt b 6) [
@@ -227,12 +227,12 @@ module _ (z : Size) (m : Moment) (o : IsAround m.words) where
             let test = six b low in
             let one = shows_day k d b v l last is (omega (arith, ends)) few small in
             let kept = one.length_kept in
-            let rest = days n one.work (suc d) (suc b) (131072 - (7 - suc b)) l (Some (suc d % 10)) (kept ∙ is)
+            let rest = HasEnded-days n one.work (suc d) (suc b) (131072 - (7 - suc b)) l (Some (suc d % 10)) (kept ∙ is)
             (omega (arith, ends)) few (omega (arith, low)) (omega arith) in
             rw test record {
               work = rest.work;
               last = rest.last;
-              path = counted (followed one.path (followed (goes_on one.work (suc d) b (Some
+              path = Path-counted (followed one.path (followed (goes_on one.work (suc d) b (Some
                   (suc d % 10)) low) rest.path))
                   (omega (arith, low, whole, some));
             }
@@ -240,13 +240,13 @@ module _ (z : Size) (m : Moment) (o : IsAround m.words) where
             let sixth : 6 ≡ b = omega (arith, high, week) in
             let one = shows_day k d 6 v l last is (omega (arith, ends)) few small in
             let kept = one.length_kept in
-            let rest = days n one.work (suc d) 0 0 l (Some 24) (kept ∙ is) (omega (arith, ends)) few (lit< tt)
+            let rest = HasEnded-days n one.work (suc d) 0 0 l (Some 24) (kept ∙ is) (omega (arith, ends)) few (lit< tt)
             (lit< tt) in
             subst (λ x. HasEnded (sum (map day_orders (days_from (suc d) (suc n))) + 5 * ((x + suc n) / 7) + 8)
             (at m 110 v (before_day d x k) last) (days_codes x (suc d) (suc n))) sixth record {
               work = rest.work;
               last = rest.last;
-              path = counted (followed one.path
+              path = Path-counted (followed one.path
                   (followed (ends_week one.work (suc d) (Some (suc d % 10))) rest.path)) (omega (arith, whole, some));
             }
       ]

@@ -1,18 +1,16 @@
 -- The codes that the program of `examples/calendar.tape` prints are the calendar on paper.
-use Rattle.ed_programs.proofs.Kit.{◌≡◌, ℕ, zero, suc, ◌+◌, ◌-◌, ◌*◌, ◌/◌, ◌%◌, ◌<◌, ◌≤◌, Bool, true, false, [], List}
-use Rattle.ed_programs.proofs.Kit.{◌∷◌, ◌++◌, get_or, ◌==◌, if◌then◌else◌, nat_lt, codes, decimal, sym, refl, ap, ◌∙◌}
-use Rattle.ed_programs.proofs.Kit.{append_assoc, append-nil, arith, lit<, Text, eq_of, lt_of, paper, digits, nat_tests}
-use Rattle.ed_programs.proofs.Kit.{replicate, not_lt_of, paper_from, Figures, number_shown, is_leap, place}
-use Rattle.ed_programs.proofs.Kit.{month_length, calendar_codes, day_codes, days_codes, head_codes, title_codes}
-use Rattle.ed_programs.proofs.Kit.{year_codes}
+use Rattle.ed_programs.proofs.Kit.{Figures, ltb-false, [], ap, append-nil, append_assoc, arith, Bool, codes, decimal}
+use Rattle.ed_programs.proofs.Kit.{false, get_or, if◌then◌else◌, List, lit<, nat_lt, refl, rules, suc, sym, true, zero}
+use Rattle.ed_programs.proofs.Kit.{ℕ, ◌%◌, ◌*◌, ◌++◌, ◌+◌, ◌-◌, ◌/◌, ◌<◌, ◌==◌, ◌∙◌, ◌∷◌, ◌≡◌, ◌≤◌, eqb-true, ltb-true}
+use Rattle.ed_programs.proofs.Kit.{nat_tests, Text, paper, digits, without_zeros, number_shown, replicate, paper_from}
+use Rattle.ed_programs.proofs.Kit.{calendar_prints, days_before, is_leap, month_length, weekday, calendar_codes}
+use Rattle.ed_programs.proofs.Kit.{day_codes, days_codes, head_codes, place, title_codes, year_codes}
 use Rattle.std.proofs.Common.{flat_map}
-use Rattle.ed_words.proofs.Numbers.{not_eq_of}
-use Rattle.ed_routines.specs.Digits.{without_zeros}
-use Rattle.ed_programs.specs.Calendar.{calendar_days, calendar_prints, day_text, new_line, days_before}
-use Rattle.ed_programs.specs.Calendar.{month_names, weekday}
-use Rattle.ed_programs.proofs.RowTexts.{no_thousands, one_figure}
-use Rattle.ed_programs.proofs.CalendarDays.{days_before_is, weekday_is}
+use Rattle.std.proofs.lemmas.Bool.{eqb-false}
+use Rattle.ed_programs.specs.Calendar.{calendar_days, day_text, new_line, month_names}
 use Rattle.ed_programs.proofs.CalendarCodes.{days_from, range_is}
+use Rattle.ed_programs.proofs.CalendarDays.{days_before_is, weekday_is}
+use Rattle.ed_programs.proofs.RowTexts.{no_thousands, one_figure}
 
 -- ---- the title
 
@@ -44,11 +42,7 @@ with_tens zero u l = absurd (omega arith)
 with_tens (suc t) u l = refl
 
 two_figures : (d : ℕ) → 10 ≤ d → d < 100 → digits d ≡ d / 10 ∷ d % 10 ∷ []
-two_figures d low high =
-    no_thousands (d / 10000) (d / 1000 % 10) (d / 100 % 10) (d / 10 % 10) (d % 10) (omega arith) (omega arith)
-    (omega arith)
-    ∙ with_tens (d / 10 % 10) (d % 10) (omega arith)
-    ∙ ap (λ (t : ℕ). t ∷ d % 10 ∷ []) {y = d / 10} (omega arith)
+two_figures d low high = search (rules, no_thousands, with_tens)
 
 year_figures : (year : ℕ) → 1000 ≤ year → year < 10000 → digits year ≡ year_codes year
 year_figures year low high =
@@ -71,21 +65,15 @@ day_shown day rest few = by_test (nat_lt day 10) refl
         → paper_from Figures ((20 ∷ (if b then 20 else day / 10) ∷ day % 10 ∷ []) ++ rest)
         ≡ (if b then 32 ∷ 32 ∷ decimal day else 32 ∷ decimal day) ++ paper_from Figures rest
     by_test true h =
-        ap (λ (ds : List ℕ). 32 ∷ 32 ∷ paper_from Figures (ds ++ rest)) (sym (one_figure day (lt_of day 10 h)))
+        ap (λ (ds : List ℕ). 32 ∷ 32 ∷ paper_from Figures (ds ++ rest)) (sym (one_figure day (ltb-true day 10 h)))
         ∙ ap (λ (t : Text). 32 ∷ 32 ∷ t) (number_shown day (omega (arith, few)) rest)
     by_test false h =
-        ap (λ (ds : List ℕ). 32 ∷ paper_from Figures (ds ++ rest)) (sym (two_figures day (not_lt_of day 10 h) few))
+        ap (λ (ds : List ℕ). 32 ∷ paper_from Figures (ds ++ rest)) (sym (two_figures day (ltb-false day 10 h) few))
         ∙ ap (λ (t : Text). 32 ∷ t) (number_shown day (omega (arith, few)) rest)
 
 regrouped : (a b c d e f g h : Text)
     → a ++ b ++ c ++ d ++ e ++ f ++ g ++ h ≡ a ++ (b ++ (c ++ (d ++ (e ++ (f ++ (g ++ h))))))
-regrouped a b c d e f g h =
-    append_assoc (a ++ b ++ c ++ d ++ e ++ f) g h
-    ∙ append_assoc (a ++ b ++ c ++ d ++ e) f (g ++ h)
-    ∙ append_assoc (a ++ b ++ c ++ d) e (f ++ (g ++ h))
-    ∙ append_assoc (a ++ b ++ c) d (e ++ (f ++ (g ++ h)))
-    ∙ append_assoc (a ++ b) c (d ++ (e ++ (f ++ (g ++ h))))
-    ∙ append_assoc a b (c ++ (d ++ (e ++ (f ++ (g ++ h)))))
+regrouped a b c d e f g h = search (rules, append_assoc)
 
 -- the line of the weekdays
 abbrev calendar_heads : Text
@@ -126,14 +114,14 @@ module _ (month year : ℕ) (low : 1901 ≤ year) (high : year ≤ 2099) where
       by_test true h =
           day_shown (suc day) (18 ∷ 24 ∷ days_codes 0 (suc (suc day)) n) few
           ∙ ap (λ (t : Text). day_text (suc day) ++ 13 ∷ 10 ∷ t)
-          (more 0 (lit< tt) (let e = eq_of before 6 h in omega (arith, is, e)))
+          (more 0 (lit< tt) (let e = eqb-true before 6 h in omega (arith, is, e)))
           ∙ sym (append_assoc (day_text (suc day)) new_line rest)
           ∙ ap (λ (c : Bool). (day_text (suc day) ++ (if c then new_line else [])) ++ rest) (sym (ends true h))
       by_test false h =
           day_shown (suc day) (days_codes (suc before) (suc (suc day)) n) few
           ∙ ap (λ (t : Text). day_text (suc day) ++ t)
-          (more (suc before) (let e = not_eq_of before 6 h in omega (arith, l, e))
-          (let e = not_eq_of before 6 h in omega (arith, is, l, e)))
+          (more (suc before) (let e = eqb-false before 6 h in omega (arith, l, e))
+          (let e = eqb-false before 6 h in omega (arith, is, l, e)))
           ∙ ap (λ (t : Text). t ++ rest) (sym (append-nil (day_text (suc day))))
           ∙ ap (λ (c : Bool). (day_text (suc day) ++ (if c then new_line else [])) ++ rest) (sym (ends false h))
 

@@ -1,22 +1,21 @@
 -- The program of `examples/calendar.tape` from its entry to its stop, for each month from 1901 to 2099.
-use Rattle.ed_programs.proofs.Kit.{◌≡◌, ℕ, suc, ◌+◌, ◌-◌, ◌*◌, ◌/◌, ◌%◌, ◌<◌, ◌≤◌, Bool, true, false, [], List, ◌∷◌, ap}
-use Rattle.ed_programs.proofs.Kit.{◌++◌, map, length, ◌==◌, Some, if◌then◌else◌, nat_lt, sym, refl, ◌∙◌, subst, arith}
-use Rattle.ed_programs.proofs.Kit.{append_assoc, lit<, lit≤, list_all, Z_F, Size, short, state, Moment, digits, sum, A}
-use Rattle.ed_programs.proofs.Kit.{ComesToStop, replicate, T, Z, followed, on, stay, Path, own, along, to_stop, are, to}
-use Rattle.ed_programs.proofs.Kit.{calendar_orders, is_leap, month_length, calendar_codes, days_codes}
-use Rattle.ed_programs.proofs.Kit.{head_codes, title_codes, year_codes, counted, stop_counted, calls_own}
-use Rattle.ed_routines.specs.Digits.{value_after}
-use Rattle.ed_routines.proofs.Digits.{digits_law}
-use Rattle.ed_programs.specs.Calendar.{day_orders, days_before, month_lengths, weekday_count}
-use Rattle.ed_programs.proofs.CalendarDays.{days_before_is, leap_is}
+use Rattle.ed_programs.proofs.Kit.{sum, Z_F, Size, Z, along, to_stop, T, value_after, followed, are, [], ap}
+use Rattle.ed_programs.proofs.Kit.{append_assoc, arith, Bool, false, if◌then◌else◌, length, List, lit<, lit≤, map}
+use Rattle.ed_programs.proofs.Kit.{nat_lt, refl, Some, subst, suc, sym, true, ℕ, ◌%◌, ◌*◌, ◌++◌, ◌+◌, ◌-◌, ◌/◌, ◌<◌}
+use Rattle.ed_programs.proofs.Kit.{◌==◌, ◌∙◌, ◌∷◌, ◌≡◌, ◌≤◌, list_all, Moment, short, state, A, on, Path, stay, own}
+use Rattle.ed_programs.proofs.Kit.{digits, digits_law, ReachesStop, replicate, calendar_orders, day_orders}
+use Rattle.ed_programs.proofs.Kit.{days_before, is_leap, month_length, month_lengths, weekday_count, calendar_codes}
+use Rattle.ed_programs.proofs.Kit.{days_codes, head_codes, title_codes, year_codes}
 use Rattle.ed_programs.proofs.CalendarCells.{at, frame, lengths, loaded, IsAround, Work}
-use Rattle.ed_programs.proofs.CalendarReads.{reads}
-use Rattle.ed_programs.proofs.CalendarYears.{after_years, counts_years, weekday_word}
+use Rattle.ed_programs.proofs.CalendarCodes.{days_from, range_is}
+use Rattle.ed_programs.proofs.CalendarDays.{days_before_is, leap_is}
 use Rattle.ed_programs.proofs.CalendarMonths.{all_below, counts_months, sum_take, takes_sevens}
 use Rattle.ed_programs.proofs.CalendarNames.{is_name, letter, name_taken, named}
+use Rattle.ed_programs.proofs.CalendarPage.{begins_page, HasEnded-days}
+use Rattle.ed_programs.proofs.CalendarReads.{Path-reads}
 use Rattle.ed_programs.proofs.CalendarTitle.{headed, lines_above}
-use Rattle.ed_programs.proofs.CalendarPage.{begins_page, days}
-use Rattle.ed_programs.proofs.CalendarCodes.{days_from, range_is}
+use Rattle.ed_programs.proofs.CalendarYears.{after_years, counts_years, weekday_word}
+use Rattle.ed_programs.proofs.Kit.{to, Path-counted, stop_counted, calls_own}
 
 module _ (z : Size) (m : Moment) (o : IsAround m.words) where
   -- at the entry: the month and the year are on the tape
@@ -39,14 +38,14 @@ module _ (z : Size) (m : Moment) (o : IsAround m.words) where
   reads_both month year small_month small_year =
       let spelled = (digits_law month (omega (arith, small_month))).value_is in
       let spelled_year = (digits_law year (omega (arith, small_year))).value_is in
-      counted
+      Path-counted
       (calls_own 0 274 refl refl refl (lit< tt)
-      (followed (reads z m o 0 (digits month) (digits year ++ 17 ∷ []) loaded m.last (lit< tt)
+      (followed (Path-reads z m o 0 (digits month) (digits year ++ 17 ∷ []) loaded m.last (lit< tt)
       (are month (omega (arith, small_month))) (omega (arith, spelled, small_month)))
       (on (A 2 (own 297) (short month) refl (omega (arith, spelled, small_month)))
       (on (T 3 (own 295) _ refl refl)
       (calls_own 4 274 refl refl refl (lit< tt)
-      (followed (reads z m o 4 (digits year) [] (record loaded {
+      (followed (Path-reads z m o 4 (digits year) [] (record loaded {
         month = month;
         number = value_after 0 (digits month);
         row = 17;
@@ -158,27 +157,28 @@ module _ (z : Size) (m : Moment) (o : IsAround m.words) where
           subst (λ a. Path (frame z) sheet_orders (entering month year) (title_codes a ++
               (year_codes year ++ head_codes))
               (at m0 94 0 (titled x) (Some 11))) (sym before)
-              (counted (followed first (followed passed.1 (followed months (followed sevens (followed name above)))))
+              (Path-counted (followed first (followed passed.1
+              (followed months (followed sevens (followed name above)))))
               (omega arith)),
         )
 
     -- from the entry to the stop
     pub calendar_stops : (done : ℕ)
-        → ComesToStop (calendar_orders month year - 1) (state (frame z) (entering month year) done)
+        → ReachesStop (calendar_orders month year - 1) (state (frame z) (entering month year) done)
         (calendar_codes month year) 188
     calendar_stops done =
         let m0 : Moment = record m { tape = [] } in
         let begun = up_to_sheet in
         let k : Work = titled begun.0 in
         let sheet = begins_page z m0 o (v % 7) k (Some 11) refl (omega arith) in
-        let all = days z m0 o l (record k { count = 0; scrap = 0 }) 0 (v % 7) 0 l sheet.0 refl (omega arith)
+        let all = HasEnded-days z m0 o l (record k { count = 0; scrap = 0 }) 0 (v % 7) 0 l sheet.0 refl (omega arith)
         few_days (omega arith) (lit< tt) in
         let same : v % 7 ≡ days_before month year = sym (days_before_is month year low high) in
         let rest : List ℕ = replicate (3 * (v % 7)) 20 ++ days_codes (v % 7) 1 l in
         let codes : title_codes month ++ (year_codes year ++ head_codes) ++ rest ≡ calendar_codes month year =
         append_assoc (title_codes month) (year_codes year ++ head_codes) rest
         ∙ ap (λ x. title_codes month ++ x) (append_assoc (year_codes year) head_codes rest) in
-        stop_counted (subst (λ (cs : List ℕ). ComesToStop (sheet_orders + last_orders) (state (frame z)
+        stop_counted (subst (λ (cs : List ℕ). ReachesStop (sheet_orders + last_orders) (state (frame z)
         (entering month year) done) cs 188) codes
         (to_stop (along (followed begun.1 (followed sheet.1 all.path))) (Z 131 Z_F refl refl) done))
         (let listed = ap (λ (ds : List ℕ). sum (map day_orders ds)) (range_is 1 l) in omega (arith, same, listed))

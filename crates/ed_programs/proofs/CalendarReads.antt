@@ -1,11 +1,10 @@
 -- The reading of a number in `examples/calendar.tape`.
-use Rattle.ed_programs.proofs.Kit.{◌≡◌, ℕ, ◌+◌, ◌*◌, ◌<◌, ◌≤◌, true, [], List, ◌∷◌, ◌++◌, length, nat_lt, Option, refl}
-use Rattle.ed_programs.proofs.Kit.{arith, lit<, and_parts, Size, lt_of, short, Moment, A, E_jumps, E_stays, L, S, T, U}
-use Rattle.ed_programs.proofs.Kit.{followed, on, stay, Path, any, out, own, L1F, LD, to, counted}
-use Rattle.ed_machine.proofs.Kit.Moves.{I}
-use Rattle.ed_routines.specs.Digits.{value_after}
+use Rattle.ed_programs.proofs.Kit.{Size, E_stays, I, L1F, E_jumps, L, S, T, U, any, out, LD, value_after, followed, []}
+use Rattle.ed_programs.proofs.Kit.{arith, length, List, lit<, nat_lt, Option, refl, true, ℕ, ◌*◌, ◌++◌, ◌+◌, ◌<◌, ◌∷◌}
+use Rattle.ed_programs.proofs.Kit.{◌≡◌, ◌≤◌, and_parts, ltb-true, Moment, short, A, on, Path, stay, own}
 use Rattle.ed_sources.proofs.Decimals.{are_digits}
-use Rattle.ed_programs.proofs.CalendarCells.{ahead, at, frame, outside, IsAround, Work}
+use Rattle.ed_programs.proofs.CalendarCells.{frame-ahead, at, frame, outside, IsAround, Work}
+use Rattle.ed_programs.proofs.Kit.{to, Path-counted}
 
 -- what is read only grows
 value_grows : (v : ℕ) (ds : List ℕ) → v ≤ value_after v ds
@@ -49,21 +48,21 @@ module _ (z : Size) (m : Moment) (o : IsAround m.words) where
   figures (d ∷ ds) rest k v last are small =
       let parts = and_parts (nat_lt d 10) (are_digits ds) are in
       let grows = value_grows (10 * v + d) ds in
-      counted (followed (figure k d v (ds ++ 17 ∷ rest) last (lt_of d 10 parts.0) (omega (arith, grows, small)))
+      Path-counted (followed (figure k d v (ds ++ 17 ∷ rest) last (ltb-true d 10 parts.0) (omega (arith, grows, small)))
       (figures ds rest (record k { row = d; scrap = 2 * v }) (10 * v + d) last parts.1 small)) (omega arith)
 
   -- called from cell i
-  pub reads : (i : ℕ) (ds rest : List ℕ) (k : Work) (last : Option ℕ) → i < 140 → are_digits ds ≡ true
+  pub Path-reads : (i : ℕ) (ds rest : List ℕ) (k : Work) (last : Option ℕ) → i < 140 → are_digits ds ≡ true
       → value_after 0 ds < 10000
       → Path (frame z) (13 * length ds + 9) (reading (ds ++ 17 ∷ rest) 274 (to 28 i) k last) []
       (reading rest (i + 2) 0
       (record k { number = value_after 0 ds; row = 17; scrap = 7; read_link = to 3 (i + 2) }) last)
-  reads i ds rest k last low are small =
+  Path-reads i ds rest k last low are small =
       let at3 = o.at3 in
-      counted
+      Path-counted
       (on (A 274 (out 3 (outside z o 3 (lit< tt))) (short (to 3 (i + 2))) refl (omega arith))
       (on (T 275 (own 291) _ refl refl)
       (on (T 276 (own 297) 0 refl refl)
       (followed (figures ds rest (record k { read_link = to 3 (i + 2) }) 0 last are small)
-      (on (E_jumps 291 (any (56 + (i + 2)) (ahead z (i + 2) (omega (arith, low)))) refl (lit< tt)) stay)))))
+      (on (E_jumps 291 (any (56 + (i + 2)) (frame-ahead z (i + 2) (omega (arith, low)))) refl (lit< tt)) stay)))))
       (omega arith)

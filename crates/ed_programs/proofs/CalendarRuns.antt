@@ -1,20 +1,17 @@
 -- What `examples/calendar.tape` prints, for every month from January 1901 to December 2099.
-use Rattle.ed_sources.proofs.Kit.{length-replicate}
-use Rattle.ed_programs.proofs.Kit.{◌≡◌, ℕ, zero, suc, ◌+◌, ◌-◌, ◌*◌, ◌≤◌, Bool, true, false, [], List, ◌∷◌, ◌++◌, ◌==◌}
-use Rattle.ed_programs.proofs.Kit.{length, get_or, if◌then◌else◌, nat_le, decimal, refl, ap, subst, arith, Text, paper}
-use Rattle.ed_programs.proofs.Kit.{length-append, list_all, and_parts, digits, Settings, INPUT_BYTES, paper_room, le_of}
-use Rattle.ed_programs.proofs.Kit.{replicate, reading, rows, none, Spells, spells_append, has_one_reading, decimal_is}
-use Rattle.ed_programs.proofs.Kit.{few_bytes, calendar_orders, is_leap, month_length, TapeRuns, calendar_codes, place}
-use Rattle.ed_programs.proofs.Kit.{day_codes, days_codes, head_codes, name_codes, title_codes, year_codes}
-use Rattle.ed_codes.specs.Text.{row, spacing}
-use Rattle.ed_programs.specs.Calendar.{calendar_cost, calendar_prints, calendar_text}
-use Rattle.ed_programs.proofs.CalendarPaper.{calendar_shown, days_at_most}
+use Rattle.ed_programs.proofs.Kit.{none, spacing, spells_append, has_one_reading, Settings, rows, Spells, INPUT_BYTES}
+use Rattle.ed_programs.proofs.Kit.{decimal_is, few_bytes, [], ap, arith, Bool, decimal, false, get_or, if◌then◌else◌}
+use Rattle.ed_programs.proofs.Kit.{length, length-append, List, nat_le, refl, rules, subst, suc, true, zero, ℕ, ◌*◌}
+use Rattle.ed_programs.proofs.Kit.{◌++◌, ◌+◌, ◌-◌, ◌==◌, ◌∷◌, ◌≡◌, ◌≤◌, list_all, and_parts, leb-true}
+use Rattle.ed_programs.proofs.Kit.{length-replicate, Text, paper, digits, reading, paper_room, calendar_orders}
+use Rattle.ed_programs.proofs.Kit.{calendar_prints, TapeRuns, calendar_codes, day_codes, days_codes}
+use Rattle.ed_codes.specs.Text.{row}
+use Rattle.ed_programs.specs.Calendar.{calendar_cost, calendar_text}
 use Rattle.ed_programs.proofs.CalendarEnds.{front, calendar_arrives, calendar_ends, calendar_entry, calendar_rows}
 use Rattle.ed_programs.proofs.CalendarEnds.{data_rows}
+use Rattle.ed_programs.proofs.CalendarPaper.{calendar_shown, days_at_most}
 use Rattle.ed_programs.proofs.RowTexts.{number_spells}
 use Rattle.ed_programs.proofs.TapeRuns.{reads_spell, rows_in, tape_runs}
-use Rattle.ed_programs.specs.declared.calendar.TheConstants.{CALENDAR}
-use Rattle.std.proofs.Common.{map}
 
 -- ---- the rows of the text
 
@@ -42,7 +39,7 @@ module _ (month year : ℕ) (small : month ≤ 65535) (low : year ≤ 65535) whe
       let y = few_bytes year (omega (arith, low)) in
       let m_is = ap (λ (t : Text). length t) (decimal_is month (omega (arith, small))) in
       let y_is = ap (λ (t : Text). length t) (decimal_is year (omega (arith, low))) in
-      let before : length front ≤ 10000 = le_of (length front) 10000 refl in
+      let before : length front ≤ 10000 = leb-true (length front) 10000 refl in
       let last = length-append (decimal year) (70 ∷ 10 ∷ []) in
       let both = length-append (decimal month) (70 ∷ (decimal year ++ 70 ∷ 10 ∷ [])) in
       let all = length-append front (decimal month ++ 70 ∷ (decimal year ++ 70 ∷ 10 ∷ [])) in
@@ -54,7 +51,7 @@ module _ (month year : ℕ) (small : month ≤ 65535) (low : year ≤ 65535) whe
 each_few : (k n : ℕ) (cs : List (List ℕ)) → list_all (λ c. nat_le (length c) n) cs ≡ true
     → length (get_or cs k []) ≤ n
 each_few k n [] h = omega arith
-each_few zero n (c ∷ cs) h = le_of (length c) n (and_parts (nat_le (length c) n) _ h).0
+each_few zero n (c ∷ cs) h = leb-true (length c) n (and_parts (nat_le (length c) n) _ h).0
 each_few (suc k) n (c ∷ cs) h = each_few k n cs (and_parts (nat_le (length c) n) _ h).1
 
 few_days_codes : (before day n : ℕ) → length (days_codes before day n) ≤ 5 * n
@@ -72,20 +69,7 @@ few_days_codes before day (suc n) = by_test (before == 6) (few_days_codes 0 (suc
         let e = length-append (day_codes day) (days_codes (suc before) (suc day) n) in omega (arith, e, r)
 
 few_codes : (month year : ℕ) → length (calendar_codes month year) ≤ paper_room
-few_codes month year =
-    let name : List ℕ = get_or name_codes (month - 1) [] in
-    let gap : List ℕ = replicate (3 * place month year) 20 in
-    let days : List ℕ = days_codes (place month year) 1 (month_length month year) in
-    let few_name = each_few (month - 1) 3 name_codes refl in
-    let named = length-append name (20 ∷ 11 ∷ []) in
-    let few_gap = length-replicate {A = ℕ} (3 * place month year) 20 in
-    let few = few_days_codes (place month year) 1 (month_length month year) in
-    let most = days_at_most (is_leap year) (month - 1) in
-    let a = length-append gap days in
-    let b = length-append head_codes (gap ++ days) in
-    let c = length-append (year_codes year) (head_codes ++ (gap ++ days)) in
-    let d = length-append (title_codes month) (year_codes year ++ (head_codes ++ (gap ++ days))) in
-    omega (arith, few_name, named, few_gap, few, most, a, b, c, d)
+few_codes month year = search (rules, each_few, length-append, length-replicate, few_days_codes, days_at_most)
 
 -- ---- the law
 

@@ -1,11 +1,11 @@
 -- The printing of signs in `examples/calendar.tape`.
-use Rattle.ed_programs.proofs.Kit.{◌≡◌, ℕ, suc, ◌+◌, ◌-◌, ◌*◌, ◌^◌, ◌<◌, ◌≤◌, [], List, ◌∷◌, map, length, get_or, Some}
-use Rattle.ed_programs.proofs.Kit.{Option, refl, ◌∙◌, arith, lit<, Size, lt_true, short, Moment, A, E_jumps, G_jumps, O}
-use Rattle.ed_programs.proofs.Kit.{G_stays, S, T, U, followed, on, prints, stay, Path, any, out, own, Remains, to}
-use Rattle.ed_programs.proofs.Kit.{counted}
+use Rattle.ed_programs.proofs.Kit.{Size, G_stays, O, Remains, E_jumps, S, T, U, prints, any, out, followed, [], arith}
+use Rattle.ed_programs.proofs.Kit.{get_or, length, List, lit<, map, Option, refl, Some, suc, ℕ, ◌*◌, ◌+◌, ◌-◌, ◌<◌}
+use Rattle.ed_programs.proofs.Kit.{◌^◌, ◌∙◌, ◌∷◌, ◌≡◌, ◌≤◌, lt-ltb, Moment, short, A, G_jumps, on, Path, stay, own}
 use Rattle.ed_machine.proofs.Kit.Orders.{there_is}
-use Rattle.ed_programs.proofs.CalendarCells.{ahead, at, cells, frame, latest, outside, sign_at, signs, Have, IsAround}
+use Rattle.ed_programs.proofs.CalendarCells.{frame-ahead, at, cells, frame, latest, outside, sign_at, signs, Have, IsAround}
 use Rattle.ed_programs.proofs.CalendarCells.{Work}
+use Rattle.ed_programs.proofs.Kit.{to, Path-counted}
 
 -- codes in words
 abbrev pub in_words : List ℕ → List ℕ
@@ -23,7 +23,7 @@ module _ (z : Size) (m : Moment) (o : IsAround m.words) where
   sign k c j e u last here few end left =
       let at2 = o.at2 in
       let word : get_or (cells (from_to j e k)) (156 + j) 0 ≡ 4096 * c = sign_at (from_to j e k) j few ∙ here in
-      prints (O 147 (own (156 + j)) c (there_is (lt_true (156 + j) 336 (omega (arith, few)))) (omega (arith, word)))
+      prints (O 147 (own (156 + j)) c (there_is (lt-ltb (156 + j) 336 (omega (arith, few)))) (omega (arith, word)))
       (on (A 148 (own 147) (short (to 9 (156 + j))) refl (omega (arith, few)))
       (on (A 149 (out 2 (outside z o 2 (lit< tt))) (short (to 9 (156 + suc j))) refl (omega (arith, few)))
       (on (U 150 (own 147) _ refl refl)
@@ -43,10 +43,10 @@ module _ (z : Size) (m : Moment) (o : IsAround m.words) where
       (omega (arith, ends, few)) (omega (arith, ends, few)))
       (on (G_stays 152 (own 146) refl (lit< tt))
       (on (T 153 (own 300) 0 refl refl)
-      (on (E_jumps 154 (any (56 + i) (ahead z i low)) refl (lit< tt)) stay)))))
+      (on (E_jumps 154 (any (56 + i) (frame-ahead z i low)) refl (lit< tt)) stay)))))
   all_signs i c (d ∷ ds) k j e v last low here ends few small =
       let u : ℕ = 131072 - 2 * suc (length ds) in
-      counted
+      Path-counted
       (on (T 146 (own 300) _ refl refl)
       (followed (sign (record k { scrap = v; sign_link = to 3 i }) c j e u last here.0 (omega (arith, ends, few)) few
       (omega (arith, ends, few)))
@@ -61,7 +61,7 @@ module _ (z : Size) (m : Moment) (o : IsAround m.words) where
       (at m (i + 2) 0 (record (from_to e e k) { scrap = 0; sign_link = to 3 (i + 2) }) (latest last (c ∷ cs)))
   prints_signs i c cs k j e last low here ends few =
       let at3 = o.at3 in
-      counted
+      Path-counted
       (on (A 144 (out 3 (outside z o 3 (lit< tt))) (short (to 3 (i + 2))) refl (omega arith))
       (on (T 145 (own 154) _ refl refl)
       (all_signs (i + 2) c cs k j e 0 last (omega (arith, low)) here ends few (lit< tt)))) (omega arith)

@@ -1,12 +1,13 @@
 -- The lines above the days in `examples/calendar.tape`.
-use Rattle.ed_programs.proofs.Kit.{◌≡◌, ℕ, suc, ◌+◌, ◌-◌, ◌*◌, ◌/◌, ◌%◌, ◌<◌, ◌≤◌, [], List, ◌∷◌, ◌++◌, get_or, Some, A}
-use Rattle.ed_programs.proofs.Kit.{Option, sym, refl, ap, ◌∙◌, subst, append-nil, arith, lit<, lit≤, Size, short, T, on}
-use Rattle.ed_programs.proofs.Kit.{Moment, followed, stay, Path, own, head_codes, name_codes, title_codes, year_codes}
-use Rattle.ed_programs.proofs.Kit.{to, counted, calls_own}
+use Rattle.ed_programs.proofs.Kit.{Size, T, followed, [], ap, append-nil, arith, get_or, List, lit<, lit≤, Option}
+use Rattle.ed_programs.proofs.Kit.{refl, Some, subst, suc, sym, ℕ, ◌%◌, ◌*◌, ◌++◌, ◌+◌, ◌-◌, ◌/◌, ◌<◌, ◌∙◌, ◌∷◌, ◌≡◌}
+use Rattle.ed_programs.proofs.Kit.{◌≤◌, Moment, short, A, on, Path, stay, own, head_codes, name_codes, title_codes}
+use Rattle.ed_programs.proofs.Kit.{year_codes}
 use Rattle.ed_programs.proofs.CalendarCells.{at, frame, have_part, signs, IsAround, Work}
-use Rattle.ed_programs.proofs.CalendarSigns.{prints_signs}
 use Rattle.ed_programs.proofs.CalendarFigures.{left_by, prints_four}
 use Rattle.ed_programs.proofs.CalendarNames.{letter, name_is}
+use Rattle.ed_programs.proofs.CalendarSigns.{prints_signs}
+use Rattle.ed_programs.proofs.Kit.{to, Path-counted, calls_own}
 
 -- ---- the words that change
 
@@ -75,7 +76,7 @@ module _ (z : Size) (m : Moment) (o : IsAround m.words) where
       subst (λ (cs : List ℕ). Path (frame z) (81 + 8 * tens) (at m 86 0 (record k
       { first_power = to 12 314 }) last) cs
       (at m 92 0 (record after { end = to 9 195 }) (Some (y % 10)))) (append-nil (year_codes y))
-      (counted
+      (Path-counted
       (on (A 86 (own 294) (short y) refl (omega (arith, is, high)))
       (on (T 87 (own 297) _ refl refl)
       (calls_own 88 234 refl refl refl (lit< tt)
@@ -99,7 +100,7 @@ module _ (z : Size) (m : Moment) (o : IsAround m.words) where
       → Path (frame z) (366 + 8 * (y / 1000 + y / 100 % 10 + y / 10 % 10)) (at m 84 0 (untitled i k) last)
       (title_codes (suc i) ++ (year_codes y ++ head_codes)) (at m 94 0 (headed i y k) (Some 11))
   lines_above i y k last few is low high =
-      counted (followed (title i k last few)
+      Path-counted (followed (title i k last few)
       (followed (year y (record (untitled i k) { sign = to 9 168; scrap = 0; sign_link = to 3 86 })
       (Some 11) is low high)
       (heads (record (left_by 88 (y % 10) (untitled i k)) { sign_link = to 3 86 }) (Some (y % 10))))) (omega arith)

@@ -1,9 +1,10 @@
 -- The count of the years in `examples/calendar.tape`: the weekday of 1 January, and whether it is a leap year.
-use Rattle.ed_programs.proofs.Kit.{◌≡◌, ℕ, zero, suc, ◌+◌, ◌-◌, ◌*◌, ◌/◌, ◌%◌, ◌<◌, ◌≤◌, Bool, true, false, [], ◌==◌, A}
-use Rattle.ed_programs.proofs.Kit.{if◌then◌else◌, Option, refl, inl, inr, arith, lit<, cases_lt, Size, short, Moment, S}
-use Rattle.ed_programs.proofs.Kit.{nat_tests, E_jumps, E_stays, G_jumps, G_stays, T, followed, on, stay, Path, own}
-use Rattle.ed_programs.proofs.Kit.{counted}
+use Rattle.ed_programs.proofs.Kit.{Size, E_stays, G_stays, E_jumps, S, T, followed, [], arith, Bool, false}
+use Rattle.ed_programs.proofs.Kit.{if◌then◌else◌, inl, inr, lit<, Option, refl, suc, true, zero, ℕ, ◌%◌, ◌*◌, ◌+◌, ◌-◌}
+use Rattle.ed_programs.proofs.Kit.{◌/◌, ◌<◌, ◌==◌, ◌≡◌, ◌≤◌, cases_lt, nat_tests, Moment, short, A, G_jumps, on, Path}
+use Rattle.ed_programs.proofs.Kit.{stay, own}
 use Rattle.ed_programs.proofs.CalendarCells.{at, frame, Work}
+use Rattle.ed_programs.proofs.Kit.{Path-counted}
 
 -- n years after 1901: the years to the next leap year, below 0, and the weekday before sevens are taken away
 abbrev pub leap_word : ℕ → ℕ
@@ -91,7 +92,8 @@ module _ (z : Size) (m : Moment) where
       elim (cases_lt (n % 4) 3) [
         | inl l ↦ (
           leap_word n,
-          counted (followed rest.1 (common_year here (1901 + n) (1901 + suc n) (weekday_word n) (weekday_word (suc n))
+          Path-counted (followed rest.1 (common_year here (1901 + n) (1901 + suc n) (weekday_word n)
+              (weekday_word (suc n))
               (leap_word n) (leap_word (suc n)) k.year last refl (omega (arith, before)) few (omega arith) (omega
               (arith, l))
               (omega (arith, before, few)) (omega (arith, l)) (omega arith) (omega (arith, l)))) (omega (arith, l)),
@@ -99,7 +101,7 @@ module _ (z : Size) (m : Moment) where
         | inr g ↦
             let third : n % 4 ≡ 3 = omega (arith, g) in (
               0,
-              counted (followed rest.1 (leap_year here (1901 + n) (1901 + suc n) (weekday_word n) (weekday_word
+              Path-counted (followed rest.1 (leap_year here (1901 + n) (1901 + suc n) (weekday_word n) (weekday_word
                   (suc n))
                   (leap_word n) (leap_word (suc n)) k.year last refl (omega (arith, before)) few (omega arith)
                   (omega (arith, third)) (omega (arith, before, few)) (omega (arith, third)) (omega (arith, third))))
@@ -150,7 +152,7 @@ module _ (z : Size) (m : Moment) where
       let before = years n s (record k { february = 28 }) last (omega (arith, is)) few in
       let rest : n % 4 ≡ 3 = grind (arith, nat_tests) in (
         0,
-        counted (followed before.1 (a_leap_year (record k { scrap = before.0 }) (1901 + n) (weekday_word n)
+        Path-counted (followed before.1 (a_leap_year (record k { scrap = before.0 }) (1901 + n) (weekday_word n)
             (leap_word n)
             k.year last refl is few (omega (arith, rest)))) (omega arith),
       )
@@ -158,7 +160,7 @@ module _ (z : Size) (m : Moment) where
       let before = years n s (record k { february = 28 }) last (omega (arith, is)) few in
       let rest : n % 4 < 3 = grind (arith, nat_tests) in (
         leap_word n,
-        counted (followed before.1 (no_leap_year (record k { february = 28; scrap = before.0 }) (1901 + n)
+        Path-counted (followed before.1 (no_leap_year (record k { february = 28; scrap = before.0 }) (1901 + n)
             (weekday_word n) (leap_word n) k.year last refl is few (omega (arith, rest)) (omega arith)))
             (omega arith),
       )

@@ -1,12 +1,9 @@
 -- Capital letters: each spells a row of tape, and is printed as it is.
-use Rattle.ed_programs.proofs.Kit.{◌≡◌, ℕ, ◌≤◌, Bool, true, false, not, [], ◌||◌, ◌∷◌, ◌++◌, length, ◌==◌, Some, nat_lt}
-use Rattle.ed_programs.proofs.Kit.{if◌then◌else◌, nat_le, None, refl, ap, arith, Text, list_all, and_parts, ◌&&◌, le_of}
-use Rattle.ed_programs.proofs.Kit.{nat_tests, row_of, paper_from, row, among, both, is_capital}
-use Rattle.std.specs.Str.{bytes_eq}
-use Rattle.std.proofs.lemmas.Bool.{not-true}
-use Rattle.std.proofs.lemmas.Slice.Eq.{bytes_eq-Decides}
+use Rattle.ed_programs.proofs.Kit.{Letters, bytes_eq, bytes_eq-Decides, among, [], ap, arith, Bool, false}
+use Rattle.ed_programs.proofs.Kit.{if◌then◌else◌, length, nat_le, nat_lt, None, not, refl, Some, true, ℕ, ◌++◌, ◌==◌}
+use Rattle.ed_programs.proofs.Kit.{◌||◌, ◌∷◌, ◌≡◌, ◌≤◌, list_all, and_from, and_parts, leb-true, not-true, nat_tests}
+use Rattle.ed_programs.proofs.Kit.{Text, row_of, row, ◌&&◌, paper_from, is_capital}
 use Rattle.ed_printer.specs.Paper.{struck_bytes}
-use Rattle.ed_printer.specs.declared.printer.Shift.TheVariants.{Letters}
 use Rattle.ed_programs.specs.Hello.{letters_refusal}
 use Rattle.ed_programs.proofs.RowTexts.{is_row_byte, text_rows}
 use Rattle.ed_programs.specs.declared.refusal.Refusal.TheVariants as refusal
@@ -48,8 +45,8 @@ pub record Letter (b : ℕ) : Type 0 where
 pub letter : (b : ℕ) → (nat_le 65 b && nat_le b 90) ≡ true → Letter b
 letter b h =
     let p = and_parts (nat_le 65 b) (nat_le b 90) h in
-    let low = le_of 65 b p.0 in
-    let high = le_of b 90 p.1 in
+    let low = leb-true 65 b p.0 in
+    let high = leb-true b 90 p.1 in
     let is = among fine 65 26 b refl (omega arith) (omega arith) in
     let q = and_parts (is_row_byte b) _ is in
     let r = and_parts (bytes_eq (struck_bytes Letters (row (row_of b))) (b ∷ [])) _ q.1 in
@@ -65,7 +62,7 @@ pub are_rows : (q : Text) → list_all (λ b. nat_le 65 b && nat_le b 90) q ≡ 
 are_rows [] h = refl
 are_rows (b ∷ q) h =
     let p = and_parts (nat_le 65 b && nat_le b 90) (list_all (λ b. nat_le 65 b && nat_le b 90) q) h in
-    both _ _ (letter b p.0).row_byte (are_rows q p.1)
+    and_from _ _ (letter b p.0).row_byte (are_rows q p.1)
 
 -- letters are printed as they are, and a new line follows
 pub letters_shown : (q : Text) → list_all (λ b. nat_le 65 b && nat_le b 90) q ≡ true

@@ -1,23 +1,22 @@
 -- The source of `examples/celsius.edsac` for any list: its path, and what it prints.
-use Rattle.ed_programs.proofs.Kit.{◌≡◌, ℕ, ◌+◌, ◌-◌, ◌*◌, ◌/◌, ◌^◌, ◌<◌, ◌≤◌, true, false, [], List, ◌∷◌, ◌++◌, map, A}
-use Rattle.ed_programs.proofs.Kit.{length, Some, nat_lt, nat_le, None, Option, sym, refl, append-nil, arith, lit<, lit≤}
-use Rattle.ed_programs.proofs.Kit.{Text, list_all, and_parts, length-map, Z_F, Size, lt_of, lt_true, short, state, Line}
-use Rattle.ed_programs.proofs.Kit.{Frame, Moment, digits, print_orders, ComesToStop, entry_state, settings, Settings, S}
-use Rattle.ed_programs.proofs.Kit.{parameter_store, le_of, E_jumps, G_jumps, G_stays, T, Z, on, stay, Path, own, along}
-use Rattle.ed_programs.proofs.Kit.{stop_after, then, to_stop, IsIn, Journey, both, frame_at, moment_at, numbers_text}
-use Rattle.ed_programs.proofs.Kit.{SourceRuns, reads_number, HasRead, are_small, number_rows, shows_number, HasShown}
-use Rattle.ed_programs.proofs.Kit.{stops_from_entry, Marked, to, calling, journey_counted, stop_counted, HasThree}
-use Rattle.ed_programs.proofs.Kit.{three_read, three_shown, three_at_entry}
-use Rattle.ed_programs.specs.Celsius.{celsius, celsius_orders, celsius_text}
+use Rattle.ed_programs.proofs.Kit.{Z_F, Size, G_stays, Z, Settings, Line, sum_by, along, IsIn, Journey, stop_after}
+use Rattle.ed_programs.proofs.Kit.{then, to_stop, E_jumps, S, T, frame_at, moment_at, [], append-nil, arith, false}
+use Rattle.ed_programs.proofs.Kit.{length, List, lit<, lit≤, map, nat_le, nat_lt, None, Option, refl, Some, sym, true}
+use Rattle.ed_programs.proofs.Kit.{ℕ, ◌*◌, ◌++◌, ◌+◌, ◌-◌, ◌/◌, ◌<◌, ◌^◌, ◌∷◌, ◌≡◌, ◌≤◌, list_all, and_from, and_parts}
+use Rattle.ed_programs.proofs.Kit.{leb-true, lt-ltb, ltb-true, length-map, sum_by-cons, Text, Frame, Moment, short}
+use Rattle.ed_programs.proofs.Kit.{state, A, G_jumps, on, Path, stay, own, settings, parameter_store, digits}
+use Rattle.ed_programs.proofs.Kit.{print_orders, ReachesStop, entry_state, celsius_text, numbers_text, on_lines}
+use Rattle.ed_programs.proofs.Kit.{SourceRuns, HasRead, reads_number, are_small, number_rows, HasShown, shows_number}
+use Rattle.ed_programs.proofs.Kit.{stops_from_entry, Marked}
 use Rattle.ed_machine.proofs.Kit.Moves.{H, V, T_top}
-use Rattle.ed_programs.proofs.NumberShown.{then_on}
-use Rattle.ed_programs.proofs.DataLines.{list_mark}
-use Rattle.ed_programs.proofs.NumberLists.{ended_small, ended_some, few_codes, few_numbers, list_codes, list_shown}
-use Rattle.ed_programs.proofs.SourceRuns.{lines_of_pieces, program_runs}
-use Rattle.ed_programs.specs.Lists.{on_lines}
+use Rattle.ed_programs.specs.Celsius.{celsius, celsius_orders}
 use Rattle.ed_programs.specs.declared.celsius.TheConstants.{CELSIUS}
-use Rattle.std.proofs.lemmas.List.Sums.{sum_by-cons}
-use Rattle.std.specs.List.{sum_by}
+use Rattle.ed_programs.proofs.DataLines.{list_mark}
+use Rattle.ed_programs.proofs.Kit.{to, calling, journey_counted, stop_counted, HasThree, three_read, three_shown}
+use Rattle.ed_programs.proofs.Kit.{three_at_entry}
+use Rattle.ed_programs.proofs.NumberLists.{ended_small, ended_some, few_codes, few_numbers, list_codes, list_shown}
+use Rattle.ed_programs.proofs.NumberShown.{then_on}
+use Rattle.ed_programs.proofs.SourceRuns.{lines_of_pieces, program_runs}
 
 -- 36,409 of 65,536 is five ninths as far as the words go
 ninths : (v : ℕ) → v < 65536 → v * (36409 * 2 ^ 38) / 2 ^ 54 ≡ 5 * v / 9
@@ -104,7 +103,7 @@ module _ (z : Size) (m : Moment) where
   -- all of them, and the stop
   stops : (ns : List ℕ) (end value factor : ℕ) (words : List ℕ) (last : Option ℕ) → HasThree f words 74 98 150 15
       → are_small ns ≡ true → list_all (λ n. nat_le 32 n) ns ≡ true → end < 32 → (done : ℕ)
-      → ComesToStop (conversion_orders ns + 13 * length (digits end) + 16)
+      → ReachesStop (conversion_orders ns + 13 * length (digits end) + 16)
       (state f (at 0 words 0 value factor last (number_rows (ns ++ end ∷ []))) done) (list_codes (map celsius ns)) 71
   stops [] end value factor words last three small least low done =
       let start : IsIn f (at 0 words 0 value factor last (number_rows (end ∷ []))) =
@@ -119,8 +118,8 @@ module _ (z : Size) (m : Moment) where
   stops (n ∷ ns) end value factor words last three small least low done =
       let p = and_parts (nat_lt n 65536) (are_small ns) small in
       let l = and_parts (nat_le 32 n) (list_all (λ n. nat_le 32 n) ns) least in
-      let one = turn n value factor words last (number_rows (ns ++ end ∷ [])) three (le_of 32 n l.0)
-      (lt_of n 65536 p.0) in
+      let one = turn n value factor words last (number_rows (ns ++ end ∷ [])) three (leb-true 32 n l.0)
+      (ltb-true n 65536 p.0) in
       stop_counted (stop_after (one.journey.leads done) refl
       (stops ns end (celsius n) (36409 * 2 ^ 18) one.after (Some 24) one.three p.1 l.1 low
       (done + (13 * length (digits n) + print_orders (celsius n) + 30)))) (omega arith)
@@ -129,8 +128,8 @@ celsius_small : (ns : List ℕ) → are_small ns ≡ true → are_small (map cel
 celsius_small [] h = refl
 celsius_small (n ∷ ns) h =
     let p = and_parts (nat_lt n 65536) (are_small ns) h in
-    let small = lt_of n 65536 p.0 in
-    both (nat_lt (celsius n) 65536) (are_small (map celsius ns)) (lt_true (celsius n) 65536 (omega arith))
+    let small = ltb-true n 65536 p.0 in
+    and_from (nat_lt (celsius n) 65536) (are_small (map celsius ns)) (lt-ltb (celsius n) 65536 (omega arith))
     (celsius_small ns p.1)
 
 module _ (ns : List ℕ) (end : ℕ) (small : are_small ns ≡ true) (least : list_all (λ n. nat_le 32 n) ns ≡ true)

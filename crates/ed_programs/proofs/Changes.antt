@@ -1,25 +1,21 @@
 -- A call of a routine that writes in a cell of the piece, as one line; and so `read`.
-use Rattle.ed_sources.proofs.Kit.{cases_lt, locations, A_F, State, joined, Leads}
-use Rattle.std.proofs.Common.{set, ◌≡◌, ◌≢◌, ◌⊎◌, inl, inr, ℕ, ◌+◌, ◌*◌, ◌/◌, ◌%◌, ◌^◌, ◌<◌, ◌≤◌, refl, sym, ap, ◌∙◌}
-use Rattle.std.proofs.Common.{subst, arith, Bool, false, lit<, List, [], ◌∷◌, ◌++◌, Option, get_or, length}
+use Rattle.ed_sources.proofs.Kit.{[], ap, arith, Bool, false, get_or, inl, inr, length, List, lit<, Option, refl}
+use Rattle.ed_sources.proofs.Kit.{rules, subst, sym, ℕ, ◌%◌, ◌*◌, ◌++◌, ◌+◌, ◌/◌, ◌<◌, ◌^◌, ◌∙◌, ◌∷◌, ◌≡◌, ◌≢◌, ◌≤◌}
+use Rattle.ed_sources.proofs.Kit.{◌⊎◌, cases_lt, locations, locations_most, State, Frame, Moment, short, state, joined, Leads, A}
+use Rattle.ed_sources.proofs.Kit.{G_jumps, leads, on, Path, stay, own, patched, place_count, read, with_h}
+use Rattle.ed_sources.proofs.Kit.{after_digits, digit_rows, digits, digits_value, IsOther, caller, IsLoadedAt}
+use Rattle.ed_sources.proofs.Kit.{IsCalled, digits_law, HasRoutine}
+use Rattle.ed_routines.proofs.Kit.{set, all_words, Jumps, Reads, any}
 use Rattle.std.proofs.lemmas.List.{get_or-set_same, get_or-set_other, length-set}
-use Rattle.ed_words.proofs.SizeLemmas.{most}
-use Rattle.ed_library.specs.Routines.{is_working, place_count}
-use Rattle.ed_machine.proofs.Kit.Frames.{all_digits, all_words, Frame, Moment, state, short}
-use Rattle.ed_machine.proofs.Kit.Moves.{A, G_jumps, Reads, Jumps}
-use Rattle.ed_machine.proofs.Kit.Paths.{Path, leads, on, stay}
-use Rattle.ed_machine.proofs.Kit.Places.{any, own}
-use Rattle.ed_machine.proofs.Kit.Window.{patched, patched_self, get_own}
-use Rattle.ed_routines.specs.Catalogue.{read, with_h}
-use Rattle.ed_routines.specs.Digits.{after_digits, digit_rows, digits_value, digits}
-use Rattle.ed_routines.proofs.Digits.{digits_law}
+use Rattle.ed_words.specs.declared.order_words.TheConstants.{A_F}
+use Rattle.ed_machine.proofs.Kit.Frames.{all_digits}
+use Rattle.ed_machine.proofs.Kit.Window.{patched_self, get_own}
+use Rattle.ed_library.specs.Routines.{is_working}
+use Rattle.ed_routines.proofs.Called.{called as routine_called}
+use Rattle.ed_routines.proofs.Journeys.{IsIn, Journey, all_long, beside_word, called, caller_is, stands}
 use Rattle.ed_sources.proofs.Decimals.{are}
 use Rattle.ed_sources.proofs.ReadAndPrint.{rest_is, rows_are}
-use Rattle.ed_routines.specs.Returns.{IsOther}
-use Rattle.ed_routines.specs.Standing.{caller, Stands}
-use Rattle.ed_routines.proofs.Called.{IsCalled, called as routine_called}
 use Rattle.ed_routines.proofs.ReadCall as read_call
-use Rattle.ed_routines.proofs.Journeys.{HasRoutine, IsIn, Journey, all_long, beside_word, called, caller_is, stands}
 
 -- a routine in the store is there after a change of words of the piece and of working locations of a routine at w
 pub still_has : {n h routine w : ℕ} {f : Frame n h} {before after : List ℕ} → 56 ≤ f.base → 56 ≤ w
@@ -73,7 +69,7 @@ module _ {n h : ℕ} {f : Frame n h} {r : Moment} (o : IsIn f r) where
 
   pub changes : {r0 w : ℕ} {parameters : List ℕ} {k : ℕ} {codes : List ℕ} (i : ℕ) (words : List ℕ) (digits : List Bool)
       (cells rows : List ℕ) (l : Option ℕ) (has : HasRoutine f r.words r0 w parameters)
-      → ((done : ℕ) → Stands r0 parameters w (state f (called o i w) done)
+      → ((done : ℕ) → IsLoadedAt r0 parameters w (state f (called o i w) done)
       → Leaves i w k codes words digits rows l done)
       → length words ≡ 1024 → length cells ≡ n
       → ((j : ℕ) → j < n → get_or words (f.base + j) 0 ≡ get_or cells j 0)
@@ -84,7 +80,7 @@ module _ {n h : ℕ} {f : Frame n h} {r : Moment} (o : IsIn f r) where
   changes {w = w} {k = k} {codes} i words digits cells rows l has returns long own_long same room clear first
       second = record {
         leads = λ done.
-            let size = most f.size in let under = f.under in let fits = f.fits in
+            let size = locations_most f.size in let under = f.under in let fits = f.fits in
             let word : get_or r.cells i 0 ≡ A_F + 2 * (f.base + i) = ap (λ x. x.1.0) first in
             let two : Path f 2 r [] (called o i w) =
             on (A i (own i) (short (A_F + 2 * (f.base + i))) first (omega arith))
@@ -113,7 +109,7 @@ module _ {n h : ℕ} {f : Frame n h} {r : Moment} (o : IsIn f r) where
 
   module _ {w c : ℕ} {rest : List ℕ} (i j : ℕ) (has : HasRoutine f r.words read w (with_h (f.base + j)))
       (inside : j < n) (ends : after_digits r.tape ≡ c ∷ rest) (code : c < 32) (room : i + 3 ≤ n) where
-    pub reading : (done : ℕ) → Stands read (with_h (f.base + j)) w (state f (called o i w) done)
+    pub reading : (done : ℕ) → IsLoadedAt read (with_h (f.base + j)) w (state f (called o i w) done)
         → IsCalled read (with_h (f.base + j)) w (f.base + j) (locations f.size) (state f (called o i w) done)
     reading done there =
         routine_called (all_long o) there (record {
@@ -125,7 +121,7 @@ module _ {n h : ℕ} {f : Frame n h} {r : Moment} (o : IsIn f r) where
         side (inl b) = inr (omega arith)
         side (inr b) = inl (omega arith)
 
-    abbrev pub there : (done : ℕ) → Stands read (with_h (f.base + j)) w (state f (called o i w) done)
+    abbrev pub there : (done : ℕ) → IsLoadedAt read (with_h (f.base + j)) w (state f (called o i w) done)
     there done = stands o i done room has
 
     abbrev pub words_read : List ℕ
@@ -134,7 +130,7 @@ module _ {n h : ℕ} {f : Frame n h} {r : Moment} (o : IsIn f r) where
     abbrev pub number_read : ℕ
     number_read = digits_value (digit_rows r.tape) % 2 ^ 17
 
-    leaves : (done : ℕ) → Stands read (with_h (f.base + j)) w (state f (called o i w) done)
+    leaves : (done : ℕ) → IsLoadedAt read (with_h (f.base + j)) w (state f (called o i w) done)
         → Leaves i w (11 + 13 * length (digit_rows r.tape)) [] words_read r.digits rest r.last done
     leaves done called_there = read_call.leads_to (reading done called_there) ends code
 
@@ -184,18 +180,7 @@ module _ {n h : ℕ} {f : Frame n h} {r : Moment} (o : IsIn f r) where
         (i + 1) 27 (any w has.reached)
         → Journey f (2 + (11 + 13 * length (digit_rows r.tape))) r []
         (after_change i words_read r.digits cells_read rest r.last)
-    read_line clear first second =
-        let long = length-set r.cells j number_read in
-        let own = o.own in
-        changes i words_read r.digits cells_read rest r.last has leaves read_long (omega arith) read_own room clear
-        first second
-
-    pub read_in : IsIn f (after_change i words_read r.digits cells_read rest r.last)
-    read_in = record {
-      above = o.above;
-      all = read_long;
-      own = let long = length-set r.cells j number_read in let own = o.own in omega arith;
-    }
+    read_line clear first second = search (rules, length-set, changes, leaves, read_long, read_own)
 
     keeps_beside : (q : ℕ) → (q < f.base) ⊎ (f.base + n ≤ q) → IsOther read w q
         → get_or words_read q 0 ≡ get_or r.words q 0

@@ -1,20 +1,17 @@
 -- A line `data` with numbers, each ended by F: what it says, and what its rows are.
-use Rattle.ed_sources.proofs.Kit.{list_all, list_all-append, Text, line_of, digits}
-use Rattle.std.proofs.Common.{Fits, drop-cons, slice_index_or, w16, ◌≡◌, ◌∙◌, ℕ, zero, suc, ◌+◌, ◌*◌, ◌<◌, ◌≤◌, Bool}
-use Rattle.std.proofs.Common.{true, false, List, [], ◌∷◌, ◌++◌, ap, refl, sym, subst, arith, codes, get_or, length, map}
-use Rattle.std.proofs.Common.{drop, nat_lt, ◌==◌, not, Some, None, Ok, decimal}
-use Rattle.std.proofs.lemmas.Bool.{not-true, and_parts}
-use Rattle.std.proofs.lemmas.List.{drop_all, map-append, append_assoc, length-append}
-use Rattle.ed_words.proofs.Numbers.{le_true, eq_false, lt_of, lt_true}
-use Rattle.ed_codes.specs.Spelling.{row_of}
-use Rattle.ed_syntax.specs.Parts.{quoted, run, array, has_quote, is_line_byte}
-use Rattle.ed_syntax.specs.Reading.Grammar.{row, spells}
-use Rattle.ed_syntax.specs.declared.program.Statement.TheVariants as statements
+use Rattle.ed_sources.proofs.Kit.{[], ap, arith, Bool, codes, decimal, drop, false, get_or, length, List, map, nat_lt}
+use Rattle.ed_sources.proofs.Kit.{None, not, Ok, refl, Some, subst, suc, sym, true, zero, ℕ, ◌*◌, ◌++◌, ◌+◌, ◌<◌, ◌==◌}
+use Rattle.ed_sources.proofs.Kit.{◌∙◌, ◌∷◌, ◌≡◌, ◌≤◌, list_all, and_from, and_parts, le-leb, lt-ltb, ltb-true, ne_eqb}
+use Rattle.ed_sources.proofs.Kit.{not-true, list_all-append, Text, row_of, is_line_byte, run, row, spells, line_of}
+use Rattle.ed_sources.proofs.Kit.{digits}
+use Rattle.ed_syntax.proofs.Kit.{map-append, array, has_quote, quoted}
+use Rattle.std.proofs.Common.{Fits, drop-cons, slice_index_or, w16}
+use Rattle.std.proofs.lemmas.List.{drop_all, append_assoc, length-append}
 use Rattle.ed_syntax.proofs.PartLemmas.{quote_parts}
-use Rattle.ed_sources.proofs.Decimals.{are, both, decimal_is, few_bytes, line_bytes, no_quotes, row_bytes, rows_are}
-use Rattle.ed_sources.proofs.Decimals.{written}
+use Rattle.ed_sources.proofs.Decimals.{are, decimal_is, few_bytes, line_bytes, no_quotes, row_bytes, rows_are, written}
 use Rattle.ed_programs.specs.Lists.{numbers_text}
 use Rattle.ed_programs.proofs.SourceLines.{Marked, by_parts}
+use Rattle.ed_syntax.specs.declared.program.Statement.TheVariants as statements
 
 -- the line `data` with numbers, between quotes (34)
 abbrev pub numbers_line : List ℕ → Text
@@ -32,12 +29,12 @@ are_small ns = list_all (λ n. nat_lt n 65536) ns
 -- so are those of a slice
 pub all_fit : (ns : List ℕ) → ((i : ℕ) → Fits w16 (slice_index_or ns i 0)) → are_small ns ≡ true
 all_fit [] fit = refl
-all_fit (n ∷ ns) fit = both (nat_lt n 65536) (are_small ns) (lt_true n 65536 (fit 0).fits)
+all_fit (n ∷ ns) fit = and_from (nat_lt n 65536) (are_small ns) (lt-ltb n 65536 (fit 0).fits)
     (all_fit ns (λ i. fit (suc i)))
 
 pub small_at : (ns : List ℕ) → are_small ns ≡ true → (i : ℕ) → i < length ns → get_or ns i 0 < 65536
 small_at [] h i l = absurd (omega arith)
-small_at (n ∷ ns) h zero l = lt_of n 65536 (and_parts (nat_lt n 65536) (are_small ns) h).0
+small_at (n ∷ ns) h zero l = ltb-true n 65536 (and_parts (nat_lt n 65536) (are_small ns) h).0
 small_at (n ∷ ns) h (suc i) l = small_at ns (and_parts (nat_lt n 65536) (are_small ns) h).1 i (omega arith)
 
 -- what the bytes of such numbers are
@@ -52,7 +49,7 @@ pub all_numbers : (ns : List ℕ) → are_small ns ≡ true → AreNumbers ns (n
 all_numbers [] h = record { line = refl; quote = refl; spelled = refl; rows = refl; few = omega arith }
 all_numbers (n ∷ ns) h =
     let p = and_parts (nat_lt n 65536) (are_small ns) h in
-    let small = lt_of n 65536 p.0 in
+    let small = ltb-true n 65536 p.0 in
     let ds : List ℕ = digits n in
     let is = are n small in
     let rest = all_numbers ns p.1 in
@@ -101,9 +98,9 @@ module _ (two : Bool) (k : ℕ) (ns : List ℕ) (later : 2 ≤ k) (some : 1 ≤ 
   data_says =
       let all = all_numbers ns small in
       let spelled = all.spelled in
-      let there = le_true 1 (length bytes) (some_byte ns some) in
-      let short = le_true (length bytes) 120 (omega arith) in
-      let no_version : (k == 1) ≡ false = eq_false k 1 (omega (arith, later)) in
+      let there = le-leb 1 (length bytes) (some_byte ns some) in
+      let short = le-leb (length bytes) 120 (omega arith) in
+      let no_version : (k == 1) ≡ false = ne_eqb k 1 (omega (arith, later)) in
       by_parts two k (numbers_line ns) (run (codes "data") ∷ quoted bytes ∷ []) data_plain data_short
       (let e = quote_parts [] bytes [] (without_quote bytes all.quote) in rw e refl)
       (let e = all.rows in rw (no_version, there, short, spelled, e) refl)

@@ -1,5 +1,5 @@
 -- What is left of the numerators after some decimals of e, and what the lines of `examples/decimals.edsac` print.
-use Rattle.ed_programs.proofs.Kit.{◌≡◌, ℕ, zero, suc, ◌+◌, ◌*◌, [], List, ◌∷◌, ◌++◌, length, refl, ap, ◌∙◌, carries}
+use Rattle.ed_programs.proofs.Kit.{[], ap, length, List, refl, suc, zero, ℕ, ◌*◌, ◌++◌, ◌+◌, ◌∙◌, ◌∷◌, ◌≡◌, carries}
 use Rattle.ed_programs.proofs.Kit.{tenfold}
 
 -- the numerators after m decimals, and the sum of all carries

@@ -1,13 +1,14 @@
 -- The program of `examples/decimals.edsac` from its entry to its stop: a decimal, a group, a line.
-use Rattle.ed_programs.proofs.Kit.{◌≡◌, ℕ, zero, suc, ◌+◌, ◌-◌, ◌*◌, ◌/◌, ◌%◌, ◌^◌, ◌<◌, ◌≤◌, [], List, ◌∷◌, ◌++◌, Some}
-use Rattle.ed_programs.proofs.Kit.{length, get_or, Option, sym, refl, ap, ◌∙◌, subst, inr, append-nil, arith, lit<, A_F}
-use Rattle.ed_programs.proofs.Kit.{lit≤, Z_F, Size, least, short, state, Frame, Moment, ComesToStop, set, replicate, A}
-use Rattle.ed_programs.proofs.Kit.{mod-lt, div-lt_iff_lt-mul, length-set, get_or-set_other, get_or-set_same, L_D, T_F}
-use Rattle.ed_programs.proofs.Kit.{div-add-mod, E_jumps, E_stays, G_jumps, G_stays, L, O, S, T, U, Z, followed, on, any}
-use Rattle.ed_programs.proofs.Kit.{prints, stay, Path, early, out, own, IsOutside, L1F, L512F, LD, Remains, along, to}
-use Rattle.ed_programs.proofs.Kit.{to_stop, frame_at, carries, tenfold, counted, calls_own}
-use Rattle.ed_programs.proofs.DecimalsPass.{after, after_long, line_codes, line_left, line_long, line_orders, page_left}
-use Rattle.ed_programs.proofs.DecimalsPass.{page_codes, page_orders, tenfold_long, units}
+use Rattle.ed_programs.proofs.Kit.{div-lt_iff_lt-mul, get_or-set_other, get_or-set_same, length-set, mod-lt}
+use Rattle.ed_programs.proofs.Kit.{div-add-mod, A_F, L_D, T_F, Z_F, Size, E_stays, G_stays, O, Z, IsOutside, L1F}
+use Rattle.ed_programs.proofs.Kit.{L512F, Remains, set, along, to_stop, E_jumps, L, S, T, U, prints, any, early, out}
+use Rattle.ed_programs.proofs.Kit.{LD, followed, frame_at, [], ap, append-nil, arith, get_or, inr, length, List, lit<}
+use Rattle.ed_programs.proofs.Kit.{lit≤, Option, refl, rules, Some, subst, suc, sym, zero, ℕ, ◌%◌, ◌*◌, ◌++◌, ◌+◌, ◌-◌}
+use Rattle.ed_programs.proofs.Kit.{◌/◌, ◌<◌, ◌^◌, ◌∙◌, ◌∷◌, ◌≡◌, ◌≤◌, least, Frame, Moment, short, state, A, G_jumps}
+use Rattle.ed_programs.proofs.Kit.{on, Path, stay, own, ReachesStop, replicate, carries, tenfold}
+use Rattle.ed_programs.proofs.DecimalsPass.{after, after_long, line_codes, line_left, line_long, line_orders}
+use Rattle.ed_programs.proofs.DecimalsPass.{page_left, page_codes, page_orders, tenfold_long, units}
+use Rattle.ed_programs.proofs.Kit.{to, Path-counted, calls_own}
 
 -- the cells that change as a decimal is worked out, and those that count: the decimals left of a group, the groups of a
 -- line, and the lines
@@ -93,11 +94,7 @@ pub record IsAround (ws : List ℕ) : Type 0 where
 
 -- the numerator at a location changes
 around_set : (ws : List ℕ) (q v : ℕ) → 162 ≤ q → IsAround ws → IsAround (set ws q v)
-around_set ws q v high o = record {
-  all = length-set ws q v ∙ o.all;
-  at2 = get_or-set_other ws q 2 v 0 (λ e. absurd (omega (arith, e, high))) ∙ o.at2;
-  at3 = get_or-set_other ws q 3 v 0 (λ e. absurd (omega (arith, e, high))) ∙ o.at3;
-}
+around_set ws q v high o = search (rules, length-set, get_or-set_other)
 
 -- a numerator with its carry, divided
 record Divided (x d : ℕ) : Type 0 where
@@ -106,11 +103,7 @@ record Divided (x d : ℕ) : Type 0 where
   left : x % d < d
 
 divided : (n c d : ℕ) → n < d → c ≤ 9 → Divided (10 * n + c) d
-divided n c d less few =
-    let x : ℕ = 10 * n + c in
-    let positive : 0 < d = omega arith in
-    let below : x / d < 10 = (div-lt_iff_lt-mul {k = d} {x = x} {y = 10} positive).1 (omega (arith, less, few)) in
-    record { is = sym (div-add-mod x d); few = omega (arith, below); left = mod-lt x positive }
+divided n c d less few = search (rules, div-lt_iff_lt-mul, div-add-mod, mod-lt)
 
 module _ (z : Size) (m : Moment) where
   abbrev pub f : Frame 107 0
@@ -149,7 +142,7 @@ module _ (z : Size) (m : Moment) where
     takes ws k e r least_r most_e (suc j) x y w is low sum few =
         let more : suc e ≤ x = omega (arith, is) in
         let next : x - suc e ≡ suc e * j + r = omega (arith, is) in
-        counted
+        Path-counted
         (on (S 31 (own 92) (short (x - suc e)) refl (omega arith))
         (on (G_stays 32 (own 39) refl (omega arith))
         (on (T 33 (own 94) _ refl refl)
@@ -183,7 +176,7 @@ module _ (z : Size) (m : Moment) where
         let after = around_set ws (suc p) r (omega arith) o in
         let all = after.all in let at2 = after.at2 in
         let outside_after : IsOutside f words 2 = early 2 (lit≤ tt) (lit< tt) all in
-        counted
+        Path-counted
         (on (T 21 (own 95) _ refl refl)
         (on (A 22 (out (suc p) outside) (short n) refl (omega arith))
         (on (L 23 LD (short (2 * n)) refl (omega arith))
@@ -259,7 +252,7 @@ module _ (z : Size) (m : Moment) where
           stand = stand_after rest.words (suc p) (suc e) (x % suc e) (tenfold (suc (suc e)) ns).left rest.around.all
               (omega (arith, ends, high)) is.left rest.stand;
           few = is.few;
-          path = counted (followed rest.path (followed
+          path = Path-counted (followed rest.path (followed
               (turn rest.words (record k { rest = rest.rest; scrap = rest.scrap }) p e n y rest.acc (e - 2) (x / suc e)
               (x % suc e) rest.around (rest.keeps (suc p) (omega arith) ∙ there.0) there.1 rest.few low
               (omega (arith, ends, high)) (omega (arith, some)) (omega (arith, divisors, few)) rest.low
@@ -289,20 +282,13 @@ module _ (z : Size) (m : Moment) where
     around = one.around;
     stand = one.stand;
     path = subst (λ cs. Path f n start cs (at j one.words w k d one.last)) (append-nil codes)
-        (counted (followed one.path path) count);
+        (Path-counted (followed one.path path) count);
   }
 
   onward : {start next : Moment} {i j u w a b e n : ℕ} {c d : Counts} {codes more others left right : List ℕ}
       (one : Reached start i u c a codes left) → Path f b (at i one.words u one.work c one.last) more next
       → Reached next j w d e others right → a + (b + e) ≡ n → Reached start j w d n (codes ++ (more ++ others)) right
-  onward one path two count = record {
-    words = two.words;
-    work = two.work;
-    last = two.last;
-    around = two.around;
-    stand = two.stand;
-    path = counted (followed one.path (followed path two.path)) count;
-  }
+  onward one path two count = search (rules, Path-counted, followed)
 
   -- ---- a decimal
 
@@ -326,7 +312,7 @@ module _ (z : Size) (m : Moment) where
         last = Some (x / 2);
         around = around_set all.words 163 (x % 2) (lit≤ tt) all.around;
         stand = stand_after all.words 163 2 (x % 2) (tenfold 3 ns).left all.around.all (omega arith) is.left all.stand;
-        path = counted
+        path = Path-counted
             (on (T 13 (own 95) _ refl refl)
             (on (A 14 (own 97) (short (A_F + 2 * 236)) refl refl)
             (on (T 15 (own 22) _ refl refl)
@@ -435,7 +421,7 @@ module _ (z : Size) (m : Moment) where
         last = Some 24;
         around = one.around;
         stand = one.stand;
-        path = counted (followed one.path
+        path = Path-counted (followed one.path
             (followed (turns_over one.words one.work none_done one.last 131071 0 one.around (lit< tt) refl)
             (on (G_stays 77 (own 13) refl (lit< tt)) stay))) (omega arith);
       }
@@ -502,14 +488,14 @@ module _ (z : Size) (m : Moment) where
           some,
           rest.ones (suc d) (omega (arith, some)),
         );
-        path = counted (followed (plants ws k c last q u v o low (omega (arith, ends)) small (omega (arith, ends)))
+        path = Path-counted (followed (plants ws k c last q u v o low (omega (arith, ends)) small (omega (arith, ends)))
             (on (G_jumps 12 (own 5) refl (omega (arith, ends))) rest.path)) (omega arith);
       }
 
   -- ---- the program: the list, two lines, and the stop
 
   pub decimals_stop : (ns : List ℕ) → replicate 74 1 ≡ ns → (ws : List ℕ) (last : Option ℕ) → IsAround ws → (done : ℕ)
-      → ComesToStop (602 + page_orders 1 ns) (state f (at 0 ws 0 loaded none_done last) done)
+      → ReachesStop (602 + page_orders 1 ns) (state f (at 0 ws 0 loaded none_done last) done)
       (11 ∷ 2 ∷ 23 ∷ 18 ∷ 24 ∷ page_codes 1 ns) 135
   decimals_stop ns is ws last o done =
       let filled = fills 73 ws (record loaded { link = to 3 5 }) none_done (Some 24) 163 0 o (lit≤ tt) refl (lit< tt) in

@@ -1,9 +1,9 @@
 -- What the source of `examples/decimals.edsac` prints: its lines, its entry and its law.
-use Rattle.ed_programs.proofs.Kit.{◌≡◌, ℕ, ◌+◌, true, [], List, ◌∷◌, map, refl, subst, lit≤, Text, Size, paper, State}
-use Rattle.ed_programs.proofs.Kit.{Line, ComesToStop, entry_state, settings, parameter_store, Settings, replicate}
-use Rattle.ed_programs.proofs.Kit.{all_words, moment_at, SourceRuns, stops_from_entry, Marked}
+use Rattle.ed_programs.proofs.Kit.{Size, Settings, Line, all_words, moment_at, [], List, lit≤, map, refl, subst, true}
+use Rattle.ed_programs.proofs.Kit.{ℕ, ◌+◌, ◌∷◌, ◌≡◌, Text, paper, State, settings, parameter_store, ReachesStop}
+use Rattle.ed_programs.proofs.Kit.{entry_state, replicate, decimals_prints, SourceRuns, stops_from_entry, Marked}
+use Rattle.ed_programs.specs.Decimals.{decimals_orders, decimals_text}
 use Rattle.ed_programs.specs.declared.decimals.TheConstants.{DECIMALS}
-use Rattle.ed_programs.specs.Decimals.{decimals_orders, decimals_prints, decimals_text}
 use Rattle.ed_programs.proofs.DecimalsPass.{page_codes, page_orders}
 use Rattle.ed_programs.proofs.DecimalsProgram.{IsAround, cells, decimals_stop, loaded, none_done}
 use Rattle.ed_programs.proofs.SourceRuns.{lines_of_pieces, program_runs}
@@ -35,19 +35,19 @@ marks = []
 abbrev lines : List Line
 lines = lines_of_pieces true pieces [] marks
 
-printed : {s : State} → ComesToStop (602 + page_orders 1 (replicate 74 1)) s
+printed : {s : State} → ReachesStop (602 + page_orders 1 (replicate 74 1)) s
     (11 ∷ 2 ∷ 23 ∷ 18 ∷ 24 ∷ page_codes 1 (replicate 74 1)) 135
-    → ComesToStop 453712 s (11 ∷ 2 ∷ 23 ∷ 18 ∷ 24 ∷ lines_print) 135
+    → ReachesStop 453712 s (11 ∷ 2 ∷ 23 ∷ 18 ∷ 24 ∷ lines_print) 135
 printed {s} stop =
-    subst (λ (codes : List ℕ). ComesToStop 453712 s (11 ∷ 2 ∷ 23 ∷ 18 ∷ 24 ∷ codes) 135) codes_are
-    (subst (λ n. ComesToStop (602 + n) s (11 ∷ 2 ∷ 23 ∷ 18 ∷ 24 ∷ page_codes 1 (replicate 74 1)) 135) orders_are stop)
+    subst (λ (codes : List ℕ). ReachesStop 453712 s (11 ∷ 2 ∷ 23 ∷ 18 ∷ 24 ∷ codes) 135) codes_are
+    (subst (λ n. ReachesStop (602 + n) s (11 ∷ 2 ∷ 23 ∷ 18 ∷ 24 ∷ page_codes 1 (replicate 74 1)) 135) orders_are stop)
 
 module _ (z : Size) where
   is_around : IsAround (entry_state z lines).store.words
   unfolding settings parameter_store
   is_around = record { all = all_words z lines; at2 = refl; at3 = refl }
 
-  ends : ComesToStop 453712 (entry_state z lines) (11 ∷ 2 ∷ 23 ∷ 18 ∷ 24 ∷ lines_print) 135
+  ends : ReachesStop 453712 (entry_state z lines) (11 ∷ 2 ∷ 23 ∷ 18 ∷ 24 ∷ lines_print) 135
   unfolding settings
   ends =
       stops_from_entry z lines refl 107 (lit≤ tt) (cells loaded none_done) refl refl [] refl

@@ -1,19 +1,16 @@
 -- The source of `examples/difference.edsac` for any two numbers: its path, and what it prints.
-use Rattle.ed_programs.proofs.Kit.{◌≡◌, ℕ, ◌+◌, ◌-◌, ◌*◌, ◌<◌, Bool, true, false, [], List, ◌∷◌, length, if◌then◌else◌}
-use Rattle.ed_programs.proofs.Kit.{nat_lt, sym, refl, append-nil, arith, lit<, lit≤, Z_F, Size, lt_of, lt_true, short}
-use Rattle.ed_programs.proofs.Kit.{state, Frame, Moment, Line, digits, print_orders, few_digits, ComesToStop, settings}
-use Rattle.ed_programs.proofs.Kit.{entry_state, parameter_store, Settings, not_lt_of, A, E_jumps, E_stays, S, T, Z, on}
-use Rattle.ed_programs.proofs.Kit.{stay, Path, own, get_own, along, then, to_stop, IsIn, print_line, frame_at, HasRead}
-use Rattle.ed_programs.proofs.Kit.{moment_at, digits_printed, SourceRuns, reads_number, are_small, data_mark, Marked}
-use Rattle.ed_programs.proofs.Kit.{number_rows, stops_from_entry, to, calling, stop_counted, HasPair, pair_after}
-use Rattle.ed_programs.proofs.Kit.{pair_at_entry}
-use Rattle.ed_programs.specs.Difference.{difference_orders}
-use Rattle.ed_programs.specs.Difference.{difference_text, distance}
-use Rattle.ed_programs.proofs.SourceRuns.{lines_of_pieces, program_runs}
-use Rattle.ed_programs.specs.declared.difference.TheConstants.{DIFFERENCE}
-use Rattle.ed_words.specs.Texts.{Text}
-use Rattle.std.proofs.Common.{map}
+use Rattle.ed_programs.proofs.Kit.{Z_F, Size, E_stays, Z, Settings, ltb-false, Line, along, IsIn, then, to_stop}
+use Rattle.ed_programs.proofs.Kit.{E_jumps, S, T, print_line, get_own, frame_at, moment_at, [], append-nil, arith}
+use Rattle.ed_programs.proofs.Kit.{Bool, false, if◌then◌else◌, length, List, lit<, lit≤, map, nat_lt, refl, sym, true}
+use Rattle.ed_programs.proofs.Kit.{ℕ, ◌*◌, ◌+◌, ◌-◌, ◌<◌, ◌∷◌, ◌≡◌, lt-ltb, ltb-true, Text, Frame, Moment, short}
+use Rattle.ed_programs.proofs.Kit.{state, A, on, Path, stay, own, settings, parameter_store, digits, print_orders}
+use Rattle.ed_programs.proofs.Kit.{few_digits, ReachesStop, entry_state, digits_printed, SourceRuns, HasRead}
+use Rattle.ed_programs.proofs.Kit.{reads_number, are_small, data_mark, number_rows, stops_from_entry, Marked}
 use Rattle.std.specs.Fmt.{decimal}
+use Rattle.ed_programs.specs.Difference.{difference_orders, difference_text, distance}
+use Rattle.ed_programs.specs.declared.difference.TheConstants.{DIFFERENCE}
+use Rattle.ed_programs.proofs.Kit.{to, calling, stop_counted, HasPair, pair_after, pair_at_entry}
+use Rattle.ed_programs.proofs.SourceRuns.{lines_of_pieces, program_runs}
 
 -- the pieces of the source, and the numbers between them
 abbrev difference_pieces : List Text
@@ -49,7 +46,7 @@ module _ (z : Size) (m : Moment) where
       → (scrap : ℕ) × Path f (4 + (if smaller then 3 else 0)) (at 6 words 0 b a 0 []) []
       (at 13 words 0 (distance a b) a scrap [])
   apart words a b first second true is =
-      let less = lt_of b a is in (
+      let less = ltb-true b a is in (
         131072 - (a - b),
         on (A 6 (own 16) (short b) refl (omega arith))
             (on (S 7 (own 17) (short (131072 - (a - b))) refl (omega arith))
@@ -60,7 +57,7 @@ module _ (z : Size) (m : Moment) where
             (on (T 12 (own 16) _ refl refl) stay)))))),
       )
   apart words a b first second false is =
-      let least = not_lt_of b a is in (
+      let least = ltb-false b a is in (
         0,
         on (A 6 (own 16) (short b) refl (omega arith))
             (on (S 7 (own 17) (short (distance a b)) refl (omega arith))
@@ -70,7 +67,7 @@ module _ (z : Size) (m : Moment) where
 
   -- the two numbers are read, the difference is printed, and the machine stops
   stops : HasPair f m.words 76 100 16 16 → (a b : ℕ) → a < 65536 → b < 65536 → (done : ℕ)
-      → ComesToStop (13 * length (digits a) + 13 * length (digits b) + (if nat_lt b a then 3 else 0)
+      → ReachesStop (13 * length (digits a) + 13 * length (digits b) + (if nat_lt b a then 3 else 0)
       + print_orders (distance a b) + 34)
       (state f (at 0 m.words 0 0 0 0 (number_rows (a ∷ b ∷ []))) done) (11 ∷ digits (distance a b)) 72
   stops o a b first second done =
@@ -100,7 +97,7 @@ module _ (z : Size) (m : Moment) where
 
 module _ (a b : ℕ) (first : a < 65536) (second : b < 65536) where
   two_small : are_small (a ∷ b ∷ []) ≡ true
-  two_small = let x = lt_true a 65536 first in let y = lt_true b 65536 second in rw (x, y) refl
+  two_small = let x = lt-ltb a 65536 first in let y = lt-ltb b 65536 second in rw (x, y) refl
 
   -- the line with data
   abbrev marks : List (Marked true)

@@ -1,20 +1,14 @@
 -- A call of `divide` as one line: the three words are cells of the piece, and it writes two of them.
-use Rattle.ed_sources.proofs.Kit.{place_count, IsOutside, Stands}
-use Rattle.ed_programs.proofs.Kit.{◌≡◌, ℕ, ◌+◌, ◌*◌, ◌/◌, ◌%◌, ◌<◌, ◌≤◌, Bool, false, [], ◌≢◌, ◌⊎◌, List, length, sym}
-use Rattle.ed_programs.proofs.Kit.{get_or, refl, ap, ◌∙◌, subst, inl, inr, arith, cases_lt, locations, A_F, short_at}
-use Rattle.ed_programs.proofs.Kit.{State, short, state, Frame, Moment, divide_orders, set, length-set, get_or-set_other}
-use Rattle.ed_programs.proofs.Kit.{get_or-set_same, most, any, own, get_own, HasRoutine, IsIn, Journey, divide}
-use Rattle.ed_programs.proofs.Kit.{with_hnm}
-use Rattle.ed_library.specs.Routines.{is_working}
+use Rattle.ed_programs.proofs.Kit.{get_or-set_other, get_or-set_same, length-set, A_F, is_working, set, all_long}
+use Rattle.ed_programs.proofs.Kit.{beside_word, called, IsIn, Journey, stands, Jumps, Reads, any, get_own, [], ap}
+use Rattle.ed_programs.proofs.Kit.{arith, Bool, false, get_or, inl, inr, length, List, refl, subst, sym, ℕ, ◌%◌, ◌*◌}
+use Rattle.ed_programs.proofs.Kit.{◌+◌, ◌/◌, ◌<◌, ◌∙◌, ◌≡◌, ◌≢◌, ◌≤◌, ◌⊎◌, cases_lt, locations, locations_most, short_at, State}
+use Rattle.ed_programs.proofs.Kit.{Frame, Moment, short, state, own, place_count, IsOther, IsLoadedAt, HasRoutine}
+use Rattle.ed_programs.proofs.Kit.{divide, divide_orders, with_hnm}
+use Rattle.ed_maths.proofs.Kit.{length_patched, IsOutside, within_size, dividend}
 use Rattle.ed_machine.proofs.Kit.Frames.{all_words}
-use Rattle.ed_machine.proofs.Kit.Moves.{Jumps, Reads}
-use Rattle.ed_machine.proofs.Kit.Window.{length_patched}
-use Rattle.ed_routines.specs.Returns.{IsOther}
-use Rattle.ed_routines.proofs.Called.{within_size}
-use Rattle.ed_maths.specs.Quotients.{dividend}
-use Rattle.ed_maths.proofs.DivideCall as divide_call
 use Rattle.ed_programs.proofs.Changes.{after_change, changes, still_has}
-use Rattle.ed_routines.proofs.Journeys.{all_long, beside_word, called, stands}
+use Rattle.ed_maths.proofs.DivideCall as divide_call
 
 -- the words of the division: cells jh, jl and jy of a piece of n, with the numbers in them; and the store's digits
 pub record IsDivided (n : ℕ) (r : Moment) (jh jl jy high low by : ℕ) : Type 0 where
@@ -73,10 +67,10 @@ module _ {n h : ℕ} {f : Frame n h} (r : Moment) (o : IsIn f (flat r)) where
     apart_cells : (j k : ℕ) → j ≢ k → f.base + j ≢ f.base + k
     apart_cells j k other e = other (omega (arith, e))
 
-    there : (done : ℕ) → Stands divide (with_hnm (f.base + jh) (f.base + jl) (f.base + jy)) w (t done)
+    there : (done : ℕ) → IsLoadedAt divide (with_hnm (f.base + jh) (f.base + jl) (f.base + jy)) w (t done)
     there done = stands o i done room has
 
-    dividing : (done : ℕ) → Stands divide (with_hnm (f.base + jh) (f.base + jl) (f.base + jy)) w (t done)
+    dividing : (done : ℕ) → IsLoadedAt divide (with_hnm (f.base + jh) (f.base + jl) (f.base + jy)) w (t done)
         → divide_call.CallsDivide w (f.base + jh) (f.base + jl) (f.base + jy) (locations f.size) (t done)
     dividing done stand =
         let is_high = own_is done jh high d.in_high d.is_high in
@@ -136,7 +130,7 @@ module _ {n h : ℕ} {f : Frame n h} (r : Moment) (o : IsIn f (flat r)) where
           | inl less ↦ inr (λ e. absurd (omega (arith, e, less)))
           | inr least ↦ elim (cases_lt b a) [
             | inl less ↦ inr (λ e. absurd (omega (arith, e, less)))
-            | inr most ↦ inl (omega arith)
+            | inr locations_most ↦ inl (omega arith)
           ]
         ]
 
@@ -186,7 +180,7 @@ module _ {n h : ℕ} {f : Frame n h} (r : Moment) (o : IsIn f (flat r)) where
         (i + 1) 27 (any w has.reached)
         → HasDivided i w jh jl (65536 * high + low) by
     divide_line clear first second =
-        let size = most f.size in
+        let size = locations_most f.size in
         let under = has.fits in
         let first_long = length-set r.cells jh (x % by) in
         let long = length-set (set r.cells jh (x % by)) jl (x / by) in

@@ -1,15 +1,11 @@
 -- Lines whose locations are after those of all earlier lines have no fault.
-use Rattle.ed_sources.proofs.Kit.{arith, locations, Text, Size, Definition}
-use Rattle.std.specs.Prelude.{is_none, ◌≡◌, ℕ, ◌+◌, ◌≤◌, Bool, true, false, List, refl, length, Option, Some, None}
-use Rattle.ed_library.specs.Routines.{find}
-use Rattle.ed_syntax.specs.Parts.{array}
+use Rattle.ed_programs.proofs.Kit.{Size, array, Definition, are_below, ExtentList, past, place_on, even_from, arith}
+use Rattle.ed_programs.proofs.Kit.{Bool, false, length, List, None, Option, refl, Some, true, ℕ, ◌+◌, ◌≡◌, ◌≤◌}
+use Rattle.ed_programs.proofs.Kit.{locations, Text, counter, said}
+use Rattle.ed_link.proofs.Kit.{is_none, find, routine_places, cause_of, sets}
 use Rattle.ed_syntax.specs.declared.program.Setting.{Setting}
+use Rattle.ed_link.proofs.Extents.{list_any-apart, fits_store}
 use Rattle.ed_syntax.specs.declared.program.Statement.TheVariants as statements
-use Rattle.ed_symbols.specs.Names.{place_on}
-use Rattle.ed_symbols.specs.Places.{even_from, routine_places}
-use Rattle.ed_sources.proofs.Said.{said}
-use Rattle.ed_link.specs.FaultTests.{cause_of, sets}
-use Rattle.ed_link.proofs.Extents.{ExtentList, apart, are_below, fits_store, past, counter}
 
 -- ---- lines after a program: a block of words, a routine of the library, and the entry
 
@@ -20,7 +16,7 @@ module _ (z : Size) (symbols : List Definition) (extents : ExtentList) where
   block_sound l p b g label rows low fits below =
       let s = fits_store (locations z) p (p + length rows) low fits in
       let loader = s.loader in let parameters = s.parameters in let store = s.store in
-      let others = apart p p (p + length rows) extents (omega arith) below in
+      let others = list_any-apart p p (p + length rows) extents (omega arith) below in
       rw (loader, parameters, store, others) refl
 
   pub use_sound : (l p b g : ℕ) (inside : Bool) (routine name : Text) (settings : List Setting) → 56 ≤ p
@@ -31,12 +27,14 @@ module _ (z : Size) (symbols : List Definition) (extents : ExtentList) where
   use_sound l p b g true routine name settings low fits below known set =
       let s = fits_store (locations z) (even_from p) (even_from p + routine_places (find routine)) (omega arith) fits in
       let loader = s.loader in let parameters = s.parameters in let store = s.store in
-      let others = apart p (even_from p) (even_from p + routine_places (find routine)) extents (omega arith) below in
+      let others = list_any-apart p (even_from p) (even_from p + routine_places (find routine)) extents
+      (omega arith) below in
       rw (loader, parameters, store, others, known, set) refl
   use_sound l p b g false routine name settings low fits below known set =
       let s = fits_store (locations z) (even_from p) (even_from p + routine_places (find routine)) (omega arith) fits in
       let loader = s.loader in let parameters = s.parameters in let store = s.store in
-      let others = apart p (even_from p) (even_from p + routine_places (find routine)) extents (omega arith) below in
+      let others = list_any-apart p (even_from p) (even_from p + routine_places (find routine)) extents
+      (omega arith) below in
       rw (loader, parameters, store, others, known, set) refl
 
   pub enter_sound : (l q b g e : ℕ) (name : Text) → place_on symbols None name ≡ Some e → 56 ≤ e → e + 1 ≤ locations z
@@ -46,5 +44,5 @@ module _ (z : Size) (symbols : List Definition) (extents : ExtentList) where
   enter_sound l q b g e name place low fits below =
       let s = fits_store (locations z) e (e + 1) low fits in
       let loader = s.loader in let parameters = s.parameters in let store = s.store in
-      let others = apart q q q extents (omega arith) below in
+      let others = list_any-apart q q q extents (omega arith) below in
       rw (place, loader, parameters, store, others) refl

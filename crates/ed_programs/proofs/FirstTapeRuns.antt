@@ -1,17 +1,16 @@
 -- The outcome of a tape of May 1949 whose program reaches its stop, as the answer of the command `tape1`.
-use Rattle.ed_programs.proofs.Kit.{◌≡◌, ℕ, ◌+◌, ◌-◌, ◌≤◌, Bool, true, false, [], List, ◌∷◌, ◌++◌, length, nat_lt, None}
-use Rattle.ed_programs.proofs.Kit.{nat_le, Ok, codes, sym, refl, ◌∙◌, subst, inl, arith, Text, list_all, and_parts, Err}
-use Rattle.ed_programs.proofs.Kit.{lt_of, paper, State, ComesToStop, at_after, step, Result, Global, Settings, Outcome}
-use Rattle.ed_programs.proofs.Kit.{INPUT_BYTES, ◌&&◌, run_end, paper_room, ran_outcome, String, le_of, reading, rows}
-use Rattle.ed_programs.proofs.Kit.{exactly, OfReading, answered, ran_to_stop, GivesProgram, Refusal}
-use Rattle.ed_notation.specs.Items.{AreDigits}
-use Rattle.ed_initial1.specs.Entry.{at_entry1}
-use Rattle.ed_initial1.specs.Faults.{Comes1, Tape}
-use Rattle.ed_initial1.specs.Items.{AreItems, Item1, item_number}
+use Rattle.ed_programs.proofs.Kit.{String, Global, Settings, at_entry1, Item1, Err, Result, rows, INPUT_BYTES, exactly}
+use Rattle.ed_programs.proofs.Kit.{OfReading, [], arith, Bool, codes, false, inl, length, List, nat_le, nat_lt, None}
+use Rattle.ed_programs.proofs.Kit.{Ok, refl, subst, sym, true, ℕ, ◌++◌, ◌+◌, ◌-◌, ◌∙◌, ◌∷◌, ◌≡◌, ◌≤◌, list_all}
+use Rattle.ed_programs.proofs.Kit.{and_parts, leb-true, ltb-true, Text, paper, step, State, run_end, ReachesStop}
+use Rattle.ed_programs.proofs.Kit.{at_after, ran_outcome-answered, ran_to_stop, ◌&&◌, reading, AreDigits, ReachesEntry1, Tape}
+use Rattle.ed_programs.proofs.Kit.{first_state1, Outcome, paper_room, ran_outcome, FirstTapeRuns, GivesProgram}
+use Rattle.ed_programs.proofs.Kit.{Refusal}
+use Rattle.ed_initial1.specs.Items.{AreItems, item_number}
 use Rattle.ed_answers.specs.FirstEntry.{cost1}
-use Rattle.ed_answers.specs.FirstOrders.{first_state1, tape1_outcome}
+use Rattle.ed_answers.specs.FirstOrders.{tape1_outcome}
 use Rattle.ed_answers.proofs.FirstEntries.{runs_from_31}
-use Rattle.ed_programs.specs.FirstTapes.{FirstTapePrints, FirstTapeRuns}
+use Rattle.ed_programs.specs.FirstTapes.{FirstTapePrints}
 
 -- ---- items, by one test
 
@@ -26,7 +25,7 @@ is_item i =
 are_digits : (ds : List ℕ) → list_all (λ d. nat_lt d 10) ds ≡ true → AreDigits ds
 are_digits [] h = tt
 are_digits (d ∷ ds) h =
-    let p = and_parts (nat_lt d 10) (list_all (λ d. nat_lt d 10) ds) h in (lt_of d 10 p.0, are_digits ds p.1)
+    let p = and_parts (nat_lt d 10) (list_all (λ d. nat_lt d 10) ds) h in (ltb-true d 10 p.0, are_digits ds p.1)
 
 pub are_items : (is : List Item1) → list_all is_item is ≡ true → AreItems is
 are_items [] h = tt
@@ -35,9 +34,9 @@ are_items (i ∷ is) h =
     let q = and_parts (nat_lt i.begun.function 32) _ p.0 in
     let r = and_parts (list_all (λ d. nat_lt d 10) i.begun.digits) _ q.1 in (
       record {
-        function = lt_of i.begun.function 32 q.0;
+        function = ltb-true i.begun.function 32 q.0;
         digits = are_digits i.begun.digits r.0;
-        fits = le_of (item_number i) 32767 r.1;
+        fits = leb-true (item_number i) 32767 r.1;
       },
       are_items is p.1,
     )
@@ -51,8 +50,8 @@ fresh tape_rows = refl
 
 -- a text that spells rows that give a program, which reaches its stop from its entry
 pub first_tape_runs : (s : Settings) (tape : Text) (tape_rows : List ℕ) (t : Tape) {k at : ℕ} {printed : List ℕ}
-    → reading tape ≡ rows tape_rows → length tape ≤ INPUT_BYTES → Comes1 tape_rows t
-    → ComesToStop k (at_entry1 (first_state1 tape_rows) t) printed at → length printed ≤ paper_room
+    → reading tape ≡ rows tape_rows → length tape ≤ INPUT_BYTES → ReachesEntry1 tape_rows t
+    → ReachesStop k (at_entry1 (first_state1 tape_rows) t) printed at → length printed ≤ paper_room
     → FirstTapeRuns s tape (cost1 t) (k + 1) at (paper printed)
 first_tape_runs s tape tape_rows t {k} {at} {printed} reads short o stops few =
     let first : State = first_state1 tape_rows in
@@ -76,7 +75,7 @@ first_tape_runs s tape tape_rows t {k} {at} {printed} reads short o stops few =
           let answer : tape1_outcome s tape_rows ≡ due =
           (runs_from_31 s tape_rows t o).runs (omega (arith, fits))
           ∙ (λ i. ran_outcome [] (run_end left (no_resumes i) paper_room entry))
-          ∙ answered [] (run_end left 0 paper_room entry) ended stops.counter count in
+          ∙ ran_outcome-answered [] (run_end left 0 paper_room entry) ended stops.counter count in
           inl (short, subst (λ r. OfReading (exactly (tape1_outcome s)) r due) (sym reads) answer);
     }
 

@@ -1,12 +1,13 @@
 -- The program of `examples/fraction.edsac`, at any base and for all its numbers: division as on paper.
-use Rattle.ed_programs.proofs.Kit.{◌≡◌, ℕ, suc, ◌+◌, ◌*◌, ◌/◌, ◌%◌, ◌<◌, ◌≤◌, [], List, ◌∷◌, ◌++◌, length, Some, refl}
-use Rattle.ed_programs.proofs.Kit.{◌∙◌, subst, inl, inr, append-nil, arith, lit<, lit≤, A_F, G_F, Z_F, short, Frame, A}
-use Rattle.ed_programs.proofs.Kit.{Moment, print, with_h, digits, print_orders, divide_orders, E_F, L_D, O_F, S_F, T_F}
-use Rattle.ed_programs.proofs.Kit.{U_F, most, E_jumps, G_stays, L, S, T, U, on, stay, Path, own, L1F, LD, get_own, read}
-use Rattle.ed_programs.proofs.Kit.{along, then, HasRoutine, IsIn, Journey, print_line, divide, with_hnm, HasRead}
+use Rattle.ed_programs.proofs.Kit.{A_F, E_F, G_F, L_D, O_F, S_F, T_F, U_F, Z_F, G_stays, L1F, after_call, along}
+use Rattle.ed_programs.proofs.Kit.{elsewhere, has_after, IsIn, Journey, no_working, still_in, then, E_jumps, L, S, T}
+use Rattle.ed_programs.proofs.Kit.{U, LD, number_at, print_goes, print_left, print_line, get_own, [], append-nil}
+use Rattle.ed_programs.proofs.Kit.{arith, inl, inr, length, List, lit<, lit≤, refl, Some, subst, suc, ℕ, ◌%◌, ◌*◌, ◌+◌}
+use Rattle.ed_programs.proofs.Kit.{◌/◌, ◌<◌, ◌∙◌, ◌∷◌, ◌≡◌, ◌≤◌, locations_most, Frame, Moment, short, A, on, Path, stay, own}
+use Rattle.ed_programs.proofs.Kit.{print, read, with_h, digits, print_orders, HasRoutine, divide, divide_orders}
+use Rattle.ed_programs.proofs.Kit.{with_hnm, HasRead}
 use Rattle.ed_programs.proofs.Divides.{HasDivided, IsDivided, divide_line}
-use Rattle.ed_routines.proofs.Journeys.{after_call, elsewhere, has_after, no_working, still_in}
-use Rattle.ed_routines.proofs.Lines.{number_at, print_goes, print_left}
+use Rattle.ed_programs.proofs.Kit.{journey_counted}
 
 -- the cells that change
 pub record Work : Type 0 where
@@ -128,7 +129,7 @@ module _ (given : Given) where
   pub turn : (around : Moment) (k : Work) (m rest by : ℕ) → IsAround given around → k.number ≡ suc m → suc m < 65536
       → k.rest ≡ rest → k.divisor ≡ by → rest < by → by ≤ 6553 → 10 * rest / by < 10 → Turned around k m rest by
   turn around k m rest by o number few is_rest is_by less most_by digit =
-      let size = most f.size in let under = f.under in let fits = f.fits in
+      let size = locations_most f.size in let under = f.under in let fits = f.fits in
       let a = given.read_divide in let b = given.divide_print in
       let k1 : Work = record k { scrap = 0; number = m; low = 10 * rest; rest = 0 } in
       let first : Path f 12 (at around 15 k) [] (at around 27 k1) =
@@ -173,8 +174,6 @@ module _ (given : Given) where
       (omega arith) (lit≤ tt) refl refl refl in
       let now : Moment = record around2 { words = printed_words around2 29 k2 o2 v; last = Some (v % 10) } in
       let back : Path f 1 (at now 31 k2) [] (at now 15 k2) = on (E_jumps 31 (own 15) refl (lit< tt)) stay in
-      let sum : 12 + ((2 + divide_orders v) + ((2 + print_orders v) + 1)) ≡ 17 + divide_orders v + print_orders v =
-      omega arith in
       record {
         now = now;
         work = k2;
@@ -185,6 +184,5 @@ module _ (given : Given) where
         journey = subst (λ (codes : List ℕ). Journey f (17 + divide_orders v + print_orders v) (at around 15 k) codes
             (at now 15 k2))
             (append-nil (11 ∷ digits v))
-            (subst (λ n. Journey f n (at around 15 k) (11 ∷ digits v ++ []) (at now 15 k2)) sum
-            (then (along first) (then one.journey (then shown (along back)))));
+            (journey_counted (then (along first) (then one.journey (then shown (along back)))) (omega arith));
       }

@@ -1,20 +1,16 @@
 -- What the source of `examples/fraction.edsac` prints, for any fraction in range: its lines, its entry and its law.
-use Rattle.ed_sources.proofs.Kit.{length-replicate}
-use Rattle.ed_programs.proofs.Kit.{◌≡◌, ℕ, ◌+◌, ◌*◌, ◌/◌, ◌<◌, ◌≤◌, Bool, true, false, [], List, ◌∷◌, ◌++◌, length}
-use Rattle.ed_programs.proofs.Kit.{refl, append-nil, arith, lit≤, length-append, Size, lt_true, Line, print, with_h}
-use Rattle.ed_programs.proofs.Kit.{digits, print_orders, few_digits, ComesToStop, divide_orders, entry_state, settings}
-use Rattle.ed_programs.proofs.Kit.{parameter_store, Settings, read, divide, with_hnm, all_words, frame_at, moment_at}
+use Rattle.ed_programs.proofs.Kit.{Size, Settings, Line, all_words, frame_at, moment_at, [], append-nil, arith, length}
+use Rattle.ed_programs.proofs.Kit.{length-append, List, lit≤, map, refl, rules, true, ℕ, ◌*◌, ◌++◌, ◌+◌, ◌/◌, ◌<◌, ◌∷◌}
+use Rattle.ed_programs.proofs.Kit.{◌≡◌, ◌≤◌, lt-ltb, length-replicate, Text, settings, parameter_store, digits}
+use Rattle.ed_programs.proofs.Kit.{print_orders, few_digits, ReachesStop, divide_orders, entry_state, figure_orders}
 use Rattle.ed_programs.proofs.Kit.{SourceRuns, are_small, data_mark, number_rows, routine_after, stops_from_entry}
 use Rattle.ed_programs.proofs.Kit.{Marked}
-use Rattle.ed_programs.specs.Fraction.{figure_orders, fraction_orders, fraction_prints}
-use Rattle.ed_programs.specs.Fraction.{fraction_text}
+use Rattle.std.specs.Fmt.{decimal}
+use Rattle.ed_programs.specs.Fraction.{fraction_orders, fraction_prints, fraction_text}
+use Rattle.ed_programs.specs.declared.fraction.TheConstants.{FRACTION}
 use Rattle.ed_programs.proofs.FractionProgram.{Given, IsAround, Work, cells}
 use Rattle.ed_programs.proofs.FractionWhole.{all_shown, few_codes, figure_codes, fraction_stops, quotient_small}
 use Rattle.ed_programs.proofs.SourceRuns.{lines_of_pieces, program_runs}
-use Rattle.ed_programs.specs.declared.fraction.TheConstants.{FRACTION}
-use Rattle.ed_words.specs.Texts.{Text}
-use Rattle.std.proofs.Common.{map}
-use Rattle.std.specs.Fmt.{decimal}
 
 -- the pieces of the source, and the numbers between them
 abbrev fraction_pieces : List Text
@@ -29,7 +25,7 @@ module _ (u l n : ℕ) (first : u < 65536) (some : 1 ≤ l) (few : l ≤ 6553) (
 
   three_small : are_small three ≡ true
   three_small =
-      let x = lt_true u 65536 first in let y = lt_true l 65536 (omega arith) in let z = lt_true n 65536 third in
+      let x = lt-ltb u 65536 first in let y = lt-ltb l 65536 (omega arith) in let z = lt-ltb n 65536 third in
       rw (x, y, z) refl
 
   abbrev marks : List (Marked true)
@@ -53,15 +49,9 @@ module _ (u l n : ℕ) (first : u < 65536) (some : 1 ≤ l) (few : l ≤ 6553) (
 
     is_around : IsAround given (moment_at (entry_state z lines))
     unfolding settings parameter_store
-    is_around = record {
-      all = all_words z lines;
-      digits_long = length-replicate {A = Bool} 512 false;
-      reads = routine_after z lines refl (lit≤ tt) read 96 (with_h 89) refl (lit≤ tt) (lit≤ tt) (lit≤ tt);
-      divides = routine_after z lines refl (lit≤ tt) divide 120 (with_hnm 91 90 92) refl (lit≤ tt) (lit≤ tt) (lit≤ tt);
-      prints = routine_after z lines refl (lit≤ tt) print 162 (with_h 90) refl (lit≤ tt) (lit≤ tt) (lit≤ tt);
-    }
+    is_around = search (rules, all_words, length-replicate, routine_after)
 
-    ends : ComesToStop (13 * length (digits u) + 13 * length (digits l) + 13 * length (digits n) + divide_orders (u / l)
+    ends : ReachesStop (13 * length (digits u) + 13 * length (digits l) + 13 * length (digits n) + divide_orders (u / l)
         + print_orders (u / l) + figure_orders u l n + 52) (entry_state z lines)
         (11 ∷ digits (u / l) ++ 23 ∷ figure_codes u l n) 89
     unfolding settings

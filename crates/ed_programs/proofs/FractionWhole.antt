@@ -1,15 +1,17 @@
 -- The program of `examples/fraction.edsac` from its entry to its stop, and the figures that it prints.
-use Rattle.ed_programs.proofs.Kit.{◌≡◌, ℕ, zero, suc, ◌+◌, ◌*◌, ◌/◌, ◌%◌, ◌^◌, ◌<◌, ◌≤◌, [], List, ◌∷◌, ◌++◌, length, A}
-use Rattle.ed_programs.proofs.Kit.{Some, decimal, sym, refl, ap, ◌∙◌, subst, append_assoc, append-nil, arith, lit<, Z_F}
-use Rattle.ed_programs.proofs.Kit.{lit≤, Text, length-append, paper, short, state, Moment, digits, print_orders, mod-lt}
-use Rattle.ed_programs.proofs.Kit.{few_digits, ComesToStop, divide_orders, div-lt_iff_lt-mul, div-add-mod, paper_from}
-use Rattle.ed_programs.proofs.Kit.{Figures, G_jumps, O, S, T, Z, on, prints, stay, Path, own, along, stop_after, then}
-use Rattle.ed_programs.proofs.Kit.{to_stop, Journey, print_line, number_shown, reads_number, HasRead, number_rows}
+use Rattle.ed_programs.proofs.Kit.{div-lt_iff_lt-mul, mod-lt, div-add-mod, Z_F, Figures, O, Z, along, Journey}
+use Rattle.ed_programs.proofs.Kit.{stop_after, then, to_stop, S, T, prints, print_line, [], ap, append-nil}
+use Rattle.ed_programs.proofs.Kit.{append_assoc, arith, decimal, length, length-append, List, lit<, lit≤, refl, rules}
+use Rattle.ed_programs.proofs.Kit.{Some, subst, suc, sym, zero, ℕ, ◌%◌, ◌*◌, ◌++◌, ◌+◌, ◌/◌, ◌<◌, ◌^◌, ◌∙◌, ◌∷◌, ◌≡◌}
+use Rattle.ed_programs.proofs.Kit.{◌≤◌, Text, paper, Moment, short, state, A, G_jumps, on, Path, stay, own, digits}
+use Rattle.ed_programs.proofs.Kit.{print_orders, few_digits, ReachesStop, divide_orders, number_shown, paper_from}
+use Rattle.ed_programs.proofs.Kit.{figure_orders, HasRead, reads_number, number_rows}
 use Rattle.std.proofs.Math.Nat.{add-mul-div_left, add-mul-mod_self_left, mul_assoc, pow-succ'}
-use Rattle.ed_programs.specs.Fraction.{figure, figure_orders, figures}
+use Rattle.ed_programs.specs.Fraction.{figure, figures}
 use Rattle.ed_programs.proofs.Divides.{HasDivided, IsDivided, divide_line}
-use Rattle.ed_programs.proofs.FractionProgram.{Given, IsAround, Turned, Work, after_divide, after_print, after_read, at}
-use Rattle.ed_programs.proofs.FractionProgram.{in_at, number_is, printed_words, turn}
+use Rattle.ed_programs.proofs.FractionProgram.{Given, IsAround, Turned, Work, after_divide, after_print, after_read}
+use Rattle.ed_programs.proofs.FractionProgram.{at, in_at, number_is, printed_words, turn}
+use Rattle.ed_programs.proofs.Kit.{journey_counted, stop_counted}
 
 -- ---- division as on paper: the figure and what is left, by those of the place before
 
@@ -131,14 +133,9 @@ module _ (given : Given) where
             ∙ (let e : n + 1 ≡ suc n = omega arith in ap (λ i. 10 ^ i * u % l) e);
         by_is = t.by_is;
         journey =
-            let sum : (x : ℕ) → figure_orders u l n + (17 + divide_orders x + print_orders x)
-            ≡ figure_orders u l n + 17 + divide_orders x + print_orders x = λ x. omega arith in
             subst (λ x. Journey f (figure_orders u l n + 17 + divide_orders x + print_orders x) (at given around 15 k)
             (figure_codes u l n ++ 11 ∷ digits x) (at given t.now 15 t.work)) (figure_is u l n some)
-            (subst (λ i. Journey f i (at given around 15 k)
-            (figure_codes u l n ++ 11 ∷ digits (10 * left u l n some / l)) (at given t.now 15 t.work))
-            (sum (10 * left u l n some / l))
-            (then one.journey t.journey));
+            (journey_counted (then one.journey t.journey) (omega arith));
       }
 
   -- after the last figure
@@ -199,22 +196,7 @@ module _ (given : Given) where
 
   division : (around : Moment) (k : Work) (u l : ℕ) → IsAround given around → k.rest ≡ 0 → k.low ≡ u → k.divisor ≡ l
       → u < 65536 → 1 ≤ l → l ≤ 6553 → IsDivided 40 (at given around 10 k) 35 34 36 0 u l
-  division around k u l o clear low by small some few = record {
-    in_high = lit< tt;
-    in_low = lit< tt;
-    in_by = lit< tt;
-    high_low = λ e. absurd (omega (arith, e));
-    high_by = λ e. absurd (omega (arith, e));
-    low_by = λ e. absurd (omega (arith, e));
-    is_high = clear;
-    is_low = low;
-    is_by = by;
-    positive = some;
-    fits = omega (arith, few);
-    less = omega (arith, some);
-    small = small;
-    digits_long = o.digits_long;
-  }
+  division around k u l o clear low by small some few = search (rules, positive)
 
   divided : (around : Moment) (k : Work) (u l : ℕ) (o : IsAround given around) → k.rest ≡ 0 → k.low ≡ u → k.divisor ≡ l
       → u < 65536 → 1 ≤ l → l ≤ 6553 → HasDivided (at given around 10 k) (in_at given around 10 k o) 10 d 35 34 u l
@@ -249,7 +231,7 @@ module _ (given : Given) where
 
   ends : (around : Moment) (k : Work) (u l n : ℕ) → IsAround given around → k.number ≡ n → k.rest ≡ u % l
       → k.divisor ≡ l → 1 ≤ l → l ≤ 6553 → n < 65536 → (done : ℕ)
-      → ComesToStop (figure_orders u l n + 4) (state f (at given around 15 k) done) (figure_codes u l n ++ [])
+      → ReachesStop (figure_orders u l n + 4) (state f (at given around 15 k) done) (figure_codes u l n ++ [])
       (f.base + 33)
   ends around k u l n o number is_rest is_by some few small done =
       let all = reached around k u l n 0 o (number ∙ none_more n) (none_most n small) is_rest is_by
@@ -260,7 +242,7 @@ module _ (given : Given) where
 
   pub fraction_stops : (around : Moment) (k : Work) (u l n : ℕ) → IsAround given around
       → around.tape ≡ number_rows (u ∷ l ∷ n ∷ []) → k.rest ≡ 0 → u < 65536 → 1 ≤ l → l ≤ 6553 → n < 65536 → (done : ℕ)
-      → ComesToStop (13 * length (digits u) + 13 * length (digits l) + 13 * length (digits n) + divide_orders (u / l)
+      → ReachesStop (13 * length (digits u) + 13 * length (digits l) + 13 * length (digits n) + divide_orders (u / l)
       + print_orders (u / l) + figure_orders u l n + 52)
       (state f (at given around 0 k) done) (11 ∷ digits (u / l) ++ 23 ∷ figure_codes u l n) (f.base + 33)
   fraction_stops around k u l n o tape clear small_u some few_l small_n done =
@@ -281,24 +263,22 @@ module _ (given : Given) where
       (print_orders (u / l)) (figure_orders u l n)) done
     where
       joins : {many : ℕ} {t : Moment} → Journey f many (at given around 0 k) (11 ∷ digits (u / l) ++ 23 ∷ []) t
-          → ((done : ℕ) → ComesToStop (figure_orders u l n + 4) (state f t done) (figure_codes u l n ++ [])
+          → ((done : ℕ) → ReachesStop (figure_orders u l n + 4) (state f t done) (figure_codes u l n ++ [])
           (f.base + 33))
           → many + (figure_orders u l n + 4)
           ≡ 13 * length (digits u) + 13 * length (digits l) + 13 * length (digits n) + divide_orders (u / l)
           + print_orders (u / l) + figure_orders u l n + 52
           → (done : ℕ)
-          → ComesToStop (13 * length (digits u) + 13 * length (digits l) + 13 * length (digits n) +
+          → ReachesStop (13 * length (digits u) + 13 * length (digits l) + 13 * length (digits n) +
           divide_orders (u / l)
           + print_orders (u / l) + figure_orders u l n + 52)
           (state f (at given around 0 k) done) (11 ∷ digits (u / l) ++ 23 ∷ figure_codes u l n) (f.base + 33)
       joins {many} first rest count done =
-          subst (λ (codes : List ℕ). ComesToStop (13 * length (digits u) + 13 * length (digits l) + 13 *
+          subst (λ (codes : List ℕ). ReachesStop (13 * length (digits u) + 13 * length (digits l) + 13 *
           length (digits n)
           + divide_orders (u / l) + print_orders (u / l) + figure_orders u l n + 52)
           (state f (at given around 0 k) done)
           codes (f.base + 33))
           (append_assoc (11 ∷ digits (u / l)) (23 ∷ []) (figure_codes u l n ++ [])
           ∙ ap (λ (cs : List ℕ). 11 ∷ digits (u / l) ++ 23 ∷ cs) (append-nil (figure_codes u l n)))
-          (subst (λ i. ComesToStop i (state f (at given around 0 k) done)
-          ((11 ∷ digits (u / l) ++ 23 ∷ []) ++ (figure_codes u l n ++ [])) (f.base + 33)) count
-          (stop_after (first.leads done) refl (rest (done + many))))
+          (stop_counted (stop_after (first.leads done) refl (rest (done + many))) count)

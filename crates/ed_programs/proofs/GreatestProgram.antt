@@ -1,13 +1,12 @@
 -- The program of `examples/answer6.edsac`, at any base and for a list of any length: two orders go along the list.
-use Rattle.ed_programs.proofs.Kit.{◌≡◌, ℕ, ◌+◌, ◌-◌, ◌*◌, ◌<◌, ◌≤◌, Bool, true, false, [], List, ◌∷◌, length, get_or, A}
-use Rattle.ed_programs.proofs.Kit.{if◌then◌else◌, nat_lt, refl, ap, ◌∙◌, subst, inr, arith, lit<, lit≤, A_F, G_F, Z_F}
-use Rattle.ed_programs.proofs.Kit.{lt_of, short, state, Frame, Moment, print, with_h, digits, print_orders, ComesToStop}
-use Rattle.ed_programs.proofs.Kit.{S_F, T_F, U_F, not_lt_of, most, G_jumps, G_stays, S, T, U, Z, followed, on, stay}
-use Rattle.ed_programs.proofs.Kit.{Path, early, out, own, IsOutside, get_own, along, then, to_stop, HasRoutine, IsIn}
-use Rattle.ed_programs.proofs.Kit.{print_line}
+use Rattle.ed_programs.proofs.Kit.{A_F, G_F, S_F, T_F, U_F, Z_F, all_spent, quiet_walks, walked, G_stays, Z, IsOutside}
+use Rattle.ed_programs.proofs.Kit.{ltb-false, along, IsIn, then, to_stop, S, T, U, early, out, print_line, followed}
+use Rattle.ed_programs.proofs.Kit.{get_own, [], ap, arith, Bool, false, get_or, if◌then◌else◌, inr, length, List, lit<}
+use Rattle.ed_programs.proofs.Kit.{lit≤, nat_lt, refl, subst, true, ℕ, ◌*◌, ◌+◌, ◌-◌, ◌<◌, ◌∙◌, ◌∷◌, ◌≡◌, ◌≤◌}
+use Rattle.ed_programs.proofs.Kit.{ltb-true, locations_most, Frame, Moment, short, state, A, G_jumps, on, Path, stay, own, print}
+use Rattle.ed_programs.proofs.Kit.{with_h, digits, print_orders, HasRoutine, ReachesStop, greatest_of, rises}
 use Rattle.std.proofs.Common.{max}
-use Rattle.ed_programs.specs.Greatest.{greatest_of, rises}
-use Rattle.ed_machine.proofs.Kit.Loops.{all_spent, quiet_walks, walked}
+use Rattle.ed_programs.proofs.Kit.{stop_counted}
 
 -- the order that gets the word at q
 abbrev pub getting : ℕ → ℕ
@@ -86,9 +85,9 @@ most_is x (n ∷ ns) = by_test (λ y. most_is y ns) (nat_lt n x.most) refl
     by_test : ((y : Turning) → (walked next y ns).most ≡ max y.most (greatest_of ns)) → (b : Bool)
         → nat_lt n x.most ≡ b → (walked next (next_by b x n ns) ns).most ≡ max x.most (max n (greatest_of ns))
     by_test each true is =
-        let e = each (next_by true x n ns) in let less = lt_of n x.most is in omega (arith, e)
+        let e = each (next_by true x n ns) in let less = ltb-true n x.most is in omega (arith, e)
     by_test each false is =
-        let e = each (next_by false x n ns) in let least = not_lt_of n x.most is in omega (arith, e)
+        let e = each (next_by false x n ns) in let least = ltb-false n x.most is in omega (arith, e)
 
 module _ (given : Given) where
   open given use {f, e, p, around, above, all, at2, room}
@@ -117,7 +116,7 @@ module _ (given : Given) where
   raises : (q g t old : ℕ) → q + 1 ≤ e → t < 131072 → Path f 7 (at 7 t (getting q) (getting q) g old) []
       (at 14 (getting (q + 1)) (getting (q + 1)) (getting (q + 1)) g t)
   raises q g t old l few =
-      let b = most f.size in let fits = f.fits in let r = room in let second = at2 in
+      let b = locations_most f.size in let fits = f.fits in let r = room in let second = at2 in
       on (T 7 (own 22) _ refl refl)
       (on (A 8 (own 5) (short (getting q)) refl (omega arith))
       (on (A 9 (out 2 (early 2 above (lit< tt) all)) (short (getting (q + 1))) refl (omega arith))
@@ -131,11 +130,11 @@ module _ (given : Given) where
       → Path f 2 (at 14 (getting q) (getting q) (getting q) g t) []
       (before (record { q = q; left = compared ns; most = g; scrap = t }) ns)
   compares q g t [] ends from =
-      let b = most f.size in let fits = f.fits in let r = room in
+      let b = locations_most f.size in let fits = f.fits in let r = room in
       on (S 14 (own 21) (short 0) refl (omega arith))
       (on (G_stays 15 (own 0) refl (lit< tt)) stay)
   compares q g t (n ∷ ns) ends from =
-      let b = most f.size in let fits = f.fits in let r = room in
+      let b = locations_most f.size in let fits = f.fits in let r = room in
       on (S 14 (own 21) (short (131072 - 2 * length (n ∷ ns))) refl (omega arith))
       (on (G_jumps 15 (own 0) refl (omega arith)) stay)
 
@@ -148,8 +147,8 @@ module _ (given : Given) where
       → Fine (next_by b x n ns) ns
       × Path f (orders_by b) (before x (n ∷ ns)) [] (before (next_by b x n ns) ns)
   turn_by true x n ns is o =
-      let b = most f.size in let fits = f.fits in let r = room in let long = o.ends in let from = o.from in
-      let here = o.stand.0 in let few = o.stand.1 in let low = o.low in let less = lt_of n x.most is in
+      let b = locations_most f.size in let fits = f.fits in let r = room in let long = o.ends in let from = o.from in
+      let here = o.stand.0 in let few = o.stand.1 in let low = o.low in let less = ltb-true n x.most is in
       let outside : IsOutside f around.words x.q = record { below = omega arith; beside = inr from } in
       let t : ℕ = 131072 - (x.most - n) in (
         record { stand = o.stand.2; ends = omega arith; from = omega arith; small = left_small ns; low = low },
@@ -162,8 +161,8 @@ module _ (given : Given) where
             (compares (x.q + 1) x.most t ns (omega arith) (omega arith))),
       )
   turn_by false x n ns is o =
-      let b = most f.size in let fits = f.fits in let r = room in let long = o.ends in let from = o.from in
-      let here = o.stand.0 in let few = o.stand.1 in let low = o.low in let least = not_lt_of n x.most is in
+      let b = locations_most f.size in let fits = f.fits in let r = room in let long = o.ends in let from = o.from in
+      let here = o.stand.0 in let few = o.stand.1 in let low = o.low in let least = ltb-false n x.most is in
       let outside : IsOutside f around.words x.q = record { below = omega arith; beside = inr from } in (
         record { stand = o.stand.2; ends = omega arith; from = omega arith; small = left_small ns; low = few },
         followed
@@ -186,7 +185,7 @@ module _ (given : Given) where
 
   -- from the first number to the stop
   pub greatest_stops : (x : Turning) (ns : List ℕ) → Fine x ns → x.most ≡ 0 → (done : ℕ)
-      → ComesToStop (13 * length ns + 3 * rises 0 ns + print_orders (greatest_of ns) + 3)
+      → ReachesStop (13 * length ns + 3 * rises 0 ns + print_orders (greatest_of ns) + 3)
       (state f (before x ns) done) (11 ∷ digits (greatest_of ns)) (f.base + 20)
   greatest_stops x ns o none done =
       let went = loop x ns o in
@@ -200,10 +199,7 @@ module _ (given : Given) where
       let turns : all_spent orders next x ns ≡ 13 * length ns + 3 * rises 0 ns =
       spent_is x ns ∙ ap (λ m. 13 * length ns + 3 * rises m ns) none in
       let is : y.most ≡ greatest_of ns = most_is x ns ∙ ap (λ m. max m (greatest_of ns)) none ∙ omega arith in
-      let count : all_spent orders next x ns + 1 + (2 + print_orders y.most)
-      ≡ 13 * length ns + 3 * rises 0 ns + print_orders y.most + 3 = omega (arith, turns) in
-      subst (λ v. ComesToStop (13 * length ns + 3 * rises 0 ns + print_orders v + 3) (state f (before x ns) done)
+      subst (λ v. ReachesStop (13 * length ns + 3 * rises 0 ns + print_orders v + 3) (state f (before x ns) done)
       (11 ∷ digits v) (f.base + 20))
       is
-      (subst (λ k. ComesToStop k (state f (before x ns) done) (11 ∷ digits y.most) (f.base + 20)) count
-      (to_stop whole (Z 19 Z_F refl refl) done))
+      (stop_counted (to_stop whole (Z 19 Z_F refl refl) done) (omega (arith, turns)))

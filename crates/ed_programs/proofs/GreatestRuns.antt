@@ -1,20 +1,17 @@
 -- What the source of `examples/answer6.edsac` prints, for any eight numbers: its lines, its entry and its law.
-use Rattle.ed_programs.proofs.Kit.{◌≡◌, ℕ, ◌+◌, ◌*◌, ◌<◌, ◌≤◌, true, [], List, ◌∷◌, map, length, get_or, drop, nat_lt}
-use Rattle.ed_programs.proofs.Kit.{codes, decimal, refl, ap, ◌∙◌, subst, arith, lit<, lit≤, and_parts, Size, lt_of}
-use Rattle.ed_programs.proofs.Kit.{least, Line, print, with_h, digits, print_orders, few_digits, ComesToStop, settings}
-use Rattle.ed_programs.proofs.Kit.{entry_state, parameter_store, Settings, all_words, frame_at, moment_at, SourceRuns}
-use Rattle.ed_programs.proofs.Kit.{digits_printed, are_small, routine_after, stops_from_entry, Marked}
-use Rattle.ed_sources.proofs.AtEntry.{have_places, placed, word_at}
-use Rattle.ed_programs.specs.Greatest.{greatest_of, greatest_orders, greatest_text}
-use Rattle.ed_programs.specs.Greatest.{rises}
-use Rattle.ed_programs.proofs.GreatestProgram.{Given, Stand, Turning, cells, getting, greatest_stops}
+use Rattle.ed_programs.proofs.Kit.{Size, Settings, Line, all_words, have_places, placed, word_at, frame_at, moment_at}
+use Rattle.ed_programs.proofs.Kit.{[], ap, arith, codes, decimal, drop, get_or, length, List, lit<, lit≤, map, nat_lt}
+use Rattle.ed_programs.proofs.Kit.{refl, subst, true, ℕ, ◌*◌, ◌+◌, ◌<◌, ◌∙◌, ◌∷◌, ◌≡◌, ◌≤◌, and_parts, ltb-true, Text}
+use Rattle.ed_programs.proofs.Kit.{least, settings, parameter_store, print, with_h, digits, print_orders, few_digits}
+use Rattle.ed_programs.proofs.Kit.{ReachesStop, entry_state, digits_printed, greatest_of, rises, SourceRuns}
+use Rattle.ed_programs.proofs.Kit.{spread_pieces, are_small, routine_after, stops_from_entry, Marked}
+use Rattle.ed_programs.specs.Greatest.{greatest_orders, greatest_text}
+use Rattle.ed_programs.specs.declared.greatest.TheConstants.{GREATEST}
 use Rattle.ed_programs.proofs.DataLines.{listed, listed_is, small_at}
+use Rattle.ed_programs.proofs.GreatestProgram.{Given, Stand, Turning, cells, getting, greatest_stops}
 use Rattle.ed_programs.proofs.NumberLines.{plain_mark, word_mark}
 use Rattle.ed_programs.proofs.ProgramEntry.{words_from}
 use Rattle.ed_programs.proofs.SourceRuns.{lines_of_pieces, program_runs}
-use Rattle.ed_programs.specs.Programs.{spread_pieces}
-use Rattle.ed_programs.specs.declared.greatest.TheConstants.{GREATEST}
-use Rattle.ed_words.specs.Texts.{Text}
 
 -- the pieces of the source around eight numbers
 abbrev greatest_pieces : List Text
@@ -24,7 +21,7 @@ greatest_small : (ns : List ℕ) → are_small ns ≡ true → greatest_of ns < 
 greatest_small [] h = lit< tt
 greatest_small (n ∷ ns) h =
     let p = and_parts (nat_lt n 65536) (are_small ns) h in
-    let here = lt_of n 65536 p.0 in
+    let here = ltb-true n 65536 p.0 in
     let rest = greatest_small ns p.1 in
     omega arith
 
@@ -36,7 +33,7 @@ numbers_stand z lines fit q [] low high are small = tt
 numbers_stand z lines fit q (n ∷ ns) low high are small =
     let p = and_parts (nat_lt n 65536) (are_small ns) small in (
       word_at z lines fit q low (omega arith) ∙ ap (λ (xs : List ℕ). get_or xs 0 0) are,
-      lt_of n 65536 p.0,
+      ltb-true n 65536 p.0,
       numbers_stand z lines fit (q + 1) ns (omega arith) (omega arith) (ap (λ (xs : List ℕ). drop 1 xs) are) p.1,
     )
 
@@ -76,7 +73,7 @@ module _ (a b c d e f g h : ℕ) (small : are_small (a ∷ b ∷ c ∷ d ∷ e �
     unfolding settings
     stand = numbers_stand z lines refl 79 ns (lit≤ tt) (lit≤ tt) refl small
 
-    ends : ComesToStop (104 + 3 * rises 0 ns + print_orders (greatest_of ns) + 3) (entry_state z lines)
+    ends : ReachesStop (104 + 3 * rises 0 ns + print_orders (greatest_of ns) + 3) (entry_state z lines)
         (11 ∷ digits (greatest_of ns)) 76
     unfolding settings given
     ends =

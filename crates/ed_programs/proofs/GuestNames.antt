@@ -1,22 +1,22 @@
 -- A source that enters the checking routine is entered at the routine's base.
-use Rattle.ed_sources.proofs.Kit.{Definition, entry_of}
-use Rattle.ed_programs.proofs.Kit.{◌≡◌, ℕ, Bool, true, false, not, [], ◌||◌, List, ◌∷◌, ◌++◌, Some, if◌then◌else◌, None}
-use Rattle.ed_programs.proofs.Kit.{Option, unwrap_or, sym, refl, ap, ◌∙◌, subst, inl, inr, append_assoc, Size, Line}
-use Rattle.ed_programs.proofs.Kit.{Statement, symbols_of, ◌&&◌, true≢false, Enter, checker_base, EntersChecker}
-use Rattle.std.specs.Prelude.{option_map, is_some}
-use Rattle.std.specs.Str.{bytes_eq}
-use Rattle.std.proofs.lemmas.Slice.Eq.{bytes_eq-Decides}
-use Rattle.ed_syntax.specs.declared.program.Statement.TheVariants.{Segment, Order, Number, Text, Long, Fetch, Rows}
-use Rattle.ed_syntax.specs.declared.fault.SourceCause.TheVariants as causes
+use Rattle.ed_programs.proofs.Kit.{Size, Line, Statement, Enter, Fetch, bytes_eq, bytes_eq-Decides, Definition}
+use Rattle.ed_programs.proofs.Kit.{counter_after, place_on, [], ap, append_assoc, Bool, false, if◌then◌else◌, inl, inr}
+use Rattle.ed_programs.proofs.Kit.{List, None, not, Option, refl, Some, subst, sym, true, unwrap_or, ℕ, ◌++◌, ◌||◌}
+use Rattle.ed_programs.proofs.Kit.{◌∙◌, ◌∷◌, ◌≡◌, first_counter, entry_of, symbols_of, true≢false, ◌&&◌, checker_base}
+use Rattle.ed_programs.proofs.Kit.{EntersChecker}
+use Rattle.ed_link.proofs.Kit.{is_some, counter_from, after_statement, HasEnter, HasNoFault, on_line, entered_place}
+use Rattle.ed_link.proofs.Kit.{entry_from}
+use Rattle.ed_symbols.proofs.Kit.{defines_again, definition_of, line_definitions, symbols_from}
+use Rattle.std.proofs.Common.{option_map}
+use Rattle.std.proofs.lemmas.Bool.{false_from_ne_true}
+use Rattle.ed_syntax.specs.declared.program.Statement.TheVariants.{Segment, Order, Number, Text, Long, Rows}
+use Rattle.ed_symbols.specs.NameTests.{is_again}
+use Rattle.ed_symbols.specs.Names.{definition_place, is_definition_of, is_local, label_definition, as_list}
+use Rattle.ed_symbols.specs.Names.{statement_definition, same_segment}
 use Rattle.ed_symbols.specs.declared.location_counter.LocationCounter.{LocationCounter}
-use Rattle.ed_symbols.specs.Places.{first_counter, after_statement}
-use Rattle.ed_symbols.specs.Names.{line_definitions, definition_of, definition_place, symbols_from, is_definition_of}
-use Rattle.ed_symbols.specs.Names.{is_local, label_definition, as_list, statement_definition, place_on, same_segment}
-use Rattle.ed_symbols.specs.NameTests.{defines_again, is_again}
-use Rattle.ed_symbols.specs.NameFaults.{counter_after, counter_from}
-use Rattle.ed_symbols.proofs.AgainSentences.{s6}
-use Rattle.ed_link.specs.Faults.{HasEnter, HasNoFault, IsData, on_line}
-use Rattle.ed_link.specs.Linked.{entered_place, entry_from}
+use Rattle.ed_symbols.proofs.AgainSentences.{Ties-s6}
+use Rattle.ed_link.specs.Faults.{IsData}
+use Rattle.ed_syntax.specs.declared.fault.SourceCause.TheVariants as causes
 
 -- ---- the line that enters
 
@@ -92,10 +92,6 @@ or_false : (x y : Bool) → (x || y) ≡ false → y ≡ false
 or_false true y h = absurd (true≢false h)
 or_false false y h = h
 
-not_so : (b : Bool) → (b ≡ true → ⊥) → b ≡ false
-not_so true h = absurd (h refl)
-not_so false h = refl
-
 module _ (z : Size) (lines : List Line) (faultless : HasNoFault z lines) (c : EntersChecker lines) where
   -- no line before the one that enters is an `enter`
   none_ahead : HasEnter c.ahead → ⊥
@@ -118,7 +114,7 @@ module _ (z : Size) (lines : List Line) (faultless : HasNoFault z lines) (c : En
 
   -- the name that is entered is known, so it is not local
   is_global : is_local c.name ≡ false
-  is_global = not_so (is_local c.name) (λ e.
+  is_global = false_from_ne_true (is_local c.name) (λ e.
       faultless _ causes.LabelUnknown
       (on_line c.follows (inr (
         c.name,
@@ -146,10 +142,10 @@ module _ (z : Size) (lines : List Line) (faultless : HasNoFault z lines) (c : En
   new : is_some (definition_of None c.name (earlier ++ labels)) ≡ false
   new =
       let once : (defines_again earlier c.using counter ≡ true) → ⊥ =
-      λ t. faultless _ causes.LabelTwice (on_line c.stands ((s6 c.before c.using).says t)) in
+      λ t. faultless _ causes.LabelTwice (on_line c.stands ((Ties-s6 c.before c.using).says t)) in
       let again : is_again (earlier ++ labels) (statement_definition c.using.statement counter) ≡ false =
       or_false (is_again earlier (label_definition c.using.label c.using.statement counter)) _
-      (not_so (defines_again earlier c.using counter) once) in
+      (false_from_ne_true (defines_again earlier c.using counter) once) in
       sym (ap (is_again (earlier ++ labels)) names) ∙ again
 
   abbrev later : List Definition

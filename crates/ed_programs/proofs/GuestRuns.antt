@@ -1,24 +1,20 @@
 -- What the command `run` answers to a source that enters the checking routine.
-use Rattle.ed_sources.proofs.Kit.{string_bytes, cost, AnswersFromEntry}
-use Rattle.ed_laws.proofs.Kit.{IsAcceptedAs}
-use Rattle.ed_programs.proofs.Kit.{◌≡◌, ℕ, zero, suc, ◌+◌, ◌<◌, ◌≤◌, List, length, None, Ok, sym, subst, inl, arith}
-use Rattle.ed_programs.proofs.Kit.{Text, locations, paper, State, Line, symbols_of, ComesToStop, entry_state, Err, most}
-use Rattle.ed_programs.proofs.Kit.{run_outcome, Result, Global, Settings, OfSource, state_after, paper_room, String}
-use Rattle.ed_programs.proofs.Kit.{checker_base, entry_guest, EntersChecker, GivesProgram, SourceRuns, Refusal}
-use Rattle.ed_machine.proofs.Steps.{no_step}
-use Rattle.ed_syntax.specs.Sources.{IsProgram}
-use Rattle.ed_link.specs.Linked.{operand_number}
-use Rattle.ed_checker.specs.Checker.{IsAllowed, checked_codes, checked_orders, guest, planting_place}
-use Rattle.ed_checker.specs.Laws.{HasGuest, IsFollowed}
+use Rattle.ed_programs.proofs.Kit.{String, Global, no_step, Settings, Line, Err, Result, IsProgram, operand_number}
+use Rattle.ed_programs.proofs.Kit.{checked_codes, HasGuest, checked_orders, IsAllowed, arith, inl, length, List, None}
+use Rattle.ed_programs.proofs.Kit.{Ok, rules, string_bytes, subst, suc, sym, zero, ℕ, ◌+◌, ◌<◌, ◌≡◌, ◌≤◌, locations}
+use Rattle.ed_programs.proofs.Kit.{Text, locations_most, paper, State, state_after, symbols_of, cost, ReachesStop, guest}
+use Rattle.ed_programs.proofs.Kit.{entry_state, AnswersFromEntry, run_outcome, accepted_is, each_answer_is_from_entry}
+use Rattle.ed_programs.proofs.Kit.{stopped_outcome, IsAcceptedAs, paper_room, OfSource, checked_text, checker_base}
+use Rattle.ed_programs.proofs.Kit.{EntersChecker, entry_guest, stopped_orders, StopsAtZ, GivesProgram, SourceRuns}
+use Rattle.ed_programs.proofs.Kit.{Refusal}
+use Rattle.ed_checker.specs.Checker.{planting_place}
+use Rattle.ed_checker.specs.Laws.{IsFollowed}
 use Rattle.ed_checker.proofs.Follow.{checker_law}
 use Rattle.ed_sources.proofs.CheckedPaper.{checks_to_stop}
 use Rattle.ed_sources.proofs.Stops.{comes_to_stop}
-use Rattle.ed_answers.proofs.Sources.{accepted_is, each_answer_is_from_entry}
-use Rattle.ed_sources.proofs.Stopped.{stopped_outcome}
 use Rattle.ed_laws.specs.BlockedGuests.{IsBlockedAt, RunsToBlock, blocked_codes, orders_to_block}
 use Rattle.ed_laws.proofs.Theorems.{blocked_guests}
-use Rattle.ed_programs.specs.Guests.{ChecksGuest, StopsAtZ, EachGuestIsChecked, ChecksItsGuest, checked_text}
-use Rattle.ed_programs.specs.Guests.{stopped_orders}
+use Rattle.ed_programs.specs.Guests.{ChecksGuest, EachGuestIsChecked, ChecksItsGuest}
 use Rattle.ed_programs.proofs.GuestNames.{entry_is}
 use Rattle.ed_programs.proofs.GuestStands.{guest_is, has_guest}
 use Rattle.ed_programs.proofs.GuestTexts.{enters_from_main, source_short}
@@ -29,19 +25,11 @@ use Rattle.ed_programs.proofs.GuestTexts.{enters_from_main, source_short}
 record HasChecked (base q : ℕ) (m g : State) : Type 0 where
   count : ℕ
   exact : count + 17 ≡ checked_orders g (suc q)
-  comes : ComesToStop count m (checked_codes g (suc q)) (base + planting_place + 1)
+  comes : ReachesStop count m (checked_codes g (suc q)) (base + planting_place + 1)
 
 checked_to_stop : (base q : ℕ) (m : State) → HasGuest base m → StopsAtZ base q (guest base m)
     → HasChecked base q m (guest base m)
-checked_to_stop base q m has z =
-    let c = checker_law.to_stop base q m has z.followed z.stops z.allowed in
-    let room = has.room in
-    let exact = c.exact in
-    record {
-      count = c.count;
-      exact = omega (arith, exact);
-      comes = comes_to_stop (checks_to_stop base (suc q) m c) (omega (arith, room));
-    }
+checked_to_stop base q m has z = search (rules, checker_law, comes_to_stop, checks_to_stop)
 
 -- the guest's first order is in the store
 first_below : (base q : ℕ) (g : State) → IsFollowed base q g → IsAllowed base (state_after q g)
@@ -68,7 +56,7 @@ module _ (s : Settings) (source : Text) (lines : List Line) (c : EntersChecker l
   first_low : (q : ℕ) → IsFollowed base q g → IsAllowed base (state_after q g)
       → operand_number (symbols_of lines) None c.first < 1024
   first_low q followed last =
-      let size = most s.size in let next = first_below base q g followed last in omega (arith, next, size)
+      let size = locations_most s.size in let next = first_below base q g followed last in omega (arith, next, size)
 
   -- the guest of the machine is the guest of the source
   stopped : (q : ℕ) → StopsAtZ base q g → HasChecked base q m g

@@ -1,21 +1,18 @@
 -- A guest of three lines, for which everything that the law requires is shown: it prints A and stops.
-use Rattle.ed_sources.proofs.Kit.{placed_at, program_of}
-use Rattle.ed_laws.proofs.Kit.{function_of, kind_of_function, O, next_word, obey_word, codes_of, is_obeyed, stops_of}
-use Rattle.ed_laws.proofs.Kit.{progress, Printed}
-use Rattle.ed_programs.proofs.Kit.{◌≡◌, ℕ, zero, suc, ◌+◌, ◌-◌, ◌*◌, ◌/◌, ◌^◌, ◌<◌, ◌≤◌, true, false, [], List, ◌∷◌, Ok}
-use Rattle.ed_programs.proofs.Kit.{◌++◌, length, take, Some, None, codes, unwrap_or, sym, refl, ap, ◌∙◌, subst, inl}
-use Rattle.ed_programs.proofs.Kit.{arith, lit<, lit≤, Text, A_F, Z_F, Size, least, paper, short_at, State, line_of, pos}
-use Rattle.ed_programs.proofs.Kit.{Line, fault, text_of_lines, step, settings, parameter_store, state_after, Full}
-use Rattle.ed_programs.proofs.Kit.{Small, Enter, entry_guest, EntersChecker, SourceRuns, Marked}
+use Rattle.ed_programs.proofs.Kit.{A_F, Z_F, Size, Full, Small, no_step, Line, Label, Enter, Fetch, checked_codes}
+use Rattle.ed_programs.proofs.Kit.{checked_orders, IsAllowed, placed, word_at, [], ap, arith, codes, false, inl}
+use Rattle.ed_programs.proofs.Kit.{length, List, lit<, lit≤, None, Ok, pos, refl, rules, Some, subst, suc, sym, take}
+use Rattle.ed_programs.proofs.Kit.{true, unwrap_or, zero, ℕ, ◌*◌, ◌++◌, ◌+◌, ◌-◌, ◌/◌, ◌<◌, ◌^◌, ◌∙◌, ◌∷◌, ◌≡◌, ◌≤◌}
+use Rattle.ed_programs.proofs.Kit.{Text, least, paper, short_at, step, State, progress, state_after, placed_at}
+use Rattle.ed_programs.proofs.Kit.{settings, line_of, program_of, parameter_store, fault, read_is_accepted}
+use Rattle.ed_programs.proofs.Kit.{text_of_lines, is_obeyed, stops_of, EntersChecker, entry_guest, stopped_orders}
+use Rattle.ed_programs.proofs.Kit.{StopsAtZ, use_check, SourceRuns, Marked}
+use Rattle.ed_checker.proofs.Kit.{function_of, kind_of_function, next_word, obey_word, codes_of, IsAllowedOrder}
+use Rattle.ed_checker.proofs.Kit.{orders_by}
+use Rattle.ed_orders.specs.declared.kind.Kind.TheVariants.{O}
+use Rattle.ed_machine.specs.declared.turn.Turn.TheVariants.{Printed, Stopped}
 use Rattle.ed_machine.proofs.Kit.Leads.{first_order}
-use Rattle.ed_machine.specs.declared.turn.Turn.TheVariants.{Stopped}
-use Rattle.ed_machine.proofs.Steps.{no_step}
-use Rattle.ed_syntax.specs.declared.program.Operand.TheVariants.{Label}
-use Rattle.ed_syntax.specs.declared.program.Statement.TheVariants.{Fetch}
-use Rattle.ed_answers.proofs.EachSource.{read_is_accepted}
-use Rattle.ed_checker.specs.Checker.{IsAllowed, IsAllowedOrder, checked_codes, checked_orders, orders_by}
-use Rattle.ed_sources.proofs.AtEntry.{placed, word_at}
-use Rattle.ed_programs.specs.Guests.{SampleIsChecked, StopsAtZ, use_check, stopped_orders}
+use Rattle.ed_programs.specs.Guests.{SampleIsChecked}
 use Rattle.ed_programs.proofs.GuestRuns.{each_guest}
 use Rattle.ed_programs.proofs.SourceLines.{lines_said, source_read, source_said}
 
@@ -154,11 +151,7 @@ module _ (z : Size) where
   after_first = ap (λ (x : State). (step x).turn) second_is ∙ second_turn
 
   stops : StopsAtZ 60 1 g
-  stops = record {
-    followed = record { allowed = allowed; obeyed = obeyed };
-    stops = record { free = obeyed; no_stops = no_stops; stops = after_first };
-    allowed = subst (IsAllowed 60) (sym second_is) second_allowed;
-  }
+  stops = search (rules, allowed, obeyed, no_stops, after_first, second_is, second_allowed)
 
   -- ---- what is printed, and in how many orders
 

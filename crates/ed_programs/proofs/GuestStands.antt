@@ -1,33 +1,28 @@
 -- At the entry of a source that enters the checking routine the routine is at the start of a turn, with the guest at H.
-use Rattle.ed_sources.proofs.Kit.{nat_eq, Item, image_word, cost}
-use Rattle.ed_laws.proofs.Kit.{tape, IsAcceptedAs}
-use Rattle.ed_programs.proofs.Kit.{◌≡◌, ℕ, ◌+◌, ◌*◌, ◌/◌, ◌%◌, ◌^◌, ◌<◌, ◌≤◌, Bool, true, false, ◌||◌, List, ◌++◌, map}
-use Rattle.ed_programs.proofs.Kit.{length, get_or, None, sym, refl, ap, ◌∙◌, subst, arith, lit<, Text, locations, A_F}
-use Rattle.ed_programs.proofs.Kit.{Size, short_at, State, Line, symbols_of, with_h, entry_state, parameter_store, most}
-use Rattle.ed_programs.proofs.Kit.{true≢false, first_state, canonicals, checker_base, entry_guest, EntersChecker}
-use Rattle.std.proofs.lemmas.List.{get_or-replicate}
+use Rattle.ed_programs.proofs.Kit.{A_F, Size, Item, Line, is_working, canonicals, entry, routine_word, table_item}
+use Rattle.ed_programs.proofs.Kit.{counter_after, operand_number, HasGuest, ap, arith, Bool, false, get_or, length}
+use Rattle.ed_programs.proofs.Kit.{List, lit<, map, nat_eq, None, refl, subst, sym, true, ℕ, ◌%◌, ◌*◌, ◌++◌, ◌+◌, ◌/◌}
+use Rattle.ed_programs.proofs.Kit.{◌<◌, ◌^◌, ◌||◌, ◌∙◌, ◌≡◌, ◌≤◌, locations, Text, locations_most, short_at, State, image_word}
+use Rattle.ed_programs.proofs.Kit.{parameter_store, symbols_of, cost, with_h, guest, entry_state, true≢false}
+use Rattle.ed_programs.proofs.Kit.{first_state, IsAcceptedAs, checker_base, EntersChecker, entry_guest}
+use Rattle.ed_link.proofs.Kit.{missing_row, data_after, first_place, punched_items, after_text}
 use Rattle.std.proofs.Math.ListN.{get_or-map}
+use Rattle.std.proofs.lemmas.List.{get_or-replicate}
 use Rattle.ed_words.specs.Words.{address_of, long_of_halves}
 use Rattle.ed_codes.proofs.Below.{from_below}
 use Rattle.ed_store.specs.Cells.{even, long_at, odd, sandwich_at}
 use Rattle.ed_machine.specs.Sound.{IsSound}
 use Rattle.ed_machine.proofs.SoundSteps.{sound_after}
-use Rattle.ed_library.specs.Entries.{entry}
-use Rattle.ed_library.specs.Images.{routine_word}
-use Rattle.ed_library.specs.Routines.{is_working, missing_row, routine_item, table_item}
-use Rattle.ed_symbols.specs.NameFaults.{counter_after}
 use Rattle.ed_notation.specs.Spellings.{text_of}
 use Rattle.ed_initial.proofs.Starts.{sound_start}
-use Rattle.ed_link.specs.Linked.{data_after, first_place, operand_number}
-use Rattle.ed_link.specs.Punch.{punched_items}
-use Rattle.ed_link.specs.Tapes.{after_text}
+use Rattle.ed_library.specs.Routines.{routine_item}
+use Rattle.ed_link.specs.Tapes.{tape}
 use Rattle.ed_link.specs.Words.{LinePlaces, words_of_line}
-use Rattle.ed_answers.proofs.PunchedTexts.{text_is_tape}
 use Rattle.ed_link.proofs.WordLaws.{each_word_stands}
+use Rattle.ed_checker.specs.Checker.{HasImage, check}
 use Rattle.ed_answers.proofs.Entries.{each_source}
 use Rattle.ed_answers.proofs.EntryWords.{each_entry_store_is}
-use Rattle.ed_checker.specs.Checker.{HasImage, check, guest}
-use Rattle.ed_checker.specs.Laws.{HasGuest}
+use Rattle.ed_answers.proofs.PunchedTexts.{text_is_tape}
 use Rattle.ed_programs.proofs.GuestNames.{entry_is}
 
 -- ---- the machine that is started on the tape of a source
@@ -128,7 +123,7 @@ module _ (z : Size) (source : Text) (lines : List Line) (accepted : IsAcceptedAs
   no_long : (k : ℕ) → k % 2 ≡ 0 → k + 1 < 66 → get_or (table_words h base) k 0 ≡ 0
       → get_or (table_words h base) (k + 1) 0 ≡ 0 → long_at m.store (base + k) ≡ 0
   no_long k by_two l low high =
-      let size = most z in
+      let size = locations_most z in
       let fits = room in
       let pair = even_base in
       let upper : odd (base + k) ≡ base + (k + 1) = omega (arith, pair, by_two) in

@@ -1,17 +1,15 @@
 -- The text of an accepted source is never too long for the program, and ends with the lines that its text ends with.
-use Rattle.ed_programs.proofs.Kit.{◌≡◌, ℕ, ◌+◌, ◌*◌, ◌≤◌, Bool, true, false, [], List, ◌∷◌, ◌++◌, length, ◌==◌, Some}
-use Rattle.ed_programs.proofs.Kit.{if◌then◌else◌, nat_le, None, Ok, codes, sym, refl, ap, ◌∙◌, subst, append_assoc, pos}
-use Rattle.ed_programs.proofs.Kit.{arith, lit≤, Text, length-append, and_parts, line_of, Line, text_of_lines, settings}
-use Rattle.ed_programs.proofs.Kit.{Result, INPUT_BYTES, le_of, le_true, Enter, EntersChecker}
-use Rattle.std.proofs.lemmas.Bool.{and_from}
-use Rattle.ed_syntax.specs.Lines.{HasLines, nothing, last, ended, lines_of, with_byte, without_return}
-use Rattle.ed_syntax.specs.Sources.{IsProgram, LinesSay, no_more, and_more}
-use Rattle.ed_syntax.specs.Reading.Sources.{Fault, and_lines, lines_from}
-use Rattle.ed_syntax.specs.declared.program.Operand.TheVariants.{Label}
+use Rattle.ed_programs.proofs.Kit.{and_lines, Line, Label, Enter, Result, Fault, IsProgram, INPUT_BYTES, [], ap}
+use Rattle.ed_programs.proofs.Kit.{append_assoc, arith, Bool, codes, false, if◌then◌else◌, length, length-append, List}
+use Rattle.ed_programs.proofs.Kit.{lit≤, nat_le, None, Ok, pos, refl, Some, subst, sym, true, ℕ, ◌*◌, ◌++◌, ◌+◌, ◌==◌}
+use Rattle.ed_programs.proofs.Kit.{◌∙◌, ◌∷◌, ◌≡◌, ◌≤◌, and_from, and_parts, le-leb, leb-true, Text, settings, line_of}
+use Rattle.ed_programs.proofs.Kit.{lines_from, text_of_lines, checked_text, EntersChecker, use_check}
+use Rattle.ed_syntax.proofs.Kit.{ended, HasLines, lines_of, with_byte, without_return, and_more, LinesSay, no_more}
+use Rattle.ed_syntax.specs.Lines.{nothing, last}
+use Rattle.ed_syntax.proofs.Lines.{empty_line}
 use Rattle.ed_syntax.proofs.SourceLaws.{lines_are_read, say_is_read}
-use Rattle.ed_programs.specs.Guests.{checked_text, use_check}
-use Rattle.ed_programs.proofs.SourceLines.{Says, ends, said_lines, says}
 use Rattle.ed_programs.proofs.Answered.{are_short}
+use Rattle.ed_programs.proofs.SourceLines.{Says, ends, said_lines, says}
 
 -- ---- how long it is
 
@@ -19,7 +17,7 @@ say_short : (two : Bool) (k : ℕ) (lines : List Text) (said : List Line) → Li
     → are_short lines ≡ true
 say_short two _ _ _ (no_more k) = refl
 say_short two _ _ _ (and_more k line lines f said s h) =
-    and_from _ _ (le_true (length line) 120 s.plain.short) (say_short two (k + 1) lines said h)
+    and_from _ _ (le-leb (length line) 120 s.plain.short) (say_short two (k + 1) lines said h)
 
 -- a line end has at most two bytes
 end_short : (line : Text) → length line ≤ length (without_return line) + 1
@@ -36,11 +34,11 @@ text_short : (text : Text) (lines : List Text) → HasLines text lines → are_s
 text_short _ _ nothing h = lit≤ tt
 text_short _ _ (last b bs plain) h =
     let p = and_parts (nat_le (length (b ∷ bs)) 120) true h in
-    let few = le_of (length (b ∷ bs)) 120 p.0 in
+    let few = leb-true (length (b ∷ bs)) 120 p.0 in
     omega (arith, few)
 text_short _ _ (ended line text lines plain more) h =
     let p = and_parts (nat_le (length (without_return line)) 120) (are_short lines) h in
-    let few = le_of (length (without_return line)) 120 p.0 in
+    let few = leb-true (length (without_return line)) 120 p.0 in
     let end = end_short line in
     let rest = text_short text lines more p.1 in
     let all = length-append line (10 ∷ text) in
@@ -61,25 +59,21 @@ record Ahead (text rest : Text) : Type 0 where
   more : List Text
   lines_are : lines_of text ≡ first ∷ (more ++ lines_of rest)
 
-first_feed : (rest : Text) → lines_of (10 ∷ rest) ≡ [] ∷ lines_of rest
-first_feed [] = refl
-first_feed (b ∷ bs) = refl
-
 lines_ahead : (front rest : Text) → Ahead (front ++ 10 ∷ rest) rest
-lines_ahead [] rest = record { first = []; more = []; lines_are = first_feed rest }
+lines_ahead [] rest = record { first = []; more = []; lines_are = empty_line rest }
 lines_ahead (b ∷ []) rest = by_tests (b == 10) (b == 13) refl refl
   where
     by_tests : (feed return : Bool) → (b == 10) ≡ feed → (b == 13) ≡ return → Ahead (b ∷ 10 ∷ rest) rest
     by_tests true return e r = record {
       first = [];
       more = [] ∷ [];
-      lines_are = rw e (ap (λ (ls : List Text). [] ∷ ls) (first_feed rest));
+      lines_are = rw e (ap (λ (ls : List Text). [] ∷ ls) (empty_line rest));
     }
     by_tests false true e r = record { first = []; more = []; lines_are = rw (e, r) refl }
     by_tests false false e r = record {
       first = b ∷ [];
       more = [];
-      lines_are = rw (e, r) (ap (with_byte b) (first_feed rest));
+      lines_are = rw (e, r) (ap (with_byte b) (empty_line rest));
     }
 lines_ahead (b ∷ c ∷ front) rest =
     by_tests (b == 10) (b == 13) (c == 10) refl refl refl (lines_ahead (c ∷ front) rest) (lines_ahead front rest)

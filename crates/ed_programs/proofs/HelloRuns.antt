@@ -1,33 +1,30 @@
 -- The source of `examples/hello.edsac` for any text: its lines, its path, and what it prints.
-use Rattle.ed_sources.proofs.Kit.{value, linked_words, counter}
-use Rattle.ed_programs.proofs.Kit.{◌≡◌, ℕ, ◌+◌, ◌-◌, ◌*◌, ◌<◌, ◌≤◌, true, false, [], List, ◌∷◌, ◌++◌, length, get_or, A}
-use Rattle.ed_programs.proofs.Kit.{take, Some, nat_lt, nat_le, None, Ok, codes, decimal, Option, refl, ap, ◌∙◌, subst}
-use Rattle.ed_programs.proofs.Kit.{inr, arith, lit<, lit≤, Text, length-append, list_all, length-map, G_F, Z_F, Size, O}
-use Rattle.ed_programs.proofs.Kit.{lt_false, least, paper, short, state, Frame, Moment, line_of, Line, Statement, fault}
-use Rattle.ed_programs.proofs.Kit.{symbols_of, newline, ComesToStop, entry_state, Settings, reverse, pos, Full, Small}
-use Rattle.ed_programs.proofs.Kit.{le_of, le_true, row_of, G_jumps, G_stays, S, T, U, Z, followed, on, prints, stay, to}
-use Rattle.ed_programs.proofs.Kit.{Path, early, out, own, IsOutside, row, along, then, to_stop, HasRoutine, IsIn}
-use Rattle.ed_programs.proofs.Kit.{all_words, frame_at, moment_at, is_capital, SourceRuns, Marked, printing, counted}
-use Rattle.ed_syntax.specs.Parts.{run, sign}
-use Rattle.ed_syntax.specs.declared.program.Operand.TheVariants as operands
-use Rattle.ed_syntax.specs.declared.program.Statement.TheVariants as statements
-use Rattle.ed_symbols.specs.NameTests.{resolution}
-use Rattle.ed_symbols.specs.Places.{even_from, first_counter}
-use Rattle.ed_link.specs.FaultTests.{extent, fault_from, missing, sooner}
-use Rattle.ed_routines.proofs.Lines.{newline_line}
+use Rattle.ed_programs.proofs.Kit.{G_F, Z_F, Size, Full, Small, G_stays, O, Z, IsOutside, Settings, Line, Statement}
+use Rattle.ed_programs.proofs.Kit.{ExtentList, past, even_from, extent, fault_from, along, IsIn, then, to_stop, S, T}
+use Rattle.ed_programs.proofs.Kit.{U, prints, early, out, newline_line, followed, all_words, frame_at, moment_at, []}
+use Rattle.ed_programs.proofs.Kit.{ap, arith, codes, decimal, false, get_or, inr, length, length-append, List, lit<}
+use Rattle.ed_programs.proofs.Kit.{lit≤, map, nat_le, nat_lt, None, Ok, Option, pos, refl, reverse, rules, Some, subst}
+use Rattle.ed_programs.proofs.Kit.{take, true, ℕ, ◌*◌, ◌++◌, ◌+◌, ◌-◌, ◌<◌, ◌∙◌, ◌∷◌, ◌≡◌, ◌≤◌, list_all, le-leb}
+use Rattle.ed_programs.proofs.Kit.{le-ltb, leb-true, length-map, value, Text, least, row_of, paper, Frame, Moment}
+use Rattle.ed_programs.proofs.Kit.{short, state, A, G_jumps, on, Path, stay, own, run, sign, row, line_of}
+use Rattle.ed_programs.proofs.Kit.{first_counter, fault, linked_words, symbols_of, counter, newline, HasRoutine}
+use Rattle.ed_programs.proofs.Kit.{ReachesStop, entry_state, said, hello_text, is_capital, of_letters, SourceRuns}
+use Rattle.ed_programs.proofs.Kit.{Marked}
+use Rattle.ed_link.proofs.Kit.{resolution, earlier_fault, missing}
+use Rattle.ed_link.proofs.Extents.{one_by_one}
 use Rattle.ed_sources.proofs.Blocks.{order_at}
-use Rattle.ed_sources.proofs.Said.{order, said, stop}
-use Rattle.ed_programs.specs.Hello.{EachTextIsPrinted, hello_orders, hello_text}
-use Rattle.ed_programs.specs.Hello.{of_letters}
+use Rattle.ed_sources.proofs.Said.{order, stop}
+use Rattle.ed_programs.specs.Hello.{EachTextIsPrinted, hello_orders}
+use Rattle.ed_programs.specs.declared.hello.TheConstants.{HELLO}
 use Rattle.ed_programs.proofs.Capitals.{are_rows, letters_shown}
-use Rattle.ed_link.proofs.Extents.{ExtentList, one_by_one, past}
+use Rattle.ed_programs.proofs.Kit.{to, printing, Path-counted}
 use Rattle.ed_programs.proofs.ProgramEntry.{stops_by}
 use Rattle.ed_programs.proofs.RowTexts.{is_row_byte, rows_spelled, text_rows}
 use Rattle.ed_programs.proofs.SourceRuns.{read_runs}
 use Rattle.ed_programs.proofs.TextLines.{IsAround, all_plain, number_says, text_mark}
 use Rattle.ed_programs.proofs.TextPrograms.{Spells, before_text, last_lines, newline_after, text_sound, text_stands}
-use Rattle.ed_programs.specs.declared.hello.TheConstants.{HELLO}
-use Rattle.std.proofs.Common.{map}
+use Rattle.ed_syntax.specs.declared.program.Operand.TheVariants as operands
+use Rattle.ed_syntax.specs.declared.program.Statement.TheVariants as statements
 
 -- the pieces of the source, and between them the number of rows and the bytes that spell them
 abbrev pub hello_pieces : List Text
@@ -86,14 +83,14 @@ module _ (z : Size) (around : Moment) (all : length around.words ≡ 1024) (seco
       let less : ℕ = 131072 - 2 * length (d ∷ ds) in
       let rest = loop d ds (q + 1) less left (Some c) o.2 (omega arith) (omega arith) (omega arith) in (
         rest.0,
-        counted (followed (step c q left scrap (printing (q + 1)) last o.0 o.1 from (omega arith) small refl)
+        Path-counted (followed (step c q left scrap (printing (q + 1)) last o.0 o.1 from (omega arith) small refl)
             (on (S 5 (own 11) (short less) refl (omega arith))
             (on (G_jumps 6 (own 0) refl (omega arith)) rest.1))) (omega arith),
       )
 
   stops : (has : HasRoutine f around.words newline w []) (c : ℕ) (cs : List ℕ) → Spells around.words 69 (c ∷ cs)
       → 69 + length (c ∷ cs) ≡ e → (done : ℕ)
-      → ComesToStop (length (c ∷ cs) * 7 + 8) (state f (at 0 0 (printing 69) 0 None) done) ((c ∷ cs) ++ 18 ∷ 24 ∷ []) 67
+      → ReachesStop (length (c ∷ cs) * 7 + 8) (state f (at 0 0 (printing 69) 0 None) done) ((c ∷ cs) ++ 18 ∷ 24 ∷ []) 67
   stops has c cs o long =
       let x = loop c cs 69 0 0 None o long (lit≤ tt) (lit< tt) in
       let here : IsIn f (at 8 0 (printing e) 0 x.0.1) = record { above = lit≤ tt; all = all; own = refl } in
@@ -141,7 +138,7 @@ number_line n few = record {
   tail_parts = refl;
   parts = λ t ps h. rw h refl;
   form = λ bytes number is.
-      let near : nat_le (value bytes) 1023 ≡ true = le_true (value bytes) 1023 (omega (arith, is, few)) in
+      let near : nat_le (value bytes) 1023 ≡ true = le-leb (value bytes) 1023 (omega (arith, is, few)) in
       rw (number, near, is) refl;
 }
 
@@ -154,12 +151,7 @@ module _ (rows : List ℕ) (few : length rows ≤ 41) where
   w = even_from (69 + length rows)
 
   named : (resolution lines).fault ≡ None
-  named =
-      let a : nat_lt (69 + length rows) 0 ≡ false = lt_false (69 + length rows) 0 (omega arith) in
-      let b : nat_lt 1023 (69 + length rows) ≡ false = lt_false 1023 (69 + length rows) (omega arith) in
-      let c : nat_lt (w + 0) 0 ≡ false = lt_false (w + 0) 0 (omega arith) in
-      let d : nat_lt 1023 (w + 0) ≡ false = lt_false 1023 (w + 0) (omega arith) in
-      rw (c, d, a, b) refl
+  named = search (rules, le-ltb)
 
   -- the extents of the lines before the text
   abbrev extents : ExtentList
@@ -173,14 +165,14 @@ module _ (rows : List ℕ) (few : length rows ≤ 41) where
 
   faultless : (z : Size) → fault z lines ≡ None
   faultless z =
-      (λ i. sooner (named i) (sooner (fault_from z (symbols_of lines) true (past []) first_counter lines)
+      (λ i. earlier_fault (named i) (earlier_fault (fault_from z (symbols_of lines) true (past []) first_counter lines)
       (missing true (length lines))))
-      ∙ ap (λ f. sooner None (sooner f None)) (placed_well z
+      ∙ ap (λ f. earlier_fault None (earlier_fault f None)) (placed_well z
       (text_sound z (symbols_of lines) extents 69 69 2 19 (codes "letters") (codes "n") (codes "main") rows (lit≤ tt)
       (omega arith) refl refl))
 
 ends : (c : ℕ) (cs : List ℕ) → length (c ∷ cs) ≤ 41 → list_all (λ c. nat_lt c 32) (c ∷ cs) ≡ true → (z : Size)
-    → ComesToStop (length (c ∷ cs) * 7 + 8) (entry_state z (hello_lines (c ∷ cs))) ((c ∷ cs) ++ 18 ∷ 24 ∷ []) 67
+    → ReachesStop (length (c ∷ cs) * 7 + 8) (entry_state z (hello_lines (c ∷ cs))) ((c ∷ cs) ++ 18 ∷ 24 ∷ []) 67
 ends c cs few small z =
     let rows : List ℕ = c ∷ cs in
     let lines : List Line = hello_lines rows in
@@ -252,7 +244,7 @@ pub each_text : EachTextIsPrinted
 each_text s q rows are few =
     let spelled = rows_spelled are in
     subst (λ (rs : List ℕ). SourceRuns s (hello_text q) (7 * length q + 9) 67 (paper (rs ++ 18 ∷ 24 ∷ []))) spelled.1
-    (row_text_runs s q (record { some = le_of 1 (length q) are.some; few = few; spelled = spelled.0 }))
+    (row_text_runs s q (record { some = leb-true 1 (length q) are.some; few = few; spelled = spelled.0 }))
 
 -- 1 to 40 capital letters are printed as they are, on a line
 pub each_name : (letters : Text) → 1 ≤ length letters → length letters ≤ 40 → list_all is_capital letters ≡ true

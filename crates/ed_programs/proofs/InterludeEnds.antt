@@ -1,24 +1,23 @@
 -- The two programs of the tape `examples/interlude.tape`, for any number: the interlude from its entry to its return,
 -- and the program after it from its entry to its stop.
-use Rattle.ed_sources.proofs.Kit.{nat_eq, Leads}
-use Rattle.ed_laws.proofs.Kit.{slice_index, over, word_with}
-use Rattle.ed_programs.proofs.Kit.{◌≡◌, ℕ, zero, suc, ◌+◌, ◌-◌, ◌*◌, ◌≤◌, true, false, [], List, ◌∷◌, length, get_or, A}
-use Rattle.ed_programs.proofs.Kit.{drop, Some, None, Option, refl, ap, ◌∙◌, subst, arith, lit<, lit≤, length-append, O}
-use Rattle.ed_programs.proofs.Kit.{list_all, locations, Z_F, Size, eq_of, lt_true, least, short_at, State, short, state}
-use Rattle.ed_programs.proofs.Kit.{Frame, Moment, ComesToStop, TapeEntry, first_state, set, length-set, get_or-set_same}
-use Rattle.ed_programs.proofs.Kit.{get_or-set_other, O_F, T_F, most, E_jumps, U, Z, on, prints, stay, Path, any, early}
-use Rattle.ed_programs.proofs.Kit.{out, own, patched, plain, along, to_stop, directive, among, numbers}
+use Rattle.ed_programs.proofs.Kit.{get_or-set_other, get_or-set_same, length-set, H_F, O_F, T_F, Z_F, Size, O, Z}
+use Rattle.ed_programs.proofs.Kit.{plain, at_entry, set, along, to_stop, E_jumps, U, prints, any, early, out, IsStore}
+use Rattle.ed_programs.proofs.Kit.{directive, IsReturned, among, numbers, [], ap, arith, drop, false, get_or, length}
+use Rattle.ed_programs.proofs.Kit.{length-append, List, lit<, lit≤, nat_eq, None, Option, refl, rules, Some, subst}
+use Rattle.ed_programs.proofs.Kit.{suc, true, zero, ℕ, ◌*◌, ◌+◌, ◌-◌, ◌∙◌, ◌∷◌, ◌≡◌, ◌≤◌, list_all, eqb-true, lt-ltb}
+use Rattle.ed_programs.proofs.Kit.{locations, least, locations_most, short_at, State, Frame, Moment, short, state, Leads, A}
+use Rattle.ed_programs.proofs.Kit.{leads, on, Path, stay, own, Holds, opens, patched, ReachesStop, TapeEntry, over}
+use Rattle.ed_programs.proofs.Kit.{first_state}
+use Rattle.std.proofs.Common.{slice_index}
 use Rattle.std.proofs.lemmas.List.{get_or-append_right, get_or-drop, length-drop}
-use Rattle.ed_words.specs.declared.order_words.TheConstants.{H_F}
-use Rattle.ed_store.specs.Cells.{IsStore}
+use Rattle.ed_machine.proofs.Kit.Standing.{filled}
+use Rattle.ed_notation.specs.Fold.{word_with}
 use Rattle.ed_notation.proofs.Contents.{length-over}
-use Rattle.ed_initial.specs.Entry.{at_entry, entry_words}
+use Rattle.ed_initial.specs.Entry.{entry_words}
 use Rattle.ed_initial.specs.Listing.{initial_orders}
 use Rattle.ed_initial.specs.Rests.{initial_words}
-use Rattle.ed_interlude.specs.Returned.{AreListed, IsReturned, reopening}
-use Rattle.ed_machine.proofs.Kit.Paths.{leads}
-use Rattle.ed_machine.proofs.Kit.Standing.{Holds, filled, opens}
 use Rattle.ed_initial.proofs.Starts.{all_fit}
+use Rattle.ed_interlude.specs.Returned.{AreListed, reopening}
 use Rattle.ed_programs.proofs.InterludeLoads.{from_return, interlude_note, program_note, program_placed}
 use Rattle.ed_programs.proofs.TwoPartsRuns.{IsAway, away, away_to_stop}
 
@@ -106,7 +105,7 @@ module _ (z : Size) (tape_rows rest : List ℕ) (n cost read : ℕ) (small : n �
       → list_all (λ i. nat_eq (short_at back.store i) (slice_index initial_orders i)) (numbers first count) ≡ true
       → AreListed back.store first (first + count)
   listed first count test i low high =
-      eq_of (short_at back.store i) (slice_index initial_orders i)
+      eqb-true (short_at back.store i) (slice_index initial_orders i)
       (among (λ i. nat_eq (short_at back.store i) (slice_index initial_orders i)) first count i test low high)
 
   pub returned : IsReturned back
@@ -127,8 +126,8 @@ module _ (z : Size) (tape_rows rest : List ℕ) (n cost read : ℕ) (small : n �
     words_are = refl;
     digits_are = refl;
     fits =
-        let a = lt_true (4 * n) 131072 (omega arith) in
-        let b = lt_true (word_with 0 n false 0) 131072 (omega arith) in
+        let a = lt-ltb (4 * n) 131072 (omega arith) in
+        let b = lt-ltb (word_with 0 n false 0) 131072 (omega arith) in
         all_fit back.store.words (rw (a, b) refl);
   }
 
@@ -227,7 +226,7 @@ module _ (z : Size) (tape_rows rest : List ℕ) (n cost read : ℕ) (small : n �
 
     letters : Letters
     letters =
-        let size = most z in
+        let size = locations_most z in
         let long = back_long in
         let l = lengths in
         let l0 = l.0 in
@@ -251,7 +250,7 @@ module _ (z : Size) (tape_rows rest : List ℕ) (n cost read : ℕ) (small : n �
 
     holds : Holds image m.store.words 64
     holds zero l =
-        let size = most z in
+        let size = locations_most z in
         let long = lengths.2 in
         let here : order 0 ≡ O_F + 2 * (2 * n) = omega (arith, order_is 0 (lit≤ tt)) in
         placed_there 64 (lit≤ tt)
@@ -276,12 +275,7 @@ module _ (z : Size) (tape_rows rest : List ℕ) (n cost read : ℕ) (small : n �
     holds (suc (suc (suc (suc (suc i))))) l = absurd (omega arith)
 
     m_long : length m.store.words ≡ 1024
-    m_long =
-        let own : length (initial_words (entry_words entry_on)) ≡ 44 = refl in
-        let both = length-append (initial_words (entry_words entry_on)) (drop 44 contents) in
-        let less = length-drop 44 contents in
-        let all = length-over (program_placed z W n 200 low fits) W in
-        omega (arith, own, both, less, all, back_long)
+    m_long = search (rules, length-append, length-drop, length-over, back_long)
 
     abbrev cells_on : List ℕ
     cells_on = filled image m.store.words 64 0
@@ -324,9 +318,9 @@ module _ (z : Size) (tape_rows rest : List ℕ) (n cost read : ℕ) (small : n �
         (prints (O 1 (any (2 * n + 1) (omega arith)) 21 refl (omega (arith, b)))
         (prints (O 2 (any (2 * n + 2) (omega arith)) 8 refl (omega (arith, c))) stay))
 
-    pub program_stops : ComesToStop 3 m (15 ∷ 21 ∷ 8 ∷ []) 68
+    pub program_stops : ReachesStop 3 m (15 ∷ 21 ∷ 8 ∷ []) 68
     program_stops =
-        subst (λ (x : State). ComesToStop 3 x (15 ∷ 21 ∷ 8 ∷ []) 68) begins_on
+        subst (λ (x : State). ReachesStop 3 x (15 ∷ 21 ∷ 8 ∷ []) 68) begins_on
         (to_stop (along path_on) (Z 3 Z_F refl refl) m.orders)
 
     pub program_away : IsAway 4 m

@@ -1,25 +1,22 @@
 -- The loads of the two parts of the tape `examples/interlude.tape`, for any number: their entries, and what they cost.
-use Rattle.ed_sources.proofs.Kit.{Item}
-use Rattle.ed_laws.proofs.Kit.{WellFormed, over, NotationState, opening, IsDirective}
-use Rattle.ed_programs.proofs.Kit.{◌≡◌, ℕ, ◌+◌, ◌*◌, ◌/◌, ◌<◌, ◌≤◌, true, [], List, ◌∷◌, ◌++◌, length, get_or, sym, ap}
-use Rattle.ed_programs.proofs.Kit.{refl, ◌∙◌, subst, arith, lit≤, locations, Size, least, set, get_or-set_other, E_F}
-use Rattle.ed_programs.proofs.Kit.{T_F, le_true, most, rows_of, spelled_rows, canonicals, plain}
-use Rattle.ed_words.specs.declared.order_words.TheConstants.{H_F}
-use Rattle.ed_notation.specs.Fold.{cost_of, is_entry}
-use Rattle.ed_notation.specs.Faults.{ComesTo, EndsSound}
-use Rattle.ed_notation.specs.Spellings.{canonical, digits_of}
+use Rattle.ed_programs.proofs.Kit.{get_or-set_other, E_F, H_F, T_F, Size, Item, spelled_rows, digits_of, plain, set}
+use Rattle.ed_programs.proofs.Kit.{canonical, canonicals, [], ap, arith, get_or, length, List, lit≤, refl, rules}
+use Rattle.ed_programs.proofs.Kit.{subst, sym, true, ℕ, ◌*◌, ◌++◌, ◌+◌, ◌/◌, ◌<◌, ◌∙◌, ◌∷◌, ◌≡◌, ◌≤◌, locations, least}
+use Rattle.ed_programs.proofs.Kit.{locations_most, RowsReachEntry, WellFormed, NotationState, over, rows_of, opening}
+use Rattle.ed_notation.proofs.Kit.{EndsSound, cost_of, is_entry, IsDirective}
 use Rattle.ed_notation.proofs.Canonical.{is_written}
-use Rattle.ed_notation.proofs.Placing.{all_letters, block, laid, placing_all}
+use Rattle.ed_notation.proofs.Placing.{block, laid, placing_all}
 use Rattle.ed_notation.proofs.Sound.{sound_well}
-use Rattle.ed_notation.proofs.Steps.{Enters, Reads, aiming, aiming_entry, entering_at, reads_both, reads_none}
-use Rattle.ed_notation.proofs.Steps.{reads_one, setting_theta}
+use Rattle.ed_notation.proofs.Steps.{Enters, Reads, Does-aiming, aiming_entry, entering_at, reads_both, reads_none}
+use Rattle.ed_notation.proofs.Steps.{reads_one}
 
 -- items before an entry item P F, and the entry to which they lead from a state of the notation
 pub record Entered (z : Size) (words : List ℕ) (start : NotationState) (base at : ℕ) (is : List Item)
     (last : NotationState) (cost : ℕ)
     (rest : List ℕ) : Type 0 where
   pub well : WellFormed z words start (spelled_rows (canonicals is) ++ (rows_of (canonical (plain 0 0 17)) ++ rest))
-  pub comes : ComesTo words start base (spelled_rows (canonicals is) ++ (rows_of (canonical (plain 0 0 17)) ++ rest))
+  pub comes : RowsReachEntry words start base (spelled_rows (canonicals is) ++
+      (rows_of (canonical (plain 0 0 17)) ++ rest))
       (record {
         at = at;
         word = 0;
@@ -37,7 +34,7 @@ pub entered : {z : Size} {words : List ℕ} {start last : NotationState} {is : L
 entered {z} {words} {start} {last} {is} {cost} base at rest set reads aim low high =
     let e : Enters z words last at = entering_at z words last at aim low high in
     let enters : is_entry last (plain 0 0 17) ≡ true = e.enters in
-    let m = most z in
+    let m = locations_most z in
     let three : last.directive / 4096 ≡ 3 = omega (arith, aim) in
     let end : cost_of last (canonical (plain 0 0 17)) ≡ 19 = rw three refl in
     record {
@@ -77,30 +74,9 @@ module _ (z : Size) (words : List ℕ) (n : ℕ) (small : n ≤ 510) where
   abbrev pub interlude_note : NotationState
   interlude_note = record { directive = 12488; theta = 200; placed = interlude_placed }
 
-  letters : all_letters (orders n) ≡ true
-  letters = let a = le_true n 32767 (omega arith) in rw a refl
-
   pub interlude_reads : Reads z words (opening words) (interlude_items n) interlude_note
       (344 + 9 * length (digits_of n))
-  interlude_reads =
-      let theta : ℕ = (opening words).theta in
-      let n1 : NotationState = record { directive = 20680; theta = theta; placed = [] } in
-      let n2 : NotationState = record { directive = 20680; theta = 200; placed = [] } in
-      let n3 : NotationState = record { directive = 20694; theta = 200; placed = interlude_placed } in
-      let head = reads_one z words (plain 5 100 14) refl (aiming z words (opening words) 100 (lit≤ tt))
-      (reads_one z words (plain 27 0 14) refl (setting_theta z words n1 100 (lit≤ tt) refl) (reads_none z words n2)) in
-      let high = least z in
-      let places = placing_all {z = z} {words = words} words {notation = n2} 100 (orders n) letters refl (lit≤ tt)
-      (omega arith) (λ j l. refl) in
-      let tail = reads_one z words (plain 3 100 14) refl (aiming_entry z words n3 100 (lit≤ tt))
-      (reads_none z words interlude_note) in
-      let all = reads_both z words head (reads_both z words places tail) in
-      record {
-        are_read = all.are_read;
-        are_sound = all.are_sound;
-        folds = all.folds;
-        costs_are = all.costs_are ∙ omega arith;
-      }
+  interlude_reads = search rules
 
 -- ---- the program
 
@@ -142,7 +118,7 @@ module _ (z : Size) (words : List ℕ) (n theta : ℕ) (low : 34 ≤ n) (fits : 
       let high = least z in
       let first = placing_all {z = z} {words = words} words {notation = from_return} (2 * n) printed_words refl refl
       (omega arith) (omega arith) (λ j l. refl) in
-      let aims = reads_one z words (plain 5 64 14) refl (aiming z words n1 64 (lit≤ tt)) (reads_none z words n2) in
+      let aims = reads_one z words (plain 5 64 14) refl (Does-aiming z words n1 64 (lit≤ tt)) (reads_none z words n2) in
       let second = placing_all {z = z} {words = words} words {notation = n2} 64 printing_orders refl refl (lit≤ tt)
       (omega arith) apart in
       let tail = reads_one z words (plain 3 64 14) refl (aiming_entry z words n3 64 (lit≤ tt))

@@ -1,78 +1,40 @@
 -- The text of `examples/interlude.tape`, for any number in range, and what the commands `parts` and `tape` answer to
 -- it.
-use Rattle.ed_laws.proofs.Kit.{le_false, WellFormed, NotationState}
-use Rattle.ed_programs.proofs.Kit.{◌≡◌, ℕ, ◌+◌, ◌-◌, ◌*◌, ◌/◌, ◌%◌, ◌<◌, ◌≤◌, [], List, ◌∷◌, ◌++◌, length, Some}
-use Rattle.ed_programs.proofs.Kit.{codes, decimal, sym, refl, ap, ◌∙◌, subst, inl, inr, append_assoc, append-nil, arith}
-use Rattle.ed_programs.proofs.Kit.{lit≤, Text, length-append, cases_lt, length-map, locations, Size, least, State, rows}
-use Rattle.ed_programs.proofs.Kit.{Settings, TapeEntry, first_state, le_true, reading, row_of, none}
-use Rattle.ed_programs.proofs.Kit.{Spells, spells_append, has_one_reading, rows_of, spelled_rows, canonicals, plain}
-use Rattle.ed_programs.proofs.Kit.{Comes, directive, decimal_is, few_bytes}
+use Rattle.ed_programs.proofs.Kit.{String, Global, Size, none, spells_append, has_one_reading, Settings, spelled_rows}
+use Rattle.ed_programs.proofs.Kit.{digits_of, plain, ReachesEntry, Err, Result, rows, Spells, canonical, canonicals}
+use Rattle.ed_programs.proofs.Kit.{INPUT_BYTES, ReachesNextEntry, decimal_is, few_bytes, written, [], ap, append-nil}
+use Rattle.ed_programs.proofs.Kit.{append_assoc, arith, codes, decimal, get_or, inl, inr, length, length-append, List}
+use Rattle.ed_programs.proofs.Kit.{lit≤, map, None, Ok, refl, rules, subst, sym, ℕ, ◌*◌, ◌++◌, ◌+◌, ◌-◌, ◌<◌, ◌∙◌, ◌∷◌}
+use Rattle.ed_programs.proofs.Kit.{◌≡◌, ◌≤◌, cases_lt, le-leb, leb-true, length-map, locations, Text, least, State}
+use Rattle.ed_programs.proofs.Kit.{reading, RowsReachEntry, TapeEntry, WellFormed, NotationState, AreDigits, rows_of}
+use Rattle.ed_programs.proofs.Kit.{first_state, GivesProgram, Refusal}
+use Rattle.std.proofs.lemmas.Bool.{lt-leb}
 use Rattle.std.proofs.lemmas.Fmt.{decimal_digit, decimal_step}
 use Rattle.ed_codes.specs.Text.{row}
-use Rattle.ed_notation.specs.Items.{AreDigits}
 use Rattle.ed_notation.proofs.Canonical.{digits_are}
-use Rattle.ed_notation.specs.Faults.{ComesTo}
-use Rattle.ed_notation.specs.Fold.{address}
-use Rattle.ed_notation.specs.Spellings.{canonical, digits_of}
-use Rattle.ed_interlude.specs.Returned.{ComesBack}
-use Rattle.ed_sources.proofs.Decimals.{written}
+use Rattle.ed_notation.proofs.Texts.{digit_back}
 use Rattle.ed_programs.specs.Interlude.{interlude_text, InterludePrints, InterludeRuns, interlude_cost}
+use Rattle.ed_programs.specs.declared.interlude.TheConstants.{INTERLUDE}
 use Rattle.ed_programs.proofs.InterludeEnds.{back, back_store, entry, entry_on, interlude_away, interlude_leads}
 use Rattle.ed_programs.proofs.InterludeEnds.{program_away, program_stops, reopens, returned}
 use Rattle.ed_programs.proofs.InterludeLoads.{entered, interlude_items, interlude_reads, program_items, program_reads}
 use Rattle.ed_programs.proofs.TapeRuns.{reads_spell}
-use Rattle.ed_programs.proofs.TwoPartsRuns.{Course, numbers_of, two_parts_run}
-use Rattle.ed_answers.specs.declared.input.TheConstants.{INPUT_BYTES}
 use Rattle.ed_programs.proofs.TwoParts.{TwoParts, TwoPartsRun}
-use Rattle.ed_programs.specs.Programs.{GivesProgram}
-use Rattle.ed_programs.specs.declared.interlude.TheConstants.{INTERLUDE}
-use Rattle.ed_programs.specs.declared.refusal.Refusal.{Refusal}
-use Rattle.ed_words.proofs.Numbers.{le_of}
-use Rattle.std.proofs.Common.{get_or, map}
-use Rattle.std.specs.Prelude.{Err, None, Ok, Result, String}
-use Rattle.std.specs.declared.alloc.Global.{Global}
+use Rattle.ed_programs.proofs.TwoPartsRuns.{Course, numbers_of, two_parts_run}
 
 -- ---- the number on the tape
 
-digit_row : (d : ℕ) → d < 10 → row_of (48 + d) ≡ Some d
-digit_row d l =
-    let a = le_true 48 (48 + d) (omega arith) in
-    let b = le_true (48 + d) 57 (omega arith) in
-    let c : 48 + d - 48 ≡ d = omega arith in
-    rw (a, b) (ap Some c)
-
 digits_spell : (ds : List ℕ) → AreDigits ds → Spells (written ds) ds
 digits_spell [] h = none
-digits_spell (d ∷ ds) h = row (48 + d) d (written ds) ds (digit_row d h.0) (digits_spell ds h.1)
+digits_spell (d ∷ ds) h = row (48 + d) d (written ds) ds (digit_back d h.0) (digits_spell ds h.1)
 
 -- a number of two or three figures is written in decimal as the loader's items spell it
 module _ (n : ℕ) (low : 10 ≤ n) (high : n < 1000) where
   two : n < 100 → written (digits_of n) ≡ decimal n
-  two few =
-      let a = le_false 10000 n (omega arith) in
-      let b = le_false 1000 n (omega arith) in
-      let c = le_false 100 n few in
-      let d = le_true 10 n low in
-      let e = le_true 1 n (omega arith) in
-      let units : n / 1 % 10 ≡ n % 10 = omega arith in
-      let tens : n / 10 % 10 ≡ n / 10 = omega arith in
-      let last = decimal_step n low (omega arith) in
-      let first = decimal_digit (n / 10) (omega arith) in
-      rw (a, b, c, d, e, units, tens, last, first) refl
+  two few = search (rules, lt-leb, le-leb, decimal_step, decimal_digit)
 
   three : 100 ≤ n → written (digits_of n) ≡ decimal n
-  three many =
-      let a = le_false 10000 n (omega arith) in
-      let b = le_false 1000 n (omega arith) in
-      let c = le_true 100 n many in
-      let d = le_true 10 n low in
-      let e = le_true 1 n (omega arith) in
-      let units : n / 1 % 10 ≡ n % 10 = omega arith in
-      let hundreds : n / 100 % 10 ≡ n / 10 / 10 = omega arith in
-      let last = decimal_step n low (omega arith) in
-      let middle = decimal_step (n / 10) (omega arith) (omega arith) in
-      let first = decimal_digit (n / 10 / 10) (omega arith) in
-      rw (a, b, c, d, e, units, hundreds, last, middle, first) refl
+  three many = search (rules, lt-leb, le-leb, decimal_step, decimal_digit)
 
   figures : written (digits_of n) ≡ decimal n
   figures = elim (cases_lt n 100) [ inl few ↦ two few | inr many ↦ three many ]
@@ -103,13 +65,7 @@ abbrev behind_number : Text
 behind_number = get_or pieces 1 []
 
 few_text : (n : ℕ) → 10 ≤ n → n < 1000 → length (interlude_text n) ≤ INPUT_BYTES
-few_text n low high =
-    let digits = few_figures n low high in
-    let before : length front ≤ 10000 = le_of (length front) 10000 refl in
-    let behind : length behind_number ≤ 10000 = le_of (length behind_number) 10000 refl in
-    let last = length-append (decimal n) behind_number in
-    let all = length-append front (decimal n ++ behind_number) in
-    omega (arith, digits, before, behind, last, all)
+few_text n low high = search (rules, few_figures, leb-true, length-append)
 
 -- the items up to the number, and those after it
 abbrev last_rows : List ℕ
@@ -133,12 +89,7 @@ abbrev pub tape_rows : ℕ → List ℕ
 tape_rows n = spelled_rows (canonicals (interlude_items n)) ++ (last_rows ++ program_rows)
 
 rows_are : (n : ℕ) → front_rows ++ (digits_of n ++ rows_behind) ≡ tape_rows n
-rows_are n =
-    let ds = digits_of n in
-    ap (λ (x : List ℕ). front_rows ++ x)
-    (sym (append_assoc ((ds ++ []) ++ 17 ∷ []) entering_rows (last_rows ++ program_rows)
-    ∙ append_assoc (ds ++ []) (17 ∷ []) (entering_rows ++ (last_rows ++ program_rows))
-    ∙ ap (λ (x : List ℕ). x ++ rows_behind) (append-nil ds)))
+rows_are n = search (rules, append_assoc, append-nil)
 
 front_spells : Spells front front_rows
 front_spells = reads_spell front front_rows refl
@@ -175,7 +126,7 @@ module _ (z : Size) (n : ℕ) (low : 34 ≤ n) (small : n ≤ 510) (fits : 2 * n
   abbrev first : TapeEntry
   first = entry z (tape_rows n) program_rows n loaded read small
 
-  reads : Comes (first_state z (tape_rows n)) first
+  reads : ReachesEntry (first_state z (tape_rows n)) first
   unfolding first_state
   reads =
       let words = (first_state z (tape_rows n)).store.words in
@@ -189,7 +140,7 @@ module _ (z : Size) (n : ℕ) (low : 34 ≤ n) (small : n ≤ 510) (fits : 2 * n
   abbrev second : TapeEntry
   second = entry_on z (tape_rows n) program_rows n loaded read small low fits 26
 
-  reads_on : ComesBack home second
+  reads_on : ReachesNextEntry home second
   reads_on =
       let words = home.store.words in
       let size = least z in
@@ -197,7 +148,7 @@ module _ (z : Size) (n : ℕ) (low : 34 ≤ n) (small : n ≤ 510) (fits : 2 * n
       let same = sym (reopens z (tape_rows n) program_rows n loaded read small low fits 26) in
       record {
         well = subst (λ (x : NotationState). WellFormed z words x program_rows) same e.well;
-        comes = subst (λ (x : NotationState). ComesTo words x 2 program_rows second) same e.comes;
+        comes = subst (λ (x : NotationState). RowsReachEntry words x 2 program_rows second) same e.comes;
       }
 
   abbrev course : Course z (tape_rows n) 68 (15 ∷ 21 ∷ 8 ∷ [])
@@ -219,21 +170,7 @@ module _ (z : Size) (n : ℕ) (low : 34 ≤ n) (small : n ≤ 510) (fits : 2 * n
   }
 
   numbers_are : numbers_of course ≡ interlude_parts n
-  numbers_are =
-      let ds = digits_of n in
-      let few = figure_count n (omega arith) (omega arith) in
-      let cost : loaded ≡ 372 + 9 * length (decimal n) = omega (arith, few) in
-      let inner = length-append ((ds ++ []) ++ 17 ∷ []) entering_rows in
-      let outer = length-append (ds ++ []) (17 ∷ []) in
-      let same = ap length (append-nil ds) in
-      let count : read ≡ 35 + length (decimal n) = omega (arith, few, inner, outer, same) in
-      let there : address (directive home) ≡ 2 * n = omega arith in
-      λ i. record {
-        interlude = record { entry = 100; cost = cost i; rows = count i; orders = 5 };
-        returns_for = there i;
-        program = record { entry = 64; cost = 280; rows = 26; orders = 4 };
-        stop = 68;
-      }
+  numbers_are = search (rules, figure_count, length-append, append-nil, rows)
 
 -- ---- the answers
 

@@ -1,81 +1,118 @@
 -- The names that the proof of a program cites, passed on from one place, and what its path says in few words.
-pub use Rattle.ed_sources.proofs.Kit.{◌≡◌, ℕ, zero, suc, ◌+◌, ◌-◌, ◌*◌, ◌/◌, ◌%◌, ◌^◌, ◌<◌, ◌≤◌, Bool, true, false, not}
-pub use Rattle.ed_sources.proofs.Kit.{[], ◌||◌, ◌≢◌, ◌⊎◌, List, ◌∷◌, ◌++◌, map, length, get_or, take, drop, ◌==◌, Some}
-pub use Rattle.ed_sources.proofs.Kit.{if◌then◌else◌, nat_lt, nat_le, None, Ok, codes, decimal, Option, unwrap_or, sym}
-pub use Rattle.ed_sources.proofs.Kit.{refl, ap, ◌∙◌, subst, inl, inr, append_assoc, append-nil, arith, lit<, lit≤, Text}
-pub use Rattle.ed_sources.proofs.Kit.{length-append, list_all, cases_lt, and_parts, length-map, locations, A_F, G_F}
-pub use Rattle.ed_sources.proofs.Kit.{Z_F, Size, eq_of, lt_false, lt_of, lt_true, least, paper, short_at, State, short}
-pub use Rattle.ed_sources.proofs.Kit.{state, Frame, Moment, line_of, Line, Statement, fault, symbols_of, newline, print}
-pub use Rattle.ed_sources.proofs.Kit.{with_h, digits, print_orders, few_digits, ComesToStop, divide_orders, at_after}
-pub use Rattle.ed_sources.proofs.Kit.{entry_state, run_outcome, text_of_lines}
-unfoldable pub use Rattle.ed_sources.proofs.Kit.{step, settings, parameter_store}
-pub use Rattle.ed_top.proofs.Kit.{Err, Result, rules, Global, Settings, Outcome, OfSource, INPUT_BYTES}
-pub use Rattle.ed_laws.proofs.Kit.{◌&&◌, true≢false, nat_tests, state_after, run_end, TapeEntry, paper_room}
-pub use Rattle.ed_laws.proofs.Kit.{ran_outcome}
-unfoldable pub use Rattle.ed_laws.proofs.Kit.{first_state}
-pub use Rattle.std.proofs.Common.{reverse, set, replicate, pos, sum, String, mod-lt, div-lt_iff_lt-mul, length-set}
-pub use Rattle.std.proofs.Common.{get_or-set_other, get_or-set_same}
-pub use Rattle.std.proofs.Math.Nat.{div-add-mod}
-pub use Rattle.ed_words.specs.declared.order_words.TheConstants.{E_F, L_D, O_F, S_F, T_F, U_F}
+pub use Rattle.std.proofs.Common.{div-lt_iff_lt-mul, get_or-set_other, get_or-set_same, length-set, mod-lt, String}
+pub use Rattle.std.proofs.Common.{sum}
+pub use Rattle.std.specs.declared.alloc.Global.{Global}
+pub use Rattle.std.proofs.Math.Nat.{div-add-mod, mul-le-mul_right}
+pub use Rattle.std.proofs.lemmas.List.{length-reverse}
+pub use Rattle.ed_words.specs.declared.order_words.TheConstants.{A_F, E_F, G_F, H_F, L_D, O_F, R_F, S_F, T_F, U_F, Z_F}
+pub use Rattle.ed_words.specs.declared.size.Size.{Size}
 pub use Rattle.ed_words.specs.declared.size.Size.TheVariants.{Full, Small}
-pub use Rattle.ed_words.proofs.Numbers.{le_of, le_true, not_lt_of}
-pub use Rattle.ed_words.proofs.SizeLemmas.{most}
-pub use Rattle.ed_codes.specs.Reading.{reading, rows}
-pub use Rattle.ed_codes.specs.Spelling.{row_of}
-pub use Rattle.ed_codes.specs.Text.{none, Spells}
+pub use Rattle.ed_codes.specs.Text.{none, spacing}
 pub use Rattle.ed_codes.proofs.Pieces.{spells_append}
 pub use Rattle.ed_codes.proofs.Readings.{has_one_reading}
-pub use Rattle.ed_printer.specs.Paper.{paper_from}
-pub use Rattle.ed_printer.specs.declared.printer.Shift.TheVariants.{Figures}
-pub use Rattle.ed_machine.proofs.Kit.Moves.{A, E_jumps, E_stays, G_jumps, G_stays, L, O, S, T, U, Z}
-pub use Rattle.ed_machine.proofs.Kit.Paths.{followed, on, prints, stay, Path}
-pub use Rattle.ed_machine.proofs.Kit.Places.{any, early, out, own, IsOutside}
-pub use Rattle.ed_machine.proofs.Kit.Shifts.{L1F, L512F, LD}
+pub use Rattle.ed_printer.specs.declared.printer.Shift.TheVariants.{Figures, Letters}
+pub use Rattle.ed_machine.proofs.Kit.Loops.{all_spent, quiet_walks, walked}
+pub use Rattle.ed_machine.proofs.Kit.Moves.{E_stays, G_stays, I, O, Z}
+pub use Rattle.ed_machine.proofs.Kit.Places.{IsOutside}
+pub use Rattle.ed_machine.proofs.Kit.Shifts.{L1F, L512F}
 pub use Rattle.ed_machine.proofs.Kit.Sums.{Remains}
-pub use Rattle.ed_machine.proofs.Kit.Window.{get_own}
-unfoldable pub use Rattle.ed_machine.proofs.Kit.Window.{patched}
-pub use Rattle.ed_notation.specs.Items.{rows_of, spelled_rows}
-unfoldable pub use Rattle.ed_notation.specs.Reading.{reading_on}
-pub use Rattle.ed_notation.specs.Spellings.{canonicals}
+pub use Rattle.ed_machine.proofs.Kit.Window.{patched_self}
+pub use Rattle.ed_machine.proofs.Steps.{no_step}
+pub use Rattle.ed_run.specs.declared.settings.Settings.{Settings}
+pub use Rattle.ed_notation.specs.declared.item.Item.{Item}
+pub use Rattle.ed_notation.proofs.Kit.{ltb-false, spelled_rows, digits_of}
 pub use Rattle.ed_notation.proofs.Steps.{plain}
 pub use Rattle.ed_notation.proofs.Texts.{AreCodes}
-pub use Rattle.ed_initial.specs.Entry.{Comes}
-pub use Rattle.ed_syntax.specs.Reading.Grammar.{row, spells}
-pub use Rattle.ed_syntax.specs.declared.program.Statement.TheVariants.{Enter}
-pub use Rattle.ed_routines.specs.Catalogue.{read}
-pub use Rattle.ed_routines.proofs.Journeys.{along, stop_after, then, to_stop, HasRoutine, IsIn, Journey}
-pub use Rattle.ed_routines.proofs.Lines.{print_line}
-pub use Rattle.ed_maths.specs.Quotients.{divide, with_hnm}
-pub use Rattle.ed_answers.specs.Answer.{exactly, OfReading}
-pub use Rattle.ed_interlude.specs.Returned.{directive}
-pub use Rattle.ed_sources.specs.CallSources.{woven_text}
-pub use Rattle.ed_sources.proofs.AtEntry.{all_words}
-pub use Rattle.ed_sources.proofs.Decimals.{among, are, both, decimal_is, few_bytes, numbers}
-pub use Rattle.ed_sources.proofs.Entries.{frame_at, moment_at}
+pub use Rattle.ed_initial.specs.Entry.{at_entry, ReachesEntry}
+pub use Rattle.ed_initial.proofs.Quiet.{comes_in}
+pub use Rattle.ed_initial1.specs.Entry.{at_entry1}
+pub use Rattle.ed_initial1.specs.Items.{Item1}
+pub use Rattle.ed_syntax.specs.Reading.Sources.{and_lines}
+pub use Rattle.ed_syntax.specs.declared.program.Line.{Line}
+pub use Rattle.ed_syntax.specs.declared.program.Operand.TheVariants.{Label}
+pub use Rattle.ed_syntax.specs.declared.program.Statement.{Statement}
+pub use Rattle.ed_syntax.specs.declared.program.Statement.TheVariants.{Enter, Fetch}
+pub use Rattle.ed_syntax.proofs.Kit.{Err, Result, bytes_eq, bytes_eq-Decides, is_place_name, array, has_quote, quoted}
+pub use Rattle.ed_syntax.proofs.Kit.{Fault, IsProgram}
+pub use Rattle.ed_syntax.proofs.PartLemmas.{quote_parts}
+pub use Rattle.ed_library.specs.Routines.{is_working}
+pub use Rattle.ed_symbols.specs.declared.symbols.Definition.{Definition}
+pub use Rattle.ed_link.proofs.Extents.{are_below, ExtentList, past}
+pub use Rattle.ed_link.proofs.Kit.{set, sum_by, reverse-append, rows, Spells, canonical, canonicals, entry}
+pub use Rattle.ed_link.proofs.Kit.{routine_word, table_item, counter_after, place_on, even_from, extent, fault_from}
+pub use Rattle.ed_link.proofs.Kit.{operand_number}
+pub use Rattle.ed_routines.proofs.Journeys.{after_call, all_long, along, beside_word, called, elsewhere, has_after}
+pub use Rattle.ed_routines.proofs.Journeys.{IsIn, Journey, no_working, stands, still_in, stop_after, then, to_stop}
+pub use Rattle.ed_routines.proofs.Kit.{E_jumps, Jumps, L, Reads, S, T, U, prints, any, early, out, LD, value_after}
+pub use Rattle.ed_routines.proofs.Lines.{newline_line, number_at, print_goes, print_left, print_line}
+unfoldable pub use Rattle.ed_checker.specs.Checker.{checked_codes}
+pub use Rattle.ed_checker.specs.Laws.{HasGuest}
+pub use Rattle.ed_checker.proofs.Kit.{IsStore, followed, get_own, IsAllowed}
+unfoldable pub use Rattle.ed_checker.proofs.Kit.{checked_orders}
+pub use Rattle.ed_answers.specs.Answer.{IsDue}
+pub use Rattle.ed_answers.specs.declared.input.TheConstants.{INPUT_BYTES}
+pub use Rattle.ed_answers.proofs.Kit.{entry_line, exactly, OfReading}
+pub use Rattle.ed_interlude.specs.Returned.{ReachesNextEntry}
+pub use Rattle.ed_interlude.proofs.Kit.{returned_line, directive, IsReturned}
+pub use Rattle.ed_sources.proofs.AtEntry.{all_words, have_places, placed, word_at}
+pub use Rattle.ed_sources.proofs.Decimals.{among, are, decimal_is, digit_bytes, few_bytes, line_bytes, numbers}
+pub use Rattle.ed_sources.proofs.Decimals.{row_bytes, rows_are, run_bytes, some_digit, value_is, written}
+pub use Rattle.ed_sources.proofs.Entries.{frame_at, is_met, moment_at}
+pub use Rattle.ed_sources.proofs.Kit.{[], ap, append-nil, append_assoc, arith, Bool, codes, decimal, drop, false}
+pub use Rattle.ed_sources.proofs.Kit.{get_or, if◌then◌else◌, inl, inr, length, length-append, List, lit<, lit≤, map}
+pub use Rattle.ed_sources.proofs.Kit.{nat_eq, nat_le, nat_lt, None, not, Ok, Option, pos, refl, reverse, rules, Some}
+pub use Rattle.ed_sources.proofs.Kit.{string_bytes, subst, suc, sym, take, true, unwrap_or, zero, ℕ, ◌%◌, ◌*◌, ◌++◌}
+pub use Rattle.ed_sources.proofs.Kit.{◌+◌, ◌-◌, ◌/◌, ◌<◌, ◌==◌, ◌^◌, ◌||◌, ◌∙◌, ◌∷◌, ◌≡◌, ◌≢◌, ◌≤◌, ◌⊎◌, list_all}
+pub use Rattle.ed_sources.proofs.Kit.{and_from, and_parts, cases_lt, eqb-true, le-leb, le-ltb, leb-true, lt-ltb}
+pub use Rattle.ed_sources.proofs.Kit.{ltb-true, ne_eqb, not-true, nat_tests, length-map, length-replicate}
+pub use Rattle.ed_sources.proofs.Kit.{list_all-append, sum_by-cons, value, locations, Text, least, locations_most, row_of, paper}
+pub use Rattle.ed_sources.proofs.Kit.{short_at, State, state_after, Frame, Moment, short, state, joined, Leads, A}
+pub use Rattle.ed_sources.proofs.Kit.{G_jumps, leads, on, Path, stay, own, Holds, opens, placed_at, is_run_byte}
+pub use Rattle.ed_sources.proofs.Kit.{is_line_byte, is_number, LinePart, run, sign, form_at, row, spells, parts_of}
+pub use Rattle.ed_sources.proofs.Kit.{is_two, line_of, lines_from, program_of, run_parts, image_word, place_count}
+pub use Rattle.ed_sources.proofs.Kit.{first_counter, fault, entry_of, linked_words, symbols_of, cost, counter, newline}
+pub use Rattle.ed_sources.proofs.Kit.{print, read, with_h, digits, print_orders, without_zeros, IsOther, IsLoadedAt}
+pub use Rattle.ed_sources.proofs.Kit.{digits_law, few_digits, HasRoutine, ReachesStop, divide, divide_orders, with_hnm}
+pub use Rattle.ed_sources.proofs.Kit.{guest, at_after, entry_state, AnswersFromEntry, run_outcome, read_is_accepted}
+pub use Rattle.ed_sources.proofs.Kit.{accepted_is, each_answer_is_from_entry, filled_text, text_of_lines}
+unfoldable pub use Rattle.ed_sources.proofs.Kit.{step, progress, patched, run_end, settings, parameter_store}
 pub use Rattle.ed_sources.proofs.Papers.{digits_printed, number_shown}
-pub use Rattle.ed_sources.proofs.Stopped.{answered}
+pub use Rattle.ed_sources.proofs.Said.{a_number, said}
+pub use Rattle.ed_sources.proofs.Stopped.{ran_outcome-answered, nothing_after, stopped_outcome}
 pub use Rattle.ed_sources.proofs.Stops.{ran_to_stop}
+pub use Rattle.ed_top.specs.Output.{output}
 pub use Rattle.ed_laws.specs.TapeEntries.{tape_state}
-pub use Rattle.ed_programs.specs.Calendar.{calendar_orders, is_leap, month_length}
-pub use Rattle.ed_programs.specs.Decimals.{carries, tenfold}
-pub use Rattle.ed_programs.specs.Guests.{checker_base, entry_guest, EntersChecker}
-pub use Rattle.ed_programs.specs.Hello.{is_capital}
-pub use Rattle.ed_programs.specs.Lists.{numbers_text}
-pub use Rattle.ed_programs.specs.Programs.{GivesProgram, SourceRuns}
-pub use Rattle.ed_programs.specs.Sort.{sent_along}
+pub use Rattle.ed_laws.proofs.Kit.{replicate, true≢false, ◌&&◌, reading, paper_from, is_obeyed, stops_of}
+pub use Rattle.ed_laws.proofs.Kit.{RowsReachEntry, TapeEntry, WellFormed, NotationState, over, AreDigits, rows_of}
+pub use Rattle.ed_laws.proofs.Kit.{opening, LeadsIn, first_store, starts, ReachesEntry1, Tape, Outcome, IsAcceptedAs}
+pub use Rattle.ed_laws.proofs.Kit.{paper_room, ran_outcome, with_post_mortem, OfSource, tape_outcome}
+unfoldable pub use Rattle.ed_laws.proofs.Kit.{reading_on, first_state, first_state1}
+pub use Rattle.ed_programs.specs.Calendar.{calendar_orders, calendar_prints, day_orders, days_before, is_leap}
+pub use Rattle.ed_programs.specs.Calendar.{month_length, month_lengths, weekday, weekday_count}
+pub use Rattle.ed_programs.specs.Celsius.{celsius_text}
+pub use Rattle.ed_programs.specs.Decimals.{carries, decimals_prints, factorial, parts, tenfold}
+pub use Rattle.ed_programs.specs.FirstTapes.{FirstTapeRuns}
+pub use Rattle.ed_programs.specs.Fraction.{figure_orders}
+pub use Rattle.ed_programs.specs.Greatest.{greatest_of, rises}
+pub use Rattle.ed_programs.specs.Guests.{checked_text, checker_base, EntersChecker, entry_guest, stopped_orders}
+pub use Rattle.ed_programs.specs.Guests.{StopsAtZ, use_check}
+pub use Rattle.ed_programs.specs.Hello.{hello_text, is_capital, of_letters}
+pub use Rattle.ed_programs.specs.Lists.{list_refusal, numbers_text, on_lines}
+pub use Rattle.ed_programs.specs.Mirror.{mirror_text}
+pub use Rattle.ed_programs.specs.Programs.{GivesProgram, SourceRuns, spread_pieces}
+pub use Rattle.ed_programs.specs.Sort.{along_orders, changes, sent_along}
 pub use Rattle.ed_programs.specs.Tapes.{TapeRuns}
+pub use Rattle.ed_programs.specs.Total.{total_text}
 pub use Rattle.ed_programs.specs.declared.refusal.Refusal.{Refusal}
 pub use Rattle.ed_programs.proofs.CalendarCodes.{calendar_codes, day_codes, days_codes, head_codes, name_codes, place}
 pub use Rattle.ed_programs.proofs.CalendarCodes.{title_codes, year_codes}
-pub use Rattle.ed_programs.proofs.Changes.{reads_number, HasRead}
+pub use Rattle.ed_programs.proofs.Changes.{HasRead, reads_number}
 pub use Rattle.ed_programs.proofs.DataLines.{all_fit, are_small, data_mark, number_rows}
-pub use Rattle.ed_programs.proofs.NumberShown.{shows_number, HasShown}
+pub use Rattle.ed_programs.proofs.NumberShown.{HasShown, shows_number}
 pub use Rattle.ed_programs.proofs.ProgramEntry.{routine_after, stops_from_entry}
 pub use Rattle.ed_programs.proofs.SourceLines.{Marked}
-pub use Rattle.ed_programs.proofs.Texts.{prints_as, written}
-use Rattle.ed_machine.proofs.Kit.Moves.{Jumps, Reads}
-use Rattle.ed_routines.proofs.Journeys.{elsewhere, no_working}
-use Rattle.ed_sources.proofs.AtEntry.{has_image, have_places, placed}
+pub use Rattle.ed_programs.proofs.Texts.{prints_as}
+use Rattle.ed_sources.proofs.AtEntry.{has_image}
 
 -- the order with a function that names cell j of a program at 56
 abbrev pub to : ℕ → ℕ → ℕ
@@ -94,17 +131,17 @@ abbrev pub link : ℕ → ℕ
 link j = to 3 (j + 2)
 
 -- a path, and where it stops, by another count of its orders
-pub counted : {n a b : ℕ} {f : Frame n 0} {r t : Moment} {codes : List ℕ} → Path f a r codes t → a ≡ b
+pub Path-counted : {n a b : ℕ} {f : Frame n 0} {r t : Moment} {codes : List ℕ} → Path f a r codes t → a ≡ b
     → Path f b r codes t
-counted {f = f} {r} {t} {codes} path e = subst (λ k. Path f k r codes t) e path
+Path-counted {f = f} {r} {t} {codes} path e = subst (λ k. Path f k r codes t) e path
 
 pub journey_counted : {n a b : ℕ} {f : Frame n 0} {r t : Moment} {codes : List ℕ} → Journey f a r codes t → a ≡ b
     → Journey f b r codes t
 journey_counted {f = f} {r} {t} {codes} journey e = subst (λ k. Journey f k r codes t) e journey
 
-pub stop_counted : {a b at : ℕ} {s : State} {codes : List ℕ} → ComesToStop a s codes at → a ≡ b
-    → ComesToStop b s codes at
-stop_counted {at = at} {s} {codes} stop e = subst (λ k. ComesToStop k s codes at) e stop
+pub stop_counted : {a b at : ℕ} {s : State} {codes : List ℕ} → ReachesStop a s codes at → a ≡ b
+    → ReachesStop b s codes at
+stop_counted {at = at} {s} {codes} stop e = subst (λ k. ReachesStop k s codes at) e stop
 
 -- a call of a routine of the program's own, from cell i: A i, G j
 pub calls_own : {n k : ℕ} {f : Frame n 0} {r t : Moment} {codes : List ℕ} (i j : ℕ) → r.acc ≡ 0

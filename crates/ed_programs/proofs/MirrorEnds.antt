@@ -1,12 +1,10 @@
 -- The tape `examples/mirror.tape` from its first row to its stop, for any word.
-use Rattle.ed_programs.proofs.Kit.{◌≡◌, ℕ, ◌+◌, ◌*◌, ◌≤◌, true, false, [], List, ◌∷◌, ◌++◌, map, length, get_or, Some}
-use Rattle.ed_programs.proofs.Kit.{None, Option, refl, subst, arith, lit≤, Text, list_all, locations, Z_F, Size, least}
-use Rattle.ed_programs.proofs.Kit.{State, state, ComesToStop, Settings, TapeEntry, first_state, reverse, L_D, Full}
-use Rattle.ed_programs.proofs.Kit.{Small, patched, reading_on, AreCodes, numbers, moment_at, tape_state}
+use Rattle.ed_programs.proofs.Kit.{L_D, R_F, Z_F, Size, Full, Small, Settings, AreCodes, numbers, is_met, moment_at}
+use Rattle.ed_programs.proofs.Kit.{[], arith, false, get_or, length, List, lit≤, map, None, Option, refl, reverse}
+use Rattle.ed_programs.proofs.Kit.{Some, subst, true, ℕ, ◌*◌, ◌++◌, ◌+◌, ◌∷◌, ◌≡◌, ◌≤◌, list_all, locations, Text}
+use Rattle.ed_programs.proofs.Kit.{least, State, state, opens, patched, ReachesStop, tape_state, TapeEntry, reading_on}
+use Rattle.ed_programs.proofs.Kit.{first_state}
 use Rattle.ed_programs.specs.declared.mirror.TheConstants.{MIRROR}
-use Rattle.ed_words.specs.declared.order_words.TheConstants.{R_F}
-use Rattle.ed_machine.proofs.Kit.Standing.{opens}
-use Rattle.ed_sources.proofs.Entries.{is_met}
 use Rattle.ed_programs.proofs.MirrorProgram.{Given, Work, cells, entering, mirror_stops}
 use Rattle.ed_programs.proofs.TapeRuns.{Arrives, rows_in, holds_in}
 
@@ -93,7 +91,7 @@ module _ (t : Settings) (c : ℕ) (cs : List ℕ) where
 
   -- the letters are printed backwards, and the machine stops
   pub mirror_ends : AreCodes (c ∷ cs) → length (c ∷ cs) ≤ 9
-      → ComesToStop (21 * length (c ∷ cs) + 2) s (reverse (c ∷ cs)) 91
+      → ReachesStop (21 * length (c ∷ cs) + 2) s (reverse (c ∷ cs)) 91
   mirror_ends are few =
-      subst (λ (x : State). ComesToStop (21 * length (c ∷ cs) + 2) x (reverse (c ∷ cs)) 91) begins
+      subst (λ (x : State). ReachesStop (21 * length (c ∷ cs) + 2) x (reverse (c ∷ cs)) 91) begins
       (mirror_stops given c cs are few long at2 s.orders)

@@ -1,15 +1,14 @@
 -- The program of `examples/mirror.tape`, at any base and for any word: one loop that stores letters, and one that
 -- prints them.
-use Rattle.ed_programs.proofs.Kit.{◌≡◌, ℕ, suc, ◌+◌, ◌*◌, ◌^◌, ◌<◌, ◌≤◌, [], ◌≢◌, List, ◌∷◌, ◌++◌, length, get_or, Some}
-use Rattle.ed_programs.proofs.Kit.{Option, sym, refl, ap, ◌∙◌, subst, inr, append_assoc, append-nil, arith, lit<, lit≤}
-use Rattle.ed_programs.proofs.Kit.{A_F, G_F, Z_F, short, state, Frame, Moment, ComesToStop, reverse, set, length-set, A}
-use Rattle.ed_programs.proofs.Kit.{get_or-set_other, get_or-set_same, E_F, L_D, O_F, S_F, T_F, U_F, most, E_jumps, L, O}
-use Rattle.ed_programs.proofs.Kit.{E_stays, G_jumps, G_stays, S, T, U, Z, followed, on, prints, stay, Path, early, out}
-use Rattle.ed_programs.proofs.Kit.{own, IsOutside, L512F, LD, Remains, AreCodes, along, to_stop, printing}
-use Rattle.std.proofs.lemmas.List.{length-reverse, reverse-append}
-use Rattle.ed_words.specs.declared.order_words.TheConstants.{I_F, R_F}
-use Rattle.ed_machine.proofs.Kit.Moves.{I}
-use Rattle.ed_machine.proofs.Kit.Loops.{all_spent, quiet_walks, walked}
+use Rattle.ed_programs.proofs.Kit.{get_or-set_other, get_or-set_same, length-set, length-reverse, A_F, E_F, G_F, L_D}
+use Rattle.ed_programs.proofs.Kit.{O_F, R_F, S_F, T_F, U_F, Z_F, all_spent, quiet_walks, walked, E_stays, G_stays, I}
+use Rattle.ed_programs.proofs.Kit.{O, Z, IsOutside, L512F, Remains, AreCodes, set, reverse-append, along, to_stop}
+use Rattle.ed_programs.proofs.Kit.{E_jumps, L, S, T, U, prints, early, out, LD, followed, [], ap, append-nil}
+use Rattle.ed_programs.proofs.Kit.{append_assoc, arith, get_or, inr, length, List, lit<, lit≤, Option, refl, reverse}
+use Rattle.ed_programs.proofs.Kit.{Some, subst, suc, sym, ℕ, ◌*◌, ◌++◌, ◌+◌, ◌<◌, ◌^◌, ◌∙◌, ◌∷◌, ◌≡◌, ◌≢◌, ◌≤◌, locations_most}
+use Rattle.ed_programs.proofs.Kit.{Frame, Moment, short, state, A, G_jumps, on, Path, stay, own, ReachesStop}
+use Rattle.ed_words.specs.declared.order_words.TheConstants.{I_F}
+use Rattle.ed_programs.proofs.Kit.{printing, stop_counted}
 
 -- the cells that change
 pub record Work : Type 0 where
@@ -134,7 +133,7 @@ module _ (given : Given) where
 
     fine : Fine (next x c cs) cs
     fine =
-        let few = o.few in let r = room in let fits = f.fits in let b = most f.size in let all = o.all in
+        let few = o.few in let r = room in let fits = f.fits in let b = locations_most f.size in let all = o.all in
         record {
           all = ws_all;
           at2 = ws_at2;
@@ -163,7 +162,7 @@ module _ (given : Given) where
 
     abbrev taking : Path f 9 (before x (c ∷ cs)) [] (at 10 ws 0 after cs given.around.last)
     taking =
-        let b = most f.size in let fits = f.fits in let r = room in let few = o.few in let code = o.codes.0 in
+        let b = locations_most f.size in let fits = f.fits in let r = room in let few = o.few in let code = o.codes.0 in
         let second = ws_at2 in
         on (T 1 (own 29) _ refl refl)
         (on (I 2 (own 30) c refl refl refl)
@@ -182,7 +181,7 @@ module _ (given : Given) where
     -- and the count decreases by one
     counts : Path f 4 (at 10 ws 0 after cs given.around.last) [] (at 14 ws (counted cs) left cs given.around.last)
     counts =
-        let b = most f.size in let fits = f.fits in let r = room in let few = o.few in
+        let b = locations_most f.size in let fits = f.fits in let r = room in let few = o.few in
         on (A 10 (own 28) (short (suc (length cs))) refl (omega arith))
         (on (S 11 (own 27) (short (length cs)) refl (omega arith))
         (on (U 12 (own 28) _ refl refl)
@@ -231,7 +230,7 @@ module _ (given : Given) where
         → Path f 3 (shown 18 (printing (q + suc (length cs))) order last) (c ∷ [])
         (shown 21 (printing (q + length cs)) (printing (q + length cs)) (Some c))
     letter c cs order last stored few =
-        let b = most f.size in let fits = f.fits in let r = room in
+        let b = locations_most f.size in let fits = f.fits in let r = room in
         let here = stored.0 in let code = stored.1 in let second = at2 in
         let outside : IsOutside f ws (q + length cs) = record { below = omega arith; beside = inr (omega arith) } in
         on (S 18 (out 2 (early 2 above (lit< tt) all)) (short (printing (q + length cs))) refl (omega arith))
@@ -243,14 +242,14 @@ module _ (given : Given) where
         → (y : Option ℕ) × Path f (5 + length cs * 7) (shown 18 (printing (q + suc (length cs))) order last) (c ∷ cs)
         (shown 26 131070 (printing (q + 0)) y)
     printed c [] order last stored few =
-        let b = most f.size in let fits = f.fits in let r = room in (
+        let b = locations_most f.size in let fits = f.fits in let r = room in (
           Some c,
           followed (letter c [] order last stored few)
               (on (S 21 (own 32) (short 131070) refl (omega arith))
               (on (G_jumps 22 (own 26) refl (lit≤ tt)) stay)),
         )
     printed c (d ∷ ds) order last stored few =
-        let b = most f.size in let fits = f.fits in let r = room in
+        let b = locations_most f.size in let fits = f.fits in let r = room in
         let rest = printed d ds (printing (q + suc (length ds))) (Some c) stored.2 (omega arith) in
         let count : 5 + suc (length ds) * 7 ≡ 3 + (4 + (5 + length ds * 7)) = omega arith in (
           rest.0,
@@ -270,7 +269,7 @@ module _ (given : Given) where
       → (y : Option ℕ) × Path f (3 + (5 + length ds * 7)) (before x []) (d ∷ ds)
       (shown x.words o.all o.at2 (record (work x []) { scrap = x.number }) 26 131070 (printing (q + 0)) y)
   closes x d ds is o =
-      let b = most f.size in let fits = f.fits in let r = room in let few = o.few in let small = o.small in
+      let b = locations_most f.size in let fits = f.fits in let r = room in let few = o.few in let small = o.small in
       let long : length x.taken ≡ suc (length ds) = ap (λ (l : List ℕ). length l) is in
       let k : Work = record (work x []) { scrap = x.number } in
       let rest = printed x.words o.all o.at2 k d ds 0 given.around.last (subst (Stored x.words q) is o.stored)
@@ -285,13 +284,11 @@ module _ (given : Given) where
 
   ends_by : {k : ℕ} {r : Moment} (x : Taking) (ds : List ℕ) → x.taken ≡ ds → 1 ≤ length ds → Fine x []
       → Path f k r [] (before x []) → (done : ℕ)
-      → ComesToStop (k + (1 + length ds * 7)) (state f r done) ds (f.base + 27)
+      → ReachesStop (k + (1 + length ds * 7)) (state f r done) ds (f.base + 27)
   ends_by x [] is some o path done = absurd (omega (arith, some))
   ends_by {k} {r} x (d ∷ ds) is some o path done =
       let rest = closes x d ds is o in
-      let count : k + (3 + (5 + length ds * 7)) ≡ k + (1 + suc (length ds) * 7) = omega arith in
-      subst (λ n. ComesToStop n (state f r done) (d ∷ ds) (f.base + 27)) count
-      (to_stop (along (followed path rest.1)) (Z 26 Z_F refl refl) done)
+      stop_counted (to_stop (along (followed path rest.1)) (Z 26 Z_F refl refl) done) (omega arith)
 
   -- at the entry: the number of letters and the letters are on the tape
   abbrev pub entering : ℕ → List ℕ → Moment
@@ -305,7 +302,7 @@ module _ (given : Given) where
 
   pub mirror_stops : (c : ℕ) (cs : List ℕ) → AreCodes (c ∷ cs) → length (c ∷ cs) ≤ 9
       → length given.around.words ≡ 1024 → get_or given.around.words 2 0 ≡ 2 → (done : ℕ)
-      → ComesToStop (21 * length (c ∷ cs) + 2) (state f (entering (length (c ∷ cs)) (c ∷ cs)) done) (reverse (c ∷ cs))
+      → ReachesStop (21 * length (c ∷ cs) + 2) (state f (entering (length (c ∷ cs)) (c ∷ cs)) done) (reverse (c ∷ cs))
       (f.base + 27)
   mirror_stops c cs are few all at2 done =
       let first : Taking = record { words = given.around.words; taken = []; number = 0; scrap = 0; row = 0 } in
@@ -325,8 +322,5 @@ module _ (given : Given) where
       let taken : last.taken ≡ reverse (c ∷ cs) = letters_taken first (c ∷ cs) ∙ append-nil (reverse (c ∷ cs)) in
       let spent = all_turns first (c ∷ cs) in
       let long = length-reverse (c ∷ cs) in
-      let count : 1 + all_spent (λ x c. 14) next first (c ∷ cs) + (1 + length (reverse (c ∷ cs)) * 7)
-      ≡ 21 * length (c ∷ cs) + 2 = omega (arith, spent, long) in
-      subst (λ n. ComesToStop n (state f (entering (length (c ∷ cs)) (c ∷ cs)) done) (reverse (c ∷ cs)) (f.base + 27))
-      count
-      (ends_by last (reverse (c ∷ cs)) taken (omega (arith, long)) loop.0 (followed reads loop.1) done)
+      stop_counted (ends_by last (reverse (c ∷ cs)) taken (omega (arith, long)) loop.0 (followed reads loop.1) done)
+      (omega (arith, spent, long))

@@ -1,23 +1,18 @@
 -- What `examples/mirror.tape` prints, for any word.
-use Rattle.ed_programs.proofs.Kit.{◌≡◌, ℕ, ◌+◌, ◌*◌, ◌≤◌, true, [], List, ◌∷◌, ◌++◌, length, decimal, sym, refl, ap}
-use Rattle.ed_programs.proofs.Kit.{◌∙◌, subst, append_assoc, append-nil, arith, Text, length-append, list_all, paper}
-use Rattle.ed_programs.proofs.Kit.{and_parts, length-map, digits, Settings, INPUT_BYTES, reverse, le_of, reading, rows}
-use Rattle.ed_programs.proofs.Kit.{row_of, none, Spells, spells_append, has_one_reading, paper_from, AreCodes, spells}
-use Rattle.ed_programs.proofs.Kit.{decimal_is, few_bytes, is_capital, TapeRuns}
-use Rattle.std.proofs.lemmas.List.{length-reverse, reverse-append}
-use Rattle.ed_codes.specs.Text.{spacing}
+use Rattle.ed_programs.proofs.Kit.{length-reverse, none, spacing, spells_append, has_one_reading, Letters, Settings}
+use Rattle.ed_programs.proofs.Kit.{AreCodes, reverse-append, rows, Spells, INPUT_BYTES, decimal_is, few_bytes, written}
+use Rattle.ed_programs.proofs.Kit.{[], ap, append-nil, append_assoc, arith, decimal, length, length-append, List, refl}
+use Rattle.ed_programs.proofs.Kit.{reverse, subst, sym, true, ℕ, ◌*◌, ◌++◌, ◌+◌, ◌∙◌, ◌∷◌, ◌≡◌, ◌≤◌, list_all}
+use Rattle.ed_programs.proofs.Kit.{and_parts, leb-true, length-map, Text, row_of, paper, spells, digits, reading}
+use Rattle.ed_programs.proofs.Kit.{paper_from, is_capital, mirror_text, TapeRuns}
 use Rattle.ed_notation.proofs.Texts.{are_codes}
-use Rattle.ed_printer.specs.declared.printer.Shift.TheVariants.{Letters}
 use Rattle.ed_syntax.specs.Reading.Grammar.{row as code_of}
-use Rattle.ed_sources.proofs.Decimals.{written}
-use Rattle.ed_programs.proofs.RowTexts.{figure_spells, text_rows, text_spells}
-use Rattle.ed_programs.specs.Mirror.{mirror_cost, mirror_orders, mirror_text}
+use Rattle.ed_programs.specs.Mirror.{mirror_cost, mirror_orders}
 use Rattle.ed_programs.proofs.Capitals.{AreLetters, are_rows, letter}
-use Rattle.ed_programs.proofs.TextLines.{all_plain}
 use Rattle.ed_programs.proofs.MirrorEnds.{front, mirror_arrives, mirror_ends, mirror_entry, mirror_rows}
+use Rattle.ed_programs.proofs.RowTexts.{figure_spells, text_rows, text_spells}
 use Rattle.ed_programs.proofs.TapeRuns.{reads_spell, rows_in, tape_runs}
-use Rattle.ed_programs.specs.declared.mirror.TheConstants.{MIRROR}
-use Rattle.std.proofs.Common.{map}
+use Rattle.ed_programs.proofs.TextLines.{all_plain}
 
 -- ---- the rows of the text
 
@@ -86,7 +81,7 @@ each_word s (b ∷ q) o =
     let together = length-append (decimal (length letters)) letters in
     let line = length-append (mirror_line letters) (10 ∷ []) in
     let all = length-append front (mirror_line letters ++ 10 ∷ []) in
-    let before : length front ≤ 3000 = le_of (length front) 3000 refl in
+    let before : length front ≤ 3000 = leb-true (length front) 3000 refl in
     let short : length (mirror_text letters) ≤ INPUT_BYTES =
     omega (arith, bytes, number, together, few, line, all, before) in
     let runs = tape_runs s (mirror_text letters) (mirror_rows (length codes ∷ codes))

@@ -1,19 +1,18 @@
 -- The source of `examples/answer5.edsac` for any numbers: its path, and what it prints.
-use Rattle.ed_programs.proofs.Kit.{◌≡◌, ℕ, zero, suc, ◌+◌, ◌*◌, ◌<◌, ◌≤◌, true, [], List, ◌∷◌, ◌++◌, length, Some, refl}
-use Rattle.ed_programs.proofs.Kit.{codes, decimal, ap, ◌∙◌, subst, append_assoc, arith, lit<, lit≤, length-append, Z_F}
-use Rattle.ed_programs.proofs.Kit.{Size, least, paper, short, state, Frame, Moment, Line, newline, print, with_h, A, S}
-use Rattle.ed_programs.proofs.Kit.{digits, print_orders, few_digits, ComesToStop, entry_state, settings, Settings, T, U}
-use Rattle.ed_programs.proofs.Kit.{parameter_store, E_jumps, G_jumps, G_stays, Z, followed, on, stay, Path, any, early}
-use Rattle.ed_programs.proofs.Kit.{out, own, along, then, to_stop, HasRoutine, IsIn, Journey, all_words, frame_at, to}
-use Rattle.ed_programs.proofs.Kit.{moment_at, number_shown, SourceRuns, shows_number, HasShown, routine_after, Marked}
-use Rattle.ed_programs.proofs.Kit.{stops_from_entry, calling, link, counted, stop_counted, calls_own}
+use Rattle.ed_programs.proofs.Kit.{Z_F, Size, G_stays, Z, Settings, Line, along, IsIn, Journey, then, to_stop, E_jumps}
+use Rattle.ed_programs.proofs.Kit.{S, T, U, any, early, out, followed, all_words, frame_at, moment_at, [], ap}
+use Rattle.ed_programs.proofs.Kit.{append_assoc, arith, codes, decimal, length, length-append, List, lit<, lit≤, map}
+use Rattle.ed_programs.proofs.Kit.{refl, Some, subst, suc, true, zero, ℕ, ◌*◌, ◌++◌, ◌+◌, ◌<◌, ◌∙◌, ◌∷◌, ◌≡◌, ◌≤◌}
+use Rattle.ed_programs.proofs.Kit.{Text, least, paper, Frame, Moment, short, state, A, G_jumps, on, Path, stay, own}
+use Rattle.ed_programs.proofs.Kit.{settings, parameter_store, newline, print, with_h, digits, print_orders, few_digits}
+use Rattle.ed_programs.proofs.Kit.{HasRoutine, ReachesStop, entry_state, number_shown, SourceRuns, HasShown}
+use Rattle.ed_programs.proofs.Kit.{shows_number, routine_after, stops_from_entry, Marked}
 use Rattle.ed_programs.specs.Multiply.{multiply_orders, multiply_prints, multiply_text}
+use Rattle.ed_programs.specs.declared.multiply.TheConstants.{MULTIPLY}
+use Rattle.ed_programs.proofs.Kit.{to, calling, link, Path-counted, stop_counted, calls_own}
 use Rattle.ed_programs.proofs.NumberLines.{word_mark}
 use Rattle.ed_programs.proofs.NumberShown.{then_on}
 use Rattle.ed_programs.proofs.SourceRuns.{lines_of_pieces, program_runs}
-use Rattle.ed_programs.specs.declared.multiply.TheConstants.{MULTIPLY}
-use Rattle.ed_words.specs.Texts.{Text}
-use Rattle.std.proofs.Common.{map}
 
 -- the pieces of the source, and the numbers between them: a and b are multiplied, and c is squared
 abbrev multiply_pieces : List Text
@@ -51,11 +50,11 @@ module _ (z : Size) (c : ℕ) where
     loop : (l p q k h : ℕ) → p + l * r ≡ q → l < 65536 → q < 65536
         → Path f (l * 9) (at m 17 0 l r p 0 k h) [] (at m 17 0 0 r q 0 k h)
     loop zero p q k h e few small =
-        counted (subst (λ x. Path f 0 (at m 17 0 0 r p 0 k h) [] (at m 17 0 0 r x 0 k h)) (omega arith) stay)
+        Path-counted (subst (λ x. Path f 0 (at m 17 0 0 r p 0 k h) [] (at m 17 0 0 r x 0 k h)) (omega arith) stay)
         (omega arith)
     loop (suc l) p q k h e few small =
         let sum : suc l * r ≡ r + l * r = omega arith in
-        counted (on (A 17 (own 27) (short (suc l)) refl (omega arith))
+        Path-counted (on (A 17 (own 27) (short (suc l)) refl (omega arith))
         (on (S 18 (own 30) (short l) refl (omega arith))
         (on (G_stays 19 (own 25) refl (omega arith))
         (on (T 20 (own 27) _ refl refl)
@@ -70,7 +69,7 @@ module _ (z : Size) (c : ℕ) where
         → Path f (9 * l + 9) (at m 13 (to 28 j) l r p s k h) [] (at m (j + 2) 0 0 r (l * r) 131071 (link j) h)
     times l p s k h few small =
         let third = o.prints.at3 in let all = o.all in
-        counted (on (A 13 (out 3 (early 3 (lit≤ tt) (lit< tt) all)) (short (link j)) refl (omega arith))
+        Path-counted (on (A 13 (out 3 (early 3 (lit≤ tt) (lit< tt) all)) (short (link j)) refl (omega arith))
         (on (T 14 (own 26) _ refl refl)
         (on (T 15 (own 29) 0 refl refl)
         (on (T 16 (own 31) 0 refl refl)
@@ -107,7 +106,7 @@ module _ (z : Size) (c : ℕ) where
 
   -- both calls of each, to the stop
   stops : (m : Moment) (o : IsAround m) (a b : ℕ) → a < 65536 → a * b < 65536 → c < 65536 → c * c < 65536 → (done : ℕ)
-      → ComesToStop (9 * a + 9 * c + print_orders (a * b) + print_orders (c * c) + 53)
+      → ReachesStop (9 * a + 9 * c + print_orders (a * b) + print_orders (c * c) + 53)
       (state f (at m 0 0 a b 0 0 0 0) done)
       ((11 ∷ digits (a * b) ++ 18 ∷ 24 ∷ []) ++ (11 ∷ digits (c * c) ++ 18 ∷ 24 ∷ [])) 68
   stops m o a b few small few_c small_c done =

@@ -1,19 +1,15 @@
 -- Lines of a source with data: one that ends with `word N`, for any number, and a `use` line with H.
-use Rattle.ed_sources.proofs.Kit.{◌≡◌, ℕ, ◌+◌, ◌<◌, ◌≤◌, Bool, true, false, [], List, ◌∷◌, ◌++◌, length, ◌==◌, nat_le}
-use Rattle.ed_sources.proofs.Kit.{Some, None, Ok, codes, decimal, Option, sym, refl, ap, ◌∙◌, subst, append_assoc, lit≤}
-use Rattle.ed_sources.proofs.Kit.{append-nil, arith, length-append, list_all, and_parts, length-map, list_all-append}
-use Rattle.ed_sources.proofs.Kit.{value, Text, eq_false, is_run_byte, is_line_byte, parts_of, line_of, digits}
-use Rattle.std.proofs.Common.{pos, true≢false, ◌&&◌}
-use Rattle.ed_words.proofs.Numbers.{le_of, le_true}
-use Rattle.ed_syntax.specs.Parts.{LinePart, run, is_number, modulo}
-use Rattle.ed_syntax.specs.Names.{is_place_name}
-use Rattle.ed_syntax.specs.Reading.Grammar.{form_at}
+use Rattle.ed_programs.proofs.Kit.{is_place_name, are, decimal_is, digit_bytes, few_bytes, line_bytes, run_bytes}
+use Rattle.ed_programs.proofs.Kit.{some_digit, value_is, written, [], ap, append-nil, append_assoc, arith, Bool, codes}
+use Rattle.ed_programs.proofs.Kit.{decimal, length, length-append, List, nat_le, None, Ok, Option, pos, rules, Some}
+use Rattle.ed_programs.proofs.Kit.{subst, true, ℕ, ◌++◌, ◌+◌, ◌<◌, ◌∙◌, ◌∷◌, ◌≡◌, ◌≤◌, list_all, and_parts, le-leb}
+use Rattle.ed_programs.proofs.Kit.{leb-true, ne_eqb, nat_tests, length-map, list_all-append, value, Text, is_run_byte}
+use Rattle.ed_programs.proofs.Kit.{is_line_byte, is_number, LinePart, run, form_at, parts_of, line_of, run_parts}
+use Rattle.ed_programs.proofs.Kit.{digits, a_number, true≢false, ◌&&◌, Marked}
+use Rattle.ed_syntax.specs.Parts.{modulo}
+use Rattle.ed_sources.proofs.Said.{label_parts, number_parts}
+use Rattle.ed_programs.proofs.SourceLines.{by_parts}
 use Rattle.ed_syntax.specs.declared.program.Statement.TheVariants as statements
-use Rattle.ed_syntax.proofs.PartLemmas.{run_parts}
-use Rattle.ed_sources.proofs.Decimals.{are, decimal_is, digit_bytes, few_bytes, line_bytes, run_bytes, some_digit}
-use Rattle.ed_sources.proofs.Decimals.{value_is, written}
-use Rattle.ed_sources.proofs.Said.{a_number, label_parts, number_parts}
-use Rattle.ed_programs.proofs.SourceLines.{Marked, by_parts}
 
 -- what the front of such a line makes of it, whatever bytes follow: its label and the parts before `word`
 pub record IsWordFront (two : Bool) (k : ℕ) (front : Text) (label : Option Text) (before : List LinePart) : Type 0 where
@@ -30,14 +26,7 @@ module _ {two : Bool} {k : ℕ} {front : Text} {label : Option Text} {before : L
   word_line : (bytes : Text) (n : ℕ) → list_all is_line_byte bytes ≡ true → length bytes ≤ 5
       → parts_of bytes ≡ Some (run bytes ∷ []) → is_number bytes ≡ true → value bytes ≡ n → n < 65536
       → line_of two k (front ++ bytes) ≡ Ok (record { label = label; statement = Some (statements.Number n) })
-  word_line bytes n plain few parts number is small =
-      let long = length-append front bytes in
-      let short = is_front.short in
-      let same : modulo 17 (pos (value bytes)) ≡ n = omega (arith, is, small) in
-      by_parts two k (front ++ bytes) (before ++ run (codes "word") ∷ run bytes ∷ []) (is_front.plain bytes plain)
-      (omega (arith, long, few)) (is_front.parts bytes parts)
-      (is_front.form bytes number (le_true (value bytes) 131071 (omega (arith, is, small)))
-      ∙ ap (λ m. Some (Some (record { label = label; statement = Some (statements.Number m) }))) same)
+  word_line bytes n plain few parts number is small = grind (arith, nat_tests, length-append, by_parts, le-leb)
 
   pub word_says : (n : ℕ) → n < 65536
       → line_of two k (front ++ decimal n) ≡ Ok (record { label = label; statement = Some (statements.Number n) })
@@ -55,13 +44,7 @@ module _ {two : Bool} {k : ℕ} {front : Text} {label : Option Text} {before : L
 
 -- a line `word N`, where no more of it is known
 pub plain_front : (two : Bool) (k : ℕ) → 2 ≤ k → IsWordFront two k (codes "word ") None []
-plain_front two k later = record {
-  plain = λ bytes h. h;
-  short = lit≤ tt;
-  parts = λ bytes h. rw h refl;
-  form = λ bytes number in_range.
-      let no_version : (k == 1) ≡ false = eq_false k 1 (omega (arith, later)) in rw (no_version, number, in_range) refl;
-}
+plain_front two k later = search (rules, ne_eqb)
 
 -- whether a label may stand before `word N`
 abbrev pub is_short_label : Bool → Text → Bool
@@ -70,27 +53,8 @@ is_short_label two label =
 
 pub label_front : (two : Bool) (k : ℕ) (label : Text) → 2 ≤ k → is_short_label two label ≡ true
     → IsWordFront two k (label ++ codes ": word ") (Some label) (label_parts label)
-label_front true k [] later fits = absurd (true≢false (sym fits))
-label_front false k [] later fits = absurd (true≢false (sym fits))
-label_front two k (b ∷ r) later fits =
-    let l : Text = b ∷ r in
-    let p = and_parts (nat_le (length l) 13) _ fits in
-    let q = and_parts (is_place_name two l) _ p.1 in
-    let u = and_parts (list_all is_line_byte l) (list_all is_run_byte l) q.1 in
-    let few = le_of (length l) 13 p.0 in
-    let name = q.0 in
-    let line : list_all is_line_byte (l ++ codes ": word ") ≡ true =
-    list_all-append is_line_byte l (codes ": word ") ∙ ap (λ t. t && true) u.0 in
-    record {
-      plain = λ bytes h. list_all-append is_line_byte (l ++ codes ": word ") bytes ∙ (λ i. line i && h i);
-      short = let long = length-append l (codes ": word ") in omega (arith, long, few);
-      parts = λ bytes h.
-          ap parts_of (append_assoc l (codes ": word ") bytes) ∙ run_parts b r (codes ": word " ++ bytes) u.1 refl
-          ∙ rw h refl;
-      form = λ bytes number in_range.
-          let no_version : (k == 1) ≡ false = eq_false k 1 (omega (arith, later)) in
-          rw (no_version, name, number, in_range) refl;
-    }
+label_front two k label later fits =
+    search (rules, true≢false, and_parts, leb-true, list_all-append, length-append, append_assoc, run_parts, ne_eqb)
 
 module _ {two : Bool} (k : ℕ) (n : ℕ) (small : n < 65536) where
   -- a line that ends with `word N`

@@ -1,13 +1,11 @@
 -- A number on a line of its own: the calls of `print` and of `newline` as one line of a journey.
-use Rattle.ed_sources.proofs.Kit.{◌≡◌, ℕ, ◌+◌, ◌*◌, ◌%◌, ◌<◌, ◌≤◌, false, [], ◌⊎◌, List, ◌∷◌, ◌++◌, get_or, Some, refl}
-use Rattle.ed_sources.proofs.Kit.{◌∙◌, subst, inl, inr, append-nil, arith, A_F, short, Frame, Moment, place_count}
-use Rattle.ed_sources.proofs.Kit.{newline, print, with_h, digits, print_orders}
-use Rattle.ed_library.specs.Routines.{is_working}
-use Rattle.ed_machine.proofs.Kit.Moves.{Jumps, Reads}
-use Rattle.ed_machine.proofs.Kit.Paths.{Path}
-use Rattle.ed_machine.proofs.Kit.Places.{any, own}
+use Rattle.ed_routines.proofs.Kit.{[], arith, false, get_or, inl, inr, List, refl, Some, subst, ℕ, ◌%◌, ◌*◌, ◌++◌, ◌+◌}
+use Rattle.ed_routines.proofs.Kit.{◌<◌, ◌∙◌, ◌∷◌, ◌≡◌, ◌≤◌, ◌⊎◌, Frame, Moment, short, Jumps, Reads, Path, any, own}
+use Rattle.ed_routines.proofs.Kit.{place_count, newline, print, with_h, digits, print_orders, IsOther}
+use Rattle.std.proofs.Common.{append-nil}
+use Rattle.ed_words.specs.declared.order_words.TheConstants.{A_F}
 use Rattle.ed_machine.proofs.Kit.Window.{get_own}
-use Rattle.ed_routines.specs.Returns.{IsOther}
+use Rattle.ed_library.specs.Routines.{is_working}
 use Rattle.ed_routines.proofs.Journeys.{HasRoutine, IsIn, Journey, along, after_call, elsewhere, has_after, no_working}
 use Rattle.ed_routines.proofs.Journeys.{stays, still_in, then}
 use Rattle.ed_routines.proofs.Lines.{newline_left, newline_line, newline_returns, number_at, print_goes, print_left}

@@ -1,10 +1,11 @@
 -- The whole part of 10^n e: which number it is, by two comparisons.
-use Rattle.ed_programs.proofs.Kit.{◌≡◌, ℕ, zero, suc, ◌+◌, ◌-◌, ◌*◌, ◌/◌, ◌^◌, ◌<◌, ◌≤◌, sym, refl, ◌∙◌, subst, arith}
-use Rattle.ed_programs.proofs.Kit.{lit<, lit≤, div-lt_iff_lt-mul}
-use Rattle.std.proofs.Math.Nat.{le-div_iff_mul-le, mul-le-mul_left, mul-le-mul_right, mul-pos}
-use Rattle.ed_programs.specs.Decimals.{FiguresAreCarries, IsOneNumber, IsWholePart, decimals_prints, factorial, parts}
-use Rattle.ed_words.specs.Decimals.{is_digit, value}
-use Rattle.std.specs.Prelude.{filter}
+use Rattle.ed_programs.proofs.Kit.{div-lt_iff_lt-mul, mul-le-mul_right, arith, lit<, lit≤, refl, subst, suc, sym, zero}
+use Rattle.ed_programs.proofs.Kit.{ℕ, ◌*◌, ◌+◌, ◌-◌, ◌/◌, ◌<◌, ◌^◌, ◌∙◌, ◌≡◌, ◌≤◌, value, decimals_prints, factorial}
+use Rattle.ed_programs.proofs.Kit.{parts}
+use Rattle.std.proofs.Common.{filter}
+use Rattle.std.proofs.Math.Nat.{le-div_iff_mul-le, mul-le-mul_left, mul-pos}
+use Rattle.ed_words.specs.Decimals.{is_digit}
+use Rattle.ed_programs.specs.Decimals.{FiguresAreCarries, IsOneNumber, IsWholePart}
 
 -- the product of the i numbers after k, and what is added to the parts in their course
 abbrev rising : ℕ → ℕ → ℕ
@@ -108,8 +109,8 @@ pub figures_are_carries : FiguresAreCarries
 figures_are_carries = number_is ∙ refl
 
 -- the figures of the text, by the sum up to 1/75!
-pub hundred : IsWholePart 100 (value (filter is_digit decimals_prints))
-hundred =
+pub IsWholePart-hundred : IsWholePart 100 (value (filter is_digit decimals_prints))
+IsWholePart-hundred =
     subst (λ m. IsWholePart 100 m) (sym number_is)
     (by_numbers 100 75
     27182818284590452353602874713526624977572470936999595749669676277240766303535475945713821785251664274

@@ -1,11 +1,12 @@
 -- A source's program at its entry: its cells and the routines of the library after them, each by one test.
-use Rattle.ed_sources.proofs.Kit.{◌≡◌, ℕ, zero, suc, ◌+◌, ◌<◌, ◌≤◌, true, [], List, ◌∷◌, length, get_or, unwrap_or, sym}
-use Rattle.ed_sources.proofs.Kit.{refl, ap, ◌∙◌, subst, inr, arith, Size, least, State, state, placed_at, Line}
-use Rattle.ed_sources.proofs.Kit.{place_count, entry_of, ComesToStop, entry_state}
-use Rattle.ed_machine.proofs.Kit.Window.{patched, patched_self}
+use Rattle.ed_sources.proofs.Kit.{[], ap, arith, get_or, inr, length, List, refl, rules, suc, sym, true, unwrap_or}
+use Rattle.ed_sources.proofs.Kit.{zero, ℕ, ◌+◌, ◌<◌, ◌∙◌, ◌∷◌, ◌≡◌, ◌≤◌, least, State, state, patched, placed_at}
+use Rattle.ed_sources.proofs.Kit.{place_count, entry_of, HasRoutine, ReachesStop, entry_state}
+use Rattle.ed_words.specs.declared.size.Size.{Size}
+use Rattle.ed_machine.proofs.Kit.Window.{patched_self}
+use Rattle.ed_syntax.specs.declared.program.Line.{Line}
 use Rattle.ed_sources.proofs.AtEntry.{all_words, has_image, have_places, placed, word_at}
 use Rattle.ed_sources.proofs.Entries.{frame_at, moment_at, routine_at}
-use Rattle.ed_routines.proofs.Journeys.{HasRoutine}
 
 -- the n words from location a upwards
 abbrev pub words_from : List (ℕ × ℕ) → ℕ → ℕ → List ℕ
@@ -54,23 +55,18 @@ module _ (z : Size) (lines : List Line) (n : ℕ) (few : n ≤ 456) (ps : List (
 
   -- so a stop of the program, from the moment at its entry, is a stop of the source
   pub stops_by : {k at : ℕ} {codes : List ℕ} → entry_of lines ≡ 56 → (tape : List ℕ) → tape ≡ first.tape
-      → ComesToStop k (state (frame_at n z few) (record (moment_at first) { cells = cells; tape = tape })
+      → ReachesStop k (state (frame_at n z few) (record (moment_at first) { cells = cells; tape = tape })
       first.orders) codes
       at
-      → ComesToStop k first codes at
-  stops_by {k} {at} {codes} at_56 tape rows =
-      subst (λ (x : State). ComesToStop k x codes at) (λ i. record first {
-        store = record { words = same i; sandwich = first.store.sandwich };
-        counter = sym at_56 i;
-        tape = rows i;
-      })
+      → ReachesStop k first codes at
+  stops_by {k} {at} {codes} at_56 tape rows = search (rules, same)
 
 -- the same where all words of the source are known
 pub stops_from_entry : (z : Size) (lines : List Line) → have_places (placed lines) ≡ true → (n : ℕ) (few : n ≤ 456)
     (cells : List ℕ) → words_from (placed lines) 56 n ≡ cells → {k at : ℕ} {codes : List ℕ} → entry_of lines ≡ 56
     → (tape : List ℕ) → tape ≡ (entry_state z lines).tape
-    → ComesToStop k (state (frame_at n z few) (record (moment_at (entry_state z lines)) { cells = cells; tape = tape })
+    → ReachesStop k (state (frame_at n z few) (record (moment_at (entry_state z lines)) { cells = cells; tape = tape })
     (entry_state z lines).orders) codes at
-    → ComesToStop k (entry_state z lines) codes at
+    → ReachesStop k (entry_state z lines) codes at
 stops_from_entry z lines fit n few cells are =
     stops_by z lines n few (placed lines) (λ j l. word_at z lines fit (56 + j) (omega arith) (omega arith)) cells are

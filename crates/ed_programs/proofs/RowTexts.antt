@@ -1,16 +1,15 @@
 -- Texts whose bytes spell rows of tape.
-use Rattle.ed_programs.proofs.Kit.{◌≡◌, ℕ, suc, ◌-◌, ◌/◌, ◌%◌, ◌<◌, ◌≤◌, Bool, true, false, [], List, ◌∷◌, ◌++◌, map}
-use Rattle.ed_programs.proofs.Kit.{length, get_or, ◌==◌, Some, if◌then◌else◌, nat_lt, nat_le, None, decimal, Option, ap}
-use Rattle.ed_programs.proofs.Kit.{sym, refl, ◌∙◌, subst, arith, Text, list_all, and_parts, eq_of, lt_of, lt_true, ◌&&◌}
-use Rattle.ed_programs.proofs.Kit.{digits, true≢false, le_of, row_of, none, Spells, row, spells, are, both, decimal_is}
-use Rattle.std.specs.Prelude.{position}
+use Rattle.ed_programs.proofs.Kit.{none, Spells, are, decimal_is, row_bytes, rows_are, written, [], ap, arith, Bool}
+use Rattle.ed_programs.proofs.Kit.{decimal, false, get_or, if◌then◌else◌, length, List, map, nat_le, nat_lt, None}
+use Rattle.ed_programs.proofs.Kit.{Option, refl, Some, subst, suc, sym, true, ℕ, ◌%◌, ◌++◌, ◌-◌, ◌/◌, ◌<◌, ◌==◌, ◌∙◌}
+use Rattle.ed_programs.proofs.Kit.{◌∷◌, ◌≡◌, ◌≤◌, list_all, and_from, and_parts, eqb-true, leb-true, lt-ltb, ltb-true}
+use Rattle.ed_programs.proofs.Kit.{Text, row_of, row, spells, digits, without_zeros, true≢false, ◌&&◌}
+use Rattle.std.proofs.Common.{position}
 use Rattle.std.proofs.lemmas.List.Folds.{list_all_at}
 use Rattle.std.proofs.lemmas.List.Quantifiers.{position-Some}
 use Rattle.ed_codes.specs.Spelling.{letters}
 use Rattle.ed_codes.specs.Text.{row as one_row}
 use Rattle.ed_syntax.specs.Forms.{AreRowsOf}
-use Rattle.ed_routines.specs.Digits.{without_zeros}
-use Rattle.ed_sources.proofs.Decimals.{row_bytes, rows_are, written}
 
 -- the rows of a text
 abbrev pub text_rows : Text → List ℕ
@@ -36,7 +35,7 @@ letter_below : (i : ℕ) → i < length letters → get_or letters i 0 < 128
 letter_below i l = by_test (nat_lt (get_or letters i 0) 128) refl
   where
     by_test : (t : Bool) → nat_lt (get_or letters i 0) 128 ≡ t → get_or letters i 0 < 128
-    by_test true e = lt_of (get_or letters i 0) 128 e
+    by_test true e = ltb-true (get_or letters i 0) 128 e
     by_test false e =
         absurd (true≢false (sym refl ∙ list_all_at (λ letter. nat_lt letter 128) letters i 0 l e))
 
@@ -45,12 +44,12 @@ row_below : (b r : ℕ) → row_of b ≡ Some r → b < 128
 row_below b r is = by_digit (nat_le 48 b && nat_le b 57) refl
   where
     by_digit : (t : Bool) → (nat_le 48 b && nat_le b 57) ≡ t → b < 128
-    by_digit true e = let low = le_of b 57 (and_parts (nat_le 48 b) (nat_le b 57) e).1 in omega (arith, low)
+    by_digit true e = let low = leb-true b 57 (and_parts (nat_le 48 b) (nat_le b 57) e).1 in omega (arith, low)
     by_digit false e =
         let there : position (λ letter. letter == b) letters ≡ Some r =
         subst (λ t. (if t then Some (b - 48) else position (λ letter. letter == b) letters) ≡ Some r) e is in
         let found = position-Some (λ letter. letter == b) letters r 0 there in
-        let same : get_or letters r 0 ≡ b = eq_of (get_or letters r 0) b found.1 in
+        let same : get_or letters r 0 ≡ b = eqb-true (get_or letters r 0) b found.1 in
         subst (λ c. c < 128) same (letter_below r found.0)
 
 -- the bytes of a text that spell rows are such bytes, and these rows are the text's
@@ -63,9 +62,9 @@ spelled (b ∷ q) (r ∷ rows) e =
     let first : row_of b ≡ Some r = cc in
     let more : map row_of q ≡ map (λ r. Some r) rows = cc in
     let rest = spelled q rows more in
-    let low : nat_lt b 128 ≡ true = lt_true b 128 (row_below b r first) in
-    let here : is_row_byte b ≡ true = both _ _ low (ap spells first) in (
-      both _ _ here rest.0,
+    let low : nat_lt b 128 ≡ true = lt-ltb b 128 (row_below b r first) in
+    let here : is_row_byte b ≡ true = and_from _ _ low (ap spells first) in (
+      and_from _ _ here rest.0,
       (λ i. row (first i) ∷ rest.1 i),
     )
 

@@ -1,18 +1,19 @@
 -- What the lines of a source say: most lines by computation, those with data by a proof.
 --
 -- Only this module uses the definitions of how a source is read.
-use Rattle.ed_sources.proofs.Kit.{sym, ap, ◌∙◌, subst, arith, lit≤, list_all, and_parts, Text, parts_of, Line}
-use Rattle.ed_sources.proofs.Kit.{Statement, text_of_lines}
-use Rattle.ed_top.proofs.Kit.{Err, Result}
-use Rattle.ed_laws.proofs.Kit.{◌&&◌}
-use Rattle.std.specs.Prelude.{is_ok, ◌≡◌, ℕ, suc, ◌+◌, ◌-◌, ◌≤◌, Bool, true, false, List, [], ◌∷◌, refl, length, nat_lt}
-use Rattle.std.specs.Prelude.{drop, get_or, map, nat_eq, nat_le, ◌==◌, ◌||◌, not, Option, Some, None, if◌then◌else◌, Ok}
-use Rattle.ed_words.proofs.Numbers.{le_true, not_lt_of, eq_false, eq_of, lt_false}
-use Rattle.ed_syntax.specs.Parts.{LinePart, is_line_byte}
-use Rattle.ed_syntax.specs.Reading.Grammar.{form_at}
-use Rattle.ed_syntax.specs.Reading.Sources.{Fault, and_lines, is_two, lines_from, line_of, program_of}
+use Rattle.ed_sources.proofs.Kit.{[], ap, arith, Bool, drop, false, get_or, if◌then◌else◌, length, List, lit≤, map}
+use Rattle.ed_sources.proofs.Kit.{nat_eq, nat_le, nat_lt, None, not, Ok, Option, refl, rules, Some, subst, suc, sym}
+use Rattle.ed_sources.proofs.Kit.{true, ℕ, ◌+◌, ◌-◌, ◌==◌, ◌||◌, ◌∙◌, ◌∷◌, ◌≡◌, ◌≤◌, list_all, and_parts, eqb-true}
+use Rattle.ed_sources.proofs.Kit.{le-leb, le-ltb, ne_eqb, Text, is_line_byte, LinePart, form_at, parts_of, is_two}
+use Rattle.ed_sources.proofs.Kit.{line_of, lines_from, program_of, text_of_lines}
+use Rattle.ed_syntax.proofs.Kit.{Err, Result, ◌&&◌, Fault}
+use Rattle.std.proofs.Common.{is_ok}
+use Rattle.std.proofs.lemmas.Bool.{ltb-false}
+use Rattle.ed_syntax.specs.Reading.Sources.{and_lines}
 use Rattle.ed_syntax.specs.declared.fault.SourceCause.{SourceCause}
 use Rattle.ed_syntax.specs.declared.fault.SourceCause.TheVariants.{BadByte, LongLine, TooManyLines}
+use Rattle.ed_syntax.specs.declared.program.Line.{Line}
+use Rattle.ed_syntax.specs.declared.program.Statement.{Statement}
 use Rattle.ed_sources.proofs.TextLines.{lines_back}
 
 -- what the lines from a number upwards say
@@ -28,7 +29,7 @@ pub said_lines : {two : Bool} {k : ℕ} {lines : List Text} {program : List Line
     → k + length lines ≤ 2001 → lines_from two k lines ≡ Ok program
 said_lines ends few = refl
 said_lines {two} {k} (says {line = line} {lines = lines} {program = program} here rest) few =
-    let within : (k == 2001) ≡ false = eq_false k 2001 (omega (arith, few)) in
+    let within : (k == 2001) ≡ false = ne_eqb k 2001 (omega (arith, few)) in
     ap (λ (t : Bool). if t then Err (record { line = k; cause = TooManyLines })
     else and_lines k (line_of two k line) (lines_from two (k + 1) lines))
     within
@@ -41,7 +42,7 @@ pub by_parts : (two : Bool) {label : Option Text} {statement : Option Statement}
     → form_at two k parts ≡ Some (Some (record { label = label; statement = statement }))
     → line_of two k line ≡ Ok (record { label = label; statement = statement })
 by_parts two k line parts plain short are is =
-    let fits : nat_lt 120 (length line) ≡ false = lt_false 120 (length line) short in
+    let fits : nat_lt 120 (length line) ≡ false = le-ltb 120 (length line) short in
     rw (plain, fits, are, is) refl
 
 -- ---- lines by computation
@@ -120,13 +121,13 @@ module _ (two : Bool) (all : List Text) where
             label = m.label;
             statement = Some m.statement;
           }))
-          (eq_of m.number k e) (subst (λ (t : Text). line_of two m.number t ≡ Ok (record {
+          (eqb-true m.number k e) (subst (λ (t : Text). line_of two m.number t ≡ Ok (record {
             label = m.label;
             statement = Some m.statement;
           })) (sym (ap (λ (ts : List Text). get_or ts 0 []) marked)) m.says) in
           (λ i. and_lines k (is i) (Ok rest))
           ∙ ap (λ n. Ok (record { number = n; label = m.label; statement = Some m.statement } ∷ rest))
-          (sym (eq_of m.number k e))
+          (sym (eqb-true m.number k e))
       by_test other false e read = other read
 
   all_say : (ms : List (Marked two)) (k : ℕ) (lines : List Text) → texts_at all ms ≡ marked_texts ms → 1 ≤ k
@@ -150,11 +151,7 @@ line_fine false long r h = absurd (cc)
 is_read : {F : Type 0} {l : Line} (and : Result F SourceCause → Result (List Line) Fault) (k : ℕ)
     → ((cause : SourceCause) → and (Err cause) ≡ Err (record { line = k; cause = cause })) → (r : Result F SourceCause)
     → and r ≡ Ok (l ∷ []) → is_ok r ≡ true
-is_read and k fails (Ok form) h = refl
-is_read {l = l} and k fails (Err cause) h =
-    let no : ◌≡◌ {A = Result (List Line) Fault} (Err (record { line = k; cause = cause })) (Ok (l ∷ [])) =
-    sym (fails cause) ∙ h in
-    absurd (cc)
+is_read and k fails h h0 = search rules
 
 -- so are lines that say something
 pub said_fine : {two : Bool} {k : ℕ} {lines : List Text} {program : List Line} → Says two k lines program
@@ -164,7 +161,7 @@ said_fine {two} {k} (says {line = line} here rest) =
     let is = line_fine (list_all is_line_byte line) (nat_lt 120 (length line)) _
     (is_read (λ r. and_lines k r (Ok [])) k (λ c. refl) (line_of two k line) (here [])) in
     let plain = is.0 in
-    let short = le_true (length line) 120 (not_lt_of 120 (length line) is.1) in
+    let short = le-leb (length line) 120 (ltb-false 120 (length line) is.1) in
     let more = said_fine rest in
     let all_plain = more.0 in
     let all_short = more.1 in

@@ -1,24 +1,20 @@
 -- The outcome of a source whose program reaches its stop, as the answer of the command `run`.
-use Rattle.ed_sources.proofs.Kit.{program_of, AnswersFromEntry}
-use Rattle.ed_programs.proofs.Kit.{◌≡◌, ℕ, ◌+◌, ◌≤◌, Bool, true, [], List, length, nat_le, None, Ok, Option, ap, subst}
-use Rattle.ed_programs.proofs.Kit.{arith, Text, and_parts, Size, paper, Line, fault, ComesToStop, entry_state, Settings}
-use Rattle.ed_programs.proofs.Kit.{run_outcome, text_of_lines, OfSource, ◌&&◌, Full, Small, le_of, woven_text, Marked}
-use Rattle.ed_programs.proofs.Kit.{SourceRuns}
+use Rattle.ed_programs.proofs.Kit.{Size, Full, Small, Settings, Line, [], ap, arith, Bool, length, List, nat_le, None}
+use Rattle.ed_programs.proofs.Kit.{Ok, Option, subst, true, ℕ, ◌+◌, ◌≡◌, ◌≤◌, and_parts, leb-true, Text, paper, is_two}
+use Rattle.ed_programs.proofs.Kit.{program_of, fault, ReachesStop, entry_state, AnswersFromEntry, run_outcome}
+use Rattle.ed_programs.proofs.Kit.{read_is_accepted, accepted_is, each_answer_is_from_entry, filled_text}
+use Rattle.ed_programs.proofs.Kit.{text_of_lines, stopped_outcome, ◌&&◌, OfSource, SourceRuns, Marked}
 use Rattle.ed_syntax.specs.declared.fault.SourceFault.{SourceFault}
-use Rattle.ed_syntax.specs.Reading.Sources.{is_two}
-use Rattle.ed_answers.proofs.EachSource.{read_is_accepted}
-use Rattle.ed_answers.proofs.Sources.{accepted_is, each_answer_is_from_entry}
-use Rattle.ed_sources.proofs.Stopped.{stopped_outcome}
+use Rattle.ed_sources.proofs.FilledLines.{unended, filled_is, filled_lines}
 use Rattle.ed_programs.proofs.Answered.{are_short, is_due}
 use Rattle.ed_programs.proofs.SourceLines.{are_read, lines_said, marked_texts, said_fine, source_read, source_said}
 use Rattle.ed_programs.proofs.SourceLines.{texts_at}
-use Rattle.ed_sources.proofs.WovenLines.{unended, woven_is, woven_lines}
 
 -- a source that is read as these lines, has no fault and reaches its stop
 pub source_runs : (s : Settings) (texts : List Text) {lines : List Line} {k at : ℕ} {printed : List ℕ}
     → are_short texts ≡ true → length texts ≤ 2000 → program_of (text_of_lines texts) ≡ Ok lines
     → fault s.size lines ≡ None
-    → ComesToStop k (entry_state s.size lines) printed at → length printed ≤ 1000000
+    → ReachesStop k (entry_state s.size lines) printed at → length printed ≤ 1000000
     → SourceRuns s (text_of_lines texts) (k + 1) at (paper printed)
 source_runs s texts {lines} short small reads faultless stops few =
     let source = text_of_lines texts in
@@ -34,9 +30,9 @@ source_runs s texts {lines} short small reads faultless stops few =
           );
     }
 
--- the lines of a woven source
+-- the lines of a filled source
 abbrev pub lines_of_pieces : (two : Bool) → List Text → List Text → List (Marked two) → List Line
-lines_of_pieces two pieces ds marks = lines_said two 1 (woven_lines pieces ds) marks
+lines_of_pieces two pieces ds marks = lines_said two 1 (filled_lines pieces ds) marks
 
 -- what is asked of it, by computation: its text ends with its last line, its version is this one, and each of its lines
 -- is read or marked with what it says
@@ -45,7 +41,7 @@ Read = Text × (Bool × (Bool × List Text))
 
 abbrev pub read_of : (two : Bool) → List Text → List Text → List (Marked two) → Read
 read_of two pieces ds marks =
-    let texts = woven_lines pieces ds in (
+    let texts = filled_lines pieces ds in (
       unended pieces ds,
       (
         is_two texts,
@@ -64,17 +60,17 @@ wanted two marks = ([], (two, (true, marked_texts marks)))
 pub read_runs : (s : Settings) (two : Bool) (pieces ds : List Text) (marks : List (Marked two)) {k orders at : ℕ}
     {printed : List ℕ} {text : Text} → read_of two pieces ds marks ≡ wanted two marks
     → fault s.size (lines_of_pieces two pieces ds marks) ≡ None
-    → ComesToStop k (entry_state s.size (lines_of_pieces two pieces ds marks)) printed at → length printed ≤ 1000000
-    → k + 1 ≡ orders → paper printed ≡ text → SourceRuns s (woven_text pieces ds) orders at text
+    → ReachesStop k (entry_state s.size (lines_of_pieces two pieces ds marks)) printed at → length printed ≤ 1000000
+    → k + 1 ≡ orders → paper printed ≡ text → SourceRuns s (filled_text pieces ds) orders at text
 read_runs s two pieces ds marks {k} {orders} {at} {printed} {text} o faultless stops few count shown =
-    let texts : List Text = woven_lines pieces ds in
+    let texts : List Text = filled_lines pieces ds in
     let p = and_parts (nat_le (length texts) 2000) (are_read two 1 texts marks) (ap (λ (t : Read). t.1.1.0) o) in
-    let small : length texts ≤ 2000 = le_of (length texts) 2000 p.0 in
+    let small : length texts ≤ 2000 = leb-true (length texts) 2000 p.0 in
     let said = source_said two texts marks p.1 (ap (λ (t : Read). t.1.1.1) o) in
     let runs : SourceRuns s (text_of_lines texts) (k + 1) at (paper printed) =
     source_runs s texts (said_fine said).1 small
     (source_read two texts (ap (λ (t : Read). t.1.0) o) said (omega (arith, small))) faultless stops few in
-    subst (λ (source : Text). SourceRuns s source orders at text) (woven_is pieces ds (ap (λ (t : Read). t.0) o))
+    subst (λ (source : Text). SourceRuns s source orders at text) (filled_is pieces ds (ap (λ (t : Read). t.0) o))
     (subst (λ n. SourceRuns s (text_of_lines texts) n at text) count
     (subst (λ (t : Text). SourceRuns s (text_of_lines texts) (k + 1) at t) shown runs))
 
@@ -91,8 +87,8 @@ no_fault lines small full Full = full
 
 pub program_runs : (s : Settings) (two : Bool) (pieces ds : List Text) (marks : List (Marked two)) {k orders at : ℕ}
     {printed : List ℕ} {text : Text} → AreSaid two pieces ds marks
-    → ComesToStop k (entry_state s.size (lines_of_pieces two pieces ds marks)) printed at → length printed ≤ 1000000
-    → k + 1 ≡ orders → paper printed ≡ text → SourceRuns s (woven_text pieces ds) orders at text
+    → ReachesStop k (entry_state s.size (lines_of_pieces two pieces ds marks)) printed at → length printed ≤ 1000000
+    → k + 1 ≡ orders → paper printed ≡ text → SourceRuns s (filled_text pieces ds) orders at text
 program_runs s two pieces ds marks o =
     read_runs s two pieces ds marks (ap (λ (t : Read × (Option SourceFault × Option SourceFault)). t.0) o)
     (no_fault (lines_of_pieces two pieces ds marks)

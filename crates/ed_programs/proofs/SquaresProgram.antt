@@ -1,8 +1,8 @@
 -- The program of `examples/squares.tape1`: a loop that counts the tens of a square, in a loop over the squares.
-use Rattle.ed_programs.proofs.Kit.{◌≡◌, ℕ, zero, suc, ◌+◌, ◌-◌, ◌*◌, ◌/◌, ◌%◌, ◌<◌, ◌≤◌, [], List, ◌∷◌, Some, Option, A}
-use Rattle.ed_programs.proofs.Kit.{refl, arith, lit<, lit≤, A_F, G_F, Z_F, short, state, Frame, Moment, ComesToStop, L}
-use Rattle.ed_programs.proofs.Kit.{E_F, O_F, S_F, T_F, Full, E_jumps, G_jumps, G_stays, O, S, T, Z, followed, on, stay}
-use Rattle.ed_programs.proofs.Kit.{prints, Path, own, L512F, along, to_stop}
+use Rattle.ed_programs.proofs.Kit.{A_F, E_F, G_F, O_F, S_F, T_F, Z_F, Full, G_stays, O, Z, L512F, along, to_stop}
+use Rattle.ed_programs.proofs.Kit.{E_jumps, L, S, T, prints, followed, [], arith, List, lit<, lit≤, Option, refl, Some}
+use Rattle.ed_programs.proofs.Kit.{suc, zero, ℕ, ◌%◌, ◌*◌, ◌+◌, ◌-◌, ◌/◌, ◌<◌, ◌∷◌, ◌≡◌, ◌≤◌, Frame, Moment, short}
+use Rattle.ed_programs.proofs.Kit.{state, A, G_jumps, on, Path, stay, own, ReachesStop}
 use Rattle.std.proofs.lemmas.Nat.{mul-le}
 use Rattle.ed_machine.proofs.Kit.Loops.{printed, quiet_rounds, varying}
 
@@ -195,5 +195,5 @@ module _ (around : Moment) where
   whole : Path frame 383 entering all_codes (at 29 0 (work 9) (Some 24))
   whole = followed begins (followed (varying turn_orders before (λ i. figures (square_after i)) 8 turn) last_turn)
 
-  pub squares_stop : (done : ℕ) → ComesToStop 383 (state frame entering done) all_codes 61
+  pub squares_stop : (done : ℕ) → ReachesStop 383 (state frame entering done) all_codes 61
   squares_stop done = to_stop (along whole) (Z 29 Z_F refl refl) done

@@ -1,11 +1,8 @@
 -- What `examples/squares.tape1` prints.
-use Rattle.ed_programs.proofs.Kit.{◌≡◌, ℕ, [], List, ◌∷◌, length, refl, subst, lit≤, State, state, Moment, ComesToStop}
-use Rattle.ed_programs.proofs.Kit.{Settings, INPUT_BYTES, paper_room, le_of, reading, rows, patched}
-use Rattle.ed_initial1.specs.Entry.{at_entry1}
-use Rattle.ed_initial1.specs.Faults.{Comes1, Tape}
-use Rattle.ed_initial1.specs.Items.{Item1, spelled_rows1}
-use Rattle.ed_answers.specs.FirstOrders.{first_state1}
-use Rattle.ed_programs.specs.FirstTapes.{FirstTapeRuns}
+use Rattle.ed_programs.proofs.Kit.{Settings, at_entry1, Item1, rows, INPUT_BYTES, [], length, List, refl, rules, subst}
+use Rattle.ed_programs.proofs.Kit.{ℕ, ◌∷◌, ◌≡◌, leb-true, State, Moment, state, patched, ReachesStop, reading}
+use Rattle.ed_programs.proofs.Kit.{ReachesEntry1, Tape, first_state1, paper_room, FirstTapeRuns}
+use Rattle.ed_initial1.specs.Items.{spelled_rows1}
 use Rattle.ed_programs.specs.Squares.{squares_cost, squares_orders, squares_prints, squares_text}
 use Rattle.ed_programs.proofs.FirstTapeRuns.{are_items, first_tape_runs, short_item}
 use Rattle.ed_programs.proofs.SquaresProgram.{all_codes, entering, frame, squares_stop}
@@ -34,13 +31,8 @@ tape_rows = spelled_rows1 items
 spells : reading squares_text ≡ rows tape_rows
 spells = refl
 
-comes : Comes1 tape_rows program
-comes = record {
-  rows_are = refl;
-  good = are_items items refl;
-  first = record { function = refl; short = refl; number = refl; low = lit≤ tt; high = lit≤ tt };
-  count = refl;
-}
+comes : ReachesEntry1 tape_rows program
+comes = search (rules, are_items)
 
 -- ---- at the entry
 
@@ -64,10 +56,11 @@ begins : state frame (entering around) entry.orders ≡ entry
 unfolding first_state1 patched
 begins = refl
 
-stops : ComesToStop 383 entry (all_codes around) 61
-stops = subst (λ (x : State). ComesToStop 383 x (all_codes around) 61) begins (squares_stop around entry.orders)
+stops : ReachesStop 383 entry (all_codes around) 61
+stops = subst (λ (x : State). ReachesStop 383 x (all_codes around) 61) begins (squares_stop around entry.orders)
 
 pub squares_run : (s : Settings) → FirstTapeRuns s squares_text squares_cost squares_orders 61 squares_prints
 squares_run s =
-    first_tape_runs s squares_text tape_rows program spells (le_of (length squares_text) INPUT_BYTES refl) comes stops
-    (le_of (length (all_codes around)) paper_room refl)
+    first_tape_runs s squares_text tape_rows program spells (leb-true (length squares_text)
+    INPUT_BYTES refl) comes stops
+    (leb-true (length (all_codes around)) paper_room refl)

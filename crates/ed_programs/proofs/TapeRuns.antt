@@ -1,19 +1,16 @@
 -- The outcome of a tape whose program reaches its stop, as the answer of the command `tape`.
-use Rattle.ed_laws.proofs.Kit.{cleared_cells, RunEnd, opening, IsDirective, Arrived, reading_is_rules, LeadsIn, run_of}
-use Rattle.ed_laws.proofs.Kit.{with_post_mortem, first_note, tape_outcome}
-use Rattle.ed_programs.proofs.Kit.{◌≡◌, ℕ, ◌+◌, ◌-◌, ◌≤◌, true, [], List, ◌∷◌, ◌++◌, length, get_or, None, Ok, codes}
-use Rattle.ed_programs.proofs.Kit.{Option, sym, refl, ap, ◌∙◌, subst, inl, arith, lit≤, Text, list_all, Size, paper}
-use Rattle.ed_programs.proofs.Kit.{State, ComesToStop, at_after, step, Err, Result, Global, Settings, Outcome, run_end}
-use Rattle.ed_programs.proofs.Kit.{INPUT_BYTES, TapeEntry, paper_room, ran_outcome, first_state, String, reading, rows}
-use Rattle.ed_programs.proofs.Kit.{Spells, has_one_reading, reading_on, Comes, exactly, OfReading, among, numbers}
-use Rattle.ed_programs.proofs.Kit.{answered, ran_to_stop, tape_state, GivesProgram, TapeRuns, Refusal}
+use Rattle.ed_programs.proofs.Kit.{String, Global, Size, has_one_reading, Settings, ReachesEntry, comes_in, Err}
+use Rattle.ed_programs.proofs.Kit.{Result, rows, Spells, INPUT_BYTES, exactly, OfReading, among, numbers, is_met, []}
+use Rattle.ed_programs.proofs.Kit.{ap, arith, codes, get_or, inl, length, List, None, Ok, Option, refl, subst, sym}
+use Rattle.ed_programs.proofs.Kit.{true, ℕ, ◌++◌, ◌+◌, ◌-◌, ◌∙◌, ◌∷◌, ◌≡◌, ◌≤◌, list_all, Text, paper, step, State}
+use Rattle.ed_programs.proofs.Kit.{Holds, run_end, ReachesStop, at_after, ran_outcome-answered, nothing_after, ran_to_stop}
+use Rattle.ed_programs.proofs.Kit.{tape_state, reading, TapeEntry, opening, reading_on, first_state, LeadsIn}
+use Rattle.ed_programs.proofs.Kit.{first_store, starts, Outcome, paper_room, ran_outcome, with_post_mortem}
+use Rattle.ed_programs.proofs.Kit.{tape_outcome, GivesProgram, TapeRuns, Refusal}
+use Rattle.ed_laws.proofs.Kit.{cleared_cells, RunEnd, ran_later, Arrived, first_directive, reading_is_rules, run_of}
+use Rattle.ed_laws.proofs.Kit.{opening_notation}
 use Rattle.ed_codes.specs.Reading.{IsReadingOf, no_row, open_comment}
-use Rattle.ed_initial.proofs.Quiet.{comes_in}
-use Rattle.ed_run.proofs.Later.{ran_later}
-use Rattle.ed_machine.proofs.Kit.Standing.{Holds}
-use Rattle.ed_initial.proofs.Starts.{first_store, starts}
-use Rattle.ed_sources.proofs.Entries.{is_met, meets_of}
-use Rattle.ed_sources.proofs.Stopped.{nothing_after}
+use Rattle.ed_sources.proofs.Entries.{meets_of}
 use Rattle.ed_programs.specs.Tapes.{TapePrints}
 
 -- a text whose reading is rows spells them
@@ -36,14 +33,11 @@ holds_in words image base test i l =
 -- rows are read to an entry from a cleared store, and from the store after Start, where the reading of the Initial
 -- Orders begins; both are computed
 pub record Arrives (z : Size) (tape_rows : List ℕ) (e : TapeEntry) : Type 0 where
-  pub cleared : reading_on z cleared_cells.words 0 9 first_note None tape_rows ≡ Arrived e
+  pub cleared : reading_on z cleared_cells.words 0 9 opening_notation None tape_rows ≡ Arrived e
   pub started : reading_on z (first_state z tape_rows).store.words 0 9
       (opening (first_state z tape_rows).store.words) None
       tape_rows
       ≡ Arrived e
-
-first_directive : IsDirective 20568
-first_directive = record { no_1 = omega arith; no_2 = omega arith; no_4 = omega arith; most = lit≤ tt }
 
 module _ {z : Size} {tape_rows : List ℕ} {e : TapeEntry} (o : Arrives z tape_rows e) where
   abbrev first : State
@@ -53,7 +47,7 @@ module _ {z : Size} {tape_rows : List ℕ} {e : TapeEntry} (o : Arrives z tape_r
   unfolding first_state
   fresh = (refl, refl, refl)
 
-  comes_on : Comes first e
+  comes_on : ReachesEntry first e
   unfolding first_state
   comes_on =
       let rules = reading_is_rules z first.store.words (opening first.store.words) 9 tape_rows first_directive in
@@ -65,10 +59,10 @@ module _ {z : Size} {tape_rows : List ℕ} {e : TapeEntry} (o : Arrives z tape_r
 -- a text that spells these rows, which reach this entry, and whose program reaches its stop from there
 pub tape_runs : (s : Settings) (tape : Text) (tape_rows : List ℕ) (e : TapeEntry) {k at : ℕ} {printed : List ℕ}
     → reading tape ≡ rows tape_rows → length tape ≤ INPUT_BYTES → Arrives s.size tape_rows e
-    → ComesToStop k (tape_state s tape_rows e) printed at → length printed ≤ paper_room
+    → ReachesStop k (tape_state s tape_rows e) printed at → length printed ≤ paper_room
     → TapeRuns s tape e.cost (k + 1) at (paper printed)
 tape_runs s tape tape_rows e {k} {at} {printed} reads short arrives stops few =
-    let rules = reading_is_rules s.size cleared_cells.words first_note 9 tape_rows first_directive in
+    let rules = reading_is_rules s.size cleared_cells.words opening_notation 9 tape_rows first_directive in
     let in_order = leads_on arrives in
     let first : State = tape_state s tape_rows e in
     let left : ℕ = s.limit - e.cost in
@@ -90,7 +84,7 @@ tape_runs s tape tape_rows e {k} {at} {printed} reads short arrives stops few =
           let answer = ap (λ (r : RunEnd). ran_outcome [] (with_post_mortem s.post_mortem r)) whole
           ∙ (λ i. ran_outcome [] (with_post_mortem (plain i) (run_end left 0 paper_room first)))
           ∙ ap (ran_outcome []) (nothing_after (run_end left 0 paper_room first))
-          ∙ answered [] (run_end left 0 paper_room first) ended stops.counter count in
+          ∙ ran_outcome-answered [] (run_end left 0 paper_room first) ended stops.counter count in
           let due : Outcome = record {
             out = paper printed;
             note = at_after (codes "stopped") at (e.cost + (k + 1)) ++ 10 ∷ [];

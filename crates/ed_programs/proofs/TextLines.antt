@@ -1,27 +1,19 @@
 -- Lines of a source with data: one with a text of rows, and one that has a number between other parts.
-use Rattle.ed_sources.proofs.Kit.{list_all-append, value, eq_false, is_run_byte, is_line_byte, parts_of}
-use Rattle.ed_programs.proofs.Kit.{◌≡◌, ℕ, ◌+◌, ◌<◌, ◌≤◌, Bool, true, false, not, [], ◌||◌, List, ◌∷◌, ◌++◌, length, Ok}
-use Rattle.ed_programs.proofs.Kit.{◌==◌, Some, nat_lt, nat_le, codes, decimal, Option, sym, refl, ap, ◌∙◌, subst, arith}
-use Rattle.ed_programs.proofs.Kit.{Text, length-append, list_all, and_parts, length-map, lt_of, line_of, Statement, row}
-use Rattle.ed_programs.proofs.Kit.{digits, ◌&&◌, true≢false, le_of, le_true, row_of, spells, among, are, both, Marked}
-use Rattle.ed_programs.proofs.Kit.{decimal_is, few_bytes}
-use Rattle.std.proofs.lemmas.Bool.{not-true}
-use Rattle.ed_syntax.specs.Parts.{LinePart, run, sign, quoted, begins_run, array, is_number, has_quote}
-use Rattle.ed_syntax.specs.Names.{is_place_name}
-use Rattle.ed_syntax.specs.Reading.Grammar.{form_at}
-use Rattle.ed_syntax.specs.declared.program.Statement.TheVariants as statements
-use Rattle.ed_syntax.proofs.PartLemmas.{quote_parts, run_parts}
-use Rattle.ed_sources.proofs.Decimals.{digit_bytes, line_bytes, run_bytes, some_digit, value_is, written}
-use Rattle.ed_sources.proofs.Said.{a_number}
-use Rattle.ed_programs.proofs.RowTexts.{is_row_byte, text_rows}
+use Rattle.ed_programs.proofs.Kit.{Statement, is_place_name, array, has_quote, quoted, quote_parts, among, are}
+use Rattle.ed_programs.proofs.Kit.{decimal_is, digit_bytes, few_bytes, line_bytes, run_bytes, some_digit, value_is}
+use Rattle.ed_programs.proofs.Kit.{written, [], ap, arith, Bool, codes, decimal, false, length, length-append, List}
+use Rattle.ed_programs.proofs.Kit.{nat_le, nat_lt, Ok, Option, refl, rules, Some, subst, sym, true, ℕ, ◌++◌, ◌+◌, ◌<◌}
+use Rattle.ed_programs.proofs.Kit.{◌==◌, ◌∙◌, ◌∷◌, ◌≡◌, ◌≤◌, list_all, and_from, and_parts, le-leb, leb-true, ltb-true}
+use Rattle.ed_programs.proofs.Kit.{ne_eqb, not-true, nat_tests, length-map, list_all-append, value, Text, row_of}
+use Rattle.ed_programs.proofs.Kit.{is_run_byte, is_line_byte, is_number, LinePart, run, sign, form_at, row, spells}
+use Rattle.ed_programs.proofs.Kit.{parts_of, line_of, run_parts, digits, a_number, true≢false, ◌&&◌, Marked}
+use Rattle.ed_syntax.specs.Parts.{begins_run}
 use Rattle.ed_programs.proofs.NumberLines.{is_short_label}
+use Rattle.ed_programs.proofs.RowTexts.{is_row_byte, text_rows}
 use Rattle.ed_programs.proofs.SourceLines.{by_parts}
+use Rattle.ed_syntax.specs.declared.program.Statement.TheVariants as statements
 
 -- ---- a line that ends with `text` and a string
-
--- what a byte that spells a row is, as a test: one of a line, no quote, and its row is a code
-abbrev fine : ℕ → Bool
-fine b = not (is_row_byte b) || (is_line_byte b && (not (b == 34) && (spells (row_of b) && nat_lt (row (row_of b)) 32)))
 
 record Spelling (b : ℕ) : Type 0 where
   line : is_line_byte b ≡ true
@@ -30,16 +22,7 @@ record Spelling (b : ℕ) : Type 0 where
   code : nat_lt (row (row_of b)) 32 ≡ true
 
 spelling : (b : ℕ) → is_row_byte b ≡ true → Spelling b
-spelling b h =
-    let small = lt_of b 128 (and_parts (nat_lt b 128) (spells (row_of b)) h).0 in
-    let all : fine b ≡ true = among fine 0 128 b refl (omega arith) (omega arith) in
-    let is : (is_line_byte b && (not (b == 34) && (spells (row_of b) && nat_lt (row (row_of b)) 32))) ≡ true =
-    subst (λ t. (not t || (is_line_byte b && (not (b == 34) && (spells (row_of b) && nat_lt (row (row_of b)) 32))))
-    ≡ true) h all in
-    let p = and_parts (is_line_byte b) _ is in
-    let q = and_parts (not (b == 34)) _ p.1 in
-    let r = and_parts (spells (row_of b)) _ q.1 in
-    record { line = p.0; quote = not-true (b == 34) q.0; spelled = r.0; code = r.1 }
+spelling b h = search (rules, ltb-true, and_parts, among, not-true)
 
 -- what such bytes are
 pub record Plain (q : Text) : Type 0 where
@@ -55,10 +38,10 @@ all_plain (b ∷ q) h =
     let here = spelling b p.0 in
     let rest = all_plain q p.1 in
     record {
-      line = both _ _ here.line rest.line;
+      line = and_from _ _ here.line rest.line;
       quote = let x = here.quote in let y = rest.quote in rw (x, y) refl;
-      spelled = both _ _ here.spelled rest.spelled;
-      codes = both _ _ here.code rest.codes;
+      spelled = and_from _ _ here.spelled rest.spelled;
+      codes = and_from _ _ here.code rest.codes;
     }
 
 pub text_says : (two : Bool) (k : ℕ) (label q : Text) → 2 ≤ k → is_short_label two label ≡ true → 1 ≤ length q
@@ -74,18 +57,18 @@ text_says two k (b ∷ r) q later fits some few rows =
     let t = and_parts (is_place_name two l) _ p.1 in
     let u = and_parts (list_all is_line_byte l) (list_all is_run_byte l) t.1 in
     let name = t.0 in
-    let short = le_of (length l) 13 p.0 in
-    let no_version : (k == 1) ≡ false = eq_false k 1 (omega (arith, later)) in
+    let short = leb-true (length l) 13 p.0 in
+    let no_version : (k == 1) ≡ false = ne_eqb k 1 (omega (arith, later)) in
     let plain = all_plain q rows in
     let spelled = plain.spelled in
     let line : list_all is_line_byte rest ≡ true =
     list_all-append is_line_byte q (34 ∷ []) ∙ ap (λ t. t && true) plain.line in
     let long = length-append q (34 ∷ []) in
     let all = length-append l rest in
-    let there = le_true 1 (length q) some in
-    let near = le_true (length q) 120 (omega arith) in
+    let there = le-leb 1 (length q) some in
+    let near = le-leb (length q) 120 (omega arith) in
     by_parts two k (l ++ rest) (run l ∷ sign 58 ∷ run (codes "text") ∷ quoted q ∷ [])
-    (list_all-append is_line_byte l rest ∙ both _ _ u.0 line) (omega arith)
+    (list_all-append is_line_byte l rest ∙ and_from _ _ u.0 line) (omega arith)
     (run_parts b r rest u.1 refl ∙ (let e = quote_parts [] q [] plain.quote in rw e refl))
     (rw (no_version, name, there, near, spelled) refl)
 
@@ -119,18 +102,8 @@ module _ {two : Bool} {k : ℕ} {front tail : Text} {before after : List LinePar
   with_bytes : (bytes : Text) → 0 < length bytes → list_all is_line_byte bytes ≡ true → length bytes ≤ 5
       → list_all is_run_byte bytes ≡ true → is_number bytes ≡ true → value bytes ≡ n
       → line_of two k (front ++ (bytes ++ tail)) ≡ Ok (record { label = label; statement = Some statement })
-  with_bytes [] some plain few runs number is = absurd (omega arith)
-  with_bytes (b ∷ r) some plain few runs number is =
-      let bytes : Text = b ∷ r in
-      let here = o.tail_parts in
-      let short = o.short in
-      let all = length-append front (bytes ++ tail) in
-      let long = length-append bytes tail in
-      by_parts two k (front ++ (bytes ++ tail)) (before ++ run bytes ∷ after)
-      (o.plain (bytes ++ tail) (list_all-append is_line_byte bytes tail ∙ both _ _ plain o.tail_plain))
-      (omega (arith, all, long, short, few))
-      (o.parts (bytes ++ tail) (run bytes ∷ after) (run_parts b r tail runs o.ends ∙ rw here refl))
-      (o.form bytes number is)
+  with_bytes bytes some plain few runs number is =
+      grind (arith, nat_tests, length-append, by_parts, list_all-append, and_from, run_parts)
 
   pub number_says : n < 65536
       → line_of two k (front ++ (decimal n ++ tail)) ≡ Ok (record { label = label; statement = Some statement })

@@ -1,25 +1,18 @@
 -- A source that ends with a text of any length, the routine `newline` after it, and its entry at 56: it has no fault there,
 -- and where its words stand at the entry.
-use Rattle.ed_sources.proofs.Kit.{list_all-append, placed_at, image_word, Definition, linked_words, counter}
-use Rattle.ed_programs.proofs.Kit.{◌≡◌, ℕ, zero, suc, ◌+◌, ◌*◌, ◌<◌, ◌≤◌, true, [], List, ◌∷◌, ◌++◌, map, length, Some}
-use Rattle.ed_programs.proofs.Kit.{get_or, nat_lt, None, codes, unwrap_or, sym, refl, ap, ◌∙◌, inl, inr, append-nil}
-use Rattle.ed_programs.proofs.Kit.{arith, Text, list_all, and_parts, length-map, Size, lt_of, least, Line, newline}
-use Rattle.ed_programs.proofs.Kit.{entry_state, parameter_store, ◌&&◌, reverse, HasRoutine, frame_at}
-use Rattle.ed_library.specs.Entries.{entry}
-use Rattle.ed_library.specs.Images.{routine_word}
-use Rattle.ed_library.specs.Routines.{table_item}
-use Rattle.ed_syntax.specs.Parts.{array}
-use Rattle.ed_syntax.specs.declared.program.Statement.TheVariants as statements
-use Rattle.ed_symbols.specs.Names.{place_on}
-use Rattle.ed_symbols.specs.Places.{even_from}
+use Rattle.ed_programs.proofs.Kit.{Size, Line, array, Definition, are_below, ExtentList, past, entry, routine_word}
+use Rattle.ed_programs.proofs.Kit.{table_item, place_on, even_from, extent, fault_from, have_places, frame_at, [], ap}
+use Rattle.ed_programs.proofs.Kit.{append-nil, arith, codes, get_or, inl, inr, length, List, map, nat_lt, None, refl}
+use Rattle.ed_programs.proofs.Kit.{reverse, rules, Some, suc, sym, true, unwrap_or, zero, ℕ, ◌*◌, ◌++◌, ◌+◌, ◌<◌, ◌∙◌}
+use Rattle.ed_programs.proofs.Kit.{◌∷◌, ◌≡◌, ◌≤◌, list_all, and_parts, ltb-true, length-map, list_all-append, Text}
+use Rattle.ed_programs.proofs.Kit.{least, placed_at, image_word, parameter_store, linked_words, counter, newline}
+use Rattle.ed_programs.proofs.Kit.{HasRoutine, entry_state, said}
 use Rattle.ed_link.specs.Linked.{placed_words}
-use Rattle.ed_link.specs.FaultTests.{extent, fault_from}
-use Rattle.ed_sources.proofs.AtEntry.{have_places}
+use Rattle.ed_link.proofs.Extents.{none_later, one_more}
 use Rattle.ed_sources.proofs.Blocks.{beside_block, block_places, in_block, last_append, last_at, last_is, or_else}
 use Rattle.ed_sources.proofs.Blocks.{word_of}
-use Rattle.ed_sources.proofs.Said.{said}
-use Rattle.ed_link.proofs.Extents.{ExtentList, are_below, none_later, one_more, past}
 use Rattle.ed_programs.proofs.Faults.{block_sound, enter_sound, use_sound}
+use Rattle.ed_syntax.specs.declared.program.Statement.TheVariants as statements
 
 -- ---- faults
 
@@ -58,14 +51,7 @@ newline_words w = map (λ row. routine_word (0 ∷ 0 ∷ 0 ∷ 0 ∷ 0 ∷ 0 ∷
 
 newline_is : (w i : ℕ) → i < 7 → get_or (newline_words w) i 0 ≡ image_word newline i w []
 unfolding parameter_store
-newline_is w zero l = refl
-newline_is w (suc zero) l = refl
-newline_is w (suc (suc zero)) l = refl
-newline_is w (suc (suc (suc zero))) l = refl
-newline_is w (suc (suc (suc (suc zero)))) l = refl
-newline_is w (suc (suc (suc (suc (suc zero))))) l = refl
-newline_is w (suc (suc (suc (suc (suc (suc zero)))))) l = refl
-newline_is w (suc (suc (suc (suc (suc (suc (suc i))))))) l = absurd (omega arith)
+newline_is w i l = search rules
 
 multiplied : (cs : List ℕ) (k : ℕ) → k < length cs → get_or (map (λ c. 4096 * c) cs) k 0 ≡ 4096 * get_or cs k 0
 multiplied [] k l = absurd (omega arith)
@@ -102,15 +88,7 @@ module _ (z : Size) (lines : List Line) (p : ℕ) (rows : List ℕ) (low : 56 �
       (append-nil (placed_words w (newline_words w)))
 
   rest_places : have_places (text_words p rows) ≡ true
-  rest_places =
-      let long = length-map rows (λ c. 4096 * c) in
-      let first = block_places p codes_in (omega arith) in
-      let second = block_places w (newline_words w) (omega arith) in
-      list_all-append (λ (x : ℕ × ℕ). nat_lt x.0 1024) (placed_words p codes_in)
-      (placed_words w (newline_words w) ++ [])
-      ∙ ap (λ (x : List (ℕ × ℕ)). have_places (placed_words p codes_in)
-      && have_places x) (append-nil (placed_words w (newline_words w)))
-      ∙ (λ i. first i && second i)
+  rest_places = search (rules, length-map, block_places, list_all-append, append-nil)
 
   word_at_entry : (a : ℕ) → 44 ≤ a → a < 1024
       → get_or ws a 0 ≡ unwrap_or (or_else (or_else (last_at (placed_words w (newline_words w)) a)
@@ -141,7 +119,7 @@ module _ (z : Size) (lines : List Line) (p : ℕ) (rows : List ℕ) (low : 56 �
             ∙ (λ i. unwrap_or (or_else (or_else (here i) (block i)) (last_at front (p + k))) 0)
             ∙ multiplied rows k (omega arith)
             ∙ ap (λ x. 4096 * x) first,
-        lt_of c 32 t.0,
+        ltb-true c 32 t.0,
         rw next (spells_from cs (k + 1) (λ j l. ap (λ x. get_or rows x 0) (omega arith) ∙ same (suc j) (omega arith))
             (omega arith) t.1),
       )

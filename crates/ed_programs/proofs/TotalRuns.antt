@@ -1,22 +1,20 @@
 -- The source of `examples/total.edsac` for any list: its path, and what it prints.
-use Rattle.ed_sources.proofs.Kit.{sum}
-use Rattle.ed_programs.proofs.Kit.{◌≡◌, ℕ, ◌+◌, ◌-◌, ◌*◌, ◌<◌, ◌≤◌, true, false, [], List, ◌∷◌, ◌++◌, length, nat_lt, A}
-use Rattle.ed_programs.proofs.Kit.{nat_le, sym, refl, ◌∙◌, append-nil, arith, lit<, lit≤, Text, list_all, and_parts, S}
-use Rattle.ed_programs.proofs.Kit.{Z_F, Size, lt_true, short, state, Frame, Moment, Line, digits, print_orders, le_of}
-use Rattle.ed_programs.proofs.Kit.{few_digits, ComesToStop, entry_state, settings, parameter_store, Settings, E_jumps}
-use Rattle.ed_programs.proofs.Kit.{G_jumps, G_stays, T, Z, on, stay, own, get_own, along, stop_after, then, to_stop, to}
-use Rattle.ed_programs.proofs.Kit.{IsIn, Journey, print_line, both, frame_at, moment_at, digits_printed, numbers_text}
-use Rattle.ed_programs.proofs.Kit.{SourceRuns, reads_number, HasRead, are_small, number_rows, stops_from_entry, Marked}
-use Rattle.ed_programs.proofs.Kit.{calling, journey_counted, stop_counted, HasPair, pair_after, pair_at_entry}
-use Rattle.ed_programs.specs.Total.{total_orders, total_text}
+use Rattle.ed_programs.proofs.Kit.{Z_F, Size, G_stays, Z, Settings, Line, sum_by, along, IsIn, Journey, stop_after}
+use Rattle.ed_programs.proofs.Kit.{then, to_stop, E_jumps, S, T, print_line, get_own, frame_at, moment_at, []}
+use Rattle.ed_programs.proofs.Kit.{append-nil, arith, false, length, List, lit<, lit≤, map, nat_le, nat_lt, refl, sym}
+use Rattle.ed_programs.proofs.Kit.{true, ℕ, ◌*◌, ◌++◌, ◌+◌, ◌-◌, ◌<◌, ◌∙◌, ◌∷◌, ◌≡◌, ◌≤◌, list_all, and_from}
+use Rattle.ed_programs.proofs.Kit.{and_parts, leb-true, lt-ltb, sum_by-cons, Text, Frame, Moment, short, state, A}
+use Rattle.ed_programs.proofs.Kit.{G_jumps, on, stay, own, settings, parameter_store, digits, print_orders, few_digits}
+use Rattle.ed_programs.proofs.Kit.{ReachesStop, entry_state, digits_printed, numbers_text, SourceRuns, total_text}
+use Rattle.ed_programs.proofs.Kit.{HasRead, reads_number, are_small, number_rows, stops_from_entry, Marked}
+use Rattle.std.specs.Fmt.{decimal}
+use Rattle.ed_routines.specs.Digits.{sum}
+use Rattle.ed_programs.specs.Total.{total_orders}
+use Rattle.ed_programs.specs.declared.total.TheConstants.{TOTAL}
 use Rattle.ed_programs.proofs.DataLines.{list_mark}
+use Rattle.ed_programs.proofs.Kit.{to, calling, journey_counted, stop_counted, HasPair, pair_after, pair_at_entry}
 use Rattle.ed_programs.proofs.NumberLists.{ended_small, ended_some}
 use Rattle.ed_programs.proofs.SourceRuns.{lines_of_pieces, program_runs}
-use Rattle.ed_programs.specs.declared.total.TheConstants.{TOTAL}
-use Rattle.std.proofs.Common.{map}
-use Rattle.std.proofs.lemmas.List.Sums.{sum_by-cons}
-use Rattle.std.specs.Fmt.{decimal}
-use Rattle.std.specs.List.{sum_by}
 
 -- the pieces of the source
 abbrev pub total_pieces : List Text
@@ -58,7 +56,7 @@ module _ (z : Size) (m : Moment) where
   -- the numbers are read and added to a sum, it is printed, and the machine stops
   stops : (ns : List ℕ) (so_far all value : ℕ) (words : List ℕ) → HasPair f words 74 98 13 14
       → list_all (λ n. nat_le 1 n) ns ≡ true → so_far + sum ns ≡ all → all < 65536 → (done : ℕ)
-      → ComesToStop (adding_orders ns + print_orders all + 32)
+      → ReachesStop (adding_orders ns + print_orders all + 32)
       (state f (at 0 words 0 value so_far 0 (number_rows (ns ++ 0 ∷ []))) done) (11 ∷ digits all) 69
   stops [] so_far all value words has least is small done =
       let start : IsIn f (at 0 words 0 value so_far 0 (number_rows (0 ∷ []))) =
@@ -79,7 +77,7 @@ module _ (z : Size) (m : Moment) where
       (Z 12 Z_F refl refl) done) (omega arith)
   stops (n ∷ ns) so_far all value words has least is small done =
       let l = and_parts (nat_le 1 n) (list_all (λ n. nat_le 1 n) ns) least in
-      let some = le_of 1 n l.0 in
+      let some = leb-true 1 n l.0 in
       let rest : List ℕ = number_rows (ns ++ 0 ∷ []) in
       let start : IsIn f (at 0 words 0 value so_far 0 (digits n ++ 17 ∷ rest)) =
       record { above = lit≤ tt; all = has.all; own = refl } in
@@ -101,7 +99,7 @@ module _ (z : Size) (m : Moment) where
 sum_bounds : (ns : List ℕ) → sum ns < 65536 → are_small ns ≡ true
 sum_bounds [] l = refl
 sum_bounds (n ∷ ns) l =
-    both (nat_lt n 65536) (are_small ns) (lt_true n 65536 (omega arith)) (sum_bounds ns (omega arith))
+    and_from (nat_lt n 65536) (are_small ns) (lt-ltb n 65536 (omega arith)) (sum_bounds ns (omega arith))
 
 module _ (ns : List ℕ) (least : list_all (λ n. nat_le 1 n) ns ≡ true) (small : sum ns < 65536)
     (fits : length (numbers_text (ns ++ 0 ∷ [])) ≤ 113) where

@@ -1,14 +1,8 @@
 -- What is stated of a whole tape in two parts, an interlude and the program after it: what the commands `parts` and
 -- `tape` answer to it.
-use Rattle.std.specs.Prelude.{◌≡◌, ℕ, ◌+◌, ◌≤◌, List, [], ◌∷◌, ◌++◌, codes, Some, None}
-use Rattle.ed_words.specs.Texts.{Text}
-use Rattle.ed_codes.specs.Reading.{reading, rows}
-use Rattle.ed_run.specs.declared.settings.Settings.{Settings}
-use Rattle.ed_report.specs.Entries.{entry_line, returned_line}
-use Rattle.ed_report.specs.Notes.{at_after}
+use Rattle.ed_programs.proofs.Kit.{Settings, rows, IsDue, entry_line, returned_line, [], codes, List, None, Some, ℕ}
+use Rattle.ed_programs.proofs.Kit.{◌++◌, ◌+◌, ◌∷◌, ◌≡◌, ◌≤◌, Text, at_after, output, reading}
 use Rattle.ed_command.specs.declared.command.Action.TheVariants.{Parts, Tape}
-use Rattle.ed_answers.specs.Answer.{IsDue}
-use Rattle.ed_top.specs.Output.{output}
 
 -- a part of a tape: its entry point, the orders and the rows that lead there, and the orders of its program up to its
 -- return or its stop

@@ -1,35 +1,29 @@
 -- A tape whose first program returns to the Initial Orders and whose second one reaches its stop, as the answers of the
 -- commands `parts` and `tape`.
-use Rattle.ed_sources.proofs.Kit.{eq_false, joined, Leads}
-use Rattle.ed_top.proofs.Kit.{IsInParts}
-use Rattle.ed_laws.proofs.Kit.{Obeyed, is_obeyed, stops_of, progress, Stopped, Turn, Printed, Went, counted_after}
-use Rattle.ed_laws.proofs.Kit.{end_by, LeadsIn, with_post_mortem, tape_outcome, first_part, LeadsTo}
-use Rattle.ed_programs.proofs.Kit.{◌≡◌, ℕ, zero, suc, ◌+◌, ◌-◌, ◌<◌, ◌≤◌, true, false, [], ◌≢◌, List, ◌∷◌, ◌++◌, length}
-use Rattle.ed_programs.proofs.Kit.{Some, None, Ok, codes, sym, refl, ap, ◌∙◌, subst, inl, inr, append_assoc, arith, Err}
-use Rattle.ed_programs.proofs.Kit.{Text, length-append, cases_lt, Size, lt_false, lt_true, paper, State, on}
-use Rattle.ed_programs.proofs.Kit.{state, Frame, Moment, ComesToStop, at_after, step, Result, Settings, Outcome}
-use Rattle.ed_programs.proofs.Kit.{INPUT_BYTES, state_after, run_end, TapeEntry, paper_room, ran_outcome, first_state}
-use Rattle.ed_programs.proofs.Kit.{String, reading, rows, prints, stay, Path, rows_of, spelled_rows, Comes, stop_after}
-use Rattle.ed_programs.proofs.Kit.{exactly, OfReading, directive, answered, ran_to_stop}
-use Rattle.ed_store.specs.Cells.{IsStore}
-use Rattle.ed_machine.specs.declared.turn.Turn.TheVariants.{Stopped as Stops, NoOrder, NoTape}
-use Rattle.ed_machine.proofs.Steps.{next_state, next_stops}
-use Rattle.ed_notation.specs.Fold.{address}
-use Rattle.ed_initial.specs.Entry.{at_entry}
-use Rattle.ed_initial.proofs.Quiet.{comes_in}
-use Rattle.ed_interlude.specs.Returned.{ComesBack, IsReturned}
-use Rattle.ed_interlude.proofs.Resumed.{leads_back}
+use Rattle.ed_programs.proofs.Kit.{Size, Settings, at_entry, ReachesEntry, comes_in, rows, stop_after, prints, IsStore}
+use Rattle.ed_programs.proofs.Kit.{INPUT_BYTES, entry_line, exactly, OfReading, ReachesNextEntry, returned_line}
+use Rattle.ed_programs.proofs.Kit.{directive, IsReturned, [], ap, append_assoc, arith, codes, false, inl, inr, length}
+use Rattle.ed_programs.proofs.Kit.{length-append, List, None, refl, rules, Some, subst, suc, sym, true, zero, ℕ, ◌++◌}
+use Rattle.ed_programs.proofs.Kit.{◌+◌, ◌-◌, ◌<◌, ◌∙◌, ◌∷◌, ◌≡◌, ◌≢◌, ◌≤◌, cases_lt, le-ltb, lt-ltb, ne_eqb, Text}
+use Rattle.ed_programs.proofs.Kit.{paper, step, State, progress, state_after, Frame, Moment, state, joined, Leads, on}
+use Rattle.ed_programs.proofs.Kit.{Path, stay, run_end, ReachesStop, at_after, ran_outcome-answered, nothing_after, ran_to_stop}
+use Rattle.ed_programs.proofs.Kit.{reading, is_obeyed, stops_of, TapeEntry, first_state, LeadsIn, first_store, starts}
+use Rattle.ed_programs.proofs.Kit.{Outcome, paper_room, ran_outcome, with_post_mortem, tape_outcome}
+use Rattle.ed_interlude.proofs.Kit.{next_state, end_by, address, Concludes, entry_done, entry_report, finished}
+use Rattle.ed_interlude.proofs.Kit.{Finishes, first_part, GoesBack, LeadsTo, part_after, part_entry_state, part_report}
+use Rattle.ed_interlude.proofs.Kit.{PartsReport, ReturnsToLoader, RunsOn, TapePart}
+use Rattle.ed_laws.proofs.Kit.{Obeyed, counted_after, next_stops, IsInParts}
+use Rattle.ed_machine.specs.declared.ending.Ending.TheVariants.{Stopped}
+use Rattle.ed_machine.specs.declared.turn.Turn.{Turn}
+use Rattle.ed_machine.specs.declared.turn.Turn.TheVariants.{Stopped as Stops}
 use Rattle.ed_machine.proofs.Kit.Leads.{free, goes_on, no_stops, obeyed_of}
 use Rattle.ed_machine.proofs.Kit.Paths.{no_state}
-use Rattle.ed_machine.proofs.Kit.Paths as paths
-use Rattle.ed_initial.proofs.Starts.{first_store, starts}
-use Rattle.ed_report.specs.Entries.{entry_line, returned_line}
-use Rattle.ed_interlude.specs.Parts.{ComesHome, Concludes, Finishes, GoesBack, IsUnderWay, RunsOn, TapePart, entry_done}
-use Rattle.ed_interlude.specs.Parts.{IsReportOfTape, PartsReport, entry_report, finished, part_after, part_entry_state}
-use Rattle.ed_interlude.specs.Parts.{program_end, part_report}
+use Rattle.ed_interlude.specs.Parts.{IsUnderWay, IsReportOfTape, program_end}
 use Rattle.ed_interlude.specs.declared.tape.PartsEnd.TheVariants.{Ended}
-use Rattle.ed_sources.proofs.Stopped.{nothing_after}
-use Rattle.ed_programs.proofs.TwoParts.{TwoParts, TwoPartsRun, orders_to_program, orders_to_return, orders_to_stop, two_parts_lines, two_parts_note}
+use Rattle.ed_interlude.proofs.Resumed.{leads_back}
+use Rattle.ed_programs.proofs.TwoParts.{TwoParts, TwoPartsRun, orders_to_program, orders_to_return, orders_to_stop}
+use Rattle.ed_programs.proofs.TwoParts.{two_parts_lines, two_parts_note}
+use Rattle.ed_machine.proofs.Kit.Paths as paths
 
 -- ---- a program of a part
 
@@ -64,33 +58,22 @@ away {f = f} (prints {r = r} first rest) above done (suc j) l =
 
 -- and before the order at which it stops
 pub away_to_stop : {k : ℕ} {s t : State} {cs : List ℕ} → Leads k s cs t → IsAway k s → t.counter ≢ 25 → IsAway (k + 1) s
-away_to_stop {k} {s} leads before last j l =
-    elim (cases_lt j k) [
-      | inl below ↦ before j below
-      | inr here ↦
-          let e : k ≡ j = omega arith in
-          subst (λ n. (state_after n s).counter ≢ 25) e
-          (subst (λ (x : State). x.counter ≢ 25) (sym leads.state_is) last)
-    ]
+away_to_stop {k} {s} leads before last j l = search (rules, cases_lt)
 
 no_end : (turn : Turn) → is_obeyed turn ≡ true → end_by turn false ≡ None
-no_end Went e = refl
-no_end (Printed code) e = refl
-no_end Stops e = refl
-no_end (NoOrder function) e = cc
-no_end NoTape e = cc
+no_end turn e = search rules
 
 module _ (left : ℕ) (s : State) where
   under_way : (k : ℕ) → k < left → (progress k s).stops ≡ 0 → is_obeyed (step (state_after k s)).turn ≡ true
       → (state_after k s).counter ≢ 25 → IsUnderWay left k s
   under_way k below none obeyed place =
-      let a = lt_false 0 (progress k s).stops (omega (arith, none)) in
-      let b = eq_false k left (omega arith) in
+      let a = le-ltb 0 (progress k s).stops (omega (arith, none)) in
+      let b = ne_eqb k left (omega arith) in
       record { no_end = rw (a, b) (no_end _ obeyed); away = λ home. place home.counter }
 
   -- it leads back to the Initial Orders
   pub comes_home : {k : ℕ} {t : State} {cs : List ℕ} → Leads k s cs t → IsAway k s → k ≤ left → IsReturned t
-      → ComesHome left k s
+      → ReturnsToLoader left k s
   comes_home {k} leads far fits home = record {
     runs = λ j l.
         under_way j (omega arith) (no_stops j s (λ i m. leads.goes i (omega arith)))
@@ -100,7 +83,7 @@ module _ (left : ℕ) (s : State) where
   }
 
   -- it reaches its stop
-  pub finishes : {k at : ℕ} {cs : List ℕ} → ComesToStop k s cs at → IsAway (k + 1) s → k + 1 ≤ left
+  pub finishes : {k at : ℕ} {cs : List ℕ} → ReachesStop k s cs at → IsAway (k + 1) s → k + 1 ≤ left
       → Finishes left (k + 1) s Stopped
   finishes {k} o far fits = record { runs = runs; ends = ends; stopped = λ home. refl }
     where
@@ -126,14 +109,14 @@ module _ (left : ℕ) (s : State) where
       some = let one = ap stops_of turn in omega (arith, next_stops k s, none, one)
 
       ends : program_end left (k + 1) s ≡ Some Stopped
-      ends = let a = lt_true 0 (progress (k + 1) s).stops some in rw a refl
+      ends = let a = lt-ltb 0 (progress (k + 1) s).stops some in rw a refl
 
 -- ---- a tape
 
 -- the course of a tape whose interlude is entered and returns, and whose program is entered and reaches its stop
 pub record Course (z : Size) (tape_rows : List ℕ) (at : ℕ) (printed : List ℕ) : Type 0 where
   pub interlude : TapeEntry
-  pub reads : Comes (first_state z tape_rows) interlude
+  pub reads : ReachesEntry (first_state z tape_rows) interlude
   pub back : State
   pub orders : ℕ
   pub leads : Leads orders (at_entry (first_state z tape_rows) interlude) [] back
@@ -142,9 +125,9 @@ pub record Course (z : Size) (tape_rows : List ℕ) (at : ℕ) (printed : List �
   pub is_store : IsStore back.store
   pub left : back.tape ≡ interlude.rest
   pub program : TapeEntry
-  pub reads_on : ComesBack back program
+  pub reads_on : ReachesNextEntry back program
   pub orders_on : ℕ
-  pub stops : ComesToStop orders_on (at_entry back program) printed at
+  pub stops : ReachesStop orders_on (at_entry back program) printed at
   pub stays_away : IsAway (orders_on + 1) (at_entry back program)
 
 -- the same in plain numbers
@@ -192,13 +175,7 @@ module _ {z : Size} {tape_rows : List ℕ} {at : ℕ} {printed : List ℕ} (c : 
       omega (arith, there, counted, none)
 
   read : length start.tape ≡ c.interlude.rows + length c.back.tape
-  read =
-      let o = c.reads.comes in
-      let all = ap length o.rows_are in
-      let both = length-append (spelled_rows o.before) (rows_of o.last ++ c.interlude.rest) in
-      let last = length-append (rows_of o.last) c.interlude.rest in
-      let rest = ap length c.left in
-      omega (arith, all, both, last, rest, o.read_is)
+  read = search (rules, length-append)
 
   -- ---- `parts`
 
@@ -212,7 +189,7 @@ module _ {z : Size} {tape_rows : List ℕ} {at : ℕ} {printed : List ℕ} (c : 
       leads = record { well = c.reads.well; comes = c.reads.comes };
       within = omega (arith, fits);
       orders = c.orders;
-      comes = subst (λ (x : State). ComesHome (limit - entry_done one c.interlude) c.orders x) (sym first.arrives)
+      comes = subst (λ (x : State). ReturnsToLoader (limit - entry_done one c.interlude) c.orders x) (sym first.arrives)
           (comes_home _ _ c.leads c.away (omega (arith, fits)) c.returned);
     }
 
@@ -272,22 +249,14 @@ module _ {z : Size} {tape_rows : List ℕ} {at : ℕ} {printed : List ℕ} (c : 
         (entry_line c.program.at (orders_to_program t) (c.interlude.rows + c.program.rows))
 
     note : at_after (codes "stopped") end.last.counter end.last.orders ++ 10 ∷ [] ≡ two_parts_note t
-    note =
-        let counter : end.last.counter ≡ at = ap (λ (x : State). x.counter) last_is ∙ c.stops.counter in
-        let before = ap (λ (x : State). x.orders) last_is in
-        let orders : end.last.orders ≡ orders_to_stop t = omega (arith, before, c.stops.orders, count) in
-        λ i. at_after (codes "stopped") (counter i) (orders i) ++ 10 ∷ []
+    note = search (rules, last_is, count)
 
   -- ---- `tape`
 
   loads : {s : State} {e : TapeEntry} → LeadsIn s e → Leads e.cost s [] (at_entry s e)
-  loads l = record {
-    state_is = l.arrives;
-    codes_are = l.prints_none;
-    goes = λ j below. ap goes_on (l.went j below);
-  }
+  loads l = search (rules, goes_on)
 
-  to_stop : ComesToStop (orders_to_program t + c.orders_on) start printed at
+  to_stop : ReachesStop (orders_to_program t + c.orders_on) start printed at
   to_stop =
       let none = fresh.1 in
       stop_after (joined (joined (loads first) c.leads) (loads second)) (omega (arith, count, none)) c.stops
@@ -320,6 +289,6 @@ two_parts_run s tape tape_rows {at} {printed} reads short c few =
           let answer : tape_outcome s tape_rows ≡ due =
           (λ i. ran_outcome [] (with_post_mortem (plain i) (run_end s.limit (no_resumes i) paper_room first)))
           ∙ ap (ran_outcome []) (nothing_after (run_end s.limit 0 paper_room first))
-          ∙ answered [] (run_end s.limit 0 paper_room first) ended o.counter count in
+          ∙ ran_outcome-answered [] (run_end s.limit 0 paper_room first) ended o.counter count in
           inl (short, subst (λ r. OfReading (exactly (tape_outcome s)) r due) (sym reads) answer);
     }

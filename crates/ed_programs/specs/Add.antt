@@ -3,14 +3,14 @@ use Rattle.std.specs.Prelude.{ℕ, ◌+◌, ◌*◌, [], ◌∷◌, length, map,
 use Rattle.std.specs.Fmt.{decimal}
 use Rattle.ed_words.specs.Texts.{Text}
 use Rattle.ed_routines.specs.Digits.{digits, print_orders}
-use Rattle.ed_sources.specs.CallSources.{woven_text}
+use Rattle.ed_sources.specs.CallSources.{filled_text}
 use Rattle.ed_programs.specs.declared.add.TheConstants.{ADD}
 use Rattle.ed_programs.specs.declared.refusal.Refusal.{Refusal}
 use Rattle.ed_programs.specs.declared.refusal.Refusal.TheVariants.{Number}
 
 -- the whole text: the pieces of the source, and the numbers between them
 abbrev pub add_text : ℕ → ℕ → Text
-add_text a b = woven_text (map (λ piece. piece.now) ADD) (decimal a ∷ decimal b ∷ [])
+add_text a b = filled_text (map (λ piece. piece.now) ADD) (decimal a ∷ decimal b ∷ [])
 
 -- why the data of `examples/add.edsac`, two numbers below 65536, are refused, if they are: `print` can't print their
 -- sum

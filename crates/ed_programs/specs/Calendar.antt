@@ -6,14 +6,14 @@ use Rattle.std.specs.Prelude.{Option, Some, None}
 use Rattle.std.specs.Fmt.{decimal}
 use Rattle.ed_words.specs.Texts.{Text}
 use Rattle.ed_routines.specs.Digits.{digits}
-use Rattle.ed_sources.specs.CallSources.{woven_text}
+use Rattle.ed_sources.specs.CallSources.{filled_text}
 use Rattle.ed_programs.specs.declared.calendar.TheConstants.{CALENDAR}
 use Rattle.ed_programs.specs.declared.refusal.Refusal.{Refusal}
 use Rattle.ed_programs.specs.declared.refusal.Refusal.TheVariants.{Month, Year}
 
 -- the whole tape
 abbrev pub calendar_text : ℕ → ℕ → Text
-calendar_text month year = woven_text (map (λ piece. piece.now) CALENDAR) (decimal month ∷ decimal year ∷ [])
+calendar_text month year = filled_text (map (λ piece. piece.now) CALENDAR) (decimal month ∷ decimal year ∷ [])
 
 -- why a month and a year are refused, if they are
 abbrev pub calendar_refusal : ℕ → ℕ → Option Refusal

@@ -2,13 +2,13 @@
 use Rattle.std.specs.Prelude.{ℕ, ◌+◌, ◌-◌, ◌*◌, ◌/◌, List, [], ◌∷◌, ◌++◌, length, map, sum_by}
 use Rattle.ed_words.specs.Texts.{Text}
 use Rattle.ed_routines.specs.Digits.{digits, print_orders}
-use Rattle.ed_sources.specs.CallSources.{woven_text}
+use Rattle.ed_sources.specs.CallSources.{filled_text}
 use Rattle.ed_programs.specs.Lists.{numbers_text}
 use Rattle.ed_programs.specs.declared.celsius.TheConstants.{CELSIUS}
 
 -- the whole text: the pieces of the source, and the numbers between them, the one that ends them last
 abbrev pub celsius_text : List ℕ → ℕ → Text
-celsius_text ns end = woven_text (map (λ piece. piece.now) CELSIUS) (numbers_text (ns ++ end ∷ []) ∷ [])
+celsius_text ns end = filled_text (map (λ piece. piece.now) CELSIUS) (numbers_text (ns ++ end ∷ []) ∷ [])
 
 -- the whole degrees Celsius of a temperature in degrees Fahrenheit
 abbrev pub celsius : ℕ → ℕ

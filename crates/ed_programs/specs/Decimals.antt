@@ -4,12 +4,12 @@ use Rattle.std.specs.Prelude.{replicate}
 use Rattle.ed_words.specs.Decimals.{is_digit, value}
 use Rattle.ed_words.specs.Texts.{Text}
 use Rattle.ed_notation.specs.Items.{digits_number}
-use Rattle.ed_sources.specs.CallSources.{woven_text}
+use Rattle.ed_sources.specs.CallSources.{filled_text}
 use Rattle.ed_programs.specs.declared.decimals.TheConstants.{DECIMALS}
 
 -- the whole text
 abbrev pub decimals_text : Text
-decimals_text = woven_text (map (λ piece. piece.now) DECIMALS) []
+decimals_text = filled_text (map (λ piece. piece.now) DECIMALS) []
 
 -- ---- e is the sum of 1/0!, 1/1!, 1/2! and so on
 

@@ -3,12 +3,12 @@ use Rattle.std.specs.Prelude.{ℕ, ◌+◌, ◌-◌, ◌*◌, [], ◌∷◌, len
 use Rattle.std.specs.Fmt.{decimal}
 use Rattle.ed_words.specs.Texts.{Text}
 use Rattle.ed_routines.specs.Digits.{digits, print_orders}
-use Rattle.ed_sources.specs.CallSources.{woven_text}
+use Rattle.ed_sources.specs.CallSources.{filled_text}
 use Rattle.ed_programs.specs.declared.difference.TheConstants.{DIFFERENCE}
 
 -- the whole text: the pieces of the source, and the numbers between them
 abbrev pub difference_text : ℕ → ℕ → Text
-difference_text a b = woven_text (map (λ piece. piece.now) DIFFERENCE) (decimal a ∷ decimal b ∷ [])
+difference_text a b = filled_text (map (λ piece. piece.now) DIFFERENCE) (decimal a ∷ decimal b ∷ [])
 
 -- how far two numbers are apart
 abbrev pub distance : ℕ → ℕ → ℕ

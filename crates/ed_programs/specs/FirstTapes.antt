@@ -5,7 +5,7 @@ use Rattle.std.specs.declared.alloc.Global.{Global}
 use Rattle.ed_words.specs.Texts.{Text}
 use Rattle.ed_codes.specs.Reading.{reading, rows}
 use Rattle.ed_run.specs.declared.settings.Settings.{Settings}
-use Rattle.ed_initial1.specs.Faults.{Comes1, Tape}
+use Rattle.ed_initial1.specs.Faults.{ReachesEntry1, Tape}
 use Rattle.ed_command.specs.declared.command.Action.TheVariants.{Tape1}
 use Rattle.ed_answers.specs.Answer.{IsDue}
 use Rattle.ed_answers.specs.FirstEntry.{cost1}
@@ -20,7 +20,7 @@ pub record FirstTapeRuns (s : Settings) (tape : Text) (cost orders at : ℕ) (pa
   pub codes_of : List ℕ
   pub spelled : reading tape ≡ rows codes_of
   pub program : Tape
-  pub comes : Comes1 codes_of program
+  pub comes : ReachesEntry1 codes_of program
   pub cost_is : cost1 program ≡ cost
   pub outcome : s.resumes ≡ 0 → cost + orders ≤ s.limit
       → IsDue (answer Tape1 s) tape (stop_outcome [] paper at (cost + orders))

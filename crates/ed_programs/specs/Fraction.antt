@@ -6,14 +6,14 @@ use Rattle.std.specs.Fmt.{decimal}
 use Rattle.ed_words.specs.Texts.{Text}
 use Rattle.ed_routines.specs.Digits.{digits, print_orders}
 use Rattle.ed_maths.specs.Quotients.{divide_orders}
-use Rattle.ed_sources.specs.CallSources.{woven_text}
+use Rattle.ed_sources.specs.CallSources.{filled_text}
 use Rattle.ed_programs.specs.declared.fraction.TheConstants.{FRACTION}
 use Rattle.ed_programs.specs.declared.refusal.Refusal.{Refusal}
 use Rattle.ed_programs.specs.declared.refusal.Refusal.TheVariants.{Divisor}
 
 -- the whole text: the pieces of the source, and the numbers between them
 abbrev pub fraction_text : ℕ → ℕ → ℕ → Text
-fraction_text u l n = woven_text (map (λ piece. piece.now) FRACTION) (decimal u ∷ decimal l ∷ decimal n ∷ [])
+fraction_text u l n = filled_text (map (λ piece. piece.now) FRACTION) (decimal u ∷ decimal l ∷ decimal n ∷ [])
 
 -- why numbers below 65536 are refused as its data, if they are
 abbrev pub fraction_refusal : ℕ → Option Refusal

@@ -4,7 +4,7 @@ use Rattle.std.specs.Prelude.{Some, None}
 use Rattle.std.specs.Fmt.{decimal}
 use Rattle.ed_words.specs.Texts.{Text}
 use Rattle.ed_routines.specs.Digits.{print_orders}
-use Rattle.ed_sources.specs.CallSources.{woven_text}
+use Rattle.ed_sources.specs.CallSources.{filled_text}
 use Rattle.ed_programs.specs.Programs.{spread_pieces}
 use Rattle.ed_programs.specs.declared.greatest.TheConstants.{GREATEST}
 use Rattle.ed_programs.specs.declared.refusal.Refusal.{Refusal}
@@ -14,7 +14,7 @@ use Rattle.ed_programs.specs.declared.refusal.Refusal.TheVariants.{Count}
 -- (10)
 abbrev pub greatest_text : List ℕ → Text
 greatest_text ns =
-    woven_text (spread_pieces 7 (10 ∷ codes "word ") (map (λ piece. piece.now) GREATEST)) (map decimal ns)
+    filled_text (spread_pieces 7 (10 ∷ codes "word ") (map (λ piece. piece.now) GREATEST)) (map decimal ns)
 
 -- why numbers below 65536 are refused as the data of `examples/answer6.edsac`, if they are
 abbrev pub greatest_refusal : List ℕ → Option Refusal

@@ -15,7 +15,7 @@ use Rattle.ed_syntax.specs.declared.program.Statement.{Statement}
 use Rattle.ed_syntax.specs.declared.program.Statement.TheVariants.{Fetch, Enter}
 use Rattle.ed_syntax.specs.declared.program.Line.{Line}
 use Rattle.ed_symbols.specs.Places.{even_from}
-use Rattle.ed_symbols.specs.NameFaults.{StandsAfter, counter_after}
+use Rattle.ed_symbols.specs.NameFaults.{IsLineAfter, counter_after}
 use Rattle.ed_link.specs.Linked.{entry_of, symbols_of, operand_number}
 use Rattle.ed_link.specs.Tapes.{cost}
 use Rattle.ed_answers.specs.Refusals.{IsAcceptedAs}
@@ -46,12 +46,12 @@ pub record EntersChecker (lines : List Line) : Type 0 where
   -- the line that uses the routine, and the lines before it
   pub before : List Line
   pub using : Line
-  pub stands : StandsAfter lines before using
+  pub stands : IsLineAfter lines before using
   pub uses : using.statement ≡ use_check name first
   -- the line that enters it
   pub ahead : List Line
   pub entering : Line
-  pub follows : StandsAfter lines ahead entering
+  pub follows : IsLineAfter lines ahead entering
   pub enters : entering.statement ≡ Some (Enter name)
 
 -- the base of the routine: the next even location after the lines before its `use`

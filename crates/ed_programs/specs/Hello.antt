@@ -7,7 +7,7 @@ use Rattle.ed_words.specs.Texts.{Text}
 use Rattle.ed_syntax.specs.Forms.{AreRowsOf}
 use Rattle.ed_printer.specs.Paper.{paper}
 use Rattle.ed_run.specs.declared.settings.Settings.{Settings}
-use Rattle.ed_sources.specs.CallSources.{woven_text}
+use Rattle.ed_sources.specs.CallSources.{filled_text}
 use Rattle.ed_programs.specs.Programs.{SourceRuns}
 use Rattle.ed_programs.specs.declared.hello.TheConstants.{HELLO}
 use Rattle.ed_programs.specs.declared.refusal.Refusal.{Refusal}
@@ -15,7 +15,7 @@ use Rattle.ed_programs.specs.declared.refusal.Refusal.TheVariants.{Length, Lette
 
 -- the whole text: the pieces of the source, and between them the number of rows and the bytes that spell them
 abbrev pub hello_text : Text → Text
-hello_text q = woven_text (map (λ piece. piece.now) HELLO) (decimal (length q) ∷ q ∷ [])
+hello_text q = filled_text (map (λ piece. piece.now) HELLO) (decimal (length q) ∷ q ∷ [])
 
 -- a text of letters, after the letter shift with which it begins (42 is *)
 abbrev pub of_letters : Text → Text

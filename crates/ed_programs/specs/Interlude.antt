@@ -10,7 +10,7 @@ use Rattle.ed_run.specs.declared.settings.Settings.{Settings}
 use Rattle.ed_report.specs.Entries.{entry_line, returned_line}
 use Rattle.ed_command.specs.declared.command.Action.TheVariants.{Parts, Tape}
 use Rattle.ed_answers.specs.Answer.{IsDue}
-use Rattle.ed_sources.specs.CallSources.{woven_text}
+use Rattle.ed_sources.specs.CallSources.{filled_text}
 use Rattle.ed_top.specs.Output.{answer}
 use Rattle.ed_programs.specs.Programs.{stop_outcome}
 use Rattle.ed_programs.specs.declared.interlude.TheConstants.{INTERLUDE}
@@ -19,7 +19,7 @@ use Rattle.ed_programs.specs.declared.refusal.Refusal.TheVariants.{Place}
 
 -- the whole tape: its pieces, and the number between them
 abbrev pub interlude_text : ℕ → Text
-interlude_text number = woven_text (map (λ piece. piece.now) INTERLUDE) (decimal number ∷ [])
+interlude_text number = filled_text (map (λ piece. piece.now) INTERLUDE) (decimal number ∷ [])
 
 -- why a number is refused, if it is: the words, from its double upwards, must be above the program and in the store
 abbrev pub interlude_refusal : ℕ → Option Refusal

@@ -3,14 +3,14 @@ use Rattle.std.specs.Prelude.{ℕ, ◌+◌, ◌*◌, [], ◌∷◌, ◌++◌, ma
 use Rattle.std.specs.Fmt.{decimal}
 use Rattle.ed_words.specs.Texts.{Text}
 use Rattle.ed_routines.specs.Digits.{print_orders}
-use Rattle.ed_sources.specs.CallSources.{woven_text}
+use Rattle.ed_sources.specs.CallSources.{filled_text}
 use Rattle.ed_programs.specs.declared.multiply.TheConstants.{MULTIPLY}
 use Rattle.ed_programs.specs.declared.refusal.Refusal.{Refusal}
 use Rattle.ed_programs.specs.declared.refusal.Refusal.TheVariants.{Number}
 
 -- the whole text: the pieces of the source, and the numbers between them: a and b are multiplied, and c is squared
 abbrev pub multiply_text : ℕ → ℕ → ℕ → Text
-multiply_text a b c = woven_text (map (λ piece. piece.now) MULTIPLY) (decimal c ∷ decimal a ∷ decimal b ∷ [])
+multiply_text a b c = filled_text (map (λ piece. piece.now) MULTIPLY) (decimal c ∷ decimal a ∷ decimal b ∷ [])
 
 -- why three numbers below 65536 are refused as the data of `examples/answer5.edsac`, if they are
 abbrev pub multiply_refusal : ℕ → ℕ → ℕ → Option Refusal

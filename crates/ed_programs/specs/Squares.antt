@@ -1,12 +1,12 @@
 -- The tape of May 1949 `examples/squares.tape1`, and what it prints.
 use Rattle.std.specs.Prelude.{ℕ, ◌+◌, ◌*◌, ◌/◌, ◌%◌, List, [], ◌∷◌, ◌++◌, flat_map, map, sum_by}
 use Rattle.ed_words.specs.Texts.{Text}
-use Rattle.ed_sources.specs.CallSources.{woven_text}
+use Rattle.ed_sources.specs.CallSources.{filled_text}
 use Rattle.ed_programs.specs.declared.squares.TheConstants.{SQUARES}
 
 -- the whole tape
 abbrev pub squares_text : Text
-squares_text = woven_text (map (λ piece. piece.now) SQUARES) []
+squares_text = filled_text (map (λ piece. piece.now) SQUARES) []
 
 -- the numbers whose squares are printed
 abbrev pub one_to_nine : List ℕ

@@ -6,11 +6,11 @@ use Rattle.ed_words.specs.Texts.{Text}
 use Rattle.ed_codes.specs.Reading.{reading, rows}
 use Rattle.ed_store.specs.Cells.{cleared_cells}
 use Rattle.ed_run.specs.declared.settings.Settings.{Settings}
-use Rattle.ed_notation.specs.Faults.{ComesTo, TapeEntry, WellFormed}
+use Rattle.ed_notation.specs.Faults.{RowsReachEntry, TapeEntry, WellFormed}
 use Rattle.ed_command.specs.declared.command.Action.TheVariants.{Tape}
 use Rattle.ed_answers.specs.Answer.{IsDue}
 use Rattle.ed_top.specs.Output.{answer}
-use Rattle.ed_answers.specs.Tapes.{first_note}
+use Rattle.ed_answers.specs.Tapes.{opening_notation}
 use Rattle.ed_programs.specs.Programs.{stop_outcome}
 use Rattle.ed_programs.specs.declared.refusal.Refusal.{Refusal}
 
@@ -21,8 +21,8 @@ pub record TapeRuns (s : Settings) (tape : Text) (cost orders at : ℕ) (paper :
   pub codes_of : List ℕ
   pub spelled : reading tape ≡ rows codes_of
   pub entry : TapeEntry
-  pub well : WellFormed s.size cleared_cells.words first_note codes_of
-  pub comes : ComesTo cleared_cells.words first_note 9 codes_of entry
+  pub well : WellFormed s.size cleared_cells.words opening_notation codes_of
+  pub comes : RowsReachEntry cleared_cells.words opening_notation 9 codes_of entry
   pub cost_is : entry.cost ≡ cost
   pub outcome : s.resumes ≡ 0 → s.post_mortem ≡ None → cost + orders ≤ s.limit
       → IsDue (answer Tape s) tape (stop_outcome [] paper at (cost + orders))

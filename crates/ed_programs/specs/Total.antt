@@ -3,7 +3,7 @@ use Rattle.std.specs.Prelude.{ℕ, ◌+◌, ◌*◌, List, [], ◌∷◌, ◌++�
 use Rattle.std.specs.Prelude.{sum_by}
 use Rattle.ed_words.specs.Texts.{Text}
 use Rattle.ed_routines.specs.Digits.{digits, print_orders, sum}
-use Rattle.ed_sources.specs.CallSources.{woven_text}
+use Rattle.ed_sources.specs.CallSources.{filled_text}
 use Rattle.ed_programs.specs.Lists.{list_refusal, numbers_text}
 use Rattle.ed_programs.specs.declared.total.TheConstants.{TOTAL}
 use Rattle.ed_programs.specs.declared.refusal.Refusal.{Refusal}
@@ -11,7 +11,7 @@ use Rattle.ed_programs.specs.declared.refusal.Refusal.TheVariants.{Number}
 
 -- the whole text: the pieces of the source, and the numbers between them, and the 0 that ends them
 abbrev pub total_text : List ℕ → Text
-total_text ns = woven_text (map (λ piece. piece.now) TOTAL) (numbers_text (ns ++ 0 ∷ []) ∷ [])
+total_text ns = filled_text (map (λ piece. piece.now) TOTAL) (numbers_text (ns ++ 0 ∷ []) ∷ [])
 
 -- why numbers below 65536 are refused as its data, if they are: one of them is 0, their sum is too large, or they don't
 -- fit on the line

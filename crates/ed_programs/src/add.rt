@@ -3,8 +3,8 @@ ghost use Rattle.std.specs.Fmt.{decimal};
 ghost use Rattle.ed_programs.specs.Add.{add_orders, add_refusal, add_text};
 ghost use Rattle.ed_programs.specs.Programs.{GivesProgram, Prints};
 
+use crate::filled::filled_program;
 use crate::refusal::{LIMIT, Refusal};
-use crate::woven::woven_program;
 use std::alloc::Global;
 
 /// The source, with a gap for each number.
@@ -43,5 +43,5 @@ pub fn add_program(alloc: Global, first: u16, second: u16) -> Result<String, Ref
     if LIMIT <= first as u32 + (second as u32) {
         return Err(Refusal::Number);
     }
-    woven_program(alloc, &ADD, &[first, second])
+    filled_program(alloc, &ADD, &[first, second])
 }

@@ -3,8 +3,8 @@ ghost use Rattle.ed_programs.specs.Calendar.{calendar_text};
 ghost use Rattle.ed_programs.specs.Programs.{GivesProgram};
 ghost use Rattle.ed_programs.specs.Tapes.{TapePrints};
 
+use crate::filled::filled_program;
 use crate::refusal::Refusal;
-use crate::woven::woven_program;
 use std::alloc::Global;
 
 /// The first and the last year: the program counts from a Tuesday, and takes each fourth year for a leap year.
@@ -217,5 +217,5 @@ pub fn calendar_program(alloc: Global, month: u16, year: u16) -> Result<String, 
     if year < FIRST_YEAR || LAST_YEAR < year {
         return Err(Refusal::Year);
     }
-    woven_program(alloc, &CALENDAR, &[month, year])
+    filled_program(alloc, &CALENDAR, &[month, year])
 }

@@ -4,8 +4,8 @@ ghost use Rattle.ed_programs.specs.Decimals.{FiguresAreCarries, IsOneNumber, IsW
 ghost use Rattle.ed_programs.specs.Decimals.{decimals_orders, decimals_prints, decimals_text};
 ghost use Rattle.ed_programs.specs.Programs.{GivesProgram, Prints};
 
+use crate::filled::filled_program;
 use crate::refusal::Refusal;
-use crate::woven::woven_program;
 use std::alloc::Global;
 
 /// The source.
@@ -137,5 +137,5 @@ pub fn decimals_program(alloc: Global) -> Result<String, Refusal>
     ensures by_carries { FiguresAreCarries }
     ensures method { MethodIsRight }
 {
-    woven_program(alloc, &DECIMALS, &[])
+    filled_program(alloc, &DECIMALS, &[])
 }

@@ -3,8 +3,8 @@ ghost use Rattle.std.specs.Fmt.{decimal};
 ghost use Rattle.ed_programs.specs.Difference.{difference_orders, difference_text, distance};
 ghost use Rattle.ed_programs.specs.Programs.{GivesProgram, Prints};
 
+use crate::filled::filled_program;
 use crate::refusal::Refusal;
-use crate::woven::woven_program;
 use std::alloc::Global;
 
 /// The source, with a gap for each number.
@@ -46,5 +46,5 @@ pub fn difference_program(alloc: Global, first: u16, second: u16) -> Result<Stri
     ensures is { GivesProgram None (difference_text first second) result }
     ensures law { Prints (difference_orders first second) 72 (decimal (distance first second)) result }
 {
-    woven_program(alloc, &DIFFERENCE, &[first, second])
+    filled_program(alloc, &DIFFERENCE, &[first, second])
 }

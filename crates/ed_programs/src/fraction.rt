@@ -2,8 +2,8 @@ ghost use Rattle.std.specs.Prelude.{None};
 ghost use Rattle.ed_programs.specs.Fraction.{fraction_orders, fraction_prints, fraction_refusal, fraction_text};
 ghost use Rattle.ed_programs.specs.Programs.{GivesProgram, Prints};
 
+use crate::filled::filled_program;
 use crate::refusal::Refusal;
-use crate::woven::woven_program;
 use std::alloc::Global;
 
 /// The greatest lower number of a fraction: ten times a remainder must be below 65,536.
@@ -85,5 +85,5 @@ pub fn fraction_program(
     if lower == 0 || MOST_LOWER < lower {
         return Err(Refusal::Divisor);
     }
-    woven_program(alloc, &FRACTION, &[upper, lower, places])
+    filled_program(alloc, &FRACTION, &[upper, lower, places])
 }

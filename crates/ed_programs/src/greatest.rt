@@ -2,8 +2,8 @@ ghost use Rattle.std.specs.Fmt.{decimal};
 ghost use Rattle.ed_programs.specs.Greatest.{greatest_of, greatest_orders, greatest_refusal, greatest_text};
 ghost use Rattle.ed_programs.specs.Programs.{GivesProgram, Prints};
 
+use crate::filled::filled_program;
 use crate::refusal::Refusal;
-use crate::woven::woven_program;
 use std::alloc::Global;
 
 /// The source before the first number and after the last.
@@ -55,5 +55,5 @@ pub fn greatest_program(alloc: Global, numbers: &[u16]) -> Result<String, Refusa
     let mut pieces = ["\nword "; 9];
     pieces[0] = head;
     pieces[8] = tail;
-    woven_program(alloc, &pieces, numbers)
+    filled_program(alloc, &pieces, numbers)
 }

@@ -1,8 +1,8 @@
 ghost use Rattle.ed_programs.specs.Interlude.{InterludePrints, interlude_refusal, interlude_text};
 ghost use Rattle.ed_programs.specs.Programs.{GivesProgram};
 
+use crate::filled::filled_program;
 use crate::refusal::Refusal;
-use crate::woven::woven_program;
 use std::alloc::Global;
 
 /// The least number: its double is the first location after the program.
@@ -41,5 +41,5 @@ pub fn interlude_program(alloc: Global, number: u16) -> Result<String, Refusal>
     if number < LEAST || MOST < number {
         return Err(Refusal::Place);
     }
-    woven_program(alloc, &INTERLUDE, &[number])
+    filled_program(alloc, &INTERLUDE, &[number])
 }

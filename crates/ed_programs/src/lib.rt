@@ -11,6 +11,7 @@ mod celsius;
 mod checked;
 mod decimals;
 mod difference;
+mod filled;
 mod fraction;
 mod greatest;
 mod hello;
@@ -23,7 +24,6 @@ mod refusal;
 mod sort;
 mod squares;
 mod total;
-mod woven;
 
 pub use add::add_program;
 pub use calendar::calendar_program;

@@ -2,8 +2,8 @@ ghost use Rattle.std.specs.Prelude.{◌≡◌, ◌*◌};
 ghost use Rattle.ed_programs.specs.Multiply.{multiply_orders, multiply_prints, multiply_refusal, multiply_text};
 ghost use Rattle.ed_programs.specs.Programs.{GivesProgram, Prints};
 
+use crate::filled::filled_program;
 use crate::refusal::{LIMIT, Refusal};
-use crate::woven::woven_program;
 use std::alloc::Global;
 
 /// The source, with a gap for the root, the left and the right number.
@@ -70,7 +70,7 @@ pub fn multiply_program(alloc: Global, left: u16, right: u16, root: u16) -> Resu
     if LIMIT <= product_of(left, right) || LIMIT <= product_of(root, root) {
         return Err(Refusal::Number);
     }
-    woven_program(alloc, &MULTIPLY, &[root, left, right])
+    filled_program(alloc, &MULTIPLY, &[root, left, right])
 }
 
 /// The product of two numbers.

@@ -3,8 +3,8 @@ ghost use Rattle.ed_programs.specs.FirstTapes.{FirstTapePrints};
 ghost use Rattle.ed_programs.specs.Programs.{GivesProgram};
 ghost use Rattle.ed_programs.specs.Squares.{squares_cost, squares_orders, squares_prints, squares_text};
 
+use crate::filled::filled_program;
 use crate::refusal::Refusal;
-use crate::woven::woven_program;
 use std::alloc::Global;
 
 /// The tape.
@@ -61,5 +61,5 @@ pub fn squares_program(alloc: Global) -> Result<String, Refusal>
     ensures is { GivesProgram None squares_text result }
     ensures law { FirstTapePrints squares_cost squares_orders 61 squares_prints result }
 {
-    woven_program(alloc, &SQUARES, &[])
+    filled_program(alloc, &SQUARES, &[])
 }

@@ -1,13 +1,12 @@
 -- Numbers in columns, as `format!` writes them.
-use Rattle.std.proofs.Common.{◌≡◌, ℕ, ◌-◌, ◌^◌, List, [], ◌∷◌, ◌++◌, ap, arith}
-use Rattle.std.proofs.Common.{false, length, append-nil, append_assoc, lit≤}
-use Rattle.std.specs.Prelude.{codes}
+use Rattle.ed_report.proofs.Kit.{append-nil, short_at, order_text, [], ap, append_assoc, arith, codes, false, length}
+use Rattle.ed_report.proofs.Kit.{List, ℕ, ◌++◌, ◌∷◌, ◌≡◌, decimal, right}
+use Rattle.ed_machine.proofs.Names.{◌-◌, ◌^◌, Cells}
+use Rattle.std.proofs.Common.{lit≤}
+use Rattle.std.specs.Fmt.{char_count, format_spec, padded_integral}
 use Rattle.std.specs.List.{repeat}
 use Rattle.std.proofs.lemmas.Str.{encode_ascii}
-use Rattle.std.specs.Fmt.{char_count, decimal, format_spec, padded_integral}
-use Rattle.ed_store.specs.Cells.{Cells, short_at}
-use Rattle.ed_orders.specs.Texts.{order_text}
-use Rattle.ed_report.specs.Listings.{listing_line, right}
+use Rattle.ed_report.specs.Listings.{listing_line}
 
 -- what `{n:WIDTH}` writes
 pub in_columns : (width n : ℕ)

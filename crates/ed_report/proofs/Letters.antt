@@ -1,14 +1,11 @@
 -- Letters of a trace, one after the other.
-use Rattle.std.proofs.Common.{◌≡◌, ◌∙◌, ℕ, zero, suc, ◌+◌, refl, sym, ap, arith, add-one, List}
-use Rattle.std.proofs.Common.{[], ◌∷◌, ◌++◌, length, append_assoc, append-nil, length-append}
-use Rattle.std.proofs.Common.{Bool, false, ◌<◌, ◌≤◌, drop, get_or, if◌then◌else◌}
-use Rattle.std.proofs.lemmas.List.{at_drop_more, drop_all}
+use Rattle.ed_report.proofs.Kit.{append-nil, drop_all, State, [], ap, append_assoc, arith, drop, false, get_or, length}
+use Rattle.ed_report.proofs.Kit.{List, refl, sym, ℕ, ◌++◌, ◌+◌, ◌<◌, ◌∙◌, ◌∷◌, ◌≡◌, ◌≤◌, letters_from}
+use Rattle.ed_machine.proofs.Names.{add-one, Bool, length-append, suc, zero, function_of, next_word, state_after}
+use Rattle.std.proofs.Common.{if◌then◌else◌}
+use Rattle.std.proofs.lemmas.List.{at_drop_more}
 use Rattle.ed_codes.specs.Spelling.{byte_of}
-use Rattle.ed_words.specs.Words.{function_of}
-use Rattle.ed_machine.specs.State.{State}
-use Rattle.ed_machine.specs.OrderTable.{next_word}
-use Rattle.ed_machine.specs.Steps.{state_after}
-use Rattle.ed_report.specs.Traces.{functions_after, is_full, letters_from, line_end, trace_text, traced_letter}
+use Rattle.ed_report.specs.Traces.{functions_after, is_full, line_end, trace_text, traced_letter}
 
 -- one letter more
 pub letters_more : (n : ℕ) (fs : List ℕ) (f : ℕ)

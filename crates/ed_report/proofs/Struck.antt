@@ -1,5 +1,5 @@
 -- Codes struck on a new printer give the bytes of a paper.
-use Rattle.std.proofs.Common.{◌≡◌, ◌∙◌, ◌++◌, List, ℕ, sym, ap, append_assoc}
+use Rattle.ed_report.proofs.Kit.{ap, append_assoc, List, sym, ℕ, ◌++◌, ◌∙◌, ◌≡◌}
 use Rattle.ed_printer.specs.Paper.{paper, paper_from}
 use Rattle.ed_printer.specs.declared.printer.Shift.{Shift}
 use Rattle.ed_printer.specs.declared.printer.Shift.TheVariants.{Letters}

@@ -1,23 +1,18 @@
 -- The bytes of a text that `format!` made.
-use Rattle.std.proofs.Common.{◌≡◌, ◌∙◌, sym, ℕ, List, [], ◌∷◌, ◌++◌, append_assoc}
-use Rattle.std.specs.Prelude.{Result, Ok, Err, Some, IfOk, IfSome, IsOkAnd, string_bytes, String, Vec, codes}
-use Rattle.std.specs.Fmt.{decimal}
-use Rattle.std.specs.declared.alloc.Global.{Global}
+use Rattle.ed_report.proofs.Kit.{string_bytes, Vec, Global, NoMemory, short_at, order_text, State, [], append_assoc}
+use Rattle.ed_report.proofs.Kit.{codes, IfOk, List, Ok, Result, sym, ℕ, ◌++◌, ◌∙◌, ◌∷◌, ◌≡◌, decimal}
+use Rattle.std.proofs.Common.{Err, Some, IfSome, IsOkAnd, String}
 use Rattle.std.specs.declared.alloc.AllocError.{AllocError}
-use Rattle.ed_words.specs.declared.memory.NoMemory.{NoMemory}
-use Rattle.ed_store.specs.Cells.{short_at}
-use Rattle.ed_orders.specs.Texts.{order_text}
-use Rattle.ed_machine.specs.State.{State}
 use Rattle.ed_machine.specs.declared.ending.Ending.TheVariants.{NoOrder}
 use Rattle.ed_report.specs.Notes.{at_after, ending_line}
 
 -- the bytes are what `format!` wrote
-pub told : (text : Result (String Global) AllocError) (r : Result (Vec ℕ Global) NoMemory) (wrote wanted : List ℕ)
+pub IfOk-told : (text : Result (String Global) AllocError) (r : Result (Vec ℕ Global) NoMemory) (wrote wanted : List ℕ)
     → wrote ≡ wanted → IfOk r (λ bytes. IsOkAnd text (λ s. bytes.items ≡ string_bytes s))
     → IfOk text (λ s. IfSome (Some wrote) (λ w. string_bytes s ≡ w)) → IfOk r (λ bytes. bytes.items ≡ wanted)
-told text (Err e) wrote wanted same taken made = tt
-told (Ok s) (Ok bytes) wrote wanted same taken made = taken ∙ made ∙ same
-told (Err e) (Ok bytes) wrote wanted same taken made = absurd taken
+IfOk-told text (Err e) wrote wanted same taken made = tt
+IfOk-told (Ok s) (Ok bytes) wrote wanted same taken made = taken ∙ made ∙ same
+IfOk-told (Err e) (Ok bytes) wrote wanted same taken made = absurd taken
 
 -- five pieces of a text, added from the right and from the left
 five_pieces : (a b c d e : List ℕ) → a ++ (b ++ (c ++ (d ++ e))) ≡ a ++ b ++ c ++ d ++ e
@@ -44,9 +39,10 @@ no_order_wrote s counter orders text c o t =
     rw (c, o, t) (no_order_pieces s.counter s.orders (order_text (short_at s.store s.counter)))
 
 -- the line of an ending by another name that is the same, and by another counter and count
-pub named : (r : Result (Vec ℕ Global) NoMemory) (s : State) (more : List ℕ) {name same : List ℕ} {counter orders : ℕ}
+pub IfOk-named : (r : Result (Vec ℕ Global) NoMemory) (s : State) (more : List ℕ)
+    {name same : List ℕ} {counter orders : ℕ}
     → IfOk r (λ bytes. bytes.items ≡ name ++ codes " " ++ decimal counter ++ codes " after " ++ decimal orders ++ more)
     → name ≡ same → counter ≡ s.counter → orders ≡ s.orders
     → IfOk r (λ bytes. bytes.items
     ≡ same ++ codes " " ++ decimal s.counter ++ codes " after " ++ decimal s.orders ++ more)
-named r s more line name counter orders = rw (← name, ← counter, ← orders) line
+IfOk-named r s more line name counter orders = rw (← name, ← counter, ← orders) line

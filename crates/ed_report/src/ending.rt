@@ -9,7 +9,7 @@ use std::alloc::Global;
 
 /// The line that reports how a run ended, with the counter and the count of orders of the machine after it. For
 /// `NoOrder` it ends with the text of the word at the counter.
-#[tactic(auto, using(ed_words::proofs::SizeLemmas::most))]
+#[tactic(auto, using(ed_words::proofs::SizeLemmas::locations_most))]
 pub fn ending_text(alloc: Global, ending: Ending, machine: &Machine) -> Result<Vec<u8>, NoMemory>
     ensures { IfOk result (λ bytes. bytes.items ≡ ending_line ending machine.now) }
 {

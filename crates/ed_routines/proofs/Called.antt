@@ -1,21 +1,13 @@
 -- A routine at a base: its image in the store, and which words are unchanged once it has returned.
-use Rattle.std.proofs.Common.{◌≡◌, ◌⊎◌, inl, inr, ℕ, ◌+◌, ◌-◌, ◌*◌, ◌<◌, ◌≤◌}
-use Rattle.std.proofs.Common.{refl, sym, ap, ◌∙◌, arith, true, false, true≢false}
-use Rattle.std.proofs.Common.{Bool, List, [], ◌∷◌, Option, length, get_or}
-use Rattle.std.specs.Prelude.{◌==◌}
-use Rattle.std.specs.List.{list_any}
-use Rattle.ed_words.specs.Sizes.{locations}
-use Rattle.ed_words.proofs.SizeLemmas.{most}
-use Rattle.ed_words.specs.declared.order_words.TheConstants.{A_F}
-use Rattle.ed_machine.specs.State.{State}
+use Rattle.ed_routines.proofs.Kit.{◌==◌, list_any, A_F, Frame, Moment, short, state, Holds, patched, [], ap, arith}
+use Rattle.ed_routines.proofs.Kit.{Bool, false, get_or, inl, inr, length, List, Option, refl, rules, sym, true, ℕ, ◌*◌}
+use Rattle.ed_routines.proofs.Kit.{◌+◌, ◌-◌, ◌<◌, ◌∙◌, ◌∷◌, ◌≡◌, ◌≤◌, ◌⊎◌, locations, locations_most, State, place_count, with_h}
+use Rattle.ed_routines.proofs.Kit.{IsOther, caller, HasWord, IsLoadedAt, IsOutside}
+use Rattle.std.proofs.Common.{true≢false}
+use Rattle.ed_machine.proofs.Kit.Frames.{Beside}
+use Rattle.ed_machine.proofs.Kit.Standing.{IsWorking, filled, merged, opens, unchanged}
 use Rattle.ed_library.specs.Entries.{entry}
-use Rattle.ed_library.specs.Routines.{missing_row, place_count}
-use Rattle.ed_machine.proofs.Kit.Frames.{Beside, Frame, Moment, short, state}
-use Rattle.ed_machine.proofs.Kit.Standing.{Holds, IsWorking, filled, merged, opens, unchanged}
-use Rattle.ed_machine.proofs.Kit.Window.{patched}
-use Rattle.ed_routines.specs.Catalogue.{with_h}
-use Rattle.ed_routines.specs.Standing.{HasWord, Stands, IsOutside, caller}
-use Rattle.ed_routines.specs.Returns.{IsOther}
+use Rattle.ed_library.specs.Routines.{missing_row}
 use Rattle.ed_routines.proofs.Image.{Makes, none, more, all_plain, holds_rows, image_from, length_image, working_at}
 
 -- the image of a routine at a base, with H, N, M and so on the locations hs
@@ -30,39 +22,26 @@ pub record IsWithin (n b h top : ℕ) (s : State) : Type 0 where
   pub fits : top ≤ locations s.size
 
 -- and always below the size
-pub within_size : {r b h : ℕ} {parameters : List ℕ} {s : State} → Stands r parameters b s → IsOutside r b h s
+pub within_size : {r b h : ℕ} {parameters : List ℕ} {s : State} → IsLoadedAt r parameters b s → IsOutside r b h s
     → IsWithin (place_count r) b h (locations s.size) s
-within_size o out = record {
-  under = o.fits;
-  near = out.below;
-  back = o.call.room;
-  fits = omega arith;
-}
+within_size o out = omega arith
 
 -- a routine is called in a state, with a location h outside it, and all below a place
 pub record IsCalled (r : ℕ) (parameters : List ℕ) (b h top : ℕ) (s : State) : Type 0 where
   pub all : length s.store.words ≡ 1024
-  pub stands : Stands r parameters b s
+  pub stands : IsLoadedAt r parameters b s
   pub outside : IsOutside r b h s
   pub within : IsWithin (place_count r) b h top s
 
 -- that is so if nothing is required but that the store reaches so far
-pub called : {r b h : ℕ} {parameters : List ℕ} {s : State} → length s.store.words ≡ 1024 → Stands r parameters b s
+pub called : {r b h : ℕ} {parameters : List ℕ} {s : State} → length s.store.words ≡ 1024 → IsLoadedAt r parameters b s
     → IsOutside r b h s → IsCalled r parameters b h (locations s.size) s
-called all stands outside = record {
-  all = all;
-  stands = stands;
-  outside = outside;
-  within = within_size stands outside;
-}
+called all stands outside = search rules
 
 -- a location outside a routine is outside its cells in the words of a store
 pub beside : {r b h : ℕ} {s : State} (words : List ℕ) → length words ≡ 1024 → IsOutside r b h s
     → Beside words b (place_count r) h
-beside {s = s} words all out =
-    let size = most s.size in
-    let below = out.below in
-    elim out.beside [ inl l ↦ inl (l, omega arith) | inr g ↦ inr g ]
+beside {s = s} words all out = search rules
 
 -- words that are a routine's at a base, except at its working locations, contain its image
 pub holds_words : (r : ℕ) {parameters hs : List ℕ} {b : ℕ} {s : State} → b ≤ 1024 → Makes parameters hs
@@ -73,16 +52,16 @@ holds_words r {s = s} low makes plain words =
     (λ i l. (words i l).has)
 
 -- a routine at a base has its image in the store
-pub holds : {r b : ℕ} {parameters hs : List ℕ} {s : State} → Stands r parameters b s → Makes parameters hs
+pub holds : {r b : ℕ} {parameters hs : List ℕ} {s : State} → IsLoadedAt r parameters b s → Makes parameters hs
     → all_plain (length hs) (entry r).items ≡ true → Holds (image r b hs) s.store.words b
 holds {r} {s = s} o makes plain =
-    let size = most s.size in let fits = o.fits in holds_words r (omega arith) makes plain o.image
+    let size = locations_most s.size in let fits = o.fits in holds_words r (omega arith) makes plain o.image
 
 -- and so has one with the location h as its one parameter
-pub holds_h : {r b h : ℕ} {s : State} → Stands r (with_h h) b s → IsOutside r b h s
+pub holds_h : {r b h : ℕ} {s : State} → IsLoadedAt r (with_h h) b s → IsOutside r b h s
     → all_plain 1 (entry r).items ≡ true → Holds (image r b (h ∷ [])) s.store.words b
 holds_h {h = h} {s} o out plain =
-    let size = most s.size in
+    let size = locations_most s.size in
     let below = out.below in
     let here : Makes (with_h h) (h ∷ []) = more (omega arith) refl none in
     holds o here plain
@@ -125,23 +104,12 @@ moment call words cells top i = record {
 }
 
 -- a state in which a routine is called is the moment of the call
-pub begins : {r n b h top : ℕ} {parameters : List ℕ} {s : State} (hs : List ℕ) (o : Stands r parameters b s)
+pub state-begins : {r n b h top : ℕ} {parameters : List ℕ} {s : State} (hs : List ℕ) (o : IsLoadedAt r parameters b s)
     (within : IsWithin n b h top s) → length s.store.words ≡ 1024 → Holds (image r b hs) s.store.words b
     → state (call_of {pairs = 0} o.low within).frame (moment (call_of {pairs = 0} o.low within) s.store.words
     (filled (image r b hs) s.store.words b 0) (A_F + 2 * caller s) 0) s.orders ≡ s
-begins {r} {b = b} {s = s} hs o within all holds =
-    let size = most s.size in
-    let fits = o.fits in
-    let long = length_image (entry r).items (entry r).working b hs 0 in
-    let words : patched 0 s.store.words b (filled (image r b hs) s.store.words b 0) ≡ s.store.words =
-    opens (image r b hs) s.store.words b (omega (arith, fits, all, long)) holds in
-    let counter : b + 0 ≡ s.counter = omega (arith, o.counter) in
-    let acc : short (A_F + 2 * caller s) ≡ s.acc = sym o.call.acc in
-    λ i. record s {
-      store = record { words = words i; sandwich = s.store.sandwich };
-      acc = acc i;
-      counter = counter i;
-    }
+state-begins {r} {b = b} {s = s} hs o within all holds =
+    search (rules, holds, locations_most, length_image, opens)
 
 -- a location that is not a working one is not one of the image's working ones
 not_working : {r b i : ℕ} (hs : List ℕ) → IsOther r b i → IsWorking (image r b hs) b i → ⊥
@@ -163,8 +131,8 @@ not_working {r} {b} {i} hs o w = by_case o.other
         ∙ free)
 
 -- a word outside the working locations is unchanged
-pub kept : {r b i : ℕ} (hs : List ℕ) → IsOther r b i → (ws cells : List ℕ) → length cells ≡ length (image r b hs)
+pub get_or-kept : {r b i : ℕ} (hs : List ℕ) → IsOther r b i → (ws cells : List ℕ) → length cells ≡ length (image r b hs)
     → merged (image r b hs) cells ≡ cells → Holds (image r b hs) ws b
     → get_or (patched 0 ws b cells) i 0 ≡ get_or ws i 0
-kept {r} {b} {i} hs o ws cells long new old =
+get_or-kept {r} {b} {i} hs o ws cells long new old =
     unchanged (image r b hs) ws b cells long new old i (not_working hs o)

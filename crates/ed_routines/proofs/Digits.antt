@@ -1,11 +1,11 @@
 -- What the digits of a number are.
-use Rattle.std.proofs.Common.{◌≡◌, inl, inr, ℕ, zero, suc, ◌+◌, ◌*◌, ◌/◌, ◌%◌}
-use Rattle.std.proofs.Common.{◌<◌, ◌≤◌, refl, sym, ap, ◌∙◌, arith, List, []}
-use Rattle.std.proofs.Common.{◌∷◌, ◌++◌, length, length-append, map}
+use Rattle.ed_routines.proofs.Kit.{[], arith, inl, inr, length, List, refl, rules, suc, zero, ℕ, ◌%◌, ◌*◌, ◌++◌, ◌+◌}
+use Rattle.ed_routines.proofs.Kit.{◌/◌, ◌<◌, ◌∙◌, ◌∷◌, ◌≡◌, ◌≤◌, digits, digits_value, value_after, without_zeros}
+use Rattle.std.proofs.Common.{map}
 use Rattle.std.specs.Fmt.{decimal}
-use Rattle.std.proofs.lemmas.Fmt.{decimal_digit, decimal_step}
 use Rattle.std.proofs.lemmas.Bool.{cases_lt}
-use Rattle.ed_routines.specs.Digits.{digits_value, value_after, without_zeros, before_units, digits, DigitsLaw}
+use Rattle.std.proofs.lemmas.Fmt.{decimal_digit, decimal_step}
+use Rattle.ed_routines.specs.Digits.{DigitsLaw}
 
 -- leading zeros make no difference
 value_without : (ds : List ℕ) (u : ℕ) → digits_value (without_zeros ds ++ u ∷ []) ≡ 10 * digits_value ds + u
@@ -31,64 +31,19 @@ one_more n m d some small e f = decimal_step n some (omega (arith, small)) ∙ (
 
 module _ (n : ℕ) (small : n < 65536) where
   written_1 : n < 10 → map (λ d. 48 + d) (digits n) ≡ decimal n
-  written_1 l =
-      let a : n / 10000 ≡ 0 = omega arith in
-      let b : n / 1000 % 10 ≡ 0 = omega arith in
-      let c : n / 100 % 10 ≡ 0 = omega arith in
-      let d : n / 10 % 10 ≡ 0 = omega arith in
-      let u : n % 10 ≡ n = omega arith in
-      rw (a, b, c, d, u) (sym (decimal_digit n l))
+  written_1 l = search (rules, decimal_digit)
 
   written_2 : 10 ≤ n → n < 100 → map (λ d. 48 + d) (digits n) ≡ decimal n
-  written_2 g l =
-      let a : n / 10000 ≡ 0 = omega arith in
-      let b : n / 1000 % 10 ≡ 0 = omega arith in
-      let c : n / 100 % 10 ≡ 0 = omega arith in
-      let d = positive (n / 10 % 10) [] (omega arith) in
-      let top : n / 10 ≡ n / 10 % 10 = omega arith in
-      rw (a, b, c) (ap (λ x. map (λ d. 48 + d) (x ++ n % 10 ∷ [])) d
-      ∙ sym (one_more n (n / 10 % 10) (n % 10) g small top refl
-      ∙ ap (λ x. x ++ (48 + n % 10) ∷ []) (decimal_digit (n / 10 % 10) (omega arith))))
+  written_2 g l = search (rules, positive, one_more, decimal_digit)
 
   written_3 : 100 ≤ n → n < 1000 → map (λ d. 48 + d) (digits n) ≡ decimal n
-  written_3 g l =
-      let a : n / 10000 ≡ 0 = omega arith in
-      let b : n / 1000 % 10 ≡ 0 = omega arith in
-      let c = positive (n / 100 % 10) (n / 10 % 10 ∷ []) (omega arith) in
-      let top : n / 10 / 10 ≡ n / 100 % 10 = omega arith in
-      rw (a, b) (ap (λ x. map (λ d. 48 + d) (x ++ n % 10 ∷ [])) c
-      ∙ sym (one_more n (n / 10) (n % 10) (omega arith) small refl refl
-      ∙ ap (λ x. x ++ (48 + n % 10) ∷ [])
-      (one_more (n / 10) (n / 100 % 10) (n / 10 % 10) (omega arith) (omega arith) top refl
-      ∙ ap (λ x. x ++ (48 + n / 10 % 10) ∷ []) (decimal_digit (n / 100 % 10) (omega arith)))))
+  written_3 g l = search (rules, positive, one_more, decimal_digit)
 
   written_4 : 1000 ≤ n → n < 10000 → map (λ d. 48 + d) (digits n) ≡ decimal n
-  written_4 g l =
-      let a : n / 10000 ≡ 0 = omega arith in
-      let b = positive (n / 1000 % 10) (n / 100 % 10 ∷ n / 10 % 10 ∷ []) (omega arith) in
-      let m : n / 10 / 10 ≡ n / 100 = omega arith in
-      let top : n / 100 / 10 ≡ n / 1000 % 10 = omega arith in
-      rw a (ap (λ x. map (λ d. 48 + d) (x ++ n % 10 ∷ [])) b
-      ∙ sym (one_more n (n / 10) (n % 10) (omega arith) small refl refl
-      ∙ ap (λ x. x ++ (48 + n % 10) ∷ []) (one_more (n / 10) (n / 100) (n / 10 % 10) (omega arith) (omega arith) m refl
-      ∙ ap (λ x. x ++ (48 + n / 10 % 10) ∷ [])
-      (one_more (n / 100) (n / 1000 % 10) (n / 100 % 10) (omega arith) (omega arith) top refl
-      ∙ ap (λ x. x ++ (48 + n / 100 % 10) ∷ []) (decimal_digit (n / 1000 % 10) (omega arith))))))
+  written_4 g l = search (rules, positive, one_more, decimal_digit)
 
   written_5 : 10000 ≤ n → map (λ d. 48 + d) (digits n) ≡ decimal n
-  written_5 g =
-      let a = positive (n / 10000) (n / 1000 % 10 ∷ n / 100 % 10 ∷ n / 10 % 10 ∷ []) (omega arith) in
-      let m : n / 10 / 10 ≡ n / 100 = omega arith in
-      let k : n / 100 / 10 ≡ n / 1000 = omega arith in
-      let top : n / 1000 / 10 ≡ n / 10000 = omega arith in
-      ap (λ x. map (λ d. 48 + d) (x ++ n % 10 ∷ [])) a
-      ∙ sym (one_more n (n / 10) (n % 10) (omega arith) small refl refl
-      ∙ ap (λ x. x ++ (48 + n % 10) ∷ []) (one_more (n / 10) (n / 100) (n / 10 % 10) (omega arith) (omega arith) m refl
-      ∙ ap (λ x. x ++ (48 + n / 10 % 10) ∷ [])
-      (one_more (n / 100) (n / 1000) (n / 100 % 10) (omega arith) (omega arith) k refl
-      ∙ ap (λ x. x ++ (48 + n / 100 % 10) ∷ [])
-      (one_more (n / 1000) (n / 10000) (n / 1000 % 10) (omega arith) (omega arith) top refl
-      ∙ ap (λ x. x ++ (48 + n / 1000 % 10) ∷ []) (decimal_digit (n / 10000) (omega arith))))))
+  written_5 g = search (rules, positive, one_more, decimal_digit)
 
 pub digits_law : DigitsLaw
 digits_law n small =
@@ -113,14 +68,5 @@ digits_law n small =
           ]
         ]
 
--- there are at most five
-few_without : (ds : List ℕ) → length (without_zeros ds) ≤ length ds
-few_without [] = omega arith
-few_without (zero ∷ ds) = let e = few_without ds in omega (arith, e)
-few_without (suc d ∷ ds) = omega arith
-
 pub few_digits : (n : ℕ) → length (digits n) ≤ 5
-few_digits n =
-    let few = few_without (tens n) in
-    let e = length-append (before_units n) (n % 10 ∷ []) in
-    omega (arith, few, e)
+few_digits n = search rules

@@ -1,26 +1,25 @@
 -- The link between a routine's table in the library and the words that a path uses: its image at a base, without the
 -- words at its working locations.
-use Rattle.std.proofs.Common.{◌≡◌, ℕ, zero, suc, ◌+◌, ◌-◌, ◌*◌, ◌<◌, ◌≤◌, refl, sym, ap, ◌∙◌, arith, Bool, true, false}
-use Rattle.std.proofs.Common.{◌&&◌, ◌||◌, nat_eq, nat_le, nat_lt, List, []}
-use Rattle.std.proofs.Common.{◌∷◌, Option, Some, None, length, get_or, lit≤}
-use Rattle.std.specs.Prelude.{◌==◌, if◌then◌else◌}
-use Rattle.std.specs.List.{list_any}
-use Rattle.std.proofs.lemmas.Bool.{and_parts}
-use Rattle.ed_words.specs.Words.{digit}
-use Rattle.ed_words.proofs.Numbers.{eq_of, eq_false, le_of, le_true, lt_of}
+use Rattle.ed_routines.proofs.Kit.{◌==◌, list_any, Holds, [], ap, arith, Bool, false, get_or, length, List, nat_lt}
+use Rattle.ed_routines.proofs.Kit.{Option, refl, rules, Some, suc, sym, true, zero, ℕ, ◌*◌, ◌+◌, ◌-◌, ◌<◌, ◌∙◌, ◌∷◌}
+use Rattle.ed_routines.proofs.Kit.{◌≡◌, ◌≤◌, if◌then◌else◌, lit≤}
+use Rattle.ed_notation.proofs.Kit.{nat_eq, nat_le, None, ◌&&◌, and_parts, le-leb, leb-true, digit}
+use Rattle.std.proofs.Common.{◌||◌}
+use Rattle.std.proofs.lemmas.Bool.{ne_eqb}
+use Rattle.ed_machine.proofs.Kit.Standing.{Meets}
 use Rattle.ed_notation.specs.Fold.{value_of, word_with}
-use Rattle.ed_library.specs.Routines.{table_item}
 use Rattle.ed_library.specs.Images.{parameter_store, routine_word}
+use Rattle.ed_library.specs.Routines.{table_item}
 use Rattle.ed_library.specs.declared.tables.TableRow.{TableRow}
 use Rattle.ed_library.proofs.Letters.{value_of_parameter}
-use Rattle.ed_machine.proofs.Kit.Standing.{Holds, Meets}
 
 -- the word of a row at a base, with H, N, M and so on the locations hs
 abbrev pub row_word : ℕ → List ℕ → TableRow → ℕ
 row_word b hs row =
     if nat_eq row.end 18 then 4096 * row.function + digit row.mark + 2 * (b + row.number)
     else if nat_eq row.end 19 then 4096 * row.function + 2 * row.number + digit row.mark + 1
-    else if nat_le 21 row.end then 4096 * row.function + 2 * row.number + digit row.mark + 2 * get_or hs (row.end - 21) 0
+    else if nat_le 21 row.end then
+    4096 * row.function + 2 * row.number + digit row.mark + 2 * get_or hs (row.end - 21) 0
     else 4096 * row.function + 2 * row.number + digit row.mark
 
 -- a row that ends with F, θ or D, or with one of the parameters that the routine takes, and whose word is not
@@ -28,7 +27,8 @@ row_word b hs row =
 abbrev pub is_plain : ℕ → TableRow → Bool
 is_plain takes row =
     nat_le (4096 * row.function + 2 * row.number) 124928
-    && (nat_eq row.end 17 || (nat_eq row.end 18 || (nat_eq row.end 19 || (nat_le 21 row.end && nat_lt row.end (21 + takes)))))
+    && (nat_eq row.end 17
+    || (nat_eq row.end 18 || (nat_eq row.end 19 || (nat_le 21 row.end && nat_lt row.end (21 + takes)))))
 
 abbrev pub all_plain : ℕ → List TableRow → Bool
 all_plain takes [] = true
@@ -55,15 +55,7 @@ pub data IsLetter (takes c : ℕ) : Type 0 where
 letter_of : (takes c : ℕ)
     → (nat_eq c 17 || (nat_eq c 18 || (nat_eq c 19 || (nat_le 21 c && nat_lt c (21 + takes))))) ≡ true
     → IsLetter takes c
-letter_of takes c e = by_tests (nat_eq c 17) (nat_eq c 18) (nat_eq c 19) refl refl refl
-  where
-    by_tests : (p q r : Bool) → nat_eq c 17 ≡ p → nat_eq c 18 ≡ q → nat_eq c 19 ≡ r → IsLetter takes c
-    by_tests true q r a b d = F (eq_of c 17 a)
-    by_tests false true r a b d = theta (eq_of c 18 b)
-    by_tests false false true a b d = D (eq_of c 19 d)
-    by_tests false false false a b d =
-        let t = and_parts (nat_le 21 c) (nat_lt c (21 + takes)) (rw (a, b, d) at e) in
-        parameter (le_of 21 c t.0) (lt_of c (21 + takes) t.1)
+letter_of takes c e = search rules
 
 digit_low : (d : Bool) → digit d ≤ 1
 digit_low true = lit≤ tt
@@ -91,23 +83,13 @@ module _ {parameters hs : List ℕ} {b : ℕ} (low : b ≤ 1024) (makes : Makes 
   by_letter : (f n c : ℕ) (d : Bool) → 4096 * f + 2 * n ≤ 124928 → IsLetter takes c
       → word_with f n d (value_of (parameter_store parameters) (2 * b) c)
       ≡ row_word b hs (record { function = f; number = n; mark = d; end = c })
-  by_letter f n c d small (F e) = let l = digit_low d in rw e (omega arith)
-  by_letter f n c d small (theta e) = let l = digit_low d in rw e (omega arith)
-  by_letter f n c d small (D e) = let l = digit_low d in rw e (omega arith)
-  by_letter f n c d small (parameter from below) =
-      let l = digit_low d in
-      let v : value_of (parameter_store parameters) (2 * b) c ≡ 2 * get_or hs (c - 21) 0 =
-      value_of_parameter parameters (2 * b) c from ∙ twice makes (c - 21) (omega arith) in
-      let near_c = near makes (c - 21) (omega arith) in
-      rw (v, eq_false c 18 (λ e. absurd (omega arith)), eq_false c 19 (λ e. absurd (omega arith)), le_true 21 c from)
-      (omega arith)
+  by_letter f n c d small h =
+      search (rules, digit_low, value_of, value_of_parameter, twice, near, ne_eqb, le-leb)
 
   -- the word that the library gives a row
   pub row_word_is : (row : TableRow) → is_plain takes row ≡ true
       → routine_word parameters b (table_item row) ≡ row_word b hs row
-  row_word_is row plain =
-      let p = and_parts (nat_le (4096 * row.function + 2 * row.number) 124928) _ plain in
-      by_letter row.function row.number row.end row.mark (le_of _ _ p.0) (letter_of takes row.end p.1)
+  row_word_is row plain = search (rules, and_parts, by_letter, leb-true, letter_of)
 
   module _ (working : List ℕ) (no_row : TableRow) where
     here_meets : (t : Bool) (row : TableRow) (x : ℕ) → is_plain takes row ≡ true

@@ -1,27 +1,19 @@
 -- A journey: lines of a path, and calls of routines as lines among them, one after the other.
-use Rattle.std.proofs.Common.{◌≡◌, ◌⊎◌, inl, inr, ℕ, ◌+◌, ◌-◌, ◌*◌, ◌^◌, ◌<◌, ◌≤◌, refl, sym, ap, ◌∙◌, subst, arith}
-use Rattle.std.proofs.Common.{false, List, [], ◌++◌, Option, get_or, length}
-use Rattle.ed_words.specs.Sizes.{locations}
-use Rattle.ed_words.proofs.SizeLemmas.{most}
-use Rattle.ed_words.specs.declared.order_words.TheConstants.{A_F}
-use Rattle.ed_machine.specs.State.{State}
-use Rattle.ed_machine.specs.OrderTable.{Obeyed, step}
-use Rattle.ed_machine.specs.declared.turn.Turn.TheVariants.{Stopped}
+use Rattle.ed_routines.proofs.Kit.{A_F, all_words, Frame, Moment, short, state, Leads, A, G_jumps, Jumps, Reads, Does}
+use Rattle.ed_routines.proofs.Kit.{leads, on, Path, stay, any, own, length_patched, patched, [], ap, arith, false}
+use Rattle.ed_routines.proofs.Kit.{get_or, inl, inr, length, List, Option, refl, rules, subst, sym, ℕ, ◌*◌, ◌++◌, ◌+◌}
+use Rattle.ed_routines.proofs.Kit.{◌-◌, ◌<◌, ◌^◌, ◌∙◌, ◌≡◌, ◌≤◌, ◌⊎◌, locations, locations_most, step, State, place_count}
+use Rattle.ed_routines.proofs.Kit.{IsOther, caller, IsLoadedAt}
 use Rattle.ed_orders.specs.declared.kind.Kind.TheVariants.{Z as KindZ}
+use Rattle.ed_machine.specs.declared.turn.Turn.TheVariants.{Stopped}
+use Rattle.ed_machine.proofs.Kit.Frames.{get_beside}
+use Rattle.ed_machine.proofs.Kit.Leads.{joined}
+use Rattle.ed_machine.proofs.Kit.Window.{patched_self, get_own}
 use Rattle.ed_library.specs.Images.{image_word}
-use Rattle.ed_library.specs.Routines.{is_working, place_count}
-use Rattle.ed_machine.proofs.Kit.Frames.{Frame, Moment, all_words, state, short, get_beside}
-use Rattle.ed_machine.proofs.Kit.Leads.{Leads, joined}
-use Rattle.ed_machine.proofs.Kit.Moves.{A, G_jumps, Reads, Jumps}
-use Rattle.ed_machine.proofs.Kit.Orders.{Does}
-use Rattle.ed_machine.proofs.Kit.Paths.{Path, leads, on, stay}
-use Rattle.ed_machine.proofs.Kit.Places.{any, own}
-use Rattle.ed_machine.proofs.Kit.Window.{patched, patched_self, get_own, length_patched}
-use Rattle.ed_routines.specs.Standing.{Stands, caller}
-use Rattle.ed_routines.specs.Returns.{IsOther}
+use Rattle.ed_library.specs.Routines.{is_working}
 
 -- k orders print the codes and lead to an order that stops the machine, with the counter at a location
-pub record ComesToStop (k : ℕ) (s : State) (codes : List ℕ) (at : ℕ) : Type 0 where
+pub record ReachesStop (k : ℕ) (s : State) (codes : List ℕ) (at : ℕ) : Type 0 where
   pub last : State
   pub leads : Leads k s codes last
   pub stops : (step last).turn ≡ Stopped
@@ -49,18 +41,12 @@ module _ {n h : ℕ} {f : Frame n h} where
   -- a journey that ends at an order Z
   pub to_stop : {k : ℕ} {r t u : Moment} {codes : List ℕ} → Journey f k r codes t → Does f KindZ t Stopped u
       → (done : ℕ)
-      → ComesToStop k (state f r done) codes u.counter
-  to_stop {k} {t = t} journey z done = record {
-    last = state f t (done + k);
-    leads = journey.leads done;
-    stops = ap (λ (o : Obeyed). o.turn) (z.does (done + k));
-    counter = ap (λ (o : Obeyed). o.state.counter) (z.does (done + k));
-    orders = ap (λ (o : Obeyed). o.state.orders) (z.does (done + k));
-  }
+      → ReachesStop k (state f r done) codes u.counter
+  to_stop {k} {t = t} journey z done = search rules
 
 -- the same after other orders
 pub stop_after : {a b at : ℕ} {s t : State} {cs ds : List ℕ} → Leads a s cs t → t.orders ≡ s.orders + a
-    → ComesToStop b t ds at → ComesToStop (a + b) s (cs ++ ds) at
+    → ReachesStop b t ds at → ReachesStop (a + b) s (cs ++ ds) at
 stop_after first count o = record {
   last = o.last;
   leads = joined first o.leads;
@@ -104,17 +90,10 @@ pub record IsIn {n h : ℕ} (f : Frame n h) (r : Moment) : Type 0 where
 module _ {n h : ℕ} {f : Frame n h} {r : Moment} (o : IsIn f r) where
   -- a word outside the piece
   pub beside_word : (q : ℕ) → (q < f.base) ⊎ (f.base + n ≤ q) → get_or (all_words f r) q 0 ≡ get_or r.words q 0
-  beside_word q (inl l) =
-      let own = o.own in let all = o.all in let size = most f.size in let under = f.under in let fits = f.fits in
-      get_beside 0 r.words f.base r.cells q (inl (l, omega arith))
-  beside_word q (inr g) =
-      let own = o.own in
-      get_beside 0 r.words f.base r.cells q (inr (omega arith))
+  beside_word q h = search (rules, own, locations_most, get_beside)
 
   pub all_long : length (all_words f r) ≡ 1024
-  all_long =
-      let own = o.own in let all = o.all in let size = most f.size in let under = f.under in let fits = f.fits in
-      length_patched 0 r.words f.base r.cells (omega arith) ∙ all
+  all_long = search (rules, own, locations_most, length_patched)
 
   -- the moment in which a routine at w is called from the cell i
   abbrev pub called : ℕ → ℕ → Moment
@@ -125,7 +104,7 @@ module _ {n h : ℕ} {f : Frame n h} {r : Moment} (o : IsIn f r) where
 
   -- the routine is there, called
   pub stands : {r0 w : ℕ} {parameters : List ℕ} (i done : ℕ) → i + 3 ≤ n → HasRoutine f r.words r0 w parameters
-      → Stands r0 parameters w (state f (called i w) done)
+      → IsLoadedAt r0 parameters w (state f (called i w) done)
   stands {r0} {w} {parameters} i done room has =
       let e = caller_is i w done in
       let low = o.above in
@@ -159,16 +138,11 @@ module _ {n h : ℕ} {f : Frame n h} {r : Moment} (o : IsIn f r) where
 
   module _ {r0 w : ℕ} {parameters : List ℕ} {k : ℕ} {codes : List ℕ} (i : ℕ) (ds : List ℕ) (l : Option ℕ)
       (has : HasRoutine f r.words r0 w parameters)
-      (returns : (done : ℕ) → Stands r0 parameters w (state f (called i w) done)
+      (returns : (done : ℕ) → IsLoadedAt r0 parameters w (state f (called i w) done)
       → Returns r0 w (state f (called i w) done) k codes ds l)
       (room : i + 3 ≤ n) where
     own_other : (j : ℕ) → j < n → IsOther r0 w (f.base + j)
-    own_other j l = record { other = side has.apart }
-      where
-        side : (w + place_count r0 ≤ f.base) ⊎ (f.base + n ≤ w)
-            → (f.base + j < w) ⊎ ((w + place_count r0 ≤ f.base + j) ⊎ (is_working r0 (f.base + j - w) ≡ false))
-        side (inl b) = inr (inl (omega arith))
-        side (inr b) = inl (omega arith)
+    own_other j l = search rules
 
     gone : Returns r0 w (state f (called i w) 0) k codes ds l
     gone = returns 0 (stands i 0 room has)
@@ -178,7 +152,7 @@ module _ {n h : ℕ} {f : Frame n h} {r : Moment} (o : IsIn f r) where
 
     same_words : patched 0 (patched 0 (all_words f r) w ds) f.base r.cells ≡ patched 0 (all_words f r) w ds
     same_words =
-        let own = o.own in let size = most f.size in let under = f.under in let fits = f.fits in
+        let own = o.own in let size = locations_most f.size in let under = f.under in let fits = f.fits in
         let long = gone.long in
         patched_self 0 (patched 0 (all_words f r) w ds) f.base r.cells (omega arith)
         (λ j l. sym (gone.keeps (f.base + j) (own_other j (omega arith))
@@ -196,7 +170,7 @@ module _ {n h : ℕ} {f : Frame n h} {r : Moment} (o : IsIn f r) where
         → Journey f (2 + k) r codes (after_call w i ds l)
     calls clear first second = record {
       leads = λ done.
-          let size = most f.size in let under = f.under in let fits = f.fits in
+          let size = locations_most f.size in let under = f.under in let fits = f.fits in
           let word : get_or r.cells i 0 ≡ A_F + 2 * (f.base + i) = ap (λ x. x.1.0) first in
           let two : Path f 2 r [] (called i w) =
           on (A i (own i) (short (A_F + 2 * (f.base + i))) first (omega arith))

@@ -10,3 +10,4 @@ pub mod PrintCall
 pub mod Lines
 pub mod Read
 pub mod ReadCall
+pub mod Kit

@@ -1,22 +1,14 @@
 -- The routines of the library as lines of a journey.
-use Rattle.std.proofs.Common.{◌≡◌, ◌⊎◌, inl, inr, ℕ, ◌+◌, ◌-◌, ◌*◌, ◌/◌, ◌%◌, ◌^◌, ◌<◌, ◌≤◌, refl, subst, arith}
-use Rattle.std.proofs.Common.{List, [], ◌∷◌, Some, get_or}
-use Rattle.ed_words.specs.Sizes.{locations}
-use Rattle.ed_words.specs.declared.order_words.TheConstants.{A_F, E_F, S_F}
-use Rattle.ed_machine.specs.State.{State}
-use Rattle.ed_machine.proofs.Kit.Frames.{Frame, Moment, all_words, state, short}
-use Rattle.ed_machine.proofs.Kit.Newline as newline_piece
-use Rattle.ed_machine.proofs.Kit.Moves.{Reads, Jumps}
-use Rattle.ed_machine.proofs.Kit.Places.{any, own}
-use Rattle.ed_machine.proofs.Kit.Zeros.{begun, flag_of, spared}
-use Rattle.ed_routines.specs.Catalogue.{newline, print, with_h}
-use Rattle.ed_routines.specs.Digits.{digits, print_orders}
-use Rattle.ed_routines.specs.Standing.{IsOutside, Stands}
+use Rattle.ed_routines.proofs.Kit.{A_F, E_F, S_F, all_words, Frame, Moment, short, state, Jumps, Reads, any, own}
+use Rattle.ed_routines.proofs.Kit.{begun, flag_of, spared, [], arith, get_or, inl, inr, List, refl, rules, Some, subst}
+use Rattle.ed_routines.proofs.Kit.{ℕ, ◌%◌, ◌*◌, ◌+◌, ◌-◌, ◌/◌, ◌<◌, ◌^◌, ◌∷◌, ◌≡◌, ◌≤◌, ◌⊎◌, locations, State, newline}
+use Rattle.ed_routines.proofs.Kit.{print, with_h, digits, print_orders, IsLoadedAt, IsOutside}
 use Rattle.ed_routines.proofs.Called.{IsCalled, IsWithin, called as routine_called}
-use Rattle.ed_routines.proofs.NewLine as new_line
-use Rattle.ed_routines.proofs.Print.{before_tens, cells as print_cells}
-use Rattle.ed_routines.proofs.PrintCall as print_call
 use Rattle.ed_routines.proofs.Journeys.{HasRoutine, IsIn, Journey, Returns, all_long, after_call, called, calls}
+use Rattle.ed_routines.proofs.Print.{before_tens, cells as print_cells}
+use Rattle.ed_machine.proofs.Kit.Newline as newline_piece
+use Rattle.ed_routines.proofs.NewLine as new_line
+use Rattle.ed_routines.proofs.PrintCall as print_call
 
 -- the caller, as a routine computes it
 abbrev pub reckoned : ℕ → ℕ
@@ -28,7 +20,7 @@ module _ {n h : ℕ} {f : Frame n h} {r : Moment} (o : IsIn f r) where
   abbrev pub newline_left : ℕ → ℕ → List ℕ
   newline_left w i = newline_piece.cells w (E_F + 2 * (reckoned (f.base + i) + 2))
 
-  pub newline_returns : {w : ℕ} (i done : ℕ) → Stands newline [] w (state f (called o i w) done)
+  pub newline_returns : {w : ℕ} (i done : ℕ) → IsLoadedAt newline [] w (state f (called o i w) done)
       → Returns newline w (state f (called o i w) done) 5 (18 ∷ 24 ∷ []) (newline_left w i) (Some 24)
   newline_returns {w} i done there =
       let s : State = state f (called o i w) done in
@@ -70,7 +62,7 @@ module _ {n h : ℕ} {f : Frame n h} {r : Moment} (o : IsIn f r) where
 
   pub print_returns : {w : ℕ} (i j done : ℕ) → j < n → number_at j < 65536
       → ((w + 51 ≤ f.base) ⊎ (f.base + n ≤ w))
-      → Stands print (with_h (f.base + j)) w (state f (called o i w) done)
+      → IsLoadedAt print (with_h (f.base + j)) w (state f (called o i w) done)
       → Returns print w (state f (called o i w) done) (print_orders (number_at j)) (11 ∷ digits (number_at j))
       (print_left w i j (number_at j)) (Some (number_at j % 10))
   print_returns {w} i j done inside small apart there =
@@ -94,7 +86,7 @@ module _ {n h : ℕ} {f : Frame n h} {r : Moment} (o : IsIn f r) where
   -- the same, by the number in that cell
   pub print_goes : {w v : ℕ} (i j : ℕ) → number_at j ≡ v → j < n → v < 65536
       → ((w + 51 ≤ f.base) ⊎ (f.base + n ≤ w))
-      → (done : ℕ) → Stands print (with_h (f.base + j)) w (state f (called o i w) done)
+      → (done : ℕ) → IsLoadedAt print (with_h (f.base + j)) w (state f (called o i w) done)
       → Returns print w (state f (called o i w) done) (print_orders v) (11 ∷ digits v) (print_left w i j v)
       (Some (v % 10))
   print_goes {w} {v} i j number inside small apart done there =
@@ -109,6 +101,4 @@ module _ {n h : ℕ} {f : Frame n h} {r : Moment} (o : IsIn f r) where
       → Jumps {f = f} {r = record r { acc = short (A_F + 2 * (f.base + i)); counter = f.base + (i + 1) }}
       (i + 1) 27 (any w has.reached)
       → Journey f (2 + print_orders v) r (11 ∷ digits v) (after_call o w i (print_left w i j v) (Some (v % 10)))
-  print_line {w} {v} i j has number inside small room clear first second =
-      calls o i (print_left w i j v) (Some (v % 10)) has (print_goes i j number inside small has.apart) room clear first
-      second
+  print_line {w} {v} i j has number inside small room clear first second = search (rules, calls, print_goes)

@@ -1,18 +1,15 @@
 -- The routine `print`, by its listing.
-use Rattle.std.proofs.Common.{◌≡◌, ℕ, zero, suc, ◌+◌, ◌-◌, ◌*◌, ◌/◌, ◌%◌, ◌^◌, ◌<◌}
-use Rattle.std.proofs.Common.{◌≤◌, refl, ap, arith, Bool, true, false, nat_lt}
-use Rattle.std.proofs.Common.{List, [], ◌∷◌, ◌++◌, Option, Some, get_or, length, lit<, lit≤}
-use Rattle.ed_words.proofs.Numbers.{lt_false, lt_true}
-use Rattle.ed_words.proofs.SizeLemmas.{most}
-use Rattle.ed_words.specs.declared.order_words.TheConstants.{A_F, E_F, G_F, L_D, O_F, S_F, T_F, U_F, V_F}
-use Rattle.ed_machine.proofs.Kit.Frames.{Moment, short}
-use Rattle.ed_machine.proofs.Kit.Places.{IsOutside, early, own, out, any}
+use Rattle.ed_routines.proofs.Kit.{A_F, E_F, L_D, S_F, T_F, U_F, Moment, short, A, E_jumps, G_jumps, L, S, T, U, on}
+use Rattle.ed_routines.proofs.Kit.{prints, stay, any, early, out, own, LD, begun, flag_of, spared, [], ap, arith, Bool}
+use Rattle.ed_routines.proofs.Kit.{false, get_or, length, List, lit<, nat_lt, Option, refl, Some, suc, true, zero, ℕ}
+use Rattle.ed_routines.proofs.Kit.{◌%◌, ◌*◌, ◌++◌, ◌+◌, ◌-◌, ◌/◌, ◌<◌, ◌^◌, ◌∷◌, ◌≡◌, ◌≤◌, locations_most, lit≤, le-ltb, lt-ltb}
+use Rattle.ed_routines.proofs.Kit.{sum, without_zeros}
+use Rattle.ed_words.specs.declared.order_words.TheConstants.{G_F, O_F, V_F}
+use Rattle.ed_machine.proofs.Kit.Moves.{O, G_stays}
 use Rattle.ed_machine.proofs.Kit.Orders.{there_is}
-use Rattle.ed_machine.proofs.Kit.Shifts.{LD, L512F}
-use Rattle.ed_machine.proofs.Kit.Moves.{A, S, T, U, O, E_jumps, G_jumps, G_stays, L}
-use Rattle.ed_machine.proofs.Kit.Paths.{stay, on, prints}
-use Rattle.ed_machine.proofs.Kit.Zeros.{flag_of, shown, begun, spared, last_of}
-use Rattle.ed_routines.specs.Digits.{sum, without_zeros}
+use Rattle.ed_machine.proofs.Kit.Places.{IsOutside}
+use Rattle.ed_machine.proofs.Kit.Shifts.{L512F}
+use Rattle.ed_machine.proofs.Kit.Zeros.{shown, last_of}
 use Rattle.ed_routines.proofs.Called.{Call, moment}
 use Rattle.ed_routines.proofs.Digits.{tens}
 use Rattle.ed_routines.proofs.Walks.{Walk, Weights, walked, walked_away}
@@ -162,7 +159,7 @@ module _ (given : Given) where
         (at j u flag (4096 * (d + 1)) spare 0 10 last)
     subtract {j} {p} o u d low few =
         let most = o.most in
-        let positive : nat_lt (short u) (2 ^ 70) ≡ true = lt_true (short u) (2 ^ 70) (omega arith) in
+        let positive : nat_lt (short u) (2 ^ 70) ≡ true = lt-ltb (short u) (2 ^ 70) (omega arith) in
         record {
           path =
               on (A 10 (own 47) (short (u + p)) refl (omega arith))
@@ -181,7 +178,7 @@ module _ (given : Given) where
         → Walk w f 5 (5 * w.plain) (at j rest flag count spare v 27 last) []
         (at (j + 1) rest flag count v after 32 last)
     next {j} {after = after} v o low =
-        let b = most f.size in let fits = f.fits in let is = o.next_is in let inside = o.inside in
+        let b = locations_most f.size in let fits = f.fits in let is = o.next_is in let inside = o.inside in
         let second = at2 in
         record {
           path =
@@ -201,7 +198,7 @@ module _ (given : Given) where
         (at j rest 4096 (4096 * q) (4096 * q + flag - 4096) 0 27 (Some q))
     print_digit j q flag v few low some fits =
         let positive : nat_lt (short (4096 * q + flag - 4096)) (2 ^ 70) ≡ true =
-        lt_true (short (4096 * q + flag - 4096)) (2 ^ 70) (omega arith) in
+        lt-ltb (short (4096 * q + flag - 4096)) (2 ^ 70) (omega arith) in
         record {
           path =
               on (T 18 (own 50) _ refl refl)
@@ -258,7 +255,7 @@ module _ (given : Given) where
           weighs = omega arith;
         } in
         let negative : nat_lt (short (r + (2 ^ 17 - p))) (2 ^ 70) ≡ false =
-        lt_false (short (r + (2 ^ 17 - p))) (2 ^ 70) (omega arith) in
+        le-ltb (short (r + (2 ^ 17 - p))) (2 ^ 70) (omega arith) in
         let last_try : Walk w f 3 (2 * w.plain + w.taken) (at j r (flag_of b) (4096 * q) before 0 10 last) []
         (at j r (flag_of b) (4096 * q) before (r + (2 ^ 17 - p)) 18 last)
         = record {
@@ -280,7 +277,7 @@ module _ (given : Given) where
         → Walk w f 8 (8 * w.plain) (run work (A_F + 2 * m) 0 last) (11 ∷ [])
         (at 43 v 0 work.at49 work.at50 0 8 (Some 11))
     opened work v last is low =
-        let b = most f.size in let fits = f.fits in let third = at3 in let back = room in
+        let b = locations_most f.size in let fits = f.fits in let third = at3 in let back = room in
         record {
           path =
               on (A 0 (out 3 (early 3 behind (lit< tt) all)) (short (E_F + 2 * (m + 2))) refl (omega arith))
@@ -298,7 +295,7 @@ module _ (given : Given) where
     again : {rest flag count spare : ℕ} {last : Option ℕ} (j u : ℕ) → 2 ^ 16 ≤ u
         → Walk w f 1 w.taken (at j rest flag count spare u 32 last) [] (at j rest flag count spare u 8 last)
     again j u high =
-        let negative : nat_lt (short u) (2 ^ 70) ≡ false = lt_false (short u) (2 ^ 70) (omega arith) in
+        let negative : nat_lt (short u) (2 ^ 70) ≡ false = le-ltb (short u) (2 ^ 70) (omega arith) in
         record { path = on (G_jumps 32 (own 8) refl (omega arith)) stay; weighs = rw negative (omega arith) }
 
     -- no power is left: the units are printed
@@ -319,13 +316,13 @@ module _ (given : Given) where
           weighs = omega arith;
         }
 
-    pub whole : (work : Work) (n : ℕ) (last : Option ℕ) → get_or ws h 0 ≡ n → n < 2 ^ 16
+    pub Walk-whole : (work : Work) (n : ℕ) (last : Option ℕ) → get_or ws h 0 ≡ n → n < 2 ^ 16
         → Walk w f (78 + 8 * sum (tens n) + 4 * shows false (tens n)) (print_weight w n)
         (run work (A_F + 2 * m) 0 last) (11 ∷ spelled false (tens n) (n % 10))
         (record (at 47 (n % 10) (flag_of (begun (before_tens n) (n / 10 % 10))) (4096 * (n % 10))
         (spared (before_tens n) (n / 10 % 10)) 0 0
         (Some (n % 10))) { counter = m + 2 })
-    whole work n last is low =
+    Walk-whole work n last is low =
         let q1 : ℕ = n / 10000 in
         let q2 : ℕ = n / 1000 % 10 in
         let q3 : ℕ = n / 100 % 10 in

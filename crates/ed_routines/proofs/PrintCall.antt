@@ -1,29 +1,15 @@
 -- `print`, from the library's table to what it does.
-use Rattle.std.proofs.Common.{◌≡◌, ℕ, ◌+◌, ◌*◌, ◌/◌, ◌%◌, ◌<◌, refl, ap, ◌∙◌, subst, arith, false, [], ◌∷◌, Some}
-use Rattle.std.proofs.Common.{get_or, length}
-use Rattle.ed_words.proofs.SizeLemmas.{most}
-use Rattle.ed_words.specs.declared.order_words.TheConstants.{A_F, E_F, S_F}
-use Rattle.ed_orders.specs.declared.kind.Kind.{Kind}
-use Rattle.ed_store.specs.Cells.{short_at}
-use Rattle.ed_machine.specs.State.{State}
-use Rattle.ed_machine.specs.Steps.{state_after}
-use Rattle.ed_machine.proofs.Kit.Frames.{Frame, Moment, state}
-use Rattle.ed_machine.proofs.Kit.Orders.{IsOrder}
-use Rattle.ed_machine.proofs.Kit.Paths.{Path, leads, each}
-use Rattle.ed_routines.proofs.Walks.{Walk, Weights, total, total_of_path, weight}
-use Rattle.ed_machine.proofs.Kit.Leads.{Leads}
-use Rattle.ed_machine.proofs.Kit.Standing.{Holds}
-use Rattle.ed_machine.proofs.Kit.Window.{patched, length_patched}
-use Rattle.ed_routines.specs.Catalogue.{print, with_h}
-use Rattle.ed_routines.specs.Standing.{caller}
-use Rattle.ed_routines.specs.Digits.{digits, print_orders, sum}
-use Rattle.ed_routines.specs.Returns.{Keeps, Returned}
-use Rattle.ed_routines.proofs.Called.{IsCalled, image, holds_h, kept, beside, call_of, begins}
+use Rattle.ed_routines.proofs.Kit.{A_F, E_F, S_F, short_at, Kind, Frame, Moment, state, Leads, IsOrder, leads, Path}
+use Rattle.ed_routines.proofs.Kit.{Holds, length_patched, patched, begun, flag_of, spared, [], ap, false, get_or}
+use Rattle.ed_routines.proofs.Kit.{length, refl, rules, Some, subst, ℕ, ◌%◌, ◌*◌, ◌+◌, ◌/◌, ◌<◌, ◌∙◌, ◌∷◌, ◌≡◌, locations_most}
+use Rattle.ed_routines.proofs.Kit.{State, state_after, print, with_h, digits, print_orders, sum, Keeps, Returned}
+use Rattle.ed_routines.proofs.Kit.{caller}
+use Rattle.ed_machine.proofs.Kit.Paths.{each}
+use Rattle.ed_routines.proofs.Called.{IsCalled, image, holds_h, get_or-kept, beside, call_of, state-begins}
 use Rattle.ed_routines.proofs.Digits.{tens}
-use Rattle.ed_machine.proofs.Kit.Zeros.{flag_of, begun, spared}
-use Rattle.ed_routines.proofs.Print.{Given, Work, cells, print_weight, run, whole}
-use Rattle.ed_routines.proofs.Print.{before_tens, spelled, shows, spelled_is}
-use Rattle.ed_routines.proofs.Print.{shows_is, sum_is}
+use Rattle.ed_routines.proofs.Print.{Given, Work, cells, print_weight, run, Walk-whole, before_tens, spelled, shows}
+use Rattle.ed_routines.proofs.Print.{spelled_is, shows_is, sum_is}
+use Rattle.ed_routines.proofs.Walks.{Walk, Weights, total, total_of_path, weight}
 
 module _ {b h top : ℕ} {s : State} (o : IsCalled print (with_h h) b h top s) (small : short_at s.store h < 65536) where
   abbrev n : ℕ
@@ -61,7 +47,7 @@ module _ {b h top : ℕ} {s : State} (o : IsCalled print (with_h h) b h top s) (
   moment = run given first (A_F + 2 * caller s) 0 s.last
 
   starts : state f moment s.orders ≡ s
-  starts = begins (h ∷ []) o.stands o.within o.all image_holds
+  starts = state-begins (h ∷ []) o.stands o.within o.all image_holds
 
   -- the words that change, as they are left
   abbrev left : Work
@@ -84,7 +70,7 @@ module _ {b h top : ℕ} {s : State} (o : IsCalled print (with_h h) b h top s) (
       let codes : 11 ∷ spelled false (tens n) (n % 10) ≡ 11 ∷ digits n = λ i. 11 ∷ spelled_is (tens n) (n % 10) i in
       subst (λ k. Walk w f k (print_weight w n) moment (11 ∷ digits n) end) count
       (subst (λ cs. Walk w f (78 + 8 * sum (tens n) + 4 * shows false (tens n)) (print_weight w n) moment cs end) codes
-      (whole given w first n s.last refl small))
+      (Walk-whole given w first n s.last refl small))
 
   path : Path f (print_orders n) moment (11 ∷ digits n) end
   path = (walk (record { plain = 1; middle = 1; taken = 1; passed_E = 1; passed_G = 1 })).path
@@ -99,10 +85,7 @@ module _ {b h top : ℕ} {s : State} (o : IsCalled print (with_h h) b h top s) (
   }
 
   pub all_last : length last.store.words ≡ 1024
-  all_last =
-      let size = most s.size in
-      let fits = o.stands.fits in
-      length_patched 0 s.store.words b (cells b h left) (omega (arith, o.all, fits)) ∙ o.all
+  all_last = search (rules, locations_most, length_patched)
 
   -- that many orders print the digits and lead to the order after the call
   pub leads_to : Leads (print_orders n) s (11 ∷ digits n) last
@@ -130,5 +113,5 @@ module _ {b h top : ℕ} {s : State} (o : IsCalled print (with_h h) b h top s) (
     pub keeps : Keeps print b s t
     keeps = record {
       words = λ i other. ap (λ (x : State). get_or x.store.words i 0) e
-          ∙ kept (h ∷ []) other s.store.words (cells b h left) refl refl image_holds;
+          ∙ get_or-kept (h ∷ []) other s.store.words (cells b h left) refl refl image_holds;
     }

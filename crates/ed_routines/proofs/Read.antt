@@ -1,17 +1,13 @@
 -- The routine `read`, by its listing.
-use Rattle.std.proofs.Common.{◌≡◌, ℕ, ◌+◌, ◌-◌, ◌*◌, ◌%◌, ◌^◌, ◌<◌, ◌≤◌, refl}
-use Rattle.std.proofs.Common.{arith, List, [], ◌∷◌, ◌++◌, get_or}
-use Rattle.std.proofs.Common.{set, length}
-use Rattle.std.proofs.Common.{lit<}
-use Rattle.ed_words.proofs.SizeLemmas.{most}
-use Rattle.ed_words.specs.declared.order_words.TheConstants.{A_F, E_F, I_F, L_D, S_F, T_F, U_F}
-use Rattle.ed_machine.proofs.Kit.Frames.{Moment, short}
-use Rattle.ed_machine.proofs.Kit.Places.{IsOutside, early, own, out, any}
+use Rattle.ed_routines.proofs.Kit.{A_F, E_F, L_D, S_F, T_F, U_F, Moment, short, A, E_jumps, L, S, T, U, on, Path, stay}
+use Rattle.ed_routines.proofs.Kit.{any, early, out, own, LD, [], arith, get_or, length, List, lit<, refl, set, ℕ, ◌%◌}
+use Rattle.ed_routines.proofs.Kit.{◌*◌, ◌++◌, ◌+◌, ◌-◌, ◌<◌, ◌^◌, ◌∷◌, ◌≡◌, ◌≤◌, locations_most, digits_value, value_after}
+use Rattle.ed_words.specs.declared.order_words.TheConstants.{I_F}
+use Rattle.ed_machine.proofs.Kit.Moves.{I, E_stays}
 use Rattle.ed_machine.proofs.Kit.Orders.{word_is}
-use Rattle.ed_machine.proofs.Kit.Shifts.{LD, L1F}
-use Rattle.ed_machine.proofs.Kit.Moves.{A, S, T, U, I, E_jumps, E_stays, L}
-use Rattle.ed_machine.proofs.Kit.Paths.{Path, stay, on, followed}
-use Rattle.ed_routines.specs.Digits.{digits_value, value_after}
+use Rattle.ed_machine.proofs.Kit.Paths.{followed}
+use Rattle.ed_machine.proofs.Kit.Places.{IsOutside}
+use Rattle.ed_machine.proofs.Kit.Shifts.{L1F}
 use Rattle.ed_routines.proofs.Called.{Call, moment}
 
 -- the cells that change: the order that returns, the number so far, the row, and a spare cell
@@ -96,7 +92,7 @@ module _ (call : Call 24 0) (h : ℕ) where
   opened : {ws : List ℕ} (w : Work) (tape : List ℕ) → Around call h ws
       → Path f 3 (run ws w (A_F + 2 * m) 0 tape) [] (run ws (opened_work w) 0 3 tape)
   opened w tape around =
-      let b = most f.size in
+      let b = locations_most f.size in
       let fits = f.fits in
       let room = around.room in
       let at3 = around.at3 in
@@ -139,10 +135,10 @@ module _ (call : Call 24 0) (h : ℕ) where
   abbrev pub last_work : List ℕ → ℕ → Work → Work
   last_work ds c w = record (worked 0 ds (opened_work w)) { at22 = c; at23 = c - 10 }
 
-  pub whole : {ws ds : List ℕ} {c : ℕ} (w : Work) (rest : List ℕ) → Around call h ws → Digits ds → 10 ≤ c → c < 32
+  pub Path-whole : {ws ds : List ℕ} {c : ℕ} (w : Work) (rest : List ℕ) → Around call h ws → Digits ds → 10 ≤ c → c < 32
       → Path f (11 + 13 * length ds) (run ws w (A_F + 2 * m) 0 (ds ++ c ∷ rest)) []
       (record (run (set ws h (digits_value ds % 2 ^ 17)) (last_work ds c w) 0 0 rest) { counter = m + 2 })
-  whole {ws} {ds} {c} w rest around ok end code =
+  Path-whole {ws} {ds} {c} w rest around ok end code =
       let start : Work = opened_work w in
       let e : 11 + 13 * length ds ≡ 3 + (13 * length ds + 8) = omega arith in
       rw e (followed (opened w (ds ++ c ∷ rest) around)

@@ -1,31 +1,20 @@
 -- `read`, from the library's table to what it does.
-use Rattle.std.proofs.Common.{◌≡◌, ◌≢◌, inl, inr, ℕ, ◌+◌, ◌*◌, ◌%◌, ◌^◌, ◌<◌, ◌≤◌}
-use Rattle.std.proofs.Common.{refl, sym, ap, ◌∙◌, subst, arith, true, false, Bool}
-use Rattle.std.proofs.Common.{List, [], ◌∷◌, ◌++◌, get_or, set, length, length-append, append-nil, drop, nat_lt}
-use Rattle.std.proofs.lemmas.List.{get_or-set_same, get_or-set_other, length-set}
-use Rattle.ed_words.proofs.Numbers.{lt_of, not_lt_of}
-use Rattle.ed_words.proofs.SizeLemmas.{most}
-use Rattle.ed_words.specs.declared.order_words.TheConstants.{A_F}
-use Rattle.ed_orders.specs.declared.kind.Kind.{Kind}
+use Rattle.ed_routines.proofs.Kit.{A_F, Frame, Moment, state, Leads, leads, Path, own, Holds, length_patched, patched}
+use Rattle.ed_routines.proofs.Kit.{[], ap, arith, Bool, drop, false, get_or, inl, inr, length, List, nat_lt, refl}
+use Rattle.ed_routines.proofs.Kit.{rules, set, subst, sym, true, ℕ, ◌%◌, ◌*◌, ◌++◌, ◌+◌, ◌<◌, ◌^◌, ◌∙◌, ◌∷◌, ◌≡◌, ◌≤◌}
+use Rattle.ed_routines.proofs.Kit.{locations_most, step, State, read, with_h, after_digits, digit_rows, digits_value, IsOther}
+use Rattle.ed_routines.proofs.Kit.{caller}
+use Rattle.ed_machine.proofs.Names.{append-nil, length-append, ltb-true, length-set, Obeyed}
+use Rattle.ed_notation.proofs.Kit.{◌≢◌, ltb-false, get_or-set_other}
+use Rattle.std.proofs.lemmas.List.{get_or-set_same}
 use Rattle.ed_orders.specs.declared.kind.Kind.TheVariants.{I as KindI}
-use Rattle.ed_machine.specs.State.{State}
-use Rattle.ed_machine.specs.OrderTable.{Obeyed, step}
-use Rattle.ed_machine.specs.Steps.{state_after}
 use Rattle.ed_machine.specs.declared.turn.Turn.TheVariants.{NoTape}
-use Rattle.ed_machine.proofs.Kit.Frames.{Frame, Moment, state}
-use Rattle.ed_machine.proofs.Kit.Places.{own}
-use Rattle.ed_machine.proofs.Kit.Orders.{IsOrder, named, obeyed}
-use Rattle.ed_machine.proofs.Kit.Paths.{Path, leads, each}
-use Rattle.ed_machine.proofs.Kit.Leads.{Leads}
-use Rattle.ed_machine.proofs.Kit.Standing.{Holds}
-use Rattle.ed_machine.proofs.Kit.Window.{patched, get_below, get_above, length_patched}
-use Rattle.ed_routines.specs.Catalogue.{read, with_h}
-use Rattle.ed_routines.specs.Standing.{caller}
-use Rattle.ed_routines.specs.Digits.{digits_value, digit_rows, after_digits}
-use Rattle.ed_routines.specs.Returns.{HasRead, IsOther, KeepsBut, Waits}
-use Rattle.ed_routines.proofs.Called.{Call, IsCalled, image, holds_h, kept, beside, call_of, begins}
-use Rattle.ed_routines.proofs.Read.{Work, Around, Digits, none, more, cells, run, whole}
-use Rattle.ed_routines.proofs.Read.{until_end, worked, opened_work, last_work}
+use Rattle.ed_machine.proofs.Kit.Orders.{named, obeyed}
+use Rattle.ed_machine.proofs.Kit.Window.{get_below, get_above}
+use Rattle.ed_routines.specs.Returns.{HasRead, KeepsBut, Waits}
+use Rattle.ed_routines.proofs.Called.{Call, IsCalled, image, holds_h, get_or-kept, beside, call_of, state-begins}
+use Rattle.ed_routines.proofs.Read.{Work, Around, Digits, none, more, cells, run, Path-whole, until_end, worked}
+use Rattle.ed_routines.proofs.Read.{opened_work, last_work}
 
 -- a tape is its digit rows and the rows after them
 pub split : (rows : List ℕ) → rows ≡ digit_rows rows ++ after_digits rows
@@ -42,7 +31,7 @@ are_digits [] = none
 are_digits (row ∷ rows) = by_test (nat_lt row 10) refl (are_digits rows)
   where
     by_test : (b : Bool) → nat_lt row 10 ≡ b → Digits (digit_rows rows) → Digits (digit_rows (row ∷ rows))
-    by_test true e before = rw e (more (lt_of row 10 e) before)
+    by_test true e before = rw e (more (ltb-true row 10 e) before)
     by_test false e before = rw e none
 
 get_or-length : (xs : List ℕ) (c : ℕ) (rest : List ℕ) → get_or (xs ++ c ∷ rest) (length xs) 0 ≡ c
@@ -57,15 +46,9 @@ is_ending (row ∷ rows) c rest e = by_test (nat_lt row 10) refl (is_ending rows
     by_test : (b : Bool) → nat_lt row 10 ≡ b → (after_digits rows ≡ c ∷ rest → 10 ≤ c) → 10 ≤ c
     by_test true t before = before (rw t at e)
     by_test false t before =
-        let high = not_lt_of row 10 t in
+        let high = ltb-false row 10 t in
         let same : row ≡ c = ap (λ x. get_or x 0 0) (rw t at e) in
         omega arith
-
-pub few_rows : (rows : List ℕ) → length (digit_rows rows) ≤ length rows
-few_rows rows =
-    let whole = ap length (split rows) in
-    let sum = length-append (digit_rows rows) (after_digits rows) in
-    omega arith
 
 -- if all rows are digit rows, no row follows them
 pub no_ending : (rows : List ℕ) → length (digit_rows rows) ≡ length rows → after_digits rows ≡ []
@@ -102,12 +85,7 @@ module _ {b h top : ℕ} {s : State} (o : IsCalled read (with_h h) b h top s) wh
   f = call.frame
 
   around : Around call h s.store.words
-  around = record {
-    all = o.all;
-    at3 = o.stands.at3;
-    room = o.within.back;
-    away = record { below = o.within.near; beside = beside s.store.words o.all o.outside };
-  }
+  around = search rules
 
   abbrev ds : List ℕ
   ds = digit_rows s.tape
@@ -127,13 +105,13 @@ module _ {b h top : ℕ} {s : State} (o : IsCalled read (with_h h) b h top s) wh
       → state f (run call h s.store.words first (A_F + 2 * caller s) 0 rows) s.orders ≡ s
   starts rows tape =
       ap (λ x. state f (run call h s.store.words first (A_F + 2 * caller s) 0 x) s.orders) (sym tape)
-      ∙ begins (h ∷ []) o.stands o.within o.all image_holds
+      ∙ state-begins (h ∷ []) o.stands o.within o.all image_holds
 
   -- a word outside the working locations is unchanged, whatever was written at h
   stays : (v : ℕ) (w : Work) (i : ℕ) → i ≢ h → IsOther read b i
       → get_or (patched 0 (set s.store.words h v) b (cells b h w)) i 0 ≡ get_or s.store.words i 0
   stays v w i other free =
-      kept (h ∷ []) free (set s.store.words h v) (cells b h w) refl refl still
+      get_or-kept (h ∷ []) free (set s.store.words h v) (cells b h w) refl refl still
       ∙ get_or-set_other s.store.words h i v 0 other
     where
       apart : (j : ℕ) → j < 24 → b + j ≢ h
@@ -163,7 +141,7 @@ module _ {b h top : ℕ} {s : State} (o : IsCalled read (with_h h) b h top s) wh
 
     path : Path f (11 + 13 * length ds)
         (run call h s.store.words first (A_F + 2 * caller s) 0 (ds ++ c ∷ rest)) [] end
-    path = whole call h first rest around (are_digits s.tape) (is_ending s.tape c rest e) code
+    path = Path-whole call h first rest around (are_digits s.tape) (is_ending s.tape c rest e) code
 
     abbrev pub last : State
     last = record s {
@@ -175,27 +153,17 @@ module _ {b h top : ℕ} {s : State} (o : IsCalled read (with_h h) b h top s) wh
     }
 
     pub all_last : length last.store.words ≡ 1024
-    all_last =
-        let size = most s.size in
-        let fits = o.stands.fits in
-        let long : length written ≡ 1024 = length-set s.store.words h (digits_value ds % 2 ^ 17) ∙ o.all in
-        length_patched 0 written b (cells b h left) (omega (arith, long, fits)) ∙ long
+    all_last = search (rules, locations_most, length-set, length_patched)
 
     -- that many orders read the rows and lead to the order after the call
     pub leads_to : Leads (11 + 13 * length ds) s [] last
     leads_to = subst (λ x. Leads (11 + 13 * length ds) x [] last) (starts (ds ++ c ∷ rest) rows_are)
         (leads path s.orders)
 
-    -- what holds of every order that stays below the location holds before each of them
-    pub keeps_below : (P : State → Type 0) → ((kind : Kind) (x : State) → IsOrder top kind x → P x) → (j : ℕ)
-        → j < 11 + 13 * length ds → P (state_after j s)
-    keeps_below P is j l = subst (λ x. P (state_after j x)) (starts (ds ++ c ∷ rest) rows_are)
-        (each P is path s.orders j l)
-
     module _ (t : State) (is : t ≡ last) where
       pub has_read : HasRead h s t
       has_read =
-          let size = most s.size in
+          let size = locations_most s.size in
           let below = o.outside.below in
           let all = o.all in
           record {
@@ -237,11 +205,6 @@ module _ {b h top : ℕ} {s : State} (o : IsCalled read (with_h h) b h top s) wh
     leads_to_end = subst (λ x. Leads (3 + 13 * length ds) x [] waiting) (starts (ds ++ []) rows_are_all)
         (leads path_to_end s.orders)
 
-    pub keeps_below_to_end : (P : State → Type 0) → ((kind : Kind) (x : State) → IsOrder top kind x → P x) → (j : ℕ)
-        → j < 3 + 13 * length ds → P (state_after j s)
-    keeps_below_to_end P is j l =
-        subst (λ x. P (state_after j x)) (starts (ds ++ []) rows_are_all) (each P is path_to_end s.orders j l)
-
     blocked : (step waiting).turn ≡ NoTape
     blocked =
         let r : Moment = run call h s.store.words so_far 0 3 [] in
@@ -259,5 +222,5 @@ module _ {b h top : ℕ} {s : State} (o : IsCalled read (with_h h) b h top s) wh
       pub keeps_waiting : KeepsBut h read b s t
       keeps_waiting = record {
         words = λ i other free. ap (λ (x : State). get_or x.store.words i 0) is
-            ∙ kept (h ∷ []) free s.store.words (cells b h so_far) refl refl image_holds;
+            ∙ get_or-kept (h ∷ []) free s.store.words (cells b h so_far) refl refl image_holds;
       }

@@ -1,15 +1,11 @@
 -- A run whose limit is the number of orders that a path has.
-use Rattle.std.proofs.Common.{◌≡◌, ℕ, ◌+◌, ◌-◌, ◌≤◌, ap}
-use Rattle.std.proofs.Common.{◌∙◌, arith, List, ◌++◌, length}
-use Rattle.ed_machine.specs.State.{State}
-use Rattle.ed_machine.specs.Steps.{progress, state_after}
-use Rattle.ed_machine.specs.Sheet.{Sheet}
+use Rattle.ed_routines.proofs.Kit.{free, Leads, ap, arith, length, List, ℕ, ◌++◌, ◌+◌, ◌-◌, ◌∙◌, ◌≡◌, ◌≤◌, State}
+use Rattle.ed_routines.proofs.Kit.{state_after, IsRun}
+use Rattle.ed_run.proofs.Kit.{Sheet, progress, first_once}
 use Rattle.ed_machine.specs.declared.ending.Ending.{Ending}
-use Rattle.ed_run.specs.Run.{IsRun}
+use Rattle.ed_machine.proofs.Kit.Leads.{no_stops}
 use Rattle.ed_run.specs.Laws.{HasRoom}
-use Rattle.ed_run.proofs.Ends.{ends_once}
 use Rattle.ed_run.proofs.Places.{at_limit}
-use Rattle.ed_machine.proofs.Kit.Leads.{Leads, free, no_stops}
 
 -- what such a run leaves
 pub record Ran (s t : State) (sheet full : Sheet) (codes : List ℕ) : Type 0 where
@@ -24,7 +20,7 @@ ran {k} {s} {sheet = sheet} {codes = codes} o room r =
     let few : length (progress k s).codes ≤ sheet.room - length sheet.codes = let e = ap length o.codes_are
     in omega (arith, e) in
     let has : HasRoom (sheet.room - length sheet.codes) k s = record { obeyed = free o; printed = few } in
-    let one = ends_once r.ends (at_limit k 0 has (omega (arith, stops))) in
+    let one = first_once r.ends (at_limit k 0 has (omega (arith, stops))) in
     record {
       state_is = r.state_is ∙ ap (λ j. state_after j s) one.0;
       sheet_is = r.sheet_is ∙ ap (λ j. record { codes = sheet.codes ++ (progress j s).codes; room = sheet.room }) one.0

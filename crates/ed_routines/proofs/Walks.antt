@@ -1,18 +1,12 @@
 -- Paths whose orders are weighed: a weight for each kind of order, and for a jump by whether it is taken.
-use Rattle.std.proofs.Common.{◌≡◌, ℕ, zero, suc, ◌+◌, ◌*◌, ◌^◌, ◌<◌, ◌≤◌, refl, ap, ◌∙◌}
-use Rattle.std.proofs.Common.{arith, nat_lt, List, [], ◌∷◌, ◌++◌}
-use Rattle.std.specs.Prelude.{if◌then◌else◌}
-use Rattle.ed_orders.specs.declared.kind.Kind.{Kind}
+use Rattle.ed_routines.proofs.Kit.{Kind, Frame, Moment, state, Does, IsOrder, on, Path, prints, stay, [], ap, arith}
+use Rattle.ed_routines.proofs.Kit.{List, nat_lt, refl, suc, zero, ℕ, ◌*◌, ◌++◌, ◌+◌, ◌<◌, ◌^◌, ◌∙◌, ◌∷◌, ◌≡◌, ◌≤◌}
+use Rattle.ed_routines.proofs.Kit.{step, State, state_after, if◌then◌else◌}
 use Rattle.ed_orders.specs.declared.kind.Kind.TheVariants.{E, F, G, H, L, N, X}
-use Rattle.ed_machine.specs.State.{State}
-use Rattle.ed_machine.specs.OrderTable.{step}
-use Rattle.ed_machine.specs.Steps.{state_after}
 use Rattle.ed_machine.specs.declared.turn.Turn.{Turn}
 use Rattle.ed_machine.specs.declared.turn.Turn.TheVariants.{Went, Printed}
+use Rattle.ed_machine.proofs.Kit.Paths.{first_state, no_state}
 use Rattle.ed_machine.proofs.Steps.{after_sum}
-use Rattle.ed_machine.proofs.Kit.Frames.{Frame, Moment, state}
-use Rattle.ed_machine.proofs.Kit.Orders.{Does, IsOrder}
-use Rattle.ed_machine.proofs.Kit.Paths.{Path, first_state, no_state, on, prints, stay}
 
 -- what is counted for an order: for one of the functions 0 to 15 and 28 to 31, for one of those between, for a jump
 -- that is taken, and for an E and a G that are not

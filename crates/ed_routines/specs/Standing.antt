@@ -22,7 +22,7 @@ pub record HasWord (r : ℕ) (parameters : List ℕ) (base : ℕ) (s : State) (i
   pub has : is_working r i ≡ false → short_at s.store (base + i) ≡ image_word r i base parameters
 
 -- a routine is at a base, called: its words, the constants at 2 and 3, the counter, and the call in the accumulator
-pub record Stands (r : ℕ) (parameters : List ℕ) (base : ℕ) (s : State) : Type 0 where
+pub record IsLoadedAt (r : ℕ) (parameters : List ℕ) (base : ℕ) (s : State) : Type 0 where
   pub low : 56 ≤ base
   pub fits : base + place_count r ≤ locations s.size
   pub counter : s.counter ≡ base

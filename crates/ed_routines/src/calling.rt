@@ -1,6 +1,5 @@
 ghost use Rattle.std.specs.Prelude.{◌≡◌, ◌+◌, ◌^◌, ◌<◌, ◌≤◌};
 ghost use Rattle.ed_words.specs.Sizes.{locations};
-ghost use Rattle.ed_machine.specs.Steps.{state_after};
 ghost use Rattle.ed_routines.specs.Standing.{IsCall, caller};
 
 use ed_machine::Machine;
@@ -15,20 +14,10 @@ pub fn caller(machine: &Machine) -> u32
 }
 
 /// The location to which a routine returns.
-pub fn way_back(machine: &Machine) -> u16
+pub fn return_address(machine: &Machine) -> u16
     requires { IsCall machine.now }
     ensures { result ≡ caller machine.now + 2 }
 {
     let _ = machine.size().value();
     caller(machine) as u16 + 2
-}
-
-/// Obeys `count` orders.
-pub fn obey_count(machine: &mut Machine, count: u64)
-    requires { machine.old.orders + count ≤ 2 ^ 63 }
-    ensures { machine.new ≡ state_after count machine.old }
-{
-    for _ in 0..count {
-        machine.step();
-    }
 }

@@ -11,7 +11,7 @@ mod reading;
 mod standing;
 
 pub use back::Back;
-pub use calling::{obey_count, way_back};
+pub use calling::return_address;
 pub use printing::{new_line, print_integer};
 pub use reading::{ReadBack, read_integer};
 pub use standing::{has_image, stands};

@@ -3,16 +3,16 @@ ghost use Rattle.ed_store.specs.Cells.{short_at};
 ghost use Rattle.ed_routines.specs.Catalogue.{newline, print, with_h};
 ghost use Rattle.ed_routines.specs.Digits.{DigitsLaw, digits, print_orders};
 ghost use Rattle.ed_routines.specs.Returns.{IsAfter, Keeps, Returned};
-ghost use Rattle.ed_routines.specs.Standing.{IsOutside, Stands, caller};
+ghost use Rattle.ed_routines.specs.Standing.{IsOutside, IsLoadedAt, caller};
 
 use crate::Back;
-use crate::calling::way_back;
+use crate::calling::return_address;
 use ed_machine::{Machine, Paper};
 use ed_run::run;
 
 /// Runs `newline` at `base`: it prints a carriage return and a line feed.
 pub fn new_line(machine: &mut Machine, base: u16, paper: &mut Paper) -> Back
-    requires stands { (parameters : List ℕ) × Stands newline parameters base machine.old }
+    requires stands { (parameters : List ℕ) × IsLoadedAt newline parameters base machine.old }
     requires room { length paper.old.codes + 2 ≤ paper.old.room }
     requires orders { machine.old.orders + 5 ≤ 2 ^ 63 }
     ensures at { result.at ≡ caller machine.old + 2 }
@@ -22,7 +22,7 @@ pub fn new_line(machine: &mut Machine, base: u16, paper: &mut Paper) -> Back
     ensures words { Keeps newline base machine.old machine.new }
     ensures printed { paper.new ≡ record paper.old { codes = paper.old.codes ++ 18 ∷ 24 ∷ [] } }
 {
-    let at = way_back(machine);
+    let at = return_address(machine);
     // Called only for its clause `store`: the proof needs that the store has all its words within their bounds.
     let _ = machine.word(0);
     run(machine, 5, 0, paper);
@@ -32,7 +32,7 @@ pub fn new_line(machine: &mut Machine, base: u16, paper: &mut Paper) -> Back
 /// Runs `print` at `base` with H = 2h: it prints a figure shift and the decimal digits of the word at `h`, which is
 /// below 65536.
 pub fn print_integer(machine: &mut Machine, base: u16, h: u16, paper: &mut Paper) -> Back
-    requires stands { Stands print (with_h h) base machine.old }
+    requires stands { IsLoadedAt print (with_h h) base machine.old }
     requires outside { IsOutside print base h machine.old }
     requires small { short_at machine.old.store h < 65536 }
     requires room { length paper.old.codes + 6 ≤ paper.old.room }
@@ -48,7 +48,7 @@ pub fn print_integer(machine: &mut Machine, base: u16, h: u16, paper: &mut Paper
         ≡ record paper.old { codes = paper.old.codes ++ 11 ∷ digits (short_at machine.old.store h) } }
     ensures law { DigitsLaw }
 {
-    let at = way_back(machine);
+    let at = return_address(machine);
     let orders = orders_to_print(machine.word(h).value());
     run(machine, orders, 0, paper);
     Back { at, orders }

@@ -2,9 +2,9 @@ ghost use Rattle.std.specs.Prelude.{◌≡◌, ◌+◌, ◌*◌, ◌^◌, ◌<�
 ghost use Rattle.ed_routines.specs.Catalogue.{read, with_h};
 ghost use Rattle.ed_routines.specs.Digits.{after_digits, digit_rows};
 ghost use Rattle.ed_routines.specs.Returns.{IsAfter, KeepsBut, ReadLeaves, orders_taken, read_back};
-ghost use Rattle.ed_routines.specs.Standing.{IsOutside, Stands};
+ghost use Rattle.ed_routines.specs.Standing.{IsOutside, IsLoadedAt};
 
-use crate::calling::{obey_count, way_back};
+use crate::calling::return_address;
 use ed_codes::Code;
 use ed_machine::Machine;
 
@@ -28,7 +28,7 @@ pub enum ReadBack {
 /// Runs `read` at `base` with H = 2h: it reads rows up to the first one with a code of 10 or more, and puts the number
 /// of the digits, modulo 2^17, at `h`.
 pub fn read_integer(machine: &mut Machine, base: u16, h: u16) -> ReadBack
-    requires stands { Stands read (with_h h) base machine.old }
+    requires stands { IsLoadedAt read (with_h h) base machine.old }
     requires outside { IsOutside read base h machine.old }
     requires orders { machine.old.orders + (3 + 13 * length machine.old.tape) ≤ 2 ^ 63 }
     ensures back { result ≡ read_back machine.old }
@@ -36,18 +36,18 @@ pub fn read_integer(machine: &mut Machine, base: u16, h: u16) -> ReadBack
     ensures words { KeepsBut h read base machine.old machine.new }
     ensures leaves { ReadLeaves (after_digits machine.old.tape) base h machine.old machine.new }
 {
-    let at = way_back(machine);
+    let at = return_address(machine);
     // Called only for its clause `store`: the proof needs that the store has all its words within their bounds.
     let _ = machine.word(0);
     let rows = machine.rows_left();
     let digits = count_digits(rows);
     if digits == rows.len() {
         let orders = 3 + 13 * digits as u64;
-        obey_count(machine, orders);
+        machine.obey_next(orders);
         ReadBack::NoTape { orders }
     } else {
         let orders = 11 + 13 * digits as u64;
-        obey_count(machine, orders);
+        machine.obey_next(orders);
         ReadBack::Back { at, orders }
     }
 }

@@ -1,7 +1,7 @@
 ghost use Rattle.std.specs.Prelude.{◌↔◌, ℕ, ◌+◌, ◌≤◌, ◌<◌, IsTrue};
 ghost use Rattle.ed_words.specs.Sizes.{locations};
 ghost use Rattle.ed_library.specs.Routines.{place_count};
-ghost use Rattle.ed_routines.specs.Standing.{HasWord, IsCall, Stands};
+ghost use Rattle.ed_routines.specs.Standing.{HasWord, IsCall, IsLoadedAt};
 
 use crate::calling::caller;
 use ed_library::{Parameters, Routine, image_word};
@@ -14,7 +14,7 @@ use ed_machine::Machine;
 pub fn stands(machine: &Machine, routine: &Routine, base: u16, parameters: &Parameters) -> bool
     requires low { 56 ≤ base }
     requires fits { base + place_count routine.now ≤ locations machine.now.size }
-    ensures { IsTrue result ↔ Stands routine.now parameters.now base machine.now }
+    ensures { IsTrue result ↔ IsLoadedAt routine.now parameters.now base machine.now }
 {
     machine.counter() == base
         && machine.word(2).value() == 2

@@ -3,3 +3,4 @@ pub mod Places
 pub mod Later
 pub mod Pasts
 pub mod Quiet
+pub mod Kit

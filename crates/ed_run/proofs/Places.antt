@@ -1,18 +1,14 @@
 -- When a run ends, if each of its orders is obeyed and has room.
-use Rattle.std.proofs.Common.{◌≡◌, ℕ, suc, ◌+◌, ◌-◌, ◌<◌, ◌≤◌, refl, sym, ap}
-use Rattle.std.proofs.Common.{◌∙◌, arith, Bool, true, false, true≢false, nat_le}
-use Rattle.std.proofs.Common.{length, length-append, Some, None}
-use Rattle.ed_words.proofs.Numbers.{lt_true, lt_false, eq_true, eq_false, le_of}
-use Rattle.ed_machine.specs.State.{State}
-use Rattle.ed_machine.specs.OrderTable.{step}
-use Rattle.ed_machine.specs.Steps.{Progress, progress, state_after, codes_of, stops_of, is_obeyed}
-use Rattle.ed_machine.specs.declared.turn.Turn.{Turn}
-use Rattle.ed_machine.specs.declared.turn.Turn.TheVariants.{Went, Printed, Stopped as Stops, NoOrder, NoTape}
-use Rattle.ed_machine.specs.declared.ending.Ending.{Ending}
-use Rattle.ed_machine.specs.declared.ending.Ending.TheVariants.{Stopped, Limit}
+use Rattle.ed_run.proofs.Kit.{nat_le, Ending, Limit, Stopped, Turn, NoOrder, NoTape, Printed, Went, ap, arith, Bool}
+use Rattle.ed_run.proofs.Kit.{false, length, length-append, None, refl, Some, suc, sym, true, ℕ, ◌+◌, ◌-◌, ◌<◌, ◌∙◌}
+use Rattle.ed_run.proofs.Kit.{◌≡◌, ◌≤◌, step, State, codes_of, is_obeyed, progress, Progress, state_after, stops_of}
+use Rattle.ed_run.proofs.Kit.{end_at, end_by, EndsAfter}
+use Rattle.std.proofs.Common.{true≢false}
+use Rattle.std.proofs.lemmas.Bool.{leb-true}
+use Rattle.ed_machine.specs.declared.turn.Turn.TheVariants.{Stopped as Stops}
 use Rattle.ed_machine.proofs.Steps.{past_sum}
-use Rattle.ed_run.specs.Run.{end_by, end_at, EndsAfter}
 use Rattle.ed_run.specs.Laws.{HasRoom}
+use Rattle.ed_run.proofs.Ends.{limit_ends, next_ends, stop_ends}
 
 -- what one order adds
 next_codes : (j : ℕ) (s : State)
@@ -54,10 +50,10 @@ not_before limit resumes {room} {k} {s} r below j l few =
     let whole : suc j + (k - suc j) ≡ k = omega arith in
     let more = (grows (suc j) (k - suc j) s).1 in
     let most : length (progress (suc j) s).codes ≤ length (progress k s).codes = rw whole at more in
-    rw (lt_false resumes (progress j s).stops few, eq_false j limit (omega arith))
-    (goes_by (step (state_after j s)).turn (nat_le room (length (progress j s).codes)) (r.obeyed j l)
-    (λ full. let m = le_of room (length (progress j s).codes) full in
-    omega (arith, m, most, r.printed, next_codes j s)))
+    next_ends limit resumes room j (progress j s) few (omega arith)
+    ∙ goes_by (step (state_after j s)).turn (nat_le room (length (progress j s).codes)) (r.obeyed j l)
+    (λ full. let m = leb-true room (length (progress j s).codes) full in
+    omega (arith, m, most, r.printed, next_codes j s))
 
 -- a bound on the number of stops at the end is one at each order before
 was_few : (k j n : ℕ) (s : State) → j ≤ k → (progress k s).stops ≤ n → (progress j s).stops ≤ n
@@ -70,7 +66,7 @@ was_few k j n s l h =
 pub at_limit : (limit resumes : ℕ) {room : ℕ} {s : State} → HasRoom room limit s → (progress limit s).stops ≤ resumes
     → EndsAfter limit resumes room s limit Limit
 at_limit limit resumes {s = s} r few = record {
-  now = rw (lt_false resumes (progress limit s).stops few, eq_true limit limit refl) refl;
+  now = limit_ends limit resumes _ limit (progress limit s) few refl;
   first = λ j l. not_before limit resumes r (omega arith) j l (was_few limit j resumes s (omega arith) few);
 }
 
@@ -79,7 +75,7 @@ pub at_block : (limit resumes : ℕ) {room k : ℕ} {s : State} {e : Ending} →
     → end_by (step (state_after k s)).turn (nat_le room (length (progress k s).codes)) ≡ Some e
     → EndsAfter limit resumes room s k e
 at_block limit resumes {k = k} {s = s} r few l h = record {
-  now = rw (lt_false resumes (progress k s).stops few, eq_false k limit (omega arith)) h;
+  now = next_ends limit resumes _ k (progress k s) few l ∙ h;
   first = λ j m. not_before limit resumes r (omega arith) j m (was_few k j resumes s (omega arith) few);
 }
 
@@ -90,6 +86,6 @@ at_stop limit resumes {j = j} {s = s} r few l stop =
     let more : (progress (suc j) s).stops ≡ (progress j s).stops + 1 = next_stops j s
     ∙ ap (λ (t : Turn). (progress j s).stops + stops_of t) stop in
     record {
-      now = rw (lt_true resumes (progress (suc j) s).stops (omega (arith, few, more))) refl;
+      now = stop_ends limit resumes _ (suc j) (progress (suc j) s) (omega (arith, few, more));
       first = λ i m. not_before limit resumes r l i m (was_few j i resumes s (omega arith) (omega (arith, few)));
     }

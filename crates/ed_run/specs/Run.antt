@@ -1,10 +1,10 @@
 -- A run of the machine: when it ends, how, and what it printed (which end comes first, the limit, the resumes and the
 -- paper are this project's own rules).
-use Rattle.std.specs.Prelude.{◌≡◌, ℕ, ◌-◌, ◌<◌, Bool, true, false, nat_eq, nat_lt, nat_le}
+use Rattle.std.specs.Prelude.{◌≡◌, ℕ, ◌-◌, Bool, true, false, nat_eq, nat_lt, nat_le}
 use Rattle.std.specs.Prelude.{if◌then◌else◌, Option, Some, None, is_some, unwrap_or, List, ◌++◌, length}
 use Rattle.ed_machine.specs.State.{State}
 use Rattle.ed_machine.specs.OrderTable.{step}
-use Rattle.ed_machine.specs.Steps.{Progress, least, progress}
+use Rattle.ed_machine.specs.Steps.{IsFirstAnswer, Progress, least, progress}
 use Rattle.ed_machine.specs.Sheet.{Sheet}
 use Rattle.ed_machine.specs.declared.turn.Turn.{Turn}
 use Rattle.ed_machine.specs.declared.turn.Turn.TheVariants.{Printed, NoOrder as IsNoOrder, NoTape as HasNoTape}
@@ -31,9 +31,8 @@ end_at limit resumes room k p =
     else end_by (step p.state).turn (nat_le room (length p.codes))
 
 -- a run from a state ends with this ending after k orders, and not before
-pub record EndsAfter (limit resumes room : ℕ) (s : State) (k : ℕ) (ending : Ending) : Type 0 where
-  pub now : end_at limit resumes room k (progress k s) ≡ Some ending
-  pub first : (j : ℕ) → j < k → end_at limit resumes room j (progress j s) ≡ None
+abbrev pub EndsAfter : ℕ → ℕ → ℕ → State → ℕ → Ending → Type 0
+EndsAfter limit resumes room s k ending = IsFirstAnswer (λ j. end_at limit resumes room j (progress j s)) k ending
 
 -- a run from a state onto a sheet of paper: its ending, the state that it leaves, and the sheet with its codes added
 pub record IsRun (limit resumes : ℕ) (s : State) (sheet : Sheet) (ending : Ending) (last : State) (full : Sheet) :
@@ -64,7 +63,7 @@ run_end limit resumes room s =
     }
 
 -- the ending, the state and the sheet with its codes added are those of a run
-pub record IsLeft (r : RunEnd) (sheet : Sheet) (ending : Ending) (last : State) (full : Sheet) : Type 0 where
+pub record RunLeaves (r : RunEnd) (sheet : Sheet) (ending : Ending) (last : State) (full : Sheet) : Type 0 where
   pub ending_is : ending ≡ r.ending
   pub state_is : last ≡ r.state
   pub sheet_is : full ≡ record { codes = sheet.codes ++ r.codes; room = sheet.room }

@@ -2,7 +2,7 @@ ghost use Rattle.std.specs.Prelude.{◌≡◌, ℕ, ◌+◌, ◌-◌, ◌^◌, �
 ghost use Rattle.ed_machine.specs.OrderTable.{obey, step};
 ghost use Rattle.ed_machine.specs.State.{State};
 ghost use Rattle.ed_run.specs.Laws.{RunLaw};
-ghost use Rattle.ed_run.specs.Run.{IsLeft, IsRun, prints, run_end};
+ghost use Rattle.ed_run.specs.Run.{RunLeaves, IsRun, prints, run_end};
 
 use ed_machine::{Ending, Machine, Paper, Turn};
 use ed_orders::{Kind, kind_of};
@@ -16,7 +16,7 @@ use ed_orders::{Kind, kind_of};
 pub fn run(machine: &mut Machine, limit: u64, resumes: u32, paper: &mut Paper) -> Ending
     requires { machine.old.orders + limit ≤ 2 ^ 63 }
     ensures ends { IsRun limit resumes machine.old paper.old result machine.new paper.new }
-    ensures run_end { IsLeft (run_end limit resumes (paper.old.room - length paper.old.codes) machine.old) paper.old result
+    ensures run_end { RunLeaves (run_end limit resumes (paper.old.room - length paper.old.codes) machine.old) paper.old result
         machine.new paper.new }
     ensures law { RunLaw }
 {

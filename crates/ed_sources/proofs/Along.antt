@@ -1,7 +1,7 @@
 -- A source's program on its way from call to call: which words are still those of its entry.
-use Rattle.ed_sources.proofs.Kit.{◌≡◌, ℕ, ◌+◌, ◌*◌, ◌<◌, ◌≤◌, true, List, length, unwrap_or, refl, ◌∙◌, inl, inr, arith}
-use Rattle.ed_sources.proofs.Kit.{A_F, G_F, Size, least, short_at, State, placed_at, Line, place_count, HasWord}
-use Rattle.ed_sources.proofs.Kit.{entry_state}
+use Rattle.ed_sources.proofs.Kit.{A_F, G_F, Size, Line, unwrap_or, least, placed_at, arith, inl, inr, length, List}
+use Rattle.ed_sources.proofs.Kit.{refl, rules, true, ℕ, ◌*◌, ◌+◌, ◌<◌, ◌∙◌, ◌≡◌, ◌≤◌, short_at, State, place_count}
+use Rattle.ed_sources.proofs.Kit.{HasWord, entry_state}
 use Rattle.ed_sources.proofs.AtEntry.{all_words, has_image, have_places, image_at, placed, word_at}
 use Rattle.ed_sources.proofs.CalledRoutines.{IsBeside, Passes}
 use Rattle.ed_sources.proofs.Calling.{HasRoutine, IsBefore}
@@ -16,9 +16,9 @@ pub record IsAt (z : Size) (lines : List Line) (t : State) (from to m : ℕ) : T
   pub kept : (i : ℕ) → IsBeside from to i → short_at t.store i ≡ short_at (entry_state z lines).store i
 
 -- as it is at the entry
-pub entered : {z : Size} {lines : List Line} {from to m : ℕ} → (entry_state z lines).counter ≡ m
+pub IsAt-entered : {z : Size} {lines : List Line} {from to m : ℕ} → (entry_state z lines).counter ≡ m
     → IsAt z lines (entry_state z lines) from to m
-entered {z} {lines} counter = record {
+IsAt-entered {z} {lines} counter = record {
   counter = counter;
   acc = refl;
   all = all_words z lines;
@@ -38,17 +38,7 @@ module _ {z : Size} {lines : List Line} {t : State} {from to m : ℕ} (o : IsAt 
       → unwrap_or (placed_at (placed lines) m) 0 ≡ A_F + 2 * m
       → unwrap_or (placed_at (placed lines) (m + 1)) 0 ≡ G_F + 2 * base
       → IsBefore t m base
-  before {base} inside low near there first second =
-      let size = least z in
-      record {
-        counter = o.counter;
-        acc = o.acc;
-        first = word_there m (A_F + 2 * m) (inl (omega arith)) low (omega arith) first;
-        second = word_there (m + 1) (G_F + 2 * base) (inl (omega arith)) (omega arith) (omega arith) second;
-        all = o.all;
-        room = rw o.size (omega arith);
-        there = rw o.size (omega arith);
-      }
+  before {base} inside low near there first second = search (rules, least, word_there)
 
   -- a routine is after what was changed
   pub has : {r base : ℕ} {parameters : List ℕ} → has_image (placed lines) r base parameters ≡ true → 56 ≤ base
@@ -68,9 +58,9 @@ module _ {z : Size} {lines : List Line} {t : State} {from to m : ℕ} (o : IsAt 
       }
 
   -- it is after a call that changes no other words
-  pub passed : {k first end : ℕ} {codes : List ℕ} (p : Passes k t codes m first end) → from ≤ first → to ≤ end
+  pub IsAt-passed : {k first end : ℕ} {codes : List ℕ} (p : Passes k t codes m first end) → from ≤ first → to ≤ end
       → IsAt z lines p.last from end (m + 2)
-  passed {first = first} {end = end} p low high = record {
+  IsAt-passed {first = first} {end = end} p low high = record {
     counter = p.counter;
     acc = p.acc;
     all = p.all;

@@ -1,14 +1,11 @@
 -- The words in the store at the entry of a source's program.
-use Rattle.ed_sources.proofs.Kit.{◌≡◌, ℕ, ◌+◌, ◌<◌, ◌≤◌, Bool, true, [], List, ◌∷◌, length, drop, nat_eq, nat_lt, ◌∙◌}
-use Rattle.ed_sources.proofs.Kit.{unwrap_or, arith, length-append, list_all, and_parts, length-replicate, Size, eq_of}
-use Rattle.ed_sources.proofs.Kit.{lt_of, short_at, placed_at, Line, image_word, place_count, linked_words, HasWord}
-use Rattle.ed_sources.proofs.Kit.{entry_state}
-use Rattle.std.specs.Prelude.{replicate, reverse}
+use Rattle.ed_sources.proofs.Kit.{Size, Line, length-append, nat_eq, list_all, and_parts, ltb-true, image_word}
+use Rattle.ed_sources.proofs.Kit.{reverse, unwrap_or, eqb-true, length-replicate, placed_at, linked_words, [], arith}
+use Rattle.ed_sources.proofs.Kit.{Bool, length, List, nat_lt, rules, true, ℕ, ◌+◌, ◌<◌, ◌∙◌, ◌∷◌, ◌≡◌, ◌≤◌, short_at}
+use Rattle.ed_sources.proofs.Kit.{place_count, HasWord, entry_state}
 use Rattle.std.proofs.lemmas.List.{length-drop}
 use Rattle.ed_notation.specs.Checks.{ArePlaces}
-use Rattle.ed_notation.specs.Fold.{over}
 use Rattle.ed_notation.proofs.Contents.{length-over}
-use Rattle.ed_answers.specs.EntryState.{loader_words}
 use Rattle.ed_answers.proofs.EntryWords.{entry_word}
 use Rattle.ed_sources.proofs.Decimals.{among, numbers}
 
@@ -23,7 +20,7 @@ have_places ps = list_all (λ p. nat_lt p.0 1024) ps
 are_places : (ps : List (ℕ × ℕ)) → have_places ps ≡ true → ArePlaces ps
 are_places [] h = tt
 are_places (p ∷ ps) h = let q = and_parts (nat_lt p.0 1024) (have_places ps) h in
-    (lt_of p.0 1024 q.0, are_places ps q.1)
+    (ltb-true p.0 1024 q.0, are_places ps q.1)
 
 -- whether the words of a routine are at a base
 abbrev pub has_image : List (ℕ × ℕ) → ℕ → ℕ → List ℕ → Bool
@@ -32,16 +29,8 @@ has_image ps r base parameters =
     (numbers 0 (place_count r))
 
 module _ (z : Size) (lines : List Line) where
-  abbrev zeros : List ℕ
-  zeros = replicate 1024 0
-
   pub all_words : length (entry_state z lines).store.words ≡ 1024
-  all_words =
-      let e = length-append (loader_words lines) (drop 44 (over (placed lines) zeros)) in
-      let d = length-drop 44 (over (placed lines) zeros) in
-      let o = length-over (placed lines) zeros in
-      let r = length-replicate {A = ℕ} 1024 0 in
-      omega (arith, e, d, o, r)
+  all_words = search (rules, length-append, length-drop, length-over, length-replicate)
 
   module _ (fit : have_places (placed lines) ≡ true) where
     -- a word above those of the Initial Orders
@@ -53,7 +42,7 @@ module _ (z : Size) (lines : List Line) where
         → base + place_count r ≤ 512 → i < place_count r → HasWord r parameters base (entry_state z lines) i
     image_at {r} {base} {i} {parameters} test low high l = record {
       has = λ free. word_at (base + i) (omega arith) (omega arith)
-          ∙ eq_of (unwrap_or (placed_at (placed lines) (base + i)) 0) (image_word r i base parameters)
+          ∙ eqb-true (unwrap_or (placed_at (placed lines) (base + i)) 0) (image_word r i base parameters)
           (among (λ i. nat_eq (unwrap_or (placed_at (placed lines) (base + i)) 0) (image_word r i base parameters)) 0
           (place_count r) i test
           (omega arith) (omega arith));

@@ -1,7 +1,6 @@
 -- What reading the tape of a call costs: that of the words of its numbers, and that of all other items.
-use Rattle.ed_sources.proofs.Kit.{◌≡◌, ℕ, ◌+◌, List, ◌∷◌, ◌++◌, take, drop, sum_by, refl, ap, ◌∙◌, arith, sum_by-cons}
-use Rattle.ed_sources.proofs.Kit.{Item, Line, cost, item_cost, word_cost}
-use Rattle.ed_link.specs.Punch.{punched_items, word_item}
+use Rattle.ed_sources.proofs.Kit.{sum_by, sum_by-cons, Item, Line, take, punched_items, word_item, item_cost, ap}
+use Rattle.ed_sources.proofs.Kit.{arith, drop, List, refl, rules, ℕ, ◌++◌, ◌+◌, ◌∙◌, ◌∷◌, ◌≡◌, cost, word_cost}
 use Rattle.ed_sources.proofs.Said.{check_lines, newline_lines, print_lines, read_lines}
 use Rattle.ed_sources.proofs.SaidMaths.{divide_lines, root_lines}
 use Rattle.ed_sources.proofs.WordCosts.{cost_around}
@@ -53,10 +52,4 @@ module _ (high low by : ℕ) where
   others = refl
 
   pub divide_cost : cost (divide_lines high low by) ≡ 6564 + word_cost high + word_cost low + word_cost by
-  divide_cost =
-      let all = ap (λ (is : List Item). sum_by item_cost is) parts
-      ∙ cost_around front (word_item high) (word_item low ∷ word_item by ∷ rest) in
-      let second = sum_by-cons item_cost (word_item low) (word_item by ∷ rest) in
-      let third = sum_by-cons item_cost (word_item by) rest in
-      let k = others in
-      omega (arith, all, second, third, k)
+  divide_cost = search (rules, parts, cost_around, sum_by-cons, others)

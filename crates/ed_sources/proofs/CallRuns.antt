@@ -1,29 +1,26 @@
 -- A call is the run of its source, from the state at its entry.
-use Rattle.ed_sources.proofs.Kit.{◌≡◌, ℕ, ◌+◌, ◌/◌, ◌%◌, ◌<◌, ◌≤◌, [], List, ◌∷◌, ◌++◌, length, None, Ok, refl, ◌∙◌}
-use Rattle.ed_sources.proofs.Kit.{arith, lit<, lit≤, length-append, least, paper, program_of, Line, Call, Check, Divide}
-use Rattle.ed_sources.proofs.Kit.{NewLine, Print, Read, Root, fault, entry_of, cost, digits, few_digits, root_of}
-use Rattle.ed_sources.proofs.Kit.{at_after, entry_note, entry_state, AnswersFromEntry, run_outcome, call_text, StopsAt}
-use Rattle.std.specs.Prelude.{codes as codes_of_text}
-use Rattle.ed_answers.proofs.EachSource.{read_is_accepted}
-use Rattle.ed_sources.proofs.CallsAccepted.{divide_read, newline_read, print_read, read_read, root_read, check_read}
-use Rattle.ed_sources.proofs.Faultless.{divide_faultless, newline_faultless, print_faultless, read_faultless}
-use Rattle.ed_sources.proofs.Faultless.{root_faultless, check_faultless}
-use Rattle.ed_sources.proofs.Papers.{digits_printed, lines_printed}
-use Rattle.ed_sources.proofs.DivideAndPrint.{call_ends, quotient_low, remainder_low}
-use Rattle.ed_sources.proofs.RootAndPrint.{root_ends, root_small}
+use Rattle.ed_sources.proofs.Kit.{Settings, Line, length-append, None, Ok, Call, Check, Divide, NewLine, Print, Read}
+use Rattle.ed_sources.proofs.Kit.{Root, least, fault, few_digits, [], arith, length, List, lit<, lit≤, refl, ℕ, ◌%◌}
+use Rattle.ed_sources.proofs.Kit.{◌++◌, ◌+◌, ◌/◌, ◌<◌, ◌∙◌, ◌∷◌, ◌≡◌, ◌≤◌, digits, root_of, at_after, AnswersFromEntry}
+use Rattle.ed_sources.proofs.Kit.{read_is_accepted, paper, program_of, entry_of, cost, entry_note, entry_state}
+use Rattle.ed_sources.proofs.Kit.{run_outcome, accepted_is, each_answer_is_from_entry, call_orders, most_call_orders}
+use Rattle.ed_sources.proofs.Kit.{call_text, call_cost, StopsAt}
+use Rattle.std.proofs.Common.{codes as codes_of_text}
+use Rattle.ed_sources.specs.CallRuns.{CallRuns, EachCallRuns, GuestStops, call_entry, call_prints, call_stop}
 use Rattle.ed_sources.proofs.CallCosts.{check_cost, divide_cost, newline_cost, print_cost, read_cost, root_cost}
+use Rattle.ed_sources.proofs.CallsAccepted.{divide_read, newline_read, print_read, read_read, root_read, check_read}
 use Rattle.ed_sources.proofs.CheckedPaper.{check_ends, room_for_codes}
 use Rattle.ed_sources.proofs.CheckedPrint.{guest_stops}
+use Rattle.ed_sources.proofs.DivideAndPrint.{call_ends, quotient_low, remainder_low}
+use Rattle.ed_sources.proofs.Faultless.{divide_faultless, newline_faultless, print_faultless, read_faultless}
+use Rattle.ed_sources.proofs.Faultless.{root_faultless, check_faultless}
 use Rattle.ed_sources.proofs.MostOrders.{most_orders}
+use Rattle.ed_sources.proofs.Papers.{digits_printed, lines_printed}
 use Rattle.ed_sources.proofs.PrintAndNewline.{newline_ends, print_ends}
 use Rattle.ed_sources.proofs.ReadAndPrint.{read_ends}
-use Rattle.ed_sources.proofs.Stops.{comes_to_stop}
-use Rattle.ed_run.specs.declared.settings.Settings.{Settings}
-use Rattle.ed_sources.specs.CallRuns.{CallRuns, EachCallRuns, GuestStops, call_entry, call_orders, call_prints}
-use Rattle.ed_sources.specs.CallRuns.{call_stop, most_call_orders}
-use Rattle.ed_sources.specs.Costs.{call_cost}
-use Rattle.ed_answers.proofs.Sources.{accepted_is, each_answer_is_from_entry}
+use Rattle.ed_sources.proofs.RootAndPrint.{root_ends, root_small}
 use Rattle.ed_sources.proofs.Stopped.{stopped_outcome}
+use Rattle.ed_sources.proofs.Stops.{comes_to_stop}
 
 -- a call whose source is accepted, and which reaches its stop after its codes
 runs : (s : Settings) (call : Call) {lines : List Line} {k place : ℕ} {codes : List ℕ}

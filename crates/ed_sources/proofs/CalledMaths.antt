@@ -1,14 +1,13 @@
 -- A call of `divide` and one of `root`, up to the state after it.
-use Rattle.ed_sources.proofs.Kit.{◌≡◌, ℕ, ◌+◌, ◌/◌, ◌%◌, ◌<◌, ◌≤◌, [], ◌≢◌, length, refl, ap, inl, inr, arith, short_at}
-use Rattle.ed_sources.proofs.Kit.{locations, State, joined, IsOutside, Stands, divide_orders, root_orders}
-use Rattle.ed_routines.specs.Returns.{IsOther}
+use Rattle.ed_sources.proofs.Kit.{joined, [], ap, arith, inl, inr, length, refl, rules, ℕ, ◌%◌, ◌+◌, ◌/◌, ◌<◌, ◌≡◌}
+use Rattle.ed_sources.proofs.Kit.{◌≤◌, locations, short_at, State, IsOther, IsLoadedAt, IsOutside, divide, IsDivision}
+use Rattle.ed_sources.proofs.Kit.{with_hnm, root, with_hn, divide_orders, dividend, IsRoot, root_orders, ◌≢◌}
 use Rattle.ed_routines.proofs.Called.{within_size}
-use Rattle.ed_maths.specs.Quotients.{HasDivided, IsDivision, divide, dividend, with_hnm}
-use Rattle.ed_maths.specs.Roots.{IsRoot, root, with_hn}
+use Rattle.ed_maths.specs.Quotients.{HasDivided}
+use Rattle.ed_sources.proofs.CalledRoutines.{IsBeside, Passes}
+use Rattle.ed_sources.proofs.Calling.{HasRoutine, IsBefore, called, caller_is, Leads-calls, outside, IsLoadedAt-stands}
 use Rattle.ed_maths.proofs.DivideCall as divide_call
 use Rattle.ed_maths.proofs.RootCall as root_call
-use Rattle.ed_sources.proofs.CalledRoutines.{IsBeside, Passes}
-use Rattle.ed_sources.proofs.Calling.{HasRoutine, IsBefore, called, caller_is, calls, outside, stands}
 
 -- `divide` is called: after the call its quotient and its remainder are in the store
 pub record Divides (s : State) (m from to high low by : ℕ) : Type 0 where
@@ -29,34 +28,14 @@ module _ {s : State} {m base : ℕ} (o : IsBefore s m base) where
   module _ {high low by from : ℕ} (all_digits : length s.store.sandwich ≡ 512) (even : base % 2 ≡ 0)
       (has : HasRoutine s divide base (with_hnm high low by)) (is : IsDivision base high low by s)
       (early : (from ≤ high) × (from ≤ low)) (high_before : high < base) (low_before : low < base) where
-    there : Stands divide (with_hnm high low by) base t
-    there = stands o has
+    there : IsLoadedAt divide (with_hnm high low by) base t
+    there = IsLoadedAt-stands o has
 
     is_there : IsDivision base high low by t
-    is_there = record {
-      high_outside = outside o is.high_outside;
-      low_outside = outside o is.low_outside;
-      by_outside = outside o is.by_outside;
-      high_low = is.high_low;
-      high_by = is.high_by;
-      low_by = is.low_by;
-      positive = is.positive;
-      divisor = is.divisor;
-      less = is.less;
-      small = is.small;
-    }
+    is_there = search (rules, outside)
 
     dividing : divide_call.CallsDivide base high low by (locations s.size) t
-    dividing = record {
-      all = o.all;
-      all_digits = all_digits;
-      stands = there;
-      even = even;
-      division = is_there;
-      within = within_size there is_there.high_outside;
-      near_low = is.low_outside.below;
-      near_by = is.by_outside.below;
-    }
+    dividing = search (rules, IsLoadedAt-stands, there, is_there, within_size)
 
     abbrev end : State
     end = divide_call.last dividing
@@ -68,7 +47,7 @@ module _ {s : State} {m base : ℕ} (o : IsBefore s m base) where
     divides = record {
       passes = record {
         last = end;
-        leads = joined (calls o) (divide_call.leads_to dividing);
+        leads = joined (Leads-calls o) (divide_call.leads_to dividing);
         counter = ap (λ x. x + 2) (caller_is o);
         acc = refl;
         all = divide_call.all_last dividing;
@@ -90,8 +69,8 @@ module _ {s : State} {m base : ℕ} (o : IsBefore s m base) where
       (source_out : IsOutside root base source s)
       (target_out : IsOutside root base target s) (differ : source ≢ target) (small : short_at s.store source < 65536)
       (is_root : IsRoot (short_at s.store source) r) (before : target < base) where
-    there_too : Stands root (with_hn source target) base t
-    there_too = stands o has
+    there_too : IsLoadedAt root (with_hn source target) base t
+    there_too = IsLoadedAt-stands o has
 
     source_there : IsOutside root base source t
     source_there = outside o source_out
@@ -100,16 +79,7 @@ module _ {s : State} {m base : ℕ} (o : IsBefore s m base) where
     target_there = outside o target_out
 
     rooting : root_call.CallsRoot base source target (locations s.size) r t
-    rooting = record {
-      all = o.all;
-      stands = there_too;
-      source_outside = source_there;
-      target_outside = target_there;
-      within = within_size there_too source_there;
-      near = target_out.below;
-      small = small;
-      is_root = is_root;
-    }
+    rooting = search (rules, IsLoadedAt-stands, there_too, source_there, target_there, within_size)
 
     abbrev end_too : State
     end_too = root_call.last rooting
@@ -121,7 +91,7 @@ module _ {s : State} {m base : ℕ} (o : IsBefore s m base) where
     takes_root = record {
       passes = record {
         last = end_too;
-        leads = joined (calls o) (root_call.leads_to rooting);
+        leads = joined (Leads-calls o) (root_call.leads_to rooting);
         counter = ap (λ x. x + 2) (caller_is o);
         acc = refl;
         all = root_call.all_last rooting;

@@ -1,16 +1,14 @@
 -- A call of a routine, up to the order after it, and up to that order if it is a stop.
-use Rattle.ed_sources.proofs.Kit.{◌≡◌, ℕ, ◌+◌, ◌*◌, ◌%◌, ◌^◌, ◌<◌, ◌≤◌, [], ◌≢◌, ◌⊎◌, List, ◌∷◌, length, get_or, refl}
-use Rattle.ed_sources.proofs.Kit.{ap, ◌∙◌, subst, inl, inr, arith, locations, Z_F, short_at, step, State, joined, Leads}
-use Rattle.ed_sources.proofs.Kit.{newline, print, with_h, digits, print_orders, IsOutside, Stands, StopsAt}
+use Rattle.ed_sources.proofs.Kit.{Z_F, joined, IsCalled, [], ap, arith, get_or, inl, inr, length, List, refl, rules}
+use Rattle.ed_sources.proofs.Kit.{subst, ℕ, ◌%◌, ◌*◌, ◌+◌, ◌<◌, ◌^◌, ◌∙◌, ◌∷◌, ◌≡◌, ◌≤◌, ◌⊎◌, locations, short_at}
+use Rattle.ed_sources.proofs.Kit.{step, State, Leads, newline, print, read, with_h, after_digits, digit_rows, digits}
+use Rattle.ed_sources.proofs.Kit.{digits_value, print_orders, IsOther, IsLoadedAt, IsOutside, ◌≢◌, StopsAt}
 use Rattle.ed_machine.specs.declared.turn.Turn.TheVariants.{Stopped}
-use Rattle.ed_routines.specs.Catalogue.{read}
-use Rattle.ed_routines.specs.Digits.{after_digits, digit_rows, digits_value}
-use Rattle.ed_routines.specs.Returns.{IsOther}
-use Rattle.ed_routines.proofs.Called.{IsCalled, IsWithin, called as routine_called}
+use Rattle.ed_routines.proofs.Called.{IsWithin, called as routine_called}
+use Rattle.ed_sources.proofs.Calling.{HasRoutine, IsBefore, caller-back, called, caller_is, Leads-calls, outside, IsLoadedAt-stands}
 use Rattle.ed_routines.proofs.NewLine as new_line
 use Rattle.ed_routines.proofs.PrintCall as print_call
 use Rattle.ed_routines.proofs.ReadCall as read_call
-use Rattle.ed_sources.proofs.Calling.{HasRoutine, IsBefore, back, called, caller_is, calls, outside, stands}
 
 -- the order Z F at the counter
 pub stop_at : (s : State) → get_or s.store.words s.counter 0 ≡ Z_F → (step s).turn ≡ Stopped
@@ -54,8 +52,8 @@ module _ {s : State} {m base : ℕ} (o : IsBefore s m base) where
   -- `print`, which prints the number n at h
   module _ {h n : ℕ} (has : HasRoutine s print base (with_h h)) (out : IsOutside print base h s)
       (number : short_at s.store h ≡ n) (small : n < 65536) where
-    there : Stands print (with_h h) base t
-    there = stands o has
+    there : IsLoadedAt print (with_h h) base t
+    there = IsLoadedAt-stands o has
 
     its_outside : IsOutside print base h t
     its_outside = outside o out
@@ -78,7 +76,7 @@ module _ {s : State} {m base : ℕ} (o : IsBefore s m base) where
         subst (λ x. Passes (2 + print_orders x) s (11 ∷ digits x) m base (base + 51)) number
         (record {
           last = end;
-          leads = joined (calls o) (print_call.leads_to printing low);
+          leads = joined (Leads-calls o) (print_call.leads_to printing low);
           counter = ap (λ x. x + 2) (caller_is o);
           acc = refl;
           all = print_call.all_last printing low;
@@ -88,16 +86,11 @@ module _ {s : State} {m base : ℕ} (o : IsBefore s m base) where
 
   -- `newline`
   module _ (has : HasRoutine s newline base []) where
-    there_too : Stands newline [] base t
-    there_too = stands o has
+    there_too : IsLoadedAt newline [] base t
+    there_too = IsLoadedAt-stands o has
 
     within_too : IsWithin 7 base 0 (locations s.size) t
-    within_too = record {
-      under = has.fits;
-      near = let under = has.fits in omega arith;
-      back = back o;
-      fits = omega arith;
-    }
+    within_too = search (rules, caller-back)
 
     abbrev end_too : State
     end_too = new_line.last o.all there_too within_too
@@ -109,7 +102,7 @@ module _ {s : State} {m base : ℕ} (o : IsBefore s m base) where
     pub newline_passes : Passes 7 s (18 ∷ 24 ∷ []) m base (base + 7)
     newline_passes = record {
       last = end_too;
-      leads = joined (calls o) (new_line.leads_to o.all there_too within_too);
+      leads = joined (Leads-calls o) (new_line.leads_to o.all there_too within_too);
       counter = ap (λ x. x + 2) (caller_is o);
       acc = refl;
       all = new_line.all_last o.all there_too within_too;
@@ -120,8 +113,8 @@ module _ {s : State} {m base : ℕ} (o : IsBefore s m base) where
   -- `read`, whose digit rows end with the code c
   module _ {h c : ℕ} {rest : List ℕ} (has : HasRoutine s read base (with_h h)) (out : IsOutside read base h s)
       (before : h < base) (ends : after_digits s.tape ≡ c ∷ rest) (code : c < 32) where
-    read_there : Stands read (with_h h) base t
-    read_there = stands o has
+    read_there : IsLoadedAt read (with_h h) base t
+    read_there = IsLoadedAt-stands o has
 
     read_outside : IsOutside read base h t
     read_outside = outside o out
@@ -136,7 +129,7 @@ module _ {s : State} {m base : ℕ} (o : IsBefore s m base) where
     reads = record {
       passes = record {
         last = read_end;
-        leads = joined (calls o) (read_call.leads_to reading ends code);
+        leads = joined (Leads-calls o) (read_call.leads_to reading ends code);
         counter = ap (λ x. x + 2) (caller_is o);
         acc = refl;
         all = read_call.all_last reading ends code;

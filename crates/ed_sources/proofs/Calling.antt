@@ -1,14 +1,9 @@
 -- The two orders that call a routine: A m F at m, and after it G to the routine's base.
-use Rattle.ed_sources.proofs.Kit.{◌≡◌, ℕ, zero, suc, ◌+◌, ◌*◌, ◌^◌, ◌<◌, ◌≤◌, [], List, ◌∷◌, length, get_or, Some, None}
-use Rattle.ed_sources.proofs.Kit.{sym, refl, ap, ◌∙◌, subst, arith, locations, A_F, G_F, short_at, State, short, state}
-use Rattle.ed_sources.proofs.Kit.{Frame, Moment, Leads, place_count, HasWord, IsOutside, Stands}
-use Rattle.ed_words.proofs.SizeLemmas.{most}
-use Rattle.ed_machine.proofs.Kit.Moves.{A, G_jumps}
-use Rattle.ed_machine.proofs.Kit.Paths.{Path, leads, on, stay}
-use Rattle.ed_machine.proofs.Kit.Places.{any, own}
-use Rattle.ed_machine.proofs.Kit.Standing.{Holds, opens}
-use Rattle.ed_machine.proofs.Kit.Window.{patched}
-use Rattle.ed_routines.specs.Standing.{caller}
+use Rattle.ed_sources.proofs.Kit.{A_F, G_F, opens, None, [], ap, arith, get_or, length, List, refl, rules, Some, subst}
+use Rattle.ed_sources.proofs.Kit.{sym, ℕ, ◌*◌, ◌+◌, ◌<◌, ◌^◌, ◌∷◌, ◌≡◌, ◌≤◌, locations, locations_most, short_at, State, Frame}
+use Rattle.ed_sources.proofs.Kit.{Moment, short, state, Leads, A, G_jumps, leads, on, Path, stay, own, Holds, patched}
+use Rattle.ed_sources.proofs.Kit.{place_count, caller, HasWord, IsLoadedAt, IsOutside}
+use Rattle.ed_machine.proofs.Kit.Places.{any}
 
 -- a state before such a call, from m to a base
 pub record IsBefore (s : State) (m base : ℕ) : Type 0 where
@@ -54,55 +49,29 @@ module _ {s : State} {m base : ℕ} (o : IsBefore s m base) where
 
   path : Path f 2 (at 0 (m + 0)) [] (at (A_F + 2 * m) base)
   path =
-      let size = most s.size in
+      let size = locations_most s.size in
       let room = o.room in
       on (A 0 (own 0) (short (A_F + 2 * m)) refl (omega arith))
       (on (G_jumps 1 (any base o.there) refl (omega arith)) stay)
 
   holds : Holds (Some (A_F + 2 * (m + 0)) ∷ Some (G_F + 2 * base) ∷ None ∷ []) s.store.words m
-  holds zero l =
-      let e : m + 0 ≡ m = omega arith in
-      ap (λ x. get_or s.store.words x 0) e ∙ o.first ∙ ap (λ x. A_F + 2 * x) (sym e)
-  holds (suc zero) l = o.second
-  holds (suc (suc zero)) l = tt
-  holds (suc (suc (suc i))) l = absurd (omega arith)
+  holds h l = search rules
 
   same : patched 0 s.store.words m cells ≡ s.store.words
   same =
-      let size = most s.size in
+      let size = locations_most s.size in
       let room = o.room in
       let all = o.all in
       opens (Some (A_F + 2 * (m + 0)) ∷ Some (G_F + 2 * base) ∷ None ∷ []) s.store.words m (omega arith) holds
 
   begins : state f (at 0 (m + 0)) s.orders ≡ s
-  begins =
-      let counter : m + 0 ≡ s.counter = omega (arith, o.counter) in
-      let acc : short 0 ≡ s.acc = sym o.acc in
-      λ i. record {
-        size = s.size;
-        store = record { words = same i; sandwich = s.store.sandwich };
-        acc = acc i;
-        multiplier = s.multiplier;
-        counter = counter i;
-        tape = s.tape;
-        last = s.last;
-        orders = s.orders;
-      }
+  begins = search (rules, same)
 
   ends : state f (at (A_F + 2 * m) base) (s.orders + 2) ≡ called s m base
-  ends = λ i. record {
-    size = s.size;
-    store = record { words = same i; sandwich = s.store.sandwich };
-    acc = short (A_F + 2 * m);
-    multiplier = s.multiplier;
-    counter = base;
-    tape = s.tape;
-    last = s.last;
-    orders = s.orders + 2;
-  }
+  ends = search (rules, same)
 
-  pub calls : Leads 2 s [] (called s m base)
-  calls =
+  pub Leads-calls : Leads 2 s [] (called s m base)
+  Leads-calls =
       subst (λ (t : State). Leads 2 s [] t) ends
       (subst (λ (x : State). Leads 2 x [] (state f (at (A_F + 2 * m) base) (s.orders + 2))) begins
       (leads path s.orders))
@@ -111,22 +80,22 @@ module _ {s : State} {m base : ℕ} (o : IsBefore s m base) where
   caller_is = omega arith
 
   -- the location to which it returns, and the two after it, are within the store
-  pub back : caller (called s m base) + 3 ≤ locations s.size
-  back = let e = caller_is in let room = o.room in omega arith
+  pub caller-back : caller (called s m base) + 3 ≤ locations s.size
+  caller-back = let e = caller_is in let room = o.room in omega arith
 
   -- a location outside a routine is so when it is called
   pub outside : {r h : ℕ} → IsOutside r base h s → IsOutside r base h (called s m base)
   outside out = record { below = out.below; beside = out.beside }
 
   -- a routine whose words are at the base is there, called
-  pub stands : {r : ℕ} {parameters : List ℕ} → HasRoutine s r base parameters
-      → Stands r parameters base (called s m base)
-  stands has = record {
+  pub IsLoadedAt-stands : {r : ℕ} {parameters : List ℕ} → HasRoutine s r base parameters
+      → IsLoadedAt r parameters base (called s m base)
+  IsLoadedAt-stands has = record {
     low = has.low;
     fits = has.fits;
     counter = refl;
     at2 = has.at2;
     at3 = has.at3;
     image = λ i l. record { has = (has.image i l).has };
-    call = record { acc = ap (λ x. (A_F + 2 * x) * 2 ^ 54) (sym caller_is); room = back };
+    call = record { acc = ap (λ x. (A_F + 2 * x) * 2 ^ 54) (sym caller_is); room = caller-back };
   }

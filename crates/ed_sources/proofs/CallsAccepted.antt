@@ -1,8 +1,7 @@
 -- The sources of calls are accepted.
-use Rattle.ed_sources.proofs.Kit.{◌≡◌, ℕ, ◌/◌, ◌%◌, ◌<◌, true, Ok, decimal, refl, subst, append-nil, arith, lit≤, Text}
-use Rattle.ed_sources.proofs.Kit.{list_all, is_line_byte, program_of, Check, Divide, NewLine, Print, Read, Root, digits}
-use Rattle.ed_sources.proofs.Kit.{call_text}
-use Rattle.ed_library.specs.CallRanges.{IsDivisible}
+use Rattle.ed_sources.proofs.Kit.{decimal, Ok, list_all, Text, is_line_byte, IsDivisible, Check, Divide, NewLine}
+use Rattle.ed_sources.proofs.Kit.{Print, Read, Root, append-nil, arith, lit≤, refl, rules, subst, true, ℕ, ◌%◌, ◌/◌}
+use Rattle.ed_sources.proofs.Kit.{◌<◌, ◌≡◌, digits, program_of, call_text}
 use Rattle.ed_sources.proofs.CallTexts.{call_is, call_lines}
 use Rattle.ed_sources.proofs.Decimals.{are, decimal_is, line_bytes}
 use Rattle.ed_sources.proofs.Said.{newline_lines, newline_says, print_lines, print_says, read_lines, read_says}
@@ -25,15 +24,7 @@ read_plain n small = rw (with_end (decimal n) (decimal_plain n small)) refl
 
 divide_plain : (n by : ℕ) → n / 65536 < 65536 → n % 65536 < 65536 → by < 65536
     → list_all (list_all is_line_byte) (call_lines (Divide n by)) ≡ true
-divide_plain n by h l b =
-    rw (
-      append-nil (decimal (n / 65536)),
-      append-nil (decimal (n % 65536)),
-      append-nil (decimal by),
-      decimal_plain (n / 65536) h,
-      decimal_plain (n % 65536) l,
-      decimal_plain by b,
-    ) refl
+divide_plain n by h l b = search (rules, append-nil, decimal_plain)
 
 root_plain : (n : ℕ) → n < 65536 → list_all (list_all is_line_byte) (call_lines (Root n)) ≡ true
 root_plain n small = rw (append-nil (decimal n), decimal_plain n small) refl

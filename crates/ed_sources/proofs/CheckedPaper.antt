@@ -1,13 +1,10 @@
 -- What the guest of `call check N` prints has room on the paper, and the machine's orders lead to its stop.
-use Rattle.ed_sources.proofs.Kit.{ℕ, zero, suc, ◌+◌, ◌*◌, ◌<◌, ◌≤◌, ◌∷◌, length, ap, subst, arith, length-append, Size}
-use Rattle.ed_sources.proofs.Kit.{step, State, before_units, print_orders, sum, entry_state, StopsAt}
-use Rattle.ed_words.specs.Words.{function_of}
-use Rattle.ed_machine.specs.OrderTable.{next_word}
-use Rattle.ed_machine.specs.Steps.{Progress, codes_of, state_after}
+use Rattle.ed_sources.proofs.Kit.{Size, length-append, before_units, arith, length, rules, subst, suc, zero, ℕ, ◌*◌}
+use Rattle.ed_sources.proofs.Kit.{◌+◌, ◌<◌, ◌∷◌, ◌≤◌, step, State, state_after, print_orders, sum, ChecksToStop}
+use Rattle.ed_sources.proofs.Kit.{function_of, next_word, codes_of, guest, entry_state, StopsAt}
 use Rattle.ed_machine.proofs.Kit.Leads.{all_go}
-use Rattle.ed_checker.specs.Checker.{checked_codes, guest, planting_place}
-use Rattle.ed_checker.specs.Laws.{ChecksToStop}
-use Rattle.ed_checker.proofs.Whole.{few_codes}
+use Rattle.ed_machine.proofs.Steps.{one_code}
+use Rattle.ed_checker.specs.Checker.{checked_codes, planting_place}
 use Rattle.ed_sources.proofs.CheckedPrint.{checks_print, count_is}
 use Rattle.ed_sources.proofs.PrintOrders.{print_few}
 use Rattle.ed_sources.proofs.Said.{check_lines}
@@ -18,7 +15,7 @@ unfolding checked_codes
 two_each zero g = omega arith
 two_each (suc q) g =
     let before = two_each q g in
-    let one = few_codes (step (state_after q g)).turn in
+    let one = one_code (step (state_after q g)).turn in
     let all = length-append (checked_codes g q)
     (function_of (next_word (state_after q g)) ∷ codes_of (step (state_after q g)).turn) in
     omega (arith, before, one, all)
@@ -29,16 +26,7 @@ room_for_codes n g small = let two = two_each (3 + print_orders n) g in let few 
 -- the machine stops at the end of the guest
 pub checks_to_stop : (base q : ℕ) (m : State) (c : ChecksToStop base q m)
     → StopsAt c.count m (checked_codes (guest base m) q) (base + planting_place)
-checks_to_stop base q m c = record {
-  last = c.last;
-  leads = record {
-    state_is = ap (λ (p : Progress). p.state) c.ran.is;
-    codes_are = ap (λ (p : Progress). p.codes) c.ran.is;
-    goes = all_go c.count m c.ran.free (ap (λ (p : Progress). p.stops) c.ran.is);
-  };
-  stops = c.stops;
-  counter = c.counter;
-}
+checks_to_stop base q m c = search (rules, all_go)
 
 module _ (z : Size) (n : ℕ) (small : n < 65536) where
   abbrev c : ChecksToStop 112 (3 + print_orders n) (entry_state z (check_lines n))

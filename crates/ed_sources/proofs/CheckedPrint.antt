@@ -1,48 +1,40 @@
 -- The source of `call check N`: at its entry the checking routine is at the start of a turn, and its guest prints the
 -- number and stops.
-use Rattle.ed_sources.proofs.Kit.{◌≡◌, ℕ, zero, suc, ◌+◌, ◌-◌, ◌*◌, ◌/◌, ◌%◌, ◌^◌, ◌<◌, ◌≤◌, Bool, true, false, [], ◌∷◌}
-use Rattle.ed_sources.proofs.Kit.{◌||◌, List, ◌++◌, length, get_or, drop, nat_eq, nat_lt, nat_le, Some, unwrap_or, sym}
-use Rattle.ed_sources.proofs.Kit.{refl, ap, ◌∙◌, subst, inl, inr, arith, lit<, lit≤, list_all, cases_lt, and_parts, Z_F}
-use Rattle.ed_sources.proofs.Kit.{length-replicate, locations, Size, eq_of, lt_of, lt_true, least, short_at, step, sum}
-use Rattle.ed_sources.proofs.Kit.{State, short, joined, Leads, placed_at, image_word, parameter_store, print, with_h}
-use Rattle.ed_sources.proofs.Kit.{before_units, digits, print_orders, IsOutside, Stands, tens, entry_state}
-use Rattle.std.proofs.Common.{◌&&◌, set}
-use Rattle.std.specs.Prelude.{replicate}
+use Rattle.ed_sources.proofs.Kit.{Z_F, Size, within_below, G, joined, no_stops, nat_eq, nat_le, ◌||◌, list_all}
+use Rattle.ed_sources.proofs.Kit.{and_parts, ltb-true, image_word, parameter_store, unwrap_or, eqb-true}
+use Rattle.ed_sources.proofs.Kit.{length-replicate, least, placed_at, before_units, IsCalled, tens, [], ap, arith}
+use Rattle.ed_sources.proofs.Kit.{Bool, drop, false, get_or, inl, inr, length, List, lit<, lit≤, nat_lt, refl, rules}
+use Rattle.ed_sources.proofs.Kit.{Some, subst, suc, sym, true, zero, ℕ, ◌%◌, ◌*◌, ◌++◌, ◌+◌, ◌-◌, ◌/◌, ◌<◌, ◌^◌, ◌∙◌}
+use Rattle.ed_sources.proofs.Kit.{◌∷◌, ◌≡◌, ◌≤◌, lt-ltb, short_at, step, State, state_after, short, free, Leads, print}
+use Rattle.ed_sources.proofs.Kit.{with_h, digits, print_orders, sum, caller, IsLoadedAt, IsOutside, ChecksToStop}
+use Rattle.ed_sources.proofs.Kit.{size_after, cases_lt, function_of, kind_of_function, jump_order, next_word}
+use Rattle.ed_sources.proofs.Kit.{obey_word, place_of, guest, progress, entry_state}
+use Rattle.ed_checker.proofs.Kit.{within, address_of, long_at, checked_orders, IsAllowed, orders_by, turn_orders}
+use Rattle.ed_notation.proofs.Kit.{replicate, set, over}
 use Rattle.std.proofs.Math.ListN.{get_or-append}
 use Rattle.std.proofs.lemmas.List.{get_or-append_right, get_or-drop}
-use Rattle.ed_words.specs.Sizes.{within}
-use Rattle.ed_words.specs.Words.{address_of, function_of}
-use Rattle.ed_words.proofs.SizeLemmas.{within_below}
-use Rattle.ed_store.specs.Cells.{long_at}
-use Rattle.ed_orders.specs.Kinds.{kind_of_function}
-use Rattle.ed_orders.specs.declared.kind.Kind.TheVariants.{A, G}
-use Rattle.ed_machine.specs.OrderTable.{jump_order, next_word, obey_word, place_of}
+use Rattle.ed_orders.specs.declared.kind.Kind.TheVariants.{A}
 use Rattle.ed_machine.specs.Sound.{IsSound}
-use Rattle.ed_machine.specs.Steps.{progress, state_after}
-use Rattle.ed_notation.specs.Fold.{over}
-use Rattle.ed_library.specs.Routines.{is_working}
-use Rattle.ed_answers.specs.EntryState.{loader_words}
-use Rattle.ed_machine.proofs.Steps.{after_sum}
-use Rattle.ed_machine.proofs.Kit.Leads.{first_order, free, no_stops}
+use Rattle.ed_machine.proofs.Kit.Leads.{first_order}
 use Rattle.ed_machine.proofs.Kit.Zeros.{begun, shown}
+use Rattle.ed_machine.proofs.Steps.{after_sum}
 use Rattle.ed_initial.proofs.Starts.{all_fit}
-use Rattle.ed_routines.specs.Standing.{caller}
-use Rattle.ed_routines.proofs.Called.{IsCalled}
+use Rattle.ed_library.specs.Routines.{is_working}
 use Rattle.ed_routines.proofs.Print.{before_tens, print_weight, shown_weight, shows_is, sum_is}
-use Rattle.ed_routines.proofs.PrintCall as print_call
 use Rattle.ed_routines.proofs.Walks.{total, total_sum}
-use Rattle.ed_checker.specs.Checker.{HasImage, IsAllowed, IsAllowedOrder, check, checked_orders, guest, orders_by}
-use Rattle.ed_checker.specs.Checker.{turn_orders}
-use Rattle.ed_checker.specs.Laws.{ChecksToStop, HasGuest, IsFollowed, StopsAfter}
+use Rattle.ed_checker.specs.Checker.{HasImage, check}
+use Rattle.ed_checker.specs.Laws.{HasGuest, IsFollowed, StopsAfter}
 use Rattle.ed_checker.proofs.Follow.{checker_law}
-use Rattle.ed_checker.proofs.Guests.{allowed_below, size_after}
+use Rattle.ed_checker.proofs.Guests.{allowed_below}
 use Rattle.ed_checker.proofs.Weights.{checked_total, turn_weighs, turn_weights}
+use Rattle.ed_answers.specs.EntryState.{loader_words}
 use Rattle.ed_sources.proofs.Along.{IsAt, before, has}
 use Rattle.ed_sources.proofs.AtEntry.{all_words, has_image, placed, word_at}
 use Rattle.ed_sources.proofs.CalledRoutines.{stop_at}
-use Rattle.ed_sources.proofs.Calling.{HasRoutine, IsBefore, called, caller_is, calls, stands}
+use Rattle.ed_sources.proofs.Calling.{HasRoutine, IsBefore, called, caller_is, Leads-calls, IsLoadedAt-stands}
 use Rattle.ed_sources.proofs.Decimals.{among, numbers}
 use Rattle.ed_sources.proofs.Said.{check_lines}
+use Rattle.ed_routines.proofs.PrintCall as print_call
 
 -- ---- the words of a store at an entry
 
@@ -60,7 +52,7 @@ over_fits : (ps : List (ℕ × ℕ)) (ws : List ℕ) → list_all (λ p. nat_lt 
 over_fits [] ws h fits i = fits i
 over_fits (p ∷ ps) ws h fits i =
     let q = and_parts (nat_lt p.1 (2 ^ 17)) (list_all (λ p. nat_lt p.1 (2 ^ 17)) ps) h in
-    set_fits (over ps ws) p.0 p.1 i (over_fits ps ws q.1 fits) (lt_of p.1 (2 ^ 17) q.0)
+    set_fits (over ps ws) p.0 p.1 i (over_fits ps ws q.1 fits) (ltb-true p.1 (2 ^ 17) q.0)
 
 zeros_fit : (k i : ℕ) → get_or (replicate k 0) i 0 < 2 ^ 17
 zeros_fit zero i = lit< tt
@@ -100,11 +92,7 @@ module _ (z : Size) (n : ℕ) (small : n < 65536) where
 
   placed_fit : list_all (λ p. nat_lt p.1 (2 ^ 17)) (placed (check_lines n)) ≡ true
   unfolding parameter_store
-  placed_fit =
-      let e : nat_lt n (2 ^ 17) ≡ true = lt_true n (2 ^ 17) (omega arith) in
-      let by_value : list_all (λ p. nat_lt p.1 (2 ^ 17)) (placed (check_lines n))
-      ≡ (nat_lt n (2 ^ 17) && true) = refl in
-      by_value ∙ ap (λ b. b && true) e
+  placed_fit = search (rules, lt-ltb, placed)
 
   abbrev front : List ℕ
   front = loader_words (check_lines n)
@@ -123,20 +111,7 @@ module _ (z : Size) (n : ℕ) (small : n < 65536) where
       ]
 
   sound : IsSound m
-  sound =
-      let size = least z in
-      record {
-        store = record {
-          words_are = all_words z (check_lines n);
-          digits_are = length-replicate {A = Bool} 512 false;
-          fits = fits;
-        };
-        acc = lit< tt;
-        multiplier = lit< tt;
-        counter = omega arith;
-        tape = λ i. lit< tt;
-        last = lit< tt;
-      }
+  sound = search (rules, least, all_words, length-replicate, fits)
 
   -- ---- the routine at its base
 
@@ -154,7 +129,7 @@ module _ (z : Size) (n : ℕ) (small : n < 65536) where
     has = λ working.
         let there : is_there i ≡ true = among is_there 0 66 i all_there (omega arith) (omega arith) in
         word (112 + i) (omega arith) (omega arith)
-        ∙ eq_of (unwrap_or (placed_at (placed (check_lines n)) (112 + i)) 0) (image_word check i 112 (with_h 0))
+        ∙ eqb-true (unwrap_or (placed_at (placed (check_lines n)) (112 + i)) 0) (image_word check i 112 (with_h 0))
         (rw working at there);
   }
 
@@ -198,13 +173,7 @@ module _ (z : Size) (n : ℕ) (small : n < 65536) where
   acc_is = rw (no_high, no_middle, no_low) refl
 
   at : IsAt z (check_lines n) g 59 60 56
-  at = record {
-    counter = counter_is;
-    acc = acc_is;
-    all = all_words z (check_lines n);
-    size = refl;
-    kept = λ i beside. refl;
-  }
+  at = search (rules, counter_is, acc_is, all_words)
 
   before_print : IsBefore g 56 60
   before_print = before at refl (lit≤ tt) (lit≤ tt) (lit≤ tt) (lit< tt) refl refl
@@ -219,8 +188,8 @@ module _ (z : Size) (n : ℕ) (small : n < 65536) where
   has_print : HasRoutine g print 60 (with_h 59)
   has_print = has at refl print_image (lit≤ tt) (lit≤ tt) (lit≤ tt) (lit≤ tt)
 
-  there : Stands print (with_h 59) 60 t
-  there = stands before_print has_print
+  there : IsLoadedAt print (with_h 59) 60 t
+  there = IsLoadedAt-stands before_print has_print
 
   outside : IsOutside print 60 59 t
   outside = let size = least z in record { below = omega arith; beside = inl (lit< tt) }
@@ -249,7 +218,7 @@ module _ (z : Size) (n : ℕ) (small : n < 65536) where
   end = print_call.last printing low
 
   leads : Leads (2 + count) g ([] ++ (11 ∷ digits (short_at t.store 59))) end
-  leads = joined (calls before_print)
+  leads = joined (Leads-calls before_print)
       (print_call.leads_to printing low)
 
   end_counter : end.counter ≡ 58
@@ -271,14 +240,7 @@ module _ (z : Size) (n : ℕ) (small : n < 65536) where
   first_word = ap (short_at m.store) counter_is ∙ word 56 (lit≤ tt) (lit< tt)
 
   first : IsAllowed 112 g
-  first =
-      let size = least z in
-      record {
-        outside = inl (rw counter_is (lit< tt));
-        next = rw counter_is (omega arith);
-        order = subst (λ w. IsAllowedOrder (kind_of_function (function_of w)) 112 w z) (sym first_word)
-            (inl (below 56 (lit< tt)));
-      }
+  first = search (rules, least, outside, counter_is, first_word, below)
 
   abbrev second : State
   second = (obey_word (Some A) 114800 g).state
@@ -293,17 +255,10 @@ module _ (z : Size) (n : ℕ) (small : n < 65536) where
   second_word = ap (short_at m.store) second_counter ∙ word 57 (lit≤ tt) (lit< tt)
 
   second_allowed : IsAllowed 112 second
-  second_allowed =
-      let size = least z in
-      record {
-        outside = inl (rw second_counter (lit< tt));
-        next = rw second_counter (omega arith);
-        order = subst (λ w. IsAllowedOrder (kind_of_function (function_of w)) 112 w z) (sym second_word)
-            (record { short = refl; plain = refl; below = omega arith; outside = inl (lit< tt) });
-      }
+  second_allowed = search (rules, least, outside, second_counter, second_word, below)
 
   third : state_after 2 g ≡ t
-  third = (calls before_print).state_is
+  third = (Leads-calls before_print).state_is
 
   of_print : (i : ℕ) → i < count → IsAllowed 112 (state_after i t)
   of_print i l =
@@ -327,23 +282,13 @@ module _ (z : Size) (n : ℕ) (small : n < 65536) where
   followed = record { allowed = each; obeyed = free leads }
 
   end_allowed : IsAllowed 112 end
-  end_allowed =
-      let size = least z in
-      record {
-        outside = inl (subst (λ x. x < 112) (sym end_counter) (lit< tt));
-        next = subst (λ x. x + 1 < locations z) (sym end_counter) (omega arith);
-        order = subst (λ w. IsAllowedOrder (kind_of_function (function_of w)) 112 w z) (sym end_word) tt;
-      }
+  end_allowed = search (rules, least, outside, end_counter, end_word)
 
   at_end : state_after (2 + count) g ≡ end
   at_end = leads.state_is
 
   to_stop : StopsAfter (2 + count) g
-  to_stop = record {
-    free = free leads;
-    no_stops = no_stops (2 + count) g leads.goes;
-    stops = ap (λ (x : State). (step x).turn) at_end ∙ stop_at end end_word;
-  }
+  to_stop = search (rules, free, leads, no_stops, at_end, stop_at, end_word)
 
   -- the guest reaches its first Z
   pub guest_stops : StopsAfter (2 + print_orders n) g
@@ -409,10 +354,4 @@ module _ (z : Size) (n : ℕ) (small : n < 65536) where
       subst (λ q. ChecksToStop 112 q m) e checks
 
   pub count_is : checks_print.count ≡ 2550 + 244 * sum (before_units n) + 142 * length (before_units n)
-  count_is =
-      let e : suc (2 + count) ≡ 3 + print_orders n = ap (λ x. suc (2 + print_orders x)) number_is ∙ omega arith in
-      let turns : checked_orders g (3 + print_orders n) ≡ 86 + print_weight turn_weights n =
-      ap (checked_orders g) (sym e) ∙ all_turns ∙ ap (λ x. 86 + print_weight turn_weights x) number_is in
-      let exact = checks_print.exact in
-      let formula = print_weight_is n in
-      omega (arith, exact, turns, formula)
+  count_is = search (rules, number_is, all_turns, checks_print, print_weight_is)

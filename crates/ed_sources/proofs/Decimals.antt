@@ -1,14 +1,12 @@
 -- The digits of a number in a source: as a word of it, and as rows of its tape.
-use Rattle.ed_sources.proofs.Kit.{◌≡◌, ℕ, zero, suc, ◌+◌, ◌-◌, ◌*◌, ◌/◌, ◌%◌, ◌<◌, ◌≤◌, Bool, true, not, [], List, ◌∷◌}
-use Rattle.ed_sources.proofs.Kit.{◌++◌, map, length, ◌==◌, nat_eq, nat_lt, decimal, refl, ap, ◌∙◌, subst, inl, inr}
-use Rattle.ed_sources.proofs.Kit.{arith, length-append, list_all, cases_lt, and_parts, length-map, eq_of, lt_of, digits}
-use Rattle.ed_sources.proofs.Kit.{lt_true, is_run_byte, is_line_byte, before_units, few_digits, tens}
-use Rattle.std.specs.Prelude.{◌&&◌, fold}
-use Rattle.ed_codes.specs.Spelling.{row_of}
-use Rattle.ed_syntax.specs.Reading.Grammar.{row, spells}
-use Rattle.ed_words.specs.Decimals.{is_digit, value as spelled_value}
-use Rattle.ed_routines.specs.Digits.{value_after, without_zeros}
-use Rattle.ed_routines.proofs.Digits.{digits_law}
+use Rattle.ed_sources.proofs.Kit.{decimal, row, spells, length-append, map, nat_eq, not, list_all, and_from, and_parts}
+use Rattle.ed_sources.proofs.Kit.{ltb-true, length-map, is_digit, row_of, is_run_byte, is_line_byte, eqb-true}
+use Rattle.ed_sources.proofs.Kit.{before_units, digits_law, few_digits, tens, [], ap, arith, Bool, inl, inr, length}
+use Rattle.ed_sources.proofs.Kit.{List, nat_lt, refl, rules, subst, suc, true, zero, ℕ, ◌%◌, ◌*◌, ◌++◌, ◌+◌, ◌-◌, ◌<◌}
+use Rattle.ed_sources.proofs.Kit.{◌==◌, ◌∙◌, ◌∷◌, ◌≡◌, ◌≤◌, lt-ltb, digits, without_zeros, cases_lt}
+use Rattle.std.proofs.Common.{fold}
+use Rattle.ed_words.specs.Decimals.{value as spelled_value}
+use Rattle.ed_routines.specs.Digits.{value_after}
 
 abbrev pub are_digits : List ℕ → Bool
 are_digits ds = list_all (λ d. nat_lt d 10) ds
@@ -16,9 +14,6 @@ are_digits ds = list_all (λ d. nat_lt d 10) ds
 -- the bytes of digits
 abbrev pub written : List ℕ → List ℕ
 written ds = map (λ d. 48 + d) ds
-
-pub both : (x y : Bool) → x ≡ true → y ≡ true → (x && y) ≡ true
-both x y h k = rw (h, k) refl
 
 -- n numbers from k upwards
 abbrev pub numbers : ℕ → ℕ → List ℕ
@@ -40,8 +35,9 @@ each_passes : (test : ℕ → Bool) → list_all test (numbers 0 10) ≡ true �
 each_passes test ten [] h = refl
 each_passes test ten (d ∷ ds) h =
     let p = and_parts (nat_lt d 10) (are_digits ds) h in
-    let l = lt_of d 10 p.0 in
-    both (test d) (list_all test ds) (among test 0 10 d ten (omega arith) (omega arith)) (each_passes test ten ds p.1)
+    let l = ltb-true d 10 p.0 in
+    and_from (test d) (list_all test ds) (among test 0 10 d ten (omega arith) (omega arith))
+    (each_passes test ten ds p.1)
 
 -- and by their bytes
 all_written : (test : ℕ → Bool) (ds : List ℕ) → list_all (λ d. test (48 + d)) ds ≡ true
@@ -49,7 +45,7 @@ all_written : (test : ℕ → Bool) (ds : List ℕ) → list_all (λ d. test (48
 all_written test [] h = refl
 all_written test (d ∷ ds) h =
     let p = and_parts (test (48 + d)) (list_all (λ d. test (48 + d)) ds) h in
-    both (test (48 + d)) (list_all test (written ds)) p.0 (all_written test ds p.1)
+    and_from (test (48 + d)) (list_all test (written ds)) p.0 (all_written test ds p.1)
 
 -- what a source reads in the bytes of digits
 module _ (ds : List ℕ) (are : are_digits ds ≡ true) where
@@ -74,7 +70,7 @@ rows_from : (ds : List ℕ) → list_all (λ d. nat_eq (row (row_of (48 + d))) d
 rows_from [] h = refl
 rows_from (d ∷ ds) h =
     let p = and_parts (nat_eq (row (row_of (48 + d))) d) (list_all (λ d. nat_eq (row (row_of (48 + d))) d) ds) h in
-    let first = eq_of (row (row_of (48 + d))) d p.0 in
+    let first = eqb-true (row (row_of (48 + d))) d p.0 in
     let rest = rows_from ds p.1 in
     λ i. first i ∷ rest i
 
@@ -94,7 +90,7 @@ more_digits : (xs ys : List ℕ) → are_digits xs ≡ true → are_digits ys �
 more_digits [] ys p q = q
 more_digits (x ∷ xs) ys p q =
     let h = and_parts (nat_lt x 10) (are_digits xs) p in
-    both (nat_lt x 10) (are_digits (xs ++ ys)) h.0 (more_digits xs ys h.1 q)
+    and_from (nat_lt x 10) (are_digits (xs ++ ys)) h.0 (more_digits xs ys h.1 q)
 
 fewer : (ds : List ℕ) → are_digits ds ≡ true → are_digits (without_zeros ds) ≡ true
 fewer [] h = refl
@@ -103,13 +99,7 @@ fewer (suc d ∷ ds) h = h
 
 module _ (n : ℕ) (small : n < 65536) where
   pub are : are_digits (digits n) ≡ true
-  are =
-      let a = lt_true (n / 10000) 10 (omega arith) in
-      let b = lt_true (n / 1000 % 10) 10 (omega arith) in
-      let c = lt_true (n / 100 % 10) 10 (omega arith) in
-      let d = lt_true (n / 10 % 10) 10 (omega arith) in
-      let u = lt_true (n % 10) 10 (omega arith) in
-      more_digits (before_units n) (n % 10 ∷ []) (fewer (tens n) (rw (a, b, c, d) refl)) (rw u refl)
+  are = search (rules, lt-ltb, more_digits, fewer, tens)
 
   pub decimal_is : written (digits n) ≡ decimal n
   decimal_is = (digits_law n small).written

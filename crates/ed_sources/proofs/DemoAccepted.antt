@@ -1,15 +1,12 @@
 -- The source of `demo` is accepted.
-use Rattle.ed_sources.proofs.Kit.{◌≡◌, ℕ, zero, suc, ◌+◌, ◌*◌, ◌<◌, ◌≤◌, true, [], List, ◌∷◌, ◌++◌, length, Ok, codes}
-use Rattle.ed_sources.proofs.Kit.{decimal, sym, refl, ap, ◌∙◌, arith, length-append, list_all, list_all-append, Text}
-use Rattle.ed_sources.proofs.Kit.{is_line_byte, program_of, text_of_lines, next, number_after, number_word, segments}
-use Rattle.ed_sources.proofs.Kit.{word_lines, demo_text}
-use Rattle.std.proofs.lemmas.Grind.{flat_map-append}
-use Rattle.ed_sources.proofs.Decimals.{both}
-use Rattle.ed_sources.specs.DemoSources.{adding_pieces}
+use Rattle.ed_sources.proofs.Kit.{decimal, flat_map-append, list_all-append, codes, length-append, Ok, list_all}
+use Rattle.ed_sources.proofs.Kit.{and_from, nat_tests, Text, is_line_byte, [], ap, arith, length, List, refl, suc, sym}
+use Rattle.ed_sources.proofs.Kit.{true, zero, ℕ, ◌*◌, ◌++◌, ◌+◌, ◌<◌, ◌∙◌, ◌∷◌, ◌≡◌, ◌≤◌, program_of, text_of_lines}
+use Rattle.ed_sources.proofs.Kit.{adding_pieces, demo_text, next, number_after, number_word, segments, word_lines}
 use Rattle.ed_sources.proofs.CallsAccepted.{decimal_plain}
+use Rattle.ed_sources.proofs.FilledLines.{filled_is}
 use Rattle.ed_sources.proofs.SaidDemo.{adding, demo_lines, demo_says, demo_source}
 use Rattle.ed_sources.proofs.TextLines.{program_is, said_lines}
-use Rattle.ed_sources.proofs.WovenLines.{woven_is}
 
 -- ---- bytes of lines
 
@@ -26,21 +23,17 @@ segments_plain (suc n) k x few =
     let number = decimal_plain k (omega arith) in
     let rest : list_all (list_all is_line_byte) (word_lines 8 x ++ segments n (k + 1) (number_after 8 x)) ≡ true =
     list_all-append (list_all is_line_byte) (word_lines 8 x) (segments n (k + 1) (number_after 8 x))
-    ∙ both _ _ (words_plain 8 x) (segments_plain n (k + 1) (number_after 8 x) (omega arith)) in
+    ∙ and_from _ _ (words_plain 8 x) (segments_plain n (k + 1) (number_after 8 x) (omega arith)) in
     rw (number, rest) refl
 
 adding_plain : (words : ℕ) → words < 65536 → list_all (list_all is_line_byte) (adding words) ≡ true
 adding_plain words small =
     let stop : list_all is_line_byte (decimal words ++ codes " F") ≡ true =
-    list_all-append is_line_byte (decimal words) (codes " F") ∙ both _ _ (decimal_plain words small) refl in
+    list_all-append is_line_byte (decimal words) (codes " F") ∙ and_from _ _ (decimal_plain words small) refl in
     rw stop refl
 
 demo_plain : (n : ℕ) → n ≤ 112 → list_all (list_all is_line_byte) (demo_source n) ≡ true
-demo_plain n few =
-    list_all-append (list_all is_line_byte) (adding (8 * n)) (segments n 1 n ++ codes "enter main" ∷ [])
-    ∙ both _ _ (adding_plain (8 * n) (omega arith))
-    (list_all-append (list_all is_line_byte) (segments n 1 n) (codes "enter main" ∷ [])
-    ∙ both _ _ (segments_plain n 1 n (omega arith)) refl)
+demo_plain n few = grind (arith, nat_tests, list_all-append, and_from, adding_plain, segments_plain)
 
 -- ---- how many lines there are
 
@@ -61,7 +54,7 @@ demo_text_is : (n : ℕ) → demo_text n ≡ text_of_lines (demo_source n)
 unfolding demo_text
 demo_text_is n =
     let rest : List Text = segments n 1 n ++ codes "enter main" ∷ [] in
-    ap (λ (t : Text). t ++ text_of_lines rest) (sym (woven_is adding_pieces (decimal (8 * n) ∷ []) refl))
+    ap (λ (t : Text). t ++ text_of_lines rest) (sym (filled_is adding_pieces (decimal (8 * n) ∷ []) refl))
     ∙ sym (flat_map-append (λ line. line ++ 10 ∷ []) (adding (8 * n)) rest)
 
 pub demo_read : (n : ℕ) → n ≤ 112 → program_of (demo_text n) ≡ Ok (demo_lines n)

@@ -1,15 +1,13 @@
 -- What reading the tape of `demo` costs: its program, the heads of its segments, and its words.
-use Rattle.ed_sources.proofs.Kit.{◌≡◌, ℕ, zero, suc, ◌+◌, ◌*◌, ◌<◌, ◌≤◌, Bool, false, [], ◌||◌, List, ◌∷◌, ◌++◌, take}
-use Rattle.ed_sources.proofs.Kit.{drop, if◌then◌else◌, nat_eq, nat_lt, nat_le, Some, None, codes, sum_by, Option, refl}
-use Rattle.ed_sources.proofs.Kit.{unwrap_or, ap, ◌∙◌, arith, sum_by-cons, eq_false, lt_false, Item, Line, Definition}
-use Rattle.ed_sources.proofs.Kit.{symbols_of, cost, item_cost, counter, word_cost, next, number_after, number_word}
-use Rattle.std.proofs.lemmas.List.Sums.{sum_by-append}
-use Rattle.ed_words.proofs.Numbers.{eq_true, le_of}
-use Rattle.ed_symbols.specs.Names.{place_on}
-use Rattle.ed_link.specs.Punch.{head, heads, item_with, punched_from, punched_items, word_item}
-use Rattle.ed_sources.specs.Costs.{demo_cost, heads_cost}
+use Rattle.ed_sources.proofs.Kit.{sum_by, sum_by-append, sum_by-cons, Item, Line, codes, nat_eq, nat_le, None, take}
+use Rattle.ed_sources.proofs.Kit.{◌||◌, leb-true, Definition, counter, unwrap_or, eq-eqb, ne_eqb, symbols_of}
+use Rattle.ed_sources.proofs.Kit.{item_with, punched_items, word_item, item_cost, [], ap, arith, Bool, drop, false}
+use Rattle.ed_sources.proofs.Kit.{if◌then◌else◌, List, nat_lt, Option, refl, Some, suc, zero, ℕ, ◌*◌, ◌++◌, ◌+◌, ◌<◌}
+use Rattle.ed_sources.proofs.Kit.{◌∙◌, ◌∷◌, ◌≡◌, ◌≤◌, le-ltb, cost, demo_cost, word_cost, next, number_after}
+use Rattle.ed_sources.proofs.Kit.{number_word, words_after}
+use Rattle.ed_link.proofs.Kit.{place_on, head, heads, punched_from}
+use Rattle.ed_sources.specs.Costs.{heads_cost}
 use Rattle.ed_sources.specs.DemoRuns.{LastDemoIsLongest, demo_orders, most_demo_orders}
-use Rattle.ed_sources.specs.DemoSources.{words_after}
 use Rattle.ed_sources.proofs.Decimals.{among}
 use Rattle.ed_sources.proofs.DemoFaultless.{lines_behind, lines_with}
 use Rattle.ed_sources.proofs.DemoPlaced.{more_words}
@@ -33,7 +31,7 @@ module _ (symbols : List Definition) where
       ≡ sum_by word_cost (words_after n x) + k
   words_cost zero l x p b g rest k later tail = let e = tail p (omega arith) in e ∙ omega arith
   words_cost (suc n) l x p b g rest k later tail =
-      let other = eq_false p b (omega arith) in
+      let other = ne_eqb p b (omega arith) in
       let none = ap (λ t. sum_by item_cost (heads t b)) other in
       let more =
       words_cost n (l + 1) (next x) (p + 1) b g rest k (omega arith) (λ q at. tail q (omega (arith, at))) in
@@ -48,7 +46,7 @@ module _ (symbols : List Definition) where
       → sum_by item_cost (punched_from symbols (counter p p g) (word_forms (suc n) l x ++ rest))
       ≡ sum_by item_cost (head p) + sum_by word_cost (words_after (suc n) x) + k
   segment_cost n l x p g rest k tail =
-      let first = eq_true p p refl in
+      let first = eq-eqb p p refl in
       let begun = ap (λ t. sum_by item_cost (heads t p)) first in
       let more =
       words_cost n (l + 1) (next x) (p + 1) p g rest k (omega arith) (λ q at. tail q (omega (arith, at))) in
@@ -101,8 +99,8 @@ module _ (words n x l : ℕ) where
 
   number_is : words ≤ 900 → number ≡ 123 + words
   number_is few =
-      let low : nat_lt (123 + words) 0 ≡ false = lt_false (123 + words) 0 (omega arith) in
-      let high : nat_lt 32767 (123 + words) ≡ false = lt_false 32767 (123 + words) (omega arith) in
+      let low : nat_lt (123 + words) 0 ≡ false = le-ltb (123 + words) 0 (omega arith) in
+      let high : nat_lt 32767 (123 + words) ≡ false = le-ltb 32767 (123 + words) (omega arith) in
       rw (low, high) refl
 
   abbrev between : List Item
@@ -136,7 +134,7 @@ module _ (words n x l : ℕ) where
 -- the most orders are those of the greatest number
 pub demo_few : (n : ℕ) → 1 ≤ n → n ≤ 112 → demo_cost n + demo_orders n ≤ most_demo_orders
 demo_few n some few =
-    le_of (demo_cost n + demo_orders n) most_demo_orders
+    leb-true (demo_cost n + demo_orders n) most_demo_orders
     (among (λ k. nat_le (demo_cost k + demo_orders k) most_demo_orders) 1 112 n refl some (omega arith))
 
 pub last_demo_is_longest : LastDemoIsLongest

@@ -1,21 +1,18 @@
 -- The source of `demo` from its entry to its stop.
-use Rattle.ed_sources.proofs.Kit.{◌≡◌, ℕ, zero, suc, ◌+◌, ◌*◌, ◌<◌, ◌≤◌, [], List, ◌∷◌, ◌++◌, map, length, get_or, take}
-use Rattle.ed_sources.proofs.Kit.{Some, None, codes, Option, sym, refl, ap, ◌∙◌, subst, inr, arith, lit≤, locations}
-use Rattle.ed_sources.proofs.Kit.{Text, Size, least, State, state, Line, entry_of, cost, print, with_h, digits}
-use Rattle.ed_sources.proofs.Kit.{print_orders, ComesToStop, entry_state}
-use Rattle.ed_machine.proofs.Kit.Standing.{opens}
-use Rattle.ed_machine.proofs.Kit.Window.{patched}
-use Rattle.ed_routines.proofs.Journeys.{HasRoutine}
-use Rattle.ed_sources.specs.Costs.{demo_cost}
-use Rattle.ed_sources.specs.DemoSources.{demo_sum, demo_words}
+use Rattle.ed_sources.proofs.Kit.{Size, opens, Line, codes, map, None, take, Text, least, HasRoutine, ReachesStop, []}
+use Rattle.ed_sources.proofs.Kit.{ap, arith, get_or, inr, length, List, lit≤, Option, refl, rules, Some, subst, suc}
+use Rattle.ed_sources.proofs.Kit.{sym, zero, ℕ, ◌*◌, ◌++◌, ◌+◌, ◌<◌, ◌∙◌, ◌∷◌, ◌≡◌, ◌≤◌, locations, State, state}
+use Rattle.ed_sources.proofs.Kit.{patched, print, with_h, digits, print_orders, entry_of, cost, entry_state, demo_cost}
+use Rattle.ed_sources.proofs.Kit.{demo_sum}
+use Rattle.ed_sources.specs.DemoSources.{demo_words}
 use Rattle.ed_sources.proofs.AtEntry.{all_words}
+use Rattle.ed_sources.proofs.Blocks.{last_at}
 use Rattle.ed_sources.proofs.Decimals.{decimal_is}
 use Rattle.ed_sources.proofs.DemoCost.{cost_is}
 use Rattle.ed_sources.proofs.DemoFaultless.{lines_with}
 use Rattle.ed_sources.proofs.DemoLoop.{Fine, Given, Turning, at, cells, demo_stops, taking}
-use Rattle.ed_sources.proofs.DemoPlaced.{early_word, entry_is, front, long, print_image, small_sum, stop_word}
+use Rattle.ed_sources.proofs.DemoPlaced.{early_word, entry_is, front, length-long, print_image, small_sum, stop_word}
 use Rattle.ed_sources.proofs.DemoPlaced.{words_stand}
-use Rattle.ed_sources.proofs.Blocks.{last_at}
 use Rattle.ed_sources.proofs.Entries.{frame_at, holds_by, moment_at, routine_by}
 use Rattle.ed_sources.proofs.SaidDemo.{demo_lines, name}
 
@@ -79,12 +76,7 @@ module _ (z : Size) (n : ℕ) (few : n ≤ 111) (fits : 123 + 8 * suc n ≤ loca
   first = record { q = 123; left = 0; scrap = 0; total = 0 }
 
   fine : Fine given (demo_sum (suc n)) first (demo_words (suc n))
-  fine = record {
-    words = words_stand words n (suc n) last_line z few;
-    ends = ap (λ k. 123 + k) (long words n (suc n) last_line);
-    from = lit≤ tt;
-    sums = omega arith;
-  }
+  fine = search (rules, words_stand, length-long)
 
   begins : state given.f (at given 0 0 (taking 123) 0 0) s.orders ≡ s
   begins = λ i. record s {
@@ -92,12 +84,12 @@ module _ (z : Size) (n : ℕ) (few : n ≤ 111) (fits : 123 + 8 * suc n ≤ loca
     counter = sym (entry_is words n (suc n) last_line) i;
   }
 
-  ends_so : ComesToStop (9 * words + (3 + print_orders (demo_sum (suc n)))) s (11 ∷ digits (demo_sum (suc n))) 69
+  ends_so : ReachesStop (9 * words + (3 + print_orders (demo_sum (suc n)))) s (11 ∷ digits (demo_sum (suc n))) 69
   ends_so =
-      let count = long words n (suc n) last_line in
-      subst (λ k. ComesToStop (9 * k + (3 + print_orders (demo_sum (suc n)))) s
+      let count = length-long words n (suc n) last_line in
+      subst (λ k. ReachesStop (9 * k + (3 + print_orders (demo_sum (suc n)))) s
       (11 ∷ digits (demo_sum (suc n))) 69) count
-      (subst (λ (x : State). ComesToStop (9 * length (demo_words (suc n)) + (3 + print_orders (demo_sum (suc n)))) x
+      (subst (λ (x : State). ReachesStop (9 * length (demo_words (suc n)) + (3 + print_orders (demo_sum (suc n)))) x
       (11 ∷ digits (demo_sum (suc n))) 69) begins
       (demo_stops given (demo_sum (suc n)) (sum_small (suc n) (omega arith)) first (demo_words (suc n))
       (omega arith) fine
@@ -115,14 +107,14 @@ demo_entry (suc n) some few =
     subst (λ (ls : List Line). entry_of ls ≡ 56) (named_one n) (entry_is (8 * suc n) n (suc n) (19 + 9 * suc n))
 
 pub demo_ends : (z : Size) (n : ℕ) → 1 ≤ n → n ≤ 112 → 123 + 8 * n ≤ locations z
-    → ComesToStop (72 * n + 3 + print_orders (demo_sum n)) (entry_state z (demo_lines n)) (11 ∷ digits (demo_sum n)) 69
+    → ReachesStop (72 * n + 3 + print_orders (demo_sum n)) (entry_state z (demo_lines n)) (11 ∷ digits (demo_sum n)) 69
 demo_ends z zero some few fits = absurd (omega arith)
 demo_ends z (suc n) some few fits =
     let count : 9 * (8 * suc n) + (3 + print_orders (demo_sum (suc n)))
     ≡ 72 * suc n + 3 + print_orders (demo_sum (suc n)) =
     omega arith in
-    subst (λ k. ComesToStop k (entry_state z (demo_lines (suc n))) (11 ∷ digits (demo_sum (suc n))) 69) count
-    (subst (λ (ls : List Line). ComesToStop (9 * (8 * suc n) + (3 + print_orders (demo_sum (suc n)))) (entry_state z ls)
+    subst (λ k. ReachesStop k (entry_state z (demo_lines (suc n))) (11 ∷ digits (demo_sum (suc n))) 69) count
+    (subst (λ (ls : List Line). ReachesStop (9 * (8 * suc n) + (3 + print_orders (demo_sum (suc n)))) (entry_state z ls)
     (11 ∷ digits (demo_sum (suc n))) 69) (named_one n) (ends_so z n (omega arith) fits))
 
 -- what its tape costs

@@ -1,23 +1,20 @@
 -- The source of `demo` has no fault of meaning, as long as its words are within the store.
-use Rattle.ed_sources.proofs.Kit.{◌≡◌, ℕ, zero, suc, ◌+◌, ◌*◌, ◌≤◌, true, false, [], List, ◌∷◌, ◌++◌, length, nat_lt}
-use Rattle.ed_sources.proofs.Kit.{None, codes, Option, sym, refl, ap, ◌∙◌, subst, arith, locations, Text, Size, Line}
-use Rattle.ed_sources.proofs.Kit.{lt_false, Definition, fault, symbols_of, counter, next, number_after, number_word}
-use Rattle.std.specs.Prelude.{max, min}
+use Rattle.ed_sources.proofs.Kit.{Size, Line, codes, None, Text, LocationCounter, Definition, counter, first_counter}
+use Rattle.ed_sources.proofs.Kit.{fault, symbols_of, [], ap, arith, false, length, List, nat_lt, Option, refl, subst}
+use Rattle.ed_sources.proofs.Kit.{suc, sym, true, zero, ℕ, ◌*◌, ◌++◌, ◌+◌, ◌∙◌, ◌∷◌, ◌≡◌, ◌≤◌, le-ltb, locations, next}
+use Rattle.ed_sources.proofs.Kit.{number_after, number_word}
+use Rattle.ed_link.proofs.Kit.{max, min, resolution, any_enter, cause_of, earlier_fault, extent, fault_from, missing}
 use Rattle.ed_words.specs.declared.size.Size.TheVariants.{Small, Full}
 use Rattle.ed_syntax.specs.declared.fault.SourceFault.{SourceFault}
-use Rattle.ed_syntax.specs.declared.program.Statement.TheVariants as statements
-use Rattle.ed_symbols.specs.declared.location_counter.LocationCounter.{LocationCounter}
-use Rattle.ed_symbols.specs.NameTests.{resolution}
 use Rattle.ed_symbols.specs.Names.{symbols_from}
-use Rattle.ed_symbols.specs.Places.{first_counter}
-use Rattle.ed_link.specs.FaultTests.{any_enter, cause_of, extent, fault_from, missing, sooner}
-use Rattle.ed_link.proofs.Extents.{ExtentList, apart, are_below, fits_store, none_later, one_by_one, one_more, past}
+use Rattle.ed_link.proofs.Extents.{ExtentList, list_any-apart, are_below, fits_store, none_later, one_by_one, one_more, past}
 use Rattle.ed_sources.proofs.Decimals.{decimal_is}
 use Rattle.ed_sources.proofs.DemoNames.{enter_named, first_free, first_homes, program_named, segments_named}
 use Rattle.ed_sources.proofs.DemoNames.{words_named}
+use Rattle.ed_sources.proofs.Said.{said}
 use Rattle.ed_sources.proofs.SaidDemo.{adding_lines, demo_lines, enter_line, name, segment_forms, segment_line}
 use Rattle.ed_sources.proofs.SaidDemo.{word_forms}
-use Rattle.ed_sources.proofs.Said.{said}
+use Rattle.ed_syntax.specs.declared.program.Statement.TheVariants as statements
 
 -- ---- locations
 
@@ -45,17 +42,17 @@ module _ (z : Size) (rest_homes : List Definition) where
   word_sound l w p b g extents inside below =
       let s = fits_store (locations z) p (p + 1) inside.0 inside.1 in
       let loader = s.loader in let parameters = s.parameters in let store = s.store in
-      let others = apart p p (p + 1) extents (omega arith) below in
+      let others = list_any-apart p p (p + 1) extents (omega arith) below in
       rw (loader, parameters, store, others) refl
 
   segment_sound : (l p b g : ℕ) (n : Text) (extents : ExtentList) → are_below p extents ≡ true
       → cause_of z symbols true (past extents) (segment_line l n) (counter p b g) ≡ None
   segment_sound l p b g n extents below =
-      let loader : nat_lt (max p 0) (min p 44) ≡ false = lt_false (max p 0) (min p 44) (omega arith) in
-      let parameters : nat_lt (max p 44) (min p 56) ≡ false = lt_false (max p 44) (min p 56) (omega arith) in
+      let loader : nat_lt (max p 0) (min p 44) ≡ false = le-ltb (max p 0) (min p 44) (omega arith) in
+      let parameters : nat_lt (max p 44) (min p 56) ≡ false = le-ltb (max p 44) (min p 56) (omega arith) in
       let store : nat_lt (max p (locations z)) (min p p) ≡ false =
-      lt_false (max p (locations z)) (min p p) (omega arith) in
-      let others = apart p p p extents (omega arith) below in
+      le-ltb (max p (locations z)) (min p p) (omega arith) in
+      let others = list_any-apart p p p extents (omega arith) below in
       rw (loader, parameters, store, others) refl
 
   words_sound : (n l x : ℕ) {p b g : ℕ} {extents : ExtentList} {rest : List Line} → 56 ≤ p → p + n ≤ locations z
@@ -93,7 +90,7 @@ module _ (z : Size) (rest_homes : List Definition) where
       → AreSound z symbols extents (counter q b g) (enter_line l ∷ [])
   enter_sound l q b g extents below =
       let store : nat_lt (max 56 (locations z)) (min 57 57) ≡ false = within z in
-      let others = apart q q q extents (omega arith) below in
+      let others = list_any-apart q q q extents (omega arith) below in
       record { none = rw (store, others) refl }
     where
       within : (z : Size) → nat_lt (max 56 (locations z)) (min 57 57) ≡ false
@@ -146,9 +143,10 @@ module _ (z : Size) (words n x l : ℕ) (few : n ≤ 111) (near : words ≤ 900)
 
   pub lines_faultless : fault z lines ≡ None
   lines_faultless =
-      (λ i. sooner (named i) (sooner (fault_from z (symbols_of lines) (entered i) (past []) first_counter lines)
+      (λ i. earlier_fault (named i) (earlier_fault (fault_from z (symbols_of lines) (entered i)
+      (past []) first_counter lines)
       (missing (entered i) (length lines))))
-      ∙ ap (λ (f : Option SourceFault). sooner None (sooner f None)) sound
+      ∙ ap (λ (f : Option SourceFault). earlier_fault None (earlier_fault f None)) sound
 
 pub demo_faultless : (z : Size) (n : ℕ) → 1 ≤ n → n ≤ 112 → 123 + 8 * n ≤ locations z → fault z (demo_lines n) ≡ None
 demo_faultless z zero some few fits = absurd (omega arith)

@@ -1,17 +1,17 @@
 -- The program of `demo`, at any base and for any number of words: the loop whose order changes its own address, the
 -- call of `print`, and the stop.
-use Rattle.ed_sources.proofs.Kit.{◌≡◌, ℕ, ◌+◌, ◌-◌, ◌*◌, ◌<◌, ◌≤◌, [], List, ◌∷◌, length, get_or, refl, ◌∙◌, subst, inr}
-use Rattle.ed_sources.proofs.Kit.{arith, lit<, lit≤, sum_by-cons, A_F, G_F, Z_F, short, state, Frame, Moment, print}
-use Rattle.ed_sources.proofs.Kit.{with_h, digits, print_orders, ComesToStop}
-use Rattle.std.specs.Prelude.{sum}
-use Rattle.ed_words.proofs.SizeLemmas.{most}
+use Rattle.ed_sources.proofs.Kit.{sum_by-cons, A_F, G_F, Z_F, HasRoutine, ReachesStop, [], arith, get_or, inr, length}
+use Rattle.ed_sources.proofs.Kit.{List, lit<, lit≤, refl, subst, ℕ, ◌*◌, ◌+◌, ◌-◌, ◌<◌, ◌∙◌, ◌∷◌, ◌≡◌, ◌≤◌, locations_most}
+use Rattle.ed_sources.proofs.Kit.{Frame, Moment, short, state, A, G_jumps, leads, on, Path, stay, own, print, with_h}
+use Rattle.ed_sources.proofs.Kit.{digits, print_orders}
+use Rattle.ed_maths.proofs.Kit.{G_stays, S, T, followed, early, out}
+use Rattle.std.proofs.Common.{sum}
 use Rattle.ed_words.specs.declared.order_words.TheConstants.{S_F, T_F, U_F}
-use Rattle.ed_machine.proofs.Kit.Places.{IsOutside, early, own, out}
-use Rattle.ed_machine.proofs.Kit.Moves.{A, S, T, U, Z, G_jumps, G_stays}
-use Rattle.ed_machine.proofs.Kit.Paths.{Path, stay, on, followed, leads}
 use Rattle.ed_machine.proofs.Kit.Loops.{all_spent, quiet_walks, walked}
+use Rattle.ed_machine.proofs.Kit.Moves.{U, Z}
+use Rattle.ed_machine.proofs.Kit.Places.{IsOutside}
 use Rattle.ed_machine.proofs.Kit.Window.{get_own}
-use Rattle.ed_routines.proofs.Journeys.{HasRoutine, IsIn, along, stop_after, then, to_stop}
+use Rattle.ed_routines.proofs.Journeys.{IsIn, along, stop_after, then, to_stop}
 use Rattle.ed_routines.proofs.Lines.{print_line}
 
 -- the order that adds the word at q
@@ -90,7 +90,8 @@ module _ (given : Given) where
         → Path f 7 (at 0 x.left (taking x.q) x.scrap x.total) []
         (at 7 (taking (x.q + 1)) (taking (x.q + 1)) x.left (x.total + c))
     step x c cs o =
-        let b = most f.size in let fits = f.fits in let long = o.ends in let from = o.from in let second = at2 in
+        let b = locations_most f.size in let fits = f.fits in let long = o.ends in let from =
+        o.from in let second = at2 in
         let here = o.words.0 in let sums = o.sums in let more = sum_by-cons (λ y. y) c cs in let r = room in
         let outside : IsOutside f around.words x.q = record { below = omega arith; beside = inr from } in
         on (T 0 (own 14) _ refl refl)
@@ -105,7 +106,7 @@ module _ (given : Given) where
     turn : (x : Turning) (c : ℕ) (cs : List ℕ) → Fine n x (c ∷ cs)
         → Fine n (next_turn x c cs) cs × Path f 9 (before x (c ∷ cs)) [] (before (next_turn x c cs) cs)
     turn x c [] o =
-        let b = most f.size in let fits = f.fits in let long = o.ends in let r = room in let from = o.from in
+        let b = locations_most f.size in let fits = f.fits in let long = o.ends in let r = room in let from = o.from in
         let is = stop_is in let sums = o.sums in let more = sum_by-cons (λ y. y) c [] in (
           record { words = tt; ends = omega arith; from = omega arith; sums = omega arith },
           followed (step x c [] o)
@@ -113,7 +114,7 @@ module _ (given : Given) where
               (on (G_stays 8 (own 0) refl (lit< tt)) stay)),
         )
     turn x c (d ∷ ds) o =
-        let b = most f.size in let fits = f.fits in let long = o.ends in let r = room in let from = o.from in
+        let b = locations_most f.size in let fits = f.fits in let long = o.ends in let r = room in let from = o.from in
         let is = stop_is in let sums = o.sums in let more = sum_by-cons (λ y. y) c (d ∷ ds) in
         let left : ℕ = 131072 - 2 * length (d ∷ ds) in (
           record { words = o.words.1; ends = omega arith; from = omega arith; sums = omega (arith, more, sums) },
@@ -129,7 +130,7 @@ module _ (given : Given) where
 
     -- the sum is printed after the loop, and the machine stops
     closes : (y : Turning) → y.total ≡ n → (done : ℕ)
-        → ComesToStop (3 + print_orders n) (state f (before y []) done) (11 ∷ digits n) (f.base + 13)
+        → ReachesStop (3 + print_orders n) (state f (before y []) done) (11 ∷ digits n) (f.base + 13)
     closes y is done =
         let start : Moment = at 10 0 (taking y.q) 0 y.total in
         let here : IsIn f start = record { above = above; all = all; own = refl } in
@@ -140,12 +141,12 @@ module _ (given : Given) where
         (lit< tt) small
         (lit≤ tt) refl refl refl in
         let count : 1 + (2 + print_orders n) ≡ 3 + print_orders n = omega arith in
-        subst (λ k. ComesToStop k (state f (before y []) done) (11 ∷ digits n) (f.base + 13)) count
+        subst (λ k. ReachesStop k (state f (before y []) done) (11 ∷ digits n) (f.base + 13)) count
         (to_stop (then (along (on (T 9 (own 14) 0 refl refl) stay)) prints) (Z 12 Z_F refl refl) done)
 
     -- the whole program adds up the words, prints the sum and stops
     pub demo_stops : (x : Turning) (cs : List ℕ) → 0 < length cs → Fine n x cs → (done : ℕ)
-        → ComesToStop (9 * length cs + (3 + print_orders n)) (state f (at 0 x.left (taking x.q) x.scrap x.total) done)
+        → ReachesStop (9 * length cs + (3 + print_orders n)) (state f (at 0 x.left (taking x.q) x.scrap x.total) done)
         (11 ∷ digits n) (f.base + 13)
     demo_stops x [] some o done = absurd (omega arith)
     demo_stops x (c ∷ cs) some o done =

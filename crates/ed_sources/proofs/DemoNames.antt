@@ -1,15 +1,12 @@
 -- The names that the source of `demo` defines are different, and each operand has a value.
-use Rattle.ed_sources.proofs.Kit.{◌≡◌, ℕ, zero, suc, ◌+◌, ◌<◌, ◌≤◌, Bool, true, false, not, [], ◌≢◌, List, ◌∷◌, ◌++◌}
-use Rattle.ed_sources.proofs.Kit.{nat_lt, Some, None, codes, decimal, Option, sym, refl, ap, ◌∙◌, subst, append-nil}
-use Rattle.ed_sources.proofs.Kit.{arith, list_all, and_parts, list_all-append, value, Text, lt_false, Line, Definition}
-use Rattle.ed_sources.proofs.Kit.{digits, next, number_after}
+use Rattle.ed_sources.proofs.Kit.{decimal, not-true, list_all-append, Line, codes, None, not, list_all, and_parts}
+use Rattle.ed_sources.proofs.Kit.{value, Text, LocationCounter, Definition, append-nil, first_counter, [], ap, arith}
+use Rattle.ed_sources.proofs.Kit.{Bool, false, List, nat_lt, Option, refl, rules, Some, subst, suc, sym, true, zero, ℕ}
+use Rattle.ed_sources.proofs.Kit.{◌++◌, ◌+◌, ◌<◌, ◌∙◌, ◌∷◌, ◌≡◌, ◌≤◌, le-ltb, digits, ◌≢◌, next, number_after}
 use Rattle.std.specs.Str.{bytes_eq}
-use Rattle.std.proofs.lemmas.Bool.{not-true}
 use Rattle.std.proofs.lemmas.Slice.Eq.{bytes_eq-Decides}
-use Rattle.ed_symbols.specs.declared.location_counter.LocationCounter.{LocationCounter}
 use Rattle.ed_symbols.specs.NameTests.{naming_fault_from}
 use Rattle.ed_symbols.specs.Names.{definition_of}
-use Rattle.ed_symbols.specs.Places.{first_counter}
 use Rattle.ed_sources.proofs.Decimals.{among, decimal_is, value_is, written}
 use Rattle.ed_sources.proofs.SaidDemo.{adding_lines, enter_line, name, segment_forms, segment_line, word_forms}
 
@@ -27,9 +24,6 @@ no_home segment n (h ∷ symbols) e =
     rw other (no_home segment n symbols p.1)
 
 -- ---- the names of segments
-
-written_name : ℕ → Text
-written_name k = 115 ∷ written (digits k)
 
 abbrev value_behind_s : Text → ℕ
 value_behind_s [] = 0
@@ -75,11 +69,7 @@ first_free j low high =
 
 more_free : (k : ℕ) (symbols : List Definition) (h : Definition) → h.name ≡ name k → k ≤ 112 → IsFree k symbols
     → IsFree (k + 1) (symbols ++ h ∷ [])
-more_free k symbols h is few free = λ j low high.
-    let before : has_none (name j) symbols ≡ true = free j (omega arith) high in
-    let other : bytes_eq h.name (name j) ≡ false =
-    ap (λ (n : Text). bytes_eq n (name j)) is ∙ names_differ k j (omega arith) (omega arith) (omega arith) in
-    list_all-append (λ h. not (bytes_eq h.name (name j))) symbols (h ∷ []) ∙ rw (before, other) refl
+more_free k symbols h is few free = search (rules, bytes_eq, names_differ, list_all-append)
 
 -- ---- no line has one of the faults S6 to S8
 
@@ -131,6 +121,6 @@ module _ (rest_homes : List Definition) where
       → AreNamed symbols first_homes (record { place = 123; base = 123; segments = 3; inside = true }) rest
       → naming_fault_from symbols [] first_counter (adding_lines words ++ segment_line 19 (codes "s1") ∷ rest) ≡ None
   program_named words few behind =
-      let positive : nat_lt (123 + words) 0 ≡ false = lt_false (123 + words) 0 (omega arith) in
-      let near : nat_lt 1023 (123 + words) ≡ false = lt_false 1023 (123 + words) (omega arith) in
+      let positive : nat_lt (123 + words) 0 ≡ false = le-ltb (123 + words) 0 (omega arith) in
+      let near : nat_lt 1023 (123 + words) ≡ false = le-ltb 1023 (123 + words) (omega arith) in
       rw (positive, near) behind.none

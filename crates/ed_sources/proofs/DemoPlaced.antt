@@ -1,13 +1,12 @@
 -- The store at the entry of `demo`: the words of the program and of `print`, and after them the words of all
 -- segments, one after the other.
-use Rattle.ed_sources.proofs.Kit.{◌≡◌, ℕ, zero, suc, ◌+◌, ◌*◌, ◌<◌, ◌≤◌, true, [], List, ◌∷◌, ◌++◌, length, get_or, sym}
-use Rattle.ed_sources.proofs.Kit.{take, nat_eq, codes, unwrap_or, refl, ap, ◌∙◌, inl, arith, lit<, lit≤, list_all, A_F}
-use Rattle.ed_sources.proofs.Kit.{sum_by-cons, Size, short_at, Line, image_word, parameter_store, place_count, entry_of}
-use Rattle.ed_sources.proofs.Kit.{Definition, linked_words, symbols_of, counter, print, with_h, entry_state, next}
-use Rattle.ed_sources.proofs.Kit.{number_after, number_word}
-use Rattle.std.specs.Prelude.{sum}
-use Rattle.ed_link.specs.Linked.{entry_from, placed_words, placed_from}
-use Rattle.ed_sources.specs.DemoSources.{words_after}
+use Rattle.ed_sources.proofs.Kit.{sum_by-cons, A_F, Size, Line, codes, nat_eq, take, list_all, image_word}
+use Rattle.ed_sources.proofs.Kit.{parameter_store, Definition, counter, unwrap_or, linked_words, placed_words}
+use Rattle.ed_sources.proofs.Kit.{symbols_of, [], ap, arith, get_or, inl, length, List, lit<, lit≤, refl, suc, sym}
+use Rattle.ed_sources.proofs.Kit.{true, zero, ℕ, ◌*◌, ◌++◌, ◌+◌, ◌<◌, ◌∙◌, ◌∷◌, ◌≡◌, ◌≤◌, short_at, place_count, print}
+use Rattle.ed_sources.proofs.Kit.{with_h, entry_of, entry_state, next, number_after, number_word, words_after}
+use Rattle.std.proofs.Common.{sum}
+use Rattle.ed_link.specs.Linked.{entry_from, placed_from}
 use Rattle.ed_sources.proofs.AtEntry.{have_places}
 use Rattle.ed_sources.proofs.Blocks.{beside_block, block_places, front_word, in_block, last_at, order_at, rest_word}
 use Rattle.ed_sources.proofs.Decimals.{numbers}
@@ -90,8 +89,8 @@ module _ (words n x l : ℕ) where
   front_places : have_places front ≡ true
   front_places = refl
 
-  pub long : length items ≡ 8 * suc n
-  long = count_words (8 * suc n) x
+  pub length-long : length items ≡ 8 * suc n
+  length-long = count_words (8 * suc n) x
 
   pub print_image : list_all (λ i. nat_eq (unwrap_or (last_at front (72 + i)) 0) (image_word print i 72 (with_h 71)))
       (numbers 0 (place_count print)) ≡ true
@@ -108,7 +107,7 @@ module _ (words n x l : ℕ) where
 
   module _ (z : Size) (few : n ≤ 111) where
     rest_places : have_places (placed_words 123 items) ≡ true
-    rest_places = let count = long in block_places 123 items (omega arith)
+    rest_places = let count = length-long in block_places 123 items (omega arith)
 
     -- a word of the program or of `print`
     pub early_word : (a : ℕ) → 44 ≤ a → a < 123
@@ -122,7 +121,7 @@ module _ (words n x l : ℕ) where
         → k + length cs ≡ length items → StandFrom (entry_state z lines).store.words (123 + k) cs
     stand_from [] k same whole = tt
     stand_from (c ∷ cs) k same whole =
-        let count = long in
+        let count = length-long in
         let next : 123 + k + 1 ≡ 123 + (k + 1) = omega arith in (
           rest_word z lines front (placed_words 123 items) parts front_places rest_places (123 + k) (omega arith)
               (omega arith)

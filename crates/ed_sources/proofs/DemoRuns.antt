@@ -1,18 +1,15 @@
 -- `demo` is the run of its source, from the state at its entry to its stop.
-use Rattle.ed_sources.proofs.Kit.{◌≡◌, ℕ, ◌+◌, ◌*◌, ◌≤◌, [], List, ◌∷◌, ◌++◌, codes, sym, ◌∙◌, subst, arith, Text, Line}
-use Rattle.ed_sources.proofs.Kit.{cost, print_orders, few_digits, at_after, entry_note, AnswersFromEntry, run_outcome}
-use Rattle.ed_sources.proofs.Kit.{demo_text}
-use Rattle.ed_answers.proofs.EachSource.{read_is_accepted}
-use Rattle.ed_sources.specs.DemoSources.{demo_sum}
+use Rattle.ed_sources.proofs.Kit.{Line, codes, Text, few_digits, [], arith, List, subst, sym, ℕ, ◌*◌, ◌++◌, ◌+◌, ◌∙◌}
+use Rattle.ed_sources.proofs.Kit.{◌∷◌, ◌≡◌, ◌≤◌, print_orders, at_after, AnswersFromEntry, read_is_accepted, cost}
+use Rattle.ed_sources.proofs.Kit.{entry_note, run_outcome, accepted_is, each_answer_is_from_entry, demo_sum, demo_text}
+use Rattle.ed_answers.specs.Outcome.{Outcome}
+use Rattle.ed_sources.specs.DemoRuns.{EachDemoRuns}
 use Rattle.ed_sources.proofs.DemoAccepted.{demo_read}
 use Rattle.ed_sources.proofs.DemoCost.{demo_few}
 use Rattle.ed_sources.proofs.DemoEnds.{demo_cost_is, demo_ends, demo_entry, sum_small}
 use Rattle.ed_sources.proofs.DemoFaultless.{demo_faultless}
 use Rattle.ed_sources.proofs.Papers.{digits_printed}
 use Rattle.ed_sources.proofs.SaidDemo.{demo_lines}
-use Rattle.ed_sources.specs.DemoRuns.{EachDemoRuns}
-use Rattle.ed_answers.specs.Outcome.{Outcome}
-use Rattle.ed_answers.proofs.Sources.{accepted_is, each_answer_is_from_entry}
 use Rattle.ed_sources.proofs.Stopped.{stopped_outcome}
 
 -- the outcome of a run that was entered at a location after k orders, and stopped after more

@@ -1,8 +1,7 @@
 -- The text of a source that grows by words and segments.
-use Rattle.ed_sources.proofs.Kit.{◌≡◌, ℕ, zero, suc, ◌+◌, ◌*◌, ◌<◌, [], ◌∷◌, ◌++◌, codes, decimal, sym, refl, ap, ◌∙◌}
-use Rattle.ed_sources.proofs.Kit.{append_assoc, append-nil, arith, Text, text_of_lines, next, number_after, number_word}
-use Rattle.ed_sources.proofs.Kit.{segments, word_lines, demo_text}
-use Rattle.std.proofs.lemmas.Grind.{flat_map-append}
+use Rattle.ed_sources.proofs.Kit.{decimal, flat_map-append, append_assoc, codes, Text, append-nil, [], ap, arith, refl}
+use Rattle.ed_sources.proofs.Kit.{rules, suc, sym, zero, ℕ, ◌*◌, ◌++◌, ◌+◌, ◌<◌, ◌∙◌, ◌∷◌, ◌≡◌, text_of_lines}
+use Rattle.ed_sources.proofs.Kit.{demo_text, next, number_after, number_word, segments, word_lines}
 use Rattle.ed_sources.specs.DemoSources.{adding_text}
 
 -- a line, of those that are left
@@ -45,16 +44,7 @@ pub one_segment : {n m last : ℕ} {with_line with_words whole : Text} (k x : �
     → last ≡ number_after 8 x
     → before ++ text_of_lines (segments n k x) ≡ whole → with_words ++ text_of_lines (segments m (k + 1) last) ≡ whole
 one_segment {m = m} {with_line = with_line} {whole = whole} k x before less line words_are end h =
-    let rest : Text = text_of_lines (segments m (k + 1) (number_after 8 x)) in
-    let words : Text = text_of_lines (word_lines 8 x) in
-    (λ i. words_are i ++ text_of_lines (segments m (k + 1) (end i)))
-    ∙ append_assoc with_line words rest
-    ∙ ap (λ (t : Text). t ++ (words ++ rest)) line
-    ∙ one_line before (codes "segment s" ++ decimal k ++ codes "\n") (codes "segment s" ++ decimal k) (words ++ rest)
-    whole refl
-    (ap (λ (t : Text). before ++ (((codes "segment s" ++ decimal k) ++ 10 ∷ []) ++ t))
-    (sym (flat_map-append (λ line. line ++ 10 ∷ []) (word_lines 8 x) (segments m (k + 1) (number_after 8 x))))
-    ∙ ap (λ j. before ++ text_of_lines (segments j k x)) (sym less) ∙ h)
+    search (rules, append_assoc, one_line, flat_map-append)
 
 pub no_segment : {n : ℕ} {whole : Text} (k x : ℕ) (before : Text) → n ≡ 0 → before
     ++ text_of_lines (segments n k x) ≡ whole
@@ -72,9 +62,4 @@ pub whole_source : {program with_segments with_entry : Text} (n : ℕ) → progr
     → with_segments ≡ program ++ text_of_lines (segments n 1 n) → with_entry ≡ with_segments ++ codes "enter main\n"
     → with_entry ≡ demo_text n
 unfolding demo_text
-whole_source n first second third =
-    let entry : Text = codes "enter main\n" in
-    third ∙ ap (λ (t : Text). t ++ entry) (second ∙ ap (λ (t : Text). t ++ text_of_lines (segments n 1 n)) first)
-    ∙ append_assoc (adding_text (8 * n)) (text_of_lines (segments n 1 n)) entry
-    ∙ ap (λ (t : Text). adding_text (8 * n) ++ t)
-    (sym (flat_map-append (λ line. line ++ 10 ∷ []) (segments n 1 n) (codes "enter main" ∷ [])))
+whole_source n first second third = search (rules, append_assoc, flat_map-append)

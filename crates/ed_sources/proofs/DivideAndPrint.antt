@@ -1,12 +1,11 @@
 -- The source that divides a number and prints the quotient and the remainder, from its entry to its stop.
-use Rattle.ed_sources.proofs.Kit.{◌≡◌, ℕ, ◌+◌, ◌*◌, ◌/◌, ◌%◌, ◌<◌, ◌≤◌, Bool, true, false, [], ◌∷◌, ◌++◌, length, refl}
-use Rattle.ed_sources.proofs.Kit.{◌∙◌, subst, inl, arith, lit<, lit≤, length-replicate, Z_F, Size, least, short_at}
-use Rattle.ed_sources.proofs.Kit.{State, parameter_store, newline, print, with_h, digits, print_orders, divide_orders}
-use Rattle.ed_sources.proofs.Kit.{entry_state, behind, StopsAt}
-use Rattle.std.proofs.Math.Nat.{div-lt_iff_lt-mul, mod-lt}
-use Rattle.ed_maths.specs.Quotients.{IsDivision, divide, dividend, with_hnm}
-use Rattle.ed_library.specs.CallRanges.{IsDivisible}
-use Rattle.ed_sources.proofs.Along.{IsAt, before, entered, has, passed, word_there}
+use Rattle.ed_sources.proofs.Kit.{mod-lt, Z_F, Size, nat_tests, IsDivisible, parameter_store, length-replicate, least}
+use Rattle.ed_sources.proofs.Kit.{[], arith, Bool, false, inl, length, lit<, lit≤, refl, subst, true, ℕ, ◌%◌, ◌*◌}
+use Rattle.ed_sources.proofs.Kit.{◌++◌, ◌+◌, ◌/◌, ◌<◌, ◌∙◌, ◌∷◌, ◌≡◌, ◌≤◌, short_at, State, newline, print, with_h}
+use Rattle.ed_sources.proofs.Kit.{digits, print_orders, divide, IsDivision, with_hnm, divide_orders, dividend}
+use Rattle.ed_sources.proofs.Kit.{entry_state, StopsAt-behind, StopsAt}
+use Rattle.std.proofs.Math.Nat.{div-lt_iff_lt-mul}
+use Rattle.ed_sources.proofs.Along.{IsAt, before, IsAt-entered, has, IsAt-passed, word_there}
 use Rattle.ed_sources.proofs.AtEntry.{has_image, placed, word_at}
 use Rattle.ed_sources.proofs.CalledMaths.{Divides, divides}
 use Rattle.ed_sources.proofs.CalledRoutines.{Passes, newline_passes, print_passes, stopped}
@@ -32,7 +31,7 @@ module _ (z : Size) (high low by : ℕ) (positive : 1 ≤ by) (fits : by ≤ 327
   -- ---- `divide`
 
   at : IsAt z (divide_lines high low by) s 65 68 56
-  at = entered refl
+  at = IsAt-entered refl
 
   divide_image : has_image (placed (divide_lines high low by)) divide 68 (with_hnm 65 66 67) ≡ true
   unfolding parameter_store
@@ -57,20 +56,7 @@ module _ (z : Size) (high low by : ℕ) (positive : 1 ≤ by) (fits : by ≤ 327
   at_by = word_at z (divide_lines high low by) refl 67 (lit≤ tt) (lit< tt)
 
   is_division : IsDivision 68 65 66 67 s
-  is_division =
-      let size = least z in
-      record {
-        high_outside = record { below = omega arith; beside = inl (lit< tt) };
-        low_outside = record { below = omega arith; beside = inl (lit< tt) };
-        by_outside = record { below = omega arith; beside = inl (lit< tt) };
-        high_low = λ e. omega (arith, e);
-        high_by = λ e. omega (arith, e);
-        low_by = λ e. omega (arith, e);
-        positive = rw at_by positive;
-        divisor = rw at_by fits;
-        less = rw (at_high, at_by) less;
-        small = rw at_low small;
-      }
+  is_division = grind (arith, nat_tests, least, at_by, at_high, at_low)
 
   digits_long : length s.store.sandwich ≡ 512
   digits_long = length-replicate {A = Bool} 512 false
@@ -94,7 +80,7 @@ module _ (z : Size) (high low by : ℕ) (positive : 1 ≤ by) (fits : by ≤ 327
   -- ---- `print`, of the quotient
 
   at_print : IsAt z (divide_lines high low by) takes.last 65 109 58
-  at_print = passed at refl takes (lit≤ tt) (lit≤ tt)
+  at_print = IsAt-passed at refl takes (lit≤ tt) (lit≤ tt)
 
   print_image : has_image (placed (divide_lines high low by)) print 110 (with_h 66) ≡ true
   unfolding parameter_store
@@ -112,7 +98,7 @@ module _ (z : Size) (high low by : ℕ) (positive : 1 ≤ by) (fits : by ≤ 327
   -- ---- `newline`
 
   at_newline : IsAt z (divide_lines high low by) prints.last 65 161 60
-  at_newline = passed at_print refl prints (lit≤ tt) (lit≤ tt)
+  at_newline = IsAt-passed at_print refl prints (lit≤ tt) (lit≤ tt)
 
   newline_image : has_image (placed (divide_lines high low by)) newline 162 [] ≡ true
   unfolding parameter_store
@@ -129,7 +115,7 @@ module _ (z : Size) (high low by : ℕ) (positive : 1 ≤ by) (fits : by ≤ 327
   -- ---- `print`, of the remainder
 
   at_last : IsAt z (divide_lines high low by) feeds.last 65 169 62
-  at_last = passed at_newline refl feeds
+  at_last = IsAt-passed at_newline refl feeds
       (lit≤ tt) (lit≤ tt)
 
   last_image : has_image (placed (divide_lines high low by)) print 170 (with_h 65) ≡ true
@@ -158,7 +144,7 @@ module _ (z : Size) (high low by : ℕ) (positive : 1 ≤ by) (fits : by ≤ 327
       let count : dividend 65 66 s / short_at s.store 67 ≡ n / by = λ i. number i / at_by i in
       subst (λ q. StopsAt (2 + divide_orders q + (2 + print_orders (n / by) + (7 + (2 + print_orders (n % by))))) s
       (11 ∷ digits (n / by) ++ 18 ∷ 24 ∷ 11 ∷ digits (n % by)) 64) count
-      (behind takes.leads (behind prints.leads (behind feeds.leads prints_last)))
+      (StopsAt-behind takes.leads (StopsAt-behind prints.leads (StopsAt-behind feeds.leads prints_last)))
 
 -- the same for `call divide N D`
 pub call_ends : (z : Size) (n by : ℕ) → IsDivisible n by

@@ -1,9 +1,9 @@
 -- A program whose words are known at its entry is at its base, by one test.
-use Rattle.ed_sources.proofs.Kit.{◌≡◌, ℕ, ◌+◌, ◌<◌, ◌≤◌, Bool, true, [], ◌⊎◌, List, length, get_or, nat_eq, Some, None}
-use Rattle.ed_sources.proofs.Kit.{Option, unwrap_or, refl, ◌∙◌, arith, list_all, locations, Size, eq_of, least, State}
-use Rattle.ed_sources.proofs.Kit.{short_at, Frame, Moment, placed_at, Line, image_word, place_count, entry_state}
-use Rattle.ed_routines.proofs.Journeys.{HasRoutine}
-use Rattle.ed_machine.proofs.Kit.Standing.{Holds, Meets}
+use Rattle.ed_sources.proofs.Kit.{Size, Line, nat_eq, None, list_all, image_word, unwrap_or, eqb-true, least}
+use Rattle.ed_sources.proofs.Kit.{placed_at, HasRoutine, [], arith, Bool, get_or, length, List, Option, refl, Some}
+use Rattle.ed_sources.proofs.Kit.{true, ℕ, ◌+◌, ◌<◌, ◌∙◌, ◌≡◌, ◌≤◌, ◌⊎◌, locations, short_at, State, Frame, Moment}
+use Rattle.ed_sources.proofs.Kit.{Holds, place_count, entry_state}
+use Rattle.ed_machine.proofs.Kit.Standing.{Meets}
 use Rattle.ed_sources.proofs.AtEntry.{has_image, have_places, placed, word_at}
 use Rattle.ed_sources.proofs.Decimals.{among, numbers}
 
@@ -14,7 +14,7 @@ is_met (Some x) w = nat_eq w x
 
 pub meets_of : (o : Option ℕ) (w : ℕ) → is_met o w ≡ true → Meets o w
 meets_of None w h = tt
-meets_of (Some x) w h = eq_of w x h
+meets_of (Some x) w h = eqb-true w x h
 
 module _ (z : Size) (lines : List Line) where
   -- if the words below a location are known
@@ -46,7 +46,7 @@ module _ (z : Size) (lines : List Line) where
       at2 = refl;
       at3 = refl;
       image = λ i l free. word_is (base + i) (omega arith) (omega arith)
-          ∙ eq_of (unwrap_or (word (base + i)) 0) (image_word r i base parameters)
+          ∙ eqb-true (unwrap_or (word (base + i)) 0) (image_word r i base parameters)
           (among (λ i. nat_eq (unwrap_or (word (base + i)) 0) (image_word r i base parameters)) 0 (place_count r) i test
           (omega arith) (omega arith));
     }

@@ -1,8 +1,8 @@
 -- The sources of calls have no fault of meaning, whatever their numbers are.
-use Rattle.ed_sources.proofs.Kit.{◌≡◌, ℕ, None, refl, Size, fault}
-use Rattle.ed_words.specs.declared.size.Size.TheVariants as size
+use Rattle.ed_sources.proofs.Kit.{Size, None, fault, refl, ℕ, ◌≡◌}
 use Rattle.ed_sources.proofs.Said.{newline_lines, print_lines, read_lines, check_lines}
 use Rattle.ed_sources.proofs.SaidMaths.{divide_lines, root_lines}
+use Rattle.ed_words.specs.declared.size.Size.TheVariants as size
 
 pub print_faultless : (z : Size) (n : ℕ) → fault z (print_lines n) ≡ None
 print_faultless size.Small n = refl

@@ -1,5 +1,5 @@
 mod DemoTexts
-pub mod WovenLines
+pub mod FilledLines
 pub mod TextLines
 pub mod CallTexts
 pub mod Decimals

@@ -1,15 +1,13 @@
 -- The greatest number of orders that a call of each routine takes.
-use Rattle.ed_sources.proofs.Kit.{◌≡◌, ℕ, ◌+◌, ◌*◌, ◌/◌, ◌%◌, ◌<◌, ◌≤◌, ◌||◌, nat_eq, nat_le, refl, inl, inr, arith}
-use Rattle.ed_sources.proofs.Kit.{lit<, lit≤, cases_lt, eq_of, Call, Check, Divide, NewLine, Print, Read, Root, sum}
-use Rattle.ed_sources.proofs.Kit.{before_units, print_orders, few_digits, divide_orders, root_of, root_orders}
-use Rattle.std.proofs.Math.Nat.{mod-lt}
-use Rattle.ed_words.proofs.Numbers.{le_of, or_of}
+use Rattle.ed_sources.proofs.Kit.{mod-lt, nat_eq, nat_le, ◌||◌, leb-true, Call, Check, Divide, NewLine, Print, Read}
+use Rattle.ed_sources.proofs.Kit.{Root, eqb-true, few_digits, arith, inl, inr, lit<, lit≤, refl, rules, ℕ, ◌%◌, ◌*◌}
+use Rattle.ed_sources.proofs.Kit.{◌+◌, ◌/◌, ◌<◌, ◌≡◌, ◌≤◌, print_orders, root_of, root_is, divide_orders, root_orders}
+use Rattle.ed_sources.proofs.Kit.{cases_lt, call_orders, most_call_orders, call_cost}
+use Rattle.std.proofs.lemmas.Bool.{or_cases}
 use Rattle.ed_library.specs.CallRanges.{IsCallInRange}
 use Rattle.ed_maths.specs.Quotients.{ones}
-use Rattle.ed_maths.proofs.Greatest.{root_is}
 use Rattle.ed_maths.proofs.RootCall.{few as below_256}
-use Rattle.ed_sources.specs.Costs.{call_cost}
-use Rattle.ed_sources.specs.CallRuns.{EachMostIsTaken, call_orders, most_call_orders}
+use Rattle.ed_sources.specs.CallRuns.{EachMostIsTaken}
 use Rattle.ed_sources.proofs.Decimals.{among}
 use Rattle.ed_sources.proofs.DivideAndPrint.{quotient_low}
 use Rattle.ed_sources.proofs.PrintOrders.{digits_long, digits_sum, print_few, sum_few}
@@ -23,25 +21,16 @@ remainder_few r small = let digits = digits_sum r in let long = digits_long r in
 
 ones_many : (q : ℕ) → 59990 ≤ q → q < 60000 → 8 ≤ ones 16 q
 unfolding ones
-ones_many q low high = le_of 8 (ones 16 q) (among (λ k. nat_le 8 (ones 16 k)) 59990 10 q refl low high)
+ones_many q low high = leb-true 8 (ones 16 q) (among (λ k. nat_le 8 (ones 16 k)) 59990 10 q refl low high)
 
 quotient_few : (q : ℕ) → q < 65536 → divide_orders q + print_orders q ≤ 554
-quotient_few q small =
-    let digits = digits_sum q in
-    let long = digits_long q in
-    let most = sum_few q small in
-    elim (cases_lt 31 (sum (before_units q))) [
-      | inl more ↦
-          let many = ones_many q (omega (arith, digits, more)) (omega (arith, digits, more)) in
-          omega (arith, long, most, many)
-      | inr few ↦ omega (arith, long, few)
-    ]
+quotient_few q small = search (rules, digits_sum, digits_long, sum_few, cases_lt, ones_many)
 
 -- ---- roots
 
 root_few : (r : ℕ) → r < 256 → root_orders r + print_orders r ≤ 2196
 root_few r small =
-    le_of (root_orders r + print_orders r) 2196
+    leb-true (root_orders r + print_orders r) 2196
     (among (λ k. nat_le (root_orders k + print_orders k) 2196) 0 256 r refl (omega arith) small)
 
 root_of_most : root_of 65535 ≡ 255
@@ -51,10 +40,10 @@ root_of_most =
     let low = below_256 65535 r is (lit< tt) in
     let test =
     among (λ k. nat_eq k 255 || nat_le ((k + 1) * (k + 1)) 65535) 0 256 r refl (omega arith) (omega (arith, low)) in
-    elim (or_of (nat_eq r 255) (nat_le ((r + 1) * (r + 1)) 65535) test) [
-      | inl same ↦ eq_of r 255 same
+    elim (or_cases (nat_eq r 255) (nat_le ((r + 1) * (r + 1)) 65535) test) [
+      | inl same ↦ eqb-true r 255 same
       | inr square ↦
-          let high = le_of ((r + 1) * (r + 1)) 65535 square in
+          let high = leb-true ((r + 1) * (r + 1)) 65535 square in
           let above = is.greatest in
           absurd (omega (arith, high, above))
     ]
@@ -87,11 +76,4 @@ most_orders (Check n) small =
 
 pub each_most_is_taken : EachMostIsTaken
 unfolding ones
-each_most_is_taken = record {
-  print = (lit< tt, refl);
-  read = (lit< tt, refl);
-  newline = (tt, refl);
-  divide = (record { positive = lit≤ tt; divisor = lit≤ tt; less = lit< tt }, refl);
-  root = (lit< tt, rw root_of_most refl);
-  check = (lit< tt, refl);
-}
+each_most_is_taken = search (rules, root_of_most)

@@ -1,29 +1,19 @@
 -- What the teleprinter makes of the digits of a number.
-use Rattle.ed_sources.proofs.Kit.{◌≡◌, ℕ, zero, suc, ◌+◌, ◌<◌, true, [], List, ◌∷◌, ◌++◌, nat_lt, decimal, sym, refl}
-use Rattle.ed_sources.proofs.Kit.{ap, ◌∙◌, append-nil, arith, and_parts, lt_of, paper, digits}
+use Rattle.ed_sources.proofs.Kit.{decimal, and_parts, ltb-true, append-nil, [], ap, List, nat_lt, refl, rules, sym}
+use Rattle.ed_sources.proofs.Kit.{true, ℕ, ◌++◌, ◌+◌, ◌<◌, ◌∙◌, ◌∷◌, ◌≡◌, digits, paper}
 use Rattle.ed_printer.specs.Paper.{paper_from}
 use Rattle.ed_printer.specs.declared.printer.Shift.TheVariants.{Figures}
 use Rattle.ed_sources.proofs.Decimals.{are, are_digits, decimal_is, written}
 
 digit_struck : (d : ℕ) (rest : List ℕ) → d < 10 → paper_from Figures (d ∷ rest) ≡ (48 + d) ∷ paper_from Figures rest
-digit_struck zero rest l = refl
-digit_struck (suc zero) rest l = refl
-digit_struck (suc (suc zero)) rest l = refl
-digit_struck (suc (suc (suc zero))) rest l = refl
-digit_struck (suc (suc (suc (suc zero)))) rest l = refl
-digit_struck (suc (suc (suc (suc (suc zero))))) rest l = refl
-digit_struck (suc (suc (suc (suc (suc (suc zero)))))) rest l = refl
-digit_struck (suc (suc (suc (suc (suc (suc (suc zero))))))) rest l = refl
-digit_struck (suc (suc (suc (suc (suc (suc (suc (suc zero)))))))) rest l = refl
-digit_struck (suc (suc (suc (suc (suc (suc (suc (suc (suc zero))))))))) rest l = refl
-digit_struck (suc (suc (suc (suc (suc (suc (suc (suc (suc (suc d)))))))))) rest l = absurd (omega arith)
+digit_struck d rest l = search rules
 
 digits_struck : (ds rest : List ℕ) → are_digits ds ≡ true
     → paper_from Figures (ds ++ rest) ≡ written ds ++ paper_from Figures rest
 digits_struck [] rest h = refl
 digits_struck (d ∷ ds) rest h =
     let p = and_parts (nat_lt d 10) (are_digits ds) h in
-    digit_struck d (ds ++ rest) (lt_of d 10 p.0) ∙ ap (λ (x : List ℕ). (48 + d) ∷ x) (digits_struck ds rest p.1)
+    digit_struck d (ds ++ rest) (ltb-true d 10 p.0) ∙ ap (λ (x : List ℕ). (48 + d) ∷ x) (digits_struck ds rest p.1)
 
 -- after a figure shift they are the number in decimal, whatever is printed after them
 pub number_shown : (n : ℕ) → n < 65536 → (rest : List ℕ)

@@ -1,7 +1,7 @@
 -- The sources that print a number and a new line, from their entries to their stops.
-use Rattle.ed_sources.proofs.Kit.{◌≡◌, ℕ, ◌+◌, ◌<◌, true, [], ◌∷◌, refl, inl, arith, lit<, lit≤, Size, least, State}
-use Rattle.ed_sources.proofs.Kit.{parameter_store, newline, print, with_h, digits, print_orders, entry_state, StopsAt}
-use Rattle.ed_sources.proofs.Along.{IsAt, before, entered, has}
+use Rattle.ed_sources.proofs.Kit.{Size, parameter_store, least, [], arith, inl, lit<, lit≤, refl, true, ℕ, ◌+◌, ◌<◌}
+use Rattle.ed_sources.proofs.Kit.{◌∷◌, ◌≡◌, State, newline, print, with_h, digits, print_orders, entry_state, StopsAt}
+use Rattle.ed_sources.proofs.Along.{IsAt, before, IsAt-entered, has}
 use Rattle.ed_sources.proofs.AtEntry.{has_image, placed, word_at}
 use Rattle.ed_sources.proofs.CalledRoutines.{newline_passes, print_passes, stopped}
 use Rattle.ed_sources.proofs.Calling.{HasRoutine, IsBefore}
@@ -14,7 +14,7 @@ module _ (z : Size) (n : ℕ) (small : n < 65536) where
   s = entry_state z (print_lines n)
 
   at : IsAt z (print_lines n) s 59 60 56
-  at = entered refl
+  at = IsAt-entered refl
 
   before_print : IsBefore s 56 60
   before_print = before at refl (lit≤ tt) (lit≤ tt) (lit≤ tt) (lit< tt) refl refl
@@ -41,7 +41,7 @@ module _ (z : Size) where
   s0 = entry_state z newline_lines
 
   at_newline : IsAt z newline_lines s0 59 60 56
-  at_newline = entered refl
+  at_newline = IsAt-entered refl
 
   before_newline : IsBefore s0 56 60
   before_newline = before at_newline refl (lit≤ tt) (lit≤ tt) (lit≤ tt) (lit< tt) refl refl

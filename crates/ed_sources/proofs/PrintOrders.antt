@@ -1,7 +1,6 @@
 -- `print` takes few orders.
-use Rattle.ed_sources.proofs.Kit.{ℕ, zero, suc, ◌+◌, ◌/◌, ◌%◌, ◌<◌, ◌≤◌, [], List, ◌∷◌, length, arith, before_units}
-use Rattle.ed_sources.proofs.Kit.{print_orders, sum, tens}
-use Rattle.ed_routines.specs.Digits.{without_zeros}
+use Rattle.ed_sources.proofs.Kit.{before_units, tens, [], arith, length, List, suc, zero, ℕ, ◌%◌, ◌+◌, ◌/◌, ◌<◌, ◌∷◌}
+use Rattle.ed_sources.proofs.Kit.{◌≤◌, print_orders, sum, without_zeros}
 
 less_sum : (ds : List ℕ) → sum (without_zeros ds) ≤ sum ds
 less_sum [] = omega arith

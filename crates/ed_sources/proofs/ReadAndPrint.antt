@@ -1,12 +1,9 @@
 -- The source that reads a number and prints it, from its entry to its stop.
-use Rattle.ed_sources.proofs.Kit.{◌≡◌, ℕ, ◌+◌, ◌*◌, ◌%◌, ◌^◌, ◌<◌, true, [], List, ◌∷◌, ◌++◌, length, nat_lt, refl, ap}
-use Rattle.ed_sources.proofs.Kit.{◌∙◌, subst, inl, append-nil, arith, lit<, lit≤, and_parts, Z_F, Size, least, short_at}
-use Rattle.ed_sources.proofs.Kit.{State, parameter_store, print, with_h, digits, print_orders, entry_state, behind}
-use Rattle.ed_sources.proofs.Kit.{StopsAt}
-use Rattle.ed_routines.specs.Catalogue.{read}
-use Rattle.ed_routines.specs.Digits.{after_digits, digit_rows, digits_value}
-use Rattle.ed_routines.proofs.Digits.{digits_law}
-use Rattle.ed_sources.proofs.Along.{IsAt, before, entered, has, passed, word_there}
+use Rattle.ed_sources.proofs.Kit.{Z_F, Size, and_parts, parameter_store, append-nil, least, digits_law, [], ap, arith}
+use Rattle.ed_sources.proofs.Kit.{inl, length, List, lit<, lit≤, nat_lt, refl, subst, true, ℕ, ◌%◌, ◌*◌, ◌++◌, ◌+◌}
+use Rattle.ed_sources.proofs.Kit.{◌<◌, ◌^◌, ◌∙◌, ◌∷◌, ◌≡◌, short_at, State, print, read, with_h, after_digits}
+use Rattle.ed_sources.proofs.Kit.{digit_rows, digits, digits_value, print_orders, entry_state, StopsAt-behind, StopsAt}
+use Rattle.ed_sources.proofs.Along.{IsAt, before, IsAt-entered, has, IsAt-passed, word_there}
 use Rattle.ed_sources.proofs.AtEntry.{has_image, placed}
 use Rattle.ed_sources.proofs.CalledRoutines.{Passes, ReadsNumber, print_passes, reads, stopped}
 use Rattle.ed_sources.proofs.Calling.{HasRoutine, IsBefore}
@@ -30,7 +27,7 @@ module _ (z : Size) (n : ℕ) (small : n < 65536) where
   -- ---- `read`
 
   at : IsAt z (read_lines n) s 61 62 56
-  at = entered refl
+  at = IsAt-entered refl
 
   before_read : IsBefore s 56 62
   before_read = before at refl (lit≤ tt) (lit≤ tt) (lit≤ tt) (lit< tt) refl refl
@@ -69,7 +66,7 @@ module _ (z : Size) (n : ℕ) (small : n < 65536) where
   -- ---- `print`
 
   at_print : IsAt z (read_lines n) takes.last 61 86 58
-  at_print = passed at refl takes (lit≤ tt) (lit≤ tt)
+  at_print = IsAt-passed at refl takes (lit≤ tt) (lit≤ tt)
 
   before_print : IsBefore takes.last 58 86
   before_print = before at_print refl (lit≤ tt) (lit≤ tt) (lit≤ tt) (lit< tt) refl refl
@@ -93,4 +90,4 @@ module _ (z : Size) (n : ℕ) (small : n < 65536) where
   pub read_ends : StopsAt (2 + (11 + 13 * length (digits n)) + (2 + print_orders n)) s (11 ∷ digits n) 60
   read_ends =
       subst (λ (ds : List ℕ). StopsAt (2 + (11 + 13 * length ds) + (2 + print_orders n)) s (11 ∷ digits n) 60) rows
-      (behind takes.leads prints)
+      (StopsAt-behind takes.leads prints)

@@ -1,11 +1,9 @@
 -- The source that takes a square root and prints it, from its entry to its stop.
-use Rattle.ed_sources.proofs.Kit.{◌≡◌, ℕ, ◌+◌, ◌<◌, true, [], ◌∷◌, refl, inl, arith, lit<, lit≤, Z_F, Size, least}
-use Rattle.ed_sources.proofs.Kit.{short_at, State, parameter_store, print, with_h, digits, print_orders, root_of}
-use Rattle.ed_sources.proofs.Kit.{root_orders, entry_state, behind, StopsAt}
-use Rattle.ed_maths.specs.Roots.{IsRoot, root, with_hn}
-use Rattle.ed_maths.proofs.Greatest.{root_is}
+use Rattle.ed_sources.proofs.Kit.{Z_F, Size, parameter_store, least, [], arith, inl, lit<, lit≤, refl, true, ℕ, ◌+◌}
+use Rattle.ed_sources.proofs.Kit.{◌<◌, ◌∷◌, ◌≡◌, short_at, State, print, with_h, digits, print_orders, root, root_of}
+use Rattle.ed_sources.proofs.Kit.{with_hn, root_is, IsRoot, root_orders, entry_state, StopsAt-behind, StopsAt}
 use Rattle.ed_maths.proofs.RootCall.{few}
-use Rattle.ed_sources.proofs.Along.{IsAt, before, entered, has, passed, word_there}
+use Rattle.ed_sources.proofs.Along.{IsAt, before, IsAt-entered, has, IsAt-passed, word_there}
 use Rattle.ed_sources.proofs.AtEntry.{has_image, placed}
 use Rattle.ed_sources.proofs.CalledMaths.{TakesRoot, takes_root}
 use Rattle.ed_sources.proofs.CalledRoutines.{Passes, print_passes, stopped}
@@ -25,7 +23,7 @@ module _ (z : Size) (n : ℕ) (small : n < 65536) where
   -- ---- `root`
 
   at : IsAt z (root_lines n) s 62 64 56
-  at = entered refl
+  at = IsAt-entered refl
 
   root_image : has_image (placed (root_lines n)) root 64 (with_hn 61 62) ≡ true
   unfolding parameter_store
@@ -58,7 +56,7 @@ module _ (z : Size) (n : ℕ) (small : n < 65536) where
   -- ---- `print`
 
   at_print : IsAt z (root_lines n) takes.last 62 87 58
-  at_print = passed at refl takes (lit≤ tt) (lit≤ tt)
+  at_print = IsAt-passed at refl takes (lit≤ tt) (lit≤ tt)
 
   print_image : has_image (placed (root_lines n)) print 88 (with_h 62) ≡ true
   unfolding parameter_store
@@ -83,4 +81,4 @@ module _ (z : Size) (n : ℕ) (small : n < 65536) where
       (lit≤ tt) (lit< tt) refl)
 
   pub root_ends : StopsAt (2 + root_orders r + (2 + print_orders r)) s (11 ∷ digits r) 60
-  root_ends = behind takes.leads prints
+  root_ends = StopsAt-behind takes.leads prints

@@ -1,27 +1,19 @@
 -- What the lines of the sources of calls say.
-use Rattle.ed_sources.proofs.Kit.{◌≡◌, ℕ, ◌+◌, ◌<◌, ◌≤◌, Bool, true, false, not, [], List, ◌∷◌, ◌++◌, map, length, ◌==◌}
-use Rattle.ed_sources.proofs.Kit.{nat_le, Some, None, Ok, codes, decimal, Option, sym, refl, ap, ◌∙◌, subst, append-nil}
-use Rattle.ed_sources.proofs.Kit.{append_assoc, arith, lit≤, length-append, list_all, and_parts, length-map, value}
-use Rattle.ed_sources.proofs.Kit.{list_all-append, Text, lt_false, is_run_byte, is_line_byte, settings, parts_of, Line}
-use Rattle.ed_sources.proofs.Kit.{line_of, Statement, Check, NewLine, Print, Read, digits}
-use Rattle.std.proofs.Common.{pos}
-use Rattle.std.proofs.lemmas.Bool.{not-true}
-use Rattle.std.proofs.lemmas.List.{map-append}
-use Rattle.ed_words.proofs.Numbers.{le_true}
-use Rattle.ed_codes.specs.Spelling.{row_of}
-use Rattle.ed_words.specs.Decimals.{is_digit}
-use Rattle.ed_syntax.specs.Parts.{LinePart, run, sign, quoted, array, is_number, modulo}
-use Rattle.ed_syntax.specs.Names.{is_name}
-use Rattle.ed_syntax.specs.Reading.Parts.{parts_from}
-use Rattle.ed_syntax.specs.Reading.Grammar.{form_at, row, spells}
-use Rattle.ed_syntax.specs.declared.program.Operand.TheVariants as operands
+use Rattle.ed_sources.proofs.Kit.{decimal, not-true, list_all-append, row, spells, Line, Statement, append_assoc}
+use Rattle.ed_sources.proofs.Kit.{codes, length-append, map, nat_le, None, not, Ok, pos, list_all, and_parts, le-leb}
+use Rattle.ed_sources.proofs.Kit.{nat_tests, length-map, is_digit, value, Text, row_of, is_run_byte, is_line_byte}
+use Rattle.ed_sources.proofs.Kit.{is_number, LinePart, run, sign, form_at, settings, parts_of, line_of, run_parts}
+use Rattle.ed_sources.proofs.Kit.{Check, NewLine, Print, Read, append-nil, ne_eqb, [], ap, arith, Bool, false, length}
+use Rattle.ed_sources.proofs.Kit.{List, lit≤, Option, refl, rules, Some, subst, sym, true, ℕ, ◌++◌, ◌+◌, ◌<◌, ◌==◌}
+use Rattle.ed_sources.proofs.Kit.{◌∙◌, ◌∷◌, ◌≡◌, ◌≤◌, digits}
+use Rattle.ed_syntax.proofs.Kit.{map-append, is_place_name, array, modulo, quoted, parts_from}
 use Rattle.ed_syntax.specs.declared.program.Setting.{Setting}
-use Rattle.ed_syntax.specs.declared.program.Statement.TheVariants as statements
-use Rattle.ed_syntax.proofs.PartLemmas.{run_parts}
 use Rattle.ed_sources.proofs.CallTexts.{call_lines}
-use Rattle.ed_sources.proofs.TextLines.{Says, ends, says, by_parts}
 use Rattle.ed_sources.proofs.Decimals.{are, are_digits, decimal_is, digit_bytes, few_bytes, line_bytes, no_quotes}
 use Rattle.ed_sources.proofs.Decimals.{row_bytes, rows_are, run_bytes, some_digit, value_is, written}
+use Rattle.ed_sources.proofs.TextLines.{Says, ends, says, by_parts}
+use Rattle.ed_syntax.specs.declared.program.Operand.TheVariants as operands
+use Rattle.ed_syntax.specs.declared.program.Statement.TheVariants as statements
 
 -- ---- lines
 
@@ -128,87 +120,71 @@ a_number (b ∷ r) some h = h
 
 -- what the front of a line that ends with `word N` makes of the line, whatever follows: its label and the parts
 -- before `word`
-pub record IsWordFront (k : ℕ) (front : Text) (label : Option Text) (before : List LinePart) : Type 0 where
+pub record IsWordFront (two : Bool) (k : ℕ) (front : Text) (label : Option Text) (before : List LinePart) : Type 0 where
   pub plain : (bytes : Text) → list_all is_line_byte bytes ≡ true → list_all is_line_byte (front ++ bytes) ≡ true
   pub short : length front ≤ 20
   pub parts : (bytes : Text) → parts_of bytes ≡ Some (run bytes ∷ [])
       → parts_of (front ++ bytes) ≡ Some (before ++ run (codes "word") ∷ run bytes ∷ [])
   pub form : (bytes : Text) → is_number bytes ≡ true → nat_le (value bytes) 131071 ≡ true
-      → form_at false k (before ++ run (codes "word") ∷ run bytes ∷ [])
+      → form_at two k (before ++ run (codes "word") ∷ run bytes ∷ [])
       ≡ Some (Some (record { label = label; statement = Some (statements.Number (modulo 17 (pos (value bytes)))) }))
 
 -- the parts of a label
 abbrev pub label_parts : Text → List LinePart
 label_parts label = run label ∷ sign 58 ∷ []
 
-module _ {k : ℕ} {front : Text} {label : Option Text} {before : List LinePart}
-    (is_front : IsWordFront k front label before) where
+module _ {two : Bool} {k : ℕ} {front : Text} {label : Option Text} {before : List LinePart}
+    (is_front : IsWordFront two k front label before) where
   word_line : (bytes : Text) (n : ℕ) → list_all is_line_byte bytes ≡ true → length bytes ≤ 5
       → parts_of bytes ≡ Some (run bytes ∷ [])
       → is_number bytes ≡ true → value bytes ≡ n → n < 65536
-      → line_of false k (front ++ bytes) ≡ Ok (record { label = label; statement = Some (statements.Number n) })
-  word_line bytes n plain few parts number is small =
-      let long = length-append front bytes in
-      let short = is_front.short in
-      let same : modulo 17 (pos (value bytes)) ≡ n = omega (arith, is, small) in
-      by_parts k (front ++ bytes) (before ++ run (codes "word") ∷ run bytes ∷ []) (is_front.plain bytes plain)
-      (lt_false 120 (length (front ++ bytes)) (omega (arith, long, few)))
-      (is_front.parts bytes parts)
-      (is_front.form bytes number (le_true (value bytes) 131071 (omega (arith, is, small)))
-      ∙ ap (λ m. Some (Some (record { label = label; statement = Some (statements.Number m) }))) same)
+      → line_of two k (front ++ bytes) ≡ Ok (record { label = label; statement = Some (statements.Number n) })
+  word_line bytes n plain few parts number is small = grind (arith, nat_tests, length-append, by_parts, le-leb)
 
   pub word_says : (n : ℕ) → n < 65536
-      → line_of false k (front ++ decimal n) ≡ Ok (record { label = label; statement = Some (statements.Number n) })
+      → line_of two k (front ++ decimal n) ≡ Ok (record { label = label; statement = Some (statements.Number n) })
   word_says n small =
       let ds : List ℕ = digits n in
-      let few = few_bytes n small in
       let some : 0 < length (written ds) = let e = some_digit n in omega (arith, length-map ds (λ d. 48 + d), e) in
-      subst (λ (bytes : Text). line_of false k (front ++ bytes) ≡ Ok (record {
+      subst (λ (bytes : Text). line_of two k (front ++ bytes) ≡ Ok (record {
         label = label;
         statement = Some (statements.Number n);
       }))
       (decimal_is n small)
-      (word_line (written ds) n (line_bytes ds (are n small)) few
+      (word_line (written ds) n (line_bytes ds (are n small)) (few_bytes n small)
       (number_parts (written ds) some (run_bytes ds (are n small)))
       (a_number (written ds) some (digit_bytes ds (are n small))) (value_is n small) small)
 
-  -- the same in a woven text
-  pub woven_says : (n : ℕ) → n < 65536
-      → line_of false k (front ++ (decimal n ++ []))
+  -- the same in a filled text
+  pub filled_says : (n : ℕ) → n < 65536
+      → line_of two k (front ++ (decimal n ++ []))
       ≡ Ok (record { label = label; statement = Some (statements.Number n) })
-  woven_says n small = ap (λ (t : Text). line_of false k (front ++ t)) (append-nil (decimal n)) ∙ word_says n small
+  filled_says n small = ap (λ (t : Text). line_of two k (front ++ t)) (append-nil (decimal n)) ∙ word_says n small
+
+-- `word` alone, after the first line
+pub plain_front : (two : Bool) (k : ℕ) → 2 ≤ k → IsWordFront two k (codes "word ") None []
+plain_front two k later = search (rules, ne_eqb)
 
 -- a label that is a name, and `word`
-pub named_front : (k : ℕ) (label : Text) → (k == 1) ≡ false → is_name label ≡ true → length label ≤ 8
-    → list_all is_run_byte label ≡ true → list_all is_line_byte label ≡ true
-    → IsWordFront k (label ++ codes ": word ") (Some label) (label_parts label)
-named_front k [] later named few runs plain = cc
-named_front k (b ∷ bs) later named few runs plain =
-    let label : Text = b ∷ bs in
-    let mark : Text = codes ": word " in
-    record {
-      plain = λ bytes h.
-          list_all-append is_line_byte (label ++ mark) bytes
-          ∙ rw (list_all-append is_line_byte label mark, plain, h) refl;
-      short = let long = length-append label mark in omega (arith, long, few);
-      parts = λ bytes h.
-          ap parts_of (append_assoc label mark bytes) ∙ run_parts b bs (mark ++ bytes) runs refl ∙ rw h refl;
-      form = λ bytes number in_range. rw (later, named, number, in_range) refl;
-    }
+pub named_front : (two : Bool) (k : ℕ) (label : Text) → (k == 1) ≡ false → is_place_name two label ≡ true
+    → length label ≤ 13 → list_all is_run_byte label ≡ true → list_all is_line_byte label ≡ true
+    → IsWordFront two k (label ++ codes ": word ") (Some label) (label_parts label)
+named_front two k label later named few runs plain =
+    search (rules, list_all-append, length-append, append_assoc, run_parts)
 
-value_front : IsWordFront 5 (codes "value: word ") (Some (codes "value")) (label_parts (codes "value"))
-value_front = named_front 5 (codes "value") refl refl (lit≤ tt) refl refl
+value_front : IsWordFront false 5 (codes "value: word ") (Some (codes "value")) (label_parts (codes "value"))
+value_front = named_front false 5 (codes "value") refl refl (lit≤ tt) refl refl
 
-pub print_says : (n : ℕ) → n < 65536 → Says 1 (call_lines (Print n)) (print_lines n)
+pub print_says : (n : ℕ) → n < 65536 → Says false 1 (call_lines (Print n)) (print_lines n)
 print_says n small = says refl
-    (says refl (says refl (says refl (says (woven_says value_front n small) (says print_used (says refl ends))))))
+    (says refl (says refl (says refl (says (filled_says value_front n small) (says print_used (says refl ends))))))
 
-pub check_says : (n : ℕ) → n < 65536 → Says 1 (call_lines (Check n)) (check_lines n)
+pub check_says : (n : ℕ) → n < 65536 → Says false 1 (call_lines (Check n)) (check_lines n)
 check_says n small =
     says refl (says refl (says refl
-    (says refl (says (woven_says value_front n small) (says print_used (says check_used (says refl ends)))))))
+    (says refl (says (filled_says value_front n small) (says print_used (says check_used (says refl ends)))))))
 
-pub newline_says : Says 1 (call_lines NewLine) newline_lines
+pub newline_says : Says false 1 (call_lines NewLine) newline_lines
 newline_says = says refl (says refl (says refl (says refl (says refl (says refl ends)))))
 
 -- ---- the line with the rows of a number
@@ -246,14 +222,14 @@ rows_line ds are few =
     let all_long = length-append bytes (70 ∷ 34 ∷ []) in
     let plain : list_all is_line_byte (bytes ++ 70 ∷ 34 ∷ []) ≡ true = with_end bytes (line_bytes ds are) in
     let long = length-append bytes (70 ∷ []) in
-    let some = le_true 1 (length quote) (omega (arith, long)) in
-    let fits = le_true (length quote) 120 (omega (arith, long, few)) in
+    let some = le-leb 1 (length quote) (omega (arith, long)) in
+    let fits = le-leb (length quote) 120 (omega (arith, long, few)) in
     let spelled : list_all (λ b. spells (row_of b)) quote ≡ true =
     with_F (λ b. spells (row_of b)) bytes (row_bytes ds are) refl in
     let rows : map (λ b. row (row_of b)) quote ≡ ds ++ 17 ∷ [] =
     map-append (λ b. row (row_of b)) bytes (70 ∷ []) ∙ ap (λ (x : List ℕ). x ++ 17 ∷ []) (rows_are ds are) in
-    by_parts 11 (codes "data " ++ 34 ∷ bytes ++ 70 ∷ 34 ∷ []) (run (codes "data") ∷ quoted quote ∷ []) plain
-    (lt_false 120 _ (omega (arith, all_long, few)))
+    by_parts false 11 (codes "data " ++ 34 ∷ bytes ++ 70 ∷ 34 ∷ []) (run (codes "data") ∷ quoted quote ∷ []) plain
+    (omega (arith, all_long, few))
     (rw (quoted_digits [] ds (no_quotes ds are)) refl)
     (rw (some, fits, spelled)
     (ap (λ (x : List ℕ). Some (Some (record { label = None; statement = Some (statements.Rows (array x)) }))) rows))
@@ -266,7 +242,7 @@ read_number n small =
     ≡ Ok (record { label = None; statement = Some (statements.Rows (array (digits n ++ 17 ∷ []))) }))
     (decimal_is n small) (rows_line (digits n) (are n small) (few_bytes n small))
 
-pub read_says : (n : ℕ) → n < 65536 → Says 1 (call_lines (Read n)) (read_lines n)
+pub read_says : (n : ℕ) → n < 65536 → Says false 1 (call_lines (Read n)) (read_lines n)
 read_says n small =
     says refl (says refl (says refl
     (says refl (says refl (says refl (says refl (says read_used (says print_used_too (says refl

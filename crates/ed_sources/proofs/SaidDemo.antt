@@ -1,23 +1,19 @@
 -- What the lines of the source of `demo` say.
-use Rattle.ed_sources.proofs.Kit.{◌≡◌, ℕ, zero, suc, ◌+◌, ◌*◌, ◌<◌, ◌≤◌, true, false, [], List, ◌∷◌, ◌++◌, length, ◌==◌}
-use Rattle.ed_sources.proofs.Kit.{nat_le, Some, None, Ok, codes, decimal, sym, refl, ap, ◌∙◌, subst, arith, lit≤, value}
-use Rattle.ed_sources.proofs.Kit.{length-append, list_all, length-map, list_all-append, Text, eq_false, lt_false, Line}
-use Rattle.ed_sources.proofs.Kit.{is_run_byte, is_line_byte, settings, parts_of, line_of, Statement, digits, next}
-use Rattle.ed_sources.proofs.Kit.{number_after, number_word, segments, word_lines}
-use Rattle.std.proofs.Common.{pos}
-use Rattle.ed_words.proofs.Numbers.{le_true}
-use Rattle.ed_syntax.specs.Parts.{run, sign, is_number}
+use Rattle.ed_sources.proofs.Kit.{decimal, list_all-append, Line, Statement, codes, length-append, None, Ok, pos}
+use Rattle.ed_sources.proofs.Kit.{list_all, le-leb, length-map, value, Text, is_run_byte, is_line_byte, is_number, run}
+use Rattle.ed_sources.proofs.Kit.{sign, settings, parts_of, line_of, run_parts, ne_eqb, [], ap, arith, false, length}
+use Rattle.ed_sources.proofs.Kit.{List, lit≤, refl, rules, Some, subst, suc, sym, true, zero, ℕ, ◌*◌, ◌++◌, ◌+◌, ◌<◌}
+use Rattle.ed_sources.proofs.Kit.{◌==◌, ◌∙◌, ◌∷◌, ◌≡◌, ◌≤◌, digits, adding_pieces, next, number_after, number_word}
+use Rattle.ed_sources.proofs.Kit.{segments, word_lines}
 use Rattle.ed_syntax.specs.Names.{is_name}
-use Rattle.ed_syntax.specs.declared.program.Operand.TheVariants as operands
-use Rattle.ed_syntax.specs.declared.program.Statement.TheVariants as statements
-use Rattle.ed_syntax.proofs.PartLemmas.{run_parts}
-use Rattle.ed_sources.specs.DemoSources.{adding_pieces}
-use Rattle.ed_sources.proofs.WovenLines.{woven_lines}
 use Rattle.ed_sources.proofs.Decimals.{are, decimal_is, digit_bytes, few_bytes, line_bytes, run_bytes, some_digit}
 use Rattle.ed_sources.proofs.Decimals.{value_is, written}
-use Rattle.ed_sources.proofs.Said.{IsWordFront, a_number, number_parts, order, said, stop, word_says}
+use Rattle.ed_sources.proofs.FilledLines.{filled_lines}
+use Rattle.ed_sources.proofs.Said.{a_number, number_parts, order, plain_front, said, stop, word_says}
 use Rattle.ed_sources.proofs.SaidMaths.{use_print}
 use Rattle.ed_sources.proofs.TextLines.{Says, ends, says, by_parts}
+use Rattle.ed_syntax.specs.declared.program.Operand.TheVariants as operands
+use Rattle.ed_syntax.specs.declared.program.Statement.TheVariants as statements
 
 -- ---- lines
 
@@ -77,22 +73,13 @@ demo_lines n = adding_lines (8 * n) ++ segment_forms n 1 19 n ++ enter_line (19 
 
 -- ---- words and segments
 
-word_front : (l : ℕ) → 2 ≤ l → IsWordFront l (codes "word ") None []
-word_front l second = record {
-  plain = λ bytes h. h;
-  short = lit≤ tt;
-  parts = λ bytes h. rw h refl;
-  form = λ bytes number in_range.
-      let first : (l == 1) ≡ false = eq_false l 1 (omega (arith, second)) in rw (first, number, in_range) refl;
-}
-
-words_say : (n l x : ℕ) {rest : List Text} {program : List Line} → 2 ≤ l → Says (l + n) rest program
-    → Says l (word_lines n x ++ rest) (word_forms n l x ++ program)
-words_say zero l x {rest} {program} second tail = subst (λ j. Says j rest program) (omega arith) tail
+words_say : (n l x : ℕ) {rest : List Text} {program : List Line} → 2 ≤ l → Says false (l + n) rest program
+    → Says false l (word_lines n x ++ rest) (word_forms n l x ++ program)
+words_say zero l x {rest} {program} second tail = subst (λ j. Says false j rest program) (omega arith) tail
 words_say (suc n) l x {rest} {program} second tail =
     let e : l + suc n ≡ l + 1 + n = omega arith in
-    says (word_says (word_front l second) (number_word (next x)) (omega arith))
-    (words_say n (l + 1) (next x) (omega arith) (subst (λ j. Says j rest program) e tail))
+    says (word_says (plain_front false l second) (number_word (next x)) (omega arith))
+    (words_say n (l + 1) (next x) (omega arith) (subst (λ j. Says false j rest program) e tail))
 
 -- a line that begins a segment, by what comes after the s of its name
 segment_says_of : (l : ℕ) (text bytes : Text) → text ≡ 115 ∷ bytes → 2 ≤ l → list_all is_line_byte bytes ≡ true
@@ -105,14 +92,14 @@ segment_says_of l text bytes is second plain few runs =
     let here : list_all is_line_byte text ≡ true = ap (list_all is_line_byte) is ∙ plain in
     let all : list_all is_run_byte text ≡ true = ap (list_all is_run_byte) is ∙ runs in
     let named : is_name text ≡ true = ap is_name is ∙ name_of bytes few runs in
-    let first : (l == 1) ≡ false = eq_false l 1 (omega (arith, second)) in
-    by_parts l (codes "segment " ++ text) (run (codes "segment") ∷ run text ∷ []) here
-    (lt_false 120 (length (codes "segment " ++ text)) (omega (arith, long, few, length-append (codes "segment ") text)))
+    let first : (l == 1) ≡ false = ne_eqb l 1 (omega (arith, second)) in
+    by_parts false l (codes "segment " ++ text) (run (codes "segment") ∷ run text ∷ []) here
+    (omega (arith, long, few, length-append (codes "segment ") text))
     (let p = number_parts text (omega (arith, long)) all in rw p refl)
     (rw (first, named) refl)
   where
     name_of : (bytes : Text) → length bytes ≤ 5 → list_all is_run_byte bytes ≡ true → is_name (115 ∷ bytes) ≡ true
-    name_of bytes few runs = let short = le_true (length bytes) 15 (omega (arith, few)) in rw (short, runs) refl
+    name_of bytes few runs = let short = le-leb (length bytes) 15 (omega (arith, few)) in rw (short, runs) refl
 
 segment_says : (l k : ℕ) → 2 ≤ l → k < 65536
     → line_of false l (codes "segment s" ++ decimal k)
@@ -122,19 +109,19 @@ segment_says l k second small =
     (line_bytes (digits k) (are k small)) (few_bytes k small) (run_bytes (digits k) (are k small))
 
 segments_say : (n k l x : ℕ) {rest : List Text} {program : List Line} → 2 ≤ l → k + n ≤ 65536
-    → Says (l + 9 * n) rest program
-    → Says l (segments n k x ++ rest) (segment_forms n k l x ++ program)
-segments_say zero k l x {rest} {program} second few tail = subst (λ j. Says j rest program) (omega arith) tail
+    → Says false (l + 9 * n) rest program
+    → Says false l (segments n k x ++ rest) (segment_forms n k l x ++ program)
+segments_say zero k l x {rest} {program} second few tail = subst (λ j. Says false j rest program) (omega arith) tail
 segments_say (suc n) k l x {rest} {program} second few tail =
     let behind_words : l + 1 + 8 ≡ l + 9 = omega arith in
     let last : l + 9 * suc n ≡ l + 9 + 9 * n = omega arith in
     says (segment_says l k second (omega arith))
     (words_say 8 (l + 1) x (omega arith)
-    (subst (λ j. Says j (segments n (k + 1) (number_after 8 x) ++ rest)
+    (subst (λ j. Says false j (segments n (k + 1) (number_after 8 x) ++ rest)
     (segment_forms n (k + 1) (l + 9) (number_after 8 x) ++ program))
     (sym behind_words)
     (segments_say n (k + 1) (l + 9) (number_after 8 x) (omega arith) (omega arith)
-    (subst (λ j. Says j rest program) last tail))))
+    (subst (λ j. Says false j rest program) last tail))))
 
 -- ---- the program
 
@@ -157,15 +144,7 @@ stop_line : {words : ℕ} (bytes : Text) → 0 < length bytes → list_all is_li
     → line_of false 15 (codes "stop: A s1+" ++ (bytes ++ codes " F"))
     ≡ Ok (record { label = Some (codes "stop"); statement = Some (behind_last words) })
 stop_line bytes some plain few runs number is small =
-    let all : list_all is_line_byte (bytes ++ codes " F") ≡ true = plain_F bytes plain in
-    let parts = then_F bytes some runs in
-    let near : nat_le (value bytes) 1023 ≡ true = le_true (value bytes) 1023 (omega (arith, is, small)) in
-    let long = length-append bytes (codes " F") in
-    by_parts 15 (codes "stop: A s1+" ++ (bytes ++ codes " F"))
-    (run (codes "stop") ∷ sign 58 ∷ sign 65 ∷ run (codes "s1") ∷ sign 43 ∷ run bytes ∷ sign 70 ∷ []) all
-    (lt_false 120 _ (omega (arith, long, few)))
-    (rw parts refl)
-    (rw (number, near, is) refl)
+    search (rules, plain_F, then_F, le-leb, length-append, by_parts, sign)
 
 stop_says : (words : ℕ) → words ≤ 1023
     → line_of false 15 (codes "stop: A s1+" ++ (decimal words ++ codes " F"))
@@ -183,13 +162,13 @@ stop_says words few =
 
 -- the text lines of the program, and of the source
 abbrev pub adding : ℕ → List Text
-adding words = woven_lines adding_pieces (decimal words ∷ [])
+adding words = filled_lines adding_pieces (decimal words ∷ [])
 
 abbrev pub demo_source : ℕ → List Text
 demo_source n = adding (8 * n) ++ segments n 1 n ++ codes "enter main" ∷ []
 
-adding_says : (words : ℕ) {rest : List Text} {program : List Line} → words ≤ 1023 → Says 19 rest program
-    → Says 1 (adding words ++ rest) (adding_lines words ++ program)
+adding_says : (words : ℕ) {rest : List Text} {program : List Line} → words ≤ 1023 → Says false 19 rest program
+    → Says false 1 (adding words ++ rest) (adding_lines words ++ program)
 adding_says words few tail =
     says refl (says refl (says refl (says refl (says refl (says refl (says refl (says refl (says refl (says refl
     (says refl (says refl (says refl (says refl
@@ -197,9 +176,9 @@ adding_says words few tail =
 
 enter_says : (l : ℕ) → 2 ≤ l → line_of false l (codes "enter main")
     ≡ Ok (record { label = None; statement = Some (statements.Enter (codes "main")) })
-enter_says l second = let first : (l == 1) ≡ false = eq_false l 1 (omega (arith, second)) in rw first refl
+enter_says l second = let first : (l == 1) ≡ false = ne_eqb l 1 (omega (arith, second)) in rw first refl
 
-pub demo_says : (n : ℕ) → n ≤ 112 → Says 1 (demo_source n) (demo_lines n)
+pub demo_says : (n : ℕ) → n ≤ 112 → Says false 1 (demo_source n) (demo_lines n)
 demo_says n few =
     adding_says (8 * n) (omega arith) (segments_say n 1 19 n (lit≤ tt) (omega arith)
     (says (enter_says (19 + 9 * n) (omega arith)) ends))

@@ -1,12 +1,12 @@
 -- What the lines of the sources of `call divide` and `call root` say.
-use Rattle.ed_sources.proofs.Kit.{◌≡◌, ℕ, ◌/◌, ◌%◌, ◌<◌, false, [], List, ◌∷◌, Some, None, Ok, codes, refl, lit≤, Text}
-use Rattle.ed_sources.proofs.Kit.{settings, line_of, Line, Statement, Divide, Root}
-use Rattle.ed_syntax.specs.declared.program.Operand.TheVariants as operands
-use Rattle.ed_syntax.specs.declared.program.Statement.TheVariants as statements
+use Rattle.ed_sources.proofs.Kit.{Line, Statement, codes, None, Ok, Text, settings, line_of, Divide, Root, [], false}
+use Rattle.ed_sources.proofs.Kit.{List, lit≤, refl, Some, ℕ, ◌%◌, ◌/◌, ◌<◌, ◌∷◌, ◌≡◌}
 use Rattle.ed_sources.proofs.CallTexts.{call_lines}
 use Rattle.ed_sources.proofs.Said.{IsWordFront, at_place, label_parts, main_calls, named_front, said, use_on, use_with}
-use Rattle.ed_sources.proofs.Said.{woven_says}
+use Rattle.ed_sources.proofs.Said.{filled_says}
 use Rattle.ed_sources.proofs.TextLines.{Says, ends, says}
+use Rattle.ed_syntax.specs.declared.program.Operand.TheVariants as operands
+use Rattle.ed_syntax.specs.declared.program.Statement.TheVariants as statements
 
 -- the statements that use a routine
 abbrev use_divide : Statement
@@ -72,29 +72,29 @@ print_root_used = refl
 
 -- the lines with the numbers
 
-hi_front : IsWordFront 11 (codes "hi: word ") (Some (codes "hi")) (label_parts (codes "hi"))
-hi_front = named_front 11 (codes "hi") refl refl (lit≤ tt) refl refl
+hi_front : IsWordFront false 11 (codes "hi: word ") (Some (codes "hi")) (label_parts (codes "hi"))
+hi_front = named_front false 11 (codes "hi") refl refl (lit≤ tt) refl refl
 
-lo_front : IsWordFront 12 (codes "lo: word ") (Some (codes "lo")) (label_parts (codes "lo"))
-lo_front = named_front 12 (codes "lo") refl refl (lit≤ tt) refl refl
+lo_front : IsWordFront false 12 (codes "lo: word ") (Some (codes "lo")) (label_parts (codes "lo"))
+lo_front = named_front false 12 (codes "lo") refl refl (lit≤ tt) refl refl
 
-by_front : IsWordFront 13 (codes "by: word ") (Some (codes "by")) (label_parts (codes "by"))
-by_front = named_front 13 (codes "by") refl refl (lit≤ tt) refl refl
+by_front : IsWordFront false 13 (codes "by: word ") (Some (codes "by")) (label_parts (codes "by"))
+by_front = named_front false 13 (codes "by") refl refl (lit≤ tt) refl refl
 
-of_front : IsWordFront 7 (codes "of: word ") (Some (codes "of")) (label_parts (codes "of"))
-of_front = named_front 7 (codes "of") refl refl (lit≤ tt) refl refl
+of_front : IsWordFront false 7 (codes "of: word ") (Some (codes "of")) (label_parts (codes "of"))
+of_front = named_front false 7 (codes "of") refl refl (lit≤ tt) refl refl
 
 pub divide_says : (n by : ℕ) → n / 65536 < 65536 → n % 65536 < 65536 → by < 65536
-    → Says 1 (call_lines (Divide n by)) (divide_lines (n / 65536) (n % 65536) by)
+    → Says false 1 (call_lines (Divide n by)) (divide_lines (n / 65536) (n % 65536) by)
 divide_says n by h l b =
     says refl (says refl (says refl (says refl (says refl (says refl (says refl (says refl (says refl (says refl
-    (says (woven_says hi_front (n / 65536) h)
-    (says (woven_says lo_front (n % 65536) l)
-    (says (woven_says by_front by b)
+    (says (filled_says hi_front (n / 65536) h)
+    (says (filled_says lo_front (n % 65536) l)
+    (says (filled_says by_front by b)
     (says divide_used (says print_low_used (says refl (says print_high_used (says refl ends)))))))))))))))))
 
-pub root_says : (n : ℕ) → n < 65536 → Says 1 (call_lines (Root n)) (root_lines n)
+pub root_says : (n : ℕ) → n < 65536 → Says false 1 (call_lines (Root n)) (root_lines n)
 root_says n small =
     says refl (says refl (says refl (says refl (says refl (says refl
-    (says (woven_says of_front n small)
+    (says (filled_says of_front n small)
     (says refl (says root_used (says print_root_used (says refl ends))))))))))

@@ -1,28 +1,22 @@
 -- The outcome of a source whose program reaches its stop.
-use Rattle.ed_sources.proofs.Kit.{◌≡◌, ℕ, suc, ◌+◌, ◌-◌, ◌≤◌, [], List, ◌∷◌, ◌++◌, length, None, codes, ap, ◌∙◌, arith}
-use Rattle.ed_sources.proofs.Kit.{append-nil, Text, paper, step, State, Line, entry_of, cost, ComesToStop, at_after}
-use Rattle.ed_sources.proofs.Kit.{entry_note, entry_state, AnswersFromEntry, run_outcome}
-use Rattle.ed_run.specs.Run.{RunEnd, run_end}
-use Rattle.ed_run.specs.declared.settings.Settings.{Settings}
-use Rattle.ed_sources.proofs.Stops.{RanToStop, ran_to_stop}
+use Rattle.ed_sources.proofs.Kit.{Settings, Line, codes, None, Text, append-nil, ReachesStop, [], ap, arith, length}
+use Rattle.ed_sources.proofs.Kit.{List, rules, suc, ℕ, ◌++◌, ◌+◌, ◌-◌, ◌∙◌, ◌∷◌, ◌≡◌, ◌≤◌, step, State, at_after}
+use Rattle.ed_sources.proofs.Kit.{AnswersFromEntry, paper, run_end, RunEnd, entry_of, cost, entry_note, entry_state}
+use Rattle.ed_sources.proofs.Kit.{run_outcome}
 use Rattle.ed_answers.specs.Runs.{paper_room, ran_outcome, with_post_mortem}
+use Rattle.ed_sources.proofs.Stops.{RanToStop, ran_to_stop}
 
 -- no post-mortem prints nothing
 pub nothing_after : (r : RunEnd) → with_post_mortem None r ≡ r
 nothing_after r = ap (λ (codes : List ℕ). record r { codes = codes }) (append-nil r.codes)
 
 -- the answer to a run that stopped
-pub answered : (before : Text) (r : RunEnd) {printed : List ℕ} {last : State} {at orders : ℕ} → RanToStop r printed last
+pub ran_outcome-answered : (before : Text) (r : RunEnd) {printed : List ℕ} {last : State} {at orders : ℕ}
+    → RanToStop r printed last
     → (step last).state.counter ≡ at → (step last).state.orders ≡ orders
     → ran_outcome before r
     ≡ record { out = paper printed; note = before ++ (at_after (codes "stopped") at orders ++ 10 ∷ []); status = 0 }
-answered before r {last = last} o counter orders =
-    (λ i. ran_outcome before (record { ending = o.ending i; state = o.state_is i; codes = o.codes_are i }))
-    ∙ (λ i. ran_outcome before (record {
-      ending = o.ending 1;
-      state = record (step last).state { counter = counter i; orders = orders i };
-      codes = o.codes_are 1;
-    }))
+ran_outcome-answered before r {last = last} o counter orders = search rules
 
 -- what is left of a limit after the orders up to the entry
 left_after : (cost k limit : ℕ) → cost + (k + 1) ≤ limit → (cost ≤ limit) × (suc k ≤ limit - cost)
@@ -33,7 +27,7 @@ counted orders cost k is = omega arith
 
 -- the program of a source reaches its stop, and the limit is not below its orders and those up to the entry
 pub stopped_outcome : (s : Settings) {lines : List Line} {k at : ℕ} {printed : List ℕ} → AnswersFromEntry s lines
-    → ComesToStop k (entry_state s.size lines) printed at → length printed ≤ paper_room
+    → ReachesStop k (entry_state s.size lines) printed at → length printed ≤ paper_room
     → s.resumes ≡ 0 → s.post_mortem ≡ None → cost lines + (k + 1) ≤ s.limit
     → run_outcome s lines ≡ record {
       out = paper printed;
@@ -50,4 +44,4 @@ stopped_outcome s {lines} {k} {at} {printed} entry stops few none plain fits =
     entry.entered (left_after (cost lines) k s.limit fits).0
     ∙ (λ i. ran_outcome before (with_post_mortem (plain i) (run_end left (none i) paper_room first)))
     ∙ ap (ran_outcome before) (nothing_after r)
-    ∙ answered before r ended stops.counter count
+    ∙ ran_outcome-answered before r ended stops.counter count

@@ -1,26 +1,22 @@
 -- Orders that lead to a stop, and the run that they are.
-use Rattle.std.proofs.Common.{◌≡◌, ◌∙◌, inl, inr, ℕ, suc, ◌+◌, ◌^◌, ◌<◌, ◌≤◌, refl, sym, ap, arith, Bool, true, false}
-use Rattle.std.proofs.Common.{List, [], ◌∷◌, ◌++◌, length, append-nil, nat_le, nat_lt, Option, Some, None}
-use Rattle.std.proofs.lemmas.Bool.{cases_lt}
-use Rattle.ed_words.specs.Sizes.{locations, within}
-use Rattle.ed_words.specs.Words.{function_of}
+use Rattle.ed_machine.proofs.Names.{[], ap, append-nil, arith, Bool, false, inl, inr, length, List, nat_lt, None}
+use Rattle.ed_machine.proofs.Names.{Option, refl, rules, Some, suc, true, ℕ, ◌++◌, ◌+◌, ◌<◌, ◌^◌, ◌∙◌, ◌∷◌, ◌≡◌, ◌≤◌}
+use Rattle.ed_machine.proofs.Names.{cases_lt, locations, function_of, kind_of_function, after, done_at, jump_order}
+use Rattle.ed_machine.proofs.Names.{next_word, obey_word, place_of, row_order, step, State, AreObeyed, codes_of}
+use Rattle.ed_machine.proofs.Names.{is_obeyed, progress, state_after}
+use Rattle.ed_answers.proofs.Kit.{nat_le, run_end, RunEnd, ran_ends}
 use Rattle.ed_words.proofs.SizeLemmas.{within_below}
-use Rattle.ed_orders.specs.Kinds.{kind_of_function}
 use Rattle.ed_orders.specs.declared.kind.Kind.{Kind}
 use Rattle.ed_orders.specs.declared.kind.Kind.TheVariants.{E, G, I, Z}
-use Rattle.ed_machine.specs.State.{State}
-use Rattle.ed_machine.specs.OrderTable.{after, done_at, jump_order, next_word, obey_word, place_of, step, row_order}
-use Rattle.ed_machine.specs.Steps.{AreObeyed, codes_of, is_obeyed, progress, state_after}
+use Rattle.ed_machine.specs.declared.ending.Ending.TheVariants.{Stopped}
 use Rattle.ed_machine.specs.declared.turn.Turn.{Turn}
 use Rattle.ed_machine.specs.declared.turn.Turn.TheVariants.{Stopped as Stops}
-use Rattle.ed_machine.specs.declared.ending.Ending.TheVariants.{Stopped}
-use Rattle.ed_run.specs.Run.{RunEnd, run_end}
-use Rattle.ed_run.specs.Laws.{HasRoom}
-use Rattle.ed_run.proofs.Ends.{ends_once, ran_ends}
-use Rattle.ed_run.proofs.Places.{at_stop}
 use Rattle.ed_machine.proofs.Counts.{counted_after}
 use Rattle.ed_machine.proofs.Kit.Leads.{Leads, free, joined, no_stops}
-use Rattle.ed_routines.proofs.Journeys.{ComesToStop}
+use Rattle.ed_machine.proofs.LeastNumbers.{first_once}
+use Rattle.ed_run.specs.Laws.{HasRoom}
+use Rattle.ed_run.proofs.Places.{at_stop}
+use Rattle.ed_routines.proofs.Journeys.{ReachesStop}
 use Rattle.ed_checker.proofs.Guests.{size_after}
 
 -- k orders print the codes and lead to an order at a location that stops the machine
@@ -31,14 +27,9 @@ pub record StopsAt (k : ℕ) (s : State) (codes : List ℕ) (place : ℕ) : Type
   pub counter : last.counter ≡ place
 
 -- and after other orders
-pub behind : {a b place : ℕ} {s t : State} {cs ds : List ℕ} → Leads a s cs t → StopsAt b t ds place
+pub StopsAt-behind : {a b place : ℕ} {s t : State} {cs ds : List ℕ} → Leads a s cs t → StopsAt b t ds place
     → StopsAt (a + b) s (cs ++ ds) place
-behind first o = record {
-  last = o.last;
-  leads = joined first o.leads;
-  stops = o.stops;
-  counter = o.counter;
-}
+StopsAt-behind first o = search (rules, joined)
 
 -- the order that stops the machine moves its counter on
 stopped_state : (k : Option Kind) (w : ℕ) (x : State) → (obey_word k w x).turn ≡ Stops
@@ -70,22 +61,9 @@ step_stopped x h = stopped_state (kind_of_function (function_of (next_word x))) 
 
 -- so the counter is at the next location, and it is one order more
 pub comes_to_stop : {k place : ℕ} {s : State} {codes : List ℕ} → StopsAt k s codes place
-    → place + 1 < locations s.size → ComesToStop k s codes (place + 1)
+    → place + 1 < locations s.size → ReachesStop k s codes (place + 1)
 comes_to_stop {k} {place} {s} o below =
-    let last = o.last in
-    let leads = o.leads in
-    let left : (step last).state ≡ done_at (after last) last = step_stopped last o.stops in
-    let size : last.size ≡ s.size = ap (λ (x : State). x.size) (sym leads.state_is) ∙ size_after k s in
-    let orders : last.orders ≡ s.orders + k = ap (λ (x : State). x.orders) (sym leads.state_is)
-    ∙ counted_after k s (free leads) in
-    record {
-      last = last;
-      leads = leads;
-      stops = o.stops;
-      counter = ap (λ (x : State). x.counter) left ∙ (λ i. within (size i) (o.counter i + 1))
-          ∙ within_below s.size (place + 1) below;
-      orders = ap (λ (x : State). x.orders) left ∙ ap (λ n. n + 1) orders;
-    }
+    search (rules, after, step_stopped, size_after, counted_after, free, within_below)
 
 -- how a run ends that stops at an order
 pub record RanToStop (r : RunEnd) (codes : List ℕ) (last : State) : Type 0 where
@@ -94,7 +72,7 @@ pub record RanToStop (r : RunEnd) (codes : List ℕ) (last : State) : Type 0 whe
   pub state_is : r.state ≡ (step last).state
 
 -- a run without resumes whose limit they keep, and whose paper has room for the codes, ends there
-pub ran_to_stop : (limit room k : ℕ) (s : State) (codes : List ℕ) {at : ℕ} (o : ComesToStop k s codes at)
+pub ran_to_stop : (limit room k : ℕ) (s : State) (codes : List ℕ) {at : ℕ} (o : ReachesStop k s codes at)
     → length codes ≤ room → suc k ≤ limit → RanToStop (run_end limit 0 room s) codes o.last
 unfolding progress run_end
 ran_to_stop limit room k s codes o fits less =
@@ -111,7 +89,7 @@ ran_to_stop limit room k s codes o fits less =
     omega (arith, n, fits) in
     let has : HasRoom room (suc k) s = record { obeyed = obeyed; printed = few } in
     let ends = at_stop limit 0 has (no_stops k s o.leads.goes) less turn in
-    let once = ends_once (ran_ends limit 0 room s) ends in
+    let once = first_once (ran_ends limit 0 room s) ends in
     record {
       codes_are = ap (λ j. (progress j s).codes) once.0 ∙ all;
       ending = once.1;

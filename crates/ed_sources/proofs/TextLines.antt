@@ -1,15 +1,11 @@
 -- The lines of a text that is made of lines, and what they say one after the other.
-use Rattle.ed_sources.proofs.Kit.{◌≡◌, ℕ, ◌+◌, ◌≤◌, Bool, true, false, [], List, ◌∷◌, ◌++◌, length, if◌then◌else◌, ◌==◌}
-use Rattle.ed_sources.proofs.Kit.{nat_lt, Some, Ok, Option, sym, refl, ap, ◌∙◌, append_assoc, arith, list_all, Text}
-use Rattle.ed_sources.proofs.Kit.{and_parts, eq_false, is_line_byte, parts_of, line_of, program_of, Line, Statement}
-use Rattle.ed_sources.proofs.Kit.{text_of_lines}
+use Rattle.ed_sources.proofs.Kit.{Line, Statement, append_assoc, Ok, list_all, and_parts, Text, is_line_byte, LinePart}
+use Rattle.ed_sources.proofs.Kit.{form_at, parts_of, line_of, lines_from, ne_eqb, [], ap, arith, Bool, false}
+use Rattle.ed_sources.proofs.Kit.{if◌then◌else◌, length, List, nat_lt, Option, refl, Some, sym, true, ℕ, ◌++◌, ◌+◌}
+use Rattle.ed_sources.proofs.Kit.{◌==◌, ◌∙◌, ◌∷◌, ◌≡◌, ◌≤◌, le-ltb, is_two, program_of, text_of_lines}
+use Rattle.ed_syntax.proofs.Kit.{Err, Decides-eqb, lines_of, with_byte}
 use Rattle.std.proofs.Common.{true≢false}
-use Rattle.std.specs.Prelude.{Err}
-use Rattle.std.proofs.lemmas.Bool.Decides.{Decides-eqb}
-use Rattle.ed_syntax.specs.Lines.{lines_of, with_byte}
-use Rattle.ed_syntax.specs.Parts.{LinePart}
-use Rattle.ed_syntax.specs.Reading.Grammar.{form_at}
-use Rattle.ed_syntax.specs.Reading.Sources.{and_lines, is_two, lines_from}
+use Rattle.ed_syntax.specs.Reading.Sources.{and_lines}
 use Rattle.ed_syntax.specs.declared.fault.SourceCause.TheVariants.{TooManyLines}
 
 -- a byte of a line is not one that ends a line
@@ -60,28 +56,38 @@ program_is lines program plain one says =
 pub line_end : (digits rest : Text) → digits ++ 10 ∷ rest ≡ (digits ++ 10 ∷ []) ++ rest
 line_end digits rest = sym (append_assoc digits (10 ∷ []) rest)
 
--- what lines say one after the other; the first has this number
-pub data Says : ℕ → List Text → List Line → Type 0 where
-  ends : {k : ℕ} → Says k [] []
-  says : {k : ℕ} {line : Text} {lines : List Text} {label : Option Text} {statement : Option Statement}
-      {program : List Line}
-      → line_of false k line ≡ Ok (record { label = label; statement = statement }) → Says (k + 1) lines program
-      → Says k (line ∷ lines) (record { number = k; label = label; statement = statement } ∷ program)
+-- what the lines from a number upwards say
+pub data Says (two : Bool) : ℕ → List Text → List Line → Type 0 where
+  ends : {k : ℕ} → Says two k [] []
+  reads : {k : ℕ} {line : Text} {lines : List Text} {l : Line} {program : List Line}
+      → ((rest : List Line) → and_lines k (line_of two k line) (Ok rest) ≡ Ok (l ∷ rest))
+      → Says two (k + 1) lines program
+      → Says two k (line ∷ lines) (l ∷ program)
 
--- lines that say this are read so, if they are at most 2000
-pub said_lines : {k : ℕ} {lines : List Text} {program : List Line} → Says k lines program → k + length lines ≤ 2001
-    → lines_from false k lines ≡ Ok program
+-- a line with a statement, before others
+pub says : {two : Bool} {k : ℕ} {line : Text} {lines : List Text} {label : Option Text} {statement : Option Statement}
+    {program : List Line} → line_of two k line ≡ Ok (record { label = label; statement = statement })
+    → Says two (k + 1) lines program
+    → Says two k (line ∷ lines) (record { number = k; label = label; statement = statement } ∷ program)
+says {k = k} here rest = reads (λ program i. and_lines k (here i) (Ok program)) rest
+
+-- lines that say so are read so, if there are at most 2000
+pub said_lines : {two : Bool} {k : ℕ} {lines : List Text} {program : List Line} → Says two k lines program
+    → k + length lines ≤ 2001 → lines_from two k lines ≡ Ok program
 said_lines ends few = refl
-said_lines {k} (says {line = line} {lines = lines} here behind) few =
-    let within : (k == 2001) ≡ false = eq_false k 2001 (omega (arith, few)) in
+said_lines {two} {k} (reads {line = line} {lines = lines} {program = program} here rest) few =
+    let within : (k == 2001) ≡ false = ne_eqb k 2001 (omega (arith, few)) in
     ap (λ (t : Bool). if t then Err (record { line = k; cause = TooManyLines })
-    else and_lines k (line_of false k line) (lines_from false (k + 1) lines))
+    else and_lines k (line_of two k line) (lines_from two (k + 1) lines))
     within
-    ∙ (λ i. and_lines k (here i) (said_lines behind (omega (arith, few)) i))
+    ∙ ap (and_lines k (line_of two k line)) (said_lines rest (omega (arith, few)))
+    ∙ here program
 
 -- what a line says, by its parts
-pub by_parts : {label : Option Text} {statement : Option Statement} (k : ℕ) (line : Text) (parts : List LinePart)
-    → list_all is_line_byte line ≡ true → nat_lt 120 (length line) ≡ false → parts_of line ≡ Some parts
-    → form_at false k parts ≡ Some (Some (record { label = label; statement = statement }))
-    → line_of false k line ≡ Ok (record { label = label; statement = statement })
-by_parts k line parts plain short are is = rw (plain, short, are, is) refl
+pub by_parts : (two : Bool) {label : Option Text} {statement : Option Statement} (k : ℕ) (line : Text)
+    (parts : List LinePart) → list_all is_line_byte line ≡ true → length line ≤ 120 → parts_of line ≡ Some parts
+    → form_at two k parts ≡ Some (Some (record { label = label; statement = statement }))
+    → line_of two k line ≡ Ok (record { label = label; statement = statement })
+by_parts two k line parts plain short are is =
+    let fits : nat_lt 120 (length line) ≡ false = le-ltb 120 (length line) short in
+    rw (plain, fits, are, is) refl

@@ -1,18 +1,25 @@
 -- What reading the item of a word costs: 23 orders, and 9 for each digit of its address.
-use Rattle.ed_sources.proofs.Kit.{◌≡◌, ℕ, ◌+◌, ◌*◌, ◌/◌, ◌%◌, ◌<◌, ◌≤◌, Bool, true, false, List, ◌∷◌, ◌++◌, length}
-use Rattle.ed_sources.proofs.Kit.{nat_eq, sum_by, refl, arith, length-append, sum_by-cons, Item, item_cost, word_cost}
-use Rattle.std.proofs.lemmas.List.Sums.{sum_by-append}
-use Rattle.ed_words.proofs.Numbers.{le_false}
-use Rattle.ed_notation.specs.Spellings.{digit_at, digits_of}
-use Rattle.ed_link.specs.Punch.{ending, item_with}
-use Rattle.ed_link.proofs.Bounds.{one}
+use Rattle.ed_sources.proofs.Kit.{sum_by, sum_by-append, sum_by-cons, Item, length-append, nat_eq, item_with}
+use Rattle.ed_sources.proofs.Kit.{item_cost, arith, Bool, false, length, List, refl, true, ℕ, ◌%◌, ◌*◌, ◌++◌, ◌+◌, ◌/◌}
+use Rattle.ed_sources.proofs.Kit.{◌<◌, ◌∷◌, ◌≡◌, ◌≤◌, word_cost}
+use Rattle.ed_notation.proofs.Kit.{lt-leb, digit_at, digits_of}
+use Rattle.ed_link.specs.Punch.{ending}
+use Rattle.ed_link.proofs.Bounds.{length-one}
 
 none : (p n : ℕ) → n < p → length (digit_at p n) ≡ 0
-none p n less = let e = le_false p n less in rw e refl
+none p n less = let e = lt-leb p n less in rw e refl
 
 pub four_digits : (n : ℕ) → n < 10000 → length (digits_of n) ≤ 4
 four_digits n small =
-    simp length-append (omega (arith, none 10000 n small, one 1000 n, one 100 n, one 10 n, one 1 n))
+    simp length-append (omega (
+      arith,
+      none 10000 n small,
+      length-one 1000 n,
+      length-one 100 n,
+      length-one
+          10 n,
+      length-one 1 n,
+    ))
 
 ended : (f n : ℕ) (long : Bool) → item_cost (item_with f n false (ending long)) ≡ 23 + 9 * length (digits_of n)
 ended f n true = omega arith

@@ -11,10 +11,10 @@ abbrev pub text_of_lines : List Text → Text
 text_of_lines lines = flat_map (λ line. line ++ 10 ∷ []) lines
 
 -- the pieces of a text, with the data between them
-abbrev pub woven_text : List Text → List Text → Text
-woven_text [] ds = []
-woven_text (piece ∷ pieces) [] = piece ++ woven_text pieces []
-woven_text (piece ∷ pieces) (d ∷ ds) = piece ++ (d ++ woven_text pieces ds)
+abbrev pub filled_text : List Text → List Text → Text
+filled_text [] ds = []
+filled_text (piece ∷ pieces) [] = piece ++ filled_text pieces []
+filled_text (piece ∷ pieces) (d ∷ ds) = piece ++ (d ++ filled_text pieces ds)
 
 -- the pieces of a call's source
 abbrev pub call_pieces : Call → List Text
@@ -36,4 +36,4 @@ call_data (Check n) = decimal n ∷ []
 
 -- the source of a call
 abbrev pub call_text : Call → Text
-call_text call = woven_text (call_pieces call) (call_data call)
+call_text call = filled_text (call_pieces call) (call_data call)

@@ -3,7 +3,7 @@
 use Rattle.std.specs.Prelude.{ℕ, zero, suc, ◌+◌, ◌*◌, ◌/◌, ◌%◌, List, [], ◌∷◌, ◌++◌, codes, map, sum}
 use Rattle.std.specs.Fmt.{decimal}
 use Rattle.ed_words.specs.Texts.{Text}
-use Rattle.ed_sources.specs.CallSources.{text_of_lines, woven_text}
+use Rattle.ed_sources.specs.CallSources.{text_of_lines, filled_text}
 use Rattle.ed_sources.specs.declared.demo.TheConstants.{ADDING}
 
 -- the number after a given one in the sequence
@@ -46,7 +46,7 @@ abbrev pub adding_pieces : List Text
 adding_pieces = map (λ piece. piece.now) ADDING
 
 abbrev pub adding_text : ℕ → Text
-adding_text words = woven_text adding_pieces (decimal words ∷ [])
+adding_text words = filled_text adding_pieces (decimal words ∷ [])
 
 -- the source of `demo N`: the program, N segments with the words of the numbers after N, and the entry
 unfoldable pub demo_text : ℕ → Text

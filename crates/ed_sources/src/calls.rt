@@ -2,7 +2,7 @@ ghost use Rattle.std.specs.Prelude.{◌≡◌, IfOk, string_bytes};
 ghost use Rattle.ed_sources.specs.CallSources.{call_text};
 ghost use Rattle.ed_sources.specs.CallRuns.{RunsAsCall};
 
-use crate::weaving::woven;
+use crate::filling::filled;
 use ed_library::Call;
 use ed_words::NoMemory;
 use std::alloc::Global;
@@ -109,15 +109,15 @@ fn source_text(alloc: Global, call: &Call) -> Result<String, NoMemory>
     ensures { IfOk result (λ text. string_bytes text ≡ call_text call.now) }
 {
     match call {
-        Call::Print(number) => woven(alloc, &PRINT, &[*number]),
-        Call::Read(number) => woven(alloc, &READ, &[*number]),
-        Call::NewLine => woven(alloc, &NEW_LINE, &[]),
+        Call::Print(number) => filled(alloc, &PRINT, &[*number]),
+        Call::Read(number) => filled(alloc, &READ, &[*number]),
+        Call::NewLine => filled(alloc, &NEW_LINE, &[]),
         Call::Divide { n, by } => {
             let high = (n / 65536) as u16;
             let low = (n % 65536) as u16;
-            woven(alloc, &DIVIDE, &[high, low, *by])
+            filled(alloc, &DIVIDE, &[high, low, *by])
         }
-        Call::Root(number) => woven(alloc, &ROOT, &[*number]),
-        Call::Check(number) => woven(alloc, &CHECK, &[*number]),
+        Call::Root(number) => filled(alloc, &ROOT, &[*number]),
+        Call::Check(number) => filled(alloc, &CHECK, &[*number]),
     }
 }

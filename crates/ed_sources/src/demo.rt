@@ -3,7 +3,7 @@ ghost use Rattle.ed_sources.specs.CallSources.{text_of_lines};
 ghost use Rattle.ed_sources.specs.DemoRuns.{RunsAsDemo};
 ghost use Rattle.ed_sources.specs.DemoSources.{adding_text, number_after, demo_text, next, segments, word_lines, number_word};
 
-use crate::weaving::woven;
+use crate::filling::filled;
 use ed_words::NoMemory;
 use std::alloc::Global;
 
@@ -39,7 +39,7 @@ pub fn demo_source(alloc: Global, n: u32) -> Result<Vec<u8>, NoMemory>
     ensures is { IfOk result (λ bytes. bytes.items ≡ demo_text n) }
     ensures runs { IfOk result (λ bytes. RunsAsDemo n bytes.items) }
 {
-    let mut text = woven(alloc, &ADDING, &[8 * n as u16])?;
+    let mut text = filled(alloc, &ADDING, &[8 * n as u16])?;
     push_segments(&mut text, n)?;
     text.push_str("enter main\n")?;
     Ok(text.into_bytes())

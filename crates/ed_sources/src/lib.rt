@@ -7,8 +7,8 @@
 
 mod calls;
 mod demo;
-mod weaving;
+mod filling;
 
 pub use calls::call_source;
 pub use demo::demo_source;
-pub use weaving::woven;
+pub use filling::filled;

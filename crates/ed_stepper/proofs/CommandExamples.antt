@@ -1,14 +1,10 @@
 -- Worked lines of scripts: what each says, and the only answer that the public clause of `bad_line` allows for it.
-use Rattle.std.proofs.Common.{◌≡◌, ℕ, [], ◌∷◌, ◌++◌, refl, codes, lit≤}
-use Rattle.std.specs.Prelude.{Option, Some, None}
-use Rattle.ed_words.specs.Texts.{Text}
-use Rattle.ed_stepper.specs.Commands.{LineSaysCommand, go, no_part, one_part, one_space}
-use Rattle.ed_stepper.specs.ScriptLines.{HasBadLine}
-use Rattle.ed_stepper.specs.Private.CommandReading.{bad_line}
-use Rattle.ed_stepper.specs.declared.moves.MoveTarget.TheVariants as aims
-use Rattle.ed_stepper.specs.declared.commands.SessionCommand.TheVariants.{Accumulator, Move, Nothing, Show}
+use Rattle.ed_stepper.proofs.Kit.{[], codes, None, Option, refl, Some, ℕ, ◌++◌, ◌∷◌, ◌≡◌, Text, go, LineSaysCommand}
+use Rattle.ed_stepper.proofs.Kit.{no_part, one_part, one_space, bad_line, HasBadLine, Accumulator, Move, Nothing, Show}
+use Rattle.std.proofs.Common.{lit≤}
 use Rattle.ed_stepper.proofs.CommandLaws.{read_line_says}
 use Rattle.ed_stepper.proofs.ScriptLaws.{bad_line_is, never_both, one_bad_line}
+use Rattle.ed_stepper.specs.declared.moves.MoveTarget.TheVariants as aims
 
 -- ---- lines that say a command
 

@@ -1,26 +1,18 @@
 -- A line of a script says what is read in it.
-use Rattle.std.proofs.Common.{◌≡◌, ◌∙◌, ℕ, ◌≤◌, Bool, true, false, List, [], ◌∷◌, ◌++◌, refl, sym, ap, subst}
-use Rattle.std.proofs.Common.{arith, length, codes, nat_le}
-use Rattle.std.specs.Prelude.{◌&&◌, Option, Some, None, option_map, option_and_then, unwrap_or, if◌then◌else◌}
-use Rattle.std.specs.List.{list_all}
-use Rattle.std.specs.Str.{bytes_eq}
-use Rattle.std.proofs.lemmas.Bool.{and_parts}
-use Rattle.std.proofs.lemmas.Bool.Decides.{Decides-eqb}
-use Rattle.ed_words.proofs.Numbers.{le_of, le_true}
-use Rattle.std.proofs.lemmas.Slice.Eq.{bytes_eq-Decides}
-use Rattle.ed_words.specs.Decimals.{in_range, is_digit, number, number_within, value}
-use Rattle.ed_words.specs.Texts.{Text}
-use Rattle.ed_syntax.specs.Lines.{with_byte}
-use Rattle.ed_stepper.specs.Commands.{begins_part, has_space, is_space, HasCommandParts, no_part, one_part, one_space}
-use Rattle.ed_stepper.specs.Commands.{IsNumberWithin, LineSaysCommand, SaysCommand, SaysNoCommand, nothing}
-use Rattle.ed_stepper.specs.Commands.{back, entry, go, show_acc, show_from, show_last, show_mult, show_one, to, trace}
+use Rattle.ed_stepper.proofs.Kit.{unwrap_or, [], ap, arith, Bool, codes, false, if◌then◌else◌, length, List, nat_le}
+use Rattle.ed_stepper.proofs.Kit.{None, Option, refl, Some, subst, sym, true, ℕ, ◌++◌, ◌∙◌, ◌∷◌, ◌≡◌, ◌≤◌, Decides-eqb}
+use Rattle.ed_stepper.proofs.Kit.{Text, with_byte, begins_part, go, is_space, LineSaysCommand, no_part, one_part}
+use Rattle.ed_stepper.proofs.Kit.{one_space, parts_between_spaces, session_command, SessionCommand, Accumulator, Move}
+use Rattle.ed_stepper.proofs.Kit.{Nothing, Show}
+use Rattle.ed_syntax.proofs.Kit.{option_and_then, option_map, ◌&&◌, list_all, bytes_eq, and_parts, le-leb, leb-true}
+use Rattle.ed_syntax.proofs.Kit.{bytes_eq-Decides, is_digit, value}
+use Rattle.ed_words.specs.Decimals.{in_range, number, number_within}
+use Rattle.ed_stepper.specs.Commands.{has_space, HasCommandParts, IsNumberWithin, SaysCommand, SaysNoCommand, nothing}
+use Rattle.ed_stepper.specs.Commands.{back, entry, show_acc, show_from, show_last, show_mult, show_one, to, trace}
+use Rattle.ed_stepper.specs.Private.CommandReading.{of_one, of_parts, of_three, of_two, show_command, shown_command}
 use Rattle.ed_stepper.specs.Private.Commands.{IsCommandInRange}
-use Rattle.ed_stepper.specs.Private.CommandReading.{of_one, of_parts, of_three, of_two, parts_between_spaces}
-use Rattle.ed_stepper.specs.Private.CommandReading.{session_command, show_command, shown_command}
+use Rattle.ed_stepper.specs.declared.commands.SessionCommand.TheVariants.{Back, Trace, Multiplier, LastPrinted}
 use Rattle.ed_stepper.specs.declared.moves.MoveTarget.TheVariants as aims
-use Rattle.ed_stepper.specs.declared.commands.SessionCommand.{SessionCommand}
-use Rattle.ed_stepper.specs.declared.commands.SessionCommand.TheVariants.{Nothing, Move, Back, Trace, Show}
-use Rattle.ed_stepper.specs.declared.commands.SessionCommand.TheVariants.{Accumulator, Multiplier, LastPrinted}
 
 -- ---- values in options
 
@@ -84,11 +76,11 @@ read_parts_are (b ∷ bs) = by_tests (is_space b) (begins_part bs) refl refl (re
 number_is_read : (least most : ℕ) (n : Text) → IsNumberWithin least most n
     → number_within least most n ≡ Some (value n)
 number_is_read least most n i =
-    let some = le_true 1 (length n) i.some in
-    let few = le_true (length n) 9 i.few in
+    let some = le-leb 1 (length n) i.some in
+    let few = le-leb (length n) 9 i.few in
     let digits = i.digits in
-    let low = le_true least (value n) i.at_least in
-    let high = le_true (value n) most i.at_most in
+    let low = le-leb least (value n) i.at_least in
+    let high = le-leb (value n) most i.at_most in
     let is : number n ≡ Some (value n) = rw (some, few, digits) refl in
     ap (option_and_then (in_range least most)) is ∙ rw (low, high) refl
 
@@ -102,7 +94,7 @@ number_is n x e = by_test (nat_le 1 (length n) && nat_le (length n) 9 && list_al
     by_test true f e =
         let p = and_parts _ (list_all is_digit n) f in
         let q = and_parts (nat_le 1 (length n)) (nat_le (length n) 9) p.0 in
-        (le_of 1 (length n) q.0, le_of (length n) 9 q.1, p.1, some_is e)
+        (leb-true 1 (length n) q.0, leb-true (length n) 9 q.1, p.1, some_is e)
     by_test false f e = none_is e
 
 range_is : (least most n x : ℕ) → in_range least most n ≡ Some x → (least ≤ n) × (n ≤ most) × (n ≡ x)
@@ -112,7 +104,7 @@ range_is least most n x e = by_test (nat_le least n && nat_le n most) refl e
         → (least ≤ n) × (n ≤ most) × (n ≡ x)
     by_test true f e =
         let p = and_parts (nat_le least n) (nat_le n most) f in
-        (le_of least n p.0, le_of n most p.1, some_is e)
+        (leb-true least n p.0, leb-true n most p.1, some_is e)
     by_test false f e = none_is e
 
 -- what is read as a number is one
@@ -170,7 +162,7 @@ window_is : (a b : Text) → IsNumberWithin 0 1023 a → IsNumberWithin 0 1023 b
 window_is a b i j le =
     let first = number_is_read 0 1023 a i in
     let last = number_is_read 0 1023 b j in
-    let order = le_true (value a) (value b) le in
+    let order = le-leb (value a) (value b) le in
     rw (first, last) (rw order refl)
 
 -- what parts say is read
@@ -220,7 +212,7 @@ read_is_window a b c e = by_numbers (number_within 0 1023 a) (number_within 0 10
   where
     by_test : (x y : ℕ) (t : Bool) → nat_le x y ≡ t → (if t then Some (Show x y) else None) ≡ Some c
         → (x ≤ y) × (Show x y ≡ c)
-    by_test x y true f e = (le_of x y f, some_is e)
+    by_test x y true f e = (leb-true x y f, some_is e)
     by_test x y false f e = none_is e
 
     by_numbers : (o p : Option ℕ) → number_within 0 1023 a ≡ o → number_within 0 1023 b ≡ p

@@ -1,15 +1,10 @@
 -- How an input is divided, line by line.
-use Rattle.std.proofs.Common.{◌≡◌, ◌∙◌, ℕ, suc, ◌+◌, ◌-◌, ◌<◌, ◌≤◌, refl, sym, ap, arith}
-use Rattle.std.proofs.Common.{Bool, true, false, List, [], ◌∷◌, ◌++◌, length, take, drop}
-use Rattle.std.proofs.Common.{Option, Some, None}
-use Rattle.std.specs.Prelude.{◌==◌, not, slice_index_or, if◌then◌else◌}
-use Rattle.std.proofs.lemmas.List.{append-nil, append_assoc, drop_all, length-append, take_at}
-use Rattle.ed_words.specs.Texts.{Text}
-use Rattle.ed_syntax.specs.Lines.{lines_of}
-use Rattle.ed_stepper.specs.Inputs.{Input, text_kind_of}
-use Rattle.ed_stepper.specs.Private.Divisions.{at_line, after_line, input_of, input_at, first_line, with_byte_before}
-use Rattle.ed_stepper.specs.Private.Fronts.{line_feed_place}
-use Rattle.ed_stepper.specs.declared.inputs.TextKind.{TextKind}
+use Rattle.ed_stepper.proofs.Kit.{slice_index_or, drop_all, [], ap, arith, Bool, drop, false, if◌then◌else◌, length}
+use Rattle.ed_stepper.proofs.Kit.{List, None, not, Option, refl, Some, suc, sym, take, true, ℕ, ◌++◌, ◌+◌, ◌-◌, ◌<◌}
+use Rattle.ed_stepper.proofs.Kit.{◌==◌, ◌∙◌, ◌∷◌, ◌≡◌, ◌≤◌, Text, lines_of, Input, text_kind_of, after_line, input_of}
+use Rattle.ed_stepper.proofs.Kit.{line_feed_place, TextKind}
+use Rattle.std.proofs.lemmas.List.{append-nil, append_assoc, length-append, take_at}
+use Rattle.ed_stepper.specs.Private.Divisions.{at_line, input_at, first_line, with_byte_before}
 
 -- ---- the bytes of a first line
 
@@ -78,18 +73,18 @@ skips (b ∷ bs) = by_test (b == 10) (skips bs)
     by_test false h = ap (with_byte_before b) h ∙ one_front b (line_front bs) (input_of (after_line bs))
 
 -- the same after a line that announces nothing
-pub passes : (text : Text) → 0 < length text → text_kind_of (first_line text) ≡ None
+pub input_of-passes : (text : Text) → 0 < length text → text_kind_of (first_line text) ≡ None
     → input_of text ≡ prefixed (line_front text) (input_of (after_line text))
-passes [] some none = absurd (omega arith)
-passes (b ∷ bs) some none =
+input_of-passes [] some none = absurd (omega arith)
+input_of-passes (b ∷ bs) some none =
     ap (λ (k : Option TextKind). at_line k (b ∷ bs) (with_byte_before b (input_at (b == 10) bs))) none
     ∙ skips (b ∷ bs)
 
 -- and a line that announces a text divides it
-pub divides : (text : Text) (kind : TextKind) → 0 < length text → text_kind_of (first_line text) ≡ Some kind
+pub input_of-divides : (text : Text) (kind : TextKind) → 0 < length text → text_kind_of (first_line text) ≡ Some kind
     → input_of text ≡ Some (record { script = []; kind = kind; text = after_line text })
-divides [] kind some is = absurd (omega arith)
-divides (b ∷ bs) kind some is =
+input_of-divides [] kind some is = absurd (omega arith)
+input_of-divides (b ∷ bs) kind some is =
     ap (λ (k : Option TextKind). at_line k (b ∷ bs) (with_byte_before b (input_at (b == 10) bs))) is
 
 -- the first line of a text whose lines are known
@@ -136,7 +131,7 @@ goes_on input rest after s some none is =
       few = omega (arith, long, length-append (before ++ front) after);
       whole = ap (λ (x : Text). x ++ after) e ∙ whole;
       same = s.same ∙ ap (prefixed before)
-          (passes rest some none ∙ ap (λ (x : Text). prefixed front (input_of x)) (sym is))
+          (input_of-passes rest some none ∙ ap (λ (x : Text). prefixed front (input_of x)) (sym is))
           ∙ prefixed-append before front (input_of after) ∙ sym (ap (λ (x : Text). prefixed x (input_of after)) e);
     }
 
@@ -146,7 +141,7 @@ pub ends_at : (input rest after : Text) (kind : TextKind) → Stands input rest 
     → input_of input ≡ Some (record { script = take (length input - length rest) input; kind = kind; text = after })
 ends_at input rest after kind s some found is =
     let before : Text = take (length input - length rest) input in
-    s.same ∙ ap (prefixed before) (divides rest kind some found)
+    s.same ∙ ap (prefixed before) (input_of-divides rest kind some found)
     ∙ (λ i. Some (record { script = append-nil before i; kind = kind; text = sym is i }))
 
 -- after the last line

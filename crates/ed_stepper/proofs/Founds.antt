@@ -1,72 +1,38 @@
 -- The number of a move's orders is the least after which an end holds.
-use Rattle.std.proofs.Common.{◌≡◌, ◌⊎◌, inl, inr, ℕ, ◌<◌, ◌≤◌, refl, sym, ap, ◌∙◌}
-use Rattle.std.proofs.Common.{arith, Bool, true, false, Option, Some, None, is_some}
-use Rattle.ed_words.proofs.Numbers.{eq_true}
-use Rattle.ed_machine.specs.State.{State}
-use Rattle.ed_machine.specs.Steps.{least}
-use Rattle.ed_machine.proofs.LeastNumbers.{least_found, least_none}
-use Rattle.ed_stepper.specs.MoveEnds.{Ends, end_after, move_end, move_orders, or_else, own_end, stopped_after}
-use Rattle.ed_stepper.specs.declared.moves.MoveEnd.{MoveEnd}
-use Rattle.ed_stepper.specs.declared.moves.MoveEnd.TheVariants.{Limit, Stopped, Went}
-use Rattle.ed_stepper.specs.declared.moves.MoveTarget.{MoveTarget}
-use Rattle.ed_stepper.specs.declared.moves.MoveTarget.TheVariants.{Orders}
+use Rattle.ed_stepper.proofs.Kit.{is_some, first_once, first_within, State, rules, true, ℕ, ◌≡◌, ◌≤◌, end_after, Ends}
+use Rattle.ed_stepper.proofs.Kit.{move_orders, left, Moves, Stand, stands_at, MoveEnd, Limit, MoveTarget, Orders}
+use Rattle.ed_stepper.proofs.Kit.{Moved}
+use Rattle.ed_machine.proofs.LeastNumbers.{first_found}
+use Rattle.ed_stepper.specs.MoveEnds.{move_end}
 
 -- an end holds at the limit
-limit_ends : (aim : MoveTarget) (left : ℕ) (s : State) → end_after aim left left s ≡ None → ⊥
-limit_ends aim left s is = by_stop (stopped_after left s) refl
-  where
-    by_own : (o : Option MoveEnd) → or_else o (Some Limit) ≡ None → ⊥
-    by_own None e = absurd (cc)
-    by_own (Some x) e = absurd (cc)
-
-    by_stop : (b : Bool) → stopped_after left s ≡ b → ⊥
-    by_stop true h = let bad : Some Stopped ≡ None = sym (rw h refl) ∙ is in absurd (cc)
-    by_stop false h = let m = eq_true left left refl in by_own (own_end aim left s) (sym (rw (h, m) refl) ∙ is)
+limit_ends : (aim : MoveTarget) (left : ℕ) (s : State) → is_some (end_after aim left left s) ≡ true
+limit_ends aim left s = search rules
 
 -- no move obeys more orders than are left
-pub within_left : (aim : MoveTarget) (left k : ℕ) (s : State) (end : MoveEnd) → Ends aim left s k end → k ≤ left
-within_left aim left k s end e = by_place (grind arith)
-  where
-    by_place : (k ≤ left) ⊎ (left < k) → k ≤ left
-    by_place (inl h) = h
-    by_place (inr h) = absurd (limit_ends aim left s (e.first left h))
+pub within_left : {aim : MoveTarget} {s t : Stand} {m : Moved} (move : Moves aim s t m) → move.orders ≤ left s
+within_left {aim} {s} move = first_within move.orders (left s) move.ends.first (limit_ends aim (left s) (stands_at s))
 
 -- an end holds after n orders if the move is by n orders
-own_ends : (n left : ℕ) (s : State) → end_after (Orders n) left n s ≡ None → ⊥
-own_ends n left s is = by_stop (stopped_after n s) refl
-  where
-    by_stop : (b : Bool) → stopped_after n s ≡ b → ⊥
-    by_stop true h = let bad : Some Stopped ≡ None = sym (rw h refl) ∙ is in absurd (cc)
-    by_stop false h =
-        let m = eq_true n n refl in
-        let bad : Some Went ≡ None = sym (rw (h, m) refl) ∙ is in absurd (cc)
+own_ends : (n left : ℕ) (s : State) → is_some (end_after (Orders n) left n s) ≡ true
+own_ends n left s = search rules
 
 -- a move by n orders obeys at most n
-pub at_most : (n left k : ℕ) (s : State) (end : MoveEnd) → Ends (Orders n) left s k end → k ≤ n
-at_most n left k s end e = by_place (grind arith)
-  where
-    by_place : (k ≤ n) ⊎ (n < k) → k ≤ n
-    by_place (inl h) = h
-    by_place (inr h) = absurd (own_ends n left s (e.first n h))
+pub at_most : {n : ℕ} {s t : Stand} {m : Moved} (move : Moves (Orders n) s t m) → move.orders ≤ n
+at_most {n} {s} move = first_within move.orders n move.ends.first (own_ends n (left s) (stands_at s))
 
--- the orders of a move as a function
+-- the move as a function ends this way
+pub move_ends : (aim : MoveTarget) (left : ℕ) (s : State)
+    → Ends aim left s (move_orders aim left s) (move_end aim left s)
+unfolding move_orders move_end
+move_ends aim left s = first_found left Limit (limit_ends aim left s)
+
+-- so its orders are those of the function
 pub orders_found : (aim : MoveTarget) (left k : ℕ) (s : State) (end : MoveEnd) → Ends aim left s k end
     → k ≡ move_orders aim left s
-unfolding move_orders
-orders_found aim left k s end e = by_place (split (within_left aim left k s end e))
-  where
-    fails : (j : ℕ) → j < k → is_some (end_after aim left j s) ≡ false
-    fails j h = ap is_some (e.first j h)
+orders_found aim left k s end e = (first_once e (move_ends aim left s)).0
 
-    split : k ≤ left → (k < left) ⊎ (k ≡ left)
-    split h = grind arith
-
-    by_place : (k < left) ⊎ (k ≡ left) → k ≡ least (λ j. is_some (end_after aim left j s)) left
-    by_place (inl below) = sym (least_found _ left k (ap is_some e.now) fails below)
-    by_place (inr is) = sym (least_none _ left (λ j h. fails j (omega arith)) ∙ sym is)
-
--- its end as a function
+-- and its end
 pub end_found : (aim : MoveTarget) (left k : ℕ) (s : State) (end : MoveEnd) → Ends aim left s k end
     → end ≡ move_end aim left s
-unfolding move_end
-end_found aim left k s end e = let n = sym (orders_found aim left k s end e) in sym (rw (n, e.now) refl)
+end_found aim left k s end e = (first_once e (move_ends aim left s)).1

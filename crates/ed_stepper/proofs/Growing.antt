@@ -1,17 +1,14 @@
 -- One more letter of a text that grows.
-use Rattle.std.proofs.Common.{◌≡◌, ℕ, zero, suc, ◌+◌, ◌-◌, ◌%◌, ◌<◌, ◌≢◌, refl, sym, ap}
-use Rattle.std.proofs.Common.{◌∙◌, subst, arith, Bool, true, false, Option, None, Ok, Err}
-use Rattle.std.proofs.Common.{List, [], ◌∷◌, ◌++◌, length, append_assoc, append-nil, length-append}
-use Rattle.std.proofs.lemmas.Bool.Decides.{nat_tests}
-use Rattle.ed_machine.specs.State.{State}
-use Rattle.ed_machine.specs.Steps.{progress, state_after}
-use Rattle.ed_run.specs.Run.{end_at}
-use Rattle.ed_io.specs.Bytes.{Gains, GainsPart}
-use Rattle.ed_io.specs.declared.device.Failed.{Failed}
-use Rattle.ed_io.proofs.Calls.{gains_more, gains_none}
-use Rattle.ed_report.specs.Traces.{functions_after, is_full, letters_from, line_end}
-use Rattle.ed_report.proofs.Letters.{functions_count, letters_more, next_functions, no_functions}
-use Rattle.ed_stepper.specs.Private.Growth.{BreaksTrace, Lines, Puts, letter, orders_in_full_lines, traced_letters}
+use Rattle.ed_stepper.proofs.Kit.{◌≢◌, append-nil, ◌%◌, State, progress, state_after, end_at, [], ap, append_assoc}
+use Rattle.ed_stepper.proofs.Kit.{arith, Bool, Err, false, length, length-append, List, None, Ok, Option, refl, subst}
+use Rattle.ed_stepper.proofs.Kit.{suc, sym, true, zero, ℕ, ◌++◌, ◌+◌, ◌-◌, ◌<◌, ◌∙◌, ◌∷◌, ◌≡◌, nat_tests, Gains}
+use Rattle.ed_stepper.proofs.Kit.{GainsPart, Failed, gains_more, functions_after, is_full, functions_count}
+use Rattle.ed_stepper.proofs.Kit.{next_functions, no_functions, BreaksTrace, Lines, orders_in_full_lines}
+use Rattle.ed_stepper.proofs.Kit.{traced_letters}
+use Rattle.ed_io.proofs.Calls.{gains_none}
+use Rattle.ed_report.specs.Traces.{letters_from, line_end}
+use Rattle.ed_report.proofs.Letters.{letters_more}
+use Rattle.ed_stepper.specs.Private.Growth.{Puts, letter}
 
 -- the first bytes of a text are the first bytes of a longer one
 pub part_of_longer : (before after : Option (List ℕ)) (text longer more : List ℕ) → longer ≡ text ++ more

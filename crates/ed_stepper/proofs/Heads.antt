@@ -1,18 +1,12 @@
 -- The first line of a text, and the first part of a line.
-use Rattle.std.proofs.Common.{◌≡◌, ◌∙◌, ℕ, zero, suc, ◌+◌, ◌-◌, ◌<◌, ◌≤◌, refl, sym}
-use Rattle.std.proofs.Common.{ap, arith, Bool, true, false, not, [], ◌∷◌, ◌++◌}
-use Rattle.std.proofs.Common.{take, drop, length, get_or, nat_lt}
-use Rattle.std.specs.Prelude.{◌==◌, if◌then◌else◌}
-use Rattle.std.specs.List.{position_or_len}
-use Rattle.ed_words.proofs.Numbers.{eq_false, eq_of, eq_true, lt_true}
-use Rattle.std.proofs.lemmas.List.{drop_all, drop_more, take_more, take_all, take_rest}
-use Rattle.ed_words.specs.Texts.{Text}
-use Rattle.ed_syntax.specs.Lines.{lines_of, with_byte}
-use Rattle.ed_syntax.specs.Lines.{has_end, without_return}
+use Rattle.ed_stepper.proofs.Kit.{position_or_len, eq-eqb, ne_eqb, drop_all, take_rest, eqb-true, [], ap, arith, Bool}
+use Rattle.ed_stepper.proofs.Kit.{drop, false, if◌then◌else◌, length, not, refl, suc, sym, take, true, zero, ℕ, ◌++◌}
+use Rattle.ed_stepper.proofs.Kit.{◌+◌, ◌-◌, ◌<◌, ◌==◌, ◌∙◌, ◌∷◌, ◌≡◌, ◌≤◌, Text, has_end, lines_of, with_byte}
+use Rattle.ed_stepper.proofs.Kit.{without_return, begins_part, is_space, parts_between_spaces, line_feed_place}
+use Rattle.ed_syntax.proofs.Kit.{get_or, nat_lt, lt-ltb, take_all}
+use Rattle.std.proofs.lemmas.List.{drop_more, take_more}
 use Rattle.ed_syntax.proofs.Lines.{keeps_end, no_return, takes_ended, takes_last}
-use Rattle.ed_stepper.specs.Commands.{begins_part, is_space}
-use Rattle.ed_stepper.specs.Private.CommandReading.{parts_between_spaces}
-use Rattle.ed_stepper.specs.Private.Fronts.{solid, stop_of, line_feed_place}
+use Rattle.ed_stepper.specs.Private.Fronts.{first_space, stop_of}
 
 pub one_more : (n : ℕ) → 1 + n ≡ suc n
 one_more n = omega arith
@@ -37,14 +31,14 @@ end_there (b ∷ bs) low = by_test (b == 10) refl low (end_there bs)
     by_test : (t : Bool) → (b == 10) ≡ t → (if not t then 1 + line_feed_place bs else 0) < length (b ∷ bs)
         → (line_feed_place bs < length bs → get_or bs (line_feed_place bs) 0 ≡ 10)
         → get_or (b ∷ bs) (if not t then 1 + line_feed_place bs else 0) 0 ≡ 10
-    by_test true e l h = eq_of _ _ e
+    by_test true e l h = eqb-true _ _ e
     by_test false e l h = let s = one_more (line_feed_place bs) in rw s (h (omega arith))
 
 -- without a carriage return just before it
 stop_is : (text : Text) (end : ℕ) → end ≤ length text → take (stop_of text end) text ≡ without_return (take end text)
 stop_is text zero within = refl
 stop_is text (suc k) within =
-    let some : nat_lt 0 (suc k) ≡ true = lt_true 0 (suc k) (omega arith) in
+    let some : nat_lt 0 (suc k) ≡ true = lt-ltb 0 (suc k) (omega arith) in
     let minus : suc k - 1 ≡ k = omega arith in
     rw (some, minus) (by_test (get_or text k 0 == 13) refl)
   where
@@ -54,7 +48,7 @@ stop_is text (suc k) within =
     by_test : (t : Bool) → (get_or text k 0 == 13) ≡ t
         → take (if t then k else suc k) text ≡ without_return (take (suc k) text)
     by_test true e =
-        let thirteen : get_or text k 0 ≡ 13 = eq_of _ _ e in
+        let thirteen : get_or text k 0 ≡ 13 = eqb-true _ _ e in
         rw (pushed, thirteen) (sym (no_return (take k text)))
     by_test false e = pushed ∙ sym (keeps_end (take k text) (get_or text k 0) e) ∙ ap without_return (sym pushed)
 
@@ -73,55 +67,55 @@ first_last text some past =
 -- ---- parts
 
 -- no part begins at a space
-none_begun : (text : Text) → begins_part text ≡ false → solid text ≡ 0
+none_begun : (text : Text) → begins_part text ≡ false → first_space text ≡ 0
 none_begun [] e = refl
 none_begun (b ∷ bs) e = rw e refl
 
 -- the part at the front
 part_at : (text : Text) → begins_part text ≡ true
-    → parts_between_spaces text ≡ take (solid text) text ∷ parts_between_spaces (drop (solid text) text)
+    → parts_between_spaces text ≡ take (first_space text) text ∷ parts_between_spaces (drop (first_space text) text)
 part_at [] begin = absurd (cc)
 part_at (b ∷ bs) begin = by_test (is_space b) refl begin (part_at bs)
   where
     after : (x : Bool) → begins_part bs ≡ x
-        → (begins_part bs ≡ true → parts_between_spaces bs ≡ take (solid bs) bs ∷ parts_between_spaces
-        (drop (solid bs) bs))
+        → (begins_part bs ≡ true → parts_between_spaces bs ≡ take (first_space bs) bs ∷ parts_between_spaces
+        (drop (first_space bs) bs))
         → (if x then with_byte b (parts_between_spaces bs) else (b ∷ []) ∷ parts_between_spaces bs) ≡
-        (b ∷ take (solid bs) bs)
-        ∷ parts_between_spaces (drop (solid bs) bs)
+        (b ∷ take (first_space bs) bs)
+        ∷ parts_between_spaces (drop (first_space bs) bs)
     after true e h = ap (with_byte b) (h e)
     after false e h = let z = none_begun bs e in rw z refl
 
     by_test : (t : Bool) → is_space b ≡ t → not t ≡ true
-        → (begins_part bs ≡ true → parts_between_spaces bs ≡ take (solid bs) bs ∷ parts_between_spaces
-        (drop (solid bs) bs))
-        → parts_between_spaces (b ∷ bs) ≡ take (if not t then 1 + solid bs else 0) (b ∷ bs) ∷ parts_between_spaces
-        (drop (if not t then 1 + solid bs else 0) (b ∷ bs))
+        → (begins_part bs ≡ true → parts_between_spaces bs ≡ take (first_space bs) bs ∷ parts_between_spaces
+        (drop (first_space bs) bs))
+        → parts_between_spaces (b ∷ bs) ≡ take (if not t then 1 + first_space bs else 0) (b ∷ bs) ∷ parts_between_spaces
+        (drop (if not t then 1 + first_space bs else 0) (b ∷ bs))
     by_test true e h more = absurd (cc)
-    by_test false e h more = let s = one_more (solid bs) in rw (e, s) (after (begins_part bs) refl more)
+    by_test false e h more = let s = one_more (first_space bs) in rw (e, s) (after (begins_part bs) refl more)
 
 -- ---- the place of a byte
 
 -- by its place in what is left of the text: a byte that differs is passed
-pub passed : (wanted : ℕ) (text : Text) (i : ℕ) → i < length text → (get_or text i 0 ≡ wanted → ⊥)
+pub position_or_len-passed : (wanted : ℕ) (text : Text) (i : ℕ) → i < length text → (get_or text i 0 ≡ wanted → ⊥)
     → position_or_len (λ b. b == wanted) (drop i text) ≡ 1 + position_or_len (λ b. b == wanted) (drop (i + 1) text)
-passed wanted text i below other =
+position_or_len-passed wanted text i below other =
     let e = drop_more text i 0 below in
-    let differs = eq_false (get_or text i 0) wanted other in
+    let differs = ne_eqb (get_or text i 0) wanted other in
     rw (e, differs) refl
 
 -- and the byte is found
-pub found : (wanted : ℕ) (text : Text) (i : ℕ) → i < length text → get_or text i 0 ≡ wanted
+pub position_or_len-found : (wanted : ℕ) (text : Text) (i : ℕ) → i < length text → get_or text i 0 ≡ wanted
     → position_or_len (λ b. b == wanted) (drop i text) ≡ 0
-found wanted text i below same =
+position_or_len-found wanted text i below same =
     let e = drop_more text i 0 below in
-    let equal = eq_true (get_or text i 0) wanted same in
+    let equal = eq-eqb (get_or text i 0) wanted same in
     rw (e, equal) refl
 
 -- or there is none
-pub nowhere : (wanted : ℕ) (text : Text) (i : ℕ) → length text ≤ i
+pub position_or_len-nowhere : (wanted : ℕ) (text : Text) (i : ℕ) → length text ≤ i
     → position_or_len (λ b. b == wanted) (drop i text) ≡ 0
-nowhere wanted text i past = ap (position_or_len (λ b. b == wanted)) (drop_all i text past)
+position_or_len-nowhere wanted text i past = ap (position_or_len (λ b. b == wanted)) (drop_all i text past)
 
 -- ---- what the code finds
 
@@ -141,14 +135,14 @@ pub space_skipped : (line : Text) → 1 ≤ length line → get_or line 0 0 ≡ 
     → parts_between_spaces line ≡ parts_between_spaces (take (length line - 1) (drop 1 line))
 space_skipped [] some is = absurd (omega (arith, some))
 space_skipped (b ∷ bs) some is =
-    let space = eq_true b 32 is in
+    let space = eq-eqb b 32 is in
     let all = take_rest (b ∷ bs) 1 in
     rw (space, all) refl
 
 -- any other byte begins a part
-pub part_taken : (line : Text) (end : ℕ) → 1 ≤ length line → (get_or line 0 0 ≡ 32 → ⊥) → end ≡ solid line
+pub part_taken : (line : Text) (end : ℕ) → 1 ≤ length line → (get_or line 0 0 ≡ 32 → ⊥) → end ≡ first_space line
     → parts_between_spaces line ≡ take end line ∷ parts_between_spaces (drop end line)
 part_taken [] end some other is = absurd (omega (arith, some))
 part_taken (b ∷ bs) end some other is =
-    let no_space = eq_false b 32 other in
+    let no_space = ne_eqb b 32 other in
     part_at (b ∷ bs) (rw no_space refl) ∙ ap (λ n. take n (b ∷ bs) ∷ parts_between_spaces (drop n (b ∷ bs))) (sym is)

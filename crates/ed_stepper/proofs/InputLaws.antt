@@ -1,18 +1,14 @@
 -- An input is divided as it is read, in one way or not at all.
-use Rattle.std.proofs.Common.{◌≡◌, ◌∙◌, ◌⊎◌, inl, inr, ℕ, suc, ◌+◌, ◌<◌, refl, sym, ap, subst, arith, Bool, true, false}
-use Rattle.std.proofs.Common.{List, [], ◌∷◌, ◌++◌, length, Option, Some, None, append_assoc}
-use Rattle.std.specs.List.{All}
+use Rattle.ed_stepper.proofs.Kit.{All, [], ap, append_assoc, arith, false, inl, inr, length, List, None, Option, refl}
+use Rattle.ed_stepper.proofs.Kit.{Some, subst, suc, sym, ℕ, ◌++◌, ◌+◌, ◌<◌, ◌∙◌, ◌∷◌, ◌≡◌, ◌⊎◌, Text, has_end}
+use Rattle.ed_stepper.proofs.Kit.{HasLines, lines_of, without_return, read_lines_are, Input, text_kind_of, after_line}
+use Rattle.ed_stepper.proofs.Kit.{input_of, TextKind}
 use Rattle.std.proofs.lemmas.List.Elements.{All-cons}
-use Rattle.ed_words.specs.Texts.{Text}
-use Rattle.ed_syntax.specs.Lines.{HasLines, nothing, last, ended, has_end, lines_of, without_return}
+use Rattle.ed_syntax.specs.Lines.{nothing, last, ended}
 use Rattle.ed_syntax.proofs.Lines.{no_end_head}
+use Rattle.ed_stepper.specs.Inputs.{HasLineCount, IsDivided, IsUndivided, by_last, by_line, further_on}
+use Rattle.ed_stepper.proofs.Divisions.{input_of-divides, first_is, line_front, input_of-passes, prefixed}
 use Rattle.ed_syntax.proofs.Lines as Lines
-use Rattle.ed_syntax.proofs.SourceLaws.{read_lines_are}
-use Rattle.ed_stepper.specs.Inputs.{HasLineCount, Input, IsDivided, IsUndivided, by_last}
-use Rattle.ed_stepper.specs.Inputs.{by_line, further_on, text_kind_of}
-use Rattle.ed_stepper.specs.Private.Divisions.{after_line, input_of}
-use Rattle.ed_stepper.proofs.Divisions.{divides, first_is, line_front, passes, prefixed}
-use Rattle.ed_stepper.specs.declared.inputs.TextKind.{TextKind}
 
 -- ---- the first line of a text
 
@@ -40,15 +36,15 @@ pub division_is_read : {input : Text} {i : Input} → IsDivided input i → inpu
 division_is_read (by_last [] kind e is) = absurd (cc)
 division_is_read (by_last (b ∷ bs) kind e is) =
     let first = first_is (b ∷ bs) (b ∷ bs) [] (Lines.unended b bs e) in
-    divides (b ∷ bs) kind (omega arith) (ap text_kind_of first ∙ is)
+    input_of-divides (b ∷ bs) kind (omega arith) (ap text_kind_of first ∙ is)
     ∙ ap (λ (t : Text). Some (record { script = []; kind = kind; text = t })) (after_unended (b ∷ bs) e)
 division_is_read (by_line line text kind e is) =
     let first = first_is (line ++ 10 ∷ text) (without_return line) (lines_of text) (Lines.ended line text e) in
-    divides (line ++ 10 ∷ text) kind (long_ended line text) (ap text_kind_of first ∙ is)
+    input_of-divides (line ++ 10 ∷ text) kind (long_ended line text) (ap text_kind_of first ∙ is)
     ∙ ap (λ (t : Text). Some (record { script = []; kind = kind; text = t })) (after_ended line text e)
 division_is_read (further_on line text i e none d) =
     let first = first_is (line ++ 10 ∷ text) (without_return line) (lines_of text) (Lines.ended line text e) in
-    passes (line ++ 10 ∷ text) (long_ended line text) (ap text_kind_of first ∙ none)
+    input_of-passes (line ++ 10 ∷ text) (long_ended line text) (ap text_kind_of first ∙ none)
     ∙ (λ j. prefixed (front_ended line text e j) (input_of (after_ended line text e j)))
     ∙ ap (prefixed (line ++ 10 ∷ [])) (division_is_read d)
     ∙ ap (λ (s : Text). Some (record i { script = s })) (append_assoc line (10 ∷ []) i.script)
@@ -66,11 +62,11 @@ pub undivided_is_read : {input : Text} {lines : List Text} → HasLines input li
 undivided_is_read nothing none = refl
 undivided_is_read (last b bs e) none =
     let first = first_is (b ∷ bs) (b ∷ bs) [] (Lines.unended b bs e) in
-    passes (b ∷ bs) (omega arith) (ap text_kind_of first ∙ none 0 [] (omega arith))
+    input_of-passes (b ∷ bs) (omega arith) (ap text_kind_of first ∙ none 0 [] (omega arith))
     ∙ ap (λ (t : Text). prefixed (line_front (b ∷ bs)) (input_of t)) (after_unended (b ∷ bs) e)
 undivided_is_read (ended line text lines e h) none =
     let first = first_is (line ++ 10 ∷ text) (without_return line) (lines_of text) (Lines.ended line text e) in
-    passes (line ++ 10 ∷ text) (long_ended line text) (ap text_kind_of first ∙ none 0 [] (omega arith))
+    input_of-passes (line ++ 10 ∷ text) (long_ended line text) (ap text_kind_of first ∙ none 0 [] (omega arith))
     ∙ ap (λ (t : Text). prefixed (line_front (line ++ 10 ∷ text)) (input_of t)) (after_ended line text e)
     ∙ ap (prefixed (line_front (line ++ 10 ∷ text))) (undivided_is_read h (λ k d l. none (suc k) d (omega (arith, l))))
 

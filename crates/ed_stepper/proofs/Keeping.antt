@@ -1,22 +1,12 @@
 -- What a session keeps over a move.
-use Rattle.std.proofs.Common.{◌≡◌, ℕ, ◌+◌, ◌-◌, ◌≤◌, refl, sym, ap, ◌∙◌}
-use Rattle.std.proofs.Common.{subst, arith, List, []}
-use Rattle.ed_machine.specs.State.{State}
-use Rattle.ed_machine.specs.Steps.{state_after}
-use Rattle.ed_machine.proofs.Steps.{after_sum}
-use Rattle.ed_stepper.specs.MoveEnds.{Ends}
-use Rattle.ed_stepper.specs.Sessions.{Moves}
-use Rattle.ed_stepper.specs.Kept.{AreMarks, IsMark}
-use Rattle.ed_stepper.specs.declared.marks.Mark.{Mark}
-use Rattle.ed_stepper.specs.declared.moves.MoveTarget.{MoveTarget}
-use Rattle.ed_stepper.specs.declared.moves.MoveEnd.{MoveEnd}
+use Rattle.ed_stepper.proofs.Kit.{State, state_after, after_sum, [], ap, arith, List, refl, rules, subst, sym, ℕ, ◌+◌}
+use Rattle.ed_stepper.proofs.Kit.{◌-◌, ◌∙◌, ◌≡◌, ◌≤◌, AreCheckpoints, IsCheckpoint, Ends, Moves, Checkpoint, MoveEnd}
+use Rattle.ed_stepper.proofs.Kit.{MoveTarget}
 use Rattle.ed_stepper.proofs.Founds.{orders_found, end_found}
 
-pub no_marks : (start : State) (marks : List Mark) → marks ≡ [] → AreMarks start marks
-no_marks start marks is = subst (λ ms. AreMarks start ms) (sym is) none
-  where
-    none : AreMarks start []
-    none k d h = absurd (omega arith)
+pub no_checkpoints : (start : State) (checkpoints : List Checkpoint) → checkpoints ≡ []
+    → AreCheckpoints start checkpoints
+no_checkpoints start checkpoints is = search rules
 
 -- a walk from the state of a session is a move
 pub moves_so : {aim : MoveTarget} {start machine last : State} {limit done orders at : ℕ} {end : MoveEnd}
@@ -43,9 +33,9 @@ moves_so {aim} {start} {limit = limit} {done} {orders} {end = end} is ends to pl
     }
 
 -- the state after `done` orders, starting from a copy
-pub from_mark : (start : State) (m : Mark) (done : ℕ) → IsMark start m → m.done ≤ done
+pub from_checkpoint : (start : State) (m : Checkpoint) (done : ℕ) → IsCheckpoint start m → m.done ≤ done
     → state_after (done - m.done) m.machine ≡ state_after done start
-from_mark start m done mark low =
+from_checkpoint start m done checkpoint low =
     let e : m.done + (done - m.done) ≡ done = omega arith in
-    ap (state_after (done - m.done)) mark.is ∙ sym (after_sum m.done (done - m.done) start)
+    ap (state_after (done - m.done)) checkpoint.is ∙ sym (after_sum m.done (done - m.done) start)
     ∙ ap (λ k. state_after k start) e

@@ -13,3 +13,4 @@ mod CommandExamples
 mod Going
 mod Growing
 mod Wholes
+pub mod Kit

@@ -1,11 +1,8 @@
 -- The functions of orders, one after the other.
-use Rattle.std.proofs.Common.{◌≡◌, ℕ, ◌+◌, sym, ap, ◌∙◌, List, [], ◌∷◌, ◌++◌, append-nil, append_assoc}
+use Rattle.ed_stepper.proofs.Kit.{append-nil, State, state_after, [], ap, append_assoc, List, sym, ℕ, ◌++◌, ◌+◌, ◌∙◌}
+use Rattle.ed_stepper.proofs.Kit.{◌∷◌, ◌≡◌, functions_after, next_functions, no_functions}
 use Rattle.ed_words.specs.Words.{function_of}
-use Rattle.ed_machine.specs.State.{State}
 use Rattle.ed_machine.specs.OrderTable.{next_word}
-use Rattle.ed_machine.specs.Steps.{state_after}
-use Rattle.ed_report.specs.Traces.{functions_after}
-use Rattle.ed_report.proofs.Letters.{next_functions, no_functions}
 
 pub listed_none : (s : State) (xs : List ℕ) → xs ≡ xs ++ functions_after 0 s
 listed_none s xs = sym (ap (λ t. xs ++ t) (no_functions s) ∙ append-nil xs)

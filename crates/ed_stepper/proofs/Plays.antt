@@ -1,22 +1,14 @@
 -- Lines of a script, one after the other.
-use Rattle.std.proofs.Common.{◌≡◌, ◌∙◌, ◌⊎◌, inl, inr, ℕ, ◌+◌, ◌≤◌, refl, sym, ap, arith, Bool, false, true, subst}
-use Rattle.std.proofs.Common.{List, [], ◌∷◌, ◌++◌, length, append_assoc, append-nil, length-append, nat_eq}
-use Rattle.std.specs.Prelude.{Option, Some, None, IsSome, is_none, unwrap_or}
-use Rattle.ed_words.proofs.Numbers.{not_eq_of}
-use Rattle.ed_words.specs.Texts.{Text}
-use Rattle.ed_syntax.specs.Lines.{lines_of}
-use Rattle.ed_stepper.specs.Sessions.{Stand}
-use Rattle.ed_stepper.specs.Private.CommandReading.{bad_from, bad_line, commands_of, line_commands, session_command}
-use Rattle.ed_stepper.specs.Scripts.{GoesTooFar, LeftBy, Played, TooFar, left_by}
-use Rattle.ed_stepper.specs.Scripts.{after_text_of, is_too_far, play, writes}
-use Rattle.std.specs.Prelude.{Err}
-use Rattle.ed_stepper.specs.ScriptLines.{IsScript}
-use Rattle.ed_stepper.specs.Scripts.{ScriptEnds}
+use Rattle.ed_stepper.proofs.Kit.{is_none, append-nil, unwrap_or, [], ap, append_assoc, arith, Bool, Err, false, inl}
+use Rattle.ed_stepper.proofs.Kit.{inr, length, length-append, List, nat_eq, None, refl, Some, subst, sym, true, ℕ}
+use Rattle.ed_stepper.proofs.Kit.{◌++◌, ◌+◌, ◌∙◌, ◌∷◌, ◌≡◌, ◌≤◌, ◌⊎◌, Text, lines_of, bad_from, bad_line, commands_of}
+use Rattle.ed_stepper.proofs.Kit.{line_commands, session_command, IsScript, after_text_of, is_too_far, left_by, LeftBy}
+use Rattle.ed_stepper.proofs.Kit.{play, writes, Stand, SessionCommand, Nothing}
+use Rattle.std.proofs.lemmas.Bool.{eqb-false}
 use Rattle.ed_stepper.specs.Private.Lines.{LineEnds, fault_on}
+use Rattle.ed_stepper.specs.Scripts.{GoesTooFar, Played, TooFar, ScriptEnds}
 use Rattle.ed_stepper.specs.declared.moves.BackFault.{BackFault}
 use Rattle.ed_stepper.specs.declared.moves.BackFault.TheVariants as back
-use Rattle.ed_stepper.specs.declared.commands.SessionCommand.{SessionCommand}
-use Rattle.ed_stepper.specs.declared.commands.SessionCommand.TheVariants.{Nothing}
 
 -- what lines that ran completely wrote, and the session after them
 abbrev whole_play : Text → Stand → Played
@@ -119,14 +111,6 @@ module _ {script : Text} {s : Stand} {line : ℕ} {rest text : Text} {t : Stand}
     good : Good line bytes (lines_of more)
     good = good_first line bytes (lines_of more) (sym (ap (bad_from line) is) ∙ p.good)
 
-    -- it is a command
-    pub has_command : IsSome (session_command bytes)
-    has_command = some_of (session_command bytes) good.some
-      where
-        some_of : (o : Option SessionCommand) → is_none o ≡ false → IsSome o
-        some_of None e = absurd (cc)
-        some_of (Some c) e = refl
-
     module _ {c : SessionCommand} (command : session_command bytes ≡ Some c) where
       -- the commands that are left begin with it
       begins_with : commands_of rest ≡ c ∷ commands_of more
@@ -151,7 +135,7 @@ module _ {script : Text} {s : Stand} {line : ℕ} {rest text : Text} {t : Stand}
             });
             number = omega (arith, p.number, length-append p.ran (c ∷ []));
             good = good.more;
-            few = let other = not_eq_of line 1001 good.below in omega (arith, p.few);
+            few = let other = eqb-false line 1001 good.below in omega (arith, p.few);
           }
 
       -- it goes back too far

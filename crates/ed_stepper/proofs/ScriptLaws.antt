@@ -1,16 +1,13 @@
 -- A script says what is read in it, or has the first bad line that is found.
-use Rattle.std.proofs.Common.{◌≡◌, ◌∙◌, ◌⊎◌, inl, inr, ℕ, ◌+◌, ◌≤◌, Bool, true, false, List, [], ◌∷◌, ◌++◌}
-use Rattle.std.proofs.Common.{refl, sym, ap, subst, arith, length, append-nil}
-use Rattle.std.specs.Prelude.{◌==◌, ◌||◌, Option, Some, None, is_none, unwrap_or, if◌then◌else◌}
-use Rattle.std.proofs.lemmas.Bool.Decides.{nat_tests, Decides-eqb}
-use Rattle.ed_words.specs.Texts.{Text}
-use Rattle.ed_syntax.specs.Lines.{HasLines, lines_of}
-use Rattle.ed_syntax.proofs.SourceLaws.{lines_are_read, read_lines_are}
-use Rattle.ed_stepper.specs.ScriptLines.{EachScriptHasOneMeaning, HasBadLine, IsBadLine, IsFirstBadLine, IsScript}
-use Rattle.ed_stepper.specs.ScriptLines.{LinesSayCommands, and_more, no_command, no_more, too_many_lines}
-use Rattle.ed_stepper.specs.Private.CommandReading.{bad_from, bad_line, commands_of, line_commands, session_command}
-use Rattle.ed_stepper.specs.declared.commands.SessionCommand.{SessionCommand}
-use Rattle.ed_stepper.specs.declared.commands.SessionCommand.TheVariants.{Nothing}
+use Rattle.ed_stepper.proofs.Kit.{is_none, append-nil, unwrap_or, [], ap, arith, Bool, false, if◌then◌else◌, inl, inr}
+use Rattle.ed_stepper.proofs.Kit.{length, List, None, Option, refl, Some, subst, sym, true, ℕ, ◌++◌, ◌+◌, ◌==◌, ◌∙◌}
+use Rattle.ed_stepper.proofs.Kit.{◌∷◌, ◌≡◌, ◌≤◌, ◌⊎◌, Decides-eqb, nat_tests, Text, HasLines, lines_of, read_lines_are}
+use Rattle.ed_stepper.proofs.Kit.{bad_from, bad_line, commands_of, line_commands, session_command, HasBadLine}
+use Rattle.ed_stepper.proofs.Kit.{IsScript, SessionCommand, Nothing}
+use Rattle.std.proofs.Common.{◌||◌}
+use Rattle.ed_syntax.proofs.SourceLaws.{lines_are_read}
+use Rattle.ed_stepper.specs.ScriptLines.{EachScriptHasOneMeaning, IsBadLine, IsFirstBadLine, LinesSayCommands}
+use Rattle.ed_stepper.specs.ScriptLines.{and_more, no_command, no_more, too_many_lines}
 use Rattle.ed_stepper.proofs.CommandLaws.{line_is_read, one_command, read_line_says, unread_says_none}
 
 -- ---- lines one after the other

@@ -1,23 +1,14 @@
 -- What every line of a script keeps of a session: its start and its limit, and that each order counted was obeyed.
-use Rattle.std.proofs.Common.{◌≡◌, ℕ, ◌+◌, ◌≤◌, refl, subst, arith}
-use Rattle.std.proofs.Common.{Bool, true, false, nat_eq, Option, Some, None, is_some, List, [], ◌∷◌}
-use Rattle.std.specs.Prelude.{if◌then◌else◌}
-use Rattle.ed_words.proofs.Numbers.{eq_false}
-use Rattle.ed_machine.specs.State.{State}
-use Rattle.ed_machine.specs.OrderTable.{step}
-use Rattle.ed_machine.specs.Steps.{AreObeyed, is_obeyed, state_after}
-use Rattle.ed_machine.specs.declared.turn.Turn.{Turn}
-use Rattle.ed_machine.specs.declared.turn.Turn.TheVariants.{Went, Printed, Stopped, NoOrder, NoTape}
-use Rattle.ed_machine.proofs.LeastNumbers.{least_below, least_first}
-use Rattle.ed_machine.proofs.Steps.{free_sum}
-use Rattle.ed_stepper.specs.MoveEnds.{blocked_end, end_after, move_orders, or_else, own_end, stopped_after}
-use Rattle.ed_stepper.specs.Sessions.{Stand, left, stands_at}
-use Rattle.ed_stepper.specs.Scripts.{LeftBy, after_text_of, is_too_far, left_by, after_move, play, writes}
-use Rattle.ed_stepper.specs.declared.commands.SessionCommand.{SessionCommand}
+use Rattle.ed_stepper.proofs.Kit.{ne_eqb, Turn, NoOrder, NoTape, Printed, Stopped, Went, step, State, AreObeyed}
+use Rattle.ed_stepper.proofs.Kit.{is_obeyed, state_after, free_sum, [], arith, Bool, false, if◌then◌else◌, List}
+use Rattle.ed_stepper.proofs.Kit.{nat_eq, None, Option, refl, Some, subst, true, ℕ, ◌+◌, ◌∷◌, ◌≡◌, ◌≤◌, blocked_end}
+use Rattle.ed_stepper.proofs.Kit.{move_orders, own_end, stopped_after, after_text_of, is_too_far, left_by, LeftBy}
+use Rattle.ed_stepper.proofs.Kit.{play, writes, left, Stand, stands_at, SessionCommand, MoveEnd, MoveTarget, Orders}
+use Rattle.ed_machine.proofs.LeastNumbers.{least_below}
+use Rattle.ed_stepper.specs.MoveEnds.{or_else}
+use Rattle.ed_stepper.specs.Scripts.{after_move}
+use Rattle.ed_stepper.proofs.Founds.{move_ends}
 use Rattle.ed_stepper.specs.declared.commands.SessionCommand.TheVariants as commands
-use Rattle.ed_stepper.specs.declared.moves.MoveTarget.{MoveTarget}
-use Rattle.ed_stepper.specs.declared.moves.MoveTarget.TheVariants.{Orders}
-use Rattle.ed_stepper.specs.declared.moves.MoveEnd.{MoveEnd}
 use Rattle.ed_stepper.specs.declared.moves.MoveEnd.TheVariants as ends
 
 -- ---- a move
@@ -35,19 +26,14 @@ none_of false false None Stopped low h = refl
 none_of false false None (NoOrder function) low h = let bad : Some ends.NoOrder ≡ None = h in absurd (cc)
 none_of false false None NoTape low h = let bad : Some ends.NoTape ≡ None = h in absurd (cc)
 
-no_end : (o : Option MoveEnd) → is_some o ≡ false → o ≡ None
-no_end None h = refl
-no_end (Some end) h = absurd (cc)
-
 -- each order of a move is obeyed
 pub move_free : (aim : MoveTarget) (n : ℕ) (s : State) → AreObeyed (move_orders aim n s) s
 unfolding move_orders
 move_free aim n s j below =
-    let test : ℕ → Bool = λ k. is_some (end_after aim n k s) in
-    let none : end_after aim n j s ≡ None = no_end _ (least_first test n j below) in
-    let most = least_below test n in
+    let none = (move_ends aim n s).first j below in
+    let most : move_orders aim n s ≤ n = least_below _ n in
     none_of (stopped_after j s) (nat_eq j n) (own_end aim j s) (step (state_after j s)).turn
-    (eq_false j n (omega (arith, below, most))) none
+    (ne_eqb j n (omega (arith, below, most))) none
 
 pub move_within : (aim : MoveTarget) (n : ℕ) (s : State) → move_orders aim n s ≤ n
 unfolding move_orders

@@ -1,17 +1,10 @@
 -- One more order of a move.
-use Rattle.std.proofs.Common.{◌≡◌, ℕ, ◌+◌, ◌<◌, ◌≤◌, refl, sym, ap, ◌∙◌, arith, add-one}
-use Rattle.std.proofs.Common.{below_more, true, false, Some, None, ◌⊎◌, inl, inr}
-use Rattle.ed_words.proofs.Numbers.{eq_true, eq_false}
-use Rattle.ed_machine.specs.State.{State}
-use Rattle.ed_machine.specs.OrderTable.{step}
-use Rattle.ed_machine.specs.Steps.{AreObeyed, is_obeyed, is_stop, state_after}
-use Rattle.ed_machine.specs.declared.turn.Turn.{Turn}
-use Rattle.ed_machine.specs.declared.turn.Turn.TheVariants.{Went, Printed, Stopped, NoOrder, NoTape}
-use Rattle.ed_machine.proofs.Steps.{after_sum, next_state, no_step}
-use Rattle.ed_stepper.specs.MoveEnds.{Ends, blocked_end, end_after, own_end, stopped_after}
-use Rattle.ed_stepper.specs.declared.moves.MoveEnd.{MoveEnd}
-use Rattle.ed_stepper.specs.declared.moves.MoveEnd.TheVariants.{Limit, Stopped as EndStopped}
-use Rattle.ed_stepper.specs.declared.moves.MoveTarget.{MoveTarget}
+use Rattle.ed_stepper.proofs.Kit.{is_stop, Turn, NoOrder, NoTape, Printed, Stopped, Went, add-one, step, State}
+use Rattle.ed_stepper.proofs.Kit.{AreObeyed, is_obeyed, state_after, after_sum, next_state, no_step, ap, arith, false}
+use Rattle.ed_stepper.proofs.Kit.{inl, inr, None, refl, rules, Some, sym, true, ℕ, ◌+◌, ◌<◌, ◌∙◌, ◌≡◌, ◌≤◌, ◌⊎◌}
+use Rattle.ed_stepper.proofs.Kit.{blocked_end, end_after, Ends, own_end, stopped_after, MoveEnd, Limit, MoveTarget}
+use Rattle.std.proofs.Common.{below_more}
+use Rattle.ed_stepper.specs.declared.moves.MoveEnd.TheVariants.{Stopped as EndStopped}
 
 -- k orders of a move have been obeyed, and it has not ended; the limit and a blocked order are not tested yet
 pub record Walking (aim : MoveTarget) (left : ℕ) (s : State) (k : ℕ) (m : State) : Type 0 where
@@ -54,13 +47,11 @@ module _ {aim : MoveTarget} {left : ℕ} {s : State} {k : ℕ} {m : State} (w : 
     (below : k < left) where
   -- only an order that can't be obeyed ends it now
   by_next : end_after aim left k s ≡ blocked_end (step m).turn
-  by_next =
-      let e = eq_false k left (omega arith) in
-      rw (w.quiet, w.going, e) (ap (λ (x : State). blocked_end (step x).turn) (sym w.state))
+  by_next = search rules
 
   -- the move reaches one
-  pub blocks : {end : MoveEnd} → blocked_end (step m).turn ≡ Some end → Ends aim left s k end
-  blocks is = record { now = by_next ∙ is; first = w.first }
+  pub Ends-blocks : {end : MoveEnd} → blocked_end (step m).turn ≡ Some end → Ends aim left s k end
+  Ends-blocks is = record { now = by_next ∙ is; first = w.first }
 
   -- its next order
   module _ {n : State} {turn : Turn} (is : turn ≡ (step m).turn) (to : n ≡ (step m).state) where
@@ -76,31 +67,29 @@ module _ {aim : MoveTarget} {left : ℕ} {s : State} {k : ℕ} {m : State} (w : 
         }
 
     -- if it neither stops nor is blocked
-    pub taken : (turn ≡ Went) ⊎ ((x : ℕ) × (turn ≡ Printed x)) → Next aim left s k m n turn × (is_stop turn ≡ false)
-    taken quiet = let q = quiet_turn turn quiet in (next q.0, q.1)
+    pub Next-taken : (turn ≡ Went) ⊎ ((x : ℕ) × (turn ≡ Printed x))
+        → Next aim left s k m n turn × (is_stop turn ≡ false)
+    Next-taken quiet = let q = quiet_turn turn quiet in (next q.0, q.1)
 
 -- after such an order
 module _ {aim : MoveTarget} {left : ℕ} {s : State} {k : ℕ} {m n : State} {turn : Turn}
     (next : Next aim left s k m n turn) where
   -- the move goes on
   pub goes_on : is_stop turn ≡ false → own_end aim (k + 1) s ≡ None → Walking aim left s (k + 1) n
-  goes_on go none =
-      record { state = next.state; free = next.free; quiet = next.stop_is ∙ go; going = none; first = next.first }
+  goes_on go none = search rules
 
   -- it ends with a stop
-  pub stops : is_stop turn ≡ true → Ends aim left s (k + 1) EndStopped
-  stops stop = let e = next.stop_is ∙ stop in record { now = rw e refl; first = next.first }
+  pub Ends-stops : is_stop turn ≡ true → Ends aim left s (k + 1) EndStopped
+  Ends-stops stop = let e = next.stop_is ∙ stop in record { now = rw e refl; first = next.first }
 
   -- it reaches its own end
-  pub owns : {end : MoveEnd} → is_stop turn ≡ false → own_end aim (k + 1) s ≡ Some end → Ends aim left s (k + 1) end
-  owns go own = let e = next.stop_is ∙ go in record { now = rw (e, own) refl; first = next.first }
+  pub Ends-owns : {end : MoveEnd} → is_stop turn ≡ false → own_end aim (k + 1) s ≡ Some end
+      → Ends aim left s (k + 1) end
+  Ends-owns go own = let e = next.stop_is ∙ go in record { now = rw (e, own) refl; first = next.first }
 
 -- a move reaches the limit
-pub limits : {aim : MoveTarget} {left : ℕ} {s m : State} → Walking aim left s left m → Ends aim left s left Limit
-limits {left = left} w = let e = eq_true left left refl in record {
-  now = rw (w.quiet, w.going, e) refl;
-  first = w.first;
-}
+pub Ends-limits : {aim : MoveTarget} {left : ℕ} {s m : State} → Walking aim left s left m → Ends aim left s left Limit
+Ends-limits {left = left} w = search rules
 
 -- it ends before any order
 pub ends_at_once : (aim : MoveTarget) (left : ℕ) (s : State) (end : MoveEnd) → own_end aim 0 s ≡ Some end
@@ -136,5 +125,5 @@ pub orders_kept : (s m n k : ℕ) → n ≡ m → m ≤ s + k → n ≤ s + k
 orders_kept s m n k same all = omega arith
 
 -- counted from an earlier start on
-pub reached : (start s n from k : ℕ) → n ≤ s + (k + 1) → s ≤ start + from → n ≤ start + (from + k + 1)
-reached start s n from k all few = omega arith
+pub orders-reached : (start s n from k : ℕ) → n ≤ s + (k + 1) → s ≤ start + from → n ≤ start + (from + k + 1)
+orders-reached start s n from k all few = omega arith

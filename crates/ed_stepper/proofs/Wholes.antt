@@ -1,20 +1,15 @@
 -- The whole trace of a run.
-use Rattle.std.proofs.Common.{◌≡◌, ◌≢◌, ◌⊎◌, inl, inr, ℕ, ◌+◌, ◌-◌, ◌%◌, ◌<◌, ◌≤◌, refl, sym}
-use Rattle.std.proofs.Common.{ap, ◌∙◌, subst, arith, Bool, true, false, if◌then◌else◌, List, [], ◌∷◌, ◌++◌}
-use Rattle.std.proofs.Common.{append_assoc, append-nil, Option, Some, None, Ok, Err}
-use Rattle.ed_words.proofs.Numbers.{eq_false, eq_true}
-use Rattle.ed_machine.specs.State.{State}
-use Rattle.ed_machine.specs.Steps.{progress, state_after}
+use Rattle.ed_stepper.proofs.Kit.{is_some, ◌≢◌, eq-eqb, ne_eqb, first_once, first_within, append-nil, ◌%◌, State}
+use Rattle.ed_stepper.proofs.Kit.{progress, state_after, end_at, [], ap, append_assoc, arith, Bool, Err, false}
+use Rattle.ed_stepper.proofs.Kit.{if◌then◌else◌, inl, inr, List, None, Ok, Option, refl, subst, sym, true, ℕ, ◌++◌}
+use Rattle.ed_stepper.proofs.Kit.{◌+◌, ◌-◌, ◌<◌, ◌∙◌, ◌∷◌, ◌≡◌, ◌≤◌, Gains, GainsPart, Failed, gains_more, is_full}
+use Rattle.ed_stepper.proofs.Kit.{functions_count, BreaksTrace, Lines, orders_in_full_lines, traced_letters, trace_to}
 use Rattle.ed_machine.specs.declared.ending.Ending.{Ending}
-use Rattle.ed_run.specs.Run.{EndsAfter, end_at, run_end, run_orders}
-use Rattle.ed_run.proofs.Ends.{ends_once, ran_ends}
-use Rattle.ed_io.specs.Bytes.{Gains, GainsPart}
-use Rattle.ed_io.specs.declared.device.Failed.{Failed}
-use Rattle.ed_io.proofs.Calls.{gains_more}
-use Rattle.ed_report.specs.Traces.{is_full, last_end}
-use Rattle.ed_report.proofs.Letters.{functions_count}
-use Rattle.ed_stepper.specs.Traces.{TraceBroke, trace_of, trace_to}
-use Rattle.ed_stepper.specs.Private.Growth.{BreaksTrace, EndsLine, Lines, orders_in_full_lines, traced_letters}
+use Rattle.ed_run.specs.Run.{EndsAfter, run_end, run_orders}
+use Rattle.ed_run.proofs.Ends.{ran_ends}
+use Rattle.ed_report.specs.Traces.{last_end}
+use Rattle.ed_stepper.specs.Private.Growth.{EndsLine}
+use Rattle.ed_stepper.specs.Traces.{TraceBroke, trace_of}
 use Rattle.ed_stepper.proofs.Growing.{more_traced, part_of_longer}
 
 -- the whole trace is that of the orders of the run
@@ -24,51 +19,32 @@ whole_trace : (limit resumes : ℕ) (s : State)
 whole_trace limit resumes s =
     let n : ℕ = run_orders limit resumes limit s in ap (λ k. traced_letters n s ++ last_end k) (functions_count n s)
 
--- the orders of a run that ends
-pub orders_found : {limit resumes : ℕ} {s : State} {k : ℕ} {ending : Ending} → EndsAfter limit resumes limit s k ending
-    → k ≡ run_orders limit resumes limit s
-orders_found {limit} {resumes} {s} e = (ends_once e (ran_ends limit resumes limit s)).0
-
--- its ending
-pub ending_found : {limit resumes : ℕ} {s : State} {k : ℕ} {ending : Ending} → EndsAfter limit resumes limit s k ending
-    → ending ≡ (run_end limit resumes limit s).ending
-ending_found {limit} {resumes} {s} e = (ends_once e (ran_ends limit resumes limit s)).1
-
--- the state that it leaves
-pub state_found : {limit resumes : ℕ} {s : State} {k : ℕ} {ending : Ending} → EndsAfter limit resumes limit s k ending
-    → state_after k s ≡ (run_end limit resumes limit s).state
+-- what was found of a run is what the function gives
+pub found : (limit resumes : ℕ) (s : State) {k : ℕ} {ending : Ending} → EndsAfter limit resumes limit s k ending
+    → (k ≡ run_orders limit resumes limit s)
+    × ((ending ≡ (run_end limit resumes limit s).ending) × (state_after k s ≡ (run_end limit resumes limit s).state))
 unfolding run_end
-state_found {s} e = ap (λ n. state_after n s) (orders_found e)
+found limit resumes s e =
+    let one = first_once e (ran_ends limit resumes limit s) in (one.0, (one.1, ap (λ n. state_after n s) one.0))
 
 -- the trace of orders whose lines are full
 trace_full : (k : ℕ) (s : State) → k % 50 ≡ 0 → trace_to k s ≡ traced_letters k s
 trace_full k s h =
-    let t : is_full k ≡ true = eq_true (k % 50) 0 h in
+    let t : is_full k ≡ true = eq-eqb (k % 50) 0 h in
     ap (λ n. traced_letters k s ++ last_end n) (functions_count k s)
     ∙ ap (λ (b : Bool). traced_letters k s ++ (if b then [] else 10 ∷ [])) t ∙ append-nil (traced_letters k s)
 
 -- and of others
 trace_open : (k : ℕ) (s : State) → k % 50 ≢ 0 → trace_to k s ≡ traced_letters k s ++ 10 ∷ []
 trace_open k s h =
-    let t : is_full k ≡ false = eq_false (k % 50) 0 h in
+    let t : is_full k ≡ false = ne_eqb (k % 50) 0 h in
     ap (λ n. traced_letters k s ++ last_end n) (functions_count k s)
     ∙ ap (λ (b : Bool). traced_letters k s ++ (if b then [] else 10 ∷ [])) t
 
 -- no more orders are obeyed than those of the run
 within_run : (limit resumes : ℕ) (s : State) (k : ℕ)
     → ((j : ℕ) → j < k → end_at limit resumes limit j (progress j s) ≡ None) → k ≤ run_orders limit resumes limit s
-within_run limit resumes s k first = by_place (split k (run_orders limit resumes limit s))
-  where
-    split : (j k : ℕ) → (j ≤ k) ⊎ (k < j)
-    split j k = grind arith
-
-    by_place : (k ≤ run_orders limit resumes limit s) ⊎ (run_orders limit resumes limit s < k)
-        → k ≤ run_orders limit resumes limit s
-    by_place (inl low) = low
-    by_place (inr high) =
-        let bad : None ≡ Some (run_end limit resumes limit s).ending =
-        sym (first (run_orders limit resumes limit s) high) ∙ (ran_ends limit resumes limit s).now in
-        absurd (cc)
+within_run limit resumes s k first = first_within k _ first (ap is_some (ran_ends limit resumes limit s).now)
 
 -- the write of a line that was full failed
 module _ {limit resumes : ℕ} {s last : State} {before after : Option (List ℕ)}

@@ -1,10 +1,10 @@
 -- When a move of a session ends (this project's own rules). The ends are tested in this order: a stop, the move's own
 -- end, the limit, an order that can't be obeyed.
-use Rattle.std.specs.Prelude.{ℕ, zero, suc, ◌≡◌, ◌<◌, Bool, true, false, ◌&&◌, nat_eq}
+use Rattle.std.specs.Prelude.{ℕ, zero, suc, Bool, true, false, ◌&&◌, nat_eq}
 use Rattle.std.specs.Prelude.{if◌then◌else◌, Option, Some, None, is_some, unwrap_or}
 use Rattle.ed_machine.specs.State.{State}
 use Rattle.ed_machine.specs.OrderTable.{step}
-use Rattle.ed_machine.specs.Steps.{is_stop, least, state_after}
+use Rattle.ed_machine.specs.Steps.{IsFirstAnswer, is_stop, least, state_after}
 use Rattle.ed_machine.specs.declared.turn.Turn.{Turn}
 use Rattle.ed_machine.specs.declared.turn.Turn.TheVariants.{NoOrder as TurnNoOrder, NoTape as TurnNoTape}
 use Rattle.ed_initial.specs.Load.{enters}
@@ -52,9 +52,8 @@ end_after aim left k s =
     else or_else (own_end aim k s) (if nat_eq k left then Some Limit else blocked_end (step (state_after k s)).turn)
 
 -- a move from a state ends with this end after k orders, and not before
-pub record Ends (aim : MoveTarget) (left : ℕ) (s : State) (k : ℕ) (end : MoveEnd) : Type 0 where
-  pub now : end_after aim left k s ≡ Some end
-  pub first : (j : ℕ) → j < k → end_after aim left j s ≡ None
+abbrev pub Ends : MoveTarget → ℕ → State → ℕ → MoveEnd → Type 0
+Ends aim left s k end = IsFirstAnswer (λ j. end_after aim left j s) k end
 
 -- the number of orders that a move obeys: the least number after which it ends, at most `left`
 unfoldable pub move_orders : MoveTarget → ℕ → State → ℕ

@@ -7,11 +7,11 @@
 //! At most one line of a trace is held in memory. Depends on `ed_run`, `ed_initial`, `ed_syntax`, `ed_io` and `ed_report`.
 #![tactic(auto)]
 
+mod checkpoints;
 mod commands;
 mod fronts;
 mod inputs;
 mod lines;
-mod marks;
 mod moves;
 mod script;
 mod session;

@@ -6,7 +6,7 @@ ghost use Rattle.ed_report.specs.Traces.{functions_after};
 ghost use Rattle.ed_stepper.specs.Sessions.{Moves, MovesBack, stands_at};
 ghost use Rattle.ed_stepper.specs.declared.moves.MoveTarget.TheVariants.{Address, Entry, Orders};
 
-use crate::marks::{Mark, latest, replay};
+use crate::checkpoints::{Checkpoint, latest, replay};
 use crate::moves::{BackFault, MoveEnd, MoveTarget, Moved};
 use crate::walk::walk;
 use ed_codes::Code;
@@ -24,7 +24,7 @@ pub struct Session {
     alloc: Global,
     start: Machine,
     machine: Machine,
-    marks: Vec<Mark>,
+    checkpoints: Vec<Checkpoint>,
     limit: u64,
     done: u64,
 }
@@ -37,7 +37,7 @@ impl Model for Session {
 
     ghost view = { λ s. record { start = s.start; limit = s.limit; done = s.done } };
 
-    ghost invariant = { λ s. IsSession s.start s.machine s.marks.items s.limit s.done };
+    ghost invariant = { λ s. IsSession s.start s.machine s.checkpoints.items s.limit s.done };
 }
 
 /// Why no session was made.
@@ -74,7 +74,7 @@ impl Session {
                 alloc,
                 start,
                 machine,
-                marks: Vec::new(alloc),
+                checkpoints: Vec::new(alloc),
                 limit,
                 done: 0,
             }),
@@ -151,7 +151,7 @@ impl Session {
     {
         let walked = walk(
             &mut self.machine,
-            &mut self.marks,
+            &mut self.checkpoints,
             self.done,
             aim,
             self.limit - self.done,
@@ -170,10 +170,10 @@ impl Session {
         ensures is { IfOk result (λ m. m ≡ state_after done self.now.start) }
         ensures count { IfOk result (λ m. m.orders ≤ self.now.start.orders + done) }
     {
-        match latest(&self.marks, done) {
+        match latest(&self.checkpoints, done) {
             Some(place) => {
-                let mark = &self.marks[place];
-                replay(&mark.machine, done - mark.done)
+                let checkpoint = &self.checkpoints[place];
+                replay(&checkpoint.machine, done - checkpoint.done)
             }
             None => replay(&self.start, done),
         }

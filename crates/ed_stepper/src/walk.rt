@@ -4,9 +4,9 @@ ghost use Rattle.ed_machine.specs.State.{State};
 ghost use Rattle.ed_machine.specs.Steps.{AreObeyed, state_after};
 ghost use Rattle.ed_stepper.specs.MoveEnds.{Ends, own_end};
 ghost use Rattle.ed_stepper.specs.declared.moves.MoveEnd.TheVariants.{Went};
-ghost use Rattle.ed_stepper.specs.Kept.{AreMarks};
+ghost use Rattle.ed_stepper.specs.Kept.{AreCheckpoints};
 
-use crate::marks::{Mark, keep};
+use crate::checkpoints::{Checkpoint, save};
 use crate::moves::{MoveEnd, MoveTarget};
 use ed_initial::is_entering;
 use ed_machine::{Machine, Turn};
@@ -22,7 +22,7 @@ pub(crate) struct Walked {
 /// the way.
 pub(crate) fn walk(
     machine: &mut Machine,
-    marks: &mut Vec<Mark>,
+    checkpoints: &mut Vec<Checkpoint>,
     from: u64,
     aim: MoveTarget,
     left: u64,
@@ -34,8 +34,8 @@ pub(crate) fn walk(
     ensures free { AreObeyed result.orders machine.old }
     ensures most { result.orders ≤ left }
     ensures count { machine.new.orders ≤ machine.old.orders + result.orders }
-    ensures marks { (start : State) → machine.old ≡ state_after from start → machine.old.orders ≤ start.orders + from
-        → AreMarks start marks.old.items → AreMarks start marks.new.items }
+    ensures checkpoints { (start : State) → machine.old ≡ state_after from start → machine.old.orders ≤ start.orders + from
+        → AreCheckpoints start checkpoints.old.items → AreCheckpoints start checkpoints.new.items }
 {
     if let MoveTarget::Orders(0) = aim {
         return Walked {
@@ -66,7 +66,7 @@ pub(crate) fn walk(
                 };
             }
         }
-        keep(marks, machine, from + orders + 1);
+        save(checkpoints, machine, from + orders + 1);
         if let Some(end) = own_end(&aim, orders + 1, machine.counter(), entered) {
             return Walked {
                 orders: orders + 1,

@@ -1,13 +1,13 @@
 -- Words and digits of packed cells.
-use Rattle.std.proofs.Common.{◌≡◌, ℕ, zero, suc, ◌*◌, ◌/◌, ◌%◌, ◌^◌, ◌<◌, ◌≢◌, refl, sym, ap, ap₂, ◌∙◌}
-use Rattle.std.proofs.Common.{arith, lit<, false, nat_eq, List, [], ◌∷◌, drop, length, get_or, set}
-use Rattle.std.specs.Prelude.{replicate}
+use Rattle.ed_store.proofs.Kit.{ap, arith, get_or, nat_eq, sym, ◌%◌, ◌*◌, ◌/◌, ◌^◌, ◌∙◌, Cells, long_at, sandwich_at}
+use Rattle.ed_store.proofs.Kit.{short_at, unpacked_cells}
+use Rattle.std.proofs.Common.{◌≡◌, ℕ, zero, suc, ◌<◌, ◌≢◌, refl, ap₂, lit<, false, List, [], ◌∷◌, drop, length, set}
+use Rattle.std.proofs.Common.{replicate}
 use Rattle.std.proofs.lemmas.Bool.Decides.{nat_tests}
 use Rattle.std.proofs.lemmas.List.{set-get_or, get_or-set_other, get_or_read, length-replicate}
 use Rattle.ed_words.specs.Words.{digit}
-use Rattle.ed_store.specs.Cells.{Cells, IsStore, cleared_cells, even, odd, short_at}
-use Rattle.ed_store.specs.Cells.{sandwich_at, long_at, with_short, with_long}
-use Rattle.ed_store.specs.Packed.{cell_words, sandwich_digits, unpacked_cells, ArePacked}
+use Rattle.ed_store.specs.Cells.{IsStore, cleared_cells, even, odd, with_short, with_long}
+use Rattle.ed_store.specs.Packed.{cell_words, sandwich_digits, ArePacked}
 
 -- two stores with the same words and digits are equal
 cells_equal : (a b : Cells) → a.words ≡ b.words → a.sandwich ≡ b.sandwich → a ≡ b

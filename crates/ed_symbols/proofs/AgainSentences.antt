@@ -1,24 +1,17 @@
 -- The same for the fault S6, of names that are defined again.
-use Rattle.std.proofs.Common.{◌≡◌, ◌⊎◌, inl, inr, ℕ, zero, suc, refl, sym, ap, ◌∙◌, subst, arith}
-use Rattle.std.proofs.Common.{Bool, true, false, not, ◌||◌, Option, Some, None, List, [], ◌∷◌, ◌++◌}
-use Rattle.std.proofs.Common.{is_some, if◌then◌else◌}
-use Rattle.std.specs.Str.{bytes_eq}
-use Rattle.std.specs.List.{list_any, Contains}
-use Rattle.std.proofs.lemmas.Slice.Eq.{bytes_eq-Decides}
-use Rattle.std.proofs.lemmas.Bool.{or_cases}
-use Rattle.std.proofs.lemmas.List.Folds.{Any-from_list_any, list_any-from_Any}
+use Rattle.ed_symbols.proofs.Kit.{is_some, list_any, or_cases, or_left, or_right, Any-from_list_any, list_any-from_Any}
+use Rattle.ed_symbols.proofs.Kit.{Line, [], ap, arith, Bool, false, if◌then◌else◌, inl, inr, List, None, not, Option}
+use Rattle.ed_symbols.proofs.Kit.{refl, Some, subst, sym, true, ℕ, ◌++◌, ◌||◌, ◌∙◌, ◌∷◌, ◌≡◌, ◌⊎◌, counter_after}
+use Rattle.ed_symbols.proofs.Kit.{counter_from, IsLineAfter, defines_again, definition_of, line_definitions}
+use Rattle.ed_symbols.proofs.Kit.{symbols_from, after_statement, first_counter, LocationCounter, Definition}
+use Rattle.ed_syntax.proofs.Kit.{suc, zero, and_from, and_parts, bytes_eq-Decides}
+use Rattle.std.specs.List.{Contains}
+use Rattle.std.proofs.lemmas.Bool.{eqb-true, eq-eqb}
 use Rattle.std.proofs.lemmas.List.Elements.{Contains-append_cases, Contains-append_left, Contains-append_right}
-use Rattle.ed_words.proofs.Numbers.{eq_of, eq_true}
-use Rattle.ed_syntax.specs.declared.program.Line.{Line}
-use Rattle.ed_symbols.specs.declared.location_counter.LocationCounter.{LocationCounter}
-use Rattle.ed_symbols.specs.declared.symbols.Definition.{Definition}
-use Rattle.ed_symbols.specs.Places.{after_statement, first_counter}
-use Rattle.ed_symbols.specs.Names.{line_definitions, definition_of, symbols_from, is_definition_of, is_local}
-use Rattle.ed_symbols.specs.Names.{label_definition, as_list, statement_definition}
-use Rattle.ed_symbols.specs.Names.{same_segment}
-use Rattle.ed_symbols.specs.NameTests.{defines_again, is_again}
-use Rattle.ed_symbols.specs.NameFaults.{StandsAfter, counter_from, counter_after, AreAlike, DefinesAgain}
-use Rattle.ed_symbols.proofs.Sentences.{Ties, or_left, or_right, and_of, and_true}
+use Rattle.ed_symbols.specs.NameFaults.{AreAlike, DefinesAgain}
+use Rattle.ed_symbols.specs.NameTests.{is_again}
+use Rattle.ed_symbols.specs.Names.{is_definition_of, label_definition, as_list, statement_definition, same_segment}
+use Rattle.ed_symbols.proofs.Sentences.{Ties}
 
 none_in : {A : Type 0} (x : A) → Contains [] x → ⊥
 none_in x h = absurd (omega (arith, h.1))
@@ -33,24 +26,19 @@ listed_has o h e = subst (λ x. Contains (as_list x) h) (sym e) (0, omega arith,
 
 -- a definition among those of some lines, from a location counter onwards, is one of a line of them
 abbrev IsOfLine : LocationCounter → List Line → Definition → Type 0
-IsOfLine s lines h = (earlier : List Line) × (e : Line) × StandsAfter lines earlier e
+IsOfLine s lines h = (earlier : List Line) × (e : Line) × IsLineAfter lines earlier e
     × Contains (line_definitions e (counter_from s earlier)) h
 
 of_line_says : (s : LocationCounter) (lines : List Line) (h : Definition) → Contains (symbols_from s lines) h
     → IsOfLine s lines h
 of_line_says s [] h c = absurd (none_in h c)
 of_line_says s (l ∷ lines) h c =
-    by_case (λ g. of_line_says (after_statement l.statement s) lines h g)
-    (Contains-append_cases (line_definitions l s) (symbols_from (after_statement l.statement s) lines) h c)
-  where
-    by_case : (Contains (symbols_from (after_statement l.statement s) lines) h
-        → IsOfLine (after_statement l.statement s) lines h)
-        → Contains (line_definitions l s) h ⊎ Contains (symbols_from (after_statement l.statement s) lines) h
-        → IsOfLine s (l ∷ lines) h
-    by_case more (inl g) = ([], l, record { after = lines; lines_are = refl }, g)
-    by_case more (inr g) =
-        let r = more g in
-        (l ∷ r.0, r.1, record { after = r.2.after; lines_are = ap (λ x. l ∷ x) r.2.lines_are }, r.3)
+    elim (Contains-append_cases (line_definitions l s) (symbols_from (after_statement l.statement s) lines) h c) [
+      | inl g ↦ ([], l, record { after = lines; lines_are = refl }, g)
+      | inr g ↦
+          let r = (of_line_says (after_statement l.statement s) lines h g) in
+          (l ∷ r.0, r.1, record { after = r.2.after; lines_are = ap (λ x. l ∷ x) r.2.lines_are }, r.3)
+    ]
 
 of_line_among : (s : LocationCounter) (earlier : List Line) (e : Line) (after : List Line) (h : Definition)
     → Contains (line_definitions e (counter_from s earlier)) h → Contains (symbols_from s (earlier ++ e ∷ after)) h
@@ -62,17 +50,15 @@ of_line_among s (l ∷ earlier) e after h c =
 
 of_line_has : (s : LocationCounter) (lines : List Line) (h : Definition) → IsOfLine s lines h
     → Contains (symbols_from s lines) h
-of_line_has s lines h r = subst (λ x. Contains (symbols_from s x) h) (sym r.2.lines_are)
-    (of_line_among s r.0 r.1 r.2.after h r.3)
+of_line_has s lines h r = rw r.2.lines_are (of_line_among s r.0 r.1 r.2.after h r.3)
 
 same_says : (a b : Option ℕ) → same_segment a b ≡ true → (k : ℕ) × (b ≡ Some k) × (a ≡ Some k)
 same_says None b h = cc
 same_says (Some x) None h = cc
-same_says (Some x) (Some y) h = (y, refl, ap (λ n. Some n) (eq_of x y h))
+same_says (Some x) (Some y) h = (y, refl, ap (λ n. Some n) (eqb-true x y h))
 
 same_tests : (a b : Option ℕ) (k : ℕ) → b ≡ Some k → a ≡ Some k → same_segment a b ≡ true
-same_tests a b k e d = subst (λ x. same_segment x b ≡ true) (sym d)
-    (subst (λ x. same_segment (Some k) x ≡ true) (sym e) (eq_true k k refl))
+same_tests a b k e d = rw d (rw e (eq-eqb k k refl))
 
 local_says : (is : Bool) (a b : Option ℕ) → (not is || same_segment a b) ≡ true → is ≡ true
     → (k : ℕ) × (b ≡ Some k) × (a ≡ Some k)
@@ -86,17 +72,14 @@ local_tests true a b h = let k = h refl in same_tests a b k.0 k.1 k.2
 
 alike_says : (h other : Definition) → is_definition_of h.segment h.name other ≡ true → AreAlike h other
 alike_says h other t =
-    let p = and_of (bytes_eq other.name h.name) (not (is_local h.name) || same_segment other.segment h.segment) t in
+    let p = and_parts _ _ t in
     record {
-      names = (bytes_eq-Decides other.name h.name).0 p.0;
-      segments = local_says (is_local h.name) other.segment h.segment p.1;
+      names = (bytes_eq-Decides _ h.name).0 p.0;
+      segments = local_says _ _ _ p.1;
     }
 
 alike_tests : (h other : Definition) → AreAlike h other → is_definition_of h.segment h.name other ≡ true
-alike_tests h other a =
-    and_true (bytes_eq other.name h.name) (not (is_local h.name) || same_segment other.segment h.segment)
-    ((bytes_eq-Decides other.name h.name).1 a.names)
-    (local_tests (is_local h.name) other.segment h.segment a.segments)
+alike_tests h other a = and_from _ _ ((bytes_eq-Decides _ h.name).1 a.names) (local_tests _ _ _ a.segments)
 
 found_any : (g : Option ℕ) (name : List ℕ) (symbols : List Definition)
     → is_some (definition_of g name symbols) ≡ list_any (is_definition_of g name) symbols
@@ -116,14 +99,12 @@ IsAgain earlier o = (h : Definition) × (o ≡ Some h) × (other : Definition) �
 again_says : (earlier : List Definition) (o : Option Definition) → is_again earlier o ≡ true → IsAgain earlier o
 again_says earlier None t = cc
 again_says earlier (Some h) t =
-    let a = Any-from_list_any (is_definition_of h.segment h.name) earlier
-    (sym (found_any h.segment h.name earlier) ∙ t) in
+    let a = Any-from_list_any (is_definition_of h.segment h.name) earlier (sym (found_any _ h.name earlier) ∙ t) in
     (h, refl, a.1, (a.0, a.2, a.3), alike_says h a.1 a.4)
 
 again_tests : (earlier : List Definition) (o : Option Definition) → IsAgain earlier o → is_again earlier o ≡ true
-again_tests earlier o a = ap (is_again earlier) a.1 ∙ (found_any a.0.segment a.0.name earlier
-    ∙ list_any-from_Any (is_definition_of a.0.segment a.0.name) earlier
-    (a.3.0, a.2, a.3.1, a.3.2, alike_tests a.0 a.2 a.4))
+again_tests earlier o a = ap (is_again earlier) a.1 ∙ (found_any _ a.0.name earlier
+    ∙ list_any-from_Any _ earlier (a.3.0, a.2, a.3.1, a.3.2, alike_tests a.0 a.2 a.4))
 
 module _ (before : List Line) (l : Line) where
   abbrev here : LocationCounter
@@ -152,21 +133,20 @@ module _ (before : List Line) (l : Line) where
       )
 
   by_name : IsAgain (earlier_homes ++ as_list labels) names → DefinesAgain before l
-  by_name a = by_case (Contains-append_cases earlier_homes (as_list labels) a.2 a.3)
-    where
-      by_case : Contains earlier_homes a.2 ⊎ Contains (as_list labels) a.2 → DefinesAgain before l
-      by_case (inl c) = let r = of_line_says first_counter before a.2 c in
-          inl (
-            a.0,
-            Contains-append_right (as_list labels) (as_list names) a.0 (listed_has names a.0 a.1),
-            r.0,
-            r.1,
-            r.2,
-            a.2,
-            r.3,
-            a.4,
-          )
-      by_case (inr c) = inr (a.0, a.1, a.2, listed_says labels a.2 c, a.4)
+  by_name a = elim (Contains-append_cases earlier_homes (as_list labels) a.2 a.3) [
+    | inl c ↦ let r = of_line_says first_counter before a.2 c in
+        inl (
+          a.0,
+          Contains-append_right (as_list labels) (as_list names) a.0 (listed_has names a.0 a.1),
+          r.0,
+          r.1,
+          r.2,
+          a.2,
+          r.3,
+          a.4,
+        )
+    | inr c ↦ inr (a.0, a.1, a.2, listed_says labels a.2 c, a.4)
+  ]
 
   either : (is_again earlier_homes labels ≡ true)
       ⊎ (is_again (earlier_homes ++ as_list labels) names ≡ true) → DefinesAgain before l
@@ -181,19 +161,17 @@ module _ (before : List Line) (l : Line) where
       among = of_line_has first_counter before other (e, x, stands, d)
 
       by_case : Contains (as_list labels) h ⊎ Contains (as_list names) h → defines_again earlier_homes l here ≡ true
-      by_case (inl g) = or_left (is_again earlier_homes labels) (is_again (earlier_homes ++ as_list labels) names)
+      by_case (inl g) = or_left _ _
           (again_tests earlier_homes labels (h, listed_says labels h g, other, among, alike))
-      by_case (inr g) = or_right (is_again earlier_homes labels) (is_again (earlier_homes ++ as_list labels) names)
-          (again_tests (earlier_homes ++ as_list labels) names (
-            h,
-            listed_says names h g,
-            other,
-            Contains-append_left earlier_homes (as_list labels) other among,
-            alike,
-          ))
+      by_case (inr g) = or_right _ _ (again_tests _ names (
+        h,
+        listed_says names h g,
+        other,
+        Contains-append_left earlier_homes (as_list labels) other among,
+        alike,
+      ))
   again_of (inr (h, e, other, d, alike)) =
-      or_right (is_again earlier_homes labels) (is_again (earlier_homes ++ as_list labels) names)
-      (again_tests (earlier_homes ++ as_list labels) names (
+      or_right _ _ (again_tests _ names (
         h,
         e,
         other,
@@ -201,8 +179,9 @@ module _ (before : List Line) (l : Line) where
         alike,
       ))
 
-  pub s6 : Ties (defines_again (symbols_from first_counter before) l (counter_after before)) (DefinesAgain before l)
-  s6 = record {
-    says = λ t. either (or_cases (is_again earlier_homes labels) (is_again (earlier_homes ++ as_list labels) names) t);
+  pub Ties-s6 : Ties (defines_again (symbols_from first_counter before) l (counter_after before))
+      (DefinesAgain before l)
+  Ties-s6 = record {
+    says = λ t. either (or_cases _ _ t);
     tests = again_of;
   }

@@ -1,15 +1,7 @@
 -- A pass over the lines finds the first line that has a fault of its kind.
-use Rattle.std.proofs.Common.{◌≡◌, ◌⊎◌, inl, inr, ℕ, ◌+◌, ◌<◌, ◌≤◌, sym, ap, ◌∙◌, subst, arith}
-use Rattle.std.proofs.Common.{Option, Some, None, List, [], ◌∷◌, ◌++◌, length}
-use Rattle.std.proofs.Common.{append_assoc, length-append}
-use Rattle.std.proofs.lemmas.List.{append-nil}
-use Rattle.ed_syntax.specs.declared.program.Line.{Line}
-use Rattle.ed_syntax.specs.declared.fault.SourceCause.{SourceCause}
-use Rattle.ed_syntax.specs.declared.fault.SourceFault.{SourceFault}
-use Rattle.ed_syntax.specs.declared.fault.SourceFault.TheVariants.{At, Memory}
-use Rattle.ed_symbols.specs.NameTests.{or_later}
-use Rattle.ed_syntax.specs.Causes.{number_of}
-use Rattle.ed_symbols.specs.NameFaults.{StandsAfter}
+use Rattle.ed_symbols.proofs.Kit.{SourceCause, SourceFault, At, Memory, Line, [], ap, append_assoc, arith, inl, inr}
+use Rattle.ed_symbols.proofs.Kit.{length, length-append, List, None, Option, Some, subst, sym, ℕ, ◌++◌, ◌+◌, ◌<◌, ◌∙◌}
+use Rattle.ed_symbols.proofs.Kit.{◌∷◌, ◌≡◌, ◌≤◌, ◌⊎◌, append-nil, number_of, IsLineAfter, or_later}
 use Rattle.ed_symbols.proofs.LeastFaults.{Least}
 
 -- what a pass finds that tests each line by the lines before it
@@ -19,15 +11,15 @@ first ask before (l ∷ rest) = or_later l.number (ask before l) (first ask (bef
 
 -- the lines have their numbers, counted from 1
 abbrev pub Numbered : List Line → Type 0
-Numbered lines = (before : List Line) (l : Line) → StandsAfter lines before l → l.number ≡ length before + 1
+Numbered lines = (before : List Line) (l : Line) → IsLineAfter lines before l → l.number ≡ length before + 1
 
 -- the first line with a fault of the rule's kind
 abbrev pub Finds : (List Line → Line → SourceCause → Type 0) → List Line → Option SourceFault → Type 0
-Finds Rule lines None = (b : List Line) (l : Line) (c : SourceCause) → StandsAfter lines b l → Rule b l c → ⊥
+Finds Rule lines None = (b : List Line) (l : Line) (c : SourceCause) → IsLineAfter lines b l → Rule b l c → ⊥
 Finds Rule lines (Some Memory) = ⊥
 Finds Rule lines (Some (At k cause)) =
-    ((b : List Line) × (l : Line) × StandsAfter lines b l × (k ≡ length b + 1) × Rule b l cause)
-    × ((b : List Line) (l : Line) (c : SourceCause) → StandsAfter lines b l → Rule b l c
+    ((b : List Line) × (l : Line) × IsLineAfter lines b l × (k ≡ length b + 1) × Rule b l cause)
+    × ((b : List Line) (l : Line) (c : SourceCause) → IsLineAfter lines b l → Rule b l c
     → (k < length b + 1) ⊎ ((k ≡ length b + 1) × (number_of cause ≤ number_of c)))
 
 head_same : (l m : Line) (r q : List Line) → (l ∷ r) ≡ (m ∷ q) → l ≡ m
@@ -43,21 +35,21 @@ one_place P [] [] l m r q e n p = subst (P []) (head_same l m r q e) p
 one_place P [] (y ∷ b) l m r q e n p = absurd (omega (arith, n))
 one_place P (x ∷ a) [] l m r q e n p = absurd (omega (arith, n))
 one_place P (x ∷ a) (y ∷ b) l m r q e n p =
-    one_place (λ c k. P (y ∷ c) k) a b l m r q (tail_same x y (a ++ l ∷ r) (b ++ m ∷ q) e) (omega (arith, n))
-    (subst (λ k. P (k ∷ a) l) (head_same x y (a ++ l ∷ r) (b ++ m ∷ q) e) p)
+    one_place (λ c k. P (y ∷ c) k) a b l m r q (tail_same x y _ _ e) (omega (arith, n))
+    (rw (← (head_same x y _ _ e)) p)
 
 module _ (ask : List Line → Line → Option SourceCause) (Rule : List Line → Line → SourceCause → Type 0)
     (lines : List Line) (numbered : Numbered lines) (asks : (b : List Line) (l : Line) → Least (Rule b l) (ask b l))
   where
     -- none of the first lines has a fault
     abbrev Clear : ℕ → Type 0
-    Clear n = (b : List Line) (l : Line) (c : SourceCause) → StandsAfter lines b l → Rule b l c → n ≤ length b
+    Clear n = (b : List Line) (l : Line) (c : SourceCause) → IsLineAfter lines b l → Rule b l c → n ≤ length b
 
     at_end : (before : List Line) → lines ≡ before ++ [] → Clear (length before) → Finds Rule lines None
     at_end before e clear b l c st h =
         let g = clear b l c st h in
         let n : length lines ≡ length b + length (l ∷ st.after) =
-        ap (λ (x : List Line). length x) st.lines_are ∙ length-append b (l ∷ st.after) in
+        ap (λ (x : List Line). length x) st.lines_are ∙ length-append b _ in
         let m : length lines ≡ length before = ap (λ (x : List Line). length x) (e ∙ append-nil before) in
         omega (arith, g, n, m)
 
@@ -66,15 +58,15 @@ module _ (ask : List Line → Line → Option SourceCause) (Rule : List Line →
     finds before [] e clear = at_end before e clear
     finds before (x ∷ rest) e clear =
         by_answer (ask before x) (asks before x)
-        (λ none. finds (before ++ x ∷ []) rest (e ∙ sym (append_assoc before (x ∷ []) rest)) none)
+        (λ none. finds _ rest (e ∙ sym (append_assoc before (x ∷ []) rest)) none)
       where
-        stands : StandsAfter lines before x
+        stands : IsLineAfter lines before x
         stands = record { after = rest; lines_are = e }
 
         number : x.number ≡ length before + 1
         number = numbered before x stands
 
-        here : (b : List Line) (l : Line) (c : SourceCause) → StandsAfter lines b l → length b ≡ length before
+        here : (b : List Line) (l : Line) (c : SourceCause) → IsLineAfter lines b l → length b ≡ length before
             → Rule b l c → Rule before x c
         here b l c st n h = one_place (λ d k. Rule d k c) b before l x st.after rest (sym st.lines_are ∙ e) n h
 
@@ -96,19 +88,17 @@ module _ (ask : List Line → Line → Option SourceCause) (Rule : List Line →
           λ b l c st h. compare b l c st h (clear b l c st h),
         )
           where
-            same : (b : List Line) (l : Line) (c : SourceCause) → StandsAfter lines b l → Rule b l c
+            same : (b : List Line) (l : Line) (c : SourceCause) → IsLineAfter lines b l → Rule b l c
                 → length b ≡ length before → number_of cause ≤ number_of c
             same b l c st h n = least.1 c (here b l c st n h)
 
             split : (n m : ℕ) → n ≤ m → (n < m) ⊎ (n ≡ m)
             split n m h = grind arith
 
-            compare : (b : List Line) (l : Line) (c : SourceCause) → StandsAfter lines b l → Rule b l c
+            compare : (b : List Line) (l : Line) (c : SourceCause) → IsLineAfter lines b l → Rule b l c
                 → length before ≤ length b
                 → (x.number < length b + 1) ⊎ ((x.number ≡ length b + 1) × (number_of cause ≤ number_of c))
-            compare b l c st h g = by_order (split (length before) (length b) g)
-              where
-                by_order : (length before < length b) ⊎ (length before ≡ length b)
-                    → (x.number < length b + 1) ⊎ ((x.number ≡ length b + 1) × (number_of cause ≤ number_of c))
-                by_order (inl k) = inl (omega (arith, k, number))
-                by_order (inr k) = inr (omega (arith, k, number), same b l c st h (sym k))
+            compare b l c st h g = elim (split (length before) (length b) g) [
+              | inl k ↦ inl (omega (arith, k, number))
+              | inr k ↦ inr (omega (arith, k, number), same b l c st h (sym k))
+            ]

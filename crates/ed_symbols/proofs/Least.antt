@@ -1,17 +1,9 @@
 -- The fault of the first line that has one.
-use Rattle.std.proofs.Common.{◌≡◌, ◌+◌, ◌<◌, ◌≤◌, ◌∙◌, ◌∷◌, ◌++◌, ℕ, Bool, List, Option, Some, None, refl, sym, ap}
-use Rattle.std.proofs.Common.{length, drop, get_or}
-use Rattle.std.proofs.lemmas.List.{at_drop_all, drop_more}
+use Rattle.ed_symbols.proofs.Kit.{at_drop_all, drop_more, SourceCause, SourceFault, At, Line, ap, Bool, drop, get_or}
+use Rattle.ed_symbols.proofs.Kit.{length, List, None, Option, refl, Some, sym, ℕ, ◌++◌, ◌+◌, ◌<◌, ◌∙◌, ◌∷◌, ◌≡◌, ◌≤◌}
+use Rattle.ed_symbols.proofs.Kit.{defines_again, naming_cause, naming_fault_from, line_definitions, after_statement}
+use Rattle.ed_symbols.proofs.Kit.{LocationCounter, Definition}
 use Rattle.std.proofs.Math.Seq.{drop-cons}
-use Rattle.ed_syntax.specs.declared.program.Line.{Line}
-use Rattle.ed_syntax.specs.declared.fault.SourceCause.{SourceCause}
-use Rattle.ed_syntax.specs.declared.fault.SourceFault.TheVariants.{At}
-use Rattle.ed_syntax.specs.declared.fault.SourceFault.{SourceFault}
-use Rattle.ed_symbols.specs.Names.{line_definitions}
-use Rattle.ed_symbols.specs.Places.{after_statement}
-use Rattle.ed_symbols.specs.NameTests.{naming_cause, defines_again, naming_fault_from}
-use Rattle.ed_symbols.specs.declared.location_counter.LocationCounter.{LocationCounter}
-use Rattle.ed_symbols.specs.declared.symbols.Definition.{Definition}
 
 -- a line with a fault, at an index, is the first one among those from that index upwards
 pub is_least_at : (symbols earlier : List Definition) (s : LocationCounter) {lines read : List Line} {i : ℕ} {l : Line}

@@ -1,8 +1,6 @@
 -- Tests in the order of the numbers of their faults answer the fault with the least number.
-use Rattle.std.proofs.Common.{◌≡◌, ℕ, ◌+◌, ◌≤◌, refl, sym, ap, ◌∙◌, subst, arith}
-use Rattle.std.proofs.Common.{Bool, true, false, Option, Some, None, List, [], ◌∷◌, nat_eq, if◌then◌else◌}
-use Rattle.ed_syntax.specs.declared.fault.SourceCause.{SourceCause}
-use Rattle.ed_syntax.specs.Causes.{number_of}
+use Rattle.ed_symbols.proofs.Kit.{SourceCause, [], arith, Bool, false, if◌then◌else◌, List, None, Option, refl, Some}
+use Rattle.ed_symbols.proofs.Kit.{subst, sym, true, ℕ, ◌+◌, ◌∙◌, ◌∷◌, ◌≡◌, ◌≤◌, number_of}
 use Rattle.ed_syntax.proofs.Causes.{same_cause}
 use Rattle.ed_symbols.proofs.Sentences.{Ties}
 
@@ -20,11 +18,11 @@ abbrev pub Least : (SourceCause → Type 0) → Option SourceCause → Type 0
 Least Rule None = (c : SourceCause) → Rule c → ⊥
 Least Rule (Some c) = Rule c × ((other : SourceCause) → Rule other → number_of c ≤ number_of other)
 
-pub picks : (Rule : SourceCause → Type 0) (n : ℕ) (ps : List (Bool × SourceCause)) → Covers Rule n ps
+pub Least-picks : (Rule : SourceCause → Type 0) (n : ℕ) (ps : List (Bool × SourceCause)) → Covers Rule n ps
     → ((c : SourceCause) → Rule c → n ≤ number_of c) → Least Rule (pick ps)
-picks Rule n [] cover from = λ c h. cover c h (from c h)
-picks Rule n ((t, c) ∷ ps) cover from =
-    by_test t cover.0 (picks Rule (n + 1) ps cover.2)
+Least-picks Rule n [] cover from = λ c h. cover c h (from c h)
+Least-picks Rule n ((t, c) ∷ ps) cover from =
+    by_test t cover.0 (Least-picks Rule (n + 1) ps cover.2)
   where
     by_test : (b : Bool) → Ties b (Rule c)
         → (((d : SourceCause) → Rule d → n + 1 ≤ number_of d) → Least Rule (pick ps))

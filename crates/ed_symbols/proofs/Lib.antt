@@ -6,3 +6,4 @@ pub mod LeastFaults
 pub mod FaultPasses
 pub mod NameLaw
 mod Operands
+pub mod Kit

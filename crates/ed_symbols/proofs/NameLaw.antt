@@ -1,28 +1,21 @@
 -- The fault of names that is looked for is that of the definition.
-use Rattle.std.proofs.Common.{◌≡◌, ◌⊎◌, inl, inr, ℕ, ◌+◌, ◌<◌, ◌≤◌, refl, sym, ap, ◌∙◌, subst, arith}
-use Rattle.std.proofs.Common.{Option, Some, None, List, [], ◌∷◌, ◌++◌, length, append_assoc, length-append}
-use Rattle.std.proofs.lemmas.List.{append-nil}
+use Rattle.ed_symbols.proofs.Kit.{SourceCause, SourceFault, At, Memory, Line, [], ap, append_assoc, arith, length}
+use Rattle.ed_symbols.proofs.Kit.{length-append, List, None, Option, refl, Some, sym, ℕ, ◌++◌, ◌+◌, ◌<◌, ◌∙◌, ◌∷◌, ◌≡◌}
+use Rattle.ed_symbols.proofs.Kit.{◌≤◌, ◌⊎◌, append-nil, number_of, counter_after, counter_from, IsLineAfter}
+use Rattle.ed_symbols.proofs.Kit.{defines_again, names_unknown, naming_cause, naming_fault_from, or_later}
+use Rattle.ed_symbols.proofs.Kit.{reaches_outside, line_definitions, symbols_from, after_statement, first_counter}
+use Rattle.ed_symbols.proofs.Kit.{LocationCounter}
+use Rattle.std.proofs.Common.{slice_index_or}
 use Rattle.std.proofs.Math.Seq.{get_or-append_seam}
-use Rattle.std.specs.Prelude.{slice_index_or}
-use Rattle.ed_syntax.specs.Causes.{number_of}
 use Rattle.ed_syntax.specs.Programs.{AreNumbered}
-use Rattle.ed_syntax.specs.declared.program.Line.{Line}
-use Rattle.ed_syntax.specs.declared.fault.SourceCause.{SourceCause}
-use Rattle.ed_syntax.specs.declared.fault.SourceCause.TheVariants as causes
-use Rattle.ed_syntax.specs.declared.fault.SourceFault.{SourceFault}
-use Rattle.ed_syntax.specs.declared.fault.SourceFault.TheVariants.{At, Memory}
-use Rattle.ed_symbols.specs.declared.location_counter.LocationCounter.{LocationCounter}
-use Rattle.ed_symbols.specs.Places.{after_statement, first_counter}
-use Rattle.ed_symbols.specs.Names.{line_definitions, symbols_from}
-use Rattle.ed_symbols.specs.NameTests.{or_later, defines_again, naming_cause, naming_fault_from, names_unknown}
-use Rattle.ed_symbols.specs.NameTests.{reaches_outside, resolution}
-use Rattle.ed_symbols.specs.NameFaults.{StandsAfter, counter_from, counter_after, LineHasNameFault}
-use Rattle.ed_symbols.specs.NameFaults.{HasNameFault, NameFaultIs, EachHasOneNameFault}
 use Rattle.ed_syntax.proofs.Causes.{one_least}
-use Rattle.ed_symbols.proofs.NamingSentences.{s7, s8}
-use Rattle.ed_symbols.proofs.AgainSentences.{s6}
-use Rattle.ed_symbols.proofs.LeastFaults.{Least, picks}
+use Rattle.ed_symbols.specs.NameFaults.{LineHasNameFault, HasNameFault, NameFaultIs, EachHasOneNameFault}
+use Rattle.ed_symbols.specs.NameTests.{resolution}
+use Rattle.ed_symbols.proofs.AgainSentences.{Ties-s6}
 use Rattle.ed_symbols.proofs.FaultPasses.{first, finds, Finds, Numbered}
+use Rattle.ed_symbols.proofs.LeastFaults.{Least, Least-picks}
+use Rattle.ed_symbols.proofs.NamingSentences.{Ties-s7, Ties-s8}
+use Rattle.ed_syntax.specs.declared.fault.SourceCause.TheVariants as causes
 
 -- ---- one line
 
@@ -50,16 +43,16 @@ of_names : (lines before : List Line) (l : Line) → Least (LineHasNameFault lin
     (naming_cause (symbols_from first_counter lines) (defines_again
     (symbols_from first_counter before) l (counter_after before)) l
     (counter_after before))
-of_names lines before l = picks (LineHasNameFault lines before l) 6
+of_names lines before l = Least-picks (LineHasNameFault lines before l) 6
     ((defines_again (symbols_from first_counter before) l (counter_after before), causes.LabelTwice)
     ∷ (names_unknown (symbols_from first_counter lines) l (counter_after before), causes.LabelUnknown)
     ∷ (reaches_outside (symbols_from first_counter lines) l (counter_after before), causes.AddressRange) ∷ []) (
-      s6 before l,
+      Ties-s6 before l,
       refl,
       (
-        s7 lines before l,
+        Ties-s7 lines before l,
         refl,
-        (s8 lines before l, refl, λ c h g. let n = from_six lines before l c h in omega (arith, n.1, g)),
+        (Ties-s8 lines before l, refl, λ c h g. let n = from_six lines before l c h in omega (arith, n.1, g)),
       ),
     )
     (λ c h. (from_six lines before l c h).0)
@@ -92,9 +85,7 @@ module _ (lines : List Line) where
       (after_statement l.statement (counter_after b)) rest)
       (sym (homes_snoc first_counter b l))
       ∙ (ap (λ s. naming_fault_from (symbols_from first_counter lines)
-      (symbols_from first_counter (b ++ l ∷ [])) s rest)
-      (sym (spot_snoc first_counter b l))
-      ∙ names_pass (b ++ l ∷ []) rest))
+      (symbols_from first_counter (b ++ l ∷ [])) s rest) (sym (spot_snoc first_counter b l)) ∙ names_pass _ rest))
 
 -- ---- the least of several
 
@@ -107,7 +98,7 @@ SaysLeast H (Some (At k c)) = H k c
 
 -- a fault of a rule's kind at a line
 abbrev pub AtLine : (List Line → Line → SourceCause → Type 0) → List Line → ℕ → SourceCause → Type 0
-AtLine Rule lines k c = (b : List Line) × (l : Line) × StandsAfter lines b l × (k ≡ length b + 1) × Rule b l c
+AtLine Rule lines k c = (b : List Line) × (l : Line) × IsLineAfter lines b l × (k ≡ length b + 1) × Rule b l c
 
 pub found_says : (Rule : List Line → Line → SourceCause → Type 0) (lines : List Line) (f : Option SourceFault)
     → Finds Rule lines f → SaysLeast (AtLine Rule lines) f
@@ -115,8 +106,7 @@ found_says Rule lines None h = λ k c a. h a.0 a.1 c a.2 a.4
 found_says Rule lines (Some Memory) h = h
 found_says Rule lines (Some (At k cause)) h = (
   h.0,
-  λ r o a.
-      subst (λ n. (k < n) ⊎ ((k ≡ n) × (number_of cause ≤ number_of o))) (sym a.3) (h.1 a.0 a.1 o a.2 a.4),
+  λ r o a. rw a.3 (h.1 a.0 a.1 o a.2 a.4),
 )
 
 -- ---- the law
@@ -124,22 +114,20 @@ found_says Rule lines (Some (At k cause)) h = (
 pub numbers : (lines : List Line) → AreNumbered lines → Numbered lines
 numbers lines are before l st =
     let n : length lines ≡ length before + length (l ∷ st.after) =
-    ap (λ (x : List Line). length x) st.lines_are ∙ length-append before (l ∷ st.after) in
+    ap (λ (x : List Line). length x) st.lines_are ∙ length-append before _ in
     let same : slice_index_or lines (length before) l ≡ l =
     ap (λ (x : List Line). slice_index_or x (length before) l) st.lines_are
     ∙ get_or-append_seam before l st.after l in
     ap (λ (x : Line). x.number) (sym same) ∙ are (length before) l (omega (arith, n))
 
 pub say_names : (lines : List Line) → Numbered lines → SaysLeast (HasNameFault lines) (resolution lines).fault
-say_names lines numbered = found_says (LineHasNameFault lines) lines (resolution lines).fault
-    (subst (Finds (LineHasNameFault lines) lines) (sym (names_pass lines [] lines))
+say_names lines numbered = found_says _ lines (resolution lines).fault (rw (names_pass lines [] lines)
     (finds (ask_names lines) (LineHasNameFault lines) lines numbered (λ b l. of_names lines b l) [] lines refl
     (λ b l c st h. omega arith)))
 
 fault_of : (lines : List Line) (f : Option SourceFault) → SaysLeast (HasNameFault lines) f → NameFaultIs lines f
-fault_of lines None h = h
-fault_of lines (Some Memory) h = h
 fault_of lines (Some (At k c)) h = record { is = h.0; least = h.1 }
+fault_of lines f h = h
 
 -- the fault that is found is that of the source
 pub found_is : (lines : List Line) → AreNumbered lines → NameFaultIs lines (resolution lines).fault
@@ -147,12 +135,11 @@ found_is lines are = fault_of lines (resolution lines).fault (say_names lines (n
 
 one_fault : (lines : List Line) (f g : Option SourceFault) → NameFaultIs lines f → NameFaultIs lines g → f ≡ g
 one_fault lines None None h i = refl
-one_fault lines None (Some Memory) h i = absurd i
 one_fault lines None (Some (At k c)) h i = absurd (h k c i.is)
 one_fault lines (Some Memory) g h i = absurd h
 one_fault lines (Some (At k c)) None h i = absurd (i k c h.is)
-one_fault lines (Some (At k c)) (Some Memory) h i = absurd i
 one_fault lines (Some (At k c)) (Some (At m d)) h i = let same = one_least h i in λ j. Some (At (same.0 j) (same.1 j))
+one_fault lines f (Some Memory) h i = absurd i
 
 pub each_has_one : EachHasOneNameFault
 each_has_one = record { every = λ lines are. ((resolution lines).fault, found_is lines are); one = one_fault }

@@ -1,26 +1,18 @@
 -- The tests of a line and the sentences say the same, both ways, for the faults S7 and S8.
-use Rattle.std.proofs.Common.{◌≡◌, ◌⊎◌, inl, inr, ℕ, refl, sym, ap, ◌∙◌}
-use Rattle.std.proofs.Common.{Bool, true, ◌||◌, Option, Some, None, List, [], ◌∷◌}
-use Rattle.std.proofs.Common.{is_none}
-use Rattle.std.specs.Prelude.{map, ℤ, pos, int_lt}
-use Rattle.std.specs.List.{list_any}
-use Rattle.std.proofs.lemmas.Bool.{or_cases}
-use Rattle.std.proofs.lemmas.List.Folds.{Any-from_list_any, list_any-from_Any}
+use Rattle.ed_symbols.proofs.Kit.{is_none, list_any, or_cases, or_left, or_right, Any-from_list_any, list_any-from_Any}
+use Rattle.ed_symbols.proofs.Kit.{Line, Setting, [], ap, Bool, inl, inr, List, None, Option, refl, Some, sym, true, ℕ}
+use Rattle.ed_symbols.proofs.Kit.{ℤ, ◌||◌, ◌∙◌, ◌∷◌, ◌≡◌, ◌⊎◌, counter_after, is_no_address, is_unknown, names_unknown}
+use Rattle.ed_symbols.proofs.Kit.{reaches_outside, symbols_from, operand_of, first_counter, segment_of, Definition}
+use Rattle.std.proofs.Common.{map, pos, int_lt}
 use Rattle.ed_syntax.specs.declared.program.Operand.{Operand}
-use Rattle.ed_syntax.specs.declared.program.Operand.TheVariants as operands
-use Rattle.ed_syntax.specs.declared.program.Setting.{Setting}
 use Rattle.ed_syntax.specs.declared.program.Statement.{Statement}
-use Rattle.ed_syntax.specs.declared.program.Statement.TheVariants.{Segment, Order, Number, Text, Long, Fetch, Enter}
-use Rattle.ed_syntax.specs.declared.program.Statement.TheVariants.{Rows}
-use Rattle.ed_syntax.specs.declared.program.Line.{Line}
-use Rattle.ed_symbols.specs.declared.symbols.Definition.{Definition}
-use Rattle.ed_symbols.specs.Places.{first_counter, segment_of}
-use Rattle.ed_symbols.specs.Names.{symbols_from, place_on}
-use Rattle.ed_symbols.specs.NameTests.{any_operand, enters_unknown, is_far, is_no_address, is_unknown, names_unknown}
-use Rattle.ed_symbols.specs.NameTests.{reaches_outside}
-use Rattle.ed_symbols.specs.Operands.{operand_of, operand_value, sum_of_places, with_more}
-use Rattle.ed_symbols.specs.NameFaults.{counter_after, HasOperand, HasName, NamesUnknown, ReachesOutside}
-use Rattle.ed_symbols.proofs.Sentences.{Ties, or_left, or_right}
+use Rattle.ed_syntax.specs.declared.program.Statement.TheVariants.{Order, Number, Fetch, Enter}
+use Rattle.ed_symbols.specs.NameFaults.{HasOperand, HasName, NamesUnknown, ReachesOutside}
+use Rattle.ed_symbols.specs.NameTests.{any_operand, enters_unknown, is_far}
+use Rattle.ed_symbols.specs.Names.{place_on}
+use Rattle.ed_symbols.specs.Operands.{operand_value, sum_of_places, with_more}
+use Rattle.ed_symbols.proofs.Sentences.{Ties}
+use Rattle.ed_syntax.specs.declared.program.Operand.TheVariants as operands
 
 -- ---- S7 and S8: the operands
 
@@ -38,25 +30,13 @@ operand_says test (Some (Order f o d)) h = (o, refl, h)
 operand_says test (Some (Fetch r n ts)) h =
     let a = Any-from_list_any test (map operand_of ts.items) (sym (settings_same test ts.items) ∙ h) in
     (a.1, (a.0, a.2, a.3), a.4)
-operand_says test None h = cc
-operand_says test (Some (Segment n b)) h = cc
-operand_says test (Some (Number w)) h = cc
-operand_says test (Some (Text codes)) h = cc
-operand_says test (Some (Long v)) h = cc
-operand_says test (Some (Enter n)) h = cc
-operand_says test (Some (Rows codes)) h = cc
+operand_says test st h = cc
 
 operand_tests : (test : Operand → Bool) (st : Option Statement) → Passes test st → any_operand test st ≡ true
 operand_tests test (Some (Order f o d)) h = ap test (sym h.1) ∙ h.2
 operand_tests test (Some (Fetch r n ts)) h = settings_same test ts.items
-    ∙ list_any-from_Any test (map operand_of ts.items) (h.1.0, h.0, h.1.1, h.1.2, h.2)
-operand_tests test None h = absurd h.1
-operand_tests test (Some (Segment n b)) h = absurd h.1
-operand_tests test (Some (Number w)) h = absurd h.1
-operand_tests test (Some (Text codes)) h = absurd h.1
-operand_tests test (Some (Long v)) h = absurd h.1
-operand_tests test (Some (Enter n)) h = absurd h.1
-operand_tests test (Some (Rows codes)) h = absurd h.1
+    ∙ list_any-from_Any test _ (h.1.0, h.0, h.1.1, h.1.2, h.2)
+operand_tests test st h = absurd h.1
 
 -- a name of the operand is unknown
 abbrev Lacks : List Definition → Option ℕ → Operand → Type 0
@@ -87,12 +67,7 @@ lacks_says : (symbols : List Definition) (g : Option ℕ) (o : Operand) → is_u
 lacks_says symbols g (operands.Number n) h = cc
 lacks_says symbols g (operands.Label name plus) h = (name, refl, more_says plus (place_on symbols g name) h)
 lacks_says symbols g (operands.Two first second minus) h =
-    by_case (sum_says minus (place_on symbols g first) (place_on symbols g second) h)
-  where
-    by_case : (place_on symbols g first ≡ None) ⊎ (place_on symbols g second ≡ None)
-        → Lacks symbols g (operands.Two first second minus)
-    by_case (inl e) = (first, inl refl, e)
-    by_case (inr e) = (second, inr refl, e)
+    elim (sum_says minus _ _ h) [ inl e ↦ (first, inl refl, e) | inr e ↦ (second, inr refl, e) ]
 
 lacks_tests : (symbols : List Definition) (g : Option ℕ) (o : Operand) → Lacks symbols g o
     → is_unknown symbols g o ≡ true
@@ -100,11 +75,9 @@ lacks_tests symbols g (operands.Number n) h = absurd h.1
 lacks_tests symbols g (operands.Label name plus) h =
     ap (λ o. is_none (with_more plus o)) (ap (λ x. place_on symbols g x) (sym h.1) ∙ h.2)
 lacks_tests symbols g (operands.Two first second minus) (name, inl e, h) =
-    sum_none minus (place_on symbols g first) (place_on symbols g second)
-    (inl (ap (λ x. place_on symbols g x) (sym e) ∙ h))
+    sum_none minus _ _ (inl (ap (λ x. place_on symbols g x) (sym e) ∙ h))
 lacks_tests symbols g (operands.Two first second minus) (name, inr e, h) =
-    sum_none minus (place_on symbols g first) (place_on symbols g second)
-    (inr (ap (λ x. place_on symbols g x) (sym e) ∙ h))
+    sum_none minus _ _ (inr (ap (λ x. place_on symbols g x) (sym e) ∙ h))
 
 -- an `enter` of an unknown name
 abbrev EntersNowhere : List Definition → Option Statement → Type 0
@@ -113,14 +86,7 @@ EntersNowhere symbols st = (name : List ℕ) × (st ≡ Some (Enter name)) × (p
 nowhere_says : (symbols : List Definition) (st : Option Statement) → enters_unknown symbols st ≡ true
     → EntersNowhere symbols st
 nowhere_says symbols (Some (Enter name)) h = (name, refl, unplaced (place_on symbols None name) h)
-nowhere_says symbols None h = cc
-nowhere_says symbols (Some (Segment n b)) h = cc
-nowhere_says symbols (Some (Order f o d)) h = cc
-nowhere_says symbols (Some (Number w)) h = cc
-nowhere_says symbols (Some (Text codes)) h = cc
-nowhere_says symbols (Some (Long v)) h = cc
-nowhere_says symbols (Some (Fetch r n ts)) h = cc
-nowhere_says symbols (Some (Rows codes)) h = cc
+nowhere_says symbols st h = cc
 
 nowhere_tests : (symbols : List Definition) (st : Option Statement) → EntersNowhere symbols st
     → enters_unknown symbols st ≡ true
@@ -133,25 +99,19 @@ module _ (lines before : List Line) (l : Line) where
   unknown_by : (any_operand (is_unknown (symbols_from first_counter lines) here) l.statement ≡ true)
       ⊎ (enters_unknown (symbols_from first_counter lines) l.statement ≡ true) → NamesUnknown lines before l
   unknown_by (inl h) =
-      let p = operand_says (is_unknown (symbols_from first_counter lines) here) l.statement h in
-      let k = lacks_says (symbols_from first_counter lines) here p.0 p.2 in inl (p.0, p.1, k.0, k.1, k.2)
+      let p = operand_says _ _ h in
+      let k = lacks_says _ here p.0 p.2 in inl (p.0, p.1, k.0, k.1, k.2)
   unknown_by (inr h) = inr (nowhere_says (symbols_from first_counter lines) l.statement h)
 
   unknown_of : NamesUnknown lines before l → names_unknown (symbols_from first_counter lines) l
       (counter_after before) ≡ true
-  unknown_of (inl h) = or_left (any_operand (is_unknown (symbols_from first_counter lines) here) l.statement)
-      (enters_unknown (symbols_from first_counter lines) l.statement)
-      (operand_tests (is_unknown (symbols_from first_counter lines) here) l.statement
-      (h.0, h.1, lacks_tests (symbols_from first_counter lines) here h.0 (h.2, h.3, h.4)))
-  unknown_of (inr h) = or_right (any_operand (is_unknown (symbols_from first_counter lines) here) l.statement)
-      (enters_unknown (symbols_from first_counter lines) l.statement)
-      (nowhere_tests (symbols_from first_counter lines) l.statement h)
+  unknown_of (inl h) = or_left _ _ (operand_tests _ l.statement (h.0, h.1, lacks_tests _ here h.0 (h.2, h.3, h.4)))
+  unknown_of (inr h) = or_right _ _ (nowhere_tests _ l.statement h)
 
-  pub s7 : Ties (names_unknown (symbols_from first_counter lines) l (counter_after before))
+  pub Ties-s7 : Ties (names_unknown (symbols_from first_counter lines) l (counter_after before))
       (NamesUnknown lines before l)
-  s7 = record {
-    says = λ h. unknown_by (or_cases (any_operand (is_unknown (symbols_from first_counter lines) here) l.statement)
-        (enters_unknown (symbols_from first_counter lines) l.statement) h);
+  Ties-s7 = record {
+    says = λ h. unknown_by (or_cases _ _ h);
     tests = unknown_of;
   }
 
@@ -174,25 +134,21 @@ no_address_says : (symbols : List Definition) (g : Option ℕ) (o : Operand) →
     → IsFar symbols g o
 no_address_says symbols g (operands.Number n) h = cc
 no_address_says symbols g (operands.Label name plus) h =
-    let f = far_says (operand_value symbols g (operands.Label name plus)) h in (name, refl, f.0, f.1, f.2)
+    let f = far_says _ h in (name, refl, f.0, f.1, f.2)
 no_address_says symbols g (operands.Two first second minus) h =
-    let f = far_says (operand_value symbols g (operands.Two first second minus)) h in (first, inl refl, f.0, f.1, f.2)
+    let f = far_says _ h in (first, inl refl, f.0, f.1, f.2)
 
 no_address_tests : (symbols : List Definition) (g : Option ℕ) (o : Operand) → IsFar symbols g o
     → is_no_address symbols g o ≡ true
 no_address_tests symbols g (operands.Number n) h = absurd h.1
-no_address_tests symbols g (operands.Label name plus) h =
-    far_tests (operand_value symbols g (operands.Label name plus)) h.2 h.3 h.4
-no_address_tests symbols g (operands.Two first second minus) h =
-    far_tests (operand_value symbols g (operands.Two first second minus)) h.2 h.3 h.4
+no_address_tests symbols g o h = far_tests _ h.2 h.3 h.4
 
-pub s8 : (lines before : List Line) (l : Line)
+pub Ties-s8 : (lines before : List Line) (l : Line)
     → Ties (reaches_outside (symbols_from first_counter lines) l (counter_after before)) (ReachesOutside lines before l)
-s8 lines before l =
+Ties-s8 lines before l =
     let g = segment_of l (counter_after before) in
     record {
-      says = λ h. let p = operand_says (is_no_address (symbols_from first_counter lines) g) l.statement h in
-          let k = no_address_says (symbols_from first_counter lines) g p.0 p.2 in (p.0, p.1, k.0, k.1, k.2, k.3, k.4);
-      tests = λ h. operand_tests (is_no_address (symbols_from first_counter lines) g) l.statement
-          (h.0, h.1, no_address_tests (symbols_from first_counter lines) g h.0 (h.2, h.3, h.4, h.5, h.6));
+      says = λ h. let p = operand_says _ _ h in
+          let k = no_address_says _ g p.0 p.2 in (p.0, p.1, k.0, k.1, k.2, k.3, k.4);
+      tests = λ h. operand_tests _ _ (h.0, h.1, no_address_tests _ g h.0 (h.2, h.3, h.4, h.5, h.6));
     }

@@ -1,18 +1,16 @@
 -- Tests of the settings that are left, by that of the next one.
-use Rattle.std.proofs.Common.{◌≡◌, ◌∙◌, ◌+◌, ◌<◌, ◌≤◌, ℕ, refl, sym, ap, Bool, true, false, List, ◌∷◌}
-use Rattle.std.proofs.Common.{length, drop, get_or, is_some, is_none, Option, Some, None}
-use Rattle.std.specs.Prelude.{◌||◌}
-use Rattle.std.specs.List.{list_any}
-use Rattle.std.proofs.lemmas.List.{at_drop_all, drop_more}
+use Rattle.ed_symbols.proofs.Kit.{is_none, is_some, list_any, at_drop_all, drop_more, ap, Bool, drop, false, get_or}
+use Rattle.ed_symbols.proofs.Kit.{length, List, None, Option, refl, Some, sym, true, ℕ, ◌+◌, ◌<◌, ◌||◌, ◌∙◌, ◌∷◌, ◌≡◌}
+use Rattle.ed_symbols.proofs.Kit.{◌≤◌}
 
 -- a value that is unknown, and one that is known
-pub unknown : {A : Type 0} (o : Option A) → is_some o ≡ false → is_none o ≡ true
-unknown None h = refl
-unknown (Some x) h = cc
+pub is_none-unknown : {A : Type 0} (o : Option A) → is_some o ≡ false → is_none o ≡ true
+is_none-unknown None h = refl
+is_none-unknown (Some x) h = cc
 
-pub known : {A : Type 0} (o : Option A) → is_some o ≡ true → is_none o ≡ false
-known None h = cc
-known (Some x) h = refl
+pub is_none-known : {A : Type 0} (o : Option A) → is_some o ≡ true → is_none o ≡ false
+is_none-known None h = cc
+is_none-known (Some x) h = refl
 
 module _ {A : Type 0} (p : A → Bool) (xs : List A) (i : ℕ) where
   next : (x : A) → i < length xs → x ≡ get_or xs i x → list_any p (drop i xs) ≡ (p x || list_any p (drop (i + 1) xs))

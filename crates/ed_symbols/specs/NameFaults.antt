@@ -24,7 +24,7 @@ use Rattle.ed_symbols.specs.Operands.{operand_of, operand_value}
 -- ---- lines and those before them
 
 -- this is a line of the source, and these are the lines before it
-pub record StandsAfter (lines before : List Line) (l : Line) : Type 0 where
+pub record IsLineAfter (lines before : List Line) (l : Line) : Type 0 where
   pub after : List Line
   pub lines_are : lines ≡ before ++ l ∷ after
 
@@ -62,7 +62,7 @@ pub record AreAlike (h other : Definition) : Type 0 where
 abbrev pub DefinesAgain : List Line → Line → Type 0
 DefinesAgain before l =
     ((h : Definition) × Contains (line_definitions l (counter_after before)) h
-    × (earlier : List Line) × (e : Line) × StandsAfter before earlier e
+    × (earlier : List Line) × (e : Line) × IsLineAfter before earlier e
     × (other : Definition) × Contains (line_definitions e (counter_after earlier)) other × AreAlike h other)
     ⊎ ((h : Definition) × (statement_definition l.statement (counter_after before) ≡ Some h)
     × (other : Definition) × (label_definition l.label l.statement (counter_after before) ≡ Some other)
@@ -91,7 +91,7 @@ LineHasNameFault lines before l cause = ⊥
 
 -- the source has a fault of names at the line with this number, counted from 1
 abbrev pub HasNameFault : List Line → ℕ → SourceCause → Type 0
-HasNameFault lines k cause = (before : List Line) × (l : Line) × StandsAfter lines before l × (k ≡ length before + 1)
+HasNameFault lines k cause = (before : List Line) × (l : Line) × IsLineAfter lines before l × (k ≡ length before + 1)
     × LineHasNameFault lines before l cause
 
 -- the fault of the names of a source

@@ -37,7 +37,7 @@ pub fn even(place: u32) -> u32
 }
 
 /// The number of words of a routine, and 0 for an unknown one.
-fn taken(routine: &Name) -> u32
+fn routine_length(routine: &Name) -> u32
     ensures is { result ≡ routine_places (find routine.now) }
     ensures few { result ≤ 65535 }
 {
@@ -105,7 +105,7 @@ impl LocationCounter {
             Some(Statement::Fetch { routine, .. }) => {
                 let base = even(self.place);
                 LocationCounter {
-                    place: base + taken(routine),
+                    place: base + routine_length(routine),
                     base,
                     segments: self.segments + 1,
                     inside: false,

@@ -1,16 +1,9 @@
 -- A text of lines that grows by one line.
-use Rattle.std.proofs.Common.{◌≡◌, ◌∙◌, ℕ, ◌+◌, ◌<◌, ◌≤◌, Bool, true, false, List, [], ◌∷◌, ◌++◌, refl, sym, ap}
-use Rattle.std.proofs.Common.{append_assoc, drop, get_or, length, map, take}
-use Rattle.std.specs.Prelude.{◌||◌, Some, Result, Ok, Err, IfOk}
-use Rattle.std.specs.List.{list_all}
-use Rattle.std.proofs.lemmas.List.{at_drop_more, map-append, take_more}
-use Rattle.ed_words.proofs.Numbers.{lt_true, lt_false}
-use Rattle.ed_words.specs.Texts.{Text}
-use Rattle.ed_syntax.specs.declared.program.Line.{Line}
-use Rattle.ed_syntax.specs.Answers.{long_line}
-use Rattle.ed_syntax.specs.Private.LineTexts.{has_few}
-use Rattle.ed_syntax.specs.Written.{line_text, row_letter, text_of_program}
-use Rattle.ed_syntax.specs.declared.writing.fault.WriteFault.TheVariants.{LongLine}
+use Rattle.ed_syntax.proofs.Kit.{[], ap, append_assoc, Bool, drop, Err, false, get_or, IfOk, length, List, map, Ok}
+use Rattle.ed_syntax.proofs.Kit.{refl, Result, Some, sym, take, true, ℕ, ◌++◌, ◌+◌, ◌<◌, ◌||◌, ◌∙◌, ◌∷◌, ◌≡◌, ◌≤◌}
+use Rattle.ed_syntax.proofs.Kit.{list_all, le-ltb, lt-ltb, map-append, Text, long_line, has_few, line_text, row_letter}
+use Rattle.ed_syntax.proofs.Kit.{text_of_program, Line, LongLine}
+use Rattle.std.proofs.lemmas.List.{at_drop_more, take_more}
 
 -- a function of the lines from the place of this line on
 front : {A : Type 0} (f : List Line → A) (lines : List Line) (place : ℕ) (line : Line) → place < length lines
@@ -24,8 +17,7 @@ pub text_added : (two : Bool) (lines : List Line) (place : ℕ) (line : Line) (b
     → ((before ++ line_text two line) ++ 10 ∷ []) ++ text_of_program two (drop (place + 1) lines)
     ≡ before ++ text_of_program two (drop place lines)
 text_added two lines place line before below is =
-    append_assoc (before ++ line_text two line) (10 ∷ []) _
-    ∙ append_assoc before (line_text two line) _
+    append_assoc _ (10 ∷ []) _ ∙ append_assoc before _ _
     ∙ ap (λ (t : Text). before ++ t) (sym (front (text_of_program two) lines place line below is))
 
 -- a line that is short is no fault
@@ -33,14 +25,14 @@ pub short_passed : (two : Bool) (lines : List Line) (place : ℕ) (line : Line) 
     → line ≡ get_or lines place line → length (line_text two line) ≤ 120
     → long_line two (drop (place + 1) lines) ≡ long_line two (drop place lines)
 short_passed two lines place line below is short =
-    sym (front (long_line two) lines place line below is ∙ rw (lt_false 120 (length (line_text two line)) short) refl)
+    sym (front (long_line two) lines place line below is ∙ rw (le-ltb 120 (length (line_text two line)) short) refl)
 
 -- a line of more than 120 characters is found as too long
 pub long_found : (two : Bool) (lines : List Line) (place : ℕ) (line : Line) → place < length lines
     → line ≡ get_or lines place line → 120 < length (line_text two line)
     → long_line two (drop place lines) ≡ Some (LongLine line.number)
 long_found two lines place line below is long =
-    front (long_line two) lines place line below is ∙ rw (lt_true 120 (length (line_text two line)) long) refl
+    front (long_line two) lines place line below is ∙ rw (lt-ltb 120 (length (line_text two line)) long) refl
 
 -- a line with few settings
 pub few_passed : (two : Bool) (lines : List Line) (place : ℕ) (line : Line) → place < length lines
@@ -57,9 +49,8 @@ letter_added before text rows place code below is written =
     let last = row_letter code ∷ [] in
     let taken : take (place + 1) rows ≡ take place rows ++ code ∷ [] =
     take_more rows place code below ∙ ap (λ (c : ℕ). take place rows ++ c ∷ []) (sym is) in
-    ap (λ (t : Text). t ++ last) written
-    ∙ append_assoc before (map row_letter (take place rows)) last
-    ∙ ap (λ (t : Text). before ++ t) (sym (ap (map row_letter) taken ∙ map-append row_letter (take place rows) (code ∷ [])))
+    ap (λ (t : Text). t ++ last) written ∙ append_assoc before _ last
+    ∙ ap (λ (t : Text). before ++ t) (sym (ap (map row_letter) taken ∙ map-append row_letter _ (code ∷ [])))
 
 -- bytes and then others, where memory was found for the others too
 pub both_added : {A E : Type 0} (r : Result A E) (text first second between whole : Text)
@@ -75,10 +66,6 @@ in_any_case (Ok a) p = p
 in_any_case (Err e) p = tt
 
 -- a line has few settings if its statement has, whether it is written or not
-pub or_true : (c : Bool) → (c || true) ≡ true
-or_true true = refl
-or_true false = refl
-
 pub few_anyway : {A E : Type 0} (r : Result A E) (first few : Bool) → IfOk r (λ _. few ≡ true)
     → IfOk r (λ _. (first || few) ≡ true)
 few_anyway (Ok a) true few h = refl

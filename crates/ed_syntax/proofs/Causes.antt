@@ -1,9 +1,8 @@
 -- The numbers of the causes of faults, and that there is one least fault.
-use Rattle.std.proofs.Common.{◌≡◌, ℕ, ◌≤◌, ◌<◌, refl, sym, ap, ◌∙◌, arith, inl, inr}
-use Rattle.std.specs.Prelude.{◌⊎◌, nat_eq, if◌then◌else◌}
-use Rattle.ed_syntax.specs.declared.fault.SourceCause.{SourceCause}
+use Rattle.ed_syntax.proofs.Kit.{ap, arith, if◌then◌else◌, inl, inr, nat_eq, refl, sym, ℕ, ◌<◌, ◌∙◌, ◌≡◌, ◌≤◌, ◌⊎◌}
+use Rattle.ed_syntax.proofs.Kit.{number_of, SourceCause}
+use Rattle.ed_syntax.specs.Causes.{IsLeastFault}
 use Rattle.ed_syntax.specs.declared.fault.SourceCause.TheVariants as causes
-use Rattle.ed_syntax.specs.Causes.{IsLeastFault, number_of}
 
 -- the cause with a number
 abbrev numbered : ℕ → SourceCause
@@ -40,24 +39,24 @@ numbered_back causes.SandwichDigit = refl
 pub same_cause : (a b : SourceCause) → number_of a ≡ number_of b → a ≡ b
 same_cause a b e = sym (numbered_back a) ∙ (ap (λ n. numbered n) e ∙ numbered_back b)
 
-pub most : (c : SourceCause) → number_of c ≤ 17
-most causes.BadByte = omega arith
-most causes.LongLine = omega arith
-most causes.NotAStatement = omega arith
-most causes.NumberRange = omega arith
-most causes.TooManyLines = omega arith
-most causes.LabelTwice = omega arith
-most causes.LabelUnknown = omega arith
-most causes.AddressRange = omega arith
-most causes.OutsideSegment = omega arith
-most causes.LoaderStore = omega arith
-most causes.ParameterStore = omega arith
-most causes.StoreEnd = omega arith
-most causes.Overlap = omega arith
-most causes.NoSuchRoutine = omega arith
-most causes.Parameters = omega arith
-most causes.Enter = omega arith
-most causes.SandwichDigit = omega arith
+pub number_of-most : (c : SourceCause) → number_of c ≤ 17
+number_of-most causes.BadByte = omega arith
+number_of-most causes.LongLine = omega arith
+number_of-most causes.NotAStatement = omega arith
+number_of-most causes.NumberRange = omega arith
+number_of-most causes.TooManyLines = omega arith
+number_of-most causes.LabelTwice = omega arith
+number_of-most causes.LabelUnknown = omega arith
+number_of-most causes.AddressRange = omega arith
+number_of-most causes.OutsideSegment = omega arith
+number_of-most causes.LoaderStore = omega arith
+number_of-most causes.ParameterStore = omega arith
+number_of-most causes.StoreEnd = omega arith
+number_of-most causes.Overlap = omega arith
+number_of-most causes.NoSuchRoutine = omega arith
+number_of-most causes.Parameters = omega arith
+number_of-most causes.Enter = omega arith
+number_of-most causes.SandwichDigit = omega arith
 
 -- two least faults are the same
 pub one_least : {Has : ℕ → SourceCause → Type 0} {k m : ℕ} {c d : SourceCause} → IsLeastFault Has k c

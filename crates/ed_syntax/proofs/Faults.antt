@@ -1,25 +1,14 @@
 -- What the code answers, by what is read.
-use Rattle.std.proofs.Common.{◌≡◌, ℕ, ◌<◌, ◌≤◌, false, ap, refl, sym, Bool, true, List, [], ◌∷◌, map, length, arith}
-use Rattle.std.proofs.Common.{inl, inr}
-use Rattle.std.specs.Prelude.{Option, Some, None, option_map, Ok, Err, nat_lt, ◌⊎◌, if◌then◌else◌}
+use Rattle.ed_syntax.proofs.Kit.{[], ap, arith, Bool, Err, false, if◌then◌else◌, inl, inr, length, List, map, None, Ok}
+use Rattle.ed_syntax.proofs.Kit.{Option, option_map, refl, Some, sym, true, ℕ, ◌<◌, ◌∷◌, ◌≡◌, ◌≤◌, ◌⊎◌, list_all}
+use Rattle.ed_syntax.proofs.Kit.{le-ltb, Text, is_place_name, is_line_byte, LinePart, form_result, part, form_at}
+use Rattle.ed_syntax.proofs.Kit.{is_plus_or_minus, labelled_line, placed_statement, Ranged, ranged_map, parts_of}
+use Rattle.ed_syntax.proofs.Kit.{line_of, or_cause, NotAStatement, NumberRange, Form, FormFault, NotThisForm}
+use Rattle.ed_syntax.proofs.Kit.{OutOfRange}
 use Rattle.std.specs.Borrow.{Bor}
-use Rattle.std.specs.List.{list_all}
-use Rattle.std.proofs.lemmas.Bool.Decides.{nat_tests}
-use Rattle.ed_words.specs.Texts.{Text}
-use Rattle.ed_syntax.specs.Names.{is_place_name}
-use Rattle.ed_syntax.specs.declared.fault.SourceCause.TheVariants.{NotAStatement, NumberRange}
-use Rattle.ed_syntax.specs.Private.Found.{form_result}
-use Rattle.ed_syntax.specs.Parts.{LinePart, is_line_byte}
-use Rattle.ed_syntax.specs.Reading.Parts.{parts_of}
-use Rattle.ed_syntax.specs.Reading.Grammar.{Ranged, form_at, is_plus_or_minus, labelled_line, ranged_map, placed_statement}
 use Rattle.ed_syntax.specs.Reading.Grammar.{joined_operand, operand, with_rest}
-use Rattle.ed_syntax.specs.Private.Seen.{part}
-use Rattle.ed_syntax.specs.Reading.Sources.{line_of, or_cause}
-use Rattle.ed_syntax.specs.declared.form_fault.FormFault.{FormFault}
-use Rattle.ed_syntax.specs.declared.form_fault.FormFault.TheVariants.{NotThisForm, OutOfRange}
 use Rattle.ed_syntax.specs.declared.parts.Part.{Part}
 use Rattle.ed_syntax.specs.declared.parts.Part.TheVariants.{Run, Sign}
-use Rattle.ed_syntax.specs.declared.form.Form.{Form}
 
 -- what is made of what is not read is not read, with the same fault
 pub made_fault : {A B : Type 0} (f : A → B) (o : Option (Ranged A)) (e : FormFault) → Err e ≡ form_result o
@@ -31,9 +20,8 @@ made_fault f (Some (Some a)) e h = absurd (cc)
 -- and what is made of what is read is read
 pub made_form : {A B : Type 0} (f : A → B) (o : Option (Ranged A)) (a : A) → Ok a ≡ form_result o
     → Ok (f a) ≡ form_result (ranged_map f o)
-made_form f None a h = absurd (cc)
-made_form f (Some None) a h = absurd (cc)
 made_form f (Some (Some b)) a h = let same : a ≡ b = cc in rw same refl
+made_form f o a h = absurd (cc)
 
 -- what the number of a run is, by what is read
 pub number_in_range : (digits : Bool) (o : Ranged ℕ) (k : ℕ) → Ok k ≡ form_result (if digits then Some o else None)
@@ -57,8 +45,7 @@ no_number false o e none h = refl
 -- a line of plain bytes, which is not too long, says what its parts say
 pub line_read : (two : Bool) (k : ℕ) (line : Text) (parts : List LinePart) → list_all is_line_byte line ≡ true
     → length line ≤ 120 → parts_of line ≡ Some parts → line_of two k line ≡ or_cause (form_at two k parts)
-line_read two k line parts plain short e =
-    let within : nat_lt 120 (length line) ≡ false = grind (arith, nat_tests) in rw (plain, within, e) refl
+line_read two k line parts plain short e = rw (plain, le-ltb 120 (length line) short, e) refl
 
 -- a line without a form, or with a number out of its range, has its fault
 pub line_fault : (o : Option (Ranged Form)) → Err NotThisForm ≡ form_result o → or_cause o ≡ Err NotAStatement
@@ -67,15 +54,13 @@ line_fault (Some None) h = absurd (cc)
 line_fault (Some (Some f)) h = absurd (cc)
 
 pub range_fault : (o : Option (Ranged Form)) → Err OutOfRange ≡ form_result o → or_cause o ≡ Err NumberRange
-range_fault None h = absurd (cc)
 range_fault (Some None) h = refl
-range_fault (Some (Some f)) h = absurd (cc)
+range_fault o h = absurd (cc)
 
 -- and a line that has one says it
 pub line_form : (o : Option (Ranged Form)) (f : Form) → Ok f ≡ form_result o → or_cause o ≡ Ok f
-line_form None f h = absurd (cc)
-line_form (Some None) f h = absurd (cc)
 line_form (Some (Some g)) f h = let same : f ≡ g = cc in ap (λ (x : Form). Ok x) (sym same)
+line_form o f h = absurd (cc)
 
 -- what follows a label is a statement that may have one
 pub after_a_label : (two : Bool) (r : Text) (ps : List Part) → is_place_name two r ≡ true → 0 < length ps

@@ -1,30 +1,17 @@
 -- What is spelled with its numbers in their ranges is a form that a line of a program may have.
-use Rattle.std.proofs.Common.{◌≡◌, ◌∙◌, subst, ℕ, zero, suc, ◌^◌, ◌<◌, Bool, true, List, [], ◌∷◌, refl, ap}
-use Rattle.std.proofs.Common.{sym, arith, lit<, ℤ, pos, length, map}
-use Rattle.std.specs.Prelude.{Option, Some, IfSome, nat_le, nat_lt, unsigned_abs, neg_ℤ}
-use Rattle.std.specs.List.{list_all}
-use Rattle.std.proofs.lemmas.Bool.Decides.{nat_tests}
-use Rattle.std.proofs.lemmas.Bool.{and_parts}
-use Rattle.std.proofs.lemmas.List.{length-map}
-use Rattle.ed_codes.specs.Spelling.{row_of}
-use Rattle.ed_words.specs.Texts.{Text}
-use Rattle.ed_words.specs.Decimals.{value}
-use Rattle.ed_syntax.specs.Parts.{LinePart, function, setting_letter, modulo}
-use Rattle.ed_syntax.specs.Names.{is_name, is_place_name}
-use Rattle.ed_syntax.specs.Programs.{are_rows, is_form, is_operand, is_setting, is_statement, may_have_label}
-use Rattle.ed_syntax.specs.declared.program.Operand.{Operand}
-use Rattle.ed_syntax.specs.declared.program.Setting.{Setting}
-use Rattle.ed_syntax.specs.declared.program.Statement.{Statement}
-use Rattle.ed_syntax.specs.declared.form.Form.{Form}
-use Rattle.ed_syntax.specs.Forms.{SpellsOperand, number, name, plus, minus, sum, difference}
-use Rattle.ed_syntax.specs.Forms.{SpellsSetting, setting, SpellsSettings, last, more, AreRowsOf}
-use Rattle.ed_syntax.specs.Forms.{SpellsPlaced, order, bare_order, word, long, text}
-use Rattle.ed_syntax.specs.Forms.{SpellsStatement, placed, segment, segment_at, fetch, fetch_with, enter, data_rows}
-use Rattle.ed_syntax.specs.Forms.{SpellsForm, empty, label, statement, labelled, version, EachSpelledIsForm}
-use Rattle.ed_syntax.specs.Forms.{FormsAreSpelled}
-use Rattle.ed_syntax.proofs.RunTests.{both}
-use Rattle.ed_syntax.proofs.Spelled.{each_form_is_spelled}
+use Rattle.ed_syntax.proofs.Kit.{[], ap, Bool, IfSome, length, List, map, nat_le, nat_lt, neg_ℤ, Option, pos, refl}
+use Rattle.ed_syntax.proofs.Kit.{Some, subst, suc, sym, true, unsigned_abs, zero, ℕ, ℤ, ◌<◌, ◌^◌, ◌∙◌, ◌∷◌, ◌≡◌}
+use Rattle.ed_syntax.proofs.Kit.{list_all, and_from, and_parts, le-leb, lt-ltb, length-map, value, Text, row_of}
+use Rattle.ed_syntax.proofs.Kit.{AreRowsOf, bare_order, data_rows, difference, enter, fetch, fetch_with, label}
+use Rattle.ed_syntax.proofs.Kit.{labelled, last, long, minus, more, name, number, order, placed, plus, segment}
+use Rattle.ed_syntax.proofs.Kit.{segment_at, setting, SpellsForm, SpellsOperand, SpellsPlaced, SpellsSetting}
+use Rattle.ed_syntax.proofs.Kit.{SpellsSettings, SpellsStatement, statement, sum, text, word, is_name, is_place_name}
+use Rattle.ed_syntax.proofs.Kit.{function, LinePart, modulo, are_rows, is_form, is_operand, is_setting, is_statement}
+use Rattle.ed_syntax.proofs.Kit.{may_have_label, Form, Operand, Setting, Statement}
+use Rattle.std.proofs.Common.{lit<}
+use Rattle.ed_syntax.specs.Forms.{EachSpelledIsForm, FormsAreSpelled}
 use Rattle.ed_syntax.proofs.Ranges.{IsLetter, letter_within, function_fits, modulo_fits, row_fits}
+use Rattle.ed_syntax.proofs.Spelled.{each_form_is_spelled}
 
 -- what holds of what an option has
 some_has : (P : ℕ → Type 0) (o : Option ℕ) (n : ℕ) → o ≡ Some n → IfSome o P → P n
@@ -37,29 +24,25 @@ negative_size (suc n) = refl
 operand_fits : (two : Bool) (ps : List LinePart) (o : Operand) (fits : Bool) → SpellsOperand two ps o fits
     → fits ≡ true → is_operand two o ≡ true
 operand_fits two _ _ _ (number n e) h = h
-operand_fits two _ _ _ (name a e) h = both (is_place_name two a) _ e refl
-operand_fits two _ _ _ (plus a n e f) h = both (is_place_name two a) _ e h
+operand_fits two _ _ _ (name a e) h = and_from (is_place_name two a) _ e refl
+operand_fits two _ _ _ (plus a n e f) h = and_from (is_place_name two a) _ e h
 operand_fits two _ _ _ (minus a n e f) h =
-    both (is_place_name two a) _ e (ap (λ (m : ℕ). nat_le m 1023) (negative_size (value n)) ∙ h)
-operand_fits two _ _ _ (sum a b e f g) h = both two _ g (both (is_place_name two a) _ e f)
-operand_fits two _ _ _ (difference a b e f g) h = both two _ g (both (is_place_name two a) _ e f)
+    and_from (is_place_name two a) _ e (ap (λ (m : ℕ). nat_le m 1023) (negative_size (value n)) ∙ h)
+operand_fits two _ _ _ (sum a b e f g) h = and_from two _ g (and_from (is_place_name two a) _ e f)
+operand_fits two _ _ _ (difference a b e f g) h = and_from two _ g (and_from (is_place_name two a) _ e f)
 
 setting_fits : (two : Bool) (ps : List LinePart) (s : Setting) (fits : Bool) → SpellsSetting two ps s fits
     → fits ≡ true → is_setting two s ≡ true
 setting_fits two _ _ _ (setting b l ps o fits hl ho) h =
-    let letter : IsLetter l = some_has IsLetter (setting_letter b) l hl (letter_within b) in
-    let low_is = letter.low in
-    let high_is = letter.high in
-    let low : nat_le 21 l ≡ true = grind (arith, nat_tests) in
-    let high : nat_le l 26 ≡ true = grind (arith, nat_tests) in
-    both _ _ (both _ _ low high) (operand_fits two ps o fits ho h)
+    let letter : IsLetter l = some_has IsLetter _ l hl (letter_within b) in
+    and_from _ _ (and_from _ _ (le-leb 21 l letter.low) (le-leb l 26 letter.high)) (operand_fits two ps o fits ho h)
 
 settings_fit : (two : Bool) (ps : List LinePart) (ss : List Setting) (fits : Bool) → SpellsSettings two ps ss fits
     → fits ≡ true → list_all (is_setting two) ss ≡ true
-settings_fit two _ _ _ (last ps s fits g) h = both (is_setting two s) true (setting_fits two ps s fits g h) refl
+settings_fit two _ _ _ (last ps s fits g) h = and_from (is_setting two s) true (setting_fits two ps s fits g h) refl
 settings_fit two _ _ _ (more ps qs s ss fits also g i) h =
     let p = and_parts fits also h in
-    both (is_setting two s) _ (setting_fits two ps s fits g p.0) (settings_fit two qs ss also i p.1)
+    and_from (is_setting two s) _ (setting_fits two ps s fits g p.0) (settings_fit two qs ss also i p.1)
 
 -- the rows that bytes spell are codes
 codes_fit : (q : Text) (rows : List ℕ) → map row_of q ≡ map (λ r. Some r) rows
@@ -69,8 +52,7 @@ codes_fit [] (r ∷ rows) e = absurd (cc)
 codes_fit (b ∷ q) [] e = absurd (cc)
 codes_fit (b ∷ q) (r ∷ rows) e =
     let below : r < 32 = some_has (λ c. c < 32) (row_of b) r (first (row_of b) (Some r) _ _ e) (row_fits b) in
-    let test : nat_lt r 32 ≡ true = grind (arith, nat_tests) in
-    both (nat_lt r 32) _ test (codes_fit q rows (others (row_of b) (Some r) _ _ e))
+    and_from (nat_lt r 32) _ (lt-ltb r 32 below) (codes_fit q rows (others (row_of b) (Some r) _ _ e))
   where
     first : (x y : Option ℕ) (xs ys : List (Option ℕ)) → x ∷ xs ≡ y ∷ ys → x ≡ y
     first x y xs ys e = cc
@@ -82,46 +64,44 @@ rows_fit : (q : Text) (rows : List ℕ) → AreRowsOf q rows → are_rows rows �
 rows_fit q rows h =
     let size : length q ≡ length rows =
     sym (length-map q row_of) ∙ ap length h.each ∙ length-map rows (λ r. Some r) in
-    both (nat_le 1 (length rows)) _ (sym (ap (nat_le 1) size) ∙ h.some) (codes_fit q rows h.each)
+    and_from (nat_le 1 (length rows)) _ (sym (ap (nat_le 1) size) ∙ h.some) (codes_fit q rows h.each)
 
 word_fits : (z : ℤ) → nat_lt (modulo 17 z) (2 ^ 17) ≡ true
-word_fits z = let below = modulo_fits (2 ^ 17) z (lit< tt) in grind (arith, nat_tests)
+word_fits z = lt-ltb _ _ (modulo_fits (2 ^ 17) z (lit< tt))
 
 long_fits : (z : ℤ) → nat_lt (modulo 35 z) (2 ^ 35) ≡ true
-long_fits z = let below = modulo_fits (2 ^ 35) z (lit< tt) in grind (arith, nat_tests)
+long_fits z = lt-ltb _ _ (modulo_fits (2 ^ 35) z (lit< tt))
 
 code_fits : (b f : ℕ) → function b ≡ Some f → nat_lt f 32 ≡ true
-code_fits b f e =
-    let below : f < 32 = some_has (λ c. c < 32) (function b) f e (function_fits b) in grind (arith, nat_tests)
+code_fits b f e = lt-ltb f 32 (some_has (λ c. c < 32) _ f e (function_fits b))
 
 placed_fits : (two : Bool) (ps : List LinePart) (s : Statement) (fits : Bool) → SpellsPlaced two ps s fits
     → fits ≡ true → (may_have_label s ≡ true) × (is_statement two s ≡ true)
 placed_fits two _ _ _ (order b f e ps o l fits hf ho hl) h =
-    (refl, both (nat_lt f 32) _ (code_fits b f hf) (operand_fits two ps o fits ho h))
-placed_fits two _ _ _ (bare_order b f e l hf hl) h = (refl, both (nat_lt f 32) _ (code_fits b f hf) refl)
+    (refl, and_from (nat_lt f 32) _ (code_fits b f hf) (operand_fits two ps o fits ho h))
+placed_fits two _ _ _ (bare_order b f e l hf hl) h = (refl, and_from (nat_lt f 32) _ (code_fits b f hf) refl)
 placed_fits two _ _ _ (word ps z fits g) h = (refl, word_fits z)
-placed_fits two _ _ _ (long ps z fits g v) h = (refl, both two _ v (long_fits z))
+placed_fits two _ _ _ (long ps z fits g v) h = (refl, and_from two _ v (long_fits z))
 placed_fits two _ _ _ (text q rows g) h = (refl, rows_fit q rows g)
 
 statement_fits : (two : Bool) (ps : List LinePart) (s : Statement) (fits : Bool) → SpellsStatement two ps s fits
     → fits ≡ true → is_statement two s ≡ true
 statement_fits two _ _ _ (placed ps s fits g) h = (placed_fits two ps s fits g h).1
-statement_fits two _ _ _ (segment a e) h = both (is_name a) true e refl
-statement_fits two _ _ _ (segment_at a n e f) h = both (is_name a) _ e h
-statement_fits two _ _ _ (fetch a b e f) h = both (is_name a) _ e (both (is_name b) true f refl)
+statement_fits two _ _ _ (segment a e) h = and_from (is_name a) true e refl
+statement_fits two _ _ _ (segment_at a n e f) h = and_from (is_name a) _ e h
+statement_fits two _ _ _ (fetch a b e f) h = and_from (is_name a) _ e (and_from (is_name b) true f refl)
 statement_fits two _ _ _ (fetch_with a b ps ss fits e f g few) h =
-    both (is_name a) _ e (both (is_name b) _ f (settings_fit two ps ss fits g h))
+    and_from (is_name a) _ e (and_from (is_name b) _ f (settings_fit two ps ss fits g h))
 statement_fits two _ _ _ (enter a e) h = e
 statement_fits two _ _ _ (data_rows q rows g) h = rows_fit q rows g
 
 form_fits : (two : Bool) (k : ℕ) (ps : List LinePart) (f : Form) (fits : Bool) → SpellsForm two k ps f fits
     → fits ≡ true → is_form two f.label f.statement ≡ true
-form_fits two _ _ _ _ (empty k) h = refl
 form_fits two _ _ _ _ (label k a e) h = e
 form_fits two _ _ _ _ (statement k ps s fits g) h = statement_fits two ps s fits g h
 form_fits two _ _ _ _ (labelled k a ps s fits e g) h =
-    let p = placed_fits two ps s fits g h in both (is_place_name two a) _ e (both (may_have_label s) _ p.0 p.1)
-form_fits two _ _ _ _ (version n e f) h = refl
+    let p = placed_fits two ps s fits g h in and_from (is_place_name two a) _ e (and_from (may_have_label s) _ p.0 p.1)
+form_fits two _ _ _ _ x h = refl
 
 pub each_spelled_is_form : EachSpelledIsForm
 each_spelled_is_form two k line f s = form_fits two k s.parts f true s.spells refl

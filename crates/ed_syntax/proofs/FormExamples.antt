@@ -1,19 +1,13 @@
 -- Texts that spell lines, and texts that don't.
-use Rattle.std.proofs.Common.{true, false, [], ◌∷◌, ◌++◌, refl, codes, pos}
-use Rattle.std.specs.Prelude.{Some, None, Ok, Err}
-use Rattle.ed_syntax.specs.Parts.{run, sign}
-use Rattle.ed_syntax.specs.Reading.Grammar
-use Rattle.ed_syntax.specs.Parts.{array}
-use Rattle.ed_syntax.specs.declared.program.Operand.TheVariants as operands
-use Rattle.ed_syntax.specs.declared.program.Statement.{Statement}
-use Rattle.ed_syntax.specs.declared.program.Statement.TheVariants as statements
-use Rattle.ed_syntax.specs.declared.form.Form.{Form}
-use Rattle.ed_syntax.specs.Forms.{comment, blank, one_sign, one_run}
-use Rattle.ed_syntax.specs.Forms.{SpellsLine, IsNoStatement, HasNumberOutOfRange, labelled, order, plus}
-use Rattle.ed_syntax.specs.Sources.{IsProgram, IsFormFault}
-use Rattle.ed_syntax.specs.declared.fault.SourceCause.TheVariants.{BadByte, NumberRange}
-use Rattle.ed_syntax.proofs.SourceLaws.{source_answer}
+use Rattle.ed_syntax.proofs.Kit.{[], codes, Err, false, None, Ok, pos, refl, Some, true, ◌++◌, ◌∷◌, blank, comment}
+use Rattle.ed_syntax.proofs.Kit.{HasNumberOutOfRange, IsNoStatement, labelled, one_run, one_sign, order, plus}
+use Rattle.ed_syntax.proofs.Kit.{SpellsLine, array, run, sign, IsFormFault, IsProgram, BadByte, NumberRange, Form}
+use Rattle.ed_syntax.proofs.Kit.{Statement}
 use Rattle.ed_syntax.proofs.LineLaws.{read_form_is_spelled, unread_is_unspelled, out_of_range_is_spelled}
+use Rattle.ed_syntax.proofs.SourceLaws.{source_answer}
+use Rattle.ed_syntax.specs.Reading.Grammar
+use Rattle.ed_syntax.specs.declared.program.Operand.TheVariants as operands
+use Rattle.ed_syntax.specs.declared.program.Statement.TheVariants as statements
 
 abbrev just : Statement → Form
 just s = record { label = None; statement = Some s }
@@ -35,7 +29,7 @@ by_hand = record {
       (one_sign 70 _ _ refl (comment []))))))));
   spells = labelled 7 (codes "a") _ _ true refl
       (order 65 28 70 (run (codes "b") ∷ sign 43 ∷ run (codes "01") ∷ []) _ false true refl
-      (plus (codes "b") (codes "01") refl refl) refl);
+      (plus (codes "b") _ refl refl) refl);
 }
 
 -- ---- by computation: texts that spell lines

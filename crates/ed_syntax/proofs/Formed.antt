@@ -1,14 +1,8 @@
 -- The lines of a source are those that a program may have: numbered from 1, not too many, and each of a form of the
 -- grammar with its numbers in their ranges.
-use Rattle.std.proofs.Common.{◌≡◌, subst, ℕ, zero, suc, ◌+◌, ◌<◌, ◌≤◌, Bool, true, List, [], ◌∷◌, refl, arith}
-use Rattle.std.proofs.Common.{length, get_or}
-use Rattle.std.specs.Prelude.{Ok}
-use Rattle.std.specs.List.{list_all}
-use Rattle.ed_words.specs.Texts.{Text}
-use Rattle.ed_syntax.specs.Programs.{AreNumbered, is_line}
-use Rattle.ed_syntax.specs.Sources.{IsProgram, LinesSay, no_more, and_more}
-use Rattle.ed_syntax.specs.Reading.Sources.{lines_from}
-use Rattle.ed_syntax.specs.declared.program.Line.{Line}
+use Rattle.ed_syntax.proofs.Kit.{[], arith, Bool, get_or, length, List, Ok, refl, subst, suc, true, zero, ℕ, ◌+◌, ◌<◌}
+use Rattle.ed_syntax.proofs.Kit.{◌∷◌, ◌≡◌, ◌≤◌, list_all, Text, AreNumbered, is_line, lines_from, and_more, LinesSay}
+use Rattle.ed_syntax.proofs.Kit.{no_more, Line}
 use Rattle.ed_syntax.proofs.FitLaws.{each_spelled_is_form}
 use Rattle.ed_syntax.proofs.SourceLaws.{IsAnswerFrom, SayFrom, lines_answer}
 
@@ -57,13 +51,9 @@ say_formed two lines said h few =
       formed = said_formed h;
     }
 
--- the lines that a source says
-pub said_lines_are : (text : Text) (two : Bool) (said : List Line) → IsProgram text two said → AreLines two said
-said_lines_are text two said p = say_formed two p.lines said p.says p.few
-
--- and those that are read in it
+-- the lines that are read in a source
 pub program_formed : (two : Bool) (texts : List Text) (lines : List Line) → lines_from two 1 texts ≡ Ok lines
     → AreLines two lines
 program_formed two texts lines e =
     let h : SayFrom two 1 texts lines = subst (IsAnswerFrom two 1 texts) e (lines_answer two 1 texts (omega arith)) in
-    let few = h.few in say_formed two texts lines h.says (omega (arith, few))
+    say_formed two texts lines h.says (omega arith)

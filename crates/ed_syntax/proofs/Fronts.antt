@@ -1,18 +1,10 @@
 -- Texts that precede others, and the parts that they add there.
-use Rattle.std.proofs.Common.{◌≡◌, ℕ, ◌≤◌, Bool, true, false, List, [], ◌∷◌, ◌++◌, refl, sym, subst, arith}
-use Rattle.std.proofs.Common.{append_assoc}
-use Rattle.std.specs.Prelude.{◌==◌, ◌||◌, nat_le}
-use Rattle.std.specs.List.{list_all}
-use Rattle.std.proofs.lemmas.Bool.Decides.{nat_tests, Decides-eqb}
-use Rattle.std.proofs.lemmas.Bool.{and_parts}
-use Rattle.std.proofs.lemmas.List.{append-nil}
-use Rattle.ed_words.specs.Texts.{Text}
-use Rattle.ed_words.specs.Decimals.{is_digit}
-use Rattle.ed_syntax.specs.Parts.{LinePart, run, sign, quoted, is_line_byte, begins_run}
-use Rattle.ed_syntax.specs.Names.{is_lower, is_run_byte}
-use Rattle.ed_syntax.specs.Parts.{has_quote}
-use Rattle.ed_syntax.specs.Forms.{HasLineParts, nothing, blank, one_sign, one_string, one_run, is_sign}
-use Rattle.ed_syntax.proofs.RunTests.{is_run, both, each_append}
+use Rattle.ed_syntax.proofs.Kit.{[], append_assoc, arith, Bool, false, List, nat_le, refl, subst, true, ℕ, ◌++◌, ◌==◌}
+use Rattle.ed_syntax.proofs.Kit.{◌||◌, ◌∷◌, ◌≡◌, ◌≤◌, list_all, or-true, and_from, and_parts, le-leb, leb-true}
+use Rattle.ed_syntax.proofs.Kit.{Decides-eqb, append-nil, is_digit, Text, blank, HasLineParts, is_sign, nothing}
+use Rattle.ed_syntax.proofs.Kit.{one_run, one_sign, one_string, is_lower, is_run_byte, begins_run, has_quote}
+use Rattle.ed_syntax.proofs.Kit.{is_line_byte, LinePart, quoted, run, sign}
+use Rattle.ed_syntax.proofs.RunTests.{is_run, each_append}
 
 -- no run continues into this text if none continues into what follows it
 abbrev pub EndsRun : Text → Type 0
@@ -31,26 +23,16 @@ run_byte_is_plain b = by_test (is_lower b) (is_digit b) (b == 95) refl refl refl
   where
     within : 32 ≤ b → b ≤ 126 → is_line_byte b ≡ true
     within low high =
-        let lower : nat_le 32 b ≡ true = grind (arith, nat_tests) in
-        let upper : nat_le b 126 ≡ true = grind (arith, nat_tests) in
-        rw (lower, upper) (either (b == 9))
-      where
-        either : (c : Bool) → (c || true) ≡ true
-        either true = refl
-        either false = refl
+        rw (le-leb 32 b low, le-leb b 126 high) (or-true (b == 9))
 
     by_test : (l d u : Bool) → is_lower b ≡ l → is_digit b ≡ d → (b == 95) ≡ u → (l || (d || u)) ≡ true
         → is_line_byte b ≡ true
     by_test true d u e f g h =
         let p = and_parts (nat_le 97 b) _ e in
-        let low : 97 ≤ b = let t = p.0 in grind (arith, nat_tests) in
-        let high : b ≤ 122 = let t = p.1 in grind (arith, nat_tests) in
-        within (omega (arith, low)) (omega (arith, high))
+        within (omega (arith, leb-true 97 b p.0)) (omega (arith, leb-true b 122 p.1))
     by_test false true u e f g h =
         let p = and_parts (nat_le 48 b) _ f in
-        let low : 48 ≤ b = let t = p.0 in grind (arith, nat_tests) in
-        let high : b ≤ 57 = let t = p.1 in grind (arith, nat_tests) in
-        within (omega (arith, low)) (omega (arith, high))
+        within (omega (arith, leb-true 48 b p.0)) (omega (arith, leb-true b 57 p.1))
     by_test false false true e f g h =
         let is : b ≡ 95 = (Decides-eqb b 95).0 g in within (omega (arith, is)) (omega (arith, is))
     by_test false false false e f g h = absurd (cc)
@@ -58,7 +40,7 @@ run_byte_is_plain b = by_test (is_lower b) (is_digit b) (b == 95) refl refl refl
 run_is_plain : (r : Text) → list_all is_run_byte r ≡ true → list_all is_line_byte r ≡ true
 run_is_plain [] e = refl
 run_is_plain (b ∷ r) e =
-    let p = and_parts (is_run_byte b) _ e in both _ _ (run_byte_is_plain b p.0) (run_is_plain r p.1)
+    let p = and_parts _ _ e in and_from _ _ (run_byte_is_plain b p.0) (run_is_plain r p.1)
 
 -- ---- fronts
 
@@ -74,15 +56,14 @@ blank_front text ps f = record {
 pub sign_front : (b : ℕ) (text : Text) (ps : List LinePart) → is_sign b ≡ true → is_line_byte b ≡ true
     → IsFront text ps → IsFront (b ∷ text) (sign b ∷ ps)
 sign_front b text ps s l f = record {
-  parts = λ rest qs e h. one_sign b (text ++ rest) (ps ++ qs) s (f.parts rest qs e h);
-  bytes = both _ _ l f.bytes;
+  parts = λ rest qs e h. one_sign b _ (ps ++ qs) s (f.parts rest qs e h);
+  bytes = and_from _ _ l f.bytes;
 }
 
 pub quoted_front : (q text : Text) (ps : List LinePart) → has_quote q ≡ false → list_all is_line_byte q ≡ true
     → IsFront text ps → IsFront (34 ∷ q ++ 34 ∷ text) (quoted q ∷ ps)
 quoted_front q text ps s l f = record {
-  parts = λ rest qs e h. subst (λ (t : Text). HasLineParts (34 ∷ t) (quoted q ∷ (ps ++ qs)))
-      (sym (append_assoc q (34 ∷ text) rest)) (one_string q (text ++ rest) (ps ++ qs) s (f.parts rest qs e h));
+  parts = λ rest qs e h. rw (append_assoc q (34 ∷ text) rest) (one_string q _ (ps ++ qs) s (f.parts rest qs e h));
   bytes = each_append is_line_byte q (34 ∷ text) l f.bytes;
 }
 
@@ -90,8 +71,7 @@ pub run_front : (r text : Text) (ps : List LinePart) → is_run r ≡ true → E
     → IsFront (r ++ text) (run r ∷ ps)
 run_front [] text ps s ends f = absurd (cc)
 run_front (b ∷ r) text ps s ends f = record {
-  parts = λ rest qs e h. subst (λ (t : Text). HasLineParts t (run (b ∷ r) ∷ (ps ++ qs)))
-      (sym (append_assoc (b ∷ r) text rest))
+  parts = λ rest qs e h. rw (append_assoc (b ∷ r) text rest)
       (one_run b r (text ++ rest) (ps ++ qs) s (ends rest e) (f.parts rest qs e h));
   bytes = each_append is_line_byte (b ∷ r) text (run_is_plain (b ∷ r) s) f.bytes;
 }
@@ -107,13 +87,11 @@ joined_front a b ps qs f ends g = record {
   parts = λ rest rs e h.
       let whole : HasLineParts (a ++ (b ++ rest)) (ps ++ (qs ++ rs)) =
       f.parts (b ++ rest) (qs ++ rs) (ends rest e) (g.parts rest rs e h) in
-      subst (λ (t : Text). HasLineParts t ((ps ++ qs) ++ rs)) (sym (append_assoc a b rest))
-      (subst (λ (t : List LinePart). HasLineParts (a ++ (b ++ rest)) t) (sym (append_assoc ps qs rs)) whole);
+      rw (append_assoc a b rest) (rw (append_assoc ps qs rs) whole);
   bytes = each_append is_line_byte a b f.bytes g.bytes;
 }
 
 -- a front that is the whole text
 pub front_parts : (text : Text) (ps : List LinePart) → IsFront text ps → HasLineParts text ps
 front_parts text ps f =
-    subst (λ (t : Text). HasLineParts t ps) (append-nil text)
-    (subst (λ (t : List LinePart). HasLineParts (text ++ []) t) (append-nil ps) (f.parts [] [] refl nothing))
+    rw (← (append-nil text)) (rw (← (append-nil ps)) (f.parts [] [] refl nothing))

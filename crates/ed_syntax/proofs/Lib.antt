@@ -29,3 +29,4 @@ pub mod Numerals
 pub mod Spelled
 pub mod Texts
 pub mod Added
+pub mod Kit

@@ -1,37 +1,28 @@
 -- A text is read as the form that it spells.
-use Rattle.std.proofs.Common.{◌≡◌, ◌∙◌, ℕ, Bool, true, false, sym, ap, subst}
-use Rattle.std.specs.Prelude.{Option, Some, None, option_and_then}
-use Rattle.ed_words.specs.Texts.{Text}
-use Rattle.ed_syntax.specs.Reading.Parts.{parts_of}
-use Rattle.ed_syntax.specs.Reading.Grammar
-use Rattle.ed_syntax.specs.declared.form.Form.{Form}
-use Rattle.ed_syntax.specs.Forms.{SpellsLine, IsNoStatement}
-use Rattle.ed_syntax.proofs.Readings.{ranged, chained, some_is}
+use Rattle.ed_syntax.proofs.Kit.{ap, arith, Bool, false, length, length-append, List, nat_le, None, Option}
+use Rattle.ed_syntax.proofs.Kit.{option_and_then, refl, Some, sym, true, ℕ, ◌∙◌, ◌∷◌, ◌≡◌, ◌≤◌, list_all, le-leb}
+use Rattle.ed_syntax.proofs.Kit.{leb-true, Text, blank, comment, HasLineParts, IsNoStatement, nothing, one_run}
+use Rattle.ed_syntax.proofs.Kit.{one_sign, one_string, SpellsLine, LinePart, parts_of, Form}
+use Rattle.ed_syntax.proofs.FormLaws.{form_is_read, form_is_spelled}
 use Rattle.ed_syntax.proofs.PartsLaws.{parts_are_read, read_parts_are}
 use Rattle.ed_syntax.proofs.PlacedLaws.{is_short}
-use Rattle.ed_syntax.specs.Parts.{LinePart}
-use Rattle.ed_syntax.specs.Forms.{HasLineParts, nothing, comment, blank, one_sign, one_string, one_run}
-use Rattle.std.specs.List.{list_all}
-use Rattle.std.specs.Prelude.{nat_le}
-use Rattle.std.proofs.Common.{List, length, length-append, ◌≤◌, ◌∷◌, arith, refl}
-use Rattle.std.proofs.lemmas.Bool.Decides.{nat_tests}
-use Rattle.ed_syntax.proofs.FormLaws.{form_is_read, form_is_spelled}
+use Rattle.ed_syntax.proofs.Readings.{ranged, Some-chained, some_is}
+use Rattle.ed_syntax.specs.Reading.Grammar
 
 -- what is read in the line with the number k
 abbrev pub form_of : Bool → ℕ → Text → Option (Option Form)
 form_of two k text = option_and_then (Grammar.form_at two k) (parts_of text)
 
 -- the strings of a short line are short
-few_bytes : (text : Text) (ps : List LinePart) → HasLineParts text ps → length text ≤ 120 → list_all is_short ps ≡ true
+pub few_bytes : (text : Text) (ps : List LinePart) → HasLineParts text ps → length text ≤ 120
+    → list_all is_short ps ≡ true
 few_bytes _ _ nothing le = refl
 few_bytes _ _ (comment bytes) le = refl
 few_bytes _ _ (blank b text ps e h) le = few_bytes text ps h (omega arith)
 few_bytes _ _ (one_sign b text ps e h) le = few_bytes text ps h (omega arith)
 few_bytes _ _ (one_string q text ps e h) le =
     let size = length-append q (34 ∷ text) in
-    let le_q : length q ≤ 120 = omega (arith, size, le) in
-    let here : nat_le (length q) 120 ≡ true = grind (arith, nat_tests) in
-    rw here (few_bytes text ps h (omega (arith, size, le)))
+    rw (le-leb (length q) 120 (omega (arith, size, le))) (few_bytes text ps h (omega (arith, size, le)))
 few_bytes _ _ (one_run b r text ps e g h) le =
     let size = length-append (b ∷ r) text in few_bytes text ps h (omega (arith, size, le))
 
@@ -52,7 +43,7 @@ pub record ReadsForm (two : Bool) (k : ℕ) (text : Text) (x : Option Form) : Ty
 pub read_is_spelled : (two : Bool) (k : ℕ) (text : Text) (x : Option Form) → form_of two k text ≡ Some x
     → ReadsForm two k text x
 read_is_spelled two k text x h =
-    let c = chained (Grammar.form_at two k) (parts_of text) x h in
+    let c = Some-chained (Grammar.form_at two k) (parts_of text) x h in
     let s = form_is_spelled two k c.0 x c.2 in
     record {
       form = s.what;
@@ -71,7 +62,7 @@ read_form_is_spelled two k text f h =
         → SpellsLine two k text f true
     by_fits false g s e = absurd (cc)
     by_fits true g s e = let is : g ≡ f = some_is f g e in
-        subst (λ (y : Form). SpellsLine two k text y true) is s
+        rw (← is) s
 
 -- a text that is read as a form with a number out of its range spells one
 pub out_of_range_is_spelled : (two : Bool) (k : ℕ) (text : Text) → form_of two k text ≡ Some None
@@ -88,8 +79,7 @@ out_of_range_is_spelled two k text h =
 pub unread_is_unspelled : (two : Bool) (k : ℕ) (text : Text) → nat_le (length text) 120 ≡ true
     → form_of two k text ≡ None → IsNoStatement two k text
 unread_is_unspelled two k text short h f fits s =
-    let le : length text ≤ 120 = grind (arith, nat_tests) in
-    let e = spelled_is_read two k text f fits le s in absurd (cc)
+    let e = spelled_is_read two k text f fits (leb-true _ 120 short) s in absurd (cc)
 
 -- no text spells two forms whose numbers are in their ranges
 pub one_form : (two : Bool) (k : ℕ) (text : Text) (f g : Form) → length text ≤ 120 → SpellsLine two k text f true

@@ -1,27 +1,15 @@
 -- The first line of a text.
-use Rattle.std.proofs.Common.{◌≡◌, ◌∙◌, ◌<◌, ℕ, ◌+◌, Bool, true, false, List, []}
-use Rattle.std.proofs.Common.{◌∷◌, ◌++◌, refl, sym, ap, take, drop, length, get_or, arith}
-use Rattle.std.specs.Prelude.{◌==◌, ◌||◌, ◌&&◌}
-use Rattle.std.proofs.lemmas.List.{take_more, length-drop}
-use Rattle.ed_syntax.proofs.Splits.{split_at}
-use Rattle.ed_words.specs.Texts.{Text}
-use Rattle.ed_syntax.specs.Lines.{lines_of, with_byte}
-use Rattle.ed_syntax.specs.Lines.{has_end, without_return}
+use Rattle.ed_syntax.proofs.Kit.{[], ap, arith, Bool, drop, false, get_or, length, refl, sym, take, true, ℕ, ◌++◌, ◌+◌}
+use Rattle.ed_syntax.proofs.Kit.{◌<◌, ◌==◌, ◌∙◌, ◌∷◌, ◌≡◌, and-false, or_parts, Text, has_end, lines_of, with_byte}
+use Rattle.ed_syntax.proofs.Kit.{without_return}
+use Rattle.std.proofs.lemmas.List.{length-drop}
 use Rattle.ed_syntax.specs.Private.LineFronts.{TakesLine}
+use Rattle.ed_syntax.proofs.Splits.{split_at}
 
 pub no_end_head : (b : ℕ) (bs : Text) → has_end (b ∷ bs) ≡ false → ((b == 10) ≡ false) × (has_end bs ≡ false)
-no_end_head b bs = go (b == 10) (has_end bs)
-  where
-    go : (c d : Bool) → (c || d) ≡ false → (c ≡ false) × (d ≡ false)
-    go true d e = absurd (cc)
-    go false d e = (refl, e)
+no_end_head b bs = or_parts (b == 10) _
 
-has_end_push : (xs : List ℕ) (b : ℕ) → has_end xs ≡ false → (b == 10) ≡ false → has_end (xs ++ b ∷ []) ≡ false
-has_end_push [] b e h = simp h
-has_end_push (x ∷ xs) b e h =
-    let here = no_end_head x xs e in let first : (x == 10) ≡ false = here.0 in simp first (has_end_push xs b here.1 h)
-
-empty_line : (rest : Text) → lines_of (10 ∷ rest) ≡ [] ∷ lines_of rest
+pub empty_line : (rest : Text) → lines_of (10 ∷ rest) ≡ [] ∷ lines_of rest
 empty_line [] = refl
 empty_line (b ∷ bs) = refl
 
@@ -39,15 +27,7 @@ ended (b ∷ c ∷ f) rest e =
     let here = no_end_head b (c ∷ f) e in
     let first : (b == 10) ≡ false = here.0 in
     let second : (c == 10) ≡ false = (no_end_head c f here.1).0 in
-    simp (first, second, and_false) (ap (with_byte b) (ended (c ∷ f) rest here.1))
-  where
-    and_false : (x : Bool) → (x && false) ≡ false
-    and_false true = refl
-    and_false false = refl
-
-and_no : (x : Bool) → (x && false) ≡ false
-and_no true = refl
-and_no false = refl
+    simp (first, second, and-false) (ap (with_byte b) (ended (c ∷ f) rest here.1))
 
 pub unended : (b : ℕ) (bs : Text) → has_end (b ∷ bs) ≡ false → lines_of (b ∷ bs) ≡ (b ∷ bs) ∷ []
 unended b [] e = let first : (b == 10) ≡ false = (no_end_head b [] e).0 in simp first
@@ -55,21 +35,15 @@ unended b (c ∷ bs) e =
     let here = no_end_head b (c ∷ bs) e in
     let first : (b == 10) ≡ false = here.0 in
     let second : (c == 10) ≡ false = (no_end_head c bs here.1).0 in
-    simp (first, second, and_no) (ap (with_byte b) (unended c bs here.1))
+    simp (first, second, and-false) (ap (with_byte b) (unended c bs here.1))
 
 pub no_return : (xs : Text) → without_return (xs ++ 13 ∷ []) ≡ xs
-no_return [] = refl
-no_return (x ∷ []) = refl
 no_return (x ∷ y ∷ xs) = ap (λ (l : Text). x ∷ l) (no_return (y ∷ xs))
+no_return xs = refl
 
 pub keeps_end : (xs : Text) (b : ℕ) → (b == 13) ≡ false → without_return (xs ++ b ∷ []) ≡ xs ++ b ∷ []
-keeps_end [] b e = simp e
-keeps_end (x ∷ []) b e = simp e
 keeps_end (x ∷ y ∷ xs) b e = ap (λ (l : Text). x ∷ l) (keeps_end (y ∷ xs) b e)
-
-pub no_end_more : (text : Text) (i : ℕ) → i < length text → has_end (take i text) ≡ false
-    → (get_or text i 0 == 10) ≡ false → has_end (take (i + 1) text) ≡ false
-no_end_more text i lt e h = rw (take_more text i 0 lt) (has_end_push (take i text) (get_or text i 0) e h)
+keeps_end xs b e = simp e
 
 pub takes_ended : (text line : Text) (i : ℕ) → i < length text → has_end (take i text) ≡ false
     → get_or text i 0 ≡ 10 → line ≡ without_return (take i text) → TakesLine text line (drop (i + 1) text)

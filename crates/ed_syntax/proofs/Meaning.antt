@@ -1,22 +1,12 @@
 -- What the tests of a program's lines say.
-use Rattle.std.proofs.Common.{◌≡◌, ℕ, ◌^◌, ◌<◌, ◌≤◌, Bool, true, List, [], ◌∷◌}
-use Rattle.std.proofs.Common.{arith, ℤ, pos, neg_ℤ, ◌≤ℤ◌, length, All, get_or}
-use Rattle.std.specs.Prelude.{◌&&◌, Option, Some, None, IfSome, nat_le, nat_lt, unsigned_abs}
-use Rattle.std.specs.List.{list_all}
-use Rattle.std.proofs.lemmas.Bool.Decides.{nat_tests}
-use Rattle.std.proofs.lemmas.Int.{ints}
-use Rattle.std.proofs.lemmas.List.Sums.{AllPass-from_list_all}
+use Rattle.ed_syntax.proofs.Kit.{[], arith, Bool, IfSome, length, List, nat_le, nat_lt, neg_ℤ, None, Option, pos, Some}
+use Rattle.ed_syntax.proofs.Kit.{true, unsigned_abs, ℕ, ℤ, ◌<◌, ◌^◌, ◌∷◌, ◌≡◌, ◌≤◌, list_all, and_parts, leb-true}
+use Rattle.ed_syntax.proofs.Kit.{nat_tests, ints, is_name, is_place_name, are_rows, is_base, is_operand, is_setting}
+use Rattle.ed_syntax.proofs.Kit.{is_statement, Operand, Setting, Statement}
+use Rattle.std.proofs.Common.{◌≤ℤ◌, All}
 use Rattle.std.proofs.lemmas.List.Elements.{All-cons}
-use Rattle.std.proofs.lemmas.Bool.{and_parts}
-use Rattle.ed_syntax.specs.Names.{is_name, is_place_name}
-use Rattle.ed_syntax.specs.Programs.{are_rows, is_base, is_form, is_line, is_operand}
-use Rattle.ed_syntax.specs.Programs.{is_setting, is_statement, may_have_label}
-use Rattle.ed_syntax.specs.declared.program.Operand.{Operand}
 use Rattle.ed_syntax.specs.declared.program.Operand.TheVariants as operands
-use Rattle.ed_syntax.specs.declared.program.Setting.{Setting}
-use Rattle.ed_syntax.specs.declared.program.Statement.{Statement}
 use Rattle.ed_syntax.specs.declared.program.Statement.TheVariants as statements
-use Rattle.ed_syntax.specs.declared.program.Line.{Line}
 
 -- a number that an operand adds to a name or subtracts from it
 pub record IsOffset (plus : ℤ) : Type 0 where
@@ -52,36 +42,20 @@ IsStatement two (statements.Enter name) = is_name name ≡ true
 IsStatement two (statements.Rows codes) = AreRows codes.items
 IsStatement two (statements.Long value) = (two ≡ true) × (value < 2 ^ 35)
 
--- a statement that may have a label
-abbrev pub MayHaveLabel : Statement → Type 0
-MayHaveLabel (statements.Order function operand length) = Unit {0}
-MayHaveLabel (statements.Number value) = Unit {0}
-MayHaveLabel (statements.Text codes) = Unit {0}
-MayHaveLabel (statements.Long value) = Unit {0}
-MayHaveLabel _ = ⊥
-
--- what a line says: nothing, a statement, a label, or both
-abbrev pub IsForm : Bool → Option (List ℕ) → Option Statement → Type 0
-IsForm two None None = Unit {0}
-IsForm two None (Some s) = IsStatement two s
-IsForm two (Some label) None = is_place_name two label ≡ true
-IsForm two (Some label) (Some s) = (is_place_name two label ≡ true) × (MayHaveLabel s × IsStatement two s)
-
 -- ---- from the tests to the facts
 
 operand_fact : (two : Bool) (o : Operand) → is_operand two o ≡ true → IsOperand two o
 operand_fact two (operands.Number n) h = grind (arith, nat_tests)
 operand_fact two (operands.Label name plus) h =
-    let parts = and_parts (is_place_name two name) (nat_le (unsigned_abs plus) 1023) h in
-    let test : nat_le (unsigned_abs plus) 1023 ≡ true = parts.1 in
-    let most : unsigned_abs plus ≤ 1023 = grind (arith, nat_tests) in
+    let parts = and_parts _ _ h in
+    let most = leb-true (unsigned_abs plus) 1023 parts.1 in
     (parts.0, record { low = omega (arith, ints, most); high = omega (arith, ints, most) })
 operand_fact two (operands.Two first second minus) h = let parts = and_parts _ _ h in (parts.0, and_parts _ _ parts.1)
 
 setting_fact : (two : Bool) (s : Setting) → is_setting two s ≡ true → IsSetting two s
 setting_fact two s h =
-    let parts = and_parts (nat_le 21 s.letter && nat_le s.letter 26) (is_operand two s.operand) h in
-    let ends = and_parts (nat_le 21 s.letter) (nat_le s.letter 26) parts.0 in
+    let parts = and_parts _ _ h in
+    let ends = and_parts _ _ parts.0 in
     let low : nat_le 21 s.letter ≡ true = ends.0 in
     let high : nat_le s.letter 26 ≡ true = ends.1 in
     record {
@@ -102,15 +76,13 @@ base_fact (Some b) h = grind (arith, nat_tests)
 
 rows_fact : (codes : List ℕ) → are_rows codes ≡ true → AreRows codes
 rows_fact codes h =
-    let parts = and_parts (nat_le 1 (length codes)) _ h in
-    let some : nat_le 1 (length codes) ≡ true = parts.0 in
+    let parts = and_parts _ _ h in
     (grind (arith, nat_tests), parts.1)
 
 pub statement_fact : (two : Bool) (s : Statement) → is_statement two s ≡ true → IsStatement two s
 statement_fact two (statements.Segment name base) h = let parts = and_parts _ _ h in (parts.0, base_fact base parts.1)
 statement_fact two (statements.Order function operand length) h =
-    let parts = and_parts (nat_lt function 32) _ h in
-    let fits : nat_lt function 32 ≡ true = parts.0 in
+    let parts = and_parts _ _ h in
     (grind (arith, nat_tests), operand_fact two operand parts.1)
 statement_fact two (statements.Number value) h = grind (arith, nat_tests)
 statement_fact two (statements.Text codes) h = rows_fact codes.items h
@@ -121,33 +93,5 @@ statement_fact two (statements.Fetch routine name settings) h =
 statement_fact two (statements.Enter name) h = h
 statement_fact two (statements.Rows codes) h = rows_fact codes.items h
 statement_fact two (statements.Long value) h =
-    let parts = and_parts two (nat_lt value (2 ^ 35)) h in
-    let fits : nat_lt value (2 ^ 35) ≡ true = parts.1 in
+    let parts = and_parts two _ h in
     (parts.0, grind (arith, nat_tests))
-
-label_fact : (s : Statement) → may_have_label s ≡ true → MayHaveLabel s
-label_fact (statements.Order function operand length) h = tt
-label_fact (statements.Number value) h = tt
-label_fact (statements.Text codes) h = tt
-label_fact (statements.Long value) h = tt
-label_fact (statements.Segment name base) h = absurd (cc)
-label_fact (statements.Fetch routine name settings) h = absurd (cc)
-label_fact (statements.Enter name) h = absurd (cc)
-label_fact (statements.Rows codes) h = absurd (cc)
-
--- a line of a program has a form
-pub form_fact : (two : Bool) (label : Option (List ℕ)) (s : Option Statement) → is_form two label s ≡ true
-    → IsForm two label s
-form_fact two None None h = tt
-form_fact two None (Some s) h = statement_fact two s h
-form_fact two (Some label) None h = h
-form_fact two (Some label) (Some s) h =
-    let parts = and_parts _ _ h in
-    let rest = and_parts _ _ parts.1 in
-    (parts.0, (label_fact s rest.0, statement_fact two s rest.1))
-
--- each line of a program has a form
-pub line_fact : (two : Bool) (lines : List Line) → list_all (is_line two) lines ≡ true → (k : ℕ) (d : Line)
-    → k < length lines
-    → IsForm two (get_or lines k d).label (get_or lines k d).statement
-line_fact two lines h k d below = form_fact two _ _ (AllPass-from_list_all (is_line two) lines h k d below)

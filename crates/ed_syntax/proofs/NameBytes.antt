@@ -1,13 +1,12 @@
 -- Two names are equal if and only if their sizes and their 16 bytes are.
-use Rattle.std.proofs.Common.{◌≡◌, ℕ, refl, sym, ap, ◌∙◌, Bool, true, false, ◌&&◌, nat_eq, List, take, length, ◌<◌, ◌≤◌}
-use Rattle.std.proofs.Common.{◌++◌, drop}
-use Rattle.std.specs.Prelude.{replicate, IsUtf8}
-use Rattle.std.proofs.lemmas.List.{drop-replicate, take_at}
-use Rattle.std.proofs.lemmas.Grind.{merely}
+use Rattle.ed_syntax.proofs.Kit.{ap, drop, length, List, nat_eq, refl, sym, take, true, ℕ, ◌&&◌, ◌++◌, ◌<◌, ◌∙◌, ◌≡◌}
+use Rattle.ed_syntax.proofs.Kit.{◌≤◌, and_from, and_parts, Decides-eqb, take_at}
+use Rattle.std.proofs.Common.{replicate, IsUtf8}
 use Rattle.std.specs.Bool.{Decides}
+use Rattle.std.specs.Cmp.{both_ways}
 use Rattle.std.specs.Cmp.Lexicographic.{pointwise}
-use Rattle.std.proofs.lemmas.Bool.{and_parts}
-use Rattle.std.proofs.lemmas.Bool.Decides.{Decides-eqb}
+use Rattle.std.proofs.lemmas.Grind.{merely}
+use Rattle.std.proofs.lemmas.List.{drop-replicate}
 use Rattle.std.proofs.lemmas.Slice.Eq.{slice_eq-Decides}
 use Rattle.ed_syntax.specs.PaddedNames.{padded_name, IsPadded}
 
@@ -15,22 +14,13 @@ use Rattle.ed_syntax.specs.PaddedNames.{padded_name, IsPadded}
 list_test : (xs ys : List ℕ) → Decides (pointwise nat_eq xs ys) (xs ≡ ys)
 list_test xs ys = slice_eq-Decides Decides-eqb xs ys (pointwise nat_eq xs ys) refl
 
-both_ways : (p q : Bool) → (p ≡ true → q ≡ true) → (q ≡ true → p ≡ true) → p ≡ q
-both_ways true q f g = sym (f refl)
-both_ways false true f g = g refl
-both_ways false false f g = refl
-
-and_true : (x y : Bool) → x ≡ true → y ≡ true → (x && y) ≡ true
-and_true x y h k = rw (h, k) refl
-
 pub same_bytes : (b d : List ℕ) (n m : ℕ) → IsPadded b n → IsPadded d m
     → (nat_eq n m && pointwise nat_eq b d) ≡ pointwise nat_eq (take n b) (take m d)
-same_bytes b d n m p q =
-    both_ways (nat_eq n m && pointwise nat_eq b d) (pointwise nat_eq (take n b) (take m d)) onward back
+same_bytes b d n m p q = both_ways _ _ onward back
   where
     onward : (nat_eq n m && pointwise nat_eq b d) ≡ true → pointwise nat_eq (take n b) (take m d) ≡ true
     onward h =
-        let parts = and_parts (nat_eq n m) (pointwise nat_eq b d) h in
+        let parts = and_parts _ _ h in
         let e : n ≡ m = (Decides-eqb n m).0 parts.0 in
         let f : b ≡ d = (list_test b d).0 parts.1 in
         (list_test (take n b) (take m d)).1 (ap (λ k. take k b) e ∙ ap (λ (x : List ℕ). take m x) f)
@@ -40,7 +30,7 @@ same_bytes b d n m p q =
         let t : take n b ≡ take m d = (list_test (take n b) (take m d)).0 h in
         let e : n ≡ m = sym p.size ∙ ap (λ (x : List ℕ). length x) t ∙ q.size in
         let f : b ≡ d = sym p.zeros ∙ ap padded_name t ∙ q.zeros in
-        and_true (nat_eq n m) (pointwise nat_eq b d) ((Decides-eqb n m).1 e) ((list_test b d).1 f)
+        and_from _ _ ((Decides-eqb n m).1 e) ((list_test b d).1 f)
 
 -- a text at the front of 16 bytes that are 0
 pub padded_text : (text : List ℕ) → 0 < length text → length text ≤ 16 → IsUtf8 text

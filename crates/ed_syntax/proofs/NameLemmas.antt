@@ -1,14 +1,11 @@
 -- Names are texts of 1 to 16 bytes.
-use Rattle.std.proofs.Common.{◌≡◌, ◌∙◌, ℕ, zero, suc, ◌<◌, ◌≤◌, [], ◌∷◌, length, ap, arith, inl, inr, refl, rules, sym, Bool, true, false, ◌&&◌}
-use Rattle.std.specs.Prelude.{◌==◌, ◌⊎◌, nat_le, Option, Some, None, IfNone, IfSome, IsNone}
-use Rattle.std.specs.List.{list_all}
+use Rattle.ed_syntax.proofs.Kit.{[], ap, arith, Bool, false, IfSome, inl, inr, length, nat_le, None, Option, refl}
+use Rattle.ed_syntax.proofs.Kit.{rules, Some, suc, sym, true, zero, ℕ, ◌&&◌, ◌<◌, ◌==◌, ◌∙◌, ◌∷◌, ◌≡◌, ◌≤◌, ◌⊎◌}
+use Rattle.ed_syntax.proofs.Kit.{list_all, and_parts, Decides-eqb, nat_tests, Text, is_local_name, is_lower, is_name}
+use Rattle.ed_syntax.proofs.Kit.{is_place_name, is_run_byte}
+use Rattle.std.proofs.Common.{IfNone, IsNone}
 use Rattle.std.specs.Str.{IsAscii}
-use Rattle.std.proofs.lemmas.Bool.{and_parts}
-use Rattle.std.proofs.lemmas.Bool.Decides.{nat_tests, Decides-eqb}
 use Rattle.std.proofs.lemmas.Str.{IsUtf8-from_ascii}
-use Rattle.ed_words.specs.Texts.{Text}
-use Rattle.ed_syntax.specs.Names.{is_lower, is_run_byte}
-use Rattle.ed_syntax.specs.Names.{is_name, is_local_name, is_place_name}
 use Rattle.ed_syntax.specs.Private.Names.{IsNameText}
 
 run_byte_small : (b : ℕ) → is_run_byte b ≡ true → b < 128
@@ -59,10 +56,10 @@ place_name_text two r h = by_name (is_name r) refl
         let rest : (two && is_local_name r) ≡ true = rw e at h in local_text r (and_parts two _ rest).1
 
 -- a text of a name has a name
-pub named : {A : Type 0} (P : Type 0) (o : Option A) (text r : Text) → text ≡ r → IsNameText r
+pub IfNone-named : {A : Type 0} (P : Type 0) (o : Option A) (text r : Text) → text ≡ r → IsNameText r
     → (IsNone o → (length text ≡ 0) ⊎ (16 < length text)) → IfNone o P
-named P (Some n) text r same h none = tt
-named P None text r same h none = absurd (outside (none (search rules)))
+IfNone-named P (Some n) text r same h none = tt
+IfNone-named P None text r same h none = absurd (outside (none (search rules)))
   where
     outside : (length text ≡ 0) ⊎ (16 < length text) → ⊥
     outside (inl e) = omega (arith, e, ap length same, h.some)

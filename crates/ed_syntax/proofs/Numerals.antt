@@ -1,18 +1,10 @@
 -- A number in decimal is a number of the source language, and has its value.
-use Rattle.std.proofs.Common.{◌≡◌, ◌∙◌, ℕ, ◌+◌, ◌-◌, ◌*◌, ◌%◌, ◌^◌, ◌<◌, Bool, true, false, [], ◌∷◌, ◌++◌, refl}
-use Rattle.std.proofs.Common.{ap, arith}
-use Rattle.std.specs.Prelude.{◌||◌, nat_le}
-use Rattle.std.proofs.lemmas.Bool.{and_parts}
-use Rattle.std.specs.Fmt.{decimal}
-use Rattle.std.specs.List.{list_all}
-use Rattle.std.proofs.lemmas.Bool.Decides.{nat_tests}
+use Rattle.ed_syntax.proofs.Kit.{[], ap, arith, refl, true, ℕ, ◌*◌, ◌++◌, ◌+◌, ◌-◌, ◌<◌, ◌^◌, ◌∙◌, ◌∷◌, ◌≡◌, decimal}
+use Rattle.ed_syntax.proofs.Kit.{list_all, or-true, and_from, and_parts, le-leb, fold-append, is_digit, value, Text}
+use Rattle.ed_syntax.proofs.Kit.{is_run_byte, is_number}
+use Rattle.std.proofs.Common.{◌%◌}
 use Rattle.std.proofs.lemmas.Fmt.{decimal_by_steps}
-use Rattle.std.proofs.lemmas.List.Sums.{fold-append}
-use Rattle.ed_words.specs.Texts.{Text}
-use Rattle.ed_words.specs.Decimals.{is_digit, value}
-use Rattle.ed_syntax.specs.Parts.{is_number}
-use Rattle.ed_syntax.specs.Names.{is_run_byte}
-use Rattle.ed_syntax.proofs.RunTests.{is_run, both, each_append}
+use Rattle.ed_syntax.proofs.RunTests.{is_run, each_append}
 
 -- digits of this number
 pub record IsNumeral (n : ℕ) (digits : Text) : Type 0 where
@@ -20,10 +12,7 @@ pub record IsNumeral (n : ℕ) (digits : Text) : Type 0 where
   pub value_is : value digits ≡ n
 
 digit : (d : ℕ) → d < 10 → is_digit (48 + d) ≡ true
-digit d lt =
-    let low : nat_le 48 (48 + d) ≡ true = grind (arith, nat_tests) in
-    let high : nat_le (48 + d) 57 ≡ true = grind (arith, nat_tests) in
-    rw (low, high) refl
+digit d lt = rw (le-leb 48 (48 + d) (omega arith), le-leb (48 + d) 57 (omega arith)) refl
 
 number_push : (digits : Text) (b : ℕ) → is_number digits ≡ true → is_digit b ≡ true
     → is_number (digits ++ b ∷ []) ≡ true
@@ -32,9 +21,8 @@ number_push (d ∷ ds) b e f = each_append is_digit (d ∷ ds) (b ∷ []) e (rw 
 
 pub numeral_of : (n : ℕ) → n < 2 ^ 64 → IsNumeral n (decimal n)
 numeral_of = decimal_by_steps IsNumeral
-    (λ n lt. record { number = rw (digit n lt) refl; value_is = omega (arith, lt) })
-    (λ n ds le h. record {
-      number = number_push ds (48 + n % 10) h.number (digit (n % 10) (omega arith));
+    (λ n lt. record { number = rw (digit n lt) refl; value_is = omega (arith, lt) }) (λ n ds le h. record {
+      number = number_push ds _ h.number (digit (n % 10) (omega arith));
       value_is = fold-append (λ m b. 10 * m + (b - 48)) 0 ds ((48 + n % 10) ∷ [])
           ∙ ap (λ (m : ℕ). 10 * m + (48 + n % 10 - 48)) h.value_is ∙ omega arith;
     })
@@ -44,11 +32,7 @@ digits_are_run_bytes [] e = refl
 digits_are_run_bytes (d ∷ ds) e =
     let p = and_parts (is_digit d) _ e in
     let here = p.0 in
-    both _ _ (rw here (either _)) (digits_are_run_bytes ds p.1)
-  where
-    either : (c : Bool) → (c || true) ≡ true
-    either true = refl
-    either false = refl
+    and_from _ _ (rw here (or-true _)) (digits_are_run_bytes ds p.1)
 
 pub numeral_part : (n : ℕ) (digits : Text) → IsNumeral n digits → is_run digits ≡ true
 numeral_part n [] h = let e = h.number in absurd (cc)

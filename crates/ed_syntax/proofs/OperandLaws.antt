@@ -1,22 +1,13 @@
 -- An operand is read if and only if it is spelled.
-use Rattle.std.proofs.Common.{◌≡◌, ◌∙◌, ℕ, Bool, true, false, List, [], ◌∷◌, ◌++◌, refl, ap, subst, arith, pos}
-use Rattle.std.specs.Prelude.{Option, Some, None, option_map, ◌⊎◌, ◌==◌, ◌||◌, ◌&&◌, not, nat_le}
-use Rattle.std.specs.Prelude.{if◌then◌else◌}
-use Rattle.std.proofs.Common.{inl, inr}
-use Rattle.std.proofs.lemmas.Bool.Decides.{nat_tests, Decides-eqb}
-use Rattle.std.proofs.lemmas.Bool.{and_parts}
-use Rattle.ed_words.specs.Texts.{Text}
-use Rattle.ed_words.specs.Decimals.{is_digit, value}
-use Rattle.ed_syntax.specs.Parts.{LinePart, run, sign, quoted}
-use Rattle.ed_syntax.specs.Names.{is_lower}
+use Rattle.ed_syntax.proofs.Kit.{[], ap, arith, Bool, false, if◌then◌else◌, inl, inr, List, nat_le, None, not, Option}
+use Rattle.ed_syntax.proofs.Kit.{option_map, pos, refl, Some, true, ℕ, ◌&&◌, ◌++◌, ◌==◌, ◌||◌, ◌∙◌, ◌∷◌, ◌≡◌, ◌⊎◌}
+use Rattle.ed_syntax.proofs.Kit.{and-false, and_parts, Decides-eqb, nat_tests, is_digit, value, Text, difference}
+use Rattle.ed_syntax.proofs.Kit.{minus, name, number, plus, SpellsOperand, sum, is_local_name, is_lower, is_name}
+use Rattle.ed_syntax.proofs.Kit.{is_place_name, is_number, LinePart, quoted, run, sign, with_sign, is_plus_or_minus}
+use Rattle.ed_syntax.proofs.Kit.{Operand}
+use Rattle.ed_syntax.proofs.Readings.{ranged, IsSpelled, IsSpelledFirst, map_ranged, Some-mapped, Some-passed, some_is}
 use Rattle.ed_syntax.specs.Reading.Grammar
-use Rattle.ed_syntax.specs.Parts.{is_number, with_sign}
-use Rattle.ed_syntax.specs.Names.{is_name, is_local_name, is_place_name}
-use Rattle.ed_syntax.specs.Reading.Grammar.{is_plus_or_minus}
-use Rattle.ed_syntax.specs.declared.program.Operand.{Operand}
 use Rattle.ed_syntax.specs.declared.program.Operand.TheVariants as operands
-use Rattle.ed_syntax.specs.Forms.{SpellsOperand, number, name, plus, minus, sum, difference}
-use Rattle.ed_syntax.proofs.Readings.{ranged, IsSpelled, IsSpelledFirst, map_ranged, mapped, passed, some_is}
 
 -- ---- a name is not a number
 
@@ -24,11 +15,7 @@ lower_is_no_digit : (b : ℕ) → is_lower b ≡ true → is_digit b ≡ false
 lower_is_no_digit b e = let low = (and_parts (nat_le 97 b) (nat_le b 122) e).0 in by_high (nat_le b 57) refl low
   where
     by_high : (h : Bool) → nat_le b 57 ≡ h → nat_le 97 b ≡ true → (nat_le 48 b && h) ≡ false
-    by_high false f low = by_low (nat_le 48 b)
-      where
-        by_low : (c : Bool) → (c && false) ≡ false
-        by_low true = refl
-        by_low false = refl
+    by_high false f low = and-false (nat_le 48 b)
     by_high true f low = absurd (grind (arith, nat_tests))
 
 first_no_digit : (b : ℕ) (bs : Text) → is_digit b ≡ false → is_number (b ∷ bs) ≡ false
@@ -36,8 +23,7 @@ first_no_digit b bs e = rw e
 
 name_is_no_number : (a : Text) → is_name a ≡ true → is_number a ≡ false
 name_is_no_number [] e = refl
-name_is_no_number (b ∷ bs) e =
-    first_no_digit b bs (lower_is_no_digit b (and_parts (is_lower b) _ e).0)
+name_is_no_number (b ∷ bs) e = first_no_digit b bs (lower_is_no_digit b (and_parts _ _ e).0)
 
 local_is_no_number : (a : Text) → is_local_name a ≡ true → is_number a ≡ false
 local_is_no_number [] e = refl
@@ -62,9 +48,6 @@ ends parts = true
 -- a number or a name, and no sign after it
 alone : (two : Bool) (r : Text) (rest : List LinePart) → ends rest ≡ true
     → Grammar.operand two (run r ∷ rest) ≡ Grammar.with_rest rest (Grammar.single two r)
-alone two r [] e = refl
-alone two r (run n ∷ rest) e = refl
-alone two r (quoted q ∷ rest) e = refl
 alone two r (sign s ∷ rest) e = by_sign (is_plus_or_minus s) e
   where
     by_sign : (c : Bool) → not c ≡ true
@@ -72,6 +55,7 @@ alone two r (sign s ∷ rest) e = by_sign (is_plus_or_minus s) e
         ≡ Grammar.with_rest (sign s ∷ rest) (Grammar.single two r)
     by_sign true e = absurd (cc)
     by_sign false e = refl
+alone two r rest e = refl
 
 single_number : (two : Bool) (n : Text) → is_number n ≡ true
     → Grammar.single two n ≡ Some (ranged (nat_le (value n) 32767) (operands.Number (value n)))
@@ -135,98 +119,64 @@ joining s = by_test (s == 43) (s == 45) refl refl
     by_test false true e f h = inr ((Decides-eqb s 45).0 f)
     by_test false false e f h = absurd (cc)
 
--- a name, a sign and more
-plus_spelled : (two : Bool) (a n : Text) (x : Option Operand) → Grammar.joined_operand two a 43 n ≡ Some x
-    → IsSpelled (SpellsOperand two) (run a ∷ sign 43 ∷ run n ∷ []) x
-plus_spelled two a n x h =
-    let named = passed (is_place_name two a) _ x h in by_test (is_number n) refl named.0 named.1
+-- a name, a sign and more, where these are the forms with the sign
+joined_by : (two : Bool) (a n : Text) (s : ℕ) (m : Bool) (x : Option Operand)
+    → (is_place_name two a ≡ true → is_number n ≡ true → SpellsOperand two (run a ∷ sign s ∷ run n ∷ [])
+    (operands.Label a (with_sign m (value n))) (nat_le (value n) 1023))
+    → (is_place_name two a ≡ true → is_place_name two n ≡ true → two ≡ true
+    → SpellsOperand two (run a ∷ sign s ∷ run n ∷ []) (operands.Two a n m) true)
+    → (s == 45) ≡ m → Grammar.joined_operand two a s n ≡ Some x
+    → IsSpelled (SpellsOperand two) (run a ∷ sign s ∷ run n ∷ []) x
+joined_by two a n s m x numbered named is h =
+    let p = Some-passed (is_place_name two a) _ x (rw is at h) in by_test _ refl p.0 p.1
   where
     by_test : (c : Bool) → is_number n ≡ c → is_place_name two a ≡ true
-        → (if c then Some (option_map (λ k. operands.Label a (with_sign false k)) (Grammar.up_to 1023 n))
-        else if two && is_place_name two n then Some (Some (operands.Two a n false)) else None) ≡ Some x
-        → IsSpelled (SpellsOperand two) (run a ∷ sign 43 ∷ run n ∷ []) x
+        → (if c then Some (option_map (λ k. operands.Label a (with_sign m k)) (Grammar.up_to 1023 n))
+        else if two && is_place_name two n then Some (Some (operands.Two a n m)) else None) ≡ Some x
+        → IsSpelled (SpellsOperand two) (run a ∷ sign s ∷ run n ∷ []) x
     by_test true e f h = record {
-      what = operands.Label a (with_sign false (value n));
+      what = operands.Label a (with_sign m (value n));
       fits = nat_le (value n) 1023;
-      spelled = plus a n f e;
-      is = some_is _ x h ∙ map_ranged (λ k. operands.Label a (with_sign false k)) _ (value n);
+      spelled = numbered f e;
+      is = some_is _ x h ∙ map_ranged (λ k. operands.Label a (with_sign m k)) _ (value n);
     }
     by_test false e f h =
-        let both = passed (two && is_place_name two n) _ x h in
-        let parts = and_parts two (is_place_name two n) both.0 in
-        record {
-          what = operands.Two a n false;
-          fits = true;
-          spelled = sum a n f parts.1 parts.0;
-          is = some_is _ x both.1;
-        }
-
-minus_spelled : (two : Bool) (a n : Text) (x : Option Operand) → Grammar.joined_operand two a 45 n ≡ Some x
-    → IsSpelled (SpellsOperand two) (run a ∷ sign 45 ∷ run n ∷ []) x
-minus_spelled two a n x h =
-    let named = passed (is_place_name two a) _ x h in by_test (is_number n) refl named.0 named.1
-  where
-    by_test : (c : Bool) → is_number n ≡ c → is_place_name two a ≡ true
-        → (if c then Some (option_map (λ k. operands.Label a (with_sign true k)) (Grammar.up_to 1023 n))
-        else if two && is_place_name two n then Some (Some (operands.Two a n true)) else None) ≡ Some x
-        → IsSpelled (SpellsOperand two) (run a ∷ sign 45 ∷ run n ∷ []) x
-    by_test true e f h = record {
-      what = operands.Label a (with_sign true (value n));
-      fits = nat_le (value n) 1023;
-      spelled = minus a n f e;
-      is = some_is _ x h ∙ map_ranged (λ k. operands.Label a (with_sign true k)) _ (value n);
-    }
-    by_test false e f h =
-        let both = passed (two && is_place_name two n) _ x h in
-        let parts = and_parts two (is_place_name two n) both.0 in
-        record {
-          what = operands.Two a n true;
-          fits = true;
-          spelled = difference a n f parts.1 parts.0;
-          is = some_is _ x both.1;
-        }
+        let both = Some-passed (two && is_place_name two n) _ x h in
+        let parts = and_parts two _ both.0 in
+        record { what = operands.Two a n m; fits = true; spelled = named f parts.1 parts.0; is = some_is _ x both.1 }
 
 joined_spelled : (two : Bool) (a n : Text) (s : ℕ) (x : Option Operand) → is_plus_or_minus s ≡ true
     → Grammar.joined_operand two a s n ≡ Some x → IsSpelled (SpellsOperand two) (run a ∷ sign s ∷ run n ∷ []) x
-joined_spelled two a n s x e h = by_sign (joining s e)
-  where
-    by_sign : (s ≡ 43) ⊎ (s ≡ 45) → IsSpelled (SpellsOperand two) (run a ∷ sign s ∷ run n ∷ []) x
-    by_sign (inl f) = rw f (plus_spelled two a n x (rw f at h))
-    by_sign (inr f) = rw f (minus_spelled two a n x (rw f at h))
+joined_spelled two a n s x e h = elim (joining s e) [
+  | inl f ↦ rw f (joined_by two a n 43 false x (plus a n) (sum a n) refl (rw f at h))
+  | inr f ↦ rw f (joined_by two a n 45 true x (minus a n) (difference a n) refl (rw f at h))
+]
 
 -- an operand with what is left after it
 left : (two : Bool) (ps rest rest' : List LinePart) (o : Option (Option Operand)) (x : Option Operand)
     → ((y : Option Operand) → o ≡ Some y → IsSpelled (SpellsOperand two) ps y)
     → Grammar.with_rest rest o ≡ Some (x, rest') → IsSpelledFirst (SpellsOperand two) (ps ++ rest) x rest'
 left two ps rest rest' o x spelled h =
-    let m = mapped (λ a. (a, rest)) o (x, rest') h in
+    let m = Some-mapped (λ a. (a, rest)) o (x, rest') h in
     let first : m.0 ≡ x = ap (λ (p : Option Operand × List LinePart). p.0) m.2 in
     let second : rest ≡ rest' = ap (λ (p : Option Operand × List LinePart). p.1) m.2 in
     record {
       ps = ps;
       whole = ap (λ (t : List LinePart). ps ++ t) second;
-      spelled = subst (λ (y : Option Operand). IsSpelled (SpellsOperand two) ps y) first (spelled m.0 m.1);
+      spelled = rw (← first) (spelled m.0 m.1);
     }
 
 behind_sign : (two : Bool) (r : Text) (s : ℕ) (parts rest : List LinePart) (x : Option Operand)
     → is_plus_or_minus s ≡ true → Grammar.joined_front two r s parts ≡ Some (x, rest)
     → IsSpelledFirst (SpellsOperand two) (run r ∷ sign s ∷ parts) x rest
-behind_sign two r s [] rest x e h = absurd (cc)
-behind_sign two r s (sign b ∷ parts) rest x e h = absurd (cc)
-behind_sign two r s (quoted q ∷ parts) rest x e h = absurd (cc)
-behind_sign two r s (run n ∷ parts) rest x e h =
-    left two (run r ∷ sign s ∷ run n ∷ []) parts rest _ x (λ y. joined_spelled two r n s y e) h
+behind_sign two r s (run n ∷ parts) rest x e h = left two _ parts rest _ x (λ y. joined_spelled two r n s y e) h
+behind_sign two r s parts rest x e h = absurd (cc)
 
 pub operand_is_spelled : (two : Bool) (parts rest : List LinePart) (x : Option Operand)
     → Grammar.operand two parts ≡ Some (x, rest) → IsSpelledFirst (SpellsOperand two) parts x rest
-operand_is_spelled two [] rest x h = absurd (cc)
-operand_is_spelled two (sign b ∷ parts) rest x h = absurd (cc)
-operand_is_spelled two (quoted q ∷ parts) rest x h = absurd (cc)
 operand_is_spelled two (run r ∷ []) rest x h = left two (run r ∷ []) [] rest _ x (single_spelled two r) h
-operand_is_spelled two (run r ∷ run n ∷ parts) rest x h =
-    left two (run r ∷ []) (run n ∷ parts) rest _ x (single_spelled two r) h
-operand_is_spelled two (run r ∷ quoted q ∷ parts) rest x h =
-    left two (run r ∷ []) (quoted q ∷ parts) rest _ x (single_spelled two r) h
+operand_is_spelled two (run r ∷ run n ∷ parts) rest x h = left two _ _ rest _ x (single_spelled two r) h
+operand_is_spelled two (run r ∷ quoted q ∷ parts) rest x h = left two _ _ rest _ x (single_spelled two r) h
 operand_is_spelled two (run r ∷ sign s ∷ parts) rest x h = by_sign (is_plus_or_minus s) refl h
   where
     by_sign : (c : Bool) → is_plus_or_minus s ≡ c
@@ -235,3 +185,4 @@ operand_is_spelled two (run r ∷ sign s ∷ parts) rest x h = by_sign (is_plus_
         → IsSpelledFirst (SpellsOperand two) (run r ∷ sign s ∷ parts) x rest
     by_sign true e h = behind_sign two r s parts rest x e h
     by_sign false e h = left two (run r ∷ []) (sign s ∷ parts) rest _ x (single_spelled two r) h
+operand_is_spelled two parts rest x h = absurd (cc)

@@ -1,11 +1,6 @@
 -- An order, by its function and by what follows.
-use Rattle.std.proofs.Common.{◌≡◌, ◌∙◌, ℕ, Bool, ap, refl}
-use Rattle.std.specs.Prelude.{Option, Some, None, Ok, Err, option_map, option_and_then}
-use Rattle.ed_syntax.specs.Private.Found.{form_result}
-use Rattle.ed_syntax.specs.Reading.Grammar.{Ranged}
-use Rattle.ed_syntax.specs.declared.form_fault.FormFault.TheVariants.{NotThisForm, OutOfRange}
-use Rattle.ed_syntax.specs.declared.program.Operand.{Operand}
-use Rattle.ed_syntax.specs.declared.program.Statement.{Statement}
+use Rattle.ed_syntax.proofs.Kit.{ap, Bool, Err, None, Ok, Option, option_and_then, option_map, refl, Some, ℕ, ◌∙◌, ◌≡◌}
+use Rattle.ed_syntax.proofs.Kit.{form_result, Ranged, NotThisForm, OutOfRange, Operand, Statement}
 use Rattle.ed_syntax.specs.declared.program.Statement.TheVariants as statements
 
 -- what a function and what follows it make

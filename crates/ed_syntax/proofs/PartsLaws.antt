@@ -1,19 +1,11 @@
 -- A text has the parts that are read in it, and no others.
-use Rattle.std.proofs.Common.{◌≡◌, ◌∙◌, ℕ, Bool, true, false, List, []}
-use Rattle.std.proofs.Common.{◌∷◌, ◌++◌, refl, sym, ap, subst, append_assoc}
-use Rattle.std.specs.Prelude.{Option, Some, None, option_map, ◌==◌, ◌||◌, not, if◌then◌else◌}
-use Rattle.std.proofs.lemmas.Bool.Decides.{Decides-eqb}
-use Rattle.std.proofs.lemmas.List.{append-nil}
-use Rattle.ed_words.specs.Texts.{Text}
-use Rattle.ed_syntax.specs.Parts.{LinePart, run, sign, quoted}
-use Rattle.ed_syntax.specs.Reading.Parts.{parts_of, parts_from}
-use Rattle.ed_syntax.specs.Parts.{is_blank}
-use Rattle.ed_syntax.specs.Names.{is_run_byte}
-use Rattle.ed_syntax.specs.Reading.Parts.{with_run_byte}
-use Rattle.ed_syntax.specs.Forms.{HasLineParts, nothing, comment, blank, one_sign, one_string, one_run, is_sign}
-use Rattle.ed_syntax.specs.Parts.{has_quote}
-use Rattle.ed_syntax.proofs.Readings.{mapped}
+use Rattle.ed_syntax.proofs.Kit.{[], ap, append_assoc, Bool, false, if◌then◌else◌, List, None, not, Option, option_map}
+use Rattle.ed_syntax.proofs.Kit.{refl, Some, sym, true, ℕ, ◌++◌, ◌==◌, ◌||◌, ◌∙◌, ◌∷◌, ◌≡◌, Decides-eqb, append-nil}
+use Rattle.ed_syntax.proofs.Kit.{Text, blank, comment, HasLineParts, is_sign, nothing, one_run, one_sign, one_string}
+use Rattle.ed_syntax.proofs.Kit.{is_run_byte, has_quote, is_blank, LinePart, quoted, run, sign, parts_from, parts_of}
+use Rattle.ed_syntax.proofs.Kit.{with_run_byte}
 use Rattle.ed_syntax.proofs.PartLemmas.{all_head, blank_parts, run_parts, sign_parts, quote_parts}
+use Rattle.ed_syntax.proofs.Readings.{Some-mapped}
 
 -- what a byte that is a part by itself is not
 pub record IsOther (b : ℕ) : Type 0 where
@@ -109,12 +101,12 @@ one_byte b bs ps behind = go (b == 59) (b == 34) (is_blank b) (is_run_byte b) re
     go false true s r h i j k e = in_string ((Decides-eqb b 34).0 i) (behind (Some []) ps e)
     go false false true r h i j k e = blank b bs ps j (behind None ps e)
     go false false false true h i j k e =
-        let m = mapped (with_run_byte b bs) (parts_from None bs) ps e in
-        subst (λ (t : List LinePart). HasLineParts (b ∷ bs) t) m.2 (grown b bs m.0 k (behind None m.0 m.1))
+        let m = Some-mapped (with_run_byte b bs) (parts_from None bs) ps e in
+        rw (← m.2) (grown b bs m.0 k (behind None m.0 m.1))
     go false false false false h i j k e =
-        let m = mapped (λ t. sign b ∷ t) (parts_from None bs) ps e in
+        let m = Some-mapped (λ t. sign b ∷ t) (parts_from None bs) ps e in
         let alone : is_sign b ≡ true = simp (h, i, j, k) in
-        subst (λ (t : List LinePart). HasLineParts (b ∷ bs) t) m.2 (one_sign b bs m.0 alone (behind None m.0 m.1))
+        rw (← m.2) (one_sign b bs m.0 alone (behind None m.0 m.1))
 
 string_byte : (q : Text) (b : ℕ) (bs : Text) (ps : List LinePart)
     → ((o : Option Text) (qs : List LinePart) → parts_from o bs ≡ Some qs → IsRead o bs qs)
@@ -126,7 +118,7 @@ string_byte q b bs ps behind = go (b == 34) refl
         ≡ Some ps
         → ClosesString q (b ∷ bs) ps
     go true h e =
-        let m = mapped (λ t. quoted q ∷ t) (parts_from None bs) ps e in
+        let m = Some-mapped (λ t. quoted q ∷ t) (parts_from None bs) ps e in
         let is : b ≡ 34 = (Decides-eqb b 34).0 h in
         record {
           inside = [];
@@ -158,8 +150,3 @@ read_from (b ∷ bs) (Some q) ps e = string_byte q b bs ps (read_from bs) e
 -- the parts that are read in a text are those that it has
 pub read_parts_are : (text : Text) (ps : List LinePart) → parts_of text ≡ Some ps → HasLineParts text ps
 read_parts_are text ps e = read_from text None ps e
-
--- no text has two lists of parts
-pub one_list_of_parts : (text : Text) (ps qs : List LinePart) → HasLineParts text ps → HasLineParts text qs → ps ≡ qs
-one_list_of_parts text ps qs h i =
-    let same : Some ps ≡ Some qs = sym (parts_are_read text ps h) ∙ parts_are_read text qs i in cc

@@ -1,14 +1,8 @@
 -- A program, one more line at a time.
-use Rattle.std.proofs.Common.{◌≡◌, ℕ, ◌+◌, Bool, false, List, [], ◌∷◌, ◌++◌, refl, sym, ap, append_assoc}
-use Rattle.std.specs.Prelude.{◌==◌, Result, Ok, Err}
-use Rattle.ed_words.specs.Texts.{Text}
-use Rattle.ed_syntax.specs.Private.Answers.{IsFaultOf, LineIs}
-use Rattle.ed_syntax.specs.Private.LineFronts.{with_lines_before}
-use Rattle.ed_syntax.specs.Reading.Sources.{Fault, line_of, lines_from, with_first}
-use Rattle.ed_syntax.specs.declared.fault.SourceFault.{SourceFault}
-use Rattle.ed_syntax.specs.declared.fault.SourceFault.TheVariants.{At, Memory}
-use Rattle.ed_syntax.specs.declared.form.Form.{Form}
-use Rattle.ed_syntax.specs.declared.program.Line.{Line}
+use Rattle.ed_syntax.proofs.Kit.{[], ap, append_assoc, Bool, Err, false, List, Ok, refl, Result, sym, ℕ, ◌++◌, ◌+◌}
+use Rattle.ed_syntax.proofs.Kit.{◌==◌, ◌∷◌, ◌≡◌, Text, IsFaultOf, with_lines_before, Fault, line_of, lines_from}
+use Rattle.ed_syntax.proofs.Kit.{with_first, SourceFault, At, Memory, Form, Line}
+use Rattle.ed_syntax.specs.Private.Answers.{LineIs}
 
 abbrev pub numbered : ℕ → Form → Line
 numbered k f = record { number = k; label = f.label; statement = f.statement }
@@ -24,8 +18,7 @@ pub program_step : {line : Text} {behind : List Text} {f : Form} (two : Bool) (k
     → lines ≡ line ∷ behind → (k == 2001) ≡ false → line_of two k line ≡ Ok f
     → with_lines_before xs (lines_from two k lines)
     ≡ with_lines_before (xs ++ numbered k f ∷ []) (lines_from two (k + 1) behind)
-program_step {behind = behind} {f = f} two k lines xs taken more says =
-    rw (taken, more, says) (front_more xs (numbered k f) (lines_from two (k + 1) behind))
+program_step {behind = behind} {f = f} two k lines xs taken more says = rw (taken, more, says) (front_more xs _ _)
 
 -- the fault of the first of the lines that are left is that of all of them
 pub fault_step : {line : Text} {behind : List Text} (two : Bool) (k : ℕ) (lines : List Text) (xs : List Line)

@@ -1,15 +1,12 @@
 -- The codes of functions, of settings and of rows, and numbers modulo others, are in their ranges.
-use Rattle.std.proofs.Common.{◌≡◌, subst, ℕ, ◌-◌, ◌<◌, ◌≤◌, Bool, true, false, List, [], ◌∷◌, refl, arith, codes}
-use Rattle.std.proofs.Common.{ℤ, pos, negsuc}
-use Rattle.std.specs.Prelude.{◌==◌, ◌&&◌, ◌||◌, Option, Some, None, IfSome, nat_le, position, if◌then◌else◌}
-use Rattle.std.specs.Prelude.{unsigned_abs}
+use Rattle.ed_syntax.proofs.Kit.{[], arith, Bool, codes, false, IfSome, if◌then◌else◌, List, nat_le, negsuc, None}
+use Rattle.ed_syntax.proofs.Kit.{Option, pos, refl, Some, subst, true, unsigned_abs, ℕ, ℤ, ◌&&◌, ◌-◌, ◌<◌, ◌==◌, ◌||◌}
+use Rattle.ed_syntax.proofs.Kit.{◌∷◌, ◌≡◌, ◌≤◌, Decides-eqb, nat_tests, is_digit, letters, row_of, function}
+use Rattle.ed_syntax.proofs.Kit.{setting_letter}
+use Rattle.std.proofs.Common.{position}
 use Rattle.std.specs.Int.{int_rem_euclid}
 use Rattle.std.specs.List.{list_any}
-use Rattle.std.proofs.lemmas.Bool.Decides.{nat_tests, Decides-eqb}
 use Rattle.std.proofs.lemmas.List.Quantifiers.{position-Some}
-use Rattle.ed_codes.specs.Spelling.{letters, row_of}
-use Rattle.ed_words.specs.Decimals.{is_digit}
-use Rattle.ed_syntax.specs.Parts.{function, setting_letter}
 
 -- the code of a setting's letter
 pub record IsLetter (l : ℕ) : Type 0 where

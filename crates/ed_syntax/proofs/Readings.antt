@@ -1,8 +1,7 @@
 -- What it means that parts spell what is read in them.
-use Rattle.std.proofs.Common.{◌≡◌, ◌∙◌, Bool, true, false, List, ◌++◌, refl, sym, ap}
-use Rattle.std.specs.Prelude.{Option, Some, None, option_map, option_and_then, if◌then◌else◌}
+use Rattle.ed_syntax.proofs.Kit.{ap, Bool, false, if◌then◌else◌, List, None, Option, option_and_then, option_map, refl}
+use Rattle.ed_syntax.proofs.Kit.{Some, sym, true, ◌++◌, ◌∙◌, ◌≡◌, LinePart}
 use Rattle.ed_syntax.specs.Reading.Grammar
-use Rattle.ed_syntax.specs.Parts.{LinePart}
 
 -- what is read, if the numbers are in their ranges
 abbrev pub ranged : {A : Type 0} → Bool → A → Option A
@@ -28,21 +27,21 @@ map_ranged f true a = refl
 map_ranged f false a = refl
 
 -- what an option is made of
-pub mapped : {A B : Type 0} (f : A → B) (o : Option A) (y : B) → option_map f o ≡ Some y
+pub Some-mapped : {A B : Type 0} (f : A → B) (o : Option A) (y : B) → option_map f o ≡ Some y
     → (x : A) × (o ≡ Some x) × (f x ≡ y)
-mapped f None y e = absurd (cc)
-mapped f (Some x) y e = (x, refl, cc)
+Some-mapped f None y e = absurd (cc)
+Some-mapped f (Some x) y e = (x, refl, cc)
 
-pub chained : {A B : Type 0} (f : A → Option B) (o : Option A) (y : B) → option_and_then f o ≡ Some y
+pub Some-chained : {A B : Type 0} (f : A → Option B) (o : Option A) (y : B) → option_and_then f o ≡ Some y
     → (x : A) × (o ≡ Some x) × (f x ≡ Some y)
-chained f None y e = absurd (cc)
-chained f (Some x) y e = (x, refl, e)
+Some-chained f None y e = absurd (cc)
+Some-chained f (Some x) y e = (x, refl, e)
 
 -- if a test must have passed
-pub passed : {A : Type 0} (c : Bool) (o : Option A) (y : A) → (if c then o else None) ≡ Some y
+pub Some-passed : {A : Type 0} (c : Bool) (o : Option A) (y : A) → (if c then o else None) ≡ Some y
     → (c ≡ true) × (o ≡ Some y)
-passed true o y e = (refl, e)
-passed false o y e = absurd (cc)
+Some-passed true o y e = (refl, e)
+Some-passed false o y e = absurd (cc)
 
 -- what is in an option
 pub some_is : {A : Type 0} (y x : A) → Some y ≡ Some x → x ≡ y
@@ -60,7 +59,7 @@ pub made_spelled : {A B : Type 0} (S : List LinePart → A → Bool → Type 0) 
     → ((a : A) (fits : Bool) → S ps a fits → T qs (f a) fits)
     → Grammar.ranged_map f o ≡ Some x → IsSpelled T qs x
 made_spelled S T f ps qs o x spelled step h =
-    let m = mapped (option_map f) o x h in
+    let m = Some-mapped _ o x h in
     let s = spelled m.0 m.1 in
     record {
       what = f s.what;

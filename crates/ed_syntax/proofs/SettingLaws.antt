@@ -1,16 +1,11 @@
 -- Settings are read if and only if they are spelled.
-use Rattle.std.proofs.Common.{◌≡◌, ◌∙◌, ℕ, zero, suc, ◌≤◌, Bool, true, false, List, [], ◌∷◌, ◌++◌, refl, sym, ap}
-use Rattle.std.proofs.Common.{arith, length}
-use Rattle.std.specs.Prelude.{Option, Some, None, option_map, option_and_then, ◌==◌, ◌&&◌}
-use Rattle.std.proofs.lemmas.Bool.Decides.{Decides-eqb}
-use Rattle.std.proofs.lemmas.List.{append-nil}
-use Rattle.ed_syntax.specs.Parts.{LinePart, run, sign, quoted}
-use Rattle.ed_syntax.specs.Reading.Grammar
-use Rattle.ed_syntax.specs.Parts.{setting_letter}
-use Rattle.ed_syntax.specs.declared.program.Setting.{Setting}
-use Rattle.ed_syntax.specs.Forms.{SpellsSetting, setting, SpellsSettings, last, more}
-use Rattle.ed_syntax.proofs.Readings.{ranged, IsSpelled, IsSpelledFirst, map_ranged, mapped, chained, passed, some_is}
+use Rattle.ed_syntax.proofs.Kit.{[], ap, arith, Bool, false, length, List, None, Option, option_and_then, option_map}
+use Rattle.ed_syntax.proofs.Kit.{refl, Some, suc, sym, true, zero, ℕ, ◌&&◌, ◌++◌, ◌==◌, ◌∙◌, ◌∷◌, ◌≡◌, ◌≤◌}
+use Rattle.ed_syntax.proofs.Kit.{Decides-eqb, append-nil, last, more, setting, SpellsSetting, SpellsSettings, LinePart}
+use Rattle.ed_syntax.proofs.Kit.{setting_letter, sign, Setting}
 use Rattle.ed_syntax.proofs.OperandLaws.{ends, operand_is_read, operand_is_spelled}
+use Rattle.ed_syntax.proofs.Readings.{ranged, IsSpelled, IsSpelledFirst, map_ranged, Some-mapped, Some-chained, Some-passed, some_is}
+use Rattle.ed_syntax.specs.Reading.Grammar
 
 -- ---- what is spelled is read
 
@@ -43,9 +38,8 @@ settings_are_read two (suc k) _ _ _ (last ps s fits h) le =
     (ap (Grammar.setting two) (sym (append-nil ps)) ∙ setting_is_read two ps [] s fits h refl)
     ∙ ap (λ (x : Option (List Setting)). Some x) (map_ranged (λ a. a ∷ []) fits s)
 settings_are_read two (suc k) _ _ _ (more ps qs s ss fits also h i) le =
-    one_more two k (ps ++ sign 44 ∷ qs)
-    ∙ ap (option_and_then (λ p. Grammar.and_more p.0 p.1 (Grammar.settings two k)))
-    (setting_is_read two ps (sign 44 ∷ qs) s fits h refl)
+    one_more two k _ ∙ ap (option_and_then (λ p. Grammar.and_more p.0 p.1 (Grammar.settings two k)))
+    (setting_is_read two ps _ s fits h refl)
     ∙ ap (option_map (Grammar.both (ranged fits s))) (settings_are_read two k qs ss also i (omega arith))
     ∙ ap (λ (x : Option (List Setting)). Some x) (both_ranged fits also s ss)
 
@@ -53,17 +47,11 @@ settings_are_read two (suc k) _ _ _ (more ps qs s ss fits also h i) le =
 
 setting_is_spelled : (two : Bool) (parts rest : List LinePart) (x : Option Setting)
     → Grammar.setting two parts ≡ Some (x, rest) → IsSpelledFirst (SpellsSetting two) parts x rest
-setting_is_spelled two [] rest x h = absurd (cc)
-setting_is_spelled two (run r ∷ parts) rest x h = absurd (cc)
-setting_is_spelled two (quoted q ∷ parts) rest x h = absurd (cc)
-setting_is_spelled two (sign b ∷ []) rest x h = absurd (cc)
-setting_is_spelled two (sign b ∷ run r ∷ parts) rest x h = absurd (cc)
-setting_is_spelled two (sign b ∷ quoted q ∷ parts) rest x h = absurd (cc)
 setting_is_spelled two (sign b ∷ sign e ∷ parts) rest x h =
-    let p = passed (e == 61) _ (x, rest) h in
-    let c = chained (λ l. option_map (λ p. (Grammar.letter_setting l p.0, p.1)) (Grammar.operand two parts))
+    let p = Some-passed (e == 61) _ (x, rest) h in
+    let c = Some-chained (λ l. option_map (λ p. (Grammar.letter_setting l p.0, p.1)) (Grammar.operand two parts))
     (setting_letter b) (x, rest) p.1 in
-    let m = mapped (λ p. (Grammar.letter_setting c.0 p.0, p.1)) (Grammar.operand two parts) (x, rest) c.2 in
+    let m = Some-mapped (λ p. (Grammar.letter_setting c.0 p.0, p.1)) (Grammar.operand two parts) (x, rest) c.2 in
     let s = operand_is_spelled two parts m.0.1 m.0.0 m.1 in
     let is : e ≡ 61 = (Decides-eqb e 61).0 p.0 in
     let read : Grammar.letter_setting c.0 m.0.0 ≡ x = ap (λ (q : Option Setting × List LinePart). q.0) m.2 in
@@ -80,6 +68,7 @@ setting_is_spelled two (sign b ∷ sign e ∷ parts) rest x h =
             ∙ map_ranged (λ a. record { letter = c.0; operand = a }) s.spelled.fits s.spelled.what;
       };
     }
+setting_is_spelled two parts rest x h = absurd (cc)
 
 -- at most k settings
 pub record SpellsFew (two : Bool) (k : ℕ) (ps : List LinePart) (ss : List Setting) (fits : Bool) : Type 0 where
@@ -103,11 +92,9 @@ more_spelled two k parts [] y x others s h =
       is = some_is _ x h ∙ ap (option_map (λ a. a ∷ [])) s.spelled.is
           ∙ map_ranged (λ a. a ∷ []) s.spelled.fits s.spelled.what;
     }
-more_spelled two k parts (run r ∷ rest) y x others s h = absurd (cc)
-more_spelled two k parts (quoted q ∷ rest) y x others s h = absurd (cc)
 more_spelled two k parts (sign c ∷ rest) y x others s h =
-    let p = passed (c == 44) _ x h in
-    let m = mapped (Grammar.both y) (Grammar.settings two k rest) x p.1 in
+    let p = Some-passed (c == 44) _ x h in
+    let m = Some-mapped (Grammar.both y) (Grammar.settings two k rest) x p.1 in
     let t = others rest m.0 m.1 in
     let whole : parts ≡ s.ps ++ sign 44 ∷ rest =
     s.whole ∙ ap (λ (b : ℕ). s.ps ++ sign b ∷ rest) ((Decides-eqb c 44).0 p.0) in
@@ -124,6 +111,7 @@ more_spelled two k parts (sign c ∷ rest) y x others s h =
           ∙ ap (Grammar.both (ranged s.spelled.fits s.spelled.what)) t.is
           ∙ both_ranged s.spelled.fits t.fits s.spelled.what t.what;
     }
+more_spelled two k parts z y x others s h = absurd (cc)
 
 none_left : (two : Bool) (ps : List LinePart) → Grammar.settings two zero ps ≡ None
 unfolding Grammar.settings
@@ -133,6 +121,6 @@ pub settings_are_spelled : (two : Bool) (k : ℕ) (ps : List LinePart) (x : Opti
     → Grammar.settings two k ps ≡ Some x → IsSpelled (SpellsFew two k) ps x
 settings_are_spelled two zero ps x h = absurd (let none = none_left two ps in cc)
 settings_are_spelled two (suc k) ps x h =
-    let c = chained (λ p. Grammar.and_more p.0 p.1 (Grammar.settings two k)) (Grammar.setting two ps) x
+    let c = Some-chained (λ p. Grammar.and_more p.0 p.1 (Grammar.settings two k)) (Grammar.setting two ps) x
     (sym (one_more two k ps) ∙ h) in
     more_spelled two k ps c.0.1 c.0.0 x (settings_are_spelled two k) (setting_is_spelled two ps c.0.1 c.0.0 c.1) c.2

@@ -1,14 +1,10 @@
 -- Settings, one at a time.
-use Rattle.std.proofs.Common.{◌≡◌, ◌∙◌, ℕ, zero, suc, ◌-◌, ◌<◌, Bool, List, [], ◌∷◌, refl, ap, arith}
-use Rattle.std.specs.Prelude.{Option, Some, None, Ok, Err, option_map, option_and_then}
-use Rattle.std.specs.Option.{ok_or}
+use Rattle.ed_syntax.proofs.Kit.{[], ap, arith, Bool, Err, List, None, Ok, Option, option_and_then, option_map, refl}
+use Rattle.ed_syntax.proofs.Kit.{Some, suc, zero, ℕ, ◌-◌, ◌<◌, ◌∙◌, ◌∷◌, ◌≡◌, array, LinePart, sign, form_result}
+use Rattle.ed_syntax.proofs.Kit.{Ranged, ranged_map, settings, FormFault, NotThisForm, OutOfRange, Setting}
 use Rattle.arrayvec.specs.ArrayVec.{ArrayVec}
-use Rattle.ed_syntax.specs.Parts.{LinePart, sign, array}
-use Rattle.ed_syntax.specs.Private.Found.{form_result}
-use Rattle.ed_syntax.specs.Reading.Grammar.{Ranged, and_more, both, ranged_map, setting, settings}
-use Rattle.ed_syntax.specs.declared.form_fault.FormFault.{FormFault}
-use Rattle.ed_syntax.specs.declared.form_fault.FormFault.TheVariants.{NotThisForm, OutOfRange}
-use Rattle.ed_syntax.specs.declared.program.Setting.{Setting}
+use Rattle.std.specs.Option.{ok_or}
+use Rattle.ed_syntax.specs.Reading.Grammar.{and_more, both, setting}
 
 step : (two : Bool) (k : ℕ) (parts : List LinePart) → 0 < k
     → settings two k parts ≡ option_and_then (λ p. and_more p.0 p.1 (settings two (k - 1))) (setting two parts)
@@ -54,8 +50,7 @@ pub fault_after : (two : Bool) (k : ℕ) (parts rest : List LinePart) (s : Range
     → setting two parts ≡ Some (s, sign 44 ∷ rest)
     → Err fault ≡ form_result (ranged_map array (settings two (k - 1) rest))
     → Err fault ≡ form_result (ranged_map array (settings two k parts))
-fault_after two k parts rest s fault h e =
-    rw (first_setting two k parts (sign 44 ∷ rest) s h e) (same s (settings two (k - 1) rest))
+fault_after two k parts rest s fault h e = rw (first_setting two k parts _ s h e) (same s _)
   where
     same : (s : Ranged Setting) (o : Option (Ranged (List Setting))) → Err fault ≡ form_result (ranged_map array o)
         → Err fault ≡ form_result (ranged_map array (option_map (both s) o))
@@ -70,8 +65,7 @@ pub setting_before : (two : Bool) (k : ℕ) (parts rest : List LinePart) (s : Ra
     → Ok more ≡ form_result (ranged_map array (settings two (k - 1) rest))
     → ok_or (option_map array (both s (Some more.items))) OutOfRange
     ≡ form_result (ranged_map array (settings two k parts))
-setting_before two k parts rest s more h e =
-    rw (first_setting two k parts (sign 44 ∷ rest) s h e) (same s (settings two (k - 1) rest))
+setting_before two k parts rest s more h e = rw (first_setting two k parts _ s h e) (same s _)
   where
     same : (s : Ranged Setting) (o : Option (Ranged (List Setting))) → Ok more ≡ form_result (ranged_map array o)
         → ok_or (option_map array (both s (Some more.items))) OutOfRange

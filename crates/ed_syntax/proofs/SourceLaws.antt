@@ -1,47 +1,29 @@
 -- A source says what is read in it, or has the fault that is found.
-use Rattle.std.proofs.Common.{◌≡◌, ◌∙◌, ℕ, ◌+◌, ◌≤◌, ◌<◌, Bool, true, false, List, [], ◌∷◌, ◌++◌, refl, sym, ap}
-use Rattle.std.proofs.Common.{subst, arith, length, codes, zero, suc, get_or, lit≤}
-use Rattle.std.specs.Prelude.{◌==◌, ◌&&◌, Option, Some, None, Result, Ok, Err, not, nat_lt}
-use Rattle.std.specs.Prelude.{◌⊎◌, if◌then◌else◌, IfErr, IfOk}
-use Rattle.std.specs.List.{list_all}
-use Rattle.std.proofs.lemmas.Bool.Decides.{nat_tests, Decides-eqb}
-use Rattle.ed_words.specs.Texts.{Text}
-use Rattle.ed_syntax.specs.Lines.{lines_of, with_byte}
-use Rattle.ed_syntax.specs.Forms.{IsNoStatement, HasNumberOutOfRange}
-use Rattle.ed_syntax.specs.Causes.{number_of}
-use Rattle.ed_syntax.specs.Sources.{IsPlain, LineSays, LineHasFault, IsVersionTwo, IsOfVersion, LinesSay, no_more}
-use Rattle.ed_syntax.specs.Sources.{and_more, IsProgram, SourceHasFormFault, IsFormFault, IsProgramOrFault}
-use Rattle.ed_syntax.specs.Sources.{HasOneMeaning, HasFormFault}
-use Rattle.ed_syntax.specs.Private.Answers.{IsFaultOf}
-use Rattle.ed_syntax.specs.declared.fault.SourceFault.{SourceFault}
-use Rattle.ed_syntax.specs.declared.fault.SourceFault.TheVariants.{At, Memory}
-use Rattle.std.proofs.Common.{inl, inr, nat_le}
-use Rattle.ed_syntax.specs.Reading.Sources.{Fault, line_of, or_cause, lines_from, and_lines, with_first, is_two}
-use Rattle.ed_syntax.specs.Reading.Sources.{says_two}
-use Rattle.ed_syntax.specs.Parts.{is_line_byte}
-use Rattle.ed_syntax.specs.Reading.Sources.{version_of, program_of}
-use Rattle.ed_syntax.specs.declared.form.Form.{Form}
-use Rattle.ed_syntax.specs.declared.program.Line.{Line}
-use Rattle.ed_syntax.specs.declared.program.Program.{Program}
-use Rattle.ed_syntax.specs.declared.fault.SourceCause.{SourceCause}
-use Rattle.ed_syntax.specs.declared.fault.SourceCause.TheVariants.{BadByte, LongLine, NotAStatement}
-use Rattle.ed_syntax.specs.declared.fault.SourceCause.TheVariants.{NumberRange, TooManyLines}
-use Rattle.ed_syntax.specs.declared.fault.SourceCause.TheVariants as causes
-use Rattle.ed_syntax.proofs.Causes.{one_least}
-use Rattle.ed_syntax.proofs.LineLaws.{form_of, spelled_is_read, read_form_is_spelled}
-use Rattle.ed_syntax.proofs.LineLaws.{fits_once, one_form, out_of_range_is_spelled, unread_is_unspelled}
-use Rattle.std.proofs.lemmas.Bool.{and_parts, cases_order}
-use Rattle.std.proofs.lemmas.List.{get_or_append_left, length-append}
+use Rattle.ed_syntax.proofs.Kit.{[], ap, arith, Bool, codes, Err, false, get_or, IfErr, IfOk, if◌then◌else◌, inl, inr}
+use Rattle.ed_syntax.proofs.Kit.{length, List, nat_lt, None, not, Ok, Option, refl, Result, Some, subst, suc, sym}
+use Rattle.ed_syntax.proofs.Kit.{true, zero, ℕ, ◌&&◌, ◌++◌, ◌+◌, ◌<◌, ◌==◌, ◌∙◌, ◌∷◌, ◌≡◌, ◌≤◌, ◌⊎◌, list_all}
+use Rattle.ed_syntax.proofs.Kit.{and_parts, le-leb, le-ltb, ltb-true, Decides-eqb, nat_tests, bytes_eq-Decides, value}
+use Rattle.ed_syntax.proofs.Kit.{Text, number_of, HasNumberOutOfRange, IsNoStatement, ended, HasLines, lines_of}
+use Rattle.ed_syntax.proofs.Kit.{with_byte, without_return, is_line_byte, is_number, LinePart, run, IsFaultOf}
+use Rattle.ed_syntax.proofs.Kit.{is_version_two, parts_of, Fault, line_of, lines_from, or_cause, with_first, and_more}
+use Rattle.ed_syntax.proofs.Kit.{IsFormFault, IsOfVersion, IsPlain, IsProgram, IsVersionTwo, LineSays, LinesSay}
+use Rattle.ed_syntax.proofs.Kit.{no_more, SourceCause, BadByte, NotAStatement, NumberRange, SourceFault, At, Memory}
+use Rattle.ed_syntax.proofs.Kit.{Form, Line}
+use Rattle.std.proofs.Common.{lit≤}
+use Rattle.std.proofs.Math.Bool.{and-true}
 use Rattle.std.proofs.Math.Seq.{get_or-append_seam}
-use Rattle.std.specs.Str.{bytes_eq}
-use Rattle.std.proofs.lemmas.Slice.Eq.{bytes_eq-Decides}
-use Rattle.ed_words.specs.Decimals.{value}
-use Rattle.ed_syntax.specs.Parts.{LinePart, run, sign, quoted}
-use Rattle.ed_syntax.specs.Reading.Parts.{parts_of}
-use Rattle.ed_syntax.specs.Reading.Grammar.{is_version_two}
-use Rattle.ed_syntax.specs.Parts.{is_number}
+use Rattle.std.proofs.lemmas.Bool.{cases_order, both_ways, ltb-false}
+use Rattle.std.proofs.lemmas.List.{get_or_append_left, length-append}
+use Rattle.ed_syntax.specs.Lines.{nothing, last}
+use Rattle.ed_syntax.specs.Reading.Sources.{and_lines, is_two, says_two, version_of, program_of}
+use Rattle.ed_syntax.specs.Sources.{LineHasFault, SourceHasFormFault, IsProgramOrFault, HasOneMeaning, HasFormFault}
+use Rattle.ed_syntax.specs.declared.fault.SourceCause.TheVariants.{LongLine, TooManyLines}
+use Rattle.ed_syntax.specs.declared.program.Program.{Program}
+use Rattle.ed_syntax.proofs.Causes.{one_least}
+use Rattle.ed_syntax.proofs.LineLaws.{form_of, spelled_is_read, read_form_is_spelled, fits_once, one_form}
+use Rattle.ed_syntax.proofs.LineLaws.{out_of_range_is_spelled, unread_is_unspelled}
 use Rattle.ed_syntax.proofs.PartsLaws.{parts_are_read, read_parts_are}
-use Rattle.ed_syntax.specs.Lines.{HasLines, nothing, last, ended, without_return}
+use Rattle.ed_syntax.specs.declared.fault.SourceCause.TheVariants as causes
 use Rattle.ed_syntax.proofs.Lines
 
 -- ---- the lines of a text
@@ -62,10 +44,6 @@ begins_feed : Text → Bool
 begins_feed [] = false
 begins_feed (b ∷ bs) = b == 10
 
-and_is_no : (c : Bool) → (c && true) ≡ false → c ≡ false
-and_is_no true e = e
-and_is_no false e = e
-
 kept : (b : ℕ) → (b == 13) ≡ false → without_return (b ∷ []) ≡ b ∷ []
 kept b e = rw e refl
 
@@ -76,8 +54,7 @@ unfolding begins_feed
 longer b _ _ e g nothing = last b [] (rw e refl)
 longer b _ _ e g (last c bs f) = last b (c ∷ bs) (rw e f)
 longer b _ _ e g (ended [] text lines f h) =
-    subst (λ (t : Text). HasLines (b ∷ 10 ∷ text) (t ∷ lines)) (kept b (and_is_no (b == 13) g))
-    (ended (b ∷ []) text lines (rw e refl) h)
+    rw (← (kept b (sym (and-true (b == 13)) ∙ g))) (ended (b ∷ []) text lines (rw e refl) h)
 longer b _ _ e g (ended (c ∷ l) text lines f h) = ended (b ∷ c ∷ l) text lines (rw e f) h
 
 one_byte : (b : ℕ) → HasLines (b ∷ []) (lines_of (b ∷ []))
@@ -109,15 +86,6 @@ read_lines_are (b ∷ c ∷ bs) = two_bytes b c bs (read_lines_are (c ∷ bs)) (
 
 -- ---- one line
 
-long_bytes : (line : Text) → nat_lt 120 (length line) ≡ true → 120 < length line
-long_bytes line e = grind (arith, nat_tests)
-
-short_bytes : (line : Text) → nat_lt 120 (length line) ≡ false → length line ≤ 120
-short_bytes line e = grind (arith, nat_tests)
-
-le_test : (line : Text) → length line ≤ 120 → nat_le (length line) 120 ≡ true
-le_test line le = grind (arith, nat_tests)
-
 -- what a line is not refused for is not its fault: one line for each cause of a fault of form
 of_form : (two : Bool) (k : ℕ) (line : Text) (P : SourceCause → Type 0)
     → ((k ≤ 2000) × (list_all is_line_byte line ≡ false) → P BadByte) → ((k ≤ 2000) × (120 < length line) → P LongLine)
@@ -142,9 +110,6 @@ of_form two k line P a b c d e causes.Parameters h = absurd h
 of_form two k line P a b c d e causes.Enter h = absurd h
 of_form two k line P a b c d e causes.SandwichDigit h = absurd h
 
-not_both : {b : Bool} → b ≡ true → b ≡ false → ⊥
-not_both e f = let same : true ≡ false = sym e ∙ f in absurd (cc)
-
 -- the fault of a line with the least number
 pub record IsLeastOfLine (two : Bool) (k : ℕ) (line : Text) (c : SourceCause) : Type 0 where
   pub is : LineHasFault two k line c
@@ -160,9 +125,8 @@ plain_least : (two : Bool) (k : ℕ) (line : Text) → IsPlain line → (d : Sou
     → 3 ≤ number_of d
 plain_least two k line p =
     let bytes = p.bytes in
-    let short = p.short in
-    of_form two k line (λ d. 3 ≤ number_of d) (λ h. absurd (not_both bytes h.1))
-    (λ h. absurd (omega (arith, short, h.1))) (λ h. lit≤ tt) (λ h. lit≤ tt) (λ h. lit≤ tt)
+    of_form two k line (λ d. 3 ≤ number_of d) (λ h. absurd (both_ways _ h.1 bytes))
+    (λ h. absurd (omega (arith, h.1))) (λ h. lit≤ tt) (λ h. lit≤ tt) (λ h. lit≤ tt)
 
 pub line_answers : (two : Bool) (k : ℕ) (line : Text) → IsAnswer two k line (line_of two k line)
 line_answers two k line = go (list_all is_line_byte line) (nat_lt 120 (length line)) (form_of two k line) refl refl refl
@@ -175,36 +139,34 @@ line_answers two k line = go (list_all is_line_byte line) (nat_lt 120 (length li
       least = of_form two k line (λ d. 1 ≤ number_of d) (λ h. lit≤ tt) (λ h. lit≤ tt) (λ h. lit≤ tt) (λ h. lit≤ tt) (λ h. lit≤ tt);
     }
     go true true o e f g = λ le. record {
-      is = (le, long_bytes line f);
-      least = of_form two k line (λ d. 2 ≤ number_of d) (λ h. absurd (not_both e h.1)) (λ h. lit≤ tt) (λ h. lit≤ tt)
+      is = (le, ltb-true 120 _ f);
+      least = of_form two k line (λ d. 2 ≤ number_of d) (λ h. absurd (both_ways _ h.1 e)) (λ h. lit≤ tt) (λ h. lit≤ tt)
           (λ h. lit≤ tt) (λ h. lit≤ tt);
     }
     go true false None e f g =
-        let short = short_bytes line f in
+        let short = ltb-false 120 _ f in
         λ le. record {
-          is = (le, unread_is_unspelled two k line (le_test line short) g);
+          is = (le, unread_is_unspelled two k line (le-leb _ 120 short) g);
           least = plain_least two k line (record { bytes = e; short = short });
         }
     go true false (Some None) e f g =
-        let short = short_bytes line f in
+        let short = ltb-false 120 _ f in
         let out = out_of_range_is_spelled two k line g in
         λ le. record {
           is = (le, out);
-          least = of_form two k line (λ d. 4 ≤ number_of d) (λ h. absurd (not_both e h.1)) (λ h. absurd (omega (arith, short, h.1)))
+          least = of_form two k line (λ d. 4 ≤ number_of d) (λ h. absurd (both_ways _ h.1 e))
+              (λ h. absurd (omega (arith, short, h.1)))
               (λ h. absurd (h.1 out.0 false out.1)) (λ h. lit≤ tt) (λ h. lit≤ tt);
         }
     go true false (Some (Some x)) e f g = record {
-      plain = record { bytes = e; short = short_bytes line f };
+      plain = record { bytes = e; short = ltb-false 120 _ f };
       spells = read_form_is_spelled two k line x g;
     }
-
-short_test : (line : Text) → length line ≤ 120 → nat_lt 120 (length line) ≡ false
-short_test line le = grind (arith, nat_tests)
 
 plain_line : (two : Bool) (k : ℕ) (line : Text) → IsPlain line
     → line_of two k line ≡ or_cause (form_of two k line)
 plain_line two k line p =
-    let bytes = p.bytes in let short = short_test line p.short in rw (bytes, short) refl
+    let bytes = p.bytes in let short = le-ltb 120 _ p.short in rw (bytes, short) refl
 
 -- what a line says is read
 pub said_is_read : (two : Bool) (k : ℕ) (line : Text) (f : Form) → LineSays two k line f → line_of two k line ≡ Ok f
@@ -217,25 +179,19 @@ said_is_faultless : {two : Bool} {k : ℕ} {line : Text} {f : Form} → k ≤ 20
 said_is_faultless {two} {k} {line} {f} few s =
     let bytes = s.plain.bytes in
     let short = s.plain.short in
-    of_form two k line (λ c. ⊥) (λ h. not_both bytes h.1) (λ h. omega (arith, short, h.1))
+    of_form two k line (λ c. ⊥) (λ h. both_ways _ h.1 bytes) (λ h. omega (arith, short, h.1))
     (λ h. h.1 f true s.spells) (λ h. fits_once two k line f h.1.0 short s.spells h.1.1) (λ h. omega (arith, few, h))
 
 -- ---- the version
 
 two_is : (ps : List LinePart) → is_version_two ps ≡ true
     → (n : Text) × (is_number n ≡ true) × (value n ≡ 2) × (ps ≡ run (codes "version") ∷ run n ∷ [])
-two_is [] h = absurd (cc)
-two_is (sign b ∷ ps) h = absurd (cc)
-two_is (quoted q ∷ ps) h = absurd (cc)
-two_is (run w ∷ []) h = absurd (cc)
-two_is (run w ∷ sign b ∷ ps) h = absurd (cc)
-two_is (run w ∷ quoted q ∷ ps) h = absurd (cc)
-two_is (run w ∷ run n ∷ p ∷ ps) h = absurd (cc)
 two_is (run w ∷ run n ∷ []) h =
-    let p = and_parts (bytes_eq w (codes "version")) _ h in
-    let q = and_parts (is_number n) (value n == 2) p.1 in
-    let is : w ≡ codes "version" = (bytes_eq-Decides w (codes "version")).0 p.0 in
+    let p = and_parts _ _ h in
+    let q = and_parts _ _ p.1 in
+    let is : w ≡ codes "version" = (bytes_eq-Decides w _).0 p.0 in
     (n, q.0, (Decides-eqb (value n) 2).0 q.1, ap (λ (t : Text). run t ∷ run n ∷ []) is)
+two_is ps h = absurd (cc)
 
 two_says : (line : Text) → says_two (parts_of line) ≡ true → IsVersionTwo line
 two_says line = go (parts_of line) refl
@@ -311,7 +267,6 @@ one_more two k line lines f (Ok said) s h =
     let few = h.few in
     record { says = and_more k line lines f said s h.says; few = omega (arith, few) }
 one_more two k line lines f (Err e) s h =
-    let is = h.number_is in
     record {
       before = line ∷ h.before;
       line = h.line;
@@ -319,7 +274,7 @@ one_more two k line lines f (Err e) s h =
       said = numbered k f ∷ h.said;
       lines_are = ap (λ (t : List Text). line ∷ t) h.lines_are;
       says = and_more k line h.before f h.said s h.says;
-      number_is = omega (arith, is);
+      number_is = omega arith;
       few = h.few;
       faulty = h.faulty;
     }
@@ -363,7 +318,7 @@ lines_answer two k (line ∷ lines) le = by_count (k == 2001) refl (lines_answer
         })
     by_count false e h =
         let few : k ≤ 2000 = grind (arith, nat_tests) in
-        by_line (line_of two k line) _ few (line_answers two k line) (h (omega (arith, few)))
+        by_line _ _ few (line_answers two k line) (h (omega (arith, few)))
 
 -- a line before number 2001, and what follows it
 not_last : (two : Bool) (k : ℕ) (line : Text) (lines : List Text) → k < 2001
@@ -384,11 +339,11 @@ says_at : {two : Bool} {k : ℕ} {lines : List Text} {said : List Line} (n : ℕ
     → n < length lines → (f : Form) × LineSays two (k + n) (get_or lines n []) f
 says_at n (no_more k) lt = absurd (omega (arith, lt))
 says_at {two} zero (and_more k line lines f said s h) lt =
-    let number : k ≡ k + zero = omega arith in (f, subst (λ m. LineSays two m line f) number s)
+    let number : k ≡ k + zero = omega arith in (f, rw (← number) s)
 says_at {two} (suc n) (and_more k line lines f said s h) lt =
     let later = says_at n h (omega (arith, lt)) in
     let number : k + 1 + n ≡ k + suc n = omega arith in
-    (later.0, subst (λ m. LineSays two m (get_or lines n []) later.0) number later.1)
+    (later.0, rw (← number) later.1)
 
 -- ---- a source
 
@@ -400,10 +355,9 @@ version_is_read text two said p =
 pub program_is_read : (text : Text) (two : Bool) (said : List Line) → IsProgram text two said
     → program_of text ≡ Ok said
 program_is_read text two said p =
-    let few = p.few in
     ap (λ (v : Bool). lines_from v 1 (lines_of text)) (version_is_read text two said p)
     ∙ ap (lines_from two 1) (lines_are_read text p.lines p.has_lines)
-    ∙ say_is_read two 1 p.lines said p.says (omega (arith, few))
+    ∙ say_is_read two 1 p.lines said p.says (omega arith)
 
 -- whether the source is of version 2, as it is read, and its line at an index
 abbrev is_second : Text → Bool
@@ -416,12 +370,11 @@ line_at text i = get_or (lines_of text) i []
 faulty_line : {text : Text} {n : ℕ} {c : SourceCause} → (h : SourceHasFormFault text n c)
     → LineHasFault (is_second text) n (line_at text (length h.before)) c
 faulty_line {text} {n} {c} h =
-    let lines = lines_are_read text (h.before ++ h.line ∷ h.after) h.has_lines in
-    let two : is_second text ≡ h.two = ap is_two lines ∙ only_version (h.before ++ h.line ∷ h.after) h.two h.version in
+    let lines = lines_are_read text _ h.has_lines in
+    let two : is_second text ≡ h.two = ap is_two lines ∙ only_version _ h.two h.version in
     let line : line_at text (length h.before) ≡ h.line =
     ap (λ (x : List Text). get_or x (length h.before) []) lines ∙ get_or-append_seam h.before h.line h.after [] in
-    subst (λ (v : Bool). LineHasFault v n (line_at text (length h.before)) c) (sym two)
-    (subst (λ (x : Text). LineHasFault h.two n x c) (sym line) h.faulty)
+    rw two (rw line h.faulty)
 
 -- the first fault that is found is the fault of the source
 fault_of : (text : Text) (n : ℕ) (c : SourceCause) → FaultFrom (is_second text) 1 (lines_of text) n c
@@ -432,12 +385,12 @@ fault_of text n c h = record {
     before = h.before;
     line = h.line;
     after = h.after;
-    has_lines = subst (HasLines text) h.lines_are (read_lines_are text);
-    version = subst (IsOfVersion (is_second text)) h.lines_are (version_is_of (lines_of text));
+    has_lines = rw (← h.lines_are) (read_lines_are text);
+    version = rw (← h.lines_are) (version_is_of (lines_of text));
     number_is = h.number_is;
     faulty = h.faulty.is;
   };
-  least = λ m d g. by_order m d g (cases_order (length h.before) (length g.before));
+  least = λ m d g. by_order m d g (cases_order _ _);
 }
   where
     line_is : line_at text (length h.before) ≡ h.line
@@ -449,35 +402,25 @@ fault_of text n c h = record {
     said i lt =
         let says = says_at i h.says lt in
         let same : get_or h.before i [] ≡ line_at text i =
-        sym (get_or_append_left h.before (h.line ∷ h.after) [] i lt)
-        ∙ sym (ap (λ (x : List Text). get_or x i []) h.lines_are) in
-        (says.0, subst (λ (x : Text). LineSays (is_second text) (1 + i) x says.0) same says.1)
+        sym (get_or_append_left h.before _ [] i lt) ∙ sym (ap (λ (x : List Text). get_or x i []) h.lines_are) in
+        (says.0, rw (← same) says.1)
 
     by_order : (m : ℕ) (d : SourceCause) (g : SourceHasFormFault text m d)
         → (length h.before ≡ length g.before) ⊎ ((length h.before < length g.before) ⊎ (length g.before < length h.before))
         → (n < m) ⊎ ((n ≡ m) × (number_of c ≤ number_of d))
     by_order m d g (inl e) =
-        let here = h.number_is in
-        let there = g.number_is in
-        let same : m ≡ n = omega (arith, here, there, e) in
+        let same : m ≡ n = omega (arith, e) in
         let line : line_at text (length g.before) ≡ h.line =
         ap (λ (i : ℕ). line_at text i) (sym e) ∙ line_is in
         inr (
           sym same,
-          h.faulty.least d (subst (λ (x : Text). LineHasFault (is_second text) n x d) line
-              (subst (λ (k : ℕ). LineHasFault (is_second text) k (line_at text (length g.before)) d) same
-              (faulty_line g))),
+          h.faulty.least d (rw (← line) (rw (← same) (faulty_line g))),
         )
-    by_order m d g (inr (inl lt)) =
-        let here = h.number_is in let there = g.number_is in inl (omega (arith, here, there, lt))
+    by_order m d g (inr (inl lt)) = inl (omega (arith, lt))
     by_order m d g (inr (inr lt)) =
-        let here = h.number_is in
-        let there = g.number_is in
-        let few = h.few in
-        let number : m ≡ 1 + length g.before = omega (arith, there) in
+        let number : m ≡ 1 + length g.before = omega arith in
         let says = said (length g.before) lt in
-        absurd (said_is_faultless (omega (arith, here, few, lt)) says.1 d
-        (subst (λ (k : ℕ). LineHasFault (is_second text) k (line_at text (length g.before)) d) number (faulty_line g)))
+        absurd (said_is_faultless (omega (arith, lt)) says.1 d (rw (← number) (faulty_line g)))
 
 -- what a reading of a source says
 abbrev pub IsSourceAnswer : Text → Result (List Line) Fault → Type 0
@@ -486,8 +429,7 @@ IsSourceAnswer text (Err e) = IsFormFault text e.line e.cause
 
 pub source_answer : (text : Text) (r : Result (List Line) Fault) → program_of text ≡ r → IsSourceAnswer text r
 source_answer text r e =
-    go r (subst (IsAnswerFrom (is_two (lines_of text)) 1 (lines_of text)) e
-    (lines_answer (is_two (lines_of text)) 1 (lines_of text) (omega arith)))
+    go r (rw (← e) (lines_answer (is_two (lines_of text)) 1 (lines_of text) (omega arith)))
   where
     go : (r : Result (List Line) Fault) → IsAnswerFrom (is_two (lines_of text)) 1 (lines_of text) r
         → IsSourceAnswer text r
@@ -515,15 +457,13 @@ every_source text = go (program_of text) refl
 no_fault : (text : Text) (two : Bool) (said : List Line) (n : ℕ) (c : SourceCause) → IsProgram text two said
     → SourceHasFormFault text n c → ⊥
 no_fault text two said n c p h =
-    let few = p.few in
-    let there = h.number_is in
     let lines = lines_are_read text p.lines p.has_lines in
     let same : h.before ++ h.line ∷ h.after ≡ p.lines = sym (lines_are_read text _ h.has_lines) ∙ lines in
     let long : length h.before + length (h.line ∷ h.after) ≡ length p.lines =
-    sym (length-append h.before (h.line ∷ h.after)) ∙ ap (λ (x : List Text). length x) same in
-    let says = says_at (length h.before) p.says (omega (arith, long)) in
-    let number : n ≡ 1 + length h.before = omega (arith, there) in
-    said_is_faultless (omega (arith, few, long)) says.1 c
+    sym (length-append h.before _) ∙ ap (λ (x : List Text). length x) same in
+    let says = says_at _ p.says (omega (arith, long)) in
+    let number : n ≡ 1 + length h.before = omega arith in
+    said_is_faultless (omega (arith, long)) says.1 c
     (subst (λ (k : ℕ). LineHasFault two k (get_or p.lines (length h.before) []) c) number
     (subst (λ (x : List Text). LineHasFault two n (get_or x (length h.before) []) c) lines
     (subst (λ (v : Bool). LineHasFault v n (line_at text (length h.before)) c) (version_is_read text two said p)
@@ -540,7 +480,7 @@ has_one_meaning = record {
   one_version = λ text two also said others p q.
       sym (version_is_read text two said p) ∙ version_is_read text also others q;
   one_program = λ text two also said others p q.
-      one_answer (program_of text) said others (program_is_read text two said p) (program_is_read text also others q);
+      one_answer _ said others (program_is_read text two said p) (program_is_read text also others q);
   no_fault = no_fault;
   one_fault = λ text n m c d f g. one_least f g;
 }
@@ -550,7 +490,7 @@ pub answer_says : (text : Text) (version : ℕ) (said : List Line) → version �
     → program_of text ≡ Ok said → IsProgram text (version == 2) said
 answer_says text version said e h =
     let p = source_answer text (Ok said) h in
-    subst (λ (two : Bool). IsProgram text two said) (sym (ap (λ (v : ℕ). v == 2) e ∙ tested (is_two (lines_of text)))) p
+    rw (ap (λ (v : ℕ). v == 2) e ∙ tested _) p
   where
     tested : (two : Bool) → ((if two then 2 else 1) == 2) ≡ two
     tested true = refl

@@ -1,7 +1,7 @@
 -- A text split at one of its bytes.
-use Rattle.std.proofs.Common.{◌≡◌, ◌∙◌, ◌<◌, ℕ, ◌+◌, ◌∷◌, ◌++◌, List, sym, ap, take, drop, length, get_or}
-use Rattle.std.proofs.lemmas.List.{take-append-drop, drop_more}
-use Rattle.ed_words.specs.Texts.{Text}
+use Rattle.ed_syntax.proofs.Kit.{ap, drop, get_or, length, List, sym, take, ℕ, ◌++◌, ◌+◌, ◌<◌, ◌∙◌, ◌∷◌, ◌≡◌}
+use Rattle.ed_syntax.proofs.Kit.{take-append-drop, Text}
+use Rattle.std.proofs.lemmas.List.{drop_more}
 
 pub split_at : (text : Text) (i b : ℕ) → i < length text → get_or text i 0 ≡ b
     → text ≡ take i text ++ b ∷ drop (i + 1) text

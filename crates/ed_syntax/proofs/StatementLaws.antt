@@ -1,39 +1,24 @@
 -- Statements and forms are read if and only if they are spelled.
-use Rattle.std.proofs.Common.{◌≡◌, ◌∙◌, ℕ, Bool, true, false, List, [], ◌∷◌, refl, sym, ap, subst, arith}
-use Rattle.std.proofs.Common.{length, codes}
-use Rattle.std.specs.Prelude.{Option, Some, None, option_map, ◌&&◌, nat_le, if◌then◌else◌}
-use Rattle.std.specs.List.{list_all}
-use Rattle.std.specs.Str.{bytes_eq}
-use Rattle.std.proofs.lemmas.Slice.Eq.{bytes_eq-Decides}
-use Rattle.std.proofs.lemmas.Bool.Decides.{nat_tests}
-use Rattle.std.proofs.lemmas.Bool.{and_parts}
-use Rattle.ed_words.specs.Texts.{Text}
-use Rattle.ed_words.specs.Decimals.{value}
-use Rattle.ed_syntax.specs.Parts.{LinePart, run, sign, quoted}
-use Rattle.ed_syntax.specs.Reading.Grammar
-use Rattle.ed_syntax.specs.Parts.{array}
-use Rattle.ed_syntax.specs.Names.{is_name}
-use Rattle.ed_syntax.specs.Reading.Grammar.{is_version_two}
-use Rattle.ed_syntax.specs.declared.program.Statement.{Statement}
-use Rattle.ed_syntax.specs.declared.program.Statement.TheVariants as statements
-use Rattle.ed_syntax.specs.Forms.{SpellsPlaced, order, bare_order, word, long, text}
-use Rattle.ed_syntax.specs.Forms.{SpellsStatement, placed, segment, segment_at, fetch, fetch_with, enter, data_rows}
-use Rattle.ed_syntax.proofs.Readings.{ranged, IsSpelled, map_ranged, mapped, passed, some_is, made_ranged, made_spelled}
+use Rattle.ed_syntax.proofs.Kit.{[], ap, arith, Bool, codes, false, if◌then◌else◌, length, List, nat_le, None, Option}
+use Rattle.ed_syntax.proofs.Kit.{option_map, refl, Some, subst, sym, true, ℕ, ◌&&◌, ◌∙◌, ◌∷◌, ◌≡◌, list_all, bytes_eq}
+use Rattle.ed_syntax.proofs.Kit.{and_parts, nat_tests, bytes_eq-Decides, value, Text, data_rows, enter, fetch}
+use Rattle.ed_syntax.proofs.Kit.{fetch_with, placed, segment, segment_at, SpellsPlaced, SpellsStatement, text, is_name}
+use Rattle.ed_syntax.proofs.Kit.{array, LinePart, run, sign, Statement}
 use Rattle.ed_syntax.proofs.PlacedLaws.{is_short, placed_is_read, placed_is_spelled, number_is_read, string_is_read}
-use Rattle.ed_syntax.proofs.PlacedLaws.{string_is}
-use Rattle.ed_syntax.proofs.PlacedLaws.{SpellsNumber, digits, number_spelled}
+use Rattle.ed_syntax.proofs.PlacedLaws.{string_is, SpellsNumber, digits, number_spelled}
+use Rattle.ed_syntax.proofs.Readings.{ranged, IsSpelled, map_ranged, Some-mapped, Some-passed, some_is, made_ranged}
+use Rattle.ed_syntax.proofs.Readings.{made_spelled}
 use Rattle.ed_syntax.proofs.SettingLaws.{settings_are_read, settings_are_spelled}
+use Rattle.ed_syntax.specs.Reading.Grammar
+use Rattle.ed_syntax.specs.declared.program.Statement.TheVariants as statements
 
 -- ---- what is spelled is read: statements
 
 -- a statement that may have a label begins with no keyword of the others
 placed_first : (two : Bool) (ps : List LinePart) (s : Statement) (fits : Bool) → SpellsPlaced two ps s fits
     → Grammar.statement two ps ≡ Grammar.placed_statement two ps
-placed_first two _ _ _ (order b f e ps o l fits hf ho hl) = refl
-placed_first two _ _ _ (bare_order b f e l hf hl) = refl
-placed_first two _ _ _ (word ps z fits h) = refl
-placed_first two _ _ _ (long ps z fits h v) = refl
 placed_first two _ _ _ (text q rows h) = refl
+placed_first two _ _ _ h = refl
 
 segment_is_read : (a : Text) (parts : List LinePart) → is_name a ≡ true
     → Grammar.segment (run a ∷ parts) ≡ Grammar.ranged_map (statements.Segment a) (Grammar.base parts)
@@ -50,9 +35,8 @@ statement_is_read two _ _ _ (placed ps s fits h) short =
     placed_first two ps s fits h ∙ placed_is_read two ps s fits h short
 statement_is_read two _ _ _ (segment a e) short = segment_is_read a [] e
 statement_is_read two _ _ _ (segment_at a n e f) short =
-    segment_is_read a (run (codes "at") ∷ run n ∷ []) e
-    ∙ made_ranged (statements.Segment a) _ _ (Some (value n))
-    (made_ranged (λ k. Some k) (Grammar.number_up_to 1023 n) _ (value n) (number_is_read 1023 n f))
+    segment_is_read a (run (codes "at") ∷ run n ∷ []) e ∙ made_ranged (statements.Segment a) _ _ _
+    (made_ranged (λ k. Some k) _ _ (value n) (number_is_read 1023 n f))
 statement_is_read two _ _ _ (fetch a b e f) short = fetch_is_read two a b [] e f
 statement_is_read two _ _ _ (fetch_with a b ps ss fits e f h few) short =
     fetch_is_read two a b (run (codes "with") ∷ ps) e f
@@ -61,16 +45,13 @@ statement_is_read two _ _ _ (fetch_with a b ps ss fits e f h few) short =
 statement_is_read two _ _ _ (enter a e) short = rw e refl
 statement_is_read two _ _ _ (data_rows q rows h) short =
     ap (option_map (λ rows. Some (statements.Rows (array rows))))
-    (string_is_read q rows h (and_parts (nat_le (length q) 120) true short).0)
+    (string_is_read q rows h (and_parts _ true short).0)
 
 -- ---- what is read is spelled: statements
 
 segment_spelled : (two : Bool) (parts : List LinePart) (x : Option Statement) → Grammar.segment parts ≡ Some x
     → IsSpelled (SpellsStatement two) (run (codes "segment") ∷ parts) x
-segment_spelled two [] x h = absurd (cc)
-segment_spelled two (sign b ∷ parts) x h = absurd (cc)
-segment_spelled two (quoted q ∷ parts) x h = absurd (cc)
-segment_spelled two (run a ∷ parts) x h = let p = passed (is_name a) _ x h in by_base parts p.0 p.1
+segment_spelled two (run a ∷ parts) x h = let p = Some-passed (is_name a) _ x h in by_base parts p.0 p.1
   where
     by_base : (parts : List LinePart) → is_name a ≡ true
         → Grammar.ranged_map (statements.Segment a) (Grammar.base parts) ≡ Some x
@@ -81,18 +62,11 @@ segment_spelled two (run a ∷ parts) x h = let p = passed (is_name a) _ x h in 
       spelled = segment a e;
       is = some_is _ x g;
     }
-    by_base (sign b ∷ parts) e g = absurd (cc)
-    by_base (quoted q ∷ parts) e g = absurd (cc)
-    by_base (run w ∷ []) e g = absurd (cc)
-    by_base (run w ∷ sign b ∷ parts) e g = absurd (cc)
-    by_base (run w ∷ quoted q ∷ parts) e g = absurd (cc)
-    by_base (run w ∷ run n ∷ p ∷ parts) e g = absurd (cc)
     by_base (run w ∷ run n ∷ []) e g =
-        let m = mapped (option_map (statements.Segment a)) (Grammar.base (run w ∷ run n ∷ [])) x g in
-        let p = passed (bytes_eq w (codes "at")) _ m.0 m.1 in
-        let at : w ≡ codes "at" = (bytes_eq-Decides w (codes "at")).0 p.0 in
-        rw at (made_spelled (SpellsNumber 1023) (SpellsStatement two) (λ k. statements.Segment a (Some k)) (run n ∷ [])
-        (run (codes "segment") ∷ run a ∷ run (codes "at") ∷ run n ∷ []) (Grammar.number_up_to 1023 n) x
+        let m = Some-mapped (option_map (statements.Segment a)) (Grammar.base (run w ∷ run n ∷ [])) x g in
+        let p = Some-passed (bytes_eq w (codes "at")) _ m.0 m.1 in
+        let at : w ≡ codes "at" = (bytes_eq-Decides w _).0 p.0 in
+        rw at (made_spelled _ _ (λ k. statements.Segment a (Some k)) _ _ _ x
         (number_spelled 1023 n) (with_base n) (joined (Grammar.number_up_to 1023 n) m.0 p.1 m.2))
       where
         with_base : (n : Text) (k : ℕ) (fits : Bool) → SpellsNumber 1023 (run n ∷ []) k fits
@@ -108,23 +82,16 @@ segment_spelled two (run a ∷ parts) x h = let p = passed (is_name a) _ x h in 
             (ap (option_map (statements.Segment a)) (sym (some_is _ y f)) ∙ g)
         joined (Some (Some k)) y f g = ap (λ (z : Option Statement). Some z)
             (ap (option_map (statements.Segment a)) (sym (some_is _ y f)) ∙ g)
+    by_base parts e g = absurd (cc)
+segment_spelled two parts x h = absurd (cc)
 
 fetch_spelled : (two : Bool) (parts : List LinePart) (x : Option Statement) → Grammar.fetch two parts ≡ Some x
     → IsSpelled (SpellsStatement two) (run (codes "use") ∷ parts) x
-fetch_spelled two [] x h = absurd (cc)
-fetch_spelled two (sign b ∷ parts) x h = absurd (cc)
-fetch_spelled two (quoted q ∷ parts) x h = absurd (cc)
-fetch_spelled two (run a ∷ []) x h = absurd (cc)
-fetch_spelled two (run a ∷ sign b ∷ parts) x h = absurd (cc)
-fetch_spelled two (run a ∷ quoted q ∷ parts) x h = absurd (cc)
-fetch_spelled two (run a ∷ run w ∷ []) x h = absurd (cc)
-fetch_spelled two (run a ∷ run w ∷ sign b ∷ parts) x h = absurd (cc)
-fetch_spelled two (run a ∷ run w ∷ quoted q ∷ parts) x h = absurd (cc)
 fetch_spelled two (run a ∷ run w ∷ run b ∷ parts) x h =
-    let p = passed (bytes_eq w (codes "as") && (is_name a && is_name b)) _ x h in
-    let c = and_parts (bytes_eq w (codes "as")) _ p.0 in
+    let p = Some-passed (bytes_eq w (codes "as") && (is_name a && is_name b)) _ x h in
+    let c = and_parts _ _ p.0 in
     let d = and_parts (is_name a) _ c.1 in
-    let as_is : w ≡ codes "as" = (bytes_eq-Decides w (codes "as")).0 c.0 in
+    let as_is : w ≡ codes "as" = (bytes_eq-Decides w _).0 c.0 in
     rw as_is (by_rest parts d.0 d.1 p.1)
   where
     by_rest : (parts : List LinePart) → is_name a ≡ true → is_name b ≡ true
@@ -136,13 +103,11 @@ fetch_spelled two (run a ∷ run w ∷ run b ∷ parts) x h =
       spelled = fetch a b e f;
       is = some_is _ x g;
     }
-    by_rest (sign c ∷ parts) e f g = absurd (cc)
-    by_rest (quoted q ∷ parts) e f g = absurd (cc)
     by_rest (run v ∷ parts) e f g =
-        let m = mapped (option_map (λ ss. statements.Fetch a b (array ss)))
+        let m = Some-mapped (option_map (λ ss. statements.Fetch a b (array ss)))
         (Grammar.with_settings two (run v ∷ parts)) x g in
-        let p = passed (bytes_eq v (codes "with")) (Grammar.settings two 6 parts) m.0 m.1 in
-        let with_is : v ≡ codes "with" = (bytes_eq-Decides v (codes "with")).0 p.0 in
+        let p = Some-passed (bytes_eq v (codes "with")) (Grammar.settings two 6 parts) m.0 m.1 in
+        let with_is : v ≡ codes "with" = (bytes_eq-Decides v _).0 p.0 in
         let s = settings_are_spelled two 6 parts m.0 p.1 in
         let few : nat_le (length s.what) 6 ≡ true = let le = s.spelled.few in grind (arith, nat_tests) in
         let is : x ≡ ranged s.fits (statements.Fetch a b (array s.what)) =
@@ -154,21 +119,20 @@ fetch_spelled two (run a ∷ run w ∷ run b ∷ parts) x h =
           spelled = fetch_with a b parts s.what s.fits e f s.spelled.spelled few;
           is = is;
         })
+    by_rest x e f g = absurd (cc)
+fetch_spelled two parts x h = absurd (cc)
 
 enter_spelled : (two : Bool) (parts : List LinePart) (x : Option Statement) → Grammar.enter parts ≡ Some x
     → IsSpelled (SpellsStatement two) (run (codes "enter") ∷ parts) x
-enter_spelled two [] x h = absurd (cc)
-enter_spelled two (sign b ∷ parts) x h = absurd (cc)
-enter_spelled two (quoted q ∷ parts) x h = absurd (cc)
-enter_spelled two (run a ∷ p ∷ parts) x h = absurd (cc)
 enter_spelled two (run a ∷ []) x h =
-    let p = passed (is_name a) _ x h in
+    let p = Some-passed (is_name a) _ x h in
     record { what = statements.Enter a; fits = true; spelled = enter a p.0; is = some_is _ x p.1 }
+enter_spelled two parts x h = absurd (cc)
 
 data_spelled : (two : Bool) (ps : List LinePart) (x : Option Statement) → Grammar.data_statement ps ≡ Some x
     → IsSpelled (SpellsStatement two) (run (codes "data") ∷ ps) x
 data_spelled two ps x h =
-    let m = mapped (λ rows. Some (statements.Rows (array rows))) (Grammar.string ps) x h in
+    let m = Some-mapped (λ rows. Some (statements.Rows (array rows))) (Grammar.string ps) x h in
     let s = string_is ps m.0 m.1 in
     record {
       what = statements.Rows (array m.0);
@@ -186,13 +150,9 @@ as_statement two ps x s =
 
 pub statement_is_spelled : (two : Bool) (ps : List LinePart) (x : Option Statement)
     → Grammar.statement two ps ≡ Some x → IsSpelled (SpellsStatement two) ps x
-statement_is_spelled two [] x h = absurd (cc)
-statement_is_spelled two (quoted q ∷ ps) x h = absurd (cc)
-statement_is_spelled two (sign b ∷ ps) x h =
-    as_statement two (sign b ∷ ps) x (placed_is_spelled two (sign b ∷ ps) x h)
+statement_is_spelled two (sign b ∷ ps) x h = as_statement two _ x (placed_is_spelled two _ x h)
 statement_is_spelled two (run w ∷ ps) x h =
-    go (bytes_eq w (codes "segment")) (bytes_eq w (codes "use")) (bytes_eq w (codes "enter"))
-    (bytes_eq w (codes "data")) refl refl refl refl h
+    go _ _ _ _ refl refl refl refl h
   where
     go : (c d e f : Bool) → bytes_eq w (codes "segment") ≡ c → bytes_eq w (codes "use") ≡ d
         → bytes_eq w (codes "enter") ≡ e → bytes_eq w (codes "data") ≡ f
@@ -203,5 +163,5 @@ statement_is_spelled two (run w ∷ ps) x h =
     go false true e f i j k l h = rw ((bytes_eq-Decides w (codes "use")).0 j) (fetch_spelled two ps x h)
     go false false true f i j k l h = rw ((bytes_eq-Decides w (codes "enter")).0 k) (enter_spelled two ps x h)
     go false false false true i j k l h = rw ((bytes_eq-Decides w (codes "data")).0 l) (data_spelled two ps x h)
-    go false false false false i j k l h =
-        as_statement two (run w ∷ ps) x (placed_is_spelled two (run w ∷ ps) x h)
+    go false false false false i j k l h = as_statement two _ x (placed_is_spelled two _ x h)
+statement_is_spelled two ps x h = absurd (cc)

@@ -1,30 +1,22 @@
 -- The text of a program says its lines.
-use Rattle.std.proofs.Common.{◌≡◌, ℕ, suc, ◌+◌, ◌<◌, ◌≤◌, Bool, true, false, List, [], ◌∷◌, refl}
-use Rattle.std.proofs.Common.{ap, sym, subst, arith, length, map, codes, get_or}
-use Rattle.std.specs.Prelude.{◌==◌, ◌||◌, ◌&&◌, nat_lt, Option, Some, None, if◌then◌else◌, is_none}
-use Rattle.std.specs.Prelude.{IfErr, IfOk, Result, Ok, Err, Vec}
-use Rattle.std.specs.List.{list_all}
+use Rattle.ed_syntax.proofs.Kit.{[], ap, arith, Bool, codes, Err, false, get_or, IfErr, IfOk, if◌then◌else◌, length}
+use Rattle.ed_syntax.proofs.Kit.{List, map, nat_lt, None, Ok, Option, refl, Result, Some, subst, suc, sym, true, ℕ}
+use Rattle.ed_syntax.proofs.Kit.{◌&&◌, ◌+◌, ◌<◌, ◌==◌, ◌||◌, ◌∷◌, ◌≡◌, ◌≤◌, list_all, and_parts, Decides-eqb}
+use Rattle.ed_syntax.proofs.Kit.{nat_tests, length-map, Text, has_version_place, long_line, has_few_settings}
+use Rattle.ed_syntax.proofs.Kit.{SpellsLine, version, ended, has_end, HasLines, without_return, is_line_byte, run}
+use Rattle.ed_syntax.proofs.Kit.{has_few, AreNumbered, is_line, and_more, IsOfVersion, IsPlain, IsProgram}
+use Rattle.ed_syntax.proofs.Kit.{IsVersionTwo, LineSays, LinesSay, no_more, form_text, line_text, text_of_program}
+use Rattle.ed_syntax.proofs.Kit.{Line, Statement, LongLine}
+use Rattle.std.proofs.Common.{is_none, Vec}
 use Rattle.std.specs.declared.alloc.Global.{Global}
-use Rattle.std.proofs.lemmas.Bool.Decides.{nat_tests, Decides-eqb}
-use Rattle.std.proofs.lemmas.Bool.{and_parts}
-use Rattle.std.proofs.lemmas.List.{length-map}
-use Rattle.ed_words.specs.Texts.{Text}
-use Rattle.ed_syntax.specs.Lines.{HasLines, nothing, ended, has_end, without_return}
-use Rattle.ed_syntax.specs.Parts.{run, is_line_byte}
-use Rattle.ed_syntax.specs.Forms.{SpellsLine, version, has_few_settings}
-use Rattle.ed_syntax.specs.Programs.{AreNumbered, is_line}
-use Rattle.ed_syntax.specs.Sources.{IsPlain, LineSays, IsVersionTwo, IsOfVersion, LinesSay, no_more, and_more}
-use Rattle.ed_syntax.specs.Sources.{IsProgram}
-use Rattle.ed_syntax.specs.declared.program.Line.{Line}
-use Rattle.ed_syntax.specs.declared.program.Statement.{Statement}
+use Rattle.ed_syntax.specs.Answers.{is_bare, HasNoText}
+use Rattle.ed_syntax.specs.Lines.{nothing}
+use Rattle.ed_syntax.specs.Private.LineTexts.{IsTextOfLines, IsLinesFault}
+use Rattle.ed_syntax.specs.declared.writing.fault.WriteFault.{WriteFault}
+use Rattle.ed_syntax.specs.declared.writing.fault.WriteFault.TheVariants.{NoVersionLine}
+use Rattle.ed_syntax.proofs.Fronts.{front_parts}
 use Rattle.ed_syntax.proofs.LineLaws.{one_form}
 use Rattle.ed_syntax.proofs.PartsLaws.{parts_are_read}
-use Rattle.ed_syntax.specs.Written.{form_text, line_text, text_of_program}
-use Rattle.ed_syntax.specs.Answers.{has_version_place, is_bare, long_line, HasNoText}
-use Rattle.ed_syntax.specs.Private.LineTexts.{IsTextOfLines, has_few, IsLinesFault}
-use Rattle.ed_syntax.specs.declared.writing.fault.WriteFault.{WriteFault}
-use Rattle.ed_syntax.specs.declared.writing.fault.WriteFault.TheVariants.{LongLine, Memory, NoVersionLine}
-use Rattle.ed_syntax.proofs.Fronts.{front_parts}
 use Rattle.ed_syntax.proofs.Spelled.{form_spelled, version_front}
 
 -- ---- the bytes of a line
@@ -45,14 +37,14 @@ inside b e = record { no_feed = by_test 10 refl (b == 10) refl; no_return = by_t
 no_end : (line : Text) → list_all is_line_byte line ≡ true → has_end line ≡ false
 no_end [] e = refl
 no_end (b ∷ bs) e =
-    let p = and_parts (is_line_byte b) _ e in
+    let p = and_parts _ _ e in
     let here = (inside b p.0).no_feed in
     rw here (no_end bs p.1)
 
 whole_line : (line : Text) → list_all is_line_byte line ≡ true → without_return line ≡ line
 whole_line [] e = refl
 whole_line (b ∷ []) e =
-    let here = (inside b (and_parts (is_line_byte b) _ e).0).no_return in rw here refl
+    let here = (inside b (and_parts _ _ e).0).no_return in rw here refl
 whole_line (b ∷ c ∷ bs) e = ap (λ (t : Text). b ∷ t) (whole_line (c ∷ bs) (and_parts (is_line_byte b) _ e).1)
 
 -- ---- one line
@@ -100,8 +92,7 @@ line_is two l e few bare = by_version (two && l.number == 1) refl few bare
         → (c ≡ true → is_bare l ≡ true)
         → IsLineText two l.number (if c then codes "version 2" else form_text l.label l.statement)
         l.label l.statement
-    by_version true f g h = subst (λ (k : ℕ). IsLineText two k (codes "version 2") l.label l.statement) (first two f)
-        (version_text two l.label l.statement (h refl))
+    by_version true f g h = rw (← (first two f)) (version_text two l.label l.statement (h refl))
     by_version false f g h =
         let w = form_spelled two l.number l.label l.statement e g in
         record {
@@ -137,8 +128,8 @@ say_themselves : (two : Bool) (k : ℕ) (lines : List Line) → AreNumberedFrom 
 say_themselves two k [] numbered some e f g place = record { has_lines = nothing; says = no_more k }
 say_themselves two k (l ∷ ls) numbered some e f g place =
     let number : l.number ≡ k = omega (arith, numbered 0 l (omega arith)) in
-    let formed = and_parts (is_line two l) _ e in
-    let few = and_parts (has_few two l) _ f in
+    let formed = and_parts _ _ e in
+    let few = and_parts _ _ f in
     let short = short_first two l ls g in
     let here = line_is two l formed.0 few.0
     (λ t. let first = subst (λ (n : ℕ). (two && n == 1) ≡ true) number t in bare two first (place first)) in
@@ -146,15 +137,13 @@ say_themselves two k (l ∷ ls) numbered some e f g place =
     (omega arith) formed.1 few.1 short.1 (λ t. absurd (later two t)) in
     record {
       has_lines = subst (λ (t : Text). HasLines (text_of_program two (l ∷ ls)) (t ∷ map (line_text two) ls))
-          (whole_line (line_text two l) here.bytes)
+          (whole_line _ here.bytes)
           (ended (line_text two l) _ _ (no_end (line_text two l) here.bytes) rest.has_lines);
       says = subst (λ (n : ℕ). LinesSay two k (map (line_text two) (l ∷ ls))
           (record { number = n; label = l.label; statement = l.statement } ∷ ls)) (sym number)
-          (and_more k (line_text two l) _ (record { label = l.label; statement = l.statement }) ls
-          (record {
+          (and_more k (line_text two l) _ (record { label = l.label; statement = l.statement }) ls (record {
             plain = record { bytes = here.bytes; short = short.0 };
-            spells = subst (λ (n : ℕ). SpellsLine two n (line_text two l)
-                (record { label = l.label; statement = l.statement }) true) number here.spells;
+            spells = rw (← number) here.spells;
           }) rest.says);
     }
   where
@@ -179,10 +168,10 @@ no_version : (l : Option Text) (s : Option Statement) → IsPlain (form_text l s
 no_version None None plain spells v = let read = parts_are_read [] _ v.parts in absurd (cc)
 no_version (Some a) s plain spells v =
     let same = one_spelling false 1 _ _ _ _ _ plain.short spells (version_is_empty false _ v) in
-    let label = same.label in absurd (cc)
+    absurd (cc)
 no_version None (Some s) plain spells v =
     let same = one_spelling false 1 _ _ _ _ _ plain.short spells (version_is_empty false _ v) in
-    let said = same.statement in absurd (cc)
+    absurd (cc)
 
 first_says : (two : Bool) (text : Text) (texts : List Text) (l : Line) (ls : List Line)
     → LinesSay two 1 (text ∷ texts) (l ∷ ls) → LineSays two 1 text (record { label = l.label; statement = l.statement })
@@ -196,8 +185,7 @@ version_is false (l ∷ ls) numbered e h =
     let s = first_says false _ _ l ls h in no_version l.label l.statement s.plain s.spells
 version_is true (l ∷ ls) numbered e h =
     let number : l.number ≡ 1 = numbered 0 l (omega arith) in
-    subst (λ (n : ℕ). IsVersionTwo (if n == 1 then codes "version 2" else form_text l.label l.statement)) (sym number)
-    (record { n = codes "2"; number = refl; value_is = refl; parts = front_parts _ _ version_front })
+    rw number (record { n = codes "2"; number = refl; value_is = refl; parts = front_parts _ _ version_front })
 
 -- ---- the program
 
@@ -208,7 +196,7 @@ pub program_says : (two : Bool) (lines : List Line) → AreNumbered lines → le
 program_says two lines numbered size e f place g =
     let from : AreNumberedFrom 1 lines = λ i d lt. omega (arith, numbered i d lt) in
     let s = say_themselves two 1 lines from (omega arith) e f g (λ t. place) in
-    let same : length (map (line_text two) lines) ≡ length lines = length-map lines (line_text two) in
+    let same : length (map (line_text two) lines) ≡ length lines = length-map lines _ in
     record {
       lines = map (line_text two) lines;
       has_lines = s.has_lines;
@@ -233,7 +221,7 @@ unsaid two lines e text p = by_lines two p.lines lines e p.version p.says
     by_lines true (line ∷ texts) (l ∷ ls) f v h =
         let s = first_says true line texts l ls h in
         let same = one_spelling true 1 line _ _ _ _ s.plain.short s.spells (version_is_empty true line v) in
-        let here = bare l same in absurd (cc)
+        absurd (cc)
 
 -- lines without a line for `version 2` are the only ones that no text says
 pub fault_says : (two : Bool) (lines : List Line) (e : WriteFault) → IsLinesFault two lines e → HasNoText two lines e
@@ -247,8 +235,7 @@ fault_says two lines NoVersionLine h = absurd (none lines h)
             → (long_line two ls ≡ Some NoVersionLine → ⊥) → ⊥
         by_test true g more = absurd (cc)
         by_test false g more = more g
-fault_says two lines (LongLine k) h = tt
-fault_says two lines Memory h = tt
+fault_says two lines e h = tt
 
 -- what was written says the program's lines
 pub written_says : (two : Bool) (seen lines : List Line) (r : Result (Vec ℕ Global) WriteFault) → seen ≡ lines
@@ -259,12 +246,10 @@ written_says two seen lines (Err e) same numbered size formed place w few = tt
 written_says two seen lines (Ok text) same numbered size formed place w few =
     let all = subst (λ (ls : List Line). list_all (has_few two) ls ≡ true) same few in
     let here = subst (λ (ls : List Line). IsTextOfLines two ls text.items) same w in
-    subst (λ (t : Text). IsProgram t two lines) (sym here.is)
-    (program_says two lines numbered size formed all place here.none_long)
+    rw here.is (program_says two lines numbered size formed all place here.none_long)
 
 -- what was not written
-pub unwritten : (two : Bool) (seen lines : List Line) (r : Result (Vec ℕ Global) WriteFault) → seen ≡ lines
+pub IfErr-unwritten : (two : Bool) (seen lines : List Line) (r : Result (Vec ℕ Global) WriteFault) → seen ≡ lines
     → IfErr r (λ e. IsLinesFault two seen e) → IfErr r (λ e. HasNoText two lines e)
-unwritten two seen lines (Ok text) same h = tt
-unwritten two seen lines (Err e) same h =
-    fault_says two lines e (subst (λ (ls : List Line). IsLinesFault two ls e) same h)
+IfErr-unwritten two seen lines (Ok text) same h = tt
+IfErr-unwritten two seen lines (Err e) same h = fault_says two lines e (rw (← same) h)

@@ -1,14 +1,12 @@
 -- Runs over devices whose calls never fail.
-use Rattle.ed_sources.proofs.Kit.{false, if◌then◌else◌}
-use Rattle.ed_top.proofs.Kit.{◌≡◌, ℕ, Bool, [], ◌≢◌, ◌⊎◌, Some, None, sym, refl, subst, inl, inr, arith, Text, known}
-use Rattle.ed_top.proofs.Kit.{of_input, of_made, Answer, Outcome, ProgramEnded}
-use Rattle.ed_io.specs.Bytes.{Gains}
-use Rattle.ed_io.specs.Causes.{next_count}
+use Rattle.ed_top.proofs.Kit.{next_count, Answer, known, of_input, of_made, [], arith, Bool, false, inl, inr, None}
+use Rattle.ed_top.proofs.Kit.{refl, Some, subst, sym, ℕ, ◌≡◌, ◌≢◌, ◌⊎◌, Text, Outcome, Gains, ForDue, ProgramEnded}
+use Rattle.ed_top.proofs.Kit.{output}
+use Rattle.std.proofs.Common.{if◌then◌else◌}
 use Rattle.ed_io.specs.Memory.{Roll}
 use Rattle.ed_answers.specs.Answer.{IsDue}
-use Rattle.ed_top.specs.Clause.{BrokeNote, BrokeOut, ForDue}
+use Rattle.ed_top.specs.Clause.{NoteFailed, OutFailed}
 use Rattle.ed_top.specs.Complete.{EachRunIsComplete, IsWhole, sure_sink, sure_source}
-use Rattle.ed_top.specs.Output.{output}
 use Rattle.ed_top.proofs.Endings.{due_told}
 
 -- no call fails of a device that counts none
@@ -48,8 +46,8 @@ module _ (answer : Answer) (input left : Text) (out_room note_room : ℕ) (out n
   not_written : status ≢ 9
   not_written is = by_sink (e.written is)
     where
-      by_sink : BrokeOut answer (sure_source input left) (sure_sink out_room out) (sure_sink note_room note)
-          ⊎ BrokeNote answer (sure_source input left) (sure_sink out_room out) (sure_sink note_room note) → ⊥
+      by_sink : OutFailed answer (sure_source input left) (sure_sink out_room out) (sure_sink note_room note)
+          ⊎ NoteFailed answer (sure_source input left) (sure_sink out_room out) (sure_sink note_room note) → ⊥
       by_sink (inl b) = no_fault b.failed
       by_sink (inr b) = no_fault b.failed
 

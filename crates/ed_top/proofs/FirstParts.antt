@@ -1,5 +1,5 @@
 -- The empty text is a prefix of any text.
-use Rattle.ed_sources.proofs.Kit.{[], refl, Text}
+use Rattle.ed_syntax.proofs.Kit.{[], refl, Text}
 use Rattle.ed_top.specs.Clause.{Device, Wrote, WrotePart}
 
 pub none_written : (d : Device) (text : Text) → Wrote d [] → WrotePart d text

@@ -1,15 +1,13 @@
 -- Each list of rows has one outcome as a tape in parts, and what was written on the way is a part of it.
-use Rattle.ed_top.proofs.Kit.{◌≡◌, ℕ, [], List, Ok, sym, refl, ap, ◌∙◌, subst, append-nil, State, Err, Settings, Failed}
-use Rattle.ed_top.proofs.Kit.{WriteStop, Memory, of_input, Answer, ForInput, Device, Wrote, WrotePart, IsInParts}
-use Rattle.ed_top.proofs.Kit.{none_written}
+use Rattle.ed_top.proofs.Kit.{Settings, stop_faults, WriteStop, Failed, Memory, Answer, of_input, ForInput, [], ap}
+use Rattle.ed_top.proofs.Kit.{append-nil, Err, List, Ok, refl, subst, sym, ℕ, ◌∙◌, ◌≡◌, State, Device, Wrote}
+use Rattle.ed_top.proofs.Kit.{WrotePart, IsInParts, Carried, WritesNote, none_written}
 use Rattle.ed_initial.specs.Entry.{first_state}
+use Rattle.ed_answers.proofs.Replies.{HasOne}
 use Rattle.ed_interlude.specs.Parts.{PartsAnswer, IsReportOfTape, PartsReport}
 use Rattle.ed_interlude.specs.declared.tape.PartsEnd.{PartsEnd}
-use Rattle.ed_io.specs.Causes.{stop_faults}
 use Rattle.ed_interlude.proofs.Tales.{each_told_once}
 use Rattle.ed_top.specs.Parts.{end_note, end_status, report_outcome}
-use Rattle.ed_top.specs.Private.Stages.{Carried, IsToTell}
-use Rattle.ed_answers.proofs.Replies.{HasOne}
 
 pub parts_one : (s : Settings) → HasOne (IsInParts s)
 parts_one s = record {
@@ -30,7 +28,7 @@ module _ (s : Settings) (codes : List ℕ) {start : State} (is : start ≡ first
   pub parts_told : {end : PartsEnd} {last : State} {note : List ℕ} {status : ℕ}
       → PartsAnswer s.limit start (Ok end) last out.before out.after
       → note ≡ end_note end last → status ≡ end_status end
-      → ForInput (of_input (λ _. IsInParts s codes)) [] (IsToTell out note status)
+      → ForInput (of_input (λ _. IsInParts s codes)) [] (WritesNote out note status)
   parts_told a note_is status_is = (
     report_outcome a.0,
     due a.0 a.1,

@@ -1,26 +1,40 @@
--- The names that the proofs of a call cite, passed on from one place. Declares nothing.
-pub use Rattle.ed_sources.proofs.Kit.{◌≡◌, ℕ, ◌+◌, ◌<◌, ◌≤◌, Bool, true, [], ◌≢◌, ◌⊎◌, List, ◌++◌, length, Some, None}
-pub use Rattle.ed_sources.proofs.Kit.{Ok, Option, sym, refl, ap, ◌∙◌, subst, inl, inr, append-nil, arith, Text, State}
-pub use Rattle.ed_sources.proofs.Kit.{run_outcome}
-pub use Rattle.std.proofs.Common.{Err, Result, Vec, rules}
+-- The names that the proofs of this crate cite, passed on from one place. Declares nothing.
+pub use Rattle.std.proofs.Common.{Vec}
 pub use Rattle.std.specs.declared.alloc.Global.{Global}
-pub use Rattle.std.proofs.lemmas.Result.{err_from_is_err_and}
 pub use Rattle.ed_run.specs.declared.settings.Settings.{Settings}
+pub use Rattle.ed_syntax.proofs.SourceLaws.{one_lines}
 pub use Rattle.ed_io.specs.Bytes.{Loses}
+pub use Rattle.ed_io.specs.Causes.{next_count, stop_faults}
 pub use Rattle.ed_io.specs.declared.stop.WriteStop.{WriteStop}
 pub use Rattle.ed_io.specs.declared.stop.WriteStop.TheVariants.{Failed, Memory}
 pub use Rattle.ed_io.proofs.Calls.{gains_none}
-pub use Rattle.ed_answers.specs.Answer.{known, of_input, of_made, of_rows, Answer}
-pub use Rattle.ed_answers.specs.Outcome.{refusal, Outcome}
-pub use Rattle.ed_answers.specs.Replies.{ForInput, Gives, Replies}
-pub use Rattle.ed_answers.specs.Sources.{OfSource}
+pub use Rattle.ed_report.specs.Notes.{no_text_line}
+pub use Rattle.ed_answers.specs.Answer.{Answer, HasOneOutcome, known, of_input, of_made}
+pub use Rattle.ed_answers.specs.Outcome.{usage_outcome}
+pub use Rattle.ed_answers.specs.Replies.{ForInput}
 pub use Rattle.ed_answers.specs.declared.input.TheConstants.{INPUT_BYTES}
 pub use Rattle.ed_answers.specs.declared.reply.Rejection.{Rejection}
+pub use Rattle.ed_answers.specs.declared.reply.Rejection.TheVariants.{Refused}
 pub use Rattle.ed_answers.specs.declared.reply.Reply.{Reply}
+pub use Rattle.ed_answers.proofs.Kit.{[], ap, append-nil, arith, Bool, drop, Err, false, IfOk, inl, inr, IsErr}
+pub use Rattle.ed_answers.proofs.Kit.{IsErrAnd, length, List, None, Ok, Option, refl, Result, rules, Some, subst, sym}
+pub use Rattle.ed_answers.proofs.Kit.{true, ℕ, ◌++◌, ◌+◌, ◌<◌, ◌∙◌, ◌≡◌, ◌≢◌, ◌≤◌, ◌⊎◌, Text, Reading, reading, rows}
+pub use Rattle.ed_answers.proofs.Kit.{State, tape, exactly, of_rows, done, Outcome, refusal, Gives, Replies, OfSource}
+pub use Rattle.ed_answers.proofs.Kit.{run_outcome}
+pub use Rattle.ed_answers.proofs.Replies.{exactly_one, Replies-rejected}
 pub use Rattle.ed_answers.proofs.Sources.{some_outcome}
-pub use Rattle.ed_stepper.specs.Inputs.{Input}
-pub use Rattle.ed_top.specs.Clause.{device, Device, ProgramEnded, Wrote, WrotePart}
-pub use Rattle.ed_top.specs.Output.{answer}
+pub use Rattle.ed_stepper.specs.Inputs.{IsDivided}
+pub use Rattle.ed_stepper.specs.ScriptLines.{CommandList, IsFirstBadLine}
+pub use Rattle.ed_stepper.specs.declared.inputs.TextKind.{TextKind}
+pub use Rattle.ed_stepper.proofs.Kit.{length-append, err_from_is_err_and, Gains, Input, IsScript, play, Stand}
+pub use Rattle.ed_sources.specs.CallSources.{call_text}
+unfoldable pub use Rattle.ed_sources.specs.DemoSources.{demo_text}
+pub use Rattle.ed_top.specs.Clause.{device, Device, ForDue, ProgramEnded, WritesLastLine, Wrote, WrotePart}
+pub use Rattle.ed_top.specs.Output.{answer, output}
 pub use Rattle.ed_top.specs.Parts.{IsInParts}
-pub use Rattle.ed_top.specs.Scripts.{on_rows, OfStep, OnInput, OnText}
+pub use Rattle.ed_top.specs.Private.Stages.{Carried, HasInput, WritesNote}
+pub use Rattle.ed_top.specs.Scripts.{on_rows, OnInput, OnText, played_outcome, StepOutcome}
+pub use Rattle.ed_top.specs.Traces.{trace_outcome, traced_from}
+pub use Rattle.ed_top.specs.declared.devices.InputStop.{InputStop}
+pub use Rattle.ed_top.specs.declared.devices.Rest.{Rest}
 pub use Rattle.ed_top.proofs.FirstParts.{none_written}

@@ -1,13 +1,13 @@
 -- Replies with an outcome that is stated: from one of an input and back, and that no memory was found, passed on by
 -- `?`.
-use Rattle.ed_top.proofs.Kit.{◌≡◌, ℕ, [], Ok, sym, refl, subst, Text, run_outcome, Err, Result, Vec, Global, Settings}
-use Rattle.ed_top.proofs.Kit.{of_input, of_made, refusal, Outcome, Gives, Replies, OfSource, Rejection, Reply}
-use Rattle.std.specs.Prelude.{IfOk, IsErr, IsErrAnd}
+use Rattle.ed_top.proofs.Kit.{Vec, Global, Settings, of_input, of_made, Rejection, Refused, Reply, [], Err, IfOk}
+use Rattle.ed_top.proofs.Kit.{IsErr, IsErrAnd, Ok, refl, Result, subst, sym, ℕ, ◌≡◌, Text, Outcome, refusal, Gives}
+use Rattle.ed_top.proofs.Kit.{Replies, OfSource, run_outcome}
 use Rattle.ed_words.specs.declared.memory.NoMemory.{NoMemory}
-use Rattle.ed_answers.specs.Sources.{of_source}
-use Rattle.ed_top.specs.Calls.{of_made_source}
 use Rattle.ed_answers.specs.Replies.{Refuses}
-use Rattle.ed_answers.specs.declared.reply.Rejection.TheVariants.{Memory, Refused}
+use Rattle.ed_answers.specs.Sources.{of_source}
+use Rattle.ed_answers.specs.declared.reply.Rejection.TheVariants.{Memory}
+use Rattle.ed_top.specs.Calls.{of_made_source}
 
 -- if no memory is found for a reply, there is an outcome all the same
 pub none_replied : (answers : Outcome → Type 0) (r : Result Reply Rejection)
@@ -40,12 +40,6 @@ pub as_made : (answers : Text → Outcome → Type 0) (input : Text) (r : Result
 as_made answers input (Ok reply) replies = replies
 as_made answers input (Err (Refused reply)) replies = replies
 as_made answers input (Err Memory) replies = replies
-
-pub as_input : (answers : Text → Outcome → Type 0) (input : Text) (r : Result Reply Rejection)
-    → Replies (of_made (answers input)) [] r → Replies (of_input answers) input r
-as_input answers input (Ok reply) replies = replies
-as_input answers input (Err (Refused reply)) replies = replies
-as_input answers input (Err Memory) replies = replies
 
 -- a reply to a source that was made is its answer
 pub made_replied : (s : Settings) (text input : Text) (r : Result Reply Rejection) → input ≡ text

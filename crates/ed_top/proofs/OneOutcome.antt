@@ -1,34 +1,25 @@
 -- For all words, each input has exactly one outcome.
-use Rattle.ed_sources.proofs.Kit.{call_text, demo_text}
-use Rattle.ed_top.proofs.Kit.{◌≡◌, ℕ, ◌+◌, ◌⊎◌, List, length, Some, None, sym, refl, ap, ◌∙◌, subst, inl, inr, Text}
-use Rattle.ed_top.proofs.Kit.{run_outcome, Settings, of_input, refusal, Outcome, some_outcome, Input, answer, on_rows}
-use Rattle.ed_top.proofs.Kit.{OfStep, OnInput, OnText}
-use Rattle.ed_report.specs.Catalogue.{library_text}
-use Rattle.ed_report.specs.Notes.{bad_command_line, no_text_line}
+use Rattle.ed_top.proofs.Kit.{Settings, one_lines, no_text_line, HasOneOutcome, of_input, usage_outcome, ap, inl, inr}
+use Rattle.ed_top.proofs.Kit.{length, List, None, refl, Some, subst, sym, ℕ, ◌+◌, ◌∙◌, ◌≡◌, ◌⊎◌, Text, tape, done}
+use Rattle.ed_top.proofs.Kit.{Outcome, refusal, run_outcome, exactly_one, some_outcome, IsDivided, CommandList}
+use Rattle.ed_top.proofs.Kit.{IsFirstBadLine, TextKind, Input, IsScript, call_text, demo_text, answer, on_rows}
+use Rattle.ed_top.proofs.Kit.{OnInput, OnText, StepOutcome, trace_outcome}
+use Rattle.ed_answers.proofs.Kit.{tape1_outcome, listing_outcome, punch_outcome, tape_outcome}
 use Rattle.ed_command.specs.declared.command.Action.{Action}
 use Rattle.ed_command.specs.declared.command.Action.TheVariants.{Tape, CheckTape, Run, Punch, Listing, Library, Demo}
 use Rattle.ed_command.specs.declared.command.Action.TheVariants.{Call as CallOf, Tape1, CheckTape1, Step, Trace, Parts}
-use Rattle.ed_answers.specs.Outcome.{done, usage_outcome}
-use Rattle.ed_answers.specs.Answer.{HasOneOutcome}
-use Rattle.ed_answers.specs.FirstOrders.{tape1_outcome}
-use Rattle.ed_top.specs.Output.{EachLineHasOneOutcome}
-use Rattle.ed_answers.specs.Tapes.{tape_outcome}
-use Rattle.ed_answers.specs.Sources.{listing_outcome, punch_outcome}
-use Rattle.ed_syntax.proofs.SourceLaws.{one_lines}
-use Rattle.ed_stepper.specs.Inputs.{IsDivided, IsUndivided}
-use Rattle.ed_stepper.proofs.InputLaws.{one_input}
-use Rattle.ed_stepper.specs.ScriptLines.{CommandList, IsFirstBadLine, IsScript}
-use Rattle.ed_stepper.proofs.ScriptLaws.{one_meaning}
-use Rattle.ed_stepper.specs.declared.inputs.TextKind.{TextKind}
-use Rattle.ed_stepper.specs.declared.inputs.TextKind.TheVariants as kinds
-use Rattle.ed_link.specs.Tapes.{tape}
-use Rattle.ed_answers.proofs.Sources.{source_outcome}
-use Rattle.ed_top.specs.Traces.{trace_outcome}
-use Rattle.ed_answers.proofs.Replies.{exactly_one}
+use Rattle.ed_report.specs.Catalogue.{library_text}
+use Rattle.ed_report.specs.Notes.{bad_command_line}
 use Rattle.ed_answers.proofs.Checks.{checked_one}
 use Rattle.ed_answers.proofs.FirstChecks.{checked1_one}
-use Rattle.ed_top.proofs.InParts.{parts_one}
 use Rattle.ed_answers.proofs.OneOutcome.{known_once, made_once, rows_once, some_within, source_once, within_once}
+use Rattle.ed_answers.proofs.Sources.{source_outcome}
+use Rattle.ed_stepper.specs.Inputs.{IsUndivided}
+use Rattle.ed_stepper.proofs.InputLaws.{one_input}
+use Rattle.ed_stepper.proofs.ScriptLaws.{one_meaning}
+use Rattle.ed_top.specs.Output.{EachLineHasOneOutcome}
+use Rattle.ed_top.proofs.InParts.{parts_one}
+use Rattle.ed_stepper.specs.declared.inputs.TextKind.TheVariants as kinds
 
 -- ---- a script and what follows it
 
@@ -60,15 +51,16 @@ input_same s i o other (inr a) (inr b) =
     let same = one_meaning.one_script i.script a.0 b.0 a.1 b.1 in
     text_same s b.0 i.kind i.text o other (subst (λ cs. OnText s cs i.kind i.text o) same a.2) b.2
 
-step_some : (s : Settings) (input : Text) → (o : Outcome) × OfStep s input o
+step_some : (s : Settings) (input : Text) → (o : Outcome) × StepOutcome s input o
 step_some s input = by_division (one_input.every input)
   where
     by_division : ((lines : List Text) × IsUndivided input lines) ⊎ ((i : Input) × IsDivided input i)
-        → (o : Outcome) × OfStep s input o
+        → (o : Outcome) × StepOutcome s input o
     by_division (inl u) = (_, inl (u.0, u.1, refl))
     by_division (inr d) = let o = input_some s d.0 in (o.0, inr (d.0, d.1, o.1))
 
-step_same : (s : Settings) (input : Text) (o other : Outcome) → OfStep s input o → OfStep s input other → o ≡ other
+step_same : (s : Settings) (input : Text) (o other : Outcome) → StepOutcome s input o
+    → StepOutcome s input other → o ≡ other
 step_same s input o other (inl a) (inl b) =
     sym a.2 ∙ ap (λ (lines : List Text). refusal (no_text_line (length lines + 1)))
     (one_lines a.1.has_lines b.1.has_lines)
@@ -79,10 +71,10 @@ step_same s input o other (inr a) (inr b) =
     let same = one_input.one_division input a.0 b.0 a.1 b.1 in
     input_same s b.0 o other (subst (λ i. OnInput s i o) same a.2) b.2
 
-step_once : (s : Settings) → HasOneOutcome (of_input (OfStep s))
+step_once : (s : Settings) → HasOneOutcome (of_input (StepOutcome s))
 step_once s = record {
-  some = λ input. let o = step_some s input in some_within (OfStep s) input o.0 o.1;
-  once = λ input o other. within_once (OfStep s) input o other (step_same s input o other);
+  some = λ input. let o = step_some s input in some_within (StepOutcome s) input o.0 o.1;
+  once = λ input o other. within_once (StepOutcome s) input o other (step_same s input o other);
 }
 
 -- ---- every line of words

@@ -1,32 +1,28 @@
 -- From the rows of a text and the reply to a script to the outcome of an input.
-use Rattle.ed_sources.proofs.Kit.{Line}
-use Rattle.ed_top.proofs.Kit.{◌≡◌, ℕ, [], List, ◌++◌, None, Ok, sym, refl, ap, ◌∙◌, subst, inr, Text, Err, Result, Vec}
-use Rattle.ed_top.proofs.Kit.{Global, Settings, of_input, of_made, refusal, Outcome, Gives, Replies, OfSource, Reply}
-use Rattle.ed_top.proofs.Kit.{Rejection, Input, on_rows, OfStep, OnInput, OnText}
-use Rattle.std.specs.Prelude.{IsErr, IsErrAnd, MatchResult}
-use Rattle.ed_codes.specs.Reading.{Reading, rows, no_row, open_comment, reading}
-use Rattle.ed_stepper.specs.Inputs.{IsDivided}
-use Rattle.ed_stepper.specs.ScriptLines.{CommandList, HasBadLine, IsFirstBadLine, IsScript, OfScript}
-use Rattle.ed_stepper.specs.Scripts.{GoesTooFar, ScriptEnds, play}
-use Rattle.ed_stepper.specs.declared.script.ScriptFault.{ScriptFault}
-use Rattle.ed_stepper.specs.declared.script.ScriptFault.TheVariants.{BackTooFar, BadCommand}
-use Rattle.ed_stepper.specs.Sessions.{Stand}
-use Rattle.ed_stepper.proofs.ScriptLaws.{never_both, one_script}
-use Rattle.ed_report.specs.Notes.{too_far_line}
-use Rattle.ed_answers.specs.Outcome.{done}
+use Rattle.ed_top.proofs.Kit.{Vec, Global, Settings, of_input, of_made, Rejection, Refused, Reply, [], ap, Err, inr}
+use Rattle.ed_top.proofs.Kit.{IsErr, IsErrAnd, List, None, Ok, refl, Result, subst, sym, ℕ, ◌++◌, ◌∙◌, ◌≡◌, Text}
+use Rattle.ed_top.proofs.Kit.{Reading, reading, rows, tape, done, Outcome, refusal, Gives, Replies, OfSource}
+use Rattle.ed_top.proofs.Kit.{IsDivided, CommandList, IsFirstBadLine, TextKind, Input, IsScript, play, Stand, on_rows}
+use Rattle.ed_top.proofs.Kit.{OnInput, OnText, played_outcome, StepOutcome}
+use Rattle.std.proofs.Common.{MatchResult}
 use Rattle.std.specs.List.{flat_map}
+use Rattle.ed_codes.specs.Reading.{no_row, open_comment}
 use Rattle.ed_notation.specs.Spellings.{item_rows}
-use Rattle.ed_stepper.specs.declared.inputs.TextKind.{TextKind}
-use Rattle.ed_stepper.specs.declared.inputs.TextKind.TheVariants as kinds
-use Rattle.ed_link.specs.Tapes.{tape}
+use Rattle.ed_syntax.specs.declared.program.Line.{Line}
 use Rattle.ed_link.specs.declared.linked.Linked.{Linked}
-use Rattle.ed_top.specs.Scripts.{on_reading, played_outcome, script_outcome}
+use Rattle.ed_report.specs.Notes.{too_far_line}
 use Rattle.ed_answers.specs.Replies.{LinksSource, RefusesText}
 use Rattle.ed_answers.proofs.Sources.{source_refused, source_unanswered}
-use Rattle.ed_answers.specs.declared.reply.Rejection.TheVariants as rejection
-use Rattle.ed_answers.specs.declared.reply.Rejection.TheVariants.{Refused}
+use Rattle.ed_stepper.specs.ScriptLines.{HasBadLine, OfScript}
+use Rattle.ed_stepper.specs.Scripts.{GoesTooFar, ScriptEnds}
+use Rattle.ed_stepper.specs.declared.script.ScriptFault.{ScriptFault}
+use Rattle.ed_stepper.specs.declared.script.ScriptFault.TheVariants.{BackTooFar, BadCommand}
+use Rattle.ed_stepper.proofs.ScriptLaws.{never_both, one_script}
 use Rattle.ed_top.specs.Private.Stages.{HasRows}
+use Rattle.ed_top.specs.Scripts.{on_reading, script_outcome}
 use Rattle.ed_top.proofs.Made.{as_made}
+use Rattle.ed_stepper.specs.declared.inputs.TextKind.TheVariants as kinds
+use Rattle.ed_answers.specs.declared.reply.Rejection.TheVariants as rejection
 
 -- a tape's text that is refused
 pub text_refused : (s : Settings) (commands : CommandList) (r : Reading) (e : Rejection) → RefusesText r e
@@ -38,7 +34,7 @@ text_refused s commands r rejection.Memory w = (on_reading s commands r, refl, t
 
 -- an input that is divided this way
 pub divided_replied : (s : Settings) (input : Text) (i : Input) (r : Result Reply Rejection) → IsDivided input i
-    → Replies (of_made (OnInput s i)) [] r → Replies (of_input (OfStep s)) input r
+    → Replies (of_made (OnInput s i)) [] r → Replies (of_input (StepOutcome s)) input r
 divided_replied s input i (Ok reply) is x = (x.0, inr (i, is, x.1), x.2)
 divided_replied s input i (Err (Refused reply)) is x = (x.0, inr (i, is, x.1), x.2)
 divided_replied s input i (Err rejection.Memory) is x = (x.0, inr (i, is, x.1), x.2)
@@ -55,7 +51,7 @@ after_script s i (Err rejection.Memory) commands is x = (x.0, inr (commands, is,
 pub text_replied : (s : Settings) (input : Text) (i : Input) (r : Result Reply Rejection) → IsDivided input i
     → HasBadLine i.script None
     → ((commands : CommandList) → IsScript i.script commands → Replies (of_made (OnText s commands i.kind i.text)) [] r)
-    → Replies (of_input (OfStep s)) input r
+    → Replies (of_input (StepOutcome s)) input r
 text_replied s input i r is good replies =
     divided_replied s input i r is (after_script s i r good.0 good.1 (replies good.0 good.1))
 

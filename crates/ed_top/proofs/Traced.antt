@@ -1,12 +1,9 @@
 -- What is on `out` of a trace that is not told whole.
-use Rattle.ed_top.proofs.Kit.{◌≡◌, ℕ, [], List, Ok, Option, sym, subst, append-nil, State, Err, Settings, WriteStop}
-use Rattle.ed_top.proofs.Kit.{Failed, Memory, gains_none, known, Device, WrotePart, none_written}
-use Rattle.ed_io.specs.Bytes.{Gains}
-use Rattle.ed_io.specs.Causes.{stop_faults}
+use Rattle.ed_top.proofs.Kit.{Settings, stop_faults, WriteStop, Failed, Memory, gains_none, known, [], append-nil, Err}
+use Rattle.ed_top.proofs.Kit.{List, Ok, Option, subst, sym, ℕ, ◌≡◌, State, Gains, Device, WrotePart, Carried}
+use Rattle.ed_top.proofs.Kit.{traced_from, none_written}
 use Rattle.ed_machine.specs.declared.ending.Ending.{Ending}
 use Rattle.ed_stepper.specs.Traces.{TraceEnds, trace_of}
-use Rattle.ed_top.specs.Traces.{traced_from}
-use Rattle.ed_top.specs.Private.Stages.{Carried}
 
 module _ (s : Settings) (start : State) (out : Device) where
   -- a fault stops the command

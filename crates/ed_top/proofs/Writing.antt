@@ -1,12 +1,11 @@
 -- From what a command wrote on `out` to the outcome of a tape's text.
-use Rattle.ed_top.proofs.Kit.{◌≡◌, ℕ, ◌<◌, [], List, Ok, sym, refl, ap, ◌∙◌, subst, Text, Err, Result, WriteStop, known}
-use Rattle.ed_top.proofs.Kit.{Failed, Memory, of_input, of_made, of_rows, Answer, Outcome, ForInput, Gives, Replies}
-use Rattle.ed_top.proofs.Kit.{Rejection, Reply, Device, Wrote, WrotePart, none_written}
-use Rattle.ed_codes.specs.Reading.{Reading, rows, reading}
-use Rattle.ed_answers.specs.Answer.{OfReading, exactly}
-use Rattle.ed_top.specs.Private.Stages.{Carried, WritesReply, WritesText}
+use Rattle.ed_top.proofs.Kit.{WriteStop, Failed, Memory, Answer, known, of_input, of_made, ForInput, Rejection, Reply}
+use Rattle.ed_top.proofs.Kit.{[], ap, Err, List, Ok, refl, Result, subst, sym, ℕ, ◌<◌, ◌∙◌, ◌≡◌, Text, Reading}
+use Rattle.ed_top.proofs.Kit.{reading, rows, exactly, of_rows, Outcome, Gives, Replies, Device, Wrote, WrotePart}
+use Rattle.ed_top.proofs.Kit.{Carried, Rest, none_written}
+use Rattle.ed_answers.specs.Answer.{OfReading}
+use Rattle.ed_top.specs.Private.Stages.{WritesReply, WritesText}
 use Rattle.ed_answers.specs.declared.reply.Rejection.TheVariants as rejection
-use Rattle.ed_top.specs.declared.devices.Rest.{Rest}
 
 for_more : (answer : Answer) (input : Text) (P Q : Outcome → Type 0) → ((o : Outcome) → P o → Q o) → ForInput answer
     input P → ForInput answer input Q
@@ -48,10 +47,10 @@ reply_carried answer input (Err rejection.Memory) out (Err Memory) replies w =
     (w.1, for_more answer input _ _ (λ o u. none_written out o.out w.0) replies)
 
 -- of a command with this answer
-pub written : {answer due : Answer} (input : Text) (reply : Result Reply Rejection) (out : Device)
+pub Carried-written : {answer due : Answer} (input : Text) (reply : Result Reply Rejection) (out : Device)
     (r : Result Rest WriteStop) → answer ≡ due → Replies due input reply → WritesReply reply out r
     → Carried answer input out r
-written {due} input reply out r is replies w =
+Carried-written {due} input reply out r is replies w =
     subst (λ (a : Answer). Carried a input out r) (sym is) (reply_carried due input reply out r replies w)
 
 -- a reply with an outcome that the input doesn't change

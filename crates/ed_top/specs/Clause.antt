@@ -78,7 +78,7 @@ pub record WritesLastLine (note : Device) (line : Text) (wanted status : ℕ) : 
   pub part : status ≡ 9 → FailedOnce note × WrotePart note line
 
 -- one write on `out` failed, no other call did, and nothing was written on `note`
-pub record BrokeOut (answer : Answer) (source out note : Device) : Type 0 where
+pub record OutFailed (answer : Answer) (source out note : Device) : Type 0 where
   pub failed : FailedOnce out
   pub source_fine : NeverFailed source
   pub note_fine : NeverFailed note
@@ -87,17 +87,17 @@ pub record BrokeOut (answer : Answer) (source out note : Device) : Type 0 where
 
 -- what is on `out` before a line on `note`, and which line that is: all that is due, and its line; nothing, and the
 -- line of a read that failed; or a part of what is due, and the line of no memory
-abbrev pub NoteBroke : Answer → Device → Device → Device → Type 0
-NoteBroke answer source out note =
+abbrev pub OutBeforeNote : Answer → Device → Device → Device → Type 0
+OutBeforeNote answer source out note =
     (NeverFailed source × ForDue answer source (λ o. Wrote out o.out × WrotePart note o.note))
     ⊎ (((reads_input answer ≡ true) × FailedOnce source × Wrote out [] × WrotePart note read_fault)
     ⊎ (NeverFailed source × WrotePartDue answer source out × WrotePart note no_memory))
 
 -- one write on `note` failed, and none on `out`
-pub record BrokeNote (answer : Answer) (source out note : Device) : Type 0 where
+pub record NoteFailed (answer : Answer) (source out note : Device) : Type 0 where
   pub failed : FailedOnce note
   pub out_fine : NeverFailed out
-  pub part : NoteBroke answer source out note
+  pub part : OutBeforeNote answer source out note
 
 -- a program with this answer ended with this status
 pub record ProgramEnded (answer : Answer) (source out note : Device) (status : ℕ) : Type 0 where
@@ -109,7 +109,7 @@ pub record ProgramEnded (answer : Answer) (source out note : Device) (status : �
   pub read : status ≡ 8 → (reads_input answer ≡ true) × FailedOnce source × NeverFailed out × NeverFailed note
       × Wrote out [] × Wrote note read_fault
   -- 9: one write failed, on one of the two sinks
-  pub written : status ≡ 9 → BrokeOut answer source out note ⊎ BrokeNote answer source out note
+  pub written : status ≡ 9 → OutFailed answer source out note ⊎ NoteFailed answer source out note
   -- 10: no memory was found and no call failed; a part of what is due is on `out`, and the line of no memory on `note`
   pub memory : status ≡ 10
       → NoneFailed source out note × WrotePartDue answer source out × Wrote note no_memory

@@ -14,7 +14,7 @@ use Rattle.ed_answers.specs.Tapes.{check_tape_answer, tape_answer}
 use Rattle.ed_top.specs.Calls.{call_answer}
 use Rattle.ed_top.specs.Demos.{demo_answer}
 use Rattle.ed_top.specs.Parts.{IsInParts}
-use Rattle.ed_top.specs.Scripts.{OfStep}
+use Rattle.ed_top.specs.Scripts.{StepOutcome}
 use Rattle.ed_top.specs.Traces.{trace_outcome}
 
 -- the answer of each command
@@ -29,7 +29,7 @@ answer Library s = known (done library_text)
 answer (Demo n) s = demo_answer n s
 answer Tape1 s = tape1_answer s
 answer CheckTape1 s = check_tape1_answer
-answer Step s = of_input (OfStep s)
+answer Step s = of_input (StepOutcome s)
 answer Trace s = of_rows (exactly (trace_outcome s))
 answer Parts s = of_rows (IsInParts s)
 

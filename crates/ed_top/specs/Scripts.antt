@@ -55,5 +55,5 @@ OfUndivided input o =
     (lines : List Text) × IsUndivided input lines × (refusal (no_text_line (length lines + 1)) ≡ o)
 
 -- `step`
-abbrev pub OfStep : Settings → Text → Outcome → Type 0
-OfStep s input o = OfUndivided input o ⊎ ((i : Input) × IsDivided input i × OnInput s i o)
+abbrev pub StepOutcome : Settings → Text → Outcome → Type 0
+StepOutcome s input o = OfUndivided input o ⊎ ((i : Input) × IsDivided input i × OnInput s i o)

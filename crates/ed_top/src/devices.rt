@@ -101,7 +101,7 @@ pub fn write<K: Sink>(out: &mut K, reply: Result<Reply, Rejection>) -> Result<Re
 }
 
 /// Writes a line on `note` and answers the status; or 9, if the write fails.
-pub fn tell<L: Sink>(note: &mut L, line: &[u8], status: u8) -> u8
+pub fn write_note<L: Sink>(note: &mut L, line: &[u8], status: u8) -> u8
     requires { status ≢ 9 }
     ensures { WritesLastLine (device L.held L.faults note.old note.new) line.now status result }
 {

@@ -9,7 +9,7 @@ ghost use Rattle.ed_sources.specs.CallRuns.{EachCallRuns};
 ghost use Rattle.ed_top.specs.Output.{EachLineHasOneOutcome, answer, output};
 
 use crate::commands::{carry_out, reads_input};
-use crate::devices::{InputStop, input_of, tell};
+use crate::devices::{InputStop, input_of, write_note};
 use ed_answers::TOO_LONG;
 use ed_command::{Command, CommandFault, read_words};
 use ed_io::{Sink, Source, WriteStop};
@@ -45,8 +45,8 @@ pub fn edsac<S: Source, K: Sink, L: Sink>(
 {
     match read_words(alloc, words) {
         Ok(command) => run_command(alloc, command, source, out, note),
-        Err(CommandFault::Usage) => tell(note, USAGE, 2),
-        Err(CommandFault::Memory) => tell(note, NO_MEMORY, 10),
+        Err(CommandFault::Usage) => write_note(note, USAGE, 2),
+        Err(CommandFault::Memory) => write_note(note, NO_MEMORY, 10),
     }
 }
 
@@ -55,7 +55,7 @@ pub fn edsac<S: Source, K: Sink, L: Sink>(
 pub fn report_no_memory<L: Sink>(note: &mut L) -> u8
     ensures { WritesLastLine (device L.held L.faults note.old note.new) no_memory 10 result }
 {
-    tell(note, NO_MEMORY, 10)
+    write_note(note, NO_MEMORY, 10)
 }
 
 /// Reads the input, carries the command out on it, then writes the last line and answers the status.
@@ -74,13 +74,13 @@ fn run_command<S: Source, K: Sink, L: Sink>(
 {
     let input = match input_of(alloc, reads_input(command), source) {
         Ok(input) => input,
-        Err(InputStop::Failed) => return tell(note, READ_FAULT, 8),
-        Err(InputStop::Memory) => return tell(note, NO_MEMORY, 10),
-        Err(InputStop::TooLong) => return tell(note, TOO_LONG, 11),
+        Err(InputStop::Failed) => return write_note(note, READ_FAULT, 8),
+        Err(InputStop::Memory) => return write_note(note, NO_MEMORY, 10),
+        Err(InputStop::TooLong) => return write_note(note, TOO_LONG, 11),
     };
     match carry_out(alloc, command, &input, out) {
-        Ok(rest) => tell(note, &rest.note, rest.status),
+        Ok(rest) => write_note(note, &rest.note, rest.status),
         Err(WriteStop::Failed) => 9,
-        Err(WriteStop::Memory) => tell(note, NO_MEMORY, 10),
+        Err(WriteStop::Memory) => write_note(note, NO_MEMORY, 10),
     }
 }

@@ -5,7 +5,7 @@ ghost use Rattle.ed_answers.specs.Answer.{of_input};
 ghost use Rattle.ed_answers.specs.Replies.{Gives, Replies};
 ghost use Rattle.ed_stepper.specs.Scripts.{play};
 ghost use Rattle.ed_top.specs.Private.Stages.{HasRows};
-ghost use Rattle.ed_top.specs.Scripts.{OfStep, on_rows, played_outcome};
+ghost use Rattle.ed_top.specs.Scripts.{StepOutcome, on_rows, played_outcome};
 
 use ed_answers::{Rejection, Reply, linked_of, rows_of, started};
 use ed_codes::Code;
@@ -18,7 +18,7 @@ use std::alloc::Global;
 /// `step`: what the script before the dividing line writes, on a machine started on the text after it.
 pub fn step(alloc: Global, settings: Settings, input: &[u8]) -> Result<Reply, Rejection>
     requires { length input.now ≤ INPUT_BYTES }
-    ensures { Replies (of_input (OfStep settings)) input.now result }
+    ensures { Replies (of_input (StepOutcome settings)) input.now result }
 {
     let Some(divided) = divide(input) else {
         let line = no_text(alloc, line_count(input) + 1);

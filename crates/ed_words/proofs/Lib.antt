@@ -1,3 +1,2 @@
-pub mod Mapped
-pub mod Numbers
+pub mod Choices
 pub mod SizeLemmas

@@ -1,15 +1,9 @@
 -- Where orders lead that neither stop the machine nor are blocked: what a path says of the machine.
-use Rattle.std.proofs.Common.{◌≡◌, ◌∙◌, inl, inr, ℕ, zero, suc, ◌+◌, ◌-◌, ◌<◌, refl, sym, ap, subst, arith}
-use Rattle.std.proofs.Common.{Bool, true, false, true≢false, List, ◌++◌}
-use Rattle.std.proofs.lemmas.Bool.{cases_lt}
-use Rattle.ed_words.specs.Words.{function_of}
-use Rattle.ed_orders.specs.Kinds.{kind_of_function}
-use Rattle.ed_machine.specs.State.{State}
-use Rattle.ed_machine.specs.OrderTable.{next_word, obey_word, step}
-use Rattle.ed_machine.specs.Steps.{AreObeyed, Progress, progress, state_after, stops_of, is_obeyed}
-use Rattle.ed_machine.proofs.Steps.{past_sum, after_sum}
-use Rattle.ed_machine.specs.declared.turn.Turn.{Turn}
-use Rattle.ed_machine.specs.declared.turn.Turn.TheVariants.{Went, Printed, Stopped, NoOrder, NoTape}
+use Rattle.ed_machine.proofs.Names.{inl, inr, List, subst, suc, true≢false, zero, ◌++◌, cases_lt, function_of, ap}
+use Rattle.ed_machine.proofs.Names.{arith, Bool, false, refl, sym, true, ℕ, ◌+◌, ◌<◌, ◌∙◌, ◌≡◌, kind_of_function}
+use Rattle.ed_machine.proofs.Names.{next_word, obey_word, step, State, AreObeyed, is_obeyed, progress, Progress}
+use Rattle.ed_machine.proofs.Names.{state_after, stops_of, Turn, NoOrder, NoTape, Printed, Stopped, Went}
+use Rattle.ed_machine.proofs.Steps.{after_sum, each_sum, past_sum}
 
 -- whether a turn neither stops the machine nor is blocked
 abbrev pub goes_on : Turn → Bool
@@ -86,17 +80,6 @@ joined {a} {b} {s} {t} {u} {cs} {ds} first second = record {
   codes_are = ap (λ (p : Progress). p.codes) (past_sum a b s)
       ∙ (λ i. first.codes_are i ++ (progress b (first.state_is i)).codes)
       ∙ ap (λ x. cs ++ x) second.codes_are;
-  goes = goes;
+  goes = each_sum (λ (x : State). goes_on (step x).turn ≡ true) a b s first.goes
+      (λ j l. ap (λ (x : State). goes_on (step (state_after j x)).turn) first.state_is ∙ second.goes j l);
 }
-  where
-    goes : (j : ℕ) → j < a + b → goes_on (step (state_after j s)).turn ≡ true
-    goes j l =
-        elim (cases_lt j a) [
-          | inl below ↦ first.goes j below
-          | inr behind ↦
-              let e : j ≡ a + (j - a) = omega arith in
-              ap (λ x. goes_on (step (state_after x s)).turn) e
-              ∙ ap (λ (x : State). goes_on (step x).turn)
-              (after_sum a (j - a) s ∙ ap (state_after (j - a)) first.state_is)
-              ∙ second.goes (j - a) (omega arith)
-        ]

@@ -1,26 +1,21 @@
 -- One lemma for each kind of order. A line of a path is a kind, the order's cell, the location that it names and the
 -- number that it leaves; `refl`, that the order is there; and the arithmetic of the number.
-use Rattle.std.proofs.Common.{◌≡◌, ℕ, ◌+◌, ◌*◌, ◌/◌, ◌%◌, ◌^◌, ◌<◌, ◌≤◌, refl, ap, ◌∙◌, Bool, true, false, ◌&&◌, not}
-use Rattle.std.proofs.Common.{unwrap_or, List, ◌∷◌, Some}
-use Rattle.ed_acc.specs.Arithmetic.{right71, plus_product, minus_product, common}
-use Rattle.ed_orders.specs.Kinds.{kind_of_function}
-use Rattle.ed_orders.specs.declared.kind.Kind.{Kind}
-use Rattle.ed_orders.specs.declared.kind.Kind.TheVariants.{A as KindA, S as KindS, H as KindH}
-use Rattle.ed_orders.specs.declared.kind.Kind.TheVariants.{V as KindV, N as KindN, T as KindT}
-use Rattle.ed_orders.specs.declared.kind.Kind.TheVariants.{U as KindU, C as KindC, R as KindR}
-use Rattle.ed_orders.specs.declared.kind.Kind.TheVariants.{L as KindL, E as KindE, G as KindG}
-use Rattle.ed_orders.specs.declared.kind.Kind.TheVariants.{I as KindI, O as KindO, F as KindF}
+use Rattle.ed_machine.proofs.Names.{List, unwrap_or, ◌&&◌, common, minus_product, plus_product, right71, ◌%◌, ◌*◌, ◌/◌}
+use Rattle.ed_machine.proofs.Names.{◌^◌, Kind, ap, Bool, false, refl, Some, true, ℕ, ◌+◌, ◌<◌, ◌∙◌, ◌∷◌, ◌≡◌, ◌≤◌}
+use Rattle.ed_machine.proofs.Names.{kind_of_function, row_order, step, Printed, Stopped, Went}
+use Rattle.std.proofs.Common.{not}
+use Rattle.std.proofs.lemmas.Bool.{lt-ltb, le-ltb, le-leb, lt-leb}
+use Rattle.ed_orders.specs.declared.kind.Kind.TheVariants.{A as KindA, S as KindS, H as KindH, V as KindV, N as KindN}
+use Rattle.ed_orders.specs.declared.kind.Kind.TheVariants.{T as KindT, U as KindU, C as KindC, R as KindR, L as KindL}
+use Rattle.ed_orders.specs.declared.kind.Kind.TheVariants.{E as KindE, G as KindG, I as KindI, O as KindO, F as KindF}
 use Rattle.ed_orders.specs.declared.kind.Kind.TheVariants.{X as KindX, Y as KindY, Z as KindZ}
-use Rattle.ed_machine.specs.OrderTable.{step, row_order}
-use Rattle.ed_machine.specs.declared.turn.Turn.TheVariants.{Went, Printed, Stopped}
-use Rattle.ed_machine.proofs.Kit.Sums.{Remains, IsQuotient, AddsProduct, plus71_is, minus71_is}
-use Rattle.ed_machine.proofs.Kit.Sums.{left71_is, right71_is, plus_product_is, collated_is}
-use Rattle.ed_words.proofs.Numbers.{lt_true, lt_false, le_true, le_false}
 use Rattle.ed_machine.proofs.Kit.Frames.{Frame, Moment, state}
-use Rattle.ed_machine.proofs.Kit.Places.{Place, address, is_pair, is_written, value}
-use Rattle.ed_machine.proofs.Kit.Places.{at_top, fitting, fitted, put, reads, writes}
 use Rattle.ed_machine.proofs.Kit.Orders.{Does, Stands, Names, named, obeyed, by_place, by_word}
+use Rattle.ed_machine.proofs.Kit.Places.{Place, address, is_pair, is_written, value, at_top, fitting, fitted, put}
+use Rattle.ed_machine.proofs.Kit.Places.{reads, writes}
 use Rattle.ed_machine.proofs.Kit.Shifts.{IsShift}
+use Rattle.ed_machine.proofs.Kit.Sums.{Remains, IsQuotient, AddsProduct, plus71_is, minus71_is, left71_is, right71_is}
+use Rattle.ed_machine.proofs.Kit.Sums.{plus_product_is, collated_is}
 
 abbrev pub Moves : {n h : ℕ} → Frame n h → Kind → Moment → Moment → Type 0
 Moves f kind r t = Does f kind r Went t
@@ -176,19 +171,19 @@ module _ {n h : ℕ} {f : Frame n h} {r : Moment} where
   pub E_jumps : (i : ℕ) (p : Place f r) → Jumps i 3 p → r.acc < 2 ^ 70
       → Moves f KindE r (record r { counter = address f r p })
   E_jumps i p e low = by_place i 3 p (not (is_pair f r p)) e refl (no_both (is_pair f r p)) (λ o k.
-      rw (o.place, lt_true r.acc (2 ^ 70) low) refl)
+      rw (o.place, lt-ltb r.acc (2 ^ 70) low) refl)
 
   pub E_stays : (i : ℕ) (p : Place f r) → Jumps i 3 p → 2 ^ 70 ≤ r.acc
       → Moves f KindE r (record r { counter = f.base + (i + 1) })
   E_stays i p e high = by_place i 3 p (not (is_pair f r p)) e refl (no_both (is_pair f r p)) (λ o k.
-      rw (o.place, lt_false r.acc (2 ^ 70) high, o.is.after) refl)
+      rw (o.place, le-ltb r.acc (2 ^ 70) high, o.is.after) refl)
 
   pub G_jumps : (i : ℕ) (p : Place f r) → Jumps i 27 p → 2 ^ 70 ≤ r.acc
       → Moves f KindG r (record r { counter = address f r p })
   G_jumps i p e high = by_place i 27 p (not (is_pair f r p)) e refl (no_both (is_pair f r p)) (λ o k.
-      rw (o.place, le_true (2 ^ 70) r.acc high) refl)
+      rw (o.place, le-leb (2 ^ 70) r.acc high) refl)
 
   pub G_stays : (i : ℕ) (p : Place f r) → Jumps i 27 p → r.acc < 2 ^ 70
       → Moves f KindG r (record r { counter = f.base + (i + 1) })
   G_stays i p e low = by_place i 27 p (not (is_pair f r p)) e refl (no_both (is_pair f r p)) (λ o k.
-      rw (o.place, le_false (2 ^ 70) r.acc low, o.is.after) refl)
+      rw (o.place, lt-leb (2 ^ 70) r.acc low, o.is.after) refl)

@@ -1,20 +1,14 @@
 -- A worked piece: the routine `newline`, five orders and two codes, from its listing to what it does at any base.
-use Rattle.std.proofs.Common.{◌≡◌, ℕ, ◌+◌, ◌*◌, ◌<◌, ◌≤◌, refl, sym, subst, arith}
-use Rattle.std.proofs.Common.{List, [], ◌∷◌, Option, Some, None, get_or, length, lit<}
-use Rattle.ed_words.specs.Sizes.{locations}
-use Rattle.ed_words.proofs.SizeLemmas.{most}
+use Rattle.ed_machine.proofs.Names.{List, lit<, locations, locations_most, get_or, ◌*◌, [], arith, length, None, Option, refl}
+use Rattle.ed_machine.proofs.Names.{Some, sym, ℕ, ◌+◌, ◌<◌, ◌∷◌, ◌≡◌, ◌≤◌, State}
 use Rattle.ed_words.specs.declared.order_words.TheConstants.{A_F, E_F, O_F, T_F}
-use Rattle.ed_orders.specs.declared.kind.Kind.{Kind}
-use Rattle.ed_machine.specs.State.{State}
-use Rattle.ed_machine.specs.Steps.{state_after}
-use Rattle.ed_machine.proofs.Kit.Leads.{Leads}
-use Rattle.ed_machine.proofs.Kit.Window.{patched}
-use Rattle.ed_machine.proofs.Kit.Standing.{Holds, IsWorking, opens, unchanged}
 use Rattle.ed_machine.proofs.Kit.Frames.{Frame, Moment, state, short}
-use Rattle.ed_machine.proofs.Kit.Places.{early, own, out, any}
-use Rattle.ed_machine.proofs.Kit.Orders.{IsOrder}
+use Rattle.ed_machine.proofs.Kit.Leads.{Leads}
 use Rattle.ed_machine.proofs.Kit.Moves.{A, T, O, E_jumps}
-use Rattle.ed_machine.proofs.Kit.Paths.{Path, stay, on, prints, leads, each}
+use Rattle.ed_machine.proofs.Kit.Paths.{Path, stay, on, prints, leads}
+use Rattle.ed_machine.proofs.Kit.Places.{early, own, out, any}
+use Rattle.ed_machine.proofs.Kit.Standing.{Holds, IsWorking, opens, unchanged}
+use Rattle.ed_machine.proofs.Kit.Window.{patched}
 
 -- its listing at b: A3F T4θ O5θ O6θ, the order that returns, and the codes of carriage return and line feed
 abbrev pub image : ℕ → List (Option ℕ)
@@ -65,7 +59,7 @@ module _ (s : State) (b m top : ℕ) (o : IsCalled s b m top) (all : length s.st
       (record (at 0 0 link (Some 24)) { counter = m + 2 })
   path at4 =
       let at3 = o.at3 in
-      let size = most s.size in
+      let size = locations_most s.size in
       let fits = o.fits in
       let back : m + 2 < top = omega (arith, o.back) in
       on (A 0 (out 3 (early 3 o.low (lit< tt) all)) (short link) refl (omega arith))
@@ -76,7 +70,7 @@ module _ (s : State) (b m top : ℕ) (o : IsCalled s b m top) (all : length s.st
 
   begins : state f (at 0 (short (A_F + 2 * m)) (get_or s.store.words (b + 4) 0) s.last) s.orders ≡ s
   begins =
-      let size = most s.size in
+      let size = locations_most s.size in
       let same = opens (image b) s.store.words b (omega (arith, o.under, o.fits, size, all)) o.holds in
       let z : b + 0 ≡ b = omega arith in
       rw (z, same, sym o.acc, sym o.counter) refl
@@ -90,12 +84,6 @@ module _ (s : State) (b m top : ℕ) (o : IsCalled s b m top) (all : length s.st
     orders = s.orders + 5;
   })
   newline = rw begins at (leads (path (get_or s.store.words (b + 4) 0)) s.orders)
-
-  -- what holds of every order that stays below the location holds before each of them
-  pub keeps_below : (P : State → Type 0) → ((kind : Kind) (x : State) → IsOrder top kind x → P x) → (j : ℕ) → j < 5
-      → P (state_after j s)
-  keeps_below P is j l =
-      subst (λ x. P (state_after j x)) begins (each P is (path (get_or s.store.words (b + 4) 0)) s.orders j l)
 
   -- each word of the store is unchanged, except the order that returns
   pub keeps : (i : ℕ) → (IsWorking (image b) b i → ⊥)

@@ -1,22 +1,16 @@
 -- One order of a piece: the word at its cell, the location that it names, and the step of the machine that it is.
-use Rattle.std.proofs.Common.{◌≡◌, ℕ, ◌+◌, ◌*◌, ◌/◌, ◌%◌, ◌<◌, ◌≤◌, refl, sym, ap}
-use Rattle.std.proofs.Common.{◌∙◌, subst, true≢false, arith, Bool, true, false, ◌&&◌, ◌||◌}
-use Rattle.std.proofs.Common.{nat_lt, nat_eq, Some, get_or, length}
-use Rattle.std.proofs.lemmas.Bool.{and_parts, or_parts}
-use Rattle.std.proofs.lemmas.Bool.Decides.{nat_tests}
-use Rattle.ed_words.specs.Sizes.{locations, within}
-use Rattle.ed_words.specs.Words.{function_of, address_of, is_long, is_spare, digit}
-use Rattle.ed_words.proofs.SizeLemmas.{most, within_below}
-use Rattle.ed_orders.specs.Kinds.{kind_of_function}
-use Rattle.ed_orders.specs.declared.kind.Kind.{Kind}
-use Rattle.ed_orders.specs.declared.kind.Kind.TheVariants.{R, L, E, G, F, X, Y, Z}
-use Rattle.ed_machine.specs.State.{State}
-use Rattle.ed_machine.specs.OrderTable.{obey, step, next_word}
-use Rattle.ed_machine.specs.declared.turn.Turn.{Turn}
-use Rattle.ed_machine.proofs.Kit.Window.{get_own}
-use Rattle.ed_words.proofs.Numbers.{lt_of, eq_of}
+use Rattle.ed_machine.proofs.Names.{subst, true≢false, ◌&&◌, and_parts, eqb-true, nat_tests, locations, within}
+use Rattle.ed_machine.proofs.Names.{address_of, digit, function_of, is_long, locations_most, get_or, nat_eq, ◌%◌, ◌*◌, ◌/◌, Kind}
+use Rattle.ed_machine.proofs.Names.{E, F, G, L, R, X, Y, Z, ap, arith, Bool, false, length, nat_lt, refl, Some, sym}
+use Rattle.ed_machine.proofs.Names.{true, ℕ, ◌+◌, ◌<◌, ◌∙◌, ◌≡◌, ◌≤◌, ltb-true, kind_of_function, next_word, obey}
+use Rattle.ed_machine.proofs.Names.{step, State, Turn}
+use Rattle.std.proofs.Common.{◌||◌}
+use Rattle.std.proofs.lemmas.Bool.{or_parts}
+use Rattle.ed_words.specs.Words.{is_spare}
+use Rattle.ed_words.proofs.SizeLemmas.{within_below}
 use Rattle.ed_machine.proofs.Kit.Frames.{Frame, Moment, all_words, state}
 use Rattle.ed_machine.proofs.Kit.Places.{Place, address, is_pair, is_there, near}
+use Rattle.ed_machine.proofs.Kit.Window.{get_own}
 
 -- whether an order of a kind names a location, whether it jumps to it, and whether it is F
 abbrev pub names : Kind → Bool
@@ -119,8 +113,8 @@ module _ {n h : ℕ} (f : Frame n h) (r : Moment) where
   word i w test kind e is =
       let tests = and_parts (nat_lt (i + 1) n) (nat_eq (length r.cells) n) (ap (λ x. x.1.1.0) e) in
       let at : r.counter ≡ f.base + i = ap (λ x. x.0) e in
-      let second = lt_of (i + 1) n tests.0 in
-      let all = eq_of (length r.cells) n tests.1 in
+      let second = ltb-true (i + 1) n tests.0 in
+      let all = eqb-true (length r.cells) n tests.1 in
       let inside : i < length r.cells = omega (arith, all, second) in
       let next : r.counter + 1 ≡ f.base + (i + 1) = omega (arith, at) in
       record {
@@ -152,7 +146,7 @@ module _ {n h : ℕ} (f : Frame n h) (r : Moment) where
       let w : ℕ = 4096 * g + digit (is_pair f r p) + 2 * address f r p in
       let tests = and_parts more (is_there f r p) (ap (λ x. x.1.1.1) e) in
       let below = near f r p tests.1 in
-      let small : address f r p < 1024 = omega (arith, below, f.fits, most f.size) in
+      let small : address f r p < 1024 = omega (arith, below, f.fits, locations_most f.size) in
       let x = fields_by g (address f r p) (is_pair f r p) small in
       record {
         w = w;

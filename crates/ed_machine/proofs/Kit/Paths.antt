@@ -1,15 +1,9 @@
 -- A path: orders one after the other, and the orders of the machine that it is.
-use Rattle.std.proofs.Common.{◌≡◌, ℕ, zero, suc, ◌+◌, ◌<◌, refl, sym, ap, ◌∙◌}
-use Rattle.std.proofs.Common.{subst, arith, true, List, [], ◌∷◌, ◌++◌, append_assoc}
-use Rattle.std.proofs.Common.{append-nil}
-use Rattle.ed_orders.specs.declared.kind.Kind.{Kind}
-use Rattle.ed_machine.specs.State.{State}
-use Rattle.ed_machine.specs.OrderTable.{Obeyed, step}
-use Rattle.ed_machine.specs.Steps.{progress, state_after, codes_of}
-use Rattle.ed_machine.specs.declared.turn.Turn.{Turn}
-use Rattle.ed_machine.specs.declared.turn.Turn.TheVariants.{Went, Printed}
-use Rattle.ed_machine.proofs.Kit.Leads.{Leads, goes_on}
+use Rattle.ed_machine.proofs.Names.{append-nil, append_assoc, List, subst, suc, zero, ◌++◌, Kind, [], ap, arith, refl}
+use Rattle.ed_machine.proofs.Names.{sym, true, ℕ, ◌+◌, ◌<◌, ◌∙◌, ◌∷◌, ◌≡◌, Obeyed, step, State, codes_of, progress}
+use Rattle.ed_machine.proofs.Names.{state_after, Turn, Printed, Went}
 use Rattle.ed_machine.proofs.Kit.Frames.{Frame, Moment, state}
+use Rattle.ed_machine.proofs.Kit.Leads.{Leads, goes_on}
 use Rattle.ed_machine.proofs.Kit.Orders.{Does, IsOrder}
 
 -- k orders lead from one moment to another and print the codes: each goes on at the next, or prints its code and goes

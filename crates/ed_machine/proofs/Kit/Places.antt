@@ -1,17 +1,10 @@
 -- Where an order of a piece reads, writes or jumps to, and what the store then holds.
-use Rattle.std.proofs.Common.{◌≡◌, ℕ, ◌+◌, ◌-◌, ◌*◌, ◌/◌, ◌%◌, ◌^◌, ◌<◌, ◌≤◌, refl}
-use Rattle.std.proofs.Common.{sym, ap, true≢false, arith, Bool, inl, true, false}
-use Rattle.std.proofs.Common.{◌&&◌}
-use Rattle.std.proofs.Common.{nat_lt, nat_eq, List, length, get_or, set}
-use Rattle.std.proofs.lemmas.Bool.{and_parts}
-use Rattle.std.proofs.lemmas.List.{length-set}
-use Rattle.ed_words.specs.Words.{long_of_halves}
-use Rattle.ed_machine.specs.OrderTable.{read_at, written_cells}
+use Rattle.ed_machine.proofs.Names.{inl, List, set, true≢false, ◌&&◌, ◌-◌, and_parts, eqb-true, length-set}
+use Rattle.ed_machine.proofs.Names.{long_of_halves, get_or, nat_eq, ◌%◌, ◌*◌, ◌/◌, ◌^◌, ap, arith, Bool, false, length}
+use Rattle.ed_machine.proofs.Names.{nat_lt, refl, sym, true, ℕ, ◌+◌, ◌<◌, ◌≡◌, ◌≤◌, ltb-true, read_at, written_cells}
+use Rattle.ed_machine.proofs.Kit.Frames.{Frame, Moment, Beside, short, long, all_words, store, some_digits, get_digit}
+use Rattle.ed_machine.proofs.Kit.Frames.{set_digit, get_beside, set_beside}
 use Rattle.ed_machine.proofs.Kit.Window.{get_own, set_own}
-use Rattle.ed_words.proofs.Numbers.{lt_of, eq_of}
-use Rattle.ed_machine.proofs.Kit.Frames.{Frame, Moment, Beside, short, long, all_words, store}
-use Rattle.ed_machine.proofs.Kit.Frames.{some_digits, get_digit, set_digit, get_beside}
-use Rattle.ed_machine.proofs.Kit.Frames.{set_beside}
 
 -- a location outside the piece
 pub record IsOutside {n h : ℕ} (f : Frame n h) (words : List ℕ) (q : ℕ) : Type 0 where
@@ -146,14 +139,14 @@ module _ {n h : ℕ} (f : Frame n h) (r : Moment) where
       let c = and_parts (nat_lt (j + 1) n) (nat_eq j (2 * (h + p)) && nat_lt p (length r.pairs)) e in
       let d = and_parts (nat_eq j (2 * (h + p))) (nat_lt p (length r.pairs)) c.1 in
       record {
-        second = lt_of (j + 1) n c.0;
-        pair_is = eq_of j (2 * (h + p)) d.0;
-        digit_is = lt_of p (length r.pairs) d.1;
+        second = ltb-true (j + 1) n c.0;
+        pair_is = eqb-true j (2 * (h + p)) d.0;
+        digit_is = ltb-true p (length r.pairs) d.1;
       }
 
   -- each location that an order names is below the top
   pub near : (p : Place f r) → is_there p ≡ true → address p < f.top
-  near (own j) e = omega (arith, f.under, lt_of j n e)
+  near (own j) e = omega (arith, f.under, ltb-true j n e)
   near (pair j p even) e = omega (arith, f.under, (paired j p even e).second)
   near (out q a) e = a.below
   near (pair_out q a) e = omega (arith, a.below)
@@ -162,7 +155,7 @@ module _ {n h : ℕ} (f : Frame n h) (r : Moment) where
   pub reads : (p : Place f r) → length r.cells ≡ n → is_there p ≡ true
       → read_at (is_pair p) (store f r) (address p) ≡ value p
   reads (own j) all e =
-      let inside = lt_of j n e in
+      let inside = ltb-true j n e in
       ap (λ x. x * 2 ^ 18) (get_own 0 r.words f.base r.cells j (omega (arith, all)))
   reads (pair j p even) all e =
       let o = paired j p even e in
@@ -193,7 +186,7 @@ module _ {n h : ℕ} (f : Frame n h) (r : Moment) where
   pub writes : (p : Place f r) (s l : ℕ) → length r.cells ≡ n → is_there p ≡ true → is_written p ≡ true
       → written_cells (is_pair p) (store f r) (address p) s l ≡ store f (put p (fitting p s l))
   writes (own j) s l all e w =
-      let inside = lt_of j n e in
+      let inside = ltb-true j n e in
       rw (set_own 0 r.words f.base r.cells j s (omega (arith, all))) refl
   writes (pair j p even) s l all e w =
       let o = paired j p even e in

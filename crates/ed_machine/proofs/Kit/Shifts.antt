@@ -1,5 +1,5 @@
 -- The shift orders, each by its name on paper: R D shifts one place to the right, L F thirteen to the left.
-use Rattle.std.proofs.Common.{◌≡◌, ℕ, ◌/◌, refl}
+use Rattle.ed_machine.proofs.Names.{◌/◌, refl, ℕ, ◌≡◌}
 use Rattle.ed_words.specs.declared.order_words.TheConstants.{L_D, L_F, R_D}
 use Rattle.ed_orders.specs.Places.{places}
 use lib.Count.{count_trailing_zeros}

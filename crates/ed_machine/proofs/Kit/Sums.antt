@@ -1,17 +1,14 @@
 -- The accumulator's arithmetic in plain numbers, as the lines of a path have it.
-use Rattle.std.proofs.Common.{◌≡◌, ℕ, ◌+◌, ◌-◌, ◌*◌, ◌/◌, ◌%◌, ◌^◌, ◌<◌, sym}
-use Rattle.std.proofs.Common.{ap, ◌∙◌, arith, lit<, lit≤, inl, inr, nat_eq}
-use Rattle.std.proofs.Common.{pos, negsuc, ◌-ℤ◌}
-use Rattle.std.proofs.lemmas.Bool.{cases_lt}
-use Rattle.std.proofs.lemmas.Bool.Decides.{nat_tests}
+use Rattle.ed_machine.proofs.Names.{inl, inr, lit<, negsuc, pos, ◌-◌, cases_lt, nat_tests, digit, common, left71}
+use Rattle.ed_machine.proofs.Names.{minus71, plus71, plus_common, plus_product, right71, nat_eq, ◌%◌, ◌*◌, ◌/◌, ◌^◌}
+use Rattle.ed_machine.proofs.Names.{ap, arith, sym, ℕ, ◌+◌, ◌<◌, ◌∙◌, ◌≡◌}
+use Rattle.std.proofs.Common.{lit≤, ◌-ℤ◌}
+use Rattle.std.specs.Int.Bits.{bit_and}
+use Rattle.std.proofs.Math.Nat.{mod-eq_of_lt}
 use Rattle.std.proofs.lemmas.Int.{ints}
 use Rattle.std.proofs.lemmas.Nat.{shr_le, and_le_l, and_mod, and_comm}
 use Rattle.std.proofs.lemmas.Nat.Bits.{and_high_mask, and_pow}
-use Rattle.std.proofs.Math.Nat.{mod-eq_of_lt}
-use Rattle.std.specs.Int.Bits.{bit_and}
 use Rattle.ed_words.specs.Signed.{signed}
-use Rattle.ed_words.specs.Words.{digit}
-use Rattle.ed_acc.specs.Arithmetic.{plus71, minus71, right71, left71, plus_product, plus_common, common}
 use Rattle.ed_acc.proofs.Common.{common_whole}
 
 pub plus71_is : (a x u : ℕ) → (a + x) % 2 ^ 71 ≡ u → plus71 a x ≡ u

@@ -38,12 +38,12 @@ abbrev pub first_notation : Notation
 first_notation = record { directive = 20568; theta = 0; contents = cleared_cells }
 
 -- the state of the notation in which nothing was placed: the store has what was
-abbrev pub note_over : Notation → NotationState
-note_over n = record { directive = n.directive; theta = n.theta; placed = [] }
+abbrev pub notation_state : Notation → NotationState
+notation_state n = record { directive = n.directive; theta = n.theta; placed = [] }
 
 -- the location and the word that an item places
 abbrev pub placing_over : Notation → Item → Option (ℕ × ℕ)
-placing_over n i = placing n.contents.words (note_over n) i
+placing_over n i = placing n.contents.words (notation_state n) i
 
 -- a store with a word placed in it, if there is one
 abbrev pub cells_with : Option (ℕ × ℕ) → Cells → Cells
@@ -53,8 +53,8 @@ cells_with (Some p) cells = with_short cells p.0 p.1
 -- the state after an item
 abbrev pub notation_after : Notation → Item → Notation
 notation_after n i = record {
-  directive = (act n.contents.words (note_over n) i).directive;
-  theta = (act n.contents.words (note_over n) i).theta;
+  directive = (act n.contents.words (notation_state n) i).directive;
+  theta = (act n.contents.words (notation_state n) i).theta;
   contents = cells_with (placing_over n i) n.contents;
 }
 

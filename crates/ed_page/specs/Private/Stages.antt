@@ -7,7 +7,7 @@ use Rattle.ed_words.specs.declared.size.Size.{Size}
 use Rattle.ed_store.specs.Cells.{cleared_cells}
 use Rattle.ed_notation.specs.Checks.{Accepts}
 use Rattle.ed_notation.specs.Reports.{Report}
-use Rattle.ed_answers.specs.Tapes.{first_note}
+use Rattle.ed_answers.specs.Tapes.{opening_notation}
 use Rattle.ed_answers.specs.Outcome.{Outcome}
 use Rattle.ed_answers.specs.Replies.{Gives}
 use Rattle.ed_answers.specs.Runs.{status_of}
@@ -43,7 +43,7 @@ pub record IsMachineOf (Ends : Text → State → Type 0) (text : Text) (machine
 -- a well-formed tape has this number of rows up to its entry
 pub record HasRowsToEntry (z : Size) (rows : List ℕ) (count : ℕ) : Type 0 where
   pub report : Report
-  pub accepts : Accepts z cleared_cells.words first_note 9 rows report
+  pub accepts : Accepts z cleared_cells.words opening_notation 9 rows report
   pub count_is : count ≡ report.rows
 
 -- what is shown is a reply that a text may have, and the machine in which its run ends

@@ -8,8 +8,8 @@ use Rattle.ed_stepper.specs.Commands.{is_space}
 use Rattle.ed_stepper.specs.Private.CommandReading.{parts_between_spaces}
 
 -- the number of bytes before its first space
-abbrev pub solid : Text → ℕ
-solid = position_or_len is_space
+abbrev pub first_space : Text → ℕ
+first_space = position_or_len is_space
 
 -- the number of bytes before its first line feed
 abbrev pub line_feed_place : Text → ℕ

@@ -55,7 +55,7 @@ HasRows s kind text (Err e) =
 -- ---- a command
 
 -- all that is due on `out` has been written; the line and the status are still due
-pub record IsToTell (out : Device) (line : Text) (status : ℕ) (o : Outcome) : Type 0 where
+pub record WritesNote (out : Device) (line : Text) (status : ℕ) (o : Outcome) : Type 0 where
   pub wrote : Wrote out o.out
   pub note_is : line ≡ o.note
   pub status_is : status ≡ o.status
@@ -63,7 +63,7 @@ pub record IsToTell (out : Device) (line : Text) (status : ℕ) (o : Outcome) : 
 -- a command was carried out on an input, as far as `out` is concerned
 abbrev pub Carried : Answer → Text → Device → Result Rest WriteStop → Type 0
 Carried answer input out (Ok rest) = (rest.status < 8)
-    × ForInput answer input (IsToTell out rest.note.items rest.status) × NeverFailed out
+    × ForInput answer input (WritesNote out rest.note.items rest.status) × NeverFailed out
 Carried answer input out (Err Failed) = FailedOnce out × ForInput answer input (λ o. WrotePart out o.out)
 Carried answer input out (Err Memory) = NeverFailed out × ForInput answer input (λ o. WrotePart out o.out)
 

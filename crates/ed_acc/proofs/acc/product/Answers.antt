@@ -1,5 +1,5 @@
 use Rattle.std.proofs.Common.{◌∙◌, ap₂, pos, ◌*ℤ◌, ◌^◌}
-use Rattle.ed_acc.proofs.Products.{IsWithin, fourfold_fits, product_fits, product_is, product_within, widened}
+use Rattle.ed_acc.proofs.Products.{IsWithin, fourfold_fits, product_fits, product_is, product_within, to_z-widened}
 use Rattle.ed_acc.proofs.Products.{widened_within}
 use Rattle.ed_acc.proofs.acc.product.Goals as goal
 
@@ -25,8 +25,8 @@ returns c =
     let within = product_within _ _ one other in
     record {
       is = value
-          ∙ ap₂ (λ x y. pos 4 *ℤ (x *ℤ y)) (c.from.ensures ∙ widened _ (left c) ∙ c.signed.ensures.is)
-          (c.from-2.ensures ∙ widened _ (right c) ∙ c.signed-2.ensures.is);
+          ∙ ap₂ (λ x y. pos 4 *ℤ (x *ℤ y)) (c.from.ensures ∙ to_z-widened _ (left c) ∙ c.signed.ensures.is)
+          (c.from-2.ensures ∙ to_z-widened _ (right c) ∙ c.signed-2.ensures.is);
       low = rw value within.low;
       high = rw value within.high;
     }

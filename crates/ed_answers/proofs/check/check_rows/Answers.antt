@@ -1,4 +1,4 @@
-use Rattle.std.proofs.Common.{rules}
+use Rattle.ed_answers.proofs.Kit.{rules}
 use Rattle.ed_answers.proofs.Checks.{entry_found, fault_found}
 use Rattle.ed_answers.proofs.check.check_rows.Goals as goal
 

@@ -1,5 +1,4 @@
-use Rattle.std.proofs.Common.{arith}
-use Rattle.ed_answers.specs.Tapes.{IsChecked}
+use Rattle.ed_answers.proofs.Kit.{arith, IsChecked}
 use Rattle.ed_answers.proofs.Checks.{checked_one}
 use Rattle.ed_answers.proofs.Replies.{none_replied, refusal_replied, rows_replied}
 use Rattle.ed_answers.proofs.check.check_tape.Goals as goal

@@ -1,5 +1,5 @@
 use Rattle.ed_answers.proofs.EachSource.{each_source as each_comes, one_answer}
-use Rattle.ed_answers.proofs.Entries.{each_source, loaded}
+use Rattle.ed_answers.proofs.Entries.{each_source, entry_state-loaded}
 use Rattle.ed_answers.proofs.EntryWords.{each_entry_store_is}
 use Rattle.ed_answers.proofs.entering.enter.Goals as goal
 
@@ -10,7 +10,8 @@ pub returns-in_err-machine-clause-law : goal.returns-in_err-machine-clause-law
 returns-in_err-machine-clause-law c = each_source
 
 pub returns-clause-entry : goal.returns-clause-entry
-returns-clause-entry c = λ lines is. loaded is c.in_ok-machine.ensures.is c.in_ok-rows.ensures.is c.load.ensures.loads
+returns-clause-entry c = λ lines is. entry_state-loaded is c.in_ok-machine.ensures.is
+    c.in_ok-rows.ensures.is c.load.ensures.loads
 
 pub returns-clause-law : goal.returns-clause-law
 returns-clause-law c = each_source

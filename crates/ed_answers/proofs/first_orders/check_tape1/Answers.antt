@@ -1,5 +1,4 @@
-use Rattle.std.proofs.Common.{arith}
-use Rattle.ed_answers.specs.FirstOrders.{IsChecked1}
+use Rattle.ed_answers.proofs.Kit.{arith, IsChecked1}
 use Rattle.ed_answers.proofs.FirstChecks.{checked1_one}
 use Rattle.ed_answers.proofs.Replies.{none_replied, refusal_replied, rows_replied}
 use Rattle.ed_answers.proofs.first_orders.check_tape1.Goals as goal

@@ -1,5 +1,5 @@
-use Rattle.ed_answers.specs.Answer.{exactly}
-use Rattle.ed_answers.specs.FirstOrders.{run1_of, tape1_outcome}
+use Rattle.ed_answers.proofs.Kit.{exactly, tape1_outcome}
+use Rattle.ed_answers.specs.FirstOrders.{run1_of}
 use Rattle.ed_answers.proofs.Replies.{exactly_one, exactly_replied, none_replied, refusal_replied}
 use Rattle.ed_answers.proofs.Sources.{ran_gives_alone}
 use Rattle.ed_answers.proofs.first_orders.tape1.Goals as goal

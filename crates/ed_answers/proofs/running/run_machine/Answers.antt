@@ -1,4 +1,4 @@
-use Rattle.std.proofs.Common.{arith}
+use Rattle.ed_answers.proofs.Kit.{arith}
 use Rattle.ed_answers.proofs.Keeping.{ran_orders, ran_size}
 use Rattle.ed_answers.proofs.running.run_machine.Goals as goal
 

@@ -1,6 +1,4 @@
-use Rattle.std.proofs.Common.{◌≡◌, subst}
-use Rattle.std.specs.Prelude.{IfOk}
-use Rattle.ed_words.specs.declared.size.Size.{Size}
+use Rattle.ed_answers.proofs.Kit.{Size, IfOk, subst, ◌≡◌}
 use Rattle.ed_answers.proofs.Keeping.{first_size}
 use Rattle.ed_answers.proofs.running.run_rows.Goals as goal
 

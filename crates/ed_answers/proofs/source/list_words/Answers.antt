@@ -1,8 +1,5 @@
-use Rattle.std.proofs.Common.{◌∙◌, ◌<◌, subst, sym, List, ℕ}
-use Rattle.std.specs.Prelude.{All}
-use Rattle.ed_words.specs.Texts.{Text}
-use Rattle.ed_answers.specs.Outcome.{done}
-use Rattle.ed_answers.specs.Replies.{Gives}
+use Rattle.ed_answers.proofs.Kit.{Text, List, subst, sym, ℕ, ◌<◌, ◌∙◌, done, Gives}
+use Rattle.std.proofs.Common.{All}
 use Rattle.ed_answers.proofs.source.list_words.Goals as goal
 
 pub listing-requires : goal.listing-requires

@@ -1,7 +1,7 @@
-use Rattle.std.proofs.Common.{◌≡◌, ◌∙◌, ℕ, suc, ◌+◌, ◌<◌, ◌≤◌, sym, ap, add-one, List, [], ◌∷◌, ◌++◌, append_assoc}
-use Rattle.std.proofs.Common.{append-nil, length, get_or, drop, drop-cons, map}
+use Rattle.ed_answers.proofs.Kit.{Placed, [], ap, append-nil, append_assoc, drop, get_or, length, List, map, suc, sym}
+use Rattle.ed_answers.proofs.Kit.{ℕ, ◌++◌, ◌+◌, ◌<◌, ◌∙◌, ◌∷◌, ◌≡◌, ◌≤◌}
+use Rattle.std.proofs.Common.{add-one, drop-cons}
 use Rattle.std.proofs.lemmas.List.{drop_all}
-use Rattle.ed_link.specs.declared.linked.Placed.{Placed}
 use Rattle.ed_answers.proofs.source.places_of.Goals as goal
 
 abbrev places : List Placed → List ℕ

@@ -1,5 +1,4 @@
-use Rattle.std.proofs.Common.{◌≡◌, ◌++◌, drop, map}
-use Rattle.ed_link.specs.declared.linked.Placed.{Placed}
+use Rattle.ed_answers.proofs.Kit.{Placed, drop, map, ◌++◌, ◌≡◌}
 use Rattle.ed_answers.proofs.source.places_of.Given as goal
 
 abbrev pub invariant-loop-placed : goal.invariant-loop-placed

@@ -1,5 +1,5 @@
-use Rattle.ed_answers.specs.Sources.{run_outcome}
-use Rattle.ed_answers.proofs.Keeping.{printable}
+use Rattle.ed_answers.proofs.Kit.{run_outcome}
+use Rattle.ed_answers.proofs.Keeping.{is_fitting-printable}
 use Rattle.ed_answers.proofs.Sources.{run_replied, source_refused, source_unanswered}
 use Rattle.ed_answers.proofs.source.run.Goals as goal
 
@@ -15,7 +15,7 @@ returns-in_err-post_mortem_reply c =
 
 pub post_mortem_reply-requires : goal.post_mortem_reply-requires
 post_mortem_reply-requires c =
-    printable c.args.settings c.in_ok-ran.field-0.ran.machine c.requires c.in_ok-ran.ensures.size
+    is_fitting-printable c.args.settings c.in_ok-ran.field-0.ran.machine c.requires c.in_ok-ran.ensures.size
     c.in_ok-ran.ensures.orders
 
 pub returns : goal.returns

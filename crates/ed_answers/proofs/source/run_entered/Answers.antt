@@ -1,4 +1,4 @@
-use Rattle.std.proofs.Common.{◌≤◌, arith, rules}
+use Rattle.ed_answers.proofs.Kit.{arith, rules, ◌≤◌}
 use Rattle.ed_answers.proofs.FromEntry.{goes_on}
 use Rattle.ed_answers.proofs.source.run_entered.Goals as goal
 

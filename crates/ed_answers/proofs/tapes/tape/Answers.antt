@@ -1,8 +1,5 @@
-use Rattle.std.proofs.Common.{[], refl}
-use Rattle.ed_answers.specs.Answer.{exactly}
-use Rattle.ed_answers.specs.Runs.{run_of}
-use Rattle.ed_answers.specs.Tapes.{tape_outcome}
-use Rattle.ed_answers.proofs.Keeping.{printable}
+use Rattle.ed_answers.proofs.Kit.{[], refl, exactly, run_of, tape_outcome}
+use Rattle.ed_answers.proofs.Keeping.{is_fitting-printable}
 use Rattle.ed_answers.proofs.Replies.{exactly_one, exactly_replied, none_replied, refusal_replied}
 use Rattle.ed_answers.proofs.Sources.{ran_gives}
 use Rattle.ed_answers.proofs.tapes.tape.Goals as goal
@@ -24,7 +21,8 @@ returns-in_err-ended_reply c =
 
 pub ended_reply-requires : goal.ended_reply-requires
 ended_reply-requires c =
-    printable c.args.settings c.in_ok-ran.ran.machine c.requires c.in_ok-ran.ensures.size c.in_ok-ran.ensures.orders
+    is_fitting-printable c.args.settings c.in_ok-ran.ran.machine c.requires c.in_ok-ran.ensures.size
+    c.in_ok-ran.ensures.orders
 
 pub returns : goal.returns
 returns c =

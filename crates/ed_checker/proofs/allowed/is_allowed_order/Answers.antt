@@ -1,4 +1,4 @@
-use Rattle.std.proofs.Common.{arith}
+use Rattle.ed_checker.proofs.Kit.{arith}
 use Rattle.ed_checker.proofs.allowed.is_allowed_order.Goals as goal
 
 pub returns-in-Some-F : goal.returns-in-Some-F

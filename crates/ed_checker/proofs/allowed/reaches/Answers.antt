@@ -1,4 +1,4 @@
-use Rattle.std.proofs.Common.{arith}
+use Rattle.ed_checker.proofs.Kit.{arith}
 use Rattle.ed_checker.proofs.allowed.reaches.Goals as goal
 
 pub returns-then-is_outside : goal.returns-then-is_outside

@@ -1,33 +1,16 @@
-use Rattle.std.proofs.Common.{◌≤◌, ◌-◌, sym, ◌∙◌, arith}
-use Rattle.ed_words.specs.Words.{function_of}
-use Rattle.ed_machine.specs.OrderTable.{next_word}
-use Rattle.ed_checker.specs.Checker.{guest}
-use Rattle.ed_checker.specs.Contract.{ChecksOne}
+use Rattle.ed_checker.proofs.Kit.{rules, sym, ◌-◌, ◌∙◌, ◌≤◌, ChecksOne}
 use Rattle.ed_checker.specs.declared.checking.Checking.TheVariants.{Blocked as IsBlocked}
 use Rattle.ed_checker.proofs.Follow.{checker_law}
-use Rattle.ed_checker.proofs.Weights.{few_orders}
 use Rattle.ed_checker.proofs.Whole.{IsTurn, when_blocked, when_done}
 use Rattle.ed_checker.proofs.checking.check_one.Goals as goal
 
 pub run-requires : goal.run-requires
-run-requires c =
-    let g = guest c.args.base c.args.machine.now in
-    let few = few_orders (function_of (next_word g)) g.acc in
-    omega (arith, few, c.turn_orders-orders.ensures, c.requires.orders)
+run-requires c = search rules
 
 -- the run is a turn of the routine
 turn_blocked : (c : goal.In-NoOrder) → IsTurn c.args.base c.turn_orders-orders.result c.args.machine.now
     c.run.new.machine c.args.paper.now c.run.new.paper c.run.result
-turn_blocked c = record {
-  even = c.requires.even;
-  store = c.word.ensures.store;
-  room = c.requires.fits;
-  stands = c.requires.stands;
-  allowed = c.requires.allowed;
-  space = c.requires.room;
-  count_is = c.turn_orders-orders.ensures;
-  run = c.run.ensures.ends;
-}
+turn_blocked c = search rules
 
 blocked : (c : goal.In-NoOrder) → (17 ≤ c.turn_orders-orders.result)
     × ChecksOne c.args.base c.args.machine.now c.run.new.machine c.args.paper.now c.run.new.paper
@@ -43,16 +26,7 @@ returns-in-NoOrder c = record { turn = (blocked c).1; law = checker_law }
 pub returns-then-stops : goal.returns-then-stops
 returns-then-stops c =
     let turn : IsTurn c.args.base c.turn_orders-orders.result c.args.machine.now c.run.new.machine
-    c.args.paper.now c.run.new.paper c.run.result = record {
-      even = c.requires.even;
-      store = c.word.ensures.store;
-      room = c.requires.fits;
-      stands = c.requires.stands;
-      allowed = c.requires.allowed;
-      space = c.requires.room;
-      count_is = c.turn_orders-orders.ensures;
-      run = c.run.ensures.ends;
-    } in
+    c.args.paper.now c.run.new.paper c.run.result = search rules in
     record {
       turn = when_done turn c.in_default.not-NoOrder c.in_default.not-NoTape
           (sym c.is_stop-stops.ensures ∙ c.if-stops.true);
@@ -62,16 +36,7 @@ returns-then-stops c =
 pub returns-else-stops : goal.returns-else-stops
 returns-else-stops c =
     let turn : IsTurn c.args.base c.turn_orders-orders.result c.args.machine.now c.run.new.machine
-    c.args.paper.now c.run.new.paper c.run.result = record {
-      even = c.requires.even;
-      store = c.word.ensures.store;
-      room = c.requires.fits;
-      stands = c.requires.stands;
-      allowed = c.requires.allowed;
-      space = c.requires.room;
-      count_is = c.turn_orders-orders.ensures;
-      run = c.run.ensures.ends;
-    } in
+    c.args.paper.now c.run.new.paper c.run.result = search rules in
     record {
       turn = when_done turn c.in_default.not-NoOrder c.in_default.not-NoTape
           (sym c.is_stop-stops.ensures ∙ c.if-stops.false);

@@ -1,5 +1,4 @@
-use Rattle.std.proofs.Common.{arith}
-use Rattle.std.proofs.lemmas.Bool.Decides.{nat_tests}
+use Rattle.ed_checker.proofs.Kit.{arith, nat_tests}
 use Rattle.ed_checker.proofs.guest.turn_orders.Goals as goal
 
 pub returns-in_default : goal.returns-in_default

@@ -1,11 +1,11 @@
 use Rattle.std.proofs.Common.{sym, ◌∙◌}
-use Rattle.ed_codes.proofs.Readings.{begins, closes, stays, opens, skips, gains, finds_none, ends_open, ends}
+use Rattle.ed_codes.proofs.Readings.{IsReadTo-begins, IsReadTo-closes, IsReadTo-stays, IsReadTo-opens, IsReadTo-skips, IsReadTo-gains, finds_none, ends_open, reading-ends}
 use Rattle.ed_codes.proofs.tape.push_rows.Goals.{then-is_some+then-byte-eq93, then-is_some+else-byte-eq93, else-is_some+then-byte-eq91}
 use Rattle.ed_codes.proofs.tape.push_rows.Goals.{else-is_some+else-byte-eq91+then-not-is_spacing+in-Some+in_ok-push-in-Some, else-is_some+else-byte-eq91+else-not-is_spacing}
 use Rattle.ed_codes.proofs.tape.push_rows.Goals as goal
 
 pub loop-place-init : goal.loop-place-init
-loop-place-init c = begins c.requires
+loop-place-init c = IsReadTo-begins c.requires
 
 pub loop-place-preserved : goal.loop-place-preserved
 loop-place-preserved c =
@@ -13,16 +13,16 @@ loop-place-preserved c =
     let before = c.loop-place.invariant in
     elim c.if-is_some.branch [
       | then-is_some+then-byte-eq93 w ↦
-          rw (w.codes-is, w.comment-is) (closes below w.if-is_some.ensures w.if-byte-eq93.true before)
+          rw (w.codes-is, w.comment-is) (IsReadTo-closes below w.if-is_some.ensures w.if-byte-eq93.true before)
       | then-is_some+else-byte-eq93 w ↦
-          rw (w.codes-is, w.comment-is) (stays below w.if-is_some.ensures w.if-byte-eq93.false before)
+          rw (w.codes-is, w.comment-is) (IsReadTo-stays below w.if-is_some.ensures w.if-byte-eq93.false before)
       | else-is_some+then-byte-eq91 w ↦
-          rw (w.codes-is, w.comment-is) (opens below w.if-is_some.ensures w.if-byte-eq91.true before)
+          rw (w.codes-is, w.comment-is) (IsReadTo-opens below w.if-is_some.ensures w.if-byte-eq91.true before)
       | else-is_some+else-byte-eq91+then-not-is_spacing+in-Some+in_ok-push-in-Some w ↦
           rw (w.codes-is, w.comment-is, w.in_ok-push-in-Some.ensures.items)
-          (gains w.in-Some.code below w.if-is_some.ensures (sym w.row_of_byte.ensures ∙ w.in-Some.is) before)
+          (IsReadTo-gains w.in-Some.code below w.if-is_some.ensures (sym w.row_of_byte.ensures ∙ w.in-Some.is) before)
       | else-is_some+else-byte-eq91+else-not-is_spacing w ↦
-          rw (w.codes-is, w.comment-is) (skips below w.if-is_some.ensures w.if-not-is_spacing.ensures before)
+          rw (w.codes-is, w.comment-is) (IsReadTo-skips below w.if-is_some.ensures w.if-not-is_spacing.ensures before)
     ]
 
 pub returns-in-None : goal.returns-in-None
@@ -36,4 +36,4 @@ returns-in-Some-comment c =
 
 pub returns-in-None-comment : goal.returns-in-None-comment
 returns-in-None-comment c =
-    ends c.loop-place-test.false (rw c.in-None-comment.is at c.loop-place.invariant)
+    reading-ends c.loop-place-test.false (rw c.in-None-comment.is at c.loop-place.invariant)

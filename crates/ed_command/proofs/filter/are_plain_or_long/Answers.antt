@@ -1,5 +1,4 @@
-use Rattle.std.proofs.Common.{arith}
-use Rattle.std.proofs.lemmas.Grind.{common_steps}
+use Rattle.ed_command.proofs.Kit.{common_steps, arith}
 use Rattle.ed_command.proofs.filter.are_plain_or_long.Goals as goal
 
 pub returns-then-not-is_plain_or_long : goal.returns-then-not-is_plain_or_long

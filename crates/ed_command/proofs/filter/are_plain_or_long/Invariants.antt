@@ -1,6 +1,4 @@
-use Rattle.std.proofs.Common.{◌≡◌, drop, string_bytes}
-use Rattle.std.specs.List.{list_all}
-use Rattle.ed_command.specs.Found.{is_plain_or_long}
+use Rattle.ed_command.proofs.Kit.{drop, string_bytes, list_all, ◌≡◌, is_plain_or_long}
 use Rattle.ed_command.proofs.filter.are_plain_or_long.Given as goal
 
 -- the same for the words that are left

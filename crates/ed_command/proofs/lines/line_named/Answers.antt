@@ -1,4 +1,4 @@
-use Rattle.std.proofs.Common.{refl, sym, ◌∙◌}
+use Rattle.ed_command.proofs.Kit.{refl, sym, ◌∙◌}
 use Rattle.ed_command.proofs.Arguments.{at_line, no_line}
 use Rattle.ed_command.proofs.lines.line_named.Goals as goal
 

@@ -1,6 +1,4 @@
-use Rattle.std.proofs.Common.{◌≡◌, drop, map}
-use Rattle.ed_command.specs.Held.{line_in}
-use Rattle.ed_command.specs.Lines.{line_named, lines}
+use Rattle.ed_command.proofs.Kit.{drop, map, ◌≡◌, line_in, line_named, lines}
 use Rattle.ed_command.proofs.lines.line_named.Given as goal
 
 -- the same line among those that are left

@@ -1,14 +1,9 @@
-use Rattle.std.proofs.Common.{◌≡◌, ◌∙◌, ap, false, true, Some}
-use Rattle.std.specs.Prelude.{fold}
-use Rattle.std.proofs.lemmas.Result.{IfOk-weaker}
+use Rattle.ed_command.proofs.Kit.{Rule, App, rule_of, Append, Arg, Command, fold, ap, false, Some, true, ◌∙◌, ◌≡◌}
+use Rattle.ed_command.proofs.Kit.{with_option, words_rule}
 use Rattle.clap.specs.Simple.{app_of_fields, on_top}
-use Rattle.clap.specs.Walk.{Rule}
-use Rattle.clap.specs.declared.builder.action.ArgAction.TheVariants.{Append}
-use Rattle.clap.specs.declared.builder.arg.Arg.{Arg}
-use Rattle.clap.specs.declared.builder.command.Command.{Command}
 use Rattle.clap.specs.declared.builder.command.Command.TheOpen.{Command-F}
-use Rattle.clap.specs.Words.{App, rule_of}
-use Rattle.ed_command.specs.Rules.{bare, with_option, words_rule}
+use Rattle.std.proofs.lemmas.Result.{IfOk-weaker}
+use Rattle.ed_command.specs.Rules.{bare}
 use Rattle.ed_command.specs.Words.{option_names}
 use Rattle.ed_command.proofs.Adding.{one_added, option_made, words_added}
 use Rattle.ed_command.proofs.matching.command.Goals as goal
@@ -34,7 +29,5 @@ returns c =
     ap rule_of c.action.ensures ∙ ap (λ (r : Rule). record r { action = Some Append }) c.new-2.ensures.rule in
     let plain : c.action.result.global ≡ false =
     ap (λ (a : Arg). a.global) c.action.ensures ∙ c.new-2.ensures.optional.1 in
-    IfOk-weaker c.arg-2.result _ _
-    (λ whole adds. words_added _ _ c.loop-name.command whole c.action.result c.loop-name-test.false
-    c.loop-name.invariant plain words_is adds)
-    c.arg-2.ensures
+    IfOk-weaker c.arg-2.result _ _ (λ whole adds. words_added _ _ _ whole _ c.loop-name-test.false
+    c.loop-name.invariant plain words_is adds) c.arg-2.ensures

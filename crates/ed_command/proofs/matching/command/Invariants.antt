@@ -1,4 +1,4 @@
-use Rattle.std.proofs.Common.{drop}
+use Rattle.ed_command.proofs.Kit.{drop}
 use Rattle.ed_command.proofs.Adding.{IsWithout}
 use Rattle.ed_command.proofs.matching.command.Given as goal
 

@@ -1,5 +1,4 @@
-use Rattle.std.proofs.Common.{inl, inr, ◌∙◌, map, string_bytes}
-use Rattle.clap.specs.Words.{app_of}
+use Rattle.ed_command.proofs.Kit.{app_of, map, string_bytes, inl, inr, ◌∙◌}
 use Rattle.ed_command.proofs.Whole.{answers}
 use Rattle.ed_command.proofs.matching.matches_of.Goals as goal
 

@@ -1,5 +1,4 @@
-use Rattle.std.proofs.Common.{arith}
-use Rattle.std.proofs.lemmas.Grind.{common_steps}
+use Rattle.ed_command.proofs.Kit.{common_steps, arith}
 use Rattle.ed_command.proofs.options.number_setting.Goals as goal
 
 pub returns-in-empty : goal.returns-in-empty

@@ -1,7 +1,6 @@
-use Rattle.std.proofs.Common.{rules, ◌≡◌, ◌∙◌, ap, false, map, string_bytes}
-use Rattle.std.specs.Prelude.{None, option_and_then}
-use Rattle.std.specs.List.{list_all}
-use Rattle.ed_command.specs.Found.{is_plain_or_long}
+use Rattle.ed_command.proofs.Kit.{map, option_and_then, string_bytes, list_all, ap, false, None, ◌∙◌, ◌≡◌}
+use Rattle.ed_command.proofs.Kit.{is_plain_or_long}
+use Rattle.std.proofs.Common.{rules}
 use Rattle.ed_command.specs.Lines.{command_in, command_line}
 use Rattle.ed_command.proofs.Filtered.{all_map, refused_parts}
 use Rattle.ed_command.proofs.reading.read_words.Goals as goal

@@ -1,9 +1,7 @@
-use Rattle.std.proofs.Common.{◌≡◌, ◌∙◌, ℕ, List, ap, lit≤}
-use Rattle.ed_machine.specs.Start.{start_state}
-use Rattle.ed_initial.specs.Listing.{initial_orders}
+use Rattle.ed_initial.proofs.Kit.{start_state, ap, List, lit≤, ℕ, ◌∙◌, ◌≡◌, initial_orders}
 use Rattle.ed_initial.proofs.Started.{is_started}
-use Rattle.ed_initial.proofs.starting.begin.Goals as goal
 use Rattle.ed_initial.proofs.starting.begin.Goals.{After-start}
+use Rattle.ed_initial.proofs.starting.begin.Goals as goal
 
 -- the state that Start leaves
 state : (c : After-start) → c.start.new.self ≡ start_state initial_orders c.args.rows.items c.args.machine.now

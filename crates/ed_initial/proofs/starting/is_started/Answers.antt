@@ -1,8 +1,6 @@
-use Rattle.std.proofs.Common.{◌≡◌, refl, arith, get_or}
-use Rattle.std.proofs.lemmas.Bool.{false≢true}
-use borrow.Author.Count.{below_more}
-use Rattle.ed_initial.specs.Listing.{initial_orders}
+use Rattle.ed_initial.proofs.Kit.{false≢true, arith, get_or, refl, ◌≡◌, initial_orders}
 use Rattle.ed_initial.proofs.Compared.{tested, is_same, is_other}
+use borrow.Author.Count.{below_more}
 use Rattle.ed_initial.proofs.starting.is_started.Goals as goal
 
 pub returns-then-ne : goal.returns-then-ne

@@ -1,18 +1,17 @@
-use Rattle.std.proofs.Common.{◌≡◌, length, arith, sym, ap, ◌∙◌, subst, nat_eq}
-use Rattle.ed_initial1.proofs.Loop.{begins, refused, function_row, made_longer, made_ended, made_whole, at_end, number_fits}
-use Rattle.ed_initial1.specs.Faults.{IsFault1}
-use Rattle.ed_initial1.specs.declared.cause.Tape1Cause.TheVariants.{EndOfTape}
+use Rattle.ed_initial1.proofs.Kit.{ap, arith, length, nat_eq, subst, sym, ◌∙◌, ◌≡◌, IsFault1, EndOfTape}
+use Rattle.ed_initial1.proofs.Loop.{StandsAt-begins, IsFault1-refused, function_row, made_longer, made_ended, made_whole, at_end}
+use Rattle.ed_initial1.proofs.Loop.{number_fits}
 use Rattle.ed_initial1.proofs.checking.read_rows.Goals.{in-None, in-Some+in-Longer}
 use Rattle.ed_initial1.proofs.checking.read_rows.Goals.{in-Some+in-Ended+in_ok-push-in-Ended+else-len-from}
 use Rattle.ed_initial1.proofs.checking.read_rows.Goals as goal
 
 pub loop-row-init : goal.loop-row-init
-loop-row-init c = rw c.new-words.ensures.items (begins c.args.rows.now)
+loop-row-init c = rw c.new-words.ensures.items (StandsAt-begins c.args.rows.now)
 
 pub returns-in-Refused : goal.returns-in-Refused
 returns-in-Refused c =
     let row = c.index-rows-row in
-    refused (rw c.in-Some.is at c.loop-row.invariant) c.loop-row-test.true row.is
+    IsFault1-refused (rw c.in-Some.is at c.loop-row.invariant) c.loop-row-test.true row.is
     (c.is_empty-first.ensures ∙ ap (λ n. nat_eq n 0) c.loop-row.words.ok.0)
     (sym c.in-Refused.is ∙ c.take.ensures)
 

@@ -1,9 +1,8 @@
-use Rattle.std.proofs.Common.{◌≡◌, ◌∙◌, refl, sym, arith, rules, get_or}
+use Rattle.ed_initial1.proofs.Kit.{Full, arith, get_or, refl, sym, ◌∙◌, ◌≡◌, first_orders}
+use Rattle.std.proofs.Common.{rules}
 use Rattle.std.proofs.lemmas.Bool.{false≢true}
-use borrow.Author.Count.{below_more}
-use Rattle.ed_words.specs.declared.size.Size.TheVariants.{Full}
-use Rattle.ed_initial1.specs.Listing.{first_orders}
 use Rattle.ed_initial.proofs.Compared.{tested, is_same, is_other}
+use borrow.Author.Count.{below_more}
 use Rattle.ed_initial1.proofs.starting.is_started1.Goals as goal
 
 pub returns-then-ne-2 : goal.returns-then-ne-2

@@ -1,13 +1,9 @@
-use Rattle.std.proofs.Common.{◌≡◌, ◌+◌, ◌-◌, ◌<◌, ◌≤◌, ◌∙◌, ℕ, refl, ap, arith}
-use Rattle.std.proofs.lemmas.Result.{err_from_is_err_and}
-use Rattle.ed_io.proofs.Calls.{gains_more, gains_none}
-use Rattle.std.specs.Prelude.{Err}
-use Rattle.ed_io.specs.Causes.{stop_faults}
-use Rattle.ed_interlude.specs.Parts.{cut, entry_done, finished, part_after}
-use Rattle.ed_interlude.specs.declared.part.Passed.{Passed}
-use Rattle.ed_interlude.specs.Private.Stages.{stage_part}
+use Rattle.ed_interlude.proofs.Kit.{Err, err_from_is_err_and, ap, arith, refl, ℕ, ◌+◌, ◌-◌, ◌<◌, ◌∙◌, ◌≡◌, ◌≤◌}
+use Rattle.ed_interlude.proofs.Kit.{stop_faults, gains_more, gains_none, cut, entry_done, finished, part_after}
+use Rattle.ed_interlude.proofs.Kit.{part_at_start}
+use Rattle.ed_interlude.specs.declared.part.PartOutcome.{PartOutcome}
 use Rattle.ed_interlude.proofs.Passing.{back_from, behind_is, entry_breaks, entry_is, finishes_there, made_as}
-use Rattle.ed_interlude.proofs.Passing.{entry_stops, return_breaks, return_stops, returned_is, there}
+use Rattle.ed_interlude.proofs.Passing.{entry_stops, return_breaks, return_stops, returned_is, part_entry_state-there}
 use Rattle.ed_interlude.proofs.Programs.{home_within}
 use Rattle.ed_interlude.proofs.part.enter_part.Goals as goal
 
@@ -26,7 +22,7 @@ returns-then-left-arrival g c =
         _,
         cut a.0 a.1.leads (runs_out _ _ _ _ c.if-left-arrival.true a.1.orders_are c.requires.done) refl,
         refl,
-        c.obey.ensures.state,
+        c.obey_next.ensures.state,
         gains_none _,
       );
       faults = refl;
@@ -35,18 +31,18 @@ returns-then-left-arrival g c =
 pub returns-in_err-write_line : goal.returns-in_err-write_line
 returns-in_err-write_line g c =
     let a = c.requires.arrival in
-    let p = stage_part c.args.stage c.args.machine.now in
-    let line = entry_is c.args.stage.rows p a.0 a.1.at_is a.1.orders_are a.1.rows_are in
-    let within : entry_done p a.0 ≤ c.args.stage.limit =
+    let p = part_at_start c.args.part_start c.args.machine.now in
+    let line = entry_is c.args.part_start.rows p a.0 a.1.at_is a.1.orders_are a.1.rows_are in
+    let within : entry_done p a.0 ≤ c.args.part_start.limit =
     still_left _ _ _ _ c.if-left-arrival.false a.1.orders_are c.requires.done in
     let e = err_from_is_err_and c.from_residual.result c.from_residual.ensures.1 in
     let gains = c.in_err-write_line.ensures.whole _ (made_as _ _ _ line c.entry_text.ensures) in
     rw (e.1, e.2) (record {
       passes = (
-        entry_breaks c.args.stage.limit c.args.stage.rows p a.0 a.1.leads within gains,
-        entry_stops c.args.stage.limit c.args.stage.rows p a.0 a.1.leads within
-            (there c.args.stage.limit p a.0 a.1.orders_are c.obey-2.ensures.state) c.in_err-write_line.field-0.0 gains
-            c.in_err-write_line.ensures.memory,
+        entry_breaks c.args.part_start.limit c.args.part_start.rows p a.0 a.1.leads within gains,
+        entry_stops c.args.part_start.limit c.args.part_start.rows p a.0 a.1.leads within
+            (part_entry_state-there c.args.part_start.limit p a.0 a.1.orders_are c.obey_next-2.ensures.state)
+            c.in_err-write_line.field-0.0 gains c.in_err-write_line.ensures.memory,
       );
       faults = c.in_err-write_line.ensures.faults;
     })
@@ -59,17 +55,17 @@ overflow_add-done g c =
 pub returns-in-Finished : goal.returns-in-Finished
 returns-in-Finished g c =
     let a = c.requires.arrival in
-    let p = stage_part c.args.stage c.args.machine.now in
-    let line = entry_is c.args.stage.rows p a.0 a.1.at_is a.1.orders_are a.1.rows_are in
+    let p = part_at_start c.args.part_start c.args.machine.now in
+    let line = entry_is c.args.part_start.rows p a.0 a.1.at_is a.1.orders_are a.1.rows_are in
     let m = c.in-Finished.ensures.meets in
-    let l = c.args.stage.limit in
+    let l = c.args.part_start.limit in
     record {
       passes = (
         _,
         finished a.0 m.0 _ a.1.leads (still_left _ _ _ _ c.if-left-arrival.false a.1.orders_are c.requires.done)
-            (finishes_there l p a.0 a.1.orders_are c.obey-2.ensures.state m.1) refl,
+            (finishes_there l p a.0 a.1.orders_are c.obey_next-2.ensures.state m.1) refl,
         refl,
-        behind_is l p a.0 a.1.orders_are c.obey-2.ensures.state m.0 m.2,
+        behind_is l p a.0 a.1.orders_are c.obey_next-2.ensures.state m.0 m.2,
         c.in_ok-write_line.ensures.whole _ (made_as _ _ _ line c.entry_text.ensures),
       );
       faults = c.in_ok-write_line.ensures.faults;
@@ -78,16 +74,16 @@ returns-in-Finished g c =
 pub returns-in_ok-write_line-in-Returned : goal.returns-in_ok-write_line-in-Returned
 returns-in_ok-write_line-in-Returned g c =
     let a = c.requires.arrival in
-    let p = stage_part c.args.stage c.args.machine.now in
-    let line = entry_is c.args.stage.rows p a.0 a.1.at_is a.1.orders_are a.1.rows_are in
+    let p = part_at_start c.args.part_start c.args.machine.now in
+    let line = entry_is c.args.part_start.rows p a.0 a.1.at_is a.1.orders_are a.1.rows_are in
     let m = c.in-Returned.ensures.meets in
-    let l = c.args.stage.limit in
+    let l = c.args.part_start.limit in
     let b =
-    back_from l p a.0 a.1.orders_are c.obey-2.ensures.state a.1.leads
+    back_from l p a.0 a.1.orders_are c.obey_next-2.ensures.state a.1.leads
     (still_left _ _ _ _ c.if-left-arrival.false refl c.requires.done) m.0 in
-    let last = behind_is l p a.0 a.1.orders_are c.obey-2.ensures.state c.in-Returned.orders m.1 in
-    let count : c.args.stage.done + c.args.arrival.orders + c.in-Returned.orders ≡ (part_after p b).done =
-    ap (λ n. c.args.stage.done + n + c.in-Returned.orders) a.1.orders_are in
+    let last = behind_is l p a.0 a.1.orders_are c.obey_next-2.ensures.state c.in-Returned.orders m.1 in
+    let count : c.args.part_start.done + c.args.arrival.orders + c.in-Returned.orders ≡ (part_after p b).done =
+    ap (λ n. c.args.part_start.done + n + c.in-Returned.orders) a.1.orders_are in
     let told = returned_is b last c.directive.ensures c.order-address.ensures.is count in
     record {
       passes = (
@@ -103,16 +99,16 @@ returns-in_ok-write_line-in-Returned g c =
 pub returns-in_err-write_line-in-Returned : goal.returns-in_err-write_line-in-Returned
 returns-in_err-write_line-in-Returned g c =
     let a = c.requires.arrival in
-    let p = stage_part c.args.stage c.args.machine.now in
-    let line = entry_is c.args.stage.rows p a.0 a.1.at_is a.1.orders_are a.1.rows_are in
+    let p = part_at_start c.args.part_start c.args.machine.now in
+    let line = entry_is c.args.part_start.rows p a.0 a.1.at_is a.1.orders_are a.1.rows_are in
     let m = c.in-Returned.ensures.meets in
-    let l = c.args.stage.limit in
+    let l = c.args.part_start.limit in
     let b =
-    back_from l p a.0 a.1.orders_are c.obey-2.ensures.state a.1.leads
+    back_from l p a.0 a.1.orders_are c.obey_next-2.ensures.state a.1.leads
     (still_left _ _ _ _ c.if-left-arrival.false refl c.requires.done) m.0 in
-    let last = behind_is l p a.0 a.1.orders_are c.obey-2.ensures.state c.in-Returned.orders m.1 in
-    let count : c.args.stage.done + c.args.arrival.orders + c.in-Returned.orders ≡ (part_after p b).done =
-    ap (λ n. c.args.stage.done + n + c.in-Returned.orders) a.1.orders_are in
+    let last = behind_is l p a.0 a.1.orders_are c.obey_next-2.ensures.state c.in-Returned.orders m.1 in
+    let count : c.args.part_start.done + c.args.arrival.orders + c.in-Returned.orders ≡ (part_after p b).done =
+    ap (λ n. c.args.part_start.done + n + c.in-Returned.orders) a.1.orders_are in
     let told = returned_is b last c.directive.ensures c.order-address.ensures.is count in
     let whole = c.in_ok-write_line.ensures.whole _ (made_as _ _ _ line c.entry_text.ensures) in
     let failed = c.in_err-write_line-in-Returned in
@@ -121,10 +117,10 @@ returns-in_err-write_line-in-Returned g c =
     let gains = failed.ensures.whole _ (made_as _ _ _ told c.returned_text.ensures) in
     rw (e.1, e.2) (record {
       passes = (
-        return_breaks l c.args.stage.rows p b whole gains,
-        return_stops l c.args.stage.rows p b _ _ _ last whole failed.field-0.0 gains failed.ensures.memory,
+        return_breaks l c.args.part_start.rows p b whole gains,
+        return_stops l c.args.part_start.rows p b _ _ _ last whole failed.field-0.0 gains failed.ensures.memory,
       );
       faults = c.in_err-write_line-in-Returned.ensures.faults
-          ∙ ap (stop_faults {T = Passed} (Err c.in_err-write_line-in-Returned.field-0.0))
+          ∙ ap (stop_faults {T = PartOutcome} (Err c.in_err-write_line-in-Returned.field-0.0))
           c.in_ok-write_line.ensures.faults;
     })

@@ -1,8 +1,5 @@
-use Rattle.std.proofs.Common.{inl, ◌+◌, ◌-◌, ◌∙◌, refl, arith, [], length}
-use Rattle.ed_io.proofs.Calls.{gains_none}
-use Rattle.ed_interlude.specs.declared.tape.PartsEnd.TheVariants.{Faulty}
-use Rattle.ed_interlude.specs.Parts.{PartsReport, faulty}
-use Rattle.ed_interlude.specs.Private.Stages.{stage_part}
+use Rattle.ed_interlude.proofs.Kit.{[], arith, inl, length, refl, ◌+◌, ◌-◌, ◌∙◌, gains_none, faulty, PartsReport}
+use Rattle.ed_interlude.proofs.Kit.{part_at_start, Faulty}
 use Rattle.ed_interlude.proofs.Parting.{part_opens}
 use Rattle.ed_interlude.proofs.Passing.{breaks_first}
 use Rattle.ed_interlude.proofs.Rows.{entry_within, fault_within}
@@ -17,7 +14,7 @@ enter_part-requires-clause-arrival g c =
         leads = record { well = a.well; comes = a.comes };
         at_is = c.entry.ensures ∙ a.entry_is;
         orders_are = c.orders.ensures ∙ a.orders_are;
-        rows_are = λ i. c.args.stage.rows - length (c.rows_left.ensures i) + rows i;
+        rows_are = λ i. c.args.part_start.rows - length (c.rows_left.ensures i) + rows i;
       },
     )
 
@@ -26,7 +23,7 @@ returns-in-Err-At g c =
     let row = c.in-Err-At.row-is in
     let report : PartsReport = record {
       text = [];
-      end = Faulty c.args.stage.number (c.args.stage.rows - length c.args.machine.now.tape + c.in-Err-At.row)
+      end = Faulty c.args.part_start.number (c.args.part_start.rows - length c.args.machine.now.tape + c.in-Err-At.row)
           c.in-Err-At.cause;
       last = c.args.machine.now;
     } in
@@ -34,7 +31,7 @@ returns-in-Err-At g c =
       passes = (
         report,
         faulty c.in-Err-At.row c.in-Err-At.cause (rw c.in-Err-At.field-0-is at c.in-Err-At.ensures) refl,
-        (λ i. Faulty c.args.stage.number (c.args.stage.rows - length (c.rows_left.ensures i) + row i)
+        (λ i. Faulty c.args.part_start.number (c.args.part_start.rows - length (c.rows_left.ensures i) + row i)
             (c.in-Err-At.cause-is i)),
         refl,
         gains_none _,
@@ -44,9 +41,13 @@ returns-in-Err-At g c =
 
 pub returns-in-Err-Memory : goal.returns-in-Err-Memory
 returns-in-Err-Memory g c =
-    let p = stage_part c.args.stage c.args.machine.now in
+    let p = part_at_start c.args.part_start c.args.machine.now in
     record {
-      passes = (breaks_first c.args.stage.limit c.args.stage.rows p _ (part_opens p c.requires.back), inl (refl, refl));
+      passes = (
+        breaks_first c.args.part_start.limit c.args.part_start.rows p _
+            (part_opens p c.requires.back),
+        inl (refl, refl),
+      );
       faults = refl;
     }
 
@@ -62,12 +63,12 @@ enter_part-requires-clause-orders g c = c.requires.orders
 pub overflow_add-arrival : goal.overflow_add-arrival
 overflow_add-arrival g c =
     let a = c.in-Ok.ensures in
-    let p = stage_part c.args.stage c.args.machine.now in
+    let p = part_at_start c.args.part_start c.args.machine.now in
     let within = entry_within p a.entry (record { well = a.well; comes = a.comes }) in
     omega (arith, c.requires.rows, c.requires.tape, c.rows.ensures, a.rows_are, within)
 
 pub overflow_add-result : goal.overflow_add-result
 overflow_add-result g c =
-    let p = stage_part c.args.stage c.args.machine.now in
+    let p = part_at_start c.args.part_start c.args.machine.now in
     let within = fault_within p c.in-Err-At.row c.in-Err-At.cause (rw c.in-Err-At.field-0-is at c.in-Err-At.ensures) in
     omega (arith, c.requires.rows, c.requires.tape, c.in-Err-At.row-is, within)

@@ -1,7 +1,4 @@
-use Rattle.std.proofs.Common.{◌≡◌, refl, sym, []}
-use Rattle.ed_io.specs.declared.stop.WriteStop.TheVariants.{Failed, Memory}
-use Rattle.std.proofs.lemmas.Result.{err_from_is_err_and}
-use Rattle.ed_io.proofs.Calls.{gains_none}
+use Rattle.ed_interlude.proofs.Kit.{err_from_is_err_and, [], refl, sym, ◌≡◌, Failed, Memory, gains_none}
 use Rattle.ed_interlude.proofs.part.write_line.Goals as goal
 
 never : {A : Type 0} → Failed ≡ Memory → A

@@ -1,7 +1,6 @@
-use Rattle.std.proofs.Common.{◌+◌, ◌∙◌, refl, arith}
+use Rattle.ed_interlude.proofs.Kit.{arith, refl, ◌+◌, ◌∙◌, next_state}
 use Rattle.std.proofs.lemmas.Bool.{iff_false}
-use Rattle.ed_machine.proofs.Steps.{next_state}
-use Rattle.ed_interlude.proofs.Programs.{at_limit, blocks, going, goes_on, running_first, stops_there}
+use Rattle.ed_interlude.proofs.Programs.{at_limit, Finishes-blocks, GoesOn-going, goes_on, running_first, stops_there}
 use Rattle.ed_interlude.proofs.program.run_program.Goals as goal
 
 pub loop-done-init : goal.loop-done-init
@@ -23,7 +22,7 @@ loop-done-preserved c =
     record {
       running = goes_on i.running c.loop-done-test.true
           (iff_false c.is_returned.ensures c.if-is_returned.false)
-          c.step.ensures.turn c.step.ensures.state (going _ c.in-Went.is);
+          c.step.ensures.turn c.step.ensures.state (GoesOn-going _ c.in-Went.is);
       orders = omega (arith, i.orders, c.step.ensures.count);
     }
 
@@ -32,7 +31,7 @@ returns-in-NoOrder-clause-meets c =
     let r = c.loop-done.invariant.running in
     let away = iff_false c.is_returned.ensures c.if-is_returned.false in (
       c.loop-done.done,
-      blocks r c.loop-done-test.true away c.step.ensures.turn (rw c.in-NoOrder.is refl),
+      Finishes-blocks r c.loop-done-test.true away c.step.ensures.turn (rw c.in-NoOrder.is refl),
       c.step.ensures.blocked (rw c.in-NoOrder.is refl) ∙ r.state,
     )
 
@@ -41,7 +40,7 @@ returns-in-NoTape-clause-meets c =
     let r = c.loop-done.invariant.running in
     let away = iff_false c.is_returned.ensures c.if-is_returned.false in (
       c.loop-done.done,
-      blocks r c.loop-done-test.true away c.step.ensures.turn (rw c.in-NoTape.is refl),
+      Finishes-blocks r c.loop-done-test.true away c.step.ensures.turn (rw c.in-NoTape.is refl),
       c.step.ensures.blocked (rw c.in-NoTape.is refl) ∙ r.state,
     )
 

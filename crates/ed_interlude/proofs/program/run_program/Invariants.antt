@@ -1,4 +1,4 @@
-use Rattle.std.proofs.Common.{◌+◌, ◌≤◌}
+use Rattle.ed_interlude.proofs.Kit.{◌+◌, ◌≤◌}
 use Rattle.ed_interlude.proofs.Programs.{Running}
 use Rattle.ed_interlude.proofs.program.run_program.Given as goal
 

@@ -1,8 +1,7 @@
-use Rattle.std.proofs.Common.{◌≡◌, ◌≤◌, refl, arith, get_or}
+use Rattle.ed_interlude.proofs.Kit.{arith, get_or, refl, ◌≡◌, ◌≤◌, initial_orders}
 use Rattle.std.proofs.lemmas.Bool.{false≢true}
-use borrow.Author.Count.{below_more}
-use Rattle.ed_initial.specs.Listing.{initial_orders}
 use Rattle.ed_initial.proofs.Compared.{is_same, is_other}
+use borrow.Author.Count.{below_more}
 use Rattle.ed_interlude.proofs.returning.are_listed.Goals as goal
 
 pub returns-then-ne : goal.returns-then-ne

@@ -1,5 +1,4 @@
-use Rattle.std.proofs.Common.{◌≡◌, ℕ, ◌<◌, ◌≤◌, get_or}
-use Rattle.ed_initial.specs.Listing.{initial_orders}
+use Rattle.ed_interlude.proofs.Kit.{get_or, ℕ, ◌<◌, ◌≡◌, ◌≤◌, initial_orders}
 use Rattle.ed_interlude.proofs.returning.are_listed.Given as goal
 
 abbrev pub invariant-loop-place : goal.invariant-loop-place

@@ -1,9 +1,6 @@
-use Rattle.std.proofs.Common.{refl, sym, ◌∙◌, ap, arith, length, lit≤, ℕ, ◌+◌, ◌-◌, ◌*◌, ◌≤◌, ◌<◌}
-use Rattle.std.proofs.Common.{le_of_eq, le_trans, le-add_right, zero-le}
-use Rattle.std.proofs.lemmas.Result.{err_from_is_err_and}
-use Rattle.std.specs.Prelude.{Err}
-use Rattle.ed_io.specs.Causes.{stop_faults}
-use Rattle.ed_interlude.specs.declared.tape.PartsEnd.{PartsEnd}
+use Rattle.ed_interlude.proofs.Kit.{Err, err_from_is_err_and, ap, arith, length, refl, sym, ℕ, ◌*◌, ◌+◌, ◌-◌, ◌<◌, ◌∙◌}
+use Rattle.ed_interlude.proofs.Kit.{◌≤◌, stop_faults, PartsEnd}
+use Rattle.std.proofs.Common.{lit≤, le_of_eq, le_trans, le-add_right, zero-le}
 use Rattle.ed_interlude.proofs.Passing.{ahead_first, answers_broken, answers_over, goes_onward}
 use Rattle.ed_interlude.proofs.Reached.{each_reached}
 use Rattle.ed_interlude.proofs.Runs.{each_end}
@@ -35,11 +32,11 @@ parts-init g c =
       faults = refl;
     }
 
-pub returns-in-Over : goal.returns-in-Over
-returns-in-Over g c =
+pub returns-in-Ended : goal.returns-in-Ended
+returns-in-Ended g c =
     let i = c.parts.invariant in
     record {
-      tells = answers_over _ c.from.ensures i.whole i.ahead (rw c.in-Over.is at c.in_ok-end.ensures.passes);
+      tells = answers_over _ c.from.ensures i.whole i.ahead (rw c.in-Ended.is at c.in_ok-end.ensures.passes);
       faults = c.in_ok-end.ensures.faults ∙ i.faults;
       law = each_told_once;
       reached = each_reached;
@@ -64,7 +61,7 @@ parts-preserved g c =
     let i = c.parts.invariant in
     let o =
     goes_onward _ c.from.ensures i.whole i.ahead
-    (rw c.in-Back.is at c.in_ok-end.ensures.passes) in
+    (rw c.in-Returned.is at c.in_ok-end.ensures.passes) in
     record {
       ahead = o.ahead;
       back = λ ne. o.home;
@@ -85,7 +82,7 @@ parts-smaller g c =
     let i = c.parts.invariant in
     let o =
     goes_onward _ c.from.ensures i.whole i.ahead
-    (rw c.in-Back.is at c.in_ok-end.ensures.passes) in
+    (rw c.in-Returned.is at c.in_ok-end.ensures.passes) in
     nearer _ _ _ o.later.later o.later.within
 
 pub run_part-requires-clause-orders : goal.run_part-requires-clause-orders

@@ -1,7 +1,4 @@
-use Rattle.std.proofs.Common.{◌≡◌, ◌≢◌, ◌+◌, ◌-◌, ◌*◌, ◌≤◌, length}
-use Rattle.ed_interlude.specs.Returned.{IsReturned}
-use Rattle.ed_interlude.specs.Parts.{first_part}
-use Rattle.ed_interlude.specs.Private.Stages.{Ahead}
+use Rattle.ed_interlude.proofs.Kit.{length, ◌*◌, ◌+◌, ◌-◌, ◌≡◌, ◌≢◌, ◌≤◌, first_part, Ahead, IsReturned}
 use Rattle.ed_interlude.proofs.tape.run_parts.Given as goal
 
 abbrev pub invariant-parts : goal.invariant-parts

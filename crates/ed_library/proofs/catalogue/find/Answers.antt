@@ -1,7 +1,7 @@
 use Rattle.std.proofs.Common.{◌≡◌, ◌<◌, ◌≤◌, ◌∙◌, ℕ, ap, sym, subst, true, false, List, Some}
 use Rattle.std.specs.Str.{bytes_eq}
 use Rattle.ed_library.specs.Entries.{entry}
-use Rattle.ed_library.proofs.Found.{found, none_left, passed_over}
+use Rattle.ed_library.proofs.Found.{find_from-found, none_left, passed_over}
 use Rattle.ed_library.proofs.catalogue.find.Goals as goal
 
 pub routine-routine-requires : goal.routine-routine-requires
@@ -25,7 +25,7 @@ returns-then-eq c =
     ap (λ (r : ℕ). bytes_eq (entry r).name text) (sym c.routine-routine.ensures)
     ∙ ap (λ (name : List ℕ). bytes_eq name text) (sym c.name.ensures) ∙ sym c.eq.ensures ∙ c.if-eq.true in
     ap Some c.routine-routine.ensures
-    ∙ sym (found text c.loop-index.index
+    ∙ sym (find_from-found text c.loop-index.index
     (subst (λ (n : ℕ). c.loop-index.index < n) c.catalogue_size-index-end.ensures.is c.loop-index-test.true) same)
     ∙ c.loop-index.invariant
 

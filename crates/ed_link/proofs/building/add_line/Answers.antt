@@ -1,6 +1,4 @@
-use Rattle.std.proofs.Common.{◌∙◌, List, [], ◌∷◌, ◌++◌}
-use Rattle.std.proofs.lemmas.Result.{on_ok_weaker}
-use Rattle.ed_link.specs.declared.faults.Extent.{Extent}
+use Rattle.ed_link.proofs.Kit.{on_ok_weaker, [], List, ◌++◌, ◌∙◌, ◌∷◌, Extent}
 use Rattle.ed_link.proofs.Steps.{entry_fits}
 use Rattle.ed_link.proofs.building.add_line.Goals as goal
 

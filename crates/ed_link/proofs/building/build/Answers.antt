@@ -1,19 +1,18 @@
-use Rattle.ed_link.specs.FaultTests.{LinesBefore}
-use Rattle.std.proofs.Common.{sym, is_some}
+use Rattle.ed_link.proofs.Kit.{sym, is_some, LinesBefore}
 use Rattle.ed_link.proofs.Inductions.{faultless, first_enter}
-use Rattle.ed_link.proofs.LineLoop.{all_built, reach_fits, start, step, stopped}
+use Rattle.ed_link.proofs.LineLoop.{all_built, reach_fits, Doing-start, Doing-step, fault_from-stopped}
 use Rattle.ed_link.proofs.building.build.Goals as goal
 
 pub loop-line-init : goal.loop-line-init
 loop-line-init c =
     let s = c.in_ok-built.ensures in
-    start (λ i. record { extents = s.4 i; entered = is_some (s.2 i) }) c.first-counter.ensures s.0 s.1 s.2 s.3
+    Doing-start (λ i. record { extents = s.4 i; entered = is_some (s.2 i) }) c.first-counter.ensures s.0 s.1 s.2 s.3
 
 pub loop-line-preserved : goal.loop-line-preserved
 loop-line-preserved c =
     let added = c.in_ok-add_line.ensures in
     let counter = c.after_statement-counter.ensures in
-    step c.loop-line.invariant c.loop-line-test.true c.line-item.is (record {
+    Doing-step c.loop-line.invariant c.loop-line-test.true c.line-item.is (record {
       cause = sym c.in_default.ensures;
       few_items = added.few_items;
       few_rows = added.few_rows;
@@ -49,4 +48,4 @@ returns c =
 
 pub returns-in-Some : goal.returns-in-Some
 returns-in-Some c =
-    stopped c.loop-line.invariant c.loop-line-test.true c.line-item.is (sym c.in-Some.ensures)
+    fault_from-stopped c.loop-line.invariant c.loop-line-test.true c.line-item.is (sym c.in-Some.ensures)

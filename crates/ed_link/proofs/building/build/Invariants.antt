@@ -1,4 +1,4 @@
-use Rattle.std.proofs.Common.{is_some}
+use Rattle.ed_link.proofs.Kit.{is_some}
 use Rattle.ed_link.proofs.LineLoop.{Doing}
 use Rattle.ed_link.proofs.building.build.Given as goal
 

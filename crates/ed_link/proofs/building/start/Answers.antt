@@ -1,4 +1,4 @@
-use Rattle.std.proofs.Common.{rules, refl}
+use Rattle.ed_link.proofs.Kit.{refl, rules}
 use Rattle.ed_link.proofs.Lengths.{empty_is}
 use Rattle.ed_link.proofs.building.start.Goals as goal
 

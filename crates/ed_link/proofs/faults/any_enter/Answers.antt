@@ -1,7 +1,4 @@
-use Rattle.std.proofs.Common.{◌≡◌, ◌+◌, ◌∙◌, ap, true, false, Bool, drop, rules}
-use Rattle.std.specs.Prelude.{◌||◌}
-use Rattle.ed_syntax.specs.declared.program.Line.{Line}
-use Rattle.ed_link.specs.FaultTests.{any_enter, is_enter}
+use Rattle.ed_link.proofs.Kit.{ap, Bool, drop, false, true, ◌+◌, ◌∙◌, ◌≡◌, Line, rules, ◌||◌, any_enter, is_enter}
 use Rattle.ed_link.proofs.Loops.{at_item, at_end}
 use Rattle.ed_link.proofs.faults.any_enter.Goals as goal
 

@@ -1,5 +1,4 @@
-use Rattle.std.proofs.Common.{◌≡◌, drop}
-use Rattle.ed_link.specs.FaultTests.{any_enter}
+use Rattle.ed_link.proofs.Kit.{drop, ◌≡◌, any_enter}
 use Rattle.ed_link.proofs.faults.any_enter.Given as goal
 
 abbrev pub invariant-loop-line : goal.invariant-loop-line

@@ -1,7 +1,4 @@
-use Rattle.std.proofs.Common.{◌+◌, ◌∙◌, sym, ap, ℕ, Bool, List, drop, is_some}
-use Rattle.std.specs.Prelude.{◌&&◌}
-use Rattle.std.specs.List.{list_all}
-use Rattle.ed_link.specs.Linked.{set_to}
+use Rattle.ed_link.proofs.Kit.{ap, Bool, drop, List, sym, ℕ, ◌&&◌, ◌+◌, ◌∙◌, list_all, is_some, set_to}
 use Rattle.ed_link.proofs.Loops.{at_item, at_end}
 use Rattle.ed_link.proofs.faults.are_set.Goals as goal
 

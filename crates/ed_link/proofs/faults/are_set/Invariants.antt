@@ -1,6 +1,4 @@
-use Rattle.std.proofs.Common.{◌≡◌, drop, is_some}
-use Rattle.std.specs.List.{list_all}
-use Rattle.ed_link.specs.Linked.{set_to}
+use Rattle.ed_link.proofs.Kit.{drop, ◌≡◌, list_all, is_some, set_to}
 use Rattle.ed_link.proofs.faults.are_set.Given as goal
 
 -- the same for the letters that are left

@@ -1,9 +1,6 @@
-use Rattle.std.proofs.Common.{◌≡◌, ◌∙◌, ap, refl, Bool, true, false}
-use Rattle.std.specs.List.{list_any}
+use Rattle.ed_link.proofs.Kit.{ap, Bool, refl, ◌∙◌, extent, is_misplaced, overlaps, Extent}
+use Rattle.ed_link.proofs.Causes.{among, clear, fails, holds, unused, used, within}
 use Rattle.ed_syntax.specs.declared.fault.SourceCause.TheVariants as causes
-use Rattle.ed_link.specs.declared.faults.Extent.{Extent}
-use Rattle.ed_link.specs.FaultTests.{extent, has_no_routine, is_misplaced, overlaps, sets_otherwise, word_extent}
-use Rattle.ed_link.proofs.Causes.{clear, fails, holds, unused, used, within}
 use Rattle.ed_link.proofs.faults.cause_of.Goals as goal
 
 pub returns-then-is_outside : goal.returns-then-is_outside
@@ -29,71 +26,42 @@ returns-then-overlaps-3 c =
 
 pub returns-then-overlaps_any : goal.returns-then-overlaps_any
 returns-then-overlaps_any c =
-    let n = c.from.ensures ∙ c.value.ensures.is in
-    let words = word_extent c.args.line.now.statement c.args.counter in
-    let overlap : true ≡ list_any (λ other. overlaps words other) c.args.built.now.extents.items =
-    c.if-overlaps_any.ensures
-    ∙ (λ i. list_any (λ other. overlaps (c.extent_of.ensures i) other) (c.deref.ensures.value i)) in
-    within _ _ _ _ _ _ _ _ _ _ _ c.reach-reach.ensures n c.if-is_outside.ensures c.if-overlaps.ensures
-    c.if-overlaps-2.ensures c.if-overlaps-3.ensures
-    (holds _ _ _ overlap)
+    within _ _ _ _ _ _ _ _ _ _ _ c.reach-reach.ensures (c.from.ensures ∙ c.value.ensures.is) c.if-is_outside.ensures
+    c.if-overlaps.ensures c.if-overlaps-2.ensures c.if-overlaps-3.ensures
+    (holds _ _ _ (among c.if-overlaps_any.ensures c.extent_of.ensures c.deref.ensures.value))
 
 pub returns-in-Some : goal.returns-in-Some
 returns-in-Some c =
-    let n = c.from.ensures ∙ c.value.ensures.is in
-    let words = word_extent c.args.line.now.statement c.args.counter in
-    let apart : false ≡ list_any (λ other. overlaps words other) c.args.built.now.extents.items =
-    c.if-overlaps_any.ensures
-    ∙ (λ i. list_any (λ other. overlaps (c.extent_of.ensures i) other) (c.deref.ensures.value i)) in
-    within _ _ _ _ _ _ _ _ _ _ _ c.reach-reach.ensures n c.if-is_outside.ensures c.if-overlaps.ensures
-    c.if-overlaps-2.ensures c.if-overlaps-3.ensures
-    (fails _ _ _ _ apart
-    (used (has_no_routine c.args.line.now.statement) (sets_otherwise c.args.line.now.statement)
-    causes.NoSuchRoutine causes.Parameters _ _ c.in-Some.ensures))
+    within _ _ _ _ _ _ _ _ _ _ _ c.reach-reach.ensures (c.from.ensures ∙ c.value.ensures.is) c.if-is_outside.ensures
+    c.if-overlaps.ensures c.if-overlaps-2.ensures c.if-overlaps-3.ensures
+    (fails _ _ _ _ (among c.if-overlaps_any.ensures c.extent_of.ensures c.deref.ensures.value)
+    (used _ _ causes.NoSuchRoutine causes.Parameters _ _ c.in-Some.ensures))
 
 pub returns-then-is_misplaced : goal.returns-then-is_misplaced
 returns-then-is_misplaced c =
-    let n = c.from.ensures ∙ c.value.ensures.is in
-    let words = word_extent c.args.line.now.statement c.args.counter in
-    let apart : false ≡ list_any (λ other. overlaps words other) c.args.built.now.extents.items =
-    c.if-overlaps_any.ensures
-    ∙ (λ i. list_any (λ other. overlaps (c.extent_of.ensures i) other) (c.deref.ensures.value i)) in
-    within _ _ _ _ _ _ _ _ _ _ _ c.reach-reach.ensures n c.if-is_outside.ensures c.if-overlaps.ensures
-    c.if-overlaps-2.ensures c.if-overlaps-3.ensures
-    (fails _ _ _ _ apart
-    (unused (has_no_routine c.args.line.now.statement) (sets_otherwise c.args.line.now.statement)
-    causes.NoSuchRoutine causes.Parameters _ c.in_default.ensures
+    within _ _ _ _ _ _ _ _ _ _ _ c.reach-reach.ensures (c.from.ensures ∙ c.value.ensures.is) c.if-is_outside.ensures
+    c.if-overlaps.ensures c.if-overlaps-2.ensures c.if-overlaps-3.ensures
+    (fails _ _ _ _ (among c.if-overlaps_any.ensures c.extent_of.ensures c.deref.ensures.value)
+    (unused _ _ causes.NoSuchRoutine causes.Parameters _ c.in_default.ensures
     (holds _ _ _ (c.if-is_misplaced.ensures
     ∙ ap (λ (entered : Bool). is_misplaced entered c.args.has_enter c.args.line.now) c.is_some.ensures))))
 
 pub returns-then-has_sandwich : goal.returns-then-has_sandwich
 returns-then-has_sandwich c =
-    let n = c.from.ensures ∙ c.value.ensures.is in
-    let words = word_extent c.args.line.now.statement c.args.counter in
-    let apart : false ≡ list_any (λ other. overlaps words other) c.args.built.now.extents.items =
-    c.if-overlaps_any.ensures
-    ∙ (λ i. list_any (λ other. overlaps (c.extent_of.ensures i) other) (c.deref.ensures.value i)) in
-    within _ _ _ _ _ _ _ _ _ _ _ c.reach-reach.ensures n c.if-is_outside.ensures c.if-overlaps.ensures
-    c.if-overlaps-2.ensures c.if-overlaps-3.ensures
-    (fails _ _ _ _ apart
-    (unused (has_no_routine c.args.line.now.statement) (sets_otherwise c.args.line.now.statement)
-    causes.NoSuchRoutine causes.Parameters _ c.in_default.ensures
+    within _ _ _ _ _ _ _ _ _ _ _ c.reach-reach.ensures (c.from.ensures ∙ c.value.ensures.is) c.if-is_outside.ensures
+    c.if-overlaps.ensures c.if-overlaps-2.ensures c.if-overlaps-3.ensures
+    (fails _ _ _ _ (among c.if-overlaps_any.ensures c.extent_of.ensures c.deref.ensures.value)
+    (unused _ _ causes.NoSuchRoutine causes.Parameters _ c.in_default.ensures
     (fails _ _ _ _ (c.if-is_misplaced.ensures
     ∙ ap (λ (entered : Bool). is_misplaced entered c.args.has_enter c.args.line.now) c.is_some.ensures)
     (holds _ _ _ c.if-has_sandwich.ensures))))
 
 pub returns-else-has_sandwich : goal.returns-else-has_sandwich
 returns-else-has_sandwich c =
-    let n = c.from.ensures ∙ c.value.ensures.is in
-    let words = word_extent c.args.line.now.statement c.args.counter in
-    let apart : false ≡ list_any (λ other. overlaps words other) c.args.built.now.extents.items =
-    c.if-overlaps_any.ensures
-    ∙ (λ i. list_any (λ other. overlaps (c.extent_of.ensures i) other) (c.deref.ensures.value i)) in
-    within _ _ _ _ _ _ _ _ _ _ _ c.reach-reach.ensures n c.if-is_outside.ensures c.if-overlaps.ensures
-    c.if-overlaps-2.ensures c.if-overlaps-3.ensures
-    (fails _ _ _ _ apart
-    (unused (has_no_routine c.args.line.now.statement) (sets_otherwise c.args.line.now.statement)
-    causes.NoSuchRoutine causes.Parameters _ c.in_default.ensures
+    within _ _ _ _ _ _ _ _ _ _ _ c.reach-reach.ensures (c.from.ensures ∙ c.value.ensures.is) c.if-is_outside.ensures
+    c.if-overlaps.ensures c.if-overlaps-2.ensures c.if-overlaps-3.ensures
+    (fails _ _ _ _ (among c.if-overlaps_any.ensures c.extent_of.ensures c.deref.ensures.value)
+    (unused _ _ causes.NoSuchRoutine causes.Parameters _ c.in_default.ensures
     (fails _ _ _ _ (c.if-is_misplaced.ensures
     ∙ ap (λ (entered : Bool). is_misplaced entered c.args.has_enter c.args.line.now) c.is_some.ensures)
     (fails _ _ _ _ c.if-has_sandwich.ensures refl))))

@@ -1,9 +1,5 @@
-use Rattle.std.proofs.Common.{ℕ, ◌∙◌, ap, sym, refl, subst, true, List, [], ◌∷◌, ◌++◌}
-use Rattle.std.proofs.lemmas.List.{at_drop_all}
-use Rattle.ed_codes.specs.Spelling.{byte_of}
-use Rattle.ed_codes.specs.Text.{Spells}
-use Rattle.ed_notation.specs.Spellings.{line_from}
-use Rattle.ed_notation.proofs.Parts.{one_more}
+use Rattle.ed_link.proofs.Kit.{[], ap, List, refl, sym, true, ℕ, ◌++◌, ◌∙◌, ◌∷◌, at_drop_all, byte_of, line_from}
+use Rattle.ed_link.proofs.Kit.{one_more}
 use Rattle.ed_link.proofs.Texts.{one_spells, last_spells, no_text, some_text}
 use Rattle.ed_link.proofs.linked.push_after.Goals as goal
 
@@ -27,7 +23,7 @@ returns-clause-is c =
 
 pub returns-clause-spells : goal.returns-clause-spells
 returns-clause-spells c =
-    subst (λ (xs : List ℕ). Spells xs c.args.rows.now) (sym (some_text c.args.rows.now c.if-is_empty.ensures))
+    rw (some_text c.args.rows.now c.if-is_empty.ensures)
     (c.loop-row.invariant.1 (last_spells c.args.rows.now c.loop-row.row-index c.loop-row-test.false))
 
 pub returns-then-is_empty-clause-spells : goal.returns-then-is_empty-clause-spells

@@ -1,6 +1,4 @@
-use Rattle.std.proofs.Common.{◌≡◌, ◌++◌, true, drop}
-use Rattle.ed_codes.specs.Text.{Spells}
-use Rattle.ed_notation.specs.Spellings.{line_from}
+use Rattle.ed_link.proofs.Kit.{Spells, drop, true, ◌++◌, ◌≡◌, line_from}
 use Rattle.ed_link.proofs.linked.push_after.Given as goal
 
 -- the text so far and then that of the rows that are left; the line spells the rows if the rest of it does

@@ -1,13 +1,12 @@
-use Rattle.std.proofs.Common.{◌≡◌, ◌+◌, ◌∙◌, ap, drop, sym, refl, List, [], ◌∷◌, ◌++◌, append-nil, Vec, Global}
+use Rattle.ed_link.proofs.Kit.{append-nil, Global, Vec, [], ap, drop, List, refl, sym, ◌++◌, ◌+◌, ◌∙◌, ◌∷◌, ◌≡◌}
+use Rattle.ed_link.proofs.Kit.{one_more, label_of, labels}
 use Rattle.ed_link.specs.declared.linked.LabelPlace.{LabelPlace}
-use Rattle.ed_link.specs.Labels.{label_of, labels}
-use Rattle.ed_notation.proofs.Parts.{one_more}
-use Rattle.ed_link.proofs.Steps.{all_given, shown, hidden, hidden_far}
-use Rattle.ed_link.proofs.linking.labels_of.Goals as goal
+use Rattle.ed_link.proofs.Steps.{all_given, label_of-shown, label_of-hidden, hidden_far}
 use Rattle.ed_link.proofs.linking.labels_of.Goals.{then-not-is_local+then-definition-le1023+in_ok-push}
 use Rattle.ed_link.proofs.linking.labels_of.Goals.{else-not-is_local}
 use Rattle.ed_link.proofs.linking.labels_of.Goals.{else-not-is_local-via-then-not-is_local+else-definition-le1023}
 use Rattle.ed_link.proofs.linking.labels_of.Goals.{else-not-is_local-via-else-not-is_local}
+use Rattle.ed_link.proofs.linking.labels_of.Goals as goal
 
 pub loop-definition-preserved : goal.loop-definition-preserved
 loop-definition-preserved c =
@@ -22,13 +21,14 @@ loop-definition-preserved c =
     elim c.if-not-is_local.branch [
       | then-not-is_local+then-definition-le1023+in_ok-push w ↦ with_part
           (record { name = h.name; place = h.place } ∷ [])
-          (shown h (sym c.is_local.ensures ∙ w.if-not-is_local.true) w.if-definition-le1023.true)
+          (label_of-shown h (sym c.is_local.ensures ∙ w.if-not-is_local.true) w.if-definition-le1023.true)
           (ap (λ (v : Vec LabelPlace Global). v.items) w.labels-is ∙ w.in_ok-push.ensures.items)
       | else-not-is_local w ↦ with_part []
           (elim w.else-not-is_local.branch [
             | else-not-is_local-via-then-not-is_local+else-definition-le1023 v ↦ hidden_far h
                 (sym c.is_local.ensures ∙ v.if-not-is_local.true) v.if-definition-le1023.false
-            | else-not-is_local-via-else-not-is_local v ↦ hidden h (sym c.is_local.ensures ∙ v.if-not-is_local.false)
+            | else-not-is_local-via-else-not-is_local v ↦ label_of-hidden h
+                (sym c.is_local.ensures ∙ v.if-not-is_local.false)
           ])
           (ap (λ (v : Vec LabelPlace Global). v.items) w.labels-is ∙ sym (append-nil done))
     ]

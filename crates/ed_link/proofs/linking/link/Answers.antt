@@ -1,4 +1,4 @@
-use Rattle.std.proofs.Common.{◌∙◌}
+use Rattle.ed_link.proofs.Kit.{◌∙◌}
 use Rattle.ed_symbols.proofs.NameLaw.{fault_found}
 use Rattle.ed_link.proofs.FaultLaw.{answer_has_fault}
 use Rattle.ed_link.proofs.WordLaws.{each_word_stands}

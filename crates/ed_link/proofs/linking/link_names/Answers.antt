@@ -1,13 +1,9 @@
-use Rattle.std.proofs.Common.{◌∙◌, sym, ap, subst, List, Err, arith}
-use Rattle.ed_syntax.specs.declared.program.Line.{Line}
+use Rattle.ed_link.proofs.Kit.{ap, arith, List, subst, sym, ◌∙◌, Line, IsLinked, any_enter, IsBuilt, IsFinished}
 use Rattle.std.proofs.lemmas.Result.{IfOk-weaker}
-use Rattle.ed_link.specs.Answers.{IsLinked}
-use Rattle.ed_link.specs.Private.Building.{BuildIs, IsBuilt, IsFinished}
-use Rattle.ed_link.specs.FaultTests.{any_enter}
-use Rattle.ed_link.proofs.FaultLaw.{line_fault, name_fault}
 use Rattle.ed_link.proofs.Bounds.{tape_few}
+use Rattle.ed_link.proofs.FaultLaw.{line_fault, name_fault}
+use Rattle.ed_link.proofs.Finished.{built_spelled, IsLinked-finished}
 use Rattle.ed_link.proofs.Spellable.{all_spellable}
-use Rattle.ed_link.proofs.Finished.{built_spelled, finished}
 use Rattle.ed_link.proofs.linking.link_names.Goals as goal
 
 pub build-requires : goal.build-requires
@@ -34,7 +30,7 @@ returns-then-has_enter-clause-linked c =
     subst (λ (x : List Line). IsBuilt c.args.size c.args.symbols.now c.any_enter-has_enter.result x built)
     c.deref-2.ensures.value c.in-Ok.ensures in
     IfOk-weaker c.finish.result (λ k. IsFinished c.args.symbols.now built k) (λ k. IsLinked c.args.size lines k)
-    (λ k. finished _ c.catalogue_size-ready.ensures.ready c.args.program.now.numbered c.args.program.now.formed
+    (λ k. IsLinked-finished _ c.catalogue_size-ready.ensures.ready c.args.program.now.numbered c.args.program.now.formed
     c.requires.symbols enters (sym c.requires.names ∙ c.in-None.is) c.if-has_enter.true is_built) c.finish.ensures.is
 
 pub returns-in-Some-clause-fault : goal.returns-in-Some-clause-fault
@@ -49,7 +45,5 @@ pub returns-in-Err-clause-fault : goal.returns-in-Err-clause-fault
 returns-in-Err-clause-fault c =
     let enters = c.any_enter-has_enter.ensures ∙ ap (λ (x : List Line). any_enter x) c.deref.ensures.value in
     line_fault c.args.size c.args.program.now.lines.items c.args.program.now.numbered c.requires.symbols enters
-    c.in-Err.fault c.sooner.result c.requires.names
-    (subst (λ (x : List Line). BuildIs c.args.size c.args.symbols.now c.any_enter-has_enter.result x
-    (Err c.in-Err.fault)) c.deref-2.ensures.value c.in-Err.ensures)
-    c.sooner.ensures
+    c.in-Err.fault c.earlier_fault.result c.requires.names (rw (← c.deref-2.ensures.value) c.in-Err.ensures)
+    c.earlier_fault.ensures

@@ -1,7 +1,4 @@
-use Rattle.std.proofs.Common.{◌∙◌, ◌≤◌, ap, sym, Some}
-use Rattle.std.proofs.lemmas.Result.{on_ok_weaker}
-use Rattle.ed_link.specs.Linked.{entered_place}
-use Rattle.ed_link.specs.FaultTests.{has_words}
+use Rattle.ed_link.proofs.Kit.{on_ok_weaker, ap, Some, sym, ◌∙◌, ◌≤◌, has_words, entered_place}
 use Rattle.ed_link.proofs.Steps.{entered, entry_fits, use_base}
 use Rattle.ed_link.proofs.punching.push_bare.Goals as goal
 

@@ -1,13 +1,8 @@
-use Rattle.std.proofs.Common.{◌≡◌, ◌∙◌, ap, sym, append-nil, Vec, Global, ◌++◌, ◌⊎◌, subst, Bool, true, false, List, append_assoc, nat_eq}
-use Rattle.std.specs.Prelude.{◌&&◌}
-use Rattle.std.proofs.lemmas.Result.{on_ok_weaker}
-use Rattle.ed_notation.specs.declared.item.Item.{Item}
-use Rattle.ed_link.specs.Punch.{heads}
-use Rattle.ed_link.specs.Private.Building.{bare_items}
-use Rattle.ed_link.specs.FaultTests.{has_words}
+use Rattle.ed_link.proofs.Kit.{append-nil, Global, Vec, on_ok_weaker, Item, ap, append_assoc, Bool, false, List}
+use Rattle.ed_link.proofs.Kit.{nat_eq, subst, sym, true, ◌&&◌, ◌++◌, ◌∙◌, ◌≡◌, ◌⊎◌, has_words, bare_items, heads}
 use Rattle.ed_link.proofs.Steps.{base_fits, line_items, with_head, without_head}
-use Rattle.ed_link.proofs.punching.push_line.Goals as goal
 use Rattle.ed_link.proofs.punching.push_line.Goals.{then-has_words+then-counter+in_ok-push_head, else-has_words}
+use Rattle.ed_link.proofs.punching.push_line.Goals as goal
 
 pub push_bare-requires-clause-base : goal.push_bare-requires-clause-base
 push_bare-requires-clause-base c =
@@ -20,10 +15,8 @@ returns-clause-items c =
     let first = nat_eq s.place s.base in
     let items = bare_items c.args.symbols.now s st in
     let after_heads = λ (same : c.if-has_words.items.items ≡ c.args.items.now.items
-    ++ heads (has_words st && first) s.base).
-    on_ok_weaker c.push_bare.result
-    (λ e. e ∙ ap (λ (xs : List Item). xs ++ items) same
-    ∙ append_assoc c.args.items.now.items (heads (has_words st && first) s.base) items
+    ++ heads (has_words st && first) s.base). on_ok_weaker c.push_bare.result
+    (λ e. e ∙ ap (λ (xs : List Item). xs ++ items) same ∙ append_assoc c.args.items.now.items _ items
     ∙ ap (λ (xs : List Item). c.args.items.now.items ++ xs) (line_items c.args.symbols.now s st))
     c.push_bare.ensures.items in
     elim c.if-has_words.branch [

@@ -1,12 +1,8 @@
-use Rattle.std.proofs.Common.{◌≡◌, ◌∙◌, ℕ, ap, sym, refl, ◌++◌, append-nil, Vec, Global, get_or}
-use Rattle.std.specs.List.{flat_map}
-use Rattle.ed_notation.specs.declared.item.Item.{Item}
-use Rattle.ed_link.specs.Linked.{set_to}
-use Rattle.ed_link.specs.Punch.{preset_items}
-use Rattle.ed_notation.proofs.Parts.{one_more}
+use Rattle.ed_link.proofs.Kit.{append-nil, Global, Vec, Item, ap, get_or, refl, sym, ℕ, ◌++◌, ◌∙◌, ◌≡◌, flat_map}
+use Rattle.ed_link.proofs.Kit.{one_more, set_to, preset_items}
 use Rattle.ed_link.proofs.Steps.{all_given, set_preset}
-use Rattle.ed_link.proofs.punching.push_presets.Goals as goal
 use Rattle.ed_link.proofs.punching.push_presets.Goals.{in-Some+in_ok-push+in_ok-push-2, in_default}
+use Rattle.ed_link.proofs.punching.push_presets.Goals as goal
 
 pub loop-letter-init : goal.loop-letter-init
 loop-letter-init c = refl

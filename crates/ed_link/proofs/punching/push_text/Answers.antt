@@ -1,7 +1,4 @@
-use Rattle.std.proofs.Common.{◌∙◌, ◌*◌, ◌++◌, ap, map, refl, ℕ, List, [], ◌∷◌}
-use Rattle.ed_notation.specs.declared.item.Item.{Item}
-use Rattle.ed_notation.proofs.Parts.{one_more}
-use Rattle.ed_link.specs.Punch.{word_item}
+use Rattle.ed_link.proofs.Kit.{Item, [], ap, List, refl, ℕ, ◌*◌, ◌++◌, ◌∙◌, ◌∷◌, one_more, map, word_item}
 use Rattle.ed_link.proofs.Steps.{all_given}
 use Rattle.ed_link.proofs.punching.push_text.Goals as goal
 

@@ -1,5 +1,4 @@
-use Rattle.std.proofs.Common.{◌≡◌, ◌*◌, ◌++◌, drop, map}
-use Rattle.ed_link.specs.Punch.{word_item}
+use Rattle.ed_link.proofs.Kit.{drop, ◌*◌, ◌++◌, ◌≡◌, map, word_item}
 use Rattle.ed_link.proofs.punching.push_text.Given as goal
 
 abbrev pub invariant-loop-code : goal.invariant-loop-code

@@ -1,15 +1,12 @@
-use Rattle.std.proofs.Common.{ℕ, ◌<◌, ◌≤◌, ◌∙◌, ap, sym, subst, refl, map, List, [], ◌∷◌, ◌++◌}
-use Rattle.ed_notation.specs.declared.item.Item.{Item}
-use Rattle.ed_notation.proofs.Parts.{one_more}
-use Rattle.ed_library.specs.Entries.{entry}
-use Rattle.ed_library.specs.Routines.{find, missing_row, routine_item, table_item}
+use Rattle.ed_link.proofs.Kit.{Item, [], ap, List, refl, sym, ℕ, ◌++◌, ◌∙◌, ◌∷◌, one_more, map, entry, find}
+use Rattle.ed_link.proofs.Kit.{missing_row, table_item}
+use Rattle.ed_library.specs.Routines.{routine_item}
 use Rattle.ed_link.proofs.Bounds.{found_few, none_few}
 use Rattle.ed_link.proofs.Steps.{all_given, unused, used}
 use Rattle.ed_link.proofs.punching.push_use.Goals as goal
 
 pub item-requires : goal.item-requires
-item-requires c =
-    subst (λ (n : ℕ). c.loop-place.place < n) c.length-length.ensures.is c.loop-place-test.true
+item-requires c = rw (← c.length-length.ensures.is) c.loop-place-test.true
 
 pub loop-place-init : goal.loop-place-init
 loop-place-init c = refl
@@ -20,18 +17,17 @@ loop-place-preserved c =
     let routine = c.in-Some.routine in
     one_more (map table_item) (entry routine).items c.loop-place.place missing_row done
     (routine_item routine c.loop-place.place ∷ []) _
-    (subst (λ (n : ℕ). c.loop-place.place < n) c.length-length.ensures.is c.loop-place-test.true) refl refl
+    (rw (← c.length-length.ensures.is) c.loop-place-test.true) refl refl
     (c.in_ok-push.ensures ∙ ap (λ (i : Item). done ++ i ∷ []) c.item.ensures) c.loop-place.invariant
 
 pub returns-clause-items : goal.returns-clause-items
 returns-clause-items c =
     used c.args.symbols.now c.args.settings.now c.args.base (find c.args.routine.now) c.in-Some.routine
     c.args.items.now.items (sym (c.in-Some.ensures ∙ ap (λ (x : List ℕ). find x) c.text.ensures.is))
-    (subst (λ (n : ℕ). 0 < n) c.length-length.ensures.is c.length-length.ensures.some)
+    (rw (← c.length-length.ensures.is) c.length-length.ensures.some)
     c.in_ok-push_presets.ensures c.in_ok-push_head.ensures
     (all_given (map table_item) (entry c.in-Some.routine).items c.loop-place.place c.loop-place.items.items
-    (subst (λ (n : ℕ). n ≤ c.loop-place.place) c.length-length.ensures.is c.loop-place-test.false) refl
-    c.loop-place.invariant)
+    (rw (← c.length-length.ensures.is) c.loop-place-test.false) refl c.loop-place.invariant)
 
 pub returns-in_default-clause-items : goal.returns-in_default-clause-items
 returns-in_default-clause-items c =
@@ -40,10 +36,9 @@ returns-in_default-clause-items c =
 
 pub returns-clause-few : goal.returns-clause-few
 returns-clause-few c =
-    found_few (find c.args.routine.now) c.in-Some.routine
-    (c.in-Some.ensures ∙ ap (λ (x : List ℕ). find x) c.text.ensures.is)
-    (subst (λ (n : ℕ). n ≤ 128) c.length-length.ensures.is c.length-length.ensures.few)
+    found_few _ c.in-Some.routine (c.in-Some.ensures ∙ ap (λ (x : List ℕ). find x) c.text.ensures.is)
+    (rw (← c.length-length.ensures.is) c.length-length.ensures.few)
 
 pub returns-in_default-clause-few : goal.returns-in_default-clause-few
 returns-in_default-clause-few c =
-    none_few (find c.args.routine.now) (sym (c.in_default.ensures ∙ ap (λ (x : List ℕ). find x) c.text.ensures.is))
+    none_few _ (sym (c.in_default.ensures ∙ ap (λ (x : List ℕ). find x) c.text.ensures.is))

@@ -1,10 +1,8 @@
-use Rattle.std.proofs.Common.{◌≡◌, ◌∙◌, ℕ, ap, sym, get_or, drop, length, set, ◌+◌, ◌*◌, Some}
-use Rattle.std.specs.List.{flat_map}
-use Rattle.ed_link.specs.Linked.{preset, set_to}
-use Rattle.ed_link.specs.Tables.{put_all}
+use Rattle.ed_link.proofs.Kit.{ap, drop, get_or, length, set, Some, sym, ℕ, ◌*◌, ◌+◌, ◌∙◌, ◌≡◌, flat_map, preset}
+use Rattle.ed_link.proofs.Kit.{set_to, put_all}
 use Rattle.ed_link.proofs.Steps.{more_put, all_put, same_length}
-use Rattle.ed_link.proofs.words.put_presets.Goals as goal
 use Rattle.ed_link.proofs.words.put_presets.Goals.{in-Some, in_default}
+use Rattle.ed_link.proofs.words.put_presets.Goals as goal
 
 pub loop-letter-preserved : goal.loop-letter-preserved
 loop-letter-preserved c =

@@ -1,7 +1,5 @@
-use Rattle.std.proofs.Common.{◌∙◌, ◌*◌, ap, arith, length, map, set, sym, ℕ, List, Some}
-use Rattle.std.proofs.lemmas.List.{at_drop_all, length-set}
-use Rattle.ed_link.specs.Linked.{placed_words}
-use Rattle.ed_link.specs.Tables.{put_all}
+use Rattle.ed_link.proofs.Kit.{length-set, ap, arith, length, List, set, Some, sym, ℕ, ◌*◌, ◌∙◌, at_drop_all, map}
+use Rattle.ed_link.proofs.Kit.{placed_words, put_all}
 use Rattle.ed_link.proofs.Lengths.{put_next}
 use Rattle.ed_link.proofs.words.put_text.Goals as goal
 

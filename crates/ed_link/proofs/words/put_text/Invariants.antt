@@ -1,6 +1,4 @@
-use Rattle.std.proofs.Common.{◌≡◌, ◌+◌, ◌*◌, drop, map, length}
-use Rattle.ed_link.specs.Linked.{placed_words}
-use Rattle.ed_link.specs.Tables.{put_all}
+use Rattle.ed_link.proofs.Kit.{drop, length, ◌*◌, ◌+◌, ◌≡◌, map, placed_words, put_all}
 use Rattle.ed_link.proofs.words.put_text.Given as goal
 
 abbrev pub invariant-loop-code : goal.invariant-loop-code

@@ -1,9 +1,4 @@
-use Rattle.std.proofs.Common.{◌≡◌, ◌+◌, drop, map, length}
-use Rattle.ed_library.specs.Entries.{entry}
-use Rattle.ed_library.specs.Images.{routine_word}
-use Rattle.ed_library.specs.Routines.{table_item}
-use Rattle.ed_link.specs.Linked.{placed_words}
-use Rattle.ed_link.specs.Tables.{put_all}
+use Rattle.ed_link.proofs.Kit.{drop, length, ◌+◌, ◌≡◌, map, entry, routine_word, table_item, placed_words, put_all}
 use Rattle.ed_link.proofs.words.put_use.Given as goal
 
 abbrev pub invariant-loop-place : goal.invariant-loop-place

@@ -1,10 +1,7 @@
-use Rattle.std.proofs.Common.{◌∙◌, ap, sym, refl, [], ◌∷◌, append-nil, Vec, Global}
-use Rattle.ed_link.specs.declared.linked.Placed.{Placed}
-use Rattle.ed_link.specs.Tables.{words_from}
-use Rattle.ed_notation.proofs.Parts.{one_more}
+use Rattle.ed_link.proofs.Kit.{append-nil, Global, Vec, [], ap, refl, sym, ◌∙◌, ◌∷◌, one_more, words_from, Placed}
 use Rattle.ed_link.proofs.Steps.{all_given}
-use Rattle.ed_link.proofs.words.words_of.Goals as goal
 use Rattle.ed_link.proofs.words.words_of.Goals.{in-Some+in_ok-push, in_default}
+use Rattle.ed_link.proofs.words.words_of.Goals as goal
 
 pub loop-place-preserved : goal.loop-place-preserved
 loop-place-preserved c =

@@ -1,4 +1,4 @@
-use Rattle.std.proofs.Common.{arith}
+use Rattle.ed_machine.proofs.Names.{arith}
 use Rattle.ed_machine.proofs.Images.{image_step}
 use Rattle.ed_machine.proofs.machine.place_image.Goals as goal
 

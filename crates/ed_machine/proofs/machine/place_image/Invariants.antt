@@ -1,4 +1,4 @@
-use Rattle.std.proofs.Common.{◌≡◌, ◌++◌, take, drop}
+use Rattle.ed_machine.proofs.Names.{drop, take, ◌++◌, ◌≡◌}
 use Rattle.ed_machine.proofs.machine.place_image.Given as goal
 
 abbrev pub invariant-loop-i : goal.invariant-loop-i

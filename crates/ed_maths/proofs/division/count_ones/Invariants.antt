@@ -1,5 +1,4 @@
-use Rattle.std.proofs.Common.{◌≡◌, ◌+◌, ◌-◌, ◌≤◌}
-use Rattle.ed_maths.specs.Quotients.{ones}
+use Rattle.ed_maths.proofs.Kit.{◌+◌, ◌-◌, ◌≡◌, ◌≤◌, ones}
 use Rattle.ed_maths.proofs.division.count_ones.Given as goal
 
 abbrev pub invariant-loop-done : goal.invariant-loop-done

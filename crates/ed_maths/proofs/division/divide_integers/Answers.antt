@@ -1,15 +1,9 @@
-use Rattle.std.proofs.Common.{◌≡◌, ◌∙◌, ℕ, ◌+◌, ◌-◌, ◌*◌, ◌/◌, [], ap}
-use Rattle.ed_words.specs.Sizes.{locations}
-use Rattle.ed_store.specs.Cells.{short_at}
-use Rattle.ed_machine.specs.State.{State}
-use Rattle.ed_machine.specs.Steps.{state_after}
-use Rattle.ed_machine.proofs.Kit.Leads.{Leads, free}
-use Rattle.ed_routines.proofs.Called.{within_size}
-use Rattle.ed_maths.specs.Quotients.{divide_orders, dividend, ones}
+use Rattle.ed_maths.proofs.Kit.{within_size, [], ap, ℕ, ◌*◌, ◌+◌, ◌-◌, ◌/◌, ◌∙◌, ◌≡◌, locations, short_at, State}
+use Rattle.ed_maths.proofs.Kit.{state_after, free, Leads, divide_orders, dividend, ones}
 use Rattle.ed_maths.proofs.DivideCall.{CallsDivide, last, leads_to, divided}
 use Rattle.ed_maths.proofs.division.divide_integers.Goals as goal
 
-module _ (c : goal.After-obey_count) where
+module _ (c : goal.After-obey_next) where
   abbrev s : State
   s = c.args.machine.now
 
@@ -41,8 +35,8 @@ module _ (c : goal.After-obey_count) where
   leads : Leads (divide_orders quotient) s [] (last called)
   leads = leads_to called
 
-  state_is : c.obey_count.new.machine ≡ state_after (divide_orders quotient) s
-  state_is = c.obey_count.ensures ∙ ap (λ k. state_after k s) count
+  state_is : c.obey_next.new.self ≡ state_after (divide_orders quotient) s
+  state_is = c.obey_next.ensures.state ∙ ap (λ k. state_after k s) count
 
 pub returns-clause-orders : goal.returns-clause-orders
 returns-clause-orders c = count c
@@ -51,4 +45,4 @@ pub returns-clause-after : goal.returns-clause-after
 returns-clause-after c = rw (count c) (record { state_is = state_is c; free = free (leads c) })
 
 pub returns-clause-divided : goal.returns-clause-divided
-returns-clause-divided c = divided (called c) c.obey_count.new.machine (state_is c ∙ (leads c).state_is)
+returns-clause-divided c = divided (called c) c.obey_next.new.self (state_is c ∙ (leads c).state_is)

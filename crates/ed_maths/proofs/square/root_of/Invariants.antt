@@ -1,4 +1,4 @@
-use Rattle.std.proofs.Common.{◌≤◌, ◌*◌}
+use Rattle.ed_maths.proofs.Kit.{◌*◌, ◌≤◌}
 use Rattle.ed_maths.proofs.square.root_of.Given as goal
 
 abbrev pub invariant-loop-root : goal.invariant-loop-root

@@ -1,15 +1,9 @@
-use Rattle.std.proofs.Common.{◌≡◌, ◌∙◌, ℕ, ◌+◌, ◌*◌, [], sym, subst, ap}
-use Rattle.ed_words.specs.Sizes.{locations}
-use Rattle.ed_store.specs.Cells.{short_at}
-use Rattle.ed_machine.specs.State.{State}
-use Rattle.ed_machine.specs.Steps.{state_after}
-use Rattle.ed_machine.proofs.Kit.Leads.{Leads, free}
-use Rattle.ed_routines.proofs.Called.{within_size}
-use Rattle.ed_maths.specs.Roots.{IsRoot, root_orders}
+use Rattle.ed_maths.proofs.Kit.{within_size, [], ap, subst, sym, ℕ, ◌*◌, ◌+◌, ◌∙◌, ◌≡◌, locations, short_at, State}
+use Rattle.ed_maths.proofs.Kit.{state_after, free, Leads, IsRoot, root_orders}
 use Rattle.ed_maths.proofs.RootCall.{CallsRoot, last, leads_to, root_is, returned, keeps}
 use Rattle.ed_maths.proofs.square.square_root.Goals as goal
 
-module _ (c : goal.After-obey_count) where
+module _ (c : goal.After-obey_next) where
   abbrev s : State
   s = c.args.machine.now
 
@@ -38,14 +32,14 @@ module _ (c : goal.After-obey_count) where
   leads : Leads (root_orders r) s [] (last called)
   leads = leads_to called
 
-  state_is : c.obey_count.new.machine ≡ state_after (root_orders r) s
-  state_is = c.obey_count.ensures ∙ ap (λ k. state_after k s) count
+  state_is : c.obey_next.new.self ≡ state_after (root_orders r) s
+  state_is = c.obey_next.ensures.state ∙ ap (λ k. state_after k s) count
 
-  there : c.obey_count.new.machine ≡ last called
+  there : c.obey_next.new.self ≡ last called
   there = state_is ∙ leads.state_is
 
-  target_is : short_at c.obey_count.new.machine.store c.args.target ≡ r
-  target_is = root_is called c.obey_count.new.machine there
+  target_is : short_at c.obey_next.new.self.store c.args.target ≡ r
+  target_is = root_is called c.obey_next.new.self there
 
 pub returns-clause-root : goal.returns-clause-root
 returns-clause-root c = subst (λ x. IsRoot (short_at (s c).store c.args.source) x) (sym (target_is c)) (is_root c)
@@ -57,7 +51,7 @@ pub returns-clause-after : goal.returns-clause-after
 returns-clause-after c = rw (count c) (record { state_is = state_is c; free = free (leads c) })
 
 pub returns-clause-returned : goal.returns-clause-returned
-returns-clause-returned c = rw (count c) (returned (called c) c.obey_count.new.machine (there c))
+returns-clause-returned c = rw (count c) (returned (called c) c.obey_next.new.self (there c))
 
 pub returns-clause-words : goal.returns-clause-words
-returns-clause-words c = keeps (called c) c.obey_count.new.machine (there c)
+returns-clause-words c = keeps (called c) c.obey_next.new.self (there c)

@@ -1,24 +1,24 @@
-use Rattle.std.proofs.Common.{◌∙◌, ap, Bool, List, length, drop}
+use Rattle.ed_notation.proofs.Kit.{Bool, drop, length, List, ap, ◌∙◌}
 use Rattle.std.proofs.lemmas.Result.{err_from_is_err_and}
-use Rattle.ed_notation.proofs.Answered.{accepted, bounded, refused, whole}
+use Rattle.ed_notation.proofs.Answered.{accepted, orders-bounded, AnswersCheck-refused, take-whole}
 use Rattle.ed_notation.proofs.checking.check_opened.Goals as goal
 
 pub returns-clause-answers : goal.returns-clause-answers
 returns-clause-answers c =
     let m = c.read_rows.new.placed in
     let v = c.in_ok-placed.placed in
-    let t = whole m (drop (length m) v.items) v.len (c.read_rows.auto.placed ∙ c.deref_mut.ensures.len) in
+    let t = take-whole m (drop (length m) v.items) v.len (c.read_rows.auto.placed ∙ c.deref_mut.ensures.len) in
     rw (c.new.ensures, t, ← c.in_ok-contents.ensures) (accepted c.in_ok-reached.ensures)
 
 pub returns-clause-bound : goal.returns-clause-bound
-returns-clause-bound c = rw c.new.ensures (bounded c.in_ok-reached.ensures)
+returns-clause-bound c = rw c.new.ensures (orders-bounded c.in_ok-reached.ensures)
 
 pub returns-in_err-reached-clause-answers : goal.returns-in_err-reached-clause-answers
 returns-in_err-reached-clause-answers c =
     let r = c.from_residual-in_err-reached in
     let p = err_from_is_err_and r.result r.ensures.1 in
     let fault = c.in_err-reached.field-0.0 in
-    rw (p.1, p.2) (refused c.args.size c.args.directive c.args.base c.args.rows.now fault
+    rw (p.1, p.2) (AnswersCheck-refused c.args.size c.args.directive c.args.base c.args.rows.now fault
     (c.read_rows.new.contents.words, c.read_rows.new.placed) c.in_ok-contents.ensures c.in_err-reached.ensures)
 
 pub returns-in_err-reached-clause-bound : goal.returns-in_err-reached-clause-bound
@@ -58,4 +58,5 @@ new-requires c =
     let m = c.read_rows.new.placed in
     let v = c.in_ok-placed.placed in
     let same = c.read_rows.auto.placed ∙ c.deref_mut.ensures.len in
-    ap (λ (p : List Bool). length p) (whole m (drop (length m) v.items) v.len same) ∙ same ∙ c.in_ok-placed.ensures.len
+    ap (λ (p : List Bool). length p) (take-whole m (drop (length m) v.items) v.len same) ∙ same
+    ∙ c.in_ok-placed.ensures.len

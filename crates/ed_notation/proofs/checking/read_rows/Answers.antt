@@ -1,44 +1,44 @@
-use Rattle.std.proofs.Common.{◌∙◌, ap, arith, false, length, Bool, List, Some}
-use Rattle.std.proofs.lemmas.List.{length-replicate}
+use Rattle.ed_notation.proofs.Kit.{Bool, false, length, List, Some, length-replicate, ap, arith, ◌∙◌, IsPartial}
+use Rattle.ed_notation.proofs.Kit.{PartialItem, Ended, Longer, Placed}
 use Rattle.ed_store.specs.declared.store.Store.{Store}
-use Rattle.ed_notation.specs.declared.reader.PartialItem.{PartialItem}
-use Rattle.ed_notation.specs.declared.reader.RowEffect.TheVariants.{Longer, Ended, Placed}
-use Rattle.ed_notation.specs.Reading.{IsPartial}
-use Rattle.ed_notation.proofs.Loop.{began, function_row, longer, ended, placed, refused, entered, at_end, taken, written}
-use Rattle.ed_notation.proofs.checking.read_rows.Goals.{in-None, in-Some+in-Longer, in-Some+in-Ended, in-Some+in-Placed}
+use Rattle.ed_notation.proofs.Loop.{StandsAt-began, function_row, StandsAt-longer, StandsAt-ended, StandsAt-placed, IsFault-refused, Arrives-entered, at_end, IsEffectInRange-taken}
+use Rattle.ed_notation.proofs.Loop.{StandsAt-written}
+use Rattle.ed_notation.proofs.checking.read_rows.Goals.{in-None, in-Some+in-Longer, in-Some+in-Ended}
+use Rattle.ed_notation.proofs.checking.read_rows.Goals.{in-Some+in-Placed}
 use Rattle.ed_notation.proofs.checking.read_rows.Goals as goal
 
 pub loop-row-init : goal.loop-row-init
 loop-row-init c =
-    began c.short.ensures.is c.short.ensures.store.words_are c.requires.placed c.requires.directive
+    StandsAt-began c.short.ensures.is c.short.ensures.store.words_are c.requires.placed c.requires.directive
 
 pub returns-in-Refused : goal.returns-in-Refused
 returns-in-Refused c =
-    refused c.in-Some.part (rw c.in-Some.is at c.loop-row.invariant)
+    IsFault-refused c.in-Some.part (rw c.in-Some.is at c.loop-row.invariant)
     c.loop-row-test.true c.index-rows-row.is c.in-Refused.ensures
 
 pub returns-in-Entered : goal.returns-in-Entered
 returns-in-Entered c =
-    entered c.in-Some.part (rw c.in-Some.is at c.loop-row.invariant)
+    Arrives-entered c.in-Some.part (rw c.in-Some.is at c.loop-row.invariant)
     c.loop-row-test.true c.index-rows-row.is c.in-Entered.ensures
 
 pub loop-row-preserved : goal.loop-row-preserved
 loop-row-preserved c = elim c.match-item.branch [
-  | in-None w ↦ written w.orders-is w.setting-is (w.item-is ∙ ap (λ (i : PartialItem). Some i) w.begun.ensures.is)
+  | in-None w ↦ StandsAt-written w.orders-is w.setting-is (w.item-is
+      ∙ ap (λ (i : PartialItem). Some i) w.begun.ensures.is)
       (ap (λ (s : Store). s.words) w.contents-is) w.placed-is
       (function_row (rw w.in-None.is at c.loop-row.invariant)
       c.loop-row-test.true c.index-rows-row.is w.begun.ensures.fits)
-  | in-Some+in-Longer w ↦ written w.orders-is w.setting-is w.item-is
+  | in-Some+in-Longer w ↦ StandsAt-written w.orders-is w.setting-is w.item-is
       (ap (λ (s : Store). s.words) w.contents-is) w.placed-is
-      (longer w.in-Some.part (rw w.in-Some.is at c.loop-row.invariant)
+      (StandsAt-longer w.in-Some.part (rw w.in-Some.is at c.loop-row.invariant)
       c.loop-row-test.true c.index-rows-row.is w.in-Longer.ensures)
-  | in-Some+in-Ended w ↦ written w.orders-is w.setting-is w.item-is
+  | in-Some+in-Ended w ↦ StandsAt-written w.orders-is w.setting-is w.item-is
       (ap (λ (s : Store). s.words) w.contents-is) w.placed-is
-      (ended w.in-Some.part (rw w.in-Some.is at c.loop-row.invariant)
+      (StandsAt-ended w.in-Some.part (rw w.in-Some.is at c.loop-row.invariant)
       c.loop-row-test.true c.index-rows-row.is w.in-Ended.ensures)
   | in-Some+in-Placed w ↦ rw (w.orders-is, w.setting-is, w.item-is, w.contents-is, w.placed-is)
       (rw (w.put_short.ensures.is, w.moved_on-setting.ensures, w.from.ensures)
-      (placed w.in-Some.part (rw w.in-Some.is at c.loop-row.invariant)
+      (StandsAt-placed w.in-Some.part (rw w.in-Some.is at c.loop-row.invariant)
       c.loop-row-test.true c.index-rows-row.is w.in-Placed.ensures))
 ]
 
@@ -51,13 +51,15 @@ take-requires c =
 
 pub overflow_add-orders-in-Longer : goal.overflow_add-orders-in-Longer
 overflow_add-orders-in-Longer c =
-    let t = taken c.in-Some.part (rw c.in-Some.is at c.loop-row.invariant) c.loop-row-test.true c.index-rows-row.is
+    let t = IsEffectInRange-taken c.in-Some.part (rw c.in-Some.is at c.loop-row.invariant)
+    c.loop-row-test.true c.index-rows-row.is
     (Longer c.in-Longer.longer c.in-Longer.more) c.in-Longer.ensures in
     omega (arith, c.requires.rows, c.requires.base, c.loop-row-test.true, c.loop-row.invariant.cheap, t.1)
 
 pub overflow_add-orders-in-Ended : goal.overflow_add-orders-in-Ended
 overflow_add-orders-in-Ended c =
-    let t = taken c.in-Some.part (rw c.in-Some.is at c.loop-row.invariant) c.loop-row-test.true c.index-rows-row.is
+    let t = IsEffectInRange-taken c.in-Some.part (rw c.in-Some.is at c.loop-row.invariant)
+    c.loop-row-test.true c.index-rows-row.is
     (Ended c.in-Ended.next c.in-Ended.more) c.in-Ended.ensures in
     omega (arith, c.requires.rows, c.requires.base, c.loop-row-test.true, c.loop-row.invariant.cheap, t)
 
@@ -67,17 +69,20 @@ overflow_add-orders-in-Placed c =
 
 pub put_short-requires : goal.put_short-requires
 put_short-requires c =
-    let t = taken c.in-Some.part (rw c.in-Some.is at c.loop-row.invariant) c.loop-row-test.true c.index-rows-row.is
+    let t = IsEffectInRange-taken c.in-Some.part (rw c.in-Some.is at c.loop-row.invariant)
+    c.loop-row-test.true c.index-rows-row.is
     (Placed c.in-Placed.at c.in-Placed.word) c.in-Placed.ensures in t.0
 
 pub bounds-placed-from : goal.bounds-placed-from
 bounds-placed-from c =
-    let t = taken c.in-Some.part (rw c.in-Some.is at c.loop-row.invariant) c.loop-row-test.true c.index-rows-row.is
+    let t = IsEffectInRange-taken c.in-Some.part (rw c.in-Some.is at c.loop-row.invariant)
+    c.loop-row-test.true c.index-rows-row.is
     (Placed c.in-Placed.at c.in-Placed.word) c.in-Placed.ensures in
     omega (arith, c.from.ensures, t.0, c.loop-row.auto.placed, ap (λ (m : List Bool). length m) c.requires.placed, length-replicate 1024 false)
 
 pub moved_on-setting-requires : goal.moved_on-setting-requires
 moved_on-setting-requires c =
-    let t = taken c.in-Some.part (rw c.in-Some.is at c.loop-row.invariant) c.loop-row-test.true c.index-rows-row.is
+    let t = IsEffectInRange-taken c.in-Some.part (rw c.in-Some.is at c.loop-row.invariant)
+    c.loop-row-test.true c.index-rows-row.is
     (Placed c.in-Placed.at c.in-Placed.word) c.in-Placed.ensures in
     omega (arith, t.1)

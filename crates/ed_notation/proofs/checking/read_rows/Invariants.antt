@@ -1,4 +1,4 @@
-use Rattle.ed_notation.specs.Openings.{opening_with}
+use Rattle.ed_notation.proofs.Kit.{opening_with}
 use Rattle.ed_notation.proofs.Loop.{Check, StandsAt}
 use Rattle.ed_notation.proofs.checking.read_rows.Given as goal
 

@@ -1,12 +1,10 @@
+use Rattle.ed_notation.proofs.Kit.{[], drop, List, nat_lt, refl, true, ℕ, ◌++◌, ◌+◌, ◌∷◌, ◌≡◌, flat_map, list_all}
+use Rattle.ed_notation.proofs.Kit.{ltb-true, at_drop_all, ap, get_or, sym, ◌∙◌, digit_at}
+use Rattle.std.proofs.Common.{append-nil}
 use Rattle.std.proofs.lemmas.List.Sums.{AllPass-from_list_all}
-use Rattle.ed_words.proofs.Numbers.{lt_of}
-use Rattle.std.proofs.Common.{ℕ, ◌≡◌, ◌∙◌, ◌+◌, ◌++◌, ◌∷◌, [], List, ap, sym, refl, append-nil, drop, get_or, nat_lt, true}
-use Rattle.std.specs.List.{flat_map, list_all}
-use Rattle.std.proofs.lemmas.List.{at_drop_all}
-use Rattle.ed_notation.specs.Spellings.{digit_at}
 use Rattle.ed_notation.proofs.Parts.{digit_there, next_passes, no_digit, one_more}
-use Rattle.ed_notation.proofs.spelling.push_digits.Goals as goal
 use Rattle.ed_notation.proofs.spelling.push_digits.Goals.{then-power-number+in_ok-push, else-power-number}
+use Rattle.ed_notation.proofs.spelling.push_digits.Goals as goal
 
 pub loop-power-preserved : goal.loop-power-preserved
 loop-power-preserved c =
@@ -39,13 +37,11 @@ loop-power-preserved c =
 pub returns : goal.returns
 returns c =
     let l = c.loop-power in
-    sym (append-nil l.rows.items)
-    ∙ ap (λ (ds : List ℕ). l.rows.items ++ ds)
-    (sym (at_drop_all (flat_map (λ p. digit_at p c.args.number)) c.args.powers.now l.power-index
-    c.loop-power-test.false))
-    ∙ l.invariant.0
+    sym (append-nil _) ∙ ap (λ (ds : List ℕ). l.rows.items ++ ds)
+    (sym (at_drop_all (flat_map (λ p. digit_at p c.args.number)) _ _ c.loop-power-test.false)) ∙ l.invariant.0
 
 pub nonzero_div-number : goal.nonzero_div-number
 nonzero_div-number c =
-    lt_of 0 _ (AllPass-from_list_all (λ power. nat_lt 0 power) c.args.powers.now c.requires c.loop-power.power-index 0
+    ltb-true 0 _ (AllPass-from_list_all (λ power. nat_lt 0 power) c.args.powers.now c.requires
+    c.loop-power.power-index 0
     c.loop-power-test.true)

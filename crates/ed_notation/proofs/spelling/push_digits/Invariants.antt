@@ -1,6 +1,4 @@
-use Rattle.std.proofs.Common.{◌≡◌, ◌++◌, drop, nat_lt, true}
-use Rattle.std.specs.List.{flat_map, list_all}
-use Rattle.ed_notation.specs.Spellings.{digit_at}
+use Rattle.ed_notation.proofs.Kit.{drop, nat_lt, true, ◌++◌, ◌≡◌, flat_map, list_all, digit_at}
 use Rattle.ed_notation.proofs.spelling.push_digits.Given as goal
 
 abbrev pub invariant-loop-power : goal.invariant-loop-power

@@ -1,5 +1,4 @@
-use Rattle.std.proofs.Common.{◌≡◌, ◌++◌, drop, false, nat_lt}
-use Rattle.ed_notation.specs.Spellings.{line_from}
+use Rattle.ed_notation.proofs.Kit.{drop, false, nat_lt, ◌++◌, ◌≡◌, line_from}
 use Rattle.ed_notation.proofs.spelling.push_line.Given as goal
 
 abbrev pub invariant-loop-i : goal.invariant-loop-i

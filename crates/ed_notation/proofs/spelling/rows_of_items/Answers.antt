@@ -1,9 +1,6 @@
-use Rattle.std.proofs.Common.{refl, List}
-use Rattle.ed_notation.specs.declared.item.Item.{Item}
-use Rattle.ed_notation.specs.Items.{rows_of, spelled_rows}
-use Rattle.ed_notation.specs.Spellings.{canonical, canonicals}
-use Rattle.ed_notation.proofs.Parts.{one_more}
+use Rattle.ed_notation.proofs.Kit.{List, refl, rows_of, spelled_rows, canonical, canonicals, Item}
 use Rattle.ed_notation.proofs.Canonical.{spelling, rest_none}
+use Rattle.ed_notation.proofs.Parts.{one_more}
 use Rattle.ed_notation.proofs.Unique.{none_begins}
 use Rattle.ed_notation.proofs.spelling.rows_of_items.Goals as goal
 
@@ -25,5 +22,4 @@ loop-item-preserved c =
 
 pub returns-clause-rows : goal.returns-clause-rows
 returns-clause-rows c =
-    rest_none c.args.items.now c.loop-item.rows.items c.loop-item.item-index c.loop-item-test.false
-    c.loop-item.invariant
+    rest_none _ _ _ c.loop-item-test.false c.loop-item.invariant

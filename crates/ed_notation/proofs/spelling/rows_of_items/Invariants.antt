@@ -1,6 +1,4 @@
-use Rattle.std.proofs.Common.{◌≡◌, ◌++◌, drop}
-use Rattle.ed_notation.specs.Items.{spelled_rows}
-use Rattle.ed_notation.specs.Spellings.{canonicals}
+use Rattle.ed_notation.proofs.Kit.{drop, ◌++◌, ◌≡◌, spelled_rows, canonicals}
 use Rattle.ed_notation.proofs.spelling.rows_of_items.Given as goal
 
 abbrev pub invariant-loop-item : goal.invariant-loop-item

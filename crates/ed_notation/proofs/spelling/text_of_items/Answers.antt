@@ -1,9 +1,7 @@
-use Rattle.std.proofs.Common.{ℕ, ◌∙◌, ap, refl, false, List, ◌++◌}
-use Rattle.ed_notation.specs.declared.item.Item.{Item}
-use Rattle.ed_notation.specs.Items.{rows_of}
-use Rattle.ed_notation.specs.Spellings.{canonical, canonicals, line_from, text_of}
-use Rattle.ed_notation.proofs.Parts.{one_more}
+use Rattle.ed_notation.proofs.Kit.{false, List, refl, ℕ, ◌++◌, ap, ◌∙◌, rows_of, canonical, canonicals, line_from}
+use Rattle.ed_notation.proofs.Kit.{text_of, Item}
 use Rattle.ed_notation.proofs.Canonical.{are_written, spelling}
+use Rattle.ed_notation.proofs.Parts.{one_more}
 use Rattle.ed_notation.proofs.Texts.{text_end, text_reads}
 use Rattle.ed_notation.proofs.spelling.text_of_items.Goals as goal
 
@@ -32,5 +30,4 @@ loop-item-preserved c =
     c.loop-item.invariant
 
 pub returns-clause-text : goal.returns-clause-text
-returns-clause-text c =
-    text_end c.args.items.now c.loop-item.text.items c.loop-item.item-index c.loop-item-test.false c.loop-item.invariant
+returns-clause-text c = text_end _ _ _ c.loop-item-test.false c.loop-item.invariant

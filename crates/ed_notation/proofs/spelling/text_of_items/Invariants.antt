@@ -1,5 +1,4 @@
-use Rattle.std.proofs.Common.{◌≡◌, ◌++◌, drop}
-use Rattle.ed_notation.specs.Spellings.{canonicals, text_of}
+use Rattle.ed_notation.proofs.Kit.{drop, ◌++◌, ◌≡◌, canonicals, text_of}
 use Rattle.ed_notation.proofs.spelling.text_of_items.Given as goal
 
 abbrev pub invariant-loop-item : goal.invariant-loop-item

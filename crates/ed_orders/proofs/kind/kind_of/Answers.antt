@@ -1,6 +1,4 @@
-use Rattle.std.proofs.Common.{sym, ap, None, ◌≤◌, arith}
-use Rattle.std.proofs.lemmas.List.{get_or_past}
-use Rattle.ed_orders.specs.Kinds.{kind_of_function, kinds}
+use Rattle.ed_orders.proofs.Kit.{ap, arith, None, sym, ◌≤◌, get_or_past, kind_of_function, kinds}
 use Rattle.ed_orders.proofs.KindLetters.{by_letter}
 use Rattle.ed_orders.proofs.kind.kind_of.Goals as goal
 

@@ -1,6 +1,4 @@
-use Rattle.std.proofs.Common.{arith, ap, ◌+◌}
-use Rattle.std.specs.Int.{w32, trailing_zeros}
-use Rattle.ed_orders.specs.Places.{places}
+use Rattle.ed_orders.proofs.Kit.{ap, arith, ◌+◌, trailing_zeros, w32, places}
 use Rattle.ed_orders.proofs.Shifts.{places_are, places_within}
 use Rattle.ed_orders.proofs.shift.places.Goals as goal
 

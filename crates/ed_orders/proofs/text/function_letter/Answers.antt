@@ -1,4 +1,4 @@
-use Rattle.std.proofs.Common.{arith, ◌<◌}
+use Rattle.ed_orders.proofs.Kit.{arith, ◌<◌}
 use Rattle.ed_orders.proofs.Letters.{letter_ascii}
 use Rattle.ed_orders.proofs.text.function_letter.Goals as goal
 

@@ -1,4 +1,5 @@
-use Rattle.std.proofs.Common.{◌∙◌, ap, length, ℕ, [], ◌∷◌, ◌++◌}
+use Rattle.ed_orders.proofs.Kit.{[], ap, length, ℕ, ◌∙◌, ◌∷◌}
+use Rattle.std.proofs.Common.{◌++◌}
 use Rattle.std.proofs.lemmas.List.{length_push}
 use Rattle.ed_orders.proofs.text.push_byte.Goals as goal
 

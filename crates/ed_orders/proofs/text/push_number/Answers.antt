@@ -1,4 +1,4 @@
-use Rattle.std.proofs.Common.{◌≤◌, arith, length}
+use Rattle.ed_orders.proofs.Kit.{arith, length, ◌≤◌}
 use Rattle.ed_orders.proofs.Numerals.{four_digits}
 use Rattle.ed_orders.proofs.text.push_number.Goals as goal
 

@@ -1,6 +1,4 @@
-use Rattle.ed_page.proofs.Kit.{ℕ, ◌+◌, ◌^◌, ◌<◌, ◌≤◌, ap, ◌∙◌, subst}
-use Rattle.std.proofs.Common.{◌%◌, nat_eq}
-use Rattle.ed_words.specs.Words.{digit}
+use Rattle.ed_page.proofs.Kit.{◌%◌, digit, ap, nat_eq, subst, ℕ, ◌+◌, ◌<◌, ◌^◌, ◌∙◌, ◌≤◌}
 use Rattle.ed_page.proofs.FirstItemRows.{tabled_digit1, tabled_end1, tabled_function1, tabled_last1}
 use Rattle.ed_page.proofs.first_items.item_table1.Goals.{in-None, in-Some+then-value-lt10}
 use Rattle.ed_page.proofs.first_items.item_table1.Goals.{in-Some+else-value-lt10+in_ok-push_numbers-in-Some}

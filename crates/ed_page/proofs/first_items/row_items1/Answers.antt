@@ -1,10 +1,8 @@
-use Rattle.ed_page.proofs.Kit.{◌≡◌, ℕ, List, Err, refl, subst, arith, lit<, common_steps, done, Gives}
+use Rattle.ed_page.proofs.Kit.{common_steps, lit<, IsFault1, Tape1Cause, arith, Err, List, refl, subst, ℕ, ◌≡◌, done}
+use Rattle.ed_page.proofs.Kit.{Gives, IsItemsOutcome1}
 use Rattle.ed_initial1.specs.Checks.{Answers1}
-use Rattle.ed_initial1.specs.Faults.{IsFault1}
-use Rattle.ed_initial1.specs.declared.cause.Tape1Cause.{Tape1Cause}
 use Rattle.ed_initial1.specs.declared.cause.Tape1Fault.{Tape1Fault}
 use Rattle.ed_initial1.specs.declared.cause.Tape1Fault.TheVariants.{At, Memory}
-use Rattle.ed_page.specs.TapeItems.{IsItemsOutcome1}
 use Rattle.ed_page.proofs.FirstItemRows.{fault_told1, program_told1}
 use Rattle.ed_page.proofs.Replies.{none_answered}
 use Rattle.ed_page.proofs.first_items.row_items1.Goals as goal

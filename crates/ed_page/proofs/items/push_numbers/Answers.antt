@@ -1,4 +1,4 @@
-use Rattle.ed_page.proofs.Kit.{arith, common_steps}
+use Rattle.ed_page.proofs.Kit.{common_steps, arith}
 use Rattle.ed_page.proofs.Copied.{pushed_all}
 use Rattle.ed_page.proofs.items.push_numbers.Goals as goal
 

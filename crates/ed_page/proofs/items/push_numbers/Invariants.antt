@@ -1,5 +1,4 @@
-use Rattle.ed_page.proofs.Kit.{◌≡◌, ◌++◌, drop, flat_map}
-use Rattle.ed_page.specs.TapeItems.{four_bytes}
+use Rattle.ed_page.proofs.Kit.{flat_map, drop, ◌++◌, ◌≡◌, four_bytes}
 use Rattle.ed_page.proofs.items.push_numbers.Given as goal
 
 -- the bytes so far, and those of the numbers after them

@@ -1,11 +1,8 @@
-use Rattle.ed_page.proofs.Kit.{◌≡◌, ℕ, List, Err, refl, subst, arith, lit<, common_steps, cleared_cells, done, Gives}
+use Rattle.ed_page.proofs.Kit.{common_steps, cleared_cells, TapeCause, lit<, IsFault, opening_notation, arith, Err}
+use Rattle.ed_page.proofs.Kit.{List, refl, subst, ℕ, ◌≡◌, done, Gives, IsItemsOutcome}
 use Rattle.ed_notation.specs.Checks.{AnswersCheck}
-use Rattle.ed_notation.specs.Faults.{IsFault}
-use Rattle.ed_notation.specs.declared.cause.TapeCause.{TapeCause}
 use Rattle.ed_notation.specs.declared.cause.TapeFault.{TapeFault}
 use Rattle.ed_notation.specs.declared.cause.TapeFault.TheVariants.{At, Memory}
-use Rattle.ed_answers.specs.Tapes.{first_note}
-use Rattle.ed_page.specs.TapeItems.{IsItemsOutcome}
 use Rattle.ed_page.proofs.ItemRows.{entered_told, entered_within, fault_told}
 use Rattle.ed_page.proofs.Replies.{none_answered}
 use Rattle.ed_page.proofs.items.row_items.Goals as goal
@@ -24,8 +21,8 @@ pub returns-in_ok-out-in-Err-At : goal.returns-in_ok-out-in-Err-At
 returns-in_ok-out-in-Err-At c =
     let row = c.in-Err-At.row in
     let cause = c.in-Err-At.cause in
-    let fault : IsFault c.args.size cleared_cells.words first_note c.args.rows.now row cause =
-    subst (λ (f : TapeFault). AnswersCheck c.args.size cleared_cells.words first_note 9 c.args.rows.now (Err f))
+    let fault : IsFault c.args.size cleared_cells.words opening_notation c.args.rows.now row cause =
+    subst (λ (f : TapeFault). AnswersCheck c.args.size cleared_cells.words opening_notation 9 c.args.rows.now (Err f))
     c.in-Err-At.field-0-is c.in-Err-At.ensures in
     fault_told c.args.size fault (record {
       out_is = c.in_ok-out-in-Err-At.ensures;

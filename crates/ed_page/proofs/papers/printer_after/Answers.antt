@@ -1,6 +1,4 @@
-use Rattle.ed_page.proofs.Kit.{◌≡◌, ◌⊎◌, ap, sym, ◌∙◌, inl, inr}
-use Rattle.std.proofs.Common.{rules}
-use Rattle.ed_printer.specs.Paper.{shift_after}
+use Rattle.ed_page.proofs.Kit.{shift_after, ap, inl, inr, rules, sym, ◌∙◌, ◌≡◌, ◌⊎◌}
 use Rattle.ed_page.proofs.PaperTails.{set_last, unset_last}
 use Rattle.ed_page.proofs.papers.printer_after.Goals.{then-code-eq-FIGURE_SHIFT-via-then-code-eq-FIGURE_SHIFT}
 use Rattle.ed_page.proofs.papers.printer_after.Goals.{then-code-eq-FIGURE_SHIFT-via-else-code-eq-FIGURE_SHIFT+then-code-eq-LETTER_SHIFT}

@@ -1,4 +1,4 @@
-use Rattle.ed_page.proofs.Kit.{◌≡◌, reverse, length, latest_shift}
+use Rattle.ed_page.proofs.Kit.{latest_shift, length, reverse, ◌≡◌}
 use Rattle.ed_page.proofs.papers.printer_after.Given as goal
 
 -- no code after the rest sets a shift

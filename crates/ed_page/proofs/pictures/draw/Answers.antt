@@ -1,5 +1,5 @@
-use Rattle.ed_page.proofs.Kit.{arith, lit<, picture_buffers}
-use Rattle.ed_page.specs.Private.Asked.{answers_of, ends_of}
+use Rattle.ed_page.proofs.Kit.{lit<, arith, picture_buffers, answers_of}
+use Rattle.ed_page.specs.Private.Requests.{ends_of}
 use Rattle.ed_page.proofs.Outcomes.{program_due}
 use Rattle.ed_page.proofs.Written.{found_status, long_shown, low_status, picture_early, picture_shown, picture_unmade}
 use Rattle.ed_page.proofs.pictures.draw.Goals as goal

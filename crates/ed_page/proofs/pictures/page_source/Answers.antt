@@ -1,6 +1,6 @@
-use Rattle.ed_page.proofs.Kit.{ap, refl, subst, Settings, tape, run_of, picture_buffers, IsShown, run_settings}
+use Rattle.ed_page.proofs.Kit.{Settings, ap, refl, subst, tape, run_of, IsShown, picture_buffers, SourceEnds}
+use Rattle.ed_page.proofs.Kit.{run_settings}
 use Rattle.ed_answers.specs.Sources.{run_answer}
-use Rattle.ed_page.specs.Answers.{SourceEnds}
 use Rattle.ed_page.proofs.Goes.{from_start}
 use Rattle.ed_page.proofs.GoneOn.{begins_on}
 use Rattle.ed_page.proofs.RowCodes.{source_codes}

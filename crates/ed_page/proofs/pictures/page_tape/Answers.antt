@@ -1,11 +1,10 @@
-use Rattle.ed_page.proofs.Kit.{ap, refl, subst, Settings, run_of, picture_buffers, IsShown, run_settings}
+use Rattle.ed_page.proofs.Kit.{Settings, ap, refl, subst, run_of, IsShown, picture_buffers, RowsEnd, run_settings}
 use Rattle.ed_answers.specs.Tapes.{tape_answer}
 use Rattle.ed_page.proofs.Goes.{from_start}
 use Rattle.ed_page.proofs.GoneOn.{begins_on}
 use Rattle.ed_page.proofs.RowCodes.{read_codes}
 use Rattle.ed_page.proofs.TapeRows.{each_run_reads_on}
 use Rattle.ed_page.proofs.pictures.page_tape.Goals as goal
-use Rattle.ed_page.specs.Answers.{RowsEnd}
 
 pub draw-requires : goal.draw-requires
 draw-requires c = ap (λ (s : Settings). s.post_mortem) c.run_settings-settings.ensures

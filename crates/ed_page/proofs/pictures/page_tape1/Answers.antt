@@ -1,11 +1,11 @@
-use Rattle.ed_page.proofs.Kit.{false, ap, refl, subst, Settings, run1_of, picture_buffers, IsShown, run_settings}
+use Rattle.ed_page.proofs.Kit.{Settings, run1_of, ap, false, refl, subst, IsShown, picture_buffers, RowsEnd}
+use Rattle.ed_page.proofs.Kit.{run_settings}
 use Rattle.ed_answers.specs.FirstOrders.{tape1_answer}
 use Rattle.ed_page.proofs.Goes.{from_start1}
 use Rattle.ed_page.proofs.GoneOn.{begins_on}
 use Rattle.ed_page.proofs.RowCodes.{read_codes}
 use Rattle.ed_page.proofs.TapeRows.{each_run1_reads_on}
 use Rattle.ed_page.proofs.pictures.page_tape1.Goals as goal
-use Rattle.ed_page.specs.Answers.{RowsEnd}
 
 pub draw-requires : goal.draw-requires
 draw-requires c = ap (λ (s : Settings). s.post_mortem) c.run_settings-settings.ensures

@@ -1,5 +1,4 @@
-use Rattle.ed_page.proofs.Kit.{◌≡◌, Some, None, Option, sym, refl, ◌∙◌, State}
-use Rattle.ed_page.specs.Private.Stages.{told_outcome}
+use Rattle.ed_page.proofs.Kit.{None, Option, refl, Some, sym, ◌∙◌, ◌≡◌, State, told_outcome}
 use Rattle.ed_page.proofs.Written.{picture_nowhere, picture_written}
 use Rattle.ed_page.proofs.pictures.show.Goals.{in-Some-machine, in-None}
 use Rattle.ed_page.proofs.pictures.show.Goals as goal

@@ -1,5 +1,4 @@
-use Rattle.ed_page.proofs.Kit.{◌≡◌, ℕ, ◌≢◌, ◌⊎◌, refl, subst, inl, inr}
-use Rattle.ed_run.specs.SettingRanges.{IsWindowOf}
+use Rattle.ed_page.proofs.Kit.{IsWindowOf, inl, inr, refl, subst, ℕ, ◌≡◌, ◌≢◌, ◌⊎◌}
 use Rattle.ed_page.proofs.postmortem.page_post_mortem.Goals as goal
 
 -- buffers of the lengths of a store lack nothing

@@ -1,6 +1,5 @@
-use Rattle.ed_page.proofs.Kit.{◌≡◌, ap, sym, ◌∙◌, subst, Size, State, size_shown}
-use Rattle.ed_run.specs.SettingRanges.{IsWindowOf}
-use Rattle.ed_page.proofs.OnTheWay.{begun, way_size}
+use Rattle.ed_page.proofs.Kit.{Size, IsWindowOf, ap, subst, sym, ◌∙◌, ◌≡◌, State, size_shown}
+use Rattle.ed_page.proofs.OnTheWay.{IsFirst-begun, way_size}
 use Rattle.ed_page.proofs.postmortem.printed_paper.Goals as goal
 
 pub window_printed-requires-clause-window : goal.window_printed-requires-clause-window
@@ -8,11 +7,11 @@ window_printed-requires-clause-window c =
     let p = c.requires.picture in
     let size : c.in_ok-machine.machine.size ≡ size_shown c.args.small =
     ap (λ (s : State). s.size) (c.in_ok-machine.ensures p.first p.begins p.way.orders p.way.pictured)
-    ∙ way_size (begun p) p.way.orders in
+    ∙ way_size (IsFirst-begun p) p.way.orders in
     subst (λ (z : Size). IsWindowOf z c.args.window) (sym size) c.requires.window
 
-pub pictured-requires : goal.pictured-requires
-pictured-requires c = record {
+pub snapshot-requires : goal.snapshot-requires
+snapshot-requires c = record {
   words = c.requires.words;
   digits = c.requires.digits;
   picture = c.requires.picture;

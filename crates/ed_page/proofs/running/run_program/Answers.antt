@@ -1,7 +1,6 @@
-use Rattle.ed_page.proofs.Kit.{sym, refl, ◌∙◌, run1_of, run_of, NotedRun}
+use Rattle.ed_page.proofs.Kit.{run1_of, NotedRun, refl, sym, ◌∙◌, run_of, tape_outcome, tape_outcome_by}
 use Rattle.ed_answers.specs.FirstOrders.{tape1_outcome}
-use Rattle.ed_answers.specs.Tapes.{tape_outcome}
-use Rattle.ed_page.specs.Private.Asked.{run_by, tape_outcome_by}
+use Rattle.ed_page.specs.Private.Requests.{run_by}
 use Rattle.ed_page.proofs.Endings.{plain_source, plain_tape, ran_is}
 use Rattle.ed_page.proofs.Replies.{rows_not_run, rows_run, source_run}
 use Rattle.ed_page.proofs.running.run_program.Goals.{in-Orders41, in-Orders31}

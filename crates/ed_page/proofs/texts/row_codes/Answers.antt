@@ -1,5 +1,4 @@
-use Rattle.ed_page.proofs.Kit.{ℕ, List, ◌∙◌, subst, done, Gives}
-use Rattle.std.proofs.lemmas.List.{get_or_read}
+use Rattle.ed_page.proofs.Kit.{get_or_read, List, subst, ℕ, ◌∙◌, done, Gives}
 use Rattle.ed_page.proofs.Copied.{copied_all, copied_more}
 use Rattle.ed_page.proofs.texts.row_codes.Goals as goal
 

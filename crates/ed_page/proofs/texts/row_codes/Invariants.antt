@@ -1,4 +1,4 @@
-use Rattle.ed_page.proofs.Kit.{◌≡◌, ◌++◌, drop}
+use Rattle.ed_page.proofs.Kit.{drop, ◌++◌, ◌≡◌}
 use Rattle.ed_page.proofs.texts.row_codes.Given as goal
 
 abbrev pub invariant-loop-row : goal.invariant-loop-row

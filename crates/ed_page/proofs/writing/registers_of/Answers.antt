@@ -1,4 +1,4 @@
-use Rattle.ed_page.proofs.Kit.{arith, common_steps}
+use Rattle.ed_page.proofs.Kit.{common_steps, arith}
 use Rattle.ed_page.proofs.writing.registers_of.Goals as goal
 
 pub returns-clause-registers : goal.returns-clause-registers

@@ -1,6 +1,4 @@
-use Rattle.ed_page.proofs.Kit.{◌≡◌, ℕ, List, ◌++◌, length, take, drop, ap, ◌∙◌, arith}
-use Rattle.std.proofs.Math.Seq.{take-length}
-use Rattle.std.proofs.lemmas.List.{get_or_read}
+use Rattle.ed_page.proofs.Kit.{take-length, get_or_read, take, ap, arith, drop, length, List, ℕ, ◌++◌, ◌∙◌, ◌≡◌}
 use Rattle.ed_page.proofs.Copied.{written_more}
 use Rattle.ed_page.proofs.writing.write_codes.Goals as goal
 

@@ -1,4 +1,4 @@
-use Rattle.ed_page.proofs.Kit.{◌≡◌, ◌++◌, take, drop}
+use Rattle.ed_page.proofs.Kit.{take, drop, ◌++◌, ◌≡◌}
 use Rattle.ed_page.proofs.writing.write_codes.Given as goal
 
 -- the codes so far, and the bytes after them

@@ -1,5 +1,4 @@
-use Rattle.ed_page.proofs.Kit.{◌≡◌, ℕ, ◌*◌, ◌<◌, length, get_or}
-use Rattle.ed_words.specs.Words.{digit}
+use Rattle.ed_page.proofs.Kit.{◌*◌, digit, get_or, length, ℕ, ◌<◌, ◌≡◌}
 use Rattle.ed_store.specs.Cells.{sandwich_at}
 use Rattle.ed_page.proofs.writing.write_store.Given as goal
 

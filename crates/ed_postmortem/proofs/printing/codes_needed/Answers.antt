@@ -1,4 +1,4 @@
-use Rattle.std.proofs.Common.{arith, ◌+◌}
+use Rattle.ed_postmortem.proofs.Kit.{arith, ◌+◌}
 use Rattle.ed_postmortem.proofs.Needed.{next_codes, no_codes}
 use Rattle.ed_postmortem.proofs.printing.codes_needed.Goals as goal
 

@@ -1,5 +1,4 @@
-use Rattle.std.proofs.Common.{◌≡◌, ◌+◌, ◌-◌, ◌*◌, ◌≤◌, length}
-use Rattle.ed_postmortem.specs.Codes.{printed_codes}
+use Rattle.ed_postmortem.proofs.Kit.{length, ◌*◌, ◌+◌, ◌-◌, ◌≡◌, ◌≤◌, printed_codes}
 use Rattle.ed_postmortem.proofs.printing.codes_needed.Given as goal
 
 abbrev pub invariant-loop-done : goal.invariant-loop-done

@@ -1,8 +1,7 @@
-use Rattle.std.proofs.Common.{◌-◌, ◌≤◌, arith, refl}
-use Rattle.ed_postmortem.specs.Answers.{IsPrinted}
+use Rattle.ed_postmortem.proofs.Kit.{arith, refl, ◌-◌, ◌≤◌, IsPrinted}
 use Rattle.ed_postmortem.proofs.Whole.{loads_so, orders_then, printed}
-use Rattle.ed_postmortem.proofs.printing.obey.Goals as goal
 use Rattle.ed_postmortem.proofs.printing.obey.Goals.{After-orders_done}
+use Rattle.ed_postmortem.proofs.printing.obey.Goals as goal
 
 pub run-requires : goal.run-requires
 run-requires c =

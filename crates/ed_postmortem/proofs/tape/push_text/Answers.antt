@@ -1,10 +1,8 @@
-use Rattle.std.proofs.Common.{◌≡◌, ◌∙◌, ℕ, ◌+◌, ◌<◌, List, [], ◌∷◌, ◌++◌, ap, sym, append_assoc, append-nil}
-use Rattle.std.proofs.Common.{add-one, drop, drop-cons, get_or, length}
-use Rattle.std.proofs.lemmas.List.{drop_all}
+use Rattle.ed_postmortem.proofs.Kit.{append-nil, append_assoc, [], ap, drop, get_or, length, List, None, Option, Some}
+use Rattle.ed_postmortem.proofs.Kit.{sym, ℕ, ◌++◌, ◌+◌, ◌<◌, ◌∙◌, ◌∷◌, ◌≡◌, rows_of_text}
+use Rattle.ed_notation.proofs.Kit.{unwrap_or, drop_all, row_of}
+use Rattle.std.proofs.Common.{add-one, drop-cons}
 use Rattle.std.specs.Option.{UnwrapsOrElse}
-use Rattle.std.specs.Prelude.{Option, Some, None, unwrap_or}
-use Rattle.ed_codes.specs.Spelling.{row_of}
-use Rattle.ed_postmortem.specs.Tape.{rows_of_text}
 use Rattle.ed_postmortem.proofs.tape.push_text.Goals as goal
 
 -- the row of one more byte was added

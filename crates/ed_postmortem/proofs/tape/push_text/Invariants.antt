@@ -1,5 +1,4 @@
-use Rattle.std.proofs.Common.{◌≡◌, ◌++◌, drop}
-use Rattle.ed_postmortem.specs.Tape.{rows_of_text}
+use Rattle.ed_postmortem.proofs.Kit.{drop, ◌++◌, ◌≡◌, rows_of_text}
 use Rattle.ed_postmortem.proofs.tape.push_text.Given as goal
 
 abbrev pub invariant-loop-byte : goal.invariant-loop-byte

@@ -1,10 +1,6 @@
-use Rattle.std.proofs.Common.{◌≡◌, ◌∙◌, ap, refl, false, List, [], ◌∷◌, ◌++◌, ℕ}
+use Rattle.ed_postmortem.proofs.Kit.{codes, Item, canonicals, is_spellable, [], ap, false, List, refl, ℕ, ◌++◌, ◌∙◌}
+use Rattle.ed_postmortem.proofs.Kit.{◌∷◌, ◌≡◌, spelled_rows, count_item, orders, rows_of_text, tape_rows}
 use Rattle.std.proofs.lemmas.Result.{err_from_is_err_and}
-use Rattle.std.specs.Prelude.{codes}
-use Rattle.ed_notation.specs.declared.item.Item.{Item}
-use Rattle.ed_notation.specs.Items.{spelled_rows}
-use Rattle.ed_notation.specs.Spellings.{canonicals, is_spellable}
-use Rattle.ed_postmortem.specs.Tape.{count_item, orders, rows_of_text, tape_rows}
 use Rattle.ed_postmortem.proofs.Entry.{parameter_spellable}
 use Rattle.ed_postmortem.proofs.tape.tape.Goals as goal
 

@@ -1,8 +1,8 @@
-use Rattle.ed_programs.proofs.Kit.{ℕ, [], List, ◌∷◌, sym, ap, subst, Text, woven_text, GivesProgram, all_fit, prints_as}
-use Rattle.ed_programs.proofs.Kit.{written}
-use Rattle.ed_programs.specs.Celsius.{celsius_text}
+use Rattle.ed_programs.proofs.Kit.{[], ap, List, subst, sym, ℕ, ◌∷◌, Text, filled_text, celsius_text, GivesProgram}
+use Rattle.ed_programs.proofs.Kit.{all_fit, prints_as}
 use Rattle.ed_programs.proofs.CelsiusRuns.{each_celsius, celsius_pieces}
 use Rattle.ed_programs.proofs.NumberLists.{IsList, is_list}
+use Rattle.ed_programs.proofs.Texts.{GivesProgram-written}
 use Rattle.ed_programs.proofs.celsius.celsius_program.Goals as goal
 
 pub returns : goal.returns
@@ -11,8 +11,8 @@ returns c =
     let end : ℕ = c.args.end in
     let taken = c.in_ok-rows.ensures.ok in
     let is : IsList 32 ns end = is_list 32 ns end taken in
-    let gives = written _ c.program_of_text.result _ (celsius_text ns end)
-    (ap (λ (t : Text). woven_text celsius_pieces (t ∷ [])) c.in_ok-rows.ensures.rows) c.program_of_text.ensures
+    let gives = GivesProgram-written _ c.program_of_text.result _ (celsius_text ns end)
+    (ap (λ (t : Text). filled_text celsius_pieces (t ∷ [])) c.in_ok-rows.ensures.rows) c.program_of_text.ensures
     c.format.ensures.ok in
     record {
       is = subst (λ cause. GivesProgram cause (celsius_text ns end) c.program_of_text.result) (sym taken) gives;

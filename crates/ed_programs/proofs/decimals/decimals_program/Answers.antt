@@ -1,14 +1,14 @@
 use Rattle.ed_programs.proofs.Kit.{prints_as}
 use Rattle.ed_programs.proofs.DecimalsMethod.{method_is_right}
 use Rattle.ed_programs.proofs.DecimalsRuns.{hundred_run}
-use Rattle.ed_programs.proofs.PartsOfE.{figures_are_carries, hundred, one_number}
+use Rattle.ed_programs.proofs.PartsOfE.{figures_are_carries, IsWholePart-hundred, one_number}
 use Rattle.ed_programs.proofs.decimals.decimals_program.Goals as goal
 
 pub returns-clause-law : goal.returns-clause-law
-returns-clause-law c = prints_as _ c.woven_program.result c.woven_program.ensures hundred_run
+returns-clause-law c = prints_as _ c.filled_program.result c.filled_program.ensures hundred_run
 
 pub returns-clause-of_e : goal.returns-clause-of_e
-returns-clause-of_e c = hundred
+returns-clause-of_e c = IsWholePart-hundred
 
 pub returns-clause-method : goal.returns-clause-method
 returns-clause-method c = method_is_right

@@ -4,5 +4,5 @@ use Rattle.ed_programs.proofs.difference.difference_program.Goals as goal
 
 pub returns-clause-law : goal.returns-clause-law
 returns-clause-law c =
-    prints_as _ c.woven_program.result c.woven_program.ensures
+    prints_as _ c.filled_program.result c.filled_program.ensures
     (each_difference c.args.first c.args.second c.ranges.first.fits c.ranges.second.fits)

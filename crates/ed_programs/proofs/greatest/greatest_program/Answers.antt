@@ -5,5 +5,5 @@ use Rattle.ed_programs.proofs.greatest.greatest_program.Goals as goal
 pub returns-clause-law : goal.returns-clause-law
 returns-clause-law c =
     let ns = c.args.numbers.now in
-    prints_as _ c.woven_program.result c.woven_program.ensures
+    prints_as _ c.filled_program.result c.filled_program.ensures
     (λ s. each_greatest s ns c.if-numbers-ne8.false (all_fit ns c.type_inv.numbers))

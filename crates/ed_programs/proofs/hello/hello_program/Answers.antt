@@ -1,8 +1,8 @@
-use Rattle.ed_programs.proofs.Kit.{◌≡◌, suc, ◌+◌, [], ◌∷◌, length, decimal, sym, ap, subst, arith, Text, rules, written}
-use Rattle.ed_programs.proofs.Kit.{woven_text, GivesProgram, prints_as}
-use Rattle.ed_programs.specs.Hello.{hello_text, of_letters}
+use Rattle.ed_programs.proofs.Kit.{[], ap, arith, decimal, length, rules, subst, suc, sym, ◌+◌, ◌∷◌, ◌≡◌, Text}
+use Rattle.ed_programs.proofs.Kit.{filled_text, hello_text, of_letters, GivesProgram, prints_as}
 use Rattle.ed_programs.proofs.Capitals.{AreLetters, are_letters}
 use Rattle.ed_programs.proofs.HelloRuns.{each_name, each_text, hello_pieces}
+use Rattle.ed_programs.proofs.Texts.{GivesProgram-written}
 use Rattle.ed_programs.proofs.hello.hello_program.Goals as goal
 
 pub returns-in_err-check_letters : goal.returns-in_err-check_letters
@@ -13,8 +13,8 @@ returns c =
     let letters : Text = c.args.letters.now in
     let rows : length letters + 1 ≡ suc (length letters) = omega arith in
     let are : AreLetters 40 letters = are_letters 40 letters c.in_ok-check_letters.ensures.ok in
-    let gives = written _ c.program_of_text.result _ (hello_text (of_letters letters))
-    (ap (λ n. woven_text hello_pieces (decimal n ∷ of_letters letters ∷ [])) rows)
+    let gives = GivesProgram-written _ c.program_of_text.result _ (hello_text (of_letters letters))
+    (ap (λ n. filled_text hello_pieces (decimal n ∷ of_letters letters ∷ [])) rows)
     c.program_of_text.ensures c.format.ensures.ok in
     record {
       is = subst (λ cause. GivesProgram cause (hello_text (of_letters letters)) c.program_of_text.result)

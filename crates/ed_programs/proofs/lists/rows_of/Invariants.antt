@@ -1,5 +1,4 @@
-use Rattle.ed_sources.proofs.Kit.{string_bytes}
-use Rattle.ed_programs.proofs.Kit.{◌≡◌, ◌++◌, drop, numbers_text}
+use Rattle.ed_programs.proofs.Kit.{drop, string_bytes, ◌++◌, ◌≡◌, numbers_text}
 use Rattle.ed_programs.proofs.lists.rows_of.Given as goal
 
 abbrev pub invariant-loop-number : goal.invariant-loop-number

@@ -1,8 +1,8 @@
-use Rattle.ed_programs.proofs.Kit.{sym, subst, rules, GivesProgram, written}
-use Rattle.ed_programs.specs.Mirror.{mirror_text}
+use Rattle.ed_programs.proofs.Kit.{rules, subst, sym, mirror_text, GivesProgram}
 use Rattle.ed_programs.proofs.Capitals.{AreLetters, are_letters}
 use Rattle.ed_programs.proofs.MirrorRuns.{each_word, text_is}
 use Rattle.ed_programs.proofs.TapeRuns.{tape_prints_of}
+use Rattle.ed_programs.proofs.Texts.{GivesProgram-written}
 use Rattle.ed_programs.proofs.mirror.mirror_program.Goals as goal
 
 pub returns-in_err-check_letters : goal.returns-in_err-check_letters
@@ -11,7 +11,7 @@ returns-in_err-check_letters c = record { is = search rules; law = search rules 
 pub returns : goal.returns
 returns c =
     let word : AreLetters 9 c.args.letters.now = are_letters 9 c.args.letters.now c.in_ok-check_letters.ensures.ok in
-    let gives = written _ c.program_of_text.result _ (mirror_text c.args.letters.now)
+    let gives = GivesProgram-written _ c.program_of_text.result _ (mirror_text c.args.letters.now)
     (text_is c.args.letters.now)
     c.program_of_text.ensures c.format.ensures.ok in
     record {

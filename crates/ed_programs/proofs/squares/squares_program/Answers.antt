@@ -3,4 +3,4 @@ use Rattle.ed_programs.proofs.SquaresRuns.{squares_run}
 use Rattle.ed_programs.proofs.squares.squares_program.Goals as goal
 
 pub returns-clause-law : goal.returns-clause-law
-returns-clause-law c = first_tape_prints_of c.woven_program.result c.woven_program.ensures squares_run
+returns-clause-law c = first_tape_prints_of c.filled_program.result c.filled_program.ensures squares_run

@@ -1,5 +1,5 @@
-use Rattle.ed_sources.proofs.Kit.{sum}
-use Rattle.ed_programs.proofs.Kit.{◌≡◌, ◌+◌, ◌<◌, drop}
+use Rattle.ed_programs.proofs.Kit.{drop, ◌+◌, ◌<◌, ◌≡◌}
+use Rattle.ed_routines.specs.Digits.{sum}
 use Rattle.ed_programs.proofs.total.has_small_sum.Given as goal
 
 abbrev pub invariant-loop-number : goal.invariant-loop-number

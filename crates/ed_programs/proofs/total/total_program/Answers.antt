@@ -1,10 +1,10 @@
-use Rattle.ed_sources.proofs.Kit.{sum}
-use Rattle.ed_programs.proofs.Kit.{◌≡◌, ℕ, true, [], List, ◌∷◌, Some, if◌then◌else◌, nat_lt, sym, ap, ◌∙◌, subst, Text}
-use Rattle.ed_programs.proofs.Kit.{lt_of, woven_text, GivesProgram, prints_as, written}
-use Rattle.ed_programs.specs.Lists.{list_refusal}
-use Rattle.ed_programs.specs.Total.{total_refusal, total_text}
+use Rattle.ed_programs.proofs.Kit.{[], ap, if◌then◌else◌, List, nat_lt, Some, subst, sym, true, ℕ, ◌∙◌, ◌∷◌, ◌≡◌}
+use Rattle.ed_programs.proofs.Kit.{ltb-true, Text, filled_text, list_refusal, GivesProgram, total_text, prints_as}
+use Rattle.ed_routines.specs.Digits.{sum}
+use Rattle.ed_programs.specs.Total.{total_refusal}
 use Rattle.ed_programs.specs.declared.refusal.Refusal.TheVariants.{Number}
 use Rattle.ed_programs.proofs.NumberLists.{IsList, is_list}
+use Rattle.ed_programs.proofs.Texts.{GivesProgram-written}
 use Rattle.ed_programs.proofs.TotalRuns.{each_total, total_pieces}
 use Rattle.ed_programs.proofs.total.total_program.Goals as goal
 
@@ -19,12 +19,12 @@ returns c =
     let small : nat_lt (sum ns) 65536 ≡ true =
     let is = c.has_small_sum.ensures in let test = c.if-not-has_small_sum.false in cc in
     let is : IsList 1 ns 0 = is_list 1 ns 0 taken in
-    let gives = written _ c.program_of_text.result _ (total_text ns)
-    (ap (λ (t : Text). woven_text total_pieces (t ∷ [])) c.in_ok-rows.ensures.rows) c.program_of_text.ensures
+    let gives = GivesProgram-written _ c.program_of_text.result _ (total_text ns)
+    (ap (λ (t : Text). filled_text total_pieces (t ∷ [])) c.in_ok-rows.ensures.rows) c.program_of_text.ensures
     c.format.ensures.ok in
     record {
       is = subst (λ cause. GivesProgram cause (total_text ns) c.program_of_text.result)
           (sym (as_list ns small ∙ taken)) gives;
       law = prints_as _ c.program_of_text.result gives
-          (each_total ns is.all (lt_of (sum ns) 65536 small) is.fits);
+          (each_total ns is.all (ltb-true (sum ns) 65536 small) is.fits);
     }

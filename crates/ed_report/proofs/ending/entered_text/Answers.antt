@@ -1,4 +1,4 @@
-use Rattle.std.proofs.Common.{◌∙◌, ◌++◌}
+use Rattle.ed_report.proofs.Kit.{◌++◌, ◌∙◌}
 use Rattle.ed_report.proofs.ending.entered_text.Goals as goal
 
 pub returns : goal.returns

@@ -1,7 +1,5 @@
-use Rattle.std.proofs.Common.{◌∙◌, ap}
-use Rattle.ed_store.specs.Cells.{short_at}
-use Rattle.ed_orders.specs.Texts.{order_text}
-use Rattle.ed_report.proofs.Texts.{told, no_order_wrote}
+use Rattle.ed_report.proofs.Kit.{short_at, order_text, ap, ◌∙◌}
+use Rattle.ed_report.proofs.Texts.{IfOk-told, no_order_wrote}
 use Rattle.ed_report.proofs.ending.no_order_line.Goals as goal
 
 pub returns : goal.returns
@@ -10,5 +8,5 @@ returns c =
     let counter = c.counter-counter.ensures.is in
     let word = c.word.ensures.is ∙ ap (short_at machine.store) counter in
     let text = c.as_str-text.ensures.value ∙ c.order_text-order.ensures ∙ ap order_text word in
-    told _ _ _ _ (no_order_wrote machine _ _ _ counter c.orders_done-orders.ensures text)
+    IfOk-told _ _ _ _ (no_order_wrote machine _ _ _ counter c.orders_done-orders.ensures text)
     c.bytes_of_text.ensures c.format.ensures.ok

@@ -1,6 +1,6 @@
-use Rattle.std.proofs.Common.{append_assoc}
-use Rattle.ed_report.proofs.Texts.{told}
+use Rattle.ed_report.proofs.Kit.{append_assoc}
+use Rattle.ed_report.proofs.Texts.{IfOk-told}
 use Rattle.ed_report.proofs.entry.entry_text.Goals as goal
 
 pub returns : goal.returns
-returns c = told _ _ _ _ (simp append_assoc) c.bytes_of_text.ensures c.format.ensures.ok
+returns c = IfOk-told _ _ _ _ (simp append_assoc) c.bytes_of_text.ensures c.format.ensures.ok

@@ -1,9 +1,5 @@
-use Rattle.std.proofs.Common.{◌≡◌, ◌∙◌, ℕ, List, [], ◌∷◌, ◌++◌, append_assoc, codes}
-use Rattle.std.specs.Prelude.{Result, Vec, IfOk}
-use Rattle.std.specs.Fmt.{decimal}
-use Rattle.std.specs.declared.alloc.Global.{Global}
-use Rattle.std.proofs.lemmas.Result.{IfOk-weaker}
-use Rattle.ed_words.specs.declared.memory.NoMemory.{NoMemory}
+use Rattle.ed_report.proofs.Kit.{Vec, Global, IfOk-weaker, NoMemory, [], append_assoc, codes, IfOk, List, Result, ℕ}
+use Rattle.ed_report.proofs.Kit.{◌++◌, ◌∙◌, ◌∷◌, ◌≡◌, decimal}
 use Rattle.ed_notation.specs.declared.cause.TapeCause.{TapeCause}
 use Rattle.ed_report.specs.Notes.{cause_text, part_line}
 use Rattle.ed_report.proofs.fault.part_fault.Goals as goal

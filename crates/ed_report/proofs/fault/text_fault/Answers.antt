@@ -1,9 +1,5 @@
-use Rattle.std.proofs.Common.{◌≡◌, ◌∙◌, ℕ, List, [], ◌∷◌, ◌++◌, ap, append_assoc, codes}
-use Rattle.std.specs.Prelude.{Result, Vec, IfOk}
-use Rattle.std.specs.Fmt.{decimal}
-use Rattle.std.specs.declared.alloc.Global.{Global}
-use Rattle.std.proofs.lemmas.Result.{IfOk-weaker}
-use Rattle.ed_words.specs.declared.memory.NoMemory.{NoMemory}
+use Rattle.ed_report.proofs.Kit.{Vec, Global, IfOk-weaker, NoMemory, [], ap, append_assoc, codes, IfOk, List, Result}
+use Rattle.ed_report.proofs.Kit.{ℕ, ◌++◌, ◌∙◌, ◌∷◌, ◌≡◌, decimal}
 use Rattle.ed_report.proofs.fault.text_fault.Goals as goal
 
 -- the number of a byte, and then a note as one text

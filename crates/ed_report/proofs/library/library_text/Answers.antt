@@ -1,8 +1,9 @@
-use Rattle.std.proofs.Common.{◌≡◌, ◌∙◌, ℕ, ◌+◌, ◌<◌, ◌≤◌, sym, ap, subst}
-use Rattle.std.proofs.Common.{List, ◌++◌, append-nil, append_assoc, drop, length, get_or}
-use Rattle.std.proofs.lemmas.List.{drop_all, drop_more}
-use Rattle.ed_library.specs.Entries.{Routine, catalogue, no_entry}
-use Rattle.ed_report.specs.Catalogue.{routine_line, routine_lines}
+use Rattle.ed_report.proofs.Kit.{append-nil, drop_all, ap, append_assoc, drop, get_or, length, List, sym, ℕ, ◌++◌, ◌+◌}
+use Rattle.ed_report.proofs.Kit.{◌<◌, ◌∙◌, ◌≡◌, ◌≤◌, catalogue, routine_lines}
+use Rattle.std.proofs.Common.{subst}
+use Rattle.std.proofs.lemmas.List.{drop_more}
+use Rattle.ed_library.specs.Entries.{Routine, no_entry}
+use Rattle.ed_report.specs.Catalogue.{routine_line}
 use Rattle.ed_report.proofs.library.library_text.Goals as goal
 
 -- one line more, of those of some routines

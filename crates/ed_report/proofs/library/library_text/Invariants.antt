@@ -1,6 +1,5 @@
-use Rattle.std.proofs.Common.{◌≡◌, ◌++◌, drop}
-use Rattle.ed_library.specs.Entries.{catalogue}
-use Rattle.ed_report.specs.Catalogue.{library_text, routine_lines}
+use Rattle.ed_report.proofs.Kit.{drop, ◌++◌, ◌≡◌, catalogue, routine_lines}
+use Rattle.ed_report.specs.Catalogue.{library_text}
 use Rattle.ed_report.proofs.library.library_text.Given as goal
 
 -- the lines so far, and then those of the routines that are left

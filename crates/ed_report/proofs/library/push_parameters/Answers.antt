@@ -1,5 +1,4 @@
-use Rattle.std.proofs.Common.{arith}
-use Rattle.std.proofs.lemmas.Grind.{common_steps}
+use Rattle.ed_report.proofs.Kit.{arith, common_steps}
 use Rattle.ed_report.proofs.library.push_parameters.Goals as goal
 
 pub loop-letter-preserved : goal.loop-letter-preserved

@@ -1,6 +1,4 @@
-use Rattle.std.proofs.Common.{◌≡◌, ◌++◌, drop}
-use Rattle.std.specs.List.{flat_map}
-use Rattle.ed_report.specs.Catalogue.{parameter_text}
+use Rattle.ed_report.proofs.Kit.{flat_map, drop, ◌++◌, ◌≡◌, parameter_text}
 use Rattle.ed_report.proofs.library.push_parameters.Given as goal
 
 -- the line so far, and then the letters that are left

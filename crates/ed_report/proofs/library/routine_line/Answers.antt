@@ -1,10 +1,7 @@
-use Rattle.std.proofs.Common.{◌≡◌, ◌∙◌, ℕ, List, [], ◌∷◌, ◌++◌, sym, append_assoc, codes}
-use Rattle.std.specs.List.{flat_map}
-use Rattle.std.specs.Prelude.{Ok}
-use Rattle.std.specs.Fmt.{decimal}
+use Rattle.ed_report.proofs.Kit.{flat_map, [], append_assoc, codes, List, Ok, sym, ℕ, ◌++◌, ◌∙◌, ◌∷◌, ◌≡◌, decimal}
+use Rattle.ed_report.proofs.Kit.{parameter_text}
 use Rattle.ed_library.specs.Entries.{entry}
-use Rattle.ed_report.specs.Catalogue.{parameter_text}
-use Rattle.ed_report.proofs.Texts.{told}
+use Rattle.ed_report.proofs.Texts.{IfOk-told}
 use Rattle.ed_report.proofs.library.routine_line.Goals as goal
 
 pieces : (name text : List ℕ) (n places : ℕ) → name ≡ text → n ≡ places
@@ -14,7 +11,7 @@ pieces name text n places e f = (λ i. e i ++ (codes " " ++ decimal (f i)))
 
 pub returns : goal.returns
 returns c =
-    let front = told _ (Ok c.in_ok-line.line) _ _ (pieces _ _ _ _ c.name-name.ensures c.length-places.ensures.is)
+    let front = IfOk-told _ (Ok c.in_ok-line.line) _ _ (pieces _ _ _ _ c.name-name.ensures c.length-places.ensures.is)
     c.in_ok-line.ensures c.format.ensures.ok in
     let letters = flat_map parameter_text (entry c.args.routine).parameters in
     c.in_ok-push.ensures.items ∙ (λ i. (c.in_ok-push_parameters.ensures ∙ (λ j. front j ++ letters)) i ++ 10 ∷ [])

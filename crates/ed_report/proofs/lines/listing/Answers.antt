@@ -1,5 +1,4 @@
-use Rattle.std.proofs.Common.{arith}
-use Rattle.std.proofs.lemmas.Grind.{common_steps}
+use Rattle.ed_report.proofs.Kit.{arith, common_steps}
 use Rattle.ed_report.proofs.lines.listing.Goals as goal
 
 pub loop-place-preserved : goal.loop-place-preserved

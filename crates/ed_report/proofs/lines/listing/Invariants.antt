@@ -1,5 +1,4 @@
-use Rattle.std.proofs.Common.{◌≡◌, ◌++◌, drop}
-use Rattle.std.specs.Prelude.{string_bytes}
+use Rattle.ed_report.proofs.Kit.{string_bytes, drop, ◌++◌, ◌≡◌}
 use Rattle.ed_report.specs.Listings.{listing}
 use Rattle.ed_report.proofs.lines.listing.Given as goal
 

@@ -1,8 +1,5 @@
-use Rattle.std.proofs.Common.{◌∙◌, ◌++◌, List, ap, ℕ}
-use Rattle.std.specs.Prelude.{string_bytes}
+use Rattle.ed_report.proofs.Kit.{string_bytes, order_text, ap, List, ℕ, ◌++◌, ◌∙◌, right}
 use Rattle.std.specs.Fmt.{styled_decimal}
-use Rattle.ed_orders.specs.Texts.{order_text}
-use Rattle.ed_report.specs.Listings.{right}
 use Rattle.ed_report.proofs.Columns.{in_columns, line_wrote}
 use Rattle.ed_report.proofs.lines.write_line.Goals as goal
 

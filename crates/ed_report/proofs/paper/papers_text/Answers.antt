@@ -1,4 +1,4 @@
-use Rattle.std.proofs.Common.{◌∙◌, ◌++◌, ℕ, List, ap}
+use Rattle.ed_report.proofs.Kit.{ap, List, ℕ, ◌++◌, ◌∙◌}
 use Rattle.ed_report.proofs.Struck.{two_papers}
 use Rattle.ed_report.proofs.paper.papers_text.Goals as goal
 

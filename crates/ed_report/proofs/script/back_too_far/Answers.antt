@@ -1,7 +1,6 @@
-use Rattle.std.proofs.Common.{◌≡◌, ℕ, [], ◌∷◌, ◌++◌, append_assoc, codes}
-use Rattle.std.specs.Fmt.{decimal}
+use Rattle.ed_report.proofs.Kit.{[], append_assoc, codes, ℕ, ◌++◌, ◌∷◌, ◌≡◌, decimal}
 use Rattle.ed_report.specs.Notes.{too_far_line}
-use Rattle.ed_report.proofs.Texts.{told}
+use Rattle.ed_report.proofs.Texts.{IfOk-told}
 use Rattle.ed_report.proofs.script.back_too_far.Goals as goal
 
 pieces : (line done : ℕ)
@@ -10,4 +9,4 @@ pieces : (line done : ℕ)
 pieces line done = simp append_assoc
 
 pub returns : goal.returns
-returns c = told _ _ _ _ (pieces c.args.line c.args.done) c.bytes_of_text.ensures c.format.ensures.ok
+returns c = IfOk-told _ _ _ _ (pieces c.args.line c.args.done) c.bytes_of_text.ensures c.format.ensures.ok

@@ -1,5 +1,4 @@
-use Rattle.std.proofs.Common.{◌≡◌, ◌++◌, drop}
-use Rattle.ed_report.specs.Traces.{letters_from}
+use Rattle.ed_report.proofs.Kit.{drop, ◌++◌, ◌≡◌, letters_from}
 use Rattle.ed_report.proofs.trace.write_trace.Given as goal
 
 -- the letters so far, and then those of the functions that are left

@@ -1,10 +1,5 @@
-use Rattle.std.proofs.Common.{◌≡◌, ◌∙◌, arith, ℕ, List, [], ◌∷◌}
-use Rattle.ed_words.specs.Sizes.{locations}
-use Rattle.ed_machine.specs.State.{State}
-use Rattle.ed_machine.specs.Steps.{state_after}
-use Rattle.ed_machine.proofs.Kit.Leads.{Leads, free}
-use Rattle.ed_routines.specs.Catalogue.{newline}
-use Rattle.ed_routines.specs.Standing.{Stands}
+use Rattle.ed_routines.proofs.Kit.{free, Leads, [], arith, List, ℕ, ◌∙◌, ◌∷◌, ◌≡◌, locations, State, state_after}
+use Rattle.ed_routines.proofs.Kit.{newline, IsLoadedAt}
 use Rattle.ed_routines.proofs.Called.{IsWithin}
 use Rattle.ed_routines.proofs.NewLine.{last, leads_to, returned, keeps}
 use Rattle.ed_routines.proofs.Runs.{Ran, ran}
@@ -17,14 +12,11 @@ module _ (c : goal.After-run) where
   abbrev parameters : List ℕ
   parameters = c.requires.stands.0
 
-  stands : Stands newline parameters c.args.base s
+  stands : IsLoadedAt newline parameters c.args.base s
   stands = c.requires.stands.1
 
   within : IsWithin 7 c.args.base 0 (locations s.size) s
-  within =
-      let low = stands.low in
-      let under = stands.fits in
-      record { under = under; near = omega arith; back = stands.call.room; fits = omega arith }
+  within = omega arith
 
   -- the routine's orders, and that the run obeys them
   abbrev end : State

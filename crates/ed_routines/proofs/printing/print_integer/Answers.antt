@@ -1,12 +1,5 @@
-use Rattle.std.proofs.Common.{◌≡◌, ◌∙◌, ℕ, ◌∷◌, arith, ap, subst}
-use Rattle.ed_words.specs.Sizes.{locations}
-use Rattle.ed_store.specs.Cells.{short_at}
-use Rattle.ed_machine.specs.State.{State}
-use Rattle.ed_machine.specs.Steps.{state_after}
-use Rattle.ed_run.specs.Run.{IsRun}
-use Rattle.ed_machine.proofs.Kit.Leads.{Leads, free}
-use Rattle.ed_routines.specs.Digits.{digits, print_orders}
-use Rattle.ed_routines.specs.Catalogue.{print, with_h}
+use Rattle.ed_routines.proofs.Kit.{short_at, free, Leads, ap, arith, subst, ℕ, ◌∙◌, ◌∷◌, ◌≡◌, locations, State}
+use Rattle.ed_routines.proofs.Kit.{state_after, IsRun, print, with_h, digits, print_orders}
 use Rattle.ed_routines.proofs.Called.{IsCalled, called}
 use Rattle.ed_routines.proofs.Digits.{digits_law, few_digits}
 use Rattle.ed_routines.proofs.PrintCall.{last, leads_to, returned, keeps}

@@ -1,5 +1,4 @@
-use Rattle.std.proofs.Common.{◌≡◌, ◌+◌, length, drop}
-use Rattle.ed_routines.specs.Digits.{digit_rows}
+use Rattle.ed_routines.proofs.Kit.{drop, length, ◌+◌, ◌≡◌, digit_rows}
 use Rattle.ed_routines.proofs.reading.count_digits.Given as goal
 
 abbrev pub invariant-loop-index : goal.invariant-loop-index

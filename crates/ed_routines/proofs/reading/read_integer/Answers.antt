@@ -1,21 +1,14 @@
-use Rattle.std.proofs.Common.{◌≡◌, ◌+◌, ◌*◌, ◌<◌, ℕ, sym, ap, ◌∙◌, refl, subst}
-use Rattle.std.proofs.Common.{arith, List, [], ◌∷◌, get_or, drop, length, ◌≤◌}
-use Rattle.std.proofs.Common.{slice_index}
-use Rattle.ed_words.specs.Sizes.{locations}
-use Rattle.ed_machine.specs.State.{State}
-use Rattle.ed_machine.specs.Steps.{state_after}
-use Rattle.ed_machine.proofs.Kit.Leads.{Leads, free}
-use Rattle.ed_routines.specs.Digits.{after_digits, digit_rows}
+use Rattle.ed_routines.proofs.Kit.{free, Leads, [], ap, drop, get_or, length, List, refl, rules, subst, sym, ℕ, ◌*◌}
+use Rattle.ed_routines.proofs.Kit.{◌+◌, ◌<◌, ◌∙◌, ◌∷◌, ◌≡◌, locations, State, state_after, read, with_h, after_digits}
+use Rattle.ed_routines.proofs.Kit.{digit_rows}
 use Rattle.ed_routines.specs.Returns.{ReadLeaves, read_by}
-use Rattle.ed_routines.specs.Catalogue.{read, with_h}
 use Rattle.ed_routines.proofs.Called.{IsCalled, called}
-use Rattle.ed_routines.proofs.ReadCall.{no_ending, has_ending, few_rows, last, leads_to}
-use Rattle.ed_routines.proofs.ReadCall.{has_read, keeps, waiting, leads_to_end}
+use Rattle.ed_routines.proofs.ReadCall.{no_ending, has_ending, last, leads_to, has_read, keeps, waiting, leads_to_end}
 use Rattle.ed_routines.proofs.ReadCall.{waits, keeps_waiting}
 use Rattle.ed_routines.proofs.reading.read_integer.Goals as goal
 
 -- the tape that ends
-module _ (c : goal.After-obey_count) where
+module _ (c : goal.After-obey_next) where
   abbrev s : State
   s = c.args.machine.now
 
@@ -31,8 +24,8 @@ module _ (c : goal.After-obey_count) where
   leads : Leads (3 + 13 * length (digit_rows s.tape)) s [] (waiting is_called end)
   leads = leads_to_end is_called end
 
-  state_is : c.obey_count.new.machine ≡ state_after (3 + 13 * length (digit_rows s.tape)) s
-  state_is = c.obey_count.ensures ∙ ap (λ k. state_after (3 + 13 * k) s) count
+  state_is : c.obey_next.new.self ≡ state_after (3 + 13 * length (digit_rows s.tape)) s
+  state_is = c.obey_next.ensures.state ∙ ap (λ k. state_after (3 + 13 * k) s) count
 
 pub returns-then-digits-rows-clause-back : goal.returns-then-digits-rows-clause-back
 returns-then-digits-rows-clause-back c = rw (end c, count c) refl
@@ -42,18 +35,15 @@ returns-then-digits-rows-clause-after c = rw (count c) (record { state_is = stat
 
 pub returns-then-digits-rows-clause-words : goal.returns-then-digits-rows-clause-words
 returns-then-digits-rows-clause-words c =
-    keeps_waiting (is_called c) (end c) c.obey_count.new.machine (state_is c ∙ (leads c).state_is)
+    keeps_waiting (is_called c) (end c) c.obey_next.new.self (state_is c ∙ (leads c).state_is)
 
 pub returns-then-digits-rows-clause-leaves : goal.returns-then-digits-rows-clause-leaves
 returns-then-digits-rows-clause-leaves c =
-    subst (λ rows. ReadLeaves rows c.args.base c.args.h (s c) c.obey_count.new.machine) (sym (end c))
-    (waits (is_called c) (end c) c.obey_count.new.machine (state_is c ∙ (leads c).state_is))
-
-below_by : (k n all : ℕ) {d : ℕ} → k ≡ d → d ≤ n → (k ≡ n → ⊥) → all ≡ n → k < all
-below_by k n all e few other is = grind arith
+    subst (λ rows. ReadLeaves rows c.args.base c.args.h (s c) c.obey_next.new.self) (sym (end c))
+    (waits (is_called c) (end c) c.obey_next.new.self (state_is c ∙ (leads c).state_is))
 
 -- the tape with an ending row
-module _ (c : goal.After-obey_count-else-digits-rows) where
+module _ (c : goal.After-obey_next-else-digits-rows) where
   abbrev old : State
   old = c.args.machine.now
 
@@ -73,42 +63,29 @@ module _ (c : goal.After-obey_count-else-digits-rows) where
   behind = has_ending old.tape (λ e. c.if-digits-rows.false (digits ∙ e ∙ ap length (sym c.rows_left-rows.ensures)))
 
   code : ending < 32
-  code =
-      let rows = c.rows_left-rows.ensures in
-      let few = few_rows old.tape in
-      let other = c.if-digits-rows.false in
-      let k = digits in
-      let all : length c.rows_left-rows.result.now ≡ length old.tape = ap length rows in
-      let inside : c.count_digits-digits.result < length c.rows_left-rows.result.now =
-      below_by _ _ _ k few (λ e. other (e ∙ sym all)) all in
-      let same : slice_index c.rows_left-rows.result.now c.count_digits-digits.result ≡ ending =
-      λ i. slice_index (rows i) (k i) in
-      subst (λ x. x < 32) same (c.count_digits-digits.ensures.fits inside)
+  code = search rules
 
   leads_back : Leads (11 + 13 * length (digit_rows old.tape)) old [] (last called_there behind code)
   leads_back = leads_to called_there behind code
 
-  state_there : c.obey_count-else-digits-rows.new.machine ≡ state_after (11 + 13 * length (digit_rows old.tape)) old
-  state_there = c.obey_count-else-digits-rows.ensures ∙ ap (λ k. state_after (11 + 13 * k) old) digits
+  state_there : c.obey_next-else-digits-rows.new.self ≡ state_after (11 + 13 * length (digit_rows old.tape)) old
+  state_there = c.obey_next-else-digits-rows.ensures.state ∙ ap (λ k. state_after (11 + 13 * k) old) digits
 
 pub returns-else-digits-rows-clause-back : goal.returns-else-digits-rows-clause-back
 returns-else-digits-rows-clause-back c = let e = sym (behind c)
-    in λ i. read_by (e i) (digits c i) (c.way_back-at.ensures i)
+    in λ i. read_by (e i) (digits c i) (c.return_address-at.ensures i)
 
 pub returns-else-digits-rows-clause-after : goal.returns-else-digits-rows-clause-after
-returns-else-digits-rows-clause-after c = rw (digits c) (record {
-  state_is = state_there c;
-  free = free (leads_back c);
-})
+returns-else-digits-rows-clause-after c = search (rules, digits, state_is, state_there, free, leads_back)
 
 pub returns-else-digits-rows-clause-words : goal.returns-else-digits-rows-clause-words
 returns-else-digits-rows-clause-words c =
-    keeps (called_there c) (behind c) (code c) c.obey_count-else-digits-rows.new.machine
+    keeps (called_there c) (behind c) (code c) c.obey_next-else-digits-rows.new.self
     (state_there c ∙ (leads_back c).state_is)
 
 pub returns-else-digits-rows-clause-leaves : goal.returns-else-digits-rows-clause-leaves
 returns-else-digits-rows-clause-leaves c =
-    subst (λ rows. ReadLeaves rows c.args.base c.args.h (old c) c.obey_count-else-digits-rows.new.machine)
+    subst (λ rows. ReadLeaves rows c.args.base c.args.h (old c) c.obey_next-else-digits-rows.new.self)
     (sym (behind c))
-    (has_read (called_there c) (behind c) (code c) c.obey_count-else-digits-rows.new.machine
+    (has_read (called_there c) (behind c) (code c) c.obey_next-else-digits-rows.new.self
     (state_there c ∙ (leads_back c).state_is))

@@ -1,6 +1,4 @@
-use Rattle.std.proofs.Common.{◌≡◌, ◌<◌, ◌+◌, ◌⊎◌, ℕ, List, inl, inr, arith, subst}
-use Rattle.ed_machine.specs.State.{State}
-use Rattle.ed_routines.specs.Standing.{HasWord}
+use Rattle.ed_routines.proofs.Kit.{arith, inl, inr, List, subst, ℕ, ◌+◌, ◌<◌, ◌≡◌, ◌⊎◌, State, HasWord}
 use Rattle.ed_routines.proofs.standing.has_image.Goals as goal
 
 one_more : {r base n : ℕ} {parameters : List ℕ} {s : State} → ((i : ℕ) → i < n → HasWord r parameters base s i)

@@ -1,5 +1,4 @@
-use Rattle.std.proofs.Common.{◌<◌, ℕ}
-use Rattle.ed_routines.specs.Standing.{HasWord}
+use Rattle.ed_routines.proofs.Kit.{ℕ, ◌<◌, HasWord}
 use Rattle.ed_routines.proofs.standing.has_image.Given as goal
 
 abbrev pub invariant-loop-place : goal.invariant-loop-place

@@ -1,19 +1,14 @@
-use Rattle.std.proofs.Common.{◌≡◌, ◌⊎◌, inl, inr, ℕ, ◌+◌, ◌-◌, ◌<◌, ◌≤◌, Bool, true, false, refl, sym, ◌∙◌, ap, arith}
-use Rattle.std.proofs.Common.{length-append, nat_le}
-use Rattle.std.proofs.lemmas.Bool.Decides.{nat_tests}
-use Rattle.ed_machine.specs.OrderTable.{step}
-use Rattle.ed_machine.specs.Steps.{is_obeyed}
-use Rattle.ed_machine.specs.State.{State}
-use Rattle.ed_machine.specs.declared.turn.Turn.{Turn}
+use Rattle.ed_run.proofs.Kit.{nat_le, Turn, ap, arith, Bool, false, inl, inr, length-append, refl, sym, true, ℕ, ◌+◌}
+use Rattle.ed_run.proofs.Kit.{◌-◌, ◌<◌, ◌∙◌, ◌≡◌, ◌≤◌, ◌⊎◌, nat_tests, step, State, is_obeyed, end_by, prints}
 use Rattle.ed_machine.proofs.Keeping.{step_leaves}
-use Rattle.ed_run.specs.Run.{end_by, prints}
-use Rattle.ed_run.proofs.Pasts.{at_first, goes_on, is_full, later, ends_here, ends_with_stop, full_ends, none_ends, silent}
+use Rattle.ed_run.proofs.Pasts.{at_first, goes_on, is_full, Running-later, ends_here, ends_with_stop, full_ends, none_ends}
+use Rattle.ed_run.proofs.Pasts.{Took-silent}
 use Rattle.ed_run.proofs.running.run_orders.Goals as goal
 
 pub loop-machine-init : goal.loop-machine-init
 loop-machine-init c =
     let none : 0 ≡ c.args.machine.now.orders - c.args.machine.now.orders = omega arith in
-    record { running = later (at_first _ _ _ _) none; later = omega arith; below = omega arith }
+    record { running = Running-later (at_first _ _ _ _) none; later = omega arith; below = omega arith }
 
 -- a batch begins with the room that it has
 begun : {P : Type 0} (orders end n room : ℕ) → end ≡ orders + n → (n ≤ room) ⊎ ((n ≡ 1) × P)
@@ -56,7 +51,7 @@ returns-then-batch-eq0 c =
 pub returns-then-stops-resumes : goal.returns-then-stops-resumes
 returns-then-stops-resumes c =
     ends_with_stop c.loop-batch.invariant.running (omega arith)
-    (silent (sym c.step.ensures.turn ∙ c.in-Stopped.is) c.step.ensures.state refl refl refl)
+    (Took-silent (sym c.step.ensures.turn ∙ c.in-Stopped.is) c.step.ensures.state refl refl refl)
     (omega arith)
 
 -- a batch has room for the code of its next order, or that order does not print
@@ -96,9 +91,9 @@ loop-batch-preserved-in-Went c =
     let here : c.loop-batch.machine.orders - c.args.machine.now.orders < c.args.limit = omega arith in
     let either = free _ _ _ _ (omega arith) c.loop-batch.invariant.room in
     record {
-      running = later (goes_on r here
-          (silent is c.step.ensures.state refl refl (omega arith))
-          (none_ends _ _ (ap is_obeyed is) either) (omega (arith, r.within))) (omega arith);
+      running = Running-later (goes_on r here
+          (Took-silent is c.step.ensures.state refl refl (omega arith))
+          (none_ends _ _ (ap is_obeyed is) either) (omega (arith, r.past.within))) (omega arith);
       later = omega arith;
       below = omega arith;
       room = inl (left _ _ _ _ _ c.loop-batch.invariant.room one (omega arith));
@@ -112,14 +107,14 @@ loop-batch-preserved-in-Printed c =
     let here : c.loop-batch.machine.orders - c.args.machine.now.orders < c.args.limit = omega arith in
     let either = free _ _ _ _ (omega arith) c.loop-batch.invariant.room in
     record {
-      running = later (goes_on r here
+      running = Running-later (goes_on r here
           (record {
             turn_is = is;
             state_is = c.step.ensures.state;
             paper_is = c.push_reserved.ensures;
             stops_are = omega arith;
           })
-          (none_ends _ _ (ap is_obeyed is) either) (omega (arith, r.within))) (omega arith);
+          (none_ends _ _ (ap is_obeyed is) either) (omega (arith, r.past.within))) (omega arith);
       later = omega arith;
       below = omega arith;
       room = inl (rw (c.push_reserved.ensures, length-append)
@@ -140,9 +135,10 @@ loop-batch-preserved c =
     let here : c.loop-batch.machine.orders - c.args.machine.now.orders < c.args.limit = omega arith in
     let either = free _ _ _ _ (omega arith) c.loop-batch.invariant.room in
     record {
-      running = later (goes_on r here
-          (silent is c.step.ensures.state refl refl (omega arith))
-          (none_ends _ _ (ap is_obeyed is) either) (omega (arith, r.within, c.if-stops-resumes.false))) (omega arith);
+      running = Running-later (goes_on r here
+          (Took-silent is c.step.ensures.state refl refl (omega arith))
+          (none_ends _ _ (ap is_obeyed is) either)
+          (omega (arith, r.past.within, c.if-stops-resumes.false))) (omega arith);
       later = omega arith;
       below = omega arith;
       room = inl (left _ _ _ _ _ c.loop-batch.invariant.room one (omega arith));

@@ -1,6 +1,4 @@
-use Rattle.std.proofs.Common.{◌≡◌, ◌+◌, ◌-◌, ◌≤◌, ◌⊎◌, false, length}
-use Rattle.ed_machine.specs.OrderTable.{step}
-use Rattle.ed_run.specs.Run.{prints}
+use Rattle.ed_run.proofs.Kit.{false, length, ◌+◌, ◌-◌, ◌≡◌, ◌≤◌, ◌⊎◌, step, prints}
 use Rattle.ed_run.proofs.Pasts.{Running}
 use Rattle.ed_run.proofs.running.run_orders.Given as goal
 

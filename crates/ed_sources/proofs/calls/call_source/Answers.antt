@@ -1,4 +1,4 @@
-use Rattle.ed_sources.proofs.Kit.{◌≡◌, sym, ap, ◌∙◌, subst, Text, Call, call_text}
+use Rattle.ed_sources.proofs.Kit.{Text, Call, ap, subst, sym, ◌∙◌, ◌≡◌, call_text}
 use Rattle.ed_sources.specs.CallRuns.{RunsAsCall}
 use Rattle.ed_sources.proofs.CallRuns.{each_call_runs}
 use Rattle.ed_sources.proofs.calls.call_source.Goals as goal

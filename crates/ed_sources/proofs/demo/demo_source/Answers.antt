@@ -1,4 +1,4 @@
-use Rattle.ed_sources.proofs.Kit.{◌≡◌, ℕ, ◌≤◌, sym, ap, ◌∙◌, subst, Text, demo_text}
+use Rattle.ed_sources.proofs.Kit.{Text, ap, subst, sym, ℕ, ◌∙◌, ◌≡◌, ◌≤◌, demo_text}
 use Rattle.ed_sources.specs.DemoRuns.{RunsAsDemo}
 use Rattle.ed_sources.proofs.DemoRuns.{each_demo_runs}
 use Rattle.ed_sources.proofs.DemoTexts.{whole_source}

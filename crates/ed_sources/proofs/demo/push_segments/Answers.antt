@@ -1,4 +1,4 @@
-use Rattle.ed_sources.proofs.Kit.{◌≡◌, suc, ◌+◌, ◌-◌, ◌<◌, string_bytes, sym, subst, arith}
+use Rattle.ed_sources.proofs.Kit.{string_bytes, arith, rules, subst, suc, sym, ◌+◌, ◌-◌, ◌<◌, ◌≡◌}
 use Rattle.ed_sources.proofs.DemoTexts.{behind_low, no_segment, one_segment}
 use Rattle.ed_sources.proofs.demo.push_segments.Goals as goal
 
@@ -15,8 +15,4 @@ loop-done-preserved c =
     }
 
 pub returns : goal.returns
-returns c =
-    let l = c.loop-done in
-    let outside = c.loop-done-test.false in
-    let none : c.args.n - l.done ≡ 0 = omega (arith, outside) in
-    no_segment (l.done + 1) l.number (string_bytes l.text) none l.invariant.text
+returns c = search (rules, no_segment, string_bytes)

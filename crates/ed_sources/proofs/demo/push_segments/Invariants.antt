@@ -1,4 +1,4 @@
-use Rattle.ed_sources.proofs.Kit.{◌≡◌, ◌+◌, ◌-◌, ◌<◌, ◌++◌, string_bytes, text_of_lines, segments}
+use Rattle.ed_sources.proofs.Kit.{string_bytes, ◌++◌, ◌+◌, ◌-◌, ◌<◌, ◌≡◌, text_of_lines, segments}
 use Rattle.ed_sources.proofs.demo.push_segments.Given as goal
 
 -- the text so far, and then the segments that are left, whose words are those of the numbers after this one

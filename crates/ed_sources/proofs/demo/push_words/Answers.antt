@@ -1,4 +1,4 @@
-use Rattle.ed_sources.proofs.Kit.{◌≡◌, suc, ◌+◌, ◌-◌, string_bytes, arith}
+use Rattle.ed_sources.proofs.Kit.{string_bytes, arith, suc, ◌+◌, ◌-◌, ◌≡◌}
 use Rattle.ed_sources.proofs.DemoTexts.{no_number, no_word, one_behind, one_word}
 use Rattle.ed_sources.proofs.demo.push_words.Goals as goal
 

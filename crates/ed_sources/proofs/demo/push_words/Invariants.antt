@@ -1,4 +1,4 @@
-use Rattle.ed_sources.proofs.Kit.{◌≡◌, ◌-◌, ◌<◌, ◌++◌, string_bytes, text_of_lines, number_after, word_lines}
+use Rattle.ed_sources.proofs.Kit.{string_bytes, ◌++◌, ◌-◌, ◌<◌, ◌≡◌, text_of_lines, number_after, word_lines}
 use Rattle.ed_sources.proofs.demo.push_words.Given as goal
 
 -- the number so far is on the way to the last; the text so far, and then the lines of the words that are left

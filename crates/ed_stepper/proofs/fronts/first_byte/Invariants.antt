@@ -1,6 +1,4 @@
-use Rattle.std.proofs.Common.{◌≡◌, ◌+◌, drop}
-use Rattle.std.specs.Prelude.{◌==◌}
-use Rattle.std.specs.List.{position_or_len}
+use Rattle.ed_stepper.proofs.Kit.{position_or_len, drop, ◌+◌, ◌==◌, ◌≡◌}
 use Rattle.ed_stepper.proofs.fronts.first_byte.Given as goal
 
 -- the byte is not among those passed

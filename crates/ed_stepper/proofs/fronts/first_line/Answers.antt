@@ -1,5 +1,4 @@
-use Rattle.std.proofs.Common.{◌+◌, sym, ◌∙◌}
-use Rattle.std.proofs.lemmas.List.{take_rest}
+use Rattle.ed_stepper.proofs.Kit.{take_rest, sym, ◌+◌, ◌∙◌}
 use Rattle.ed_stepper.proofs.Divisions.{behind_ended, behind_unended}
 use Rattle.ed_stepper.proofs.Heads.{first_last, line_ended}
 use Rattle.ed_stepper.proofs.fronts.first_line.Goals as goal

@@ -1,5 +1,4 @@
-use Rattle.std.proofs.Common.{◌≡◌, length}
-use Rattle.ed_stepper.specs.Private.CommandReading.{parts_between_spaces}
+use Rattle.ed_stepper.proofs.Kit.{length, ◌≡◌, parts_between_spaces}
 use Rattle.ed_stepper.proofs.fronts.first_part.Given as goal
 
 abbrev pub invariant-loop-rest : goal.invariant-loop-rest

@@ -1,6 +1,4 @@
-use Rattle.std.proofs.Common.{rules, ◌∙◌, ap, sym}
-use Rattle.ed_words.proofs.Numbers.{eq_of}
-use Rattle.ed_stepper.specs.Inputs.{text_kind_of}
+use Rattle.ed_stepper.proofs.Kit.{eqb-true, ap, rules, sym, ◌∙◌, text_kind_of}
 use Rattle.ed_stepper.proofs.Divisions.{at_end, at_start, ends_at, first_is, goes_on}
 use Rattle.ed_stepper.proofs.InputLaws.{read_is_division, read_is_undivided}
 use Rattle.ed_stepper.proofs.inputs.divide.Goals as goal
@@ -26,4 +24,4 @@ returns-in-Some c =
 pub returns : goal.returns
 returns c =
     read_is_undivided c.args.input.now
-    (at_end c.args.input.now c.loop-rest.rest.now c.loop-rest.invariant (eq_of _ 0 (sym c.loop-rest-test.ensures)))
+    (at_end c.args.input.now c.loop-rest.rest.now c.loop-rest.invariant (eqb-true _ 0 (sym c.loop-rest-test.ensures)))

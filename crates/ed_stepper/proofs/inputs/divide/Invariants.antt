@@ -1,4 +1,4 @@
-use Rattle.std.proofs.Common.{length}
+use Rattle.ed_stepper.proofs.Kit.{length}
 use Rattle.ed_stepper.proofs.Divisions.{Stands}
 use Rattle.ed_stepper.proofs.inputs.divide.Given as goal
 

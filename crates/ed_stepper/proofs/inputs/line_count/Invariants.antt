@@ -1,5 +1,4 @@
-use Rattle.std.proofs.Common.{◌≡◌, ◌+◌, ◌≤◌, length}
-use Rattle.ed_syntax.specs.Lines.{lines_of}
+use Rattle.ed_stepper.proofs.Kit.{length, ◌+◌, ◌≡◌, ◌≤◌, lines_of}
 use Rattle.ed_stepper.proofs.inputs.line_count.Given as goal
 
 -- the lines so far and those that are left

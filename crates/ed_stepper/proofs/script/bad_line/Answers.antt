@@ -1,11 +1,7 @@
-use Rattle.std.proofs.Common.{◌≡◌, Some, None}
+use Rattle.ed_stepper.proofs.Kit.{arith, None, Some, ◌≡◌, bad_line}
 use Rattle.std.proofs.lemmas.Grind.{common_steps}
-use Rattle.std.proofs.Common.{arith}
-use Rattle.ed_stepper.specs.Private.CommandReading.{bad_line}
 use Rattle.ed_stepper.proofs.ScriptLaws.{bad_line_is, one_meaning}
 use Rattle.ed_stepper.proofs.script.bad_line.Goals as goal
-use Rattle.ed_stepper.proofs.script.bad_line.Goals.{then-number-eq-TOO_MANY-via-then-number-eq-TOO_MANY}
-use Rattle.ed_stepper.proofs.script.bad_line.Goals.{then-number-eq-TOO_MANY-via-else-number-eq-TOO_MANY+then-is_none}
 
 pub returns-then-number-eq-TOO_MANY-clause-is : goal.returns-then-number-eq-TOO_MANY-clause-is
 returns-then-number-eq-TOO_MANY-clause-is c =

@@ -1,6 +1,4 @@
-use Rattle.std.proofs.Common.{◌≡◌, ◌≤◌, length}
-use Rattle.ed_syntax.specs.Lines.{lines_of}
-use Rattle.ed_stepper.specs.Private.CommandReading.{bad_from, bad_line}
+use Rattle.ed_stepper.proofs.Kit.{length, ◌≡◌, ◌≤◌, lines_of, bad_from, bad_line}
 use Rattle.ed_stepper.proofs.script.bad_line.Given as goal
 
 abbrev pub invariant-loop-rest : goal.invariant-loop-rest

@@ -1,9 +1,6 @@
-use Rattle.std.proofs.Common.{◌≡◌, ◌++◌, ◌∙◌, [], refl, sym, rules}
-use Rattle.std.proofs.lemmas.Result.{err_from_is_err_and}
-use Rattle.ed_stepper.specs.Private.CommandReading.{commands_of}
+use Rattle.ed_stepper.proofs.Kit.{[], refl, rules, sym, ◌++◌, ◌∙◌, ◌≡◌, err_from_is_err_and, commands_of}
 use Rattle.ed_stepper.proofs.CommandLaws.{read_in_range}
-use Rattle.ed_stepper.proofs.Plays.{playing_done, playing_fault, playing_first, playing_left}
-use Rattle.ed_stepper.proofs.Plays.{playing_next}
+use Rattle.ed_stepper.proofs.Plays.{playing_done, playing_fault, playing_first, playing_left, playing_next}
 use Rattle.ed_stepper.proofs.ScriptLaws.{good_script, none_is_bad}
 use Rattle.ed_stepper.proofs.script.run_script.Goals as goal
 

@@ -1,4 +1,4 @@
-use Rattle.std.proofs.Common.{length}
+use Rattle.ed_stepper.proofs.Kit.{length}
 use Rattle.ed_stepper.proofs.Plays.{Playing}
 use Rattle.ed_stepper.proofs.script.run_script.Given as goal
 

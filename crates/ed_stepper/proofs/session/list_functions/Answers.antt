@@ -1,5 +1,4 @@
-use Rattle.std.proofs.Common.{◌∙◌, arith, refl}
-use Rattle.ed_machine.proofs.Steps.{next_state, no_step}
+use Rattle.ed_stepper.proofs.Kit.{next_state, no_step, arith, refl, ◌∙◌}
 use Rattle.ed_stepper.proofs.Listed.{listed_more, listed_none}
 use Rattle.ed_stepper.proofs.session.list_functions.Goals as goal
 

@@ -1,6 +1,5 @@
-use Rattle.std.proofs.Common.{◌≡◌, ◌+◌, ◌++◌, ◌≤◌, vec_len, vec_capacity}
-use Rattle.ed_machine.specs.Steps.{state_after}
-use Rattle.ed_report.specs.Traces.{functions_after}
+use Rattle.ed_stepper.proofs.Kit.{vec_capacity, state_after, ◌++◌, ◌+◌, ◌≡◌, ◌≤◌, functions_after}
+use Rattle.std.proofs.Common.{vec_len}
 use Rattle.ed_stepper.proofs.session.list_functions.Given as goal
 
 abbrev pub invariant-loop-done : goal.invariant-loop-done

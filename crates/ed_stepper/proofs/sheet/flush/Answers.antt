@@ -1,4 +1,4 @@
-use Rattle.std.proofs.lemmas.Result.{err_from_is_err_and}
+use Rattle.ed_stepper.proofs.Kit.{err_from_is_err_and}
 use Rattle.ed_stepper.proofs.sheet.flush.Goals as goal
 
 pub returns-clause-written : goal.returns-clause-written

@@ -1,12 +1,9 @@
-use Rattle.std.proofs.Common.{◌≡◌, rules, sym, ap, ◌∙◌, arith, add-one}
-use Rattle.ed_machine.specs.State.{State}
-use Rattle.ed_machine.specs.Steps.{is_obeyed, is_stop}
-use Rattle.ed_machine.proofs.Steps.{no_step}
+use Rattle.ed_stepper.proofs.Kit.{is_stop, add-one, State, is_obeyed, no_step, ap, arith, rules, sym, ◌∙◌, ◌≡◌}
+use Rattle.ed_stepper.proofs.Kit.{blocked_end}
 use Rattle.ed_initial.specs.Load.{enters}
-use Rattle.ed_stepper.specs.MoveEnds.{blocked_end}
 use Rattle.ed_stepper.specs.declared.moves.MoveEnd.TheVariants.{Went}
-use Rattle.ed_stepper.proofs.Walks.{after_from, at_first, at_limit, blocks, ends_at_once, goes_on, limits, next}
-use Rattle.ed_stepper.proofs.Walks.{one_more, orders_kept, orders_more, owns, reached, stops, taken, up_to}
+use Rattle.ed_stepper.proofs.Walks.{after_from, at_first, at_limit, Ends-blocks, ends_at_once, goes_on, Ends-limits, next}
+use Rattle.ed_stepper.proofs.Walks.{one_more, orders_kept, orders_more, Ends-owns, orders-reached, Ends-stops, Next-taken, up_to}
 use Rattle.ed_stepper.proofs.walk.walk.Goals as goal
 
 pub returns-in-Orders-eq0 : goal.returns-in-Orders-eq0
@@ -16,14 +13,14 @@ returns-in-Orders-eq0 c = record {
   free = λ j h. absurd (omega arith);
   most = omega arith;
   count = omega arith;
-  marks = λ start is few are. are;
+  checkpoints = λ start is few are. are;
 }
 
 pub loop-orders-init : goal.loop-orders-init
 loop-orders-init c = record {
   walking = at_first _ _ _ (search rules);
   count = omega arith;
-  marks = λ start is few are. are;
+  checkpoints = λ start is few are. are;
 }
 
 pub returns-in-Stopped : goal.returns-in-Stopped
@@ -31,12 +28,12 @@ returns-in-Stopped c =
     let n = next c.loop-orders.invariant.walking c.loop-orders-test.true c.step.ensures.turn c.step.ensures.state
     (ap is_obeyed c.in-Stopped.is) in
     record {
-      ends = stops n (ap is_stop c.in-Stopped.is);
+      ends = Ends-stops n (ap is_stop c.in-Stopped.is);
       state = n.state;
       free = n.free;
       most = one_more _ _ c.loop-orders-test.true;
       count = orders_more _ _ _ _ c.step.ensures.count c.loop-orders.invariant.count;
-      marks = c.loop-orders.invariant.marks;
+      checkpoints = c.loop-orders.invariant.checkpoints;
     }
 
 pub returns-in-NoOrder : goal.returns-in-NoOrder
@@ -44,12 +41,12 @@ returns-in-NoOrder c =
     let w = c.loop-orders.invariant.walking in
     let same = c.step.ensures.blocked (ap is_obeyed c.in-NoOrder.is) in
     record {
-      ends = blocks w c.loop-orders-test.true (ap blocked_end (sym c.step.ensures.turn ∙ c.in-NoOrder.is));
+      ends = Ends-blocks w c.loop-orders-test.true (ap blocked_end (sym c.step.ensures.turn ∙ c.in-NoOrder.is));
       state = same ∙ w.state;
       free = w.free;
       most = up_to _ _ c.loop-orders-test.true;
       count = orders_kept _ _ _ _ (ap (λ (x : State). x.orders) same) c.loop-orders.invariant.count;
-      marks = c.loop-orders.invariant.marks;
+      checkpoints = c.loop-orders.invariant.checkpoints;
     }
 
 pub returns-in-NoTape : goal.returns-in-NoTape
@@ -57,36 +54,36 @@ returns-in-NoTape c =
     let w = c.loop-orders.invariant.walking in
     let same = c.step.ensures.blocked (ap is_obeyed c.in-NoTape.is) in
     record {
-      ends = blocks w c.loop-orders-test.true (ap blocked_end (sym c.step.ensures.turn ∙ c.in-NoTape.is));
+      ends = Ends-blocks w c.loop-orders-test.true (ap blocked_end (sym c.step.ensures.turn ∙ c.in-NoTape.is));
       state = same ∙ w.state;
       free = w.free;
       most = up_to _ _ c.loop-orders-test.true;
       count = orders_kept _ _ _ _ (ap (λ (x : State). x.orders) same) c.loop-orders.invariant.count;
-      marks = c.loop-orders.invariant.marks;
+      checkpoints = c.loop-orders.invariant.checkpoints;
     }
 
 pub returns-in-Some : goal.returns-in-Some
 returns-in-Some c =
     let w = c.loop-orders.invariant.walking in
-    let t = taken w c.loop-orders-test.true c.step.ensures.turn c.step.ensures.state c.in-Went.is in
+    let t = Next-taken w c.loop-orders-test.true c.step.ensures.turn c.step.ensures.state c.in-Went.is in
     let own = c.own_end.ensures c.args.machine.now c.loop-orders.orders (add-one c.loop-orders.orders)
     (c.counter.ensures.is ∙ ap (λ (x : State). x.counter) t.0.state)
     (c.is_entering-entered.ensures ∙ ap enters w.state) in
     let count = orders_more _ _ _ _ c.step.ensures.count c.loop-orders.invariant.count in
     record {
-      ends = owns t.0 t.1 (sym own ∙ c.in-Some.is);
+      ends = Ends-owns t.0 t.1 (sym own ∙ c.in-Some.is);
       state = t.0.state;
       free = t.0.free;
       most = one_more _ _ c.loop-orders-test.true;
       count = count;
-      marks = λ start is few are. c.keep.ensures start (after_from _ _ _ _ _ t.0.state is)
-          (reached _ _ _ _ _ count few) (c.loop-orders.invariant.marks start is few are);
+      checkpoints = λ start is few are. c.save.ensures start (after_from _ _ _ _ _ t.0.state is)
+          (orders-reached _ _ _ _ _ count few) (c.loop-orders.invariant.checkpoints start is few are);
     }
 
 pub loop-orders-preserved : goal.loop-orders-preserved
 loop-orders-preserved c =
     let w = c.loop-orders.invariant.walking in
-    let t = taken w c.loop-orders-test.true c.step.ensures.turn c.step.ensures.state c.in-Went.is in
+    let t = Next-taken w c.loop-orders-test.true c.step.ensures.turn c.step.ensures.state c.in-Went.is in
     let own = c.own_end.ensures c.args.machine.now c.loop-orders.orders (add-one c.loop-orders.orders)
     (c.counter.ensures.is ∙ ap (λ (x : State). x.counter) t.0.state)
     (c.is_entering-entered.ensures ∙ ap enters w.state) in
@@ -94,8 +91,8 @@ loop-orders-preserved c =
     record {
       walking = goes_on t.0 t.1 (sym own ∙ c.in_default-own_end.is);
       count = count;
-      marks = λ start is few are. c.keep.ensures start (after_from _ _ _ _ _ t.0.state is)
-          (reached _ _ _ _ _ count few) (c.loop-orders.invariant.marks start is few are);
+      checkpoints = λ start is few are. c.save.ensures start (after_from _ _ _ _ _ t.0.state is)
+          (orders-reached _ _ _ _ _ count few) (c.loop-orders.invariant.checkpoints start is few are);
     }
 
 pub returns : goal.returns
@@ -104,10 +101,10 @@ returns c =
     omega (arith, c.loop-orders-test.false, c.loop-orders.auto.orders-end) in
     let w = at_limit e c.loop-orders.invariant.walking in
     record {
-      ends = limits w;
+      ends = Ends-limits w;
       state = w.state;
       free = w.free;
       most = omega arith;
       count = omega (arith, c.loop-orders.invariant.count, e);
-      marks = c.loop-orders.invariant.marks;
+      checkpoints = c.loop-orders.invariant.checkpoints;
     }

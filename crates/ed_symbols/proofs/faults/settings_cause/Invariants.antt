@@ -1,8 +1,4 @@
-use Rattle.std.proofs.Common.{◌≡◌, drop}
-use Rattle.std.specs.Prelude.{◌||◌}
-use Rattle.std.specs.List.{list_any}
-use Rattle.ed_symbols.specs.NameTests.{is_no_address, is_unknown}
-use Rattle.ed_symbols.specs.Operands.{operand_of}
+use Rattle.ed_symbols.proofs.Kit.{list_any, drop, ◌||◌, ◌≡◌, is_no_address, is_unknown, operand_of}
 use Rattle.ed_symbols.proofs.faults.settings_cause.Given as goal
 
 -- the same for the settings that are left, and for those so far

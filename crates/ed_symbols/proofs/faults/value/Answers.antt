@@ -1,4 +1,4 @@
-use Rattle.std.proofs.Common.{arith}
+use Rattle.ed_symbols.proofs.Kit.{arith}
 use Rattle.std.proofs.lemmas.Int.{ints}
 use Rattle.ed_symbols.proofs.faults.value.Goals as goal
 

@@ -1,10 +1,8 @@
-use Rattle.std.proofs.Common.{◌≡◌, ◌∙◌, sym, arith, ap, refl}
-use Rattle.ed_symbols.specs.NameTests.{naming_cause}
-use Rattle.ed_symbols.specs.Places.{segment_at, segment_of}
-use Rattle.ed_symbols.specs.declared.location_counter.LocationCounter.{LocationCounter}
+use Rattle.ed_symbols.proofs.Kit.{ap, arith, refl, sym, ◌∙◌, ◌≡◌, naming_cause, segment_of, LocationCounter}
+use Rattle.ed_symbols.specs.Places.{segment_at}
 use Rattle.ed_symbols.proofs.Least.{goes_on, is_least_at, none_left}
-use Rattle.ed_symbols.proofs.places.find_fault.Goals as goal
 use Rattle.ed_symbols.proofs.places.find_fault.Goals.{then-again, else-again}
+use Rattle.ed_symbols.proofs.places.find_fault.Goals as goal
 
 -- the current line has a fault, and none before it had one
 pub returns-in-Some : goal.returns-in-Some
@@ -17,7 +15,7 @@ returns-in-Some c =
           w.segment.ensures ∙ ap (λ (s : LocationCounter). segment_at s) c.after_statement-next.ensures.is in
           rw (w.cause-is, w.statement_cause-cause.ensures, segment, w.if-again.false) refl
     ] in
-    sym (is_least_at c.args.symbols.now c.loop-line.earlier.items c.loop-line.counter c.deref-line-items.ensures.value
+    sym (is_least_at _ _ _ c.deref-line-items.ensures.value
     c.loop-line-test.true c.line-item.is c.in_ok-again.ensures.again (sym cause ∙ c.in-Some.is))
     ∙ c.loop-line.invariant.0
 

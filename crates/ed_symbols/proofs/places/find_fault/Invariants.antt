@@ -1,6 +1,4 @@
-use Rattle.std.proofs.Common.{◌≡◌, ◌+◌, ◌*◌, ◌≤◌, [], drop}
-use Rattle.ed_symbols.specs.NameTests.{naming_fault_from}
-use Rattle.ed_symbols.specs.Places.{first_counter}
+use Rattle.ed_symbols.proofs.Kit.{[], drop, ◌*◌, ◌+◌, ◌≡◌, ◌≤◌, naming_fault_from, first_counter}
 use Rattle.ed_symbols.proofs.places.find_fault.Given as goal
 
 -- the fault is that of the lines that are left

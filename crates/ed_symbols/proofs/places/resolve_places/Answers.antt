@@ -1,5 +1,4 @@
-use Rattle.std.proofs.Common.{arith}
-use Rattle.std.proofs.lemmas.Grind.{common_steps}
+use Rattle.ed_symbols.proofs.Kit.{arith, common_steps}
 use Rattle.ed_symbols.proofs.places.resolve_places.Goals as goal
 
 pub loop-line-preserved : goal.loop-line-preserved

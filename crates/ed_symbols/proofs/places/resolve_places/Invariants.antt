@@ -1,6 +1,5 @@
-use Rattle.std.proofs.Common.{◌≡◌, ◌+◌, ◌*◌, ◌≤◌, ◌++◌, drop, length}
-use Rattle.ed_symbols.specs.Names.{symbols_from}
-use Rattle.ed_symbols.specs.Places.{first_counter, positions_from}
+use Rattle.ed_symbols.proofs.Kit.{drop, length, ◌*◌, ◌++◌, ◌+◌, ◌≡◌, ◌≤◌, symbols_from, first_counter}
+use Rattle.ed_symbols.specs.Places.{positions_from}
 use Rattle.ed_symbols.proofs.places.resolve_places.Given as goal
 
 -- what is known of the lines so far, and then of those that are left

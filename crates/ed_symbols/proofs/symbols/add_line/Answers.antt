@@ -1,5 +1,4 @@
-use Rattle.std.proofs.Common.{arith}
-use Rattle.std.proofs.lemmas.Grind.{common_steps}
+use Rattle.ed_symbols.proofs.Kit.{arith, common_steps}
 use Rattle.ed_symbols.proofs.symbols.add_line.Goals as goal
 
 pub returns-then-label_again-clause-symbols : goal.returns-then-label_again-clause-symbols

@@ -1,5 +1,4 @@
-use Rattle.std.proofs.Common.{arith}
-use Rattle.std.proofs.lemmas.Grind.{common_steps}
+use Rattle.ed_symbols.proofs.Kit.{arith, common_steps}
 use Rattle.ed_symbols.proofs.symbols.find_definition.Goals as goal
 
 pub returns-then-is_of : goal.returns-then-is_of

@@ -1,5 +1,4 @@
-use Rattle.std.proofs.Common.{◌≡◌, drop}
-use Rattle.ed_symbols.specs.Names.{definition_of}
+use Rattle.ed_symbols.proofs.Kit.{drop, ◌≡◌, definition_of}
 use Rattle.ed_symbols.proofs.symbols.find_definition.Given as goal
 
 -- the definition is the first among those that are left

@@ -1,5 +1,4 @@
-use Rattle.std.proofs.Common.{arith, refl, rules}
-use Rattle.std.proofs.lemmas.Int.{ints}
+use Rattle.ed_syntax.proofs.Kit.{arith, refl, rules, ints}
 use Rattle.ed_syntax.proofs.Faults.{number_in_range, number_out_of_range, no_number}
 use Rattle.ed_syntax.proofs.operands.joined.Goals as goal
 

@@ -1,6 +1,4 @@
-use Rattle.std.proofs.Common.{refl, arith}
-use Rattle.std.proofs.lemmas.Grind.{common_steps}
-use Rattle.ed_syntax.specs.Versions.{is_second}
+use Rattle.ed_syntax.proofs.Kit.{arith, refl, common_steps, is_second}
 use Rattle.ed_syntax.proofs.Faults.{joined_read}
 use Rattle.ed_syntax.proofs.operands.operand.Goals as goal
 

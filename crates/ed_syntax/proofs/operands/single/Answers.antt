@@ -1,4 +1,4 @@
-use Rattle.std.proofs.Common.{arith, refl}
+use Rattle.ed_syntax.proofs.Kit.{arith, refl}
 use Rattle.ed_syntax.proofs.Faults.{number_in_range, number_out_of_range, no_number}
 use Rattle.ed_syntax.proofs.operands.single.Goals as goal
 

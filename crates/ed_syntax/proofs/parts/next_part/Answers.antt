@@ -1,5 +1,4 @@
-use Rattle.std.proofs.Common.{rules, ◌≡◌, ◌∷◌, true}
-use Rattle.ed_syntax.specs.Names.{is_run_byte}
+use Rattle.ed_syntax.proofs.Kit.{rules, true, ◌∷◌, ◌≡◌, is_run_byte}
 use Rattle.ed_syntax.proofs.PartLemmas.{quote_taken, open_taken, run_taken}
 use Rattle.ed_syntax.proofs.parts.next_part.Goals as goal
 

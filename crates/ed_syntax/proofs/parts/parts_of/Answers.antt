@@ -1,7 +1,5 @@
-use Rattle.std.proofs.Common.{rules, ◌≡◌, refl, ◌++◌, ◌∷◌, [], List, Option, Some, None}
-use Rattle.std.specs.Prelude.{option_map}
-use Rattle.ed_syntax.specs.Parts.{LinePart}
-use Rattle.ed_syntax.specs.Reading.Parts.{parts_of}
+use Rattle.ed_syntax.proofs.Kit.{[], List, None, Option, option_map, refl, rules, Some, ◌++◌, ◌∷◌, ◌≡◌, LinePart}
+use Rattle.ed_syntax.proofs.Kit.{parts_of}
 use Rattle.ed_syntax.proofs.PartLemmas.{more_parts}
 use Rattle.ed_syntax.proofs.parts.parts_of.Goals as goal
 

@@ -1,7 +1,4 @@
-use Rattle.std.proofs.Common.{◌≡◌, ◌++◌, map, length}
-use Rattle.std.specs.Prelude.{option_map}
-use Rattle.ed_syntax.specs.Reading.Parts.{parts_of}
-use Rattle.ed_syntax.specs.Private.Seen.{part}
+use Rattle.ed_syntax.proofs.Kit.{length, map, option_map, ◌++◌, ◌≡◌, part, parts_of}
 use Rattle.ed_syntax.proofs.parts.parts_of.Given as goal
 
 abbrev pub invariant-loop-part : goal.invariant-loop-part

@@ -1,5 +1,4 @@
-use Rattle.std.proofs.Common.{◌≡◌, ◌≤◌, length}
-use Rattle.ed_syntax.specs.Reading.Parts.{parts_of}
+use Rattle.ed_syntax.proofs.Kit.{length, ◌≡◌, ◌≤◌, parts_of}
 use Rattle.ed_syntax.proofs.parts.skip_blanks.Given as goal
 
 abbrev pub invariant-loop-rest : goal.invariant-loop-rest

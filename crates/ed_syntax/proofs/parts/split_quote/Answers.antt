@@ -1,5 +1,4 @@
-use Rattle.std.proofs.Common.{arith}
-use Rattle.std.proofs.lemmas.Grind.{common_steps}
+use Rattle.ed_syntax.proofs.Kit.{arith, common_steps}
 use Rattle.ed_syntax.proofs.parts.split_quote.Goals as goal
 
 pub returns-then-byte-eq34-clause-some : goal.returns-then-byte-eq34-clause-some

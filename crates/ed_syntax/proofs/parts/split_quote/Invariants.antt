@@ -1,5 +1,4 @@
-use Rattle.std.proofs.Common.{◌≡◌, take, false}
-use Rattle.ed_syntax.specs.Parts.{has_quote}
+use Rattle.ed_syntax.proofs.Kit.{false, take, ◌≡◌, has_quote}
 use Rattle.ed_syntax.proofs.parts.split_quote.Given as goal
 
 abbrev pub invariant-loop-place : goal.invariant-loop-place

@@ -1,5 +1,4 @@
-use Rattle.std.proofs.Common.{arith}
-use Rattle.std.proofs.lemmas.Grind.{common_steps}
+use Rattle.ed_syntax.proofs.Kit.{arith, common_steps}
 use Rattle.ed_syntax.proofs.parts.split_run.Goals as goal
 
 pub returns-then-not-is_run_byte : goal.returns-then-not-is_run_byte

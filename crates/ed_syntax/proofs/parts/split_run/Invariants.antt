@@ -1,6 +1,4 @@
-use Rattle.std.proofs.Common.{◌≡◌, take, true}
-use Rattle.std.specs.List.{list_all}
-use Rattle.ed_syntax.specs.Names.{is_run_byte}
+use Rattle.ed_syntax.proofs.Kit.{take, true, ◌≡◌, list_all, is_run_byte}
 use Rattle.ed_syntax.proofs.parts.split_run.Given as goal
 
 abbrev pub invariant-loop-place : goal.invariant-loop-place

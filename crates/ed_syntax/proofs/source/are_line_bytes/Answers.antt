@@ -1,5 +1,4 @@
-use Rattle.std.proofs.Common.{arith}
-use Rattle.std.proofs.lemmas.Grind.{common_steps}
+use Rattle.ed_syntax.proofs.Kit.{arith, common_steps}
 use Rattle.ed_syntax.proofs.source.are_line_bytes.Goals as goal
 
 pub returns : goal.returns

@@ -1,6 +1,4 @@
-use Rattle.std.proofs.Common.{◌≡◌, take, true}
-use Rattle.std.specs.List.{list_all}
-use Rattle.ed_syntax.specs.Parts.{is_line_byte}
+use Rattle.ed_syntax.proofs.Kit.{take, true, ◌≡◌, list_all, is_line_byte}
 use Rattle.ed_syntax.proofs.source.are_line_bytes.Given as goal
 
 abbrev pub invariant-loop-byte : goal.invariant-loop-byte

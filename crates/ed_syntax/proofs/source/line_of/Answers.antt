@@ -1,22 +1,15 @@
-use Rattle.std.proofs.Common.{◌≡◌, ◌∙◌, map, refl, rules, sym}
-use Rattle.std.specs.Prelude.{Err}
-use Rattle.std.proofs.lemmas.Result.{err_from_is_err_and}
-use Rattle.ed_words.proofs.Numbers.{lt_false, lt_true}
-use Rattle.ed_syntax.specs.Private.Found.{form_result}
-use Rattle.ed_syntax.specs.Reading.Grammar.{form_at}
-use Rattle.ed_syntax.specs.Private.Seen.{part}
-use Rattle.ed_syntax.specs.Versions.{is_second}
-use Rattle.ed_syntax.specs.declared.form_fault.FormFault.TheVariants.{NotThisForm, OutOfRange}
+use Rattle.ed_syntax.proofs.Kit.{Err, map, refl, rules, sym, ◌∙◌, ◌≡◌, le-ltb, lt-ltb, err_from_is_err_and}
+use Rattle.ed_syntax.proofs.Kit.{form_result, part, form_at, is_second, NotThisForm, OutOfRange}
 use Rattle.ed_syntax.proofs.Faults.{line_fault, line_form, line_read, range_fault}
-use Rattle.ed_syntax.proofs.source.line_of.Goals as goal
 use Rattle.ed_syntax.proofs.source.line_of.Goals.{then-not-are_line_bytes, else-not-are_line_bytes+then-line-gt120}
 use Rattle.ed_syntax.proofs.source.line_of.Goals.{else-not-are_line_bytes+else-line-gt120+in_ok-parts+in-Some+in-Err-1}
 use Rattle.ed_syntax.proofs.source.line_of.Goals.{else-not-are_line_bytes+else-line-gt120+in_ok-parts+in-None}
 use Rattle.ed_syntax.proofs.source.line_of.Goals.{in-Err-NotThisForm, in-Err-OutOfRange}
+use Rattle.ed_syntax.proofs.source.line_of.Goals as goal
 
 pub returns-in-Ok : goal.returns-in-Ok
 returns-in-Ok c =
-    line_read (is_second c.args.version) c.args.number c.args.line.now (map part c.in-Some.parts.items)
+    line_read _ c.args.number c.args.line.now _
     (sym c.if-not-are_line_bytes.ensures) c.if-line-gt120.false (rw c.in-Some.is at c.in_ok-parts.ensures)
     ∙ line_form _ c.in-Ok.form (rw c.deref.ensures.value at c.in-Ok.ensures)
 
@@ -29,7 +22,7 @@ returns c =
       elim c.if-not-are_line_bytes.branch [
         | then-not-are_line_bytes w ↦ rw (w.cause-is, ← w.if-not-are_line_bytes.ensures) refl
         | else-not-are_line_bytes+then-line-gt120 w ↦
-            rw (w.cause-is, ← w.if-not-are_line_bytes.ensures, lt_true 120 _ w.if-line-gt120.true) refl
+            rw (w.cause-is, ← w.if-not-are_line_bytes.ensures, lt-ltb 120 _ w.if-line-gt120.true) refl
         | else-not-are_line_bytes+else-line-gt120+in_ok-parts+in-Some+in-Err-1 w ↦
             let read = map part w.in-Some.parts.items in
             let here = line_read two k line read (sym w.if-not-are_line_bytes.ensures) w.if-line-gt120.false
@@ -44,7 +37,7 @@ returns c =
             ]
         | else-not-are_line_bytes+else-line-gt120+in_ok-parts+in-None w ↦
             let none = rw w.in-None.is at w.in_ok-parts.ensures in
-            rw (w.cause-is, none, ← w.if-not-are_line_bytes.ensures, lt_false 120 _ w.if-line-gt120.false) refl
+            rw (w.cause-is, none, ← w.if-not-are_line_bytes.ensures, le-ltb 120 _ w.if-line-gt120.false) refl
       ],
     )
 

@@ -1,9 +1,5 @@
-use Rattle.std.proofs.Common.{rules, ◌≡◌, ◌∙◌, ◌++◌, ◌∷◌, [], false, arith}
-use Rattle.std.specs.Prelude.{◌==◌, Ok}
-use Rattle.std.proofs.lemmas.Result.{err_from_is_err_and}
-use Rattle.ed_syntax.specs.Lines.{lines_of}
-use Rattle.ed_syntax.specs.Versions.{is_second}
-use Rattle.ed_syntax.specs.Reading.Sources.{line_of}
+use Rattle.ed_syntax.proofs.Kit.{[], arith, false, Ok, rules, ◌++◌, ◌==◌, ◌∙◌, ◌∷◌, ◌≡◌, err_from_is_err_and, lines_of}
+use Rattle.ed_syntax.proofs.Kit.{line_of, is_second}
 use Rattle.ed_syntax.proofs.Programs.{fault_step, numbered, program_step}
 use Rattle.ed_syntax.proofs.source.lines.Goals as goal
 
@@ -17,7 +13,7 @@ loop-rest-preserved c =
     let grown : c.push.new.self.items ≡ here.found.items ++ numbered here.number form ∷ [] = search rules in
     let says : line_of two here.number line.0.now ≡ Ok form = c.in_ok-form.ensures in
     record {
-      same = rw grown (here.invariant.same ∙ program_step two here.number (lines_of here.rest.now)
+      same = rw grown (here.invariant.same ∙ program_step two here.number _
           here.found.items c.split_line.ensures.lines more says);
       number = omega arith;
     }

@@ -1,8 +1,4 @@
-use Rattle.std.proofs.Common.{◌≡◌, ◌≤◌, length}
-use Rattle.ed_syntax.specs.Lines.{lines_of}
-use Rattle.ed_syntax.specs.Versions.{is_second}
-use Rattle.ed_syntax.specs.Private.LineFronts.{with_lines_before}
-use Rattle.ed_syntax.specs.Reading.Sources.{lines_from}
+use Rattle.ed_syntax.proofs.Kit.{length, ◌≡◌, ◌≤◌, lines_of, with_lines_before, lines_from, is_second}
 use Rattle.ed_syntax.proofs.source.lines.Given as goal
 
 abbrev pub invariant-loop-rest : goal.invariant-loop-rest

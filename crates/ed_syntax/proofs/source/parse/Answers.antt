@@ -1,5 +1,5 @@
-use Rattle.ed_syntax.proofs.SourceLaws.{each_answer_has_fault, each_answer_says, has_one_meaning}
 use Rattle.ed_syntax.proofs.FitLaws.{forms_are_spelled}
+use Rattle.ed_syntax.proofs.SourceLaws.{each_answer_has_fault, each_answer_says, has_one_meaning}
 use Rattle.ed_syntax.proofs.source.parse.Goals as goal
 
 pub returns-clause-says : goal.returns-clause-says

@@ -1,11 +1,8 @@
-use Rattle.std.proofs.Common.{◌≡◌, ◌≤◌, ℕ, Bool, true, false, arith, refl, rules}
-use Rattle.std.specs.Prelude.{◌==◌, Ok, if◌then◌else◌}
-use Rattle.ed_syntax.specs.Lines.{lines_of}
-use Rattle.ed_syntax.specs.Versions.{is_second}
-use Rattle.ed_syntax.specs.Reading.Sources.{lines_from}
+use Rattle.ed_syntax.proofs.Kit.{arith, Bool, false, if◌then◌else◌, Ok, refl, rules, true, ℕ, ◌==◌, ◌≡◌, ◌≤◌, lines_of}
+use Rattle.ed_syntax.proofs.Kit.{lines_from, is_second}
 use Rattle.ed_syntax.proofs.Formed.{program_formed}
-use Rattle.ed_syntax.proofs.source.program.Goals as goal
 use Rattle.ed_syntax.proofs.source.program.Goals.{then-is_two, else-is_two}
+use Rattle.ed_syntax.proofs.source.program.Goals as goal
 
 one_or_two : (two : Bool) (n : ℕ) → n ≡ (if two then 2 else 1) → (1 ≤ n) × (n ≤ 2)
 one_or_two true n e = (omega arith, omega arith)

@@ -1,8 +1,6 @@
-use Rattle.std.proofs.lemmas.Grind.{common_steps}
+use Rattle.ed_syntax.proofs.Kit.{arith, false, take, ◌≡◌, common_steps, take_all, has_end}
+use Rattle.std.proofs.lemmas.List.{take_rest}
 use Rattle.ed_syntax.proofs.Lines.{takes_ended, takes_last}
-use Rattle.std.proofs.lemmas.List.{take_rest, take_all}
-use Rattle.std.proofs.Common.{◌≡◌, take, false, arith}
-use Rattle.ed_syntax.specs.Lines.{has_end}
 use Rattle.ed_syntax.proofs.source.split_line.Goals as goal
 
 pub returns-then-byte-eq10 : goal.returns-then-byte-eq10

@@ -1,5 +1,4 @@
-use Rattle.std.proofs.Common.{◌≡◌, take, false}
-use Rattle.ed_syntax.specs.Lines.{has_end}
+use Rattle.ed_syntax.proofs.Kit.{false, take, ◌≡◌, has_end}
 use Rattle.ed_syntax.proofs.source.split_line.Given as goal
 
 abbrev pub invariant-loop-place : goal.invariant-loop-place

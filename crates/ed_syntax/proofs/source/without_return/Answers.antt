@@ -1,6 +1,5 @@
+use Rattle.ed_syntax.proofs.Kit.{[], false, refl, rules, ◌++◌, ◌==◌, ◌∷◌, ◌≡◌}
 use Rattle.ed_syntax.proofs.Lines.{from_return, from_other}
-use Rattle.std.proofs.Common.{rules, ◌≡◌, ◌++◌, ◌∷◌, [], false, refl}
-use Rattle.std.specs.Prelude.{◌==◌}
 use Rattle.ed_syntax.proofs.source.without_return.Goals as goal
 
 pub returns-then-last-eq13 : goal.returns-then-last-eq13

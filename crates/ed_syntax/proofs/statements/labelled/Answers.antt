@@ -1,12 +1,5 @@
-use Rattle.std.proofs.Common.{rules, ◌≡◌, ◌<◌, length, map, arith}
-use Rattle.std.specs.Prelude.{Some}
-use Rattle.std.proofs.lemmas.Grind.{common_steps}
-use Rattle.std.proofs.lemmas.Result.{err_from_is_err_and}
-use Rattle.ed_syntax.specs.Reading.Grammar.{ranged_map, placed_statement, labelled_line}
-use Rattle.ed_syntax.specs.Private.Seen.{part}
-use Rattle.ed_syntax.specs.Versions.{is_second}
-use Rattle.ed_syntax.specs.declared.form.Form.{Form}
-use Rattle.ed_syntax.specs.declared.program.Statement.{Statement}
+use Rattle.ed_syntax.proofs.Kit.{arith, length, map, rules, Some, ◌<◌, ◌≡◌, common_steps, err_from_is_err_and, part}
+use Rattle.ed_syntax.proofs.Kit.{labelled_line, placed_statement, ranged_map, is_second, Form, Statement}
 use Rattle.ed_syntax.proofs.Faults.{after_a_label, made_fault, made_form}
 use Rattle.ed_syntax.proofs.statements.labelled.Goals as goal
 
@@ -18,7 +11,7 @@ returns-in_err-statement c =
     let o = placed_statement (is_second c.args.version) (map part c.args.parts.now) in
     let some : 0 < length c.args.parts.now = search rules in
     let whole : labelled_line (is_second c.args.version) c.args.run.now (map part c.args.parts.now) ≡ ranged_map form o =
-    after_a_label (is_second c.args.version) c.args.run.now c.args.parts.now c.in-Some.ensures.some.1 some in
+    after_a_label _ c.args.run.now c.args.parts.now c.in-Some.ensures.some.1 some in
     rw (p.1, p.2, whole) (made_fault form o _ c.in_err-statement.ensures)
 
 pub returns : goal.returns
@@ -27,7 +20,7 @@ returns c =
     let o = placed_statement (is_second c.args.version) (map part c.args.parts.now) in
     let some : 0 < length c.args.parts.now = grind (arith, common_steps) in
     let whole : labelled_line (is_second c.args.version) c.args.run.now (map part c.args.parts.now) ≡ ranged_map form o =
-    after_a_label (is_second c.args.version) c.args.run.now c.args.parts.now c.in-Some.ensures.some.1 some in
+    after_a_label _ c.args.run.now c.args.parts.now c.in-Some.ensures.some.1 some in
     rw (c.in-Some.ensures.some.0, whole) (made_form form o _ c.in_ok-statement.ensures)
 
 pub returns-then-is_empty : goal.returns-then-is_empty

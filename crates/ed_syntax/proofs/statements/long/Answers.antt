@@ -1,5 +1,4 @@
-use Rattle.std.proofs.Common.{arith}
-use Rattle.std.proofs.lemmas.Int.{ints}
+use Rattle.ed_syntax.proofs.Kit.{arith, ints}
 use Rattle.ed_syntax.proofs.statements.long.Goals as goal
 
 pub overflow_cast-value : goal.overflow_cast-value

@@ -1,8 +1,4 @@
-use Rattle.std.proofs.Common.{arith, map}
-use Rattle.std.proofs.lemmas.Grind.{common_steps}
-use Rattle.ed_syntax.specs.Parts.{array}
-use Rattle.ed_syntax.specs.Reading.Grammar.{string}
-use Rattle.ed_syntax.specs.Private.Seen.{part}
+use Rattle.ed_syntax.proofs.Kit.{arith, common_steps, array}
 use Rattle.ed_syntax.specs.declared.program.Statement.TheVariants.{Rows}
 use Rattle.ed_syntax.proofs.Faults.{no_string, string_read}
 use Rattle.ed_syntax.proofs.statements.statement.Goals as goal
@@ -18,13 +14,11 @@ returns-then-is c =
 pub returns-in-Some : goal.returns-in-Some
 returns-in-Some c =
     let first = c.in-Some-Run-default in
-    let rest = map part first.rest.now in
     rw (first.ensures.cases.0, first.field-0-0-is, ← c.if-is.ensures, ← c.if-is-2.ensures, ← c.if-is-3.ensures, ← c.if-is-4.ensures)
-    (string_read array Rows (string rest) c.in-Some.codes c.in-Some.ensures)
+    (string_read array Rows _ c.in-Some.codes c.in-Some.ensures)
 
 pub returns-in-None : goal.returns-in-None
 returns-in-None c =
     let first = c.in-Some-Run-default in
-    let rest = map part first.rest.now in
     rw (first.ensures.cases.0, first.field-0-0-is, ← c.if-is.ensures, ← c.if-is-2.ensures, ← c.if-is-3.ensures, ← c.if-is-4.ensures)
-    (no_string array Rows (string rest) c.in-None.ensures)
+    (no_string array Rows _ c.in-None.ensures)

@@ -1,6 +1,4 @@
-use Rattle.std.proofs.lemmas.Grind.{common_steps}
-use Rattle.std.proofs.Common.{arith}
-use Rattle.std.proofs.lemmas.Int.{ints}
+use Rattle.ed_syntax.proofs.Kit.{arith, common_steps, ints}
 use Rattle.ed_syntax.proofs.terms.integer.Goals as goal
 
 pub overflow_cast-result : goal.overflow_cast-result

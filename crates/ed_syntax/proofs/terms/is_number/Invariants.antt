@@ -1,6 +1,4 @@
-use Rattle.std.proofs.Common.{◌≡◌, take, true}
-use Rattle.std.specs.List.{list_all}
-use Rattle.ed_words.specs.Decimals.{is_digit}
+use Rattle.ed_syntax.proofs.Kit.{take, true, ◌≡◌, list_all, is_digit}
 use Rattle.ed_syntax.proofs.terms.is_number.Given as goal
 
 abbrev pub invariant-loop-byte : goal.invariant-loop-byte

@@ -1,6 +1,4 @@
-use Rattle.std.proofs.lemmas.Grind.{common_steps}
-use Rattle.std.proofs.Common.{rules, ◌≡◌, true, arith, ◌<◌, ◌+◌, ◌*◌, ◌-◌, get_or}
-use Rattle.ed_syntax.specs.Parts.{is_number}
+use Rattle.ed_syntax.proofs.Kit.{arith, get_or, rules, true, ◌*◌, ◌+◌, ◌-◌, ◌<◌, ◌≡◌, common_steps, is_number}
 use Rattle.ed_syntax.proofs.Numbers.{out_of_range, too_large}
 use Rattle.ed_syntax.proofs.terms.number.Goals as goal
 

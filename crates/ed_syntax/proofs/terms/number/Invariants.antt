@@ -1,5 +1,4 @@
-use Rattle.std.proofs.Common.{◌≡◌, ◌≤◌, take}
-use Rattle.ed_words.specs.Decimals.{value}
+use Rattle.ed_syntax.proofs.Kit.{take, ◌≡◌, ◌≤◌, value}
 use Rattle.ed_syntax.proofs.terms.number.Given as goal
 
 abbrev pub invariant-loop-digit : goal.invariant-loop-digit

@@ -1,11 +1,10 @@
-use Rattle.std.proofs.Common.{sym}
-use Rattle.ed_syntax.specs.Versions.{is_second}
-use Rattle.ed_syntax.proofs.NameLemmas.{name_of, named, place_name_text}
+use Rattle.ed_syntax.proofs.Kit.{sym}
+use Rattle.ed_syntax.proofs.NameLemmas.{name_of, IfNone-named, place_name_text}
 use Rattle.ed_syntax.proofs.terms.place_name.Goals as goal
 
 pub unreachable-requires : goal.unreachable-requires
 unreachable-requires c =
-    let text = place_name_text (is_second c.args.version) c.args.run.now (sym c.if-not-is_place_name.ensures) in
+    let text = place_name_text _ c.args.run.now (sym c.if-not-is_place_name.ensures) in
     (c.in-Err.ensures.cases).0 text.utf8
 
 pub returns-then-not-is_place_name : goal.returns-then-not-is_place_name
@@ -13,8 +12,8 @@ returns-then-not-is_place_name c = record { none = sym c.if-not-is_place_name.en
 
 pub returns-clause-none : goal.returns-clause-none
 returns-clause-none c =
-    let text = place_name_text (is_second c.args.version) c.args.run.now (sym c.if-not-is_place_name.ensures) in
-    named _ c.new.result c.in-Ok.text.now c.args.run.now c.in-Ok.ensures.cases.0 text c.new.ensures.none.0
+    let text = place_name_text _ c.args.run.now (sym c.if-not-is_place_name.ensures) in
+    IfNone-named _ c.new.result c.in-Ok.text.now c.args.run.now c.in-Ok.ensures.cases.0 text c.new.ensures.none.0
 
 pub returns-clause-some : goal.returns-clause-some
 returns-clause-some c = name_of c.new.result c.in-Ok.text.now c.args.run.now c.in-Ok.ensures.cases.0

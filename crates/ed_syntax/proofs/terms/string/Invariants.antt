@@ -1,6 +1,4 @@
-use Rattle.std.proofs.Common.{◌≡◌, take, true, map, length}
-use Rattle.std.specs.List.{list_all}
-use Rattle.ed_codes.specs.Spelling.{row_of}
+use Rattle.ed_syntax.proofs.Kit.{length, map, take, true, ◌≡◌, list_all, row_of}
 use Rattle.ed_syntax.specs.Reading.Grammar.{row, spells}
 use Rattle.ed_syntax.proofs.terms.string.Given as goal
 

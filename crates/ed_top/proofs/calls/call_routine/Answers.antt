@@ -1,5 +1,4 @@
-use Rattle.ed_sources.proofs.Kit.{call_text}
-use Rattle.ed_top.proofs.Kit.{◌∙◌, run_outcome, OfSource, some_outcome}
+use Rattle.ed_top.proofs.Kit.{◌∙◌, OfSource, run_outcome, some_outcome, call_text}
 use Rattle.ed_top.proofs.Made.{made_replied, none_replied}
 use Rattle.ed_top.proofs.calls.call_routine.Goals as goal
 

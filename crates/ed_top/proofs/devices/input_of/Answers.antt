@@ -1,8 +1,7 @@
-use Rattle.ed_top.proofs.Kit.{◌≡◌, ℕ, ◌<◌, ◌≤◌, Bool, true, ◌≢◌, ◌⊎◌, refl, inl, inr, arith, Err, Result, Vec, Global}
-use Rattle.ed_top.proofs.Kit.{err_from_is_err_and, device, Device}
-use Rattle.ed_top.specs.declared.devices.InputStop.{InputStop}
+use Rattle.ed_top.proofs.Kit.{Vec, Global, arith, Bool, Err, inl, inr, refl, Result, true, ℕ, ◌<◌, ◌≡◌, ◌≢◌, ◌≤◌, ◌⊎◌}
+use Rattle.ed_top.proofs.Kit.{err_from_is_err_and, device, Device, HasInput, InputStop}
+use Rattle.ed_top.specs.Private.Stages.{input_faults}
 use Rattle.ed_top.specs.declared.devices.InputStop.TheVariants as input
-use Rattle.ed_top.specs.Private.Stages.{HasInput, input_faults}
 use Rattle.ed_top.proofs.devices.input_of.Goals as goal
 
 abbrev Read : Type 0

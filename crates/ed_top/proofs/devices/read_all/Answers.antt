@@ -1,11 +1,10 @@
-use Rattle.ed_sources.proofs.Kit.{take, drop, length-append}
-use Rattle.ed_top.proofs.Kit.{◌≡◌, ℕ, ◌≤◌, [], ◌≢◌, List, ◌++◌, length, Option, sym, refl, ap, ◌∙◌, subst, inl, inr}
-use Rattle.ed_top.proofs.Kit.{append-nil, arith, Text, rules, err_from_is_err_and, Loses}
+use Rattle.ed_top.proofs.Kit.{Loses, next_count, [], ap, append-nil, arith, drop, inl, inr, length, List, Option, refl}
+use Rattle.ed_top.proofs.Kit.{rules, subst, sym, ℕ, ◌++◌, ◌∙◌, ◌≡◌, ◌≢◌, ◌≤◌, Text, length-append, err_from_is_err_and}
+use Rattle.std.proofs.Common.{take}
 use Rattle.std.proofs.lemmas.List.{take-append-le, length-take, length-take-le}
-use Rattle.ed_io.specs.Causes.{next_count}
 use Rattle.ed_io.proofs.Calls.{loses_more, loses_none, still_at_end}
-use Rattle.ed_top.specs.declared.devices.InputStop.TheVariants as input
 use Rattle.ed_top.proofs.devices.read_all.Goals.{else-loop-piece-test, then-loop-piece-test+in_ok-count+then-count-eq0}
+use Rattle.ed_top.specs.declared.devices.InputStop.TheVariants as input
 use Rattle.ed_top.proofs.devices.read_all.Goals as goal
 
 -- no bytes were lost

@@ -1,6 +1,5 @@
-use Rattle.ed_top.proofs.Kit.{refl, Err, err_from_is_err_and, Memory, gains_none, of_rows, device, IsInParts}
+use Rattle.ed_top.proofs.Kit.{Memory, gains_none, Err, refl, of_rows, Replies-rejected, err_from_is_err_and, device, IsInParts}
 use Rattle.ed_top.proofs.InParts.{parts_none, parts_one}
-use Rattle.ed_answers.proofs.Replies.{rejected}
 use Rattle.ed_top.proofs.Writing.{reply_carried, rows_carried_by}
 use Rattle.ed_top.proofs.parts.parts.Goals as goal
 
@@ -8,7 +7,7 @@ pub returns-in-Err : goal.returns-in-Err
 returns-in-Err g c =
     let answers = IsInParts c.args.settings in
     reply_carried (of_rows answers) c.args.input.now (Err c.in-Err.rejection) _ _
-    (rejected answers c.args.input.now _ (parts_one c.args.settings) c.in-Err.ensures.is) c.write.ensures
+    (Replies-rejected answers c.args.input.now _ (parts_one c.args.settings) c.in-Err.ensures.is) c.write.ensures
 
 pub returns-in_err-machine : goal.returns-in_err-machine
 returns-in_err-machine g c =

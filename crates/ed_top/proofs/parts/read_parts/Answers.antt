@@ -1,4 +1,4 @@
-use Rattle.ed_top.proofs.Kit.{err_from_is_err_and, of_input, device, IsInParts}
+use Rattle.ed_top.proofs.Kit.{of_input, err_from_is_err_and, device, IsInParts}
 use Rattle.ed_top.proofs.InParts.{parts_broken, parts_stopped, parts_told, parts_untold}
 use Rattle.ed_top.proofs.parts.read_parts.Goals as goal
 

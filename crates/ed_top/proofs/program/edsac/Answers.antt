@@ -1,18 +1,16 @@
-use Rattle.ed_sources.proofs.Kit.{map, string_bytes}
-use Rattle.ed_top.proofs.Kit.{◌≡◌, ℕ, Some, None, Option, sym, refl, subst, Err, gains_none, known, device, Device}
-use Rattle.ed_top.proofs.Kit.{ProgramEnded}
+use Rattle.ed_top.proofs.Kit.{gains_none, known, usage_outcome, Err, None, Option, refl, Some, subst, sym, ℕ, ◌≡◌}
+use Rattle.ed_top.proofs.Kit.{device, Device, ProgramEnded, output}
+use Rattle.std.proofs.Common.{map, string_bytes}
 use Rattle.ed_command.specs.Answers.{AnswersWords}
 use Rattle.ed_command.specs.Lines.{command_line}
 use Rattle.ed_command.specs.declared.command.Command.{Command}
 use Rattle.ed_command.specs.declared.reading.CommandFault.{CommandFault}
 use Rattle.ed_command.specs.declared.reading.CommandFault.TheVariants.{Usage, Memory}
-use Rattle.ed_answers.specs.Outcome.{usage_outcome}
-use Rattle.ed_top.specs.Output.{output}
-use Rattle.ed_top.proofs.Endings.{none_due, with_due, with_no_memory}
-use Rattle.ed_top.proofs.Completing.{each_complete}
-use Rattle.ed_top.proofs.OneOutcome.{line_once}
 use Rattle.ed_answers.proofs.Sources.{headline}
 use Rattle.ed_sources.proofs.CallRuns.{each_call_runs}
+use Rattle.ed_top.proofs.Completing.{each_complete}
+use Rattle.ed_top.proofs.Endings.{none_due, with_due, with_no_memory}
+use Rattle.ed_top.proofs.OneOutcome.{line_once}
 use Rattle.ed_top.proofs.program.edsac.Goals as goal
 
 -- a program that ended as a command requires ended as the words that are that command require
@@ -45,7 +43,8 @@ returns-in-Err-Usage g c =
     record {
       ended = by_line (command_line (map string_bytes c.args.words.now)) None _ _ _ _
           (usage_line _ _ c.in-Err-Usage.field-0-is c.in-Err-Usage.ensures.is)
-          (with_due (known usage_outcome) source out refl refl c.tell.ensures (λ e. cc) (λ e. cc) (λ bytes told. told)
+          (with_due (known usage_outcome) source out refl refl c.write_note.ensures (λ e. cc)
+          (λ e. cc) (λ bytes told. told)
           (record { wrote = gains_none out.before; note_is = refl; status_is = refl }));
       law = line_once;
       complete = each_complete;
@@ -60,7 +59,8 @@ returns-in-Err-Memory g c =
     let out = device g.K.Sink.held g.K.Sink.faults c.args.out.now c.args.out.now in
     record {
       ended = with_no_memory (output line) source out _ _ refl refl
-          (none_due (output line) source out (line_once line) (gains_none out.before)) c.tell-in-Err-Memory.ensures;
+          (none_due (output line) source out (line_once line) (gains_none out.before))
+          c.write_note-in-Err-Memory.ensures;
       law = line_once;
       complete = each_complete;
       headline = headline;

@@ -1,13 +1,11 @@
-use Rattle.ed_sources.proofs.Kit.{false}
-use Rattle.ed_top.proofs.Kit.{ℕ, ◌≤◌, Bool, true, length, Ok, refl, subst, arith, Text, Vec, Global, gains_none, device}
-use Rattle.ed_top.proofs.Kit.{ForInput, INPUT_BYTES, Device, WrotePart, answer}
-use Rattle.ed_top.specs.declared.devices.InputStop.TheVariants as input
-use Rattle.ed_io.specs.declared.stop.WriteStop.TheVariants as stop
-use Rattle.ed_top.specs.Private.Stages.{Carried, HasInput}
-use Rattle.ed_top.specs.Clause.{WritesLastLine}
+use Rattle.ed_top.proofs.Kit.{Vec, Global, gains_none, ForInput, INPUT_BYTES, arith, Bool, false, length, Ok, refl}
+use Rattle.ed_top.proofs.Kit.{subst, true, ℕ, ◌≤◌, Text, device, Device, WritesLastLine, WrotePart, answer, Carried}
+use Rattle.ed_top.proofs.Kit.{HasInput}
 use Rattle.ed_top.proofs.Endings.{carried_stop, due_input, fine_source, fine_unread, input_by, none_due, stop_by}
 use Rattle.ed_top.proofs.Endings.{with_broken_out, with_long, with_no_memory, with_read_fault, with_rest}
 use Rattle.ed_top.proofs.OneOutcome.{answer_once}
+use Rattle.ed_top.specs.declared.devices.InputStop.TheVariants as input
+use Rattle.ed_io.specs.declared.stop.WriteStop.TheVariants as stop
 use Rattle.ed_top.proofs.program.run_command.Goals as goal
 
 -- an input is within the limit
@@ -23,8 +21,8 @@ carry_out-requires g c =
       ranges = c.requires;
     }
 
-pub tell-requires-in-Ok-carry_out : goal.tell-requires-in-Ok-carry_out
-tell-requires-in-Ok-carry_out g c = λ is_9. omega (arith, is_9, c.in-Ok-carry_out.ensures.0)
+pub write_note-requires-in-Ok-carry_out : goal.write_note-requires-in-Ok-carry_out
+write_note-requires-in-Ok-carry_out g c = λ is_9. omega (arith, is_9, c.in-Ok-carry_out.ensures.0)
 
 pub returns-in-Err-Failed : goal.returns-in-Err-Failed
 returns-in-Err-Failed g c =
@@ -35,7 +33,7 @@ returns-in-Err-Failed g c =
     (stop_by a source c.reads_input.result c.in-Err-Failed.field-0 input.Failed c.reads_input.ensures
     c.in-Err-Failed.field-0-is
     c.in-Err-Failed.ensures)
-    (gains_none out.before) refl c.tell.ensures
+    (gains_none out.before) refl c.write_note.ensures
 
 pub returns-in-Err-Memory : goal.returns-in-Err-Memory
 returns-in-Err-Memory g c =
@@ -49,7 +47,7 @@ returns-in-Err-Memory g c =
     c.in-Err-Memory.ensures))
     refl
     (none_due a source out (answer_once c.args.command.action c.args.command.settings) (gains_none out.before))
-    c.tell-in-Err-Memory.ensures
+    c.write_note-in-Err-Memory.ensures
 
 pub returns-in-Err-TooLong : goal.returns-in-Err-TooLong
 returns-in-Err-TooLong g c =
@@ -60,21 +58,21 @@ returns-in-Err-TooLong g c =
     (stop_by a source c.reads_input.result c.in-Err-TooLong.field-0 input.TooLong c.reads_input.ensures
     c.in-Err-TooLong.field-0-is
     c.in-Err-TooLong.ensures)
-    (gains_none out.before) refl c.tell-in-Err-TooLong.ensures
+    (gains_none out.before) refl c.write_note-in-Err-TooLong.ensures
 
 pub returns-in-Ok-carry_out : goal.returns-in-Ok-carry_out
 returns-in-Ok-carry_out g c =
     let a = answer c.args.command.action c.args.command.settings in
     let source = device g.S.Source.left g.S.Source.faults c.args.source.now c.input_of.new.source in
     let out = device g.K.Sink.held g.K.Sink.faults c.args.out.now c.carry_out.new.out in
-    let note = device g.L.Sink.held g.L.Sink.faults c.args.note.now c.tell-in-Ok-carry_out.new.note in
+    let note = device g.L.Sink.held g.L.Sink.faults c.args.note.now c.write_note-in-Ok-carry_out.new.note in
     let rest = c.in-Ok-carry_out.rest in
     with_rest a source out c.in-Ok.input rest
     (input_by a source c.reads_input.result (Ok c.in-Ok.input) c.reads_input.ensures c.in-Ok.ensures)
     (subst (λ (t : Text). Carried a t out (Ok rest)) c.deref.ensures.value c.in-Ok-carry_out.ensures)
-    (subst (λ (t : Text). WritesLastLine note t rest.status c.tell-in-Ok-carry_out.result)
+    (subst (λ (t : Text). WritesLastLine note t rest.status c.write_note-in-Ok-carry_out.result)
     c.deref-in-Ok-carry_out.ensures.value
-    c.tell-in-Ok-carry_out.ensures)
+    c.write_note-in-Ok-carry_out.ensures)
 
 pub returns-in-Err-Failed-carry_out : goal.returns-in-Err-Failed-carry_out
 returns-in-Err-Failed-carry_out g c =
@@ -109,4 +107,4 @@ returns g c =
     (due_input a source c.in-Ok.input _
     (input_by a source c.reads_input.result (Ok c.in-Ok.input) c.reads_input.ensures c.in-Ok.ensures)
     (subst (λ (t : Text). ForInput a t (λ o. WrotePart out o.out)) c.deref.ensures.value stopped.1))
-    c.tell-in-Err-Memory-carry_out.ensures
+    c.write_note-in-Err-Memory-carry_out.ensures

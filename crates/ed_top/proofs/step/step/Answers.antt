@@ -1,9 +1,7 @@
-use Rattle.ed_top.proofs.Kit.{◌≡◌, ℕ, ◌+◌, List, length, Ok, sym, refl, ap, ◌∙◌, inl, Text, Err, refusal, Input, OfStep}
-use Rattle.ed_top.proofs.Kit.{on_rows, OnInput, OnText}
-use Rattle.ed_syntax.proofs.SourceLaws.{one_lines}
-use Rattle.ed_report.specs.Notes.{no_text_line}
-use Rattle.ed_top.proofs.Scripts.{divided_replied, text_replied}
+use Rattle.ed_top.proofs.Kit.{one_lines, no_text_line, ap, Err, inl, length, List, Ok, refl, sym, ℕ, ◌+◌, ◌∙◌, ◌≡◌}
+use Rattle.ed_top.proofs.Kit.{Text, refusal, Input, on_rows, OnInput, OnText, StepOutcome}
 use Rattle.ed_top.proofs.Made.{handed_on, line_replied, none_replied}
+use Rattle.ed_top.proofs.Scripts.{divided_replied, text_replied}
 use Rattle.ed_top.proofs.step.step.Goals as goal
 
 pub returns-in_default : goal.returns-in_default
@@ -15,7 +13,7 @@ returns-in_default c =
     let counted = c.line_count.ensures.is in
     let same : undivided.0 ≡ counted.0 = one_lines undivided.1.has_lines counted.1 in
     let count : length undivided.0 ≡ c.line_count.result = ap (λ (x : List Text). length x) same ∙ sym counted.2 in
-    line_replied (OfStep s input) c.no_text-line.result _ c.with_line.result c.no_text-line.ensures made.line
+    line_replied (StepOutcome s input) c.no_text-line.result _ c.with_line.result c.no_text-line.ensures made.line
     made.memory (inl (undivided.0, undivided.1, ap (λ (n : ℕ). refusal (no_text_line (n + 1))) count))
 
 pub returns-in-Some-bad_line : goal.returns-in-Some-bad_line

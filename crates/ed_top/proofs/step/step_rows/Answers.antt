@@ -1,8 +1,5 @@
-use Rattle.ed_top.proofs.Kit.{◌≡◌, subst, rules, Gives}
-use Rattle.std.specs.Prelude.{IfOk}
-use Rattle.ed_stepper.specs.Scripts.{play}
-use Rattle.ed_stepper.specs.Sessions.{Stand}
-use Rattle.ed_top.specs.Scripts.{played_outcome, stand_on}
+use Rattle.ed_top.proofs.Kit.{IfOk, rules, subst, ◌≡◌, Gives, play, Stand, played_outcome}
+use Rattle.ed_top.specs.Scripts.{stand_on}
 use Rattle.ed_top.proofs.step.step_rows.Goals as goal
 
 pub returns : goal.returns

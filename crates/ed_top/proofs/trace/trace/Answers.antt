@@ -1,9 +1,5 @@
-use Rattle.ed_top.proofs.Kit.{[], refl, subst, State, Err, err_from_is_err_and, Memory, gains_none, known, of_rows}
-use Rattle.ed_top.proofs.Kit.{device, none_written}
-use Rattle.ed_answers.specs.Answer.{exactly}
-use Rattle.ed_top.specs.Private.Stages.{Carried}
-use Rattle.ed_top.specs.Traces.{trace_outcome, traced_from}
-use Rattle.ed_answers.proofs.Replies.{exactly_one, rejected}
+use Rattle.ed_top.proofs.Kit.{Memory, gains_none, known, [], Err, refl, subst, State, exactly, of_rows, exactly_one}
+use Rattle.ed_top.proofs.Kit.{Replies-rejected, err_from_is_err_and, device, Carried, trace_outcome, traced_from, none_written}
 use Rattle.ed_top.proofs.Writing.{reply_carried, rows_carried}
 use Rattle.ed_top.proofs.trace.trace.Goals as goal
 
@@ -11,7 +7,7 @@ pub returns-in-Err : goal.returns-in-Err
 returns-in-Err g c =
     let f = trace_outcome c.args.settings in
     reply_carried (of_rows (exactly f)) c.args.input.now (Err c.in-Err.rejection) _ _
-    (rejected (exactly f) c.args.input.now _ (exactly_one f) c.in-Err.ensures.is) c.write.ensures
+    (Replies-rejected (exactly f) c.args.input.now _ (exactly_one f) c.in-Err.ensures.is) c.write.ensures
 
 pub returns-in_err-machine : goal.returns-in_err-machine
 returns-in_err-machine g c =

@@ -1,7 +1,4 @@
-use Rattle.std.proofs.Common.{◌∙◌, sym, ap, option_map, Some, None, arith}
-use Rattle.std.proofs.lemmas.Grind.{common_steps}
-use Rattle.ed_command.specs.Held.{options_in}
-use Rattle.ed_command.specs.Windows.{window_named}
+use Rattle.ed_command.proofs.Kit.{option_map, common_steps, ap, arith, None, Some, sym, ◌∙◌, options_in, window_named}
 use Rattle.ed_command.proofs.Named.{given_once, no_post_mortem, too_many}
 use Rattle.ed_command.proofs.options.Options.settings.Goals as goal
 
@@ -10,14 +7,14 @@ returns-in_err-window_named-in-len1 c =
     let o = options_in c.args.self.now in
     let refused = sym c.window_named.ensures ∙ c.in_err-window_named-in-len1.was in
     c.from_residual-in_err-window_named-in-len1.ensures
-    ∙ sym (no_post_mortem o c.in_ok-size.size (sym c.in_ok-size.was ∙ c.size.ensures)
-    (given_once None (λ text. option_map Some (window_named c.in_ok-size.size text)) c.args.self.now.post_mortems.now _
+    ∙ sym (no_post_mortem o _ (sym c.in_ok-size.was ∙ c.size.ensures)
+    (given_once None (λ text. option_map Some (window_named c.in_ok-size.size text)) _ _
     c.in-len1.len_at_least c.in-len1.len_below ∙ ap (option_map Some) refused))
 
 pub returns-in_default : goal.returns-in_default
 returns-in_default c =
-    sym (no_post_mortem (options_in c.args.self.now) c.in_ok-size.size (sym c.in_ok-size.was ∙ c.size.ensures)
-    (too_many None _ (λ v. v.now) c.args.self.now.post_mortems.now c.in_default.len_at_least))
+    sym (no_post_mortem (options_in c.args.self.now) _ (sym c.in_ok-size.was ∙ c.size.ensures)
+    (too_many None _ (λ v. v.now) _ c.in_default.len_at_least))
 
 pub returns : goal.returns
 returns c = grind (arith, common_steps)

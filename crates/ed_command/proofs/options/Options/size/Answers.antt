@@ -1,11 +1,10 @@
-use Rattle.std.proofs.Common.{sym, arith}
-use Rattle.std.proofs.lemmas.Grind.{common_steps}
+use Rattle.ed_command.proofs.Kit.{common_steps, arith, sym}
 use Rattle.ed_command.proofs.Arguments.{no_size}
 use Rattle.ed_command.proofs.options.Options.size.Goals as goal
 
 pub returns-in_default-text : goal.returns-in_default-text
 returns-in_default-text c =
-    sym (no_size c.args.self.now.stores.now _ c.in-len1.len_at_least c.in-len1.len_below c.in_default-text.not-text
+    sym (no_size _ _ c.in-len1.len_at_least c.in-len1.len_below c.in_default-text.not-text
     c.in_default-text.not-text-2)
 
 pub returns-in-empty : goal.returns-in-empty

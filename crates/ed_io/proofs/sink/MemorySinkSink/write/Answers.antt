@@ -1,11 +1,9 @@
-use Rattle.std.proofs.Common.{◌≡◌, ◌<◌, ◌⊎◌, append-nil, arith, false, inl, inr, length, refl, sym, true}
-use Rattle.std.proofs.lemmas.Bool.{false≢true}
-use Rattle.std.proofs.lemmas.Bool.Decides.{nat_tests}
+use Rattle.ed_io.proofs.Kit.{arith, false, length, refl, sym, true, ◌<◌, ◌≡◌, false≢true, nat_tests}
+use Rattle.std.proofs.Common.{◌⊎◌, append-nil, inl, inr}
 use Rattle.ed_io.proofs.Memory.{is_among, none_among}
-use Rattle.ed_io.proofs.sink.MemorySinkSink.write.Goals as goal
-use Rattle.ed_io.proofs.sink.MemorySinkSink.write.Goals.{then-free-eq0, else-free-eq0}
-use Rattle.ed_io.proofs.sink.MemorySinkSink.write.Goals.{then-fails-via-then-fails}
+use Rattle.ed_io.proofs.sink.MemorySinkSink.write.Goals.{then-free-eq0, else-free-eq0, then-fails-via-then-fails}
 use Rattle.ed_io.proofs.sink.MemorySinkSink.write.Goals.{then-fails-via-else-fails+then-not-is_empty}
+use Rattle.ed_io.proofs.sink.MemorySinkSink.write.Goals as goal
 
 -- a call that does not fail has neither cause
 neither : {A B : Type 0} → (A → false ≡ true) → (B → false ≡ true) → A ⊎ B → false ≡ true

@@ -1,6 +1,4 @@
-use Rattle.std.proofs.Common.{arith, refl}
-use Rattle.std.proofs.lemmas.Bool.{false≢true}
-use Rattle.std.proofs.lemmas.List.{take_rest}
+use Rattle.ed_io.proofs.Kit.{arith, refl, false≢true, take_rest}
 use Rattle.ed_io.proofs.Memory.{hands_over, is_among, none_among}
 use Rattle.ed_io.proofs.source.MemorySourceSource.read.Goals as goal
 

@@ -1,6 +1,6 @@
-use Rattle.std.proofs.Common.{◌≡◌, ◌≤◌, ◌+◌, ◌-◌, ◌∙◌, arith, length, length-append, refl, sym}
+use Rattle.ed_io.proofs.Kit.{arith, length, refl, sym, ◌+◌, ◌-◌, ◌∙◌, ◌≡◌, ◌≤◌, take_all}
+use Rattle.std.proofs.Common.{length-append}
 use Rattle.ed_io.proofs.Memory.{first_bytes, gains_whole, is_over_now, is_over_still}
-use Rattle.std.proofs.lemmas.List.{take_all}
 use Rattle.ed_io.proofs.sure.SureSinkSink.write.Goals as goal
 
 pub returns-then-free-piece : goal.returns-then-free-piece

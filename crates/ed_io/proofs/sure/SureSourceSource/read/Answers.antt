@@ -1,5 +1,5 @@
-use Rattle.std.proofs.Common.{refl, arith, lit≤}
-use Rattle.std.proofs.lemmas.List.{take_rest}
+use Rattle.ed_io.proofs.Kit.{arith, refl, take_rest}
+use Rattle.std.proofs.Common.{lit≤}
 use Rattle.ed_io.proofs.Memory.{hands_over}
 use Rattle.ed_io.proofs.sure.SureSourceSource.read.Goals as goal
 

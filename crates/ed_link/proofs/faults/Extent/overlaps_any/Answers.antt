@@ -1,8 +1,4 @@
-use Rattle.std.proofs.Common.{◌+◌, ap, Bool, List, drop}
-use Rattle.std.specs.Prelude.{◌||◌}
-use Rattle.std.specs.List.{list_any}
-use Rattle.ed_link.specs.declared.faults.Extent.{Extent}
-use Rattle.ed_link.specs.FaultTests.{overlaps}
+use Rattle.ed_link.proofs.Kit.{ap, Bool, drop, List, ◌+◌, ◌||◌, list_any, overlaps, Extent}
 use Rattle.ed_link.proofs.Loops.{at_item, at_end}
 use Rattle.ed_link.proofs.faults.Extent.overlaps_any.Goals as goal
 

@@ -1,6 +1,4 @@
-use Rattle.std.proofs.Common.{◌≡◌, drop}
-use Rattle.std.specs.List.{list_any}
-use Rattle.ed_link.specs.FaultTests.{overlaps}
+use Rattle.ed_link.proofs.Kit.{drop, ◌≡◌, list_any, overlaps}
 use Rattle.ed_link.proofs.faults.Extent.overlaps_any.Given as goal
 
 -- the same for the extents that are left

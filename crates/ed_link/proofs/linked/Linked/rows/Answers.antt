@@ -1,8 +1,5 @@
-use Rattle.std.proofs.Common.{◌≡◌, ◌∙◌, ◌++◌, ap, sym, arith, length, length-append, List}
-use Rattle.ed_notation.specs.declared.item.Item.{Item}
-use Rattle.ed_notation.specs.Spellings.{item_rows}
-use Rattle.ed_notation.proofs.ItemRows.{all_rows_are}
-use Rattle.std.specs.List.{flat_map}
+use Rattle.ed_link.proofs.Kit.{item_rows, Item, all_rows_are, ap, arith, length, length-append, List, sym, ◌++◌, ◌∙◌}
+use Rattle.ed_link.proofs.Kit.{◌≡◌, flat_map}
 use Rattle.ed_link.proofs.Spellable.{are_spellable}
 use Rattle.ed_link.proofs.linked.Linked.rows.Goals as goal
 
@@ -24,5 +21,5 @@ returns-clause-is c = whole c
 pub returns-clause-few : goal.returns-clause-few
 returns-clause-few c =
     let linked = c.args.self.now in
-    let count = ap length (whole c) ∙ length-append (flat_map item_rows linked.items.items) linked.after.items in
+    let count = ap length (whole c) ∙ length-append _ linked.after.items in
     omega (arith, count, linked.few)

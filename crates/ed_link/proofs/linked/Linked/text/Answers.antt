@@ -1,10 +1,6 @@
-use Rattle.std.proofs.Common.{ℕ, ◌∙◌, ◌++◌, ap, sym, List}
-use Rattle.ed_codes.specs.Reading.{reading, rows}
-use Rattle.std.specs.List.{flat_map}
-use Rattle.ed_notation.proofs.ItemRows.{all_rows_are}
-use Rattle.ed_notation.specs.declared.item.Item.{Item}
-use Rattle.ed_notation.specs.Spellings.{canonicals, item_rows, text_of}
-use Rattle.ed_link.specs.Tapes.{after_text}
+use Rattle.ed_link.proofs.Kit.{reading, rows, item_rows, Item, all_rows_are, ap, List, sym, ℕ, ◌++◌, ◌∙◌, flat_map}
+use Rattle.ed_link.proofs.Kit.{canonicals, after_text}
+use Rattle.ed_notation.specs.Spellings.{text_of}
 use Rattle.ed_link.proofs.Spellable.{are_spellable}
 use Rattle.ed_link.proofs.Texts.{both_read}
 use Rattle.ed_link.proofs.linked.Linked.text.Goals as goal
@@ -22,8 +18,7 @@ pub returns-clause-reads : goal.returns-clause-reads
 returns-clause-reads c =
     let items = c.deref.result.now in
     let after = c.deref-2.result.now in
-    ap reading c.in_ok-push_after.ensures.is
-    ∙ both_read c.in_ok-text.text.items (after_text after) (flat_map item_rows items) after
+    ap reading c.in_ok-push_after.ensures.is ∙ both_read c.in_ok-text.text.items _ _ after
     (c.in_ok-text.ensures.reads ∙ ap (λ (rs : List ℕ). rows rs) (sym (all_rows_are items)))
     c.in_ok-push_after.ensures.spells
     ∙ (λ i. rows (flat_map item_rows (c.deref.ensures.value i) ++ c.deref-2.ensures.value i))

@@ -1,9 +1,6 @@
-use Rattle.std.proofs.Common.{◌≡◌, ◌∙◌, ℕ, Bool, ap, sym, refl}
-use Rattle.ed_orders.specs.declared.kind.Kind.{Kind}
+use Rattle.ed_machine.proofs.Names.{Kind, ap, Bool, refl, sym, ℕ, ◌∙◌, ◌≡◌, jump_order, obey, Obeyed, place_of, State}
+use Rattle.ed_machine.proofs.Names.{Turn}
 use Rattle.ed_orders.proofs.Shifts.{right_places, left_places}
-use Rattle.ed_machine.specs.State.{State}
-use Rattle.ed_machine.specs.declared.turn.Turn.{Turn}
-use Rattle.ed_machine.specs.OrderTable.{Obeyed, jump_order, obey, place_of}
 use Rattle.ed_machine.proofs.machine.Machine.obey.Goals as goal
 
 -- what an order of the word's kind does

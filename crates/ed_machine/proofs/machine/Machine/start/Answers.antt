@@ -1,9 +1,8 @@
-use Rattle.std.proofs.Common.{take, sym, ◌∙◌, ap, ◌++◌}
-use Rattle.std.specs.Prelude.{Vec}
+use Rattle.ed_machine.proofs.Names.{take, ◌++◌, ap, sym, ◌∙◌, State}
+use Rattle.std.proofs.Common.{Vec}
 use Rattle.std.specs.declared.alloc.Global.{Global}
 use Rattle.std.proofs.lemmas.List.{take-append-drop}
 use Rattle.ed_codes.specs.declared.code.Code.{Code}
-use Rattle.ed_machine.specs.State.{State}
 use Rattle.ed_machine.proofs.machine.Machine.start.Goals as goal
 
 pub returns-clause-old_rows : goal.returns-clause-old_rows

@@ -1,14 +1,9 @@
-use Rattle.std.proofs.Common.{◌≡◌, ◌∙◌, ℕ, Option, Some, ap, sym, refl}
-use Rattle.ed_words.specs.Words.{function_of}
+use Rattle.ed_machine.proofs.Names.{function_of, Kind, ap, Option, refl, Some, sym, ℕ, ◌∙◌, ◌≡◌, kind_of_function}
+use Rattle.ed_machine.proofs.Names.{next_word, obey_word, Obeyed, step, State, is_obeyed}
 use Rattle.ed_words.specs.declared.order.Order.{Order}
 use Rattle.ed_store.specs.Cells.{short_at}
-use Rattle.ed_orders.specs.Kinds.{kind_of_function}
-use Rattle.ed_orders.specs.declared.kind.Kind.{Kind}
-use Rattle.ed_machine.specs.State.{State}
-use Rattle.ed_machine.specs.OrderTable.{Obeyed, next_word, obey_word, step}
-use Rattle.ed_machine.specs.Steps.{is_obeyed}
-use Rattle.ed_machine.proofs.Keeping.{word_leaves}
 use Rattle.ed_machine.proofs.Counts.{counted_after}
+use Rattle.ed_machine.proofs.Keeping.{word_leaves}
 use Rattle.ed_machine.proofs.SoundSteps.{sound_after}
 use Rattle.ed_machine.proofs.machine.Machine.step.Goals as goal
 

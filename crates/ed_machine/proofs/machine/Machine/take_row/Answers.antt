@@ -1,7 +1,6 @@
-use Rattle.std.proofs.Common.{◌≡◌, ◌∙◌, ◌<◌, ◌≤◌, ◌+◌, ◌*◌, ◌^◌, ap, arith, drop, length, rules, sym, ℕ, List, ◌∷◌}
+use Rattle.ed_machine.proofs.Names.{drop, List, rules, ◌*◌, ◌^◌, ap, arith, length, sym, ℕ, ◌+◌, ◌<◌, ◌∙◌, ◌∷◌, ◌≡◌}
+use Rattle.ed_machine.proofs.Names.{◌≤◌, after, done_at, row_order, written_store, State}
 use Rattle.std.proofs.lemmas.List.{at_drop_all, drop_more}
-use Rattle.ed_machine.specs.State.{State}
-use Rattle.ed_machine.specs.OrderTable.{after, done_at, row_order, written_store}
 use Rattle.ed_machine.proofs.machine.Machine.take_row.Goals as goal
 
 -- the tape begins with the row that is read

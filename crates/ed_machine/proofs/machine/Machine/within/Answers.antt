@@ -1,7 +1,6 @@
-use Rattle.std.proofs.Common.{◌≡◌, ℕ, ◌+◌, ◌-◌, ◌^◌, arith, bit_and}
+use Rattle.ed_machine.proofs.Names.{◌-◌, locations, within, Size, ◌^◌, arith, ℕ, ◌+◌, ◌≡◌}
+use Rattle.std.proofs.Common.{bit_and}
 use Rattle.std.proofs.lemmas.Nat.{and_mask}
-use Rattle.ed_words.specs.Sizes.{locations, within}
-use Rattle.ed_words.specs.declared.size.Size.{Size}
 use Rattle.ed_words.specs.declared.size.Size.TheVariants.{Small, Full}
 use Rattle.ed_words.proofs.SizeLemmas.{within_is}
 use Rattle.ed_machine.proofs.machine.Machine.within.Goals as goal

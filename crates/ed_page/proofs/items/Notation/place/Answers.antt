@@ -1,4 +1,4 @@
-use Rattle.ed_page.proofs.Kit.{◌+◌, arith}
+use Rattle.ed_page.proofs.Kit.{arith, ◌+◌}
 use Rattle.ed_page.proofs.ItemRows.{beyond}
 use Rattle.ed_page.proofs.items.Notation.place.Goals.{then-from-lt-LOCATIONS, else-from-lt-LOCATIONS}
 use Rattle.ed_page.proofs.items.Notation.place.Goals as goal

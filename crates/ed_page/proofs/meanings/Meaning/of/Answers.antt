@@ -1,7 +1,5 @@
-use Rattle.std.proofs.Common.{◌∙◌, ap, rules}
+use Rattle.ed_page.proofs.Kit.{kind_of_function, ap, rules, ◌∙◌, letter_byte}
 use Rattle.ed_words.specs.declared.order.Order.{Order}
-use Rattle.ed_orders.specs.Kinds.{kind_of_function}
-use Rattle.ed_page.specs.Private.Letters.{letter_byte}
 use Rattle.ed_page.proofs.Letters.{letter_is}
 use Rattle.ed_page.proofs.meanings.Meaning.of.Goals as goal
 

@@ -1,9 +1,5 @@
-use Rattle.std.proofs.Common.{◌+◌, sym, ap, subst, ◌∙◌, arith}
-use Rattle.ed_machine.specs.State.{State}
-use Rattle.ed_machine.specs.Steps.{AreObeyed, state_after}
-use Rattle.ed_stepper.specs.Sessions.{Moves, Stand}
-use Rattle.ed_stepper.specs.declared.moves.Moved.{Moved}
-use Rattle.ed_machine.proofs.Steps.{after_sum, free_sum}
+use Rattle.ed_stepper.proofs.Kit.{State, AreObeyed, state_after, after_sum, free_sum, ap, arith, subst, sym, ◌+◌, ◌∙◌}
+use Rattle.ed_stepper.proofs.Kit.{Moves, Stand, Moved}
 use Rattle.ed_stepper.proofs.Keeping.{moves_so}
 use Rattle.ed_stepper.proofs.session.Session.advance.Goals as goal
 
@@ -15,7 +11,7 @@ invariant_of-self c =
       is = w.state ∙ ap (state_after c.walk-walked.result.orders) i.is ∙ sym (after_sum _ _ _);
       count = omega (arith, w.count, i.count);
       free = free_sum _ _ _ i.free (subst (λ (x : State). AreObeyed c.walk-walked.result.orders x) i.is w.free);
-      kept = w.marks c.self.inside.start i.is i.count i.kept;
+      kept = w.checkpoints c.self.inside.start i.is i.count i.kept;
       most = omega (arith, w.most, i.most);
       room = i.room;
     }

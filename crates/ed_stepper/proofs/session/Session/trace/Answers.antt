@@ -1,6 +1,4 @@
-use Rattle.std.proofs.Common.{ap, arith, refl}
-use Rattle.ed_machine.specs.State.{State}
-use Rattle.ed_stepper.specs.Sessions.{Stand}
+use Rattle.ed_stepper.proofs.Kit.{State, ap, arith, refl, Stand}
 use Rattle.ed_stepper.proofs.Founds.{at_most, within_left}
 use Rattle.ed_stepper.proofs.session.Session.trace.Goals as goal
 
@@ -11,7 +9,7 @@ list_functions-requires-clause-orders c =
     let same = ap (λ (x : State). x.orders) c.in_ok-machine.ensures in
     let limit = ap (λ (x : Stand). x.limit) c.self.view_is in
     let done = ap (λ (x : Stand). x.done) c.self.view_is in
-    omega (arith, within_left _ _ m.orders _ _ m.ends, m.done_is, i.count, i.most, i.room, same, limit, done)
+    omega (arith, within_left m, m.done_is, i.count, i.most, i.room, same, limit, done)
 
 pub list_functions-requires-clause-room : goal.list_functions-requires-clause-room
 list_functions-requires-clause-room c =
@@ -19,7 +17,7 @@ list_functions-requires-clause-room c =
     let done = ap (λ (x : Stand). x.done) c.self.view_is in
     omega (
       arith,
-      at_most _ _ m.orders _ _ m.ends,
+      at_most m,
       m.done_is,
       done,
       c.in_ok-functions.ensures.len,

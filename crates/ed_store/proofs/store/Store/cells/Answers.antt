@@ -1,5 +1,4 @@
-use Rattle.std.proofs.Common.{◌∙◌, ap, ◌*◌, get_or}
-use Rattle.ed_store.specs.Cells.{Cells, long_at}
+use Rattle.ed_store.proofs.Kit.{ap, get_or, ◌*◌, ◌∙◌, Cells, long_at}
 use Rattle.ed_store.proofs.PackedLemmas.{cell_is}
 use Rattle.ed_store.proofs.store.Store.cells.Goals as goal
 

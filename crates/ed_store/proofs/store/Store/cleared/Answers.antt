@@ -1,5 +1,4 @@
-use Rattle.std.proofs.Common.{◌∙◌, ap}
-use Rattle.ed_store.specs.Packed.{unpacked_cells}
+use Rattle.ed_store.proofs.Kit.{ap, ◌∙◌, unpacked_cells}
 use Rattle.ed_store.proofs.PackedLemmas.{cleared_is, cleared_packed}
 use Rattle.ed_store.proofs.store.Store.cleared.Goals as goal
 

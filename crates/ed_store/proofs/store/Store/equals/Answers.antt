@@ -1,5 +1,4 @@
-use Rattle.std.proofs.Common.{◌∙◌, ap, sym}
-use Rattle.ed_store.specs.Packed.{unpacked_cells}
+use Rattle.ed_store.proofs.Kit.{ap, sym, ◌∙◌, unpacked_cells}
 use Rattle.ed_store.proofs.PackedLemmas.{unpacked_injective}
 use Rattle.ed_store.proofs.store.Store.equals.Goals as goal
 

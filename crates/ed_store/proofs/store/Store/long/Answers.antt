@@ -1,5 +1,4 @@
-use Rattle.std.proofs.Common.{sym, ◌∙◌, ap}
-use Rattle.ed_store.specs.Cells.{Cells, long_at}
+use Rattle.ed_store.proofs.Kit.{ap, sym, ◌∙◌, Cells, long_at}
 use Rattle.ed_store.proofs.PackedLemmas.{long_is, cell_read}
 use Rattle.ed_store.proofs.store.Store.long.Goals as goal
 

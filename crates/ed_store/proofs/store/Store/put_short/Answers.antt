@@ -1,7 +1,7 @@
-use Rattle.std.proofs.Common.{arith, ◌/◌}
+use Rattle.ed_store.proofs.Kit.{arith, ◌/◌}
 use Rattle.ed_store.proofs.PackedLemmas.{put_low_is, put_high_is, cell_read, is_store}
-use Rattle.ed_store.proofs.store.Store.put_short.Goals as goal
 use Rattle.ed_store.proofs.store.Store.put_short.Goals.{then-a-eq0, else-a-eq0}
+use Rattle.ed_store.proofs.store.Store.put_short.Goals as goal
 
 pub returns-clause-is : goal.returns-clause-is
 returns-clause-is c =

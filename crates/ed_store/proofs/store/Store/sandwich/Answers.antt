@@ -1,5 +1,4 @@
-use Rattle.std.proofs.Common.{sym, ◌∙◌, ap, nat_eq, ◌%◌, ◌/◌, ◌^◌}
-use Rattle.ed_store.specs.Cells.{Cells, sandwich_at}
+use Rattle.ed_store.proofs.Kit.{ap, nat_eq, sym, ◌%◌, ◌/◌, ◌^◌, ◌∙◌, Cells, sandwich_at}
 use Rattle.ed_store.proofs.PackedLemmas.{digit_is, cell_read}
 use Rattle.ed_store.proofs.store.Store.sandwich.Goals as goal
 

@@ -1,8 +1,7 @@
-use Rattle.std.proofs.Common.{sym, ◌∙◌, ap, ◌%◌, ◌/◌, ◌^◌}
-use Rattle.ed_store.specs.Cells.{Cells, short_at}
+use Rattle.ed_store.proofs.Kit.{ap, sym, ◌%◌, ◌/◌, ◌^◌, ◌∙◌, Cells, short_at}
 use Rattle.ed_store.proofs.PackedLemmas.{short_low, short_high, high_fits, cell_read, is_store}
-use Rattle.ed_store.proofs.store.Store.short.Goals as goal
 use Rattle.ed_store.proofs.store.Store.short.Goals.{then-a-eq0, else-a-eq0}
+use Rattle.ed_store.proofs.store.Store.short.Goals as goal
 
 pub returns-clause-is : goal.returns-clause-is
 returns-clause-is c =

@@ -1,4 +1,4 @@
-use Rattle.std.proofs.Common.{arith}
+use Rattle.ed_symbols.proofs.Kit.{arith}
 use Rattle.ed_symbols.proofs.location_counter.LocationCounter.after_statement.Goals as goal
 
 pub overflow_add-result : goal.overflow_add-result

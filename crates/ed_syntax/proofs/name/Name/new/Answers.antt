@@ -1,6 +1,4 @@
-use Rattle.std.proofs.Common.{◌≡◌, ◌∙◌, refl, length, arith, sym}
-use Rattle.std.proofs.lemmas.List.{take_at}
-use Rattle.std.proofs.lemmas.Bool.Decides.{nat_tests}
+use Rattle.ed_syntax.proofs.Kit.{arith, refl, sym, ◌∙◌, ◌≡◌, nat_tests, take_at}
 use Rattle.ed_syntax.proofs.NameBytes.{padded_text}
 use Rattle.ed_syntax.proofs.NameLemmas.{empty_or_long, within}
 use Rattle.ed_syntax.proofs.name.Name.new.Goals as goal
@@ -15,7 +13,7 @@ pub returns-clause-some : goal.returns-clause-some
 returns-clause-some c =
     let text = c.args.text.now in
     let bytes : c.copy_from_slice.new.self ≡ text = c.copy_from_slice.ensures.after ∙ c.as_bytes.ensures.value in
-    rw bytes (take_at text _ (length text) refl)
+    rw bytes (take_at text _ _ refl)
 
 pub returns-clause-none : goal.returns-clause-none
 returns-clause-none c = within c.args.text.now (sym c.if-is_empty.ensures) c.if-text-gt16.false

@@ -1,5 +1,4 @@
-use Rattle.std.proofs.Common.{arith}
-use Rattle.std.proofs.lemmas.Grind.{common_steps}
+use Rattle.ed_syntax.proofs.Kit.{arith, common_steps}
 use Rattle.ed_syntax.proofs.writing.operands.push_operand.Goals as goal
 
 pub returns-after-plus-lt0 : goal.returns-after-plus-lt0

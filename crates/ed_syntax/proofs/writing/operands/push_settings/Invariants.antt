@@ -1,5 +1,4 @@
-use Rattle.std.proofs.Common.{◌≡◌, ◌++◌, codes, drop}
-use Rattle.ed_syntax.specs.Written.{settings_after}
+use Rattle.ed_syntax.proofs.Kit.{codes, drop, ◌++◌, ◌≡◌, settings_after}
 use Rattle.ed_syntax.proofs.writing.operands.push_settings.Given as goal
 
 -- the text so far and that of the settings that are left

@@ -1,11 +1,7 @@
-use Rattle.std.proofs.Common.{◌≡◌, ◌∙◌, ◌≤◌, ◌<◌, ◌∷◌, [], ◌++◌, ap, sym, length, length-append, arith, append-nil}
+use Rattle.ed_syntax.proofs.Kit.{[], ap, arith, length, length-append, sym, ◌++◌, ◌<◌, ◌∙◌, ◌∷◌, ◌≡◌, ◌≤◌, list_all}
+use Rattle.ed_syntax.proofs.Kit.{Text, long_line, has_few, is_second, line_text, text_of_program}
+use Rattle.std.proofs.Common.{append-nil}
 use Rattle.std.proofs.lemmas.List.{at_drop_all}
-use Rattle.std.specs.List.{list_all}
-use Rattle.ed_syntax.specs.Versions.{is_second}
-use Rattle.ed_words.specs.Texts.{Text}
-use Rattle.ed_syntax.specs.Answers.{long_line}
-use Rattle.ed_syntax.specs.Private.LineTexts.{has_few}
-use Rattle.ed_syntax.specs.Written.{line_text, text_of_program}
 use Rattle.ed_syntax.proofs.Added.{few_passed, long_found, short_passed, text_added}
 use Rattle.ed_syntax.proofs.writing.program.lines_text.Goals as goal
 

@@ -1,9 +1,4 @@
-use Rattle.std.proofs.Common.{◌≡◌, ◌++◌, drop}
-use Rattle.std.specs.List.{list_all}
-use Rattle.ed_syntax.specs.Versions.{is_second}
-use Rattle.ed_syntax.specs.Answers.{long_line}
-use Rattle.ed_syntax.specs.Private.LineTexts.{has_few}
-use Rattle.ed_syntax.specs.Written.{text_of_program}
+use Rattle.ed_syntax.proofs.Kit.{drop, ◌++◌, ◌≡◌, list_all, long_line, has_few, is_second, text_of_program}
 use Rattle.ed_syntax.proofs.writing.program.lines_text.Given as goal
 
 -- what remains to be shown for all lines is what remains for those after the ones so far

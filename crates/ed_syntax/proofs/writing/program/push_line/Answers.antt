@@ -1,9 +1,6 @@
-use Rattle.std.proofs.Common.{◌≡◌, true, arith, refl, rules}
-use Rattle.std.specs.Prelude.{◌==◌, ◌&&◌}
-use Rattle.std.proofs.lemmas.Grind.{common_steps}
-use Rattle.std.proofs.lemmas.Result.{err_from_is_err_and}
-use Rattle.ed_syntax.specs.Versions.{is_second}
-use Rattle.ed_syntax.proofs.Added.{few_anyway, in_any_case, or_true}
+use Rattle.ed_syntax.proofs.Kit.{arith, refl, rules, true, ◌&&◌, ◌==◌, ◌≡◌, or-true, common_steps, err_from_is_err_and}
+use Rattle.ed_syntax.proofs.Kit.{is_second}
+use Rattle.ed_syntax.proofs.Added.{few_anyway, in_any_case}
 use Rattle.ed_syntax.proofs.writing.program.push_line.Goals as goal
 
 pub returns-in-Some-statement-clause-is : goal.returns-in-Some-statement-clause-is
@@ -17,7 +14,7 @@ pub returns-in-None-clause-is : goal.returns-in-None-clause-is
 returns-in-None-clause-is c = grind (arith, common_steps)
 
 pub returns-in-None-clause-few : goal.returns-in-None-clause-few
-returns-in-None-clause-few c = rw c.in-None.is (or_true _)
+returns-in-None-clause-few c = rw c.in-None.is (or-true _)
 
 pub returns-then-line-eq1 : goal.returns-then-line-eq1
 returns-then-line-eq1 c =

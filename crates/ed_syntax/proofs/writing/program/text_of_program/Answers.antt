@@ -1,6 +1,5 @@
-use Rattle.std.proofs.Common.{◌∙◌, ap, sym}
-use Rattle.ed_syntax.specs.Answers.{has_version_place}
-use Rattle.ed_syntax.proofs.Texts.{unsaid, unwritten, written_says}
+use Rattle.ed_syntax.proofs.Kit.{ap, sym, ◌∙◌, has_version_place}
+use Rattle.ed_syntax.proofs.Texts.{unsaid, IfErr-unwritten, written_says}
 use Rattle.ed_syntax.proofs.writing.program.text_of_program.Goals as goal
 
 pub returns-then-not-has_version_place-clause-none : goal.returns-then-not-has_version_place-clause-none
@@ -21,4 +20,5 @@ returns-clause-says c =
 
 pub returns-clause-none : goal.returns-clause-none
 returns-clause-none c =
-    rw (← c.of-version.ensures) (unwritten _ _ _ c.lines_text.result c.deref-2.ensures.value c.lines_text.ensures.fault)
+    rw (← c.of-version.ensures) (IfErr-unwritten _ _ _ c.lines_text.result c.deref-2.ensures.value
+    c.lines_text.ensures.fault)

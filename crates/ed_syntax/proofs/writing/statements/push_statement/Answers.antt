@@ -1,6 +1,5 @@
-use Rattle.std.proofs.Common.{◌∙◌, ◌++◌, ap, append-nil, codes, refl, rules, sym}
-use Rattle.std.proofs.lemmas.Result.{err_from_is_err_and}
-use Rattle.ed_words.specs.Texts.{Text}
+use Rattle.ed_syntax.proofs.Kit.{ap, codes, refl, rules, sym, ◌++◌, ◌∙◌, err_from_is_err_and, Text}
+use Rattle.std.proofs.Common.{append-nil}
 use Rattle.ed_syntax.proofs.Added.{both_added, in_any_case}
 use Rattle.ed_syntax.proofs.writing.statements.push_statement.Goals as goal
 

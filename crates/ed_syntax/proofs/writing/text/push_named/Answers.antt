@@ -1,4 +1,4 @@
-use Rattle.std.proofs.Common.{rules, ◌≡◌}
+use Rattle.ed_syntax.proofs.Kit.{rules, ◌≡◌}
 use Rattle.ed_syntax.proofs.Added.{both_added}
 use Rattle.ed_syntax.proofs.writing.text.push_named.Goals as goal
 

@@ -1,5 +1,4 @@
-use Rattle.std.proofs.Common.{rules, ◌≡◌}
-use Rattle.std.specs.Fmt.{decimal}
+use Rattle.ed_syntax.proofs.Kit.{rules, ◌≡◌, decimal}
 use Rattle.ed_syntax.proofs.Added.{both_added}
 use Rattle.ed_syntax.proofs.writing.text.push_numbered.Goals as goal
 

@@ -1,7 +1,4 @@
-use Rattle.std.proofs.Common.{◌≡◌, ◌∙◌, ◌++◌, ap, map, take}
-use Rattle.std.proofs.lemmas.List.{take_all}
-use Rattle.ed_words.specs.Texts.{Text}
-use Rattle.ed_syntax.specs.Written.{row_letter}
+use Rattle.ed_syntax.proofs.Kit.{ap, map, take, ◌++◌, ◌∙◌, ◌≡◌, take_all, Text, row_letter}
 use Rattle.ed_syntax.proofs.Added.{both_added, letter_added}
 use Rattle.ed_syntax.proofs.writing.text.push_rows.Goals as goal
 
@@ -21,5 +18,5 @@ returns c =
     let all : take here.row-index rows ≡ rows =
     take_all here.row-index rows (rw c.deref-row-items.ensures.0 at c.loop-row-test.false) in
     both_added _ c.args.text.now.items c.args.before.now _ mid _
-    (both_added _ mid (map row_letter rows) _ here.text.items _ c.push-2.ensures
+    (both_added _ mid _ _ here.text.items _ c.push-2.ensures
     (here.invariant ∙ ap (λ (rs : Text). mid ++ map row_letter rs) all)) c.in_ok-push.ensures

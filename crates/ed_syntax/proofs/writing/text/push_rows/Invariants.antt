@@ -1,5 +1,4 @@
-use Rattle.std.proofs.Common.{◌≡◌, ◌++◌, map, take}
-use Rattle.ed_syntax.specs.Written.{row_letter}
+use Rattle.ed_syntax.proofs.Kit.{map, take, ◌++◌, ◌≡◌, row_letter}
 use Rattle.ed_syntax.proofs.writing.text.push_rows.Given as goal
 
 -- the letters of the rows so far have been added

@@ -1,5 +1,0 @@
-use Rattle.ed_page.proofs.Kit.{◌≡◌, ◌++◌, drop}
-use Rattle.ed_page.proofs.pictured.codes_of.Given as goal
-
-abbrev pub invariant-loop-number : goal.invariant-loop-number
-invariant-loop-number l = l.codes.items ++ drop l.number-index l.numbers ≡ l.numbers

@@ -1,9 +1,0 @@
-use Rattle.ed_sources.proofs.Kit.{arith}
-use Rattle.std.proofs.lemmas.Grind.{common_steps}
-use Rattle.ed_sources.proofs.weaving.woven.Goals as goal
-
-pub loop-gap-preserved : goal.loop-gap-preserved
-loop-gap-preserved c = grind (arith, common_steps)
-
-pub returns : goal.returns
-returns c = grind (arith, common_steps)
