@@ -1,7 +1,8 @@
 //! What is written for a line of each form and for three examples, and when a program is not written.
 
 use crate::support::expect;
-use ed_syntax::{Program, WriteFault, parse, text_of_program};
+use ed_syntax::{Program, parse};
+use ed_writer::{WriteFault, text_of_program};
 use std::alloc::Global;
 use std::process::Abort;
 use std::test::Fail;

@@ -7,14 +7,8 @@ pub mod PunchedTexts
 pub mod Replies
 pub mod Checks
 pub mod FirstChecks
-pub mod FirstEntries
-pub mod FirstFaults
 mod Keeping
 pub mod FromEntry
 pub mod Sources
-pub mod Limits
-pub mod BothSizes
-pub mod PunchedTapes
-pub mod Listed
 pub mod OneOutcome
 pub mod Kit

@@ -10,9 +10,4 @@ pub mod FirstOrders
 pub mod Replies
 pub mod Headline
 pub mod FromEntry
-pub mod FirstEntry
-pub mod FirstFaults
-pub mod Limits
-pub mod Listed
-pub mod PunchedTapes
 pub mod BothSizes

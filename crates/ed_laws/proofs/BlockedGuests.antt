@@ -3,7 +3,8 @@ use Rattle.ed_laws.proofs.Kit.{NoOrder, Turn, counted_after, Settings, ran_is, u
 use Rattle.ed_laws.proofs.Kit.{length, List, None, rules, Some, subst, sym, ℕ, ◌+◌, ◌-◌, ◌<◌, ◌∙◌, ◌≡◌, ◌≤◌, Text}
 use Rattle.ed_laws.proofs.Kit.{paper, step, State, Progress, progress, state_after, end_by, RunEnd, entry_of, cost}
 use Rattle.ed_laws.proofs.Kit.{entry_note, Outcome, IsAcceptedAs, paper_room, ran_outcome, with_post_mortem}
-use Rattle.ed_laws.proofs.Kit.{none_added, is_obeyed, each_answer_is_from_entry}
+use Rattle.ed_laws.proofs.Kit.{is_obeyed, each_answer_is_from_entry}
+use Rattle.ed_laws.proofs.Limits.{none_added}
 use Rattle.ed_sources.proofs.Kit.{guest, entry_state, AnswersFromEntry}
 use Rattle.ed_checker.proofs.Follow.{checker_law}
 use Rattle.ed_laws.specs.BlockedGuests.{EachGuestIsBlocked, EndsBlocked, IsBlockedAfter, RunsToBlock, blocked_codes}

@@ -8,8 +8,8 @@ use Rattle.ed_laws.proofs.Kit.{each_answer_is_from_entry, limit_state, quiet_out
 use Rattle.ed_initial1.specs.Entry.{at_entry1}
 use Rattle.ed_initial1.proofs.Settled.{all_went}
 use Rattle.ed_initial1.proofs.Whole.{leads_in}
-use Rattle.ed_answers.specs.FirstEntry.{cost1}
-use Rattle.ed_answers.proofs.FirstEntries.{first_store, runs_from_31, starts}
+use Rattle.ed_laws.specs.FirstEntry.{cost1}
+use Rattle.ed_laws.proofs.FirstEntries.{first_store, runs_from_31, starts}
 use Rattle.ed_laws.specs.CutRuns.{IsCutOff}
 use Rattle.ed_laws.specs.FirstEntries.{EachFirstTapeRunsFromEntry}
 use Rattle.ed_laws.specs.SourceEntries.{EachSourceRunsFromEntry}

@@ -40,8 +40,8 @@ pub use Rattle.ed_postmortem.proofs.Kit.{Obeyed, address_digits, is_even, length
 unfoldable pub use Rattle.ed_postmortem.proofs.Kit.{printed_codes}
 pub use Rattle.ed_syntax.specs.declared.program.Line.{Line}
 pub use Rattle.ed_link.specs.Faults.{on_line}
-pub use Rattle.ed_answers.specs.FirstFaults.{silent_outcome}
-pub use Rattle.ed_answers.specs.Limits.{StartsWith, with_limit}
+pub use Rattle.ed_laws.specs.FirstFaults.{silent_outcome}
+pub use Rattle.ed_laws.specs.Limits.{StartsWith, with_limit}
 pub use Rattle.ed_answers.specs.Outcome.{line}
 pub use Rattle.ed_answers.specs.Tapes.{opening_notation}
 pub use Rattle.ed_answers.proofs.Kit.{[], ap, append-nil, append_assoc, arith, Bool, codes, drop, false, get_or}
@@ -54,7 +54,6 @@ pub use Rattle.ed_answers.proofs.Kit.{entry_of, cost, tape, ending_line, entry_n
 pub use Rattle.ed_answers.proofs.Kit.{paper_room, ran_outcome, run_of, status_of, with_post_mortem, entered_before}
 pub use Rattle.ed_answers.proofs.Kit.{OfSource, punch_outcome, run_outcome, tape_outcome}
 unfoldable pub use Rattle.ed_answers.proofs.Kit.{step, least, progress, run_end, first_state, first_state1}
-pub use Rattle.ed_answers.proofs.Limits.{none_added}
 unfoldable pub use Rattle.ed_stepper.specs.MoveEnds.{move_end}
 pub use Rattle.ed_stepper.proofs.Kit.{is_some, not, slice_index_or, ◌==◌, AreObeyed, is_obeyed, first_once}
 pub use Rattle.ed_stepper.proofs.Kit.{first_within, after_sum, free_sum, trace_to}

@@ -23,4 +23,10 @@ mod Relocation
 mod PartsRun
 mod ReadBack
 mod PrintedLines
+mod Limits
+mod BothSizes
+pub mod FirstEntries
+mod FirstFaults
+mod Listed
+mod PunchedTapes
 pub mod Theorems

@@ -2,9 +2,10 @@
 use Rattle.ed_laws.proofs.Kit.{Line, StartsWith, [], ap, arith, List, refl, rules, sym, ℕ, ◌+◌, ◌-◌, ◌∙◌, ◌≡◌, ◌≢◌}
 use Rattle.ed_laws.proofs.Kit.{◌≤◌, paper, State, state_after, run_end, RunEnd, first_state, tape, ending_line}
 use Rattle.ed_laws.proofs.Kit.{first_state1, Outcome, paper_room, ran_outcome, status_of, with_post_mortem}
-use Rattle.ed_laws.proofs.Kit.{entered_before, run_outcome, tape_outcome, none_added, trace_to, letters_in}
+use Rattle.ed_laws.proofs.Kit.{entered_before, run_outcome, tape_outcome, trace_to, letters_in}
+use Rattle.ed_laws.proofs.Limits.{none_added}
 use Rattle.ed_answers.specs.FirstOrders.{tape1_outcome}
-use Rattle.ed_answers.proofs.Limits.{each_limit, printed_starts, starts_as}
+use Rattle.ed_laws.proofs.Limits.{each_limit, printed_starts, starts_as}
 use Rattle.ed_top.specs.Traces.{trace_outcome}
 use Rattle.ed_laws.specs.MoreResumes.{EachLimitIsKept, EachResume, KeepsResumes, TraceKeepsLimits, letters_of}
 use Rattle.ed_laws.proofs.PartsLimits.{parts_keep_limits}

@@ -17,8 +17,8 @@ use Rattle.ed_laws.specs.TapeEntries.{EachTapeRunsFromEntry}
 use Rattle.ed_laws.specs.TapeFacts.{NotationFacts}
 use Rattle.ed_laws.specs.TraceAccounts.{EachTraceAccounts}
 use Rattle.ed_answers.specs.BothSizes.{EachSize}
-use Rattle.ed_answers.specs.FirstFaults.{EachFaultyTapeWaits1}
-use Rattle.ed_answers.specs.Listed.{EachListedIsLoaded}
+use Rattle.ed_laws.specs.FirstFaults.{EachFaultyTapeWaits1}
+use Rattle.ed_laws.specs.Listed.{EachListedIsLoaded}
 use Rattle.ed_laws.proofs.BlockedGuests.{each_guest_is_blocked}
 use Rattle.ed_laws.proofs.CallsByDefault.{calls_by_default as by_default}
 use Rattle.ed_sources.specs.DemoRuns.{EachDemoRuns, LastDemoIsLongest}
@@ -38,9 +38,9 @@ use Rattle.ed_laws.proofs.Stepped.{each_step_is_run}
 use Rattle.ed_laws.proofs.TapeEntries.{tapes_run_from_entry}
 use Rattle.ed_laws.proofs.TapeFacts.{notation_facts}
 use Rattle.ed_laws.proofs.TraceAccounts.{each_trace_accounts}
-use Rattle.ed_answers.proofs.BothSizes.{each_size}
-use Rattle.ed_answers.proofs.FirstFaults.{faulty_tapes_wait1}
-use Rattle.ed_answers.proofs.Listed.{each_listed_is_loaded}
+use Rattle.ed_laws.proofs.BothSizes.{each_size}
+use Rattle.ed_laws.proofs.FirstFaults.{faulty_tapes_wait1}
+use Rattle.ed_laws.proofs.Listed.{each_listed_is_loaded}
 
 -- what `call` prints without an option; with its options it is said by the contract of `edsac`
 pub calls_by_default : CallsByDefault

@@ -13,7 +13,7 @@ use Rattle.ed_notation.specs.Beginnings.{state_before, orders_before}
 use Rattle.ed_initial.specs.Entry.{first_state}
 use Rattle.ed_initial.specs.Waits.{AwaitsRow, waiting_place}
 use Rattle.ed_report.specs.Notes.{rule_line}
-use Rattle.ed_answers.specs.FirstFaults.{silent_outcome}
+use Rattle.ed_laws.specs.FirstFaults.{silent_outcome}
 use Rattle.ed_answers.specs.Outcome.{Outcome, refusal}
 use Rattle.ed_answers.specs.Runs.{post_mortem_codes}
 use Rattle.ed_answers.specs.Tapes.{IsChecked, opening_notation, tape_outcome}

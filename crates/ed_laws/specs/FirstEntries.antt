@@ -5,8 +5,8 @@ use Rattle.ed_run.specs.declared.settings.Settings.{Settings}
 use Rattle.ed_initial1.specs.Checks.{report1}
 use Rattle.ed_initial1.specs.Faults.{Tape, ReachesEntry1}
 use Rattle.ed_report.specs.Entries.{entry_line}
-use Rattle.ed_answers.specs.FirstEntry.{RunsFrom31, cost1}
-use Rattle.ed_answers.specs.FirstFaults.{silent_outcome}
+use Rattle.ed_laws.specs.FirstEntry.{RunsFrom31, cost1}
+use Rattle.ed_laws.specs.FirstFaults.{silent_outcome}
 use Rattle.ed_answers.specs.FirstOrders.{IsChecked1, first_state1, tape1_outcome}
 use Rattle.ed_answers.specs.Outcome.{done}
 

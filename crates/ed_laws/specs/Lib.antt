@@ -16,3 +16,8 @@ pub mod Relocation
 pub mod PartsRun
 pub mod ReadBack
 pub mod PrintedLines
+pub mod Limits
+pub mod FirstFaults
+pub mod Listed
+pub mod PunchedTapes
+pub mod FirstEntry

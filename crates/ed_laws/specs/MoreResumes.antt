@@ -4,7 +4,7 @@ use Rattle.ed_words.specs.Texts.{Text}
 use Rattle.ed_run.specs.declared.settings.Settings.{Settings}
 use Rattle.ed_syntax.specs.declared.program.Line.{Line}
 use Rattle.ed_answers.specs.FirstOrders.{tape1_outcome}
-use Rattle.ed_answers.specs.Limits.{EachLimit, StartsWith, with_limit}
+use Rattle.ed_laws.specs.Limits.{EachLimit, StartsWith, with_limit}
 use Rattle.ed_answers.specs.Outcome.{Outcome}
 use Rattle.ed_answers.specs.Sources.{run_outcome}
 use Rattle.ed_answers.specs.Tapes.{tape_outcome}

@@ -9,7 +9,7 @@ use Rattle.ed_stepper.specs.ScriptLines.{CommandList}
 use Rattle.ed_stepper.specs.declared.inputs.TextKind.TheVariants as kinds
 use Rattle.ed_answers.specs.declared.input.TheConstants.{INPUT_BYTES}
 use Rattle.ed_answers.specs.Outcome.{Outcome}
-use Rattle.ed_answers.specs.PunchedTapes.{PunchedIsRun}
+use Rattle.ed_laws.specs.PunchedTapes.{PunchedIsRun}
 use Rattle.ed_answers.specs.Refusals.{IsAcceptedAs}
 use Rattle.ed_answers.specs.Sources.{punch_outcome}
 use Rattle.ed_top.specs.Scripts.{OnText}

@@ -13,8 +13,8 @@ use Rattle.ed_stepper.specs.Scripts.{line_of_move, move_line, after_move}
 use Rattle.ed_stepper.specs.declared.moves.MoveTarget.TheVariants.{Entry}
 use Rattle.ed_stepper.specs.declared.moves.MoveEnd.TheVariants.{Entered}
 use Rattle.ed_stepper.specs.Traces.{trace_to}
-use Rattle.ed_answers.specs.FirstFaults.{silent_outcome}
-use Rattle.ed_answers.specs.Limits.{StartsWith, with_limit}
+use Rattle.ed_laws.specs.FirstFaults.{silent_outcome}
+use Rattle.ed_laws.specs.Limits.{StartsWith, with_limit}
 use Rattle.ed_answers.specs.Outcome.{Outcome, done}
 use Rattle.ed_answers.specs.Tapes.{IsChecked, opening_notation, tape_outcome}
 use Rattle.ed_answers.specs.Runs.{paper_room, ran_outcome, with_post_mortem}

@@ -1,29 +1,6 @@
--- The fault of a line with the least number: its test holds, and those before it fail.
-use Rattle.ed_link.proofs.Kit.{Bool, false, if◌then◌else◌, List, None, Option, refl, Some, true, ℕ, ◌∙◌, ◌≡◌, list_any}
-use Rattle.ed_link.proofs.Kit.{extent, overlaps, Extent}
-
--- a test that holds gives its value
-pub holds : {A : Type 0} (t : Bool) (x y : A) → true ≡ t → x ≡ (if t then x else y)
-holds t x y e = rw (← e) refl
-
--- a test that fails leaves the value to the next one
-pub fails : {A : Type 0} (t : Bool) (x y z : A) → false ≡ t → z ≡ y → z ≡ (if t then x else y)
-fails t x y z e f = rw (← e) f
-
--- a line that is in a segment and clear of the loader leaves the value to the next test
-pub clear : {A : Type 0} (t : Bool) (r r' : Extent) (a b y z : A)
-    → r ≡ r' → false ≡ t → false ≡ overlaps r (extent 0 44) → z ≡ y
-    → z ≡ (if t then a else (if overlaps r' (extent 0 44) then b else y))
-clear t r r' a b y z same outside loader e = rw (← same, ← outside, ← loader) e
-
--- so does one that is clear of the parameters too, and in the store
-pub within : {A : Type 0} (t : Bool) (r r' : Extent) (n n' : ℕ) (a b c d y z : A)
-    → r ≡ r' → n ≡ n' → false ≡ t → false ≡ overlaps r (extent 0 44) → false ≡ overlaps r (extent 44 56)
-    → false ≡ overlaps r (extent n r.after) → z ≡ y
-    → z ≡ (if t then a else (if overlaps r' (extent 0 44) then b else (if overlaps r' (extent 44 56) then c
-    else (if overlaps r' (extent n' r'.after) then d else y))))
-within t r r' n n' a b c d y z same size outside loader parameters past e =
-    rw (← same, ← size, ← outside, ← loader, ← parameters, ← past) e
+-- The test of the extents before a line, and the cause that two tests give, or leave to the tests after them.
+use Rattle.ed_link.proofs.Kit.{Bool, false, if◌then◌else◌, List, None, Option, Some, true, ◌∙◌, ◌≡◌, list_any}
+use Rattle.ed_link.proofs.Kit.{overlaps, Extent}
 
 -- the test of the extents before a line, by the extent and the list that the code has
 pub among : {t : Bool} {a b : Extent} {xs ys : List Extent} → t ≡ list_any (λ o. overlaps a o) xs → a ≡ b → xs ≡ ys

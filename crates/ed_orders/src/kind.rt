@@ -44,6 +44,7 @@ pub enum Kind {
 
 /// The order of a function; None if it is not one, as for 32 and above. Each order's function is the tape code that its
 /// letter spells.
+#[tactic(auto, using(crate::proofs::KindLetters::by_letter))]
 pub fn kind_of(function: u8) -> Option<Kind>
     ensures is { result ≡ kind_of_function function }
     ensures law { FunctionIsByLetter }

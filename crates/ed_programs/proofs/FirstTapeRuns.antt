@@ -7,9 +7,9 @@ use Rattle.ed_programs.proofs.Kit.{at_after, ran_outcome-answered, ran_to_stop, 
 use Rattle.ed_programs.proofs.Kit.{first_state1, Outcome, paper_room, ran_outcome, FirstTapeRuns, GivesProgram}
 use Rattle.ed_programs.proofs.Kit.{Refusal}
 use Rattle.ed_initial1.specs.Items.{AreItems, item_number}
-use Rattle.ed_answers.specs.FirstEntry.{cost1}
+use Rattle.ed_laws.specs.FirstEntry.{cost1}
 use Rattle.ed_answers.specs.FirstOrders.{tape1_outcome}
-use Rattle.ed_answers.proofs.FirstEntries.{runs_from_31}
+use Rattle.ed_laws.proofs.FirstEntries.{runs_from_31}
 use Rattle.ed_programs.specs.FirstTapes.{FirstTapePrints}
 
 -- ---- items, by one test

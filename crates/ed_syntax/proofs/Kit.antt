@@ -19,7 +19,6 @@ pub use Rattle.std.proofs.lemmas.Slice.Eq.{bytes_eq-Decides}
 pub use Rattle.ed_words.specs.Decimals.{is_digit, value}
 pub use Rattle.ed_words.specs.Texts.{Text}
 pub use Rattle.ed_codes.specs.Spelling.{letters, row_of}
-pub use Rattle.ed_syntax.specs.Answers.{has_version_place, long_line}
 pub use Rattle.ed_syntax.specs.Causes.{number_of}
 pub use Rattle.ed_syntax.specs.Forms.{AreRowsOf, bare_order, blank, comment, data_rows, difference, empty, enter}
 pub use Rattle.ed_syntax.specs.Forms.{fetch, fetch_with, has_few_settings, HasLineParts, HasNumberOutOfRange, is_sign}
@@ -35,7 +34,6 @@ pub use Rattle.ed_syntax.specs.Parts.{length_of, LinePart, modulo, quoted, run, 
 pub use Rattle.ed_syntax.specs.Private.Answers.{IsFaultOf}
 pub use Rattle.ed_syntax.specs.Private.Found.{form_result}
 pub use Rattle.ed_syntax.specs.Private.LineFronts.{with_lines_before}
-pub use Rattle.ed_syntax.specs.Private.LineTexts.{has_few}
 pub use Rattle.ed_syntax.specs.Private.Seen.{part}
 pub use Rattle.ed_syntax.specs.Programs.{are_rows, AreNumbered, is_base, is_form, is_line, is_operand, is_setting}
 pub use Rattle.ed_syntax.specs.Programs.{is_statement, may_have_label}
@@ -59,4 +57,3 @@ pub use Rattle.ed_syntax.specs.declared.program.Line.{Line}
 pub use Rattle.ed_syntax.specs.declared.program.Operand.{Operand}
 pub use Rattle.ed_syntax.specs.declared.program.Setting.{Setting}
 pub use Rattle.ed_syntax.specs.declared.program.Statement.{Statement}
-pub use Rattle.ed_syntax.specs.declared.writing.fault.WriteFault.TheVariants.{LongLine}

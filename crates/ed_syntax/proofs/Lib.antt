@@ -27,6 +27,4 @@ pub mod StatementLaws
 pub mod Fronts
 pub mod Numerals
 pub mod Spelled
-pub mod Texts
-pub mod Added
 pub mod Kit

@@ -8,6 +8,5 @@ pub mod Forms
 pub mod Causes
 pub mod Sources
 pub mod Written
-pub mod Answers
 pub mod Reading
 pub mod Private

@@ -6,4 +6,3 @@ pub mod PartFronts
 pub mod LineFronts
 pub mod Found
 pub mod Answers
-pub mod LineTexts

@@ -26,85 +26,54 @@ write_note-requires-in-Ok-carry_out g c = λ is_9. omega (arith, is_9, c.in-Ok-c
 
 pub returns-in-Err-Failed : goal.returns-in-Err-Failed
 returns-in-Err-Failed g c =
-    let a = answer c.args.command.action c.args.command.settings in
-    let source = device g.S.Source.left g.S.Source.faults c.args.source.now c.input_of.new.source in
-    let out = device g.K.Sink.held g.K.Sink.faults c.args.out.now c.args.out.now in
-    with_read_fault a source out _ _
-    (stop_by a source c.reads_input.result c.in-Err-Failed.field-0 input.Failed c.reads_input.ensures
-    c.in-Err-Failed.field-0-is
-    c.in-Err-Failed.ensures)
-    (gains_none out.before) refl c.write_note.ensures
+    with_read_fault _ _ _ _ _
+    (stop_by _ _ _ _ input.Failed c.reads_input.ensures c.in-Err-Failed.field-0-is c.in-Err-Failed.ensures)
+    (gains_none (g.K.Sink.held c.args.out.now)) refl c.write_note.ensures
 
 pub returns-in-Err-Memory : goal.returns-in-Err-Memory
 returns-in-Err-Memory g c =
     let a = answer c.args.command.action c.args.command.settings in
     let source = device g.S.Source.left g.S.Source.faults c.args.source.now c.input_of.new.source in
     let out = device g.K.Sink.held g.K.Sink.faults c.args.out.now c.args.out.now in
-    with_no_memory a source out _ _
-    (fine_unread a source
-    (stop_by a source c.reads_input.result c.in-Err-Memory.field-0 input.Memory c.reads_input.ensures
-    c.in-Err-Memory.field-0-is
-    c.in-Err-Memory.ensures))
-    refl
+    let none = c.in-Err-Memory in
+    let stopped = stop_by a source _ _ input.Memory c.reads_input.ensures none.field-0-is none.ensures in
+    with_no_memory a source out _ _ (fine_unread a source stopped) refl
     (none_due a source out (answer_once c.args.command.action c.args.command.settings) (gains_none out.before))
     c.write_note-in-Err-Memory.ensures
 
 pub returns-in-Err-TooLong : goal.returns-in-Err-TooLong
 returns-in-Err-TooLong g c =
-    let a = answer c.args.command.action c.args.command.settings in
-    let source = device g.S.Source.left g.S.Source.faults c.args.source.now c.input_of.new.source in
-    let out = device g.K.Sink.held g.K.Sink.faults c.args.out.now c.args.out.now in
-    with_long a source out
-    (stop_by a source c.reads_input.result c.in-Err-TooLong.field-0 input.TooLong c.reads_input.ensures
-    c.in-Err-TooLong.field-0-is
-    c.in-Err-TooLong.ensures)
-    (gains_none out.before) refl c.write_note-in-Err-TooLong.ensures
+    with_long _ _ _
+    (stop_by _ _ _ _ input.TooLong c.reads_input.ensures c.in-Err-TooLong.field-0-is c.in-Err-TooLong.ensures)
+    (gains_none (g.K.Sink.held c.args.out.now)) refl c.write_note-in-Err-TooLong.ensures
 
 pub returns-in-Ok-carry_out : goal.returns-in-Ok-carry_out
 returns-in-Ok-carry_out g c =
     let a = answer c.args.command.action c.args.command.settings in
     let source = device g.S.Source.left g.S.Source.faults c.args.source.now c.input_of.new.source in
-    let out = device g.K.Sink.held g.K.Sink.faults c.args.out.now c.carry_out.new.out in
-    let note = device g.L.Sink.held g.L.Sink.faults c.args.note.now c.write_note-in-Ok-carry_out.new.note in
-    let rest = c.in-Ok-carry_out.rest in
-    with_rest a source out c.in-Ok.input rest
-    (input_by a source c.reads_input.result (Ok c.in-Ok.input) c.reads_input.ensures c.in-Ok.ensures)
-    (subst (λ (t : Text). Carried a t out (Ok rest)) c.deref.ensures.value c.in-Ok-carry_out.ensures)
-    (subst (λ (t : Text). WritesLastLine note t rest.status c.write_note-in-Ok-carry_out.result)
-    c.deref-in-Ok-carry_out.ensures.value
-    c.write_note-in-Ok-carry_out.ensures)
+    with_rest a source _ c.in-Ok.input c.in-Ok-carry_out.rest
+    (input_by a source _ (Ok c.in-Ok.input) c.reads_input.ensures c.in-Ok.ensures)
+    (rw c.deref.ensures.value at c.in-Ok-carry_out.ensures)
+    (rw c.deref-in-Ok-carry_out.ensures.value at c.write_note-in-Ok-carry_out.ensures)
 
 pub returns-in-Err-Failed-carry_out : goal.returns-in-Err-Failed-carry_out
 returns-in-Err-Failed-carry_out g c =
     let a = answer c.args.command.action c.args.command.settings in
     let source = device g.S.Source.left g.S.Source.faults c.args.source.now c.input_of.new.source in
-    let out = device g.K.Sink.held g.K.Sink.faults c.args.out.now c.carry_out.new.out in
-    let note = device g.L.Sink.held g.L.Sink.faults c.args.note.now c.args.note.now in
-    let broken =
-    carried_stop a _ out c.in-Err-Failed-carry_out.field-0 stop.Failed c.in-Err-Failed-carry_out.field-0-is
-    c.in-Err-Failed-carry_out.ensures in
-    with_broken_out a source out note
-    (fine_source a source c.in-Ok.input
-    (input_by a source c.reads_input.result (Ok c.in-Ok.input) c.reads_input.ensures c.in-Ok.ensures))
-    broken.0
-    (due_input a source c.in-Ok.input _
-    (input_by a source c.reads_input.result (Ok c.in-Ok.input) c.reads_input.ensures c.in-Ok.ensures)
-    (subst (λ (t : Text). ForInput a t (λ o. WrotePart out o.out)) c.deref.ensures.value broken.1))
-    (gains_none note.before) refl
+    let read = input_by a source _ (Ok c.in-Ok.input) c.reads_input.ensures c.in-Ok.ensures in
+    let failed = c.in-Err-Failed-carry_out in
+    let broken = carried_stop a _ _ _ stop.Failed failed.field-0-is failed.ensures in
+    with_broken_out a source _ _ (fine_source a source c.in-Ok.input read) broken.0
+    (due_input a source c.in-Ok.input _ read (rw c.deref.ensures.value at broken.1))
+    (gains_none (g.L.Sink.held c.args.note.now)) refl
 
 pub returns : goal.returns
 returns g c =
     let a = answer c.args.command.action c.args.command.settings in
     let source = device g.S.Source.left g.S.Source.faults c.args.source.now c.input_of.new.source in
-    let out = device g.K.Sink.held g.K.Sink.faults c.args.out.now c.carry_out.new.out in
-    let stopped =
-    carried_stop a _ out c.in-Err-Memory-carry_out.field-0 stop.Memory c.in-Err-Memory-carry_out.field-0-is
-    c.in-Err-Memory-carry_out.ensures in
-    with_no_memory a source out _ _
-    (fine_source a source c.in-Ok.input
-    (input_by a source c.reads_input.result (Ok c.in-Ok.input) c.reads_input.ensures c.in-Ok.ensures))
-    stopped.0
-    (due_input a source c.in-Ok.input _
-    (input_by a source c.reads_input.result (Ok c.in-Ok.input) c.reads_input.ensures c.in-Ok.ensures)
-    (subst (λ (t : Text). ForInput a t (λ o. WrotePart out o.out)) c.deref.ensures.value stopped.1))
+    let read = input_by a source _ (Ok c.in-Ok.input) c.reads_input.ensures c.in-Ok.ensures in
+    let none = c.in-Err-Memory-carry_out in
+    let stopped = carried_stop a _ _ _ stop.Memory none.field-0-is none.ensures in
+    with_no_memory a source _ _ _ (fine_source a source c.in-Ok.input read) stopped.0
+    (due_input a source c.in-Ok.input _ read (rw c.deref.ensures.value at stopped.1))
     c.write_note-in-Err-Memory-carry_out.ensures

@@ -1,0 +1,51 @@
+-- The run of a tape without a fault for Initial Orders 1 is the run from the state at its entry.
+use Rattle.ed_laws.proofs.Kit.{Full, paper, run_end, ran_later, ReachesEntry1, Tape, [], ap, arith, Bool, drop, false}
+use Rattle.ed_laws.proofs.Kit.{List, refl, replicate, ℕ, ◌-◌, ◌∙◌, first_state1, paper_room, ran_outcome}
+use Rattle.ed_answers.proofs.Kit.{length-append, length-drop, length-replicate}
+use Rattle.ed_initial1.proofs.Kit.{at_entry1, IsStarted1, first_orders}
+use Rattle.ed_machine.specs.State.{cleared_state}
+use Rattle.ed_initial1.proofs.Opened.{HasItsLengths}
+use Rattle.ed_initial1.proofs.Settled.{state_after-comes, all_went}
+use Rattle.ed_initial1.proofs.Started.{is_started}
+use Rattle.ed_initial1.proofs.Walks.{Reaches}
+use Rattle.ed_initial1.proofs.Whole.{leads_in}
+use Rattle.ed_laws.specs.FirstEntry.{EachProgramRunsFrom31, cost1}
+use Rattle.ed_answers.proofs.FromEntry.{run_end-silent}
+
+pub first_store : (codes : List ℕ) → HasItsLengths (first_state1 codes).store
+unfolding first_state1
+first_store codes = record {
+  words = omega (
+    arith,
+    length-append first_orders (drop 31 (replicate 1024 0)),
+    length-drop {A = ℕ} 31 (replicate 1024 0),
+    length-replicate {A = ℕ} 1024 0,
+  );
+  sandwich = length-replicate {A = Bool} 512 false;
+}
+
+pub starts : (codes : List ℕ) → IsStarted1 (first_state1 codes)
+unfolding first_state1
+starts codes = is_started codes (cleared_state Full) refl
+
+reaches : (codes : List ℕ) (t : Tape) → ReachesEntry1 codes t
+    → Reaches (cost1 t) (first_state1 codes) (at_entry1 (first_state1 codes) t)
+unfolding first_state1
+reaches codes t c = leads_in (first_state1 codes) (first_store codes) (starts codes) t c
+
+pub runs_from_31 : EachProgramRunsFrom31
+runs_from_31 s codes t c =
+    let first = first_state1 codes in
+    let k = cost1 t in
+    let r = reaches codes t c in
+    let went = all_went first (at_entry1 first t) k r in
+    let there = state_after-comes first (at_entry1 first t) k r in
+    record {
+      enters = there;
+      silent = r.silent;
+      runs = λ fits.
+          ap (ran_outcome [])
+          (ran_later s.limit s.resumes paper_room k first went fits
+          ∙ ap (run_end (s.limit - k) s.resumes paper_room) there);
+      short = λ below. ap paper (run_end-silent s.limit s.resumes paper_room k first went below);
+    }

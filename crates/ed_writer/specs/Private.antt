@@ -1,0 +1,3 @@
+-- What the crate's own functions state for each other. No public clause cites these definitions, so nobody has to read
+-- them to know what the crate answers.
+pub mod LineTexts
