@@ -1,7 +1,7 @@
 -- What reading the tape of a call costs: that of the words of its numbers, and that of all other items.
 use Rattle.ed_sources.proofs.Kit.{sum_by, sum_by-cons, Item, Line, take, punched_items, word_item, item_cost, ap}
 use Rattle.ed_sources.proofs.Kit.{arith, drop, List, refl, rules, ℕ, ◌++◌, ◌+◌, ◌∙◌, ◌∷◌, ◌≡◌, cost, word_cost}
-use Rattle.ed_sources.proofs.Said.{check_lines, newline_lines, print_lines, read_lines}
+use Rattle.ed_sources.proofs.Said.{check_lines, print_lines}
 use Rattle.ed_sources.proofs.SaidMaths.{divide_lines, root_lines}
 use Rattle.ed_sources.proofs.WordCosts.{cost_around}
 
@@ -18,12 +18,6 @@ pub print_cost : (n : ℕ) → cost (print_lines n) ≡ 2289 + word_cost n
 print_cost n =
     with_word (print_lines n) (take 5 (punched_items (print_lines n))) (drop 6 (punched_items (print_lines n))) n 2280
     refl refl
-
-pub read_cost : (n : ℕ) → cost (read_lines n) ≡ 3368
-read_cost n = refl
-
-pub newline_cost : cost newline_lines ≡ 476
-newline_cost = refl
 
 pub root_cost : (n : ℕ) → cost (root_lines n) ≡ 3399 + word_cost n
 root_cost n =

@@ -6,8 +6,7 @@ pub mod Decimals
 pub mod Said
 pub mod SaidMaths
 pub mod SaidDemo
-pub mod Faultless
-mod DemoNames
+pub mod DemoNames
 pub mod DemoFaultless
 pub mod CallsAccepted
 pub mod DemoAccepted
