@@ -72,7 +72,7 @@ taken_agrees : (z : Size) (k : RowKind) (v w : List ℕ) (setting : DirectiveSta
 taken_agrees z k v w setting part c h = search rules
 
 -- the result of the reading at a row inside an item
-abbrev on_row : Size → List ℕ → ℕ → ℕ → NotationState → PartialItem → ℕ → List ℕ → RowEffect → Verdict
+abbrev pub on_row : Size → List ℕ → ℕ → ℕ → NotationState → PartialItem → ℕ → List ℕ → RowEffect → Verdict
 on_row z words row cost notation part c rows t = elim t [
   | Refused cause ↦ Faulty row cause
   | Longer longer k ↦ reading_on z words (row + 1) (cost + k) notation (Some longer) rows

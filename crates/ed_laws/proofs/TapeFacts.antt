@@ -1,8 +1,8 @@
 -- Blank tape before a tape, tapes of the two loaders, and what loading costs at most.
-use Rattle.ed_laws.proofs.Kit.{Size, cleared_cells, Settings, BadRow, PartialItem, RowEffect, Ended, Entered, Longer}
-use Rattle.ed_laws.proofs.Kit.{Placed, Refused, first_directive, length-append, ◌%◌, ◌*◌, ◌/◌, le-ltb, RowsReachEntry}
+use Rattle.ed_laws.proofs.Kit.{Size, cleared_cells, Settings, BadRow, PartialItem, RowEffect, Ended, Longer}
+use Rattle.ed_laws.proofs.Kit.{first_directive, length-append, ◌%◌, ◌*◌, ◌/◌, le-ltb, RowsReachEntry}
 use Rattle.ed_laws.proofs.Kit.{WellFormed, NotationState, AreDigits, Begun, digits_number, row_kind, rows_of, Arrived}
-use Rattle.ed_laws.proofs.Kit.{entry_by, Faulty, part_of, placed_by, reading_on, row_effect, set_by, setting_of}
+use Rattle.ed_laws.proofs.Kit.{Faulty, part_of, reading_on, row_effect, setting_of}
 use Rattle.ed_laws.proofs.Kit.{Verdict, with_limit, opening_notation, [], ap, append-nil, append_assoc, arith, Bool}
 use Rattle.ed_laws.proofs.Kit.{false, length, List, nat_eq, nat_lt, None, Option, refl, replicate, rules, Some, subst}
 use Rattle.ed_laws.proofs.Kit.{suc, sym, true, ℕ, ◌++◌, ◌+◌, ◌-◌, ◌^◌, ◌∙◌, ◌∷◌, ◌≡◌, ◌≢◌, ◌≤◌, nat_tests, Text}
@@ -21,6 +21,7 @@ use Rattle.ed_laws.specs.TapeFacts.{BeginsAtPlace, BlankTapeIsPassed, NotationFa
 use Rattle.ed_laws.specs.TapeFacts.{entry_later}
 use Rattle.ed_laws.proofs.CountedRuns.{counted, run_same}
 use Rattle.ed_laws.proofs.TapeEntries.{leads}
+use Rattle.ed_laws.proofs.TapeEntries.{on_row}
 
 -- ---- the cost of a text
 
@@ -84,16 +85,6 @@ for_one_loader z tape t comes well = first_breaks z tape t t.items refl comes we
 abbrev later : ℕ → ℕ → Verdict → Verdict
 later a b (Faulty row cause) = Faulty (row + a) cause
 later a b (Arrived e) = Arrived (record e { cost = e.cost + b; rows = e.rows + a })
-
--- what follows a row inside an item
-abbrev on_row : Size → List ℕ → ℕ → ℕ → NotationState → PartialItem → ℕ → List ℕ → RowEffect → Verdict
-on_row z words row cost notation part c rest t = elim t [
-  | Refused cause ↦ Faulty row cause
-  | Longer longer k ↦ reading_on z words (row + 1) (cost + k) notation (Some longer) rest
-  | Ended setting k ↦ reading_on z words (row + 1) (cost + k) (set_by setting notation) None rest
-  | Placed at word ↦ reading_on z words (row + 1) (cost + 17) (placed_by at word notation) None rest
-  | Entered at ↦ Arrived (entry_by words row cost notation part c rest at)
-]
 
 module _ (z : Size) (words : List ℕ) (a b : ℕ) where
   module _ (rest : List ℕ) (ih : (row cost : ℕ) (notation : NotationState) (part : Option PartialItem)

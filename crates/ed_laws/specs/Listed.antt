@@ -1,5 +1,5 @@
 -- What `listing` shows is what the store holds at the entry (this project's own rules).
-use Rattle.std.specs.Prelude.{◌≡◌, ℕ, List, Some}
+use Rattle.std.specs.Prelude.{◌≡◌, List, Some}
 use Rattle.ed_machine.specs.Steps.{state_after}
 use Rattle.ed_printer.specs.Paper.{paper}
 use Rattle.ed_postmortem.specs.Codes.{printed_codes}

@@ -3,7 +3,7 @@ use Rattle.ed_link.proofs.Kit.{max, min, reverse, E_F, Size, AreSpellable, Item,
 use Rattle.ed_link.proofs.Kit.{false, if◌then◌else◌, inl, length, List, None, Option, refl, Some, subst, sym, true}
 use Rattle.ed_link.proofs.Kit.{unwrap_or, ℕ, ◌&&◌, ◌*◌, ◌++◌, ◌+◌, ◌<◌, ◌∙◌, ◌∷◌, ◌≡◌, ◌≤◌, list_all, and_parts}
 use Rattle.ed_link.proofs.Kit.{leb-true, locations, locations_most, NotationState, SourceCause, SourceFault, Setting, Statement}
-use Rattle.ed_link.proofs.Kit.{Enter, Fetch, Long, Number, Order, Rows, Text, is_line, catalogue, entry, is_ready}
+use Rattle.ed_link.proofs.Kit.{Enter, Fetch, Long, Number, Order, Rows, Text, is_line, catalogue, is_ready}
 use Rattle.ed_link.proofs.Kit.{find, place_on, LocationCounter, Definition, is_none, is_some, not, ◌||◌, or_later}
 use Rattle.ed_link.proofs.Kit.{after_statement, any_enter, cause_of, extent, extent_at, fault_from, has_no_routine}
 use Rattle.ed_link.proofs.Kit.{is_enter, is_misplaced, is_rows, LinesBefore, overlaps, past_of, reach, sets}

@@ -6,7 +6,7 @@ use Rattle.ed_symbols.proofs.Kit.{reaches_outside, symbols_from, operand_of, fir
 use Rattle.std.proofs.Common.{map, pos, int_lt}
 use Rattle.ed_syntax.specs.declared.program.Operand.{Operand}
 use Rattle.ed_syntax.specs.declared.program.Statement.{Statement}
-use Rattle.ed_syntax.specs.declared.program.Statement.TheVariants.{Order, Number, Fetch, Enter}
+use Rattle.ed_syntax.specs.declared.program.Statement.TheVariants.{Order, Fetch, Enter}
 use Rattle.ed_symbols.specs.NameFaults.{HasOperand, HasName, NamesUnknown, ReachesOutside}
 use Rattle.ed_symbols.specs.NameTests.{any_operand, enters_unknown, is_far}
 use Rattle.ed_symbols.specs.Names.{place_on}

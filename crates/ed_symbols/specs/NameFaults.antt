@@ -1,6 +1,6 @@
 -- The faults of the names of a source, S6 to S8: one sentence for each, over the lines and their locations. No sentence
 -- depends on another one, and none goes through the lines one by one (this project's own rule).
-use Rattle.std.specs.Prelude.{◌≡◌, ◌⊎◌, ℕ, ◌+◌, ◌<◌, ◌≤◌, true, List, [], ◌∷◌, ◌++◌, length, map}
+use Rattle.std.specs.Prelude.{◌≡◌, ◌⊎◌, ℕ, ◌+◌, true, List, [], ◌∷◌, ◌++◌, length, map}
 use Rattle.std.specs.Prelude.{Option, Some, None, ℤ, pos, int_lt}
 use Rattle.std.specs.List.{Contains}
 use Rattle.ed_syntax.specs.Causes.{IsLeastFault}
