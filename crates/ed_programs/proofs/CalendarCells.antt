@@ -1,10 +1,9 @@
 -- The words of `examples/calendar.tape` from 56 to 391.
 use Rattle.ed_programs.proofs.Kit.{L_D, Z_F, Size, IsOutside, early, frame_at, [], arith, drop, get_or, length, List}
-use Rattle.ed_programs.proofs.Kit.{lit≤, nat_lt, Option, refl, Some, suc, take, true, zero, ℕ, ◌++◌, ◌+◌, ◌<◌, ◌∙◌}
-use Rattle.ed_programs.proofs.Kit.{◌∷◌, ◌≡◌, lt-ltb, least, Frame, Moment, short, A, on, Path, stay, own, ◌&&◌}
+use Rattle.ed_programs.proofs.Kit.{lit≤, nat_lt, Option, refl, Some, suc, take, true, zero, ℕ, ◌++◌, ◌+◌, ◌<◌, ◌∙◌, ◌∷◌}
+use Rattle.ed_programs.proofs.Kit.{◌≡◌, lt-ltb, least, Frame, Moment, short, A, on, Path, stay, own, ◌&&◌, to}
 use Rattle.std.proofs.lemmas.List.{get_or_append_left}
 use Rattle.ed_machine.proofs.Kit.Window.{get_right}
-use Rattle.ed_programs.proofs.Kit.{to}
 
 -- the cells that change: the numbers from 0H on, the order that prints a sign, with its link and the title's letters,
 -- the order that takes a power of ten away, the links of the other two routines, and the master's made orders

@@ -1,6 +1,6 @@
 -- What the program of `examples/calendar.tape` counts is the calendar, from 1901 to 2099.
-use Rattle.ed_programs.proofs.Kit.{sum, among, [], ap, arith, Bool, false, if◌then◌else◌, not, refl, rules, suc, true}
-use Rattle.ed_programs.proofs.Kit.{zero, ℕ, ◌%◌, ◌*◌, ◌+◌, ◌/◌, ◌==◌, ◌∙◌, ◌∷◌, ◌≡◌, ◌≤◌, nat_tests, days_before}
+use Rattle.ed_programs.proofs.Kit.{sum, among, [], ap, arith, Bool, false, get_or, if◌then◌else◌, not, refl, rules, suc}
+use Rattle.ed_programs.proofs.Kit.{true, zero, ℕ, ◌%◌, ◌*◌, ◌+◌, ◌/◌, ◌==◌, ◌∙◌, ◌∷◌, ◌≡◌, ◌≤◌, nat_tests, days_before}
 use Rattle.ed_programs.proofs.Kit.{is_leap, month_lengths, weekday, place}
 use Rattle.ed_programs.specs.Calendar.{years_length}
 
@@ -23,7 +23,7 @@ days_next : (b : Bool) (n : ℕ) → (n % 4 == 3) ≡ b
 days_next true n h = grind (arith, nat_tests)
 days_next false n h = grind (arith, nat_tests)
 
-year_length_is : (year : ℕ) → sum (month_lengths year) ≡ (if is_leap year then 366 else 365)
+pub year_length_is : (year : ℕ) → sum (month_lengths year) ≡ (if is_leap year then 366 else 365)
 year_length_is year = by_test (is_leap year)
   where
     by_test : (b : Bool)
@@ -31,6 +31,11 @@ year_length_is year = by_test (is_leap year)
         ≡ (if b then 366 else 365)
     by_test true = refl
     by_test false = refl
+
+-- no month has more than 31 days
+pub days_at_most : (leap : Bool) (k : ℕ)
+    → get_or (31 ∷ (if leap then 29 else 28) ∷ 31 ∷ 30 ∷ 31 ∷ 30 ∷ 31 ∷ 31 ∷ 30 ∷ 31 ∷ 30 ∷ 31 ∷ []) k 0 ≤ 31
+days_at_most leap k = grind arith
 
 next_year : (n : ℕ) → 1900 + suc n ≡ 1901 + n
 next_year n = omega arith

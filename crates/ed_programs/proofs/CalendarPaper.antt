@@ -1,35 +1,28 @@
 -- The codes that the program of `examples/calendar.tape` prints are the calendar on paper.
-use Rattle.ed_programs.proofs.Kit.{Figures, ltb-false, [], ap, append-nil, append_assoc, arith, Bool, codes, decimal}
-use Rattle.ed_programs.proofs.Kit.{false, get_or, if◌then◌else◌, List, lit<, nat_lt, refl, rules, suc, sym, true, zero}
-use Rattle.ed_programs.proofs.Kit.{ℕ, ◌%◌, ◌*◌, ◌++◌, ◌+◌, ◌-◌, ◌/◌, ◌<◌, ◌==◌, ◌∙◌, ◌∷◌, ◌≡◌, ◌≤◌, eqb-true, ltb-true}
-use Rattle.ed_programs.proofs.Kit.{nat_tests, Text, paper, digits, without_zeros, number_shown, replicate, paper_from}
-use Rattle.ed_programs.proofs.Kit.{calendar_prints, days_before, is_leap, month_length, weekday, calendar_codes}
-use Rattle.ed_programs.proofs.Kit.{day_codes, days_codes, head_codes, place, title_codes, year_codes}
+use Rattle.ed_programs.proofs.Kit.{Figures, Letters, ltb-false, among, is_capital, list_all, name_codes, [], ap}
+use Rattle.ed_programs.proofs.Kit.{append-nil, append_assoc, arith, Bool, codes, decimal, false, get_or, if◌then◌else◌}
+use Rattle.ed_programs.proofs.Kit.{List, lit<, nat_lt, refl, rules, suc, sym, true, zero, ℕ, ◌%◌, ◌*◌, ◌++◌, ◌+◌, ◌-◌}
+use Rattle.ed_programs.proofs.Kit.{◌/◌, ◌<◌, ◌==◌, ◌∙◌, ◌∷◌, ◌≡◌, ◌≤◌, eqb-true, ltb-true, nat_tests, Text, paper}
+use Rattle.ed_programs.proofs.Kit.{digits, without_zeros, number_shown, replicate, paper_from, calendar_prints}
+use Rattle.ed_programs.proofs.Kit.{days_before, is_leap, month_length, weekday, calendar_codes, day_codes, days_codes}
+use Rattle.ed_programs.proofs.Kit.{head_codes, place, title_codes, year_codes}
 use Rattle.std.proofs.Common.{flat_map}
 use Rattle.std.proofs.lemmas.Bool.{eqb-false}
 use Rattle.ed_programs.specs.Calendar.{calendar_days, day_text, new_line, month_names}
 use Rattle.ed_programs.proofs.CalendarCodes.{days_from, range_is}
-use Rattle.ed_programs.proofs.CalendarDays.{days_before_is, weekday_is}
+use Rattle.ed_programs.proofs.Capitals.{capitals_shown}
+use Rattle.ed_programs.proofs.CalendarDays.{days_at_most, days_before_is, weekday_is}
 use Rattle.ed_programs.proofs.RowTexts.{no_thousands, one_figure}
 
 -- ---- the title
 
 title_shown : (k : ℕ) (rest : List ℕ) → k < 12
-    → paper (title_codes (suc k) ++ rest)
+    → paper (title_codes k ++ rest)
     ≡ codes "      " ++ (get_or month_names k [] ++ 32 ∷ paper_from Figures rest)
-title_shown zero rest l = refl
-title_shown (suc zero) rest l = refl
-title_shown (suc (suc zero)) rest l = refl
-title_shown (suc (suc (suc zero))) rest l = refl
-title_shown (suc (suc (suc (suc zero)))) rest l = refl
-title_shown (suc (suc (suc (suc (suc zero))))) rest l = refl
-title_shown (suc (suc (suc (suc (suc (suc zero)))))) rest l = refl
-title_shown (suc (suc (suc (suc (suc (suc (suc zero))))))) rest l = refl
-title_shown (suc (suc (suc (suc (suc (suc (suc (suc zero)))))))) rest l = refl
-title_shown (suc (suc (suc (suc (suc (suc (suc (suc (suc zero))))))))) rest l = refl
-title_shown (suc (suc (suc (suc (suc (suc (suc (suc (suc (suc zero)))))))))) rest l = refl
-title_shown (suc (suc (suc (suc (suc (suc (suc (suc (suc (suc (suc zero))))))))))) rest l = refl
-title_shown (suc (suc (suc (suc (suc (suc (suc (suc (suc (suc (suc (suc k)))))))))))) rest l = absurd (omega arith)
+title_shown k rest l =
+    ap (λ (cs : List ℕ). codes "      " ++ paper_from Letters cs) (append_assoc (name_codes k) (20 ∷ 11 ∷ []) rest)
+    ∙ ap (λ (t : Text). codes "      " ++ t) (capitals_shown (get_or month_names k []) (20 ∷ 11 ∷ rest)
+    (among (λ k. list_all is_capital (get_or month_names k [])) 0 12 k refl (omega arith) (omega arith)))
 
 -- ---- figures
 
@@ -79,11 +72,6 @@ regrouped a b c d e f g h = search (rules, append_assoc)
 abbrev calendar_heads : Text
 calendar_heads = codes " SU MO TU WE TH FR SA" ++ new_line
 
--- no month has more than 31 days
-pub days_at_most : (leap : Bool) (k : ℕ)
-    → get_or (31 ∷ (if leap then 29 else 28) ∷ 31 ∷ 30 ∷ 31 ∷ 30 ∷ 31 ∷ 31 ∷ 30 ∷ 31 ∷ 30 ∷ 31 ∷ []) k 0 ≤ 31
-days_at_most leap k = grind arith
-
 module _ (month year : ℕ) (low : 1901 ≤ year) (high : year ≤ 2099) where
   -- the day and what follows it
   abbrev shown : ℕ → Text
@@ -132,9 +120,6 @@ module _ (month year : ℕ) (low : 1901 ≤ year) (high : year ≤ 2099) where
       one_shown n before day l is (omega (arith, few)) (λ b small falls.
       days_shown n b (suc day) small falls (omega (arith, few)))
 
-  few_days : month_length month year ≤ 31
-  few_days = days_at_most (is_leap year) (month - 1)
-
   pub calendar_shown : 1 ≤ month → month ≤ 12 → paper (calendar_codes month year) ≡ calendar_prints month year
   calendar_shown some few =
       let k : ℕ = month - 1 in
@@ -144,9 +129,8 @@ module _ (month year : ℕ) (low : 1901 ≤ year) (high : year ≤ 2099) where
       let title : Text → Text = λ t. codes "      " ++ (name ++ 32 ∷ t) in
       let text_gap : Text = replicate (3 * days_before month year) 32 in
       let text_days : Text = calendar_days month year in
-      let days_few = few_days in
-      ap (λ (m : ℕ). paper (title_codes m ++ (year_codes year ++ (head_codes ++ (gap ++ days))))) {y = suc k} (omega arith)
-      ∙ title_shown k (year_codes year ++ (head_codes ++ (gap ++ days))) (omega arith)
+      let days_few = days_at_most (is_leap year) (month - 1) in
+      title_shown k (year_codes year ++ (head_codes ++ (gap ++ days))) (omega arith)
       ∙ ap (λ (ds : List ℕ). title (paper_from Figures (ds ++ (head_codes ++ (gap ++ days)))))
       (sym (year_figures year (omega arith) (omega arith)))
       ∙ ap title (number_shown year (omega arith) (head_codes ++ (gap ++ days)))

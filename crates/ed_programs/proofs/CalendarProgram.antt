@@ -1,21 +1,21 @@
 -- The program of `examples/calendar.tape` from its entry to its stop, for each month from 1901 to 2099.
 use Rattle.ed_programs.proofs.Kit.{sum, Z_F, Size, Z, along, to_stop, T, value_after, followed, are, [], ap}
-use Rattle.ed_programs.proofs.Kit.{append_assoc, arith, Bool, false, if◌then◌else◌, length, List, lit<, lit≤, map}
-use Rattle.ed_programs.proofs.Kit.{nat_lt, refl, Some, subst, suc, sym, true, ℕ, ◌%◌, ◌*◌, ◌++◌, ◌+◌, ◌-◌, ◌/◌, ◌<◌}
-use Rattle.ed_programs.proofs.Kit.{◌==◌, ◌∙◌, ◌∷◌, ◌≡◌, ◌≤◌, list_all, Moment, short, state, A, on, Path, stay, own}
-use Rattle.ed_programs.proofs.Kit.{digits, digits_law, ReachesStop, replicate, calendar_orders, day_orders}
-use Rattle.ed_programs.proofs.Kit.{days_before, is_leap, month_length, month_lengths, weekday_count, calendar_codes}
-use Rattle.ed_programs.proofs.Kit.{days_codes, head_codes, title_codes, year_codes}
-use Rattle.ed_programs.proofs.CalendarCells.{at, frame, lengths, loaded, IsAround, Work}
+use Rattle.ed_programs.proofs.Kit.{append_assoc, arith, Bool, if◌then◌else◌, length, List, lit<, map, refl, Some, subst}
+use Rattle.ed_programs.proofs.Kit.{suc, sym, ℕ, ◌%◌, ◌*◌, ◌++◌, ◌+◌, ◌-◌, ◌/◌, ◌<◌, ◌==◌, ◌∙◌, ◌∷◌, ◌≡◌, ◌≤◌, Moment}
+use Rattle.ed_programs.proofs.Kit.{short, state, A, on, Path, stay, own, digits, digits_law, ReachesStop, replicate}
+use Rattle.ed_programs.proofs.Kit.{calendar_orders, day_orders, days_before, is_leap, month_length, month_lengths}
+use Rattle.ed_programs.proofs.Kit.{weekday_count, calendar_codes, days_codes, head_codes, title_codes, year_codes, to}
+use Rattle.ed_programs.proofs.Kit.{Path-counted, stop_counted, calls_own}
+use Rattle.ed_programs.proofs.CalendarCells.{at, frame, loaded, IsAround, Work}
 use Rattle.ed_programs.proofs.CalendarCodes.{days_from, range_is}
-use Rattle.ed_programs.proofs.CalendarDays.{days_before_is, leap_is}
-use Rattle.ed_programs.proofs.CalendarMonths.{all_below, counts_months, sum_take, takes_sevens}
+use Rattle.std.proofs.lemmas.List.Sums.{sum_by-take-le}
+use Rattle.ed_programs.proofs.CalendarDays.{days_at_most, days_before_is, leap_is, year_length_is}
+use Rattle.ed_programs.proofs.CalendarMonths.{counts_months, takes_sevens}
 use Rattle.ed_programs.proofs.CalendarNames.{is_name, letter, name_taken, named}
 use Rattle.ed_programs.proofs.CalendarPage.{begins_page, HasEnded-days}
 use Rattle.ed_programs.proofs.CalendarReads.{Path-reads}
 use Rattle.ed_programs.proofs.CalendarTitle.{headed, lines_above}
 use Rattle.ed_programs.proofs.CalendarYears.{after_years, counts_years, weekday_word}
-use Rattle.ed_programs.proofs.Kit.{to, Path-counted, stop_counted, calls_own}
 
 module _ (z : Size) (m : Moment) (o : IsAround m.words) where
   -- at the entry: the month and the year are on the tape
@@ -55,16 +55,6 @@ module _ (z : Size) (m : Moment) (o : IsAround m.words) where
       (on (A 6 (own 297) (short year) refl (omega (arith, spelled_year, small_year)))
       (on (T 7 (own 294) _ refl refl) stay)))))))) (omega arith)
 
-  -- the months have fewer than a hundred days
-  all_few : (b : Bool) → list_all (λ x. nat_lt x 100) (lengths (if b then 29 else 28)) ≡ true
-  all_few true = refl
-  all_few false = refl
-
-  -- and together 366 at most
-  year_sum : (b : Bool) → sum (lengths (if b then 29 else 28)) ≤ 366
-  year_sum true = lit≤ tt
-  year_sum false = lit≤ tt
-
   module _ (month year : ℕ) (low_month : 1 ≤ month) (high_month : month ≤ 12) (low : 1901 ≤ year)
       (high : year ≤ 2099) where
     -- the years since 1901, the months before, and whether it is a leap year
@@ -91,13 +81,13 @@ module _ (z : Size) (m : Moment) (o : IsAround m.words) where
         sym (leap_is n (omega (arith, high))) ∙ ap is_leap from
 
     few_days : l < 100
-    few_days = all_below (month_lengths year) i (all_few (is_leap year))
+    few_days = let most = days_at_most (is_leap year) i in omega arith
 
     few_count : v < 60000
     few_count =
-        let some = sum_take i (month_lengths year) in
-        let all = year_sum (is_leap year) in
-        omega (arith, some, all, low, high)
+        let some = sum_by-take-le (λ x. x) (month_lengths year) i in
+        let all = year_length_is year in
+        grind (arith, some, all)
 
     -- the words after the years, after the months, and above the days
     abbrev after : ℕ → Work
@@ -129,13 +119,13 @@ module _ (z : Size) (m : Moment) (o : IsAround m.words) where
 
     -- up to the sheet
     up_to_sheet : (x : ℕ) × Path (frame z) sheet_orders (entering month year)
-        (title_codes month ++ (year_codes year ++ head_codes))
+        (title_codes i ++ (year_codes year ++ head_codes))
         (at (record m { tape = [] }) 94 0 (titled x) (Some 11))
     up_to_sheet =
         let m0 : Moment = record m { tape = [] } in
         let first = reads_both month year (omega (arith, high_month)) (omega (arith, high)) in
-        let passed = counts_years z m0 n 7 (is_leap year) (given month year) m.last is_third (omega (arith, low))
-        (omega (arith, high)) in
+        let passed =
+        counts_years z m0 (given month year) m.last (omega arith) n 7 (is_leap year) is_third (omega arith) in
         let x : ℕ = passed.0 in
         let before : month ≡ suc i = omega (arith, low_month) in
         let few : i < 12 = omega (arith, high_month) in
@@ -154,12 +144,8 @@ module _ (z : Size) (m : Moment) (o : IsAround m.words) where
         few (is_name i few) in
         let above = lines_above z m0 o i year (counted_to x) m.last few refl low (omega (arith, high)) in (
           x,
-          subst (λ a. Path (frame z) sheet_orders (entering month year) (title_codes a ++
-              (year_codes year ++ head_codes))
-              (at m0 94 0 (titled x) (Some 11))) (sym before)
-              (Path-counted (followed first (followed passed.1
-              (followed months (followed sevens (followed name above)))))
-              (omega arith)),
+          Path-counted (followed first (followed passed.1 (followed months (followed sevens (followed name above)))))
+              (omega arith),
         )
 
     -- from the entry to the stop
@@ -171,13 +157,13 @@ module _ (z : Size) (m : Moment) (o : IsAround m.words) where
         let begun = up_to_sheet in
         let k : Work = titled begun.0 in
         let sheet = begins_page z m0 o (v % 7) k (Some 11) refl (omega arith) in
-        let all = HasEnded-days z m0 o l (record k { count = 0; scrap = 0 }) 0 (v % 7) 0 l sheet.0 refl (omega arith)
-        few_days (omega arith) (lit< tt) in
+        let all = HasEnded-days z m0 o l few_days l (record k { count = 0; scrap = 0 }) 0 (v % 7) 0 sheet.0 (omega arith)
+        (omega arith) (lit< tt) in
         let same : v % 7 ≡ days_before month year = sym (days_before_is month year low high) in
         let rest : List ℕ = replicate (3 * (v % 7)) 20 ++ days_codes (v % 7) 1 l in
-        let codes : title_codes month ++ (year_codes year ++ head_codes) ++ rest ≡ calendar_codes month year =
-        append_assoc (title_codes month) (year_codes year ++ head_codes) rest
-        ∙ ap (λ x. title_codes month ++ x) (append_assoc (year_codes year) head_codes rest) in
+        let codes : title_codes i ++ (year_codes year ++ head_codes) ++ rest ≡ calendar_codes month year =
+        append_assoc (title_codes i) (year_codes year ++ head_codes) rest
+        ∙ ap (λ x. title_codes i ++ x) (append_assoc (year_codes year) head_codes rest) in
         stop_counted (subst (λ (cs : List ℕ). ReachesStop (sheet_orders + last_orders) (state (frame z)
         (entering month year) done) cs 188) codes
         (to_stop (along (followed begun.1 (followed sheet.1 all.path))) (Z 131 Z_F refl refl) done))

@@ -1,10 +1,10 @@
 -- The reading of a number in `examples/calendar.tape`.
 use Rattle.ed_programs.proofs.Kit.{Size, E_stays, I, L1F, E_jumps, L, S, T, U, any, out, LD, value_after, followed, []}
 use Rattle.ed_programs.proofs.Kit.{arith, length, List, lit<, nat_lt, Option, refl, true, ℕ, ◌*◌, ◌++◌, ◌+◌, ◌<◌, ◌∷◌}
-use Rattle.ed_programs.proofs.Kit.{◌≡◌, ◌≤◌, and_parts, ltb-true, Moment, short, A, on, Path, stay, own}
+use Rattle.ed_programs.proofs.Kit.{◌≡◌, ◌≤◌, and_parts, ltb-true, Moment, short, A, on, Path, stay, own, to}
+use Rattle.ed_programs.proofs.Kit.{Path-counted}
 use Rattle.ed_sources.proofs.Decimals.{are_digits}
 use Rattle.ed_programs.proofs.CalendarCells.{frame-ahead, at, frame, outside, IsAround, Work}
-use Rattle.ed_programs.proofs.Kit.{to, Path-counted}
 
 -- what is read only grows
 value_grows : (v : ℕ) (ds : List ℕ) → v ≤ value_after v ds

@@ -1,11 +1,11 @@
 -- The printing of signs in `examples/calendar.tape`.
 use Rattle.ed_programs.proofs.Kit.{Size, G_stays, O, Remains, E_jumps, S, T, U, prints, any, out, followed, [], arith}
-use Rattle.ed_programs.proofs.Kit.{get_or, length, List, lit<, map, Option, refl, Some, suc, ℕ, ◌*◌, ◌+◌, ◌-◌, ◌<◌}
-use Rattle.ed_programs.proofs.Kit.{◌^◌, ◌∙◌, ◌∷◌, ◌≡◌, ◌≤◌, lt-ltb, Moment, short, A, G_jumps, on, Path, stay, own}
+use Rattle.ed_programs.proofs.Kit.{get_or, length, List, lit<, map, Option, refl, Some, suc, ℕ, ◌*◌, ◌+◌, ◌-◌, ◌<◌, ◌^◌}
+use Rattle.ed_programs.proofs.Kit.{◌∙◌, ◌∷◌, ◌≡◌, ◌≤◌, lt-ltb, Moment, short, A, G_jumps, on, Path, stay, own, to}
+use Rattle.ed_programs.proofs.Kit.{Path-counted}
 use Rattle.ed_machine.proofs.Kit.Orders.{there_is}
-use Rattle.ed_programs.proofs.CalendarCells.{frame-ahead, at, cells, frame, latest, outside, sign_at, signs, Have, IsAround}
-use Rattle.ed_programs.proofs.CalendarCells.{Work}
-use Rattle.ed_programs.proofs.Kit.{to, Path-counted}
+use Rattle.ed_programs.proofs.CalendarCells.{frame-ahead, at, cells, frame, latest, outside, sign_at, signs, Have}
+use Rattle.ed_programs.proofs.CalendarCells.{IsAround, Work}
 
 -- codes in words
 abbrev pub in_words : List ℕ → List ℕ

@@ -1,8 +1,8 @@
 -- Capital letters: each spells a row of tape, and is printed as it is.
 use Rattle.ed_programs.proofs.Kit.{Letters, bytes_eq, bytes_eq-Decides, among, [], ap, arith, Bool, false}
-use Rattle.ed_programs.proofs.Kit.{if◌then◌else◌, length, nat_le, nat_lt, None, not, refl, Some, true, ℕ, ◌++◌, ◌==◌}
-use Rattle.ed_programs.proofs.Kit.{◌||◌, ◌∷◌, ◌≡◌, ◌≤◌, list_all, and_from, and_parts, leb-true, not-true, nat_tests}
-use Rattle.ed_programs.proofs.Kit.{Text, row_of, row, ◌&&◌, paper_from, is_capital}
+use Rattle.ed_programs.proofs.Kit.{if◌then◌else◌, length, List, nat_le, nat_lt, None, not, refl, Some, true, ℕ, ◌++◌}
+use Rattle.ed_programs.proofs.Kit.{◌==◌, ◌||◌, ◌∷◌, ◌≡◌, ◌≤◌, list_all, and_from, and_parts, leb-true, not-true}
+use Rattle.ed_programs.proofs.Kit.{nat_tests, Text, row_of, row, ◌&&◌, paper_from, is_capital}
 use Rattle.ed_printer.specs.Paper.{struck_bytes}
 use Rattle.ed_programs.specs.Hello.{letters_refusal}
 use Rattle.ed_programs.proofs.RowTexts.{is_row_byte, text_rows}
@@ -64,12 +64,17 @@ are_rows (b ∷ q) h =
     let p = and_parts (nat_le 65 b && nat_le b 90) (list_all (λ b. nat_le 65 b && nat_le b 90) q) h in
     and_from _ _ (letter b p.0).row_byte (are_rows q p.1)
 
--- letters are printed as they are, and a new line follows
-pub letters_shown : (q : Text) → list_all (λ b. nat_le 65 b && nat_le b 90) q ≡ true
-    → paper_from Letters (text_rows q ++ 18 ∷ 24 ∷ []) ≡ q ++ 13 ∷ 10 ∷ []
-letters_shown [] h = refl
-letters_shown (b ∷ q) h =
-    let p = and_parts (nat_le 65 b && nat_le b 90) (list_all (λ b. nat_le 65 b && nat_le b 90) q) h in
+-- letters are printed as they are
+pub capitals_shown : (q : Text) (more : List ℕ) → list_all is_capital q ≡ true
+    → paper_from Letters (text_rows q ++ more) ≡ q ++ paper_from Letters more
+capitals_shown [] more h = refl
+capitals_shown (b ∷ q) more h =
+    let p = and_parts (is_capital b) (list_all is_capital q) h in
     let l = letter b p.0 in
     let a = l.struck_is in let c = l.no_figures in let d = l.no_letters in
-    rw (c, d, a) (ap (λ (x : Text). b ∷ x) (letters_shown q p.1))
+    rw (c, d, a) (ap (λ (x : Text). b ∷ x) (capitals_shown q more p.1))
+
+-- and a new line follows
+pub letters_shown : (q : Text) → list_all (λ b. nat_le 65 b && nat_le b 90) q ≡ true
+    → paper_from Letters (text_rows q ++ 18 ∷ 24 ∷ []) ≡ q ++ 13 ∷ 10 ∷ []
+letters_shown q h = capitals_shown q (18 ∷ 24 ∷ []) h

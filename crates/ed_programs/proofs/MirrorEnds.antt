@@ -1,9 +1,8 @@
 -- The tape `examples/mirror.tape` from its first row to its stop, for any word.
-use Rattle.ed_programs.proofs.Kit.{L_D, R_F, Z_F, Size, Full, Small, Settings, AreCodes, numbers, is_met, moment_at}
-use Rattle.ed_programs.proofs.Kit.{[], arith, false, get_or, length, List, lit≤, map, None, Option, refl, reverse}
-use Rattle.ed_programs.proofs.Kit.{Some, subst, true, ℕ, ◌*◌, ◌++◌, ◌+◌, ◌∷◌, ◌≡◌, ◌≤◌, list_all, locations, Text}
-use Rattle.ed_programs.proofs.Kit.{least, State, state, opens, patched, ReachesStop, tape_state, TapeEntry, reading_on}
-use Rattle.ed_programs.proofs.Kit.{first_state}
+use Rattle.ed_programs.proofs.Kit.{Size, Full, Small, Settings, AreCodes, numbers, is_met, moment_at, [], arith, false}
+use Rattle.ed_programs.proofs.Kit.{get_or, length, List, lit≤, map, None, Option, refl, reverse, Some, subst, true, ℕ}
+use Rattle.ed_programs.proofs.Kit.{◌*◌, ◌++◌, ◌+◌, ◌-◌, ◌∷◌, ◌≡◌, ◌≤◌, list_all, locations, Text, least, State, state}
+use Rattle.ed_programs.proofs.Kit.{opens, patched, ReachesStop, tape_state, TapeEntry, reading_on, first_state}
 use Rattle.ed_programs.specs.declared.mirror.TheConstants.{MIRROR}
 use Rattle.ed_programs.proofs.MirrorProgram.{Given, Work, cells, entering, mirror_stops}
 use Rattle.ed_programs.proofs.TapeRuns.{Arrives, rows_in, holds_in}
@@ -16,14 +15,13 @@ front = get_or (map (λ piece. piece.now) MIRROR) 0 []
 abbrev pub mirror_rows : List ℕ → List ℕ
 mirror_rows rest = rows_in front ++ rest
 
+-- as they are loaded
+abbrev work : Work
+work = record { store = 20688; print = 0; count = 0; scrap = 0; row = 0 }
+
 -- the words that they place, the last one first
 abbrev placed : List (ℕ × ℕ)
-placed =
-    (96, 37074) ∷ (95, R_F) ∷ (94, 0) ∷ (93, 0) ∷ (92, 0) ∷ (91, 1) ∷ (90, Z_F) ∷ (89, Z_F) ∷ (88, 12452)
-    ∷ (87, 114880) ∷ (86, 110772) ∷ (85, 49344) ∷ (84, 0) ∷ (83, 28840) ∷ (82, 49156) ∷ (81, 114878)
-    ∷ (80, 114828) ∷ (79, 20666) ∷ (78, 12418) ∷ (77, 49334) ∷ (76, 28856) ∷ (75, 49334) ∷ (74, 114872)
-    ∷ (73, 20620) ∷ (72, 114692) ∷ (71, 114828) ∷ (70, 20688) ∷ (69, L_D) ∷ (68, 103424) ∷ (67, 114876)
-    ∷ (66, 32956) ∷ (65, 20666) ∷ (64, 32952) ∷ []
+placed = map (λ i. (96 - i, get_or (cells 64 work) (32 - i) 0)) (numbers 0 33)
 
 -- the entry that they reach
 abbrev pub mirror_entry : List ℕ → TapeEntry
@@ -41,10 +39,6 @@ pub mirror_arrives : (z : Size) (rest : List ℕ) → Arrives z (mirror_rows res
 unfolding reading_on first_state
 mirror_arrives Small rest = record { cleared = refl; started = refl }
 mirror_arrives Full rest = record { cleared = refl; started = refl }
-
--- the words of the program as they are loaded
-abbrev work : Work
-work = record { store = 20688; print = 0; count = 0; scrap = 0; row = 0 }
 
 abbrev image : List (Option ℕ)
 image = map (λ x. Some x) (cells 64 work)

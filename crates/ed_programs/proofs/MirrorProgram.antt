@@ -1,14 +1,14 @@
 -- The program of `examples/mirror.tape`, at any base and for any word: one loop that stores letters, and one that
 -- prints them.
 use Rattle.ed_programs.proofs.Kit.{get_or-set_other, get_or-set_same, length-set, length-reverse, A_F, E_F, G_F, L_D}
-use Rattle.ed_programs.proofs.Kit.{O_F, R_F, S_F, T_F, U_F, Z_F, all_spent, quiet_walks, walked, E_stays, G_stays, I}
-use Rattle.ed_programs.proofs.Kit.{O, Z, IsOutside, L512F, Remains, AreCodes, set, reverse-append, along, to_stop}
-use Rattle.ed_programs.proofs.Kit.{E_jumps, L, S, T, U, prints, early, out, LD, followed, [], ap, append-nil}
-use Rattle.ed_programs.proofs.Kit.{append_assoc, arith, get_or, inr, length, List, lit<, lit≤, Option, refl, reverse}
-use Rattle.ed_programs.proofs.Kit.{Some, subst, suc, sym, ℕ, ◌*◌, ◌++◌, ◌+◌, ◌<◌, ◌^◌, ◌∙◌, ◌∷◌, ◌≡◌, ◌≢◌, ◌≤◌, locations_most}
-use Rattle.ed_programs.proofs.Kit.{Frame, Moment, short, state, A, G_jumps, on, Path, stay, own, ReachesStop}
+use Rattle.ed_programs.proofs.Kit.{O_F, R_F, S_F, T_F, U_F, Z_F, all_spent, quiet_walks, walked, E_stays, G_stays, I, O}
+use Rattle.ed_programs.proofs.Kit.{Z, IsOutside, L512F, Remains, AreCodes, set, reverse-append, along, to_stop, E_jumps}
+use Rattle.ed_programs.proofs.Kit.{L, S, T, U, prints, early, out, LD, followed, [], ap, append-nil, append_assoc}
+use Rattle.ed_programs.proofs.Kit.{arith, get_or, inr, length, List, lit<, lit≤, Option, refl, reverse, Some, subst}
+use Rattle.ed_programs.proofs.Kit.{suc, sym, ℕ, ◌*◌, ◌++◌, ◌+◌, ◌<◌, ◌^◌, ◌∙◌, ◌∷◌, ◌≡◌, ◌≢◌, ◌≤◌, locations_most}
+use Rattle.ed_programs.proofs.Kit.{Frame, Moment, short, state, A, G_jumps, on, Path, stay, own, ReachesStop, printing}
+use Rattle.ed_programs.proofs.Kit.{stop_counted}
 use Rattle.ed_words.specs.declared.order_words.TheConstants.{I_F}
-use Rattle.ed_programs.proofs.Kit.{printing, stop_counted}
 
 -- the cells that change
 pub record Work : Type 0 where

@@ -1,14 +1,14 @@
 -- What `examples/mirror.tape` prints, for any word.
 use Rattle.ed_programs.proofs.Kit.{length-reverse, none, spacing, spells_append, has_one_reading, Letters, Settings}
 use Rattle.ed_programs.proofs.Kit.{AreCodes, reverse-append, rows, Spells, INPUT_BYTES, decimal_is, few_bytes, written}
-use Rattle.ed_programs.proofs.Kit.{[], ap, append-nil, append_assoc, arith, decimal, length, length-append, List, refl}
-use Rattle.ed_programs.proofs.Kit.{reverse, subst, sym, true, ℕ, ◌*◌, ◌++◌, ◌+◌, ◌∙◌, ◌∷◌, ◌≡◌, ◌≤◌, list_all}
-use Rattle.ed_programs.proofs.Kit.{and_parts, leb-true, length-map, Text, row_of, paper, spells, digits, reading}
-use Rattle.ed_programs.proofs.Kit.{paper_from, is_capital, mirror_text, TapeRuns}
+use Rattle.ed_programs.proofs.Kit.{[], and_from, ap, append-nil, append_assoc, arith, decimal, length, length-append}
+use Rattle.ed_programs.proofs.Kit.{List, refl, reverse, subst, sym, true, ℕ, ◌*◌, ◌++◌, ◌+◌, ◌∙◌, ◌∷◌, ◌≡◌, ◌≤◌}
+use Rattle.ed_programs.proofs.Kit.{list_all, and_parts, leb-true, length-map, Text, row_of, paper, spells, digits}
+use Rattle.ed_programs.proofs.Kit.{reading, paper_from, is_capital, mirror_text, TapeRuns}
 use Rattle.ed_notation.proofs.Texts.{are_codes}
 use Rattle.ed_syntax.specs.Reading.Grammar.{row as code_of}
 use Rattle.ed_programs.specs.Mirror.{mirror_cost, mirror_orders}
-use Rattle.ed_programs.proofs.Capitals.{AreLetters, are_rows, letter}
+use Rattle.ed_programs.proofs.Capitals.{AreLetters, are_rows, capitals_shown}
 use Rattle.ed_programs.proofs.MirrorEnds.{front, mirror_arrives, mirror_ends, mirror_entry, mirror_rows}
 use Rattle.ed_programs.proofs.RowTexts.{figure_spells, text_rows, text_spells}
 use Rattle.ed_programs.proofs.TapeRuns.{reads_spell, rows_in, tape_runs}
@@ -52,16 +52,10 @@ printed_back : (q : Text) (more : List ℕ) → list_all is_capital q ≡ true
 printed_back [] more h = refl
 printed_back (b ∷ q) more h =
     let p = and_parts (is_capital b) (list_all is_capital q) h in
-    let l = letter b p.0 in
-    let a = l.struck_is in let c = l.no_figures in let d = l.no_letters in
+    let first = capitals_shown (b ∷ []) more (and_from _ _ p.0 refl) in
     let code : ℕ = code_of (row_of b) in
-    let first : paper_from Letters (code ∷ more) ≡ b ∷ paper_from Letters more = rw (c, d, a) refl in
-    ap (λ (x : List ℕ). paper_from Letters (x ++ more)) (reverse-append (code ∷ []) (text_rows q))
-    ∙ ap (paper_from Letters) (append_assoc (reverse (text_rows q)) (code ∷ []) more)
-    ∙ printed_back q (code ∷ more) p.1
-    ∙ ap (λ (t : Text). reverse q ++ t) first
-    ∙ sym (append_assoc (reverse q) (b ∷ []) (paper_from Letters more))
-    ∙ ap (λ (t : Text). t ++ paper_from Letters more) (sym (reverse-append (b ∷ []) q))
+    rw (reverse-append (code ∷ []) (text_rows q), append_assoc (reverse (text_rows q)) (code ∷ []) more,
+    printed_back q (code ∷ more) p.1, first, reverse-append (b ∷ []) q, append_assoc (reverse q) (b ∷ []))
 
 pub each_word : (s : Settings) (letters : Text) → AreLetters 9 letters
     → TapeRuns s (mirror_text letters) mirror_cost (mirror_orders letters) 91 (reverse letters)
