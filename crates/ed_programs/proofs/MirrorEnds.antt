@@ -1,11 +1,10 @@
 -- The tape `examples/mirror.tape` from its first row to its stop, for any word.
-use Rattle.ed_programs.proofs.Kit.{Size, Full, Small, Settings, AreCodes, numbers, is_met, moment_at, [], arith, false}
-use Rattle.ed_programs.proofs.Kit.{get_or, length, List, lit≤, map, None, Option, refl, reverse, Some, subst, true, ℕ}
-use Rattle.ed_programs.proofs.Kit.{◌*◌, ◌++◌, ◌+◌, ◌-◌, ◌∷◌, ◌≡◌, ◌≤◌, list_all, locations, Text, least, State, state}
-use Rattle.ed_programs.proofs.Kit.{opens, patched, ReachesStop, tape_state, TapeEntry, reading_on, first_state}
+use Rattle.ed_programs.proofs.Kit.{Size, Full, Small, Settings, AreCodes, numbers, moment_at, [], false, get_or, length}
+use Rattle.ed_programs.proofs.Kit.{List, map, refl, reverse, subst, ℕ, ◌*◌, ◌++◌, ◌+◌, ◌-◌, ◌∷◌, ◌≡◌, ◌≤◌, Text, State}
+use Rattle.ed_programs.proofs.Kit.{Moment, state, patched, ReachesStop, tape_state, TapeEntry, reading_on, first_state}
 use Rattle.ed_programs.specs.declared.mirror.TheConstants.{MIRROR}
-use Rattle.ed_programs.proofs.MirrorProgram.{Given, Work, cells, entering, mirror_stops}
-use Rattle.ed_programs.proofs.TapeRuns.{Arrives, rows_in, holds_in}
+use Rattle.ed_programs.proofs.MirrorProgram.{cells, entering, f, mirror_stops, storing}
+use Rattle.ed_programs.proofs.TapeRuns.{Arrives, rows_in}
 
 -- the text up to the entry
 abbrev pub front : Text
@@ -15,13 +14,13 @@ front = get_or (map (λ piece. piece.now) MIRROR) 0 []
 abbrev pub mirror_rows : List ℕ → List ℕ
 mirror_rows rest = rows_in front ++ rest
 
--- as they are loaded
-abbrev work : Work
-work = record { store = 20688; print = 0; count = 0; scrap = 0; row = 0 }
+-- the words of the program as they are loaded
+abbrev loaded : List ℕ
+loaded = cells (record { store = storing 0; print = 0; count = 0; scrap = 0; row = 0 })
 
 -- the words that they place, the last one first
 abbrev placed : List (ℕ × ℕ)
-placed = map (λ i. (96 - i, get_or (cells 64 work) (32 - i) 0)) (numbers 0 33)
+placed = map (λ i. (96 - i, get_or loaded (32 - i) 0)) (numbers 0 33)
 
 -- the entry that they reach
 abbrev pub mirror_entry : List ℕ → TapeEntry
@@ -40,9 +39,6 @@ unfolding reading_on first_state
 mirror_arrives Small rest = record { cleared = refl; started = refl }
 mirror_arrives Full rest = record { cleared = refl; started = refl }
 
-abbrev image : List (Option ℕ)
-image = map (λ x. Some x) (cells 64 work)
-
 module _ (t : Settings) (c : ℕ) (cs : List ℕ) where
   abbrev rest : List ℕ
   rest = length (c ∷ cs) ∷ (c ∷ cs)
@@ -54,32 +50,18 @@ module _ (t : Settings) (c : ℕ) (cs : List ℕ) where
   unfolding first_state
   long = refl
 
-  test : list_all (λ i. is_met (get_or image i None) (get_or s.store.words (64 + i) 0)) (numbers 0 33) ≡ true
-  unfolding first_state
-  test = refl
-
   at2 : get_or s.store.words 2 0 ≡ 2
   unfolding first_state
   at2 = refl
 
-  same : patched 0 s.store.words 64 (cells 64 work) ≡ s.store.words
-  same = opens image s.store.words 64 (omega (arith, long)) (holds_in s.store.words image 64 test)
+  same : patched 0 s.store.words 64 loaded ≡ s.store.words
+  unfolding first_state patched
+  same = refl
 
-  abbrev given : Given
-  given = record {
-    f = record {
-      size = t.size;
-      base = 64;
-      top = locations t.size;
-      under = let size = least t.size in omega arith;
-      fits = omega arith;
-    };
-    above = lit≤ tt;
-    room = let size = least t.size in omega arith;
-    around = record (moment_at s) { last = s.last };
-  }
+  abbrev around : Moment
+  around = record (moment_at s) { last = s.last }
 
-  begins : state given.f (entering given (length (c ∷ cs)) (c ∷ cs)) s.orders ≡ s
+  begins : state (f t.size around) (entering t.size around (c ∷ cs)) s.orders ≡ s
   unfolding first_state
   begins = λ i. record s { store = record { words = same i; sandwich = s.store.sandwich } }
 
@@ -88,4 +70,4 @@ module _ (t : Settings) (c : ℕ) (cs : List ℕ) where
       → ReachesStop (21 * length (c ∷ cs) + 2) s (reverse (c ∷ cs)) 91
   mirror_ends are few =
       subst (λ (x : State). ReachesStop (21 * length (c ∷ cs) + 2) x (reverse (c ∷ cs)) 91) begins
-      (mirror_stops given c cs are few long at2 s.orders)
+      (mirror_stops t.size around c cs are few long at2 s.orders)

@@ -1,16 +1,14 @@
 -- The outcome of a tape whose program reaches its stop, as the answer of the command `tape`.
-use Rattle.ed_programs.proofs.Kit.{String, Global, Size, has_one_reading, Settings, ReachesEntry, comes_in, Err}
-use Rattle.ed_programs.proofs.Kit.{Result, rows, Spells, INPUT_BYTES, exactly, OfReading, among, numbers, is_met, []}
-use Rattle.ed_programs.proofs.Kit.{ap, arith, codes, get_or, inl, length, List, None, Ok, Option, refl, subst, sym}
-use Rattle.ed_programs.proofs.Kit.{true, ℕ, ◌++◌, ◌+◌, ◌-◌, ◌∙◌, ◌∷◌, ◌≡◌, ◌≤◌, list_all, Text, paper, step, State}
-use Rattle.ed_programs.proofs.Kit.{Holds, run_end, ReachesStop, at_after, ran_outcome-answered, nothing_after, ran_to_stop}
-use Rattle.ed_programs.proofs.Kit.{tape_state, reading, TapeEntry, opening, reading_on, first_state, LeadsIn}
-use Rattle.ed_programs.proofs.Kit.{first_store, starts, Outcome, paper_room, ran_outcome, with_post_mortem}
+use Rattle.ed_programs.proofs.Kit.{String, Global, Size, has_one_reading, Settings, ReachesEntry, comes_in, Err, Result}
+use Rattle.ed_programs.proofs.Kit.{rows, Spells, INPUT_BYTES, exactly, OfReading, [], ap, arith, codes, inl, length}
+use Rattle.ed_programs.proofs.Kit.{List, None, Ok, refl, subst, sym, ℕ, ◌++◌, ◌+◌, ◌-◌, ◌∙◌, ◌∷◌, ◌≡◌, ◌≤◌, Text, paper}
+use Rattle.ed_programs.proofs.Kit.{step, State, run_end, ReachesStop, at_after, ran_outcome-answered, nothing_after}
+use Rattle.ed_programs.proofs.Kit.{ran_to_stop, tape_state, reading, TapeEntry, opening, reading_on, first_state}
+use Rattle.ed_programs.proofs.Kit.{LeadsIn, first_store, starts, Outcome, paper_room, ran_outcome, with_post_mortem}
 use Rattle.ed_programs.proofs.Kit.{tape_outcome, GivesProgram, TapeRuns, Refusal}
 use Rattle.ed_laws.proofs.Kit.{cleared_cells, RunEnd, ran_later, Arrived, first_directive, reading_is_rules, run_of}
 use Rattle.ed_laws.proofs.Kit.{opening_notation}
 use Rattle.ed_codes.specs.Reading.{IsReadingOf, no_row, open_comment}
-use Rattle.ed_sources.proofs.Entries.{meets_of}
 use Rattle.ed_programs.specs.Tapes.{TapePrints}
 
 -- a text whose reading is rows spells them
@@ -20,15 +18,6 @@ reads_spell text codes is = subst (IsReadingOf text) is (has_one_reading.every t
 -- the rows of a text, none if it has a fault
 abbrev pub rows_in : Text → List ℕ
 rows_in text = elim (reading text) [ rows codes ↦ codes | no_row place byte ↦ [] | open_comment place ↦ [] ]
-
--- an image is in words, by one test
-pub holds_in : (words : List ℕ) (image : List (Option ℕ)) (base : ℕ)
-    → list_all (λ i. is_met (get_or image i None) (get_or words (base + i) 0)) (numbers 0 (length image)) ≡ true
-    → Holds image words base
-holds_in words image base test i l =
-    meets_of (get_or image i None) (get_or words (base + i) 0)
-    (among (λ i. is_met (get_or image i None) (get_or words (base + i) 0)) 0 (length image) i test (omega arith)
-    (omega arith))
 
 -- rows are read to an entry from a cleared store, and from the store after Start, where the reading of the Initial
 -- Orders begins; both are computed
