@@ -61,10 +61,8 @@ module _ (z : Size) (m : Moment) (o : IsAround m.words) where
   -- ---- the days, l of them
 
   -- n orders lead from a moment to the stop
-  pub record HasEnded (n : ℕ) (t : Moment) (cs : List ℕ) : Type 0 where
-    pub work : Work
-    pub last : Option ℕ
-    pub path : Path (frame z) n t cs (at m 131 0 work last)
+  abbrev pub HasEnded : ℕ → Moment → List ℕ → Type 0
+  HasEnded n t cs = (work : Work) × (last : Option ℕ) × Path (frame z) n t cs (at m 131 0 work last)
 
   module _ (l : ℕ) (few : l < 100) where
     -- before day suc d, with b days of its week before it
@@ -125,11 +123,10 @@ module _ (z : Size) (m : Moment) (o : IsAround m.words) where
         → HasEnded (sum (map day_orders (days_from (suc d) n)) + 5 * ((b + n) / 7) + 8)
         (at m 110 v (before_day d b k) last) (days_codes b (suc d) n)
     HasEnded-days zero k d b v last ends week small =
-        let none : sum (map day_orders (days_from (suc d) 0)) ≡ 0 = refl in
-        record {
-          work = record (before_day (suc d) b k) { scrap = v; number = suc d };
-          last = last;
-          path = Path-counted
+        let none : sum (map day_orders (days_from (suc d) 0)) ≡ 0 = refl in (
+          record (before_day (suc d) b k) { scrap = v; number = suc d },
+          last,
+          Path-counted
               (on (T 110 (own 300) _ refl refl)
               (on (A 111 (own 322) (short d) refl (omega arith))
               (on (A 112 (own 299) (short (suc d)) refl (omega arith))
@@ -137,8 +134,8 @@ module _ (z : Size) (m : Moment) (o : IsAround m.words) where
               (on (U 114 (own 297) _ refl refl)
               (on (S 115 (own 307) (short 1) refl (omega arith))
               (on (S 116 (own 299) (short 0) refl (omega arith))
-              (on (E_jumps 117 (own 131) refl (lit< tt)) stay)))))))) (omega arith);
-        }
+              (on (E_jumps 117 (own 131) refl (lit< tt)) stay)))))))) (omega arith),
+        )
     HasEnded-days (suc n) k d b v last ends week small =
         let whole = sum_by-cons (λ x. x) (day_orders (suc d)) (map day_orders (days_from (suc (suc d)) n)) in
         let some = enough (suc d) in
@@ -149,19 +146,19 @@ module _ (z : Size) (m : Moment) (o : IsAround m.words) where
               let test : (b == 6) ≡ false = grind (arith, nat_tests) in
               let rest = HasEnded-days n after (suc d) (suc b) (131072 - (7 - suc b)) unit (omega arith) (omega arith)
               (omega arith) in
-              rw test record {
-                work = rest.work;
-                last = rest.last;
-                path = Path-counted (followed (shows_day k d b v last (omega arith) small)
-                    (followed (goes_on after (suc d) b unit low) rest.path)) (omega arith);
-              }
+              rw test (
+                rest.0,
+                rest.1,
+                Path-counted (followed (shows_day k d b v last (omega arith) small)
+                    (followed (goes_on after (suc d) b unit low) rest.2)) (omega arith),
+              )
           | inr high ↦
               let sixth : b ≡ 6 = omega arith in
               let rest = HasEnded-days n after (suc d) 0 0 (Some 24) (omega arith) (lit< tt) (lit< tt) in
-              rw sixth record {
-                work = rest.work;
-                last = rest.last;
-                path = Path-counted (followed (shows_day k d 6 v last (omega arith) small)
-                    (followed (ends_week after (suc d) unit) rest.path)) (omega arith);
-              }
+              rw sixth (
+                rest.0,
+                rest.1,
+                Path-counted (followed (shows_day k d 6 v last (omega arith) small)
+                    (followed (ends_week after (suc d) unit) rest.2)) (omega arith),
+              )
         ]

@@ -166,5 +166,5 @@ module _ (z : Size) (m : Moment) (o : IsAround m.words) where
         ∙ ap (λ x. title_codes i ++ x) (append_assoc (year_codes year) head_codes rest) in
         stop_counted (subst (λ (cs : List ℕ). ReachesStop (sheet_orders + last_orders) (state (frame z)
         (entering month year) done) cs 188) codes
-        (to_stop (along (followed begun.1 (followed sheet.1 all.path))) (Z 131 Z_F refl refl) done))
+        (to_stop (along (followed begun.1 (followed sheet.1 all.2))) (Z 131 Z_F refl refl) done))
         (let listed = ap (λ (ds : List ℕ). sum (map day_orders ds)) (range_is 1 l) in omega (arith, same, listed))

@@ -115,8 +115,8 @@ module _ (z : Size) (m : Moment) where
       (on (U 12 (own 28) _ refl refl)
       (decides after (suc n) v c cs (omega arith)))))))))))))
 
-  -- these letters are stored, from the moment before the first of some
-  record Taken (whole : List ℕ) (orders : ℕ) (start : Moment) : Type 0 where
+  -- these letters are stored
+  record Taken (whole : List ℕ) : Type 0 where
     words : List ℕ
     number : ℕ
     scrap : ℕ
@@ -125,22 +125,15 @@ module _ (z : Size) (m : Moment) where
     at2 : get_or words 2 0 ≡ 2
     stored : Stored words whole
     small : number < 131072
-    path : Path f orders start [] (before words (length whole) number scrap row [])
 
   takes : (cs taken whole ws : List ℕ) (v s r : ℕ) → reverse cs ++ taken ≡ whole → length ws ≡ 1024
       → get_or ws 2 0 ≡ 2 → Stored ws taken → AreCodes cs → length taken + length cs ≤ 10 → v < 131072
-      → Taken whole (14 * length cs) (before ws (length taken) v s r cs)
-  takes [] taken whole ws v s r is all at2 stored codes few small = rw (sym is) record {
-    words = ws;
-    number = v;
-    scrap = s;
-    row = r;
-    all = all;
-    at2 = at2;
-    stored = stored;
-    small = small;
-    path = stay;
-  }
+      → (x : Taken whole) × Path f (14 * length cs) (before ws (length taken) v s r cs) []
+      (before x.words (length whole) x.number x.scrap x.row [])
+  takes [] taken whole ws v s r is all at2 stored codes few small = rw (sym is) (
+    record { words = ws; number = v; scrap = s; row = r; all = all; at2 = at2; stored = stored; small = small },
+    stay,
+  )
   takes (c ∷ cs) taken whole ws v s r is all at2 stored codes few small =
       let rest = takes cs (c ∷ taken) whole (set ws (104 + length taken) (4096 * c)) (counted cs) v c
       (rw (reverse-append (c ∷ []) cs, append_assoc (reverse cs) (c ∷ []) taken) at is)
@@ -150,19 +143,11 @@ module _ (z : Size) (m : Moment) where
         get_or-set_same ws (104 + length taken) (4096 * c) 0 (omega arith),
         codes.0,
         stored_set ws (104 + length taken) (4096 * c) taken (omega arith) stored,
-      ) codes.1 (omega arith) (below cs (omega arith)) in
-      record {
-        words = rest.words;
-        number = rest.number;
-        scrap = rest.scrap;
-        row = rest.row;
-        all = rest.all;
-        at2 = rest.at2;
-        stored = rest.stored;
-        small = rest.small;
-        path = Path-counted (followed (turn ws (length taken) v s r c cs all at2 codes.0 (omega arith) small) rest.path)
-            (omega arith);
-      }
+      ) codes.1 (omega arith) (below cs (omega arith)) in (
+        rest.0,
+        Path-counted (followed (turn ws (length taken) v s r c cs all at2 codes.0 (omega arith) small) rest.1)
+            (omega arith),
+      )
     where
       below : (cs : List ℕ) → length cs ≤ 10 → counted cs < 131072
       below [] few = lit< tt
@@ -217,13 +202,14 @@ module _ (z : Size) (m : Moment) where
   mirror_stops c cs codes few all at2 done =
       let whole : List ℕ = reverse (c ∷ cs) in
       let long = length-reverse (c ∷ cs) in
-      let x = takes (c ∷ cs) [] whole m.words 0 0 0 (append-nil whole) all at2 tt codes (omega arith) (lit< tt) in
+      let letters = takes (c ∷ cs) [] whole m.words 0 0 0 (append-nil whole) all at2 tt codes (omega arith) (lit< tt) in
+      let x : Taken whole = letters.0 in
       let small = x.small in
       let k : Work = record (work (length whole) 0 x.number x.row) { scrap = x.number } in
       let rest = printed x.words x.all x.at2 k whole 0 m.last x.stored (omega arith) (omega arith) in
       stop_counted (to_stop (along
       (on (I 0 (own 28) (suc (length cs)) refl refl refl)
-      (followed x.path
+      (followed letters.1
       (on (T 15 (own 29) _ refl refl)
       (on (A 16 (own 6) (short (storing (length whole))) refl (omega arith))
       (on (A 17 (own 31) (short (printing (104 + length whole))) refl (omega arith)) rest.1))))))
