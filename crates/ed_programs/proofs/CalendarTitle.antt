@@ -1,6 +1,6 @@
 -- The lines above the days in `examples/calendar.tape`.
-use Rattle.ed_programs.proofs.Kit.{Size, T, followed, [], arith, lit<, lit≤, Option, refl, Some, ℕ, ◌%◌, ◌*◌, ◌++◌, ◌+◌}
-use Rattle.ed_programs.proofs.Kit.{◌-◌, ◌/◌, ◌<◌, ◌∷◌, ◌≡◌, ◌≤◌, Moment, short, A, on, Path, stay, own, head_codes}
+use Rattle.ed_programs.proofs.Kit.{Size, T, followed, [], arith, lit<, lit≤, Option, refl, Some, ℕ, ◌%◌, ◌*◌, ◌+◌, ◌-◌}
+use Rattle.ed_programs.proofs.Kit.{◌/◌, ◌<◌, ◌∷◌, ◌≡◌, ◌≤◌, Moment, short, A, on, Path, stay, own, head_codes}
 use Rattle.ed_programs.proofs.Kit.{title_codes, year_codes, to, Path-counted, calls_own}
 use Rattle.ed_programs.proofs.CalendarCells.{at, frame, have_part, signs, IsAround, Work}
 use Rattle.ed_programs.proofs.CalendarFigures.{left_by, prints_four}
@@ -37,10 +37,10 @@ headed i y k = record (untitled i k) {
 
 module _ (z : Size) (m : Moment) (o : IsAround m.words) where
   -- the title up to the year
-  title : (i : ℕ) (k : Work) (last : Option ℕ) → i < 12
+  pub prints_title : (i : ℕ) (k : Work) (last : Option ℕ) → i < 12
       → Path (frame z) 90 (at m 84 0 (untitled i k) last) (title_codes i)
       (at m 86 0 (record (untitled i k) { sign = to 9 168; scrap = 0; sign_link = to 3 86 }) (Some 11))
-  title i k last few =
+  prints_title i k last few =
       let name = (is_name i few).name_is in
       let a : ℕ = letter i 0 in
       let b : ℕ = letter i 1 in
@@ -51,11 +51,11 @@ module _ (z : Size) (m : Moment) (o : IsAround m.words) where
       (lit< tt) (have_part 0 12 (signs (4096 * a) (4096 * b) (4096 * c))) refl (lit≤ tt)))
 
   -- the year, in four figures; the heads are the next signs
-  year : (y : ℕ) (k : Work) (last : Option ℕ) → k.year ≡ y → 1901 ≤ y → y < 2200
+  pub prints_year : (y : ℕ) (k : Work) (last : Option ℕ) → k.year ≡ y → 1901 ≤ y → y < 2200
       → Path (frame z) (81 + 8 * (y / 1000 + y / 100 % 10 + y / 10 % 10))
       (at m 86 0 (record k { first_power = to 12 314 }) last) (year_codes y)
       (at m 92 0 (record (left_by 88 (y % 10) k) { first_power = to 12 314; end = to 9 195 }) (Some (y % 10)))
-  year y k last is low high =
+  prints_year y k last is low high =
       Path-counted
       (on (A 86 (own 294) (short y) refl (omega (arith, is, high)))
       (on (T 87 (own 297) _ refl refl)
@@ -65,22 +65,12 @@ module _ (z : Size) (m : Moment) (o : IsAround m.words) where
       (on (T 91 (own 319) _ refl refl) stay)))))) (omega arith)
 
   -- the heads of the columns
-  heads : (k : Work) (last : Option ℕ)
+  pub prints_heads : (k : Work) (last : Option ℕ)
       → Path (frame z) 195 (at m 92 0 (record k { sign = to 9 168; end = to 9 195 }) last) head_codes
       (at m 94 0 (record k { sign = to 9 195; end = to 9 195; scrap = 0; sign_link = to 3 94 }) (Some 11))
-  heads k last =
+  prints_heads k last =
       calls_own 92 144 refl refl refl (lit< tt)
       (prints_signs z m o 92 18 (24 ∷ 15 ∷ 20 ∷ 12 ∷ 7 ∷ 20 ∷ 23 ∷ 9 ∷ 20 ∷ 5 ∷ 7 ∷ 20 ∷ 2 ∷ 3 ∷ 20 ∷ 5 ∷ 21 ∷ 20 ∷
       17 ∷ 4 ∷ 20
       ∷ 12 ∷ 28 ∷ 18 ∷ 24 ∷ 11 ∷ []) k 12 39 last (lit< tt) (have_part 12 27 (signs k.one k.two k.three)) refl
       (lit≤ tt))
-
-  -- both lines
-  pub lines_above : (i y : ℕ) (k : Work) (last : Option ℕ) → i < 12 → k.year ≡ y → 1901 ≤ y → y < 2200
-      → Path (frame z) (366 + 8 * (y / 1000 + y / 100 % 10 + y / 10 % 10)) (at m 84 0 (untitled i k) last)
-      (title_codes i ++ (year_codes y ++ head_codes)) (at m 94 0 (headed i y k) (Some 11))
-  lines_above i y k last few is low high =
-      Path-counted (followed (title i k last few)
-      (followed (year y (record (untitled i k) { sign = to 9 168; scrap = 0; sign_link = to 3 86 })
-      (Some 11) is low high)
-      (heads (record (left_by 88 (y % 10) (untitled i k)) { sign_link = to 3 86 }) (Some (y % 10))))) (omega arith)

@@ -1,11 +1,10 @@
 -- Texts whose bytes spell rows of tape.
-use Rattle.ed_programs.proofs.Kit.{none, Spells, are, decimal_is, row_bytes, rows_are, written, [], ap, arith, Bool}
-use Rattle.ed_programs.proofs.Kit.{decimal, false, get_or, if◌then◌else◌, length, List, map, nat_le, nat_lt, None}
-use Rattle.ed_programs.proofs.Kit.{Option, refl, Some, subst, suc, sym, true, ℕ, ◌%◌, ◌++◌, ◌-◌, ◌/◌, ◌<◌, ◌==◌, ◌∙◌}
+use Rattle.ed_programs.proofs.Kit.{among, ◌+◌, arith, none, Spells, are, decimal_is, row_bytes, rows_are, written, []}
+use Rattle.ed_programs.proofs.Kit.{ap, Bool, decimal, false, get_or, if◌then◌else◌, length, List, map, nat_le, nat_lt}
+use Rattle.ed_programs.proofs.Kit.{None, Option, refl, Some, subst, suc, true, ℕ, ◌%◌, ◌++◌, ◌-◌, ◌/◌, ◌<◌, ◌==◌, ◌∙◌}
 use Rattle.ed_programs.proofs.Kit.{◌∷◌, ◌≡◌, ◌≤◌, list_all, and_from, and_parts, eqb-true, leb-true, lt-ltb, ltb-true}
-use Rattle.ed_programs.proofs.Kit.{Text, row_of, row, spells, digits, without_zeros, true≢false, ◌&&◌}
+use Rattle.ed_programs.proofs.Kit.{Text, row_of, row, spells, digits, without_zeros, ◌&&◌}
 use Rattle.std.proofs.Common.{position}
-use Rattle.std.proofs.lemmas.List.Folds.{list_all_at}
 use Rattle.std.proofs.lemmas.List.Quantifiers.{position-Some}
 use Rattle.ed_codes.specs.Spelling.{letters}
 use Rattle.ed_codes.specs.Text.{row as one_row}
@@ -32,12 +31,9 @@ is_row_byte b = nat_lt b 128 && spells (row_of b)
 
 -- a letter of the tape is below 128
 letter_below : (i : ℕ) → i < length letters → get_or letters i 0 < 128
-letter_below i l = by_test (nat_lt (get_or letters i 0) 128) refl
-  where
-    by_test : (t : Bool) → nat_lt (get_or letters i 0) 128 ≡ t → get_or letters i 0 < 128
-    by_test true e = ltb-true (get_or letters i 0) 128 e
-    by_test false e =
-        absurd (true≢false (sym refl ∙ list_all_at (λ letter. nat_lt letter 128) letters i 0 l e))
+letter_below i l =
+    ltb-true (get_or letters i 0) 128 (among (λ i. nat_lt (get_or letters i 0) 128) 0 (length letters) i refl (omega arith)
+    (omega arith))
 
 -- a byte that spells a row is below 128
 row_below : (b r : ℕ) → row_of b ≡ Some r → b < 128
