@@ -1,9 +1,9 @@
 -- The codes that the program of `examples/calendar.tape` prints are the calendar on paper.
-use Rattle.ed_programs.proofs.Kit.{Figures, Letters, ltb-false, among, is_capital, list_all, name_codes, [], ap}
-use Rattle.ed_programs.proofs.Kit.{append-nil, append_assoc, arith, Bool, codes, decimal, false, get_or, if◌then◌else◌}
-use Rattle.ed_programs.proofs.Kit.{List, lit<, nat_lt, refl, rules, suc, sym, true, zero, ℕ, ◌%◌, ◌*◌, ◌++◌, ◌+◌, ◌-◌}
-use Rattle.ed_programs.proofs.Kit.{◌/◌, ◌<◌, ◌==◌, ◌∙◌, ◌∷◌, ◌≡◌, ◌≤◌, eqb-true, ltb-true, nat_tests, Text, paper}
-use Rattle.ed_programs.proofs.Kit.{digits, without_zeros, number_shown, replicate, paper_from, calendar_prints}
+use Rattle.ed_programs.proofs.Kit.{bytes_eq, bytes_eq-Decides, Figures, Letters, ltb-false, among, is_capital, list_all}
+use Rattle.ed_programs.proofs.Kit.{name_codes, [], ap, append-nil, append_assoc, arith, Bool, codes, decimal, false}
+use Rattle.ed_programs.proofs.Kit.{get_or, if◌then◌else◌, List, lit<, nat_lt, refl, rules, suc, sym, true, zero, ℕ, ◌%◌}
+use Rattle.ed_programs.proofs.Kit.{◌*◌, ◌++◌, ◌+◌, ◌-◌, ◌/◌, ◌<◌, ◌==◌, ◌∙◌, ◌∷◌, ◌≡◌, ◌≤◌, eqb-true, ltb-true}
+use Rattle.ed_programs.proofs.Kit.{nat_tests, Text, paper, digits, number_shown, replicate, paper_from, calendar_prints}
 use Rattle.ed_programs.proofs.Kit.{days_before, is_leap, month_length, weekday, calendar_codes, day_codes, days_codes}
 use Rattle.ed_programs.proofs.Kit.{head_codes, place, title_codes, year_codes}
 use Rattle.std.proofs.Common.{flat_map}
@@ -12,7 +12,7 @@ use Rattle.ed_programs.specs.Calendar.{calendar_days, day_text, new_line, month_
 use Rattle.ed_programs.proofs.CalendarCodes.{days_from, range_is}
 use Rattle.ed_programs.proofs.Capitals.{capitals_shown}
 use Rattle.ed_programs.proofs.CalendarDays.{days_at_most, days_before_is, weekday_is}
-use Rattle.ed_programs.proofs.RowTexts.{no_thousands, one_figure}
+use Rattle.ed_programs.proofs.RowTexts.{one_figure}
 
 -- ---- the title
 
@@ -26,22 +26,15 @@ title_shown k rest l =
 
 -- ---- figures
 
-with_first : (a b : ℕ) (cs : List ℕ) → a ≡ 0 → 1 ≤ b → without_zeros (a ∷ b ∷ cs) ≡ b ∷ cs
-with_first a zero cs p l = absurd (omega arith)
-with_first a (suc b) cs p l = rw p refl
-
-with_tens : (t u : ℕ) → 1 ≤ t → without_zeros (t ∷ []) ++ u ∷ [] ≡ t ∷ u ∷ []
-with_tens zero u l = absurd (omega arith)
-with_tens (suc t) u l = refl
-
 two_figures : (d : ℕ) → 10 ≤ d → d < 100 → digits d ≡ d / 10 ∷ d % 10 ∷ []
-two_figures d low high = search (rules, no_thousands, with_tens)
+two_figures d low high =
+    (bytes_eq-Decides (digits d) (d / 10 ∷ d % 10 ∷ [])).0
+    (among (λ d. bytes_eq (digits d) (d / 10 ∷ d % 10 ∷ [])) 10 90 d refl low (omega arith))
 
-year_figures : (year : ℕ) → 1000 ≤ year → year < 10000 → digits year ≡ year_codes year
+year_figures : (year : ℕ) → 1901 ≤ year → year ≤ 2099 → digits year ≡ year_codes year
 year_figures year low high =
-    ap (λ (ds : List ℕ). ds ++ year % 10 ∷ []) (with_first (year / 10000) (year / 1000 % 10)
-    (year / 100 % 10 ∷ year / 10 % 10 ∷ []) (omega arith) (omega arith))
-    ∙ ap (λ (t : ℕ). t ∷ year / 100 % 10 ∷ year / 10 % 10 ∷ year % 10 ∷ []) {y = year / 1000} (omega arith)
+    (bytes_eq-Decides (digits year) (year_codes year)).0
+    (among (λ year. bytes_eq (digits year) (year_codes year)) 1901 199 year refl low (omega arith))
 
 -- ---- the days
 
@@ -132,7 +125,7 @@ module _ (month year : ℕ) (low : 1901 ≤ year) (high : year ≤ 2099) where
       let days_few = days_at_most (is_leap year) (month - 1) in
       title_shown k (year_codes year ++ (head_codes ++ (gap ++ days))) (omega arith)
       ∙ ap (λ (ds : List ℕ). title (paper_from Figures (ds ++ (head_codes ++ (gap ++ days)))))
-      (sym (year_figures year (omega arith) (omega arith)))
+      (sym (year_figures year low high))
       ∙ ap title (number_shown year (omega arith) (head_codes ++ (gap ++ days)))
       ∙ ap (λ (t : Text). title (decimal year ++ (new_line ++ (calendar_heads ++ t))))
       (spaces_shown (3 * place month year) days)

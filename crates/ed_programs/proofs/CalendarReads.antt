@@ -66,6 +66,7 @@ module _ (z : Size) (m : Moment) (o : IsAround m.words) where
       (on (A 274 (out 3 (outside z o 3 (lit< tt))) (short (to 3 (i + 2))) refl (omega arith))
       (on (T 275 (own 291) _ refl refl)
       (on (T 276 (own 297) 0 refl refl)
-      (followed (figures (digits n) rest (record k { read_link = to 3 (i + 2) }) 0 n last (are n (omega arith)) is small)
+      (followed (figures (digits n) rest (record k { read_link = to 3 (i + 2) }) 0 n last (are n (omega arith)) is
+      small)
       (on (E_jumps 291 (any (56 + (i + 2)) (frame-ahead z (i + 2) (omega arith))) refl (lit< tt)) stay)))))
       (omega arith)

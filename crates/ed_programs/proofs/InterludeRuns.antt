@@ -4,7 +4,7 @@ use Rattle.ed_programs.proofs.Kit.{String, Global, Size, spells_append, has_one_
 use Rattle.ed_programs.proofs.Kit.{digits_of, plain, ReachesEntry, Err, Result, rows, Spells, canonical, canonicals}
 use Rattle.ed_programs.proofs.Kit.{INPUT_BYTES, ReachesNextEntry, decimal_is, few_bytes, [], ap, append-nil}
 use Rattle.ed_programs.proofs.Kit.{append_assoc, arith, codes, decimal, get_or, length, length-append, List, lit≤, map}
-use Rattle.ed_programs.proofs.Kit.{None, Ok, refl, rules, subst, sym, ℕ, ◌*◌, ◌++◌, ◌+◌, ◌-◌, ◌<◌, ◌∙◌, ◌∷◌, ◌≡◌, ◌≤◌}
+use Rattle.ed_programs.proofs.Kit.{None, Ok, refl, rules, subst, sym, ℕ, ◌*◌, ◌++◌, ◌+◌, ◌<◌, ◌∙◌, ◌∷◌, ◌≡◌, ◌≤◌}
 use Rattle.ed_programs.proofs.Kit.{leb-true, length-map, locations, Text, least, State, reading, RowsReachEntry}
 use Rattle.ed_programs.proofs.Kit.{TapeEntry, WellFormed, NotationState, rows_of, first_state, GivesProgram, Refusal}
 use Rattle.ed_programs.proofs.Kit.{among, bytes_eq, bytes_eq-Decides, digits}

@@ -1,9 +1,9 @@
 -- Texts whose bytes spell rows of tape.
-use Rattle.ed_programs.proofs.Kit.{among, ◌+◌, arith, none, Spells, are, decimal_is, row_bytes, rows_are, written, []}
-use Rattle.ed_programs.proofs.Kit.{ap, Bool, decimal, false, get_or, if◌then◌else◌, length, List, map, nat_le, nat_lt}
-use Rattle.ed_programs.proofs.Kit.{None, Option, refl, Some, subst, suc, true, ℕ, ◌%◌, ◌++◌, ◌-◌, ◌/◌, ◌<◌, ◌==◌, ◌∙◌}
-use Rattle.ed_programs.proofs.Kit.{◌∷◌, ◌≡◌, ◌≤◌, list_all, and_from, and_parts, eqb-true, leb-true, lt-ltb, ltb-true}
-use Rattle.ed_programs.proofs.Kit.{Text, row_of, row, spells, digits, without_zeros, ◌&&◌}
+use Rattle.ed_programs.proofs.Kit.{bytes_eq, bytes_eq-Decides, among, arith, none, Spells, are, decimal_is, row_bytes}
+use Rattle.ed_programs.proofs.Kit.{rows_are, written, [], ap, Bool, decimal, false, get_or, if◌then◌else◌, length, List}
+use Rattle.ed_programs.proofs.Kit.{map, nat_le, nat_lt, None, Option, refl, Some, subst, suc, true, ℕ, ◌%◌, ◌-◌, ◌<◌}
+use Rattle.ed_programs.proofs.Kit.{◌==◌, ◌∙◌, ◌∷◌, ◌≡◌, ◌≤◌, list_all, and_from, and_parts, eqb-true, leb-true, lt-ltb}
+use Rattle.ed_programs.proofs.Kit.{ltb-true, Text, row_of, row, spells, digits, ◌&&◌}
 use Rattle.std.proofs.Common.{position}
 use Rattle.std.proofs.lemmas.List.Quantifiers.{position-Some}
 use Rattle.ed_codes.specs.Spelling.{letters}
@@ -32,8 +32,8 @@ is_row_byte b = nat_lt b 128 && spells (row_of b)
 -- a letter of the tape is below 128
 letter_below : (i : ℕ) → i < length letters → get_or letters i 0 < 128
 letter_below i l =
-    ltb-true (get_or letters i 0) 128 (among (λ i. nat_lt (get_or letters i 0) 128) 0 (length letters) i refl (omega arith)
-    (omega arith))
+    ltb-true (get_or letters i 0) 128
+    (among (λ i. nat_lt (get_or letters i 0) 128) 0 (length letters) i refl (omega arith) (omega arith))
 
 -- a byte that spells a row is below 128
 row_below : (b r : ℕ) → row_of b ≡ Some r → b < 128
@@ -78,17 +78,11 @@ number_spells n small =
     (subst (Spells (written (digits n))) (rows_are (digits n) (are n below))
     (text_spells (written (digits n)) (row_bytes (digits n) (are n below))))
 
--- noughts in front of a number are left out
-pub no_thousands : (a b c d u : ℕ) → a ≡ 0 → b ≡ 0 → c ≡ 0
-    → without_zeros (a ∷ b ∷ c ∷ d ∷ []) ++ u ∷ [] ≡ without_zeros (d ∷ []) ++ u ∷ []
-no_thousands a b c d u p q r = rw (p, q, r) refl
-
 -- a number below 10 has one digit
 pub one_figure : (d : ℕ) → d < 10 → digits d ≡ d % 10 ∷ []
-one_figure d l =
-    no_thousands (d / 10000) (d / 1000 % 10) (d / 100 % 10) (d / 10 % 10) (d % 10) (omega arith) (omega arith)
-    (omega arith)
-    ∙ ap (λ (t : ℕ). without_zeros (t ∷ []) ++ d % 10 ∷ []) {y = 0} (omega arith)
+one_figure d few =
+    (bytes_eq-Decides (digits d) (d % 10 ∷ [])).0
+    (among (λ d. bytes_eq (digits d) (d % 10 ∷ [])) 0 10 d refl (omega arith) (omega arith))
 
 pub figure_spells : (n : ℕ) → n < 10 → Spells (decimal n) (n ∷ [])
 figure_spells n few =
