@@ -3,7 +3,7 @@ use Rattle.ed_programs.proofs.Kit.{sum, Size, E_stays, E_jumps, S, T, out, follo
 use Rattle.ed_programs.proofs.Kit.{lit<, Option, refl, suc, take, zero, ℕ, ◌%◌, ◌*◌, ◌+◌, ◌-◌, ◌/◌, ◌<◌, ◌∙◌, ◌∷◌, ◌≡◌}
 use Rattle.ed_programs.proofs.Kit.{sum_by-cons, Moment, short, A, on, Path, stay, own, to, Path-counted}
 use Rattle.std.proofs.lemmas.List.{length-take-le}
-use Rattle.ed_programs.proofs.CalendarCells.{adds_cell, at, frame, have_take, length_at, lengths, outside, Have, Work}
+use Rattle.ed_programs.proofs.CalendarCells.{adds_cell, at, frame, have_part, length_at, lengths, outside, Have, Work}
 use Rattle.ed_programs.proofs.CalendarCells.{IsAround}
 
 module _ (z : Size) (m : Moment) (o : IsAround m.words) where
@@ -64,7 +64,7 @@ module _ (z : Size) (m : Moment) (o : IsAround m.words) where
       (on (T 42 (own 306) _ refl refl)
       (on (A 43 (own 313) (short (to 28 (324 + 0))) refl refl)
       (on (T 44 (own 51) _ refl refl)
-      (followed (months ls k 0 i w v last (have_take i (lengths k.february)) (omega (arith, long)) few total small)
+      (followed (months ls k 0 i w v last (have_part 0 i (lengths k.february)) (omega (arith, long)) few total small)
       (on (A 57 (own 51) (short (to 28 (324 + i))) refl (omega (arith, few)))
       (on (T 58 (own 59) _ refl refl)
       (followed (adds_cell z m 59 (324 + i) l 0 l at_end last refl refl (omega (arith, few))

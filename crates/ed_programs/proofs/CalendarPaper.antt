@@ -1,18 +1,17 @@
 -- The codes that the program of `examples/calendar.tape` prints are the calendar on paper.
-use Rattle.ed_programs.proofs.Kit.{bytes_eq, bytes_eq-Decides, Figures, Letters, ltb-false, among, is_capital, list_all}
+use Rattle.ed_programs.proofs.Kit.{bytes_eq, bytes_eq-Decides, Figures, Letters, among, is_capital, list_all}
 use Rattle.ed_programs.proofs.Kit.{name_codes, [], ap, append-nil, append_assoc, arith, Bool, codes, decimal, false}
 use Rattle.ed_programs.proofs.Kit.{get_or, if◌then◌else◌, List, lit<, nat_lt, refl, rules, suc, sym, true, zero, ℕ, ◌%◌}
-use Rattle.ed_programs.proofs.Kit.{◌*◌, ◌++◌, ◌+◌, ◌-◌, ◌/◌, ◌<◌, ◌==◌, ◌∙◌, ◌∷◌, ◌≡◌, ◌≤◌, eqb-true, ltb-true}
-use Rattle.ed_programs.proofs.Kit.{nat_tests, Text, paper, digits, number_shown, replicate, paper_from, calendar_prints}
-use Rattle.ed_programs.proofs.Kit.{days_before, is_leap, month_length, weekday, calendar_codes, day_codes, days_codes}
-use Rattle.ed_programs.proofs.Kit.{head_codes, place, title_codes, year_codes}
+use Rattle.ed_programs.proofs.Kit.{◌*◌, ◌++◌, ◌+◌, ◌-◌, ◌<◌, ◌==◌, ◌∙◌, ◌∷◌, ◌≡◌, ◌≤◌, eqb-true, nat_tests, Text, paper}
+use Rattle.ed_programs.proofs.Kit.{digits, number_shown, replicate, paper_from, calendar_prints, days_before, is_leap}
+use Rattle.ed_programs.proofs.Kit.{month_length, weekday, calendar_codes, day_codes, days_codes, head_codes, place}
+use Rattle.ed_programs.proofs.Kit.{title_codes, year_codes}
 use Rattle.std.proofs.Common.{flat_map}
 use Rattle.std.proofs.lemmas.Bool.{eqb-false}
 use Rattle.ed_programs.specs.Calendar.{calendar_days, day_text, new_line, month_names}
 use Rattle.ed_programs.proofs.CalendarCodes.{days_from, range_is}
 use Rattle.ed_programs.proofs.Capitals.{capitals_shown}
 use Rattle.ed_programs.proofs.CalendarDays.{days_at_most, days_before_is, weekday_is}
-use Rattle.ed_programs.proofs.RowTexts.{one_figure}
 
 -- ---- the title
 
@@ -26,11 +25,6 @@ title_shown k rest l =
 
 -- ---- figures
 
-two_figures : (d : ℕ) → 10 ≤ d → d < 100 → digits d ≡ d / 10 ∷ d % 10 ∷ []
-two_figures d low high =
-    (bytes_eq-Decides (digits d) (d / 10 ∷ d % 10 ∷ [])).0
-    (among (λ d. bytes_eq (digits d) (d / 10 ∷ d % 10 ∷ [])) 10 90 d refl low (omega arith))
-
 year_figures : (year : ℕ) → 1901 ≤ year → year ≤ 2099 → digits year ≡ year_codes year
 year_figures year low high =
     (bytes_eq-Decides (digits year) (year_codes year)).0
@@ -43,19 +37,22 @@ spaces_shown : (n : ℕ) (rest : List ℕ)
 spaces_shown zero rest = refl
 spaces_shown (suc n) rest = ap (λ (t : Text). 32 ∷ t) (spaces_shown n rest)
 
+abbrev by_digits : ℕ → List ℕ
+by_digits day = if nat_lt day 10 then 20 ∷ 20 ∷ digits day else 20 ∷ digits day
+
 day_shown : (day : ℕ) (rest : List ℕ) → day < 100
     → paper_from Figures (day_codes day ++ rest) ≡ day_text day ++ paper_from Figures rest
-day_shown day rest few = by_test (nat_lt day 10) refl
+day_shown day rest few = ap (λ (cs : List ℕ). paper_from Figures (cs ++ rest)) is ∙ by_test (nat_lt day 10)
   where
-    by_test : (b : Bool) → nat_lt day 10 ≡ b
-        → paper_from Figures ((20 ∷ (if b then 20 else day / 10) ∷ day % 10 ∷ []) ++ rest)
+    is : day_codes day ≡ by_digits day
+    is =
+        (bytes_eq-Decides (day_codes day) (by_digits day)).0
+        (among (λ day. bytes_eq (day_codes day) (by_digits day)) 0 100 day refl (omega arith) (omega arith))
+
+    by_test : (b : Bool) → paper_from Figures ((if b then 20 ∷ 20 ∷ digits day else 20 ∷ digits day) ++ rest)
         ≡ (if b then 32 ∷ 32 ∷ decimal day else 32 ∷ decimal day) ++ paper_from Figures rest
-    by_test true h =
-        ap (λ (ds : List ℕ). 32 ∷ 32 ∷ paper_from Figures (ds ++ rest)) (sym (one_figure day (ltb-true day 10 h)))
-        ∙ ap (λ (t : Text). 32 ∷ 32 ∷ t) (number_shown day (omega (arith, few)) rest)
-    by_test false h =
-        ap (λ (ds : List ℕ). 32 ∷ paper_from Figures (ds ++ rest)) (sym (two_figures day (ltb-false day 10 h) few))
-        ∙ ap (λ (t : Text). 32 ∷ t) (number_shown day (omega (arith, few)) rest)
+    by_test true = ap (λ (t : Text). 32 ∷ 32 ∷ t) (number_shown day (omega arith) rest)
+    by_test false = ap (λ (t : Text). 32 ∷ t) (number_shown day (omega arith) rest)
 
 regrouped : (a b c d e f g h : Text)
     → a ++ b ++ c ++ d ++ e ++ f ++ g ++ h ≡ a ++ (b ++ (c ++ (d ++ (e ++ (f ++ (g ++ h))))))

@@ -2,18 +2,18 @@
 -- it.
 use Rattle.ed_programs.proofs.Kit.{String, Global, Size, spells_append, has_one_reading, Settings, spelled_rows}
 use Rattle.ed_programs.proofs.Kit.{digits_of, plain, ReachesEntry, Err, Result, rows, Spells, canonical, canonicals}
-use Rattle.ed_programs.proofs.Kit.{INPUT_BYTES, ReachesNextEntry, decimal_is, few_bytes, [], ap, append-nil}
-use Rattle.ed_programs.proofs.Kit.{append_assoc, arith, codes, decimal, get_or, length, length-append, List, lit≤, map}
-use Rattle.ed_programs.proofs.Kit.{None, Ok, refl, rules, subst, sym, ℕ, ◌*◌, ◌++◌, ◌+◌, ◌<◌, ◌∙◌, ◌∷◌, ◌≡◌, ◌≤◌}
-use Rattle.ed_programs.proofs.Kit.{leb-true, length-map, locations, Text, least, State, reading, RowsReachEntry}
-use Rattle.ed_programs.proofs.Kit.{TapeEntry, WellFormed, NotationState, rows_of, first_state, GivesProgram, Refusal}
-use Rattle.ed_programs.proofs.Kit.{among, bytes_eq, bytes_eq-Decides, digits}
+use Rattle.ed_programs.proofs.Kit.{INPUT_BYTES, ReachesNextEntry, decimal_is, [], ap, append-nil, append_assoc, arith}
+use Rattle.ed_programs.proofs.Kit.{codes, decimal, get_or, length, length-append, List, lit≤, map, None, Ok, refl}
+use Rattle.ed_programs.proofs.Kit.{rules, subst, sym, ℕ, ◌*◌, ◌++◌, ◌+◌, ◌<◌, ◌∙◌, ◌∷◌, ◌≡◌, ◌≤◌, leb-true, length-map}
+use Rattle.ed_programs.proofs.Kit.{locations, Text, least, State, reading, RowsReachEntry, TapeEntry, WellFormed}
+use Rattle.ed_programs.proofs.Kit.{NotationState, rows_of, first_state, GivesProgram, Refusal, among, bytes_eq}
+use Rattle.ed_programs.proofs.Kit.{bytes_eq-Decides, digits}
 use Rattle.ed_programs.specs.Interlude.{interlude_text, InterludePrints, InterludeRuns, interlude_cost}
 use Rattle.ed_programs.specs.declared.interlude.TheConstants.{INTERLUDE}
 use Rattle.ed_programs.proofs.InterludeEnds.{back, back_store, entry, entry_on, interlude_away, interlude_leads}
 use Rattle.ed_programs.proofs.InterludeEnds.{program_away, program_stops, reopens, returned}
 use Rattle.ed_programs.proofs.InterludeLoads.{entered, interlude_items, interlude_reads, program_items, program_reads}
-use Rattle.ed_programs.proofs.RowTexts.{number_spells}
+use Rattle.ed_programs.proofs.RowTexts.{few_figures, number_spells}
 use Rattle.ed_programs.proofs.TapeRuns.{reads_spell}
 use Rattle.ed_programs.proofs.TwoParts.{TwoParts, TwoPartsRun}
 use Rattle.ed_programs.proofs.TwoPartsRuns.{Course, numbers_of, two_parts_run}
@@ -34,12 +34,6 @@ module _ (n : ℕ) (low : 10 ≤ n) (high : n < 1000) where
   figure_count =
       ap length same ∙ sym (length-map (digits n) (λ d. 48 + d)) ∙ ap length (decimal_is n (omega arith))
 
-  few_figures : length (decimal n) ≤ 5
-  few_figures =
-      let few = few_bytes n (omega arith) in
-      let same = ap length (decimal_is n (omega arith)) in
-      omega (arith, few, same)
-
 -- ---- the rows of the text
 
 abbrev pieces : List Text
@@ -52,7 +46,7 @@ abbrev behind_number : Text
 behind_number = get_or pieces 1 []
 
 few_text : (n : ℕ) → 10 ≤ n → n < 1000 → length (interlude_text n) ≤ INPUT_BYTES
-few_text n low high = search (rules, few_figures, leb-true, length-append)
+few_text n low high = let few = few_figures n (omega arith) in search (rules, few, leb-true, length-append)
 
 -- the items up to the number, and those after it
 abbrev last_rows : List ℕ

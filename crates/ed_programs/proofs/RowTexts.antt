@@ -1,9 +1,9 @@
 -- Texts whose bytes spell rows of tape.
-use Rattle.ed_programs.proofs.Kit.{bytes_eq, bytes_eq-Decides, among, arith, none, Spells, are, decimal_is, row_bytes}
-use Rattle.ed_programs.proofs.Kit.{rows_are, written, [], ap, Bool, decimal, false, get_or, if◌then◌else◌, length, List}
-use Rattle.ed_programs.proofs.Kit.{map, nat_le, nat_lt, None, Option, refl, Some, subst, suc, true, ℕ, ◌%◌, ◌-◌, ◌<◌}
-use Rattle.ed_programs.proofs.Kit.{◌==◌, ◌∙◌, ◌∷◌, ◌≡◌, ◌≤◌, list_all, and_from, and_parts, eqb-true, leb-true, lt-ltb}
-use Rattle.ed_programs.proofs.Kit.{ltb-true, Text, row_of, row, spells, digits, ◌&&◌}
+use Rattle.ed_programs.proofs.Kit.{few_bytes, bytes_eq, bytes_eq-Decides, among, arith, none, Spells, are, decimal_is}
+use Rattle.ed_programs.proofs.Kit.{row_bytes, rows_are, written, [], ap, Bool, decimal, false, get_or, if◌then◌else◌}
+use Rattle.ed_programs.proofs.Kit.{length, List, map, nat_le, nat_lt, None, Option, refl, Some, subst, suc, true, ℕ}
+use Rattle.ed_programs.proofs.Kit.{◌%◌, ◌-◌, ◌<◌, ◌==◌, ◌∙◌, ◌∷◌, ◌≡◌, ◌≤◌, list_all, and_from, and_parts, eqb-true}
+use Rattle.ed_programs.proofs.Kit.{leb-true, lt-ltb, ltb-true, Text, row_of, row, spells, digits, ◌&&◌}
 use Rattle.std.proofs.Common.{position}
 use Rattle.std.proofs.lemmas.List.Quantifiers.{position-Some}
 use Rattle.ed_codes.specs.Spelling.{letters}
@@ -77,6 +77,11 @@ number_spells n small =
     subst (λ (t : Text). Spells t (digits n)) (decimal_is n below)
     (subst (Spells (written (digits n))) (rows_are (digits n) (are n below))
     (text_spells (written (digits n)) (row_bytes (digits n) (are n below))))
+
+-- and has at most five bytes
+pub few_figures : (n : ℕ) → n ≤ 65535 → length (decimal n) ≤ 5
+few_figures n small =
+    let few = few_bytes n (omega arith) in let same = ap length (decimal_is n (omega arith)) in omega (arith, few, same)
 
 -- a number below 10 has one digit
 pub one_figure : (d : ℕ) → d < 10 → digits d ≡ d % 10 ∷ []

@@ -46,18 +46,19 @@ module _ {z : Size} {tape_rows : List ℕ} {e : TapeEntry} (o : Arrives z tape_r
   leads_on = comes_in first e (first_store z tape_rows) (starts z tape_rows) comes_on
 
 -- a text that spells these rows, which reach this entry, and whose program reaches its stop from there
-pub tape_runs : (s : Settings) (tape : Text) (tape_rows : List ℕ) (e : TapeEntry) {k at : ℕ} {printed : List ℕ}
+pub tape_runs : (s : Settings) (tape : Text) (tape_rows : List ℕ) (e : TapeEntry) {k orders at : ℕ} {printed : List ℕ}
+    {text : Text}
     → reading tape ≡ rows tape_rows → length tape ≤ INPUT_BYTES → Arrives s.size tape_rows e
-    → ReachesStop k (tape_state s tape_rows e) printed at → length printed ≤ paper_room
-    → TapeRuns s tape e.cost (k + 1) at (paper printed)
-tape_runs s tape tape_rows e {k} {at} {printed} reads short arrives stops few =
+    → ReachesStop k (tape_state s tape_rows e) printed at → length printed ≤ paper_room → k + 1 ≡ orders
+    → paper printed ≡ text → TapeRuns s tape e.cost orders at text
+tape_runs s tape tape_rows e {k} {orders} {at} {printed} reads short arrives stops few total shown =
     let rules = reading_is_rules s.size cleared_cells.words opening_notation 9 tape_rows first_directive in
     let in_order = leads_on arrives in
     let first : State = tape_state s tape_rows e in
     let left : ℕ = s.limit - e.cost in
     let none = (fresh arrives).2 in
-    let count : (step stops.last).state.orders ≡ e.cost + (k + 1) = omega (arith, stops.orders, none) in
-    record {
+    let count : (step stops.last).state.orders ≡ e.cost + orders = omega (arith, stops.orders, none) in
+    subst (λ (t : Text). TapeRuns s tape e.cost orders at t) shown (record {
       codes_of = tape_rows;
       spelled = reads;
       entry = e;
@@ -76,11 +77,11 @@ tape_runs s tape tape_rows e {k} {at} {printed} reads short arrives stops few =
           ∙ ran_outcome-answered [] (run_end left 0 paper_room first) ended stops.counter count in
           let due : Outcome = record {
             out = paper printed;
-            note = at_after (codes "stopped") at (e.cost + (k + 1)) ++ 10 ∷ [];
+            note = at_after (codes "stopped") at (e.cost + orders) ++ 10 ∷ [];
             status = 0;
           } in
           inl (short, subst (λ r. OfReading (exactly (tape_outcome s)) r due) (sym reads) answer);
-    }
+    })
 
 -- a law of a tape's text is one of the text that is answered
 pub tape_prints_of : {cost orders at : ℕ} {tape printed : Text} (r : Result (String Global) Refusal)
