@@ -1,6 +1,6 @@
 -- The codes that the program of `examples/calendar.tape` prints.
 use Rattle.std.proofs.Common.{replicate, ℕ, zero, suc, ◌-◌, ◌*◌, ◌/◌, ◌%◌, ◌==◌, nat_lt, if◌then◌else◌, List, [], ◌∷◌}
-use Rattle.std.proofs.Common.{◌++◌, get_or, map, ap, arith, refl, ◌+◌, ◌∙◌, ◌≡◌}
+use Rattle.std.proofs.Common.{Bool, ◌++◌, get_or, map, ap, arith, refl, ◌+◌, ◌∙◌, ◌≡◌}
 use Rattle.std.specs.List.{range_with_len}
 use Rattle.ed_programs.specs.Calendar.{month_length, month_names, weekday_count}
 use Rattle.ed_codes.specs.Spelling.{row_of}
@@ -44,12 +44,14 @@ range_is day (suc n) =
     ap (λ (ds : List ℕ). day ∷ ds)
     (range_is (day + 1) n ∙ (let next : day + 1 ≡ suc day = omega arith in ap (λ (d : ℕ). days_from d n) next))
 
+-- a new line after the last day of a week
+abbrev pub week_end : Bool → List ℕ
+week_end last = if last then 18 ∷ 24 ∷ [] else []
+
 -- n days from one on, with the number of days in the first one's week before it
 abbrev pub days_codes : ℕ → ℕ → ℕ → List ℕ
 days_codes before day zero = []
-days_codes before day (suc n) =
-    if before == 6 then day_codes day ++ 18 ∷ 24 ∷ days_codes 0 (suc day) n
-    else day_codes day ++ days_codes (suc before) (suc day) n
+days_codes before day (suc n) = day_codes day ++ (week_end (before == 6) ++ days_codes (suc before % 7) (suc day) n)
 
 -- all that is printed
 abbrev pub calendar_codes : ℕ → ℕ → List ℕ

@@ -1,16 +1,13 @@
 -- What the program of `examples/calendar.tape` counts is the calendar, from 1901 to 2099.
-use Rattle.ed_programs.proofs.Kit.{sum, among, [], ap, arith, Bool, false, get_or, if◌then◌else◌, not, refl, rules, suc}
-use Rattle.ed_programs.proofs.Kit.{true, zero, ℕ, ◌%◌, ◌*◌, ◌+◌, ◌/◌, ◌==◌, ◌∙◌, ◌∷◌, ◌≡◌, ◌≤◌, nat_tests, days_before}
+use Rattle.ed_programs.proofs.Kit.{sum, among, [], ap, arith, Bool, get_or, if◌then◌else◌, not, refl, rules, suc, true}
+use Rattle.ed_programs.proofs.Kit.{zero, ℕ, ◌%◌, ◌*◌, ◌+◌, ◌/◌, ◌==◌, ◌∙◌, ◌∷◌, ◌≡◌, ◌≤◌, nat_tests, days_before}
 use Rattle.ed_programs.proofs.Kit.{is_leap, month_lengths, weekday, place}
 use Rattle.ed_programs.specs.Calendar.{years_length}
 
 -- ---- leap years and their days
 
 same_test : (a b : Bool) → (if a then b else not b) ≡ true → a ≡ b
-same_test true true h = refl
-same_test true false h = cc
-same_test false true h = cc
-same_test false false h = refl
+same_test a b h = grind (arith, nat_tests)
 
 -- each fourth year is a leap year, 2000 too
 pub leap_is : (n : ℕ) → n ≤ 198 → is_leap (1901 + n) ≡ (n % 4 == 3)
@@ -20,17 +17,10 @@ leap_is n few =
 
 days_next : (b : Bool) (n : ℕ) → (n % 4 == 3) ≡ b
     → 365 + 365 * n + n / 4 + (if b then 366 else 365) ≡ 365 + 365 * suc n + suc n / 4
-days_next true n h = grind (arith, nat_tests)
-days_next false n h = grind (arith, nat_tests)
+days_next b n h = grind (arith, nat_tests)
 
 pub year_length_is : (year : ℕ) → sum (month_lengths year) ≡ (if is_leap year then 366 else 365)
-year_length_is year = by_test (is_leap year)
-  where
-    by_test : (b : Bool)
-        → sum (31 ∷ (if b then 29 else 28) ∷ 31 ∷ 30 ∷ 31 ∷ 30 ∷ 31 ∷ 31 ∷ 30 ∷ 31 ∷ 30 ∷ 31 ∷ [])
-        ≡ (if b then 366 else 365)
-    by_test true = refl
-    by_test false = refl
+year_length_is year = grind (arith, nat_tests)
 
 -- no month has more than 31 days
 pub days_at_most : (leap : Bool) (k : ℕ)

@@ -146,7 +146,8 @@ module _ (z : Size) (m : Moment) (o : IsAround m.words) where
               let test : (b == 6) ≡ false = grind (arith, nat_tests) in
               let rest = HasEnded-days n after (suc d) (suc b) (131072 - (7 - suc b)) unit (omega arith) (omega arith)
               (omega arith) in
-              rw test (
+              let next : suc b % 7 ≡ suc b = omega arith in
+              rw (test, next) (
                 rest.0,
                 rest.1,
                 Path-counted (followed (shows_day k d b v last (omega arith) small)

@@ -1,15 +1,14 @@
 -- The codes that the program of `examples/calendar.tape` prints are the calendar on paper.
 use Rattle.ed_programs.proofs.Kit.{bytes_eq, bytes_eq-Decides, Figures, Letters, among, is_capital, list_all}
-use Rattle.ed_programs.proofs.Kit.{name_codes, [], ap, append-nil, append_assoc, arith, Bool, codes, decimal, false}
-use Rattle.ed_programs.proofs.Kit.{get_or, if◌then◌else◌, List, lit<, nat_lt, refl, rules, suc, sym, true, zero, ℕ, ◌%◌}
-use Rattle.ed_programs.proofs.Kit.{◌*◌, ◌++◌, ◌+◌, ◌-◌, ◌<◌, ◌==◌, ◌∙◌, ◌∷◌, ◌≡◌, ◌≤◌, eqb-true, nat_tests, Text, paper}
-use Rattle.ed_programs.proofs.Kit.{digits, number_shown, replicate, paper_from, calendar_prints, days_before, is_leap}
+use Rattle.ed_programs.proofs.Kit.{name_codes, [], ap, append_assoc, arith, Bool, codes, decimal, false, get_or}
+use Rattle.ed_programs.proofs.Kit.{if◌then◌else◌, List, nat_lt, refl, rules, suc, sym, true, zero, ℕ, ◌%◌, ◌*◌, ◌++◌}
+use Rattle.ed_programs.proofs.Kit.{◌+◌, ◌-◌, ◌<◌, ◌==◌, ◌∙◌, ◌∷◌, ◌≡◌, ◌≤◌, nat_tests, Text, paper, digits}
+use Rattle.ed_programs.proofs.Kit.{number_shown, replicate, paper_from, calendar_prints, days_before, is_leap}
 use Rattle.ed_programs.proofs.Kit.{month_length, weekday, calendar_codes, day_codes, days_codes, head_codes, place}
 use Rattle.ed_programs.proofs.Kit.{title_codes, year_codes}
 use Rattle.std.proofs.Common.{flat_map}
-use Rattle.std.proofs.lemmas.Bool.{eqb-false}
 use Rattle.ed_programs.specs.Calendar.{calendar_days, day_text, new_line, month_names}
-use Rattle.ed_programs.proofs.CalendarCodes.{days_from, range_is}
+use Rattle.ed_programs.proofs.CalendarCodes.{days_from, range_is, week_end}
 use Rattle.ed_programs.proofs.Capitals.{capitals_shown}
 use Rattle.ed_programs.proofs.CalendarDays.{days_at_most, days_before_is, weekday_is}
 
@@ -67,69 +66,54 @@ module _ (month year : ℕ) (low : 1901 ≤ year) (high : year ≤ 2099) where
   abbrev shown : ℕ → Text
   shown day = day_text day ++ (if weekday day month year == 5 then new_line else [])
 
+  -- the day after which a week is over
+  week_over : (day : ℕ) → ((place month year + day) % 7 == 6) ≡ (weekday (suc day) month year == 5)
+  week_over day = let falls = weekday_is month year day low high in grind (arith, nat_tests)
+
+  week_shown : (last : Bool) (rest : List ℕ)
+      → paper_from Figures (week_end last ++ rest) ≡ (if last then new_line else []) ++ paper_from Figures rest
+  week_shown true rest = refl
+  week_shown false rest = refl
+
   -- the codes of n days print them
-  abbrev AreShown : ℕ → ℕ → ℕ → Type 0
-  AreShown n before day = paper_from Figures (days_codes before day n) ≡ flat_map shown (days_from day n)
-
-  one_shown : (n before day : ℕ) → before < 7 → (place month year + day) % 7 ≡ before → suc day < 100
-      → ((b : ℕ) → b < 7 → (place month year + suc day) % 7 ≡ b → AreShown n b (suc (suc day)))
-      → AreShown (suc n) before (suc day)
-  one_shown n before day l is few more = by_test (before == 6) refl
-    where
-      falls : (weekday (suc day) month year + 1) % 7 ≡ before
-      falls = weekday_is month year day low high ∙ is
-
-      ends : (b : Bool) → (before == 6) ≡ b → (weekday (suc day) month year == 5) ≡ b
-      ends b h = grind (arith, nat_tests, falls)
-
-      rest : Text
-      rest = flat_map shown (days_from (suc (suc day)) n)
-
-      by_test : (b : Bool) → (before == 6) ≡ b
-          → paper_from Figures (if b then day_codes (suc day) ++ 18 ∷ 24 ∷ days_codes 0 (suc (suc day)) n
-          else day_codes (suc day) ++ days_codes (suc before) (suc (suc day)) n)
-          ≡ (day_text (suc day) ++ (if weekday (suc day) month year == 5 then new_line else [])) ++ rest
-      by_test true h =
-          day_shown (suc day) (18 ∷ 24 ∷ days_codes 0 (suc (suc day)) n) few
-          ∙ ap (λ (t : Text). day_text (suc day) ++ 13 ∷ 10 ∷ t)
-          (more 0 (lit< tt) (let e = eqb-true before 6 h in omega (arith, is, e)))
-          ∙ sym (append_assoc (day_text (suc day)) new_line rest)
-          ∙ ap (λ (c : Bool). (day_text (suc day) ++ (if c then new_line else [])) ++ rest) (sym (ends true h))
-      by_test false h =
-          day_shown (suc day) (days_codes (suc before) (suc (suc day)) n) few
-          ∙ ap (λ (t : Text). day_text (suc day) ++ t)
-          (more (suc before) (let e = eqb-false before 6 h in omega (arith, l, e))
-          (let e = eqb-false before 6 h in omega (arith, is, l, e)))
-          ∙ ap (λ (t : Text). t ++ rest) (sym (append-nil (day_text (suc day))))
-          ∙ ap (λ (c : Bool). (day_text (suc day) ++ (if c then new_line else [])) ++ rest) (sym (ends false h))
-
-  days_shown : (n before day : ℕ) → before < 7 → (place month year + day) % 7 ≡ before → day + n < 100
-      → AreShown n before (suc day)
-  days_shown zero before day l is few = refl
-  days_shown (suc n) before day l is few =
-      one_shown n before day l is (omega (arith, few)) (λ b small falls.
-      days_shown n b (suc day) small falls (omega (arith, few)))
+  days_shown : (n day : ℕ) → day + n < 100
+      → paper_from Figures (days_codes ((place month year + day) % 7) (suc day) n)
+      ≡ flat_map shown (days_from (suc day) n)
+  days_shown zero day few = refl
+  days_shown (suc n) day few =
+      let before : ℕ = (place month year + day) % 7 in
+      let next : suc before % 7 ≡ (place month year + suc day) % 7 = omega arith in
+      let more : List ℕ = days_codes (suc before % 7) (suc (suc day)) n in
+      day_shown (suc day) (week_end (before == 6) ++ more) (omega arith)
+      ∙ ap (λ (t : Text). day_text (suc day) ++ t) (week_shown (before == 6) more)
+      ∙ sym (append_assoc (day_text (suc day)) (if before == 6 then new_line else []) (paper_from Figures more))
+      ∙ ap (λ (c : Bool). (day_text (suc day) ++ (if c then new_line else [])) ++ paper_from Figures more)
+      (week_over day)
+      ∙ ap (λ (t : Text). shown (suc day) ++ t)
+      (ap (λ b. paper_from Figures (days_codes b (suc (suc day)) n)) next ∙ days_shown n (suc day) (omega arith))
 
   pub calendar_shown : 1 ≤ month → month ≤ 12 → paper (calendar_codes month year) ≡ calendar_prints month year
   calendar_shown some few =
       let k : ℕ = month - 1 in
+      let p : ℕ = place month year in
+      let l : ℕ = month_length month year in
+      let days : List ℕ = days_codes p 1 l in
+      let after : List ℕ = head_codes ++ (replicate (3 * p) 20 ++ days) in
       let name : Text = get_or month_names k [] in
-      let gap : List ℕ = replicate (3 * place month year) 20 in
-      let days : List ℕ = days_codes (place month year) 1 (month_length month year) in
-      let title : Text → Text = λ t. codes "      " ++ (name ++ 32 ∷ t) in
-      let text_gap : Text = replicate (3 * days_before month year) 32 in
-      let text_days : Text = calendar_days month year in
-      let days_few = days_at_most (is_leap year) (month - 1) in
-      title_shown k (year_codes year ++ (head_codes ++ (gap ++ days))) (omega arith)
-      ∙ ap (λ (ds : List ℕ). title (paper_from Figures (ds ++ (head_codes ++ (gap ++ days)))))
-      (sym (year_figures year low high))
-      ∙ ap title (number_shown year (omega arith) (head_codes ++ (gap ++ days)))
-      ∙ ap (λ (t : Text). title (decimal year ++ (new_line ++ (calendar_heads ++ t))))
-      (spaces_shown (3 * place month year) days)
-      ∙ ap (λ (n : ℕ). title (decimal year ++ (new_line ++ (calendar_heads
-      ++ (replicate (3 * n) 32 ++ paper_from Figures days))))) (sym (days_before_is month year low high))
-      ∙ ap (λ (t : Text). title (decimal year ++ (new_line ++ (calendar_heads ++ (text_gap ++ t)))))
-      (days_shown (month_length month year) (place month year) 0 (omega arith) (omega arith) (omega (arith, days_few)))
-      ∙ ap (λ (ds : List ℕ). title (decimal year ++ (new_line ++ (calendar_heads ++ (text_gap ++ flat_map shown ds)))))
-      (sym (range_is 1 (month_length month year)))
-      ∙ sym (regrouped (codes "      ") name (codes " ") (decimal year) new_line calendar_heads text_gap text_days)
+      let gap : Text = replicate (3 * days_before month year) 32 in
+      let most = days_at_most (is_leap year) k in
+      let first : p ≡ (p + 0) % 7 = omega arith in
+      let before : p ≡ days_before month year = sym (days_before_is month year low high) in
+      let all : paper_from Figures days ≡ calendar_days month year =
+      ap (λ b. paper_from Figures (days_codes b 1 l)) first ∙ days_shown l 0 (omega arith)
+      ∙ ap (λ (ds : List ℕ). flat_map shown ds) (sym (range_is 1 l)) in
+      let rest : paper_from Figures (year_codes year ++ after)
+      ≡ decimal year ++ (new_line ++ (calendar_heads ++ (gap ++ calendar_days month year))) =
+      ap (λ (ds : List ℕ). paper_from Figures (ds ++ after)) (sym (year_figures year low high))
+      ∙ number_shown year (omega arith) after
+      ∙ ap (λ (t : Text). decimal year ++ (new_line ++ (calendar_heads ++ t))) (spaces_shown (3 * p) days
+      ∙ (λ i. replicate (3 * before i) 32 ++ all i)) in
+      title_shown k (year_codes year ++ after) (omega arith)
+      ∙ ap (λ (t : Text). codes "      " ++ (name ++ 32 ∷ t)) rest
+      ∙ sym (regrouped (codes "      ") name (codes " ") (decimal year) new_line calendar_heads gap
+      (calendar_days month year))

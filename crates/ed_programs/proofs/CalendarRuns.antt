@@ -1,8 +1,8 @@
 -- What `examples/calendar.tape` prints, for every month from January 1901 to December 2099.
 use Rattle.ed_programs.proofs.Kit.{none, spacing, spells_append, has_one_reading, Settings, rows, Spells, INPUT_BYTES}
 use Rattle.ed_programs.proofs.Kit.{[], ap, arith, decimal, length, length-append, List, refl, rules, suc, zero, ℕ, ◌*◌}
-use Rattle.ed_programs.proofs.Kit.{◌++◌, ◌-◌, ◌∷◌, ◌≡◌, ◌≤◌, leb-true, length-replicate, digits, reading, paper_room}
-use Rattle.ed_programs.proofs.Kit.{calendar_orders, calendar_prints, TapeRuns, calendar_codes, days_codes}
+use Rattle.ed_programs.proofs.Kit.{◌++◌, ◌-◌, ◌%◌, ◌∷◌, ◌≡◌, ◌≤◌, leb-true, length-replicate, digits, reading}
+use Rattle.ed_programs.proofs.Kit.{paper_room, calendar_orders, calendar_prints, TapeRuns, calendar_codes, days_codes}
 use Rattle.ed_codes.specs.Text.{row}
 use Rattle.ed_programs.specs.Calendar.{calendar_cost, calendar_text}
 use Rattle.ed_programs.proofs.CalendarEnds.{front, calendar_arrives, calendar_ends, calendar_entry, calendar_rows}
@@ -41,8 +41,7 @@ module _ (month year : ℕ) (small : month ≤ 65535) (low : year ≤ 65535) whe
 
 few_days_codes : (before day n : ℕ) → length (days_codes before day n) ≤ 5 * n
 few_days_codes before day zero = omega arith
-few_days_codes before day (suc n) =
-    let l = few_days_codes 0 (suc day) n in let r = few_days_codes (suc before) (suc day) n in grind arith
+few_days_codes before day (suc n) = let rest = few_days_codes (suc before % 7) (suc day) n in grind arith
 
 few_codes : (month year : ℕ) → 1 ≤ month → month ≤ 12 → length (calendar_codes month year) ≤ paper_room
 few_codes month year some few =

@@ -1,9 +1,9 @@
 -- The text of an accepted source is never too long for the program, and ends with the lines that its text ends with.
-use Rattle.ed_programs.proofs.Kit.{◌&&◌, ne_eqb, Line, Label, Enter, IsProgram, INPUT_BYTES, [], ap, append_assoc}
-use Rattle.ed_programs.proofs.Kit.{arith, Bool, codes, false, if◌then◌else◌, length, length-append, List, lit≤, nat_le}
-use Rattle.ed_programs.proofs.Kit.{None, Ok, pos, refl, Some, subst, sym, true, ℕ, ◌*◌, ◌++◌, ◌+◌, ◌==◌, ◌∙◌, ◌∷◌, ◌≡◌}
-use Rattle.ed_programs.proofs.Kit.{◌≤◌, and_from, and_parts, le-leb, leb-true, Text, settings, lines_from}
-use Rattle.ed_programs.proofs.Kit.{text_of_lines, checked_text, EntersChecker, use_check}
+use Rattle.ed_programs.proofs.Kit.{nat_tests, ◌&&◌, ne_eqb, Line, Label, Enter, IsProgram, INPUT_BYTES, [], ap}
+use Rattle.ed_programs.proofs.Kit.{append_assoc, arith, Bool, codes, false, if◌then◌else◌, length, length-append, List}
+use Rattle.ed_programs.proofs.Kit.{lit≤, nat_le, None, Ok, pos, refl, Some, subst, sym, true, ℕ, ◌*◌, ◌++◌, ◌+◌, ◌==◌}
+use Rattle.ed_programs.proofs.Kit.{◌∙◌, ◌∷◌, ◌≡◌, ◌≤◌, and_from, and_parts, le-leb, leb-true, Text, settings}
+use Rattle.ed_programs.proofs.Kit.{lines_from, text_of_lines, checked_text, EntersChecker, use_check}
 use Rattle.ed_syntax.proofs.Kit.{ended, HasLines, lines_of, with_byte, without_return, and_more, LinesSay, no_more}
 use Rattle.ed_syntax.specs.Lines.{nothing, last}
 use Rattle.ed_syntax.proofs.Lines.{empty_line}
@@ -21,11 +21,7 @@ say_short two _ _ _ (and_more k line lines f said s h) =
 -- a line end has at most two bytes
 end_short : (line : Text) → length line ≤ length (without_return line) + 1
 end_short [] = lit≤ tt
-end_short (b ∷ []) = by_test (b == 13)
-  where
-    by_test : (t : Bool) → 1 ≤ length (if t then [] else b ∷ []) + 1
-    by_test true = lit≤ tt
-    by_test false = lit≤ tt
+end_short (b ∷ []) = grind (arith, nat_tests)
 end_short (b ∷ c ∷ bs) = let rest = end_short (c ∷ bs) in omega (arith, rest)
 
 text_short : (text : Text) (lines : List Text) → HasLines text lines → are_short lines ≡ true
