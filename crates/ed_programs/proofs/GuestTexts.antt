@@ -134,22 +134,22 @@ ends_with front rest two said p =
 -- ---- the source that is made for a guest
 
 -- its last two lines
-abbrev use_line : ℕ → Line
+abbrev pub use_line : ℕ → Line
 use_line k = record { number = k; label = None; statement = use_check (codes "c") (Label (codes "main") (pos 0)) }
 
-abbrev enter_line : ℕ → Line
+abbrev pub enter_line : ℕ → Line
 enter_line k = record { number = k; label = None; statement = Some (Enter (codes "c")) }
 
-abbrev use_text : Text
+abbrev pub use_text : Text
 use_text = codes "use check as c with H=main"
 
 abbrev enter_text : Text
 enter_text = codes "enter c"
 
-abbrev last_texts : List Text
+abbrev pub last_texts : List Text
 last_texts = use_text ∷ enter_text ∷ []
 
-abbrev last_lines : ℕ → List Line
+abbrev pub last_lines : ℕ → List Line
 last_lines k = use_line k ∷ enter_line (k + 1) ∷ []
 
 -- what they say, whether or not one is the first line, which alone may have a version
@@ -167,7 +167,25 @@ last_read two k few = by_tests (k == 1) (k + 1 == 1) refl refl
     by_tests false true e f = rw (within.0, within.1, e, f) refl
     by_tests false false e f = rw (within.0, within.1, e, f) refl
 
--- it enters the routine over the order at main
+-- lines that end so enter the routine
+abbrev pub enters_at : (k : ℕ) (before lines : List Line) → lines ≡ before ++ last_lines k → EntersChecker lines
+enters_at k before lines are = record {
+  name = codes "c";
+  first = Label (codes "main") (pos 0);
+  before = before;
+  using = use_line k;
+  stands = record { after = enter_line (k + 1) ∷ []; lines_are = are };
+  uses = refl;
+  ahead = before ++ use_line k ∷ [];
+  entering = enter_line (k + 1);
+  follows = record {
+    after = [];
+    lines_are = are ∙ sym (append_assoc before (use_line k ∷ []) (enter_line (k + 1) ∷ []));
+  };
+  enters = refl;
+}
+
+-- over the order at main
 pub record EntersFromMain (lines : List Line) : Type 0 where
   pub enters : EntersChecker lines
   pub first : enters.first ≡ Label (codes "main") (pos 0)
@@ -179,21 +197,4 @@ enters_from_main guest two said p =
     let read = e.read in let again = last_read two e.number e.few in
     let last : e.behind ≡ last_lines e.number = cc in
     let all : said ≡ e.before ++ last_lines e.number = e.said_are ∙ ap (λ (ls : List Line). e.before ++ ls) last in
-    record {
-      enters = record {
-        name = codes "c";
-        first = Label (codes "main") (pos 0);
-        before = e.before;
-        using = use_line e.number;
-        stands = record { after = enter_line (e.number + 1) ∷ []; lines_are = all };
-        uses = refl;
-        ahead = e.before ++ use_line e.number ∷ [];
-        entering = enter_line (e.number + 1);
-        follows = record {
-          after = [];
-          lines_are = all ∙ sym (append_assoc e.before (use_line e.number ∷ []) (enter_line (e.number + 1) ∷ []));
-        };
-        enters = refl;
-      };
-      first = refl;
-    }
+    record { enters = enters_at e.number e.before said all; first = refl }

@@ -1,12 +1,12 @@
 -- The two programs of the tape `examples/interlude.tape`, for any number: the interlude from its entry to its return,
 -- and the program after it from its entry to its stop.
-use Rattle.ed_programs.proofs.Kit.{◌<◌, H_F, O_F, T_F, Z_F, Size, O, Z, plain, at_entry, set, along, to_stop, E_jumps}
-use Rattle.ed_programs.proofs.Kit.{U, prints, any, early, out, IsStore, directive, IsReturned, among, numbers, [], ap}
-use Rattle.ed_programs.proofs.Kit.{arith, drop, false, get_or, length, length-append, List, lit<, lit≤, nat_eq, Option}
-use Rattle.ed_programs.proofs.Kit.{refl, rules, Some, subst, suc, true, zero, ℕ, ◌*◌, ◌+◌, ◌-◌, ◌∙◌, ◌∷◌, ◌≡◌, ◌≤◌}
-use Rattle.ed_programs.proofs.Kit.{list_all, eqb-true, lt-ltb, locations, least, locations_most, short_at, State, Frame}
-use Rattle.ed_programs.proofs.Kit.{Moment, short, state, Leads, A, leads, on, Path, stay, own, patched, ReachesStop}
-use Rattle.ed_programs.proofs.Kit.{TapeEntry, over, first_state, sym, patched_self}
+use Rattle.ed_programs.proofs.Kit.{moment_at, ◌<◌, H_F, O_F, T_F, Z_F, Size, O, Z, plain, at_entry, set, along, to_stop}
+use Rattle.ed_programs.proofs.Kit.{E_jumps, U, prints, any, early, out, IsStore, directive, IsReturned, among, numbers}
+use Rattle.ed_programs.proofs.Kit.{[], ap, arith, drop, false, get_or, length, length-append, List, lit<, lit≤, nat_eq}
+use Rattle.ed_programs.proofs.Kit.{Option, refl, rules, Some, subst, suc, true, zero, ℕ, ◌*◌, ◌+◌, ◌-◌, ◌∙◌, ◌∷◌, ◌≡◌}
+use Rattle.ed_programs.proofs.Kit.{◌≤◌, list_all, eqb-true, lt-ltb, locations, least, locations_most, short_at, State}
+use Rattle.ed_programs.proofs.Kit.{Frame, Moment, short, state, Leads, A, leads, on, Path, stay, own, patched}
+use Rattle.ed_programs.proofs.Kit.{ReachesStop, TapeEntry, over, first_state, sym, patched_self}
 use Rattle.std.proofs.Common.{slice_index}
 use Rattle.std.proofs.lemmas.List.{get_or-append_right, get_or-drop, length-drop}
 use Rattle.ed_notation.specs.Fold.{word_with}
@@ -60,17 +60,8 @@ module _ (z : Size) (tape_rows rest : List ℕ) (n cost read : ℕ) (small : n �
   }
 
   abbrev at : ℕ → List ℕ → ℕ → Moment
-  at i words acc = record {
-    words = words;
-    digits = s.store.sandwich;
-    cells = cells n;
-    pairs = [];
-    acc = acc;
-    multiplier = s.multiplier;
-    counter = 100 + i;
-    tape = rest;
-    last = s.last;
-  }
+  at i words acc =
+      record (moment_at s) { words = words; cells = cells n; acc = acc; counter = 100 + i; last = s.last }
 
   begins : state f (at 0 s.store.words 0) s.orders ≡ s
   unfolding first_state
@@ -131,29 +122,21 @@ module _ (z : Size) (tape_rows rest : List ℕ) (n cost read : ℕ) (small : n �
         all_fit back.store.words (rw (a, b) refl);
   }
 
-  -- what the letter H stands for, and θ
-  letter_h : get_or back.store.words 45 0 ≡ 4 * n
-  unfolding first_state patched
-  letter_h = refl
+  -- the words at the return: what the letter H stands for, and θ
+  abbrev W : List ℕ
+  W = back.store.words
 
-  theta : get_or back.store.words 42 0 ≡ 200
+  known : (get_or W 45 0 ≡ 4 * n) × (get_or W 42 0 ≡ 200) × (length W ≡ 1024)
   unfolding first_state patched
-  theta = refl
-
-  back_long : length back.store.words ≡ 1024
-  unfolding first_state patched
-  back_long = refl
+  known = (refl, refl, refl)
 
   -- ---- the program after it
 
   module _ (low : 34 ≤ n) (fits : 2 * n + 3 ≤ locations z) (end : ℕ) where
-    abbrev W : List ℕ
-    W = back.store.words
-
     pub reopens : reopening back ≡ from_return z W n 200 low fits
     reopens =
         let d : directive back ≡ T_F + 2 * (2 * n) = omega arith in
-        λ i. record { directive = d i; theta = theta i; placed = [] }
+        λ i. record { directive = d i; theta = known.1 i; placed = [] }
 
     abbrev pub entry_on : TapeEntry
     entry_on = record {
@@ -183,7 +166,7 @@ module _ (z : Size) (tape_rows rest : List ℕ) (n cost read : ℕ) (small : n �
     orders_there : (i : ℕ) → i < 4 → get_or m.store.words (64 + i) 0 ≡ get_or (block W 200 printing_orders) i 0
     orders_there i few =
         placed_there (64 + i) (omega arith)
-        ∙ laid_at W 64 (block W 200 printing_orders) (words_placed z W n 200 low fits) i few (omega (arith, back_long))
+        ∙ laid_at W 64 (block W 200 printing_orders) (words_placed z W n 200 low fits) i few (omega (arith, known.2))
 
     words_there : (i : ℕ) → i < 3 → get_or m.store.words (2 * n + i) 0 ≡ get_or (block W 200 printed_words) i 0
     words_there i few =
@@ -191,21 +174,22 @@ module _ (z : Size) (tape_rows rest : List ℕ) (n cost read : ℕ) (small : n �
         placed_there (2 * n + i) (omega arith)
         ∙ laid_other W 64 (block W 200 printing_orders) (words_placed z W n 200 low fits) (2 * n + i)
         (λ j l. omega arith)
-        ∙ laid_at W (2 * n) (block W 200 printed_words) [] i few (omega (arith, back_long))
+        ∙ laid_at W (2 * n) (block W 200 printed_words) [] i few (omega (arith, known.2))
 
     m_long : length m.store.words ≡ 1024
-    m_long = search (rules, length-append, length-drop, length-over, back_long)
+    m_long = search (rules, length-drop, known.2)
 
     -- the orders that print, and the word after them
     abbrev cells_on : List ℕ
     cells_on =
-        (O_F + 2 * (2 * n + 0)) ∷ (O_F + 2 * (2 * n + 1)) ∷ (O_F + 2 * (2 * n + 2)) ∷ Z_F ∷ get_or m.store.words 68 0 ∷ []
+        (O_F + 2 * (2 * n + 0)) ∷ (O_F + 2 * (2 * n + 1)) ∷ (O_F + 2 * (2 * n + 2)) ∷ Z_F
+        ∷ get_or m.store.words 68 0 ∷ []
 
     same_on : patched 0 m.store.words 64 cells_on ≡ m.store.words
     same_on = patched_self 0 m.store.words 64 cells_on (omega (arith, m_long)) each
       where
         order_is : (i : ℕ) → i ≤ 2 → O_F + 2 * (2 * n + i) ≡ word_with 9 i false (get_or W 45 0)
-        order_is i few = omega (arith, letter_h)
+        order_is i few = omega (arith, known.0)
 
         each : (j : ℕ) → j < 5 → get_or cells_on j 0 ≡ get_or m.store.words (64 + j) 0
         each zero l = order_is 0 (lit≤ tt) ∙ sym (orders_there 0 (lit< tt))
@@ -225,17 +209,7 @@ module _ (z : Size) (tape_rows rest : List ℕ) (n cost read : ℕ) (small : n �
     }
 
     abbrev at_on : ℕ → Option ℕ → Moment
-    at_on i last = record {
-      words = m.store.words;
-      digits = m.store.sandwich;
-      cells = cells_on;
-      pairs = [];
-      acc = 0;
-      multiplier = m.multiplier;
-      counter = 64 + i;
-      tape = [];
-      last = last;
-    }
+    at_on i last = record (moment_at m) { cells = cells_on; counter = 64 + i; last = last }
 
     begins_on : state g (at_on 0 m.last) m.orders ≡ m
     begins_on = λ i. record m { store = record { words = same_on i; sandwich = m.store.sandwich } }

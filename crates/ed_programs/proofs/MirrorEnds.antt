@@ -46,13 +46,9 @@ module _ (t : Settings) (c : ℕ) (cs : List ℕ) where
   abbrev s : State
   s = tape_state t (mirror_rows rest) (mirror_entry rest)
 
-  long : length s.store.words ≡ 1024
+  known : (length s.store.words ≡ 1024) × (get_or s.store.words 2 0 ≡ 2)
   unfolding first_state
-  long = refl
-
-  at2 : get_or s.store.words 2 0 ≡ 2
-  unfolding first_state
-  at2 = refl
+  known = (refl, refl)
 
   same : patched 0 s.store.words 64 loaded ≡ s.store.words
   unfolding first_state patched
@@ -70,4 +66,4 @@ module _ (t : Settings) (c : ℕ) (cs : List ℕ) where
       → ReachesStop (21 * length (c ∷ cs) + 2) s (reverse (c ∷ cs)) 91
   mirror_ends are few =
       subst (λ (x : State). ReachesStop (21 * length (c ∷ cs) + 2) x (reverse (c ∷ cs)) 91) begins
-      (mirror_stops t.size around c cs are few long at2 s.orders)
+      (mirror_stops t.size around c cs are few known.0 known.1 s.orders)
