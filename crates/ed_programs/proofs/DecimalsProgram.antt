@@ -1,14 +1,14 @@
 -- The program of `examples/decimals.edsac` from its entry to its stop: a decimal, a group, a line.
 use Rattle.ed_programs.proofs.Kit.{div-lt_iff_lt-mul, get_or-set_other, get_or-set_same, length-set, mod-lt}
-use Rattle.ed_programs.proofs.Kit.{div-add-mod, A_F, L_D, T_F, Z_F, Size, E_stays, G_stays, O, Z, IsOutside, L1F}
-use Rattle.ed_programs.proofs.Kit.{L512F, Remains, set, along, to_stop, E_jumps, L, S, T, U, prints, any, early, out}
-use Rattle.ed_programs.proofs.Kit.{LD, followed, frame_at, [], ap, append-nil, arith, get_or, inr, length, List, lit<}
-use Rattle.ed_programs.proofs.Kit.{lit≤, Option, refl, rules, Some, subst, suc, sym, zero, ℕ, ◌%◌, ◌*◌, ◌++◌, ◌+◌, ◌-◌}
-use Rattle.ed_programs.proofs.Kit.{◌/◌, ◌<◌, ◌^◌, ◌∙◌, ◌∷◌, ◌≡◌, ◌≤◌, least, Frame, Moment, short, state, A, G_jumps}
-use Rattle.ed_programs.proofs.Kit.{on, Path, stay, own, ReachesStop, replicate, carries, tenfold}
-use Rattle.ed_programs.proofs.DecimalsPass.{after, after_long, line_codes, line_left, line_long, line_orders}
-use Rattle.ed_programs.proofs.DecimalsPass.{page_left, page_codes, page_orders, tenfold_long, units}
-use Rattle.ed_programs.proofs.Kit.{to, Path-counted, calls_own}
+use Rattle.ed_programs.proofs.Kit.{div-add-mod, A_F, L_D, T_F, Z_F, Size, E_stays, G_stays, O, Z, IsOutside, L1F, L512F}
+use Rattle.ed_programs.proofs.Kit.{Remains, set, along, to_stop, E_jumps, L, S, T, U, prints, any, early, out, LD}
+use Rattle.ed_programs.proofs.Kit.{followed, frame_at, [], ap, append-nil, arith, get_or, inr, length, List, lit<, lit≤}
+use Rattle.ed_programs.proofs.Kit.{Option, refl, rules, Some, subst, suc, sym, zero, ℕ, ◌%◌, ◌*◌, ◌++◌, ◌+◌, ◌-◌, ◌/◌}
+use Rattle.ed_programs.proofs.Kit.{◌<◌, ◌^◌, ◌∙◌, ◌∷◌, ◌≡◌, ◌≤◌, least, Frame, Moment, short, state, A, G_jumps, on}
+use Rattle.ed_programs.proofs.Kit.{Path, stay, own, ReachesStop, replicate, carries, tenfold, to, Path-counted}
+use Rattle.ed_programs.proofs.Kit.{calls_own}
+use Rattle.ed_programs.proofs.DecimalsPass.{after, after_long, line_codes, line_left, line_long, line_orders, page_left}
+use Rattle.ed_programs.proofs.DecimalsPass.{page_codes, page_orders, tenfold_long, units}
 
 -- the cells that change as a decimal is worked out, and those that count: the decimals left of a group, the groups of a
 -- line, and the lines
@@ -380,19 +380,16 @@ module _ (z : Size) (m : Moment) where
       (after_long 10 ns ∙ long) (omega arith) (omega arith)) (omega arith)
 
   -- a new line
-  back : (i : ℕ) → i < 100 → 56 + (i + 2) < f.top
-  back i low = let size = least z in omega arith
-
   new_line : (ws : List ℕ) (k : Work) (c : Counts) (last : Option ℕ) (i : ℕ) → IsAround ws → i < 100
       → Path f 5 (at 100 ws (to 28 i) k c last) (18 ∷ 24 ∷ [])
       (at (i + 2) ws 0 (record k { link = to 3 (i + 2) }) c (Some 24))
   new_line ws k c last i o low =
-      let all = o.all in let at3 = o.at3 in
+      let size = least z in let all = o.all in let at3 = o.at3 in
       on (A 100 (out 3 (early 3 (lit≤ tt) (lit< tt) all)) (short (to 3 (i + 2))) refl (omega arith))
       (on (T 101 (own 104) _ refl refl)
       (prints (O 102 (own 105) 18 refl refl)
       (prints (O 103 (own 106) 24 refl refl)
-      (on (E_jumps 104 (any (56 + (i + 2)) (back i low)) refl (lit< tt)) stay))))
+      (on (E_jumps 104 (any (56 + (i + 2)) (omega arith)) refl (lit< tt)) stay))))
 
   -- the orders after a line, up to the test
   turns_over : (ws : List ℕ) (k : Work) (c : Counts) (last : Option ℕ) (lines next : ℕ) → IsAround ws

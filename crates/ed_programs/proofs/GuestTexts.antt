@@ -27,17 +27,11 @@ end_short (b ∷ c ∷ bs) = let rest = end_short (c ∷ bs) in omega (arith, re
 text_short : (text : Text) (lines : List Text) → HasLines text lines → are_short lines ≡ true
     → length text ≤ 122 * length lines
 text_short _ _ nothing h = lit≤ tt
-text_short _ _ (last b bs plain) h =
-    let p = and_parts (nat_le (length (b ∷ bs)) 120) true h in
-    let few = leb-true (length (b ∷ bs)) 120 p.0 in
-    omega (arith, few)
+text_short _ _ (last b bs plain) h = grind (arith, nat_tests)
 text_short _ _ (ended line text lines plain more) h =
     let p = and_parts (nat_le (length (without_return line)) 120) (are_short lines) h in
     let few = leb-true (length (without_return line)) 120 p.0 in
-    let end = end_short line in
-    let rest = text_short text lines more p.1 in
-    let all = length-append line (10 ∷ text) in
-    omega (arith, few, end, rest, all)
+    omega (arith, end_short line, text_short text lines more p.1, length-append line (10 ∷ text))
 
 -- a source that says some lines has at most 262,144 bytes
 pub source_short : (text : Text) (two : Bool) (said : List Line) → IsProgram text two said → length text ≤ INPUT_BYTES

@@ -4,9 +4,9 @@ use Rattle.ed_programs.proofs.Kit.{get_or-set_other, get_or-set_same, length-set
 use Rattle.ed_programs.proofs.Kit.{E_stays, G_stays, I, O, Z, IsOutside, L512F, AreCodes, set, reverse-append, along}
 use Rattle.ed_programs.proofs.Kit.{to_stop, E_jumps, L, S, T, U, prints, early, out, LD, followed, [], append-nil}
 use Rattle.ed_programs.proofs.Kit.{append_assoc, arith, get_or, inr, length, List, lit<, lit≤, Option, refl, reverse}
-use Rattle.ed_programs.proofs.Kit.{Some, suc, sym, ℕ, ◌*◌, ◌++◌, ◌+◌, ◌-◌, ◌<◌, ◌∙◌, ◌∷◌, ◌≡◌, ◌≤◌, locations, least}
-use Rattle.ed_programs.proofs.Kit.{Frame, Moment, short, state, A, G_jumps, on, Path, stay, own, ReachesStop, printing}
-use Rattle.ed_programs.proofs.Kit.{stop_counted, Path-counted}
+use Rattle.ed_programs.proofs.Kit.{Some, suc, sym, ℕ, ◌*◌, ◌++◌, ◌+◌, ◌%◌, ◌-◌, ◌<◌, ◌∙◌, ◌∷◌, ◌≡◌, ◌≤◌, locations}
+use Rattle.ed_programs.proofs.Kit.{least, Frame, Moment, short, state, A, G_jumps, on, Path, stay, own, ReachesStop}
+use Rattle.ed_programs.proofs.Kit.{printing, stop_counted, Path-counted}
 
 -- the cells that change
 pub record Work : Type 0 where
@@ -78,23 +78,23 @@ module _ (z : Size) (m : Moment) where
   before ws n v s r (c ∷ cs) = at 1 ws v (work n (suc (length cs)) s r) (c ∷ cs) m.last
 
   -- what the count leaves
-  abbrev counted : List ℕ → ℕ
-  counted [] = 131071
-  counted (c ∷ cs) = length cs
+  abbrev counted : ℕ → ℕ
+  counted n = (131071 + n) % 131072
 
   -- the loop goes on as long as letters are left
   decides : (ws : List ℕ) (n s r : ℕ) (cs : List ℕ) → length cs ≤ 10
-      → Path f 2 (at 13 ws (length cs) (work n (length cs) s r) cs m.last) [] (before ws n (counted cs) s r cs)
+      → Path f 2 (at 13 ws (length cs) (work n (length cs) s r) cs m.last) [] (before ws n (counted (length cs)) s r cs)
   decides ws n s r [] few =
-      on (S 13 (own 27) (short 131071) refl (omega arith)) (on (E_stays 14 (own 1) refl (lit≤ tt)) stay)
+      on (S 13 (own 27) (short (counted 0)) refl (omega arith)) (on (E_stays 14 (own 1) refl (omega arith)) stay)
   decides ws n s r (d ∷ ds) few =
-      on (S 13 (own 27) (short (length ds)) refl (omega arith)) (on (E_jumps 14 (own 1) refl (omega arith)) stay)
+      on (S 13 (own 27) (short (counted (suc (length ds)))) refl (omega arith))
+      (on (E_jumps 14 (own 1) refl (omega arith)) stay)
 
   -- a letter is stored, the order that stores it gets the next address, and the count decreases by one
   turn : (ws : List ℕ) (n v s r c : ℕ) (cs : List ℕ) → length ws ≡ 1024 → get_or ws 2 0 ≡ 2 → c < 32
       → n + suc (length cs) ≤ 10 → v < 131072
       → Path f 14 (before ws n v s r (c ∷ cs)) []
-      (before (set ws (104 + n) (4096 * c)) (suc n) (counted cs) v c cs)
+      (before (set ws (104 + n) (4096 * c)) (suc n) (counted (length cs)) v c cs)
   turn ws n v s r c cs all at2 code few small =
       let size = least z in
       let outside : IsOutside f ws (104 + n) = record { below = omega arith; beside = inr (omega arith) } in
@@ -135,7 +135,7 @@ module _ (z : Size) (m : Moment) where
     stay,
   )
   takes (c ∷ cs) taken whole ws v s r is all at2 stored codes few small =
-      let rest = takes cs (c ∷ taken) whole (set ws (104 + length taken) (4096 * c)) (counted cs) v c
+      let rest = takes cs (c ∷ taken) whole (set ws (104 + length taken) (4096 * c)) (counted (length cs)) v c
       (rw (reverse-append (c ∷ []) cs, append_assoc (reverse cs) (c ∷ []) taken) at is)
       (length-set ws (104 + length taken) (4096 * c) ∙ all)
       (get_or-set_other ws (104 + length taken) 2 (4096 * c) 0 (omega arith) ∙ at2)
@@ -143,15 +143,11 @@ module _ (z : Size) (m : Moment) where
         get_or-set_same ws (104 + length taken) (4096 * c) 0 (omega arith),
         codes.0,
         stored_set ws (104 + length taken) (4096 * c) taken (omega arith) stored,
-      ) codes.1 (omega arith) (below cs (omega arith)) in (
+      ) codes.1 (omega arith) (omega arith) in (
         rest.0,
         Path-counted (followed (turn ws (length taken) v s r c cs all at2 codes.0 (omega arith) small) rest.1)
             (omega arith),
       )
-    where
-      below : (cs : List ℕ) → length cs ≤ 10 → counted cs < 131072
-      below [] few = lit< tt
-      below (c ∷ cs) few = omega arith
 
   -- ---- the letters are printed, the last one first
 
