@@ -45,12 +45,9 @@ pub record Letter (b : ℕ) : Type 0 where
 pub letter : (b : ℕ) → (nat_le 65 b && nat_le b 90) ≡ true → Letter b
 letter b h =
     let p = and_parts (nat_le 65 b) (nat_le b 90) h in
-    let low = leb-true 65 b p.0 in
-    let high = leb-true b 90 p.1 in
-    let is = among fine 65 26 b refl (omega arith) (omega arith) in
-    let q = and_parts (is_row_byte b) _ is in
-    let r = and_parts (bytes_eq (struck_bytes Letters (row (row_of b))) (b ∷ [])) _ q.1 in
-    let t = and_parts (not (row (row_of b) == 11)) _ r.1 in
+    let q = and_parts _ _ (among fine 65 26 b refl (leb-true 65 b p.0) (omega (arith, leb-true b 90 p.1))) in
+    let r = and_parts _ _ q.1 in
+    let t = and_parts _ _ r.1 in
     record {
       row_byte = q.0;
       struck_is = (bytes_eq-Decides (struck_bytes Letters (row (row_of b))) (b ∷ [])).0 r.0;

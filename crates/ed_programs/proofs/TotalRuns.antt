@@ -1,8 +1,8 @@
 -- The source of `examples/total.edsac` for any list: its path, and what it prints.
 use Rattle.ed_programs.proofs.Kit.{Z_F, Size, G_stays, Z, Settings, Line, sum_by, along, IsIn, Journey, stop_after}
 use Rattle.ed_programs.proofs.Kit.{then, to_stop, E_jumps, S, T, print_line, get_own, frame_at, moment_at, []}
-use Rattle.ed_programs.proofs.Kit.{append-nil, arith, false, length, List, lit<, lit≤, map, nat_le, nat_lt, refl, sym}
-use Rattle.ed_programs.proofs.Kit.{true, ℕ, ◌*◌, ◌++◌, ◌+◌, ◌-◌, ◌<◌, ◌∙◌, ◌∷◌, ◌≡◌, ◌≤◌, list_all, and_from, and_parts}
+use Rattle.ed_programs.proofs.Kit.{append-nil, arith, false, length, List, lit<, lit≤, map, nat_le, refl, sym, true, ℕ}
+use Rattle.ed_programs.proofs.Kit.{◌*◌, ◌++◌, ◌+◌, ◌-◌, ◌<◌, ◌∙◌, ◌∷◌, ◌≡◌, ◌≤◌, list_all, and_from, and_parts}
 use Rattle.ed_programs.proofs.Kit.{leb-true, lt-ltb, sum_by-cons, Text, Frame, Moment, short, state, A, G_jumps, on}
 use Rattle.ed_programs.proofs.Kit.{stay, own, settings, parameter_store, digits, print_orders, few_digits, ReachesStop}
 use Rattle.ed_programs.proofs.Kit.{entry_state, digits_printed, numbers_text, SourceRuns, total_text, HasRead}
@@ -91,8 +91,7 @@ module _ (z : Size) (m : Moment) where
 
 sum_bounds : (ns : List ℕ) → sum ns < 65536 → are_small ns ≡ true
 sum_bounds [] l = refl
-sum_bounds (n ∷ ns) l =
-    and_from (nat_lt n 65536) (are_small ns) (lt-ltb n 65536 (omega arith)) (sum_bounds ns (omega arith))
+sum_bounds (n ∷ ns) l = and_from _ _ (lt-ltb n 65536 (omega arith)) (sum_bounds ns (omega arith))
 
 module _ (ns : List ℕ) (least : list_all (λ n. nat_le 1 n) ns ≡ true) (small : sum ns < 65536)
     (fits : length (numbers_text (ns ++ 0 ∷ [])) ≤ 113) where
