@@ -1,5 +1,5 @@
 -- What the program of `examples/calendar.tape` counts is the calendar, from 1901 to 2099.
-use Rattle.ed_programs.proofs.Kit.{sum, among, [], ap, arith, Bool, get_or, if◌then◌else◌, not, refl, rules, suc, true}
+use Rattle.ed_programs.proofs.Kit.{sum, among, [], arith, Bool, get_or, if◌then◌else◌, not, refl, rules, suc, true}
 use Rattle.ed_programs.proofs.Kit.{zero, ℕ, ◌%◌, ◌*◌, ◌+◌, ◌/◌, ◌==◌, ◌∙◌, ◌∷◌, ◌≡◌, ◌≤◌, nat_tests, days_before}
 use Rattle.ed_programs.proofs.Kit.{is_leap, month_lengths, weekday, place}
 use Rattle.ed_programs.specs.Calendar.{years_length}
@@ -34,11 +34,8 @@ next_year n = omega arith
 pub years_length_is : (n : ℕ) → n ≤ 199 → years_length (suc n) ≡ 365 + 365 * n + n / 4
 years_length_is zero few = refl
 years_length_is (suc n) few =
-    ap (λ (y : ℕ). years_length (suc n) + sum (month_lengths y)) (next_year n)
-    ∙ ap (λ (d : ℕ). years_length (suc n) + d) (year_length_is (1901 + n))
-    ∙ ap (λ (b : Bool). years_length (suc n) + (if b then 366 else 365)) (leap_is n (omega arith))
-    ∙ ap (λ (d : ℕ). d + (if n % 4 == 3 then 366 else 365)) (years_length_is n (omega arith))
-    ∙ days_next (n % 4 == 3) n refl
+    rw (next_year n, year_length_is (1901 + n), leap_is n (omega arith), years_length_is n (omega arith))
+    (days_next (n % 4 == 3) n refl)
 
 -- ---- the day of the week
 

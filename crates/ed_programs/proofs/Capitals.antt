@@ -58,18 +58,16 @@ letter b h =
 pub are_rows : (q : Text) → list_all (λ b. nat_le 65 b && nat_le b 90) q ≡ true → list_all is_row_byte q ≡ true
 are_rows [] h = refl
 are_rows (b ∷ q) h =
-    let p = and_parts (nat_le 65 b && nat_le b 90) (list_all (λ b. nat_le 65 b && nat_le b 90) q) h in
-    and_from _ _ (letter b p.0).row_byte (are_rows q p.1)
+    let p = and_parts _ _ h in and_from _ _ (letter b p.0).row_byte (are_rows q p.1)
 
 -- letters are printed as they are
 pub capitals_shown : (q : Text) (more : List ℕ) → list_all is_capital q ≡ true
     → paper_from Letters (text_rows q ++ more) ≡ q ++ paper_from Letters more
 capitals_shown [] more h = refl
 capitals_shown (b ∷ q) more h =
-    let p = and_parts (is_capital b) (list_all is_capital q) h in
+    let p = and_parts _ _ h in
     let l = letter b p.0 in
-    let a = l.struck_is in let c = l.no_figures in let d = l.no_letters in
-    rw (c, d, a) (ap (λ (x : Text). b ∷ x) (capitals_shown q more p.1))
+    rw (l.no_figures, l.no_letters, l.struck_is) (ap (λ (x : Text). b ∷ x) (capitals_shown q more p.1))
 
 -- and a new line follows
 pub letters_shown : (q : Text) → list_all (λ b. nat_le 65 b && nat_le b 90) q ≡ true

@@ -1,7 +1,7 @@
 -- Why the method is right: what it gives with any number of divisors are the decimals of the sum of the fractions.
 use Rattle.ed_programs.proofs.Kit.{mod-lt, div-add-mod, mul-le-mul_right, [], ap, arith, List, lit<, lit≤, refl, subst}
-use Rattle.ed_programs.proofs.Kit.{suc, sym, zero, ℕ, ◌%◌, ◌*◌, ◌+◌, ◌/◌, ◌<◌, ◌^◌, ◌∙◌, ◌∷◌, ◌≡◌, ◌≤◌, replicate}
-use Rattle.ed_programs.proofs.Kit.{carries, factorial, parts, tenfold}
+use Rattle.ed_programs.proofs.Kit.{suc, sym, zero, ℕ, ◌*◌, ◌+◌, ◌/◌, ◌<◌, ◌^◌, ◌∙◌, ◌∷◌, ◌≡◌, ◌≤◌, replicate, carries}
+use Rattle.ed_programs.proofs.Kit.{factorial, parts, tenfold}
 use Rattle.std.proofs.Math.Nat.{pow-suc}
 use Rattle.std.proofs.lemmas.Nat.{div-mul-add}
 use Rattle.ed_notation.specs.Items.{digits_number}
@@ -46,12 +46,9 @@ less_than_one d (n ∷ ns) o =
 tenfold_is : (d : ℕ) (ns : List ℕ) → 10 * value d ns ≡ (tenfold d ns).carry * weight d ns + value d (tenfold d ns).left
 tenfold_is d [] = refl
 tenfold_is d (n ∷ ns) =
-    let w : ℕ = weight (suc d) ns in
-    let c : ℕ = (tenfold (suc d) ns).carry in
-    let l : ℕ = value (suc d) (tenfold (suc d) ns).left in
-    let x : ℕ = 10 * n + c in
-    let rest : 10 * value (suc d) ns ≡ c * w + l = tenfold_is (suc d) ns in
-    let shares : (d * (x / d) + x % d) * w ≡ x * w = ap (λ y. y * w) (div-add-mod x d) in
+    let x : ℕ = 10 * n + (tenfold (suc d) ns).carry in
+    let rest = tenfold_is (suc d) ns in
+    let shares = ap (λ y. y * weight (suc d) ns) (div-add-mod x d) in
     rw (weight_left (suc d) ns) (omega (arith, rest, shares))
 
 -- 10^m times a number and the sum, by the decimals

@@ -5,7 +5,7 @@ use Rattle.ed_programs.proofs.Kit.{List, None, Option, refl, Some, subst, sym, t
 use Rattle.ed_programs.proofs.Kit.{◌≡◌, first_counter, entry_of, symbols_of, true≢false, checker_base, EntersChecker}
 use Rattle.ed_link.proofs.Kit.{is_some, counter_from, after_statement, HasEnter, HasNoFault, on_line, entered_place}
 use Rattle.ed_link.proofs.Kit.{entry_from}
-use Rattle.ed_symbols.proofs.Kit.{defines_again, definition_of, line_definitions, symbols_from}
+use Rattle.ed_symbols.proofs.Kit.{defines_again, definition_of, symbols_from}
 use Rattle.std.proofs.Common.{option_map}
 use Rattle.std.proofs.lemmas.Bool.{false_from_ne_true}
 use Rattle.ed_symbols.specs.NameTests.{is_again}
@@ -45,9 +45,7 @@ homes_append : (s : LocationCounter) (xs ys : List Line)
     → symbols_from s (xs ++ ys) ≡ symbols_from s xs ++ symbols_from (counter_from s xs) ys
 homes_append s [] ys = refl
 homes_append s (x ∷ xs) ys =
-    ap (λ (hs : List Definition). line_definitions x s ++ hs) (homes_append (after_statement x.statement s) xs ys)
-    ∙ sym (append_assoc (line_definitions x s) (symbols_from (after_statement x.statement s) xs)
-    (symbols_from (counter_from (after_statement x.statement s) xs) ys))
+    let rest = homes_append (after_statement x.statement s) xs ys in simp (rest, append_assoc {A = Definition})
 
 -- a name that isn't defined by the first ones
 later_home : (g : Option ℕ) (name : List ℕ) (hs rest : List Definition) → is_some (definition_of g name hs) ≡ false

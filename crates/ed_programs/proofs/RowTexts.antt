@@ -2,8 +2,8 @@
 use Rattle.ed_programs.proofs.Kit.{few_bytes, bytes_eq, bytes_eq-Decides, among, arith, none, Spells, are, decimal_is}
 use Rattle.ed_programs.proofs.Kit.{row_bytes, rows_are, written, [], ap, Bool, decimal, false, get_or, if◌then◌else◌}
 use Rattle.ed_programs.proofs.Kit.{length, List, map, nat_le, nat_lt, None, Option, refl, Some, subst, suc, true, ℕ}
-use Rattle.ed_programs.proofs.Kit.{◌%◌, ◌-◌, ◌<◌, ◌==◌, ◌∙◌, ◌∷◌, ◌≡◌, ◌≤◌, list_all, and_from, and_parts, eqb-true}
-use Rattle.ed_programs.proofs.Kit.{leb-true, lt-ltb, ltb-true, Text, row_of, row, spells, digits, ◌&&◌}
+use Rattle.ed_programs.proofs.Kit.{◌%◌, ◌-◌, ◌<◌, ◌==◌, ◌∙◌, ◌∷◌, ◌≡◌, ◌≤◌, list_all, and_parts, eqb-true, leb-true}
+use Rattle.ed_programs.proofs.Kit.{lt-ltb, ltb-true, Text, row_of, row, spells, digits, ◌&&◌}
 use Rattle.std.proofs.Common.{position}
 use Rattle.std.proofs.lemmas.List.Quantifiers.{position-Some}
 use Rattle.ed_codes.specs.Spelling.{letters}
@@ -59,10 +59,7 @@ spelled (b ∷ q) (r ∷ rows) e =
     let more : map row_of q ≡ map (λ r. Some r) rows = cc in
     let rest = spelled q rows more in
     let low : nat_lt b 128 ≡ true = lt-ltb b 128 (row_below b r first) in
-    let here : is_row_byte b ≡ true = and_from _ _ low (ap spells first) in (
-      and_from _ _ here rest.0,
-      (λ i. row (first i) ∷ rest.1 i),
-    )
+    rw (low, first, rest.0, rest.1) (refl, refl)
 
 pub rows_spelled : {q : Text} {rows : List ℕ} → AreRowsOf q rows
     → (list_all is_row_byte q ≡ true) × (text_rows q ≡ rows)
