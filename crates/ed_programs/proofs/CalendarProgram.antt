@@ -1,10 +1,9 @@
 -- The program of `examples/calendar.tape` from its entry to its stop, for each month from 1901 to 2099.
-use Rattle.ed_programs.proofs.Kit.{sum, Z_F, Size, Z, along, to_stop, T, followed, [], ap, arith, Bool, if◌then◌else◌}
-use Rattle.ed_programs.proofs.Kit.{length, List, lit<, map, refl, Some, suc, sym, ℕ, ◌%◌, ◌*◌, ◌++◌, ◌+◌, ◌-◌, ◌<◌}
-use Rattle.ed_programs.proofs.Kit.{◌==◌, ◌∙◌, ◌∷◌, ◌≡◌, ◌≤◌, Moment, short, state, A, on, Path, stay, own, digits}
-use Rattle.ed_programs.proofs.Kit.{ReachesStop, calendar_orders, day_orders, days_before, is_leap, month_length}
-use Rattle.ed_programs.proofs.Kit.{month_lengths, weekday_count, calendar_codes, to, Path-counted, stop_counted}
-use Rattle.ed_programs.proofs.Kit.{calls_own}
+use Rattle.ed_programs.proofs.Kit.{sum, Z_F, Size, Z, along, to_stop, T, followed, [], ap, arith, if◌then◌else◌, length}
+use Rattle.ed_programs.proofs.Kit.{List, lit<, map, refl, Some, suc, sym, ℕ, ◌%◌, ◌*◌, ◌++◌, ◌+◌, ◌-◌, ◌<◌, ◌==◌, ◌∙◌}
+use Rattle.ed_programs.proofs.Kit.{◌∷◌, ◌≡◌, ◌≤◌, Moment, short, state, A, on, Path, stay, own, digits, ReachesStop}
+use Rattle.ed_programs.proofs.Kit.{calendar_orders, day_orders, days_before, is_leap, month_length, month_lengths}
+use Rattle.ed_programs.proofs.Kit.{weekday_count, calendar_codes, to, Path-counted, stop_counted, calls_own}
 use Rattle.ed_programs.proofs.CalendarCells.{at, frame, loaded, IsAround, Work}
 use Rattle.ed_programs.proofs.CalendarCodes.{range_is}
 use Rattle.std.proofs.lemmas.List.Sums.{sum_by-take-le}
@@ -54,15 +53,12 @@ module _ (z : Size) (m : Moment) (o : IsAround m.words) where
 
   module _ (month year : ℕ) (low_month : 1 ≤ month) (high_month : month ≤ 12) (low : 1901 ≤ year)
       (high : year ≤ 2099) where
-    -- the years since 1901, the months before, and whether it is a leap year
+    -- the years since 1901, and the months before
     abbrev n : ℕ
     n = year - 1901
 
     abbrev i : ℕ
     i = month - 1
-
-    abbrev b : Bool
-    b = is_leap year
 
     -- the weekday before sevens are taken away, and the length of the month
     abbrev v : ℕ
@@ -88,7 +84,7 @@ module _ (z : Size) (m : Moment) (o : IsAround m.words) where
 
     -- the words after the years, after the months, and above the days
     abbrev after : ℕ → Work
-    after x = record (after_years n x (given month year)) { february = if b then 29 else 28 }
+    after x = record (after_years n x (given month year)) { february = if is_leap year then 29 else 28 }
 
     abbrev counted_to : ℕ → Work
     counted_to x = record (named i (letter i 0) (letter i 1) (letter i 2) (after x)) {

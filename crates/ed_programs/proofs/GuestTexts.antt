@@ -98,33 +98,6 @@ last_say two _ _ _ (and_more k line lines f said s h) (first ∷ front) rest e =
       says = l.says;
     }
 
--- a source whose text ends with these lines says them last
-record EndsWith (two : Bool) (rest : List Text) (said : List Line) : Type 0 where
-  number : ℕ
-  before : List Line
-  behind : List Line
-  said_are : said ≡ before ++ behind
-  read : lines_from two number rest ≡ Ok behind
-  few : number + length rest ≤ 2001
-
-ends_with : (front rest : Text) (two : Bool) (said : List Line) → IsProgram (front ++ 10 ∷ rest) two said
-    → EndsWith two (lines_of rest) said
-ends_with front rest two said p =
-    let a = lines_ahead front rest in
-    let l = last_say two 1 p.lines said p.says (a.0 ∷ a.1) (lines_of rest)
-    (sym (lines_are_read (front ++ 10 ∷ rest) p.lines p.has_lines) ∙ a.2) in
-    let number = l.number_is in
-    let most = p.few in
-    let few : l.number + length (lines_of rest) ≤ 2001 = omega (arith, number, most) in
-    record {
-      number = l.number;
-      before = l.before;
-      behind = l.behind;
-      said_are = l.said_are;
-      read = say_is_read two l.number (lines_of rest) l.behind l.says (omega (arith, few));
-      few = few;
-    }
-
 -- ---- the source that is made for a guest
 
 -- its last two lines
@@ -187,8 +160,13 @@ pub record EntersFromMain (lines : List Line) : Type 0 where
 pub enters_from_main : (guest : Text) (two : Bool) (said : List Line) → IsProgram (checked_text guest) two said
     → EntersFromMain said
 enters_from_main guest two said p =
-    let e = ends_with guest (text_of_lines last_texts) two said p in
-    let read = e.read in let again = last_read two e.number e.few in
-    let last : e.behind ≡ last_lines e.number = cc in
-    let all : said ≡ e.before ++ last_lines e.number = e.said_are ∙ ap (λ (ls : List Line). e.before ++ ls) last in
-    record { enters = enters_at e.number e.before said all; first = refl }
+    let a = lines_ahead guest (text_of_lines last_texts) in
+    let l = last_say two 1 p.lines said p.says (a.0 ∷ a.1) last_texts
+    (sym (lines_are_read (checked_text guest) p.lines p.has_lines) ∙ a.2) in
+    let number = l.number_is in
+    let few : l.number + 2 ≤ 2001 = (let most = p.few in omega arith) in
+    let read = say_is_read two l.number last_texts l.behind l.says (omega arith) in
+    let again = last_read two l.number few in
+    let last : l.behind ≡ last_lines l.number = cc in
+    let all : said ≡ l.before ++ last_lines l.number = l.said_are ∙ ap (λ (ls : List Line). l.before ++ ls) last in
+    record { enters = enters_at l.number l.before said all; first = refl }
