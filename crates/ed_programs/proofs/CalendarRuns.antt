@@ -53,7 +53,7 @@ few_codes month year some few =
 pub each_month : (s : Settings) (month year : ℕ) → 1 ≤ month → month ≤ 12 → 1901 ≤ year → year ≤ 2099
     → TapeRuns s (calendar_text month year) calendar_cost (calendar_orders month year) 188 (calendar_prints month year)
 each_month s month year some few low high =
-    let rest : List ℕ = data_rows month year in
+    let rest = data_rows month year in
     tape_runs s (calendar_text month year) (calendar_rows rest) (calendar_entry rest)
     (text_reads month year (omega arith) (omega arith)) (few_text month year (omega arith) (omega arith))
     (calendar_arrives s.size rest) (calendar_ends s month year some few low high) (few_codes month year some few)

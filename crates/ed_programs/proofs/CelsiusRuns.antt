@@ -6,9 +6,9 @@ use Rattle.ed_programs.proofs.Kit.{ℕ, ◌*◌, ◌++◌, ◌+◌, ◌-◌, ◌
 use Rattle.ed_programs.proofs.Kit.{leb-true, lt-ltb, ltb-true, length-map, sum_by-cons, Text, Frame, Moment, short}
 use Rattle.ed_programs.proofs.Kit.{state, A, G_jumps, on, Path, stay, own, settings, parameter_store, digits}
 use Rattle.ed_programs.proofs.Kit.{print_orders, ReachesStop, entry_state, celsius_text, numbers_text, on_lines}
-use Rattle.ed_programs.proofs.Kit.{SourceRuns, HasRead, reads_number, are_small, number_rows, HasShown, shows_number}
-use Rattle.ed_programs.proofs.Kit.{stops_from_entry, Marked, to, calling, journey_counted, stop_counted, HasThree}
-use Rattle.ed_programs.proofs.Kit.{three_read, three_shown, three_at_entry}
+use Rattle.ed_programs.proofs.Kit.{SourceRuns, reads_number, are_small, number_rows, shows_number, stops_from_entry}
+use Rattle.ed_programs.proofs.Kit.{Marked, to, calling, journey_counted, stop_counted, HasThree, three_read}
+use Rattle.ed_programs.proofs.Kit.{three_shown, three_at_entry}
 use Rattle.ed_machine.proofs.Kit.Moves.{H, V, T_top}
 use Rattle.ed_programs.specs.Celsius.{celsius, celsius_orders}
 use Rattle.ed_programs.specs.declared.celsius.TheConstants.{CELSIUS}
@@ -66,8 +66,7 @@ module _ (z : Size) (m : Moment) where
   turn n value factor words last rest three least small =
       let start : IsIn f (at 0 words 0 value factor last (digits n ++ 17 ∷ rest)) =
       record { above = lit≤ tt; all = three.both.all; own = refl } in
-      let one : HasRead start 0 15 74 n rest =
-      reads_number start 0 15 n rest three.both.reads refl small (lit< tt) (lit≤ tt) refl refl refl in
+      let one = reads_number start 0 15 n rest three.both.reads refl small (lit< tt) (lit≤ tt) refl refl refl in
       let read = three_read one three in
       let q : ℕ = celsius n in
       let converts : Path f 7 (at 2 one.words 0 n factor last rest) [] (at 9 one.words 0 q (36409 * 2 ^ 18) last rest) =
@@ -80,9 +79,8 @@ module _ (z : Size) (m : Moment) where
       (on (T_top 8 (own 15) q refl (ninths (n - 32) (omega arith))) stay)))))) in
       let ready : IsIn f (at 9 one.words 0 q (36409 * 2 ^ 18) last rest) =
       record { above = lit≤ tt; all = read.both.all; own = refl } in
-      let shown : HasShown ready 9 15 98 150 q =
-      shows_number ready 9 15 q read.both.prints read.lines read.beyond refl (omega arith) (lit< tt) (lit≤ tt) refl refl
-      refl refl refl in
+      let shown = shows_number ready 9 15 q read.both.prints read.lines read.beyond refl (omega arith) (lit< tt)
+      (lit≤ tt) refl refl refl refl refl in
       record {
         after = shown.words;
         three = three_shown shown read;
@@ -98,8 +96,7 @@ module _ (z : Size) (m : Moment) where
   stops [] end value factor words last three small least low done =
       let start : IsIn f (at 0 words 0 value factor last (number_rows (end ∷ []))) =
       record { above = lit≤ tt; all = three.both.all; own = refl } in
-      let one : HasRead start 0 15 74 end [] =
-      reads_number start 0 15 end [] three.both.reads refl (omega arith) (lit< tt) (lit≤ tt) refl refl refl in
+      let one = reads_number start 0 15 end [] three.both.reads refl (omega arith) (lit< tt) (lit≤ tt) refl refl refl in
       stop_counted (to_stop (then one.journey (along
       (on (A 2 (own 15) (short end) refl (omega arith))
       (on (S 3 (own 16) (short (131072 - (32 - end))) refl (omega arith))

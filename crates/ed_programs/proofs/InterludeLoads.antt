@@ -1,7 +1,7 @@
 -- The loads of the two parts of the tape `examples/interlude.tape`, for any number: their entries, and what they cost.
 use Rattle.ed_programs.proofs.Kit.{get_or-set_other, E_F, T_F, Size, Item, spelled_rows, digits_of, plain, set}
 use Rattle.ed_programs.proofs.Kit.{canonical, canonicals, [], ap, arith, get_or, length, List, lit≤, refl, rules, subst}
-use Rattle.ed_programs.proofs.Kit.{sym, true, ℕ, ◌*◌, ◌++◌, ◌+◌, ◌/◌, ◌<◌, ◌∙◌, ◌∷◌, ◌≡◌, ◌≤◌, locations, least}
+use Rattle.ed_programs.proofs.Kit.{sym, ℕ, ◌*◌, ◌++◌, ◌+◌, ◌/◌, ◌<◌, ◌∙◌, ◌∷◌, ◌≡◌, ◌≤◌, locations, least}
 use Rattle.ed_programs.proofs.Kit.{locations_most, RowsReachEntry, WellFormed, NotationState, over, rows_of, opening}
 use Rattle.ed_programs.proofs.Kit.{get_or-set_same, ◌≢◌, zero, suc}
 use Rattle.ed_notation.proofs.Kit.{EndsSound, cost_of, is_entry, IsDirective}
@@ -9,8 +9,7 @@ use Rattle.ed_notation.proofs.Contents.{length-over}
 use Rattle.ed_notation.proofs.Canonical.{is_written}
 use Rattle.ed_notation.proofs.Placing.{block, laid, placing_all}
 use Rattle.ed_notation.proofs.Sound.{sound_well}
-use Rattle.ed_notation.proofs.Steps.{Enters, Reads, Does-aiming, aiming_entry, entering_at, reads_both, reads_none}
-use Rattle.ed_notation.proofs.Steps.{reads_one}
+use Rattle.ed_notation.proofs.Steps.{Reads, Does-aiming, aiming_entry, entering_at, reads_both, reads_none, reads_one}
 
 -- items before an entry item P F, and the entry to which they lead from a state of the notation
 pub record Entered (z : Size) (words : List ℕ) (start : NotationState) (base at : ℕ) (is : List Item)
@@ -34,14 +33,13 @@ pub entered : {z : Size} {words : List ℕ} {start last : NotationState} {is : L
     → IsDirective start.directive → Reads z words start is last cost → last.directive ≡ E_F + 2 * at → 44 ≤ at
     → at < locations z → Entered z words start base at is last cost rest
 entered {z} {words} {start} {last} {is} {cost} base at rest set reads aim low high =
-    let e : Enters z words last at = entering_at z words last at aim low high in
-    let enters : is_entry last (plain 0 0 17) ≡ true = e.enters in
+    let e = entering_at z words last at aim low high in
     let m = locations_most z in
     let three : last.directive / 4096 ≡ 3 = omega (arith, aim) in
     let end : cost_of last (canonical (plain 0 0 17)) ≡ 19 = rw three refl in
     record {
       well = sound_well (canonicals is) rest set reads.are_read reads.are_sound (is_written (plain 0 0 17) refl)
-          (ap (λ (n : NotationState). is_entry n (plain 0 0 17)) reads.folds ∙ enters)
+          (ap (λ (n : NotationState). is_entry n (plain 0 0 17)) reads.folds ∙ e.enters)
           (subst (λ (n : NotationState). EndsSound z words n (canonical (plain 0 0 17))) (sym reads.folds) e.sound);
       comes = record {
         before = canonicals is;
@@ -49,7 +47,7 @@ entered {z} {words} {start} {last} {is} {cost} base at rest set reads aim low hi
         are_read = reads.are_read;
         is_written = is_written (plain 0 0 17) refl;
         notation_is = sym reads.folds;
-        is_entry = enters;
+        is_entry = e.enters;
         rows_are = refl;
         last_is = refl;
         at_is = sym e.place;

@@ -5,9 +5,9 @@ use Rattle.ed_programs.proofs.Kit.{append-nil, arith, false, length, List, lit<,
 use Rattle.ed_programs.proofs.Kit.{◌*◌, ◌++◌, ◌+◌, ◌-◌, ◌<◌, ◌∙◌, ◌∷◌, ◌≡◌, ◌≤◌, list_all, and_from, and_parts}
 use Rattle.ed_programs.proofs.Kit.{leb-true, lt-ltb, sum_by-cons, Text, Frame, Moment, short, state, A, G_jumps, on}
 use Rattle.ed_programs.proofs.Kit.{stay, own, settings, parameter_store, digits, print_orders, few_digits, ReachesStop}
-use Rattle.ed_programs.proofs.Kit.{entry_state, digits_printed, numbers_text, SourceRuns, total_text, HasRead}
-use Rattle.ed_programs.proofs.Kit.{reads_number, are_small, number_rows, stops_from_entry, Marked, to, calling}
-use Rattle.ed_programs.proofs.Kit.{journey_counted, stop_counted, HasPair, pair_after, pair_at_entry}
+use Rattle.ed_programs.proofs.Kit.{entry_state, digits_printed, numbers_text, SourceRuns, total_text, reads_number}
+use Rattle.ed_programs.proofs.Kit.{are_small, number_rows, stops_from_entry, Marked, to, calling, journey_counted}
+use Rattle.ed_programs.proofs.Kit.{stop_counted, HasPair, pair_after, pair_at_entry}
 use Rattle.std.specs.Fmt.{decimal}
 use Rattle.ed_routines.specs.Digits.{sum}
 use Rattle.ed_programs.specs.Total.{total_orders}
@@ -53,8 +53,7 @@ module _ (z : Size) (m : Moment) where
   stops [] so_far all value words has least is small done =
       let start : IsIn f (at 0 words 0 value so_far 0 (number_rows (0 ∷ []))) =
       record { above = lit≤ tt; all = has.all; own = refl } in
-      let one : HasRead start 0 13 74 0 [] =
-      reads_number start 0 13 0 [] has.reads refl (lit< tt) (lit< tt) (lit≤ tt) refl refl refl in
+      let one = reads_number start 0 13 0 [] has.reads refl (lit< tt) (lit< tt) (lit≤ tt) refl refl refl in
       let read = pair_after one has in
       let last : IsIn f (at 10 one.words 0 0 so_far 131071 []) =
       record { above = lit≤ tt; all = read.all; own = refl } in
@@ -74,8 +73,7 @@ module _ (z : Size) (m : Moment) where
       let rest : List ℕ = number_rows (ns ++ 0 ∷ []) in
       let start : IsIn f (at 0 words 0 value so_far 0 (digits n ++ 17 ∷ rest)) =
       record { above = lit≤ tt; all = has.all; own = refl } in
-      let one : HasRead start 0 13 74 n rest =
-      reads_number start 0 13 n rest has.reads refl (omega (arith, is, small)) (lit< tt) (lit≤ tt) refl refl refl in
+      let one = reads_number start 0 13 n rest has.reads refl (omega arith) (lit< tt) (lit≤ tt) refl refl refl in
       let turn : Journey f (adding_orders n)
       (at 0 words 0 value so_far 0 (digits n ++ 17 ∷ rest)) [] (at 0 one.words 0 n (so_far + n) 0 rest) =
       journey_counted (then one.journey (along (on (A 2 (own 13) (short n) refl (omega arith))
