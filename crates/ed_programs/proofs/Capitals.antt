@@ -1,8 +1,8 @@
 -- Capital letters: each spells a row of tape, and is printed as it is.
-use Rattle.ed_programs.proofs.Kit.{Letters, bytes_eq, bytes_eq-Decides, among, [], ap, arith, Bool, false}
-use Rattle.ed_programs.proofs.Kit.{if◌then◌else◌, length, List, nat_le, nat_lt, None, not, refl, Some, true, ℕ, ◌++◌}
-use Rattle.ed_programs.proofs.Kit.{◌==◌, ◌||◌, ◌∷◌, ◌≡◌, ◌≤◌, list_all, and_from, and_parts, leb-true, not-true}
-use Rattle.ed_programs.proofs.Kit.{nat_tests, Text, row_of, row, ◌&&◌, paper_from, is_capital}
+use Rattle.ed_programs.proofs.Kit.{Letters, bytes_eq, bytes_eq-Decides, among, [], ap, arith, Bool, false, length, List}
+use Rattle.ed_programs.proofs.Kit.{nat_le, None, not, refl, true, ℕ, ◌++◌, ◌==◌, ◌∷◌, ◌≡◌, ◌≤◌, list_all, and_from}
+use Rattle.ed_programs.proofs.Kit.{and_parts, leb-true, not-true, nat_tests, Text, row_of, row, ◌&&◌, paper_from}
+use Rattle.ed_programs.proofs.Kit.{is_capital}
 use Rattle.ed_printer.specs.Paper.{struck_bytes}
 use Rattle.ed_programs.specs.Hello.{letters_refusal}
 use Rattle.ed_programs.proofs.RowTexts.{is_row_byte, text_rows}
@@ -16,19 +16,11 @@ pub record AreLetters (most : ℕ) (letters : Text) : Type 0 where
 
 -- a text that is not refused is such letters
 pub are_letters : (most : ℕ) (letters : Text) → letters_refusal most letters ≡ None → AreLetters most letters
-are_letters most letters taken =
-    by_tests (length letters == 0 || nat_lt most (length letters)) (list_all is_capital letters) refl refl taken
-  where
-    by_tests : (wrong all : Bool) → (length letters == 0 || nat_lt most (length letters)) ≡ wrong
-        → list_all is_capital letters ≡ all
-        → (if wrong then Some refusal.Length else if all then None else Some refusal.Letter) ≡ None → AreLetters most letters
-    by_tests true all is is_all none = absurd cc
-    by_tests false false is is_all none = absurd cc
-    by_tests false true is is_all none = record {
-      some = grind (arith, nat_tests);
-      few = grind (arith, nat_tests);
-      capital = is_all;
-    }
+are_letters most letters taken = record {
+  some = grind (arith, nat_tests);
+  few = grind (arith, nat_tests);
+  capital = grind (arith, nat_tests);
+}
 
 -- what is so of each letter, as a test
 abbrev fine : ℕ → Bool

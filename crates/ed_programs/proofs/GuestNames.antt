@@ -1,8 +1,8 @@
 -- A source that enters the checking routine is entered at the routine's base.
 use Rattle.ed_programs.proofs.Kit.{arith, nat_tests, Size, Line, Statement, Enter, bytes_eq, bytes_eq-Decides}
-use Rattle.ed_programs.proofs.Kit.{Definition, counter_after, place_on, [], ap, append_assoc, Bool, false, inl, inr}
-use Rattle.ed_programs.proofs.Kit.{List, None, Option, refl, Some, subst, sym, true, unwrap_or, ℕ, ◌++◌, ◌||◌, ◌∙◌, ◌∷◌}
-use Rattle.ed_programs.proofs.Kit.{◌≡◌, first_counter, entry_of, symbols_of, true≢false, checker_base, EntersChecker}
+use Rattle.ed_programs.proofs.Kit.{Definition, counter_after, place_on, [], ap, append_assoc, false, inl, inr, List}
+use Rattle.ed_programs.proofs.Kit.{None, Option, refl, Some, subst, sym, true, unwrap_or, ℕ, ◌++◌, ◌∙◌, ◌∷◌, ◌≡◌}
+use Rattle.ed_programs.proofs.Kit.{first_counter, entry_of, symbols_of, checker_base, EntersChecker}
 use Rattle.ed_link.proofs.Kit.{is_some, counter_from, after_statement, HasEnter, HasNoFault, on_line, entered_place}
 use Rattle.ed_link.proofs.Kit.{entry_from}
 use Rattle.ed_symbols.proofs.Kit.{defines_again, definition_of, symbols_from}
@@ -63,10 +63,6 @@ local_unseen name e [] = refl
 local_unseen name e (h ∷ hs) =
     let inside = no_local h.segment in let rest = local_unseen name e hs in grind (arith, nat_tests)
 
-or_false : (x y : Bool) → (x || y) ≡ false → y ≡ false
-or_false true y h = absurd (true≢false h)
-or_false false y h = h
-
 module _ (z : Size) (lines : List Line) (faultless : HasNoFault z lines) (c : EntersChecker lines) where
   -- no line before the one that enters is an `enter`
   none_ahead : HasEnter c.ahead → ⊥
@@ -118,9 +114,9 @@ module _ (z : Size) (lines : List Line) (faultless : HasNoFault z lines) (c : En
   new =
       let once : (defines_again earlier c.using counter ≡ true) → ⊥ =
       λ t. faultless _ causes.LabelTwice (on_line c.stands ((Ties-s6 c.before c.using).says t)) in
+      let none = false_from_ne_true (defines_again earlier c.using counter) once in
       let again : is_again (earlier ++ labels) (statement_definition c.using.statement counter) ≡ false =
-      or_false (is_again earlier (label_definition c.using.label c.using.statement counter)) _
-      (false_from_ne_true (defines_again earlier c.using counter) once) in
+      grind (arith, nat_tests) in
       sym (ap (is_again (earlier ++ labels)) names) ∙ again
 
   abbrev later : List Definition
@@ -136,9 +132,7 @@ module _ (z : Size) (lines : List Line) (faultless : HasNoFault z lines) (c : En
 
   itself : definition_of None c.name (home ∷ later) ≡ Some home
   itself =
-      let same : bytes_eq c.name c.name ≡ true = (bytes_eq-Decides c.name c.name).1 refl in
-      let global = is_global in
-      rw (same, global) refl
+      let same : bytes_eq c.name c.name ≡ true = (bytes_eq-Decides c.name c.name).1 refl in rw (same, is_global) refl
 
   pub placed : place_on (symbols_of lines) None c.name ≡ Some (checker_base c.before)
   placed =

@@ -3,8 +3,7 @@ use Rattle.ed_programs.proofs.Kit.{rules, length-reverse, none, spacing, spells_
 use Rattle.ed_programs.proofs.Kit.{Settings, AreCodes, reverse-append, rows, Spells, INPUT_BYTES, [], and_from, ap}
 use Rattle.ed_programs.proofs.Kit.{append-nil, append_assoc, arith, decimal, length, length-append, List, refl, reverse}
 use Rattle.ed_programs.proofs.Kit.{subst, sym, true, ℕ, ◌++◌, ◌∙◌, ◌∷◌, ◌≡◌, ◌≤◌, list_all, and_parts, leb-true}
-use Rattle.ed_programs.proofs.Kit.{length-map, Text, row_of, spells, reading, paper_from, is_capital, mirror_text}
-use Rattle.ed_programs.proofs.Kit.{TapeRuns}
+use Rattle.ed_programs.proofs.Kit.{length-map, Text, row_of, reading, paper_from, is_capital, mirror_text, TapeRuns}
 use Rattle.ed_notation.proofs.Texts.{are_codes}
 use Rattle.ed_syntax.specs.Reading.Grammar.{row as code_of}
 use Rattle.ed_programs.specs.Mirror.{mirror_cost, mirror_orders}
@@ -27,14 +26,12 @@ module _ (letters : Text) (o : AreLetters 9 letters) where
   abbrev codes : List ℕ
   codes = text_rows letters
 
-  spelled : list_all (λ b. spells (row_of b)) letters ≡ true
-  spelled = (all_plain letters (are_rows letters o.capital)).spelled
-
   line_spells : Spells (mirror_line letters ++ 10 ∷ []) (length letters ∷ codes)
   line_spells =
       let all = spells_append (mirror_line letters) (length letters ∷ codes) (10 ∷ []) []
       (spells_append (decimal (length letters)) (length letters ∷ []) letters codes
-      (figure_spells (length letters) (omega (arith, o.few))) (text_spells letters spelled))
+      (figure_spells (length letters) (omega (arith, o.few)))
+      (text_spells letters (all_plain letters (are_rows letters o.capital)).spelled))
       (spacing 10 [] [] refl none) in
       subst (Spells (mirror_line letters ++ 10 ∷ [])) (append-nil (length letters ∷ codes)) all
 
