@@ -38,9 +38,8 @@ module _ (z : Size) (m : Moment) (o : IsAround m.words) where
       let next : e ≡ suc j = omega (arith, ends) in
       rw next
       (on (T 146 (own 300) _ refl refl)
-      (followed (sign (record k { scrap = v; sign_link = to 3 i }) c j (suc j) 0 last here.0 (omega
-      (arith, ends, few))
-      (omega (arith, ends, few)) (omega (arith, ends, few)))
+      (followed (sign (record k { scrap = v; sign_link = to 3 i }) c j (suc j) 0 last here.0 (omega arith)
+      (omega arith) (omega arith))
       (on (G_stays 152 (own 146) refl (lit< tt))
       (on (T 153 (own 300) 0 refl refl)
       (on (E_jumps 154 (any (56 + i) (frame-ahead z i low)) refl (lit< tt)) stay)))))

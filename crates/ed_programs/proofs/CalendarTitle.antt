@@ -1,7 +1,7 @@
 -- The lines above the days in `examples/calendar.tape`.
-use Rattle.ed_programs.proofs.Kit.{Size, T, followed, [], arith, lit<, lit≤, Option, refl, Some, ℕ, ◌%◌, ◌*◌, ◌+◌, ◌/◌}
-use Rattle.ed_programs.proofs.Kit.{◌<◌, ◌∷◌, ◌≡◌, ◌≤◌, Moment, short, A, on, Path, stay, own, head_codes, title_codes}
-use Rattle.ed_programs.proofs.Kit.{year_codes, to, Path-counted, calls_own}
+use Rattle.ed_programs.proofs.Kit.{drop, Size, T, followed, [], arith, lit<, lit≤, Option, refl, Some, ℕ, ◌%◌, ◌*◌, ◌+◌}
+use Rattle.ed_programs.proofs.Kit.{◌/◌, ◌<◌, ◌∷◌, ◌≡◌, ◌≤◌, Moment, short, A, on, Path, stay, own, head_codes}
+use Rattle.ed_programs.proofs.Kit.{title_codes, year_codes, to, Path-counted, calls_own}
 use Rattle.ed_programs.proofs.CalendarCells.{at, frame, have_part, signs, IsAround, Work}
 use Rattle.ed_programs.proofs.CalendarFigures.{left_by, prints_four}
 use Rattle.ed_programs.proofs.CalendarNames.{is_name, letter}
@@ -70,7 +70,5 @@ module _ (z : Size) (m : Moment) (o : IsAround m.words) where
       (at m 94 0 (record k { sign = to 9 195; end = to 9 195; scrap = 0; sign_link = to 3 94 }) (Some 11))
   prints_heads k last =
       calls_own 92 144 refl refl refl (lit< tt)
-      (prints_signs z m o 92 18 (24 ∷ 15 ∷ 20 ∷ 12 ∷ 7 ∷ 20 ∷ 23 ∷ 9 ∷ 20 ∷ 5 ∷ 7 ∷ 20 ∷ 2 ∷ 3 ∷ 20 ∷ 5 ∷ 21 ∷ 20 ∷
-      17 ∷ 4 ∷ 20
-      ∷ 12 ∷ 28 ∷ 18 ∷ 24 ∷ 11 ∷ []) k 12 39 last (lit< tt) (have_part 12 27 (signs k.one k.two k.three)) refl
-      (lit≤ tt))
+      (prints_signs z m o 92 18 (drop 1 head_codes) k 12 39 last (lit< tt)
+      (have_part 12 27 (signs k.one k.two k.three)) refl (lit≤ tt))

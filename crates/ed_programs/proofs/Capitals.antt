@@ -6,7 +6,6 @@ use Rattle.ed_programs.proofs.Kit.{is_capital}
 use Rattle.ed_printer.specs.Paper.{struck_bytes}
 use Rattle.ed_programs.specs.Hello.{letters_refusal}
 use Rattle.ed_programs.proofs.RowTexts.{is_row_byte, text_rows}
-use Rattle.ed_programs.specs.declared.refusal.Refusal.TheVariants as refusal
 
 -- 1 to `most` capital letters
 pub record AreLetters (most : ℕ) (letters : Text) : Type 0 where

@@ -130,7 +130,8 @@ module _ (ns : List ℕ) (end : ℕ) (small : are_small ns ≡ true) (least : li
   abbrev lines : List Line
   lines = lines_of_pieces false celsius_pieces texts marks
 
-  pub each_celsius : (s : Settings) → SourceRuns s (celsius_text ns end) (celsius_orders ns end) 71 (on_lines (map celsius ns))
+  pub each_celsius : (s : Settings)
+      → SourceRuns s (celsius_text ns end) (celsius_orders ns end) 71 (on_lines (map celsius ns))
   unfolding settings parameter_store
   each_celsius s =
       let z : Size = s.size in

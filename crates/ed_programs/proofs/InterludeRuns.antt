@@ -57,8 +57,8 @@ program_rows = spelled_rows (canonicals program_items) ++ (last_rows ++ [])
 
 abbrev front_rows : List ℕ
 front_rows =
-    spelled_rows (canonicals (plain 5 100 14 ∷ plain 27 0 14 ∷ plain 28 6 18 ∷ plain 28 6 18 ∷ plain 7 45 17 ∷ plain 28 5 18
-    ∷ plain 3 25 17 ∷ plain 5 0 17 ∷ [])) ++ 0 ∷ []
+    spelled_rows (canonicals (plain 5 100 14 ∷ plain 27 0 14 ∷ plain 28 6 18 ∷ plain 28 6 18 ∷ plain 7 45 17
+    ∷ plain 28 5 18 ∷ plain 3 25 17 ∷ plain 5 0 17 ∷ [])) ++ 0 ∷ []
 
 abbrev entering_rows : List ℕ
 entering_rows = spelled_rows (canonicals (plain 3 100 14 ∷ []))
