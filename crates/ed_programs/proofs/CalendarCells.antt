@@ -1,10 +1,9 @@
 -- The words of `examples/calendar.tape` from 56 to 391.
 use Rattle.ed_programs.proofs.Kit.{L_D, Z_F, Size, IsOutside, early, frame_at, [], arith, drop, get_or, length, List}
-use Rattle.ed_programs.proofs.Kit.{lit≤, nat_lt, Option, refl, Some, suc, take, true, zero, ℕ, ◌++◌, ◌+◌, ◌<◌, ◌∙◌}
-use Rattle.ed_programs.proofs.Kit.{◌∷◌, ◌≡◌, lt-ltb, least, Frame, Moment, short, A, on, Path, stay, own, ◌&&◌}
+use Rattle.ed_programs.proofs.Kit.{lit≤, nat_lt, Option, refl, Some, suc, take, true, zero, ℕ, ◌++◌, ◌+◌, ◌<◌, ◌∙◌, ◌∷◌}
+use Rattle.ed_programs.proofs.Kit.{◌≡◌, lt-ltb, least, Frame, Moment, short, A, on, Path, stay, own, ◌&&◌, to}
 use Rattle.std.proofs.lemmas.List.{get_or_append_left}
 use Rattle.ed_machine.proofs.Kit.Window.{get_right}
-use Rattle.ed_programs.proofs.Kit.{to}
 
 -- the cells that change: the numbers from 0H on, the order that prints a sign, with its link and the title's letters,
 -- the order that takes a power of ten away, the links of the other two routines, and the master's made orders
@@ -75,9 +74,9 @@ loaded = record {
   takes_three = 0;
 }
 
--- the master, and eleven cleared places
-abbrev pub master : Work → List ℕ
-master k =
+-- the master, eleven cleared places, and the subroutine that prints signs
+abbrev before_signs : Work → List ℕ
+before_signs k =
     to 28 0 ∷ to 27 274 ∷ to 28 297 ∷ to 5 295 ∷ to 28 4 ∷ to 27 274 ∷ to 28 297 ∷ to 5 294 ∷ to 5 300
     ∷ to 28 304 ∷ to 12 294 ∷ to 3 32 ∷ to 5 300 ∷ to 28 296 ∷ to 28 299 ∷ to 5 296 ∷ to 28 305 ∷ to 27 24
     ∷ to 5 300 ∷ to 28 296 ∷ to 28 299 ∷ to 5 296 ∷ to 12 312 ∷ to 5 305 ∷ to 5 300 ∷ to 28 305 ∷ to 28 299
@@ -93,13 +92,8 @@ master k =
     ∷ to 9 310 ∷ to 3 101 ∷ to 5 300 ∷ to 28 322 ∷ to 28 299 ∷ to 7 322 ∷ to 7 297 ∷ to 12 307 ∷ to 12 299
     ∷ to 3 131 ∷ to 9 310 ∷ to 5 300 ∷ to 28 120 ∷ to 27 234 ∷ to 28 320 ∷ to 28 299 ∷ to 7 320 ∷ to 27 110
     ∷ to 12 321 ∷ to 5 320 ∷ to 9 318 ∷ to 9 323 ∷ to 3 110 ∷ Z_F ∷ to 28 195 ∷ 0 ∷ 0 ∷ 0 ∷ 0 ∷ 0 ∷ 0 ∷ 0 ∷ 0
-    ∷ 0 ∷ 0 ∷ 0 ∷ []
-
--- the subroutine that prints signs
-abbrev pub signs_routine : Work → List ℕ
-signs_routine k =
-    114694 ∷ to 5 154 ∷ to 5 300 ∷ k.sign ∷ to 28 147 ∷ 114692 ∷ to 7 147 ∷ to 12 319 ∷ to 27 146 ∷ to 5 300
-    ∷ k.sign_link ∷ to 9 195 ∷ []
+    ∷ 0 ∷ 0 ∷ 0 ∷ 114694 ∷ to 5 154 ∷ to 5 300 ∷ k.sign ∷ to 28 147 ∷ 114692 ∷ to 7 147 ∷ to 12 319 ∷ to 27 146
+    ∷ to 5 300 ∷ k.sign_link ∷ to 9 195 ∷ []
 
 -- the signs
 abbrev pub signs : ℕ → ℕ → ℕ → List ℕ
@@ -111,25 +105,17 @@ signs a b c =
     ∷ 114688 ∷ 24576 ∷ 40960 ∷ 28672 ∷ 90112 ∷ 40960 ∷ 28672 ∷ 102400 ∷ 114688 ∷ 28672 ∷ 110592 ∷ 49152 ∷ 12288
     ∷ 0 ∷ 36864 ∷ 122880 ∷ 20480 ∷ 90112 ∷ 36864 ∷ 126976 ∷ 77824 ∷ 12288 ∷ 122880 ∷ []
 
--- three cleared places, and the printing of a number
-abbrev pub printing_routine : Work → List ℕ
-printing_routine k =
+-- three cleared places, the printing of a number, its reading with the cleared places around it, and the numbers
+abbrev between : Work → List ℕ
+between k =
     0 ∷ 0 ∷ 0 ∷ 114694 ∷ to 5 272 ∷ to 5 308 ∷ to 28 309 ∷ to 5 242 ∷ to 5 300 ∷ to 5 298 ∷ to 28 297 ∷ k.power
     ∷ to 27 249 ∷ to 5 297 ∷ to 28 298 ∷ to 28 301 ∷ to 5 298 ∷ to 3 241 ∷ to 5 300 ∷ to 28 298 ∷ to 28 308
     ∷ to 12 301 ∷ to 27 259 ∷ to 9 298 ∷ to 5 300 ∷ to 28 301 ∷ to 5 308 ∷ to 3 260 ∷ to 9 310 ∷ to 5 300
     ∷ to 28 242 ∷ 114692 ∷ to 7 242 ∷ to 12 311 ∷ to 27 239 ∷ to 5 300 ∷ to 28 297 ∷ 103424 ∷ L_D ∷ to 5 298
-    ∷ to 9 298 ∷ k.print_link ∷ []
-
--- the reading of a number, and the cleared places around it
-abbrev pub reading_routine : Work → List ℕ
-reading_routine k =
-    0 ∷ 114694 ∷ to 5 291 ∷ to 5 297 ∷ to 8 302 ∷ to 28 302 ∷ to 12 303 ∷ to 3 290 ∷ to 5 300 ∷ to 28 297
-    ∷ L_D ∷ to 7 300 ∷ 102402 ∷ to 28 300 ∷ to 28 302 ∷ to 5 297 ∷ to 3 277 ∷ to 5 300 ∷ k.read_link ∷ 0 ∷ 0 ∷ []
-
--- the numbers
-abbrev pub numbers : Work → List ℕ
-numbers k =
-    k.year ∷ k.month ∷ k.weekday ∷ k.number ∷ k.figure ∷ 1 ∷ k.scrap ∷ 4096 ∷ k.row ∷ 10 ∷ k.from ∷ k.leap
+    ∷ to 9 298 ∷ k.print_link
+    ∷ 0 ∷ 114694 ∷ to 5 291 ∷ to 5 297 ∷ to 8 302 ∷ to 28 302 ∷ to 12 303 ∷ to 3 290 ∷ to 5 300 ∷ to 28 297
+    ∷ L_D ∷ to 7 300 ∷ 102402 ∷ to 28 300 ∷ to 28 302 ∷ to 5 297 ∷ to 3 277 ∷ to 5 300 ∷ k.read_link ∷ 0 ∷ 0
+    ∷ k.year ∷ k.month ∷ k.weekday ∷ k.number ∷ k.figure ∷ 1 ∷ k.scrap ∷ 4096 ∷ k.row ∷ 10 ∷ k.from ∷ k.leap
     ∷ k.count ∷ k.days ∷ k.shown ∷ k.first_power ∷ 81920 ∷ to 12 317 ∷ 4 ∷ to 28 324 ∷ 1000 ∷ 100 ∷ 10
     ∷ to 12 316 ∷ 73728 ∷ k.end ∷ k.place ∷ 7 ∷ k.day ∷ 98304 ∷ []
 
@@ -139,12 +125,6 @@ lengths february =
     31 ∷ february ∷ 31 ∷ 30 ∷ 31 ∷ 30 ∷ 31 ∷ 31 ∷ 30 ∷ 31 ∷ 30 ∷ 31 ∷ []
 
 -- all of them
-abbrev before_signs : Work → List ℕ
-before_signs k = master k ++ signs_routine k
-
-abbrev between : Work → List ℕ
-between k = printing_routine k ++ reading_routine k ++ numbers k
-
 abbrev pub cells : Work → List ℕ
 cells k = before_signs k ++ (signs k.one k.two k.three ++ (between k ++ lengths k.february))
 
@@ -155,18 +135,15 @@ abbrev pub Have : List ℕ → ℕ → List ℕ → Type 0
 Have ws i [] = Unit {0}
 Have ws i (x ∷ xs) = (get_or ws i 0 ≡ x) × Have ws (suc i) xs
 
--- after another number, and at the front of a list, and anywhere in it
+-- after another number, and anywhere in a list
 have_behind : (w : ℕ) (ws : List ℕ) (i : ℕ) (xs : List ℕ) → Have ws i xs → Have (w ∷ ws) (suc i) xs
 have_behind w ws i [] h = tt
 have_behind w ws i (x ∷ xs) h = (h.0, have_behind w ws (suc i) xs h.1)
 
-pub have_take : (n : ℕ) (ws : List ℕ) → Have ws 0 (take n ws)
-have_take zero ws = tt
-have_take (suc n) [] = tt
-have_take (suc n) (w ∷ ws) = (refl, have_behind w ws 0 (take n ws) (have_take n ws))
-
 pub have_part : (j n : ℕ) (ws : List ℕ) → Have ws j (take n (drop j ws))
-have_part zero n ws = have_take n ws
+have_part zero zero ws = tt
+have_part zero (suc n) [] = tt
+have_part zero (suc n) (w ∷ ws) = (refl, have_behind w ws 0 (take n ws) (have_part 0 n ws))
 have_part (suc j) zero [] = tt
 have_part (suc j) (suc n) [] = tt
 have_part (suc j) n (w ∷ ws) = have_behind w ws j (take n (drop j ws)) (have_part j n ws)

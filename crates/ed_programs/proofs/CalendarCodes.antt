@@ -1,24 +1,23 @@
 -- The codes that the program of `examples/calendar.tape` prints.
 use Rattle.std.proofs.Common.{replicate, ℕ, zero, suc, ◌-◌, ◌*◌, ◌/◌, ◌%◌, ◌==◌, nat_lt, if◌then◌else◌, List, [], ◌∷◌}
-use Rattle.std.proofs.Common.{◌++◌, get_or, ap, arith, refl, ◌+◌, ◌∙◌, ◌≡◌}
+use Rattle.std.proofs.Common.{Bool, ◌++◌, get_or, map, ap, arith, refl, ◌+◌, ◌∙◌, ◌≡◌}
 use Rattle.std.specs.List.{range_with_len}
-use Rattle.ed_programs.specs.Calendar.{month_length, weekday_count}
+use Rattle.ed_programs.specs.Calendar.{month_length, month_names, weekday_count}
+use Rattle.ed_codes.specs.Spelling.{row_of}
+use Rattle.ed_syntax.specs.Reading.Grammar.{row}
 
 -- the days of a week before the first of the month, as the program counts them
 abbrev pub place : ℕ → ℕ → ℕ
 place month year = weekday_count month year % 7
 
--- the letters of each month
-abbrev pub name_codes : List (List ℕ)
-name_codes =
-    (10 ∷ 28 ∷ 22 ∷ []) ∷ (17 ∷ 3 ∷ 29 ∷ []) ∷ (23 ∷ 28 ∷ 4 ∷ []) ∷ (28 ∷ 0 ∷ 4 ∷ []) ∷ (23 ∷ 28 ∷ 6 ∷ [])
-    ∷ (10 ∷ 7 ∷ 22 ∷ []) ∷ (10 ∷ 7 ∷ 25 ∷ []) ∷ (28 ∷ 7 ∷ 27 ∷ []) ∷ (12 ∷ 3 ∷ 0 ∷ []) ∷ (9 ∷ 30 ∷ 5 ∷ [])
-    ∷ (22 ∷ 9 ∷ 31 ∷ []) ∷ (19 ∷ 3 ∷ 30 ∷ []) ∷ []
+-- the letters of a month
+abbrev pub name_codes : ℕ → List ℕ
+name_codes i = map (λ b. row (row_of b)) (get_or month_names i [])
 
 -- the title up to the year: 15 and 11 are the shifts to letters and to figures, and 20 is a space
 abbrev pub title_codes : ℕ → List ℕ
-title_codes month =
-    15 ∷ 20 ∷ 20 ∷ 20 ∷ 20 ∷ 20 ∷ 20 ∷ (get_or name_codes (month - 1) [] ++ 20 ∷ 11 ∷ [])
+title_codes i =
+    15 ∷ 20 ∷ 20 ∷ 20 ∷ 20 ∷ 20 ∷ 20 ∷ (name_codes i ++ 20 ∷ 11 ∷ [])
 
 -- the figures of a year
 abbrev pub year_codes : ℕ → List ℕ
@@ -45,15 +44,17 @@ range_is day (suc n) =
     ap (λ (ds : List ℕ). day ∷ ds)
     (range_is (day + 1) n ∙ (let next : day + 1 ≡ suc day = omega arith in ap (λ (d : ℕ). days_from d n) next))
 
+-- a new line after the last day of a week
+abbrev pub week_end : Bool → List ℕ
+week_end last = if last then 18 ∷ 24 ∷ [] else []
+
 -- n days from one on, with the number of days in the first one's week before it
 abbrev pub days_codes : ℕ → ℕ → ℕ → List ℕ
 days_codes before day zero = []
-days_codes before day (suc n) =
-    if before == 6 then day_codes day ++ 18 ∷ 24 ∷ days_codes 0 (suc day) n
-    else day_codes day ++ days_codes (suc before) (suc day) n
+days_codes before day (suc n) = day_codes day ++ (week_end (before == 6) ++ days_codes (suc before % 7) (suc day) n)
 
 -- all that is printed
 abbrev pub calendar_codes : ℕ → ℕ → List ℕ
 calendar_codes month year =
-    title_codes month ++ (year_codes year ++ (head_codes
+    title_codes (month - 1) ++ (year_codes year ++ (head_codes
     ++ (replicate (3 * place month year) 20 ++ days_codes (place month year) 1 (month_length month year))))

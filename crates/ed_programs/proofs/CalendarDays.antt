@@ -1,5 +1,5 @@
 -- What the program of `examples/calendar.tape` counts is the calendar, from 1901 to 2099.
-use Rattle.ed_programs.proofs.Kit.{sum, among, [], ap, arith, Bool, false, if◌then◌else◌, not, refl, rules, suc, true}
+use Rattle.ed_programs.proofs.Kit.{sum, among, [], arith, Bool, get_or, if◌then◌else◌, not, refl, rules, suc, true}
 use Rattle.ed_programs.proofs.Kit.{zero, ℕ, ◌%◌, ◌*◌, ◌+◌, ◌/◌, ◌==◌, ◌∙◌, ◌∷◌, ◌≡◌, ◌≤◌, nat_tests, days_before}
 use Rattle.ed_programs.proofs.Kit.{is_leap, month_lengths, weekday, place}
 use Rattle.ed_programs.specs.Calendar.{years_length}
@@ -7,10 +7,7 @@ use Rattle.ed_programs.specs.Calendar.{years_length}
 -- ---- leap years and their days
 
 same_test : (a b : Bool) → (if a then b else not b) ≡ true → a ≡ b
-same_test true true h = refl
-same_test true false h = cc
-same_test false true h = cc
-same_test false false h = refl
+same_test a b h = grind (arith, nat_tests)
 
 -- each fourth year is a leap year, 2000 too
 pub leap_is : (n : ℕ) → n ≤ 198 → is_leap (1901 + n) ≡ (n % 4 == 3)
@@ -20,17 +17,15 @@ leap_is n few =
 
 days_next : (b : Bool) (n : ℕ) → (n % 4 == 3) ≡ b
     → 365 + 365 * n + n / 4 + (if b then 366 else 365) ≡ 365 + 365 * suc n + suc n / 4
-days_next true n h = grind (arith, nat_tests)
-days_next false n h = grind (arith, nat_tests)
+days_next b n h = grind (arith, nat_tests)
 
-year_length_is : (year : ℕ) → sum (month_lengths year) ≡ (if is_leap year then 366 else 365)
-year_length_is year = by_test (is_leap year)
-  where
-    by_test : (b : Bool)
-        → sum (31 ∷ (if b then 29 else 28) ∷ 31 ∷ 30 ∷ 31 ∷ 30 ∷ 31 ∷ 31 ∷ 30 ∷ 31 ∷ 30 ∷ 31 ∷ [])
-        ≡ (if b then 366 else 365)
-    by_test true = refl
-    by_test false = refl
+pub year_length_is : (year : ℕ) → sum (month_lengths year) ≡ (if is_leap year then 366 else 365)
+year_length_is year = grind (arith, nat_tests)
+
+-- no month has more than 31 days
+pub days_at_most : (leap : Bool) (k : ℕ)
+    → get_or (31 ∷ (if leap then 29 else 28) ∷ 31 ∷ 30 ∷ 31 ∷ 30 ∷ 31 ∷ 31 ∷ 30 ∷ 31 ∷ 30 ∷ 31 ∷ []) k 0 ≤ 31
+days_at_most leap k = grind arith
 
 next_year : (n : ℕ) → 1900 + suc n ≡ 1901 + n
 next_year n = omega arith
@@ -39,11 +34,8 @@ next_year n = omega arith
 pub years_length_is : (n : ℕ) → n ≤ 199 → years_length (suc n) ≡ 365 + 365 * n + n / 4
 years_length_is zero few = refl
 years_length_is (suc n) few =
-    ap (λ (y : ℕ). years_length (suc n) + sum (month_lengths y)) (next_year n)
-    ∙ ap (λ (d : ℕ). years_length (suc n) + d) (year_length_is (1901 + n))
-    ∙ ap (λ (b : Bool). years_length (suc n) + (if b then 366 else 365)) (leap_is n (omega arith))
-    ∙ ap (λ (d : ℕ). d + (if n % 4 == 3 then 366 else 365)) (years_length_is n (omega arith))
-    ∙ days_next (n % 4 == 3) n refl
+    rw (next_year n, year_length_is (1901 + n), leap_is n (omega arith), years_length_is n (omega arith))
+    (days_next (n % 4 == 3) n refl)
 
 -- ---- the day of the week
 

@@ -2,8 +2,9 @@
 use Rattle.ed_programs.proofs.Kit.{Size, G_stays, O, L512F, Remains, E_jumps, L, S, T, U, prints, any, out, LD}
 use Rattle.ed_programs.proofs.Kit.{followed, [], arith, lit<, lit≤, Option, refl, Some, suc, zero, ℕ, ◌*◌, ◌+◌, ◌-◌}
 use Rattle.ed_programs.proofs.Kit.{◌<◌, ◌^◌, ◌∷◌, ◌≡◌, ◌≤◌, Moment, short, A, G_jumps, on, Path, stay, own}
+use Rattle.ed_programs.proofs.Kit.{if◌then◌else◌, nat_lt, cases_lt, inl, inr, lt-ltb, le-ltb, ◌/◌, ◌%◌, day_orders}
+use Rattle.ed_programs.proofs.Kit.{year_codes, to, Path-counted}
 use Rattle.ed_programs.proofs.CalendarCells.{frame-ahead, at, frame, outside, IsAround, Work}
-use Rattle.ed_programs.proofs.Kit.{to, Path-counted}
 
 -- the powers of ten, the greatest first
 abbrev pub power : ℕ → ℕ
@@ -24,6 +25,10 @@ left_by i v k = next 3 (record k {
   scrap = 0;
   print_link = to 3 (i + 2);
 })
+
+-- what a number n of at most two figures leaves
+abbrev pub left_by_two : ℕ → ℕ → Work → Work
+left_by_two i n k = record (left_by i (n % 10) k) { shown = if nat_lt n 10 then 0 else 4096 }
 
 module _ (z : Size) (m : Moment) (o : IsAround m.words) where
   -- a power is taken away
@@ -48,20 +53,18 @@ module _ (z : Size) (m : Moment) (o : IsAround m.words) where
       (at m 249 (131072 - (power t - r)) (next t (record k { number = r; figure = 4096 * w })) last)
   all_taken zero t k v r g w last few is less small sum nine =
       let some = some_power t in
-      let same : v ≡ r = omega (arith, is) in
-      let done : g ≡ w = omega (arith, sum) in
+      let same : v ≡ r = omega arith in
+      let done : g ≡ w = omega arith in
       let path : Path (frame z) 3 (at m 241 0 (next t (record k { number = r; figure = 4096 * w })) last) []
       (at m 249 (131072 - (power t - r)) (next t (record k { number = r; figure = 4096 * w })) last) =
-      on (A 241 (own 297) (short r) refl (omega (arith, same, small)))
-      (followed (takes t (record k { number = r; figure = 4096 * w }) r (131072 - (power t - r)) last few
-      (omega (arith, some.0, some.1, less)))
-      (on (G_jumps 243 (own 249) refl (omega (arith, some.1, less))) stay)) in
+      on (A 241 (own 297) (short r) refl (omega arith))
+      (followed (takes t (record k { number = r; figure = 4096 * w }) r (131072 - (power t - r)) last few (omega arith))
+      (on (G_jumps 243 (own 249) refl (omega arith)) stay)) in
       rw (same, done) path
   all_taken (suc q) t k v r g w last few is less small sum nine =
       let some = some_power t in
       let left : ℕ = power t * q + r in
-      let step : power t * suc q ≡ power t + power t * q = omega arith in
-      let whole : left + power t ≡ v = omega (arith, is, step) in
+      let whole : left + power t ≡ v = omega (arith, is) in
       Path-counted
       (on (A 241 (own 297) (short v) refl (omega (arith, small)))
       (followed (takes t (record k { number = v; figure = 4096 * g }) v left last few
@@ -72,9 +75,8 @@ module _ (z : Size) (m : Moment) (o : IsAround m.words) where
       (on (A 246 (own 301) (short (4096 * suc g)) refl (omega (arith, sum, nine)))
       (on (T 247 (own 298) _ refl refl)
       (on (E_jumps 248 (own 241) refl (lit< tt))
-      (all_taken q t k left r (suc g) w last few refl less (omega (arith, whole, small)) (omega
-      (arith, sum)) nine))))))))
-      ) (omega arith)
+      (all_taken q t k left r (suc g) w last few refl less (omega arith) (omega arith) nine)))))))))
+      (omega arith)
 
   -- the power after it is the next one; u is below 0 if it is wanted
   moves_on : (t : ℕ) (k : Work) (v u : ℕ) (last : Option ℕ) → t < 3 → v < 131072
@@ -88,25 +90,23 @@ module _ (z : Size) (m : Moment) (o : IsAround m.words) where
       (on (U 263 (own 242) _ refl refl)
       (on (S 264 (own 311) (short u) refl left) stay))))
 
-  -- the figure q of the power t, with r left; s is 4096 if figures were printed before it, and else 0
-  shows : (t q : ℕ) (k : Work) (x r s u : ℕ) (last : Option ℕ) → t < 3 → r < power t → power t * q + r < 10000 → q ≤ 9
-      → x < 131072 → 4096 ≤ 4096 * q + s → s ≤ 4096
+  -- the figure q of the power t in v, with r left; s is 4096 if figures were printed before it, and else 0
+  shows : (t q v r : ℕ) (k : Work) (x s u : ℕ) (last : Option ℕ) → t < 3 → power t * q + r ≡ v → r < power t → v < 10000
+      → q ≤ 9 → x < 131072 → 4096 ≤ 4096 * q + s → s ≤ 4096
       → Remains (short (to 12 (314 + suc t))) (to 12 317 * 2 ^ 18 * 2 ^ 36) (short u)
-      → Path (frame z) (20 + 8 * q) (at m 239 x (next t (record k { number = power t * q + r; shown = s })) last)
-      (q ∷ [])
+      → Path (frame z) (20 + 8 * q) (at m 239 x (next t (record k { number = v; shown = s })) last) (q ∷ [])
       (at m 265 u (next (suc t) (record k {
         number = r;
         shown = 4096;
         figure = 4096 * q;
         scrap = 0;
       })) (Some q))
-  shows t q k x r s u last few less small nine room some most left =
+  shows t q v r k x s u last few is less small nine room some most left =
       let p = some_power t in
       Path-counted
       (on (T 239 (own 300) _ refl refl)
       (on (T 240 (own 298) 0 refl refl)
-      (followed (all_taken q t (record k { shown = s; scrap = x }) (power t * q + r) r 0 q last few refl less small
-      (omega arith) nine)
+      (followed (all_taken q t (record k { shown = s; scrap = x }) v r 0 q last few is less small (omega arith) nine)
       (on (T 249 (own 300) _ refl refl)
       (on (A 250 (own 298) (short (4096 * q)) refl (omega (arith, nine)))
       (on (A 251 (own 308) (short (4096 * q + s)) refl (omega (arith, nine, most)))
@@ -170,53 +170,54 @@ module _ (z : Size) (m : Moment) (o : IsAround m.words) where
       (on (T 238 (own 242) _ refl refl) stay))))
 
   -- a number of four figures
-  pub prints_four : (i a b c d : ℕ) (k : Work) (last : Option ℕ) → i < 140 → 1 ≤ a → a < 10 → b < 10 → c < 10 → d < 10
-      → Path (frame z) (75 + 8 * (a + b + c))
-      (at m 234 (to 28 i) (record k { first_power = to 12 314; number = 1000 * a + (100 * b + (10 * c + d)) }) last)
-      (a ∷ b ∷ c ∷ d ∷ []) (at m (i + 2) 0 (left_by i d (record k { first_power = to 12 314 })) (Some d))
-  prints_four i a b c d k last low some few_a few_b few_c few_d =
+  pub prints_four : (i n : ℕ) (k : Work) (last : Option ℕ) → i < 140 → 1000 ≤ n → n < 10000
+      → Path (frame z) (75 + 8 * (n / 1000 + n / 100 % 10 + n / 10 % 10))
+      (at m 234 (to 28 i) (record k { first_power = to 12 314; number = n }) last) (year_codes n)
+      (at m (i + 2) 0 (left_by i (n % 10) (record k { first_power = to 12 314 })) (Some (n % 10)))
+  prints_four i n k last low some few =
       let k0 : Work = record k { first_power = to 12 314; print_link = to 3 (i + 2) } in
+      let a : ℕ = n / 1000 in
+      let b : ℕ = n / 100 % 10 in
+      let c : ℕ = n / 10 % 10 in
       Path-counted
-      (followed (begins i 0 (record k { number = 1000 * a + (100 * b + (10 * c + d)) }) last (omega (arith, low))
-      (lit< tt))
-      (followed (shows 0 a k0 0 (100 * b + (10 * c + d)) 0 131068 last (lit< tt) (omega (arith, few_b, few_c, few_d))
-      (omega (arith, few_a, few_b, few_c, few_d)) (omega (arith, few_a)) (lit< tt) (omega (arith, some)) (lit≤ tt)
-      (omega arith))
+      (followed (begins i 0 (record k { number = n }) last (omega arith) (lit< tt))
+      (followed (shows 0 a n (n % 1000) k0 0 0 131068 last (lit< tt) (omega arith) (omega arith) few (omega arith)
+      (lit< tt) (omega arith) (lit≤ tt) (omega arith))
       (on (G_jumps 265 (own 239) refl (lit≤ tt))
-      (followed (shows 1 b (record k0 { figure = 4096 * a; scrap = 0 }) 131068 (10 * c + d) 4096 131070 (Some a)
-      (lit< tt) (omega (arith, few_c, few_d)) (omega (arith, few_b, few_c, few_d)) (omega (arith, few_b)) (lit< tt)
-      (omega arith) (lit≤ tt) (omega arith))
+      (followed (shows 1 b (n % 1000) (n % 100) (record k0 { figure = 4096 * a; scrap = 0 }) 131068 4096 131070 (Some a)
+      (lit< tt) (omega arith) (omega arith) (omega arith) (omega arith) (lit< tt) (omega arith) (lit≤ tt) (omega arith))
       (on (G_jumps 265 (own 239) refl (lit≤ tt))
-      (followed (shows 2 c (record k0 { figure = 4096 * b; scrap = 0 }) 131070 d 4096 0 (Some b) (lit< tt) few_d
-      (omega (arith, few_c, few_d)) (omega (arith, few_c)) (lit< tt) (omega arith) (lit≤ tt) (omega arith))
+      (followed (shows 2 c (n % 100) (n % 10) (record k0 { figure = 4096 * b; scrap = 0 }) 131070 4096 0 (Some b)
+      (lit< tt) (omega arith) (omega arith) (omega arith) (omega arith) (lit< tt) (omega arith) (lit≤ tt) (omega arith))
       (on (G_stays 265 (own 239) refl (lit< tt))
-      (units (i + 2) (next 3 (record k0 { figure = 4096 * c; shown = 4096; scrap = 0 })) d (Some c)
-      (omega (arith, low)) few_d)))))))) (omega arith)
+      (units (i + 2) (next 3 (record k0 { figure = 4096 * c; shown = 4096; scrap = 0 })) (n % 10) (Some c) (omega arith)
+      (omega arith))))))))) (omega arith)
 
-  -- one of two figures
-  pub prints_two : (i c d : ℕ) (k : Work) (last : Option ℕ) → i < 140 → 1 ≤ c → c < 10 → d < 10
-      → Path (frame z) (33 + 8 * c)
-      (at m 234 (to 28 i) (record k { first_power = to 12 316; number = 10 * c + d }) last)
-      (c ∷ d ∷ []) (at m (i + 2) 0 (left_by i d (record k { first_power = to 12 316 })) (Some d))
-  prints_two i c d k last low some few_c few_d =
+  -- one below a hundred, with a space for a nought
+  pub prints_two : (i n : ℕ) (k : Work) (last : Option ℕ) → i < 140 → n < 100
+      → Path (frame z) (day_orders n - 16)
+      (at m 234 (to 28 i) (record k { first_power = to 12 316; number = n }) last)
+      ((if nat_lt n 10 then 20 else n / 10) ∷ n % 10 ∷ [])
+      (at m (i + 2) 0 (left_by_two i n (record k { first_power = to 12 316 })) (Some (n % 10)))
+  prints_two i n k last low few =
       let k0 : Work = record k { first_power = to 12 316; print_link = to 3 (i + 2) } in
-      Path-counted
-      (followed (begins i 2 (record k { number = 10 * c + d }) last (omega (arith, low)) (lit< tt))
-      (followed (shows 2 c k0 0 d 0 0 last (lit< tt) few_d
-      (omega (arith, few_c, few_d)) (omega (arith, few_c)) (lit< tt) (omega (arith, some)) (lit≤ tt) (omega arith))
-      (on (G_stays 265 (own 239) refl (lit< tt))
-      (units (i + 2) (next 3 (record k0 { figure = 4096 * c; shown = 4096; scrap = 0 })) d (Some c)
-      (omega (arith, low)) few_d)))) (omega arith)
-
-  -- and one of one figure, with a space before it
-  pub prints_one : (i d : ℕ) (k : Work) (last : Option ℕ) → i < 140 → d < 10
-      → Path (frame z) 29 (at m 234 (to 28 i) (record k { first_power = to 12 316; number = d }) last)
-      (20 ∷ d ∷ []) (at m (i + 2) 0 (record (left_by i d (record k { first_power = to 12 316 })) { shown = 0 })
-      (Some d))
-  prints_one i d k last low few_d =
-      let k0 : Work = record k { first_power = to 12 316; print_link = to 3 (i + 2) } in
-      followed (begins i 2 (record k { number = d }) last (omega (arith, low)) (lit< tt))
-      (followed (leaves_out 2 k0 0 d 0 last (lit< tt) few_d (lit< tt) (omega arith))
-      (on (G_stays 265 (own 239) refl (lit< tt))
-      (units (i + 2) (next 3 (record k0 { figure = 0; shown = 0; scrap = 126976 })) d (Some 20)
-      (omega (arith, low)) few_d)))
+      let first = begins i 2 (record k { number = n }) last (omega arith) (lit< tt) in
+      elim (cases_lt n 10) [
+        | inl one ↦
+            let test = lt-ltb n 10 one in
+            let unit : n % 10 ≡ n = omega arith in
+            rw (test, unit) (followed first
+            (followed (leaves_out 2 k0 0 n 0 last (lit< tt) one (lit< tt) (omega arith))
+            (on (G_stays 265 (own 239) refl (lit< tt))
+            (units (i + 2) (next 3 (record k0 { figure = 0; shown = 0; scrap = 126976 })) n (Some 20) (omega arith)
+            one))))
+        | inr two ↦
+            let test = le-ltb n 10 two in
+            let c : ℕ = n / 10 in
+            rw test (Path-counted (followed first
+            (followed (shows 2 c n (n % 10) k0 0 0 0 last (lit< tt) (omega arith) (omega arith) (omega arith)
+            (omega arith) (lit< tt) (omega arith) (lit≤ tt) (omega arith))
+            (on (G_stays 265 (own 239) refl (lit< tt))
+            (units (i + 2) (next 3 (record k0 { figure = 4096 * c; shown = 4096; scrap = 0 })) (n % 10) (Some c)
+            (omega arith) (omega arith))))) (omega arith))
+      ]

@@ -1,33 +1,10 @@
 -- The count of the months in `examples/calendar.tape`, and the sevens that are taken away.
 use Rattle.ed_programs.proofs.Kit.{sum, Size, E_stays, E_jumps, S, T, out, followed, [], arith, get_or, length, List}
-use Rattle.ed_programs.proofs.Kit.{lit<, nat_lt, Option, refl, suc, take, true, zero, ℕ, ◌%◌, ◌*◌, ◌+◌, ◌-◌, ◌/◌, ◌<◌}
-use Rattle.ed_programs.proofs.Kit.{◌∙◌, ◌∷◌, ◌≡◌, ◌≤◌, list_all, and_parts, ltb-true, Moment, short, A, on, Path, stay}
-use Rattle.ed_programs.proofs.Kit.{own}
-use Rattle.std.specs.List.{fold}
+use Rattle.ed_programs.proofs.Kit.{lit<, Option, refl, suc, take, zero, ℕ, ◌%◌, ◌*◌, ◌+◌, ◌-◌, ◌/◌, ◌<◌, ◌∙◌, ◌∷◌, ◌≡◌}
+use Rattle.ed_programs.proofs.Kit.{sum_by-cons, Moment, short, A, on, Path, stay, own, to, Path-counted}
 use Rattle.std.proofs.lemmas.List.{length-take-le}
-use Rattle.ed_programs.proofs.CalendarCells.{adds_cell, at, frame, have_take, length_at, lengths, outside, Have, Work}
+use Rattle.ed_programs.proofs.CalendarCells.{adds_cell, at, frame, have_part, length_at, lengths, outside, Have, Work}
 use Rattle.ed_programs.proofs.CalendarCells.{IsAround}
-use Rattle.ed_programs.proofs.Kit.{to, Path-counted}
-
--- a sum by its first number
-sum_from : (w : ℕ) (ls : List ℕ) → fold ◌+◌ w ls ≡ w + sum ls
-sum_from w [] = omega arith
-sum_from w (l ∷ ls) =
-    let all = sum_from (w + l) ls in let rest = sum_from (0 + l) ls in omega (arith, all, rest)
-
-pub sum_cons : (l : ℕ) (ls : List ℕ) → sum (l ∷ ls) ≡ l + sum ls
-sum_cons l ls = sum_from (0 + l) ls ∙ (let e : 0 + l + sum ls ≡ l + sum ls = omega arith in e)
-
-pub sum_take : (i : ℕ) (xs : List ℕ) → sum (take i xs) ≤ sum xs
-sum_take zero xs = omega arith
-sum_take (suc i) [] = omega arith
-sum_take (suc i) (x ∷ xs) =
-    let rest = sum_take i xs in let a = sum_cons x (take i xs) in let b = sum_cons x xs in omega (arith, rest, a, b)
-
-pub all_below : (xs : List ℕ) (i : ℕ) → list_all (λ x. nat_lt x 100) xs ≡ true → get_or xs i 0 < 100
-all_below [] i h = lit< tt
-all_below (x ∷ xs) zero h = ltb-true x 100 (and_parts (nat_lt x 100) (list_all (λ x. nat_lt x 100) xs) h).0
-all_below (x ∷ xs) (suc i) h = all_below xs i (and_parts (nat_lt x 100) (list_all (λ x. nat_lt x 100) xs) h).1
 
 module _ (z : Size) (m : Moment) (o : IsAround m.words) where
   -- j months to go, from the month i on; the weekday is w
@@ -53,7 +30,7 @@ module _ (z : Size) (m : Moment) (o : IsAround m.words) where
   months (l ∷ ls) k i e w u last have ends few total small =
       let at2 = o.at2 in
       let j : ℕ = length ls in
-      let whole = sum_cons l ls in
+      let whole = sum_by-cons (λ x. x) l ls in
       Path-counted
       (on (T 45 (own 300) 0 refl refl)
       (on (A 46 (own 306) (short (131072 - suc j)) refl (omega (arith, ends, few)))
@@ -87,7 +64,7 @@ module _ (z : Size) (m : Moment) (o : IsAround m.words) where
       (on (T 42 (own 306) _ refl refl)
       (on (A 43 (own 313) (short (to 28 (324 + 0))) refl refl)
       (on (T 44 (own 51) _ refl refl)
-      (followed (months ls k 0 i w v last (have_take i (lengths k.february)) (omega (arith, long)) few total small)
+      (followed (months ls k 0 i w v last (have_part 0 i (lengths k.february)) (omega (arith, long)) few total small)
       (on (A 57 (own 51) (short (to 28 (324 + i))) refl (omega (arith, few)))
       (on (T 58 (own 59) _ refl refl)
       (followed (adds_cell z m 59 (324 + i) l 0 l at_end last refl refl (omega (arith, few))

@@ -1,14 +1,15 @@
 -- The name of the month in `examples/calendar.tape`.
-use Rattle.ed_programs.proofs.Kit.{Size, L, S, T, U, out, LD, followed, among, [], arith, Bool, get_or, length, List}
-use Rattle.ed_programs.proofs.Kit.{lit<, nat_lt, Option, refl, subst, suc, true, ℕ, ◌*◌, ◌+◌, ◌<◌, ◌==◌, ◌∙◌, ◌∷◌, ◌≡◌}
-use Rattle.ed_programs.proofs.Kit.{and_parts, eqb-true, ltb-true, Moment, short, A, on, Path, stay, own, ◌&&◌}
-use Rattle.ed_programs.proofs.Kit.{name_codes}
-use Rattle.ed_programs.proofs.CalendarCells.{adds_cell, at, frame, outside, sign_at, signs, Have, IsAround, Work}
+use Rattle.ed_programs.proofs.Kit.{Size, L, S, T, U, out, LD, followed, among, [], arith, Bool, get_or, List, lit<}
+use Rattle.ed_programs.proofs.Kit.{nat_lt, Option, refl, subst, suc, take, ℕ, ◌*◌, ◌+◌, ◌<◌, ◌∙◌, ◌∷◌, ◌≡◌, and_parts}
+use Rattle.ed_programs.proofs.Kit.{ltb-true, bytes_eq, bytes_eq-Decides, drop, Moment, short, A, on, Path, stay, own}
+use Rattle.ed_programs.proofs.Kit.{◌&&◌, name_codes, to}
+use Rattle.ed_programs.proofs.CalendarCells.{adds_cell, at, frame, have_part, outside, sign_at, signs, Have, IsAround}
+use Rattle.ed_programs.proofs.CalendarCells.{Work}
 use Rattle.ed_programs.proofs.CalendarSigns.{in_words}
-use Rattle.ed_programs.proofs.Kit.{to}
 
 -- a, b and c are the letters of name i: they are the signs from 39 + 3 i on
 pub record IsName (i a b c : ℕ) : Type 0 where
+  pub name_is : name_codes i ≡ a ∷ b ∷ c ∷ []
   pub letters : (x y u : ℕ) → Have (signs x y u) (39 + 3 * i) (in_words (a ∷ b ∷ c ∷ []))
   pub few : (a < 32) × (b < 32) × (c < 32)
 
@@ -23,66 +24,32 @@ named i a b c k = record k {
   takes_three = to 28 (156 + suc (suc (39 + 3 * i)));
 }
 
--- letter t of name i
+-- letter t of name i, and all three
 abbrev pub letter : ℕ → ℕ → ℕ
-letter i t = get_or (get_or name_codes i []) t 0
+letter i t = get_or (name_codes i) t 0
 
--- it is the sign that it should be
-abbrev has_letter : ℕ → ℕ → ℕ → ℕ → ℕ → Bool
-has_letter x y u i t = get_or (signs x y u) (39 + 3 * i + t) 0 == 4096 * letter i t && nat_lt (letter i t) 32
+abbrev name : ℕ → List ℕ
+name i = letter i 0 ∷ letter i 1 ∷ letter i 2 ∷ []
 
--- all letters are
-stands : (x y u i : ℕ) → i < 12 → (has_letter x y u i 0 && (has_letter x y u i 1 && has_letter x y u i 2)) ≡ true
-stands x y u i few =
-    among (λ i. has_letter x y u i 0 && (has_letter x y u i 1 && has_letter x y u i 2)) 0 12 i refl (omega arith)
-    (omega (arith, few))
+-- one test for a name
+abbrev stands : ℕ → ℕ → ℕ → ℕ → Bool
+stands x y u i =
+    bytes_eq (name_codes i) (name i)
+    && (bytes_eq (take 3 (drop (39 + 3 * i) (signs x y u))) (in_words (name i))
+    && (nat_lt (letter i 0) 32 && (nat_lt (letter i 1) 32 && nat_lt (letter i 2) 32)))
 
 pub is_name : (i : ℕ) → i < 12 → IsName i (letter i 0) (letter i 1) (letter i 2)
-is_name i few = record { letters = λ x y u. have x y u; few = codes }
-  where
-    test : (x y u : ℕ) → (has_letter x y u i 0 ≡ true) × (has_letter x y u i 1 ≡ true) × (has_letter x y u i 2 ≡ true)
-    test x y u =
-        let a = and_parts (has_letter x y u i 0) (has_letter x y u i 1 && has_letter x y u i 2)
-        (stands x y u i few) in
-        let b = and_parts (has_letter x y u i 1) (has_letter x y u i 2) a.1 in
-        (a.0, b.0, b.1)
-
-    here : (x y u t : ℕ) → has_letter x y u i t ≡ true
-        → (get_or (signs x y u) (39 + 3 * i + t) 0 ≡ 4096 * letter i t) × (letter i t < 32)
-    here x y u t e =
-        let p = and_parts (get_or (signs x y u) (39 + 3 * i + t) 0 == 4096 * letter i t) (nat_lt (letter i t) 32) e in
-        (eqb-true (get_or (signs x y u) (39 + 3 * i + t) 0) (4096 * letter i t) p.0, ltb-true (letter i t) 32 p.1)
-
-    at_place : (x y u t j : ℕ) → 39 + 3 * i + t ≡ j → has_letter x y u i t ≡ true
-        → get_or (signs x y u) j 0 ≡ 4096 * letter i t
-    at_place x y u t j e h = subst (λ n. get_or (signs x y u) n 0 ≡ 4096 * letter i t) e (here x y u t h).0
-
-    codes : (letter i 0 < 32) × (letter i 1 < 32) × (letter i 2 < 32)
-    codes = let t = test 0 0 0 in ((here 0 0 0 0 t.0).1, (here 0 0 0 1 t.1).1, (here 0 0 0 2 t.2).1)
-
-    have : (x y u : ℕ)
-        → Have (signs x y u) (39 + 3 * i) (4096 * letter i 0 ∷ 4096 * letter i 1 ∷ 4096 * letter i 2 ∷ [])
-    have x y u = let t = test x y u in (
-      at_place x y u 0 (39 + 3 * i) (omega arith) t.0,
-      (
-        at_place x y u 1 (suc (39 + 3 * i)) (omega arith) t.1,
-        (at_place x y u 2 (suc (suc (39 + 3 * i))) (omega arith) t.2, tt),
-      ),
-    )
-
--- a name is its three letters
-three : (xs : List ℕ) → (length xs == 3) ≡ true → xs ≡ get_or xs 0 0 ∷ get_or xs 1 0 ∷ get_or xs 2 0 ∷ []
-three [] h = cc
-three (x ∷ []) h = cc
-three (x ∷ y ∷ []) h = cc
-three (x ∷ y ∷ u ∷ []) h = refl
-three (x ∷ y ∷ u ∷ v ∷ xs) h =
-    let long = eqb-true (length (x ∷ y ∷ u ∷ v ∷ xs)) 3 h in absurd (omega (arith, long))
-
-pub name_is : (i : ℕ) → i < 12 → get_or name_codes i [] ≡ letter i 0 ∷ letter i 1 ∷ letter i 2 ∷ []
-name_is i few =
-    three (get_or name_codes i [])
-    (among (λ i. length (get_or name_codes i []) == 3) 0 12 i refl (omega arith) (omega (arith, few)))
+is_name i few =
+    let test = λ (x y u : ℕ). and_parts _ _ (among (stands x y u) 0 12 i refl (omega arith) (omega arith)) in
+    let codes = and_parts _ _ (and_parts _ _ (test 0 0 0).1).1 in
+    let others = and_parts _ _ codes.1 in
+    record {
+      name_is = (bytes_eq-Decides (name_codes i) (name i)).0 (test 0 0 0).0;
+      letters = λ x y u. subst (Have (signs x y u) (39 + 3 * i))
+          ((bytes_eq-Decides (take 3 (drop (39 + 3 * i) (signs x y u))) (in_words (name i))).0
+          (and_parts _ _ (test x y u).1).0) (have_part (39 + 3 * i) 3 (signs x y u));
+      few = (ltb-true _ 32 codes.0, ltb-true _ 32 others.0, ltb-true _ 32 others.1);
+    }
 
 module _ (z : Size) (m : Moment) (o : IsAround m.words) where
   -- the orders that read them are made, and obeyed

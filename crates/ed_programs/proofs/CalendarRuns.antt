@@ -1,16 +1,16 @@
 -- What `examples/calendar.tape` prints, for every month from January 1901 to December 2099.
 use Rattle.ed_programs.proofs.Kit.{none, spacing, spells_append, has_one_reading, Settings, rows, Spells, INPUT_BYTES}
-use Rattle.ed_programs.proofs.Kit.{decimal_is, few_bytes, [], ap, arith, Bool, decimal, false, get_or, if◌then◌else◌}
-use Rattle.ed_programs.proofs.Kit.{length, length-append, List, nat_le, refl, rules, subst, suc, true, zero, ℕ, ◌*◌}
-use Rattle.ed_programs.proofs.Kit.{◌++◌, ◌+◌, ◌-◌, ◌==◌, ◌∷◌, ◌≡◌, ◌≤◌, list_all, and_parts, leb-true}
-use Rattle.ed_programs.proofs.Kit.{length-replicate, Text, paper, digits, reading, paper_room, calendar_orders}
-use Rattle.ed_programs.proofs.Kit.{calendar_prints, TapeRuns, calendar_codes, day_codes, days_codes}
+use Rattle.ed_programs.proofs.Kit.{[], ap, arith, decimal, length, length-append, List, refl, rules, suc, zero, ℕ, ◌*◌}
+use Rattle.ed_programs.proofs.Kit.{◌++◌, ◌-◌, ◌%◌, ◌∷◌, ◌≡◌, ◌≤◌, leb-true, length-replicate, digits, reading}
+use Rattle.ed_programs.proofs.Kit.{paper_room, calendar_orders, calendar_prints, TapeRuns, calendar_codes, days_codes}
 use Rattle.ed_codes.specs.Text.{row}
 use Rattle.ed_programs.specs.Calendar.{calendar_cost, calendar_text}
 use Rattle.ed_programs.proofs.CalendarEnds.{front, calendar_arrives, calendar_ends, calendar_entry, calendar_rows}
 use Rattle.ed_programs.proofs.CalendarEnds.{data_rows}
-use Rattle.ed_programs.proofs.CalendarPaper.{calendar_shown, days_at_most}
-use Rattle.ed_programs.proofs.RowTexts.{number_spells}
+use Rattle.ed_programs.proofs.CalendarPaper.{calendar_shown}
+use Rattle.ed_programs.proofs.CalendarDays.{days_at_most}
+use Rattle.ed_programs.proofs.CalendarNames.{is_name}
+use Rattle.ed_programs.proofs.RowTexts.{few_figures, number_spells}
 use Rattle.ed_programs.proofs.TapeRuns.{reads_spell, rows_in, tape_runs}
 
 -- ---- the rows of the text
@@ -35,55 +35,26 @@ module _ (month year : ℕ) (small : month ≤ 65535) (low : year ≤ 65535) whe
 
   pub few_text : length (calendar_text month year) ≤ INPUT_BYTES
   few_text =
-      let m = few_bytes month (omega (arith, small)) in
-      let y = few_bytes year (omega (arith, low)) in
-      let m_is = ap (λ (t : Text). length t) (decimal_is month (omega (arith, small))) in
-      let y_is = ap (λ (t : Text). length t) (decimal_is year (omega (arith, low))) in
-      let before : length front ≤ 10000 = leb-true (length front) 10000 refl in
-      let last = length-append (decimal year) (70 ∷ 10 ∷ []) in
-      let both = length-append (decimal month) (70 ∷ (decimal year ++ 70 ∷ 10 ∷ [])) in
-      let all = length-append front (decimal month ++ 70 ∷ (decimal year ++ 70 ∷ 10 ∷ [])) in
-      omega (arith, m, y, m_is, y_is, before, last, both, all)
+      let m = few_figures month small in let y = few_figures year low in search (rules, m, y, leb-true, length-append)
 
 -- ---- the number of codes
 
--- each of some lists is short
-each_few : (k n : ℕ) (cs : List (List ℕ)) → list_all (λ c. nat_le (length c) n) cs ≡ true
-    → length (get_or cs k []) ≤ n
-each_few k n [] h = omega arith
-each_few zero n (c ∷ cs) h = leb-true (length c) n (and_parts (nat_le (length c) n) _ h).0
-each_few (suc k) n (c ∷ cs) h = each_few k n cs (and_parts (nat_le (length c) n) _ h).1
-
 few_days_codes : (before day n : ℕ) → length (days_codes before day n) ≤ 5 * n
 few_days_codes before day zero = omega arith
-few_days_codes before day (suc n) = by_test (before == 6) (few_days_codes 0 (suc day) n)
-    (few_days_codes (suc before) (suc day) n)
-  where
-    by_test : (b : Bool) → length (days_codes 0 (suc day) n) ≤ 5 * n
-        → length (days_codes (suc before) (suc day) n) ≤ 5 * n
-        → length (if b then day_codes day ++ 18 ∷ 24 ∷ days_codes 0 (suc day) n
-        else day_codes day ++ days_codes (suc before) (suc day) n) ≤ 5 * suc n
-    by_test true l r =
-        let e = length-append (day_codes day) (18 ∷ 24 ∷ days_codes 0 (suc day) n) in omega (arith, e, l)
-    by_test false l r =
-        let e = length-append (day_codes day) (days_codes (suc before) (suc day) n) in omega (arith, e, r)
+few_days_codes before day (suc n) = let rest = few_days_codes (suc before % 7) (suc day) n in grind arith
 
-few_codes : (month year : ℕ) → length (calendar_codes month year) ≤ paper_room
-few_codes month year = search (rules, each_few, length-append, length-replicate, few_days_codes, days_at_most)
+few_codes : (month year : ℕ) → 1 ≤ month → month ≤ 12 → length (calendar_codes month year) ≤ paper_room
+few_codes month year some few =
+    let name = ap (λ (cs : List ℕ). length cs) (is_name (month - 1) (omega arith)).name_is in
+    search (rules, name, length-append, length-replicate, few_days_codes, days_at_most)
 
 -- ---- the law
 
 pub each_month : (s : Settings) (month year : ℕ) → 1 ≤ month → month ≤ 12 → 1901 ≤ year → year ≤ 2099
     → TapeRuns s (calendar_text month year) calendar_cost (calendar_orders month year) 188 (calendar_prints month year)
 each_month s month year some few low high =
-    let rest : List ℕ = data_rows month year in
-    let stop = calendar_ends s month year some few low high in
-    let runs = tape_runs s (calendar_text month year) (calendar_rows rest) (calendar_entry rest)
-    (text_reads month year (omega (arith, few)) (omega (arith, high)))
-    (few_text month year (omega (arith, few)) (omega (arith, high)))
-    (calendar_arrives s.size rest) stop (few_codes month year) in
-    let count : calendar_orders month year - 1 + 1 ≡ calendar_orders month year = omega arith in
-    subst (λ (t : Text). TapeRuns s (calendar_text month year) calendar_cost (calendar_orders month year) 188 t)
-    (calendar_shown month year low high some few)
-    (subst (λ k. TapeRuns s (calendar_text month year) calendar_cost k 188 (paper (calendar_codes month year))) count
-    runs)
+    let rest = data_rows month year in
+    tape_runs s (calendar_text month year) (calendar_rows rest) (calendar_entry rest)
+    (text_reads month year (omega arith) (omega arith)) (few_text month year (omega arith) (omega arith))
+    (calendar_arrives s.size rest) (calendar_ends s month year some few low high) (few_codes month year some few)
+    (omega arith) (calendar_shown month year low high some few)

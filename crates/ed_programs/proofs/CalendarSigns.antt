@@ -1,11 +1,11 @@
 -- The printing of signs in `examples/calendar.tape`.
 use Rattle.ed_programs.proofs.Kit.{Size, G_stays, O, Remains, E_jumps, S, T, U, prints, any, out, followed, [], arith}
-use Rattle.ed_programs.proofs.Kit.{get_or, length, List, lit<, map, Option, refl, Some, suc, ℕ, ◌*◌, ◌+◌, ◌-◌, ◌<◌}
-use Rattle.ed_programs.proofs.Kit.{◌^◌, ◌∙◌, ◌∷◌, ◌≡◌, ◌≤◌, lt-ltb, Moment, short, A, G_jumps, on, Path, stay, own}
+use Rattle.ed_programs.proofs.Kit.{get_or, length, List, lit<, map, Option, refl, Some, suc, ℕ, ◌*◌, ◌+◌, ◌-◌, ◌<◌, ◌^◌}
+use Rattle.ed_programs.proofs.Kit.{◌∙◌, ◌∷◌, ◌≡◌, ◌≤◌, lt-ltb, Moment, short, A, G_jumps, on, Path, stay, own, to}
+use Rattle.ed_programs.proofs.Kit.{Path-counted}
 use Rattle.ed_machine.proofs.Kit.Orders.{there_is}
-use Rattle.ed_programs.proofs.CalendarCells.{frame-ahead, at, cells, frame, latest, outside, sign_at, signs, Have, IsAround}
-use Rattle.ed_programs.proofs.CalendarCells.{Work}
-use Rattle.ed_programs.proofs.Kit.{to, Path-counted}
+use Rattle.ed_programs.proofs.CalendarCells.{frame-ahead, at, cells, frame, latest, outside, sign_at, signs, Have}
+use Rattle.ed_programs.proofs.CalendarCells.{IsAround, Work}
 
 -- codes in words
 abbrev pub in_words : List ℕ → List ℕ
@@ -38,9 +38,8 @@ module _ (z : Size) (m : Moment) (o : IsAround m.words) where
       let next : e ≡ suc j = omega (arith, ends) in
       rw next
       (on (T 146 (own 300) _ refl refl)
-      (followed (sign (record k { scrap = v; sign_link = to 3 i }) c j (suc j) 0 last here.0 (omega
-      (arith, ends, few))
-      (omega (arith, ends, few)) (omega (arith, ends, few)))
+      (followed (sign (record k { scrap = v; sign_link = to 3 i }) c j (suc j) 0 last here.0 (omega arith)
+      (omega arith) (omega arith))
       (on (G_stays 152 (own 146) refl (lit< tt))
       (on (T 153 (own 300) 0 refl refl)
       (on (E_jumps 154 (any (56 + i) (frame-ahead z i low)) refl (lit< tt)) stay)))))

@@ -1,13 +1,11 @@
 -- The lines above the days in `examples/calendar.tape`.
-use Rattle.ed_programs.proofs.Kit.{Size, T, followed, [], ap, append-nil, arith, get_or, List, lit<, lit≤, Option}
-use Rattle.ed_programs.proofs.Kit.{refl, Some, subst, suc, sym, ℕ, ◌%◌, ◌*◌, ◌++◌, ◌+◌, ◌-◌, ◌/◌, ◌<◌, ◌∙◌, ◌∷◌, ◌≡◌}
-use Rattle.ed_programs.proofs.Kit.{◌≤◌, Moment, short, A, on, Path, stay, own, head_codes, name_codes, title_codes}
-use Rattle.ed_programs.proofs.Kit.{year_codes}
+use Rattle.ed_programs.proofs.Kit.{drop, Size, T, followed, [], arith, lit<, lit≤, Option, refl, Some, ℕ, ◌%◌, ◌*◌, ◌+◌}
+use Rattle.ed_programs.proofs.Kit.{◌/◌, ◌<◌, ◌∷◌, ◌≡◌, ◌≤◌, Moment, short, A, on, Path, stay, own, head_codes}
+use Rattle.ed_programs.proofs.Kit.{title_codes, year_codes, to, Path-counted, calls_own}
 use Rattle.ed_programs.proofs.CalendarCells.{at, frame, have_part, signs, IsAround, Work}
 use Rattle.ed_programs.proofs.CalendarFigures.{left_by, prints_four}
-use Rattle.ed_programs.proofs.CalendarNames.{letter, name_is}
+use Rattle.ed_programs.proofs.CalendarNames.{is_name, letter}
 use Rattle.ed_programs.proofs.CalendarSigns.{prints_signs}
-use Rattle.ed_programs.proofs.Kit.{to, Path-counted, calls_own}
 
 -- ---- the words that change
 
@@ -39,68 +37,38 @@ headed i y k = record (untitled i k) {
 
 module _ (z : Size) (m : Moment) (o : IsAround m.words) where
   -- the title up to the year
-  title : (i : ℕ) (k : Work) (last : Option ℕ) → i < 12
-      → Path (frame z) 90 (at m 84 0 (untitled i k) last) (title_codes (suc i))
+  pub prints_title : (i : ℕ) (k : Work) (last : Option ℕ) → i < 12
+      → Path (frame z) 90 (at m 84 0 (untitled i k) last) (title_codes i)
       (at m 86 0 (record (untitled i k) { sign = to 9 168; scrap = 0; sign_link = to 3 86 }) (Some 11))
-  title i k last few =
-      let before : suc i - 1 ≡ i = omega arith in
-      let name : get_or name_codes (suc i - 1) [] ≡ letter i 0 ∷ letter i 1 ∷ letter i 2 ∷ [] =
-      ap (λ n. get_or name_codes n []) before ∙ name_is i few in
+  prints_title i k last few =
+      let name = (is_name i few).name_is in
       let a : ℕ = letter i 0 in
       let b : ℕ = letter i 1 in
       let c : ℕ = letter i 2 in
-      subst (λ (cs : List ℕ). Path (frame z) 90 (at m 84 0 (untitled i k) last)
-      (15 ∷ 20 ∷ 20 ∷ 20 ∷ 20 ∷ 20 ∷ 20 ∷ (cs ++ 20 ∷ 11 ∷ []))
-      (at m 86 0 (record (untitled i k) { sign = to 9 168; scrap = 0; sign_link = to 3 86 }) (Some 11))) (sym name)
+      rw name
       (calls_own 84 144 refl refl refl (lit< tt)
       (prints_signs z m o 84 15 (20 ∷ 20 ∷ 20 ∷ 20 ∷ 20 ∷ 20 ∷ a ∷ b ∷ c ∷ 20 ∷ 11 ∷ []) (untitled i k) 0 12 last
       (lit< tt) (have_part 0 12 (signs (4096 * a) (4096 * b) (4096 * c))) refl (lit≤ tt)))
 
   -- the year, in four figures; the heads are the next signs
-  year : (y : ℕ) (k : Work) (last : Option ℕ) → k.year ≡ y → 1901 ≤ y → y < 2200
+  pub prints_year : (y : ℕ) (k : Work) (last : Option ℕ) → k.year ≡ y → 1901 ≤ y → y < 2200
       → Path (frame z) (81 + 8 * (y / 1000 + y / 100 % 10 + y / 10 % 10))
       (at m 86 0 (record k { first_power = to 12 314 }) last) (year_codes y)
       (at m 92 0 (record (left_by 88 (y % 10) k) { first_power = to 12 314; end = to 9 195 }) (Some (y % 10)))
-  year y k last is low high =
-      let parts : 1000 * (y / 1000) + (100 * (y / 100 % 10) + (10 * (y / 10 % 10) + y % 10)) ≡ y = omega arith in
-      let tens : ℕ = y / 1000 + y / 100 % 10 + y / 10 % 10 in
-      let after : Work = record (left_by 88 (y % 10) k) { first_power = to 12 314 } in
-      let called : Path (frame z) (75 + 8 * tens) (at m 234 (to 28 88) (record k
-      { first_power = to 12 314; number = y }) last)
-      (year_codes y) (at m 90 0 after (Some (y % 10))) =
-      subst (λ n. Path (frame z) (75 + 8 * tens) (at m 234 (to 28 88) (record k
-      { first_power = to 12 314; number = n }) last)
-      (year_codes y) (at m 90 0 after (Some (y % 10)))) parts
-      (prints_four z m o 88 (y / 1000) (y / 100 % 10) (y / 10 % 10) (y % 10) k last (lit< tt) (omega (arith, low))
-      (omega (arith, high)) (omega arith) (omega arith) (omega arith)) in
-      subst (λ (cs : List ℕ). Path (frame z) (81 + 8 * tens) (at m 86 0 (record k
-      { first_power = to 12 314 }) last) cs
-      (at m 92 0 (record after { end = to 9 195 }) (Some (y % 10)))) (append-nil (year_codes y))
-      (Path-counted
+  prints_year y k last is low high =
+      Path-counted
       (on (A 86 (own 294) (short y) refl (omega (arith, is, high)))
       (on (T 87 (own 297) _ refl refl)
       (calls_own 88 234 refl refl refl (lit< tt)
-      (followed called
+      (followed (prints_four z m o 88 y k last (lit< tt) (omega arith) (omega arith))
       (on (A 90 (own 155) (short (to 9 195)) refl refl)
-      (on (T 91 (own 319) _ refl refl) stay)))))) (omega arith))
+      (on (T 91 (own 319) _ refl refl) stay)))))) (omega arith)
 
   -- the heads of the columns
-  heads : (k : Work) (last : Option ℕ)
+  pub prints_heads : (k : Work) (last : Option ℕ)
       → Path (frame z) 195 (at m 92 0 (record k { sign = to 9 168; end = to 9 195 }) last) head_codes
       (at m 94 0 (record k { sign = to 9 195; end = to 9 195; scrap = 0; sign_link = to 3 94 }) (Some 11))
-  heads k last =
+  prints_heads k last =
       calls_own 92 144 refl refl refl (lit< tt)
-      (prints_signs z m o 92 18 (24 ∷ 15 ∷ 20 ∷ 12 ∷ 7 ∷ 20 ∷ 23 ∷ 9 ∷ 20 ∷ 5 ∷ 7 ∷ 20 ∷ 2 ∷ 3 ∷ 20 ∷ 5 ∷ 21 ∷ 20 ∷
-      17 ∷ 4 ∷ 20
-      ∷ 12 ∷ 28 ∷ 18 ∷ 24 ∷ 11 ∷ []) k 12 39 last (lit< tt) (have_part 12 27 (signs k.one k.two k.three)) refl
-      (lit≤ tt))
-
-  -- both lines
-  pub lines_above : (i y : ℕ) (k : Work) (last : Option ℕ) → i < 12 → k.year ≡ y → 1901 ≤ y → y < 2200
-      → Path (frame z) (366 + 8 * (y / 1000 + y / 100 % 10 + y / 10 % 10)) (at m 84 0 (untitled i k) last)
-      (title_codes (suc i) ++ (year_codes y ++ head_codes)) (at m 94 0 (headed i y k) (Some 11))
-  lines_above i y k last few is low high =
-      Path-counted (followed (title i k last few)
-      (followed (year y (record (untitled i k) { sign = to 9 168; scrap = 0; sign_link = to 3 86 })
-      (Some 11) is low high)
-      (heads (record (left_by 88 (y % 10) (untitled i k)) { sign_link = to 3 86 }) (Some (y % 10))))) (omega arith)
+      (prints_signs z m o 92 18 (drop 1 head_codes) k 12 39 last (lit< tt)
+      (have_part 12 27 (signs k.one k.two k.three)) refl (lit≤ tt))

@@ -1,12 +1,11 @@
 -- Capital letters: each spells a row of tape, and is printed as it is.
-use Rattle.ed_programs.proofs.Kit.{Letters, bytes_eq, bytes_eq-Decides, among, [], ap, arith, Bool, false}
-use Rattle.ed_programs.proofs.Kit.{if◌then◌else◌, length, nat_le, nat_lt, None, not, refl, Some, true, ℕ, ◌++◌, ◌==◌}
-use Rattle.ed_programs.proofs.Kit.{◌||◌, ◌∷◌, ◌≡◌, ◌≤◌, list_all, and_from, and_parts, leb-true, not-true, nat_tests}
-use Rattle.ed_programs.proofs.Kit.{Text, row_of, row, ◌&&◌, paper_from, is_capital}
+use Rattle.ed_programs.proofs.Kit.{Letters, bytes_eq, bytes_eq-Decides, among, [], ap, arith, Bool, false, length, List}
+use Rattle.ed_programs.proofs.Kit.{nat_le, None, not, refl, true, ℕ, ◌++◌, ◌==◌, ◌∷◌, ◌≡◌, ◌≤◌, list_all, and_from}
+use Rattle.ed_programs.proofs.Kit.{and_parts, leb-true, not-true, nat_tests, Text, row_of, row, ◌&&◌, paper_from}
+use Rattle.ed_programs.proofs.Kit.{is_capital}
 use Rattle.ed_printer.specs.Paper.{struck_bytes}
 use Rattle.ed_programs.specs.Hello.{letters_refusal}
 use Rattle.ed_programs.proofs.RowTexts.{is_row_byte, text_rows}
-use Rattle.ed_programs.specs.declared.refusal.Refusal.TheVariants as refusal
 
 -- 1 to `most` capital letters
 pub record AreLetters (most : ℕ) (letters : Text) : Type 0 where
@@ -16,19 +15,11 @@ pub record AreLetters (most : ℕ) (letters : Text) : Type 0 where
 
 -- a text that is not refused is such letters
 pub are_letters : (most : ℕ) (letters : Text) → letters_refusal most letters ≡ None → AreLetters most letters
-are_letters most letters taken =
-    by_tests (length letters == 0 || nat_lt most (length letters)) (list_all is_capital letters) refl refl taken
-  where
-    by_tests : (wrong all : Bool) → (length letters == 0 || nat_lt most (length letters)) ≡ wrong
-        → list_all is_capital letters ≡ all
-        → (if wrong then Some refusal.Length else if all then None else Some refusal.Letter) ≡ None → AreLetters most letters
-    by_tests true all is is_all none = absurd cc
-    by_tests false false is is_all none = absurd cc
-    by_tests false true is is_all none = record {
-      some = grind (arith, nat_tests);
-      few = grind (arith, nat_tests);
-      capital = is_all;
-    }
+are_letters most letters taken = record {
+  some = grind (arith, nat_tests);
+  few = grind (arith, nat_tests);
+  capital = grind (arith, nat_tests);
+}
 
 -- what is so of each letter, as a test
 abbrev fine : ℕ → Bool
@@ -45,12 +36,9 @@ pub record Letter (b : ℕ) : Type 0 where
 pub letter : (b : ℕ) → (nat_le 65 b && nat_le b 90) ≡ true → Letter b
 letter b h =
     let p = and_parts (nat_le 65 b) (nat_le b 90) h in
-    let low = leb-true 65 b p.0 in
-    let high = leb-true b 90 p.1 in
-    let is = among fine 65 26 b refl (omega arith) (omega arith) in
-    let q = and_parts (is_row_byte b) _ is in
-    let r = and_parts (bytes_eq (struck_bytes Letters (row (row_of b))) (b ∷ [])) _ q.1 in
-    let t = and_parts (not (row (row_of b) == 11)) _ r.1 in
+    let q = and_parts _ _ (among fine 65 26 b refl (leb-true 65 b p.0) (omega (arith, leb-true b 90 p.1))) in
+    let r = and_parts _ _ q.1 in
+    let t = and_parts _ _ r.1 in
     record {
       row_byte = q.0;
       struck_is = (bytes_eq-Decides (struck_bytes Letters (row (row_of b))) (b ∷ [])).0 r.0;
@@ -61,15 +49,18 @@ letter b h =
 pub are_rows : (q : Text) → list_all (λ b. nat_le 65 b && nat_le b 90) q ≡ true → list_all is_row_byte q ≡ true
 are_rows [] h = refl
 are_rows (b ∷ q) h =
-    let p = and_parts (nat_le 65 b && nat_le b 90) (list_all (λ b. nat_le 65 b && nat_le b 90) q) h in
-    and_from _ _ (letter b p.0).row_byte (are_rows q p.1)
+    let p = and_parts _ _ h in and_from _ _ (letter b p.0).row_byte (are_rows q p.1)
 
--- letters are printed as they are, and a new line follows
+-- letters are printed as they are
+pub capitals_shown : (q : Text) (more : List ℕ) → list_all is_capital q ≡ true
+    → paper_from Letters (text_rows q ++ more) ≡ q ++ paper_from Letters more
+capitals_shown [] more h = refl
+capitals_shown (b ∷ q) more h =
+    let p = and_parts _ _ h in
+    let l = letter b p.0 in
+    rw (l.no_figures, l.no_letters, l.struck_is) (ap (λ (x : Text). b ∷ x) (capitals_shown q more p.1))
+
+-- and a new line follows
 pub letters_shown : (q : Text) → list_all (λ b. nat_le 65 b && nat_le b 90) q ≡ true
     → paper_from Letters (text_rows q ++ 18 ∷ 24 ∷ []) ≡ q ++ 13 ∷ 10 ∷ []
-letters_shown [] h = refl
-letters_shown (b ∷ q) h =
-    let p = and_parts (nat_le 65 b && nat_le b 90) (list_all (λ b. nat_le 65 b && nat_le b 90) q) h in
-    let l = letter b p.0 in
-    let a = l.struck_is in let c = l.no_figures in let d = l.no_letters in
-    rw (c, d, a) (ap (λ (x : Text). b ∷ x) (letters_shown q p.1))
+letters_shown q h = capitals_shown q (18 ∷ 24 ∷ []) h

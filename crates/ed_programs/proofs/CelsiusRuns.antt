@@ -6,14 +6,13 @@ use Rattle.ed_programs.proofs.Kit.{ℕ, ◌*◌, ◌++◌, ◌+◌, ◌-◌, ◌
 use Rattle.ed_programs.proofs.Kit.{leb-true, lt-ltb, ltb-true, length-map, sum_by-cons, Text, Frame, Moment, short}
 use Rattle.ed_programs.proofs.Kit.{state, A, G_jumps, on, Path, stay, own, settings, parameter_store, digits}
 use Rattle.ed_programs.proofs.Kit.{print_orders, ReachesStop, entry_state, celsius_text, numbers_text, on_lines}
-use Rattle.ed_programs.proofs.Kit.{SourceRuns, HasRead, reads_number, are_small, number_rows, HasShown, shows_number}
-use Rattle.ed_programs.proofs.Kit.{stops_from_entry, Marked}
+use Rattle.ed_programs.proofs.Kit.{SourceRuns, reads_number, are_small, number_rows, shows_number, stops_from_entry}
+use Rattle.ed_programs.proofs.Kit.{Marked, to, calling, journey_counted, stop_counted, HasThree, three_read}
+use Rattle.ed_programs.proofs.Kit.{three_shown, three_at_entry}
 use Rattle.ed_machine.proofs.Kit.Moves.{H, V, T_top}
 use Rattle.ed_programs.specs.Celsius.{celsius, celsius_orders}
 use Rattle.ed_programs.specs.declared.celsius.TheConstants.{CELSIUS}
 use Rattle.ed_programs.proofs.DataLines.{list_mark}
-use Rattle.ed_programs.proofs.Kit.{to, calling, journey_counted, stop_counted, HasThree, three_read, three_shown}
-use Rattle.ed_programs.proofs.Kit.{three_at_entry}
 use Rattle.ed_programs.proofs.NumberLists.{ended_small, ended_some, few_codes, few_numbers, list_codes, list_shown}
 use Rattle.ed_programs.proofs.NumberShown.{then_on}
 use Rattle.ed_programs.proofs.SourceRuns.{lines_of_pieces, program_runs}
@@ -26,18 +25,9 @@ ninths v small = omega arith
 abbrev pub celsius_pieces : List Text
 celsius_pieces = map (λ piece. piece.now) CELSIUS
 
--- the orders for temperatures
-abbrev conversion_orders : List ℕ → ℕ
-conversion_orders [] = 0
-conversion_orders (n ∷ ns) = 13 * length (digits n) + print_orders (celsius n) + 30 + conversion_orders ns
-
-conversions_are : (ns : List ℕ)
-    → conversion_orders ns ≡ sum_by (λ n. 13 * length (digits n) + print_orders (celsius n) + 30) ns
-conversions_are [] = refl
-conversions_are (n ∷ ns) =
-    let rest = conversions_are ns in
-    let all = sum_by-cons (λ n. 13 * length (digits n) + print_orders (celsius n) + 30) n ns in
-    omega (arith, rest, all)
+-- the orders for a temperature
+abbrev conversion_orders : ℕ → ℕ
+conversion_orders n = 13 * length (digits n) + print_orders (celsius n) + 30
 
 -- its words, with the cell that changes
 abbrev cells : ℕ → List ℕ
@@ -67,7 +57,7 @@ module _ (z : Size) (m : Moment) where
   record Turned (n value factor : ℕ) (words : List ℕ) (last : Option ℕ) (rest : List ℕ) : Type 0 where
     after : List ℕ
     three : HasThree f after 74 98 150 15
-    journey : Journey f (13 * length (digits n) + print_orders (celsius n) + 30)
+    journey : Journey f (conversion_orders n)
         (at 0 words 0 value factor last (digits n ++ 17 ∷ rest)) (11 ∷ digits (celsius n) ++ 18 ∷ 24 ∷ [])
         (at 0 after 0 (celsius n) (36409 * 2 ^ 18) (Some 24) rest)
 
@@ -76,8 +66,7 @@ module _ (z : Size) (m : Moment) where
   turn n value factor words last rest three least small =
       let start : IsIn f (at 0 words 0 value factor last (digits n ++ 17 ∷ rest)) =
       record { above = lit≤ tt; all = three.both.all; own = refl } in
-      let one : HasRead start 0 15 74 n rest =
-      reads_number start 0 15 n rest three.both.reads refl small (lit< tt) (lit≤ tt) refl refl refl in
+      let one = reads_number start 0 15 n rest three.both.reads refl small (lit< tt) (lit≤ tt) refl refl refl in
       let read = three_read one three in
       let q : ℕ = celsius n in
       let converts : Path f 7 (at 2 one.words 0 n factor last rest) [] (at 9 one.words 0 q (36409 * 2 ^ 18) last rest) =
@@ -90,9 +79,8 @@ module _ (z : Size) (m : Moment) where
       (on (T_top 8 (own 15) q refl (ninths (n - 32) (omega arith))) stay)))))) in
       let ready : IsIn f (at 9 one.words 0 q (36409 * 2 ^ 18) last rest) =
       record { above = lit≤ tt; all = read.both.all; own = refl } in
-      let shown : HasShown ready 9 15 98 150 q =
-      shows_number ready 9 15 q read.both.prints read.lines read.beyond refl (omega arith) (lit< tt) (lit≤ tt) refl refl
-      refl refl refl in
+      let shown = shows_number ready 9 15 q read.both.prints read.lines read.beyond refl (omega arith) (lit< tt)
+      (lit≤ tt) refl refl refl refl refl in
       record {
         after = shown.words;
         three = three_shown shown read;
@@ -103,13 +91,12 @@ module _ (z : Size) (m : Moment) where
   -- all of them, and the stop
   stops : (ns : List ℕ) (end value factor : ℕ) (words : List ℕ) (last : Option ℕ) → HasThree f words 74 98 150 15
       → are_small ns ≡ true → list_all (λ n. nat_le 32 n) ns ≡ true → end < 32 → (done : ℕ)
-      → ReachesStop (conversion_orders ns + 13 * length (digits end) + 16)
+      → ReachesStop (sum_by conversion_orders ns + 13 * length (digits end) + 16)
       (state f (at 0 words 0 value factor last (number_rows (ns ++ end ∷ []))) done) (list_codes (map celsius ns)) 71
   stops [] end value factor words last three small least low done =
       let start : IsIn f (at 0 words 0 value factor last (number_rows (end ∷ []))) =
       record { above = lit≤ tt; all = three.both.all; own = refl } in
-      let one : HasRead start 0 15 74 end [] =
-      reads_number start 0 15 end [] three.both.reads refl (omega arith) (lit< tt) (lit≤ tt) refl refl refl in
+      let one = reads_number start 0 15 end [] three.both.reads refl (omega arith) (lit< tt) (lit≤ tt) refl refl refl in
       stop_counted (to_stop (then one.journey (along
       (on (A 2 (own 15) (short end) refl (omega arith))
       (on (S 3 (own 16) (short (131072 - (32 - end))) refl (omega arith))
@@ -118,19 +105,18 @@ module _ (z : Size) (m : Moment) where
   stops (n ∷ ns) end value factor words last three small least low done =
       let p = and_parts (nat_lt n 65536) (are_small ns) small in
       let l = and_parts (nat_le 32 n) (list_all (λ n. nat_le 32 n) ns) least in
+      let orders = sum_by-cons conversion_orders n ns in
       let one = turn n value factor words last (number_rows (ns ++ end ∷ [])) three (leb-true 32 n l.0)
       (ltb-true n 65536 p.0) in
       stop_counted (stop_after (one.journey.leads done) refl
       (stops ns end (celsius n) (36409 * 2 ^ 18) one.after (Some 24) one.three p.1 l.1 low
-      (done + (13 * length (digits n) + print_orders (celsius n) + 30)))) (omega arith)
+      (done + conversion_orders n))) (omega arith)
 
 celsius_small : (ns : List ℕ) → are_small ns ≡ true → are_small (map celsius ns) ≡ true
 celsius_small [] h = refl
 celsius_small (n ∷ ns) h =
     let p = and_parts (nat_lt n 65536) (are_small ns) h in
-    let small = ltb-true n 65536 p.0 in
-    and_from (nat_lt (celsius n) 65536) (are_small (map celsius ns)) (lt-ltb (celsius n) 65536 (omega arith))
-    (celsius_small ns p.1)
+    let small = ltb-true n 65536 p.0 in and_from _ _ (lt-ltb (celsius n) 65536 (omega arith)) (celsius_small ns p.1)
 
 module _ (ns : List ℕ) (end : ℕ) (small : are_small ns ≡ true) (least : list_all (λ n. nat_le 32 n) ns ≡ true)
     (low : end < 32) (fits : length (numbers_text (ns ++ end ∷ [])) ≤ 113) where
@@ -144,14 +130,14 @@ module _ (ns : List ℕ) (end : ℕ) (small : are_small ns ≡ true) (least : li
   abbrev lines : List Line
   lines = lines_of_pieces false celsius_pieces texts marks
 
-  pub each_celsius : (s : Settings) → SourceRuns s (celsius_text ns end) (celsius_orders ns end) 71 (on_lines (map celsius ns))
+  pub each_celsius : (s : Settings)
+      → SourceRuns s (celsius_text ns end) (celsius_orders ns end) 71 (on_lines (map celsius ns))
   unfolding settings parameter_store
   each_celsius s =
       let z : Size = s.size in
       let many = few_numbers ns end in
       let few = few_codes (map celsius ns) in
       let same = length-map ns celsius in
-      let orders = conversions_are ns in
       program_runs s false celsius_pieces texts marks refl
       (stops_from_entry z lines refl 18 (lit≤ tt) (cells 0) refl refl (number_rows (ns ++ end ∷ []))
       (sym (append-nil (number_rows (ns ++ end ∷ []))))
@@ -159,4 +145,4 @@ module _ (ns : List ℕ) (end : ℕ) (small : are_small ns ≡ true) (least : li
       (entry_state z lines).store.words None
       (three_at_entry z lines 18 (lit≤ tt) 74 98 150 15 refl refl (lit≤ tt) (lit≤ tt) (lit≤ tt) (lit≤ tt)) small least
       low (entry_state z lines).orders))
-      (omega arith) (omega (arith, orders)) (list_shown (map celsius ns) (celsius_small ns small))
+      (omega arith) (omega arith) (list_shown (map celsius ns) (celsius_small ns small))

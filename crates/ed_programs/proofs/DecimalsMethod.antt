@@ -1,7 +1,7 @@
 -- Why the method is right: what it gives with any number of divisors are the decimals of the sum of the fractions.
 use Rattle.ed_programs.proofs.Kit.{mod-lt, div-add-mod, mul-le-mul_right, [], ap, arith, List, lit<, lit≤, refl, subst}
-use Rattle.ed_programs.proofs.Kit.{suc, sym, zero, ℕ, ◌%◌, ◌*◌, ◌+◌, ◌/◌, ◌<◌, ◌^◌, ◌∙◌, ◌∷◌, ◌≡◌, ◌≤◌, replicate}
-use Rattle.ed_programs.proofs.Kit.{carries, factorial, parts, tenfold}
+use Rattle.ed_programs.proofs.Kit.{suc, sym, zero, ℕ, ◌*◌, ◌+◌, ◌/◌, ◌<◌, ◌^◌, ◌∙◌, ◌∷◌, ◌≡◌, ◌≤◌, replicate, carries}
+use Rattle.ed_programs.proofs.Kit.{factorial, parts, tenfold}
 use Rattle.std.proofs.Math.Nat.{pow-suc}
 use Rattle.std.proofs.lemmas.Nat.{div-mul-add}
 use Rattle.ed_notation.specs.Items.{digits_number}
@@ -46,18 +46,10 @@ less_than_one d (n ∷ ns) o =
 tenfold_is : (d : ℕ) (ns : List ℕ) → 10 * value d ns ≡ (tenfold d ns).carry * weight d ns + value d (tenfold d ns).left
 tenfold_is d [] = refl
 tenfold_is d (n ∷ ns) =
-    let w : ℕ = weight (suc d) ns in
-    let c : ℕ = (tenfold (suc d) ns).carry in
-    let l : ℕ = value (suc d) (tenfold (suc d) ns).left in
-    let x : ℕ = 10 * n + c in
-    let rest : 10 * value (suc d) ns ≡ c * w + l = tenfold_is (suc d) ns in
-    let shares : (d * (x / d) + x % d) * w ≡ x * w = ap (λ y. y * w) (div-add-mod x d) in
-    subst (λ y. 10 * (n * w + value (suc d) ns) ≡ x / d * (d * w) + (x % d * y + l)) (sym (weight_left (suc d) ns))
-    (parts_are d n w (value (suc d) ns) c l (x / d) (x % d) rest shares)
-  where
-    parts_are : (d n w v c l q r : ℕ) → 10 * v ≡ c * w + l → (d * q + r) * w ≡ (10 * n + c) * w
-        → 10 * (n * w + v) ≡ q * (d * w) + (r * w + l)
-    parts_are d n w v c l q r rest shares = omega (arith, rest, shares)
+    let x : ℕ = 10 * n + (tenfold (suc d) ns).carry in
+    let rest = tenfold_is (suc d) ns in
+    let shares = ap (λ y. y * weight (suc d) ns) (div-add-mod x d) in
+    rw (weight_left (suc d) ns) (omega (arith, rest, shares))
 
 -- 10^m times a number and the sum, by the decimals
 decimals_are : (m : ℕ) (ns : List ℕ) (h : ℕ) → 10 ^ m * (h * weight 2 ns + value 2 ns)
@@ -75,10 +67,7 @@ decimals_are (suc m) ns h =
     let ten : 10 * (h * w + value 2 ns) ≡ (10 * h + c) * w + value 2 left =
     let e = tenfold_is 2 ns in omega (arith, e) in
     let power : 10 ^ suc m ≡ 10 ^ m * 10 = pow-suc 10 m in
-    ap (λ y. y * (h * w + value 2 ns)) power ∙ tens (10 ^ m) (h * w + value 2 ns) ∙ ap (λ y. 10 ^ m * y) ten ∙ rest
-  where
-    tens : (t y : ℕ) → t * 10 * y ≡ t * (10 * y)
-    tens t y = omega arith
+    ap (λ y. y * (h * w + value 2 ns)) power ∙ omega arith ∙ ap (λ y. 10 ^ m * y) ten ∙ rest
 
 after_small : (m : ℕ) (ns : List ℕ) → Small 2 ns → Small 2 (after m ns)
 after_small zero ns o = o
@@ -107,41 +96,21 @@ ones_small d (suc k) some = (omega arith, ones_small (suc d) k (omega arith))
 weight_more : (d k : ℕ) → weight d (replicate (suc k) 1) ≡ (d + k) * weight d (replicate k 1)
 weight_more d zero = omega arith
 weight_more d (suc k) =
-    ap (λ w. d * w) (weight_more (suc d) k) ∙ (let w : ℕ = weight (suc d) (replicate k 1) in orders d k w)
-  where
-    orders : (d k w : ℕ) → d * ((suc d + k) * w) ≡ (d + suc k) * (d * w)
-    orders d k w = omega arith
+    ap (λ w. d * w) (weight_more (suc d) k) ∙ omega arith
 
 value_more : (d k : ℕ) → value d (replicate (suc k) 1) ≡ (d + k) * value d (replicate k 1) + 1
 value_more d zero = omega arith
 value_more d (suc k) =
-    let w : ℕ = weight (suc d) (replicate k 1) in
-    let v : ℕ = value (suc d) (replicate k 1) in
-    sums d k (weight (suc d) (replicate (suc k) 1)) (value (suc d) (replicate (suc k) 1)) w v (weight_more (suc d) k)
-    (value_more (suc d) k)
-  where
-    sums : (d k a b w v : ℕ) → a ≡ (suc d + k) * w → b ≡ (suc d + k) * v + 1
-        → 1 * a + b ≡ (d + suc k) * (1 * w + v) + 1
-    sums d k a b w v first second = omega (arith, first, second)
+    let first = weight_more (suc d) k in let second = value_more (suc d) k in omega arith
 
 factorial_is : (k : ℕ) → weight 2 (replicate k 1) ≡ factorial (suc k)
 factorial_is zero = refl
-factorial_is (suc k) = weight_more 2 k ∙ (let rest = factorial_is k in shares k _ _ rest)
-  where
-    shares : (k w f : ℕ) → w ≡ f → (2 + k) * w ≡ suc (suc k) * f
-    shares k w f is = rw is (omega arith)
+factorial_is (suc k) = let two : 2 + k ≡ suc (suc k) = omega arith in rw (weight_more 2 k, two, factorial_is k) refl
 
 parts_are : (k : ℕ) → 2 * weight 2 (replicate k 1) + value 2 (replicate k 1) ≡ parts (suc k)
 parts_are zero = refl
 parts_are (suc k) =
-    let w : ℕ = weight 2 (replicate k 1) in
-    let v : ℕ = value 2 (replicate k 1) in
-    sums k (weight 2 (replicate (suc k) 1)) (value 2 (replicate (suc k) 1)) w v (parts (suc k)) (weight_more 2 k)
-    (value_more 2 k) (parts_are k)
-  where
-    sums : (k a b w v p : ℕ) → a ≡ (2 + k) * w → b ≡ (2 + k) * v + 1 → 2 * w + v ≡ p
-        → 2 * a + b ≡ suc (suc k) * p + 1
-    sums k a b w v p first second third = rw (first, second, sym third) (omega arith)
+    let first = weight_more 2 k in let second = value_more 2 k in rw (first, second, sym (parts_are k)) (omega arith)
 
 pub method_is_right : MethodIsRight
 method_is_right k m =

@@ -1,14 +1,13 @@
 -- The program of `examples/decimals.edsac` from its entry to its stop: a decimal, a group, a line.
 use Rattle.ed_programs.proofs.Kit.{div-lt_iff_lt-mul, get_or-set_other, get_or-set_same, length-set, mod-lt}
-use Rattle.ed_programs.proofs.Kit.{div-add-mod, A_F, L_D, T_F, Z_F, Size, E_stays, G_stays, O, Z, IsOutside, L1F}
-use Rattle.ed_programs.proofs.Kit.{L512F, Remains, set, along, to_stop, E_jumps, L, S, T, U, prints, any, early, out}
-use Rattle.ed_programs.proofs.Kit.{LD, followed, frame_at, [], ap, append-nil, arith, get_or, inr, length, List, lit<}
-use Rattle.ed_programs.proofs.Kit.{lit≤, Option, refl, rules, Some, subst, suc, sym, zero, ℕ, ◌%◌, ◌*◌, ◌++◌, ◌+◌, ◌-◌}
-use Rattle.ed_programs.proofs.Kit.{◌/◌, ◌<◌, ◌^◌, ◌∙◌, ◌∷◌, ◌≡◌, ◌≤◌, least, Frame, Moment, short, state, A, G_jumps}
-use Rattle.ed_programs.proofs.Kit.{on, Path, stay, own, ReachesStop, replicate, carries, tenfold}
-use Rattle.ed_programs.proofs.DecimalsPass.{after, after_long, line_codes, line_left, line_long, line_orders}
-use Rattle.ed_programs.proofs.DecimalsPass.{page_left, page_codes, page_orders, tenfold_long, units}
-use Rattle.ed_programs.proofs.Kit.{to, Path-counted, calls_own}
+use Rattle.ed_programs.proofs.Kit.{div-add-mod, A_F, L_D, T_F, Z_F, Size, E_stays, G_stays, O, Z, IsOutside, L1F, L512F}
+use Rattle.ed_programs.proofs.Kit.{Remains, set, along, to_stop, E_jumps, L, S, T, U, prints, any, early, out, LD}
+use Rattle.ed_programs.proofs.Kit.{followed, frame_at, [], ap, append-nil, arith, get_or, inr, length, List, lit<, lit≤}
+use Rattle.ed_programs.proofs.Kit.{Option, refl, rules, Some, subst, suc, sym, zero, ℕ, ◌%◌, ◌*◌, ◌+◌, ◌-◌, ◌/◌, ◌<◌}
+use Rattle.ed_programs.proofs.Kit.{◌^◌, ◌∙◌, ◌∷◌, ◌≡◌, ◌≤◌, least, Frame, Moment, short, state, A, G_jumps, on, Path}
+use Rattle.ed_programs.proofs.Kit.{stay, own, ReachesStop, replicate, carries, tenfold, to, Path-counted, calls_own}
+use Rattle.ed_programs.proofs.DecimalsPass.{after, after_long, line_codes, line_left, line_long, line_orders, page_left}
+use Rattle.ed_programs.proofs.DecimalsPass.{page_codes, page_orders, tenfold_long, units}
 
 -- the cells that change as a decimal is worked out, and those that count: the decimals left of a group, the groups of a
 -- line, and the lines
@@ -262,33 +261,22 @@ module _ (z : Size) (m : Moment) where
 
   -- ---- what is so after a number of orders: these numerators are left, and the counts are these
 
-  record Reached (start : Moment) (i u : ℕ) (c : Counts) (orders : ℕ) (codes left : List ℕ) : Type 0 where
+  record Holding (left : List ℕ) : Type 0 where
     words : List ℕ
     work : Work
     last : Option ℕ
     around : IsAround words
     stand : Stand words 163 2 left
-    path : Path f orders start codes (at i words u work c last)
 
-  -- after orders more, and then others
-  quietly : {start : Moment} {i j u w a b n : ℕ} {c d : Counts} {k : Work} {codes left : List ℕ}
-      (one : Reached start i u c a codes left)
-      → Path f b (at i one.words u one.work c one.last) [] (at j one.words w k d one.last) → a + b ≡ n
-      → Reached start j w d n codes left
-  quietly {start} {j = j} {w} {n = n} {d = d} {k} {codes} one path count = record {
-    words = one.words;
-    work = k;
-    last = one.last;
-    around = one.around;
-    stand = one.stand;
-    path = subst (λ cs. Path f n start cs (at j one.words w k d one.last)) (append-nil codes)
-        (Path-counted (followed one.path path) count);
-  }
+  abbrev Reached : Moment → ℕ → ℕ → Counts → ℕ → List ℕ → List ℕ → Type 0
+  Reached start i u c orders codes left =
+      (x : Holding left) × Path f orders start codes (at i x.words u x.work c x.last)
 
-  onward : {start next : Moment} {i j u w a b e n : ℕ} {c d : Counts} {codes more others left right : List ℕ}
-      (one : Reached start i u c a codes left) → Path f b (at i one.words u one.work c one.last) more next
-      → Reached next j w d e others right → a + (b + e) ≡ n → Reached start j w d n (codes ++ (more ++ others)) right
-  onward one path two count = search (rules, Path-counted, followed)
+  -- after orders that print nothing
+  quietly : {r next t : Moment} {a b n : ℕ} {codes : List ℕ} → Path f a r codes next → Path f b next [] t → a + b ≡ n
+      → Path f n r codes t
+  quietly {r} {t = t} {n = n} {codes} one two count =
+      subst (λ cs. Path f n r cs t) (append-nil codes) (Path-counted (followed one two) count)
 
   -- ---- a decimal
 
@@ -306,13 +294,16 @@ module _ (z : Size) (m : Moment) where
       let is = divided n y 2 there.1 all.few in
       let words : List ℕ = set all.words 163 (x % 2) in
       let few = is.few in
-      record {
-        words = words;
-        work = record (begun c last (record k { rest = x % 2; scrap = 131071 }) 162 1 (x / 2)) { digit = 4096 * (x / 2) };
-        last = Some (x / 2);
-        around = around_set all.words 163 (x % 2) (lit≤ tt) all.around;
-        stand = stand_after all.words 163 2 (x % 2) (tenfold 3 ns).left all.around.all (omega arith) is.left all.stand;
-        path = Path-counted
+      let after : Work = begun c last (record k { rest = x % 2; scrap = 131071 }) 162 1 (x / 2) in (
+        record {
+          words = words;
+          work = record after { digit = 4096 * (x / 2) };
+          last = Some (x / 2);
+          around = around_set all.words 163 (x % 2) (lit≤ tt) all.around;
+          stand = stand_after all.words 163 2 (x % 2) (tenfold 3 ns).left all.around.all (omega arith) is.left
+              all.stand;
+        },
+        Path-counted
             (on (T 13 (own 95) _ refl refl)
             (on (A 14 (own 97) (short (A_F + 2 * 236)) refl refl)
             (on (T 15 (own 22) _ refl refl)
@@ -334,8 +325,8 @@ module _ (z : Size) (m : Moment) where
             (prints (O 57 (own 83) (x / 2) refl (omega (arith, few)))
             (on (A 58 (own 84) (short c.group) refl (omega arith))
             (on (A 59 (own 87) (short gg) refl sum)
-            (on (U 60 (own 84) _ refl refl) stay)))))))))))))))))))) (omega (arith, long));
-      }
+            (on (U 60 (own 84) _ refl refl) stay)))))))))))))))))))) (omega (arith, long)),
+      )
 
   -- ---- the decimals that are left of a group, the groups of a line, and the lines
 
@@ -344,55 +335,59 @@ module _ (z : Size) (m : Moment) where
       → Reached (at 13 ws v k (record c { group = 131072 - suc j }) last) 62 0 (record c { group = 0 })
       (1868 * suc j + 8 * units (suc j) ns) (carries (suc j) ns) (after (suc j) ns)
   groups zero ns ws k c last v o there long small few =
-      quietly (shows ns ws k (record c { group = 131071 }) last v 0 o there long small refl (lit< tt))
-      (on (G_stays 61 (own 13) refl (lit< tt)) stay) (omega arith)
+      let one = shows ns ws k (record c { group = 131071 }) last v 0 o there long small refl (lit< tt) in
+      (one.0, quietly one.1 (on (G_stays 61 (own 13) refl (lit< tt)) stay) (omega arith))
   groups (suc j) ns ws k c last v o there long small few =
       let one = shows ns ws k (record c { group = 131072 - suc (suc j) }) last v (131072 - suc j) o there long small
       (omega arith) (omega arith) in
-      onward one (on (G_jumps 61 (own 13) refl (omega arith)) stay)
-      (groups j (tenfold 2 ns).left one.words one.work c one.last (131072 - suc j) one.around one.stand
-      (tenfold_long 2 ns ∙ long) (omega arith) (omega arith)) (omega arith)
+      let x = one.0 in
+      let rest = groups j (tenfold 2 ns).left x.words x.work c x.last (131072 - suc j) x.around x.stand
+      (tenfold_long 2 ns ∙ long) (omega arith) (omega arith) in
+      (rest.0, Path-counted (followed one.1 (on (G_jumps 61 (own 13) refl (omega arith)) rest.1)) (omega arith))
 
   lines_of : (j : ℕ) (ns : List ℕ) (ws : List ℕ) (k : Work) (c : Counts) (last : Option ℕ) (v : ℕ) → IsAround ws
       → Stand ws 163 2 ns → length ns ≡ 74 → v < 131072 → j < 5
       → Reached (at 13 ws v k (record c { group = 131062; line = 131072 - suc j }) last) 70 0
       (record c { group = 131062; line = 0 }) (line_orders j ns) (line_codes j ns) (line_left j ns)
   lines_of zero ns ws k c last v o there long small few =
-      quietly (groups 9 ns ws k (record c { line = 131071 }) last v o there long small (lit< tt))
-      (on (S 62 (own 90) (short 131062) refl (omega arith))
-      (on (T 63 (own 84) _ refl refl)
-      (on (A 64 (own 85) (short 131071) refl (omega arith))
-      (on (A 65 (own 87) (short 0) refl (omega arith))
-      (on (U 66 (own 85) 0 refl refl)
-      (on (E_jumps 67 (own 70) refl (lit< tt)) stay)))))) (omega arith)
+      let one = groups 9 ns ws k (record c { line = 131071 }) last v o there long small (lit< tt) in (
+        one.0,
+        quietly one.1
+            (on (S 62 (own 90) (short 131062) refl (omega arith))
+            (on (T 63 (own 84) _ refl refl)
+            (on (A 64 (own 85) (short 131071) refl (omega arith))
+            (on (A 65 (own 87) (short 0) refl (omega arith))
+            (on (U 66 (own 85) 0 refl refl)
+            (on (E_jumps 67 (own 70) refl (lit< tt)) stay)))))) (omega arith),
+      )
   lines_of (suc j) ns ws k c last v o there long small few =
       let one = groups 9 ns ws k (record c { line = 131072 - suc (suc j) }) last v o there long small (lit< tt) in
-      onward one
-      (on (S 62 (own 90) (short 131062) refl (omega arith))
-      (on (T 63 (own 84) _ refl refl)
-      (on (A 64 (own 85) (short (131072 - suc (suc j))) refl (omega arith))
-      (on (A 65 (own 87) (short (131072 - suc j)) refl (omega arith))
-      (on (U 66 (own 85) _ refl refl)
-      (on (E_stays 67 (own 70) refl (omega arith))
-      (prints (O 68 (own 82) 20 refl refl)
-      (on (G_jumps 69 (own 13) refl (omega arith)) stay))))))))
-      (lines_of j (after 10 ns) one.words one.work c (Some 20) (131072 - suc j) one.around one.stand
-      (after_long 10 ns ∙ long) (omega arith) (omega arith)) (omega arith)
+      let x = one.0 in
+      let rest = lines_of j (after 10 ns) x.words x.work c (Some 20) (131072 - suc j) x.around x.stand
+      (after_long 10 ns ∙ long) (omega arith) (omega arith) in (
+        rest.0,
+        Path-counted (followed one.1
+            (on (S 62 (own 90) (short 131062) refl (omega arith))
+            (on (T 63 (own 84) _ refl refl)
+            (on (A 64 (own 85) (short (131072 - suc (suc j))) refl (omega arith))
+            (on (A 65 (own 87) (short (131072 - suc j)) refl (omega arith))
+            (on (U 66 (own 85) _ refl refl)
+            (on (E_stays 67 (own 70) refl (omega arith))
+            (prints (O 68 (own 82) 20 refl refl)
+            (on (G_jumps 69 (own 13) refl (omega arith)) rest.1))))))))) (omega arith),
+      )
 
   -- a new line
-  back : (i : ℕ) → i < 100 → 56 + (i + 2) < f.top
-  back i low = let size = least z in omega arith
-
   new_line : (ws : List ℕ) (k : Work) (c : Counts) (last : Option ℕ) (i : ℕ) → IsAround ws → i < 100
       → Path f 5 (at 100 ws (to 28 i) k c last) (18 ∷ 24 ∷ [])
       (at (i + 2) ws 0 (record k { link = to 3 (i + 2) }) c (Some 24))
   new_line ws k c last i o low =
-      let all = o.all in let at3 = o.at3 in
+      let size = least z in let all = o.all in let at3 = o.at3 in
       on (A 100 (out 3 (early 3 (lit≤ tt) (lit< tt) all)) (short (to 3 (i + 2))) refl (omega arith))
       (on (T 101 (own 104) _ refl refl)
       (prints (O 102 (own 105) 18 refl refl)
       (prints (O 103 (own 106) 24 refl refl)
-      (on (E_jumps 104 (any (56 + (i + 2)) (back i low)) refl (lit< tt)) stay))))
+      (on (E_jumps 104 (any (56 + (i + 2)) (omega arith)) refl (lit< tt)) stay))))
 
   -- the orders after a line, up to the test
   turns_over : (ws : List ℕ) (k : Work) (c : Counts) (last : Option ℕ) (lines next : ℕ) → IsAround ws
@@ -415,24 +410,24 @@ module _ (z : Size) (m : Moment) where
       (page_orders j ns) (page_codes j ns) (page_left j ns)
   pages zero ns ws k last v o there long small few =
       let one = lines_of 4 ns ws k (record none_done { lines = 131071 }) last v o there long small (lit< tt) in
-      record {
-        words = one.words;
-        work = record one.work { link = to 3 74 };
-        last = Some 24;
-        around = one.around;
-        stand = one.stand;
-        path = Path-counted (followed one.path
-            (followed (turns_over one.words one.work none_done one.last 131071 0 one.around (lit< tt) refl)
-            (on (G_stays 77 (own 13) refl (lit< tt)) stay))) (omega arith);
-      }
+      let x = one.0 in (
+        record x { work = record x.work { link = to 3 74 }; last = Some 24 },
+        Path-counted (followed one.1
+            (followed (turns_over x.words x.work none_done x.last 131071 0 x.around (lit< tt) refl)
+            (on (G_stays 77 (own 13) refl (lit< tt)) stay))) (omega arith),
+      )
   pages (suc j) ns ws k last v o there long small few =
       let l : ℕ = 131072 - suc (suc j) in
+      let u : ℕ = 131072 - suc j in
       let one = lines_of 4 ns ws k (record none_done { lines = l }) last v o there long small (lit< tt) in
-      onward one
-      (followed (turns_over one.words one.work none_done one.last l (131072 - suc j) one.around (omega arith) (omega arith))
-      (on (G_jumps 77 (own 13) refl (omega arith)) stay))
-      (pages j (line_left 4 ns) one.words (record one.work { link = to 3 74 }) (Some 24) (131072 - suc j) one.around
-      one.stand (line_long 4 ns ∙ long) (omega arith) (omega arith)) (omega arith)
+      let x = one.0 in
+      let rest = pages j (line_left 4 ns) x.words (record x.work { link = to 3 74 }) (Some 24) u x.around x.stand
+      (line_long 4 ns ∙ long) (omega arith) (omega arith) in (
+        rest.0,
+        Path-counted (followed one.1
+            (followed (turns_over x.words x.work none_done x.last l u x.around (omega arith) (omega arith))
+            (on (G_jumps 77 (own 13) refl (omega arith)) rest.1))) (omega arith),
+      )
 
   -- ---- the list is filled
 
@@ -510,4 +505,4 @@ module _ (z : Size) (m : Moment) where
       (filled.ones 2 (lit≤ tt)) in
       let long : length ns ≡ 74 = ap (λ (xs : List ℕ). length xs) (sym is) in
       let all = pages 1 ns filled.words filled.work (Some 24) 0 filled.around there long (lit< tt) (lit< tt) in
-      to_stop (along (followed begins all.path)) (Z 78 Z_F refl refl) done
+      to_stop (along (followed begins all.1)) (Z 78 Z_F refl refl) done

@@ -1,10 +1,10 @@
 -- The outcome of a tape of May 1949 whose program reaches its stop, as the answer of the command `tape1`.
-use Rattle.ed_programs.proofs.Kit.{String, Global, Settings, at_entry1, Item1, Err, Result, rows, INPUT_BYTES, exactly}
-use Rattle.ed_programs.proofs.Kit.{OfReading, [], arith, Bool, codes, false, inl, length, List, nat_le, nat_lt, None}
-use Rattle.ed_programs.proofs.Kit.{Ok, refl, subst, sym, true, ℕ, ◌++◌, ◌+◌, ◌-◌, ◌∙◌, ◌∷◌, ◌≡◌, ◌≤◌, list_all}
+use Rattle.ed_programs.proofs.Kit.{rules, String, Global, Settings, at_entry1, Item1, Err, Result, rows, INPUT_BYTES}
+use Rattle.ed_programs.proofs.Kit.{exactly, OfReading, [], arith, Bool, codes, false, inl, length, List, nat_le, nat_lt}
+use Rattle.ed_programs.proofs.Kit.{None, Ok, refl, subst, sym, true, ℕ, ◌++◌, ◌+◌, ◌-◌, ◌∙◌, ◌∷◌, ◌≡◌, ◌≤◌, list_all}
 use Rattle.ed_programs.proofs.Kit.{and_parts, leb-true, ltb-true, Text, paper, step, State, run_end, ReachesStop}
-use Rattle.ed_programs.proofs.Kit.{at_after, ran_outcome-answered, ran_to_stop, ◌&&◌, reading, AreDigits, ReachesEntry1, Tape}
-use Rattle.ed_programs.proofs.Kit.{first_state1, Outcome, paper_room, ran_outcome, FirstTapeRuns, GivesProgram}
+use Rattle.ed_programs.proofs.Kit.{at_after, ran_outcome-answered, ran_to_stop, ◌&&◌, reading, AreDigits, ReachesEntry1}
+use Rattle.ed_programs.proofs.Kit.{Tape, first_state1, Outcome, paper_room, ran_outcome, FirstTapeRuns, GivesProgram}
 use Rattle.ed_programs.proofs.Kit.{Refusal}
 use Rattle.ed_initial1.specs.Items.{AreItems, item_number}
 use Rattle.ed_laws.specs.FirstEntry.{cost1}
@@ -24,22 +24,12 @@ is_item i =
 
 are_digits : (ds : List ℕ) → list_all (λ d. nat_lt d 10) ds ≡ true → AreDigits ds
 are_digits [] h = tt
-are_digits (d ∷ ds) h =
-    let p = and_parts (nat_lt d 10) (list_all (λ d. nat_lt d 10) ds) h in (ltb-true d 10 p.0, are_digits ds p.1)
+are_digits (d ∷ ds) h = search (rules, are_digits ds, and_parts, ltb-true)
 
 pub are_items : (is : List Item1) → list_all is_item is ≡ true → AreItems is
 are_items [] h = tt
 are_items (i ∷ is) h =
-    let p = and_parts (is_item i) (list_all is_item is) h in
-    let q = and_parts (nat_lt i.begun.function 32) _ p.0 in
-    let r = and_parts (list_all (λ d. nat_lt d 10) i.begun.digits) _ q.1 in (
-      record {
-        function = ltb-true i.begun.function 32 q.0;
-        digits = are_digits i.begun.digits r.0;
-        fits = leb-true (item_number i) 32767 r.1;
-      },
-      are_items is p.1,
-    )
+    search (rules, are_digits, are_items is, and_parts, ltb-true, leb-true)
 
 -- ---- the run from 31
 

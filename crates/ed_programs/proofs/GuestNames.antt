@@ -1,18 +1,16 @@
 -- A source that enters the checking routine is entered at the routine's base.
-use Rattle.ed_programs.proofs.Kit.{Size, Line, Statement, Enter, Fetch, bytes_eq, bytes_eq-Decides, Definition}
-use Rattle.ed_programs.proofs.Kit.{counter_after, place_on, [], ap, append_assoc, Bool, false, if◌then◌else◌, inl, inr}
-use Rattle.ed_programs.proofs.Kit.{List, None, not, Option, refl, Some, subst, sym, true, unwrap_or, ℕ, ◌++◌, ◌||◌}
-use Rattle.ed_programs.proofs.Kit.{◌∙◌, ◌∷◌, ◌≡◌, first_counter, entry_of, symbols_of, true≢false, ◌&&◌, checker_base}
-use Rattle.ed_programs.proofs.Kit.{EntersChecker}
+use Rattle.ed_programs.proofs.Kit.{arith, nat_tests, Size, Line, Statement, Enter, bytes_eq, bytes_eq-Decides}
+use Rattle.ed_programs.proofs.Kit.{Definition, counter_after, place_on, [], ap, append_assoc, false, inl, inr, List}
+use Rattle.ed_programs.proofs.Kit.{None, Option, refl, Some, subst, sym, true, unwrap_or, ℕ, ◌++◌, ◌∙◌, ◌∷◌, ◌≡◌}
+use Rattle.ed_programs.proofs.Kit.{first_counter, entry_of, symbols_of, checker_base, EntersChecker}
 use Rattle.ed_link.proofs.Kit.{is_some, counter_from, after_statement, HasEnter, HasNoFault, on_line, entered_place}
 use Rattle.ed_link.proofs.Kit.{entry_from}
-use Rattle.ed_symbols.proofs.Kit.{defines_again, definition_of, line_definitions, symbols_from}
+use Rattle.ed_symbols.proofs.Kit.{defines_again, definition_of, symbols_from}
 use Rattle.std.proofs.Common.{option_map}
 use Rattle.std.proofs.lemmas.Bool.{false_from_ne_true}
-use Rattle.ed_syntax.specs.declared.program.Statement.TheVariants.{Segment, Order, Number, Text, Long, Rows}
 use Rattle.ed_symbols.specs.NameTests.{is_again}
-use Rattle.ed_symbols.specs.Names.{definition_place, is_definition_of, is_local, label_definition, as_list}
-use Rattle.ed_symbols.specs.Names.{statement_definition, same_segment}
+use Rattle.ed_symbols.specs.Names.{definition_place, is_local, label_definition, as_list, statement_definition}
+use Rattle.ed_symbols.specs.Names.{same_segment}
 use Rattle.ed_symbols.specs.declared.location_counter.LocationCounter.{LocationCounter}
 use Rattle.ed_symbols.proofs.AgainSentences.{Ties-s6}
 use Rattle.ed_link.specs.Faults.{IsData}
@@ -23,15 +21,8 @@ use Rattle.ed_syntax.specs.declared.fault.SourceCause.TheVariants as causes
 -- a line that is not an `enter` leaves the entry to the lines after it
 other_line : (symbols : List Definition) (st : Option Statement) (later : ℕ)
     → ((name : List ℕ) → st ≡ Some (Enter name) → ⊥) → entered_place symbols st later ≡ later
-other_line symbols None later none = refl
-other_line symbols (Some (Segment n b)) later none = refl
-other_line symbols (Some (Order f o d)) later none = refl
-other_line symbols (Some (Number v)) later none = refl
-other_line symbols (Some (Text codes)) later none = refl
-other_line symbols (Some (Long v)) later none = refl
-other_line symbols (Some (Fetch r n ts)) later none = refl
 other_line symbols (Some (Enter n)) later none = absurd (none n refl)
-other_line symbols (Some (Rows codes)) later none = refl
+other_line symbols st later none = refl
 
 -- and so do lines without one
 first_enter : (symbols : List Definition) (ahead rest : List Line) → (HasEnter ahead → ⊥)
@@ -54,21 +45,13 @@ homes_append : (s : LocationCounter) (xs ys : List Line)
     → symbols_from s (xs ++ ys) ≡ symbols_from s xs ++ symbols_from (counter_from s xs) ys
 homes_append s [] ys = refl
 homes_append s (x ∷ xs) ys =
-    ap (λ (hs : List Definition). line_definitions x s ++ hs) (homes_append (after_statement x.statement s) xs ys)
-    ∙ sym (append_assoc (line_definitions x s) (symbols_from (after_statement x.statement s) xs)
-    (symbols_from (counter_from (after_statement x.statement s) xs) ys))
+    let rest = homes_append (after_statement x.statement s) xs ys in simp (rest, append_assoc {A = Definition})
 
 -- a name that isn't defined by the first ones
 later_home : (g : Option ℕ) (name : List ℕ) (hs rest : List Definition) → is_some (definition_of g name hs) ≡ false
     → definition_of g name (hs ++ rest) ≡ definition_of g name rest
 later_home g name [] rest none = refl
-later_home g name (h ∷ hs) rest none = by_test (is_definition_of g name h) none (later_home g name hs rest)
-  where
-    by_test : (t : Bool) → is_some (if t then Some h else definition_of g name hs) ≡ false
-        → (is_some (definition_of g name hs) ≡ false → definition_of g name (hs ++ rest) ≡ definition_of g name rest)
-        → (if t then Some h else definition_of g name (hs ++ rest)) ≡ definition_of g name rest
-    by_test true none more = absurd (true≢false none)
-    by_test false none more = more none
+later_home g name (h ∷ hs) rest none = let more = later_home g name hs rest in grind (arith, nat_tests)
 
 -- a line outside all segments sees no local name
 no_local : (a : Option ℕ) → same_segment a None ≡ false
@@ -78,19 +61,7 @@ no_local (Some k) = refl
 local_unseen : (name : List ℕ) → is_local name ≡ true → (hs : List Definition) → definition_of None name hs ≡ None
 local_unseen name e [] = refl
 local_unseen name e (h ∷ hs) =
-    let inside = no_local h.segment in
-    by_test (bytes_eq h.name name) (is_local name) (same_segment h.segment None) e inside (local_unseen name e hs)
-  where
-    by_test : (t is same : Bool) → is ≡ true → same ≡ false → definition_of None name hs ≡ None
-        → (if t && (not is || same) then Some h else definition_of None name hs) ≡ None
-    by_test true true false e inside rest = rest
-    by_test true true true e inside rest = absurd (true≢false inside)
-    by_test true false same e inside rest = absurd (true≢false (sym e))
-    by_test false is same e inside rest = rest
-
-or_false : (x y : Bool) → (x || y) ≡ false → y ≡ false
-or_false true y h = absurd (true≢false h)
-or_false false y h = h
+    let inside = no_local h.segment in let rest = local_unseen name e hs in grind (arith, nat_tests)
 
 module _ (z : Size) (lines : List Line) (faultless : HasNoFault z lines) (c : EntersChecker lines) where
   -- no line before the one that enters is an `enter`
@@ -143,9 +114,9 @@ module _ (z : Size) (lines : List Line) (faultless : HasNoFault z lines) (c : En
   new =
       let once : (defines_again earlier c.using counter ≡ true) → ⊥ =
       λ t. faultless _ causes.LabelTwice (on_line c.stands ((Ties-s6 c.before c.using).says t)) in
+      let none = false_from_ne_true (defines_again earlier c.using counter) once in
       let again : is_again (earlier ++ labels) (statement_definition c.using.statement counter) ≡ false =
-      or_false (is_again earlier (label_definition c.using.label c.using.statement counter)) _
-      (false_from_ne_true (defines_again earlier c.using counter) once) in
+      grind (arith, nat_tests) in
       sym (ap (is_again (earlier ++ labels)) names) ∙ again
 
   abbrev later : List Definition
@@ -161,9 +132,7 @@ module _ (z : Size) (lines : List Line) (faultless : HasNoFault z lines) (c : En
 
   itself : definition_of None c.name (home ∷ later) ≡ Some home
   itself =
-      let same : bytes_eq c.name c.name ≡ true = (bytes_eq-Decides c.name c.name).1 refl in
-      let global = is_global in
-      rw (same, global) refl
+      let same : bytes_eq c.name c.name ≡ true = (bytes_eq-Decides c.name c.name).1 refl in rw (same, is_global) refl
 
   pub placed : place_on (symbols_of lines) None c.name ≡ Some (checker_base c.before)
   placed =

@@ -2,11 +2,11 @@
 use Rattle.ed_programs.proofs.Kit.{String, Global, no_step, Settings, Line, Err, Result, IsProgram, operand_number}
 use Rattle.ed_programs.proofs.Kit.{checked_codes, HasGuest, checked_orders, IsAllowed, arith, inl, length, List, None}
 use Rattle.ed_programs.proofs.Kit.{Ok, rules, string_bytes, subst, suc, sym, zero, ℕ, ◌+◌, ◌<◌, ◌≡◌, ◌≤◌, locations}
-use Rattle.ed_programs.proofs.Kit.{Text, locations_most, paper, State, state_after, symbols_of, cost, ReachesStop, guest}
-use Rattle.ed_programs.proofs.Kit.{entry_state, AnswersFromEntry, run_outcome, accepted_is, each_answer_is_from_entry}
-use Rattle.ed_programs.proofs.Kit.{stopped_outcome, IsAcceptedAs, paper_room, OfSource, checked_text, checker_base}
-use Rattle.ed_programs.proofs.Kit.{EntersChecker, entry_guest, stopped_orders, StopsAtZ, GivesProgram, SourceRuns}
-use Rattle.ed_programs.proofs.Kit.{Refusal}
+use Rattle.ed_programs.proofs.Kit.{Text, locations_most, paper, State, state_after, symbols_of, cost, ReachesStop}
+use Rattle.ed_programs.proofs.Kit.{guest, entry_state, AnswersFromEntry, run_outcome, accepted_is}
+use Rattle.ed_programs.proofs.Kit.{each_answer_is_from_entry, stopped_outcome, IsAcceptedAs, paper_room, OfSource}
+use Rattle.ed_programs.proofs.Kit.{checked_text, checker_base, EntersChecker, entry_guest, stopped_orders, StopsAtZ}
+use Rattle.ed_programs.proofs.Kit.{GivesProgram, SourceRuns, Refusal}
 use Rattle.ed_checker.specs.Checker.{planting_place}
 use Rattle.ed_checker.specs.Laws.{IsFollowed}
 use Rattle.ed_checker.proofs.Follow.{checker_law}
@@ -34,10 +34,8 @@ checked_to_stop base q m has z = search (rules, checker_law, comes_to_stop, chec
 -- the guest's first order is in the store
 first_below : (base q : ℕ) (g : State) → IsFollowed base q g → IsAllowed base (state_after q g)
     → g.counter + 1 < locations g.size
-first_below base zero g followed last =
-    subst (λ (x : State). x.counter + 1 < locations x.size) (sym (no_step g)) last.next
-first_below base (suc q) g followed last =
-    subst (λ (x : State). x.counter + 1 < locations x.size) (sym (no_step g)) (followed.allowed 0 (omega arith)).next
+first_below base zero g followed last = rw (no_step g) last.next
+first_below base (suc q) g followed last = rw (no_step g) (followed.allowed 0 (omega arith)).next
 
 -- ---- the law
 

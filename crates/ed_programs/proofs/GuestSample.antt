@@ -1,12 +1,12 @@
 -- A guest of three lines, for which everything that the law requires is shown: it prints A and stops.
-use Rattle.ed_programs.proofs.Kit.{A_F, Z_F, Size, Full, Small, no_step, Line, Label, Enter, Fetch, checked_codes}
-use Rattle.ed_programs.proofs.Kit.{checked_orders, IsAllowed, placed, word_at, [], ap, arith, codes, false, inl}
-use Rattle.ed_programs.proofs.Kit.{length, List, lit<, lit≤, None, Ok, pos, refl, rules, Some, subst, suc, sym, take}
-use Rattle.ed_programs.proofs.Kit.{true, unwrap_or, zero, ℕ, ◌*◌, ◌++◌, ◌+◌, ◌-◌, ◌/◌, ◌<◌, ◌^◌, ◌∙◌, ◌∷◌, ◌≡◌, ◌≤◌}
-use Rattle.ed_programs.proofs.Kit.{Text, least, paper, short_at, step, State, progress, state_after, placed_at}
-use Rattle.ed_programs.proofs.Kit.{settings, line_of, program_of, parameter_store, fault, read_is_accepted}
-use Rattle.ed_programs.proofs.Kit.{text_of_lines, is_obeyed, stops_of, EntersChecker, entry_guest, stopped_orders}
-use Rattle.ed_programs.proofs.Kit.{StopsAtZ, use_check, SourceRuns, Marked}
+use Rattle.ed_programs.proofs.Kit.{A_F, Z_F, Size, Full, Small, no_step, Line, Label, Fetch, checked_codes}
+use Rattle.ed_programs.proofs.Kit.{checked_orders, IsAllowed, placed, word_at, [], ap, arith, codes, false, inl, length}
+use Rattle.ed_programs.proofs.Kit.{List, lit<, lit≤, None, Ok, pos, refl, rules, Some, subst, suc, sym, take, true}
+use Rattle.ed_programs.proofs.Kit.{unwrap_or, zero, ℕ, ◌*◌, ◌++◌, ◌+◌, ◌-◌, ◌/◌, ◌<◌, ◌^◌, ◌∙◌, ◌∷◌, ◌≡◌, ◌≤◌, Text}
+use Rattle.ed_programs.proofs.Kit.{least, paper, short_at, step, State, progress, state_after, placed_at, settings}
+use Rattle.ed_programs.proofs.Kit.{line_of, program_of, parameter_store, fault, read_is_accepted, text_of_lines}
+use Rattle.ed_programs.proofs.Kit.{is_obeyed, stops_of, EntersChecker, entry_guest, stopped_orders, StopsAtZ}
+use Rattle.ed_programs.proofs.Kit.{SourceRuns, Marked}
 use Rattle.ed_checker.proofs.Kit.{function_of, kind_of_function, next_word, obey_word, codes_of, IsAllowedOrder}
 use Rattle.ed_checker.proofs.Kit.{orders_by}
 use Rattle.ed_orders.specs.declared.kind.Kind.TheVariants.{O}
@@ -14,22 +14,15 @@ use Rattle.ed_machine.specs.declared.turn.Turn.TheVariants.{Printed, Stopped}
 use Rattle.ed_machine.proofs.Kit.Leads.{first_order}
 use Rattle.ed_programs.specs.Guests.{SampleIsChecked}
 use Rattle.ed_programs.proofs.GuestRuns.{each_guest}
+use Rattle.ed_programs.proofs.GuestTexts.{enters_at, last_texts, use_line, use_text}
 use Rattle.ed_programs.proofs.SourceLines.{lines_said, source_read, source_said}
 
 -- ---- the source
 
 abbrev texts : List Text
-texts =
-    codes "segment main"
-    ∷ codes "O letter F"
-    ∷ codes "Z F"
-    ∷ codes "letter: A F"
-    ∷ codes "use check as c with H=main"
-    ∷ codes "enter c"
-    ∷ []
+texts = codes "segment main" ∷ codes "O letter F" ∷ codes "Z F" ∷ codes "letter: A F" ∷ last_texts
 
-use_says : line_of false 5 (codes "use check as c with H=main")
-    ≡ Ok (record { label = None; statement = use_check (codes "c") (Label (codes "main") (pos 0)) })
+use_says : line_of false 5 use_text ≡ Ok (record { label = None; statement = (use_line 5).statement })
 unfolding settings
 use_says = refl
 
@@ -37,7 +30,7 @@ abbrev marks : List (Marked false)
 marks =
     record {
       number = 5;
-      text = codes "use check as c with H=main";
+      text = use_text;
       label = None;
       statement = Fetch (codes "check") (codes "c") (record {
         items = record { letter = 21; operand = Label (codes "main") (pos 0) } ∷ [];
@@ -56,25 +49,8 @@ faultless : (z : Size) → fault z lines ≡ None
 faultless Small = refl
 faultless Full = refl
 
-abbrev using : Line
-using = record { number = 5; label = None; statement = use_check (codes "c") (Label (codes "main") (pos 0)) }
-
-abbrev entering : Line
-entering = record { number = 6; label = None; statement = Some (Enter (codes "c")) }
-
 abbrev enters : EntersChecker lines
-enters = record {
-  name = codes "c";
-  first = Label (codes "main") (pos 0);
-  before = take 4 lines;
-  using = using;
-  stands = record { after = entering ∷ []; lines_are = refl };
-  uses = refl;
-  ahead = take 5 lines;
-  entering = entering;
-  follows = record { after = []; lines_are = refl };
-  enters = refl;
-}
+enters = enters_at 5 (take 4 lines) lines refl
 
 module _ (z : Size) where
   -- ---- its two orders

@@ -1,9 +1,9 @@
 -- At the entry of a source that enters the checking routine the routine is at the start of a turn, with the guest at H.
-use Rattle.ed_programs.proofs.Kit.{A_F, Size, Item, Line, is_working, canonicals, entry, routine_word, table_item}
-use Rattle.ed_programs.proofs.Kit.{counter_after, operand_number, HasGuest, ap, arith, Bool, false, get_or, length}
-use Rattle.ed_programs.proofs.Kit.{List, lit<, map, nat_eq, None, refl, subst, sym, true, ℕ, ◌%◌, ◌*◌, ◌++◌, ◌+◌, ◌/◌}
-use Rattle.ed_programs.proofs.Kit.{◌<◌, ◌^◌, ◌||◌, ◌∙◌, ◌≡◌, ◌≤◌, locations, Text, locations_most, short_at, State, image_word}
-use Rattle.ed_programs.proofs.Kit.{parameter_store, symbols_of, cost, with_h, guest, entry_state, true≢false}
+use Rattle.ed_programs.proofs.Kit.{nat_tests, A_F, Size, Item, Line, is_working, canonicals, entry, routine_word}
+use Rattle.ed_programs.proofs.Kit.{table_item, counter_after, operand_number, HasGuest, ap, arith, Bool, false, get_or}
+use Rattle.ed_programs.proofs.Kit.{length, List, lit<, map, nat_eq, None, refl, subst, sym, true, ℕ, ◌%◌, ◌*◌, ◌++◌}
+use Rattle.ed_programs.proofs.Kit.{◌+◌, ◌/◌, ◌<◌, ◌^◌, ◌||◌, ◌∙◌, ◌≡◌, ◌≤◌, locations, Text, locations_most, short_at}
+use Rattle.ed_programs.proofs.Kit.{State, image_word, parameter_store, symbols_of, cost, with_h, guest, entry_state}
 use Rattle.ed_programs.proofs.Kit.{first_state, IsAcceptedAs, checker_base, EntersChecker, entry_guest}
 use Rattle.ed_link.proofs.Kit.{missing_row, data_after, first_place, punched_items, after_text}
 use Rattle.std.proofs.Math.ListN.{get_or-map}
@@ -40,13 +40,7 @@ sound_entry z source lines a =
 -- the word of an item that ends with F or θ is the same for all parameters
 same_word : (ps qs : List ℕ) (base : ℕ) (i : Item) → (nat_eq i.end 17 || nat_eq i.end 18) ≡ true
     → routine_word ps base i ≡ routine_word qs base i
-same_word ps qs base i = by_tests (nat_eq i.end 17) (nat_eq i.end 18) refl refl
-  where
-    by_tests : (a b : Bool) → nat_eq i.end 17 ≡ a → nat_eq i.end 18 ≡ b → (a || b) ≡ true
-        → routine_word ps base i ≡ routine_word qs base i
-    by_tests true b e f h = rw e refl
-    by_tests false true e f h = rw (e, f) refl
-    by_tests false false e f h = absurd (true≢false (sym h))
+same_word ps qs base i h = grind (arith, nat_tests)
 
 abbrev ends_alone : ℕ → Bool
 ends_alone i =
@@ -71,9 +65,6 @@ table_word h base i =
 fetches : (h base : ℕ) → h < 1024 → image_word check 0 base (with_h h) ≡ A_F + 2 * h
 unfolding parameter_store
 fetches h base low = omega arith
-
-address_is : (h : ℕ) → h < 1024 → address_of (A_F + 2 * h) ≡ h
-address_is h low = omega arith
 
 module _ (z : Size) (source : Text) (lines : List Line) (accepted : IsAcceptedAs z source lines)
     (c : EntersChecker lines) where
@@ -135,14 +126,10 @@ module _ (z : Size) (source : Text) (lines : List Line) (accepted : IsAcceptedAs
       ap (short_at m.store) lower ∙ word k (omega (arith, l)) ∙ low in
       λ i. long_of_halves (first i) (digit i) (second i)
 
-  no_high : long_at m.store (base + 60) ≡ 0
-  no_high = no_long 60 refl (lit< tt) refl refl
-
-  no_middle : long_at m.store (base + 62) ≡ 0
-  no_middle = no_long 62 refl (lit< tt) refl refl
-
-  no_low : long_at m.store (base + 64) ≡ 0
-  no_low = no_long 64 refl (lit< tt) refl refl
+  no_accumulator : (long_at m.store (base + 60) ≡ 0) × (long_at m.store (base + 62) ≡ 0)
+      × (long_at m.store (base + 64) ≡ 0)
+  no_accumulator =
+      (no_long 60 refl (lit< tt) refl refl, no_long 62 refl (lit< tt) refl refl, no_long 64 refl (lit< tt) refl refl)
 
   module _ (in_range : h < 1024) where
     first_word : short_at m.store base ≡ A_F + 2 * h
@@ -151,7 +138,7 @@ module _ (z : Size) (source : Text) (lines : List Line) (accepted : IsAcceptedAs
         ap (short_at m.store) here ∙ word 0 (lit< tt) ∙ table_word h base 0 ∙ fetches h base in_range
 
     address : address_of (short_at m.store base) ≡ h
-    address = ap address_of first_word ∙ address_is h in_range
+    address = ap address_of first_word ∙ omega arith
 
     pub has_guest : HasGuest base m
     has_guest = record {
@@ -163,16 +150,16 @@ module _ (z : Size) (source : Text) (lines : List Line) (accepted : IsAcceptedAs
         acc = refl;
         image = image;
         fetch = first_word ∙ ap (λ n. A_F + 2 * n) (sym address);
-        middle = subst (λ x. x < 2 ^ 34) (sym no_middle) (lit< tt);
-        low = subst (λ x. x % 2 ^ 32 ≡ 0) (sym no_low) refl;
-        low_few = subst (λ x. x < 2 ^ 34) (sym no_low) (lit< tt);
+        middle = subst (λ x. x < 2 ^ 34) (sym no_accumulator.1) (lit< tt);
+        low = subst (λ x. x % 2 ^ 32 ≡ 0) (sym no_accumulator.2) refl;
+        low_few = subst (λ x. x < 2 ^ 34) (sym no_accumulator.2) (lit< tt);
       };
     }
 
     acc_is : long_at m.store (base + 60) * 2 ^ 36 + 4 * long_at m.store (base + 62)
         + long_at m.store (base + 64) / 2 ^ 32
         ≡ 0
-    acc_is = λ i. no_high i * 2 ^ 36 + 4 * no_middle i + no_low i / 2 ^ 32
+    acc_is = λ i. no_accumulator.0 i * 2 ^ 36 + 4 * no_accumulator.1 i + no_accumulator.2 i / 2 ^ 32
 
     pub guest_is : guest base m ≡ entry_guest z lines c.first
     guest_is = λ i. record m { counter = address i; acc = acc_is i; last = None; orders = 0 }

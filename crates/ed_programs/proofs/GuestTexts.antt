@@ -1,15 +1,14 @@
 -- The text of an accepted source is never too long for the program, and ends with the lines that its text ends with.
-use Rattle.ed_programs.proofs.Kit.{and_lines, Line, Label, Enter, Result, Fault, IsProgram, INPUT_BYTES, [], ap}
+use Rattle.ed_programs.proofs.Kit.{nat_tests, ◌&&◌, ne_eqb, Line, Label, Enter, IsProgram, INPUT_BYTES, [], ap}
 use Rattle.ed_programs.proofs.Kit.{append_assoc, arith, Bool, codes, false, if◌then◌else◌, length, length-append, List}
 use Rattle.ed_programs.proofs.Kit.{lit≤, nat_le, None, Ok, pos, refl, Some, subst, sym, true, ℕ, ◌*◌, ◌++◌, ◌+◌, ◌==◌}
-use Rattle.ed_programs.proofs.Kit.{◌∙◌, ◌∷◌, ◌≡◌, ◌≤◌, and_from, and_parts, le-leb, leb-true, Text, settings, line_of}
+use Rattle.ed_programs.proofs.Kit.{◌∙◌, ◌∷◌, ◌≡◌, ◌≤◌, and_from, and_parts, le-leb, leb-true, Text, settings}
 use Rattle.ed_programs.proofs.Kit.{lines_from, text_of_lines, checked_text, EntersChecker, use_check}
 use Rattle.ed_syntax.proofs.Kit.{ended, HasLines, lines_of, with_byte, without_return, and_more, LinesSay, no_more}
 use Rattle.ed_syntax.specs.Lines.{nothing, last}
 use Rattle.ed_syntax.proofs.Lines.{empty_line}
 use Rattle.ed_syntax.proofs.SourceLaws.{lines_are_read, say_is_read}
 use Rattle.ed_programs.proofs.Answered.{are_short}
-use Rattle.ed_programs.proofs.SourceLines.{Says, ends, said_lines, says}
 
 -- ---- how long it is
 
@@ -22,27 +21,17 @@ say_short two _ _ _ (and_more k line lines f said s h) =
 -- a line end has at most two bytes
 end_short : (line : Text) → length line ≤ length (without_return line) + 1
 end_short [] = lit≤ tt
-end_short (b ∷ []) = by_test (b == 13)
-  where
-    by_test : (t : Bool) → 1 ≤ length (if t then [] else b ∷ []) + 1
-    by_test true = lit≤ tt
-    by_test false = lit≤ tt
+end_short (b ∷ []) = grind (arith, nat_tests)
 end_short (b ∷ c ∷ bs) = let rest = end_short (c ∷ bs) in omega (arith, rest)
 
 text_short : (text : Text) (lines : List Text) → HasLines text lines → are_short lines ≡ true
     → length text ≤ 122 * length lines
 text_short _ _ nothing h = lit≤ tt
-text_short _ _ (last b bs plain) h =
-    let p = and_parts (nat_le (length (b ∷ bs)) 120) true h in
-    let few = leb-true (length (b ∷ bs)) 120 p.0 in
-    omega (arith, few)
+text_short _ _ (last b bs plain) h = grind (arith, nat_tests)
 text_short _ _ (ended line text lines plain more) h =
     let p = and_parts (nat_le (length (without_return line)) 120) (are_short lines) h in
     let few = leb-true (length (without_return line)) 120 p.0 in
-    let end = end_short line in
-    let rest = text_short text lines more p.1 in
-    let all = length-append line (10 ∷ text) in
-    omega (arith, few, end, rest, all)
+    omega (arith, end_short line, text_short text lines more p.1, length-append line (10 ∷ text))
 
 -- a source that says some lines has at most 262,144 bytes
 pub source_short : (text : Text) (two : Bool) (said : List Line) → IsProgram text two said → length text ≤ INPUT_BYTES
@@ -53,54 +42,29 @@ source_short text two said p =
 
 -- ---- how it ends
 
--- the lines of a text that goes on after a line feed: at least one, and then those of what follows
-record Ahead (text rest : Text) : Type 0 where
-  first : Text
-  more : List Text
-  lines_are : lines_of text ≡ first ∷ (more ++ lines_of rest)
+-- lines that are at least one, and then those of a text
+abbrev Ahead : List Text → Text → Type 0
+Ahead lines rest = (first : Text) × (more : List Text) × (lines ≡ first ∷ (more ++ lines_of rest))
 
-lines_ahead : (front rest : Text) → Ahead (front ++ 10 ∷ rest) rest
-lines_ahead [] rest = record { first = []; more = []; lines_are = empty_line rest }
-lines_ahead (b ∷ []) rest = by_tests (b == 10) (b == 13) refl refl
-  where
-    by_tests : (feed return : Bool) → (b == 10) ≡ feed → (b == 13) ≡ return → Ahead (b ∷ 10 ∷ rest) rest
-    by_tests true return e r = record {
-      first = [];
-      more = [] ∷ [];
-      lines_are = rw e (ap (λ (ls : List Text). [] ∷ ls) (empty_line rest));
-    }
-    by_tests false true e r = record { first = []; more = []; lines_are = rw (e, r) refl }
-    by_tests false false e r = record {
-      first = b ∷ [];
-      more = [];
-      lines_are = rw (e, r) (ap (with_byte b) (empty_line rest));
-    }
+one_more : (lines : List Text) (rest : Text) → Ahead lines rest → Ahead ([] ∷ lines) rest
+one_more lines rest a = ([], a.0 ∷ a.1, ap (λ (ls : List Text). [] ∷ ls) a.2)
+
+-- the lines of a text whose first byte may be a line end, or the first of two
+choice : (feed both : Bool) (b : ℕ) (one two : List Text) (rest : Text) → Ahead one rest → Ahead ([] ∷ two) rest
+    → Ahead (if feed then [] ∷ one else if both then [] ∷ two else with_byte b one) rest
+choice true both b one two rest x y = one_more one rest x
+choice false true b one two rest x y = y
+choice false false b one two rest x y = (b ∷ x.0, x.1, ap (with_byte b) x.2)
+
+-- those of a text that goes on after a line feed
+lines_ahead : (front rest : Text) → Ahead (lines_of (front ++ 10 ∷ rest)) rest
+lines_ahead [] rest = ([], [], empty_line rest)
+lines_ahead (b ∷ []) rest =
+    choice (b == 10) (b == 13 && 10 == 10) b (lines_of (10 ∷ rest)) (lines_of rest) rest (lines_ahead [] rest)
+    ([], [], refl)
 lines_ahead (b ∷ c ∷ front) rest =
-    by_tests (b == 10) (b == 13) (c == 10) refl refl refl (lines_ahead (c ∷ front) rest) (lines_ahead front rest)
-  where
-    by_tests : (feed return next : Bool) → (b == 10) ≡ feed → (b == 13) ≡ return → (c == 10) ≡ next
-        → Ahead (c ∷ (front ++ 10 ∷ rest)) rest → Ahead (front ++ 10 ∷ rest) rest
-        → Ahead (b ∷ c ∷ (front ++ 10 ∷ rest)) rest
-    by_tests true return next e r n one two = record {
-      first = [];
-      more = one.first ∷ one.more;
-      lines_are = rw e (ap (λ (ls : List Text). [] ∷ ls) one.lines_are);
-    }
-    by_tests false true true e r n one two = record {
-      first = [];
-      more = two.first ∷ two.more;
-      lines_are = rw (e, r, n) (ap (λ (ls : List Text). [] ∷ ls) two.lines_are);
-    }
-    by_tests false true false e r n one two = record {
-      first = b ∷ one.first;
-      more = one.more;
-      lines_are = rw (e, r, n) (ap (with_byte b) one.lines_are);
-    }
-    by_tests false false next e r n one two = record {
-      first = b ∷ one.first;
-      more = one.more;
-      lines_are = rw (e, r) (ap (with_byte b) one.lines_are);
-    }
+    choice (b == 10) (b == 13 && c == 10) b (lines_of (c ∷ (front ++ 10 ∷ rest))) (lines_of (front ++ 10 ∷ rest))
+    rest (lines_ahead (c ∷ front) rest) (one_more _ rest (lines_ahead front rest))
 
 -- what the last of some lines say, and what the lines before them say
 pub record Last (two : Bool) (start : ℕ) (lines rest : List Text) (said : List Line) : Type 0 where
@@ -110,12 +74,6 @@ pub record Last (two : Bool) (start : ℕ) (lines rest : List Text) (said : List
   pub said_are : said ≡ before ++ behind
   pub number_is : number + length rest ≡ start + length lines
   pub says : LinesSay two number rest behind
-
-no_lines : (first : Text) (more : List Text) → ◌≡◌ {A = List Text} [] (first ∷ more) → ⊥
-no_lines first more e = absurd (cc)
-
-rest_of : (line other : Text) (lines others : List Text) → line ∷ lines ≡ other ∷ others → lines ≡ others
-rest_of line other lines others e = cc
 
 last_say : (two : Bool) (k : ℕ) (lines : List Text) (said : List Line) → LinesSay two k lines said
     → (front rest : List Text) → lines ≡ front ++ rest → Last two k lines rest said
@@ -127,9 +85,9 @@ last_say two k lines said s [] rest e = record {
   number_is = ap (λ (ls : List Text). k + length ls) (sym e);
   says = subst (λ (ls : List Text). LinesSay two k ls said) e s;
 }
-last_say two _ _ _ (no_more k) (first ∷ front) rest e = absurd (no_lines first (front ++ rest) e)
+last_say two _ _ _ (no_more k) (first ∷ front) rest e = absurd (cc)
 last_say two _ _ _ (and_more k line lines f said s h) (first ∷ front) rest e =
-    let l = last_say two (k + 1) lines said h front rest (rest_of line first lines (front ++ rest) e) in
+    let l = last_say two (k + 1) lines said h front rest (cc) in
     let number = l.number_is in
     record {
       number = l.number;
@@ -140,81 +98,61 @@ last_say two _ _ _ (and_more k line lines f said s h) (first ∷ front) rest e =
       says = l.says;
     }
 
--- a source whose text ends with these lines says them last
-record EndsWith (two : Bool) (rest : List Text) (said : List Line) : Type 0 where
-  number : ℕ
-  before : List Line
-  behind : List Line
-  said_are : said ≡ before ++ behind
-  read : lines_from two number rest ≡ Ok behind
-  few : number + length rest ≤ 2001
-
-ends_with : (front rest : Text) (two : Bool) (said : List Line) → IsProgram (front ++ 10 ∷ rest) two said
-    → EndsWith two (lines_of rest) said
-ends_with front rest two said p =
-    let a = lines_ahead front rest in
-    let l = last_say two 1 p.lines said p.says (a.first ∷ a.more) (lines_of rest)
-    (sym (lines_are_read (front ++ 10 ∷ rest) p.lines p.has_lines) ∙ a.lines_are) in
-    let number = l.number_is in
-    let most = p.few in
-    let few : l.number + length (lines_of rest) ≤ 2001 = omega (arith, number, most) in
-    record {
-      number = l.number;
-      before = l.before;
-      behind = l.behind;
-      said_are = l.said_are;
-      read = say_is_read two l.number (lines_of rest) l.behind l.says (omega (arith, few));
-      few = few;
-    }
-
 -- ---- the source that is made for a guest
 
 -- its last two lines
-abbrev use_line : ℕ → Line
+abbrev pub use_line : ℕ → Line
 use_line k = record { number = k; label = None; statement = use_check (codes "c") (Label (codes "main") (pos 0)) }
 
-abbrev enter_line : ℕ → Line
+abbrev pub enter_line : ℕ → Line
 enter_line k = record { number = k; label = None; statement = Some (Enter (codes "c")) }
 
-abbrev use_text : Text
+abbrev pub use_text : Text
 use_text = codes "use check as c with H=main"
 
 abbrev enter_text : Text
 enter_text = codes "enter c"
 
--- what they say, whether or not one is the first line, which alone may have a version
-use_said : (two : Bool) (k : ℕ) (rest : List Line)
-    → and_lines k (line_of two k use_text) (Ok rest) ≡ Ok (use_line k ∷ rest)
-unfolding settings
-use_said two k rest = by_test (k == 1) refl
-  where
-    by_test : (t : Bool) → (k == 1) ≡ t → and_lines k (line_of two k use_text) (Ok rest) ≡ Ok (use_line k ∷ rest)
-    by_test true e = rw e refl
-    by_test false e = rw e refl
-
-enter_said : (two : Bool) (k : ℕ) (rest : List Line)
-    → and_lines k (line_of two k enter_text) (Ok rest) ≡ Ok (enter_line k ∷ rest)
-enter_said two k rest = by_test (k == 1) refl
-  where
-    by_test : (t : Bool) → (k == 1) ≡ t → and_lines k (line_of two k enter_text) (Ok rest) ≡ Ok (enter_line k ∷ rest)
-    by_test true e = rw e refl
-    by_test false e = rw e refl
-
-abbrev last_texts : List Text
+abbrev pub last_texts : List Text
 last_texts = use_text ∷ enter_text ∷ []
 
-abbrev last_lines : ℕ → List Line
+abbrev pub last_lines : ℕ → List Line
 last_lines k = use_line k ∷ enter_line (k + 1) ∷ []
 
+-- what they say, whether or not one is the first line, which alone may have a version
 last_read : (two : Bool) (k : ℕ) → k + 2 ≤ 2001 → lines_from two k last_texts ≡ Ok (last_lines k)
-last_read two k few =
-    let all : Says two k last_texts (last_lines k) = says (use_said two k) (says (enter_said two (k + 1)) ends) in
-    said_lines all few
+unfolding settings
+last_read two k few = by_tests (k == 1) (k + 1 == 1) refl refl
+  where
+    within : ((k == 2001) ≡ false) × ((k + 1 == 2001) ≡ false)
+    within = (ne_eqb k 2001 (omega arith), ne_eqb (k + 1) 2001 (omega arith))
 
-read_once : (r : Result (List Line) Fault) (ls others : List Line) → r ≡ Ok ls → r ≡ Ok others → ls ≡ others
-read_once r ls others e f = cc
+    by_tests : (first second : Bool) → (k == 1) ≡ first → (k + 1 == 1) ≡ second
+        → lines_from two k last_texts ≡ Ok (last_lines k)
+    by_tests true true e f = rw (within.0, within.1, e, f) refl
+    by_tests true false e f = rw (within.0, within.1, e, f) refl
+    by_tests false true e f = rw (within.0, within.1, e, f) refl
+    by_tests false false e f = rw (within.0, within.1, e, f) refl
 
--- it enters the routine over the order at main
+-- lines that end so enter the routine
+abbrev pub enters_at : (k : ℕ) (before lines : List Line) → lines ≡ before ++ last_lines k → EntersChecker lines
+enters_at k before lines are = record {
+  name = codes "c";
+  first = Label (codes "main") (pos 0);
+  before = before;
+  using = use_line k;
+  stands = record { after = enter_line (k + 1) ∷ []; lines_are = are };
+  uses = refl;
+  ahead = before ++ use_line k ∷ [];
+  entering = enter_line (k + 1);
+  follows = record {
+    after = [];
+    lines_are = are ∙ sym (append_assoc before (use_line k ∷ []) (enter_line (k + 1) ∷ []));
+  };
+  enters = refl;
+}
+
+-- over the order at main
 pub record EntersFromMain (lines : List Line) : Type 0 where
   pub enters : EntersChecker lines
   pub first : enters.first ≡ Label (codes "main") (pos 0)
@@ -222,26 +160,13 @@ pub record EntersFromMain (lines : List Line) : Type 0 where
 pub enters_from_main : (guest : Text) (two : Bool) (said : List Line) → IsProgram (checked_text guest) two said
     → EntersFromMain said
 enters_from_main guest two said p =
-    let e = ends_with guest (text_of_lines last_texts) two said p in
-    let last : e.behind ≡ last_lines e.number =
-    read_once (lines_from two e.number last_texts) e.behind (last_lines e.number) e.read
-    (last_read two e.number e.few) in
-    let all : said ≡ e.before ++ last_lines e.number = e.said_are ∙ ap (λ (ls : List Line). e.before ++ ls) last in
-    record {
-      enters = record {
-        name = codes "c";
-        first = Label (codes "main") (pos 0);
-        before = e.before;
-        using = use_line e.number;
-        stands = record { after = enter_line (e.number + 1) ∷ []; lines_are = all };
-        uses = refl;
-        ahead = e.before ++ use_line e.number ∷ [];
-        entering = enter_line (e.number + 1);
-        follows = record {
-          after = [];
-          lines_are = all ∙ sym (append_assoc e.before (use_line e.number ∷ []) (enter_line (e.number + 1) ∷ []));
-        };
-        enters = refl;
-      };
-      first = refl;
-    }
+    let a = lines_ahead guest (text_of_lines last_texts) in
+    let l = last_say two 1 p.lines said p.says (a.0 ∷ a.1) last_texts
+    (sym (lines_are_read (checked_text guest) p.lines p.has_lines) ∙ a.2) in
+    let number = l.number_is in
+    let few : l.number + 2 ≤ 2001 = (let most = p.few in omega arith) in
+    let read = say_is_read two l.number last_texts l.behind l.says (omega arith) in
+    let again = last_read two l.number few in
+    let last : l.behind ≡ last_lines l.number = cc in
+    let all : said ≡ l.before ++ last_lines l.number = l.said_are ∙ ap (λ (ls : List Line). l.before ++ ls) last in
+    record { enters = enters_at l.number l.before said all; first = refl }

@@ -1,23 +1,22 @@
 -- The two programs of the tape `examples/interlude.tape`, for any number: the interlude from its entry to its return,
 -- and the program after it from its entry to its stop.
-use Rattle.ed_programs.proofs.Kit.{get_or-set_other, get_or-set_same, length-set, H_F, O_F, T_F, Z_F, Size, O, Z}
-use Rattle.ed_programs.proofs.Kit.{plain, at_entry, set, along, to_stop, E_jumps, U, prints, any, early, out, IsStore}
-use Rattle.ed_programs.proofs.Kit.{directive, IsReturned, among, numbers, [], ap, arith, drop, false, get_or, length}
-use Rattle.ed_programs.proofs.Kit.{length-append, List, lit<, lit≤, nat_eq, None, Option, refl, rules, Some, subst}
-use Rattle.ed_programs.proofs.Kit.{suc, true, zero, ℕ, ◌*◌, ◌+◌, ◌-◌, ◌∙◌, ◌∷◌, ◌≡◌, ◌≤◌, list_all, eqb-true, lt-ltb}
-use Rattle.ed_programs.proofs.Kit.{locations, least, locations_most, short_at, State, Frame, Moment, short, state, Leads, A}
-use Rattle.ed_programs.proofs.Kit.{leads, on, Path, stay, own, Holds, opens, patched, ReachesStop, TapeEntry, over}
-use Rattle.ed_programs.proofs.Kit.{first_state}
+use Rattle.ed_programs.proofs.Kit.{moment_at, ◌<◌, H_F, O_F, T_F, Z_F, Size, O, Z, plain, at_entry, set, along, to_stop}
+use Rattle.ed_programs.proofs.Kit.{E_jumps, U, prints, any, early, out, IsStore, directive, IsReturned, among, numbers}
+use Rattle.ed_programs.proofs.Kit.{[], ap, arith, drop, false, get_or, length, List, lit<, lit≤, nat_eq, Option, refl}
+use Rattle.ed_programs.proofs.Kit.{rules, Some, subst, suc, true, zero, ℕ, ◌*◌, ◌+◌, ◌-◌, ◌∙◌, ◌∷◌, ◌≡◌, ◌≤◌, list_all}
+use Rattle.ed_programs.proofs.Kit.{eqb-true, lt-ltb, locations, least, locations_most, short_at, State, Frame, Moment}
+use Rattle.ed_programs.proofs.Kit.{short, state, Leads, A, leads, on, Path, stay, own, patched, ReachesStop, TapeEntry}
+use Rattle.ed_programs.proofs.Kit.{over, first_state, sym, patched_self}
 use Rattle.std.proofs.Common.{slice_index}
 use Rattle.std.proofs.lemmas.List.{get_or-append_right, get_or-drop, length-drop}
-use Rattle.ed_machine.proofs.Kit.Standing.{filled}
 use Rattle.ed_notation.specs.Fold.{word_with}
-use Rattle.ed_notation.proofs.Contents.{length-over}
 use Rattle.ed_initial.specs.Entry.{entry_words}
 use Rattle.ed_initial.specs.Listing.{initial_orders}
 use Rattle.ed_initial.specs.Rests.{initial_words}
 use Rattle.ed_initial.proofs.Starts.{all_fit}
 use Rattle.ed_interlude.specs.Returned.{AreListed, reopening}
+use Rattle.ed_notation.proofs.Placing.{block}
+use Rattle.ed_programs.proofs.InterludeLoads.{laid_at, laid_other, printed_words, printing_orders, words_placed}
 use Rattle.ed_programs.proofs.InterludeLoads.{from_return, interlude_note, program_note, program_placed}
 use Rattle.ed_programs.proofs.TwoPartsRuns.{IsAway, away, away_to_stop}
 
@@ -60,17 +59,8 @@ module _ (z : Size) (tape_rows rest : List ℕ) (n cost read : ℕ) (small : n �
   }
 
   abbrev at : ℕ → List ℕ → ℕ → Moment
-  at i words acc = record {
-    words = words;
-    digits = s.store.sandwich;
-    cells = cells n;
-    pairs = [];
-    acc = acc;
-    multiplier = s.multiplier;
-    counter = 100 + i;
-    tape = rest;
-    last = s.last;
-  }
+  at i words acc =
+      record (moment_at s) { words = words; cells = cells n; acc = acc; counter = 100 + i; last = s.last }
 
   begins : state f (at 0 s.store.words 0) s.orders ≡ s
   unfolding first_state
@@ -131,29 +121,21 @@ module _ (z : Size) (tape_rows rest : List ℕ) (n cost read : ℕ) (small : n �
         all_fit back.store.words (rw (a, b) refl);
   }
 
-  -- what the letter H stands for, and θ
-  letter_h : get_or back.store.words 45 0 ≡ 4 * n
-  unfolding first_state patched
-  letter_h = refl
+  -- the words at the return: what the letter H stands for, and θ
+  abbrev W : List ℕ
+  W = back.store.words
 
-  theta : get_or back.store.words 42 0 ≡ 200
+  known : (get_or W 45 0 ≡ 4 * n) × (get_or W 42 0 ≡ 200) × (length W ≡ 1024)
   unfolding first_state patched
-  theta = refl
-
-  back_long : length back.store.words ≡ 1024
-  unfolding first_state patched
-  back_long = refl
+  known = (refl, refl, refl)
 
   -- ---- the program after it
 
   module _ (low : 34 ≤ n) (fits : 2 * n + 3 ≤ locations z) (end : ℕ) where
-    abbrev W : List ℕ
-    W = back.store.words
-
     pub reopens : reopening back ≡ from_return z W n 200 low fits
     reopens =
         let d : directive back ≡ T_F + 2 * (2 * n) = omega arith in
-        λ i. record { directive = d i; theta = theta i; placed = [] }
+        λ i. record { directive = d i; theta = known.1 i; placed = [] }
 
     abbrev pub entry_on : TapeEntry
     entry_on = record {
@@ -180,108 +162,41 @@ module _ (z : Size) (tape_rows rest : List ℕ) (n cost read : ℕ) (small : n �
         ∙ get_or-drop 44 contents (a - 44) 0
         ∙ ap (λ x. get_or contents x 0) there
 
-    -- the words that are printed, and over them the orders that print them
-    abbrev one : List ℕ
-    one = set W (2 * n) 61440
+    orders_there : (i : ℕ) → i < 4 → get_or m.store.words (64 + i) 0 ≡ get_or (block W 200 printing_orders) i 0
+    orders_there i few =
+        placed_there (64 + i) (omega arith)
+        ∙ laid_at W 64 (block W 200 printing_orders) (words_placed z W n 200 low fits) i few (omega (arith, known.2))
 
-    abbrev two : List ℕ
-    two = set one (2 * n + 1) H_F
-
-    abbrev three : List ℕ
-    three = set two (2 * n + 1 + 1) 32768
-
-    abbrev order : ℕ → ℕ
-    order i = word_with 9 i false (get_or W 45 0)
-
-    order_is : (i : ℕ) → i ≤ 2 → order i ≡ O_F + 2 * (2 * n + i)
-    order_is i few = omega (arith, letter_h)
-
-    lengths : (length one ≡ 1024) × (length two ≡ 1024) × (length three ≡ 1024)
-    lengths =
-        let a : length one ≡ 1024 = length-set W (2 * n) 61440 ∙ back_long in
-        let b : length two ≡ 1024 = length-set one (2 * n + 1) H_F ∙ a in
-        (a, b, length-set two (2 * n + 1 + 1) 32768 ∙ b)
-
-    abbrev four : List ℕ
-    four = set three 64 (order 0)
-
-    abbrev five : List ℕ
-    five = set four 65 (order 1)
-
-    abbrev six : List ℕ
-    six = set five 66 (order 2)
-
-    above : (a : ℕ) → 68 ≤ a → get_or m.store.words a 0 ≡ get_or three a 0
-    above a l =
-        placed_there a (omega arith)
-        ∙ get_or-set_other six 67 a Z_F 0 (omega arith)
-        ∙ get_or-set_other five 66 a (order 2) 0 (omega arith)
-        ∙ get_or-set_other four 65 a (order 1) 0 (omega arith)
-        ∙ get_or-set_other three 64 a (order 0) 0 (omega arith)
-
-    record Letters : Type 0 where
-      shift : get_or m.store.words (2 * n) 0 ≡ 61440
-      first : get_or m.store.words (2 * n + 1) 0 ≡ H_F
-      second : get_or m.store.words (2 * n + 2) 0 ≡ 32768
-
-    letters : Letters
-    letters =
+    words_there : (i : ℕ) → i < 3 → get_or m.store.words (2 * n + i) 0 ≡ get_or (block W 200 printed_words) i 0
+    words_there i few =
         let size = locations_most z in
-        let long = back_long in
-        let l = lengths in
-        let l0 = l.0 in
-        let l1 = l.1 in
-        let next : 2 * n + 2 ≡ 2 * n + 1 + 1 = omega arith in
-        record {
-          shift = above (2 * n) (omega arith) ∙ get_or-set_other two (2 * n + 1 + 1) (2 * n) 32768 0 (omega arith)
-              ∙ get_or-set_other one (2 * n + 1) (2 * n) H_F 0 (omega arith)
-              ∙ get_or-set_same W (2 * n) 61440 0 (omega arith);
-          first = above (2 * n + 1) (omega arith)
-              ∙ get_or-set_other two (2 * n + 1 + 1) (2 * n + 1) 32768 0 (omega arith)
-              ∙ get_or-set_same one (2 * n + 1) H_F 0 (omega arith);
-          second = ap (λ a. get_or m.store.words a 0) next ∙ above (2 * n + 1 + 1) (omega arith)
-              ∙ get_or-set_same two (2 * n + 1 + 1) 32768 0 (omega arith);
-        }
-
-    abbrev image : List (Option ℕ)
-    image =
-        Some (O_F + 2 * (2 * n)) ∷ Some (O_F + 2 * (2 * n + 1)) ∷ Some (O_F + 2 * (2 * n + 2)) ∷ Some Z_F
-        ∷ None ∷ []
-
-    holds : Holds image m.store.words 64
-    holds zero l =
-        let size = locations_most z in
-        let long = lengths.2 in
-        let here : order 0 ≡ O_F + 2 * (2 * n) = omega (arith, order_is 0 (lit≤ tt)) in
-        placed_there 64 (lit≤ tt)
-        ∙ get_or-set_other six 67 64 Z_F 0 (omega arith) ∙ get_or-set_other five 66 64 (order 2) 0 (omega arith)
-        ∙ get_or-set_other four 65 64 (order 1) 0 (omega arith)
-        ∙ get_or-set_same three 64 (order 0) 0 (omega arith) ∙ here
-    holds (suc zero) l =
-        let long = length-set three 64 (order 0) ∙ lengths.2 in
-        placed_there 65 (lit≤ tt)
-        ∙ get_or-set_other six 67 65 Z_F 0 (omega arith) ∙ get_or-set_other five 66 65 (order 2) 0 (omega arith)
-        ∙ get_or-set_same four 65 (order 1) 0 (omega arith) ∙ order_is 1 (lit≤ tt)
-    holds (suc (suc zero)) l =
-        let long = length-set four 65 (order 1) ∙ length-set three 64 (order 0) ∙ lengths.2 in
-        placed_there 66 (lit≤ tt)
-        ∙ get_or-set_other six 67 66 Z_F 0 (omega arith)
-        ∙ get_or-set_same five 66 (order 2) 0 (omega arith) ∙ order_is 2 (lit≤ tt)
-    holds (suc (suc (suc zero))) l =
-        let long = length-set five 66 (order 2) ∙ length-set four 65 (order 1) ∙ length-set three 64 (order 0)
-        ∙ lengths.2 in
-        placed_there 67 (lit≤ tt) ∙ get_or-set_same six 67 Z_F 0 (omega arith)
-    holds (suc (suc (suc (suc zero)))) l = tt
-    holds (suc (suc (suc (suc (suc i))))) l = absurd (omega arith)
+        placed_there (2 * n + i) (omega arith)
+        ∙ laid_other W 64 (block W 200 printing_orders) (words_placed z W n 200 low fits) (2 * n + i)
+        (λ j l. omega arith)
+        ∙ laid_at W (2 * n) (block W 200 printed_words) [] i few (omega (arith, known.2))
 
     m_long : length m.store.words ≡ 1024
-    m_long = search (rules, length-append, length-drop, length-over, back_long)
+    m_long = search (rules, length-drop, known.2)
 
+    -- the orders that print, and the word after them
     abbrev cells_on : List ℕ
-    cells_on = filled image m.store.words 64 0
+    cells_on =
+        (O_F + 2 * (2 * n + 0)) ∷ (O_F + 2 * (2 * n + 1)) ∷ (O_F + 2 * (2 * n + 2)) ∷ Z_F
+        ∷ get_or m.store.words 68 0 ∷ []
 
     same_on : patched 0 m.store.words 64 cells_on ≡ m.store.words
-    same_on = opens image m.store.words 64 (omega (arith, m_long)) holds
+    same_on = patched_self 0 m.store.words 64 cells_on (omega (arith, m_long)) each
+      where
+        order_is : (i : ℕ) → i ≤ 2 → O_F + 2 * (2 * n + i) ≡ word_with 9 i false (get_or W 45 0)
+        order_is i few = omega (arith, known.0)
+
+        each : (j : ℕ) → j < 5 → get_or cells_on j 0 ≡ get_or m.store.words (64 + j) 0
+        each zero l = order_is 0 (lit≤ tt) ∙ sym (orders_there 0 (lit< tt))
+        each (suc zero) l = order_is 1 (lit≤ tt) ∙ sym (orders_there 1 (lit< tt))
+        each (suc (suc zero)) l = order_is 2 (lit≤ tt) ∙ sym (orders_there 2 (lit< tt))
+        each (suc (suc (suc zero))) l = sym (orders_there 3 (lit< tt))
+        each (suc (suc (suc (suc zero)))) l = refl
+        each (suc (suc (suc (suc (suc j))))) l = absurd (omega arith)
 
     abbrev g : Frame 5 0
     g = record {
@@ -293,17 +208,7 @@ module _ (z : Size) (tape_rows rest : List ℕ) (n cost read : ℕ) (small : n �
     }
 
     abbrev at_on : ℕ → Option ℕ → Moment
-    at_on i last = record {
-      words = m.store.words;
-      digits = m.store.sandwich;
-      cells = cells_on;
-      pairs = [];
-      acc = 0;
-      multiplier = m.multiplier;
-      counter = 64 + i;
-      tape = [];
-      last = last;
-    }
+    at_on i last = record (moment_at m) { cells = cells_on; counter = 64 + i; last = last }
 
     begins_on : state g (at_on 0 m.last) m.orders ≡ m
     begins_on = λ i. record m { store = record { words = same_on i; sandwich = m.store.sandwich } }
@@ -311,10 +216,10 @@ module _ (z : Size) (tape_rows rest : List ℕ) (n cost read : ℕ) (small : n �
     abbrev path_on : Path g 3 (at_on 0 m.last) (15 ∷ 21 ∷ 8 ∷ []) (at_on 3 (Some 8))
     path_on =
         let shown = λ (a x : ℕ) (is : get_or m.store.words a 0 ≡ x). ap (λ (ws : List ℕ). get_or ws a 0) same_on ∙ is in
-        let a = shown (2 * n) 61440 letters.shift in
-        let b = shown (2 * n + 1) H_F letters.first in
-        let c = shown (2 * n + 2) 32768 letters.second in
-        prints (O 0 (any (2 * n) (omega arith)) 15 refl (omega (arith, a)))
+        let a = shown (2 * n + 0) 61440 (words_there 0 (lit< tt)) in
+        let b = shown (2 * n + 1) H_F (words_there 1 (lit< tt)) in
+        let c = shown (2 * n + 2) 32768 (words_there 2 (lit< tt)) in
+        prints (O 0 (any (2 * n + 0) (omega arith)) 15 refl (omega (arith, a)))
         (prints (O 1 (any (2 * n + 1) (omega arith)) 21 refl (omega (arith, b)))
         (prints (O 2 (any (2 * n + 2) (omega arith)) 8 refl (omega (arith, c))) stay))
 

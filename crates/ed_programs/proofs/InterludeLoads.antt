@@ -1,14 +1,15 @@
 -- The loads of the two parts of the tape `examples/interlude.tape`, for any number: their entries, and what they cost.
-use Rattle.ed_programs.proofs.Kit.{get_or-set_other, E_F, H_F, T_F, Size, Item, spelled_rows, digits_of, plain, set}
-use Rattle.ed_programs.proofs.Kit.{canonical, canonicals, [], ap, arith, get_or, length, List, lit≤, refl, rules}
-use Rattle.ed_programs.proofs.Kit.{subst, sym, true, ℕ, ◌*◌, ◌++◌, ◌+◌, ◌/◌, ◌<◌, ◌∙◌, ◌∷◌, ◌≡◌, ◌≤◌, locations, least}
+use Rattle.ed_programs.proofs.Kit.{get_or-set_other, E_F, T_F, Size, Item, spelled_rows, digits_of, plain, set}
+use Rattle.ed_programs.proofs.Kit.{canonical, canonicals, [], ap, arith, get_or, length, List, lit≤, refl, rules, subst}
+use Rattle.ed_programs.proofs.Kit.{sym, ℕ, ◌*◌, ◌++◌, ◌+◌, ◌/◌, ◌<◌, ◌∙◌, ◌∷◌, ◌≡◌, ◌≤◌, locations, least}
 use Rattle.ed_programs.proofs.Kit.{locations_most, RowsReachEntry, WellFormed, NotationState, over, rows_of, opening}
+use Rattle.ed_programs.proofs.Kit.{get_or-set_same, ◌≢◌, zero, suc}
 use Rattle.ed_notation.proofs.Kit.{EndsSound, cost_of, is_entry, IsDirective}
+use Rattle.ed_notation.proofs.Contents.{length-over}
 use Rattle.ed_notation.proofs.Canonical.{is_written}
 use Rattle.ed_notation.proofs.Placing.{block, laid, placing_all}
 use Rattle.ed_notation.proofs.Sound.{sound_well}
-use Rattle.ed_notation.proofs.Steps.{Enters, Reads, Does-aiming, aiming_entry, entering_at, reads_both, reads_none}
-use Rattle.ed_notation.proofs.Steps.{reads_one}
+use Rattle.ed_notation.proofs.Steps.{Reads, Does-aiming, aiming_entry, entering_at, reads_both, reads_none, reads_one}
 
 -- items before an entry item P F, and the entry to which they lead from a state of the notation
 pub record Entered (z : Size) (words : List ℕ) (start : NotationState) (base at : ℕ) (is : List Item)
@@ -32,14 +33,13 @@ pub entered : {z : Size} {words : List ℕ} {start last : NotationState} {is : L
     → IsDirective start.directive → Reads z words start is last cost → last.directive ≡ E_F + 2 * at → 44 ≤ at
     → at < locations z → Entered z words start base at is last cost rest
 entered {z} {words} {start} {last} {is} {cost} base at rest set reads aim low high =
-    let e : Enters z words last at = entering_at z words last at aim low high in
-    let enters : is_entry last (plain 0 0 17) ≡ true = e.enters in
+    let e = entering_at z words last at aim low high in
     let m = locations_most z in
     let three : last.directive / 4096 ≡ 3 = omega (arith, aim) in
     let end : cost_of last (canonical (plain 0 0 17)) ≡ 19 = rw three refl in
     record {
       well = sound_well (canonicals is) rest set reads.are_read reads.are_sound (is_written (plain 0 0 17) refl)
-          (ap (λ (n : NotationState). is_entry n (plain 0 0 17)) reads.folds ∙ enters)
+          (ap (λ (n : NotationState). is_entry n (plain 0 0 17)) reads.folds ∙ e.enters)
           (subst (λ (n : NotationState). EndsSound z words n (canonical (plain 0 0 17))) (sym reads.folds) e.sound);
       comes = record {
         before = canonicals is;
@@ -47,7 +47,7 @@ entered {z} {words} {start} {last} {is} {cost} base at rest set reads aim low hi
         are_read = reads.are_read;
         is_written = is_written (plain 0 0 17) refl;
         notation_is = sym reads.folds;
-        is_entry = enters;
+        is_entry = e.enters;
         rows_are = refl;
         last_is = refl;
         at_is = sym e.place;
@@ -56,6 +56,30 @@ entered {z} {words} {start} {last} {is} {cost} base at rest set reads aim low hi
         read_is = refl;
       };
     }
+
+-- ---- words laid one after the other
+
+module _ (words : List ℕ) where
+  -- they leave the other words
+  pub laid_other : (q : ℕ) (ws : List ℕ) (placed : List (ℕ × ℕ)) (a : ℕ) → ((i : ℕ) → i < length ws → a ≢ q + i)
+      → get_or (over (laid q ws placed) words) a 0 ≡ get_or (over placed words) a 0
+  laid_other q [] placed a apart = refl
+  laid_other q (w ∷ ws) placed a apart =
+      let here : a ≢ q = (let first = apart 0 (omega arith) in omega arith) in
+      laid_other (q + 1) ws ((q, w) ∷ placed) a (λ i l. let next = apart (suc i) (omega arith) in omega arith)
+      ∙ get_or-set_other (over placed words) q a w 0 here
+
+  -- and each of them is at its place
+  pub laid_at : (q : ℕ) (ws : List ℕ) (placed : List (ℕ × ℕ)) (i : ℕ) → i < length ws → q + length ws ≤ length words
+      → get_or (over (laid q ws placed) words) (q + i) 0 ≡ get_or ws i 0
+  laid_at q [] placed i l fits = absurd (omega arith)
+  laid_at q (w ∷ ws) placed zero l fits =
+      let e : q + 0 ≡ q = omega arith in
+      rw e (laid_other (q + 1) ws ((q, w) ∷ placed) q (λ i l. omega arith)
+      ∙ get_or-set_same (over placed words) q w 0 (omega (arith, length-over placed words)))
+  laid_at q (w ∷ ws) placed (suc i) l fits =
+      let e : q + suc i ≡ q + 1 + i = omega arith in
+      rw e (laid_at (q + 1) ws ((q, w) ∷ placed) i (omega arith) (omega arith))
 
 -- ---- the interlude
 
@@ -81,10 +105,10 @@ module _ (z : Size) (words : List ℕ) (n : ℕ) (small : n ≤ 510) where
 -- ---- the program
 
 -- its items: the words that are printed, and the orders that print them
-abbrev printed_words : List Item
+abbrev pub printed_words : List Item
 printed_words = plain 15 0 17 ∷ plain 21 0 17 ∷ plain 8 0 17 ∷ []
 
-abbrev printing_orders : List Item
+abbrev pub printing_orders : List Item
 printing_orders = plain 9 0 21 ∷ plain 9 1 21 ∷ plain 9 2 21 ∷ plain 13 0 17 ∷ []
 
 abbrev pub program_items : List Item
@@ -94,7 +118,7 @@ module _ (z : Size) (words : List ℕ) (n theta : ℕ) (low : 34 ≤ n) (fits : 
   abbrev pub from_return : NotationState
   from_return = record { directive = T_F + 2 * (2 * n); theta = theta; placed = [] }
 
-  abbrev words_placed : List (ℕ × ℕ)
+  abbrev pub words_placed : List (ℕ × ℕ)
   words_placed = laid (2 * n) (block words theta printed_words) []
 
   abbrev pub program_placed : List (ℕ × ℕ)
@@ -105,10 +129,7 @@ module _ (z : Size) (words : List ℕ) (n theta : ℕ) (low : 34 ≤ n) (fits : 
 
   -- the words that are printed are at 68 and above
   apart : (j : ℕ) → j < 56 → get_or (over words_placed words) j 0 ≡ get_or words j 0
-  apart j l =
-      get_or-set_other (set (set words (2 * n) 61440) (2 * n + 1) H_F) (2 * n + 1 + 1) j 32768 0 (omega arith)
-      ∙ get_or-set_other (set words (2 * n) 61440) (2 * n + 1) j H_F 0 (omega arith)
-      ∙ get_or-set_other words (2 * n) j 61440 0 (omega arith)
+  apart j l = laid_other words (2 * n) (block words theta printed_words) [] j (λ i m. omega arith)
 
   pub program_reads : Reads z words from_return program_items program_note 259
   program_reads =

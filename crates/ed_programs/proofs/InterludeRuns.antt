@@ -1,57 +1,38 @@
 -- The text of `examples/interlude.tape`, for any number in range, and what the commands `parts` and `tape` answer to
 -- it.
-use Rattle.ed_programs.proofs.Kit.{String, Global, Size, none, spells_append, has_one_reading, Settings, spelled_rows}
+use Rattle.ed_programs.proofs.Kit.{String, Global, Size, spells_append, has_one_reading, Settings, spelled_rows}
 use Rattle.ed_programs.proofs.Kit.{digits_of, plain, ReachesEntry, Err, Result, rows, Spells, canonical, canonicals}
-use Rattle.ed_programs.proofs.Kit.{INPUT_BYTES, ReachesNextEntry, decimal_is, few_bytes, written, [], ap, append-nil}
-use Rattle.ed_programs.proofs.Kit.{append_assoc, arith, codes, decimal, get_or, inl, inr, length, length-append, List}
-use Rattle.ed_programs.proofs.Kit.{lit≤, map, None, Ok, refl, rules, subst, sym, ℕ, ◌*◌, ◌++◌, ◌+◌, ◌-◌, ◌<◌, ◌∙◌, ◌∷◌}
-use Rattle.ed_programs.proofs.Kit.{◌≡◌, ◌≤◌, cases_lt, le-leb, leb-true, length-map, locations, Text, least, State}
-use Rattle.ed_programs.proofs.Kit.{reading, RowsReachEntry, TapeEntry, WellFormed, NotationState, AreDigits, rows_of}
-use Rattle.ed_programs.proofs.Kit.{first_state, GivesProgram, Refusal}
-use Rattle.std.proofs.lemmas.Bool.{lt-leb}
-use Rattle.std.proofs.lemmas.Fmt.{decimal_digit, decimal_step}
-use Rattle.ed_codes.specs.Text.{row}
-use Rattle.ed_notation.proofs.Canonical.{digits_are}
-use Rattle.ed_notation.proofs.Texts.{digit_back}
+use Rattle.ed_programs.proofs.Kit.{INPUT_BYTES, ReachesNextEntry, decimal_is, [], ap, append-nil, append_assoc, arith}
+use Rattle.ed_programs.proofs.Kit.{codes, decimal, get_or, length, length-append, List, lit≤, map, None, Ok, refl}
+use Rattle.ed_programs.proofs.Kit.{rules, subst, sym, ℕ, ◌*◌, ◌++◌, ◌+◌, ◌<◌, ◌∙◌, ◌∷◌, ◌≡◌, ◌≤◌, leb-true, length-map}
+use Rattle.ed_programs.proofs.Kit.{locations, Text, least, State, reading, RowsReachEntry, TapeEntry, WellFormed}
+use Rattle.ed_programs.proofs.Kit.{NotationState, rows_of, first_state, GivesProgram, Refusal, among, bytes_eq}
+use Rattle.ed_programs.proofs.Kit.{bytes_eq-Decides, digits}
 use Rattle.ed_programs.specs.Interlude.{interlude_text, InterludePrints, InterludeRuns, interlude_cost}
 use Rattle.ed_programs.specs.declared.interlude.TheConstants.{INTERLUDE}
 use Rattle.ed_programs.proofs.InterludeEnds.{back, back_store, entry, entry_on, interlude_away, interlude_leads}
 use Rattle.ed_programs.proofs.InterludeEnds.{program_away, program_stops, reopens, returned}
 use Rattle.ed_programs.proofs.InterludeLoads.{entered, interlude_items, interlude_reads, program_items, program_reads}
+use Rattle.ed_programs.proofs.RowTexts.{few_figures, number_spells}
 use Rattle.ed_programs.proofs.TapeRuns.{reads_spell}
 use Rattle.ed_programs.proofs.TwoParts.{TwoParts, TwoPartsRun}
 use Rattle.ed_programs.proofs.TwoPartsRuns.{Course, numbers_of, two_parts_run}
 
 -- ---- the number on the tape
 
-digits_spell : (ds : List ℕ) → AreDigits ds → Spells (written ds) ds
-digits_spell [] h = none
-digits_spell (d ∷ ds) h = row (48 + d) d (written ds) ds (digit_back d h.0) (digits_spell ds h.1)
-
 -- a number of two or three figures is written in decimal as the loader's items spell it
 module _ (n : ℕ) (low : 10 ≤ n) (high : n < 1000) where
-  two : n < 100 → written (digits_of n) ≡ decimal n
-  two few = search (rules, lt-leb, le-leb, decimal_step, decimal_digit)
-
-  three : 100 ≤ n → written (digits_of n) ≡ decimal n
-  three many = search (rules, lt-leb, le-leb, decimal_step, decimal_digit)
-
-  figures : written (digits_of n) ≡ decimal n
-  figures = elim (cases_lt n 100) [ inl few ↦ two few | inr many ↦ three many ]
+  same : digits_of n ≡ digits n
+  same =
+      (bytes_eq-Decides (digits_of n) (digits n)).0
+      (among (λ n. bytes_eq (digits_of n) (digits n)) 10 990 n refl low (omega arith))
 
   decimal_spells : Spells (decimal n) (digits_of n)
-  decimal_spells =
-      subst (λ (t : Text). Spells t (digits_of n)) figures
-      (digits_spell (digits_of n) (digits_are n (omega arith)).digits)
+  decimal_spells = subst (Spells (decimal n)) (sym same) (number_spells n (omega arith))
 
   figure_count : length (digits_of n) ≡ length (decimal n)
-  figure_count = sym (length-map (digits_of n) (λ d. 48 + d)) ∙ ap length figures
-
-  few_figures : length (decimal n) ≤ 5
-  few_figures =
-      let few = few_bytes n (omega arith) in
-      let same = ap length (decimal_is n (omega arith)) in
-      omega (arith, few, same)
+  figure_count =
+      ap length same ∙ sym (length-map (digits n) (λ d. 48 + d)) ∙ ap length (decimal_is n (omega arith))
 
 -- ---- the rows of the text
 
@@ -65,7 +46,7 @@ abbrev behind_number : Text
 behind_number = get_or pieces 1 []
 
 few_text : (n : ℕ) → 10 ≤ n → n < 1000 → length (interlude_text n) ≤ INPUT_BYTES
-few_text n low high = search (rules, few_figures, leb-true, length-append)
+few_text n low high = let few = few_figures n (omega arith) in search (rules, few, leb-true, length-append)
 
 -- the items up to the number, and those after it
 abbrev last_rows : List ℕ
@@ -76,8 +57,8 @@ program_rows = spelled_rows (canonicals program_items) ++ (last_rows ++ [])
 
 abbrev front_rows : List ℕ
 front_rows =
-    spelled_rows (canonicals (plain 5 100 14 ∷ plain 27 0 14 ∷ plain 28 6 18 ∷ plain 28 6 18 ∷ plain 7 45 17 ∷ plain 28 5 18
-    ∷ plain 3 25 17 ∷ plain 5 0 17 ∷ [])) ++ 0 ∷ []
+    spelled_rows (canonicals (plain 5 100 14 ∷ plain 27 0 14 ∷ plain 28 6 18 ∷ plain 28 6 18 ∷ plain 7 45 17
+    ∷ plain 28 5 18 ∷ plain 3 25 17 ∷ plain 5 0 17 ∷ [])) ++ 0 ∷ []
 
 abbrev entering_rows : List ℕ
 entering_rows = spelled_rows (canonicals (plain 3 100 14 ∷ []))
@@ -91,18 +72,14 @@ tape_rows n = spelled_rows (canonicals (interlude_items n)) ++ (last_rows ++ pro
 rows_are : (n : ℕ) → front_rows ++ (digits_of n ++ rows_behind) ≡ tape_rows n
 rows_are n = search (rules, append_assoc, append-nil)
 
-front_spells : Spells front front_rows
-front_spells = reads_spell front front_rows refl
-
-behind_spells : Spells behind_number rows_behind
-behind_spells = reads_spell behind_number rows_behind refl
-
 pub text_reads : (n : ℕ) → 10 ≤ n → n < 1000 → reading (interlude_text n) ≡ rows (tape_rows n)
 text_reads n low high =
     has_one_reading.only (interlude_text n) (rows (tape_rows n))
     (subst (Spells (front ++ (decimal n ++ behind_number))) (rows_are n)
-    (spells_append front front_rows (decimal n ++ behind_number) (digits_of n ++ rows_behind) front_spells
-    (spells_append (decimal n) (digits_of n) behind_number rows_behind (decimal_spells n low high) behind_spells)))
+    (spells_append front front_rows (decimal n ++ behind_number) (digits_of n ++ rows_behind)
+    (reads_spell front front_rows refl)
+    (spells_append (decimal n) (digits_of n) behind_number rows_behind (decimal_spells n low high)
+    (reads_spell behind_number rows_behind refl))))
 
 -- ---- the course of the tape
 

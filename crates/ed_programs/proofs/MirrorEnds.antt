@@ -1,12 +1,10 @@
 -- The tape `examples/mirror.tape` from its first row to its stop, for any word.
-use Rattle.ed_programs.proofs.Kit.{L_D, R_F, Z_F, Size, Full, Small, Settings, AreCodes, numbers, is_met, moment_at}
-use Rattle.ed_programs.proofs.Kit.{[], arith, false, get_or, length, List, lit≤, map, None, Option, refl, reverse}
-use Rattle.ed_programs.proofs.Kit.{Some, subst, true, ℕ, ◌*◌, ◌++◌, ◌+◌, ◌∷◌, ◌≡◌, ◌≤◌, list_all, locations, Text}
-use Rattle.ed_programs.proofs.Kit.{least, State, state, opens, patched, ReachesStop, tape_state, TapeEntry, reading_on}
-use Rattle.ed_programs.proofs.Kit.{first_state}
+use Rattle.ed_programs.proofs.Kit.{Size, Full, Small, Settings, AreCodes, numbers, moment_at, [], false, get_or, length}
+use Rattle.ed_programs.proofs.Kit.{List, map, refl, reverse, subst, ℕ, ◌*◌, ◌++◌, ◌+◌, ◌-◌, ◌∷◌, ◌≡◌, ◌≤◌, Text, State}
+use Rattle.ed_programs.proofs.Kit.{Moment, state, patched, ReachesStop, tape_state, TapeEntry, reading_on, first_state}
 use Rattle.ed_programs.specs.declared.mirror.TheConstants.{MIRROR}
-use Rattle.ed_programs.proofs.MirrorProgram.{Given, Work, cells, entering, mirror_stops}
-use Rattle.ed_programs.proofs.TapeRuns.{Arrives, rows_in, holds_in}
+use Rattle.ed_programs.proofs.MirrorProgram.{cells, entering, f, mirror_stops, storing}
+use Rattle.ed_programs.proofs.TapeRuns.{Arrives, rows_in}
 
 -- the text up to the entry
 abbrev pub front : Text
@@ -16,14 +14,13 @@ front = get_or (map (λ piece. piece.now) MIRROR) 0 []
 abbrev pub mirror_rows : List ℕ → List ℕ
 mirror_rows rest = rows_in front ++ rest
 
+-- the words of the program as they are loaded
+abbrev loaded : List ℕ
+loaded = cells (record { store = storing 0; print = 0; count = 0; scrap = 0; row = 0 })
+
 -- the words that they place, the last one first
 abbrev placed : List (ℕ × ℕ)
-placed =
-    (96, 37074) ∷ (95, R_F) ∷ (94, 0) ∷ (93, 0) ∷ (92, 0) ∷ (91, 1) ∷ (90, Z_F) ∷ (89, Z_F) ∷ (88, 12452)
-    ∷ (87, 114880) ∷ (86, 110772) ∷ (85, 49344) ∷ (84, 0) ∷ (83, 28840) ∷ (82, 49156) ∷ (81, 114878)
-    ∷ (80, 114828) ∷ (79, 20666) ∷ (78, 12418) ∷ (77, 49334) ∷ (76, 28856) ∷ (75, 49334) ∷ (74, 114872)
-    ∷ (73, 20620) ∷ (72, 114692) ∷ (71, 114828) ∷ (70, 20688) ∷ (69, L_D) ∷ (68, 103424) ∷ (67, 114876)
-    ∷ (66, 32956) ∷ (65, 20666) ∷ (64, 32952) ∷ []
+placed = map (λ i. (96 - i, get_or loaded (32 - i) 0)) (numbers 0 33)
 
 -- the entry that they reach
 abbrev pub mirror_entry : List ℕ → TapeEntry
@@ -42,13 +39,6 @@ unfolding reading_on first_state
 mirror_arrives Small rest = record { cleared = refl; started = refl }
 mirror_arrives Full rest = record { cleared = refl; started = refl }
 
--- the words of the program as they are loaded
-abbrev work : Work
-work = record { store = 20688; print = 0; count = 0; scrap = 0; row = 0 }
-
-abbrev image : List (Option ℕ)
-image = map (λ x. Some x) (cells 64 work)
-
 module _ (t : Settings) (c : ℕ) (cs : List ℕ) where
   abbrev rest : List ℕ
   rest = length (c ∷ cs) ∷ (c ∷ cs)
@@ -56,36 +46,18 @@ module _ (t : Settings) (c : ℕ) (cs : List ℕ) where
   abbrev s : State
   s = tape_state t (mirror_rows rest) (mirror_entry rest)
 
-  long : length s.store.words ≡ 1024
+  known : (length s.store.words ≡ 1024) × (get_or s.store.words 2 0 ≡ 2)
   unfolding first_state
-  long = refl
+  known = (refl, refl)
 
-  test : list_all (λ i. is_met (get_or image i None) (get_or s.store.words (64 + i) 0)) (numbers 0 33) ≡ true
-  unfolding first_state
-  test = refl
+  same : patched 0 s.store.words 64 loaded ≡ s.store.words
+  unfolding first_state patched
+  same = refl
 
-  at2 : get_or s.store.words 2 0 ≡ 2
-  unfolding first_state
-  at2 = refl
+  abbrev around : Moment
+  around = record (moment_at s) { last = s.last }
 
-  same : patched 0 s.store.words 64 (cells 64 work) ≡ s.store.words
-  same = opens image s.store.words 64 (omega (arith, long)) (holds_in s.store.words image 64 test)
-
-  abbrev given : Given
-  given = record {
-    f = record {
-      size = t.size;
-      base = 64;
-      top = locations t.size;
-      under = let size = least t.size in omega arith;
-      fits = omega arith;
-    };
-    above = lit≤ tt;
-    room = let size = least t.size in omega arith;
-    around = record (moment_at s) { last = s.last };
-  }
-
-  begins : state given.f (entering given (length (c ∷ cs)) (c ∷ cs)) s.orders ≡ s
+  begins : state (f t.size around) (entering t.size around (c ∷ cs)) s.orders ≡ s
   unfolding first_state
   begins = λ i. record s { store = record { words = same i; sandwich = s.store.sandwich } }
 
@@ -94,4 +66,4 @@ module _ (t : Settings) (c : ℕ) (cs : List ℕ) where
       → ReachesStop (21 * length (c ∷ cs) + 2) s (reverse (c ∷ cs)) 91
   mirror_ends are few =
       subst (λ (x : State). ReachesStop (21 * length (c ∷ cs) + 2) x (reverse (c ∷ cs)) 91) begins
-      (mirror_stops given c cs are few long at2 s.orders)
+      (mirror_stops t.size around c cs are few known.0 known.1 s.orders)

@@ -1,16 +1,15 @@
 -- What `examples/mirror.tape` prints, for any word.
-use Rattle.ed_programs.proofs.Kit.{length-reverse, none, spacing, spells_append, has_one_reading, Letters, Settings}
-use Rattle.ed_programs.proofs.Kit.{AreCodes, reverse-append, rows, Spells, INPUT_BYTES, decimal_is, few_bytes, written}
-use Rattle.ed_programs.proofs.Kit.{[], ap, append-nil, append_assoc, arith, decimal, length, length-append, List, refl}
-use Rattle.ed_programs.proofs.Kit.{reverse, subst, sym, true, ℕ, ◌*◌, ◌++◌, ◌+◌, ◌∙◌, ◌∷◌, ◌≡◌, ◌≤◌, list_all}
-use Rattle.ed_programs.proofs.Kit.{and_parts, leb-true, length-map, Text, row_of, paper, spells, digits, reading}
-use Rattle.ed_programs.proofs.Kit.{paper_from, is_capital, mirror_text, TapeRuns}
+use Rattle.ed_programs.proofs.Kit.{rules, length-reverse, none, spacing, spells_append, has_one_reading, Letters}
+use Rattle.ed_programs.proofs.Kit.{Settings, AreCodes, reverse-append, rows, Spells, INPUT_BYTES, [], and_from, ap}
+use Rattle.ed_programs.proofs.Kit.{append-nil, append_assoc, arith, decimal, length, length-append, List, refl, reverse}
+use Rattle.ed_programs.proofs.Kit.{subst, sym, true, ℕ, ◌++◌, ◌∙◌, ◌∷◌, ◌≡◌, ◌≤◌, list_all, and_parts, leb-true}
+use Rattle.ed_programs.proofs.Kit.{length-map, Text, row_of, reading, paper_from, is_capital, mirror_text, TapeRuns}
 use Rattle.ed_notation.proofs.Texts.{are_codes}
 use Rattle.ed_syntax.specs.Reading.Grammar.{row as code_of}
 use Rattle.ed_programs.specs.Mirror.{mirror_cost, mirror_orders}
-use Rattle.ed_programs.proofs.Capitals.{AreLetters, are_rows, letter}
+use Rattle.ed_programs.proofs.Capitals.{AreLetters, are_rows, capitals_shown}
 use Rattle.ed_programs.proofs.MirrorEnds.{front, mirror_arrives, mirror_ends, mirror_entry, mirror_rows}
-use Rattle.ed_programs.proofs.RowTexts.{figure_spells, text_rows, text_spells}
+use Rattle.ed_programs.proofs.RowTexts.{few_figures, figure_spells, text_rows, text_spells}
 use Rattle.ed_programs.proofs.TapeRuns.{reads_spell, rows_in, tape_runs}
 use Rattle.ed_programs.proofs.TextLines.{all_plain}
 
@@ -27,14 +26,12 @@ module _ (letters : Text) (o : AreLetters 9 letters) where
   abbrev codes : List ℕ
   codes = text_rows letters
 
-  spelled : list_all (λ b. spells (row_of b)) letters ≡ true
-  spelled = (all_plain letters (are_rows letters o.capital)).spelled
-
   line_spells : Spells (mirror_line letters ++ 10 ∷ []) (length letters ∷ codes)
   line_spells =
       let all = spells_append (mirror_line letters) (length letters ∷ codes) (10 ∷ []) []
       (spells_append (decimal (length letters)) (length letters ∷ []) letters codes
-      (figure_spells (length letters) (omega (arith, o.few))) (text_spells letters spelled))
+      (figure_spells (length letters) (omega (arith, o.few)))
+      (text_spells letters (all_plain letters (are_rows letters o.capital)).spelled))
       (spacing 10 [] [] refl none) in
       subst (Spells (mirror_line letters ++ 10 ∷ [])) (append-nil (length letters ∷ codes)) all
 
@@ -52,16 +49,10 @@ printed_back : (q : Text) (more : List ℕ) → list_all is_capital q ≡ true
 printed_back [] more h = refl
 printed_back (b ∷ q) more h =
     let p = and_parts (is_capital b) (list_all is_capital q) h in
-    let l = letter b p.0 in
-    let a = l.struck_is in let c = l.no_figures in let d = l.no_letters in
+    let first = capitals_shown (b ∷ []) more (and_from _ _ p.0 refl) in
     let code : ℕ = code_of (row_of b) in
-    let first : paper_from Letters (code ∷ more) ≡ b ∷ paper_from Letters more = rw (c, d, a) refl in
-    ap (λ (x : List ℕ). paper_from Letters (x ++ more)) (reverse-append (code ∷ []) (text_rows q))
-    ∙ ap (paper_from Letters) (append_assoc (reverse (text_rows q)) (code ∷ []) more)
-    ∙ printed_back q (code ∷ more) p.1
-    ∙ ap (λ (t : Text). reverse q ++ t) first
-    ∙ sym (append_assoc (reverse q) (b ∷ []) (paper_from Letters more))
-    ∙ ap (λ (t : Text). t ++ paper_from Letters more) (sym (reverse-append (b ∷ []) q))
+    rw (reverse-append (code ∷ []) (text_rows q), append_assoc (reverse (text_rows q)) (code ∷ []) more,
+    printed_back q (code ∷ more) p.1, first, reverse-append (b ∷ []) q, append_assoc (reverse q) (b ∷ []))
 
 pub each_word : (s : Settings) (letters : Text) → AreLetters 9 letters
     → TapeRuns s (mirror_text letters) mirror_cost (mirror_orders letters) 91 (reverse letters)
@@ -75,22 +66,10 @@ each_word s (b ∷ q) o =
     let few = o.few in
     let reads : reading (mirror_text letters) ≡ rows (mirror_rows (length codes ∷ codes)) =
     text_reads letters o ∙ ap (λ n. rows (mirror_rows (n ∷ codes))) (sym long) in
-    let bytes = few_bytes (length letters) (omega (arith, few)) in
-    let number : length (written (digits (length letters))) ≡ length (decimal (length letters)) =
-    ap (λ (t : Text). length t) (decimal_is (length letters) (omega (arith, few))) in
-    let together = length-append (decimal (length letters)) letters in
-    let line = length-append (mirror_line letters) (10 ∷ []) in
-    let all = length-append front (mirror_line letters ++ 10 ∷ []) in
-    let before : length front ≤ 3000 = leb-true (length front) 3000 refl in
-    let short : length (mirror_text letters) ≤ INPUT_BYTES =
-    omega (arith, bytes, number, together, few, line, all, before) in
-    let runs = tape_runs s (mirror_text letters) (mirror_rows (length codes ∷ codes))
-    (mirror_entry (length codes ∷ codes)) reads short (mirror_arrives s.size (length codes ∷ codes))
-    (mirror_ends s (code_of (row_of b)) (text_rows q) are (omega (arith, long, few)))
-    (omega (arith, back, long, few)) in
-    let count : 21 * length codes + 2 + 1 ≡ mirror_orders letters = omega (arith, long) in
-    let shown : paper (reverse codes) ≡ reverse letters =
-    ap (paper_from Letters) (sym (append-nil (reverse codes))) ∙ printed_back letters [] o.capital
-    ∙ append-nil (reverse letters) in
-    subst (λ (t : Text). TapeRuns s (mirror_text letters) mirror_cost (mirror_orders letters) 91 t) shown
-    (subst (λ k. TapeRuns s (mirror_text letters) mirror_cost k 91 (paper (reverse codes))) count runs)
+    let figures = few_figures (length letters) (omega arith) in
+    let short : length (mirror_text letters) ≤ INPUT_BYTES = search (rules, figures, few, leb-true, length-append) in
+    tape_runs s (mirror_text letters) (mirror_rows (length codes ∷ codes)) (mirror_entry (length codes ∷ codes)) reads
+    short (mirror_arrives s.size (length codes ∷ codes))
+    (mirror_ends s (code_of (row_of b)) (text_rows q) are (omega arith)) (omega arith) (omega arith)
+    (ap (paper_from Letters) (sym (append-nil (reverse codes)))
+    ∙ printed_back letters [] o.capital ∙ append-nil (reverse letters))

@@ -1,11 +1,10 @@
 -- Texts whose bytes spell rows of tape.
-use Rattle.ed_programs.proofs.Kit.{none, Spells, are, decimal_is, row_bytes, rows_are, written, [], ap, arith, Bool}
-use Rattle.ed_programs.proofs.Kit.{decimal, false, get_or, if◌then◌else◌, length, List, map, nat_le, nat_lt, None}
-use Rattle.ed_programs.proofs.Kit.{Option, refl, Some, subst, suc, sym, true, ℕ, ◌%◌, ◌++◌, ◌-◌, ◌/◌, ◌<◌, ◌==◌, ◌∙◌}
-use Rattle.ed_programs.proofs.Kit.{◌∷◌, ◌≡◌, ◌≤◌, list_all, and_from, and_parts, eqb-true, leb-true, lt-ltb, ltb-true}
-use Rattle.ed_programs.proofs.Kit.{Text, row_of, row, spells, digits, without_zeros, true≢false, ◌&&◌}
+use Rattle.ed_programs.proofs.Kit.{few_bytes, bytes_eq, bytes_eq-Decides, among, arith, none, Spells, are, decimal_is}
+use Rattle.ed_programs.proofs.Kit.{row_bytes, rows_are, written, [], ap, Bool, decimal, false, get_or, if◌then◌else◌}
+use Rattle.ed_programs.proofs.Kit.{length, List, map, nat_le, nat_lt, None, Option, refl, Some, subst, suc, true, ℕ}
+use Rattle.ed_programs.proofs.Kit.{◌%◌, ◌-◌, ◌<◌, ◌==◌, ◌∙◌, ◌∷◌, ◌≡◌, ◌≤◌, list_all, and_parts, eqb-true, leb-true}
+use Rattle.ed_programs.proofs.Kit.{lt-ltb, ltb-true, Text, row_of, row, spells, digits, ◌&&◌}
 use Rattle.std.proofs.Common.{position}
-use Rattle.std.proofs.lemmas.List.Folds.{list_all_at}
 use Rattle.std.proofs.lemmas.List.Quantifiers.{position-Some}
 use Rattle.ed_codes.specs.Spelling.{letters}
 use Rattle.ed_codes.specs.Text.{row as one_row}
@@ -32,12 +31,9 @@ is_row_byte b = nat_lt b 128 && spells (row_of b)
 
 -- a letter of the tape is below 128
 letter_below : (i : ℕ) → i < length letters → get_or letters i 0 < 128
-letter_below i l = by_test (nat_lt (get_or letters i 0) 128) refl
-  where
-    by_test : (t : Bool) → nat_lt (get_or letters i 0) 128 ≡ t → get_or letters i 0 < 128
-    by_test true e = ltb-true (get_or letters i 0) 128 e
-    by_test false e =
-        absurd (true≢false (sym refl ∙ list_all_at (λ letter. nat_lt letter 128) letters i 0 l e))
+letter_below i l =
+    ltb-true (get_or letters i 0) 128
+    (among (λ i. nat_lt (get_or letters i 0) 128) 0 (length letters) i refl (omega arith) (omega arith))
 
 -- a byte that spells a row is below 128
 row_below : (b r : ℕ) → row_of b ≡ Some r → b < 128
@@ -63,10 +59,7 @@ spelled (b ∷ q) (r ∷ rows) e =
     let more : map row_of q ≡ map (λ r. Some r) rows = cc in
     let rest = spelled q rows more in
     let low : nat_lt b 128 ≡ true = lt-ltb b 128 (row_below b r first) in
-    let here : is_row_byte b ≡ true = and_from _ _ low (ap spells first) in (
-      and_from _ _ here rest.0,
-      (λ i. row (first i) ∷ rest.1 i),
-    )
+    rw (low, first, rest.0, rest.1) (refl, refl)
 
 pub rows_spelled : {q : Text} {rows : List ℕ} → AreRowsOf q rows
     → (list_all is_row_byte q ≡ true) × (text_rows q ≡ rows)
@@ -82,17 +75,16 @@ number_spells n small =
     (subst (Spells (written (digits n))) (rows_are (digits n) (are n below))
     (text_spells (written (digits n)) (row_bytes (digits n) (are n below))))
 
--- noughts in front of a number are left out
-pub no_thousands : (a b c d u : ℕ) → a ≡ 0 → b ≡ 0 → c ≡ 0
-    → without_zeros (a ∷ b ∷ c ∷ d ∷ []) ++ u ∷ [] ≡ without_zeros (d ∷ []) ++ u ∷ []
-no_thousands a b c d u p q r = rw (p, q, r) refl
+-- and has at most five bytes
+pub few_figures : (n : ℕ) → n ≤ 65535 → length (decimal n) ≤ 5
+few_figures n small =
+    let few = few_bytes n (omega arith) in let same = ap length (decimal_is n (omega arith)) in omega (arith, few, same)
 
 -- a number below 10 has one digit
 pub one_figure : (d : ℕ) → d < 10 → digits d ≡ d % 10 ∷ []
-one_figure d l =
-    no_thousands (d / 10000) (d / 1000 % 10) (d / 100 % 10) (d / 10 % 10) (d % 10) (omega arith) (omega arith)
-    (omega arith)
-    ∙ ap (λ (t : ℕ). without_zeros (t ∷ []) ++ d % 10 ∷ []) {y = 0} (omega arith)
+one_figure d few =
+    (bytes_eq-Decides (digits d) (d % 10 ∷ [])).0
+    (among (λ d. bytes_eq (digits d) (d % 10 ∷ [])) 0 10 d refl (omega arith) (omega arith))
 
 pub figure_spells : (n : ℕ) → n < 10 → Spells (decimal n) (n ∷ [])
 figure_spells n few =

@@ -1,16 +1,14 @@
 -- The outcome of a tape whose program reaches its stop, as the answer of the command `tape`.
-use Rattle.ed_programs.proofs.Kit.{String, Global, Size, has_one_reading, Settings, ReachesEntry, comes_in, Err}
-use Rattle.ed_programs.proofs.Kit.{Result, rows, Spells, INPUT_BYTES, exactly, OfReading, among, numbers, is_met, []}
-use Rattle.ed_programs.proofs.Kit.{ap, arith, codes, get_or, inl, length, List, None, Ok, Option, refl, subst, sym}
-use Rattle.ed_programs.proofs.Kit.{true, ℕ, ◌++◌, ◌+◌, ◌-◌, ◌∙◌, ◌∷◌, ◌≡◌, ◌≤◌, list_all, Text, paper, step, State}
-use Rattle.ed_programs.proofs.Kit.{Holds, run_end, ReachesStop, at_after, ran_outcome-answered, nothing_after, ran_to_stop}
-use Rattle.ed_programs.proofs.Kit.{tape_state, reading, TapeEntry, opening, reading_on, first_state, LeadsIn}
-use Rattle.ed_programs.proofs.Kit.{first_store, starts, Outcome, paper_room, ran_outcome, with_post_mortem}
+use Rattle.ed_programs.proofs.Kit.{String, Global, Size, has_one_reading, Settings, ReachesEntry, comes_in, Err, Result}
+use Rattle.ed_programs.proofs.Kit.{rows, Spells, INPUT_BYTES, exactly, OfReading, [], ap, arith, codes, inl, length}
+use Rattle.ed_programs.proofs.Kit.{List, None, Ok, refl, subst, sym, ℕ, ◌++◌, ◌+◌, ◌-◌, ◌∙◌, ◌∷◌, ◌≡◌, ◌≤◌, Text, paper}
+use Rattle.ed_programs.proofs.Kit.{step, State, run_end, ReachesStop, at_after, ran_outcome-answered, nothing_after}
+use Rattle.ed_programs.proofs.Kit.{ran_to_stop, tape_state, reading, TapeEntry, opening, reading_on, first_state}
+use Rattle.ed_programs.proofs.Kit.{LeadsIn, first_store, starts, Outcome, paper_room, ran_outcome, with_post_mortem}
 use Rattle.ed_programs.proofs.Kit.{tape_outcome, GivesProgram, TapeRuns, Refusal}
 use Rattle.ed_laws.proofs.Kit.{cleared_cells, RunEnd, ran_later, Arrived, first_directive, reading_is_rules, run_of}
 use Rattle.ed_laws.proofs.Kit.{opening_notation}
 use Rattle.ed_codes.specs.Reading.{IsReadingOf, no_row, open_comment}
-use Rattle.ed_sources.proofs.Entries.{meets_of}
 use Rattle.ed_programs.specs.Tapes.{TapePrints}
 
 -- a text whose reading is rows spells them
@@ -20,15 +18,6 @@ reads_spell text codes is = subst (IsReadingOf text) is (has_one_reading.every t
 -- the rows of a text, none if it has a fault
 abbrev pub rows_in : Text → List ℕ
 rows_in text = elim (reading text) [ rows codes ↦ codes | no_row place byte ↦ [] | open_comment place ↦ [] ]
-
--- an image is in words, by one test
-pub holds_in : (words : List ℕ) (image : List (Option ℕ)) (base : ℕ)
-    → list_all (λ i. is_met (get_or image i None) (get_or words (base + i) 0)) (numbers 0 (length image)) ≡ true
-    → Holds image words base
-holds_in words image base test i l =
-    meets_of (get_or image i None) (get_or words (base + i) 0)
-    (among (λ i. is_met (get_or image i None) (get_or words (base + i) 0)) 0 (length image) i test (omega arith)
-    (omega arith))
 
 -- rows are read to an entry from a cleared store, and from the store after Start, where the reading of the Initial
 -- Orders begins; both are computed
@@ -57,18 +46,19 @@ module _ {z : Size} {tape_rows : List ℕ} {e : TapeEntry} (o : Arrives z tape_r
   leads_on = comes_in first e (first_store z tape_rows) (starts z tape_rows) comes_on
 
 -- a text that spells these rows, which reach this entry, and whose program reaches its stop from there
-pub tape_runs : (s : Settings) (tape : Text) (tape_rows : List ℕ) (e : TapeEntry) {k at : ℕ} {printed : List ℕ}
+pub tape_runs : (s : Settings) (tape : Text) (tape_rows : List ℕ) (e : TapeEntry) {k orders at : ℕ} {printed : List ℕ}
+    {text : Text}
     → reading tape ≡ rows tape_rows → length tape ≤ INPUT_BYTES → Arrives s.size tape_rows e
-    → ReachesStop k (tape_state s tape_rows e) printed at → length printed ≤ paper_room
-    → TapeRuns s tape e.cost (k + 1) at (paper printed)
-tape_runs s tape tape_rows e {k} {at} {printed} reads short arrives stops few =
+    → ReachesStop k (tape_state s tape_rows e) printed at → length printed ≤ paper_room → k + 1 ≡ orders
+    → paper printed ≡ text → TapeRuns s tape e.cost orders at text
+tape_runs s tape tape_rows e {k} {orders} {at} {printed} reads short arrives stops few total shown =
     let rules = reading_is_rules s.size cleared_cells.words opening_notation 9 tape_rows first_directive in
     let in_order = leads_on arrives in
     let first : State = tape_state s tape_rows e in
     let left : ℕ = s.limit - e.cost in
     let none = (fresh arrives).2 in
-    let count : (step stops.last).state.orders ≡ e.cost + (k + 1) = omega (arith, stops.orders, none) in
-    record {
+    let count : (step stops.last).state.orders ≡ e.cost + orders = omega (arith, stops.orders, none) in
+    subst (λ (t : Text). TapeRuns s tape e.cost orders at t) shown (record {
       codes_of = tape_rows;
       spelled = reads;
       entry = e;
@@ -87,11 +77,11 @@ tape_runs s tape tape_rows e {k} {at} {printed} reads short arrives stops few =
           ∙ ran_outcome-answered [] (run_end left 0 paper_room first) ended stops.counter count in
           let due : Outcome = record {
             out = paper printed;
-            note = at_after (codes "stopped") at (e.cost + (k + 1)) ++ 10 ∷ [];
+            note = at_after (codes "stopped") at (e.cost + orders) ++ 10 ∷ [];
             status = 0;
           } in
           inl (short, subst (λ r. OfReading (exactly (tape_outcome s)) r due) (sym reads) answer);
-    }
+    })
 
 -- a law of a tape's text is one of the text that is answered
 pub tape_prints_of : {cost orders at : ℕ} {tape printed : Text} (r : Result (String Global) Refusal)

@@ -1,18 +1,18 @@
 -- The source of `examples/total.edsac` for any list: its path, and what it prints.
 use Rattle.ed_programs.proofs.Kit.{Z_F, Size, G_stays, Z, Settings, Line, sum_by, along, IsIn, Journey, stop_after}
 use Rattle.ed_programs.proofs.Kit.{then, to_stop, E_jumps, S, T, print_line, get_own, frame_at, moment_at, []}
-use Rattle.ed_programs.proofs.Kit.{append-nil, arith, false, length, List, lit<, lit≤, map, nat_le, nat_lt, refl, sym}
-use Rattle.ed_programs.proofs.Kit.{true, ℕ, ◌*◌, ◌++◌, ◌+◌, ◌-◌, ◌<◌, ◌∙◌, ◌∷◌, ◌≡◌, ◌≤◌, list_all, and_from}
-use Rattle.ed_programs.proofs.Kit.{and_parts, leb-true, lt-ltb, sum_by-cons, Text, Frame, Moment, short, state, A}
-use Rattle.ed_programs.proofs.Kit.{G_jumps, on, stay, own, settings, parameter_store, digits, print_orders, few_digits}
-use Rattle.ed_programs.proofs.Kit.{ReachesStop, entry_state, digits_printed, numbers_text, SourceRuns, total_text}
-use Rattle.ed_programs.proofs.Kit.{HasRead, reads_number, are_small, number_rows, stops_from_entry, Marked}
+use Rattle.ed_programs.proofs.Kit.{append-nil, arith, false, length, List, lit<, lit≤, map, nat_le, refl, sym, true, ℕ}
+use Rattle.ed_programs.proofs.Kit.{◌*◌, ◌++◌, ◌+◌, ◌-◌, ◌<◌, ◌∙◌, ◌∷◌, ◌≡◌, ◌≤◌, list_all, and_from, and_parts}
+use Rattle.ed_programs.proofs.Kit.{leb-true, lt-ltb, sum_by-cons, Text, Frame, Moment, short, state, A, G_jumps, on}
+use Rattle.ed_programs.proofs.Kit.{stay, own, settings, parameter_store, digits, print_orders, few_digits, ReachesStop}
+use Rattle.ed_programs.proofs.Kit.{entry_state, digits_printed, numbers_text, SourceRuns, total_text, reads_number}
+use Rattle.ed_programs.proofs.Kit.{are_small, number_rows, stops_from_entry, Marked, to, calling, journey_counted}
+use Rattle.ed_programs.proofs.Kit.{stop_counted, HasPair, pair_after, pair_at_entry}
 use Rattle.std.specs.Fmt.{decimal}
 use Rattle.ed_routines.specs.Digits.{sum}
 use Rattle.ed_programs.specs.Total.{total_orders}
 use Rattle.ed_programs.specs.declared.total.TheConstants.{TOTAL}
 use Rattle.ed_programs.proofs.DataLines.{list_mark}
-use Rattle.ed_programs.proofs.Kit.{to, calling, journey_counted, stop_counted, HasPair, pair_after, pair_at_entry}
 use Rattle.ed_programs.proofs.NumberLists.{ended_small, ended_some}
 use Rattle.ed_programs.proofs.SourceRuns.{lines_of_pieces, program_runs}
 
@@ -20,17 +20,9 @@ use Rattle.ed_programs.proofs.SourceRuns.{lines_of_pieces, program_runs}
 abbrev pub total_pieces : List Text
 total_pieces = map (λ piece. piece.now) TOTAL
 
--- the orders for numbers
-abbrev adding_orders : List ℕ → ℕ
-adding_orders [] = 0
-adding_orders (n ∷ ns) = 13 * length (digits n) + 20 + adding_orders ns
-
-additions_are : (ns : List ℕ) → adding_orders ns ≡ sum_by (λ n. 13 * length (digits n) + 20) ns
-additions_are [] = refl
-additions_are (n ∷ ns) =
-    let rest = additions_are ns in
-    let all = sum_by-cons (λ n. 13 * length (digits n) + 20) n ns in
-    omega (arith, rest, all)
+-- the orders for a number
+abbrev adding_orders : ℕ → ℕ
+adding_orders n = 13 * length (digits n) + 20
 
 -- its words, with the three cells that change
 abbrev cells : ℕ → ℕ → ℕ → List ℕ
@@ -56,13 +48,12 @@ module _ (z : Size) (m : Moment) where
   -- the numbers are read and added to a sum, it is printed, and the machine stops
   stops : (ns : List ℕ) (so_far all value : ℕ) (words : List ℕ) → HasPair f words 74 98 13 14
       → list_all (λ n. nat_le 1 n) ns ≡ true → so_far + sum ns ≡ all → all < 65536 → (done : ℕ)
-      → ReachesStop (adding_orders ns + print_orders all + 32)
+      → ReachesStop (sum_by adding_orders ns + print_orders all + 32)
       (state f (at 0 words 0 value so_far 0 (number_rows (ns ++ 0 ∷ []))) done) (11 ∷ digits all) 69
   stops [] so_far all value words has least is small done =
       let start : IsIn f (at 0 words 0 value so_far 0 (number_rows (0 ∷ []))) =
       record { above = lit≤ tt; all = has.all; own = refl } in
-      let one : HasRead start 0 13 74 0 [] =
-      reads_number start 0 13 0 [] has.reads refl (lit< tt) (lit< tt) (lit≤ tt) refl refl refl in
+      let one = reads_number start 0 13 0 [] has.reads refl (lit< tt) (lit< tt) (lit≤ tt) refl refl refl in
       let read = pair_after one has in
       let last : IsIn f (at 10 one.words 0 0 so_far 131071 []) =
       record { above = lit≤ tt; all = read.all; own = refl } in
@@ -77,13 +68,13 @@ module _ (z : Size) (m : Moment) where
       (Z 12 Z_F refl refl) done) (omega arith)
   stops (n ∷ ns) so_far all value words has least is small done =
       let l = and_parts (nat_le 1 n) (list_all (λ n. nat_le 1 n) ns) least in
+      let orders = sum_by-cons adding_orders n ns in
       let some = leb-true 1 n l.0 in
       let rest : List ℕ = number_rows (ns ++ 0 ∷ []) in
       let start : IsIn f (at 0 words 0 value so_far 0 (digits n ++ 17 ∷ rest)) =
       record { above = lit≤ tt; all = has.all; own = refl } in
-      let one : HasRead start 0 13 74 n rest =
-      reads_number start 0 13 n rest has.reads refl (omega (arith, is, small)) (lit< tt) (lit≤ tt) refl refl refl in
-      let turn : Journey f (13 * length (digits n) + 20)
+      let one = reads_number start 0 13 n rest has.reads refl (omega arith) (lit< tt) (lit≤ tt) refl refl refl in
+      let turn : Journey f (adding_orders n)
       (at 0 words 0 value so_far 0 (digits n ++ 17 ∷ rest)) [] (at 0 one.words 0 n (so_far + n) 0 rest) =
       journey_counted (then one.journey (along (on (A 2 (own 13) (short n) refl (omega arith))
       (on (S 3 (own 15) (short (n - 1)) refl (omega arith))
@@ -94,12 +85,11 @@ module _ (z : Size) (m : Moment) where
       (on (E_jumps 8 (own 0) refl (lit< tt)) stay))))))))) (omega arith) in
       stop_counted (stop_after (turn.leads done) refl
       (stops ns (so_far + n) all n one.words (pair_after one has) l.1 (omega (arith, is)) small
-      (done + (13 * length (digits n) + 20)))) (omega arith)
+      (done + adding_orders n))) (omega arith)
 
 sum_bounds : (ns : List ℕ) → sum ns < 65536 → are_small ns ≡ true
 sum_bounds [] l = refl
-sum_bounds (n ∷ ns) l =
-    and_from (nat_lt n 65536) (are_small ns) (lt-ltb n 65536 (omega arith)) (sum_bounds ns (omega arith))
+sum_bounds (n ∷ ns) l = and_from _ _ (lt-ltb n 65536 (omega arith)) (sum_bounds ns (omega arith))
 
 module _ (ns : List ℕ) (least : list_all (λ n. nat_le 1 n) ns ≡ true) (small : sum ns < 65536)
     (fits : length (numbers_text (ns ++ 0 ∷ [])) ≤ 113) where
@@ -119,11 +109,10 @@ module _ (ns : List ℕ) (least : list_all (λ n. nat_le 1 n) ns ≡ true) (smal
   each_total s =
       let z : Size = s.size in
       let few = few_digits (sum ns) in
-      let orders = additions_are ns in
       program_runs s false total_pieces texts marks refl
       (stops_from_entry z lines refl 17 (lit≤ tt) (cells 0 0 0) refl refl (number_rows (ns ++ 0 ∷ []))
       (sym (append-nil (number_rows (ns ++ 0 ∷ []))))
       (stops z (moment_at (entry_state z lines)) ns 0 (sum ns) 0 (entry_state z lines).store.words
       (pair_at_entry z lines 17 (lit≤ tt) 74 98 13 14 refl (lit≤ tt) (lit≤ tt) (lit≤ tt)) least (omega arith)
       small (entry_state z lines).orders))
-      (omega arith) (omega (arith, orders)) (digits_printed (sum ns) small)
+      (omega arith) (omega arith) (digits_printed (sum ns) small)
