@@ -34,6 +34,14 @@ pub record Given : Type 0 where
   pub at2 : get_or around.words 2 0 ≡ 2
   pub prints : HasRoutine f around.words print p (with_h (f.base + 20))
 
+-- what holds in either case of a test of two numbers
+pub by_less : (P : Bool → Type 0) (a b : ℕ) → (a < b → P true) → (b ≤ a → P false) → P (nat_lt a b)
+by_less P a b less least = by_test (nat_lt a b) refl
+  where
+    by_test : (c : Bool) → nat_lt a b ≡ c → P c
+    by_test true is = less (ltb-true a b is)
+    by_test false is = least (ltb-false a b is)
+
 -- numbers are in words from a location upwards
 abbrev pub Stand : List ℕ → ℕ → List ℕ → Type 0
 Stand ws q [] = Unit {0}
@@ -70,24 +78,18 @@ orders x n = orders_by (nat_lt n x.most)
 -- the number of orders of all turns, and which number is the greatest after them
 spent_is : (x : Turning) (ns : List ℕ) → all_spent orders next x ns ≡ 13 * length ns + 3 * rises x.most ns
 spent_is x [] = omega arith
-spent_is x (n ∷ ns) = by_test (λ y. spent_is y ns) (nat_lt n x.most)
-  where
-    by_test : ((y : Turning) → all_spent orders next y ns ≡ 13 * length ns + 3 * rises y.most ns) → (b : Bool)
-        → orders_by b + all_spent orders next (next_by b x n ns) ns
-        ≡ 13 * length (n ∷ ns) + 3 * (if b then rises x.most ns else 1 + rises n ns)
-    by_test each true = let e = each (next_by true x n ns) in omega (arith, e)
-    by_test each false = let e = each (next_by false x n ns) in omega (arith, e)
+spent_is x (n ∷ ns) =
+    by_less (λ b. orders_by b + all_spent orders next (next_by b x n ns) ns
+    ≡ 13 * length (n ∷ ns) + 3 * (if b then rises x.most ns else 1 + rises n ns)) n x.most
+    (λ l. let e = spent_is (next_by true x n ns) ns in omega (arith, e))
+    (λ l. let e = spent_is (next_by false x n ns) ns in omega (arith, e))
 
 most_is : (x : Turning) (ns : List ℕ) → (walked next x ns).most ≡ max x.most (greatest_of ns)
 most_is x [] = omega arith
-most_is x (n ∷ ns) = by_test (λ y. most_is y ns) (nat_lt n x.most) refl
-  where
-    by_test : ((y : Turning) → (walked next y ns).most ≡ max y.most (greatest_of ns)) → (b : Bool)
-        → nat_lt n x.most ≡ b → (walked next (next_by b x n ns) ns).most ≡ max x.most (max n (greatest_of ns))
-    by_test each true is =
-        let e = each (next_by true x n ns) in let less = ltb-true n x.most is in omega (arith, e)
-    by_test each false is =
-        let e = each (next_by false x n ns) in let least = ltb-false n x.most is in omega (arith, e)
+most_is x (n ∷ ns) =
+    by_less (λ b. (walked next (next_by b x n ns) ns).most ≡ max x.most (max n (greatest_of ns))) n x.most
+    (λ l. let e = most_is (next_by true x n ns) ns in omega (arith, e))
+    (λ l. let e = most_is (next_by false x n ns) ns in omega (arith, e))
 
 module _ (given : Given) where
   open given use {f, e, p, around, above, all, at2, room}
