@@ -136,18 +136,3 @@ module _ {two : Bool} (k : ℕ) (ns : List ℕ) (later : 2 ≤ k) (some : 1 ≤ 
     statement = statements.Rows (array (number_rows ns));
     says = data_says two k ns later some fits small;
   }
-
--- a list of a known length by its numbers
-abbrev pub listed : ℕ → ℕ → List ℕ → List ℕ
-listed i zero ns = []
-listed i (suc k) ns = get_or ns i 0 ∷ listed (i + 1) k ns
-
-listed_from : (i k : ℕ) (ns : List ℕ) → i + k ≡ length ns → listed i k ns ≡ drop i ns
-listed_from i zero ns e = sym (drop_all i ns (omega arith))
-listed_from i (suc k) ns e =
-    let next : i + 1 ≡ suc i = omega arith in
-    ap (λ (xs : List ℕ). get_or ns i 0 ∷ xs) (listed_from (i + 1) k ns (omega arith) ∙ ap (λ j. drop j ns) next)
-    ∙ sym (drop-cons ns i 0 (omega arith))
-
-pub listed_is : (k : ℕ) (ns : List ℕ) → length ns ≡ k → listed 0 k ns ≡ ns
-listed_is k ns e = listed_from 0 k ns (omega arith)

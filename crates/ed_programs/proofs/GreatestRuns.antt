@@ -7,7 +7,7 @@ use Rattle.ed_programs.proofs.Kit.{ReachesStop, entry_state, digits_printed, gre
 use Rattle.ed_programs.proofs.Kit.{spread_pieces, are_small, routine_after, stops_from_entry, Marked}
 use Rattle.ed_programs.specs.Greatest.{greatest_orders, greatest_text}
 use Rattle.ed_programs.specs.declared.greatest.TheConstants.{GREATEST}
-use Rattle.ed_programs.proofs.DataLines.{listed, listed_is, small_at}
+use Rattle.ed_programs.proofs.DataLines.{small_at}
 use Rattle.ed_programs.proofs.GreatestProgram.{Given, Stand, Turning, cells, getting, greatest_stops}
 use Rattle.ed_programs.proofs.NumberLines.{plain_mark, word_mark}
 use Rattle.ed_programs.proofs.ProgramEntry.{words_from}
@@ -93,10 +93,5 @@ module _ (a b c d e f g h : ℕ) (small : are_small (a ∷ b ∷ c ∷ d ∷ e �
 
 pub each_greatest : (s : Settings) (ns : List ℕ) → length ns ≡ 8 → are_small ns ≡ true
     → SourceRuns s (greatest_text ns) (greatest_orders ns) 76 (decimal (greatest_of ns))
-each_greatest s ns eight small =
-    let is = listed_is 8 ns eight in
-    let all : are_small (listed 0 8 ns) ≡ true = ap are_small is ∙ small in
-    subst (λ (ns : List ℕ). SourceRuns s (greatest_text ns) (greatest_orders ns) 76 (decimal (greatest_of ns))) is
-    (eight_run (get_or ns 0 0) (get_or ns 1 0) (get_or ns 2 0) (get_or ns 3 0) (get_or ns 4 0) (get_or ns 5 0)
-    (get_or ns 6 0)
-    (get_or ns 7 0) all s)
+each_greatest s (a ∷ b ∷ c ∷ d ∷ e ∷ f ∷ g ∷ h ∷ []) eight small = eight_run a b c d e f g h small s
+each_greatest s ns eight small = absurd (omega arith)

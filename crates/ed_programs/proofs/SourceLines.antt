@@ -15,35 +15,7 @@ use Rattle.ed_syntax.specs.declared.fault.SourceCause.TheVariants.{BadByte, Long
 use Rattle.ed_syntax.specs.declared.program.Line.{Line}
 use Rattle.ed_syntax.specs.declared.program.Statement.{Statement}
 use Rattle.ed_sources.proofs.TextLines.{lines_back}
-
--- what the lines from a number upwards say
-pub data Says (two : Bool) : ℕ → List Text → List Line → Type 0 where
-  ends : {k : ℕ} → Says two k [] []
-  says : {k : ℕ} {line : Text} {lines : List Text} {l : Line} {program : List Line}
-      → ((rest : List Line) → and_lines k (line_of two k line) (Ok rest) ≡ Ok (l ∷ rest))
-      → Says two (k + 1) lines program
-      → Says two k (line ∷ lines) (l ∷ program)
-
--- lines that say so are read so, if there are at most 2000
-pub said_lines : {two : Bool} {k : ℕ} {lines : List Text} {program : List Line} → Says two k lines program
-    → k + length lines ≤ 2001 → lines_from two k lines ≡ Ok program
-said_lines ends few = refl
-said_lines {two} {k} (says {line = line} {lines = lines} {program = program} here rest) few =
-    let within : (k == 2001) ≡ false = ne_eqb k 2001 (omega (arith, few)) in
-    ap (λ (t : Bool). if t then Err (record { line = k; cause = TooManyLines })
-    else and_lines k (line_of two k line) (lines_from two (k + 1) lines))
-    within
-    ∙ ap (and_lines k (line_of two k line)) (said_lines rest (omega (arith, few)))
-    ∙ here program
-
--- what a line says, by its parts
-pub by_parts : (two : Bool) {label : Option Text} {statement : Option Statement} (k : ℕ) (line : Text)
-    (parts : List LinePart) → list_all is_line_byte line ≡ true → length line ≤ 120 → parts_of line ≡ Some parts
-    → form_at two k parts ≡ Some (Some (record { label = label; statement = statement }))
-    → line_of two k line ≡ Ok (record { label = label; statement = statement })
-by_parts two k line parts plain short are is =
-    let fits : nat_lt 120 (length line) ≡ false = le-ltb 120 (length line) short in
-    rw (plain, fits, are, is) refl
+pub use Rattle.ed_sources.proofs.TextLines.{Says, by_parts, ends, reads as says, said_lines}
 
 -- ---- lines by computation
 
@@ -83,12 +55,14 @@ abbrev pub are_read : (two : Bool) → ℕ → List Text → List (Marked two) �
 are_read two k [] ms = true
 are_read two k (line ∷ lines) ms = (is_marked k ms || is_ok (line_of two k line)) && are_read two (k + 1) lines ms
 
--- the lines where the marks are, and those that they are for
-abbrev pub texts_at : {two : Bool} → List Text → List (Marked two) → List Text
-texts_at lines ms = map (λ m. get_or lines (m.number - 1) []) ms
+-- the text of a line as it is marked, and of each line
+abbrev pub text_said : {two : Bool} → ℕ → Text → List (Marked two) → Text
+text_said k line [] = line
+text_said k line (m ∷ ms) = if nat_eq m.number k then m.text else text_said k line ms
 
-abbrev pub marked_texts : {two : Bool} → List (Marked two) → List Text
-marked_texts ms = map (λ m. m.text) ms
+abbrev pub texts_said : {two : Bool} → ℕ → List Text → List (Marked two) → List Text
+texts_said k [] ms = []
+texts_said k (line ∷ lines) ms = text_said k line ms ∷ texts_said (k + 1) lines ms
 
 -- a line with a form is what is read first
 form_first : {F : Type 0} (and : Result F SourceCause → Result (List Line) Fault → Result (List Line) Fault)
@@ -98,47 +72,33 @@ form_first : {F : Type 0} (and : Result F SourceCause → Result (List Line) Fau
 form_first and each (Ok form) h rest = each form rest
 form_first and each (Err cause) h rest = absurd (cc)
 
-module _ (two : Bool) (all : List Text) where
-  -- so a line says what it is marked with or read as
-  read_so : (k : ℕ) (line : Text) (ms : List (Marked two)) → get_or all (k - 1) [] ≡ line
-      → texts_at all ms ≡ marked_texts ms
-      → (is_marked k ms || is_ok (line_of two k line)) ≡ true → (rest : List Line)
-      → and_lines k (line_of two k line) (Ok rest) ≡ Ok (line_said two k line ms ∷ rest)
-  read_so k line [] same marked read rest =
-      form_first (and_lines k) (λ form rest. refl) (line_of two k line) read rest
-  read_so k line (m ∷ ms) same marked read rest =
-      by_test (λ h. read_so k line ms same (ap (drop 1) marked) h rest) (nat_eq m.number k) refl read
-    where
-      by_test : ((is_marked k ms || is_ok (line_of two k line)) ≡ true
-          → and_lines k (line_of two k line) (Ok rest) ≡ Ok (line_said two k line ms ∷ rest))
-          → (b : Bool) → nat_eq m.number k ≡ b → ((b || is_marked k ms) || is_ok (line_of two k line)) ≡ true
-          → and_lines k (line_of two k line) (Ok rest)
-          ≡ Ok ((if b then marked_line m else line_said two k line ms) ∷ rest)
-      by_test other true e read =
-          let is : line_of two k line ≡ Ok (record { label = m.label; statement = Some m.statement }) =
-          ap (line_of two k) (sym same)
-          ∙ subst (λ n. line_of two n (get_or all (n - 1) []) ≡ Ok (record {
-            label = m.label;
-            statement = Some m.statement;
-          }))
-          (eqb-true m.number k e) (subst (λ (t : Text). line_of two m.number t ≡ Ok (record {
-            label = m.label;
-            statement = Some m.statement;
-          })) (sym (ap (λ (ts : List Text). get_or ts 0 []) marked)) m.says) in
-          (λ i. and_lines k (is i) (Ok rest))
-          ∙ ap (λ n. Ok (record { number = n; label = m.label; statement = Some m.statement } ∷ rest))
-          (sym (eqb-true m.number k e))
-      by_test other false e read = other read
+-- so a line says what it is marked with or read as
+read_so : (two : Bool) (k : ℕ) (line : Text) (ms : List (Marked two)) → text_said k line ms ≡ line
+    → (is_marked k ms || is_ok (line_of two k line)) ≡ true → (rest : List Line)
+    → and_lines k (line_of two k line) (Ok rest) ≡ Ok (line_said two k line ms ∷ rest)
+read_so two k line [] same read rest = form_first (and_lines k) (λ form rest. refl) (line_of two k line) read rest
+read_so two k line (m ∷ ms) same read rest = by_test (read_so two k line ms) (nat_eq m.number k) refl same read
+  where
+    by_test : (text_said k line ms ≡ line → (is_marked k ms || is_ok (line_of two k line)) ≡ true → (rest : List Line)
+        → and_lines k (line_of two k line) (Ok rest) ≡ Ok (line_said two k line ms ∷ rest))
+        → (b : Bool) → nat_eq m.number k ≡ b → (if b then m.text else text_said k line ms) ≡ line
+        → ((b || is_marked k ms) || is_ok (line_of two k line)) ≡ true
+        → and_lines k (line_of two k line) (Ok rest)
+        ≡ Ok ((if b then marked_line m else line_said two k line ms) ∷ rest)
+    by_test other true e same read =
+        let number = eqb-true m.number k e in
+        subst (λ n. and_lines n (line_of two n line) (Ok rest) ≡ Ok (marked_line m ∷ rest)) number
+        (subst (λ (t : Text). and_lines m.number (line_of two m.number t) (Ok rest) ≡ Ok (marked_line m ∷ rest)) same
+        (let says = m.says in λ i. and_lines m.number (says i) (Ok rest)))
+    by_test other false e same read = other same read rest
 
-  all_say : (ms : List (Marked two)) (k : ℕ) (lines : List Text) → texts_at all ms ≡ marked_texts ms → 1 ≤ k
-      → ((j : ℕ) → get_or all (k - 1 + j) [] ≡ get_or lines j []) → are_read two k lines ms ≡ true
-      → Says two k lines (lines_said two k lines ms)
-  all_say ms k [] marked low same read = ends
-  all_say ms k (line ∷ lines) marked low same read =
-      let p = and_parts (is_marked k ms || is_ok (line_of two k line)) (are_read two (k + 1) lines ms) read in
-      says (read_so k line ms (ap (λ j. get_or all j []) (omega arith) ∙ same 0) marked p.0)
-      (all_say ms (k + 1) lines marked (omega arith)
-      (λ j. ap (λ x. get_or all x []) (omega arith) ∙ same (suc j)) p.1)
+all_say : (two : Bool) (ms : List (Marked two)) (k : ℕ) (lines : List Text) → are_read two k lines ms ≡ true
+    → texts_said k lines ms ≡ lines → Says two k lines (lines_said two k lines ms)
+all_say two ms k [] read same = ends
+all_say two ms k (line ∷ lines) read same =
+    let p = and_parts (is_marked k ms || is_ok (line_of two k line)) (are_read two (k + 1) lines ms) read in
+    says (read_so two k line ms (ap (λ (ts : List Text). get_or ts 0 []) same) p.0)
+    (all_say two ms (k + 1) lines p.1 (ap (drop 1) same))
 
 -- a line that is read is one of a text, and short
 line_fine : {F : Type 0} (plain long : Bool) (r : Result F SourceCause)
@@ -169,9 +129,8 @@ said_fine {two} {k} (says {line = line} here rest) =
 
 -- a source is read as its lines say: all but the marked ones by computation
 pub source_said : (two : Bool) (lines : List Text) (ms : List (Marked two)) → are_read two 1 lines ms ≡ true
-    → texts_at lines ms ≡ marked_texts ms → Says two 1 lines (lines_said two 1 lines ms)
-source_said two lines ms read marked =
-    all_say two lines ms 1 lines marked (lit≤ tt) (λ j. ap (λ x. get_or lines x []) (omega arith)) read
+    → texts_said 1 lines ms ≡ lines → Says two 1 lines (lines_said two 1 lines ms)
+source_said two lines ms = all_say two ms 1 lines
 
 -- the program of the text of such lines is what they say
 pub source_read : (two : Bool) (lines : List Text) {program : List Line} → is_two lines ≡ two → Says two 1 lines program
