@@ -53,7 +53,7 @@ module _ (u l n : ℕ) (first : u < 65536) (some : 1 ≤ l) (few : l ≤ 6553) (
 
     ends : ReachesStop (13 * length (digits u) + 13 * length (digits l) + 13 * length (digits n) + divide_orders (u / l)
         + print_orders (u / l) + figure_orders u l n + 52) (entry_state z lines)
-        (11 ∷ digits (u / l) ++ 23 ∷ figure_codes u l n) 89
+        ((11 ∷ digits (u / l) ++ 23 ∷ []) ++ figure_codes u l n) 89
     unfolding settings
     ends =
         let work : Work = record { number = 0; low = 0; rest = 0; divisor = 0; scrap = 0 } in
@@ -67,7 +67,8 @@ module _ (u l n : ℕ) (first : u < 65536) (some : 1 ≤ l) (few : l ≤ 6553) (
   unfolding settings
   each_fraction s =
       let low : u / l < 65536 = quotient_small u l first some in
-      let a = length-append (digits (u / l)) (23 ∷ figure_codes u l n) in
+      let a = length-append (11 ∷ digits (u / l) ++ 23 ∷ []) (figure_codes u l n) in
+      let d = length-append (digits (u / l)) (23 ∷ []) in
       let b = few_digits (u / l) in
       let c = few_codes u l n in
       program_runs s true fraction_pieces (fraction_data u l n) marks refl (ends s.size) (omega arith) (omega arith)

@@ -3,7 +3,7 @@ use Rattle.ed_programs.proofs.Kit.{G_F, Z_F, Size, Full, Small, G_stays, O, Z, I
 use Rattle.ed_programs.proofs.Kit.{ExtentList, past, even_from, extent, fault_from, along, IsIn, then, to_stop, S, T}
 use Rattle.ed_programs.proofs.Kit.{U, prints, early, out, newline_line, followed, all_words, frame_at, moment_at, []}
 use Rattle.ed_programs.proofs.Kit.{ap, arith, codes, decimal, false, get_or, inr, length, length-append, List, lit<}
-use Rattle.ed_programs.proofs.Kit.{lit≤, map, nat_le, nat_lt, None, Ok, Option, pos, refl, reverse, rules, Some, subst}
+use Rattle.ed_programs.proofs.Kit.{lit≤, map, nat_le, nat_lt, None, Ok, Option, pos, refl, reverse, rules, Some, subst, sym}
 use Rattle.ed_programs.proofs.Kit.{take, true, ℕ, ◌*◌, ◌++◌, ◌+◌, ◌-◌, ◌<◌, ◌∙◌, ◌∷◌, ◌≡◌, ◌≤◌, list_all, le-leb}
 use Rattle.ed_programs.proofs.Kit.{le-ltb, leb-true, length-map, value, Text, least, row_of, paper, Frame, Moment}
 use Rattle.ed_programs.proofs.Kit.{short, state, A, G_jumps, on, Path, stay, own, run, sign, row, line_of}
@@ -21,7 +21,7 @@ use Rattle.ed_programs.proofs.Kit.{to, printing, Path-counted}
 use Rattle.ed_programs.proofs.ProgramEntry.{stops_by}
 use Rattle.ed_programs.proofs.RowTexts.{is_row_byte, rows_spelled, text_rows}
 use Rattle.ed_programs.proofs.SourceRuns.{read_runs}
-use Rattle.ed_programs.proofs.TextLines.{IsAround, all_plain, number_says, text_mark}
+use Rattle.ed_programs.proofs.TextLines.{IsAround, all_plain, number_mark, text_mark}
 use Rattle.ed_programs.proofs.TextPrograms.{Spells, before_text, last_lines, newline_after, text_sound, text_stands}
 use Rattle.ed_syntax.specs.declared.program.Operand.TheVariants as operands
 use Rattle.ed_syntax.specs.declared.program.Statement.TheVariants as statements
@@ -126,11 +126,11 @@ hello_lines rows =
     ∷ said 18 None (statements.Segment (codes "text") None)
     ∷ last_lines 19 (codes "letters") rows (codes "n") (codes "main")
 
-number_line : (n : ℕ) → n ≤ 1023
+number_line : (n m : ℕ) → m ≡ n → n ≤ 1023
     → IsAround true 16 (codes "_last: O letters+") (codes " F  ; the order behind the last letter")
     (run (codes "_last") ∷ sign 58 ∷ sign 79 ∷ run (codes "letters") ∷ sign 43 ∷ []) (sign 70 ∷ []) n
-    (Some (codes "_last")) (behind n)
-number_line n few = record {
+    (Some (codes "_last")) (behind m)
+number_line n m same few = record {
   plain = λ t h. h;
   tail_plain = refl;
   short = lit≤ tt;
@@ -139,7 +139,8 @@ number_line n few = record {
   parts = λ t ps h. rw h refl;
   form = λ bytes number is.
       let near : nat_le (value bytes) 1023 ≡ true = le-leb (value bytes) 1023 (omega (arith, is, few)) in
-      rw (number, near, is) refl;
+      let e = is ∙ sym same in
+      rw (number, near, e) refl;
 }
 
 -- where they stand, and that they have no fault
@@ -208,24 +209,9 @@ module _ (b : ℕ) (r : Text) (o : IsRowText (b ∷ r)) where
   few : length rows ≤ 41
   few = let f = o.few in omega (arith, long)
 
-  last_says : line_of true 16 (codes "_last: O letters+"
-      ++ (decimal (length q) ++ codes " F  ; the order behind the last letter"))
-      ≡ Ok (record { label = Some (codes "_last"); statement = Some (behind (length rows)) })
-  last_says =
-      subst (λ n. line_of true 16 (codes "_last: O letters+"
-      ++ (decimal n ++ codes " F  ; the order behind the last letter"))
-      ≡ Ok (record { label = Some (codes "_last"); statement = Some (behind (length rows)) })) long
-      (number_says (number_line (length rows) (omega (arith, few))) (omega (arith, few)))
-
   abbrev marks : List (Marked true)
   marks =
-      record {
-        number = 16;
-        text = codes "_last: O letters+" ++ (decimal (length q) ++ codes " F  ; the order behind the last letter");
-        label = Some (codes "_last");
-        statement = behind (length rows);
-        says = last_says;
-      }
+      number_mark (number_line (length q) (length rows) long (let f = o.few in omega arith)) (let f = o.few in omega arith)
       ∷ text_mark 19 (codes "letters") q (lit≤ tt) refl o.some (let f = o.few in omega arith) o.spelled ∷ []
 
   text_runs : (s : Settings) → SourceRuns s (hello_text q) (7 * length q + 9) 67 (paper (rows ++ 18 ∷ 24 ∷ []))

@@ -117,3 +117,13 @@ module _ {two : Bool} {k : ℕ} {front tail : Text} {before after : List LinePar
       (decimal_is n small)
       (with_bytes (written ds) some (line_bytes ds (are n small)) (few_bytes n small) (run_bytes ds (are n small))
       (a_number (written ds) some (digit_bytes ds (are n small))) (value_is n small))
+
+  -- such a line as a mark
+  abbrev pub number_mark : n < 65536 → Marked two
+  number_mark small = record {
+    number = k;
+    text = front ++ (decimal n ++ tail);
+    label = label;
+    statement = statement;
+    says = number_says small;
+  }
