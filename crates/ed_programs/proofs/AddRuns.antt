@@ -2,13 +2,13 @@
 use Rattle.ed_programs.proofs.Kit.{Z_F, Size, Z, Settings, Line, along, IsIn, then, to_stop, T, print_line, get_own}
 use Rattle.ed_programs.proofs.Kit.{frame_at, moment_at, [], append-nil, arith, false, length, List, lit<, lit≤, map}
 use Rattle.ed_programs.proofs.Kit.{refl, sym, true, ℕ, ◌*◌, ◌+◌, ◌<◌, ◌∷◌, ◌≡◌, lt-ltb, Text, Frame, Moment, short}
-use Rattle.ed_programs.proofs.Kit.{state, A, on, stay, own, settings, parameter_store, digits, print_orders}
-use Rattle.ed_programs.proofs.Kit.{few_digits, ReachesStop, entry_state, digits_printed, SourceRuns, HasRead}
-use Rattle.ed_programs.proofs.Kit.{reads_number, are_small, data_mark, number_rows, stops_from_entry, Marked}
+use Rattle.ed_programs.proofs.Kit.{state, A, on, stay, own, settings, parameter_store, digits, print_orders, few_digits}
+use Rattle.ed_programs.proofs.Kit.{ReachesStop, entry_state, digits_printed, SourceRuns, HasRead, reads_number}
+use Rattle.ed_programs.proofs.Kit.{are_small, data_mark, number_rows, stops_from_entry, Marked, to, calling}
+use Rattle.ed_programs.proofs.Kit.{stop_counted, HasPair, pair_after, pair_at_entry}
 use Rattle.std.specs.Fmt.{decimal}
 use Rattle.ed_programs.specs.Add.{add_orders, add_text}
 use Rattle.ed_programs.specs.declared.add.TheConstants.{ADD}
-use Rattle.ed_programs.proofs.Kit.{to, calling, stop_counted, HasPair, pair_after, pair_at_entry}
 use Rattle.ed_programs.proofs.SourceRuns.{lines_of_pieces, program_runs}
 
 -- the pieces of the source, and the numbers between them

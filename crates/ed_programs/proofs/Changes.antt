@@ -1,11 +1,11 @@
 -- A call of a routine that writes in a cell of the piece, as one line; and so `read`.
-use Rattle.ed_sources.proofs.Kit.{[], ap, arith, Bool, false, get_or, inl, inr, length, List, lit<, Option, refl}
-use Rattle.ed_sources.proofs.Kit.{rules, subst, sym, ℕ, ◌%◌, ◌*◌, ◌++◌, ◌+◌, ◌/◌, ◌<◌, ◌^◌, ◌∙◌, ◌∷◌, ◌≡◌, ◌≢◌, ◌≤◌}
-use Rattle.ed_sources.proofs.Kit.{◌⊎◌, cases_lt, locations, locations_most, State, Frame, Moment, short, state, joined, Leads, A}
-use Rattle.ed_sources.proofs.Kit.{G_jumps, leads, on, Path, stay, own, patched, place_count, read, with_h}
-use Rattle.ed_sources.proofs.Kit.{after_digits, digit_rows, digits, digits_value, IsOther, caller, IsLoadedAt}
-use Rattle.ed_sources.proofs.Kit.{IsCalled, digits_law, HasRoutine}
-use Rattle.ed_routines.proofs.Kit.{set, all_words, Jumps, Reads, any}
+use Rattle.ed_sources.proofs.Kit.{[], ap, arith, Bool, false, get_or, inl, inr, length, List, lit<, Option, refl, rules}
+use Rattle.ed_sources.proofs.Kit.{subst, sym, ℕ, ◌%◌, ◌*◌, ◌++◌, ◌+◌, ◌/◌, ◌<◌, ◌^◌, ◌∙◌, ◌∷◌, ◌≡◌, ◌≢◌, ◌≤◌, ◌⊎◌}
+use Rattle.ed_sources.proofs.Kit.{cases_lt, locations, locations_most, State, Frame, Moment, short, state, joined}
+use Rattle.ed_sources.proofs.Kit.{Leads, A, G_jumps, leads, on, Path, stay, own, patched, place_count, read, with_h}
+use Rattle.ed_sources.proofs.Kit.{after_digits, digit_rows, digits, digits_value, IsOther, caller, IsLoadedAt, IsCalled}
+use Rattle.ed_sources.proofs.Kit.{digits_law, HasRoutine}
+use Rattle.ed_routines.proofs.Kit.{set, Jumps, Reads, any}
 use Rattle.std.proofs.lemmas.List.{get_or-set_same, get_or-set_other, length-set}
 use Rattle.ed_words.specs.declared.order_words.TheConstants.{A_F}
 use Rattle.ed_machine.proofs.Kit.Frames.{all_digits}

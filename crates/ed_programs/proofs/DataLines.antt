@@ -1,12 +1,11 @@
 -- A line `data` with numbers, each ended by F: what it says, and what its rows are.
-use Rattle.ed_sources.proofs.Kit.{[], ap, arith, Bool, codes, decimal, drop, false, get_or, length, List, map, nat_lt}
-use Rattle.ed_sources.proofs.Kit.{None, not, Ok, refl, Some, subst, suc, sym, true, zero, ℕ, ◌*◌, ◌++◌, ◌+◌, ◌<◌, ◌==◌}
-use Rattle.ed_sources.proofs.Kit.{◌∙◌, ◌∷◌, ◌≡◌, ◌≤◌, list_all, and_from, and_parts, le-leb, lt-ltb, ltb-true, ne_eqb}
-use Rattle.ed_sources.proofs.Kit.{not-true, list_all-append, Text, row_of, is_line_byte, run, row, spells, line_of}
-use Rattle.ed_sources.proofs.Kit.{digits}
+use Rattle.ed_sources.proofs.Kit.{[], ap, arith, Bool, codes, decimal, false, get_or, length, List, map, nat_lt, None}
+use Rattle.ed_sources.proofs.Kit.{not, Ok, refl, Some, subst, suc, sym, true, zero, ℕ, ◌*◌, ◌++◌, ◌<◌, ◌==◌, ◌∙◌, ◌∷◌}
+use Rattle.ed_sources.proofs.Kit.{◌≡◌, ◌≤◌, list_all, and_from, and_parts, le-leb, lt-ltb, ltb-true, ne_eqb, not-true}
+use Rattle.ed_sources.proofs.Kit.{list_all-append, Text, row_of, is_line_byte, run, row, spells, line_of, digits}
 use Rattle.ed_syntax.proofs.Kit.{map-append, array, has_quote, quoted}
-use Rattle.std.proofs.Common.{Fits, drop-cons, slice_index_or, w16}
-use Rattle.std.proofs.lemmas.List.{drop_all, append_assoc, length-append}
+use Rattle.std.proofs.Common.{Fits, slice_index_or, w16}
+use Rattle.std.proofs.lemmas.List.{append_assoc, length-append}
 use Rattle.ed_syntax.proofs.PartLemmas.{quote_parts}
 use Rattle.ed_sources.proofs.Decimals.{are, decimal_is, few_bytes, line_bytes, no_quotes, row_bytes, rows_are, written}
 use Rattle.ed_programs.specs.Lists.{numbers_text}

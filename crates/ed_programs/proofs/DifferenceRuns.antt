@@ -1,15 +1,15 @@
 -- The source of `examples/difference.edsac` for any two numbers: its path, and what it prints.
 use Rattle.ed_programs.proofs.Kit.{Z_F, Size, E_stays, Z, Settings, ltb-false, Line, along, IsIn, then, to_stop}
-use Rattle.ed_programs.proofs.Kit.{E_jumps, S, T, print_line, get_own, frame_at, moment_at, [], append-nil, arith}
-use Rattle.ed_programs.proofs.Kit.{Bool, false, if◌then◌else◌, length, List, lit<, lit≤, map, nat_lt, refl, sym, true}
-use Rattle.ed_programs.proofs.Kit.{ℕ, ◌*◌, ◌+◌, ◌-◌, ◌<◌, ◌∷◌, ◌≡◌, lt-ltb, ltb-true, Text, Frame, Moment, short}
-use Rattle.ed_programs.proofs.Kit.{state, A, on, Path, stay, own, settings, parameter_store, digits, print_orders}
-use Rattle.ed_programs.proofs.Kit.{few_digits, ReachesStop, entry_state, digits_printed, SourceRuns, HasRead}
-use Rattle.ed_programs.proofs.Kit.{reads_number, are_small, data_mark, number_rows, stops_from_entry, Marked}
+use Rattle.ed_programs.proofs.Kit.{E_jumps, S, T, print_line, get_own, frame_at, moment_at, [], append-nil, arith, Bool}
+use Rattle.ed_programs.proofs.Kit.{false, if◌then◌else◌, length, List, lit<, lit≤, map, nat_lt, refl, sym, true, ℕ, ◌*◌}
+use Rattle.ed_programs.proofs.Kit.{◌+◌, ◌-◌, ◌<◌, ◌∷◌, ◌≡◌, lt-ltb, ltb-true, Text, Frame, Moment, short, state, A, on}
+use Rattle.ed_programs.proofs.Kit.{Path, stay, own, settings, parameter_store, digits, print_orders, few_digits}
+use Rattle.ed_programs.proofs.Kit.{ReachesStop, entry_state, digits_printed, SourceRuns, HasRead, reads_number}
+use Rattle.ed_programs.proofs.Kit.{are_small, data_mark, number_rows, stops_from_entry, Marked, to, calling}
+use Rattle.ed_programs.proofs.Kit.{stop_counted, HasPair, pair_after, pair_at_entry}
 use Rattle.std.specs.Fmt.{decimal}
 use Rattle.ed_programs.specs.Difference.{difference_orders, difference_text, distance}
 use Rattle.ed_programs.specs.declared.difference.TheConstants.{DIFFERENCE}
-use Rattle.ed_programs.proofs.Kit.{to, calling, stop_counted, HasPair, pair_after, pair_at_entry}
 use Rattle.ed_programs.proofs.SourceRuns.{lines_of_pieces, program_runs}
 
 -- the pieces of the source, and the numbers between them

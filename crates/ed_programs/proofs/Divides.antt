@@ -1,10 +1,9 @@
 -- A call of `divide` as one line: the three words are cells of the piece, and it writes two of them.
-use Rattle.ed_programs.proofs.Kit.{get_or-set_other, get_or-set_same, length-set, A_F, is_working, set, all_long}
-use Rattle.ed_programs.proofs.Kit.{beside_word, called, IsIn, Journey, stands, Jumps, Reads, any, get_own, [], ap}
-use Rattle.ed_programs.proofs.Kit.{arith, Bool, false, get_or, inl, inr, length, List, refl, rules, subst, sym, ℕ, ◌%◌, ◌*◌}
-use Rattle.ed_programs.proofs.Kit.{◌+◌, ◌/◌, ◌<◌, ◌∙◌, ◌≡◌, ◌≢◌, ◌≤◌, ◌⊎◌, cases_lt, locations, locations_most, short_at, State}
-use Rattle.ed_programs.proofs.Kit.{Frame, Moment, short, state, own, place_count, IsOther, IsLoadedAt, HasRoutine}
-use Rattle.ed_programs.proofs.Kit.{divide, divide_orders, with_hnm}
+use Rattle.ed_programs.proofs.Kit.{length-set, A_F, is_working, set, all_long, beside_word, called, IsIn, Journey}
+use Rattle.ed_programs.proofs.Kit.{stands, Jumps, Reads, any, get_own, [], arith, Bool, false, get_or, inl, inr, length}
+use Rattle.ed_programs.proofs.Kit.{List, refl, rules, subst, ℕ, ◌%◌, ◌*◌, ◌+◌, ◌/◌, ◌<◌, ◌∙◌, ◌≡◌, ◌≢◌, ◌≤◌, ◌⊎◌}
+use Rattle.ed_programs.proofs.Kit.{locations, locations_most, short_at, State, Frame, Moment, short, state, own}
+use Rattle.ed_programs.proofs.Kit.{place_count, IsOther, IsLoadedAt, HasRoutine, divide, divide_orders, with_hnm}
 use Rattle.ed_maths.proofs.Kit.{length_patched, IsOutside, within_size, dividend}
 use Rattle.ed_machine.proofs.Kit.Frames.{all_words}
 use Rattle.ed_programs.proofs.Changes.{after_change, changes, set_own, still_has}

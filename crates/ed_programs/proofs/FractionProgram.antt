@@ -1,13 +1,12 @@
 -- The program of `examples/fraction.edsac`, at any base and for all its numbers: division as on paper.
 use Rattle.ed_programs.proofs.Kit.{A_F, E_F, G_F, L_D, O_F, S_F, T_F, U_F, Z_F, G_stays, L1F, after_call, along}
 use Rattle.ed_programs.proofs.Kit.{elsewhere, has_after, IsIn, Journey, no_working, still_in, then, E_jumps, L, S, T}
-use Rattle.ed_programs.proofs.Kit.{Bool, Option, Reads, Jumps, any, A_F, U, LD, print_goes, print_left, print_line, get_own, [], append-nil}
-use Rattle.ed_programs.proofs.Kit.{arith, inl, inr, length, List, lit<, lit≤, refl, rules, Some, subst, suc, ℕ, ◌%◌, ◌*◌, ◌+◌}
-use Rattle.ed_programs.proofs.Kit.{◌/◌, ◌<◌, ◌∙◌, ◌∷◌, ◌≡◌, ◌≤◌, locations_most, Frame, Moment, short, A, on, Path, stay, own}
-use Rattle.ed_programs.proofs.Kit.{print, read, with_h, digits, print_orders, HasRoutine, divide, divide_orders}
-use Rattle.ed_programs.proofs.Kit.{with_hnm, HasRead}
+use Rattle.ed_programs.proofs.Kit.{Bool, Option, Reads, Jumps, any, U, LD, print_goes, print_left, print_line, get_own}
+use Rattle.ed_programs.proofs.Kit.{[], arith, inl, inr, length, List, lit<, lit≤, refl, rules, Some, subst, suc, ℕ, ◌%◌}
+use Rattle.ed_programs.proofs.Kit.{◌*◌, ◌+◌, ◌/◌, ◌<◌, ◌∙◌, ◌∷◌, ◌≡◌, ◌≤◌, locations_most, Frame, Moment, short, A, on}
+use Rattle.ed_programs.proofs.Kit.{Path, stay, own, print, read, with_h, digits, print_orders, HasRoutine, divide}
+use Rattle.ed_programs.proofs.Kit.{divide_orders, with_hnm, HasRead, journey_counted}
 use Rattle.ed_programs.proofs.Divides.{HasDivided, IsDivided, divide_line}
-use Rattle.ed_programs.proofs.Kit.{journey_counted}
 use Rattle.ed_programs.proofs.NumberShown.{then_on}
 
 -- the cells that change

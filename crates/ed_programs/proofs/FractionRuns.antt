@@ -1,10 +1,9 @@
 -- What the source of `examples/fraction.edsac` prints, for any fraction in range: its lines, its entry and its law.
-use Rattle.ed_programs.proofs.Kit.{Size, Settings, Line, all_words, frame_at, moment_at, [], append-nil, arith, length}
-use Rattle.ed_programs.proofs.Kit.{length-append, List, lit≤, map, refl, rules, true, ℕ, ◌*◌, ◌++◌, ◌+◌, ◌/◌, ◌<◌, ◌∷◌}
-use Rattle.ed_programs.proofs.Kit.{◌≡◌, ◌≤◌, lt-ltb, length-replicate, Text, settings, parameter_store, digits}
-use Rattle.ed_programs.proofs.Kit.{print_orders, few_digits, ReachesStop, divide_orders, entry_state, figure_orders}
-use Rattle.ed_programs.proofs.Kit.{SourceRuns, are_small, data_mark, number_rows, routine_after, stops_from_entry}
-use Rattle.ed_programs.proofs.Kit.{Marked}
+use Rattle.ed_programs.proofs.Kit.{length-append, ℕ, length-replicate, parameter_store, divide_orders, stops_from_entry}
+use Rattle.ed_programs.proofs.Kit.{print_orders, ReachesStop, entry_state, figure_orders, number_rows, routine_after}
+use Rattle.ed_programs.proofs.Kit.{Size, all_words, moment_at, append-nil, few_digits, SourceRuns, are_small, data_mark}
+use Rattle.ed_programs.proofs.Kit.{Settings, Line, frame_at, [], arith, length, rules, lt-ltb, settings, digits, Marked}
+use Rattle.ed_programs.proofs.Kit.{List, lit≤, map, refl, true, ◌*◌, ◌++◌, ◌+◌, ◌/◌, ◌<◌, ◌∷◌, ◌≡◌, ◌≤◌, Text}
 use Rattle.std.specs.Fmt.{decimal}
 use Rattle.ed_programs.specs.Fraction.{fraction_orders, fraction_prints, fraction_text}
 use Rattle.ed_programs.specs.declared.fraction.TheConstants.{FRACTION}

@@ -1,17 +1,16 @@
 -- The program of `examples/fraction.edsac` from its entry to its stop, and the figures that it prints.
 use Rattle.ed_programs.proofs.Kit.{div-lt_iff_lt-mul, mod-lt, div-add-mod, Z_F, Figures, O, Z, along, Journey}
-use Rattle.ed_programs.proofs.Kit.{stop_after, then, to_stop, S, T, prints, print_line, [], ap, append-nil}
-use Rattle.ed_programs.proofs.Kit.{append_assoc, arith, decimal, length, length-append, List, lit<, lit≤, refl, rules}
-use Rattle.ed_programs.proofs.Kit.{Some, subst, suc, sym, zero, ℕ, ◌%◌, ◌*◌, ◌++◌, ◌+◌, ◌/◌, ◌<◌, ◌^◌, ◌∙◌, ◌∷◌, ◌≡◌}
-use Rattle.ed_programs.proofs.Kit.{◌≤◌, Text, paper, Moment, short, state, A, G_jumps, on, Path, stay, own, digits}
-use Rattle.ed_programs.proofs.Kit.{print_orders, few_digits, ReachesStop, divide_orders, number_shown, paper_from}
-use Rattle.ed_programs.proofs.Kit.{figure_orders, HasRead, reads_number, number_rows}
+use Rattle.ed_programs.proofs.Kit.{stop_after, then, to_stop, S, T, prints, [], ap, append-nil, append_assoc, arith}
+use Rattle.ed_programs.proofs.Kit.{decimal, length, length-append, List, lit<, lit≤, refl, Some, subst, suc, sym, zero}
+use Rattle.ed_programs.proofs.Kit.{ℕ, ◌%◌, ◌*◌, ◌++◌, ◌+◌, ◌/◌, ◌<◌, ◌^◌, ◌∙◌, ◌∷◌, ◌≡◌, ◌≤◌, Text, paper, Moment}
+use Rattle.ed_programs.proofs.Kit.{short, state, A, G_jumps, on, Path, stay, own, digits, print_orders, few_digits}
+use Rattle.ed_programs.proofs.Kit.{ReachesStop, divide_orders, number_shown, paper_from, figure_orders, HasRead}
+use Rattle.ed_programs.proofs.Kit.{reads_number, number_rows, journey_counted, stop_counted}
 use Rattle.std.proofs.Math.Nat.{add-mul-div_left, add-mul-mod_self_left, mul_assoc, pow-succ'}
 use Rattle.ed_programs.specs.Fraction.{figure, figures}
 use Rattle.ed_programs.proofs.FractionProgram.{Given, IsAround, Turned, Work, after_read, at, divided, in_at, printed}
 use Rattle.ed_programs.proofs.FractionProgram.{turn}
 use Rattle.ed_programs.proofs.NumberShown.{then_on}
-use Rattle.ed_programs.proofs.Kit.{journey_counted, stop_counted}
 
 -- ---- division as on paper: the figure and what is left, by those of the place before
 

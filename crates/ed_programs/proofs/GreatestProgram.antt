@@ -1,12 +1,11 @@
 -- The program of `examples/answer6.edsac`, at any base and for a list of any length: two orders go along the list.
-use Rattle.ed_programs.proofs.Kit.{A_F, G_F, S_F, T_F, U_F, Z_F, all_spent, quiet_walks, walked, G_stays, Z, IsOutside}
-use Rattle.ed_programs.proofs.Kit.{ltb-false, along, IsIn, then, to_stop, S, T, U, early, out, print_line, followed}
-use Rattle.ed_programs.proofs.Kit.{get_own, [], ap, arith, Bool, false, get_or, if◌then◌else◌, inr, length, List, lit<}
-use Rattle.ed_programs.proofs.Kit.{lit≤, nat_lt, refl, subst, true, ℕ, ◌*◌, ◌+◌, ◌-◌, ◌<◌, ◌∙◌, ◌∷◌, ◌≡◌, ◌≤◌}
-use Rattle.ed_programs.proofs.Kit.{ltb-true, locations_most, Frame, Moment, short, state, A, G_jumps, on, Path, stay, own, print}
-use Rattle.ed_programs.proofs.Kit.{with_h, digits, print_orders, HasRoutine, ReachesStop, greatest_of, rises}
+use Rattle.ed_programs.proofs.Kit.{quiet_walks, if◌then◌else◌, locations_most, print_orders, ReachesStop, stop_counted}
+use Rattle.ed_programs.proofs.Kit.{all_spent, IsOutside, ltb-false, IsIn, print_line, followed, HasRoutine, greatest_of}
+use Rattle.ed_programs.proofs.Kit.{walked, G_stays, to_stop, get_own, get_or, length, nat_lt, ltb-true, Moment, G_jumps}
+use Rattle.ed_programs.proofs.Kit.{along, early, arith, false, subst, Frame, short, state, print, with_h, digits, rises}
+use Rattle.ed_programs.proofs.Kit.{A_F, G_F, S_F, T_F, U_F, Z_F, then, Bool, List, lit<, lit≤, refl, true, Path, stay}
+use Rattle.ed_programs.proofs.Kit.{Z, S, T, U, out, [], ap, inr, ℕ, ◌*◌, ◌+◌, ◌-◌, ◌<◌, ◌∙◌, ◌∷◌, ◌≡◌, ◌≤◌, A, on, own}
 use Rattle.std.proofs.Common.{max}
-use Rattle.ed_programs.proofs.Kit.{stop_counted}
 
 -- the order that gets the word at q
 abbrev pub getting : ℕ → ℕ

@@ -1,8 +1,8 @@
 -- What the source of `examples/answer6.edsac` prints, for any eight numbers: its lines, its entry and its law.
 use Rattle.ed_programs.proofs.Kit.{Size, Settings, Line, all_words, have_places, placed, word_at, frame_at, moment_at}
 use Rattle.ed_programs.proofs.Kit.{[], ap, arith, codes, decimal, drop, get_or, length, List, lit<, lit≤, map, nat_lt}
-use Rattle.ed_programs.proofs.Kit.{refl, subst, true, ℕ, ◌*◌, ◌+◌, ◌<◌, ◌∙◌, ◌∷◌, ◌≡◌, ◌≤◌, and_parts, ltb-true, Text}
-use Rattle.ed_programs.proofs.Kit.{least, settings, parameter_store, print, with_h, digits, print_orders, few_digits}
+use Rattle.ed_programs.proofs.Kit.{refl, true, ℕ, ◌*◌, ◌+◌, ◌<◌, ◌∙◌, ◌∷◌, ◌≡◌, ◌≤◌, and_parts, ltb-true, Text, least}
+use Rattle.ed_programs.proofs.Kit.{settings, parameter_store, print, with_h, digits, print_orders, few_digits}
 use Rattle.ed_programs.proofs.Kit.{ReachesStop, entry_state, digits_printed, greatest_of, rises, SourceRuns}
 use Rattle.ed_programs.proofs.Kit.{spread_pieces, are_small, routine_after, stops_from_entry, Marked}
 use Rattle.ed_programs.specs.Greatest.{greatest_orders, greatest_text}

@@ -1,15 +1,14 @@
 -- The source of `examples/hello.edsac` for any text: its lines, its path, and what it prints.
 use Rattle.ed_programs.proofs.Kit.{G_F, Z_F, Size, Full, Small, G_stays, O, Z, IsOutside, Settings, Line, Statement}
-use Rattle.ed_programs.proofs.Kit.{ExtentList, past, even_from, extent, fault_from, along, IsIn, then, to_stop, S, T}
-use Rattle.ed_programs.proofs.Kit.{U, prints, early, out, newline_line, followed, all_words, frame_at, moment_at, []}
-use Rattle.ed_programs.proofs.Kit.{ap, arith, codes, decimal, false, get_or, inr, length, length-append, List, lit<}
-use Rattle.ed_programs.proofs.Kit.{lit≤, map, nat_le, nat_lt, None, Ok, Option, pos, refl, reverse, rules, Some, subst, sym}
-use Rattle.ed_programs.proofs.Kit.{take, true, ℕ, ◌*◌, ◌++◌, ◌+◌, ◌-◌, ◌<◌, ◌∙◌, ◌∷◌, ◌≡◌, ◌≤◌, list_all, le-leb}
-use Rattle.ed_programs.proofs.Kit.{le-ltb, leb-true, length-map, value, Text, least, row_of, paper, Frame, Moment}
-use Rattle.ed_programs.proofs.Kit.{short, state, A, G_jumps, on, Path, stay, own, run, sign, row, line_of}
-use Rattle.ed_programs.proofs.Kit.{first_counter, fault, linked_words, symbols_of, counter, newline, HasRoutine}
-use Rattle.ed_programs.proofs.Kit.{ReachesStop, entry_state, said, hello_text, is_capital, of_letters, SourceRuns}
-use Rattle.ed_programs.proofs.Kit.{Marked}
+use Rattle.ed_programs.proofs.Kit.{ExtentList, past, even_from, extent, fault_from, along, IsIn, then, to_stop, S, T, U}
+use Rattle.ed_programs.proofs.Kit.{prints, early, out, newline_line, followed, all_words, frame_at, moment_at, [], ap}
+use Rattle.ed_programs.proofs.Kit.{arith, codes, decimal, false, get_or, inr, length, length-append, List, lit<, lit≤}
+use Rattle.ed_programs.proofs.Kit.{map, nat_le, nat_lt, None, Option, pos, refl, reverse, rules, Some, subst, sym, take}
+use Rattle.ed_programs.proofs.Kit.{true, ℕ, ◌*◌, ◌++◌, ◌+◌, ◌-◌, ◌<◌, ◌∙◌, ◌∷◌, ◌≡◌, ◌≤◌, list_all, le-leb, le-ltb}
+use Rattle.ed_programs.proofs.Kit.{leb-true, length-map, value, Text, least, row_of, paper, Frame, Moment, short, state}
+use Rattle.ed_programs.proofs.Kit.{A, G_jumps, on, Path, stay, own, run, sign, row, first_counter, fault, linked_words}
+use Rattle.ed_programs.proofs.Kit.{symbols_of, counter, newline, HasRoutine, ReachesStop, entry_state, said, hello_text}
+use Rattle.ed_programs.proofs.Kit.{is_capital, of_letters, SourceRuns, Marked, to, printing, Path-counted}
 use Rattle.ed_link.proofs.Kit.{resolution, earlier_fault, missing}
 use Rattle.ed_link.proofs.Extents.{one_by_one}
 use Rattle.ed_sources.proofs.Blocks.{order_at}
@@ -17,7 +16,6 @@ use Rattle.ed_sources.proofs.Said.{order, stop}
 use Rattle.ed_programs.specs.Hello.{EachTextIsPrinted, hello_orders}
 use Rattle.ed_programs.specs.declared.hello.TheConstants.{HELLO}
 use Rattle.ed_programs.proofs.Capitals.{are_rows, letters_shown}
-use Rattle.ed_programs.proofs.Kit.{to, printing, Path-counted}
 use Rattle.ed_programs.proofs.ProgramEntry.{stops_by}
 use Rattle.ed_programs.proofs.RowTexts.{is_row_byte, rows_spelled, text_rows}
 use Rattle.ed_programs.proofs.SourceRuns.{read_runs}

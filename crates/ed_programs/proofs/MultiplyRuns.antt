@@ -1,15 +1,14 @@
 -- The source of `examples/answer5.edsac` for any numbers: its path, and what it prints.
-use Rattle.ed_programs.proofs.Kit.{Z_F, Size, G_stays, Z, Settings, Line, along, IsIn, Journey, then, to_stop, E_jumps}
-use Rattle.ed_programs.proofs.Kit.{S, T, U, any, early, out, followed, all_words, frame_at, moment_at, [], ap}
-use Rattle.ed_programs.proofs.Kit.{append_assoc, arith, codes, decimal, length, length-append, List, lit<, lit≤, map}
-use Rattle.ed_programs.proofs.Kit.{refl, Some, subst, suc, true, zero, ℕ, ◌*◌, ◌++◌, ◌+◌, ◌<◌, ◌∙◌, ◌∷◌, ◌≡◌, ◌≤◌}
-use Rattle.ed_programs.proofs.Kit.{Text, least, paper, Frame, Moment, short, state, A, G_jumps, on, Path, stay, own}
-use Rattle.ed_programs.proofs.Kit.{settings, parameter_store, newline, print, with_h, digits, print_orders, few_digits}
-use Rattle.ed_programs.proofs.Kit.{HasRoutine, ReachesStop, entry_state, number_shown, SourceRuns, HasShown}
-use Rattle.ed_programs.proofs.Kit.{shows_number, routine_after, stops_from_entry, Marked}
+use Rattle.ed_programs.proofs.Kit.{along, append_assoc, length-append, parameter_store, routine_after, stops_from_entry}
+use Rattle.ed_programs.proofs.Kit.{Z, print_orders, ReachesStop, number_shown, shows_number, Path-counted, stop_counted}
+use Rattle.ed_programs.proofs.Kit.{all_words, moment_at, [], few_digits, HasRoutine, entry_state, SourceRuns, calls_own}
+use Rattle.ed_programs.proofs.Kit.{G_stays, Settings, Journey, to_stop, E_jumps, followed, frame_at, settings, HasShown}
+use Rattle.ed_programs.proofs.Kit.{S, early, decimal, length, Moment, G_jumps, newline, with_h, digits, Marked, calling}
+use Rattle.ed_programs.proofs.Kit.{Z_F, Size, Line, IsIn, arith, codes, subst, least, paper, Frame, short, state, print}
+use Rattle.ed_programs.proofs.Kit.{then, T, any, List, lit<, lit≤, refl, Some, true, zero, ◌++◌, Text, Path, stay, link}
+use Rattle.ed_programs.proofs.Kit.{U, out, ap, map, suc, ℕ, ◌*◌, ◌+◌, ◌<◌, ◌∙◌, ◌∷◌, ◌≡◌, ◌≤◌, A, on, own, to}
 use Rattle.ed_programs.specs.Multiply.{multiply_orders, multiply_prints, multiply_text}
 use Rattle.ed_programs.specs.declared.multiply.TheConstants.{MULTIPLY}
-use Rattle.ed_programs.proofs.Kit.{to, calling, link, Path-counted, stop_counted, calls_own}
 use Rattle.ed_programs.proofs.NumberLines.{word_mark}
 use Rattle.ed_programs.proofs.NumberShown.{then_on}
 use Rattle.ed_programs.proofs.SourceRuns.{lines_of_pieces, program_runs}

@@ -1,6 +1,6 @@
 -- Lines of a source that end with `word N`, for any number.
 use Rattle.ed_programs.proofs.Kit.{is_place_name, [], arith, Bool, codes, decimal, length, List, nat_le, Option, Some}
-use Rattle.ed_programs.proofs.Kit.{true, ℕ, ◌++◌, ◌<◌, ◌∷◌, ◌≡◌, ◌≤◌, list_all, and_parts, leb-true, ne_eqb, Text}
+use Rattle.ed_programs.proofs.Kit.{true, ℕ, ◌++◌, ◌<◌, ◌≡◌, ◌≤◌, list_all, and_parts, leb-true, ne_eqb, Text}
 use Rattle.ed_programs.proofs.Kit.{is_run_byte, is_line_byte, LinePart, ◌&&◌, Marked}
 use Rattle.ed_sources.proofs.Said.{IsWordFront, filled_says, label_parts, named_front, plain_front}
 use Rattle.ed_syntax.specs.declared.program.Statement.TheVariants as statements

@@ -1,17 +1,16 @@
 -- What the lines of a source say: most lines by computation, those with data by a proof.
 --
 -- Only this module uses the definitions of how a source is read.
-use Rattle.ed_sources.proofs.Kit.{[], ap, arith, Bool, drop, false, get_or, if◌then◌else◌, length, List, lit≤, map}
-use Rattle.ed_sources.proofs.Kit.{nat_eq, nat_le, nat_lt, None, not, Ok, Option, refl, rules, Some, subst, suc, sym}
-use Rattle.ed_sources.proofs.Kit.{true, ℕ, ◌+◌, ◌-◌, ◌==◌, ◌||◌, ◌∙◌, ◌∷◌, ◌≡◌, ◌≤◌, list_all, and_parts, eqb-true}
-use Rattle.ed_sources.proofs.Kit.{le-leb, le-ltb, ne_eqb, Text, is_line_byte, LinePart, form_at, parts_of, is_two}
-use Rattle.ed_sources.proofs.Kit.{line_of, lines_from, program_of, text_of_lines}
+use Rattle.ed_sources.proofs.Kit.{[], ap, Bool, drop, false, get_or, if◌then◌else◌, length, List, nat_eq, nat_le}
+use Rattle.ed_sources.proofs.Kit.{nat_lt, None, not, Ok, Option, refl, rules, Some, subst, true, ℕ, ◌+◌, ◌||◌, ◌∙◌, ◌∷◌}
+use Rattle.ed_sources.proofs.Kit.{◌≡◌, ◌≤◌, list_all, and_parts, eqb-true, le-leb, Text, is_line_byte, is_two, line_of}
+use Rattle.ed_sources.proofs.Kit.{lines_from, program_of, text_of_lines}
 use Rattle.ed_syntax.proofs.Kit.{Err, Result, ◌&&◌, Fault}
 use Rattle.std.proofs.Common.{is_ok}
 use Rattle.std.proofs.lemmas.Bool.{ltb-false}
 use Rattle.ed_syntax.specs.Reading.Sources.{and_lines}
 use Rattle.ed_syntax.specs.declared.fault.SourceCause.{SourceCause}
-use Rattle.ed_syntax.specs.declared.fault.SourceCause.TheVariants.{BadByte, LongLine, TooManyLines}
+use Rattle.ed_syntax.specs.declared.fault.SourceCause.TheVariants.{BadByte, LongLine}
 use Rattle.ed_syntax.specs.declared.program.Line.{Line}
 use Rattle.ed_syntax.specs.declared.program.Statement.{Statement}
 use Rattle.ed_sources.proofs.TextLines.{lines_back}

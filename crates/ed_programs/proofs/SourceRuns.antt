@@ -2,8 +2,8 @@
 use Rattle.ed_programs.proofs.Kit.{Size, Full, Small, Settings, Line, [], ap, arith, Bool, length, List, nat_le, None}
 use Rattle.ed_programs.proofs.Kit.{Ok, Option, subst, true, ℕ, ◌+◌, ◌≡◌, ◌≤◌, and_parts, leb-true, Text, paper, is_two}
 use Rattle.ed_programs.proofs.Kit.{program_of, fault, ReachesStop, entry_state, AnswersFromEntry, run_outcome}
-use Rattle.ed_programs.proofs.Kit.{read_is_accepted, accepted_is, each_answer_is_from_entry, filled_text}
-use Rattle.ed_programs.proofs.Kit.{text_of_lines, stopped_outcome, ◌&&◌, OfSource, SourceRuns, Marked}
+use Rattle.ed_programs.proofs.Kit.{read_is_accepted, accepted_is, each_answer_is_from_entry, filled_text, text_of_lines}
+use Rattle.ed_programs.proofs.Kit.{stopped_outcome, ◌&&◌, OfSource, SourceRuns, Marked}
 use Rattle.ed_syntax.specs.declared.fault.SourceFault.{SourceFault}
 use Rattle.ed_sources.proofs.FilledLines.{unended, filled_is, filled_lines}
 use Rattle.ed_programs.proofs.Answered.{are_short, is_due}

@@ -1,14 +1,14 @@
 -- A tape whose first program returns to the Initial Orders and whose second one reaches its stop, as the answers of the
 -- commands `parts` and `tape`.
-use Rattle.ed_programs.proofs.Kit.{Size, Settings, at_entry, ReachesEntry, comes_in, rows, stop_after, prints, IsStore}
-use Rattle.ed_programs.proofs.Kit.{INPUT_BYTES, entry_line, exactly, OfReading, ReachesNextEntry, returned_line}
-use Rattle.ed_programs.proofs.Kit.{directive, IsReturned, [], ap, append_assoc, arith, codes, false, inl, inr, length}
-use Rattle.ed_programs.proofs.Kit.{length-append, List, None, refl, rules, Some, subst, suc, sym, true, zero, ℕ, ◌++◌}
-use Rattle.ed_programs.proofs.Kit.{◌+◌, ◌-◌, ◌<◌, ◌∙◌, ◌∷◌, ◌≡◌, ◌≢◌, ◌≤◌, cases_lt, le-ltb, lt-ltb, ne_eqb, Text}
-use Rattle.ed_programs.proofs.Kit.{paper, step, State, progress, state_after, Frame, Moment, state, joined, Leads, on}
-use Rattle.ed_programs.proofs.Kit.{Path, stay, run_end, ReachesStop, at_after, ran_outcome-answered, nothing_after, ran_to_stop}
-use Rattle.ed_programs.proofs.Kit.{reading, is_obeyed, stops_of, TapeEntry, first_state, LeadsIn, first_store, starts}
-use Rattle.ed_programs.proofs.Kit.{Outcome, paper_room, ran_outcome, with_post_mortem, tape_outcome}
+use Rattle.ed_programs.proofs.Kit.{INPUT_BYTES, ReachesNextEntry, returned_line, ran_outcome-answered, with_post_mortem}
+use Rattle.ed_programs.proofs.Kit.{ReachesEntry, append_assoc, length-append, state_after, nothing_after, tape_outcome}
+use Rattle.ed_programs.proofs.Kit.{stop_after, IsStore, ReachesStop, ran_to_stop, first_state, first_store, ran_outcome}
+use Rattle.ed_programs.proofs.Kit.{Size, entry_line, OfReading, directive, IsReturned, is_obeyed, TapeEntry, paper_room}
+use Rattle.ed_programs.proofs.Kit.{Settings, at_entry, comes_in, exactly, arith, cases_lt, progress, at_after, stops_of}
+use Rattle.ed_programs.proofs.Kit.{prints, length, le-ltb, lt-ltb, ne_eqb, Moment, run_end, reading, LeadsIn, Outcome}
+use Rattle.ed_programs.proofs.Kit.{rows, codes, false, rules, subst, paper, State, Frame, state, joined, Leads, starts}
+use Rattle.ed_programs.proofs.Kit.{inl, inr, List, None, refl, Some, suc, sym, true, zero, ◌++◌, Text, step, Path, stay}
+use Rattle.ed_programs.proofs.Kit.{[], ap, ℕ, ◌+◌, ◌-◌, ◌<◌, ◌∙◌, ◌∷◌, ◌≡◌, ◌≢◌, ◌≤◌, on}
 use Rattle.ed_interlude.proofs.Kit.{next_state, end_by, address, Concludes, entry_done, entry_report, finished}
 use Rattle.ed_interlude.proofs.Kit.{Finishes, first_part, GoesBack, LeadsTo, part_after, part_entry_state, part_report}
 use Rattle.ed_interlude.proofs.Kit.{PartsReport, ReturnsToLoader, RunsOn, TapePart}
