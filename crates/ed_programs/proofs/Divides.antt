@@ -137,7 +137,8 @@ module _ {n h : ℕ} {f : Frame n h} (r : Moment) (o : IsIn f (flat r)) where
         keeps q (differs jh d.in_high place) (differs jl d.in_low place) other ∙ beside_word o q place
       where
         differs : (j : ℕ) → j < n → (q < f.base) ⊎ (f.base + n ≤ q) → q ≢ f.base + j
-        differs j l beside e = elim beside [ inl b ↦ absurd (omega (arith, b, e)) | inr b ↦ absurd (omega (arith, b, e)) ]
+        differs j l (inl b) e = absurd (omega arith)
+        differs j l (inr b) e = absurd (omega arith)
 
     pub divide_line : r.acc ≡ 0 → Reads {f = f} {r = flat r} i 28 (own i)
         → Jumps {f = f} {r = record (flat r) { acc = short (A_F + 2 * (f.base + i)); counter = f.base + (i + 1) }}

@@ -6,7 +6,7 @@ use Rattle.ed_programs.proofs.Kit.{ℕ, ◌%◌, ◌*◌, ◌++◌, ◌+◌, ◌
 use Rattle.ed_programs.proofs.Kit.{short, state, A, G_jumps, on, Path, stay, own, digits, print_orders, few_digits}
 use Rattle.ed_programs.proofs.Kit.{ReachesStop, divide_orders, number_shown, paper_from, figure_orders, HasRead}
 use Rattle.ed_programs.proofs.Kit.{reads_number, number_rows, journey_counted, stop_counted}
-use Rattle.std.proofs.Math.Nat.{add-mul-div_left, add-mul-mod_self_left, mul_assoc, pow-succ'}
+use Rattle.std.proofs.Math.Nat.{div-le_self, add-mul-div_left, add-mul-mod_self_left, mul_assoc, pow-succ'}
 use Rattle.ed_programs.specs.Fraction.{figure, figures}
 use Rattle.ed_programs.proofs.FractionProgram.{Given, IsAround, Turned, Work, after_read, at, divided, in_at, printed}
 use Rattle.ed_programs.proofs.FractionProgram.{turn}
@@ -42,7 +42,7 @@ module _ (u l n : ℕ) (some : 0 < l) where
   left_is = sym (ap (λ x. x % l) next ∙ add-mul-mod_self_left (10 * left) l (10 * (before / l)))
 
 pub quotient_small : (u l : ℕ) → u < 65536 → 1 ≤ l → u / l < 65536
-quotient_small u l small some = (div-lt_iff_lt-mul {k = l} {x = u} {y = 65536} (omega arith)).1 (omega arith)
+quotient_small u l small some = omega (arith, div-le_self u l)
 
 -- the orders of the parts of the program, and of all of it
 orders_are : (a b c v q m : ℕ)
@@ -166,8 +166,8 @@ module _ (given : Given) where
       reads_number (in_at given m2 8 k2 o2) 8 33 n _ o2.reads refl small_n (lit< tt) (lit≤ tt) refl refl refl in
       let m3 : Moment = record m2 { words = three.words; tape = [] } in
       let k3 : Work = record k2 { number = n } in
-      let four = divided given m3 10 k3 (after_read given m2 {k = k2} o2 three) (lit≤ tt) refl u l clear refl refl small_u
-      some few_l refl in
+      let four = divided given m3 10 k3 (after_read given m2 {k = k2} o2 three) (lit≤ tt) refl u l clear refl refl
+      small_u some few_l refl in
       let k4 : Work = record k3 { rest = u % l; low = u / l } in
       let five = printed given four.now 12 k4 four.is (lit≤ tt) refl (u / l) refl (quotient_small u l small_u some)
       refl in

@@ -127,30 +127,33 @@ module _ (given : Given) where
       (on (U 13 (own 1) _ refl refl) stay))))))
 
   -- and are compared with the order for the location after the list
-  compares : (q g t : ℕ) (ns : List ℕ) → q + length ns ≡ e → f.base + 23 ≤ q
-      → Path f 2 (at 14 (getting q) (getting q) (getting q) g t) []
-      (before (record { q = q; left = compared ns; most = g; scrap = t }) ns)
-  compares q g t [] ends from =
+  closes : (q g t old : ℕ) (ns : List ℕ) → q + 1 + length ns ≡ e → f.base + 23 ≤ q → t < 131072
+      → Path f 9 (at 7 t (getting q) (getting q) g old) []
+      (before (record { q = q + 1; left = compared ns; most = g; scrap = t }) ns)
+  closes q g t old [] ends from few =
       let b = locations_most f.size in let fits = f.fits in let r = room in
-      on (S 14 (own 21) (short 0) refl (omega arith))
-      (on (G_stays 15 (own 0) refl (lit< tt)) stay)
-  compares q g t (n ∷ ns) ends from =
+      followed (raises q g t old (omega arith) few)
+      (on (S 14 (own 21) (short 0) refl (omega arith)) (on (G_stays 15 (own 0) refl (lit< tt)) stay))
+  closes q g t old (n ∷ ns) ends from few =
       let b = locations_most f.size in let fits = f.fits in let r = room in
-      on (S 14 (own 21) (short (131072 - 2 * length (n ∷ ns))) refl (omega arith))
-      (on (G_jumps 15 (own 0) refl (omega arith)) stay)
+      followed (raises q g t old (omega arith) few)
+      (on (S 14 (own 21) (short (131072 - 2 * length (n ∷ ns))) refl (omega arith))
+      (on (G_jumps 15 (own 0) refl (omega arith)) stay))
 
   left_small : (ns : List ℕ) → compared ns < 131072
   left_small [] = lit< tt
   left_small (n ∷ ns) = omega arith
 
   -- a turn, by whether the number is smaller than the greatest so far
-  turn_by : (b : Bool) (x : Turning) (n : ℕ) (ns : List ℕ) → nat_lt n x.most ≡ b → Fine x (n ∷ ns)
-      → Fine (next_by b x n ns) ns
-      × Path f (orders_by b) (before x (n ∷ ns)) [] (before (next_by b x n ns) ns)
-  turn_by true x n ns is o =
+  turn : (x : Turning) (n : ℕ) (ns : List ℕ) → Fine x (n ∷ ns)
+      → Fine (next x n ns) ns × Path f (orders x n) (before x (n ∷ ns)) [] (before (next x n ns) ns)
+  turn x n ns o =
       let b = locations_most f.size in let fits = f.fits in let r = room in let long = o.ends in let from = o.from in
-      let here = o.stand.0 in let few = o.stand.1 in let low = o.low in let less = ltb-true n x.most is in
+      let here = o.stand.0 in let few = o.stand.1 in let low = o.low in
       let outside : IsOutside f around.words x.q = record { below = omega arith; beside = inr from } in
+      by_less (λ b. Fine (next_by b x n ns) ns
+      × Path f (orders_by b) (before x (n ∷ ns)) [] (before (next_by b x n ns) ns)) n x.most
+      (λ less.
       let t : ℕ = 131072 - (x.most - n) in (
         record { stand = o.stand.2; ends = omega arith; from = omega arith; small = left_small ns; low = low },
         followed
@@ -158,13 +161,9 @@ module _ (given : Given) where
             (on (A 1 (out x.q outside) (short n) refl (omega arith))
             (on (S 2 (own 20) (short t) refl (omega arith))
             (on (G_jumps 3 (own 7) refl (omega arith)) stay))))
-            (followed (raises x.q x.most t x.left (omega arith) (omega arith))
-            (compares (x.q + 1) x.most t ns (omega arith) (omega arith))),
-      )
-  turn_by false x n ns is o =
-      let b = locations_most f.size in let fits = f.fits in let r = room in let long = o.ends in let from = o.from in
-      let here = o.stand.0 in let few = o.stand.1 in let low = o.low in let least = ltb-false n x.most is in
-      let outside : IsOutside f around.words x.q = record { below = omega arith; beside = inr from } in (
+            (closes x.q x.most t x.left ns (omega arith) (omega arith) (omega arith)),
+      ))
+      (λ least. (
         record { stand = o.stand.2; ends = omega arith; from = omega arith; small = left_small ns; low = few },
         followed
             (on (T 0 (own 22) _ refl refl)
@@ -174,22 +173,15 @@ module _ (given : Given) where
             (on (T 4 (own 22) _ refl refl)
             (on (A 5 (out x.q outside) (short n) refl (omega arith))
             (on (T 6 (own 20) _ refl refl) stay)))))))
-            (followed (raises x.q n 0 (n - x.most) (omega arith) (lit< tt))
-            (compares (x.q + 1) n 0 ns (omega arith) (omega arith))),
-      )
-
-  -- the loop
-  loop : (x : Turning) (ns : List ℕ) → Fine x ns
-      → Fine (walked next x ns) []
-      × Path f (all_spent orders next x ns) (before x ns) [] (before (walked next x ns) [])
-  loop = quiet_walks before orders next Fine (λ x n ns o. turn_by (nat_lt n x.most) x n ns refl o)
+            (closes x.q n 0 (n - x.most) ns (omega arith) (omega arith) (lit< tt)),
+      ))
 
   -- from the first number to the stop
   pub greatest_stops : (x : Turning) (ns : List ℕ) → Fine x ns → x.most ≡ 0 → (done : ℕ)
       → ReachesStop (13 * length ns + 3 * rises 0 ns + print_orders (greatest_of ns) + 3)
       (state f (before x ns) done) (11 ∷ digits (greatest_of ns)) (f.base + 20)
   greatest_stops x ns o none done =
-      let went = loop x ns o in
+      let went = quiet_walks before orders next Fine turn x ns o in
       let y : Turning = walked next x ns in
       let low = went.0.low in
       let last : Moment = at 17 0 (getting y.q) (getting y.q) y.most 0 in

@@ -209,8 +209,9 @@ module _ (b : ℕ) (r : Text) (o : IsRowText (b ∷ r)) where
 
   abbrev marks : List (Marked true)
   marks =
-      number_mark (number_line (length q) (length rows) long (let f = o.few in omega arith)) (let f = o.few in omega arith)
-      ∷ text_mark 19 (codes "letters") q (lit≤ tt) refl o.some (let f = o.few in omega arith) o.spelled ∷ []
+      let f = o.few in
+      number_mark (number_line (length q) (length rows) long (omega arith)) (omega arith)
+      ∷ text_mark 19 (codes "letters") q (lit≤ tt) refl o.some (omega arith) o.spelled ∷ []
 
   text_runs : (s : Settings) → SourceRuns s (hello_text q) (7 * length q + 9) 67 (paper (rows ++ 18 ∷ 24 ∷ []))
   text_runs s =

@@ -93,17 +93,15 @@ module _ (left : ℕ) (s : State) where
       none : (progress k s).stops ≡ 0
       none = no_stops k s o.leads.goes
 
+      obeyed : (j : ℕ) → j < k + 1 → is_obeyed (step (state_after j s)).turn ≡ true
+      obeyed j l = elim (cases_lt j k) [
+        | inl below ↦ obeyed_of _ (o.leads.goes j below)
+        | inr here ↦ let e : k ≡ j = omega arith in
+            subst (λ n. is_obeyed (step (state_after n s)).turn ≡ true) e (ap is_obeyed turn)
+      ]
+
       runs : RunsOn left (k + 1) s
-      runs j l =
-          elim (cases_lt j k) [
-            | inl below ↦
-                under_way j (omega arith) (no_stops j s (λ i m. o.leads.goes i (omega arith)))
-                (obeyed_of _ (o.leads.goes j below)) (far j l)
-            | inr here ↦
-                let e : k ≡ j = omega arith in
-                subst (λ n. IsUnderWay left n s) e
-                (under_way k (omega arith) none (ap is_obeyed turn) (far k (omega arith)))
-          ]
+      runs j l = under_way j (omega arith) (no_stops j s (λ i m. o.leads.goes i (omega arith))) (obeyed j l) (far j l)
 
       some : 0 < (progress (k + 1) s).stops
       some = let one = ap stops_of turn in omega (arith, next_stops k s, none, one)
