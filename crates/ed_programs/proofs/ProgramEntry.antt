@@ -1,9 +1,9 @@
 -- A source's program at its entry: its cells and the routines of the library after them, each by one test.
 use Rattle.std.specs.List.{range_with_len}
 use Rattle.std.proofs.lemmas.List.FromFn.{get_or-map-range_with_len, length-map-range_with_len}
-use Rattle.ed_sources.proofs.Kit.{[], ap, map, arith, get_or, inr, length, List, refl, rules, suc, sym, true, unwrap_or}
-use Rattle.ed_sources.proofs.Kit.{zero, ℕ, ◌+◌, ◌<◌, ◌∙◌, ◌∷◌, ◌≡◌, ◌≤◌, least, State, state, patched, placed_at}
-use Rattle.ed_sources.proofs.Kit.{place_count, entry_of, HasRoutine, ReachesStop, entry_state}
+use Rattle.ed_sources.proofs.Kit.{ap, map, arith, get_or, inr, length, List, refl, rules, sym, true, unwrap_or, ℕ, ◌+◌}
+use Rattle.ed_sources.proofs.Kit.{◌<◌, ◌∙◌, ◌≡◌, ◌≤◌, least, State, state, patched, placed_at, place_count, entry_of}
+use Rattle.ed_sources.proofs.Kit.{HasRoutine, ReachesStop, entry_state}
 use Rattle.ed_words.specs.declared.size.Size.{Size}
 use Rattle.ed_machine.proofs.Kit.Window.{patched_self}
 use Rattle.ed_syntax.specs.declared.program.Line.{Line}
