@@ -71,7 +71,8 @@ say_so : (two : Bool) (k : ℕ) (line : Text) (lines : List Text) (said : List L
     → LinesSay two k (line ∷ lines) (line_said two k line ms ∷ said)
 say_so two k line lines said rest [] same read =
     of_ok (λ r. line_of two k line ≡ r → LinesSay two k (line ∷ lines) (first (and_lines k r (Ok [])) ∷ said))
-    (λ form is. and_more k line lines form said (rw is at (line_answers two k line)) rest) (line_of two k line) read refl
+    (λ form is. and_more k line lines form said (rw is at (line_answers two k line)) rest) (line_of two k line) read
+    refl
 say_so two k line lines said rest (m ∷ ms) same read =
     by_test (say_so two k line lines said rest ms) (nat_eq m.number k) refl same read
   where
