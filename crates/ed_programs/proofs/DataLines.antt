@@ -77,18 +77,12 @@ without_quote (b ∷ bytes) h =
 
 some_byte : (ns : List ℕ) → 1 ≤ length ns → 1 ≤ length (numbers_text ns)
 some_byte [] l = absurd (omega arith)
-some_byte (n ∷ ns) l = let long = length-append (decimal n) (70 ∷ numbers_text ns) in omega (arith, long)
+some_byte (n ∷ ns) l = omega (arith, length-append (decimal n) (70 ∷ numbers_text ns))
 
 module _ (two : Bool) (k : ℕ) (ns : List ℕ) (later : 2 ≤ k) (some : 1 ≤ length ns)
     (fits : length (numbers_text ns) ≤ 113) (small : are_small ns ≡ true) where
   abbrev bytes : Text
   bytes = numbers_text ns
-
-  pub data_plain : list_all is_line_byte (numbers_line ns) ≡ true
-  data_plain = let plain = (all_numbers ns small).line in list_all-append is_line_byte bytes (34 ∷ []) ∙ rw plain refl
-
-  pub data_short : length (numbers_line ns) ≤ 120
-  data_short = let long = length-append bytes (34 ∷ []) in omega (arith, long)
 
   pub data_says : line_of two k (numbers_line ns) ≡ Ok (record {
     label = None;
@@ -96,13 +90,17 @@ module _ (two : Bool) (k : ℕ) (ns : List ℕ) (later : 2 ≤ k) (some : 1 ≤ 
   })
   data_says =
       let all = all_numbers ns small in
+      let plain = all.line in
       let spelled = all.spelled in
+      let rows = all.rows in
+      let long = length-append bytes (34 ∷ []) in
       let there = le-leb 1 (length bytes) (some_byte ns some) in
       let short = le-leb (length bytes) 120 (omega arith) in
       let no_version : (k == 1) ≡ false = ne_eqb k 1 (omega (arith, later)) in
-      by_parts two k (numbers_line ns) (run (codes "data") ∷ quoted bytes ∷ []) data_plain data_short
+      by_parts two k (numbers_line ns) (run (codes "data") ∷ quoted bytes ∷ [])
+      (list_all-append is_line_byte bytes (34 ∷ []) ∙ rw plain refl) (omega (arith, long))
       (let e = quote_parts [] bytes [] (without_quote bytes all.quote) in rw e refl)
-      (let e = all.rows in rw (no_version, there, short, spelled, e) refl)
+      (rw (no_version, there, short, spelled, rows) refl)
 
 -- the numbers, each ended by F, before the rest of their line
 abbrev pub numbers_and : List ℕ → Text → Text

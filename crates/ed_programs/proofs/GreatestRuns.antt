@@ -21,9 +21,7 @@ greatest_small : (ns : List ℕ) → are_small ns ≡ true → greatest_of ns < 
 greatest_small [] h = lit< tt
 greatest_small (n ∷ ns) h =
     let p = and_parts (nat_lt n 65536) (are_small ns) h in
-    let here = ltb-true n 65536 p.0 in
-    let rest = greatest_small ns p.1 in
-    omega arith
+    omega (arith, ltb-true n 65536 p.0, greatest_small ns p.1)
 
 -- numbers that the source places from a location upwards are there at its entry
 pub numbers_stand : (z : Size) (lines : List Line) → have_places (placed lines) ≡ true → (q : ℕ) (ns : List ℕ) → 44 ≤ q
@@ -69,15 +67,13 @@ module _ (a b c d e f g h : ℕ) (small : are_small (a ∷ b ∷ c ∷ d ∷ e �
       prints = routine_after z lines refl (lit≤ tt) print 88 (with_h 76) refl (lit≤ tt) (lit≤ tt) (lit≤ tt);
     }
 
-    stand : Stand (entry_state z lines).store.words 79 ns
-    unfolding settings
-    stand = numbers_stand z lines refl 79 ns (lit≤ tt) (lit≤ tt) refl small
-
     ends : ReachesStop (104 + 3 * rises 0 ns + print_orders (greatest_of ns) + 3) (entry_state z lines)
         (11 ∷ digits (greatest_of ns)) 76
     unfolding settings given
     ends =
         let first : Turning = record { q = 79; left = 0; most = 0; scrap = 0 } in
+        let stand : Stand (entry_state z lines).store.words 79 ns =
+        numbers_stand z lines refl 79 ns (lit≤ tt) (lit≤ tt) refl small in
         stops_from_entry z lines refl 23 (lit≤ tt) (cells 56 87 88 (getting 79) (getting 79) 0 0) refl refl [] refl
         (greatest_stops given first ns
         (record { stand = stand; ends = refl; from = lit≤ tt; small = lit< tt; low = lit< tt }) refl

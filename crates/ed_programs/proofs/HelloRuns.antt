@@ -189,47 +189,27 @@ ends c cs few small z =
     (text_stands z lines 69 rows (lit≤ tt) (omega arith) front refl refl small) refl (entry_state z lines).orders)
 
 -- 1 to 41 bytes that spell rows
-record IsRowText (q : Text) : Type 0 where
-  some : 1 ≤ length q
-  few : length q ≤ 41
-  spelled : list_all is_row_byte q ≡ true
-
-module _ (b : ℕ) (r : Text) (o : IsRowText (b ∷ r)) where
-  abbrev q : Text
-  q = b ∷ r
-
-  abbrev rows : List ℕ
-  rows = text_rows q
-
-  long : length rows ≡ length q
-  long = length-map q (λ b. row (row_of b))
-
-  few : length rows ≤ 41
-  few = let f = o.few in omega (arith, long)
-
-  abbrev marks : List (Marked true)
-  marks =
-      let f = o.few in
-      number_mark (number_line (length q) (length rows) long (omega arith)) (omega arith)
-      ∷ text_mark 19 (codes "letters") q (lit≤ tt) refl o.some (omega arith) o.spelled ∷ []
-
-  text_runs : (s : Settings) → SourceRuns s (hello_text q) (7 * length q + 9) 67 (paper (rows ++ 18 ∷ 24 ∷ []))
-  text_runs s =
-      let e = length-append rows (18 ∷ 24 ∷ []) in
-      read_runs s true hello_pieces (hello_data q) marks refl (faultless rows few s.size)
-      (ends (row (row_of b)) (text_rows r) few (all_plain q o.spelled).codes s.size) (omega (arith, e, few))
-      (omega (arith, long)) refl
-
-row_text_runs : (s : Settings) (q : Text) → IsRowText q
+row_text_runs : (s : Settings) (q : Text) → 1 ≤ length q → length q ≤ 41 → list_all is_row_byte q ≡ true
     → SourceRuns s (hello_text q) (7 * length q + 9) 67 (paper (text_rows q ++ 18 ∷ 24 ∷ []))
-row_text_runs s [] o = let some = o.some in absurd (omega arith)
-row_text_runs s (b ∷ r) o = text_runs b r o s
+row_text_runs s [] some most spelled = absurd (omega arith)
+row_text_runs s (b ∷ r) some most spelled =
+    let q : Text = b ∷ r in
+    let rows : List ℕ = text_rows q in
+    let long : length rows ≡ length q = length-map q (λ b. row (row_of b)) in
+    let few : length rows ≤ 41 = omega (arith, long) in
+    let marks : List (Marked true) =
+    number_mark (number_line (length q) (length rows) long (omega arith)) (omega arith)
+    ∷ text_mark 19 (codes "letters") q (lit≤ tt) refl some (omega arith) spelled ∷ [] in
+    let e = length-append rows (18 ∷ 24 ∷ []) in
+    read_runs s true hello_pieces (hello_data q) marks refl (faultless rows few s.size)
+    (ends (row (row_of b)) (text_rows r) few (all_plain q spelled).codes s.size) (omega (arith, e, few))
+    (omega (arith, long)) refl
 
 pub each_text : EachTextIsPrinted
 each_text s q rows are few =
     let spelled = rows_spelled are in
     subst (λ (rs : List ℕ). SourceRuns s (hello_text q) (7 * length q + 9) 67 (paper (rs ++ 18 ∷ 24 ∷ []))) spelled.1
-    (row_text_runs s q (record { some = leb-true 1 (length q) are.some; few = few; spelled = spelled.0 }))
+    (row_text_runs s q (leb-true 1 (length q) are.some) few spelled.0)
 
 -- 1 to 40 capital letters are printed as they are, on a line
 pub each_name : (letters : Text) → 1 ≤ length letters → length letters ≤ 40 → list_all is_capital letters ≡ true
@@ -239,5 +219,4 @@ each_name letters some few capital s =
     subst (λ k. SourceRuns s (hello_text (of_letters letters)) k 67 (letters ++ 13 ∷ 10 ∷ [])) count
     (subst (λ (t : Text). SourceRuns s (hello_text (of_letters letters)) (7 * length (of_letters letters) + 9) 67 t)
     (letters_shown letters capital)
-    (row_text_runs s (of_letters letters)
-    (record { some = omega arith; few = omega arith; spelled = are_rows letters capital })))
+    (row_text_runs s (of_letters letters) (omega arith) (omega arith) (are_rows letters capital)))

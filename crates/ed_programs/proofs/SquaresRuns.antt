@@ -28,12 +28,6 @@ program = record { end = 74; items = items; rest = [] }
 abbrev tape_rows : List ℕ
 tape_rows = spelled_rows1 items
 
-spells : reading squares_text ≡ rows tape_rows
-spells = refl
-
-comes : ReachesEntry1 tape_rows program
-comes = search (rules, are_items)
-
 -- ---- at the entry
 
 abbrev entry : State
@@ -52,15 +46,8 @@ around = record {
   last = entry.last;
 }
 
-begins : state frame (entering around) entry.orders ≡ entry
-unfolding first_state1 patched
-begins = refl
-
-stops : ReachesStop 383 entry (all_codes around) 61
-stops = subst (λ (x : State). ReachesStop 383 x (all_codes around) 61) begins (squares_stop around entry.orders)
-
 pub squares_run : (s : Settings) → FirstTapeRuns s squares_text squares_cost squares_orders 61 squares_prints
+unfolding first_state1 patched
 squares_run s =
-    first_tape_runs s squares_text tape_rows program spells (leb-true (length squares_text)
-    INPUT_BYTES refl) comes stops
-    (leb-true (length (all_codes around)) paper_room refl)
+    first_tape_runs s squares_text tape_rows program refl (leb-true (length squares_text) INPUT_BYTES refl)
+    (search (rules, are_items)) (squares_stop around entry.orders) (leb-true (length (all_codes around)) paper_room refl)

@@ -37,7 +37,7 @@ text_sound z symbols extents p b g k label name main rows low high first place =
     let third = one_more (p + n) w (w + 7) (extents ++ extent p (p + n) ∷ []) (omega arith) second in
     none_later k _ _ (block_sound z symbols extents k p b g (Some label) rows (omega arith) (omega arith) first)
     (none_later (k + 1) _ _
-    (use_sound z symbols (extents ++ extent p (p + n) ∷ []) (k + 1) (p + n) b g true (codes "newline") name []
+    (use_sound z symbols (extents ++ extent p (p + n) ∷ []) (k + 1) (p + n) b g (codes "newline") name []
     (omega arith) (omega arith) second refl refl)
     (none_later (k + 1 + 1) _ _
     (enter_sound z symbols ((extents ++ extent p (p + n) ∷ []) ++ extent w (w + 7) ∷ []) (k + 1 + 1) (w + 7) w (g + 1) 56 main place

@@ -17,7 +17,9 @@ use Rattle.ed_machine.specs.declared.ending.Ending.TheVariants.{Stopped}
 use Rattle.ed_machine.specs.declared.turn.Turn.{Turn}
 use Rattle.ed_machine.specs.declared.turn.Turn.TheVariants.{Stopped as Stops}
 use Rattle.ed_machine.proofs.Kit.Leads.{free, goes_on, no_stops, obeyed_of}
+use Rattle.ed_machine.proofs.Kit.Orders.{Does}
 use Rattle.ed_machine.proofs.Kit.Paths.{no_state}
+use Rattle.ed_orders.specs.declared.kind.Kind.{Kind}
 use Rattle.ed_interlude.specs.Parts.{IsUnderWay, IsReportOfTape, program_end}
 use Rattle.ed_interlude.specs.declared.tape.PartsEnd.TheVariants.{Ended}
 use Rattle.ed_interlude.proofs.Resumed.{leads_back}
@@ -37,24 +39,21 @@ StaysAbove stay = Unit {0}
 StaysAbove (on {r = r} first rest) = (44 ≤ r.counter) × StaysAbove rest
 StaysAbove (prints {r = r} first rest) = (44 ≤ r.counter) × StaysAbove rest
 
-above_is_away : (s : State) → 44 ≤ s.counter → (state_after 0 s).counter ≢ 25
-above_is_away s above is =
-    let same = ap (λ (x : State). x.counter) (no_state s) in
-    absurd (omega (arith, same, is, above))
+away_on : {n h k : ℕ} {f : Frame n h} {kind : Kind} {r m : Moment} {turn : Turn} → Does f kind r turn m
+    → 44 ≤ r.counter → (done : ℕ) → IsAway k (state f m (done + 1)) → IsAway (suc k) (state f r done)
+away_on {f = f} {r = r} first above done rest zero l =
+    let same = ap (λ (x : State). x.counter) (no_state (state f r done)) in
+    λ is. absurd (omega (arith, same, is, above))
+away_on {f = f} {r = r} first above done rest (suc j) l =
+    subst (λ (x : State). x.counter ≢ 25)
+    (sym (paths.first_state j (state f r done) ∙ ap (λ (o : Obeyed). state_after j o.state) (first.does done)))
+    (rest j (omega arith))
 
 pub away : {n h : ℕ} {f : Frame n h} {k : ℕ} {r t : Moment} {cs : List ℕ} (p : Path f k r cs t) → StaysAbove p
     → (done : ℕ) → IsAway k (state f r done)
-away stay above done j l = absurd (omega arith)
-away {f = f} (on {r = r} first rest) above done zero l = above_is_away (state f r done) above.0
-away {f = f} (prints {r = r} first rest) above done zero l = above_is_away (state f r done) above.0
-away {f = f} (on {r = r} first rest) above done (suc j) l =
-    subst (λ (x : State). x.counter ≢ 25)
-    (sym (paths.first_state j (state f r done) ∙ ap (λ (o : Obeyed). state_after j o.state) (first.does done)))
-    (away rest above.1 (done + 1) j (omega arith))
-away {f = f} (prints {r = r} first rest) above done (suc j) l =
-    subst (λ (x : State). x.counter ≢ 25)
-    (sym (paths.first_state j (state f r done) ∙ ap (λ (o : Obeyed). state_after j o.state) (first.does done)))
-    (away rest above.1 (done + 1) j (omega arith))
+away stay above done = λ j l. absurd (omega arith)
+away (on first rest) above done = away_on first above.0 done (away rest above.1 (done + 1))
+away (prints first rest) above done = away_on first above.0 done (away rest above.1 (done + 1))
 
 -- and before the order at which it stops
 pub away_to_stop : {k : ℕ} {s t : State} {cs : List ℕ} → Leads k s cs t → IsAway k s → t.counter ≢ 25 → IsAway (k + 1) s
