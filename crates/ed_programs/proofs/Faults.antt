@@ -1,7 +1,7 @@
 -- Lines whose locations are after those of all earlier lines have no fault.
 use Rattle.ed_programs.proofs.Kit.{Size, array, Definition, are_below, ExtentList, past, place_on, even_from, arith}
-use Rattle.ed_programs.proofs.Kit.{Bool, false, length, List, None, Option, refl, Some, true, ℕ, ◌+◌, ◌≡◌, ◌≤◌}
-use Rattle.ed_programs.proofs.Kit.{locations, Text, counter, said}
+use Rattle.ed_programs.proofs.Kit.{false, length, List, None, Option, refl, Some, true, ℕ, ◌+◌, ◌≡◌, ◌≤◌, locations}
+use Rattle.ed_programs.proofs.Kit.{Text, counter, said}
 use Rattle.ed_link.proofs.Kit.{is_none, find, routine_places, cause_of, sets}
 use Rattle.ed_syntax.specs.declared.program.Setting.{Setting}
 use Rattle.ed_link.proofs.Extents.{list_any-apart, fits_store}

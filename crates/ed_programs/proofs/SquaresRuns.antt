@@ -1,11 +1,10 @@
 -- What `examples/squares.tape1` prints.
-use Rattle.ed_programs.proofs.Kit.{Settings, at_entry1, Item1, rows, INPUT_BYTES, [], length, List, refl, rules, subst}
-use Rattle.ed_programs.proofs.Kit.{ℕ, ◌∷◌, ◌≡◌, leb-true, State, Moment, state, patched, ReachesStop, reading}
-use Rattle.ed_programs.proofs.Kit.{ReachesEntry1, Tape, first_state1, paper_room, FirstTapeRuns}
+use Rattle.ed_programs.proofs.Kit.{Settings, at_entry1, Item1, INPUT_BYTES, [], length, List, refl, rules, ℕ, ◌∷◌}
+use Rattle.ed_programs.proofs.Kit.{leb-true, State, Moment, patched, Tape, first_state1, paper_room, FirstTapeRuns}
 use Rattle.ed_initial1.specs.Items.{spelled_rows1}
 use Rattle.ed_programs.specs.Squares.{squares_cost, squares_orders, squares_prints, squares_text}
 use Rattle.ed_programs.proofs.FirstTapeRuns.{are_items, first_tape_runs, short_item}
-use Rattle.ed_programs.proofs.SquaresProgram.{all_codes, entering, frame, squares_stop}
+use Rattle.ed_programs.proofs.SquaresProgram.{all_codes, squares_stop}
 
 -- its items
 abbrev items : List Item1
