@@ -25,11 +25,13 @@ number_rows (n ∷ ns) = digits n ++ 17 ∷ number_rows ns
 abbrev pub are_small : List ℕ → Bool
 are_small ns = list_all (λ n. nat_lt n 65536) ns
 
+pub small_too : (n : ℕ) (ns : List ℕ) → n < 65536 → are_small ns ≡ true → are_small (n ∷ ns) ≡ true
+small_too n ns l h = and_from (nat_lt n 65536) (are_small ns) (lt-ltb n 65536 l) h
+
 -- so are those of a slice
 pub all_fit : (ns : List ℕ) → ((i : ℕ) → Fits w16 (slice_index_or ns i 0)) → are_small ns ≡ true
 all_fit [] fit = refl
-all_fit (n ∷ ns) fit = and_from (nat_lt n 65536) (are_small ns) (lt-ltb n 65536 (fit 0).fits)
-    (all_fit ns (λ i. fit (suc i)))
+all_fit (n ∷ ns) fit = small_too n ns (fit 0).fits (all_fit ns (λ i. fit (suc i)))
 
 pub small_at : (ns : List ℕ) → are_small ns ≡ true → (i : ℕ) → i < length ns → get_or ns i 0 < 65536
 small_at [] h i l = absurd (omega arith)

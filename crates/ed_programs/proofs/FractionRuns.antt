@@ -1,14 +1,14 @@
 -- What the source of `examples/fraction.edsac` prints, for any fraction in range: its lines, its entry and its law.
 use Rattle.ed_programs.proofs.Kit.{length-append, ℕ, length-replicate, parameter_store, stops_from_entry, entry_state}
 use Rattle.ed_programs.proofs.Kit.{number_rows, routine_after, all_words, moment_at, append-nil, few_digits, SourceRuns}
-use Rattle.ed_programs.proofs.Kit.{are_small, data_mark, Settings, State, Line, frame_at, [], arith, rules, lt-ltb}
-use Rattle.ed_programs.proofs.Kit.{settings, digits, Marked, List, lit≤, map, refl, true, ◌++◌, ◌/◌, ◌<◌, ◌∷◌, ◌≡◌, ◌≤◌}
-use Rattle.ed_programs.proofs.Kit.{Text}
+use Rattle.ed_programs.proofs.Kit.{data_mark, Settings, State, Line, frame_at, [], arith, rules, settings, digits}
+use Rattle.ed_programs.proofs.Kit.{Marked, List, lit≤, map, refl, true, ◌++◌, ◌/◌, ◌<◌, ◌∷◌, ◌≤◌, Text}
 use Rattle.std.specs.Fmt.{decimal}
 use Rattle.ed_programs.specs.Fraction.{fraction_orders, fraction_prints, fraction_text}
 use Rattle.ed_programs.specs.declared.fraction.TheConstants.{FRACTION}
 use Rattle.ed_programs.proofs.FractionProgram.{Given, IsAround, Work, cells}
 use Rattle.ed_programs.proofs.FractionWhole.{all_shown, few_codes, figure_codes, fraction_stops, quotient_small}
+use Rattle.ed_programs.proofs.DataLines.{small_too}
 use Rattle.ed_programs.proofs.SourceRuns.{lines_of_pieces, program_runs}
 
 -- the pieces of the source, and the numbers between them
@@ -22,13 +22,10 @@ module _ (u l n : ℕ) (first : u < 65536) (some : 1 ≤ l) (few : l ≤ 6553) (
   abbrev three : List ℕ
   three = u ∷ l ∷ n ∷ []
 
-  three_small : are_small three ≡ true
-  three_small =
-      let x = lt-ltb u 65536 first in let y = lt-ltb l 65536 (omega arith) in let z = lt-ltb n 65536 third in
-      rw (x, y, z) refl
-
   abbrev marks : List (Marked true)
-  marks = data_mark 52 three (lit≤ tt) (lit≤ tt) (lit≤ tt) three_small ∷ []
+  marks =
+      data_mark 52 three (lit≤ tt) (lit≤ tt) (lit≤ tt)
+      (small_too u (l ∷ n ∷ []) first (small_too l (n ∷ []) (omega arith) (small_too n [] third refl))) ∷ []
 
   abbrev lines : List Line
   lines = lines_of_pieces true fraction_pieces (fraction_data u l n) marks
@@ -64,6 +61,6 @@ module _ (u l n : ℕ) (first : u < 65536) (some : 1 ≤ l) (few : l ≤ 6553) (
         let work : Work = record { number = 0; low = 0; rest = 0; divisor = 0; scrap = 0 } in
         program_runs s true fraction_pieces (fraction_data u l n) marks refl
         (stops_from_entry s.size lines refl 40 (lit≤ tt) (cells 56 96 120 162 work) refl refl entry.tape refl
-        (fraction_stops given (moment_at entry) work u l n is_around (append-nil (number_rows three)) refl first some few
-        third entry.orders))
+        (fraction_stops given (moment_at entry) work u l n is_around (append-nil (number_rows three)) refl first some
+        few third entry.orders))
         (omega arith) (omega arith) (all_shown u l n (u / l) low)

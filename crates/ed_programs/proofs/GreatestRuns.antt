@@ -78,7 +78,8 @@ module _ (a b c d e f g h : ℕ) (small : are_small (a ∷ b ∷ c ∷ d ∷ e �
         let stand : Stand entry.store.words 79 ns =
         numbers_stand s.size lines refl 79 ns (lit≤ tt) (lit≤ tt) refl small in
         program_runs s true greatest_pieces (map decimal ns) marks refl
-        (stops_from_entry s.size lines refl 23 (lit≤ tt) (cells 56 87 88 (getting 79) (getting 79) 0 0) refl refl [] refl
+        (stops_from_entry s.size lines refl 23 (lit≤ tt) (cells 56 87 88 (getting 79) (getting 79) 0 0) refl refl []
+        refl
         (greatest_stops given first ns
         (record { stand = stand; ends = refl; from = lit≤ tt; small = lit< tt; low = lit< tt }) refl entry.orders))
         (omega arith) (omega arith) (digits_printed (greatest_of ns) low)

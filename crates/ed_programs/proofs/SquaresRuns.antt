@@ -49,4 +49,5 @@ pub squares_run : (s : Settings) → FirstTapeRuns s squares_text squares_cost s
 unfolding first_state1 patched
 squares_run s =
     first_tape_runs s squares_text tape_rows program refl (leb-true (length squares_text) INPUT_BYTES refl)
-    (search (rules, are_items)) (squares_stop around entry.orders) (leb-true (length (all_codes around)) paper_room refl)
+    (search (rules, are_items)) (squares_stop around entry.orders)
+    (leb-true (length (all_codes around)) paper_room refl)
