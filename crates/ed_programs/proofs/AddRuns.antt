@@ -4,7 +4,8 @@ use Rattle.ed_programs.proofs.Kit.{along, print_line, ReachesStop, entry_state, 
 use Rattle.ed_programs.proofs.Kit.{Settings, Line, moment_at, append-nil, few_digits, SourceRuns, data_mark, pair_after}
 use Rattle.ed_programs.proofs.Kit.{Z_F, to_stop, get_own, frame_at, length, Moment, settings, HasRead, calling, HasPair}
 use Rattle.ed_programs.proofs.Kit.{IsIn, then, arith, false, List, lit<, lit≤, map, Frame, short, state, digits, Marked}
-use Rattle.ed_programs.proofs.Kit.{Z, T, [], refl, sym, true, ◌≡◌, are_small, ℕ, ◌*◌, ◌+◌, ◌<◌, ◌∷◌, Text, A, on, stay, own, to}
+use Rattle.ed_programs.proofs.Kit.{Z, T, [], refl, sym, true, ◌≡◌, are_small, ℕ, ◌*◌, ◌+◌, ◌<◌, ◌∷◌, Text, A, on, stay}
+use Rattle.ed_programs.proofs.Kit.{own, to}
 use Rattle.std.specs.Fmt.{decimal}
 use Rattle.ed_programs.specs.Add.{add_orders, add_text}
 use Rattle.ed_programs.specs.declared.add.TheConstants.{ADD}
