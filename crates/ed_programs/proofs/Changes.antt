@@ -6,7 +6,8 @@ use Rattle.ed_sources.proofs.Kit.{Leads, A, G_jumps, leads, on, Path, stay, own,
 use Rattle.ed_sources.proofs.Kit.{after_digits, digit_rows, digits, digits_value, IsOther, caller, IsLoadedAt, IsCalled}
 use Rattle.ed_sources.proofs.Kit.{digits_law, HasRoutine}
 use Rattle.ed_routines.proofs.Kit.{set, Jumps, Reads, any}
-use Rattle.std.proofs.lemmas.List.{get_or-set_same, get_or-set_other, length-set}
+use Rattle.std.proofs.lemmas.Grind.{common_steps}
+use Rattle.std.proofs.lemmas.List.{length-set}
 use Rattle.ed_words.specs.declared.order_words.TheConstants.{A_F}
 use Rattle.ed_machine.proofs.Kit.Frames.{all_digits}
 use Rattle.ed_machine.proofs.Kit.Window.{patched_self, get_own}
@@ -37,17 +38,7 @@ still_has above low keeps {w1 = w1} there other = record {
 -- the cells of a piece at b after its cell j was written, in words where it has v and the others are as before
 pub set_own : (words cells : List ℕ) (b j v m : ℕ) → j < length cells → get_or words (b + j) 0 ≡ v
     → (m ≢ j → get_or words (b + m) 0 ≡ get_or cells m 0) → get_or words (b + m) 0 ≡ get_or (set cells j v) m 0
-set_own words cells b j v m inside is other =
-    elim (cases_lt m j) [
-      | inl below ↦ apart (λ e. absurd (omega (arith, e, below)))
-      | inr high ↦ elim (cases_lt j m) [
-        | inl above ↦ apart (λ e. absurd (omega (arith, e, above)))
-        | inr low ↦ let e : m ≡ j = omega arith in rw e (is ∙ sym (get_or-set_same cells j v 0 inside))
-      ]
-    ]
-  where
-    apart : m ≢ j → get_or words (b + m) 0 ≡ get_or (set cells j v) m 0
-    apart d = other d ∙ sym (get_or-set_other cells j m v 0 d)
+set_own words cells b j v m inside is other = grind (arith, common_steps)
 
 module _ {n h : ℕ} {f : Frame n h} {r : Moment} (o : IsIn f r) where
   -- the moment after such a call: the words of the store and its digits, the piece's own words, the rows left and the

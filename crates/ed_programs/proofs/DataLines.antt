@@ -3,6 +3,8 @@ use Rattle.ed_sources.proofs.Kit.{[], ap, arith, Bool, codes, decimal, false, ge
 use Rattle.ed_sources.proofs.Kit.{not, Ok, refl, Some, subst, suc, sym, true, zero, ℕ, ◌*◌, ◌++◌, ◌<◌, ◌==◌, ◌∙◌, ◌∷◌}
 use Rattle.ed_sources.proofs.Kit.{◌≡◌, ◌≤◌, list_all, and_from, and_parts, le-leb, lt-ltb, ltb-true, ne_eqb, not-true}
 use Rattle.ed_sources.proofs.Kit.{list_all-append, Text, row_of, is_line_byte, run, row, spells, line_of, digits}
+use Rattle.ed_sources.proofs.Kit.{nat_tests}
+use Rattle.std.proofs.lemmas.List.Folds.{list_all_at}
 use Rattle.ed_syntax.proofs.Kit.{map-append, array, has_quote, quoted}
 use Rattle.std.proofs.Common.{Fits, slice_index_or, w16}
 use Rattle.std.proofs.lemmas.List.{append_assoc, length-append}
@@ -34,9 +36,7 @@ all_fit [] fit = refl
 all_fit (n ∷ ns) fit = small_too n ns (fit 0).fits (all_fit ns (λ i. fit (suc i)))
 
 pub small_at : (ns : List ℕ) → are_small ns ≡ true → (i : ℕ) → i < length ns → get_or ns i 0 < 65536
-small_at [] h i l = absurd (omega arith)
-small_at (n ∷ ns) h zero l = ltb-true n 65536 (and_parts (nat_lt n 65536) (are_small ns) h).0
-small_at (n ∷ ns) h (suc i) l = small_at ns (and_parts (nat_lt n 65536) (are_small ns) h).1 i (omega arith)
+small_at ns h i l = grind (arith, nat_tests, list_all_at (λ n. nat_lt n 65536) ns i 0 l)
 
 -- what the bytes of such numbers are
 pub record AreNumbers (ns : List ℕ) (bytes : Text) : Type 0 where
