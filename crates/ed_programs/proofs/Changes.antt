@@ -1,10 +1,9 @@
 -- A call of a routine that writes in a cell of the piece, as one line; and so `read`.
-use Rattle.ed_sources.proofs.Kit.{[], ap, arith, Bool, false, get_or, inl, inr, length, List, lit<, Option, refl, rules}
-use Rattle.ed_sources.proofs.Kit.{subst, sym, ℕ, ◌%◌, ◌*◌, ◌++◌, ◌+◌, ◌/◌, ◌<◌, ◌^◌, ◌∙◌, ◌∷◌, ◌≡◌, ◌≢◌, ◌≤◌, ◌⊎◌}
-use Rattle.ed_sources.proofs.Kit.{cases_lt, locations, locations_most, State, Frame, Moment, short, state, joined}
-use Rattle.ed_sources.proofs.Kit.{Leads, A, G_jumps, leads, on, Path, stay, own, patched, place_count, read, with_h}
-use Rattle.ed_sources.proofs.Kit.{after_digits, digit_rows, digits, digits_value, IsOther, caller, IsLoadedAt, IsCalled}
-use Rattle.ed_sources.proofs.Kit.{digits_law, HasRoutine}
+use Rattle.ed_sources.proofs.Kit.{Bool, locations_most, place_count, after_digits, digit_rows, digits_value, IsLoadedAt}
+use Rattle.ed_sources.proofs.Kit.{arith, get_or, locations, G_jumps, patched, IsOther, IsCalled, digits_law, HasRoutine}
+use Rattle.ed_sources.proofs.Kit.{false, length, Option, rules, subst, ℕ, State, Moment, joined, with_h, digits, caller}
+use Rattle.ed_sources.proofs.Kit.{inl, inr, List, lit<, refl, ◌++◌, Frame, short, state, Leads, leads, Path, stay, read}
+use Rattle.ed_sources.proofs.Kit.{[], ap, sym, ◌%◌, ◌*◌, ◌+◌, ◌/◌, ◌<◌, ◌^◌, ◌∙◌, ◌∷◌, ◌≡◌, ◌≢◌, ◌≤◌, ◌⊎◌, A, on, own}
 use Rattle.ed_routines.proofs.Kit.{set, Jumps, Reads, any}
 use Rattle.std.proofs.lemmas.Grind.{common_steps}
 use Rattle.std.proofs.lemmas.List.{length-set}

@@ -1,9 +1,8 @@
 -- A line `data` with numbers, each ended by F: what it says, and what its rows are.
-use Rattle.ed_sources.proofs.Kit.{[], ap, arith, Bool, codes, decimal, false, get_or, length, List, map, nat_lt, None}
-use Rattle.ed_sources.proofs.Kit.{not, Ok, refl, Some, subst, suc, sym, true, zero, ℕ, ◌*◌, ◌++◌, ◌<◌, ◌==◌, ◌∙◌, ◌∷◌}
-use Rattle.ed_sources.proofs.Kit.{◌≡◌, ◌≤◌, list_all, and_from, and_parts, le-leb, lt-ltb, ltb-true, ne_eqb, not-true}
-use Rattle.ed_sources.proofs.Kit.{list_all-append, Text, row_of, is_line_byte, run, row, spells, line_of, digits}
-use Rattle.ed_sources.proofs.Kit.{nat_tests}
+use Rattle.ed_sources.proofs.Kit.{[], list_all, and_from, and_parts, ltb-true, list_all-append, is_line_byte, nat_tests}
+use Rattle.ed_sources.proofs.Kit.{decimal, get_or, length, nat_lt, ℕ, le-leb, lt-ltb, ne_eqb, not-true, row_of, line_of}
+use Rattle.ed_sources.proofs.Kit.{arith, Bool, codes, false, List, None, refl, Some, subst, true, ◌++◌, spells, digits}
+use Rattle.ed_sources.proofs.Kit.{ap, map, not, Ok, suc, sym, ◌*◌, ◌<◌, ◌==◌, ◌∙◌, ◌∷◌, ◌≡◌, ◌≤◌, Text, run, row}
 use Rattle.std.proofs.lemmas.List.Folds.{list_all_at}
 use Rattle.ed_syntax.proofs.Kit.{map-append, array, has_quote, quoted}
 use Rattle.std.proofs.Common.{Fits, slice_index_or, w16}

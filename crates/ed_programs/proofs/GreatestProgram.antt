@@ -1,10 +1,10 @@
 -- The program of `examples/answer6.edsac`, at any base and for a list of any length: two orders go along the list.
-use Rattle.ed_programs.proofs.Kit.{quiet_walks, if◌then◌else◌, locations_most, print_orders, ReachesStop, stop_counted}
-use Rattle.ed_programs.proofs.Kit.{all_spent, IsOutside, ltb-false, IsIn, print_line, followed, HasRoutine, greatest_of}
-use Rattle.ed_programs.proofs.Kit.{walked, G_stays, to_stop, get_own, get_or, length, nat_lt, ltb-true, Moment, G_jumps}
-use Rattle.ed_programs.proofs.Kit.{along, early, arith, false, subst, Frame, short, state, print, with_h, digits, rises}
+use Rattle.ed_programs.proofs.Kit.{quiet_walks, locations_most, print_orders, ReachesStop, stop_counted, greatest_of, Z}
+use Rattle.ed_programs.proofs.Kit.{all_spent, IsOutside, ltb-false, print_line, followed, HasRoutine, walked, nat_tests}
+use Rattle.ed_programs.proofs.Kit.{G_stays, to_stop, get_own, get_or, length, nat_lt, ltb-true, Moment, G_jumps, with_h}
+use Rattle.ed_programs.proofs.Kit.{IsIn, along, early, arith, false, subst, Frame, short, state, print, digits, rises}
 use Rattle.ed_programs.proofs.Kit.{A_F, G_F, S_F, T_F, U_F, Z_F, then, Bool, List, lit<, lit≤, refl, true, Path, stay}
-use Rattle.ed_programs.proofs.Kit.{Z, S, T, U, out, [], ap, inr, ℕ, ◌*◌, ◌+◌, ◌-◌, ◌<◌, ◌∙◌, ◌∷◌, ◌≡◌, ◌≤◌, A, on, own}
+use Rattle.ed_programs.proofs.Kit.{S, T, U, out, [], ap, inr, ℕ, ◌*◌, ◌+◌, ◌-◌, ◌<◌, ◌∙◌, ◌∷◌, ◌≡◌, ◌≤◌, A, on, own}
 use Rattle.std.proofs.Common.{max}
 
 -- the order that gets the word at q
@@ -78,17 +78,12 @@ orders x n = orders_by (nat_lt n x.most)
 spent_is : (x : Turning) (ns : List ℕ) → all_spent orders next x ns ≡ 13 * length ns + 3 * rises x.most ns
 spent_is x [] = omega arith
 spent_is x (n ∷ ns) =
-    by_less (λ b. orders_by b + all_spent orders next (next_by b x n ns) ns
-    ≡ 13 * length (n ∷ ns) + 3 * (if b then rises x.most ns else 1 + rises n ns)) n x.most
-    (λ l. let e = spent_is (next_by true x n ns) ns in omega (arith, e))
-    (λ l. let e = spent_is (next_by false x n ns) ns in omega (arith, e))
+    grind (arith, nat_tests, spent_is (next_by true x n ns) ns, spent_is (next_by false x n ns) ns)
 
 most_is : (x : Turning) (ns : List ℕ) → (walked next x ns).most ≡ max x.most (greatest_of ns)
 most_is x [] = omega arith
 most_is x (n ∷ ns) =
-    by_less (λ b. (walked next (next_by b x n ns) ns).most ≡ max x.most (max n (greatest_of ns))) n x.most
-    (λ l. let e = most_is (next_by true x n ns) ns in omega (arith, e))
-    (λ l. let e = most_is (next_by false x n ns) ns in omega (arith, e))
+    grind (arith, nat_tests, most_is (next_by true x n ns) ns, most_is (next_by false x n ns) ns)
 
 module _ (given : Given) where
   open given use {f, e, p, around, above, all, at2, room}
