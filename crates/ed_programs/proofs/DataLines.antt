@@ -71,10 +71,7 @@ all_numbers (n ∷ ns) h =
 
 without_quote : (bytes : Text) → list_all (λ b. not (b == 34)) bytes ≡ true → has_quote bytes ≡ false
 without_quote [] h = refl
-without_quote (b ∷ bytes) h =
-    let p = and_parts (not (b == 34)) (list_all (λ b. not (b == 34)) bytes) h in
-    let here : (b == 34) ≡ false = not-true (b == 34) p.0 in
-    rw here (without_quote bytes p.1)
+without_quote (b ∷ bytes) h = grind (arith, nat_tests, without_quote bytes)
 
 some_byte : (ns : List ℕ) → 1 ≤ length ns → 1 ≤ length (numbers_text ns)
 some_byte [] l = absurd (omega arith)

@@ -79,10 +79,7 @@ pub few_codes : (u l n : ℕ) → length (figure_codes u l n) ≤ 6 * n
 few_codes u l zero = omega arith
 few_codes u l (suc n) =
     let x : ℕ = figure u l (n + 1) in
-    let a = length-append (figure_codes u l n) (11 ∷ digits x) in
-    let few = few_digits x in
-    let rest = few_codes u l n in
-    omega (arith, a, few, rest)
+    omega (arith, length-append (figure_codes u l n) (11 ∷ digits x), few_digits x, few_codes u l n)
 
 -- ---- the loop
 
