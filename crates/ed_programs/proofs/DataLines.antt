@@ -1,6 +1,6 @@
 -- A line `data` with numbers, each ended by F: what it says, and what its rows are.
 use Rattle.ed_sources.proofs.Kit.{[], list_all, and_from, and_parts, ltb-true, list_all-append, is_line_byte, nat_tests}
-use Rattle.ed_sources.proofs.Kit.{decimal, get_or, length, nat_lt, ℕ, le-leb, lt-ltb, ne_eqb, not-true, row_of, line_of}
+use Rattle.ed_sources.proofs.Kit.{decimal, get_or, length, nat_lt, ℕ, le-leb, lt-ltb, ne_eqb, row_of, line_of}
 use Rattle.ed_sources.proofs.Kit.{arith, Bool, codes, false, List, None, refl, Some, subst, true, ◌++◌, spells, digits}
 use Rattle.ed_sources.proofs.Kit.{ap, map, not, Ok, suc, sym, ◌*◌, ◌<◌, ◌==◌, ◌∙◌, ◌∷◌, ◌≡◌, ◌≤◌, Text, run, row}
 use Rattle.std.proofs.lemmas.List.Folds.{list_all_at}
