@@ -1,16 +1,16 @@
 -- The routine obeys the guest order by order.
-use Rattle.ed_checker.proofs.Kit.{cases_eq, Kind, E, G, Stopped, [], ap, arith, false, inl, inr, Option, refl, rules}
-use Rattle.ed_checker.proofs.Kit.{Some, subst, suc, sym, true, zero, ℕ, ◌%◌, ◌++◌, ◌+◌, ◌∙◌, ◌∷◌, ◌≡◌, within}
-use Rattle.ed_checker.proofs.Kit.{function_of, IsStore, kind_of_function, after, next_word, obey_word, Obeyed, step}
-use Rattle.ed_checker.proofs.Kit.{State, codes_of, is_obeyed, progress, Progress, state_after, stops_of, short_at}
-use Rattle.ed_checker.proofs.Kit.{Agree, checked_orders, guest, IsAllowed, orders_by, turn_orders, HasRun}
+use Rattle.ed_checker.proofs.Kit.{Kind, E, G, Stopped, [], ap, arith, false, Option, refl, rules, Some, subst, suc, sym}
+use Rattle.ed_checker.proofs.Kit.{true, true≢false, zero, ℕ, ◌%◌, ◌++◌, ◌+◌, ◌∙◌, ◌∷◌, ◌≡◌, within, function_of}
+use Rattle.ed_checker.proofs.Kit.{IsStore, kind_of_function, after, next_word, obey_word, Obeyed, step, State, codes_of}
+use Rattle.ed_checker.proofs.Kit.{is_obeyed, progress, Progress, state_after, stops_of, short_at, Agree, checked_orders}
+use Rattle.ed_checker.proofs.Kit.{guest, IsAllowed, orders_by, turn_orders, HasRun}
 use Rattle.ed_machine.specs.Sound.{IsSound}
 use Rattle.ed_machine.proofs.SoundSteps.{sound_after}
 use Rattle.ed_checker.specs.Checker.{checked_codes}
 use Rattle.ed_checker.specs.Laws.{CheckerLaw, HasChecked, ChecksToBlock, ChecksToStop, HasGuest, IsFollowed}
 use Rattle.ed_checker.proofs.Alike.{Alike, Outcome, agree_with, is_planted, Outcome-planted}
 use Rattle.ed_checker.proofs.HasRun.{HasRun-joined, HasRun-none, HasRun-renamed}
-use Rattle.ed_checker.proofs.Turns.{step-turn, turn_halts, turn_stuck, other_planted}
+use Rattle.ed_checker.proofs.Turns.{by_function, step-turn, turn_reaches, other_planted}
 
 agree_self : (base : ℕ) (s : State) → Agree base s s
 agree_self base s = search rules
@@ -38,9 +38,9 @@ module _ {base : ℕ} (even_base : base % 2 ≡ 0) {s t : State} (p : Agree base
   unfolding step
   at_t k e = ap (λ w. obey_word (kind_of_function (function_of w)) w t) (sym same_word) ∙ ap (λ k. obey_word k x t) e
 
-  record Both (a b : Obeyed) : Type 0 where
-    turn : a.turn ≡ b.turn
-    agree : Agree base a.state b.state
+  pub record Both (a b : Obeyed) : Type 0 where
+    pub turn : a.turn ≡ b.turn
+    pub agree : Agree base a.state b.state
 
   both_E : Both (obey_word (Some E) x s) (obey_word (Some E) x t)
   both_E = search rules
@@ -82,30 +82,15 @@ module _ {base : ℕ} (even_base : base % 2 ≡ 0) {s t : State} (p : Agree base
     -- both turns are the same, whether the order is obeyed or not
     pub same_turn : (step s).turn ≡ (step t).turn
     same_turn =
-        elim (cases_eq (function_of x) 3) [
-          | inl e ↦ turn_by (Some E) (ap kind_of_function e) both_E.turn
-          | inr no3 ↦
-              elim (cases_eq (function_of x) 27) [
-                | inl e ↦ turn_by (Some G) (ap kind_of_function e) both_G.turn
-                | inr no27 ↦ turn_by kind refl (both_outcome (other_planted (function_of x) no3 no27)).turn
-              ]
-        ]
+        by_function (function_of x) (λ e. turn_by (Some E) (ap kind_of_function e) both_E.turn)
+        (λ e. turn_by (Some G) (ap kind_of_function e) both_G.turn)
+        (λ no3 no27. turn_by kind refl (both_outcome (other_planted (function_of x) no3 no27)).turn)
 
-    pub steps : is_obeyed (step t).turn ≡ true
-        → ((step s).turn ≡ (step t).turn) × Agree base (step s).state (step t).state
-    steps h = (whole.turn, whole.agree)
-      where
-        whole : Both (step s) (step t)
-        whole =
-            elim (cases_eq (function_of x) 3) [
-              | inl e ↦ by_step (Some E) (ap kind_of_function e) both_E
-              | inr no3 ↦
-                  elim (cases_eq (function_of x) 27) [
-                    | inl e ↦ by_step (Some G) (ap kind_of_function e) both_G
-                    | inr no27 ↦ by_step kind refl
-                        (both_planted (other_planted (function_of x) no3 no27) h)
-                  ]
-            ]
+    pub steps : is_obeyed (step t).turn ≡ true → Both (step s) (step t)
+    steps h =
+        by_function (function_of x) (λ e. by_step (Some E) (ap kind_of_function e) both_E)
+        (λ e. by_step (Some G) (ap kind_of_function e) both_G)
+        (λ no3 no27. by_step kind refl (both_planted (other_planted (function_of x) no3 no27) h))
 
 -- ---- the guest of a machine that has the routine
 
@@ -141,13 +126,13 @@ module _ (base : ℕ) (m : State) (has : HasGuest base m) where
       let word : next_word (guest base a) ≡ next_word gq = same_word has.even c.agree ok in
       let t = step-turn base has.even a a_sound.store (rw c.size has.room) c.stands
       (allowed has.even c.agree ok)
-      (ap is_obeyed b.0 ∙ obeyed) in
+      (ap is_obeyed b.turn ∙ obeyed) in
       let codes : function_of (next_word (guest base a)) ∷ codes_of (step (guest base a)).turn
       ≡ function_of (next_word gq) ∷ codes_of (step gq).turn
-      = (λ i. function_of (word i) ∷ codes_of (b.0 i)) in
+      = (λ i. function_of (word i) ∷ codes_of (b.turn i)) in
       let orders : t.count ≡ turn_orders gq = t.exact ∙ same_orders (guest base a) gq word c.agree.acc in
       let r = HasRun-renamed (HasRun-joined c.ran t.ran) (ap (λ cs. checked_codes g q ++ cs) codes)
-      (ap (λ n. (progress q g).stops + n) (ap stops_of b.0)) in
+      (ap (λ n. (progress q g).stops + n) (ap stops_of b.turn)) in
       record {
         last = t.after;
         most = omega (arith, c.most, t.most, orders);
@@ -155,7 +140,7 @@ module _ (base : ℕ) (m : State) (has : HasGuest base m) where
             (progress (suc q) g).stops t.after)
             orders r;
         stands = t.stands;
-        agree = agree_trans t.agree b.1;
+        agree = agree_trans t.agree b.agree;
         size = t.size ∙ c.size;
       }
 
@@ -192,19 +177,18 @@ module _ (base : ℕ) (m : State) (has : HasGuest base m) where
       let g_sound : IsSound gq = sound_after q g (guest_sound base m has (first_allowed q h ok)) in
       let b = steps has.even c.agree ok a_sound.store g_sound.store (ap is_obeyed stop) in
       let word : next_word (guest base a) ≡ next_word gq = same_word has.even c.agree ok in
-      let t = turn_halts base has.even a a_sound.store (rw c.size has.room) c.stands
-      (allowed has.even c.agree ok)
-      (b.0 ∙ stop) in
+      let t = turn_reaches base has.even a a_sound.store (rw c.size has.room) c.stands (allowed has.even c.agree ok)
+      (λ went. absurd (omega (arith, ap stops_of (sym went ∙ b.turn ∙ stop)))) in
       let orders : t.count + 17 ≡ turn_orders gq = t.exact ∙ same_orders (guest base a) gq word c.agree.acc in
       record {
-        last = t.before;
+        last = t.after;
         count = checked_orders g q + t.count;
         exact = omega (arith, orders);
         most = omega (arith, c.most, t.most);
         ran = HasRun-renamed (HasRun-joined c.ran t.ran)
             (λ i. checked_codes g q ++ (function_of (word i) ∷ codes_of (sym stop i))) (omega (arith, no_stop));
         counter = t.counter;
-        stops = t.turn;
+        stops = t.turn ∙ b.turn ∙ stop;
       }
 
   -- and up to one that can't be obeyed
@@ -219,9 +203,8 @@ module _ (base : ℕ) (m : State) (has : HasGuest base m) where
       let g_sound : IsSound gq = sound_after q g (guest_sound base m has (first_allowed q h ok)) in
       let turn_is = same_turn has.even c.agree ok a_sound.store g_sound.store in
       let word : next_word (guest base a) ≡ next_word gq = same_word has.even c.agree ok in
-      let t = turn_stuck base has.even a a_sound.store (rw c.size has.room) c.stands
-      (allowed has.even c.agree ok)
-      (ap is_obeyed turn_is ∙ stuck) in
+      let t = turn_reaches base has.even a a_sound.store (rw c.size has.room) c.stands (allowed has.even c.agree ok)
+      (λ went. true≢false (ap is_obeyed (sym went ∙ turn_is) ∙ stuck)) in
       let orders : t.count + 17 ≡ turn_orders gq = t.exact ∙ same_orders (guest base a) gq word c.agree.acc in
       record {
         last = t.after;

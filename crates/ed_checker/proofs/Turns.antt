@@ -1,12 +1,11 @@
 -- One turn of the routine: it obeys one order of its guest.
-use Rattle.ed_checker.proofs.Kit.{nat_le, ◌≢◌, cases_eq, A_F, L_F, kinds, Kind, E, G, Stopped, followed, get_own, []}
-use Rattle.ed_checker.proofs.Kit.{ap, arith, Bool, false, get_or, inl, inr, List, nat_eq, nat_lt, None, Option, refl}
-use Rattle.ed_checker.proofs.Kit.{rules, Some, subst, suc, sym, true, true≢false, zero, ℕ, ◌%◌, ◌&&◌, ◌*◌, ◌++◌, ◌+◌}
-use Rattle.ed_checker.proofs.Kit.{◌/◌, ◌<◌, ◌^◌, ◌∙◌, ◌∷◌, ◌≡◌, ◌≤◌, and_parts, cases_lt, nat_tests, locations, within}
-use Rattle.ed_checker.proofs.Kit.{address_of, function_of, locations_most, IsStore, kind_of_function, done_at, jump_order}
-use Rattle.ed_checker.proofs.Kit.{next_word, obey_word, Obeyed, step, State, codes_of, is_obeyed, stops_of}
-use Rattle.ed_checker.proofs.Kit.{if◌then◌else◌, lit≤, Frame, state, Path, Agree, CheckerStands, guest, IsAllowed}
-use Rattle.ed_checker.proofs.Kit.{IsAllowedOrder, turn_orders, HasRun}
+use Rattle.ed_checker.proofs.Kit.{nat_le, ◌≢◌, cases_eq, A_F, L_F, kinds, Kind, E, G, followed, get_own, [], ap, arith}
+use Rattle.ed_checker.proofs.Kit.{Bool, false, get_or, inl, inr, List, nat_eq, nat_lt, None, Option, refl, rules, Some}
+use Rattle.ed_checker.proofs.Kit.{subst, suc, sym, true, zero, ℕ, ◌%◌, ◌&&◌, ◌*◌, ◌++◌, ◌+◌, ◌/◌, ◌<◌, ◌^◌, ◌∙◌, ◌∷◌}
+use Rattle.ed_checker.proofs.Kit.{◌≡◌, ◌≤◌, and_parts, cases_lt, nat_tests, locations, within, address_of, function_of}
+use Rattle.ed_checker.proofs.Kit.{locations_most, IsStore, kind_of_function, done_at, jump_order, next_word, obey_word}
+use Rattle.ed_checker.proofs.Kit.{Obeyed, step, State, codes_of, is_obeyed, stops_of, if◌then◌else◌, lit≤, Frame, state}
+use Rattle.ed_checker.proofs.Kit.{Path, Agree, CheckerStands, guest, IsAllowed, IsAllowedOrder, turn_orders, HasRun}
 use Rattle.ed_routines.proofs.Kit.{le-ltb, lt-ltb, leads}
 use Rattle.std.proofs.Common.{◌||◌, append-nil}
 use Rattle.std.proofs.lemmas.Bool.{eq-eqb, ne_eqb, le-leb, lt-leb}
@@ -18,10 +17,11 @@ use Rattle.ed_checker.proofs.AccFits.{acc_fits}
 use Rattle.ed_checker.proofs.Alike.{Alike, Outcome, agree_with, is_planted, Outcome-planted}
 use Rattle.ed_checker.proofs.Halves.{long_fits}
 use Rattle.ed_checker.proofs.HasRun.{HasRun-joined, HasRun-one, HasRun-along}
-use Rattle.ed_checker.proofs.Opening.{around, HasCells, state-opened, frame, work, HasCells-holds, guest_counter, guest_acc}
-use Rattle.ed_checker.proofs.Opening.{stands_again, alike_around}
+use Rattle.ed_checker.proofs.Opening.{around, HasCells, state-opened, frame, work, HasCells-holds, guest_counter}
+use Rattle.ed_checker.proofs.Opening.{guest_acc, stands_again, alike_around}
 use Rattle.ed_checker.proofs.Paths.{IsSaved, Work, Around, cells, pairs, moment, Path-fetch, below_E, above_E, below_G}
-use Rattle.ed_checker.proofs.Paths.{above_G, Path-restore, Path-save, Path-advance, E_taken, E_passed, G_taken, G_passed}
+use Rattle.ed_checker.proofs.Paths.{above_G, Path-restore, Path-save, Path-advance, E_taken, E_passed, G_taken}
+use Rattle.ed_checker.proofs.Paths.{G_passed}
 use Rattle.ed_checker.proofs.Saving.{high_of, middle_of, low_of, whole-saved, middle_fits, high_fits as high_of_fits}
 
 -- what a turn does: k orders lead from m to t, where the routine is at the start of a turn and the guest past its order
@@ -36,26 +36,24 @@ pub record Turned (base : ℕ) (m : State) : Type 0 where
   pub agree : Agree base (guest base after) (step (guest base m)).state
   pub size : after.size ≡ m.size
 
--- if the guest's order cannot be obeyed: the routine reaches it, and is stopped by the same cause
-pub record Stuck (base : ℕ) (m : State) : Type 0 where
+-- if the guest's order is a stop or cannot be obeyed: the routine reaches it, and it does the same there
+pub record Reached (base : ℕ) (m : State) : Type 0 where
   pub after : State
   pub count : ℕ
   pub exact : count + 17 ≡ turn_orders (guest base m)
-  pub most : count ≤ 35
+  pub most : count ≤ 18
   pub ran : HasRun count m (function_of (next_word (guest base m)) ∷ []) 0 after
   pub counter : after.counter ≡ base + 40
   pub turn : (step after).turn ≡ (step (guest base m)).turn
   pub agree : Agree base (guest base after) (guest base m)
 
--- if the guest's order is a stop: the machine stops at it
-pub record Halts (base : ℕ) (m : State) : Type 0 where
-  pub before : State
-  pub count : ℕ
-  pub exact : count + 17 ≡ turn_orders (guest base m)
-  pub most : count ≤ 18
-  pub ran : HasRun count m (function_of (next_word (guest base m)) ∷ []) 0 before
-  pub counter : before.counter ≡ base + 40
-  pub turn : (step before).turn ≡ Stopped
+-- an order is E, G or another one
+pub by_function : {P : Type 0} (n : ℕ) → (n ≡ 3 → P) → (n ≡ 27 → P) → (n ≢ 3 → n ≢ 27 → P) → P
+by_function n is_E is_G other =
+    elim (cases_eq n 3) [
+      | inl e ↦ is_E e
+      | inr no3 ↦ elim (cases_eq n 27) [ inl e ↦ is_G e | inr no27 ↦ other no3 no27 ]
+    ]
 
 -- the kinds of all functions but 3 and 27 are obeyed at the routine's own location
 abbrev all_but : List (Option Kind) → ℕ → Bool
@@ -246,29 +244,17 @@ module _ (base : ℕ) (even_base : base % 2 ≡ 0) (m : State) (store : IsStore 
     same_turn : r1.turn ≡ (step g).turn
     same_turn = result.turn ∙ ap (λ (y : Obeyed). y.turn) (sym at_g)
 
-    -- the guest's order cannot be obeyed
-    pub stuck : is_obeyed (step g).turn ≡ false → Stuck base m
-    stuck h = record {
+    reaches : Reached base m
+    reaches = record {
       after = m1;
-      count = to.count;
-      exact = to.exact;
-      most = omega (arith, to.most);
-      ran = reached;
-      counter = refl;
-      turn = ap (λ (y : Obeyed). y.turn) at_m1 ∙ same_turn;
-      agree = agree_with a1 (guest_acc f even_base o w2)
-          (guest_counter f even_base o w2 c at0_is (omega (arith, c_fits)));
-    }
-
-    pub halted : (step g).turn ≡ Stopped → Halts base m
-    halted h = record {
-      before = m1;
       count = to.count;
       exact = to.exact;
       most = to.most;
       ran = reached;
       counter = refl;
-      turn = ap (λ (y : Obeyed). y.turn) at_m1 ∙ same_turn ∙ h;
+      turn = ap (λ (y : Obeyed). y.turn) at_m1 ∙ same_turn;
+      agree = agree_with a1 (guest_acc f even_base o w2)
+          (guest_counter f even_base o w2 c at0_is (omega (arith, c_fits)));
     }
 
     -- the machine after it
@@ -457,54 +443,18 @@ module _ (base : ℕ) (even_base : base % 2 ≡ 0) (m : State) (store : IsStore 
 
   -- the guest obeys its order
   pub step-turn : is_obeyed (step g).turn ≡ true → Turned base m
-  step-turn h =
-      elim (cases_eq n 3) [
-        | inl e ↦ turned_E e
-        | inr no3 ↦
-            elim (cases_eq n 27) [
-              | inl e ↦ turned_G e
-              | inr no27 ↦ turned no3 no27 h
-            ]
-      ]
+  step-turn h = by_function n turned_E turned_G (λ no3 no27. turned no3 no27 h)
 
-  -- it cannot obey it
-  pub turn_stuck : is_obeyed (step g).turn ≡ false → Stuck base m
-  turn_stuck h =
-      elim (cases_eq n 3) [
-        | inl e ↦ absurd (true≢false (sym (obeyed_E e) ∙ h))
-        | inr no3 ↦
-            elim (cases_eq n 27) [
-              | inl e ↦ absurd (true≢false (sym (obeyed_G e) ∙ h))
-              | inr no27 ↦ stuck no3 no27 h
-            ]
-      ]
+  -- or it is a stop, or it cannot obey it
+  pub turn_reaches : ((step g).turn ≡ Went → ⊥) → Reached base m
+  turn_reaches h =
+      by_function n
+      (λ e. absurd (h (jumps (Some E) (ap kind_of_function e) ∙ jump_goes (nat_lt g.acc (2 ^ 70)) _)))
+      (λ e. absurd (h (jumps (Some G) (ap kind_of_function e) ∙ jump_goes (nat_le (2 ^ 70) g.acc) _))) reaches
     where
-      jump_obeyed : (b : Bool) (p : ℕ) → is_obeyed (jump_order b p g).turn ≡ true
-      jump_obeyed true p = refl
-      jump_obeyed false p = refl
+      jumps : (k : Option Kind) → kind_of_function n ≡ k → (step g).turn ≡ (obey_word k x g).turn
+      jumps k e = ap (λ (y : Obeyed). y.turn) (step_at k e)
 
-      obeyed_E : n ≡ 3 → is_obeyed (step g).turn ≡ true
-      obeyed_E e = ap (λ (y : Obeyed). is_obeyed y.turn) (step_at (Some E) (ap kind_of_function e))
-          ∙ jump_obeyed (nat_lt g.acc (2 ^ 70)) _
-
-      obeyed_G : n ≡ 27 → is_obeyed (step g).turn ≡ true
-      obeyed_G e = ap (λ (y : Obeyed). is_obeyed y.turn) (step_at (Some G) (ap kind_of_function e))
-          ∙ jump_obeyed (nat_le (2 ^ 70) g.acc) _
-
-  -- it stops
-  pub turn_halts : (step g).turn ≡ Stopped → Halts base m
-  turn_halts h =
-      elim (cases_eq n 3) [
-        | inl e ↦ absurd (never (nat_lt g.acc (2 ^ 70)) _
-            (sym (ap (λ (y : Obeyed). y.turn) (step_at (Some E) (ap kind_of_function e))) ∙ h))
-        | inr no3 ↦
-            elim (cases_eq n 27) [
-              | inl e ↦ absurd (never (nat_le (2 ^ 70) g.acc) _
-                  (sym (ap (λ (y : Obeyed). y.turn) (step_at (Some G) (ap kind_of_function e))) ∙ h))
-              | inr no27 ↦ halted no3 no27 h
-            ]
-      ]
-    where
-      never : (b : Bool) (p : ℕ) → (jump_order b p g).turn ≡ Stopped → ⊥
-      never true p h = cc
-      never false p h = cc
+      jump_goes : (b : Bool) (p : ℕ) → (jump_order b p g).turn ≡ Went
+      jump_goes true p = refl
+      jump_goes false p = refl

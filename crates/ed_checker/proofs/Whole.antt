@@ -1,9 +1,9 @@
 -- What a turn does, for a run of the machine that obeys as many orders.
-use Rattle.ed_checker.proofs.Kit.{nat_le, Kind, Turn, [], ap, arith, Bool, false, inl, inr, length, Option, refl}
-use Rattle.ed_checker.proofs.Kit.{rules, Some, subst, sym, true, true≢false, ℕ, ◌%◌, ◌++◌, ◌+◌, ◌-◌, ◌<◌, ◌∙◌, ◌∷◌}
-use Rattle.ed_checker.proofs.Kit.{◌≡◌, ◌≤◌, ◌⊎◌, locations, function_of, IsStore, kind_of_function, next_word}
-use Rattle.ed_checker.proofs.Kit.{obey_word, Obeyed, step, State, codes_of, is_obeyed, progress, Progress, stops_of}
-use Rattle.ed_checker.proofs.Kit.{if◌then◌else◌, Agree, CheckerStands, guest, IsAllowed, turn_orders, ChecksOne}
+use Rattle.ed_checker.proofs.Kit.{nat_le, Kind, Turn, [], ap, arith, Bool, false, inl, inr, length, Option, refl, rules}
+use Rattle.ed_checker.proofs.Kit.{Some, subst, sym, true, true≢false, ℕ, ◌%◌, ◌++◌, ◌+◌, ◌-◌, ◌<◌, ◌∙◌, ◌∷◌, ◌≡◌, ◌≤◌}
+use Rattle.ed_checker.proofs.Kit.{◌⊎◌, locations, function_of, IsStore, kind_of_function, next_word, obey_word, Obeyed}
+use Rattle.ed_checker.proofs.Kit.{step, State, codes_of, is_obeyed, progress, Progress, stops_of, if◌then◌else◌, Agree}
+use Rattle.ed_checker.proofs.Kit.{CheckerStands, guest, IsAllowed, turn_orders, ChecksOne}
 use Rattle.ed_run.proofs.Kit.{Sheet, first_once, end_by, EndsAfter, IsRun}
 use Rattle.ed_machine.specs.declared.ending.Ending.{Ending}
 use Rattle.ed_machine.specs.declared.ending.Ending.TheVariants.{Limit, NoOrder as EndsNoOrder, NoTape as EndsNoTape}
@@ -13,7 +13,7 @@ use Rattle.ed_checker.specs.Checker.{is_Z}
 use Rattle.ed_checker.specs.Contract.{answer_by}
 use Rattle.ed_checker.specs.declared.checking.Checking.TheVariants.{Went as HasGone, Stopped as HasStopped}
 use Rattle.ed_checker.specs.declared.checking.Checking.TheVariants.{Blocked as IsBlocked}
-use Rattle.ed_checker.proofs.Turns.{Turned, Stuck, step-turn, turn_stuck}
+use Rattle.ed_checker.proofs.Turns.{Reached, Turned, step-turn, turn_reaches}
 
 few_stops : (t : Turn) → stops_of t ≤ 1
 few_stops t = search rules
@@ -112,7 +112,8 @@ module _ {base count : ℕ} {s t : State} {sheet full : Sheet} {ending : Ending}
 
   blocks : is_obeyed (step g).turn ≡ false → Blocks
   blocks h =
-      let r : Stuck base s = turn_stuck base o.even s o.store o.room o.stands o.allowed h in
+      let r : Reached base s = turn_reaches base o.even s o.store o.room o.stands o.allowed
+      (λ went. true≢false (ap is_obeyed (sym went) ∙ h)) in
       let n = function_of (next_word g) in
       let cs = n ∷ [] in
       let space = o.space in

@@ -1,14 +1,15 @@
 -- The source of `examples/add.edsac` for any two numbers: its path, and what it prints.
-use Rattle.ed_programs.proofs.Kit.{Z_F, Size, Z, Settings, Line, along, IsIn, then, to_stop, T, print_line, get_own}
-use Rattle.ed_programs.proofs.Kit.{frame_at, moment_at, [], append-nil, arith, false, length, List, lit<, lit≤, map}
-use Rattle.ed_programs.proofs.Kit.{refl, sym, true, ℕ, ◌*◌, ◌+◌, ◌<◌, ◌∷◌, ◌≡◌, lt-ltb, Text, Frame, Moment, short}
-use Rattle.ed_programs.proofs.Kit.{state, A, on, stay, own, settings, parameter_store, digits, print_orders}
-use Rattle.ed_programs.proofs.Kit.{few_digits, ReachesStop, entry_state, digits_printed, SourceRuns, HasRead}
-use Rattle.ed_programs.proofs.Kit.{reads_number, are_small, data_mark, number_rows, stops_from_entry, Marked}
+use Rattle.ed_programs.proofs.Kit.{Size, parameter_store, print_orders, digits_printed, stops_from_entry, pair_at_entry}
+use Rattle.ed_programs.proofs.Kit.{along, print_line, ReachesStop, entry_state, reads_number, number_rows, stop_counted}
+use Rattle.ed_programs.proofs.Kit.{Settings, Line, moment_at, append-nil, few_digits, SourceRuns, data_mark, pair_after}
+use Rattle.ed_programs.proofs.Kit.{Z_F, to_stop, get_own, frame_at, length, Moment, settings, HasRead, calling, HasPair}
+use Rattle.ed_programs.proofs.Kit.{IsIn, then, arith, false, List, lit<, lit≤, map, Frame, short, state, digits, Marked}
+use Rattle.ed_programs.proofs.Kit.{Z, T, [], refl, sym, true, ◌≡◌, are_small, ℕ, ◌*◌, ◌+◌, ◌<◌, ◌∷◌, Text, A, on, stay}
+use Rattle.ed_programs.proofs.Kit.{own, to}
 use Rattle.std.specs.Fmt.{decimal}
 use Rattle.ed_programs.specs.Add.{add_orders, add_text}
 use Rattle.ed_programs.specs.declared.add.TheConstants.{ADD}
-use Rattle.ed_programs.proofs.Kit.{to, calling, stop_counted, HasPair, pair_after, pair_at_entry}
+use Rattle.ed_programs.proofs.DataLines.{small_too}
 use Rattle.ed_programs.proofs.SourceRuns.{lines_of_pieces, program_runs}
 
 -- the pieces of the source, and the numbers between them
@@ -69,7 +70,7 @@ module _ (z : Size) (m : Moment) where
 
 module _ (a b : ℕ) (small : a + b < 65536) where
   two_small : are_small (a ∷ b ∷ []) ≡ true
-  two_small = let x = lt-ltb a 65536 (omega arith) in let y = lt-ltb b 65536 (omega arith) in rw (x, y) refl
+  two_small = small_too a (b ∷ []) (omega arith) (small_too b [] (omega arith) refl)
 
   -- the line with data
   abbrev marks : List (Marked false)

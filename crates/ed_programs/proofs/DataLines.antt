@@ -1,12 +1,12 @@
 -- A line `data` with numbers, each ended by F: what it says, and what its rows are.
-use Rattle.ed_sources.proofs.Kit.{[], ap, arith, Bool, codes, decimal, drop, false, get_or, length, List, map, nat_lt}
-use Rattle.ed_sources.proofs.Kit.{None, not, Ok, refl, Some, subst, suc, sym, true, zero, ℕ, ◌*◌, ◌++◌, ◌+◌, ◌<◌, ◌==◌}
-use Rattle.ed_sources.proofs.Kit.{◌∙◌, ◌∷◌, ◌≡◌, ◌≤◌, list_all, and_from, and_parts, le-leb, lt-ltb, ltb-true, ne_eqb}
-use Rattle.ed_sources.proofs.Kit.{not-true, list_all-append, Text, row_of, is_line_byte, run, row, spells, line_of}
-use Rattle.ed_sources.proofs.Kit.{digits}
+use Rattle.ed_sources.proofs.Kit.{[], list_all, and_from, and_parts, ltb-true, list_all-append, is_line_byte, nat_tests}
+use Rattle.ed_sources.proofs.Kit.{decimal, get_or, length, nat_lt, ℕ, le-leb, lt-ltb, ne_eqb, row_of, line_of}
+use Rattle.ed_sources.proofs.Kit.{arith, Bool, codes, false, List, None, refl, Some, subst, true, ◌++◌, spells, digits}
+use Rattle.ed_sources.proofs.Kit.{ap, map, not, Ok, suc, sym, ◌*◌, ◌<◌, ◌==◌, ◌∙◌, ◌∷◌, ◌≡◌, ◌≤◌, Text, run, row}
+use Rattle.std.proofs.lemmas.List.Folds.{list_all_at}
 use Rattle.ed_syntax.proofs.Kit.{map-append, array, has_quote, quoted}
-use Rattle.std.proofs.Common.{Fits, drop-cons, slice_index_or, w16}
-use Rattle.std.proofs.lemmas.List.{drop_all, append_assoc, length-append}
+use Rattle.std.proofs.Common.{Fits, slice_index_or, w16}
+use Rattle.std.proofs.lemmas.List.{append_assoc, length-append}
 use Rattle.ed_syntax.proofs.PartLemmas.{quote_parts}
 use Rattle.ed_sources.proofs.Decimals.{are, decimal_is, few_bytes, line_bytes, no_quotes, row_bytes, rows_are, written}
 use Rattle.ed_programs.specs.Lists.{numbers_text}
@@ -26,16 +26,16 @@ number_rows (n ∷ ns) = digits n ++ 17 ∷ number_rows ns
 abbrev pub are_small : List ℕ → Bool
 are_small ns = list_all (λ n. nat_lt n 65536) ns
 
+pub small_too : (n : ℕ) (ns : List ℕ) → n < 65536 → are_small ns ≡ true → are_small (n ∷ ns) ≡ true
+small_too n ns l h = and_from (nat_lt n 65536) (are_small ns) (lt-ltb n 65536 l) h
+
 -- so are those of a slice
 pub all_fit : (ns : List ℕ) → ((i : ℕ) → Fits w16 (slice_index_or ns i 0)) → are_small ns ≡ true
 all_fit [] fit = refl
-all_fit (n ∷ ns) fit = and_from (nat_lt n 65536) (are_small ns) (lt-ltb n 65536 (fit 0).fits)
-    (all_fit ns (λ i. fit (suc i)))
+all_fit (n ∷ ns) fit = small_too n ns (fit 0).fits (all_fit ns (λ i. fit (suc i)))
 
 pub small_at : (ns : List ℕ) → are_small ns ≡ true → (i : ℕ) → i < length ns → get_or ns i 0 < 65536
-small_at [] h i l = absurd (omega arith)
-small_at (n ∷ ns) h zero l = ltb-true n 65536 (and_parts (nat_lt n 65536) (are_small ns) h).0
-small_at (n ∷ ns) h (suc i) l = small_at ns (and_parts (nat_lt n 65536) (are_small ns) h).1 i (omega arith)
+small_at ns h i l = grind (arith, nat_tests, list_all_at (λ n. nat_lt n 65536) ns i 0 l)
 
 -- what the bytes of such numbers are
 pub record AreNumbers (ns : List ℕ) (bytes : Text) : Type 0 where
@@ -71,25 +71,16 @@ all_numbers (n ∷ ns) h =
 
 without_quote : (bytes : Text) → list_all (λ b. not (b == 34)) bytes ≡ true → has_quote bytes ≡ false
 without_quote [] h = refl
-without_quote (b ∷ bytes) h =
-    let p = and_parts (not (b == 34)) (list_all (λ b. not (b == 34)) bytes) h in
-    let here : (b == 34) ≡ false = not-true (b == 34) p.0 in
-    rw here (without_quote bytes p.1)
+without_quote (b ∷ bytes) h = grind (arith, nat_tests, without_quote bytes)
 
 some_byte : (ns : List ℕ) → 1 ≤ length ns → 1 ≤ length (numbers_text ns)
 some_byte [] l = absurd (omega arith)
-some_byte (n ∷ ns) l = let long = length-append (decimal n) (70 ∷ numbers_text ns) in omega (arith, long)
+some_byte (n ∷ ns) l = omega (arith, length-append (decimal n) (70 ∷ numbers_text ns))
 
 module _ (two : Bool) (k : ℕ) (ns : List ℕ) (later : 2 ≤ k) (some : 1 ≤ length ns)
     (fits : length (numbers_text ns) ≤ 113) (small : are_small ns ≡ true) where
   abbrev bytes : Text
   bytes = numbers_text ns
-
-  pub data_plain : list_all is_line_byte (numbers_line ns) ≡ true
-  data_plain = let plain = (all_numbers ns small).line in list_all-append is_line_byte bytes (34 ∷ []) ∙ rw plain refl
-
-  pub data_short : length (numbers_line ns) ≤ 120
-  data_short = let long = length-append bytes (34 ∷ []) in omega (arith, long)
 
   pub data_says : line_of two k (numbers_line ns) ≡ Ok (record {
     label = None;
@@ -97,13 +88,17 @@ module _ (two : Bool) (k : ℕ) (ns : List ℕ) (later : 2 ≤ k) (some : 1 ≤ 
   })
   data_says =
       let all = all_numbers ns small in
+      let plain = all.line in
       let spelled = all.spelled in
+      let rows = all.rows in
+      let long = length-append bytes (34 ∷ []) in
       let there = le-leb 1 (length bytes) (some_byte ns some) in
       let short = le-leb (length bytes) 120 (omega arith) in
       let no_version : (k == 1) ≡ false = ne_eqb k 1 (omega (arith, later)) in
-      by_parts two k (numbers_line ns) (run (codes "data") ∷ quoted bytes ∷ []) data_plain data_short
+      by_parts two k (numbers_line ns) (run (codes "data") ∷ quoted bytes ∷ [])
+      (list_all-append is_line_byte bytes (34 ∷ []) ∙ rw plain refl) (omega (arith, long))
       (let e = quote_parts [] bytes [] (without_quote bytes all.quote) in rw e refl)
-      (let e = all.rows in rw (no_version, there, short, spelled, e) refl)
+      (rw (no_version, there, short, spelled, rows) refl)
 
 -- the numbers, each ended by F, before the rest of their line
 abbrev pub numbers_and : List ℕ → Text → Text
@@ -136,18 +131,3 @@ module _ {two : Bool} (k : ℕ) (ns : List ℕ) (later : 2 ≤ k) (some : 1 ≤ 
     statement = statements.Rows (array (number_rows ns));
     says = data_says two k ns later some fits small;
   }
-
--- a list of a known length by its numbers
-abbrev pub listed : ℕ → ℕ → List ℕ → List ℕ
-listed i zero ns = []
-listed i (suc k) ns = get_or ns i 0 ∷ listed (i + 1) k ns
-
-listed_from : (i k : ℕ) (ns : List ℕ) → i + k ≡ length ns → listed i k ns ≡ drop i ns
-listed_from i zero ns e = sym (drop_all i ns (omega arith))
-listed_from i (suc k) ns e =
-    let next : i + 1 ≡ suc i = omega arith in
-    ap (λ (xs : List ℕ). get_or ns i 0 ∷ xs) (listed_from (i + 1) k ns (omega arith) ∙ ap (λ j. drop j ns) next)
-    ∙ sym (drop-cons ns i 0 (omega arith))
-
-pub listed_is : (k : ℕ) (ns : List ℕ) → length ns ≡ k → listed 0 k ns ≡ ns
-listed_is k ns e = listed_from 0 k ns (omega arith)

@@ -1,15 +1,15 @@
 -- The source of `examples/difference.edsac` for any two numbers: its path, and what it prints.
-use Rattle.ed_programs.proofs.Kit.{Z_F, Size, E_stays, Z, Settings, ltb-false, Line, along, IsIn, then, to_stop}
-use Rattle.ed_programs.proofs.Kit.{E_jumps, S, T, print_line, get_own, frame_at, moment_at, [], append-nil, arith}
-use Rattle.ed_programs.proofs.Kit.{Bool, false, if◌then◌else◌, length, List, lit<, lit≤, map, nat_lt, refl, sym, true}
-use Rattle.ed_programs.proofs.Kit.{ℕ, ◌*◌, ◌+◌, ◌-◌, ◌<◌, ◌∷◌, ◌≡◌, lt-ltb, ltb-true, Text, Frame, Moment, short}
-use Rattle.ed_programs.proofs.Kit.{state, A, on, Path, stay, own, settings, parameter_store, digits, print_orders}
-use Rattle.ed_programs.proofs.Kit.{few_digits, ReachesStop, entry_state, digits_printed, SourceRuns, HasRead}
-use Rattle.ed_programs.proofs.Kit.{reads_number, are_small, data_mark, number_rows, stops_from_entry, Marked}
+use Rattle.ed_programs.proofs.Kit.{Z_F, if◌then◌else◌, parameter_store, digits_printed, stops_from_entry, pair_at_entry}
+use Rattle.ed_programs.proofs.Kit.{map, print_orders, ReachesStop, entry_state, reads_number, number_rows, stop_counted}
+use Rattle.ed_programs.proofs.Kit.{ltb-false, print_line, moment_at, [], append-nil, few_digits, SourceRuns, pair_after}
+use Rattle.ed_programs.proofs.Kit.{E_stays, Settings, to_stop, E_jumps, frame_at, length, ltb-true, settings, data_mark}
+use Rattle.ed_programs.proofs.Kit.{along, get_own, arith, nat_lt, Moment, on, digits, HasRead, Marked, calling, HasPair}
+use Rattle.ed_programs.proofs.Kit.{Size, Line, IsIn, then, Bool, false, List, lit<, lit≤, refl, Frame, short, state, to}
+use Rattle.ed_programs.proofs.Kit.{Z, S, T, sym, true, ℕ, ◌*◌, ◌+◌, ◌-◌, ◌<◌, ◌∷◌, ◌≡◌, Text, A, Path, stay, own}
 use Rattle.std.specs.Fmt.{decimal}
 use Rattle.ed_programs.specs.Difference.{difference_orders, difference_text, distance}
 use Rattle.ed_programs.specs.declared.difference.TheConstants.{DIFFERENCE}
-use Rattle.ed_programs.proofs.Kit.{to, calling, stop_counted, HasPair, pair_after, pair_at_entry}
+use Rattle.ed_programs.proofs.DataLines.{small_too}
 use Rattle.ed_programs.proofs.SourceRuns.{lines_of_pieces, program_runs}
 
 -- the pieces of the source, and the numbers between them
@@ -96,12 +96,11 @@ module _ (z : Size) (m : Moment) where
       (Z 15 Z_F refl refl) done) (omega arith)
 
 module _ (a b : ℕ) (first : a < 65536) (second : b < 65536) where
-  two_small : are_small (a ∷ b ∷ []) ≡ true
-  two_small = let x = lt-ltb a 65536 first in let y = lt-ltb b 65536 second in rw (x, y) refl
-
   -- the line with data
   abbrev marks : List (Marked true)
-  marks = data_mark 27 (a ∷ b ∷ []) (lit≤ tt) (lit≤ tt) (lit≤ tt) two_small ∷ []
+  marks =
+      data_mark 27 (a ∷ b ∷ []) (lit≤ tt) (lit≤ tt) (lit≤ tt) (small_too a (b ∷ []) first (small_too b [] second refl))
+      ∷ []
 
   abbrev lines : List Line
   lines = lines_of_pieces true difference_pieces (difference_data a b) marks

@@ -1,13 +1,12 @@
 -- A call of `divide` as one line: the three words are cells of the piece, and it writes two of them.
-use Rattle.ed_programs.proofs.Kit.{get_or-set_other, get_or-set_same, length-set, A_F, is_working, set, all_long}
-use Rattle.ed_programs.proofs.Kit.{beside_word, called, IsIn, Journey, stands, Jumps, Reads, any, get_own, [], ap}
-use Rattle.ed_programs.proofs.Kit.{arith, Bool, false, get_or, inl, inr, length, List, refl, subst, sym, ℕ, ◌%◌, ◌*◌}
-use Rattle.ed_programs.proofs.Kit.{◌+◌, ◌/◌, ◌<◌, ◌∙◌, ◌≡◌, ◌≢◌, ◌≤◌, ◌⊎◌, cases_lt, locations, locations_most, short_at, State}
-use Rattle.ed_programs.proofs.Kit.{Frame, Moment, short, state, own, place_count, IsOther, IsLoadedAt, HasRoutine}
-use Rattle.ed_programs.proofs.Kit.{divide, divide_orders, with_hnm}
+use Rattle.ed_programs.proofs.Kit.{length-set, A_F, is_working, set, all_long, beside_word, called, IsIn, Journey}
+use Rattle.ed_programs.proofs.Kit.{stands, Jumps, Reads, any, get_own, [], arith, Bool, false, get_or, inl, inr, length}
+use Rattle.ed_programs.proofs.Kit.{List, refl, rules, subst, ℕ, ◌%◌, ◌*◌, ◌+◌, ◌/◌, ◌<◌, ◌∙◌, ◌≡◌, ◌≢◌, ◌≤◌, ◌⊎◌}
+use Rattle.ed_programs.proofs.Kit.{locations, locations_most, short_at, State, Frame, Moment, short, state, own}
+use Rattle.ed_programs.proofs.Kit.{place_count, IsOther, IsLoadedAt, HasRoutine, divide, divide_orders, with_hnm}
 use Rattle.ed_maths.proofs.Kit.{length_patched, IsOutside, within_size, dividend}
 use Rattle.ed_machine.proofs.Kit.Frames.{all_words}
-use Rattle.ed_programs.proofs.Changes.{after_change, changes, still_has}
+use Rattle.ed_programs.proofs.Changes.{after_change, changes, set_own, still_has}
 use Rattle.ed_maths.proofs.DivideCall as divide_call
 
 -- the words of the division: cells jh, jl and jy of a piece of n, with the numbers in them; and the store's digits
@@ -55,11 +54,10 @@ module _ {n h : ℕ} {f : Frame n h} (r : Moment) (o : IsIn f (flat r)) where
 
     -- a cell of the piece is outside the routine, and holds its number
     outside : (done j : ℕ) → j < n → IsOutside divide w (f.base + j) (t done)
-    outside done j l = record { below = let u = f.under in let v = f.fits in omega arith; beside = side has.apart }
-      where
-        side : (w + 41 ≤ f.base) ⊎ (f.base + n ≤ w) → (f.base + j < w) ⊎ (w + 41 ≤ f.base + j)
-        side (inl b) = inr (omega arith)
-        side (inr b) = inl (omega arith)
+    outside done j l = record {
+      below = let u = f.under in let v = f.fits in omega arith;
+      beside = elim has.apart [ inl b ↦ inr (omega arith) | inr b ↦ inl (omega arith) ];
+    }
 
     own_is : (done j v : ℕ) → j < n → get_or r.cells j 0 ≡ v → short_at (t done).store (f.base + j) ≡ v
     own_is done j v l is = let long = o.own in get_own 0 r.words f.base r.cells j (omega arith) ∙ is
@@ -123,42 +121,14 @@ module _ {n h : ℕ} {f : Frame n h} (r : Moment) (o : IsIn f (flat r)) where
     cells_divided = set (set r.cells jh (x % by)) jl (x / by)
 
     same_cells : (m : ℕ) → m < n → get_or last.store.words (f.base + m) 0 ≡ get_or cells_divided m 0
-    same_cells m l = by_low (cases m jl)
-      where
-        cases : (a b : ℕ) → (a ≡ b) ⊎ (a ≢ b)
-        cases a b = elim (cases_lt a b) [
-          | inl less ↦ inr (λ e. absurd (omega (arith, e, less)))
-          | inr least ↦ elim (cases_lt b a) [
-            | inl less ↦ inr (λ e. absurd (omega (arith, e, less)))
-            | inr locations_most ↦ inl (omega arith)
-          ]
-        ]
-
-        apart : (w + 41 ≤ f.base) ⊎ (f.base + n ≤ w) → IsOther divide w (f.base + m)
-        apart (inl b) = record { other = inr (inl (omega arith)) }
-        apart (inr b) = record { other = inl (omega arith) }
-
-        by_high : m ≢ jl → (m ≡ jh) ⊎ (m ≢ jh) → get_or last.store.words (f.base + m) 0 ≡ get_or cells_divided m 0
-        by_high other (inl e) =
-            let long = o.own in let inside = d.in_high in
-            ap (λ j. get_or last.store.words (f.base + j) 0) e ∙ remainder
-            ∙ sym (get_or-set_same r.cells jh (x % by) 0 (omega arith))
-            ∙ ap (λ j. get_or (set r.cells jh (x % by)) j 0) (sym e)
-            ∙ sym (get_or-set_other (set r.cells jh (x % by)) jl m (x / by) 0 other)
-        by_high other (inr third) =
-            let long = o.own in
-            keeps (f.base + m) (apart_cells m jh third) (apart_cells m jl other) (apart has.apart)
-            ∙ get_own 0 r.words f.base r.cells m (omega arith)
-            ∙ sym (get_or-set_other r.cells jh m (x % by) 0 third)
-            ∙ sym (get_or-set_other (set r.cells jh (x % by)) jl m (x / by) 0 other)
-
-        by_low : (m ≡ jl) ⊎ (m ≢ jl) → get_or last.store.words (f.base + m) 0 ≡ get_or cells_divided m 0
-        by_low (inl e) =
-            let long = length-set r.cells jh (x % by) in let own = o.own in let inside = d.in_low in
-            ap (λ j. get_or last.store.words (f.base + j) 0) e ∙ quotient
-            ∙ sym (get_or-set_same (set r.cells jh (x % by)) jl (x / by) 0 (omega arith))
-            ∙ ap (λ j. get_or cells_divided j 0) (sym e)
-        by_low (inr other) = by_high other (cases m jh)
+    same_cells m l =
+        let long = o.own in let long_set = length-set r.cells jh (x % by) in
+        let inside = d.in_high in let also = d.in_low in
+        let apart : IsOther divide w (f.base + m) = search rules in
+        set_own last.store.words (set r.cells jh (x % by)) f.base jl (x / by) m (omega arith) quotient (λ other.
+        set_own last.store.words r.cells f.base jh (x % by) m (omega arith) remainder (λ third.
+        keeps (f.base + m) (apart_cells m jh third) (apart_cells m jl other) apart
+        ∙ get_own 0 r.words f.base r.cells m (omega arith)))
 
     -- outside the piece only the routine's working locations change
     beside : (q : ℕ) → (q < f.base) ⊎ (f.base + n ≤ q) → IsOther divide w q
@@ -169,11 +139,6 @@ module _ {n h : ℕ} {f : Frame n h} (r : Moment) (o : IsIn f (flat r)) where
         differs : (j : ℕ) → j < n → (q < f.base) ⊎ (f.base + n ≤ q) → q ≢ f.base + j
         differs j l (inl b) e = absurd (omega arith)
         differs j l (inr b) e = absurd (omega arith)
-
-    has_divided : {r1 w1 : ℕ} {others : List ℕ} → HasRoutine f r.words r1 w1 others
-        → ((m : ℕ) → m < place_count r1 → is_working r1 m ≡ false → IsOther divide w (w1 + m))
-        → HasRoutine f last.store.words r1 w1 others
-    has_divided = still_has {f = f} o.above has.low beside
 
     pub divide_line : r.acc ≡ 0 → Reads {f = f} {r = flat r} i 28 (own i)
         → Jumps {f = f} {r = record (flat r) { acc = short (A_F + 2 * (f.base + i)); counter = f.base + (i + 1) }}
@@ -198,5 +163,5 @@ module _ {n h : ℕ} {f : Frame n h} (r : Moment) (o : IsIn f (flat r)) where
               (λ done stand. divide_call.leads_to (dividing done stand))
               (divide_call.all_last (dividing 0 (there 0))) (omega arith) same_cells room clear first second);
           all = divide_call.all_last (dividing 0 (there 0));
-          has = has_divided;
+          has = still_has {f = f} o.above has.low beside;
         }

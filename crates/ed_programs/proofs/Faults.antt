@@ -1,7 +1,7 @@
 -- Lines whose locations are after those of all earlier lines have no fault.
 use Rattle.ed_programs.proofs.Kit.{Size, array, Definition, are_below, ExtentList, past, place_on, even_from, arith}
-use Rattle.ed_programs.proofs.Kit.{Bool, false, length, List, None, Option, refl, Some, true, ℕ, ◌+◌, ◌≡◌, ◌≤◌}
-use Rattle.ed_programs.proofs.Kit.{locations, Text, counter, said}
+use Rattle.ed_programs.proofs.Kit.{false, length, List, None, Option, refl, Some, true, ℕ, ◌+◌, ◌≡◌, ◌≤◌, locations}
+use Rattle.ed_programs.proofs.Kit.{Text, counter, said}
 use Rattle.ed_link.proofs.Kit.{is_none, find, routine_places, cause_of, sets}
 use Rattle.ed_syntax.specs.declared.program.Setting.{Setting}
 use Rattle.ed_link.proofs.Extents.{list_any-apart, fits_store}
@@ -19,18 +19,11 @@ module _ (z : Size) (symbols : List Definition) (extents : ExtentList) where
       let others = list_any-apart p p (p + length rows) extents (omega arith) below in
       rw (loader, parameters, store, others) refl
 
-  pub use_sound : (l p b g : ℕ) (inside : Bool) (routine name : Text) (settings : List Setting) → 56 ≤ p
-      → even_from p + routine_places (find routine) ≤ locations z
-      → are_below p extents ≡ true → is_none (find routine) ≡ false → sets settings (find routine) ≡ true
-      → cause_of z symbols true (past extents) (said l None (statements.Fetch routine name (array settings)))
-      (record { place = p; base = b; segments = g; inside = inside }) ≡ None
-  use_sound l p b g true routine name settings low fits below known set =
-      let s = fits_store (locations z) (even_from p) (even_from p + routine_places (find routine)) (omega arith) fits in
-      let loader = s.loader in let parameters = s.parameters in let store = s.store in
-      let others = list_any-apart p (even_from p) (even_from p + routine_places (find routine)) extents
-      (omega arith) below in
-      rw (loader, parameters, store, others, known, set) refl
-  use_sound l p b g false routine name settings low fits below known set =
+  pub use_sound : (l p b g : ℕ) (routine name : Text) (settings : List Setting) → 56 ≤ p
+      → even_from p + routine_places (find routine) ≤ locations z → are_below p extents ≡ true
+      → is_none (find routine) ≡ false → sets settings (find routine) ≡ true → cause_of z symbols true (past extents)
+      (said l None (statements.Fetch routine name (array settings))) (counter p b g) ≡ None
+  use_sound l p b g routine name settings low fits below known set =
       let s = fits_store (locations z) (even_from p) (even_from p + routine_places (find routine)) (omega arith) fits in
       let loader = s.loader in let parameters = s.parameters in let store = s.store in
       let others = list_any-apart p (even_from p) (even_from p + routine_places (find routine)) extents

@@ -1,15 +1,14 @@
 -- What the source of `examples/fraction.edsac` prints, for any fraction in range: its lines, its entry and its law.
-use Rattle.ed_programs.proofs.Kit.{Size, Settings, Line, all_words, frame_at, moment_at, [], append-nil, arith, length}
-use Rattle.ed_programs.proofs.Kit.{length-append, List, lit≤, map, refl, rules, true, ℕ, ◌*◌, ◌++◌, ◌+◌, ◌/◌, ◌<◌, ◌∷◌}
-use Rattle.ed_programs.proofs.Kit.{◌≡◌, ◌≤◌, lt-ltb, length-replicate, Text, settings, parameter_store, digits}
-use Rattle.ed_programs.proofs.Kit.{print_orders, few_digits, ReachesStop, divide_orders, entry_state, figure_orders}
-use Rattle.ed_programs.proofs.Kit.{SourceRuns, are_small, data_mark, number_rows, routine_after, stops_from_entry}
-use Rattle.ed_programs.proofs.Kit.{Marked}
+use Rattle.ed_programs.proofs.Kit.{length-append, ℕ, length-replicate, parameter_store, stops_from_entry, entry_state}
+use Rattle.ed_programs.proofs.Kit.{number_rows, routine_after, all_words, moment_at, append-nil, few_digits, SourceRuns}
+use Rattle.ed_programs.proofs.Kit.{data_mark, Settings, State, Line, frame_at, [], arith, rules, settings, digits}
+use Rattle.ed_programs.proofs.Kit.{Marked, List, lit≤, map, refl, true, ◌++◌, ◌/◌, ◌<◌, ◌∷◌, ◌≤◌, Text}
 use Rattle.std.specs.Fmt.{decimal}
 use Rattle.ed_programs.specs.Fraction.{fraction_orders, fraction_prints, fraction_text}
 use Rattle.ed_programs.specs.declared.fraction.TheConstants.{FRACTION}
 use Rattle.ed_programs.proofs.FractionProgram.{Given, IsAround, Work, cells}
 use Rattle.ed_programs.proofs.FractionWhole.{all_shown, few_codes, figure_codes, fraction_stops, quotient_small}
+use Rattle.ed_programs.proofs.DataLines.{small_too}
 use Rattle.ed_programs.proofs.SourceRuns.{lines_of_pieces, program_runs}
 
 -- the pieces of the source, and the numbers between them
@@ -23,21 +22,18 @@ module _ (u l n : ℕ) (first : u < 65536) (some : 1 ≤ l) (few : l ≤ 6553) (
   abbrev three : List ℕ
   three = u ∷ l ∷ n ∷ []
 
-  three_small : are_small three ≡ true
-  three_small =
-      let x = lt-ltb u 65536 first in let y = lt-ltb l 65536 (omega arith) in let z = lt-ltb n 65536 third in
-      rw (x, y, z) refl
-
   abbrev marks : List (Marked true)
-  marks = data_mark 52 three (lit≤ tt) (lit≤ tt) (lit≤ tt) three_small ∷ []
+  marks =
+      data_mark 52 three (lit≤ tt) (lit≤ tt) (lit≤ tt)
+      (small_too u (l ∷ n ∷ []) first (small_too l (n ∷ []) (omega arith) (small_too n [] third refl))) ∷ []
 
   abbrev lines : List Line
   lines = lines_of_pieces true fraction_pieces (fraction_data u l n) marks
 
-  module _ (z : Size) where
+  module _ (s : Settings) where
     abbrev given : Given
     given = record {
-      f = frame_at 40 z (lit≤ tt);
+      f = frame_at 40 s.size (lit≤ tt);
       above = lit≤ tt;
       r = 96;
       d = 120;
@@ -47,28 +43,24 @@ module _ (u l n : ℕ) (first : u < 65536) (some : 1 ≤ l) (few : l ≤ 6553) (
       even = refl;
     }
 
-    is_around : IsAround given (moment_at (entry_state z lines))
+    abbrev entry : State
+    entry = entry_state s.size lines
+
+    is_around : IsAround given (moment_at entry)
     unfolding settings parameter_store
     is_around = search (rules, all_words, length-replicate, routine_after)
 
-    ends : ReachesStop (13 * length (digits u) + 13 * length (digits l) + 13 * length (digits n) + divide_orders (u / l)
-        + print_orders (u / l) + figure_orders u l n + 52) (entry_state z lines)
-        (11 ∷ digits (u / l) ++ 23 ∷ figure_codes u l n) 89
+    pub each_fraction : SourceRuns s (fraction_text u l n) (fraction_orders u l n) 89 (fraction_prints u l n)
     unfolding settings
-    ends =
+    each_fraction =
+        let low : u / l < 65536 = quotient_small u l first some in
+        let a = length-append (11 ∷ digits (u / l) ++ 23 ∷ []) (figure_codes u l n) in
+        let d = length-append (digits (u / l)) (23 ∷ []) in
+        let b = few_digits (u / l) in
+        let c = few_codes u l n in
         let work : Work = record { number = 0; low = 0; rest = 0; divisor = 0; scrap = 0 } in
-        let tape = append-nil (number_rows three) in
-        stops_from_entry z lines refl 40 (lit≤ tt) (cells 56 96 120 162 work) refl refl (entry_state z lines).tape refl
-        (fraction_stops given (moment_at (entry_state z lines)) work u l n is_around tape refl first some few third
-        (entry_state z lines).orders)
-
-  pub each_fraction : (s : Settings)
-      → SourceRuns s (fraction_text u l n) (fraction_orders u l n) 89 (fraction_prints u l n)
-  unfolding settings
-  each_fraction s =
-      let low : u / l < 65536 = quotient_small u l first some in
-      let a = length-append (digits (u / l)) (23 ∷ figure_codes u l n) in
-      let b = few_digits (u / l) in
-      let c = few_codes u l n in
-      program_runs s true fraction_pieces (fraction_data u l n) marks refl (ends s.size) (omega arith) (omega arith)
-      (all_shown u l n (u / l) low)
+        program_runs s true fraction_pieces (fraction_data u l n) marks refl
+        (stops_from_entry s.size lines refl 40 (lit≤ tt) (cells 56 96 120 162 work) refl refl entry.tape refl
+        (fraction_stops given (moment_at entry) work u l n is_around (append-nil (number_rows three)) refl first some
+        few third entry.orders))
+        (omega arith) (omega arith) (all_shown u l n (u / l) low)

@@ -1,12 +1,11 @@
 -- The program of `examples/answer6.edsac`, at any base and for a list of any length: two orders go along the list.
-use Rattle.ed_programs.proofs.Kit.{A_F, G_F, S_F, T_F, U_F, Z_F, all_spent, quiet_walks, walked, G_stays, Z, IsOutside}
-use Rattle.ed_programs.proofs.Kit.{ltb-false, along, IsIn, then, to_stop, S, T, U, early, out, print_line, followed}
-use Rattle.ed_programs.proofs.Kit.{get_own, [], ap, arith, Bool, false, get_or, if◌then◌else◌, inr, length, List, lit<}
-use Rattle.ed_programs.proofs.Kit.{lit≤, nat_lt, refl, subst, true, ℕ, ◌*◌, ◌+◌, ◌-◌, ◌<◌, ◌∙◌, ◌∷◌, ◌≡◌, ◌≤◌}
-use Rattle.ed_programs.proofs.Kit.{ltb-true, locations_most, Frame, Moment, short, state, A, G_jumps, on, Path, stay, own, print}
-use Rattle.ed_programs.proofs.Kit.{with_h, digits, print_orders, HasRoutine, ReachesStop, greatest_of, rises}
+use Rattle.ed_programs.proofs.Kit.{quiet_walks, locations_most, print_orders, ReachesStop, stop_counted, greatest_of, Z}
+use Rattle.ed_programs.proofs.Kit.{all_spent, IsOutside, ltb-false, print_line, followed, HasRoutine, walked, nat_tests}
+use Rattle.ed_programs.proofs.Kit.{G_stays, to_stop, get_own, get_or, length, nat_lt, ltb-true, Moment, G_jumps, with_h}
+use Rattle.ed_programs.proofs.Kit.{IsIn, along, early, arith, false, subst, Frame, short, state, print, digits, rises}
+use Rattle.ed_programs.proofs.Kit.{A_F, G_F, S_F, T_F, U_F, Z_F, then, Bool, List, lit<, lit≤, refl, true, Path, stay}
+use Rattle.ed_programs.proofs.Kit.{S, T, U, out, [], ap, inr, ℕ, ◌*◌, ◌+◌, ◌-◌, ◌<◌, ◌∙◌, ◌∷◌, ◌≡◌, ◌≤◌, A, on, own}
 use Rattle.std.proofs.Common.{max}
-use Rattle.ed_programs.proofs.Kit.{stop_counted}
 
 -- the order that gets the word at q
 abbrev pub getting : ℕ → ℕ
@@ -33,6 +32,14 @@ pub record Given : Type 0 where
   pub all : length around.words ≡ 1024
   pub at2 : get_or around.words 2 0 ≡ 2
   pub prints : HasRoutine f around.words print p (with_h (f.base + 20))
+
+-- what holds in either case of a test of two numbers
+pub by_less : (P : Bool → Type 0) (a b : ℕ) → (a < b → P true) → (b ≤ a → P false) → P (nat_lt a b)
+by_less P a b less least = by_test (nat_lt a b) refl
+  where
+    by_test : (c : Bool) → nat_lt a b ≡ c → P c
+    by_test true is = less (ltb-true a b is)
+    by_test false is = least (ltb-false a b is)
 
 -- numbers are in words from a location upwards
 abbrev pub Stand : List ℕ → ℕ → List ℕ → Type 0
@@ -70,24 +77,13 @@ orders x n = orders_by (nat_lt n x.most)
 -- the number of orders of all turns, and which number is the greatest after them
 spent_is : (x : Turning) (ns : List ℕ) → all_spent orders next x ns ≡ 13 * length ns + 3 * rises x.most ns
 spent_is x [] = omega arith
-spent_is x (n ∷ ns) = by_test (λ y. spent_is y ns) (nat_lt n x.most)
-  where
-    by_test : ((y : Turning) → all_spent orders next y ns ≡ 13 * length ns + 3 * rises y.most ns) → (b : Bool)
-        → orders_by b + all_spent orders next (next_by b x n ns) ns
-        ≡ 13 * length (n ∷ ns) + 3 * (if b then rises x.most ns else 1 + rises n ns)
-    by_test each true = let e = each (next_by true x n ns) in omega (arith, e)
-    by_test each false = let e = each (next_by false x n ns) in omega (arith, e)
+spent_is x (n ∷ ns) =
+    grind (arith, nat_tests, spent_is (next_by true x n ns) ns, spent_is (next_by false x n ns) ns)
 
 most_is : (x : Turning) (ns : List ℕ) → (walked next x ns).most ≡ max x.most (greatest_of ns)
 most_is x [] = omega arith
-most_is x (n ∷ ns) = by_test (λ y. most_is y ns) (nat_lt n x.most) refl
-  where
-    by_test : ((y : Turning) → (walked next y ns).most ≡ max y.most (greatest_of ns)) → (b : Bool)
-        → nat_lt n x.most ≡ b → (walked next (next_by b x n ns) ns).most ≡ max x.most (max n (greatest_of ns))
-    by_test each true is =
-        let e = each (next_by true x n ns) in let less = ltb-true n x.most is in omega (arith, e)
-    by_test each false is =
-        let e = each (next_by false x n ns) in let least = ltb-false n x.most is in omega (arith, e)
+most_is x (n ∷ ns) =
+    grind (arith, nat_tests, most_is (next_by true x n ns) ns, most_is (next_by false x n ns) ns)
 
 module _ (given : Given) where
   open given use {f, e, p, around, above, all, at2, room}
@@ -126,30 +122,33 @@ module _ (given : Given) where
       (on (U 13 (own 1) _ refl refl) stay))))))
 
   -- and are compared with the order for the location after the list
-  compares : (q g t : ℕ) (ns : List ℕ) → q + length ns ≡ e → f.base + 23 ≤ q
-      → Path f 2 (at 14 (getting q) (getting q) (getting q) g t) []
-      (before (record { q = q; left = compared ns; most = g; scrap = t }) ns)
-  compares q g t [] ends from =
+  closes : (q g t old : ℕ) (ns : List ℕ) → q + 1 + length ns ≡ e → f.base + 23 ≤ q → t < 131072
+      → Path f 9 (at 7 t (getting q) (getting q) g old) []
+      (before (record { q = q + 1; left = compared ns; most = g; scrap = t }) ns)
+  closes q g t old [] ends from few =
       let b = locations_most f.size in let fits = f.fits in let r = room in
-      on (S 14 (own 21) (short 0) refl (omega arith))
-      (on (G_stays 15 (own 0) refl (lit< tt)) stay)
-  compares q g t (n ∷ ns) ends from =
+      followed (raises q g t old (omega arith) few)
+      (on (S 14 (own 21) (short 0) refl (omega arith)) (on (G_stays 15 (own 0) refl (lit< tt)) stay))
+  closes q g t old (n ∷ ns) ends from few =
       let b = locations_most f.size in let fits = f.fits in let r = room in
-      on (S 14 (own 21) (short (131072 - 2 * length (n ∷ ns))) refl (omega arith))
-      (on (G_jumps 15 (own 0) refl (omega arith)) stay)
+      followed (raises q g t old (omega arith) few)
+      (on (S 14 (own 21) (short (131072 - 2 * length (n ∷ ns))) refl (omega arith))
+      (on (G_jumps 15 (own 0) refl (omega arith)) stay))
 
   left_small : (ns : List ℕ) → compared ns < 131072
   left_small [] = lit< tt
   left_small (n ∷ ns) = omega arith
 
   -- a turn, by whether the number is smaller than the greatest so far
-  turn_by : (b : Bool) (x : Turning) (n : ℕ) (ns : List ℕ) → nat_lt n x.most ≡ b → Fine x (n ∷ ns)
-      → Fine (next_by b x n ns) ns
-      × Path f (orders_by b) (before x (n ∷ ns)) [] (before (next_by b x n ns) ns)
-  turn_by true x n ns is o =
+  turn : (x : Turning) (n : ℕ) (ns : List ℕ) → Fine x (n ∷ ns)
+      → Fine (next x n ns) ns × Path f (orders x n) (before x (n ∷ ns)) [] (before (next x n ns) ns)
+  turn x n ns o =
       let b = locations_most f.size in let fits = f.fits in let r = room in let long = o.ends in let from = o.from in
-      let here = o.stand.0 in let few = o.stand.1 in let low = o.low in let less = ltb-true n x.most is in
+      let here = o.stand.0 in let few = o.stand.1 in let low = o.low in
       let outside : IsOutside f around.words x.q = record { below = omega arith; beside = inr from } in
+      by_less (λ b. Fine (next_by b x n ns) ns
+      × Path f (orders_by b) (before x (n ∷ ns)) [] (before (next_by b x n ns) ns)) n x.most
+      (λ less.
       let t : ℕ = 131072 - (x.most - n) in (
         record { stand = o.stand.2; ends = omega arith; from = omega arith; small = left_small ns; low = low },
         followed
@@ -157,13 +156,9 @@ module _ (given : Given) where
             (on (A 1 (out x.q outside) (short n) refl (omega arith))
             (on (S 2 (own 20) (short t) refl (omega arith))
             (on (G_jumps 3 (own 7) refl (omega arith)) stay))))
-            (followed (raises x.q x.most t x.left (omega arith) (omega arith))
-            (compares (x.q + 1) x.most t ns (omega arith) (omega arith))),
-      )
-  turn_by false x n ns is o =
-      let b = locations_most f.size in let fits = f.fits in let r = room in let long = o.ends in let from = o.from in
-      let here = o.stand.0 in let few = o.stand.1 in let low = o.low in let least = ltb-false n x.most is in
-      let outside : IsOutside f around.words x.q = record { below = omega arith; beside = inr from } in (
+            (closes x.q x.most t x.left ns (omega arith) (omega arith) (omega arith)),
+      ))
+      (λ least. (
         record { stand = o.stand.2; ends = omega arith; from = omega arith; small = left_small ns; low = few },
         followed
             (on (T 0 (own 22) _ refl refl)
@@ -173,22 +168,15 @@ module _ (given : Given) where
             (on (T 4 (own 22) _ refl refl)
             (on (A 5 (out x.q outside) (short n) refl (omega arith))
             (on (T 6 (own 20) _ refl refl) stay)))))))
-            (followed (raises x.q n 0 (n - x.most) (omega arith) (lit< tt))
-            (compares (x.q + 1) n 0 ns (omega arith) (omega arith))),
-      )
-
-  -- the loop
-  loop : (x : Turning) (ns : List ℕ) → Fine x ns
-      → Fine (walked next x ns) []
-      × Path f (all_spent orders next x ns) (before x ns) [] (before (walked next x ns) [])
-  loop = quiet_walks before orders next Fine (λ x n ns o. turn_by (nat_lt n x.most) x n ns refl o)
+            (closes x.q n 0 (n - x.most) ns (omega arith) (omega arith) (lit< tt)),
+      ))
 
   -- from the first number to the stop
   pub greatest_stops : (x : Turning) (ns : List ℕ) → Fine x ns → x.most ≡ 0 → (done : ℕ)
       → ReachesStop (13 * length ns + 3 * rises 0 ns + print_orders (greatest_of ns) + 3)
       (state f (before x ns) done) (11 ∷ digits (greatest_of ns)) (f.base + 20)
   greatest_stops x ns o none done =
-      let went = loop x ns o in
+      let went = quiet_walks before orders next Fine turn x ns o in
       let y : Turning = walked next x ns in
       let low = went.0.low in
       let last : Moment = at 17 0 (getting y.q) (getting y.q) y.most 0 in

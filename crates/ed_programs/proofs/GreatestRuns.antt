@@ -1,13 +1,12 @@
 -- What the source of `examples/answer6.edsac` prints, for any eight numbers: its lines, its entry and its law.
-use Rattle.ed_programs.proofs.Kit.{Size, Settings, Line, all_words, have_places, placed, word_at, frame_at, moment_at}
-use Rattle.ed_programs.proofs.Kit.{[], ap, arith, codes, decimal, drop, get_or, length, List, lit<, lit≤, map, nat_lt}
-use Rattle.ed_programs.proofs.Kit.{refl, subst, true, ℕ, ◌*◌, ◌+◌, ◌<◌, ◌∙◌, ◌∷◌, ◌≡◌, ◌≤◌, and_parts, ltb-true, Text}
-use Rattle.ed_programs.proofs.Kit.{least, settings, parameter_store, print, with_h, digits, print_orders, few_digits}
-use Rattle.ed_programs.proofs.Kit.{ReachesStop, entry_state, digits_printed, greatest_of, rises, SourceRuns}
-use Rattle.ed_programs.proofs.Kit.{spread_pieces, are_small, routine_after, stops_from_entry, Marked}
+use Rattle.ed_programs.proofs.Kit.{map, parameter_store, digits_printed, spread_pieces, routine_after, stops_from_entry}
+use Rattle.ed_programs.proofs.Kit.{all_words, have_places, moment_at, few_digits, entry_state, greatest_of, SourceRuns}
+use Rattle.ed_programs.proofs.Kit.{Settings, Size, word_at, frame_at, decimal, and_parts, ltb-true, settings, are_small}
+use Rattle.ed_programs.proofs.Kit.{State, placed, arith, codes, get_or, length, nat_lt, ℕ, least, print, with_h, Marked}
+use Rattle.ed_programs.proofs.Kit.{Line, [], ap, drop, List, lit<, lit≤, refl, true, ◌+◌, ◌<◌, ◌∙◌, ◌∷◌, ◌≡◌, ◌≤◌, Text}
 use Rattle.ed_programs.specs.Greatest.{greatest_orders, greatest_text}
 use Rattle.ed_programs.specs.declared.greatest.TheConstants.{GREATEST}
-use Rattle.ed_programs.proofs.DataLines.{listed, listed_is, small_at}
+use Rattle.ed_programs.proofs.DataLines.{small_at}
 use Rattle.ed_programs.proofs.GreatestProgram.{Given, Stand, Turning, cells, getting, greatest_stops}
 use Rattle.ed_programs.proofs.NumberLines.{plain_mark, word_mark}
 use Rattle.ed_programs.proofs.ProgramEntry.{words_from}
@@ -21,9 +20,7 @@ greatest_small : (ns : List ℕ) → are_small ns ≡ true → greatest_of ns < 
 greatest_small [] h = lit< tt
 greatest_small (n ∷ ns) h =
     let p = and_parts (nat_lt n 65536) (are_small ns) h in
-    let here = ltb-true n 65536 p.0 in
-    let rest = greatest_small ns p.1 in
-    omega arith
+    omega (arith, ltb-true n 65536 p.0, greatest_small ns p.1)
 
 -- numbers that the source places from a location upwards are there at its entry
 pub numbers_stand : (z : Size) (lines : List Line) → have_places (placed lines) ≡ true → (q : ℕ) (ns : List ℕ) → 44 ≤ q
@@ -54,49 +51,40 @@ module _ (a b c d e f g h : ℕ) (small : are_small (a ∷ b ∷ c ∷ d ∷ e �
   abbrev lines : List Line
   lines = lines_of_pieces true greatest_pieces (map decimal ns) marks
 
-  module _ (z : Size) where
+  module _ (s : Settings) where
+    abbrev entry : State
+    entry = entry_state s.size lines
+
     given : Given
     unfolding settings parameter_store
     given = record {
-      f = frame_at 23 z (lit≤ tt);
+      f = frame_at 23 s.size (lit≤ tt);
       above = lit≤ tt;
       e = 87;
       p = 88;
-      room = let size = least z in omega arith;
-      around = moment_at (entry_state z lines);
-      all = all_words z lines;
+      room = let size = least s.size in omega arith;
+      around = moment_at entry;
+      all = all_words s.size lines;
       at2 = refl;
-      prints = routine_after z lines refl (lit≤ tt) print 88 (with_h 76) refl (lit≤ tt) (lit≤ tt) (lit≤ tt);
+      prints = routine_after s.size lines refl (lit≤ tt) print 88 (with_h 76) refl (lit≤ tt) (lit≤ tt) (lit≤ tt);
     }
 
-    stand : Stand (entry_state z lines).store.words 79 ns
-    unfolding settings
-    stand = numbers_stand z lines refl 79 ns (lit≤ tt) (lit≤ tt) refl small
-
-    ends : ReachesStop (104 + 3 * rises 0 ns + print_orders (greatest_of ns) + 3) (entry_state z lines)
-        (11 ∷ digits (greatest_of ns)) 76
+    eight_run : SourceRuns s (greatest_text ns) (greatest_orders ns) 76 (decimal (greatest_of ns))
     unfolding settings given
-    ends =
+    eight_run =
+        let low = greatest_small ns small in
+        let few = few_digits (greatest_of ns) in
         let first : Turning = record { q = 79; left = 0; most = 0; scrap = 0 } in
-        stops_from_entry z lines refl 23 (lit≤ tt) (cells 56 87 88 (getting 79) (getting 79) 0 0) refl refl [] refl
+        let stand : Stand entry.store.words 79 ns =
+        numbers_stand s.size lines refl 79 ns (lit≤ tt) (lit≤ tt) refl small in
+        program_runs s true greatest_pieces (map decimal ns) marks refl
+        (stops_from_entry s.size lines refl 23 (lit≤ tt) (cells 56 87 88 (getting 79) (getting 79) 0 0) refl refl []
+        refl
         (greatest_stops given first ns
-        (record { stand = stand; ends = refl; from = lit≤ tt; small = lit< tt; low = lit< tt }) refl
-        (entry_state z lines).orders)
-
-  eight_run : (s : Settings) → SourceRuns s (greatest_text ns) (greatest_orders ns) 76 (decimal (greatest_of ns))
-  unfolding settings
-  eight_run s =
-      let low = greatest_small ns small in
-      let few = few_digits (greatest_of ns) in
-      program_runs s true greatest_pieces (map decimal ns) marks refl (ends s.size) (omega arith) (omega arith)
-      (digits_printed (greatest_of ns) low)
+        (record { stand = stand; ends = refl; from = lit≤ tt; small = lit< tt; low = lit< tt }) refl entry.orders))
+        (omega arith) (omega arith) (digits_printed (greatest_of ns) low)
 
 pub each_greatest : (s : Settings) (ns : List ℕ) → length ns ≡ 8 → are_small ns ≡ true
     → SourceRuns s (greatest_text ns) (greatest_orders ns) 76 (decimal (greatest_of ns))
-each_greatest s ns eight small =
-    let is = listed_is 8 ns eight in
-    let all : are_small (listed 0 8 ns) ≡ true = ap are_small is ∙ small in
-    subst (λ (ns : List ℕ). SourceRuns s (greatest_text ns) (greatest_orders ns) 76 (decimal (greatest_of ns))) is
-    (eight_run (get_or ns 0 0) (get_or ns 1 0) (get_or ns 2 0) (get_or ns 3 0) (get_or ns 4 0) (get_or ns 5 0)
-    (get_or ns 6 0)
-    (get_or ns 7 0) all s)
+each_greatest s (a ∷ b ∷ c ∷ d ∷ e ∷ f ∷ g ∷ h ∷ []) eight small = eight_run a b c d e f g h small s
+each_greatest s ns eight small = absurd (omega arith)

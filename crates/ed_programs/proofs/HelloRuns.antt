@@ -1,15 +1,14 @@
 -- The source of `examples/hello.edsac` for any text: its lines, its path, and what it prints.
 use Rattle.ed_programs.proofs.Kit.{G_F, Z_F, Size, Full, Small, G_stays, O, Z, IsOutside, Settings, Line, Statement}
-use Rattle.ed_programs.proofs.Kit.{ExtentList, past, even_from, extent, fault_from, along, IsIn, then, to_stop, S, T}
-use Rattle.ed_programs.proofs.Kit.{U, prints, early, out, newline_line, followed, all_words, frame_at, moment_at, []}
-use Rattle.ed_programs.proofs.Kit.{ap, arith, codes, decimal, false, get_or, inr, length, length-append, List, lit<}
-use Rattle.ed_programs.proofs.Kit.{lit≤, map, nat_le, nat_lt, None, Ok, Option, pos, refl, reverse, rules, Some, subst}
-use Rattle.ed_programs.proofs.Kit.{take, true, ℕ, ◌*◌, ◌++◌, ◌+◌, ◌-◌, ◌<◌, ◌∙◌, ◌∷◌, ◌≡◌, ◌≤◌, list_all, le-leb}
-use Rattle.ed_programs.proofs.Kit.{le-ltb, leb-true, length-map, value, Text, least, row_of, paper, Frame, Moment}
-use Rattle.ed_programs.proofs.Kit.{short, state, A, G_jumps, on, Path, stay, own, run, sign, row, line_of}
-use Rattle.ed_programs.proofs.Kit.{first_counter, fault, linked_words, symbols_of, counter, newline, HasRoutine}
-use Rattle.ed_programs.proofs.Kit.{ReachesStop, entry_state, said, hello_text, is_capital, of_letters, SourceRuns}
-use Rattle.ed_programs.proofs.Kit.{Marked}
+use Rattle.ed_programs.proofs.Kit.{ExtentList, past, even_from, extent, fault_from, along, IsIn, then, to_stop, S, T, U}
+use Rattle.ed_programs.proofs.Kit.{prints, early, out, newline_line, followed, all_words, frame_at, moment_at, [], ap}
+use Rattle.ed_programs.proofs.Kit.{arith, codes, decimal, false, get_or, inr, length, length-append, List, lit<, lit≤}
+use Rattle.ed_programs.proofs.Kit.{map, nat_le, nat_lt, None, Option, pos, refl, reverse, rules, Some, subst, sym, take}
+use Rattle.ed_programs.proofs.Kit.{true, ℕ, ◌*◌, ◌++◌, ◌+◌, ◌-◌, ◌<◌, ◌∙◌, ◌∷◌, ◌≡◌, ◌≤◌, list_all, le-leb, le-ltb}
+use Rattle.ed_programs.proofs.Kit.{leb-true, length-map, value, Text, least, row_of, paper, Frame, Moment, short, state}
+use Rattle.ed_programs.proofs.Kit.{A, G_jumps, on, Path, stay, own, run, sign, row, first_counter, fault, linked_words}
+use Rattle.ed_programs.proofs.Kit.{symbols_of, counter, newline, HasRoutine, ReachesStop, entry_state, said, hello_text}
+use Rattle.ed_programs.proofs.Kit.{is_capital, of_letters, SourceRuns, Marked, to, printing, Path-counted}
 use Rattle.ed_link.proofs.Kit.{resolution, earlier_fault, missing}
 use Rattle.ed_link.proofs.Extents.{one_by_one}
 use Rattle.ed_sources.proofs.Blocks.{order_at}
@@ -17,11 +16,10 @@ use Rattle.ed_sources.proofs.Said.{order, stop}
 use Rattle.ed_programs.specs.Hello.{EachTextIsPrinted, hello_orders}
 use Rattle.ed_programs.specs.declared.hello.TheConstants.{HELLO}
 use Rattle.ed_programs.proofs.Capitals.{are_rows, letters_shown}
-use Rattle.ed_programs.proofs.Kit.{to, printing, Path-counted}
 use Rattle.ed_programs.proofs.ProgramEntry.{stops_by}
 use Rattle.ed_programs.proofs.RowTexts.{is_row_byte, rows_spelled, text_rows}
 use Rattle.ed_programs.proofs.SourceRuns.{read_runs}
-use Rattle.ed_programs.proofs.TextLines.{IsAround, all_plain, number_says, text_mark}
+use Rattle.ed_programs.proofs.TextLines.{IsAround, all_plain, number_mark, text_mark}
 use Rattle.ed_programs.proofs.TextPrograms.{Spells, before_text, last_lines, newline_after, text_sound, text_stands}
 use Rattle.ed_syntax.specs.declared.program.Operand.TheVariants as operands
 use Rattle.ed_syntax.specs.declared.program.Statement.TheVariants as statements
@@ -126,11 +124,11 @@ hello_lines rows =
     ∷ said 18 None (statements.Segment (codes "text") None)
     ∷ last_lines 19 (codes "letters") rows (codes "n") (codes "main")
 
-number_line : (n : ℕ) → n ≤ 1023
+number_line : (n m : ℕ) → m ≡ n → n ≤ 1023
     → IsAround true 16 (codes "_last: O letters+") (codes " F  ; the order behind the last letter")
     (run (codes "_last") ∷ sign 58 ∷ sign 79 ∷ run (codes "letters") ∷ sign 43 ∷ []) (sign 70 ∷ []) n
-    (Some (codes "_last")) (behind n)
-number_line n few = record {
+    (Some (codes "_last")) (behind m)
+number_line n m same few = record {
   plain = λ t h. h;
   tail_plain = refl;
   short = lit≤ tt;
@@ -139,7 +137,8 @@ number_line n few = record {
   parts = λ t ps h. rw h refl;
   form = λ bytes number is.
       let near : nat_le (value bytes) 1023 ≡ true = le-leb (value bytes) 1023 (omega (arith, is, few)) in
-      rw (number, near, is) refl;
+      let e = is ∙ sym same in
+      rw (number, near, e) refl;
 }
 
 -- where they stand, and that they have no fault
@@ -190,61 +189,27 @@ ends c cs few small z =
     (text_stands z lines 69 rows (lit≤ tt) (omega arith) front refl refl small) refl (entry_state z lines).orders)
 
 -- 1 to 41 bytes that spell rows
-record IsRowText (q : Text) : Type 0 where
-  some : 1 ≤ length q
-  few : length q ≤ 41
-  spelled : list_all is_row_byte q ≡ true
-
-module _ (b : ℕ) (r : Text) (o : IsRowText (b ∷ r)) where
-  abbrev q : Text
-  q = b ∷ r
-
-  abbrev rows : List ℕ
-  rows = text_rows q
-
-  long : length rows ≡ length q
-  long = length-map q (λ b. row (row_of b))
-
-  few : length rows ≤ 41
-  few = let f = o.few in omega (arith, long)
-
-  last_says : line_of true 16 (codes "_last: O letters+"
-      ++ (decimal (length q) ++ codes " F  ; the order behind the last letter"))
-      ≡ Ok (record { label = Some (codes "_last"); statement = Some (behind (length rows)) })
-  last_says =
-      subst (λ n. line_of true 16 (codes "_last: O letters+"
-      ++ (decimal n ++ codes " F  ; the order behind the last letter"))
-      ≡ Ok (record { label = Some (codes "_last"); statement = Some (behind (length rows)) })) long
-      (number_says (number_line (length rows) (omega (arith, few))) (omega (arith, few)))
-
-  abbrev marks : List (Marked true)
-  marks =
-      record {
-        number = 16;
-        text = codes "_last: O letters+" ++ (decimal (length q) ++ codes " F  ; the order behind the last letter");
-        label = Some (codes "_last");
-        statement = behind (length rows);
-        says = last_says;
-      }
-      ∷ text_mark 19 (codes "letters") q (lit≤ tt) refl o.some (let f = o.few in omega arith) o.spelled ∷ []
-
-  text_runs : (s : Settings) → SourceRuns s (hello_text q) (7 * length q + 9) 67 (paper (rows ++ 18 ∷ 24 ∷ []))
-  text_runs s =
-      let e = length-append rows (18 ∷ 24 ∷ []) in
-      read_runs s true hello_pieces (hello_data q) marks refl (faultless rows few s.size)
-      (ends (row (row_of b)) (text_rows r) few (all_plain q o.spelled).codes s.size) (omega (arith, e, few))
-      (omega (arith, long)) refl
-
-row_text_runs : (s : Settings) (q : Text) → IsRowText q
+row_text_runs : (s : Settings) (q : Text) → 1 ≤ length q → length q ≤ 41 → list_all is_row_byte q ≡ true
     → SourceRuns s (hello_text q) (7 * length q + 9) 67 (paper (text_rows q ++ 18 ∷ 24 ∷ []))
-row_text_runs s [] o = let some = o.some in absurd (omega arith)
-row_text_runs s (b ∷ r) o = text_runs b r o s
+row_text_runs s [] some most spelled = absurd (omega arith)
+row_text_runs s (b ∷ r) some most spelled =
+    let q : Text = b ∷ r in
+    let rows : List ℕ = text_rows q in
+    let long : length rows ≡ length q = length-map q (λ b. row (row_of b)) in
+    let few : length rows ≤ 41 = omega (arith, long) in
+    let marks : List (Marked true) =
+    number_mark (number_line (length q) (length rows) long (omega arith)) (omega arith)
+    ∷ text_mark 19 (codes "letters") q (lit≤ tt) refl some (omega arith) spelled ∷ [] in
+    let e = length-append rows (18 ∷ 24 ∷ []) in
+    read_runs s true hello_pieces (hello_data q) marks refl (faultless rows few s.size)
+    (ends (row (row_of b)) (text_rows r) few (all_plain q spelled).codes s.size) (omega (arith, e, few))
+    (omega (arith, long)) refl
 
 pub each_text : EachTextIsPrinted
 each_text s q rows are few =
     let spelled = rows_spelled are in
     subst (λ (rs : List ℕ). SourceRuns s (hello_text q) (7 * length q + 9) 67 (paper (rs ++ 18 ∷ 24 ∷ []))) spelled.1
-    (row_text_runs s q (record { some = leb-true 1 (length q) are.some; few = few; spelled = spelled.0 }))
+    (row_text_runs s q (leb-true 1 (length q) are.some) few spelled.0)
 
 -- 1 to 40 capital letters are printed as they are, on a line
 pub each_name : (letters : Text) → 1 ≤ length letters → length letters ≤ 40 → list_all is_capital letters ≡ true
@@ -254,5 +219,4 @@ each_name letters some few capital s =
     subst (λ k. SourceRuns s (hello_text (of_letters letters)) k 67 (letters ++ 13 ∷ 10 ∷ [])) count
     (subst (λ (t : Text). SourceRuns s (hello_text (of_letters letters)) (7 * length (of_letters letters) + 9) 67 t)
     (letters_shown letters capital)
-    (row_text_runs s (of_letters letters)
-    (record { some = omega arith; few = omega arith; spelled = are_rows letters capital })))
+    (row_text_runs s (of_letters letters) (omega arith) (omega arith) (are_rows letters capital)))

@@ -1,17 +1,18 @@
 -- The source of `examples/answer5.edsac` for any numbers: its path, and what it prints.
-use Rattle.ed_programs.proofs.Kit.{Z_F, Size, G_stays, Z, Settings, Line, along, IsIn, Journey, then, to_stop, E_jumps}
-use Rattle.ed_programs.proofs.Kit.{S, T, U, any, early, out, followed, all_words, frame_at, moment_at, [], ap}
-use Rattle.ed_programs.proofs.Kit.{append_assoc, arith, codes, decimal, length, length-append, List, lit<, lit≤, map}
-use Rattle.ed_programs.proofs.Kit.{refl, Some, subst, suc, true, zero, ℕ, ◌*◌, ◌++◌, ◌+◌, ◌<◌, ◌∙◌, ◌∷◌, ◌≡◌, ◌≤◌}
-use Rattle.ed_programs.proofs.Kit.{Text, least, paper, Frame, Moment, short, state, A, G_jumps, on, Path, stay, own}
-use Rattle.ed_programs.proofs.Kit.{settings, parameter_store, newline, print, with_h, digits, print_orders, few_digits}
-use Rattle.ed_programs.proofs.Kit.{HasRoutine, ReachesStop, entry_state, number_shown, SourceRuns, HasShown}
-use Rattle.ed_programs.proofs.Kit.{shows_number, routine_after, stops_from_entry, Marked}
+use Rattle.ed_programs.proofs.Kit.{along, parameter_store, routine_after, stops_from_entry, Z, print_orders}
+use Rattle.ed_programs.proofs.Kit.{ReachesStop, shows_number, Path-counted, stop_counted, all_words, moment_at, []}
+use Rattle.ed_programs.proofs.Kit.{HasRoutine, entry_state, SourceRuns, calls_own, G_stays, Settings, Journey, to_stop}
+use Rattle.ed_programs.proofs.Kit.{E_jumps, followed, frame_at, settings, HasShown, S, early, decimal, length, Moment}
+use Rattle.ed_programs.proofs.Kit.{G_jumps, newline, with_h, digits, Marked, calling, Z_F, Size, Line, IsIn, arith}
+use Rattle.ed_programs.proofs.Kit.{codes, subst, least, Frame, short, state, print, then, T, any, List, lit<, lit≤}
+use Rattle.ed_programs.proofs.Kit.{refl, Some, true, zero, ◌++◌, Text, Path, stay, link, U, out, map, suc, ℕ, ◌*◌, ◌+◌}
+use Rattle.ed_programs.proofs.Kit.{◌<◌, ◌∷◌, ◌≡◌, ◌≤◌, A, on, own, to}
 use Rattle.ed_programs.specs.Multiply.{multiply_orders, multiply_prints, multiply_text}
 use Rattle.ed_programs.specs.declared.multiply.TheConstants.{MULTIPLY}
-use Rattle.ed_programs.proofs.Kit.{to, calling, link, Path-counted, stop_counted, calls_own}
 use Rattle.ed_programs.proofs.NumberLines.{word_mark}
 use Rattle.ed_programs.proofs.NumberShown.{then_on}
+use Rattle.ed_programs.proofs.NumberLists.{few_codes, list_codes, list_shown}
+use Rattle.ed_programs.proofs.DataLines.{small_too}
 use Rattle.ed_programs.proofs.SourceRuns.{lines_of_pieces, program_runs}
 
 -- the pieces of the source, and the numbers between them: a and b are multiplied, and c is squared
@@ -108,7 +109,7 @@ module _ (z : Size) (c : ℕ) where
   stops : (m : Moment) (o : IsAround m) (a b : ℕ) → a < 65536 → a * b < 65536 → c < 65536 → c * c < 65536 → (done : ℕ)
       → ReachesStop (9 * a + 9 * c + print_orders (a * b) + print_orders (c * c) + 53)
       (state f (at m 0 0 a b 0 0 0 0) done)
-      ((11 ∷ digits (a * b) ++ 18 ∷ 24 ∷ []) ++ (11 ∷ digits (c * c) ++ 18 ∷ 24 ∷ [])) 68
+      (list_codes (a * b ∷ c * c ∷ [])) 68
   stops m o a b few small few_c small_c done =
       let one : Shown m o 2 b (lit≤ tt) 0 (a * b) 131071 (link 0) 0 =
       show m o 2 b (lit≤ tt) 0 (a * b) 131071 (link 0) 0 small in
@@ -124,7 +125,7 @@ module _ (z : Size) (c : ℕ) where
       (calls_own 7 13 refl refl refl (lit< tt)
       (followed (times now one.is 7 c (lit≤ tt) c (a * b) 131071 (link 0) (link 2) few_c small_c)
       (calls_own 9 32 refl refl refl (lit< tt) stay)))))))
-      two.journey)))
+      (then two.journey (along stay)))))
       (Z 11 Z_F refl refl) done) (omega arith)
 
 module _ (a b c : ℕ) (few : a < 65536) (also : b < 65536) (small : a * b < 65536) (few_c : c < 65536)
@@ -148,14 +149,9 @@ module _ (a b c : ℕ) (few : a < 65536) (also : b < 65536) (small : a * b < 655
         prints = routine_after z lines refl (lit≤ tt) print 96 (with_h 85) refl (lit≤ tt) (lit≤ tt) (lit≤ tt);
         lines = routine_after z lines refl (lit≤ tt) newline 148 [] refl (lit≤ tt) (lit≤ tt) (lit≤ tt);
       } in
-      let e = few_digits (a * b) in
-      let g = few_digits (c * c) in
+      let shown = list_shown (a * b ∷ c * c ∷ [])
+      (small_too (a * b) (c * c ∷ []) small (small_too (c * c) [] small_c refl)) in
       program_runs s true multiply_pieces (multiply_data a b c) marks refl
       (stops_from_entry z lines refl 40 (lit≤ tt) (cells c a b 0 0 0 0) refl refl [] refl
       (stops z c (moment_at (entry_state z lines)) o a b few small few_c small_c (entry_state z lines).orders))
-      (let x = length-append (digits (a * b)) (18 ∷ 24 ∷ []) in let y = length-append (digits (c * c)) (18 ∷ 24 ∷ []) in
-      let w = length-append (11 ∷ digits (a * b) ++ 18 ∷ 24 ∷ []) (11 ∷ digits (c * c) ++ 18 ∷ 24 ∷ []) in omega arith)
-      (omega arith)
-      (ap paper (append_assoc (11 ∷ digits (a * b)) (18 ∷ 24 ∷ []) (11 ∷ digits (c * c) ++ 18 ∷ 24 ∷ []))
-      ∙ number_shown (a * b) small (18 ∷ 24 ∷ 11 ∷ digits (c * c) ++ 18 ∷ 24 ∷ [])
-      ∙ ap (λ (x : List ℕ). decimal (a * b) ++ 13 ∷ 10 ∷ x) (number_shown (c * c) small_c (18 ∷ 24 ∷ [])))
+      (omega (arith, few_codes (a * b ∷ c * c ∷ []))) (omega arith) shown

@@ -1,7 +1,9 @@
 -- A source's program at its entry: its cells and the routines of the library after them, each by one test.
-use Rattle.ed_sources.proofs.Kit.{[], ap, arith, get_or, inr, length, List, refl, rules, suc, sym, true, unwrap_or}
-use Rattle.ed_sources.proofs.Kit.{zero, ℕ, ◌+◌, ◌<◌, ◌∙◌, ◌∷◌, ◌≡◌, ◌≤◌, least, State, state, patched, placed_at}
-use Rattle.ed_sources.proofs.Kit.{place_count, entry_of, HasRoutine, ReachesStop, entry_state}
+use Rattle.std.specs.List.{range_with_len}
+use Rattle.std.proofs.lemmas.List.FromFn.{get_or-map-range_with_len, length-map-range_with_len}
+use Rattle.ed_sources.proofs.Kit.{ap, map, arith, get_or, inr, length, List, refl, rules, sym, true, unwrap_or, ℕ, ◌+◌}
+use Rattle.ed_sources.proofs.Kit.{◌<◌, ◌∙◌, ◌≡◌, ◌≤◌, least, State, state, patched, placed_at, place_count, entry_of}
+use Rattle.ed_sources.proofs.Kit.{HasRoutine, ReachesStop, entry_state}
 use Rattle.ed_words.specs.declared.size.Size.{Size}
 use Rattle.ed_machine.proofs.Kit.Window.{patched_self}
 use Rattle.ed_syntax.specs.declared.program.Line.{Line}
@@ -10,20 +12,7 @@ use Rattle.ed_sources.proofs.Entries.{frame_at, moment_at, routine_at}
 
 -- the n words from location a upwards
 abbrev pub words_from : List (ℕ × ℕ) → ℕ → ℕ → List ℕ
-words_from ps a zero = []
-words_from ps a (suc n) = unwrap_or (placed_at ps a) 0 ∷ words_from ps (a + 1) n
-
-words_long : (ps : List (ℕ × ℕ)) (a n : ℕ) → length (words_from ps a n) ≡ n
-words_long ps a zero = refl
-words_long ps a (suc n) = ap suc (words_long ps (a + 1) n)
-
-nth_word : (ps : List (ℕ × ℕ)) (a n j : ℕ) → j < n
-    → get_or (words_from ps a n) j 0 ≡ unwrap_or (placed_at ps (a + j)) 0
-nth_word ps a zero j l = absurd (omega arith)
-nth_word ps a (suc n) zero l = let e : a + 0 ≡ a = omega arith in rw e refl
-nth_word ps a (suc n) (suc j) l =
-    let e : a + 1 + j ≡ a + suc j = omega arith in
-    nth_word ps (a + 1) n j (omega arith) ∙ ap (λ x. unwrap_or (placed_at ps x) 0) e
+words_from ps a n = map (λ j. unwrap_or (placed_at ps j) 0) (range_with_len a n)
 
 module _ (z : Size) (lines : List Line) (fit : have_places (placed lines) ≡ true) where
   abbrev s : State
@@ -48,9 +37,11 @@ module _ (z : Size) (lines : List Line) (n : ℕ) (few : n ≤ 456) (ps : List (
   same : patched 0 first.store.words 56 cells ≡ first.store.words
   same =
       let all = all_words z lines in
-      let long : length cells ≡ n = sym (ap (λ (cs : List ℕ). length cs) are) ∙ words_long ps 56 n in
+      let word : ℕ → ℕ = λ j. unwrap_or (placed_at ps j) 0 in
+      let long : length cells ≡ n = sym (ap (λ (cs : List ℕ). length cs) are) ∙ length-map-range_with_len word 56 n in
       patched_self 0 first.store.words 56 cells (omega arith) (λ j l.
-      ap (λ (cs : List ℕ). get_or cs j 0) (sym are) ∙ nth_word ps 56 n j (omega (arith, l, long))
+      ap (λ (cs : List ℕ). get_or cs j 0) (sym are)
+      ∙ get_or-map-range_with_len word 56 n j (56 + j) 0 (omega (arith, l, long)) refl
       ∙ sym (known j (omega (arith, l, long))))
 
   -- so a stop of the program, from the moment at its entry, is a stop of the source

@@ -2,13 +2,12 @@
 use Rattle.ed_programs.proofs.Kit.{Size, Full, Small, Settings, Line, [], ap, arith, Bool, length, List, nat_le, None}
 use Rattle.ed_programs.proofs.Kit.{Ok, Option, subst, true, ℕ, ◌+◌, ◌≡◌, ◌≤◌, and_parts, leb-true, Text, paper, is_two}
 use Rattle.ed_programs.proofs.Kit.{program_of, fault, ReachesStop, entry_state, AnswersFromEntry, run_outcome}
-use Rattle.ed_programs.proofs.Kit.{read_is_accepted, accepted_is, each_answer_is_from_entry, filled_text}
-use Rattle.ed_programs.proofs.Kit.{text_of_lines, stopped_outcome, ◌&&◌, OfSource, SourceRuns, Marked}
+use Rattle.ed_programs.proofs.Kit.{read_is_accepted, accepted_is, each_answer_is_from_entry, filled_text, text_of_lines}
+use Rattle.ed_programs.proofs.Kit.{stopped_outcome, ◌&&◌, OfSource, SourceRuns, Marked}
 use Rattle.ed_syntax.specs.declared.fault.SourceFault.{SourceFault}
 use Rattle.ed_sources.proofs.FilledLines.{unended, filled_is, filled_lines}
 use Rattle.ed_programs.proofs.Answered.{are_short, is_due}
-use Rattle.ed_programs.proofs.SourceLines.{are_read, lines_said, marked_texts, said_fine, source_read, source_said}
-use Rattle.ed_programs.proofs.SourceLines.{texts_at}
+use Rattle.ed_programs.proofs.SourceLines.{are_read, lines_said, said_fine, source_read, source_said, texts_said}
 
 -- a source that is read as these lines, has no fault and reaches its stop
 pub source_runs : (s : Settings) (texts : List Text) {lines : List Line} {k at : ℕ} {printed : List ℕ}
@@ -48,17 +47,17 @@ read_of two pieces ds marks =
         (
           nat_le (length texts) 2000
               && are_read two 1 texts marks,
-          texts_at texts marks,
+          texts_said 1 texts marks,
         ),
       ),
     )
 
-abbrev pub wanted : (two : Bool) → List (Marked two) → Read
-wanted two marks = ([], (two, (true, marked_texts marks)))
+abbrev pub wanted : Bool → List Text → List Text → Read
+wanted two pieces ds = ([], (two, (true, filled_lines pieces ds)))
 
 -- such a source that has no fault and reaches its stop, by what it prints and in how many orders
 pub read_runs : (s : Settings) (two : Bool) (pieces ds : List Text) (marks : List (Marked two)) {k orders at : ℕ}
-    {printed : List ℕ} {text : Text} → read_of two pieces ds marks ≡ wanted two marks
+    {printed : List ℕ} {text : Text} → read_of two pieces ds marks ≡ wanted two pieces ds
     → fault s.size (lines_of_pieces two pieces ds marks) ≡ None
     → ReachesStop k (entry_state s.size (lines_of_pieces two pieces ds marks)) printed at → length printed ≤ 1000000
     → k + 1 ≡ orders → paper printed ≡ text → SourceRuns s (filled_text pieces ds) orders at text
@@ -79,7 +78,7 @@ abbrev pub AreSaid : (two : Bool) → List Text → List Text → List (Marked t
 AreSaid two pieces ds marks =
     let lines = lines_of_pieces two pieces ds marks in
     ◌≡◌ {A = Read × (Option SourceFault × Option SourceFault)}
-    (read_of two pieces ds marks, (fault Small lines, fault Full lines)) (wanted two marks, (None, None))
+    (read_of two pieces ds marks, (fault Small lines, fault Full lines)) (wanted two pieces ds, (None, None))
 
 no_fault : (lines : List Line) → fault Small lines ≡ None → fault Full lines ≡ None → (z : Size) → fault z lines ≡ None
 no_fault lines small full Small = small

@@ -1,11 +1,10 @@
 -- What `examples/squares.tape1` prints.
-use Rattle.ed_programs.proofs.Kit.{Settings, at_entry1, Item1, rows, INPUT_BYTES, [], length, List, refl, rules, subst}
-use Rattle.ed_programs.proofs.Kit.{ℕ, ◌∷◌, ◌≡◌, leb-true, State, Moment, state, patched, ReachesStop, reading}
-use Rattle.ed_programs.proofs.Kit.{ReachesEntry1, Tape, first_state1, paper_room, FirstTapeRuns}
+use Rattle.ed_programs.proofs.Kit.{Settings, at_entry1, Item1, INPUT_BYTES, [], length, List, refl, rules, ℕ, ◌∷◌}
+use Rattle.ed_programs.proofs.Kit.{leb-true, State, Moment, patched, Tape, first_state1, paper_room, FirstTapeRuns}
 use Rattle.ed_initial1.specs.Items.{spelled_rows1}
 use Rattle.ed_programs.specs.Squares.{squares_cost, squares_orders, squares_prints, squares_text}
 use Rattle.ed_programs.proofs.FirstTapeRuns.{are_items, first_tape_runs, short_item}
-use Rattle.ed_programs.proofs.SquaresProgram.{all_codes, entering, frame, squares_stop}
+use Rattle.ed_programs.proofs.SquaresProgram.{all_codes, squares_stop}
 
 -- its items
 abbrev items : List Item1
@@ -28,12 +27,6 @@ program = record { end = 74; items = items; rest = [] }
 abbrev tape_rows : List ℕ
 tape_rows = spelled_rows1 items
 
-spells : reading squares_text ≡ rows tape_rows
-spells = refl
-
-comes : ReachesEntry1 tape_rows program
-comes = search (rules, are_items)
-
 -- ---- at the entry
 
 abbrev entry : State
@@ -52,15 +45,9 @@ around = record {
   last = entry.last;
 }
 
-begins : state frame (entering around) entry.orders ≡ entry
-unfolding first_state1 patched
-begins = refl
-
-stops : ReachesStop 383 entry (all_codes around) 61
-stops = subst (λ (x : State). ReachesStop 383 x (all_codes around) 61) begins (squares_stop around entry.orders)
-
 pub squares_run : (s : Settings) → FirstTapeRuns s squares_text squares_cost squares_orders 61 squares_prints
+unfolding first_state1 patched
 squares_run s =
-    first_tape_runs s squares_text tape_rows program spells (leb-true (length squares_text)
-    INPUT_BYTES refl) comes stops
+    first_tape_runs s squares_text tape_rows program refl (leb-true (length squares_text) INPUT_BYTES refl)
+    (search (rules, are_items)) (squares_stop around entry.orders)
     (leb-true (length (all_codes around)) paper_room refl)

@@ -37,12 +37,7 @@ all_plain (b ∷ q) h =
     let p = and_parts (is_row_byte b) (list_all is_row_byte q) h in
     let here = spelling b p.0 in
     let rest = all_plain q p.1 in
-    record {
-      line = and_from _ _ here.line rest.line;
-      quote = let x = here.quote in let y = rest.quote in rw (x, y) refl;
-      spelled = and_from _ _ here.spelled rest.spelled;
-      codes = and_from _ _ here.code rest.codes;
-    }
+    search (rules, and_from)
 
 pub text_says : (two : Bool) (k : ℕ) (label q : Text) → 2 ≤ k → is_short_label two label ≡ true → 1 ≤ length q
     → length q ≤ 90 → list_all is_row_byte q ≡ true
@@ -117,3 +112,13 @@ module _ {two : Bool} {k : ℕ} {front tail : Text} {before after : List LinePar
       (decimal_is n small)
       (with_bytes (written ds) some (line_bytes ds (are n small)) (few_bytes n small) (run_bytes ds (are n small))
       (a_number (written ds) some (digit_bytes ds (are n small))) (value_is n small))
+
+  -- such a line as a mark
+  abbrev pub number_mark : n < 65536 → Marked two
+  number_mark small = record {
+    number = k;
+    text = front ++ (decimal n ++ tail);
+    label = label;
+    statement = statement;
+    says = number_says small;
+  }

@@ -3,10 +3,11 @@
 use Rattle.ed_programs.proofs.Kit.{Size, Line, array, Definition, are_below, ExtentList, past, entry, routine_word}
 use Rattle.ed_programs.proofs.Kit.{table_item, place_on, even_from, extent, fault_from, have_places, frame_at, [], ap}
 use Rattle.ed_programs.proofs.Kit.{append-nil, arith, codes, get_or, inl, inr, length, List, map, nat_lt, None, refl}
-use Rattle.ed_programs.proofs.Kit.{reverse, rules, Some, suc, sym, true, unwrap_or, zero, ℕ, ◌*◌, ◌++◌, ◌+◌, ◌<◌, ◌∙◌}
-use Rattle.ed_programs.proofs.Kit.{◌∷◌, ◌≡◌, ◌≤◌, list_all, and_parts, ltb-true, length-map, list_all-append, Text}
-use Rattle.ed_programs.proofs.Kit.{least, placed_at, image_word, parameter_store, linked_words, counter, newline}
-use Rattle.ed_programs.proofs.Kit.{HasRoutine, entry_state, said}
+use Rattle.ed_programs.proofs.Kit.{reverse, rules, Some, suc, sym, true, unwrap_or, ℕ, ◌*◌, ◌++◌, ◌+◌, ◌<◌, ◌∙◌, ◌∷◌}
+use Rattle.ed_programs.proofs.Kit.{◌≡◌, ◌≤◌, list_all, and_parts, ltb-true, length-map, list_all-append, Text, least}
+use Rattle.ed_programs.proofs.Kit.{placed_at, image_word, parameter_store, linked_words, counter, newline, HasRoutine}
+use Rattle.ed_programs.proofs.Kit.{entry_state, said}
+use Rattle.std.proofs.lemmas.List.{get_or-map}
 use Rattle.ed_link.specs.Linked.{placed_words}
 use Rattle.ed_link.proofs.Extents.{none_later, one_more}
 use Rattle.ed_sources.proofs.Blocks.{beside_block, block_places, in_block, last_append, last_at, last_is, or_else}
@@ -36,7 +37,7 @@ text_sound z symbols extents p b g k label name main rows low high first place =
     let third = one_more (p + n) w (w + 7) (extents ++ extent p (p + n) ∷ []) (omega arith) second in
     none_later k _ _ (block_sound z symbols extents k p b g (Some label) rows (omega arith) (omega arith) first)
     (none_later (k + 1) _ _
-    (use_sound z symbols (extents ++ extent p (p + n) ∷ []) (k + 1) (p + n) b g true (codes "newline") name []
+    (use_sound z symbols (extents ++ extent p (p + n) ∷ []) (k + 1) (p + n) b g (codes "newline") name []
     (omega arith) (omega arith) second refl refl)
     (none_later (k + 1 + 1) _ _
     (enter_sound z symbols ((extents ++ extent p (p + n) ∷ []) ++ extent w (w + 7) ∷ []) (k + 1 + 1) (w + 7) w (g + 1) 56 main place
@@ -52,11 +53,6 @@ newline_words w = map (λ row. routine_word (0 ∷ 0 ∷ 0 ∷ 0 ∷ 0 ∷ 0 ∷
 newline_is : (w i : ℕ) → i < 7 → get_or (newline_words w) i 0 ≡ image_word newline i w []
 unfolding parameter_store
 newline_is w i l = search rules
-
-multiplied : (cs : List ℕ) (k : ℕ) → k < length cs → get_or (map (λ c. 4096 * c) cs) k 0 ≡ 4096 * get_or cs k 0
-multiplied [] k l = absurd (omega arith)
-multiplied (c ∷ cs) zero l = refl
-multiplied (c ∷ cs) (suc k) l = multiplied cs k (omega arith)
 
 -- the codes stand in words from a place on, each at the head of its word
 abbrev pub Spells : List ℕ → ℕ → List ℕ → Type 0
@@ -117,7 +113,7 @@ module _ (z : Size) (lines : List Line) (p : ℕ) (rows : List ℕ) (low : 56 �
       let next : p + k + 1 ≡ p + (k + 1) = omega arith in (
         word_at_entry (p + k) (omega arith) (omega arith)
             ∙ (λ i. unwrap_or (or_else (or_else (here i) (block i)) (last_at front (p + k))) 0)
-            ∙ multiplied rows k (omega arith)
+            ∙ get_or-map (λ c. 4096 * c) rows k 0 0 (omega arith)
             ∙ ap (λ x. 4096 * x) first,
         ltb-true c 32 t.0,
         rw next (spells_from cs (k + 1) (λ j l. ap (λ x. get_or rows x 0) (omega arith) ∙ same (suc j) (omega arith))

@@ -18,14 +18,9 @@ GivesProgram-written (Err e) (Ok program) wrote wanted same taken made = absurd 
 GivesProgram-written (Ok s) (Err refusal) wrote wanted same taken made = inl taken
 GivesProgram-written (Err e) (Err refusal) wrote wanted same taken made = inl taken
 
--- a law of a text is one of the program that was written so
-pub runs_as : {orders at : ℕ} {text printed : Text} {program : Text} → program ≡ text
-    → ((s : Settings) → SourceRuns s text orders at printed) → (s : Settings) → SourceRuns s program orders at printed
-runs_as {orders} {at} {printed = printed} is law s =
-    subst (λ (t : Text). SourceRuns s t orders at printed) (sym is) (law s)
-
--- and of what is answered, if a program is answered
+-- a law of a text is one of what is answered, if a program is answered that was written so
 pub prints_as : {orders at : ℕ} {text printed : Text} (cause : Option Refusal) (r : Result (String Global) Refusal)
     → GivesProgram cause text r → ((s : Settings) → SourceRuns s text orders at printed) → Prints orders at printed r
-prints_as cause (Ok program) is law = runs_as is.1 law
+prints_as {orders} {at} {printed = printed} cause (Ok program) is law = λ s.
+    subst (λ (t : Text). SourceRuns s t orders at printed) (sym is.1) (law s)
 prints_as cause (Err refusal) is law = tt

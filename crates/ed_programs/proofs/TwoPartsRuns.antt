@@ -1,14 +1,14 @@
 -- A tape whose first program returns to the Initial Orders and whose second one reaches its stop, as the answers of the
 -- commands `parts` and `tape`.
-use Rattle.ed_programs.proofs.Kit.{Size, Settings, at_entry, ReachesEntry, comes_in, rows, stop_after, prints, IsStore}
-use Rattle.ed_programs.proofs.Kit.{INPUT_BYTES, entry_line, exactly, OfReading, ReachesNextEntry, returned_line}
-use Rattle.ed_programs.proofs.Kit.{directive, IsReturned, [], ap, append_assoc, arith, codes, false, inl, inr, length}
-use Rattle.ed_programs.proofs.Kit.{length-append, List, None, refl, rules, Some, subst, suc, sym, true, zero, ℕ, ◌++◌}
-use Rattle.ed_programs.proofs.Kit.{◌+◌, ◌-◌, ◌<◌, ◌∙◌, ◌∷◌, ◌≡◌, ◌≢◌, ◌≤◌, cases_lt, le-ltb, lt-ltb, ne_eqb, Text}
-use Rattle.ed_programs.proofs.Kit.{paper, step, State, progress, state_after, Frame, Moment, state, joined, Leads, on}
-use Rattle.ed_programs.proofs.Kit.{Path, stay, run_end, ReachesStop, at_after, ran_outcome-answered, nothing_after, ran_to_stop}
-use Rattle.ed_programs.proofs.Kit.{reading, is_obeyed, stops_of, TapeEntry, first_state, LeadsIn, first_store, starts}
-use Rattle.ed_programs.proofs.Kit.{Outcome, paper_room, ran_outcome, with_post_mortem, tape_outcome}
+use Rattle.ed_programs.proofs.Kit.{INPUT_BYTES, ReachesNextEntry, returned_line, ran_outcome-answered, with_post_mortem}
+use Rattle.ed_programs.proofs.Kit.{ReachesEntry, append_assoc, length-append, state_after, nothing_after, tape_outcome}
+use Rattle.ed_programs.proofs.Kit.{stop_after, IsStore, ReachesStop, ran_to_stop, first_state, first_store, ran_outcome}
+use Rattle.ed_programs.proofs.Kit.{Size, entry_line, OfReading, directive, IsReturned, is_obeyed, TapeEntry, paper_room}
+use Rattle.ed_programs.proofs.Kit.{Settings, at_entry, comes_in, exactly, arith, cases_lt, progress, at_after, stops_of}
+use Rattle.ed_programs.proofs.Kit.{prints, length, le-ltb, lt-ltb, ne_eqb, Moment, run_end, reading, LeadsIn, Outcome}
+use Rattle.ed_programs.proofs.Kit.{rows, codes, false, rules, subst, paper, State, Frame, state, joined, Leads, starts}
+use Rattle.ed_programs.proofs.Kit.{inl, inr, List, None, refl, Some, suc, sym, true, zero, ◌++◌, Text, step, Path, stay}
+use Rattle.ed_programs.proofs.Kit.{[], ap, ℕ, ◌+◌, ◌-◌, ◌<◌, ◌∙◌, ◌∷◌, ◌≡◌, ◌≢◌, ◌≤◌, on}
 use Rattle.ed_interlude.proofs.Kit.{next_state, end_by, address, Concludes, entry_done, entry_report, finished}
 use Rattle.ed_interlude.proofs.Kit.{Finishes, first_part, GoesBack, LeadsTo, part_after, part_entry_state, part_report}
 use Rattle.ed_interlude.proofs.Kit.{PartsReport, ReturnsToLoader, RunsOn, TapePart}
@@ -17,7 +17,9 @@ use Rattle.ed_machine.specs.declared.ending.Ending.TheVariants.{Stopped}
 use Rattle.ed_machine.specs.declared.turn.Turn.{Turn}
 use Rattle.ed_machine.specs.declared.turn.Turn.TheVariants.{Stopped as Stops}
 use Rattle.ed_machine.proofs.Kit.Leads.{free, goes_on, no_stops, obeyed_of}
+use Rattle.ed_machine.proofs.Kit.Orders.{Does}
 use Rattle.ed_machine.proofs.Kit.Paths.{no_state}
+use Rattle.ed_orders.specs.declared.kind.Kind.{Kind}
 use Rattle.ed_interlude.specs.Parts.{IsUnderWay, IsReportOfTape, program_end}
 use Rattle.ed_interlude.specs.declared.tape.PartsEnd.TheVariants.{Ended}
 use Rattle.ed_interlude.proofs.Resumed.{leads_back}
@@ -37,24 +39,21 @@ StaysAbove stay = Unit {0}
 StaysAbove (on {r = r} first rest) = (44 ≤ r.counter) × StaysAbove rest
 StaysAbove (prints {r = r} first rest) = (44 ≤ r.counter) × StaysAbove rest
 
-above_is_away : (s : State) → 44 ≤ s.counter → (state_after 0 s).counter ≢ 25
-above_is_away s above is =
-    let same = ap (λ (x : State). x.counter) (no_state s) in
-    absurd (omega (arith, same, is, above))
+away_on : {n h k : ℕ} {f : Frame n h} {kind : Kind} {r m : Moment} {turn : Turn} → Does f kind r turn m
+    → 44 ≤ r.counter → (done : ℕ) → IsAway k (state f m (done + 1)) → IsAway (suc k) (state f r done)
+away_on {f = f} {r = r} first above done rest zero l =
+    let same = ap (λ (x : State). x.counter) (no_state (state f r done)) in
+    λ is. absurd (omega (arith, same, is, above))
+away_on {f = f} {r = r} first above done rest (suc j) l =
+    subst (λ (x : State). x.counter ≢ 25)
+    (sym (paths.first_state j (state f r done) ∙ ap (λ (o : Obeyed). state_after j o.state) (first.does done)))
+    (rest j (omega arith))
 
 pub away : {n h : ℕ} {f : Frame n h} {k : ℕ} {r t : Moment} {cs : List ℕ} (p : Path f k r cs t) → StaysAbove p
     → (done : ℕ) → IsAway k (state f r done)
-away stay above done j l = absurd (omega arith)
-away {f = f} (on {r = r} first rest) above done zero l = above_is_away (state f r done) above.0
-away {f = f} (prints {r = r} first rest) above done zero l = above_is_away (state f r done) above.0
-away {f = f} (on {r = r} first rest) above done (suc j) l =
-    subst (λ (x : State). x.counter ≢ 25)
-    (sym (paths.first_state j (state f r done) ∙ ap (λ (o : Obeyed). state_after j o.state) (first.does done)))
-    (away rest above.1 (done + 1) j (omega arith))
-away {f = f} (prints {r = r} first rest) above done (suc j) l =
-    subst (λ (x : State). x.counter ≢ 25)
-    (sym (paths.first_state j (state f r done) ∙ ap (λ (o : Obeyed). state_after j o.state) (first.does done)))
-    (away rest above.1 (done + 1) j (omega arith))
+away stay above done = λ j l. absurd (omega arith)
+away (on first rest) above done = away_on first above.0 done (away rest above.1 (done + 1))
+away (prints first rest) above done = away_on first above.0 done (away rest above.1 (done + 1))
 
 -- and before the order at which it stops
 pub away_to_stop : {k : ℕ} {s t : State} {cs : List ℕ} → Leads k s cs t → IsAway k s → t.counter ≢ 25 → IsAway (k + 1) s
@@ -93,17 +92,15 @@ module _ (left : ℕ) (s : State) where
       none : (progress k s).stops ≡ 0
       none = no_stops k s o.leads.goes
 
+      obeyed : (j : ℕ) → j < k + 1 → is_obeyed (step (state_after j s)).turn ≡ true
+      obeyed j l = elim (cases_lt j k) [
+        | inl below ↦ obeyed_of _ (o.leads.goes j below)
+        | inr here ↦ let e : k ≡ j = omega arith in
+            subst (λ n. is_obeyed (step (state_after n s)).turn ≡ true) e (ap is_obeyed turn)
+      ]
+
       runs : RunsOn left (k + 1) s
-      runs j l =
-          elim (cases_lt j k) [
-            | inl below ↦
-                under_way j (omega arith) (no_stops j s (λ i m. o.leads.goes i (omega arith)))
-                (obeyed_of _ (o.leads.goes j below)) (far j l)
-            | inr here ↦
-                let e : k ≡ j = omega arith in
-                subst (λ n. IsUnderWay left n s) e
-                (under_way k (omega arith) none (ap is_obeyed turn) (far k (omega arith)))
-          ]
+      runs j l = under_way j (omega arith) (no_stops j s (λ i m. o.leads.goes i (omega arith))) (obeyed j l) (far j l)
 
       some : 0 < (progress (k + 1) s).stops
       some = let one = ap stops_of turn in omega (arith, next_stops k s, none, one)
