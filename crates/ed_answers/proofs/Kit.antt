@@ -8,7 +8,6 @@ pub use Rattle.ed_codes.specs.Reading.{no_row, open_comment, Reading}
 pub use Rattle.ed_printer.specs.Paper.{paper}
 unfoldable pub use Rattle.ed_machine.specs.Steps.{least}
 pub use Rattle.ed_machine.specs.declared.ending.Ending.{Ending}
-pub use Rattle.ed_machine.specs.declared.ending.Ending.TheVariants.{Limit, NoOrder, NoTape, PaperFull, Stopped}
 pub use Rattle.ed_machine.proofs.LeastNumbers.{least_below}
 pub use Rattle.ed_run.specs.Run.{RunEnd}
 pub use Rattle.ed_run.specs.declared.settings.Settings.{Settings}

@@ -27,13 +27,12 @@ pub use Rattle.ed_initial.specs.Entry.{at_entry, ReachesEntry}
 pub use Rattle.ed_initial.proofs.Quiet.{comes_in}
 pub use Rattle.ed_initial1.specs.Entry.{at_entry1}
 pub use Rattle.ed_initial1.specs.Items.{Item1}
-pub use Rattle.ed_syntax.specs.Reading.Sources.{and_lines}
 pub use Rattle.ed_syntax.specs.declared.program.Line.{Line}
 pub use Rattle.ed_syntax.specs.declared.program.Operand.TheVariants.{Label}
 pub use Rattle.ed_syntax.specs.declared.program.Statement.{Statement}
 pub use Rattle.ed_syntax.specs.declared.program.Statement.TheVariants.{Enter, Fetch}
 pub use Rattle.ed_syntax.proofs.Kit.{Err, Result, bytes_eq, bytes_eq-Decides, is_place_name, array, has_quote, quoted}
-pub use Rattle.ed_syntax.proofs.Kit.{Fault, IsProgram}
+pub use Rattle.ed_syntax.proofs.Kit.{IsProgram}
 pub use Rattle.ed_syntax.proofs.PartLemmas.{quote_parts}
 pub use Rattle.ed_library.specs.Routines.{is_working}
 pub use Rattle.ed_symbols.specs.declared.symbols.Definition.{Definition}
@@ -44,7 +43,7 @@ pub use Rattle.ed_link.proofs.Kit.{operand_number}
 pub use Rattle.ed_routines.proofs.Journeys.{after_call, all_long, along, beside_word, called, elsewhere, has_after}
 pub use Rattle.ed_routines.proofs.Journeys.{IsIn, Journey, no_working, stands, still_in, stop_after, then, to_stop}
 pub use Rattle.ed_routines.proofs.Kit.{E_jumps, Jumps, L, Reads, S, T, U, prints, any, early, out, LD, value_after}
-pub use Rattle.ed_routines.proofs.Lines.{newline_line, number_at, print_goes, print_left, print_line}
+pub use Rattle.ed_routines.proofs.Lines.{newline_line, print_goes, print_left, print_line}
 unfoldable pub use Rattle.ed_checker.specs.Checker.{checked_codes}
 pub use Rattle.ed_checker.specs.Laws.{HasGuest}
 pub use Rattle.ed_checker.proofs.Kit.{IsStore, followed, get_own, IsAllowed}
@@ -57,7 +56,7 @@ pub use Rattle.ed_interlude.proofs.Kit.{returned_line, directive, IsReturned}
 pub use Rattle.ed_sources.proofs.AtEntry.{all_words, have_places, placed, word_at}
 pub use Rattle.ed_sources.proofs.Decimals.{among, are, decimal_is, digit_bytes, few_bytes, line_bytes, numbers}
 pub use Rattle.ed_sources.proofs.Decimals.{row_bytes, rows_are, run_bytes, some_digit, value_is, written}
-pub use Rattle.ed_sources.proofs.Entries.{frame_at, is_met, moment_at}
+pub use Rattle.ed_sources.proofs.Entries.{frame_at, moment_at}
 pub use Rattle.ed_sources.proofs.Kit.{[], ap, append-nil, append_assoc, arith, Bool, codes, decimal, drop, false}
 pub use Rattle.ed_sources.proofs.Kit.{get_or, if◌then◌else◌, inl, inr, length, length-append, List, lit<, lit≤, map}
 pub use Rattle.ed_sources.proofs.Kit.{nat_eq, nat_le, nat_lt, None, not, Ok, Option, pos, refl, reverse, rules, Some}
@@ -67,11 +66,11 @@ pub use Rattle.ed_sources.proofs.Kit.{and_from, and_parts, cases_lt, eqb-true, l
 pub use Rattle.ed_sources.proofs.Kit.{ltb-true, ne_eqb, not-true, nat_tests, length-map, length-replicate}
 pub use Rattle.ed_sources.proofs.Kit.{list_all-append, sum_by-cons, value, locations, Text, least, locations_most, row_of, paper}
 pub use Rattle.ed_sources.proofs.Kit.{short_at, State, state_after, Frame, Moment, short, state, joined, Leads, A}
-pub use Rattle.ed_sources.proofs.Kit.{G_jumps, leads, on, Path, stay, own, Holds, opens, placed_at, is_run_byte}
+pub use Rattle.ed_sources.proofs.Kit.{G_jumps, leads, on, Path, stay, own, placed_at, is_run_byte}
 pub use Rattle.ed_sources.proofs.Kit.{is_line_byte, is_number, LinePart, run, sign, form_at, row, spells, parts_of}
 pub use Rattle.ed_sources.proofs.Kit.{is_two, line_of, lines_from, program_of, run_parts, image_word, place_count}
 pub use Rattle.ed_sources.proofs.Kit.{first_counter, fault, entry_of, linked_words, symbols_of, cost, counter, newline}
-pub use Rattle.ed_sources.proofs.Kit.{print, read, with_h, digits, print_orders, without_zeros, IsOther, IsLoadedAt}
+pub use Rattle.ed_sources.proofs.Kit.{print, read, with_h, digits, print_orders, IsOther, IsLoadedAt}
 pub use Rattle.ed_sources.proofs.Kit.{digits_law, few_digits, HasRoutine, ReachesStop, divide, divide_orders, with_hnm}
 pub use Rattle.ed_sources.proofs.Kit.{guest, at_after, entry_state, AnswersFromEntry, run_outcome, read_is_accepted}
 pub use Rattle.ed_sources.proofs.Kit.{accepted_is, each_answer_is_from_entry, filled_text, text_of_lines}
