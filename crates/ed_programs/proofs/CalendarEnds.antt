@@ -16,7 +16,7 @@ front = get_or (map (λ piece. piece.now) CALENDAR) 0 []
 abbrev pub calendar_rows : List ℕ → List ℕ
 calendar_rows rest = rows_in front ++ rest
 
--- the words that they place, the last one first: from each of these locations downwards, so many of the program's
+-- the words of the program at a number of locations, from the first of these downwards
 abbrev placed_from : ℕ → ℕ → List (ℕ × ℕ)
 placed_from first count = map (λ i. (first - i, get_or (cells loaded) (first - i - 56) 0)) (numbers 0 count)
 

@@ -34,7 +34,7 @@ still_has above low keeps {w1 = w1} there other = record {
       (other m l free) ∙ there.image m l free;
 }
 
--- the cells of a piece at b after its cell j was written, in words where it has v and the others are as before
+-- the cells of a piece at b after v was written to its cell j, by words that have v there and the other cells as before
 pub set_own : (words cells : List ℕ) (b j v m : ℕ) → j < length cells → get_or words (b + j) 0 ≡ v
     → (m ≢ j → get_or words (b + m) 0 ≡ get_or cells m 0) → get_or words (b + m) 0 ≡ get_or (set cells j v) m 0
 set_own words cells b j v m inside is other = grind (arith, common_steps)
