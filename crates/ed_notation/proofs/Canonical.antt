@@ -1,9 +1,9 @@
 -- The canonical spelling is a spelling.
-use Rattle.ed_notation.proofs.Kit.{[], Bool, drop, false, length, List, nat_le, refl, true, ℕ, ◌++◌, ◌<◌, ◌∷◌, ◌≡◌}
-use Rattle.ed_notation.proofs.Kit.{◌≤◌, and_parts, le-leb, leb-false, leb-true, lt-ltb, ltb-true, append-nil, drop_all}
-use Rattle.ed_notation.proofs.Kit.{ap, arith, sym, ◌∙◌, AreDigits, digits_number, ends, IsWritten, item, items}
-use Rattle.ed_notation.proofs.Kit.{row_kind, rows_of, spelled_rows, Written, AreWritten, canonical, canonicals}
-use Rattle.ed_notation.proofs.Kit.{digits_of, is_spellable, SpellsAll, Item, RowKind, Blank, Digit, Mark, Other}
+use Rattle.ed_notation.proofs.Kit.{[], Bool, drop, false, length, List, nat_le, refl, true, ℕ, ◌++◌, ◌<◌, ◌∷◌, ◌≡◌, ◌≤◌}
+use Rattle.ed_notation.proofs.Kit.{and_parts, le-leb, leb-false, leb-true, lt-ltb, ltb-true, append-nil, drop_all, ap}
+use Rattle.ed_notation.proofs.Kit.{arith, sym, ◌∙◌, AreDigits, digits_number, ends, IsWritten, item, items, row_kind}
+use Rattle.ed_notation.proofs.Kit.{rows_of, spelled_rows, Written, AreWritten, canonical, canonicals, digits_of}
+use Rattle.ed_notation.proofs.Kit.{is_spellable, SpellsAll, Item, RowKind, Blank, Digit, Mark, Other}
 use Rattle.std.proofs.lemmas.Bool.{and_from}
 use Rattle.ed_notation.specs.Spellings.{NoLeadingZero, AreCanonical, AreSpellable, IsSpelling, SpellableIsSpelled}
 use Rattle.ed_notation.proofs.Unique.{no_other}
@@ -18,29 +18,18 @@ by_tests : {n : ℕ} {a b c d e : Bool} → n ≤ 32767 → nat_le 10000 n ≡ a
     → nat_le 10 n ≡ d → nat_le 1 n ≡ e → AreDigitsOf n (digits_of n)
 by_tests {n} {a = true} h p q r s t =
     let p' = leb-true _ _ p in
-    let q' = le-leb 1000 n (omega (arith, p')) in
-    let r' = le-leb 100 n (omega (arith, p')) in
-    let s' = le-leb 10 n (omega (arith, p')) in
-    let t' = le-leb 1 n (omega (arith, p')) in
-    rw (p, q', r', s', t') (omega (arith, p', h))
+    rw (p, le-leb 1000 n (omega arith), le-leb 100 n (omega arith), le-leb 10 n (omega arith), le-leb 1 n (omega arith))
+    (omega (arith, p', h))
 by_tests {n} {a = false} {b = true} h p q r s t =
-    let p' = leb-false _ _ p in
     let q' = leb-true _ _ q in
-    let r' = le-leb 100 n (omega (arith, q')) in
-    let s' = le-leb 10 n (omega (arith, q')) in
-    let t' = le-leb 1 n (omega (arith, q')) in
-    rw (p, q, r', s', t') (omega (arith, p', q'))
+    rw (p, q, le-leb 100 n (omega arith), le-leb 10 n (omega arith), le-leb 1 n (omega arith))
+    (omega (arith, leb-false _ _ p, q'))
 by_tests {n} {a = false} {b = false} {c = true} h p q r s t =
-    let q' = leb-false _ _ q in
     let r' = leb-true _ _ r in
-    let s' = le-leb 10 n (omega (arith, r')) in
-    let t' = le-leb 1 n (omega (arith, r')) in
-    rw (p, q, r, s', t') (omega (arith, q', r'))
+    rw (p, q, r, le-leb 10 n (omega arith), le-leb 1 n (omega arith)) (omega (arith, leb-false _ _ q, r'))
 by_tests {n} {a = false} {b = false} {c = false} {d = true} h p q r s t =
-    let r' = leb-false _ _ r in
     let s' = leb-true _ _ s in
-    let t' = le-leb 1 n (omega (arith, s')) in
-    rw (p, q, r, s, t') (omega (arith, r', s'))
+    rw (p, q, r, s, le-leb 1 n (omega arith)) (omega (arith, leb-false _ _ r, s'))
 by_tests {a = false} {b = false} {c = false} {d = false} {e = true} h p q r s t =
     rw (p, q, r, s, t) (omega (arith, leb-false _ _ s, leb-true _ _ t))
 by_tests {a = false} {b = false} {c = false} {d = false} {e = false} h p q r s t =

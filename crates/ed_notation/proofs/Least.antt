@@ -1,7 +1,6 @@
 -- The least rule that a row breaks.
-use Rattle.ed_notation.proofs.Kit.{[], Bool, false, length, List, lit<, lit≤, Option, refl, Some, true, true≢false, ℕ}
-use Rattle.ed_notation.proofs.Kit.{◌+◌, ◌-◌, ◌<◌, ◌∷◌, ◌≡◌, ◌≤◌, ap, arith, get_or, sym, ◌∙◌, cause_number, TapeCause}
-use Rattle.ed_notation.proofs.Kit.{EndOfTape}
+use Rattle.ed_notation.proofs.Kit.{[], Bool, false, length, List, lit<, lit≤, refl, Some, true, true≢false, ℕ, ◌+◌, ◌-◌}
+use Rattle.ed_notation.proofs.Kit.{◌<◌, ◌∷◌, ◌≡◌, ◌≤◌, ap, arith, get_or, sym, ◌∙◌, cause_number, TapeCause, EndOfTape}
 use Rattle.ed_notation.proofs.Rows.{first_of, causes}
 
 -- the cause of a number
@@ -57,12 +56,9 @@ least_of f k h =
     (refl, (refl, (refl, (refl, (refl, (refl, (refl, (refl, (refl, (refl, tt)))))))))) in
     least_in f causes 1 k numbered (is_number k).least (is_number k).most h
 
-some_is : (a b : TapeCause) → (let x : Option TapeCause = Some a in x) ≡ Some b → a ≡ b
-some_is a b e = cc
-
 found_if : (f : TapeCause → Bool) (c k : TapeCause) (cs : List TapeCause) (x : Bool) → f c ≡ x
     → (first_of f cs ≡ Some k → f k ≡ true) → first_of f (c ∷ cs) ≡ Some k → f k ≡ true
-found_if f c k cs true e ih h = let q : Some c ≡ Some k = (rw e at h) in rw (some_is c k q) at e
+found_if f c k cs true e ih h = let q : Some c ≡ Some k = (rw e at h) in let s : c ≡ k = cc in rw s at e
 found_if f c k cs false e ih h = ih (rw e at h)
 
 -- and the test is true for it

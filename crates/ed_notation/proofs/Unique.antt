@@ -1,20 +1,9 @@
 -- No spelling of an item is the beginning of a spelling of another item.
 use Rattle.ed_notation.proofs.Kit.{[], append_assoc, Bool, false, List, refl, true, ℕ, ◌++◌, ◌∷◌, ◌≡◌, ◌≤◌, append-nil}
-use Rattle.ed_notation.proofs.Kit.{ap, arith, sym, ◌∙◌, AreDigits, Begun, begun_rows, ends, IsWritten, item, items}
-use Rattle.ed_notation.proofs.Kit.{mark_rows, row_kind, rows_of, spelled_rows, Written, AreWritten, SpellsAll, Item}
-use Rattle.ed_notation.proofs.Kit.{RowKind, Digit, Mark, Other}
+use Rattle.ed_notation.proofs.Kit.{ap, arith, sym, ◌∙◌, AreDigits, begun_rows, IsWritten, item, items, mark_rows}
+use Rattle.ed_notation.proofs.Kit.{rows_of, spelled_rows, Written, AreWritten, SpellsAll, Item}
 use Rattle.ed_notation.specs.Spellings.{NoSpellingBeginsAnother}
-use Rattle.ed_notation.proofs.Tests.{RowMeans, row_means}
-
--- an ending row is at least 13
-ends_high : (b : Begun) (c : ℕ) → ends (row_kind c) b ≡ true → 13 ≤ c
-ends_high b c = by_kind (row_kind c) (row_means c)
-  where
-    by_kind : (r : RowKind) → RowMeans r c → ends r b ≡ true → 13 ≤ c
-    by_kind Digit means h = cc
-    by_kind Mark means h = cc
-    by_kind Other means h = cc
-    by_kind r means h = omega (arith, means)
+use Rattle.ed_notation.proofs.Tests.{end_range}
 
 head_same : {a b : ℕ} {xs ys : List ℕ} → a ∷ xs ≡ b ∷ ys → a ≡ b
 head_same e = cc
@@ -62,8 +51,8 @@ one_item : (v w : Written) (a b : List ℕ) → IsWritten v → IsWritten w → 
 one_item v w a b p q e =
     let x = sym (apart v a) ∙ e ∙ apart w b in
     let f = head_same x in
-    let h = ends_high v.begun v.end p.ended in
-    let k = ends_high w.begun w.end q.ended in
+    let h = (end_range v.begun v.end p.ended).0 in
+    let k = (end_range w.begun w.end q.ended).0 in
     let r = tails p.begun.digits q.begun.digits h k (tail_same x) in
     record {
       item = λ i. record { begun = record { function = f i; digits = r.digits i; mark = r.mark i }; end = r.end i };
@@ -77,13 +66,10 @@ none_begins i j rows more p q =
     let r = one_item _ _ more [] p.good q.good e in
     (sym p.item_is ∙ ap item r.item ∙ q.item_is, r.rest)
 
-none_empty : (w : Written) (xs : List ℕ) → (let x : List ℕ = [] in x) ≡ rows_of w ++ xs → ⊥
-none_empty w xs e = cc
-
 one_list : (vs ws : List Written) → AreWritten vs → AreWritten ws → spelled_rows vs ≡ spelled_rows ws → vs ≡ ws
 one_list [] [] p q e = refl
-one_list [] (w ∷ ws) p q e = absurd (none_empty w (spelled_rows ws) e)
-one_list (v ∷ vs) [] p q e = absurd (none_empty v (spelled_rows vs) (sym e))
+one_list [] (w ∷ ws) p q e = cc
+one_list (v ∷ vs) [] p q e = cc
 one_list (v ∷ vs) (w ∷ ws) p q e =
     let r = one_item v w _ _ p.0 q.0 e in
     let x = r.item in

@@ -61,7 +61,7 @@ overflow_add-orders-in-Ended c =
     let t = IsEffectInRange-taken c.in-Some.part (rw c.in-Some.is at c.loop-row.invariant)
     c.loop-row-test.true c.index-rows-row.is
     (Ended c.in-Ended.next c.in-Ended.more) c.in-Ended.ensures in
-    omega (arith, c.requires.rows, c.requires.base, c.loop-row-test.true, c.loop-row.invariant.cheap, t)
+    omega (arith, c.requires.rows, c.requires.base, c.loop-row-test.true, c.loop-row.invariant.cheap, t.1)
 
 pub overflow_add-orders-in-Placed : goal.overflow_add-orders-in-Placed
 overflow_add-orders-in-Placed c =
@@ -71,18 +71,18 @@ pub put_short-requires : goal.put_short-requires
 put_short-requires c =
     let t = IsEffectInRange-taken c.in-Some.part (rw c.in-Some.is at c.loop-row.invariant)
     c.loop-row-test.true c.index-rows-row.is
-    (Placed c.in-Placed.at c.in-Placed.word) c.in-Placed.ensures in t.0
+    (Placed c.in-Placed.at c.in-Placed.word) c.in-Placed.ensures in t.1
 
 pub bounds-placed-from : goal.bounds-placed-from
 bounds-placed-from c =
     let t = IsEffectInRange-taken c.in-Some.part (rw c.in-Some.is at c.loop-row.invariant)
     c.loop-row-test.true c.index-rows-row.is
     (Placed c.in-Placed.at c.in-Placed.word) c.in-Placed.ensures in
-    omega (arith, c.from.ensures, t.0, c.loop-row.auto.placed, ap (λ (m : List Bool). length m) c.requires.placed, length-replicate 1024 false)
+    omega (arith, c.from.ensures, t.1, c.loop-row.auto.placed, ap (λ (m : List Bool). length m) c.requires.placed, length-replicate 1024 false)
 
 pub moved_on-setting-requires : goal.moved_on-setting-requires
 moved_on-setting-requires c =
     let t = IsEffectInRange-taken c.in-Some.part (rw c.in-Some.is at c.loop-row.invariant)
     c.loop-row-test.true c.index-rows-row.is
     (Placed c.in-Placed.at c.in-Placed.word) c.in-Placed.ensures in
-    omega (arith, t.1)
+    omega (arith, t.2)
