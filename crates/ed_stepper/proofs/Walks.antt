@@ -1,8 +1,8 @@
 -- One more order of a move.
-use Rattle.ed_stepper.proofs.Kit.{is_stop, Turn, NoOrder, NoTape, Printed, Stopped, Went, add-one, step, State}
-use Rattle.ed_stepper.proofs.Kit.{AreObeyed, is_obeyed, state_after, after_sum, next_state, no_step, ap, arith, false}
-use Rattle.ed_stepper.proofs.Kit.{inl, inr, None, refl, rules, Some, sym, true, ℕ, ◌+◌, ◌<◌, ◌∙◌, ◌≡◌, ◌≤◌, ◌⊎◌}
-use Rattle.ed_stepper.proofs.Kit.{blocked_end, end_after, Ends, own_end, stopped_after, MoveEnd, Limit, MoveTarget}
+use Rattle.ed_stepper.proofs.Kit.{is_stop, Turn, NoOrder, NoTape, Printed, Went, add-one, step, State, AreObeyed}
+use Rattle.ed_stepper.proofs.Kit.{is_obeyed, state_after, after_sum, next_state, no_step, ap, arith, false, inl, inr}
+use Rattle.ed_stepper.proofs.Kit.{None, refl, rules, Some, sym, true, ℕ, ◌+◌, ◌<◌, ◌∙◌, ◌≡◌, ◌≤◌, ◌⊎◌, blocked_end}
+use Rattle.ed_stepper.proofs.Kit.{end_after, Ends, own_end, stopped_after, MoveEnd, Limit, MoveTarget}
 use Rattle.std.proofs.Common.{below_more}
 use Rattle.ed_stepper.specs.declared.moves.MoveEnd.TheVariants.{Stopped as EndStopped}
 
@@ -24,11 +24,9 @@ at_first aim left s none = record {
 }
 
 not_blocked : (turn : Turn) → is_obeyed turn ≡ true → blocked_end turn ≡ None
-not_blocked Went h = refl
-not_blocked (Printed code) h = refl
-not_blocked Stopped h = refl
 not_blocked (NoOrder function) h = cc
 not_blocked NoTape h = cc
+not_blocked turn h = refl
 
 -- a turn that neither stops nor is blocked
 quiet_turn : (t : Turn) → (t ≡ Went) ⊎ ((x : ℕ) × (t ≡ Printed x)) → (is_obeyed t ≡ true) × (is_stop t ≡ false)
