@@ -1,6 +1,6 @@
 -- One more order of a run.
 use Rattle.ed_run.proofs.Kit.{nat_le, Sheet, Ending, Limit, Stopped, Turn, Printed, Went, [], ap, arith, Bool, false}
-use Rattle.ed_run.proofs.Kit.{inl, length, length-append, None, refl, rules, Some, sym, true, ℕ, ◌+◌, ◌-◌, ◌<◌, ◌∙◌}
+use Rattle.ed_run.proofs.Kit.{inl, inr, length, length-append, None, refl, rules, Some, sym, true, ℕ, ◌+◌, ◌-◌, ◌<◌, ◌∙◌}
 use Rattle.ed_run.proofs.Kit.{◌≡◌, ◌≤◌, ◌⊎◌, nat_tests, step, State, codes_of, is_obeyed, progress, state_after}
 use Rattle.ed_run.proofs.Kit.{stops_of, end_at, end_by, EndsAfter, IsRun, prints}
 use Rattle.std.proofs.Common.{◌++◌, below_more, Option, append_assoc, subst}

@@ -45,10 +45,6 @@ loop-row-preserved c = elim c.match-item.branch [
 pub returns : goal.returns
 returns c = at_end c.loop-row.invariant (omega (arith, c.loop-row-test.false, c.loop-row.auto.row-end))
 
-pub take-requires : goal.take-requires
-take-requires c =
-    let a : IsPartial (Some c.in-Some.part) = rw c.in-Some.is at c.loop-row.invariant.partial in a
-
 pub overflow_add-orders-in-Longer : goal.overflow_add-orders-in-Longer
 overflow_add-orders-in-Longer c =
     let t = IsEffectInRange-taken c.in-Some.part (rw c.in-Some.is at c.loop-row.invariant)
@@ -62,10 +58,6 @@ overflow_add-orders-in-Ended c =
     c.loop-row-test.true c.index-rows-row.is
     (Ended c.in-Ended.next c.in-Ended.more) c.in-Ended.ensures in
     omega (arith, c.requires.rows, c.requires.base, c.loop-row-test.true, c.loop-row.invariant.cheap, t.1)
-
-pub overflow_add-orders-in-Placed : goal.overflow_add-orders-in-Placed
-overflow_add-orders-in-Placed c =
-    omega (arith, c.requires.rows, c.requires.base, c.loop-row-test.true, c.loop-row.invariant.cheap)
 
 pub put_short-requires : goal.put_short-requires
 put_short-requires c =

@@ -24,13 +24,6 @@ rows_of_items-requires c =
       ),
     )
 
-pub returns-in_err-rows : goal.returns-in_err-rows
-returns-in_err-rows c = rw (err_from_is_err_and c.from_residual.result c.from_residual.ensures.1).1 tt
-
-pub returns-in_err-push_text : goal.returns-in_err-push_text
-returns-in_err-push_text c =
-    let r = c.from_residual-in_err-push_text in rw (err_from_is_err_and r.result r.ensures.1).1 tt
-
 pub returns : goal.returns
 returns c =
     c.in_ok-push_text.ensures

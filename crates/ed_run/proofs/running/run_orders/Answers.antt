@@ -26,11 +26,6 @@ loop-batch-init c =
       room = begun c.loop-machine.machine.orders _ _ _ (omega arith) c.batch-batch.ensures.room;
     }
 
-pub loop-machine-preserved : goal.loop-machine-preserved
-loop-machine-preserved c =
-    let after = c.loop-batch.invariant in
-    record { running = after.running; later = after.later; below = omega arith }
-
 pub returns-in-NoOrder : goal.returns-in-NoOrder
 returns-in-NoOrder c =
     let turn = sym c.step.ensures.turn ∙ c.in-NoOrder.is in
@@ -143,10 +138,6 @@ loop-batch-preserved c =
       below = omega arith;
       room = inl (left _ _ _ _ _ c.loop-batch.invariant.room one (omega arith));
     }
-
-pub loop-batch-smaller-in-Went : goal.loop-batch-smaller-in-Went
-loop-batch-smaller-in-Went c =
-    let one = one_more c.loop-batch.machine c.step.ensures.state (sym c.step.ensures.turn ∙ c.in-Went.is) refl in omega arith
 
 pub loop-batch-smaller-in-Printed : goal.loop-batch-smaller-in-Printed
 loop-batch-smaller-in-Printed c =

@@ -7,9 +7,6 @@ loop-place-preserved c =
     let more = position_or_len-passed c.args.wanted c.args.text.now _ c.loop-place-test.true c.if-byte-wanted.false in
     omega (arith, c.loop-place.invariant, more)
 
-pub loop-place-init : goal.loop-place-init
-loop-place-init c = omega arith
-
 pub returns-then-byte-wanted-clause-is : goal.returns-then-byte-wanted-clause-is
 returns-then-byte-wanted-clause-is c =
     let none = position_or_len-found c.args.wanted c.args.text.now _ c.loop-place-test.true c.if-byte-wanted.true in

@@ -6,9 +6,6 @@ pub loop-rest-preserved : goal.loop-rest-preserved
 loop-rest-preserved c =
     c.loop-rest.invariant ∙ space_skipped c.loop-rest.rest.now c.in-len1-up.len_at_least c.if-first-ne32.false
 
-pub loop-rest-init : goal.loop-rest-init
-loop-rest-init c = refl
-
 pub returns-then-first-ne32 : goal.returns-then-first-ne32
 returns-then-first-ne32 c =
     rw (c.split_at.ensures.front, c.split_at.ensures.back) (c.loop-rest.invariant

@@ -24,9 +24,6 @@ list_functions-requires-clause-room c =
       c.in_ok-functions.ensures.capacity,
     )
 
-pub overflow_sub-moved : goal.overflow_sub-moved
-overflow_sub-moved c = omega (arith, c.go-moved.ensures.done_is, ap (λ (x : Stand). x.done) c.self.view_is)
-
 pub returns : goal.returns
 returns c =
     let listed = c.list_functions.ensures in
