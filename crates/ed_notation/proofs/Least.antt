@@ -15,16 +15,12 @@ named_is c = refl
 pub same : (a b : TapeCause) → cause_number a ≡ cause_number b → a ≡ b
 same a b e = sym (named_is a) ∙ ap named e ∙ named_is b
 
-record IsNumber (n : ℕ) : Type 0 where
-  least : 1 ≤ n
-  most : n < 11
-
-is_number : (c : TapeCause) → IsNumber (cause_number c)
-is_number EndOfTape = record { least = lit≤ tt; most = lit< tt }
-is_number c = record { least = lit≤ tt; most = lit< tt }
+is_number : (c : TapeCause) → (1 ≤ cause_number c) × (cause_number c < 11)
+is_number EndOfTape = (lit≤ tt, lit< tt)
+is_number c = (lit≤ tt, lit< tt)
 
 pub one_least : (c : TapeCause) → 1 ≤ cause_number c
-one_least c = (is_number c).least
+one_least c = (is_number c).0
 
 -- the numbers of the list ascend from n
 abbrev AreNumbered : ℕ → List TapeCause → Type 0
@@ -54,7 +50,7 @@ pub least_of : (f : TapeCause → Bool) (k : TapeCause) → f k ≡ true → Fou
 least_of f k h =
     let numbered : AreNumbered 1 causes =
     (refl, (refl, (refl, (refl, (refl, (refl, (refl, (refl, (refl, (refl, tt)))))))))) in
-    least_in f causes 1 k numbered (is_number k).least (is_number k).most h
+    least_in f causes 1 k numbered (is_number k).0 (is_number k).1 h
 
 found_if : (f : TapeCause → Bool) (c k : TapeCause) (cs : List TapeCause) (x : Bool) → f c ≡ x
     → (first_of f cs ≡ Some k → f k ≡ true) → first_of f (c ∷ cs) ≡ Some k → f k ≡ true

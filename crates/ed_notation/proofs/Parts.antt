@@ -1,7 +1,7 @@
 -- Lists that are made part after part.
-use Rattle.ed_notation.proofs.Kit.{[], append_assoc, Bool, drop, length, List, nat_lt, refl, true, ℕ, ◌++◌, ◌+◌, ◌<◌}
-use Rattle.ed_notation.proofs.Kit.{◌∷◌, ◌≡◌, ◌≤◌, flat_map, list_all, and_parts, le-leb, lt-leb, lt-ltb, byte_of, ap}
-use Rattle.ed_notation.proofs.Kit.{arith, get_or, sym, ◌%◌, ◌/◌, ◌∙◌, digit_at, digits_of, line_from}
+use Rattle.ed_notation.proofs.Kit.{[], append_assoc, Bool, drop, length, List, refl, true, ℕ, ◌++◌, ◌+◌, ◌<◌, ◌∷◌, ◌≡◌}
+use Rattle.ed_notation.proofs.Kit.{◌≤◌, flat_map, list_all, and_parts, le-leb, lt-leb, ap, get_or, sym, ◌%◌, ◌/◌, ◌∙◌}
+use Rattle.ed_notation.proofs.Kit.{digit_at, digits_of}
 use Rattle.std.proofs.Common.{append-nil}
 use Rattle.std.proofs.lemmas.List.{at_drop_more}
 
@@ -40,15 +40,3 @@ pub digits_are : (n : ℕ) → flat_map (λ power. digit_at power n) (10000 ∷ 
 digits_are n =
     ap (λ (ds : List ℕ). digit_at 10000 n ++ (digit_at 1000 n ++ (digit_at 100 n ++ (digit_at 10 n ++ ds))))
     (append-nil _)
-
--- the byte of one more row of an item
-pub more_line : {next whole : List ℕ} (rows : List ℕ) (i c : ℕ) (done : List ℕ)
-    → i < length rows → c ≡ get_or rows i c → next ≡ done ++ byte_of c (nat_lt 0 i) ∷ []
-    → done ++ line_from (nat_lt 0 i) (drop i rows) ≡ whole
-    → next ++ line_from (nat_lt 0 (i + 1)) (drop (i + 1) rows) ≡ whole
-more_line rows i c done below is same before =
-    one_more (line_from (nat_lt 0 i)) rows i c done _ _ below is
-    (ap (λ b. byte_of c (nat_lt 0 i) ∷ line_from b (drop (i + 1) rows)) (sym (after i))) same before
-  where
-    after : (i : ℕ) → nat_lt 0 (i + 1) ≡ true
-    after i = lt-ltb 0 (i + 1) (omega arith)

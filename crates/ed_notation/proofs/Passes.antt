@@ -14,13 +14,9 @@ use Rattle.ed_notation.proofs.Follow.{function_read, to_end, arrived, Goes-ended
 use Rattle.ed_notation.proofs.Least.{least_of, one_least}
 
 -- the causes other than the first have a number of 2 and more
-record BadRowBroken (cause : TapeCause) (t : Bool) : Type 0 where
-  least : 2 ≤ cause_number cause
-  test : t ≡ false
-
-bad_row : (cause : TapeCause) (t : Bool) → (is_bad_row cause && not t) ≡ true → BadRowBroken cause t
+bad_row : (cause : TapeCause) (t : Bool) → (is_bad_row cause && not t) ≡ true → (2 ≤ cause_number cause) × (t ≡ false)
 bad_row BadRow true h = cc
-bad_row BadRow false h = record { least = lit≤ tt; test = refl }
+bad_row BadRow false h = (lit≤ tt, refl)
 bad_row cause t h = cc
 
 -- one stretch of rows after the other
@@ -97,7 +93,7 @@ broken_here : (p : Reader) (part : Option Begun) (rest : List ℕ) (cause : Tape
 unfolding reading_on
 broken_here p None (c ∷ rest) cause set is h =
     let f = bad_row cause _ h in
-    record { found = BadRow; is = function_read p c rest f.test; least = f.least }
+    record { found = BadRow; is = function_read p c rest f.1; least = f.0 }
 broken_here p (Some b) (c ∷ rest) cause set is h =
     let f = least_of (λ k. breaks k (row_kind c) p.size p.words p.notation b c) cause h in
     record { found = f.found; is = refused p (record { begun = b; end = c }) rest set is f.is; least = f.least }

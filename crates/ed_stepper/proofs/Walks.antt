@@ -1,7 +1,7 @@
 -- One more order of a move.
 use Rattle.ed_stepper.proofs.Kit.{is_stop, Turn, NoOrder, NoTape, Printed, Went, add-one, step, State, AreObeyed}
 use Rattle.ed_stepper.proofs.Kit.{is_obeyed, state_after, after_sum, next_state, no_step, ap, arith, false, inl, inr}
-use Rattle.ed_stepper.proofs.Kit.{None, refl, rules, Some, sym, true, ℕ, ◌+◌, ◌<◌, ◌∙◌, ◌≡◌, ◌≤◌, ◌⊎◌, blocked_end}
+use Rattle.ed_stepper.proofs.Kit.{None, refl, rules, Some, sym, true, ℕ, ◌+◌, ◌<◌, ◌∙◌, ◌≡◌, ◌⊎◌, blocked_end}
 use Rattle.ed_stepper.proofs.Kit.{end_after, Ends, own_end, stopped_after, MoveEnd, Limit, MoveTarget}
 use Rattle.std.proofs.Common.{below_more}
 use Rattle.ed_stepper.specs.declared.moves.MoveEnd.TheVariants.{Stopped as EndStopped}
@@ -105,23 +105,3 @@ after_from from k s start m is at =
 pub at_limit : {aim : MoveTarget} {left : ℕ} {s : State} {k : ℕ} {m : State} → k ≡ left → Walking aim left s k m
     → Walking aim left s left m
 at_limit e w = rw e at w
-
--- ---- the numbers of a walk
-
-pub up_to : (k left : ℕ) → k < left → k ≤ left
-up_to k left below = omega arith
-
-pub one_more : (k left : ℕ) → k < left → k + 1 ≤ left
-one_more k left below = omega arith
-
--- the orders counted from a start on: after one more order
-pub orders_more : (s m n k : ℕ) → n ≤ m + 1 → m ≤ s + k → n ≤ s + (k + 1)
-orders_more s m n k one all = omega arith
-
--- after an order that was not obeyed
-pub orders_kept : (s m n k : ℕ) → n ≡ m → m ≤ s + k → n ≤ s + k
-orders_kept s m n k same all = omega arith
-
--- counted from an earlier start on
-pub orders-reached : (start s n from k : ℕ) → n ≤ s + (k + 1) → s ≤ start + from → n ≤ start + (from + k + 1)
-orders-reached start s n from k all few = omega arith

@@ -1,6 +1,6 @@
 use Rattle.ed_initial1.proofs.Kit.{ap, arith, length, nat_eq, subst, sym, ◌∙◌, ◌≡◌, IsFault1, EndOfTape}
-use Rattle.ed_initial1.proofs.Loop.{StandsAt-begins, IsFault1-refused, function_row, made_longer, made_ended, made_whole, at_end}
-use Rattle.ed_initial1.proofs.Loop.{number_fits}
+use Rattle.ed_initial1.proofs.Loop.{StandsAt-begins, IsFault1-refused, function_row, made_longer, made_ended}
+use Rattle.ed_initial1.proofs.Loop.{made_whole, at_end}
 use Rattle.ed_initial1.proofs.checking.read_rows.Goals.{in-None, in-Some+in-Longer}
 use Rattle.ed_initial1.proofs.checking.read_rows.Goals.{in-Some+in-Ended+in_ok-push-in-Ended+else-len-from}
 use Rattle.ed_initial1.proofs.checking.read_rows.Goals as goal
@@ -55,9 +55,3 @@ returns c =
     let l = c.loop-row in
     let e : l.row ≡ length c.args.rows.now = omega (arith, c.loop-row-test.false, c.loop-row.auto.row-end) in
     subst (λ n. IsFault1 c.args.rows.now n EndOfTape) e (at_end l.invariant e)
-
-pub take-requires : goal.take-requires
-take-requires c = number_fits (rw c.in-Some.is at c.loop-row.invariant)
-
-pub word_of-requires : goal.word_of-requires
-word_of-requires c = number_fits (rw c.in-Some.is at c.loop-row.invariant)

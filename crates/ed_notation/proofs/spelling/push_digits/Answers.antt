@@ -1,7 +1,6 @@
-use Rattle.ed_notation.proofs.Kit.{[], drop, List, nat_lt, refl, true, ℕ, ◌++◌, ◌+◌, ◌∷◌, ◌≡◌, flat_map, list_all}
-use Rattle.ed_notation.proofs.Kit.{ltb-true, at_drop_all, ap, get_or, sym, ◌∙◌, digit_at}
+use Rattle.ed_notation.proofs.Kit.{[], drop, List, nat_lt, refl, true, ℕ, ◌++◌, ◌+◌, ◌∷◌, ◌≡◌, flat_map, list_all, ap}
+use Rattle.ed_notation.proofs.Kit.{get_or, sym, ◌∙◌, digit_at}
 use Rattle.std.proofs.Common.{append-nil}
-use Rattle.std.proofs.lemmas.List.Sums.{AllPass-from_list_all}
 use Rattle.ed_notation.proofs.Parts.{digit_there, next_passes, no_digit, one_more}
 use Rattle.ed_notation.proofs.spelling.push_digits.Goals.{then-power-number+in_ok-push, else-power-number}
 use Rattle.ed_notation.proofs.spelling.push_digits.Goals as goal
@@ -33,15 +32,3 @@ loop-power-preserved c =
           (ap (λ v. v.items) w.rows-is ∙ sym (append-nil done)
           ∙ ap (λ (ds : List ℕ). done ++ ds) (sym (no_digit power n w.if-power-number.false)))
     ]
-
-pub returns : goal.returns
-returns c =
-    let l = c.loop-power in
-    sym (append-nil _) ∙ ap (λ (ds : List ℕ). l.rows.items ++ ds)
-    (sym (at_drop_all (flat_map (λ p. digit_at p c.args.number)) _ _ c.loop-power-test.false)) ∙ l.invariant.0
-
-pub nonzero_div-number : goal.nonzero_div-number
-nonzero_div-number c =
-    ltb-true 0 _ (AllPass-from_list_all (λ power. nat_lt 0 power) c.args.powers.now c.requires
-    c.loop-power.power-index 0
-    c.loop-power-test.true)

@@ -28,6 +28,3 @@ loop-item-preserved c =
     (c.in_ok-push_line.ensures ∙ ap (λ (xs : List ℕ). done ++ line_from false xs)
     (c.deref.ensures.value ∙ c.in_ok-push_item.ensures ∙ ap (λ (xs : List ℕ). xs ++ rows) c.new-rows.ensures.items))
     c.loop-item.invariant
-
-pub returns-clause-text : goal.returns-clause-text
-returns-clause-text c = text_end _ _ _ c.loop-item-test.false c.loop-item.invariant
