@@ -1,5 +1,5 @@
 use Rattle.ed_stepper.proofs.Kit.{is_stop, add-one, State, is_obeyed, no_step, ap, arith, rules, sym, ◌∙◌, ◌≡◌}
-use Rattle.ed_stepper.proofs.Kit.{◌≤◌, blocked_end}
+use Rattle.ed_stepper.proofs.Kit.{◌+◌, ◌≤◌, blocked_end}
 use Rattle.ed_initial.specs.Load.{enters}
 use Rattle.ed_stepper.specs.declared.moves.MoveEnd.TheVariants.{Went}
 use Rattle.ed_stepper.proofs.Walks.{after_from, at_first, at_limit, Ends-blocks, ends_at_once, goes_on, Ends-limits}
