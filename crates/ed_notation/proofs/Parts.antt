@@ -1,15 +1,7 @@
 -- Lists that are made part after part.
-use Rattle.ed_notation.proofs.Kit.{[], append_assoc, Bool, drop, length, List, refl, true, ℕ, ◌++◌, ◌+◌, ◌<◌, ◌∷◌, ◌≡◌}
-use Rattle.ed_notation.proofs.Kit.{◌≤◌, flat_map, list_all, and_parts, le-leb, lt-leb, ap, get_or, sym, ◌%◌, ◌/◌, ◌∙◌}
-use Rattle.ed_notation.proofs.Kit.{digit_at, digits_of}
-use Rattle.std.proofs.Common.{append-nil}
+use Rattle.ed_notation.proofs.Kit.{[], append_assoc, drop, length, List, refl, ℕ, ◌++◌, ◌+◌, ◌<◌, ◌∷◌, ◌≡◌, ◌≤◌, le-leb}
+use Rattle.ed_notation.proofs.Kit.{lt-leb, ap, get_or, sym, ◌%◌, ◌/◌, ◌∙◌, digit_at}
 use Rattle.std.proofs.lemmas.List.{at_drop_more}
-
--- a part, and then another
-pub joined : {A : Type 0} {next last : List A} (done part more : List A)
-    → next ≡ done ++ part → last ≡ next ++ more → last ≡ done ++ (part ++ more)
-joined {A} done part more first second =
-    second ∙ ap (λ (xs : List A). xs ++ more) first ∙ append_assoc done part more
 
 -- what was given, with the part of one more element, and then what the elements after it give
 pub one_more : {A B : Type 0} {x : A} {next whole : List B} (give : List A → List B) (xs : List A) (i : ℕ) (d : A)
@@ -21,12 +13,6 @@ one_more {A} {B} {x} give xs i d done part later below is first same before =
     ∙ ap (λ (ys : List B). done ++ ys)
     (sym first ∙ ap (λ (y : A). give (y ∷ drop (i + 1) xs)) is ∙ sym (at_drop_more give xs i d below)) ∙ before
 
--- a test of all elements that are left holds for the next one and for those after it
-pub next_passes : {A : Type 0} (p : A → Bool) (xs : List A) (i : ℕ) (d : A)
-    → i < length xs → list_all p (drop i xs) ≡ true
-    → (p (get_or xs i d) ≡ true) × (list_all p (drop (i + 1) xs) ≡ true)
-next_passes p xs i d below all = and_parts _ _ (sym (at_drop_more (list_all p) xs i d below) ∙ all)
-
 -- the digit row at a power of ten that a number reaches
 pub digit_there : (p n : ℕ) → p ≤ n → digit_at p n ≡ (n / p % 10) ∷ []
 digit_there p n h = let e = le-leb p n h in rw e refl
@@ -34,9 +20,3 @@ digit_there p n h = let e = le-leb p n h in rw e refl
 -- and none at one that it doesn't reach
 pub no_digit : (p n : ℕ) → n < p → digit_at p n ≡ []
 no_digit p n h = let e = lt-leb p n h in rw e refl
-
--- the digit rows of a number, at one power after the other
-pub digits_are : (n : ℕ) → flat_map (λ power. digit_at power n) (10000 ∷ 1000 ∷ 100 ∷ 10 ∷ 1 ∷ []) ≡ digits_of n
-digits_are n =
-    ap (λ (ds : List ℕ). digit_at 10000 n ++ (digit_at 1000 n ++ (digit_at 100 n ++ (digit_at 10 n ++ ds))))
-    (append-nil _)

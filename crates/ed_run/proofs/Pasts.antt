@@ -1,8 +1,8 @@
 -- One more order of a run.
 use Rattle.ed_run.proofs.Kit.{nat_le, Sheet, Ending, Limit, Stopped, Turn, Printed, Went, [], ap, arith, Bool, false}
-use Rattle.ed_run.proofs.Kit.{inl, inr, length, length-append, None, refl, rules, Some, sym, true, ℕ, ◌+◌, ◌-◌, ◌<◌}
-use Rattle.ed_run.proofs.Kit.{◌∙◌, ◌≡◌, ◌≤◌, ◌⊎◌, nat_tests, step, State, codes_of, is_obeyed, progress, state_after}
-use Rattle.ed_run.proofs.Kit.{stops_of, end_at, end_by, EndsAfter, IsRun, prints}
+use Rattle.ed_run.proofs.Kit.{inl, inr, length, length-append, None, refl, rules, sym, true, ℕ, ◌+◌, ◌-◌, ◌<◌, ◌∙◌, ◌≡◌}
+use Rattle.ed_run.proofs.Kit.{◌≤◌, ◌⊎◌, nat_tests, step, State, codes_of, is_obeyed, progress, state_after, stops_of}
+use Rattle.ed_run.proofs.Kit.{end_at, end_by, EndsAfter, IsRun, prints}
 use Rattle.std.proofs.Common.{◌++◌, below_more, Option, append_assoc, subst}
 use Rattle.ed_machine.specs.declared.turn.Turn.TheVariants.{Stopped as Stops}
 use Rattle.ed_machine.proofs.Steps.{next_state, next_stops, past_next}
@@ -32,11 +32,6 @@ module _ {limit resumes room : ℕ} {s : State} {k : ℕ} {m : State} {stops : �
 
   next_end : k < limit → end_at limit resumes room k (progress k s) ≡ end_by (step m).turn full_now
   next_end below = search rules
-
-  -- it ends before its next order
-  pub past_blocks : {ending : Ending} → k < limit → end_by (step m).turn full_now ≡ Some ending
-      → EndsAfter limit resumes room s k ending
-  past_blocks below is = record { now = next_end below ∙ is; first = p.first }
 
   -- at its limit
   pub past_limit : k ≡ limit → EndsAfter limit resumes room s k Limit

@@ -9,22 +9,6 @@ loop-machine-init c =
     let none : 0 ≡ c.args.machine.now.orders - c.args.machine.now.orders = omega arith in
     record { running = Running-later (at_first _ _ _ _) none; later = omega arith; below = omega arith }
 
--- a batch begins with the room that it has
-begun : {P : Type 0} (orders end n room : ℕ) → end ≡ orders + n → (n ≤ room) ⊎ ((n ≡ 1) × P)
-    → (end - orders ≤ room) ⊎ ((end ≡ orders + 1) × P)
-begun orders end n room is (inl free) = inl (omega arith)
-begun orders end n room is (inr last) = let one = last.0 in inr (omega arith, last.1)
-
-pub loop-batch-init : goal.loop-batch-init
-loop-batch-init c =
-    let before = c.loop-machine.invariant in
-    record {
-      running = before.running;
-      later = before.later;
-      below = omega arith;
-      room = begun c.loop-machine.machine.orders _ _ _ (omega arith) c.batch-batch.ensures.room;
-    }
-
 pub returns-then-stops-resumes : goal.returns-then-stops-resumes
 returns-then-stops-resumes c =
     ends_with_stop c.loop-batch.invariant.running (omega arith)
