@@ -144,7 +144,10 @@ module _ {rows : List ℕ} {row : ℕ} {ws : List ℕ} {orders end : ℕ} {p : P
         words_are = s.words_are;
         orders_are = omega (arith, paid, length-append b.digits (c ∷ []));
         end_is = s.end_is;
-        item_is = λ k. Some (record { function = (part_is k).function; number = (m.0 ∙ sym (number_more b.digits 0 c)) k });
+        item_is = λ k. Some (record {
+          function = (part_is k).function;
+          number = (m.0 ∙ sym (number_more b.digits 0 c)) k;
+        });
         few = omega (arith, s.few);
       }
 
@@ -218,4 +221,5 @@ pub at_end : {rows : List ℕ} {row : ℕ} {ws : List ℕ} {orders end : ℕ} {i
 at_end {rows} {row} s e =
     let none : drop row rows ≡ [] = drop_of_length-le rows (omega arith) in
     fault_of rows row EndOfTape
-    (Breaks1-faulty rows row s.before s.part [] EndOfTape (subst (λ x. Here rows row s.before s.part x) none s.here) refl)
+    (Breaks1-faulty rows row s.before s.part [] EndOfTape
+    (subst (λ x. Here rows row s.before s.part x) none s.here) refl)

@@ -155,7 +155,8 @@ Breaks1-faulty rows row before part rest cause h is = record {
 
 -- after one more item
 pub item_more : {rows : List ℕ} {row : ℕ} {before : List Item1} {b : Begun1} {c : ℕ} (long : Bool) {rest : List ℕ}
-    → Here rows row before (Some b) (c ∷ rest) → c ≡ ending_row long → rows ≡ spelled_rows1 (ended before b long) ++ rest
+    → Here rows row before (Some b) (c ∷ rest) → c ≡ ending_row long
+    → rows ≡ spelled_rows1 (ended before b long) ++ rest
 item_more {before = before} {b} long {rest} h is =
     h.rows_are
     ∙ ap (λ x. spelled_rows1 before ++ (begun_rows1 b ++ (x ∷ rest))) is
@@ -195,7 +196,8 @@ Here-longer {before = before} {b} {c} {rest} h digit fits = record {
     digits = digits_more b.digits c h.is_part.digits digit;
     fits = rw (number_more b.digits 0 c) fits;
   };
-  rows_are = h.rows_are ∙ ap (λ x. spelled_rows1 before ++ (b.function ∷ x)) (sym (append_assoc b.digits (c ∷ []) rest));
+  rows_are = h.rows_are
+      ∙ ap (λ x. spelled_rows1 before ++ (b.function ∷ x)) (sym (append_assoc b.digits (c ∷ []) rest));
   row_is = omega (arith, h.row_is, length-append b.digits (c ∷ []));
 }
 

@@ -124,7 +124,8 @@ module _ (q : Kept) where
       rw cost (ToProgram-then (back_tail (left w i) a e rises end (omega arith) most)
       (ToProgram-then (head_walk ws v false (short (to_come a e)) j (tape_of js rest) good.0)
       (ToProgram-then (Walk-placed q (left v j) ws false j a refl (low, omega arith))
-      (rest_path {ws = set ws a (word1 j)} v {a = a + 1} j js good.1 (omega arith) end (omega arith) (omega arith) most))))
+      (rest_path {ws = set ws a (word1 j)} v {a = a + 1} j js good.1 (omega arith) end (omega arith) (omega arith)
+      most))))
 
   -- the whole tape, beginning at the first order
   pub whole_path : {ws : List ℕ} (w : Working) {b : Bool} {acc multiplier e : ℕ} (i : Item1) (is : List Item1)

@@ -1,4 +1,5 @@
--- What a row does: its numbers are in range, and the directive is a P, an E or a T at every row that the reader reaches.
+-- What a row does: its numbers are in range, and the directive is a P, an E or a T at every row that the reader
+-- reaches.
 use Rattle.ed_notation.proofs.Kit.{if_means, List, lit≤, nat_le, nat_lt, true, ℕ, ◌+◌, ◌<◌, ◌≡◌, ◌≤◌, leb-false}
 use Rattle.ed_notation.proofs.Kit.{ltb-false, locations, Size, locations_most, arith, ◌*◌, is_place, address}
 use Rattle.ed_notation.proofs.Kit.{control_of, letter_action_of, letter_effect, row_effect, IsDirective, Control}

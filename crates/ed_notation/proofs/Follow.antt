@@ -221,7 +221,8 @@ module _ (p : Reader) (w : Written) (rest : List ℕ) where
 
   module _ (set : IsDirective p.notation.directive) where
     ended_by : (t : RowEffect) → IsEffectInRange (setting_of p.notation) t → Law t → ends r b ≡ true
-        → entering r p.notation ≡ false → Goes (next t) (reads closed None rest) closed.row closed.notation.directive Sound
+        → entering r p.notation ≡ false
+        → Goes (next t) (reads closed None rest) closed.row closed.notation.directive Sound
     ended_by (Refused cause) u h e n = inr (early h)
     ended_by (Longer i k) u h e n = absurd (true≢false (sym e ∙ h.1))
     ended_by (Ended m k) u h e n = inl (rw (h.1.notation_is, h.1.cost_is) refl, rw (← h.1.notation_is) (u.0 set))

@@ -144,7 +144,8 @@ module _ {k : Check} {row cost : ℕ} {setting : DirectiveState} {contents : Lis
     }) tt (lit≤ tt)
 
     pub IsFault-refused : {cause : TapeCause} → Row (Refused cause) → IsFault k.size k.words k.start k.rows row cause
-    IsFault-refused {cause} h = faulty_is k.size k.words k.start k.base k.rows a.opened (a.same ∙ taken (Refused cause) h)
+    IsFault-refused {cause} h =
+        faulty_is k.size k.words k.start k.base k.rows a.opened (a.same ∙ taken (Refused cause) h)
 
     pub Arrives-entered : {at : ℕ} → Row (Entered at)
         → Arrives k.size k.words k.start k.base k.rows (record {

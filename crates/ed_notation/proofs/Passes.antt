@@ -52,8 +52,8 @@ behind_all p ws = passed p (length (spelled_rows ws)) (costs p.words p.notation 
 
 pub Goes-many : (before : List Written) (p : Reader) (rest : List ℕ) → IsDirective p.notation.directive
     → AreRead p.words p.notation before
-    → Goes (reads p None (spelled_rows before ++ rest)) (reads (behind_all p before) None rest) (behind_all p before).row
-    (behind_all p before).notation.directive (AreSound p.size p.words p.notation before)
+    → Goes (reads p None (spelled_rows before ++ rest)) (reads (behind_all p before) None rest)
+    (behind_all p before).row (behind_all p before).notation.directive (AreSound p.size p.words p.notation before)
 Goes-many [] p rest set are = rw (add-zero p.row, add-zero p.cost) (inl (refl, set))
 Goes-many (w ∷ ws) p rest set are =
     let q : Reader = behind p w in
@@ -64,8 +64,9 @@ Goes-many (w ∷ ws) p rest set are =
     (chained (omega arith) (one p w _ set are.0 are.1) (λ s. Goes-many ws q rest s are.2))
 
 -- whole items and the entry item after them
-pub Goes-entry : (before : List Written) (last : Written) (p : Reader) (rest : List ℕ) → IsDirective p.notation.directive
-    → AreRead p.words p.notation before → IsWritten last → is_entry (behind_all p before).notation (item last) ≡ true
+pub Goes-entry : (before : List Written) (last : Written) (p : Reader) (rest : List ℕ)
+    → IsDirective p.notation.directive → AreRead p.words p.notation before → IsWritten last
+    → is_entry (behind_all p before).notation (item last) ≡ true
     → Goes (reads p None (spelled_rows before ++ (rows_of last ++ rest)))
     (arrived (inside (behind_all p before) (Some last.begun)) last rest)
     ((inside (behind_all p before) (Some last.begun)).row + 1) (behind_all p before).notation.directive

@@ -127,7 +127,8 @@ module _ (p : Reader) (b : Begun) (c : ℕ) (rows : List ℕ) (told : Told rows)
       let is : IsWritten w = record { begun = good; ended = x.ended } in
       rw (x.notation_is) (rw (← e) (before p w rows v is x.goes_on ih))
 
-  by_taken : (t : RowEffect) → IsEffectInRange (setting_of p.notation) t → RowLaw (row_kind c) p.size p.words p.notation b c t
+  by_taken : (t : RowEffect) → IsEffectInRange (setting_of p.notation) t
+      → RowLaw (row_kind c) p.size p.words p.notation b c t
       → Tells p (begun_rows b ++ (c ∷ rows)) (follow here (as_part b) c rows t)
   by_taken (Refused cause) u law =
       let is_broken = found_is (λ x. breaks x (row_kind c) p.size p.words p.notation b c) causes cause law in

@@ -64,7 +64,9 @@ digits_are n low =
     let front = digit_at 100 n ++ digit_at 10 n in
     record {
       are = rw (d1.0, d2.0, d3.0) refl;
-      sum = omega (arith, d1.1, d2.1, d3.1, sum_append (digit_at 1000 n) front, sum_append (digit_at 100 n) (digit_at 10 n));
+      sum =
+          let all = sum_append (digit_at 1000 n) front in
+          omega (arith, d1.1, d2.1, d3.1, all, sum_append (digit_at 100 n) (digit_at 10 n));
       count = rw (d1.0, d2.0, d3.0)
           (omega (arith, length-append (digit_at 1000 n) front, length-append (digit_at 100 n) (digit_at 10 n)));
     }

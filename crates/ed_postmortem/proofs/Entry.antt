@@ -54,7 +54,8 @@ rows_are first count =
     let split : (f ++ (c ++ [])) ++ rest ≡ f ++ (c ++ rest) = append_assoc f (c ++ []) rest
     ∙ ap (λ x. f ++ x) (append_assoc c [] rest) in
     let bs : List Item = before first count in
-    let whole : spelled_rows (canonicals (bs ++ (last ∷ []))) ≡ spelled_rows (canonicals bs) ++ (rows_of (canonical last) ++ []) =
+    let whole : spelled_rows (canonicals (bs ++ (last ∷ [])))
+    ≡ spelled_rows (canonicals bs) ++ (rows_of (canonical last) ++ []) =
     ap spelled_rows (canonicals-append bs (last ∷ [])) ∙ spelled-append (canonicals bs) (canonicals (last ∷ [])) in
     ap (λ x. rows_of_text (codes "T45K") ++ ((f ++ (c ++ [])) ++ x)) behind_are
     ∙ ap (λ x. rows_of_text (codes "T45K") ++ x) split
@@ -119,7 +120,8 @@ module _ (z : Size) (words : List ℕ) (first count : ℕ) (f_fits : first ≤ 1
 
   -- E 56 K
   entry_set : Reads z words at_orders enters at_last 40
-  entry_set = reads_one z words (plain 3 56 14) refl (aiming_entry z words at_orders 56 (lit≤ tt)) (reads_none z words at_last)
+  entry_set =
+      reads_one z words (plain 3 56 14) refl (aiming_entry z words at_orders 56 (lit≤ tt)) (reads_none z words at_last)
 
   abbrev pub items_cost : ℕ
   items_cost = 148 + 9 * (length (digits_of first) + length (digits_of count)) + (block_cost listing + 40)

@@ -116,7 +116,8 @@ not_word a word none i = false_from_ne_true _ (λ e.
 
 shown_is : (a : Text) → IsNumberWithin 0 1023 a
     → shown_command a ≡ show_command (number_within 0 1023 a) (number_within 0 1023 a)
-shown_is a i = rw (not_word a (codes "acc") refl i, not_word a (codes "mult") refl i, not_word a (codes "last") refl i) refl
+shown_is a i =
+    rw (not_word a (codes "acc") refl i, not_word a (codes "mult") refl i, not_word a (codes "last") refl i) refl
 
 -- the locations from one to another
 window_is : (a b : Text) → IsNumberWithin 0 1023 a → IsNumberWithin 0 1023 b → value a ≤ value b

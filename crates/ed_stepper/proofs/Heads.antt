@@ -61,7 +61,8 @@ line_ended text end stop place low is =
     (ap (λ n. take n text) (is ∙ ap (stop_of text) place) ∙ stop_is text (line_feed_place text) (omega arith))).lines
 
 -- a first line that is the whole text
-pub first_last : (text : Text) → 0 < length text → length text ≤ line_feed_place text → lines_of text ≡ text ∷ lines_of []
+pub first_last : (text : Text) → 0 < length text → length text ≤ line_feed_place text
+    → lines_of text ≡ text ∷ lines_of []
 first_last text some past =
     (takes_last text some (rw (take_all (line_feed_place text) text past) at (no_end_before text))).lines
 
@@ -112,4 +113,5 @@ pub part_taken : (line : Text) (end : ℕ) → 1 ≤ length line → (get_or lin
     → parts_between_spaces line ≡ take end line ∷ parts_between_spaces (drop end line)
 part_taken [] end some other is = absurd (omega (arith, some))
 part_taken (b ∷ bs) end some other is =
-    part_at (b ∷ bs) (rw (ne_eqb b 32 other) refl) ∙ ap (λ n. take n (b ∷ bs) ∷ parts_between_spaces (drop n (b ∷ bs))) (sym is)
+    part_at (b ∷ bs) (rw (ne_eqb b 32 other) refl)
+    ∙ ap (λ n. take n (b ∷ bs) ∷ parts_between_spaces (drop n (b ∷ bs))) (sym is)

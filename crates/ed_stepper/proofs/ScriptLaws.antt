@@ -13,8 +13,8 @@ use Rattle.ed_stepper.proofs.CommandLaws.{line_is_read, one_command, read_line_s
 -- ---- lines one after the other
 
 -- one more line that says a command
-says_more : {lines : List Text} {cs : List SessionCommand} {line : Text} {c : SessionCommand} → LinesSayCommands lines cs
-    → LineSaysCommand line c → LinesSayCommands (lines ++ line ∷ []) (cs ++ c ∷ [])
+says_more : {lines : List Text} {cs : List SessionCommand} {line : Text} {c : SessionCommand}
+    → LinesSayCommands lines cs → LineSaysCommand line c → LinesSayCommands (lines ++ line ∷ []) (cs ++ c ∷ [])
 says_more no_more s = and_more _ [] _ [] s no_more
 says_more (and_more l lines d cs t says) s = and_more l _ d _ t (says_more says s)
 

@@ -1,6 +1,7 @@
 use Rattle.ed_initial1.proofs.Kit.{ne_eqb, ap, false, refl, sym, ◌∙◌, step, at_31}
-use Rattle.ed_initial.proofs.Kit.{next_state, is_quiet_turn}
-use Rattle.ed_initial.proofs.Runs.{event_now, goes, no_orders, obeys, one_more}
+use Rattle.ed_initial.proofs.Kit.{add-one, next_state, is_quiet_turn}
+use Rattle.ed_initial.proofs.Runs.{ends_now, event_now, goes, no_orders, obeys, one_more, is_obeyed-sounds}
+use Rattle.ed_initial1.specs.declared.loading.Loaded1.TheVariants.{Lost}
 use Rattle.ed_initial1.proofs.loading.obey_orders.Goals as goal
 
 pub loop-orders-init : goal.loop-orders-init
@@ -8,6 +9,15 @@ loop-orders-init c = no_orders c.args.machine.now
 
 pub returns-then-counter-eq-ENTRY-clause-state : goal.returns-then-counter-eq-ENTRY-clause-state
 returns-then-counter-eq-ENTRY-clause-state c = next_state _ _ c.loop-orders.invariant.state c.step-turn.ensures.state
+
+pub returns-in-Printed-clause-ends : goal.returns-in-Printed-clause-ends
+returns-in-Printed-clause-ends c =
+    let s = is_obeyed-sounds c.step-turn.result c.in-Printed.is in
+    let place = ap at_31 (sym c.step-turn.ensures.state)
+    ∙ ne_eqb _ _ (λ e. c.if-counter-eq-ENTRY.false (c.counter.ensures.is ∙ e)) in
+    ends_now c.loop-orders.invariant c.loop-orders-test.true
+    (event_now (λ t. at_31 (step t).state) (λ t. false) _ c.step-turn.ensures.turn s.0 place refl s.1)
+    (ap Lost (add-one c.loop-orders.orders))
 
 pub returns-in-Printed-clause-state : goal.returns-in-Printed-clause-state
 returns-in-Printed-clause-state c = next_state _ _ c.loop-orders.invariant.state c.step-turn.ensures.state

@@ -31,8 +31,8 @@ left end orders after room next (inl free) is most = omega arith
 left end orders after room next (inr last) is most = let e = last.0 in omega arith
 
 -- an order that is obeyed is counted
-one_more : (m : State) {next : State} {turn : Turn} → next ≡ (step m).state → (step m).turn ≡ turn → is_obeyed turn ≡ true
-    → next.orders ≡ m.orders + 1
+one_more : (m : State) {next : State} {turn : Turn} → next ≡ (step m).state → (step m).turn ≡ turn
+    → is_obeyed turn ≡ true → next.orders ≡ m.orders + 1
 one_more m state is obeyed = ap (λ (s : State). s.orders) state ∙ (step_leaves m).count (ap is_obeyed is ∙ obeyed)
 
 pub loop-batch-preserved-in-Went : goal.loop-batch-preserved-in-Went
@@ -92,12 +92,12 @@ loop-batch-preserved c =
 
 pub loop-batch-smaller-in-Went : goal.loop-batch-smaller-in-Went
 loop-batch-smaller-in-Went c =
-    let one = one_more c.loop-batch.machine c.step.ensures.state (sym c.step.ensures.turn ∙ c.in-Went.is) refl in omega arith
+    omega (arith, one_more c.loop-batch.machine c.step.ensures.state (sym c.step.ensures.turn ∙ c.in-Went.is) refl)
 
 pub loop-batch-smaller-in-Printed : goal.loop-batch-smaller-in-Printed
 loop-batch-smaller-in-Printed c =
-    let one = one_more c.loop-batch.machine c.step.ensures.state (sym c.step.ensures.turn ∙ c.in-Printed.is) refl in omega arith
+    omega (arith, one_more c.loop-batch.machine c.step.ensures.state (sym c.step.ensures.turn ∙ c.in-Printed.is) refl)
 
 pub loop-batch-smaller : goal.loop-batch-smaller
 loop-batch-smaller c =
-    let one = one_more c.loop-batch.machine c.step.ensures.state (sym c.step.ensures.turn ∙ c.in-Stopped.is) refl in omega arith
+    omega (arith, one_more c.loop-batch.machine c.step.ensures.state (sym c.step.ensures.turn ∙ c.in-Stopped.is) refl)

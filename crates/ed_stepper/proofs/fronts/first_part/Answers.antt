@@ -1,4 +1,4 @@
-use Rattle.ed_stepper.proofs.Kit.{refl, ◌∙◌}
+use Rattle.ed_stepper.proofs.Kit.{◌∙◌}
 use Rattle.ed_stepper.proofs.Heads.{no_part, part_taken, space_skipped}
 use Rattle.ed_stepper.proofs.fronts.first_part.Goals as goal
 
