@@ -16,8 +16,8 @@ pub use Rattle.ed_notation.proofs.Follow.{number_le}
 pub use Rattle.ed_notation.proofs.Rows.{digits_more, number_more}
 pub use Rattle.ed_initial.proofs.Kit.{[], ap, arith, Bool, drop, false, get_or, if◌then◌else◌, inl, inr, length, List}
 pub use Rattle.ed_initial.proofs.Kit.{lit<, lit≤, nat_eq, nat_lt, None, not, Option, refl, set, Some, subst, suc, sym}
-pub use Rattle.ed_initial.proofs.Kit.{true, ℕ, ◌%◌, ◌*◌, ◌++◌, ◌+◌, ◌/◌, ◌<◌, ◌^◌, ◌∙◌, ◌∷◌, ◌≡◌, ◌≤◌, and_parts}
-pub use Rattle.ed_initial.proofs.Kit.{digit, Obeyed, State, state_after, Moment, digits_number}
+pub use Rattle.ed_initial.proofs.Kit.{true, ℕ, ◌%◌, ◌*◌, ◌++◌, ◌+◌, ◌/◌, ◌<◌, ◌^◌, ◌∙◌, ◌∷◌, ◌≡◌, ◌≤◌, and_parts, digit}
+pub use Rattle.ed_initial.proofs.Kit.{Obeyed, State, state_after, Moment, digits_number}
 unfoldable pub use Rattle.ed_initial.proofs.Kit.{step, progress, patched}
 pub use Rattle.ed_initial1.specs.Entry.{at_entry1, IsStarted1}
 pub use Rattle.ed_initial1.specs.Faults.{BeginsWith, breaks1, Breaks1, ends1, is_broken1, is_first, is_none, IsFault1}

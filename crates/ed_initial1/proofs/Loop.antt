@@ -1,10 +1,9 @@
 -- What the loop of the check keeps, and what each row does to it.
-use Rattle.ed_initial1.proofs.Kit.{ne_eqb, append_assoc, length-append, digits_more, number_more, [], ap, arith, Bool}
-use Rattle.ed_initial1.proofs.Kit.{drop, get_or, if◌then◌else◌, length, List, lit≤, nat_eq, None, Option, refl, Some}
-use Rattle.ed_initial1.proofs.Kit.{subst, suc, sym, ℕ, ◌%◌, ◌*◌, ◌++◌, ◌+◌, ◌<◌, ◌^◌, ◌∙◌, ◌∷◌, ◌≡◌, ◌≤◌, digit}
-use Rattle.ed_initial1.proofs.Kit.{digits_number, BeginsWith, is_none, IsFault1, ReachesEntry1, Tape, AreItems, Begun1}
-use Rattle.ed_initial1.proofs.Kit.{costs1, ending_row, Item1, spelled_rows1, word1, words, row_effect1, Tape1Cause}
-use Rattle.ed_initial1.proofs.Kit.{EndOfTape, PartialItem1, RowEffect1, Ended, Longer, Refused}
+use Rattle.ed_initial1.proofs.Kit.{ne_eqb, length-append, number_more, [], ap, arith, Bool, drop, get_or, if◌then◌else◌}
+use Rattle.ed_initial1.proofs.Kit.{length, List, lit≤, nat_eq, None, Option, refl, Some, subst, suc, sym, ℕ, ◌%◌, ◌*◌}
+use Rattle.ed_initial1.proofs.Kit.{◌++◌, ◌+◌, ◌<◌, ◌^◌, ◌∙◌, ◌∷◌, ◌≡◌, ◌≤◌, digit, digits_number, is_none, IsFault1}
+use Rattle.ed_initial1.proofs.Kit.{ReachesEntry1, Tape, Begun1, costs1, ending_row, Item1, spelled_rows1, word1, words}
+use Rattle.ed_initial1.proofs.Kit.{row_effect1, Tape1Cause, EndOfTape, PartialItem1, RowEffect1, Ended, Longer, Refused}
 use Rattle.std.proofs.Common.{◌≢◌}
 use Rattle.std.proofs.Math.ListN.{drop_of_length-le}
 use Rattle.std.proofs.lemmas.Option.{same_Some}
@@ -12,8 +11,9 @@ use Rattle.ed_notation.proofs.Loop.{next_row}
 use Rattle.ed_initial1.specs.Checks.{Accepts1}
 use Rattle.ed_initial1.specs.Items.{cost_of1}
 use Rattle.ed_initial1.proofs.Opened.{length_words}
-use Rattle.ed_initial1.proofs.Reading.{Here, part_of, longer, began, ended, end_of, Breaks1-faulty, TakenMeans, taken_means}
-use Rattle.ed_initial1.proofs.Reading.{item_more, begins_more, goes_on_more, items_more, length_spelled}
+use Rattle.ed_initial1.proofs.Reading.{Here, part_of, longer, began, ended, end_of, Breaks1-faulty, TakenMeans}
+use Rattle.ed_initial1.proofs.Reading.{taken_means, item_more, begins_more, items_more, length_spelled, Here-began}
+use Rattle.ed_initial1.proofs.Reading.{Here-longer, Here-ended}
 use Rattle.ed_initial1.proofs.Unique.{no_fault, fault_of}
 use Rattle.ed_initial1.proofs.Whole.{costs_fit}
 
@@ -55,40 +55,14 @@ at_row : (rows : List ℕ) (row c : ℕ) (before : List Item1) (part : Option Be
 at_row rows row c before part h l is = subst (λ x. Here rows row before part x) (next_row rows row c l is) h
 
 -- inside an item
-pub record Inside (rows : List ℕ) (row : ℕ) (ws : List ℕ) (orders end : ℕ) (p : PartialItem1) : Type 0 where
-  pub before : List Item1
-  pub begun : Begun1
-  pub here : Here rows row before (Some begun) (drop row rows)
-  pub words_are : ws ≡ words before
-  pub orders_are : orders ≡ 4 + costs1 before + (5 + 10 * length begun.digits)
-  pub end_is : end ≡ end_of before
-  pub part_is : p ≡ part_of begun
-  pub few : orders ≤ 14 * row + 4
-
-pub inside : (rows : List ℕ) (row : ℕ) (ws : List ℕ) (orders end : ℕ) (p : PartialItem1)
-    → StandsAt rows row ws orders end (Some p) → Inside rows row ws orders end p
-inside rows row ws orders end p s = by_part s.part s.here s.orders_are s.item_is
+inside : {rows : List ℕ} {row : ℕ} {ws : List ℕ} {orders end : ℕ} {p : PartialItem1}
+    (s : StandsAt rows row ws orders end (Some p)) → (b : Begun1) × (s.part ≡ Some b) × (p ≡ part_of b)
+inside {p = p} s = by_part s.part refl s.item_is
   where
-    by_part : (part : Option Begun1) → Here rows row s.before part (drop row rows)
-        → orders ≡ 4 + costs1 s.before + part_cost part
-        → Some p ≡ item_of part → Inside rows row ws orders end p
-    by_part None h o i = absurd (cc)
-    by_part (Some b) h o i =
-        record {
-          before = s.before;
-          begun = b;
-          here = h;
-          words_are = s.words_are;
-          orders_are = o;
-          end_is = s.end_is;
-          part_is = same_Some p (part_of b) i;
-          few = s.few;
-        }
-
--- its number is small enough
-pub number_fits : {rows : List ℕ} {row : ℕ} {ws : List ℕ} {orders end : ℕ} {p : PartialItem1}
-    → StandsAt rows row ws orders end (Some p) → p.number ≤ 32767
-number_fits s = let i = inside _ _ _ _ _ _ s in rw i.part_is i.here.is_part.fits
+    by_part : (part : Option Begun1) → s.part ≡ part → Some p ≡ item_of part
+        → (b : Begun1) × (s.part ≡ Some b) × (p ≡ part_of b)
+    by_part None e i = absurd (cc)
+    by_part (Some b) e i = (b, e, same_Some p (part_of b) i)
 
 pub function_row : {rows : List ℕ} {row : ℕ} {ws : List ℕ} {orders end c : ℕ} → StandsAt rows row ws orders end None
     → row < length rows → c ≡ get_or rows row c → c < 32
@@ -104,13 +78,7 @@ function_row {rows} {row} {ws} {orders} {end} {c} s l is small = by_part s.part 
         record {
           before = s.before;
           part = Some (began c);
-          here = record {
-            good = g.good;
-            goes_on = g.goes_on;
-            is_part = record { function = small; digits = tt; fits = lit≤ tt };
-            rows_are = g.rows_are;
-            row_is = omega (arith, g.row_is);
-          };
+          here = Here-began g small;
           words_are = s.words_are;
           orders_are = omega arith;
           end_is = s.end_is;
@@ -142,111 +110,91 @@ end_more (y ∷ ys) b long h k o = rw h o
 module _ {rows : List ℕ} {row : ℕ} {ws : List ℕ} {orders end : ℕ} {p : PartialItem1} {c : ℕ}
     (s : StandsAt rows row ws orders end (Some p)) (l : row < length rows)
     (is : c ≡ get_or rows row c) {first : Bool} (empty : first ≡ nat_eq (length ws) 0) where
-  abbrev i : Inside rows row ws orders end p
-  i = inside rows row ws orders end p s
+  abbrev b : Begun1
+  b = (inside s).0
 
-  abbrev here : Here rows row i.before (Some i.begun) (c ∷ drop (row + 1) rows)
-  here = at_row rows row c i.before (Some i.begun) i.here l is
+  part_is : p ≡ part_of b
+  part_is = (inside s).2
 
-  meant : (t : RowEffect1) → t ≡ row_effect1 first p c → TakenMeans i.before i.begun c t
+  here : Here rows row s.before (Some b) (c ∷ drop (row + 1) rows)
+  here = at_row rows row c s.before (Some b) (rw (inside s).1 at s.here) l is
+
+  paid : orders ≡ 4 + costs1 s.before + (5 + 10 * length b.digits)
+  paid = rw (inside s).1 at s.orders_are
+
+  meant : (t : RowEffect1) → t ≡ row_effect1 first p c → TakenMeans s.before b c t
   meant t e =
-      subst (λ x. TakenMeans i.before i.begun c x)
-      (sym (e ∙ (λ k. row_effect1 (first_is i.before ws i.words_are first empty k) (i.part_is k) c)))
-      (taken_means i.before i.begun c)
+      subst (λ x. TakenMeans s.before b c x)
+      (sym (e ∙ (λ k. row_effect1 (first_is s.before ws s.words_are first empty k) (part_is k) c)))
+      (taken_means s.before b c)
 
   pub IsFault1-refused : {cause : Tape1Cause} → Refused cause ≡ row_effect1 first p c → IsFault1 rows row cause
   IsFault1-refused {cause} e =
-      fault_of rows row cause (Breaks1-faulty rows row i.before (Some i.begun) (c ∷ drop (row + 1) rows) cause here
+      fault_of rows row cause (Breaks1-faulty rows row s.before (Some b) (c ∷ drop (row + 1) rows) cause here
       (meant (Refused cause) e))
 
   pub made_longer : {n : ℕ} → Longer n ≡ row_effect1 first p c
       → StandsAt rows (row + 1) ws (orders + 10) end (Some (record { function = p.function; number = n }))
   made_longer {n} e =
-      let b = i.begun in
       let m = meant (Longer n) e in
-      let sum = number_more b.digits 0 c in
       record {
-        before = i.before;
+        before = s.before;
         part = Some (longer b c);
-        here = record {
-          good = here.good;
-          goes_on = here.goes_on;
-          is_part = record {
-            function = here.is_part.function;
-            digits = digits_more b.digits c here.is_part.digits m.1;
-            fits = rw sum m.2;
-          };
-          rows_are = here.rows_are
-              ∙ ap (λ x. spelled_rows1 i.before ++ (b.function ∷ x))
-              (sym (append_assoc b.digits (c ∷ []) (drop (row + 1) rows)));
-          row_is = omega (arith, here.row_is, length-append b.digits (c ∷ []));
-        };
-        words_are = i.words_are;
-        orders_are = omega (arith, i.orders_are, length-append b.digits (c ∷ []));
-        end_is = i.end_is;
-        item_is = λ k. Some (record { function = (i.part_is k).function; number = (m.0 ∙ sym sum) k });
-        few = omega (arith, i.few);
+        here = Here-longer here m.1 m.2;
+        words_are = s.words_are;
+        orders_are = omega (arith, paid, length-append b.digits (c ∷ []));
+        end_is = s.end_is;
+        item_is = λ k. Some (record {
+          function = (part_is k).function;
+          number = (m.0 ∙ sym (number_more b.digits 0 c)) k;
+        });
+        few = omega (arith, s.few);
       }
 
   abbrev all : Bool → List Item1
-  all long = ended i.before i.begun long
+  all long = ended s.before b long
 
   module _ {long : Bool} (e : Ended long ≡ row_effect1 first p c) {w : ℕ}
       (word_is : w ≡ (4096 * p.function + 2 * p.number + digit long) % 2 ^ 17) {past : ℕ}
       (past_is : past ≡ (if first then p.number else end)) where
     abbrev x : Item1
-    x = record { begun = i.begun; long = long }
+    x = record { begun = b; long = long }
 
     is_end : past ≡ end_of (all long)
     is_end =
         past_is
-        ∙ end_more i.before i.begun long (first_is i.before ws i.words_are first empty)
-        (ap (λ (q : PartialItem1). q.number) i.part_is) i.end_is
+        ∙ end_more s.before b long (first_is s.before ws s.words_are first empty)
+        (ap (λ (q : PartialItem1). q.number) part_is) s.end_is
 
     w_is : w ≡ word1 x
-    w_is = word_is ∙ ap (λ (q : PartialItem1). (4096 * q.function + 2 * q.number + digit long) % 2 ^ 17) i.part_is
+    w_is = word_is ∙ ap (λ (q : PartialItem1). (4096 * q.function + 2 * q.number + digit long) % 2 ^ 17) part_is
 
     ws_are : ws ++ (w ∷ []) ≡ words (all long)
-    ws_are = (λ k. i.words_are k ++ (w_is k ∷ [])) ∙ sym (words_more i.before x)
+    ws_are = (λ k. s.words_are k ++ (w_is k ∷ [])) ∙ sym (words_more s.before x)
 
     length_is : length (ws ++ (w ∷ [])) ≡ length (all long)
     length_is = ap length ws_are ∙ length_words (all long)
 
     costs_are : orders + 14 ≡ 4 + costs1 (all long)
-    costs_are = omega (arith, i.orders_are, costs_more i.before x)
+    costs_are = omega (arith, paid, costs_more s.before x)
 
-    m : TakenMeans i.before i.begun c (Ended long)
+    m : TakenMeans s.before b c (Ended long)
     m = meant (Ended long) e
 
-    rows_are : rows ≡ spelled_rows1 (all long) ++ drop (row + 1) rows
-    rows_are = item_more long here m.0
-
-    good : AreItems (all long)
-    good = items_more i.before x here.good here.is_part
-
     row_is : row + 1 ≡ length (spelled_rows1 (all long))
-    row_is = omega (arith, here.row_is, length_spelled i.before x, length-append i.begun.digits (ending_row long ∷ []))
-
-    begin : BeginsWith (end_of (all long)) (all long) × (31 + length (all long) ≤ end_of (all long))
-    begin = begins_more i.before i.begun long here.goes_on m.1
+    row_is = omega (arith, here.row_is, length_spelled s.before x, length-append b.digits (ending_row long ∷ []))
 
     pub made_ended : 31 + length (ws ++ (w ∷ [])) ≢ past
         → StandsAt rows (row + 1) (ws ++ (w ∷ [])) (orders + 14) past None
     made_ended off = record {
       before = all long;
       part = None;
-      here = record {
-        good = good;
-        goes_on = goes_on_more (all long) begin.0 (omega (arith, begin.1, length_is, is_end, off));
-        is_part = tt;
-        rows_are = rows_are;
-        row_is = omega (arith, row_is);
-      };
+      here = Here-ended long here m (λ n. off (omega (arith, n, length_is, is_end)));
       words_are = ws_are;
       orders_are = omega (arith, costs_are);
       end_is = is_end;
       item_is = refl;
-      few = omega (arith, i.few);
+      few = omega (arith, s.few);
     }
 
     pub made_whole : 31 + length (ws ++ (w ∷ [])) ≡ past
@@ -254,7 +202,12 @@ module _ {rows : List ℕ} {row : ℕ} {ws : List ℕ} {orders end : ℕ} {p : P
     made_whole at =
         let t : Tape = record { end = end_of (all long); items = all long; rest = drop (row + 1) rows } in
         let count : 31 + length (all long) ≡ end_of (all long) = omega (arith, length_is, is_end, at) in
-        let c : ReachesEntry1 rows t = record { rows_are = rows_are; good = good; first = begin.0; count = count } in
+        let c : ReachesEntry1 rows t = record {
+          rows_are = item_more long here m.0;
+          good = items_more s.before x here.good here.is_part;
+          first = (begins_more s.before b long here.goes_on m.1).0;
+          count = count;
+        } in
         record {
           well = no_fault rows t c;
           tape = t;
@@ -266,10 +219,7 @@ module _ {rows : List ℕ} {row : ℕ} {ws : List ℕ} {orders end : ℕ} {p : P
 pub at_end : {rows : List ℕ} {row : ℕ} {ws : List ℕ} {orders end : ℕ} {item : Option PartialItem1}
     → StandsAt rows row ws orders end item → row ≡ length rows → IsFault1 rows row EndOfTape
 at_end {rows} {row} s e =
-    let none : drop row rows ≡ [] = none_left rows row e in
+    let none : drop row rows ≡ [] = drop_of_length-le rows (omega arith) in
     fault_of rows row EndOfTape
-    (Breaks1-faulty rows row s.before s.part [] EndOfTape (subst
-    (λ x. Here rows row s.before s.part x) none s.here) refl)
-  where
-    none_left : (rows : List ℕ) (row : ℕ) → row ≡ length rows → drop row rows ≡ []
-    none_left rows row e = drop_of_length-le rows (omega arith)
+    (Breaks1-faulty rows row s.before s.part [] EndOfTape
+    (subst (λ x. Here rows row s.before s.part x) none s.here) refl)

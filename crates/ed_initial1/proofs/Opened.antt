@@ -1,12 +1,14 @@
 -- The state in which a load begins and the state at the entry, as the paths see them.
 use Rattle.ed_initial1.proofs.Kit.{drop-cons, T_F, Full, with_short, patched_one, length-append, [], ap, arith, drop}
-use Rattle.ed_initial1.proofs.Kit.{false, get_or, length, List, refl, set, suc, sym, ℕ, ◌%◌, ◌*◌, ◌++◌, ◌+◌, ◌<◌, ◌^◌}
-use Rattle.ed_initial1.proofs.Kit.{◌∙◌, ◌∷◌, ◌≡◌, ◌≤◌, step, State, Moment, patched, digits_number, at_entry1}
-use Rattle.ed_initial1.proofs.Kit.{IsStarted1, costs1, IsFirst, Item1, item_number, last_of, word1, words}
-use Rattle.ed_initial1.proofs.Kit.{first_orders}
-use Rattle.ed_machine.proofs.Names.{length-set, within, address_of, function_of, is_long, Cells, kind_of_function}
-use Rattle.ed_machine.proofs.Names.{next_word, obey_word}
-use Rattle.std.proofs.lemmas.List.{get_or-set_same, get_or-set_other, drop-set-lt, set-get_or}
+use Rattle.ed_initial1.proofs.Kit.{false, get_or, length, List, refl, suc, sym, ℕ, ◌%◌, ◌*◌, ◌++◌, ◌+◌, ◌<◌, ◌^◌, ◌∙◌}
+use Rattle.ed_initial1.proofs.Kit.{◌∷◌, ◌≡◌, ◌≤◌, step, State, Moment, patched, digits_number, at_entry1, IsStarted1}
+use Rattle.ed_initial1.proofs.Kit.{costs1, IsFirst, Item1, item_number, last_of, word1, words, first_orders}
+use Rattle.ed_machine.proofs.Names.{within, address_of, function_of, is_long, Cells, kind_of_function, next_word}
+use Rattle.ed_machine.proofs.Names.{obey_word}
+use Rattle.std.proofs.Common.{length-take, take}
+use Rattle.std.proofs.lemmas.List.{drop_at, set-get_or}
+use Rattle.ed_notation.proofs.Kit.{over}
+use Rattle.ed_notation.proofs.Placing.{laid, over_laid}
 use Rattle.ed_words.proofs.SizeLemmas.{within_below}
 use Rattle.ed_machine.proofs.Kit.Frames.{same_state}
 use Rattle.ed_machine.proofs.Kit.Window.{headed}
@@ -51,30 +53,16 @@ state-opened s store started =
     same_state s (sym started.size) words digits refl (sym started.counter)
 
 -- words placed from a location upwards
-length_written : (ws : List ℕ) (a : ℕ) (vs : List ℕ) → length (written ws a vs) ≡ length ws
-length_written ws a [] = refl
-length_written ws a (v ∷ vs) = length_written (set ws a v) (a + 1) vs ∙ length-set ws a v
-
-below_written : (ws : List ℕ) (a : ℕ) (vs : List ℕ) (j : ℕ) → j < a → get_or (written ws a vs) j 0 ≡ get_or ws j 0
-below_written ws a [] j h = refl
-below_written ws a (v ∷ vs) j h =
-    below_written (set ws a v) (a + 1) vs j (omega arith) ∙ get_or-set_other ws a j v 0 (omega arith)
+written_laid : (vs : List ℕ) (a : ℕ) (placed : List (ℕ × ℕ)) (ws : List ℕ)
+    → written (over placed ws) a vs ≡ over (laid a vs placed) ws
+written_laid [] a placed ws = refl
+written_laid (v ∷ vs) a placed ws = written_laid vs (a + 1) ((a, v) ∷ placed) ws
 
 pub drop-behind : (ws : List ℕ) (a : ℕ) (vs : List ℕ) → a + length vs ≤ length ws
     → drop a (written ws a vs) ≡ vs ++ drop (a + length vs) ws
-drop-behind ws a [] h = let e : a + 0 ≡ a = omega arith in rw e refl
-drop-behind ws a (v ∷ vs) h =
-    let x = written (set ws a v) (a + 1) vs in
-    let long : length x ≡ length ws = length_written (set ws a v) (a + 1) vs ∙ length-set ws a v in
-    let head : get_or x a 0 ≡ v =
-    below_written (set ws a v) (a + 1) vs a (omega arith) ∙ get_or-set_same ws a v 0 (omega arith) in
-    let next : suc a ≡ a + 1 = omega arith in
-    let sum : a + suc (length vs) ≡ a + 1 + length vs = omega arith in
-    drop-cons x a 0 (omega arith)
-    ∙ (λ i. head i ∷ drop (next i) x)
-    ∙ ap (λ y. v ∷ y) (drop-behind (set ws a v) (a + 1) vs (omega (arith, length-set ws a v)))
-    ∙ ap (λ y. v ∷ (vs ++ y)) (drop-set-lt (a + 1 + length vs) ws a v (omega arith))
-    ∙ ap (λ n. v ∷ (vs ++ drop n ws)) (sym sum)
+drop-behind ws a vs h =
+    ap (drop a) (written_laid vs a [] ws ∙ over_laid ws a vs [] h)
+    ∙ drop_at (take a ws) (vs ++ drop (a + length vs) ws) a (omega (arith, length-take a ws))
 
 pub length_words : (is : List Item1) → length (words is) ≡ length is
 length_words [] = refl

@@ -1,10 +1,10 @@
 -- The reading of a tape row by row, and that it finds the one fault that the rules give, or the one program.
 use Rattle.ed_initial1.proofs.Kit.{append-nil, append_assoc, length-append, eqb-true, digits_more, number_more, [], ap}
 use Rattle.ed_initial1.proofs.Kit.{arith, Bool, false, if◌then◌else◌, length, List, lit≤, nat_eq, nat_lt, None, not}
-use Rattle.ed_initial1.proofs.Kit.{Option, refl, Some, sym, true, ℕ, ◌*◌, ◌++◌, ◌+◌, ◌<◌, ◌∙◌, ◌∷◌, ◌≡◌, ◌≤◌}
-use Rattle.ed_initial1.proofs.Kit.{and_parts, digits_number, BeginsWith, breaks1, Breaks1, ends1, is_broken1, is_first}
-use Rattle.ed_initial1.proofs.Kit.{is_none, IsLoading, IsPart1, part_rows1, ReachesEntry1, Tape, WellFormed1, AreItems}
-use Rattle.ed_initial1.proofs.Kit.{Begun1, begun_rows1, ending_row, IsBegun1, IsFirst, Item1, item_number, rows_of1}
+use Rattle.ed_initial1.proofs.Kit.{Option, refl, Some, sym, true, ℕ, ◌*◌, ◌++◌, ◌+◌, ◌<◌, ◌∙◌, ◌∷◌, ◌≡◌, ◌≤◌, and_parts}
+use Rattle.ed_initial1.proofs.Kit.{digits_number, BeginsWith, breaks1, Breaks1, ends1, is_broken1, is_first, is_none}
+use Rattle.ed_initial1.proofs.Kit.{IsLoading, IsPart1, part_rows1, ReachesEntry1, Tape, WellFormed1, AreItems, Begun1}
+use Rattle.ed_initial1.proofs.Kit.{begun_rows1, ending_row, IsBegun1, IsFirst, Item1, item_number, rows_of1}
 use Rattle.ed_initial1.proofs.Kit.{spelled_rows1, row_effect1, Tape1Cause, BadRow, EndOfTape, FirstWord, PartialItem1}
 use Rattle.ed_initial1.proofs.Kit.{RowEffect1, Ended, Longer, Refused}
 use Rattle.ed_notation.proofs.Kit.{nat_le, eqb-false, leb-true, ltb-false, ltb-true, if_means}
@@ -155,7 +155,8 @@ Breaks1-faulty rows row before part rest cause h is = record {
 
 -- after one more item
 pub item_more : {rows : List ℕ} {row : ℕ} {before : List Item1} {b : Begun1} {c : ℕ} (long : Bool) {rest : List ℕ}
-    → Here rows row before (Some b) (c ∷ rest) → c ≡ ending_row long → rows ≡ spelled_rows1 (ended before b long) ++ rest
+    → Here rows row before (Some b) (c ∷ rest) → c ≡ ending_row long
+    → rows ≡ spelled_rows1 (ended before b long) ++ rest
 item_more {before = before} {b} long {rest} h is =
     h.rows_are
     ∙ ap (λ x. spelled_rows1 before ++ (begun_rows1 b ++ (x ∷ rest))) is
@@ -172,6 +173,52 @@ begins_more (i ∷ is) b long goes first =
 pub goes_on_more : (is : List Item1) → BeginsWith (end_of is) is → 31 + length is < end_of is → IsLoading is
 goes_on_more [] first less = absurd first
 goes_on_more (i ∷ is) first less = (first, less)
+
+-- after a function row, a digit row and an ending row
+pub Here-began : {rows : List ℕ} {row : ℕ} {before : List Item1} {c : ℕ} {rest : List ℕ}
+    → Here rows row before None (c ∷ rest) → c < 32 → Here rows (row + 1) before (Some (began c)) rest
+Here-began h small = record {
+  good = h.good;
+  goes_on = h.goes_on;
+  is_part = record { function = small; digits = tt; fits = lit≤ tt };
+  rows_are = h.rows_are;
+  row_is = omega (arith, h.row_is);
+}
+
+pub Here-longer : {rows : List ℕ} {row : ℕ} {before : List Item1} {b : Begun1} {c : ℕ} {rest : List ℕ}
+    → Here rows row before (Some b) (c ∷ rest) → c < 10 → 10 * digits_number 0 b.digits + c ≤ 32767
+    → Here rows (row + 1) before (Some (longer b c)) rest
+Here-longer {before = before} {b} {c} {rest} h digit fits = record {
+  good = h.good;
+  goes_on = h.goes_on;
+  is_part = record {
+    function = h.is_part.function;
+    digits = digits_more b.digits c h.is_part.digits digit;
+    fits = rw (number_more b.digits 0 c) fits;
+  };
+  rows_are = h.rows_are
+      ∙ ap (λ x. spelled_rows1 before ++ (b.function ∷ x)) (sym (append_assoc b.digits (c ∷ []) rest));
+  row_is = omega (arith, h.row_is, length-append b.digits (c ∷ []));
+}
+
+pub Here-ended : {rows : List ℕ} {row : ℕ} {before : List Item1} {b : Begun1} {c : ℕ} (long : Bool) {rest : List ℕ}
+    → Here rows row before (Some b) (c ∷ rest) → TakenMeans before b c (Ended long)
+    → (31 + length (ended before b long) ≡ end_of (ended before b long) → ⊥)
+    → Here rows (row + 1) (ended before b long) None rest
+Here-ended {before = before} {b} long h m off =
+    let begins = begins_more before b long h.goes_on m.1 in
+    record {
+      good = items_more before (record { begun = b; long = long }) h.good h.is_part;
+      goes_on = goes_on_more (ended before b long) begins.0 (omega (arith, begins.1, off));
+      is_part = tt;
+      rows_are = item_more long h m.0;
+      row_is = omega (
+        arith,
+        h.row_is,
+        length_spelled before (record { begun = b; long = long }),
+        length-append b.digits (ending_row long ∷ []),
+      );
+    }
 
 -- the result of the rest of the rows, from any row onwards
 abbrev Follows : List ℕ → List ℕ → Type 0
@@ -193,49 +240,25 @@ by_taken : {rows rest : List ℕ} → Follows rows rest → {row : ℕ} {before 
     → Holds rows (follow row before b c rest t)
 by_taken {rows} {rest} ih {row} {before} {b} {c} h (Refused cause) m =
     Breaks1-faulty rows row before (Some b) (c ∷ rest) cause h m
-by_taken {rest = rest} ih {row} {before} {b} {c} h (Longer next) m = ih (row + 1) before (Some (longer b c)) (record {
-  good = h.good;
-  goes_on = h.goes_on;
-  is_part = record {
-    function = h.is_part.function;
-    digits = digits_more b.digits c h.is_part.digits m.1;
-    fits = rw (number_more b.digits 0 c) m.2;
-  };
-  rows_are = h.rows_are ∙ ap (λ x. spelled_rows1 before ++ (b.function ∷ x)) (sym (append_assoc b.digits (c ∷ []) rest));
-  row_is = omega (arith, h.row_is, length-append b.digits (c ∷ []));
-})
+by_taken ih {row} {before} {b} {c} h (Longer next) m =
+    ih (row + 1) before (Some (longer b c)) (Here-longer h m.1 m.2)
 by_taken {rows} ih {row} {before} {b} h (Ended long) m =
     let is = ended before b long in
-    let good = items_more before (record { begun = b; long = long }) h.good h.is_part in
-    let rows_are = item_more long h m.0 in
-    let begins = begins_more before b long h.goes_on m.1 in
     if_means (Holds rows) (reaches_end is) _ _
-    (λ e. record { rows_are = rows_are; good = good; first = begins.0; count = eqb-true _ _ e })
-    (λ e. ih (row + 1) is None (record {
-      good = good;
-      goes_on = goes_on_more is begins.0 (let n = eqb-false _ _ e in omega (arith, begins.1, n));
-      is_part = tt;
-      rows_are = rows_are;
-      row_is = omega (
-        arith,
-        h.row_is,
-        length_spelled before (record { begun = b; long = long }),
-        length-append b.digits (ending_row long ∷ []),
-      );
-    }))
+    (λ e. record {
+      rows_are = item_more long h m.0;
+      good = items_more before (record { begun = b; long = long }) h.good h.is_part;
+      first = (begins_more before b long h.goes_on m.1).0;
+      count = eqb-true _ _ e;
+    })
+    (λ e. ih (row + 1) is None (Here-ended long h m (eqb-false _ _ e)))
 
 pub sound : (rows rest : List ℕ) → Follows rows rest
 unfolding read
 sound rows [] row before part h = Breaks1-faulty rows row before part [] EndOfTape h refl
 sound rows (c ∷ rest) row before None h =
     if_means (Holds rows) (nat_lt c 32) _ _
-    (λ small. sound rows rest (row + 1) before (Some (began c)) (record {
-      good = h.good;
-      goes_on = h.goes_on;
-      is_part = record { function = ltb-true c 32 small; digits = tt; fits = lit≤ tt };
-      rows_are = h.rows_are;
-      row_is = omega (arith, h.row_is);
-    }))
+    (λ small. sound rows rest (row + 1) before (Some (began c)) (Here-began h (ltb-true c 32 small)))
     (λ large. Breaks1-faulty rows row before None (c ∷ rest) BadRow h (rw large refl))
 sound rows (c ∷ rest) row before (Some b) h =
     by_taken (sound rows rest) h (row_effect1 (is_none before) (part_of b) c) (taken_means before b c)

@@ -5,9 +5,9 @@ use Rattle.ed_initial1.proofs.Kit.{List, lit<, lit≤, refl, set, suc, ℕ, ◌*
 use Rattle.ed_initial1.proofs.Kit.{digit, digits_number, AreItems, costs1, ending_row, IsBegun1, IsFirst, Item1}
 use Rattle.ed_initial1.proofs.Kit.{item_number, last_of, rows_of1, spelled_rows1, word1, words}
 use Rattle.std.proofs.Common.{◌-◌}
-use Rattle.ed_initial1.proofs.Paths.{Walk, Walk-followed, stay, ToProgram, ToProgram-then, Working, Kept, moment, with_word}
-use Rattle.ed_initial1.proofs.Paths.{start_path, function_path, digit_path, ending_path, first_placed, Walk-placed, Walk-counted}
-use Rattle.ed_initial1.proofs.Paths.{goes_back, goes_on}
+use Rattle.ed_initial1.proofs.Paths.{Walk, Walk-followed, stay, ToProgram, ToProgram-then, Working, Kept, moment}
+use Rattle.ed_initial1.proofs.Paths.{with_word, start_path, function_path, digit_path, ending_path, first_placed}
+use Rattle.ed_initial1.proofs.Paths.{Walk-placed, Walk-counted, goes_back, goes_on}
 
 -- the rows of items with others after them
 abbrev pub tape_of : List Item1 → List ℕ → List ℕ
@@ -67,15 +67,6 @@ first_word e i first =
     let s = ap digit first.short in
     omega (arith, first)
 
--- what holds between two items after the first: the order at 25 places the next word at a, and that word and n more
--- reach up to e
-record IsCounted (w : Working) (a e n : ℕ) : Type 0 where
-  next : w.at25 ≡ T_F + 2 * a
-  end : w.at31 ≡ T_F + 2 * e
-  low : 32 ≤ a
-  count : a + suc n ≡ e
-  most : e ≤ 1023
-
 module _ (q : Kept) where
   -- the digit rows of an item
   pub digit_walk : {ws : List ℕ} (w : Working) {b : Bool} (ds : List ℕ) {n x y : ℕ} {rest : List ℕ} → AreDigits ds
@@ -120,52 +111,21 @@ module _ (q : Kept) where
       Walk-followed (Walk-counted q w ws b (to_come a e) rises (omega arith, omega arith) (omega arith))
       (goes_back q (record w { at25 = T_F + 2 * a }) ws b (to_come a e) rest (omega arith))
 
-  -- the items after the first one
-  loop : {ws : List ℕ} (w : Working) {b : Bool} {acc a e : ℕ} (i : Item1) (is : List Item1) {rest : List ℕ}
-      → AreItems (i ∷ is) → IsCounted w a e (length is)
-      → ToProgram (costs1 (i ∷ is)) (moment q w ws b acc 6 (tape_of (i ∷ is) rest))
-      (moment q (final e w.at3 w.at31 i is) (written ws a (words (i ∷ is))) false 0 31 rest)
-  loop {ws} w {b} {acc} {a} {e} i [] {rest} good c =
-      let count = c.count in
-      let most = c.most in
-      let next = c.next in
-      let cost : costs1 (i ∷ []) ≡ head_cost i + (1 + 5) = omega arith in
-      rw cost (ToProgram-then (head_walk ws w b acc i rest good.0)
-      (ToProgram-then (Walk-placed q (left w i) ws false i a next (c.low, omega arith))
-      (last_tail (set ws a (word1 i)) (left w i) false e rest (omega arith) c.end most)))
-  loop {ws} w {b} {acc} {a} {e} i (j ∷ js) {rest} good c =
-      let count = c.count in
-      let most = c.most in
-      let next = c.next in
-      let low = c.low in
-      let cost : costs1 (i ∷ (j ∷ js)) ≡ head_cost i + (1 + (5 + costs1 (j ∷ js))) = omega arith in
-      let w' : Working = record (left w i) { at25 = T_F + 2 * (a + 1) } in
-      rw cost (ToProgram-then (head_walk ws w b acc i (tape_of (j ∷ js) rest) good.0)
-      (ToProgram-then (Walk-placed q (left w i) ws false i a next (low, omega arith))
-      (ToProgram-then (back_tail (left w i) (a + 1) e (omega arith) c.end (omega arith) most)
-      (loop {ws = set ws a (word1 i)} w' j js good.1
-      (record { next = refl; end = c.end; low = omega arith; count = omega arith; most = most })))))
-
-  -- all items, beginning at the rest at 6
-  items_path : {ws : List ℕ} (w : Working) {b : Bool} {acc e : ℕ} (i : Item1) (is : List Item1) {rest : List ℕ}
-      → AreItems (i ∷ is) → w.at25 ≡ 20542 → IsFirst e i → 32 + length is ≡ e
-      → ToProgram (costs1 (i ∷ is)) (moment q w ws b acc 6 (tape_of (i ∷ is) rest))
-      (moment q (final e w.at3 (word1 i) i is) (written ws 32 (words is)) false 0 31 rest)
-  items_path {ws} w {b} {acc} {e} i [] {rest} good next first count =
-      let cost : costs1 (i ∷ []) ≡ head_cost i + (1 + 5) = omega arith in
-      let end = first_word e i first in
-      rw cost (ToProgram-then (head_walk ws w b acc i rest good.0)
-      (ToProgram-then (first_placed q (left w i) ws false i next)
-      (last_tail ws (record (left w i) { at31 = word1 i }) false e rest (omega arith) end first.high)))
-  items_path {ws} w {b} {acc} {e} i (j ∷ js) {rest} good next first count =
-      let cost : costs1 (i ∷ (j ∷ js)) ≡ head_cost i + (1 + (5 + costs1 (j ∷ js))) = omega arith in
-      let end = first_word e i first in
-      let w' : Working = record (left w i) { at25 = 20544; at31 = word1 i } in
-      rw cost (ToProgram-then (head_walk ws w b acc i (tape_of (j ∷ js) rest) good.0)
-      (ToProgram-then (first_placed q (left w i) ws false i next)
-      (ToProgram-then (back_tail (record (left w i) { at31 = word1 i }) 32 e (omega arith) end (omega arith) first.high)
-      (loop w' j js good.1
-      (record { next = refl; end = end; low = lit≤ tt; count = omega arith; most = first.high })))))
+  -- the items after an item whose word is placed: the next word goes to a, and the words reach up to e
+  rest_path : {ws : List ℕ} (w : Working) {a e : ℕ} (i : Item1) (is : List Item1) {rest : List ℕ} → AreItems is
+      → w.at25 + 2 ≡ T_F + 2 * a → w.at31 ≡ T_F + 2 * e → 32 ≤ a → a + length is ≡ e → e ≤ 1023
+      → ToProgram (5 + costs1 is) (moment q (left w i) ws false 0 26 (tape_of is rest))
+      (moment q (final e w.at3 w.at31 i is) (written ws a (words is)) false 0 31 rest)
+  rest_path {ws} w {a} {e} i [] {rest} good rises end low count most =
+      last_tail ws (left w i) false e rest (omega arith) end most
+  rest_path {ws} w {a} {e} i (j ∷ js) {rest} good rises end low count most =
+      let cost : 5 + costs1 (j ∷ js) ≡ 5 + (head_cost j + (1 + (5 + costs1 js))) = omega arith in
+      let v : Working = record (left w i) { at25 = T_F + 2 * a } in
+      rw cost (ToProgram-then (back_tail (left w i) a e rises end (omega arith) most)
+      (ToProgram-then (head_walk ws v false (short (to_come a e)) j (tape_of js rest) good.0)
+      (ToProgram-then (Walk-placed q (left v j) ws false j a refl (low, omega arith))
+      (rest_path {ws = set ws a (word1 j)} v {a = a + 1} j js good.1 (omega arith) end (omega arith) (omega arith)
+      most))))
 
   -- the whole tape, beginning at the first order
   pub whole_path : {ws : List ℕ} (w : Working) {b : Bool} {acc multiplier e : ℕ} (i : Item1) (is : List Item1)
@@ -175,7 +135,11 @@ module _ (q : Kept) where
       (tape_of (i ∷ is) rest))
       { multiplier = multiplier })
       (moment q (final e 12300 (word1 i) i is) (written ws 32 (words is)) false 0 31 rest)
-  whole_path {ws} w {b} {acc} {multiplier} i is {rest} good next first count =
+  whole_path {ws} w {b} {acc} {multiplier} {e} i is {rest} good next first count =
       let started : Working = record w { at0 = 0; at1 = 86020; at2 = T_F; at3 = 12300 } in
-      ToProgram-then (start_path q w ws b acc multiplier (tape_of (i ∷ is) rest))
-      (items_path started i is good next first (omega arith))
+      let cost : 4 + costs1 (i ∷ is) ≡ 4 + (head_cost i + (1 + (5 + costs1 is))) = omega arith in
+      rw cost (ToProgram-then (start_path q w ws b acc multiplier (tape_of (i ∷ is) rest))
+      (ToProgram-then (head_walk ws started b 0 i (tape_of is rest) good.0)
+      (ToProgram-then (first_placed q (left started i) ws false i next)
+      (rest_path (record started { at31 = word1 i }) {a = 32} i is good.1 (omega arith) (first_word e i first) (lit≤ tt)
+      (omega arith) first.high))))

@@ -1,9 +1,9 @@
 -- The canonical spelling is a spelling.
-use Rattle.ed_notation.proofs.Kit.{[], Bool, drop, false, length, List, nat_le, refl, true, ℕ, ◌++◌, ◌<◌, ◌∷◌, ◌≡◌}
-use Rattle.ed_notation.proofs.Kit.{◌≤◌, and_parts, le-leb, leb-false, leb-true, lt-ltb, ltb-true, append-nil, drop_all}
-use Rattle.ed_notation.proofs.Kit.{ap, arith, sym, ◌∙◌, AreDigits, digits_number, ends, IsWritten, item, items}
-use Rattle.ed_notation.proofs.Kit.{row_kind, rows_of, spelled_rows, Written, AreWritten, canonical, canonicals}
-use Rattle.ed_notation.proofs.Kit.{digits_of, is_spellable, SpellsAll, Item, RowKind, Blank, Digit, Mark, Other}
+use Rattle.ed_notation.proofs.Kit.{[], Bool, drop, false, length, List, nat_le, refl, true, ℕ, ◌++◌, ◌<◌, ◌∷◌, ◌≡◌, ◌≤◌}
+use Rattle.ed_notation.proofs.Kit.{and_parts, le-leb, leb-false, leb-true, lt-ltb, ltb-true, append-nil, drop_all, ap}
+use Rattle.ed_notation.proofs.Kit.{arith, sym, ◌∙◌, AreDigits, digits_number, ends, IsWritten, item, items, row_kind}
+use Rattle.ed_notation.proofs.Kit.{rows_of, spelled_rows, Written, AreWritten, canonical, canonicals, digits_of}
+use Rattle.ed_notation.proofs.Kit.{is_spellable, SpellsAll, Item, RowKind, Blank, Digit, Mark, Other}
 use Rattle.std.proofs.lemmas.Bool.{and_from}
 use Rattle.ed_notation.specs.Spellings.{NoLeadingZero, AreCanonical, AreSpellable, IsSpelling, SpellableIsSpelled}
 use Rattle.ed_notation.proofs.Unique.{no_other}
@@ -18,29 +18,18 @@ by_tests : {n : ℕ} {a b c d e : Bool} → n ≤ 32767 → nat_le 10000 n ≡ a
     → nat_le 10 n ≡ d → nat_le 1 n ≡ e → AreDigitsOf n (digits_of n)
 by_tests {n} {a = true} h p q r s t =
     let p' = leb-true _ _ p in
-    let q' = le-leb 1000 n (omega (arith, p')) in
-    let r' = le-leb 100 n (omega (arith, p')) in
-    let s' = le-leb 10 n (omega (arith, p')) in
-    let t' = le-leb 1 n (omega (arith, p')) in
-    rw (p, q', r', s', t') (omega (arith, p', h))
+    rw (p, le-leb 1000 n (omega arith), le-leb 100 n (omega arith), le-leb 10 n (omega arith), le-leb 1 n (omega arith))
+    (omega (arith, p', h))
 by_tests {n} {a = false} {b = true} h p q r s t =
-    let p' = leb-false _ _ p in
     let q' = leb-true _ _ q in
-    let r' = le-leb 100 n (omega (arith, q')) in
-    let s' = le-leb 10 n (omega (arith, q')) in
-    let t' = le-leb 1 n (omega (arith, q')) in
-    rw (p, q, r', s', t') (omega (arith, p', q'))
+    rw (p, q, le-leb 100 n (omega arith), le-leb 10 n (omega arith), le-leb 1 n (omega arith))
+    (omega (arith, leb-false _ _ p, q'))
 by_tests {n} {a = false} {b = false} {c = true} h p q r s t =
-    let q' = leb-false _ _ q in
     let r' = leb-true _ _ r in
-    let s' = le-leb 10 n (omega (arith, r')) in
-    let t' = le-leb 1 n (omega (arith, r')) in
-    rw (p, q, r, s', t') (omega (arith, q', r'))
+    rw (p, q, r, le-leb 10 n (omega arith), le-leb 1 n (omega arith)) (omega (arith, leb-false _ _ q, r'))
 by_tests {n} {a = false} {b = false} {c = false} {d = true} h p q r s t =
-    let r' = leb-false _ _ r in
     let s' = leb-true _ _ s in
-    let t' = le-leb 1 n (omega (arith, s')) in
-    rw (p, q, r, s, t') (omega (arith, r', s'))
+    rw (p, q, r, s, le-leb 1 n (omega arith)) (omega (arith, leb-false _ _ r, s'))
 by_tests {a = false} {b = false} {c = false} {d = false} {e = true} h p q r s t =
     rw (p, q, r, s, t) (omega (arith, leb-false _ _ s, leb-true _ _ t))
 by_tests {a = false} {b = false} {c = false} {d = false} {e = false} h p q r s t =
@@ -50,64 +39,48 @@ by_tests {a = false} {b = false} {c = false} {d = false} {e = false} h p q r s t
 pub digits_are : (n : ℕ) → n ≤ 32767 → AreDigitsOf n (digits_of n)
 digits_are n h = by_tests h refl refl refl refl refl
 
-record CanBeSpelled (i : Item) : Type 0 where
-  function : i.function < 32
-  number : i.number ≤ 32767
-  ended : ends (row_kind i.end) (canonical i).begun ≡ true
-
-can_be : (i : Item) → is_spellable i ≡ true → CanBeSpelled i
+can_be : (i : Item) → is_spellable i ≡ true
+    → (i.function < 32) × (i.number ≤ 32767) × (ends (row_kind i.end) (canonical i).begun ≡ true)
 can_be i h =
     let all = and_parts _ _ h in
     let rest = and_parts _ _ all.1 in
-    record {
-      function = ltb-true _ _ all.0;
-      number = leb-true _ _ rest.0;
-      ended = rest.1;
-    }
+    (ltb-true _ _ all.0, leb-true _ _ rest.0, rest.1)
 
 -- the canonical spelling spells
 pub is_written : (i : Item) → is_spellable i ≡ true → IsWritten (canonical i)
 is_written i h =
     let c = can_be i h in
-    let g = digits_are i.number c.number in
+    let g = digits_are i.number c.1 in
     record {
-      begun = record { function = c.function; digits = g.digits; fits = rw g.number_is c.number };
-      ended = c.ended;
+      begun = record { function = c.0; digits = g.digits; fits = rw g.number_is c.1 };
+      ended = c.2;
     }
 
 -- and it spells its item
 pub same_item : (i : Item) → is_spellable i ≡ true → item (canonical i) ≡ i
 same_item i h =
-    let g = (digits_are i.number (can_be i h).number).number_is in
+    let g = (digits_are i.number (can_be i h).1).number_is in
     λ k. record { function = i.function; number = g k; mark = i.mark; end = i.end }
 
-record AreSpelled (is : List Item) : Type 0 where
-  good : AreWritten (canonicals is)
-  same : items (canonicals is) ≡ is
-  no_zeros : AreCanonical (canonicals is)
-
-all_spelled : (is : List Item) → AreSpellable is → AreSpelled is
-all_spelled [] h = record { good = tt; same = refl; no_zeros = tt }
+all_spelled : (is : List Item) → AreSpellable is
+    → AreWritten (canonicals is) × (items (canonicals is) ≡ is) × AreCanonical (canonicals is)
+all_spelled [] h = (tt, refl, tt)
 all_spelled (i ∷ is) h =
     let r = all_spelled is h.1 in
     let x = same_item i h.0 in
-    let y = r.same in
-    record {
-      good = (is_written i h.0, r.good);
-      same = λ k. x k ∷ y k;
-      no_zeros = ((digits_are i.number (can_be i h.0).number).no_zero, r.no_zeros);
-    }
+    let y = r.1 in
+    ((is_written i h.0, r.0), λ k. x k ∷ y k, ((digits_are i.number (can_be i h.0).1).no_zero, r.2))
 
 pub are_written : (is : List Item) → AreSpellable is → AreWritten (canonicals is)
-are_written is h = (all_spelled is h).good
+are_written is h = (all_spelled is h).0
 
 -- the rows that the items' canonical spellings make
 pub spelling : (is : List Item) → AreSpellable is → IsSpelling is (spelled_rows (canonicals is))
 spelling is h =
     let r = all_spelled is h in
     let s : SpellsAll is (spelled_rows (canonicals is)) =
-    record { written = canonicals is; good = r.good; items_are = r.same; rows_are = refl } in
-    record { spells = s; canonical = r.no_zeros; only = λ js p. no_other js is (spelled_rows (canonicals is)) p s }
+    record { written = canonicals is; good = r.0; items_are = r.1; rows_are = refl } in
+    record { spells = s; canonical = r.2; only = λ js p. no_other js is (spelled_rows (canonicals is)) p s }
 
 ends_canonical : (r : RowKind) (f : ℕ) (ds : List ℕ) (m : Bool)
     → ends r (record { function = f; digits = ds; mark = m }) ≡ true

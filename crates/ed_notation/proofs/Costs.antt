@@ -1,15 +1,12 @@
 -- No row costs more than 17 orders.
-use Rattle.ed_notation.proofs.Kit.{[], Bool, false, if◌then◌else◌, length, length-append, List, lit≤, true, ℕ, ◌+◌}
-use Rattle.ed_notation.proofs.Kit.{◌∷◌, ◌≤◌, digit, arith, ◌*◌, RowsReachEntry, TapeEntry, act, cost_of, costs}
-use Rattle.ed_notation.proofs.Kit.{end_cost, enters_at, letter_action_of, NotationState, begun_rows, item, mark_rows}
-use Rattle.ed_notation.proofs.Kit.{row_kind, rows_of, spelled_rows, Written, RowKind, Letter}
-
-if_most : (b : Bool) → (if b then 13 else 17) ≤ 17
-if_most true = lit≤ tt
-if_most false = lit≤ tt
+use Rattle.ed_notation.proofs.Kit.{[], Bool, false, if_means, length, length-append, List, lit≤, true, ℕ, ◌+◌, ◌∷◌, ◌≤◌}
+use Rattle.ed_notation.proofs.Kit.{digit, arith, ◌*◌, RowsReachEntry, TapeEntry, act, cost_of, costs, end_cost}
+use Rattle.ed_notation.proofs.Kit.{enters_at, letter_action_of, NotationState, begun_rows, item, mark_rows, row_kind}
+use Rattle.ed_notation.proofs.Kit.{rows_of, spelled_rows, Written, RowKind, Letter}
 
 end_most : (r : RowKind) (notation : NotationState) → end_cost r notation ≤ 17
-end_most Letter notation = if_most (enters_at (letter_action_of notation.directive))
+end_most Letter notation =
+    if_means (λ k. k ≤ 17) (enters_at (letter_action_of notation.directive)) _ _ (λ _. lit≤ tt) (λ _. lit≤ tt)
 end_most r notation = lit≤ tt
 
 pub mark_most : (m : Bool) → 15 * digit m ≤ 17 * length (mark_rows m)

@@ -1,90 +1,70 @@
--- The directive is a P, an E or a T at every row that the reader reaches.
-use Rattle.ed_notation.proofs.Kit.{Bool, false, if◌then◌else◌, List, nat_le, nat_lt, refl, subst, true, ℕ, ◌+◌, ◌≡◌}
-use Rattle.ed_notation.proofs.Kit.{◌≢◌, ◌≤◌, leb-false, ltb-false, locations, Size, locations_most, arith, ◌*◌, is_place}
-use Rattle.ed_notation.proofs.Kit.{address, control_of, letter_action_of, NotationState, over, IsDirective}
-use Rattle.ed_notation.proofs.Kit.{letter_effect, row_effect, setting_of, Control, Directive, Neither, ThetaByBlank}
-use Rattle.ed_notation.proofs.Kit.{LetterAction, Enters, Places, RowKind, Blank, Digit, Kay, Letter, Mark, Other, Zed}
-use Rattle.ed_notation.proofs.Kit.{PartialItem, RowEffect, Ended, Placed}
+-- What a row does: its numbers are in range, and the directive is a P, an E or a T at every row that the reader
+-- reaches.
+use Rattle.ed_notation.proofs.Kit.{if_means, List, lit≤, nat_le, nat_lt, true, ℕ, ◌+◌, ◌<◌, ◌≡◌, ◌≤◌, leb-false}
+use Rattle.ed_notation.proofs.Kit.{ltb-false, locations, Size, locations_most, arith, ◌*◌, is_place, address}
+use Rattle.ed_notation.proofs.Kit.{control_of, letter_action_of, letter_effect, row_effect, IsDirective, Control}
+use Rattle.ed_notation.proofs.Kit.{Directive, Neither, ThetaByBlank, LetterAction, Enters, Places, RowKind, Blank}
+use Rattle.ed_notation.proofs.Kit.{Digit, Kay, Letter, Mark, Other, Zed, DirectiveState, PartialItem, RowEffect, Ended}
+use Rattle.ed_notation.proofs.Kit.{Entered, Longer, Placed, Refused}
 use Rattle.ed_notation.specs.Reading.{kay_sets, zed_sets}
-use Rattle.ed_notation.proofs.Tests.{ControlMeans, control_means, is_place_means}
+use Rattle.ed_notation.proofs.Tests.{AimMeans, ControlMeans, aim_means, control_means, is_place_means}
 
--- what a row does leaves a directive
-abbrev pub KeepsDirective : NotationState → RowEffect → Type 0
-KeepsDirective notation (Ended s k) = IsDirective s.directive
-KeepsDirective notation (Placed at word) = IsDirective (notation.directive + 2)
-KeepsDirective notation t = Unit {0}
-
-record IsSetting (f : ℕ) : Type 0 where
-  no_1 : f ≢ 1
-  no_2 : f ≢ 2
-  no_4 : f ≢ 4
-  most : f ≤ 5
-
-sets_directive : (f : ℕ) → control_of f ≡ Directive → IsSetting f
-sets_directive f e =
-    let means : ControlMeans Directive f = subst (λ (k : Control). ControlMeans k f) e (control_means f) in
-    omega (arith, means)
+-- the numbers of what a row does are in range, and it leaves a directive
+abbrev pub IsEffectInRange : DirectiveState → RowEffect → Type 0
+IsEffectInRange setting (Refused cause) = Unit {0}
+IsEffectInRange setting (Longer part k) = (part.number ≤ 32767) × (k ≤ 17)
+IsEffectInRange setting (Ended next k) = (IsDirective setting.directive → IsDirective next.directive) × (k ≤ 17)
+IsEffectInRange setting (Placed at word) =
+    (IsDirective setting.directive → IsDirective (setting.directive + 2)) × (at < 1024) × (setting.directive < 24576)
+IsEffectInRange setting (Entered at) = at < 1024
 
 place_directive : (x : ℕ) → is_place x ≡ true → IsDirective x
 place_directive x h = let range = (is_place_means x h).range in omega (arith, range)
 
-module _ (z : Size) (words : List ℕ) (notation : NotationState) (i : PartialItem) (c : ℕ)
-    (d : IsDirective notation.directive) where
-  keep_if : (b : Bool) (x y : RowEffect) → (b ≡ true → KeepsDirective notation x)
-      → (b ≡ false → KeepsDirective notation y)
-      → KeepsDirective notation (if b then x else y)
-  keep_if true x y f g = f refl
-  keep_if false x y f g = g refl
+module _ (z : Size) (setting : DirectiveState) (part : PartialItem) where
+  abbrev Good : RowEffect → Type 0
+  Good t = IsEffectInRange setting t
 
-  kay : (k : Control) → control_of i.function ≡ k → KeepsDirective notation (kay_sets k (setting_of notation) i)
-  kay Directive e =
-      let q = sets_directive i.function e in
-      keep_if (nat_lt 1023 i.number) _ _ (λ h. tt) (λ h.
-      let l = ltb-false _ _ h in
-      record {
-        no_1 = omega (arith, l, q.no_1);
-        no_2 = omega (arith, l, q.no_2);
-        no_4 = omega (arith, l, q.no_4);
-        most = omega (arith, l, q.most);
-      })
-  kay Neither e = tt
-  kay k e = keep_if (nat_lt 1023 i.number) _ _ (λ h. tt) (λ h. d)
+  kay : (k : Control) → ControlMeans k part.function → Good (kay_sets k setting part)
+  kay Directive means = if_means Good (nat_lt 1023 part.number) _ _ (λ _. tt) (λ h.
+      let l = ltb-false _ _ h in (λ _. omega (arith, l, means), lit≤ tt))
+  kay Neither means = tt
+  kay k means = if_means Good (nat_lt 1023 part.number) _ _ (λ _. tt) (λ _. (λ d. d, lit≤ tt))
 
-  zed : (k : Control) → KeepsDirective notation (zed_sets k (setting_of notation) i)
-  zed Directive =
-      keep_if (is_place (4096 * i.function + 2 * i.number + notation.theta)) _ _ (λ h. place_directive _ h) (λ h. tt)
-  zed ThetaByBlank = keep_if (nat_le 65536 (2 * i.number + notation.theta)) _ _ (λ h. tt) (λ h. d)
+  zed : (k : Control) → Good (zed_sets k setting part)
+  zed Directive = if_means Good (is_place (4096 * part.function + 2 * part.number + setting.theta)) _ _
+      (λ h. (λ _. place_directive _ h, lit≤ tt)) (λ _. tt)
+  zed ThetaByBlank = if_means Good (nat_le 65536 (2 * part.number + setting.theta)) _ _ (λ _. tt)
+      (λ _. (λ d. d, lit≤ tt))
   zed k = tt
 
-  letter : (k : LetterAction) (word : ℕ) → KeepsDirective notation (letter_effect z k (setting_of notation) word)
-  letter Places word =
-      keep_if (nat_lt (address notation.directive) 44) _ _ (λ h. tt) (λ h.
-      keep_if (nat_le (locations z) (address notation.directive)) _ _ (λ g. tt) (λ g.
-      let l = leb-false _ _ g in
-      let m = locations_most z in
-      record {
-        no_1 = omega (arith, l, m, d.no_1);
-        no_2 = omega (arith, l, m, d.no_2);
-        no_4 = omega (arith, l, m, d.no_4);
-        most = omega (arith, l, m, d.most);
-      }))
-  letter Enters word =
-      keep_if (nat_le (locations z) (address notation.directive)) _ _ (λ h. tt) (λ h.
-      keep_if (nat_le 65536 word) _ _ (λ h. tt) (λ h.
-      keep_if (nat_lt (address notation.directive) 44) _ _ (λ h. tt) (λ h. tt)))
-  letter k word = tt
+  letter : (k : LetterAction) (word : ℕ) → AimMeans k setting.directive → Good (letter_effect z k setting word)
+  letter Places word five =
+      let most = locations_most z in
+      if_means Good (nat_lt (address setting.directive) 44) _ _ (λ _. tt) (λ _.
+      if_means Good (nat_le (locations z) (address setting.directive)) _ _ (λ _. tt) (λ h.
+      let l = leb-false _ _ h in (λ _. omega (arith, l, most, five), omega (arith, l, most), omega (arith, five))))
+  letter Enters word three =
+      let most = locations_most z in
+      if_means Good (nat_le (locations z) (address setting.directive)) _ _ (λ _. tt) (λ h.
+      if_means Good (nat_le 65536 word) _ _ (λ _. tt) (λ _.
+      if_means Good (nat_lt (address setting.directive) 44) _ _ (λ _. tt) (λ _.
+      let l = leb-false _ _ h in omega (arith, l, most))))
+  letter k word means = tt
 
   -- whatever a row does
-  pub keeps : (r : RowKind) → KeepsDirective notation
-      (row_effect z r (over notation.placed words) (setting_of notation) i c)
-  keeps Digit = keep_if i.mark _ _ (λ h. tt) (λ h. keep_if (nat_lt 32767 (10 * i.number + c)) _ _ (λ h. tt) (λ h. tt))
-  keeps Mark = keep_if i.mark _ _ (λ h. tt) (λ h. tt)
-  keeps Zed = keep_if i.mark _ _ (λ h. tt) (λ h. zed (control_of i.function))
-  keeps Kay = keep_if i.mark _ _ (λ h. tt) (λ h. kay (control_of i.function) refl)
-  keeps Blank = keep_if i.blank _ _ (λ h. d) (λ h. tt)
-  keeps Letter = letter (letter_action_of notation.directive) _
-  keeps Other = tt
+  pub in_range : (r : RowKind) (words : List ℕ) (c : ℕ) → part.number ≤ 32767
+      → Good (row_effect z r words setting part c)
+  in_range Digit words c few = if_means Good part.mark _ _ (λ _. tt) (λ _.
+      if_means Good (nat_lt 32767 (10 * part.number + c)) _ _ (λ _. tt) (λ h. (ltb-false _ _ h, lit≤ tt)))
+  in_range Mark words c few = if_means Good part.mark _ _ (λ _. tt) (λ _. (few, lit≤ tt))
+  in_range Zed words c few = if_means Good part.mark _ _ (λ _. tt) (λ _. zed (control_of part.function))
+  in_range Kay words c few =
+      if_means Good part.mark _ _ (λ _. tt) (λ _. kay (control_of part.function) (control_means part.function))
+  in_range Blank words c few = if_means Good part.blank _ _ (λ _. (λ d. d, lit≤ tt)) (λ _. tt)
+  in_range Letter words c few = letter (letter_action_of setting.directive) _ (aim_means setting.directive)
+  in_range Other words c few = tt
 
--- that of a tape before its first row
+-- the directive of a tape before its first row
 pub first_directive : IsDirective 20568
 first_directive = omega arith

@@ -2,14 +2,14 @@
 use Rattle.ed_notation.proofs.Kit.{[], append_assoc, Bool, false, inl, inr, length, length-append, List, nat_lt, None}
 use Rattle.ed_notation.proofs.Kit.{Option, refl, Some, suc, true, true≢false, ℕ, ◌&&◌, ◌++◌, ◌+◌, ◌<◌, ◌∷◌, ◌≡◌, ◌≤◌}
 use Rattle.ed_notation.proofs.Kit.{◌⊎◌, and-false, add-zero, le-ltb, lt-ltb, digit, Size, ap, arith, nat_eq, sym, ◌*◌}
-use Rattle.ed_notation.proofs.Kit.{◌∙◌, part_rows, act, address, begun_cost, cost_of, end_cost, ending_effect}
-use Rattle.ed_notation.proofs.Kit.{entering, NotationState, over, AreDigits, Begun, begun_rows, digits_number, ends}
-use Rattle.ed_notation.proofs.Kit.{is_empty, IsBegun, IsWritten, item, item_of, mark_rows, row_kind, rows_of, Written}
+use Rattle.ed_notation.proofs.Kit.{◌∙◌, part_rows, act, address, begun_cost, cost_of, end_cost, ending_effect, entering}
+use Rattle.ed_notation.proofs.Kit.{NotationState, over, AreDigits, Begun, begun_rows, digits_number, ends, is_empty}
+use Rattle.ed_notation.proofs.Kit.{IsBegun, IsWritten, item, item_of, mark_rows, row_kind, rows_of, Written}
 use Rattle.ed_notation.proofs.Kit.{IsDirective, Arrived, entry_by, Faulty, part_of, placed_by, reading_on, row_effect}
 use Rattle.ed_notation.proofs.Kit.{set_by, setting_of, Verdict, TapeCause, BadRow, RowKind, PartialItem, RowEffect}
-use Rattle.ed_notation.proofs.Kit.{Ended, Entered, Longer, Placed, Refused}
-use Rattle.ed_notation.proofs.Directives.{KeepsDirective, keeps}
-use Rattle.ed_notation.proofs.Rows.{RowLaw, row_law_of, as_part, first}
+use Rattle.ed_notation.proofs.Kit.{Ended, Entered, Longer, Placed, Refused, EndsSound, breaks}
+use Rattle.ed_notation.proofs.Directives.{IsEffectInRange, in_range}
+use Rattle.ed_notation.proofs.Rows.{RowLaw, row_law_of, as_part, causes, first, first_of}
 
 -- where the reader is: the store that it reads for, the number of rows and orders before it, and the state of the
 -- notation
@@ -65,10 +65,10 @@ pub law : (z : Size) (words : List ℕ) (notation : NotationState) (b : Begun) (
     → RowLaw (row_kind c) z words notation b c (seen z words notation b c)
 law z words notation b c set good = row_law_of z words notation c set b good
 
-pub seen_keeps : (z : Size) (words : List ℕ) (notation : NotationState) (b : Begun) (c : ℕ)
-    → IsDirective notation.directive
-    → KeepsDirective notation (seen z words notation b c)
-seen_keeps z words notation b c d = keeps z words notation (as_part b) c d (row_kind c)
+-- and its numbers are in range
+pub seen_fits : (z : Size) (words : List ℕ) (notation : NotationState) (b : Begun) (c : ℕ) → IsBegun b
+    → IsEffectInRange (setting_of notation) (seen z words notation b c)
+seen_fits z words notation b c good = in_range z (setting_of notation) (as_part b) (row_kind c) _ c good.fits
 
 abbrev pub reader_part : Option Begun → Option PartialItem
 reader_part None = None
@@ -148,23 +148,25 @@ to_end p w rest good =
     ap (λ x. reads p None x) (append_assoc (begun_rows w.begun) (w.end ∷ []) rest)
     ∙ begun_read p w.begun _ good.begun
 
--- a fault before a row
-pub record Early (v : Verdict) (row : ℕ) : Type 0 where
+none_first : (f : TapeCause → Bool) (cs : List TapeCause) → ((k : TapeCause) → f k ≡ false) → first_of f cs ≡ None
+none_first f [] h = refl
+none_first f (c ∷ cs) h = rw (h c) (none_first f cs h)
+
+pub no_rule : (p : Reader) (w : Written) → EndsSound p.size p.words p.notation w
+    → first (row_kind w.end) p.size p.words p.notation w.begun w.end ≡ None
+no_rule p w s = none_first (λ k. breaks k (row_kind w.end) p.size p.words p.notation w.begun w.end) causes s
+
+-- a fault before a row, where the rows up to it are not sound
+pub record Early (v : Verdict) (row : ℕ) (sound : Type 0) : Type 0 where
   pub at : ℕ
   pub cause : TapeCause
   pub is : v ≡ Faulty at cause
   pub before : at < row
+  pub unsound : sound → ⊥
 
-pub early_later : {v w : Verdict} {n m : ℕ} → v ≡ w → n ≤ m → Early w n → Early v m
-early_later e l r = record { at = r.at; cause = r.cause; is = e ∙ r.is; before = omega (arith, l, r.before) }
-
--- the verdicts are one, or there is a fault before the row
-abbrev pub Passes : Verdict → Verdict → ℕ → Type 0
-Passes v w row = (v ≡ w) ⊎ Early v row
-
--- the same, with the directive that is then set
-abbrev pub Goes : Verdict → Verdict → ℕ → ℕ → Type 0
-Goes v w row d = ((v ≡ w) × IsDirective d) ⊎ Early v row
+-- the verdicts are one and this directive is set, or there is a fault before the row
+abbrev pub Goes : Verdict → Verdict → ℕ → ℕ → Type 0 → Type 0
+Goes v w row d sound = ((v ≡ w) × IsDirective d) ⊎ Early v row sound
 
 -- the ending row of an item
 module _ (p : Reader) (w : Written) (rest : List ℕ) where
@@ -189,74 +191,61 @@ module _ (p : Reader) (w : Written) (rest : List ℕ) where
   abbrev pub closed : Reader
   closed = passed p 1 (end_cost r p.notation) (ending_effect r p.words p.notation (item_of b c))
 
-  abbrev arrived : Verdict
+  abbrev pub arrived : Verdict
   arrived = Arrived (entry_by p.words p.row p.cost p.notation (as_part b) c rest (address p.notation.directive))
 
   abbrev Law : RowEffect → Type 0
   Law t = RowLaw r p.size p.words p.notation b c t
 
-  goes_by : (t : RowEffect) → KeepsDirective p.notation t → Law t → first_broken ≡ None → ends r b ≡ true
-      → entering r p.notation ≡ false → (next t ≡ reads closed None rest) × IsDirective closed.notation.directive
-  goes_by (Refused cause) u h s e n = let q : Some cause ≡ None = sym h ∙ s in absurd (cc)
-  goes_by (Longer i k) u h s e n = absurd (true≢false (sym e ∙ h.1))
-  goes_by (Ended m k) u h s e n = (rw (h.1.notation_is, h.1.cost_is) refl, rw (← h.1.notation_is) u)
-  goes_by (Placed at word) u h s e n = (
-    rw (h.1.notation_is, sym h.1.cost_is) refl,
-    rw (← h.1.notation_is) u,
-  )
-  goes_by (Entered at) u h s e n = absurd (true≢false (sym h.1.entered ∙ n))
+  abbrev Sound : Type 0
+  Sound = EndsSound p.size p.words p.notation w
 
-  arrives_by : (t : RowEffect) → Law t → first_broken ≡ None → ends r b ≡ true → entering r p.notation ≡ true
-      → next t ≡ arrived
-  arrives_by (Refused cause) h s e n = let q : Some cause ≡ None = sym h ∙ s in absurd (cc)
-  arrives_by (Longer i k) h s e n = absurd (true≢false (sym e ∙ h.1))
-  arrives_by (Entered at) h s e n = rw h.1.at_is refl
-  arrives_by t h s e n = absurd (true≢false (sym n ∙ h.1.goes_on))
-
-  ended_by : (t : RowEffect) → KeepsDirective p.notation t → Law t → ends r b ≡ true → entering r p.notation ≡ false
-      → Goes (next t) (reads closed None rest) closed.row closed.notation.directive
-  ended_by (Refused cause) u h e n = inr (record { at = p.row; cause = cause; is = refl; before = omega arith })
-  ended_by t u h e n = inl (goes_by t u h h.0 e n)
-
-  entered_by : (t : RowEffect) → Law t → ends r b ≡ true → entering r p.notation ≡ true
-      → Passes (next t) arrived (p.row + 1)
-  entered_by (Refused cause) h e n = inr (record { at = p.row; cause = cause; is = refl; before = omega arith })
-  entered_by t h e n = inl (arrives_by t h h.0 e n)
+  early : {cause : TapeCause} → first_broken ≡ Some cause → Early (Faulty p.row cause) (p.row + 1) Sound
+  early {cause} h = record {
+    at = p.row;
+    cause = cause;
+    is = refl;
+    before = omega arith;
+    unsound = λ s. let q : Some cause ≡ None = sym h ∙ no_rule p w s in cc;
+  }
 
   refused_by : (t : RowEffect) {cause : TapeCause} → Law t → first_broken ≡ Some cause → next t ≡ Faulty p.row cause
-  refused_by (Refused k) {cause} h e =
-      let s : k ≡ cause = cc in rw s refl
+  refused_by (Refused k) {cause} h e = let s : k ≡ cause = cc in rw s refl
   refused_by t {cause} h e = let q : None ≡ Some cause = sym h.0 ∙ e in cc
 
+  -- it breaks a rule
+  pub refused : IsDirective p.notation.directive → IsBegun b → {cause : TapeCause} → first_broken ≡ Some cause
+      → here ≡ Faulty p.row cause
+  unfolding reading_on
+  refused set good e = refused_by _ (law p.size p.words p.notation b c set good) e
+
   module _ (set : IsDirective p.notation.directive) where
-    abbrev t : RowEffect
-    t = seen p.size p.words p.notation b c
+    ended_by : (t : RowEffect) → IsEffectInRange (setting_of p.notation) t → Law t → ends r b ≡ true
+        → entering r p.notation ≡ false
+        → Goes (next t) (reads closed None rest) closed.row closed.notation.directive Sound
+    ended_by (Refused cause) u h e n = inr (early h)
+    ended_by (Longer i k) u h e n = absurd (true≢false (sym e ∙ h.1))
+    ended_by (Ended m k) u h e n = inl (rw (h.1.notation_is, h.1.cost_is) refl, rw (← h.1.notation_is) (u.0 set))
+    ended_by (Placed at word) u h e n =
+        inl (rw (h.1.notation_is, sym h.1.cost_is) refl, rw (← h.1.notation_is) (u.0 set))
+    ended_by (Entered at) u h e n = absurd (true≢false (sym h.1.entered ∙ n))
 
-    is_law : IsBegun b → Law t
-    is_law good = law p.size p.words p.notation b c set good
+    entered_by : (t : RowEffect) → Law t → ends r b ≡ true → entering r p.notation ≡ true
+        → Goes (next t) arrived (p.row + 1) p.notation.directive Sound
+    entered_by (Refused cause) h e n = inr (early h)
+    entered_by (Longer i k) h e n = absurd (true≢false (sym e ∙ h.1))
+    entered_by (Entered at) h e n = inl (rw h.1.at_is refl, set)
+    entered_by t h e n = absurd (true≢false (sym n ∙ h.1.goes_on))
 
-    -- it breaks no rule and ends an item that is not an entry item
-    pub goes_on : IsWritten w → first_broken ≡ None → entering r p.notation ≡ false
-        → (here ≡ reads closed None rest) × IsDirective closed.notation.directive
-    unfolding reading_on
-    goes_on good s n = goes_by t (seen_keeps p.size p.words p.notation b c set) (is_law good.begun) s good.ended n
-
-    -- it breaks no rule and ends the entry item
-    pub arrives : IsWritten w → first_broken ≡ None → entering r p.notation ≡ true → here ≡ arrived
-    unfolding reading_on
-    arrives good s n = arrives_by t (is_law good.begun) s good.ended n
-
-    -- the same of a row that may break a rule
+    -- it ends an item that is not an entry item
     pub Goes-ended : IsWritten w → entering r p.notation ≡ false
-        → Goes here (reads closed None rest) closed.row closed.notation.directive
+        → Goes here (reads closed None rest) closed.row closed.notation.directive Sound
     unfolding reading_on
-    Goes-ended good n = ended_by t (seen_keeps p.size p.words p.notation b c set) (is_law good.begun) good.ended n
+    Goes-ended good n = ended_by _ (seen_fits p.size p.words p.notation b c good.begun)
+        (law p.size p.words p.notation b c set good.begun) good.ended n
 
-    pub Passes-entered : IsWritten w → entering r p.notation ≡ true → Passes here arrived (p.row + 1)
+    -- it ends the entry item
+    pub Goes-entered : IsWritten w → entering r p.notation ≡ true
+        → Goes here arrived (p.row + 1) p.notation.directive Sound
     unfolding reading_on
-    Passes-entered good n = entered_by t (is_law good.begun) good.ended n
-
-    -- it breaks a rule
-    pub refused : IsBegun b → {cause : TapeCause} → first_broken ≡ Some cause → here ≡ Faulty p.row cause
-    unfolding reading_on
-    refused good e = refused_by t (is_law good) e
+    Goes-entered good n = entered_by _ (law p.size p.words p.notation b c set good.begun) good.ended n

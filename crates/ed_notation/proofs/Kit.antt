@@ -25,9 +25,8 @@ pub use Rattle.ed_notation.specs.Faults.{WellFormed}
 pub use Rattle.ed_notation.specs.Fold.{act, address, begun_cost, control_of, cost_of, costs, end_cost, ending_effect}
 pub use Rattle.ed_notation.specs.Fold.{entering, enters_at, fold, is_entry, item_word, letter_action_of, NotationState}
 pub use Rattle.ed_notation.specs.Fold.{over}
-pub use Rattle.ed_notation.specs.Items.{AreDigits, Begun, begun_rows, digits_number, ends, is_empty, IsBegun}
-pub use Rattle.ed_notation.specs.Items.{IsWritten, item, item_of, items, mark_rows, row_kind, rows_of, spelled_rows}
-pub use Rattle.ed_notation.specs.Items.{Written}
+pub use Rattle.ed_notation.specs.Items.{AreDigits, Begun, begun_rows, digits_number, ends, is_empty, IsBegun, IsWritten}
+pub use Rattle.ed_notation.specs.Items.{item, item_of, items, mark_rows, row_kind, rows_of, spelled_rows, Written}
 pub use Rattle.ed_notation.specs.Openings.{IsDirective, opening_with}
 pub use Rattle.ed_notation.specs.Reading.{Arrived, entry_by, Faulty, IsPartial, letter_effect, part_of, placed_by}
 pub use Rattle.ed_notation.specs.Reading.{ReadingIsRules, row_effect, set_by, setting_of, Verdict}

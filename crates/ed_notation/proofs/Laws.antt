@@ -1,44 +1,28 @@
 -- The reader by rows and the rules by items say the same, both ways.
-use Rattle.ed_notation.proofs.Kit.{[], Bool, false, if◌then◌else◌, inl, inr, length-append, List, None, refl, Some}
-use Rattle.ed_notation.proofs.Kit.{subst, true, ℕ, ◌++◌, ◌+◌, ◌<◌, ◌∷◌, ◌≡◌, ◌≤◌, ◌⊎◌, Size, ap, arith, sym, ◌∙◌}
-use Rattle.ed_notation.proofs.Kit.{Breaks, cause_number, IsFault, RowsReachEntry, TapeEntry, WellFormed, address}
-use Rattle.ed_notation.proofs.Kit.{cost_of, end_cost, entering, enters_at, item_word, letter_action_of, NotationState}
-use Rattle.ed_notation.proofs.Kit.{begun_rows, item_of, row_kind, rows_of, IsDirective, Arrived, entry_by, Faulty}
-use Rattle.ed_notation.proofs.Kit.{reading_on, ReadingIsRules, Verdict, TapeCause, RowKind, Letter}
+use Rattle.ed_notation.proofs.Kit.{[], inl, inr, length-append, List, None, refl, Some, subst, true, ℕ, ◌+◌, ◌<◌, ◌∷◌}
+use Rattle.ed_notation.proofs.Kit.{◌≡◌, ◌≤◌, ◌⊎◌, Size, ap, arith, sym, ◌∙◌, Breaks, cause_number, IsFault}
+use Rattle.ed_notation.proofs.Kit.{RowsReachEntry, TapeEntry, WellFormed, address, cost_of, end_cost, entering}
+use Rattle.ed_notation.proofs.Kit.{item_word, NotationState, begun_rows, item_of, row_kind, IsDirective, Arrived}
+use Rattle.ed_notation.proofs.Kit.{entry_by, Faulty, reading_on, ReadingIsRules, Verdict, TapeCause, RowKind, Letter}
+use Rattle.ed_notation.proofs.Kit.{is_entry}
 use Rattle.ed_notation.specs.Reading.{ReadingAlwaysIsRules}
-use Rattle.ed_notation.proofs.Follow.{Reader, reads, inside, to_end, Early, Passes, Goes, Passes-entered}
+use Rattle.ed_notation.proofs.Follow.{Reader, reads, inside, Goes}
 use Rattle.ed_notation.proofs.Least.{same}
-use Rattle.ed_notation.proofs.Passes.{behind_all, Goes-many, broken_found}
+use Rattle.ed_notation.proofs.Passes.{behind_all, Goes-entry, broken_found}
 use Rattle.ed_notation.proofs.Rows.{as_part}
 use Rattle.ed_notation.proofs.Tells.{Tells, TellsFault, TellsEntry, Told-tells}
-
-row_same : {a b : ℕ} {k l : TapeCause} → Faulty a k ≡ Faulty b l → a ≡ b
-row_same e = cc
-
-cause_same : {a b : ℕ} {k l : TapeCause} → Faulty a k ≡ Faulty b l → k ≡ l
-cause_same e = cc
+use Rattle.ed_notation.proofs.Verdicts.{row_of}
 
 not_both : {a : ℕ} {k : TapeCause} {e : TapeEntry} → Faulty a k ≡ Arrived e → ⊥
 not_both h = cc
 
-record IsSame (a b : ℕ) (k l : TapeCause) : Type 0 where
-  rows : a ≡ b
-  causes : k ≡ l
-
 sorted : {a b : ℕ} {k l : TapeCause} → (a < b) ⊎ ((a ≡ b) × (cause_number k ≤ cause_number l))
-    → (b < a) ⊎ ((b ≡ a) × (cause_number l ≤ cause_number k)) → IsSame a b k l
-sorted (inl h) (inl g) = absurd (omega (arith, h, g))
-sorted (inl h) (inr g) = absurd (omega (arith, h, g.0))
-sorted (inr h) (inl g) = absurd (omega (arith, h.0, g))
-sorted {k = k} {l} (inr h) (inr g) = record { rows = h.0; causes = same k l (omega (arith, h.1, g.1)) }
+    → (b < a) ⊎ ((b ≡ a) × (cause_number l ≤ cause_number k)) → (a ≡ b) × (k ≡ l)
+sorted {k = k} {l} h g = (omega (arith, h, g), same k l (omega (arith, h, g)))
 
 -- the ending row of an entry item costs 13
-if_thirteen : (b : Bool) → b ≡ true → ◌≡◌ {A = ℕ} (if b then 13 else 17) 13
-if_thirteen true h = refl
-if_thirteen false h = cc
-
 entry_ends : (r : RowKind) (notation : NotationState) → entering r notation ≡ true → end_cost r notation ≡ 13
-entry_ends Letter notation h = if_thirteen (enters_at (letter_action_of notation.directive)) h
+entry_ends Letter notation h = rw h refl
 entry_ends r notation h = cc
 
 module _ (z : Size) (words : List ℕ) (start : NotationState) (base : ℕ) (rows : List ℕ)
@@ -64,8 +48,8 @@ module _ (z : Size) (words : List ℕ) (start : NotationState) (base : ℕ) (row
         is = moved t.row_is t.breaks;
         least = λ r other b.
             let f = broken_found base set b in
-            let h = sym f.is ∙ e in
-            rw (sym (row_same h), sym (cause_same h)) f.least;
+            let h = row_of (sym f.is ∙ e) in
+            rw (sym h.0, sym h.1) f.least;
       }
 
   -- if the reader reaches an entry, no rule is broken
@@ -79,33 +63,22 @@ module _ (z : Size) (words : List ℕ) (start : NotationState) (base : ℕ) (row
       let q : t.read ≡ e.rows = omega (arith, t.rows_are) in
       rw (← q) t.comes
 
-  if_faulty : (v : Verdict) (row : ℕ) (cause : TapeCause)
-      → ((r : ℕ) (c : TapeCause) → v ≡ Faulty r c → IsFault z words start rows r c)
-      → ((e : TapeEntry) → v ≡ Arrived e → WellFormed z words start rows)
-      → IsFault z words start rows row cause → v ≡ Faulty row cause
-  if_faulty (Faulty r c) row cause f g h =
-      let o = f r c refl in
-      let s : IsSame r row c cause = sorted (o.least row cause h.is) (h.least r c o.is) in
-      rw (s.rows, s.causes) refl
-  if_faulty (Arrived e) row cause f g h = absurd (g e refl row cause h.is)
+  found_by : (v : Verdict) → answer ≡ v → {row : ℕ} {cause : TapeCause} → IsFault z words start rows row cause
+      → v ≡ Faulty row cause
+  found_by (Faulty r c) e {row} {cause} h =
+      let o = faulty_is e in
+      let s = sorted (o.least row cause h.is) (h.least r c o.is) in
+      rw (s.0, s.1) refl
+  found_by (Arrived a) e {row} {cause} h = absurd (arrived_well e row cause h.is)
 
   -- the fault is what the reader finds
   pub fault_found : (row : ℕ) (cause : TapeCause) → IsFault z words start rows row cause → answer ≡ Faulty row cause
-  fault_found row cause h = if_faulty answer row cause (λ r c e. faulty_is e) (λ e a. arrived_well a) h
+  fault_found row cause h = found_by answer refl h
 
-  kept_set : {v w : Verdict} {n d : ℕ} → ((m : ℕ) → Early answer m → ⊥) → answer ≡ v → Goes v w n d
-      → (answer ≡ w) × IsDirective d
-  kept_set never e (inl h) = (e ∙ h.0, h.1)
-  kept_set {n = n} never e (inr h) =
-      absurd (never n (record { at = h.at; cause = h.cause; is = e ∙ h.is; before = h.before }))
-
-  no_fault : WellFormed z words start rows → (n : ℕ) → Early answer n → ⊥
-  no_fault well n h = well h.at h.cause (faulty_is h.is).is
-
-  kept : {v w : Verdict} {n : ℕ} → WellFormed z words start rows → answer ≡ v → Passes v w n → answer ≡ w
-  kept well e (inl h) = e ∙ h
-  kept {n = n} well e (inr h) =
-      absurd (no_fault well n (record { at = h.at; cause = h.cause; is = e ∙ h.is; before = h.before }))
+  kept : {v w : Verdict} {n d : ℕ} {S : Type 0} → WellFormed z words start rows → answer ≡ v → Goes v w n d S
+      → answer ≡ w
+  kept well e (inl h) = e ∙ h.0
+  kept well e (inr f) = absurd (well f.at f.cause (faulty_is (e ∙ f.is)).is)
 
   -- if no rule is broken the reader reaches the entry of the items
   pub comes_arrived : (e : TapeEntry) → WellFormed z words start rows → RowsReachEntry words start base rows e
@@ -116,12 +89,10 @@ module _ (z : Size) (words : List ℕ) (start : NotationState) (base : ℕ) (row
       let p : Reader = behind_all here c.before in
       let q : Reader = inside p (Some b) in
       let notation = p.notation in
-      let a = kept_set (no_fault well) (ap (λ x. reads here None x) c.rows_are)
-      (Goes-many c.before here (rows_of w ++ e.rest) set c.are_read) in
       let is_entry = rw c.notation_is at c.is_entry in
-      let f = Passes-entered q w e.rest a.1 c.is_written is_entry in
       let entry = entry_by words q.row q.cost notation (as_part b) w.end e.rest (address notation.directive) in
-      let h : answer ≡ Arrived entry = kept well (a.0 ∙ to_end p w e.rest c.is_written) f in
+      let h : answer ≡ Arrived entry = kept well (ap (λ x. reads here None x) c.rows_are)
+      (Goes-entry c.before w here e.rest set c.are_read c.is_written is_entry) in
       let n : e.notation ≡ notation = c.notation_is in
       let l = length-append (begun_rows b) (w.end ∷ []) in
       let p1 : entry.at ≡ e.at = ap (λ (x : NotationState). address x.directive) (sym n) ∙ sym c.at_is in

@@ -1,7 +1,6 @@
 -- The least rule that a row breaks.
-use Rattle.ed_notation.proofs.Kit.{[], Bool, false, length, List, lit<, lit≤, Option, refl, Some, true, true≢false, ℕ}
-use Rattle.ed_notation.proofs.Kit.{◌+◌, ◌-◌, ◌<◌, ◌∷◌, ◌≡◌, ◌≤◌, ap, arith, get_or, sym, ◌∙◌, cause_number, TapeCause}
-use Rattle.ed_notation.proofs.Kit.{EndOfTape}
+use Rattle.ed_notation.proofs.Kit.{[], Bool, false, length, List, lit<, lit≤, refl, Some, true, true≢false, ℕ, ◌+◌, ◌-◌}
+use Rattle.ed_notation.proofs.Kit.{◌<◌, ◌∷◌, ◌≡◌, ◌≤◌, ap, arith, get_or, sym, ◌∙◌, cause_number, TapeCause, EndOfTape}
 use Rattle.ed_notation.proofs.Rows.{first_of, causes}
 
 -- the cause of a number
@@ -16,16 +15,12 @@ named_is c = refl
 pub same : (a b : TapeCause) → cause_number a ≡ cause_number b → a ≡ b
 same a b e = sym (named_is a) ∙ ap named e ∙ named_is b
 
-record IsNumber (n : ℕ) : Type 0 where
-  least : 1 ≤ n
-  most : n < 11
-
-is_number : (c : TapeCause) → IsNumber (cause_number c)
-is_number EndOfTape = record { least = lit≤ tt; most = lit< tt }
-is_number c = record { least = lit≤ tt; most = lit< tt }
+is_number : (c : TapeCause) → (1 ≤ cause_number c) × (cause_number c < 11)
+is_number EndOfTape = (lit≤ tt, lit< tt)
+is_number c = (lit≤ tt, lit< tt)
 
 pub one_least : (c : TapeCause) → 1 ≤ cause_number c
-one_least c = (is_number c).least
+one_least c = (is_number c).0
 
 -- the numbers of the list ascend from n
 abbrev AreNumbered : ℕ → List TapeCause → Type 0
@@ -55,14 +50,11 @@ pub least_of : (f : TapeCause → Bool) (k : TapeCause) → f k ≡ true → Fou
 least_of f k h =
     let numbered : AreNumbered 1 causes =
     (refl, (refl, (refl, (refl, (refl, (refl, (refl, (refl, (refl, (refl, tt)))))))))) in
-    least_in f causes 1 k numbered (is_number k).least (is_number k).most h
-
-some_is : (a b : TapeCause) → (let x : Option TapeCause = Some a in x) ≡ Some b → a ≡ b
-some_is a b e = cc
+    least_in f causes 1 k numbered (is_number k).0 (is_number k).1 h
 
 found_if : (f : TapeCause → Bool) (c k : TapeCause) (cs : List TapeCause) (x : Bool) → f c ≡ x
     → (first_of f cs ≡ Some k → f k ≡ true) → first_of f (c ∷ cs) ≡ Some k → f k ≡ true
-found_if f c k cs true e ih h = let q : Some c ≡ Some k = (rw e at h) in rw (some_is c k q) at e
+found_if f c k cs true e ih h = let q : Some c ≡ Some k = (rw e at h) in let s : c ≡ k = cc in rw s at e
 found_if f c k cs false e ih h = ih (rw e at h)
 
 -- and the test is true for it

@@ -8,7 +8,6 @@ pub mod Passes
 pub mod Tells
 pub mod Laws
 pub mod Loop
-mod Effects
 pub mod Costs
 pub mod Contents
 pub mod Answered

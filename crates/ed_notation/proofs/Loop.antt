@@ -6,7 +6,7 @@ use Rattle.ed_notation.proofs.Kit.{opening_with, entry_by, IsPartial, part_of, p
 use Rattle.ed_notation.proofs.Kit.{set_by, setting_of, TapeCause, EndOfTape, DirectiveState, PartialItem, RowEffect}
 use Rattle.ed_notation.proofs.Kit.{Ended, Entered, Longer, Placed, Refused}
 use Rattle.std.proofs.Common.{drop-cons, slice_index, slice_set}
-use Rattle.ed_notation.proofs.Effects.{IsEffectInRange, in_range}
+use Rattle.ed_notation.proofs.Directives.{IsEffectInRange, in_range}
 use Rattle.ed_notation.proofs.Follow.{Reader, reads, follow, function_begins}
 use Rattle.ed_notation.proofs.Laws.{faulty_is, arrived_well, arrived_comes}
 
@@ -69,21 +69,31 @@ next_row rows row c l e =
     let n : row + 1 ≡ suc row = omega arith in
     rw n (drop-cons rows row c l ∙ ap (λ x. x ∷ drop (suc row) rows) (sym e))
 
+-- the loop after a row from which the reader goes on
+after : {k : Check} {row cost : ℕ} {setting : DirectiveState} {part : Option PartialItem} {contents : List ℕ}
+    {marks : List Bool} (a : StandsAt k row cost setting part contents marks) {n : ℕ} (notation : NotationState)
+    {next : DirectiveState} {more : Option PartialItem} {words : List ℕ} {placed : List Bool}
+    → reads (reader k row cost a.notation) part (drop row k.rows)
+    ≡ reads (reader k (row + 1) (cost + n) notation) more (drop (row + 1) k.rows)
+    → Holds k.words notation next words placed → IsPartial more → n ≤ 17
+    → StandsAt k (row + 1) (cost + n) next more words placed
+after a notation goes state partial few = record {
+  notation = notation;
+  same = a.same ∙ goes;
+  state = state;
+  locations_are = a.locations_are;
+  opened = a.opened;
+  partial = partial;
+  cheap = omega (arith, a.cheap, few);
+}
+
 module _ {k : Check} {row cost : ℕ} {setting : DirectiveState} {contents : List ℕ} {marks : List Bool} {c : ℕ} where
   pub function_row : StandsAt k row cost setting None contents marks → row < length k.rows
       → c ≡ get_or k.rows row c → c < 32
       → StandsAt k (row + 1) (cost + 6) setting (Some (part_of c)) contents marks
-  function_row a l e small = record {
-    notation = a.notation;
-    same =
-        a.same ∙ ap (λ x. reads (reader k row cost a.notation) None x) (next_row k.rows row c l e)
-        ∙ function_begins _ c _ small;
-    state = a.state;
-    locations_are = a.locations_are;
-    opened = a.opened;
-    partial = lit≤ tt;
-    cheap = omega (arith, a.cheap);
-  }
+  function_row a l e small = after a a.notation
+      (ap (λ x. reads (reader k row cost a.notation) None x) (next_row k.rows row c l e) ∙ function_begins _ c _ small)
+      a.state (lit≤ tt) (lit≤ tt)
 
   module _ (i : PartialItem) (a : StandsAt k row cost setting (Some i) contents marks) (l : row < length k.rows)
       (e : c ≡ get_or k.rows row c) where
@@ -92,74 +102,50 @@ module _ {k : Check} {row cost : ℕ} {setting : DirectiveState} {contents : Lis
 
     -- the numbers of what the row does are in range
     pub IsEffectInRange-taken : (t : RowEffect) → Row t → IsEffectInRange setting t
-    IsEffectInRange-taken t h =
-        rw h (in_range k.size (row_kind c) contents setting i c a.partial)
+    IsEffectInRange-taken t h = rw h (in_range k.size setting i (row_kind c) contents c a.partial)
 
     abbrev here : Reader
     here = reader k row cost a.notation
 
-    same : (t : RowEffect) → Row t
-        → reads (reader k 0 k.base k.start) None k.rows ≡ follow here i c (drop (row + 1) k.rows) t
+    taken : (t : RowEffect) → Row t
+        → reads here (Some i) (drop row k.rows) ≡ follow here i c (drop (row + 1) k.rows) t
     unfolding reading_on
-    same t h =
+    taken t h =
         let seen : row_effect k.size (row_kind c) (over a.notation.placed k.words) (setting_of a.notation) i c ≡ t =
         rw (a.state.contents_are, a.state.setting_is) (sym h) in
-        a.same
-        ∙ ap (λ x. reads here (Some i) x) (next_row k.rows row c l e)
+        ap (λ x. reads here (Some i) x) (next_row k.rows row c l e)
         ∙ ap (λ t. follow here i c (drop (row + 1) k.rows) t) seen
 
     pub StandsAt-longer : {j : PartialItem} {n : ℕ} → Row (Longer j n)
         → StandsAt k (row + 1) (cost + n) setting (Some j) contents marks
-    StandsAt-longer {j} {n} h = let f = IsEffectInRange-taken _ h in record {
-      notation = a.notation;
-      same = same (Longer j n) h;
-      state = a.state;
-      locations_are = a.locations_are;
-      opened = a.opened;
-      partial = f.0;
-      cheap = omega (arith, a.cheap, f.1);
-    }
+    StandsAt-longer h =
+        let f = IsEffectInRange-taken _ h in after a a.notation (taken _ h) a.state f.0 f.1
 
     pub StandsAt-ended : {s : DirectiveState} {n : ℕ} → Row (Ended s n)
         → StandsAt k (row + 1) (cost + n) s None contents marks
-    StandsAt-ended {s} {n} h = let f = IsEffectInRange-taken (Ended s n) h in record {
-      notation = set_by s a.notation;
-      same = same (Ended s n) h;
-      state = record {
-        setting_is = refl;
-        contents_are = a.state.contents_are;
-        marks_are = a.state.marks_are;
-        places = a.state.places;
-      };
-      locations_are = a.locations_are;
-      opened = a.opened;
-      partial = tt;
-      cheap = omega (arith, a.cheap, f);
-    }
+    StandsAt-ended {s} h = after a (set_by s a.notation) (taken _ h) (record {
+      setting_is = refl;
+      contents_are = a.state.contents_are;
+      marks_are = a.state.marks_are;
+      places = a.state.places;
+    }) tt (IsEffectInRange-taken _ h).1
 
     pub StandsAt-placed : {at word : ℕ} → Row (Placed at word)
         → StandsAt k (row + 1) (cost + 17) (record { directive = setting.directive + 2; theta = setting.theta }) None
         (slice_set contents at word) (slice_set marks at true)
-    StandsAt-placed {at} {word} h = let f = IsEffectInRange-taken _ h in record {
-      notation = placed_by at word a.notation;
-      same = same (Placed at word) h;
-      state = record {
-        setting_is =
-            ap (λ (s : DirectiveState). let x : DirectiveState =
-            record { directive = s.directive + 2; theta = s.theta } in x)
-            a.state.setting_is;
-        contents_are = ap (λ x. slice_set x at word) a.state.contents_are;
-        marks_are = ap (λ x. slice_set x at true) a.state.marks_are;
-        places = (f.0, a.state.places);
-      };
-      locations_are = a.locations_are;
-      opened = a.opened;
-      partial = tt;
-      cheap = omega (arith, a.cheap);
-    }
+    StandsAt-placed {at} {word} h = after a (placed_by at word a.notation) (taken _ h) (record {
+      setting_is =
+          ap (λ (s : DirectiveState). let x : DirectiveState =
+          record { directive = s.directive + 2; theta = s.theta } in x)
+          a.state.setting_is;
+      contents_are = ap (λ x. slice_set x at word) a.state.contents_are;
+      marks_are = ap (λ x. slice_set x at true) a.state.marks_are;
+      places = ((IsEffectInRange-taken _ h).1, a.state.places);
+    }) tt (lit≤ tt)
 
     pub IsFault-refused : {cause : TapeCause} → Row (Refused cause) → IsFault k.size k.words k.start k.rows row cause
-    IsFault-refused {cause} h = faulty_is k.size k.words k.start k.base k.rows a.opened (same (Refused cause) h)
+    IsFault-refused {cause} h =
+        faulty_is k.size k.words k.start k.base k.rows a.opened (a.same ∙ taken (Refused cause) h)
 
     pub Arrives-entered : {at : ℕ} → Row (Entered at)
         → Arrives k.size k.words k.start k.base k.rows (record {
@@ -170,7 +156,7 @@ module _ {k : Check} {row cost : ℕ} {setting : DirectiveState} {contents : Lis
         })
         contents marks
     Arrives-entered {at} h =
-        let q = same (Entered at) h in
+        let q = a.same ∙ taken (Entered at) h in
         record {
           well = arrived_well k.size k.words k.start k.base k.rows a.opened q;
           entry = entry_by k.words row cost a.notation i c (drop (row + 1) k.rows) at;
@@ -191,8 +177,7 @@ pub StandsAt-written : {k : Check} {row cost cost' : ℕ} {setting setting' : Di
     {contents contents' : List ℕ} {marks marks' : List Bool}
     → cost ≡ cost' → setting ≡ setting' → part ≡ part' → contents ≡ contents' → marks ≡ marks'
     → StandsAt k row cost' setting' part' contents' marks' → StandsAt k row cost setting part contents marks
-StandsAt-written {k} {row} a b c d e stands =
-    rw (a, b, c, d, e) stands
+StandsAt-written a b c d e stands = rw (a, b, c, d, e) stands
 
 -- at the end of the rows
 pub at_end : {k : Check} {row cost : ℕ} {setting : DirectiveState} {part : Option PartialItem} {contents : List ℕ}

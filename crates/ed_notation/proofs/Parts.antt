@@ -1,7 +1,7 @@
 -- Lists that are made part after part.
-use Rattle.ed_notation.proofs.Kit.{[], append_assoc, Bool, drop, length, List, nat_lt, refl, true, ℕ, ◌++◌, ◌+◌, ◌<◌}
-use Rattle.ed_notation.proofs.Kit.{◌∷◌, ◌≡◌, ◌≤◌, flat_map, list_all, and_parts, le-leb, lt-leb, lt-ltb, byte_of, ap}
-use Rattle.ed_notation.proofs.Kit.{arith, get_or, sym, ◌%◌, ◌/◌, ◌∙◌, digit_at, digits_of, line_from}
+use Rattle.ed_notation.proofs.Kit.{[], append_assoc, drop, length, List, nat_lt, refl, true, ℕ, ◌++◌, ◌+◌, ◌<◌, ◌∷◌}
+use Rattle.ed_notation.proofs.Kit.{◌≡◌, ◌≤◌, flat_map, le-leb, lt-leb, lt-ltb, byte_of, ap, arith, get_or, sym, ◌%◌}
+use Rattle.ed_notation.proofs.Kit.{◌/◌, ◌∙◌, digit_at, digits_of, line_from}
 use Rattle.std.proofs.Common.{append-nil}
 use Rattle.std.proofs.lemmas.List.{at_drop_more}
 
@@ -20,12 +20,6 @@ one_more {A} {B} {x} give xs i d done part later below is first same before =
     ap (λ (ys : List B). ys ++ later) same ∙ append_assoc done part later
     ∙ ap (λ (ys : List B). done ++ ys)
     (sym first ∙ ap (λ (y : A). give (y ∷ drop (i + 1) xs)) is ∙ sym (at_drop_more give xs i d below)) ∙ before
-
--- a test of all elements that are left holds for the next one and for those after it
-pub next_passes : {A : Type 0} (p : A → Bool) (xs : List A) (i : ℕ) (d : A)
-    → i < length xs → list_all p (drop i xs) ≡ true
-    → (p (get_or xs i d) ≡ true) × (list_all p (drop (i + 1) xs) ≡ true)
-next_passes p xs i d below all = and_parts _ _ (sym (at_drop_more (list_all p) xs i d below) ∙ all)
 
 -- the digit row at a power of ten that a number reaches
 pub digit_there : (p n : ℕ) → p ≤ n → digit_at p n ≡ (n / p % 10) ∷ []

@@ -2,46 +2,49 @@
 -- before it.
 use Rattle.ed_notation.proofs.Kit.{[], append_assoc, Bool, false, inl, inr, length, length-append, List, lit≤, None}
 use Rattle.ed_notation.proofs.Kit.{Option, refl, Some, true, ℕ, ◌&&◌, ◌++◌, ◌+◌, ◌<◌, ◌∷◌, ◌≡◌, ◌≤◌, ◌⊎◌, add-zero}
-use Rattle.ed_notation.proofs.Kit.{Size, ap, arith, sym, ◌∙◌, AreRead, Breaks, breaks, cause_number, is_broken, IsPart}
+use Rattle.ed_notation.proofs.Kit.{Size, arith, sym, ◌∙◌, AreRead, Breaks, breaks, cause_number, is_broken, IsPart}
 use Rattle.ed_notation.proofs.Kit.{part_rows, cost_of, costs, end_cost, fold, is_entry, NotationState, Begun}
 use Rattle.ed_notation.proofs.Kit.{begun_rows, IsWritten, item, items, row_kind, rows_of, spelled_rows, Written}
-use Rattle.ed_notation.proofs.Kit.{IsDirective, Faulty, reading_on, Verdict, TapeCause, BadRow, EndOfTape}
+use Rattle.ed_notation.proofs.Kit.{IsDirective, Faulty, reading_on, Verdict, TapeCause, BadRow, EndOfTape, AreSound}
+use Rattle.ed_notation.proofs.Kit.{EndsSound}
 use Rattle.std.proofs.Common.{not}
 use Rattle.ed_notation.specs.Faults.{is_bad_row}
 use Rattle.ed_notation.proofs.Follow.{Reader, reads, passed, behind, inside, Goes, reader_part, begun_read}
-use Rattle.ed_notation.proofs.Follow.{function_read, to_end, Goes-ended, refused, early_later}
+use Rattle.ed_notation.proofs.Follow.{function_read, to_end, arrived, Goes-ended, Goes-entered, refused}
 use Rattle.ed_notation.proofs.Least.{least_of, one_least}
 
 -- the causes other than the first have a number of 2 and more
-record BadRowBroken (cause : TapeCause) (t : Bool) : Type 0 where
-  least : 2 ≤ cause_number cause
-  test : t ≡ false
-
-bad_row : (cause : TapeCause) (t : Bool) → (is_bad_row cause && not t) ≡ true → BadRowBroken cause t
+bad_row : (cause : TapeCause) (t : Bool) → (is_bad_row cause && not t) ≡ true → (2 ≤ cause_number cause) × (t ≡ false)
 bad_row BadRow true h = cc
-bad_row BadRow false h = record { least = lit≤ tt; test = refl }
+bad_row BadRow false h = (lit≤ tt, refl)
 bad_row cause t h = cc
 
--- the same for a verdict that is equal to it
-carried : {v w x : Verdict} {n d : ℕ} → v ≡ w → Goes w x n d → Goes v x n d
-carried e (inl h) = inl (e ∙ h.0, h.1)
-carried {n = n} e (inr h) = inr (early_later e (let l : n ≤ n = omega arith in l) h)
+-- one stretch of rows after the other
+chained : {v w x : Verdict} {n m d d' : ℕ} {S T : Type 0} → n ≤ m → Goes v w n d S
+    → (IsDirective d → Goes w x m d' T) → Goes v x m d' (S × T)
+chained l (inl e) h = elim (h e.1) [
+  | inl f ↦ inl (e.0 ∙ f.0, f.1)
+  | inr f ↦
+      inr (record { at = f.at; cause = f.cause; is = e.0 ∙ f.is; before = f.before; unsound = λ s. f.unsound s.1 })
+]
+chained l (inr e) h = inr (record {
+  at = e.at;
+  cause = e.cause;
+  is = e.is;
+  before = omega (arith, l, e.before);
+  unsound = λ s. e.unsound s.0;
+})
 
 -- an item before a row
 one : (p : Reader) (w : Written) (rest : List ℕ) → IsDirective p.notation.directive → IsWritten w
     → is_entry p.notation (item w) ≡ false
     → Goes (reads p None (rows_of w ++ rest)) (reads (behind p w) None rest) (behind p w).row
-    (behind p w).notation.directive
+    (behind p w).notation.directive (EndsSound p.size p.words p.notation w)
 one p w rest set good goes =
     let q : Reader = inside p (Some w.begun) in
     let l : q.row + 1 ≡ p.row + length (rows_of w) = omega (arith, length-append (begun_rows w.begun) (w.end ∷ [])) in
     let k : q.cost + end_cost (row_kind w.end) p.notation ≡ p.cost + cost_of p.notation w = omega arith in
-    rw (sym l, sym k) (carried (to_end p w rest good) (Goes-ended q w rest set good goes))
-
--- one stretch of rows after the other
-chained : {v w x : Verdict} {n m d d' : ℕ} → n ≤ m → Goes v w n d → (IsDirective d → Goes w x m d') → Goes v x m d'
-chained l (inl e) h = carried e.0 (h e.1)
-chained l (inr e) h = inr (early_later refl l e)
+    rw (to_end p w rest good, sym l, sym k) (Goes-ended q w rest set good goes)
 
 -- whole items before a row
 abbrev pub behind_all : Reader → List Written → Reader
@@ -49,18 +52,29 @@ behind_all p ws = passed p (length (spelled_rows ws)) (costs p.words p.notation 
 
 pub Goes-many : (before : List Written) (p : Reader) (rest : List ℕ) → IsDirective p.notation.directive
     → AreRead p.words p.notation before
-    → Goes (reads p None (spelled_rows before ++ rest)) (reads (behind_all p before) None rest) (behind_all p before).row
-    (behind_all p before).notation.directive
+    → Goes (reads p None (spelled_rows before ++ rest)) (reads (behind_all p before) None rest)
+    (behind_all p before).row (behind_all p before).notation.directive (AreSound p.size p.words p.notation before)
 Goes-many [] p rest set are = rw (add-zero p.row, add-zero p.cost) (inl (refl, set))
 Goes-many (w ∷ ws) p rest set are =
     let q : Reader = behind p w in
     let l : q.row + length (spelled_rows ws) ≡ p.row + length (spelled_rows (w ∷ ws)) =
     omega (arith, length-append (rows_of w) (spelled_rows ws)) in
     let k : q.cost + costs p.words q.notation ws ≡ p.cost + costs p.words p.notation (w ∷ ws) = omega arith in
-    let a = one p w _ set are.0 are.1 in
-    let ih = λ (s : IsDirective q.notation.directive). Goes-many ws q rest s are.2 in
-    let e = ap (λ x. reads p None x) (append_assoc (rows_of w) _ rest) in
-    rw (sym l, sym k) (carried e (chained (omega arith) a ih))
+    rw (append_assoc (rows_of w) _ rest, sym l, sym k)
+    (chained (omega arith) (one p w _ set are.0 are.1) (λ s. Goes-many ws q rest s are.2))
+
+-- whole items and the entry item after them
+pub Goes-entry : (before : List Written) (last : Written) (p : Reader) (rest : List ℕ)
+    → IsDirective p.notation.directive → AreRead p.words p.notation before → IsWritten last
+    → is_entry (behind_all p before).notation (item last) ≡ true
+    → Goes (reads p None (spelled_rows before ++ (rows_of last ++ rest)))
+    (arrived (inside (behind_all p before) (Some last.begun)) last rest)
+    ((inside (behind_all p before) (Some last.begun)).row + 1) (behind_all p before).notation.directive
+    (AreSound p.size p.words p.notation before × EndsSound p.size p.words (behind_all p before).notation last)
+Goes-entry before last p rest set are good enters =
+    let q : Reader = behind_all p before in
+    chained (omega arith) (Goes-many before p _ set are)
+    (λ s. rw (to_end q last rest good) (Goes-entered (inside q (Some last.begun)) last rest s good enters))
 
 -- and the part of an item after them
 to_part : (p : Reader) (part : Option Begun) (rest : List ℕ) → IsPart part
@@ -80,7 +94,7 @@ broken_here : (p : Reader) (part : Option Begun) (rest : List ℕ) (cause : Tape
 unfolding reading_on
 broken_here p None (c ∷ rest) cause set is h =
     let f = bad_row cause _ h in
-    record { found = BadRow; is = function_read p c rest f.test; least = f.least }
+    record { found = BadRow; is = function_read p c rest f.1; least = f.0 }
 broken_here p (Some b) (c ∷ rest) cause set is h =
     let f = least_of (λ k. breaks k (row_kind c) p.size p.words p.notation b c) cause h in
     record { found = f.found; is = refused p (record { begun = b; end = c }) rest set is f.is; least = f.least }
@@ -93,7 +107,7 @@ pub record NoLater (v : Verdict) (row : ℕ) (cause : TapeCause) : Type 0 where
   pub is : v ≡ Faulty at found
   pub least : (at < row) ⊎ ((at ≡ row) × (cause_number found ≤ cause_number cause))
 
-no_later : {v w : Verdict} {n row d : ℕ} {cause : TapeCause} → n ≤ row → Goes v w n d
+no_later : {v w : Verdict} {n row d : ℕ} {cause : TapeCause} {S : Type 0} → n ≤ row → Goes v w n d S
     → (IsDirective d → Refuses w row cause) → NoLater v row cause
 no_later {row = row} l (inl e) f =
     let r = f e.1 in

@@ -2,9 +2,9 @@
 use Rattle.ed_notation.proofs.Kit.{[], Bool, drop, false, length, List, refl, set, suc, take, true, ℕ, ◌&&◌, ◌++◌, ◌+◌}
 use Rattle.ed_notation.proofs.Kit.{◌<◌, ◌∷◌, ◌≡◌, ◌≤◌, and_parts, get_or-set_other, locations, T_F, Size, ap, arith}
 use Rattle.ed_notation.proofs.Kit.{get_or, sym, ◌*◌, ◌∙◌, begun_cost, item_word, NotationState, over, row_kind}
-use Rattle.ed_notation.proofs.Kit.{canonical, is_spellable, Item, RowKind, Letter}
-use Rattle.std.proofs.Common.{zero}
+use Rattle.ed_notation.proofs.Kit.{canonical, is_spellable, Item, RowKind, Letter, append_assoc, add-zero}
 use Rattle.std.proofs.lemmas.Bool.Decides.{nat_tests}
+use Rattle.std.proofs.lemmas.List.{drop-set-lt, take_more_set, take-append-drop}
 use Rattle.ed_notation.specs.Fold.{value_of, word_with}
 use Rattle.ed_notation.proofs.Contents.{length-over}
 use Rattle.ed_notation.proofs.Steps.{Reads, reads_none, reads_one, Does-placing, placing_cost}
@@ -48,27 +48,18 @@ with_block words a ws = take a words ++ (ws ++ drop (a + length ws) words)
 
 set_block : (xs : List ℕ) (a w : ℕ) (ws : List ℕ) → a < length xs
     → with_block (set xs a w) (a + 1) ws ≡ with_block xs a (w ∷ ws)
-set_block [] a w ws h = absurd (omega arith)
-set_block (x ∷ xs) zero w ws h =
-    let e : 0 + 1 + length ws ≡ suc (length ws) = omega arith in
-    let f : 0 + suc (length ws) ≡ suc (length ws) = omega arith in
-    rw (e, f) refl
-set_block (x ∷ xs) (suc a) w ws h =
-    let b : suc a + 1 ≡ suc (a + 1) = omega arith in
-    let e : suc (a + 1) + length ws ≡ suc (a + 1 + length ws) = omega arith in
-    let f : suc a + suc (length ws) ≡ suc (a + suc (length ws)) = omega arith in
-    rw (b, e, f) (ap (λ l. x ∷ l) (set_block xs a w ws (omega arith)))
+set_block xs a w ws h =
+    let n : a + 1 + length ws ≡ a + suc (length ws) = omega arith in
+    rw (take_more_set xs a w h, drop-set-lt (a + 1 + length ws) xs a w (omega arith),
+    append_assoc (take a xs) (w ∷ []) (ws ++ drop (a + 1 + length ws) xs), n) refl
 
-none_laid : (xs : List ℕ) (a : ℕ) → a ≤ length xs → with_block xs a [] ≡ xs
-none_laid xs zero h = refl
-none_laid [] (suc a) h = absurd (omega arith)
-none_laid (x ∷ xs) (suc a) h = let e : suc a + 0 ≡ suc (a + 0) = omega arith
-    in rw e (ap (λ l. x ∷ l) (none_laid xs a (omega arith)))
+none_laid : (xs : List ℕ) (a : ℕ) → with_block xs a [] ≡ xs
+none_laid xs a = rw (add-zero a) (take-append-drop a xs)
 
 -- words laid one after the other are in the store in that order
 pub over_laid : (words : List ℕ) (a : ℕ) (ws : List ℕ) (placed : List (ℕ × ℕ)) → a + length ws ≤ length words
     → over (laid a ws placed) words ≡ with_block (over placed words) a ws
-over_laid words a [] placed h = sym (none_laid (over placed words) a (omega (arith, length-over placed words)))
+over_laid words a [] placed h = sym (none_laid (over placed words) a)
 over_laid words a (w ∷ ws) placed h =
     over_laid words (a + 1) ws _ (omega arith) ∙ set_block _ a w ws (omega (arith, length-over placed words))
 

@@ -1,61 +1,14 @@
 -- A tape is well formed if and only if its items break no rule.
-use Rattle.ed_notation.proofs.Kit.{[], append_assoc, Bool, false, length, length-append, List, None, refl, Some, subst}
-use Rattle.ed_notation.proofs.Kit.{true, ℕ, ◌++◌, ◌+◌, ◌∷◌, ◌≡◌, ◌≤◌, add-zero, append-nil, Size, ap, arith, sym, ◌∙◌}
-use Rattle.ed_notation.proofs.Kit.{IsSoundTo, AreRead, AreSound, breaks, EndsSound, IsRead, part_rows, RowsReachEntry}
-use Rattle.ed_notation.proofs.Kit.{TapeEntry, WellFormed, act, address, cost_of, costs, end_cost, fold, is_entry}
+use Rattle.ed_notation.proofs.Kit.{[], append_assoc, Bool, false, inl, inr, length, length-append, List, refl, Some}
+use Rattle.ed_notation.proofs.Kit.{true, ℕ, ◌++◌, ◌+◌, ◌∷◌, ◌≡◌, ◌≤◌, Size, arith, IsSoundTo, AreRead, AreSound, breaks}
+use Rattle.ed_notation.proofs.Kit.{EndsSound, IsRead, RowsReachEntry, TapeEntry, WellFormed, fold, is_entry}
 use Rattle.ed_notation.proofs.Kit.{NotationState, begun_rows, IsWritten, item, items, row_kind, rows_of, spelled_rows}
-use Rattle.ed_notation.proofs.Kit.{Written, IsDirective, Arrived, entry_by, TapeCause}
-use Rattle.ed_notation.proofs.Cuts.{items-append, spelled-append, fold-append, AreRead-append}
-use Rattle.ed_notation.proofs.Follow.{Reader, reads, behind, inside, to_end, goes_on, arrives}
+use Rattle.ed_notation.proofs.Kit.{Written, IsDirective}
+use Rattle.ed_notation.proofs.Follow.{Reader}
 use Rattle.ed_notation.proofs.Laws.{arrived_well}
-use Rattle.ed_notation.proofs.Passes.{behind_all}
-use Rattle.ed_notation.proofs.Rows.{first, first_of, causes, as_part}
-
-none_first : (f : TapeCause → Bool) (cs : List TapeCause) → ((k : TapeCause) → f k ≡ false) → first_of f cs ≡ None
-none_first f [] h = refl
-none_first f (c ∷ cs) h = rw (h c) (none_first f cs h)
-
-pub no_rule : (p : Reader) (w : Written) → EndsSound p.size p.words p.notation w
-    → first (row_kind w.end) p.size p.words p.notation w.begun w.end ≡ None
-no_rule p w s = none_first (λ k. breaks k (row_kind w.end) p.size p.words p.notation w.begun w.end) causes s
-
--- an item that breaks no rule
-one : (p : Reader) (w : Written) (rest : List ℕ) → IsDirective p.notation.directive → IsWritten w
-    → is_entry p.notation (item w) ≡ false → EndsSound p.size p.words p.notation w
-    → (reads p None (rows_of w ++ rest) ≡ reads (behind p w) None rest) × IsDirective (behind p w).notation.directive
-one p w rest set good goes sound =
-    let q : Reader = inside p (Some w.begun) in
-    let l : q.row + 1 ≡ p.row + length (rows_of w) = omega (arith, length-append (begun_rows w.begun) (w.end ∷ [])) in
-    let k : q.cost + end_cost (row_kind w.end) p.notation ≡ p.cost + cost_of p.notation w = omega arith in
-    let h = goes_on q w rest set good (no_rule p w sound) goes in
-    rw (sym l, sym k) (to_end p w rest good ∙ h.0, h.1)
-
--- the reader goes over items that break no rule as the fold says
-pub many : (before : List Written) (p : Reader) (rest : List ℕ) → IsDirective p.notation.directive
-    → AreRead p.words p.notation before → AreSound p.size p.words p.notation before
-    → (reads p None (spelled_rows before ++ rest) ≡ reads (behind_all p before) None rest)
-    × IsDirective (behind_all p before).notation.directive
-many [] p rest set are sound = rw (add-zero p.row, add-zero p.cost) (refl, set)
-many (w ∷ ws) p rest set are sound =
-    let q : Reader = behind p w in
-    let l : q.row + length (spelled_rows ws) ≡ p.row + length (spelled_rows (w ∷ ws)) =
-    omega (arith, length-append (rows_of w) (spelled_rows ws)) in
-    let k : q.cost + costs p.words q.notation ws ≡ p.cost + costs p.words p.notation (w ∷ ws) = omega arith in
-    let a = one p w _ set are.0 are.1 sound.0 in
-    let ih = many ws q rest a.1 are.2 sound.1 in
-    let e = ap (λ x. reads p None x) (append_assoc (rows_of w) _ rest) in
-    rw (sym l, sym k) (e ∙ a.0 ∙ ih.0, ih.1)
-
--- it reaches the entry item
-last_read : (p : Reader) (w : Written) (rest : List ℕ) → IsDirective p.notation.directive → IsWritten w
-    → is_entry p.notation (item w) ≡ true → EndsSound p.size p.words p.notation w
-    → reads p None (rows_of w ++ rest)
-    ≡ Arrived (entry_by p.words (inside p (Some w.begun)).row (inside p (Some w.begun)).cost p.notation
-    (as_part w.begun)
-    w.end rest (address p.notation.directive))
-last_read p w rest set good enters sound =
-    to_end p w rest good
-    ∙ arrives (inside p (Some w.begun)) w rest set good (no_rule p w sound) enters
+use Rattle.ed_notation.proofs.Passes.{Goes-entry}
+use Rattle.ed_notation.proofs.Tells.{broken_at, broken_later}
+pub use Rattle.ed_notation.proofs.Follow.{no_rule}
 
 -- a tape whose items break no rule, up to an entry item, is well formed
 pub sound_well : {z : Size} {words : List ℕ} {start : NotationState} (before : List Written) {last : Written}
@@ -66,66 +19,37 @@ pub sound_well : {z : Size} {words : List ℕ} {start : NotationState} (before :
     → WellFormed z words start (spelled_rows before ++ (rows_of last ++ rest))
 sound_well {z} {words} {start} before {last} rest set are sound good enters s =
     let p : Reader = record { size = z; words = words; row = 0; cost = 0; notation = start } in
-    let a = many before p _ set are sound in
-    let e = last_read _ last rest a.1 good enters s in
-    arrived_well z words start 0 _ set (a.0 ∙ e)
+    elim (Goes-entry before last p rest set are good enters) [
+      | inl h ↦ arrived_well z words start 0 _ set h.0
+      | inr e ↦ absurd (e.unsound (sound, s))
+    ]
 
 -- an item before a row up to which no rule is broken breaks none
-module _ {z : Size} {words : List ℕ} {start : NotationState} {rows : List ℕ} {row : ℕ}
-    (to : IsSoundTo z words start rows row) where
-  item_sound : (before : List Written) (w : Written) (rest : List ℕ) → AreRead words start before → IsWritten w
-      → rows ≡ spelled_rows before ++ (rows_of w ++ rest) → length (spelled_rows before) + length (rows_of w) ≤ row
-      → EndsSound z words (fold words start (items before)) w
-  item_sound before w rest are good e fits cause = by_test _ refl
-    where
-      by_test : (t : Bool) → breaks cause (row_kind w.end) z words (fold words start (items before)) w.begun w.end ≡ t
-          → breaks cause (row_kind w.end) z words (fold words start (items before)) w.begun w.end ≡ false
-      by_test false h = h
-      by_test true h =
-          let at = length (spelled_rows before) + length (begun_rows w.begun) in
-          let least = to at cause (record {
-            stands = record {
-              before = before;
-              part = Some w.begun;
-              rest = w.end ∷ rest;
-              are_read = are;
-              is_part = good.begun;
-              rows_are = e ∙ ap (λ x. spelled_rows before ++ x) (append_assoc (begun_rows w.begun) _ rest);
-              row_is = refl;
-            };
-            breaks = h;
-          }) in
-          absurd (omega (arith, least, fits, length-append (begun_rows w.begun) (w.end ∷ [])))
+ends_sound : {z : Size} {words : List ℕ} {start : NotationState} {row : ℕ} (w : Written) (rest : List ℕ) → IsWritten w
+    → IsSoundTo z words start (rows_of w ++ rest) row → length (rows_of w) ≤ row → EndsSound z words start w
+ends_sound {z} {words} {start} w rest good to fits cause = by_test _ refl
+  where
+    by_test : (t : Bool) → breaks cause (row_kind w.end) z words start w.begun w.end ≡ t → t ≡ false
+    by_test false h = refl
+    by_test true h =
+        let least = to (length (begun_rows w.begun)) cause (rw (append_assoc (begun_rows w.begun) (w.end ∷ []) rest)
+        (broken_at (Some w.begun) (w.end ∷ rest) good.begun h)) in
+        absurd (omega (arith, least, fits, length-append (begun_rows w.begun) (w.end ∷ [])))
 
-  all_sound : (ws before : List Written) (rest : List ℕ) → AreRead words start before
-      → AreRead words (fold words start (items before)) ws → rows ≡ spelled_rows before ++ (spelled_rows ws ++ rest)
-      → length (spelled_rows before) + length (spelled_rows ws) ≤ row
-      → AreSound z words (fold words start (items before)) ws
-  all_sound [] before rest are more e fits = tt
-  all_sound (w ∷ ws) before rest are more e fits =
-      let after = before ++ (w ∷ []) in
-      let f = e ∙ ap (λ x. spelled_rows before ++ x) (append_assoc (rows_of w) (spelled_rows ws) rest) in
-      let l = length-append (rows_of w) (spelled_rows ws) in
-      let s = item_sound before w (spelled_rows ws ++ rest) are more.0 f (omega (arith, fits, l)) in
-      let n : fold words start (items after) ≡ act words (fold words start (items before)) (item w) =
-      ap (λ is. fold words start is) (items-append before (w ∷ []))
-      ∙ fold-append words start (items before) (item w ∷ []) in
-      let a = AreRead-append words start before (w ∷ []) are (more.0, more.1, tt) in
-      let m = subst (λ (x : NotationState). AreRead words x ws) (sym n) more.2 in
-      let t : spelled_rows after ≡ spelled_rows before ++ rows_of w =
-      spelled-append before (w ∷ []) ∙ ap (λ x. spelled_rows before ++ x) (append-nil (rows_of w)) in
-      let g =
-      f ∙ sym (append_assoc (spelled_rows before) (rows_of w) (spelled_rows ws ++ rest))
-      ∙ ap (λ x. x ++ (spelled_rows ws ++ rest)) (sym t) in
-      let k : length (spelled_rows after) ≡ length (spelled_rows before) + length (rows_of w) =
-      ap length t ∙ length-append (spelled_rows before) (rows_of w) in
-      let r = all_sound ws after rest a m g (omega (arith, fits, l, k)) in
-      (s, rw (← n) r)
+-- so do all items before it, and none is broken from there on
+all_sound : {z : Size} {words : List ℕ} (ws : List Written) {start : NotationState} {row : ℕ} {rest : List ℕ} (n : ℕ)
+    → row ≡ length (spelled_rows ws) + n → IsSoundTo z words start (spelled_rows ws ++ rest) row
+    → AreRead words start ws → AreSound z words start ws × IsSoundTo z words (fold words start (items ws)) rest n
+all_sound [] n e to are = (tt, λ r cause b. omega (arith, e, to r cause b))
+all_sound (w ∷ ws) {rest} n e to are =
+    let l = length-append (rows_of w) (spelled_rows ws) in
+    let t = rw (append_assoc (rows_of w) (spelled_rows ws) rest) at to in
+    let more = all_sound ws n refl (λ r cause b. omega (arith, e, l, t _ cause (broken_later w are.0 are.1 b))) are.2 in
+    ((ends_sound w _ are.0 t (omega (arith, e, l)), more.0), more.1)
 
-  -- so do all items before it
-  pub read_sound : (r : IsRead words start rows row) → AreSound z words start r.before
-  read_sound r =
-      all_sound r.before [] (part_rows r.part ++ r.rest) tt r.are_read r.rows_are (omega (arith, r.row_is))
+pub read_sound : {z : Size} {words : List ℕ} {start : NotationState} {rows : List ℕ} {row : ℕ}
+    → IsSoundTo z words start rows row → (r : IsRead words start rows row) → AreSound z words start r.before
+read_sound to r = (all_sound r.before _ r.row_is (rw r.rows_are at to) r.are_read).0
 
 -- the items of a well-formed tape break no rule
 pub well_sound : {z : Size} {words : List ℕ} {start : NotationState} {rows : List ℕ} → WellFormed z words start rows
@@ -133,7 +57,5 @@ pub well_sound : {z : Size} {words : List ℕ} {start : NotationState} {rows : L
     → AreSound z words start c.before × EndsSound z words e.notation c.last
 well_sound {z} {words} {start} {rows} well {e = e} c =
     let to : IsSoundTo z words start rows e.rows = λ r cause b. absurd (well r cause b) in
-    let last = item_sound to c.before c.last e.rest c.are_read c.is_written c.rows_are (omega (arith, c.read_is)) in (
-      all_sound to c.before [] (rows_of c.last ++ e.rest) tt c.are_read c.rows_are (omega (arith, c.read_is)),
-      rw c.notation_is last,
-    )
+    let s = all_sound c.before _ c.read_is (rw c.rows_are at to) c.are_read in
+    (s.0, rw c.notation_is (ends_sound c.last _ c.is_written s.1 (omega arith)))

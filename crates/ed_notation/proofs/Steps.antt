@@ -1,10 +1,10 @@
 -- What the fold does at the items that place words and enter: `T p K`, `E p K`, `G K`, a code letter under T, and the
 -- entry item `P F`. None of them breaks a rule, so a tape of them is well formed and its fold is known.
 use Rattle.ed_notation.proofs.Kit.{[], false, List, nat_le, nat_lt, refl, true, ℕ, ◌++◌, ◌+◌, ◌<◌, ◌∷◌, ◌≡◌, ◌≤◌}
-use Rattle.ed_notation.proofs.Kit.{le-ltb, lt-leb, locations, E_F, T_F, Size, locations_most, ap, arith, ◌%◌, ◌*◌, ◌/◌, ◌∙◌}
-use Rattle.ed_notation.proofs.Kit.{AreRead, AreSound, breaks, EndsSound, act, address, begun_cost, control_of, cost_of}
-use Rattle.ed_notation.proofs.Kit.{costs, fold, is_entry, item_word, letter_action_of, NotationState, Begun, item}
-use Rattle.ed_notation.proofs.Kit.{items, row_kind, canonical, canonicals, is_spellable, TapeCause, BadControl}
+use Rattle.ed_notation.proofs.Kit.{le-ltb, lt-leb, locations, E_F, T_F, Size, locations_most, ap, arith, ◌%◌, ◌*◌, ◌/◌}
+use Rattle.ed_notation.proofs.Kit.{◌∙◌, AreRead, AreSound, breaks, EndsSound, act, address, begun_cost, control_of}
+use Rattle.ed_notation.proofs.Kit.{cost_of, costs, fold, is_entry, item_word, letter_action_of, NotationState, Begun}
+use Rattle.ed_notation.proofs.Kit.{item, items, row_kind, canonical, canonicals, is_spellable, TapeCause, BadControl}
 use Rattle.ed_notation.proofs.Kit.{EntryInLoader, EntryNegative, LoaderStore, NoPlace, StoreEnd, Item, Places, RowKind}
 use Rattle.ed_notation.proofs.Kit.{Letter}
 use Rattle.std.proofs.Common.{◌^◌}
@@ -12,8 +12,6 @@ use Rattle.ed_words.specs.declared.order_words.TheConstants.{G_F}
 use Rattle.ed_notation.specs.Faults.{bad_kay}
 use Rattle.ed_notation.specs.declared.kind.LetterAction.TheVariants.{Enters as EntersAt}
 use Rattle.ed_notation.proofs.Canonical.{digits_are, is_written, same_item}
-use Rattle.ed_notation.proofs.Cuts.{items-append, fold-append, costs-append, canonicals-append, AreRead-append}
-use Rattle.ed_notation.proofs.Cuts.{AreSound-append}
 
 -- an item without π
 abbrev pub plain : ℕ → ℕ → ℕ → Item
@@ -43,11 +41,7 @@ module _ (z : Size) (words : List ℕ) where
       let it : item (canonical i) ≡ i = same_item i can in
       let e : act words notation (item (canonical i)) ≡ m = ap (act words notation) it ∙ d.acts in
       record {
-        are_read = (
-          is_written i can,
-          ap (is_entry notation) it ∙ d.goes_on,
-          rw e r.are_read,
-        );
+        are_read = (is_written i can, ap (is_entry notation) it ∙ d.goes_on, rw e r.are_read);
         are_sound = (d.sound, rw e r.are_sound);
         folds = ap (λ (n : NotationState). fold words n (items (canonicals is))) e ∙ r.folds;
         costs_are = ap (λ (n : NotationState). cost_of notation (canonical i) + costs words n (canonicals is)) e
@@ -57,21 +51,17 @@ module _ (z : Size) (words : List ℕ) where
   pub reads_both : {notation m next : NotationState} {is js : List Item} {c d : ℕ} → Reads notation is m c
       → Reads m js next d
       → Reads notation (is ++ js) next (c + d)
-  reads_both {notation} {m} {is} {js} {c} a b =
-      let vs = canonicals is in
-      let ws = canonicals js in
-      let e : fold words notation (items vs) ≡ m = a.folds in
-      let both : canonicals (is ++ js) ≡ vs ++ ws = canonicals-append is js in
+  reads_both {is = []} {c = c} {d = d} a b = let e : c + d ≡ d = omega (arith, a.costs_are) in rw (e, a.folds) b
+  reads_both {notation} {m} {is = i ∷ is} a b =
+      let n = act words notation (item (canonical i)) in
+      let rest : Reads n is m (costs words n (canonicals is)) =
+      record { are_read = a.are_read.2; are_sound = a.are_sound.1; folds = a.folds; costs_are = refl } in
+      let r = reads_both {notation = n} {is = is} rest b in
       record {
-        are_read = rw both (AreRead-append words notation vs ws a.are_read (rw e b.are_read));
-        are_sound =
-            rw both (AreSound-append z words notation vs ws a.are_sound (rw e b.are_sound));
-        folds = ap (λ us. fold words notation (items us)) both ∙ ap (fold words notation) (items-append vs ws)
-            ∙ fold-append words notation (items vs) (items ws)
-            ∙ ap (λ (n : NotationState). fold words n (items ws)) e ∙ b.folds;
-        costs_are = ap (costs words notation) both ∙ costs-append words notation vs ws
-            ∙ ap (λ (n : NotationState). costs words notation vs + costs words n ws) e
-            ∙ ap (λ k. k + costs words m ws) a.costs_are ∙ ap (λ k. c + k) b.costs_are;
+        are_read = (a.are_read.0, a.are_read.1, r.are_read);
+        are_sound = (a.are_sound.0, r.are_sound);
+        folds = r.folds;
+        costs_are = omega (arith, r.costs_are, a.costs_are);
       }
 
   -- K breaks no rule if its function sets something and its number is a location

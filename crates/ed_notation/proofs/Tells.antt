@@ -5,9 +5,9 @@ use Rattle.ed_notation.proofs.Kit.{◌∙◌, Breaks, breaks, is_broken, IsPart,
 use Rattle.ed_notation.proofs.Kit.{begun_cost, cost_of, is_entry, NotationState, Begun, begun_rows, IsBegun, IsWritten}
 use Rattle.ed_notation.proofs.Kit.{item, row_kind, rows_of, spelled_rows, Written, IsDirective, Arrived, Faulty}
 use Rattle.ed_notation.proofs.Kit.{reading_on, Verdict, TapeCause, BadRow, EndOfTape, RowEffect, Entered, Longer}
-use Rattle.ed_notation.proofs.Kit.{Refused}
-use Rattle.ed_notation.proofs.Directives.{KeepsDirective}
-use Rattle.ed_notation.proofs.Follow.{Reader, reads, passed, behind, inside, follow, seen_keeps, law, reader_part}
+use Rattle.ed_notation.proofs.Kit.{Refused, setting_of, Size}
+use Rattle.ed_notation.proofs.Directives.{IsEffectInRange}
+use Rattle.ed_notation.proofs.Follow.{Reader, reads, passed, behind, inside, follow, seen_fits, law, reader_part}
 use Rattle.ed_notation.proofs.Follow.{function_read}
 use Rattle.ed_notation.proofs.Least.{found_is}
 use Rattle.ed_notation.proofs.Rows.{RowLaw, EndsItem, as_part, causes}
@@ -27,28 +27,51 @@ abbrev pub Tells : Reader → List ℕ → Verdict → Type 0
 Tells p tape (Faulty row cause) = TellsFault p tape row cause
 Tells p tape (Arrived e) = TellsEntry p tape e
 
+-- a rule that is broken behind an item
+pub broken_later : {z : Size} {words : List ℕ} {start : NotationState} (w : Written) {rows : List ℕ} {row : ℕ}
+    {cause : TapeCause} → IsWritten w → is_entry start (item w) ≡ false
+    → Breaks z words (act words start (item w)) rows row cause
+    → Breaks z words start (rows_of w ++ rows) (length (rows_of w) + row) cause
+broken_later w good goes b =
+    let s = b.stands in
+    record {
+      stands = record {
+        before = w ∷ s.before;
+        part = s.part;
+        rest = s.rest;
+        are_read = (good, goes, s.are_read);
+        is_part = s.is_part;
+        rows_are = ap (λ x. rows_of w ++ x) s.rows_are ∙ sym (append_assoc (rows_of w) _ _);
+        row_is = omega (arith, s.row_is, length-append (rows_of w) (spelled_rows s.before));
+      };
+      breaks = b.breaks;
+    }
+
+-- a rule that is broken after a part of an item
+pub broken_at : {z : Size} {words : List ℕ} {start : NotationState} (part : Option Begun) (rest : List ℕ)
+    {cause : TapeCause} → IsPart part → is_broken z words start part rest cause ≡ true
+    → Breaks z words start (part_rows part ++ rest) (length (part_rows part)) cause
+broken_at part rest is h = record {
+  stands = record {
+    before = [];
+    part = part;
+    rest = rest;
+    are_read = tt;
+    is_part = is;
+    rows_are = refl;
+    row_is = omega arith;
+  };
+  breaks = h;
+}
+
 -- one more item before rows whose verdict is known
 before : (p : Reader) (w : Written) (rows : List ℕ) (v : Verdict) → IsWritten w → is_entry p.notation (item w) ≡ false
     → Tells (behind p w) rows v → Tells p (rows_of w ++ rows) v
-before p w rows (Faulty row cause) good goes t =
-    let s = t.breaks.stands in
-    record {
-      offset = length (rows_of w) + t.offset;
-      row_is = omega (arith, t.row_is);
-      breaks = record {
-        stands = record {
-          before = w ∷ s.before;
-          part = s.part;
-          rest = s.rest;
-          are_read = (good, goes, s.are_read);
-          is_part = s.is_part;
-          rows_are =
-              ap (λ x. rows_of w ++ x) s.rows_are ∙ sym (append_assoc (rows_of w) _ _);
-          row_is = omega (arith, s.row_is, length-append (rows_of w) (spelled_rows s.before));
-        };
-        breaks = t.breaks.breaks;
-      };
-    }
+before p w rows (Faulty row cause) good goes t = record {
+  offset = length (rows_of w) + t.offset;
+  row_is = omega (arith, t.row_is);
+  breaks = broken_later w good goes t.breaks;
+}
 before p w rows (Arrived e) good goes t =
     let c = t.comes in
     record {
@@ -61,8 +84,7 @@ before p w rows (Arrived e) good goes t =
         is_written = c.is_written;
         notation_is = c.notation_is;
         is_entry = c.is_entry;
-        rows_are =
-            ap (λ x. rows_of w ++ x) c.rows_are ∙ sym (append_assoc (rows_of w) _ _);
+        rows_are = ap (λ x. rows_of w ++ x) c.rows_are ∙ sym (append_assoc (rows_of w) _ _);
         last_is = c.last_is;
         at_is = c.at_is;
         word_is = c.word_is;
@@ -71,26 +93,11 @@ before p w rows (Arrived e) good goes t =
       };
     }
 
--- a rule that is broken after a part of an item
 at_end : (p : Reader) (part : Option Begun) (rest : List ℕ) (cause : TapeCause) → IsPart part
     → is_broken p.size p.words p.notation part rest cause ≡ true
     → TellsFault p (part_rows part ++ rest) (inside p part).row cause
-at_end p part rest cause is h = record {
-  offset = length (part_rows part);
-  row_is = refl;
-  breaks = record {
-    stands = record {
-      before = [];
-      part = part;
-      rest = rest;
-      are_read = tt;
-      is_part = is;
-      rows_are = refl;
-      row_is = omega arith;
-    };
-    breaks = h;
-  };
-}
+at_end p part rest cause is h =
+    record { offset = length (part_rows part); row_is = refl; breaks = broken_at part rest is h }
 
 -- what is known of rows after every part of an item
 abbrev Told : List ℕ → Type 0
@@ -120,7 +127,8 @@ module _ (p : Reader) (b : Begun) (c : ℕ) (rows : List ℕ) (told : Told rows)
       let is : IsWritten w = record { begun = good; ended = x.ended } in
       rw (x.notation_is) (rw (← e) (before p w rows v is x.goes_on ih))
 
-  by_taken : (t : RowEffect) → KeepsDirective p.notation t → RowLaw (row_kind c) p.size p.words p.notation b c t
+  by_taken : (t : RowEffect) → IsEffectInRange (setting_of p.notation) t
+      → RowLaw (row_kind c) p.size p.words p.notation b c t
       → Tells p (begun_rows b ++ (c ∷ rows)) (follow here (as_part b) c rows t)
   by_taken (Refused cause) u law =
       let is_broken = found_is (λ x. breaks x (row_kind c) p.size p.words p.notation b c) causes cause law in
@@ -157,12 +165,12 @@ module _ (p : Reader) (b : Begun) (c : ℕ) (rows : List ℕ) (told : Told rows)
           read_is = omega arith;
         };
       }
-  by_taken t u law = by_end law.1 u
+  by_taken t u law = by_end law.1 (u.0 set)
 
   after_row : Tells p (begun_rows b ++ (c ∷ rows)) (reads here (Some (as_part b)) (c ∷ rows))
   unfolding reading_on
   after_row =
-      by_taken _ (seen_keeps p.size p.words p.notation b c set) (law p.size p.words p.notation b c set good)
+      by_taken _ (seen_fits p.size p.words p.notation b c good) (law p.size p.words p.notation b c set good)
 
 -- a function row
 by_function : (p : Reader) (f : ℕ) (rows : List ℕ) {t : Bool} → Told rows → IsDirective p.notation.directive

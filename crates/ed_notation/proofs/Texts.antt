@@ -1,15 +1,14 @@
 -- The text of items spells their rows.
 use Rattle.ed_notation.proofs.Kit.{[], Bool, drop, false, length, List, lit<, nat_lt, refl, Some, true, ℕ, ◌++◌, ◌+◌}
-use Rattle.ed_notation.proofs.Kit.{◌-◌, ◌<◌, ◌∷◌, ◌≡◌, ◌≤◌, list_all, and_parts, le-leb, ltb-true, append-nil}
-use Rattle.ed_notation.proofs.Kit.{drop_all, byte_of, row_of, ap, arith, sym, ◌∙◌, AreDigits, Begun, begun_rows, ends}
-use Rattle.ed_notation.proofs.Kit.{IsWritten, mark_rows, row_kind, rows_of, spelled_rows, Written, AreWritten}
-use Rattle.ed_notation.proofs.Kit.{canonicals, line_from, text_of, Item, RowKind, Digit, Mark, Other}
+use Rattle.ed_notation.proofs.Kit.{◌<◌, ◌∷◌, ◌≡◌, ◌≤◌, list_all, and_parts, le-leb, ltb-true, append-nil, drop_all}
+use Rattle.ed_notation.proofs.Kit.{byte_of, row_of, ap, arith, sym, ◌∙◌, AreDigits, begun_rows, IsWritten, mark_rows}
+use Rattle.ed_notation.proofs.Kit.{rows_of, spelled_rows, Written, AreWritten, canonicals, line_from, text_of, Item}
 use Rattle.ed_codes.specs.Reading.{reading, rows}
 use Rattle.ed_codes.specs.Text.{Spells, none, row, spacing}
 use Rattle.ed_codes.proofs.Pieces.{spells_append}
 use Rattle.ed_codes.proofs.Readings.{has_one_reading}
 use Rattle.ed_codes.proofs.Spellings.{letter_back}
-use Rattle.ed_notation.proofs.Tests.{RowMeans, row_means}
+use Rattle.ed_notation.proofs.Tests.{end_range}
 
 -- ---- bytes
 
@@ -50,21 +49,11 @@ mark_codes : (m : Bool) → AreCodes (mark_rows m)
 mark_codes true = (lit< tt, tt)
 mark_codes false = tt
 
--- an ending row is a code
-end_code : (b : Begun) (c : ℕ) → ends (row_kind c) b ≡ true → c < 32
-end_code b c = by_kind (row_kind c) (row_means c)
-  where
-    by_kind : (r : RowKind) → RowMeans r c → ends r b ≡ true → c < 32
-    by_kind Digit means h = cc
-    by_kind Mark means h = cc
-    by_kind Other means h = cc
-    by_kind r means h = omega (arith, means)
-
 row_codes : (w : Written) → IsWritten w → AreCodes (rows_of w)
 row_codes w good =
     let b = w.begun in
     let inner = codes_append b.digits (mark_rows b.mark) (digit_codes b.digits good.begun.digits) (mark_codes b.mark) in
-    codes_append (begun_rows b) (w.end ∷ []) (good.begun.function, inner) (end_code b w.end good.ended, tt)
+    codes_append (begun_rows b) (w.end ∷ []) (good.begun.function, inner) ((end_range b w.end good.ended).1, tt)
 
 -- ---- the text
 

@@ -1,20 +1,9 @@
 -- No spelling of an item is the beginning of a spelling of another item.
 use Rattle.ed_notation.proofs.Kit.{[], append_assoc, Bool, false, List, refl, true, ℕ, ◌++◌, ◌∷◌, ◌≡◌, ◌≤◌, append-nil}
-use Rattle.ed_notation.proofs.Kit.{ap, arith, sym, ◌∙◌, AreDigits, Begun, begun_rows, ends, IsWritten, item, items}
-use Rattle.ed_notation.proofs.Kit.{mark_rows, row_kind, rows_of, spelled_rows, Written, AreWritten, SpellsAll, Item}
-use Rattle.ed_notation.proofs.Kit.{RowKind, Digit, Mark, Other}
+use Rattle.ed_notation.proofs.Kit.{ap, arith, sym, ◌∙◌, AreDigits, begun_rows, IsWritten, item, items, mark_rows}
+use Rattle.ed_notation.proofs.Kit.{rows_of, spelled_rows, Written, AreWritten, SpellsAll, Item}
 use Rattle.ed_notation.specs.Spellings.{NoSpellingBeginsAnother}
-use Rattle.ed_notation.proofs.Tests.{RowMeans, row_means}
-
--- an ending row is at least 13
-ends_high : (b : Begun) (c : ℕ) → ends (row_kind c) b ≡ true → 13 ≤ c
-ends_high b c = by_kind (row_kind c) (row_means c)
-  where
-    by_kind : (r : RowKind) → RowMeans r c → ends r b ≡ true → 13 ≤ c
-    by_kind Digit means h = cc
-    by_kind Mark means h = cc
-    by_kind Other means h = cc
-    by_kind r means h = omega (arith, means)
+use Rattle.ed_notation.proofs.Tests.{end_range}
 
 head_same : {a b : ℕ} {xs ys : List ℕ} → a ∷ xs ≡ b ∷ ys → a ≡ b
 head_same e = cc
@@ -22,22 +11,16 @@ head_same e = cc
 tail_same : {a b : ℕ} {xs ys : List ℕ} → a ∷ xs ≡ b ∷ ys → xs ≡ ys
 tail_same e = cc
 
-record Same (ds ds' : List ℕ) (m m' : Bool) (e e' : ℕ) (a a' : List ℕ) : Type 0 where
-  digits : ds ≡ ds'
-  mark : m ≡ m'
-  end : e ≡ e'
-  rest : a ≡ a'
-
 -- the rows after a function row
 tails : {ds ds' : List ℕ} {m m' : Bool} {e e' : ℕ} {a a' : List ℕ} → AreDigits ds → AreDigits ds' → 13 ≤ e → 13 ≤ e'
-    → ds ++ (mark_rows m ++ (e ∷ a)) ≡ ds' ++ (mark_rows m' ++ (e' ∷ a')) → Same ds ds' m m' e e' a a'
+    → ds ++ (mark_rows m ++ (e ∷ a)) ≡ ds' ++ (mark_rows m' ++ (e' ∷ a')) → (ds ≡ ds') × (m ≡ m') × (e ≡ e') × (a ≡ a')
 tails {ds = []} {ds' = []} {m = true} {m' = true} p q h k x =
     let t = tail_same x in
-    record { digits = refl; mark = refl; end = head_same t; rest = tail_same t }
+    (refl, refl, head_same t, tail_same t)
 tails {ds = []} {ds' = []} {m = true} {m' = false} p q h k x = absurd (omega (arith, k, head_same x))
 tails {ds = []} {ds' = []} {m = false} {m' = true} p q h k x = absurd (omega (arith, h, head_same x))
 tails {ds = []} {ds' = []} {m = false} {m' = false} p q h k x =
-    record { digits = refl; mark = refl; end = head_same x; rest = tail_same x }
+    (refl, refl, head_same x, tail_same x)
 tails {ds = []} {ds' = (d ∷ ds')} {m = true} p q h k x = absurd (omega (arith, q.0, head_same x))
 tails {ds = []} {ds' = (d ∷ ds')} {m = false} p q h k x = absurd (omega (arith, q.0, h, head_same x))
 tails {ds = (d ∷ ds)} {ds' = []} {m' = true} p q h k x = absurd (omega (arith, p.0, head_same x))
@@ -45,11 +28,7 @@ tails {ds = (d ∷ ds)} {ds' = []} {m' = false} p q h k x = absurd (omega (arith
 tails {ds = (d ∷ ds)} {ds' = (d' ∷ ds')} p q h k x =
     let r = tails p.1 q.1 h k (tail_same x) in
     let y = head_same x in
-    record { digits = λ i. y i ∷ r.digits i; mark = r.mark; end = r.end; rest = r.rest }
-
-record SameItem (v w : Written) (a b : List ℕ) : Type 0 where
-  item : v ≡ w
-  rest : a ≡ b
+    (λ i. y i ∷ r.0 i, r.1, r.2, r.3)
 
 apart : (w : Written) (a : List ℕ)
     → rows_of w ++ a ≡ w.begun.function ∷ (w.begun.digits ++ (mark_rows w.begun.mark ++ (w.end ∷ a)))
@@ -58,36 +37,30 @@ apart w a =
 
 -- the item that the first rows spell is one item
 one_item : (v w : Written) (a b : List ℕ) → IsWritten v → IsWritten w → rows_of v ++ a ≡ rows_of w ++ b
-    → SameItem v w a b
+    → (v ≡ w) × (a ≡ b)
 one_item v w a b p q e =
     let x = sym (apart v a) ∙ e ∙ apart w b in
     let f = head_same x in
-    let h = ends_high v.begun v.end p.ended in
-    let k = ends_high w.begun w.end q.ended in
+    let h = (end_range v.begun v.end p.ended).0 in
+    let k = (end_range w.begun w.end q.ended).0 in
     let r = tails p.begun.digits q.begun.digits h k (tail_same x) in
-    record {
-      item = λ i. record { begun = record { function = f i; digits = r.digits i; mark = r.mark i }; end = r.end i };
-      rest = r.rest;
-    }
+    (λ i. record { begun = record { function = f i; digits = r.0 i; mark = r.1 i }; end = r.2 i }, r.3)
 
 -- the law
 pub none_begins : NoSpellingBeginsAnother
 none_begins i j rows more p q =
     let e = ap (λ x. x ++ more) p.rows_are ∙ sym q.rows_are ∙ sym (append-nil _) in
     let r = one_item _ _ more [] p.good q.good e in
-    (sym p.item_is ∙ ap item r.item ∙ q.item_is, r.rest)
-
-none_empty : (w : Written) (xs : List ℕ) → (let x : List ℕ = [] in x) ≡ rows_of w ++ xs → ⊥
-none_empty w xs e = cc
+    (sym p.item_is ∙ ap item r.0 ∙ q.item_is, r.1)
 
 one_list : (vs ws : List Written) → AreWritten vs → AreWritten ws → spelled_rows vs ≡ spelled_rows ws → vs ≡ ws
 one_list [] [] p q e = refl
-one_list [] (w ∷ ws) p q e = absurd (none_empty w (spelled_rows ws) e)
-one_list (v ∷ vs) [] p q e = absurd (none_empty v (spelled_rows vs) (sym e))
+one_list [] (w ∷ ws) p q e = cc
+one_list (v ∷ vs) [] p q e = cc
 one_list (v ∷ vs) (w ∷ ws) p q e =
     let r = one_item v w _ _ p.0 q.0 e in
-    let x = r.item in
-    let y = one_list vs ws p.1 q.1 r.rest in
+    let x = r.0 in
+    let y = one_list vs ws p.1 q.1 r.1 in
     cc
 
 -- the rows spell no other list of items

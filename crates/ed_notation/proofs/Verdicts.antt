@@ -5,7 +5,7 @@ use Rattle.ed_notation.proofs.Kit.{NotationState, Arrived, Faulty, ReadingIsRule
 entry_of : {e f : TapeEntry} → Arrived e ≡ Arrived f → e ≡ f
 entry_of is = cc
 
-row_of : {r q : ℕ} {a b : TapeCause} → Faulty r a ≡ Faulty q b → (r ≡ q) × (a ≡ b)
+pub row_of : {r q : ℕ} {a b : TapeCause} → Faulty r a ≡ Faulty q b → (r ≡ q) × (a ≡ b)
 row_of is = (cc, cc)
 
 module _ {z : Size} {words : List ℕ} {start : NotationState} {base : ℕ} {rows : List ℕ}

@@ -47,33 +47,26 @@ pub record Digits (n : ℕ) : Type 0 where
       + length (shown (began n 2) (n / 10 % 10))
       ≡ length (digits_before_units n)
 
+digit_is : (p n q : ℕ) (b : Bool) → begun b q ≡ nat_le p n → q ≡ n / p % 10
+    → (shown b q ≡ digit_at p n) × (digit_sum (digit_at p n) ≡ q)
+digit_is p n q b e s =
+    let is : shown b q ≡ digit_at p n = is_shown b q ∙ rw (e, s) refl in (is, ap digit_sum (sym is) ∙ sum_shown b q)
+
 pub digits_are : (n : ℕ) → n < 10000 → Digits n
 digits_are n low =
     let begun1 : began n 1 ≡ nat_le 1000 n = is_begun false (n / 1000) ∙ grind (arith, nat_tests) in
     let begun2 : began n 2 ≡ nat_le 100 n = is_begun (began n 1) (n / 100 % 10)
     ∙ rw begun1 (grind (arith, nat_tests)) in
     let begun3 : began n 3 ≡ nat_le 10 n = is_begun (began n 2) (n / 10 % 10) ∙ rw begun2 (grind (arith, nat_tests)) in
-    let same : n / 1000 % 10 ≡ n / 1000 = omega arith in
-    let s1 : shown false (n / 1000) ≡ digit_at 1000 n = is_shown false (n / 1000) ∙ rw (begun1, same) refl in
-    let s2 : shown (began n 1) (n / 100 % 10) ≡ digit_at 100 n = is_shown (began n 1) (n / 100 % 10) ∙ rw begun2 refl in
-    let s3 : shown (began n 2) (n / 10 % 10) ≡ digit_at 10 n = is_shown (began n 2) (n / 10 % 10) ∙ rw begun3 refl in
-    let t1 : digit_sum (digit_at 1000 n) ≡ n / 1000 = ap digit_sum (sym s1) ∙ sum_shown false (n / 1000) in
-    let t2 : digit_sum (digit_at 100 n) ≡ n / 100 % 10 = ap digit_sum (sym s2) ∙ sum_shown (began n 1) (n / 100 % 10) in
-    let t3 : digit_sum (digit_at 10 n) ≡ n / 10 % 10 = ap digit_sum (sym s3) ∙ sum_shown (began n 2) (n / 10 % 10) in
+    let d1 = digit_is 1000 n (n / 1000) false begun1 (omega arith) in
+    let d2 = digit_is 100 n (n / 100 % 10) (began n 1) begun2 refl in
+    let d3 = digit_is 10 n (n / 10 % 10) (began n 2) begun3 refl in
+    let front = digit_at 100 n ++ digit_at 10 n in
     record {
-      are = rw (s1, s2, s3) refl;
-      sum = omega (
-        arith,
-        t1,
-        t2,
-        t3,
-        sum_append (digit_at 1000 n) (digit_at 100 n ++ digit_at 10 n),
-        sum_append (digit_at 100 n) (digit_at 10 n),
-      );
-      count = rw (s1, s2, s3) (
-          omega (
-            arith,
-            length-append (digit_at 1000 n) (digit_at 100 n ++ digit_at 10 n),
-            length-append (digit_at 100 n) (digit_at 10 n),
-          ));
+      are = rw (d1.0, d2.0, d3.0) refl;
+      sum =
+          let all = sum_append (digit_at 1000 n) front in
+          omega (arith, d1.1, d2.1, d3.1, all, sum_append (digit_at 100 n) (digit_at 10 n));
+      count = rw (d1.0, d2.0, d3.0)
+          (omega (arith, length-append (digit_at 1000 n) front, length-append (digit_at 100 n) (digit_at 10 n)));
     }

@@ -4,8 +4,8 @@ use Rattle.ed_postmortem.proofs.Kit.{block, block_cost, [], ap, arith, if◌then
 use Rattle.ed_postmortem.proofs.Kit.{None, Option, refl, Some, subst, sym, true, ℕ, ◌*◌, ◌++◌, ◌+◌, ◌<◌, ◌∙◌, ◌∷◌, ◌≡◌}
 use Rattle.ed_postmortem.proofs.Kit.{◌≤◌, locations, least, TapeEntry, over, spelled_rows, count_item, orders}
 use Rattle.ed_postmortem.proofs.Kit.{rows_of_text, tape_rows}
-use Rattle.ed_notation.proofs.Kit.{EndsSound, RowsReachEntry, WellFormed, is_entry, NotationState, rows_of}
-use Rattle.ed_notation.proofs.Kit.{IsDirective, canonical}
+use Rattle.ed_notation.proofs.Kit.{EndsSound, RowsReachEntry, WellFormed, is_entry, NotationState, rows_of, IsDirective}
+use Rattle.ed_notation.proofs.Kit.{canonical}
 use Rattle.ed_words.specs.declared.order_words.TheConstants.{E_F}
 use Rattle.ed_notation.specs.Openings.{opening}
 use Rattle.ed_notation.proofs.Canonical.{is_written}
@@ -54,7 +54,8 @@ rows_are first count =
     let split : (f ++ (c ++ [])) ++ rest ≡ f ++ (c ++ rest) = append_assoc f (c ++ []) rest
     ∙ ap (λ x. f ++ x) (append_assoc c [] rest) in
     let bs : List Item = before first count in
-    let whole : spelled_rows (canonicals (bs ++ (last ∷ []))) ≡ spelled_rows (canonicals bs) ++ (rows_of (canonical last) ++ []) =
+    let whole : spelled_rows (canonicals (bs ++ (last ∷ [])))
+    ≡ spelled_rows (canonicals bs) ++ (rows_of (canonical last) ++ []) =
     ap spelled_rows (canonicals-append bs (last ∷ [])) ∙ spelled-append (canonicals bs) (canonicals (last ∷ [])) in
     ap (λ x. rows_of_text (codes "T45K") ++ ((f ++ (c ++ [])) ++ x)) behind_are
     ∙ ap (λ x. rows_of_text (codes "T45K") ++ x) split
@@ -120,10 +121,7 @@ module _ (z : Size) (words : List ℕ) (first count : ℕ) (f_fits : first ≤ 1
   -- E 56 K
   entry_set : Reads z words at_orders enters at_last 40
   entry_set =
-      let r = reads_one z words (plain 3 56 14) refl
-      (aiming_entry z words at_orders 56 (lit≤ tt))
-      (reads_none z words at_last) in
-      record { are_read = r.are_read; are_sound = r.are_sound; folds = r.folds; costs_are = r.costs_are }
+      reads_one z words (plain 3 56 14) refl (aiming_entry z words at_orders 56 (lit≤ tt)) (reads_none z words at_last)
 
   abbrev pub items_cost : ℕ
   items_cost = 148 + 9 * (length (digits_of first) + length (digits_of count)) + (block_cost listing + 40)

@@ -11,12 +11,12 @@ pub use Rattle.ed_machine.proofs.Kit.Window.{get_above}
 pub use Rattle.ed_machine.proofs.Kit.Zeros.{begun, shown}
 pub use Rattle.ed_run.specs.Run.{IsRun}
 pub use Rattle.ed_notation.specs.declared.item.Item.{Item}
-pub use Rattle.ed_notation.proofs.Kit.{append_assoc, length-append, le-leb, locations_most, canonicals, digit_at, digits_of}
-pub use Rattle.ed_notation.proofs.Kit.{is_spellable}
+pub use Rattle.ed_notation.proofs.Kit.{append_assoc, length-append, le-leb, locations_most, canonicals, digit_at}
+pub use Rattle.ed_notation.proofs.Kit.{digits_of, is_spellable}
 pub use Rattle.ed_notation.proofs.Placing.{block, block_cost}
 pub use Rattle.ed_initial.proofs.Kit.{[], ap, arith, Bool, drop, false, get_or, if◌then◌else◌, inl, inr, length, List}
-pub use Rattle.ed_initial.proofs.Kit.{lit<, lit≤, nat_le, nat_lt, None, Option, refl, Some, subst, suc, sym, true}
-pub use Rattle.ed_initial.proofs.Kit.{zero, ℕ, ◌%◌, ◌*◌, ◌++◌, ◌+◌, ◌-◌, ◌/◌, ◌<◌, ◌^◌, ◌∙◌, ◌∷◌, ◌≡◌, ◌≤◌, cases_lt}
+pub use Rattle.ed_initial.proofs.Kit.{lit<, lit≤, nat_le, nat_lt, None, Option, refl, Some, subst, suc, sym, true, zero}
+pub use Rattle.ed_initial.proofs.Kit.{ℕ, ◌%◌, ◌*◌, ◌++◌, ◌+◌, ◌-◌, ◌/◌, ◌<◌, ◌^◌, ◌∙◌, ◌∷◌, ◌≡◌, ◌≤◌, cases_lt}
 pub use Rattle.ed_initial.proofs.Kit.{nat_tests, locations, least, Obeyed, State, state_after, Moment, TapeEntry, over}
 pub use Rattle.ed_initial.proofs.Kit.{spelled_rows}
 unfoldable pub use Rattle.ed_initial.proofs.Kit.{step, patched}

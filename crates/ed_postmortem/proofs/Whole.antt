@@ -1,10 +1,10 @@
 -- The post-mortem from its start to its stop.
 use Rattle.ed_postmortem.proofs.Kit.{C_F, O_F, T_F, Sheet, Ending, Stopped, Frame, Leads, get_above, IsRun}
-use Rattle.ed_postmortem.proofs.Kit.{length-append, locations_most, block, block_cost, [], ap, arith, Bool, drop, false, get_or}
-use Rattle.ed_postmortem.proofs.Kit.{inl, inr, length, List, Option, refl, subst, suc, sym, zero, ℕ, ◌%◌, ◌*◌, ◌++◌}
-use Rattle.ed_postmortem.proofs.Kit.{◌+◌, ◌-◌, ◌^◌, ◌∙◌, ◌≡◌, ◌≤◌, locations, least, Obeyed, step, State, state_after}
-use Rattle.ed_postmortem.proofs.Kit.{Moment, patched, TapeEntry, over, IsPrinted, printed_codes, words_orders}
-use Rattle.ed_postmortem.proofs.Kit.{tape_rows}
+use Rattle.ed_postmortem.proofs.Kit.{length-append, locations_most, block, block_cost, [], ap, arith, Bool, drop, false}
+use Rattle.ed_postmortem.proofs.Kit.{get_or, inl, inr, length, List, Option, refl, subst, suc, sym, zero, ℕ, ◌%◌, ◌*◌}
+use Rattle.ed_postmortem.proofs.Kit.{◌++◌, ◌+◌, ◌-◌, ◌^◌, ◌∙◌, ◌≡◌, ◌≤◌, locations, least, Obeyed, step, State}
+use Rattle.ed_postmortem.proofs.Kit.{state_after, Moment, patched, TapeEntry, over, IsPrinted, printed_codes}
+use Rattle.ed_postmortem.proofs.Kit.{words_orders, tape_rows}
 use Rattle.ed_initial.proofs.Kit.{set, IsStore, start_state, at_entry, entry_words, ReachesEntry, initial_orders}
 use Rattle.std.proofs.lemmas.List.{get_or-set_same, get_or-set_other, length-set, length-drop}
 use Rattle.ed_machine.proofs.Kit.Frames.{state}
@@ -25,19 +25,13 @@ use Rattle.ed_postmortem.proofs.Stops.{behind_stop, run_stops}
 use Rattle.ed_postmortem.proofs.Entry as tape
 
 -- what is printed, and in how many orders, depends only on the words from the first one upwards
-codes_same : (count : ℕ) (xs ys : List ℕ) (p : ℕ) → ((i : ℕ) → p ≤ i → get_or xs i 0 ≡ get_or ys i 0)
-    → printed_codes xs p count ≡ printed_codes ys p count
-unfolding printed_codes
-codes_same zero xs ys p h = refl
-codes_same (suc count) xs ys p h =
-    rw (h p (omega arith), codes_same count xs ys (p + 1) (λ i l. h i (omega arith))) refl
-
-orders_same : (count : ℕ) (xs ys : List ℕ) (p : ℕ) → ((i : ℕ) → p ≤ i → get_or xs i 0 ≡ get_or ys i 0)
-    → words_orders xs p count ≡ words_orders ys p count
-unfolding words_orders
-orders_same zero xs ys p h = refl
-orders_same (suc count) xs ys p h =
-    rw (h p (omega arith), orders_same count xs ys (p + 1) (λ i l. h i (omega arith))) refl
+same_words : (count : ℕ) (xs ys : List ℕ) (p : ℕ) → ((i : ℕ) → p ≤ i → get_or xs i 0 ≡ get_or ys i 0)
+    → (printed_codes xs p count ≡ printed_codes ys p count) × (words_orders xs p count ≡ words_orders ys p count)
+unfolding printed_codes words_orders
+same_words zero xs ys p h = (refl, refl)
+same_words (suc count) xs ys p h =
+    let rest = same_words count xs ys (p + 1) (λ i l. h i (omega arith)) in
+    rw (h p (omega arith), rest.0, rest.1) (refl, refl)
 
 -- what the orders of the tape cost
 listing_cost : block_cost listing ≡ 3102
@@ -243,10 +237,10 @@ module _ {s : State} {first count : ℕ} (store : IsStore s.store) (range : InRa
   stop = all.stops.does (done + k)
 
   codes_are : printed_codes around first count ≡ printed_codes s.store.words first count
-  codes_are = codes_same count around s.store.words first kept_far
+  codes_are = (same_words count around s.store.words first kept_far).0
 
   orders_are : words_orders around first count ≡ words_orders s.store.words first count
-  orders_are = orders_same count around s.store.words first kept_far
+  orders_are = (same_words count around s.store.words first kept_far).1
 
   few : suc k ≤ 230000
   few = omega (arith, all_few count around first, range.within, range.above, locations_most s.size)

@@ -1,10 +1,9 @@
 -- One more order of a run.
-use Rattle.ed_run.proofs.Kit.{nat_le, Sheet, Ending, Limit, Stopped, Turn, NoOrder, NoTape, Printed, Went, [], ap}
-use Rattle.ed_run.proofs.Kit.{arith, Bool, false, inl, inr, length, length-append, None, refl, rules, Some, sym, true}
-use Rattle.ed_run.proofs.Kit.{ℕ, ◌+◌, ◌-◌, ◌<◌, ◌∙◌, ◌≡◌, ◌≤◌, ◌⊎◌, nat_tests, step, State, codes_of, is_obeyed}
-use Rattle.ed_run.proofs.Kit.{progress, state_after, stops_of, end_at, end_by, EndsAfter, IsRun, prints}
+use Rattle.ed_run.proofs.Kit.{nat_le, Sheet, Ending, Limit, Stopped, Turn, Printed, Went, [], ap, arith, Bool, false}
+use Rattle.ed_run.proofs.Kit.{inl, inr, length, length-append, None, refl, rules, sym, true, ℕ, ◌+◌, ◌-◌, ◌<◌, ◌∙◌, ◌≡◌}
+use Rattle.ed_run.proofs.Kit.{◌≤◌, ◌⊎◌, nat_tests, step, State, codes_of, is_obeyed, progress, state_after, stops_of}
+use Rattle.ed_run.proofs.Kit.{end_at, end_by, EndsAfter, IsRun, prints}
 use Rattle.std.proofs.Common.{◌++◌, below_more, Option, append_assoc, subst}
-use Rattle.ed_machine.specs.declared.ending.Ending.TheVariants.{PaperFull}
 use Rattle.ed_machine.specs.declared.turn.Turn.TheVariants.{Stopped as Stops}
 use Rattle.ed_machine.proofs.Steps.{next_state, next_stops, past_next}
 use Rattle.ed_run.proofs.Ends.{limit_ends, stop_ends}
@@ -34,11 +33,6 @@ module _ {limit resumes room : ℕ} {s : State} {k : ℕ} {m : State} {stops : �
   next_end : k < limit → end_at limit resumes room k (progress k s) ≡ end_by (step m).turn full_now
   next_end below = search rules
 
-  -- it ends before its next order
-  pub past_blocks : {ending : Ending} → k < limit → end_by (step m).turn full_now ≡ Some ending
-      → EndsAfter limit resumes room s k ending
-  past_blocks below is = record { now = next_end below ∙ is; first = p.first }
-
   -- at its limit
   pub past_limit : k ≡ limit → EndsAfter limit resumes room s k Limit
   past_limit is = record { now = limit_ends limit resumes room k (progress k s) few_stops is; first = p.first }
@@ -48,8 +42,7 @@ module _ {limit resumes room : ℕ} {s : State} {k : ℕ} {m : State} {stops : �
     pub first_more : (j : ℕ) → j < k + 1 → end_at limit resumes room j (progress j s) ≡ None
     first_more = below_more (λ j. end_at limit resumes room j (progress j s) ≡ None) k p.first (next_end below ∙ none)
 
-  module _ (below : k < limit) (none : end_by (step m).turn full_now ≡ None) {turn : Turn} (is : (step m).turn ≡ turn)
-    where
+    module _ {turn : Turn} (is : (step m).turn ≡ turn) where
       stops_more : (progress (k + 1) s).stops ≡ stops + stops_of turn
       stops_more =
           next_stops k s ∙ ap (λ n. n + stops_of (step (state_after k s)).turn) (sym p.stops_are)
@@ -62,14 +55,14 @@ module _ {limit resumes room : ℕ} {s : State} {k : ℕ} {m : State} {stops : �
         state = next_state k s p.state to;
         stops_are = count ∙ sym stops_more;
         within = within;
-        first = first_more below none;
+        first = first_more;
       }
 
       -- it ends with a stop for which no resume is left
       pub past_stops : resumes < stops + stops_of turn → EndsAfter limit resumes room s (k + 1) Stopped
       past_stops many = record {
         now = stop_ends limit resumes room (k + 1) (progress (k + 1) s) (omega (arith, many, stops_more));
-        first = first_more below none;
+        first = first_more;
       }
 
 -- what one order of the program did: the turn, the state and the paper after it, and the stops counted
@@ -149,16 +142,6 @@ module _ {limit resumes : ℕ} {s : State} {sheet : Sheet} {k : ℕ} {m : State}
   pub Running-later : {n : ℕ} → k ≡ n → Running limit resumes s sheet n m paper stops
   Running-later is = subst (λ j. Running limit resumes s sheet j m paper stops) is r
 
-  -- the run ends before an order that would end it
-  pub ends_here : {ending : Ending} → k < limit → end_by (step m).turn (is_full paper) ≡ Some ending
-      → IsRun limit resumes s sheet ending m paper
-  ends_here below is = record {
-    orders = k;
-    ends = past_blocks r.past below (same_end (step m).turn is);
-    state_is = r.past.state;
-    sheet_is = r.codes;
-  }
-
   -- the run ends with a stop for which no resume is left
   pub ends_with_stop : {m' : State} {paper' : Sheet} {stops' : ℕ} → k < limit
       → Took m paper stops Stops m' paper' stops' → resumes < stops' → IsRun limit resumes s sheet Stopped m' paper'
@@ -171,14 +154,6 @@ module _ {limit resumes : ℕ} {s : State} {sheet : Sheet} {k : ℕ} {m : State}
     sheet_is = taken t;
   }
 
--- an order that prints ends the run if the paper is full
-pub full_ends : (turn : Turn) (full : Bool) → full ≡ true → prints turn ≡ true → end_by turn full ≡ Some PaperFull
-full_ends (Printed code) full is printing = rw is refl
-full_ends Went full is printing = absurd (cc)
-full_ends Stops full is printing = absurd (cc)
-full_ends (NoOrder function) full is printing = absurd (cc)
-full_ends NoTape full is printing = absurd (cc)
-
 -- an order that was obeyed doesn't end the run if the paper has room or nothing is printed
 pub none_ends : (turn : Turn) (full : Bool) → is_obeyed turn ≡ true → (full ≡ false) ⊎ (prints turn ≡ false)
     → end_by turn full ≡ None
@@ -186,5 +161,4 @@ none_ends Went full obeyed either = refl
 none_ends Stops full obeyed either = refl
 none_ends (Printed code) full obeyed (inl room) = rw room refl
 none_ends (Printed code) full obeyed (inr silent) = absurd (cc)
-none_ends (NoOrder function) full obeyed either = absurd (cc)
-none_ends NoTape full obeyed either = absurd (cc)
+none_ends turn full obeyed either = absurd (cc)

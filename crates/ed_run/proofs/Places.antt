@@ -1,9 +1,7 @@
 -- When a run ends, if each of its orders is obeyed and has room.
-use Rattle.ed_run.proofs.Kit.{nat_le, Ending, Limit, Stopped, Turn, NoOrder, NoTape, Printed, Went, ap, arith, Bool}
-use Rattle.ed_run.proofs.Kit.{false, length, length-append, None, refl, Some, suc, sym, true, ℕ, ◌+◌, ◌-◌, ◌<◌, ◌∙◌}
-use Rattle.ed_run.proofs.Kit.{◌≡◌, ◌≤◌, step, State, codes_of, is_obeyed, progress, Progress, state_after, stops_of}
-use Rattle.ed_run.proofs.Kit.{end_at, end_by, EndsAfter}
-use Rattle.std.proofs.Common.{true≢false}
+use Rattle.ed_run.proofs.Kit.{nat_le, Ending, Limit, Stopped, Turn, NoOrder, NoTape, Printed, ap, arith, Bool, length}
+use Rattle.ed_run.proofs.Kit.{length-append, None, refl, Some, suc, true, ℕ, ◌+◌, ◌-◌, ◌<◌, ◌∙◌, ◌≡◌, ◌≤◌, step, State}
+use Rattle.ed_run.proofs.Kit.{codes_of, is_obeyed, progress, Progress, state_after, stops_of, end_at, end_by, EndsAfter}
 use Rattle.std.proofs.lemmas.Bool.{leb-true}
 use Rattle.ed_machine.specs.declared.turn.Turn.TheVariants.{Stopped as Stops}
 use Rattle.ed_machine.proofs.Steps.{past_sum}
@@ -36,12 +34,10 @@ grows j d s =
 -- an order that is obeyed doesn't end the run if it prints nothing or has room
 goes_by : (turn : Turn) (full : Bool) → is_obeyed turn ≡ true → (full ≡ true → length (codes_of turn) ≡ 0)
     → end_by turn full ≡ None
-goes_by Went full o h = refl
 goes_by (Printed code) true o h = absurd (let e = h refl in omega arith)
-goes_by (Printed code) false o h = refl
-goes_by Stops full o h = refl
-goes_by (NoOrder function) full o h = absurd (true≢false (sym o))
-goes_by NoTape full o h = absurd (true≢false (sym o))
+goes_by (NoOrder function) full o h = cc
+goes_by NoTape full o h = cc
+goes_by turn full o h = refl
 
 -- no end comes before an order that is obeyed and has room, if resumes are left
 not_before : (limit resumes : ℕ) {room k : ℕ} {s : State} → HasRoom room k s → k ≤ limit → (j : ℕ) → j < k

@@ -1,7 +1,6 @@
 -- The orders of a run whose paper is never full.
-use Rattle.ed_stepper.proofs.Kit.{Turn, NoOrder, NoTape, Printed, Stopped, Went, step, State, is_obeyed, progress}
-use Rattle.ed_stepper.proofs.Kit.{stops_of, ap, arith, inl, inr, length, nat_le, None, refl, sym, true, ℕ, ◌<◌, ◌∙◌}
-use Rattle.ed_stepper.proofs.Kit.{◌≡◌, ◌⊎◌}
+use Rattle.ed_stepper.proofs.Kit.{Turn, Printed, Stopped, Went, step, State, is_obeyed, progress, stops_of, ap, arith}
+use Rattle.ed_stepper.proofs.Kit.{inl, inr, length, nat_le, None, refl, sym, true, ℕ, ◌<◌, ◌∙◌, ◌≡◌, ◌⊎◌}
 use Rattle.std.proofs.lemmas.Bool.{lt-leb}
 use Rattle.ed_machine.proofs.Steps.{few_codes}
 use Rattle.ed_run.specs.Run.{end_by}
@@ -15,10 +14,7 @@ obeyed_turn t (inr (inr e)) = ap is_obeyed e
 
 pub no_stop : (t : Turn) → (t ≡ Stopped → ⊥) → stops_of t ≡ 0
 no_stop Stopped h = absurd (h refl)
-no_stop Went h = refl
-no_stop (Printed code) h = refl
-no_stop (NoOrder function) h = refl
-no_stop NoTape h = refl
+no_stop t h = refl
 
 -- below the limit such an order doesn't end the run
 pub never_ends : (s m : State) {limit k : ℕ} {turn : Turn} → k < limit → turn ≡ (step m).turn → is_obeyed turn ≡ true

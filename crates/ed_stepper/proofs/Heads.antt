@@ -1,10 +1,10 @@
 -- The first line of a text, and the first part of a line.
-use Rattle.ed_stepper.proofs.Kit.{position_or_len, eq-eqb, ne_eqb, drop_all, take_rest, eqb-true, [], ap, arith, Bool}
-use Rattle.ed_stepper.proofs.Kit.{drop, false, if◌then◌else◌, length, not, refl, suc, sym, take, true, zero, ℕ, ◌++◌}
-use Rattle.ed_stepper.proofs.Kit.{◌+◌, ◌-◌, ◌<◌, ◌==◌, ◌∙◌, ◌∷◌, ◌≡◌, ◌≤◌, Text, has_end, lines_of, with_byte}
-use Rattle.ed_stepper.proofs.Kit.{without_return, begins_part, is_space, parts_between_spaces, line_feed_place}
+use Rattle.ed_stepper.proofs.Kit.{eq-eqb, ne_eqb, take_rest, eqb-true, [], ap, arith, Bool, drop, false, if◌then◌else◌}
+use Rattle.ed_stepper.proofs.Kit.{length, not, refl, suc, sym, take, true, zero, ℕ, ◌++◌, ◌+◌, ◌-◌, ◌<◌, ◌==◌, ◌∙◌, ◌∷◌}
+use Rattle.ed_stepper.proofs.Kit.{◌≡◌, ◌≤◌, Text, has_end, lines_of, with_byte, without_return, begins_part, is_space}
+use Rattle.ed_stepper.proofs.Kit.{parts_between_spaces, line_feed_place}
 use Rattle.ed_syntax.proofs.Kit.{get_or, nat_lt, lt-ltb, take_all}
-use Rattle.std.proofs.lemmas.List.{drop_more, take_more}
+use Rattle.std.proofs.lemmas.List.{take_more}
 use Rattle.ed_syntax.proofs.Lines.{keeps_end, no_return, takes_ended, takes_last}
 use Rattle.ed_stepper.specs.Private.Fronts.{first_space, stop_of}
 
@@ -53,14 +53,16 @@ stop_is text (suc k) within =
     by_test false e = pushed ∙ sym (keeps_end (take k text) (get_or text k 0) e) ∙ ap without_return (sym pushed)
 
 -- a first line that ends
-first_ended : (text : Text) (stop : ℕ) → line_feed_place text < length text → stop ≡ stop_of text (line_feed_place text)
-    → lines_of text ≡ take stop text ∷ lines_of (drop (line_feed_place text + 1) text)
-first_ended text stop low is =
-    (takes_ended text (take stop text) (line_feed_place text) low (no_end_before text) (end_there text low)
-    (ap (λ n. take n text) is ∙ stop_is text (line_feed_place text) (omega arith))).lines
+pub line_ended : (text : Text) (end stop : ℕ) → end ≡ line_feed_place text → end < length text → stop ≡ stop_of text end
+    → lines_of text ≡ take stop text ∷ lines_of (drop (end + 1) text)
+line_ended text end stop place low is =
+    let below : line_feed_place text < length text = omega (arith, place, low) in
+    rw place (takes_ended text (take stop text) (line_feed_place text) below (no_end_before text) (end_there text below)
+    (ap (λ n. take n text) (is ∙ ap (stop_of text) place) ∙ stop_is text (line_feed_place text) (omega arith))).lines
 
 -- a first line that is the whole text
-pub first_last : (text : Text) → 0 < length text → length text ≤ line_feed_place text → lines_of text ≡ text ∷ lines_of []
+pub first_last : (text : Text) → 0 < length text → length text ≤ line_feed_place text
+    → lines_of text ≡ text ∷ lines_of []
 first_last text some past =
     (takes_last text some (rw (take_all (line_feed_place text) text past) at (no_end_before text))).lines
 
@@ -94,37 +96,6 @@ part_at (b ∷ bs) begin = by_test (is_space b) refl begin (part_at bs)
     by_test true e h more = absurd (cc)
     by_test false e h more = let s = one_more (first_space bs) in rw (e, s) (after (begins_part bs) refl more)
 
--- ---- the place of a byte
-
--- by its place in what is left of the text: a byte that differs is passed
-pub position_or_len-passed : (wanted : ℕ) (text : Text) (i : ℕ) → i < length text → (get_or text i 0 ≡ wanted → ⊥)
-    → position_or_len (λ b. b == wanted) (drop i text) ≡ 1 + position_or_len (λ b. b == wanted) (drop (i + 1) text)
-position_or_len-passed wanted text i below other =
-    let e = drop_more text i 0 below in
-    let differs = ne_eqb (get_or text i 0) wanted other in
-    rw (e, differs) refl
-
--- and the byte is found
-pub position_or_len-found : (wanted : ℕ) (text : Text) (i : ℕ) → i < length text → get_or text i 0 ≡ wanted
-    → position_or_len (λ b. b == wanted) (drop i text) ≡ 0
-position_or_len-found wanted text i below same =
-    let e = drop_more text i 0 below in
-    let equal = eq-eqb (get_or text i 0) wanted same in
-    rw (e, equal) refl
-
--- or there is none
-pub position_or_len-nowhere : (wanted : ℕ) (text : Text) (i : ℕ) → length text ≤ i
-    → position_or_len (λ b. b == wanted) (drop i text) ≡ 0
-position_or_len-nowhere wanted text i past = ap (position_or_len (λ b. b == wanted)) (drop_all i text past)
-
--- ---- what the code finds
-
-pub line_ended : (text : Text) (end stop : ℕ) → end ≡ line_feed_place text → end < length text → stop ≡ stop_of text end
-    → lines_of text ≡ take stop text ∷ lines_of (drop (end + 1) text)
-line_ended text end stop place low is =
-    first_ended text stop (omega (arith, place, low)) (is ∙ ap (stop_of text) place)
-    ∙ ap (λ n. take stop text ∷ lines_of (drop (n + 1) text)) (sym place)
-
 -- a line of no byte has no part
 pub no_part : (line : Text) → length line < 1 → parts_between_spaces line ≡ []
 no_part [] low = refl
@@ -135,14 +106,12 @@ pub space_skipped : (line : Text) → 1 ≤ length line → get_or line 0 0 ≡ 
     → parts_between_spaces line ≡ parts_between_spaces (take (length line - 1) (drop 1 line))
 space_skipped [] some is = absurd (omega (arith, some))
 space_skipped (b ∷ bs) some is =
-    let space = eq-eqb b 32 is in
-    let all = take_rest (b ∷ bs) 1 in
-    rw (space, all) refl
+    rw (eq-eqb b 32 is, take_rest (b ∷ bs) 1) refl
 
 -- any other byte begins a part
 pub part_taken : (line : Text) (end : ℕ) → 1 ≤ length line → (get_or line 0 0 ≡ 32 → ⊥) → end ≡ first_space line
     → parts_between_spaces line ≡ take end line ∷ parts_between_spaces (drop end line)
 part_taken [] end some other is = absurd (omega (arith, some))
 part_taken (b ∷ bs) end some other is =
-    let no_space = ne_eqb b 32 other in
-    part_at (b ∷ bs) (rw no_space refl) ∙ ap (λ n. take n (b ∷ bs) ∷ parts_between_spaces (drop n (b ∷ bs))) (sym is)
+    part_at (b ∷ bs) (rw (ne_eqb b 32 other) refl)
+    ∙ ap (λ n. take n (b ∷ bs) ∷ parts_between_spaces (drop n (b ∷ bs))) (sym is)

@@ -1,10 +1,12 @@
 -- Lines of a script, one after the other.
 use Rattle.ed_stepper.proofs.Kit.{is_none, append-nil, unwrap_or, [], ap, append_assoc, arith, Bool, Err, false, inl}
-use Rattle.ed_stepper.proofs.Kit.{inr, length, length-append, List, nat_eq, None, refl, Some, subst, sym, true, ℕ}
-use Rattle.ed_stepper.proofs.Kit.{◌++◌, ◌+◌, ◌∙◌, ◌∷◌, ◌≡◌, ◌≤◌, ◌⊎◌, Text, lines_of, bad_from, bad_line, commands_of}
+use Rattle.ed_stepper.proofs.Kit.{inr, length, length-append, List, nat_eq, None, refl, Some, subst, sym, true, ℕ, ◌++◌}
+use Rattle.ed_stepper.proofs.Kit.{◌+◌, ◌∙◌, ◌∷◌, ◌≡◌, ◌≤◌, ◌⊎◌, Text, lines_of, bad_from, bad_line, commands_of}
 use Rattle.ed_stepper.proofs.Kit.{line_commands, session_command, IsScript, after_text_of, is_too_far, left_by, LeftBy}
-use Rattle.ed_stepper.proofs.Kit.{play, writes, Stand, SessionCommand, Nothing}
-use Rattle.std.proofs.lemmas.Bool.{eqb-false}
+use Rattle.ed_stepper.proofs.Kit.{play, writes, Stand, SessionCommand, Nothing, Option}
+use Rattle.std.proofs.Common.{◌||◌}
+use Rattle.std.proofs.lemmas.Bool.{eqb-false, or_parts}
+use Rattle.ed_words.proofs.Choices.{if_means}
 use Rattle.ed_stepper.specs.Private.Lines.{LineEnds, fault_on}
 use Rattle.ed_stepper.specs.Scripts.{GoesTooFar, Played, TooFar, ScriptEnds}
 use Rattle.ed_stepper.specs.declared.moves.BackFault.{BackFault}
@@ -13,9 +15,6 @@ use Rattle.ed_stepper.specs.declared.moves.BackFault.TheVariants as back
 -- what lines that ran completely wrote, and the session after them
 abbrev whole_play : Text → Stand → Played
 whole_play text t = record { text = text; stand = t; refused = None }
-
-not_refused : (far : TooFar) → Some far ≡ None → ⊥
-not_refused far e = cc
 
 -- lines after others that ran completely
 play_more : (ran more : List SessionCommand) (k : ℕ) (s t : Stand) (text : Text) → play k ran s ≡ whole_play text t
@@ -38,7 +37,8 @@ play_more (c ∷ ran) more k s t text is = by_test (is_too_far c s) refl (play_m
     by_test true e before_rest =
         let far : TooFar = record { line = k; done = s.done } in
         let now : play k (c ∷ ran) s ≡ record { text = []; stand = s; refused = Some far } = rw e refl in
-        absurd (not_refused far (sym (ap (λ (p : Played). p.refused) now) ∙ ap (λ (p : Played). p.refused) is))
+        let bad : Some far ≡ None = sym (ap (λ (p : Played). p.refused) now) ∙ ap (λ (p : Played). p.refused) is in
+        cc
     by_test false e before_rest =
         let now : after_text_of (writes c s) rest ≡ whole_play text t = sym (rw e refl) ∙ is in
         let text_is : writes c s ++ rest.text ≡ text = ap (λ (p : Played). p.text) now in
@@ -74,18 +74,11 @@ playing_first script text s good none = record {
 }
 
 -- a bad line is not among them
-record Good (line : ℕ) (bytes : Text) (rest : List Text) : Type 0 where
-  pub below : nat_eq line 1001 ≡ false
-  pub some : is_none (session_command bytes) ≡ false
-  pub more : bad_from (line + 1) rest ≡ None
-
-good_first : (line : ℕ) (bytes : Text) (rest : List Text) → bad_from line (bytes ∷ rest) ≡ None → Good line bytes rest
-good_first line bytes rest good = by_test (nat_eq line 1001) (is_none (session_command bytes)) refl refl
-  where
-    by_test : (a b : Bool) → nat_eq line 1001 ≡ a → is_none (session_command bytes) ≡ b → Good line bytes rest
-    by_test true b e f = let bad : Some line ≡ None = sym (rw e refl) ∙ good in absurd (cc)
-    by_test false true e f = let bad : Some line ≡ None = sym (rw (e, f) refl) ∙ good in absurd (cc)
-    by_test false false e f = record { below = e; some = f; more = sym (rw (e, f) refl) ∙ good }
+good_first : (line : ℕ) (bytes : Text) (rest : List Text) → bad_from line (bytes ∷ rest) ≡ None
+    → (nat_eq line 1001 ≡ false) × (bad_from (line + 1) rest ≡ None)
+good_first line bytes rest = if_means
+    (λ (o : Option ℕ). o ≡ None → (nat_eq line 1001 ≡ false) × (bad_from (line + 1) rest ≡ None))
+    (nat_eq line 1001 || is_none (session_command bytes)) _ _ (λ e h. cc) (λ e h. ((or_parts _ _ e).0, h))
 
 -- the lines so far have run
 pub playing_left : {script : Text} {s : Stand} {line : ℕ} {rest text : Text} {t : Stand}
@@ -108,7 +101,7 @@ module _ {script : Text} {s : Stand} {line : ℕ} {rest text : Text} {t : Stand}
 
   -- there is a next one
   module _ (more : Text) {bytes : Text} (is : lines_of rest ≡ bytes ∷ lines_of more) where
-    good : Good line bytes (lines_of more)
+    good : (nat_eq line 1001 ≡ false) × (bad_from (line + 1) (lines_of more) ≡ None)
     good = good_first line bytes (lines_of more) (sym (ap (bad_from line) is) ∙ p.good)
 
     module _ {c : SessionCommand} (command : session_command bytes ≡ Some c) where
@@ -134,8 +127,8 @@ module _ {script : Text} {s : Stand} {line : ℕ} {rest text : Text} {t : Stand}
               refused = None;
             });
             number = omega (arith, p.number, length-append p.ran (c ∷ []));
-            good = good.more;
-            few = let other = eqb-false line 1001 good.below in omega (arith, p.few);
+            good = good.1;
+            few = let other = eqb-false line 1001 good.0 in omega (arith, p.few);
           }
 
       -- it goes back too far

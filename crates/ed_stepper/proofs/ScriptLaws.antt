@@ -2,87 +2,52 @@
 use Rattle.ed_stepper.proofs.Kit.{is_none, append-nil, unwrap_or, [], ap, arith, Bool, false, if◌then◌else◌, inl, inr}
 use Rattle.ed_stepper.proofs.Kit.{length, List, None, Option, refl, Some, subst, sym, true, ℕ, ◌++◌, ◌+◌, ◌==◌, ◌∙◌}
 use Rattle.ed_stepper.proofs.Kit.{◌∷◌, ◌≡◌, ◌≤◌, ◌⊎◌, Decides-eqb, nat_tests, Text, HasLines, lines_of, read_lines_are}
-use Rattle.ed_stepper.proofs.Kit.{bad_from, bad_line, commands_of, line_commands, session_command, HasBadLine}
-use Rattle.ed_stepper.proofs.Kit.{IsScript, SessionCommand, Nothing}
-use Rattle.std.proofs.Common.{◌||◌}
+use Rattle.ed_stepper.proofs.Kit.{bad_from, bad_line, commands_of, line_commands, session_command, HasBadLine, IsScript}
+use Rattle.ed_stepper.proofs.Kit.{SessionCommand, Nothing, append_assoc, length-append, LineSaysCommand}
+use Rattle.std.proofs.Common.{lit≤, ◌||◌}
 use Rattle.ed_syntax.proofs.SourceLaws.{lines_are_read}
-use Rattle.ed_stepper.specs.ScriptLines.{EachScriptHasOneMeaning, IsBadLine, IsFirstBadLine, LinesSayCommands}
-use Rattle.ed_stepper.specs.ScriptLines.{and_more, no_command, no_more, too_many_lines}
+use Rattle.ed_stepper.specs.ScriptLines.{EachScriptHasOneMeaning, IsBadLine, IsFirstBadLine, LinesSayCommands, and_more}
+use Rattle.ed_stepper.specs.ScriptLines.{no_command, no_more, too_many_lines}
 use Rattle.ed_stepper.proofs.CommandLaws.{line_is_read, one_command, read_line_says, unread_says_none}
 
 -- ---- lines one after the other
 
--- the lines from the number k upwards say these commands, and there are not too many
-record SayFrom (k : ℕ) (lines : List Text) : Type 0 where
-  pub says : LinesSayCommands lines (line_commands lines)
-  pub few : length lines + k ≤ 1001
+-- one more line that says a command
+says_more : {lines : List Text} {cs : List SessionCommand} {line : Text} {c : SessionCommand}
+    → LinesSayCommands lines cs → LineSaysCommand line c → LinesSayCommands (lines ++ line ∷ []) (cs ++ c ∷ [])
+says_more no_more s = and_more _ [] _ [] s no_more
+says_more (and_more l lines d cs t says) s = and_more l _ d _ t (says_more says s)
 
--- the first bad one of these lines, and what the lines before it say
-record BadFrom (k : ℕ) (lines : List Text) (number : ℕ) : Type 0 where
-  pub before : List Text
-  pub line : Text
-  pub after : List Text
-  pub said : List SessionCommand
-  pub lines_are : lines ≡ before ++ line ∷ after
-  pub says : LinesSayCommands before said
-  pub number_is : number ≡ length before + k
-  pub bad : IsBadLine number line
-
-abbrev IsAnswerFrom : ℕ → List Text → Option ℕ → Type 0
-IsAnswerFrom k lines None = SayFrom k lines
-IsAnswerFrom k lines (Some number) = BadFrom k lines number
-
--- a good line before others
-and_good : (k : ℕ) (line : Text) (lines : List Text) (c : SessionCommand) (o : Option ℕ) → session_command line ≡ Some c
-    → IsAnswerFrom (k + 1) lines o → IsAnswerFrom k (line ∷ lines) o
-and_good k line lines c None e a =
-    let few = a.few in
-    let says = and_more line lines c _ (read_line_says line c e) a.says in
-    record {
-      says = subst (λ (x : SessionCommand). LinesSayCommands (line ∷ lines) (x ∷ line_commands lines))
-          (sym (ap (λ (o : Option SessionCommand). unwrap_or o Nothing) e)) says;
-      few = omega (arith, few);
-    }
-and_good k line lines c (Some number) e a =
-    let is = a.number_is in
-    record {
-      before = line ∷ a.before;
-      line = a.line;
-      after = a.after;
-      said = c ∷ a.said;
-      lines_are = ap (λ (t : List Text). line ∷ t) a.lines_are;
-      says = and_more line a.before c a.said (read_line_says line c e) a.says;
-      number_is = omega (arith, is);
-      bad = a.bad;
-    }
-
--- a bad line before others
-at_once : (k : ℕ) (line : Text) (lines : List Text) → IsBadLine k line → BadFrom k (line ∷ lines) k
-at_once k line lines bad = record {
-  before = [];
-  line = line;
-  after = lines;
-  said = [];
-  lines_are = refl;
-  says = no_more;
-  number_is = omega arith;
-  bad = bad;
-}
-
-lines_answer : (k : ℕ) (lines : List Text) → k ≤ 1001 → IsAnswerFrom k lines (bad_from k lines)
-lines_answer k [] le = record { says = no_more; few = omega arith }
-lines_answer k (line ∷ lines) le = by_tests (k == 1001) (session_command line) refl refl (lines_answer (k + 1) lines)
+-- what is found in the lines of a script after lines that say commands
+lines_answer : {script : Text} (rest done : List Text) (cs : List SessionCommand) (k : ℕ)
+    → HasLines script (done ++ rest) → LinesSayCommands done cs → k ≡ length done + 1 → k ≤ 1001
+    → HasBadLine script (bad_from k rest)
+lines_answer [] done cs k has says is le =
+    (cs, record { lines = done; has_lines = rw append-nil at has; few = omega (arith, is); says = says }, tt)
+lines_answer {script} (line ∷ rest) done cs k has says is le =
+    by_tests (k == 1001) (session_command line) refl refl (λ c f l.
+    lines_answer rest (done ++ line ∷ []) (cs ++ c ∷ []) (k + 1) (rw (append_assoc done (line ∷ []) rest) has)
+    (says_more says (read_line_says line c f)) (omega (arith, is, length-append done (line ∷ []))) l)
   where
+    bad : IsBadLine k line → IsFirstBadLine script k
+    bad b = record {
+      before = done;
+      line = line;
+      after = rest;
+      said = cs;
+      has_lines = has;
+      says = says;
+      number_is = is;
+      bad = b;
+    }
+
     by_tests : (t : Bool) (o : Option SessionCommand) → (k == 1001) ≡ t → session_command line ≡ o
-        → (k + 1 ≤ 1001 → IsAnswerFrom (k + 1) lines (bad_from (k + 1) lines))
-        → IsAnswerFrom k (line ∷ lines) (if t || is_none o then Some k else bad_from (k + 1) lines)
-    by_tests true o e f h = at_once k line lines (too_many_lines ((Decides-eqb k 1001).0 e))
-    by_tests false None e f h =
-        let few : k ≤ 1000 = grind (arith, nat_tests) in
-        at_once k line lines (no_command few (unread_says_none line f))
-    by_tests false (Some c) e f h =
-        let few : k ≤ 1000 = grind (arith, nat_tests) in
-        and_good k line lines c (bad_from (k + 1) lines) f (h (omega (arith, few)))
+        → ((c : SessionCommand) → session_command line ≡ Some c → k + 1 ≤ 1001
+        → HasBadLine script (bad_from (k + 1) rest))
+        → HasBadLine script (if t || is_none o then Some k else bad_from (k + 1) rest)
+    by_tests true o e f more = bad (too_many_lines ((Decides-eqb k 1001).0 e))
+    by_tests false None e f more = bad (no_command (grind (arith, nat_tests)) (unread_says_none line f))
+    by_tests false (Some c) e f more = more c f (grind (arith, nat_tests))
 
 -- lines that say commands, and lines after them
 said_are_read : (k : ℕ) (lines more : List Text) (cs : List SessionCommand) → LinesSayCommands lines cs
@@ -106,30 +71,7 @@ commands_are _ _ (and_more line lines c cs s says) =
 -- what is found in a script
 pub bad_line_is : (script : Text) (o : Option ℕ) → bad_line script ≡ o → HasBadLine script o
 bad_line_is script o e =
-    is_found o (subst (IsAnswerFrom 1 (lines_of script)) e (lines_answer 1 (lines_of script) (omega arith)))
-  where
-    is_found : (o : Option ℕ) → IsAnswerFrom 1 (lines_of script) o → HasBadLine script o
-    is_found None a =
-        let few = a.few in (
-          line_commands (lines_of script),
-          record {
-            lines = lines_of script;
-            has_lines = read_lines_are script;
-            few = omega (arith, few);
-            says = a.says;
-          },
-          tt,
-        )
-    is_found (Some number) a = record {
-      before = a.before;
-      line = a.line;
-      after = a.after;
-      said = a.said;
-      has_lines = subst (HasLines script) a.lines_are (read_lines_are script);
-      says = a.says;
-      number_is = a.number_is;
-      bad = a.bad;
-    }
+    subst (HasBadLine script) e (lines_answer (lines_of script) [] [] 1 (read_lines_are script) no_more refl (lit≤ tt))
 
 -- what a script says is read
 pub script_is_read : (script : Text) (commands : List SessionCommand) → IsScript script commands

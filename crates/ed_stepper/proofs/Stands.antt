@@ -1,9 +1,9 @@
 -- What every line of a script keeps of a session: its start and its limit, and that each order counted was obeyed.
-use Rattle.ed_stepper.proofs.Kit.{ne_eqb, Turn, NoOrder, NoTape, Printed, Stopped, Went, step, State, AreObeyed}
-use Rattle.ed_stepper.proofs.Kit.{is_obeyed, state_after, free_sum, [], arith, Bool, false, if◌then◌else◌, List}
-use Rattle.ed_stepper.proofs.Kit.{nat_eq, None, Option, refl, Some, subst, true, ℕ, ◌+◌, ◌∷◌, ◌≡◌, ◌≤◌, blocked_end}
-use Rattle.ed_stepper.proofs.Kit.{move_orders, own_end, stopped_after, after_text_of, is_too_far, left_by, LeftBy}
-use Rattle.ed_stepper.proofs.Kit.{play, writes, left, Stand, stands_at, SessionCommand, MoveEnd, MoveTarget, Orders}
+use Rattle.ed_stepper.proofs.Kit.{ne_eqb, Turn, NoOrder, NoTape, step, State, AreObeyed, is_obeyed, state_after}
+use Rattle.ed_stepper.proofs.Kit.{free_sum, [], arith, Bool, false, if◌then◌else◌, List, nat_eq, None, Option, refl}
+use Rattle.ed_stepper.proofs.Kit.{Some, subst, true, ℕ, ◌+◌, ◌∷◌, ◌≡◌, ◌≤◌, blocked_end, move_orders, own_end}
+use Rattle.ed_stepper.proofs.Kit.{stopped_after, after_text_of, is_too_far, left_by, LeftBy, play, writes, left, Stand}
+use Rattle.ed_stepper.proofs.Kit.{stands_at, SessionCommand, MoveEnd, MoveTarget, Orders}
 use Rattle.ed_machine.proofs.LeastNumbers.{least_below}
 use Rattle.ed_stepper.specs.MoveEnds.{or_else}
 use Rattle.ed_stepper.specs.Scripts.{after_move}
@@ -17,14 +17,12 @@ use Rattle.ed_stepper.specs.declared.moves.MoveEnd.TheVariants as ends
 none_of : (stop same : Bool) (own : Option MoveEnd) (turn : Turn) → same ≡ false
     → (if stop then Some ends.Stopped else or_else own (if same then Some ends.Limit else blocked_end turn)) ≡ None
     → is_obeyed turn ≡ true
-none_of true same own turn low h = let bad : Some ends.Stopped ≡ None = h in absurd (cc)
-none_of false true own turn low h = absurd (cc)
-none_of false false (Some end) turn low h = let bad : Some end ≡ None = h in absurd (cc)
-none_of false false None Went low h = refl
-none_of false false None (Printed code) low h = refl
-none_of false false None Stopped low h = refl
-none_of false false None (NoOrder function) low h = let bad : Some ends.NoOrder ≡ None = h in absurd (cc)
-none_of false false None NoTape low h = let bad : Some ends.NoTape ≡ None = h in absurd (cc)
+none_of true same own turn low h = cc
+none_of false true own turn low h = cc
+none_of false false (Some end) turn low h = cc
+none_of false false None (NoOrder function) low h = cc
+none_of false false None NoTape low h = cc
+none_of false false None turn low h = refl
 
 -- each order of a move is obeyed
 pub move_free : (aim : MoveTarget) (n : ℕ) (s : State) → AreObeyed (move_orders aim n s) s
@@ -60,7 +58,6 @@ moved_keeps aim {first} {t} k =
     }
 
 line_keeps : (c : SessionCommand) {first t : Stand} → Keeps first t → Keeps first (left_by c t)
-line_keeps commands.Nothing k = k
 line_keeps (commands.Move aim) k = moved_keeps aim k
 line_keeps (commands.Back n) k = record {
   start = k.start;
@@ -69,10 +66,7 @@ line_keeps (commands.Back n) k = record {
   most = omega (arith, k.most);
 }
 line_keeps (commands.Trace n) k = moved_keeps (Orders n) k
-line_keeps (commands.Show a b) k = k
-line_keeps commands.Accumulator k = k
-line_keeps commands.Multiplier k = k
-line_keeps commands.LastPrinted k = k
+line_keeps c k = k
 
 play_keeps : (ran : List SessionCommand) (line : ℕ) {first t : Stand} → Keeps first t
     → Keeps first (play line ran t).stand

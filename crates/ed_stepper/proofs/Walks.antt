@@ -1,8 +1,8 @@
 -- One more order of a move.
-use Rattle.ed_stepper.proofs.Kit.{is_stop, Turn, NoOrder, NoTape, Printed, Stopped, Went, add-one, step, State}
-use Rattle.ed_stepper.proofs.Kit.{AreObeyed, is_obeyed, state_after, after_sum, next_state, no_step, ap, arith, false}
-use Rattle.ed_stepper.proofs.Kit.{inl, inr, None, refl, rules, Some, sym, true, ℕ, ◌+◌, ◌<◌, ◌∙◌, ◌≡◌, ◌≤◌, ◌⊎◌}
-use Rattle.ed_stepper.proofs.Kit.{blocked_end, end_after, Ends, own_end, stopped_after, MoveEnd, Limit, MoveTarget}
+use Rattle.ed_stepper.proofs.Kit.{is_stop, Turn, NoOrder, NoTape, Printed, Went, add-one, step, State, AreObeyed}
+use Rattle.ed_stepper.proofs.Kit.{is_obeyed, state_after, after_sum, next_state, no_step, ap, arith, false, inl, inr}
+use Rattle.ed_stepper.proofs.Kit.{None, refl, rules, Some, sym, true, ℕ, ◌+◌, ◌<◌, ◌∙◌, ◌≡◌, ◌⊎◌, blocked_end}
+use Rattle.ed_stepper.proofs.Kit.{end_after, Ends, own_end, stopped_after, MoveEnd, Limit, MoveTarget}
 use Rattle.std.proofs.Common.{below_more}
 use Rattle.ed_stepper.specs.declared.moves.MoveEnd.TheVariants.{Stopped as EndStopped}
 
@@ -24,11 +24,9 @@ at_first aim left s none = record {
 }
 
 not_blocked : (turn : Turn) → is_obeyed turn ≡ true → blocked_end turn ≡ None
-not_blocked Went h = refl
-not_blocked (Printed code) h = refl
-not_blocked Stopped h = refl
 not_blocked (NoOrder function) h = cc
 not_blocked NoTape h = cc
+not_blocked turn h = refl
 
 -- a turn that neither stops nor is blocked
 quiet_turn : (t : Turn) → (t ≡ Went) ⊎ ((x : ℕ) × (t ≡ Printed x)) → (is_obeyed t ≡ true) × (is_stop t ≡ false)
@@ -48,10 +46,6 @@ module _ {aim : MoveTarget} {left : ℕ} {s : State} {k : ℕ} {m : State} (w : 
   -- only an order that can't be obeyed ends it now
   by_next : end_after aim left k s ≡ blocked_end (step m).turn
   by_next = search rules
-
-  -- the move reaches one
-  pub Ends-blocks : {end : MoveEnd} → blocked_end (step m).turn ≡ Some end → Ends aim left s k end
-  Ends-blocks is = record { now = by_next ∙ is; first = w.first }
 
   -- its next order
   module _ {n : State} {turn : Turn} (is : turn ≡ (step m).turn) (to : n ≡ (step m).state) where
@@ -91,11 +85,6 @@ module _ {aim : MoveTarget} {left : ℕ} {s : State} {k : ℕ} {m n : State} {tu
 pub Ends-limits : {aim : MoveTarget} {left : ℕ} {s m : State} → Walking aim left s left m → Ends aim left s left Limit
 Ends-limits {left = left} w = search rules
 
--- it ends before any order
-pub ends_at_once : (aim : MoveTarget) (left : ℕ) (s : State) (end : MoveEnd) → own_end aim 0 s ≡ Some end
-    → Ends aim left s 0 end
-ends_at_once aim left s end own = record { now = rw own refl; first = λ j h. absurd (omega arith) }
-
 -- the state k + 1 orders after another
 pub after_from : (from k : ℕ) (s start m : State) → m ≡ state_after (k + 1) s → s ≡ state_after from start
     → m ≡ state_after (from + k + 1) start
@@ -107,23 +96,3 @@ after_from from k s start m is at =
 pub at_limit : {aim : MoveTarget} {left : ℕ} {s : State} {k : ℕ} {m : State} → k ≡ left → Walking aim left s k m
     → Walking aim left s left m
 at_limit e w = rw e at w
-
--- ---- the numbers of a walk
-
-pub up_to : (k left : ℕ) → k < left → k ≤ left
-up_to k left below = omega arith
-
-pub one_more : (k left : ℕ) → k < left → k + 1 ≤ left
-one_more k left below = omega arith
-
--- the orders counted from a start on: after one more order
-pub orders_more : (s m n k : ℕ) → n ≤ m + 1 → m ≤ s + k → n ≤ s + (k + 1)
-orders_more s m n k one all = omega arith
-
--- after an order that was not obeyed
-pub orders_kept : (s m n k : ℕ) → n ≡ m → m ≤ s + k → n ≤ s + k
-orders_kept s m n k same all = omega arith
-
--- counted from an earlier start on
-pub orders-reached : (start s n from k : ℕ) → n ≤ s + (k + 1) → s ≤ start + from → n ≤ start + (from + k + 1)
-orders-reached start s n from k all few = omega arith

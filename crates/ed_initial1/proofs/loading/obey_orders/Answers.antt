@@ -1,26 +1,11 @@
-use Rattle.ed_initial1.proofs.Kit.{eq-eqb, ne_eqb, ap, arith, false, refl, sym, ◌∙◌, step, at_31, Entered}
+use Rattle.ed_initial1.proofs.Kit.{ne_eqb, ap, false, refl, sym, ◌∙◌, step, at_31}
 use Rattle.ed_initial.proofs.Kit.{add-one, next_state, is_quiet_turn}
-use Rattle.ed_initial.proofs.Runs.{is_obeyed-blocks, ends_now, event_now, exceeds_now, goes, no_orders, obeys, one_more, is_obeyed-sounds}
+use Rattle.ed_initial.proofs.Runs.{ends_now, event_now, goes, no_orders, obeys, one_more, is_obeyed-sounds}
 use Rattle.ed_initial1.specs.declared.loading.Loaded1.TheVariants.{Lost}
 use Rattle.ed_initial1.proofs.loading.obey_orders.Goals as goal
 
 pub loop-orders-init : goal.loop-orders-init
 loop-orders-init c = no_orders c.args.machine.now
-
-pub returns-in-NoOrder-clause-ends : goal.returns-in-NoOrder-clause-ends
-returns-in-NoOrder-clause-ends c =
-    ends_now c.loop-orders.invariant c.loop-orders-test.true
-    (event_now (λ t. at_31 (step t).state) (λ t. false) _ c.step-turn.ensures.turn (is_obeyed-blocks _ c.in-NoOrder.is)
-    refl refl refl) refl
-
-pub returns-then-counter-eq-ENTRY-clause-ends : goal.returns-then-counter-eq-ENTRY-clause-ends
-returns-then-counter-eq-ENTRY-clause-ends c =
-    let place = ap at_31 (sym c.step-turn.ensures.state)
-    ∙ eq-eqb _ _ (sym c.counter.ensures.is ∙ c.if-counter-eq-ENTRY.true) in
-    ends_now c.loop-orders.invariant c.loop-orders-test.true
-    (event_now (λ t. at_31 (step t).state) (λ t. false) _ c.step-turn.ensures.turn
-    (obeys c.step-turn.result c.in_default.not-NoOrder c.in_default.not-NoTape) place refl refl)
-    (ap Entered (add-one c.loop-orders.orders))
 
 pub returns-then-counter-eq-ENTRY-clause-state : goal.returns-then-counter-eq-ENTRY-clause-state
 returns-then-counter-eq-ENTRY-clause-state c = next_state _ _ c.loop-orders.invariant.state c.step-turn.ensures.state
@@ -46,8 +31,3 @@ loop-orders-preserved c =
     (obeys c.step-turn.result c.in_default.not-NoOrder c.in_default.not-NoTape) place refl
     (ap is_quiet_turn (goes c.step-turn.result c.in_default.not-NoOrder c.in_default.not-NoTape
     c.in_default-turn.not-Printed c.in_default-turn.not-Stopped)))
-
-pub returns-clause-ends : goal.returns-clause-ends
-returns-clause-ends c =
-    exceeds_now c.loop-orders.invariant
-    (omega (arith, c.loop-orders-test.false, c.loop-orders.auto.orders-end)) refl

@@ -27,6 +27,3 @@ overflow_sub-result c = omega (arith, (printed_so c).1, c.orders_done-before.ens
 
 pub returns : goal.returns
 returns c = rw (c.orders_done.ensures, c.orders_done-before.ensures) (printed_so c).0
-
-pub load-requires-clause-started : goal.load-requires-clause-started
-load-requires-clause-started c = c.begin.ensures.started

@@ -23,9 +23,3 @@ returns-in_err-rows c = record { answers = search rules; law = enough; digits = 
 
 pub returns : goal.returns
 returns c = record { answers = search rules; law = enough; digits = address_digits_law }
-
-pub obey-requires-clause-orders : goal.obey-requires-clause-orders
-obey-requires-clause-orders c = c.requires
-
-pub obey-requires-clause-rows : goal.obey-requires-clause-rows
-obey-requires-clause-rows c = c.in_ok-rows.ensures

@@ -1,13 +1,10 @@
-use Rattle.ed_stepper.proofs.Kit.{refl, ◌∙◌}
+use Rattle.ed_stepper.proofs.Kit.{◌∙◌}
 use Rattle.ed_stepper.proofs.Heads.{no_part, part_taken, space_skipped}
 use Rattle.ed_stepper.proofs.fronts.first_part.Goals as goal
 
 pub loop-rest-preserved : goal.loop-rest-preserved
 loop-rest-preserved c =
     c.loop-rest.invariant ∙ space_skipped c.loop-rest.rest.now c.in-len1-up.len_at_least c.if-first-ne32.false
-
-pub loop-rest-init : goal.loop-rest-init
-loop-rest-init c = refl
 
 pub returns-then-first-ne32 : goal.returns-then-first-ne32
 returns-then-first-ne32 c =

@@ -1,20 +1,12 @@
-use Rattle.ed_stepper.proofs.Kit.{is_stop, add-one, State, is_obeyed, no_step, ap, arith, rules, sym, ◌∙◌, ◌≡◌}
-use Rattle.ed_stepper.proofs.Kit.{blocked_end}
+use Rattle.ed_stepper.proofs.Kit.{is_stop, add-one, State, is_obeyed, no_step, ap, arith, rules, sym, ◌∙◌, ◌≡◌, ◌+◌}
+use Rattle.ed_stepper.proofs.Kit.{◌≤◌}
 use Rattle.ed_initial.specs.Load.{enters}
-use Rattle.ed_stepper.specs.declared.moves.MoveEnd.TheVariants.{Went}
-use Rattle.ed_stepper.proofs.Walks.{after_from, at_first, at_limit, Ends-blocks, ends_at_once, goes_on, Ends-limits, next}
-use Rattle.ed_stepper.proofs.Walks.{one_more, orders_kept, orders_more, Ends-owns, orders-reached, Ends-stops, Next-taken, up_to}
+use Rattle.ed_stepper.proofs.Walks.{after_from, at_first, at_limit, goes_on, Ends-limits, next, Ends-owns, Ends-stops}
+use Rattle.ed_stepper.proofs.Walks.{Next-taken}
 use Rattle.ed_stepper.proofs.walk.walk.Goals as goal
 
-pub returns-in-Orders-eq0 : goal.returns-in-Orders-eq0
-returns-in-Orders-eq0 c = record {
-  ends = ends_at_once _ _ _ Went (search rules);
-  state = no_step _;
-  free = λ j h. absurd (omega arith);
-  most = omega arith;
-  count = omega arith;
-  checkpoints = λ start is few are. are;
-}
+pub returns-in-Orders-eq0-clause-state : goal.returns-in-Orders-eq0-clause-state
+returns-in-Orders-eq0-clause-state c = no_step _
 
 pub loop-orders-init : goal.loop-orders-init
 loop-orders-init c = record {
@@ -31,34 +23,8 @@ returns-in-Stopped c =
       ends = Ends-stops n (ap is_stop c.in-Stopped.is);
       state = n.state;
       free = n.free;
-      most = one_more _ _ c.loop-orders-test.true;
-      count = orders_more _ _ _ _ c.step.ensures.count c.loop-orders.invariant.count;
-      checkpoints = c.loop-orders.invariant.checkpoints;
-    }
-
-pub returns-in-NoOrder : goal.returns-in-NoOrder
-returns-in-NoOrder c =
-    let w = c.loop-orders.invariant.walking in
-    let same = c.step.ensures.blocked (ap is_obeyed c.in-NoOrder.is) in
-    record {
-      ends = Ends-blocks w c.loop-orders-test.true (ap blocked_end (sym c.step.ensures.turn ∙ c.in-NoOrder.is));
-      state = same ∙ w.state;
-      free = w.free;
-      most = up_to _ _ c.loop-orders-test.true;
-      count = orders_kept _ _ _ _ (ap (λ (x : State). x.orders) same) c.loop-orders.invariant.count;
-      checkpoints = c.loop-orders.invariant.checkpoints;
-    }
-
-pub returns-in-NoTape : goal.returns-in-NoTape
-returns-in-NoTape c =
-    let w = c.loop-orders.invariant.walking in
-    let same = c.step.ensures.blocked (ap is_obeyed c.in-NoTape.is) in
-    record {
-      ends = Ends-blocks w c.loop-orders-test.true (ap blocked_end (sym c.step.ensures.turn ∙ c.in-NoTape.is));
-      state = same ∙ w.state;
-      free = w.free;
-      most = up_to _ _ c.loop-orders-test.true;
-      count = orders_kept _ _ _ _ (ap (λ (x : State). x.orders) same) c.loop-orders.invariant.count;
+      most = omega (arith, c.loop-orders-test.true);
+      count = omega (arith, c.step.ensures.count, c.loop-orders.invariant.count);
       checkpoints = c.loop-orders.invariant.checkpoints;
     }
 
@@ -69,15 +35,16 @@ returns-in-Some c =
     let own = c.own_end.ensures c.args.machine.now c.loop-orders.orders (add-one c.loop-orders.orders)
     (c.counter.ensures.is ∙ ap (λ (x : State). x.counter) t.0.state)
     (c.is_entering-entered.ensures ∙ ap enters w.state) in
-    let count = orders_more _ _ _ _ c.step.ensures.count c.loop-orders.invariant.count in
+    let count : c.step.new.self.orders ≤ c.args.machine.now.orders + (c.loop-orders.orders + 1) =
+    omega (arith, c.step.ensures.count, c.loop-orders.invariant.count) in
     record {
       ends = Ends-owns t.0 t.1 (sym own ∙ c.in-Some.is);
       state = t.0.state;
       free = t.0.free;
-      most = one_more _ _ c.loop-orders-test.true;
+      most = omega (arith, c.loop-orders-test.true);
       count = count;
       checkpoints = λ start is few are. c.save.ensures start (after_from _ _ _ _ _ t.0.state is)
-          (orders-reached _ _ _ _ _ count few) (c.loop-orders.invariant.checkpoints start is few are);
+          (omega (arith, count, few)) (c.loop-orders.invariant.checkpoints start is few are);
     }
 
 pub loop-orders-preserved : goal.loop-orders-preserved
@@ -87,12 +54,13 @@ loop-orders-preserved c =
     let own = c.own_end.ensures c.args.machine.now c.loop-orders.orders (add-one c.loop-orders.orders)
     (c.counter.ensures.is ∙ ap (λ (x : State). x.counter) t.0.state)
     (c.is_entering-entered.ensures ∙ ap enters w.state) in
-    let count = orders_more _ _ _ _ c.step.ensures.count c.loop-orders.invariant.count in
+    let count : c.step.new.self.orders ≤ c.args.machine.now.orders + (c.loop-orders.orders + 1) =
+    omega (arith, c.step.ensures.count, c.loop-orders.invariant.count) in
     record {
       walking = goes_on t.0 t.1 (sym own ∙ c.in_default-own_end.is);
       count = count;
       checkpoints = λ start is few are. c.save.ensures start (after_from _ _ _ _ _ t.0.state is)
-          (orders-reached _ _ _ _ _ count few) (c.loop-orders.invariant.checkpoints start is few are);
+          (omega (arith, count, few)) (c.loop-orders.invariant.checkpoints start is few are);
     }
 
 pub returns : goal.returns
