@@ -8,20 +8,13 @@ use Rattle.ed_machine.specs.Steps.{IsFirstAnswer, least}
 pub least_below : (test : ℕ → Bool) (n : ℕ) → least test n ≤ n
 unfolding least
 least_below test zero = omega arith
-least_below test (suc n) = by_test (test (least test n)) (least_below test n)
-  where
-    by_test : (b : Bool) → least test n ≤ n → (if b then least test n else suc n) ≤ suc n
-    by_test true h = omega arith
-    by_test false h = omega arith
+least_below test (suc n) = search (rules, (least_below test n))
 
 -- no number below n is found if the test fails at each
 pub least_none : (test : ℕ → Bool) (n : ℕ) → ((j : ℕ) → j < n → test j ≡ false) → least test n ≡ n
 unfolding least
 least_none test zero fails = refl
-least_none test (suc n) fails =
-    let before : least test n ≡ n = least_none test n (λ j h. fails j (omega arith)) in
-    let here : test n ≡ false = fails n (omega arith) in
-    rw (before, here) refl
+least_none test (suc n) fails = search (rules, (least_none test n (λ j h. fails j (omega arith))))
 
 -- a number at which the test holds first is found
 pub least_found : (test : ℕ → Bool) (n k : ℕ) → test k ≡ true → ((j : ℕ) → j < k → test j ≡ false) → k < n
@@ -46,22 +39,13 @@ least_found test (suc n) k holds fails below =
 pub least_holds : (test : ℕ → Bool) (n : ℕ) → test n ≡ true → test (least test n) ≡ true
 unfolding least
 least_holds test zero h = h
-least_holds test (suc n) h = by_test (test (least test n)) refl
-  where
-    by_test : (b : Bool) → test (least test n) ≡ b → test (if b then least test n else suc n) ≡ true
-    by_test true e = e
-    by_test false e = h
+least_holds test (suc n) h = search rules
 
 -- a number that is found and fails the test is the bound
 least_end : (test : ℕ → Bool) (n : ℕ) → test (least test n) ≡ false → least test n ≡ n
 unfolding least
 least_end test zero h = refl
-least_end test (suc n) h = by_test (test (least test n)) refl h
-  where
-    by_test : (b : Bool) → test (least test n) ≡ b → test (if b then least test n else suc n) ≡ false
-        → (if b then least test n else suc n) ≡ suc n
-    by_test true e h = absurd (true≢false (sym e ∙ h))
-    by_test false e h = refl
+least_end test (suc n) h = search rules
 
 -- the test fails below the number that is found
 pub least_first : (test : ℕ → Bool) (n j : ℕ) → j < least test n → test j ≡ false

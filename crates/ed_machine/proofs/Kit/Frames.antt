@@ -1,5 +1,6 @@
 -- The state of the machine as a piece of code sees it: its own words and sandwich digits as a window on the store,
 -- and the registers as plain numbers.
+use Rattle.std.proofs.Common.{rules}
 use Rattle.ed_machine.proofs.Names.{inl, inr, List, set, ◌⊎◌, locations, Size, get_or, ◌*◌, ◌/◌, ◌^◌, Cells, [], arith}
 use Rattle.ed_machine.proofs.Names.{Bool, false, length, Option, refl, ℕ, ◌+◌, ◌<◌, ◌∷◌, ◌≡◌, ◌≤◌, State}
 use Rattle.ed_machine.proofs.Kit.Window.{patched, get_below, set_below, get_above, set_above}
@@ -66,12 +67,7 @@ pub same_state : (s : State) {size : Size} {words : List ℕ} {digits : List Boo
       multiplier = multiplier;
       counter = counter;
     } ≡ s
-same_state s z w d m c = λ i. record s {
-  size = z i;
-  store = record { words = w i; sandwich = d i };
-  multiplier = m i;
-  counter = c i;
-}
+same_state s z w d m c = search rules
 
 -- an index in a list outside a window of this many items at a base
 abbrev pub Beside : {A : Type 0} → List A → ℕ → ℕ → ℕ → Type 0
