@@ -1,6 +1,5 @@
 -- Steps that each obey an order are counted.
-use Rattle.std.proofs.Common.{rules}
-use Rattle.ed_machine.proofs.Names.{suc, zero, arith, ◌+◌, ◌≡◌, step, progress, state_after}
+use Rattle.ed_machine.proofs.Names.{rules, suc, zero, arith, progress}
 use Rattle.ed_machine.specs.Sound.{CountsOrders}
 use Rattle.ed_machine.proofs.Keeping.{step_leaves}
 

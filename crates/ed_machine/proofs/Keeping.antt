@@ -1,9 +1,7 @@
 -- What orders keep: the size of a machine, no new row on its tape, and how many orders are counted.
-use Rattle.std.proofs.Common.{rules}
-use Rattle.ed_machine.proofs.Names.{List, suc, true≢false, zero, Kind, A, C, E, F, G, H, I, L, N, O, R, S, T, U, V, X}
-use Rattle.ed_machine.proofs.Names.{Y, Z, [], ap, arith, Bool, false, length, None, Option, refl, Some, sym, true, ℕ}
-use Rattle.ed_machine.proofs.Names.{◌+◌, ◌∙◌, ◌∷◌, ◌≡◌, ◌≤◌, jump_order, obey_word, Obeyed, place_of, row_order, step}
-use Rattle.ed_machine.proofs.Names.{State, is_obeyed, progress, state_after, Turn}
+use Rattle.ed_machine.proofs.Names.{rules, List, suc, zero, Kind, E, G, I, [], ap, arith, Bool, false, length, None}
+use Rattle.ed_machine.proofs.Names.{Option, refl, Some, true, ℕ, ◌+◌, ◌∷◌, ◌≡◌, ◌≤◌, jump_order, obey_word, Obeyed}
+use Rattle.ed_machine.proofs.Names.{place_of, row_order, step, State, is_obeyed, progress, state_after, Turn}
 use Rattle.ed_machine.specs.OrderTable.{blocked_order}
 
 -- a state reached by at most a number of orders

@@ -1,15 +1,11 @@
 -- A step leads from a state within its bounds to another.
-use Rattle.std.proofs.lemmas.Grind.{common_steps}
-use Rattle.std.proofs.Common.{rules}
-use Rattle.ed_machine.proofs.Names.{List, lit<, negsuc, pos, set, suc, zero, length-set, locations, address_of}
-use Rattle.ed_machine.proofs.Names.{is_long, long_of_halves, left71, minus71, minus_product, plus71, plus_common}
-use Rattle.ed_machine.proofs.Names.{plus_product, right71, IsStore, get_or, ◌*◌, ◌/◌, ◌^◌, Cells, Kind, A, C, E, F, G}
-use Rattle.ed_machine.proofs.Names.{H, I, L, N, O, R, S, T, U, V, X, Y, Z, [], arith, Bool, false, nat_lt, None}
-use Rattle.ed_machine.proofs.Names.{Option, Some, true, ℕ, ◌+◌, ◌<◌, ◌∙◌, ◌∷◌, after, done_at, jump_order, obey_word}
-use Rattle.ed_machine.proofs.Names.{place_of, read_at, row_order, step, written_cells, written_store, State, progress}
+use Rattle.ed_machine.proofs.Names.{common_steps, rules, List, negsuc, pos, set, suc, zero, is_long, long_of_halves}
+use Rattle.ed_machine.proofs.Names.{left71, minus71, minus_product, plus71, plus_common, plus_product, right71, IsStore}
+use Rattle.ed_machine.proofs.Names.{get_or, ◌*◌, ◌/◌, ◌^◌, Cells, Kind, E, F, G, I, O, T, U, [], arith, Bool, false}
+use Rattle.ed_machine.proofs.Names.{nat_lt, None, Option, Some, true, ℕ, ◌<◌, ◌∷◌, after, done_at, jump_order}
+use Rattle.ed_machine.proofs.Names.{obey_word, place_of, read_at, row_order, step, written_store, State, progress}
 use Rattle.ed_machine.proofs.Names.{state_after}
 use Rattle.std.proofs.Common.{nat_le, ℤ}
-use Rattle.ed_words.specs.Words.{halves_of}
 use Rattle.ed_words.proofs.SizeLemmas.{within_fits}
 use Rattle.ed_acc.specs.Arithmetic.{modulo71}
 use Rattle.ed_store.specs.Cells.{even, odd}

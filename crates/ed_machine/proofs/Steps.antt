@@ -1,9 +1,7 @@
 -- Where steps lead: none, one more, and some after others.
-use Rattle.std.proofs.lemmas.Grind.{common_steps}
-use Rattle.ed_machine.proofs.Names.{add-one, append-nil, append_assoc, inl, inr, length-append, rules, subst, suc}
-use Rattle.ed_machine.proofs.Names.{zero, ◌++◌, ◌-◌, ◌⊎◌, cases_lt, [], ap, arith, length, refl, sym, true, ℕ, ◌+◌}
-use Rattle.ed_machine.proofs.Names.{◌<◌, ◌∙◌, ◌≡◌, ◌≤◌, step, State, AreObeyed, codes_of, is_obeyed, progress}
-use Rattle.ed_machine.proofs.Names.{Progress, state_after, stops_of, Turn, NoOrder, NoTape, Printed, Stopped, Went}
+use Rattle.ed_machine.proofs.Names.{common_steps, add-one, append_assoc, length-append, rules, suc, zero, ◌++◌, ◌-◌, []}
+use Rattle.ed_machine.proofs.Names.{ap, arith, length, refl, true, ℕ, ◌+◌, ◌<◌, ◌∙◌, ◌≡◌, ◌≤◌, step, State, AreObeyed}
+use Rattle.ed_machine.proofs.Names.{codes_of, is_obeyed, progress, Progress, state_after, stops_of, Turn, Went}
 use Rattle.ed_machine.specs.Steps.{next_progress}
 
 -- ---- none, and one more

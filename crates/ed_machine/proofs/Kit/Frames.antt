@@ -1,8 +1,7 @@
 -- The state of the machine as a piece of code sees it: its own words and sandwich digits as a window on the store,
 -- and the registers as plain numbers.
-use Rattle.std.proofs.Common.{rules}
-use Rattle.ed_machine.proofs.Names.{inl, inr, List, set, ◌⊎◌, locations, Size, get_or, ◌*◌, ◌/◌, ◌^◌, Cells, [], arith}
-use Rattle.ed_machine.proofs.Names.{Bool, false, length, Option, refl, ℕ, ◌+◌, ◌<◌, ◌∷◌, ◌≡◌, ◌≤◌, State}
+use Rattle.ed_machine.proofs.Names.{rules, inl, inr, List, set, ◌⊎◌, locations, Size, get_or, ◌*◌, ◌/◌, ◌^◌, Cells, []}
+use Rattle.ed_machine.proofs.Names.{arith, Bool, false, length, Option, refl, ℕ, ◌+◌, ◌<◌, ◌∷◌, ◌≡◌, ◌≤◌, State}
 use Rattle.ed_machine.proofs.Kit.Window.{patched, get_below, set_below, get_above, set_above}
 
 -- the accumulator that holds a short number at its upper end, and a long one

@@ -1,9 +1,8 @@
 -- Where orders lead that neither stop the machine nor are blocked: what a path says of the machine.
-use Rattle.std.proofs.Common.{rules}
-use Rattle.ed_machine.proofs.Names.{inl, inr, List, subst, suc, true≢false, zero, ◌++◌, cases_lt, function_of, ap}
-use Rattle.ed_machine.proofs.Names.{arith, Bool, false, refl, sym, true, ℕ, ◌+◌, ◌<◌, ◌∙◌, ◌≡◌, kind_of_function}
-use Rattle.ed_machine.proofs.Names.{next_word, obey_word, step, State, AreObeyed, is_obeyed, progress, Progress}
-use Rattle.ed_machine.proofs.Names.{state_after, stops_of, Turn, NoOrder, NoTape, Printed, Stopped, Went}
+use Rattle.ed_machine.proofs.Names.{rules, inl, inr, List, subst, suc, zero, ◌++◌, cases_lt, function_of, ap, arith}
+use Rattle.ed_machine.proofs.Names.{Bool, false, refl, true, ℕ, ◌+◌, ◌<◌, ◌∙◌, ◌≡◌, kind_of_function, next_word}
+use Rattle.ed_machine.proofs.Names.{obey_word, step, State, AreObeyed, is_obeyed, progress, Progress, state_after}
+use Rattle.ed_machine.proofs.Names.{stops_of, Turn, Printed, Went}
 use Rattle.ed_machine.proofs.Steps.{after_sum, each_sum, past_sum}
 
 -- whether a turn neither stops the machine nor is blocked

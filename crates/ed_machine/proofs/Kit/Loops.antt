@@ -1,6 +1,5 @@
 -- Loops of a path: its turn is a path, and so is the whole.
-use Rattle.std.proofs.lemmas.Grind.{common_steps}
-use Rattle.ed_machine.proofs.Names.{List, suc, zero, ◌++◌, ◌*◌, [], arith, ℕ, ◌+◌, ◌<◌, ◌∷◌, ◌≡◌}
+use Rattle.ed_machine.proofs.Names.{common_steps, List, suc, zero, ◌++◌, ◌*◌, [], arith, ℕ, ◌+◌, ◌<◌, ◌∷◌, ◌≡◌}
 use Rattle.ed_machine.proofs.Kit.Frames.{Frame, Moment}
 use Rattle.ed_machine.proofs.Kit.Paths.{Path, stay, followed}
 

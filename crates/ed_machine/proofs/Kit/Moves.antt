@@ -1,9 +1,8 @@
 -- One lemma for each kind of order. A line of a path is a kind, the order's cell, the location that it names and the
 -- number that it leaves; `refl`, that the order is there; and the arithmetic of the number.
-use Rattle.std.proofs.Common.{rules}
-use Rattle.ed_machine.proofs.Names.{List, unwrap_or, ◌&&◌, common, minus_product, plus_product, right71, ◌%◌, ◌*◌, ◌/◌}
-use Rattle.ed_machine.proofs.Names.{◌^◌, Kind, ap, Bool, false, refl, Some, true, ℕ, ◌+◌, ◌<◌, ◌∙◌, ◌∷◌, ◌≡◌, ◌≤◌}
-use Rattle.ed_machine.proofs.Names.{kind_of_function, row_order, step, Printed, Stopped, Went}
+use Rattle.ed_machine.proofs.Names.{rules, List, unwrap_or, ◌&&◌, common, minus_product, plus_product, right71, ◌%◌}
+use Rattle.ed_machine.proofs.Names.{◌*◌, ◌/◌, ◌^◌, Kind, ap, Bool, false, refl, Some, true, ℕ, ◌+◌, ◌<◌, ◌∙◌, ◌∷◌, ◌≡◌}
+use Rattle.ed_machine.proofs.Names.{◌≤◌, kind_of_function, row_order, step, Printed, Stopped, Went}
 use Rattle.std.proofs.Common.{not}
 use Rattle.std.proofs.lemmas.Bool.{lt-ltb, le-ltb, le-leb, lt-leb}
 use Rattle.ed_orders.specs.declared.kind.Kind.TheVariants.{A as KindA, S as KindS, H as KindH, V as KindV, N as KindN}

@@ -1,6 +1,6 @@
 -- A worked piece: the routine `newline`, five orders and two codes, from its listing to what it does at any base.
-use Rattle.ed_machine.proofs.Names.{List, lit<, locations, locations_most, get_or, ◌*◌, [], arith, length, None, Option, refl}
-use Rattle.ed_machine.proofs.Names.{Some, sym, ℕ, ◌+◌, ◌<◌, ◌∷◌, ◌≡◌, ◌≤◌, State}
+use Rattle.ed_machine.proofs.Names.{List, lit<, locations, locations_most, get_or, ◌*◌, [], arith, length, None, Option}
+use Rattle.ed_machine.proofs.Names.{refl, Some, sym, ℕ, ◌+◌, ◌<◌, ◌∷◌, ◌≡◌, ◌≤◌, State}
 use Rattle.ed_words.specs.declared.order_words.TheConstants.{A_F, E_F, O_F, T_F}
 use Rattle.ed_machine.proofs.Kit.Frames.{Frame, Moment, state, short}
 use Rattle.ed_machine.proofs.Kit.Leads.{Leads}

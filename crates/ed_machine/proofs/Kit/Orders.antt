@@ -1,10 +1,8 @@
 -- One order of a piece: the word at its cell, the location that it names, and the step of the machine that it is.
-use Rattle.std.proofs.Common.{rules}
-use Rattle.ed_machine.proofs.Names.{subst, true≢false, ◌&&◌, and_parts, eqb-true, nat_tests, locations, within}
-use Rattle.ed_machine.proofs.Names.{address_of, digit, function_of, is_long, locations_most, get_or, nat_eq, ◌%◌, ◌*◌, ◌/◌, Kind}
-use Rattle.ed_machine.proofs.Names.{E, F, G, L, R, X, Y, Z, ap, arith, Bool, false, length, nat_lt, refl, Some, sym}
-use Rattle.ed_machine.proofs.Names.{true, ℕ, ◌+◌, ◌<◌, ◌∙◌, ◌≡◌, ◌≤◌, ltb-true, kind_of_function, next_word, obey}
-use Rattle.ed_machine.proofs.Names.{step, State, Turn}
+use Rattle.ed_machine.proofs.Names.{rules, true≢false, ◌&&◌, and_parts, nat_tests, locations, within, address_of, digit}
+use Rattle.ed_machine.proofs.Names.{function_of, is_long, locations_most, get_or, nat_eq, ◌%◌, ◌*◌, ◌/◌, Kind, E, F, G}
+use Rattle.ed_machine.proofs.Names.{L, R, X, Y, Z, ap, arith, Bool, false, length, nat_lt, refl, Some, sym, true, ℕ}
+use Rattle.ed_machine.proofs.Names.{◌+◌, ◌<◌, ◌∙◌, ◌≡◌, ◌≤◌, kind_of_function, next_word, obey, step, State, Turn}
 use Rattle.std.proofs.Common.{◌||◌}
 use Rattle.std.proofs.lemmas.Bool.{or_parts}
 use Rattle.ed_words.specs.Words.{is_spare}

@@ -1,8 +1,6 @@
 -- A path: orders one after the other, and the orders of the machine that it is.
-use Rattle.std.proofs.lemmas.Grind.{common_steps}
-use Rattle.std.proofs.Common.{rules}
-use Rattle.ed_machine.proofs.Names.{append-nil, append_assoc, List, subst, suc, zero, ◌++◌, Kind, [], ap, arith, refl}
-use Rattle.ed_machine.proofs.Names.{sym, true, ℕ, ◌+◌, ◌<◌, ◌∙◌, ◌∷◌, ◌≡◌, Obeyed, step, State, codes_of, progress}
+use Rattle.ed_machine.proofs.Names.{common_steps, rules, append-nil, List, subst, suc, zero, ◌++◌, Kind, [], ap, arith}
+use Rattle.ed_machine.proofs.Names.{refl, sym, true, ℕ, ◌+◌, ◌<◌, ◌∷◌, ◌≡◌, step, State, codes_of, progress}
 use Rattle.ed_machine.proofs.Names.{state_after, Turn, Printed, Went}
 use Rattle.ed_machine.proofs.Kit.Frames.{Frame, Moment, state}
 use Rattle.ed_machine.proofs.Kit.Leads.{Leads, goes_on}

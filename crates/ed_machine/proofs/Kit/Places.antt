@@ -1,10 +1,9 @@
 -- Where an order of a piece reads, writes or jumps to, and what the store then holds.
-use Rattle.std.proofs.Common.{rules}
-use Rattle.ed_machine.proofs.Names.{inl, List, set, true≢false, ◌&&◌, ◌-◌, and_parts, eqb-true, length-set}
-use Rattle.ed_machine.proofs.Names.{long_of_halves, get_or, nat_eq, ◌%◌, ◌*◌, ◌/◌, ◌^◌, ap, arith, Bool, false, length}
-use Rattle.ed_machine.proofs.Names.{nat_lt, refl, sym, true, ℕ, ◌+◌, ◌<◌, ◌≡◌, ◌≤◌, ltb-true, read_at, written_cells}
-use Rattle.ed_machine.proofs.Kit.Frames.{Frame, Moment, Beside, short, long, all_words, store, some_digits, get_digit}
-use Rattle.ed_machine.proofs.Kit.Frames.{set_digit, get_beside, set_beside}
+use Rattle.ed_machine.proofs.Names.{rules, List, set, true≢false, ◌&&◌, ◌-◌, length-set, long_of_halves, get_or, nat_eq}
+use Rattle.ed_machine.proofs.Names.{◌%◌, ◌*◌, ◌/◌, ◌^◌, ap, arith, Bool, false, length, nat_lt, refl, sym, true, ℕ, ◌+◌}
+use Rattle.ed_machine.proofs.Names.{◌<◌, ◌≡◌, ◌≤◌, ltb-true, read_at, written_cells}
+use Rattle.ed_machine.proofs.Kit.Frames.{Frame, Moment, Beside, short, long, all_words, store, some_digits, get_beside}
+use Rattle.ed_machine.proofs.Kit.Frames.{set_beside}
 use Rattle.ed_machine.proofs.Kit.Window.{get_own, set_own}
 
 -- a location outside the piece

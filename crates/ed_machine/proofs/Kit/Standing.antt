@@ -1,8 +1,7 @@
 -- A piece in a store: its image, which is its words except those at the working locations; the words that it takes
 -- over; and what it leaves unchanged.
-use Rattle.std.proofs.Common.{rules}
-use Rattle.ed_machine.proofs.Names.{drop, inl, inr, List, subst, suc, zero, ◌-◌, cases_lt, get_or, [], ap, arith}
-use Rattle.ed_machine.proofs.Names.{length, None, Option, refl, Some, sym, ℕ, ◌+◌, ◌<◌, ◌∙◌, ◌∷◌, ◌≡◌, ◌≤◌}
+use Rattle.ed_machine.proofs.Names.{rules, drop, List, subst, suc, zero, ◌-◌, get_or, [], ap, arith, length, None}
+use Rattle.ed_machine.proofs.Names.{Option, refl, Some, sym, ℕ, ◌+◌, ◌<◌, ◌∙◌, ◌∷◌, ◌≡◌, ◌≤◌}
 use Rattle.ed_machine.proofs.Kit.Window.{patched, patched_self, get_own, get_below, get_above}
 
 -- a word is the wanted one, if one is wanted

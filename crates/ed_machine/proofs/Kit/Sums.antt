@@ -1,12 +1,10 @@
 -- The accumulator's arithmetic in plain numbers, as the lines of a path have it.
-use Rattle.std.proofs.Common.{rules}
-use Rattle.ed_machine.proofs.Names.{inl, inr, lit<, negsuc, pos, ◌-◌, cases_lt, nat_tests, digit, common, left71}
-use Rattle.ed_machine.proofs.Names.{minus71, plus71, plus_common, plus_product, right71, nat_eq, ◌%◌, ◌*◌, ◌/◌, ◌^◌}
-use Rattle.ed_machine.proofs.Names.{ap, arith, sym, ℕ, ◌+◌, ◌<◌, ◌∙◌, ◌≡◌}
-use Rattle.std.proofs.Common.{lit≤, ◌-ℤ◌}
+use Rattle.ed_machine.proofs.Names.{rules, lit<, pos, ◌-◌, nat_tests, digit, common, left71, minus71, plus71}
+use Rattle.ed_machine.proofs.Names.{plus_common, plus_product, right71, nat_eq, ◌%◌, ◌*◌, ◌/◌, ◌^◌, ap, arith, sym, ℕ}
+use Rattle.ed_machine.proofs.Names.{◌+◌, ◌<◌, ◌∙◌, ◌≡◌}
+use Rattle.std.proofs.Common.{lit≤}
 use Rattle.std.specs.Int.Bits.{bit_and}
 use Rattle.std.proofs.Math.Nat.{mod-eq_of_lt}
-use Rattle.std.proofs.lemmas.Int.{ints}
 use Rattle.std.proofs.lemmas.Nat.{shr_le, and_le_l, and_mod, and_comm}
 use Rattle.std.proofs.lemmas.Nat.Bits.{and_high_mask, and_pow}
 use Rattle.ed_words.specs.Signed.{signed}

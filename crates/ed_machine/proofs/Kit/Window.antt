@@ -1,9 +1,7 @@
 -- A list with a window of explicit items at an index.
-use Rattle.std.proofs.lemmas.Grind.{common_steps}
-use Rattle.std.proofs.Common.{rules}
-use Rattle.ed_machine.proofs.Names.{drop, List, set, suc, zero, ◌++◌, ◌-◌, length-set, get_or, [], ap, arith, length}
-use Rattle.ed_machine.proofs.Names.{refl, ℕ, ◌+◌, ◌<◌, ◌∙◌, ◌∷◌, ◌≡◌, ◌≤◌}
-use Rattle.std.proofs.lemmas.List.{get_or-drop, drop-set-add}
+use Rattle.ed_machine.proofs.Names.{common_steps, rules, drop, List, set, suc, zero, ◌++◌, ◌-◌, get_or, [], ap, arith}
+use Rattle.ed_machine.proofs.Names.{length, refl, ℕ, ◌+◌, ◌<◌, ◌∙◌, ◌∷◌, ◌≡◌, ◌≤◌}
+use Rattle.std.proofs.lemmas.List.{drop-set-add}
 
 -- the list with `cs` from `base` onwards; `d` fills in if the list is too short
 unfoldable pub patched : {A : Type 0} → A → List A → ℕ → List A → List A

@@ -1,7 +1,6 @@
 -- Digits that a piece prints one by one without leading zeros, as the print routine and the post-mortem do.
-use Rattle.std.proofs.Common.{rules}
-use Rattle.ed_machine.proofs.Names.{List, suc, zero, ◌*◌, [], arith, Bool, false, Option, Some, true, ℕ, ◌+◌, ◌<◌, ◌∷◌}
-use Rattle.ed_machine.proofs.Names.{◌≡◌, ◌≤◌}
+use Rattle.ed_machine.proofs.Names.{rules, List, suc, zero, ◌*◌, [], arith, Bool, false, Option, Some, true, ℕ, ◌+◌}
+use Rattle.ed_machine.proofs.Names.{◌<◌, ◌∷◌, ◌≡◌, ◌≤◌}
 use Rattle.ed_words.specs.declared.order_words.TheConstants.{V_F}
 use Rattle.ed_machine.proofs.Kit.Frames.{Frame, Moment}
 use Rattle.ed_machine.proofs.Kit.Paths.{Path, stay, followed}
