@@ -1,7 +1,7 @@
 -- What orders keep: the size of a machine, no new row on its tape, and how many orders are counted.
-use Rattle.ed_machine.proofs.Names.{rules, List, suc, zero, Kind, E, G, I, [], ap, arith, Bool, false, length, None}
-use Rattle.ed_machine.proofs.Names.{Option, refl, Some, true, ℕ, ◌+◌, ◌∷◌, ◌≡◌, ◌≤◌, jump_order, obey_word, Obeyed}
-use Rattle.ed_machine.proofs.Names.{place_of, row_order, step, State, is_obeyed, progress, state_after, Turn}
+use Rattle.ed_machine.proofs.Names.{rules, List, suc, zero, Kind, ap, arith, Bool, false, length, Option, refl, true, ℕ}
+use Rattle.ed_machine.proofs.Names.{◌+◌, ◌≡◌, ◌≤◌, jump_order, obey_word, Obeyed, row_order, step, State, is_obeyed}
+use Rattle.ed_machine.proofs.Names.{progress, state_after, Turn}
 use Rattle.ed_machine.specs.OrderTable.{blocked_order}
 
 -- a state reached by at most a number of orders
@@ -32,20 +32,14 @@ none_more : (s : State) (turn : Turn) → is_obeyed turn ≡ false → Leaves s 
 none_more s turn not_obeyed = search rules
 
 jump_leaves : (b : Bool) (n : ℕ) (s : State) → Leaves s (jump_order b n s)
-jump_leaves true n s = reads_none s _ refl refl refl refl
-jump_leaves false n s = reads_none s _ refl refl refl refl
+jump_leaves b n s = search rules
 
 row_leaves : (rows : List ℕ) (w : ℕ) (s : State) → s.tape ≡ rows → Leaves s (row_order rows w s)
-row_leaves [] w s is = none_more s _ refl
-row_leaves (row ∷ rows) w s is = search rules
+row_leaves = search rules
 
 -- a word that is obeyed as an order
 pub word_leaves : (k : Option Kind) (w : ℕ) (s : State) → Leaves s (obey_word k w s)
-word_leaves (Some E) w s = jump_leaves _ (place_of s w) s
-word_leaves (Some G) w s = jump_leaves _ (place_of s w) s
-word_leaves (Some I) w s = row_leaves s.tape w s refl
-word_leaves None w s = none_more s _ refl
-word_leaves (Some kind) w s = reads_none s _ refl refl refl refl
+word_leaves k w s = search rules
 
 -- one step
 pub step_leaves : (s : State) → Leaves s (step s)

@@ -1,21 +1,18 @@
 -- A step leads from a state within its bounds to another.
-use Rattle.ed_machine.proofs.Names.{common_steps, rules, List, negsuc, pos, set, suc, zero, is_long, long_of_halves}
-use Rattle.ed_machine.proofs.Names.{left71, minus71, minus_product, plus71, plus_common, plus_product, right71, IsStore}
-use Rattle.ed_machine.proofs.Names.{get_or, ◌*◌, ◌/◌, ◌^◌, Cells, Kind, E, F, G, I, O, T, U, [], arith, Bool, false}
-use Rattle.ed_machine.proofs.Names.{nat_lt, None, Option, Some, true, ℕ, ◌<◌, ◌∷◌, after, done_at, jump_order}
-use Rattle.ed_machine.proofs.Names.{obey_word, place_of, read_at, row_order, step, written_store, State, progress}
-use Rattle.ed_machine.proofs.Names.{state_after}
+use Rattle.ed_machine.proofs.Names.{common_steps, rules, List, set, suc, zero, is_long, long_of_halves, left71, minus71}
+use Rattle.ed_machine.proofs.Names.{minus_product, plus71, plus_common, plus_product, right71, IsStore, get_or, ◌*◌}
+use Rattle.ed_machine.proofs.Names.{◌/◌, ◌^◌, Cells, Kind, E, F, G, I, O, T, U, [], arith, Bool, nat_lt, None, Option}
+use Rattle.ed_machine.proofs.Names.{Some, ℕ, ◌<◌, ◌∷◌, after, done_at, jump_order, obey_word, place_of, read_at}
+use Rattle.ed_machine.proofs.Names.{row_order, step, written_store, State, progress, state_after}
 use Rattle.std.proofs.Common.{nat_le, ℤ}
 use Rattle.ed_words.proofs.SizeLemmas.{within_fits}
 use Rattle.ed_acc.specs.Arithmetic.{modulo71}
-use Rattle.ed_store.specs.Cells.{even, odd}
 use Rattle.ed_machine.specs.OrderTable.{operand35}
 use Rattle.ed_machine.specs.Sound.{IsSound, StaysSound}
 
 -- the arithmetic of the accumulator gives 71 digits
 pub modulo71_fits : (z : ℤ) → modulo71 z < 2 ^ 71
-modulo71_fits (pos n) = omega arith
-modulo71_fits (negsuc n) = omega arith
+modulo71_fits z = search rules
 
 pub plus71_fits : (a n : ℕ) → plus71 a n < 2 ^ 71
 unfolding plus71
@@ -47,19 +44,13 @@ right71_fits a p = modulo71_fits _
 
 -- what is written into a store, and read from it
 set_fits : (xs : List ℕ) (p v i m : ℕ) → 0 < m → ((j : ℕ) → get_or xs j 0 < m) → v < m → get_or (set xs p v) i 0 < m
-set_fits [] p v i m z h hv = z
-set_fits (x ∷ xs) zero v zero m z h hv = hv
-set_fits (x ∷ xs) zero v (suc i) m z h hv = h (suc i)
-set_fits (x ∷ xs) (suc p) v zero m z h hv = h 0
-set_fits (x ∷ xs) (suc p) v (suc i) m z h hv = set_fits xs p v i m z (λ j. h (suc j)) hv
+set_fits = grind (arith, common_steps)
 
 pub joined_fits : (o e : ℕ) (d : Bool) → o < 2 ^ 17 → e < 2 ^ 17 → long_of_halves o d e < 2 ^ 35
-joined_fits o e true h g = omega arith
-joined_fits o e false h g = omega arith
+joined_fits o e d h g = search rules
 
 read_fits : (l : Bool) (c : Cells) (p : ℕ) → IsStore c → read_at l c p < 2 ^ 35
-read_fits true c p h = joined_fits _ _ _ (h.fits (odd p)) (h.fits (even p))
-read_fits false c p h = let x = h.fits p in omega arith
+read_fits l c p h = search rules
 
 module _ (s : State) (h : IsSound s) where
   -- one more order counted, with the counter at the next location, or at one that is jumped to
@@ -97,7 +88,6 @@ obeyed (Some U) w s h = went_on _ (top_written s w h)
 obeyed (Some O) w s h = let a = read s h w in let t = went_on s h in search rules
 obeyed (Some F) w s h = let a = h.last in went_on _ (wrote s h w _ _ (omega arith) (omega arith))
 obeyed (Some kind) w s h =
-    let a = read s h w in
     went_on _ (search (rules, plus71_fits, minus71_fits, plus_product_fits, minus_product_fits, collated_fits, right71_fits,
     left71_fits))
 obeyed None w s h = h

@@ -21,8 +21,7 @@ abbrev pub Moves : {n h : ℕ} → Frame n h → Kind → Moment → Moment → 
 Moves f kind r t = Does f kind r Went t
 
 no_both : (b : Bool) → (not b && b) ≡ false
-no_both true = refl
-no_both false = refl
+no_both b = search rules
 
 module _ {n h : ℕ} {f : Frame n h} {r : Moment} where
   -- the order that names a location, a location that it writes, a location that it jumps to

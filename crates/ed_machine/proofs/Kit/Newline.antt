@@ -58,9 +58,7 @@ module _ (s : State) (b m top : ℕ) (o : IsCalled s b m top) (all : length s.st
   path : (at4 : ℕ) → Path f 5 (at 0 (short (A_F + 2 * m)) at4 s.last) (18 ∷ 24 ∷ [])
       (record (at 0 0 link (Some 24)) { counter = m + 2 })
   path at4 =
-      let at3 = o.at3 in
       let size = locations_most s.size in
-      let fits = o.fits in
       let back : m + 2 < top = omega (arith, o.back) in
       on (A 0 (out 3 (early 3 o.low (lit< tt) all)) (short link) refl (omega arith))
       (on (T 1 (own 4) _ refl refl)

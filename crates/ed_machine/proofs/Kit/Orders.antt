@@ -1,8 +1,8 @@
 -- One order of a piece: the word at its cell, the location that it names, and the step of the machine that it is.
-use Rattle.ed_machine.proofs.Names.{rules, true≢false, ◌&&◌, and_parts, nat_tests, locations, within, address_of, digit}
-use Rattle.ed_machine.proofs.Names.{function_of, is_long, locations_most, get_or, nat_eq, ◌%◌, ◌*◌, ◌/◌, Kind, E, F, G}
-use Rattle.ed_machine.proofs.Names.{L, R, X, Y, Z, ap, arith, Bool, false, length, nat_lt, refl, Some, sym, true, ℕ}
-use Rattle.ed_machine.proofs.Names.{◌+◌, ◌<◌, ◌∙◌, ◌≡◌, ◌≤◌, kind_of_function, next_word, obey, step, State, Turn}
+use Rattle.ed_machine.proofs.Names.{rules, true≢false, ◌&&◌, and_parts, locations, within, address_of, digit}
+use Rattle.ed_machine.proofs.Names.{function_of, is_long, locations_most, get_or, nat_eq, ◌*◌, Kind, E, F, G, L, R, X}
+use Rattle.ed_machine.proofs.Names.{Y, Z, ap, arith, Bool, false, length, nat_lt, refl, Some, sym, true, ℕ, ◌+◌, ◌<◌}
+use Rattle.ed_machine.proofs.Names.{◌∙◌, ◌≡◌, ◌≤◌, kind_of_function, next_word, obey, step, State, Turn}
 use Rattle.std.proofs.Common.{◌||◌}
 use Rattle.std.proofs.lemmas.Bool.{or_parts}
 use Rattle.ed_words.specs.Words.{is_spare}
@@ -63,26 +63,18 @@ abbrev word_by : ℕ → Bool → ℕ → ℕ
 word_by g long a = 4096 * g + digit long + 2 * a
 
 long_by : (g a : ℕ) (long : Bool) → is_long (word_by g long a) ≡ long
-long_by g a true = grind (arith, nat_tests)
-long_by g a false = grind (arith, nat_tests)
+long_by g a long = search rules
 
 fields_by : (g a : ℕ) (long : Bool) → a < 1024
     → (function_of (word_by g long a) ≡ g) × (address_of (word_by g long a) ≡ a)
-fields_by g a true h = (omega arith, omega arith)
-fields_by g a false h = (omega arith, omega arith)
+fields_by g a long h = search rules
 
 plain_by : (g a : ℕ) (long : Bool) → a < 1024 → is_spare (word_by g long a) ≡ false
-plain_by g a true h = let e : (4096 * g + 1 + 2 * a) / 2048 % 2 ≡ 0 = omega arith in rw e refl
-plain_by g a false h = let e : (4096 * g + 0 + 2 * a) / 2048 % 2 ≡ 0 = omega arith in rw e refl
+plain_by g a long h = search rules
 
 -- a kind that names no location neither jumps nor is F
 stays : (kind : Kind) → names kind ≡ false → (jumps kind ≡ false) × (is_F kind ≡ false)
-stays R e = (refl, refl)
-stays L e = (refl, refl)
-stays X e = (refl, refl)
-stays Y e = (refl, refl)
-stays Z e = (refl, refl)
-stays kind e = absurd (true≢false e)
+stays kind e = search rules
 
 -- an order that jumps does so at a short location
 short_by : (a b c : Bool) → (a && (b && c)) ≡ false → a ≡ true → b ≡ true → c ≡ false

@@ -1,7 +1,7 @@
 -- Where an order of a piece reads, writes or jumps to, and what the store then holds.
 use Rattle.ed_machine.proofs.Names.{rules, List, set, true≢false, ◌&&◌, ◌-◌, length-set, long_of_halves, get_or, nat_eq}
-use Rattle.ed_machine.proofs.Names.{◌%◌, ◌*◌, ◌/◌, ◌^◌, ap, arith, Bool, false, length, nat_lt, refl, sym, true, ℕ, ◌+◌}
-use Rattle.ed_machine.proofs.Names.{◌<◌, ◌≡◌, ◌≤◌, ltb-true, read_at, written_cells}
+use Rattle.ed_machine.proofs.Names.{◌%◌, ◌*◌, ◌/◌, ◌^◌, arith, Bool, false, length, nat_lt, refl, sym, true, ℕ, ◌+◌}
+use Rattle.ed_machine.proofs.Names.{◌<◌, ◌≡◌, ◌≤◌, read_at, written_cells}
 use Rattle.ed_machine.proofs.Kit.Frames.{Frame, Moment, Beside, short, long, all_words, store, some_digits, get_beside}
 use Rattle.ed_machine.proofs.Kit.Frames.{set_beside}
 use Rattle.ed_machine.proofs.Kit.Window.{get_own, set_own}
@@ -119,11 +119,7 @@ module _ {n h : ℕ} (f : Frame n h) (r : Moment) where
   }
 
   pub fitted : (p : Place f r) (a u : ℕ) → a ≡ at_top p u → fitting p (a / 2 ^ 54) (a / 2 ^ 36) ≡ u
-  fitted (own j) a u e = omega arith
-  fitted (pair j p even) a u e = omega arith
-  fitted (out q a') a u e = omega arith
-  fitted (pair_out q a') a u e = omega arith
-  fitted (any q b) a u e = omega arith
+  fitted p a u e = search rules
 
   -- a pair of the piece, and its location
   record Paired (j p : ℕ) : Type 0 where
@@ -136,19 +132,11 @@ module _ {n h : ℕ} (f : Frame n h) (r : Moment) where
 
   -- each location that an order names is below the top
   pub near : (p : Place f r) → is_there p ≡ true → address p < f.top
-  near (own j) e = omega (arith, f.under, ltb-true j n e)
-  near (pair j p even) e = omega (arith, f.under, (paired j p even e).second)
-  near (out q a) e = a.below
-  near (pair_out q a) e = omega (arith, a.below)
-  near (any q b) e = b
+  near p e = search rules
 
   pub reads : (p : Place f r) → length r.cells ≡ n → is_there p ≡ true
       → read_at (is_pair p) (store f r) (address p) ≡ value p
-  reads (own j) all e = search (rules, get_own)
-  reads (pair j p even) all e = search (rules, get_own)
-  reads (out q a) all e = ap (λ x. x * 2 ^ 18) (get_beside 0 r.words f.base r.cells q (rw all a.beside))
-  reads (pair_out q a) all e = search (rules, get_beside)
-  reads (any q b) all e = refl
+  reads p all e = search (rules, get_own, get_beside)
 
   pub writes : (p : Place f r) (s l : ℕ) → length r.cells ≡ n → is_there p ≡ true → is_written p ≡ true
       → written_cells (is_pair p) (store f r) (address p) s l ≡ store f (put p (fitting p s l))

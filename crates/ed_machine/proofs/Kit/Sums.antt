@@ -52,7 +52,6 @@ collated_is a m x y u e h = rw e h
 -- the common digits with 4095 and with 1
 pub common_4095 : (x : ℕ) → x < 2 ^ 17 → common 35 (4095 * 2 ^ 18) (x * 2 ^ 18) ≡ x % 4096 * 2 ^ 18
 common_4095 x h =
-    let m : ℕ = 4095 * 2 ^ 18 in
     let low : bit_and (4095 * 2 ^ 18) (x * 2 ^ 18) < 2 ^ 30 = omega (arith, and_le_l (4095 * 2 ^ 18) (x * 2 ^ 18)) in
     let row : x * 2 ^ 18 % 2 ^ 30 ≡ x % 4096 * 2 ^ 18 = omega arith in
     let fits : x % 4096 * 2 ^ 18 < 2 ^ 30 = omega arith in

@@ -11,9 +11,7 @@ patched d (w ∷ ws) (suc b) cs = w ∷ patched d ws b cs
 
 module _ {A : Type 0} (d : A) where
   get_left : (cs ys : List A) (j : ℕ) → j < length cs → get_or (cs ++ ys) j d ≡ get_or cs j d
-  get_left [] ys j h = absurd (omega arith)
-  get_left (c ∷ cs) ys zero h = refl
-  get_left (c ∷ cs) ys (suc j) h = get_left cs ys j (omega arith)
+  get_left = grind (arith, common_steps)
 
   set_left : (cs ys : List A) (j : ℕ) (v : A) → j < length cs → set (cs ++ ys) j v ≡ set cs j v ++ ys
   set_left [] ys j v h = absurd (omega arith)
@@ -22,8 +20,7 @@ module _ {A : Type 0} (d : A) where
 
   -- after a front
   pub get_right : (cs ys : List A) (j : ℕ) → get_or (cs ++ ys) (length cs + j) d ≡ get_or ys j d
-  get_right [] ys j = let e : 0 + j ≡ j = omega arith in rw e refl
-  get_right (c ∷ cs) ys j = search (rules, (get_right cs ys j))
+  get_right = grind (arith, common_steps)
 
   -- inside the window
   pub get_own : (ws : List A) (b : ℕ) (cs : List A) (j : ℕ) → j < length cs
@@ -103,9 +100,7 @@ module _ {A : Type 0} (d : A) where
       let e : suc b + j ≡ suc (b + j) = omega arith in h j lj ∙ ap (λ x. get_or (w ∷ ws) x d) e))
 
   length_joined : (cs ws : List A) → length cs ≤ length ws → length (cs ++ drop (length cs) ws) ≡ length ws
-  length_joined [] ws l = refl
-  length_joined (c ∷ cs) [] l = absurd (omega arith)
-  length_joined (c ∷ cs) (w ∷ ws) l = ap suc (length_joined cs ws (omega arith))
+  length_joined = grind (arith, common_steps)
 
   pub length_patched : (ws : List A) (b : ℕ) (cs : List A) → b + length cs ≤ length ws
       → length (patched d ws b cs) ≡ length ws

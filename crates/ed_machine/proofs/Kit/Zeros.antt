@@ -41,8 +41,6 @@ pub taken_away : {n h : ℕ} {f : Frame n h} (moments : ℕ → ℕ → Moment) 
     → Path f (8 * q) (moments (q * power + r) d) [] (moments r (d + q))
 taken_away moments power bound once zero d r few = search (rules, stay)
 taken_away moments power bound once (suc q) d r few =
-    let low = few.0 in
-    let most = few.1 in
     let e : 8 * suc q ≡ 8 + 8 * q = omega arith in
     let g : d + suc q ≡ d + 1 + q = omega arith in
     let s : suc q * power + r ≡ q * power + r + power = omega arith in
