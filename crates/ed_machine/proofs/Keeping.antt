@@ -1,8 +1,7 @@
 -- What orders keep: the size of a machine, no new row on its tape, and how many orders are counted.
-use Rattle.ed_machine.proofs.Names.{rules, List, suc, zero, Kind, ap, arith, Bool, false, length, Option, refl, true, ℕ}
-use Rattle.ed_machine.proofs.Names.{◌+◌, ◌≡◌, ◌≤◌, jump_order, obey_word, Obeyed, row_order, step, State, is_obeyed}
-use Rattle.ed_machine.proofs.Names.{progress, state_after, Turn}
-use Rattle.ed_machine.specs.OrderTable.{blocked_order}
+use Rattle.ed_machine.proofs.Names.{rules, suc, zero, Kind, arith, false, length, Option, refl, true, ℕ}
+use Rattle.ed_machine.proofs.Names.{◌+◌, ◌≡◌, ◌≤◌, obey_word, Obeyed, step, State, is_obeyed}
+use Rattle.ed_machine.proofs.Names.{progress, state_after}
 
 -- a state reached by at most a number of orders
 pub record Follows (most : ℕ) (s t : State) : Type 0 where
@@ -16,26 +15,6 @@ pub record Leaves (s : State) (o : Obeyed) : Type 0 where
   pub follows : Follows 1 s o.state
   pub count : is_obeyed o.turn ≡ true → o.state.orders ≡ s.orders + 1
   pub blocked : is_obeyed o.turn ≡ false → o.state ≡ s
-
--- one more order is counted
-one_more : (s : State) (o : Obeyed) → is_obeyed o.turn ≡ true → o.state.size ≡ s.size
-    → length o.state.tape ≤ length s.tape → o.state.orders ≡ s.orders + 1 → Leaves s o
-one_more s o obeyed size rows orders = search rules
-
--- one that reads no row
-reads_none : (s : State) (o : Obeyed) → is_obeyed o.turn ≡ true → o.state.size ≡ s.size → o.state.tape ≡ s.tape
-    → o.state.orders ≡ s.orders + 1 → Leaves s o
-reads_none s o obeyed size tape orders = let e = ap length tape in one_more s o obeyed size (omega arith) orders
-
--- no order is obeyed
-none_more : (s : State) (turn : Turn) → is_obeyed turn ≡ false → Leaves s (blocked_order turn s)
-none_more s turn not_obeyed = search rules
-
-jump_leaves : (b : Bool) (n : ℕ) (s : State) → Leaves s (jump_order b n s)
-jump_leaves b n s = search rules
-
-row_leaves : (rows : List ℕ) (w : ℕ) (s : State) → s.tape ≡ rows → Leaves s (row_order rows w s)
-row_leaves = search rules
 
 -- a word that is obeyed as an order
 pub word_leaves : (k : Option Kind) (w : ℕ) (s : State) → Leaves s (obey_word k w s)

@@ -1,5 +1,5 @@
 -- A step leads from a state within its bounds to another.
-use Rattle.ed_machine.proofs.Names.{common_steps, rules, List, set, suc, zero, is_long, long_of_halves, left71, minus71}
+use Rattle.ed_machine.proofs.Names.{common_steps, rules, List, suc, zero, is_long, long_of_halves, left71, minus71}
 use Rattle.ed_machine.proofs.Names.{minus_product, plus71, plus_common, plus_product, right71, IsStore, get_or, ◌*◌}
 use Rattle.ed_machine.proofs.Names.{◌/◌, ◌^◌, Cells, Kind, E, F, G, I, O, T, U, [], arith, Bool, nat_lt, None, Option}
 use Rattle.ed_machine.proofs.Names.{Some, ℕ, ◌<◌, ◌∷◌, after, done_at, jump_order, obey_word, place_of, read_at}
@@ -41,10 +41,6 @@ left71_fits a p = omega arith
 pub right71_fits : (a p : ℕ) → right71 a p < 2 ^ 71
 unfolding right71
 right71_fits a p = modulo71_fits _
-
--- what is written into a store, and read from it
-set_fits : (xs : List ℕ) (p v i m : ℕ) → 0 < m → ((j : ℕ) → get_or xs j 0 < m) → v < m → get_or (set xs p v) i 0 < m
-set_fits = grind (arith, common_steps)
 
 pub joined_fits : (o e : ℕ) (d : Bool) → o < 2 ^ 17 → e < 2 ^ 17 → long_of_halves o d e < 2 ^ 35
 joined_fits o e d h g = search rules
