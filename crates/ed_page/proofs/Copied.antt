@@ -1,9 +1,8 @@
 -- Lists that grow at their ends: a loop that takes the items of a list one after the other, and texts that are added.
-use Rattle.ed_page.proofs.Kit.{common_steps, flat_map, IfSome, IsNone, ◌↔◌, latest_shift, paper_from, Shift, take, []}
-use Rattle.ed_page.proofs.Kit.{ap, arith, drop, get_or, length, List, None, Option, refl, reverse, Some, ℕ, ◌++◌, ◌+◌}
+use Rattle.ed_page.proofs.Kit.{common_steps, flat_map, latest_shift, paper_from, Shift, take}
+use Rattle.ed_page.proofs.Kit.{ap, arith, drop, get_or, length, List, reverse, ℕ, ◌++◌, ◌+◌}
 use Rattle.ed_page.proofs.Kit.{◌<◌, ◌∙◌, ◌∷◌, ◌≡◌, ◌≤◌, four_bytes}
 use Rattle.std.proofs.Common.{add-one, set, drop-cons}
-use Rattle.std.specs.Option.{UnwrapsOrElse}
 use Rattle.std.proofs.Math.Seq.{set-append_seam}
 use Rattle.ed_printer.proofs.Texts.{Strikes, struck_alone}
 use Rattle.ed_page.specs.Going.{added_text}
@@ -11,17 +10,6 @@ use Rattle.ed_page.specs.Going.{added_text}
 -- the item taken, and those left after it
 left_by : (s : List ℕ) (i x : ℕ) → i < length s → x ≡ get_or s i 0 → drop i s ≡ x ∷ drop (i + 1) s
 left_by s i x below is = rw (is, add-one) (drop-cons s i 0 below)
-
--- the code of a number below 32
-pub known_code : (o : Option ℕ) (default : ℕ → Type 0) (x n : ℕ) → (IsNone o ↔ (32 ≤ n)) → IfSome o (λ c. c ≡ n)
-    → n < 32 → UnwrapsOrElse o default x → x ≡ n
-known_code (Some c) default x n none some low is = is ∙ some
-known_code None default x n none some low is = absurd (omega (arith, low, none.0 refl))
-
--- one more is copied
-pub copied_more : (done more s : List ℕ) (i x : ℕ) → more ≡ done ++ x ∷ [] → i < length s → x ≡ get_or s i 0
-    → done ++ drop i s ≡ s → more ++ drop (i + 1) s ≡ s
-copied_more done more s i x grown below is whole = grind (arith, common_steps)
 
 -- all are copied
 pub copied_all : (done s : List ℕ) (i : ℕ) → length s ≤ i → done ++ drop i s ≡ s → done ≡ s

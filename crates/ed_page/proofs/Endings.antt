@@ -1,7 +1,7 @@
 -- From a run that ended, with its note, to what the program answers of it.
-use Rattle.ed_page.proofs.Kit.{rules, Settings, Line, IsRunResult, FinishedRun, NotedRun, [], List, None, Ok, Option}
-use Rattle.ed_page.proofs.Kit.{Result, subst, ℕ, ◌++◌, ◌≡◌, Text, RunEnd, tape, ending_line, ran_outcome, run_of}
-use Rattle.ed_page.proofs.Kit.{entered_before, run_outcome, tape_outcome}
+use Rattle.ed_page.proofs.Kit.{rules, Settings, IsRunResult, FinishedRun, NotedRun, [], List, None, Ok, Option}
+use Rattle.ed_page.proofs.Kit.{Result, subst, ℕ, ◌++◌, ◌≡◌, Text, RunEnd, ending_line, ran_outcome, run_of}
+use Rattle.ed_page.proofs.Kit.{tape_outcome}
 use Rattle.ed_answers.proofs.Kit.{IfOk, with_post_mortem}
 use Rattle.ed_words.specs.declared.memory.NoMemory.{NoMemory}
 use Rattle.ed_run.specs.declared.settings.Window.{Window}
@@ -14,10 +14,6 @@ unasked before window r none = search rules
 pub plain_tape : (s : Settings) (codes : List ℕ) → s.post_mortem ≡ None
     → tape_outcome s codes ≡ ran_outcome [] (run_of s codes)
 plain_tape s codes none = unasked [] s.post_mortem (run_of s codes) none
-
-pub plain_source : (s : Settings) → s.post_mortem ≡ None → (lines : List Line)
-    → run_outcome s lines ≡ ran_outcome (entered_before lines (run_of s (tape lines)).state) (run_of s (tape lines))
-plain_source s none lines = search rules
 
 -- a run that ended is the one of an outcome
 pub noted_run : (before : Text) {r : RunEnd} (noted : NotedRun) → IsRunResult r noted.ran

@@ -1,31 +1,12 @@
 -- From a run that continued to the cause of an answer.
-use Rattle.ed_page.proofs.Kit.{common_steps, rules, IsRunResult, FinishedRun, [], arith, inl, inr, length, List, ℕ, ◌-◌}
-use Rattle.ed_page.proofs.Kit.{◌≡◌, ◌≢◌, ◌⊎◌, Text, State, state_after, run_end, RunEnd, paper_room, Buffers, IsShown}
+use Rattle.ed_page.proofs.Kit.{common_steps, rules, IsRunResult, FinishedRun, [], arith, length, List, ℕ, ◌-◌}
+use Rattle.ed_page.proofs.Kit.{◌≡◌, Text, State, state_after, run_end, RunEnd, paper_room, Buffers, IsShown}
 use Rattle.ed_page.proofs.Kit.{AreCodes, Pictures, Registers}
 use Rattle.ed_machine.specs.Sheet.{Sheet}
 use Rattle.ed_run.specs.Run.{RunLeaves}
 use Rattle.ed_answers.specs.Answer.{Answer}
-use Rattle.ed_page.specs.Going.{BeginsOnTheWay, GoingBuffers, HasStoreRoom, IsRunResumed, IsOnTheWay, ShowsRun}
+use Rattle.ed_page.specs.Going.{BeginsOnTheWay, IsOnTheWay}
 use Rattle.ed_page.proofs.Goes.{run_end-stays}
-
--- a buffer of the store has the wrong length
-pub no_store_room : (b : GoingBuffers)
-    → (length b.words ≢ 1024) ⊎ ((length b.words ≡ 1024) × (length b.digits ≢ 512)) → HasStoreRoom b → ⊥
-no_store_room b (inl words) room = words room.0
-no_store_room b (inr digits) room = digits.1 room.1
-
--- there was no room
-pub gone_nowhere : (r : RunEnd) (before : GoingBuffers) → (HasStoreRoom before → ⊥) → IsRunResumed r before before 12
-gone_nowhere r before none = search rules
-
--- no memory was found
-pub gone_unmade : (r : RunEnd) (before : GoingBuffers) → HasStoreRoom before → IsRunResumed r before before 10
-gone_unmade r before room = search rules
-
--- the end of the run was written
-pub gone_shown : (r : RunEnd) (before after : GoingBuffers) (answer : ℕ) → HasStoreRoom before
-    → ShowsRun r before after answer → IsRunResumed r before after answer
-gone_shown r before after answer room shows = search rules
 
 -- what is shown then is on the way again
 pub next_on : (first : State) (rows : List ℕ) (k limit resumes room : ℕ) (words digits : List ℕ) (registers : Registers)

@@ -1,14 +1,13 @@
 -- That the plain program over rows makes the table of the items that the rows spell.
-use Rattle.ed_page.proofs.Kit.{common_steps, rules, take-append_seam, Size, cleared_cells, Cells, IsStore, TapeCause}
+use Rattle.ed_page.proofs.Kit.{common_steps, rules, take-append_seam, Size, cleared_cells, TapeCause}
 use Rattle.ed_page.proofs.Kit.{length-append, take, ◌*◌, IsFault, AreDigits, digits_number, next_row, opening_notation}
-use Rattle.ed_page.proofs.Kit.{Reply, [], ap, append-nil, append_assoc, arith, Bool, drop, false, get_or, inl, inr}
+use Rattle.ed_page.proofs.Kit.{Reply, [], ap, append-nil, append_assoc, arith, drop, false, get_or, inl, inr}
 use Rattle.ed_page.proofs.Kit.{length, List, None, Option, refl, Some, subst, sym, true, ℕ, ◌++◌, ◌+◌, ◌<◌, ◌^◌, ◌∙◌}
 use Rattle.ed_page.proofs.Kit.{◌∷◌, ◌≡◌, ◌≤◌, done, Outcome, Gives, item_at, opened_with, IsReplied, IsItemsOutcome}
 use Rattle.ed_page.proofs.Kit.{item_line, OpenItem}
 use Rattle.ed_notation.proofs.Kit.{AreRead, IsPart, part_rows, act, NotationState, over, Begun, IsBegun, IsWritten}
 use Rattle.ed_notation.proofs.Kit.{item, mark_rows, row_kind, rows_of, spelled_rows, Written, AreWritten}
 use Rattle.std.proofs.Math.Seq.{take-append-add}
-use Rattle.ed_store.specs.Cells.{with_short}
 use Rattle.ed_notation.specs.Checks.{Accepts}
 use Rattle.ed_notation.specs.Reports.{Report}
 use Rattle.ed_notation.specs.declared.item.Item.{Item}
@@ -78,10 +77,6 @@ digit_rows row n p (d ∷ ds) more are few =
     ∙ digit_rows (row + 1) n (with_number p (10 * p.number + d)) ds more are.1 few
     ∙ ap (λ r. table_on r n (Some (with_number p (digits_number p.number (d ∷ ds)))) more) same
 
--- an item with a mark, or without
-abbrev with_mark : OpenItem → Bool → OpenItem
-with_mark p mark = record p { mark = mark }
-
 -- the row that ends an item
 last_row : (row : ℕ) (n : Notation) (p : OpenItem) (c : ℕ) (more : List ℕ) → is_last_row (row_kind c) ≡ true
     → table_on row n (Some p) (c ∷ more)
@@ -148,10 +143,6 @@ pub record IsTabled (row : ℕ) (n : Notation) (part : Option OpenItem) (table r
   pub directive : n.directive ≤ 2 ^ 21 * (row + 1)
   pub theta : n.theta ≤ 2 ^ 21 * (row + 1)
 
--- a write beyond a store changes nothing
-pub beyond : (cells : Cells) (a v : ℕ) → IsStore cells → 1024 ≤ a → cells ≡ with_short cells a v
-beyond cells a v is past = grind (arith, common_steps)
-
 -- ---- the items of a tape
 
 first_over : IsNoteOver cleared_cells.words opening_notation first_notation
@@ -160,11 +151,6 @@ first_over = search rules
 AreWritten-append : (vs ws : List Written) → AreWritten vs → AreWritten ws → AreWritten (vs ++ ws)
 AreWritten-append [] ws a b = b
 AreWritten-append (v ∷ vs) ws a b = (a.0, AreWritten-append vs ws a.1 b)
-
--- a well-formed tape has the rows up to its entry
-pub entered_within : {z : Size} {codes : List ℕ} {r : Report} {count : ℕ}
-    → Accepts z cleared_cells.words opening_notation 9 codes r → count ≡ r.rows → count ≤ length codes
-entered_within f many = grind (arith, common_steps)
 
 -- what is answered to a well-formed tape
 pub entered_told : (z : Size) {codes : List ℕ} {r : Report} {count : ℕ} {reply : Reply}

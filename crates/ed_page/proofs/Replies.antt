@@ -1,9 +1,9 @@
 -- From the answer to the rows or the lines of a text to that to the text.
-use Rattle.ed_page.proofs.Kit.{common_steps, rules, arith, Size, Settings, Line, of_input, IsRunResult, Reply, NotedRun}
+use Rattle.ed_page.proofs.Kit.{common_steps, rules, arith, Size, Settings, Line, IsRunResult, Reply, NotedRun}
 use Rattle.ed_page.proofs.Kit.{[], ap, Err, inl, inr, List, Ok, refl, Result, Some, subst, sym, ℕ, ◌++◌, ◌∙◌, ◌≡◌, Text}
 use Rattle.ed_page.proofs.Kit.{reading, rows, State, RunEnd, tape, ending_line, Outcome, IsAcceptedAs, ran_outcome}
 use Rattle.ed_page.proofs.Kit.{run_of, entered_before, OfSource, run_outcome, RowsEnd, SourceEnds, IsReplied}
-use Rattle.ed_answers.proofs.Kit.{IsErr, IsErrAnd, no_row, open_comment, Reading, exactly, OfReading, refusal, Replies}
+use Rattle.ed_answers.proofs.Kit.{IsErr, IsErrAnd, no_row, open_comment, Reading, exactly, OfReading, refusal}
 use Rattle.ed_syntax.specs.declared.fault.SourceFault.TheVariants.{At}
 use Rattle.ed_report.specs.Notes.{source_fault_line}
 use Rattle.ed_answers.specs.Replies.{IsRunResultOf, LinksSource, RefusesText, RunsSource}
@@ -32,14 +32,6 @@ OfRows answers text = OfReading answers (reading text)
 at_rows : (answers : List ℕ → Outcome → Type 0) {q : Reading} {codes : List ℕ} {o : Outcome} → q ≡ rows codes
     → answers codes o → OfReading answers q o
 at_rows answers {o = o} is a = subst (λ (r : Reading). OfReading answers r o) (sym is) a
-
--- the answer to its rows
-pub rows_answered : (answers : List ℕ → Outcome → Type 0) (text : Text) {codes seen : List ℕ}
-    (r : Result Reply Rejection) → reading text ≡ rows codes → seen ≡ codes → IsAnswered answers seen r
-    → IsAnswered (OfRows answers) text r
-rows_answered answers text (Ok reply) is same a = search rules
-rows_answered answers text (Err (Refused reply)) is same a = search rules
-rows_answered answers text (Err Memory) is same a = tt
 
 refused_rows : (answers : List ℕ → Outcome → Type 0) (text : Text) (e : Rejection) → RefusesText (reading text) e
     → IsAnswered (OfRows answers) text (Err e)
@@ -92,23 +84,6 @@ rows_not_run outcome run text e r refuses handed = search (rules, not_run)
 refused_source : (z : Size) (f : List Line → Outcome) (text : Text) (reply : Reply)
     → LinksSource z text (Err (Refused reply)) → IsReplied (OfSource z f) text reply
 refused_source z f text reply l = (refusal (source_fault_line (At l.0 l.1)), inl (l.0, l.1, l.2, refl), l.3)
-
--- its refusal
-refused_lines : (z : Size) (f : List Line → Outcome) (text : Text) (e : Rejection) → LinksSource z text (Err e)
-    → IsAnswered (OfSource z f) text (Err e)
-refused_lines z f text (Refused reply) l = refused_source z f text reply l
-refused_lines z f text Memory l = tt
-
-pub source_refused : (z : Size) (f : List Line → Outcome) (text : Text) (e : Rejection) (r : Result Reply Rejection)
-    → LinksSource z text (Err e) → IsErr r × IsErrAnd r (λ handed. handed ≡ e) → IsAnswered (OfSource z f) text r
-source_refused z f text e r l handed = passed (IsAnswered (OfSource z f) text) e r (refused_lines z f text e l) handed
-
--- the program's reply
-pub IsAnswered-replied : (answers : Text → Outcome → Type 0) (text : Text) (r : Result Reply Rejection)
-    → Replies (of_input answers) text r → IsAnswered answers text r
-IsAnswered-replied answers text (Ok reply) is = is
-IsAnswered-replied answers text (Err (Refused reply)) is = is
-IsAnswered-replied answers text (Err Memory) is = tt
 
 -- the run of its tape
 ran_source : (s : Settings) (text : Text) (noted : NotedRun)

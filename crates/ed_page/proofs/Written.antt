@@ -44,12 +44,6 @@ early_long : {Kept Shown : Type 0} {out note : List ℕ} {answer : ℕ}
     → length note < length too_long → answer ≡ 12
 early_long {out = out} {note} {answer} is less = search rules
 
--- a text that is too long is told so
-pub long_written : (answers : Text → Outcome → Type 0) (text : Text) {before after : TextBuffers} {answer : ℕ}
-    → INPUT_BYTES < length text → IsWrittenOut too_long_outcome before after answer
-    → IsTextWritten (of_input answers) text before after answer
-long_written answers text long w = search rules
-
 -- a reply was written
 pub reply_written : (answers : Text → Outcome → Type 0) (text : Text) {reply : Reply} {answer line : Text}
     {before after : TextBuffers} {status : ℕ} → length text ≤ INPUT_BYTES → IsReplied answers text reply
@@ -57,11 +51,6 @@ pub reply_written : (answers : Text → Outcome → Type 0) (text : Text) {reply
     → IsWrittenOut (told_outcome answer line reply.status) before after status
     → IsTextWritten (of_input answers) text before after status
 reply_written answers text {before = before} {after} {status} few r out note w = search rules
-
--- no memory was found
-pub text_unmade : (answers : Text → Outcome → Type 0) (text : Text) (before : TextBuffers) → length text ≤ INPUT_BYTES
-    → IsTextWritten (of_input answers) text before before 10
-text_unmade answers text before few = search rules
 
 -- ---- a picture
 
@@ -93,12 +82,6 @@ lacks_line : (text : Text) (b : Buffers) → StoreFits b → LacksRoom text b �
 lacks_line text b fits (inl words) = absurd (words fits.0)
 lacks_line text b fits (inr (inl digits)) = absurd (digits fits.1)
 lacks_line text b fits (inr (inr line)) = line
-
--- no memory was found for it
-pub picture_unmade : (answers : Text → Outcome → Type 0) (Ends : Text → State → Type 0) (text : Text)
-    (before : Buffers) → StoreFits before → length text ≤ INPUT_BYTES
-    → IsShown (of_input answers) Ends text before before 10
-picture_unmade answers Ends text before fits few = search rules
 
 -- a buffer of the store has the wrong length
 pub picture_early : (answers : Text → Outcome → Type 0) (Ends : Text → State → Type 0) (text : Text) (before : Buffers)
