@@ -1,7 +1,6 @@
 -- Lists that grow at their ends: a loop that takes the items of a list one after the other, and texts that are added.
-use Rattle.ed_page.proofs.Kit.{common_steps, flat_map, latest_shift, paper_from, Shift, take}
-use Rattle.ed_page.proofs.Kit.{ap, arith, drop, get_or, length, List, reverse, ℕ, ◌++◌, ◌+◌}
-use Rattle.ed_page.proofs.Kit.{◌<◌, ◌∙◌, ◌∷◌, ◌≡◌, ◌≤◌, four_bytes}
+use Rattle.ed_page.proofs.Kit.{common_steps, flat_map, latest_shift, paper_from, Shift, take, ap, arith, drop, get_or}
+use Rattle.ed_page.proofs.Kit.{length, List, reverse, ℕ, ◌++◌, ◌+◌, ◌<◌, ◌∙◌, ◌∷◌, ◌≡◌, ◌≤◌, four_bytes}
 use Rattle.std.proofs.Common.{add-one, set, drop-cons}
 use Rattle.std.proofs.Math.Seq.{set-append_seam}
 use Rattle.ed_printer.proofs.Texts.{Strikes, struck_alone}

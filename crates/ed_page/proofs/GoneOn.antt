@@ -1,7 +1,7 @@
 -- From a run that continued to the cause of an answer.
-use Rattle.ed_page.proofs.Kit.{common_steps, rules, IsRunResult, FinishedRun, [], arith, length, List, ℕ, ◌-◌}
-use Rattle.ed_page.proofs.Kit.{◌≡◌, Text, State, state_after, run_end, RunEnd, paper_room, Buffers, IsShown}
-use Rattle.ed_page.proofs.Kit.{AreCodes, Pictures, Registers}
+use Rattle.ed_page.proofs.Kit.{common_steps, rules, IsRunResult, FinishedRun, [], arith, length, List, ℕ, ◌-◌, ◌≡◌}
+use Rattle.ed_page.proofs.Kit.{Text, State, state_after, run_end, RunEnd, paper_room, Buffers, IsShown, AreCodes}
+use Rattle.ed_page.proofs.Kit.{Pictures, Registers}
 use Rattle.ed_machine.specs.Sheet.{Sheet}
 use Rattle.ed_run.specs.Run.{RunLeaves}
 use Rattle.ed_answers.specs.Answer.{Answer}

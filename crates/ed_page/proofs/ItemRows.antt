@@ -1,10 +1,9 @@
 -- That the plain program over rows makes the table of the items that the rows spell.
-use Rattle.ed_page.proofs.Kit.{common_steps, rules, take-append_seam, Size, cleared_cells, TapeCause}
-use Rattle.ed_page.proofs.Kit.{length-append, take, ◌*◌, IsFault, AreDigits, digits_number, next_row, opening_notation}
-use Rattle.ed_page.proofs.Kit.{Reply, [], ap, append-nil, append_assoc, arith, drop, false, get_or, inl, inr}
-use Rattle.ed_page.proofs.Kit.{length, List, None, Option, refl, Some, subst, sym, true, ℕ, ◌++◌, ◌+◌, ◌<◌, ◌^◌, ◌∙◌}
-use Rattle.ed_page.proofs.Kit.{◌∷◌, ◌≡◌, ◌≤◌, done, Outcome, Gives, item_at, opened_with, IsReplied, IsItemsOutcome}
-use Rattle.ed_page.proofs.Kit.{item_line, OpenItem}
+use Rattle.ed_page.proofs.Kit.{common_steps, rules, take-append_seam, Size, cleared_cells, TapeCause, length-append}
+use Rattle.ed_page.proofs.Kit.{take, ◌*◌, IsFault, AreDigits, digits_number, next_row, opening_notation, Reply, [], ap}
+use Rattle.ed_page.proofs.Kit.{append-nil, append_assoc, arith, drop, false, get_or, inl, inr, length, List, None}
+use Rattle.ed_page.proofs.Kit.{Option, refl, Some, subst, sym, true, ℕ, ◌++◌, ◌+◌, ◌<◌, ◌^◌, ◌∙◌, ◌∷◌, ◌≡◌, ◌≤◌, done}
+use Rattle.ed_page.proofs.Kit.{Outcome, Gives, item_at, opened_with, IsReplied, IsItemsOutcome, item_line, OpenItem}
 use Rattle.ed_notation.proofs.Kit.{AreRead, IsPart, part_rows, act, NotationState, over, Begun, IsBegun, IsWritten}
 use Rattle.ed_notation.proofs.Kit.{item, mark_rows, row_kind, rows_of, spelled_rows, Written, AreWritten}
 use Rattle.std.proofs.Math.Seq.{take-append-add}

@@ -2,9 +2,8 @@
 -- orders lead to them, and a picture shows one of them alone.
 use Rattle.ed_page.proofs.Kit.{common_steps, IfSome, IsNone, ◌↔◌, Size, IsReached, Cells, IsStore, lit≤, ◌%◌, ◌/◌}
 use Rattle.ed_page.proofs.Kit.{locations, ap, arith, Bool, drop, get_or, inl, inr, length, List, None, Option, refl}
-use Rattle.ed_page.proofs.Kit.{replicate, rules, Some, subst, sym, ℕ, ◌++◌, ◌-◌, ◌<◌, ◌^◌, ◌∙◌, ◌≡◌, ◌≤◌, State}
-use Rattle.ed_page.proofs.Kit.{state_after, first_state, first_state1, AreCodes, Pictures, PicturesStore, size_shown}
-use Rattle.ed_page.proofs.Kit.{Registers}
+use Rattle.ed_page.proofs.Kit.{rules, Some, subst, sym, ℕ, ◌++◌, ◌-◌, ◌<◌, ◌^◌, ◌∙◌, ◌≡◌, ◌≤◌, State, state_after}
+use Rattle.ed_page.proofs.Kit.{first_state, first_state1, AreCodes, Pictures, PicturesStore, size_shown, Registers}
 use Rattle.std.proofs.Common.{unwrap_or}
 use Rattle.ed_words.specs.declared.size.Size.TheVariants.{Small, Full}
 use Rattle.ed_machine.specs.Reached.IsReached.{clear, start, obey}
@@ -19,10 +18,6 @@ use Rattle.ed_page.specs.Going.{CanGoOn, IsAfterStart}
 use Rattle.ed_page.specs.Pictures.{last_shown}
 use Rattle.ed_page.proofs.Stores.{words_fit}
 use Rattle.ed_page.proofs.TapeRows.{by_steps}
-
--- the words of the Initial Orders of May 1949 that Start places, and 0
-abbrev first_words1 : List ℕ
-first_words1 = first_orders ++ drop 31 (replicate 1024 0)
 
 first_sound1 : (rows : List ℕ) → AreCodes rows → IsSound (first_state1 rows)
 unfolding first_state1

@@ -1,7 +1,5 @@
 -- The text that codes add to the paper after others.
-use Rattle.ed_page.proofs.Kit.{rules, [], ap, append-nil}
-use Rattle.ed_page.proofs.Kit.{append_assoc, sym, ◌++◌, ◌∙◌, ◌∷◌}
-use Rattle.ed_page.proofs.Kit.{paper}
+use Rattle.ed_page.proofs.Kit.{rules, [], ap, append-nil, append_assoc, sym, ◌++◌, ◌∙◌, ◌∷◌, paper}
 use Rattle.std.proofs.lemmas.List.{reverse-append}
 use Rattle.ed_printer.proofs.Latest.{in_latest_shift}
 use Rattle.ed_page.specs.Going.{PaperLaw}

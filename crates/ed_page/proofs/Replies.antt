@@ -1,6 +1,6 @@
 -- From the answer to the rows or the lines of a text to that to the text.
-use Rattle.ed_page.proofs.Kit.{common_steps, rules, arith, Size, Settings, Line, IsRunResult, Reply, NotedRun}
-use Rattle.ed_page.proofs.Kit.{[], ap, Err, inl, inr, List, Ok, refl, Result, Some, subst, sym, ℕ, ◌++◌, ◌∙◌, ◌≡◌, Text}
+use Rattle.ed_page.proofs.Kit.{common_steps, rules, arith, Size, Settings, Line, IsRunResult, Reply, NotedRun, [], ap}
+use Rattle.ed_page.proofs.Kit.{Err, inl, inr, List, Ok, refl, Result, Some, subst, sym, ℕ, ◌++◌, ◌∙◌, ◌≡◌, Text}
 use Rattle.ed_page.proofs.Kit.{reading, rows, State, RunEnd, tape, ending_line, Outcome, IsAcceptedAs, ran_outcome}
 use Rattle.ed_page.proofs.Kit.{run_of, entered_before, OfSource, run_outcome, RowsEnd, SourceEnds, IsReplied}
 use Rattle.ed_answers.proofs.Kit.{IsErr, IsErrAnd, no_row, open_comment, Reading, exactly, OfReading, refusal}
