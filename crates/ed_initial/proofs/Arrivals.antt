@@ -1,6 +1,6 @@
 -- A walk along a path of the listing ends where the path does.
-use Rattle.ed_initial.proofs.Kit.{Went, Moment, zero, Obeyed, step, State, progress, state_after, ap, arith, Bool}
-use Rattle.ed_initial.proofs.Kit.{false, None, refl, Some, suc, true, ℕ, ◌+◌, ◌<◌, ◌∙◌, ◌≡◌, ◌≤◌, enters, Enters}
+use Rattle.ed_initial.proofs.Kit.{rules, Went, Moment, zero, Obeyed, step, State, progress, state_after, ap, arith}
+use Rattle.ed_initial.proofs.Kit.{Bool, false, None, refl, Some, suc, true, ℕ, ◌+◌, ◌<◌, ◌∙◌, ◌≡◌, ◌≤◌, enters, Enters}
 use Rattle.ed_initial.proofs.Kit.{event_by, is_rest, walk_end, walk_orders, WalkEnds, Rested, At}
 use Rattle.ed_machine.proofs.Kit.Paths.{first_state}
 use Rattle.ed_initial.specs.Load.{Rests}
@@ -29,8 +29,7 @@ walk_along {f} (on {kind = kind} {r = r} {m = m} first away rest) o zero h =
     event_of (state f r o) (state f m (o + 1)) false false (first.does o)
     (enters-quiet (state f r o) (first.order o) p.0) p.1
 walk_along {f} (on {r = r} {m = m} first away rest) o (suc j) h =
-    ap walk_end (one_earlier j (state f r o) (state f m (o + 1)) (first.does o))
-    ∙ walk_along rest (o + 1) j (omega arith)
+    search (rules, one_earlier, (walk_along rest (o + 1) j (omega arith)))
 
 -- a walk along a path
 pub walks_path : {f : Kept} {k : ℕ} {r t : Moment} → ToRest f k r t → is_rest t.counter ≡ true → k ≤ 17

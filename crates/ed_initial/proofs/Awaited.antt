@@ -1,8 +1,8 @@
 -- A started machine waits for each row of its tape before which no rule is broken.
-use Rattle.ed_initial.proofs.Kit.{NoTape, Moment, cases_lt, IsStore, step, State, state_after, quiet_codes, opening}
-use Rattle.ed_initial.proofs.Kit.{[], ap, arith, inl, inr, length, List, None, Option, refl, Some, subst, sym, ℕ, ◌*◌}
-use Rattle.ed_initial.proofs.Kit.{◌++◌, ◌+◌, ◌≡◌, ◌≤◌, costs, NotationState, Begun, spelled_rows, IsStarted, EndsAs}
-use Rattle.ed_initial.proofs.Kit.{IsQuiet, Scratch, Loaded, Lost}
+use Rattle.ed_initial.proofs.Kit.{NoTape, Moment, cases_lt, IsStore, step, State, state_after, quiet_codes, opening, []}
+use Rattle.ed_initial.proofs.Kit.{ap, arith, inl, inr, length, List, None, Option, refl, Some, subst, sym, ℕ, ◌*◌, ◌++◌}
+use Rattle.ed_initial.proofs.Kit.{◌+◌, ◌≡◌, ◌≤◌, costs, NotationState, Begun, spelled_rows, IsStarted, EndsAs, IsQuiet}
+use Rattle.ed_initial.proofs.Kit.{Scratch, Loaded, Lost}
 use Rattle.ed_notation.specs.Beginnings.{part_cost, state_before, orders_before}
 use Rattle.ed_notation.specs.Faults.{IsPart, part_rows}
 use Rattle.ed_notation.proofs.Beginnings.{beginning_most, ended, fault_sound}

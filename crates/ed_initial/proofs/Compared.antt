@@ -1,10 +1,9 @@
 -- A loop that compares the words of a store with a list, location by location: what the test at one location means.
-use Rattle.ed_initial.proofs.Kit.{false≢true, not-true, ap, Bool, false, get_or, length, List, sym, true, ℕ, ◌<◌, ◌∙◌}
-use Rattle.ed_initial.proofs.Kit.{◌≡◌, ◌≢◌}
+use Rattle.ed_initial.proofs.Kit.{common_steps, arith, false≢true, not-true, ap, Bool, false, get_or, length, List, sym}
+use Rattle.ed_initial.proofs.Kit.{true, ℕ, ◌<◌, ◌∙◌, ◌≡◌, ◌≢◌}
 use Rattle.std.proofs.Common.{eqb}
 use Rattle.std.proofs.Math.Bool.{not}
 use Rattle.std.proofs.lemmas.Bool.{eqb-true, eq-eqb, not-false}
-use Rattle.std.proofs.lemmas.List.{get_or_read}
 
 -- a test that reads the item of the list once more
 pub tested : (word : ℕ) {item again : ℕ} {differ : Bool} → differ ≡ not (eqb word again) → item ≡ again
@@ -16,9 +15,7 @@ module _ (words list : List ℕ) (i : ℕ) {read : List ℕ} {index word item : 
     (is_list : read ≡ list) (is_index : index ≡ i) (is_item : item ≡ get_or read index item)
     (is_word : word ≡ get_or words i 0) (is_test : differ ≡ not (eqb word item)) where
   item_at : item ≡ get_or list i 0
-  item_at =
-      get_or_read list i item less
-      (is_item ∙ ap (λ xs. get_or xs index item) is_list ∙ ap (λ k. get_or list k item) is_index) 0
+  item_at = grind (arith, common_steps)
 
   pub is_same : differ ≡ false → get_or words i 0 ≡ get_or list i 0
   is_same off = sym is_word ∙ eqb-true _ _ (not-false _ (sym is_test ∙ off)) ∙ item_at

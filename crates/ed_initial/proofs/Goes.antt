@@ -1,21 +1,15 @@
 -- From the paths of the listing to steps of the machine.
-use Rattle.ed_initial.proofs.Kit.{not, not-true, Kind, Moment, Moves, ◌^◌, Obeyed, State, progress, state_after, ap}
-use Rattle.ed_initial.proofs.Kit.{arith, Bool, false, nat_eq, nat_lt, refl, Some, subst, suc, sym, true, ℕ, ◌&&◌, ◌+◌}
-use Rattle.ed_initial.proofs.Kit.{◌∙◌, ◌≡◌, and_parts, enters, GoesOn, is_E, IsQuiet, is_rest}
+use Rattle.ed_initial.proofs.Kit.{rules, not, not-true, Kind, Moment, Moves, Obeyed, State, progress, state_after, ap}
+use Rattle.ed_initial.proofs.Kit.{arith, Bool, false, refl, subst, suc, sym, true, ℕ, ◌&&◌, ◌+◌, ◌∙◌, ◌≡◌, and_parts}
+use Rattle.ed_initial.proofs.Kit.{enters, GoesOn, IsQuiet, is_rest}
 use Rattle.ed_machine.proofs.Kit.Orders.{IsOrder}
 use Rattle.ed_machine.proofs.Steps.{after_sum, each_sum}
 use Rattle.ed_initial.proofs.Paths.{Kept, piece, state, is_calm, Walk, stay, on, ToRest, ends}
 
-both_not : (a b c : Bool) → not (b && a) ≡ true → (a && (b && c)) ≡ false
-both_not true true c h = cc
-both_not true false c h = refl
-both_not false b c h = refl
-
 -- an order that is quiet does not enter
 pub enters-quiet : {top : ℕ} {kind : Kind} (s : State) → IsOrder top kind s
     → is_calm kind s.counter ≡ true → enters s ≡ false
-enters-quiet {kind = kind} s o h = rw o.kind_is (both_not (nat_eq s.counter 22) (is_E (Some kind))
-    (nat_lt s.acc (2 ^ 70)) h)
+enters-quiet {kind = kind} s o h = search rules
 
 -- an order that goes on reaches no rest
 pub is_rest-passes : (q : Bool) (place : ℕ) → (q && not (is_rest place)) ≡ true → (q ≡ true) × (is_rest place ≡ false)

@@ -1,8 +1,8 @@
 -- What the Initial Orders do with a row inside an item is what the notation says of it: from one rest to the next, or
 -- to the entry. One lemma for each kind of row.
-use Rattle.ed_initial.proofs.Kit.{A_F, E_F, Moment, ◌^◌, value_of, RowKind, PartialItem, RowEffect, Ended, Entered}
-use Rattle.ed_initial.proofs.Kit.{Longer, Placed, Refused, ap, arith, Bool, false, List, lit≤, nat_le, nat_lt, refl}
-use Rattle.ed_initial.proofs.Kit.{subst, sym, true, ℕ, ◌%◌, ◌*◌, ◌+◌, ◌<◌, ◌∷◌, ◌≡◌, ◌≤◌, locations, digit}
+use Rattle.ed_initial.proofs.Kit.{rules, A_F, E_F, Moment, ◌^◌, value_of, RowKind, PartialItem, RowEffect, Ended}
+use Rattle.ed_initial.proofs.Kit.{Entered, Longer, Placed, Refused, ap, arith, Bool, false, List, lit≤, nat_le, nat_lt}
+use Rattle.ed_initial.proofs.Kit.{refl, subst, sym, true, ℕ, ◌%◌, ◌*◌, ◌+◌, ◌<◌, ◌∷◌, ◌≡◌, ◌≤◌, locations, digit}
 use Rattle.ed_initial.proofs.Kit.{NotationState, over, row_kind, entry_by, placed_by, row_effect, set_by, setting_of}
 use Rattle.ed_initial.proofs.Kit.{entry_words, IsNotationState, IsPartSoFar, Scratch, scratch_of, working, Working}
 use Rattle.ed_notation.proofs.Kit.{leb-false, ltb-false, if_means, locations_most, is_place, address, control_of}
@@ -164,14 +164,8 @@ module _ (row : AtRow) (good : IsNotationState row.notation) (phase : IsPartSoFa
       let u = 4096 * part.function + 2 * part.number in
       closes (record notation { directive = u }) 16 14 is (lit≤ tt) (omega (arith, good))
       (kay_directive_path f w high false u rows (omega arith) (omega arith))))
-  by_kay ThetaByBlank means is =
-      if_means After part.mark _ _ (λ _. tt) (λ m.
-      if_means After (nat_lt 1023 part.number) _ _ (λ _. tt) (λ n.
-      by_kay_theta _ refl is (unmarked m) (omega arith) (ltb-false _ _ n)))
-  by_kay ThetaByG means is =
-      if_means After part.mark _ _ (λ _. tt) (λ m.
-      if_means After (nat_lt 1023 part.number) _ _ (λ _. tt) (λ n.
-      by_kay_theta _ refl is (unmarked m) (omega arith) (ltb-false _ _ n)))
+  by_kay ThetaByBlank means is = search (rules, by_kay_theta)
+  by_kay ThetaByG means is = search (rules, by_kay_theta)
   by_kay Neither means is = if_means After part.mark _ _ (λ _. tt) (λ _. tt)
 
   by_zed : (k : Control) → ControlMeans k part.function → c ≡ 13 → After (zed_effect k (setting_of notation) part)
@@ -216,14 +210,7 @@ module _ (row : AtRow) (good : IsNotationState row.notation) (phase : IsPartSoFa
   word = part_word (over notation.placed ws) (setting_of notation) part c
 
   letter : 17 ≤ c → c < 32 → IsLetter f w high false c value ((w.at0 + value) % 2 ^ 17) word
-  letter low code = record {
-    low = low;
-    most = code;
-    fits = omega (arith, phase, mark_most part.mark);
-    value = value_here lettered (over notation.placed ws) c low refl refl;
-    sum = refl;
-    is = omega arith;
-  }
+  letter low code = search (rules, mark_most, value_here)
 
   by_letter : (k : LetterAction) → AimMeans k notation.directive → 17 ≤ c → c < 32
       → After (letter_effect f.size k (setting_of notation) word)

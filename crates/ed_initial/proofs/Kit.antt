@@ -1,5 +1,6 @@
 -- The names that the proofs of this crate cite, passed on from one place. Declares nothing.
-pub use Rattle.std.proofs.Common.{not}
+pub use Rattle.std.proofs.lemmas.Grind.{common_steps}
+pub use Rattle.std.proofs.Common.{not, rules}
 pub use Rattle.std.proofs.lemmas.Bool.{false≢true, not-true}
 pub use Rattle.ed_words.specs.declared.order_words.TheConstants.{A_F, E_F, T_F}
 pub use Rattle.ed_words.specs.declared.size.Size.{Size}

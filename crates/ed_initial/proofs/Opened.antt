@@ -1,10 +1,9 @@
 -- The state in which a load begins, as the paths see it.
-use Rattle.ed_initial.proofs.Kit.{T_F, Moment, patched, ◌^◌, IsStore, State, opening, ap, arith, Bool, drop, false}
-use Rattle.ed_initial.proofs.Kit.{get_or, length, List, refl, set, sym, ℕ, ◌*◌, ◌++◌, ◌/◌, ◌<◌, ◌∙◌, ◌∷◌, ◌≡◌}
+use Rattle.ed_initial.proofs.Kit.{rules, T_F, Moment, patched, ◌^◌, IsStore, State, opening, ap, arith, Bool, drop}
+use Rattle.ed_initial.proofs.Kit.{false, get_or, length, List, refl, set, sym, ℕ, ◌*◌, ◌++◌, ◌/◌, ◌<◌, ◌∙◌, ◌∷◌, ◌≡◌}
 use Rattle.ed_initial.proofs.Kit.{IsStarted, initial_orders, IsNotationState, Scratch, Working}
 use Rattle.std.proofs.Common.{drop-cons}
 use Rattle.std.proofs.lemmas.List.{set-get_or}
-use Rattle.ed_machine.proofs.Kit.Frames.{same_state}
 use Rattle.ed_machine.proofs.Kit.Window.{patched_one, headed}
 use Rattle.ed_initial.proofs.Inside.{between}
 use Rattle.ed_initial.proofs.Paths.{Kept, state, ToRest, cells, moment, start_path}
@@ -49,12 +48,7 @@ words_are ws long orders =
 
 pub state-opened : (s : State) (store : IsStore s.store) → IsStarted s
     → state (frame s store) (begins s store) s.orders ≡ s
-state-opened s store started =
-    let words = words_are s.store.words store.words_are started.orders in
-    let digits =
-    patched_one false s.store.sandwich 20 (get_or s.store.sandwich 20 false) (omega (arith, store.digits_are))
-    ∙ set-get_or s.store.sandwich 20 false in
-    same_state s refl words digits refl (sym started.counter)
+state-opened s store started = search (rules, words_are, patched_one, set-get_or)
 
 -- what the first rest leaves open
 abbrev pub first_scratch : State → Scratch

@@ -1,11 +1,12 @@
 -- The loading theorem without a call: from a started machine a well-formed tape leads to the state at the entry in as
 -- many orders as it costs, each of which goes on and prints nothing.
-use Rattle.ed_initial.proofs.Kit.{Went, zero, ◌^◌, cases_lt, IsStore, Obeyed, step, State, progress, state_after}
-use Rattle.ed_initial.proofs.Kit.{quiet_codes, opening, [], ap, arith, false, inl, inr, None, subst, suc, true, ℕ, ◌*◌}
-use Rattle.ed_initial.proofs.Kit.{◌+◌, ◌<◌, ◌∙◌, ◌≡◌, ◌≤◌, ◌⊎◌, TapeEntry, over, IsDirective, Arrived, reading_on}
+use Rattle.ed_initial.proofs.Kit.{Went, ◌^◌, cases_lt, IsStore, Obeyed, step, State, progress, state_after, quiet_codes}
+use Rattle.ed_initial.proofs.Kit.{opening, [], ap, arith, false, inl, inr, None, subst, suc, true, ℕ, ◌*◌, ◌+◌, ◌<◌}
+use Rattle.ed_initial.proofs.Kit.{◌∙◌, ◌≡◌, ◌≤◌, ◌⊎◌, TapeEntry, over, IsDirective, Arrived, reading_on}
 use Rattle.ed_initial.proofs.Kit.{reading_is_rules, at_entry, entry_words, IsStarted, ReachesEntry, enters, IsQuiet}
 use Rattle.ed_initial.proofs.Loads.{Reaches, Rest, Reaches-prepend, Reaches-loads}
-use Rattle.ed_initial.proofs.Opened.{frame, begins, state-opened, first_path, first_scratch, opening_notation, state-shown}
+use Rattle.ed_initial.proofs.Opened.{frame, begins, state-opened, first_path, first_scratch, opening_notation}
+use Rattle.ed_initial.proofs.Opened.{state-shown}
 use Rattle.ed_initial.proofs.Paths.{state}
 
 -- orders that go on, and one more that enters the program, lead to the state at the entry

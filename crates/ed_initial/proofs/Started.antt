@@ -1,14 +1,11 @@
 -- A machine on which Start has just acted is at the first of the Initial Orders, and a well-formed tape reaches an
 -- entry.
-use Rattle.ed_initial.proofs.Kit.{start_state, State, opening, arith, drop, inl, inr, List, refl, ℕ, TapeEntry}
-use Rattle.ed_initial.proofs.Kit.{WellFormed, IsDirective, reading_is_rules, IsStarted, ReachesEntry, initial_orders}
+use Rattle.ed_initial.proofs.Kit.{rules, start_state, State, opening, arith, inl, inr, List, ℕ, TapeEntry, WellFormed}
+use Rattle.ed_initial.proofs.Kit.{IsDirective, reading_is_rules, IsStarted, ReachesEntry, initial_orders}
 use Rattle.std.proofs.Math.ListN.{get_or-append}
 
 pub is_started : (rows : List ℕ) (s : State) → IsStarted (start_state initial_orders rows s)
-is_started rows s = record {
-  counter = refl;
-  orders = λ i h. get_or-append initial_orders (drop 41 s.store.words) 0 i h;
-}
+is_started rows s = search (rules, get_or-append)
 
 pub well_comes : (s : State) → WellFormed s.size s.store.words (opening s.store.words) s.tape → (e : TapeEntry)
     × ReachesEntry s e

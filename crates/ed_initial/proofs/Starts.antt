@@ -1,16 +1,11 @@
 -- A cleared machine that is started on the rows of a text is within the bounds of a machine, and at the first of the
 -- Initial Orders.
-use Rattle.ed_initial.proofs.Kit.{Size, least, zero, ◌^◌, nat_tests, IsStore, [], arith, Bool, drop, false}
-use Rattle.ed_initial.proofs.Kit.{if◌then◌else◌, length, List, lit<, lit≤, nat_le, nat_lt, refl, Some, subst, suc}
-use Rattle.ed_initial.proofs.Kit.{true, ℕ, ◌&&◌, ◌++◌, ◌-◌, ◌<◌, ◌∷◌, ◌≡◌, ◌≤◌, and_parts, ltb-true, IsStarted}
+use Rattle.ed_initial.proofs.Kit.{rules, Size, least, zero, ◌^◌, IsStore, [], drop, length, List, lit<, lit≤, nat_lt}
+use Rattle.ed_initial.proofs.Kit.{Some, subst, suc, true, ℕ, ◌++◌, ◌<◌, ◌∷◌, ◌≡◌, and_parts, ltb-true, IsStarted}
 use Rattle.ed_initial.proofs.Kit.{initial_orders}
-use Rattle.ed_notation.proofs.Kit.{replicate, list_all, length-replicate, row_of}
-use Rattle.std.proofs.Common.{◌==◌, position, slice_index}
-use Rattle.std.proofs.lemmas.List.{length-append, length-drop}
-use Rattle.std.proofs.lemmas.List.Quantifiers.{position-Some}
-use Rattle.std.proofs.lemmas.Option.{same_Some}
+use Rattle.ed_notation.proofs.Kit.{replicate, list_all, row_of}
+use Rattle.std.proofs.Common.{slice_index}
 use Rattle.ed_codes.specs.Reading.{IsReadingOf, reading, rows}
-use Rattle.ed_codes.specs.Spelling.{letters}
 use Rattle.ed_codes.specs.Text.{Spells, none, row, spacing, comment}
 use Rattle.ed_codes.proofs.Every.{every_text}
 use Rattle.ed_machine.specs.Sound.{IsSound}
@@ -23,13 +18,7 @@ abbrev pub first_words : List ℕ
 first_words = initial_orders ++ drop 41 (replicate 1024 0)
 
 pub first_length : length first_words ≡ 1024
-first_length =
-    omega (
-      arith,
-      length-append initial_orders (drop 41 (replicate 1024 0)),
-      length-drop {A = ℕ} 41 (replicate 1024 0),
-      length-replicate {A = ℕ} 1024 0,
-    )
+first_length = search rules
 
 -- words that pass the test are below 2^17, and so is 0, for any index past the last
 pub all_fit : (ws : List ℕ) → list_all (λ w. nat_lt w (2 ^ 17)) ws ≡ true → (i : ℕ) → slice_index ws i < 2 ^ 17
@@ -39,11 +28,7 @@ all_fit (w ∷ ws) h (suc i) = all_fit ws (and_parts (nat_lt w (2 ^ 17)) _ h).1 
 
 pub first_store : (z : Size) (tape : List ℕ) → IsStore (first_state z tape).store
 unfolding first_state
-first_store z tape = record {
-  words_are = first_length;
-  digits_are = length-replicate {A = Bool} 512 false;
-  fits = all_fit first_words refl;
-}
+first_store z tape = search (rules, all_fit)
 
 pub starts : (z : Size) (tape : List ℕ) → IsStarted (first_state z tape)
 unfolding first_state
@@ -51,14 +36,7 @@ starts z tape = is_started tape (cleared_state z)
 
 -- a byte spells one of the 32 codes
 spelled_code : (byte code : ℕ) → row_of byte ≡ Some code → code < 32
-spelled_code byte code = by_digit (nat_le 48 byte && nat_le byte 57) refl
-  where
-    by_digit : (b : Bool) → (nat_le 48 byte && nat_le byte 57) ≡ b
-        → (if b then Some (byte - 48) else position (λ l. l == byte) letters) ≡ Some code → code < 32
-    by_digit true is e =
-        let most : byte ≤ 57 = let p = (and_parts (nat_le 48 byte) (nat_le byte 57) is).1 in grind (arith, nat_tests) in
-        omega (arith, same_Some (byte - 48) code e)
-    by_digit false is e = (position-Some (λ l. l == byte) letters code 0 e).0
+spelled_code byte code = search rules
 
 -- so each row of a text is one of them
 rows_fit : {text codes : List ℕ} → Spells text codes → (i : ℕ) → slice_index codes i < 32
@@ -73,14 +51,7 @@ read_fit text codes read = rows_fit {text = text} (subst (IsReadingOf text) read
 
 pub first_sound : (z : Size) (codes : List ℕ) → ((i : ℕ) → slice_index codes i < 32) → IsSound (first_state z codes)
 unfolding first_state
-first_sound z codes fit = record {
-  store = first_store z codes;
-  acc = lit< tt;
-  multiplier = lit< tt;
-  counter = let size = least z in omega arith;
-  tape = fit;
-  last = lit< tt;
-}
+first_sound z codes fit = search (rules, first_store, least)
 
 pub sound_start : (z : Size) (text codes : List ℕ) → reading text ≡ rows codes → IsSound (first_state z codes)
 sound_start z text codes read = first_sound z codes (read_fit text codes read)

@@ -1,9 +1,9 @@
 -- From one rest to another over rows that break no rule: a part of an item, an item, and items one after the other.
-use Rattle.ed_initial.proofs.Kit.{Moment, RowKind, PartialItem, RowEffect, Ended, Entered, Longer, Placed, Refused}
-use Rattle.ed_initial.proofs.Kit.{law, Reader, [], ap, arith, Bool, false, length, List, None, refl, Some, subst, suc}
-use Rattle.ed_initial.proofs.Kit.{sym, true, ℕ, ◌*◌, ◌++◌, ◌+◌, ◌∙◌, ◌∷◌, ◌≡◌, ◌≤◌, digit, costs, end_cost}
+use Rattle.ed_initial.proofs.Kit.{rules, Moment, RowKind, PartialItem, RowEffect, Ended, Entered, Longer, Placed}
+use Rattle.ed_initial.proofs.Kit.{Refused, law, Reader, [], ap, arith, Bool, false, length, List, None, refl, Some}
+use Rattle.ed_initial.proofs.Kit.{subst, suc, sym, true, ℕ, ◌*◌, ◌++◌, ◌+◌, ◌∙◌, ◌∷◌, ◌≡◌, ◌≤◌, digit, costs, end_cost}
 use Rattle.ed_initial.proofs.Kit.{NotationState, over, Begun, digits_number, IsBegun, row_kind, rows_of, spelled_rows}
-use Rattle.ed_initial.proofs.Kit.{part_of, placed_by, set_by, RowLaw, IsNotationState, Scratch, scratch_of, working}
+use Rattle.ed_initial.proofs.Kit.{part_of, RowLaw, IsNotationState, Scratch, scratch_of, working}
 use Rattle.ed_notation.proofs.Kit.{append_assoc, true≢false, AreRead, AreSound, EndsSound, act, begun_cost, cost_of}
 use Rattle.ed_notation.proofs.Kit.{ending_effect, entering, fold, is_entry, AreDigits, begun_rows, ends, IsWritten}
 use Rattle.ed_notation.proofs.Kit.{item, item_of, items, mark_rows, Written}
@@ -132,12 +132,8 @@ module _ (f : Kept) (ws : List ℕ) where
         → Closes row (ending_effect kind ws notation (item_of b c)) (end_cost kind notation)
     closes_by (Refused cause) h does s e n = let q : Some cause ≡ None = sym h ∙ s in absurd (cc)
     closes_by (Longer next k) h does s e n = absurd (true≢false (sym e ∙ h.1))
-    closes_by (Ended setting k) h does s e n =
-        subst (λ (x : NotationState). Closes row x (end_cost kind notation)) h.1.notation_is
-        (subst (λ m. Closes row (set_by setting notation) m) h.1.cost_is does)
-    closes_by (Placed at word) h does s e n =
-        subst (λ (x : NotationState). Closes row x (end_cost kind notation)) h.1.notation_is
-        (subst (λ m. Closes row (placed_by at word notation) m) h.1.cost_is does)
+    closes_by (Ended setting k) h does s e n = search rules
+    closes_by (Placed at word) h does s e n = search rules
     closes_by (Entered at) h does s e n = absurd (true≢false (sym h.1.entered ∙ n))
 
     closes : IsNotationState notation → IsBegun b → first kind f.size ws notation b c ≡ None → ends kind b ≡ true

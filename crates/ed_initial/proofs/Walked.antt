@@ -1,10 +1,9 @@
 -- The walk from one rest to the next does what the notation says of the row.
-use Rattle.ed_initial.proofs.Kit.{Moment, IsStore, State, state_after, opening, PartialItem, RowEffect, Ended, Entered}
-use Rattle.ed_initial.proofs.Kit.{Longer, Placed, Refused, ap, arith, length, List, lit<, lit≤, refl, set, subst, sym}
+use Rattle.ed_initial.proofs.Kit.{rules, Moment, IsStore, State, state_after, opening, PartialItem, RowEffect, Ended}
+use Rattle.ed_initial.proofs.Kit.{Entered, Longer, Placed, Refused, ap, length, List, lit<, lit≤, refl, subst, sym}
 use Rattle.ed_initial.proofs.Kit.{true, ℕ, ◌+◌, ◌<◌, ◌∙◌, ◌∷◌, ◌≡◌, ◌≤◌, NotationState, over, row_kind, part_of}
 use Rattle.ed_initial.proofs.Kit.{row_effect, setting_of, IsStarted, IsNotationState, IsPartSoFar, Scratch, scratch_of}
 use Rattle.ed_initial.proofs.Kit.{working, Between, DoesRow, Inside, is_rest, walk_orders, WalkEnds, Rested, At}
-use Rattle.std.proofs.lemmas.List.{length-set}
 use Rattle.ed_initial.specs.Rests.{rest34, rest9, rest_at}
 use Rattle.ed_initial.proofs.Arrivals.{walks_path, walks_in}
 use Rattle.ed_initial.proofs.Inside.{between, inside, AtRow, Follows, After-follows}
@@ -41,10 +40,7 @@ module _ (o : State) {s t : State} {r : Rested} (w : IsWalked s t r) where
   -- the opening store has sandwich digits as the machine's has
   has_room : (place : ℕ) (scratch : Scratch) (notation : NotationState) → s ≡ rest_at place scratch notation o
       → 20 < length o.store.sandwich
-  has_room place scratch notation e =
-      let a : length s.store.sandwich ≡ length (set o.store.sandwich 20 scratch.digit40) =
-      ap (λ (x : State). length x.store.sandwich) e in
-      omega (arith, a, length-set o.store.sandwich 20 scratch.digit40, w.store.digits_are)
+  has_room place scratch notation e = search rules
 
   abbrev held : 20 < length o.store.sandwich → Kept
   held room = record { size = o.size; digits = o.store.sandwich; room = room; last = o.last }

@@ -1,9 +1,7 @@
 -- The loading theorem: a load of a well-formed tape ends at its entry, at its cost, in the state at the entry.
-use Rattle.ed_initial.proofs.Kit.{Went, IsStore, Obeyed, step, State, progress, state_after, opening, ap, arith}
-use Rattle.ed_initial.proofs.Kit.{length, List, suc, ℕ, ◌*◌, ◌++◌, ◌+◌, ◌∙◌, ◌≡◌, ◌≤◌, TapeEntry, WellFormed}
-use Rattle.ed_initial.proofs.Kit.{NotationState, rows_of, spelled_rows, at_entry, IsStarted, ReachesEntry, EndsAs}
-use Rattle.ed_initial.proofs.Kit.{Loaded}
-use Rattle.std.proofs.Common.{length-append}
+use Rattle.ed_initial.proofs.Kit.{common_steps, rules, Went, IsStore, Obeyed, step, State, progress, state_after}
+use Rattle.ed_initial.proofs.Kit.{opening, ap, arith, length, List, suc, ℕ, ◌*◌, ◌+◌, ◌∙◌, ◌≡◌, ◌≤◌, TapeEntry}
+use Rattle.ed_initial.proofs.Kit.{WellFormed, NotationState, at_entry, IsStarted, ReachesEntry, EndsAs, Loaded}
 use Rattle.ed_notation.specs.Faults.{RowsReachEntry}
 use Rattle.ed_notation.proofs.Costs.{cost-most}
 use Rattle.ed_initial.specs.Entry.{IsLoaded}
@@ -17,10 +15,7 @@ use Rattle.ed_initial.proofs.Started.{well_comes}
 pub cost_fits : (words : List ℕ) (start : NotationState) (base : ℕ) (rows : List ℕ) (e : TapeEntry)
     → RowsReachEntry words start base rows e
     → e.cost ≤ 17 * length rows + base
-cost_fits words start base rows e c =
-    let all : length rows ≡ length (spelled_rows c.before) + length (rows_of c.last ++ e.rest) =
-    ap length c.rows_are ∙ length-append (spelled_rows c.before) (rows_of c.last ++ e.rest) in
-    omega (arith, cost-most words start base rows e c, c.read_is, all, length-append (rows_of c.last) e.rest)
+cost_fits words start base rows e c = grind (arith, common_steps, (cost-most words start base rows e c))
 
 -- a load that leads to an entry within its bound
 pub IsLoaded-ended : {s : State} {e : TapeEntry} (bound : ℕ) {t : State} {r : Loaded} → LeadsIn s e → e.cost ≤ bound
@@ -45,9 +40,7 @@ module _ (s t : State) (r : Loaded) (store : IsStore s.store) (started : IsStart
     (ends : EndsAs s (17 * length s.tape + 9) r)
     (is : t ≡ state_after (orders_of r) s) where
   pub whole_load : (e : TapeEntry) → ReachesEntry s e → IsLoaded s e r t
-  whole_load e h =
-      IsLoaded-ended (17 * length s.tape + 9) (comes_in s e store started h)
-      (cost_fits s.store.words (opening s.store.words) 9 s.tape e h.comes) ends is
+  whole_load e h = search (rules, IsLoaded-ended, comes_in, cost_fits)
 
   -- the same without a given entry
   pub total_load : WellFormed s.size s.store.words (opening s.store.words) s.tape

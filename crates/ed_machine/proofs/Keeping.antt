@@ -1,9 +1,7 @@
 -- What orders keep: the size of a machine, no new row on its tape, and how many orders are counted.
-use Rattle.ed_machine.proofs.Names.{List, suc, true≢false, zero, Kind, A, C, E, F, G, H, I, L, N, O, R, S, T, U, V, X}
-use Rattle.ed_machine.proofs.Names.{Y, Z, [], ap, arith, Bool, false, length, None, Option, refl, Some, sym, true, ℕ}
-use Rattle.ed_machine.proofs.Names.{◌+◌, ◌∙◌, ◌∷◌, ◌≡◌, ◌≤◌, jump_order, obey_word, Obeyed, place_of, row_order, step}
-use Rattle.ed_machine.proofs.Names.{State, is_obeyed, progress, state_after, Turn}
-use Rattle.ed_machine.specs.OrderTable.{blocked_order}
+use Rattle.ed_machine.proofs.Names.{rules, suc, zero, Kind, arith, false, length, Option, refl, true, ℕ}
+use Rattle.ed_machine.proofs.Names.{◌+◌, ◌≡◌, ◌≤◌, obey_word, Obeyed, step, State, is_obeyed}
+use Rattle.ed_machine.proofs.Names.{progress, state_after}
 
 -- a state reached by at most a number of orders
 pub record Follows (most : ℕ) (s t : State) : Type 0 where
@@ -18,58 +16,9 @@ pub record Leaves (s : State) (o : Obeyed) : Type 0 where
   pub count : is_obeyed o.turn ≡ true → o.state.orders ≡ s.orders + 1
   pub blocked : is_obeyed o.turn ≡ false → o.state ≡ s
 
--- one more order is counted
-one_more : (s : State) (o : Obeyed) → is_obeyed o.turn ≡ true → o.state.size ≡ s.size
-    → length o.state.tape ≤ length s.tape → o.state.orders ≡ s.orders + 1 → Leaves s o
-one_more s o obeyed size rows orders = record {
-  follows = record { size_is = size; fewer = rows; later = omega arith; soon = omega arith };
-  count = λ counted. orders;
-  blocked = λ none. absurd (true≢false (sym obeyed ∙ none));
-}
-
--- one that reads no row
-reads_none : (s : State) (o : Obeyed) → is_obeyed o.turn ≡ true → o.state.size ≡ s.size → o.state.tape ≡ s.tape
-    → o.state.orders ≡ s.orders + 1 → Leaves s o
-reads_none s o obeyed size tape orders = let e = ap length tape in one_more s o obeyed size (omega arith) orders
-
--- no order is obeyed
-none_more : (s : State) (turn : Turn) → is_obeyed turn ≡ false → Leaves s (blocked_order turn s)
-none_more s turn not_obeyed = record {
-  follows = record { size_is = refl; fewer = omega arith; later = omega arith; soon = omega arith };
-  count = λ obeyed. absurd (true≢false (sym obeyed ∙ not_obeyed));
-  blocked = λ none. refl;
-}
-
-jump_leaves : (b : Bool) (n : ℕ) (s : State) → Leaves s (jump_order b n s)
-jump_leaves true n s = reads_none s _ refl refl refl refl
-jump_leaves false n s = reads_none s _ refl refl refl refl
-
-row_leaves : (rows : List ℕ) (w : ℕ) (s : State) → s.tape ≡ rows → Leaves s (row_order rows w s)
-row_leaves [] w s is = none_more s _ refl
-row_leaves (row ∷ rows) w s is =
-    let e : length s.tape ≡ length (row ∷ rows) = ap length is in one_more s _ refl refl (omega arith) refl
-
 -- a word that is obeyed as an order
 pub word_leaves : (k : Option Kind) (w : ℕ) (s : State) → Leaves s (obey_word k w s)
-word_leaves (Some E) w s = jump_leaves _ (place_of s w) s
-word_leaves (Some G) w s = jump_leaves _ (place_of s w) s
-word_leaves (Some I) w s = row_leaves s.tape w s refl
-word_leaves (Some A) w s = reads_none s _ refl refl refl refl
-word_leaves (Some S) w s = reads_none s _ refl refl refl refl
-word_leaves (Some H) w s = reads_none s _ refl refl refl refl
-word_leaves (Some V) w s = reads_none s _ refl refl refl refl
-word_leaves (Some N) w s = reads_none s _ refl refl refl refl
-word_leaves (Some T) w s = reads_none s _ refl refl refl refl
-word_leaves (Some U) w s = reads_none s _ refl refl refl refl
-word_leaves (Some C) w s = reads_none s _ refl refl refl refl
-word_leaves (Some R) w s = reads_none s _ refl refl refl refl
-word_leaves (Some L) w s = reads_none s _ refl refl refl refl
-word_leaves (Some O) w s = reads_none s _ refl refl refl refl
-word_leaves (Some F) w s = reads_none s _ refl refl refl refl
-word_leaves (Some X) w s = reads_none s _ refl refl refl refl
-word_leaves (Some Y) w s = reads_none s _ refl refl refl refl
-word_leaves (Some Z) w s = reads_none s _ refl refl refl refl
-word_leaves None w s = none_more s _ refl
+word_leaves k w s = search rules
 
 -- one step
 pub step_leaves : (s : State) → Leaves s (step s)
@@ -80,12 +29,4 @@ step_leaves s = word_leaves _ _ s
 pub steps_follow : (k : ℕ) (s : State) → Follows k s (state_after k s)
 unfolding progress
 steps_follow zero s = record { size_is = refl; fewer = omega arith; later = omega arith; soon = omega arith }
-steps_follow (suc k) s =
-    let before = steps_follow k s in
-    let here = (step_leaves (state_after k s)).follows in
-    record {
-      size_is = here.size_is ∙ before.size_is;
-      fewer = omega (arith, before.fewer, here.fewer);
-      later = omega (arith, before.later, here.later);
-      soon = omega (arith, before.soon, here.soon);
-    }
+steps_follow (suc k) s = search (rules, step_leaves, (steps_follow k s))

@@ -1,6 +1,6 @@
 -- The least number below a bound for which a test holds, and the first answer of a test.
-use Rattle.ed_machine.proofs.Names.{inl, inr, rules, suc, true≢false, unwrap_or, zero, ◌-◌, ◌⊎◌, cases_lt, ap, arith}
-use Rattle.ed_machine.proofs.Names.{Bool, false, None, Option, refl, Some, sym, true, ℕ, ◌+◌, ◌<◌, ◌∙◌, ◌≡◌, ◌≤◌}
+use Rattle.ed_machine.proofs.Names.{inl, inr, rules, suc, unwrap_or, zero, ◌-◌, ◌⊎◌, cases_lt, ap, arith, Bool, false}
+use Rattle.ed_machine.proofs.Names.{None, Option, refl, Some, sym, true, ℕ, ◌+◌, ◌<◌, ◌∙◌, ◌≡◌, ◌≤◌}
 use Rattle.std.proofs.Common.{is_some, if◌then◌else◌}
 use Rattle.ed_machine.specs.Steps.{IsFirstAnswer, least}
 
@@ -8,20 +8,13 @@ use Rattle.ed_machine.specs.Steps.{IsFirstAnswer, least}
 pub least_below : (test : ℕ → Bool) (n : ℕ) → least test n ≤ n
 unfolding least
 least_below test zero = omega arith
-least_below test (suc n) = by_test (test (least test n)) (least_below test n)
-  where
-    by_test : (b : Bool) → least test n ≤ n → (if b then least test n else suc n) ≤ suc n
-    by_test true h = omega arith
-    by_test false h = omega arith
+least_below test (suc n) = search (rules, (least_below test n))
 
 -- no number below n is found if the test fails at each
 pub least_none : (test : ℕ → Bool) (n : ℕ) → ((j : ℕ) → j < n → test j ≡ false) → least test n ≡ n
 unfolding least
 least_none test zero fails = refl
-least_none test (suc n) fails =
-    let before : least test n ≡ n = least_none test n (λ j h. fails j (omega arith)) in
-    let here : test n ≡ false = fails n (omega arith) in
-    rw (before, here) refl
+least_none test (suc n) fails = search (rules, (least_none test n (λ j h. fails j (omega arith))))
 
 -- a number at which the test holds first is found
 pub least_found : (test : ℕ → Bool) (n k : ℕ) → test k ≡ true → ((j : ℕ) → j < k → test j ≡ false) → k < n
@@ -45,23 +38,12 @@ least_found test (suc n) k holds fails below =
 -- the number that is found passes the test if the bound does
 pub least_holds : (test : ℕ → Bool) (n : ℕ) → test n ≡ true → test (least test n) ≡ true
 unfolding least
-least_holds test zero h = h
-least_holds test (suc n) h = by_test (test (least test n)) refl
-  where
-    by_test : (b : Bool) → test (least test n) ≡ b → test (if b then least test n else suc n) ≡ true
-    by_test true e = e
-    by_test false e = h
+least_holds test n h = search rules
 
 -- a number that is found and fails the test is the bound
 least_end : (test : ℕ → Bool) (n : ℕ) → test (least test n) ≡ false → least test n ≡ n
 unfolding least
-least_end test zero h = refl
-least_end test (suc n) h = by_test (test (least test n)) refl h
-  where
-    by_test : (b : Bool) → test (least test n) ≡ b → test (if b then least test n else suc n) ≡ false
-        → (if b then least test n else suc n) ≡ suc n
-    by_test true e h = absurd (true≢false (sym e ∙ h))
-    by_test false e h = refl
+least_end test n h = search rules
 
 -- the test fails below the number that is found
 pub least_first : (test : ℕ → Bool) (n j : ℕ) → j < least test n → test j ≡ false
@@ -84,12 +66,10 @@ least_first test (suc n) j h = by_test (test (least test n)) refl h (λ below. l
 
 -- an option with a value, and one without
 some_of : {A : Type 0} (o : Option A) (d : A) → is_some o ≡ true → o ≡ Some (unwrap_or o d)
-some_of None d h = absurd (true≢false (sym h))
-some_of (Some a) d h = refl
+some_of o d h = search rules
 
 none_of : {A : Type 0} (o : Option A) → is_some o ≡ false → o ≡ None
-none_of None h = refl
-none_of (Some a) h = absurd (true≢false h)
+none_of o h = search rules
 
 -- the least number below n at which a test gives an answer, or n if it gives none
 abbrev pub first_number : {A : Type 0} → (ℕ → Option A) → ℕ → ℕ

@@ -1,4 +1,5 @@
 -- The names that the proofs of this crate cite, passed on from one place. Declares nothing.
+pub use Rattle.std.proofs.lemmas.Grind.{common_steps}
 pub use Rattle.std.proofs.Common.{add-one, append-nil, append_assoc, drop, inl, inr, length-append, List, lit<, negsuc}
 pub use Rattle.std.proofs.Common.{pos, rules, set, subst, suc, take, true≢false, unwrap_or, zero, ◌&&◌, ◌++◌, ◌-◌, ◌⊎◌}
 pub use Rattle.std.proofs.lemmas.Bool.{and_parts, cases_lt, eqb-true}
@@ -14,8 +15,8 @@ pub use Rattle.ed_store.specs.Cells.{IsStore}
 pub use Rattle.ed_store.proofs.Kit.{get_or, nat_eq, ◌%◌, ◌*◌, ◌/◌, ◌^◌, Cells}
 pub use Rattle.ed_orders.specs.declared.kind.Kind.{Kind}
 pub use Rattle.ed_orders.specs.declared.kind.Kind.TheVariants.{A, C, E, F, G, H, I, L, N, O, R, S, T, U, V, X, Y, Z}
-pub use Rattle.ed_orders.proofs.Kit.{[], ap, arith, Bool, false, length, nat_lt, None, Option, refl, Some, sym, true}
-pub use Rattle.ed_orders.proofs.Kit.{ℕ, ◌+◌, ◌<◌, ◌∙◌, ◌∷◌, ◌≡◌, ◌≤◌, ltb-true, kind_of_function}
+pub use Rattle.ed_orders.proofs.Kit.{[], ap, arith, Bool, false, length, nat_lt, None, Option, refl, Some, sym, true, ℕ}
+pub use Rattle.ed_orders.proofs.Kit.{◌+◌, ◌<◌, ◌∙◌, ◌∷◌, ◌≡◌, ◌≤◌, ltb-true, kind_of_function}
 pub use Rattle.ed_machine.specs.OrderTable.{after, done_at, jump_order, next_word, obey, obey_word, Obeyed, place_of}
 pub use Rattle.ed_machine.specs.OrderTable.{read_at, row_order, written_cells, written_store}
 unfoldable pub use Rattle.ed_machine.specs.OrderTable.{step}

@@ -1,8 +1,7 @@
 -- Where steps lead: none, one more, and some after others.
-use Rattle.ed_machine.proofs.Names.{add-one, append-nil, append_assoc, inl, inr, length-append, rules, subst, suc}
-use Rattle.ed_machine.proofs.Names.{zero, ◌++◌, ◌-◌, ◌⊎◌, cases_lt, [], ap, arith, length, refl, sym, true, ℕ, ◌+◌}
-use Rattle.ed_machine.proofs.Names.{◌<◌, ◌∙◌, ◌≡◌, ◌≤◌, step, State, AreObeyed, codes_of, is_obeyed, progress}
-use Rattle.ed_machine.proofs.Names.{Progress, state_after, stops_of, Turn, NoOrder, NoTape, Printed, Stopped, Went}
+use Rattle.ed_machine.proofs.Names.{common_steps, add-one, append_assoc, length-append, rules, suc, zero, ◌++◌, ◌-◌, []}
+use Rattle.ed_machine.proofs.Names.{ap, arith, length, refl, true, ℕ, ◌+◌, ◌<◌, ◌∙◌, ◌≡◌, ◌≤◌, step, State, AreObeyed}
+use Rattle.ed_machine.proofs.Names.{codes_of, is_obeyed, progress, Progress, state_after, stops_of, Turn, Went}
 use Rattle.ed_machine.specs.Steps.{next_progress}
 
 -- ---- none, and one more
@@ -17,8 +16,7 @@ past_next k s = rw add-one refl
 
 pub next_state : (k : ℕ) (s : State) {m n : State} → m ≡ state_after k s → n ≡ (step m).state
     → n ≡ state_after (k + 1) s
-next_state k s at to =
-    to ∙ ap (λ (x : State). (step x).state) at ∙ sym (ap (λ (p : Progress). p.state) (past_next k s))
+next_state k s at to = search (rules, past_next)
 
 pub next_stops : (k : ℕ) (s : State)
     → (progress (k + 1) s).stops ≡ (progress k s).stops + stops_of (step (state_after k s)).turn
@@ -32,10 +30,7 @@ past_after p q = record { state = q.state; codes = p.codes ++ q.codes; stops = p
 
 pub past_sum : (a b : ℕ) (s : State) → progress (a + b) s ≡ past_after (progress a s) (progress b (state_after a s))
 unfolding progress
-past_sum a zero s =
-    let e : a + 0 ≡ a = omega arith in
-    let z : (progress a s).stops + 0 ≡ (progress a s).stops = omega arith in
-    rw e (λ i. record { state = state_after a s; codes = sym (append-nil (progress a s).codes) i; stops = sym z i })
+past_sum a zero s = search rules
 past_sum a (suc b) s =
     let e : a + suc b ≡ suc (a + b) = omega arith in
     let p = progress a s in
@@ -56,13 +51,7 @@ after_sum a b s = ap (λ (p : Progress). p.state) (past_sum a b s)
 -- what holds of the states before a steps and of those before b more holds before all of them
 pub each_sum : (P : State → Type 0) (a b : ℕ) (s : State) → ((j : ℕ) → j < a → P (state_after j s))
     → ((j : ℕ) → j < b → P (state_after j (state_after a s))) → (j : ℕ) → j < a + b → P (state_after j s)
-each_sum P a b s first more j h = by_place (cases_lt j a)
-  where
-    by_place : (j < a) ⊎ (a ≤ j) → P (state_after j s)
-    by_place (inl low) = first j low
-    by_place (inr high) =
-        let e : a + (j - a) ≡ j = omega arith in
-        subst P (sym (after_sum a (j - a) s) ∙ ap (λ k. state_after k s) e) (more (j - a) (omega arith))
+each_sum P a b s first more j h = grind (arith, common_steps, (after_sum a (j - a) s))
 
 -- orders obeyed after orders obeyed
 pub free_sum : (a b : ℕ) (s : State) → AreObeyed a s → AreObeyed b (state_after a s) → AreObeyed (a + b) s
@@ -80,12 +69,7 @@ pub quiet_past : (k : ℕ) (s : State) → ((j : ℕ) → j < k → (step (state
     → progress k s ≡ record { state = state_after k s; codes = []; stops = 0 }
 unfolding progress
 quiet_past zero s went = refl
-quiet_past (suc k) s went =
-    let before = quiet_past k s (λ j l. went j (omega arith)) in
-    let codes : (progress k s).codes ≡ [] = ap (λ (p : Progress). p.codes) before in
-    let stops : (progress k s).stops ≡ 0 = ap (λ (p : Progress). p.stops) before in
-    let turn = went k (omega arith) in
-    rw (codes, stops, turn) refl
+quiet_past (suc k) s went = search (rules, (quiet_past k s (λ j l. went j (omega arith))))
 
 pub quiet_codes : (k : ℕ) (s : State) → ((j : ℕ) → j < k → (step (state_after j s)).turn ≡ Went)
     → (progress k s).codes ≡ []
@@ -96,16 +80,10 @@ pub quiet_stops : (k : ℕ) (s : State) → ((j : ℕ) → j < k → (step (stat
 quiet_stops k s went = ap (λ (p : Progress). p.stops) (quiet_past k s went)
 
 pub one_code : (t : Turn) → length (codes_of t) ≤ 1
-one_code Went = omega arith
-one_code (Printed code) = omega arith
-one_code Stopped = omega arith
-one_code (NoOrder function) = omega arith
-one_code NoTape = omega arith
+one_code turn = search rules
 
 -- no more codes than steps
 pub few_codes : (k : ℕ) (s : State) → length (progress k s).codes ≤ k
 unfolding progress
 few_codes zero s = omega arith
-few_codes (suc k) s =
-    let turn = (step (state_after k s)).turn in
-    omega (arith, few_codes k s, one_code turn, length-append (progress k s).codes (codes_of turn))
+few_codes (suc k) s = search (rules, length-append, (few_codes k s))

@@ -2,8 +2,8 @@
 -- as the remainder and the quotient side by side.
 use Rattle.ed_maths.proofs.Kit.{nat_tests, get_or-set_same, A_F, E_F, G_F, R_D, S_F, T_F, G_stays, R, T_top, followed}
 use Rattle.ed_maths.proofs.Kit.{RD, Call, moment, [], arith, Bool, false, get_or, length, List, lit<, refl, set, suc}
-use Rattle.ed_maths.proofs.Kit.{true, zero, ℕ, ◌%◌, ◌*◌, ◌+◌, ◌-◌, ◌/◌, ◌<◌, ◌^◌, ◌∷◌, ◌≡◌, ◌≤◌, locations_most, Moment, short}
-use Rattle.ed_maths.proofs.Kit.{A, E_jumps, G_jumps, S, T, on, Path, stay, any, early, out, own, ones}
+use Rattle.ed_maths.proofs.Kit.{true, zero, ℕ, ◌%◌, ◌*◌, ◌+◌, ◌-◌, ◌/◌, ◌<◌, ◌^◌, ◌∷◌, ◌≡◌, ◌≤◌, locations_most, Moment}
+use Rattle.ed_maths.proofs.Kit.{short, A, E_jumps, G_jumps, S, T, on, Path, stay, any, early, out, own, ones}
 use Rattle.ed_routines.proofs.Kit.{L, U, LD}
 use Rattle.std.proofs.Common.{nat_eq}
 use Rattle.ed_words.specs.Words.{long_of_halves}
@@ -13,8 +13,8 @@ use Rattle.ed_machine.proofs.Kit.Moves.{U_top, E_stays}
 use Rattle.ed_machine.proofs.Kit.Places.{IsOutside, pair}
 use Rattle.ed_machine.proofs.Kit.Shifts.{RF, LF, L2F}
 use Rattle.ed_machine.proofs.Kit.Sums.{parted}
-use Rattle.ed_maths.proofs.Quotient.{bit, next, numbers, quotient, numbers-decided, quotient-small as small_quotient, hit, hits}
-use Rattle.ed_maths.proofs.Quotient.{hits_ones}
+use Rattle.ed_maths.proofs.Quotient.{bit, next, numbers, quotient, numbers-decided, quotient-small as small_quotient}
+use Rattle.ed_maths.proofs.Quotient.{hit, hits, hits_ones}
 
 -- a long word by its two cells and the digit between
 pub record Long : Type 0 where

@@ -1,10 +1,10 @@
 -- `divide`, from the library's table to what it does.
-use Rattle.ed_maths.proofs.Kit.{◌≢◌, get_or-set_other, get_or-set_same, length-set, A_F, get_above, get_below, beside}
-use Rattle.ed_maths.proofs.Kit.{Call, call_of, holds, image, IsWithin, get_or-kept, Makes, more, none, [], ap, arith, false}
-use Rattle.ed_maths.proofs.Kit.{get_or, inl, inr, length, List, refl, set, subst, suc, sym, zero, ℕ, ◌%◌, ◌*◌, ◌+◌}
-use Rattle.ed_maths.proofs.Kit.{◌-◌, ◌/◌, ◌<◌, ◌^◌, ◌∙◌, ◌∷◌, ◌≡◌, locations_most, short_at, State, Frame, short, state, Leads}
-use Rattle.ed_maths.proofs.Kit.{leads, Path, Holds, length_patched, patched, IsOther, caller, IsLoadedAt, IsOutside}
-use Rattle.ed_maths.proofs.Kit.{divide_orders, dividend, ones}
+use Rattle.ed_maths.proofs.Kit.{rules, ◌≢◌, length-set, A_F, get_above, get_below, beside, Call, call_of, holds, image}
+use Rattle.ed_maths.proofs.Kit.{IsWithin, get_or-kept, Makes, more, none, [], arith, false, get_or, inl, inr, length}
+use Rattle.ed_maths.proofs.Kit.{List, refl, set, subst, suc, sym, zero, ℕ, ◌%◌, ◌*◌, ◌+◌, ◌-◌, ◌/◌, ◌<◌, ◌^◌, ◌∙◌, ◌∷◌}
+use Rattle.ed_maths.proofs.Kit.{◌≡◌, locations_most, short_at, State, Frame, short, state, Leads, leads, Path, Holds}
+use Rattle.ed_maths.proofs.Kit.{length_patched, patched, IsOther, caller, IsLoadedAt, IsOutside, divide_orders}
+use Rattle.ed_maths.proofs.Kit.{dividend, ones}
 use Rattle.ed_machine.proofs.Kit.Places.{IsOutside as IsBeside}
 use Rattle.ed_machine.proofs.Kit.Standing.{opens}
 use Rattle.ed_machine.proofs.Kit.Window.{patched_self}
@@ -43,12 +43,7 @@ module _ {b high low by top : ℕ} {s : State} (o : CallsDivide b high low by to
   hs = high ∷ low ∷ by ∷ []
 
   makes : Makes (with_hnm high low by) hs
-  makes =
-      let size = locations_most s.size in
-      let first = high_outside.below in
-      let second = low_outside.below in
-      let third = by_outside.below in
-      more (omega arith) refl (more (omega arith) refl (more (omega arith) refl none))
+  makes = search (rules, more, none)
 
   image_holds : Holds (image divide b hs) s.store.words b
   image_holds = holds o.stands makes refl
@@ -152,11 +147,7 @@ module _ {b high low by top : ℕ} {s : State} (o : CallsDivide b high low by to
   }
 
   pub all_last : length last.store.words ≡ 1024
-  all_last =
-      let size = locations_most s.size in
-      let fits = o.stands.fits in
-      let long : length ws ≡ 1024 = length-set (set s.store.words high (n % d)) low (n / d) ∙ long_set (n % d) in
-      length_patched 0 ws b (cells b high low by left) (omega (arith, long, fits)) ∙ long
+  all_last = search (rules, length_patched)
 
   -- that many orders lead to the order after the call
   pub leads_to : Leads (divide_orders (n / d)) s [] last
@@ -164,16 +155,11 @@ module _ {b high low by top : ℕ} {s : State} (o : CallsDivide b high low by to
 
   -- a word outside the routine
   outside : (h : ℕ) → IsOutside divide b h s → get_or last.store.words h 0 ≡ get_or ws h 0
-  outside h out = elim out.beside [
-    | inl l ↦ get_below 0 ws b (cells b high low by left) h l
-    | inr g ↦ get_above 0 ws b (cells b high low by left) h g
-  ]
+  outside h out = search (rules, get_below, get_above)
 
   -- the two words that are written, and every other one
   others : (i : ℕ) → i ≢ high → i ≢ low → get_or ws i 0 ≡ get_or s.store.words i 0
-  others i not_high not_low =
-      get_or-set_other (set s.store.words high (n % d)) low i (n / d) 0 not_low
-      ∙ get_or-set_other s.store.words high i (n % d) 0 not_high
+  others i not_high not_low = search rules
 
   apart : {h : ℕ} → IsOutside divide b h s → (j : ℕ) → j < 41 → b + j ≢ h
   apart out j l e = elim out.beside [ inl x ↦ absurd (omega arith) | inr y ↦ absurd (omega arith) ]
@@ -186,31 +172,13 @@ module _ {b high low by top : ℕ} {s : State} (o : CallsDivide b high low by to
       get_or-kept hs free ws (cells b high low by left) refl refl still ∙ others i not_high not_low
 
   at_low : get_or last.store.words low 0 ≡ n / d
-  at_low =
-      let size = locations_most s.size in
-      let below = low_outside.below in
-      let long = long_set (n % d) in
-      outside low low_outside ∙ get_or-set_same (set s.store.words high (n % d)) low (n / d) 0 (omega arith)
+  at_low = search (rules, outside)
 
   at_high : get_or last.store.words high 0 ≡ n % d
-  at_high =
-      let size = locations_most s.size in
-      let below = high_outside.below in
-      outside high high_outside
-      ∙ get_or-set_other (set s.store.words high (n % d)) low high (n / d) 0 o.division.high_low
-      ∙ get_or-set_same s.store.words high (n % d) 0 (omega arith)
+  at_high = search (rules, outside)
 
   digit_stays : (p : ℕ) → IsOtherPair b p → get_or last.store.sandwich p false ≡ get_or s.store.sandwich p false
-  digit_stays p free = elim free.other [
-    | inl l ↦ get_below false s.store.sandwich (b / 2 + 18) (digits left) p l
-    | inr g ↦ get_above false s.store.sandwich (b / 2 + 18) (digits left) p (omega arith)
-  ]
+  digit_stays p free = search (rules, get_below, get_above)
 
   pub divided : (t : State) → t ≡ last → HasDivided b high low by s t
-  divided t e = record {
-    quotient = ap (λ (x : State). get_or x.store.words low 0) e ∙ at_low;
-    remainder = ap (λ (x : State). get_or x.store.words high 0) e ∙ at_high;
-    is = rw e refl;
-    words = λ i not_high not_low free. ap (λ (x : State). get_or x.store.words i 0) e ∙ stays i not_high not_low free;
-    digits = λ p free. ap (λ (x : State). get_or x.store.sandwich p false) e ∙ digit_stays p free;
-  }
+  divided t e = search (rules, at_low, at_high, stays, digit_stays)

@@ -1,17 +1,14 @@
 -- The integer square root of a number is the greatest whose square is at most that number.
-use Rattle.ed_maths.proofs.Kit.{nat_le, arith, Bool, false, refl, suc, true, zero, ℕ, ◌*◌, ◌+◌, ◌<◌, ◌≡◌, IsRoot}
+use Rattle.ed_maths.proofs.Kit.{rules, nat_le, arith, Bool, false, refl, suc, true, zero, ℕ, ◌*◌, ◌+◌, ◌<◌, ◌≡◌, IsRoot}
 use Rattle.std.proofs.Common.{if◌then◌else◌}
-use Rattle.std.proofs.lemmas.Bool.{leb-true, leb-false}
+use Rattle.std.proofs.lemmas.Bool.{leb-true}
 use Rattle.ed_maths.specs.Roots.{root_of, root_up_to}
 
 by_test : (k n below : ℕ) (t : Bool) → nat_le (suc k * suc k) n ≡ t → n < (suc k + 1) * (suc k + 1)
     → (n < (k + 1) * (k + 1) → IsRoot n below)
     → IsRoot n (if t then suc k else below)
 by_test k n below true e low rest = record { square = leb-true (suc k * suc k) n e; greatest = low }
-by_test k n below false e low rest =
-    let high = leb-false (suc k * suc k) n e in
-    let s : suc k * suc k ≡ (k + 1) * (k + 1) = omega arith in
-    rest (omega arith)
+by_test k n below false e low rest = search rules
 
 up_to : (k n : ℕ) → n < (k + 1) * (k + 1) → IsRoot n (root_up_to k n)
 unfolding root_up_to

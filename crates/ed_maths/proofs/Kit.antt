@@ -1,5 +1,5 @@
 -- The names that the proofs of this crate cite, passed on from one place. Declares nothing.
-pub use Rattle.std.proofs.Common.{nat_le, ◌≢◌}
+pub use Rattle.std.proofs.Common.{nat_le, ◌≢◌, rules}
 pub use Rattle.std.proofs.lemmas.Bool.Decides.{nat_tests}
 pub use Rattle.std.proofs.lemmas.List.{get_or-set_other, get_or-set_same, length-set}
 pub use Rattle.ed_words.specs.declared.order_words.TheConstants.{A_F, E_F, G_F, R_D, S_F, T_F}
@@ -7,12 +7,13 @@ pub use Rattle.ed_machine.proofs.Kit.Moves.{G_stays, R, T_top}
 pub use Rattle.ed_machine.proofs.Kit.Paths.{followed}
 pub use Rattle.ed_machine.proofs.Kit.Shifts.{RD}
 pub use Rattle.ed_machine.proofs.Kit.Window.{get_above, get_below}
-pub use Rattle.ed_routines.proofs.Called.{beside, Call, call_of, holds, image, IsWithin, get_or-kept, moment, within_size}
+pub use Rattle.ed_routines.proofs.Called.{beside, Call, call_of, holds, image, IsWithin, get_or-kept, moment}
+pub use Rattle.ed_routines.proofs.Called.{within_size}
 pub use Rattle.ed_routines.proofs.Image.{Makes, more, none}
 pub use Rattle.ed_routines.proofs.Kit.{[], ap, arith, Bool, false, get_or, inl, inr, length, List, lit<, refl, set}
-pub use Rattle.ed_routines.proofs.Kit.{subst, suc, sym, true, zero, ℕ, ◌%◌, ◌*◌, ◌+◌, ◌-◌, ◌/◌, ◌<◌, ◌^◌, ◌∙◌, ◌∷◌}
-pub use Rattle.ed_routines.proofs.Kit.{◌≡◌, ◌≤◌, locations, locations_most, short_at, State, state_after, Frame, Moment, short}
-pub use Rattle.ed_routines.proofs.Kit.{state, free, Leads, A, E_jumps, G_jumps, S, T, leads, on, Path, stay, any}
+pub use Rattle.ed_routines.proofs.Kit.{subst, suc, sym, true, zero, ℕ, ◌%◌, ◌*◌, ◌+◌, ◌-◌, ◌/◌, ◌<◌, ◌^◌, ◌∙◌, ◌∷◌, ◌≡◌}
+pub use Rattle.ed_routines.proofs.Kit.{◌≤◌, locations, locations_most, short_at, State, state_after, Frame, Moment}
+pub use Rattle.ed_routines.proofs.Kit.{short, state, free, Leads, A, E_jumps, G_jumps, S, T, leads, on, Path, stay, any}
 pub use Rattle.ed_routines.proofs.Kit.{early, out, own, Holds, length_patched, IsOther, caller, IsLoadedAt, IsOutside}
 unfoldable pub use Rattle.ed_routines.proofs.Kit.{patched}
 pub use Rattle.ed_maths.specs.Quotients.{divide_orders, dividend}

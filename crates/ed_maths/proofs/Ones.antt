@@ -1,5 +1,6 @@
 -- One binary digit more.
 use Rattle.ed_maths.proofs.Kit.{arith, refl, suc, zero, ℕ, ◌%◌, ◌+◌, ◌-◌, ◌/◌, ◌<◌, ◌≡◌, ◌≤◌, ones}
+use Rattle.std.proofs.lemmas.Grind.{common_steps}
 use Rattle.std.proofs.Common.{lit≤}
 
 next : (k q : ℕ) → ones (suc k) q ≡ q % 2 + ones k (q / 2)
@@ -12,11 +13,7 @@ ones-none q = refl
 
 pub ones-counted : (done sum rest number : ℕ) → done < 16 → sum + ones (16 - done) rest ≡ ones 16 number
     → (sum + rest % 2) + ones (16 - (done + 1)) (rest / 2) ≡ ones 16 number
-ones-counted done sum rest number below h =
-    let e : 16 - done ≡ suc (16 - (done + 1)) = omega arith in
-    let n = next (16 - (done + 1)) rest in
-    let g : sum + ones (suc (16 - (done + 1))) rest ≡ ones 16 number = rw e at h in
-    omega arith
+ones-counted done sum rest number below h = grind (arith, common_steps, (next (16 - (done + 1)) rest))
 
 pub few_ones : (k q : ℕ) → ones k q ≤ k
 unfolding ones

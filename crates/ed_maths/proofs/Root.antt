@@ -2,8 +2,8 @@
 -- can.
 use Rattle.ed_maths.proofs.Kit.{A_F, E_F, G_F, R_D, S_F, T_F, G_stays, R, T_top, followed, RD, Call, moment, [], arith}
 use Rattle.ed_maths.proofs.Kit.{get_or, length, List, lit<, refl, set, suc, zero, ℕ, ◌*◌, ◌+◌, ◌-◌, ◌<◌, ◌^◌, ◌∷◌, ◌≡◌}
-use Rattle.ed_maths.proofs.Kit.{◌≤◌, locations_most, Moment, short, A, E_jumps, G_jumps, S, T, on, Path, stay, any, early, out}
-use Rattle.ed_maths.proofs.Kit.{own}
+use Rattle.ed_maths.proofs.Kit.{◌≤◌, locations_most, Moment, short, A, E_jumps, G_jumps, S, T, on, Path, stay, any}
+use Rattle.ed_maths.proofs.Kit.{early, out, own}
 use Rattle.ed_machine.proofs.Kit.Places.{IsOutside}
 
 -- the words that change: the order that returns, what is left of the number, and the next odd number

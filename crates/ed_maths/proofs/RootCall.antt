@@ -1,10 +1,9 @@
 -- `root`, from the library's table to what it does.
-use Rattle.ed_maths.proofs.Kit.{◌≢◌, get_or-set_other, get_or-set_same, length-set, A_F, get_above, get_below, beside}
-use Rattle.ed_maths.proofs.Kit.{call_of, holds, image, IsWithin, get_or-kept, Makes, more, none, [], ap, arith, get_or, inl}
-use Rattle.ed_maths.proofs.Kit.{inr, length, List, refl, set, subst, ℕ, ◌*◌, ◌+◌, ◌-◌, ◌<◌, ◌^◌, ◌∙◌, ◌∷◌, ◌≡◌, locations_most}
-use Rattle.ed_maths.proofs.Kit.{short_at, State, Frame, state, Leads, leads, Path, Holds, length_patched, patched}
-use Rattle.ed_maths.proofs.Kit.{IsOther, caller, IsLoadedAt, IsOutside, IsRoot, root_orders}
-use Rattle.std.proofs.lemmas.Bool.{cases_lt}
+use Rattle.ed_maths.proofs.Kit.{rules, ◌≢◌, get_or-set_other, A_F, get_above, get_below, beside, call_of, holds, image}
+use Rattle.ed_maths.proofs.Kit.{IsWithin, get_or-kept, Makes, more, none, [], ap, arith, get_or, inl, inr, length, List}
+use Rattle.ed_maths.proofs.Kit.{refl, set, subst, ℕ, ◌*◌, ◌+◌, ◌-◌, ◌<◌, ◌^◌, ◌∙◌, ◌∷◌, ◌≡◌, short_at, State, Frame}
+use Rattle.ed_maths.proofs.Kit.{state, Leads, leads, Path, Holds, length_patched, patched, IsOther, caller, IsLoadedAt}
+use Rattle.ed_maths.proofs.Kit.{IsOutside, IsRoot, root_orders}
 use Rattle.ed_routines.specs.Returns.{KeepsBut, Returned}
 use Rattle.ed_routines.proofs.Called.{state-begins}
 use Rattle.ed_maths.specs.Roots.{root, with_hn}
@@ -12,18 +11,7 @@ use Rattle.ed_maths.proofs.Root.{Given, Work, cells, run, rest, Path-whole}
 
 -- a number below 65536 has a root below 256
 pub few : (n r : ℕ) → IsRoot n r → n < 65536 → r < 256
-few n r is small =
-    elim (cases_lt r 256) [
-      | inl l ↦ l
-      | inr g ↦
-          let a = is.square in
-          let e : r ≡ 256 + (r - 256) = omega arith in
-          let h : r * r < 65536 = omega arith in
-          absurd (too_large (r - 256) (subst (λ y. y * y < 65536) e h))
-    ]
-  where
-    too_large : (k : ℕ) → (256 + k) * (256 + k) < 65536 → ⊥
-    too_large k h = let e : (256 + k) * (256 + k) ≡ 65536 + 512 * k + k * k = omega arith in omega arith
+few n r is small = search rules
 
 -- `root` is called in a state, for the root r of the number at one location, and all is below a location
 pub record CallsRoot (b source target top r : ℕ) (s : State) : Type 0 where
@@ -60,11 +48,7 @@ module _ {b source target top r : ℕ} {s : State} (o : CallsRoot b source targe
   hs = source ∷ target ∷ []
 
   makes : Makes (with_hn source target) hs
-  makes =
-      let size = locations_most s.size in
-      let first = o.source_outside.below in
-      let second = o.target_outside.below in
-      more (omega arith) refl (more (omega arith) refl none)
+  makes = search (rules, more, none)
 
   image_holds : Holds (image root b hs) s.store.words b
   image_holds = holds o.stands makes refl
@@ -100,11 +84,7 @@ module _ {b source target top r : ℕ} {s : State} (o : CallsRoot b source targe
   }
 
   pub all_last : length last.store.words ≡ 1024
-  all_last =
-      let size = locations_most s.size in
-      let fits = o.stands.fits in
-      let long : length ws ≡ 1024 = length-set s.store.words target r ∙ o.all in
-      length_patched 0 ws b (cells b source target left) (omega (arith, long, fits)) ∙ long
+  all_last = search (rules, length_patched)
 
   -- that many orders lead to the order after the call
   pub leads_to : Leads (root_orders r) s [] last
@@ -123,15 +103,7 @@ module _ {b source target top r : ℕ} {s : State} (o : CallsRoot b source targe
       still j l = rw (get_or-set_other s.store.words target (b + j) r 0 (apart j l)) (image_holds j l)
 
   at_target : get_or last.store.words target 0 ≡ r
-  at_target =
-      let size = locations_most s.size in
-      let below = o.target_outside.below in
-      let all = o.all in
-      elim o.target_outside.beside [
-        | inl l ↦ get_below 0 ws b (cells b source target left) target l
-        | inr g ↦ get_above 0 ws b (cells b source target left) target g
-      ]
-      ∙ get_or-set_same s.store.words target r 0 (omega arith)
+  at_target = search (rules, get_below, get_above)
 
   module _ (t : State) (e : t ≡ last) where
     pub root_is : short_at t.store target ≡ r

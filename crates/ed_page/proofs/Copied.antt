@@ -1,11 +1,8 @@
 -- Lists that grow at their ends: a loop that takes the items of a list one after the other, and texts that are added.
-use Rattle.ed_page.proofs.Kit.{flat_map, IfSome, IsNone, ◌↔◌, latest_shift, paper_from, Shift, take, drop_all, [], ap}
-use Rattle.ed_page.proofs.Kit.{append-nil, append_assoc, arith, drop, get_or, length, List, None, Option, refl}
-use Rattle.ed_page.proofs.Kit.{reverse, Some, sym, ℕ, ◌++◌, ◌+◌, ◌<◌, ◌∙◌, ◌∷◌, ◌≡◌, ◌≤◌, four_bytes}
+use Rattle.ed_page.proofs.Kit.{common_steps, flat_map, latest_shift, paper_from, Shift, take, ap, arith, drop, get_or}
+use Rattle.ed_page.proofs.Kit.{length, List, reverse, ℕ, ◌++◌, ◌+◌, ◌<◌, ◌∙◌, ◌∷◌, ◌≡◌, ◌≤◌, four_bytes}
 use Rattle.std.proofs.Common.{add-one, set, drop-cons}
-use Rattle.std.specs.Option.{UnwrapsOrElse}
-use Rattle.std.proofs.Math.Seq.{set-append_seam, take-suc}
-use Rattle.std.proofs.lemmas.List.{length-take-le}
+use Rattle.std.proofs.Math.Seq.{set-append_seam}
 use Rattle.ed_printer.proofs.Texts.{Strikes, struck_alone}
 use Rattle.ed_page.specs.Going.{added_text}
 
@@ -13,36 +10,14 @@ use Rattle.ed_page.specs.Going.{added_text}
 left_by : (s : List ℕ) (i x : ℕ) → i < length s → x ≡ get_or s i 0 → drop i s ≡ x ∷ drop (i + 1) s
 left_by s i x below is = rw (is, add-one) (drop-cons s i 0 below)
 
--- the code of a number below 32
-pub known_code : (o : Option ℕ) (default : ℕ → Type 0) (x n : ℕ) → (IsNone o ↔ (32 ≤ n)) → IfSome o (λ c. c ≡ n)
-    → n < 32 → UnwrapsOrElse o default x → x ≡ n
-known_code (Some c) default x n none some low is = is ∙ some
-known_code None default x n none some low is = absurd (omega (arith, low, none.0 refl))
-
--- one more is copied
-pub copied_more : (done more s : List ℕ) (i x : ℕ) → more ≡ done ++ x ∷ [] → i < length s → x ≡ get_or s i 0
-    → done ++ drop i s ≡ s → more ++ drop (i + 1) s ≡ s
-copied_more done more s i x grown below is whole =
-    rw grown (append_assoc done (x ∷ []) (drop (i + 1) s)
-    ∙ ap (λ (t : List ℕ). done ++ t) (sym (left_by s i x below is)) ∙ whole)
-
 -- all are copied
 pub copied_all : (done s : List ℕ) (i : ℕ) → length s ≤ i → done ++ drop i s ≡ s → done ≡ s
-copied_all done s i past whole =
-    sym (append-nil done) ∙ ap (λ (t : List ℕ). done ++ t) (sym (drop_all i s past)) ∙ whole
+copied_all done s i past whole = grind (arith, common_steps)
 
 -- one more is written over the first items of a list
 pub written_more : (codes old now : List ℕ) (k x : ℕ) → k < length codes → length codes ≤ length old
     → x ≡ get_or codes k 0 → now ≡ take k codes ++ drop k old → set now k x ≡ take (k + 1) codes ++ drop (k + 1) old
-written_more codes old now k x below room is so_far =
-    let front = take k codes in
-    let rest = drop (k + 1) old in
-    let many : length front ≡ k = length-take-le k codes (omega (arith, below)) in
-    let seam : now ≡ front ++ get_or old k 0 ∷ rest =
-    so_far ∙ ap (λ (t : List ℕ). front ++ t) (left_by old k (get_or old k 0) (omega (arith, below, room)) refl) in
-    let one : take (k + 1) codes ≡ front ++ x ∷ [] = rw (is, add-one) (take-suc codes k 0 below) in
-    (λ i. set (seam i) (sym many i) x) ∙ set-append_seam front (get_or old k 0) rest x
-    ∙ sym (append_assoc front (x ∷ []) rest) ∙ ap (λ (t : List ℕ). t ++ rest) (sym one)
+written_more codes old now k x below room is so_far = grind (arith, common_steps, left_by, set-append_seam)
 
 -- the text of codes on a printer in the shift that others leave is what they add
 pub text_added : (start left : Shift) (before given codes text : List ℕ) → Strikes start given text left
@@ -54,5 +29,4 @@ text_added start left before given codes text strikes begins same =
 -- the bytes of all numbers
 pub pushed_all : (done start s : List ℕ) (i : ℕ) → length s ≤ i
     → done ++ flat_map four_bytes (drop i s) ≡ start ++ flat_map four_bytes s → done ≡ start ++ flat_map four_bytes s
-pushed_all done start s i past whole =
-    sym (append-nil done) ∙ ap (λ (t : List ℕ). done ++ flat_map four_bytes t) (sym (drop_all i s past)) ∙ whole
+pushed_all done start s i past whole = grind (arith, common_steps)

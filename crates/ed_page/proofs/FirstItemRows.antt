@@ -1,5 +1,5 @@
 -- That the plain program over rows makes the table of the items of May 1949 that the rows spell.
-use Rattle.ed_page.proofs.Kit.{take-append_seam, Digit, length-append, lit≤, take, ◌*◌, le-ltb, lt-ltb, drop_all}
+use Rattle.ed_page.proofs.Kit.{common_steps, rules, take-append_seam, Digit, length-append, take, ◌*◌, le-ltb, lt-ltb}
 use Rattle.ed_page.proofs.Kit.{AreDigits, digits_number, next_row, IsFault1, Tape1Cause, Reply, [], ap, append-nil}
 use Rattle.ed_page.proofs.Kit.{append_assoc, arith, Bool, drop, false, get_or, if◌then◌else◌, inl, inr, length, List}
 use Rattle.ed_page.proofs.Kit.{nat_lt, None, Option, refl, Some, subst, sym, true, ℕ, ◌++◌, ◌+◌, ◌<◌, ◌∙◌, ◌∷◌, ◌≡◌}
@@ -7,7 +7,7 @@ use Rattle.ed_page.proofs.Kit.{◌≤◌, done, Outcome, Gives, item_at, opened_
 use Rattle.ed_page.proofs.Kit.{OpenItem}
 use Rattle.ed_initial1.specs.Checks.{Accepts1, Report1}
 use Rattle.ed_initial1.specs.Faults.{IsPart1, part_rows1}
-use Rattle.ed_initial1.specs.Items.{AreItems, Begun1, IsBegun1, Item1, ending_row, rows_of1, spelled_rows1, word1}
+use Rattle.ed_initial1.specs.Items.{AreItems, Begun1, IsBegun1, Item1, rows_of1, spelled_rows1, word1}
 use Rattle.ed_report.specs.FirstNotes.{rule1_line}
 use Rattle.ed_page.specs.Private.ItemTables.{first_word, table_on1}
 use Rattle.ed_page.specs.TapeItems.{item_table1}
@@ -26,8 +26,7 @@ digit_rows1 : (row location : ℕ) (p : OpenItem) (ds more : List ℕ) → AreDi
     → digits_number p.number ds ≤ 32767
     → table_on1 row location (Some p) (ds ++ more)
     ≡ table_on1 (row + length ds) location (Some (with_number p (digits_number p.number ds))) more
-digit_rows1 row location p [] more are few =
-    let same : row + 0 ≡ row = omega arith in ap (λ r. table_on1 r location (Some p) more) (sym same)
+digit_rows1 row location p [] more are few = search rules
 digit_rows1 row location p (d ∷ ds) more are few =
     let low : p.number ≤ 32767 = let a = digits_number-larger p.number (d ∷ ds) in omega (arith, a, few) in
     let fits : (if nat_lt 32767 p.number then p.number else 10 * p.number + d) ≡ 10 * p.number + d =
@@ -51,8 +50,7 @@ begun_table1 : (row location : ℕ) (b : Begun1) (more : List ℕ) → IsBegun1 
     ≡ table_on1 (row + 1 + length b.digits) location
     (Some (record { first = row; function = b.function; number = digits_number 0 b.digits; mark = false })) more
 unfolding table_on1
-begun_table1 row location b more is =
-    digit_rows1 (row + 1) location (item_at row b.function) b.digits more is.digits is.fits
+begun_table1 row location b more is = search (rules, digit_rows1)
 
 -- the rows of a whole item
 item_rows1 : (row location : ℕ) (b : Begun1) (long : Bool) (more : List ℕ) → IsBegun1 b
@@ -60,24 +58,7 @@ item_rows1 : (row location : ℕ) (b : Begun1) (long : Bool) (more : List ℕ) �
     table_on1 row location None (rows_of1 i ++ more)
     ≡ item_line row (row + length (rows_of1 i)) (Some (location, word1 i))
     ++ table_on1 (row + length (rows_of1 i)) (location + 1) None more
-item_rows1 row location b long more is =
-    let i : Item1 = record { begun = b; long = long } in
-    let parts : rows_of1 i ++ more ≡ b.function ∷ (b.digits ++ (ending_row long ∷ more)) = simp append_assoc in
-    let counts : length (rows_of1 i) ≡ 1 + length b.digits + 1 = simp length-append (omega arith) in
-    let place : row + 1 + length b.digits + 1 ≡ row + length (rows_of1 i) = omega (arith, counts) in
-    ap (table_on1 row location None) parts
-    ∙ begun_table1 row location b (ending_row long ∷ more) is
-    ∙ by_long long
-    ∙ ap (λ r. item_line row r (Some (location, word1 i)) ++ table_on1 r (location + 1) None more) place
-  where
-    open_item : OpenItem
-    open_item = record { first = row; function = b.function; number = digits_number 0 b.digits; mark = false }
-
-    by_long : (l : Bool) → table_on1 (row + 1 + length b.digits) location (Some open_item) (ending_row l ∷ more)
-        ≡ item_line row (row + 1 + length b.digits + 1) (Some (location, word1 (record { begun = b; long = l })))
-        ++ table_on1 (row + 1 + length b.digits + 1) (location + 1) None more
-    by_long false = last_row1 (row + 1 + length b.digits) location open_item 12 more refl
-    by_long true = last_row1 (row + 1 + length b.digits) location open_item 25 more refl
+item_rows1 row location b long more is = search (rules, append_assoc, length-append, begun_table1, last_row1)
 
 -- the rows of a part of an item
 part_table1 : (row location : ℕ) (p : Option Begun1) → IsPart1 p → table_on1 row location None (part_rows1 p) ≡ []
@@ -154,43 +135,20 @@ module _ {row location c : ℕ} {table rows : List ℕ} where
   pub tabled_function1 : IsTabled1 row location None table rows → row < length rows → c ≡ get_or rows row c
       → IsTabled1 (row + 1) location (Some (item_at row c)) table rows
   unfolding table_on1
-  tabled_function1 t low e = record {
-    whole = ap (λ xs. table ++ table_on1 row location None xs) (sym (next_row rows row c low e)) ∙ t.whole;
-    in_range = lit≤ tt;
-    most = omega (arith, t.most);
-  }
+  tabled_function1 t low e = grind (arith, common_steps)
 
   module _ {p : OpenItem} (t : IsTabled1 row location (Some p) table rows) (low : row < length rows)
       (e : c ≡ get_or rows row c) where
     pub tabled_digit1 : c < 10 → {q : OpenItem} → q ≡ opened_with Digit p c → q.number ≤ 327679
         → IsTabled1 (row + 1) location (Some q) table rows
-    tabled_digit1 is {q} same few = record {
-      whole = ap (λ x. table ++ table_on1 (row + 1) location (Some x) (drop (row + 1) rows)) same
-          ∙ ap (λ xs. table ++ xs) (sym (digit_row1 row location p c (drop (row + 1) rows) (lt-ltb c 10 is)))
-          ∙ ap (λ xs. table ++ table_on1 row location (Some p) xs) (sym (next_row rows row c low e)) ∙ t.whole;
-      in_range = few;
-      most = omega (arith, t.most);
-    }
+    tabled_digit1 is {q} same few = search (rules, digit_row1, next_row)
 
     pub tabled_last1 : 10 ≤ c → {longer : List ℕ} (w : ℕ) → w ≡ first_word p c
         → longer ≡ table ++ item_line p.first (row + 1) (Some (location, w))
         → IsTabled1 (row + 1) (location + 1) None longer rows
-    tabled_last1 is {longer} w word line =
-        let more = drop (row + 1) rows in
-        let one = item_line p.first (row + 1) (Some (location, first_word p c)) in
-        record {
-          whole = (λ i. line i ++ table_on1 (row + 1) (location + 1) None more)
-              ∙ (λ i. (table ++ item_line p.first (row + 1) (Some (location, word i)))
-              ++ table_on1 (row + 1) (location + 1) None more)
-              ∙ append_assoc table one (table_on1 (row + 1) (location + 1) None more)
-              ∙ ap (λ xs. table ++ xs) (sym (last_row1 row location p c more (le-ltb c 10 is)))
-              ∙ ap (λ xs. table ++ table_on1 row location (Some p) xs) (sym (next_row rows row c low e)) ∙ t.whole;
-          in_range = tt;
-          most = omega (arith, t.most);
-        }
+    tabled_last1 is {longer} w word line = search (rules, append_assoc, last_row1, next_row)
 
 pub tabled_end1 : {row location : ℕ} {part : Option OpenItem} {table rows : List ℕ}
     → IsTabled1 row location part table rows → length rows ≤ row → table ≡ table_on1 0 31 None rows
 unfolding table_on1
-tabled_end1 {row} {location} {part} {table} {rows} t past =
-    sym (append-nil table) ∙ ap (λ xs. table ++ table_on1 row location part xs) (sym (drop_all row rows past)) ∙ t.whole
+tabled_end1 {row} {location} {part} {table} {rows} t past = grind (arith, common_steps)

@@ -1,8 +1,8 @@
 -- Where the run from the state of a picture ends, and that continuing twice is continuing once.
-use Rattle.ed_page.proofs.Kit.{ne_eqb, Ending, Limit, Stopped, Settings, length-append, le-ltb, run1_of, ap, arith}
-use Rattle.ed_page.proofs.Kit.{Bool, false, if◌then◌else◌, length, List, nat_eq, nat_le, nat_lt, None, Option, refl}
-use Rattle.ed_page.proofs.Kit.{Some, sym, true, ℕ, ◌+◌, ◌-◌, ◌<◌, ◌∙◌, ◌≡◌, ◌≤◌, step, State, progress, state_after}
-use Rattle.ed_page.proofs.Kit.{run_end, run_orders, first_state, first_state1, paper_room, run_of}
+use Rattle.ed_page.proofs.Kit.{common_steps, rules, ne_eqb, Settings, length-append, le-ltb, run1_of, ap, arith, length}
+use Rattle.ed_page.proofs.Kit.{List, nat_eq, nat_le, nat_lt, None, refl, sym, ℕ, ◌+◌, ◌-◌, ◌<◌, ◌∙◌, ◌≡◌, ◌≤◌, step}
+use Rattle.ed_page.proofs.Kit.{State, progress, state_after, run_end, run_orders, first_state, first_state1, paper_room}
+use Rattle.ed_page.proofs.Kit.{run_of}
 use Rattle.ed_answers.proofs.Kit.{nat_tests, Progress, end_at, end_by, ran_ends}
 use Rattle.ed_machine.proofs.LeastNumbers.{first_later}
 use Rattle.ed_machine.proofs.Steps.{after_sum, no_step, past_sum}
@@ -12,25 +12,11 @@ use Rattle.ed_page.specs.Going.{GoingLaw, run_following}
 -- if a run goes on, the next order doesn't end it
 next_open : (limit resumes room k : ℕ) (p : Progress) → end_at limit resumes room k p ≡ None
     → end_by (step p.state).turn (nat_le room (length p.codes)) ≡ None
-next_open limit resumes room k p = by_tests (nat_lt resumes p.stops) (nat_eq k limit)
-  where
-    by : Option Ending
-    by = end_by (step p.state).turn (nat_le room (length p.codes))
-
-    by_tests : (b c : Bool) → (if b then Some Stopped else if c then Some Limit else by) ≡ None → by ≡ None
-    by_tests true c h = absurd (cc)
-    by_tests false true h = absurd (cc)
-    by_tests false false h = h
+next_open limit resumes room k p = search rules
 
 -- the number of stops never decreases
 more_stops : (j k : ℕ) (s : State) → j ≤ k → (progress j s).stops ≤ (progress k s).stops
-more_stops j k s below =
-    let whole : j + (k - j) ≡ k = omega arith in
-    let stops : (progress (j + (k - j)) s).stops ≡ (progress j s).stops + (progress (k - j) (state_after j s)).stops =
-    ap (λ (p : Progress). p.stops) (past_sum j (k - j) s) in
-    let last : (progress k s).stops ≡ (progress j s).stops + (progress (k - j) (state_after j s)).stops =
-    ap (λ n. (progress n s).stops) (sym whole) ∙ stops in
-    omega (arith, last)
+more_stops j k s below = grind (arith, common_steps, (past_sum j (k - j) s))
 
 -- the tests of an end, seen from later
 later_stops : (a b c : ℕ) → nat_lt (a + b) (a + c) ≡ nat_lt b c

@@ -1,58 +1,26 @@
 -- That the plain program over rows makes the table of the items that the rows spell.
-use Rattle.ed_page.proofs.Kit.{take-append_seam, Size, cleared_cells, Cells, IsStore, TapeCause, Digit, length-append}
-use Rattle.ed_page.proofs.Kit.{lit<, lit≤, take, ◌*◌, le-ltb, lt-ltb, drop_all, IsFault, AreDigits, digits_number}
-use Rattle.ed_page.proofs.Kit.{next_row, opening_notation, Reply, [], ap, append-nil, append_assoc, arith, Bool, drop}
-use Rattle.ed_page.proofs.Kit.{false, get_or, if◌then◌else◌, inl, inr, length, List, nat_lt, None, Option, refl, Some}
-use Rattle.ed_page.proofs.Kit.{subst, sym, true, ℕ, ◌++◌, ◌+◌, ◌<◌, ◌^◌, ◌∙◌, ◌∷◌, ◌≡◌, ◌≤◌, done, Outcome, Gives}
-use Rattle.ed_page.proofs.Kit.{item_at, opened_with, IsReplied, IsItemsOutcome, item_line, OpenItem}
-use Rattle.ed_notation.proofs.Kit.{AreRead, IsPart, part_rows, act, address, control_of, ending_effect, enters_at}
-use Rattle.ed_notation.proofs.Kit.{item_word, letter_action_of, NotationState, over, Begun, ends, IsBegun, IsWritten}
+use Rattle.ed_page.proofs.Kit.{common_steps, rules, take-append_seam, Size, cleared_cells, TapeCause, length-append}
+use Rattle.ed_page.proofs.Kit.{take, ◌*◌, IsFault, AreDigits, digits_number, next_row, opening_notation, Reply, [], ap}
+use Rattle.ed_page.proofs.Kit.{append-nil, append_assoc, arith, drop, false, get_or, inl, inr, length, List, None}
+use Rattle.ed_page.proofs.Kit.{Option, refl, Some, subst, sym, true, ℕ, ◌++◌, ◌+◌, ◌<◌, ◌^◌, ◌∙◌, ◌∷◌, ◌≡◌, ◌≤◌, done}
+use Rattle.ed_page.proofs.Kit.{Outcome, Gives, item_at, opened_with, IsReplied, IsItemsOutcome, item_line, OpenItem}
+use Rattle.ed_notation.proofs.Kit.{AreRead, IsPart, part_rows, act, NotationState, over, Begun, IsBegun, IsWritten}
 use Rattle.ed_notation.proofs.Kit.{item, mark_rows, row_kind, rows_of, spelled_rows, Written, AreWritten}
-use Rattle.std.proofs.Common.{slice_set}
-use Rattle.std.proofs.Math.Seq.{set_out, take-append-add}
-use Rattle.std.proofs.lemmas.List.{get_or-replicate}
-use Rattle.ed_store.specs.Cells.{with_short}
+use Rattle.std.proofs.Math.Seq.{take-append-add}
 use Rattle.ed_notation.specs.Checks.{Accepts}
-use Rattle.ed_notation.specs.Fold.{value_of, with_kay, with_letter, with_zed, word_with}
 use Rattle.ed_notation.specs.Reports.{Report}
 use Rattle.ed_notation.specs.declared.item.Item.{Item}
-use Rattle.ed_notation.specs.declared.kind.Control.{Control}
-use Rattle.ed_notation.specs.declared.kind.Control.TheVariants.{ThetaByBlank, ThetaByG}
-use Rattle.ed_notation.specs.declared.kind.LetterAction.{LetterAction}
-use Rattle.ed_notation.specs.declared.kind.LetterAction.TheVariants.{Enters}
-use Rattle.ed_notation.specs.declared.kind.RowKind.{RowKind}
-use Rattle.ed_notation.specs.declared.kind.RowKind.TheVariants.{Blank, Kay, Letter, Mark, Other, Zed}
 use Rattle.ed_notation.proofs.Cuts.{spelled-append}
 use Rattle.ed_report.specs.Notes.{rule_line}
 use Rattle.ed_page.specs.Private.ItemTables.{IsSetBelow, cells_with, first_notation, is_last_row, notation_state}
 use Rattle.ed_page.specs.Private.ItemTables.{notation_after, placing_over, table_on, whole_item}
-use Rattle.ed_page.specs.TapeItems.{PlacingLaw, item_table, placing, placing_by, tape_table, with_placing}
+use Rattle.ed_page.specs.TapeItems.{PlacingLaw, item_table, placing, tape_table}
 use Rattle.ed_page.specs.declared.items.Notation.{Notation}
 
 -- ---- what the fold places
 
 pub placing_law : PlacingLaw
-placing_law words note i = by_kind (row_kind i.end)
-  where
-    by_control : (k : Control) → (with_kay k note i).placed ≡ note.placed
-    by_control ThetaByBlank = refl
-    by_control ThetaByG = refl
-    by_control k = refl
-
-    by_control_zed : (k : Control) → (with_zed k note i).placed ≡ note.placed
-    by_control_zed ThetaByBlank = refl
-    by_control_zed k = refl
-
-    by_aim : (a : LetterAction) → (with_letter a note (item_word words note i)).placed
-        ≡ with_placing (if enters_at a then None else Some (address note.directive, item_word words note i)) note.placed
-    by_aim Enters = refl
-    by_aim a = refl
-
-    by_kind : (r : RowKind) → (ending_effect r words note i).placed ≡ with_placing (placing_by r words note i) note.placed
-    by_kind Kay = by_control (control_of i.function)
-    by_kind Zed = by_control_zed (control_of i.function)
-    by_kind Letter = by_aim (letter_action_of note.directive)
-    by_kind r = refl
+placing_law words note i = search rules
 
 -- ---- the state over one store
 
@@ -63,81 +31,17 @@ pub record IsNoteOver (words : List ℕ) (note : NotationState) (n : Notation) :
   pub contents : n.contents.words ≡ over note.placed words
 
 module _ {words : List ℕ} {note : NotationState} {n : Notation} (o : IsNoteOver words note n) (i : Item) where
-  same_word : item_word n.contents.words (notation_state n) i ≡ item_word words note i
-  same_word = λ k. word_with i.function i.number i.mark (value_of (o.contents k) (o.theta k) i.end)
-
   pub same_placing : placing_over n i ≡ placing words note i
-  same_placing = by_kind (row_kind i.end)
-    where
-      by_kind : (r : RowKind) → placing_by r n.contents.words (notation_state n) i ≡ placing_by r words note i
-      by_kind Letter =
-          λ k. if enters_at (letter_action_of (o.directive k)) then None
-          else Some (address (o.directive k), same_word k)
-      by_kind r = refl
+  same_placing = search rules
 
   same_directive : (act n.contents.words (notation_state n) i).directive ≡ (act words note i).directive
-  same_directive = by_kind (row_kind i.end)
-    where
-      by_kay : (k : Control) → (with_kay k (notation_state n) i).directive ≡ (with_kay k note i).directive
-      by_kay ThetaByBlank = o.directive
-      by_kay ThetaByG = o.directive
-      by_kay k = refl
-
-      by_zed : (k : Control) → (with_zed k (notation_state n) i).directive ≡ (with_zed k note i).directive
-      by_zed ThetaByBlank = o.directive
-      by_zed k = ap (λ t. 4096 * i.function + 2 * i.number + t) o.theta
-
-      by_aim : (a : LetterAction) (w v : ℕ) → (with_letter a (notation_state n) w).directive
-          ≡ (with_letter a note v).directive
-      by_aim Enters w v = o.directive
-      by_aim a w v = ap (λ d. d + 2) o.directive
-
-      by_kind : (r : RowKind) → (ending_effect r n.contents.words (notation_state n) i).directive
-          ≡ (ending_effect r words note i).directive
-      by_kind Kay = by_kay (control_of i.function)
-      by_kind Zed = by_zed (control_of i.function)
-      by_kind Letter =
-          ap (λ d. (with_letter (letter_action_of d) (notation_state n)
-          (item_word n.contents.words (notation_state n) i)).directive) o.directive
-          ∙ by_aim (letter_action_of note.directive) _ _
-      by_kind r = o.directive
+  same_directive = search rules
 
   same_theta : (act n.contents.words (notation_state n) i).theta ≡ (act words note i).theta
-  same_theta = by_kind (row_kind i.end)
-    where
-      by_kay : (k : Control) → (with_kay k (notation_state n) i).theta ≡ (with_kay k note i).theta
-      by_kay ThetaByBlank = λ j. (with_kay ThetaByBlank (record note { directive = o.directive j }) i).theta
-      by_kay ThetaByG = λ j. (with_kay ThetaByG (record note { directive = o.directive j }) i).theta
-      by_kay k = o.theta
-
-      by_zed : (k : Control) → (with_zed k (notation_state n) i).theta ≡ (with_zed k note i).theta
-      by_zed ThetaByBlank =
-          λ j. (with_zed ThetaByBlank (record note { directive = o.directive j; theta = o.theta j }) i).theta
-      by_zed k = o.theta
-
-      by_aim : (a : LetterAction) (w v : ℕ) → (with_letter a (notation_state n) w).theta ≡ (with_letter a note v).theta
-      by_aim Enters w v = o.theta
-      by_aim a w v = o.theta
-
-      by_kind : (r : RowKind) → (ending_effect r n.contents.words (notation_state n) i).theta
-          ≡ (ending_effect r words note i).theta
-      by_kind Blank = o.directive
-      by_kind Kay = by_kay (control_of i.function)
-      by_kind Zed = by_zed (control_of i.function)
-      by_kind Letter =
-          ap (λ d. (with_letter (letter_action_of d) (notation_state n)
-          (item_word n.contents.words (notation_state n) i)).theta) o.directive
-          ∙ by_aim (letter_action_of note.directive) _ _
-      by_kind r = o.theta
+  same_theta = search rules
 
   same_contents : (cells_with (placing_over n i) n.contents).words ≡ over (act words note i).placed words
-  same_contents =
-      ap (λ q. (cells_with q n.contents).words) same_placing ∙ by_placing (placing words note i)
-      ∙ ap (λ ps. over ps words) (sym (placing_law words note i))
-    where
-      by_placing : (q : Option (ℕ × ℕ)) → (cells_with q n.contents).words ≡ over (with_placing q note.placed) words
-      by_placing None = o.contents
-      by_placing (Some p) = ap (λ ws. slice_set ws p.0 p.1) o.contents
+  same_contents = search rules
 
   pub over_after : IsNoteOver words (act words note i) (notation_after n i)
   over_after = record { directive = same_directive; theta = same_theta; contents = same_contents }
@@ -157,49 +61,20 @@ with_number p number = record p { number = number }
 digit_row : (row : ℕ) (n : Notation) (p : OpenItem) (d : ℕ) (more : List ℕ) → d < 10 → p.number ≤ 32767
     → table_on row n (Some p) (d ∷ more) ≡ table_on (row + 1) n (Some (with_number p (10 * p.number + d))) more
 unfolding table_on
-digit_row row n p d more low few = ap by_kind kind
-    ∙ ap (λ (m : ℕ). table_on (row + 1) n (Some (with_number p m)) more) fits
-  where
-    kind : row_kind d ≡ Digit
-    kind = rw (lt-ltb d 10 low) refl
-
-    fits : (if nat_lt 32767 p.number then p.number else 10 * p.number + d) ≡ 10 * p.number + d
-    fits = rw (le-ltb 32767 p.number few) refl
-
-    by_kind : RowKind → List ℕ
-    by_kind k = elim (is_last_row k) [
-      | true ↦ item_line p.first (row + 1) (placing_over n (whole_item p d))
-          ++ table_on (row + 1) (notation_after n (whole_item p d)) None more
-      | false ↦ table_on (row + 1) n (Some (opened_with k p d)) more
-    ]
+digit_row row n p d more low few = search rules
 
 -- digit rows, one after the other
 digit_rows : (row : ℕ) (n : Notation) (p : OpenItem) (ds more : List ℕ) → AreDigits ds
     → digits_number p.number ds ≤ 32767
     → table_on row n (Some p) (ds ++ more)
     ≡ table_on (row + length ds) n (Some (with_number p (digits_number p.number ds))) more
-digit_rows row n p [] more are few =
-    let same : row + 0 ≡ row = omega arith in ap (λ r. table_on r n (Some p) more) (sym same)
+digit_rows row n p [] more are few = search rules
 digit_rows row n p (d ∷ ds) more are few =
     let low : p.number ≤ 32767 = let a = digits_number-larger p.number (d ∷ ds) in omega (arith, a, few) in
     let same : row + 1 + length ds ≡ row + length (d ∷ ds) = omega arith in
     digit_row row n p d (ds ++ more) are.0 low
     ∙ digit_rows (row + 1) n (with_number p (10 * p.number + d)) ds more are.1 few
     ∙ ap (λ r. table_on r n (Some (with_number p (digits_number p.number (d ∷ ds)))) more) same
-
--- an item with a mark, or without
-abbrev with_mark : OpenItem → Bool → OpenItem
-with_mark p mark = record p { mark = mark }
-
--- the π row, if there is one
-mark_row : (row : ℕ) (n : Notation) (p : OpenItem) (mark : Bool) (more : List ℕ) → p.mark ≡ false
-    → table_on row n (Some p) (mark_rows mark ++ more)
-    ≡ table_on (row + length (mark_rows mark)) n (Some (with_mark p mark)) more
-unfolding table_on
-mark_row row n p true more none = refl
-mark_row row n p false more none =
-    let same : row + 0 ≡ row = omega arith in
-    λ i. table_on (sym same i) n (Some (record p { mark = none i })) more
 
 -- the row that ends an item
 last_row : (row : ℕ) (n : Notation) (p : OpenItem) (c : ℕ) (more : List ℕ) → is_last_row (row_kind c) ≡ true
@@ -209,43 +84,20 @@ last_row : (row : ℕ) (n : Notation) (p : OpenItem) (c : ℕ) (more : List ℕ)
 unfolding table_on
 last_row row n p c more is = rw (is, table_on) refl
 
-ends_it : (b : Begun) (c : ℕ) → ends (row_kind c) b ≡ true → is_last_row (row_kind c) ≡ true
-ends_it b c = by_kind (row_kind c)
-  where
-    by_kind : (r : RowKind) → ends r b ≡ true → is_last_row r ≡ true
-    by_kind Digit h = cc
-    by_kind Mark h = cc
-    by_kind Other h = cc
-    by_kind r h = refl
-
 -- the rows of an item that has begun
 begun_table : (row : ℕ) (n : Notation) (b : Begun) (more : List ℕ) → IsBegun b
     → table_on row n None (b.function ∷ (b.digits ++ (mark_rows b.mark ++ more)))
     ≡ table_on (row + 1 + length b.digits + length (mark_rows b.mark)) n
     (Some (record { first = row; function = b.function; number = digits_number 0 b.digits; mark = b.mark })) more
 unfolding table_on
-begun_table row n b more is =
-    digit_rows (row + 1) n (item_at row b.function) b.digits (mark_rows b.mark ++ more) is.digits is.fits
-    ∙ mark_row (row + 1 + length b.digits) n (with_number (item_at row b.function)
-    (digits_number 0 b.digits)) b.mark more
-    refl
+begun_table row n b more is = search (rules, digit_rows)
 
 -- the rows of a whole item
 written_table : (row : ℕ) (n : Notation) (w : Written) (more : List ℕ) → IsWritten w
     → table_on row n None (rows_of w ++ more)
     ≡ item_line row (row + length (rows_of w)) (placing_over n (item w))
     ++ table_on (row + length (rows_of w)) (notation_after n (item w)) None more
-written_table row n w more is =
-    let b = w.begun in
-    let ms = mark_rows b.mark in
-    let parts : rows_of w ++ more ≡ b.function ∷ (b.digits ++ (ms ++ (w.end ∷ more))) = simp append_assoc in
-    let counts : length (rows_of w) ≡ 1 + length b.digits + length ms + 1 =
-    simp length-append (omega arith) in
-    let place : row + 1 + length b.digits + length ms + 1 ≡ row + length (rows_of w) = omega (arith, counts) in
-    ap (table_on row n None) parts
-    ∙ begun_table row n b (w.end ∷ more) is.begun
-    ∙ last_row (row + 1 + length b.digits + length ms) n _ w.end more (ends_it b w.end is.ended)
-    ∙ ap (λ r. item_line row r (placing_over n (item w)) ++ table_on r (notation_after n (item w)) None more) place
+written_table row n w more is = search (rules, append_assoc, length-append, begun_table, last_row)
 
 -- the rows of a part of an item
 part_table : (row : ℕ) (n : Notation) (p : Option Begun) → IsPart p → table_on row n None (part_rows p) ≡ []
@@ -290,34 +142,14 @@ pub record IsTabled (row : ℕ) (n : Notation) (part : Option OpenItem) (table r
   pub directive : n.directive ≤ 2 ^ 21 * (row + 1)
   pub theta : n.theta ≤ 2 ^ 21 * (row + 1)
 
--- a write beyond a store changes nothing
-pub beyond : (cells : Cells) (a v : ℕ) → IsStore cells → 1024 ≤ a → cells ≡ with_short cells a v
-beyond cells a v is past =
-    let out : slice_set cells.words a v ≡ cells.words = set_out cells.words a v (omega (arith, is.words_are, past)) in
-    λ i. record { words = sym out i; sandwich = cells.sandwich }
-
 -- ---- the items of a tape
 
 first_over : IsNoteOver cleared_cells.words opening_notation first_notation
-first_over = record {
-  directive = refl;
-  theta = sym (get_or-replicate 1024 42 0 0 (lit< tt));
-  contents = refl;
-}
+first_over = search rules
 
 AreWritten-append : (vs ws : List Written) → AreWritten vs → AreWritten ws → AreWritten (vs ++ ws)
 AreWritten-append [] ws a b = b
 AreWritten-append (v ∷ vs) ws a b = (a.0, AreWritten-append vs ws a.1 b)
-
--- a well-formed tape has the rows up to its entry
-pub entered_within : {z : Size} {codes : List ℕ} {r : Report} {count : ℕ}
-    → Accepts z cleared_cells.words opening_notation 9 codes r → count ≡ r.rows → count ≤ length codes
-entered_within f many =
-    let ws = f.comes.before in
-    let last = f.comes.last in
-    let all = ap length f.comes.rows_are ∙ length-append (spelled_rows ws) (rows_of last ++ f.entry.rest) in
-    let end = length-append (rows_of last) f.entry.rest in
-    omega (arith, many, f.rows_are, f.comes.read_is, all, end)
 
 -- what is answered to a well-formed tape
 pub entered_told : (z : Size) {codes : List ℕ} {r : Report} {count : ℕ} {reply : Reply}
@@ -376,12 +208,7 @@ fault_told z {codes} {row} {cause} {reply} f tells =
 
 pub tabled_first : {table : List ℕ} {n : Notation} (rows : List ℕ) → table ≡ [] → n ≡ first_notation
     → IsTabled 0 n None table rows
-tabled_first rows none first = rw first (record {
-  whole = λ i. none i ++ table_on 0 first_notation None rows;
-  in_range = tt;
-  directive = lit≤ tt;
-  theta = lit≤ tt;
-})
+tabled_first rows none first = search rules
 
 -- a row that does not end its item
 other_row : (row : ℕ) (n : Notation) (p : OpenItem) (c : ℕ) (more : List ℕ) → is_last_row (row_kind c) ≡ false
@@ -393,47 +220,20 @@ module _ {row c : ℕ} {n : Notation} {table rows : List ℕ} where
   pub tabled_function : IsTabled row n None table rows → row < length rows → c ≡ get_or rows row c
       → IsTabled (row + 1) n (Some (item_at row c)) table rows
   unfolding table_on
-  tabled_function t low e = record {
-    whole = ap (λ xs. table ++ table_on row n None xs) (sym (next_row rows row c low e)) ∙ t.whole;
-    in_range = lit≤ tt;
-    directive = omega (arith, t.directive);
-    theta = omega (arith, t.theta);
-  }
+  tabled_function t low e = grind (arith, common_steps)
 
   module _ {p : OpenItem} (t : IsTabled row n (Some p) table rows) (low : row < length rows)
       (e : c ≡ get_or rows row c) where
     pub tabled_longer : is_last_row (row_kind c) ≡ false → {q : OpenItem} → q ≡ opened_with (row_kind c) p c
         → q.number ≤ 327679 → IsTabled (row + 1) n (Some q) table rows
-    tabled_longer is {q} same few = record {
-      whole = ap (λ x. table ++ table_on (row + 1) n (Some x) (drop (row + 1) rows)) same
-          ∙ ap (λ xs. table ++ xs) (sym (other_row row n p c (drop (row + 1) rows) is))
-          ∙ ap (λ xs. table ++ table_on row n (Some p) xs) (sym (next_row rows row c low e)) ∙ t.whole;
-      in_range = few;
-      directive = omega (arith, t.directive);
-      theta = omega (arith, t.theta);
-    }
+    tabled_longer is {q} same few = search (rules, other_row, next_row)
 
     pub tabled_last : is_last_row (row_kind c) ≡ true → {m : Notation} {longer : List ℕ} (q : Option (ℕ × ℕ))
         → q ≡ placing_over n (whole_item p c) → longer ≡ table ++ item_line p.first (row + 1) q
         → m ≡ notation_after n (whole_item p c) → IsSetBelow n m → IsTabled (row + 1) m None longer rows
-    tabled_last is {m} {longer} q places line next below =
-        let bound = below (2 ^ 21 * (row + 1)) t.directive t.theta in
-        let more = drop (row + 1) rows in
-        let one = item_line p.first (row + 1) (placing_over n (whole_item p c)) in
-        record {
-          whole = (λ i. line i ++ table_on (row + 1) (next i) None more)
-              ∙ (λ i. (table ++ item_line p.first (row + 1) (places i))
-              ++ table_on (row + 1) (notation_after n (whole_item p c)) None more)
-              ∙ append_assoc table one (table_on (row + 1) (notation_after n (whole_item p c)) None more)
-              ∙ ap (λ xs. table ++ xs) (sym (last_row row n p c more is))
-              ∙ ap (λ xs. table ++ table_on row n (Some p) xs) (sym (next_row rows row c low e)) ∙ t.whole;
-          in_range = tt;
-          directive = omega (arith, bound.0);
-          theta = omega (arith, bound.1);
-        }
+    tabled_last is {m} {longer} q places line next below = search (rules, append_assoc, last_row, next_row)
 
 pub tabled_end : {row : ℕ} {n : Notation} {part : Option OpenItem} {table rows : List ℕ}
     → IsTabled row n part table rows → length rows ≤ row → table ≡ table_on 0 first_notation None rows
 unfolding table_on
-tabled_end {row} {n} {part} {table} {rows} t past =
-    sym (append-nil table) ∙ ap (λ xs. table ++ table_on row n part xs) (sym (drop_all row rows past)) ∙ t.whole
+tabled_end {row} {n} {part} {table} {rows} t past = grind (arith, common_steps)

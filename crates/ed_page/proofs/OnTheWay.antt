@@ -1,12 +1,10 @@
 -- The states on the way of a tape, from Start with either Initial Orders: they are within their bounds, Start and
 -- orders lead to them, and a picture shows one of them alone.
-use Rattle.ed_page.proofs.Kit.{IfSome, IsNone, ◌↔◌, Size, IsReached, Cells, IsStore, length-append, lit<, lit≤, ◌%◌}
-use Rattle.ed_page.proofs.Kit.{◌/◌, locations, ap, arith, Bool, drop, false, get_or, inl, inr, length, List, None}
-use Rattle.ed_page.proofs.Kit.{Option, refl, replicate, rules, Some, subst, sym, ℕ, ◌++◌, ◌+◌, ◌-◌, ◌<◌, ◌^◌, ◌∙◌, ◌≡◌}
-use Rattle.ed_page.proofs.Kit.{◌≤◌, length-drop, length-replicate, State, state_after, first_state, first_state1}
-use Rattle.ed_page.proofs.Kit.{AreCodes, Pictures, PicturesStore, size_shown, Registers}
+use Rattle.ed_page.proofs.Kit.{common_steps, IfSome, IsNone, ◌↔◌, Size, IsReached, Cells, IsStore, lit≤, ◌%◌, ◌/◌}
+use Rattle.ed_page.proofs.Kit.{locations, ap, arith, Bool, drop, get_or, inl, inr, length, List, None, Option, refl}
+use Rattle.ed_page.proofs.Kit.{rules, Some, subst, sym, ℕ, ◌++◌, ◌-◌, ◌<◌, ◌^◌, ◌∙◌, ◌≡◌, ◌≤◌, State, state_after}
+use Rattle.ed_page.proofs.Kit.{first_state, first_state1, AreCodes, Pictures, PicturesStore, size_shown, Registers}
 use Rattle.std.proofs.Common.{unwrap_or}
-use Rattle.std.proofs.Math.Seq.{drop-append_seam}
 use Rattle.ed_words.specs.declared.size.Size.TheVariants.{Small, Full}
 use Rattle.ed_machine.specs.Reached.IsReached.{clear, start, obey}
 use Rattle.ed_machine.specs.Sound.{IsSound}
@@ -21,33 +19,9 @@ use Rattle.ed_page.specs.Pictures.{last_shown}
 use Rattle.ed_page.proofs.Stores.{words_fit}
 use Rattle.ed_page.proofs.TapeRows.{by_steps}
 
--- the words of the Initial Orders of May 1949 that Start places, and 0
-abbrev first_words1 : List ℕ
-first_words1 = first_orders ++ drop 31 (replicate 1024 0)
-
-first_length1 : length first_words1 ≡ 1024
-first_length1 =
-    omega (
-      arith,
-      length-append first_orders (drop 31 (replicate 1024 0)),
-      length-drop {A = ℕ} 31 (replicate 1024 0),
-      length-replicate {A = ℕ} 1024 0,
-    )
-
 first_sound1 : (rows : List ℕ) → AreCodes rows → IsSound (first_state1 rows)
 unfolding first_state1
-first_sound1 rows are = record {
-  store = record {
-    words_are = first_length1;
-    digits_are = length-replicate {A = Bool} 512 false;
-    fits = all_fit first_words1 refl;
-  };
-  acc = lit< tt;
-  multiplier = lit< tt;
-  counter = lit< tt;
-  tape = are;
-  last = lit< tt;
-}
+first_sound1 rows are = search (rules, all_fit)
 
 -- a state in which a way begins: its bounds, that Start led to it, its size and its rows
 pub record IsFirst (z : Size) (rows : List ℕ) (first : State) : Type 0 where
@@ -85,10 +59,7 @@ is_first {rows = rows} {first} are (inr is) =
 
 -- its rows are the last ones of the tape
 last_rows : (read left all : List ℕ) → read ++ left ≡ all → drop (length all - length left) all ≡ left
-last_rows read left all is =
-    let many : length all ≡ length read + length left = ap length (sym is) ∙ length-append read left in
-    let few : length all - length left ≡ length read = omega (arith, many) in
-    ap (λ n. drop n all) few ∙ ap (λ (xs : List ℕ). drop (length read) xs) (sym is) ∙ drop-append_seam read left
+last_rows read left all is = grind (arith, common_steps)
 
 -- the states on the way
 module _ {z : Size} {rows : List ℕ} {first : State} (is : IsFirst z rows first) (k : ℕ) where
@@ -109,8 +80,7 @@ module _ {z : Size} {rows : List ℕ} {first : State} (is : IsFirst z rows first
       last_rows ends.0 (state_after k first).tape rows (ends.1 ∙ is.tape_is)
 
   pub way_left : length (state_after k first).tape ≤ length rows
-  way_left =
-      subst (λ (xs : List ℕ). length (state_after k first).tape ≤ length xs) is.tape_is (steps_follow k first).fewer
+  way_left = search (rules, steps_follow)
 
 -- the number for the last printed code is below 33
 pub shown_fits : (last : Option ℕ) → unwrap_or last 0 < 32 → last_shown last ≤ 32
@@ -120,16 +90,7 @@ shown_fits (Some code) h = omega arith
 -- a state by its parts
 pub same_state : (s t : State) → t.size ≡ s.size → t.store ≡ s.store → t.acc ≡ s.acc → t.multiplier ≡ s.multiplier
     → t.counter ≡ s.counter → t.tape ≡ s.tape → t.last ≡ s.last → t.orders ≡ s.orders → t ≡ s
-same_state s t size store acc multiplier counter tape last orders = λ i. record {
-  size = size i;
-  store = store i;
-  acc = acc i;
-  multiplier = multiplier i;
-  counter = counter i;
-  tape = tape i;
-  last = last i;
-  orders = orders i;
-}
+same_state s t size store acc multiplier counter tape last orders = search rules
 
 -- what a picture shows of a state on the way is within its bounds
 module _ {small : Bool} {rows words digits : List ℕ} {r : Registers} (p : CanGoOn small rows words digits r) where
@@ -157,8 +118,7 @@ module _ {small : Bool} {rows words digits : List ℕ} {r : Registers} (p : CanG
   fit_last = subst (λ n. n ≤ 32) (sym p.way.pictured.registers.last) (shown_fits shown.last sound.last)
 
   pub fit_rows : r.rows_left ≤ length rows
-  fit_rows =
-      subst (λ n. n ≤ length rows) (sym p.way.pictured.registers.rows_left) (way_left IsFirst-begun p.way.orders)
+  fit_rows = search (rules, way_left, IsFirst-begun)
 
 pub most_places : (z : Size) → locations z ≤ 1024
 most_places Small = lit≤ tt
@@ -168,12 +128,8 @@ most_places Full = lit≤ tt
 last_is : (read last : Option ℕ) (n : ℕ) → (IsNone read ↔ (32 ≤ n)) → IfSome read (λ code. code ≡ n)
     → n ≡ last_shown last → unwrap_or last 0 < 32 → read ≡ last
 last_is None None n none some is low = refl
-last_is None (Some code) n none some is low = let past : 32 ≤ n =
-    none.0 (search rules) in absurd (omega (arith, past, is, low))
-last_is (Some read) None n none some is low = absurd (not_none read (none.1 (omega (arith, is))))
-  where
-    not_none : (k : ℕ) → IsNone (Some k) → ⊥
-    not_none k h = search rules
+last_is None (Some code) n none some is low = search rules
+last_is (Some read) None n none some is low = search rules
 last_is (Some read) (Some code) n none some is low = ap Some (some ∙ is)
 
 -- a state that was made of what a picture shows is the state that it shows

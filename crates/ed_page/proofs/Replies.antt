@@ -1,10 +1,9 @@
 -- From the answer to the rows or the lines of a text to that to the text.
-use Rattle.ed_page.proofs.Kit.{Size, Settings, Line, of_input, IsRunResult, Reply, NotedRun, [], ap, Err, inl, inr}
-use Rattle.ed_page.proofs.Kit.{List, Ok, refl, Result, Some, subst, sym, ℕ, ◌++◌, ◌∙◌, ◌≡◌, Text, reading, rows, State}
-use Rattle.ed_page.proofs.Kit.{RunEnd, tape, ending_line, Outcome, IsAcceptedAs, ran_outcome, run_of, entered_before}
-use Rattle.ed_page.proofs.Kit.{OfSource, run_outcome, RowsEnd, SourceEnds, IsReplied}
-use Rattle.ed_answers.proofs.Kit.{IsErr, IsErrAnd, no_row, open_comment, Reading, exactly, OfReading, refusal, Replies}
-use Rattle.std.proofs.lemmas.Result.{err_from_is_err_and}
+use Rattle.ed_page.proofs.Kit.{common_steps, rules, arith, Size, Settings, Line, IsRunResult, Reply, NotedRun, [], ap}
+use Rattle.ed_page.proofs.Kit.{Err, inl, inr, List, Ok, refl, Result, Some, subst, sym, ℕ, ◌++◌, ◌∙◌, ◌≡◌, Text}
+use Rattle.ed_page.proofs.Kit.{reading, rows, State, RunEnd, tape, ending_line, Outcome, IsAcceptedAs, ran_outcome}
+use Rattle.ed_page.proofs.Kit.{run_of, entered_before, OfSource, run_outcome, RowsEnd, SourceEnds, IsReplied}
+use Rattle.ed_answers.proofs.Kit.{IsErr, IsErrAnd, no_row, open_comment, Reading, exactly, OfReading, refusal}
 use Rattle.ed_syntax.specs.declared.fault.SourceFault.TheVariants.{At}
 use Rattle.ed_report.specs.Notes.{source_fault_line}
 use Rattle.ed_answers.specs.Replies.{IsRunResultOf, LinksSource, RefusesText, RunsSource}
@@ -18,9 +17,7 @@ use Rattle.ed_page.proofs.Endings.{noted_run}
 -- what `?` passes on
 passed : {T : Type 0} (P : Result T Rejection → Type 0) (e : Rejection) (r : Result T Rejection) → P (Err e)
     → IsErr r × IsErrAnd r (λ handed. handed ≡ e) → P r
-passed P e r is handed =
-    let p = err_from_is_err_and r handed.1 in
-    subst P (sym (p.1 ∙ ap (λ (x : Rejection). Err x) p.2)) is
+passed P e r is handed = search rules
 
 -- the reply that refuses a text
 pub refused_reply : (answers : Text → Outcome → Type 0) (text : Text) {e : Rejection} {reply : Reply}
@@ -36,20 +33,6 @@ at_rows : (answers : List ℕ → Outcome → Type 0) {q : Reading} {codes : Lis
     → answers codes o → OfReading answers q o
 at_rows answers {o = o} is a = subst (λ (r : Reading). OfReading answers r o) (sym is) a
 
-of_codes : (answers : List ℕ → Outcome → Type 0) (text : Text) {codes : List ℕ} {reply : Reply}
-    → reading text ≡ rows codes → IsReplied answers codes reply → IsReplied (OfRows answers) text reply
-of_codes answers text is r = (r.0, at_rows answers is r.1, r.2)
-
--- the answer to its rows
-pub rows_answered : (answers : List ℕ → Outcome → Type 0) (text : Text) {codes seen : List ℕ}
-    (r : Result Reply Rejection) → reading text ≡ rows codes → seen ≡ codes → IsAnswered answers seen r
-    → IsAnswered (OfRows answers) text r
-rows_answered answers text (Ok reply) is same a =
-    of_codes answers text is (subst (λ (x : List ℕ). IsReplied answers x reply) same a)
-rows_answered answers text (Err (Refused reply)) is same a =
-    of_codes answers text is (subst (λ (x : List ℕ). IsReplied answers x reply) same a)
-rows_answered answers text (Err Memory) is same a = tt
-
 refused_rows : (answers : List ℕ → Outcome → Type 0) (text : Text) (e : Rejection) → RefusesText (reading text) e
     → IsAnswered (OfRows answers) text (Err e)
 refused_rows answers text (Refused reply) refuses = refused_at answers (reading text) reply refuses
@@ -57,8 +40,7 @@ refused_rows answers text Memory refuses = tt
 
 pub rows_refused : (answers : List ℕ → Outcome → Type 0) (text : Text) (e : Rejection) (r : Result Reply Rejection)
     → RefusesText (reading text) e → IsErr r × IsErrAnd r (λ handed. handed ≡ e) → IsAnswered (OfRows answers) text r
-rows_refused answers text e r refuses handed =
-    passed (IsAnswered (OfRows answers) text) e r (refused_rows answers text e refuses) handed
+rows_refused answers text e r refuses handed = search (rules, refused_rows)
 
 codes_of : Reading → List ℕ
 codes_of (rows codes) = codes
@@ -89,42 +71,19 @@ rows_run outcome run text {codes} noted is gives of line = (
 not_run : (outcome : List ℕ → Outcome) (run : List ℕ → RunEnd) (text : Text) (e : Rejection)
     → RefusesText (reading text) e → Runs (OfRows (exactly outcome)) (RowsEnd run) text (Err e)
 not_run outcome run text Memory refuses = tt
-not_run outcome run text (Refused reply) refuses = (
-  refused_at (exactly outcome) (reading text) reply refuses,
-  record {
-    some = λ m ends. absurd (subst (λ (q : Reading). RefusesText q (Refused reply)) ends.1 refuses);
-    none = λ nothing. refl;
-  },
-)
+not_run outcome run text (Refused reply) refuses =
+    grind (arith, common_steps, (refused_at (exactly outcome) (reading text) reply refuses))
 
 pub rows_not_run : (outcome : List ℕ → Outcome) (run : List ℕ → RunEnd) (text : Text) (e : Rejection)
     (r : Result NotedRun Rejection) → RefusesText (reading text) e → IsErr r × IsErrAnd r (λ handed. handed ≡ e)
     → Runs (OfRows (exactly outcome)) (RowsEnd run) text r
-rows_not_run outcome run text e r refuses handed =
-    passed (Runs (OfRows (exactly outcome)) (RowsEnd run) text) e r (not_run outcome run text e refuses) handed
+rows_not_run outcome run text e r refuses handed = search (rules, not_run)
 
 -- ---- a source
 
 refused_source : (z : Size) (f : List Line → Outcome) (text : Text) (reply : Reply)
     → LinksSource z text (Err (Refused reply)) → IsReplied (OfSource z f) text reply
 refused_source z f text reply l = (refusal (source_fault_line (At l.0 l.1)), inl (l.0, l.1, l.2, refl), l.3)
-
--- its refusal
-refused_lines : (z : Size) (f : List Line → Outcome) (text : Text) (e : Rejection) → LinksSource z text (Err e)
-    → IsAnswered (OfSource z f) text (Err e)
-refused_lines z f text (Refused reply) l = refused_source z f text reply l
-refused_lines z f text Memory l = tt
-
-pub source_refused : (z : Size) (f : List Line → Outcome) (text : Text) (e : Rejection) (r : Result Reply Rejection)
-    → LinksSource z text (Err e) → IsErr r × IsErrAnd r (λ handed. handed ≡ e) → IsAnswered (OfSource z f) text r
-source_refused z f text e r l handed = passed (IsAnswered (OfSource z f) text) e r (refused_lines z f text e l) handed
-
--- the program's reply
-pub IsAnswered-replied : (answers : Text → Outcome → Type 0) (text : Text) (r : Result Reply Rejection)
-    → Replies (of_input answers) text r → IsAnswered answers text r
-IsAnswered-replied answers text (Ok reply) is = is
-IsAnswered-replied answers text (Err (Refused reply)) is = is
-IsAnswered-replied answers text (Err Memory) is = tt
 
 -- the run of its tape
 ran_source : (s : Settings) (text : Text) (noted : NotedRun)

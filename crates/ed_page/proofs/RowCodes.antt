@@ -1,9 +1,6 @@
 -- The rows that a text spells, and those of the tape of a source, are codes.
-use Rattle.ed_page.proofs.Kit.{take-length, Size, zero, take, Line, [], ap, drop, length, List, subst, suc, sym, ℕ}
-use Rattle.ed_page.proofs.Kit.{◌++◌, ◌-◌, ◌∙◌, ◌∷◌, ◌≡◌, length-drop, Text, reading, rows, tape, IsAcceptedAs}
-use Rattle.ed_page.proofs.Kit.{AreCodes}
-use Rattle.ed_link.proofs.Kit.{canonicals, data_after, punched_items, after_text}
-use Rattle.ed_notation.specs.Spellings.{text_of}
+use Rattle.ed_page.proofs.Kit.{rules, take-length, Size, zero, take, Line, [], ap, drop, length, List, subst, suc, sym}
+use Rattle.ed_page.proofs.Kit.{ℕ, ◌-◌, ◌∙◌, ◌∷◌, ◌≡◌, length-drop, Text, reading, rows, tape, IsAcceptedAs, AreCodes}
 use Rattle.ed_initial.proofs.Starts.{read_fit}
 use Rattle.ed_answers.proofs.PunchedTexts.{text_is_tape}
 
@@ -11,9 +8,7 @@ pub read_codes : (text : Text) (codes : List ℕ) → reading text ≡ rows code
 read_codes text codes is = read_fit text codes is
 
 pub source_codes : (z : Size) (text : Text) (lines : List Line) → IsAcceptedAs z text lines → AreCodes (tape lines)
-source_codes z text lines accepted =
-    read_codes (text_of (canonicals (punched_items lines)) ++ after_text (data_after lines)) (tape lines)
-    (text_is_tape z text lines accepted)
+source_codes z text lines accepted = search (rules, read_codes, text_is_tape)
 
 -- the codes from one on are all that follow
 pub codes_after : (n : ℕ) (all : List ℕ) → take (length all - n) (drop n all) ≡ drop n all

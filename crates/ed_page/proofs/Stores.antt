@@ -1,8 +1,8 @@
 -- A store that is made pair by pair of what a picture shows is the store that was pictured.
-use Rattle.ed_page.proofs.Kit.{cleared_cells, zero, cases_lt, Cells, IsStore, lit<, ◌*◌, ◌/◌, arith, Bool, false}
+use Rattle.ed_page.proofs.Kit.{common_steps, rules, cleared_cells, zero, Cells, IsStore, lit<, ◌*◌, ◌/◌, arith, false}
 use Rattle.ed_page.proofs.Kit.{get_or, inl, inr, length, List, replicate, subst, suc, sym, ℕ, ◌+◌, ◌<◌, ◌^◌, ◌∙◌, ◌≡◌}
-use Rattle.ed_page.proofs.Kit.{◌≤◌, ◌⊎◌, length-replicate, PicturesStore}
-use Rattle.std.proofs.lemmas.List.{ext_get_or, get_or_past}
+use Rattle.ed_page.proofs.Kit.{◌⊎◌, PicturesStore}
+use Rattle.std.proofs.lemmas.List.{ext_get_or}
 
 zeros : (n i : ℕ) → get_or (replicate n 0) i 0 < 2 ^ 17
 zeros zero i = lit< tt
@@ -10,11 +10,7 @@ zeros (suc n) zero = lit< tt
 zeros (suc n) (suc i) = zeros n i
 
 pub cleared_store : IsStore cleared_cells
-cleared_store = record {
-  words_are = length-replicate {A = ℕ} 1024 0;
-  digits_are = length-replicate {A = Bool} 512 false;
-  fits = zeros 1024;
-}
+cleared_store = search (rules, zeros)
 
 -- what two stores have in common at a pair
 abbrev pub SamePair : Cells → Cells → ℕ → Type 0
@@ -43,9 +39,4 @@ same_cells s c one two pairs =
 -- the words of a picture are those of a store
 pub words_fit : (c : Cells) (words digits : List ℕ) → IsStore c → PicturesStore c words digits → length words ≡ 1024
     → (a : ℕ) → get_or words a 0 < 2 ^ 17
-words_fit c words digits store pictures many a = by_place (cases_lt a 1024)
-  where
-    by_place : (a < 1024) ⊎ (1024 ≤ a) → get_or words a 0 < 2 ^ 17
-    by_place (inl below) = subst (λ n. n < 2 ^ 17) (sym (pictures.words_are a below)) (store.fits a)
-    by_place (inr past) =
-        let none : get_or words a 0 ≡ 0 = get_or_past words a 0 (omega (arith, many, past)) in omega (arith, none)
+words_fit c words digits store pictures many a = grind (arith, common_steps)

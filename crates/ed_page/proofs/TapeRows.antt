@@ -1,24 +1,15 @@
 -- The rows that a run leaves are the end of its tape's rows.
-use Rattle.ed_page.proofs.Kit.{Kind, zero, function_of, kind_of_function, run1_of, [], ap, append_assoc, Bool, false}
-use Rattle.ed_page.proofs.Kit.{List, nat_le, nat_lt, None, Option, refl, Some, suc, sym, true, ℕ, ◌++◌, ◌^◌, ◌∙◌, ◌∷◌}
-use Rattle.ed_page.proofs.Kit.{◌≡◌, step, State, progress, state_after, run_end, run_orders, first_state, first_state1}
-use Rattle.ed_page.proofs.Kit.{paper_room, run_of}
+use Rattle.ed_page.proofs.Kit.{rules, Kind, zero, function_of, kind_of_function, run1_of, [], ap, append_assoc, List}
+use Rattle.ed_page.proofs.Kit.{None, Option, refl, Some, suc, sym, ℕ, ◌++◌, ◌∙◌, ◌∷◌, ◌≡◌, step, State, progress}
+use Rattle.ed_page.proofs.Kit.{state_after, run_end, run_orders, first_state, first_state1, paper_room, run_of}
 use Rattle.ed_orders.specs.declared.kind.Kind.TheVariants.{E, G, I}
-use Rattle.ed_machine.specs.OrderTable.{jump_order, next_word, obey_word, place_of, row_order}
+use Rattle.ed_machine.specs.OrderTable.{next_word, obey_word, row_order}
 use Rattle.ed_page.specs.Answers.{EachRunReadsOn, IsEndOf}
 
 -- one order reads at most one row
 by_order : (k : Option Kind) (w : ℕ) (s : State) → IsEndOf (obey_word k w s).state.tape s.tape
-by_order (Some E) w s = by_test (nat_lt s.acc (2 ^ 70))
-  where
-    by_test : (b : Bool) → IsEndOf (jump_order b (place_of s w) s).state.tape s.tape
-    by_test true = ([], refl)
-    by_test false = ([], refl)
-by_order (Some G) w s = by_test (nat_le (2 ^ 70) s.acc)
-  where
-    by_test : (b : Bool) → IsEndOf (jump_order b (place_of s w) s).state.tape s.tape
-    by_test true = ([], refl)
-    by_test false = ([], refl)
+by_order (Some E) w s = search rules
+by_order (Some G) w s = search rules
 by_order (Some I) w s = by_tape s.tape refl
   where
     by_tape : (rows : List ℕ) → s.tape ≡ rows → IsEndOf (row_order rows w s).state.tape s.tape

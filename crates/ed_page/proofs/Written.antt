@@ -1,23 +1,14 @@
 -- From what was written into buffers to the cause of an answer.
-use Rattle.ed_page.proofs.Kit.{IfSome, cases_lt, IsDue, of_input, Reply, arith, inl, inr, length, List, None, Option}
-use Rattle.ed_page.proofs.Kit.{refl, Some, subst, ℕ, ◌<◌, ◌∙◌, ◌≡◌, ◌≢◌, ◌≤◌, ◌⊎◌, Text, State, Outcome, Gives}
-use Rattle.ed_page.proofs.Kit.{Buffers, IsShown, picture_buffers, text_buffers, Pictures, IsReplied, told_outcome}
-use Rattle.ed_page.proofs.Kit.{Registers}
+use Rattle.ed_page.proofs.Kit.{rules, IfSome, IsDue, of_input, Reply, arith, inl, inr, length, List, None, Option, refl}
+use Rattle.ed_page.proofs.Kit.{Some, ℕ, ◌<◌, ◌≡◌, ◌≢◌, ◌≤◌, ◌⊎◌, Text, State, Outcome, Gives, Buffers, IsShown}
+use Rattle.ed_page.proofs.Kit.{picture_buffers, text_buffers, Pictures, IsReplied, told_outcome, Registers}
 use Rattle.ed_answers.specs.Outcome.{too_long, too_long_outcome}
 use Rattle.ed_answers.specs.declared.input.TheConstants.{INPUT_BYTES}
-use Rattle.ed_page.specs.Answers.{HasBufferRoom, HasItsCause, HasPictureRoom, IsTextWritten, LacksLine, LacksRoom}
-use Rattle.ed_page.specs.Answers.{ShowsNone, TextBuffers}
+use Rattle.ed_page.specs.Answers.{HasBufferRoom, HasItsCause, IsTextWritten, LacksLine, LacksRoom, ShowsNone}
+use Rattle.ed_page.specs.Answers.{TextBuffers}
 use Rattle.ed_page.specs.Private.Stages.{AreTextsWritten, IsPicture, IsWrittenOut, WritesBuffers}
 use Rattle.ed_page.specs.declared.running.Shown.{Shown}
 use Rattle.ed_page.specs.declared.writing.Lengths.{Lengths}
-
-same_number : (m n : ℕ) → ((m ≢ n) → ⊥) → (m < n) ⊎ (n ≤ m) → (n < m) ⊎ (m ≤ n) → m ≡ n
-same_number m n h (inl less) other = absurd (h (λ e. omega (arith, less, e)))
-same_number m n h (inr most) (inl less) = absurd (h (λ e. omega (arith, less, e)))
-same_number m n h (inr most) (inr least) = omega (arith, most, least)
-
-twelve : ◌≢◌ {A = ℕ} 12 10
-twelve e = cc
 
 -- the status of a reply is not that of no memory, or of no room
 pub low_status : {reply : Reply} {o : Outcome} → Gives reply o → reply.status < 12
@@ -37,59 +28,21 @@ no_room o out note (inr less) room = absurd (omega (arith, less.1, room.note_fit
 pub told_written : (o : Outcome) {out note out_after note_after : List ℕ} {kept l : Lengths} {wrote : Option Lengths}
     → o.status < 12 → o.status ≢ 10 → wrote ≡ Some l → AreTextsWritten o out note out_after note_after wrote
     → IsWrittenOut o (text_buffers out note kept) (text_buffers out_after note_after l) o.status
-told_written o {out} {note} {out_after} {note_after} {kept} {l} low found is w =
-    let t = subst (AreTextsWritten o out note out_after note_after) is w in (
-      found,
-      record {
-        no_room = λ e room. absurd (omega (arith, low, e));
-        kept = λ e. absurd (omega (arith, low, e));
-        shown = λ not12. t;
-      },
-    )
+told_written o {out} {note} {out_after} {note_after} {kept} {l} low found is w = search rules
 
 -- there was no room
 pub told_nowhere : (o : Outcome) {out note out_after note_after : List ℕ} {kept : Lengths} {wrote : Option Lengths}
     → wrote ≡ None → AreTextsWritten o out note out_after note_after wrote
     → IsWrittenOut o (text_buffers out note kept) (text_buffers out_after note_after kept) 12
-told_nowhere o {out} {note} {out_after} {note_after} {kept} is w =
-    let t = subst (AreTextsWritten o out note out_after note_after) is w in (
-      twelve,
-      record {
-        no_room = λ e room. t.0 room;
-        kept = λ e. λ i. text_buffers (t.1 i) (t.2 i) kept;
-        shown = λ not12. absurd (not12 refl);
-      },
-    )
+told_nowhere o {out} {note} {out_after} {note_after} {kept} is w = search rules
 
 -- ---- a text
-
--- the texts and the status of a reply are the outcome that it gives
-reply_is : (o : Outcome) {reply : Reply} {answer line : Text} → Gives reply o → answer ≡ reply.out.items
-    → line ≡ reply.note.items → told_outcome answer line reply.status ≡ o
-reply_is o g out note =
-    λ i. record { out = (out ∙ g.out_is) i; note = (note ∙ g.note_is) i; status = g.status_is i }
-
--- the line on a text that is too long has no room
-line_lacks : (out note : List ℕ) → length note < length too_long → HasBufferRoom too_long_outcome out note → ⊥
-line_lacks out note less room = absurd (omega (arith, less, room.note_fits))
 
 -- so the answer is 12
 early_long : {Kept Shown : Type 0} {out note : List ℕ} {answer : ℕ}
     → HasItsCause (HasBufferRoom too_long_outcome out note) Kept Shown answer
     → length note < length too_long → answer ≡ 12
-early_long {out = out} {note} {answer} is less =
-    same_number answer 12 (λ not12. line_lacks out note less (is.shown not12).0) (cases_lt answer 12)
-    (cases_lt 12 answer)
-
--- a text that is too long is told so
-pub long_written : (answers : Text → Outcome → Type 0) (text : Text) {before after : TextBuffers} {answer : ℕ}
-    → INPUT_BYTES < length text → IsWrittenOut too_long_outcome before after answer
-    → IsTextWritten (of_input answers) text before after answer
-long_written answers text long w = record {
-  memory = λ e. absurd (w.0 e);
-  told = λ not10. (too_long_outcome, inr (long, refl), w.1);
-  early = λ lacks. early_long w.1 lacks.1;
-}
+early_long {out = out} {note} {answer} is less = search rules
 
 -- a reply was written
 pub reply_written : (answers : Text → Outcome → Type 0) (text : Text) {reply : Reply} {answer line : Text}
@@ -97,23 +50,7 @@ pub reply_written : (answers : Text → Outcome → Type 0) (text : Text) {reply
     → answer ≡ reply.out.items → line ≡ reply.note.items
     → IsWrittenOut (told_outcome answer line reply.status) before after status
     → IsTextWritten (of_input answers) text before after status
-reply_written answers text {before = before} {after} {status} few r out note w =
-    let is =
-    subst (λ (o : Outcome). IsWrittenOut o before after status) (reply_is r.0 r.2 out note) w in
-    record {
-      memory = λ e. absurd (is.0 e);
-      told = λ not10. (r.0, inl (few, r.1), is.1);
-      early = λ lacks. absurd (omega (arith, few, lacks.0));
-    }
-
--- no memory was found
-pub text_unmade : (answers : Text → Outcome → Type 0) (text : Text) (before : TextBuffers) → length text ≤ INPUT_BYTES
-    → IsTextWritten (of_input answers) text before before 10
-text_unmade answers text before few = record {
-  memory = λ e. refl;
-  told = λ not10. absurd (not10 refl);
-  early = λ lacks. absurd (omega (arith, few, lacks.0));
-}
+reply_written answers text {before = before} {after} {status} few r out note w = search rules
 
 -- ---- a picture
 
@@ -126,18 +63,7 @@ pub picture_written : (o : Outcome) {machine : Option State} {wrote : Option Len
     → IfSome machine (λ m. Pictures m after.words after.digits after.registers)
     → (machine ≡ None → ShowsNone before after)
     → WritesBuffers o machine before after o.status
-picture_written o {l = l} {before} {after} low found words digits is w printed noted pictures none =
-    let t = subst (AreTextsWritten o before.paper before.note after.paper after.note) is w in (
-      found,
-      record {
-        no_room = λ e room. absurd (omega (arith, low, e));
-        kept = λ e. absurd (omega (arith, low, e));
-        shown = λ not12. (
-          record { words_are = words; digits_are = digits; texts = t.0 },
-          record { told = rw (printed, noted) t.1; state = pictures; none = none },
-        );
-      },
-    )
+picture_written o {l = l} {before} {after} low found words digits is w printed noted pictures none = search rules
 
 -- there was no room for it
 pub picture_nowhere : (o : Outcome) (machine : Option State) {wrote : Option Lengths} {words digits : List ℕ}
@@ -146,14 +72,7 @@ pub picture_nowhere : (o : Outcome) (machine : Option State) {wrote : Option Len
     → WritesBuffers o machine (picture_buffers words digits paper note registers)
     (picture_buffers words digits paper_after note_after registers) 12
 picture_nowhere o machine {words = words} {digits} {paper} {note} {paper_after} {note_after} {registers} is w =
-    let t = subst (AreTextsWritten o paper note paper_after note_after) is w in (
-      twelve,
-      record {
-        no_room = λ e room. t.0 room.texts;
-        kept = λ e. λ i. picture_buffers words digits (t.1 i) (t.2 i) registers;
-        shown = λ not12. absurd (not12 refl);
-      },
-    )
+    search rules
 
 -- the buffers of the store have their lengths
 abbrev StoreFits : Buffers → Type 0
@@ -164,39 +83,12 @@ lacks_line text b fits (inl words) = absurd (words fits.0)
 lacks_line text b fits (inr (inl digits)) = absurd (digits fits.1)
 lacks_line text b fits (inr (inr line)) = line
 
--- no memory was found for it
-pub picture_unmade : (answers : Text → Outcome → Type 0) (Ends : Text → State → Type 0) (text : Text)
-    (before : Buffers) → StoreFits before → length text ≤ INPUT_BYTES
-    → IsShown (of_input answers) Ends text before before 10
-picture_unmade answers Ends text before fits few = record {
-  memory = λ e. refl;
-  told = λ not10. absurd (not10 refl);
-  early = λ lacks. let line = lacks_line text before fits lacks in absurd (omega (arith, few, line.0));
-}
-
-store_lacks : (o : Outcome) (before : Buffers) → (length before.words ≢ 1024) ⊎ ((length before.words ≡ 1024)
-    × (length before.digits ≢ 512)) → HasPictureRoom o before → ⊥
-store_lacks o before (inl words) room = words room.words_are
-store_lacks o before (inr digits) room = digits.1 room.digits_are
-
 -- a buffer of the store has the wrong length
 pub picture_early : (answers : Text → Outcome → Type 0) (Ends : Text → State → Type 0) (text : Text) (before : Buffers)
     → ((o : Outcome) × IsDue (of_input answers) text o)
     → (length before.words ≢ 1024) ⊎ ((length before.words ≡ 1024) × (length before.digits ≢ 512))
     → IsShown (of_input answers) Ends text before before 12
-picture_early answers Ends text before due lacks = record {
-  memory = λ e. absurd (twelve e);
-  told = λ not10. (
-    due.0,
-    due.1,
-    record {
-      no_room = λ e room. store_lacks due.0 before lacks room;
-      kept = λ e. refl;
-      shown = λ not12. absurd (not12 refl);
-    },
-  );
-  early = λ l. refl;
-}
+picture_early answers Ends text before due lacks = search rules
 
 -- a text that is too long is shown as such
 pub long_shown : (answers : Text → Outcome → Type 0) (Ends : Text → State → Type 0) (text : Text)
@@ -239,30 +131,4 @@ pub picture_shown : (answers : Text → Outcome → Type 0) (Ends : Text → Sta
     → answer ≡ shown.reply.out.items → line ≡ shown.reply.note.items
     → WritesBuffers (told_outcome answer line shown.reply.status) shown.machine before after status
     → IsShown (of_input answers) Ends text before after status
-picture_shown answers Ends text {shown} {before = before} {after} {status} fits few (r, m) out note w =
-    let is =
-    subst (λ (o : Outcome). WritesBuffers o shown.machine before after status) (reply_is r.0 r.2 out note) w in
-    record {
-      memory = λ e. absurd (is.0 e);
-      told = λ not10. (
-        r.0,
-        inl (few, r.1),
-        record {
-          no_room = is.1.no_room;
-          kept = is.1.kept;
-          shown = λ not12.
-              let both = is.1.shown not12 in (
-                both.0,
-                record {
-                  told = both.1.told;
-                  state = λ short s ends.
-                      subst (λ (x : Option State). IfSome x (λ t. Pictures t after.words after.digits after.registers))
-                      (m.some s ends)
-                      both.1.state;
-                  none = λ nothing. both.1.none (m.none (λ s ends. nothing s few ends));
-                },
-              );
-        },
-      );
-      early = λ lacks. let line = lacks_line text before fits lacks in absurd (omega (arith, few, line.0));
-    }
+picture_shown answers Ends text {shown} {before = before} {after} {status} fits few (r, m) out note w = search rules

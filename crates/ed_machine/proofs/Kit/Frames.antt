@@ -1,7 +1,7 @@
 -- The state of the machine as a piece of code sees it: its own words and sandwich digits as a window on the store,
 -- and the registers as plain numbers.
-use Rattle.ed_machine.proofs.Names.{inl, inr, List, set, ◌⊎◌, locations, Size, get_or, ◌*◌, ◌/◌, ◌^◌, Cells, [], arith}
-use Rattle.ed_machine.proofs.Names.{Bool, false, length, Option, refl, ℕ, ◌+◌, ◌<◌, ◌∷◌, ◌≡◌, ◌≤◌, State}
+use Rattle.ed_machine.proofs.Names.{rules, List, set, ◌⊎◌, locations, Size, get_or, ◌*◌, ◌/◌, ◌^◌, Cells, [], Bool}
+use Rattle.ed_machine.proofs.Names.{false, length, Option, ℕ, ◌+◌, ◌<◌, ◌∷◌, ◌≡◌, ◌≤◌, State}
 use Rattle.ed_machine.proofs.Kit.Window.{patched, get_below, set_below, get_above, set_above}
 
 -- the accumulator that holds a short number at its upper end, and a long one
@@ -66,12 +66,7 @@ pub same_state : (s : State) {size : Size} {words : List ℕ} {digits : List Boo
       multiplier = multiplier;
       counter = counter;
     } ≡ s
-same_state s z w d m c = λ i. record s {
-  size = z i;
-  store = record { words = w i; sandwich = d i };
-  multiplier = m i;
-  counter = c i;
-}
+same_state s z w d m c = search rules
 
 -- an index in a list outside a window of this many items at a base
 abbrev pub Beside : {A : Type 0} → List A → ℕ → ℕ → ℕ → Type 0
@@ -80,24 +75,19 @@ Beside xs base count i = ((i < base) × (i < length xs)) ⊎ (base + count ≤ i
 -- the item there, and the list with another one written there
 module _ {A : Type 0} (d : A) (xs : List A) (b : ℕ) (cs : List A) (i : ℕ) where
   pub get_beside : Beside xs b (length cs) i → get_or (patched d xs b cs) i d ≡ get_or xs i d
-  get_beside (inl l) = get_below d xs b cs i l.0
-  get_beside (inr g) = get_above d xs b cs i g
+  get_beside at = search (rules, get_below, get_above)
 
   pub set_beside : (v : A) → Beside xs b (length cs) i → set (patched d xs b cs) i v ≡ patched d (set xs i v) b cs
-  set_beside v (inl l) = set_below d xs b cs i v l.0 l.1
-  set_beside v (inr g) = set_above d xs b cs i v g
+  set_beside v at = search (rules, set_below, set_above)
 
 pub some_digits : (ds : List Bool) (b : ℕ) (cs : List Bool) → 0 < length cs → all_digits ds b cs ≡ patched false ds b cs
-some_digits ds b [] h = absurd (omega arith)
-some_digits ds b (c ∷ cs) h = refl
+some_digits ds b = search rules
 
 -- the digit of another pair
 pub get_digit : (ds : List Bool) (b : ℕ) (cs : List Bool) (p : ℕ) → Beside ds b (length cs) p
     → get_or (all_digits ds b cs) p false ≡ get_or ds p false
-get_digit ds b [] p a = refl
-get_digit ds b (c ∷ cs) p a = get_beside false ds b (c ∷ cs) p a
+get_digit ds b = search (rules, get_beside)
 
 pub set_digit : (ds : List Bool) (b : ℕ) (cs : List Bool) (p : ℕ) (v : Bool) → Beside ds b (length cs) p
     → set (all_digits ds b cs) p v ≡ all_digits (set ds p v) b cs
-set_digit ds b [] p v a = refl
-set_digit ds b (c ∷ cs) p v a = set_beside false ds b (c ∷ cs) p v a
+set_digit ds b = search (rules, set_beside)

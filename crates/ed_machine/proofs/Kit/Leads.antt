@@ -1,8 +1,8 @@
 -- Where orders lead that neither stop the machine nor are blocked: what a path says of the machine.
-use Rattle.ed_machine.proofs.Names.{inl, inr, List, subst, suc, true≢false, zero, ◌++◌, cases_lt, function_of, ap}
-use Rattle.ed_machine.proofs.Names.{arith, Bool, false, refl, sym, true, ℕ, ◌+◌, ◌<◌, ◌∙◌, ◌≡◌, kind_of_function}
-use Rattle.ed_machine.proofs.Names.{next_word, obey_word, step, State, AreObeyed, is_obeyed, progress, Progress}
-use Rattle.ed_machine.proofs.Names.{state_after, stops_of, Turn, NoOrder, NoTape, Printed, Stopped, Went}
+use Rattle.ed_machine.proofs.Names.{rules, inl, inr, List, subst, suc, zero, ◌++◌, cases_lt, function_of, ap, arith}
+use Rattle.ed_machine.proofs.Names.{Bool, false, refl, true, ℕ, ◌+◌, ◌<◌, ◌∙◌, ◌≡◌, kind_of_function, next_word}
+use Rattle.ed_machine.proofs.Names.{obey_word, step, State, AreObeyed, is_obeyed, progress, Progress, state_after}
+use Rattle.ed_machine.proofs.Names.{stops_of, Turn, Printed, Went}
 use Rattle.ed_machine.proofs.Steps.{after_sum, each_sum, past_sum}
 
 -- whether a turn neither stops the machine nor is blocked
@@ -19,18 +19,7 @@ pub record Leads (k : ℕ) (s : State) (codes : List ℕ) (t : State) : Type 0 w
 
 -- a turn that goes on is an order obeyed, and not a stop
 pub obeyed_of : (turn : Turn) → goes_on turn ≡ true → is_obeyed turn ≡ true
-obeyed_of Went e = refl
-obeyed_of (Printed code) e = refl
-obeyed_of Stopped e = absurd (true≢false (sym e))
-obeyed_of (NoOrder function) e = absurd (true≢false (sym e))
-obeyed_of NoTape e = absurd (true≢false (sym e))
-
-no_stop : (turn : Turn) → goes_on turn ≡ true → stops_of turn ≡ 0
-no_stop Went e = refl
-no_stop (Printed code) e = refl
-no_stop Stopped e = absurd (true≢false (sym e))
-no_stop (NoOrder function) e = refl
-no_stop NoTape e = refl
+obeyed_of turn e = search rules
 
 -- such orders are obeyed
 pub free : {k : ℕ} {s t : State} {codes : List ℕ} → Leads k s codes t → AreObeyed k s
@@ -41,18 +30,11 @@ pub no_stops : (k : ℕ) (s : State) → ((j : ℕ) → j < k → goes_on (step 
     → (progress k s).stops ≡ 0
 unfolding progress
 no_stops zero s goes = refl
-no_stops (suc k) s goes =
-    let before = no_stops k s (λ j l. goes j (omega arith)) in
-    let here = no_stop (step (state_after k s)).turn (goes k (omega arith)) in
-    omega (arith, before, here)
+no_stops (suc k) s goes = search (rules, (no_stops k s (λ j l. goes j (omega arith))))
 
 -- and orders that are obeyed, none of which stops the machine, go on
 goes_of : (turn : Turn) → is_obeyed turn ≡ true → stops_of turn ≡ 0 → goes_on turn ≡ true
-goes_of Went o e = refl
-goes_of (Printed code) o e = refl
-goes_of Stopped o e = absurd (omega (arith, e))
-goes_of (NoOrder function) o e = absurd (true≢false (sym o))
-goes_of NoTape o e = absurd (true≢false (sym o))
+goes_of turn o e = search rules
 
 pub all_go : (k : ℕ) (s : State) → AreObeyed k s → (progress k s).stops ≡ 0 → (j : ℕ) → j < k
     → goes_on (step (state_after j s)).turn ≡ true

@@ -1,8 +1,8 @@
 -- One lemma for each kind of order. A line of a path is a kind, the order's cell, the location that it names and the
 -- number that it leaves; `refl`, that the order is there; and the arithmetic of the number.
-use Rattle.ed_machine.proofs.Names.{List, unwrap_or, ◌&&◌, common, minus_product, plus_product, right71, ◌%◌, ◌*◌, ◌/◌}
-use Rattle.ed_machine.proofs.Names.{◌^◌, Kind, ap, Bool, false, refl, Some, true, ℕ, ◌+◌, ◌<◌, ◌∙◌, ◌∷◌, ◌≡◌, ◌≤◌}
-use Rattle.ed_machine.proofs.Names.{kind_of_function, row_order, step, Printed, Stopped, Went}
+use Rattle.ed_machine.proofs.Names.{rules, List, unwrap_or, ◌&&◌, common, minus_product, plus_product, right71, ◌%◌}
+use Rattle.ed_machine.proofs.Names.{◌*◌, ◌/◌, ◌^◌, Kind, ap, Bool, false, refl, Some, true, ℕ, ◌+◌, ◌<◌, ◌∙◌, ◌∷◌, ◌≡◌}
+use Rattle.ed_machine.proofs.Names.{◌≤◌, kind_of_function, row_order, step, Printed, Stopped, Went}
 use Rattle.std.proofs.Common.{not}
 use Rattle.std.proofs.lemmas.Bool.{lt-ltb, le-ltb, le-leb, lt-leb}
 use Rattle.ed_orders.specs.declared.kind.Kind.TheVariants.{A as KindA, S as KindS, H as KindH, V as KindV, N as KindN}
@@ -21,8 +21,7 @@ abbrev pub Moves : {n h : ℕ} → Frame n h → Kind → Moment → Moment → 
 Moves f kind r t = Does f kind r Went t
 
 no_both : (b : Bool) → (not b && b) ≡ false
-no_both true = refl
-no_both false = refl
+no_both b = search rules
 
 module _ {n h : ℕ} {f : Frame n h} {r : Moment} where
   -- the order that names a location, a location that it writes, a location that it jumps to
@@ -38,28 +37,23 @@ module _ {n h : ℕ} {f : Frame n h} {r : Moment} where
   -- A, S: the number there is added, subtracted
   pub A : (i : ℕ) (p : Place f r) (u : ℕ) → Reads i 28 p → (r.acc + value f r p * 2 ^ 36) % 2 ^ 71 ≡ u
       → Moves f KindA r (record r { acc = u; counter = f.base + (i + 1) })
-  A i p u e sum = by_place i 28 p true e refl refl (λ o k.
-      rw (o.long, o.place, o.is.after, reads f r p o.is.all o.there, plus71_is r.acc (value f r p * 2 ^ 36) u sum) refl)
+  A i p u e sum = by_place i 28 p true e refl refl (λ o k. search (rules, reads, plus71_is))
 
   pub S : (i : ℕ) (p : Place f r) (u : ℕ) → Reads i 12 p → Remains r.acc (value f r p * 2 ^ 36) u
       → Moves f KindS r (record r { acc = u; counter = f.base + (i + 1) })
-  S i p u e rest = by_place i 12 p true e refl refl (λ o k.
-      rw (o.long, o.place, o.is.after, reads f r p o.is.all o.there, minus71_is r.acc (value f r p * 2 ^ 36) u rest)
-      refl)
+  S i p u e rest = by_place i 12 p true e refl refl (λ o k. search (rules, reads, minus71_is))
 
   -- H: the multiplier is the number there
   pub H : (i : ℕ) (p : Place f r) → Reads i 21 p → Moves f KindH r (record r {
     multiplier = value f r p;
     counter = f.base + (i + 1);
   })
-  H i p e = by_place i 21 p true e refl refl (λ o k.
-      rw (o.long, o.place, o.is.after, reads f r p o.is.all o.there) refl)
+  H i p e = by_place i 21 p true e refl refl (λ o k. search (rules, reads))
 
   -- V, N: the product is added, subtracted; V in plain numbers if both are positive
   pub V_signed : (i : ℕ) (p : Place f r) (u : ℕ) → Reads i 31 p → plus_product r.acc r.multiplier (value f r p) ≡ u
       → Moves f KindV r (record r { acc = u; counter = f.base + (i + 1) })
-  V_signed i p u e sum = by_place i 31 p true e refl refl (λ o k.
-      rw (o.long, o.place, o.is.after, reads f r p o.is.all o.there, sum) refl)
+  V_signed i p u e sum = by_place i 31 p true e refl refl (λ o k. search (rules, reads))
 
   pub V : (i : ℕ) (p : Place f r) (u : ℕ) → Reads i 31 p → AddsProduct r.acc r.multiplier (value f r p) u
       → Moves f KindV r (record r { acc = u; counter = f.base + (i + 1) })
@@ -67,30 +61,20 @@ module _ {n h : ℕ} {f : Frame n h} {r : Moment} where
 
   pub N : (i : ℕ) (p : Place f r) (u : ℕ) → Reads i 22 p → minus_product r.acc r.multiplier (value f r p) ≡ u
       → Moves f KindN r (record r { acc = u; counter = f.base + (i + 1) })
-  N i p u e sum = by_place i 22 p true e refl refl (λ o k.
-      rw (o.long, o.place, o.is.after, reads f r p o.is.all o.there, sum) refl)
+  N i p u e sum = by_place i 22 p true e refl refl (λ o k. search (rules, reads))
 
   -- C: the digits that the multiplier and the number there have in common are added
   pub C : (i : ℕ) (p : Place f r) (y u : ℕ) → Reads i 30 p → common 35 r.multiplier (value f r p) ≡ y
       → (r.acc + 2 ^ 36 * y) % 2 ^ 71 ≡ u
       → Moves f KindC r (record r { acc = u; counter = f.base + (i + 1) })
-  C i p y u e both sum = by_place i 30 p true e refl refl (λ o k.
-      rw (
-        o.long,
-        o.place,
-        o.is.after,
-        reads f r p o.is.all o.there,
-        collated_is r.acc r.multiplier (value f r p) y u both sum,
-      ) refl)
+  C i p y u e both sum = by_place i 30 p true e refl refl (λ o k. search (rules, reads, collated_is))
 
   -- T, U: the most significant digits of the accumulator are written there, and T clears it. `T` and `U` are for one
   -- that has that number at its upper end and nothing else: both last arguments may be `refl`, and the
   -- number `_`
   pub T_top : (i : ℕ) (p : Place f r) (u : ℕ) → Writes i 5 p → fitting f r p (r.acc / 2 ^ 54) (r.acc / 2 ^ 36) ≡ u
       → Moves f KindT r (record (put f r p u) { acc = 0; counter = f.base + (i + 1) })
-  T_top i p u e top = by_place i 5 p (is_written f r p) e refl refl (λ o k.
-      rw (o.long, o.place, o.is.after, writes f r p (r.acc / 2 ^ 54) (r.acc / 2 ^ 36) o.is.all o.there o.more_is, top)
-      refl)
+  T_top i p u e top = by_place i 5 p _ e refl refl (λ o k. search (rules, writes))
 
   pub T : (i : ℕ) (p : Place f r) (u : ℕ) → Writes i 5 p → r.acc ≡ at_top f r p u
       → Moves f KindT r (record (put f r p u) { acc = 0; counter = f.base + (i + 1) })
@@ -98,9 +82,7 @@ module _ {n h : ℕ} {f : Frame n h} {r : Moment} where
 
   pub U_top : (i : ℕ) (p : Place f r) (u : ℕ) → Writes i 7 p → fitting f r p (r.acc / 2 ^ 54) (r.acc / 2 ^ 36) ≡ u
       → Moves f KindU r (record (put f r p u) { counter = f.base + (i + 1) })
-  U_top i p u e top = by_place i 7 p (is_written f r p) e refl refl (λ o k.
-      rw (o.long, o.place, o.is.after, writes f r p (r.acc / 2 ^ 54) (r.acc / 2 ^ 36) o.is.all o.there o.more_is, top)
-      refl)
+  U_top i p u e top = by_place i 7 p _ e refl refl (λ o k. search (rules, writes))
 
   pub U : (i : ℕ) (p : Place f r) (u : ℕ) → Writes i 7 p → r.acc ≡ at_top f r p u
       → Moves f KindU r (record (put f r p u) { counter = f.base + (i + 1) })
@@ -110,9 +92,8 @@ module _ {n h : ℕ} {f : Frame n h} {r : Moment} where
   pub I : (i : ℕ) (p : Place f r) {c : ℕ} {rest : List ℕ} (u : ℕ) → Writes i 8 p → r.tape ≡ c ∷ rest
       → fitting f r p c (c * 2 ^ 18) ≡ u
       → Moves f KindI r (record (put f r p u) { tape = rest; counter = f.base + (i + 1) })
-  I i p {c} u e row is = by_place i 8 p (is_written f r p) e refl refl (λ o k.
-      ap (λ x. row_order x o.w (state f r k)) row
-      ∙ rw (o.long, o.place, o.is.after, writes f r p c (c * 2 ^ 18) o.is.all o.there o.more_is, is) refl)
+  I i p u e row is = by_place i 8 p _ e refl refl (λ o k.
+      ap (λ x. row_order x o.w (state f r k)) row ∙ search (rules, writes))
 
   -- F: the last printed code is written there. It is a step and not a line of a path, so that what holds of every path
   -- can be required of a program that the checking routine obeys, which has no F
@@ -124,26 +105,17 @@ module _ {n h : ℕ} {f : Frame n h} {r : Moment} where
       }
   F i p u k e is =
       let o = named f r i 17 p (is_written f r p) e refl in
-      obeyed f r KindF o.w (f.base + (i + 1)) k o.is
-      ∙ rw (
-        o.long,
-        o.place,
-        o.is.after,
-        writes f r p (unwrap_or r.last 0 * 4096) (unwrap_or r.last 0 * 2 ^ 30) o.is.all o.there o.more_is,
-        is,
-      ) refl
+      obeyed f r KindF o.w (f.base + (i + 1)) k o.is ∙ search (rules, writes)
 
   -- O: the code there is printed
   pub O : (i : ℕ) (p : Place f r) (c : ℕ) → Reads i 9 p → value f r p / 2 ^ 30 ≡ c
       → Does f KindO r (Printed c) (record r { last = Some c; counter = f.base + (i + 1) })
-  O i p c e is = by_place i 9 p true e refl refl (λ o k.
-      rw (o.long, o.place, o.is.after, reads f r p o.is.all o.there, is) refl)
+  O i p c e is = by_place i 9 p true e refl refl (λ o k. search (rules, reads))
 
   -- R, L: the accumulator is shifted; R in plain numbers if it is positive
   pub R_signed : (i : ℕ) {w p : ℕ} → IsShift 4 w p → (u : ℕ) → Stands f r i w true → right71 r.acc p ≡ u
       → Moves f KindR r (record r { acc = u; counter = f.base + (i + 1) })
-  R_signed i {w} s u e is = by_word i w e (ap kind_of_function s.function_is) refl (λ o k.
-      rw (s.places_are, is, o.after) refl)
+  R_signed i {w} s u e is = search (rules, by_word)
 
   pub R : (i : ℕ) {w p : ℕ} → IsShift 4 w p → (u : ℕ) → Stands f r i w true → IsQuotient r.acc p u
       → Moves f KindR r (record r { acc = u; counter = f.base + (i + 1) })
@@ -151,8 +123,7 @@ module _ {n h : ℕ} {f : Frame n h} {r : Moment} where
 
   pub L : (i : ℕ) {w p : ℕ} → IsShift 25 w p → (u : ℕ) → Stands f r i w true → r.acc * 2 ^ p % 2 ^ 71 ≡ u
       → Moves f KindL r (record r { acc = u; counter = f.base + (i + 1) })
-  L i {w} {p} s u e is = by_word i w e (ap kind_of_function s.function_is) refl (λ o k.
-      rw (s.places_are, left71_is r.acc p u is, o.after) refl)
+  L i {w} {p} s u e is = search (rules, by_word, left71_is)
 
   -- X: nothing; Y: rounding; Z: the stop, which ends a path
   pub X : (i w : ℕ) → Stands f r i w true → w / 4096 ≡ 26 → Moves f KindX r (record r { counter = f.base + (i + 1) })
@@ -160,8 +131,7 @@ module _ {n h : ℕ} {f : Frame n h} {r : Moment} where
 
   pub Y : (i w u : ℕ) → Stands f r i w true → w / 4096 ≡ 6 → (r.acc + 2 ^ 35) % 2 ^ 71 ≡ u
       → Moves f KindY r (record r { acc = u; counter = f.base + (i + 1) })
-  Y i w u e is sum = by_word i w e (ap kind_of_function is) refl (λ o k.
-      rw (plus71_is r.acc (2 ^ 35) u sum, o.after) refl)
+  Y i w u e is sum = search (rules, by_word, plus71_is)
 
   pub Z : (i w : ℕ) → Stands f r i w true → w / 4096 ≡ 13
       → Does f KindZ r Stopped (record r { counter = f.base + (i + 1) })
@@ -170,20 +140,16 @@ module _ {n h : ℕ} {f : Frame n h} {r : Moment} where
   -- E, G: a jump by the accumulator's sign, or none; the order is short
   pub E_jumps : (i : ℕ) (p : Place f r) → Jumps i 3 p → r.acc < 2 ^ 70
       → Moves f KindE r (record r { counter = address f r p })
-  E_jumps i p e low = by_place i 3 p (not (is_pair f r p)) e refl (no_both (is_pair f r p)) (λ o k.
-      rw (o.place, lt-ltb r.acc (2 ^ 70) low) refl)
+  E_jumps i p e low = by_place i 3 p _ e refl (no_both (is_pair f r p)) (λ o k. search (rules, lt-ltb))
 
   pub E_stays : (i : ℕ) (p : Place f r) → Jumps i 3 p → 2 ^ 70 ≤ r.acc
       → Moves f KindE r (record r { counter = f.base + (i + 1) })
-  E_stays i p e high = by_place i 3 p (not (is_pair f r p)) e refl (no_both (is_pair f r p)) (λ o k.
-      rw (o.place, le-ltb r.acc (2 ^ 70) high, o.is.after) refl)
+  E_stays i p e high = by_place i 3 p _ e refl (no_both (is_pair f r p)) (λ o k. search (rules, le-ltb))
 
   pub G_jumps : (i : ℕ) (p : Place f r) → Jumps i 27 p → 2 ^ 70 ≤ r.acc
       → Moves f KindG r (record r { counter = address f r p })
-  G_jumps i p e high = by_place i 27 p (not (is_pair f r p)) e refl (no_both (is_pair f r p)) (λ o k.
-      rw (o.place, le-leb (2 ^ 70) r.acc high) refl)
+  G_jumps i p e high = by_place i 27 p _ e refl (no_both (is_pair f r p)) (λ o k. search (rules, le-leb))
 
   pub G_stays : (i : ℕ) (p : Place f r) → Jumps i 27 p → r.acc < 2 ^ 70
       → Moves f KindG r (record r { counter = f.base + (i + 1) })
-  G_stays i p e low = by_place i 27 p (not (is_pair f r p)) e refl (no_both (is_pair f r p)) (λ o k.
-      rw (o.place, lt-leb (2 ^ 70) r.acc low, o.is.after) refl)
+  G_stays i p e low = by_place i 27 p _ e refl (no_both (is_pair f r p)) (λ o k. search (rules, lt-leb))

@@ -1,6 +1,6 @@
 -- A worked piece: the routine `newline`, five orders and two codes, from its listing to what it does at any base.
-use Rattle.ed_machine.proofs.Names.{List, lit<, locations, locations_most, get_or, ◌*◌, [], arith, length, None, Option, refl}
-use Rattle.ed_machine.proofs.Names.{Some, sym, ℕ, ◌+◌, ◌<◌, ◌∷◌, ◌≡◌, ◌≤◌, State}
+use Rattle.ed_machine.proofs.Names.{List, lit<, locations, locations_most, get_or, ◌*◌, [], arith, length, None, Option}
+use Rattle.ed_machine.proofs.Names.{refl, Some, sym, ℕ, ◌+◌, ◌<◌, ◌∷◌, ◌≡◌, ◌≤◌, State}
 use Rattle.ed_words.specs.declared.order_words.TheConstants.{A_F, E_F, O_F, T_F}
 use Rattle.ed_machine.proofs.Kit.Frames.{Frame, Moment, state, short}
 use Rattle.ed_machine.proofs.Kit.Leads.{Leads}
@@ -58,9 +58,7 @@ module _ (s : State) (b m top : ℕ) (o : IsCalled s b m top) (all : length s.st
   path : (at4 : ℕ) → Path f 5 (at 0 (short (A_F + 2 * m)) at4 s.last) (18 ∷ 24 ∷ [])
       (record (at 0 0 link (Some 24)) { counter = m + 2 })
   path at4 =
-      let at3 = o.at3 in
       let size = locations_most s.size in
-      let fits = o.fits in
       let back : m + 2 < top = omega (arith, o.back) in
       on (A 0 (out 3 (early 3 o.low (lit< tt) all)) (short link) refl (omega arith))
       (on (T 1 (own 4) _ refl refl)

@@ -1,9 +1,8 @@
 -- One order of a piece: the word at its cell, the location that it names, and the step of the machine that it is.
-use Rattle.ed_machine.proofs.Names.{subst, true≢false, ◌&&◌, and_parts, eqb-true, nat_tests, locations, within}
-use Rattle.ed_machine.proofs.Names.{address_of, digit, function_of, is_long, locations_most, get_or, nat_eq, ◌%◌, ◌*◌, ◌/◌, Kind}
-use Rattle.ed_machine.proofs.Names.{E, F, G, L, R, X, Y, Z, ap, arith, Bool, false, length, nat_lt, refl, Some, sym}
-use Rattle.ed_machine.proofs.Names.{true, ℕ, ◌+◌, ◌<◌, ◌∙◌, ◌≡◌, ◌≤◌, ltb-true, kind_of_function, next_word, obey}
-use Rattle.ed_machine.proofs.Names.{step, State, Turn}
+use Rattle.ed_machine.proofs.Names.{rules, true≢false, ◌&&◌, and_parts, locations, within, address_of, digit}
+use Rattle.ed_machine.proofs.Names.{function_of, is_long, locations_most, get_or, nat_eq, ◌*◌, Kind, E, F, G, L, R, X}
+use Rattle.ed_machine.proofs.Names.{Y, Z, ap, arith, Bool, false, length, nat_lt, refl, Some, sym, true, ℕ, ◌+◌, ◌<◌}
+use Rattle.ed_machine.proofs.Names.{◌∙◌, ◌≡◌, ◌≤◌, kind_of_function, next_word, obey, step, State, Turn}
 use Rattle.std.proofs.Common.{◌||◌}
 use Rattle.std.proofs.lemmas.Bool.{or_parts}
 use Rattle.ed_words.specs.Words.{is_spare}
@@ -64,26 +63,18 @@ abbrev word_by : ℕ → Bool → ℕ → ℕ
 word_by g long a = 4096 * g + digit long + 2 * a
 
 long_by : (g a : ℕ) (long : Bool) → is_long (word_by g long a) ≡ long
-long_by g a true = grind (arith, nat_tests)
-long_by g a false = grind (arith, nat_tests)
+long_by g a long = search rules
 
 fields_by : (g a : ℕ) (long : Bool) → a < 1024
     → (function_of (word_by g long a) ≡ g) × (address_of (word_by g long a) ≡ a)
-fields_by g a true h = (omega arith, omega arith)
-fields_by g a false h = (omega arith, omega arith)
+fields_by g a long h = search rules
 
 plain_by : (g a : ℕ) (long : Bool) → a < 1024 → is_spare (word_by g long a) ≡ false
-plain_by g a true h = let e : (4096 * g + 1 + 2 * a) / 2048 % 2 ≡ 0 = omega arith in rw e refl
-plain_by g a false h = let e : (4096 * g + 0 + 2 * a) / 2048 % 2 ≡ 0 = omega arith in rw e refl
+plain_by g a long h = search rules
 
 -- a kind that names no location neither jumps nor is F
 stays : (kind : Kind) → names kind ≡ false → (jumps kind ≡ false) × (is_F kind ≡ false)
-stays R e = (refl, refl)
-stays L e = (refl, refl)
-stays X e = (refl, refl)
-stays Y e = (refl, refl)
-stays Z e = (refl, refl)
-stays kind e = absurd (true≢false e)
+stays kind e = search rules
 
 -- an order that jumps does so at a short location
 short_by : (a b c : Bool) → (a && (b && c)) ≡ false → a ≡ true → b ≡ true → c ≡ false
@@ -110,21 +101,7 @@ module _ {n h : ℕ} (f : Frame n h) (r : Moment) where
 
   pub word : (i w : ℕ) (test : Bool) (kind : Kind) → Stands i w test → kind_of_function (function_of w) ≡ Some kind
       → IsWord kind w (f.base + (i + 1))
-  word i w test kind e is =
-      let tests = and_parts (nat_lt (i + 1) n) (nat_eq (length r.cells) n) (ap (λ x. x.1.1.0) e) in
-      let at : r.counter ≡ f.base + i = ap (λ x. x.0) e in
-      let second = ltb-true (i + 1) n tests.0 in
-      let all = eqb-true (length r.cells) n tests.1 in
-      let inside : i < length r.cells = omega (arith, all, second) in
-      let next : r.counter + 1 ≡ f.base + (i + 1) = omega (arith, at) in
-      record {
-        here = ap (λ x. get_or (all_words f r) x 0) at ∙ get_own 0 r.words f.base r.cells i inside ∙ ap (λ x. x.1.0) e;
-        kind_is = is;
-        after = ap (within f.size) next
-            ∙ within_below f.size (f.base + (i + 1)) (omega (arith, f.under, f.fits, second));
-        low = omega (arith, f.under, second, at);
-        all = all;
-      }
+  word i w test kind e is = search (rules, get_own)
 
   pub obeyed : (kind : Kind) (w next k : ℕ) → IsWord kind w next → step (state f r k) ≡ obey kind w (state f r k)
   unfolding step
@@ -160,14 +137,7 @@ module _ {n h : ℕ} (f : Frame n h) (r : Moment) where
 
   order_of : (kind : Kind) {w next : ℕ} → is_F kind ≡ false → IsWord kind w next → (names kind ≡ true → IsNear f.top w)
       → (jumps kind ≡ true → is_long w ≡ false) → (k : ℕ) → IsOrder f.top kind (state f r k)
-  order_of kind no_F o near short k = record {
-    fits = f.fits;
-    counter = o.low;
-    kind_is = ap (λ x. kind_of_function (function_of x)) o.here ∙ o.kind_is;
-    near = λ e. subst (IsNear f.top) (sym o.here) (near e);
-    short = λ e. subst (λ x. is_long x ≡ false) (sym o.here) (short e);
-    no_F = no_F;
-  }
+  order_of kind no_F o near short k = search rules
 
 module _ {n h : ℕ} {f : Frame n h} {r : Moment} {kind : Kind} {turn : Turn} {t : Moment} where
   -- an order that names a location, and is not F; if it jumps it is short

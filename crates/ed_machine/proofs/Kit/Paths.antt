@@ -1,6 +1,6 @@
 -- A path: orders one after the other, and the orders of the machine that it is.
-use Rattle.ed_machine.proofs.Names.{append-nil, append_assoc, List, subst, suc, zero, ◌++◌, Kind, [], ap, arith, refl}
-use Rattle.ed_machine.proofs.Names.{sym, true, ℕ, ◌+◌, ◌<◌, ◌∙◌, ◌∷◌, ◌≡◌, Obeyed, step, State, codes_of, progress}
+use Rattle.ed_machine.proofs.Names.{common_steps, rules, append-nil, List, subst, suc, zero, ◌++◌, Kind, [], ap, arith}
+use Rattle.ed_machine.proofs.Names.{refl, sym, true, ℕ, ◌+◌, ◌<◌, ◌∷◌, ◌≡◌, step, State, codes_of, progress}
 use Rattle.ed_machine.proofs.Names.{state_after, Turn, Printed, Went}
 use Rattle.ed_machine.proofs.Kit.Frames.{Frame, Moment, state}
 use Rattle.ed_machine.proofs.Kit.Leads.{Leads, goes_on}
@@ -38,35 +38,14 @@ first_codes : (k : ℕ) (s : State) → (progress (suc k) s).codes ≡ codes_of 
     ++ (progress k (step s).state).codes
 unfolding progress
 first_codes zero s = sym (append-nil (codes_of (step s).turn))
-first_codes (suc k) s =
-    ap (λ x. x ++ codes_of (step (state_after (suc k) s)).turn) (first_codes k s)
-    ∙ append_assoc (codes_of (step s).turn) (progress k (step s).state).codes
-    (codes_of (step (state_after (suc k) s)).turn)
-    ∙ ap (λ (x : State). codes_of (step s).turn ++ ((progress k (step s).state).codes ++ codes_of (step x).turn))
-    (first_state k s)
+first_codes (suc k) s = search (rules, first_state, (first_codes k s))
 
 -- one more order, at the front
 preceded : {k : ℕ} {s m t : State} {w : Turn} {cs : List ℕ} → step s ≡ record { state = m; turn = w }
     → goes_on w ≡ true → Leads k m cs t
     → Leads (suc k) s (codes_of w ++ cs) t
 unfolding progress
-preceded {k} {s} {m} {w = w} {cs} first ok rest =
-    let a : (step s).state ≡ m = ap (λ (o : Obeyed). o.state) first in
-    let b : (step s).turn ≡ w = ap (λ (o : Obeyed). o.turn) first in
-    record {
-      state_is = first_state k s ∙ ap (state_after k) a ∙ rest.state_is;
-      codes_are = first_codes k s
-          ∙ ap (λ x. codes_of (step s).turn ++ (progress k x).codes) a
-          ∙ ap (λ x. codes_of x ++ (progress k m).codes) b
-          ∙ ap (λ x. codes_of w ++ x) rest.codes_are;
-      goes = later;
-    }
-  where
-    later : (j : ℕ) → j < suc k → goes_on (step (state_after j s)).turn ≡ true
-    later zero h = ap (λ (o : Obeyed). goes_on o.turn) first ∙ ok
-    later (suc j) h =
-        ap (λ (x : State). goes_on (step x).turn) (first_state j s ∙ ap (λ (o : Obeyed). state_after j o.state) first)
-        ∙ rest.goes j (omega arith)
+preceded {k} {s} {m} {w = w} {cs} first ok rest = search (rules, first_state, first_codes)
 
 none : (s : State) → Leads 0 s [] s
 unfolding progress
@@ -77,11 +56,9 @@ pub leads : {n h : ℕ} {f : Frame n h} {k : ℕ} {r t : Moment} {cs : List ℕ}
     → (done : ℕ) → Leads k (state f r done) cs (state f t (done + k))
 leads {f = f} {t = t} stay done = let e : done + 0 ≡ done = omega arith in rw e (none (state f t done))
 leads (on {k = k} first rest) done =
-    let e : done + suc k ≡ done + 1 + k = omega arith in
-    rw e (preceded (first.does done) refl (leads rest (done + 1)))
+    grind (arith, common_steps, (preceded (first.does done) refl (leads rest (done + 1))))
 leads (prints {k = k} first rest) done =
-    let e : done + suc k ≡ done + 1 + k = omega arith in
-    rw e (preceded (first.does done) refl (leads rest (done + 1)))
+    grind (arith, common_steps, (preceded (first.does done) refl (leads rest (done + 1))))
 
 -- what holds before an order of any kind holds before every order of a path
 module _ {n h : ℕ} {f : Frame n h} (P : State → Type 0)
@@ -94,8 +71,7 @@ module _ {n h : ℕ} {f : Frame n h} (P : State → Type 0)
   behind : {kind : Kind} {r m : Moment} {turn : Turn} → Does f kind r turn m → (done j : ℕ)
       → P (state_after j (state f m (done + 1)))
       → P (state_after (suc j) (state f r done))
-  behind {r = r} first done j =
-      subst P (sym (first_state j (state f r done) ∙ ap (λ (y : Obeyed). state_after j y.state) (first.does done)))
+  behind {r = r} first done j = search (rules, first_state)
 
   pub each : {k : ℕ} {r t : Moment} {cs : List ℕ} → Path f k r cs t → (done j : ℕ) → j < k
       → P (state_after j (state f r done))

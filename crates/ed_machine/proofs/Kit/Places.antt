@@ -1,9 +1,9 @@
 -- Where an order of a piece reads, writes or jumps to, and what the store then holds.
-use Rattle.ed_machine.proofs.Names.{inl, List, set, true≢false, ◌&&◌, ◌-◌, and_parts, eqb-true, length-set}
-use Rattle.ed_machine.proofs.Names.{long_of_halves, get_or, nat_eq, ◌%◌, ◌*◌, ◌/◌, ◌^◌, ap, arith, Bool, false, length}
-use Rattle.ed_machine.proofs.Names.{nat_lt, refl, sym, true, ℕ, ◌+◌, ◌<◌, ◌≡◌, ◌≤◌, ltb-true, read_at, written_cells}
-use Rattle.ed_machine.proofs.Kit.Frames.{Frame, Moment, Beside, short, long, all_words, store, some_digits, get_digit}
-use Rattle.ed_machine.proofs.Kit.Frames.{set_digit, get_beside, set_beside}
+use Rattle.ed_machine.proofs.Names.{rules, List, set, true≢false, ◌&&◌, ◌-◌, length-set, long_of_halves, get_or, nat_eq}
+use Rattle.ed_machine.proofs.Names.{◌%◌, ◌*◌, ◌/◌, ◌^◌, arith, Bool, false, length, nat_lt, refl, sym, true, ℕ, ◌+◌}
+use Rattle.ed_machine.proofs.Names.{◌<◌, ◌≡◌, ◌≤◌, read_at, written_cells}
+use Rattle.ed_machine.proofs.Kit.Frames.{Frame, Moment, Beside, short, long, all_words, store, some_digits, get_beside}
+use Rattle.ed_machine.proofs.Kit.Frames.{set_beside}
 use Rattle.ed_machine.proofs.Kit.Window.{get_own, set_own}
 
 -- a location outside the piece
@@ -38,10 +38,7 @@ pub record Held : Type 0 where
 -- a location below 56 is outside a piece above the Initial Orders
 pub early : {n h : ℕ} {f : Frame n h} {words : List ℕ} (q : ℕ) → 56 ≤ f.base → q < 56 → length words ≡ 1024
     → IsOutside f words q
-early {f = f} q low l all = record {
-  below = omega (arith, low, f.under);
-  beside = inl (omega (arith, low), omega (arith, all));
-}
+early {f = f} q low l all = search rules
 
 module _ {n h : ℕ} (f : Frame n h) (r : Moment) where
   abbrev pub address : Place f r → ℕ
@@ -122,11 +119,7 @@ module _ {n h : ℕ} (f : Frame n h) (r : Moment) where
   }
 
   pub fitted : (p : Place f r) (a u : ℕ) → a ≡ at_top p u → fitting p (a / 2 ^ 54) (a / 2 ^ 36) ≡ u
-  fitted (own j) a u e = omega arith
-  fitted (pair j p even) a u e = omega arith
-  fitted (out q a') a u e = omega arith
-  fitted (pair_out q a') a u e = omega arith
-  fitted (any q b) a u e = omega arith
+  fitted p a u e = search rules
 
   -- a pair of the piece, and its location
   record Paired (j p : ℕ) : Type 0 where
@@ -135,59 +128,19 @@ module _ {n h : ℕ} (f : Frame n h) (r : Moment) where
     digit_is : p < length r.pairs
 
   paired : (j p : ℕ) (even : f.base % 2 ≡ 0) → is_there (pair j p even) ≡ true → Paired j p
-  paired j p even e =
-      let c = and_parts (nat_lt (j + 1) n) (nat_eq j (2 * (h + p)) && nat_lt p (length r.pairs)) e in
-      let d = and_parts (nat_eq j (2 * (h + p))) (nat_lt p (length r.pairs)) c.1 in
-      record {
-        second = ltb-true (j + 1) n c.0;
-        pair_is = eqb-true j (2 * (h + p)) d.0;
-        digit_is = ltb-true p (length r.pairs) d.1;
-      }
+  paired j p even e = search rules
 
   -- each location that an order names is below the top
   pub near : (p : Place f r) → is_there p ≡ true → address p < f.top
-  near (own j) e = omega (arith, f.under, ltb-true j n e)
-  near (pair j p even) e = omega (arith, f.under, (paired j p even e).second)
-  near (out q a) e = a.below
-  near (pair_out q a) e = omega (arith, a.below)
-  near (any q b) e = b
+  near p e = search rules
 
   pub reads : (p : Place f r) → length r.cells ≡ n → is_there p ≡ true
       → read_at (is_pair p) (store f r) (address p) ≡ value p
-  reads (own j) all e =
-      let inside = ltb-true j n e in
-      ap (λ x. x * 2 ^ 18) (get_own 0 r.words f.base r.cells j (omega (arith, all)))
-  reads (pair j p even) all e =
-      let o = paired j p even e in
-      let first : f.base + j - (f.base + j) % 2 ≡ f.base + j = omega (arith, o.pair_is) in
-      let second : f.base + j + 1 ≡ f.base + (j + 1) = omega arith in
-      let digit : (f.base + j) / 2 ≡ f.base / 2 + h + p = omega (arith, o.pair_is) in
-      rw (
-        some_digits r.digits (f.base / 2 + h) r.pairs (omega (arith, o.digit_is)),
-        first,
-        second,
-        digit,
-        get_own 0 r.words f.base r.cells j (omega (arith, o.second, all)),
-        get_own 0 r.words f.base r.cells (j + 1) (omega (arith, o.second, all)),
-        get_own false r.digits (f.base / 2 + h) r.pairs p o.digit_is,
-      ) refl
-  reads (out q a) all e = ap (λ x. x * 2 ^ 18) (get_beside 0 r.words f.base r.cells q (rw all a.beside))
-  reads (pair_out q a) all e =
-      let even = a.even in
-      let first : q - q % 2 ≡ q = omega arith in
-      rw (
-        first,
-        get_beside 0 r.words f.base r.cells q (rw all a.low),
-        get_beside 0 r.words f.base r.cells (q + 1) (rw all a.high),
-        get_digit r.digits (f.base / 2 + h) r.pairs (q / 2) a.digit,
-      ) refl
-  reads (any q b) all e = refl
+  reads p all e = search (rules, get_own, get_beside)
 
   pub writes : (p : Place f r) (s l : ℕ) → length r.cells ≡ n → is_there p ≡ true → is_written p ≡ true
       → written_cells (is_pair p) (store f r) (address p) s l ≡ store f (put p (fitting p s l))
-  writes (own j) s l all e w =
-      let inside = ltb-true j n e in
-      rw (set_own 0 r.words f.base r.cells j s (omega (arith, all))) refl
+  writes (own j) s l all e w = search (rules, set_own)
   writes (pair j p even) s l all e w =
       let o = paired j p even e in
       let first : f.base + j - (f.base + j) % 2 ≡ f.base + j = omega (arith, o.pair_is) in
@@ -208,15 +161,5 @@ module _ {n h : ℕ} (f : Frame n h) (r : Moment) where
         set_own false r.digits (f.base / 2 + h) r.pairs p b o.digit_is,
       ) refl
   writes (out q a) s l all e w = rw (set_beside 0 r.words f.base r.cells q s (rw all a.beside)) refl
-  writes (pair_out q a) s l all e w =
-      let even = a.even in
-      let first : q - q % 2 ≡ q = omega arith in
-      let more : Beside (set r.words q (l % 2 ^ 17)) f.base (length r.cells) (q + 1) =
-      rw (length-set r.words q (l % 2 ^ 17), all) a.high in
-      rw (
-        first,
-        set_beside 0 r.words f.base r.cells q (l % 2 ^ 17) (rw all a.low),
-        set_beside 0 (set r.words q (l % 2 ^ 17)) f.base r.cells (q + 1) (l / 2 ^ 18) more,
-        set_digit r.digits (f.base / 2 + h) r.pairs (q / 2) (nat_eq (l / 2 ^ 17 % 2) 1) a.digit,
-      ) refl
+  writes (pair_out q a) s l all e w = search (rules, set_beside)
   writes (any q b) s l all e w = absurd (true≢false (sym w))

@@ -1,7 +1,7 @@
 -- A piece in a store: its image, which is its words except those at the working locations; the words that it takes
 -- over; and what it leaves unchanged.
-use Rattle.ed_machine.proofs.Names.{drop, inl, inr, List, subst, suc, zero, ◌-◌, cases_lt, get_or, [], ap, arith}
-use Rattle.ed_machine.proofs.Names.{length, None, Option, refl, Some, sym, ℕ, ◌+◌, ◌<◌, ◌∙◌, ◌∷◌, ◌≡◌, ◌≤◌}
+use Rattle.ed_machine.proofs.Names.{rules, drop, List, subst, suc, zero, ◌-◌, get_or, [], ap, arith, length, None}
+use Rattle.ed_machine.proofs.Names.{Option, refl, Some, sym, ℕ, ◌+◌, ◌<◌, ◌∙◌, ◌∷◌, ◌≡◌, ◌≤◌}
 use Rattle.ed_machine.proofs.Kit.Window.{patched, patched_self, get_own, get_below, get_above}
 
 -- a word is the wanted one, if one is wanted
@@ -43,20 +43,14 @@ filled_at [] ws b i h j l = absurd (omega arith)
 filled_at (None ∷ rest) ws b i h zero l = let e : b + i + 0 ≡ b + i = omega arith in rw e refl
 filled_at (Some x ∷ rest) ws b i h zero l = sym (h 0 l)
 filled_at (None ∷ rest) ws b i h (suc j) l =
-    let e : b + (i + 1) + j ≡ b + i + suc j = omega arith in
-    filled_at rest ws b (i + 1) (one_on None rest ws b i h) j (omega arith) ∙ ap (λ x. get_or ws x 0) e
+    search (rules, (filled_at rest ws b (i + 1) (one_on None rest ws b i h) j (omega arith)))
 filled_at (Some x ∷ rest) ws b i h (suc j) l =
-    let e : b + (i + 1) + j ≡ b + i + suc j = omega arith in
-    filled_at rest ws b (i + 1) (one_on (Some x) rest ws b i h) j (omega arith) ∙ ap (λ x. get_or ws x 0) e
+    search (rules, (filled_at rest ws b (i + 1) (one_on (Some x) rest ws b i h) j (omega arith)))
 
 -- a store that holds the image is that image in itself
 pub opens : (image : List (Option ℕ)) (ws : List ℕ) (b : ℕ) → b + length image ≤ length ws → Holds image ws b
     → patched 0 ws b (filled image ws b 0) ≡ ws
-opens image ws b l h =
-    let z : b + 0 ≡ b = omega arith in
-    let n = length_filled image ws b 0 in
-    patched_self 0 ws b (filled image ws b 0) (omega arith) (λ j lj.
-    filled_at image ws b 0 (λ k lk. rw z (h k lk)) j (omega arith) ∙ ap (λ x. get_or ws (x + j) 0) z)
+opens image ws b l h = search (rules, length_filled, patched_self, filled_at)
 
 -- the image with other words at its working locations
 abbrev pub merged : List (Option ℕ) → List ℕ → List ℕ
@@ -94,11 +88,4 @@ module _ (image : List (Option ℕ)) (ws : List ℕ) (b : ℕ) (cs : List ℕ) (
 
   -- each word of the store is unchanged, except the working ones
   pub unchanged : (i : ℕ) → (IsWorking image b i → ⊥) → get_or (patched 0 ws b cs) i 0 ≡ get_or ws i 0
-  unchanged i free =
-      elim (cases_lt i b) [
-        | inl l ↦ get_below 0 ws b cs i l
-        | inr g ↦ elim (cases_lt i (b + length image)) [
-          | inl l ↦ by_entry i (get_or image (i - b) None) refl g l free
-          | inr k ↦ get_above 0 ws b cs i (omega arith)
-        ]
-      ]
+  unchanged i free = search (rules, get_below, by_entry, get_above)

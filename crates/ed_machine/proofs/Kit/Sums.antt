@@ -1,11 +1,10 @@
 -- The accumulator's arithmetic in plain numbers, as the lines of a path have it.
-use Rattle.ed_machine.proofs.Names.{inl, inr, lit<, negsuc, pos, ◌-◌, cases_lt, nat_tests, digit, common, left71}
-use Rattle.ed_machine.proofs.Names.{minus71, plus71, plus_common, plus_product, right71, nat_eq, ◌%◌, ◌*◌, ◌/◌, ◌^◌}
-use Rattle.ed_machine.proofs.Names.{ap, arith, sym, ℕ, ◌+◌, ◌<◌, ◌∙◌, ◌≡◌}
-use Rattle.std.proofs.Common.{lit≤, ◌-ℤ◌}
+use Rattle.ed_machine.proofs.Names.{rules, lit<, pos, ◌-◌, nat_tests, digit, common, left71, minus71, plus71}
+use Rattle.ed_machine.proofs.Names.{plus_common, plus_product, right71, nat_eq, ◌%◌, ◌*◌, ◌/◌, ◌^◌, ap, arith, sym, ℕ}
+use Rattle.ed_machine.proofs.Names.{◌+◌, ◌<◌, ◌∙◌, ◌≡◌}
+use Rattle.std.proofs.Common.{lit≤}
 use Rattle.std.specs.Int.Bits.{bit_and}
 use Rattle.std.proofs.Math.Nat.{mod-eq_of_lt}
-use Rattle.std.proofs.lemmas.Int.{ints}
 use Rattle.std.proofs.lemmas.Nat.{shr_le, and_le_l, and_mod, and_comm}
 use Rattle.std.proofs.lemmas.Nat.Bits.{and_high_mask, and_pow}
 use Rattle.ed_words.specs.Signed.{signed}
@@ -25,13 +24,7 @@ Remains a x u = (u < 2 ^ 71) × ((u + x) % 2 ^ 71 ≡ a)
 
 pub minus71_is : (a x u : ℕ) → Remains a x u → minus71 a x ≡ u
 unfolding minus71
-minus71_is a x u h =
-    let low = h.0 in
-    let sum = h.1 in
-    elim (cases_lt a x) [
-      | inl l ↦ let d : pos a -ℤ pos x ≡ negsuc (x - a - 1) = omega (arith, ints) in rw d (omega arith)
-      | inr g ↦ let d : pos a -ℤ pos x ≡ pos (a - x) = omega (arith, ints) in rw d (omega arith)
-    ]
+minus71_is a x u h = search rules
 
 signed_low : (n x : ℕ) → x < 2 ^ (n - 1) → signed n x ≡ pos x
 signed_low n x h = grind (arith, nat_tests)
@@ -50,10 +43,7 @@ AddsProduct a m x u = (m < 2 ^ 34) × (x < 2 ^ 34) × (u < 2 ^ 71) × (a + 4 * (
 
 pub plus_product_is : (a m x u : ℕ) → AddsProduct a m x u → plus_product a m x ≡ u
 unfolding plus_product
-plus_product_is a m x u h =
-    let fits = h.2 in
-    let sum = h.3 in
-    rw (signed_low 35 m h.0, signed_low 35 x h.1) (omega arith)
+plus_product_is a m x u h = search rules
 
 pub collated_is : (a m x y u : ℕ) → common 35 m x ≡ y → (a + 2 ^ 36 * y) % 2 ^ 71 ≡ u → plus_common a m x ≡ u
 unfolding plus_common
@@ -62,7 +52,6 @@ collated_is a m x y u e h = rw e h
 -- the common digits with 4095 and with 1
 pub common_4095 : (x : ℕ) → x < 2 ^ 17 → common 35 (4095 * 2 ^ 18) (x * 2 ^ 18) ≡ x % 4096 * 2 ^ 18
 common_4095 x h =
-    let m : ℕ = 4095 * 2 ^ 18 in
     let low : bit_and (4095 * 2 ^ 18) (x * 2 ^ 18) < 2 ^ 30 = omega (arith, and_le_l (4095 * 2 ^ 18) (x * 2 ^ 18)) in
     let row : x * 2 ^ 18 % 2 ^ 30 ≡ x % 4096 * 2 ^ 18 = omega arith in
     let fits : x % 4096 * 2 ^ 18 < 2 ^ 30 = omega arith in
@@ -84,8 +73,4 @@ common_1 x h =
 
 -- a long word by the two halves and the digit that its cells hold
 pub parted : (v : ℕ) → v / 2 ^ 18 * 2 ^ 18 + digit (nat_eq (v / 2 ^ 17 % 2) 1) * 2 ^ 17 + v % 2 ^ 17 ≡ v
-parted v =
-    elim (cases_lt (v / 2 ^ 17 % 2) 1) [
-      | inl l ↦ let e : v / 2 ^ 17 % 2 ≡ 0 = omega arith in rw e (omega arith)
-      | inr g ↦ let e : v / 2 ^ 17 % 2 ≡ 1 = omega arith in rw e (omega arith)
-    ]
+parted v = search rules

@@ -1,6 +1,6 @@
 -- Digits that a piece prints one by one without leading zeros, as the print routine and the post-mortem do.
-use Rattle.ed_machine.proofs.Names.{List, suc, zero, ◌*◌, [], arith, Bool, false, Option, Some, true, ℕ, ◌+◌, ◌<◌, ◌∷◌}
-use Rattle.ed_machine.proofs.Names.{◌≡◌, ◌≤◌}
+use Rattle.ed_machine.proofs.Names.{rules, List, suc, zero, ◌*◌, [], arith, Bool, false, Option, Some, true, ℕ, ◌+◌}
+use Rattle.ed_machine.proofs.Names.{◌<◌, ◌∷◌, ◌≡◌, ◌≤◌}
 use Rattle.ed_words.specs.declared.order_words.TheConstants.{V_F}
 use Rattle.ed_machine.proofs.Kit.Frames.{Frame, Moment}
 use Rattle.ed_machine.proofs.Kit.Paths.{Path, stay, followed}
@@ -39,13 +39,8 @@ pub taken_away : {n h : ℕ} {f : Frame n h} (moments : ℕ → ℕ → Moment) 
     → ((u d : ℕ) → u + power < bound → d < 9 → Path f 8 (moments (u + power) d) [] (moments u (d + 1)))
     → (q d r : ℕ) → (q * power + r < bound) × (d + q ≤ 9)
     → Path f (8 * q) (moments (q * power + r) d) [] (moments r (d + q))
-taken_away moments power bound once zero d r few =
-    let e : 0 * power + r ≡ r = omega arith in
-    let g : d + 0 ≡ d = omega arith in
-    rw (e, g) stay
+taken_away moments power bound once zero d r few = search (rules, stay)
 taken_away moments power bound once (suc q) d r few =
-    let low = few.0 in
-    let most = few.1 in
     let e : 8 * suc q ≡ 8 + 8 * q = omega arith in
     let g : d + suc q ≡ d + 1 + q = omega arith in
     let s : suc q * power + r ≡ q * power + r + power = omega arith in

@@ -1,13 +1,11 @@
-use Rattle.ed_initial.proofs.Kit.{start_state, ap, List, lit≤, ℕ, ◌∙◌, ◌≡◌, initial_orders}
+use Rattle.ed_initial.proofs.Kit.{rules, start_state, lit≤, ◌≡◌, initial_orders}
 use Rattle.ed_initial.proofs.Started.{is_started}
 use Rattle.ed_initial.proofs.starting.begin.Goals.{After-start}
 use Rattle.ed_initial.proofs.starting.begin.Goals as goal
 
 -- the state that Start leaves
 state : (c : After-start) → c.start.new.self ≡ start_state initial_orders c.args.rows.items c.args.machine.now
-state c =
-    c.start.ensures.state
-    ∙ ap (λ (image : List ℕ). start_state image c.args.rows.items c.args.machine.now) c.orders.ensures
+state c = search rules
 
 pub start-requires : goal.start-requires
 start-requires c = rw c.orders.ensures (lit≤ tt)

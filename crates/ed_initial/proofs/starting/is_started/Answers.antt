@@ -1,15 +1,10 @@
-use Rattle.ed_initial.proofs.Kit.{false≢true, arith, get_or, refl, ◌≡◌, initial_orders}
+use Rattle.ed_initial.proofs.Kit.{rules, get_or, refl, ◌≡◌, initial_orders}
 use Rattle.ed_initial.proofs.Compared.{tested, is_same, is_other}
 use borrow.Author.Count.{below_more}
 use Rattle.ed_initial.proofs.starting.is_started.Goals as goal
 
 pub returns-then-ne : goal.returns-then-ne
-returns-then-ne c = (
-  λ no. absurd (false≢true no),
-  λ started.
-      absurd (is_other _ initial_orders _ c.loop-place-test.true c.orders.ensures refl c.order-item.is c.word.ensures.is
-      (tested _ c.ne.ensures c.order-item.is) c.if-ne.true (started.orders _ c.loop-place-test.true)),
-)
+returns-then-ne c = search (rules, is_other)
 
 pub loop-place-preserved : goal.loop-place-preserved
 loop-place-preserved c =
@@ -19,10 +14,4 @@ loop-place-preserved c =
     (tested _ c.ne.ensures c.order-item.is) c.if-ne.false)
 
 pub returns : goal.returns
-returns c = (
-  λ _. record {
-    counter = cc;
-    orders = λ i less. c.loop-place.invariant i (omega arith);
-  },
-  λ _. refl,
-)
+returns c = search rules

@@ -1,5 +1,5 @@
-use Rattle.ed_maths.proofs.Kit.{within_size, [], ap, ℕ, ◌*◌, ◌+◌, ◌-◌, ◌/◌, ◌∙◌, ◌≡◌, locations, short_at, State}
-use Rattle.ed_maths.proofs.Kit.{state_after, free, Leads, divide_orders, dividend, ones}
+use Rattle.ed_maths.proofs.Kit.{rules, [], ap, ℕ, ◌-◌, ◌/◌, ◌∙◌, ◌≡◌, locations, short_at, State, state_after, free}
+use Rattle.ed_maths.proofs.Kit.{Leads, divide_orders, dividend}
 use Rattle.ed_maths.proofs.DivideCall.{CallsDivide, last, leads_to, divided}
 use Rattle.ed_maths.proofs.division.divide_integers.Goals as goal
 
@@ -12,25 +12,10 @@ module _ (c : goal.After-obey_next) where
 
   -- the number of orders that the call computes
   count : 212 - c.from-orders.result ≡ divide_orders quotient
-  count =
-      let high : c.value.result ≡ short_at s.store c.args.high = c.value.ensures.is ∙ c.word.ensures.is in
-      let low : c.value-2.result ≡ short_at s.store c.args.low = c.value-2.ensures.is ∙ c.word-2.ensures.is in
-      let by : c.value-3.result ≡ short_at s.store c.args.by = c.value-3.ensures.is ∙ c.word-3.ensures.is in
-      let digits : c.count_ones.result ≡ ones 16 quotient
-      = c.count_ones.ensures.is ∙ (λ i. ones 16 ((65536 * high i + low i) / by i)) in
-      ap (λ x. 212 - x) (c.from-orders.ensures ∙ digits)
+  count = search rules
 
   called : CallsDivide c.args.base c.args.high c.args.low c.args.by (locations s.size) s
-  called = record {
-    all = c.word.ensures.store.words_are;
-    all_digits = c.word.ensures.store.digits_are;
-    stands = c.requires.stands;
-    even = c.requires.even;
-    division = c.requires.division;
-    within = within_size c.requires.stands c.requires.division.high_outside;
-    near_low = c.requires.division.low_outside.below;
-    near_by = c.requires.division.by_outside.below;
-  }
+  called = search rules
 
   leads : Leads (divide_orders quotient) s [] (last called)
   leads = leads_to called

@@ -1,4 +1,4 @@
-use Rattle.ed_maths.proofs.Kit.{within_size, [], ap, subst, sym, ℕ, ◌*◌, ◌+◌, ◌∙◌, ◌≡◌, locations, short_at, State}
+use Rattle.ed_maths.proofs.Kit.{rules, [], ap, subst, sym, ℕ, ◌*◌, ◌+◌, ◌∙◌, ◌≡◌, locations, short_at, State}
 use Rattle.ed_maths.proofs.Kit.{state_after, free, Leads, IsRoot, root_orders}
 use Rattle.ed_maths.proofs.RootCall.{CallsRoot, last, leads_to, root_is, returned, keeps}
 use Rattle.ed_maths.proofs.square.square_root.Goals as goal
@@ -18,16 +18,7 @@ module _ (c : goal.After-obey_next) where
   count = ap (λ x. 14 + 8 * x) c.from.ensures
 
   called : CallsRoot c.args.base c.args.source c.args.target (locations s.size) r s
-  called = record {
-    all = c.word.ensures.store.words_are;
-    stands = c.requires.stands;
-    source_outside = c.requires.source;
-    target_outside = c.requires.target;
-    within = within_size c.requires.stands c.requires.source;
-    near = c.requires.target.below;
-    small = c.requires.small;
-    is_root = is_root;
-  }
+  called = search rules
 
   leads : Leads (root_orders r) s [] (last called)
   leads = leads_to called

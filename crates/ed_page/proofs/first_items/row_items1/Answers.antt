@@ -1,5 +1,5 @@
-use Rattle.ed_page.proofs.Kit.{common_steps, lit<, IsFault1, Tape1Cause, arith, Err, List, refl, subst, ℕ, ◌≡◌, done}
-use Rattle.ed_page.proofs.Kit.{Gives, IsItemsOutcome1}
+use Rattle.ed_page.proofs.Kit.{rules, common_steps, lit<, IsFault1, Tape1Cause, arith, Err, List, refl, subst, ℕ, ◌≡◌}
+use Rattle.ed_page.proofs.Kit.{done, Gives, IsItemsOutcome1}
 use Rattle.ed_initial1.specs.Checks.{Answers1}
 use Rattle.ed_initial1.specs.declared.cause.Tape1Fault.{Tape1Fault}
 use Rattle.ed_initial1.specs.declared.cause.Tape1Fault.TheVariants.{At, Memory}
@@ -42,12 +42,10 @@ pub returns-in_err-item_table1-in-Ok : goal.returns-in_err-item_table1-in-Ok
 returns-in_err-item_table1-in-Ok c = none_answered IsItemsOutcome1 c.args.rows.now _ c.from_residual.ensures
 
 pub returns-in_err-out-in-Err-At : goal.returns-in_err-out-in-Err-At
-returns-in_err-out-in-Err-At c =
-    none_answered IsItemsOutcome1 c.args.rows.now _ c.from_residual-in_err-out-in-Err-At.ensures
+returns-in_err-out-in-Err-At c = search rules
 
 pub returns-in_err-note-in-Err-At : goal.returns-in_err-note-in-Err-At
-returns-in_err-note-in-Err-At c =
-    none_answered IsItemsOutcome1 c.args.rows.now _ c.from_residual-in_err-note-in-Err-At.ensures
+returns-in_err-note-in-Err-At c = search rules
 
 pub returns-in-Err-Memory : goal.returns-in-Err-Memory
 returns-in-Err-Memory c = tt

@@ -1,9 +1,9 @@
-use Rattle.ed_page.proofs.Kit.{common_steps, cleared_cells, TapeCause, lit<, IsFault, opening_notation, arith, Err}
-use Rattle.ed_page.proofs.Kit.{List, refl, subst, ℕ, ◌≡◌, done, Gives, IsItemsOutcome}
+use Rattle.ed_page.proofs.Kit.{rules, common_steps, cleared_cells, TapeCause, lit<, IsFault, opening_notation, arith}
+use Rattle.ed_page.proofs.Kit.{Err, List, refl, subst, ℕ, ◌≡◌, done, Gives, IsItemsOutcome}
 use Rattle.ed_notation.specs.Checks.{AnswersCheck}
 use Rattle.ed_notation.specs.declared.cause.TapeFault.{TapeFault}
 use Rattle.ed_notation.specs.declared.cause.TapeFault.TheVariants.{At, Memory}
-use Rattle.ed_page.proofs.ItemRows.{entered_told, entered_within, fault_told}
+use Rattle.ed_page.proofs.ItemRows.{entered_told, fault_told}
 use Rattle.ed_page.proofs.Replies.{none_answered}
 use Rattle.ed_page.proofs.items.row_items.Goals as goal
 
@@ -32,9 +32,7 @@ returns-in_ok-out-in-Err-At c =
     })
 
 pub item_table-requires : goal.item_table-requires
-item_table-requires c =
-    let entered = c.in-Ok.ensures in
-    record { few = c.requires; count = entered_within entered.accepts entered.count_is }
+item_table-requires c = grind (arith, common_steps)
 
 pub item_table-requires-in-Err-At : goal.item_table-requires-in-Err-At
 item_table-requires-in-Err-At c = record { few = c.requires; count = grind (arith, common_steps) }
@@ -46,12 +44,10 @@ pub returns-in_err-item_table-in-Ok : goal.returns-in_err-item_table-in-Ok
 returns-in_err-item_table-in-Ok c = none_answered (IsItemsOutcome c.args.size) c.args.rows.now _ c.from_residual.ensures
 
 pub returns-in_err-out-in-Err-At : goal.returns-in_err-out-in-Err-At
-returns-in_err-out-in-Err-At c =
-    none_answered (IsItemsOutcome c.args.size) c.args.rows.now _ c.from_residual-in_err-out-in-Err-At.ensures
+returns-in_err-out-in-Err-At c = search rules
 
 pub returns-in_err-note-in-Err-At : goal.returns-in_err-note-in-Err-At
-returns-in_err-note-in-Err-At c =
-    none_answered (IsItemsOutcome c.args.size) c.args.rows.now _ c.from_residual-in_err-note-in-Err-At.ensures
+returns-in_err-note-in-Err-At c = search rules
 
 pub returns-in-Err-Memory : goal.returns-in-Err-Memory
 returns-in-Err-Memory c = tt

@@ -1,27 +1,16 @@
-use Rattle.ed_page.proofs.Kit.{lit<, arith, picture_buffers, answers_of}
-use Rattle.ed_page.specs.Private.Requests.{ends_of}
+use Rattle.ed_page.proofs.Kit.{rules, lit<, arith}
 use Rattle.ed_page.proofs.Outcomes.{program_due}
-use Rattle.ed_page.proofs.Written.{found_status, long_shown, low_status, picture_early, picture_shown, picture_unmade}
+use Rattle.ed_page.proofs.Written.{found_status, long_shown, low_status, picture_early, picture_shown}
 use Rattle.ed_page.proofs.pictures.draw.Goals as goal
 
 pub returns-then-words-ne1024 : goal.returns-then-words-ne1024
-returns-then-words-ne1024 c =
-    picture_early (answers_of c.args.kind c.args.settings) (ends_of c.args.kind c.args.settings)
-    c.args.text.now
-    (picture_buffers c.args.words.now c.args.digits.now c.args.paper.now c.args.note.now c.args.registers.now)
-    (program_due c.args.kind c.args.settings c.args.text.now) c.then-words-ne1024.either
+returns-then-words-ne1024 c = search (rules, picture_early, program_due)
 
 pub returns-then-text-gt-INPUT_BYTES : goal.returns-then-text-gt-INPUT_BYTES
-returns-then-text-gt-INPUT_BYTES c =
-    long_shown (answers_of c.args.kind c.args.settings) (ends_of c.args.kind c.args.settings) c.args.text.now
-    (c.if-words-ne1024.false, c.if-digits-ne512.false) c.if-text-gt-INPUT_BYTES.true
-    c.show.ensures
+returns-then-text-gt-INPUT_BYTES c = search (rules, long_shown)
 
 pub returns-in-Ok : goal.returns-in-Ok
-returns-in-Ok c =
-    picture_shown (answers_of c.args.kind c.args.settings) (ends_of c.args.kind c.args.settings) c.args.text.now
-    (c.if-words-ne1024.false, c.if-digits-ne512.false) c.if-text-gt-INPUT_BYTES.false
-    c.in-Ok.ensures c.deref.ensures.value c.deref-in-Ok.ensures.value c.show-in-Ok.ensures
+returns-in-Ok c = search (rules, picture_shown)
 
 pub show-requires-clause-words : goal.show-requires-clause-words
 show-requires-clause-words c = c.if-words-ne1024.false
@@ -48,9 +37,4 @@ pub show-requires-in-Ok-clause-found : goal.show-requires-in-Ok-clause-found
 show-requires-in-Ok-clause-found c = found_status c.in-Ok.ensures.0.2
 
 pub returns-in-Err : goal.returns-in-Err
-returns-in-Err c =
-    picture_unmade (answers_of c.args.kind c.args.settings) (ends_of c.args.kind c.args.settings)
-    c.args.text.now
-    (picture_buffers c.args.words.now c.args.digits.now c.args.paper.now c.args.note.now c.args.registers.now)
-    (c.if-words-ne1024.false, c.if-digits-ne512.false)
-    c.if-text-gt-INPUT_BYTES.false
+returns-in-Err c = search rules

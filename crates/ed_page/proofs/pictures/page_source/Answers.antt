@@ -1,5 +1,4 @@
-use Rattle.ed_page.proofs.Kit.{Settings, ap, refl, subst, tape, run_of, IsShown, picture_buffers, SourceEnds}
-use Rattle.ed_page.proofs.Kit.{run_settings}
+use Rattle.ed_page.proofs.Kit.{rules, Settings, ap, refl, tape, run_of, SourceEnds, run_settings}
 use Rattle.ed_answers.specs.Sources.{run_answer}
 use Rattle.ed_page.proofs.Goes.{from_start}
 use Rattle.ed_page.proofs.GoneOn.{begins_on}
@@ -11,13 +10,7 @@ pub draw-requires : goal.draw-requires
 draw-requires c = ap (λ (s : Settings). s.post_mortem) c.run_settings-settings.ensures
 
 pub returns-clause-shown : goal.returns-clause-shown
-returns-clause-shown c =
-    subst
-    (λ (s : Settings). IsShown (run_answer s) (SourceEnds s) c.args.text.now
-    (picture_buffers c.args.words.now c.args.digits.now c.args.paper.now c.args.note.now c.args.registers.now)
-    (picture_buffers c.draw.new.words c.draw.new.digits c.draw.new.paper c.draw.new.note c.draw.new.registers)
-    c.draw.result)
-    c.run_settings-settings.ensures c.draw.ensures
+returns-clause-shown c = search rules
 
 pub returns-clause-rows : goal.returns-clause-rows
 returns-clause-rows c = each_run_reads_on

@@ -1,4 +1,4 @@
-use Rattle.ed_page.proofs.Kit.{Settings, ap, refl, subst, run_of, IsShown, picture_buffers, RowsEnd, run_settings}
+use Rattle.ed_page.proofs.Kit.{rules, Settings, ap, refl, run_of, RowsEnd, run_settings}
 use Rattle.ed_answers.specs.Tapes.{tape_answer}
 use Rattle.ed_page.proofs.Goes.{from_start}
 use Rattle.ed_page.proofs.GoneOn.{begins_on}
@@ -10,13 +10,7 @@ pub draw-requires : goal.draw-requires
 draw-requires c = ap (λ (s : Settings). s.post_mortem) c.run_settings-settings.ensures
 
 pub returns-clause-shown : goal.returns-clause-shown
-returns-clause-shown c =
-    subst
-    (λ (s : Settings). IsShown (tape_answer s) (RowsEnd (run_of s)) c.args.text.now
-    (picture_buffers c.args.words.now c.args.digits.now c.args.paper.now c.args.note.now c.args.registers.now)
-    (picture_buffers c.draw.new.words c.draw.new.digits c.draw.new.paper c.draw.new.note c.draw.new.registers)
-    c.draw.result)
-    c.run_settings-settings.ensures c.draw.ensures
+returns-clause-shown c = search rules
 
 pub returns-clause-rows : goal.returns-clause-rows
 returns-clause-rows c = each_run_reads_on

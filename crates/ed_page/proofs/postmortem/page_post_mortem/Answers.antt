@@ -1,4 +1,4 @@
-use Rattle.ed_page.proofs.Kit.{IsWindowOf, inl, inr, refl, subst, ℕ, ◌≡◌, ◌≢◌, ◌⊎◌}
+use Rattle.ed_page.proofs.Kit.{rules, inl, inr, refl, ℕ, ◌≡◌, ◌≢◌, ◌⊎◌}
 use Rattle.ed_page.proofs.postmortem.page_post_mortem.Goals as goal
 
 -- buffers of the lengths of a store lack nothing
@@ -7,10 +7,7 @@ none_lacks words digits (inl wrong) = absurd (wrong words)
 none_lacks words digits (inr wrong) = absurd (wrong digits)
 
 pub returns-then-words-ne1024-clause-told : goal.returns-then-words-ne1024-clause-told
-returns-then-words-ne1024-clause-told c words digits s begins k pictured = elim c.then-words-ne1024.either [
-  | inl wrong ↦ absurd (wrong words)
-  | inr both ↦ absurd (both.1 digits)
-]
+returns-then-words-ne1024-clause-told c words digits s begins k pictured = search rules
 
 pub returns-then-words-ne1024-clause-early : goal.returns-then-words-ne1024-clause-early
 returns-then-words-ne1024-clause-early c lacks = (refl, refl)
@@ -25,10 +22,4 @@ pub returns-then-not-is_window-clause-early : goal.returns-then-not-is_window-cl
 returns-then-not-is_window-clause-early c = none_lacks c.if-words-ne1024.false c.if-digits-ne512.false
 
 pub printed_paper-requires : goal.printed_paper-requires
-printed_paper-requires c = record {
-  words = c.if-words-ne1024.false;
-  digits = c.if-digits-ne512.false;
-  picture = c.requires.picture;
-  orders = c.requires.orders;
-  window = subst (λ z. IsWindowOf z (record { first = c.args.first; count = c.args.count })) c.size_of.ensures (c.if-not-is_window.ensures.0 refl);
-}
+printed_paper-requires c = search rules

@@ -1,4 +1,4 @@
-use Rattle.ed_page.proofs.Kit.{Size, IsWindowOf, ap, subst, sym, ◌∙◌, ◌≡◌, State, size_shown}
+use Rattle.ed_page.proofs.Kit.{rules, Size, IsWindowOf, ap, subst, sym, ◌∙◌, ◌≡◌, State, size_shown}
 use Rattle.ed_page.proofs.OnTheWay.{IsFirst-begun, way_size}
 use Rattle.ed_page.proofs.postmortem.printed_paper.Goals as goal
 
@@ -11,8 +11,4 @@ window_printed-requires-clause-window c =
     subst (λ (z : Size). IsWindowOf z c.args.window) (sym size) c.requires.window
 
 pub snapshot-requires : goal.snapshot-requires
-snapshot-requires c = record {
-  words = c.requires.words;
-  digits = c.requires.digits;
-  picture = c.requires.picture;
-}
+snapshot-requires c = search rules

@@ -1,13 +1,11 @@
-use Rattle.ed_page.proofs.Kit.{lit<, arith, text_buffers, answers_to, IsReplied}
+use Rattle.ed_page.proofs.Kit.{rules, lit<, arith, answers_to, IsReplied}
 use Rattle.ed_page.proofs.Replies.{refused_reply}
-use Rattle.ed_page.proofs.Written.{found_status, long_written, low_status, reply_written, text_unmade}
+use Rattle.ed_page.proofs.Written.{reply_written}
 use Rattle.ed_page.proofs.request.write_answer.Goals.{in-Ok, in-Err-Refused}
 use Rattle.ed_page.proofs.request.write_answer.Goals as goal
 
 pub returns-then-text-gt-INPUT_BYTES : goal.returns-then-text-gt-INPUT_BYTES
-returns-then-text-gt-INPUT_BYTES c =
-    long_written (answers_to c.args.request) c.args.text.now
-    c.if-text-gt-INPUT_BYTES.true c.write_reply.ensures
+returns-then-text-gt-INPUT_BYTES c = search rules
 
 pub write_reply-requires-clause-low : goal.write_reply-requires-clause-low
 write_reply-requires-clause-low c = lit< tt
@@ -16,10 +14,7 @@ pub write_reply-requires-clause-found : goal.write_reply-requires-clause-found
 write_reply-requires-clause-found c e = omega (arith, e)
 
 pub returns-in-Err-Memory : goal.returns-in-Err-Memory
-returns-in-Err-Memory c =
-    text_unmade (answers_to c.args.request) c.args.text.now
-    (text_buffers c.args.out.now c.args.note.now c.args.lengths.now)
-    c.if-text-gt-INPUT_BYTES.false
+returns-in-Err-Memory c = search rules
 
 pub returns : goal.returns
 returns c =
@@ -33,19 +28,7 @@ returns c =
     c.deref-2.ensures.value c.write_reply-2.ensures
 
 pub write_reply-requires-2-clause-low : goal.write_reply-requires-2-clause-low
-write_reply-requires-2-clause-low c = elim c.match-answer.branch [
-  | in-Ok w ↦ rw w.reply-is (low_status w.in-Ok.ensures.2)
-  | in-Err-Refused w ↦ rw w.reply-is
-      (low_status
-      (refused_reply (answers_to c.args.request) c.args.text.now w.in-Err-Refused.field-0-is
-      w.in-Err-Refused.ensures).2)
-]
+write_reply-requires-2-clause-low c = search rules
 
 pub write_reply-requires-2-clause-found : goal.write_reply-requires-2-clause-found
-write_reply-requires-2-clause-found c = elim c.match-answer.branch [
-  | in-Ok w ↦ rw w.reply-is (found_status w.in-Ok.ensures.2)
-  | in-Err-Refused w ↦ rw w.reply-is
-      (found_status
-      (refused_reply (answers_to c.args.request) c.args.text.now w.in-Err-Refused.field-0-is
-      w.in-Err-Refused.ensures).2)
-]
+write_reply-requires-2-clause-found c = search rules

@@ -1,4 +1,4 @@
-use Rattle.ed_page.proofs.Kit.{IsRunResult, FinishedRun, refl, subst, ℕ, State, run_end}
+use Rattle.ed_page.proofs.Kit.{rules, IsRunResult, FinishedRun, refl, subst, ℕ, State, run_end}
 use Rattle.ed_page.proofs.GoneOn.{gone_of}
 use Rattle.ed_page.proofs.resume.resume.Goals as goal
 
@@ -14,8 +14,4 @@ returns-clause-gone c first begins k pictures =
     c.in_ok-paper.ensures c.run-ending.ensures.run_end refl))
 
 pub snapshot-requires : goal.snapshot-requires
-snapshot-requires c = record {
-  words = c.requires.words;
-  digits = c.requires.digits;
-  picture = c.requires.picture;
-}
+snapshot-requires c = search rules

@@ -1,7 +1,7 @@
-use Rattle.ed_page.proofs.Kit.{run1_of, NotedRun, refl, sym, ◌∙◌, run_of, tape_outcome, tape_outcome_by}
+use Rattle.ed_page.proofs.Kit.{rules, run1_of, NotedRun, refl, sym, ◌∙◌, run_of, tape_outcome, tape_outcome_by}
 use Rattle.ed_answers.specs.FirstOrders.{tape1_outcome}
 use Rattle.ed_page.specs.Private.Requests.{run_by}
-use Rattle.ed_page.proofs.Endings.{plain_source, plain_tape, ran_is}
+use Rattle.ed_page.proofs.Endings.{plain_tape, ran_is}
 use Rattle.ed_page.proofs.Replies.{rows_not_run, rows_run, source_run}
 use Rattle.ed_page.proofs.running.run_program.Goals.{in-Orders41, in-Orders31}
 use Rattle.ed_page.proofs.running.run_program.Goals as goal
@@ -14,10 +14,7 @@ returns-in_err-rows c =
     c.in_err-rows.ensures.is c.from_residual.ensures)
 
 pub returns-in-Source : goal.returns-in-Source
-returns-in-Source c =
-    let s = c.args.settings in
-    rw c.in-Source.is
-    (source_run s c.args.text.now c.run_source.result (plain_source s c.requires) c.run_source.ensures.is)
+returns-in-Source c = search (rules, source_run)
 
 pub returns : goal.returns
 returns c =

@@ -1,4 +1,4 @@
-use Rattle.ed_page.proofs.Kit.{Size, IsReached, locations, arith, refl, subst, sym, ◌<◌, ◌∙◌, ◌≤◌, size_shown}
+use Rattle.ed_page.proofs.Kit.{rules, Size, IsReached, locations, refl, subst, sym, ◌<◌, ◌∙◌}
 use Rattle.ed_page.proofs.OnTheWay.{IsFirst-begun, fit_counter, fit_last, fit_multiplier, fit_rows, fit_words, is_first}
 use Rattle.ed_page.proofs.OnTheWay.{most_places, shown_state, way_reached}
 use Rattle.ed_page.proofs.RowCodes.{are_after, codes_after}
@@ -14,18 +14,13 @@ pub of_number-requires : goal.of_number-requires
 of_number-requires c = fit_multiplier c.requires.picture
 
 pub overflow_cast-parts : goal.overflow_cast-parts
-overflow_cast-parts c =
-    let fits : c.args.registers.now.counter < locations (size_shown c.args.small) = fit_counter c.requires.picture in
-    let most : locations (size_shown c.args.small) ≤ 1024 = most_places (size_shown c.args.small) in
-    let low : c.args.registers.now.counter < 1024 = omega (arith, fits, most) in
-    omega (arith, low)
+overflow_cast-parts c = search (rules, fit_counter, most_places)
 
 pub overflow_sub-read : goal.overflow_sub-read
 overflow_sub-read c = fit_rows c.requires.picture
 
 pub overflow_cast-registers : goal.overflow_cast-registers
-overflow_cast-registers c =
-    let fits : c.args.registers.now.last ≤ 32 = fit_last c.requires.picture in omega (arith, fits)
+overflow_cast-registers c = search (rules, fit_last)
 
 pub reached-requires-clause-is : goal.reached-requires-clause-is
 reached-requires-clause-is c =
