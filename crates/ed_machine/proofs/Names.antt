@@ -1,6 +1,6 @@
 -- The names that the proofs of this crate cite, passed on from one place. Declares nothing.
 pub use Rattle.std.proofs.lemmas.Grind.{common_steps}
-pub use Rattle.std.proofs.Common.{add-one, append-nil, append_assoc, drop, inl, inr, length-append, List, lit<, negsuc}
+pub use Rattle.std.proofs.Common.{add-one, append-nil, append_assoc, drop, inl, inr, length-append, List, lit<}
 pub use Rattle.std.proofs.Common.{pos, rules, set, subst, suc, take, true≢false, unwrap_or, zero, ◌&&◌, ◌++◌, ◌-◌, ◌⊎◌}
 pub use Rattle.std.proofs.lemmas.Bool.{and_parts, cases_lt, eqb-true}
 pub use Rattle.std.proofs.lemmas.Bool.Decides.{nat_tests}
@@ -14,7 +14,7 @@ unfoldable pub use Rattle.ed_acc.specs.Arithmetic.{plus_product, right71}
 pub use Rattle.ed_store.specs.Cells.{IsStore}
 pub use Rattle.ed_store.proofs.Kit.{get_or, nat_eq, ◌%◌, ◌*◌, ◌/◌, ◌^◌, Cells}
 pub use Rattle.ed_orders.specs.declared.kind.Kind.{Kind}
-pub use Rattle.ed_orders.specs.declared.kind.Kind.TheVariants.{A, C, E, F, G, H, I, L, N, O, R, S, T, U, V, X, Y, Z}
+pub use Rattle.ed_orders.specs.declared.kind.Kind.TheVariants.{E, F, G, I, L, O, R, T, U, X, Y, Z}
 pub use Rattle.ed_orders.proofs.Kit.{[], ap, arith, Bool, false, length, nat_lt, None, Option, refl, Some, sym, true, ℕ}
 pub use Rattle.ed_orders.proofs.Kit.{◌+◌, ◌<◌, ◌∙◌, ◌∷◌, ◌≡◌, ◌≤◌, ltb-true, kind_of_function}
 pub use Rattle.ed_machine.specs.OrderTable.{after, done_at, jump_order, next_word, obey, obey_word, Obeyed, place_of}
@@ -24,4 +24,4 @@ pub use Rattle.ed_machine.specs.State.{State}
 pub use Rattle.ed_machine.specs.Steps.{AreObeyed, codes_of, is_obeyed, Progress, state_after, stops_of}
 unfoldable pub use Rattle.ed_machine.specs.Steps.{progress}
 pub use Rattle.ed_machine.specs.declared.turn.Turn.{Turn}
-pub use Rattle.ed_machine.specs.declared.turn.Turn.TheVariants.{NoOrder, NoTape, Printed, Stopped, Went}
+pub use Rattle.ed_machine.specs.declared.turn.Turn.TheVariants.{Printed, Stopped, Went}

@@ -5,19 +5,17 @@ pub use Rattle.std.proofs.lemmas.Bool.{ne_eqb}
 pub use Rattle.std.proofs.lemmas.Grind.{common_steps}
 pub use Rattle.std.proofs.lemmas.List.{get_or_read}
 pub use Rattle.ed_words.specs.declared.size.Size.{Size}
-pub use Rattle.ed_printer.specs.Paper.{latest_shift, paper_from, shift_after}
+pub use Rattle.ed_printer.specs.Paper.{latest_shift, paper_from}
 pub use Rattle.ed_printer.specs.declared.printer.Shift.{Shift}
 pub use Rattle.ed_store.specs.Cells.{cleared_cells}
 pub use Rattle.ed_orders.specs.declared.kind.Kind.{Kind}
 pub use Rattle.ed_machine.specs.Reached.{IsReached}
-pub use Rattle.ed_machine.specs.declared.ending.Ending.{Ending}
-pub use Rattle.ed_machine.specs.declared.ending.Ending.TheVariants.{Limit, Stopped}
-pub use Rattle.ed_machine.proofs.Names.{zero, cases_lt, function_of, Cells, IsStore, kind_of_function}
+pub use Rattle.ed_machine.proofs.Names.{zero, function_of, Cells, IsStore, kind_of_function}
 pub use Rattle.ed_run.specs.SettingRanges.{IsWindowOf}
 pub use Rattle.ed_run.specs.declared.settings.Settings.{Settings}
 pub use Rattle.ed_notation.specs.declared.cause.TapeCause.{TapeCause}
 pub use Rattle.ed_notation.specs.declared.kind.RowKind.TheVariants.{Digit}
-pub use Rattle.ed_notation.proofs.Kit.{length-append, lit<, lit≤, take, ◌%◌, ◌*◌, ◌/◌, le-ltb, lt-ltb, drop_all}
+pub use Rattle.ed_notation.proofs.Kit.{length-append, lit<, lit≤, take, ◌%◌, ◌*◌, ◌/◌, le-ltb, lt-ltb}
 pub use Rattle.ed_notation.proofs.Kit.{locations, digit, IsFault, AreDigits, digits_number}
 pub use Rattle.ed_notation.proofs.Loop.{next_row}
 pub use Rattle.ed_initial1.specs.Faults.{IsFault1}
@@ -33,10 +31,10 @@ pub use Rattle.ed_answers.specs.declared.source.NotedRun.{NotedRun}
 pub use Rattle.ed_answers.proofs.Kit.{[], ap, append-nil, append_assoc, arith, Bool, drop, Err, false, get_or}
 pub use Rattle.ed_answers.proofs.Kit.{if◌then◌else◌, inl, inr, length, List, nat_eq, nat_le, nat_lt, None, Ok, Option}
 pub use Rattle.ed_answers.proofs.Kit.{refl, replicate, Result, reverse, rules, Some, subst, suc, sym, true, ℕ, ◌++◌}
-pub use Rattle.ed_answers.proofs.Kit.{◌+◌, ◌-◌, ◌<◌, ◌^◌, ◌∙◌, ◌∷◌, ◌≡◌, ◌≢◌, ◌≤◌, ◌⊎◌, length-drop, length-replicate}
+pub use Rattle.ed_answers.proofs.Kit.{◌+◌, ◌-◌, ◌<◌, ◌^◌, ◌∙◌, ◌∷◌, ◌≡◌, ◌≢◌, ◌≤◌, ◌⊎◌, length-drop}
 pub use Rattle.ed_answers.proofs.Kit.{Text, reading, rows, paper, State, state_after, run_orders, RunEnd, tape}
 pub use Rattle.ed_answers.proofs.Kit.{ending_line, done, Outcome, IsAcceptedAs, Gives, paper_room, ran_outcome, run_of}
-pub use Rattle.ed_answers.proofs.Kit.{status_of, entered_before, OfSource, run_outcome, tape_outcome}
+pub use Rattle.ed_answers.proofs.Kit.{entered_before, OfSource, run_outcome, tape_outcome}
 unfoldable pub use Rattle.ed_answers.proofs.Kit.{step, progress, run_end, first_state, first_state1}
 pub use Rattle.ed_page.specs.Answers.{Buffers, IsShown, picture_buffers, RowsEnd, SourceEnds, text_buffers}
 pub use Rattle.ed_page.specs.Going.{AreCodes}

@@ -82,12 +82,3 @@ module _ {A : Type 0} (d : A) (xs : List A) (b : ℕ) (cs : List A) (i : ℕ) wh
 
 pub some_digits : (ds : List Bool) (b : ℕ) (cs : List Bool) → 0 < length cs → all_digits ds b cs ≡ patched false ds b cs
 some_digits ds b = search rules
-
--- the digit of another pair
-pub get_digit : (ds : List Bool) (b : ℕ) (cs : List Bool) (p : ℕ) → Beside ds b (length cs) p
-    → get_or (all_digits ds b cs) p false ≡ get_or ds p false
-get_digit ds b = search (rules, get_beside)
-
-pub set_digit : (ds : List Bool) (b : ℕ) (cs : List Bool) (p : ℕ) (v : Bool) → Beside ds b (length cs) p
-    → set (all_digits ds b cs) p v ≡ all_digits (set ds p v) b cs
-set_digit ds b = search (rules, set_beside)
