@@ -84,8 +84,16 @@ obeyed (Some U) w s h = went_on _ (top_written s w h)
 obeyed (Some O) w s h = let a = read s h w in let t = went_on s h in search rules
 obeyed (Some F) w s h = let a = h.last in went_on _ (wrote s h w _ _ (omega arith) (omega arith))
 obeyed (Some kind) w s h =
-    went_on _ (search (rules, plus71_fits, minus71_fits, plus_product_fits, minus_product_fits, collated_fits,
-    right71_fits, left71_fits))
+    went_on _ (search (
+      rules,
+      plus71_fits,
+      minus71_fits,
+      plus_product_fits,
+      minus_product_fits,
+      collated_fits,
+      right71_fits,
+      left71_fits,
+    ))
 obeyed None w s h = h
 
 -- an order keeps the bounds

@@ -50,8 +50,12 @@ set_block : (xs : List ℕ) (a w : ℕ) (ws : List ℕ) → a < length xs
     → with_block (set xs a w) (a + 1) ws ≡ with_block xs a (w ∷ ws)
 set_block xs a w ws h =
     let n : a + 1 + length ws ≡ a + suc (length ws) = omega arith in
-    rw (take_more_set xs a w h, drop-set-lt (a + 1 + length ws) xs a w (omega arith),
-    append_assoc (take a xs) (w ∷ []) (ws ++ drop (a + 1 + length ws) xs), n) refl
+    rw (
+      take_more_set xs a w h,
+      drop-set-lt (a + 1 + length ws) xs a w (omega arith),
+      append_assoc (take a xs) (w ∷ []) (ws ++ drop (a + 1 + length ws) xs),
+      n,
+    ) refl
 
 none_laid : (xs : List ℕ) (a : ℕ) → with_block xs a [] ≡ xs
 none_laid xs a = rw (add-zero a) (take-append-drop a xs)

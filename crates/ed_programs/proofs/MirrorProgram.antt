@@ -138,8 +138,7 @@ module _ (z : Size) (m : Moment) where
       let rest = takes cs (c ∷ taken) whole (set ws (104 + length taken) (4096 * c)) (counted (length cs)) v c
       (rw (reverse-append (c ∷ []) cs, append_assoc (reverse cs) (c ∷ []) taken) at is)
       (length-set ws (104 + length taken) (4096 * c) ∙ all)
-      (get_or-set_other ws (104 + length taken) 2 (4096 * c) 0 (omega arith) ∙ at2)
-      (
+      (get_or-set_other ws (104 + length taken) 2 (4096 * c) 0 (omega arith) ∙ at2) (
         get_or-set_same ws (104 + length taken) (4096 * c) 0 (omega arith),
         codes.0,
         stored_set ws (104 + length taken) (4096 * c) taken (omega arith) stored,

@@ -51,8 +51,14 @@ printed_back (b ∷ q) more h =
     let p = and_parts (is_capital b) (list_all is_capital q) h in
     let first = capitals_shown (b ∷ []) more (and_from _ _ p.0 refl) in
     let code : ℕ = code_of (row_of b) in
-    rw (reverse-append (code ∷ []) (text_rows q), append_assoc (reverse (text_rows q)) (code ∷ []) more,
-    printed_back q (code ∷ more) p.1, first, reverse-append (b ∷ []) q, append_assoc (reverse q) (b ∷ []))
+    rw (
+      reverse-append (code ∷ []) (text_rows q),
+      append_assoc (reverse (text_rows q)) (code ∷ []) more,
+      printed_back q (code ∷ more) p.1,
+      first,
+      reverse-append (b ∷ []) q,
+      append_assoc (reverse q) (b ∷ []),
+    )
 
 pub each_word : (s : Settings) (letters : Text) → AreLetters 9 letters
     → TapeRuns s (mirror_text letters) mirror_cost (mirror_orders letters) 91 (reverse letters)

@@ -15,42 +15,42 @@ returns-then-overlaps-2 c =
 
 pub returns-then-overlaps-3 : goal.returns-then-overlaps-3
 returns-then-overlaps-3 c =
-    rw (← c.reach-reach.ensures, ← c.if-is_outside.ensures, ← c.if-overlaps.ensures, ← c.if-overlaps-2.ensures,
-        ← (c.from.ensures ∙ c.value.ensures.is), ← c.if-overlaps-3.ensures) refl
+    rw (← c.reach-reach.ensures, ← c.if-is_outside.ensures, ← c.if-overlaps.ensures, ← c.if-overlaps-2.ensures)
+    (rw (← (c.from.ensures ∙ c.value.ensures.is), ← c.if-overlaps-3.ensures) refl)
 
 pub returns-then-overlaps_any : goal.returns-then-overlaps_any
 returns-then-overlaps_any c =
-    rw (← c.reach-reach.ensures, ← c.if-is_outside.ensures, ← c.if-overlaps.ensures, ← c.if-overlaps-2.ensures,
-        ← (c.from.ensures ∙ c.value.ensures.is), ← c.if-overlaps-3.ensures,
-        ← among c.if-overlaps_any.ensures c.extent_of.ensures c.deref.ensures.value) refl
+    rw (← c.reach-reach.ensures, ← c.if-is_outside.ensures, ← c.if-overlaps.ensures, ← c.if-overlaps-2.ensures)
+    (rw (← (c.from.ensures ∙ c.value.ensures.is), ← c.if-overlaps-3.ensures)
+    (rw (← among c.if-overlaps_any.ensures c.extent_of.ensures c.deref.ensures.value) refl))
 
 pub returns-in-Some : goal.returns-in-Some
 returns-in-Some c =
-    rw (← c.reach-reach.ensures, ← c.if-is_outside.ensures, ← c.if-overlaps.ensures, ← c.if-overlaps-2.ensures,
-        ← (c.from.ensures ∙ c.value.ensures.is), ← c.if-overlaps-3.ensures,
-        ← among c.if-overlaps_any.ensures c.extent_of.ensures c.deref.ensures.value)
-    (used _ _ causes.NoSuchRoutine causes.Parameters _ _ c.in-Some.ensures)
+    rw (← c.reach-reach.ensures, ← c.if-is_outside.ensures, ← c.if-overlaps.ensures, ← c.if-overlaps-2.ensures)
+    (rw (← (c.from.ensures ∙ c.value.ensures.is), ← c.if-overlaps-3.ensures)
+    (rw (← among c.if-overlaps_any.ensures c.extent_of.ensures c.deref.ensures.value)
+    (used _ _ causes.NoSuchRoutine causes.Parameters _ _ c.in-Some.ensures)))
 
 pub returns-then-is_misplaced : goal.returns-then-is_misplaced
 returns-then-is_misplaced c =
-    rw (← c.reach-reach.ensures, ← c.if-is_outside.ensures, ← c.if-overlaps.ensures, ← c.if-overlaps-2.ensures,
-        ← (c.from.ensures ∙ c.value.ensures.is), ← c.if-overlaps-3.ensures,
-        ← among c.if-overlaps_any.ensures c.extent_of.ensures c.deref.ensures.value)
+    rw (← c.reach-reach.ensures, ← c.if-is_outside.ensures, ← c.if-overlaps.ensures, ← c.if-overlaps-2.ensures)
+    (rw (← (c.from.ensures ∙ c.value.ensures.is), ← c.if-overlaps-3.ensures)
+    (rw (← among c.if-overlaps_any.ensures c.extent_of.ensures c.deref.ensures.value)
     (unused _ _ causes.NoSuchRoutine causes.Parameters _ c.in_default.ensures
-    (rw (← c.is_some.ensures, ← c.if-is_misplaced.ensures) refl))
+    (rw (← c.is_some.ensures, ← c.if-is_misplaced.ensures) refl))))
 
 pub returns-then-has_sandwich : goal.returns-then-has_sandwich
 returns-then-has_sandwich c =
-    rw (← c.reach-reach.ensures, ← c.if-is_outside.ensures, ← c.if-overlaps.ensures, ← c.if-overlaps-2.ensures,
-        ← (c.from.ensures ∙ c.value.ensures.is), ← c.if-overlaps-3.ensures,
-        ← among c.if-overlaps_any.ensures c.extent_of.ensures c.deref.ensures.value)
+    rw (← c.reach-reach.ensures, ← c.if-is_outside.ensures, ← c.if-overlaps.ensures, ← c.if-overlaps-2.ensures)
+    (rw (← (c.from.ensures ∙ c.value.ensures.is), ← c.if-overlaps-3.ensures)
+    (rw (← among c.if-overlaps_any.ensures c.extent_of.ensures c.deref.ensures.value)
     (unused _ _ causes.NoSuchRoutine causes.Parameters _ c.in_default.ensures
-    (rw (← c.is_some.ensures, ← c.if-is_misplaced.ensures, ← c.if-has_sandwich.ensures) refl))
+    (rw (← c.is_some.ensures, ← c.if-is_misplaced.ensures, ← c.if-has_sandwich.ensures) refl))))
 
 pub returns-else-has_sandwich : goal.returns-else-has_sandwich
 returns-else-has_sandwich c =
-    rw (← c.reach-reach.ensures, ← c.if-is_outside.ensures, ← c.if-overlaps.ensures, ← c.if-overlaps-2.ensures,
-        ← (c.from.ensures ∙ c.value.ensures.is), ← c.if-overlaps-3.ensures,
-        ← among c.if-overlaps_any.ensures c.extent_of.ensures c.deref.ensures.value)
+    rw (← c.reach-reach.ensures, ← c.if-is_outside.ensures, ← c.if-overlaps.ensures, ← c.if-overlaps-2.ensures)
+    (rw (← (c.from.ensures ∙ c.value.ensures.is), ← c.if-overlaps-3.ensures)
+    (rw (← among c.if-overlaps_any.ensures c.extent_of.ensures c.deref.ensures.value)
     (unused _ _ causes.NoSuchRoutine causes.Parameters _ c.in_default.ensures
-    (rw (← c.is_some.ensures, ← c.if-is_misplaced.ensures, ← c.if-has_sandwich.ensures) refl))
+    (rw (← c.is_some.ensures, ← c.if-is_misplaced.ensures, ← c.if-has_sandwich.ensures) refl))))
