@@ -213,7 +213,8 @@ async function reached(b, kind, where, say) {
     }), [true, true, true, true]);
 }
 
-const PICTURES = 50; // that the page paints at least while it tries them: the browsers of the tests paint thirty a second
+const LOOK = 0.25; // milliseconds that the clock of the page goes on at each look, while it tries them
+const PICTURES = 60; // that it paints at least then, on any computer: 12 / 0.25 looks a picture, 64 orders a look
 
 // A place to which the program never comes: a stated number of orders is tried, in slices.
 async function tooFar(b, say) {
@@ -223,8 +224,10 @@ async function tooFar(b, say) {
         const count = () => { window.slices++; requestAnimationFrame(count); };
         count();
     });
+    await b.ask(`window.looks = 0; performance.now = () => ${LOOK} * window.looks++; 0`);
     await b.press('#toPlace');
     await b.expect('a place that is never reached', await b.until('page.running === undefined', 120), true);
+    await b.ask('delete performance.now; 0');
     await b.expect('is given up', [(await b.ask('page.shown.orders')) - from, await b.text('reached')],
         [await b.ask('SOUGHT'), await say('notReachedYet', { place: 900, orders: '200,000' })]);
     await b.expect('while the page stays alive', await b.ask('window.slices'), (frames) => frames > PICTURES);
