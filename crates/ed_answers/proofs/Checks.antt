@@ -57,7 +57,8 @@ pub checked_one : (s : Settings) → HasOne (IsChecked s)
 checked_one s = record { some = has_checked s; once = checked_once s }
 
 -- the check from a store that is cleared
-pub from_cleared : (z : Size) (codes : List ℕ) {store : Cells} (result : Result Report TapeFault) → store ≡ cleared_cells
+pub from_cleared : (z : Size) (codes : List ℕ) {store : Cells} (result : Result Report TapeFault)
+    → store ≡ cleared_cells
     → checks.AnswersCheck z store.words (opening store.words) 9 codes result
     → checks.AnswersCheck z cleared_cells.words opening_notation 9 codes result
 from_cleared z codes result is =

@@ -80,7 +80,8 @@ answers_from_entry s lines enters = record {
       let from : RunEnd = run_end (s.limit - cost lines) s.resumes paper_room (entry_state s.size lines) in
       let kept : cost lines ≤ from.state.orders =
       (run_follows (s.limit - cost lines) s.resumes paper_room (entry_state s.size lines)).later in
-      ap (λ (e : RunEnd). ran_outcome (entered_before lines e.state) (with_post_mortem s.post_mortem e)) (run_on s lines enters fits)
+      ap (λ (e : RunEnd). ran_outcome (entered_before lines e.state) (with_post_mortem s.post_mortem e))
+      (run_on s lines enters fits)
       ∙ ap (λ (before : Text). ran_outcome before (with_post_mortem s.post_mortem from))
       (reached lines from.state kept);
   short = λ below.

@@ -15,7 +15,8 @@ run_follows limit resumes room s =
     record { size_is = f.size_is; fewer = f.fewer; later = f.later; soon = omega (arith, f.soon, few) }
 
 -- a run ends on a machine of the size of the first one
-pub ran_size : (limit resumes room : ℕ) (s last : State) → last ≡ (run_end limit resumes room s).state → last.size ≡ s.size
+pub ran_size : (limit resumes room : ℕ) (s last : State) → last ≡ (run_end limit resumes room s).state
+    → last.size ≡ s.size
 ran_size limit resumes room s last e = ap (λ (t : State). t.size) e ∙ (run_follows limit resumes room s).size_is
 
 -- that size is the one of the command line

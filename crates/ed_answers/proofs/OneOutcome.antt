@@ -28,7 +28,8 @@ some_within answers input o a = by_length (split (length input))
     split : (n : ℕ) → (n ≤ INPUT_BYTES) ⊎ (INPUT_BYTES < n)
     split n = grind arith
 
-    by_length : (length input ≤ INPUT_BYTES) ⊎ (INPUT_BYTES < length input) → (o : Outcome) × WithinLimit answers input o
+    by_length : (length input ≤ INPUT_BYTES) ⊎ (INPUT_BYTES < length input)
+        → (o : Outcome) × WithinLimit answers input o
     by_length (inl few) = (o, inl (few, a))
     by_length (inr many) = (too_long_outcome, inr (many, refl))
 

@@ -178,7 +178,8 @@ run_replied s input noted reply (lines, accepted, is) gives =
     ∙ ap (λ (m : State). entered_before lines m ++ ending_line noted.ran.ending noted.ran.machine) is.ran.state_is in (
       run_outcome s lines,
       accepted_is s.size (run_outcome s) input lines accepted,
-      ran_gives s.post_mortem (entered_before lines r.state) r is.ran.ending_is is.ran.state_is is.ran.codes_are note gives,
+      ran_gives s.post_mortem (entered_before lines r.state) r is.ran.ending_is is.ran.state_is is.ran.codes_are note
+          gives,
     )
 
 -- of one that is refused, if that is passed on by `?`

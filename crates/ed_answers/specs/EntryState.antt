@@ -62,8 +62,9 @@ abbrev pub EachSourceComes : Type 0
 EachSourceComes =
     (z : Size) (source : Text) (lines : List Line) → IsAcceptedAs z source lines → ReachesLinkedEntry z lines
 
--- a cleared machine that is started on the punched tape reaches the state at the entry, with this store, after the stated cost, which is at most 17
--- orders for each row of the punched items, and 9 more; none of these orders prints or stops, so nothing is printed
+-- a cleared machine that is started on the punched tape reaches the state at the entry, with this store, after the stated
+-- cost, which is at most 17 orders for each row of the punched items, and 9 more; none of these orders prints or stops,
+-- so nothing is printed
 pub record Enters (z : Size) (lines : List Line) (c : Cells) : Type 0 where
   pub state_is : state_after (cost lines) (first_state z (tape lines)) ≡ entered_state z lines c
   pub silent : (progress (cost lines) (first_state z (tape lines))).codes ≡ []
@@ -72,4 +73,5 @@ pub record Enters (z : Size) (lines : List Line) (c : Cells) : Type 0 where
 
 -- the same holds for every source that is accepted
 abbrev pub EachSourceEnters : Type 0
-EachSourceEnters = (z : Size) (source : Text) (lines : List Line) → IsAcceptedAs z source lines → Enters z lines (entry_store lines)
+EachSourceEnters =
+    (z : Size) (source : Text) (lines : List Line) → IsAcceptedAs z source lines → Enters z lines (entry_store lines)

@@ -13,9 +13,10 @@ use Rattle.ed_answers.specs.Refusals.{IsAcceptedAs}
 use Rattle.ed_answers.specs.Runs.{paper_room, post_mortem_codes, ran_outcome, run_of, with_post_mortem}
 use Rattle.ed_answers.specs.Sources.{run_outcome}
 
--- the punched tape leads a cleared machine to the state at the entry, whose store has the linked program's words. With a
--- limit not below the cost, the answer of `run` is the run from that state with the limit less the cost, and the note before its ending gives the entry and the cost; with a lower limit the run prints nothing. In both
--- cases a post-mortem is that of the state in which the run ended.
+-- the punched tape leads a cleared machine to the state at the entry, whose store has the linked program's words. With
+-- a limit not below the cost, the answer of `run` is the run from that state with the limit less the cost, and the note
+-- before its ending gives the entry and the cost; with a lower limit the run prints nothing. In both cases a post-mortem
+-- is that of the state in which the run ended.
 pub record AnswersFromEntry (s : Settings) (lines : List Line) : Type 0 where
   pub enters : Enters s.size lines (entry_store lines)
   pub entered : cost lines ≤ s.limit → run_outcome s lines

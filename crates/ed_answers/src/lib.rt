@@ -3,10 +3,9 @@
 //!
 //! Contract: the reply to a tape, to a tape of May 1949 and to a source is that of the definition; each source is
 //! accepted with one list of lines or refused for one fault, and the Initial Orders on the tape of an accepted one lead
-//! to the state at its entry at the stated cost, cell by cell; the laws between these answers. The Initial Orders are
-//! obeyed one by one from Start, and print nothing. A reply is two texts and a status; an input that is refused has a
-//! reply too. Depends on `ed_syntax`, `ed_link`, `ed_initial1`, `ed_postmortem` and
-//! `ed_report`.
+//! to the state at its entry at the stated cost, cell by cell. The Initial Orders are obeyed one by one from Start, and
+//! print nothing. A reply is two texts and a status; an input that is refused has a reply too. Depends on `ed_syntax`,
+//! `ed_link`, `ed_initial1`, `ed_postmortem` and `ed_report`.
 #![tactic(auto)]
 
 mod check;

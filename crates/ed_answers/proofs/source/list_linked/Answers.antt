@@ -11,5 +11,5 @@ list_words-requires c =
 
 pub returns : goal.returns
 returns c =
-    listing_gives c.args.size c.args.linked.now _ _ c.list_words.result c.in_ok-machine.ensures.entry c.deref.ensures.value
+    listing_gives _ c.args.linked.now _ _ c.list_words.result c.in_ok-machine.ensures.entry c.deref.ensures.value
     c.list_words.ensures
