@@ -1,6 +1,6 @@
 -- From the stages of a part to the report.
 use Rattle.ed_interlude.proofs.Kit.{Err, T_F, Ending, append_assoc, address, [], ap, arith, inl, inr, length, List}
-use Rattle.ed_interlude.proofs.Kit.{Option, refl, subst, suc, sym, ℕ, ◌*◌, ◌++◌, ◌+◌, ◌-◌, ◌/◌, ◌∙◌, ◌≡◌, ◌≤◌, ◌⊎◌}
+use Rattle.ed_interlude.proofs.Kit.{Option, refl, subst, suc, sym, ℕ, ◌*◌, ◌++◌, ◌+◌, ◌-◌, ◌/◌, ◌∙◌, ◌≡◌, ◌≤◌}
 use Rattle.ed_interlude.proofs.Kit.{State, state_after, TapeEntry, Failed, Memory, gains_more, gains_none}
 use Rattle.ed_interlude.proofs.Kit.{returned_line, entry_done, entry_report, finished, Finishes, first_part, GoesBack}
 use Rattle.ed_interlude.proofs.Kit.{LeadsTo, part_after, part_entry_state, part_report, PartsReport, read_before}

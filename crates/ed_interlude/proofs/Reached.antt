@@ -1,7 +1,6 @@
 -- The Initial Orders lead every part to the state at its entry.
-use Rattle.ed_interlude.proofs.Kit.{cases_eq, eq-eqb, ne_eqb, Bool, false, if◌then◌else◌, inl, inr, nat_eq, subst}
-use Rattle.ed_interlude.proofs.Kit.{true, ◌≡◌, ◌⊎◌, TapeEntry, opening, LeadsIn, Begins, LeadsTo, TapePart, reopening}
-use Rattle.ed_notation.specs.Faults.{RowsReachEntry, WellFormed}
+use Rattle.ed_interlude.proofs.Kit.{cases_eq, eq-eqb, ne_eqb, inl, inr}
+use Rattle.ed_interlude.proofs.Kit.{TapeEntry, LeadsIn, Begins, LeadsTo, TapePart}
 use Rattle.ed_initial.proofs.Quiet.{comes_in}
 use Rattle.ed_interlude.specs.Laws.{EachEntryIsReached}
 use Rattle.ed_interlude.proofs.Resumed.{leads_back}

@@ -1,5 +1,5 @@
 -- If parts end by the end of a program or at the limit, the run of the whole tape ends too.
-use Rattle.ed_interlude.proofs.Kit.{same_Some, Ending, Limit, Stopped, Turn, Printed, Went, append_assoc, rules}
+use Rattle.ed_interlude.proofs.Kit.{same_Some, Ending, Limit, Stopped, Turn, append_assoc, rules}
 use Rattle.ed_interlude.proofs.Kit.{Progress, stops_of, end_by, TapeCause, [], ap, arith, Bool, false, inl, inr}
 use Rattle.ed_interlude.proofs.Kit.{length, List, refl, Some, subst, suc, sym, zero, ℕ, ◌++◌, ◌+◌, ◌-◌, ◌<◌, ◌∙◌, ◌≡◌}
 use Rattle.ed_interlude.proofs.Kit.{◌≤◌, ◌⊎◌, cases_lt, step, State, progress, state_after, TapeEntry, Begins}

@@ -1,8 +1,8 @@
 -- There is exactly one report on a tape in parts.
-use Rattle.ed_interlude.proofs.Kit.{Ending, address, TapeCause, [], ap, arith, inl, inr, length, refl, subst, suc, sym}
+use Rattle.ed_interlude.proofs.Kit.{Ending, address, [], ap, arith, inl, inr, length, refl, subst, suc, sym}
 use Rattle.ed_interlude.proofs.Kit.{zero, ℕ, ◌++◌, ◌+◌, ◌-◌, ◌<◌, ◌∙◌, ◌≡◌, ◌≤◌, ◌⊎◌, cases_lt, state_after, TapeEntry}
 use Rattle.ed_interlude.proofs.Kit.{returned_line, Concludes, cut, entry_done, entry_report, faulty, finished}
-use Rattle.ed_interlude.proofs.Kit.{Finishes, first_part, GoesBack, HasFault, LeadsTo, part_after, part_entry_state}
+use Rattle.ed_interlude.proofs.Kit.{Finishes, first_part, GoesBack, LeadsTo, part_after, part_entry_state}
 use Rattle.ed_interlude.proofs.Kit.{part_report, PartsReport, read_before, ReportsParts, ReturnsToLoader, TapePart}
 use Rattle.ed_interlude.proofs.Kit.{directive, Ended, Faulty}
 use Rattle.ed_interlude.specs.Laws.{EachTapeHasOneReport}
