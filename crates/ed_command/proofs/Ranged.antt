@@ -1,11 +1,11 @@
 -- The numbers of a command that words are lie in their ranges.
-use Rattle.ed_command.proofs.Kit.{codes, if◌then◌else◌, List, nat_lt, Option, option_and_then, option_map, subst, ◌&&◌}
-use Rattle.ed_command.proofs.Kit.{◌∷◌, after_first, before_first, list_any, bytes_eq, number, number_within, Text}
+use Rattle.ed_command.proofs.Kit.{if◌then◌else◌, List, nat_lt, Option, option_and_then, option_map, subst, ◌&&◌}
+use Rattle.ed_command.proofs.Kit.{◌∷◌, after_first, before_first, list_any, number, number_within, Text}
 use Rattle.ed_command.proofs.Kit.{Size, [], arith, Bool, false, None, refl, Some, sym, true, ℕ, ◌+◌, ◌<◌, ◌≡◌, ◌≤◌}
-use Rattle.ed_command.proofs.Kit.{nat_tests, NewLine, call_of, command, command_of, division, line_named, lines}
+use Rattle.ed_command.proofs.Kit.{nat_tests, call_of, command, command_of, division, line_named, lines}
 use Rattle.ed_command.proofs.Kit.{TableLine, with_only, all_settings, limit_of, option_value, Options, post_mortem_of}
 use Rattle.ed_command.proofs.Kit.{resumes_of, is_comma, window, window_named, Action}
-use Rattle.std.proofs.Common.{◌*◌, lit≤, IfSome, nat_le, rules}
+use Rattle.std.proofs.Common.{◌*◌, IfSome, nat_le, rules}
 use Rattle.std.specs.List.{AllByRecursion}
 use Rattle.ed_words.specs.Decimals.{in_range}
 use Rattle.ed_words.specs.Sizes.{locations}
@@ -14,7 +14,7 @@ use Rattle.ed_run.specs.declared.settings.Settings.{Settings}
 use Rattle.ed_run.specs.declared.settings.Window.{Window}
 use Rattle.ed_library.specs.CallRanges.{IsCallInRange}
 use Rattle.ed_library.specs.declared.call.Call.{Call}
-use Rattle.ed_library.specs.declared.call.Call.TheVariants.{Print, Read, Divide, Root, Check}
+use Rattle.ed_library.specs.declared.call.Call.TheVariants.{Divide}
 use Rattle.ed_command.specs.Lines.{alone, one_number, with_division}
 use Rattle.ed_command.specs.Ranges.{IsActionInRange, IsInRange}
 use Rattle.ed_command.specs.declared.command.Command.{Command}
