@@ -43,10 +43,6 @@ and_part a b c xs ys whole g = record {
   gains = gains_more a b c xs g.part whole g.gains;
 }
 
--- the empty text is a prefix of every text
-none_of : (a : Option (List ℕ)) (text : List ℕ) → GainsPart a a text
-none_of a text = record { part = []; rest = text; whole = refl; gains = gains_none a }
-
 module _ (limit rows : ℕ) (p : TapePart) where
   -- ---- what breaks off
 
@@ -57,7 +53,7 @@ module _ (limit rows : ℕ) (p : TapePart) where
         returns = t.0;
         tale = t.1;
         told = t.2;
-        gains = none_of a t.1.text;
+        gains = record { part = []; rest = t.1.text; whole = refl; gains = gains_none a };
       }
 
   -- after the lines of a part that returned, a prefix of a text is written

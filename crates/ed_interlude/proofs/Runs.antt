@@ -70,11 +70,8 @@ no_fault : (part row : ℕ) (cause : TapeCause) (ending : Ending) → Faulty par
 no_fault part row cause ending e = cc
 
 module _ (left : ℕ) (m : State) where
-  run_free : (k : ℕ) → RunsOn left k m → AreObeyed k m
-  run_free k runs j h = search rules
-
   run_walk : (k : ℕ) → RunsOn left k m → (progress k m).stops ≡ 0 → Walks k m (state_after k m) (progress k m).codes
-  run_walk k runs none = record { there = refl; free = run_free k runs; stops = none; prints = refl }
+  run_walk k runs none = record { there = refl; free = λ j h. search rules; stops = none; prints = refl }
 
 -- ---- the end of the run
 
