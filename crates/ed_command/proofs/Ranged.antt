@@ -136,7 +136,8 @@ demo_in arguments = mapped _ IsActionInRange doing.Demo _ (λ n h. h) (one_withi
 all_in : AllByRecursion IsLineInRange lines
 all_in = search (rules, no_number_in, asked_in, demo_in)
 
-named_in : (ls : List TableLine) (word : Text) → AllByRecursion IsLineInRange ls → IfSome (line_named ls word) IsLineInRange
+named_in : (ls : List TableLine) (word : Text) → AllByRecursion IsLineInRange ls
+    → IfSome (line_named ls word) IsLineInRange
 named_in [] word all = tt
 named_in (l ∷ ls) word all = either_in IsLineInRange _ (Some l) _ all.0 (named_in ls word all.1)
 
