@@ -6,8 +6,10 @@ use Rattle.ed_command.proofs.Kit.{refl, Some, sym, true, ℕ, ◌+◌, ◌<◌, 
 use Rattle.ed_command.proofs.Kit.{command, command_of, division, line_named, lines, TableLine, with_only, option_value}
 use Rattle.ed_command.proofs.Kit.{Options, settings_of, Action}
 use Rattle.std.proofs.Common.{◌≢◌, ◌-◌, take}
+use Rattle.std.proofs.lemmas.Bool.{false_from_ne_true}
 use Rattle.std.proofs.lemmas.List.{take_all}
 use Rattle.ed_words.specs.declared.size.Size.TheVariants.{Full}
+use Rattle.ed_command.proofs.Lookups.{either_way}
 use Rattle.ed_command.specs.Held.{action_by, call_with}
 use Rattle.ed_command.specs.Settings.{has_only}
 use Rattle.ed_command.specs.Windows.{size_named}
@@ -18,51 +20,32 @@ use Rattle.ed_command.specs.declared.lines.TableLine as held
 
 -- ---- calls
 
-differs_by : (x y : Text) (c : Bool) → bytes_eq x y ≡ c → x ≢ y → c ≡ false
-differs_by x y true e h = absurd (h ((bytes_eq-Decides x y).0 e))
-differs_by x y false e h = refl
-
 differs : (x y : Text) → x ≢ y → bytes_eq x y ≡ false
-differs x y h = differs_by x y (bytes_eq x y) refl h
-
-neither : {A : Type 0} (c : Bool) (o : Option A) → o ≡ None → (if c then None else o) ≡ None
-neither true o e = refl
-neither false o e = e
+differs x y h = false_from_ne_true _ (λ e. h ((bytes_eq-Decides x y).0 e))
 
 -- a name alone is a call only if it is `newline`
 pub name_alone : (arguments : List (Bor Text)) (x : Bor Text) → 1 ≤ length arguments → length arguments < 2
     → (slice_index_or arguments 0 x).now ≢ codes "newline" → call_of (map (λ a. a.now) arguments) ≡ None
-name_alone [] x least most h = absurd (omega (arith, least))
-name_alone (name ∷ []) x least most h =
-    let is = bytes_eq name.now in
-    rw (differs name.now _ h)
-    (neither (is (codes "print")) _ (neither (is (codes "read")) _ (neither (is (codes "divide")) _
-    (neither (is (codes "root")) _ (neither (is (codes "check")) None refl)))))
-name_alone (name ∷ more ∷ others) x least most h = absurd (omega (arith, most))
+name_alone (name ∷ []) x least most h = simp (differs name.now _ h, either_way)
+name_alone arguments x least most h = absurd (omega arith)
 
 -- a name and two numbers are a call only if it is `divide`
 pub two_numbers : (arguments : List (Bor Text)) (x : Bor Text) → 3 ≤ length arguments → length arguments < 4
     → (slice_index_or arguments 0 x).now ≢ codes "divide" → call_of (map (λ a. a.now) arguments) ≡ None
-two_numbers (name ∷ n ∷ by ∷ []) x least most h =
-    let is = bytes_eq name.now in
-    rw (differs name.now _ h)
-    (neither (is (codes "print")) _ (neither (is (codes "read")) _ (neither (is (codes "newline")) _
-    (neither (is (codes "root")) _ (neither (is (codes "check")) None refl)))))
-two_numbers (name ∷ n ∷ by ∷ more ∷ others) x least most h = absurd (omega (arith, most))
-two_numbers arguments x least most h = absurd (omega (arith, least))
+two_numbers (name ∷ n ∷ by ∷ []) x least most h = simp (differs name.now _ h, either_way)
+two_numbers arguments x least most h = absurd (omega arith)
 
 -- no arguments, and too many
 pub no_name : (arguments : List (Bor Text)) → length arguments < 1 → call_of (map (λ a. a.now) arguments) ≡ None
 no_name [] most = refl
-no_name (name ∷ others) most = absurd (omega (arith, most))
+no_name arguments most = absurd (omega arith)
 
 -- `newline`
 pub newline_alone : (arguments : List (Bor Text)) (x : Bor Text) → 1 ≤ length arguments → length arguments < 2
     → (slice_index_or arguments 0 x).now ≡ codes "newline"
     → call_of (map (λ a. a.now) arguments) ≡ Some NewLine
-newline_alone [] x least most is = absurd (omega (arith, least))
 newline_alone (name ∷ []) x least most is = rw is refl
-newline_alone (name ∷ more ∷ others) x least most is = absurd (omega (arith, most))
+newline_alone arguments x least most is = absurd (omega arith)
 
 -- `divide`
 pub call_of-divided : (arguments : List (Bor Text)) (x : Bor Text) → 3 ≤ length arguments → length arguments < 4
@@ -70,46 +53,28 @@ pub call_of-divided : (arguments : List (Bor Text)) (x : Bor Text) → 3 ≤ len
     → call_of (map (λ a. a.now) arguments)
     ≡ division (number (slice_index_or arguments 1 x).now) (number_within 1 32767 (slice_index_or arguments 2 x).now)
 call_of-divided (name ∷ n ∷ by ∷ []) x least most is = rw is refl
-call_of-divided (name ∷ n ∷ by ∷ more ∷ others) x least most is = absurd (omega (arith, most))
-call_of-divided arguments x least most is = absurd (omega (arith, least))
-
-word_is : (name word : Text) → bytes_eq name word ≡ true → name ≡ word
-word_is name word e = (bytes_eq-Decides name word).0 e
+call_of-divided arguments x least most is = absurd (omega arith)
 
 -- a name whose calls take one number, or another name
-one_number_by : (name n : Text) (o : Option ℕ) → number_within 0 65535 n ≡ o
+one_number_by : (name n : Text) (o : Option ℕ) {c d : Bool} → bytes_eq name (codes "newline") ≡ c
+    → bytes_eq name (codes "divide") ≡ d → number_within 0 65535 n ≡ o
     → call_of (name ∷ n ∷ []) ≡ option_and_then (call_with name) o
-one_number_by name n o is = by_words (is_name (codes "newline")) (is_name (codes "divide")) refl refl o is
-  where
-    is_name : Text → Bool
-    is_name = bytes_eq name
-
-    by_words : (c d : Bool) → is_name (codes "newline") ≡ c → is_name (codes "divide") ≡ d → (o : Option ℕ)
-        → number_within 0 65535 n ≡ o → call_of (name ∷ n ∷ []) ≡ option_and_then (call_with name) o
-    by_words true d e f None is = rw (word_is name (codes "newline") e) refl
-    by_words true d e f (Some k) is = rw (word_is name (codes "newline") e) refl
-    by_words false true e f None is = rw (word_is name (codes "divide") f) refl
-    by_words false true e f (Some k) is = rw (word_is name (codes "divide") f) refl
-    by_words false false e f None is =
-        rw (is, e, f) (neither (is_name (codes "print")) _ (neither (is_name (codes "read")) _
-        (neither _ _ (neither _ None refl))))
-    by_words false false e f (Some k) is = rw (is, e, f) refl
+one_number_by name n None e f is = simp (is, either_way)
+one_number_by name n (Some k) {c = true} e f is = rw ((bytes_eq-Decides name _).0 e) refl
+one_number_by name n (Some k) {c = false} {d = true} e f is = rw ((bytes_eq-Decides name _).0 f) refl
+one_number_by name n (Some k) {c = false} {d = false} e f is = rw (is, e, f) refl
 
 -- a name and one number
 pub one_number_after : (arguments : List (Bor Text)) (x : Bor Text) (o : Option ℕ) → 2 ≤ length arguments
     → length arguments < 3 → o ≡ number_within 0 65535 (slice_index_or arguments 1 x).now
     → call_of (map (λ a. a.now) arguments) ≡ option_and_then (call_with (slice_index_or arguments 0 x).now) o
-one_number_after (name ∷ n ∷ []) x o least most is = one_number_by name.now n.now o (sym is)
-one_number_after (name ∷ n ∷ more ∷ others) x o least most is = absurd (omega (arith, most))
-one_number_after arguments x o least most is = absurd (omega (arith, least))
+one_number_after (name ∷ n ∷ []) x o least most is = one_number_by name.now n.now o refl refl (sym is)
+one_number_after arguments x o least most is = absurd (omega arith)
 
 -- too many numbers
 pub many_numbers : (arguments : List (Bor Text)) → 4 ≤ length arguments → call_of (map (λ a. a.now) arguments) ≡ None
-many_numbers (name ∷ n ∷ by ∷ more ∷ others) least =
-    let is = bytes_eq name.now in
-    neither (is (codes "print")) _ (neither (is (codes "read")) _ (neither (is (codes "newline")) _
-    (neither (is (codes "divide")) _ (neither (is (codes "root")) _ (neither (is (codes "check")) None refl)))))
-many_numbers arguments least = absurd (omega (arith, least))
+many_numbers (name ∷ n ∷ by ∷ more ∷ others) least = simp either_way
+many_numbers arguments least = absurd (omega arith)
 
 -- ---- actions
 
@@ -128,9 +93,8 @@ not_alone action known (argument ∷ others) is least = rw is refl
 pub demo_by : (action : LineAction) (arguments : List (Bor Text)) (x : Bor Text) (o : Option ℕ) → action ≡ Demonstrates
     → 1 ≤ length arguments → length arguments < 2 → o ≡ number_within 1 112 (slice_index_or arguments 0 x).now
     → option_map Demo o ≡ action_by action (map (λ a. a.now) arguments)
-demo_by action [] x o is least most number = absurd (omega (arith, least))
 demo_by action (text ∷ []) x o is least most number = rw (is, number) refl
-demo_by action (text ∷ more ∷ others) x o is least most number = absurd (omega (arith, most))
+demo_by action arguments x o is least most number = absurd (omega arith)
 
 pub demo_of_none : (action : LineAction) (arguments : List (Bor Text)) → action ≡ Demonstrates → length arguments < 1
     → action_by action (map (λ a. a.now) arguments) ≡ None
@@ -148,21 +112,16 @@ demo_of_many action arguments is least = absurd (omega (arith, least))
 pub no_size : (values : List (Bor Text)) (x : Bor Text) → 1 ≤ length values → length values < 2
     → (slice_index_or values 0 x).now ≢ codes "512" → (slice_index_or values 0 x).now ≢ codes "1024"
     → option_value Full size_named (map (λ v. v.now) values) ≡ None
-no_size [] x least most h k = absurd (omega (arith, least))
 no_size (value ∷ []) x least most h k = simp (differs value.now _ h, differs value.now _ k)
-no_size (value ∷ more ∷ others) x least most h k = absurd (omega (arith, most))
+no_size values x least most h k = absurd (omega arith)
 
 -- ---- lines
 
 -- the command of a line that was found
-taken : (l : TableLine) (o : Options) (arguments : List Text) → has_only l.options o ≡ true
-    → with_only l.options o (l.action arguments) ≡ command (l.action arguments) (settings_of o)
-taken l o arguments h = simp h
-
 line_taken : (t : Option TableLine) (l : TableLine) → Some l ≡ t → (o : Options) (arguments : List Text)
     → has_only l.options o ≡ true
     → option_and_then (λ l. with_only l.options o (l.action arguments)) t ≡ command (l.action arguments) (settings_of o)
-line_taken t l e o arguments h = rw (← e) (taken l o arguments h)
+line_taken t l e o arguments h = rw (← e) (simp h)
 
 -- the command of the words, by the line that the first of them begins
 pub command_found : (words : List (Bor Text)) (x : Bor Text) (line : held.TableLine) (o : Options) → 1 ≤ length words
@@ -172,9 +131,7 @@ pub command_found : (words : List (Bor Text)) (x : Bor Text) (line : held.TableL
     ≡ command (action_by line.action (map (λ a. a.now) (take (length words - 1) (drop 1 words)))) (settings_of o)
 command_found [] x line o least is h = absurd (omega (arith, least))
 command_found (word ∷ arguments) x line o least is h =
-    let many : length arguments ≤ length (word ∷ arguments) - 1 = omega arith in
-    let rest : take (length (word ∷ arguments) - 1) arguments ≡ arguments = take_all _ arguments many in
-    rw rest (line_taken _ _ is o _ h)
+    rw (take_all (length (word ∷ arguments) - 1) arguments (omega arith)) (line_taken _ _ is o _ h)
 
 -- at a line of the table, in a search from the first one on: it is the one that begins with the word, or a later one is
 pub at_line : (ls : List held.TableLine) (i : ℕ) (d : held.TableLine) (word : Text) (c : Bool) → i < length ls

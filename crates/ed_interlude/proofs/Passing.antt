@@ -1,6 +1,6 @@
 -- From the stages of a part to the report.
 use Rattle.ed_interlude.proofs.Kit.{Err, T_F, Ending, append_assoc, address, [], ap, arith, inl, inr, length, List}
-use Rattle.ed_interlude.proofs.Kit.{Option, refl, subst, suc, sym, ℕ, ◌*◌, ◌++◌, ◌+◌, ◌-◌, ◌/◌, ◌∙◌, ◌≡◌, ◌≤◌, ◌⊎◌}
+use Rattle.ed_interlude.proofs.Kit.{Option, refl, subst, suc, sym, ℕ, ◌*◌, ◌++◌, ◌+◌, ◌-◌, ◌/◌, ◌∙◌, ◌≡◌, ◌≤◌}
 use Rattle.ed_interlude.proofs.Kit.{State, state_after, TapeEntry, Failed, Memory, gains_more, gains_none}
 use Rattle.ed_interlude.proofs.Kit.{returned_line, entry_done, entry_report, finished, Finishes, first_part, GoesBack}
 use Rattle.ed_interlude.proofs.Kit.{LeadsTo, part_after, part_entry_state, part_report, PartsReport, read_before}
@@ -14,7 +14,7 @@ use Rattle.ed_machine.proofs.Keeping.{steps_follow}
 use Rattle.ed_io.specs.Bytes.{Gains, GainsPart}
 use Rattle.ed_io.specs.declared.stop.WriteStop.{WriteStop}
 use Rattle.ed_report.specs.Entries.{entry_line}
-use Rattle.ed_interlude.specs.Parts.{PartsAnswer, IsReportOfTape, BreaksPart, ReachesPart, of_entry, of_return}
+use Rattle.ed_interlude.specs.Parts.{PartsAnswer, IsReportOfTape, BreaksPart, ReachesPart, PartLine, WritesLine}
 use Rattle.ed_interlude.specs.Parts.{return_report}
 use Rattle.ed_interlude.specs.Private.Stages.{BreaksReport, Passes}
 use Rattle.ed_interlude.specs.declared.part.PartOutcome.TheVariants.{Ended as PartEnded, Returned as PartReturned}
@@ -43,10 +43,6 @@ and_part a b c xs ys whole g = record {
   gains = gains_more a b c xs g.part whole g.gains;
 }
 
--- the empty text is a prefix of every text
-none_of : (a : Option (List ℕ)) (text : List ℕ) → GainsPart a a text
-none_of a text = record { part = []; rest = text; whole = refl; gains = gains_none a }
-
 module _ (limit rows : ℕ) (p : TapePart) where
   -- ---- what breaks off
 
@@ -57,7 +53,7 @@ module _ (limit rows : ℕ) (p : TapePart) where
         returns = t.0;
         tale = t.1;
         told = t.2;
-        gains = none_of a t.1.text;
+        gains = record { part = []; rest = t.1.text; whole = refl; gains = gains_none a };
       }
 
   -- after the lines of a part that returned, a prefix of a text is written
@@ -75,56 +71,29 @@ module _ (limit rows : ℕ) (p : TapePart) where
   -- the line of the entry breaks off
   pub entry_breaks : (e : TapeEntry) {a c : Option (List ℕ)} → LeadsTo p e → entry_done p e ≤ limit
       → GainsPart a c (entry_report rows p e) → BreaksReport limit rows p a c
-  entry_breaks e {a} {c} leads within g = by_program (from_entry limit rows p e leads within)
-    where
-      by_program : ((k : ℕ) × (ending : Ending) × Finishes (limit - entry_done p e) k (part_entry_state p e) ending)
-          ⊎ ((k : ℕ) × ReturnsToLoader (limit - entry_done p e) k (part_entry_state p e))
-          → BreaksReport limit rows p a c
-      by_program (inl f) =
-          record { returns = 0; tale = _; told = finished e f.0 f.1 leads within f.2 refl; gains = g }
-      by_program (inr h) =
-          back_breaks (record { entry = e; leads = leads; within = within; orders = h.0; comes = h.1 }) a c
-          (longer a c (entry_report rows p e) _ _ refl g)
+  entry_breaks e {a} {c} leads within g =
+      elim (from_entry limit rows p e leads within) [
+        | inl f ↦ record { returns = 0; tale = _; told = finished e f.0 f.1 leads within f.2 refl; gains = g }
+        | inr h ↦
+            back_breaks (record { entry = e; leads = leads; within = within; orders = h.0; comes = h.1 }) a c
+            (longer a c (entry_report rows p e) _ _ refl g)
+      ]
 
-  -- the part breaks off at the line of its entry
-  pub entry_stops : (e : TapeEntry) {last : State} {a c : Option (List ℕ)} → LeadsTo p e → entry_done p e ≤ limit
-      → last ≡ part_entry_state p e → (fault : WriteStop) → GainsPart a c (entry_report rows p e)
-      → (fault ≡ Memory → c ≡ a) → BreaksPart limit rows p fault last a c
-  entry_stops e leads within state Failed g same = record {
-    line = _;
-    is = of_entry e leads within refl;
-    state_is = state;
-    part = g.part;
-    rest = g.rest;
-    whole = g.whole;
-    gains = g.gains;
-  }
-  entry_stops e {last} {a} {c} leads within state Memory g same = inr (record {
-    line = _;
-    is = of_entry e leads within refl;
-    state_is = state;
-    gains = subst (λ (x : Option (List ℕ)). Gains a x []) (sym (same refl)) (gains_none a);
-  })
-
-  pub return_stops : (b : GoesBack limit p) {last : State} (a c d : Option (List ℕ))
-      → last ≡ (part_after p b).state → Gains a c (entry_report rows p b.entry)
-      → (fault : WriteStop) → GainsPart c d (return_report p b) → (fault ≡ Memory → d ≡ c)
+  -- the part breaks off at a line, after the lines before it
+  pub line_stops : {l : PartLine} {last : State} (a c d : Option (List ℕ)) → WritesLine limit rows p l → last ≡ l.state
+      → Gains a c l.before → (fault : WriteStop) → GainsPart c d l.text → (fault ≡ Memory → d ≡ c)
       → BreaksPart limit rows p fault last a d
-  return_stops b {last} a c d state whole Failed g same = record {
-    line = _;
-    is = of_return b refl;
+  line_stops {l} a c d is state before Failed g same = record {
+    line = l;
+    is = is;
     state_is = state;
     part = g.part;
     rest = g.rest;
     whole = g.whole;
-    gains = gains_more a c d (entry_report rows p b.entry) g.part whole g.gains;
+    gains = gains_more a c d l.before g.part before g.gains;
   }
-  return_stops b {last} a c d state whole Memory g same = inr (record {
-    line = _;
-    is = of_return b refl;
-    state_is = state;
-    gains = subst (λ (x : Option (List ℕ)). Gains a x (entry_report rows p b.entry)) (sym (same refl)) whole;
-  })
+  line_stops {l} a c d is state before Memory g same =
+      inr (record { line = l; is = is; state_is = state; gains = rw (same refl) before })
 
   -- the line of the return breaks off
   pub return_breaks : (b : GoesBack limit p) {a c d : Option (List ℕ)} → Gains a c (entry_report rows p b.entry)

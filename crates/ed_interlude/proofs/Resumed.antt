@@ -14,17 +14,10 @@ use Rattle.ed_interlude.specs.Returned.{IsRestWellFormed, ReachesNextEntry}
 use Rattle.ed_interlude.proofs.Reopened.{held, reopens, state-reopened, return_path}
 
 pub is_directive : (s : State) → LeavesDirective s → IsDirective (directive s)
-is_directive s leaves =
-    let least = leaves.least in
-    let most = leaves.most in
-    omega arith
+is_directive s leaves = omega (arith, leaves.least, leaves.most)
 
 is_note : (s : State) → LeavesDirective s → get_or s.store.words 42 0 < 2 ^ 17 → IsNotationState (reopening s)
-is_note s leaves theta =
-    let even = leaves.even in
-    let least = leaves.least in
-    let most = leaves.most in
-    omega arith
+is_note s leaves theta = omega (arith, leaves.even, leaves.least, leaves.most)
 
 pub comes_back : (s : State) → IsReturned s → IsRestWellFormed s → (e : TapeEntry) × ReachesNextEntry s e
 comes_back s back well =

@@ -1,5 +1,5 @@
 -- If parts end by the end of a program or at the limit, the run of the whole tape ends too.
-use Rattle.ed_interlude.proofs.Kit.{same_Some, Ending, Limit, Stopped, Turn, Printed, Went, append_assoc, rules}
+use Rattle.ed_interlude.proofs.Kit.{same_Some, Ending, Limit, Stopped, Turn, append_assoc, rules}
 use Rattle.ed_interlude.proofs.Kit.{Progress, stops_of, end_by, TapeCause, [], ap, arith, Bool, false, inl, inr}
 use Rattle.ed_interlude.proofs.Kit.{length, List, refl, Some, subst, suc, sym, zero, ℕ, ◌++◌, ◌+◌, ◌-◌, ◌<◌, ◌∙◌, ◌≡◌}
 use Rattle.ed_interlude.proofs.Kit.{◌≤◌, ◌⊎◌, cases_lt, step, State, progress, state_after, TapeEntry, Begins}
@@ -55,18 +55,13 @@ quiet_walk k s went = record {
 
 blocked_of : (turn : Turn) (full : Bool) (ending : Ending) → end_by turn false ≡ Some ending
     → end_by turn full ≡ Some ending
-blocked_of Went full ending h = absurd (cc)
-blocked_of (Printed code) full ending h = absurd (cc)
-blocked_of Stops full ending h = absurd (cc)
 blocked_of (IsNoOrder function) full ending h = h
 blocked_of HasNoTape full ending h = h
+blocked_of turn full ending h = absurd (cc)
 
 stop_of : (turn : Turn) → 0 < stops_of turn → turn ≡ Stops
 stop_of Stops h = refl
-stop_of Went h = absurd (omega arith)
-stop_of (Printed code) h = absurd (omega arith)
-stop_of (IsNoOrder function) h = absurd (omega arith)
-stop_of HasNoTape h = absurd (omega arith)
+stop_of turn h = absurd (omega arith)
 
 ended_is : (d e : Ending) → Ended d ≡ Ended e → d ≡ e
 ended_is d e h = cc
@@ -75,11 +70,8 @@ no_fault : (part row : ℕ) (cause : TapeCause) (ending : Ending) → Faulty par
 no_fault part row cause ending e = cc
 
 module _ (left : ℕ) (m : State) where
-  run_free : (k : ℕ) → RunsOn left k m → AreObeyed k m
-  run_free k runs j h = search rules
-
   run_walk : (k : ℕ) → RunsOn left k m → (progress k m).stops ≡ 0 → Walks k m (state_after k m) (progress k m).codes
-  run_walk k runs none = record { there = refl; free = run_free k runs; stops = none; prints = refl }
+  run_walk k runs none = record { there = refl; free = λ j h. search rules; stops = none; prints = refl }
 
 -- ---- the end of the run
 
@@ -126,8 +118,7 @@ module _ (limit : ℕ) (s : State) where
             let e : k ≡ left = omega (arith, runs_within left m k f.runs) in
             let total : a + k ≡ limit = omega arith in
             let is : Limit ≡ ending = same_Some Limit ending (sym (limit_ends left m k e none) ∙ f.ends) in
-            subst (λ (d : Ending). EndsAsRun limit s d (state_after k m) codes) is
-            (at_limit (state_after k m) codes (subst (λ n. Walks n s (state_after k m) codes) total walk))
+            rw (← is) (at_limit (state_after k m) codes (rw total at walk))
 
     -- the last one was a stop
     with_stop : (k : ℕ) (ending : Ending) → Finishes left k m ending → 0 < (progress k m).stops
@@ -145,8 +136,7 @@ module _ (limit : ℕ) (s : State) where
         let free : AreObeyed (suc (a + j)) s = free_more (a + j) s walk.free (ap is_obeyed turn) in
         let is : Stopped ≡ ending = same_Some Stopped ending (sym (stop_ends left m (suc j) many) ∙ f.ends) in
         let within = runs_within left m (suc j) f.runs in
-        let codes = before ++ (progress (suc j) m).codes in
-        subst (λ (d : Ending). EndsAsRun limit s d (state_after (suc j) m) codes) is (record {
+        rw (← is) (record {
           orders = suc (a + j);
           ends = places.at_stop limit 0 (room (suc (a + j)) (omega arith) free) walk.stops
               (omega arith) turn;
@@ -175,8 +165,7 @@ module _ (limit : ℕ) (s : State) where
   to_entry : (p : TapePart) (e : TapeEntry) (before : List ℕ) → Along p before → LeadsTo p e
       → Walks (entry_done p e) s (part_entry_state p e) before
   to_entry p e before h leads =
-      subst (λ (codes : List ℕ). Walks (entry_done p e) s (part_entry_state p e) codes) (append-nil before)
-      (and_then p.done e.cost h.walk (quiet_walk e.cost p.state (leads_in p e h.begins leads).went))
+      rw append-nil at (and_then p.done e.cost h.walk (quiet_walk e.cost p.state (leads_in p e h.begins leads).went))
 
   concludes : (p : TapePart) (before : List ℕ) (t : PartsReport) (ending : Ending) → Along p before
       → (told : Concludes limit (length s.tape) p t) → t.end ≡ Ended ending
@@ -189,21 +178,15 @@ module _ (limit : ℕ) (s : State) where
       let walk = and_then p.done left h.walk
       (quiet_walk left p.state (λ j low. went j (omega (arith, h.within)))) in
       let total : p.done + left ≡ limit = omega (arith, h.within) in
-      let codes = before ++ [] in
       let same : Limit ≡ ending = ended_is _ _ (sym (ap (λ (x : PartsReport). x.end) is) ∙ end) in
-      let there : state_after left p.state ≡ t.last = sym (ap (λ (x : PartsReport). x.last) is) in
-      subst (λ (d : Ending). EndsAsRun limit s d t.last codes) same
-      (subst (λ (x : State). EndsAsRun limit s Limit x codes) there
-      (at_limit (state_after left p.state) codes
-      (subst (λ n. Walks n s (state_after left p.state) codes) total walk)))
+      rw (← same, ap (λ (x : PartsReport). x.last) is)
+      (at_limit (state_after left p.state) (before ++ []) (rw total at walk))
   concludes p before t ending h (finished e k d leads within f is) end =
-      let codes = before ++ (progress k (part_entry_state p e)).codes in
       let same : d ≡ ending = ended_is _ _ (sym (ap (λ (x : PartsReport). x.end) is) ∙ end) in
-      let there : state_after k (part_entry_state p e) ≡ t.last = sym (ap (λ (x : PartsReport). x.last) is) in
-      subst (λ (c : Ending). EndsAsRun limit s c t.last codes) same
-      (subst (λ (x : State). EndsAsRun limit s d x codes) there
-      (program_ends (entry_done p e) (limit - entry_done p e) (part_entry_state p e) before (omega (arith, within))
-      (to_entry p e before h leads) k d f))
+      let ends = program_ends (entry_done p e) (limit - entry_done p e) (part_entry_state p e) before
+      (omega (arith, within)) (to_entry p e before h leads) k d f in
+      subst (λ (x : State). EndsAsRun limit s ending x (before ++ (progress k (part_entry_state p e)).codes))
+      (sym (ap (λ (x : PartsReport). x.last) is)) (rw same at ends)
 
   next_along : IsSound s → (p : TapePart) (before : List ℕ) (b : GoesBack limit p) → Along p before
       → Along (part_after p b) (before ++ (progress b.orders (part_entry_state p b.entry)).codes)
@@ -213,8 +196,7 @@ module _ (limit : ℕ) (s : State) where
       let walk = and_then (entry_done p b.entry) b.orders (to_entry p b.entry before h b.leads)
       (run_walk left (part_entry_state p b.entry) b.orders c.runs c.stops) in
       let few = home_within left (part_entry_state p b.entry) b.orders c in
-      let there : IsSound (part_after p b).state =
-      subst (λ (x : State). IsSound x) (sym walk.there) (sound_after _ s sound) in
+      let there : IsSound (part_after p b).state = rw walk.there (sound_after _ s sound) in
       record {
         walk = walk;
         within = omega (arith, few, b.within);
@@ -231,20 +213,13 @@ module _ (limit : ℕ) (s : State) where
       let later = printed_from limit (length s.tape) n (part_after p told.0) told.1 told.2 in
       let rest = ends sound n told.1 (before ++ codes) (next_along sound p before told.0 h) told.2
       (sym (ap (λ (x : PartsReport). x.end) told.3) ∙ end) in
-      subst (λ (x : State). EndsAsRun limit s ending x (before ++ (codes ++ later)))
-      (sym (ap (λ (x : PartsReport). x.last) told.3))
-      (subst (λ (xs : List ℕ). EndsAsRun limit s ending told.1.last xs) (append_assoc before codes later) rest)
+      rw (ap (λ (x : PartsReport). x.last) told.3, ← append_assoc before codes later) rest
 
 -- from every such state
 ends_from : (limit : ℕ) (s : State) → IsSound s → IsStarted s → EndsAsParts limit s
 ends_from limit s sound started t ending tells end =
     let first : Along limit s (first_part s) [] = record {
-      walk = record {
-        there = no_step s;
-        free = λ j h. absurd (omega arith);
-        stops = quiet_stops 0 s (λ j h. absurd (omega arith));
-        prints = quiet_codes 0 s (λ j h. absurd (omega arith));
-      };
+      walk = rw (← no_step s) at (quiet_walk 0 s (λ j h. absurd (omega arith)));
       within = omega arith;
       some = omega arith;
       begins = record { store = sound.store; first = λ e. started; further = λ ne. absurd (ne refl) };

@@ -1,8 +1,8 @@
 -- There is exactly one report on a tape in parts.
-use Rattle.ed_interlude.proofs.Kit.{Ending, address, TapeCause, [], ap, arith, inl, inr, length, refl, subst, suc, sym}
+use Rattle.ed_interlude.proofs.Kit.{Ending, address, [], ap, arith, inl, inr, length, refl, subst, suc, sym}
 use Rattle.ed_interlude.proofs.Kit.{zero, ℕ, ◌++◌, ◌+◌, ◌-◌, ◌<◌, ◌∙◌, ◌≡◌, ◌≤◌, ◌⊎◌, cases_lt, state_after, TapeEntry}
 use Rattle.ed_interlude.proofs.Kit.{returned_line, Concludes, cut, entry_done, entry_report, faulty, finished}
-use Rattle.ed_interlude.proofs.Kit.{Finishes, first_part, GoesBack, HasFault, LeadsTo, part_after, part_entry_state}
+use Rattle.ed_interlude.proofs.Kit.{Finishes, first_part, GoesBack, LeadsTo, part_after, part_entry_state}
 use Rattle.ed_interlude.proofs.Kit.{part_report, PartsReport, read_before, ReportsParts, ReturnsToLoader, TapePart}
 use Rattle.ed_interlude.proofs.Kit.{directive, Ended, Faulty}
 use Rattle.ed_interlude.specs.Laws.{EachTapeHasOneReport}
@@ -27,30 +27,17 @@ module _ (limit rows : ℕ) where
       elim c.1 [ inl home ↦ inr (c.0, home) | inr end ↦ inl (c.0, end.0, end.1) ]
 
   ends_or_back : (p : TapePart) → Opens p → ((t : PartsReport) × Concludes limit rows p t) ⊎ GoesBack limit p
-  ends_or_back p opens = by_rules (fault_or_entry p opens)
-    where
-      by_program : (e : TapeEntry) → LeadsTo p e → (within : entry_done p e ≤ limit)
-          → ((k : ℕ) × (ending : Ending) × Finishes (limit - entry_done p e) k (part_entry_state p e) ending)
-          ⊎ ((k : ℕ) × ReturnsToLoader (limit - entry_done p e) k (part_entry_state p e))
-          → ((t : PartsReport) × Concludes limit rows p t) ⊎ GoesBack limit p
-      by_program e leads within (inl f) = inl (_, finished e f.0 f.1 leads within f.2 refl)
-      by_program e leads within (inr h) = inr (record {
-        entry = e;
-        leads = leads;
-        within = within;
-        orders = h.0;
-        comes = h.1;
-      })
-
-      by_limit : (e : TapeEntry) → LeadsTo p e → (limit < entry_done p e) ⊎ (entry_done p e ≤ limit)
-          → ((t : PartsReport) × Concludes limit rows p t) ⊎ GoesBack limit p
-      by_limit e leads (inl short) = inl (_, cut e leads short refl)
-      by_limit e leads (inr within) = by_program e leads within (from_entry p e leads within)
-
-      by_rules : ((row : ℕ) × (cause : TapeCause) × HasFault p row cause) ⊎ ((e : TapeEntry) × LeadsTo p e)
-          → ((t : PartsReport) × Concludes limit rows p t) ⊎ GoesBack limit p
-      by_rules (inl f) = inl (_, faulty f.0 f.1 f.2 refl)
-      by_rules (inr l) = by_limit l.0 l.1 (cases_lt limit (entry_done p l.0))
+  ends_or_back p opens =
+      elim (fault_or_entry p opens) [
+        | inl f ↦ inl (_, faulty f.0 f.1 f.2 refl)
+        | inr l ↦ elim (cases_lt limit (entry_done p l.0)) [
+          | inl short ↦ inl (_, cut l.0 l.1 short refl)
+          | inr within ↦ elim (from_entry p l.0 l.1 within) [
+            | inl f ↦ inl (_, finished l.0 f.0 f.1 l.1 within f.2 refl)
+            | inr h ↦ inr (record { entry = l.0; leads = l.1; within = within; orders = h.0; comes = h.1 })
+          ]
+        ]
+      ]
 
   by_fuel : (fuel : ℕ) (p : TapePart) → Opens p → limit < p.done + fuel
       → (n : ℕ) × (t : PartsReport) × ReportsParts limit rows n p t

@@ -1,11 +1,11 @@
 -- Runs over devices whose calls never fail.
-use Rattle.ed_top.proofs.Kit.{next_count, Answer, known, of_input, of_made, [], arith, Bool, false, inl, inr, None}
+use Rattle.ed_top.proofs.Kit.{next_count, Answer, known, of_input, of_made, [], Bool, false, inl, inr, None}
 use Rattle.ed_top.proofs.Kit.{refl, Some, subst, sym, ℕ, ◌≡◌, ◌≢◌, ◌⊎◌, Text, Outcome, Gains, ForDue, ProgramEnded}
 use Rattle.ed_top.proofs.Kit.{output}
 use Rattle.std.proofs.Common.{if◌then◌else◌}
+use Rattle.std.proofs.lemmas.Bool.{cases_eq}
 use Rattle.ed_io.specs.Memory.{Roll}
 use Rattle.ed_answers.specs.Answer.{IsDue}
-use Rattle.ed_top.specs.Clause.{NoteFailed, OutFailed}
 use Rattle.ed_top.specs.Complete.{EachRunIsComplete, IsWhole, sure_sink, sure_source}
 use Rattle.ed_top.proofs.Endings.{due_told}
 
@@ -44,22 +44,10 @@ module _ (answer : Answer) (input left : Text) (out_room note_room : ℕ) (out n
   not_read is = no_fault (e.read is).1
 
   not_written : status ≢ 9
-  not_written is = by_sink (e.written is)
-    where
-      by_sink : OutFailed answer (sure_source input left) (sure_sink out_room out) (sure_sink note_room note)
-          ⊎ NoteFailed answer (sure_source input left) (sure_sink out_room out) (sure_sink note_room note) → ⊥
-      by_sink (inl b) = no_fault b.failed
-      by_sink (inr b) = no_fault b.failed
+  not_written is = elim (e.written is) [ inl b ↦ no_fault b.failed | inr b ↦ no_fault b.failed ]
 
   complete : (status ≡ 10) ⊎ IsWhole answer input out note status
-  complete = by_status (is_or_not status)
-    where
-      is_or_not : (n : ℕ) → (n ≡ 10) ⊎ (n ≢ 10)
-      is_or_not n = grind arith
-
-      by_status : (status ≡ 10) ⊎ (status ≢ 10) → (status ≡ 10) ⊎ IsWhole answer input out note status
-      by_status (inl is) = inl is
-      by_status (inr other) = inr (whole not_read not_written other)
+  complete = elim (cases_eq status 10) [ inl is ↦ inl is | inr other ↦ inr (whole not_read not_written other) ]
 
 -- the same for every run
 pub each_complete : EachRunIsComplete

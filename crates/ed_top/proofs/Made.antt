@@ -1,5 +1,6 @@
 -- Replies with an outcome that is stated: from one of an input and back, and that no memory was found, passed on by
 -- `?`.
+use Rattle.ed_top.proofs.Kit.{Answer, ForInput}
 use Rattle.ed_top.proofs.Kit.{Vec, Global, Settings, of_input, of_made, Rejection, Refused, Reply, [], Err, IfOk}
 use Rattle.ed_top.proofs.Kit.{IsErr, IsErrAnd, Ok, refl, Result, subst, sym, ℕ, ◌≡◌, Text, Outcome, refusal, Gives}
 use Rattle.ed_top.proofs.Kit.{Replies, OfSource, run_outcome}
@@ -34,19 +35,21 @@ handed_on answers (Ok reply) e replies is = absurd (cc)
 handed_on answers (Err handed) e replies is =
     subst (λ (x : Rejection). Replies (of_made answers) [] (Err x)) (sym is.1) replies
 
--- an outcome of an input is one that is stated of it, and conversely
+-- what a reply says of one answer, it says of another that allows what the first allows
+pub replies_more : (a b : Answer) (i j : Text) (r : Result Reply Rejection)
+    → ((P : Outcome → Type 0) → ForInput a i P → ForInput b j P) → Replies a i r → Replies b j r
+replies_more a b i j (Ok reply) more replies = more _ replies
+replies_more a b i j (Err (Refused reply)) more replies = more _ replies
+replies_more a b i j (Err Memory) more replies = more _ replies
+
+-- an outcome of an input is one that is stated of it
 pub as_made : (answers : Text → Outcome → Type 0) (input : Text) (r : Result Reply Rejection)
     → Replies (of_input answers) input r → Replies (of_made (answers input)) [] r
-as_made answers input (Ok reply) replies = replies
-as_made answers input (Err (Refused reply)) replies = replies
-as_made answers input (Err Memory) replies = replies
+as_made answers input r = replies_more (of_input answers) (of_made (answers input)) input [] r (λ P p. p)
 
 -- a reply to a source that was made is its answer
 pub made_replied : (s : Settings) (text input : Text) (r : Result Reply Rejection) → input ≡ text
     → Replies (of_source s.size (run_outcome s)) input r → Replies (of_made_source s text) [] r
-made_replied s text input (Err Memory) is replies =
-    (replies.0, subst (λ (t : Text). OfSource s.size (run_outcome s) t replies.0) is replies.1, tt)
-made_replied s text input (Err (Refused reply)) is replies =
-    (replies.0, subst (λ (t : Text). OfSource s.size (run_outcome s) t replies.0) is replies.1, replies.2)
-made_replied s text input (Ok reply) is replies =
-    (replies.0, subst (λ (t : Text). OfSource s.size (run_outcome s) t replies.0) is replies.1, replies.2)
+made_replied s text input r is =
+    replies_more (of_source s.size (run_outcome s)) (of_made_source s text) input [] r
+    (λ P p. (p.0, subst (λ (t : Text). OfSource s.size (run_outcome s) t p.0) is p.1, p.2))

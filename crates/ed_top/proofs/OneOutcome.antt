@@ -1,8 +1,8 @@
 -- For all words, each input has exactly one outcome.
 use Rattle.ed_top.proofs.Kit.{Settings, one_lines, no_text_line, HasOneOutcome, of_input, usage_outcome, ap, inl, inr}
-use Rattle.ed_top.proofs.Kit.{length, List, None, refl, Some, subst, sym, ℕ, ◌+◌, ◌∙◌, ◌≡◌, ◌⊎◌, Text, tape, done}
-use Rattle.ed_top.proofs.Kit.{Outcome, refusal, run_outcome, exactly_one, some_outcome, IsDivided, CommandList}
-use Rattle.ed_top.proofs.Kit.{IsFirstBadLine, TextKind, Input, IsScript, call_text, demo_text, answer, on_rows}
+use Rattle.ed_top.proofs.Kit.{length, List, None, refl, Some, subst, sym, ◌+◌, ◌∙◌, ◌≡◌, Text, tape, done}
+use Rattle.ed_top.proofs.Kit.{Outcome, refusal, run_outcome, exactly_one, some_outcome, CommandList}
+use Rattle.ed_top.proofs.Kit.{TextKind, Input, call_text, demo_text, answer, on_rows}
 use Rattle.ed_top.proofs.Kit.{OnInput, OnText, StepOutcome, trace_outcome}
 use Rattle.ed_answers.proofs.Kit.{tape1_outcome, listing_outcome, punch_outcome, tape_outcome}
 use Rattle.ed_command.specs.declared.command.Action.{Action}
@@ -14,7 +14,6 @@ use Rattle.ed_answers.proofs.Checks.{checked_one}
 use Rattle.ed_answers.proofs.FirstChecks.{checked1_one}
 use Rattle.ed_answers.proofs.OneOutcome.{known_once, made_once, rows_once, some_within, source_once, within_once}
 use Rattle.ed_answers.proofs.Sources.{source_outcome}
-use Rattle.ed_stepper.specs.Inputs.{IsUndivided}
 use Rattle.ed_stepper.proofs.InputLaws.{one_input}
 use Rattle.ed_stepper.proofs.ScriptLaws.{one_meaning}
 use Rattle.ed_top.specs.Output.{EachLineHasOneOutcome}
@@ -35,12 +34,11 @@ text_same s commands kinds.Source text o other p q =
     source_outcome s.size (λ lines. on_rows s commands (tape lines)) text o other p q
 
 pub input_some : (s : Settings) (i : Input) → (o : Outcome) × OnInput s i o
-input_some s i = by_script (one_meaning.every i.script)
-  where
-    by_script : ((commands : CommandList) × IsScript i.script commands)
-        ⊎ ((line : ℕ) × IsFirstBadLine i.script line) → (o : Outcome) × OnInput s i o
-    by_script (inl g) = let t = text_some s g.0 i.kind i.text in (t.0, inr (g.0, g.1, t.1))
-    by_script (inr b) = (refusal (bad_command_line b.0), inl (b.0, b.1, refl))
+input_some s i =
+    elim (one_meaning.every i.script) [
+      | inl g ↦ let t = text_some s g.0 i.kind i.text in (t.0, inr (g.0, g.1, t.1))
+      | inr b ↦ (refusal (bad_command_line b.0), inl (b.0, b.1, refl))
+    ]
 
 input_same : (s : Settings) (i : Input) (o other : Outcome) → OnInput s i o → OnInput s i other → o ≡ other
 input_same s i o other (inl a) (inl b) =
@@ -52,12 +50,11 @@ input_same s i o other (inr a) (inr b) =
     text_same s b.0 i.kind i.text o other (subst (λ cs. OnText s cs i.kind i.text o) same a.2) b.2
 
 step_some : (s : Settings) (input : Text) → (o : Outcome) × StepOutcome s input o
-step_some s input = by_division (one_input.every input)
-  where
-    by_division : ((lines : List Text) × IsUndivided input lines) ⊎ ((i : Input) × IsDivided input i)
-        → (o : Outcome) × StepOutcome s input o
-    by_division (inl u) = (_, inl (u.0, u.1, refl))
-    by_division (inr d) = let o = input_some s d.0 in (o.0, inr (d.0, d.1, o.1))
+step_some s input =
+    elim (one_input.every input) [
+      | inl u ↦ (_, inl (u.0, u.1, refl))
+      | inr d ↦ let o = input_some s d.0 in (o.0, inr (d.0, d.1, o.1))
+    ]
 
 step_same : (s : Settings) (input : Text) (o other : Outcome) → StepOutcome s input o
     → StepOutcome s input other → o ≡ other

@@ -20,7 +20,7 @@ use Rattle.ed_stepper.specs.declared.script.ScriptFault.TheVariants.{BackTooFar,
 use Rattle.ed_stepper.proofs.ScriptLaws.{never_both, one_script}
 use Rattle.ed_top.specs.Private.Stages.{HasRows}
 use Rattle.ed_top.specs.Scripts.{on_reading, script_outcome}
-use Rattle.ed_top.proofs.Made.{as_made}
+use Rattle.ed_top.proofs.Made.{as_made, replies_more}
 use Rattle.ed_stepper.specs.declared.inputs.TextKind.TheVariants as kinds
 use Rattle.ed_answers.specs.declared.reply.Rejection.TheVariants as rejection
 
@@ -35,25 +35,17 @@ text_refused s commands r rejection.Memory w = (on_reading s commands r, refl, t
 -- an input that is divided this way
 pub divided_replied : (s : Settings) (input : Text) (i : Input) (r : Result Reply Rejection) → IsDivided input i
     → Replies (of_made (OnInput s i)) [] r → Replies (of_input (StepOutcome s)) input r
-divided_replied s input i (Ok reply) is x = (x.0, inr (i, is, x.1), x.2)
-divided_replied s input i (Err (Refused reply)) is x = (x.0, inr (i, is, x.1), x.2)
-divided_replied s input i (Err rejection.Memory) is x = (x.0, inr (i, is, x.1), x.2)
+divided_replied s input i r is =
+    replies_more (of_made (OnInput s i)) (of_input (StepOutcome s)) [] input r (λ P x. (x.0, inr (i, is, x.1), x.2))
 
--- what follows a script that has been tested
-after_script : (s : Settings) (i : Input) (r : Result Reply Rejection) (commands : CommandList)
-    → IsScript i.script commands
-    → Replies (of_made (OnText s commands i.kind i.text)) [] r → Replies (of_made (OnInput s i)) [] r
-after_script s i (Ok reply) commands is x = (x.0, inr (commands, is, x.1), x.2)
-after_script s i (Err (Refused reply)) commands is x = (x.0, inr (commands, is, x.1), x.2)
-after_script s i (Err rejection.Memory) commands is x = (x.0, inr (commands, is, x.1), x.2)
-
--- in an input that is divided this way
+-- what follows a script that has been tested, in such an input
 pub text_replied : (s : Settings) (input : Text) (i : Input) (r : Result Reply Rejection) → IsDivided input i
     → HasBadLine i.script None
     → ((commands : CommandList) → IsScript i.script commands → Replies (of_made (OnText s commands i.kind i.text)) [] r)
     → Replies (of_input (StepOutcome s)) input r
 text_replied s input i r is good replies =
-    divided_replied s input i r is (after_script s i r good.0 good.1 (replies good.0 good.1))
+    replies_more (of_made (OnText s good.0 i.kind i.text)) (of_input (StepOutcome s)) [] input r
+    (λ P x. (x.0, inr (i, is, inr (good.0, good.1, x.1)), x.2)) (replies good.0 good.1)
 
 -- what a script gives, by what was played of it
 pub played_given : (script : Text) (commands : CommandList) (from t : Stand) (text : Vec ℕ Global) (reply : Reply)
@@ -89,7 +81,7 @@ pub tape_rows : (s : Settings) (kind : TextKind) (text : Text) (r : Result (Vec 
     → kind ≡ kinds.Tape → MatchResult r (λ v. reading text ≡ rows v.items) (RefusesText (reading text))
     → HasRows s kind text r
 tape_rows s kind text (Ok v) is read = λ commands.
-    subst (λ k. OnText s commands k text (on_rows s commands v.items)) (sym is) (ap (on_reading s commands) read)
+    rw is (ap (on_reading s commands) read)
 tape_rows s kind text (Err e) is refuses = λ commands.
     subst (λ k. Replies (of_made (OnText s commands k text)) [] (Err e)) (sym is)
     (text_refused s commands (reading text) e refuses)
@@ -107,8 +99,7 @@ source_rows s kind text k v is links rows_are = λ commands.
     let linked = links.2 in
     let same : tape lines ≡ v.items =
     sym (rows_are ∙ (λ i. flat_map item_rows (linked.items i) ++ linked.after i)) in
-    subst (λ x. OnText s commands x text (on_rows s commands v.items)) (sym is)
-    (inr (lines, links.1, ap (on_rows s commands) same))
+    rw is (inr (lines, links.1, ap (on_rows s commands) same))
 
 -- of a source that is refused
 pub source_has_none : (s : Settings) (kind : TextKind) (text : Text) (r : Result (Vec ℕ Global) Rejection)

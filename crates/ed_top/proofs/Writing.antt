@@ -4,6 +4,7 @@ use Rattle.ed_top.proofs.Kit.{[], ap, Err, List, Ok, refl, Result, subst, sym, �
 use Rattle.ed_top.proofs.Kit.{reading, rows, exactly, of_rows, Outcome, Gives, Replies, Device, Wrote, WrotePart}
 use Rattle.ed_top.proofs.Kit.{Carried, Rest, none_written}
 use Rattle.ed_answers.specs.Answer.{OfReading}
+use Rattle.ed_top.proofs.Made.{replies_more}
 use Rattle.ed_top.specs.Private.Stages.{WritesReply, WritesText}
 use Rattle.ed_answers.specs.declared.reply.Rejection.TheVariants as rejection
 
@@ -53,61 +54,41 @@ pub Carried-written : {answer due : Answer} (input : Text) (reply : Result Reply
 Carried-written {due} input reply out r is replies w =
     subst (λ (a : Answer). Carried a input out r) (sym is) (reply_carried due input reply out r replies w)
 
--- a reply with an outcome that the input doesn't change
-replied_anew : (answers : Outcome → Type 0) (input : Text) (reply : Result Reply Rejection)
-    → Replies (of_made answers) [] reply → Replies (of_made answers) input reply
-replied_anew answers input (Ok reply) replies = replies
-replied_anew answers input (Err (rejection.Refused reply)) replies = replies
-replied_anew answers input (Err rejection.Memory) replies = replies
-
-known_anew : (due : Outcome) (input : Text) (reply : Result Reply Rejection)
-    → Replies (known due) [] reply → Replies (known due) input reply
-known_anew due input (Ok reply) replies = replies
-known_anew due input (Err (rejection.Refused reply)) replies = replies
-known_anew due input (Err rejection.Memory) replies = replies
-
 -- of a command that reads no input
 pub known_carried : {answer : Answer} {due : Outcome} (input : Text) (reply : Result Reply Rejection) (out : Device)
     (r : Result Rest WriteStop) → answer ≡ known due → Replies (known due) [] reply → WritesReply reply out r
     → Carried answer input out r
 known_carried {due} input reply out r is replies w =
-    subst (λ (a : Answer). Carried a input out r) (sym is)
-    (reply_carried (known due) input reply out r (known_anew due input reply replies) w)
+    Carried-written input reply out r is (replies_more (known due) (known due) [] input reply (λ P p. p) replies) w
 
 -- and with an outcome that is stated
 pub made_carried : {answer : Answer} {answers : Outcome → Type 0} (input : Text) (reply : Result Reply Rejection)
     (out : Device) (r : Result Rest WriteStop) → answer ≡ of_made answers → Replies (of_made answers) [] reply
     → WritesReply reply out r → Carried answer input out r
 made_carried {answers} input reply out r is replies w =
-    subst (λ (a : Answer). Carried a input out r) (sym is)
-    (reply_carried (of_made answers) input reply out r (replied_anew answers input reply replies) w)
+    Carried-written input reply out r is
+    (replies_more (of_made answers) (of_made answers) [] input reply (λ P p. p) replies) w
+
+-- what was written for one answer is for another that allows what the first allows
+carried_more : (a b : Answer) (i j : Text) (out : Device) (r : Result Rest WriteStop)
+    → ((P : Outcome → Type 0) → ForInput a i P → ForInput b j P) → Carried a i out r → Carried b j out r
+carried_more a b i j out (Ok rest) more c = (c.0, more _ c.1, c.2)
+carried_more a b i j out (Err Failed) more c = (c.0, more _ c.1)
+carried_more a b i j out (Err Memory) more c = (c.0, more _ c.1)
 
 -- what was written of the rows as it came is that of the text
 pub rows_carried : (f : List ℕ → Outcome) (input : Text) (codes : List ℕ) (out : Device) (r : Result Rest WriteStop)
     → reading input ≡ rows codes
     → Carried (known (f codes)) [] out r → Carried (of_rows (exactly f)) input out r
-rows_carried f input codes out r is = by_result r
-  where
-    at : OfReading (exactly f) (reading input) (f codes)
-    at = subst (λ (q : Reading). OfReading (exactly f) q (f codes)) (sym is) refl
-
-    by_result : (r : Result Rest WriteStop) → Carried (known (f codes)) [] out r → Carried (of_rows (exactly f)) input out r
-    by_result (Ok rest) c = (c.0, (f codes, at, c.1), c.2)
-    by_result (Err Failed) c = (c.0, (f codes, at, c.1))
-    by_result (Err Memory) c = (c.0, (f codes, at, c.1))
+rows_carried f input codes out r is =
+    carried_more (known (f codes)) (of_rows (exactly f)) [] input out r
+    (λ P p. (f codes, subst (λ (q : Reading). OfReading (exactly f) q (f codes)) (sym is) refl, p))
 
 -- the same if a relation says which outcome rows have
 pub rows_carried_by : (answers : List ℕ → Outcome → Type 0) (input : Text) (codes : List ℕ) (out : Device)
     (r : Result Rest WriteStop)
     → reading input ≡ rows codes → Carried (of_input (λ _. answers codes)) [] out r
     → Carried (of_rows answers) input out r
-rows_carried_by answers input codes out r is = by_result r
-  where
-    at : (o : Outcome) → answers codes o → OfReading answers (reading input) o
-    at o a = subst (λ (q : Reading). OfReading answers q o) (sym is) a
-
-    by_result : (r : Result Rest WriteStop) → Carried (of_input (λ _. answers codes)) [] out r
-        → Carried (of_rows answers) input out r
-    by_result (Ok rest) c = (c.0, (c.1.0, at c.1.0 c.1.1, c.1.2), c.2)
-    by_result (Err Failed) c = (c.0, (c.1.0, at c.1.0 c.1.1, c.1.2))
-    by_result (Err Memory) c = (c.0, (c.1.0, at c.1.0 c.1.1, c.1.2))
+rows_carried_by answers input codes out r is =
+    carried_more (of_input (λ _. answers codes)) (of_rows answers) [] input out r
+    (λ P p. (p.0, subst (λ (q : Reading). OfReading answers q p.0) (sym is) p.1, p.2))

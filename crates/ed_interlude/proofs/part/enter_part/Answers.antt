@@ -1,9 +1,10 @@
 use Rattle.ed_interlude.proofs.Kit.{Err, err_from_is_err_and, ap, arith, refl, ℕ, ◌+◌, ◌-◌, ◌<◌, ◌∙◌, ◌≡◌, ◌≤◌}
 use Rattle.ed_interlude.proofs.Kit.{stop_faults, gains_more, gains_none, cut, entry_done, finished, part_after}
 use Rattle.ed_interlude.proofs.Kit.{part_at_start}
+use Rattle.ed_interlude.specs.Parts.{of_entry, of_return}
 use Rattle.ed_interlude.specs.declared.part.PartOutcome.{PartOutcome}
 use Rattle.ed_interlude.proofs.Passing.{back_from, behind_is, entry_breaks, entry_is, finishes_there, made_as}
-use Rattle.ed_interlude.proofs.Passing.{entry_stops, return_breaks, return_stops, returned_is, part_entry_state-there}
+use Rattle.ed_interlude.proofs.Passing.{line_stops, return_breaks, returned_is, part_entry_state-there}
 use Rattle.ed_interlude.proofs.Programs.{home_within}
 use Rattle.ed_interlude.proofs.part.enter_part.Goals as goal
 
@@ -40,9 +41,9 @@ returns-in_err-write_line g c =
     rw (e.1, e.2) (record {
       passes = (
         entry_breaks c.args.part_start.limit c.args.part_start.rows p a.0 a.1.leads within gains,
-        entry_stops c.args.part_start.limit c.args.part_start.rows p a.0 a.1.leads within
+        line_stops c.args.part_start.limit c.args.part_start.rows p _ _ _ (of_entry a.0 a.1.leads within refl)
             (part_entry_state-there c.args.part_start.limit p a.0 a.1.orders_are c.obey_next-2.ensures.state)
-            c.in_err-write_line.field-0.0 gains c.in_err-write_line.ensures.memory,
+            (gains_none _) c.in_err-write_line.field-0.0 gains c.in_err-write_line.ensures.memory,
       );
       faults = c.in_err-write_line.ensures.faults;
     })
@@ -118,7 +119,8 @@ returns-in_err-write_line-in-Returned g c =
     rw (e.1, e.2) (record {
       passes = (
         return_breaks l c.args.part_start.rows p b whole gains,
-        return_stops l c.args.part_start.rows p b _ _ _ last whole failed.field-0.0 gains failed.ensures.memory,
+        line_stops l c.args.part_start.rows p _ _ _ (of_return b refl) last whole failed.field-0.0 gains
+            failed.ensures.memory,
       );
       faults = c.in_err-write_line-in-Returned.ensures.faults
           ∙ ap (stop_faults {T = PartOutcome} (Err c.in_err-write_line-in-Returned.field-0.0))

@@ -59,9 +59,7 @@ returns-in_err-end g c =
 pub parts-preserved : goal.parts-preserved
 parts-preserved g c =
     let i = c.parts.invariant in
-    let o =
-    goes_onward _ c.from.ensures i.whole i.ahead
-    (rw c.in-Returned.is at c.in_ok-end.ensures.passes) in
+    let o = goes_onward _ c.from.ensures i.whole i.ahead (rw c.in-Returned.is at c.in_ok-end.ensures.passes) in
     record {
       ahead = o.ahead;
       back = λ ne. o.home;
@@ -80,9 +78,7 @@ overflow_add-number g c =
 pub parts-smaller : goal.parts-smaller
 parts-smaller g c =
     let i = c.parts.invariant in
-    let o =
-    goes_onward _ c.from.ensures i.whole i.ahead
-    (rw c.in-Returned.is at c.in_ok-end.ensures.passes) in
+    let o = goes_onward _ c.from.ensures i.whole i.ahead (rw c.in-Returned.is at c.in_ok-end.ensures.passes) in
     nearer _ _ _ o.later.later o.later.within
 
 pub run_part-requires-clause-orders : goal.run_part-requires-clause-orders

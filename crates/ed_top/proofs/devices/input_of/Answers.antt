@@ -1,11 +1,8 @@
-use Rattle.ed_top.proofs.Kit.{Vec, Global, arith, Bool, Err, inl, inr, refl, Result, true, ℕ, ◌<◌, ◌≡◌, ◌≢◌, ◌≤◌, ◌⊎◌}
+use Rattle.ed_top.proofs.Kit.{Vec, Global, arith, Bool, Err, inl, inr, refl, true, ℕ, ◌<◌, ◌≡◌, ◌≢◌, ◌≤◌, ◌⊎◌}
 use Rattle.ed_top.proofs.Kit.{err_from_is_err_and, device, Device, HasInput, InputStop}
 use Rattle.ed_top.specs.Private.Stages.{input_faults}
 use Rattle.ed_top.specs.declared.devices.InputStop.TheVariants as input
 use Rattle.ed_top.proofs.devices.input_of.Goals as goal
-
-abbrev Read : Type 0
-Read = Result (Vec ℕ Global) InputStop
 
 -- a read that stopped before the limit
 stopped : (reads : Bool) (source : Device) (e : InputStop) → reads ≡ true → e ≢ input.TooLong

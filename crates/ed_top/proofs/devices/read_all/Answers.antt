@@ -1,10 +1,9 @@
 use Rattle.ed_top.proofs.Kit.{Loses, next_count, [], ap, append-nil, arith, drop, inl, inr, length, List, Option, refl}
-use Rattle.ed_top.proofs.Kit.{rules, subst, sym, ℕ, ◌++◌, ◌∙◌, ◌≡◌, ◌≢◌, ◌≤◌, Text, length-append, err_from_is_err_and}
+use Rattle.ed_top.proofs.Kit.{rules, subst, sym, ℕ, ◌++◌, ◌∙◌, ◌≡◌, ◌≤◌, Text, length-append, err_from_is_err_and}
 use Rattle.std.proofs.Common.{take}
 use Rattle.std.proofs.lemmas.List.{take-append-le, length-take, length-take-le}
 use Rattle.ed_io.proofs.Calls.{loses_more, loses_none, still_at_end}
 use Rattle.ed_top.proofs.devices.read_all.Goals.{else-loop-piece-test, then-loop-piece-test+in_ok-count+then-count-eq0}
-use Rattle.ed_top.specs.declared.devices.InputStop.TheVariants as input
 use Rattle.ed_top.proofs.devices.read_all.Goals as goal
 
 -- no bytes were lost
@@ -22,12 +21,6 @@ lost_all before middle after bytes n more lost none also =
 -- as many bytes are taken as are there at least
 first_taken : (n : ℕ) (xs ys : List ℕ) → n ≤ length xs → length (take n (xs ++ ys)) ≡ n
 first_taken n xs ys within = length-take-le n (xs ++ ys) (omega (arith, length-append xs ys))
-
-memory_apart : input.Memory ≢ input.TooLong
-memory_apart same = absurd (cc)
-
-failed_apart : input.Failed ≢ input.TooLong
-failed_apart same = absurd (cc)
 
 pub loop-piece-init : goal.loop-piece-init
 loop-piece-init g c = record {
@@ -61,7 +54,7 @@ returns-in_err-count g c =
     rw (p.1, p.2) (record {
       bytes = tt;
       end = tt;
-      short = failed_apart;
+      short = λ same. absurd (cc);
       faults = c.in_err-count.ensures.faults ∙ ap next_count c.loop-piece.invariant.faults;
     })
 
@@ -72,7 +65,7 @@ returns-in_err-extend_from_slice g c =
     rw (p.1, p.2) (record {
       bytes = tt;
       end = tt;
-      short = memory_apart;
+      short = λ same. absurd (cc);
       faults = c.in_ok-count.ensures.faults ∙ c.loop-piece.invariant.faults;
     })
 
