@@ -4,11 +4,11 @@ use Rattle.ed_laws.proofs.Kit.{on_line, [], ap, append_assoc, arith, Bool, false
 use Rattle.ed_laws.proofs.Kit.{nat_le, nat_lt, None, Option, refl, rules, Some, suc, sym, true, true≢false, ℕ, ◌++◌}
 use Rattle.ed_laws.proofs.Kit.{◌+◌, ◌-◌, ◌<◌, ◌^◌, ◌∙◌, ◌∷◌, ◌≡◌, ◌≤◌, ◌⊎◌, nat_tests, Text, IsAcceptedAs}
 use Rattle.ed_laws.proofs.Kit.{punch_outcome, zero, cases_lt, ◌||◌}
-use Rattle.ed_link.proofs.Kit.{lit≤, list_all, length-map, locations, locations_most, canonical, canonicals, line_from, entry}
-use Rattle.ed_link.proofs.Kit.{find, table_item, counter_after, IsLineAfter, after_statement, even_from, first_counter}
-use Rattle.ed_link.proofs.Kit.{routine_places, HasNoFault, data_after, end_place, first_place, long_words}
-use Rattle.ed_link.proofs.Kit.{operand_number, symbols_of, goes_by_theta, items_of, order_item, punched_from}
-use Rattle.ed_link.proofs.Kit.{punched_items, routine_items, use_items, word_item, after_text}
+use Rattle.ed_link.proofs.Kit.{lit≤, list_all, length-map, locations, locations_most, canonical, canonicals, line_from}
+use Rattle.ed_link.proofs.Kit.{entry, find, table_item, counter_after, IsLineAfter, after_statement, even_from}
+use Rattle.ed_link.proofs.Kit.{first_counter, routine_places, HasNoFault, data_after, end_place, first_place}
+use Rattle.ed_link.proofs.Kit.{long_words, operand_number, symbols_of, goes_by_theta, items_of, order_item}
+use Rattle.ed_link.proofs.Kit.{punched_from, punched_items, routine_items, use_items, word_item, after_text}
 use Rattle.ed_syntax.proofs.Kit.{row_of, AreRowsOf, empty, enter, fetch, fetch_with, label, labelled, placed, segment}
 use Rattle.ed_syntax.proofs.Kit.{segment_at, SpellsForm, SpellsPlaced, SpellsStatement, statement, version, LinePart}
 use Rattle.ed_syntax.proofs.Kit.{and_more, LinesSay, no_more}
@@ -18,8 +18,8 @@ use Rattle.ed_syntax.specs.Forms.{data_rows as data_statement}
 use Rattle.ed_syntax.specs.declared.fault.SourceCause.TheVariants.{Overlap, StoreEnd}
 use Rattle.ed_syntax.specs.declared.program.Setting.{Setting}
 use Rattle.ed_syntax.specs.declared.program.Statement.{Statement}
-use Rattle.ed_syntax.specs.declared.program.Statement.TheVariants.{Segment, Order, Number, Text as Letters, Long}
-use Rattle.ed_syntax.specs.declared.program.Statement.TheVariants.{Fetch, Enter, Rows}
+use Rattle.ed_syntax.specs.declared.program.Statement.TheVariants.{Segment, Order, Number, Text as Letters, Long, Fetch}
+use Rattle.ed_syntax.specs.declared.program.Statement.TheVariants.{Enter, Rows}
 use Rattle.ed_syntax.proofs.LineLaws.{few_bytes}
 use Rattle.ed_syntax.proofs.PlacedLaws.{is_short}
 use Rattle.ed_symbols.specs.Places.{segment_at as segment_of_counter}

@@ -1,8 +1,8 @@
 -- A part of a tape that is read at another place.
 use Rattle.ed_laws.proofs.Kit.{slice_index, word_with, ◌%◌, ◌*◌, act, costs, fold, NotationState, Begun, digits_number}
-use Rattle.ed_laws.proofs.Kit.{item_of, items, row_kind, Written, [], ap, arith, false, if◌then◌else◌, inl, inr}
-use Rattle.ed_laws.proofs.Kit.{length, List, map, nat_eq, refl, rules, Some, subst, suc, sym, true, ℕ, ◌++◌, ◌+◌, ◌<◌}
-use Rattle.ed_laws.proofs.Kit.{◌^◌, ◌∙◌, ◌∷◌, ◌≡◌, ◌≤◌, ◌⊎◌, zero, ne_eqb}
+use Rattle.ed_laws.proofs.Kit.{item_of, items, row_kind, Written, [], ap, arith, false, if◌then◌else◌, inl, inr, length}
+use Rattle.ed_laws.proofs.Kit.{List, map, nat_eq, refl, rules, Some, subst, suc, sym, true, ℕ, ◌++◌, ◌+◌, ◌<◌, ◌^◌, ◌∙◌}
+use Rattle.ed_laws.proofs.Kit.{◌∷◌, ◌≡◌, ◌≤◌, ◌⊎◌, zero, ne_eqb}
 use Rattle.ed_notation.proofs.Kit.{digit, begun_cost, end_cost, digits_of}
 use Rattle.std.proofs.lemmas.Bool.{eq-eqb}
 use Rattle.ed_notation.specs.Fold.{placed_at}

@@ -1,13 +1,13 @@
 -- Blank tape before a tape, tapes of the two loaders, and what loading costs at most.
 use Rattle.ed_laws.proofs.Kit.{Size, cleared_cells, Settings, BadRow, PartialItem, RowEffect, Ended, Longer}
-use Rattle.ed_laws.proofs.Kit.{first_directive, length-append, ◌%◌, ◌*◌, ◌/◌, le-ltb, RowsReachEntry}
-use Rattle.ed_laws.proofs.Kit.{WellFormed, NotationState, AreDigits, Begun, digits_number, row_kind, rows_of, Arrived}
-use Rattle.ed_laws.proofs.Kit.{Faulty, part_of, reading_on, row_effect, setting_of}
-use Rattle.ed_laws.proofs.Kit.{Verdict, with_limit, opening_notation, [], ap, append-nil, append_assoc, arith, Bool}
-use Rattle.ed_laws.proofs.Kit.{false, length, List, nat_eq, nat_lt, None, Option, refl, replicate, rules, Some, subst}
-use Rattle.ed_laws.proofs.Kit.{suc, sym, true, ℕ, ◌++◌, ◌+◌, ◌-◌, ◌^◌, ◌∙◌, ◌∷◌, ◌≡◌, ◌≢◌, ◌≤◌, nat_tests, Text}
-use Rattle.ed_laws.proofs.Kit.{reading, run_end, ran_later, TapeEntry, over, first_state, ReachesEntry1, Tape}
-use Rattle.ed_laws.proofs.Kit.{paper_room, run_of, zero, reading_is_rules, LeadsIn, end_later}
+use Rattle.ed_laws.proofs.Kit.{first_directive, length-append, ◌%◌, ◌*◌, ◌/◌, le-ltb, RowsReachEntry, WellFormed}
+use Rattle.ed_laws.proofs.Kit.{NotationState, AreDigits, Begun, digits_number, row_kind, rows_of, Arrived, Faulty}
+use Rattle.ed_laws.proofs.Kit.{part_of, reading_on, row_effect, setting_of, Verdict, with_limit, opening_notation, []}
+use Rattle.ed_laws.proofs.Kit.{ap, append-nil, append_assoc, arith, Bool, false, length, List, nat_eq, nat_lt, None}
+use Rattle.ed_laws.proofs.Kit.{Option, refl, replicate, rules, Some, subst, suc, sym, true, ℕ, ◌++◌, ◌+◌, ◌-◌, ◌^◌, ◌∙◌}
+use Rattle.ed_laws.proofs.Kit.{◌∷◌, ◌≡◌, ◌≢◌, ◌≤◌, nat_tests, Text, reading, run_end, ran_later, TapeEntry, over}
+use Rattle.ed_laws.proofs.Kit.{first_state, ReachesEntry1, Tape, paper_room, run_of, zero, reading_is_rules, LeadsIn}
+use Rattle.ed_laws.proofs.Kit.{end_later}
 use Rattle.ed_initial1.proofs.Kit.{number_le, BeginsWith, AreItems, begun_rows1, ending_row, IsBegun1, IsFirst, Item1}
 use Rattle.ed_initial1.proofs.Kit.{rows_of1, spelled_rows1}
 use Rattle.std.proofs.lemmas.Bool.{lt-ltb}
@@ -20,8 +20,7 @@ use Rattle.ed_initial.specs.Entry.{at_entry}
 use Rattle.ed_laws.specs.TapeFacts.{BeginsAtPlace, BlankTapeIsPassed, NotationFacts, blank_cost, blank_tape}
 use Rattle.ed_laws.specs.TapeFacts.{entry_later}
 use Rattle.ed_laws.proofs.CountedRuns.{counted, run_same}
-use Rattle.ed_laws.proofs.TapeEntries.{leads}
-use Rattle.ed_laws.proofs.TapeEntries.{on_row}
+use Rattle.ed_laws.proofs.TapeEntries.{leads, on_function, on_row}
 
 -- ---- the cost of a text
 
@@ -108,15 +107,8 @@ module _ (z : Size) (words : List ℕ) (a b : ℕ) where
     row_later notation part c t = search rules
 
     function_later : (notation : NotationState) (f : ℕ) (t : Bool)
-        → ◌≡◌ {A = Verdict}
-        (elim t [
-          | true ↦ reading_on z words (row + a + 1) (cost + b + 6) notation (Some (part_of f)) rest
-          | false ↦ Faulty (row + a) BadRow
-        ])
-        (later a b (elim t [
-          | true ↦ reading_on z words (row + 1) (cost + 6) notation (Some (part_of f)) rest
-          | false ↦ Faulty row BadRow
-        ]))
+        → on_function z words (row + a) (cost + b) notation f rest t
+        ≡ later a b (on_function z words row cost notation f rest t)
     function_later notation f true = go 6 notation (Some (part_of f))
     function_later notation f false = refl
 
