@@ -1,8 +1,8 @@
 -- A run in which each step does the same by another rule is the same by it.
-use Rattle.ed_laws.proofs.Kit.{none-some, paper_from, Shift, Kind, Limit, Stopped, Turn, Went, Settings, byte_of}
-use Rattle.ed_laws.proofs.Kit.{Obeyed, [], ap, arith, Bool, false, if◌then◌else◌, inl, inr, length, List, nat_eq}
-use Rattle.ed_laws.proofs.Kit.{nat_le, nat_lt, None, Option, refl, rules, Some, suc, sym, true, true≢false, ℕ, ◌++◌}
-use Rattle.ed_laws.proofs.Kit.{◌+◌, ◌<◌, ◌∙◌, ◌∷◌, ◌≡◌, ◌≤◌, ◌⊎◌, step, State, Progress, progress, state_after, end_at}
+use Rattle.ed_laws.proofs.Kit.{common_steps, none-some, paper_from, Shift, Kind, Limit, Stopped, Went, Settings}
+use Rattle.ed_laws.proofs.Kit.{byte_of, Obeyed, [], ap, arith, Bool, false, if◌then◌else◌, inl, inr, length, List}
+use Rattle.ed_laws.proofs.Kit.{nat_eq, nat_le, nat_lt, None, Option, refl, rules, Some, suc, sym, true, ℕ, ◌++◌, ◌+◌}
+use Rattle.ed_laws.proofs.Kit.{◌<◌, ◌∙◌, ◌∷◌, ◌≡◌, ◌≤◌, ◌⊎◌, step, State, Progress, progress, state_after, end_at}
 use Rattle.ed_laws.proofs.Kit.{end_by, run_end, run_orders, ran_ends, first_state, paper_room, run_of, is_some, ◌==◌}
 use Rattle.ed_laws.proofs.Kit.{trace_to, zero, stops_of, ◌||◌, function_of, kind_of_function, next_word, obey_word}
 use Rattle.ed_laws.proofs.Kit.{codes_of, letters_in, first_once}
@@ -129,14 +129,7 @@ has_own_letter = list_any is_own_letter
 any_parts : (xs ys : List ℕ) → has_own_letter (xs ++ ys) ≡ false
     → (has_own_letter xs ≡ false) × (has_own_letter ys ≡ false)
 any_parts [] ys h = (refl, h)
-any_parts (x ∷ xs) ys h = by_test (x == 70 || x == 88) (any_parts xs ys) h
-  where
-    by_test : (b : Bool)
-        → (has_own_letter (xs ++ ys) ≡ false → (has_own_letter xs ≡ false) × (has_own_letter ys ≡ false))
-        → (b || has_own_letter (xs ++ ys)) ≡ false
-        → ((b || has_own_letter xs) ≡ false) × (has_own_letter ys ≡ false)
-    by_test true on e = absurd (true≢false e)
-    by_test false on e = on e
+any_parts (x ∷ xs) ys h = grind (arith, common_steps)
 
 none_in_one : (byte : ℕ) → has_own_letter (byte ∷ []) ≡ false → (byte == 70 || byte == 88) ≡ false
 none_in_one byte = search rules
@@ -164,21 +157,13 @@ own_turn s own =
 
 no_end : (other : State → Obeyed) → ((t : State) → is_own_order t ≡ false → other t ≡ step t) → (s : State)
     → IsNoEnd other s
-no_end other agrees s = by_test (is_own_order s) refl
-  where
-    by_test : (b : Bool) → is_own_order s ≡ b → IsNoEnd other s
-    by_test false is = inl (agrees s is)
-    by_test true is = inr (λ full. ap (λ (t : Turn). end_by t full) (own_turn s is))
+no_end other agrees s = search (rules, own_turn)
 
 tapes : (other : State → Obeyed) (s : Settings) (rows : List ℕ)
     → ((t : State) → is_own_order t ≡ false → other t ≡ step t)
     → has_own_letter (run_letters s rows) ≡ false
     → run_with other s.limit s.resumes paper_room (first_state s.size rows) ≡ run_of s rows
-tapes other s rows agrees none =
-    let first = first_state s.size rows in
-    let n = run_orders s.limit s.resumes paper_room first in
-    run_is other s.limit s.resumes paper_room first (λ j less. agrees _ (never_own n first none j less))
-    (no_end other agrees (state_after n first))
+tapes other s rows agrees none = search (rules, run_is, never_own, no_end)
 
 pub each_own_rule_shows : EachOwnRuleShows
 each_own_rule_shows = record { orders = orders_same; runs = runs_same; tapes = tapes; shifts = shifts_same }

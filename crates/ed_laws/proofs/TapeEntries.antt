@@ -104,14 +104,7 @@ reading_agrees : (z : Size) (v w : List ℕ) → Agree v w
 unfolding reading_on
 reading_agrees z v w h [] row cost notation part = refl
 reading_agrees z v w h (f ∷ rows) row cost notation None =
-    by_test (nat_lt f 32) (reading_agrees z v w h rows (row + 1) (cost + 6) notation (Some (part_of f)))
-  where
-    by_test : (b : Bool)
-        → reading_on z v (row + 1) (cost + 6) notation (Some (part_of f)) rows
-        ≡ reading_on z w (row + 1) (cost + 6) notation (Some (part_of f)) rows
-        → on_function z v row cost notation f rows b ≡ on_function z w row cost notation f rows b
-    by_test true ih = ih
-    by_test false ih = refl
+    search (rules, (reading_agrees z v w h rows (row + 1) (cost + 6) notation (Some (part_of f))))
 reading_agrees z v w h (c ∷ rows) row cost notation (Some part) =
     let setting = setting_of notation in
     let over_v = over notation.placed v in
