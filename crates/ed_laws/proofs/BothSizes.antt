@@ -1,16 +1,15 @@
 -- A run that stays in the first 512 locations is the same on both sizes of the store.
-use Rattle.ed_laws.proofs.Kit.{Size, Full, paper, Ending, Limit, NoOrder, NoTape, PaperFull, Stopped, RunEnd, Settings}
-use Rattle.ed_laws.proofs.Kit.{ran_ends, step, State, progress, Progress, state_after, end_at, end_by, EndsAfter}
-use Rattle.ed_laws.proofs.Kit.{run_end, run_orders, first_state, Text, tape, [], ap, arith, Bool, false, if◌then◌else◌}
-use Rattle.ed_laws.proofs.Kit.{length, List, nat_eq, nat_le, nat_lt, None, Option, refl, Some, suc, true, ℕ, ◌++◌, ◌+◌}
-use Rattle.ed_laws.proofs.Kit.{◌<◌, ◌^◌, ◌∙◌, ◌∷◌, ◌≡◌, ◌≤◌, nat_tests, ending_line, paper_room, ran_outcome, status_of}
-use Rattle.ed_laws.proofs.Kit.{with_post_mortem, entered_before, zero, function_of, kind_of_function, next_word}
-use Rattle.ed_laws.proofs.Kit.{obey_word, Obeyed, codes_of, stops_of, Kind, first_once}
+use Rattle.ed_laws.proofs.Kit.{Size, Full, paper, Ending, Limit, Stopped, RunEnd, Settings, ran_ends, step, State}
+use Rattle.ed_laws.proofs.Kit.{progress, Progress, state_after, end_at, end_by, EndsAfter, run_end, run_orders}
+use Rattle.ed_laws.proofs.Kit.{first_state, Text, tape, [], ap, arith, Bool, false, if◌then◌else◌, length, List, nat_eq}
+use Rattle.ed_laws.proofs.Kit.{nat_le, nat_lt, Option, refl, Some, suc, true, ℕ, ◌++◌, ◌+◌, ◌<◌, ◌∙◌, ◌∷◌, ◌≡◌, ◌≤◌}
+use Rattle.ed_laws.proofs.Kit.{nat_tests, ending_line, paper_room, ran_outcome, status_of, with_post_mortem}
+use Rattle.ed_laws.proofs.Kit.{entered_before, zero, function_of, kind_of_function, next_word, obey_word, Obeyed}
+use Rattle.ed_laws.proofs.Kit.{codes_of, stops_of, Kind, ran_is, rules, common_steps}
 use Rattle.ed_answers.proofs.Kit.{post_mortem_codes}
 use Rattle.ed_words.specs.declared.size.Size.TheVariants.{Small}
 use Rattle.ed_run.specs.declared.settings.Window.{Window}
 use Rattle.ed_machine.proofs.Names.{address_of, jump_order, place_of, row_order}
-use Rattle.ed_orders.specs.declared.kind.Kind.TheVariants.{A, S, H, V, N, T, U, C, R, L, E, G, I, O, F, X, Y, Z}
 use Rattle.ed_machine.specs.Steps.{next_progress}
 use Rattle.ed_answers.specs.BothSizes.{EachSize, NamesBelow, RunStaysBelow, StaysBelow}
 
@@ -40,25 +39,7 @@ module _ (z : Size) (w : ℕ) (s : State) (next : s.counter < 511) where
   row_same (row ∷ rows) l = let at = is_below (address_of w) l in rw (at, after_is) refl
 
   word_same : (k : Option Kind) → NamesBelow k w → obey_word k w (sized z s) ≡ obeyed_sized z (obey_word k w s)
-  word_same None l = refl
-  word_same (Some A) l = let at = is_below (address_of w) (l refl) in rw (at, after_is) refl
-  word_same (Some S) l = let at = is_below (address_of w) (l refl) in rw (at, after_is) refl
-  word_same (Some H) l = let at = is_below (address_of w) (l refl) in rw (at, after_is) refl
-  word_same (Some V) l = let at = is_below (address_of w) (l refl) in rw (at, after_is) refl
-  word_same (Some N) l = let at = is_below (address_of w) (l refl) in rw (at, after_is) refl
-  word_same (Some T) l = let at = is_below (address_of w) (l refl) in rw (at, after_is) refl
-  word_same (Some U) l = let at = is_below (address_of w) (l refl) in rw (at, after_is) refl
-  word_same (Some C) l = let at = is_below (address_of w) (l refl) in rw (at, after_is) refl
-  word_same (Some O) l = let at = is_below (address_of w) (l refl) in rw (at, after_is) refl
-  word_same (Some F) l = let at = is_below (address_of w) (l refl) in rw (at, after_is) refl
-  word_same (Some E) l = jumps_same (nat_lt s.acc (2 ^ 70)) (l refl)
-  word_same (Some G) l = jumps_same (nat_le (2 ^ 70) s.acc) (l refl)
-  word_same (Some I) l = row_same s.tape (l refl)
-  word_same (Some R) l = rw after_is refl
-  word_same (Some L) l = rw after_is refl
-  word_same (Some X) l = rw after_is refl
-  word_same (Some Y) l = rw after_is refl
-  word_same (Some Z) l = rw after_is refl
+  word_same k l = grind (arith, common_steps, is_below, after_is, jumps_same, row_same)
 
 step_same : (z : Size) (s : State) → StaysBelow s → step (sized z s) ≡ obeyed_sized z (step s)
 unfolding step
@@ -68,35 +49,8 @@ step_same z s low =
 -- ---- how the next order ends a run, whatever it names
 
 module _ (z : Size) (w : ℕ) (s : State) (full : Bool) where
-  jump_ends : (b : Bool) → end_by (jump_order b (place_of (sized z s) w) (sized z s)).turn full
-      ≡ end_by (jump_order b (place_of s w) s).turn full
-  jump_ends true = refl
-  jump_ends false = refl
-
-  row_ends : (rows : List ℕ) → end_by (row_order rows w (sized z s)).turn full ≡ end_by (row_order rows w s).turn full
-  row_ends [] = refl
-  row_ends (row ∷ rows) = refl
-
   word_ends : (k : Option Kind) → end_by (obey_word k w (sized z s)).turn full ≡ end_by (obey_word k w s).turn full
-  word_ends None = refl
-  word_ends (Some A) = refl
-  word_ends (Some S) = refl
-  word_ends (Some H) = refl
-  word_ends (Some V) = refl
-  word_ends (Some N) = refl
-  word_ends (Some T) = refl
-  word_ends (Some U) = refl
-  word_ends (Some C) = refl
-  word_ends (Some O) = refl
-  word_ends (Some F) = refl
-  word_ends (Some E) = jump_ends (nat_lt s.acc (2 ^ 70))
-  word_ends (Some G) = jump_ends (nat_le (2 ^ 70) s.acc)
-  word_ends (Some I) = row_ends s.tape
-  word_ends (Some R) = refl
-  word_ends (Some L) = refl
-  word_ends (Some X) = refl
-  word_ends (Some Y) = refl
-  word_ends (Some Z) = refl
+  word_ends k = search rules
 
 step_ends : (z : Size) (s : State) (full : Bool) → end_by (step (sized z s)).turn full ≡ end_by (step s).turn full
 unfolding step
@@ -152,24 +106,21 @@ run_same z limit resumes room s low =
       now = at k (omega arith) ∙ ends.now;
       first = λ j l. at j (omega (arith, l)) ∙ ends.first j l;
     } in
-    let one = first_once (ran_ends limit resumes room (sized z s)) there in
-    let left : progress (run_orders limit resumes room (sized z s)) (sized z s) ≡ past_sized z (progress k s) =
-    ap (λ n. progress n (sized z s)) one.0 ∙ past_same z k s low in
-    λ i. record { ending = one.1 i; state = (left i).state; codes = (left i).codes }
+    ran_is limit resumes room k (sized z s) _ there
+    ∙ ap (λ (p : Progress). record {
+      ending = (run_end limit resumes room s).ending;
+      state = p.state;
+      codes = p.codes;
+    }) (past_same z k s low)
 
 -- ---- outcomes
 
 line_same : (z : Size) (e : Ending) (s : State) → ending_line e (sized z s) ≡ ending_line e s
-line_same z Stopped s = refl
-line_same z Limit s = refl
-line_same z NoOrder s = refl
-line_same z NoTape s = refl
-line_same z PaperFull s = refl
+line_same z e s = search rules
 
 codes_same : (z : Size) (window : Option Window) (s : State)
     → post_mortem_codes window (sized z s) ≡ post_mortem_codes window s
-codes_same z None s = refl
-codes_same z (Some window) s = refl
+codes_same z window s = search rules
 
 -- an outcome of a run is the same for its end on a store of another size
 module _ (z : Size) (s : Settings) (before : State → Text) (same : (t : State) → before (sized z t) ≡ before t) where

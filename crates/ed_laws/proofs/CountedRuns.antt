@@ -1,5 +1,5 @@
 -- A run doesn't depend on the count of orders: from a state with a greater count it is the same, with a greater count.
-use Rattle.ed_laws.proofs.Kit.{Kind, Obeyed, ap, Option, refl, rules, suc, ℕ, ◌++◌, ◌+◌, ◌∙◌, ◌≡◌, step, State, least}
+use Rattle.ed_laws.proofs.Kit.{Kind, Obeyed, ap, Option, refl, rules, suc, ℕ, ◌++◌, ◌+◌, ◌∙◌, ◌≡◌, step, State}
 use Rattle.ed_laws.proofs.Kit.{Progress, progress, end_at, run_end, zero, stops_of, function_of, kind_of_function}
 use Rattle.ed_laws.proofs.Kit.{next_word, obey_word, codes_of, end_later}
 use Rattle.ed_machine.specs.Steps.{next_progress}
@@ -43,4 +43,4 @@ same_end limit resumes room k j p = search (rules, step_same)
 pub run_same : (limit resumes room k : ℕ) (s : State)
     → run_end limit resumes room (counted k s) ≡ end_later k (run_end limit resumes room s)
 unfolding run_end
-run_same limit resumes room k s = search (rules, progress_same, same_end, least)
+run_same limit resumes room k s = search (rules, progress_same, same_end)

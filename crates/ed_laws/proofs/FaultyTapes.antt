@@ -1,20 +1,21 @@
 -- A tape with a fault: the machine waits for the row of the fault, in the state that the rows before it mean.
-use Rattle.ed_laws.proofs.Kit.{Size, cleared_cells, Limit, Settings, limit_there, TapeCause, Item, RowKind, Letter}
-use Rattle.ed_laws.proofs.Kit.{breaks, is_broken, act, costs, fold, NotationState, Begun, item_of, items, row_kind}
-use Rattle.ed_laws.proofs.Kit.{Written, first_store, starts, line, opening_notation, [], ap, arith, codes, inr, List}
-use Rattle.ed_laws.proofs.Kit.{None, Option, refl, rules, Some, subst, sym, true, ℕ, ◌+◌, ◌<◌, ◌∙◌, ◌∷◌, ◌≡◌, Text}
-use Rattle.ed_laws.proofs.Kit.{State, state_after, AllWent, RunEnd, first_state, paper_room, ran_outcome}
-use Rattle.ed_laws.proofs.Kit.{with_post_mortem, tape_outcome, opening, first_part, HasFault, at_after, quiet_outcome}
+use Rattle.ed_laws.proofs.Kit.{Size, cleared_cells, TapeCause, Item, RowKind, Letter, breaks, is_broken, act, costs}
+use Rattle.ed_laws.proofs.Kit.{fold, NotationState, Begun, item_of, items, row_kind, Written, first_store, starts}
+use Rattle.ed_laws.proofs.Kit.{opening_notation, [], ap, inr, List, None, Option, refl, rules, Some, subst, sym, true}
+use Rattle.ed_laws.proofs.Kit.{ℕ, ◌+◌, ◌∙◌, ◌∷◌, ◌≡◌, Text, state_after, AllWent, RunEnd, first_state, ran_outcome}
+use Rattle.ed_laws.proofs.Kit.{with_post_mortem, opening, first_part, HasFault, Outcome, paper}
 use Rattle.ed_notation.proofs.Kit.{IsSoundTo, AreRead, Breaks, IsFault, IsRead, ending_effect, item_word}
 use Rattle.ed_notation.proofs.Kit.{letter_action_of, item}
-use Rattle.ed_run.proofs.Quiet.{no_tape_there}
 use Rattle.ed_notation.specs.Beginnings.{orders_before, state_before}
 use Rattle.ed_notation.specs.Fold.{with_letter}
 use Rattle.ed_notation.proofs.Beginnings.{ended, fault_sound}
 use Rattle.ed_initial.specs.Waits.{AwaitsRow, waiting_place}
 use Rattle.ed_initial.proofs.Awaited.{needs_row, waits, waits_at}
 use Rattle.ed_laws.specs.FaultyTapes.{EachFaultyTapeWaits}
+use Rattle.ed_answers.proofs.Kit.{post_mortem_codes}
+use Rattle.ed_laws.proofs.CutRuns.{at_limit, at_no_tape}
 use Rattle.ed_laws.proofs.InParts.{parts_refuse}
+use Rattle.ed_laws.proofs.Stepped.{none_done}
 use Rattle.ed_laws.proofs.TapeEntries.{Agree, first_agrees, letter_from, over_agrees, value_agrees}
 
 -- ---- rows mean the same over words that agree from 41 upwards
@@ -95,7 +96,7 @@ part_fault : (z : Size) (rows : List ℕ) {row : ℕ} {cause : TapeCause}
     → IsFault z cleared_cells.words opening_notation rows row cause
     → HasFault (first_part (first_state z rows)) row cause
 unfolding first_state
-part_fault z rows f = search (rules, first_agrees, fault_over, broken_over)
+part_fault z rows f = search (rules, fault_over, broken_over)
 
 -- from a cleared machine
 cleared_waits : (z : Size) (rows : List ℕ) {row : ℕ} (r : IsRead cleared_cells.words opening_notation rows row)
@@ -110,55 +111,26 @@ cleared_waits z rows {row} r to =
     let there = waits (first_state z rows) (first_store z rows) (starts z rows) row to' (read_over v w same r) in
     rw (costs_agree v w same opening_notation r.before, fold_agrees v w same opening_notation (items r.before)) there
 
--- a run that prints nothing and ends there
-module _ (s : Settings) (rows : List ℕ) {k : ℕ} {notation : NotationState} {part : Option Begun} {rest : List ℕ}
-    (there : AwaitsRow (first_state s.size rows) k notation part rest) where
-  abbrev first : State
-  first = first_state s.size rows
-
-  all_went : AllWent k first
-  all_went j below = (there.quiet j below).went
-
-  orders_are : (state_after k first).orders ≡ k
-  unfolding first_state
-  orders_are = (waits_at part there).1 ∙ omega arith
-
-  named : (name : Text) → line (at_after name (state_after k first).counter (state_after k first).orders)
-      ≡ line (at_after name (waiting_place part) k)
-  named name = λ i. line (at_after name ((waits_at part there).0 i) (orders_are i))
-
-  limited : s.limit ≡ k → tape_outcome s rows ≡ quiet_outcome s rows (codes "limit") (waiting_place part) k 4
-  limited is =
-      let ends = limit_there s.limit s.resumes paper_room first (subst (λ n. AllWent n first) (sym is) all_went) in
-      ap (λ (r : RunEnd). ran_outcome [] (with_post_mortem s.post_mortem r)) ends
-      ∙ ap (λ n. ran_outcome [] (with_post_mortem s.post_mortem (record {
-        ending = Limit;
-        state = state_after n first;
-        codes = [];
-      }))) is
-      ∙ ap (λ note. record (quiet_outcome s rows (codes "limit") (waiting_place part) k 4) { note = note })
-      (named (codes "limit"))
-
-  no_tape : rest ≡ [] → k < s.limit
-      → tape_outcome s rows ≡ quiet_outcome s rows (codes "no tape") (waiting_place part) k 6
-  no_tape none below =
-      let turn = needs_row part (subst (λ x. AwaitsRow first k notation part x) none there) in
-      ap (λ (r : RunEnd). ran_outcome [] (with_post_mortem s.post_mortem r))
-      (no_tape_there s.limit s.resumes paper_room k first all_went below turn)
-      ∙ ap (λ note. record (quiet_outcome s rows (codes "no tape") (waiting_place part) k 6) { note = note })
-      (named (codes "no tape"))
-
 pub faulty_tapes_wait : EachFaultyTapeWaits
 faulty_tapes_wait s rows row cause f =
     let r = f.is.stands in
+    let first = first_state s.size rows in
+    let k = 9 + orders_before r in
     let there = cleared_waits s.size rows r (fault_sound f) in
+    let give : RunEnd → Outcome = λ q. ran_outcome [] (with_post_mortem s.post_mortem q) in
+    let out : Text = paper (post_mortem_codes s.post_mortem (state_after k first)) in
+    let went : AllWent k first = λ j below. (there.quiet j below).went in
+    let none = none_done s.size rows in
+    let at = (waits_at r.part there).0 in
     record {
       checked = inr (record { row = row; cause = cause; fault = f; outcome = refl });
       waits = there;
-      limited = limited s rows there;
+      limited = at_limit s.limit s.resumes k (waiting_place r.part) first give out went none at (λ e. refl);
       no_tape = λ is below.
           let broken = subst (λ (c : TapeCause).
           is_broken s.size cleared_cells.words (state_before r) r.part r.rest c ≡ true) is f.is.breaks in
-          no_tape s rows there (ended s.size cleared_cells.words (state_before r) r.part r.rest broken) below;
+          let last = ended s.size cleared_cells.words (state_before r) r.part r.rest broken in
+          at_no_tape s.limit s.resumes k (waiting_place r.part) first give out went none at (λ e. refl) below
+          (needs_row r.part (subst (λ x. AwaitsRow first k (state_before r) r.part x) last there));
       in_parts = parts_refuse s rows row cause (part_fault s.size rows f);
     }

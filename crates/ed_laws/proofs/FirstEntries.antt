@@ -1,6 +1,6 @@
 -- The run of a tape without a fault for Initial Orders 1 is the run from the state at its entry.
-use Rattle.ed_laws.proofs.Kit.{Full, paper, run_end, ran_later, ReachesEntry1, Tape, [], ap, arith, Bool, drop, false}
-use Rattle.ed_laws.proofs.Kit.{List, refl, replicate, ℕ, ◌-◌, ◌∙◌, first_state1, paper_room, ran_outcome}
+use Rattle.ed_laws.proofs.Kit.{AllWent, Full, paper, run_end, ran_later, ReachesEntry1, Tape, [], ap, arith, Bool, drop}
+use Rattle.ed_laws.proofs.Kit.{false, List, refl, replicate, ℕ, ◌-◌, ◌∙◌, first_state1, paper_room, ran_outcome}
 use Rattle.ed_answers.proofs.Kit.{length-append, length-drop, length-replicate}
 use Rattle.ed_initial1.proofs.Kit.{at_entry1, IsStarted1, first_orders}
 use Rattle.ed_machine.specs.State.{cleared_state}
@@ -33,12 +33,15 @@ reaches : (codes : List ℕ) (t : Tape) → ReachesEntry1 codes t
 unfolding first_state1
 reaches codes t c = leads_in (first_state1 codes) (first_store codes) (starts codes) t c
 
+pub first_went : (codes : List ℕ) (t : Tape) → ReachesEntry1 codes t → AllWent (cost1 t) (first_state1 codes)
+first_went codes t c = all_went _ (at_entry1 (first_state1 codes) t) (cost1 t) (reaches codes t c)
+
 pub runs_from_31 : EachProgramRunsFrom31
 runs_from_31 s codes t c =
     let first = first_state1 codes in
     let k = cost1 t in
     let r = reaches codes t c in
-    let went = all_went first (at_entry1 first t) k r in
+    let went = first_went codes t c in
     let there = state_after-comes first (at_entry1 first t) k r in
     record {
       enters = there;

@@ -3,8 +3,8 @@ use Rattle.ed_laws.proofs.Kit.{Limit, Settings, TapeCause, IsDirective, Arrived,
 use Rattle.ed_laws.proofs.Kit.{line, [], ap, append-nil, append_assoc, arith, codes, length, List, suc, sym, ℕ, ◌++◌}
 use Rattle.ed_laws.proofs.Kit.{◌+◌, ◌-◌, ◌<◌, ◌∙◌, ◌∷◌, ◌≡◌, ◌≤◌, Text, State, state_after, AllWent, TapeEntry}
 use Rattle.ed_laws.proofs.Kit.{first_state, Outcome, refusal, return_report, zero, opening, reading_is_rules, cut}
-use Rattle.ed_laws.proofs.Kit.{entry_report, faulty, finished, first_part, HasFault, LeadsTo, PartsReport}
-use Rattle.ed_laws.proofs.Kit.{ReportsParts, TapePart, at_after, IsInParts, report_outcome, limit_state}
+use Rattle.ed_laws.proofs.Kit.{entry_report, faulty, finished, first_part, HasFault, LeadsTo, PartsReport, ReportsParts}
+use Rattle.ed_laws.proofs.Kit.{TapePart, at_after, IsInParts, report_outcome, limit_state}
 use Rattle.std.proofs.Common.{decimal}
 use Rattle.std.proofs.lemmas.Fmt.{decimal_digit}
 use Rattle.ed_notation.specs.Reading.{ReadingIsRules}
@@ -12,7 +12,7 @@ use Rattle.ed_report.specs.Entries.{entry_line}
 use Rattle.ed_report.specs.Notes.{cause_text, part_line, rule_line}
 use Rattle.ed_interlude.specs.declared.tape.PartsEnd.TheVariants.{Ended}
 use Rattle.ed_laws.specs.TapeEntries.{PartsFromEntry}
-use Rattle.ed_laws.proofs.CutRuns.{limit_orders, limit_name}
+use Rattle.ed_laws.proofs.CutRuns.{limit_orders}
 
 -- ---- the first part has one entry or one fault
 
@@ -84,14 +84,14 @@ module _ (s : Settings) (rows : List ℕ) where
 
     -- with a limit below the cost
     short : (n : ℕ) (t : PartsReport) → ReportsParts s.limit count n part t → AllWent e.cost first → s.limit < e.cost
-        → report_outcome t ≡ silent_outcome limit_name (limit_state s rows).counter s.limit 4
+        → report_outcome t ≡ silent_outcome (codes "limit") (limit_state s rows).counter s.limit 4
     short zero t (faulty row cause fault is) went below = absurd (not_both first row cause e fault leads)
     short zero t (cut f other low is) went below =
         let all : s.limit - 0 ≡ s.limit = omega arith in
         ap report_outcome is
         ∙ ap (λ n. report_outcome (record { text = []; end = Ended Limit; last = state_after n first })) all
-        ∙ ap (λ n. record (silent_outcome limit_name (limit_state s rows).counter s.limit 4) {
-          note = line (at_after limit_name (limit_state s rows).counter n);
+        ∙ ap (λ n. record (silent_outcome (codes "limit") (limit_state s rows).counter s.limit 4) {
+          note = line (at_after (codes "limit") (limit_state s rows).counter n);
         }) (limit_orders s rows e.cost went below)
     short zero t (finished f k ending other within ends is) went below =
         absurd (omega (arith, within, same_cost f other, below))

@@ -1,4 +1,5 @@
 -- The names that the proofs of this crate cite, passed on from one place. Declares nothing.
+pub use Rattle.std.proofs.lemmas.Grind.{common_steps}
 pub use Rattle.std.proofs.Common.{slice_index}
 pub use Rattle.std.specs.List.{range_with_len}
 pub use Rattle.std.proofs.lemmas.List.Elements.{filter-append}
@@ -53,20 +54,19 @@ pub use Rattle.ed_answers.proofs.Kit.{run_orders, RunEnd, ran_ends, ran_later, T
 pub use Rattle.ed_answers.proofs.Kit.{entry_of, cost, tape, ending_line, entry_note, Outcome, refusal, IsAcceptedAs}
 pub use Rattle.ed_answers.proofs.Kit.{paper_room, ran_outcome, run_of, status_of, with_post_mortem, entered_before}
 pub use Rattle.ed_answers.proofs.Kit.{OfSource, punch_outcome, run_outcome, tape_outcome}
-unfoldable pub use Rattle.ed_answers.proofs.Kit.{step, least, progress, run_end, first_state, first_state1}
+unfoldable pub use Rattle.ed_answers.proofs.Kit.{step, progress, run_end, first_state, first_state1}
 unfoldable pub use Rattle.ed_stepper.specs.MoveEnds.{move_end}
 pub use Rattle.ed_stepper.proofs.Kit.{is_some, not, slice_index_or, ◌==◌, AreObeyed, is_obeyed, first_once}
 pub use Rattle.ed_stepper.proofs.Kit.{first_within, after_sum, free_sum, trace_to}
 unfoldable pub use Rattle.ed_stepper.proofs.Kit.{functions_after, move_orders}
 pub use Rattle.ed_stepper.proofs.Stands.{move_free}
 pub use Rattle.ed_interlude.specs.Parts.{return_report}
-pub use Rattle.ed_interlude.proofs.Kit.{zero, cases_lt, ne_eqb, same_Some, stops_of, opening, reading_is_rules}
-pub use Rattle.ed_interlude.proofs.Kit.{LeadsIn, cut, entry_report, faulty, finished, first_part, HasFault, LeadsTo}
-pub use Rattle.ed_interlude.proofs.Kit.{PartsReport, ReportsParts, TapePart}
+pub use Rattle.ed_interlude.proofs.Kit.{zero, cases_lt, ne_eqb, same_Some, stops_of, opening, reading_is_rules, LeadsIn}
+pub use Rattle.ed_interlude.proofs.Kit.{cut, entry_report, faulty, finished, first_part, HasFault, LeadsTo, PartsReport}
+pub use Rattle.ed_interlude.proofs.Kit.{ReportsParts, TapePart}
 pub use Rattle.ed_sources.proofs.Kit.{◌||◌, function_of, kind_of_function, next_word, obey_word, codes_of, at_after}
 pub use Rattle.ed_sources.proofs.Kit.{each_answer_is_from_entry}
 pub use Rattle.ed_top.specs.Parts.{end_status, IsInParts, report_outcome}
 pub use Rattle.ed_top.specs.Traces.{letters_in}
 pub use Rattle.ed_laws.specs.CutRuns.{limit_state}
-pub use Rattle.ed_laws.specs.FaultyTapes.{quiet_outcome}
 pub use Rattle.ed_laws.specs.TapeFacts.{end_later}

@@ -1,14 +1,14 @@
 -- A run in which each step does the same by another rule is the same by it.
-use Rattle.ed_laws.proofs.Kit.{none-some, paper_from, Shift, Kind, Limit, Stopped, Turn, Went, Settings, unwrap_or}
+use Rattle.ed_laws.proofs.Kit.{common_steps, none-some, paper_from, Shift, Kind, Limit, Stopped, Went, Settings}
 use Rattle.ed_laws.proofs.Kit.{byte_of, Obeyed, [], ap, arith, Bool, false, if◌then◌else◌, inl, inr, length, List}
-use Rattle.ed_laws.proofs.Kit.{nat_eq, nat_le, nat_lt, None, Option, refl, rules, Some, suc, sym, true, true≢false, ℕ}
-use Rattle.ed_laws.proofs.Kit.{◌++◌, ◌+◌, ◌<◌, ◌∙◌, ◌∷◌, ◌≡◌, ◌≤◌, ◌⊎◌, step, State, least, Progress, progress}
-use Rattle.ed_laws.proofs.Kit.{state_after, least_below, end_at, end_by, run_end, run_orders, ran_ends, first_state}
-use Rattle.ed_laws.proofs.Kit.{paper_room, run_of, is_some, ◌==◌, trace_to, zero, cases_lt, stops_of, ◌||◌}
-use Rattle.ed_laws.proofs.Kit.{function_of, kind_of_function, next_word, obey_word, codes_of, letters_in}
+use Rattle.ed_laws.proofs.Kit.{nat_eq, nat_le, nat_lt, None, Option, refl, rules, Some, suc, sym, true, ℕ, ◌++◌, ◌+◌}
+use Rattle.ed_laws.proofs.Kit.{◌<◌, ◌∙◌, ◌∷◌, ◌≡◌, ◌≤◌, ◌⊎◌, step, State, Progress, progress, state_after, end_at}
+use Rattle.ed_laws.proofs.Kit.{end_by, run_end, run_orders, ran_ends, first_state, paper_room, run_of, is_some, ◌==◌}
+use Rattle.ed_laws.proofs.Kit.{trace_to, zero, stops_of, ◌||◌, function_of, kind_of_function, next_word, obey_word}
+use Rattle.ed_laws.proofs.Kit.{codes_of, letters_in, first_once}
 use Rattle.std.specs.List.{list_any}
 use Rattle.ed_orders.specs.declared.kind.Kind.TheVariants.{F, X}
-use Rattle.ed_machine.proofs.LeastNumbers.{least_found, least_none}
+use Rattle.ed_machine.proofs.LeastNumbers.{first_found}
 use Rattle.ed_laws.specs.OwnRules.{EachOwnRuleShows, end_with, is_own_order, is_own_letter, run_with, progress_with}
 use Rattle.ed_laws.specs.OwnRules.{run_letters}
 use Rattle.ed_laws.proofs.LetterTests.{letter_says}
@@ -81,29 +81,25 @@ module _ (r : State → Obeyed) (limit resumes room : ℕ) (s : State)
       by_end (inr none) =
           by_tests (nat_lt resumes (progress n s).stops) (nat_eq n limit) none (ran_ends limit resumes room s).now
 
-  found : least (λ j. is_some (end_with r limit resumes room j (progress_with r j s))) limit
-      ≡ run_orders limit resumes room s
-  found =
-      let holds = ap is_some some_there in
-      let fails = λ (j : ℕ) (less : j < run_orders limit resumes room s). ap is_some (none_before j less) in
-      let most : run_orders limit resumes room s ≤ limit = least_below _ limit in
-      elim (cases_lt (run_orders limit resumes room s) limit) [
-        | inl less ↦ least_found _ limit (run_orders limit resumes room s) holds fails less
-        | inr high ↦
-            let all : run_orders limit resumes room s ≡ limit = omega (arith, most, high) in
-            least_none _ limit (λ j less. fails j (omega (arith, less, all))) ∙ sym all
-      ]
+  ends_at : (p : Progress) → is_some (end_with r limit resumes room limit p) ≡ true
+  ends_at p = search rules
 
   pub run_is : run_with r limit resumes room s ≡ run_end limit resumes room s
   unfolding run_with run_end
   run_is =
-      let there = same (run_orders limit resumes room s) (omega arith) in
-      ap (λ n. record {
-        ending = unwrap_or (end_with r limit resumes room n (progress_with r n s)) Limit;
-        state = (progress_with r n s).state;
-        codes = (progress_with r n s).codes;
-      }) found
-      ∙ (λ i. record { ending = unwrap_or (some_there i) Limit; state = (there i).state; codes = (there i).codes })
+      let one = first_once {test = λ j. end_with r limit resumes room j (progress_with r j s)}
+      (first_found limit Limit (ends_at (progress_with r limit s)))
+      (record { now = some_there; first = none_before }) in
+      (λ i. record {
+        ending = one.1 i;
+        state = (progress_with r (one.0 i) s).state;
+        codes = (progress_with r (one.0 i) s).codes;
+      })
+      ∙ ap (λ (p : Progress). record {
+        ending = (run_end limit resumes room s).ending;
+        state = p.state;
+        codes = p.codes;
+      }) (same (run_orders limit resumes room s) (omega arith))
 
 runs_same : (r : State → Obeyed) (limit resumes room : ℕ) (s : State)
     → ((j : ℕ) → j ≤ run_orders limit resumes room s → r (state_after j s) ≡ step (state_after j s))
@@ -133,14 +129,7 @@ has_own_letter = list_any is_own_letter
 any_parts : (xs ys : List ℕ) → has_own_letter (xs ++ ys) ≡ false
     → (has_own_letter xs ≡ false) × (has_own_letter ys ≡ false)
 any_parts [] ys h = (refl, h)
-any_parts (x ∷ xs) ys h = by_test (x == 70 || x == 88) (any_parts xs ys) h
-  where
-    by_test : (b : Bool)
-        → (has_own_letter (xs ++ ys) ≡ false → (has_own_letter xs ≡ false) × (has_own_letter ys ≡ false))
-        → (b || has_own_letter (xs ++ ys)) ≡ false
-        → ((b || has_own_letter xs) ≡ false) × (has_own_letter ys ≡ false)
-    by_test true on e = absurd (true≢false e)
-    by_test false on e = on e
+any_parts (x ∷ xs) ys h = grind (arith, common_steps)
 
 none_in_one : (byte : ℕ) → has_own_letter (byte ∷ []) ≡ false → (byte == 70 || byte == 88) ≡ false
 none_in_one byte = search rules
@@ -168,21 +157,13 @@ own_turn s own =
 
 no_end : (other : State → Obeyed) → ((t : State) → is_own_order t ≡ false → other t ≡ step t) → (s : State)
     → IsNoEnd other s
-no_end other agrees s = by_test (is_own_order s) refl
-  where
-    by_test : (b : Bool) → is_own_order s ≡ b → IsNoEnd other s
-    by_test false is = inl (agrees s is)
-    by_test true is = inr (λ full. ap (λ (t : Turn). end_by t full) (own_turn s is))
+no_end other agrees s = search (rules, own_turn)
 
 tapes : (other : State → Obeyed) (s : Settings) (rows : List ℕ)
     → ((t : State) → is_own_order t ≡ false → other t ≡ step t)
     → has_own_letter (run_letters s rows) ≡ false
     → run_with other s.limit s.resumes paper_room (first_state s.size rows) ≡ run_of s rows
-tapes other s rows agrees none =
-    let first = first_state s.size rows in
-    let n = run_orders s.limit s.resumes paper_room first in
-    run_is other s.limit s.resumes paper_room first (λ j less. agrees _ (never_own n first none j less))
-    (no_end other agrees (state_after n first))
+tapes other s rows agrees none = search (rules, run_is, never_own, no_end)
 
 pub each_own_rule_shows : EachOwnRuleShows
 each_own_rule_shows = record { orders = orders_same; runs = runs_same; tapes = tapes; shifts = shifts_same }

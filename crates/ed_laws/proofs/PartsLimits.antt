@@ -1,10 +1,10 @@
 -- `parts` with a greater limit: the same, if it ended before its limit, else it goes on.
-use Rattle.ed_laws.proofs.Kit.{Ending, Limit, NoOrder, NoTape, PaperFull, Stopped, Settings, first_directive}
-use Rattle.ed_laws.proofs.Kit.{IsDirective, StartsWith, with_limit, [], ap, append-nil, append_assoc, arith, inl, inr}
-use Rattle.ed_laws.proofs.Kit.{length, List, None, refl, rules, Some, suc, sym, ℕ, ◌++◌, ◌-◌, ◌<◌, ◌∙◌, ◌≡◌, ◌≢◌, ◌≤◌}
-use Rattle.ed_laws.proofs.Kit.{◌⊎◌, Text, State, state_after, TapeEntry, first_state, Outcome, return_report, zero}
-use Rattle.ed_laws.proofs.Kit.{cases_lt, cut, entry_report, faulty, finished, first_part, LeadsTo, PartsReport}
-use Rattle.ed_laws.proofs.Kit.{ReportsParts, TapePart, end_status, IsInParts, report_outcome}
+use Rattle.ed_laws.proofs.Kit.{Ending, Limit, Settings, first_directive, IsDirective, StartsWith, with_limit, [], ap}
+use Rattle.ed_laws.proofs.Kit.{append-nil, append_assoc, arith, inl, inr, length, List, None, refl, rules, Some, suc}
+use Rattle.ed_laws.proofs.Kit.{sym, ℕ, ◌++◌, ◌-◌, ◌<◌, ◌∙◌, ◌≡◌, ◌≢◌, ◌≤◌, ◌⊎◌, Text, State, state_after, TapeEntry}
+use Rattle.ed_laws.proofs.Kit.{first_state, Outcome, return_report, zero, cases_lt, cut, entry_report, faulty, finished}
+use Rattle.ed_laws.proofs.Kit.{first_part, LeadsTo, PartsReport, ReportsParts, TapePart, end_status, IsInParts}
+use Rattle.ed_laws.proofs.Kit.{report_outcome}
 use Rattle.ed_interlude.specs.Parts.{ReturnsToLoader, Finishes, GoesBack, RunsOn, entry_done, notation_of, part_after}
 use Rattle.ed_interlude.specs.Parts.{part_report, part_entry_state, program_end}
 use Rattle.ed_interlude.specs.declared.tape.PartsEnd.TheVariants.{Ended}
@@ -49,6 +49,9 @@ record Longer (high rows : ℕ) (p : TapePart) (t : PartsReport) : Type 0 where
   pub report : PartsReport
   pub told : ReportsParts high rows returns p report
   pub keeps : Keeps t report
+
+limit_or : (e : Ending) → (e ≡ Limit) ⊎ (e ≢ Limit)
+limit_or e = search rules
 
 itself : (t : PartsReport) → Keeps t t
 itself t = record { begins = ([], sym (append-nil t.text)); same = λ other. refl }
@@ -126,35 +129,19 @@ module _ (low high rows : ℕ) (fits : low ≤ high) where
   }
   longer zero p t opens (cut e leads short is) =
       from_cut p t opens (of_text is) (ap (λ (r : PartsReport). end_status r.end) is)
-  longer zero p t opens (finished e k ending leads in_time ends is) = by_ending ending ends is
-    where
-      less : low - entry_done p e ≤ high - entry_done p e
-      less = omega (arith, fits)
-
-      later : entry_done p e ≤ high
-      later = omega (arith, in_time, fits)
-
-      whole : (d : Ending) → d ≢ Limit → Finishes (low - entry_done p e) k (part_entry_state p e) d
-          → t ≡ record { text = entry_report rows p e; end = Ended d; last = state_after k (part_entry_state p e) }
-          → Longer high rows p t
-      whole d other f as_told = record {
-        returns = 0;
-        report = t;
-        told = finished e k d leads later
-            (finishes_too (low - entry_done p e) (high - entry_done p e) (part_entry_state p e) less k d other f)
-            as_told;
-        keeps = itself t;
-      }
-
-      by_ending : (d : Ending) → Finishes (low - entry_done p e) k (part_entry_state p e) d
-          → t ≡ record { text = entry_report rows p e; end = Ended d; last = state_after k (part_entry_state p e) }
-          → Longer high rows p t
-      by_ending Limit f as_told =
-          from_limit p t e leads later (of_text as_told) (ap (λ (r : PartsReport). end_status r.end) as_told)
-      by_ending Stopped f as_told = whole Stopped (λ h. cc) f as_told
-      by_ending NoOrder f as_told = whole NoOrder (λ h. cc) f as_told
-      by_ending NoTape f as_told = whole NoTape (λ h. cc) f as_told
-      by_ending PaperFull f as_told = whole PaperFull (λ h. cc) f as_told
+  longer zero p t opens (finished e k ending leads in_time ends is) = elim (limit_or ending) [
+    | inl at ↦
+        from_limit p t e leads (omega (arith, in_time, fits)) (of_text is)
+        (ap (λ (r : PartsReport). end_status r.end) is ∙ ap (λ (d : Ending). end_status (Ended d)) at)
+    | inr other ↦ record {
+      returns = 0;
+      report = t;
+      told = finished e k ending leads (omega (arith, in_time, fits))
+          (finishes_too (low - entry_done p e) (high - entry_done p e) (part_entry_state p e) (omega (arith, fits)) k
+          ending other ends) is;
+      keeps = itself t;
+    }
+  ]
   longer (suc n) p t opens (b, rest, told, is) =
       let b_too : GoesBack high p = record {
         entry = b.entry;

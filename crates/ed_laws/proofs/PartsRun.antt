@@ -1,24 +1,20 @@
 -- With `tape`, a tape in parts is the run that ends as the parts do and prints what their programs print.
-use Rattle.ed_laws.proofs.Kit.{Ending, Limit, PaperFull, Stopped, Turn, Went, few_codes, past_next, past_sum, Settings}
+use Rattle.ed_laws.proofs.Kit.{Ending, Limit, PaperFull, Stopped, Turn, few_codes, past_next, past_sum, Settings}
 use Rattle.ed_laws.proofs.Kit.{ran_is, length-append, lt-leb, [], ap, append-nil, arith, Bool, false, if◌then◌else◌}
-use Rattle.ed_laws.proofs.Kit.{inl, inr, length, List, nat_eq, nat_le, nat_lt, None, refl, rules, Some, subst, suc}
-use Rattle.ed_laws.proofs.Kit.{sym, true, ℕ, ◌++◌, ◌+◌, ◌-◌, ◌<◌, ◌∙◌, ◌≡◌, ◌≤◌, ◌⊎◌, nat_tests, paper, step, State}
-use Rattle.ed_laws.proofs.Kit.{Progress, progress, state_after, end_at, end_by, EndsAfter, run_end, RunEnd}
-use Rattle.ed_laws.proofs.Kit.{first_state, paper_room, ran_outcome, first_within, zero, cases_lt, codes_of}
-use Rattle.ed_laws.proofs.Kit.{end_status}
+use Rattle.ed_laws.proofs.Kit.{inl, inr, length, List, nat_eq, nat_le, nat_lt, None, refl, rules, Some, subst, suc, sym}
+use Rattle.ed_laws.proofs.Kit.{true, ℕ, ◌++◌, ◌+◌, ◌-◌, ◌<◌, ◌∙◌, ◌≡◌, ◌≤◌, nat_tests, paper, step, State, Progress}
+use Rattle.ed_laws.proofs.Kit.{progress, state_after, end_at, end_by, EndsAfter, run_end, RunEnd, first_state}
+use Rattle.ed_laws.proofs.Kit.{paper_room, ran_outcome, first_within, zero, cases_lt, codes_of, end_status}
 use Rattle.std.proofs.Common.{take}
 use Rattle.std.proofs.Math.Seq.{take-append_seam}
 use Rattle.std.proofs.lemmas.Bool.{le-leb}
-use Rattle.ed_machine.specs.declared.turn.Turn.TheVariants.{Printed, Stopped as Stops, NoOrder as IsNoOrder}
-use Rattle.ed_machine.specs.declared.turn.Turn.TheVariants.{NoTape as HasNoTape}
 use Rattle.ed_run.specs.Run.{prints}
 use Rattle.ed_run.proofs.Ends.{ends_at_limit}
 use Rattle.ed_interlude.specs.Laws.{EndsAsRun}
 use Rattle.ed_interlude.specs.declared.tape.PartsEnd.{PartsEnd}
 use Rattle.ed_interlude.proofs.Runs.{each_end}
 use Rattle.ed_top.specs.Parts.{end_note}
-use Rattle.ed_laws.specs.PartsRun.{EachTapeInPartsIsRun, EndsInParts, PartsAreRun, PartsFillPaper, printed_by}
-use Rattle.ed_laws.specs.PartsRun.{run_once}
+use Rattle.ed_laws.specs.PartsRun.{EachTapeInPartsIsRun, EndsInParts, PartsAreRun, PartsFillPaper, printed_by, run_once}
 
 -- ---- on a paper that has room
 
@@ -32,6 +28,18 @@ some_by : (turn : Turn) (full other : Bool) (e : Ending) → full ≡ false → 
     → end_by turn other ≡ Some e
 some_by turn full other e not h = search rules
 
+-- a full paper ends a run at an order that prints
+full_by : (turn : Turn) (full other : Bool) → prints turn ≡ true → other ≡ true → end_by turn full ≡ None
+    → end_by turn other ≡ Some PaperFull
+full_by turn full other p is h = search rules
+
+-- an order prints one code or none
+prints_one : (turn : Turn) → prints turn ≡ true → length (codes_of turn) ≡ 1
+prints_one turn p = search rules
+
+one_printed : (turn : Turn) → 0 < length (codes_of turn) → (prints turn ≡ true) × (length (codes_of turn) ≡ 1)
+one_printed turn some = search rules
+
 -- no end comes before k orders whose codes have room
 module _ (limit room : ℕ) (s : State) (k : ℕ)
     (first : (j : ℕ) → j < k → end_at limit 0 limit j (progress j s) ≡ None)
@@ -39,26 +47,17 @@ module _ (limit room : ℕ) (s : State) (k : ℕ)
   -- if an order before the end prints, there is room
   has_room : (j : ℕ) → j < k → prints (step (state_after j s)).turn ≡ true
       → nat_le room (length (progress j s).codes) ≡ false
-  has_room j below p = by_turn (step (state_after j s)).turn refl p
-    where
-      by_turn : (turn : Turn) → (step (state_after j s)).turn ≡ turn → prints turn ≡ true
-          → nat_le room (length (progress j s).codes) ≡ false
-      by_turn (Printed code) is p =
-          let whole : (j + 1) + (k - (j + 1)) ≡ k = omega arith in
-          let later = progress (k - (j + 1)) (state_after (j + 1) s) in
-          let next : length (progress (j + 1) s).codes ≡ length (progress j s).codes + 1 =
-          ap (λ (x : Progress). length x.codes) (past_next j s)
-          ∙ length-append (progress j s).codes (codes_of (step (state_after j s)).turn)
-          ∙ ap (λ (t : Turn). length (progress j s).codes + length (codes_of t)) is in
-          let all : length (progress k s).codes ≡ length (progress (j + 1) s).codes + length later.codes =
-          ap (λ n. length (progress n s).codes) (sym whole)
-          ∙ ap (λ (x : Progress). length x.codes) (past_sum (j + 1) (k - (j + 1)) s)
-          ∙ length-append (progress (j + 1) s).codes later.codes in
-          lt-leb _ _ (omega (arith, fits, next, all))
-      by_turn Went is p = absurd (cc)
-      by_turn Stops is p = absurd (cc)
-      by_turn (IsNoOrder function) is p = absurd (cc)
-      by_turn HasNoTape is p = absurd (cc)
+  has_room j below p =
+      let turn = (step (state_after j s)).turn in
+      let whole : (j + 1) + (k - (j + 1)) ≡ k = omega (arith, below) in
+      let later = progress (k - (j + 1)) (state_after (j + 1) s) in
+      let next : length (progress (j + 1) s).codes ≡ length (progress j s).codes + length (codes_of turn) =
+      ap (λ (x : Progress). length x.codes) (past_next j s) ∙ length-append (progress j s).codes (codes_of turn) in
+      let all : length (progress k s).codes ≡ length (progress (j + 1) s).codes + length later.codes =
+      ap (λ n. length (progress n s).codes) (sym whole)
+      ∙ ap (λ (x : Progress). length x.codes) (past_sum (j + 1) (k - (j + 1)) s)
+      ∙ length-append (progress (j + 1) s).codes later.codes in
+      lt-leb _ _ (omega (arith, fits, next, all, prints_one turn p))
 
   none_there : (j : ℕ) → j < k → end_at limit 0 room j (progress j s) ≡ None
   none_there j below =
@@ -108,25 +107,21 @@ module _ (limit room : ℕ) (s : State) (k : ℕ)
   filled full printing going =
       ran_is limit 0 room k s PaperFull
       (record {
-        now = by_tests (nat_lt 0 (progress k s).stops) (nat_eq k limit) (step (state_after k s)).turn printing going;
+        now = by_tests (nat_lt 0 (progress k s).stops) (nat_eq k limit) going;
         first = none_there;
       })
     where
-      no_room : nat_le room (length (progress k s).codes) ≡ true
-      no_room = le-leb _ _ (omega (arith, full))
+      turn : Turn
+      turn = (step (state_after k s)).turn
 
-      by_tests : (b c : Bool) (turn : Turn) → prints turn ≡ true
+      by_tests : (b c : Bool)
           → (if b then Some Stopped else if c then Some Limit
           else end_by turn (nat_le limit (length (progress k s).codes))) ≡ None
           → (if b then Some Stopped else if c then Some Limit
           else end_by turn (nat_le room (length (progress k s).codes))) ≡ Some PaperFull
-      by_tests true c turn p h = let bad : Some Stopped ≡ None = h in absurd (cc)
-      by_tests false true turn p h = let bad : Some Limit ≡ None = h in absurd (cc)
-      by_tests false false (Printed code) p h = rw no_room refl
-      by_tests false false Went p h = absurd (cc)
-      by_tests false false Stops p h = absurd (cc)
-      by_tests false false (IsNoOrder function) p h = absurd (cc)
-      by_tests false false HasNoTape p h = absurd (cc)
+      by_tests true c h = let bad : Some Stopped ≡ None = h in absurd (cc)
+      by_tests false true h = let bad : Some Limit ≡ None = h in absurd (cc)
+      by_tests false false h = full_by turn _ _ printing (le-leb _ _ (omega (arith, full))) h
 
 -- ---- an order for whose code there is no room
 
@@ -140,30 +135,17 @@ record Crosses (room k : ℕ) (s : State) : Type 0 where
 crosses : (room k : ℕ) (s : State) → room < length (progress k s).codes → Crosses room k s
 unfolding progress
 crosses room zero s more = absurd (omega arith)
-crosses room (suc k) s more =
-    by_place (cases_lt room (length (progress k s).codes)) (λ earlier. crosses room k s earlier)
-    (step (state_after k s)).turn refl
-  where
-    by_place : (room < length (progress k s).codes) ⊎ (length (progress k s).codes ≤ room)
-        → (room < length (progress k s).codes → Crosses room k s)
-        → (turn : Turn) → (step (state_after k s)).turn ≡ turn → Crosses room (suc k) s
-    by_place (inl earlier) on turn is =
-        let c = on earlier in
-        record { at = c.at; before = omega (arith, c.before); full = c.full; printing = c.printing }
-    by_place (inr fits) on turn is =
-        let count : length (progress (suc k) s).codes ≡ length (progress k s).codes + length (codes_of turn) =
-        length-append (progress k s).codes (codes_of (step (state_after k s)).turn)
-        ∙ ap (λ (t : Turn). length (progress k s).codes + length (codes_of t)) is in
-        by_turn turn is (omega (arith, count, more, fits))
-      where
-        by_turn : (turn : Turn) → (step (state_after k s)).turn ≡ turn
-            → room < length (progress k s).codes + length (codes_of turn) → Crosses room (suc k) s
-        by_turn (Printed code) is over =
-            record { at = k; before = omega arith; full = omega (arith, fits, over); printing = ap prints is }
-        by_turn Went is over = absurd (omega (arith, fits, over))
-        by_turn Stops is over = absurd (omega (arith, fits, over))
-        by_turn (IsNoOrder function) is over = absurd (omega (arith, fits, over))
-        by_turn HasNoTape is over = absurd (omega (arith, fits, over))
+crosses room (suc k) s more = elim (cases_lt room (length (progress k s).codes)) [
+  | inl earlier ↦
+      let c = crosses room k s earlier in
+      record { at = c.at; before = omega (arith, c.before); full = c.full; printing = c.printing }
+  | inr fits ↦
+      let turn = (step (state_after k s)).turn in
+      let count : length (progress (suc k) s).codes ≡ length (progress k s).codes + length (codes_of turn) =
+      length-append (progress k s).codes (codes_of turn) in
+      let one = one_printed turn (omega (arith, count, more, fits)) in
+      record { at = k; before = omega arith; full = omega (arith, count, more, fits, one.1); printing = one.0 }
+]
 
 -- ---- a tape
 

@@ -1,10 +1,10 @@
 -- The lines of a post-mortem, and the words that are read back from them.
-use Rattle.ed_laws.proofs.Kit.{slice_index, range_with_len, paper_from, Shift, length-append, unwrap_or, ◌%◌, ◌&&◌}
-use Rattle.ed_laws.proofs.Kit.{◌/◌, and_parts, AreDigits, address_digits, is_even, length_code, number_in}
-use Rattle.ed_laws.proofs.Kit.{printed_codes, word_codes, [], ap, append_assoc, arith, Bool, codes, drop, false}
-use Rattle.ed_laws.proofs.Kit.{get_or, if◌then◌else◌, inl, inr, length, List, map, nat_eq, nat_le, nat_lt, refl, rules}
-use Rattle.ed_laws.proofs.Kit.{Some, subst, suc, sym, true, true≢false, ℕ, ◌++◌, ◌+◌, ◌<◌, ◌^◌, ◌∙◌, ◌∷◌, ◌≡◌, ◌≢◌}
-use Rattle.ed_laws.proofs.Kit.{◌≤◌, ◌⊎◌, nat_tests, Text, paper, slice_index_or, zero, cases_lt, ◌||◌}
+use Rattle.ed_laws.proofs.Kit.{slice_index, range_with_len, paper_from, Shift, length-append, unwrap_or, ◌%◌, ◌&&◌, ◌/◌}
+use Rattle.ed_laws.proofs.Kit.{and_parts, AreDigits, address_digits, is_even, length_code, number_in, printed_codes}
+use Rattle.ed_laws.proofs.Kit.{word_codes, [], ap, append_assoc, arith, Bool, codes, drop, false, get_or, if◌then◌else◌}
+use Rattle.ed_laws.proofs.Kit.{inl, inr, length, List, map, nat_eq, nat_le, nat_lt, refl, rules, Some, subst, suc, sym}
+use Rattle.ed_laws.proofs.Kit.{true, true≢false, ℕ, ◌++◌, ◌+◌, ◌<◌, ◌^◌, ◌∙◌, ◌∷◌, ◌≡◌, ◌≢◌, ◌≤◌, nat_tests, Text}
+use Rattle.ed_laws.proofs.Kit.{paper, slice_index_or, zero, cases_lt, ◌||◌}
 use Rattle.std.proofs.Common.{position, flat_map}
 use Rattle.ed_printer.specs.Paper.{letters_printed, shift_after, struck_bytes}
 use Rattle.ed_printer.specs.declared.printer.Shift.TheVariants.{Letters, Figures}
@@ -12,7 +12,8 @@ use Rattle.ed_printer.proofs.Silent.{eleven_silent, fifteen_silent}
 use Rattle.ed_postmortem.specs.Codes.{digits_before_units}
 use Rattle.ed_answers.specs.Runs.{post_mortem_codes}
 use Rattle.ed_laws.specs.PrintedLines.{EachLineIsOfItsWord, IsSameOnPaper, is_silent, printed_line}
-use Rattle.ed_laws.proofs.ReadBack.{decimal_value, word_codes-laid}
+use Rattle.ed_laws.proofs.Limits.{after_others}
+use Rattle.ed_laws.proofs.ReadBack.{word_codes-laid}
 
 -- ---- tests of all small numbers
 
@@ -108,20 +109,6 @@ lines_struck words first (suc count) shift =
     ∙ line_is word (paper_from Letters (printed_codes words (first + 1) count))
     ∙ ap (λ (t : Text). printed_line word ++ t) (lines_struck words (first + 1) count Letters)
 
--- after other codes
-after_others : (before : List ℕ) (shift : Shift)
-    → (left : Shift)
-    × ((codes : List ℕ) → paper_from shift (before ++ codes) ≡ paper_from shift before ++ paper_from left codes)
-after_others [] shift = (shift, λ codes. refl)
-after_others (c ∷ before) shift =
-    let more = after_others before (shift_after shift c) in (
-      more.0,
-      λ codes.
-          ap (λ (t : Text). struck_bytes shift c ++ t) (more.1 codes)
-          ∙ sym (append_assoc (struck_bytes shift c) (paper_from (shift_after shift c) before)
-          (paper_from more.0 codes)),
-    )
-
 -- ---- a line is read back
 
 -- F or D, as a byte
@@ -159,25 +146,19 @@ is_right (b ∷ c ∷ bs) f = false
 all_right : (f : ℕ) → f < 32 → is_right (struck_bytes Letters f) f ≡ true
 all_right = each_below (λ f. is_right (slice_index_or letters_printed f []) f) 32 refl
 
-is_no_digit : (byte : ℕ) → no_digit byte ≡ true → (byte < 48) ⊎ (58 ≤ byte)
-is_no_digit byte h = grind (arith, nat_tests)
-
 -- what begins with a digit doesn't begin with such a byte
-begins_with_digit : (word : ℕ) (rest : Text)
-    → (d : ℕ) × (more : Text) × (d < 10) × (rest_of word rest ≡ (48 + d) ∷ more)
+begins_with_digit : (word : ℕ) (rest : Text) → no_digit (get_or (rest_of word rest) 0 0) ≡ false
 begins_with_digit word rest = from (address_digits (number_in word)) (all_digits (number_in word)) some
   where
     some : address_digits (number_in word) ≢ []
     some h =
-        let value = decimal_value (number_in word) (omega arith) in
         let none = ap length h in
         absurd (omega (arith, none, length-append (digits_before_units (number_in word)) (number_in word % 10 ∷ [])))
 
     from : (ds : List ℕ) → AreDigits ds → ds ≢ []
-        → (d : ℕ) × (more : Text) × (d < 10)
-        × (map (λ d. 48 + d) ds ++ length_byte (is_even word) ∷ 13 ∷ 10 ∷ rest ≡ (48 + d) ∷ more)
+        → no_digit (get_or (map (λ d. 48 + d) ds ++ length_byte (is_even word) ∷ 13 ∷ 10 ∷ rest) 0 0) ≡ false
     from [] are not = absurd (not refl)
-    from (d ∷ ds) are not = (d, _, are.0, refl)
+    from (d ∷ ds) are not = let less = are.0 in grind (arith, nat_tests)
 
 line_back : (v w : ℕ) (more others : Text) → v < 2 ^ 17 → w < 2 ^ 17 → line_on v more ≡ line_on w others
     → IsSameOnPaper v w × (more ≡ others)
@@ -190,26 +171,16 @@ line_back v w more others l m h =
         → bs ++ rest_of v more ≡ cs ++ rest_of w others → IsSameOnPaper v w × (more ≡ others)
     by_struck [] [] a b e = let back = rest_back v w more others e in (inr (a, b, back.0), back.1)
     by_struck [] (c ∷ []) a b e =
-        let digit = begins_with_digit v more in
-        let same : 48 + digit.0 ≡ c = ap (λ (t : Text). get_or t 0 0) (sym digit.3 ∙ e) in
-        elim (is_no_digit c (and_parts _ _ b).0) [
-          | inl low ↦ absurd (omega (arith, low, same))
-          | inr high ↦ absurd (omega (arith, high, same, digit.2))
-        ]
+        let same = ap (λ (t : Text). no_digit (get_or t 0 0)) e in
+        absurd (true≢false (sym (and_parts _ _ b).0 ∙ sym same ∙ begins_with_digit v more))
     by_struck (b ∷ []) [] x y e =
-        let digit = begins_with_digit w others in
-        let same : b ≡ 48 + digit.0 = ap (λ (t : Text). get_or t 0 0) (e ∙ digit.3) in
-        elim (is_no_digit b (and_parts _ _ x).0) [
-          | inl low ↦ absurd (omega (arith, low, same))
-          | inr high ↦ absurd (omega (arith, high, same, digit.2))
-        ]
+        let same = ap (λ (t : Text). no_digit (get_or t 0 0)) e in
+        absurd (true≢false (sym (and_parts _ _ x).0 ∙ same ∙ begins_with_digit w others))
     by_struck (b ∷ []) (c ∷ []) x y e =
         let same : b ≡ c = ap (λ (t : Text). get_or t 0 0) e in
         let back = rest_back v w more others (ap (λ (t : Text). drop 1 t) e) in
-        let of_v : function_in b ≡ v / 4096 = is_equal (function_in b) (v / 4096)
-        (and_parts (no_digit b) (nat_eq (function_in b) (v / 4096)) x).1 in
-        let of_w : function_in c ≡ w / 4096 = is_equal (function_in c) (w / 4096)
-        (and_parts (no_digit c) (nat_eq (function_in c) (w / 4096)) y).1 in
+        let of_v : function_in b ≡ v / 4096 = is_equal (function_in b) (v / 4096) (and_parts (no_digit b) _ x).1 in
+        let of_w : function_in c ≡ w / 4096 = is_equal (function_in c) (w / 4096) (and_parts (no_digit c) _ y).1 in
         let functions : v / 4096 ≡ w / 4096 = sym of_v ∙ ap function_in same ∙ of_w in
         let word : v ≡ w = omega (arith, functions, back.0) in
         (inl word, back.1)

@@ -1,25 +1,26 @@
 -- The text that `punch` writes is short enough to be read.
-use Rattle.ed_laws.proofs.Kit.{Size, Item, length-append, ◌%◌, ◌&&◌, ◌*◌, ◌/◌, and_parts, le-ltb, rows_of, Line}
-use Rattle.ed_laws.proofs.Kit.{on_line, [], ap, append_assoc, arith, Bool, false, inl, inr, length, List, map, nat_eq}
-use Rattle.ed_laws.proofs.Kit.{nat_le, nat_lt, None, Option, refl, rules, Some, suc, sym, true, true≢false, ℕ, ◌++◌}
-use Rattle.ed_laws.proofs.Kit.{◌+◌, ◌-◌, ◌<◌, ◌^◌, ◌∙◌, ◌∷◌, ◌≡◌, ◌≤◌, ◌⊎◌, nat_tests, Text, IsAcceptedAs}
-use Rattle.ed_laws.proofs.Kit.{punch_outcome, zero, cases_lt, ◌||◌}
-use Rattle.ed_link.proofs.Kit.{lit≤, list_all, length-map, locations, locations_most, canonical, canonicals, line_from, entry}
-use Rattle.ed_link.proofs.Kit.{find, table_item, counter_after, IsLineAfter, after_statement, even_from, first_counter}
-use Rattle.ed_link.proofs.Kit.{routine_places, HasNoFault, data_after, end_place, first_place, long_words}
-use Rattle.ed_link.proofs.Kit.{operand_number, symbols_of, goes_by_theta, items_of, order_item, punched_from}
-use Rattle.ed_link.proofs.Kit.{punched_items, routine_items, use_items, word_item, after_text}
-use Rattle.ed_syntax.proofs.Kit.{row_of, AreRowsOf, empty, enter, fetch, fetch_with, label, labelled, placed, segment}
-use Rattle.ed_syntax.proofs.Kit.{segment_at, SpellsForm, SpellsPlaced, SpellsStatement, statement, version, LinePart}
-use Rattle.ed_syntax.proofs.Kit.{and_more, LinesSay, no_more}
+use Rattle.ed_laws.proofs.Kit.{Size, Item, length-append, ◌%◌, ◌&&◌, ◌*◌, ◌/◌, and_parts, rows_of, Line, on_line, []}
+use Rattle.ed_laws.proofs.Kit.{ap, append_assoc, arith, Bool, false, inl, inr, length, List, map, nat_eq, nat_le}
+use Rattle.ed_laws.proofs.Kit.{nat_lt, None, Option, refl, rules, Some, suc, sym, true, true≢false, ℕ, ◌++◌, ◌+◌, ◌-◌}
+use Rattle.ed_laws.proofs.Kit.{◌<◌, ◌^◌, ◌∙◌, ◌∷◌, ◌≡◌, ◌≤◌, ◌⊎◌, nat_tests, Text, IsAcceptedAs, punch_outcome, zero}
+use Rattle.ed_laws.proofs.Kit.{cases_lt, ◌||◌, common_steps}
+use Rattle.std.proofs.Common.{min}
+use Rattle.ed_syntax.proofs.Kit.{leb-true, ltb-true, row_of, AreRowsOf, empty, enter, fetch, fetch_with, label}
+use Rattle.ed_syntax.proofs.Kit.{labelled, placed, segment, segment_at, SpellsForm, SpellsPlaced, SpellsStatement}
+use Rattle.ed_syntax.proofs.Kit.{statement, version, LinePart, and_more, LinesSay, no_more}
+use Rattle.ed_link.proofs.Kit.{lit≤, list_all, length-map, locations, locations_most, canonical, canonicals, line_from}
+use Rattle.ed_link.proofs.Kit.{entry, find, table_item, counter_after, IsLineAfter, after_statement, even_from}
+use Rattle.ed_link.proofs.Kit.{first_counter, routine_places, HasNoFault, data_after, end_place, first_place}
+use Rattle.ed_link.proofs.Kit.{long_words, operand_number, symbols_of, goes_by_theta, items_of, order_item}
+use Rattle.ed_link.proofs.Kit.{punched_from, punched_items, routine_items, use_items, word_item, after_text}
 use Rattle.ed_words.specs.Words.{digit as one_if}
 use Rattle.ed_notation.specs.Spellings.{text_of}
 use Rattle.ed_syntax.specs.Forms.{data_rows as data_statement}
 use Rattle.ed_syntax.specs.declared.fault.SourceCause.TheVariants.{Overlap, StoreEnd}
 use Rattle.ed_syntax.specs.declared.program.Setting.{Setting}
 use Rattle.ed_syntax.specs.declared.program.Statement.{Statement}
-use Rattle.ed_syntax.specs.declared.program.Statement.TheVariants.{Segment, Order, Number, Text as Letters, Long}
-use Rattle.ed_syntax.specs.declared.program.Statement.TheVariants.{Fetch, Enter, Rows}
+use Rattle.ed_syntax.specs.declared.program.Statement.TheVariants.{Segment, Order, Number, Text as Letters, Long, Fetch}
+use Rattle.ed_syntax.specs.declared.program.Statement.TheVariants.{Enter, Rows}
 use Rattle.ed_syntax.proofs.LineLaws.{few_bytes}
 use Rattle.ed_syntax.proofs.PlacedLaws.{is_short}
 use Rattle.ed_symbols.specs.Places.{segment_at as segment_of_counter}
@@ -111,39 +112,10 @@ count_or f g (suc n) apart =
 abbrev range : ℕ → ℕ → ℕ → Bool
 range a b p = nat_le a p && nat_lt p b
 
-count_within : (a b n : ℕ) → n ≤ b → count (range a b) n ≡ n - a
+count_range : (a b n : ℕ) → count (range a b) n ≡ min n b - a
 unfolding count
-count_within a b zero fits = omega arith
-count_within a b (suc n) fits =
-    let before : count (range a b) n ≡ n - a = count_within a b n (omega (arith, fits)) in
-    let less : nat_lt n b ≡ true = let l : n < b = omega (arith, fits) in grind (arith, nat_tests) in
-    by_test (nat_le a n) refl before less
-  where
-    by_test : (t : Bool) → nat_le a n ≡ t → count (range a b) n ≡ n - a → nat_lt n b ≡ true
-        → count (range a b) n + one_if (nat_le a n && nat_lt n b) ≡ suc n - a
-    by_test true is before less =
-        let low : a ≤ n = grind (arith, nat_tests) in rw (is, less) (omega (arith, before, low))
-    by_test false is before less =
-        let high : n < a = grind (arith, nat_tests) in rw is (omega (arith, before, high))
-
-count_past : (a b d : ℕ) → count (range a b) (b + d) ≡ b - a
-unfolding count
-count_past a b zero =
-    let same : b + 0 ≡ b = omega arith in ap (count (range a b)) same ∙ count_within a b b (omega arith)
-count_past a b (suc d) =
-    let one : b + suc d ≡ suc (b + d) = omega arith in
-    let no : nat_lt (b + d) b ≡ false = le-ltb (b + d) b (omega arith) in
-    ap (count (range a b)) one ∙ by_test (nat_le a (b + d)) no (count_past a b d)
-  where
-    by_test : (t : Bool) → nat_lt (b + d) b ≡ false → count (range a b) (b + d) ≡ b - a
-        → count (range a b) (b + d) + one_if (t && nat_lt (b + d) b) ≡ b - a
-    by_test true past before = rw past (omega (arith, before))
-    by_test false past before = omega (arith, before)
-
-count_range : (a b : ℕ) → b ≤ 1024 → count (range a b) 1024 ≡ b - a
-count_range a b fits =
-    let whole : b + (1024 - b) ≡ 1024 = omega (arith, fits) in
-    ap (count (range a b)) (sym whole) ∙ count_past a b (1024 - b)
+count_range a b zero = omega arith
+count_range a b (suc n) = let before = count_range a b n in grind (arith, common_steps, nat_tests)
 
 -- ---- the words of all lines
 
@@ -192,10 +164,7 @@ module _ (z : Size) (lines : List Line) (none : HasNoFault z lines) where
 
       new : (p : ℕ) → range a b p ≡ true → LineHasWord done l p
       new p h =
-          let parts = and_parts (nat_le a p) (nat_lt p b) h in
-          let low : a ≤ p = let t = parts.0 in grind (arith, nat_tests) in
-          let high : p < b = let t = parts.1 in grind (arith, nat_tests) in
-          (low, high)
+          let parts = and_parts (nat_le a p) (nat_lt p b) h in (leb-true a p parts.0, ltb-true p b parts.1)
 
       either : (p : ℕ) → (t u : Bool) → f p ≡ t → range a b p ≡ u → (t || u) ≡ true → HasWord (done ++ l ∷ []) p
       either p true u e g h = old p e
@@ -225,7 +194,7 @@ module _ (z : Size) (lines : List Line) (none : HasNoFault z lines) where
           omega (arith, few, same, none_of_it)
       by_words on (inl less) =
           let few = on (λ p. f p || range a b p) next (λ p h. either p (f p) (range a b p) refl refl h) in
-          omega (arith, few, same, count_or f (range a b) 1024 apart, count_range a b (end_low less))
+          omega (arith, few, same, count_or f (range a b) 1024 apart, count_range a b 1024, end_low less)
 
   words_few : words_total first_counter lines ≤ 1024
   words_few =

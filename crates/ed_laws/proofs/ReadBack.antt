@@ -2,14 +2,7 @@
 use Rattle.ed_laws.proofs.Kit.{slice_index, ◌/◌, address_digits, is_even, length_code, number_in, printed_codes}
 use Rattle.ed_laws.proofs.Kit.{word_codes, arith, inl, inr, List, rules, subst, suc, ℕ, ◌++◌, ◌+◌, ◌<◌, ◌∷◌, ◌≡◌, ◌≤◌}
 use Rattle.ed_laws.proofs.Kit.{zero, cases_lt}
-use Rattle.ed_routines.specs.Digits.{digits_value}
 use Rattle.ed_laws.specs.ReadBack.{EachWordIsReadBack}
-
--- ---- digits
-
--- the number that they spell
-pub decimal_value : (n : ℕ) → n < 2048 → digits_value (address_digits n) ≡ n
-decimal_value n small = search rules
 
 -- ---- a word, and many
 

@@ -1,9 +1,8 @@
 -- A part of a tape that is read at another place.
-use Rattle.ed_laws.proofs.Kit.{slice_index, word_with, ◌%◌, ◌*◌, act, costs, fold, NotationState, Begun, digits_number}
-use Rattle.ed_laws.proofs.Kit.{item_of, items, row_kind, Written, [], ap, arith, false, if◌then◌else◌, inl, inr}
-use Rattle.ed_laws.proofs.Kit.{length, List, map, nat_eq, refl, rules, Some, subst, suc, sym, true, ℕ, ◌++◌, ◌+◌, ◌<◌}
-use Rattle.ed_laws.proofs.Kit.{◌^◌, ◌∙◌, ◌∷◌, ◌≡◌, ◌≤◌, ◌⊎◌, zero, ne_eqb}
-use Rattle.ed_notation.proofs.Kit.{digit, begun_cost, end_cost, digits_of}
+use Rattle.ed_laws.proofs.Kit.{slice_index, word_with, ◌*◌, act, costs, fold, NotationState, Begun, digits_number}
+use Rattle.ed_laws.proofs.Kit.{item_of, items, row_kind, Written, [], ap, arith, if◌then◌else◌, length, List, map}
+use Rattle.ed_laws.proofs.Kit.{nat_eq, refl, rules, Some, suc, ℕ, ◌++◌, ◌+◌, ◌<◌, ◌∙◌, ◌∷◌, ◌≡◌, ◌≤◌, ◌⊎◌, zero, ne_eqb}
+use Rattle.ed_notation.proofs.Kit.{begun_cost, end_cost, digits_of}
 use Rattle.std.proofs.lemmas.Bool.{eq-eqb}
 use Rattle.ed_notation.specs.Fold.{placed_at}
 use Rattle.ed_laws.specs.Relocation.{AreMovable, EachPartMoves, moved, place_items}
@@ -50,11 +49,8 @@ module _ (v : List ℕ) (b : ℕ) where
       → placed_at (fold v (at_place b placed j) (items ws)).placed a ≡ placed_at placed a
   kept [] placed j a are fits below = refl
   kept (w ∷ ws) placed j a are fits below =
-      let other : nat_eq (b + j) a ≡ false = ne_eqb (b + j) a (omega (arith, below)) in
-      ap (λ (x : NotationState). placed_at (fold v x (items ws)).placed a)
-      (one_placed v b placed j (omega (arith, fits)) w.begun w.end are.0)
-      ∙ kept ws ((b + j, word_at b w) ∷ placed) (j + 1) a are.1 (omega (arith, fits)) (omega (arith, below))
-      ∙ rw other refl
+      let more = kept ws ((b + j, word_at b w) ∷ placed) (j + 1) a are.1 (omega (arith, fits)) (omega (arith, below)) in
+      search (rules, ne_eqb, one_placed, more)
 
   -- each word is placed
   laid : (ws : List Written) (placed : List (ℕ × ℕ)) (j k : ℕ) → AreMovable ws → b + j + length ws ≤ 1024
@@ -62,28 +58,18 @@ module _ (v : List ℕ) (b : ℕ) where
       → placed_at (fold v (at_place b placed j) (items ws)).placed (b + j + k) ≡ Some (word_in b ws k)
   unfolding word_in
   laid [] placed j k are fits less = absurd (omega arith)
-  laid (w ∷ ws) placed j zero are fits less =
-      let same : nat_eq (b + j) (b + j + 0) ≡ true = eq-eqb (b + j) (b + j + 0) (omega arith) in
-      ap (λ (x : NotationState). placed_at (fold v x (items ws)).placed (b + j + 0))
-      (one_placed v b placed j (omega (arith, fits)) w.begun w.end are.0)
-      ∙ kept ws ((b + j, word_at b w) ∷ placed) (j + 1) (b + j + 0) are.1 (omega (arith, fits)) (omega arith)
-      ∙ rw same refl
+  laid (w ∷ ws) placed j zero are fits less = search (rules, eq-eqb, one_placed, kept)
   laid (w ∷ ws) placed j (suc k) are fits less =
-      let at : b + j + suc k ≡ b + (j + 1) + k = omega arith in
-      ap (λ (x : NotationState). placed_at (fold v x (items ws)).placed (b + j + suc k))
-      (one_placed v b placed j (omega (arith, fits)) w.begun w.end are.0)
-      ∙ ap (placed_at (fold v (at_place b ((b + j, word_at b w) ∷ placed) (j + 1)) (items ws)).placed) at
-      ∙ laid ws ((b + j, word_at b w) ∷ placed) (j + 1) k are.1 (omega (arith, fits)) (omega (arith, less))
+      let more = laid ws ((b + j, word_at b w) ∷ placed) (j + 1) k are.1 (omega (arith, fits)) (omega (arith, less)) in
+      search (rules, one_placed, more)
 
   -- at this cost
   cost_is : (ws : List Written) (placed : List (ℕ × ℕ)) (j : ℕ) → AreMovable ws → b + j + length ws ≤ 1024
       → costs v (at_place b placed j) ws ≡ plain_costs ws
   cost_is [] placed j are fits = refl
   cost_is (w ∷ ws) placed j are fits =
-      (λ i. begun_cost w.begun + seventeen v b placed j (omega (arith, fits)) w.end are.0 i
-      + costs v (one_placed v b placed j (omega (arith, fits)) w.begun w.end are.0 i) ws)
-      ∙ ap (λ n. begun_cost w.begun + 17 + n)
-      (cost_is ws ((b + j, word_at b w) ∷ placed) (j + 1) are.1 (omega (arith, fits)))
+      let more = cost_is ws ((b + j, word_at b w) ∷ placed) (j + 1) are.1 (omega (arith, fits)) in
+      search (rules, seventeen, one_placed, more)
 
 -- ---- the place
 
@@ -98,20 +84,7 @@ moves : (b c : ℕ) (ws : List Written) (k : ℕ) → b ≤ 1024 → c ≤ 1024 
 unfolding word_in
 moves b c [] k low high are less = absurd (omega arith)
 moves b c (w ∷ ws) (suc k) low high are less = moves b c ws k low high are.1 (omega (arith, less))
-moves b c (w ∷ ws) zero low high are less = by_end are.0
-  where
-    x : ℕ
-    x = 4096 * w.begun.function + 2 * digits_number 0 w.begun.digits + digit w.begun.mark
-
-    by_end : (w.end ≡ 17) ⊎ ((w.end ≡ 18) ⊎ (w.end ≡ 19))
-        → (x + value_at c w.end) % 2 ^ 17 ≡ moved b c w.end ((x + value_at b w.end) % 2 ^ 17)
-    by_end (inl is) =
-        subst (λ e. (x + value_at c e) % 2 ^ 17 ≡ moved b c e ((x + value_at b e) % 2 ^ 17)) (sym is) refl
-    by_end (inr (inl is)) =
-        subst (λ e. (x + value_at c e) % 2 ^ 17 ≡ moved b c e ((x + value_at b e) % 2 ^ 17)) (sym is)
-        (omega (arith, low, high))
-    by_end (inr (inr is)) =
-        subst (λ e. (x + value_at c e) % 2 ^ 17 ≡ moved b c e ((x + value_at b e) % 2 ^ 17)) (sym is) refl
+moves b c (w ∷ ws) zero low high are less = search rules
 
 pub each_part_moves : EachPartMoves
 each_part_moves b c ws fits too are = record { words = words; cost = cost }

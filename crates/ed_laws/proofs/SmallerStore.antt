@@ -1,7 +1,7 @@
 -- A fault for 1,024 locations is one for 512.
-use Rattle.ed_laws.proofs.Kit.{Full, Settings, TapeCause, is_broken, WellFormed, fold, NotationState, Begun}
-use Rattle.ed_laws.proofs.Kit.{items, Line, on_line, ap, arith, inl, inr, List, Option, rules, true, ℕ, ◌≡◌, nat_tests}
-use Rattle.ed_laws.proofs.Kit.{Text, Outcome, refusal, IsAcceptedAs, OfSource}
+use Rattle.ed_laws.proofs.Kit.{Full, Settings, TapeCause, is_broken, WellFormed, fold, NotationState, Begun, items}
+use Rattle.ed_laws.proofs.Kit.{Line, on_line, ap, arith, inl, inr, List, Option, rules, true, ℕ, ◌≡◌, nat_tests, Text}
+use Rattle.ed_laws.proofs.Kit.{Outcome, refusal, IsAcceptedAs, OfSource}
 use Rattle.ed_words.specs.declared.size.Size.TheVariants.{Small}
 use Rattle.ed_syntax.specs.declared.fault.SourceCause.{SourceCause}
 use Rattle.ed_link.specs.Faults.{LineHasCause, SourceHasFault, no_enter}

@@ -1,7 +1,7 @@
 -- What `step` reports is what `trace`, `tape` and a post-mortem report after the same number of orders.
 use Rattle.ed_laws.proofs.Kit.{range_with_len, filter-append, Size, Limit, counted_after, few_codes, HasRoom, Settings}
-use Rattle.ed_laws.proofs.Kit.{ran_is, byte_of, [], ap, append-nil, append_assoc, arith, false, length, List, map}
-use Rattle.ed_laws.proofs.Kit.{refl, rules, Some, subst, suc, sym, ℕ, ◌++◌, ◌+◌, ◌-◌, ◌∙◌, ◌∷◌, ◌≡◌, ◌≤◌, Text, State}
+use Rattle.ed_laws.proofs.Kit.{ran_is, byte_of, [], ap, append-nil, append_assoc, arith, false, length, List, map, refl}
+use Rattle.ed_laws.proofs.Kit.{rules, Some, subst, suc, sym, ℕ, ◌++◌, ◌+◌, ◌-◌, ◌∙◌, ◌∷◌, ◌≡◌, ◌≤◌, Text, State}
 use Rattle.ed_laws.proofs.Kit.{progress, state_after, run_end, run_orders, RunEnd, ran_ends, first_state, ending_line}
 use Rattle.ed_laws.proofs.Kit.{paper_room, ran_outcome, run_of, with_post_mortem, not, ◌==◌, AreObeyed, first_once}
 use Rattle.ed_laws.proofs.Kit.{after_sum, free_sum, functions_after, move_orders, trace_to, move_free, zero}
@@ -19,9 +19,11 @@ use Rattle.ed_laws.proofs.MoveEndings.{run_ends}
 -- ---- a run that is cut off
 
 -- it is in the state after as many orders, each of them obeyed
+abbrev limit_run : ℕ → State → RunEnd
+limit_run k s = record { ending = Limit; state = state_after k s; codes = (progress k s).codes }
+
 run_cut : (k resumes room : ℕ) (s : State) → HasRoom room k s → (progress k s).stops ≤ resumes
-    → (run_orders k resumes room s ≡ k)
-    × (run_end k resumes room s ≡ record { ending = Limit; state = state_after k s; codes = (progress k s).codes })
+    → (run_orders k resumes room s ≡ k) × (run_end k resumes room s ≡ limit_run k s)
 run_cut k resumes room s fits few =
     let ends = at_limit k resumes fits few in
     ((first_once (ran_ends k resumes room s) ends).0, ran_is k resumes room k s Limit ends)
@@ -97,13 +99,7 @@ module _ (s : Settings) (rows : List ℕ) (resumes : ℕ) where
 
   -- the run of `trace`, whose paper is never full
   trace_cut : (n : ℕ) → AreObeyed n first → (progress n first).stops ≤ resumes
-      → (run_orders n resumes n first ≡ n)
-      × (run_end n resumes n first ≡ record {
-        ending = Limit;
-        state = state_after n first;
-        codes =
-            (progress n first).codes;
-      })
+      → (run_orders n resumes n first ≡ n) × (run_end n resumes n first ≡ limit_run n first)
   trace_cut n free few =
       run_cut n resumes n first (record { obeyed = free; printed = few_codes n first }) few
 
@@ -115,8 +111,7 @@ module _ (s : Settings) (rows : List ℕ) (resumes : ℕ) where
     note_there = ap (λ m. ending_line Limit (record (state_after n first) { orders = m })) count
 
     tape_cut : length (progress n first).codes ≤ paper_room
-        → run_of (cut_at (after n) resumes s) rows
-        ≡ record { ending = Limit; state = state_after n first; codes = (progress n first).codes }
+        → run_of (cut_at (after n) resumes s) rows ≡ limit_run n first
     tape_cut room = (run_cut n resumes paper_room first (record { obeyed = free; printed = room }) few).1
 
     steps_there : StepsAreRun s rows (after n) resumes

@@ -81,6 +81,13 @@ on_row z words row cost notation part c rows t = elim t [
   | Entered at ↦ Arrived (entry_by words row cost notation part c rows at)
 ]
 
+-- and at the first row of an item
+abbrev pub on_function : Size → List ℕ → ℕ → ℕ → NotationState → ℕ → List ℕ → Bool → Verdict
+on_function z words row cost notation f rows t = elim t [
+  | true ↦ reading_on z words (row + 1) (cost + 6) notation (Some (part_of f)) rows
+  | false ↦ Faulty row BadRow
+]
+
 row_agrees : (z : Size) (v w : List ℕ) (row cost : ℕ) (notation : NotationState) (part : PartialItem) (c : ℕ)
     (rows : List ℕ) (t : RowEffect)
     → ((n k : ℕ) (m : NotationState) (p : Option PartialItem)
@@ -97,22 +104,7 @@ reading_agrees : (z : Size) (v w : List ℕ) → Agree v w
 unfolding reading_on
 reading_agrees z v w h [] row cost notation part = refl
 reading_agrees z v w h (f ∷ rows) row cost notation None =
-    by_test (nat_lt f 32) (reading_agrees z v w h rows (row + 1) (cost + 6) notation (Some (part_of f)))
-  where
-    by_test : (b : Bool)
-        → reading_on z v (row + 1) (cost + 6) notation (Some (part_of f)) rows
-        ≡ reading_on z w (row + 1) (cost + 6) notation (Some (part_of f)) rows
-        → ◌≡◌ {A = Verdict}
-        (elim b [
-          | true ↦ reading_on z v (row + 1) (cost + 6) notation (Some (part_of f)) rows
-          | false ↦ Faulty row BadRow
-        ])
-        (elim b [
-          | true ↦ reading_on z w (row + 1) (cost + 6) notation (Some (part_of f)) rows
-          | false ↦ Faulty row BadRow
-        ])
-    by_test true ih = ih
-    by_test false ih = refl
+    search (rules, (reading_agrees z v w h rows (row + 1) (cost + 6) notation (Some (part_of f))))
 reading_agrees z v w h (c ∷ rows) row cost notation (Some part) =
     let setting = setting_of notation in
     let over_v = over notation.placed v in

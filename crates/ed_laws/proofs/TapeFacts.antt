@@ -1,13 +1,12 @@
 -- Blank tape before a tape, tapes of the two loaders, and what loading costs at most.
-use Rattle.ed_laws.proofs.Kit.{Size, cleared_cells, Settings, BadRow, PartialItem, RowEffect, Ended, Longer}
-use Rattle.ed_laws.proofs.Kit.{first_directive, length-append, ◌%◌, ◌*◌, ◌/◌, le-ltb, RowsReachEntry}
-use Rattle.ed_laws.proofs.Kit.{WellFormed, NotationState, AreDigits, Begun, digits_number, row_kind, rows_of, Arrived}
-use Rattle.ed_laws.proofs.Kit.{Faulty, part_of, reading_on, row_effect, setting_of}
-use Rattle.ed_laws.proofs.Kit.{Verdict, with_limit, opening_notation, [], ap, append-nil, append_assoc, arith, Bool}
-use Rattle.ed_laws.proofs.Kit.{false, length, List, nat_eq, nat_lt, None, Option, refl, replicate, rules, Some, subst}
-use Rattle.ed_laws.proofs.Kit.{suc, sym, true, ℕ, ◌++◌, ◌+◌, ◌-◌, ◌^◌, ◌∙◌, ◌∷◌, ◌≡◌, ◌≢◌, ◌≤◌, nat_tests, Text}
-use Rattle.ed_laws.proofs.Kit.{reading, run_end, ran_later, TapeEntry, over, first_state, ReachesEntry1, Tape}
-use Rattle.ed_laws.proofs.Kit.{paper_room, run_of, zero, reading_is_rules, LeadsIn, end_later}
+use Rattle.ed_laws.proofs.Kit.{common_steps, Size, cleared_cells, Settings, BadRow, PartialItem, RowEffect, Ended}
+use Rattle.ed_laws.proofs.Kit.{first_directive, length-append, ◌%◌, ◌*◌, ◌/◌, le-ltb, RowsReachEntry, WellFormed}
+use Rattle.ed_laws.proofs.Kit.{NotationState, AreDigits, Begun, digits_number, row_kind, rows_of, Arrived, Faulty}
+use Rattle.ed_laws.proofs.Kit.{part_of, reading_on, row_effect, setting_of, Verdict, with_limit, opening_notation, []}
+use Rattle.ed_laws.proofs.Kit.{ap, append-nil, append_assoc, arith, Bool, false, length, List, nat_lt, None, Option}
+use Rattle.ed_laws.proofs.Kit.{refl, replicate, rules, Some, subst, suc, sym, true, ℕ, ◌++◌, ◌+◌, ◌-◌, ◌^◌, ◌∙◌, ◌∷◌}
+use Rattle.ed_laws.proofs.Kit.{◌≡◌, ◌≤◌, Text, reading, run_end, ran_later, TapeEntry, over, first_state, ReachesEntry1}
+use Rattle.ed_laws.proofs.Kit.{Tape, paper_room, run_of, zero, reading_is_rules, LeadsIn, end_later}
 use Rattle.ed_initial1.proofs.Kit.{number_le, BeginsWith, AreItems, begun_rows1, ending_row, IsBegun1, IsFirst, Item1}
 use Rattle.ed_initial1.proofs.Kit.{rows_of1, spelled_rows1}
 use Rattle.std.proofs.lemmas.Bool.{lt-ltb}
@@ -20,18 +19,12 @@ use Rattle.ed_initial.specs.Entry.{at_entry}
 use Rattle.ed_laws.specs.TapeFacts.{BeginsAtPlace, BlankTapeIsPassed, NotationFacts, blank_cost, blank_tape}
 use Rattle.ed_laws.specs.TapeFacts.{entry_later}
 use Rattle.ed_laws.proofs.CountedRuns.{counted, run_same}
-use Rattle.ed_laws.proofs.TapeEntries.{leads}
-use Rattle.ed_laws.proofs.TapeEntries.{on_row}
+use Rattle.ed_laws.proofs.TapeEntries.{leads, on_function, on_row}
 
 -- ---- the cost of a text
 
 text_few : (r : Reading) (text tape : List ℕ) → IsReadingOf text r → r ≡ rows tape → length tape ≤ length text
-text_few (rows codes) text tape spells is =
-    let same : codes ≡ tape = rows_same is in
-    subst (λ (xs : List ℕ). length xs ≤ length text) same (few_rows text codes spells)
-  where
-    rows_same : {a b : List ℕ} → rows a ≡ rows b → a ≡ b
-    rows_same e = cc
+text_few (rows codes) text tape spells is = search (rules, few_rows)
 text_few r text tape spells is = absurd (cc)
 
 cheap : (text : Text) (tape : List ℕ) (e : TapeEntry) → reading text ≡ rows tape → length text ≤ 262144
@@ -108,15 +101,8 @@ module _ (z : Size) (words : List ℕ) (a b : ℕ) where
     row_later notation part c t = search rules
 
     function_later : (notation : NotationState) (f : ℕ) (t : Bool)
-        → ◌≡◌ {A = Verdict}
-        (elim t [
-          | true ↦ reading_on z words (row + a + 1) (cost + b + 6) notation (Some (part_of f)) rest
-          | false ↦ Faulty (row + a) BadRow
-        ])
-        (later a b (elim t [
-          | true ↦ reading_on z words (row + 1) (cost + 6) notation (Some (part_of f)) rest
-          | false ↦ Faulty row BadRow
-        ]))
+        → on_function z words (row + a) (cost + b) notation f rest t
+        ≡ later a b (on_function z words row cost notation f rest t)
     function_later notation f true = go 6 notation (Some (part_of f))
     function_later notation f false = refl
 
@@ -148,18 +134,8 @@ module _ (z : Size) (words : List ℕ) (f : ℕ) (m : NotationState) where
       let k : cost ≡ cost + 0 = omega arith in
       (blank, λ i. reading_on z words (r i) (k i) m (Some (item_so_far f n blank)) rest)
   digits_read (d ∷ ds) rest n blank row cost are fits =
-      let small : 10 * n + d ≤ 32767 = omega (arith, fits, number_le ds (10 * n + d)) in
-      let a = lt-ltb d 10 are.0 in
-      let b = le-ltb 32767 (10 * n + d) small in
-      let t : row_effect z (row_kind d) (over m.placed words) (setting_of m) (item_so_far f n blank) d
-      ≡ Longer (item_so_far f (10 * n + d) false) 9 = rw (a, b) refl in
-      let on = digits_read ds rest (10 * n + d) false (row + 1) (cost + 9) are.1 fits in
-      let r : row + 1 + length ds ≡ row + suc (length ds) = omega arith in
-      let k : cost + 9 + 9 * length ds ≡ cost + 9 * suc (length ds) = omega arith in (
-        on.0,
-        ap (on_row z words row cost m (item_so_far f n blank) d (ds ++ rest)) t ∙ on.1
-            ∙ (λ i. reading_on z words (r i) (k i) m (Some (item_so_far f (digits_number (10 * n + d) ds) on.0)) rest),
-      )
+      let more = digits_read ds rest (10 * n + d) false (row + 1) (cost + 9) are.1 fits in
+      search (rules, number_le, lt-ltb, le-ltb, more)
 
 -- ---- the blank tape
 
@@ -237,17 +213,8 @@ module _ (z : Size) (words : List ℕ) where
       }
 
   passed : (m : ℕ) (rest : List ℕ) (row cost : ℕ) (n : NotationState) → Passed m rest row cost n
-  passed m rest row cost n = by_test (nat_eq (m % 2) 0) refl
-    where
-      by_test : (b : Bool) → nat_eq (m % 2) 0 ≡ b → Passed m rest row cost n
-      by_test true is =
-          let none : m % 2 ≡ 0 = grind (arith, nat_tests) in
-          let two : 2 * (m / 2) ≡ m = omega (arith, none) in
-          subst (λ j. Passed j rest row cost n) two (even_passed (m / 2) rest row cost n)
-      by_test false is =
-          let other : m % 2 ≢ 0 = λ e. grind (arith, nat_tests) in
-          let two : 2 * (m / 2) + 1 ≡ m = omega (arith, other) in
-          subst (λ j. Passed j rest row cost n) two (odd_passed (m / 2) rest row cost n)
+  passed m rest row cost n =
+      grind (arith, common_steps, (even_passed (m / 2) rest row cost n), (odd_passed (m / 2) rest row cost n))
 
   -- T n K G K sets the directive and θ, whatever they were
   set_anew : (row cost : ℕ) (n : NotationState) (tape : List ℕ) (b : BeginsAtPlace tape) (directive theta : ℕ)

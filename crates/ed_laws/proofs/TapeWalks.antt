@@ -1,10 +1,10 @@
 -- A trace and a session reach the entry of a tape as its run does.
-use Rattle.ed_laws.proofs.Kit.{Ending, Limit, Stopped, Turn, few_codes, Settings, le-ltb, lt-leb, ap, arith, Bool}
-use Rattle.ed_laws.proofs.Kit.{false, if◌then◌else◌, length, List, nat_eq, nat_le, nat_lt, None, Option, refl, rules}
-use Rattle.ed_laws.proofs.Kit.{Some, sym, true, ℕ, ◌++◌, ◌+◌, ◌-◌, ◌<◌, ◌∙◌, ◌≡◌, ◌≤◌, nat_tests, step, State}
-use Rattle.ed_laws.proofs.Kit.{progress, state_after, least_below, AllWent, end_at, end_by, EndsAfter, run_end}
-use Rattle.ed_laws.proofs.Kit.{run_orders, ran_ends, TapeEntry, first_state, ending_line, status_of, move_end}
-use Rattle.ed_laws.proofs.Kit.{first_once, after_sum, move_orders, trace_to, ne_eqb, LeadsIn, letters_in}
+use Rattle.ed_laws.proofs.Kit.{few_codes, Settings, le-ltb, lt-leb, ap, arith, length, List, None, refl, rules, sym, ℕ}
+use Rattle.ed_laws.proofs.Kit.{◌++◌, ◌+◌, ◌-◌, ◌<◌, ◌∙◌, ◌≡◌, ◌≤◌, State, progress, state_after, least_below, AllWent}
+use Rattle.ed_laws.proofs.Kit.{end_at, EndsAfter, run_end, run_orders, ran_ends, TapeEntry, first_state, ending_line}
+use Rattle.ed_laws.proofs.Kit.{status_of, move_end, first_once, after_sum, move_orders, trace_to, ne_eqb, LeadsIn}
+use Rattle.ed_laws.proofs.Kit.{letters_in, cases_lt, inl, inr, ◌⊎◌}
+use Rattle.std.proofs.lemmas.Bool.{eq-eqb}
 use Rattle.ed_machine.proofs.LeastNumbers.{first_later}
 use Rattle.ed_machine.proofs.Steps.{no_step, quiet_stops}
 use Rattle.ed_run.proofs.Later.{past_on}
@@ -22,35 +22,22 @@ module _ (limit resumes k : ℕ) (s : State) (went : AllWent k s) (fits : k ≤ 
   abbrev pub t : State
   t = state_after k s
 
+  same_there : (j : ℕ) → j ≤ limit - k → (j < limit - k) ⊎ (limit - k ≤ j)
+      → end_at limit resumes limit (k + j) (progress j t) ≡ end_at (limit - k) resumes (limit - k) j (progress j t)
+  same_there j below (inl less) =
+      let few = few_codes j t in
+      let roomy = lt-leb limit (length (progress j t).codes) (omega (arith, few, less)) in
+      let roomy_too = lt-leb (limit - k) (length (progress j t).codes) (omega (arith, few, less)) in
+      rw (ne_eqb (k + j) limit (omega (arith, less, fits)), ne_eqb j (limit - k) (omega (arith, less)))
+      (rw (roomy, roomy_too) refl)
+  same_there j below (inr all) =
+      rw (eq-eqb (k + j) limit (omega (arith, all, below, fits)), eq-eqb j (limit - k) (omega (arith, all, below))) refl
+
   -- an end of the run from there is one of the whole run
   same_end : (j : ℕ) → j ≤ limit - k → end_at limit resumes limit (k + j) (progress (k + j) s)
       ≡ end_at (limit - k) resumes (limit - k) j (progress j t)
   same_end j below =
-      let p = progress j t in
-      ap (end_at limit resumes limit (k + j)) (past_on j k s went)
-      ∙ by_tests (nat_lt resumes p.stops) (nat_eq j (limit - k)) (nat_eq (k + j) limit)
-      (nat_le limit (length p.codes)) (nat_le (limit - k) (length p.codes)) eq_is
-      (λ other. lt-leb _ _ (omega (arith, few_codes j t, low other)))
-      (λ other. lt-leb _ _ (omega (arith, few_codes j t, low other)))
-    where
-      eq_is : nat_eq (k + j) limit ≡ nat_eq j (limit - k)
-      eq_is = grind (arith, nat_tests)
-
-      low : nat_eq j (limit - k) ≡ false → j < limit - k
-      low other = grind (arith, nat_tests)
-
-      turn : Turn
-      turn = (step (progress j t).state).turn
-
-      by_tests : (a b c full other : Bool) → c ≡ b → (b ≡ false → full ≡ false) → (b ≡ false → other ≡ false)
-          → ◌≡◌ {A = Option Ending}
-          (if a then Some Stopped else if c then Some Limit else end_by turn full)
-          (if a then Some Stopped else if b then Some Limit else end_by turn other)
-      by_tests true b c full other e f g = refl
-      by_tests false true true full other e f g = refl
-      by_tests false false false full other e f g = let x = f refl in let y = g refl in rw (x, y) refl
-      by_tests false true false full other e f g = absurd (cc)
-      by_tests false false true full other e f g = absurd (cc)
+      ap (end_at limit resumes limit (k + j)) (past_on j k s went) ∙ same_there j below (cases_lt j (limit - k))
 
   -- no end comes before
   none_before : (j : ℕ) → j < k → end_at limit resumes limit j (progress j s) ≡ None
@@ -104,7 +91,8 @@ module _ (s : Settings) (codes : List ℕ) (e : TapeEntry) (into : LeadsIn (firs
   traces_from_entry =
       let less = s.limit - e.cost in
       let on = goes_on s.limit s.resumes e.cost first into.went fits in
-      let note = λ (x : State). ending_line (run_end less s.resumes less x).ending (run_end less s.resumes less x).state in
+      let end = λ (x : State). run_end less s.resumes less x in
+      let note = λ (x : State). ending_line (end x).ending (end x).state in
       let letters = λ (x : State). letters_in (trace_to (run_orders less s.resumes less x) x) in
       record {
         letters = ap (λ n. letters_in (trace_to n first)) on.orders

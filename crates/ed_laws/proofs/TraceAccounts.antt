@@ -1,12 +1,13 @@
 -- The letters of a trace are the orders of its run, and its Zs are the stops.
-use Rattle.ed_laws.proofs.Kit.{filter-append, none-some, Kind, Ending, Limit, NoOrder, NoTape, PaperFull, Stopped}
-use Rattle.ed_laws.proofs.Kit.{Turn, counted_after, next_stops, past_next, length-append, byte_of, [], ap, arith, Bool}
-use Rattle.ed_laws.proofs.Kit.{false, if◌then◌else◌, length, map, nat_eq, nat_le, nat_lt, None, Option, refl, rules}
-use Rattle.ed_laws.proofs.Kit.{Some, subst, suc, sym, true, ℕ, ◌++◌, ◌+◌, ◌<◌, ◌∙◌, ◌∷◌, ◌≡◌, ◌≢◌, ◌≤◌, nat_tests}
-use Rattle.ed_laws.proofs.Kit.{Text, step, State, Progress, progress, state_after, end_by, run_end, run_orders, RunEnd}
-use Rattle.ed_laws.proofs.Kit.{ran_ends, first_state, paper_room, status_of, not, ◌==◌, AreObeyed, is_obeyed}
-use Rattle.ed_laws.proofs.Kit.{functions_after, trace_to, zero, same_Some, stops_of, function_of, kind_of_function}
-use Rattle.ed_laws.proofs.Kit.{next_word, obey_word, letters_in}
+use Rattle.ed_laws.proofs.Kit.{filter-append, none-some, Kind, Ending, Limit, Stopped, Turn, counted_after, next_stops}
+use Rattle.ed_laws.proofs.Kit.{past_next, length-append, byte_of, [], ap, arith, Bool, false, if◌then◌else◌, length}
+use Rattle.ed_laws.proofs.Kit.{map, nat_eq, nat_le, nat_lt, None, Option, refl, rules, Some, subst, suc, sym, true, ℕ}
+use Rattle.ed_laws.proofs.Kit.{◌++◌, ◌+◌, ◌<◌, ◌∙◌, ◌∷◌, ◌≡◌, ◌≤◌, nat_tests, Text, step, State, Progress, progress}
+use Rattle.ed_laws.proofs.Kit.{state_after, end_by, run_end, run_orders, RunEnd, ran_ends, first_state, paper_room}
+use Rattle.ed_laws.proofs.Kit.{status_of, not, ◌==◌, AreObeyed, is_obeyed, functions_after, trace_to, zero, same_Some}
+use Rattle.ed_laws.proofs.Kit.{stops_of, function_of, kind_of_function, next_word, obey_word, letters_in, cases_lt, inl}
+use Rattle.ed_laws.proofs.Kit.{inr, end_at}
+use Rattle.std.proofs.lemmas.Bool.{lt-ltb}
 use Rattle.std.specs.List.{filter}
 use Rattle.ed_words.specs.Words.{digit as one_if}
 use Rattle.ed_orders.specs.declared.kind.Kind.TheVariants.{Z}
@@ -130,27 +131,19 @@ module _ (limit resumes room : ℕ) (s : State) where
       by_tests false true e h = absurd (cc)
       by_tests false false e h = absurd (not_stopped_by (step (state_after k s)).turn _ h)
 
-  -- and not otherwise
-  no_more : ran.ending ≢ Stopped → (progress k s).stops ≤ resumes
-  no_more other = by_test (nat_lt resumes (progress k s).stops) refl (ran_ends limit resumes room s).now
-    where
-      by_test : (b : Bool) → nat_lt resumes (progress k s).stops ≡ b
-          → (if b then Some Stopped else if nat_eq k limit then Some Limit
-          else end_by (step (state_after k s)).turn (nat_le room (length (progress k s).codes))) ≡ Some ran.ending
-          → (progress k s).stops ≤ resumes
-      by_test true e h = absurd (other (sym (same_Some Stopped ran.ending h)))
-      by_test false e h = grind (arith, nat_tests)
+  -- and with more stops than resumes it ends at one
+  stopped_at : (j : ℕ) → resumes < (progress j s).stops → end_at limit resumes room j (progress j s) ≡ Some Stopped
+  stopped_at j more = rw (lt-ltb resumes (progress j s).stops more) refl
+
+  pub stopped_with_more : resumes < (progress k s).stops → ran.ending ≡ Stopped
+  stopped_with_more more = same_Some _ _ (sym (ran_ends limit resumes room s).now ∙ stopped_at k more)
 
   -- before that there were not
   few_before : (j : ℕ) → j < k → (progress j s).stops ≤ resumes
-  few_before j less = by_test (nat_lt resumes (progress j s).stops) refl ((ran_ends limit resumes room s).first j less)
-    where
-      by_test : (b : Bool) → nat_lt resumes (progress j s).stops ≡ b
-          → (if b then Some Stopped else if nat_eq j limit then Some Limit
-          else end_by (step (state_after j s)).turn (nat_le room (length (progress j s).codes))) ≡ None
-          → (progress j s).stops ≤ resumes
-      by_test true e h = absurd (none-some Stopped (sym h))
-      by_test false e h = grind (arith, nat_tests)
+  few_before j less = elim (cases_lt resumes (progress j s).stops) [
+    | inl more ↦ absurd (none-some Stopped (sym ((ran_ends limit resumes room s).first j less) ∙ stopped_at j more))
+    | inr few ↦ few
+  ]
 
   -- the last order was the stop
   pub record EndsByStop : Type 0 where
@@ -241,17 +234,7 @@ module _ (limit resumes : ℕ) (s : State) where
   end = (run_end limit resumes limit s).ending
 
   stop_by_zeds : stops_in (letters_in (trace_to n s)) ≡ resumes + 1 → status_of end ≡ 0
-  stop_by_zeds zeds = by_ending end refl
-    where
-      other : end ≢ Stopped → status_of end ≡ 0
-      other not = absurd (omega (arith, no_more limit resumes limit s not, zeds, zeds_count n s))
-
-      by_ending : (e : Ending) → end ≡ e → status_of end ≡ 0
-      by_ending Stopped is = ap status_of is
-      by_ending Limit is = other (λ h. let bad : Limit ≡ Stopped = sym is ∙ h in cc)
-      by_ending NoOrder is = other (λ h. let bad : NoOrder ≡ Stopped = sym is ∙ h in cc)
-      by_ending NoTape is = other (λ h. let bad : NoTape ≡ Stopped = sym is ∙ h in cc)
-      by_ending PaperFull is = other (λ h. let bad : PaperFull ≡ Stopped = sym is ∙ h in cc)
+  stop_by_zeds zeds = ap status_of (stopped_with_more limit resumes limit s (omega (arith, zeds, zeds_count n s)))
 
   last_zed : end ≡ Stopped → (before : Text) × (letters_in (trace_to n s) ≡ before ++ 90 ∷ [])
   last_zed is =

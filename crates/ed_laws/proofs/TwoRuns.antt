@@ -1,9 +1,8 @@
 -- Two runs from a state, of which one ends no sooner than the other.
-use Rattle.ed_laws.proofs.Kit.{none-some, Ending, Limit, Stopped, few_codes, past_sum, ran_is, lt-leb, StartsWith, ap}
-use Rattle.ed_laws.proofs.Kit.{arith, Bool, false, if◌then◌else◌, length, nat_eq, nat_le, nat_lt, None, Option, refl}
-use Rattle.ed_laws.proofs.Kit.{rules, Some, sym, true, ℕ, ◌+◌, ◌-◌, ◌<◌, ◌∙◌, ◌≡◌, ◌≢◌, ◌≤◌, nat_tests, step, State}
-use Rattle.ed_laws.proofs.Kit.{Progress, progress, state_after, least_below, end_at, end_by, EndsAfter, run_end}
-use Rattle.ed_laws.proofs.Kit.{run_orders, ran_ends, is_some, first_once, first_within, ne_eqb, same_Some}
+use Rattle.ed_laws.proofs.Kit.{Ending, Limit, Stopped, past_sum, ran_is, StartsWith, ap, arith, length, nat_le, None}
+use Rattle.ed_laws.proofs.Kit.{refl, rules, Some, sym, ℕ, ◌+◌, ◌-◌, ◌<◌, ◌∙◌, ◌≡◌, ◌≢◌, ◌≤◌, nat_tests, State, Progress}
+use Rattle.ed_laws.proofs.Kit.{progress, state_after, least_below, end_at, EndsAfter, run_end, run_orders, ran_ends}
+use Rattle.ed_laws.proofs.Kit.{is_some, first_once, first_within, ne_eqb, cases_lt, inl, inr, common_steps}
 
 -- ---- whatever the limits, the resumes and the papers
 
@@ -77,59 +76,41 @@ module _ (limit resumes more room : ℕ) (s : State) (few : resumes ≤ more) wh
       → SameRun limit resumes room limit more room s goes_on
   resumed_same other = same_run limit resumes room limit more room s goes_on (ends_so other)
 
--- ---- a trace with a greater limit: no paper is full
+-- ---- a greater limit
 
-module _ (low high resumes : ℕ) (s : State) (fits : low ≤ high) where
-  -- below the limit neither paper is full
-  roomy : (k : ℕ) → k < low → (nat_le low (length (progress k s).codes) ≡ false)
-      × (nat_le high (length (progress k s).codes) ≡ false)
-  roomy k less = search (rules, lt-leb, few_codes)
-
-  not_yet : (k : ℕ) → k ≤ low → nat_eq k low ≡ false → k < low
-  not_yet k most other = grind (arith, nat_tests)
-
-  most_orders : run_orders low resumes low s ≤ low
+-- on papers of which neither is full, or both are, below the lower limit
+module _ (low high resumes room room_too : ℕ) (s : State) (fits : low ≤ high)
+    (papers : (k : ℕ) → k < low
+    → nat_le room_too (length (progress k s).codes) ≡ nat_le room (length (progress k s).codes)) where
+  most_orders : run_orders low resumes room s ≤ low
   most_orders = least_below _ low
 
-  pub trace_on : GoesOnToo low resumes low high resumes high s
-  trace_on j less = by_tests (nat_lt resumes (progress j s).stops) (nat_eq j low) refl
-    where
-      by : ℕ → Option Ending
-      by room = end_by (step (state_after j s)).turn (nat_le room (length (progress j s).codes))
+  -- there the limits make no difference
+  same_end : (k : ℕ) → k < low
+      → end_at high resumes room_too k (progress k s) ≡ end_at low resumes room k (progress k s)
+  same_end k less =
+      rw (ne_eqb k low (omega (arith, less)), ne_eqb k high (omega (arith, less, fits)), papers k less) refl
 
-      by_tests : (b c : Bool) → nat_eq j low ≡ c
-          → (if b then Some Stopped else if c then Some Limit else by low) ≡ None
-          → (if b then Some Stopped else if nat_eq j high then Some Limit else by high) ≡ None
-      by_tests true c is h = absurd (none-some Stopped (sym h))
-      by_tests false true is h = absurd (none-some Limit (sym h))
-      by_tests false false is h =
-          let below = not_yet j (omega (arith, less, most_orders)) is in
-          let no : nat_eq j high ≡ false = ne_eqb j high (omega (arith, below, fits)) in
-          let papers = roomy j below in
-          rw (no, papers.1) (rw (papers.0) at h)
+  pub limit_on : GoesOnToo low resumes room high resumes room_too s
+  limit_on j less h = same_end j (omega (arith, less, most_orders)) ∙ h
 
-  trace_so : (run_end low resumes low s).ending ≢ Limit → EndsToo low resumes low high resumes high s
-  trace_so other e is = by_tests (nat_lt resumes (progress k s).stops) (nat_eq k low) refl
-    where
-      k : ℕ
-      k = run_orders low resumes low s
+  -- at the lower limit a run ends by it, or at a stop
+  at_limit : (k : ℕ) (p : Progress) (e : Ending) → e ≢ Limit → k ≡ low → end_at low resumes room k p ≡ Some e
+      → end_at high resumes room_too k p ≡ Some e
+  at_limit k p e other is h = grind (arith, common_steps, nat_tests)
 
-      by : ℕ → Option Ending
-      by room = end_by (step (state_after k s)).turn (nat_le room (length (progress k s).codes))
+  limit_so : (run_end low resumes room s).ending ≢ Limit → EndsToo low resumes room high resumes room_too s
+  limit_so other e is h = elim (cases_lt (run_orders low resumes room s) low) [
+    | inl less ↦ same_end _ less ∙ h
+    | inr no_less ↦ at_limit _ _ e (λ l. other (is ∙ l)) (omega (arith, no_less, most_orders)) h
+  ]
 
-      by_tests : (b c : Bool) → nat_eq k low ≡ c
-          → (if b then Some Stopped else if c then Some Limit else by low) ≡ Some e
-          → (if b then Some Stopped else if nat_eq k high then Some Limit else by high) ≡ Some e
-      by_tests true c here h = h
-      by_tests false true here h = absurd (other (is ∙ sym (same_Some Limit e h)))
-      by_tests false false here h =
-          let below = not_yet k most_orders here in
-          let no : nat_eq k high ≡ false = ne_eqb k high (omega (arith, below, fits)) in
-          let papers = roomy k below in
-          rw (no, papers.1) (rw (papers.0) at h)
+  pub limit_begins : StartsWith (run_end high resumes room_too s).codes (run_end low resumes room s).codes
+  limit_begins = codes_begin low resumes room high resumes room_too s limit_on
 
-  pub trace_later : run_orders low resumes low s ≤ run_orders high resumes high s
-  trace_later = no_sooner low resumes low high resumes high s trace_on
+  pub limit_later : run_orders low resumes room s ≤ run_orders high resumes room_too s
+  limit_later = no_sooner low resumes room high resumes room_too s limit_on
 
-  pub trace_same : (run_end low resumes low s).ending ≢ Limit → SameRun low resumes low high resumes high s trace_on
-  trace_same other = same_run low resumes low high resumes high s trace_on (trace_so other)
+  pub limit_same : (run_end low resumes room s).ending ≢ Limit
+      → SameRun low resumes room high resumes room_too s limit_on
+  limit_same other = same_run low resumes room high resumes room_too s limit_on (limit_so other)
