@@ -21,23 +21,10 @@ use Rattle.ed_syntax.specs.declared.fault.SourceCause.TheVariants as causes
 
 from_six : (lines before : List Line) (l : Line) (c : SourceCause) → LineHasNameFault lines before l c
     → (6 ≤ number_of c) × (number_of c ≤ 8)
-from_six lines before l causes.BadByte h = absurd h
-from_six lines before l causes.LongLine h = absurd h
-from_six lines before l causes.NotAStatement h = absurd h
-from_six lines before l causes.NumberRange h = absurd h
-from_six lines before l causes.TooManyLines h = absurd h
 from_six lines before l causes.LabelTwice h = (omega arith, omega arith)
 from_six lines before l causes.LabelUnknown h = (omega arith, omega arith)
 from_six lines before l causes.AddressRange h = (omega arith, omega arith)
-from_six lines before l causes.OutsideSegment h = absurd h
-from_six lines before l causes.LoaderStore h = absurd h
-from_six lines before l causes.ParameterStore h = absurd h
-from_six lines before l causes.StoreEnd h = absurd h
-from_six lines before l causes.Overlap h = absurd h
-from_six lines before l causes.NoSuchRoutine h = absurd h
-from_six lines before l causes.Parameters h = absurd h
-from_six lines before l causes.Enter h = absurd h
-from_six lines before l causes.SandwichDigit h = absurd h
+from_six lines before l c h = absurd h
 
 of_names : (lines before : List Line) (l : Line) → Least (LineHasNameFault lines before l)
     (naming_cause (symbols_from first_counter lines) (defines_again

@@ -19,44 +19,14 @@ numbered n =
 
 numbered_back : (c : SourceCause) → numbered (number_of c) ≡ c
 numbered_back causes.BadByte = refl
-numbered_back causes.LongLine = refl
-numbered_back causes.NotAStatement = refl
-numbered_back causes.NumberRange = refl
-numbered_back causes.TooManyLines = refl
-numbered_back causes.LabelTwice = refl
-numbered_back causes.LabelUnknown = refl
-numbered_back causes.AddressRange = refl
-numbered_back causes.OutsideSegment = refl
-numbered_back causes.LoaderStore = refl
-numbered_back causes.ParameterStore = refl
-numbered_back causes.StoreEnd = refl
-numbered_back causes.Overlap = refl
-numbered_back causes.NoSuchRoutine = refl
-numbered_back causes.Parameters = refl
-numbered_back causes.Enter = refl
-numbered_back causes.SandwichDigit = refl
+numbered_back c = refl
 
 pub same_cause : (a b : SourceCause) → number_of a ≡ number_of b → a ≡ b
 same_cause a b e = sym (numbered_back a) ∙ (ap (λ n. numbered n) e ∙ numbered_back b)
 
 pub number_of-most : (c : SourceCause) → number_of c ≤ 17
 number_of-most causes.BadByte = omega arith
-number_of-most causes.LongLine = omega arith
-number_of-most causes.NotAStatement = omega arith
-number_of-most causes.NumberRange = omega arith
-number_of-most causes.TooManyLines = omega arith
-number_of-most causes.LabelTwice = omega arith
-number_of-most causes.LabelUnknown = omega arith
-number_of-most causes.AddressRange = omega arith
-number_of-most causes.OutsideSegment = omega arith
-number_of-most causes.LoaderStore = omega arith
-number_of-most causes.ParameterStore = omega arith
-number_of-most causes.StoreEnd = omega arith
-number_of-most causes.Overlap = omega arith
-number_of-most causes.NoSuchRoutine = omega arith
-number_of-most causes.Parameters = omega arith
-number_of-most causes.Enter = omega arith
-number_of-most causes.SandwichDigit = omega arith
+number_of-most c = omega arith
 
 -- two least faults are the same
 pub one_least : {Has : ℕ → SourceCause → Type 0} {k m : ℕ} {c d : SourceCause} → IsLeastFault Has k c

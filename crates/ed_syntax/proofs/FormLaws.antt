@@ -1,12 +1,12 @@
 -- A line is read if and only if it is spelled.
-use Rattle.ed_syntax.proofs.Kit.{[], ap, Bool, codes, false, if◌then◌else◌, List, None, Option, refl, Some, true, ℕ}
+use Rattle.ed_syntax.proofs.Kit.{[], ap, Bool, codes, false, if◌then◌else◌, List, None, refl, Some, true, ℕ}
 use Rattle.ed_syntax.proofs.Kit.{◌&&◌, ◌==◌, ◌∙◌, ◌∷◌, ◌≡◌, list_all, and-false, and_parts, Decides-eqb}
 use Rattle.ed_syntax.proofs.Kit.{bytes_eq-Decides, value, Text, empty, label, labelled, long, negative, placed}
 use Rattle.ed_syntax.proofs.Kit.{positive, SpellsForm, SpellsInteger, SpellsPlaced, SpellsStatement, statement, text}
 use Rattle.ed_syntax.proofs.Kit.{version, word, is_place_name, is_number, LinePart, run, sign, is_version_two, Form}
 use Rattle.ed_syntax.proofs.Kit.{Statement}
 use Rattle.ed_syntax.proofs.PlacedLaws.{is_short, placed_is_read, placed_is_spelled}
-use Rattle.ed_syntax.proofs.Readings.{ranged, IsSpelled, Some-passed, some_is, made_ranged, made_spelled}
+use Rattle.ed_syntax.proofs.Readings.{ranged, IsSpelled, in_range, by_test, if_passed, made_ranged, made_spelled}
 use Rattle.ed_syntax.proofs.StatementLaws.{statement_is_read, statement_is_spelled}
 use Rattle.ed_syntax.specs.Reading.Grammar
 
@@ -79,36 +79,22 @@ form_is_read two _ _ _ _ (version n e f) short = version_is_read two n e f
 
 -- ---- what is read is spelled
 
-unlabelled_spelled : (two : Bool) (k : ℕ) (ps : List LinePart) (x : Option Form)
-    → Grammar.unlabelled_line two ps ≡ Some x → IsSpelled (SpellsForm two k) ps x
-unlabelled_spelled two k ps x h =
-    made_spelled _ _ just ps ps _ x (statement_is_spelled two ps) (λ s fits e. statement k ps s fits e) h
+unlabelled_spelled : (two : Bool) (k : ℕ) (ps : List LinePart)
+    → IsSpelled (SpellsForm two k) ps (Grammar.unlabelled_line two ps)
+unlabelled_spelled two k ps = made_spelled just (statement_is_spelled two ps) (statement k ps)
 
-labelled_spelled : (two : Bool) (k : ℕ) (a : Text) (ps : List LinePart) (x : Option Form) → is_place_name two a ≡ true
-    → Grammar.after_label two a ps ≡ Some x → IsSpelled (SpellsForm two k) (run a ∷ sign 58 ∷ ps) x
-labelled_spelled two k a [] x e h = record {
-  what = record { label = Some a; statement = None };
-  fits = true;
-  spelled = label k a e;
-  is = some_is _ x h;
-}
-labelled_spelled two k a (p ∷ ps) x e h =
-    made_spelled _ _ _ (p ∷ ps) _ _ x (placed_is_spelled two (p ∷ ps))
-    (λ s fits g. labelled k a (p ∷ ps) s fits e g) h
+labelled_spelled : (two : Bool) (k : ℕ) (a : Text) (ps : List LinePart) → is_place_name two a ≡ true
+    → IsSpelled (SpellsForm two k) (run a ∷ sign 58 ∷ ps) (Grammar.after_label two a ps)
+labelled_spelled two k a [] e = in_range _ (label k a e)
+labelled_spelled two k a (p ∷ ps) e = made_spelled (with_label a) (placed_is_spelled two (p ∷ ps))
+    (λ s fits h. labelled k a (p ∷ ps) s fits e h)
 
-form_spelled : (two : Bool) (k : ℕ) (ps : List LinePart) (x : Option Form) → Grammar.form two ps ≡ Some x
-    → IsSpelled (SpellsForm two k) ps x
-form_spelled two k [] x h = record { what = Grammar.empty; fits = true; spelled = empty k; is = some_is _ x h }
-form_spelled two k (run r ∷ sign s ∷ ps) x h = by_colon (s == 58) refl h
-  where
-    by_colon : (c : Bool) → (s == 58) ≡ c
-        → (if c then Grammar.labelled_line two r ps else Grammar.unlabelled_line two (run r ∷ sign s ∷ ps)) ≡ Some x
-        → IsSpelled (SpellsForm two k) (run r ∷ sign s ∷ ps) x
-    by_colon false e g = unlabelled_spelled two k (run r ∷ sign s ∷ ps) x g
-    by_colon true e g =
-        let p = Some-passed (is_place_name two r) _ x g in
-        rw ((Decides-eqb s 58).0 e) (labelled_spelled two k r ps x p.0 p.1)
-form_spelled two k y x h = unlabelled_spelled two k y x h
+form_spelled : (two : Bool) (k : ℕ) (ps : List LinePart) → IsSpelled (SpellsForm two k) ps (Grammar.form two ps)
+form_spelled two k [] = in_range _ (empty k)
+form_spelled two k (run r ∷ sign s ∷ ps) =
+    by_test (s == 58) (λ is. rw ((Decides-eqb s 58).0 is) (if_passed (is_place_name two r) (labelled_spelled two k r ps)))
+    (λ _. unlabelled_spelled two k (run r ∷ sign s ∷ ps))
+form_spelled two k ps = unlabelled_spelled two k ps
 
 version_spelled : (two : Bool) (ps : List LinePart) → is_version_two ps ≡ true
     → SpellsForm two 1 ps Grammar.empty true
@@ -118,16 +104,9 @@ version_spelled two (run w ∷ run n ∷ []) h =
     rw ((bytes_eq-Decides w _).0 p.0) (version n q.0 ((Decides-eqb (value n) 2).0 q.1))
 version_spelled two ps h = absurd (cc)
 
-pub form_is_spelled : (two : Bool) (k : ℕ) (ps : List LinePart) (x : Option Form) → Grammar.form_at two k ps ≡ Some x
-    → IsSpelled (SpellsForm two k) ps x
-form_is_spelled two k ps x = by_version ((k == 1) && is_version_two ps) refl
-  where
-    by_version : (c : Bool) → ((k == 1) && is_version_two ps) ≡ c
-        → (if c then Some (Some Grammar.empty) else Grammar.form two ps) ≡ Some x
-        → IsSpelled (SpellsForm two k) ps x
-    by_version false e g = form_spelled two k ps x g
-    by_version true e g =
-        let p = and_parts (k == 1) _ e in
-        let one : k ≡ 1 = (Decides-eqb k 1).0 p.0 in
-        let spelled : SpellsForm two k ps Grammar.empty true = rw one (version_spelled two ps p.1) in
-        record { what = Grammar.empty; fits = true; spelled = spelled; is = some_is _ x g }
+pub form_is_spelled : (two : Bool) (k : ℕ) (ps : List LinePart)
+    → IsSpelled (SpellsForm two k) ps (Grammar.form_at two k ps)
+form_is_spelled two k ps = by_test ((k == 1) && is_version_two ps) (λ e.
+    let p = and_parts (k == 1) _ e in
+    in_range _ (rw ((Decides-eqb k 1).0 p.0) (version_spelled two ps p.1)))
+    (λ _. form_spelled two k ps)

@@ -31,26 +31,8 @@ among P (x ∷ xs) b h e = by_test (x == b) refl e (among P xs b h.1)
 pub letter_within : (b : ℕ) → IfSome (setting_letter b) IsLetter
 letter_within b = by_test (list_any (λ c. c == b) (codes "HNM&LX")) refl
   where
-    letter : (n : ℕ) → 21 ≤ n → n ≤ 26 → IsLetter n
-    letter n h k = record { low = h; high = k }
-
     each : EachOf (λ c. IfSome (row_of c) IsLetter) (codes "HNM&LX")
-    each = (
-      letter 21 (omega arith) (omega arith),
-      (
-        letter 22 (omega arith) (omega arith),
-        (
-          letter 23 (omega arith) (omega arith),
-          (
-            letter 24 (omega arith) (omega arith),
-            (
-              letter 25 (omega arith) (omega arith),
-              (letter 26 (omega arith) (omega arith), tt),
-            ),
-          ),
-        ),
-      ),
-    )
+    each = omega arith
 
     by_test : (c : Bool) → list_any (λ x. x == b) (codes "HNM&LX") ≡ c → IfSome (if c then row_of b else None) IsLetter
     by_test true e = among (λ c. IfSome (row_of c) IsLetter) (codes "HNM&LX") b each e

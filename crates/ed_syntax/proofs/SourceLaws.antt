@@ -23,7 +23,6 @@ use Rattle.ed_syntax.proofs.Causes.{one_least}
 use Rattle.ed_syntax.proofs.LineLaws.{form_of, spelled_is_read, read_form_is_spelled, fits_once, one_form}
 use Rattle.ed_syntax.proofs.LineLaws.{out_of_range_is_spelled, unread_is_unspelled}
 use Rattle.ed_syntax.proofs.PartsLaws.{parts_are_read, read_parts_are}
-use Rattle.ed_syntax.specs.declared.fault.SourceCause.TheVariants as causes
 use Rattle.ed_syntax.proofs.Lines
 
 -- ---- the lines of a text
@@ -97,18 +96,7 @@ of_form two k line P a b c d e LongLine h = b h
 of_form two k line P a b c d e NotAStatement h = c h
 of_form two k line P a b c d e NumberRange h = d h
 of_form two k line P a b c d e TooManyLines h = e h
-of_form two k line P a b c d e causes.LabelTwice h = absurd h
-of_form two k line P a b c d e causes.LabelUnknown h = absurd h
-of_form two k line P a b c d e causes.AddressRange h = absurd h
-of_form two k line P a b c d e causes.OutsideSegment h = absurd h
-of_form two k line P a b c d e causes.LoaderStore h = absurd h
-of_form two k line P a b c d e causes.ParameterStore h = absurd h
-of_form two k line P a b c d e causes.StoreEnd h = absurd h
-of_form two k line P a b c d e causes.Overlap h = absurd h
-of_form two k line P a b c d e causes.NoSuchRoutine h = absurd h
-of_form two k line P a b c d e causes.Parameters h = absurd h
-of_form two k line P a b c d e causes.Enter h = absurd h
-of_form two k line P a b c d e causes.SandwichDigit h = absurd h
+of_form two k line P a b c d e cause h = absurd h
 
 -- the fault of a line with the least number
 pub record IsLeastOfLine (two : Bool) (k : ℕ) (line : Text) (c : SourceCause) : Type 0 where
