@@ -28,6 +28,10 @@ pub number_of-most : (c : SourceCause) → number_of c ≤ 17
 number_of-most causes.BadByte = omega arith
 number_of-most c = omega arith
 
+pub number_of-least : (c : SourceCause) → 1 ≤ number_of c
+number_of-least causes.BadByte = omega arith
+number_of-least c = omega arith
+
 -- two least faults are the same
 pub one_least : {Has : ℕ → SourceCause → Type 0} {k m : ℕ} {c d : SourceCause} → IsLeastFault Has k c
     → IsLeastFault Has m d → (k ≡ m) × (c ≡ d)
