@@ -48,10 +48,6 @@ of_line_among s (l ∷ earlier) e after h c =
     Contains-append_right (line_definitions l s) (symbols_from (after_statement l.statement s) (earlier ++ e ∷ after)) h
     (of_line_among (after_statement l.statement s) earlier e after h c)
 
-of_line_has : (s : LocationCounter) (lines : List Line) (h : Definition) → IsOfLine s lines h
-    → Contains (symbols_from s lines) h
-of_line_has s lines h r = rw r.2.lines_are (of_line_among s r.0 r.1 r.2.after h r.3)
-
 same_says : (a b : Option ℕ) → same_segment a b ≡ true → (k : ℕ) × (b ≡ Some k) × (a ≡ Some k)
 same_says None b h = cc
 same_says (Some x) None h = cc
@@ -102,9 +98,10 @@ again_says earlier (Some h) t =
     let a = Any-from_list_any (is_definition_of h.segment h.name) earlier (sym (found_any _ h.name earlier) ∙ t) in
     (h, refl, a.1, (a.0, a.2, a.3), alike_says h a.1 a.4)
 
-again_tests : (earlier : List Definition) (o : Option Definition) → IsAgain earlier o → is_again earlier o ≡ true
-again_tests earlier o a = ap (is_again earlier) a.1 ∙ (found_any _ a.0.name earlier
-    ∙ list_any-from_Any _ earlier (a.3.0, a.2, a.3.1, a.3.2, alike_tests a.0 a.2 a.4))
+again_tests : (earlier : List Definition) (o : Option Definition) (h other : Definition) → o ≡ Some h
+    → Contains earlier other → AreAlike h other → is_again earlier o ≡ true
+again_tests earlier o h other e c alike = ap (is_again earlier) e ∙ (found_any _ h.name earlier
+    ∙ list_any-from_Any _ earlier (c.0, other, c.1, c.2, alike_tests h other alike))
 
 module _ (before : List Line) (l : Line) where
   abbrev here : LocationCounter
@@ -119,69 +116,37 @@ module _ (before : List Line) (l : Line) where
   abbrev earlier_homes : List Definition
   earlier_homes = symbols_from first_counter before
 
-  by_label : IsAgain earlier_homes labels → DefinesAgain before l
-  by_label a = let r = of_line_says first_counter before a.2 a.3 in
-      inl (
-        a.0,
-        Contains-append_left (as_list labels) (as_list names) a.0 (listed_has labels a.0 a.1),
-        r.0,
-        r.1,
-        r.2,
-        a.2,
-        r.3,
-        a.4,
-      )
-
-  by_name : IsAgain (earlier_homes ++ as_list labels) names → DefinesAgain before l
-  by_name a = elim (Contains-append_cases earlier_homes (as_list labels) a.2 a.3) [
-    | inl c ↦ let r = of_line_says first_counter before a.2 c in
-        inl (
-          a.0,
-          Contains-append_right (as_list labels) (as_list names) a.0 (listed_has names a.0 a.1),
-          r.0,
-          r.1,
-          r.2,
-          a.2,
-          r.3,
-          a.4,
-        )
-    | inr c ↦ inr (a.0, a.1, a.2, listed_says labels a.2 c, a.4)
-  ]
+  -- the line defines a name that an earlier line defines
+  of_earlier : (h other : Definition) → Contains (line_definitions l here) h → Contains earlier_homes other
+      → AreAlike h other → DefinesAgain before l
+  of_earlier h other c d alike =
+      let r = of_line_says first_counter before other d in inl (h, c, r.0, r.1, r.2, other, r.3, alike)
 
   either : (is_again earlier_homes labels ≡ true)
       ⊎ (is_again (earlier_homes ++ as_list labels) names ≡ true) → DefinesAgain before l
-  either (inl t) = by_label (again_says earlier_homes labels t)
-  either (inr t) = by_name (again_says (earlier_homes ++ as_list labels) names t)
+  either (inl t) =
+      let a = again_says earlier_homes labels t in
+      of_earlier a.0 a.2 (Contains-append_left (as_list labels) _ a.0 (listed_has labels a.0 a.1)) a.3 a.4
+  either (inr t) =
+      let a = again_says (earlier_homes ++ as_list labels) names t in
+      elim (Contains-append_cases earlier_homes (as_list labels) a.2 a.3) [
+        | inl c ↦
+            of_earlier a.0 a.2 (Contains-append_right (as_list labels) _ a.0 (listed_has names a.0 a.1)) c a.4
+        | inr c ↦ inr (a.0, a.1, a.2, listed_says labels a.2 c, a.4)
+      ]
 
   again_of : DefinesAgain before l → defines_again earlier_homes l here ≡ true
   again_of (inl (h, c, e, x, stands, other, d, alike)) =
-      by_case (Contains-append_cases (as_list labels) (as_list names) h c)
-    where
-      among : Contains earlier_homes other
-      among = of_line_has first_counter before other (e, x, stands, d)
-
-      by_case : Contains (as_list labels) h ⊎ Contains (as_list names) h → defines_again earlier_homes l here ≡ true
-      by_case (inl g) = or_left _ _
-          (again_tests earlier_homes labels (h, listed_says labels h g, other, among, alike))
-      by_case (inr g) = or_right _ _ (again_tests _ names (
-        h,
-        listed_says names h g,
-        other,
-        Contains-append_left earlier_homes (as_list labels) other among,
-        alike,
-      ))
-  again_of (inr (h, e, other, d, alike)) =
-      or_right _ _ (again_tests _ names (
-        h,
-        e,
-        other,
-        Contains-append_right earlier_homes (as_list labels) other (listed_has labels other d),
-        alike,
-      ))
+      let among : Contains earlier_homes other =
+      rw stands.lines_are (of_line_among first_counter e x stands.after other d) in
+      elim (Contains-append_cases (as_list labels) (as_list names) h c) [
+        | inl g ↦ or_left _ _ (again_tests earlier_homes labels h other (listed_says labels h g) among alike)
+        | inr g ↦ or_right _ _ (again_tests _ names h other (listed_says names h g)
+            (Contains-append_left earlier_homes (as_list labels) other among) alike)
+      ]
+  again_of (inr (h, e, other, d, alike)) = or_right _ _ (again_tests _ names h other e
+      (Contains-append_right earlier_homes (as_list labels) other (listed_has labels other d)) alike)
 
   pub Ties-s6 : Ties (defines_again (symbols_from first_counter before) l (counter_after before))
       (DefinesAgain before l)
-  Ties-s6 = record {
-    says = λ t. either (or_cases _ _ t);
-    tests = again_of;
-  }
+  Ties-s6 = record { says = λ t. either (or_cases _ _ t); tests = again_of }

@@ -110,10 +110,7 @@ module _ (lines before : List Line) (l : Line) where
 
   pub Ties-s7 : Ties (names_unknown (symbols_from first_counter lines) l (counter_after before))
       (NamesUnknown lines before l)
-  Ties-s7 = record {
-    says = λ h. unknown_by (or_cases _ _ h);
-    tests = unknown_of;
-  }
+  Ties-s7 = record { says = λ h. unknown_by (or_cases _ _ h); tests = unknown_of }
 
 -- the value of an operand with a name is not an address
 abbrev IsFar : List Definition → Option ℕ → Operand → Type 0
