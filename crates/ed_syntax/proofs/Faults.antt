@@ -1,6 +1,6 @@
 -- What the code answers, by what is read.
 use Rattle.ed_syntax.proofs.Kit.{[], ap, arith, Bool, Err, false, if◌then◌else◌, inl, inr, length, List, map, None, Ok}
-use Rattle.ed_syntax.proofs.Kit.{Option, option_map, refl, Some, sym, true, ℕ, ◌<◌, ◌∷◌, ◌≡◌, ◌≤◌, ◌⊎◌, list_all}
+use Rattle.ed_syntax.proofs.Kit.{Option, option_map, refl, Some, sym, true, ℕ, ◌<◌, ◌∷◌, ◌≡◌, ◌≤◌, ◌⊎◌, list_all, rules}
 use Rattle.ed_syntax.proofs.Kit.{le-ltb, Text, is_place_name, is_line_byte, LinePart, form_result, part, form_at}
 use Rattle.ed_syntax.proofs.Kit.{is_plus_or_minus, labelled_line, placed_statement, Ranged, ranged_map, parts_of}
 use Rattle.ed_syntax.proofs.Kit.{line_of, or_cause, NotAStatement, NumberRange, Form, FormFault, NotThisForm}
@@ -13,9 +13,7 @@ use Rattle.ed_syntax.specs.declared.parts.Part.TheVariants.{Run, Sign}
 -- what is made of what is not read is not read, with the same fault
 pub made_fault : {A B : Type 0} (f : A → B) (o : Option (Ranged A)) (e : FormFault) → Err e ≡ form_result o
     → Err e ≡ form_result (ranged_map f o)
-made_fault f None e h = let same : e ≡ NotThisForm = cc in ap (λ (x : FormFault). Err x) same
-made_fault f (Some None) e h = let same : e ≡ OutOfRange = cc in ap (λ (x : FormFault). Err x) same
-made_fault f (Some (Some a)) e h = absurd (cc)
+made_fault f o e h = search rules
 
 -- and what is made of what is read is read
 pub made_form : {A B : Type 0} (f : A → B) (o : Option (Ranged A)) (a : A) → Ok a ≡ form_result o
@@ -26,21 +24,15 @@ made_form f o a h = absurd (cc)
 -- what the number of a run is, by what is read
 pub number_in_range : (digits : Bool) (o : Ranged ℕ) (k : ℕ) → Ok k ≡ form_result (if digits then Some o else None)
     → (digits ≡ true) × (o ≡ Some k)
-number_in_range true None k h = absurd (cc)
-number_in_range true (Some n) k h = (refl, cc)
-number_in_range false o k h = absurd (cc)
+number_in_range digits o k h = search rules
 
 pub number_out_of_range : (digits : Bool) (o : Ranged ℕ) (e : FormFault) → e ≡ OutOfRange
     → Err e ≡ form_result (if digits then Some o else None) → (digits ≡ true) × (o ≡ None)
-number_out_of_range true None e out h = (refl, refl)
-number_out_of_range true (Some n) e out h = absurd (cc)
-number_out_of_range false o e out h = absurd (cc)
+number_out_of_range digits o e out h = search rules
 
 pub no_number : (digits : Bool) (o : Ranged ℕ) (e : FormFault) → e ≡ NotThisForm
     → Err e ≡ form_result (if digits then Some o else None) → digits ≡ false
-no_number true None e none h = absurd (cc)
-no_number true (Some n) e none h = absurd (cc)
-no_number false o e none h = refl
+no_number digits o e none h = search rules
 
 -- a line of plain bytes, which is not too long, says what its parts say
 pub line_read : (two : Bool) (k : ℕ) (line : Text) (parts : List LinePart) → list_all is_line_byte line ≡ true
@@ -49,9 +41,7 @@ line_read two k line parts plain short e = rw (plain, le-ltb 120 (length line) s
 
 -- a line without a form, or with a number out of its range, has its fault
 pub line_fault : (o : Option (Ranged Form)) → Err NotThisForm ≡ form_result o → or_cause o ≡ Err NotAStatement
-line_fault None h = refl
-line_fault (Some None) h = absurd (cc)
-line_fault (Some (Some f)) h = absurd (cc)
+line_fault o h = search rules
 
 pub range_fault : (o : Option (Ranged Form)) → Err OutOfRange ≡ form_result o → or_cause o ≡ Err NumberRange
 range_fault (Some None) h = refl

@@ -1,13 +1,13 @@
 -- What is spelled with its numbers in their ranges is a form that a line of a program may have.
-use Rattle.ed_syntax.proofs.Kit.{[], ap, Bool, IfSome, length, List, map, nat_le, nat_lt, neg_ℤ, Option, pos, refl}
-use Rattle.ed_syntax.proofs.Kit.{Some, subst, suc, sym, true, unsigned_abs, zero, ℕ, ℤ, ◌<◌, ◌^◌, ◌∙◌, ◌∷◌, ◌≡◌}
-use Rattle.ed_syntax.proofs.Kit.{list_all, and_from, and_parts, le-leb, lt-ltb, length-map, value, Text, row_of}
-use Rattle.ed_syntax.proofs.Kit.{AreRowsOf, bare_order, data_rows, difference, enter, fetch, fetch_with, label}
-use Rattle.ed_syntax.proofs.Kit.{labelled, last, long, minus, more, name, number, order, placed, plus, segment}
-use Rattle.ed_syntax.proofs.Kit.{segment_at, setting, SpellsForm, SpellsOperand, SpellsPlaced, SpellsSetting}
-use Rattle.ed_syntax.proofs.Kit.{SpellsSettings, SpellsStatement, statement, sum, text, word, is_name, is_place_name}
+use Rattle.ed_syntax.proofs.Kit.{[], ap, Bool, IfSome, List, map, nat_le, nat_lt, neg_ℤ, Option, pos, refl}
+use Rattle.ed_syntax.proofs.Kit.{Some, subst, suc, true, unsigned_abs, zero, ℕ, ℤ, ◌<◌, ◌^◌, ◌∙◌, ◌∷◌, ◌≡◌, rules}
+use Rattle.ed_syntax.proofs.Kit.{list_all, and_from, and_parts, le-leb, lt-ltb, value, Text, row_of, arith}
+use Rattle.ed_syntax.proofs.Kit.{AreRowsOf, bare_order, difference, label}
+use Rattle.ed_syntax.proofs.Kit.{labelled, last, long, minus, more, name, number, order, plus}
+use Rattle.ed_syntax.proofs.Kit.{setting, SpellsForm, SpellsOperand, SpellsPlaced, SpellsSetting}
+use Rattle.ed_syntax.proofs.Kit.{SpellsSettings, SpellsStatement, statement, sum, text, word, is_place_name}
 use Rattle.ed_syntax.proofs.Kit.{function, LinePart, modulo, are_rows, is_form, is_operand, is_setting, is_statement}
-use Rattle.ed_syntax.proofs.Kit.{may_have_label, Form, Operand, Setting, Statement}
+use Rattle.ed_syntax.proofs.Kit.{may_have_label, Form, Operand, Setting, Statement, common_steps}
 use Rattle.std.proofs.Common.{lit<}
 use Rattle.ed_syntax.specs.Forms.{EachSpelledIsForm, FormsAreSpelled}
 use Rattle.ed_syntax.proofs.Ranges.{IsLetter, letter_within, function_fits, modulo_fits, row_fits}
@@ -61,10 +61,7 @@ codes_fit (b ∷ q) (r ∷ rows) e =
     others x y xs ys e = cc
 
 rows_fit : (q : Text) (rows : List ℕ) → AreRowsOf q rows → are_rows rows ≡ true
-rows_fit q rows h =
-    let size : length q ≡ length rows =
-    sym (length-map q row_of) ∙ ap length h.each ∙ length-map rows (λ r. Some r) in
-    and_from (nat_le 1 (length rows)) _ (sym (ap (nat_le 1) size) ∙ h.some) (codes_fit q rows h.each)
+rows_fit q rows h = grind (arith, common_steps, codes_fit)
 
 word_fits : (z : ℤ) → nat_lt (modulo 17 z) (2 ^ 17) ≡ true
 word_fits z = lt-ltb _ _ (modulo_fits (2 ^ 17) z (lit< tt))
@@ -86,14 +83,7 @@ placed_fits two _ _ _ (text q rows g) h = (refl, rows_fit q rows g)
 
 statement_fits : (two : Bool) (ps : List LinePart) (s : Statement) (fits : Bool) → SpellsStatement two ps s fits
     → fits ≡ true → is_statement two s ≡ true
-statement_fits two _ _ _ (placed ps s fits g) h = (placed_fits two ps s fits g h).1
-statement_fits two _ _ _ (segment a e) h = and_from (is_name a) true e refl
-statement_fits two _ _ _ (segment_at a n e f) h = and_from (is_name a) _ e h
-statement_fits two _ _ _ (fetch a b e f) h = and_from (is_name a) _ e (and_from (is_name b) true f refl)
-statement_fits two _ _ _ (fetch_with a b ps ss fits e f g few) h =
-    and_from (is_name a) _ e (and_from (is_name b) _ f (settings_fit two ps ss fits g h))
-statement_fits two _ _ _ (enter a e) h = e
-statement_fits two _ _ _ (data_rows q rows g) h = rows_fit q rows g
+statement_fits two ps s fits h fit = search (rules, placed_fits, settings_fit, rows_fit)
 
 form_fits : (two : Bool) (k : ℕ) (ps : List LinePart) (f : Form) (fits : Bool) → SpellsForm two k ps f fits
     → fits ≡ true → is_form two f.label f.statement ≡ true

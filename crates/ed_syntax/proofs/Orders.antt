@@ -1,6 +1,6 @@
 -- An order, by its function and by what follows.
-use Rattle.ed_syntax.proofs.Kit.{ap, Bool, Err, None, Ok, Option, option_and_then, option_map, refl, Some, ℕ, ◌∙◌, ◌≡◌}
-use Rattle.ed_syntax.proofs.Kit.{form_result, Ranged, NotThisForm, OutOfRange, Operand, Statement}
+use Rattle.ed_syntax.proofs.Kit.{Bool, Err, None, Ok, Option, option_and_then, option_map, Some, ℕ, ◌≡◌}
+use Rattle.ed_syntax.proofs.Kit.{form_result, Ranged, NotThisForm, OutOfRange, Operand, Statement, rules}
 use Rattle.ed_syntax.specs.declared.program.Statement.TheVariants as statements
 
 -- what a function and what follows it make
@@ -12,27 +12,15 @@ made_order function end =
 pub order_made : (function : Option ℕ) (end : Option (Ranged Operand × Bool)) (f : ℕ) (x : Ranged Operand) (o : Operand)
     (l : Bool) → function ≡ Some f → Some (x, l) ≡ end → x ≡ Some o
     → Ok (statements.Order f o l) ≡ form_result (made_order function end)
-order_made None end f x o l h e is = absurd (cc)
-order_made (Some g) None f x o l h e is = absurd (cc)
-order_made (Some g) (Some (y, m)) f x o l h e is =
-    let function : g ≡ f = cc in
-    let same : (y, m) ≡ (x, l) = cc in
-    let operand : y ≡ Some o = ap (λ (p : Ranged Operand × Bool). p.0) same ∙ is in
-    let length : m ≡ l = ap (λ (p : Ranged Operand × Bool). p.1) same in rw (function, operand, length) refl
+order_made function end f x o l h e is = search rules
 
 -- an order whose operand has its number out of its range
 pub order_out_of_range : (function : Option ℕ) (end : Option (Ranged Operand × Bool)) (f : ℕ) (x : Ranged Operand)
     (l : Bool) → function ≡ Some f → Some (x, l) ≡ end → x ≡ None
     → Err OutOfRange ≡ form_result (made_order function end)
-order_out_of_range None end f x l h e is = absurd (cc)
-order_out_of_range (Some g) None f x l h e is = absurd (cc)
-order_out_of_range (Some g) (Some (y, m)) f x l h e is =
-    let same : (y, m) ≡ (x, l) = cc in
-    let operand : y ≡ None = ap (λ (p : Ranged Operand × Bool). p.0) same ∙ is in rw operand refl
+order_out_of_range function end f x l h e is = search rules
 
 -- nothing after the function makes an order
 pub no_order : (function : Option ℕ) (end : Option (Ranged Operand × Bool)) (f : ℕ)
     → function ≡ Some f → None ≡ end → Err NotThisForm ≡ form_result (made_order function end)
-no_order None end f h e = absurd (cc)
-no_order (Some g) None f h e = refl
-no_order (Some g) (Some p) f h e = absurd (cc)
+no_order function end f h e = search rules

@@ -3,8 +3,8 @@ use Rattle.ed_syntax.proofs.Kit.{[], ap, arith, Bool, codes, Err, false, get_or,
 use Rattle.ed_syntax.proofs.Kit.{length, List, nat_lt, None, not, Ok, Option, refl, Result, Some, subst, suc, sym}
 use Rattle.ed_syntax.proofs.Kit.{true, zero, ℕ, ◌&&◌, ◌++◌, ◌+◌, ◌<◌, ◌==◌, ◌∙◌, ◌∷◌, ◌≡◌, ◌≤◌, ◌⊎◌, list_all}
 use Rattle.ed_syntax.proofs.Kit.{and_parts, le-leb, le-ltb, ltb-true, Decides-eqb, nat_tests, bytes_eq-Decides, value}
-use Rattle.ed_syntax.proofs.Kit.{Text, number_of, HasNumberOutOfRange, IsNoStatement, ended, HasLines, lines_of}
-use Rattle.ed_syntax.proofs.Kit.{with_byte, without_return, is_line_byte, is_number, LinePart, run, IsFaultOf}
+use Rattle.ed_syntax.proofs.Kit.{Text, number_of, ended, HasLines, lines_of}
+use Rattle.ed_syntax.proofs.Kit.{with_byte, without_return, is_line_byte, LinePart, run, IsFaultOf}
 use Rattle.ed_syntax.proofs.Kit.{is_version_two, parts_of, Fault, line_of, lines_from, or_cause, with_first, and_more}
 use Rattle.ed_syntax.proofs.Kit.{IsFormFault, IsOfVersion, IsPlain, IsProgram, IsVersionTwo, LineSays, LinesSay}
 use Rattle.ed_syntax.proofs.Kit.{no_more, SourceCause, BadByte, NotAStatement, NumberRange, SourceFault, At, Memory}
