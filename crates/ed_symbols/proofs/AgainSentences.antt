@@ -1,10 +1,10 @@
 -- The same for the fault S6, of names that are defined again.
 use Rattle.ed_symbols.proofs.Kit.{is_some, list_any, or_cases, or_left, or_right, Any-from_list_any, list_any-from_Any}
-use Rattle.ed_symbols.proofs.Kit.{Line, [], ap, arith, Bool, false, if◌then◌else◌, inl, inr, List, None, not, Option}
-use Rattle.ed_symbols.proofs.Kit.{refl, Some, subst, sym, true, ℕ, ◌++◌, ◌||◌, ◌∙◌, ◌∷◌, ◌≡◌, ◌⊎◌, counter_after}
+use Rattle.ed_symbols.proofs.Kit.{Line, [], ap, arith, Bool, false, if◌then◌else◌, inl, inr, List, not, Option}
+use Rattle.ed_symbols.proofs.Kit.{refl, Some, subst, sym, true, ℕ, ◌++◌, ◌||◌, ◌∷◌, ◌≡◌, ◌⊎◌, counter_after, rules}
 use Rattle.ed_symbols.proofs.Kit.{counter_from, IsLineAfter, defines_again, definition_of, line_definitions}
 use Rattle.ed_symbols.proofs.Kit.{symbols_from, after_statement, first_counter, LocationCounter, Definition}
-use Rattle.ed_syntax.proofs.Kit.{suc, zero, and_from, and_parts, bytes_eq-Decides}
+use Rattle.ed_syntax.proofs.Kit.{and_from, bytes_eq-Decides}
 use Rattle.std.specs.List.{Contains}
 use Rattle.std.proofs.lemmas.Bool.{eqb-true, eq-eqb}
 use Rattle.std.proofs.lemmas.List.Elements.{Contains-append_cases, Contains-append_left, Contains-append_right}
@@ -17,9 +17,7 @@ none_in : {A : Type 0} (x : A) → Contains [] x → ⊥
 none_in x h = absurd (omega (arith, h.1))
 
 listed_says : (o : Option Definition) (h : Definition) → Contains (as_list o) h → o ≡ Some h
-listed_says None h c = absurd (none_in h c)
-listed_says (Some x) h (zero, below, is) = ap (λ y. Some y) is
-listed_says (Some x) h (suc k, below, is) = absurd (omega (arith, below))
+listed_says o h c = search (rules, none_in)
 
 listed_has : (o : Option Definition) (h : Definition) → o ≡ Some h → Contains (as_list o) h
 listed_has o h e = subst (λ x. Contains (as_list x) h) (sym e) (0, omega arith, refl)
@@ -49,30 +47,21 @@ of_line_among s (l ∷ earlier) e after h c =
     (of_line_among (after_statement l.statement s) earlier e after h c)
 
 same_says : (a b : Option ℕ) → same_segment a b ≡ true → (k : ℕ) × (b ≡ Some k) × (a ≡ Some k)
-same_says None b h = cc
-same_says (Some x) None h = cc
-same_says (Some x) (Some y) h = (y, refl, ap (λ n. Some n) (eqb-true x y h))
+same_says a b h = search (rules, eqb-true)
 
 same_tests : (a b : Option ℕ) (k : ℕ) → b ≡ Some k → a ≡ Some k → same_segment a b ≡ true
 same_tests a b k e d = rw d (rw e (eq-eqb k k refl))
 
 local_says : (is : Bool) (a b : Option ℕ) → (not is || same_segment a b) ≡ true → is ≡ true
     → (k : ℕ) × (b ≡ Some k) × (a ≡ Some k)
-local_says true a b h e = same_says a b h
-local_says false a b h e = cc
+local_says is a b h e = search (rules, same_says)
 
 local_tests : (is : Bool) (a b : Option ℕ) → (is ≡ true → (k : ℕ) × (b ≡ Some k) × (a ≡ Some k))
     → (not is || same_segment a b) ≡ true
-local_tests false a b h = refl
-local_tests true a b h = let k = h refl in same_tests a b k.0 k.1 k.2
+local_tests is a b h = search (rules, same_tests)
 
 alike_says : (h other : Definition) → is_definition_of h.segment h.name other ≡ true → AreAlike h other
-alike_says h other t =
-    let p = and_parts _ _ t in
-    record {
-      names = (bytes_eq-Decides _ h.name).0 p.0;
-      segments = local_says _ _ _ p.1;
-    }
+alike_says h other t = search (rules, bytes_eq-Decides, local_says)
 
 alike_tests : (h other : Definition) → AreAlike h other → is_definition_of h.segment h.name other ≡ true
 alike_tests h other a = and_from _ _ ((bytes_eq-Decides _ h.name).1 a.names) (local_tests _ _ _ a.segments)
@@ -93,15 +82,11 @@ abbrev IsAgain : List Definition → Option Definition → Type 0
 IsAgain earlier o = (h : Definition) × (o ≡ Some h) × (other : Definition) × Contains earlier other × AreAlike h other
 
 again_says : (earlier : List Definition) (o : Option Definition) → is_again earlier o ≡ true → IsAgain earlier o
-again_says earlier None t = cc
-again_says earlier (Some h) t =
-    let a = Any-from_list_any (is_definition_of h.segment h.name) earlier (sym (found_any _ h.name earlier) ∙ t) in
-    (h, refl, a.1, (a.0, a.2, a.3), alike_says h a.1 a.4)
+again_says earlier o t = search (rules, Any-from_list_any, found_any, alike_says)
 
 again_tests : (earlier : List Definition) (o : Option Definition) (h other : Definition) → o ≡ Some h
     → Contains earlier other → AreAlike h other → is_again earlier o ≡ true
-again_tests earlier o h other e c alike = ap (is_again earlier) e ∙ (found_any _ h.name earlier
-    ∙ list_any-from_Any _ earlier (c.0, other, c.1, c.2, alike_tests h other alike))
+again_tests earlier o h other e c alike = search (rules, found_any, list_any-from_Any, alike_tests)
 
 module _ (before : List Line) (l : Line) where
   abbrev here : LocationCounter

@@ -1,7 +1,7 @@
 -- A pass over the lines finds the first line that has a fault of its kind.
-use Rattle.ed_symbols.proofs.Kit.{SourceCause, SourceFault, At, Memory, Line, [], ap, append_assoc, arith, inl, inr}
+use Rattle.ed_symbols.proofs.Kit.{SourceCause, SourceFault, At, Memory, Line, [], append_assoc, arith, inl, inr}
 use Rattle.ed_symbols.proofs.Kit.{length, length-append, List, None, Option, Some, subst, sym, ℕ, ◌++◌, ◌+◌, ◌<◌, ◌∙◌}
-use Rattle.ed_symbols.proofs.Kit.{◌∷◌, ◌≡◌, ◌≤◌, ◌⊎◌, append-nil, number_of, IsLineAfter, or_later}
+use Rattle.ed_symbols.proofs.Kit.{◌∷◌, ◌≡◌, ◌≤◌, ◌⊎◌, append-nil, number_of, IsLineAfter, or_later, rules}
 use Rattle.ed_symbols.proofs.LeastFaults.{Least}
 
 -- what a pass finds that tests each line by the lines before it
@@ -46,12 +46,7 @@ module _ (ask : List Line → Line → Option SourceCause) (Rule : List Line →
     Clear n = (b : List Line) (l : Line) (c : SourceCause) → IsLineAfter lines b l → Rule b l c → n ≤ length b
 
     at_end : (before : List Line) → lines ≡ before ++ [] → Clear (length before) → Finds Rule lines None
-    at_end before e clear b l c st h =
-        let g = clear b l c st h in
-        let n : length lines ≡ length b + length (l ∷ st.after) =
-        ap (λ (x : List Line). length x) st.lines_are ∙ length-append b _ in
-        let m : length lines ≡ length before = ap (λ (x : List Line). length x) (e ∙ append-nil before) in
-        omega (arith, g, n, m)
+    at_end before e clear = search (rules, length-append, append-nil)
 
     pub finds : (before rest : List Line) → lines ≡ before ++ rest → Clear (length before)
         → Finds Rule lines (first ask before rest)

@@ -2,7 +2,7 @@
 use Rattle.ed_symbols.proofs.Kit.{at_drop_all, drop_more, SourceCause, SourceFault, At, Line, ap, Bool, drop, get_or}
 use Rattle.ed_symbols.proofs.Kit.{length, List, None, Option, refl, Some, sym, ℕ, ◌++◌, ◌+◌, ◌<◌, ◌∙◌, ◌∷◌, ◌≡◌, ◌≤◌}
 use Rattle.ed_symbols.proofs.Kit.{defines_again, naming_cause, naming_fault_from, line_definitions, after_statement}
-use Rattle.ed_symbols.proofs.Kit.{LocationCounter, Definition}
+use Rattle.ed_symbols.proofs.Kit.{LocationCounter, Definition, arith, common_steps}
 use Rattle.std.proofs.Math.Seq.{drop-cons}
 
 -- a line with a fault, at an index, is the first one among those from that index upwards
@@ -37,6 +37,4 @@ goes_on symbols earlier s {more} {s'} {lines} {read} {i} {l} whole inside is sam
 pub none_left : (symbols earlier : List Definition) (s : LocationCounter) {lines read : List Line} {i : ℕ}
     {wanted : Option SourceFault}
     → read ≡ lines → length read ≤ i → naming_fault_from symbols earlier s (drop i lines) ≡ wanted → None ≡ wanted
-none_left symbols earlier s {lines} {read} {i} whole past before =
-    sym (at_drop_all (λ (xs : List Line). naming_fault_from symbols earlier s xs) read i past)
-    ∙ ap (λ (xs : List Line). naming_fault_from symbols earlier s (drop i xs)) whole ∙ before
+none_left symbols earlier s whole past before = grind (arith, common_steps, at_drop_all)

@@ -1,7 +1,7 @@
 -- The fault of names that is looked for is that of the definition.
 use Rattle.ed_symbols.proofs.Kit.{SourceCause, SourceFault, At, Memory, Line, [], ap, append_assoc, arith, length}
 use Rattle.ed_symbols.proofs.Kit.{length-append, List, None, Option, refl, Some, sym, ℕ, ◌++◌, ◌+◌, ◌<◌, ◌∙◌, ◌∷◌, ◌≡◌}
-use Rattle.ed_symbols.proofs.Kit.{◌≤◌, ◌⊎◌, append-nil, number_of, counter_after, counter_from, IsLineAfter}
+use Rattle.ed_symbols.proofs.Kit.{◌≤◌, ◌⊎◌, append-nil, number_of, counter_after, counter_from, IsLineAfter, rules}
 use Rattle.ed_symbols.proofs.Kit.{defines_again, names_unknown, naming_cause, naming_fault_from, or_later}
 use Rattle.ed_symbols.proofs.Kit.{reaches_outside, line_definitions, symbols_from, after_statement, first_counter}
 use Rattle.ed_symbols.proofs.Kit.{LocationCounter}
@@ -21,10 +21,7 @@ use Rattle.ed_syntax.specs.declared.fault.SourceCause.TheVariants as causes
 
 from_six : (lines before : List Line) (l : Line) (c : SourceCause) → LineHasNameFault lines before l c
     → (6 ≤ number_of c) × (number_of c ≤ 8)
-from_six lines before l causes.LabelTwice h = (omega arith, omega arith)
-from_six lines before l causes.LabelUnknown h = (omega arith, omega arith)
-from_six lines before l causes.AddressRange h = (omega arith, omega arith)
-from_six lines before l c h = absurd h
+from_six lines before l c h = search rules
 
 of_names : (lines before : List Line) (l : Line) → Least (LineHasNameFault lines before l)
     (naming_cause (symbols_from first_counter lines) (defines_again
@@ -89,12 +86,7 @@ AtLine Rule lines k c = (b : List Line) × (l : Line) × IsLineAfter lines b l �
 
 pub found_says : (Rule : List Line → Line → SourceCause → Type 0) (lines : List Line) (f : Option SourceFault)
     → Finds Rule lines f → SaysLeast (AtLine Rule lines) f
-found_says Rule lines None h = λ k c a. h a.0 a.1 c a.2 a.4
-found_says Rule lines (Some Memory) h = h
-found_says Rule lines (Some (At k cause)) h = (
-  h.0,
-  λ r o a. rw a.3 (h.1 a.0 a.1 o a.2 a.4),
-)
+found_says Rule lines f h = search rules
 
 -- ---- the law
 
@@ -113,8 +105,7 @@ say_names lines numbered = found_says _ lines (resolution lines).fault (rw (name
     (λ b l c st h. omega arith)))
 
 fault_of : (lines : List Line) (f : Option SourceFault) → SaysLeast (HasNameFault lines) f → NameFaultIs lines f
-fault_of lines (Some (At k c)) h = record { is = h.0; least = h.1 }
-fault_of lines f h = h
+fault_of lines f h = search rules
 
 -- the fault that is found is that of the source
 pub found_is : (lines : List Line) → AreNumbered lines → NameFaultIs lines (resolution lines).fault
