@@ -1,6 +1,6 @@
 -- What is spelled with its numbers in their ranges is a form that a line of a program may have.
 use Rattle.ed_syntax.proofs.Kit.{[], ap, Bool, IfSome, List, map, nat_le, nat_lt, neg_ℤ, Option, pos, refl}
-use Rattle.ed_syntax.proofs.Kit.{Some, subst, suc, true, unsigned_abs, zero, ℕ, ℤ, ◌<◌, ◌^◌, ◌∙◌, ◌∷◌, ◌≡◌, rules}
+use Rattle.ed_syntax.proofs.Kit.{Some, subst, true, unsigned_abs, ℕ, ℤ, ◌<◌, ◌^◌, ◌∙◌, ◌∷◌, ◌≡◌, rules}
 use Rattle.ed_syntax.proofs.Kit.{list_all, and_from, and_parts, le-leb, lt-ltb, value, Text, row_of, arith}
 use Rattle.ed_syntax.proofs.Kit.{AreRowsOf, bare_order, difference, label}
 use Rattle.ed_syntax.proofs.Kit.{labelled, last, long, minus, more, name, number, order, plus}
@@ -18,8 +18,7 @@ some_has : (P : ℕ → Type 0) (o : Option ℕ) (n : ℕ) → o ≡ Some n → 
 some_has P o n e h = subst (λ (x : Option ℕ). IfSome x P) e h
 
 negative_size : (n : ℕ) → unsigned_abs (neg_ℤ (pos n)) ≡ n
-negative_size zero = refl
-negative_size (suc n) = refl
+negative_size n = search rules
 
 operand_fits : (two : Bool) (ps : List LinePart) (o : Operand) (fits : Bool) → SpellsOperand two ps o fits
     → fits ≡ true → is_operand two o ≡ true

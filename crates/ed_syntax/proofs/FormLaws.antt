@@ -1,8 +1,8 @@
 -- A line is read if and only if it is spelled.
-use Rattle.ed_syntax.proofs.Kit.{[], ap, Bool, codes, false, if◌then◌else◌, List, None, refl, Some, true, ℕ}
-use Rattle.ed_syntax.proofs.Kit.{◌&&◌, ◌==◌, ◌∙◌, ◌∷◌, ◌≡◌, list_all, and-false, and_parts, Decides-eqb}
+use Rattle.ed_syntax.proofs.Kit.{[], Bool, codes, false, List, None, refl, Some, true, ℕ, rules}
+use Rattle.ed_syntax.proofs.Kit.{◌==◌, ◌∙◌, ◌∷◌, ◌≡◌, list_all, and-false, Decides-eqb}
 use Rattle.ed_syntax.proofs.Kit.{bytes_eq-Decides, value, Text, empty, label, labelled, long, negative, placed}
-use Rattle.ed_syntax.proofs.Kit.{positive, SpellsForm, SpellsInteger, SpellsPlaced, SpellsStatement, statement, text}
+use Rattle.ed_syntax.proofs.Kit.{positive, SpellsForm, SpellsInteger, SpellsPlaced, SpellsStatement, statement}
 use Rattle.ed_syntax.proofs.Kit.{version, word, is_place_name, is_number, LinePart, run, sign, is_version_two, Form}
 use Rattle.ed_syntax.proofs.Kit.{Statement}
 use Rattle.ed_syntax.proofs.PlacedLaws.{is_short, placed_is_read, placed_is_spelled}
@@ -23,9 +23,7 @@ with_label a s = record { label = Some a; statement = Some s }
 -- a line that isn't `version 2` is read alike with any number
 no_version : (two : Bool) (k : ℕ) (ps : List LinePart) → is_version_two ps ≡ false
     → Grammar.form_at two k ps ≡ Grammar.form two ps
-no_version two k ps e =
-    ap (λ (c : Bool). if (k == 1) && c then Some (Some Grammar.empty) else Grammar.form two ps) e
-    ∙ ap (λ (c : Bool). if c then Some (Some Grammar.empty) else Grammar.form two ps) (and-false (k == 1))
+no_version two k ps e = search (rules, and-false)
 
 -- a statement begins with no label, and is not `version 2`
 record IsUnlabelled (two : Bool) (ps : List LinePart) : Type 0 where
@@ -54,8 +52,7 @@ statement_unlabelled two _ _ _ x = record { first = refl; other = refl }
 -- what may have a label is not an empty list of parts
 after_label : (two : Bool) (a : Text) (ps : List LinePart) (s : Statement) (fits : Bool) → SpellsPlaced two ps s fits
     → Grammar.after_label two a ps ≡ Grammar.ranged_map (with_label a) (Grammar.placed_statement two ps)
-after_label two a _ _ _ (text q rows h) = refl
-after_label two a _ _ _ h = refl
+after_label two a ps s fits h = search rules
 
 label_first : (two : Bool) (k : ℕ) (a : Text) (ps : List LinePart) → is_place_name two a ≡ true
     → Grammar.form_at two k (run a ∷ sign 58 ∷ ps) ≡ Grammar.after_label two a ps
@@ -98,15 +95,8 @@ form_spelled two k ps = unlabelled_spelled two k ps
 
 version_spelled : (two : Bool) (ps : List LinePart) → is_version_two ps ≡ true
     → SpellsForm two 1 ps Grammar.empty true
-version_spelled two (run w ∷ run n ∷ []) h =
-    let p = and_parts _ _ h in
-    let q = and_parts _ _ p.1 in
-    rw ((bytes_eq-Decides w _).0 p.0) (version n q.0 ((Decides-eqb (value n) 2).0 q.1))
-version_spelled two ps h = absurd (cc)
+version_spelled two ps h = search (rules, bytes_eq-Decides, version)
 
 pub form_is_spelled : (two : Bool) (k : ℕ) (ps : List LinePart)
     → IsSpelled (SpellsForm two k) ps (Grammar.form_at two k ps)
-form_is_spelled two k ps = by_test ((k == 1) && is_version_two ps) (λ e.
-    let p = and_parts (k == 1) _ e in
-    in_range _ (rw ((Decides-eqb k 1).0 p.0) (version_spelled two ps p.1)))
-    (λ _. form_spelled two k ps)
+form_is_spelled two k ps = search (rules, in_range, version_spelled, form_spelled)

@@ -1,5 +1,5 @@
 -- A text is read as the form that it spells.
-use Rattle.ed_syntax.proofs.Kit.{ap, arith, Bool, false, length, length-append, List, nat_le, None, Option}
+use Rattle.ed_syntax.proofs.Kit.{arith, Bool, false, length, length-append, List, nat_le, None, Option, rules}
 use Rattle.ed_syntax.proofs.Kit.{option_and_then, refl, Some, sym, true, ℕ, ◌∙◌, ◌∷◌, ◌≡◌, ◌≤◌, list_all, le-leb}
 use Rattle.ed_syntax.proofs.Kit.{leb-true, Text, blank, comment, HasLineParts, IsNoStatement, nothing, one_run}
 use Rattle.ed_syntax.proofs.Kit.{one_sign, one_string, SpellsLine, LinePart, parts_of, Form}
@@ -29,9 +29,7 @@ few_bytes _ _ (one_run b r text ps e g h) le =
 -- a line that spells a form is read as it
 pub spelled_is_read : (two : Bool) (k : ℕ) (text : Text) (f : Form) (fits : Bool) → length text ≤ 120
     → SpellsLine two k text f fits → form_of two k text ≡ Some (ranged fits f)
-spelled_is_read two k text f fits le s =
-    ap (option_and_then (Grammar.form_at two k)) (parts_are_read text s.parts s.has_parts)
-    ∙ form_is_read two k s.parts f fits s.spells (few_bytes text s.parts s.has_parts le)
+spelled_is_read two k text f fits le s = search (rules, parts_are_read, form_is_read, few_bytes)
 
 -- a text that is read as a form spells it
 pub read_form_is_spelled : (two : Bool) (k : ℕ) (text : Text) (f : Form) → form_of two k text ≡ Some (Some f)

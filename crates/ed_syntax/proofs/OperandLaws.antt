@@ -1,11 +1,11 @@
 -- An operand is read if and only if it is spelled.
-use Rattle.ed_syntax.proofs.Kit.{[], ap, arith, Bool, false, inl, inr, List, nat_le, None, not, Option}
-use Rattle.ed_syntax.proofs.Kit.{pos, refl, Some, true, ℕ, ◌&&◌, ◌++◌, ◌==◌, ◌||◌, ◌∙◌, ◌∷◌, ◌≡◌}
+use Rattle.ed_syntax.proofs.Kit.{[], ap, arith, Bool, false, inl, inr, List, nat_le, not, Option, rules}
+use Rattle.ed_syntax.proofs.Kit.{pos, refl, Some, true, ℕ, ◌&&◌, ◌++◌, ◌==◌, ◌∙◌, ◌∷◌, ◌≡◌}
 use Rattle.ed_syntax.proofs.Kit.{and_parts, Decides-eqb, nat_tests, is_digit, value, Text, difference}
 use Rattle.ed_syntax.proofs.Kit.{minus, name, number, plus, SpellsOperand, sum, is_local_name, is_lower, is_name}
 use Rattle.ed_syntax.proofs.Kit.{is_place_name, is_number, LinePart, run, sign, with_sign, is_plus_or_minus}
 use Rattle.ed_syntax.proofs.Kit.{Operand}
-use Rattle.ed_syntax.proofs.Readings.{ranged, IsSpelled, unread, out_of_range, in_range, IsSpelledFirst, none, first}
+use Rattle.ed_syntax.proofs.Readings.{ranged, IsSpelled, out_of_range, in_range, IsSpelledFirst, none, first}
 use Rattle.ed_syntax.proofs.Readings.{map_ranged, by_range, by_test, if_passed}
 use Rattle.std.proofs.lemmas.Bool.{or_cases, cond_both, not-true}
 use Rattle.ed_syntax.specs.Reading.Grammar
@@ -20,21 +20,13 @@ first_no_digit : (b : ℕ) (bs : Text) → is_digit b ≡ false → is_number (b
 first_no_digit b bs e = rw e
 
 name_is_no_number : (a : Text) → is_name a ≡ true → is_number a ≡ false
-name_is_no_number [] e = refl
-name_is_no_number (b ∷ bs) e = first_no_digit b bs (lower_is_no_digit b (and_parts _ _ e).0)
+name_is_no_number a e = search (rules, first_no_digit, lower_is_no_digit)
 
 local_is_no_number : (a : Text) → is_local_name a ≡ true → is_number a ≡ false
-local_is_no_number [] e = refl
-local_is_no_number (b ∷ bs) e =
-    let is : b ≡ 95 = (Decides-eqb b 95).0 (and_parts (b == 95) _ e).0 in
-    first_no_digit b bs (ap is_digit is)
+local_is_no_number a e = search (rules, first_no_digit)
 
 pub place_name_is_no_number : (two : Bool) (a : Text) → is_place_name two a ≡ true → is_number a ≡ false
-place_name_is_no_number two a e = by_name (is_name a) refl e
-  where
-    by_name : (c : Bool) → is_name a ≡ c → (c || (two && is_local_name a)) ≡ true → is_number a ≡ false
-    by_name true f g = name_is_no_number a f
-    by_name false f g = local_is_no_number a (and_parts two (is_local_name a) g).1
+place_name_is_no_number two a e = search (rules, name_is_no_number, local_is_no_number)
 
 -- ---- what is spelled is read
 
@@ -46,8 +38,7 @@ ends parts = true
 -- a number or a name, and no sign after it
 alone : (two : Bool) (r : Text) (rest : List LinePart) → ends rest ≡ true
     → Grammar.operand two (run r ∷ rest) ≡ Grammar.with_rest rest (Grammar.single two r)
-alone two r (sign s ∷ rest) e = rw (not-true _ e) refl
-alone two r rest e = refl
+alone two r rest e = search (rules, not-true)
 
 single_number : (two : Bool) (n : Text) → is_number n ≡ true
     → Grammar.single two n ≡ Some (ranged (nat_le (value n) 32767) (operands.Number (value n)))
@@ -60,9 +51,7 @@ single_name two a e = let other = place_name_is_no_number two a e in simp (other
 joined_number : (two : Bool) (a n : Text) (s : ℕ) → is_place_name two a ≡ true → is_number n ≡ true
     → Grammar.joined_operand two a s n
     ≡ Some (ranged (nat_le (value n) 1023) (operands.Label a (with_sign (s == 45) (value n))))
-joined_number two a n s e f =
-    simp (e, f) (ap (λ (x : Option Operand). Some x)
-    (map_ranged (λ k. operands.Label a (with_sign (s == 45) k)) _ (value n)))
+joined_number two a n s e f = search (rules, map_ranged)
 
 joined_name : (two : Bool) (a b : Text) (s : ℕ) → is_place_name two a ≡ true → is_place_name two b ≡ true
     → two ≡ true → Grammar.joined_operand two a s b ≡ Some (Some (operands.Two a b (s == 45)))
@@ -101,9 +90,7 @@ joined_spelled two a n s h = elim (or_cases (s == 43) (s == 45) h) [
 -- an operand with what is left after it
 left : {two : Bool} {o : Option (Option Operand)} (ps rest : List LinePart) → IsSpelled (SpellsOperand two) ps o
     → IsSpelledFirst (SpellsOperand two) (ps ++ rest) (Grammar.with_rest rest o)
-left ps rest unread = none
-left ps rest (out_of_range a s) = first ps rest None refl (out_of_range a s)
-left ps rest (in_range a s) = first ps rest (Some a) refl (in_range a s)
+left ps rest s = search (rules, none, first, out_of_range, in_range)
 
 pub operand_is_spelled : (two : Bool) (parts : List LinePart)
     → IsSpelledFirst (SpellsOperand two) parts (Grammar.operand two parts)

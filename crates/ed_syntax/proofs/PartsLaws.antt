@@ -1,5 +1,5 @@
 -- A text has the parts that are read in it, and no others.
-use Rattle.ed_syntax.proofs.Kit.{[], ap, append_assoc, false, List, None, Option, option_map}
+use Rattle.ed_syntax.proofs.Kit.{[], ap, append_assoc, false, List, None, Option, option_map, rules}
 use Rattle.ed_syntax.proofs.Kit.{refl, Some, true, ℕ, ◌++◌, ◌==◌, ◌∙◌, ◌∷◌, ◌≡◌, Decides-eqb}
 use Rattle.ed_syntax.proofs.Kit.{Text, blank, comment, HasLineParts, is_sign, nothing, one_run, one_sign, one_string}
 use Rattle.ed_syntax.proofs.Kit.{is_run_byte, has_quote, is_blank, LinePart, quoted, run, sign, parts_from, parts_of}
@@ -65,8 +65,7 @@ before_run b _ _ e h t = absurd (cc)
 -- what is made of what is read
 made : {A B : Type 0} (P : A → Type 0) (Q : B → Type 0) (f : A → B) (o : Option A) → IfSome o P
     → ((x : A) → P x → Q (f x)) → IfSome (option_map f o) Q
-made P Q f None h step = tt
-made P Q f (Some x) h step = step x h
+made P Q f o h step = search rules
 
 run_byte : (b : ℕ) (bs : Text) (ps : List LinePart) → is_run_byte b ≡ true → HasLineParts bs ps
     → HasLineParts (b ∷ bs) (with_run_byte b bs ps)

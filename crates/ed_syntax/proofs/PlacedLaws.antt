@@ -1,12 +1,12 @@
 -- A statement that may have a label is read if and only if it is spelled.
-use Rattle.ed_syntax.proofs.Kit.{[], ap, Bool, codes, false, if◌then◌else◌, length, List, map, nat_le, None, not}
+use Rattle.ed_syntax.proofs.Kit.{[], ap, Bool, codes, false, length, List, map, nat_le, None, rules}
 use Rattle.ed_syntax.proofs.Kit.{Option, option_and_then, option_map, refl, Some, true, ℕ, ℤ, ◌&&◌, ◌++◌}
-use Rattle.ed_syntax.proofs.Kit.{◌==◌, ◌∙◌, ◌∷◌, ◌≡◌, list_all, bytes_eq, and_parts, Decides-eqb, bytes_eq-Decides}
-use Rattle.ed_syntax.proofs.Kit.{value, Text, row_of, AreRowsOf, bare_order, long, negative, number, order, positive}
+use Rattle.ed_syntax.proofs.Kit.{◌==◌, ◌∷◌, ◌≡◌, list_all, bytes_eq, and_parts, Decides-eqb, bytes_eq-Decides}
+use Rattle.ed_syntax.proofs.Kit.{value, Text, row_of, AreRowsOf, bare_order, long, negative, order, positive}
 use Rattle.ed_syntax.proofs.Kit.{SpellsInteger, SpellsOperand, SpellsPlaced, text, word, array, function, is_number}
 use Rattle.ed_syntax.proofs.Kit.{length_of, LinePart, modulo, quoted, run, sign, with_sign, is_plus_or_minus, Operand}
 use Rattle.ed_syntax.proofs.Kit.{Statement}
-use Rattle.ed_syntax.proofs.OperandLaws.{ends, operand_is_read, operand_is_spelled}
+use Rattle.ed_syntax.proofs.OperandLaws.{operand_is_read, operand_is_spelled}
 use Rattle.ed_syntax.proofs.Readings.{ranged, IsSpelled, unread, in_range, IsSpelledFirst, first, map_ranged, by_number}
 use Rattle.ed_syntax.proofs.Readings.{made_ranged, made_spelled, if_passed, by_keyword, by_option}
 use Rattle.ed_syntax.specs.Reading.Grammar
@@ -17,13 +17,7 @@ use Rattle.ed_syntax.specs.declared.program.Statement.TheVariants as statements
 
 -- an F or a D is not a plus or minus
 length_ends : (e : ℕ) (l : Bool) → length_of e ≡ Some l → is_plus_or_minus e ≡ false
-length_ends e l = by_test (e == 70) (e == 68) refl refl
-  where
-    by_test : (c d : Bool) → (e == 70) ≡ c → (e == 68) ≡ d
-        → (if c then Some false else if d then Some true else None) ≡ Some l → is_plus_or_minus e ≡ false
-    by_test true d f g h = ap is_plus_or_minus ((Decides-eqb e 70).0 f)
-    by_test false true f g h = ap is_plus_or_minus ((Decides-eqb e 68).0 g)
-    by_test false false f g h = absurd (cc)
+length_ends e l h = search rules
 
 -- an operand and the length after it
 abbrev with_length : Option (Option Operand × List LinePart) → Option (Option Operand × Bool)
@@ -32,16 +26,12 @@ with_length o = option_and_then (λ p. option_map (λ l. (p.0, l)) (Grammar.leng
 -- an operand doesn't begin with a sign
 operand_first : (two : Bool) (ps rest : List LinePart) (o : Operand) (fits : Bool) → SpellsOperand two ps o fits
     → Grammar.order_end two (ps ++ rest) ≡ with_length (Grammar.operand two (ps ++ rest))
-operand_first two _ rest _ _ (number n e) = refl
-operand_first two _ rest _ _ h = refl
+operand_first two ps rest o fits h = search rules
 
 order_end_is_read : (two : Bool) (ps : List LinePart) (o : Operand) (fits : Bool) (e : ℕ) (l : Bool)
     → SpellsOperand two ps o fits → length_of e ≡ Some l
     → Grammar.order_end two (ps ++ sign e ∷ []) ≡ Some (ranged fits o, l)
-order_end_is_read two ps o fits e l h k =
-    let stops : ends (sign e ∷ []) ≡ true = ap not (length_ends e l k) in
-    operand_first two ps _ o fits h ∙ ap with_length (operand_is_read two ps o fits _ h stops)
-    ∙ ap (option_map (λ b. (ranged fits o, b))) k
+order_end_is_read two ps o fits e l h k = search (rules, length_ends, operand_first, operand_is_read)
 
 -- an order, by its function and its end
 abbrev order_of : ℕ → Option Operand × Bool → Option Statement
@@ -50,10 +40,7 @@ order_of f p = option_map (λ o. statements.Order f o p.1) p.0
 order_is_read : (two : Bool) (b f : ℕ) (parts : List LinePart) (o : Operand) (l fits : Bool) → function b ≡ Some f
     → Grammar.order_end two parts ≡ Some (ranged fits o, l)
     → Grammar.order two b parts ≡ Some (ranged fits (statements.Order f o l))
-order_is_read two b f parts o l fits h k =
-    ap (option_and_then (λ g. option_map (order_of g) (Grammar.order_end two parts))) h
-    ∙ ap (option_map (order_of f)) k
-    ∙ ap (λ (x : Option Statement). Some x) (map_ranged (λ a. statements.Order f a l) fits o)
+order_is_read two b f parts o l fits h k = search (rules, map_ranged)
 
 -- ---- what is spelled is read: numbers and strings
 
@@ -63,8 +50,7 @@ number_is_read most n e = rw e refl
 
 integer_is_read : (least most : ℕ) (ps : List LinePart) (z : ℤ) (fits : Bool) → SpellsInteger least most ps z fits
     → Grammar.integer least most ps ≡ Some (ranged fits z)
-integer_is_read least most _ _ _ (positive n e) = made_ranged _ _ _ (value n) (number_is_read most n e)
-integer_is_read least most _ _ _ (negative n e) = made_ranged _ _ _ (value n) (number_is_read least n e)
+integer_is_read least most ps z fits h = search (rules, made_ranged, number_is_read)
 
 -- a line has no room for longer strings
 abbrev pub is_short : LinePart → Bool
@@ -110,8 +96,7 @@ placed_is_read two _ _ _ (text q rows h) few =
 by_length : {S : List LinePart → Statement → Bool → Type 0} {ps : List LinePart} (f : ℕ) (x : Option Operand)
     (o : Option Bool) → ((l : Bool) → o ≡ Some l → IsSpelled S ps (Some (order_of f (x, l))))
     → IsSpelled S ps (option_map (order_of f) (option_map (λ l. (x, l)) o))
-by_length f x None g = unread
-by_length f x (Some l) g = g l refl
+by_length f x o g = search (rules, unread)
 
 operand_order : (two : Bool) (b f : ℕ) (parts : List LinePart) (o : Option (Option Operand × List LinePart))
     → function b ≡ Some f → IsSpelledFirst (SpellsOperand two) parts o
@@ -153,17 +138,7 @@ pub string_spelled : {S : List LinePart → Statement → Bool → Type 0} {w : 
     (ps : List LinePart)
     → ((q : Text) (rows : List ℕ) → AreRowsOf q rows → S (run w ∷ quoted q ∷ []) (f rows) true)
     → IsSpelled S (run w ∷ ps) (option_map (λ rows. Some (f rows)) (Grammar.string ps))
-string_spelled {S = S} {w = w} f (quoted q ∷ []) step = go _ refl
-  where
-    go : (c : Bool) → (nat_le 1 (length q) && (nat_le (length q) 120 && list_all (λ b. Grammar.spells (row_of b)) q)) ≡ c
-        → IsSpelled S (run w ∷ quoted q ∷ []) (option_map (λ rows. Some (f rows))
-        (if c then Some (map (λ b. Grammar.row (row_of b)) q) else None))
-    go true e =
-        let c = and_parts _ _ e in
-        let d = and_parts _ _ c.1 in
-        in_range _ (step q _ (record { some = c.0; each = rows_are row_of q d.1 }))
-    go false e = unread
-string_spelled f ps step = unread
+string_spelled f ps step = search (rules, in_range, rows_are, unread)
 
 pub placed_is_spelled : (two : Bool) (ps : List LinePart)
     → IsSpelled (SpellsPlaced two) ps (Grammar.placed_statement two ps)

@@ -1,7 +1,7 @@
 -- What it means that parts spell what is read in them.
 use Rattle.ed_syntax.proofs.Kit.{ap, Bool, bytes_eq, bytes_eq-Decides, false, if◌then◌else◌, List, nat_le, None, Option}
 use Rattle.ed_syntax.proofs.Kit.{option_and_then, option_map, refl, Some, Text, true, value, ℕ, ◌++◌, ◌∙◌, ◌∷◌, ◌≡◌}
-use Rattle.ed_syntax.proofs.Kit.{is_number, LinePart, run}
+use Rattle.ed_syntax.proofs.Kit.{is_number, LinePart, run, rules}
 use Rattle.ed_syntax.specs.Reading.Grammar
 
 -- what is read, if the numbers are in their ranges
@@ -9,8 +9,7 @@ abbrev pub ranged : {A : Type 0} → Bool → A → Option A
 ranged fits a = if fits then Some a else None
 
 pub map_ranged : {A B : Type 0} (f : A → B) (fits : Bool) (a : A) → option_map f (ranged fits a) ≡ ranged fits (f a)
-map_ranged f true a = refl
-map_ranged f false a = refl
+map_ranged f fits a = search rules
 
 pub made_ranged : {A B : Type 0} (f : A → B) (o : Option (Option A)) (fits : Bool) (a : A) → o ≡ Some (ranged fits a)
     → Grammar.ranged_map f o ≡ Some (ranged fits (f a))
@@ -43,8 +42,7 @@ by_range f false a s = out_of_range (f a) s
 pub by_test : {A : Type 0} {S : List LinePart → A → Bool → Type 0} {ps : List LinePart} {x y : Option (Option A)}
     (c : Bool) → (c ≡ true → IsSpelled S ps x) → (c ≡ false → IsSpelled S ps y)
     → IsSpelled S ps (if c then x else y)
-by_test true f g = f refl
-by_test false f g = g refl
+by_test c f g = search rules
 
 pub if_passed : {A : Type 0} {S : List LinePart → A → Bool → Type 0} {ps : List LinePart} {x : Option (Option A)}
     (c : Bool) → (c ≡ true → IsSpelled S ps x) → IsSpelled S ps (if c then x else None)
@@ -97,5 +95,4 @@ pub data IsSpelledFirst {A : Type 0} (S : List LinePart → A → Bool → Type 
 -- what is in an option
 pub Some-chained : {A B : Type 0} (f : A → Option B) (o : Option A) (y : B) → option_and_then f o ≡ Some y
     → (x : A) × (o ≡ Some x) × (f x ≡ Some y)
-Some-chained f None y e = absurd (cc)
-Some-chained f (Some x) y e = (x, refl, e)
+Some-chained f o y e = search rules

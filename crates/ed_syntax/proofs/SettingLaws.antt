@@ -1,6 +1,6 @@
 -- Settings are read if and only if they are spelled.
 use Rattle.ed_syntax.proofs.Kit.{[], ap, arith, Bool, false, length, List, None, Option, option_and_then, option_map}
-use Rattle.ed_syntax.proofs.Kit.{refl, Some, suc, sym, true, zero, ℕ, ◌&&◌, ◌++◌, ◌==◌, ◌∙◌, ◌∷◌, ◌≡◌, ◌≤◌}
+use Rattle.ed_syntax.proofs.Kit.{refl, Some, suc, sym, true, zero, ℕ, ◌&&◌, ◌++◌, ◌==◌, ◌∙◌, ◌∷◌, ◌≡◌, ◌≤◌, rules}
 use Rattle.ed_syntax.proofs.Kit.{Decides-eqb, append-nil, last, more, setting, SpellsSetting, SpellsSettings, LinePart}
 use Rattle.ed_syntax.proofs.Kit.{setting_letter, sign, Setting}
 use Rattle.ed_syntax.proofs.OperandLaws.{ends, operand_is_read, operand_is_spelled}
@@ -21,10 +21,7 @@ setting_is_read two _ rest _ _ (setting b l ps o fits hl ho) h =
 
 both_ranged : (f g : Bool) (s : Setting) (ss : List Setting)
     → Grammar.both (ranged f s) (ranged g ss) ≡ ranged (f && g) (s ∷ ss)
-both_ranged true true s ss = refl
-both_ranged true false s ss = refl
-both_ranged false true s ss = refl
-both_ranged false false s ss = refl
+both_ranged f g s ss = search rules
 
 one_more : (two : Bool) (k : ℕ) (ps : List LinePart) → Grammar.settings two (suc k) ps
     ≡ option_and_then (λ p. Grammar.and_more p.0 p.1 (Grammar.settings two k)) (Grammar.setting two ps)
@@ -74,8 +71,7 @@ pub record SpellsFew (two : Bool) (k : ℕ) (ps : List LinePart) (ss : List Sett
 one_before : (two : Bool) (k : ℕ) (ps qs : List LinePart) (fits also : Bool) (s : Setting) (ss : List Setting)
     → SpellsSetting two ps s fits → SpellsFew two k qs ss also
     → SpellsFew two (suc k) (ps ++ sign 44 ∷ qs) (s ∷ ss) (fits && also)
-one_before two k ps qs fits also s ss h t =
-    let few = t.few in record { spelled = more ps qs s ss fits also h t.spelled; few = omega (arith, few) }
+one_before two k ps qs fits also s ss h t = search (rules, more)
 
 before_others : (two : Bool) (k : ℕ) (ps qs : List LinePart) (x : Option Setting) (o : Option (Option (List Setting)))
     → IsSpelled (SpellsSetting two) ps (Some x) → IsSpelled (SpellsFew two k) qs o

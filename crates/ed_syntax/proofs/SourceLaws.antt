@@ -1,11 +1,11 @@
 -- A source says what is read in it, or has the fault that is found.
 use Rattle.ed_syntax.proofs.Kit.{[], ap, arith, Bool, codes, Err, false, get_or, IfErr, IfOk, if◌then◌else◌, inl, inr}
 use Rattle.ed_syntax.proofs.Kit.{length, List, nat_lt, None, not, Ok, Option, refl, Result, Some, subst, suc, sym}
-use Rattle.ed_syntax.proofs.Kit.{true, zero, ℕ, ◌&&◌, ◌++◌, ◌+◌, ◌<◌, ◌==◌, ◌∙◌, ◌∷◌, ◌≡◌, ◌≤◌, ◌⊎◌, list_all}
+use Rattle.ed_syntax.proofs.Kit.{true, zero, ℕ, ◌&&◌, ◌++◌, ◌+◌, ◌<◌, ◌==◌, ◌∙◌, ◌∷◌, ◌≡◌, ◌≤◌, ◌⊎◌, list_all, rules}
 use Rattle.ed_syntax.proofs.Kit.{and_parts, le-leb, le-ltb, ltb-true, Decides-eqb, nat_tests, bytes_eq-Decides, value}
 use Rattle.ed_syntax.proofs.Kit.{Text, number_of, ended, HasLines, lines_of}
 use Rattle.ed_syntax.proofs.Kit.{with_byte, without_return, is_line_byte, LinePart, run, IsFaultOf}
-use Rattle.ed_syntax.proofs.Kit.{is_version_two, parts_of, Fault, line_of, lines_from, or_cause, with_first, and_more}
+use Rattle.ed_syntax.proofs.Kit.{parts_of, Fault, line_of, lines_from, or_cause, with_first, and_more}
 use Rattle.ed_syntax.proofs.Kit.{IsFormFault, IsOfVersion, IsPlain, IsProgram, IsVersionTwo, LineSays, LinesSay}
 use Rattle.ed_syntax.proofs.Kit.{no_more, SourceCause, BadByte, NotAStatement, NumberRange, SourceFault, At, Memory}
 use Rattle.ed_syntax.proofs.Kit.{Form, Line}
@@ -82,14 +82,11 @@ IsAnswer two k line (Err c) = k ≤ 2000 → IsLeastOfLine two k line c
 -- the faults that a line has, if its bytes are those of a line, if it is plain, or if it says something
 good_least : (two : Bool) (k : ℕ) (line : Text) → list_all is_line_byte line ≡ true → (d : SourceCause)
     → LineHasFault two k line d → 2 ≤ number_of d
-good_least two k line bytes BadByte h = absurd (both_ways _ h.1 bytes)
-good_least two k line bytes d h = lit≤ tt
+good_least two k line bytes d h = search (rules, both_ways, lit≤)
 
 plain_least : (two : Bool) (k : ℕ) (line : Text) → IsPlain line → (d : SourceCause) → LineHasFault two k line d
     → 3 ≤ number_of d
-plain_least two k line p BadByte h = let bytes = p.bytes in absurd (both_ways _ h.1 bytes)
-plain_least two k line p LongLine h = let short = p.short in absurd (omega (arith, h.1))
-plain_least two k line p d h = lit≤ tt
+plain_least two k line p d h = search (rules, both_ways, lit≤)
 
 formed_least : (two : Bool) (k : ℕ) (line : Text) (f : Form) (fits : Bool) → IsPlain line
     → SpellsLine two k line f fits → (d : SourceCause) → LineHasFault two k line d → 4 ≤ number_of d
@@ -100,8 +97,7 @@ formed_least two k line f fits p s d h = lit≤ tt
 
 many_least : (two : Bool) (k : ℕ) (line : Text) → k ≡ 2001 → (d : SourceCause) → LineHasFault two k line d
     → 5 ≤ number_of d
-many_least two k line is TooManyLines h = lit≤ tt
-many_least two k line is d h = grind arith
+many_least two k line is d h = search (rules, lit≤)
 
 pub line_answers : (two : Bool) (k : ℕ) (line : Text) → IsAnswer two k line (line_of two k line)
 line_answers two k line = go (list_all is_line_byte line) (nat_lt 120 (length line)) (form_of two k line) refl refl refl
@@ -127,8 +123,7 @@ line_answers two k line = go (list_all is_line_byte line) (nat_lt 120 (length li
 
 plain_line : (two : Bool) (k : ℕ) (line : Text) → IsPlain line
     → line_of two k line ≡ or_cause (form_of two k line)
-plain_line two k line p =
-    let bytes = p.bytes in let short = le-ltb 120 _ p.short in rw (bytes, short) refl
+plain_line two k line p = search (rules, le-ltb)
 
 -- what a line says is read
 pub said_is_read : (two : Bool) (k : ℕ) (line : Text) (f : Form) → LineSays two k line f → line_of two k line ≡ Ok f
@@ -159,25 +154,14 @@ two_says line = by_parts (parts_of line) refl
     by_parts o e h = absurd (cc)
 
 says_two_is : (line : Text) → IsVersionTwo line → says_two (parts_of line) ≡ true
-says_two_is line v =
-    let number = v.number in
-    let value_is = v.value_is in
-    let last : is_version_two (run (codes "version") ∷ run v.n ∷ []) ≡ true = rw (number, value_is) refl in
-    ap says_two (parts_are_read line _ v.parts) ∙ last
+says_two_is line v = search (rules, parts_are_read)
 
 -- the version that is read is that of the lines
 pub version_is_of : (lines : List Text) → IsOfVersion (is_two lines) lines
-version_is_of [] = refl
-version_is_of (line ∷ lines) = go (says_two (parts_of line)) refl
-  where
-    go : (c : Bool) → says_two (parts_of line) ≡ c → IsOfVersion c (line ∷ lines)
-    go true e = two_says line e
-    go false e = λ v. let f = says_two_is line v in absurd (cc)
+version_is_of lines = search (rules, two_says, says_two_is)
 
 pub only_version : (lines : List Text) (two : Bool) → IsOfVersion two lines → is_two lines ≡ two
-only_version [] two e = sym e
-only_version (line ∷ lines) true v = says_two_is line v
-only_version (line ∷ lines) false none = false_from_ne_true _ (λ e. none (two_says line e))
+only_version lines two v = search (rules, says_two_is, false_from_ne_true, two_says)
 
 -- ---- lines one after the other
 
@@ -277,8 +261,7 @@ says_at {two} (suc n) (and_more k line lines f said s h) lt =
 
 pub version_is_read : (text : Text) (two : Bool) (said : List Line) → IsProgram text two said
     → is_two (lines_of text) ≡ two
-version_is_read text two said p =
-    ap is_two (lines_are_read text p.lines p.has_lines) ∙ only_version p.lines two p.version
+version_is_read text two said p = search (rules, lines_are_read, only_version)
 
 pub program_is_read : (text : Text) (two : Bool) (said : List Line) → IsProgram text two said
     → program_of text ≡ Ok said
@@ -354,21 +337,7 @@ IsSourceAnswer text (Ok said) = IsProgram text (is_two (lines_of text)) said
 IsSourceAnswer text (Err e) = IsFormFault text e.line e.cause
 
 pub source_answer : (text : Text) (r : Result (List Line) Fault) → program_of text ≡ r → IsSourceAnswer text r
-source_answer text r e =
-    go r (rw (← e) (lines_answer (is_two (lines_of text)) 1 (lines_of text) (omega arith)))
-  where
-    go : (r : Result (List Line) Fault) → IsAnswerFrom (is_two (lines_of text)) 1 (lines_of text) r
-        → IsSourceAnswer text r
-    go (Ok said) h =
-        let few = h.few in
-        record {
-          lines = lines_of text;
-          has_lines = read_lines_are text;
-          few = omega (arith, few);
-          version = version_is_of (lines_of text);
-          says = h.says;
-        }
-    go (Err e) h = fault_of text e.line e.cause h
+source_answer text r e = search (rules, lines_answer, read_lines_are, version_is_of, fault_of)
 
 -- ---- the law of sources
 
@@ -428,11 +397,9 @@ answer_has_fault text Memory h = tt
 
 pub each_answer_has_fault : {A : Type 0} (text : Text) (r : Result A SourceFault)
     → IfErr r (λ e. IsFaultOf (program_of text) e) → IfErr r (λ e. HasFormFault text e)
-each_answer_has_fault text (Ok a) h = tt
-each_answer_has_fault text (Err e) h = answer_has_fault text e h
+each_answer_has_fault text r h = search (rules, answer_has_fault)
 
 pub each_answer_says : (text : Text) (r : Result Program SourceFault)
     → IfOk r (λ p. p.version ≡ version_of text) → IfOk r (λ p. program_of text ≡ Ok p.lines.items)
     → IfOk r (λ p. IsProgram text (p.version == 2) p.lines.items)
-each_answer_says text (Ok p) e h = answer_says text p.version p.lines.items e h
-each_answer_says text (Err e) v h = tt
+each_answer_says text r e h = search (rules, answer_says)

@@ -1,14 +1,14 @@
 -- Each form's text spells it.
 use Rattle.ed_syntax.proofs.Kit.{if◌then◌else◌, [], ap, arith, Bool, codes, false, length, List, map, nat_le, nat_lt, negsuc, None}
-use Rattle.ed_syntax.proofs.Kit.{not, Option, pos, refl, Some, suc, true, unsigned_abs, zero, ℕ, ℤ, ◌&&◌, ◌++◌}
+use Rattle.ed_syntax.proofs.Kit.{not, Option, pos, refl, Some, suc, true, unsigned_abs, zero, ℕ, ℤ, ◌&&◌, ◌++◌, rules}
 use Rattle.ed_syntax.proofs.Kit.{◌<◌, ◌==◌, ◌^◌, ◌||◌, ◌∙◌, ◌∷◌, ◌≡◌, ◌≤◌, decimal, list_all, and_from, and_parts}
-use Rattle.ed_syntax.proofs.Kit.{le-leb, le-ltb, leb-true, ltb-true, Decides-eqb, nat_tests, append-nil, length-map}
+use Rattle.ed_syntax.proofs.Kit.{le-leb, le-ltb, leb-true, ltb-true, nat_tests, append-nil, length-map}
 use Rattle.ed_syntax.proofs.Kit.{Text, letters, row_of, AreRowsOf, bare_order, data_rows, difference, empty, enter}
 use Rattle.ed_syntax.proofs.Kit.{fetch, fetch_with, has_few_settings, is_sign, label, labelled, last, long, minus}
 use Rattle.ed_syntax.proofs.Kit.{more, name, number, order, placed, plus, positive, segment, segment_at, setting}
 use Rattle.ed_syntax.proofs.Kit.{SpellsForm, SpellsInteger, SpellsOperand, SpellsPlaced, SpellsSetting, SpellsSettings}
-use Rattle.ed_syntax.proofs.Kit.{SpellsStatement, statement, sum, text, word, is_local_name, is_lower, is_name}
-use Rattle.ed_syntax.proofs.Kit.{is_place_name, is_run_byte, array, function, has_quote, is_line_byte, length_of}
+use Rattle.ed_syntax.proofs.Kit.{SpellsStatement, statement, sum, text, word, is_name}
+use Rattle.ed_syntax.proofs.Kit.{is_place_name, array, function, has_quote, is_line_byte, length_of}
 use Rattle.ed_syntax.proofs.Kit.{LinePart, modulo, quoted, run, setting_letter, sign, are_rows, is_base}
 use Rattle.ed_syntax.proofs.Kit.{is_form, is_operand, is_setting, is_statement, may_have_label, form_text, row_letter}
 use Rattle.ed_syntax.proofs.Kit.{settings_after, Operand, Setting, Statement}
@@ -44,27 +44,10 @@ spells S s = s
 -- ---- names and letters
 
 name_part : (a : Text) → is_name a ≡ true → is_run a ≡ true
-name_part [] e = e
-name_part (b ∷ bs) e =
-    let p = and_parts (is_lower b) _ e in
-    let q = and_parts (nat_le (length bs) 15) _ p.1 in
-    let lower = p.0 in
-    and_from (is_run_byte b) (list_all is_run_byte bs) (rw lower refl) q.1
+name_part a e = search (rules, and_from)
 
 place_name_part : (two : Bool) (a : Text) → is_place_name two a ≡ true → is_run a ≡ true
-place_name_part two a e = by_name (is_name a) refl e
-  where
-    local_part : (l : Text) → is_local_name l ≡ true → is_run l ≡ true
-    local_part [] g = g
-    local_part (b ∷ bs) g =
-        let p = and_parts (b == 95) _ g in
-        let q = and_parts _ _ p.1 in
-        let r = and_parts _ _ q.1 in
-        and_from (is_run_byte b) (list_all is_run_byte bs) (ap is_run_byte ((Decides-eqb b 95).0 p.0)) r.1
-
-    by_name : (c : Bool) → is_name a ≡ c → (c || (two && is_local_name a)) ≡ true → is_run a ≡ true
-    by_name true f g = name_part a f
-    by_name false f g = local_part a (and_parts two (is_local_name a) g).1
+place_name_part two a e = search (rules, and_from, name_part)
 
 -- whether this is the code
 abbrev is_code : ℕ → Option ℕ → Bool
@@ -72,8 +55,7 @@ is_code k None = false
 is_code k (Some r) = r == k
 
 code_is : (k : ℕ) (o : Option ℕ) → is_code k o ≡ true → o ≡ Some k
-code_is k None e = absurd (cc)
-code_is k (Some r) e = ap Some ((Decides-eqb r k).0 e)
+code_is k o e = search rules
 
 letter_is_plain : (k : ℕ) → k < 32 → is_line_byte (row_letter k) ≡ true
 letter_is_plain k lt = from_below (λ j. is_line_byte (slice_index letters j)) 32 k refl lt
@@ -207,8 +189,7 @@ string_spelled w rows e f step =
     (word_front w _ _ f (quoted_front _ [] [] b.none b.plain no_front))
 
 length_back : (l : Bool) → length_of (Written.length_letter l) ≡ Some l
-length_back false = refl
-length_back true = refl
+length_back l = search rules
 
 length_front : (l : Bool) → IsFront (32 ∷ Written.length_letter l ∷ []) (sign (Written.length_letter l) ∷ [])
 length_front false = blank_front _ _ (sign_front 70 [] [] refl refl no_front)
