@@ -41,11 +41,7 @@ said_formed (no_more k) = refl
 said_formed {two} (and_more k line lines f said s h) =
     let first = each_spelled_is_form two k line f s.spells in rw first (said_formed h)
 
-say_formed : (two : Bool) (lines : List Text) (said : List Line) → LinesSay two 1 lines said → length lines ≤ 2000
-    → AreLines two said
-say_formed two lines said h few = search (rules, said_length, number_at, said_numbered, said_formed)
-
 -- the lines that are read in a source
 pub program_formed : (two : Bool) (texts : List Text) (lines : List Line) → lines_from two 1 texts ≡ Ok lines
     → AreLines two lines
-program_formed two texts lines e = search (rules, lines_answer, say_formed)
+program_formed two texts lines e = search (rules, lines_answer, said_length, number_at, said_numbered, said_formed)

@@ -1,7 +1,7 @@
 -- What the tests of a program's lines say.
 use Rattle.ed_syntax.proofs.Kit.{[], arith, Bool, IfSome, length, List, nat_lt, neg_ℤ, None, Option, pos, Some}
 use Rattle.ed_syntax.proofs.Kit.{true, ℕ, ℤ, ◌<◌, ◌^◌, ◌∷◌, ◌≡◌, ◌≤◌, list_all, and_parts}
-use Rattle.ed_syntax.proofs.Kit.{nat_tests, is_name, is_place_name, are_rows, is_base, is_operand, is_setting}
+use Rattle.ed_syntax.proofs.Kit.{nat_tests, is_name, is_place_name, is_base, is_operand, is_setting}
 use Rattle.ed_syntax.proofs.Kit.{is_statement, Operand, Setting, Statement, rules}
 use Rattle.std.proofs.Common.{◌≤ℤ◌, All}
 use Rattle.std.proofs.lemmas.List.Elements.{All-cons}
@@ -60,8 +60,5 @@ base_fact : (base : Option ℕ) → is_base base ≡ true → IfSome base (λ b.
 base_fact None h = tt
 base_fact (Some b) h = grind (arith, nat_tests)
 
-rows_fact : (codes : List ℕ) → are_rows codes ≡ true → AreRows codes
-rows_fact codes h = search rules
-
 pub statement_fact : (two : Bool) (s : Statement) → is_statement two s ≡ true → IsStatement two s
-statement_fact two s h = search (rules, base_fact, operand_fact, rows_fact, settings_fact)
+statement_fact two s h = search (rules, base_fact, operand_fact, settings_fact)

@@ -1,8 +1,8 @@
 -- An operand is read if and only if it is spelled.
-use Rattle.ed_syntax.proofs.Kit.{[], ap, arith, Bool, false, inl, inr, List, nat_le, not, Option, rules}
+use Rattle.ed_syntax.proofs.Kit.{[], ap, Bool, false, inl, inr, List, nat_le, not, Option, rules}
 use Rattle.ed_syntax.proofs.Kit.{pos, refl, Some, true, ℕ, ◌&&◌, ◌++◌, ◌==◌, ◌∙◌, ◌∷◌, ◌≡◌}
-use Rattle.ed_syntax.proofs.Kit.{and_parts, Decides-eqb, nat_tests, is_digit, value, Text, difference}
-use Rattle.ed_syntax.proofs.Kit.{minus, name, number, plus, SpellsOperand, sum, is_local_name, is_lower, is_name}
+use Rattle.ed_syntax.proofs.Kit.{and_parts, Decides-eqb, value, Text, difference}
+use Rattle.ed_syntax.proofs.Kit.{minus, name, number, plus, SpellsOperand, sum}
 use Rattle.ed_syntax.proofs.Kit.{is_place_name, is_number, LinePart, run, sign, with_sign, is_plus_or_minus}
 use Rattle.ed_syntax.proofs.Kit.{Operand}
 use Rattle.ed_syntax.proofs.Readings.{ranged, IsSpelled, out_of_range, in_range, IsSpelledFirst, none, first}
@@ -13,20 +13,8 @@ use Rattle.ed_syntax.specs.declared.program.Operand.TheVariants as operands
 
 -- ---- a name is not a number
 
-lower_is_no_digit : (b : ℕ) → is_lower b ≡ true → is_digit b ≡ false
-lower_is_no_digit b e = grind (arith, nat_tests)
-
-first_no_digit : (b : ℕ) (bs : Text) → is_digit b ≡ false → is_number (b ∷ bs) ≡ false
-first_no_digit b bs e = rw e
-
-name_is_no_number : (a : Text) → is_name a ≡ true → is_number a ≡ false
-name_is_no_number a e = search (rules, first_no_digit, lower_is_no_digit)
-
-local_is_no_number : (a : Text) → is_local_name a ≡ true → is_number a ≡ false
-local_is_no_number a e = search (rules, first_no_digit)
-
 pub place_name_is_no_number : (two : Bool) (a : Text) → is_place_name two a ≡ true → is_number a ≡ false
-place_name_is_no_number two a e = search (rules, name_is_no_number, local_is_no_number)
+place_name_is_no_number two a e = search rules
 
 -- ---- what is spelled is read
 
@@ -80,11 +68,11 @@ joined_spelled two a n s h = elim (or_cases (s == 43) (s == 45) h) [
   | inl is ↦ rw ((Decides-eqb s 43).0 is) (if_passed (is_place_name two a) (λ e. by_test (is_number n)
       (λ f. by_range (λ k. operands.Label a (with_sign false k)) _ _ (plus a n e f))
       (λ _. if_passed (two && is_place_name two n) (λ g.
-          let p = and_parts two _ g in in_range _ (sum a n e p.1 p.0)))))
+      let p = and_parts two _ g in in_range _ (sum a n e p.1 p.0)))))
   | inr is ↦ rw ((Decides-eqb s 45).0 is) (if_passed (is_place_name two a) (λ e. by_test (is_number n)
       (λ f. by_range (λ k. operands.Label a (with_sign true k)) _ _ (minus a n e f))
       (λ _. if_passed (two && is_place_name two n) (λ g.
-          let p = and_parts two _ g in in_range _ (difference a n e p.1 p.0)))))
+      let p = and_parts two _ g in in_range _ (difference a n e p.1 p.0)))))
 ]
 
 -- an operand with what is left after it

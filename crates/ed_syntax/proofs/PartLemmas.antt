@@ -1,6 +1,6 @@
 -- What one byte, a run and a quoted text make of the parts.
 use Rattle.ed_syntax.proofs.Kit.{[], ap, append_assoc, arith, false, length, length-append, List, map, None, Option}
-use Rattle.ed_syntax.proofs.Kit.{option_map, refl, Some, suc, sym, true, ℕ, ◌++◌, ◌+◌, ◌<◌, ◌==◌, ◌∙◌, ◌∷◌, ◌≡◌, ◌≤◌}
+use Rattle.ed_syntax.proofs.Kit.{option_map, refl, Some, sym, true, ℕ, ◌++◌, ◌+◌, ◌<◌, ◌==◌, ◌∙◌, ◌∷◌, ◌≡◌, ◌≤◌}
 use Rattle.ed_syntax.proofs.Kit.{list_all, and_parts, or_parts, append-nil, map-append, Text, is_run_byte, begins_run}
 use Rattle.ed_syntax.proofs.Kit.{has_quote, is_blank, LinePart, quoted, run, sign, part, parts_from, parts_of, rules}
 use Rattle.ed_syntax.proofs.Kit.{with_run_byte, common_steps}
@@ -62,11 +62,6 @@ open_parts q (b ∷ bs) e =
 
 -- ---- what a call takes
 
-pub quote_takes : (after inside rest : Text) → SplitsQuote after inside rest
-    → (parts_of (34 ∷ after) ≡ option_map (λ ps. quoted inside ∷ ps) (parts_of rest))
-    × (length rest < suc (length after))
-quote_takes after inside rest s = search (rules, quote_parts, length-append)
-
 pub run_takes : (line first rest : Text) → begins_run line ≡ true → SplitsRun line first rest
     → (parts_of line ≡ option_map (λ ps. run first ∷ ps) (parts_of rest)) × (length rest < length line)
 run_takes line [] rest b s = absurd (cc)
@@ -80,7 +75,7 @@ run_takes line (x ∷ xs) rest b s = (
 pub quote_taken : (line here after inside rest : Text) → parts_of line ≡ parts_of here → length here ≤ length line
     → here ≡ 34 ∷ after → SplitsQuote after inside rest
     → (parts_of line ≡ option_map (λ ps. quoted inside ∷ ps) (parts_of rest)) × (length rest < length line)
-quote_taken line here after inside rest same shorter split s = grind (arith, common_steps, quote_takes)
+quote_taken line here after inside rest same shorter split s = grind (arith, common_steps, quote_parts, length-append)
 
 pub open_taken : (line here after : Text) → parts_of line ≡ parts_of here → here ≡ 34 ∷ after
     → has_quote after ≡ false → parts_of line ≡ None

@@ -4,7 +4,7 @@ use Rattle.ed_syntax.proofs.Kit.{Option, option_and_then, option_map, refl, Some
 use Rattle.ed_syntax.proofs.Kit.{◌==◌, ◌∷◌, ◌≡◌, list_all, bytes_eq, and_parts, Decides-eqb, bytes_eq-Decides}
 use Rattle.ed_syntax.proofs.Kit.{value, Text, row_of, AreRowsOf, bare_order, long, negative, order, positive}
 use Rattle.ed_syntax.proofs.Kit.{SpellsInteger, SpellsOperand, SpellsPlaced, text, word, array, function, is_number}
-use Rattle.ed_syntax.proofs.Kit.{length_of, LinePart, modulo, quoted, run, sign, with_sign, is_plus_or_minus, Operand}
+use Rattle.ed_syntax.proofs.Kit.{length_of, LinePart, modulo, quoted, run, sign, with_sign, Operand}
 use Rattle.ed_syntax.proofs.Kit.{Statement}
 use Rattle.ed_syntax.proofs.OperandLaws.{operand_is_read, operand_is_spelled}
 use Rattle.ed_syntax.proofs.Readings.{ranged, IsSpelled, unread, in_range, IsSpelledFirst, first, map_ranged, by_number}
@@ -14,10 +14,6 @@ use Rattle.ed_syntax.specs.declared.program.Operand.TheVariants as operands
 use Rattle.ed_syntax.specs.declared.program.Statement.TheVariants as statements
 
 -- ---- what is spelled is read: an order
-
--- an F or a D is not a plus or minus
-length_ends : (e : ℕ) (l : Bool) → length_of e ≡ Some l → is_plus_or_minus e ≡ false
-length_ends e l h = search rules
 
 -- an operand and the length after it
 abbrev with_length : Option (Option Operand × List LinePart) → Option (Option Operand × Bool)
@@ -31,7 +27,7 @@ operand_first two ps rest o fits h = search rules
 order_end_is_read : (two : Bool) (ps : List LinePart) (o : Operand) (fits : Bool) (e : ℕ) (l : Bool)
     → SpellsOperand two ps o fits → length_of e ≡ Some l
     → Grammar.order_end two (ps ++ sign e ∷ []) ≡ Some (ranged fits o, l)
-order_end_is_read two ps o fits e l h k = search (rules, length_ends, operand_first, operand_is_read)
+order_end_is_read two ps o fits e l h k = search (rules, operand_first, operand_is_read)
 
 -- an order, by its function and its end
 abbrev order_of : ℕ → Option Operand × Bool → Option Statement

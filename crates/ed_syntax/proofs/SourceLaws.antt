@@ -153,15 +153,12 @@ two_says line = by_parts (parts_of line) refl
         record { n = n; number = q.0; value_is = (Decides-eqb (value n) 2).0 q.1; parts = parts }
     by_parts o e h = absurd (cc)
 
-says_two_is : (line : Text) → IsVersionTwo line → says_two (parts_of line) ≡ true
-says_two_is line v = search (rules, parts_are_read)
-
 -- the version that is read is that of the lines
 pub version_is_of : (lines : List Text) → IsOfVersion (is_two lines) lines
-version_is_of lines = search (rules, two_says, says_two_is)
+version_is_of lines = search (rules, two_says, parts_are_read)
 
 pub only_version : (lines : List Text) (two : Bool) → IsOfVersion two lines → is_two lines ≡ two
-only_version lines two v = search (rules, says_two_is, false_from_ne_true, two_says)
+only_version lines two v = search (rules, parts_are_read, false_from_ne_true, two_says)
 
 -- ---- lines one after the other
 
