@@ -11,11 +11,11 @@ use Rattle.ed_syntax.proofs.StatementLaws.{statement_is_read, statement_is_spell
 use Rattle.ed_syntax.specs.Reading.Grammar
 
 -- a statement alone
-abbrev just : Statement → Form
+abbrev pub just : Statement → Form
 just s = record { label = None; statement = Some s }
 
 -- a statement with its label
-abbrev with_label : Text → Statement → Form
+abbrev pub with_label : Text → Statement → Form
 with_label a s = record { label = Some a; statement = Some s }
 
 -- ---- what is spelled is read

@@ -1,6 +1,6 @@
 -- A source says what is read in it, or has the fault that is found.
 use Rattle.ed_syntax.proofs.Kit.{[], ap, arith, Bool, codes, Err, false, get_or, IfErr, IfOk, if◌then◌else◌, inl, inr}
-use Rattle.ed_syntax.proofs.Kit.{length, List, nat_lt, None, not, Ok, Option, refl, Result, Some, subst, suc, sym}
+use Rattle.ed_syntax.proofs.Kit.{length, List, nat_lt, None, not, Ok, Option, refl, Result, Some, suc, sym}
 use Rattle.ed_syntax.proofs.Kit.{true, zero, ℕ, ◌&&◌, ◌++◌, ◌+◌, ◌<◌, ◌==◌, ◌∙◌, ◌∷◌, ◌≡◌, ◌≤◌, ◌⊎◌, list_all, rules}
 use Rattle.ed_syntax.proofs.Kit.{and_parts, le-leb, le-ltb, ltb-true, Decides-eqb, nat_tests, bytes_eq-Decides, value}
 use Rattle.ed_syntax.proofs.Kit.{Text, number_of, ended, HasLines, lines_of}
@@ -25,6 +25,7 @@ use Rattle.ed_syntax.proofs.LineLaws.{form_of, spelled_is_read, read_form_is_spe
 use Rattle.ed_syntax.proofs.LineLaws.{out_of_range_is_spelled, unread_is_unspelled}
 use Rattle.ed_syntax.proofs.PartsLaws.{parts_are_read, read_parts_are}
 use Rattle.ed_syntax.proofs.Lines
+use Rattle.ed_syntax.proofs.Programs.{numbered}
 
 -- ---- the lines of a text
 
@@ -183,10 +184,6 @@ abbrev pub IsAnswerFrom : Bool → ℕ → List Text → Result (List Line) Faul
 IsAnswerFrom two k lines (Ok said) = SayFrom two k lines said
 IsAnswerFrom two k lines (Err e) = FaultFrom two k lines e.line e.cause
 
--- a line with its number
-abbrev numbered : ℕ → Form → Line
-numbered k f = record { number = k; label = f.label; statement = f.statement }
-
 one_more : (two : Bool) (k : ℕ) (line : Text) (lines : List Text) (f : Form) (r : Result (List Line) Fault)
     → LineSays two k line f → IsAnswerFrom two (k + 1) lines r
     → IsAnswerFrom two k (line ∷ lines) (with_first (numbered k f) r)
@@ -263,9 +260,8 @@ version_is_read text two said p = search (rules, lines_are_read, only_version)
 pub program_is_read : (text : Text) (two : Bool) (said : List Line) → IsProgram text two said
     → program_of text ≡ Ok said
 program_is_read text two said p =
-    ap (λ (v : Bool). lines_from v 1 (lines_of text)) (version_is_read text two said p)
-    ∙ ap (lines_from two 1) (lines_are_read text p.lines p.has_lines)
-    ∙ say_is_read two 1 p.lines said p.says (omega arith)
+    rw (version_is_read text two said p, lines_are_read text p.lines p.has_lines)
+    (say_is_read two 1 p.lines said p.says (omega arith))
 
 -- whether the source is of version 2, as it is read, and its line at an index
 abbrev is_second : Text → Bool
@@ -349,17 +345,14 @@ every_source text = go (program_of text) refl
 no_fault : (text : Text) (two : Bool) (said : List Line) (n : ℕ) (c : SourceCause) → IsProgram text two said
     → SourceHasFormFault text n c → ⊥
 no_fault text two said n c p h =
-    let lines = lines_are_read text p.lines p.has_lines in
-    let same : h.before ++ h.line ∷ h.after ≡ p.lines = sym (lines_are_read text _ h.has_lines) ∙ lines in
-    let long : length h.before + length (h.line ∷ h.after) ≡ length p.lines =
-    sym (length-append h.before _) ∙ ap (λ (x : List Text). length x) same in
-    let says = says_at _ p.says (omega (arith, long)) in
+    let same = one_lines p.has_lines h.has_lines in
+    let size = length-append h.before (h.line ∷ h.after) in
+    let below : length h.before < length p.lines = omega (arith, size, ap length same) in
+    let says = says_at (length h.before) p.says below in
+    let version : h.two ≡ two = sym (only_version _ h.two h.version) ∙ (rw same at (only_version p.lines two p.version)) in
     let number : n ≡ 1 + length h.before = omega arith in
-    said_is_faultless _ _ _ says.0 (omega (arith, long)) says.1 c
-    (subst (λ (k : ℕ). LineHasFault two k (get_or p.lines (length h.before) []) c) number
-    (subst (λ (x : List Text). LineHasFault two n (get_or x (length h.before) []) c) lines
-    (subst (λ (v : Bool). LineHasFault v n (line_at text (length h.before)) c) (version_is_read text two said p)
-    (faulty_line h))))
+    said_is_faultless two _ h.line says.0 (omega (arith, below)) (rw (line_here h.before h.line h.after same) at says.1) c
+    (rw (version, number) at h.faulty)
 
 -- two answers of one call are the same
 one_answer : (r : Result (List Line) Fault) (said others : List Line) → r ≡ Ok said → r ≡ Ok others → said ≡ others
