@@ -1,14 +1,13 @@
 -- Two names are equal if and only if their sizes and their 16 bytes are.
-use Rattle.ed_syntax.proofs.Kit.{ap, drop, length, List, nat_eq, refl, sym, take, ℕ, ◌&&◌, ◌++◌, ◌<◌, ◌∙◌, ◌≡◌}
-use Rattle.ed_syntax.proofs.Kit.{◌≤◌, Decides-eqb, take_at, rules}
+use Rattle.ed_syntax.proofs.Kit.{drop, length, List, nat_eq, refl, take, ℕ, ◌&&◌, ◌++◌, ◌<◌, ◌≡◌, arith}
+use Rattle.ed_syntax.proofs.Kit.{◌≤◌, Decides-eqb, take_at, rules, common_steps}
 use Rattle.std.proofs.Common.{replicate, IsUtf8}
 use Rattle.std.specs.Bool.{Decides}
 use Rattle.std.specs.Cmp.{both_ways}
 use Rattle.std.specs.Cmp.Lexicographic.{pointwise}
-use Rattle.std.proofs.lemmas.Grind.{merely}
 use Rattle.std.proofs.lemmas.List.{drop-replicate}
 use Rattle.std.proofs.lemmas.Slice.Eq.{slice_eq-Decides}
-use Rattle.ed_syntax.specs.PaddedNames.{padded_name, IsPadded}
+use Rattle.ed_syntax.specs.PaddedNames.{IsPadded}
 
 -- the test of two lists decides whether they are equal
 list_test : (xs ys : List ℕ) → Decides (pointwise nat_eq xs ys) (xs ≡ ys)
@@ -25,10 +24,4 @@ padded_text text some few utf8 =
     let n = length text in
     let rest = drop-replicate {X = ℕ} n 16 0 in
     let front : take n (text ++ drop n (replicate 16 0)) ≡ text = take_at text _ n refl in
-    record {
-      some = some;
-      few = few;
-      size = ap length front;
-      zeros = ap padded_name front ∙ ap (λ (zs : List ℕ). text ++ zs) (sym rest);
-      text = rw front (merely utf8);
-    }
+    grind (arith, common_steps)

@@ -1,6 +1,6 @@
 -- Names are texts of 1 to 16 bytes.
-use Rattle.ed_syntax.proofs.Kit.{[], arith, Bool, false, IfSome, inl, inr, length, nat_le, None, Option, refl}
-use Rattle.ed_syntax.proofs.Kit.{rules, Some, suc, sym, true, zero, ℕ, ◌&&◌, ◌<◌, ◌==◌, ◌∙◌, ◌∷◌, ◌≡◌, ◌≤◌, ◌⊎◌}
+use Rattle.ed_syntax.proofs.Kit.{[], arith, Bool, false, inl, inr, length, nat_le, Option, refl}
+use Rattle.ed_syntax.proofs.Kit.{rules, suc, sym, true, zero, ℕ, ◌&&◌, ◌<◌, ◌==◌, ◌∙◌, ◌∷◌, ◌≡◌, ◌≤◌, ◌⊎◌}
 use Rattle.ed_syntax.proofs.Kit.{list_all, and_parts, Decides-eqb, nat_tests, Text, is_local_name, is_lower, is_name}
 use Rattle.ed_syntax.proofs.Kit.{is_place_name, is_run_byte}
 use Rattle.std.proofs.Common.{IfNone, IsNone}
@@ -53,12 +53,6 @@ place_name_text two r h = by_name (is_name r) refl
 pub IfNone-named : {A : Type 0} (P : Type 0) (o : Option A) (text r : Text) → text ≡ r → IsNameText r
     → (IsNone o → (length text ≡ 0) ⊎ (16 < length text)) → IfNone o P
 IfNone-named P o text r same h none = search rules
-
--- and what is made of it is that text
-pub name_of : {P : Type 0} (o : Option Text) (text r : Text) → text ≡ r → P → IfSome o (λ n. n ≡ text)
-    → IfSome o (λ n. (n ≡ r) × P)
-name_of (Some n) text r same p h = (h ∙ same, p)
-name_of None text r same p h = tt
 
 -- a text that isn't empty and has at most 16 bytes
 pub within : (text : Text) → (length text == 0) ≡ false → length text ≤ 16

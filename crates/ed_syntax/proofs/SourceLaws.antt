@@ -33,8 +33,7 @@ use Rattle.ed_syntax.proofs.Programs.{numbered}
 pub lines_are_read : (text : Text) (lines : List Text) → HasLines text lines → lines_of text ≡ lines
 lines_are_read _ _ nothing = refl
 lines_are_read _ _ (last b bs e) = Lines.unended b bs e
-lines_are_read _ _ (ended line text lines e h) =
-    Lines.ended line text e ∙ ap (λ (t : List Text). without_return line ∷ t) (lines_are_read text lines h)
+lines_are_read _ _ (ended line text lines e h) = search (rules, Lines.ended, lines_are_read text lines h)
 
 -- a text has one list of lines
 pub one_lines : {text : Text} {lines others : List Text} → HasLines text lines → HasLines text others → lines ≡ others
@@ -246,10 +245,7 @@ says_at : {two : Bool} {k : ℕ} {lines : List Text} {said : List Line} (n : ℕ
 says_at n (no_more k) lt = absurd (omega (arith, lt))
 says_at {two} zero (and_more k line lines f said s h) lt =
     let number : k ≡ k + zero = omega arith in (f, rw (← number) s)
-says_at {two} (suc n) (and_more k line lines f said s h) lt =
-    let later = says_at n h (omega (arith, lt)) in
-    let number : k + 1 + n ≡ k + suc n = omega arith in
-    (later.0, rw (← number) later.1)
+says_at {two} (suc n) (and_more k line lines f said s h) lt = search (rules, says_at n h (omega (arith, lt)))
 
 -- ---- a source
 
@@ -279,8 +275,7 @@ faulty_line : {text : Text} {n : ℕ} {c : SourceCause} → (h : SourceHasFormFa
     → LineHasFault (is_second text) n (line_at text (length h.before)) c
 faulty_line {text} {n} {c} h =
     let lines = lines_are_read text _ h.has_lines in
-    let two : is_second text ≡ h.two = ap is_two lines ∙ only_version _ h.two h.version in
-    rw (two, line_here h.before h.line h.after lines) h.faulty
+    rw (lines, only_version _ h.two h.version, get_or-append_seam h.before h.line h.after []) h.faulty
 
 -- the first fault that is found is the fault of the source
 fault_of : (text : Text) (n : ℕ) (c : SourceCause) → FaultFrom (is_second text) 1 (lines_of text) n c
