@@ -1,26 +1,23 @@
 -- The same for the fault S6, of names that are defined again.
 use Rattle.ed_symbols.proofs.Kit.{is_some, list_any, or_cases, or_left, or_right, Any-from_list_any, list_any-from_Any}
-use Rattle.ed_symbols.proofs.Kit.{Line, [], ap, arith, Bool, false, if◌then◌else◌, inl, inr, List, not, Option}
-use Rattle.ed_symbols.proofs.Kit.{refl, Some, subst, sym, true, ℕ, ◌++◌, ◌||◌, ◌∷◌, ◌≡◌, ◌⊎◌, counter_after, rules}
+use Rattle.ed_symbols.proofs.Kit.{Line, [], ap, arith, inl, inr, List, Option}
+use Rattle.ed_symbols.proofs.Kit.{refl, Some, true, ℕ, ◌++◌, ◌∷◌, ◌≡◌, ◌⊎◌, counter_after, rules}
 use Rattle.ed_symbols.proofs.Kit.{counter_from, IsLineAfter, defines_again, definition_of, line_definitions}
 use Rattle.ed_symbols.proofs.Kit.{symbols_from, after_statement, first_counter, LocationCounter, Definition}
-use Rattle.ed_syntax.proofs.Kit.{and_from, bytes_eq-Decides}
+use Rattle.ed_syntax.proofs.Kit.{bytes_eq-Decides}
 use Rattle.std.specs.List.{Contains}
 use Rattle.std.proofs.lemmas.Bool.{eqb-true, eq-eqb}
 use Rattle.std.proofs.lemmas.List.Elements.{Contains-append_cases, Contains-append_left, Contains-append_right}
 use Rattle.ed_symbols.specs.NameFaults.{AreAlike, DefinesAgain}
 use Rattle.ed_symbols.specs.NameTests.{is_again}
-use Rattle.ed_symbols.specs.Names.{is_definition_of, label_definition, as_list, statement_definition, same_segment}
+use Rattle.ed_symbols.specs.Names.{is_definition_of, label_definition, as_list, statement_definition}
 use Rattle.ed_symbols.proofs.Sentences.{Ties}
 
-none_in : {A : Type 0} (x : A) → Contains [] x → ⊥
-none_in x h = absurd (omega (arith, h.1))
-
 listed_says : (o : Option Definition) (h : Definition) → Contains (as_list o) h → o ≡ Some h
-listed_says o h c = search (rules, none_in)
+listed_says o h c = search rules
 
 listed_has : (o : Option Definition) (h : Definition) → o ≡ Some h → Contains (as_list o) h
-listed_has o h e = subst (λ x. Contains (as_list x) h) (sym e) (0, omega arith, refl)
+listed_has o h e = search rules
 
 -- a definition among those of some lines, from a location counter onwards, is one of a line of them
 abbrev IsOfLine : LocationCounter → List Line → Definition → Type 0
@@ -29,7 +26,7 @@ IsOfLine s lines h = (earlier : List Line) × (e : Line) × IsLineAfter lines ea
 
 of_line_says : (s : LocationCounter) (lines : List Line) (h : Definition) → Contains (symbols_from s lines) h
     → IsOfLine s lines h
-of_line_says s [] h c = absurd (none_in h c)
+of_line_says s [] h c = absurd (omega (arith, c.1))
 of_line_says s (l ∷ lines) h c =
     elim (Contains-append_cases (line_definitions l s) (symbols_from (after_statement l.statement s) lines) h c) [
       | inl g ↦ ([], l, record { after = lines; lines_are = refl }, g)
@@ -40,42 +37,20 @@ of_line_says s (l ∷ lines) h c =
 
 of_line_among : (s : LocationCounter) (earlier : List Line) (e : Line) (after : List Line) (h : Definition)
     → Contains (line_definitions e (counter_from s earlier)) h → Contains (symbols_from s (earlier ++ e ∷ after)) h
-of_line_among s [] e after h c =
-    Contains-append_left (line_definitions e s) (symbols_from (after_statement e.statement s) after) h c
+of_line_among s [] e after h c = search (rules, Contains-append_left)
 of_line_among s (l ∷ earlier) e after h c =
-    Contains-append_right (line_definitions l s) (symbols_from (after_statement l.statement s) (earlier ++ e ∷ after)) h
-    (of_line_among (after_statement l.statement s) earlier e after h c)
-
-same_says : (a b : Option ℕ) → same_segment a b ≡ true → (k : ℕ) × (b ≡ Some k) × (a ≡ Some k)
-same_says a b h = search (rules, eqb-true)
-
-same_tests : (a b : Option ℕ) (k : ℕ) → b ≡ Some k → a ≡ Some k → same_segment a b ≡ true
-same_tests a b k e d = rw d (rw e (eq-eqb k k refl))
-
-local_says : (is : Bool) (a b : Option ℕ) → (not is || same_segment a b) ≡ true → is ≡ true
-    → (k : ℕ) × (b ≡ Some k) × (a ≡ Some k)
-local_says is a b h e = search (rules, same_says)
-
-local_tests : (is : Bool) (a b : Option ℕ) → (is ≡ true → (k : ℕ) × (b ≡ Some k) × (a ≡ Some k))
-    → (not is || same_segment a b) ≡ true
-local_tests is a b h = search (rules, same_tests)
+    search (rules, Contains-append_right, of_line_among (after_statement l.statement s) earlier e after h c)
 
 alike_says : (h other : Definition) → is_definition_of h.segment h.name other ≡ true → AreAlike h other
-alike_says h other t = search (rules, bytes_eq-Decides, local_says)
+alike_says h other t = search (rules, bytes_eq-Decides, eqb-true)
 
 alike_tests : (h other : Definition) → AreAlike h other → is_definition_of h.segment h.name other ≡ true
-alike_tests h other a = and_from _ _ ((bytes_eq-Decides _ h.name).1 a.names) (local_tests _ _ _ a.segments)
+alike_tests h other a = search (rules, bytes_eq-Decides, eq-eqb)
 
 found_any : (g : Option ℕ) (name : List ℕ) (symbols : List Definition)
     → is_some (definition_of g name symbols) ≡ list_any (is_definition_of g name) symbols
 found_any g name [] = refl
-found_any g name (h ∷ symbols) = by_test (is_definition_of g name h) (found_any g name symbols)
-  where
-    by_test : (t : Bool) → is_some (definition_of g name symbols) ≡ list_any (is_definition_of g name) symbols
-        → is_some (if t then Some h else definition_of g name symbols)
-        ≡ (t || list_any (is_definition_of g name) symbols)
-    by_test true e = refl
-    by_test false e = e
+found_any g name (h ∷ symbols) = search (rules, found_any g name symbols)
 
 -- the definition defines again a name of these
 abbrev IsAgain : List Definition → Option Definition → Type 0
@@ -129,9 +104,8 @@ module _ (before : List Line) (l : Line) where
         | inr g ↦ or_right _ _ (again_tests _ names h other (listed_says names h g)
             (Contains-append_left earlier_homes (as_list labels) other among) alike)
       ]
-  again_of (inr (h, e, other, d, alike)) = or_right _ _ (again_tests _ names h other e
-      (Contains-append_right earlier_homes (as_list labels) other (listed_has labels other d)) alike)
+  again_of (inr (h, e, other, d, alike)) = search (rules, or_right, again_tests, Contains-append_right, listed_has)
 
   pub Ties-s6 : Ties (defines_again (symbols_from first_counter before) l (counter_after before))
       (DefinesAgain before l)
-  Ties-s6 = record { says = λ t. either (or_cases _ _ t); tests = again_of }
+  Ties-s6 = search (rules, either, or_cases, again_of)

@@ -32,11 +32,10 @@ tail_same l m r q e = cc
 one_place : (P : List Line → Line → Type 0) (a b : List Line) (l m : Line) (r q : List Line)
     → (a ++ l ∷ r) ≡ (b ++ m ∷ q) → length a ≡ length b → P a l → P b m
 one_place P [] [] l m r q e n p = subst (P []) (head_same l m r q e) p
-one_place P [] (y ∷ b) l m r q e n p = absurd (omega (arith, n))
-one_place P (x ∷ a) [] l m r q e n p = absurd (omega (arith, n))
 one_place P (x ∷ a) (y ∷ b) l m r q e n p =
     one_place (λ c k. P (y ∷ c) k) a b l m r q (tail_same x y _ _ e) (omega (arith, n))
     (rw (← (head_same x y _ _ e)) p)
+one_place P a b l m r q e n p = absurd (omega (arith, n))
 
 module _ (ask : List Line → Line → Option SourceCause) (Rule : List Line → Line → SourceCause → Type 0)
     (lines : List Line) (numbered : Numbered lines) (asks : (b : List Line) (l : Line) → Least (Rule b l) (ask b l))

@@ -2,7 +2,7 @@
 use Rattle.ed_symbols.proofs.Kit.{SourceCause, SourceFault, At, Memory, Line, [], ap, append_assoc, arith, length}
 use Rattle.ed_symbols.proofs.Kit.{length-append, List, None, Option, refl, Some, sym, ℕ, ◌++◌, ◌+◌, ◌<◌, ◌∙◌, ◌∷◌, ◌≡◌}
 use Rattle.ed_symbols.proofs.Kit.{◌≤◌, ◌⊎◌, append-nil, number_of, counter_after, counter_from, IsLineAfter, rules}
-use Rattle.ed_symbols.proofs.Kit.{defines_again, names_unknown, naming_cause, naming_fault_from, or_later}
+use Rattle.ed_symbols.proofs.Kit.{defines_again, names_unknown, naming_cause, naming_fault_from}
 use Rattle.ed_symbols.proofs.Kit.{reaches_outside, line_definitions, symbols_from, after_statement, first_counter}
 use Rattle.ed_symbols.proofs.Kit.{LocationCounter}
 use Rattle.std.proofs.Common.{slice_index_or}
@@ -51,9 +51,7 @@ spot_snoc s (e ∷ b) l = spot_snoc (after_statement e.statement s) b l
 homes_snoc : (s : LocationCounter) (b : List Line) (l : Line)
     → symbols_from s (b ++ l ∷ []) ≡ symbols_from s b ++ line_definitions l (counter_from s b)
 homes_snoc s [] l = append-nil (line_definitions l s)
-homes_snoc s (e ∷ b) l = ap (λ x. line_definitions e s ++ x) (homes_snoc (after_statement e.statement s) b l)
-    ∙ sym (append_assoc (line_definitions e s) (symbols_from (after_statement e.statement s) b)
-    (line_definitions l (counter_from (after_statement e.statement s) b)))
+homes_snoc s (e ∷ b) l = search (rules, append_assoc, homes_snoc (after_statement e.statement s) b l)
 
 module _ (lines : List Line) where
   abbrev ask_names : List Line → Line → Option SourceCause
@@ -64,12 +62,7 @@ module _ (lines : List Line) where
       → naming_fault_from (symbols_from first_counter lines) (symbols_from first_counter b) (counter_after b) rest
       ≡ first ask_names b rest
   names_pass b [] = refl
-  names_pass b (l ∷ rest) = ap (λ f. or_later l.number (ask_names b l) f)
-      (ap (λ h. naming_fault_from (symbols_from first_counter lines) h
-      (after_statement l.statement (counter_after b)) rest)
-      (sym (homes_snoc first_counter b l))
-      ∙ (ap (λ s. naming_fault_from (symbols_from first_counter lines)
-      (symbols_from first_counter (b ++ l ∷ [])) s rest) (sym (spot_snoc first_counter b l)) ∙ names_pass _ rest))
+  names_pass b (l ∷ rest) = search (rules, homes_snoc, spot_snoc, names_pass (b ++ l ∷ []) rest)
 
 -- ---- the least of several
 
@@ -109,7 +102,7 @@ fault_of lines f h = search rules
 
 -- the fault that is found is that of the source
 pub found_is : (lines : List Line) → AreNumbered lines → NameFaultIs lines (resolution lines).fault
-found_is lines are = fault_of lines (resolution lines).fault (say_names lines (numbers lines are))
+found_is lines are = search (rules, fault_of, say_names, numbers)
 
 one_fault : (lines : List Line) (f g : Option SourceFault) → NameFaultIs lines f → NameFaultIs lines g → f ≡ g
 one_fault lines None None h i = refl

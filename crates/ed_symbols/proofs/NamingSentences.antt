@@ -1,16 +1,14 @@
 -- The tests of a line and the sentences say the same, both ways, for the faults S7 and S8.
-use Rattle.ed_symbols.proofs.Kit.{is_none, list_any, or_cases, Any-from_list_any, list_any-from_Any}
-use Rattle.ed_symbols.proofs.Kit.{Line, Setting, [], ap, Bool, inl, List, None, Option, refl, Some, true, ℕ}
-use Rattle.ed_symbols.proofs.Kit.{ℤ, ◌||◌, ◌∙◌, ◌∷◌, ◌≡◌, ◌⊎◌, counter_after, is_no_address, is_unknown, names_unknown}
+use Rattle.ed_symbols.proofs.Kit.{list_any, or_cases, Any-from_list_any, list_any-from_Any}
+use Rattle.ed_symbols.proofs.Kit.{Line, Setting, [], ap, Bool, inl, List, Option, refl, Some, true, ℕ}
+use Rattle.ed_symbols.proofs.Kit.{ℤ, ◌||◌, ◌∷◌, ◌≡◌, ◌⊎◌, counter_after, is_no_address, is_unknown, names_unknown}
 use Rattle.ed_symbols.proofs.Kit.{reaches_outside, symbols_from, operand_of, first_counter, segment_of, Definition}
 use Rattle.std.proofs.Common.{map, pos, int_lt}
 use Rattle.ed_syntax.specs.declared.program.Operand.{Operand}
 use Rattle.ed_syntax.specs.declared.program.Statement.{Statement}
-use Rattle.ed_syntax.specs.declared.program.Statement.TheVariants.{Enter}
 use Rattle.ed_symbols.specs.NameFaults.{HasOperand, HasName, NamesUnknown, ReachesOutside}
 use Rattle.ed_symbols.specs.NameTests.{any_operand, enters_unknown, is_far}
-use Rattle.ed_symbols.specs.Names.{place_on}
-use Rattle.ed_symbols.specs.Operands.{operand_value, sum_of_places, with_more}
+use Rattle.ed_symbols.specs.Operands.{operand_value}
 use Rattle.ed_symbols.proofs.Sentences.{Ties}
 use Rattle.ed_syntax.specs.declared.program.Operand.TheVariants as operands
 use Rattle.ed_symbols.proofs.Kit.{rules}
@@ -32,58 +30,21 @@ operand_says test st h = search (rules, Any-from_list_any, settings_same)
 operand_tests : (test : Operand → Bool) (st : Option Statement) → Passes test st → any_operand test st ≡ true
 operand_tests test st h = search (rules, settings_same, list_any-from_Any)
 
--- a name of the operand is unknown
-abbrev Lacks : List Definition → Option ℕ → Operand → Type 0
-Lacks symbols g o = (name : List ℕ) × HasName o name × (place_on symbols g name ≡ None)
-
-unplaced : (o : Option ℕ) → is_none o ≡ true → ◌≡◌ {A = Option ℕ} o None
-unplaced o h = search rules
-
-more_says : (plus : ℤ) (o : Option ℕ) → is_none (with_more plus o) ≡ true → ◌≡◌ {A = Option ℕ} o None
-more_says plus o h = search rules
-
-sum_says : (minus : Bool) (a b : Option ℕ) → is_none (sum_of_places minus a b) ≡ true
-    → (a ≡ None) ⊎ (b ≡ None)
-sum_says minus a b h = search rules
-
-sum_none : (minus : Bool) (a b : Option ℕ) → (a ≡ None) ⊎ (b ≡ None) → is_none (sum_of_places minus a b) ≡ true
-sum_none minus a b h = search rules
-
-lacks_says : (symbols : List Definition) (g : Option ℕ) (o : Operand) → is_unknown symbols g o ≡ true
-    → Lacks symbols g o
-lacks_says symbols g o h = search (rules, more_says, sum_says)
-
-lacks_tests : (symbols : List Definition) (g : Option ℕ) (o : Operand) → Lacks symbols g o
-    → is_unknown symbols g o ≡ true
-lacks_tests symbols g o h = search (rules, sum_none)
-
--- an `enter` of an unknown name
-abbrev EntersNowhere : List Definition → Option Statement → Type 0
-EntersNowhere symbols st = (name : List ℕ) × (st ≡ Some (Enter name)) × (place_on symbols None name ≡ None)
-
-nowhere_says : (symbols : List Definition) (st : Option Statement) → enters_unknown symbols st ≡ true
-    → EntersNowhere symbols st
-nowhere_says symbols st h = search (rules, unplaced)
-
-nowhere_tests : (symbols : List Definition) (st : Option Statement) → EntersNowhere symbols st
-    → enters_unknown symbols st ≡ true
-nowhere_tests symbols st h = ap (enters_unknown symbols) h.1 ∙ ap is_none h.2
-
 module _ (lines before : List Line) (l : Line) where
   abbrev here : Option ℕ
   here = segment_of l (counter_after before)
 
   unknown_by : (any_operand (is_unknown (symbols_from first_counter lines) here) l.statement ≡ true)
       ⊎ (enters_unknown (symbols_from first_counter lines) l.statement ≡ true) → NamesUnknown lines before l
-  unknown_by h = search (rules, operand_says, lacks_says, nowhere_says)
+  unknown_by h = search (rules, operand_says)
 
   unknown_of : NamesUnknown lines before l → names_unknown (symbols_from first_counter lines) l
       (counter_after before) ≡ true
-  unknown_of h = search (rules, operand_tests, lacks_tests, nowhere_tests)
+  unknown_of h = search (rules, operand_tests)
 
   pub Ties-s7 : Ties (names_unknown (symbols_from first_counter lines) l (counter_after before))
       (NamesUnknown lines before l)
-  Ties-s7 = record { says = λ h. unknown_by (or_cases _ _ h); tests = unknown_of }
+  Ties-s7 = search (rules, or_cases, unknown_by, unknown_of)
 
 -- the value of an operand with a name is not an address
 abbrev IsFar : List Definition → Option ℕ → Operand → Type 0
@@ -92,23 +53,18 @@ IsFar symbols g o = (name : List ℕ) × HasName o name × (v : ℤ) × (operand
 
 far_says : (o : Option ℤ) → is_far o ≡ true
     → (v : ℤ) × (o ≡ Some v) × ((int_lt v (pos 0) ≡ true) ⊎ (int_lt (pos 1023) v ≡ true))
-far_says o h = search (rules, or_cases)
-
-far_tests : (o : Option ℤ) (v : ℤ) → o ≡ Some v → (int_lt v (pos 0) ≡ true) ⊎ (int_lt (pos 1023) v ≡ true)
-    → is_far o ≡ true
-far_tests o v e h = search rules
+far_says o h = search rules
 
 no_address_says : (symbols : List Definition) (g : Option ℕ) (o : Operand) → is_no_address symbols g o ≡ true
     → IsFar symbols g o
 no_address_says symbols g (operands.Number n) h = cc
-no_address_says symbols g (operands.Label name plus) h =
-    let f = far_says _ h in (name, refl, f.0, f.1, f.2)
+no_address_says symbols g (operands.Label name plus) h = search (rules, far_says)
 no_address_says symbols g (operands.Two first second minus) h =
     let f = far_says _ h in (first, inl refl, f.0, f.1, f.2)
 
 no_address_tests : (symbols : List Definition) (g : Option ℕ) (o : Operand) → IsFar symbols g o
     → is_no_address symbols g o ≡ true
-no_address_tests symbols g o h = search (rules, far_tests)
+no_address_tests symbols g o h = search rules
 
 pub Ties-s8 : (lines before : List Line) (l : Line)
     → Ties (reaches_outside (symbols_from first_counter lines) l (counter_after before)) (ReachesOutside lines before l)
