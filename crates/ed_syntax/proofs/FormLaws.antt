@@ -47,11 +47,6 @@ statement_unlabelled : (two : Bool) (ps : List LinePart) (s : Statement) (fits :
 statement_unlabelled two _ _ _ (placed ps s fits h) = placed_unlabelled two ps s fits h
 statement_unlabelled two _ _ _ x = record { first = refl; other = refl }
 
--- what may have a label is not an empty list of parts
-after_label : (two : Bool) (a : Text) (ps : List LinePart) (s : Statement) (fits : Bool) → SpellsPlaced two ps s fits
-    → Grammar.after_label two a ps ≡ Grammar.ranged_map (with_label a) (Grammar.placed_statement two ps)
-after_label two a ps s fits h = search rules
-
 label_first : (two : Bool) (k : ℕ) (a : Text) (ps : List LinePart) → is_place_name two a ≡ true
     → Grammar.form_at two k (run a ∷ sign 58 ∷ ps) ≡ Grammar.after_label two a ps
 label_first two k a ps e = no_version two k (run a ∷ sign 58 ∷ ps) refl ∙ rw e refl
