@@ -79,7 +79,8 @@ labelled_spelled two k a (p ∷ ps) e = made_spelled (with_label a) (placed_is_s
 form_spelled : (two : Bool) (k : ℕ) (ps : List LinePart) → IsSpelled (SpellsForm two k) ps (Grammar.form two ps)
 form_spelled two k [] = in_range _ (empty k)
 form_spelled two k (run r ∷ sign s ∷ ps) =
-    by_test (s == 58) (λ is. rw ((Decides-eqb s 58).0 is) (if_passed (is_place_name two r) (labelled_spelled two k r ps)))
+    by_test (s == 58)
+    (λ is. rw ((Decides-eqb s 58).0 is) (if_passed (is_place_name two r) (labelled_spelled two k r ps)))
     (λ _. unlabelled_spelled two k (run r ∷ sign s ∷ ps))
 form_spelled two k ps = unlabelled_spelled two k ps
 

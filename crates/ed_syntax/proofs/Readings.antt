@@ -61,7 +61,8 @@ by_option f None g = unread
 by_option f (Some x) g = g x refl
 
 -- what is read by a number
-pub by_number : {A : Type 0} {S : List LinePart → A → Bool → Type 0} {ps : List LinePart} (f : ℕ → A) (most : ℕ) (n : Text)
+pub by_number : {A : Type 0} {S : List LinePart → A → Bool → Type 0} {ps : List LinePart} (f : ℕ → A) (most : ℕ)
+    (n : Text)
     → (is_number n ≡ true → S ps (f (value n)) (nat_le (value n) most))
     → IsSpelled S ps (Grammar.ranged_map f (Grammar.number_up_to most n))
 by_number {S = S} {ps = ps} f most n s = go (is_number n) s

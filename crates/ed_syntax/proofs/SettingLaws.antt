@@ -46,7 +46,8 @@ setting_is_spelled : (two : Bool) (parts : List LinePart)
     → IsSpelledFirst (SpellsSetting two) parts (Grammar.setting two parts)
 setting_is_spelled two (sign b ∷ sign e ∷ parts) =
     cond_both (e == 61) _ _ (IsSpelledFirst (SpellsSetting two) (sign b ∷ sign e ∷ parts))
-    (λ is. rw ((Decides-eqb e 61).0 is) (by_letter (setting_letter b) refl _ (operand_is_spelled two parts))) (λ _. none)
+    (λ is. rw ((Decides-eqb e 61).0 is) (by_letter (setting_letter b) refl _ (operand_is_spelled two parts)))
+    (λ _. none)
   where
     by_letter : (l : Option ℕ) → setting_letter b ≡ l → (o : Option (Option _ × List LinePart))
         → IsSpelledFirst (SpellsOperand two) parts o
@@ -74,15 +75,20 @@ before_others : (two : Bool) (k : ℕ) (ps qs : List LinePart) (x : Option Setti
     → IsSpelled (SpellsSetting two) ps (Some x) → IsSpelled (SpellsFew two k) qs o
     → IsSpelled (SpellsFew two (suc k)) (ps ++ sign 44 ∷ qs) (option_map (Grammar.both x) o)
 before_others two k ps qs _ _ s unread = unread
-before_others two k ps qs _ _ (in_range a s) (in_range ss t) = in_range (a ∷ ss) (one_before two k ps qs true true a ss s t)
-before_others two k ps qs _ _ (in_range a s) (out_of_range ss t) = out_of_range (a ∷ ss) (one_before two k ps qs true false a ss s t)
-before_others two k ps qs _ _ (out_of_range a s) (in_range ss t) = out_of_range (a ∷ ss) (one_before two k ps qs false true a ss s t)
-before_others two k ps qs _ _ (out_of_range a s) (out_of_range ss t) = out_of_range (a ∷ ss) (one_before two k ps qs false false a ss s t)
+before_others two k ps qs _ _ (in_range a s) (in_range ss t) =
+    in_range (a ∷ ss) (one_before two k ps qs true true a ss s t)
+before_others two k ps qs _ _ (in_range a s) (out_of_range ss t) =
+    out_of_range (a ∷ ss) (one_before two k ps qs true false a ss s t)
+before_others two k ps qs _ _ (out_of_range a s) (in_range ss t) =
+    out_of_range (a ∷ ss) (one_before two k ps qs false true a ss s t)
+before_others two k ps qs _ _ (out_of_range a s) (out_of_range ss t) =
+    out_of_range (a ∷ ss) (one_before two k ps qs false false a ss s t)
 
 more_spelled : (two : Bool) (k : ℕ) (parts : List LinePart) (o : Option (Option Setting × List LinePart))
     → ((qs : List LinePart) → IsSpelled (SpellsFew two k) qs (Grammar.settings two k qs))
     → IsSpelledFirst (SpellsSetting two) parts o
-    → IsSpelled (SpellsFew two (suc k)) parts (option_and_then (λ p. Grammar.and_more p.0 p.1 (Grammar.settings two k)) o)
+    → IsSpelled (SpellsFew two (suc k)) parts
+    (option_and_then (λ p. Grammar.and_more p.0 p.1 (Grammar.settings two k)) o)
 more_spelled two k parts _ others none = unread
 more_spelled two k parts _ others (first ps [] x whole s) =
     rw (whole ∙ append-nil ps) (made_spelled (λ a. a ∷ []) s (λ a fits t. record {

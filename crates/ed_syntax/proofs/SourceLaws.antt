@@ -344,9 +344,11 @@ no_fault text two said n c p h =
     let size = length-append h.before (h.line ∷ h.after) in
     let below : length h.before < length p.lines = omega (arith, size, ap length same) in
     let says = says_at (length h.before) p.says below in
-    let version : h.two ≡ two = sym (only_version _ h.two h.version) ∙ (rw same at (only_version p.lines two p.version)) in
+    let version : h.two ≡ two =
+    sym (only_version _ h.two h.version) ∙ rw same at (only_version p.lines two p.version) in
     let number : n ≡ 1 + length h.before = omega arith in
-    said_is_faultless two _ h.line says.0 (omega (arith, below)) (rw (line_here h.before h.line h.after same) at says.1) c
+    said_is_faultless two _ h.line says.0 (omega (arith, below))
+    (rw (line_here h.before h.line h.after same) at says.1) c
     (rw (version, number) at h.faulty)
 
 -- two answers of one call are the same

@@ -1,5 +1,6 @@
 -- Each form's text spells it.
-use Rattle.ed_syntax.proofs.Kit.{if◌then◌else◌, [], ap, arith, Bool, codes, false, length, List, map, nat_le, nat_lt, negsuc, None}
+use Rattle.ed_syntax.proofs.Kit.{if◌then◌else◌}
+use Rattle.ed_syntax.proofs.Kit.{[], ap, arith, Bool, codes, false, length, List, map, nat_le, nat_lt, negsuc, None}
 use Rattle.ed_syntax.proofs.Kit.{not, Option, pos, refl, Some, suc, true, unsigned_abs, zero, ℕ, ℤ, ◌&&◌, ◌++◌, rules}
 use Rattle.ed_syntax.proofs.Kit.{◌<◌, ◌==◌, ◌^◌, ◌||◌, ◌∙◌, ◌∷◌, ◌≡◌, ◌≤◌, decimal, list_all, and_from, and_parts}
 use Rattle.ed_syntax.proofs.Kit.{le-leb, le-ltb, leb-true, ltb-true, nat_tests, append-nil, length-map}
@@ -95,10 +96,12 @@ label_spelled two a (pos zero) e f =
     spelled_by _ (name a e) (run_front a [] [] (place_name_part two a e) (λ rest g. g) no_front)
 label_spelled two a (pos (suc n)) e f =
     let h = numeral_of (suc n) (grind (arith, nat_tests)) in
-    spelled_by _ (rw (h.value_is, f) at (spells (SpellsOperand two) (plus a (decimal (suc n)) e h.number))) (two_front two false a _ e (numeral_front (suc n) _ h))
+    spelled_by _ (rw (h.value_is, f) at (spells (SpellsOperand two) (plus a (decimal (suc n)) e h.number)))
+    (two_front two false a _ e (numeral_front (suc n) _ h))
 label_spelled two a (negsuc n) e f =
     let h = numeral_of (suc n) (grind (arith, nat_tests)) in
-    spelled_by _ (rw (h.value_is, f) at (spells (SpellsOperand two) (minus a (decimal (suc n)) e h.number))) (two_front two true a _ e (numeral_front (suc n) _ h))
+    spelled_by _ (rw (h.value_is, f) at (spells (SpellsOperand two) (minus a (decimal (suc n)) e h.number)))
+    (two_front two true a _ e (numeral_front (suc n) _ h))
 
 two_spelled : (two : Bool) (a b : Text) (m : Bool) → is_place_name two a ≡ true → is_place_name two b ≡ true
     → two ≡ true → IsSpelledBy (SpellsOperand two) (operand_text (operands.Two a b m)) (operands.Two a b m)
@@ -111,7 +114,8 @@ operand_spelled : (two : Bool) (o : Operand) → is_operand two o ≡ true
     → IsSpelledBy (SpellsOperand two) (operand_text o) o
 operand_spelled two (operands.Number n) e =
     let h = numeral_of n (grind (arith, nat_tests)) in
-    spelled_by _ (rw (h.value_is, e) at (spells (SpellsOperand two) (number (decimal n) h.number))) (numeral_front n _ h)
+    spelled_by _ (rw (h.value_is, e) at (spells (SpellsOperand two) (number (decimal n) h.number)))
+    (numeral_front n _ h)
 operand_spelled two (operands.Label a z) e = let p = and_parts _ _ e in label_spelled two a z p.0 p.1
 operand_spelled two (operands.Two a b m) e = search (rules, two_spelled)
 
@@ -201,7 +205,8 @@ positive_spelled : (least most n : ℕ) → n ≤ most → most < 2 ^ 64
     → IsSpelledBy (SpellsInteger least most) (decimal n) (pos n)
 positive_spelled least most n le lt =
     let h = numeral_of n (omega (arith, le, lt)) in
-    spelled_by _ (rw (h.value_is, le-leb n most le) at (spells (SpellsInteger least most) (positive (decimal n) h.number))) (numeral_front n _ h)
+    let s = spells (SpellsInteger least most) (positive (decimal n) h.number) in
+    spelled_by _ (rw (h.value_is, le-leb n most le) at s) (numeral_front n _ h)
 
 placed_spelled : (two : Bool) (s : Statement) → may_have_label s ≡ true → is_statement two s ≡ true
     → IsSpelledBy (SpellsPlaced two) (statement_text s) s
@@ -212,13 +217,15 @@ placed_spelled two (statements.Number n) m e =
     let lt = ltb-true n (2 ^ 17) e in
     let w = positive_spelled 65536 131071 n (omega (arith, lt)) (omega arith) in
     let same : modulo 17 (pos n) ≡ n = omega (arith, lt) in
-    spelled_by _ (rw same at (spells (SpellsPlaced two) (word w.ps (pos n) true w.spelled))) (word_front _ (decimal n) w.ps refl w.front)
+    spelled_by _ (rw same at (spells (SpellsPlaced two) (word w.ps (pos n) true w.spelled)))
+    (word_front _ (decimal n) w.ps refl w.front)
 placed_spelled two (statements.Long n) m e =
     let p = and_parts two _ e in
     let lt = ltb-true n (2 ^ 35) p.1 in
     let w = positive_spelled 17179869184 34359738367 n (omega (arith, lt)) (omega arith) in
     let same : modulo 35 (pos n) ≡ n = omega (arith, lt) in
-    spelled_by _ (rw same at (spells (SpellsPlaced two) (long w.ps (pos n) true w.spelled p.0))) (word_front _ (decimal n) w.ps refl w.front)
+    spelled_by _ (rw same at (spells (SpellsPlaced two) (long w.ps (pos n) true w.spelled p.0)))
+    (word_front _ (decimal n) w.ps refl w.front)
 placed_spelled two (statements.Text rows) m e = string_spelled (codes "text") rows.items e refl (λ q. text q rows.items)
 placed_spelled two s m e = absurd (cc)
 
@@ -228,7 +235,8 @@ segment_spelled two a None e f = spelled_by _ (segment a e)
     (word_front _ _ _ refl (run_front a [] [] (name_part a e) (λ rest h. h) no_front))
 segment_spelled two a (Some n) e f =
     let h = numeral_of n (grind (arith, nat_tests)) in
-    spelled_by _ (rw (h.value_is, f) at (spells (SpellsStatement two) (segment_at a (decimal n) e h.number))) (word_front _ _ _ refl
+    spelled_by _ (rw (h.value_is, f) at (spells (SpellsStatement two) (segment_at a (decimal n) e h.number)))
+    (word_front _ _ _ refl
     (word_front a _ _ (name_part a e) (word_front _ _ _ refl (numeral_front n _ h))))
 
 fetch_spelled : (two : Bool) (a b : Text) (ss : List Setting) → is_name a ≡ true → is_name b ≡ true

@@ -72,7 +72,8 @@ with_spelled two a b parts e f = unread
 
 fetch_spelled : (two : Bool) (parts : List LinePart)
     → IsSpelled (SpellsStatement two) (run (codes "use") ∷ parts) (Grammar.fetch two parts)
-fetch_spelled two (run a ∷ run w ∷ run b ∷ parts) = if_passed (bytes_eq w (codes "as") && (is_name a && is_name b)) (λ e.
+fetch_spelled two (run a ∷ run w ∷ run b ∷ parts) =
+    if_passed (bytes_eq w (codes "as") && (is_name a && is_name b)) (λ e.
     let c = and_parts _ _ e in
     let d = and_parts (is_name a) _ c.1 in
     rw ((bytes_eq-Decides w _).0 c.0) (made_spelled (λ ss. statements.Fetch a b (array ss))
