@@ -1,28 +1,23 @@
 -- The same for the fault S6, of names that are defined again.
 use Rattle.ed_symbols.proofs.Kit.{is_some, list_any, or_cases, or_left, or_right, Any-from_list_any, list_any-from_Any}
-use Rattle.ed_symbols.proofs.Kit.{Line, [], ap, arith, Bool, false, if◌then◌else◌, inl, inr, List, None, not, Option}
-use Rattle.ed_symbols.proofs.Kit.{refl, Some, subst, sym, true, ℕ, ◌++◌, ◌||◌, ◌∙◌, ◌∷◌, ◌≡◌, ◌⊎◌, counter_after}
+use Rattle.ed_symbols.proofs.Kit.{Line, [], ap, arith, inl, inr, List, Option}
+use Rattle.ed_symbols.proofs.Kit.{refl, Some, true, ℕ, ◌++◌, ◌∷◌, ◌≡◌, ◌⊎◌, counter_after, rules}
 use Rattle.ed_symbols.proofs.Kit.{counter_from, IsLineAfter, defines_again, definition_of, line_definitions}
 use Rattle.ed_symbols.proofs.Kit.{symbols_from, after_statement, first_counter, LocationCounter, Definition}
-use Rattle.ed_syntax.proofs.Kit.{suc, zero, and_from, and_parts, bytes_eq-Decides}
+use Rattle.ed_syntax.proofs.Kit.{bytes_eq-Decides}
 use Rattle.std.specs.List.{Contains}
 use Rattle.std.proofs.lemmas.Bool.{eqb-true, eq-eqb}
 use Rattle.std.proofs.lemmas.List.Elements.{Contains-append_cases, Contains-append_left, Contains-append_right}
 use Rattle.ed_symbols.specs.NameFaults.{AreAlike, DefinesAgain}
 use Rattle.ed_symbols.specs.NameTests.{is_again}
-use Rattle.ed_symbols.specs.Names.{is_definition_of, label_definition, as_list, statement_definition, same_segment}
+use Rattle.ed_symbols.specs.Names.{is_definition_of, label_definition, as_list, statement_definition}
 use Rattle.ed_symbols.proofs.Sentences.{Ties}
 
-none_in : {A : Type 0} (x : A) → Contains [] x → ⊥
-none_in x h = absurd (omega (arith, h.1))
-
 listed_says : (o : Option Definition) (h : Definition) → Contains (as_list o) h → o ≡ Some h
-listed_says None h c = absurd (none_in h c)
-listed_says (Some x) h (zero, below, is) = ap (λ y. Some y) is
-listed_says (Some x) h (suc k, below, is) = absurd (omega (arith, below))
+listed_says o h c = search rules
 
 listed_has : (o : Option Definition) (h : Definition) → o ≡ Some h → Contains (as_list o) h
-listed_has o h e = subst (λ x. Contains (as_list x) h) (sym e) (0, omega arith, refl)
+listed_has o h e = search rules
 
 -- a definition among those of some lines, from a location counter onwards, is one of a line of them
 abbrev IsOfLine : LocationCounter → List Line → Definition → Type 0
@@ -31,7 +26,7 @@ IsOfLine s lines h = (earlier : List Line) × (e : Line) × IsLineAfter lines ea
 
 of_line_says : (s : LocationCounter) (lines : List Line) (h : Definition) → Contains (symbols_from s lines) h
     → IsOfLine s lines h
-of_line_says s [] h c = absurd (none_in h c)
+of_line_says s [] h c = absurd (omega (arith, c.1))
 of_line_says s (l ∷ lines) h c =
     elim (Contains-append_cases (line_definitions l s) (symbols_from (after_statement l.statement s) lines) h c) [
       | inl g ↦ ([], l, record { after = lines; lines_are = refl }, g)
@@ -42,69 +37,31 @@ of_line_says s (l ∷ lines) h c =
 
 of_line_among : (s : LocationCounter) (earlier : List Line) (e : Line) (after : List Line) (h : Definition)
     → Contains (line_definitions e (counter_from s earlier)) h → Contains (symbols_from s (earlier ++ e ∷ after)) h
-of_line_among s [] e after h c =
-    Contains-append_left (line_definitions e s) (symbols_from (after_statement e.statement s) after) h c
+of_line_among s [] e after h c = search (rules, Contains-append_left)
 of_line_among s (l ∷ earlier) e after h c =
-    Contains-append_right (line_definitions l s) (symbols_from (after_statement l.statement s) (earlier ++ e ∷ after)) h
-    (of_line_among (after_statement l.statement s) earlier e after h c)
-
-of_line_has : (s : LocationCounter) (lines : List Line) (h : Definition) → IsOfLine s lines h
-    → Contains (symbols_from s lines) h
-of_line_has s lines h r = rw r.2.lines_are (of_line_among s r.0 r.1 r.2.after h r.3)
-
-same_says : (a b : Option ℕ) → same_segment a b ≡ true → (k : ℕ) × (b ≡ Some k) × (a ≡ Some k)
-same_says None b h = cc
-same_says (Some x) None h = cc
-same_says (Some x) (Some y) h = (y, refl, ap (λ n. Some n) (eqb-true x y h))
-
-same_tests : (a b : Option ℕ) (k : ℕ) → b ≡ Some k → a ≡ Some k → same_segment a b ≡ true
-same_tests a b k e d = rw d (rw e (eq-eqb k k refl))
-
-local_says : (is : Bool) (a b : Option ℕ) → (not is || same_segment a b) ≡ true → is ≡ true
-    → (k : ℕ) × (b ≡ Some k) × (a ≡ Some k)
-local_says true a b h e = same_says a b h
-local_says false a b h e = cc
-
-local_tests : (is : Bool) (a b : Option ℕ) → (is ≡ true → (k : ℕ) × (b ≡ Some k) × (a ≡ Some k))
-    → (not is || same_segment a b) ≡ true
-local_tests false a b h = refl
-local_tests true a b h = let k = h refl in same_tests a b k.0 k.1 k.2
+    search (rules, Contains-append_right, of_line_among (after_statement l.statement s) earlier e after h c)
 
 alike_says : (h other : Definition) → is_definition_of h.segment h.name other ≡ true → AreAlike h other
-alike_says h other t =
-    let p = and_parts _ _ t in
-    record {
-      names = (bytes_eq-Decides _ h.name).0 p.0;
-      segments = local_says _ _ _ p.1;
-    }
+alike_says h other t = search (rules, bytes_eq-Decides, eqb-true)
 
 alike_tests : (h other : Definition) → AreAlike h other → is_definition_of h.segment h.name other ≡ true
-alike_tests h other a = and_from _ _ ((bytes_eq-Decides _ h.name).1 a.names) (local_tests _ _ _ a.segments)
+alike_tests h other a = search (rules, bytes_eq-Decides, eq-eqb)
 
 found_any : (g : Option ℕ) (name : List ℕ) (symbols : List Definition)
     → is_some (definition_of g name symbols) ≡ list_any (is_definition_of g name) symbols
 found_any g name [] = refl
-found_any g name (h ∷ symbols) = by_test (is_definition_of g name h) (found_any g name symbols)
-  where
-    by_test : (t : Bool) → is_some (definition_of g name symbols) ≡ list_any (is_definition_of g name) symbols
-        → is_some (if t then Some h else definition_of g name symbols)
-        ≡ (t || list_any (is_definition_of g name) symbols)
-    by_test true e = refl
-    by_test false e = e
+found_any g name (h ∷ symbols) = search (rules, found_any g name symbols)
 
 -- the definition defines again a name of these
 abbrev IsAgain : List Definition → Option Definition → Type 0
 IsAgain earlier o = (h : Definition) × (o ≡ Some h) × (other : Definition) × Contains earlier other × AreAlike h other
 
 again_says : (earlier : List Definition) (o : Option Definition) → is_again earlier o ≡ true → IsAgain earlier o
-again_says earlier None t = cc
-again_says earlier (Some h) t =
-    let a = Any-from_list_any (is_definition_of h.segment h.name) earlier (sym (found_any _ h.name earlier) ∙ t) in
-    (h, refl, a.1, (a.0, a.2, a.3), alike_says h a.1 a.4)
+again_says earlier o t = search (rules, Any-from_list_any, found_any, alike_says)
 
-again_tests : (earlier : List Definition) (o : Option Definition) → IsAgain earlier o → is_again earlier o ≡ true
-again_tests earlier o a = ap (is_again earlier) a.1 ∙ (found_any _ a.0.name earlier
-    ∙ list_any-from_Any _ earlier (a.3.0, a.2, a.3.1, a.3.2, alike_tests a.0 a.2 a.4))
+again_tests : (earlier : List Definition) (o : Option Definition) (h other : Definition) → o ≡ Some h
+    → Contains earlier other → AreAlike h other → is_again earlier o ≡ true
+again_tests earlier o h other e c alike = search (rules, found_any, list_any-from_Any, alike_tests)
 
 module _ (before : List Line) (l : Line) where
   abbrev here : LocationCounter
@@ -119,69 +76,36 @@ module _ (before : List Line) (l : Line) where
   abbrev earlier_homes : List Definition
   earlier_homes = symbols_from first_counter before
 
-  by_label : IsAgain earlier_homes labels → DefinesAgain before l
-  by_label a = let r = of_line_says first_counter before a.2 a.3 in
-      inl (
-        a.0,
-        Contains-append_left (as_list labels) (as_list names) a.0 (listed_has labels a.0 a.1),
-        r.0,
-        r.1,
-        r.2,
-        a.2,
-        r.3,
-        a.4,
-      )
-
-  by_name : IsAgain (earlier_homes ++ as_list labels) names → DefinesAgain before l
-  by_name a = elim (Contains-append_cases earlier_homes (as_list labels) a.2 a.3) [
-    | inl c ↦ let r = of_line_says first_counter before a.2 c in
-        inl (
-          a.0,
-          Contains-append_right (as_list labels) (as_list names) a.0 (listed_has names a.0 a.1),
-          r.0,
-          r.1,
-          r.2,
-          a.2,
-          r.3,
-          a.4,
-        )
-    | inr c ↦ inr (a.0, a.1, a.2, listed_says labels a.2 c, a.4)
-  ]
+  -- the line defines a name that an earlier line defines
+  of_earlier : (h other : Definition) → Contains (line_definitions l here) h → Contains earlier_homes other
+      → AreAlike h other → DefinesAgain before l
+  of_earlier h other c d alike =
+      let r = of_line_says first_counter before other d in inl (h, c, r.0, r.1, r.2, other, r.3, alike)
 
   either : (is_again earlier_homes labels ≡ true)
       ⊎ (is_again (earlier_homes ++ as_list labels) names ≡ true) → DefinesAgain before l
-  either (inl t) = by_label (again_says earlier_homes labels t)
-  either (inr t) = by_name (again_says (earlier_homes ++ as_list labels) names t)
+  either (inl t) =
+      let a = again_says earlier_homes labels t in
+      of_earlier a.0 a.2 (Contains-append_left (as_list labels) _ a.0 (listed_has labels a.0 a.1)) a.3 a.4
+  either (inr t) =
+      let a = again_says (earlier_homes ++ as_list labels) names t in
+      elim (Contains-append_cases earlier_homes (as_list labels) a.2 a.3) [
+        | inl c ↦
+            of_earlier a.0 a.2 (Contains-append_right (as_list labels) _ a.0 (listed_has names a.0 a.1)) c a.4
+        | inr c ↦ inr (a.0, a.1, a.2, listed_says labels a.2 c, a.4)
+      ]
 
   again_of : DefinesAgain before l → defines_again earlier_homes l here ≡ true
   again_of (inl (h, c, e, x, stands, other, d, alike)) =
-      by_case (Contains-append_cases (as_list labels) (as_list names) h c)
-    where
-      among : Contains earlier_homes other
-      among = of_line_has first_counter before other (e, x, stands, d)
-
-      by_case : Contains (as_list labels) h ⊎ Contains (as_list names) h → defines_again earlier_homes l here ≡ true
-      by_case (inl g) = or_left _ _
-          (again_tests earlier_homes labels (h, listed_says labels h g, other, among, alike))
-      by_case (inr g) = or_right _ _ (again_tests _ names (
-        h,
-        listed_says names h g,
-        other,
-        Contains-append_left earlier_homes (as_list labels) other among,
-        alike,
-      ))
-  again_of (inr (h, e, other, d, alike)) =
-      or_right _ _ (again_tests _ names (
-        h,
-        e,
-        other,
-        Contains-append_right earlier_homes (as_list labels) other (listed_has labels other d),
-        alike,
-      ))
+      let among : Contains earlier_homes other =
+      rw stands.lines_are (of_line_among first_counter e x stands.after other d) in
+      elim (Contains-append_cases (as_list labels) (as_list names) h c) [
+        | inl g ↦ or_left _ _ (again_tests earlier_homes labels h other (listed_says labels h g) among alike)
+        | inr g ↦ or_right _ _ (again_tests _ names h other (listed_says names h g)
+            (Contains-append_left earlier_homes (as_list labels) other among) alike)
+      ]
+  again_of (inr (h, e, other, d, alike)) = search (rules, or_right, again_tests, Contains-append_right, listed_has)
 
   pub Ties-s6 : Ties (defines_again (symbols_from first_counter before) l (counter_after before))
       (DefinesAgain before l)
-  Ties-s6 = record {
-    says = λ t. either (or_cases _ _ t);
-    tests = again_of;
-  }
+  Ties-s6 = search (rules, either, or_cases, again_of)

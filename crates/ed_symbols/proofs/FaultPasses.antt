@@ -1,7 +1,7 @@
 -- A pass over the lines finds the first line that has a fault of its kind.
-use Rattle.ed_symbols.proofs.Kit.{SourceCause, SourceFault, At, Memory, Line, [], ap, append_assoc, arith, inl, inr}
+use Rattle.ed_symbols.proofs.Kit.{SourceCause, SourceFault, At, Memory, Line, [], append_assoc, arith, inl, inr}
 use Rattle.ed_symbols.proofs.Kit.{length, length-append, List, None, Option, Some, subst, sym, ℕ, ◌++◌, ◌+◌, ◌<◌, ◌∙◌}
-use Rattle.ed_symbols.proofs.Kit.{◌∷◌, ◌≡◌, ◌≤◌, ◌⊎◌, append-nil, number_of, IsLineAfter, or_later}
+use Rattle.ed_symbols.proofs.Kit.{◌∷◌, ◌≡◌, ◌≤◌, ◌⊎◌, append-nil, number_of, IsLineAfter, or_later, rules}
 use Rattle.ed_symbols.proofs.LeastFaults.{Least}
 
 -- what a pass finds that tests each line by the lines before it
@@ -32,11 +32,10 @@ tail_same l m r q e = cc
 one_place : (P : List Line → Line → Type 0) (a b : List Line) (l m : Line) (r q : List Line)
     → (a ++ l ∷ r) ≡ (b ++ m ∷ q) → length a ≡ length b → P a l → P b m
 one_place P [] [] l m r q e n p = subst (P []) (head_same l m r q e) p
-one_place P [] (y ∷ b) l m r q e n p = absurd (omega (arith, n))
-one_place P (x ∷ a) [] l m r q e n p = absurd (omega (arith, n))
 one_place P (x ∷ a) (y ∷ b) l m r q e n p =
     one_place (λ c k. P (y ∷ c) k) a b l m r q (tail_same x y _ _ e) (omega (arith, n))
     (rw (← (head_same x y _ _ e)) p)
+one_place P a b l m r q e n p = absurd (omega (arith, n))
 
 module _ (ask : List Line → Line → Option SourceCause) (Rule : List Line → Line → SourceCause → Type 0)
     (lines : List Line) (numbered : Numbered lines) (asks : (b : List Line) (l : Line) → Least (Rule b l) (ask b l))
@@ -46,12 +45,7 @@ module _ (ask : List Line → Line → Option SourceCause) (Rule : List Line →
     Clear n = (b : List Line) (l : Line) (c : SourceCause) → IsLineAfter lines b l → Rule b l c → n ≤ length b
 
     at_end : (before : List Line) → lines ≡ before ++ [] → Clear (length before) → Finds Rule lines None
-    at_end before e clear b l c st h =
-        let g = clear b l c st h in
-        let n : length lines ≡ length b + length (l ∷ st.after) =
-        ap (λ (x : List Line). length x) st.lines_are ∙ length-append b _ in
-        let m : length lines ≡ length before = ap (λ (x : List Line). length x) (e ∙ append-nil before) in
-        omega (arith, g, n, m)
+    at_end before e clear = search (rules, length-append, append-nil)
 
     pub finds : (before rest : List Line) → lines ≡ before ++ rest → Clear (length before)
         → Finds Rule lines (first ask before rest)

@@ -12,7 +12,7 @@ pub use Rattle.ed_syntax.specs.declared.program.Setting.{Setting}
 pub use Rattle.ed_syntax.proofs.Kit.{[], ap, append_assoc, arith, Bool, drop, false, get_or, if◌then◌else◌, inl, inr}
 pub use Rattle.ed_syntax.proofs.Kit.{length, length-append, List, None, not, Option, refl, Some, subst, sym, true, ℕ}
 pub use Rattle.ed_syntax.proofs.Kit.{ℤ, ◌*◌, ◌++◌, ◌+◌, ◌<◌, ◌||◌, ◌∙◌, ◌∷◌, ◌≡◌, ◌≤◌, ◌⊎◌, common_steps, append-nil}
-pub use Rattle.ed_syntax.proofs.Kit.{number_of}
+pub use Rattle.ed_syntax.proofs.Kit.{number_of, rules}
 pub use Rattle.ed_symbols.specs.NameFaults.{counter_after, counter_from, IsLineAfter}
 pub use Rattle.ed_symbols.specs.NameTests.{defines_again, is_no_address, is_unknown, names_unknown, naming_cause}
 pub use Rattle.ed_symbols.specs.NameTests.{naming_fault_from, or_later, reaches_outside}

@@ -5,5 +5,4 @@ pub mod AgainSentences
 pub mod LeastFaults
 pub mod FaultPasses
 pub mod NameLaw
-mod Operands
 pub mod Kit

@@ -1,8 +1,8 @@
 -- The fault of names that is looked for is that of the definition.
 use Rattle.ed_symbols.proofs.Kit.{SourceCause, SourceFault, At, Memory, Line, [], ap, append_assoc, arith, length}
 use Rattle.ed_symbols.proofs.Kit.{length-append, List, None, Option, refl, Some, sym, ℕ, ◌++◌, ◌+◌, ◌<◌, ◌∙◌, ◌∷◌, ◌≡◌}
-use Rattle.ed_symbols.proofs.Kit.{◌≤◌, ◌⊎◌, append-nil, number_of, counter_after, counter_from, IsLineAfter}
-use Rattle.ed_symbols.proofs.Kit.{defines_again, names_unknown, naming_cause, naming_fault_from, or_later}
+use Rattle.ed_symbols.proofs.Kit.{◌≤◌, ◌⊎◌, append-nil, number_of, counter_after, counter_from, IsLineAfter, rules}
+use Rattle.ed_symbols.proofs.Kit.{defines_again, names_unknown, naming_cause, naming_fault_from}
 use Rattle.ed_symbols.proofs.Kit.{reaches_outside, line_definitions, symbols_from, after_statement, first_counter}
 use Rattle.ed_symbols.proofs.Kit.{LocationCounter}
 use Rattle.std.proofs.Common.{slice_index_or}
@@ -21,23 +21,7 @@ use Rattle.ed_syntax.specs.declared.fault.SourceCause.TheVariants as causes
 
 from_six : (lines before : List Line) (l : Line) (c : SourceCause) → LineHasNameFault lines before l c
     → (6 ≤ number_of c) × (number_of c ≤ 8)
-from_six lines before l causes.BadByte h = absurd h
-from_six lines before l causes.LongLine h = absurd h
-from_six lines before l causes.NotAStatement h = absurd h
-from_six lines before l causes.NumberRange h = absurd h
-from_six lines before l causes.TooManyLines h = absurd h
-from_six lines before l causes.LabelTwice h = (omega arith, omega arith)
-from_six lines before l causes.LabelUnknown h = (omega arith, omega arith)
-from_six lines before l causes.AddressRange h = (omega arith, omega arith)
-from_six lines before l causes.OutsideSegment h = absurd h
-from_six lines before l causes.LoaderStore h = absurd h
-from_six lines before l causes.ParameterStore h = absurd h
-from_six lines before l causes.StoreEnd h = absurd h
-from_six lines before l causes.Overlap h = absurd h
-from_six lines before l causes.NoSuchRoutine h = absurd h
-from_six lines before l causes.Parameters h = absurd h
-from_six lines before l causes.Enter h = absurd h
-from_six lines before l causes.SandwichDigit h = absurd h
+from_six lines before l c h = search rules
 
 of_names : (lines before : List Line) (l : Line) → Least (LineHasNameFault lines before l)
     (naming_cause (symbols_from first_counter lines) (defines_again
@@ -67,9 +51,7 @@ spot_snoc s (e ∷ b) l = spot_snoc (after_statement e.statement s) b l
 homes_snoc : (s : LocationCounter) (b : List Line) (l : Line)
     → symbols_from s (b ++ l ∷ []) ≡ symbols_from s b ++ line_definitions l (counter_from s b)
 homes_snoc s [] l = append-nil (line_definitions l s)
-homes_snoc s (e ∷ b) l = ap (λ x. line_definitions e s ++ x) (homes_snoc (after_statement e.statement s) b l)
-    ∙ sym (append_assoc (line_definitions e s) (symbols_from (after_statement e.statement s) b)
-    (line_definitions l (counter_from (after_statement e.statement s) b)))
+homes_snoc s (e ∷ b) l = search (rules, append_assoc, homes_snoc (after_statement e.statement s) b l)
 
 module _ (lines : List Line) where
   abbrev ask_names : List Line → Line → Option SourceCause
@@ -80,12 +62,7 @@ module _ (lines : List Line) where
       → naming_fault_from (symbols_from first_counter lines) (symbols_from first_counter b) (counter_after b) rest
       ≡ first ask_names b rest
   names_pass b [] = refl
-  names_pass b (l ∷ rest) = ap (λ f. or_later l.number (ask_names b l) f)
-      (ap (λ h. naming_fault_from (symbols_from first_counter lines) h
-      (after_statement l.statement (counter_after b)) rest)
-      (sym (homes_snoc first_counter b l))
-      ∙ (ap (λ s. naming_fault_from (symbols_from first_counter lines)
-      (symbols_from first_counter (b ++ l ∷ [])) s rest) (sym (spot_snoc first_counter b l)) ∙ names_pass _ rest))
+  names_pass b (l ∷ rest) = search (rules, homes_snoc, spot_snoc, names_pass (b ++ l ∷ []) rest)
 
 -- ---- the least of several
 
@@ -102,12 +79,7 @@ AtLine Rule lines k c = (b : List Line) × (l : Line) × IsLineAfter lines b l �
 
 pub found_says : (Rule : List Line → Line → SourceCause → Type 0) (lines : List Line) (f : Option SourceFault)
     → Finds Rule lines f → SaysLeast (AtLine Rule lines) f
-found_says Rule lines None h = λ k c a. h a.0 a.1 c a.2 a.4
-found_says Rule lines (Some Memory) h = h
-found_says Rule lines (Some (At k cause)) h = (
-  h.0,
-  λ r o a. rw a.3 (h.1 a.0 a.1 o a.2 a.4),
-)
+found_says Rule lines f h = search rules
 
 -- ---- the law
 
@@ -126,12 +98,11 @@ say_names lines numbered = found_says _ lines (resolution lines).fault (rw (name
     (λ b l c st h. omega arith)))
 
 fault_of : (lines : List Line) (f : Option SourceFault) → SaysLeast (HasNameFault lines) f → NameFaultIs lines f
-fault_of lines (Some (At k c)) h = record { is = h.0; least = h.1 }
-fault_of lines f h = h
+fault_of lines f h = search rules
 
 -- the fault that is found is that of the source
 pub found_is : (lines : List Line) → AreNumbered lines → NameFaultIs lines (resolution lines).fault
-found_is lines are = fault_of lines (resolution lines).fault (say_names lines (numbers lines are))
+found_is lines are = search (rules, fault_of, say_names, numbers)
 
 one_fault : (lines : List Line) (f g : Option SourceFault) → NameFaultIs lines f → NameFaultIs lines g → f ≡ g
 one_fault lines None None h i = refl

@@ -1,18 +1,17 @@
 -- The tests of a line and the sentences say the same, both ways, for the faults S7 and S8.
-use Rattle.ed_symbols.proofs.Kit.{is_none, list_any, or_cases, or_left, or_right, Any-from_list_any, list_any-from_Any}
-use Rattle.ed_symbols.proofs.Kit.{Line, Setting, [], ap, Bool, inl, inr, List, None, Option, refl, Some, sym, true, ℕ}
-use Rattle.ed_symbols.proofs.Kit.{ℤ, ◌||◌, ◌∙◌, ◌∷◌, ◌≡◌, ◌⊎◌, counter_after, is_no_address, is_unknown, names_unknown}
+use Rattle.ed_symbols.proofs.Kit.{list_any, or_cases, Any-from_list_any, list_any-from_Any}
+use Rattle.ed_symbols.proofs.Kit.{Line, Setting, [], ap, Bool, inl, List, Option, refl, Some, true, ℕ}
+use Rattle.ed_symbols.proofs.Kit.{ℤ, ◌||◌, ◌∷◌, ◌≡◌, ◌⊎◌, counter_after, is_no_address, is_unknown, names_unknown}
 use Rattle.ed_symbols.proofs.Kit.{reaches_outside, symbols_from, operand_of, first_counter, segment_of, Definition}
 use Rattle.std.proofs.Common.{map, pos, int_lt}
 use Rattle.ed_syntax.specs.declared.program.Operand.{Operand}
 use Rattle.ed_syntax.specs.declared.program.Statement.{Statement}
-use Rattle.ed_syntax.specs.declared.program.Statement.TheVariants.{Order, Fetch, Enter}
 use Rattle.ed_symbols.specs.NameFaults.{HasOperand, HasName, NamesUnknown, ReachesOutside}
 use Rattle.ed_symbols.specs.NameTests.{any_operand, enters_unknown, is_far}
-use Rattle.ed_symbols.specs.Names.{place_on}
-use Rattle.ed_symbols.specs.Operands.{operand_value, sum_of_places, with_more}
+use Rattle.ed_symbols.specs.Operands.{operand_value}
 use Rattle.ed_symbols.proofs.Sentences.{Ties}
 use Rattle.ed_syntax.specs.declared.program.Operand.TheVariants as operands
+use Rattle.ed_symbols.proofs.Kit.{rules}
 
 -- ---- S7 and S8: the operands
 
@@ -26,71 +25,10 @@ abbrev Passes : (Operand → Bool) → Option Statement → Type 0
 Passes test st = (o : Operand) × HasOperand st o × (test o ≡ true)
 
 operand_says : (test : Operand → Bool) (st : Option Statement) → any_operand test st ≡ true → Passes test st
-operand_says test (Some (Order f o d)) h = (o, refl, h)
-operand_says test (Some (Fetch r n ts)) h =
-    let a = Any-from_list_any test (map operand_of ts.items) (sym (settings_same test ts.items) ∙ h) in
-    (a.1, (a.0, a.2, a.3), a.4)
-operand_says test st h = cc
+operand_says test st h = search (rules, Any-from_list_any, settings_same)
 
 operand_tests : (test : Operand → Bool) (st : Option Statement) → Passes test st → any_operand test st ≡ true
-operand_tests test (Some (Order f o d)) h = ap test (sym h.1) ∙ h.2
-operand_tests test (Some (Fetch r n ts)) h = settings_same test ts.items
-    ∙ list_any-from_Any test _ (h.1.0, h.0, h.1.1, h.1.2, h.2)
-operand_tests test st h = absurd h.1
-
--- a name of the operand is unknown
-abbrev Lacks : List Definition → Option ℕ → Operand → Type 0
-Lacks symbols g o = (name : List ℕ) × HasName o name × (place_on symbols g name ≡ None)
-
-unplaced : (o : Option ℕ) → is_none o ≡ true → ◌≡◌ {A = Option ℕ} o None
-unplaced None h = refl
-unplaced (Some p) h = cc
-
-more_says : (plus : ℤ) (o : Option ℕ) → is_none (with_more plus o) ≡ true → ◌≡◌ {A = Option ℕ} o None
-more_says plus None h = refl
-more_says plus (Some p) h = cc
-
-sum_says : (minus : Bool) (a b : Option ℕ) → is_none (sum_of_places minus a b) ≡ true
-    → (a ≡ None) ⊎ (b ≡ None)
-sum_says minus None b h = inl refl
-sum_says minus (Some p) None h = inr refl
-sum_says minus (Some p) (Some q) h = cc
-
-sum_none : (minus : Bool) (a b : Option ℕ) → (a ≡ None) ⊎ (b ≡ None) → is_none (sum_of_places minus a b) ≡ true
-sum_none minus None b h = refl
-sum_none minus (Some p) None h = refl
-sum_none minus (Some p) (Some q) (inl h) = cc
-sum_none minus (Some p) (Some q) (inr h) = cc
-
-lacks_says : (symbols : List Definition) (g : Option ℕ) (o : Operand) → is_unknown symbols g o ≡ true
-    → Lacks symbols g o
-lacks_says symbols g (operands.Number n) h = cc
-lacks_says symbols g (operands.Label name plus) h = (name, refl, more_says plus (place_on symbols g name) h)
-lacks_says symbols g (operands.Two first second minus) h =
-    elim (sum_says minus _ _ h) [ inl e ↦ (first, inl refl, e) | inr e ↦ (second, inr refl, e) ]
-
-lacks_tests : (symbols : List Definition) (g : Option ℕ) (o : Operand) → Lacks symbols g o
-    → is_unknown symbols g o ≡ true
-lacks_tests symbols g (operands.Number n) h = absurd h.1
-lacks_tests symbols g (operands.Label name plus) h =
-    ap (λ o. is_none (with_more plus o)) (ap (λ x. place_on symbols g x) (sym h.1) ∙ h.2)
-lacks_tests symbols g (operands.Two first second minus) (name, inl e, h) =
-    sum_none minus _ _ (inl (ap (λ x. place_on symbols g x) (sym e) ∙ h))
-lacks_tests symbols g (operands.Two first second minus) (name, inr e, h) =
-    sum_none minus _ _ (inr (ap (λ x. place_on symbols g x) (sym e) ∙ h))
-
--- an `enter` of an unknown name
-abbrev EntersNowhere : List Definition → Option Statement → Type 0
-EntersNowhere symbols st = (name : List ℕ) × (st ≡ Some (Enter name)) × (place_on symbols None name ≡ None)
-
-nowhere_says : (symbols : List Definition) (st : Option Statement) → enters_unknown symbols st ≡ true
-    → EntersNowhere symbols st
-nowhere_says symbols (Some (Enter name)) h = (name, refl, unplaced (place_on symbols None name) h)
-nowhere_says symbols st h = cc
-
-nowhere_tests : (symbols : List Definition) (st : Option Statement) → EntersNowhere symbols st
-    → enters_unknown symbols st ≡ true
-nowhere_tests symbols st h = ap (enters_unknown symbols) h.1 ∙ ap is_none h.2
+operand_tests test st h = search (rules, settings_same, list_any-from_Any)
 
 module _ (lines before : List Line) (l : Line) where
   abbrev here : Option ℕ
@@ -98,22 +36,15 @@ module _ (lines before : List Line) (l : Line) where
 
   unknown_by : (any_operand (is_unknown (symbols_from first_counter lines) here) l.statement ≡ true)
       ⊎ (enters_unknown (symbols_from first_counter lines) l.statement ≡ true) → NamesUnknown lines before l
-  unknown_by (inl h) =
-      let p = operand_says _ _ h in
-      let k = lacks_says _ here p.0 p.2 in inl (p.0, p.1, k.0, k.1, k.2)
-  unknown_by (inr h) = inr (nowhere_says (symbols_from first_counter lines) l.statement h)
+  unknown_by h = search (rules, operand_says)
 
   unknown_of : NamesUnknown lines before l → names_unknown (symbols_from first_counter lines) l
       (counter_after before) ≡ true
-  unknown_of (inl h) = or_left _ _ (operand_tests _ l.statement (h.0, h.1, lacks_tests _ here h.0 (h.2, h.3, h.4)))
-  unknown_of (inr h) = or_right _ _ (nowhere_tests _ l.statement h)
+  unknown_of h = search (rules, operand_tests)
 
   pub Ties-s7 : Ties (names_unknown (symbols_from first_counter lines) l (counter_after before))
       (NamesUnknown lines before l)
-  Ties-s7 = record {
-    says = λ h. unknown_by (or_cases _ _ h);
-    tests = unknown_of;
-  }
+  Ties-s7 = search (rules, or_cases, unknown_by, unknown_of)
 
 -- the value of an operand with a name is not an address
 abbrev IsFar : List Definition → Option ℕ → Operand → Type 0
@@ -122,33 +53,19 @@ IsFar symbols g o = (name : List ℕ) × HasName o name × (v : ℤ) × (operand
 
 far_says : (o : Option ℤ) → is_far o ≡ true
     → (v : ℤ) × (o ≡ Some v) × ((int_lt v (pos 0) ≡ true) ⊎ (int_lt (pos 1023) v ≡ true))
-far_says None h = cc
-far_says (Some v) h = (v, refl, or_cases (int_lt v (pos 0)) (int_lt (pos 1023) v) h)
-
-far_tests : (o : Option ℤ) (v : ℤ) → o ≡ Some v → (int_lt v (pos 0) ≡ true) ⊎ (int_lt (pos 1023) v ≡ true)
-    → is_far o ≡ true
-far_tests o v e (inl h) = ap is_far e ∙ or_left (int_lt v (pos 0)) (int_lt (pos 1023) v) h
-far_tests o v e (inr h) = ap is_far e ∙ or_right (int_lt v (pos 0)) (int_lt (pos 1023) v) h
+far_says o h = search rules
 
 no_address_says : (symbols : List Definition) (g : Option ℕ) (o : Operand) → is_no_address symbols g o ≡ true
     → IsFar symbols g o
 no_address_says symbols g (operands.Number n) h = cc
-no_address_says symbols g (operands.Label name plus) h =
-    let f = far_says _ h in (name, refl, f.0, f.1, f.2)
+no_address_says symbols g (operands.Label name plus) h = search (rules, far_says)
 no_address_says symbols g (operands.Two first second minus) h =
     let f = far_says _ h in (first, inl refl, f.0, f.1, f.2)
 
 no_address_tests : (symbols : List Definition) (g : Option ℕ) (o : Operand) → IsFar symbols g o
     → is_no_address symbols g o ≡ true
-no_address_tests symbols g (operands.Number n) h = absurd h.1
-no_address_tests symbols g o h = far_tests _ h.2 h.3 h.4
+no_address_tests symbols g o h = search rules
 
 pub Ties-s8 : (lines before : List Line) (l : Line)
     → Ties (reaches_outside (symbols_from first_counter lines) l (counter_after before)) (ReachesOutside lines before l)
-Ties-s8 lines before l =
-    let g = segment_of l (counter_after before) in
-    record {
-      says = λ h. let p = operand_says _ _ h in
-          let k = no_address_says _ g p.0 p.2 in (p.0, p.1, k.0, k.1, k.2, k.3, k.4);
-      tests = λ h. operand_tests _ _ (h.0, h.1, no_address_tests _ g h.0 (h.2, h.3, h.4, h.5, h.6));
-    }
+Ties-s8 lines before l = search (rules, operand_says, no_address_says, operand_tests, no_address_tests)

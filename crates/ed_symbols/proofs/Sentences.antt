@@ -1,5 +1,5 @@
 -- Tests, and the sentences that say the same.
-use Rattle.ed_symbols.proofs.Kit.{Bool, false, not, refl, true, ◌≡◌}
+use Rattle.ed_symbols.proofs.Kit.{Bool, not, true, ◌≡◌, rules}
 
 -- a test and a sentence say the same
 pub record Ties (test : Bool) (sentence : Type 0) : Type 0 where
@@ -10,5 +10,4 @@ pub not_true : (x : Bool) → not x ≡ true → x ≡ true → ⊥
 not_true x h g = cc
 
 pub true_not : (x : Bool) → (x ≡ true → ⊥) → not x ≡ true
-true_not true h = absurd (h refl)
-true_not false h = refl
+true_not x h = search rules

@@ -1,6 +1,6 @@
 -- The numbers of the causes of faults, and that there is one least fault.
-use Rattle.ed_syntax.proofs.Kit.{ap, arith, if◌then◌else◌, inl, inr, nat_eq, refl, sym, ℕ, ◌<◌, ◌∙◌, ◌≡◌, ◌≤◌, ◌⊎◌}
-use Rattle.ed_syntax.proofs.Kit.{number_of, SourceCause}
+use Rattle.ed_syntax.proofs.Kit.{ap, if◌then◌else◌, nat_eq, sym, ℕ, ◌∙◌, ◌≡◌, ◌≤◌}
+use Rattle.ed_syntax.proofs.Kit.{number_of, SourceCause, rules}
 use Rattle.ed_syntax.specs.Causes.{IsLeastFault}
 use Rattle.ed_syntax.specs.declared.fault.SourceCause.TheVariants as causes
 
@@ -18,54 +18,18 @@ numbered n =
     else causes.SandwichDigit
 
 numbered_back : (c : SourceCause) → numbered (number_of c) ≡ c
-numbered_back causes.BadByte = refl
-numbered_back causes.LongLine = refl
-numbered_back causes.NotAStatement = refl
-numbered_back causes.NumberRange = refl
-numbered_back causes.TooManyLines = refl
-numbered_back causes.LabelTwice = refl
-numbered_back causes.LabelUnknown = refl
-numbered_back causes.AddressRange = refl
-numbered_back causes.OutsideSegment = refl
-numbered_back causes.LoaderStore = refl
-numbered_back causes.ParameterStore = refl
-numbered_back causes.StoreEnd = refl
-numbered_back causes.Overlap = refl
-numbered_back causes.NoSuchRoutine = refl
-numbered_back causes.Parameters = refl
-numbered_back causes.Enter = refl
-numbered_back causes.SandwichDigit = refl
+numbered_back c = search rules
 
 pub same_cause : (a b : SourceCause) → number_of a ≡ number_of b → a ≡ b
 same_cause a b e = sym (numbered_back a) ∙ (ap (λ n. numbered n) e ∙ numbered_back b)
 
 pub number_of-most : (c : SourceCause) → number_of c ≤ 17
-number_of-most causes.BadByte = omega arith
-number_of-most causes.LongLine = omega arith
-number_of-most causes.NotAStatement = omega arith
-number_of-most causes.NumberRange = omega arith
-number_of-most causes.TooManyLines = omega arith
-number_of-most causes.LabelTwice = omega arith
-number_of-most causes.LabelUnknown = omega arith
-number_of-most causes.AddressRange = omega arith
-number_of-most causes.OutsideSegment = omega arith
-number_of-most causes.LoaderStore = omega arith
-number_of-most causes.ParameterStore = omega arith
-number_of-most causes.StoreEnd = omega arith
-number_of-most causes.Overlap = omega arith
-number_of-most causes.NoSuchRoutine = omega arith
-number_of-most causes.Parameters = omega arith
-number_of-most causes.Enter = omega arith
-number_of-most causes.SandwichDigit = omega arith
+number_of-most c = search rules
+
+pub number_of-least : (c : SourceCause) → 1 ≤ number_of c
+number_of-least c = search rules
 
 -- two least faults are the same
 pub one_least : {Has : ℕ → SourceCause → Type 0} {k m : ℕ} {c d : SourceCause} → IsLeastFault Has k c
     → IsLeastFault Has m d → (k ≡ m) × (c ≡ d)
-one_least {Has} {k} {m} {c} {d} f g = go (f.least m d g.is) (g.least k c f.is)
-  where
-    go : (k < m) ⊎ ((k ≡ m) × (number_of c ≤ number_of d)) → (m < k) ⊎ ((m ≡ k) × (number_of d ≤ number_of c))
-        → (k ≡ m) × (c ≡ d)
-    go (inl x) (inl y) = absurd (omega (arith, x, y))
-    go (inl x) (inr y) = absurd (omega (arith, x, y.0))
-    go (inr x) (inl y) = absurd (omega (arith, x.0, y))
-    go (inr x) (inr y) = (x.0, same_cause c d (omega (arith, x.1, y.1)))
+one_least f g = search (rules, same_cause)

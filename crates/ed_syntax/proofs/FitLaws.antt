@@ -1,16 +1,16 @@
 -- What is spelled with its numbers in their ranges is a form that a line of a program may have.
-use Rattle.ed_syntax.proofs.Kit.{[], ap, Bool, IfSome, length, List, map, nat_le, nat_lt, neg_ℤ, Option, pos, refl}
-use Rattle.ed_syntax.proofs.Kit.{Some, subst, suc, sym, true, unsigned_abs, zero, ℕ, ℤ, ◌<◌, ◌^◌, ◌∙◌, ◌∷◌, ◌≡◌}
-use Rattle.ed_syntax.proofs.Kit.{list_all, and_from, and_parts, le-leb, lt-ltb, length-map, value, Text, row_of}
-use Rattle.ed_syntax.proofs.Kit.{AreRowsOf, bare_order, data_rows, difference, enter, fetch, fetch_with, label}
-use Rattle.ed_syntax.proofs.Kit.{labelled, last, long, minus, more, name, number, order, placed, plus, segment}
-use Rattle.ed_syntax.proofs.Kit.{segment_at, setting, SpellsForm, SpellsOperand, SpellsPlaced, SpellsSetting}
-use Rattle.ed_syntax.proofs.Kit.{SpellsSettings, SpellsStatement, statement, sum, text, word, is_name, is_place_name}
+use Rattle.ed_syntax.proofs.Kit.{[], Bool, IfSome, List, map, nat_lt, neg_ℤ, Option, pos, refl}
+use Rattle.ed_syntax.proofs.Kit.{Some, subst, true, unsigned_abs, ℕ, ℤ, ◌<◌, ◌^◌, ◌∷◌, ◌≡◌, rules}
+use Rattle.ed_syntax.proofs.Kit.{list_all, and_from, and_parts, lt-ltb, Text, row_of, arith}
+use Rattle.ed_syntax.proofs.Kit.{AreRowsOf, bare_order, difference, label}
+use Rattle.ed_syntax.proofs.Kit.{labelled, last, long, minus, more, name, number, order, plus}
+use Rattle.ed_syntax.proofs.Kit.{setting, SpellsForm, SpellsOperand, SpellsPlaced, SpellsSetting}
+use Rattle.ed_syntax.proofs.Kit.{SpellsSettings, SpellsStatement, statement, sum, text, word, is_place_name}
 use Rattle.ed_syntax.proofs.Kit.{function, LinePart, modulo, are_rows, is_form, is_operand, is_setting, is_statement}
-use Rattle.ed_syntax.proofs.Kit.{may_have_label, Form, Operand, Setting, Statement}
+use Rattle.ed_syntax.proofs.Kit.{may_have_label, Form, Operand, Setting, Statement, common_steps}
 use Rattle.std.proofs.Common.{lit<}
 use Rattle.ed_syntax.specs.Forms.{EachSpelledIsForm, FormsAreSpelled}
-use Rattle.ed_syntax.proofs.Ranges.{IsLetter, letter_within, function_fits, modulo_fits, row_fits}
+use Rattle.ed_syntax.proofs.Ranges.{letter_within, function_fits, modulo_fits, row_fits}
 use Rattle.ed_syntax.proofs.Spelled.{each_form_is_spelled}
 
 -- what holds of what an option has
@@ -18,24 +18,20 @@ some_has : (P : ℕ → Type 0) (o : Option ℕ) (n : ℕ) → o ≡ Some n → 
 some_has P o n e h = subst (λ (x : Option ℕ). IfSome x P) e h
 
 negative_size : (n : ℕ) → unsigned_abs (neg_ℤ (pos n)) ≡ n
-negative_size zero = refl
-negative_size (suc n) = refl
+negative_size n = search rules
 
 operand_fits : (two : Bool) (ps : List LinePart) (o : Operand) (fits : Bool) → SpellsOperand two ps o fits
     → fits ≡ true → is_operand two o ≡ true
 operand_fits two _ _ _ (number n e) h = h
 operand_fits two _ _ _ (name a e) h = and_from (is_place_name two a) _ e refl
 operand_fits two _ _ _ (plus a n e f) h = and_from (is_place_name two a) _ e h
-operand_fits two _ _ _ (minus a n e f) h =
-    and_from (is_place_name two a) _ e (ap (λ (m : ℕ). nat_le m 1023) (negative_size (value n)) ∙ h)
+operand_fits two _ _ _ (minus a n e f) h = search (rules, negative_size)
 operand_fits two _ _ _ (sum a b e f g) h = and_from two _ g (and_from (is_place_name two a) _ e f)
 operand_fits two _ _ _ (difference a b e f g) h = and_from two _ g (and_from (is_place_name two a) _ e f)
 
 setting_fits : (two : Bool) (ps : List LinePart) (s : Setting) (fits : Bool) → SpellsSetting two ps s fits
     → fits ≡ true → is_setting two s ≡ true
-setting_fits two _ _ _ (setting b l ps o fits hl ho) h =
-    let letter : IsLetter l = some_has IsLetter _ l hl (letter_within b) in
-    and_from _ _ (and_from _ _ (le-leb 21 l letter.low) (le-leb l 26 letter.high)) (operand_fits two ps o fits ho h)
+setting_fits two _ _ _ (setting b l ps o fits hl ho) h = search (rules, some_has, letter_within, operand_fits)
 
 settings_fit : (two : Bool) (ps : List LinePart) (ss : List Setting) (fits : Bool) → SpellsSettings two ps ss fits
     → fits ≡ true → list_all (is_setting two) ss ≡ true
@@ -61,10 +57,7 @@ codes_fit (b ∷ q) (r ∷ rows) e =
     others x y xs ys e = cc
 
 rows_fit : (q : Text) (rows : List ℕ) → AreRowsOf q rows → are_rows rows ≡ true
-rows_fit q rows h =
-    let size : length q ≡ length rows =
-    sym (length-map q row_of) ∙ ap length h.each ∙ length-map rows (λ r. Some r) in
-    and_from (nat_le 1 (length rows)) _ (sym (ap (nat_le 1) size) ∙ h.some) (codes_fit q rows h.each)
+rows_fit q rows h = grind (arith, common_steps, codes_fit)
 
 word_fits : (z : ℤ) → nat_lt (modulo 17 z) (2 ^ 17) ≡ true
 word_fits z = lt-ltb _ _ (modulo_fits (2 ^ 17) z (lit< tt))
@@ -77,8 +70,7 @@ code_fits b f e = lt-ltb f 32 (some_has (λ c. c < 32) _ f e (function_fits b))
 
 placed_fits : (two : Bool) (ps : List LinePart) (s : Statement) (fits : Bool) → SpellsPlaced two ps s fits
     → fits ≡ true → (may_have_label s ≡ true) × (is_statement two s ≡ true)
-placed_fits two _ _ _ (order b f e ps o l fits hf ho hl) h =
-    (refl, and_from (nat_lt f 32) _ (code_fits b f hf) (operand_fits two ps o fits ho h))
+placed_fits two _ _ _ (order b f e ps o l fits hf ho hl) h = search (rules, code_fits, operand_fits)
 placed_fits two _ _ _ (bare_order b f e l hf hl) h = (refl, and_from (nat_lt f 32) _ (code_fits b f hf) refl)
 placed_fits two _ _ _ (word ps z fits g) h = (refl, word_fits z)
 placed_fits two _ _ _ (long ps z fits g v) h = (refl, and_from two _ v (long_fits z))
@@ -86,21 +78,13 @@ placed_fits two _ _ _ (text q rows g) h = (refl, rows_fit q rows g)
 
 statement_fits : (two : Bool) (ps : List LinePart) (s : Statement) (fits : Bool) → SpellsStatement two ps s fits
     → fits ≡ true → is_statement two s ≡ true
-statement_fits two _ _ _ (placed ps s fits g) h = (placed_fits two ps s fits g h).1
-statement_fits two _ _ _ (segment a e) h = and_from (is_name a) true e refl
-statement_fits two _ _ _ (segment_at a n e f) h = and_from (is_name a) _ e h
-statement_fits two _ _ _ (fetch a b e f) h = and_from (is_name a) _ e (and_from (is_name b) true f refl)
-statement_fits two _ _ _ (fetch_with a b ps ss fits e f g few) h =
-    and_from (is_name a) _ e (and_from (is_name b) _ f (settings_fit two ps ss fits g h))
-statement_fits two _ _ _ (enter a e) h = e
-statement_fits two _ _ _ (data_rows q rows g) h = rows_fit q rows g
+statement_fits two ps s fits h fit = search (rules, placed_fits, settings_fit, rows_fit)
 
 form_fits : (two : Bool) (k : ℕ) (ps : List LinePart) (f : Form) (fits : Bool) → SpellsForm two k ps f fits
     → fits ≡ true → is_form two f.label f.statement ≡ true
 form_fits two _ _ _ _ (label k a e) h = e
 form_fits two _ _ _ _ (statement k ps s fits g) h = statement_fits two ps s fits g h
-form_fits two _ _ _ _ (labelled k a ps s fits e g) h =
-    let p = placed_fits two ps s fits g h in and_from (is_place_name two a) _ e (and_from (may_have_label s) _ p.0 p.1)
+form_fits two _ _ _ _ (labelled k a ps s fits e g) h = search (rules, placed_fits)
 form_fits two _ _ _ _ x h = refl
 
 pub each_spelled_is_form : EachSpelledIsForm

@@ -1,27 +1,19 @@
 -- Texts that spell lines, and texts that don't.
 use Rattle.ed_syntax.proofs.Kit.{[], codes, Err, false, None, Ok, pos, refl, Some, true, ◌++◌, ◌∷◌, blank, comment}
 use Rattle.ed_syntax.proofs.Kit.{HasNumberOutOfRange, IsNoStatement, labelled, one_run, one_sign, order, plus}
-use Rattle.ed_syntax.proofs.Kit.{SpellsLine, array, run, sign, IsFormFault, IsProgram, BadByte, NumberRange, Form}
-use Rattle.ed_syntax.proofs.Kit.{Statement}
+use Rattle.ed_syntax.proofs.Kit.{SpellsLine, array, run, sign, IsFormFault, IsProgram, BadByte, NumberRange}
+use Rattle.ed_syntax.proofs.FormLaws.{just, with_label}
 use Rattle.ed_syntax.proofs.LineLaws.{read_form_is_spelled, unread_is_unspelled, out_of_range_is_spelled}
 use Rattle.ed_syntax.proofs.SourceLaws.{source_answer}
 use Rattle.ed_syntax.specs.Reading.Grammar
 use Rattle.ed_syntax.specs.declared.program.Operand.TheVariants as operands
 use Rattle.ed_syntax.specs.declared.program.Statement.TheVariants as statements
 
-abbrev just : Statement → Form
-just s = record { label = None; statement = Some s }
-
 -- ---- by hand
 
 -- `a:A b+01F;` needs no blank
 by_hand : SpellsLine false 7 (codes "a:A b+01F;")
-    (record {
-      label = Some (codes "a");
-      statement = Some (statements.Order 28 (operands.Label (codes "b") (pos 1))
-          false);
-    })
-    true
+    (with_label (codes "a") (statements.Order 28 (operands.Label (codes "b") (pos 1)) false)) true
 by_hand = record {
   parts = run (codes "a") ∷ sign 58 ∷ sign 65 ∷ run (codes "b") ∷ sign 43 ∷ run (codes "01") ∷ sign 70 ∷ [];
   has_parts = one_run 97 [] _ _ refl refl (one_sign 58 _ _ refl (one_sign 65 _ _ refl (blank 32 _ _ refl
@@ -61,12 +53,7 @@ a_text = read_form_is_spelled false 1 _ _ refl
 
 -- in version 2 local names may be in operands, two of them too
 two_names : SpellsLine true 4 (codes "_d:P _d-_c F")
-    (record {
-      label = Some (codes "_d");
-      statement = Some (statements.Order 0
-          (operands.Two (codes "_d") (codes "_c") true) false);
-    })
-    true
+    (with_label (codes "_d") (statements.Order 0 (operands.Two (codes "_d") (codes "_c") true) false)) true
 two_names = read_form_is_spelled true 4 _ _ refl
 
 -- ---- by computation: texts that don't

@@ -1,10 +1,10 @@
 -- The lines of a source are those that a program may have: numbered from 1, not too many, and each of a form of the
 -- grammar with its numbers in their ranges.
-use Rattle.ed_syntax.proofs.Kit.{[], arith, Bool, get_or, length, List, Ok, refl, subst, suc, true, zero, ℕ, ◌+◌, ◌<◌}
+use Rattle.ed_syntax.proofs.Kit.{[], arith, Bool, get_or, length, List, Ok, refl, suc, true, zero, ℕ, ◌+◌, ◌<◌}
 use Rattle.ed_syntax.proofs.Kit.{◌∷◌, ◌≡◌, ◌≤◌, list_all, Text, AreNumbered, is_line, lines_from, and_more, LinesSay}
-use Rattle.ed_syntax.proofs.Kit.{no_more, Line}
+use Rattle.ed_syntax.proofs.Kit.{no_more, Line, rules}
 use Rattle.ed_syntax.proofs.FitLaws.{each_spelled_is_form}
-use Rattle.ed_syntax.proofs.SourceLaws.{IsAnswerFrom, SayFrom, lines_answer}
+use Rattle.ed_syntax.proofs.SourceLaws.{lines_answer}
 
 -- the lines' numbers run upwards from k without a gap
 abbrev pub IsNumberedFrom : ℕ → List Line → Type 0
@@ -41,19 +41,7 @@ said_formed (no_more k) = refl
 said_formed {two} (and_more k line lines f said s h) =
     let first = each_spelled_is_form two k line f s.spells in rw first (said_formed h)
 
-say_formed : (two : Bool) (lines : List Text) (said : List Line) → LinesSay two 1 lines said → length lines ≤ 2000
-    → AreLines two said
-say_formed two lines said h few =
-    let size = said_length h in
-    record {
-      few = omega (arith, size, few);
-      numbered = λ i d below. omega (arith, number_at 1 said (said_numbered h) i d below);
-      formed = said_formed h;
-    }
-
 -- the lines that are read in a source
 pub program_formed : (two : Bool) (texts : List Text) (lines : List Line) → lines_from two 1 texts ≡ Ok lines
     → AreLines two lines
-program_formed two texts lines e =
-    let h : SayFrom two 1 texts lines = subst (IsAnswerFrom two 1 texts) e (lines_answer two 1 texts (omega arith)) in
-    say_formed two texts lines h.says (omega arith)
+program_formed two texts lines e = search (rules, lines_answer, said_length, number_at, said_numbered, said_formed)

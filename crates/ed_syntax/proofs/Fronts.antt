@@ -1,8 +1,8 @@
 -- Texts that precede others, and the parts that they add there.
-use Rattle.ed_syntax.proofs.Kit.{[], append_assoc, arith, Bool, false, List, nat_le, refl, subst, true, ℕ, ◌++◌, ◌==◌}
-use Rattle.ed_syntax.proofs.Kit.{◌||◌, ◌∷◌, ◌≡◌, ◌≤◌, list_all, or-true, and_from, and_parts, le-leb, leb-true}
-use Rattle.ed_syntax.proofs.Kit.{Decides-eqb, append-nil, is_digit, Text, blank, HasLineParts, is_sign, nothing}
-use Rattle.ed_syntax.proofs.Kit.{one_run, one_sign, one_string, is_lower, is_run_byte, begins_run, has_quote}
+use Rattle.ed_syntax.proofs.Kit.{[], append_assoc, false, List, refl, subst, true, ℕ, ◌++◌}
+use Rattle.ed_syntax.proofs.Kit.{◌∷◌, ◌≡◌, list_all, and_from, and_parts, rules}
+use Rattle.ed_syntax.proofs.Kit.{append-nil, Text, blank, HasLineParts, is_sign, nothing}
+use Rattle.ed_syntax.proofs.Kit.{one_run, one_sign, one_string, is_run_byte, begins_run, has_quote}
 use Rattle.ed_syntax.proofs.Kit.{is_line_byte, LinePart, quoted, run, sign}
 use Rattle.ed_syntax.proofs.RunTests.{is_run, each_append}
 
@@ -19,23 +19,7 @@ pub record IsFront (text : Text) (ps : List LinePart) : Type 0 where
 -- ---- bytes
 
 run_byte_is_plain : (b : ℕ) → is_run_byte b ≡ true → is_line_byte b ≡ true
-run_byte_is_plain b = by_test (is_lower b) (is_digit b) (b == 95) refl refl refl
-  where
-    within : 32 ≤ b → b ≤ 126 → is_line_byte b ≡ true
-    within low high =
-        rw (le-leb 32 b low, le-leb b 126 high) (or-true (b == 9))
-
-    by_test : (l d u : Bool) → is_lower b ≡ l → is_digit b ≡ d → (b == 95) ≡ u → (l || (d || u)) ≡ true
-        → is_line_byte b ≡ true
-    by_test true d u e f g h =
-        let p = and_parts (nat_le 97 b) _ e in
-        within (omega (arith, leb-true 97 b p.0)) (omega (arith, leb-true b 122 p.1))
-    by_test false true u e f g h =
-        let p = and_parts (nat_le 48 b) _ f in
-        within (omega (arith, leb-true 48 b p.0)) (omega (arith, leb-true b 57 p.1))
-    by_test false false true e f g h =
-        let is : b ≡ 95 = (Decides-eqb b 95).0 g in within (omega (arith, is)) (omega (arith, is))
-    by_test false false false e f g h = absurd (cc)
+run_byte_is_plain b e = search rules
 
 run_is_plain : (r : Text) → list_all is_run_byte r ≡ true → list_all is_line_byte r ≡ true
 run_is_plain [] e = refl
@@ -48,17 +32,11 @@ pub no_front : IsFront [] []
 no_front = record { parts = λ rest qs e h. h; bytes = refl }
 
 pub blank_front : (text : Text) (ps : List LinePart) → IsFront text ps → IsFront (32 ∷ text) ps
-blank_front text ps f = record {
-  parts = λ rest qs e h. blank 32 (text ++ rest) (ps ++ qs) refl (f.parts rest qs e h);
-  bytes = f.bytes;
-}
+blank_front text ps f = search (rules, blank)
 
 pub sign_front : (b : ℕ) (text : Text) (ps : List LinePart) → is_sign b ≡ true → is_line_byte b ≡ true
     → IsFront text ps → IsFront (b ∷ text) (sign b ∷ ps)
-sign_front b text ps s l f = record {
-  parts = λ rest qs e h. one_sign b _ (ps ++ qs) s (f.parts rest qs e h);
-  bytes = and_from _ _ l f.bytes;
-}
+sign_front b text ps s l f = search (rules, one_sign)
 
 pub quoted_front : (q text : Text) (ps : List LinePart) → has_quote q ≡ false → list_all is_line_byte q ≡ true
     → IsFront text ps → IsFront (34 ∷ q ++ 34 ∷ text) (quoted q ∷ ps)
@@ -69,12 +47,7 @@ quoted_front q text ps s l f = record {
 
 pub run_front : (r text : Text) (ps : List LinePart) → is_run r ≡ true → EndsRun text → IsFront text ps
     → IsFront (r ++ text) (run r ∷ ps)
-run_front [] text ps s ends f = absurd (cc)
-run_front (b ∷ r) text ps s ends f = record {
-  parts = λ rest qs e h. rw (append_assoc (b ∷ r) text rest)
-      (one_run b r (text ++ rest) (ps ++ qs) s (ends rest e) (f.parts rest qs e h));
-  bytes = each_append is_line_byte (b ∷ r) text (run_is_plain (b ∷ r) s) f.bytes;
-}
+run_front r text ps s ends f = search (rules, append_assoc, one_run, each_append, run_is_plain)
 
 -- a run alone
 pub one_run_front : (r : Text) → is_run r ≡ true → IsFront r (run r ∷ [])
@@ -83,13 +56,7 @@ one_run_front r s =
 
 pub joined_front : (a b : Text) (ps qs : List LinePart) → IsFront a ps → EndsRun b → IsFront b qs
     → IsFront (a ++ b) (ps ++ qs)
-joined_front a b ps qs f ends g = record {
-  parts = λ rest rs e h.
-      let whole : HasLineParts (a ++ (b ++ rest)) (ps ++ (qs ++ rs)) =
-      f.parts (b ++ rest) (qs ++ rs) (ends rest e) (g.parts rest rs e h) in
-      rw (append_assoc a b rest) (rw (append_assoc ps qs rs) whole);
-  bytes = each_append is_line_byte a b f.bytes g.bytes;
-}
+joined_front a b ps qs f ends g = search (rules, append_assoc, each_append)
 
 -- a front that is the whole text
 pub front_parts : (text : Text) (ps : List LinePart) → IsFront text ps → HasLineParts text ps

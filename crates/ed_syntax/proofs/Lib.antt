@@ -11,7 +11,6 @@ pub mod NameBytes
 pub mod NameLemmas
 pub mod Numbers
 pub mod OperandLaws
-pub mod Orders
 pub mod PartLemmas
 pub mod RunTests
 pub mod PartsLaws

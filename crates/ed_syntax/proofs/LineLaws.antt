@@ -1,12 +1,12 @@
 -- A text is read as the form that it spells.
-use Rattle.ed_syntax.proofs.Kit.{ap, arith, Bool, false, length, length-append, List, nat_le, None, Option}
+use Rattle.ed_syntax.proofs.Kit.{arith, Bool, false, length, length-append, List, nat_le, None, Option, rules}
 use Rattle.ed_syntax.proofs.Kit.{option_and_then, refl, Some, sym, true, ℕ, ◌∙◌, ◌∷◌, ◌≡◌, ◌≤◌, list_all, le-leb}
 use Rattle.ed_syntax.proofs.Kit.{leb-true, Text, blank, comment, HasLineParts, IsNoStatement, nothing, one_run}
 use Rattle.ed_syntax.proofs.Kit.{one_sign, one_string, SpellsLine, LinePart, parts_of, Form}
 use Rattle.ed_syntax.proofs.FormLaws.{form_is_read, form_is_spelled}
 use Rattle.ed_syntax.proofs.PartsLaws.{parts_are_read, read_parts_are}
 use Rattle.ed_syntax.proofs.PlacedLaws.{is_short}
-use Rattle.ed_syntax.proofs.Readings.{ranged, Some-chained, some_is}
+use Rattle.ed_syntax.proofs.Readings.{ranged, Some-chained, is_in_range, is_out_of_range}
 use Rattle.ed_syntax.specs.Reading.Grammar
 
 -- what is read in the line with the number k
@@ -29,51 +29,23 @@ few_bytes _ _ (one_run b r text ps e g h) le =
 -- a line that spells a form is read as it
 pub spelled_is_read : (two : Bool) (k : ℕ) (text : Text) (f : Form) (fits : Bool) → length text ≤ 120
     → SpellsLine two k text f fits → form_of two k text ≡ Some (ranged fits f)
-spelled_is_read two k text f fits le s =
-    ap (option_and_then (Grammar.form_at two k)) (parts_are_read text s.parts s.has_parts)
-    ∙ form_is_read two k s.parts f fits s.spells (few_bytes text s.parts s.has_parts le)
-
--- what is read in a text
-pub record ReadsForm (two : Bool) (k : ℕ) (text : Text) (x : Option Form) : Type 0 where
-  pub form : Form
-  pub fits : Bool
-  pub spells : SpellsLine two k text form fits
-  pub is : x ≡ ranged fits form
-
-pub read_is_spelled : (two : Bool) (k : ℕ) (text : Text) (x : Option Form) → form_of two k text ≡ Some x
-    → ReadsForm two k text x
-read_is_spelled two k text x h =
-    let c = Some-chained (Grammar.form_at two k) (parts_of text) x h in
-    let s = form_is_spelled two k c.0 x c.2 in
-    record {
-      form = s.what;
-      fits = s.fits;
-      spells = record { parts = c.0; has_parts = read_parts_are text c.0 c.1; spells = s.spelled };
-      is = s.is;
-    }
+spelled_is_read two k text f fits le s = search (rules, parts_are_read, form_is_read, few_bytes)
 
 -- a text that is read as a form spells it
 pub read_form_is_spelled : (two : Bool) (k : ℕ) (text : Text) (f : Form) → form_of two k text ≡ Some (Some f)
     → SpellsLine two k text f true
 read_form_is_spelled two k text f h =
-    let r = read_is_spelled two k text (Some f) h in by_fits r.fits r.form r.spells r.is
-  where
-    by_fits : (fits : Bool) (g : Form) → SpellsLine two k text g fits → Some f ≡ ranged fits g
-        → SpellsLine two k text f true
-    by_fits false g s e = absurd (cc)
-    by_fits true g s e = let is : g ≡ f = some_is f g e in
-        rw (← is) s
+    let c = Some-chained (Grammar.form_at two k) (parts_of text) (Some f) h in
+    let spells = is_in_range _ _ f (rw c.2 at (form_is_spelled two k c.0)) in
+    record { parts = c.0; has_parts = read_parts_are text c.0 c.1; spells = spells }
 
 -- a text that is read as a form with a number out of its range spells one
 pub out_of_range_is_spelled : (two : Bool) (k : ℕ) (text : Text) → form_of two k text ≡ Some None
     → (f : Form) × SpellsLine two k text f false
 out_of_range_is_spelled two k text h =
-    let r = read_is_spelled two k text None h in by_fits r.fits r.form r.spells r.is
-  where
-    by_fits : (fits : Bool) (g : Form) → SpellsLine two k text g fits → None ≡ ranged fits g
-        → (f : Form) × SpellsLine two k text f false
-    by_fits false g s e = (g, s)
-    by_fits true g s e = absurd (cc)
+    let c = Some-chained (Grammar.form_at two k) (parts_of text) None h in
+    let s = is_out_of_range _ _ (rw c.2 at (form_is_spelled two k c.0)) in
+    (s.0, record { parts = c.0; has_parts = read_parts_are text c.0 c.1; spells = s.1 })
 
 -- a text in which nothing is read spells nothing
 pub unread_is_unspelled : (two : Bool) (k : ℕ) (text : Text) → nat_le (length text) 120 ≡ true

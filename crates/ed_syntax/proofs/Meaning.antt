@@ -1,8 +1,8 @@
 -- What the tests of a program's lines say.
-use Rattle.ed_syntax.proofs.Kit.{[], arith, Bool, IfSome, length, List, nat_le, nat_lt, neg_ℤ, None, Option, pos, Some}
-use Rattle.ed_syntax.proofs.Kit.{true, unsigned_abs, ℕ, ℤ, ◌<◌, ◌^◌, ◌∷◌, ◌≡◌, ◌≤◌, list_all, and_parts, leb-true}
-use Rattle.ed_syntax.proofs.Kit.{nat_tests, ints, is_name, is_place_name, are_rows, is_base, is_operand, is_setting}
-use Rattle.ed_syntax.proofs.Kit.{is_statement, Operand, Setting, Statement}
+use Rattle.ed_syntax.proofs.Kit.{[], arith, Bool, IfSome, length, List, nat_lt, neg_ℤ, None, Option, pos, Some}
+use Rattle.ed_syntax.proofs.Kit.{true, ℕ, ℤ, ◌<◌, ◌^◌, ◌∷◌, ◌≡◌, ◌≤◌, list_all, and_parts}
+use Rattle.ed_syntax.proofs.Kit.{nat_tests, is_name, is_place_name, is_base, is_operand, is_setting}
+use Rattle.ed_syntax.proofs.Kit.{is_statement, Operand, Setting, Statement, rules}
 use Rattle.std.proofs.Common.{◌≤ℤ◌, All}
 use Rattle.std.proofs.lemmas.List.Elements.{All-cons}
 use Rattle.ed_syntax.specs.declared.program.Operand.TheVariants as operands
@@ -45,24 +45,10 @@ IsStatement two (statements.Long value) = (two ≡ true) × (value < 2 ^ 35)
 -- ---- from the tests to the facts
 
 operand_fact : (two : Bool) (o : Operand) → is_operand two o ≡ true → IsOperand two o
-operand_fact two (operands.Number n) h = grind (arith, nat_tests)
-operand_fact two (operands.Label name plus) h =
-    let parts = and_parts _ _ h in
-    let most = leb-true (unsigned_abs plus) 1023 parts.1 in
-    (parts.0, record { low = omega (arith, ints, most); high = omega (arith, ints, most) })
-operand_fact two (operands.Two first second minus) h = let parts = and_parts _ _ h in (parts.0, and_parts _ _ parts.1)
+operand_fact two o h = search rules
 
 setting_fact : (two : Bool) (s : Setting) → is_setting two s ≡ true → IsSetting two s
-setting_fact two s h =
-    let parts = and_parts _ _ h in
-    let ends = and_parts _ _ parts.0 in
-    let low : nat_le 21 s.letter ≡ true = ends.0 in
-    let high : nat_le s.letter 26 ≡ true = ends.1 in
-    record {
-      low = grind (arith, nat_tests);
-      high = grind (arith, nat_tests);
-      operand = operand_fact two s.operand parts.1;
-    }
+setting_fact two s h = search (rules, operand_fact)
 
 settings_fact : (two : Bool) (ss : List Setting) → list_all (is_setting two) ss ≡ true → All (IsSetting two) ss
 settings_fact two [] h = λ k d below. absurd (omega arith)
@@ -74,24 +60,5 @@ base_fact : (base : Option ℕ) → is_base base ≡ true → IfSome base (λ b.
 base_fact None h = tt
 base_fact (Some b) h = grind (arith, nat_tests)
 
-rows_fact : (codes : List ℕ) → are_rows codes ≡ true → AreRows codes
-rows_fact codes h =
-    let parts = and_parts _ _ h in
-    (grind (arith, nat_tests), parts.1)
-
 pub statement_fact : (two : Bool) (s : Statement) → is_statement two s ≡ true → IsStatement two s
-statement_fact two (statements.Segment name base) h = let parts = and_parts _ _ h in (parts.0, base_fact base parts.1)
-statement_fact two (statements.Order function operand length) h =
-    let parts = and_parts _ _ h in
-    (grind (arith, nat_tests), operand_fact two operand parts.1)
-statement_fact two (statements.Number value) h = grind (arith, nat_tests)
-statement_fact two (statements.Text codes) h = rows_fact codes.items h
-statement_fact two (statements.Fetch routine name settings) h =
-    let parts = and_parts _ _ h in
-    let rest = and_parts _ _ parts.1 in
-    (parts.0, (rest.0, settings_fact two settings.items rest.1))
-statement_fact two (statements.Enter name) h = h
-statement_fact two (statements.Rows codes) h = rows_fact codes.items h
-statement_fact two (statements.Long value) h =
-    let parts = and_parts two _ h in
-    (parts.0, grind (arith, nat_tests))
+statement_fact two s h = search (rules, base_fact, operand_fact, settings_fact)

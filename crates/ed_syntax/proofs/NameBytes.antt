@@ -1,14 +1,13 @@
 -- Two names are equal if and only if their sizes and their 16 bytes are.
-use Rattle.ed_syntax.proofs.Kit.{ap, drop, length, List, nat_eq, refl, sym, take, true, ℕ, ◌&&◌, ◌++◌, ◌<◌, ◌∙◌, ◌≡◌}
-use Rattle.ed_syntax.proofs.Kit.{◌≤◌, and_from, and_parts, Decides-eqb, take_at}
+use Rattle.ed_syntax.proofs.Kit.{drop, length, List, nat_eq, refl, take, ℕ, ◌&&◌, ◌++◌, ◌<◌, ◌≡◌, arith}
+use Rattle.ed_syntax.proofs.Kit.{◌≤◌, Decides-eqb, take_at, rules, common_steps}
 use Rattle.std.proofs.Common.{replicate, IsUtf8}
 use Rattle.std.specs.Bool.{Decides}
 use Rattle.std.specs.Cmp.{both_ways}
 use Rattle.std.specs.Cmp.Lexicographic.{pointwise}
-use Rattle.std.proofs.lemmas.Grind.{merely}
 use Rattle.std.proofs.lemmas.List.{drop-replicate}
 use Rattle.std.proofs.lemmas.Slice.Eq.{slice_eq-Decides}
-use Rattle.ed_syntax.specs.PaddedNames.{padded_name, IsPadded}
+use Rattle.ed_syntax.specs.PaddedNames.{IsPadded}
 
 -- the test of two lists decides whether they are equal
 list_test : (xs ys : List ℕ) → Decides (pointwise nat_eq xs ys) (xs ≡ ys)
@@ -16,21 +15,7 @@ list_test xs ys = slice_eq-Decides Decides-eqb xs ys (pointwise nat_eq xs ys) re
 
 pub same_bytes : (b d : List ℕ) (n m : ℕ) → IsPadded b n → IsPadded d m
     → (nat_eq n m && pointwise nat_eq b d) ≡ pointwise nat_eq (take n b) (take m d)
-same_bytes b d n m p q = both_ways _ _ onward back
-  where
-    onward : (nat_eq n m && pointwise nat_eq b d) ≡ true → pointwise nat_eq (take n b) (take m d) ≡ true
-    onward h =
-        let parts = and_parts _ _ h in
-        let e : n ≡ m = (Decides-eqb n m).0 parts.0 in
-        let f : b ≡ d = (list_test b d).0 parts.1 in
-        (list_test (take n b) (take m d)).1 (ap (λ k. take k b) e ∙ ap (λ (x : List ℕ). take m x) f)
-
-    back : pointwise nat_eq (take n b) (take m d) ≡ true → (nat_eq n m && pointwise nat_eq b d) ≡ true
-    back h =
-        let t : take n b ≡ take m d = (list_test (take n b) (take m d)).0 h in
-        let e : n ≡ m = sym p.size ∙ ap (λ (x : List ℕ). length x) t ∙ q.size in
-        let f : b ≡ d = sym p.zeros ∙ ap padded_name t ∙ q.zeros in
-        and_from _ _ ((Decides-eqb n m).1 e) ((list_test b d).1 f)
+same_bytes b d n m p q = search (rules, both_ways, list_test)
 
 -- a text at the front of 16 bytes that are 0
 pub padded_text : (text : List ℕ) → 0 < length text → length text ≤ 16 → IsUtf8 text
@@ -39,10 +24,4 @@ padded_text text some few utf8 =
     let n = length text in
     let rest = drop-replicate {X = ℕ} n 16 0 in
     let front : take n (text ++ drop n (replicate 16 0)) ≡ text = take_at text _ n refl in
-    record {
-      some = some;
-      few = few;
-      size = ap length front;
-      zeros = ap padded_name front ∙ ap (λ (zs : List ℕ). text ++ zs) (sym rest);
-      text = rw front (merely utf8);
-    }
+    grind (arith, common_steps)

@@ -1,6 +1,6 @@
 -- Names are texts of 1 to 16 bytes.
-use Rattle.ed_syntax.proofs.Kit.{[], ap, arith, Bool, false, IfSome, inl, inr, length, nat_le, None, Option, refl}
-use Rattle.ed_syntax.proofs.Kit.{rules, Some, suc, sym, true, zero, ℕ, ◌&&◌, ◌<◌, ◌==◌, ◌∙◌, ◌∷◌, ◌≡◌, ◌≤◌, ◌⊎◌}
+use Rattle.ed_syntax.proofs.Kit.{[], arith, Bool, false, inl, inr, length, nat_le, Option, refl}
+use Rattle.ed_syntax.proofs.Kit.{rules, suc, sym, true, zero, ℕ, ◌&&◌, ◌<◌, ◌==◌, ◌∙◌, ◌∷◌, ◌≡◌, ◌≤◌, ◌⊎◌}
 use Rattle.ed_syntax.proofs.Kit.{list_all, and_parts, Decides-eqb, nat_tests, Text, is_local_name, is_lower, is_name}
 use Rattle.ed_syntax.proofs.Kit.{is_place_name, is_run_byte}
 use Rattle.std.proofs.Common.{IfNone, IsNone}
@@ -19,13 +19,7 @@ run_ascii (b ∷ bs) h (suc i) = run_ascii bs (and_parts _ _ h).1 i
 -- a byte of a run, and up to 15 more
 run_text : (b : ℕ) (bs : Text) → is_run_byte b ≡ true → nat_le (length bs) 15 ≡ true → list_all is_run_byte bs ≡ true
     → IsNameText (b ∷ bs)
-run_text b bs first few rest =
-    let all : list_all is_run_byte (b ∷ bs) ≡ true = simp (first, rest) in
-    record {
-      some = omega arith;
-      few = grind (arith, nat_tests);
-      utf8 = IsUtf8-from_ascii (b ∷ bs) (run_ascii (b ∷ bs) all);
-    }
+run_text b bs first few rest = search (rules, IsUtf8-from_ascii, run_ascii)
 
 lower_is_run : (b : ℕ) → is_lower b ≡ true → is_run_byte b ≡ true
 lower_is_run b h = simp h
@@ -58,27 +52,12 @@ place_name_text two r h = by_name (is_name r) refl
 -- a text of a name has a name
 pub IfNone-named : {A : Type 0} (P : Type 0) (o : Option A) (text r : Text) → text ≡ r → IsNameText r
     → (IsNone o → (length text ≡ 0) ⊎ (16 < length text)) → IfNone o P
-IfNone-named P (Some n) text r same h none = tt
-IfNone-named P None text r same h none = absurd (outside (none (search rules)))
-  where
-    outside : (length text ≡ 0) ⊎ (16 < length text) → ⊥
-    outside (inl e) = omega (arith, e, ap length same, h.some)
-    outside (inr e) = omega (arith, e, ap length same, h.few)
-
--- and what is made of it is that text
-pub name_of : {P : Type 0} (o : Option Text) (text r : Text) → text ≡ r → P → IfSome o (λ n. n ≡ text)
-    → IfSome o (λ n. (n ≡ r) × P)
-name_of (Some n) text r same p h = (h ∙ same, p)
-name_of None text r same p h = tt
+IfNone-named P o text r same h none = search rules
 
 -- a text that isn't empty and has at most 16 bytes
 pub within : (text : Text) → (length text == 0) ≡ false → length text ≤ 16
     → (true ≡ false → (length text ≡ 0) ⊎ (16 < length text)) × ((length text ≡ 0) ⊎ (16 < length text) → true ≡ false)
-within text some few = (λ e. absurd (cc), outside)
-  where
-    outside : (length text ≡ 0) ⊎ (16 < length text) → true ≡ false
-    outside (inl e) = rw e at some
-    outside (inr e) = absurd (omega (arith, e, few))
+within text some few = search rules
 
 -- a text that is no name
 pub empty_or_long : (text : Text) (empty : Bool) → empty ≡ (length text == 0)

@@ -1,7 +1,7 @@
 -- A number only grows by more digits.
 use Rattle.ed_syntax.proofs.Kit.{[], ap, arith, drop, Err, get_or, length, List, None, refl, sym, take, true, ℕ, ◌*◌}
 use Rattle.ed_syntax.proofs.Kit.{◌+◌, ◌-◌, ◌<◌, ◌∙◌, ◌∷◌, ◌≡◌, ◌≤◌, take-append-drop, fold-append, value, is_number}
-use Rattle.ed_syntax.proofs.Kit.{form_result, OutOfRange}
+use Rattle.ed_syntax.proofs.Kit.{form_result, OutOfRange, common_steps}
 use Rattle.std.proofs.Common.{fold}
 use Rattle.std.proofs.lemmas.Bool.{lt-leb}
 use Rattle.std.proofs.lemmas.List.Sums.{fold_more}
@@ -22,9 +22,7 @@ prefix i xs =
 
 pub too_large : (most v i : ℕ) (xs : List ℕ) → i < length xs → v ≡ value (take i xs)
     → most < 10 * v + (get_or xs i 0 - 48) → up_to most xs ≡ None
-too_large most v i xs lt e h =
-    let more : value (take (i + 1) xs) ≡ 10 * value (take i xs) + (get_or xs i 0 - 48) = fold_more longer 0 xs i 0 lt in
-    simp (lt-leb (value xs) most (omega (arith, more, e, h, prefix (i + 1) xs)))
+too_large most v i xs lt e h = grind (arith, common_steps, fold_more, lt-leb, prefix)
 
 -- digits that spell too large a number are a number out of its range
 pub out_of_range : (most : ℕ) (xs : List ℕ) → is_number xs ≡ true → up_to most xs ≡ None

@@ -1,27 +1,19 @@
 -- What one byte, a run and a quoted text make of the parts.
 use Rattle.ed_syntax.proofs.Kit.{[], ap, append_assoc, arith, false, length, length-append, List, map, None, Option}
-use Rattle.ed_syntax.proofs.Kit.{option_map, refl, Some, suc, sym, true, ℕ, ◌++◌, ◌+◌, ◌<◌, ◌==◌, ◌∙◌, ◌∷◌, ◌≡◌, ◌≤◌}
+use Rattle.ed_syntax.proofs.Kit.{option_map, refl, Some, sym, true, ℕ, ◌++◌, ◌<◌, ◌==◌, ◌∙◌, ◌∷◌, ◌≡◌, ◌≤◌}
 use Rattle.ed_syntax.proofs.Kit.{list_all, and_parts, or_parts, append-nil, map-append, Text, is_run_byte, begins_run}
-use Rattle.ed_syntax.proofs.Kit.{has_quote, is_blank, LinePart, quoted, run, sign, part, parts_from, parts_of}
-use Rattle.ed_syntax.proofs.Kit.{with_run_byte}
+use Rattle.ed_syntax.proofs.Kit.{has_quote, is_blank, LinePart, quoted, run, sign, part, parts_from, parts_of, rules}
+use Rattle.ed_syntax.proofs.Kit.{with_run_byte, common_steps}
 use Rattle.ed_codes.proofs.Readings.{other_byte}
 use Rattle.ed_syntax.specs.Private.PartFronts.{SplitsQuote, SplitsRun}
 use Rattle.ed_syntax.specs.declared.parts.Part as code
 
 pub blank_parts : (b : ℕ) (bs : Text) → is_blank b ≡ true → parts_of (b ∷ bs) ≡ parts_of bs
-blank_parts b bs e =
-    let comment : (b == 59) ≡ false = other_byte is_blank b 59 e refl in
-    let quote : (b == 34) ≡ false = other_byte is_blank b 34 e refl in
-    simp (comment, quote, e)
+blank_parts b bs e = search (rules, other_byte)
 
 run_head : (b : ℕ) (bs : Text) → is_run_byte b ≡ true
     → parts_of (b ∷ bs) ≡ option_map (with_run_byte b bs) (parts_of bs)
-run_head b bs e =
-    let comment : (b == 59) ≡ false = other_byte is_run_byte b 59 e refl in
-    let quote : (b == 34) ≡ false = other_byte is_run_byte b 34 e refl in
-    let space : (b == 32) ≡ false = other_byte is_run_byte b 32 e refl in
-    let tab : (b == 9) ≡ false = other_byte is_run_byte b 9 e refl in
-    simp (comment, quote, space, tab, e)
+run_head b bs e = search (rules, other_byte)
 
 pub all_head : (b : ℕ) (bs : Text) → list_all is_run_byte (b ∷ bs) ≡ true
     → (is_run_byte b ≡ true) × (list_all is_run_byte bs ≡ true)
@@ -70,32 +62,16 @@ open_parts q (b ∷ bs) e =
 
 -- ---- what a call takes
 
-pub quote_takes : (after inside rest : Text) → SplitsQuote after inside rest
-    → (parts_of (34 ∷ after) ≡ option_map (λ ps. quoted inside ∷ ps) (parts_of rest))
-    × (length rest < suc (length after))
-quote_takes after inside rest s = (
-  ap (parts_from (Some [])) s.whole ∙ quote_parts [] inside rest s.none,
-  (let size : length after ≡ length inside + suc (length rest) =
-      ap length s.whole ∙ length-append inside (34 ∷ rest) in omega (arith, size)),
-)
-
 pub run_takes : (line first rest : Text) → begins_run line ≡ true → SplitsRun line first rest
     → (parts_of line ≡ option_map (λ ps. run first ∷ ps) (parts_of rest)) × (length rest < length line)
 run_takes line [] rest b s = absurd (cc)
-run_takes line (x ∷ xs) rest b s = (
-  ap parts_of s.whole ∙ run_parts x xs rest s.each s.end,
-  (let size : length line ≡ length (x ∷ xs) + length rest = ap length s.whole ∙ length-append (x ∷ xs) rest
-      in omega (arith, size)),
-)
+run_takes line (x ∷ xs) rest b s = search (rules, run_parts, length-append)
 
 -- and what it takes after blanks: a string, nothing as a quote is never closed, or a run
 pub quote_taken : (line here after inside rest : Text) → parts_of line ≡ parts_of here → length here ≤ length line
     → here ≡ 34 ∷ after → SplitsQuote after inside rest
     → (parts_of line ≡ option_map (λ ps. quoted inside ∷ ps) (parts_of rest)) × (length rest < length line)
-quote_taken line here after inside rest same shorter split s =
-    let taken = quote_takes after inside rest s in
-    let size : length here ≡ suc (length after) = ap length split in
-    (same ∙ ap parts_of split ∙ taken.0, omega (arith, size, shorter, taken.1))
+quote_taken line here after inside rest same shorter split s = grind (arith, common_steps, quote_parts, length-append)
 
 pub open_taken : (line here after : Text) → parts_of line ≡ parts_of here → here ≡ 34 ∷ after
     → has_quote after ≡ false → parts_of line ≡ None
@@ -104,9 +80,7 @@ open_taken line here after same split none = same ∙ ap parts_of split ∙ open
 pub run_taken : (line here after first rest : Text) (b : ℕ) → parts_of line ≡ parts_of here
     → length here ≤ length line → here ≡ b ∷ after → is_run_byte b ≡ true → SplitsRun here first rest
     → (parts_of line ≡ option_map (λ ps. run first ∷ ps) (parts_of rest)) × (length rest < length line)
-run_taken line here after first rest b same shorter split begins s =
-    let taken = run_takes here first rest (ap begins_run split ∙ begins) s in
-    (same ∙ taken.0, omega (arith, shorter, taken.1))
+run_taken line here after first rest b same shorter split begins s = grind (arith, common_steps, run_takes)
 
 pub more_parts : (line rest after : Text) (ps : List code.Part) (p : code.Part)
     → parts_of line ≡ option_map (λ t. map part ps ++ t) (parts_of rest)

@@ -1,7 +1,7 @@
 -- A program, one more line at a time.
-use Rattle.ed_syntax.proofs.Kit.{[], ap, append_assoc, Bool, Err, false, List, Ok, refl, Result, sym, ℕ, ◌++◌, ◌+◌}
-use Rattle.ed_syntax.proofs.Kit.{◌==◌, ◌∷◌, ◌≡◌, Text, IsFaultOf, with_lines_before, Fault, line_of, lines_from}
-use Rattle.ed_syntax.proofs.Kit.{with_first, SourceFault, At, Memory, Form, Line}
+use Rattle.ed_syntax.proofs.Kit.{[], append_assoc, Bool, Err, false, List, Ok, Result, ℕ, ◌++◌, ◌+◌}
+use Rattle.ed_syntax.proofs.Kit.{◌==◌, ◌∷◌, ◌≡◌, Text, IsFaultOf, with_lines_before, Fault, line_of, lines_from, rules}
+use Rattle.ed_syntax.proofs.Kit.{with_first, SourceFault, Form, Line}
 use Rattle.ed_syntax.specs.Private.Answers.{LineIs}
 
 abbrev pub numbered : ℕ → Form → Line
@@ -9,8 +9,7 @@ numbered k f = record { number = k; label = f.label; statement = f.statement }
 
 front_more : (xs : List Line) (l : Line) (r : Result (List Line) Fault)
     → with_lines_before xs (with_first l r) ≡ with_lines_before (xs ++ l ∷ []) r
-front_more xs l (Ok ys) = ap (λ (all : List Line). Ok all) (sym (append_assoc xs (l ∷ []) ys))
-front_more xs l (Err e) = refl
+front_more xs l r = search (rules, append_assoc)
 
 -- the lines that are found, with one more of those that are left
 pub program_step : {line : Text} {behind : List Text} {f : Form} (two : Bool) (k : ℕ) (lines : List Text)
@@ -25,5 +24,4 @@ pub fault_step : {line : Text} {behind : List Text} (two : Bool) (k : ℕ) (line
     (e : SourceFault)
     → lines ≡ line ∷ behind → (k == 2001) ≡ false → LineIs k (line_of two k line) (Err e)
     → IsFaultOf (with_lines_before xs (lines_from two k lines)) e
-fault_step two k lines xs (At n c) taken more h = rw (taken, more, h.0, h.1) refl
-fault_step two k lines xs Memory taken more h = tt
+fault_step two k lines xs e taken more h = search rules

@@ -1,27 +1,24 @@
 -- Settings are read if and only if they are spelled.
 use Rattle.ed_syntax.proofs.Kit.{[], ap, arith, Bool, false, length, List, None, Option, option_and_then, option_map}
-use Rattle.ed_syntax.proofs.Kit.{refl, Some, suc, sym, true, zero, ℕ, ◌&&◌, ◌++◌, ◌==◌, ◌∙◌, ◌∷◌, ◌≡◌, ◌≤◌}
+use Rattle.ed_syntax.proofs.Kit.{refl, Some, suc, sym, true, zero, ℕ, ◌&&◌, ◌++◌, ◌==◌, ◌∙◌, ◌∷◌, ◌≡◌, ◌≤◌, rules}
 use Rattle.ed_syntax.proofs.Kit.{Decides-eqb, append-nil, last, more, setting, SpellsSetting, SpellsSettings, LinePart}
 use Rattle.ed_syntax.proofs.Kit.{setting_letter, sign, Setting}
 use Rattle.ed_syntax.proofs.OperandLaws.{ends, operand_is_read, operand_is_spelled}
-use Rattle.ed_syntax.proofs.Readings.{ranged, IsSpelled, IsSpelledFirst, map_ranged, Some-mapped, Some-chained, Some-passed, some_is}
+use Rattle.ed_syntax.proofs.Readings.{ranged, IsSpelled, unread, out_of_range, in_range, IsSpelledFirst, none, first}
+use Rattle.ed_syntax.proofs.Readings.{map_ranged, made_spelled, if_passed}
+use Rattle.std.proofs.lemmas.Bool.{cond_both}
+use Rattle.ed_syntax.proofs.Kit.{SpellsOperand}
 use Rattle.ed_syntax.specs.Reading.Grammar
 
 -- ---- what is spelled is read
 
 setting_is_read : (two : Bool) (ps rest : List LinePart) (s : Setting) (fits : Bool) → SpellsSetting two ps s fits
     → ends rest ≡ true → Grammar.setting two (ps ++ rest) ≡ Some (ranged fits s, rest)
-setting_is_read two _ rest _ _ (setting b l ps o fits hl ho) h =
-    ap (option_and_then (λ l. option_map (λ p. (Grammar.letter_setting l p.0, p.1)) (Grammar.operand two (ps ++ rest)))) hl
-    ∙ ap (option_map (λ p. (Grammar.letter_setting l p.0, p.1))) (operand_is_read two ps o fits rest ho h)
-    ∙ ap (λ (x : Option Setting). Some (x, rest)) (map_ranged (λ a. record { letter = l; operand = a }) fits o)
+setting_is_read two _ rest _ _ (setting b l ps o fits hl ho) h = search (rules, operand_is_read, map_ranged)
 
 both_ranged : (f g : Bool) (s : Setting) (ss : List Setting)
     → Grammar.both (ranged f s) (ranged g ss) ≡ ranged (f && g) (s ∷ ss)
-both_ranged true true s ss = refl
-both_ranged true false s ss = refl
-both_ranged false true s ss = refl
-both_ranged false false s ss = refl
+both_ranged f g s ss = search rules
 
 one_more : (two : Bool) (k : ℕ) (ps : List LinePart) → Grammar.settings two (suc k) ps
     ≡ option_and_then (λ p. Grammar.and_more p.0 p.1 (Grammar.settings two k)) (Grammar.setting two ps)
@@ -45,82 +42,64 @@ settings_are_read two (suc k) _ _ _ (more ps qs s ss fits also h i) le =
 
 -- ---- what is read is spelled
 
-setting_is_spelled : (two : Bool) (parts rest : List LinePart) (x : Option Setting)
-    → Grammar.setting two parts ≡ Some (x, rest) → IsSpelledFirst (SpellsSetting two) parts x rest
-setting_is_spelled two (sign b ∷ sign e ∷ parts) rest x h =
-    let p = Some-passed (e == 61) _ (x, rest) h in
-    let c = Some-chained (λ l. option_map (λ p. (Grammar.letter_setting l p.0, p.1)) (Grammar.operand two parts))
-    (setting_letter b) (x, rest) p.1 in
-    let m = Some-mapped (λ p. (Grammar.letter_setting c.0 p.0, p.1)) (Grammar.operand two parts) (x, rest) c.2 in
-    let s = operand_is_spelled two parts m.0.1 m.0.0 m.1 in
-    let is : e ≡ 61 = (Decides-eqb e 61).0 p.0 in
-    let read : Grammar.letter_setting c.0 m.0.0 ≡ x = ap (λ (q : Option Setting × List LinePart). q.0) m.2 in
-    let left : m.0.1 ≡ rest = ap (λ (q : Option Setting × List LinePart). q.1) m.2 in
-    record {
-      ps = sign b ∷ sign 61 ∷ s.ps;
-      whole = ap (λ (y : ℕ). sign b ∷ sign y ∷ parts) is
-          ∙ ap (λ (t : List LinePart). sign b ∷ sign 61 ∷ t) (s.whole ∙ ap (λ (t : List LinePart). s.ps ++ t) left);
-      spelled = record {
-        what = record { letter = c.0; operand = s.spelled.what };
-        fits = s.spelled.fits;
-        spelled = setting b c.0 s.ps s.spelled.what s.spelled.fits c.1 s.spelled.spelled;
-        is = sym read ∙ ap (Grammar.letter_setting c.0) s.spelled.is
-            ∙ map_ranged (λ a. record { letter = c.0; operand = a }) s.spelled.fits s.spelled.what;
-      };
-    }
-setting_is_spelled two parts rest x h = absurd (cc)
+setting_is_spelled : (two : Bool) (parts : List LinePart)
+    → IsSpelledFirst (SpellsSetting two) parts (Grammar.setting two parts)
+setting_is_spelled two (sign b ∷ sign e ∷ parts) =
+    cond_both (e == 61) _ _ (IsSpelledFirst (SpellsSetting two) (sign b ∷ sign e ∷ parts))
+    (λ is. rw ((Decides-eqb e 61).0 is) (by_letter (setting_letter b) refl _ (operand_is_spelled two parts)))
+    (λ _. none)
+  where
+    by_letter : (l : Option ℕ) → setting_letter b ≡ l → (o : Option (Option _ × List LinePart))
+        → IsSpelledFirst (SpellsOperand two) parts o
+        → IsSpelledFirst (SpellsSetting two) (sign b ∷ sign 61 ∷ parts)
+        (option_and_then (λ l. option_map (λ p. (Grammar.letter_setting l p.0, p.1)) o) l)
+    by_letter None e o s = none
+    by_letter (Some l) e _ none = none
+    by_letter (Some l) e _ (first ps rest x whole s) =
+        first (sign b ∷ sign 61 ∷ ps) rest _ (ap (λ (t : List LinePart). sign b ∷ sign 61 ∷ t) whole)
+        (made_spelled (λ a. record { letter = l; operand = a }) s (λ a fits t. setting b l ps a fits e t))
+setting_is_spelled two parts = none
 
 -- at most k settings
 pub record SpellsFew (two : Bool) (k : ℕ) (ps : List LinePart) (ss : List Setting) (fits : Bool) : Type 0 where
   pub spelled : SpellsSettings two ps ss fits
   pub few : length ss ≤ k
 
-more_spelled : (two : Bool) (k : ℕ) (parts rest : List LinePart) (y : Option Setting) (x : Option (List Setting))
-    → ((qs : List LinePart) (z : Option (List Setting)) → Grammar.settings two k qs ≡ Some z
-    → IsSpelled (SpellsFew two k) qs z)
-    → IsSpelledFirst (SpellsSetting two) parts y rest → Grammar.and_more y rest (Grammar.settings two k) ≡ Some x
-    → IsSpelled (SpellsFew two (suc k)) parts x
-more_spelled two k parts [] y x others s h =
-    let whole : parts ≡ s.ps = s.whole ∙ append-nil s.ps in
-    record {
-      what = s.spelled.what ∷ [];
-      fits = s.spelled.fits;
-      spelled = record {
-        spelled = rw whole (last s.ps s.spelled.what s.spelled.fits s.spelled.spelled);
-        few = omega arith;
-      };
-      is = some_is _ x h ∙ ap (option_map (λ a. a ∷ [])) s.spelled.is
-          ∙ map_ranged (λ a. a ∷ []) s.spelled.fits s.spelled.what;
-    }
-more_spelled two k parts (sign c ∷ rest) y x others s h =
-    let p = Some-passed (c == 44) _ x h in
-    let m = Some-mapped (Grammar.both y) (Grammar.settings two k rest) x p.1 in
-    let t = others rest m.0 m.1 in
-    let whole : parts ≡ s.ps ++ sign 44 ∷ rest =
-    s.whole ∙ ap (λ (b : ℕ). s.ps ++ sign b ∷ rest) ((Decides-eqb c 44).0 p.0) in
-    let few = t.spelled.few in
-    record {
-      what = s.spelled.what ∷ t.what;
-      fits = s.spelled.fits && t.fits;
-      spelled = record {
-        spelled = rw whole
-            (more s.ps rest s.spelled.what t.what s.spelled.fits t.fits s.spelled.spelled t.spelled.spelled);
-        few = omega (arith, few);
-      };
-      is = sym m.2 ∙ ap (λ (z : Option Setting). Grammar.both z m.0) s.spelled.is
-          ∙ ap (Grammar.both (ranged s.spelled.fits s.spelled.what)) t.is
-          ∙ both_ranged s.spelled.fits t.fits s.spelled.what t.what;
-    }
-more_spelled two k parts z y x others s h = absurd (cc)
+-- a setting before others
+one_before : (two : Bool) (k : ℕ) (ps qs : List LinePart) (fits also : Bool) (s : Setting) (ss : List Setting)
+    → SpellsSetting two ps s fits → SpellsFew two k qs ss also
+    → SpellsFew two (suc k) (ps ++ sign 44 ∷ qs) (s ∷ ss) (fits && also)
+one_before two k ps qs fits also s ss h t = search (rules, more)
 
-none_left : (two : Bool) (ps : List LinePart) → Grammar.settings two zero ps ≡ None
+before_others : (two : Bool) (k : ℕ) (ps qs : List LinePart) (x : Option Setting) (o : Option (Option (List Setting)))
+    → IsSpelled (SpellsSetting two) ps (Some x) → IsSpelled (SpellsFew two k) qs o
+    → IsSpelled (SpellsFew two (suc k)) (ps ++ sign 44 ∷ qs) (option_map (Grammar.both x) o)
+before_others two k ps qs _ _ s unread = unread
+before_others two k ps qs _ _ (in_range a s) (in_range ss t) =
+    in_range (a ∷ ss) (one_before two k ps qs true true a ss s t)
+before_others two k ps qs _ _ (in_range a s) (out_of_range ss t) =
+    out_of_range (a ∷ ss) (one_before two k ps qs true false a ss s t)
+before_others two k ps qs _ _ (out_of_range a s) (in_range ss t) =
+    out_of_range (a ∷ ss) (one_before two k ps qs false true a ss s t)
+before_others two k ps qs _ _ (out_of_range a s) (out_of_range ss t) =
+    out_of_range (a ∷ ss) (one_before two k ps qs false false a ss s t)
+
+more_spelled : (two : Bool) (k : ℕ) (parts : List LinePart) (o : Option (Option Setting × List LinePart))
+    → ((qs : List LinePart) → IsSpelled (SpellsFew two k) qs (Grammar.settings two k qs))
+    → IsSpelledFirst (SpellsSetting two) parts o
+    → IsSpelled (SpellsFew two (suc k)) parts
+    (option_and_then (λ p. Grammar.and_more p.0 p.1 (Grammar.settings two k)) o)
+more_spelled two k parts _ others none = unread
+more_spelled two k parts _ others (first ps [] x whole s) =
+    rw (whole ∙ append-nil ps) (made_spelled (λ a. a ∷ []) s (λ a fits t. record {
+      spelled = last ps a fits t;
+      few = omega arith;
+    }))
+more_spelled two k parts _ others (first ps (sign c ∷ rest) x whole s) = search (rules, if_passed, before_others)
+more_spelled two k parts _ others s = unread
+
+pub settings_are_spelled : (two : Bool) (k : ℕ) (ps : List LinePart)
+    → IsSpelled (SpellsFew two k) ps (Grammar.settings two k ps)
 unfolding Grammar.settings
-none_left two ps = refl
-
-pub settings_are_spelled : (two : Bool) (k : ℕ) (ps : List LinePart) (x : Option (List Setting))
-    → Grammar.settings two k ps ≡ Some x → IsSpelled (SpellsFew two k) ps x
-settings_are_spelled two zero ps x h = absurd (let none = none_left two ps in cc)
-settings_are_spelled two (suc k) ps x h =
-    let c = Some-chained (λ p. Grammar.and_more p.0 p.1 (Grammar.settings two k)) (Grammar.setting two ps) x
-    (sym (one_more two k ps) ∙ h) in
-    more_spelled two k ps c.0.1 c.0.0 x (settings_are_spelled two k) (setting_is_spelled two ps c.0.1 c.0.0 c.1) c.2
+settings_are_spelled two zero ps = unread
+settings_are_spelled two (suc k) ps = search (rules, more_spelled, setting_is_spelled, settings_are_spelled two k)

@@ -9,10 +9,7 @@ returns-in-Some-split_quote c =
     quote_taken c.args.line.now here.result.now _ _ _ here.ensures.same here.ensures.shorter split c.in-Some-split_quote.ensures.some
 
 pub returns-in-None-split_quote : goal.returns-in-None-split_quote
-returns-in-None-split_quote c =
-    let here = c.skip_blanks-here in
-    let split : here.result.now ≡ 34 ∷ c.in-Some-eq34-default.after.now = search rules in
-    open_taken c.args.line.now here.result.now _ here.ensures.same split c.in-None-split_quote.ensures.none
+returns-in-None-split_quote c = search (rules, open_taken)
 
 pub returns-then-is_run_byte : goal.returns-then-is_run_byte
 returns-then-is_run_byte c =

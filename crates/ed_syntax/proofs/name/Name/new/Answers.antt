@@ -1,4 +1,4 @@
-use Rattle.ed_syntax.proofs.Kit.{arith, refl, sym, ◌∙◌, ◌≡◌, nat_tests, take_at}
+use Rattle.ed_syntax.proofs.Kit.{arith, refl, sym, ◌∙◌, ◌≡◌, nat_tests, take_at, rules}
 use Rattle.ed_syntax.proofs.NameBytes.{padded_text}
 use Rattle.ed_syntax.proofs.NameLemmas.{empty_or_long, within}
 use Rattle.ed_syntax.proofs.name.Name.new.Goals as goal
@@ -10,10 +10,7 @@ invariant_of-result c =
     rw bytes (padded_text text (grind (arith, nat_tests)) (omega arith) c.utf8.text)
 
 pub returns-clause-some : goal.returns-clause-some
-returns-clause-some c =
-    let text = c.args.text.now in
-    let bytes : c.copy_from_slice.new.self ≡ text = c.copy_from_slice.ensures.after ∙ c.as_bytes.ensures.value in
-    rw bytes (take_at text _ _ refl)
+returns-clause-some c = search (rules, take_at)
 
 pub returns-clause-none : goal.returns-clause-none
 returns-clause-none c = within c.args.text.now (sym c.if-is_empty.ensures) c.if-text-gt16.false
