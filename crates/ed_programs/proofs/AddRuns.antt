@@ -4,13 +4,14 @@ use Rattle.ed_programs.proofs.Kit.{along, print_line, ReachesStop, entry_state, 
 use Rattle.ed_programs.proofs.Kit.{Settings, Line, moment_at, append-nil, few_digits, SourceRuns, data_mark, pair_after}
 use Rattle.ed_programs.proofs.Kit.{Z_F, to_stop, get_own, frame_at, length, Moment, settings, HasRead, calling, HasPair}
 use Rattle.ed_programs.proofs.Kit.{IsIn, then, arith, false, List, lit<, lit≤, map, Frame, short, state, digits, Marked}
-use Rattle.ed_programs.proofs.Kit.{Z, T, [], refl, sym, true, ◌≡◌, are_small, ℕ, ◌*◌, ◌+◌, ◌<◌, ◌∷◌, Text, A, on, stay}
-use Rattle.ed_programs.proofs.Kit.{own, to}
+use Rattle.ed_programs.proofs.Kit.{Z, [], refl, sym, true, ◌≡◌, are_small, ℕ, ◌*◌, ◌+◌, ◌<◌, ◌∷◌, Text}
+use Rattle.ed_programs.proofs.Kit.{to}
 use Rattle.std.specs.Fmt.{decimal}
 use Rattle.ed_programs.specs.Add.{add_orders, add_text}
 use Rattle.ed_programs.specs.declared.add.TheConstants.{ADD}
 use Rattle.ed_programs.proofs.DataLines.{small_too}
 use Rattle.ed_programs.proofs.SourceRuns.{lines_of_pieces, program_runs}
+use Rattle.ed_programs.proofs.Orders.{A, T, obeys}
 
 -- the pieces of the source, and the numbers between them
 abbrev add_pieces : List Text
@@ -59,12 +60,9 @@ module _ (z : Size) (m : Moment) where
       let number = get_own 0 two.words 56 (cells (a + b) a) 12 (lit< tt) in
       stop_counted (to_stop
       (then one.journey
-      (then (along (on (A 2 (own 12) (short a) refl (omega arith))
-      (on (T 3 (own 13) _ refl refl) stay)))
+      (then (along (obeys 2 0 (A 12 a ∷ T 13 ∷ []) refl (omega arith)))
       (then two.journey
-      (then (along (on (A 6 (own 12) (short b) refl (omega arith))
-      (on (A 7 (own 13) (short (a + b)) refl (omega arith))
-      (on (T 8 (own 12) _ refl refl) stay))))
+      (then (along (obeys 6 0 (A 12 b ∷ A 13 (a + b) ∷ T 12 ∷ []) refl (omega arith)))
       (print_line last {v = a + b} 9 12 after_two.prints number (lit< tt) small (lit≤ tt) refl refl refl)))))
       (Z 11 Z_F refl refl) done) (omega arith)
 

@@ -1,11 +1,12 @@
 -- The lines above the days in `examples/calendar.tape`.
-use Rattle.ed_programs.proofs.Kit.{drop, Size, T, followed, [], arith, lit<, lit≤, Option, refl, Some, ℕ, ◌%◌, ◌*◌, ◌+◌}
-use Rattle.ed_programs.proofs.Kit.{◌/◌, ◌<◌, ◌∷◌, ◌≡◌, ◌≤◌, Moment, short, A, on, Path, stay, own, head_codes}
-use Rattle.ed_programs.proofs.Kit.{title_codes, year_codes, to, Path-counted, calls_own}
+use Rattle.ed_programs.proofs.Kit.{drop, Size, followed, [], arith, lit<, lit≤, Option, refl, Some, ℕ, ◌%◌, ◌*◌, ◌+◌}
+use Rattle.ed_programs.proofs.Kit.{◌/◌, ◌<◌, ◌∷◌, ◌≡◌, ◌≤◌, Moment, Path, head_codes, title_codes}
+use Rattle.ed_programs.proofs.Kit.{year_codes, to, Path-counted, calls_own}
 use Rattle.ed_programs.proofs.CalendarCells.{at, frame, have_part, signs, IsAround, Work}
 use Rattle.ed_programs.proofs.CalendarFigures.{left_by, prints_four}
 use Rattle.ed_programs.proofs.CalendarNames.{is_name, letter}
 use Rattle.ed_programs.proofs.CalendarSigns.{prints_signs}
+use Rattle.ed_programs.proofs.Orders.{A, T, obeys}
 
 -- ---- the words that change
 
@@ -57,12 +58,10 @@ module _ (z : Size) (m : Moment) (o : IsAround m.words) where
       (at m 92 0 (record (left_by 88 (y % 10) k) { first_power = to 12 314; end = to 9 195 }) (Some (y % 10)))
   prints_year y k last is low high =
       Path-counted
-      (on (A 86 (own 294) (short y) refl (omega (arith, is, high)))
-      (on (T 87 (own 297) _ refl refl)
+      (followed (obeys 86 0 (A 294 y ∷ T 297 ∷ []) refl (omega (arith, is, high)))
       (calls_own 88 234 refl refl refl (lit< tt)
       (followed (prints_four z m o 88 y k last (lit< tt) (omega arith) (omega arith))
-      (on (A 90 (own 155) (short (to 9 195)) refl refl)
-      (on (T 91 (own 319) _ refl refl) stay)))))) (omega arith)
+      (obeys 90 0 (A 155 (to 9 195) ∷ T 319 ∷ []) refl (omega arith))))) (omega arith)
 
   -- the heads of the columns
   pub prints_heads : (k : Work) (last : Option ℕ)

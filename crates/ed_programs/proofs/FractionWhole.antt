@@ -1,16 +1,18 @@
 -- The program of `examples/fraction.edsac` from its entry to its stop, and the figures that it prints.
-use Rattle.ed_programs.proofs.Kit.{div-lt_iff_lt-mul, mod-lt, div-add-mod, Z_F, Figures, O, Z, along, Journey}
-use Rattle.ed_programs.proofs.Kit.{stop_after, then, to_stop, S, T, prints, [], ap, append-nil, append_assoc, arith}
-use Rattle.ed_programs.proofs.Kit.{decimal, length, length-append, List, lit<, lit≤, refl, Some, subst, suc, sym, zero}
-use Rattle.ed_programs.proofs.Kit.{ℕ, ◌%◌, ◌*◌, ◌++◌, ◌+◌, ◌/◌, ◌<◌, ◌^◌, ◌∙◌, ◌∷◌, ◌≡◌, ◌≤◌, Text, paper, Moment}
-use Rattle.ed_programs.proofs.Kit.{short, state, A, G_jumps, on, Path, stay, own, digits, print_orders, few_digits}
-use Rattle.ed_programs.proofs.Kit.{ReachesStop, divide_orders, number_shown, paper_from, figure_orders, HasRead}
-use Rattle.ed_programs.proofs.Kit.{reads_number, number_rows, journey_counted, stop_counted}
+use Rattle.ed_programs.proofs.Kit.{div-lt_iff_lt-mul, mod-lt, div-add-mod, Z_F, Figures, Z, along, Journey, stop_after}
+use Rattle.ed_programs.proofs.Kit.{then, to_stop, prints, [], ap, append-nil, append_assoc, arith, decimal, length}
+use Rattle.ed_programs.proofs.Kit.{length-append, List, lit<, lit≤, refl, Some, subst, suc, sym, zero, ℕ, ◌%◌, ◌*◌}
+use Rattle.ed_programs.proofs.Kit.{◌++◌, ◌+◌, ◌/◌, ◌<◌, ◌^◌, ◌∙◌, ◌∷◌, ◌≡◌, ◌≤◌, Text, paper, Moment, state}
+use Rattle.ed_programs.proofs.Kit.{Path, stay, own, digits, print_orders, few_digits, ReachesStop, divide_orders}
+use Rattle.ed_programs.proofs.Kit.{number_shown, paper_from, figure_orders, HasRead, reads_number, number_rows}
+use Rattle.ed_programs.proofs.Kit.{journey_counted, stop_counted}
 use Rattle.std.proofs.Math.Nat.{div-le_self, add-mul-div_left, add-mul-mod_self_left, mul_assoc, pow-succ'}
 use Rattle.ed_programs.specs.Fraction.{figure, figures}
 use Rattle.ed_programs.proofs.FractionProgram.{Given, IsAround, Turned, Work, after_read, at, divided, in_at, printed}
 use Rattle.ed_programs.proofs.FractionProgram.{turn}
 use Rattle.ed_programs.proofs.NumberShown.{then_on}
+use Rattle.ed_programs.proofs.Orders.{A, G_jumps, S, T, obeys}
+use Rattle.ed_machine.proofs.Kit.Moves as moves
 
 -- ---- division as on paper: the figure and what is left, by those of the place before
 
@@ -125,10 +127,7 @@ module _ (given : Given) where
       let all = reached around k u l n 0 o (number ∙ omega arith) (omega arith) is_rest is_by some few in
       let none = all.number in
       to_stop (then_on all.journey
-      (on (T 15 (own 39) 0 refl refl)
-      (on (A 16 (own 33) (short 0) refl (omega arith))
-      (on (S 17 (own 38) (short 131071) refl (omega arith))
-      (on (G_jumps 18 (own 32) refl (lit≤ tt)) stay)))))
+      (obeys 15 0 (T 39 ∷ A 33 0 ∷ S 38 131071 ∷ G_jumps 32 ∷ []) refl (omega arith)))
       (Z 32 Z_F refl refl) done
 
   -- ---- the program
@@ -136,11 +135,11 @@ module _ (given : Given) where
   -- a number that was read is kept in another cell
   upper_kept : (m : Moment) (k : Work) (v : ℕ) → v < 65536
       → Path f 2 (at given m 2 (record k { number = v })) [] (at given m 4 (record k { number = v; low = v }))
-  upper_kept m k v small = on (A 2 (own 33) (short v) refl (omega arith)) (on (T 3 (own 34) _ refl refl) stay)
+  upper_kept m k v small = obeys 2 0 (A 33 v ∷ T 34 ∷ []) refl (omega arith)
 
   lower_kept : (m : Moment) (k : Work) (v : ℕ) → v < 65536
       → Path f 2 (at given m 6 (record k { number = v })) [] (at given m 8 (record k { number = v; divisor = v }))
-  lower_kept m k v small = on (A 6 (own 33) (short v) refl (omega arith)) (on (T 7 (own 36) _ refl refl) stay)
+  lower_kept m k v small = obeys 6 0 (A 33 v ∷ T 36 ∷ []) refl (omega arith)
 
   pub fraction_stops : (around : Moment) (k : Work) (u l n : ℕ) → IsAround given around
       → around.tape ≡ number_rows (u ∷ l ∷ n ∷ []) → k.rest ≡ 0 → u < 65536 → 1 ≤ l → l ≤ 6553 → n < 65536 → (done : ℕ)
@@ -171,7 +170,7 @@ module _ (given : Given) where
       let first = then one.journey (then (along (upper_kept m1 k u small_u))
       (then two.journey (then (along (lower_kept m2 k1 l small_l))
       (then three.journey (then four.journey
-      (then five.journey (along (prints (O 14 (own 37) 23 refl refl) stay)))))))) in
+      (then five.journey (along (prints (moves.O 14 (own 37) 23 refl refl) stay)))))))) in
       let rest = ends (record five.now { last = Some 23 }) k4 u l n five.is refl refl refl some few_l small_n in
       stop_counted (stop_after (first.leads done) refl (rest _)) (orders_are (length (digits u)) (length (digits l))
       (length (digits n)) (divide_orders (u / l)) (print_orders (u / l)) (figure_orders u l n))
