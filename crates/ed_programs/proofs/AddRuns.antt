@@ -1,11 +1,10 @@
 -- The source of `examples/add.edsac` for any two numbers: its path, and what it prints.
-use Rattle.ed_programs.proofs.Kit.{Size, parameter_store, print_orders, digits_printed, stops_from_entry, pair_at_entry}
+use Rattle.ed_programs.proofs.Kit.{before_order, Size, parameter_store, print_orders, digits_printed, stops_from_entry, pair_at_entry}
 use Rattle.ed_programs.proofs.Kit.{along, print_line, ReachesStop, entry_state, reads_number, number_rows, stop_counted}
 use Rattle.ed_programs.proofs.Kit.{Settings, Line, moment_at, append-nil, few_digits, SourceRuns, data_mark, pair_after}
 use Rattle.ed_programs.proofs.Kit.{Z_F, to_stop, get_own, frame_at, length, Moment, settings, HasRead, calling, HasPair}
-use Rattle.ed_programs.proofs.Kit.{IsIn, then, arith, false, List, lit<, lit≤, map, Frame, short, state, digits, Marked}
-use Rattle.ed_programs.proofs.Kit.{Z, [], refl, sym, true, ◌≡◌, are_small, ℕ, ◌*◌, ◌+◌, ◌<◌, ◌∷◌, Text}
-use Rattle.ed_programs.proofs.Kit.{to}
+use Rattle.ed_programs.proofs.Kit.{IsIn, then, arith, false, List, lit<, lit≤, map, Frame, state, digits, Marked}
+use Rattle.ed_programs.proofs.Kit.{Z, [], refl, sym, true, ◌≡◌, are_small, ℕ, ◌*◌, ◌+◌, ◌<◌, ◌∷◌, Text, to}
 use Rattle.std.specs.Fmt.{decimal}
 use Rattle.ed_programs.specs.Add.{add_orders, add_text}
 use Rattle.ed_programs.specs.declared.add.TheConstants.{ADD}
@@ -32,14 +31,8 @@ module _ (z : Size) (m : Moment) where
 
   -- at the cell i: the words of the store, the number in the accumulator, the two cells, and the rows left
   abbrev at : ℕ → List ℕ → ℕ → ℕ → ℕ → List ℕ → Moment
-  at i words v value first tape = record m {
-    words = words;
-    cells = cells value first;
-    pairs = [];
-    acc = short v;
-    counter = 56 + i;
-    tape = tape;
-  }
+  at i words v value first tape =
+      record (before_order m (56 + i) v (cells value first)) { words = words; tape = tape }
 
   -- the two numbers are read, added and printed, and the machine stops
   stops : HasPair f m.words 70 94 12 12 → (a b : ℕ) → a + b < 65536 → (done : ℕ)

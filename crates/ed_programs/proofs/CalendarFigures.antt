@@ -1,8 +1,8 @@
 -- The printing of a number in `examples/calendar.tape`.
-use Rattle.ed_programs.proofs.Kit.{Size, L512F, Remains, LD, followed, [], arith, lit<, lit≤, Option}
-use Rattle.ed_programs.proofs.Kit.{refl, Some, suc, zero, ℕ, ◌*◌, ◌+◌, ◌-◌, ◌<◌, ◌^◌, ◌∷◌, ◌≡◌, ◌≤◌, Moment, short}
-use Rattle.ed_programs.proofs.Kit.{Path, if◌then◌else◌, nat_lt, cases_lt, inl, inr, lt-ltb, le-ltb, ◌/◌, ◌%◌}
-use Rattle.ed_programs.proofs.Kit.{day_orders, year_codes, to, Path-counted}
+use Rattle.ed_programs.proofs.Kit.{Size, L512F, Remains, LD, followed, [], arith, lit<, lit≤, Option, refl, Some, suc}
+use Rattle.ed_programs.proofs.Kit.{zero, ℕ, ◌*◌, ◌+◌, ◌-◌, ◌<◌, ◌^◌, ◌∷◌, ◌≡◌, ◌≤◌, Moment, short, Path, if◌then◌else◌}
+use Rattle.ed_programs.proofs.Kit.{nat_lt, cases_lt, inl, inr, lt-ltb, le-ltb, ◌/◌, ◌%◌, day_orders, year_codes, to}
+use Rattle.ed_programs.proofs.Kit.{Path-counted}
 use Rattle.ed_programs.proofs.CalendarCells.{at, frame, IsAround, Work}
 use Rattle.ed_programs.proofs.Orders.{A, A_low, E_by, E_jumps, G_jumps, G_stays, L, O, S, T, U, obeys}
 

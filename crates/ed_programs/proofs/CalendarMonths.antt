@@ -1,10 +1,9 @@
 -- The count of the months in `examples/calendar.tape`, and the sevens that are taken away.
-use Rattle.ed_programs.proofs.Kit.{sum, Size, followed, [], arith, get_or, length, List, Option, refl, suc}
-use Rattle.ed_programs.proofs.Kit.{take, zero, ℕ, ◌%◌, ◌*◌, ◌+◌, ◌-◌, ◌/◌, ◌<◌, ◌∙◌, ◌∷◌, ◌≡◌, sum_by-cons, Moment}
-use Rattle.ed_programs.proofs.Kit.{Path, to, Path-counted}
+use Rattle.ed_programs.proofs.Kit.{sum, Size, followed, [], arith, get_or, length, List, Option, refl, suc, take, zero}
+use Rattle.ed_programs.proofs.Kit.{ℕ, ◌%◌, ◌*◌, ◌+◌, ◌-◌, ◌/◌, ◌<◌, ◌∙◌, ◌∷◌, ◌≡◌, sum_by-cons, Moment, Path, to}
+use Rattle.ed_programs.proofs.Kit.{Path-counted}
 use Rattle.std.proofs.lemmas.List.{length-take-le}
-use Rattle.ed_programs.proofs.CalendarCells.{adds_cell, at, frame, have_part, length_at, lengths, Have, Work}
-use Rattle.ed_programs.proofs.CalendarCells.{IsAround}
+use Rattle.ed_programs.proofs.CalendarCells.{adds_cell, at, frame, have_part, length_at, lengths, Have, Work, IsAround}
 use Rattle.ed_programs.proofs.Orders.{A, A_low, E_jumps, E_stays, S, T, obeys}
 
 module _ (z : Size) (m : Moment) (o : IsAround m.words) where

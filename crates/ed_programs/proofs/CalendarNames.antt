@@ -1,10 +1,8 @@
 -- The name of the month in `examples/calendar.tape`.
-use Rattle.ed_programs.proofs.Kit.{Size, LD, followed, among, [], arith, Bool, get_or, List, nat_lt, Option}
-use Rattle.ed_programs.proofs.Kit.{refl, subst, suc, take, ℕ, ◌*◌, ◌+◌, ◌<◌, ◌∙◌, ◌∷◌, ◌≡◌, and_parts, ltb-true}
-use Rattle.ed_programs.proofs.Kit.{bytes_eq, bytes_eq-Decides, drop, Moment, Path, ◌&&◌}
-use Rattle.ed_programs.proofs.Kit.{name_codes, to}
-use Rattle.ed_programs.proofs.CalendarCells.{adds_cell, at, frame, have_part, sign_at, signs, Have, IsAround}
-use Rattle.ed_programs.proofs.CalendarCells.{Work}
+use Rattle.ed_programs.proofs.Kit.{Size, LD, followed, among, [], arith, Bool, get_or, List, nat_lt, Option, refl}
+use Rattle.ed_programs.proofs.Kit.{subst, suc, take, ℕ, ◌*◌, ◌+◌, ◌<◌, ◌∙◌, ◌∷◌, ◌≡◌, and_parts, ltb-true, bytes_eq}
+use Rattle.ed_programs.proofs.Kit.{bytes_eq-Decides, drop, Moment, Path, ◌&&◌, name_codes, to}
+use Rattle.ed_programs.proofs.CalendarCells.{adds_cell, at, frame, have_part, sign_at, signs, Have, IsAround, Work}
 use Rattle.ed_programs.proofs.CalendarSigns.{in_words}
 use Rattle.ed_programs.proofs.Orders.{A, A_low, L, S, T, U, obeys}
 

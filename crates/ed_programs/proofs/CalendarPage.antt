@@ -1,8 +1,8 @@
 -- The days in `examples/calendar.tape`: the spaces before the first, and each day.
-use Rattle.ed_programs.proofs.Kit.{sum, Size, followed, [], arith, false, inl, inr, List, lit<, map, Option}
-use Rattle.ed_programs.proofs.Kit.{refl, Some, suc, zero, ℕ, ◌%◌, ◌*◌, ◌+◌, ◌-◌, ◌/◌, ◌<◌, ◌==◌, ◌∷◌, ◌≡◌, ◌≤◌}
-use Rattle.ed_programs.proofs.Kit.{cases_lt, nat_tests, Moment, Path, replicate, day_orders}
-use Rattle.ed_programs.proofs.Kit.{day_codes, days_codes, sum_by-cons, to, Path-counted, calls_own}
+use Rattle.ed_programs.proofs.Kit.{sum, Size, followed, [], arith, false, inl, inr, List, lit<, map, Option, refl, Some}
+use Rattle.ed_programs.proofs.Kit.{suc, zero, ℕ, ◌%◌, ◌*◌, ◌+◌, ◌-◌, ◌/◌, ◌<◌, ◌==◌, ◌∷◌, ◌≡◌, ◌≤◌, cases_lt, nat_tests}
+use Rattle.ed_programs.proofs.Kit.{Moment, Path, replicate, day_orders, day_codes, days_codes, sum_by-cons, to}
+use Rattle.ed_programs.proofs.Kit.{Path-counted, calls_own}
 use Rattle.ed_programs.proofs.CalendarCells.{at, frame, IsAround, Work}
 use Rattle.ed_programs.proofs.CalendarCodes.{days_from}
 use Rattle.ed_programs.proofs.CalendarFigures.{left_by_two, prints_two}
@@ -72,22 +72,6 @@ module _ (z : Size) (m : Moment) (o : IsAround m.words) where
         (omega arith))
         (calls_own 120 234 refl refl refl (lit< tt) shown)) (omega arith)
 
-    -- the week is not over after it
-    goes_on : (k : Work) (d b : ℕ) (last : Option ℕ) → b < 6
-        → Path (frame z) 4 (at m 122 0 (before_day d b k) last) []
-        (at m 110 (131072 - (7 - suc b)) (before_day d (suc b) k) last)
-    goes_on k d b last few =
-        obeys 122 0 (A 320 (131072 - (7 - b)) ∷ A 299 (131072 - (7 - suc b)) ∷ U 320 ∷ G_jumps 110 ∷ []) refl
-        (omega arith)
-
-    -- it is over: a new line
-    ends_week : (k : Work) (d : ℕ) (last : Option ℕ)
-        → Path (frame z) 9 (at m 122 0 (before_day d 6 k) last) (18 ∷ 24 ∷ [])
-        (at m 110 0 (before_day d 0 k) (Some 24))
-    ends_week k d last =
-        obeys 122 0 (A 320 131071 ∷ A 299 0 ∷ U 320 ∷ G_stays 110 ∷ S 321 131065 ∷ T 320 ∷ O 318 18 ∷ O 323 24
-        ∷ E_jumps 110 ∷ []) refl (omega arith)
-
     -- the n days from day suc d on, with b days of the week before it
     pub HasEnded-days : (n : ℕ) (k : Work) (d b v : ℕ) (last : Option ℕ) → d + n ≡ l → b < 7 → v < 131072
         → HasEnded (sum (map day_orders (days_from (suc d) n)) + 5 * ((b + n) / 7) + 8)
@@ -106,6 +90,7 @@ module _ (z : Size) (m : Moment) (o : IsAround m.words) where
         let after : Work = left_by_two 120 (suc d) k in
         let unit : Option ℕ = Some (suc d % 10) in
         elim (cases_lt b 6) [
+          -- the week is not over after it
           | inl low ↦
               let test : (b == 6) ≡ false = grind (arith, nat_tests) in
               let rest = HasEnded-days n after (suc d) (suc b) (131072 - (7 - suc b)) unit (omega arith) (omega arith)
@@ -115,8 +100,10 @@ module _ (z : Size) (m : Moment) (o : IsAround m.words) where
                 rest.0,
                 rest.1,
                 Path-counted (followed (shows_day k d b v last (omega arith) small)
-                    (followed (goes_on after (suc d) b unit low) rest.2)) (omega arith),
+                    (followed (obeys 122 0 (A 320 (131072 - (7 - b)) ∷ A 299 (131072 - (7 - suc b)) ∷ U 320
+                    ∷ G_jumps 110 ∷ []) refl (omega arith)) rest.2)) (omega arith),
               )
+          -- it is over: a new line
           | inr high ↦
               let sixth : b ≡ 6 = omega arith in
               let rest = HasEnded-days n after (suc d) 0 0 (Some 24) (omega arith) (lit< tt) (lit< tt) in
@@ -124,6 +111,7 @@ module _ (z : Size) (m : Moment) (o : IsAround m.words) where
                 rest.0,
                 rest.1,
                 Path-counted (followed (shows_day k d 6 v last (omega arith) small)
-                    (followed (ends_week after (suc d) unit) rest.2)) (omega arith),
+                    (followed (obeys 122 0 (A 320 131071 ∷ A 299 0 ∷ U 320 ∷ G_stays 110 ∷ S 321 131065 ∷ T 320
+                    ∷ O 318 18 ∷ O 323 24 ∷ E_jumps 110 ∷ []) refl (omega arith)) rest.2)) (omega arith),
               )
         ]

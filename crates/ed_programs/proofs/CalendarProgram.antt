@@ -1,9 +1,9 @@
 -- The program of `examples/calendar.tape` from its entry to its stop, for each month from 1901 to 2099.
 use Rattle.ed_programs.proofs.Kit.{sum, Z_F, Size, Z, along, to_stop, followed, [], ap, arith, if◌then◌else◌, length}
 use Rattle.ed_programs.proofs.Kit.{List, lit<, map, refl, Some, suc, sym, ℕ, ◌%◌, ◌*◌, ◌++◌, ◌+◌, ◌-◌, ◌<◌, ◌==◌, ◌∙◌}
-use Rattle.ed_programs.proofs.Kit.{◌∷◌, ◌≡◌, ◌≤◌, Moment, state, Path, digits, ReachesStop}
-use Rattle.ed_programs.proofs.Kit.{calendar_orders, day_orders, days_before, is_leap, month_length, month_lengths}
-use Rattle.ed_programs.proofs.Kit.{weekday_count, calendar_codes, to, Path-counted, stop_counted, calls_own}
+use Rattle.ed_programs.proofs.Kit.{◌∷◌, ◌≡◌, ◌≤◌, Moment, state, Path, digits, ReachesStop, calendar_orders, day_orders}
+use Rattle.ed_programs.proofs.Kit.{days_before, is_leap, month_length, month_lengths, weekday_count, calendar_codes, to}
+use Rattle.ed_programs.proofs.Kit.{Path-counted, stop_counted, calls_own}
 use Rattle.ed_programs.proofs.CalendarCells.{at, frame, loaded, IsAround, Work}
 use Rattle.ed_programs.proofs.CalendarCodes.{range_is}
 use Rattle.std.proofs.lemmas.List.Sums.{sum_by-take-le}

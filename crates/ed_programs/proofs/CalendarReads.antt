@@ -1,7 +1,7 @@
 -- The reading of a number in `examples/calendar.tape`.
-use Rattle.ed_programs.proofs.Kit.{are, digits, digits_law, sym, Size, I, L1F, LD, value_after, followed, []}
-use Rattle.ed_programs.proofs.Kit.{arith, length, List, nat_lt, Option, refl, true, ℕ, ◌*◌, ◌++◌, ◌+◌, ◌<◌, ◌∷◌}
-use Rattle.ed_programs.proofs.Kit.{◌≡◌, ◌≤◌, and_parts, ltb-true, Moment, on, Path, own, to, Path-counted}
+use Rattle.ed_programs.proofs.Kit.{are, digits, digits_law, sym, Size, I, L1F, LD, value_after, followed, [], arith}
+use Rattle.ed_programs.proofs.Kit.{length, List, nat_lt, Option, refl, true, ℕ, ◌*◌, ◌++◌, ◌+◌, ◌<◌, ◌∷◌, ◌≡◌, ◌≤◌}
+use Rattle.ed_programs.proofs.Kit.{and_parts, ltb-true, Moment, on, Path, own, to, Path-counted}
 use Rattle.ed_sources.proofs.Decimals.{are_digits}
 use Rattle.ed_programs.proofs.CalendarCells.{at, frame, IsAround, Work}
 use Rattle.ed_programs.proofs.Orders.{A, A_low, E_by, E_jumps, E_stays, L, S, T, U, obeys}

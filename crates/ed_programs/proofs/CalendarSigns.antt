@@ -1,10 +1,9 @@
 -- The printing of signs in `examples/calendar.tape`.
-use Rattle.ed_programs.proofs.Kit.{Size, Remains, prints, followed, [], arith, get_or, length, List, lit<}
-use Rattle.ed_programs.proofs.Kit.{map, Option, refl, Some, suc, ℕ, ◌*◌, ◌+◌, ◌-◌, ◌<◌, ◌^◌, ◌∙◌, ◌∷◌, ◌≡◌, ◌≤◌, lt-ltb}
-use Rattle.ed_programs.proofs.Kit.{Moment, short, Path, own, to, Path-counted}
+use Rattle.ed_programs.proofs.Kit.{Size, Remains, prints, followed, [], arith, get_or, length, List, lit<, map, Option}
+use Rattle.ed_programs.proofs.Kit.{refl, Some, suc, ℕ, ◌*◌, ◌+◌, ◌-◌, ◌<◌, ◌^◌, ◌∙◌, ◌∷◌, ◌≡◌, ◌≤◌, lt-ltb, Moment}
+use Rattle.ed_programs.proofs.Kit.{short, Path, own, to, Path-counted}
 use Rattle.ed_machine.proofs.Kit.Orders.{there_is}
-use Rattle.ed_programs.proofs.CalendarCells.{at, cells, frame, latest, sign_at, signs, Have}
-use Rattle.ed_programs.proofs.CalendarCells.{IsAround, Work}
+use Rattle.ed_programs.proofs.CalendarCells.{at, cells, frame, latest, sign_at, signs, Have, IsAround, Work}
 use Rattle.ed_programs.proofs.Orders.{A, A_low, E_by, G_jumps, G_stays, S, T, U, obeys}
 use Rattle.ed_machine.proofs.Kit.Moves as moves
 

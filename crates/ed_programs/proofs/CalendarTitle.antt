@@ -1,7 +1,7 @@
 -- The lines above the days in `examples/calendar.tape`.
 use Rattle.ed_programs.proofs.Kit.{drop, Size, followed, [], arith, lit<, lit≤, Option, refl, Some, ℕ, ◌%◌, ◌*◌, ◌+◌}
-use Rattle.ed_programs.proofs.Kit.{◌/◌, ◌<◌, ◌∷◌, ◌≡◌, ◌≤◌, Moment, Path, head_codes, title_codes}
-use Rattle.ed_programs.proofs.Kit.{year_codes, to, Path-counted, calls_own}
+use Rattle.ed_programs.proofs.Kit.{◌/◌, ◌<◌, ◌∷◌, ◌≡◌, ◌≤◌, Moment, Path, head_codes, title_codes, year_codes, to}
+use Rattle.ed_programs.proofs.Kit.{Path-counted, calls_own}
 use Rattle.ed_programs.proofs.CalendarCells.{at, frame, have_part, signs, IsAround, Work}
 use Rattle.ed_programs.proofs.CalendarFigures.{left_by, prints_four}
 use Rattle.ed_programs.proofs.CalendarNames.{is_name, letter}

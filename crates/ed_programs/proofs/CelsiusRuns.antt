@@ -1,9 +1,9 @@
 -- The source of `examples/celsius.edsac` for any list: its path, and what it prints.
-use Rattle.ed_programs.proofs.Kit.{followed, Z_F, Size, Z, Settings, Line, sum_by, along, IsIn, Journey, stop_after}
+use Rattle.ed_programs.proofs.Kit.{before_order, followed, Z_F, Size, Z, Settings, Line, sum_by, along, IsIn, Journey, stop_after}
 use Rattle.ed_programs.proofs.Kit.{then, to_stop, frame_at, moment_at, [], append-nil, arith, false, length, List, lit<}
 use Rattle.ed_programs.proofs.Kit.{lit≤, map, nat_le, nat_lt, None, Option, refl, Some, sym, true, ℕ, ◌*◌, ◌++◌, ◌+◌}
 use Rattle.ed_programs.proofs.Kit.{◌-◌, ◌/◌, ◌<◌, ◌^◌, ◌∷◌, ◌≡◌, ◌≤◌, list_all, and_from, and_parts, leb-true, lt-ltb}
-use Rattle.ed_programs.proofs.Kit.{ltb-true, length-map, sum_by-cons, Text, Frame, Moment, short, state, on, Path, stay}
+use Rattle.ed_programs.proofs.Kit.{ltb-true, length-map, sum_by-cons, Text, Frame, Moment, state, on, Path, stay}
 use Rattle.ed_programs.proofs.Kit.{own, settings, parameter_store, digits, print_orders, ReachesStop, entry_state}
 use Rattle.ed_programs.proofs.Kit.{celsius_text, numbers_text, on_lines, SourceRuns, reads_number, are_small}
 use Rattle.ed_programs.proofs.Kit.{number_rows, shows_number, stops_from_entry, Marked, to, calling, journey_counted}
@@ -42,16 +42,8 @@ module _ (z : Size) (m : Moment) where
   -- at the cell i: the words of the store, the number in the accumulator, the cell, the multiplier, the last code and
   -- the rows left
   abbrev at : ℕ → List ℕ → ℕ → ℕ → ℕ → Option ℕ → List ℕ → Moment
-  at i words v value factor last tape = record m {
-    words = words;
-    cells = cells value;
-    pairs = [];
-    acc = short v;
-    multiplier = factor;
-    counter = 56 + i;
-    last = last;
-    tape = tape;
-  }
+  at i words v value factor last tape =
+      record (before_order m (56 + i) v (cells value)) { words = words; multiplier = factor; tape = tape; last = last }
 
   -- a temperature is read and printed in degrees Celsius
   record Turned (n value factor : ℕ) (words : List ℕ) (last : Option ℕ) (rest : List ℕ) : Type 0 where

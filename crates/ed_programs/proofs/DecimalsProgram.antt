@@ -1,11 +1,10 @@
 -- The program of `examples/decimals.edsac` from its entry to its stop: a decimal, a group, a line.
-use Rattle.ed_programs.proofs.Kit.{div-lt_iff_lt-mul, get_or-set_other, get_or-set_same, length-set, mod-lt}
-use Rattle.ed_programs.proofs.Kit.{div-add-mod, A_F, L_D, T_F, Z_F, Size, Z, L1F, L512F, Remains, set, along}
-use Rattle.ed_programs.proofs.Kit.{to_stop, LD, followed, frame_at, [], ap, append-nil, arith}
-use Rattle.ed_programs.proofs.Kit.{get_or, length, List, lit<, lit≤, Option, refl, rules, Some, subst, suc, sym}
-use Rattle.ed_programs.proofs.Kit.{zero, ℕ, ◌%◌, ◌*◌, ◌+◌, ◌-◌, ◌/◌, ◌<◌, ◌^◌, ◌∙◌, ◌∷◌, ◌≡◌, ◌≤◌, least, Frame, Moment}
-use Rattle.ed_programs.proofs.Kit.{short, state, Path, stay, ReachesStop, replicate, carries, tenfold, to}
-use Rattle.ed_programs.proofs.Kit.{Path-counted, calls_own}
+use Rattle.ed_programs.proofs.Kit.{before_order, div-lt_iff_lt-mul, get_or-set_other, get_or-set_same, length-set, mod-lt}
+use Rattle.ed_programs.proofs.Kit.{div-add-mod, A_F, L_D, T_F, Z_F, Size, Z, L1F, L512F, Remains, set, along, to_stop}
+use Rattle.ed_programs.proofs.Kit.{LD, followed, frame_at, [], ap, append-nil, arith, get_or, length, List, lit<, lit≤}
+use Rattle.ed_programs.proofs.Kit.{Option, refl, rules, Some, subst, suc, sym, zero, ℕ, ◌%◌, ◌*◌, ◌+◌, ◌-◌, ◌/◌, ◌<◌}
+use Rattle.ed_programs.proofs.Kit.{◌^◌, ◌∙◌, ◌∷◌, ◌≡◌, ◌≤◌, least, Frame, Moment, short, state, Path, stay, ReachesStop}
+use Rattle.ed_programs.proofs.Kit.{replicate, carries, tenfold, to, Path-counted, calls_own}
 use Rattle.ed_programs.proofs.DecimalsPass.{after, after_long, line_codes, line_left, line_long, line_orders, page_left}
 use Rattle.ed_programs.proofs.DecimalsPass.{page_codes, page_orders, tenfold_long, units}
 use Rattle.ed_programs.proofs.Orders.{A, A_high, A_low, E_by, E_jumps, E_stays, G_jumps, G_stays, L, O, S, S_low, T}
@@ -111,14 +110,7 @@ module _ (z : Size) (m : Moment) where
   f = frame_at 107 z (lit≤ tt)
 
   abbrev pub at : ℕ → List ℕ → ℕ → Work → Counts → Option ℕ → Moment
-  at i ws v k c last = record m {
-    words = ws;
-    cells = cells k c;
-    pairs = [];
-    acc = short v;
-    counter = 56 + i;
-    last = last;
-  }
+  at i ws v k c last = record (before_order m (56 + i) v (cells k c)) { words = ws; last = last }
 
   module _ (c : Counts) (last : Option ℕ) where
     abbrev now : ℕ → List ℕ → ℕ → Work → Moment

@@ -1,11 +1,11 @@
 -- The source of `examples/difference.edsac` for any two numbers: its path, and what it prints.
-use Rattle.ed_programs.proofs.Kit.{Z_F, if◌then◌else◌, parameter_store, digits_printed, stops_from_entry, pair_at_entry}
+use Rattle.ed_programs.proofs.Kit.{before_order, Z_F, if◌then◌else◌, parameter_store, digits_printed, stops_from_entry, pair_at_entry}
 use Rattle.ed_programs.proofs.Kit.{map, print_orders, ReachesStop, entry_state, reads_number, number_rows, stop_counted}
 use Rattle.ed_programs.proofs.Kit.{ltb-false, print_line, moment_at, [], append-nil, few_digits, SourceRuns, pair_after}
 use Rattle.ed_programs.proofs.Kit.{Settings, to_stop, frame_at, length, ltb-true, settings, data_mark, along, get_own}
-use Rattle.ed_programs.proofs.Kit.{arith, nat_lt, Moment, digits, HasRead, Marked, calling, HasPair, Size, Line}
-use Rattle.ed_programs.proofs.Kit.{IsIn, then, Bool, false, List, lit<, lit≤, refl, Frame, short, state, to, Z, sym}
-use Rattle.ed_programs.proofs.Kit.{true, ℕ, ◌*◌, ◌+◌, ◌-◌, ◌<◌, ◌∷◌, ◌≡◌, Text, Path}
+use Rattle.ed_programs.proofs.Kit.{arith, nat_lt, Moment, digits, HasRead, Marked, calling, HasPair, Size, Line, IsIn}
+use Rattle.ed_programs.proofs.Kit.{then, Bool, false, List, lit<, lit≤, refl, Frame, state, to, Z, sym, true, ℕ}
+use Rattle.ed_programs.proofs.Kit.{◌*◌, ◌+◌, ◌-◌, ◌<◌, ◌∷◌, ◌≡◌, Text, Path}
 use Rattle.std.specs.Fmt.{decimal}
 use Rattle.ed_programs.specs.Difference.{difference_orders, difference_text, distance}
 use Rattle.ed_programs.specs.declared.difference.TheConstants.{DIFFERENCE}
@@ -33,14 +33,8 @@ module _ (z : Size) (m : Moment) where
 
   -- at the cell i: the words of the store, the number in the accumulator, the cells that change, and the rows left
   abbrev at : ℕ → List ℕ → ℕ → ℕ → ℕ → ℕ → List ℕ → Moment
-  at i words v number first scrap tape = record m {
-    words = words;
-    cells = cells number first scrap;
-    pairs = [];
-    acc = short v;
-    counter = 56 + i;
-    tape = tape;
-  }
+  at i words v number first scrap tape =
+      record (before_order m (56 + i) v (cells number first scrap)) { words = words; tape = tape }
 
   -- the smaller number is taken from the greater, in either case
   apart : (words : List ℕ) (a b : ℕ) → a < 65536 → b < 65536 → (smaller : Bool) → nat_lt b a ≡ smaller

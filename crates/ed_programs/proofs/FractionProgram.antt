@@ -3,9 +3,9 @@ use Rattle.ed_programs.proofs.Kit.{A_F, E_F, G_F, L_D, O_F, S_F, T_F, U_F, Z_F, 
 use Rattle.ed_programs.proofs.Kit.{has_after, IsIn, Journey, no_working, still_in, then, Bool, Option, Reads, Jumps}
 use Rattle.ed_programs.proofs.Kit.{any, LD, print_goes, print_left, print_line, get_own, [], arith, inl, inr, length}
 use Rattle.ed_programs.proofs.Kit.{List, lit<, lit≤, refl, rules, Some, subst, suc, ℕ, ◌%◌, ◌*◌, ◌+◌, ◌/◌, ◌<◌, ◌∙◌}
-use Rattle.ed_programs.proofs.Kit.{◌∷◌, ◌≡◌, ◌≤◌, locations_most, Frame, Moment, short, Path, own, print}
-use Rattle.ed_programs.proofs.Kit.{read, with_h, digits, print_orders, HasRoutine, divide, divide_orders, with_hnm}
-use Rattle.ed_programs.proofs.Kit.{HasRead, journey_counted}
+use Rattle.ed_programs.proofs.Kit.{◌∷◌, ◌≡◌, ◌≤◌, locations_most, Frame, Moment, short, Path, own, print, read, with_h}
+use Rattle.ed_programs.proofs.Kit.{digits, print_orders, HasRoutine, divide, divide_orders, with_hnm, HasRead}
+use Rattle.ed_programs.proofs.Kit.{journey_counted}
 use Rattle.ed_programs.proofs.Divides.{HasDivided, IsDivided, divide_line}
 use Rattle.ed_programs.proofs.NumberShown.{then_on}
 use Rattle.ed_programs.proofs.Orders.{A, E_jumps, G_stays, L, S, T, U, obeys}

@@ -2,10 +2,10 @@
 use Rattle.ed_programs.proofs.Kit.{div-lt_iff_lt-mul, mod-lt, div-add-mod, Z_F, Figures, Z, along, Journey, stop_after}
 use Rattle.ed_programs.proofs.Kit.{then, to_stop, prints, [], ap, append-nil, append_assoc, arith, decimal, length}
 use Rattle.ed_programs.proofs.Kit.{length-append, List, lit<, lit≤, refl, Some, subst, suc, sym, zero, ℕ, ◌%◌, ◌*◌}
-use Rattle.ed_programs.proofs.Kit.{◌++◌, ◌+◌, ◌/◌, ◌<◌, ◌^◌, ◌∙◌, ◌∷◌, ◌≡◌, ◌≤◌, Text, paper, Moment, state}
-use Rattle.ed_programs.proofs.Kit.{Path, stay, own, digits, print_orders, few_digits, ReachesStop, divide_orders}
-use Rattle.ed_programs.proofs.Kit.{number_shown, paper_from, figure_orders, HasRead, reads_number, number_rows}
-use Rattle.ed_programs.proofs.Kit.{journey_counted, stop_counted}
+use Rattle.ed_programs.proofs.Kit.{◌++◌, ◌+◌, ◌/◌, ◌<◌, ◌^◌, ◌∙◌, ◌∷◌, ◌≡◌, ◌≤◌, Text, paper, Moment, state, Path, stay}
+use Rattle.ed_programs.proofs.Kit.{own, digits, print_orders, few_digits, ReachesStop, divide_orders, number_shown}
+use Rattle.ed_programs.proofs.Kit.{paper_from, figure_orders, HasRead, reads_number, number_rows, journey_counted}
+use Rattle.ed_programs.proofs.Kit.{stop_counted}
 use Rattle.std.proofs.Math.Nat.{div-le_self, add-mul-div_left, add-mul-mod_self_left, mul_assoc, pow-succ'}
 use Rattle.ed_programs.specs.Fraction.{figure, figures}
 use Rattle.ed_programs.proofs.FractionProgram.{Given, IsAround, Turned, Work, after_read, at, divided, in_at, printed}

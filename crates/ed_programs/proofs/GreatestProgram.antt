@@ -1,10 +1,10 @@
 -- The program of `examples/answer6.edsac`, at any base and for a list of any length: two orders go along the list.
-use Rattle.ed_programs.proofs.Kit.{quiet_walks, locations_most, print_orders, ReachesStop, stop_counted, greatest_of, Z}
-use Rattle.ed_programs.proofs.Kit.{all_spent, ltb-false, print_line, followed, HasRoutine, walked, nat_tests}
-use Rattle.ed_programs.proofs.Kit.{to_stop, get_own, get_or, length, nat_lt, ltb-true, Moment, with_h, IsIn, along}
-use Rattle.ed_programs.proofs.Kit.{arith, false, subst, Frame, short, state, print, digits, rises, A_F, G_F, S_F}
-use Rattle.ed_programs.proofs.Kit.{T_F, U_F, Z_F, then, Bool, List, lit<, lit≤, refl, true, Path, [], ap}
-use Rattle.ed_programs.proofs.Kit.{ℕ, ◌*◌, ◌+◌, ◌-◌, ◌<◌, ◌∙◌, ◌∷◌, ◌≡◌, ◌≤◌}
+use Rattle.ed_programs.proofs.Kit.{before_order, quiet_walks, locations_most, print_orders, ReachesStop, stop_counted, greatest_of, Z}
+use Rattle.ed_programs.proofs.Kit.{all_spent, ltb-false, print_line, followed, HasRoutine, walked, nat_tests, to_stop}
+use Rattle.ed_programs.proofs.Kit.{get_own, get_or, length, nat_lt, ltb-true, Moment, with_h, IsIn, along, arith, false}
+use Rattle.ed_programs.proofs.Kit.{subst, Frame, state, print, digits, rises, A_F, G_F, S_F, T_F, U_F, Z_F, then}
+use Rattle.ed_programs.proofs.Kit.{Bool, List, lit<, lit≤, refl, true, Path, [], ap, ℕ, ◌*◌, ◌+◌, ◌-◌, ◌<◌, ◌∙◌, ◌∷◌}
+use Rattle.ed_programs.proofs.Kit.{◌≡◌, ◌≤◌}
 use Rattle.std.proofs.Common.{max}
 use Rattle.ed_programs.proofs.Orders.{A, A_high, A_low, G_jumps, G_stays, S, T, U, obeys}
 
@@ -90,12 +90,8 @@ module _ (given : Given) where
   open given use {f, e, p, around, above, all, at2, room}
 
   abbrev pub at : ℕ → ℕ → ℕ → ℕ → ℕ → ℕ → Moment
-  at i v look take greatest scrap = record around {
-    cells = cells f.base e p look take greatest scrap;
-    pairs = [];
-    acc = short v;
-    counter = f.base + i;
-  }
+  at i v look take greatest scrap =
+      before_order around (f.base + i) v (cells f.base e p look take greatest scrap)
 
   -- before a turn, and after the last one
   abbrev pub before : Turning → List ℕ → Moment
@@ -109,26 +105,18 @@ module _ (given : Given) where
     pub small : x.left < 131072
     pub low : x.most < 65536
 
-  -- the two orders get the next address
-  raises : (q g t old : ℕ) → q + 1 ≤ e → t < 131072 → Path f 7 (at 7 t (getting q) (getting q) g old) []
-      (at 14 (getting (q + 1)) (getting (q + 1)) (getting (q + 1)) g t)
-  raises q g t old l few =
-      let b = locations_most f.size in let fits = f.fits in let r = room in let second = at2 in
-      obeys 7 t (T 22 ∷ A 5 (getting q) ∷ A_low 2 (getting (q + 1)) ∷ T 5 ∷ A 1 (getting q)
-      ∷ A_low 2 (getting (q + 1)) ∷ U 1 ∷ []) refl (omega arith)
-
-  -- and are compared with the order for the location after the list
+  -- the two orders get the next address, and are compared with the order for the location after the list
   closes : (q g t old : ℕ) (ns : List ℕ) → q + 1 + length ns ≡ e → f.base + 23 ≤ q → t < 131072
       → Path f 9 (at 7 t (getting q) (getting q) g old) []
       (before (record { q = q + 1; left = compared ns; most = g; scrap = t }) ns)
   closes q g t old [] ends from few =
-      let b = locations_most f.size in let fits = f.fits in let r = room in
-      followed (raises q g t old (omega arith) few)
-      (obeys 14 (getting (q + 1)) (S 21 0 ∷ G_stays 0 ∷ []) refl (omega arith))
+      let b = locations_most f.size in let fits = f.fits in let r = room in let second = at2 in
+      obeys 7 t (T 22 ∷ A 5 (getting q) ∷ A_low 2 (getting (q + 1)) ∷ T 5 ∷ A 1 (getting q) ∷ A_low 2 (getting (q + 1))
+      ∷ U 1 ∷ S 21 0 ∷ G_stays 0 ∷ []) refl (omega arith)
   closes q g t old (n ∷ ns) ends from few =
-      let b = locations_most f.size in let fits = f.fits in let r = room in
-      followed (raises q g t old (omega arith) few)
-      (obeys 14 (getting (q + 1)) (S 21 (131072 - 2 * length (n ∷ ns)) ∷ G_jumps 0 ∷ []) refl (omega arith))
+      let b = locations_most f.size in let fits = f.fits in let r = room in let second = at2 in
+      obeys 7 t (T 22 ∷ A 5 (getting q) ∷ A_low 2 (getting (q + 1)) ∷ T 5 ∷ A 1 (getting q) ∷ A_low 2 (getting (q + 1))
+      ∷ U 1 ∷ S 21 (compared (n ∷ ns)) ∷ G_jumps 0 ∷ []) refl (omega arith)
 
   left_small : (ns : List ℕ) → compared ns < 131072
   left_small [] = lit< tt

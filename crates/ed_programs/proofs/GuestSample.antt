@@ -15,7 +15,7 @@ use Rattle.ed_machine.proofs.Kit.Leads.{first_order}
 use Rattle.ed_programs.specs.Guests.{SampleIsChecked}
 use Rattle.ed_programs.proofs.GuestRuns.{each_guest}
 use Rattle.ed_programs.proofs.GuestTexts.{enters_at, last_texts, use_line, use_text}
-use Rattle.ed_programs.proofs.SourceLines.{lines_said, source_read, source_said}
+use Rattle.ed_programs.proofs.SourceLines.{lines_said, mark, source_read, source_said}
 
 -- ---- the source
 
@@ -28,16 +28,9 @@ use_says = refl
 
 abbrev marks : List (Marked false)
 marks =
-    record {
-      number = 5;
-      text = use_text;
-      label = None;
-      statement = Fetch (codes "check") (codes "c") (record {
-        items = record { letter = 21; operand = Label (codes "main") (pos 0) } ∷ [];
-      });
-      says = use_says;
-    }
-    ∷ []
+    mark 5 use_text None (Fetch (codes "check") (codes "c") (record {
+      items = record { letter = 21; operand = Label (codes "main") (pos 0) } ∷ [];
+    })) use_says ∷ []
 
 abbrev lines : List Line
 lines = lines_said false 1 texts marks

@@ -1,14 +1,14 @@
 -- The source of `examples/hello.edsac` for any text: its lines, its path, and what it prints.
-use Rattle.ed_programs.proofs.Kit.{G_F, Z_F, Size, Full, Small, Z, Settings, Line, Statement, ExtentList}
-use Rattle.ed_programs.proofs.Kit.{past, even_from, extent, fault_from, along, IsIn, then, to_stop}
-use Rattle.ed_programs.proofs.Kit.{newline_line, followed, all_words, frame_at, moment_at, [], ap, arith, codes}
-use Rattle.ed_programs.proofs.Kit.{decimal, false, get_or, length, length-append, List, lit<, lit≤, map, nat_le}
-use Rattle.ed_programs.proofs.Kit.{nat_lt, None, Option, pos, refl, reverse, rules, Some, subst, sym, take, true, ℕ}
-use Rattle.ed_programs.proofs.Kit.{◌*◌, ◌++◌, ◌+◌, ◌-◌, ◌<◌, ◌∙◌, ◌∷◌, ◌≡◌, ◌≤◌, list_all, le-leb, le-ltb, leb-true}
-use Rattle.ed_programs.proofs.Kit.{length-map, value, Text, least, row_of, paper, Frame, Moment, short, state, Path}
-use Rattle.ed_programs.proofs.Kit.{run, sign, row, first_counter, fault, linked_words, symbols_of, counter}
-use Rattle.ed_programs.proofs.Kit.{newline, HasRoutine, ReachesStop, entry_state, said, hello_text, is_capital}
-use Rattle.ed_programs.proofs.Kit.{of_letters, SourceRuns, Marked, to, printing, Path-counted}
+use Rattle.ed_programs.proofs.Kit.{before_order, G_F, Z_F, Size, Full, Small, Z, Settings, Line, Statement, ExtentList, past}
+use Rattle.ed_programs.proofs.Kit.{even_from, extent, fault_from, along, IsIn, then, to_stop, newline_line, followed}
+use Rattle.ed_programs.proofs.Kit.{all_words, frame_at, moment_at, [], ap, arith, codes, decimal, false, get_or, length}
+use Rattle.ed_programs.proofs.Kit.{length-append, List, lit<, lit≤, map, nat_le, nat_lt, None, Option, pos, refl}
+use Rattle.ed_programs.proofs.Kit.{reverse, rules, Some, subst, sym, take, true, ℕ, ◌*◌, ◌++◌, ◌+◌, ◌-◌, ◌<◌, ◌∙◌, ◌∷◌}
+use Rattle.ed_programs.proofs.Kit.{◌≡◌, ◌≤◌, list_all, le-leb, le-ltb, leb-true, length-map, value, Text, least, row_of}
+use Rattle.ed_programs.proofs.Kit.{paper, Frame, Moment, state, Path, run, sign, row, first_counter, fault}
+use Rattle.ed_programs.proofs.Kit.{linked_words, symbols_of, counter, newline, HasRoutine, ReachesStop, entry_state}
+use Rattle.ed_programs.proofs.Kit.{said, hello_text, is_capital, of_letters, SourceRuns, Marked, to, printing}
+use Rattle.ed_programs.proofs.Kit.{Path-counted}
 use Rattle.ed_link.proofs.Kit.{resolution, earlier_fault, missing}
 use Rattle.ed_link.proofs.Extents.{one_by_one}
 use Rattle.ed_sources.proofs.Blocks.{order_at}
@@ -46,13 +46,8 @@ module _ (z : Size) (around : Moment) (all : length around.words ≡ 1024) (seco
   f = frame_at 13 z (lit≤ tt)
 
   abbrev at : ℕ → ℕ → ℕ → ℕ → Option ℕ → Moment
-  at i v order scrap last = record around {
-    cells = cells (G_F + 2 * w) (printing e) order scrap;
-    pairs = [];
-    acc = short v;
-    counter = 56 + i;
-    last = last;
-  }
+  at i v order scrap last =
+      record (before_order around (56 + i) v (cells (G_F + 2 * w) (printing e) order scrap)) { last = last }
 
   -- a code is printed, and the order that prints it gets the next address
   step : (c q left scrap next : ℕ) (last : Option ℕ) → get_or around.words q 0 ≡ 4096 * c → c < 32 → 69 ≤ q → q < e

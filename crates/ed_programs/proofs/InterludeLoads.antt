@@ -1,4 +1,5 @@
 -- The loads of the two parts of the tape `examples/interlude.tape`, for any number: their entries, and what they cost.
+use Rattle.ed_programs.proofs.TapeRuns.{entry_with}
 use Rattle.ed_programs.proofs.Kit.{get_or-set_other, E_F, T_F, Size, Item, spelled_rows, digits_of, plain, set}
 use Rattle.ed_programs.proofs.Kit.{canonical, canonicals, [], ap, arith, get_or, length, List, lit≤, refl, rules, subst}
 use Rattle.ed_programs.proofs.Kit.{sym, ℕ, ◌*◌, ◌++◌, ◌+◌, ◌/◌, ◌<◌, ◌∙◌, ◌∷◌, ◌≡◌, ◌≤◌, locations, least}
@@ -18,15 +19,7 @@ pub record Entered (z : Size) (words : List ℕ) (start : NotationState) (base a
   pub well : WellFormed z words start (spelled_rows (canonicals is) ++ (rows_of (canonical (plain 0 0 17)) ++ rest))
   pub comes : RowsReachEntry words start base (spelled_rows (canonicals is) ++
       (rows_of (canonical (plain 0 0 17)) ++ rest))
-      (record {
-        at = at;
-        word = 0;
-        cost = base + cost + 19;
-        rows = length (spelled_rows (canonicals is)) + 2;
-        notation = last;
-        last = plain 0 0 17;
-        rest = rest;
-      })
+      (entry_with at (base + cost + 19) (length (spelled_rows (canonicals is)) + 2) last rest)
 
 pub entered : {z : Size} {words : List ℕ} {start last : NotationState} {is : List Item} {cost : ℕ} (base at : ℕ)
     (rest : List ℕ)

@@ -129,6 +129,15 @@ printing place = O_F + 2 * place
 abbrev pub link : ℕ → ℕ
 link j = to 3 (j + 2)
 
+-- the moment before the order at a location, with v in the accumulator and these cells
+abbrev pub before_order : Moment → ℕ → ℕ → List ℕ → Moment
+before_order m counter v cells = record m { cells = cells; pairs = []; acc = short v; counter = counter }
+
+-- a piece of n cells from a location on
+abbrev pub frame_from : (n base : ℕ) (z : Size) → base + n ≤ 512 → Frame n 0
+frame_from n base z few =
+    record { size = z; base = base; top = locations z; under = (let size = least z in omega arith); fits = omega arith }
+
 -- a path, and where it stops, by another count of its orders
 pub Path-counted : {n a b : ℕ} {f : Frame n 0} {r t : Moment} {codes : List ℕ} → Path f a r codes t → a ≡ b
     → Path f b r codes t

@@ -1,11 +1,11 @@
 -- The program of `examples/mirror.tape`, at 64 and for any word: one loop that stores letters, and one that prints
 -- them.
-use Rattle.ed_programs.proofs.Kit.{get_or-set_other, get_or-set_same, length-set, length-reverse, L_D, R_F, Z_F, Size}
-use Rattle.ed_programs.proofs.Kit.{I, Z, L512F, AreCodes, set, reverse-append, along, to_stop}
-use Rattle.ed_programs.proofs.Kit.{LD, followed, [], append-nil, append_assoc, arith, get_or, length, List}
-use Rattle.ed_programs.proofs.Kit.{lit<, lit≤, Option, refl, reverse, Some, suc, sym, ℕ, ◌*◌, ◌++◌, ◌+◌, ◌%◌, ◌-◌, ◌<◌}
-use Rattle.ed_programs.proofs.Kit.{◌∙◌, ◌∷◌, ◌≡◌, ◌≤◌, locations, least, Frame, Moment, short, state, on, Path, stay}
-use Rattle.ed_programs.proofs.Kit.{own, ReachesStop, printing, stop_counted, Path-counted}
+use Rattle.ed_programs.proofs.Kit.{before_order, frame_from, get_or-set_other, get_or-set_same, length-set, length-reverse, L_D, R_F, Z_F, Size}
+use Rattle.ed_programs.proofs.Kit.{I, Z, L512F, AreCodes, set, reverse-append, along, to_stop, LD, followed, []}
+use Rattle.ed_programs.proofs.Kit.{append-nil, append_assoc, arith, get_or, length, List, lit<, lit≤, Option, refl}
+use Rattle.ed_programs.proofs.Kit.{reverse, Some, suc, sym, ℕ, ◌*◌, ◌++◌, ◌+◌, ◌%◌, ◌-◌, ◌<◌, ◌∙◌, ◌∷◌, ◌≡◌, ◌≤◌}
+use Rattle.ed_programs.proofs.Kit.{least, Frame, Moment, state, on, Path, stay, own, ReachesStop}
+use Rattle.ed_programs.proofs.Kit.{printing, stop_counted, Path-counted}
 use Rattle.ed_programs.proofs.Orders.{A, A_low, E_jumps, E_stays, G_jumps, G_stays, L, O_high, S, S_low, T, T_high, U}
 use Rattle.ed_programs.proofs.Orders.{obeys}
 
@@ -49,24 +49,11 @@ stored_set ws a v (c ∷ cs) l h = (
 
 module _ (z : Size) (m : Moment) where
   abbrev pub f : Frame 33 0
-  f = record {
-    size = z;
-    base = 64;
-    top = locations z;
-    under = let size = least z in omega arith;
-    fits = omega arith;
-  }
+  f = frame_from 33 64 z (lit≤ tt)
 
   abbrev pub at : ℕ → List ℕ → ℕ → Work → List ℕ → Option ℕ → Moment
-  at i ws v k tape last = record m {
-    words = ws;
-    cells = cells k;
-    pairs = [];
-    acc = short v;
-    counter = 64 + i;
-    tape = tape;
-    last = last;
-  }
+  at i ws v k tape last =
+      record (before_order m (64 + i) v (cells k)) { words = ws; tape = tape; last = last }
 
   -- ---- the letters are stored
 

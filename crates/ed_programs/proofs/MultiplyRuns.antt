@@ -2,10 +2,10 @@
 use Rattle.ed_programs.proofs.Kit.{along, parameter_store, routine_after, stops_from_entry, Z, print_orders}
 use Rattle.ed_programs.proofs.Kit.{ReachesStop, shows_number, Path-counted, stop_counted, all_words, moment_at, []}
 use Rattle.ed_programs.proofs.Kit.{HasRoutine, entry_state, SourceRuns, calls_own, Settings, Journey, to_stop, followed}
-use Rattle.ed_programs.proofs.Kit.{frame_at, settings, HasShown, decimal, length, Moment, newline, with_h}
-use Rattle.ed_programs.proofs.Kit.{digits, Marked, calling, Z_F, Size, Line, IsIn, arith, codes, subst, least, Frame}
-use Rattle.ed_programs.proofs.Kit.{short, state, print, then, List, lit<, lit≤, refl, Some, true, zero, ◌++◌, Text}
-use Rattle.ed_programs.proofs.Kit.{Path, stay, link, map, suc, ℕ, ◌*◌, ◌+◌, ◌<◌, ◌∷◌, ◌≡◌, ◌≤◌, to}
+use Rattle.ed_programs.proofs.Kit.{frame_at, settings, HasShown, decimal, length, Moment, newline, with_h, digits}
+use Rattle.ed_programs.proofs.Kit.{Marked, calling, Z_F, Size, Line, IsIn, arith, codes, subst, least, Frame, short}
+use Rattle.ed_programs.proofs.Kit.{state, print, then, List, lit<, lit≤, refl, Some, true, zero, ◌++◌, Text, Path, stay}
+use Rattle.ed_programs.proofs.Kit.{link, map, suc, ℕ, ◌*◌, ◌+◌, ◌<◌, ◌∷◌, ◌≡◌, ◌≤◌, to}
 use Rattle.ed_programs.specs.Multiply.{multiply_orders, multiply_prints, multiply_text}
 use Rattle.ed_programs.specs.declared.multiply.TheConstants.{MULTIPLY}
 use Rattle.ed_programs.proofs.NumberLines.{word_mark}

@@ -181,23 +181,12 @@ module _ {n h : ℕ} (f : Frame n h) where
 
 -- the orders from cell i on, with v in the accumulator, are these: by their words and by their numbers
 abbrev around : List ℕ → List Bool → List ℕ → List Bool → ℕ → List ℕ → Option ℕ → Moment
-around words digits cells pairs multiplier tape last = record {
-  words = words;
-  digits = digits;
-  cells = cells;
-  pairs = pairs;
-  acc = 0;
-  multiplier = multiplier;
-  counter = 0;
-  tape = tape;
-  last = last;
-}
+around ws ds cs ps m t l =
+    record { words = ws; digits = ds; cells = cs; pairs = ps; acc = 0; multiplier = m; counter = 0; tape = t; last = l }
 
-pub obeys : {n h : ℕ} {f : Frame n h} {words : List ℕ} {digits : List Bool} {cells : List ℕ} {pairs : List Bool}
-    {m : ℕ} {tape : List ℕ} {last : Option ℕ} (i v : ℕ) (os : List Order)
-    → words_at f os i v (around words digits cells pairs m tape last)
-    ≡ words_of f os i v (around words digits cells pairs m tape last)
-    → AreFine f os i v (around words digits cells pairs m tape last)
-    → Path f (length os) (before f i v (around words digits cells pairs m tape last)) (codes_of os)
-    (after f os i v (around words digits cells pairs m tape last))
+pub obeys : {n h : ℕ} {f : Frame n h} {ws : List ℕ} {ds : List Bool} {cs : List ℕ} {ps : List Bool} {m : ℕ}
+    {t : List ℕ} {l : Option ℕ} (i v : ℕ) (os : List Order)
+    → words_at f os i v (around ws ds cs ps m t l) ≡ words_of f os i v (around ws ds cs ps m t l)
+    → AreFine f os i v (around ws ds cs ps m t l)
+    → Path f (length os) (before f i v (around ws ds cs ps m t l)) (codes_of os) (after f os i v (around ws ds cs ps m t l))
 obeys {f = f} i v os = path_of f os i v _

@@ -25,6 +25,10 @@ pub record Marked (two : Bool) : Type 0 where
   pub statement : Statement
   pub says : line_of two number text ≡ Ok (record { label = label; statement = Some statement })
 
+abbrev pub mark : {two : Bool} (k : ℕ) (line : Text) (l : Option Text) (s : Statement)
+    → line_of two k line ≡ Ok (record { label = l; statement = Some s }) → Marked two
+mark k line l s e = record { number = k; text = line; label = l; statement = s; says = e }
+
 -- the first of lines that were read, or a line that says nothing
 abbrev pub first : Result (List Line) Fault → Line
 first (Ok (l ∷ ls)) = l

@@ -1,7 +1,7 @@
 -- The program of `examples/squares.tape1`: a loop that counts the tens of a square, in a loop over the squares.
-use Rattle.ed_programs.proofs.Kit.{A_F, E_F, G_F, O_F, S_F, T_F, Z_F, Full, Z, L512F, along, to_stop, followed, []}
-use Rattle.ed_programs.proofs.Kit.{arith, List, lit≤, Option, refl, Some, suc, zero, ℕ, ◌%◌, ◌*◌, ◌+◌, ◌-◌, ◌/◌}
-use Rattle.ed_programs.proofs.Kit.{◌<◌, ◌∷◌, ◌≡◌, ◌≤◌, Frame, Moment, short, state, Path, ReachesStop}
+use Rattle.ed_programs.proofs.Kit.{before_order, A_F, E_F, G_F, O_F, S_F, T_F, Z_F, Full, Z, L512F, along, to_stop, followed, []}
+use Rattle.ed_programs.proofs.Kit.{arith, List, lit≤, Option, refl, Some, suc, zero, ℕ, ◌%◌, ◌*◌, ◌+◌, ◌-◌, ◌/◌, ◌<◌}
+use Rattle.ed_programs.proofs.Kit.{◌∷◌, ◌≡◌, ◌≤◌, Frame, Moment, state, Path, ReachesStop}
 use Rattle.std.proofs.lemmas.Nat.{mul-le}
 use Rattle.ed_machine.proofs.Kit.Loops.{printed, quiet_rounds, varying}
 use Rattle.ed_programs.proofs.Orders.{A, E_jumps, G_jumps, G_stays, L, O, S, T, obeys}
@@ -65,33 +65,11 @@ figures n = n / 10 ∷ n % 10 ∷ 18 ∷ 24 ∷ []
 -- `around` has what doesn't change during the program
 module _ (around : Moment) where
   abbrev pub at : ℕ → ℕ → Work → Option ℕ → Moment
-  at i v k last = record around {
-    cells = cells k;
-    pairs = [];
-    acc = short v;
-    counter = 31 + i;
-    last = last;
-  }
+  at i v k last = record (before_order around (31 + i) v (cells k)) { last = last }
 
   -- one square n: the last one, q, and the odd number d; the next odd number is e
   module _ (k : Work) (v q d n e : ℕ) (last : Option ℕ) (sum : q + d ≡ n) (next : d + 2 ≡ e) (few : n ≤ 81)
       (small : d ≤ 17) where
-    -- the next square
-    adds_number : Path frame 4 (at 2 v (record k { square = 2 * q; odd = 2 * d }) last) []
-        (at 6 0 (record k { scrap = v; square = 2 * n; odd = 2 * d }) last)
-    adds_number =
-        obeys 2 v (T 31 ∷ A 32 (2 * q) ∷ A 33 (2 * n) ∷ T 32 ∷ []) refl (omega arith)
-
-    -- the odd number after it, and no tens yet
-    adds_two : Path frame 5 (at 6 0 (record k { scrap = v; square = 2 * n; odd = 2 * d }) last) []
-        (at 11 (2 * without n 0) (counting k v n e 0) last)
-    adds_two =
-        obeys 6 0 (A 33 (2 * d) ∷ A 34 (2 * e) ∷ T 33 ∷ T 38 ∷ A 32 (2 * without n 0) ∷ []) refl (omega arith)
-
-    adds : Path frame 9 (at 2 v (record k { square = 2 * q; odd = 2 * d }) last) []
-        (at 11 (2 * without n 0) (counting k v n e 0) last)
-    adds = followed adds_number adds_two
-
     -- one more ten
     ten : (j : ℕ) → j < n / 10
         → Path frame 8 (at 11 (2 * without n j) (counting k v n e j) last) []
@@ -100,19 +78,16 @@ module _ (around : Moment) where
         obeys 11 (2 * without n j) (S 35 (2 * without n (suc j)) ∷ G_stays 19 ∷ T 39 ∷ A 38 (4096 * j)
         ∷ A 37 (4096 * suc j) ∷ T 38 ∷ A 39 (2 * without n (suc j)) ∷ E_jumps 11 ∷ []) refl (omega arith)
 
-    -- what is left are the units; both figures and a new line are printed
-    shows : Path frame 11 (at 11 (2 * without n (n / 10)) (counting k v n e (n / 10)) last) (figures n)
-        (at 28 (compared n) (after k v n e) (Some 24))
-    shows =
-        obeys 11 (2 * without n (n / 10)) (S 35 (131052 + 2 * (n % 10)) ∷ G_jumps 19 ∷ A 35 (2 * (n % 10))
-        ∷ L L512F (4096 * (n % 10)) ∷ T 40 ∷ O 38 (n / 10) ∷ O 40 (n % 10) ∷ O 41 18 ∷ O 42 24 ∷ A 32 (2 * n)
-        ∷ S 36 (compared n) ∷ []) refl (omega arith)
-
+    -- the square and the odd number after it; then the tens; what is left are the units, and both figures are printed
     prints_square : Path frame (9 + (n / 10 * 8 + 11)) (at 2 v (record k { square = 2 * q; odd = 2 * d }) last)
         (figures n) (at 28 (compared n) (after k v n e) (Some 24))
     prints_square =
-        followed adds
-        (followed (quiet_rounds (λ j. at 11 (2 * without n j) (counting k v n e j) last) (n / 10) ten) shows)
+        followed (obeys 2 v (T 31 ∷ A 32 (2 * q) ∷ A 33 (2 * n) ∷ T 32 ∷ A 33 (2 * d) ∷ A 34 (2 * e) ∷ T 33 ∷ T 38
+        ∷ A 32 (2 * without n 0) ∷ []) refl (omega arith))
+        (followed (quiet_rounds (λ j. at 11 (2 * without n j) (counting k v n e j) last) (n / 10) ten)
+        (obeys 11 (2 * without n (n / 10)) (S 35 (131052 + 2 * (n % 10)) ∷ G_jumps 19 ∷ A 35 (2 * (n % 10))
+        ∷ L L512F (4096 * (n % 10)) ∷ T 40 ∷ O 38 (n / 10) ∷ O 40 (n % 10) ∷ O 41 18 ∷ O 42 24 ∷ A 32 (2 * n)
+        ∷ S 36 (compared n) ∷ []) refl (omega arith)))
 
   -- ---- the loop over the squares: turn i goes from the square of i to the next one
 

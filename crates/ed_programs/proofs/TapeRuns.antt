@@ -1,5 +1,5 @@
 -- The outcome of a tape whose program reaches its stop, as the answer of the command `tape`.
-use Rattle.ed_programs.proofs.Kit.{String, Global, Size, has_one_reading, Settings, ReachesEntry, comes_in, Err, Result}
+use Rattle.ed_programs.proofs.Kit.{plain, NotationState, String, Global, Size, has_one_reading, Settings, ReachesEntry, comes_in, Err, Result}
 use Rattle.ed_programs.proofs.Kit.{rows, Spells, INPUT_BYTES, exactly, OfReading, [], ap, arith, codes, inl, length}
 use Rattle.ed_programs.proofs.Kit.{List, None, Ok, refl, subst, sym, ℕ, ◌++◌, ◌+◌, ◌-◌, ◌∙◌, ◌∷◌, ◌≡◌, ◌≤◌, Text, paper}
 use Rattle.ed_programs.proofs.Kit.{step, State, run_end, ReachesStop, at_after, ran_outcome-answered, nothing_after}
@@ -18,6 +18,11 @@ reads_spell text codes is = subst (IsReadingOf text) is (has_one_reading.every t
 -- the rows of a text, none if it has a fault
 abbrev pub rows_in : Text → List ℕ
 rows_in text = elim (reading text) [ rows codes ↦ codes | no_row place byte ↦ [] | open_comment place ↦ [] ]
+
+-- an entry item P F that ends a tape's first rows
+abbrev pub entry_with : (at cost read : ℕ) → NotationState → List ℕ → TapeEntry
+entry_with at cost read n rest =
+    record { at = at; word = 0; cost = cost; rows = read; notation = n; last = plain 0 0 17; rest = rest }
 
 -- rows are read to an entry from a cleared store, and from the store after Start, where the reading of the Initial
 -- Orders begins; both are computed

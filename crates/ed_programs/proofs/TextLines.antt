@@ -10,7 +10,7 @@ use Rattle.ed_programs.proofs.Kit.{parts_of, line_of, run_parts, digits, a_numbe
 use Rattle.ed_syntax.specs.Parts.{begins_run}
 use Rattle.ed_programs.proofs.NumberLines.{is_short_label}
 use Rattle.ed_programs.proofs.RowTexts.{is_row_byte, text_rows}
-use Rattle.ed_programs.proofs.SourceLines.{by_parts}
+use Rattle.ed_programs.proofs.SourceLines.{by_parts, mark}
 use Rattle.ed_syntax.specs.declared.program.Statement.TheVariants as statements
 
 -- ---- a line that ends with `text` and a string
@@ -69,13 +69,9 @@ text_says two k (b ∷ r) q later fits some few rows =
 
 abbrev pub text_mark : {two : Bool} (k : ℕ) (label q : Text) → 2 ≤ k → is_short_label two label ≡ true → 1 ≤ length q
     → length q ≤ 90 → list_all is_row_byte q ≡ true → Marked two
-text_mark {two} k label q later fits some few rows = record {
-  number = k;
-  text = label ++ (codes ": text " ++ 34 ∷ (q ++ 34 ∷ []));
-  label = Some label;
-  statement = statements.Text (array (text_rows q));
-  says = text_says two k label q later fits some few rows;
-}
+text_mark {two} k label q later fits some few rows =
+    mark k (label ++ (codes ": text " ++ 34 ∷ (q ++ 34 ∷ []))) (Some label) (statements.Text (array (text_rows q)))
+    (text_says two k label q later fits some few rows)
 
 -- ---- a line with a number between two fixed texts
 
@@ -115,10 +111,4 @@ module _ {two : Bool} {k : ℕ} {front tail : Text} {before after : List LinePar
 
   -- such a line as a mark
   abbrev pub number_mark : n < 65536 → Marked two
-  number_mark small = record {
-    number = k;
-    text = front ++ (decimal n ++ tail);
-    label = label;
-    statement = statement;
-    says = number_says small;
-  }
+  number_mark small = mark k (front ++ (decimal n ++ tail)) label statement (number_says small)
