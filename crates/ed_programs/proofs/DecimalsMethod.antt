@@ -7,6 +7,7 @@ use Rattle.std.proofs.lemmas.Nat.{div-mul-add}
 use Rattle.ed_notation.specs.Items.{digits_number}
 use Rattle.ed_programs.specs.Decimals.{MethodIsRight}
 use Rattle.ed_programs.proofs.DecimalsPass.{after}
+use Rattle.std.proofs.Common.{rules}
 
 -- the product of the divisors, and the sum of the fractions in parts of it
 abbrev weight : ℕ → List ℕ → ℕ
@@ -28,10 +29,7 @@ weight_left d (n ∷ ns) = ap (λ w. d * w) (weight_left (suc d) ns)
 
 small_left : (d : ℕ) (ns : List ℕ) → 1 ≤ d → Small d (tenfold d ns).left
 small_left d [] some = tt
-small_left d (n ∷ ns) some = (
-  mod-lt (10 * n + (tenfold (suc d) ns).carry) (omega arith),
-  small_left (suc d) ns (omega arith),
-)
+small_left d (n ∷ ns) some = search (rules, mod-lt, small_left (suc d) ns (omega arith))
 
 -- so they are together less than 1
 less_than_one : (d : ℕ) (ns : List ℕ) → Small d ns → value d ns < weight d ns
@@ -113,7 +111,4 @@ parts_are (suc k) =
     let first = weight_more 2 k in let second = value_more 2 k in rw (first, second, sym (parts_are k)) (omega arith)
 
 pub method_is_right : MethodIsRight
-method_is_right k m =
-    floor_is m (replicate k 1) 2 (ones_small 2 k (lit≤ tt))
-    ∙ ap (λ y. 10 ^ m * y / weight 2 (replicate k 1)) (parts_are k)
-    ∙ ap (λ y. 10 ^ m * parts (suc k) / y) (factorial_is k)
+method_is_right k m = search (rules, floor_is, ones_small, lit≤, parts_are, factorial_is)

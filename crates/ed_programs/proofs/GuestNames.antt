@@ -14,6 +14,7 @@ use Rattle.ed_symbols.specs.Names.{same_segment}
 use Rattle.ed_symbols.specs.declared.location_counter.LocationCounter.{LocationCounter}
 use Rattle.ed_symbols.proofs.AgainSentences.{Ties-s6}
 use Rattle.ed_link.specs.Faults.{IsData}
+use Rattle.std.proofs.Common.{rules}
 use Rattle.ed_syntax.specs.declared.fault.SourceCause.TheVariants as causes
 
 -- ---- the line that enters
@@ -78,10 +79,7 @@ module _ (z : Size) (lines : List Line) (faultless : HasNoFault z lines) (c : En
       clash e = absurd (cc)
 
   entered : entry_of lines ≡ unwrap_or (place_on (symbols_of lines) None c.name) 0
-  entered =
-      ap (entry_from (symbols_of lines)) c.follows.lines_are
-      ∙ first_enter (symbols_of lines) c.ahead (c.entering ∷ c.follows.after) none_ahead
-      ∙ ap (λ st. entered_place (symbols_of lines) st (entry_from (symbols_of lines) c.follows.after)) c.enters
+  entered = search (rules, first_enter, none_ahead)
 
   -- the name that is entered is known, so it is not local
   is_global : is_local c.name ≡ false
@@ -123,12 +121,7 @@ module _ (z : Size) (lines : List Line) (faultless : HasNoFault z lines) (c : En
   later = symbols_from (after_statement c.using.statement counter) c.stands.after
 
   all_homes : symbols_of lines ≡ (earlier ++ labels) ++ home ∷ later
-  all_homes =
-      ap (symbols_from first_counter) c.stands.lines_are
-      ∙ homes_append first_counter c.before (c.using ∷ c.stands.after)
-      ∙ ap (λ (o : Option Definition). earlier ++ ((labels ++ as_list o) ++ later)) names
-      ∙ ap (λ (hs : List Definition). earlier ++ hs) (append_assoc labels (home ∷ []) later)
-      ∙ sym (append_assoc earlier labels (home ∷ later))
+  all_homes = search (rules, homes_append, append_assoc)
 
   itself : definition_of None c.name (home ∷ later) ≡ Some home
   itself =

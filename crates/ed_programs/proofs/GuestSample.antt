@@ -1,13 +1,13 @@
 -- A guest of three lines, for which everything that the law requires is shown: it prints A and stops.
 use Rattle.ed_programs.proofs.Kit.{A_F, Z_F, Size, Full, Small, no_step, Line, Label, Fetch, checked_codes}
-use Rattle.ed_programs.proofs.Kit.{checked_orders, IsAllowed, placed, word_at, [], ap, arith, codes, false, inl, length}
+use Rattle.ed_programs.proofs.Kit.{checked_orders, IsAllowed, placed, word_at, [], ap, arith, codes, false, length}
 use Rattle.ed_programs.proofs.Kit.{List, lit<, lit≤, None, Ok, pos, refl, rules, Some, subst, suc, sym, take, true}
 use Rattle.ed_programs.proofs.Kit.{unwrap_or, zero, ℕ, ◌*◌, ◌++◌, ◌+◌, ◌-◌, ◌/◌, ◌<◌, ◌^◌, ◌∙◌, ◌∷◌, ◌≡◌, ◌≤◌, Text}
-use Rattle.ed_programs.proofs.Kit.{least, paper, short_at, step, State, progress, state_after, placed_at, settings}
+use Rattle.ed_programs.proofs.Kit.{paper, short_at, step, State, progress, state_after, placed_at, settings}
 use Rattle.ed_programs.proofs.Kit.{line_of, program_of, parameter_store, fault, read_is_accepted, text_of_lines}
 use Rattle.ed_programs.proofs.Kit.{is_obeyed, stops_of, EntersChecker, entry_guest, stopped_orders, StopsAtZ}
 use Rattle.ed_programs.proofs.Kit.{SourceRuns, Marked}
-use Rattle.ed_checker.proofs.Kit.{function_of, kind_of_function, next_word, obey_word, codes_of, IsAllowedOrder}
+use Rattle.ed_checker.proofs.Kit.{function_of, kind_of_function, next_word, obey_word, codes_of}
 use Rattle.ed_checker.proofs.Kit.{orders_by}
 use Rattle.ed_orders.specs.declared.kind.Kind.TheVariants.{O}
 use Rattle.ed_machine.specs.declared.turn.Turn.TheVariants.{Printed, Stopped}
@@ -16,6 +16,7 @@ use Rattle.ed_programs.specs.Guests.{SampleIsChecked}
 use Rattle.ed_programs.proofs.GuestRuns.{each_guest}
 use Rattle.ed_programs.proofs.GuestTexts.{enters_at, last_texts, use_line, use_text}
 use Rattle.ed_programs.proofs.SourceLines.{lines_said, mark, source_read, source_said}
+use Rattle.std.proofs.lemmas.Grind.{common_steps}
 
 -- ---- the source
 
@@ -87,22 +88,10 @@ module _ (z : Size) where
   -- ---- what the law requires of it
 
   first_allowed : IsAllowed 60 g
-  first_allowed =
-      let size = least z in
-      record {
-        outside = inl (lit< tt);
-        next = omega arith;
-        order = subst (λ w. IsAllowedOrder (kind_of_function (function_of w)) 60 w z) (sym first_word) (inl (lit< tt));
-      }
+  first_allowed = search (rules, lit<)
 
   second_allowed : IsAllowed 60 second
-  second_allowed =
-      let size = least z in
-      record {
-        outside = inl (lit< tt);
-        next = omega arith;
-        order = subst (λ w. IsAllowedOrder (kind_of_function (function_of w)) 60 w z) (sym second_word) tt;
-      }
+  second_allowed = grind (arith, common_steps)
 
   allowed : (j : ℕ) → j < 1 → IsAllowed 60 (state_after j g)
   allowed zero l = subst (IsAllowed 60) (no_step g) first_allowed

@@ -1,14 +1,13 @@
 -- Texts whose bytes spell rows of tape.
 use Rattle.ed_programs.proofs.Kit.{few_bytes, bytes_eq, bytes_eq-Decides, among, arith, none, Spells, are, decimal_is}
-use Rattle.ed_programs.proofs.Kit.{row_bytes, rows_are, written, [], ap, Bool, decimal, false, get_or, if◌then◌else◌}
-use Rattle.ed_programs.proofs.Kit.{length, List, map, nat_le, nat_lt, None, Option, refl, Some, subst, suc, true, ℕ}
-use Rattle.ed_programs.proofs.Kit.{◌%◌, ◌-◌, ◌<◌, ◌==◌, ◌∙◌, ◌∷◌, ◌≡◌, ◌≤◌, list_all, and_parts, eqb-true, leb-true}
+use Rattle.ed_programs.proofs.Kit.{row_bytes, rows_are, written, [], ap, Bool, decimal, get_or}
+use Rattle.ed_programs.proofs.Kit.{length, List, map, nat_lt, None, Option, refl, Some, subst, suc, true, ℕ}
+use Rattle.ed_programs.proofs.Kit.{◌%◌, ◌<◌, ◌∙◌, ◌∷◌, ◌≡◌, ◌≤◌, list_all, and_parts}
 use Rattle.ed_programs.proofs.Kit.{lt-ltb, ltb-true, Text, row_of, row, spells, digits, ◌&&◌}
-use Rattle.std.proofs.Common.{position}
-use Rattle.std.proofs.lemmas.List.Quantifiers.{position-Some}
 use Rattle.ed_codes.specs.Spelling.{letters}
 use Rattle.ed_codes.specs.Text.{row as one_row}
 use Rattle.ed_syntax.specs.Forms.{AreRowsOf}
+use Rattle.std.proofs.lemmas.Grind.{common_steps}
 
 -- the rows of a text
 abbrev pub text_rows : Text → List ℕ
@@ -37,16 +36,7 @@ letter_below i l =
 
 -- a byte that spells a row is below 128
 row_below : (b r : ℕ) → row_of b ≡ Some r → b < 128
-row_below b r is = by_digit (nat_le 48 b && nat_le b 57) refl
-  where
-    by_digit : (t : Bool) → (nat_le 48 b && nat_le b 57) ≡ t → b < 128
-    by_digit true e = let low = leb-true b 57 (and_parts (nat_le 48 b) (nat_le b 57) e).1 in omega (arith, low)
-    by_digit false e =
-        let there : position (λ letter. letter == b) letters ≡ Some r =
-        subst (λ t. (if t then Some (b - 48) else position (λ letter. letter == b) letters) ≡ Some r) e is in
-        let found = position-Some (λ letter. letter == b) letters r 0 there in
-        let same : get_or letters r 0 ≡ b = eqb-true (get_or letters r 0) b found.1 in
-        subst (λ c. c < 128) same (letter_below r found.0)
+row_below b r is = grind (arith, common_steps)
 
 -- the bytes of a text that spell rows are such bytes, and these rows are the text's
 spelled : (q : Text) (rows : List ℕ) → map row_of q ≡ map (λ r. Some r) rows

@@ -78,10 +78,7 @@ module _ (z : Size) (lines : List Line) (p : ℕ) (rows : List ℕ) (low : 56 �
 
   rest_at : (a : ℕ) → last_at (text_words p rows) a
       ≡ or_else (last_at (placed_words w (newline_words w)) a) (last_at (placed_words p codes_in) a)
-  rest_at a =
-      last_append (placed_words p codes_in) (placed_words w (newline_words w) ++ []) a
-      ∙ ap (λ (x : List (ℕ × ℕ)). or_else (last_at x a) (last_at (placed_words p codes_in) a))
-      (append-nil (placed_words w (newline_words w)))
+  rest_at a = search (rules, last_append, append-nil)
 
   rest_places : have_places (text_words p rows) ≡ true
   rest_places = search (rules, length-map, block_places, list_all-append, append-nil)
