@@ -79,12 +79,7 @@ stand_kept ws words q d (n ∷ ns) same o = (
 stand_after : (ws : List ℕ) (q d r : ℕ) (ns : List ℕ) → length ws ≡ 1024 → q < 1024 → r < d
     → Stand ws (suc q) (suc d) ns
     → Stand (set ws q r) q d (r ∷ ns)
-stand_after ws q d r ns all low less o = (
-  get_or-set_same ws q r 0 (omega (arith, all, low)),
-  less,
-  stand_kept ws (set ws q r) (suc q) (suc d) ns
-      (λ a high. get_or-set_other ws q a r 0 (λ e. absurd (omega (arith, e, high)))) o,
-)
+stand_after ws q d r ns all low less o = search (rules, get_or-set_same, stand_kept, get_or-set_other)
 
 -- the words around it
 pub record IsAround (ws : List ℕ) : Type 0 where

@@ -1,5 +1,5 @@
 -- The outcome of a source whose program reaches its stop, as the answer of the command `run`.
-use Rattle.ed_programs.proofs.Kit.{Size, Full, Small, Settings, Line, [], ap, arith, Bool, length, List, nat_le, None}
+use Rattle.ed_programs.proofs.Kit.{rules, Size, Full, Small, Settings, Line, [], ap, arith, Bool, length, List, nat_le, None}
 use Rattle.ed_programs.proofs.Kit.{Ok, Option, subst, true, ℕ, ◌+◌, ◌≡◌, ◌≤◌, and_parts, leb-true, Text, paper, is_two}
 use Rattle.ed_programs.proofs.Kit.{program_of, fault, ReachesStop, entry_state, AnswersFromEntry, run_outcome}
 use Rattle.ed_programs.proofs.Kit.{read_is_accepted, accepted_is, each_answer_is_from_entry, filled_text, text_of_lines}
@@ -40,17 +40,9 @@ Read = Text × (Bool × (Bool × List Text))
 
 abbrev pub read_of : (two : Bool) → List Text → List Text → List (Marked two) → Read
 read_of two pieces ds marks =
-    let texts = filled_lines pieces ds in (
-      unended pieces ds,
-      (
-        is_two texts,
-        (
-          nat_le (length texts) 2000
-              && are_read two 1 texts marks,
-          texts_said 1 texts marks,
-        ),
-      ),
-    )
+    let texts = filled_lines pieces ds in
+    let fits = nat_le (length texts) 2000 && are_read two 1 texts marks in
+    (unended pieces ds, (is_two texts, (fits, texts_said 1 texts marks)))
 
 abbrev pub wanted : Bool → List Text → List Text → Read
 wanted two pieces ds = ([], (two, (true, filled_lines pieces ds)))
@@ -69,9 +61,7 @@ read_runs s two pieces ds marks {k} {orders} {at} {printed} {text} o faultless s
     let runs : SourceRuns s (text_of_lines texts) (k + 1) at (paper printed) =
     source_runs s texts (said_fine said).1 small
     (source_read two texts (ap (λ (t : Read). t.1.0) o) said (omega (arith, small))) faultless stops few in
-    subst (λ (source : Text). SourceRuns s source orders at text) (filled_is pieces ds (ap (λ (t : Read). t.0) o))
-    (subst (λ n. SourceRuns s (text_of_lines texts) n at text) count
-    (subst (λ (t : Text). SourceRuns s (text_of_lines texts) (k + 1) at t) shown runs))
+    search (rules, filled_is)
 
 -- that and that it has no fault, by one computation
 abbrev pub AreSaid : (two : Bool) → List Text → List Text → List (Marked two) → Type 0

@@ -7,6 +7,7 @@ use Rattle.ed_programs.proofs.Kit.{◌==◌, ◌∙◌, ◌∷◌, ◌≡◌, �
 use Rattle.ed_programs.proofs.Kit.{ne_eqb, not-true, nat_tests, length-map, list_all-append, value, Text, row_of}
 use Rattle.ed_programs.proofs.Kit.{is_run_byte, is_line_byte, is_number, LinePart, run, sign, form_at, row, spells}
 use Rattle.ed_programs.proofs.Kit.{parts_of, line_of, run_parts, digits, a_number, true≢false, ◌&&◌, Marked}
+use Rattle.std.proofs.lemmas.Grind.{common_steps}
 use Rattle.ed_syntax.specs.Parts.{begins_run}
 use Rattle.ed_programs.proofs.NumberLines.{is_short_label}
 use Rattle.ed_programs.proofs.RowTexts.{is_row_byte, text_rows}
@@ -62,10 +63,7 @@ text_says two k (b ∷ r) q later fits some few rows =
     let all = length-append l rest in
     let there = le-leb 1 (length q) some in
     let near = le-leb (length q) 120 (omega arith) in
-    by_parts two k (l ++ rest) (run l ∷ sign 58 ∷ run (codes "text") ∷ quoted q ∷ [])
-    (list_all-append is_line_byte l rest ∙ and_from _ _ u.0 line) (omega arith)
-    (run_parts b r rest u.1 refl ∙ (let e = quote_parts [] q [] plain.quote in rw e refl))
-    (rw (no_version, name, there, near, spelled) refl)
+    grind (arith, common_steps, by_parts, list_all-append, and_from, run_parts, quote_parts)
 
 abbrev pub text_mark : {two : Bool} (k : ℕ) (label q : Text) → 2 ≤ k → is_short_label two label ≡ true → 1 ≤ length q
     → length q ≤ 90 → list_all is_row_byte q ≡ true → Marked two

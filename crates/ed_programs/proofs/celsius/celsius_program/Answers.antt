@@ -11,11 +11,11 @@ returns c =
     let end : ℕ = c.args.end in
     let taken = c.in_ok-rows.ensures.ok in
     let is : IsList 32 ns end = is_list 32 ns end taken in
-    let gives = GivesProgram-written _ c.program_of_text.result _ (celsius_text ns end)
+    let gives = GivesProgram-written taken _ c.program_of_text.result _ (celsius_text ns end)
     (ap (λ (t : Text). filled_text celsius_pieces (t ∷ [])) c.in_ok-rows.ensures.rows) c.program_of_text.ensures
     c.format.ensures.ok in
     record {
-      is = subst (λ cause. GivesProgram cause (celsius_text ns end) c.program_of_text.result) (sym taken) gives;
+      is = gives;
       law = prints_as _ c.program_of_text.result gives
           (each_celsius ns end (all_fit ns c.type_inv.temperatures) is.all is.low is.fits);
     }
