@@ -74,15 +74,6 @@ module _ (z : Size) (m : Moment) (o : IsAround m.words) where
       (all_taken q t k left r (suc g) w last few refl less (omega arith) (omega arith) nine))))
       (omega arith)
 
-  -- the power after it is the next one; u is below 0 if it is wanted
-  moves_on : (t : ℕ) (k : Work) (v u : ℕ) (last : Option ℕ) → t < 3 → v < 131072
-      → Remains (short (to 12 (314 + suc t))) (to 12 317 * 2 ^ 18 * 2 ^ 36) (short u)
-      → Path (frame z) 5 (at m 260 v (next t k) last) [] (at m 265 u (next (suc t) (record k { scrap = v })) last)
-  moves_on t k v u last few small left =
-      let at2 = o.at2 in
-      obeys 260 v (T 300 ∷ A 242 (to 12 (314 + t)) ∷ A_low 2 (to 12 (314 + suc t)) ∷ U 242 ∷ S 311 u ∷ []) refl
-      (omega (arith, few))
-
   -- the figure q of the power t in v, with r left; s is 4096 if figures were printed before it, and else 0
   shows : (t q v r : ℕ) (k : Work) (x s u : ℕ) (last : Option ℕ) → t < 3 → power t * q + r ≡ v → r < power t → v < 10000
       → q ≤ 9 → x < 131072 → 4096 ≤ 4096 * q + s → s ≤ 4096
@@ -96,14 +87,14 @@ module _ (z : Size) (m : Moment) (o : IsAround m.words) where
       })) (Some q))
   shows t q v r k x s u last few is less small nine room some most left =
       let p = some_power t in
+      let at2 = o.at2 in
       Path-counted
       (followed (obeys 239 x (T 300 ∷ T 298 ∷ []) refl (omega arith))
       (followed (all_taken q t (record k { shown = s; scrap = x }) v r 0 q last few is less small (omega arith) nine)
-      (followed (obeys 249 (131072 - (power t - r)) (T 300 ∷ A 298 (4096 * q) ∷ A 308 (4096 * q + s)
-      ∷ S 301 (4096 * q + s - 4096) ∷ G_stays 259 ∷ O 298 q ∷ T 300 ∷ A 301 4096 ∷ T 308 ∷ E_jumps 260 ∷ []) refl
-      (omega (arith, nine, most, some)))
-      (moves_on t (record k { number = r; shown = 4096; figure = 4096 * q; scrap = 4096 * q + s - 4096 }) 0 u (Some q)
-      few (lit< tt) left)))) (omega arith)
+      (obeys 249 (131072 - (power t - r)) (T 300 ∷ A 298 (4096 * q) ∷ A 308 (4096 * q + s)
+      ∷ S 301 (4096 * q + s - 4096) ∷ G_stays 259 ∷ O 298 q ∷ T 300 ∷ A 301 4096 ∷ T 308 ∷ E_jumps 260 ∷ T 300
+      ∷ A 242 (to 12 (314 + t)) ∷ A_low 2 (to 12 (314 + suc t)) ∷ U 242 ∷ S 311 u ∷ []) refl
+      (omega (arith, few, nine, most, some))))) (omega arith)
 
   -- a space for a nought before the first figure
   leaves_out : (t : ℕ) (k : Work) (x r u : ℕ) (last : Option ℕ) → t < 3 → r < power t → x < 131072
@@ -112,13 +103,13 @@ module _ (z : Size) (m : Moment) (o : IsAround m.words) where
       (at m 265 u (next (suc t) (record k { number = r; shown = 0; figure = 0; scrap = 126976 })) (Some 20))
   leaves_out t k x r u last few less small left =
       let p = some_power t in
+      let at2 = o.at2 in
       followed (obeys 239 x (T 300 ∷ T 298 ∷ []) refl (omega arith))
       (followed (all_taken 0 t (record k { shown = 0; scrap = x }) r r 0 0 last few (omega arith) less
       (omega (arith, less, p.1)) refl (lit≤ tt))
-      (followed (obeys 249 (131072 - (power t - r)) (T 300 ∷ A 298 0 ∷ A 308 0 ∷ S 301 126976 ∷ G_jumps 259
-      ∷ O 310 20 ∷ []) refl (omega arith))
-      (moves_on t (record k { number = r; shown = 0; figure = 0; scrap = 131072 - (power t - r) }) 126976 u (Some 20)
-      few (lit< tt) left)))
+      (obeys 249 (131072 - (power t - r)) (T 300 ∷ A 298 0 ∷ A 308 0 ∷ S 301 126976 ∷ G_jumps 259 ∷ O 310 20
+      ∷ T 300 ∷ A 242 (to 12 (314 + t)) ∷ A_low 2 (to 12 (314 + suc t)) ∷ U 242 ∷ S 311 u ∷ []) refl
+      (omega (arith, few))))
 
   -- the units, and the return to cell i
   units : (i : ℕ) (k : Work) (v : ℕ) (last : Option ℕ) → i < 150 → v < 10

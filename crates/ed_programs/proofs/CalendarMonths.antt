@@ -3,8 +3,8 @@ use Rattle.ed_programs.proofs.Kit.{sum, Size, followed, [], arith, get_or, lengt
 use Rattle.ed_programs.proofs.Kit.{ℕ, ◌%◌, ◌*◌, ◌+◌, ◌-◌, ◌/◌, ◌<◌, ◌∙◌, ◌∷◌, ◌≡◌, sum_by-cons, Moment, Path, to}
 use Rattle.ed_programs.proofs.Kit.{Path-counted}
 use Rattle.std.proofs.lemmas.List.{length-take-le}
-use Rattle.ed_programs.proofs.CalendarCells.{adds_cell, at, frame, have_part, length_at, lengths, Have, Work, IsAround}
-use Rattle.ed_programs.proofs.Orders.{A, A_low, E_jumps, E_stays, S, T, obeys}
+use Rattle.ed_programs.proofs.CalendarCells.{at, cells, frame, have_part, length_at, lengths, Have, Work, IsAround}
+use Rattle.ed_programs.proofs.Orders.{A, A_by, A_low, E_jumps, E_stays, S, T, obeys}
 
 module _ (z : Size) (m : Moment) (o : IsAround m.words) where
   -- j months to go, from the month i on; the weekday is w
@@ -29,16 +29,14 @@ module _ (z : Size) (m : Moment) (o : IsAround m.words) where
       let at2 = o.at2 in
       let j : ℕ = length ls in
       let whole = sum_by-cons (λ x. x) l ls in
+      let k0 : Work = record (months_left j i w k) { scrap = 0 } in
+      let word : get_or (cells k0) (324 + i) 0 ≡ l = length_at k0 i ∙ have.0 in
       Path-counted
       (followed (obeys 45 0 (T 300 ∷ A 306 (131072 - suc j) ∷ E_stays 57 ∷ A 299 ((131072 - j) % 131072) ∷ T 306
-      ∷ A 296 w ∷ []) refl (omega (arith, ends, few, total, small)))
-      (followed (adds_cell z m 51 (324 + i) l w (w + l) (record (months_left j i w k) { scrap = 0 }) last refl refl
-      (omega (arith, ends, few)) (length_at (record (months_left j i w k) { scrap = 0 }) i ∙ have.0) refl
-      (omega (arith, total, small, whole)))
-      (followed (obeys 52 (w + l) (T 296 ∷ A 51 (to 28 (324 + i)) ∷ A_low 2 (to 28 (324 + suc i)) ∷ T 51
-      ∷ E_jumps 45 ∷ []) refl (omega (arith, ends, few)))
+      ∷ A 296 w ∷ A_by (324 + i) (w + l) ∷ T 296 ∷ A 51 (to 28 (324 + i)) ∷ A_low 2 (to 28 (324 + suc i)) ∷ T 51
+      ∷ E_jumps 45 ∷ []) refl (omega (arith, word, ends, few, total, small, whole)))
       (months ls (record k { scrap = 0 }) (suc i) e (w + l) u last have.1 (omega (arith, ends)) few
-      (omega (arith, total, whole)) small)))) (omega arith)
+      (omega (arith, total, whole)) small)) (omega arith)
 
   -- all of them, before the month i + 1, whose length is l; the weekday is then v
   pub counts_months : (i w l v : ℕ) (k : Work) (last : Option ℕ) → k.month ≡ suc i → i < 12
@@ -49,15 +47,13 @@ module _ (z : Size) (m : Moment) (o : IsAround m.words) where
       let ls : List ℕ = take i (lengths k.february) in
       let long : length ls ≡ i = length-take-le i (lengths k.february) (omega (arith, few)) in
       let at_end : Work = record (months_left 0 i v k) { takes_month = to 28 (324 + i); scrap = 0 } in
+      let word : get_or (cells at_end) (324 + i) 0 ≡ l = length_at at_end i ∙ here in
       Path-counted
       (followed (obeys 40 0 (S 295 (131072 - suc i) ∷ A 299 ((131072 - length ls) % 131072) ∷ T 306
       ∷ A 313 (to 28 (324 + 0)) ∷ T 51 ∷ []) refl (omega (arith, is, few, long)))
       (followed (months ls k 0 i w v last (have_part 0 i (lengths k.february)) (omega (arith, long)) few total small)
-      (followed (obeys 57 0 (A 51 (to 28 (324 + i)) ∷ T 59 ∷ []) refl (omega (arith, few)))
-      (followed (adds_cell z m 59 (324 + i) l 0 l at_end last refl refl (omega (arith, few))
-      (length_at at_end i ∙ here)
-      (omega arith) (omega (arith, less)))
-      (obeys 60 l (T 307 ∷ []) refl (omega arith)))))) (omega (arith, long))
+      (obeys 57 0 (A 51 (to 28 (324 + i)) ∷ T 59 ∷ A_by (324 + i) l ∷ T 307 ∷ []) refl
+      (omega (arith, word, few, less))))) (omega (arith, long))
 
   -- sevens are taken away
   sevens : (q r : ℕ) (k : Work) (last : Option ℕ) → r < 7 → 7 * q + r < 65536

@@ -1,10 +1,10 @@
 -- The name of the month in `examples/calendar.tape`.
-use Rattle.ed_programs.proofs.Kit.{Size, LD, followed, among, [], arith, Bool, get_or, List, nat_lt, Option, refl}
+use Rattle.ed_programs.proofs.Kit.{◌%◌, Size, LD, followed, among, [], arith, Bool, get_or, List, nat_lt, Option, refl}
 use Rattle.ed_programs.proofs.Kit.{subst, suc, take, ℕ, ◌*◌, ◌+◌, ◌<◌, ◌∙◌, ◌∷◌, ◌≡◌, and_parts, ltb-true, bytes_eq}
 use Rattle.ed_programs.proofs.Kit.{bytes_eq-Decides, drop, Moment, Path, ◌&&◌, name_codes, to}
-use Rattle.ed_programs.proofs.CalendarCells.{adds_cell, at, frame, have_part, sign_at, signs, Have, IsAround, Work}
+use Rattle.ed_programs.proofs.CalendarCells.{at, frame, have_part, sign_at, signs, Have, IsAround, Work}
 use Rattle.ed_programs.proofs.CalendarSigns.{in_words}
-use Rattle.ed_programs.proofs.Orders.{A, A_low, L, S, T, U, obeys}
+use Rattle.ed_programs.proofs.Orders.{A, A_by, A_low, L, S, T, U, obeys}
 
 -- a, b and c are the letters of name i: they are the signs from 39 + 3 i on
 pub record IsName (i a b c : ℕ) : Type 0 where
@@ -50,6 +50,10 @@ is_name i few =
       few = (ltb-true _ 32 codes.0, ltb-true _ 32 others.0, ltb-true _ 32 others.1);
     }
 
+-- a number that is read into the cleared accumulator
+read_is : {x u : ℕ} → x ≡ u → u < 131072 → (0 + x) % 131072 ≡ u
+read_is e l = omega (arith, e, l)
+
 module _ (z : Size) (m : Moment) (o : IsAround m.words) where
   -- the orders that read them are made, and obeyed
   pub name_taken : (i a b c : ℕ) (k : Work) (last : Option ℕ) → k.month ≡ suc i → i < 12 → IsName i a b c
@@ -66,18 +70,14 @@ module _ (z : Size) (m : Moment) (o : IsAround m.words) where
       } in
       let k1 : Work = record k0 { one = 4096 * a } in
       let k2 : Work = record k1 { two = 4096 * b } in
-      let first = name.letters k.one k.two k.three in
-      let second = name.letters (4096 * a) k.two k.three in
-      let third = name.letters (4096 * a) (4096 * b) k.three in
       followed (obeys 66 0 (A 295 (suc i) ∷ S 299 i ∷ L LD (2 * i) ∷ U 300 ∷ L LD (4 * i) ∷ A 300 (6 * i)
-      ∷ A 132 (to 28 (156 + j)) ∷ U 78 ∷ A_low 2 (to 28 (156 + suc j)) ∷ U 80 ∷ A_low 2 (to 28 (156 + suc (suc j)))
-      ∷ T 82 ∷ []) refl (omega (arith, is, few)))
-      (followed (adds_cell z m 78 (156 + j) (4096 * a) 0 (4096 * a) k0 last refl refl (omega (arith, few))
-      (sign_at k0 j (omega (arith, few)) ∙ first.0) (omega arith) (omega (arith, code_a)))
-      (followed (obeys 79 (4096 * a) (T 163 ∷ []) refl (omega arith))
-      (followed (adds_cell z m 80 (156 + suc j) (4096 * b) 0 (4096 * b) k1 last refl refl (omega (arith, few))
-      (sign_at k1 (suc j) (omega (arith, few)) ∙ second.1.0) (omega arith) (omega (arith, code_b)))
-      (followed (obeys 81 (4096 * b) (T 164 ∷ []) refl (omega arith))
-      (followed (adds_cell z m 82 (156 + suc (suc j)) (4096 * c) 0 (4096 * c) k2 last refl refl (omega (arith, few))
-      (sign_at k2 (suc (suc j)) (omega (arith, few)) ∙ third.1.1.0) (omega arith) (omega (arith, code_c)))
-      (obeys 83 (4096 * c) (T 165 ∷ []) refl (omega arith)))))))
+      ∷ A 132 (to 28 (156 + j)) ∷ U 78 ∷ A_low 2 (to 28 (156 + suc j)) ∷ U 80
+      ∷ A_low 2 (to 28 (156 + suc (suc j))) ∷ T 82 ∷ []) refl (omega (arith, is, few)))
+      (followed (obeys 78 0 (A_by (156 + j) (4096 * a) ∷ T 163 ∷ []) refl ((omega (arith, few), read_is
+      (sign_at k0 j (omega (arith, few)) ∙ (name.letters k.one k.two k.three).0) (omega (arith, code_a))), (tt, tt)))
+      (followed (obeys 80 0 (A_by (156 + suc j) (4096 * b) ∷ T 164 ∷ []) refl ((omega (arith, few), read_is
+      (sign_at k1 (suc j) (omega (arith, few)) ∙ (name.letters (4096 * a) k.two k.three).1.0)
+      (omega (arith, code_b))), (tt, tt)))
+      (obeys 82 0 (A_by (156 + suc (suc j)) (4096 * c) ∷ T 165 ∷ []) refl ((omega (arith, few), read_is
+      (sign_at k2 (suc (suc j)) (omega (arith, few)) ∙ (name.letters (4096 * a) (4096 * b) k.three).1.1.0)
+      (omega (arith, code_c))), (tt, tt)))))

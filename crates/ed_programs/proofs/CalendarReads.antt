@@ -16,15 +16,6 @@ module _ (z : Size) (m : Moment) (o : IsAround m.words) where
   abbrev reading : List ℕ → ℕ → ℕ → Work → Option ℕ → Moment
   reading tape i v k last = at (record m { tape = tape }) i v k last
 
-  -- a figure
-  figure : (k : Work) (c v : ℕ) (tape : List ℕ) (last : Option ℕ) → c < 10 → v < 1000
-      → Path (frame z) 13 (reading (c ∷ tape) 277 0 (record k { number = v }) last) []
-      (reading tape 277 0 (record k { number = 10 * v + c; row = c; scrap = 2 * v }) last)
-  figure k c v tape last few small =
-      on (I 277 (own 302) c refl refl refl)
-      (obeys 278 0 (A 302 c ∷ S 303 (131062 + c) ∷ E_stays 290 ∷ T 300 ∷ A 297 v ∷ L LD (2 * v) ∷ U 300
-      ∷ L L1F (8 * v) ∷ A 300 (10 * v) ∷ A 302 (10 * v + c) ∷ T 297 ∷ E_jumps 277 ∷ []) refl (omega arith))
-
   -- all figures that are left, and the F that ends them; with them the number is n
   figures : (ds rest : List ℕ) (k : Work) (v n : ℕ) (last : Option ℕ) → are_digits ds ≡ true → value_after v ds ≡ n
       → n < 10000
@@ -39,8 +30,12 @@ module _ (z : Size) (m : Moment) (o : IsAround m.words) where
   figures (d ∷ ds) rest k v n last are is small =
       let parts = and_parts (nat_lt d 10) (are_digits ds) are in
       let grows = value_grows (10 * v + d) ds in
-      Path-counted (followed (figure k d v (ds ++ 17 ∷ rest) last (ltb-true d 10 parts.0) (omega arith))
-      (figures ds rest (record k { row = d; scrap = 2 * v }) (10 * v + d) n last parts.1 is small)) (omega arith)
+      let few = ltb-true d 10 parts.0 in
+      Path-counted
+      (on (I 277 (own 302) d refl refl refl)
+      (followed (obeys 278 0 (A 302 d ∷ S 303 (131062 + d) ∷ E_stays 290 ∷ T 300 ∷ A 297 v ∷ L LD (2 * v) ∷ U 300
+      ∷ L L1F (8 * v) ∷ A 300 (10 * v) ∷ A 302 (10 * v + d) ∷ T 297 ∷ E_jumps 277 ∷ []) refl (omega arith))
+      (figures ds rest (record k { row = d; scrap = 2 * v }) (10 * v + d) n last parts.1 is small))) (omega arith)
 
   -- called from cell i
   pub Path-reads : (i n : ℕ) (rest : List ℕ) (k : Work) (last : Option ℕ) → i < 140 → n < 10000

@@ -1,14 +1,14 @@
 -- The source of `examples/hello.edsac` for any text: its lines, its path, and what it prints.
-use Rattle.ed_programs.proofs.Kit.{before_order, G_F, Z_F, Size, Full, Small, Z, Settings, Line, Statement, ExtentList, past}
-use Rattle.ed_programs.proofs.Kit.{even_from, extent, fault_from, along, IsIn, then, to_stop, newline_line, followed}
-use Rattle.ed_programs.proofs.Kit.{all_words, frame_at, moment_at, [], ap, arith, codes, decimal, false, get_or, length}
-use Rattle.ed_programs.proofs.Kit.{length-append, List, lit<, lit≤, map, nat_le, nat_lt, None, Option, pos, refl}
-use Rattle.ed_programs.proofs.Kit.{reverse, rules, Some, subst, sym, take, true, ℕ, ◌*◌, ◌++◌, ◌+◌, ◌-◌, ◌<◌, ◌∙◌, ◌∷◌}
-use Rattle.ed_programs.proofs.Kit.{◌≡◌, ◌≤◌, list_all, le-leb, le-ltb, leb-true, length-map, value, Text, least, row_of}
-use Rattle.ed_programs.proofs.Kit.{paper, Frame, Moment, state, Path, run, sign, row, first_counter, fault}
-use Rattle.ed_programs.proofs.Kit.{linked_words, symbols_of, counter, newline, HasRoutine, ReachesStop, entry_state}
-use Rattle.ed_programs.proofs.Kit.{said, hello_text, is_capital, of_letters, SourceRuns, Marked, to, printing}
-use Rattle.ed_programs.proofs.Kit.{Path-counted}
+use Rattle.ed_programs.proofs.Kit.{before_order, G_F, Z_F, Size, Full, Small, Z, Settings, Line, Statement, ExtentList}
+use Rattle.ed_programs.proofs.Kit.{past, even_from, extent, fault_from, along, IsIn, then, to_stop, newline_line}
+use Rattle.ed_programs.proofs.Kit.{followed, all_words, frame_at, moment_at, [], ap, arith, codes, decimal, false}
+use Rattle.ed_programs.proofs.Kit.{get_or, length, length-append, List, lit<, lit≤, map, nat_le, nat_lt, None, Option}
+use Rattle.ed_programs.proofs.Kit.{pos, refl, reverse, rules, Some, subst, sym, take, true, ℕ, ◌*◌, ◌++◌, ◌+◌, ◌-◌, ◌<◌}
+use Rattle.ed_programs.proofs.Kit.{◌∙◌, ◌∷◌, ◌≡◌, ◌≤◌, list_all, le-leb, le-ltb, leb-true, length-map, value, Text}
+use Rattle.ed_programs.proofs.Kit.{least, row_of, paper, Frame, Moment, state, Path, run, sign, row, first_counter}
+use Rattle.ed_programs.proofs.Kit.{fault, linked_words, symbols_of, counter, newline, HasRoutine, ReachesStop}
+use Rattle.ed_programs.proofs.Kit.{entry_state, said, hello_text, is_capital, of_letters, SourceRuns, Marked, to}
+use Rattle.ed_programs.proofs.Kit.{printing, Path-counted}
 use Rattle.ed_link.proofs.Kit.{resolution, earlier_fault, missing}
 use Rattle.ed_link.proofs.Extents.{one_by_one}
 use Rattle.ed_sources.proofs.Blocks.{order_at}
@@ -49,30 +49,24 @@ module _ (z : Size) (around : Moment) (all : length around.words ≡ 1024) (seco
   at i v order scrap last =
       record (before_order around (56 + i) v (cells (G_F + 2 * w) (printing e) order scrap)) { last = last }
 
-  -- a code is printed, and the order that prints it gets the next address
-  step : (c q left scrap next : ℕ) (last : Option ℕ) → get_or around.words q 0 ≡ 4096 * c → c < 32 → 69 ≤ q → q < e
-      → left < 131072 → next ≡ printing (q + 1)
-      → Path f 5 (at 0 left (printing q) scrap last) (c ∷ []) (at 5 next next left (Some c))
-  step c q left scrap next last here code from below small is =
-      let size = least z in
-      obeys 0 left (T 12 ∷ O_high q c ∷ A 1 (printing q) ∷ A_low 2 next ∷ U 1 ∷ []) refl (omega arith)
-
-  -- the loop: it ends when the order is the one after the last that prints
+  -- the loop: a code is printed, and the order that prints it gets the next address; it ends when the order is the one after the last that prints
   loop : (c : ℕ) (cs : List ℕ) (q left scrap : ℕ) (last : Option ℕ) → Spells around.words q (c ∷ cs)
       → q + length (c ∷ cs) ≡ e → 69 ≤ q → left < 131072
       → (x : ℕ × Option ℕ) × Path f (length (c ∷ cs) * 7) (at 0 left (printing q) scrap last) (c ∷ cs)
       (at 7 0 (printing e) x.0 x.1)
-  loop c [] q left scrap last o long from small = (
-    (left, Some c),
-    followed (step c q left scrap (printing e) last o.0 o.1 from (omega arith) small (omega arith))
-        (obeys 5 (printing e) (S 11 0 ∷ G_stays 0 ∷ []) refl (omega arith)),
-  )
+  loop c [] q left scrap last o long from small =
+      let size = least z in let here = o.0 in let code = o.1 in (
+        (left, Some c),
+        obeys 0 left (T 12 ∷ O_high q c ∷ A 1 (printing q) ∷ A_low 2 (printing e) ∷ U 1 ∷ S 11 0 ∷ G_stays 0 ∷ []) refl
+            (omega arith),
+      )
   loop c (d ∷ ds) q left scrap last o long from small =
       let less : ℕ = 131072 - 2 * length (d ∷ ds) in
+      let size = least z in let here = o.0 in let code = o.1 in
       let rest = loop d ds (q + 1) less left (Some c) o.2 (omega arith) (omega arith) (omega arith) in (
         rest.0,
-        Path-counted (followed (step c q left scrap (printing (q + 1)) last o.0 o.1 from (omega arith) small refl)
-            (followed (obeys 5 (printing (q + 1)) (S 11 less ∷ G_jumps 0 ∷ []) refl (omega arith)) rest.1)) (omega arith),
+        Path-counted (followed (obeys 0 left (T 12 ∷ O_high q c ∷ A 1 (printing q) ∷ A_low 2 (printing (q + 1)) ∷ U 1
+            ∷ S 11 less ∷ G_jumps 0 ∷ []) refl (omega arith)) rest.1) (omega arith),
       )
 
   stops : (has : HasRoutine f around.words newline w []) (c : ℕ) (cs : List ℕ) → Spells around.words 69 (c ∷ cs)

@@ -15,7 +15,7 @@ use Rattle.ed_programs.proofs.InterludeEnds.{program_away, program_stops, reopen
 use Rattle.ed_programs.proofs.InterludeLoads.{entered, interlude_items, interlude_reads, program_items, program_reads}
 use Rattle.ed_programs.proofs.RowTexts.{few_figures, number_spells}
 use Rattle.ed_programs.proofs.TapeRuns.{reads_spell}
-use Rattle.ed_programs.proofs.TwoParts.{TwoParts, TwoPartsRun}
+use Rattle.ed_programs.proofs.TwoParts.{TwoParts, TwoPartsRun, part}
 use Rattle.ed_programs.proofs.TwoPartsRuns.{Course, numbers_of, two_parts_run}
 
 -- ---- the number on the tape
@@ -86,9 +86,9 @@ text_reads n low high =
 -- the course in plain numbers
 abbrev interlude_parts : ℕ → TwoParts
 interlude_parts n = record {
-  interlude = record { entry = 100; cost = interlude_cost n; rows = 35 + length (decimal n); orders = 5 };
+  interlude = part 100 (interlude_cost n) (35 + length (decimal n)) 5;
   returns_for = 2 * n;
-  program = record { entry = 64; cost = 280; rows = 26; orders = 4 };
+  program = part 64 280 26 4;
   stop = 68;
 }
 

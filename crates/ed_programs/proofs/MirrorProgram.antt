@@ -1,11 +1,11 @@
 -- The program of `examples/mirror.tape`, at 64 and for any word: one loop that stores letters, and one that prints
 -- them.
-use Rattle.ed_programs.proofs.Kit.{before_order, frame_from, get_or-set_other, get_or-set_same, length-set, length-reverse, L_D, R_F, Z_F, Size}
-use Rattle.ed_programs.proofs.Kit.{I, Z, L512F, AreCodes, set, reverse-append, along, to_stop, LD, followed, []}
-use Rattle.ed_programs.proofs.Kit.{append-nil, append_assoc, arith, get_or, length, List, lit<, lit≤, Option, refl}
-use Rattle.ed_programs.proofs.Kit.{reverse, Some, suc, sym, ℕ, ◌*◌, ◌++◌, ◌+◌, ◌%◌, ◌-◌, ◌<◌, ◌∙◌, ◌∷◌, ◌≡◌, ◌≤◌}
-use Rattle.ed_programs.proofs.Kit.{least, Frame, Moment, state, on, Path, stay, own, ReachesStop}
-use Rattle.ed_programs.proofs.Kit.{printing, stop_counted, Path-counted}
+use Rattle.ed_programs.proofs.Kit.{before_order, frame_from, get_or-set_other, get_or-set_same, length-set}
+use Rattle.ed_programs.proofs.Kit.{length-reverse, L_D, R_F, Z_F, Size, I, Z, L512F, AreCodes, set, reverse-append}
+use Rattle.ed_programs.proofs.Kit.{along, to_stop, LD, followed, [], append-nil, append_assoc, arith, get_or, length}
+use Rattle.ed_programs.proofs.Kit.{List, lit<, lit≤, Option, refl, reverse, Some, suc, sym, ℕ, ◌*◌, ◌++◌, ◌+◌, ◌%◌, ◌-◌}
+use Rattle.ed_programs.proofs.Kit.{◌<◌, ◌∙◌, ◌∷◌, ◌≡◌, ◌≤◌, least, Frame, Moment, state, on, Path, stay, own}
+use Rattle.ed_programs.proofs.Kit.{ReachesStop, printing, stop_counted, Path-counted}
 use Rattle.ed_programs.proofs.Orders.{A, A_low, E_jumps, E_stays, G_jumps, G_stays, L, O_high, S, S_low, T, T_high, U}
 use Rattle.ed_programs.proofs.Orders.{obeys}
 
@@ -132,31 +132,25 @@ module _ (z : Size) (m : Moment) where
     abbrev shown : ℕ → ℕ → ℕ → Option ℕ → Moment
     shown i v order last = at i ws v (record k { print = order }) [] last
 
-    letter : (c : ℕ) (cs : List ℕ) (order : ℕ) (last : Option ℕ) → Stored ws (c ∷ cs) → length cs ≤ 9
-        → Path f 3 (shown 18 (printing (104 + suc (length cs))) order last) (c ∷ [])
-        (shown 21 (printing (104 + length cs)) (printing (104 + length cs)) (Some c))
-    letter c cs order last stored few =
-        let size = least z in let here = stored.0 in let code = stored.1 in let second = at2 in
-        obeys 18 (printing (104 + suc (length cs))) (S_low 2 (printing (104 + length cs)) ∷ U 20
-        ∷ O_high (104 + length cs) c ∷ []) refl (omega arith)
-
     -- the last letter that was printed, as the machine keeps it, and the orders that print all of them
     printed : (cs : List ℕ) (order : ℕ) (last : Option ℕ) → Stored ws cs → 1 ≤ length cs → length cs ≤ 10
         → (y : Option ℕ) × Path f (7 * length cs - 2) (shown 18 (printing (104 + length cs)) order last) cs
         (shown 26 131070 (printing 104) y)
     printed [] order last stored some few = absurd (omega arith)
-    printed (c ∷ []) order last stored some few = (
-      Some c,
-      followed (letter c [] order last stored (lit≤ tt))
-          (obeys 21 (printing 104) (S 32 131070 ∷ G_jumps 26 ∷ []) refl (omega arith)),
-    )
+    printed (c ∷ []) order last stored some few =
+        let size = least z in let here = stored.0 in let code = stored.1 in let second = at2 in (
+          Some c,
+          obeys 18 (printing 105) (S_low 2 (printing 104) ∷ U 20 ∷ O_high 104 c ∷ S 32 131070 ∷ G_jumps 26 ∷ []) refl
+              (omega arith),
+        )
     printed (c ∷ d ∷ ds) order last stored some few =
         let next : ℕ = printing (104 + suc (length ds)) in
+        let size = least z in let here = stored.0 in let code = stored.1 in let second = at2 in
         let rest = printed (d ∷ ds) next (Some c) stored.2 (omega arith) (omega arith) in (
           rest.0,
-          Path-counted (followed (letter c (d ∷ ds) order last stored (omega arith))
-              (followed (obeys 21 next (S 32 (2 * length ds) ∷ G_stays 26 ∷ A 32 next
-              ∷ E_jumps 18 ∷ []) refl (omega arith)) rest.1)) (omega arith),
+          Path-counted (followed (obeys 18 (printing (104 + suc (suc (length ds)))) (S_low 2 next ∷ U 20
+              ∷ O_high (104 + suc (length ds)) c ∷ S 32 (2 * length ds) ∷ G_stays 26 ∷ A 32 next ∷ E_jumps 18 ∷ []) refl
+              (omega arith)) rest.1) (omega arith),
         )
 
   -- ---- from the entry, with the number of letters and the letters on the tape, to the stop

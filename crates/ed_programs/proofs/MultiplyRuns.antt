@@ -3,7 +3,7 @@ use Rattle.ed_programs.proofs.Kit.{along, parameter_store, routine_after, stops_
 use Rattle.ed_programs.proofs.Kit.{ReachesStop, shows_number, Path-counted, stop_counted, all_words, moment_at, []}
 use Rattle.ed_programs.proofs.Kit.{HasRoutine, entry_state, SourceRuns, calls_own, Settings, Journey, to_stop, followed}
 use Rattle.ed_programs.proofs.Kit.{frame_at, settings, HasShown, decimal, length, Moment, newline, with_h, digits}
-use Rattle.ed_programs.proofs.Kit.{Marked, calling, Z_F, Size, Line, IsIn, arith, codes, subst, least, Frame, short}
+use Rattle.ed_programs.proofs.Kit.{Marked, calling, Z_F, Size, Line, IsIn, arith, codes, subst, Frame, short}
 use Rattle.ed_programs.proofs.Kit.{state, print, then, List, lit<, lit≤, refl, Some, true, zero, ◌++◌, Text, Path, stay}
 use Rattle.ed_programs.proofs.Kit.{link, map, suc, ℕ, ◌*◌, ◌+◌, ◌<◌, ◌∷◌, ◌≡◌, ◌≤◌, to}
 use Rattle.ed_programs.specs.Multiply.{multiply_orders, multiply_prints, multiply_text}
@@ -44,9 +44,6 @@ module _ (z : Size) (c : ℕ) where
   at m i v l r p s k h = record m { cells = cells c l r p s k h; pairs = []; acc = short v; counter = 56 + i }
 
   module _ (m : Moment) (o : IsAround m) (j r : ℕ) (low : j + 3 ≤ 40) where
-    back : 56 + (j + 2) < f.top
-    back = let size = least z in omega arith
-
     -- the loop of `times`: the one factor is counted down to 0, and each time the other is added to what there is
     loop : (l p q k h : ℕ) → p + l * r ≡ q → l < 65536 → q < 65536
         → Path f (l * 9) (at m 17 0 l r p 0 k h) [] (at m 17 0 0 r q 0 k h)

@@ -1,5 +1,5 @@
 -- A list of orders as a path: the words that they are by one computation, and their numbers by one proof.
-use Rattle.ed_programs.proofs.Kit.{[], ap, arith, Bool, drop, early, false, get_or, inr, length, List, nat_eq, nat_lt}
+use Rattle.ed_programs.proofs.Kit.{[], ap, arith, Bool, drop, early, false, get_or, inr, length, lt-ltb, List, nat_eq, nat_lt}
 use Rattle.ed_programs.proofs.Kit.{on, Option, out, own, Path, prints, refl, set, short, Some, stay, suc, true, ℕ, ◌%◌, ◌&&◌}
 use Rattle.ed_programs.proofs.Kit.{any, Frame, Moment, Remains, ◌*◌, ◌++◌, ◌+◌, ◌/◌, ◌<◌, ◌^◌, ◌∷◌, ◌≡◌, ◌≤◌}
 use Rattle.ed_machine.proofs.Kit.Places.{Place}
@@ -7,14 +7,16 @@ use Rattle.ed_machine.proofs.Kit.Shifts.{IsShift}
 use Rattle.ed_machine.proofs.Kit.Moves as moves
 
 -- an order, by the cell that it names and the number that it leaves in the accumulator, or the code that it prints.
--- `low` and `high` name a location below 56 and one after the piece, and E_by jumps to a cell that is known by a proof
+-- `low` and `high` name a location below 56 and one after the piece, and `by` a cell that is the piece's by a proof
 pub data Order : Type 0 where
   A : ℕ → ℕ → Order
+  A_by : ℕ → ℕ → Order
   S : ℕ → ℕ → Order
   T : ℕ → Order
   U : ℕ → Order
   L : {w p : ℕ} → IsShift 25 w p → ℕ → Order
   O : ℕ → ℕ → Order
+  O_by : ℕ → ℕ → Order
   O_high : ℕ → ℕ → Order
   E_jumps : ℕ → Order
   E_stays : ℕ → Order
@@ -38,6 +40,7 @@ record Effect : Type 1 where
 
 abbrev code_of : Order → List ℕ
 code_of (O j c) = c ∷ []
+code_of (O_by j c) = c ∷ []
 code_of (O_high q c) = c ∷ []
 code_of o = []
 
@@ -94,6 +97,12 @@ module _ {n h : ℕ} (f : Frame n h) where
     effect (U j) = record (cell 7 j) { rest = record r { cells = set r.cells j v } }
     effect (L {w = w} {p = p} s u) = record (place 0 0) { word = w; fine = v * 2 ^ p % 131072 ≡ u; number = u }
     effect (O j c) = record (cell 9 j) { fine = get_or r.cells j 0 / 4096 ≡ c; rest = record r { last = Some c } }
+    effect (A_by j u) =
+        record (place 28 (f.base + j)) { fine = (j < n) × IsSum (get_or r.cells j 0) u; number = u }
+    effect (O_by j c) = record (place 9 (f.base + j)) {
+      fine = (j < n) × (get_or r.cells j 0 / 4096 ≡ c);
+      rest = record r { last = Some c };
+    }
     effect (E_jumps j) = record (cell 3 j) { fine = v < 65536; cell = j }
     effect (E_stays j) = record (cell 3 j) { fine = 65536 ≤ v }
     effect (E_by j) = record (place 3 (f.base + j)) { fine = (j < n) × (v < 65536); cell = j }
@@ -116,6 +125,10 @@ module _ {n h : ℕ} (f : Frame n h) where
         → ◌≡◌ {A = ℕ × (ℕ × (Bool × Bool))} (f.base + i, x) (f.base + i, y)
     stands e = λ k. (f.base + i, e k)
 
+    inside : {x y : ℕ × (Bool × Bool)} (j : ℕ) → x ≡ y → j < n → ◌≡◌ {A = ℕ × (ℕ × (Bool × Bool))}
+        (f.base + i, (x.0, (x.1.0, nat_lt j n))) (f.base + i, (y.0, (y.1.0, true)))
+    inside j e l = λ k. (f.base + i, ((e k).0, ((e k).1.0, lt-ltb j n l k)))
+
     abbrev low : (q : ℕ) → IsLow q → Place f (before i v r)
     low q o = out q (early q o.0 o.1 o.2)
 
@@ -135,6 +148,8 @@ module _ {n h : ℕ} (f : Frame n h) where
     one (U j) e o p = on (moves.U i (own j) v (stands e) refl) p
     one (L {p = p} s u) e o q = on (moves.L i s (short u) (stands e) (shifted v p u o)) q
     one (O j c) e o p = prints (moves.O i (own j) c (stands e) (omega (arith, o))) p
+    one (A_by j u) e o p = on (moves.A i (own j) (short u) (inside j e o.0) (sum_is v (get_or r.cells j 0) u o.1)) p
+    one (O_by j c) e o p = prints (moves.O i (own j) c (inside j e o.0) (omega (arith, o.1))) p
     one (E_jumps j) e o p = on (moves.E_jumps i (own j) (stands e) (omega (arith, o))) p
     one (E_stays j) e o p = on (moves.E_stays i (own j) (stands e) (omega (arith, o))) p
     one (E_by j) e o p =

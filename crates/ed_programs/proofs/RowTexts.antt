@@ -1,10 +1,9 @@
 -- Texts whose bytes spell rows of tape.
 use Rattle.ed_programs.proofs.Kit.{few_bytes, bytes_eq, bytes_eq-Decides, among, arith, none, Spells, are, decimal_is}
-use Rattle.ed_programs.proofs.Kit.{row_bytes, rows_are, written, [], ap, Bool, decimal, get_or}
+use Rattle.ed_programs.proofs.Kit.{row_bytes, rows_are, written, [], ap, Bool, decimal}
 use Rattle.ed_programs.proofs.Kit.{length, List, map, nat_lt, None, Option, refl, Some, subst, suc, true, ℕ}
 use Rattle.ed_programs.proofs.Kit.{◌%◌, ◌<◌, ◌∙◌, ◌∷◌, ◌≡◌, ◌≤◌, list_all, and_parts}
-use Rattle.ed_programs.proofs.Kit.{lt-ltb, ltb-true, Text, row_of, row, spells, digits, ◌&&◌}
-use Rattle.ed_codes.specs.Spelling.{letters}
+use Rattle.ed_programs.proofs.Kit.{lt-ltb, Text, row_of, row, spells, digits, ◌&&◌}
 use Rattle.ed_codes.specs.Text.{row as one_row}
 use Rattle.ed_syntax.specs.Forms.{AreRowsOf}
 use Rattle.std.proofs.lemmas.Grind.{common_steps}
@@ -27,12 +26,6 @@ text_spells (b ∷ q) h =
 -- a byte of ASCII that spells a row
 abbrev pub is_row_byte : ℕ → Bool
 is_row_byte b = nat_lt b 128 && spells (row_of b)
-
--- a letter of the tape is below 128
-letter_below : (i : ℕ) → i < length letters → get_or letters i 0 < 128
-letter_below i l =
-    ltb-true (get_or letters i 0) 128
-    (among (λ i. nat_lt (get_or letters i 0) 128) 0 (length letters) i refl (omega arith) (omega arith))
 
 -- a byte that spells a row is below 128
 row_below : (b r : ℕ) → row_of b ≡ Some r → b < 128

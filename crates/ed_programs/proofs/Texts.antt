@@ -1,5 +1,5 @@
 -- What a call that writes a program's text answers.
-use Rattle.std.proofs.Common.{◌≡◌, ℕ, Some, None, Ok, string_bytes, Option, sym, refl, ◌∙◌, subst, inl, Err, Result}
+use Rattle.std.proofs.Common.{◌≡◌, ℕ, Some, None, Ok, string_bytes, Option, sym, ◌∙◌, subst, inl, Err, Result}
 use Rattle.std.proofs.Common.{IfOk, IfSome, String}
 use Rattle.std.specs.declared.alloc.AllocError.{AllocError}
 use Rattle.std.specs.declared.alloc.Global.{Global}

@@ -23,7 +23,7 @@ use Rattle.ed_orders.specs.declared.kind.Kind.{Kind}
 use Rattle.ed_interlude.specs.Parts.{IsUnderWay, IsReportOfTape, program_end}
 use Rattle.ed_interlude.specs.declared.tape.PartsEnd.TheVariants.{Ended}
 use Rattle.ed_interlude.proofs.Resumed.{leads_back}
-use Rattle.ed_programs.proofs.TwoParts.{TwoParts, TwoPartsRun, orders_to_program, orders_to_return, orders_to_stop}
+use Rattle.ed_programs.proofs.TwoParts.{TwoParts, TwoPartsRun, orders_to_program, orders_to_return, orders_to_stop, part}
 use Rattle.ed_programs.proofs.TwoParts.{two_parts_lines, two_parts_note}
 use Rattle.ed_machine.proofs.Kit.Paths as paths
 
@@ -131,19 +131,9 @@ pub record Course (z : Size) (tape_rows : List ℕ) (at : ℕ) (printed : List �
 abbrev pub numbers_of : {z : Size} {tape_rows : List ℕ} {at : ℕ} {printed : List ℕ} → Course z tape_rows at printed
     → TwoParts
 numbers_of {at = at} c = record {
-  interlude = record {
-    entry = c.interlude.at;
-    cost = c.interlude.cost;
-    rows = c.interlude.rows;
-    orders = c.orders;
-  };
+  interlude = part c.interlude.at c.interlude.cost c.interlude.rows c.orders;
   returns_for = address (directive c.back);
-  program = record {
-    entry = c.program.at;
-    cost = c.program.cost;
-    rows = c.program.rows;
-    orders = c.orders_on + 1;
-  };
+  program = part c.program.at c.program.cost c.program.rows (c.orders_on + 1);
   stop = at;
 }
 

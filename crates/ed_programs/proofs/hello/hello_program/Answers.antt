@@ -1,5 +1,5 @@
-use Rattle.ed_programs.proofs.Kit.{[], ap, arith, decimal, length, rules, subst, suc, sym, ◌+◌, ◌∷◌, ◌≡◌, Text}
-use Rattle.ed_programs.proofs.Kit.{filled_text, hello_text, of_letters, GivesProgram, prints_as}
+use Rattle.ed_programs.proofs.Kit.{[], ap, arith, decimal, length, rules, suc, ◌+◌, ◌∷◌, ◌≡◌, Text}
+use Rattle.ed_programs.proofs.Kit.{filled_text, hello_text, of_letters, prints_as}
 use Rattle.ed_programs.proofs.Capitals.{AreLetters, are_letters}
 use Rattle.ed_programs.proofs.HelloRuns.{each_name, each_text, hello_pieces}
 use Rattle.ed_programs.proofs.Texts.{GivesProgram-written}

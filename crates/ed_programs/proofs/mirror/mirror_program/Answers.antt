@@ -1,4 +1,4 @@
-use Rattle.ed_programs.proofs.Kit.{refl, rules, subst, sym, mirror_text, GivesProgram}
+use Rattle.ed_programs.proofs.Kit.{refl, rules, mirror_text}
 use Rattle.ed_programs.proofs.Capitals.{AreLetters, are_letters}
 use Rattle.ed_programs.proofs.MirrorRuns.{each_word, text_is}
 use Rattle.ed_programs.proofs.TapeRuns.{tape_prints_of}
