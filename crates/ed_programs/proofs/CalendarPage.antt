@@ -2,7 +2,7 @@
 use Rattle.ed_programs.proofs.Kit.{sum, Size, followed, [], arith, false, inl, inr, List, lit<, map, Option, refl, Some}
 use Rattle.ed_programs.proofs.Kit.{suc, zero, ℕ, ◌%◌, ◌*◌, ◌+◌, ◌-◌, ◌/◌, ◌<◌, ◌==◌, ◌∷◌, ◌≡◌, ◌≤◌, cases_lt, nat_tests}
 use Rattle.ed_programs.proofs.Kit.{Moment, Path, replicate, day_orders, day_codes, days_codes, sum_by-cons, to}
-use Rattle.ed_programs.proofs.Kit.{Path-counted, calls_own}
+use Rattle.ed_programs.proofs.Kit.{Path-counted}
 use Rattle.ed_programs.proofs.CalendarCells.{at, frame, IsAround, Work}
 use Rattle.ed_programs.proofs.CalendarCodes.{days_from}
 use Rattle.ed_programs.proofs.CalendarFigures.{left_by_two, prints_two}
@@ -68,9 +68,8 @@ module _ (z : Size) (m : Moment) (o : IsAround m.words) where
         let some = enough (suc d) in
         Path-counted
         (followed (obeys 110 v (T 300 ∷ A 322 d ∷ A 299 (suc d) ∷ U 322 ∷ U 297
-        ∷ S 307 ((131072 + suc d - l) % 131072) ∷ S 299 (131072 - (l - d)) ∷ E_stays 131 ∷ O 310 20 ∷ T 300 ∷ []) refl
-        (omega arith))
-        (calls_own 120 234 refl refl refl (lit< tt) shown)) (omega arith)
+        ∷ S 307 ((131072 + suc d - l) % 131072) ∷ S 299 (131072 - (l - d)) ∷ E_stays 131 ∷ O 310 20 ∷ T 300
+        ∷ A 120 (to 28 120) ∷ G_jumps 234 ∷ []) refl (omega arith)) shown) (omega arith)
 
     -- the n days from day suc d on, with b days of the week before it
     pub HasEnded-days : (n : ℕ) (k : Work) (d b v : ℕ) (last : Option ℕ) → d + n ≡ l → b < 7 → v < 131072

@@ -1,10 +1,10 @@
 -- The program of `examples/decimals.edsac` from its entry to its stop: a decimal, a group, a line.
-use Rattle.ed_programs.proofs.Kit.{before_order, div-lt_iff_lt-mul, get_or-set_other, get_or-set_same, length-set, mod-lt}
-use Rattle.ed_programs.proofs.Kit.{div-add-mod, A_F, L_D, T_F, Z_F, Size, Z, L1F, L512F, Remains, set, along, to_stop}
-use Rattle.ed_programs.proofs.Kit.{LD, followed, frame_at, [], ap, append-nil, arith, get_or, length, List, lit<, lit≤}
-use Rattle.ed_programs.proofs.Kit.{Option, refl, rules, Some, subst, suc, sym, zero, ℕ, ◌%◌, ◌*◌, ◌+◌, ◌-◌, ◌/◌, ◌<◌}
-use Rattle.ed_programs.proofs.Kit.{◌^◌, ◌∙◌, ◌∷◌, ◌≡◌, ◌≤◌, least, Frame, Moment, short, state, Path, stay, ReachesStop}
-use Rattle.ed_programs.proofs.Kit.{replicate, carries, tenfold, to, Path-counted, calls_own}
+use Rattle.ed_programs.proofs.Kit.{before_order, div-lt_iff_lt-mul, get_or-set_other, get_or-set_same, length-set}
+use Rattle.ed_programs.proofs.Kit.{mod-lt, div-add-mod, A_F, L_D, T_F, Z_F, Size, Z, L1F, L512F, Remains, set, along}
+use Rattle.ed_programs.proofs.Kit.{to_stop, LD, followed, frame_at, [], ap, append-nil, arith, get_or, length, List}
+use Rattle.ed_programs.proofs.Kit.{lit<, lit≤, Option, refl, rules, Some, subst, suc, sym, zero, ℕ, ◌%◌, ◌*◌, ◌+◌, ◌-◌}
+use Rattle.ed_programs.proofs.Kit.{◌/◌, ◌<◌, ◌^◌, ◌∙◌, ◌∷◌, ◌≡◌, ◌≤◌, least, Frame, Moment, short, state, Path, stay}
+use Rattle.ed_programs.proofs.Kit.{ReachesStop, replicate, carries, tenfold, to, Path-counted}
 use Rattle.ed_programs.proofs.DecimalsPass.{after, after_long, line_codes, line_left, line_long, line_orders, page_left}
 use Rattle.ed_programs.proofs.DecimalsPass.{page_codes, page_orders, tenfold_long, units}
 use Rattle.ed_programs.proofs.Orders.{A, A_high, A_low, E_by, E_jumps, E_stays, G_jumps, G_stays, L, O, S, S_low, T}
@@ -330,10 +330,9 @@ module _ (z : Size) (m : Moment) where
       → Path f 12 (at 70 ws 0 k (record c { group = 131062; line = 0; lines = lines }) last) (18 ∷ 24 ∷ [])
       (at 77 ws next (record k { link = to 3 74 }) (record c { group = 131062; line = 131067; lines = next }) (Some 24))
   turns_over ws k c last lines next o low sum =
-      followed (obeys 70 0 (S 89 131067 ∷ T 85 ∷ []) refl (omega arith))
-      (calls_own 72 100 refl refl refl (lit< tt)
+      followed (obeys 70 0 (S 89 131067 ∷ T 85 ∷ A 72 (to 28 72) ∷ G_jumps 100 ∷ []) refl (omega arith))
       (followed (new_line ws k (record c { group = 131062; line = 131067; lines = lines }) last 72 o (lit< tt))
-      (obeys 74 0 (A 86 lines ∷ A 87 next ∷ U 86 ∷ []) refl (omega arith))))
+      (obeys 74 0 (A 86 lines ∷ A 87 next ∷ U 86 ∷ []) refl (omega arith)))
 
   -- the lines that are left
   pages : (j : ℕ) (ns : List ℕ) (ws : List ℕ) (k : Work) (last : Option ℕ) (v : ℕ) → IsAround ws → Stand ws 163 2 ns
@@ -422,9 +421,8 @@ module _ (z : Size) (m : Moment) where
       let filled = fills 73 ws (record loaded { link = to 3 5 }) none_done (Some 24) 163 0 o (lit≤ tt) refl (lit< tt) in
       let begins : Path f 602 (at 0 ws 0 loaded none_done last) (11 ∷ 2 ∷ 23 ∷ 18 ∷ 24 ∷ [])
       (at 13 filled.words 0 filled.work none_done (Some 24)) =
-      followed (obeys 0 0 (O 79 11 ∷ O 80 2 ∷ O 81 23 ∷ []) refl (omega arith))
-      (calls_own 3 100 refl refl refl (lit< tt)
-      (followed (new_line ws loaded none_done (Some 23) 3 o (lit< tt)) filled.path)) in
+      followed (obeys 0 0 (O 79 11 ∷ O 80 2 ∷ O 81 23 ∷ A 3 (to 28 3) ∷ G_jumps 100 ∷ []) refl (omega arith))
+      (followed (new_line ws loaded none_done (Some 23) 3 o (lit< tt)) filled.path) in
       let there : Stand filled.words 163 2 ns = subst (λ (xs : List ℕ). Stand filled.words 163 2 xs) is
       (filled.ones 2 (lit≤ tt)) in
       let long : length ns ≡ 74 = ap (λ (xs : List ℕ). length xs) (sym is) in

@@ -54,10 +54,7 @@ module _ {n h : ℕ} {f : Frame n h} (r : Moment) (o : IsIn f (flat r)) where
 
     -- a cell of the piece is outside the routine, and holds its number
     outside : (done j : ℕ) → j < n → IsOutside divide w (f.base + j) (t done)
-    outside done j l = record {
-      below = let u = f.under in let v = f.fits in omega arith;
-      beside = elim has.apart [ inl b ↦ inr (omega arith) | inr b ↦ inl (omega arith) ];
-    }
+    outside done j l = search rules
 
     own_is : (done j v : ℕ) → j < n → get_or r.cells j 0 ≡ v → short_at (t done).store (f.base + j) ≡ v
     own_is done j v l is = let long = o.own in get_own 0 r.words f.base r.cells j (omega arith) ∙ is

@@ -12,6 +12,8 @@ use Rattle.ed_programs.proofs.FractionProgram.{Given, IsAround, Turned, Work, af
 use Rattle.ed_programs.proofs.FractionProgram.{turn}
 use Rattle.ed_programs.proofs.NumberShown.{then_on}
 use Rattle.ed_programs.proofs.Orders.{A, G_jumps, S, T, obeys}
+use Rattle.std.proofs.lemmas.Grind.{common_steps}
+use Rattle.std.proofs.Common.{rules}
 use Rattle.ed_machine.proofs.Kit.Moves as moves
 
 -- ---- division as on paper: the figure and what is left, by those of the place before
@@ -24,11 +26,7 @@ module _ (u l n : ℕ) (some : 0 < l) where
   left = before % l
 
   next : 10 ^ (n + 1) * u ≡ 10 * left + l * (10 * (before / l))
-  next =
-      let e : n + 1 ≡ suc n = omega arith in
-      let is = div-add-mod before l in
-      let swap : l * (10 * (before / l)) ≡ 10 * (l * (before / l)) = omega arith in
-      ap (λ k. 10 ^ k * u) e ∙ ap (λ x. x * u) (pow-succ' 10 n) ∙ mul_assoc 10 (10 ^ n) u ∙ omega (arith, is, swap)
+  next = grind (arith, common_steps, div-add-mod, pow-succ', mul_assoc)
 
   pub digit_small : 10 * left / l < 10
   digit_small = let low = mod-lt before some in (div-lt_iff_lt-mul {k = l} {x = 10 * left} {y = 10} some).1
@@ -79,9 +77,7 @@ all_shown u l n w small =
 
 pub few_codes : (u l n : ℕ) → length (figure_codes u l n) ≤ 6 * n
 few_codes u l zero = omega arith
-few_codes u l (suc n) =
-    let x : ℕ = figure u l (n + 1) in
-    omega (arith, length-append (figure_codes u l n) (11 ∷ digits x), few_digits x, few_codes u l n)
+few_codes u l (suc n) = search (rules, length-append, few_digits, few_codes u l n)
 
 -- ---- the loop
 

@@ -2,9 +2,9 @@
 use Rattle.ed_programs.proofs.Kit.{before_order, G_F, Z_F, Size, Full, Small, Z, Settings, Line, Statement, ExtentList}
 use Rattle.ed_programs.proofs.Kit.{past, even_from, extent, fault_from, along, IsIn, then, to_stop, newline_line}
 use Rattle.ed_programs.proofs.Kit.{followed, all_words, frame_at, moment_at, [], ap, arith, codes, decimal, false}
-use Rattle.ed_programs.proofs.Kit.{get_or, length, length-append, List, lit<, lit≤, map, nat_le, nat_lt, None, Option}
-use Rattle.ed_programs.proofs.Kit.{pos, refl, reverse, rules, Some, subst, sym, take, true, ℕ, ◌*◌, ◌++◌, ◌+◌, ◌-◌, ◌<◌}
-use Rattle.ed_programs.proofs.Kit.{◌∙◌, ◌∷◌, ◌≡◌, ◌≤◌, list_all, le-leb, le-ltb, leb-true, length-map, value, Text}
+use Rattle.ed_programs.proofs.Kit.{get_or, length, length-append, List, lit<, lit≤, map, nat_lt, None, Option}
+use Rattle.ed_programs.proofs.Kit.{pos, refl, reverse, rules, Some, subst, take, true, ℕ, ◌*◌, ◌++◌, ◌+◌, ◌-◌, ◌<◌}
+use Rattle.ed_programs.proofs.Kit.{◌∙◌, ◌∷◌, ◌≡◌, ◌≤◌, list_all, le-ltb, leb-true, length-map, Text}
 use Rattle.ed_programs.proofs.Kit.{least, row_of, paper, Frame, Moment, state, Path, run, sign, row, first_counter}
 use Rattle.ed_programs.proofs.Kit.{fault, linked_words, symbols_of, counter, newline, HasRoutine, ReachesStop}
 use Rattle.ed_programs.proofs.Kit.{entry_state, said, hello_text, is_capital, of_letters, SourceRuns, Marked, to}
@@ -24,6 +24,7 @@ use Rattle.ed_programs.proofs.TextPrograms.{Spells, before_text, last_lines, new
 use Rattle.ed_syntax.specs.declared.program.Operand.TheVariants as operands
 use Rattle.ed_syntax.specs.declared.program.Statement.TheVariants as statements
 use Rattle.ed_programs.proofs.Orders.{A, A_low, G_jumps, G_stays, O_high, S, T, U, obeys}
+use Rattle.std.proofs.lemmas.Grind.{common_steps}
 
 -- the pieces of the source, and between them the number of rows and the bytes that spell them
 abbrev pub hello_pieces : List Text
@@ -111,18 +112,7 @@ number_line : (n m : ℕ) → m ≡ n → n ≤ 1023
     → IsAround true 16 (codes "_last: O letters+") (codes " F  ; the order behind the last letter")
     (run (codes "_last") ∷ sign 58 ∷ sign 79 ∷ run (codes "letters") ∷ sign 43 ∷ []) (sign 70 ∷ []) n
     (Some (codes "_last")) (behind m)
-number_line n m same few = record {
-  plain = λ t h. h;
-  tail_plain = refl;
-  short = lit≤ tt;
-  ends = refl;
-  tail_parts = refl;
-  parts = λ t ps h. rw h refl;
-  form = λ bytes number is.
-      let near : nat_le (value bytes) 1023 ≡ true = le-leb (value bytes) 1023 (omega (arith, is, few)) in
-      let e = is ∙ sym same in
-      rw (number, near, e) refl;
-}
+number_line n m same few = grind (arith, common_steps)
 
 -- where they stand, and that they have no fault
 module _ (rows : List ℕ) (few : length rows ≤ 41) where

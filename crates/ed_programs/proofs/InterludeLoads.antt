@@ -66,13 +66,9 @@ module _ (words : List ℕ) where
   pub laid_at : (q : ℕ) (ws : List ℕ) (placed : List (ℕ × ℕ)) (i : ℕ) → i < length ws → q + length ws ≤ length words
       → get_or (over (laid q ws placed) words) (q + i) 0 ≡ get_or ws i 0
   laid_at q [] placed i l fits = absurd (omega arith)
-  laid_at q (w ∷ ws) placed zero l fits =
-      let e : q + 0 ≡ q = omega arith in
-      rw e (laid_other (q + 1) ws ((q, w) ∷ placed) q (λ i l. omega arith)
-      ∙ get_or-set_same (over placed words) q w 0 (omega (arith, length-over placed words)))
+  laid_at q (w ∷ ws) placed zero l fits = search (rules, laid_other, get_or-set_same, length-over)
   laid_at q (w ∷ ws) placed (suc i) l fits =
-      let e : q + suc i ≡ q + 1 + i = omega arith in
-      rw e (laid_at (q + 1) ws ((q, w) ∷ placed) i (omega arith) (omega arith))
+      search (rules, laid_at (q + 1) ws ((q, w) ∷ placed) i (omega arith) (omega arith))
 
 -- ---- the interlude
 

@@ -112,6 +112,7 @@ pub use Rattle.ed_programs.proofs.ProgramEntry.{routine_after, stops_from_entry}
 pub use Rattle.ed_programs.proofs.SourceLines.{Marked}
 pub use Rattle.ed_programs.proofs.Texts.{prints_as}
 use Rattle.ed_sources.proofs.AtEntry.{has_image}
+use Rattle.std.proofs.lemmas.Grind.{common_steps}
 
 -- the order with a function that names cell j of a program at 56
 abbrev pub to : ℕ → ℕ → ℕ
@@ -150,19 +151,6 @@ journey_counted {f = f} {r} {t} {codes} journey e = subst (λ k. Journey f k r c
 pub stop_counted : {a b at : ℕ} {s : State} {codes : List ℕ} → ReachesStop a s codes at → a ≡ b
     → ReachesStop b s codes at
 stop_counted {at = at} {s} {codes} stop e = subst (λ k. ReachesStop k s codes at) e stop
-
--- a call of a routine of the program's own, from cell i: A i, G j
-pub calls_own : {n k : ℕ} {f : Frame n 0} {r t : Moment} {codes : List ℕ} (i j : ℕ) → r.acc ≡ 0
-    → Reads {f = f} {r = r} i 28 (own i)
-    → Jumps {f = f} {r = record r { acc = short (A_F + 2 * (f.base + i)); counter = f.base + (i + 1) }} (i + 1) 27
-    (own j)
-    → f.base + i < 1024
-    → Path f k (record r { acc = short (A_F + 2 * (f.base + i)); counter = f.base + j }) codes t
-    → Path f (suc (suc k)) r codes t
-calls_own {f = f} {r} i j clear first second low rest =
-    let word : get_or r.cells i 0 ≡ A_F + 2 * (f.base + i) = ap (λ x. x.1.0) first in
-    on (A i (own i) (short (A_F + 2 * (f.base + i))) first (omega arith))
-    (on (G_jumps (i + 1) (own j) second (omega arith)) rest)
 
 -- `read` and `print` beside a program, for its cells j and i, and what `read` leaves of them
 pub record HasPair {n : ℕ} (f : Frame n 0) (words : List ℕ) (r p j i : ℕ) : Type 0 where
@@ -216,20 +204,7 @@ three_read {w = w} read_one three =
 
 pub three_shown : {n i j r p w v : ℕ} {f : Frame n 0} {m : Moment} {o : IsIn f m} (shown : HasShown o i j p w v)
     → HasThree f m.words r p w j → HasThree f shown.words r p w j
-three_shown {r = r} shown three =
-    let apart = three.both.apart in
-    let beyond = three.beyond in
-    record {
-      both = record {
-        all = shown.still_in.all;
-        reads = shown.has three.both.reads (λ k l free. elsewhere (r + k) (inl (omega arith)))
-            (λ k l free. elsewhere (r + k) (inl (omega arith)));
-        prints = shown.prints;
-        apart = apart;
-      };
-      lines = shown.lines;
-      beyond = beyond;
-    }
+three_shown shown three = grind (arith, common_steps)
 
 pub three_at_entry : (z : Size) (lines : List Line) (n : ℕ) (few : n ≤ 456) (r p w j : ℕ)
     → (have_places (placed lines) && (has_image (placed lines) read r (with_h (56 + j))

@@ -1,11 +1,11 @@
 -- The source of `examples/answer5.edsac` for any numbers: its path, and what it prints.
 use Rattle.ed_programs.proofs.Kit.{along, parameter_store, routine_after, stops_from_entry, Z, print_orders}
 use Rattle.ed_programs.proofs.Kit.{ReachesStop, shows_number, Path-counted, stop_counted, all_words, moment_at, []}
-use Rattle.ed_programs.proofs.Kit.{HasRoutine, entry_state, SourceRuns, calls_own, Settings, Journey, to_stop, followed}
-use Rattle.ed_programs.proofs.Kit.{frame_at, settings, HasShown, decimal, length, Moment, newline, with_h, digits}
-use Rattle.ed_programs.proofs.Kit.{Marked, calling, Z_F, Size, Line, IsIn, arith, codes, subst, Frame, short}
-use Rattle.ed_programs.proofs.Kit.{state, print, then, List, lit<, lit≤, refl, Some, true, zero, ◌++◌, Text, Path, stay}
-use Rattle.ed_programs.proofs.Kit.{link, map, suc, ℕ, ◌*◌, ◌+◌, ◌<◌, ◌∷◌, ◌≡◌, ◌≤◌, to}
+use Rattle.ed_programs.proofs.Kit.{HasRoutine, entry_state, SourceRuns, Settings, Journey, to_stop, followed, frame_at}
+use Rattle.ed_programs.proofs.Kit.{settings, HasShown, decimal, length, Moment, newline, with_h, digits, Marked}
+use Rattle.ed_programs.proofs.Kit.{calling, Z_F, Size, Line, IsIn, arith, codes, subst, Frame, short, state, print}
+use Rattle.ed_programs.proofs.Kit.{then, List, lit<, lit≤, refl, Some, true, zero, ◌++◌, Text, Path, stay, link, map}
+use Rattle.ed_programs.proofs.Kit.{suc, ℕ, ◌*◌, ◌+◌, ◌<◌, ◌∷◌, ◌≡◌, ◌≤◌, to}
 use Rattle.ed_programs.specs.Multiply.{multiply_orders, multiply_prints, multiply_text}
 use Rattle.ed_programs.specs.declared.multiply.TheConstants.{MULTIPLY}
 use Rattle.ed_programs.proofs.NumberLines.{word_mark}
@@ -98,13 +98,13 @@ module _ (z : Size) (c : ℕ) where
       let now : Moment = one.after in
       let two = show now one.is 9 c (lit≤ tt) 0 (c * c) 131071 (link 7) (link 2) small_c in
       stop_counted (to_stop
-      (then (along (calls_own 0 13 refl refl refl (lit< tt)
-      (followed (times m o 0 b (lit≤ tt) a 0 0 0 0 few small) (calls_own 2 32 refl refl refl (lit< tt) stay))))
+      (then (along (followed (obeys 0 0 (A 0 (to 28 0) ∷ G_jumps 13 ∷ []) refl (omega arith))
+      (followed (times m o 0 b (lit≤ tt) a 0 0 0 0 few small)
+      (obeys 2 0 (A 2 (to 28 2) ∷ G_jumps 32 ∷ []) refl (omega arith)))))
       (then one.journey
-      (then (along (followed (obeys 4 0 (A 12 c ∷ U 27 ∷ T 28 ∷ []) refl (omega arith))
-      (calls_own 7 13 refl refl refl (lit< tt)
+      (then (along (followed (obeys 4 0 (A 12 c ∷ U 27 ∷ T 28 ∷ A 7 (to 28 7) ∷ G_jumps 13 ∷ []) refl (omega arith))
       (followed (times now one.is 7 c (lit≤ tt) c (a * b) 131071 (link 0) (link 2) few_c small_c)
-      (calls_own 9 32 refl refl refl (lit< tt) stay)))))
+      (obeys 9 0 (A 9 (to 28 9) ∷ G_jumps 32 ∷ []) refl (omega arith)))))
       (then two.journey (along stay)))))
       (Z 11 Z_F refl refl) done) (omega arith)
 

@@ -1,5 +1,5 @@
 -- Texts whose bytes spell rows of tape.
-use Rattle.ed_programs.proofs.Kit.{few_bytes, bytes_eq, bytes_eq-Decides, among, arith, none, Spells, are, decimal_is}
+use Rattle.ed_programs.proofs.Kit.{few_bytes, arith, none, Spells, are, decimal_is}
 use Rattle.ed_programs.proofs.Kit.{row_bytes, rows_are, written, [], ap, Bool, decimal}
 use Rattle.ed_programs.proofs.Kit.{length, List, map, nat_lt, None, Option, refl, Some, subst, suc, true, ℕ}
 use Rattle.ed_programs.proofs.Kit.{◌%◌, ◌<◌, ◌∙◌, ◌∷◌, ◌≡◌, ◌≤◌, list_all, and_parts}
@@ -65,9 +65,7 @@ few_figures n small =
 
 -- a number below 10 has one digit
 pub one_figure : (d : ℕ) → d < 10 → digits d ≡ d % 10 ∷ []
-one_figure d few =
-    (bytes_eq-Decides (digits d) (d % 10 ∷ [])).0
-    (among (λ d. bytes_eq (digits d) (d % 10 ∷ [])) 0 10 d refl (omega arith) (omega arith))
+one_figure d few = grind (arith, common_steps)
 
 pub figure_spells : (n : ℕ) → n < 10 → Spells (decimal n) (n ∷ [])
 figure_spells n few =

@@ -1,5 +1,5 @@
 -- The outcome of a tape whose program reaches its stop, as the answer of the command `tape`.
-use Rattle.ed_programs.proofs.Kit.{plain, NotationState, String, Global, Size, has_one_reading, Settings, ReachesEntry, comes_in, Err, Result}
+use Rattle.ed_programs.proofs.Kit.{rules, plain, NotationState, String, Global, Size, has_one_reading, Settings, ReachesEntry, comes_in, Err, Result}
 use Rattle.ed_programs.proofs.Kit.{rows, Spells, INPUT_BYTES, exactly, OfReading, [], ap, arith, codes, inl, length}
 use Rattle.ed_programs.proofs.Kit.{List, None, Ok, refl, subst, sym, ℕ, ◌++◌, ◌+◌, ◌-◌, ◌∙◌, ◌∷◌, ◌≡◌, ◌≤◌, Text, paper}
 use Rattle.ed_programs.proofs.Kit.{step, State, run_end, ReachesStop, at_after, ran_outcome-answered, nothing_after}
@@ -92,6 +92,5 @@ tape_runs s tape tape_rows e {k} {orders} {at} {printed} reads short arrives sto
 pub tape_prints_of : {cost orders at : ℕ} {tape printed : Text} (r : Result (String Global) Refusal)
     → GivesProgram None tape r → ((s : Settings) → TapeRuns s tape cost orders at printed)
     → TapePrints cost orders at printed r
-tape_prints_of {cost} {orders} {at} {printed = printed} (Ok text) gives law = λ s.
-    subst (λ (t : Text). TapeRuns s t cost orders at printed) (sym gives.1) (law s)
+tape_prints_of (Ok text) gives law = search rules
 tape_prints_of (Err refusal) gives law = tt

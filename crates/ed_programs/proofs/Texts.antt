@@ -1,5 +1,5 @@
 -- What a call that writes a program's text answers.
-use Rattle.std.proofs.Common.{◌≡◌, ℕ, Some, None, Ok, string_bytes, Option, sym, ◌∙◌, subst, inl, Err, Result}
+use Rattle.std.proofs.Common.{◌≡◌, ℕ, Some, None, Ok, string_bytes, Option, ◌∙◌, inl, Err, Result}
 use Rattle.std.proofs.Common.{IfOk, IfSome, String}
 use Rattle.std.specs.declared.alloc.AllocError.{AllocError}
 use Rattle.std.specs.declared.alloc.Global.{Global}
@@ -7,6 +7,7 @@ use Rattle.ed_words.specs.Texts.{Text}
 use Rattle.ed_run.specs.declared.settings.Settings.{Settings}
 use Rattle.ed_programs.specs.Programs.{AnswersWritten, GivesProgram, Prints, SourceRuns}
 use Rattle.ed_programs.specs.declared.refusal.Refusal.{Refusal}
+use Rattle.std.proofs.Common.{rules}
 
 -- the answer is what `format!` wrote
 pub GivesProgram-written : {cause : Option Refusal} → cause ≡ None → (text : Result (String Global) AllocError)
@@ -20,6 +21,5 @@ GivesProgram-written none (Err e) (Err refusal) wrote wanted same taken made = i
 -- a law of a text is one of what is answered, if a program is answered that was written so
 pub prints_as : {orders at : ℕ} {text printed : Text} (cause : Option Refusal) (r : Result (String Global) Refusal)
     → GivesProgram cause text r → ((s : Settings) → SourceRuns s text orders at printed) → Prints orders at printed r
-prints_as {orders} {at} {printed = printed} cause (Ok program) is law = λ s.
-    subst (λ (t : Text). SourceRuns s t orders at printed) (sym is.1) (law s)
+prints_as cause (Ok program) is law = search rules
 prints_as cause (Err refusal) is law = tt
