@@ -1,10 +1,11 @@
 -- The source of `examples/add.edsac` for any two numbers: its path, and what it prints.
-use Rattle.ed_programs.proofs.Kit.{before_order, Size, parameter_store, print_orders, digits_printed, stops_from_entry, pair_at_entry}
-use Rattle.ed_programs.proofs.Kit.{along, print_line, ReachesStop, entry_state, reads_number, number_rows, stop_counted}
-use Rattle.ed_programs.proofs.Kit.{Settings, Line, moment_at, append-nil, few_digits, SourceRuns, data_mark, pair_after}
-use Rattle.ed_programs.proofs.Kit.{Z_F, to_stop, get_own, frame_at, length, Moment, settings, HasRead, calling, HasPair}
-use Rattle.ed_programs.proofs.Kit.{IsIn, then, arith, false, List, lit<, lit≤, map, Frame, state, digits, Marked}
-use Rattle.ed_programs.proofs.Kit.{Z, [], refl, sym, true, ◌≡◌, are_small, ℕ, ◌*◌, ◌+◌, ◌<◌, ◌∷◌, Text, to}
+use Rattle.ed_programs.proofs.Kit.{before_order, Size, parameter_store, print_orders, digits_printed, stops_from_entry}
+use Rattle.ed_programs.proofs.Kit.{pair_at_entry, along, print_line, ReachesStop, entry_state, reads_number}
+use Rattle.ed_programs.proofs.Kit.{number_rows, stop_counted, Settings, Line, moment_at, append-nil, few_digits}
+use Rattle.ed_programs.proofs.Kit.{SourceRuns, data_mark, pair_after, Z_F, to_stop, get_own, frame_at, length, Moment}
+use Rattle.ed_programs.proofs.Kit.{settings, HasRead, calling, HasPair, IsIn, then, arith, false, List, lit<, lit≤, map}
+use Rattle.ed_programs.proofs.Kit.{Frame, state, digits, Marked, Z, [], refl, sym, true, ◌≡◌, are_small, ℕ, ◌*◌, ◌+◌}
+use Rattle.ed_programs.proofs.Kit.{◌<◌, ◌∷◌, Text, to}
 use Rattle.std.specs.Fmt.{decimal}
 use Rattle.ed_programs.specs.Add.{add_orders, add_text}
 use Rattle.ed_programs.specs.declared.add.TheConstants.{ADD}

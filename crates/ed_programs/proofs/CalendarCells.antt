@@ -1,7 +1,6 @@
 -- The words of `examples/calendar.tape` from 56 to 391.
-use Rattle.ed_programs.proofs.Kit.{L_D, Z_F, Size, frame_at, [], drop, get_or, length, List}
-use Rattle.ed_programs.proofs.Kit.{lit≤, Option, refl, Some, suc, take, zero, ℕ, ◌++◌, ◌+◌, ◌<◌, ◌∙◌, ◌∷◌}
-use Rattle.ed_programs.proofs.Kit.{◌≡◌, Frame, Moment, short, to}
+use Rattle.ed_programs.proofs.Kit.{L_D, Z_F, Size, frame_at, [], drop, get_or, length, List, lit≤, Option, refl, Some}
+use Rattle.ed_programs.proofs.Kit.{suc, take, zero, ℕ, ◌++◌, ◌+◌, ◌<◌, ◌∙◌, ◌∷◌, ◌≡◌, Frame, Moment, short, to}
 use Rattle.std.proofs.lemmas.List.{get_or_append_left}
 use Rattle.ed_machine.proofs.Kit.Window.{get_right}
 

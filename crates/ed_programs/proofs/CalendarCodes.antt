@@ -1,11 +1,10 @@
 -- The codes that the program of `examples/calendar.tape` prints.
 use Rattle.std.proofs.Common.{replicate, ℕ, zero, suc, ◌-◌, ◌*◌, ◌/◌, ◌%◌, ◌==◌, nat_lt, if◌then◌else◌, List, [], ◌∷◌}
-use Rattle.std.proofs.Common.{Bool, ◌++◌, get_or, map, refl, ◌+◌, ◌≡◌}
+use Rattle.std.proofs.Common.{Bool, ◌++◌, get_or, map, refl, ◌+◌, ◌≡◌, rules}
 use Rattle.std.specs.List.{range_with_len}
 use Rattle.ed_programs.specs.Calendar.{month_length, month_names, weekday_count}
 use Rattle.ed_codes.specs.Spelling.{row_of}
 use Rattle.ed_syntax.specs.Reading.Grammar.{row}
-use Rattle.std.proofs.Common.{rules}
 
 -- the days of a week before the first of the month, as the program counts them
 abbrev pub place : ℕ → ℕ → ℕ

@@ -1,14 +1,11 @@
 -- What the program of `examples/calendar.tape` counts is the calendar, from 1901 to 2099.
-use Rattle.ed_programs.proofs.Kit.{sum, [], arith, Bool, get_or, if◌then◌else◌, not, refl, rules, suc, true}
-use Rattle.ed_programs.proofs.Kit.{zero, ℕ, ◌%◌, ◌*◌, ◌+◌, ◌/◌, ◌==◌, ◌∙◌, ◌∷◌, ◌≡◌, ◌≤◌, nat_tests, days_before}
-use Rattle.ed_programs.proofs.Kit.{is_leap, month_lengths, weekday, place}
+use Rattle.ed_programs.proofs.Kit.{sum, [], arith, Bool, get_or, if◌then◌else◌, refl, rules, suc, zero, ℕ}
+use Rattle.ed_programs.proofs.Kit.{◌%◌, ◌*◌, ◌+◌, ◌/◌, ◌==◌, ◌∙◌, ◌∷◌, ◌≡◌, ◌≤◌, nat_tests, days_before, is_leap}
+use Rattle.ed_programs.proofs.Kit.{month_lengths, weekday, place}
 use Rattle.ed_programs.specs.Calendar.{years_length}
 use Rattle.std.proofs.lemmas.Grind.{common_steps}
 
 -- ---- leap years and their days
-
-same_test : (a b : Bool) → (if a then b else not b) ≡ true → a ≡ b
-same_test a b h = grind (arith, nat_tests)
 
 -- each fourth year is a leap year, 2000 too
 pub leap_is : (n : ℕ) → n ≤ 198 → is_leap (1901 + n) ≡ (n % 4 == 3)

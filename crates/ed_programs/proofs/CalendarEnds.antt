@@ -1,6 +1,6 @@
 -- The tape `examples/calendar.tape` from its first row to its stop, for any month and year.
-use Rattle.ed_programs.proofs.Kit.{Size, Full, Small, Settings, moment_at, [], get_or, List, map, refl, subst, ℕ}
-use Rattle.ed_programs.proofs.Kit.{◌++◌, ◌-◌, ◌∷◌, ◌≡◌, ◌≤◌, numbers, Text, State, Moment, state, patched, digits}
+use Rattle.ed_programs.proofs.Kit.{Size, Full, Small, Settings, moment_at, [], get_or, List, map, refl, subst, ℕ, ◌++◌}
+use Rattle.ed_programs.proofs.Kit.{◌-◌, ◌∷◌, ◌≡◌, ◌≤◌, numbers, Text, State, Moment, state, patched, digits}
 use Rattle.ed_programs.proofs.Kit.{ReachesStop, tape_state, TapeEntry, reading_on, first_state, calendar_orders}
 use Rattle.ed_programs.proofs.Kit.{calendar_codes}
 use Rattle.ed_programs.specs.declared.calendar.TheConstants.{CALENDAR}

@@ -158,8 +158,7 @@ module _ (z : Size) (m : Moment) (o : IsAround m.words) where
 
   -- one below a hundred, with a space for a nought
   pub prints_two : (i n : ℕ) (k : Work) (last : Option ℕ) → i < 140 → n < 100
-      → Path (frame z) (day_orders n - 16)
-      (at m 234 (to 28 i) (record k { first_power = to 12 316; number = n }) last)
+      → Path (frame z) (day_orders n - 16) (at m 234 (to 28 i) (record k { first_power = to 12 316; number = n }) last)
       ((if nat_lt n 10 then 20 else n / 10) ∷ n % 10 ∷ [])
       (at m (i + 2) 0 (left_by_two i n (record k { first_power = to 12 316 })) (Some (n % 10)))
   prints_two i n k last low few =

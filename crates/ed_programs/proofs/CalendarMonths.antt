@@ -12,8 +12,7 @@ module _ (z : Size) (m : Moment) (o : IsAround m.words) where
   months_left j i w k = record k { count = (131072 - j) % 131072; weekday = w; adds_month = to 28 (324 + i) }
 
   -- the months that are left, up to month e; the weekday is then u
-  months : (ls : List ℕ) (k : Work) (i e w u : ℕ) (last : Option ℕ) → Have (lengths k.february) i ls
-      → i + length ls ≡ e
+  months : (ls : List ℕ) (k : Work) (i e w u : ℕ) (last : Option ℕ) → Have (lengths k.february) i ls → i + length ls ≡ e
       → e < 12 → w + sum ls ≡ u → u < 60000
       → Path (frame z) (3 + 12 * length ls) (at m 45 0 (months_left (length ls) i w k) last) []
       (at m 57 0 (record (months_left 0 e u k) { scrap = 0 }) last)

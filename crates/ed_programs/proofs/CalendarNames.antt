@@ -50,9 +50,10 @@ is_name i few =
       few = (ltb-true _ 32 codes.0, ltb-true _ 32 others.0, ltb-true _ 32 others.1);
     }
 
--- a number that is read into the cleared accumulator
-read_is : {x u : ℕ} → x ≡ u → u < 131072 → (0 + x) % 131072 ≡ u
-read_is e l = omega (arith, e, l)
+-- a number that is read from a cell into the cleared accumulator, and written
+read_is : {n j x u : ℕ} → j < n → x ≡ u → u < 131072
+    → ((j < n) × ((0 + x) % 131072 ≡ u)) × (Unit {0} × Unit {0})
+read_is inside e small = ((inside, omega (arith, e, small)), (tt, tt))
 
 module _ (z : Size) (m : Moment) (o : IsAround m.words) where
   -- the orders that read them are made, and obeyed
@@ -73,11 +74,11 @@ module _ (z : Size) (m : Moment) (o : IsAround m.words) where
       followed (obeys 66 0 (A 295 (suc i) ∷ S 299 i ∷ L LD (2 * i) ∷ U 300 ∷ L LD (4 * i) ∷ A 300 (6 * i)
       ∷ A 132 (to 28 (156 + j)) ∷ U 78 ∷ A_low 2 (to 28 (156 + suc j)) ∷ U 80
       ∷ A_low 2 (to 28 (156 + suc (suc j))) ∷ T 82 ∷ []) refl (omega (arith, is, few)))
-      (followed (obeys 78 0 (A_by (156 + j) (4096 * a) ∷ T 163 ∷ []) refl ((omega (arith, few), read_is
-      (sign_at k0 j (omega (arith, few)) ∙ (name.letters k.one k.two k.three).0) (omega (arith, code_a))), (tt, tt)))
-      (followed (obeys 80 0 (A_by (156 + suc j) (4096 * b) ∷ T 164 ∷ []) refl ((omega (arith, few), read_is
+      (followed (obeys 78 0 (A_by (156 + j) (4096 * a) ∷ T 163 ∷ []) refl (read_is (omega (arith, few))
+      (sign_at k0 j (omega (arith, few)) ∙ (name.letters k.one k.two k.three).0) (omega (arith, code_a))))
+      (followed (obeys 80 0 (A_by (156 + suc j) (4096 * b) ∷ T 164 ∷ []) refl (read_is (omega (arith, few))
       (sign_at k1 (suc j) (omega (arith, few)) ∙ (name.letters (4096 * a) k.two k.three).1.0)
-      (omega (arith, code_b))), (tt, tt)))
-      (obeys 82 0 (A_by (156 + suc (suc j)) (4096 * c) ∷ T 165 ∷ []) refl ((omega (arith, few), read_is
+      (omega (arith, code_b))))
+      (obeys 82 0 (A_by (156 + suc (suc j)) (4096 * c) ∷ T 165 ∷ []) refl (read_is (omega (arith, few))
       (sign_at k2 (suc (suc j)) (omega (arith, few)) ∙ (name.letters (4096 * a) (4096 * b) k.three).1.1.0)
-      (omega (arith, code_c))), (tt, tt)))))
+      (omega (arith, code_c))))))

@@ -24,7 +24,8 @@ module _ (z : Size) (m : Moment) (o : IsAround m.words) where
         rest.0,
         rw three (Path-counted
             (followed (obeys 101 0 (T 300 ∷ A 306 (131072 - suc n) ∷ E_stays 110 ∷ A 299 ((131072 - n) % 131072)
-            ∷ T 306 ∷ O 310 20 ∷ O 310 20 ∷ O 310 20 ∷ E_jumps 101 ∷ []) refl (omega (arith, few))) rest.1) (omega arith)),
+            ∷ T 306 ∷ O 310 20 ∷ O 310 20 ∷ O 310 20 ∷ E_jumps 101 ∷ []) refl
+            (omega (arith, few))) rest.1) (omega arith)),
       )
 
   -- the sheet is begun: b days before the first

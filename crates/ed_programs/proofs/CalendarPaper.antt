@@ -1,11 +1,10 @@
 -- The codes that the program of `examples/calendar.tape` prints are the calendar on paper.
-use Rattle.ed_programs.proofs.Kit.{bytes_eq, bytes_eq-Decides, Figures, among}
-use Rattle.ed_programs.proofs.Kit.{[], ap, append_assoc, arith, Bool, codes, decimal, false, get_or}
-use Rattle.ed_programs.proofs.Kit.{if◌then◌else◌, List, nat_lt, refl, rules, suc, sym, true, zero, ℕ, ◌%◌, ◌*◌, ◌++◌}
-use Rattle.ed_programs.proofs.Kit.{◌+◌, ◌-◌, ◌<◌, ◌==◌, ◌∙◌, ◌∷◌, ◌≡◌, ◌≤◌, nat_tests, Text, paper, digits}
-use Rattle.ed_programs.proofs.Kit.{number_shown, replicate, paper_from, calendar_prints, days_before, is_leap}
-use Rattle.ed_programs.proofs.Kit.{month_length, weekday, calendar_codes, day_codes, days_codes, head_codes, place}
-use Rattle.ed_programs.proofs.Kit.{title_codes, year_codes}
+use Rattle.ed_programs.proofs.Kit.{bytes_eq, bytes_eq-Decides, Figures, among, [], ap, append_assoc, arith, Bool, codes}
+use Rattle.ed_programs.proofs.Kit.{decimal, false, get_or, if◌then◌else◌, List, nat_lt, refl, rules, suc, sym, true}
+use Rattle.ed_programs.proofs.Kit.{zero, ℕ, ◌%◌, ◌*◌, ◌++◌, ◌+◌, ◌-◌, ◌<◌, ◌==◌, ◌∙◌, ◌∷◌, ◌≡◌, ◌≤◌, nat_tests, Text}
+use Rattle.ed_programs.proofs.Kit.{paper, digits, number_shown, replicate, paper_from, calendar_prints, days_before}
+use Rattle.ed_programs.proofs.Kit.{is_leap, month_length, weekday, calendar_codes, day_codes, days_codes, head_codes}
+use Rattle.ed_programs.proofs.Kit.{place, title_codes, year_codes}
 use Rattle.std.proofs.Common.{flat_map}
 use Rattle.ed_programs.specs.Calendar.{calendar_days, day_text, new_line, month_names}
 use Rattle.ed_programs.proofs.CalendarCodes.{days_from, range_is, week_end}
@@ -15,8 +14,7 @@ use Rattle.std.proofs.lemmas.Grind.{common_steps}
 -- ---- the title
 
 title_shown : (k : ℕ) (rest : List ℕ) → k < 12
-    → paper (title_codes k ++ rest)
-    ≡ codes "      " ++ (get_or month_names k [] ++ 32 ∷ paper_from Figures rest)
+    → paper (title_codes k ++ rest) ≡ codes "      " ++ (get_or month_names k [] ++ 32 ∷ paper_from Figures rest)
 title_shown k rest l = grind (arith, common_steps)
 
 -- ---- figures

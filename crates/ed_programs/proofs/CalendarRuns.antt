@@ -1,8 +1,8 @@
 -- What `examples/calendar.tape` prints, for every month from January 1901 to December 2099.
 use Rattle.ed_programs.proofs.Kit.{none, spacing, spells_append, has_one_reading, Settings, rows, Spells, INPUT_BYTES}
-use Rattle.ed_programs.proofs.Kit.{[], arith, decimal, length, length-append, refl, rules, suc, zero, ℕ, ◌*◌}
-use Rattle.ed_programs.proofs.Kit.{◌++◌, ◌%◌, ◌∷◌, ◌≡◌, ◌≤◌, leb-true, length-replicate, digits, reading}
-use Rattle.ed_programs.proofs.Kit.{paper_room, calendar_orders, calendar_prints, TapeRuns, calendar_codes, days_codes}
+use Rattle.ed_programs.proofs.Kit.{[], arith, decimal, length, length-append, refl, rules, suc, zero, ℕ, ◌*◌, ◌++◌, ◌%◌}
+use Rattle.ed_programs.proofs.Kit.{◌∷◌, ◌≡◌, ◌≤◌, leb-true, length-replicate, digits, reading, paper_room}
+use Rattle.ed_programs.proofs.Kit.{calendar_orders, calendar_prints, TapeRuns, calendar_codes, days_codes}
 use Rattle.ed_codes.specs.Text.{row}
 use Rattle.ed_programs.specs.Calendar.{calendar_cost, calendar_text}
 use Rattle.ed_programs.proofs.CalendarEnds.{front, calendar_arrives, calendar_ends, calendar_entry, calendar_rows}

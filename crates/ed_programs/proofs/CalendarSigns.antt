@@ -1,7 +1,6 @@
 -- The printing of signs in `examples/calendar.tape`.
-use Rattle.ed_programs.proofs.Kit.{Size, followed, [], arith, get_or, length, List, lit<, map, Option}
-use Rattle.ed_programs.proofs.Kit.{refl, Some, suc, ℕ, ◌*◌, ◌+◌, ◌-◌, ◌<◌, ◌∙◌, ◌∷◌, ◌≡◌, ◌≤◌, Moment}
-use Rattle.ed_programs.proofs.Kit.{Path, to, Path-counted}
+use Rattle.ed_programs.proofs.Kit.{Size, followed, [], arith, get_or, length, List, lit<, map, Option, refl, Some, suc}
+use Rattle.ed_programs.proofs.Kit.{ℕ, ◌*◌, ◌+◌, ◌-◌, ◌<◌, ◌∙◌, ◌∷◌, ◌≡◌, ◌≤◌, Moment, Path, to, Path-counted}
 use Rattle.ed_programs.proofs.CalendarCells.{at, cells, frame, latest, sign_at, signs, Have, IsAround, Work}
 use Rattle.ed_programs.proofs.Orders.{A, A_low, E_by, G_jumps, G_stays, O_by, S, T, U, obeys}
 

@@ -1,8 +1,7 @@
 -- Capital letters: each spells a row of tape, and is printed as it is.
 use Rattle.ed_programs.proofs.Kit.{Letters, bytes_eq, bytes_eq-Decides, among, [], ap, arith, Bool, false, length, List}
 use Rattle.ed_programs.proofs.Kit.{nat_le, None, not, refl, true, ℕ, ◌++◌, ◌==◌, ◌∷◌, ◌≡◌, ◌≤◌, list_all, and_from}
-use Rattle.ed_programs.proofs.Kit.{and_parts, leb-true, not-true, Text, row_of, row, ◌&&◌, paper_from}
-use Rattle.ed_programs.proofs.Kit.{is_capital}
+use Rattle.ed_programs.proofs.Kit.{and_parts, leb-true, not-true, Text, row_of, row, ◌&&◌, paper_from, is_capital}
 use Rattle.ed_printer.specs.Paper.{struck_bytes}
 use Rattle.ed_programs.specs.Hello.{letters_refusal}
 use Rattle.ed_programs.proofs.RowTexts.{is_row_byte, text_rows}

@@ -1,13 +1,13 @@
 -- The source of `examples/celsius.edsac` for any list: its path, and what it prints.
-use Rattle.ed_programs.proofs.Kit.{before_order, followed, Z_F, Size, Z, Settings, Line, sum_by, along, IsIn, Journey, stop_after}
-use Rattle.ed_programs.proofs.Kit.{then, to_stop, frame_at, moment_at, [], append-nil, arith, false, length, List, lit<}
-use Rattle.ed_programs.proofs.Kit.{lit≤, map, nat_le, nat_lt, None, Option, refl, Some, sym, true, ℕ, ◌*◌, ◌++◌, ◌+◌}
-use Rattle.ed_programs.proofs.Kit.{◌-◌, ◌/◌, ◌<◌, ◌^◌, ◌∷◌, ◌≡◌, ◌≤◌, list_all, and_from, and_parts, leb-true, lt-ltb}
-use Rattle.ed_programs.proofs.Kit.{ltb-true, length-map, sum_by-cons, Text, Frame, Moment, state, on, Path, stay}
-use Rattle.ed_programs.proofs.Kit.{own, settings, parameter_store, digits, print_orders, ReachesStop, entry_state}
-use Rattle.ed_programs.proofs.Kit.{celsius_text, numbers_text, on_lines, SourceRuns, reads_number, are_small}
-use Rattle.ed_programs.proofs.Kit.{number_rows, shows_number, stops_from_entry, Marked, to, calling, journey_counted}
-use Rattle.ed_programs.proofs.Kit.{stop_counted, HasThree, three_read, three_shown, three_at_entry}
+use Rattle.ed_programs.proofs.Kit.{before_order, followed, Z_F, Size, Z, Settings, Line, sum_by, along, IsIn, Journey}
+use Rattle.ed_programs.proofs.Kit.{stop_after, then, to_stop, frame_at, moment_at, [], append-nil, arith, false, length}
+use Rattle.ed_programs.proofs.Kit.{List, lit<, lit≤, map, nat_le, nat_lt, None, Option, refl, Some, sym, true, ℕ, ◌*◌}
+use Rattle.ed_programs.proofs.Kit.{◌++◌, ◌+◌, ◌-◌, ◌/◌, ◌<◌, ◌^◌, ◌∷◌, ◌≡◌, ◌≤◌, list_all, and_from, and_parts}
+use Rattle.ed_programs.proofs.Kit.{leb-true, lt-ltb, ltb-true, length-map, sum_by-cons, Text, Frame, Moment, state, on}
+use Rattle.ed_programs.proofs.Kit.{Path, stay, own, settings, parameter_store, digits, print_orders, ReachesStop}
+use Rattle.ed_programs.proofs.Kit.{entry_state, celsius_text, numbers_text, on_lines, SourceRuns, reads_number}
+use Rattle.ed_programs.proofs.Kit.{are_small, number_rows, shows_number, stops_from_entry, Marked, to, calling}
+use Rattle.ed_programs.proofs.Kit.{journey_counted, stop_counted, HasThree, three_read, three_shown, three_at_entry}
 use Rattle.ed_machine.proofs.Kit.Moves.{H, V, T_top}
 use Rattle.ed_programs.specs.Celsius.{celsius, celsius_orders}
 use Rattle.ed_programs.specs.declared.celsius.TheConstants.{CELSIUS}
@@ -49,9 +49,8 @@ module _ (z : Size) (m : Moment) where
   record Turned (n value factor : ℕ) (words : List ℕ) (last : Option ℕ) (rest : List ℕ) : Type 0 where
     after : List ℕ
     three : HasThree f after 74 98 150 15
-    journey : Journey f (conversion_orders n)
-        (at 0 words 0 value factor last (digits n ++ 17 ∷ rest)) (11 ∷ digits (celsius n) ++ 18 ∷ 24 ∷ [])
-        (at 0 after 0 (celsius n) (36409 * 2 ^ 18) (Some 24) rest)
+    journey : Journey f (conversion_orders n) (at 0 words 0 value factor last (digits n ++ 17 ∷ rest))
+        (11 ∷ digits (celsius n) ++ 18 ∷ 24 ∷ []) (at 0 after 0 (celsius n) (36409 * 2 ^ 18) (Some 24) rest)
 
   turn : (n value factor : ℕ) (words : List ℕ) (last : Option ℕ) (rest : List ℕ) → HasThree f words 74 98 150 15
       → 32 ≤ n → n < 65536 → Turned n value factor words last rest

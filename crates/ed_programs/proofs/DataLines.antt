@@ -5,13 +5,12 @@ use Rattle.ed_sources.proofs.Kit.{Bool, codes, false, List, None, refl, Some, su
 use Rattle.ed_sources.proofs.Kit.{map, not, Ok, suc, ◌*◌, ◌<◌, ◌==◌, ◌∙◌, ◌∷◌, ◌≡◌, ◌≤◌, Text, run, row}
 use Rattle.std.proofs.lemmas.List.Folds.{list_all_at}
 use Rattle.ed_syntax.proofs.Kit.{map-append, array, has_quote, quoted}
-use Rattle.std.proofs.Common.{Fits, slice_index_or, w16}
+use Rattle.std.proofs.Common.{Fits, slice_index_or, w16, rules}
 use Rattle.std.proofs.lemmas.List.{append_assoc, length-append}
 use Rattle.ed_syntax.proofs.PartLemmas.{quote_parts}
 use Rattle.ed_sources.proofs.Decimals.{are, decimal_is, few_bytes, line_bytes, no_quotes, row_bytes, rows_are, written}
 use Rattle.ed_programs.specs.Lists.{numbers_text}
 use Rattle.ed_programs.proofs.SourceLines.{Marked, by_parts, mark}
-use Rattle.std.proofs.Common.{rules}
 use Rattle.ed_syntax.specs.declared.program.Statement.TheVariants as statements
 
 -- the line `data` with numbers, between quotes (34)
@@ -120,4 +119,5 @@ module _ {two : Bool} (k : ℕ) (ns : List ℕ) (later : 2 ≤ k) (some : 1 ≤ 
 
   abbrev pub list_mark : length (numbers_text ns) ≤ 113 → are_small ns ≡ true → Marked two
   list_mark fits small =
-      mark k (numbers_line ns) None (statements.Rows (array (number_rows ns))) (data_says two k ns later some fits small)
+      mark k (numbers_line ns) None (statements.Rows (array (number_rows ns)))
+      (data_says two k ns later some fits small)

@@ -77,8 +77,7 @@ stand_kept ws words q d (n ∷ ns) same o = (
 )
 
 stand_after : (ws : List ℕ) (q d r : ℕ) (ns : List ℕ) → length ws ≡ 1024 → q < 1024 → r < d
-    → Stand ws (suc q) (suc d) ns
-    → Stand (set ws q r) q d (r ∷ ns)
+    → Stand ws (suc q) (suc d) ns → Stand (set ws q r) q d (r ∷ ns)
 stand_after ws q d r ns all low less o = search (rules, get_or-set_same, stand_kept, get_or-set_other)
 
 -- the words around it
@@ -117,8 +116,7 @@ module _ (z : Size) (m : Moment) where
     dividing k e x y = record k { rest = x; carry = y; divisor = suc e }
 
     takes : (ws : List ℕ) (k : Work) (e r : ℕ) → r ≤ e → e ≤ 74 → (j x y w : ℕ) → x ≡ suc e * j + r → x < 800
-        → y + j ≡ w → w ≤ 9
-        → Path f (3 + 8 * j) (now 31 ws x (dividing k e x y)) [] (now 40 ws r (dividing k e r w))
+        → y + j ≡ w → w ≤ 9 → Path f (3 + 8 * j) (now 31 ws x (dividing k e x y)) [] (now 40 ws r (dividing k e r w))
     takes ws k e r least_r most_e zero x y w is low sum few =
         let same : x ≡ r = omega (arith, is) in
         let carried : y ≡ w = omega (arith, sum) in
@@ -292,7 +290,8 @@ module _ (z : Size) (m : Moment) where
       let x = one.0 in
       let rest = groups j (tenfold 2 ns).left x.words x.work c x.last (131072 - suc j) x.around x.stand
       (tenfold_long 2 ns ∙ long) (omega arith) (omega arith) in
-      (rest.0, Path-counted (followed one.1 (followed (obeys 61 (131072 - suc j) (G_jumps 13 ∷ []) refl (omega arith)) rest.1)) (omega arith))
+      (rest.0, Path-counted (followed one.1 (followed (obeys 61 (131072 - suc j) (G_jumps 13 ∷ []) refl (omega arith))
+      rest.1)) (omega arith))
 
   lines_of : (j : ℕ) (ns : List ℕ) (ws : List ℕ) (k : Work) (c : Counts) (last : Option ℕ) (v : ℕ) → IsAround ws
       → Stand ws 163 2 ns → length ns ≡ 74 → v < 131072 → j < 5
@@ -302,7 +301,8 @@ module _ (z : Size) (m : Moment) where
       let one = groups 9 ns ws k (record c { line = 131071 }) last v o there long small (lit< tt) in (
         one.0,
         quietly one.1
-            (obeys 62 0 (S 90 131062 ∷ T 84 ∷ A 85 131071 ∷ A 87 0 ∷ U 85 ∷ E_jumps 70 ∷ []) refl (omega arith)) (omega arith),
+            (obeys 62 0 (S 90 131062 ∷ T 84 ∷ A 85 131071 ∷ A 87 0 ∷ U 85 ∷ E_jumps 70 ∷ []) refl
+            (omega arith)) (omega arith),
       )
   lines_of (suc j) ns ws k c last v o there long small few =
       let one = groups 9 ns ws k (record c { line = 131072 - suc (suc j) }) last v o there long small (lit< tt) in

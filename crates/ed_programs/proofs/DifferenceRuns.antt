@@ -1,11 +1,11 @@
 -- The source of `examples/difference.edsac` for any two numbers: its path, and what it prints.
-use Rattle.ed_programs.proofs.Kit.{before_order, Z_F, if◌then◌else◌, parameter_store, digits_printed, stops_from_entry, pair_at_entry}
-use Rattle.ed_programs.proofs.Kit.{map, print_orders, ReachesStop, entry_state, reads_number, number_rows, stop_counted}
-use Rattle.ed_programs.proofs.Kit.{ltb-false, print_line, moment_at, [], append-nil, few_digits, SourceRuns, pair_after}
-use Rattle.ed_programs.proofs.Kit.{Settings, to_stop, frame_at, length, ltb-true, settings, data_mark, along, get_own}
-use Rattle.ed_programs.proofs.Kit.{arith, nat_lt, Moment, digits, HasRead, Marked, calling, HasPair, Size, Line, IsIn}
-use Rattle.ed_programs.proofs.Kit.{then, Bool, false, List, lit<, lit≤, refl, Frame, state, to, Z, sym, true, ℕ}
-use Rattle.ed_programs.proofs.Kit.{◌*◌, ◌+◌, ◌-◌, ◌<◌, ◌∷◌, ◌≡◌, Text, Path}
+use Rattle.ed_programs.proofs.Kit.{before_order, Z_F, if◌then◌else◌, parameter_store, digits_printed, stops_from_entry}
+use Rattle.ed_programs.proofs.Kit.{pair_at_entry, map, print_orders, ReachesStop, entry_state, reads_number}
+use Rattle.ed_programs.proofs.Kit.{number_rows, stop_counted, ltb-false, print_line, moment_at, [], append-nil}
+use Rattle.ed_programs.proofs.Kit.{few_digits, SourceRuns, pair_after, Settings, to_stop, frame_at, length, ltb-true}
+use Rattle.ed_programs.proofs.Kit.{settings, data_mark, along, get_own, arith, nat_lt, Moment, digits, HasRead, Marked}
+use Rattle.ed_programs.proofs.Kit.{calling, HasPair, Size, Line, IsIn, then, Bool, false, List, lit<, lit≤, refl, Frame}
+use Rattle.ed_programs.proofs.Kit.{state, to, Z, sym, true, ℕ, ◌*◌, ◌+◌, ◌-◌, ◌<◌, ◌∷◌, ◌≡◌, Text, Path}
 use Rattle.std.specs.Fmt.{decimal}
 use Rattle.ed_programs.specs.Difference.{difference_orders, difference_text, distance}
 use Rattle.ed_programs.specs.declared.difference.TheConstants.{DIFFERENCE}

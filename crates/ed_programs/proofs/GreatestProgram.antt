@@ -1,10 +1,10 @@
 -- The program of `examples/answer6.edsac`, at any base and for a list of any length: two orders go along the list.
-use Rattle.ed_programs.proofs.Kit.{before_order, quiet_walks, locations_most, print_orders, ReachesStop, stop_counted, greatest_of, Z}
-use Rattle.ed_programs.proofs.Kit.{all_spent, ltb-false, print_line, followed, HasRoutine, walked, nat_tests, to_stop}
-use Rattle.ed_programs.proofs.Kit.{get_own, get_or, length, nat_lt, ltb-true, Moment, with_h, IsIn, along, arith, false}
-use Rattle.ed_programs.proofs.Kit.{subst, Frame, state, print, digits, rises, A_F, G_F, S_F, T_F, U_F, Z_F, then}
-use Rattle.ed_programs.proofs.Kit.{Bool, List, lit<, lit≤, refl, true, Path, [], ap, ℕ, ◌*◌, ◌+◌, ◌-◌, ◌<◌, ◌∙◌, ◌∷◌}
-use Rattle.ed_programs.proofs.Kit.{◌≡◌, ◌≤◌}
+use Rattle.ed_programs.proofs.Kit.{before_order, quiet_walks, locations_most, print_orders, ReachesStop, stop_counted}
+use Rattle.ed_programs.proofs.Kit.{greatest_of, Z, all_spent, ltb-false, print_line, followed, HasRoutine, walked}
+use Rattle.ed_programs.proofs.Kit.{nat_tests, to_stop, get_own, get_or, length, nat_lt, ltb-true, Moment, with_h, IsIn}
+use Rattle.ed_programs.proofs.Kit.{along, arith, false, subst, Frame, state, print, digits, rises, A_F, G_F, S_F, T_F}
+use Rattle.ed_programs.proofs.Kit.{U_F, Z_F, then, Bool, List, lit<, lit≤, refl, true, Path, [], ap, ℕ, ◌*◌, ◌+◌, ◌-◌}
+use Rattle.ed_programs.proofs.Kit.{◌<◌, ◌∙◌, ◌∷◌, ◌≡◌, ◌≤◌}
 use Rattle.std.proofs.Common.{max}
 use Rattle.ed_programs.proofs.Orders.{A, A_high, A_low, G_jumps, G_stays, S, T, U, obeys}
 

@@ -6,7 +6,7 @@ use Rattle.ed_programs.proofs.Kit.{first_counter, entry_of, symbols_of, checker_
 use Rattle.ed_link.proofs.Kit.{is_some, counter_from, after_statement, HasEnter, HasNoFault, on_line, entered_place}
 use Rattle.ed_link.proofs.Kit.{entry_from}
 use Rattle.ed_symbols.proofs.Kit.{defines_again, definition_of, symbols_from}
-use Rattle.std.proofs.Common.{option_map}
+use Rattle.std.proofs.Common.{option_map, rules}
 use Rattle.std.proofs.lemmas.Bool.{false_from_ne_true}
 use Rattle.ed_symbols.specs.NameTests.{is_again}
 use Rattle.ed_symbols.specs.Names.{definition_place, is_local, label_definition, as_list, statement_definition}
@@ -14,7 +14,6 @@ use Rattle.ed_symbols.specs.Names.{same_segment}
 use Rattle.ed_symbols.specs.declared.location_counter.LocationCounter.{LocationCounter}
 use Rattle.ed_symbols.proofs.AgainSentences.{Ties-s6}
 use Rattle.ed_link.specs.Faults.{IsData}
-use Rattle.std.proofs.Common.{rules}
 use Rattle.ed_syntax.specs.declared.fault.SourceCause.TheVariants as causes
 
 -- ---- the line that enters

@@ -3,12 +3,10 @@ use Rattle.ed_programs.proofs.Kit.{A_F, Z_F, Size, Full, Small, no_step, Line, L
 use Rattle.ed_programs.proofs.Kit.{checked_orders, IsAllowed, placed, word_at, [], ap, arith, codes, false, length}
 use Rattle.ed_programs.proofs.Kit.{List, lit<, lit≤, None, Ok, pos, refl, rules, Some, subst, suc, sym, take, true}
 use Rattle.ed_programs.proofs.Kit.{unwrap_or, zero, ℕ, ◌*◌, ◌++◌, ◌+◌, ◌-◌, ◌/◌, ◌<◌, ◌^◌, ◌∙◌, ◌∷◌, ◌≡◌, ◌≤◌, Text}
-use Rattle.ed_programs.proofs.Kit.{paper, short_at, step, State, progress, state_after, placed_at, settings}
-use Rattle.ed_programs.proofs.Kit.{line_of, program_of, parameter_store, fault, read_is_accepted, text_of_lines}
-use Rattle.ed_programs.proofs.Kit.{is_obeyed, stops_of, EntersChecker, entry_guest, stopped_orders, StopsAtZ}
-use Rattle.ed_programs.proofs.Kit.{SourceRuns, Marked}
-use Rattle.ed_checker.proofs.Kit.{function_of, kind_of_function, next_word, obey_word, codes_of}
-use Rattle.ed_checker.proofs.Kit.{orders_by}
+use Rattle.ed_programs.proofs.Kit.{paper, short_at, step, State, progress, state_after, placed_at, settings, line_of}
+use Rattle.ed_programs.proofs.Kit.{program_of, parameter_store, fault, read_is_accepted, text_of_lines, is_obeyed}
+use Rattle.ed_programs.proofs.Kit.{stops_of, EntersChecker, entry_guest, stopped_orders, StopsAtZ, SourceRuns, Marked}
+use Rattle.ed_checker.proofs.Kit.{function_of, kind_of_function, next_word, obey_word, codes_of, orders_by}
 use Rattle.ed_orders.specs.declared.kind.Kind.TheVariants.{O}
 use Rattle.ed_machine.specs.declared.turn.Turn.TheVariants.{Printed, Stopped}
 use Rattle.ed_machine.proofs.Kit.Leads.{first_order}

@@ -156,9 +156,8 @@ module _ (z : Size) (source : Text) (lines : List Line) (accepted : IsAcceptedAs
       };
     }
 
-    acc_is : long_at m.store (base + 60) * 2 ^ 36 + 4 * long_at m.store (base + 62)
-        + long_at m.store (base + 64) / 2 ^ 32
-        ≡ 0
+    acc_is : long_at m.store (base + 60) * 2 ^ 36 + 4 * long_at m.store (base + 62) + long_at m.store
+        (base + 64) / 2 ^ 32 ≡ 0
     acc_is = λ i. no_accumulator.0 i * 2 ^ 36 + 4 * no_accumulator.1 i + no_accumulator.2 i / 2 ^ 32
 
     pub guest_is : guest base m ≡ entry_guest z lines c.first

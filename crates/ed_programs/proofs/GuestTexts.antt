@@ -1,9 +1,9 @@
 -- The text of an accepted source is never too long for the program, and ends with the lines that its text ends with.
 use Rattle.ed_programs.proofs.Kit.{nat_tests, ◌&&◌, ne_eqb, Line, Label, Enter, IsProgram, INPUT_BYTES, [], ap}
 use Rattle.ed_programs.proofs.Kit.{append_assoc, arith, Bool, codes, false, if◌then◌else◌, length, length-append, List}
-use Rattle.ed_programs.proofs.Kit.{lit≤, nat_le, None, Ok, pos, refl, Some, sym, true, ℕ, ◌*◌, ◌++◌, ◌+◌, ◌==◌}
-use Rattle.ed_programs.proofs.Kit.{◌∙◌, ◌∷◌, ◌≡◌, ◌≤◌, and_from, and_parts, le-leb, leb-true, Text, settings}
-use Rattle.ed_programs.proofs.Kit.{lines_from, text_of_lines, checked_text, EntersChecker, use_check}
+use Rattle.ed_programs.proofs.Kit.{lit≤, nat_le, None, Ok, pos, refl, Some, sym, true, ℕ, ◌*◌, ◌++◌, ◌+◌, ◌==◌, ◌∙◌}
+use Rattle.ed_programs.proofs.Kit.{◌∷◌, ◌≡◌, ◌≤◌, and_from, and_parts, le-leb, leb-true, Text, settings, lines_from}
+use Rattle.ed_programs.proofs.Kit.{text_of_lines, checked_text, EntersChecker, use_check}
 use Rattle.ed_syntax.proofs.Kit.{ended, HasLines, lines_of, with_byte, without_return, and_more, LinesSay, no_more}
 use Rattle.ed_syntax.specs.Lines.{nothing, last}
 use Rattle.ed_syntax.proofs.Lines.{empty_line}

@@ -2,13 +2,12 @@
 use Rattle.ed_programs.proofs.Kit.{before_order, G_F, Z_F, Size, Full, Small, Z, Settings, Line, Statement, ExtentList}
 use Rattle.ed_programs.proofs.Kit.{past, even_from, extent, fault_from, along, IsIn, then, to_stop, newline_line}
 use Rattle.ed_programs.proofs.Kit.{followed, all_words, frame_at, moment_at, [], ap, arith, codes, decimal, false}
-use Rattle.ed_programs.proofs.Kit.{get_or, length, length-append, List, lit<, lit≤, map, nat_lt, None, Option}
-use Rattle.ed_programs.proofs.Kit.{pos, refl, reverse, rules, Some, subst, take, true, ℕ, ◌*◌, ◌++◌, ◌+◌, ◌-◌, ◌<◌}
-use Rattle.ed_programs.proofs.Kit.{◌∙◌, ◌∷◌, ◌≡◌, ◌≤◌, list_all, le-ltb, leb-true, length-map, Text}
-use Rattle.ed_programs.proofs.Kit.{least, row_of, paper, Frame, Moment, state, Path, run, sign, row, first_counter}
-use Rattle.ed_programs.proofs.Kit.{fault, linked_words, symbols_of, counter, newline, HasRoutine, ReachesStop}
-use Rattle.ed_programs.proofs.Kit.{entry_state, said, hello_text, is_capital, of_letters, SourceRuns, Marked, to}
-use Rattle.ed_programs.proofs.Kit.{printing, Path-counted}
+use Rattle.ed_programs.proofs.Kit.{get_or, length, length-append, List, lit<, lit≤, map, nat_lt, None, Option, pos}
+use Rattle.ed_programs.proofs.Kit.{refl, reverse, rules, Some, subst, take, true, ℕ, ◌*◌, ◌++◌, ◌+◌, ◌-◌, ◌<◌, ◌∙◌, ◌∷◌}
+use Rattle.ed_programs.proofs.Kit.{◌≡◌, ◌≤◌, list_all, le-ltb, leb-true, length-map, Text, least, row_of, paper, Frame}
+use Rattle.ed_programs.proofs.Kit.{Moment, state, Path, run, sign, row, first_counter, fault, linked_words, symbols_of}
+use Rattle.ed_programs.proofs.Kit.{counter, newline, HasRoutine, ReachesStop, entry_state, said, hello_text, is_capital}
+use Rattle.ed_programs.proofs.Kit.{of_letters, SourceRuns, Marked, to, printing, Path-counted}
 use Rattle.ed_link.proofs.Kit.{resolution, earlier_fault, missing}
 use Rattle.ed_link.proofs.Extents.{one_by_one}
 use Rattle.ed_sources.proofs.Blocks.{order_at}
@@ -50,7 +49,8 @@ module _ (z : Size) (around : Moment) (all : length around.words ≡ 1024) (seco
   at i v order scrap last =
       record (before_order around (56 + i) v (cells (G_F + 2 * w) (printing e) order scrap)) { last = last }
 
-  -- the loop: a code is printed, and the order that prints it gets the next address; it ends when the order is the one after the last that prints
+  -- the loop: a code is printed, and the order that prints it gets the next address; it ends when the order is the one
+  -- after the last that prints
   loop : (c : ℕ) (cs : List ℕ) (q left scrap : ℕ) (last : Option ℕ) → Spells around.words q (c ∷ cs)
       → q + length (c ∷ cs) ≡ e → 69 ≤ q → left < 131072
       → (x : ℕ × Option ℕ) × Path f (length (c ∷ cs) * 7) (at 0 left (printing q) scrap last) (c ∷ cs)

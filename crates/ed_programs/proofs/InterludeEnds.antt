@@ -1,13 +1,13 @@
 -- The two programs of the tape `examples/interlude.tape`, for any number: the interlude from its entry to its return,
 -- and the program after it from its entry to its stop.
 use Rattle.ed_programs.proofs.TapeRuns.{entry_with}
-use Rattle.ed_programs.proofs.Kit.{frame_from, moment_at, ◌<◌, H_F, O_F, T_F, Z_F, Size, O, Z, at_entry, set, along, to_stop}
-use Rattle.ed_programs.proofs.Kit.{E_jumps, U, prints, any, early, out, IsStore, directive, IsReturned, among, numbers}
-use Rattle.ed_programs.proofs.Kit.{[], ap, arith, drop, false, get_or, length, List, lit<, lit≤, nat_eq, Option, refl}
-use Rattle.ed_programs.proofs.Kit.{rules, Some, subst, suc, true, zero, ℕ, ◌*◌, ◌+◌, ◌-◌, ◌∙◌, ◌∷◌, ◌≡◌, ◌≤◌, list_all}
-use Rattle.ed_programs.proofs.Kit.{eqb-true, lt-ltb, locations, least, locations_most, short_at, State, Frame, Moment}
-use Rattle.ed_programs.proofs.Kit.{short, state, Leads, A, leads, on, Path, stay, own, patched, ReachesStop, TapeEntry}
-use Rattle.ed_programs.proofs.Kit.{over, first_state, sym, patched_self}
+use Rattle.ed_programs.proofs.Kit.{frame_from, moment_at, ◌<◌, H_F, O_F, T_F, Z_F, Size, O, Z, at_entry, set, along}
+use Rattle.ed_programs.proofs.Kit.{to_stop, E_jumps, U, prints, any, early, out, IsStore, directive, IsReturned, among}
+use Rattle.ed_programs.proofs.Kit.{numbers, [], ap, arith, drop, false, get_or, length, List, lit<, lit≤, nat_eq}
+use Rattle.ed_programs.proofs.Kit.{Option, refl, rules, Some, subst, suc, true, zero, ℕ, ◌*◌, ◌+◌, ◌-◌, ◌∙◌, ◌∷◌, ◌≡◌}
+use Rattle.ed_programs.proofs.Kit.{◌≤◌, list_all, eqb-true, lt-ltb, locations, least, locations_most, short_at, State}
+use Rattle.ed_programs.proofs.Kit.{Frame, Moment, short, state, Leads, A, leads, on, Path, stay, own, patched}
+use Rattle.ed_programs.proofs.Kit.{ReachesStop, TapeEntry, over, first_state, sym, patched_self}
 use Rattle.std.proofs.Common.{slice_index}
 use Rattle.std.proofs.lemmas.List.{get_or-append_right, get_or-drop, length-drop}
 use Rattle.ed_notation.specs.Fold.{word_with}

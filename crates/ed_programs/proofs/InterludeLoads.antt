@@ -22,9 +22,8 @@ pub record Entered (z : Size) (words : List ℕ) (start : NotationState) (base a
       (entry_with at (base + cost + 19) (length (spelled_rows (canonicals is)) + 2) last rest)
 
 pub entered : {z : Size} {words : List ℕ} {start last : NotationState} {is : List Item} {cost : ℕ} (base at : ℕ)
-    (rest : List ℕ)
-    → IsDirective start.directive → Reads z words start is last cost → last.directive ≡ E_F + 2 * at → 44 ≤ at
-    → at < locations z → Entered z words start base at is last cost rest
+    (rest : List ℕ) → IsDirective start.directive → Reads z words start is last cost → last.directive ≡ E_F + 2 * at
+    → 44 ≤ at → at < locations z → Entered z words start base at is last cost rest
 entered {z} {words} {start} {last} {is} {cost} base at rest set reads aim low high =
     let e = entering_at z words last at aim low high in
     let m = locations_most z in

@@ -1,6 +1,6 @@
 -- The tape `examples/mirror.tape` from its first row to its stop, for any word.
-use Rattle.ed_programs.proofs.Kit.{Size, Full, Small, Settings, AreCodes, numbers, moment_at, [], get_or, length}
-use Rattle.ed_programs.proofs.Kit.{List, map, refl, reverse, subst, ℕ, ◌*◌, ◌++◌, ◌+◌, ◌-◌, ◌∷◌, ◌≡◌, ◌≤◌, Text, State}
+use Rattle.ed_programs.proofs.Kit.{Size, Full, Small, Settings, AreCodes, numbers, moment_at, [], get_or, length, List}
+use Rattle.ed_programs.proofs.Kit.{map, refl, reverse, subst, ℕ, ◌*◌, ◌++◌, ◌+◌, ◌-◌, ◌∷◌, ◌≡◌, ◌≤◌, Text, State}
 use Rattle.ed_programs.proofs.Kit.{Moment, state, patched, ReachesStop, tape_state, TapeEntry, reading_on, first_state}
 use Rattle.ed_programs.specs.declared.mirror.TheConstants.{MIRROR}
 use Rattle.ed_programs.proofs.MirrorProgram.{cells, entering, f, mirror_stops, storing}

@@ -172,6 +172,6 @@ module _ (z : Size) (m : Moment) where
       stop_counted (to_stop (along
       (on (I 0 (own 28) (suc (length cs)) refl refl refl)
       (followed letters.1
-      (followed (obeys 15 x.number (T 29 ∷ A 6 (storing (length whole)) ∷ A 31 (printing (104 + length whole)) ∷ []) refl
-      (omega arith)) rest.1))))
+      (followed (obeys 15 x.number (T 29 ∷ A 6 (storing (length whole)) ∷ A 31 (printing (104 + length whole)) ∷ [])
+      refl (omega arith)) rest.1))))
       (Z 26 Z_F refl refl) done) (omega arith)

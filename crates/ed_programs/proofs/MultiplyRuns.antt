@@ -53,7 +53,8 @@ module _ (z : Size) (c : ℕ) where
     loop (suc l) p q k h e few small =
         let sum : suc l * r ≡ r + l * r = omega arith in
         Path-counted (followed (obeys 17 0 (A 27 (suc l) ∷ S 30 l ∷ G_stays 25 ∷ T 27 ∷ A 29 p ∷ A 28 (p + r) ∷ T 29
-        ∷ E_jumps 16 ∷ T 31 ∷ []) refl (omega arith)) (loop l (p + r) q k h (omega arith) (omega arith) small)) (omega arith)
+        ∷ E_jumps 16 ∷ T 31 ∷ []) refl (omega arith))
+        (loop l (p + r) q k h (omega arith) (omega arith) small)) (omega arith)
 
     -- `times`, called from cell j
     times : (l p s k h : ℕ) → l < 65536 → l * r < 65536
@@ -69,8 +70,7 @@ module _ (z : Size) (c : ℕ) where
       after : Moment
       is : IsAround after
       journey : Journey f (2 + ((9 + print_orders p) + 1)) (at m 32 (to 28 j) l r p s k h)
-          (11 ∷ digits p ++ 18 ∷ 24 ∷ [])
-          (at after (j + 2) 0 l r p s k (link j))
+          (11 ∷ digits p ++ 18 ∷ 24 ∷ []) (at after (j + 2) 0 l r p s k (link j))
 
     show : (l p s k h : ℕ) → p < 65536 → Shown l p s k h
     show l p s k h small =
@@ -90,8 +90,7 @@ module _ (z : Size) (c : ℕ) where
   -- both calls of each, to the stop
   stops : (m : Moment) (o : IsAround m) (a b : ℕ) → a < 65536 → a * b < 65536 → c < 65536 → c * c < 65536 → (done : ℕ)
       → ReachesStop (9 * a + 9 * c + print_orders (a * b) + print_orders (c * c) + 53)
-      (state f (at m 0 0 a b 0 0 0 0) done)
-      (list_codes (a * b ∷ c * c ∷ [])) 68
+      (state f (at m 0 0 a b 0 0 0 0) done) (list_codes (a * b ∷ c * c ∷ [])) 68
   stops m o a b few small few_c small_c done =
       let one : Shown m o 2 b (lit≤ tt) 0 (a * b) 131071 (link 0) 0 =
       show m o 2 b (lit≤ tt) 0 (a * b) 131071 (link 0) 0 small in

@@ -1,7 +1,8 @@
 -- A list of orders as a path: the words that they are by one computation, and their numbers by one proof.
-use Rattle.ed_programs.proofs.Kit.{[], ap, arith, Bool, drop, early, false, get_or, inr, length, lt-ltb, List, nat_eq, nat_lt}
-use Rattle.ed_programs.proofs.Kit.{on, Option, out, own, Path, prints, refl, set, short, Some, stay, suc, true, ℕ, ◌%◌, ◌&&◌}
-use Rattle.ed_programs.proofs.Kit.{any, Frame, Moment, Remains, ◌*◌, ◌++◌, ◌+◌, ◌/◌, ◌<◌, ◌^◌, ◌∷◌, ◌≡◌, ◌≤◌}
+use Rattle.ed_programs.proofs.Kit.{[], ap, arith, Bool, drop, early, false, get_or, inr, length, lt-ltb, List, nat_eq}
+use Rattle.ed_programs.proofs.Kit.{nat_lt, on, Option, out, own, Path, prints, refl, set, short, Some, stay, suc, true}
+use Rattle.ed_programs.proofs.Kit.{ℕ, ◌%◌, ◌&&◌, any, Frame, Moment, Remains, ◌*◌, ◌++◌, ◌+◌, ◌/◌, ◌<◌, ◌^◌, ◌∷◌, ◌≡◌}
+use Rattle.ed_programs.proofs.Kit.{◌≤◌}
 use Rattle.ed_machine.proofs.Kit.Places.{Place}
 use Rattle.ed_machine.proofs.Kit.Shifts.{IsShift}
 use Rattle.ed_machine.proofs.Kit.Moves as moves
@@ -121,8 +122,7 @@ module _ {n h : ℕ} (f : Frame n h) where
       rest = record r { words = set r.words q v };
     }
 
-    stands : {x y : ℕ × (Bool × Bool)} → x ≡ y
-        → ◌≡◌ {A = ℕ × (ℕ × (Bool × Bool))} (f.base + i, x) (f.base + i, y)
+    stands : {x y : ℕ × (Bool × Bool)} → x ≡ y → ◌≡◌ {A = ℕ × (ℕ × (Bool × Bool))} (f.base + i, x) (f.base + i, y)
     stands e = λ k. (f.base + i, e k)
 
     inside : {x y : ℕ × (Bool × Bool)} (j : ℕ) → x ≡ y → j < n → ◌≡◌ {A = ℕ × (ℕ × (Bool × Bool))}
@@ -175,7 +175,8 @@ module _ {n h : ℕ} (f : Frame n h) where
   words_at [] i v r = []
   words_at (o ∷ os) i v r =
       let x = effect i v r o in
-      (get_or r.cells i 0, (nat_lt (i + 1) n && nat_eq (length r.cells) n, x.there)) ∷ words_at os x.cell x.number x.rest
+      (get_or r.cells i 0, (nat_lt (i + 1) n && nat_eq (length r.cells) n, x.there))
+      ∷ words_at os x.cell x.number x.rest
 
   abbrev words_of : List Order → ℕ → ℕ → Moment → List (ℕ × (Bool × Bool))
   words_of [] i v r = []
@@ -203,5 +204,6 @@ pub obeys : {n h : ℕ} {f : Frame n h} {ws : List ℕ} {ds : List Bool} {cs : L
     {t : List ℕ} {l : Option ℕ} (i v : ℕ) (os : List Order)
     → words_at f os i v (around ws ds cs ps m t l) ≡ words_of f os i v (around ws ds cs ps m t l)
     → AreFine f os i v (around ws ds cs ps m t l)
-    → Path f (length os) (before f i v (around ws ds cs ps m t l)) (codes_of os) (after f os i v (around ws ds cs ps m t l))
+    → Path f (length os) (before f i v (around ws ds cs ps m t l)) (codes_of os)
+    (after f os i v (around ws ds cs ps m t l))
 obeys {f = f} i v os = path_of f os i v _

@@ -43,9 +43,8 @@ module _ (z : Size) (lines : List Line) (n : ℕ) (few : n ≤ 456) (ps : List (
 
   -- so a stop of the program, from the moment at its entry, is a stop of the source
   pub stops_by : {k at : ℕ} {codes : List ℕ} → entry_of lines ≡ 56 → (tape : List ℕ) → tape ≡ first.tape
-      → ReachesStop k (state (frame_at n z few) (record (moment_at first) { cells = cells; tape = tape })
-      first.orders) codes
-      at
+      → ReachesStop k
+      (state (frame_at n z few) (record (moment_at first) { cells = cells; tape = tape }) first.orders) codes at
       → ReachesStop k first codes at
   stops_by {k} {at} {codes} at_56 tape rows = search (rules, same)
 

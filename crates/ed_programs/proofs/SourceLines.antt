@@ -1,19 +1,18 @@
 -- What the lines of a source say: most lines by computation, those with data by a proof.
 --
 -- Only this module uses the definitions of how a source is read.
-use Rattle.ed_sources.proofs.Kit.{[], ap, Bool, drop, false, get_or, if◌then◌else◌, length, List, nat_eq, nat_le}
-use Rattle.ed_sources.proofs.Kit.{None, Ok, Option, refl, Some, sym, true, ◌||◌, ℕ, ◌+◌, ◌∙◌, ◌∷◌, ◌≡◌, ◌≤◌, list_all}
+use Rattle.ed_sources.proofs.Kit.{[], ap, Bool, drop, false, get_or, if◌then◌else◌, length, List, nat_eq, nat_le, None}
+use Rattle.ed_sources.proofs.Kit.{Ok, Option, refl, Some, sym, true, ◌||◌, ℕ, ◌+◌, ◌∙◌, ◌∷◌, ◌≡◌, ◌≤◌, list_all}
 use Rattle.ed_sources.proofs.Kit.{and_from, and_parts, eqb-true, le-leb, Text, is_line_byte, is_two, line_of}
 use Rattle.ed_sources.proofs.Kit.{program_of, text_of_lines}
 use Rattle.ed_syntax.proofs.Kit.{Err, Result, ◌&&◌, Fault, LinesSay, and_more, no_more}
 use Rattle.ed_syntax.specs.Reading.Sources.{and_lines}
-use Rattle.std.proofs.Common.{is_ok}
+use Rattle.std.proofs.Common.{is_ok, rules}
 use Rattle.ed_syntax.specs.declared.fault.SourceCause.{SourceCause}
 use Rattle.ed_syntax.specs.declared.program.Line.{Line}
 use Rattle.ed_syntax.specs.declared.program.Statement.{Statement}
 use Rattle.ed_syntax.proofs.SourceLaws.{line_answers, say_is_read}
 use Rattle.ed_sources.proofs.TextLines.{lines_back}
-use Rattle.std.proofs.Common.{rules}
 pub use Rattle.ed_sources.proofs.TextLines.{Says, by_parts, ends, reads as says, said_lines}
 
 -- ---- lines by computation

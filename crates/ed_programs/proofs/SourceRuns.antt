@@ -1,7 +1,7 @@
 -- The outcome of a source whose program reaches its stop, as the answer of the command `run`.
-use Rattle.ed_programs.proofs.Kit.{rules, Size, Full, Small, Settings, Line, [], ap, arith, Bool, length, List, nat_le, None}
-use Rattle.ed_programs.proofs.Kit.{Ok, Option, subst, true, ℕ, ◌+◌, ◌≡◌, ◌≤◌, and_parts, leb-true, Text, paper, is_two}
-use Rattle.ed_programs.proofs.Kit.{program_of, fault, ReachesStop, entry_state, AnswersFromEntry, run_outcome}
+use Rattle.ed_programs.proofs.Kit.{rules, Size, Full, Small, Settings, Line, [], ap, arith, Bool, length, List, nat_le}
+use Rattle.ed_programs.proofs.Kit.{None, Ok, Option, subst, true, ℕ, ◌+◌, ◌≡◌, ◌≤◌, and_parts, leb-true, Text, paper}
+use Rattle.ed_programs.proofs.Kit.{is_two, program_of, fault, ReachesStop, entry_state, AnswersFromEntry, run_outcome}
 use Rattle.ed_programs.proofs.Kit.{read_is_accepted, accepted_is, each_answer_is_from_entry, filled_text, text_of_lines}
 use Rattle.ed_programs.proofs.Kit.{stopped_outcome, ◌&&◌, OfSource, SourceRuns, Marked}
 use Rattle.ed_syntax.specs.declared.fault.SourceFault.{SourceFault}
@@ -12,8 +12,7 @@ use Rattle.ed_programs.proofs.SourceLines.{are_read, lines_said, said_fine, sour
 -- a source that is read as these lines, has no fault and reaches its stop
 pub source_runs : (s : Settings) (texts : List Text) {lines : List Line} {k at : ℕ} {printed : List ℕ}
     → are_short texts ≡ true → length texts ≤ 2000 → program_of (text_of_lines texts) ≡ Ok lines
-    → fault s.size lines ≡ None
-    → ReachesStop k (entry_state s.size lines) printed at → length printed ≤ 1000000
+    → fault s.size lines ≡ None → ReachesStop k (entry_state s.size lines) printed at → length printed ≤ 1000000
     → SourceRuns s (text_of_lines texts) (k + 1) at (paper printed)
 source_runs s texts {lines} short small reads faultless stops few =
     let source = text_of_lines texts in

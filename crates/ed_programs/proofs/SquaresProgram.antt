@@ -1,7 +1,7 @@
 -- The program of `examples/squares.tape1`: a loop that counts the tens of a square, in a loop over the squares.
-use Rattle.ed_programs.proofs.Kit.{before_order, A_F, E_F, G_F, O_F, S_F, T_F, Z_F, Full, Z, L512F, along, to_stop, followed, []}
-use Rattle.ed_programs.proofs.Kit.{arith, List, lit≤, Option, refl, Some, suc, zero, ℕ, ◌%◌, ◌*◌, ◌+◌, ◌-◌, ◌/◌, ◌<◌}
-use Rattle.ed_programs.proofs.Kit.{◌∷◌, ◌≡◌, ◌≤◌, Frame, Moment, state, Path, ReachesStop}
+use Rattle.ed_programs.proofs.Kit.{before_order, A_F, E_F, G_F, O_F, S_F, T_F, Z_F, Full, Z, L512F, along, to_stop}
+use Rattle.ed_programs.proofs.Kit.{followed, [], arith, List, lit≤, Option, refl, Some, suc, zero, ℕ, ◌%◌, ◌*◌, ◌+◌}
+use Rattle.ed_programs.proofs.Kit.{◌-◌, ◌/◌, ◌<◌, ◌∷◌, ◌≡◌, ◌≤◌, Frame, Moment, state, Path, ReachesStop}
 use Rattle.std.proofs.lemmas.Nat.{mul-le}
 use Rattle.ed_machine.proofs.Kit.Loops.{printed, quiet_rounds, varying}
 use Rattle.ed_programs.proofs.Orders.{A, E_jumps, G_jumps, G_stays, L, O, S, T, obeys}

@@ -1,11 +1,11 @@
 -- The outcome of a tape whose program reaches its stop, as the answer of the command `tape`.
-use Rattle.ed_programs.proofs.Kit.{rules, plain, NotationState, String, Global, Size, has_one_reading, Settings, ReachesEntry, comes_in, Err, Result}
-use Rattle.ed_programs.proofs.Kit.{rows, Spells, INPUT_BYTES, exactly, OfReading, [], ap, arith, codes, inl, length}
-use Rattle.ed_programs.proofs.Kit.{List, None, Ok, refl, subst, sym, ℕ, ◌++◌, ◌+◌, ◌-◌, ◌∙◌, ◌∷◌, ◌≡◌, ◌≤◌, Text, paper}
-use Rattle.ed_programs.proofs.Kit.{step, State, run_end, ReachesStop, at_after, ran_outcome-answered, nothing_after}
-use Rattle.ed_programs.proofs.Kit.{ran_to_stop, tape_state, reading, TapeEntry, opening, reading_on, first_state}
-use Rattle.ed_programs.proofs.Kit.{LeadsIn, first_store, starts, Outcome, paper_room, ran_outcome, with_post_mortem}
-use Rattle.ed_programs.proofs.Kit.{tape_outcome, GivesProgram, TapeRuns, Refusal}
+use Rattle.ed_programs.proofs.Kit.{rules, plain, NotationState, String, Global, Size, has_one_reading, Settings}
+use Rattle.ed_programs.proofs.Kit.{ReachesEntry, comes_in, Err, Result, rows, Spells, INPUT_BYTES, exactly, OfReading}
+use Rattle.ed_programs.proofs.Kit.{[], ap, arith, codes, inl, length, List, None, Ok, refl, subst, sym, ℕ, ◌++◌, ◌+◌}
+use Rattle.ed_programs.proofs.Kit.{◌-◌, ◌∙◌, ◌∷◌, ◌≡◌, ◌≤◌, Text, paper, step, State, run_end, ReachesStop, at_after}
+use Rattle.ed_programs.proofs.Kit.{ran_outcome-answered, nothing_after, ran_to_stop, tape_state, reading, TapeEntry}
+use Rattle.ed_programs.proofs.Kit.{opening, reading_on, first_state, LeadsIn, first_store, starts, Outcome, paper_room}
+use Rattle.ed_programs.proofs.Kit.{ran_outcome, with_post_mortem, tape_outcome, GivesProgram, TapeRuns, Refusal}
 use Rattle.ed_laws.proofs.Kit.{cleared_cells, RunEnd, ran_later, Arrived, first_directive, reading_is_rules, run_of}
 use Rattle.ed_laws.proofs.Kit.{opening_notation}
 use Rattle.ed_codes.specs.Reading.{IsReadingOf, no_row, open_comment}
@@ -29,9 +29,7 @@ entry_with at cost read n rest =
 pub record Arrives (z : Size) (tape_rows : List ℕ) (e : TapeEntry) : Type 0 where
   pub cleared : reading_on z cleared_cells.words 0 9 opening_notation None tape_rows ≡ Arrived e
   pub started : reading_on z (first_state z tape_rows).store.words 0 9
-      (opening (first_state z tape_rows).store.words) None
-      tape_rows
-      ≡ Arrived e
+      (opening (first_state z tape_rows).store.words) None tape_rows ≡ Arrived e
 
 module _ {z : Size} {tape_rows : List ℕ} {e : TapeEntry} (o : Arrives z tape_rows e) where
   abbrev first : State
@@ -52,8 +50,7 @@ module _ {z : Size} {tape_rows : List ℕ} {e : TapeEntry} (o : Arrives z tape_r
 
 -- a text that spells these rows, which reach this entry, and whose program reaches its stop from there
 pub tape_runs : (s : Settings) (tape : Text) (tape_rows : List ℕ) (e : TapeEntry) {k orders at : ℕ} {printed : List ℕ}
-    {text : Text}
-    → reading tape ≡ rows tape_rows → length tape ≤ INPUT_BYTES → Arrives s.size tape_rows e
+    {text : Text} → reading tape ≡ rows tape_rows → length tape ≤ INPUT_BYTES → Arrives s.size tape_rows e
     → ReachesStop k (tape_state s tape_rows e) printed at → length printed ≤ paper_room → k + 1 ≡ orders
     → paper printed ≡ text → TapeRuns s tape e.cost orders at text
 tape_runs s tape tape_rows e {k} {orders} {at} {printed} reads short arrives stops few total shown =

@@ -1,12 +1,12 @@
 -- Lines of a source with data: one with a text of rows, and one that has a number between other parts.
-use Rattle.ed_programs.proofs.Kit.{Statement, is_place_name, array, has_quote, quote_parts, among, are}
-use Rattle.ed_programs.proofs.Kit.{decimal_is, digit_bytes, few_bytes, line_bytes, run_bytes, some_digit, value_is}
-use Rattle.ed_programs.proofs.Kit.{written, [], ap, arith, Bool, codes, decimal, false, length, length-append, List}
-use Rattle.ed_programs.proofs.Kit.{nat_le, nat_lt, Ok, Option, refl, rules, Some, subst, sym, true, ℕ, ◌++◌, ◌+◌, ◌<◌}
-use Rattle.ed_programs.proofs.Kit.{◌==◌, ◌∙◌, ◌∷◌, ◌≡◌, ◌≤◌, list_all, and_from, and_parts, le-leb, leb-true, ltb-true}
-use Rattle.ed_programs.proofs.Kit.{ne_eqb, not-true, nat_tests, length-map, list_all-append, value, Text, row_of}
-use Rattle.ed_programs.proofs.Kit.{is_run_byte, is_line_byte, is_number, LinePart, run, form_at, row, spells}
-use Rattle.ed_programs.proofs.Kit.{parts_of, line_of, run_parts, digits, a_number, true≢false, ◌&&◌, Marked}
+use Rattle.ed_programs.proofs.Kit.{Statement, is_place_name, array, has_quote, quote_parts, among, are, decimal_is}
+use Rattle.ed_programs.proofs.Kit.{digit_bytes, few_bytes, line_bytes, run_bytes, some_digit, value_is, written, [], ap}
+use Rattle.ed_programs.proofs.Kit.{arith, Bool, codes, decimal, false, length, length-append, List, nat_le, nat_lt, Ok}
+use Rattle.ed_programs.proofs.Kit.{Option, refl, rules, Some, subst, sym, true, ℕ, ◌++◌, ◌+◌, ◌<◌, ◌==◌, ◌∙◌, ◌∷◌, ◌≡◌}
+use Rattle.ed_programs.proofs.Kit.{◌≤◌, list_all, and_from, and_parts, le-leb, leb-true, ltb-true, ne_eqb, not-true}
+use Rattle.ed_programs.proofs.Kit.{nat_tests, length-map, list_all-append, value, Text, row_of, is_run_byte}
+use Rattle.ed_programs.proofs.Kit.{is_line_byte, is_number, LinePart, run, form_at, row, spells, parts_of, line_of}
+use Rattle.ed_programs.proofs.Kit.{run_parts, digits, a_number, true≢false, ◌&&◌, Marked}
 use Rattle.std.proofs.lemmas.Grind.{common_steps}
 use Rattle.ed_syntax.specs.Parts.{begins_run}
 use Rattle.ed_programs.proofs.NumberLines.{is_short_label}

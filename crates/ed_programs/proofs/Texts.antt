@@ -1,13 +1,12 @@
 -- What a call that writes a program's text answers.
-use Rattle.std.proofs.Common.{◌≡◌, ℕ, Some, None, Ok, string_bytes, Option, ◌∙◌, inl, Err, Result}
-use Rattle.std.proofs.Common.{IfOk, IfSome, String}
+use Rattle.std.proofs.Common.{◌≡◌, ℕ, Some, None, Ok, string_bytes, Option, ◌∙◌, inl, Err, Result, IfOk, IfSome, String}
+use Rattle.std.proofs.Common.{rules}
 use Rattle.std.specs.declared.alloc.AllocError.{AllocError}
 use Rattle.std.specs.declared.alloc.Global.{Global}
 use Rattle.ed_words.specs.Texts.{Text}
 use Rattle.ed_run.specs.declared.settings.Settings.{Settings}
 use Rattle.ed_programs.specs.Programs.{AnswersWritten, GivesProgram, Prints, SourceRuns}
 use Rattle.ed_programs.specs.declared.refusal.Refusal.{Refusal}
-use Rattle.std.proofs.Common.{rules}
 
 -- the answer is what `format!` wrote
 pub GivesProgram-written : {cause : Option Refusal} → cause ≡ None → (text : Result (String Global) AllocError)

@@ -1,12 +1,13 @@
 -- The source of `examples/total.edsac` for any list: its path, and what it prints.
-use Rattle.ed_programs.proofs.Kit.{before_order, Z_F, Size, Z, Settings, Line, sum_by, along, IsIn, Journey, stop_after, then}
-use Rattle.ed_programs.proofs.Kit.{to_stop, print_line, get_own, frame_at, moment_at, [], append-nil, arith, false}
-use Rattle.ed_programs.proofs.Kit.{length, List, lit<, lit≤, map, nat_le, refl, sym, true, ℕ, ◌*◌, ◌++◌, ◌+◌, ◌-◌, ◌<◌}
-use Rattle.ed_programs.proofs.Kit.{◌∙◌, ◌∷◌, ◌≡◌, ◌≤◌, list_all, and_from, and_parts, leb-true, lt-ltb, sum_by-cons}
-use Rattle.ed_programs.proofs.Kit.{Text, Frame, Moment, state, settings, parameter_store, digits, print_orders}
-use Rattle.ed_programs.proofs.Kit.{few_digits, ReachesStop, entry_state, digits_printed, numbers_text, SourceRuns}
-use Rattle.ed_programs.proofs.Kit.{total_text, reads_number, are_small, number_rows, stops_from_entry, Marked, to}
-use Rattle.ed_programs.proofs.Kit.{calling, journey_counted, stop_counted, HasPair, pair_after, pair_at_entry}
+use Rattle.ed_programs.proofs.Kit.{before_order, Z_F, Size, Z, Settings, Line, sum_by, along, IsIn, Journey, stop_after}
+use Rattle.ed_programs.proofs.Kit.{then, to_stop, print_line, get_own, frame_at, moment_at, [], append-nil, arith}
+use Rattle.ed_programs.proofs.Kit.{false, length, List, lit<, lit≤, map, nat_le, refl, sym, true, ℕ, ◌*◌, ◌++◌, ◌+◌}
+use Rattle.ed_programs.proofs.Kit.{◌-◌, ◌<◌, ◌∙◌, ◌∷◌, ◌≡◌, ◌≤◌, list_all, and_from, and_parts, leb-true, lt-ltb}
+use Rattle.ed_programs.proofs.Kit.{sum_by-cons, Text, Frame, Moment, state, settings, parameter_store, digits}
+use Rattle.ed_programs.proofs.Kit.{print_orders, few_digits, ReachesStop, entry_state, digits_printed, numbers_text}
+use Rattle.ed_programs.proofs.Kit.{SourceRuns, total_text, reads_number, are_small, number_rows, stops_from_entry}
+use Rattle.ed_programs.proofs.Kit.{Marked, to, calling, journey_counted, stop_counted, HasPair, pair_after}
+use Rattle.ed_programs.proofs.Kit.{pair_at_entry}
 use Rattle.std.specs.Fmt.{decimal}
 use Rattle.ed_routines.specs.Digits.{sum}
 use Rattle.ed_programs.specs.Total.{total_orders}

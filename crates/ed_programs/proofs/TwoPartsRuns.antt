@@ -1,15 +1,15 @@
 -- A tape whose first program returns to the Initial Orders and whose second one reaches its stop, as the answers of the
 -- commands `parts` and `tape`.
-use Rattle.ed_programs.proofs.Kit.{INPUT_BYTES, ReachesNextEntry, ran_outcome-answered, with_post_mortem}
-use Rattle.ed_programs.proofs.Kit.{ReachesEntry, append_assoc, length-append, state_after, nothing_after, tape_outcome}
-use Rattle.ed_programs.proofs.Kit.{stop_after, IsStore, ReachesStop, ran_to_stop, first_state, first_store, ran_outcome}
-use Rattle.ed_programs.proofs.Kit.{Size, OfReading, directive, IsReturned, is_obeyed, TapeEntry, paper_room}
-use Rattle.ed_programs.proofs.Kit.{Settings, at_entry, comes_in, exactly, arith, cases_lt, progress, at_after, stops_of}
-use Rattle.ed_programs.proofs.Kit.{prints, length, lt-ltb, Moment, run_end, reading, LeadsIn, Outcome}
-use Rattle.ed_programs.proofs.Kit.{rows, codes, false, rules, subst, paper, State, Frame, state, joined, Leads, starts}
-use Rattle.ed_programs.proofs.Kit.{inl, inr, List, None, refl, Some, suc, sym, true, zero, ◌++◌, Text, step, Path, stay}
-use Rattle.ed_programs.proofs.Kit.{[], ap, ℕ, ◌+◌, ◌-◌, ◌<◌, ◌∙◌, ◌∷◌, ◌≡◌, ◌≢◌, ◌≤◌, on}
-use Rattle.ed_interlude.proofs.Kit.{next_state, end_by, address, Concludes, entry_done, entry_report, finished}
+use Rattle.ed_programs.proofs.Kit.{INPUT_BYTES, ReachesNextEntry, ran_outcome-answered, with_post_mortem, ReachesEntry}
+use Rattle.ed_programs.proofs.Kit.{append_assoc, length-append, state_after, nothing_after, tape_outcome, stop_after}
+use Rattle.ed_programs.proofs.Kit.{IsStore, ReachesStop, ran_to_stop, first_state, first_store, ran_outcome, Size}
+use Rattle.ed_programs.proofs.Kit.{OfReading, directive, IsReturned, is_obeyed, TapeEntry, paper_room, Settings}
+use Rattle.ed_programs.proofs.Kit.{at_entry, comes_in, exactly, arith, cases_lt, progress, at_after, stops_of, prints}
+use Rattle.ed_programs.proofs.Kit.{length, lt-ltb, Moment, run_end, reading, LeadsIn, Outcome, rows, codes}
+use Rattle.ed_programs.proofs.Kit.{rules, subst, paper, State, Frame, state, joined, Leads, starts, inl, inr, List}
+use Rattle.ed_programs.proofs.Kit.{refl, Some, suc, sym, true, zero, ◌++◌, Text, step, Path, stay, [], ap, ℕ, ◌+◌}
+use Rattle.ed_programs.proofs.Kit.{◌-◌, ◌<◌, ◌∙◌, ◌∷◌, ◌≡◌, ◌≢◌, ◌≤◌, on}
+use Rattle.ed_interlude.proofs.Kit.{next_state, address, Concludes, entry_done, entry_report, finished}
 use Rattle.ed_interlude.proofs.Kit.{Finishes, first_part, GoesBack, LeadsTo, part_after, part_entry_state, part_report}
 use Rattle.ed_interlude.proofs.Kit.{PartsReport, ReturnsToLoader, RunsOn, TapePart}
 use Rattle.ed_laws.proofs.Kit.{Obeyed, counted_after, next_stops, IsInParts}
@@ -23,8 +23,8 @@ use Rattle.ed_orders.specs.declared.kind.Kind.{Kind}
 use Rattle.ed_interlude.specs.Parts.{IsUnderWay, IsReportOfTape, program_end}
 use Rattle.ed_interlude.specs.declared.tape.PartsEnd.TheVariants.{Ended}
 use Rattle.ed_interlude.proofs.Resumed.{leads_back}
-use Rattle.ed_programs.proofs.TwoParts.{TwoParts, TwoPartsRun, orders_to_program, orders_to_return, orders_to_stop, part}
-use Rattle.ed_programs.proofs.TwoParts.{two_parts_lines, two_parts_note}
+use Rattle.ed_programs.proofs.TwoParts.{TwoParts, TwoPartsRun, orders_to_program, orders_to_return, orders_to_stop}
+use Rattle.ed_programs.proofs.TwoParts.{part, two_parts_lines, two_parts_note}
 use Rattle.std.proofs.lemmas.Grind.{common_steps}
 use Rattle.ed_machine.proofs.Kit.Paths as paths
 
@@ -57,9 +57,6 @@ away (prints first rest) above done = away_on first above.0 done (away rest abov
 -- and before the order at which it stops
 pub away_to_stop : {k : ℕ} {s t : State} {cs : List ℕ} → Leads k s cs t → IsAway k s → t.counter ≢ 25 → IsAway (k + 1) s
 away_to_stop {k} {s} leads before last j l = search (rules, cases_lt)
-
-no_end : (turn : Turn) → is_obeyed turn ≡ true → end_by turn false ≡ None
-no_end turn e = search rules
 
 module _ (left : ℕ) (s : State) where
   under_way : (k : ℕ) → k < left → (progress k s).stops ≡ 0 → is_obeyed (step (state_after k s)).turn ≡ true

@@ -1,5 +1,4 @@
-use Rattle.ed_programs.proofs.Kit.{[], ap, List, ℕ, ◌∷◌, Text, filled_text, celsius_text}
-use Rattle.ed_programs.proofs.Kit.{all_fit, prints_as}
+use Rattle.ed_programs.proofs.Kit.{[], ap, List, ℕ, ◌∷◌, Text, filled_text, celsius_text, all_fit, prints_as}
 use Rattle.ed_programs.proofs.CelsiusRuns.{each_celsius, celsius_pieces}
 use Rattle.ed_programs.proofs.NumberLists.{IsList, is_list}
 use Rattle.ed_programs.proofs.Texts.{GivesProgram-written}

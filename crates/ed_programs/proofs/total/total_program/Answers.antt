@@ -1,5 +1,5 @@
-use Rattle.ed_programs.proofs.Kit.{[], ap, if◌then◌else◌, List, nat_lt, Some, true, ℕ, ◌∙◌, ◌∷◌, ◌≡◌}
-use Rattle.ed_programs.proofs.Kit.{ltb-true, Text, filled_text, list_refusal, total_text, prints_as}
+use Rattle.ed_programs.proofs.Kit.{[], ap, if◌then◌else◌, List, nat_lt, Some, true, ℕ, ◌∙◌, ◌∷◌, ◌≡◌, ltb-true, Text}
+use Rattle.ed_programs.proofs.Kit.{filled_text, list_refusal, total_text, prints_as}
 use Rattle.ed_routines.specs.Digits.{sum}
 use Rattle.ed_programs.specs.Total.{total_refusal}
 use Rattle.ed_programs.specs.declared.refusal.Refusal.TheVariants.{Number}
