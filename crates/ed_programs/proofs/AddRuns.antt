@@ -47,8 +47,7 @@ module _ (z : Size) (m : Moment) where
       let after_one = pair_after one o in
       let second : IsIn f (at 4 one.words 0 a a (number_rows (b ∷ []))) =
       record { above = lit≤ tt; all = after_one.all; own = refl } in
-      let two : HasRead second 4 12 70 b [] =
-      reads_number second 4 12 b [] after_one.reads refl (omega arith) (lit< tt) (lit≤ tt) refl refl refl in
+      let two = reads_number second 4 12 b [] after_one.reads refl (omega arith) (lit< tt) (lit≤ tt) refl refl refl in
       let after_two = pair_after two after_one in
       let last : IsIn f (at 9 two.words 0 (a + b) a []) = record { above = lit≤ tt; all = after_two.all; own = refl } in
       let number = get_own 0 two.words 56 (cells (a + b) a) 12 (lit< tt) in

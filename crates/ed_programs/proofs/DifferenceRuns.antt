@@ -65,8 +65,7 @@ module _ (z : Size) (m : Moment) where
       let after_one = pair_after one o in
       let next : IsIn f (at 4 one.words 0 a a 0 (number_rows (b ∷ []))) =
       record { above = lit≤ tt; all = after_one.all; own = refl } in
-      let two : HasRead next 4 16 76 b [] =
-      reads_number next 4 16 b [] after_one.reads refl second (lit< tt) (lit≤ tt) refl refl refl in
+      let two = reads_number next 4 16 b [] after_one.reads refl second (lit< tt) (lit≤ tt) refl refl refl in
       let after_two = pair_after two after_one in
       let takes = apart two.words a b first second (nat_lt b a) refl in
       let last : IsIn f (at 13 two.words 0 (distance a b) a takes.0 []) =

@@ -2,7 +2,7 @@
 use Rattle.ed_programs.proofs.Kit.{along, parameter_store, routine_after, stops_from_entry, Z, print_orders}
 use Rattle.ed_programs.proofs.Kit.{ReachesStop, shows_number, Path-counted, stop_counted, all_words, moment_at, []}
 use Rattle.ed_programs.proofs.Kit.{HasRoutine, entry_state, SourceRuns, Settings, Journey, to_stop, followed, frame_at}
-use Rattle.ed_programs.proofs.Kit.{settings, HasShown, decimal, length, Moment, newline, with_h, digits, Marked}
+use Rattle.ed_programs.proofs.Kit.{settings, decimal, length, Moment, newline, with_h, digits, Marked}
 use Rattle.ed_programs.proofs.Kit.{calling, Z_F, Size, Line, IsIn, arith, codes, subst, Frame, short, state, print}
 use Rattle.ed_programs.proofs.Kit.{then, List, lit<, lit≤, refl, Some, true, zero, ◌++◌, Text, Path, stay, link, map}
 use Rattle.ed_programs.proofs.Kit.{suc, ℕ, ◌*◌, ◌+◌, ◌<◌, ◌∷◌, ◌≡◌, ◌≤◌, to}
@@ -76,9 +76,8 @@ module _ (z : Size) (c : ℕ) where
     show l p s k h small =
         let third = o.prints.at3 in let all = o.all in
         let called : IsIn f (at m 34 0 l r p s k (link j)) = record { above = lit≤ tt; all = all; own = refl } in
-        let shown : HasShown called 34 29 96 148 p =
-        shows_number called 34 29 p o.prints o.lines (lit≤ tt) refl small (lit< tt) (lit≤ tt) refl refl refl
-        refl refl in
+        let shown = shows_number called 34 29 p o.prints o.lines (lit≤ tt) refl small (lit< tt) (lit≤ tt) refl refl
+        refl refl refl in
         record {
           after = record m { words = shown.words; last = Some 24 };
           is = record { all = shown.still_in.all; prints = shown.prints; lines = shown.lines };
@@ -92,8 +91,7 @@ module _ (z : Size) (c : ℕ) where
       → ReachesStop (9 * a + 9 * c + print_orders (a * b) + print_orders (c * c) + 53)
       (state f (at m 0 0 a b 0 0 0 0) done) (list_codes (a * b ∷ c * c ∷ [])) 68
   stops m o a b few small few_c small_c done =
-      let one : Shown m o 2 b (lit≤ tt) 0 (a * b) 131071 (link 0) 0 =
-      show m o 2 b (lit≤ tt) 0 (a * b) 131071 (link 0) 0 small in
+      let one = show m o 2 b (lit≤ tt) 0 (a * b) 131071 (link 0) 0 small in
       let now : Moment = one.after in
       let two = show now one.is 9 c (lit≤ tt) 0 (c * c) 131071 (link 7) (link 2) small_c in
       stop_counted (to_stop
