@@ -33,8 +33,7 @@ module _ (month year : ℕ) (small : month ≤ 65535) (low : year ≤ 65535) whe
       (data_rows month year) (reads_spell front (rows_in front) refl) data_spells)
 
   pub few_text : length (calendar_text month year) ≤ INPUT_BYTES
-  few_text =
-      let m = few_figures month small in let y = few_figures year low in search (rules, m, y, leb-true, length-append)
+  few_text = search (rules, few_figures, leb-true, length-append)
 
 -- ---- the number of codes
 

@@ -98,8 +98,7 @@ weight_more d (suc k) =
 
 value_more : (d k : ℕ) → value d (replicate (suc k) 1) ≡ (d + k) * value d (replicate k 1) + 1
 value_more d zero = omega arith
-value_more d (suc k) =
-    let first = weight_more (suc d) k in let second = value_more (suc d) k in omega arith
+value_more d (suc k) = search (rules, weight_more, value_more (suc d) k)
 
 factorial_is : (k : ℕ) → weight 2 (replicate k 1) ≡ factorial (suc k)
 factorial_is zero = refl

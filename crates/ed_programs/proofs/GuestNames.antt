@@ -1,5 +1,5 @@
 -- A source that enters the checking routine is entered at the routine's base.
-use Rattle.ed_programs.proofs.Kit.{arith, nat_tests, Size, Line, Statement, Enter, bytes_eq, bytes_eq-Decides}
+use Rattle.ed_programs.proofs.Kit.{arith, nat_tests, Size, Line, Statement, Enter, bytes_eq-Decides}
 use Rattle.ed_programs.proofs.Kit.{Definition, counter_after, place_on, [], ap, append_assoc, false, inl, inr, List}
 use Rattle.ed_programs.proofs.Kit.{None, Option, refl, Some, subst, sym, true, unwrap_or, ℕ, ◌++◌, ◌∙◌, ◌∷◌, ◌≡◌}
 use Rattle.ed_programs.proofs.Kit.{first_counter, entry_of, symbols_of, checker_base, EntersChecker}
@@ -60,8 +60,7 @@ no_local (Some k) = refl
 
 local_unseen : (name : List ℕ) → is_local name ≡ true → (hs : List Definition) → definition_of None name hs ≡ None
 local_unseen name e [] = refl
-local_unseen name e (h ∷ hs) =
-    let inside = no_local h.segment in let rest = local_unseen name e hs in grind (arith, nat_tests)
+local_unseen name e (h ∷ hs) = search (rules, no_local, local_unseen name e hs)
 
 module _ (z : Size) (lines : List Line) (faultless : HasNoFault z lines) (c : EntersChecker lines) where
   -- no line before the one that enters is an `enter`
@@ -123,8 +122,7 @@ module _ (z : Size) (lines : List Line) (faultless : HasNoFault z lines) (c : En
   all_homes = search (rules, homes_append, append_assoc)
 
   itself : definition_of None c.name (home ∷ later) ≡ Some home
-  itself =
-      let same : bytes_eq c.name c.name ≡ true = (bytes_eq-Decides c.name c.name).1 refl in rw (same, is_global) refl
+  itself = search (rules, bytes_eq-Decides, is_global)
 
   pub placed : place_on (symbols_of lines) None c.name ≡ Some (checker_base c.before)
   placed =

@@ -2,7 +2,7 @@
 use Rattle.ed_programs.proofs.Kit.{A_F, Z_F, Size, Full, Small, no_step, Line, Label, Fetch, checked_codes}
 use Rattle.ed_programs.proofs.Kit.{checked_orders, IsAllowed, placed, word_at, [], ap, arith, codes, false, length}
 use Rattle.ed_programs.proofs.Kit.{List, lit<, lit≤, None, Ok, pos, refl, rules, Some, subst, suc, sym, take, true}
-use Rattle.ed_programs.proofs.Kit.{unwrap_or, zero, ℕ, ◌*◌, ◌++◌, ◌+◌, ◌-◌, ◌/◌, ◌<◌, ◌^◌, ◌∙◌, ◌∷◌, ◌≡◌, ◌≤◌, Text}
+use Rattle.ed_programs.proofs.Kit.{unwrap_or, zero, ℕ, ◌++◌, ◌+◌, ◌-◌, ◌<◌, ◌∙◌, ◌∷◌, ◌≡◌, ◌≤◌, Text}
 use Rattle.ed_programs.proofs.Kit.{paper, short_at, step, State, progress, state_after, placed_at, settings, line_of}
 use Rattle.ed_programs.proofs.Kit.{program_of, parameter_store, fault, read_is_accepted, text_of_lines, is_obeyed}
 use Rattle.ed_programs.proofs.Kit.{stops_of, EntersChecker, entry_guest, stopped_orders, StopsAtZ, SourceRuns, Marked}
@@ -64,9 +64,7 @@ module _ (z : Size) where
 
   first_turn : (step g).turn ≡ Printed 28
   unfolding step
-  first_turn =
-      ap (λ w. (obey_word (kind_of_function (function_of w)) w g).turn) first_word
-      ∙ ap (λ w. Printed (w * 2 ^ 18 / 2 ^ 30)) letter
+  first_turn = search rules
 
   abbrev second : State
   second = (obey_word (Some O) 36980 g).state

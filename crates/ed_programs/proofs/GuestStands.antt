@@ -24,6 +24,7 @@ use Rattle.ed_answers.proofs.Entries.{each_source}
 use Rattle.ed_answers.proofs.EntryWords.{each_entry_store_is}
 use Rattle.ed_answers.proofs.PunchedTexts.{text_is_tape}
 use Rattle.ed_programs.proofs.GuestNames.{entry_is}
+use Rattle.std.proofs.Common.{rules}
 
 -- ---- the machine that is started on the tape of a source
 
@@ -128,8 +129,7 @@ module _ (z : Size) (source : Text) (lines : List Line) (accepted : IsAcceptedAs
 
   no_accumulator : (long_at m.store (base + 60) ≡ 0) × (long_at m.store (base + 62) ≡ 0)
       × (long_at m.store (base + 64) ≡ 0)
-  no_accumulator =
-      (no_long 60 refl (lit< tt) refl refl, no_long 62 refl (lit< tt) refl refl, no_long 64 refl (lit< tt) refl refl)
+  no_accumulator = search (rules, no_long, lit<)
 
   module _ (in_range : h < 1024) where
     first_word : short_at m.store base ≡ A_F + 2 * h
