@@ -289,9 +289,11 @@ module _ (z : Size) (m : Moment) where
       (omega arith) (omega arith) in
       let x = one.0 in
       let rest = groups j (tenfold 2 ns).left x.words x.work c x.last (131072 - suc j) x.around x.stand
-      (tenfold_long 2 ns ∙ long) (omega arith) (omega arith) in
-      (rest.0, Path-counted (followed one.1 (followed (obeys 61 (131072 - suc j) (G_jumps 13 ∷ []) refl (omega arith))
-      rest.1)) (omega arith))
+      (tenfold_long 2 ns ∙ long) (omega arith) (omega arith) in (
+        rest.0,
+        Path-counted (followed one.1 (followed (obeys 61 (131072 - suc j) (G_jumps 13 ∷ []) refl (omega arith))
+            rest.1)) (omega arith),
+      )
 
   lines_of : (j : ℕ) (ns : List ℕ) (ws : List ℕ) (k : Work) (c : Counts) (last : Option ℕ) (v : ℕ) → IsAround ws
       → Stand ws 163 2 ns → length ns ≡ 74 → v < 131072 → j < 5

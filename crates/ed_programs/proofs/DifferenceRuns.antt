@@ -44,7 +44,7 @@ module _ (z : Size) (m : Moment) where
       let less = ltb-true b a is in (
         131072 - (a - b),
         obeys 6 0 (A 16 b ∷ S 17 (131072 - (a - b)) ∷ E_stays 12 ∷ T 18 ∷ A 17 a ∷ S 16 (distance a b)
-        ∷ T 16 ∷ []) refl (omega arith),
+            ∷ T 16 ∷ []) refl (omega arith),
       )
   apart words a b first second false is =
       let least = ltb-false b a is in (

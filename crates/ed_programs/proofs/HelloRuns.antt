@@ -186,7 +186,8 @@ each_text s q rows are few =
 
 -- 1 to 40 capital letters are printed as they are, on a line
 pub each_name : (letters : Text) → 1 ≤ length letters → length letters ≤ 40 → list_all is_capital letters ≡ true
-    → (s : Settings) → SourceRuns s (hello_text (of_letters letters)) (hello_orders letters) 67 (letters ++ 13 ∷ 10 ∷ [])
+    → (s : Settings)
+    → SourceRuns s (hello_text (of_letters letters)) (hello_orders letters) 67 (letters ++ 13 ∷ 10 ∷ [])
 each_name letters some few capital s =
     let count : 7 * length (of_letters letters) + 9 ≡ 7 * length letters + 16 = omega arith in
     subst (λ k. SourceRuns s (hello_text (of_letters letters)) k 67 (letters ++ 13 ∷ 10 ∷ [])) count
