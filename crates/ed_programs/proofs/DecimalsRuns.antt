@@ -7,6 +7,7 @@ use Rattle.ed_programs.specs.declared.decimals.TheConstants.{DECIMALS}
 use Rattle.ed_programs.proofs.DecimalsPass.{page_codes, page_orders}
 use Rattle.ed_programs.proofs.DecimalsProgram.{IsAround, cells, decimals_stop, loaded, none_done}
 use Rattle.ed_programs.proofs.SourceRuns.{lines_of_pieces, program_runs}
+use Rattle.std.proofs.Common.{rules}
 
 -- what the two lines print
 abbrev lines_print : List ℕ
@@ -38,9 +39,7 @@ lines = lines_of_pieces true pieces [] marks
 printed : {s : State} → ReachesStop (602 + page_orders 1 (replicate 74 1)) s
     (11 ∷ 2 ∷ 23 ∷ 18 ∷ 24 ∷ page_codes 1 (replicate 74 1)) 135
     → ReachesStop 453712 s (11 ∷ 2 ∷ 23 ∷ 18 ∷ 24 ∷ lines_print) 135
-printed {s} stop =
-    subst (λ (codes : List ℕ). ReachesStop 453712 s (11 ∷ 2 ∷ 23 ∷ 18 ∷ 24 ∷ codes) 135) codes_are
-    (subst (λ n. ReachesStop (602 + n) s (11 ∷ 2 ∷ 23 ∷ 18 ∷ 24 ∷ page_codes 1 (replicate 74 1)) 135) orders_are stop)
+printed {s} stop = search rules
 
 module _ (z : Size) where
   is_around : IsAround (entry_state z lines).store.words

@@ -8,6 +8,7 @@ use Rattle.ed_programs.proofs.Kit.{◌<◌, ◌∙◌, ◌∷◌, ◌≡◌, ◌
 use Rattle.ed_programs.proofs.Kit.{ReachesStop, printing, stop_counted, Path-counted}
 use Rattle.ed_programs.proofs.Orders.{A, A_low, E_jumps, E_stays, G_jumps, G_stays, L, O_high, S, S_low, T, T_high, U}
 use Rattle.ed_programs.proofs.Orders.{obeys}
+use Rattle.std.proofs.Common.{rules}
 
 -- the cells that change
 pub record Work : Type 0 where
@@ -41,11 +42,7 @@ Stored ws (c ∷ cs) = (get_or ws (104 + length cs) 0 ≡ 4096 * c) × (c < 32) 
 -- a word that is written above them leaves them
 stored_set : (ws : List ℕ) (a v : ℕ) (cs : List ℕ) → 104 + length cs ≤ a → Stored ws cs → Stored (set ws a v) cs
 stored_set ws a v [] l h = tt
-stored_set ws a v (c ∷ cs) l h = (
-  get_or-set_other ws a (104 + length cs) v 0 (omega arith) ∙ h.0,
-  h.1,
-  stored_set ws a v cs (omega arith) h.2,
-)
+stored_set ws a v (c ∷ cs) l h = search (rules, get_or-set_other, stored_set ws a v cs (omega arith) h.2)
 
 module _ (z : Size) (m : Moment) where
   abbrev pub f : Frame 33 0
