@@ -1,9 +1,8 @@
 -- What the program of `examples/calendar.tape` counts is the calendar, from 1901 to 2099.
-use Rattle.ed_programs.proofs.Kit.{sum, [], arith, Bool, get_or, if◌then◌else◌, refl, rules, suc, zero, ℕ}
-use Rattle.ed_programs.proofs.Kit.{◌%◌, ◌*◌, ◌+◌, ◌/◌, ◌==◌, ◌∙◌, ◌∷◌, ◌≡◌, ◌≤◌, nat_tests, days_before, is_leap}
-use Rattle.ed_programs.proofs.Kit.{month_lengths, weekday, place}
+use Rattle.ed_programs.proofs.Kit.{sum, [], arith, Bool, get_or, if◌then◌else◌, refl, rules, suc, zero, ℕ, ◌%◌, ◌*◌}
+use Rattle.ed_programs.proofs.Kit.{◌+◌, ◌/◌, ◌==◌, ◌∙◌, ◌∷◌, ◌≡◌, ◌≤◌, nat_tests, days_before, is_leap, month_lengths}
+use Rattle.ed_programs.proofs.Kit.{weekday, place, common_steps}
 use Rattle.ed_programs.specs.Calendar.{years_length}
-use Rattle.std.proofs.lemmas.Grind.{common_steps}
 
 -- ---- leap years and their days
 

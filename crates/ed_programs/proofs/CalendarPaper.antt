@@ -4,12 +4,11 @@ use Rattle.ed_programs.proofs.Kit.{decimal, false, get_or, if◌then◌else◌, 
 use Rattle.ed_programs.proofs.Kit.{zero, ℕ, ◌%◌, ◌*◌, ◌++◌, ◌+◌, ◌-◌, ◌<◌, ◌==◌, ◌∙◌, ◌∷◌, ◌≡◌, ◌≤◌, nat_tests, Text}
 use Rattle.ed_programs.proofs.Kit.{paper, digits, number_shown, replicate, paper_from, calendar_prints, days_before}
 use Rattle.ed_programs.proofs.Kit.{is_leap, month_length, weekday, calendar_codes, day_codes, days_codes, head_codes}
-use Rattle.ed_programs.proofs.Kit.{place, title_codes, year_codes}
+use Rattle.ed_programs.proofs.Kit.{place, title_codes, year_codes, common_steps}
 use Rattle.std.proofs.Common.{flat_map}
 use Rattle.ed_programs.specs.Calendar.{calendar_days, day_text, new_line, month_names}
 use Rattle.ed_programs.proofs.CalendarCodes.{days_from, range_is, week_end}
 use Rattle.ed_programs.proofs.CalendarDays.{days_at_most, days_before_is, weekday_is}
-use Rattle.std.proofs.lemmas.Grind.{common_steps}
 
 -- ---- the title
 

@@ -1,13 +1,12 @@
 -- Why the method is right: what it gives with any number of divisors are the decimals of the sum of the fractions.
 use Rattle.ed_programs.proofs.Kit.{mod-lt, div-add-mod, mul-le-mul_right, [], ap, arith, List, lit<, lit≤, refl, subst}
 use Rattle.ed_programs.proofs.Kit.{suc, sym, zero, ℕ, ◌*◌, ◌+◌, ◌/◌, ◌<◌, ◌^◌, ◌∙◌, ◌∷◌, ◌≡◌, ◌≤◌, replicate, carries}
-use Rattle.ed_programs.proofs.Kit.{factorial, parts, tenfold}
+use Rattle.ed_programs.proofs.Kit.{factorial, parts, tenfold, rules}
 use Rattle.std.proofs.Math.Nat.{pow-suc}
 use Rattle.std.proofs.lemmas.Nat.{div-mul-add}
 use Rattle.ed_notation.specs.Items.{digits_number}
 use Rattle.ed_programs.specs.Decimals.{MethodIsRight}
 use Rattle.ed_programs.proofs.DecimalsPass.{after}
-use Rattle.std.proofs.Common.{rules}
 
 -- the product of the divisors, and the sum of the fractions in parts of it
 abbrev weight : ℕ → List ℕ → ℕ

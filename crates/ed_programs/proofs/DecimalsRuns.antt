@@ -1,13 +1,12 @@
 -- What the source of `examples/decimals.edsac` prints: its lines, its entry and its law.
 use Rattle.ed_programs.proofs.Kit.{Size, Settings, Line, all_words, moment_at, [], List, lit≤, map, refl, subst, true}
 use Rattle.ed_programs.proofs.Kit.{ℕ, ◌+◌, ◌∷◌, ◌≡◌, Text, paper, State, settings, parameter_store, ReachesStop}
-use Rattle.ed_programs.proofs.Kit.{entry_state, replicate, decimals_prints, SourceRuns, stops_from_entry, Marked}
+use Rattle.ed_programs.proofs.Kit.{entry_state, replicate, decimals_prints, SourceRuns, stops_from_entry, Marked, rules}
 use Rattle.ed_programs.specs.Decimals.{decimals_orders, decimals_text}
 use Rattle.ed_programs.specs.declared.decimals.TheConstants.{DECIMALS}
 use Rattle.ed_programs.proofs.DecimalsPass.{page_codes, page_orders}
 use Rattle.ed_programs.proofs.DecimalsProgram.{IsAround, cells, decimals_stop, loaded, none_done}
 use Rattle.ed_programs.proofs.SourceRuns.{lines_of_pieces, program_runs}
-use Rattle.std.proofs.Common.{rules}
 
 -- what the two lines print
 abbrev lines_print : List ℕ

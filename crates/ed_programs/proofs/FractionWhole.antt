@@ -5,15 +5,13 @@ use Rattle.ed_programs.proofs.Kit.{length-append, List, lit<, lit≤, refl, Some
 use Rattle.ed_programs.proofs.Kit.{◌++◌, ◌+◌, ◌/◌, ◌<◌, ◌^◌, ◌∙◌, ◌∷◌, ◌≡◌, ◌≤◌, Text, paper, Moment, state, Path, stay}
 use Rattle.ed_programs.proofs.Kit.{own, digits, print_orders, few_digits, ReachesStop, divide_orders, number_shown}
 use Rattle.ed_programs.proofs.Kit.{paper_from, figure_orders, HasRead, reads_number, number_rows, journey_counted}
-use Rattle.ed_programs.proofs.Kit.{stop_counted}
+use Rattle.ed_programs.proofs.Kit.{stop_counted, common_steps, rules}
 use Rattle.std.proofs.Math.Nat.{div-le_self, add-mul-div_left, add-mul-mod_self_left, mul_assoc, pow-succ'}
 use Rattle.ed_programs.specs.Fraction.{figure, figures}
 use Rattle.ed_programs.proofs.FractionProgram.{Given, IsAround, Turned, Work, after_read, at, divided, in_at, printed}
 use Rattle.ed_programs.proofs.FractionProgram.{turn}
 use Rattle.ed_programs.proofs.NumberShown.{then_on}
 use Rattle.ed_programs.proofs.Orders.{A, G_jumps, S, T, obeys}
-use Rattle.std.proofs.lemmas.Grind.{common_steps}
-use Rattle.std.proofs.Common.{rules}
 use Rattle.ed_machine.proofs.Kit.Moves as moves
 
 -- ---- division as on paper: the figure and what is left, by those of the place before

@@ -4,7 +4,7 @@ use Rattle.ed_programs.proofs.Kit.{table_item, counter_after, operand_number, Ha
 use Rattle.ed_programs.proofs.Kit.{length, List, lit<, map, nat_eq, None, refl, subst, sym, true, ℕ, ◌%◌, ◌*◌, ◌++◌}
 use Rattle.ed_programs.proofs.Kit.{◌+◌, ◌/◌, ◌<◌, ◌^◌, ◌||◌, ◌∙◌, ◌≡◌, ◌≤◌, locations, Text, locations_most, short_at}
 use Rattle.ed_programs.proofs.Kit.{State, image_word, parameter_store, symbols_of, cost, with_h, guest, entry_state}
-use Rattle.ed_programs.proofs.Kit.{first_state, IsAcceptedAs, checker_base, EntersChecker, entry_guest}
+use Rattle.ed_programs.proofs.Kit.{first_state, IsAcceptedAs, checker_base, EntersChecker, entry_guest, rules}
 use Rattle.ed_link.proofs.Kit.{missing_row, data_after, first_place, punched_items, after_text}
 use Rattle.std.proofs.Math.ListN.{get_or-map}
 use Rattle.std.proofs.lemmas.List.{get_or-replicate}
@@ -24,7 +24,6 @@ use Rattle.ed_answers.proofs.Entries.{each_source}
 use Rattle.ed_answers.proofs.EntryWords.{each_entry_store_is}
 use Rattle.ed_answers.proofs.PunchedTexts.{text_is_tape}
 use Rattle.ed_programs.proofs.GuestNames.{entry_is}
-use Rattle.std.proofs.Common.{rules}
 
 -- ---- the machine that is started on the tape of a source
 

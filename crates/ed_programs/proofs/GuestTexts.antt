@@ -3,13 +3,12 @@ use Rattle.ed_programs.proofs.Kit.{nat_tests, ◌&&◌, ne_eqb, Line, Label, Ent
 use Rattle.ed_programs.proofs.Kit.{append_assoc, arith, Bool, codes, false, if◌then◌else◌, length, length-append, List}
 use Rattle.ed_programs.proofs.Kit.{lit≤, nat_le, None, Ok, pos, refl, Some, sym, true, ℕ, ◌*◌, ◌++◌, ◌+◌, ◌==◌, ◌∙◌}
 use Rattle.ed_programs.proofs.Kit.{◌∷◌, ◌≡◌, ◌≤◌, and_from, and_parts, le-leb, leb-true, Text, settings, lines_from}
-use Rattle.ed_programs.proofs.Kit.{text_of_lines, checked_text, EntersChecker, use_check}
+use Rattle.ed_programs.proofs.Kit.{text_of_lines, checked_text, EntersChecker, use_check, rules}
 use Rattle.ed_syntax.proofs.Kit.{ended, HasLines, lines_of, with_byte, without_return, and_more, LinesSay, no_more}
 use Rattle.ed_syntax.specs.Lines.{nothing, last}
 use Rattle.ed_syntax.proofs.Lines.{empty_line}
 use Rattle.ed_syntax.proofs.SourceLaws.{lines_are_read, say_is_read}
 use Rattle.ed_programs.proofs.Answered.{are_short}
-use Rattle.std.proofs.Common.{rules}
 
 -- ---- how long it is
 

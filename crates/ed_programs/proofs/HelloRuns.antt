@@ -7,7 +7,7 @@ use Rattle.ed_programs.proofs.Kit.{refl, reverse, rules, Some, subst, take, true
 use Rattle.ed_programs.proofs.Kit.{◌≡◌, ◌≤◌, list_all, le-ltb, leb-true, length-map, Text, least, row_of, paper, Frame}
 use Rattle.ed_programs.proofs.Kit.{Moment, state, Path, run, sign, row, first_counter, fault, linked_words, symbols_of}
 use Rattle.ed_programs.proofs.Kit.{counter, newline, HasRoutine, ReachesStop, entry_state, said, hello_text, is_capital}
-use Rattle.ed_programs.proofs.Kit.{of_letters, SourceRuns, Marked, to, printing, Path-counted}
+use Rattle.ed_programs.proofs.Kit.{of_letters, SourceRuns, Marked, to, printing, Path-counted, common_steps}
 use Rattle.ed_link.proofs.Kit.{resolution, earlier_fault, missing}
 use Rattle.ed_link.proofs.Extents.{one_by_one}
 use Rattle.ed_sources.proofs.Blocks.{order_at}
@@ -23,7 +23,6 @@ use Rattle.ed_programs.proofs.TextPrograms.{Spells, before_text, last_lines, new
 use Rattle.ed_syntax.specs.declared.program.Operand.TheVariants as operands
 use Rattle.ed_syntax.specs.declared.program.Statement.TheVariants as statements
 use Rattle.ed_programs.proofs.Orders.{A, A_low, G_jumps, G_stays, O_high, S, T, U, obeys}
-use Rattle.std.proofs.lemmas.Grind.{common_steps}
 
 -- the pieces of the source, and between them the number of rows and the bytes that spell them
 abbrev pub hello_pieces : List Text

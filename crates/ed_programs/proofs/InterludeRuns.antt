@@ -6,7 +6,7 @@ use Rattle.ed_programs.proofs.Kit.{INPUT_BYTES, ReachesNextEntry, decimal_is, []
 use Rattle.ed_programs.proofs.Kit.{codes, decimal, get_or, length, length-append, List, lit≤, map, None, Ok, refl}
 use Rattle.ed_programs.proofs.Kit.{rules, subst, sym, ℕ, ◌*◌, ◌++◌, ◌+◌, ◌<◌, ◌∙◌, ◌∷◌, ◌≡◌, ◌≤◌, leb-true, length-map}
 use Rattle.ed_programs.proofs.Kit.{locations, Text, least, State, reading, RowsReachEntry, TapeEntry, WellFormed}
-use Rattle.ed_programs.proofs.Kit.{NotationState, rows_of, first_state, GivesProgram, Refusal, digits}
+use Rattle.ed_programs.proofs.Kit.{NotationState, rows_of, first_state, GivesProgram, Refusal, digits, common_steps}
 use Rattle.ed_programs.specs.Interlude.{interlude_text, InterludePrints, InterludeRuns, interlude_cost}
 use Rattle.ed_programs.specs.declared.interlude.TheConstants.{INTERLUDE}
 use Rattle.ed_programs.proofs.InterludeEnds.{back, back_store, entry, entry_on, interlude_away, interlude_leads}
@@ -16,7 +16,6 @@ use Rattle.ed_programs.proofs.RowTexts.{few_figures, number_spells}
 use Rattle.ed_programs.proofs.TapeRuns.{reads_spell}
 use Rattle.ed_programs.proofs.TwoParts.{TwoParts, TwoPartsRun, part}
 use Rattle.ed_programs.proofs.TwoPartsRuns.{Course, numbers_of, two_parts_run}
-use Rattle.std.proofs.lemmas.Grind.{common_steps}
 
 -- ---- the number on the tape
 

@@ -1,6 +1,7 @@
 -- The names that the proof of a program cites, passed on from one place, and what its path says in few words.
 pub use Rattle.std.proofs.Common.{div-lt_iff_lt-mul, get_or-set_other, get_or-set_same, length-set, mod-lt, String, sum}
 pub use Rattle.std.specs.declared.alloc.Global.{Global}
+pub use Rattle.std.proofs.lemmas.Grind.{common_steps}
 pub use Rattle.std.proofs.Math.Nat.{div-add-mod, mul-le-mul_right}
 pub use Rattle.std.proofs.lemmas.List.{length-reverse}
 pub use Rattle.ed_words.specs.declared.order_words.TheConstants.{A_F, E_F, G_F, H_F, L_D, O_F, R_F, S_F, T_F, U_F, Z_F}
@@ -111,7 +112,6 @@ pub use Rattle.ed_programs.proofs.ProgramEntry.{routine_after, stops_from_entry}
 pub use Rattle.ed_programs.proofs.SourceLines.{Marked}
 pub use Rattle.ed_programs.proofs.Texts.{prints_as}
 use Rattle.ed_sources.proofs.AtEntry.{has_image}
-use Rattle.std.proofs.lemmas.Grind.{common_steps}
 
 -- the order with a function that names cell j of a program at 56
 abbrev pub to : ℕ → ℕ → ℕ

@@ -5,10 +5,9 @@ use Rattle.ed_programs.proofs.Kit.{length-reverse, L_D, R_F, Z_F, Size, I, Z, L5
 use Rattle.ed_programs.proofs.Kit.{along, to_stop, LD, followed, [], append-nil, append_assoc, arith, get_or, length}
 use Rattle.ed_programs.proofs.Kit.{List, lit<, lit≤, Option, refl, reverse, Some, suc, sym, ℕ, ◌*◌, ◌++◌, ◌+◌, ◌%◌, ◌-◌}
 use Rattle.ed_programs.proofs.Kit.{◌<◌, ◌∙◌, ◌∷◌, ◌≡◌, ◌≤◌, least, Frame, Moment, state, on, Path, stay, own}
-use Rattle.ed_programs.proofs.Kit.{ReachesStop, printing, stop_counted, Path-counted}
+use Rattle.ed_programs.proofs.Kit.{ReachesStop, printing, stop_counted, Path-counted, rules}
 use Rattle.ed_programs.proofs.Orders.{A, A_low, E_jumps, E_stays, G_jumps, G_stays, L, O_high, S, S_low, T, T_high, U}
 use Rattle.ed_programs.proofs.Orders.{obeys}
-use Rattle.std.proofs.Common.{rules}
 
 -- the cells that change
 pub record Work : Type 0 where

@@ -2,10 +2,9 @@
 use Rattle.ed_programs.proofs.Kit.{few_bytes, arith, none, Spells, are, decimal_is, row_bytes, rows_are, written, []}
 use Rattle.ed_programs.proofs.Kit.{ap, Bool, decimal, length, List, map, nat_lt, None, Option, refl, Some, subst, suc}
 use Rattle.ed_programs.proofs.Kit.{true, ℕ, ◌%◌, ◌<◌, ◌∙◌, ◌∷◌, ◌≡◌, ◌≤◌, list_all, and_parts, lt-ltb, Text, row_of}
-use Rattle.ed_programs.proofs.Kit.{row, spells, digits, ◌&&◌}
+use Rattle.ed_programs.proofs.Kit.{row, spells, digits, ◌&&◌, common_steps}
 use Rattle.ed_codes.specs.Text.{row as one_row}
 use Rattle.ed_syntax.specs.Forms.{AreRowsOf}
-use Rattle.std.proofs.lemmas.Grind.{common_steps}
 
 -- the rows of a text
 abbrev pub text_rows : Text → List ℕ

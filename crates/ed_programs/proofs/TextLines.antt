@@ -6,8 +6,7 @@ use Rattle.ed_programs.proofs.Kit.{Option, refl, rules, Some, subst, sym, true, 
 use Rattle.ed_programs.proofs.Kit.{◌≤◌, list_all, and_from, and_parts, le-leb, leb-true, ltb-true, ne_eqb, not-true}
 use Rattle.ed_programs.proofs.Kit.{nat_tests, length-map, list_all-append, value, Text, row_of, is_run_byte}
 use Rattle.ed_programs.proofs.Kit.{is_line_byte, is_number, LinePart, run, form_at, row, spells, parts_of, line_of}
-use Rattle.ed_programs.proofs.Kit.{run_parts, digits, a_number, true≢false, ◌&&◌, Marked}
-use Rattle.std.proofs.lemmas.Grind.{common_steps}
+use Rattle.ed_programs.proofs.Kit.{run_parts, digits, a_number, true≢false, ◌&&◌, Marked, common_steps}
 use Rattle.ed_syntax.specs.Parts.{begins_run}
 use Rattle.ed_programs.proofs.NumberLines.{is_short_label}
 use Rattle.ed_programs.proofs.RowTexts.{is_row_byte, text_rows}

@@ -5,12 +5,12 @@ use Rattle.ed_programs.proofs.Kit.{append_assoc, length-append, state_after, not
 use Rattle.ed_programs.proofs.Kit.{IsStore, ReachesStop, ran_to_stop, first_state, first_store, ran_outcome, Size}
 use Rattle.ed_programs.proofs.Kit.{OfReading, directive, IsReturned, is_obeyed, TapeEntry, paper_room, Settings}
 use Rattle.ed_programs.proofs.Kit.{at_entry, comes_in, exactly, arith, cases_lt, progress, at_after, stops_of, prints}
-use Rattle.ed_programs.proofs.Kit.{length, lt-ltb, Moment, run_end, reading, LeadsIn, Outcome, rows, codes}
-use Rattle.ed_programs.proofs.Kit.{rules, subst, paper, State, Frame, state, joined, Leads, starts, inl, inr, List}
-use Rattle.ed_programs.proofs.Kit.{refl, Some, suc, sym, true, zero, ◌++◌, Text, step, Path, stay, [], ap, ℕ, ◌+◌}
-use Rattle.ed_programs.proofs.Kit.{◌-◌, ◌<◌, ◌∙◌, ◌∷◌, ◌≡◌, ◌≢◌, ◌≤◌, on}
-use Rattle.ed_interlude.proofs.Kit.{next_state, address, Concludes, entry_done, entry_report, finished}
-use Rattle.ed_interlude.proofs.Kit.{Finishes, first_part, GoesBack, LeadsTo, part_after, part_entry_state, part_report}
+use Rattle.ed_programs.proofs.Kit.{length, lt-ltb, Moment, run_end, reading, LeadsIn, Outcome, rows, codes, rules}
+use Rattle.ed_programs.proofs.Kit.{subst, paper, State, Frame, state, joined, Leads, starts, inl, inr, List, refl, Some}
+use Rattle.ed_programs.proofs.Kit.{suc, sym, true, zero, ◌++◌, Text, step, Path, stay, [], ap, ℕ, ◌+◌, ◌-◌, ◌<◌, ◌∙◌}
+use Rattle.ed_programs.proofs.Kit.{◌∷◌, ◌≡◌, ◌≢◌, ◌≤◌, on, common_steps}
+use Rattle.ed_interlude.proofs.Kit.{next_state, address, Concludes, entry_done, entry_report, finished, Finishes}
+use Rattle.ed_interlude.proofs.Kit.{first_part, GoesBack, LeadsTo, part_after, part_entry_state, part_report}
 use Rattle.ed_interlude.proofs.Kit.{PartsReport, ReturnsToLoader, RunsOn, TapePart}
 use Rattle.ed_laws.proofs.Kit.{Obeyed, counted_after, next_stops, IsInParts}
 use Rattle.ed_machine.specs.declared.ending.Ending.TheVariants.{Stopped}
@@ -25,7 +25,6 @@ use Rattle.ed_interlude.specs.declared.tape.PartsEnd.TheVariants.{Ended}
 use Rattle.ed_interlude.proofs.Resumed.{leads_back}
 use Rattle.ed_programs.proofs.TwoParts.{TwoParts, TwoPartsRun, orders_to_program, orders_to_return, orders_to_stop}
 use Rattle.ed_programs.proofs.TwoParts.{part, two_parts_lines, two_parts_note}
-use Rattle.std.proofs.lemmas.Grind.{common_steps}
 use Rattle.ed_machine.proofs.Kit.Paths as paths
 
 -- ---- a program of a part
