@@ -1,16 +1,17 @@
 -- The source of `examples/add.edsac` for any two numbers: its path, and what it prints.
-use Rattle.ed_programs.proofs.Kit.{Size, parameter_store, print_orders, digits_printed, stops_from_entry, pair_at_entry}
-use Rattle.ed_programs.proofs.Kit.{along, print_line, ReachesStop, entry_state, reads_number, number_rows, stop_counted}
-use Rattle.ed_programs.proofs.Kit.{Settings, Line, moment_at, append-nil, few_digits, SourceRuns, data_mark, pair_after}
-use Rattle.ed_programs.proofs.Kit.{Z_F, to_stop, get_own, frame_at, length, Moment, settings, HasRead, calling, HasPair}
-use Rattle.ed_programs.proofs.Kit.{IsIn, then, arith, false, List, lit<, lit≤, map, Frame, short, state, digits, Marked}
-use Rattle.ed_programs.proofs.Kit.{Z, T, [], refl, sym, true, ◌≡◌, are_small, ℕ, ◌*◌, ◌+◌, ◌<◌, ◌∷◌, Text, A, on, stay}
-use Rattle.ed_programs.proofs.Kit.{own, to}
+use Rattle.ed_programs.proofs.Kit.{before_order, Size, parameter_store, print_orders, digits_printed, stops_from_entry}
+use Rattle.ed_programs.proofs.Kit.{pair_at_entry, along, print_line, ReachesStop, entry_state, reads_number}
+use Rattle.ed_programs.proofs.Kit.{number_rows, stop_counted, Settings, Line, moment_at, append-nil, few_digits}
+use Rattle.ed_programs.proofs.Kit.{SourceRuns, data_mark, pair_after, Z_F, to_stop, get_own, frame_at, length, Moment}
+use Rattle.ed_programs.proofs.Kit.{settings, HasRead, calling, HasPair, IsIn, then, arith, false, List, lit<, lit≤, map}
+use Rattle.ed_programs.proofs.Kit.{Frame, state, digits, Marked, Z, [], refl, sym, true, ◌≡◌, are_small, ℕ, ◌*◌, ◌+◌}
+use Rattle.ed_programs.proofs.Kit.{◌<◌, ◌∷◌, Text, to}
 use Rattle.std.specs.Fmt.{decimal}
 use Rattle.ed_programs.specs.Add.{add_orders, add_text}
 use Rattle.ed_programs.specs.declared.add.TheConstants.{ADD}
 use Rattle.ed_programs.proofs.DataLines.{small_too}
 use Rattle.ed_programs.proofs.SourceRuns.{lines_of_pieces, program_runs}
+use Rattle.ed_programs.proofs.Orders.{A, T, obeys}
 
 -- the pieces of the source, and the numbers between them
 abbrev add_pieces : List Text
@@ -31,14 +32,8 @@ module _ (z : Size) (m : Moment) where
 
   -- at the cell i: the words of the store, the number in the accumulator, the two cells, and the rows left
   abbrev at : ℕ → List ℕ → ℕ → ℕ → ℕ → List ℕ → Moment
-  at i words v value first tape = record m {
-    words = words;
-    cells = cells value first;
-    pairs = [];
-    acc = short v;
-    counter = 56 + i;
-    tape = tape;
-  }
+  at i words v value first tape =
+      record (before_order m (56 + i) v (cells value first)) { words = words; tape = tape }
 
   -- the two numbers are read, added and printed, and the machine stops
   stops : HasPair f m.words 70 94 12 12 → (a b : ℕ) → a + b < 65536 → (done : ℕ)
@@ -52,19 +47,15 @@ module _ (z : Size) (m : Moment) where
       let after_one = pair_after one o in
       let second : IsIn f (at 4 one.words 0 a a (number_rows (b ∷ []))) =
       record { above = lit≤ tt; all = after_one.all; own = refl } in
-      let two : HasRead second 4 12 70 b [] =
-      reads_number second 4 12 b [] after_one.reads refl (omega arith) (lit< tt) (lit≤ tt) refl refl refl in
+      let two = reads_number second 4 12 b [] after_one.reads refl (omega arith) (lit< tt) (lit≤ tt) refl refl refl in
       let after_two = pair_after two after_one in
       let last : IsIn f (at 9 two.words 0 (a + b) a []) = record { above = lit≤ tt; all = after_two.all; own = refl } in
       let number = get_own 0 two.words 56 (cells (a + b) a) 12 (lit< tt) in
       stop_counted (to_stop
       (then one.journey
-      (then (along (on (A 2 (own 12) (short a) refl (omega arith))
-      (on (T 3 (own 13) _ refl refl) stay)))
+      (then (along (obeys 2 0 (A 12 a ∷ T 13 ∷ []) refl (omega arith)))
       (then two.journey
-      (then (along (on (A 6 (own 12) (short b) refl (omega arith))
-      (on (A 7 (own 13) (short (a + b)) refl (omega arith))
-      (on (T 8 (own 12) _ refl refl) stay))))
+      (then (along (obeys 6 0 (A 12 b ∷ A 13 (a + b) ∷ T 12 ∷ []) refl (omega arith)))
       (print_line last {v = a + b} 9 12 after_two.prints number (lit< tt) small (lit≤ tt) refl refl refl)))))
       (Z 11 Z_F refl refl) done) (omega arith)
 

@@ -1,7 +1,6 @@
 -- The words of `examples/calendar.tape` from 56 to 391.
-use Rattle.ed_programs.proofs.Kit.{L_D, Z_F, Size, IsOutside, early, frame_at, [], arith, drop, get_or, length, List}
-use Rattle.ed_programs.proofs.Kit.{lit≤, nat_lt, Option, refl, Some, suc, take, true, zero, ℕ, ◌++◌, ◌+◌, ◌<◌, ◌∙◌, ◌∷◌}
-use Rattle.ed_programs.proofs.Kit.{◌≡◌, lt-ltb, least, Frame, Moment, short, A, on, Path, stay, own, ◌&&◌, to}
+use Rattle.ed_programs.proofs.Kit.{L_D, Z_F, Size, frame_at, [], drop, get_or, length, List, lit≤, Option, refl, Some}
+use Rattle.ed_programs.proofs.Kit.{suc, take, zero, ℕ, ◌++◌, ◌+◌, ◌<◌, ◌∙◌, ◌∷◌, ◌≡◌, Frame, Moment, short, to}
 use Rattle.std.proofs.lemmas.List.{get_or_append_left}
 use Rattle.ed_machine.proofs.Kit.Window.{get_right}
 
@@ -178,20 +177,3 @@ at m i v k last = record m { cells = cells k; pairs = []; acc = short v; counter
 abbrev pub latest : Option ℕ → List ℕ → Option ℕ
 latest last [] = last
 latest last (c ∷ cs) = latest (Some c) cs
-
--- the locations that it reads are outside, and those that it returns to are in the store
-pub outside : (z : Size) {ws : List ℕ} → IsAround ws → (q : ℕ) → q < 56 → IsOutside (frame z) ws q
-outside z o q low = early q (lit≤ tt) low o.all
-
-pub frame-ahead : (z : Size) (i : ℕ) → i < 150 → 56 + i < (frame z).top
-frame-ahead z i low = let size = least z in omega arith
-
--- an order A in cell c, which the program has made: it adds the number x in cell j
-pub adds_cell : (z : Size) (m : Moment) (c j x v u : ℕ) (k : Work) (last : Option ℕ) → get_or (cells k) c 0 ≡ to 28 j
-    → nat_lt (c + 1) 336 ≡ true → j < 336 → get_or (cells k) j 0 ≡ x → v + x ≡ u → u < 131072
-    → Path (frame z) 1 (at m c v k last) [] (at m (c + 1) u k last)
-adds_cell z m c j x v u k last order inside low here total small =
-    let there = lt-ltb j 336 low in
-    on (A c (own j) (short u) (λ s. (56 + c, (order s, (inside s && true, there s)))) (omega
-    (arith, here, total, small)))
-    stay

@@ -1,6 +1,6 @@
 -- The codes that the program of `examples/calendar.tape` prints.
 use Rattle.std.proofs.Common.{replicate, ℕ, zero, suc, ◌-◌, ◌*◌, ◌/◌, ◌%◌, ◌==◌, nat_lt, if◌then◌else◌, List, [], ◌∷◌}
-use Rattle.std.proofs.Common.{Bool, ◌++◌, get_or, map, ap, arith, refl, ◌+◌, ◌∙◌, ◌≡◌}
+use Rattle.std.proofs.Common.{Bool, ◌++◌, get_or, map, refl, ◌+◌, ◌≡◌, rules}
 use Rattle.std.specs.List.{range_with_len}
 use Rattle.ed_programs.specs.Calendar.{month_length, month_names, weekday_count}
 use Rattle.ed_codes.specs.Spelling.{row_of}
@@ -40,9 +40,7 @@ days_from day (suc n) = day ∷ days_from (suc day) n
 
 pub range_is : (day n : ℕ) → range_with_len day n ≡ days_from day n
 range_is day zero = refl
-range_is day (suc n) =
-    ap (λ (ds : List ℕ). day ∷ ds)
-    (range_is (day + 1) n ∙ (let next : day + 1 ≡ suc day = omega arith in ap (λ (d : ℕ). days_from d n) next))
+range_is day (suc n) = search (rules, range_is (day + 1) n)
 
 -- a new line after the last day of a week
 abbrev pub week_end : Bool → List ℕ

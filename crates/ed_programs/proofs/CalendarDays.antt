@@ -1,19 +1,14 @@
 -- What the program of `examples/calendar.tape` counts is the calendar, from 1901 to 2099.
-use Rattle.ed_programs.proofs.Kit.{sum, among, [], arith, Bool, get_or, if◌then◌else◌, not, refl, rules, suc, true}
-use Rattle.ed_programs.proofs.Kit.{zero, ℕ, ◌%◌, ◌*◌, ◌+◌, ◌/◌, ◌==◌, ◌∙◌, ◌∷◌, ◌≡◌, ◌≤◌, nat_tests, days_before}
-use Rattle.ed_programs.proofs.Kit.{is_leap, month_lengths, weekday, place}
+use Rattle.ed_programs.proofs.Kit.{sum, [], arith, Bool, get_or, if◌then◌else◌, refl, rules, suc, zero, ℕ, ◌%◌, ◌*◌}
+use Rattle.ed_programs.proofs.Kit.{◌+◌, ◌/◌, ◌==◌, ◌∙◌, ◌∷◌, ◌≡◌, ◌≤◌, nat_tests, days_before, is_leap, month_lengths}
+use Rattle.ed_programs.proofs.Kit.{weekday, place, common_steps}
 use Rattle.ed_programs.specs.Calendar.{years_length}
 
 -- ---- leap years and their days
 
-same_test : (a b : Bool) → (if a then b else not b) ≡ true → a ≡ b
-same_test a b h = grind (arith, nat_tests)
-
 -- each fourth year is a leap year, 2000 too
 pub leap_is : (n : ℕ) → n ≤ 198 → is_leap (1901 + n) ≡ (n % 4 == 3)
-leap_is n few =
-    same_test (is_leap (1901 + n)) (n % 4 == 3)
-    (among (λ n. if is_leap (1901 + n) then n % 4 == 3 else not (n % 4 == 3)) 0 199 n refl (omega arith) (omega arith))
+leap_is n few = grind (arith, common_steps)
 
 days_next : (b : Bool) (n : ℕ) → (n % 4 == 3) ≡ b
     → 365 + 365 * n + n / 4 + (if b then 366 else 365) ≡ 365 + 365 * suc n + suc n / 4
@@ -34,8 +29,7 @@ next_year n = omega arith
 pub years_length_is : (n : ℕ) → n ≤ 199 → years_length (suc n) ≡ 365 + 365 * n + n / 4
 years_length_is zero few = refl
 years_length_is (suc n) few =
-    rw (next_year n, year_length_is (1901 + n), leap_is n (omega arith), years_length_is n (omega arith))
-    (days_next (n % 4 == 3) n refl)
+    search (rules, next_year, year_length_is, leap_is, days_next, years_length_is n (omega arith))
 
 -- ---- the day of the week
 

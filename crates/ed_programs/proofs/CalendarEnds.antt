@@ -1,12 +1,12 @@
 -- The tape `examples/calendar.tape` from its first row to its stop, for any month and year.
-use Rattle.ed_programs.proofs.Kit.{Size, Full, Small, Settings, moment_at, [], false, get_or, List, map, refl, subst, ℕ}
-use Rattle.ed_programs.proofs.Kit.{◌++◌, ◌-◌, ◌∷◌, ◌≡◌, ◌≤◌, numbers, Text, State, Moment, state, patched, digits}
+use Rattle.ed_programs.proofs.Kit.{Size, Full, Small, Settings, moment_at, [], get_or, List, map, refl, subst, ℕ, ◌++◌}
+use Rattle.ed_programs.proofs.Kit.{◌-◌, ◌∷◌, ◌≡◌, ◌≤◌, numbers, Text, State, Moment, state, patched, digits}
 use Rattle.ed_programs.proofs.Kit.{ReachesStop, tape_state, TapeEntry, reading_on, first_state, calendar_orders}
 use Rattle.ed_programs.proofs.Kit.{calendar_codes}
 use Rattle.ed_programs.specs.declared.calendar.TheConstants.{CALENDAR}
 use Rattle.ed_programs.proofs.CalendarCells.{IsAround, cells, frame, loaded}
 use Rattle.ed_programs.proofs.CalendarProgram.{calendar_stops, entering}
-use Rattle.ed_programs.proofs.TapeRuns.{Arrives, rows_in}
+use Rattle.ed_programs.proofs.TapeRuns.{Arrives, entry_with, rows_in}
 
 -- the text up to the entry
 abbrev pub front : Text
@@ -27,15 +27,7 @@ placed =
 
 -- the entry that they reach
 abbrev pub calendar_entry : List ℕ → TapeEntry
-calendar_entry rest = record {
-  at = 56;
-  word = 0;
-  cost = 10987;
-  rows = 1034;
-  notation = record { directive = 12400; theta = 112; placed = placed };
-  last = record { function = 0; number = 0; mark = false; end = 17 };
-  rest = rest;
-}
+calendar_entry rest = entry_with 56 10987 1034 (record { directive = 12400; theta = 112; placed = placed }) rest
 
 pub calendar_arrives : (z : Size) (rest : List ℕ) → Arrives z (calendar_rows rest) (calendar_entry rest)
 unfolding reading_on first_state

@@ -1,11 +1,10 @@
 -- The name of the month in `examples/calendar.tape`.
-use Rattle.ed_programs.proofs.Kit.{Size, L, S, T, U, out, LD, followed, among, [], arith, Bool, get_or, List, lit<}
-use Rattle.ed_programs.proofs.Kit.{nat_lt, Option, refl, subst, suc, take, ℕ, ◌*◌, ◌+◌, ◌<◌, ◌∙◌, ◌∷◌, ◌≡◌, and_parts}
-use Rattle.ed_programs.proofs.Kit.{ltb-true, bytes_eq, bytes_eq-Decides, drop, Moment, short, A, on, Path, stay, own}
-use Rattle.ed_programs.proofs.Kit.{◌&&◌, name_codes, to}
-use Rattle.ed_programs.proofs.CalendarCells.{adds_cell, at, frame, have_part, outside, sign_at, signs, Have, IsAround}
-use Rattle.ed_programs.proofs.CalendarCells.{Work}
+use Rattle.ed_programs.proofs.Kit.{◌%◌, Size, LD, followed, among, [], arith, Bool, get_or, List, nat_lt, Option, refl}
+use Rattle.ed_programs.proofs.Kit.{subst, suc, take, ℕ, ◌*◌, ◌+◌, ◌<◌, ◌∙◌, ◌∷◌, ◌≡◌, and_parts, ltb-true, bytes_eq}
+use Rattle.ed_programs.proofs.Kit.{bytes_eq-Decides, drop, Moment, Path, ◌&&◌, name_codes, to}
+use Rattle.ed_programs.proofs.CalendarCells.{at, frame, have_part, sign_at, signs, Have, IsAround, Work}
 use Rattle.ed_programs.proofs.CalendarSigns.{in_words}
+use Rattle.ed_programs.proofs.Orders.{A, A_by, A_low, L, S, T, U, obeys}
 
 -- a, b and c are the letters of name i: they are the signs from 39 + 3 i on
 pub record IsName (i a b c : ℕ) : Type 0 where
@@ -51,6 +50,11 @@ is_name i few =
       few = (ltb-true _ 32 codes.0, ltb-true _ 32 others.0, ltb-true _ 32 others.1);
     }
 
+-- a number that is read from a cell into the cleared accumulator, and written
+read_is : {n j x u : ℕ} → j < n → x ≡ u → u < 131072
+    → ((j < n) × ((0 + x) % 131072 ≡ u)) × (Unit {0} × Unit {0})
+read_is inside e small = ((inside, omega (arith, e, small)), (tt, tt))
+
 module _ (z : Size) (m : Moment) (o : IsAround m.words) where
   -- the orders that read them are made, and obeyed
   pub name_taken : (i a b c : ℕ) (k : Work) (last : Option ℕ) → k.month ≡ suc i → i < 12 → IsName i a b c
@@ -67,27 +71,14 @@ module _ (z : Size) (m : Moment) (o : IsAround m.words) where
       } in
       let k1 : Work = record k0 { one = 4096 * a } in
       let k2 : Work = record k1 { two = 4096 * b } in
-      let first = name.letters k.one k.two k.three in
-      let second = name.letters (4096 * a) k.two k.three in
-      let third = name.letters (4096 * a) (4096 * b) k.three in
-      on (A 66 (own 295) (short (suc i)) refl (omega (arith, is, few)))
-      (on (S 67 (own 299) (short i) refl (omega (arith, few)))
-      (on (L 68 LD (short (2 * i)) refl (omega (arith, few)))
-      (on (U 69 (own 300) _ refl refl)
-      (on (L 70 LD (short (4 * i)) refl (omega (arith, few)))
-      (on (A 71 (own 300) (short (6 * i)) refl (omega (arith, few)))
-      (on (A 72 (own 132) (short (to 28 (156 + j))) refl (omega (arith, few)))
-      (on (U 73 (own 78) _ refl refl)
-      (on (A 74 (out 2 (outside z o 2 (lit< tt))) (short (to 28 (156 + suc j))) refl (omega (arith, few)))
-      (on (U 75 (own 80) _ refl refl)
-      (on (A 76 (out 2 (outside z o 2 (lit< tt))) (short (to 28 (156 + suc (suc j)))) refl (omega (arith, few)))
-      (on (T 77 (own 82) _ refl refl)
-      (followed (adds_cell z m 78 (156 + j) (4096 * a) 0 (4096 * a) k0 last refl refl (omega (arith, few))
-      (sign_at k0 j (omega (arith, few)) ∙ first.0) (omega arith) (omega (arith, code_a)))
-      (on (T 79 (own 163) _ refl refl)
-      (followed (adds_cell z m 80 (156 + suc j) (4096 * b) 0 (4096 * b) k1 last refl refl (omega (arith, few))
-      (sign_at k1 (suc j) (omega (arith, few)) ∙ second.1.0) (omega arith) (omega (arith, code_b)))
-      (on (T 81 (own 164) _ refl refl)
-      (followed (adds_cell z m 82 (156 + suc (suc j)) (4096 * c) 0 (4096 * c) k2 last refl refl (omega (arith, few))
-      (sign_at k2 (suc (suc j)) (omega (arith, few)) ∙ third.1.1.0) (omega arith) (omega (arith, code_c)))
-      (on (T 83 (own 165) _ refl refl) stay)))))))))))))))))
+      followed (obeys 66 0 (A 295 (suc i) ∷ S 299 i ∷ L LD (2 * i) ∷ U 300 ∷ L LD (4 * i) ∷ A 300 (6 * i)
+      ∷ A 132 (to 28 (156 + j)) ∷ U 78 ∷ A_low 2 (to 28 (156 + suc j)) ∷ U 80
+      ∷ A_low 2 (to 28 (156 + suc (suc j))) ∷ T 82 ∷ []) refl (omega (arith, is, few)))
+      (followed (obeys 78 0 (A_by (156 + j) (4096 * a) ∷ T 163 ∷ []) refl (read_is (omega (arith, few))
+      (sign_at k0 j (omega (arith, few)) ∙ (name.letters k.one k.two k.three).0) (omega (arith, code_a))))
+      (followed (obeys 80 0 (A_by (156 + suc j) (4096 * b) ∷ T 164 ∷ []) refl (read_is (omega (arith, few))
+      (sign_at k1 (suc j) (omega (arith, few)) ∙ (name.letters (4096 * a) k.two k.three).1.0)
+      (omega (arith, code_b))))
+      (obeys 82 0 (A_by (156 + suc (suc j)) (4096 * c) ∷ T 165 ∷ []) refl (read_is (omega (arith, few))
+      (sign_at k2 (suc (suc j)) (omega (arith, few)) ∙ (name.letters (4096 * a) (4096 * b) k.three).1.1.0)
+      (omega (arith, code_c))))))

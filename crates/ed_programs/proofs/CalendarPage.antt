@@ -1,12 +1,12 @@
 -- The days in `examples/calendar.tape`: the spaces before the first, and each day.
-use Rattle.ed_programs.proofs.Kit.{sum, Size, E_stays, G_stays, O, E_jumps, S, T, U, prints, followed, [], arith, false}
-use Rattle.ed_programs.proofs.Kit.{inl, inr, List, lit<, map, Option, refl, Some, suc, zero, ℕ, ◌%◌, ◌*◌, ◌+◌, ◌-◌, ◌/◌}
-use Rattle.ed_programs.proofs.Kit.{◌<◌, ◌==◌, ◌∷◌, ◌≡◌, ◌≤◌, cases_lt, nat_tests, Moment, short, A, G_jumps, on, Path}
-use Rattle.ed_programs.proofs.Kit.{stay, own, replicate, day_orders, day_codes, days_codes, sum_by-cons, to}
-use Rattle.ed_programs.proofs.Kit.{Path-counted, calls_own}
+use Rattle.ed_programs.proofs.Kit.{sum, Size, followed, [], arith, false, inl, inr, List, lit<, map, Option, refl, Some}
+use Rattle.ed_programs.proofs.Kit.{suc, zero, ℕ, ◌%◌, ◌*◌, ◌+◌, ◌-◌, ◌/◌, ◌<◌, ◌==◌, ◌∷◌, ◌≡◌, ◌≤◌, cases_lt, nat_tests}
+use Rattle.ed_programs.proofs.Kit.{Moment, Path, replicate, day_orders, day_codes, days_codes, sum_by-cons, to}
+use Rattle.ed_programs.proofs.Kit.{Path-counted}
 use Rattle.ed_programs.proofs.CalendarCells.{at, frame, IsAround, Work}
 use Rattle.ed_programs.proofs.CalendarCodes.{days_from}
 use Rattle.ed_programs.proofs.CalendarFigures.{left_by_two, prints_two}
+use Rattle.ed_programs.proofs.Orders.{A, E_jumps, E_stays, G_jumps, G_stays, O, S, T, U, obeys}
 
 module _ (z : Size) (m : Moment) (o : IsAround m.words) where
   -- ---- three spaces for each day before the first
@@ -16,24 +16,16 @@ module _ (z : Size) (m : Moment) (o : IsAround m.words) where
       (replicate (3 * n) 20) (at m 110 0 (record k { count = 0; scrap = 0 }) y)
   gap zero k last few = (
     last,
-    on (T 101 (own 300) 0 refl refl)
-        (on (A 102 (own 306) 0 refl refl)
-        (on (E_jumps 103 (own 110) refl (lit< tt)) stay)),
+    obeys 101 0 (T 300 ∷ A 306 0 ∷ E_jumps 110 ∷ []) refl (omega arith),
   )
   gap (suc n) k last few =
       let rest = gap n (record k { scrap = 0 }) (Some 20) (omega (arith, few)) in
       let three : 3 * suc n ≡ suc (suc (suc (3 * n))) = omega arith in (
         rest.0,
         rw three (Path-counted
-            (on (T 101 (own 300) 0 refl refl)
-            (on (A 102 (own 306) (short (131072 - suc n)) refl (omega (arith, few)))
-            (on (E_stays 103 (own 110) refl (omega (arith, few)))
-            (on (A 104 (own 299) (short ((131072 - n) % 131072)) refl (omega (arith, few)))
-            (on (T 105 (own 306) _ refl refl)
-            (prints (O 106 (own 310) 20 refl refl)
-            (prints (O 107 (own 310) 20 refl refl)
-            (prints (O 108 (own 310) 20 refl refl)
-            (on (E_jumps 109 (own 101) refl (lit< tt)) rest.1))))))))) (omega arith)),
+            (followed (obeys 101 0 (T 300 ∷ A 306 (131072 - suc n) ∷ E_stays 110 ∷ A 299 ((131072 - n) % 131072)
+            ∷ T 306 ∷ O 310 20 ∷ O 310 20 ∷ O 310 20 ∷ E_jumps 101 ∷ []) refl
+            (omega (arith, few))) rest.1) (omega arith)),
       )
 
   -- the sheet is begun: b days before the first
@@ -49,13 +41,8 @@ module _ (z : Size) (m : Moment) (o : IsAround m.words) where
       let rest = gap b (record k { first_power = to 12 316; place = 131072 - (7 - b) }) last (omega (arith, few)) in (
         rest.0,
         Path-counted
-            (on (A 94 (own 317) (short (to 12 316)) refl refl)
-            (on (T 95 (own 309) _ refl refl)
-            (on (A 96 (own 296) (short b) refl (omega (arith, is, few)))
-            (on (S 97 (own 321) (short (131072 - (7 - b))) refl (omega (arith, few)))
-            (on (T 98 (own 320) _ refl refl)
-            (on (S 99 (own 296) (short ((131072 - b) % 131072)) refl (omega (arith, is, few)))
-            (on (T 100 (own 306) _ refl refl) rest.1))))))) (omega arith),
+            (followed (obeys 94 0 (A 317 (to 12 316) ∷ T 309 ∷ A 296 b ∷ S 321 (131072 - (7 - b)) ∷ T 320
+            ∷ S 296 ((131072 - b) % 131072) ∷ T 306 ∷ []) refl (omega (arith, is, few))) rest.1) (omega arith),
       )
 
   -- ---- the days, l of them
@@ -81,42 +68,9 @@ module _ (z : Size) (m : Moment) (o : IsAround m.words) where
         (Some 20) (lit< tt) (omega arith) in
         let some = enough (suc d) in
         Path-counted
-        (on (T 110 (own 300) _ refl refl)
-        (on (A 111 (own 322) (short d) refl (omega arith))
-        (on (A 112 (own 299) (short (suc d)) refl (omega arith))
-        (on (U 113 (own 322) _ refl refl)
-        (on (U 114 (own 297) _ refl refl)
-        (on (S 115 (own 307) (short ((131072 + suc d - l) % 131072)) refl (omega arith))
-        (on (S 116 (own 299) (short (131072 - (l - d))) refl (omega arith))
-        (on (E_stays 117 (own 131) refl (omega arith))
-        (prints (O 118 (own 310) 20 refl refl)
-        (on (T 119 (own 300) _ refl refl)
-        (calls_own 120 234 refl refl refl (lit< tt) shown))))))))))) (omega arith)
-
-    -- the week is not over after it
-    goes_on : (k : Work) (d b : ℕ) (last : Option ℕ) → b < 6
-        → Path (frame z) 4 (at m 122 0 (before_day d b k) last) []
-        (at m 110 (131072 - (7 - suc b)) (before_day d (suc b) k) last)
-    goes_on k d b last few =
-        on (A 122 (own 320) (short (131072 - (7 - b))) refl (omega arith))
-        (on (A 123 (own 299) (short (131072 - (7 - suc b))) refl (omega arith))
-        (on (U 124 (own 320) _ refl refl)
-        (on (G_jumps 125 (own 110) refl (omega arith)) stay)))
-
-    -- it is over: a new line
-    ends_week : (k : Work) (d : ℕ) (last : Option ℕ)
-        → Path (frame z) 9 (at m 122 0 (before_day d 6 k) last) (18 ∷ 24 ∷ [])
-        (at m 110 0 (before_day d 0 k) (Some 24))
-    ends_week k d last =
-        on (A 122 (own 320) (short 131071) refl refl)
-        (on (A 123 (own 299) 0 refl refl)
-        (on (U 124 (own 320) 0 refl refl)
-        (on (G_stays 125 (own 110) refl (lit< tt))
-        (on (S 126 (own 321) (short 131065) refl (omega arith))
-        (on (T 127 (own 320) _ refl refl)
-        (prints (O 128 (own 318) 18 refl refl)
-        (prints (O 129 (own 323) 24 refl refl)
-        (on (E_jumps 130 (own 110) refl (lit< tt)) stay))))))))
+        (followed (obeys 110 v (T 300 ∷ A 322 d ∷ A 299 (suc d) ∷ U 322 ∷ U 297
+        ∷ S 307 ((131072 + suc d - l) % 131072) ∷ S 299 (131072 - (l - d)) ∷ E_stays 131 ∷ O 310 20 ∷ T 300
+        ∷ A 120 (to 28 120) ∷ G_jumps 234 ∷ []) refl (omega arith)) shown) (omega arith)
 
     -- the n days from day suc d on, with b days of the week before it
     pub HasEnded-days : (n : ℕ) (k : Work) (d b v : ℕ) (last : Option ℕ) → d + n ≡ l → b < 7 → v < 131072
@@ -127,14 +81,8 @@ module _ (z : Size) (m : Moment) (o : IsAround m.words) where
           record (before_day (suc d) b k) { scrap = v; number = suc d },
           last,
           Path-counted
-              (on (T 110 (own 300) _ refl refl)
-              (on (A 111 (own 322) (short d) refl (omega arith))
-              (on (A 112 (own 299) (short (suc d)) refl (omega arith))
-              (on (U 113 (own 322) _ refl refl)
-              (on (U 114 (own 297) _ refl refl)
-              (on (S 115 (own 307) (short 1) refl (omega arith))
-              (on (S 116 (own 299) (short 0) refl (omega arith))
-              (on (E_jumps 117 (own 131) refl (lit< tt)) stay)))))))) (omega arith),
+              (obeys 110 v (T 300 ∷ A 322 d ∷ A 299 (suc d) ∷ U 322 ∷ U 297 ∷ S 307 1 ∷ S 299 0
+              ∷ E_jumps 131 ∷ []) refl (omega arith)) (omega arith),
         )
     HasEnded-days (suc n) k d b v last ends week small =
         let whole = sum_by-cons (λ x. x) (day_orders (suc d)) (map day_orders (days_from (suc (suc d)) n)) in
@@ -142,6 +90,7 @@ module _ (z : Size) (m : Moment) (o : IsAround m.words) where
         let after : Work = left_by_two 120 (suc d) k in
         let unit : Option ℕ = Some (suc d % 10) in
         elim (cases_lt b 6) [
+          -- the week is not over after it
           | inl low ↦
               let test : (b == 6) ≡ false = grind (arith, nat_tests) in
               let rest = HasEnded-days n after (suc d) (suc b) (131072 - (7 - suc b)) unit (omega arith) (omega arith)
@@ -151,8 +100,10 @@ module _ (z : Size) (m : Moment) (o : IsAround m.words) where
                 rest.0,
                 rest.1,
                 Path-counted (followed (shows_day k d b v last (omega arith) small)
-                    (followed (goes_on after (suc d) b unit low) rest.2)) (omega arith),
+                    (followed (obeys 122 0 (A 320 (131072 - (7 - b)) ∷ A 299 (131072 - (7 - suc b)) ∷ U 320
+                    ∷ G_jumps 110 ∷ []) refl (omega arith)) rest.2)) (omega arith),
               )
+          -- it is over: a new line
           | inr high ↦
               let sixth : b ≡ 6 = omega arith in
               let rest = HasEnded-days n after (suc d) 0 0 (Some 24) (omega arith) (lit< tt) (lit< tt) in
@@ -160,6 +111,7 @@ module _ (z : Size) (m : Moment) (o : IsAround m.words) where
                 rest.0,
                 rest.1,
                 Path-counted (followed (shows_day k d 6 v last (omega arith) small)
-                    (followed (ends_week after (suc d) unit) rest.2)) (omega arith),
+                    (followed (obeys 122 0 (A 320 131071 ∷ A 299 0 ∷ U 320 ∷ G_stays 110 ∷ S 321 131065 ∷ T 320
+                    ∷ O 318 18 ∷ O 323 24 ∷ E_jumps 110 ∷ []) refl (omega arith)) rest.2)) (omega arith),
               )
         ]

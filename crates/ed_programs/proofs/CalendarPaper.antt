@@ -1,33 +1,25 @@
 -- The codes that the program of `examples/calendar.tape` prints are the calendar on paper.
-use Rattle.ed_programs.proofs.Kit.{bytes_eq, bytes_eq-Decides, Figures, Letters, among, is_capital, list_all}
-use Rattle.ed_programs.proofs.Kit.{name_codes, [], ap, append_assoc, arith, Bool, codes, decimal, false, get_or}
-use Rattle.ed_programs.proofs.Kit.{if◌then◌else◌, List, nat_lt, refl, rules, suc, sym, true, zero, ℕ, ◌%◌, ◌*◌, ◌++◌}
-use Rattle.ed_programs.proofs.Kit.{◌+◌, ◌-◌, ◌<◌, ◌==◌, ◌∙◌, ◌∷◌, ◌≡◌, ◌≤◌, nat_tests, Text, paper, digits}
-use Rattle.ed_programs.proofs.Kit.{number_shown, replicate, paper_from, calendar_prints, days_before, is_leap}
-use Rattle.ed_programs.proofs.Kit.{month_length, weekday, calendar_codes, day_codes, days_codes, head_codes, place}
-use Rattle.ed_programs.proofs.Kit.{title_codes, year_codes}
+use Rattle.ed_programs.proofs.Kit.{bytes_eq, bytes_eq-Decides, Figures, among, [], ap, append_assoc, arith, Bool, codes}
+use Rattle.ed_programs.proofs.Kit.{decimal, false, get_or, if◌then◌else◌, List, nat_lt, refl, rules, suc, sym, true}
+use Rattle.ed_programs.proofs.Kit.{zero, ℕ, ◌%◌, ◌*◌, ◌++◌, ◌+◌, ◌-◌, ◌<◌, ◌==◌, ◌∙◌, ◌∷◌, ◌≡◌, ◌≤◌, nat_tests, Text}
+use Rattle.ed_programs.proofs.Kit.{paper, digits, number_shown, replicate, paper_from, calendar_prints, days_before}
+use Rattle.ed_programs.proofs.Kit.{is_leap, month_length, weekday, calendar_codes, day_codes, days_codes, head_codes}
+use Rattle.ed_programs.proofs.Kit.{place, title_codes, year_codes, common_steps}
 use Rattle.std.proofs.Common.{flat_map}
 use Rattle.ed_programs.specs.Calendar.{calendar_days, day_text, new_line, month_names}
 use Rattle.ed_programs.proofs.CalendarCodes.{days_from, range_is, week_end}
-use Rattle.ed_programs.proofs.Capitals.{capitals_shown}
 use Rattle.ed_programs.proofs.CalendarDays.{days_at_most, days_before_is, weekday_is}
 
 -- ---- the title
 
 title_shown : (k : ℕ) (rest : List ℕ) → k < 12
-    → paper (title_codes k ++ rest)
-    ≡ codes "      " ++ (get_or month_names k [] ++ 32 ∷ paper_from Figures rest)
-title_shown k rest l =
-    ap (λ (cs : List ℕ). codes "      " ++ paper_from Letters cs) (append_assoc (name_codes k) (20 ∷ 11 ∷ []) rest)
-    ∙ ap (λ (t : Text). codes "      " ++ t) (capitals_shown (get_or month_names k []) (20 ∷ 11 ∷ rest)
-    (among (λ k. list_all is_capital (get_or month_names k [])) 0 12 k refl (omega arith) (omega arith)))
+    → paper (title_codes k ++ rest) ≡ codes "      " ++ (get_or month_names k [] ++ 32 ∷ paper_from Figures rest)
+title_shown k rest l = grind (arith, common_steps)
 
 -- ---- figures
 
 year_figures : (year : ℕ) → 1901 ≤ year → year ≤ 2099 → digits year ≡ year_codes year
-year_figures year low high =
-    (bytes_eq-Decides (digits year) (year_codes year)).0
-    (among (λ year. bytes_eq (digits year) (year_codes year)) 1901 199 year refl low (omega arith))
+year_figures year low high = grind (arith, common_steps)
 
 -- ---- the days
 
@@ -81,16 +73,7 @@ module _ (month year : ℕ) (low : 1901 ≤ year) (high : year ≤ 2099) where
       ≡ flat_map shown (days_from (suc day) n)
   days_shown zero day few = refl
   days_shown (suc n) day few =
-      let before : ℕ = (place month year + day) % 7 in
-      let next : suc before % 7 ≡ (place month year + suc day) % 7 = omega arith in
-      let more : List ℕ = days_codes (suc before % 7) (suc (suc day)) n in
-      day_shown (suc day) (week_end (before == 6) ++ more) (omega arith)
-      ∙ ap (λ (t : Text). day_text (suc day) ++ t) (week_shown (before == 6) more)
-      ∙ sym (append_assoc (day_text (suc day)) (if before == 6 then new_line else []) (paper_from Figures more))
-      ∙ ap (λ (c : Bool). (day_text (suc day) ++ (if c then new_line else [])) ++ paper_from Figures more)
-      (week_over day)
-      ∙ ap (λ (t : Text). shown (suc day) ++ t)
-      (ap (λ b. paper_from Figures (days_codes b (suc (suc day)) n)) next ∙ days_shown n (suc day) (omega arith))
+      search (rules, day_shown, week_shown, append_assoc, week_over, days_shown n (suc day) (omega arith))
 
   pub calendar_shown : 1 ≤ month → month ≤ 12 → paper (calendar_codes month year) ≡ calendar_prints month year
   calendar_shown some few =
@@ -113,7 +96,4 @@ module _ (month year : ℕ) (low : 1901 ≤ year) (high : year ≤ 2099) where
       ∙ number_shown year (omega arith) after
       ∙ ap (λ (t : Text). decimal year ++ (new_line ++ (calendar_heads ++ t))) (spaces_shown (3 * p) days
       ∙ (λ i. replicate (3 * before i) 32 ++ all i)) in
-      title_shown k (year_codes year ++ after) (omega arith)
-      ∙ ap (λ (t : Text). codes "      " ++ (name ++ 32 ∷ t)) rest
-      ∙ sym (regrouped (codes "      ") name (codes " ") (decimal year) new_line calendar_heads gap
-      (calendar_days month year))
+      grind (arith, common_steps, title_shown, regrouped)

@@ -1,9 +1,9 @@
 -- The program of `examples/calendar.tape` from its entry to its stop, for each month from 1901 to 2099.
-use Rattle.ed_programs.proofs.Kit.{sum, Z_F, Size, Z, along, to_stop, T, followed, [], ap, arith, if◌then◌else◌, length}
+use Rattle.ed_programs.proofs.Kit.{sum, Z_F, Size, Z, along, to_stop, followed, [], ap, arith, if◌then◌else◌, length}
 use Rattle.ed_programs.proofs.Kit.{List, lit<, map, refl, Some, suc, sym, ℕ, ◌%◌, ◌*◌, ◌++◌, ◌+◌, ◌-◌, ◌<◌, ◌==◌, ◌∙◌}
-use Rattle.ed_programs.proofs.Kit.{◌∷◌, ◌≡◌, ◌≤◌, Moment, short, state, A, on, Path, stay, own, digits, ReachesStop}
-use Rattle.ed_programs.proofs.Kit.{calendar_orders, day_orders, days_before, is_leap, month_length, month_lengths}
-use Rattle.ed_programs.proofs.Kit.{weekday_count, calendar_codes, to, Path-counted, stop_counted, calls_own}
+use Rattle.ed_programs.proofs.Kit.{◌∷◌, ◌≡◌, ◌≤◌, Moment, state, Path, digits, ReachesStop, calendar_orders, day_orders}
+use Rattle.ed_programs.proofs.Kit.{days_before, is_leap, month_length, month_lengths, weekday_count, calendar_codes, to}
+use Rattle.ed_programs.proofs.Kit.{Path-counted, stop_counted}
 use Rattle.ed_programs.proofs.CalendarCells.{at, frame, loaded, IsAround, Work}
 use Rattle.ed_programs.proofs.CalendarCodes.{range_is}
 use Rattle.std.proofs.lemmas.List.Sums.{sum_by-take-le}
@@ -15,6 +15,7 @@ use Rattle.ed_programs.proofs.CalendarPage.{begins_page, HasEnded-days}
 use Rattle.ed_programs.proofs.CalendarReads.{Path-reads}
 use Rattle.ed_programs.proofs.CalendarTitle.{headed, prints_heads, prints_title, prints_year, untitled}
 use Rattle.ed_programs.proofs.CalendarYears.{after_years, counts_years, weekday_word}
+use Rattle.ed_programs.proofs.Orders.{A, G_jumps, T, obeys}
 
 module _ (z : Size) (m : Moment) (o : IsAround m.words) where
   -- at the entry: the month and the year are on the tape
@@ -36,11 +37,9 @@ module _ (z : Size) (m : Moment) (o : IsAround m.words) where
       (at (record m { tape = [] }) 8 0 (after_years 0 7 (given month year)) m.last)
   reads_both month year small_month small_year =
       Path-counted
-      (calls_own 0 274 refl refl refl (lit< tt)
+      (followed (obeys 0 0 (A 0 (to 28 0) ∷ G_jumps 274 ∷ []) refl (omega arith))
       (followed (Path-reads z m o 0 month (digits year ++ 17 ∷ []) loaded m.last (lit< tt) small_month)
-      (on (A 2 (own 297) (short month) refl (omega arith))
-      (on (T 3 (own 295) _ refl refl)
-      (calls_own 4 274 refl refl refl (lit< tt)
+      (followed (obeys 2 0 (A 297 month ∷ T 295 ∷ A 4 (to 28 4) ∷ G_jumps 274 ∷ []) refl (omega arith))
       (followed (Path-reads z m o 4 year [] (record loaded {
         month = month;
         number = month;
@@ -48,8 +47,7 @@ module _ (z : Size) (m : Moment) (o : IsAround m.words) where
         scrap = 7;
         read_link = to 3 2;
       }) m.last (lit< tt) small_year)
-      (on (A 6 (own 297) (short year) refl (omega arith))
-      (on (T 7 (own 294) _ refl refl) stay)))))))) (omega arith)
+      (obeys 6 0 (A 297 year ∷ T 294 ∷ []) refl (omega arith)))))) (omega arith)
 
   module _ (month year : ℕ) (low_month : 1 ≤ month) (high_month : month ≤ 12) (low : 1901 ≤ year)
       (high : year ≤ 2099) where

@@ -1,15 +1,14 @@
 -- What `examples/calendar.tape` prints, for every month from January 1901 to December 2099.
 use Rattle.ed_programs.proofs.Kit.{none, spacing, spells_append, has_one_reading, Settings, rows, Spells, INPUT_BYTES}
-use Rattle.ed_programs.proofs.Kit.{[], ap, arith, decimal, length, length-append, List, refl, rules, suc, zero, ℕ, ◌*◌}
-use Rattle.ed_programs.proofs.Kit.{◌++◌, ◌-◌, ◌%◌, ◌∷◌, ◌≡◌, ◌≤◌, leb-true, length-replicate, digits, reading}
-use Rattle.ed_programs.proofs.Kit.{paper_room, calendar_orders, calendar_prints, TapeRuns, calendar_codes, days_codes}
+use Rattle.ed_programs.proofs.Kit.{[], arith, decimal, length, length-append, refl, rules, suc, zero, ℕ, ◌*◌, ◌++◌, ◌%◌}
+use Rattle.ed_programs.proofs.Kit.{◌∷◌, ◌≡◌, ◌≤◌, leb-true, length-replicate, digits, reading, paper_room}
+use Rattle.ed_programs.proofs.Kit.{calendar_orders, calendar_prints, TapeRuns, calendar_codes, days_codes}
 use Rattle.ed_codes.specs.Text.{row}
 use Rattle.ed_programs.specs.Calendar.{calendar_cost, calendar_text}
 use Rattle.ed_programs.proofs.CalendarEnds.{front, calendar_arrives, calendar_ends, calendar_entry, calendar_rows}
 use Rattle.ed_programs.proofs.CalendarEnds.{data_rows}
 use Rattle.ed_programs.proofs.CalendarPaper.{calendar_shown}
 use Rattle.ed_programs.proofs.CalendarDays.{days_at_most}
-use Rattle.ed_programs.proofs.CalendarNames.{is_name}
 use Rattle.ed_programs.proofs.RowTexts.{few_figures, number_spells}
 use Rattle.ed_programs.proofs.TapeRuns.{reads_spell, rows_in, tape_runs}
 
@@ -34,8 +33,7 @@ module _ (month year : ℕ) (small : month ≤ 65535) (low : year ≤ 65535) whe
       (data_rows month year) (reads_spell front (rows_in front) refl) data_spells)
 
   pub few_text : length (calendar_text month year) ≤ INPUT_BYTES
-  few_text =
-      let m = few_figures month small in let y = few_figures year low in search (rules, m, y, leb-true, length-append)
+  few_text = search (rules, few_figures, leb-true, length-append)
 
 -- ---- the number of codes
 
@@ -44,9 +42,7 @@ few_days_codes before day zero = omega arith
 few_days_codes before day (suc n) = let rest = few_days_codes (suc before % 7) (suc day) n in grind arith
 
 few_codes : (month year : ℕ) → 1 ≤ month → month ≤ 12 → length (calendar_codes month year) ≤ paper_room
-few_codes month year some few =
-    let name = ap (λ (cs : List ℕ). length cs) (is_name (month - 1) (omega arith)).name_is in
-    search (rules, name, length-append, length-replicate, few_days_codes, days_at_most)
+few_codes month year some few = search (rules, length-append, length-replicate, few_days_codes, days_at_most)
 
 -- ---- the law
 

@@ -1,11 +1,12 @@
 -- The lines above the days in `examples/calendar.tape`.
-use Rattle.ed_programs.proofs.Kit.{drop, Size, T, followed, [], arith, lit<, lit≤, Option, refl, Some, ℕ, ◌%◌, ◌*◌, ◌+◌}
-use Rattle.ed_programs.proofs.Kit.{◌/◌, ◌<◌, ◌∷◌, ◌≡◌, ◌≤◌, Moment, short, A, on, Path, stay, own, head_codes}
-use Rattle.ed_programs.proofs.Kit.{title_codes, year_codes, to, Path-counted, calls_own}
+use Rattle.ed_programs.proofs.Kit.{drop, Size, followed, [], arith, lit<, lit≤, Option, refl, Some, ℕ, ◌%◌, ◌*◌, ◌+◌}
+use Rattle.ed_programs.proofs.Kit.{◌/◌, ◌<◌, ◌∷◌, ◌≡◌, ◌≤◌, Moment, Path, head_codes, title_codes, year_codes, to}
+use Rattle.ed_programs.proofs.Kit.{Path-counted}
 use Rattle.ed_programs.proofs.CalendarCells.{at, frame, have_part, signs, IsAround, Work}
 use Rattle.ed_programs.proofs.CalendarFigures.{left_by, prints_four}
 use Rattle.ed_programs.proofs.CalendarNames.{is_name, letter}
 use Rattle.ed_programs.proofs.CalendarSigns.{prints_signs}
+use Rattle.ed_programs.proofs.Orders.{A, G_jumps, T, obeys}
 
 -- ---- the words that change
 
@@ -46,7 +47,7 @@ module _ (z : Size) (m : Moment) (o : IsAround m.words) where
       let b : ℕ = letter i 1 in
       let c : ℕ = letter i 2 in
       rw name
-      (calls_own 84 144 refl refl refl (lit< tt)
+      (followed (obeys 84 0 (A 84 (to 28 84) ∷ G_jumps 144 ∷ []) refl (omega arith))
       (prints_signs z m o 84 15 (20 ∷ 20 ∷ 20 ∷ 20 ∷ 20 ∷ 20 ∷ a ∷ b ∷ c ∷ 20 ∷ 11 ∷ []) (untitled i k) 0 12 last
       (lit< tt) (have_part 0 12 (signs (4096 * a) (4096 * b) (4096 * c))) refl (lit≤ tt)))
 
@@ -57,18 +58,15 @@ module _ (z : Size) (m : Moment) (o : IsAround m.words) where
       (at m 92 0 (record (left_by 88 (y % 10) k) { first_power = to 12 314; end = to 9 195 }) (Some (y % 10)))
   prints_year y k last is low high =
       Path-counted
-      (on (A 86 (own 294) (short y) refl (omega (arith, is, high)))
-      (on (T 87 (own 297) _ refl refl)
-      (calls_own 88 234 refl refl refl (lit< tt)
+      (followed (obeys 86 0 (A 294 y ∷ T 297 ∷ A 88 (to 28 88) ∷ G_jumps 234 ∷ []) refl (omega (arith, is, high)))
       (followed (prints_four z m o 88 y k last (lit< tt) (omega arith) (omega arith))
-      (on (A 90 (own 155) (short (to 9 195)) refl refl)
-      (on (T 91 (own 319) _ refl refl) stay)))))) (omega arith)
+      (obeys 90 0 (A 155 (to 9 195) ∷ T 319 ∷ []) refl (omega arith)))) (omega arith)
 
   -- the heads of the columns
   pub prints_heads : (k : Work) (last : Option ℕ)
       → Path (frame z) 195 (at m 92 0 (record k { sign = to 9 168; end = to 9 195 }) last) head_codes
       (at m 94 0 (record k { sign = to 9 195; end = to 9 195; scrap = 0; sign_link = to 3 94 }) (Some 11))
   prints_heads k last =
-      calls_own 92 144 refl refl refl (lit< tt)
+      followed (obeys 92 0 (A 92 (to 28 92) ∷ G_jumps 144 ∷ []) refl (omega arith))
       (prints_signs z m o 92 18 (drop 1 head_codes) k 12 39 last (lit< tt)
       (have_part 12 27 (signs k.one k.two k.three)) refl (lit≤ tt))

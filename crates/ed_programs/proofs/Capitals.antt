@@ -1,11 +1,11 @@
 -- Capital letters: each spells a row of tape, and is printed as it is.
 use Rattle.ed_programs.proofs.Kit.{Letters, bytes_eq, bytes_eq-Decides, among, [], ap, arith, Bool, false, length, List}
 use Rattle.ed_programs.proofs.Kit.{nat_le, None, not, refl, true, ℕ, ◌++◌, ◌==◌, ◌∷◌, ◌≡◌, ◌≤◌, list_all, and_from}
-use Rattle.ed_programs.proofs.Kit.{and_parts, leb-true, not-true, nat_tests, Text, row_of, row, ◌&&◌, paper_from}
-use Rattle.ed_programs.proofs.Kit.{is_capital}
+use Rattle.ed_programs.proofs.Kit.{and_parts, leb-true, not-true, Text, row_of, row, ◌&&◌, paper_from, is_capital}
 use Rattle.ed_printer.specs.Paper.{struck_bytes}
 use Rattle.ed_programs.specs.Hello.{letters_refusal}
 use Rattle.ed_programs.proofs.RowTexts.{is_row_byte, text_rows}
+use Rattle.std.proofs.Common.{rules}
 
 -- 1 to `most` capital letters
 pub record AreLetters (most : ℕ) (letters : Text) : Type 0 where
@@ -15,11 +15,7 @@ pub record AreLetters (most : ℕ) (letters : Text) : Type 0 where
 
 -- a text that is not refused is such letters
 pub are_letters : (most : ℕ) (letters : Text) → letters_refusal most letters ≡ None → AreLetters most letters
-are_letters most letters taken = record {
-  some = grind (arith, nat_tests);
-  few = grind (arith, nat_tests);
-  capital = grind (arith, nat_tests);
-}
+are_letters most letters taken = search rules
 
 -- what is so of each letter, as a test
 abbrev fine : ℕ → Bool

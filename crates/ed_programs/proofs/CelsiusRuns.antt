@@ -1,14 +1,13 @@
 -- The source of `examples/celsius.edsac` for any list: its path, and what it prints.
-use Rattle.ed_programs.proofs.Kit.{Z_F, Size, G_stays, Z, Settings, Line, sum_by, along, IsIn, Journey, stop_after}
-use Rattle.ed_programs.proofs.Kit.{then, to_stop, E_jumps, S, T, frame_at, moment_at, [], append-nil, arith, false}
-use Rattle.ed_programs.proofs.Kit.{length, List, lit<, lit≤, map, nat_le, nat_lt, None, Option, refl, Some, sym, true}
-use Rattle.ed_programs.proofs.Kit.{ℕ, ◌*◌, ◌++◌, ◌+◌, ◌-◌, ◌/◌, ◌<◌, ◌^◌, ◌∷◌, ◌≡◌, ◌≤◌, list_all, and_from, and_parts}
-use Rattle.ed_programs.proofs.Kit.{leb-true, lt-ltb, ltb-true, length-map, sum_by-cons, Text, Frame, Moment, short}
-use Rattle.ed_programs.proofs.Kit.{state, A, G_jumps, on, Path, stay, own, settings, parameter_store, digits}
-use Rattle.ed_programs.proofs.Kit.{print_orders, ReachesStop, entry_state, celsius_text, numbers_text, on_lines}
-use Rattle.ed_programs.proofs.Kit.{SourceRuns, reads_number, are_small, number_rows, shows_number, stops_from_entry}
-use Rattle.ed_programs.proofs.Kit.{Marked, to, calling, journey_counted, stop_counted, HasThree, three_read}
-use Rattle.ed_programs.proofs.Kit.{three_shown, three_at_entry}
+use Rattle.ed_programs.proofs.Kit.{before_order, followed, Z_F, Size, Z, Settings, Line, sum_by, along, IsIn, Journey}
+use Rattle.ed_programs.proofs.Kit.{stop_after, then, to_stop, frame_at, moment_at, [], append-nil, arith, false, length}
+use Rattle.ed_programs.proofs.Kit.{List, lit<, lit≤, map, nat_le, nat_lt, None, Option, refl, Some, sym, true, ℕ, ◌*◌}
+use Rattle.ed_programs.proofs.Kit.{◌++◌, ◌+◌, ◌-◌, ◌/◌, ◌<◌, ◌^◌, ◌∷◌, ◌≡◌, ◌≤◌, list_all, and_from, and_parts}
+use Rattle.ed_programs.proofs.Kit.{leb-true, lt-ltb, ltb-true, length-map, sum_by-cons, Text, Frame, Moment, state, on}
+use Rattle.ed_programs.proofs.Kit.{Path, stay, own, settings, parameter_store, digits, print_orders, ReachesStop}
+use Rattle.ed_programs.proofs.Kit.{entry_state, celsius_text, numbers_text, on_lines, SourceRuns, reads_number}
+use Rattle.ed_programs.proofs.Kit.{are_small, number_rows, shows_number, stops_from_entry, Marked, to, calling}
+use Rattle.ed_programs.proofs.Kit.{journey_counted, stop_counted, HasThree, three_read, three_shown, three_at_entry}
 use Rattle.ed_machine.proofs.Kit.Moves.{H, V, T_top}
 use Rattle.ed_programs.specs.Celsius.{celsius, celsius_orders}
 use Rattle.ed_programs.specs.declared.celsius.TheConstants.{CELSIUS}
@@ -16,6 +15,7 @@ use Rattle.ed_programs.proofs.DataLines.{list_mark}
 use Rattle.ed_programs.proofs.NumberLists.{ended_small, ended_some, few_codes, few_numbers, list_codes, list_shown}
 use Rattle.ed_programs.proofs.NumberShown.{then_on}
 use Rattle.ed_programs.proofs.SourceRuns.{lines_of_pieces, program_runs}
+use Rattle.ed_programs.proofs.Orders.{A, E_jumps, G_jumps, G_stays, S, T, obeys}
 
 -- 36,409 of 65,536 is five ninths as far as the words go
 ninths : (v : ℕ) → v < 65536 → v * (36409 * 2 ^ 38) / 2 ^ 54 ≡ 5 * v / 9
@@ -42,24 +42,15 @@ module _ (z : Size) (m : Moment) where
   -- at the cell i: the words of the store, the number in the accumulator, the cell, the multiplier, the last code and
   -- the rows left
   abbrev at : ℕ → List ℕ → ℕ → ℕ → ℕ → Option ℕ → List ℕ → Moment
-  at i words v value factor last tape = record m {
-    words = words;
-    cells = cells value;
-    pairs = [];
-    acc = short v;
-    multiplier = factor;
-    counter = 56 + i;
-    last = last;
-    tape = tape;
-  }
+  at i words v value factor last tape =
+      record (before_order m (56 + i) v (cells value)) { words = words; multiplier = factor; tape = tape; last = last }
 
   -- a temperature is read and printed in degrees Celsius
   record Turned (n value factor : ℕ) (words : List ℕ) (last : Option ℕ) (rest : List ℕ) : Type 0 where
     after : List ℕ
     three : HasThree f after 74 98 150 15
-    journey : Journey f (conversion_orders n)
-        (at 0 words 0 value factor last (digits n ++ 17 ∷ rest)) (11 ∷ digits (celsius n) ++ 18 ∷ 24 ∷ [])
-        (at 0 after 0 (celsius n) (36409 * 2 ^ 18) (Some 24) rest)
+    journey : Journey f (conversion_orders n) (at 0 words 0 value factor last (digits n ++ 17 ∷ rest))
+        (11 ∷ digits (celsius n) ++ 18 ∷ 24 ∷ []) (at 0 after 0 (celsius n) (36409 * 2 ^ 18) (Some 24) rest)
 
   turn : (n value factor : ℕ) (words : List ℕ) (last : Option ℕ) (rest : List ℕ) → HasThree f words 74 98 150 15
       → 32 ≤ n → n < 65536 → Turned n value factor words last rest
@@ -70,13 +61,10 @@ module _ (z : Size) (m : Moment) where
       let read = three_read one three in
       let q : ℕ = celsius n in
       let converts : Path f 7 (at 2 one.words 0 n factor last rest) [] (at 9 one.words 0 q (36409 * 2 ^ 18) last rest) =
-      on (A 2 (own 15) (short n) refl (omega arith))
-      (on (S 3 (own 16) (short (n - 32)) refl (omega arith))
-      (on (G_stays 4 (own 14) refl (omega arith))
-      (on (T 5 (own 15) _ refl refl)
+      followed (obeys 2 0 (A 15 n ∷ S 16 (n - 32) ∷ G_stays 14 ∷ T 15 ∷ []) refl (omega arith))
       (on (H 6 (own 17) refl)
       (on (V 7 (own 15) ((n - 32) * (36409 * 2 ^ 38)) refl (omega arith))
-      (on (T_top 8 (own 15) q refl (ninths (n - 32) (omega arith))) stay)))))) in
+      (on (T_top 8 (own 15) q refl (ninths (n - 32) (omega arith))) stay))) in
       let ready : IsIn f (at 9 one.words 0 q (36409 * 2 ^ 18) last rest) =
       record { above = lit≤ tt; all = read.both.all; own = refl } in
       let shown = shows_number ready 9 15 q read.both.prints read.lines read.beyond refl (omega arith) (lit< tt)
@@ -85,7 +73,7 @@ module _ (z : Size) (m : Moment) where
         after = shown.words;
         three = three_shown shown read;
         journey = journey_counted (then one.journey (then (along converts)
-            (then_on shown.journey (on (E_jumps 13 (own 0) refl (lit< tt)) stay)))) (omega arith);
+            (then_on shown.journey (obeys 13 0 (E_jumps 0 ∷ []) refl (omega arith))))) (omega arith);
       }
 
   -- all of them, and the stop
@@ -98,9 +86,7 @@ module _ (z : Size) (m : Moment) where
       record { above = lit≤ tt; all = three.both.all; own = refl } in
       let one = reads_number start 0 15 end [] three.both.reads refl (omega arith) (lit< tt) (lit≤ tt) refl refl refl in
       stop_counted (to_stop (then one.journey (along
-      (on (A 2 (own 15) (short end) refl (omega arith))
-      (on (S 3 (own 16) (short (131072 - (32 - end))) refl (omega arith))
-      (on (G_jumps 4 (own 14) refl (omega arith)) stay)))))
+      (obeys 2 0 (A 15 end ∷ S 16 (131072 - (32 - end)) ∷ G_jumps 14 ∷ []) refl (omega arith))))
       (Z 14 Z_F refl refl) done) (omega arith)
   stops (n ∷ ns) end value factor words last three small least low done =
       let p = and_parts (nat_lt n 65536) (are_small ns) small in

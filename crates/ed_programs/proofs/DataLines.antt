@@ -1,16 +1,16 @@
 -- A line `data` with numbers, each ended by F: what it says, and what its rows are.
 use Rattle.ed_sources.proofs.Kit.{[], list_all, and_from, and_parts, ltb-true, list_all-append, is_line_byte, nat_tests}
-use Rattle.ed_sources.proofs.Kit.{decimal, get_or, length, nat_lt, ℕ, le-leb, lt-ltb, ne_eqb, row_of, line_of}
-use Rattle.ed_sources.proofs.Kit.{arith, Bool, codes, false, List, None, refl, Some, subst, true, ◌++◌, spells, digits}
-use Rattle.ed_sources.proofs.Kit.{ap, map, not, Ok, suc, sym, ◌*◌, ◌<◌, ◌==◌, ◌∙◌, ◌∷◌, ◌≡◌, ◌≤◌, Text, run, row}
+use Rattle.ed_sources.proofs.Kit.{decimal, get_or, length, nat_lt, ℕ, le-leb, lt-ltb, ne_eqb, row_of, line_of, arith}
+use Rattle.ed_sources.proofs.Kit.{Bool, codes, false, List, None, refl, Some, subst, true, ◌++◌, spells, digits, ap}
+use Rattle.ed_sources.proofs.Kit.{map, not, Ok, suc, ◌*◌, ◌<◌, ◌==◌, ◌∙◌, ◌∷◌, ◌≡◌, ◌≤◌, Text, run, row}
 use Rattle.std.proofs.lemmas.List.Folds.{list_all_at}
 use Rattle.ed_syntax.proofs.Kit.{map-append, array, has_quote, quoted}
-use Rattle.std.proofs.Common.{Fits, slice_index_or, w16}
+use Rattle.std.proofs.Common.{Fits, slice_index_or, w16, rules}
 use Rattle.std.proofs.lemmas.List.{append_assoc, length-append}
 use Rattle.ed_syntax.proofs.PartLemmas.{quote_parts}
 use Rattle.ed_sources.proofs.Decimals.{are, decimal_is, few_bytes, line_bytes, no_quotes, row_bytes, rows_are, written}
 use Rattle.ed_programs.specs.Lists.{numbers_text}
-use Rattle.ed_programs.proofs.SourceLines.{Marked, by_parts}
+use Rattle.ed_programs.proofs.SourceLines.{Marked, by_parts, mark}
 use Rattle.ed_syntax.specs.declared.program.Statement.TheVariants as statements
 
 -- the line `data` with numbers, between quotes (34)
@@ -107,27 +107,17 @@ numbers_and (n ∷ ns) rest = decimal n ++ 70 ∷ numbers_and ns rest
 
 pub numbers_and_is : (ns : List ℕ) (rest : Text) → numbers_and ns rest ≡ numbers_text ns ++ rest
 numbers_and_is [] rest = refl
-numbers_and_is (n ∷ ns) rest =
-    ap (λ (t : Text). decimal n ++ 70 ∷ t) (numbers_and_is ns rest)
-    ∙ sym (append_assoc (decimal n) (70 ∷ numbers_text ns) rest)
+numbers_and_is (n ∷ ns) rest = search (rules, append_assoc, numbers_and_is ns rest)
 
 -- a line `data` with numbers, as a mark: with each number as data of its own, and with all of them as one text
 module _ {two : Bool} (k : ℕ) (ns : List ℕ) (later : 2 ≤ k) (some : 1 ≤ length ns) where
   abbrev pub data_mark : length ns ≤ 18 → are_small ns ≡ true → Marked two
-  data_mark few small = record {
-    number = k;
-    text = codes "data " ++ 34 ∷ numbers_and ns (34 ∷ []);
-    label = None;
-    statement = statements.Rows (array (number_rows ns));
-    says = ap (λ (t : Text). line_of two k (codes "data " ++ 34 ∷ t)) (numbers_and_is ns (34 ∷ []))
-        ∙ data_says two k ns later some (let most = (all_numbers ns small).few in omega arith) small;
-  }
+  data_mark few small =
+      mark k (codes "data " ++ 34 ∷ numbers_and ns (34 ∷ [])) None (statements.Rows (array (number_rows ns)))
+      (ap (λ (t : Text). line_of two k (codes "data " ++ 34 ∷ t)) (numbers_and_is ns (34 ∷ []))
+      ∙ data_says two k ns later some (let most = (all_numbers ns small).few in omega arith) small)
 
   abbrev pub list_mark : length (numbers_text ns) ≤ 113 → are_small ns ≡ true → Marked two
-  list_mark fits small = record {
-    number = k;
-    text = numbers_line ns;
-    label = None;
-    statement = statements.Rows (array (number_rows ns));
-    says = data_says two k ns later some fits small;
-  }
+  list_mark fits small =
+      mark k (numbers_line ns) None (statements.Rows (array (number_rows ns)))
+      (data_says two k ns later some fits small)

@@ -1,7 +1,7 @@
 -- Why the method is right: what it gives with any number of divisors are the decimals of the sum of the fractions.
 use Rattle.ed_programs.proofs.Kit.{mod-lt, div-add-mod, mul-le-mul_right, [], ap, arith, List, lit<, lit≤, refl, subst}
 use Rattle.ed_programs.proofs.Kit.{suc, sym, zero, ℕ, ◌*◌, ◌+◌, ◌/◌, ◌<◌, ◌^◌, ◌∙◌, ◌∷◌, ◌≡◌, ◌≤◌, replicate, carries}
-use Rattle.ed_programs.proofs.Kit.{factorial, parts, tenfold}
+use Rattle.ed_programs.proofs.Kit.{factorial, parts, tenfold, rules}
 use Rattle.std.proofs.Math.Nat.{pow-suc}
 use Rattle.std.proofs.lemmas.Nat.{div-mul-add}
 use Rattle.ed_notation.specs.Items.{digits_number}
@@ -28,10 +28,7 @@ weight_left d (n ∷ ns) = ap (λ w. d * w) (weight_left (suc d) ns)
 
 small_left : (d : ℕ) (ns : List ℕ) → 1 ≤ d → Small d (tenfold d ns).left
 small_left d [] some = tt
-small_left d (n ∷ ns) some = (
-  mod-lt (10 * n + (tenfold (suc d) ns).carry) (omega arith),
-  small_left (suc d) ns (omega arith),
-)
+small_left d (n ∷ ns) some = search (rules, mod-lt, small_left (suc d) ns (omega arith))
 
 -- so they are together less than 1
 less_than_one : (d : ℕ) (ns : List ℕ) → Small d ns → value d ns < weight d ns
@@ -100,8 +97,7 @@ weight_more d (suc k) =
 
 value_more : (d k : ℕ) → value d (replicate (suc k) 1) ≡ (d + k) * value d (replicate k 1) + 1
 value_more d zero = omega arith
-value_more d (suc k) =
-    let first = weight_more (suc d) k in let second = value_more (suc d) k in omega arith
+value_more d (suc k) = search (rules, weight_more, value_more (suc d) k)
 
 factorial_is : (k : ℕ) → weight 2 (replicate k 1) ≡ factorial (suc k)
 factorial_is zero = refl
@@ -113,7 +109,4 @@ parts_are (suc k) =
     let first = weight_more 2 k in let second = value_more 2 k in rw (first, second, sym (parts_are k)) (omega arith)
 
 pub method_is_right : MethodIsRight
-method_is_right k m =
-    floor_is m (replicate k 1) 2 (ones_small 2 k (lit≤ tt))
-    ∙ ap (λ y. 10 ^ m * y / weight 2 (replicate k 1)) (parts_are k)
-    ∙ ap (λ y. 10 ^ m * parts (suc k) / y) (factorial_is k)
+method_is_right k m = search (rules, floor_is, ones_small, lit≤, parts_are, factorial_is)

@@ -1,13 +1,14 @@
 -- The program of `examples/decimals.edsac` from its entry to its stop: a decimal, a group, a line.
-use Rattle.ed_programs.proofs.Kit.{div-lt_iff_lt-mul, get_or-set_other, get_or-set_same, length-set, mod-lt}
-use Rattle.ed_programs.proofs.Kit.{div-add-mod, A_F, L_D, T_F, Z_F, Size, E_stays, G_stays, O, Z, IsOutside, L1F, L512F}
-use Rattle.ed_programs.proofs.Kit.{Remains, set, along, to_stop, E_jumps, L, S, T, U, prints, any, early, out, LD}
-use Rattle.ed_programs.proofs.Kit.{followed, frame_at, [], ap, append-nil, arith, get_or, inr, length, List, lit<, lit≤}
-use Rattle.ed_programs.proofs.Kit.{Option, refl, rules, Some, subst, suc, sym, zero, ℕ, ◌%◌, ◌*◌, ◌+◌, ◌-◌, ◌/◌, ◌<◌}
-use Rattle.ed_programs.proofs.Kit.{◌^◌, ◌∙◌, ◌∷◌, ◌≡◌, ◌≤◌, least, Frame, Moment, short, state, A, G_jumps, on, Path}
-use Rattle.ed_programs.proofs.Kit.{stay, own, ReachesStop, replicate, carries, tenfold, to, Path-counted, calls_own}
+use Rattle.ed_programs.proofs.Kit.{before_order, div-lt_iff_lt-mul, get_or-set_other, get_or-set_same, length-set}
+use Rattle.ed_programs.proofs.Kit.{mod-lt, div-add-mod, A_F, L_D, T_F, Z_F, Size, Z, L1F, L512F, Remains, set, along}
+use Rattle.ed_programs.proofs.Kit.{to_stop, LD, followed, frame_at, [], ap, append-nil, arith, get_or, length, List}
+use Rattle.ed_programs.proofs.Kit.{lit<, lit≤, Option, refl, rules, Some, subst, suc, sym, zero, ℕ, ◌%◌, ◌*◌, ◌+◌, ◌-◌}
+use Rattle.ed_programs.proofs.Kit.{◌/◌, ◌<◌, ◌^◌, ◌∙◌, ◌∷◌, ◌≡◌, ◌≤◌, least, Frame, Moment, short, state, Path, stay}
+use Rattle.ed_programs.proofs.Kit.{ReachesStop, replicate, carries, tenfold, to, Path-counted}
 use Rattle.ed_programs.proofs.DecimalsPass.{after, after_long, line_codes, line_left, line_long, line_orders, page_left}
 use Rattle.ed_programs.proofs.DecimalsPass.{page_codes, page_orders, tenfold_long, units}
+use Rattle.ed_programs.proofs.Orders.{A, A_high, A_low, E_by, E_jumps, E_stays, G_jumps, G_stays, L, O, S, S_low, T}
+use Rattle.ed_programs.proofs.Orders.{T_high, U, obeys}
 
 -- the cells that change as a decimal is worked out, and those that count: the decimals left of a group, the groups of a
 -- line, and the lines
@@ -76,14 +77,8 @@ stand_kept ws words q d (n ∷ ns) same o = (
 )
 
 stand_after : (ws : List ℕ) (q d r : ℕ) (ns : List ℕ) → length ws ≡ 1024 → q < 1024 → r < d
-    → Stand ws (suc q) (suc d) ns
-    → Stand (set ws q r) q d (r ∷ ns)
-stand_after ws q d r ns all low less o = (
-  get_or-set_same ws q r 0 (omega (arith, all, low)),
-  less,
-  stand_kept ws (set ws q r) (suc q) (suc d) ns
-      (λ a high. get_or-set_other ws q a r 0 (λ e. absurd (omega (arith, e, high)))) o,
-)
+    → Stand ws (suc q) (suc d) ns → Stand (set ws q r) q d (r ∷ ns)
+stand_after ws q d r ns all low less o = search (rules, get_or-set_same, stand_kept, get_or-set_other)
 
 -- the words around it
 pub record IsAround (ws : List ℕ) : Type 0 where
@@ -109,14 +104,7 @@ module _ (z : Size) (m : Moment) where
   f = frame_at 107 z (lit≤ tt)
 
   abbrev pub at : ℕ → List ℕ → ℕ → Work → Counts → Option ℕ → Moment
-  at i ws v k c last = record m {
-    words = ws;
-    cells = cells k c;
-    pairs = [];
-    acc = short v;
-    counter = 56 + i;
-    last = last;
-  }
+  at i ws v k c last = record (before_order m (56 + i) v (cells k c)) { words = ws; last = last }
 
   module _ (c : Counts) (last : Option ℕ) where
     abbrev now : ℕ → List ℕ → ℕ → Work → Moment
@@ -128,29 +116,20 @@ module _ (z : Size) (m : Moment) where
     dividing k e x y = record k { rest = x; carry = y; divisor = suc e }
 
     takes : (ws : List ℕ) (k : Work) (e r : ℕ) → r ≤ e → e ≤ 74 → (j x y w : ℕ) → x ≡ suc e * j + r → x < 800
-        → y + j ≡ w → w ≤ 9
-        → Path f (3 + 8 * j) (now 31 ws x (dividing k e x y)) [] (now 40 ws r (dividing k e r w))
+        → y + j ≡ w → w ≤ 9 → Path f (3 + 8 * j) (now 31 ws x (dividing k e x y)) [] (now 40 ws r (dividing k e r w))
     takes ws k e r least_r most_e zero x y w is low sum few =
         let same : x ≡ r = omega (arith, is) in
         let carried : y ≡ w = omega (arith, sum) in
         let path : Path f 3 (now 31 ws r (dividing k e r w)) [] (now 40 ws r (dividing k e r w)) =
-        on (S 31 (own 92) (short (131072 - (suc e - r))) refl (omega arith))
-        (on (G_jumps 32 (own 39) refl (omega arith))
-        (on (A 39 (own 92) (short r) refl (omega arith)) stay)) in
+        obeys 31 r (S 92 (131072 - (suc e - r)) ∷ G_jumps 39 ∷ A 92 r ∷ []) refl (omega arith) in
         rw (same, carried) path
     takes ws k e r least_r most_e (suc j) x y w is low sum few =
         let more : suc e ≤ x = omega (arith, is) in
         let next : x - suc e ≡ suc e * j + r = omega (arith, is) in
         Path-counted
-        (on (S 31 (own 92) (short (x - suc e)) refl (omega arith))
-        (on (G_stays 32 (own 39) refl (omega arith))
-        (on (T 33 (own 94) _ refl refl)
-        (on (A 34 (own 93) (short y) refl (omega arith))
-        (on (A 35 (own 87) (short (y + 1)) refl (omega arith))
-        (on (T 36 (own 93) _ refl refl)
-        (on (A 37 (own 94) (short (x - suc e)) refl (omega arith))
-        (on (E_jumps 38 (own 31) refl (omega arith))
-        (takes ws k e r least_r most_e j (x - suc e) (y + 1) w next (omega arith) (omega arith) few)))))))))
+        (followed (obeys 31 x (S 92 (x - suc e) ∷ G_stays 39 ∷ T 94 ∷ A 93 y ∷ A 87 (y + 1) ∷ T 93 ∷ A 94 (x - suc e)
+        ∷ E_jumps 31 ∷ []) refl (omega arith))
+        (takes ws k e r least_r most_e j (x - suc e) (y + 1) w next (omega arith) (omega arith) few))
         (omega arith)
 
     -- ---- one numerator, at p + 1, by the divisor e + 1
@@ -170,35 +149,16 @@ module _ (z : Size) (m : Moment) where
         (now 51 (set ws (suc p) r) u (begun (record k { rest = r; scrap = v }) p e j))
     turn ws k p e n y v u j r o here less few_y low high some most_e small left is rest few =
         let size = least z in
-        let outside : IsOutside f ws (suc p) = record { below = omega arith; beside = inr (omega arith) } in
         let words : List ℕ = set ws (suc p) r in
         let after = around_set ws (suc p) r (omega arith) o in
         let all = after.all in let at2 = after.at2 in
-        let outside_after : IsOutside f words 2 = early 2 (lit≤ tt) (lit< tt) all in
         Path-counted
-        (on (T 21 (own 95) _ refl refl)
-        (on (A 22 (out (suc p) outside) (short n) refl (omega arith))
-        (on (L 23 LD (short (2 * n)) refl (omega arith))
-        (on (U 24 (own 94) _ refl refl)
-        (on (L 25 L1F (short (8 * n)) refl (omega arith))
-        (on (A 26 (own 94) (short (10 * n)) refl (omega arith))
-        (on (A 27 (own 93) (short (10 * n + y)) refl (omega arith))
-        (on (T 28 (own 94) _ refl refl)
-        (on (T 29 (own 93) 0 refl refl)
-        (on (A 30 (own 94) (short (10 * n + y)) refl (omega arith))
+        (followed (obeys 21 v (T 95 ∷ A_high (suc p) n ∷ L LD (2 * n) ∷ U 94 ∷ L L1F (8 * n) ∷ A 94 (10 * n)
+        ∷ A 93 (10 * n + y) ∷ T 94 ∷ T 93 ∷ A 94 (10 * n + y) ∷ []) refl (omega arith))
         (followed (takes ws (record (begun k (suc p) (suc e) 0) { scrap = v }) e r (omega arith) most_e j (10 * n + y) 0
         j is (omega arith) (omega arith) few)
-        (on (T 40 (out (suc p) outside) _ refl refl)
-        (on (A 41 (own 22) (short (A_F + 2 * suc p)) refl (omega arith))
-        (on (S 42 (out 2 outside_after) (short (A_F + 2 * p)) refl (omega arith))
-        (on (T 43 (own 22) _ refl refl)
-        (on (A 44 (own 40) (short (T_F + 2 * suc p)) refl (omega arith))
-        (on (S 45 (out 2 outside_after) (short (T_F + 2 * p)) refl (omega arith))
-        (on (T 46 (own 40) _ refl refl)
-        (on (A 47 (own 92) (short (suc e)) refl (omega arith))
-        (on (S 48 (own 87) (short e) refl (omega arith))
-        (on (U 49 (own 92) _ refl refl)
-        (on (S 50 (own 88) (short u) refl left) stay)))))))))))))))))))))) (omega arith)
+        (obeys 40 r (T_high (suc p) ∷ A 22 (A_F + 2 * suc p) ∷ S_low 2 (A_F + 2 * p) ∷ T 22 ∷ A 40 (T_F + 2 * suc p)
+        ∷ S_low 2 (T_F + 2 * p) ∷ T 40 ∷ A 92 (suc e) ∷ S 87 e ∷ U 92 ∷ S 88 u ∷ []) refl (omega arith)))) (omega arith)
 
     -- ---- all numerators from p + 1 on, the last one first, but not the one of the divisor 2
 
@@ -256,7 +216,7 @@ module _ (z : Size) (m : Moment) where
               (x % suc e) rest.around (rest.keeps (suc p) (omega arith) ∙ there.0) there.1 rest.few low
               (omega (arith, ends, high)) (omega (arith, some)) (omega (arith, divisors, few)) rest.low
               (omega (arith, some, divisors, few)) is.is is.left is.few)
-              (on (E_jumps 51 (own 21) refl (omega (arith, divisors, few))) stay))) (omega arith);
+              (obeys 51 (e - 2) (E_jumps 21 ∷ []) refl (omega (arith, divisors, few))))) (omega arith);
         }
 
   -- ---- what is so after a number of orders: these numerators are left, and the counts are these
@@ -304,28 +264,15 @@ module _ (z : Size) (m : Moment) where
               all.stand;
         },
         Path-counted
-            (on (T 13 (own 95) _ refl refl)
-            (on (A 14 (own 97) (short (A_F + 2 * 236)) refl refl)
-            (on (T 15 (own 22) _ refl refl)
-            (on (A 16 (own 98) (short (T_F + 2 * 236)) refl refl)
-            (on (T 17 (own 40) _ refl refl)
-            (on (A 18 (own 91) (short 75) refl refl)
-            (on (T 19 (own 92) _ refl refl)
-            (on (T 20 (own 93) 0 refl refl)
+            (followed (obeys 13 v (T 95 ∷ A 97 (A_F + 2 * 236) ∷ T 22 ∷ A 98 (T_F + 2 * 236) ∷ T 40 ∷ A 91 75 ∷ T 92
+            ∷ T 93 ∷ []) refl (omega arith))
             (followed all.path
             (followed (turn c last all.words (record k { rest = all.rest; scrap = all.scrap }) 162 1 n y all.acc 131071
             (x / 2) (x % 2) all.around (all.keeps 163 (lit≤ tt) ∙ there.0) there.1 all.few (lit≤ tt) (lit< tt) (lit≤ tt)
             (lit≤ tt) all.low (omega arith) is.is is.left is.few)
-            (on (E_stays 51 (own 21) refl (lit≤ tt))
-            (on (T 52 (own 95) _ refl refl)
-            (on (A 53 (own 93) (short (x / 2)) refl (omega (arith, few)))
-            (on (L 54 L512F (short (2048 * (x / 2))) refl (omega (arith, few)))
-            (on (L 55 LD (short (4096 * (x / 2))) refl (omega (arith, few)))
-            (on (T 56 (own 83) _ refl refl)
-            (prints (O 57 (own 83) (x / 2) refl (omega (arith, few)))
-            (on (A 58 (own 84) (short c.group) refl (omega arith))
-            (on (A 59 (own 87) (short gg) refl sum)
-            (on (U 60 (own 84) _ refl refl) stay)))))))))))))))))))) (omega (arith, long)),
+            (obeys 51 131071 (E_stays 21 ∷ T 95 ∷ A 93 (x / 2) ∷ L L512F (2048 * (x / 2))
+            ∷ L LD (4096 * (x / 2)) ∷ T 83 ∷ O 83 (x / 2) ∷ A 84 c.group ∷ A 87 gg ∷ U 84 ∷ []) refl
+            (omega (arith, few)))))) (omega (arith, long)),
       )
 
   -- ---- the decimals that are left of a group, the groups of a line, and the lines
@@ -336,14 +283,17 @@ module _ (z : Size) (m : Moment) where
       (1868 * suc j + 8 * units (suc j) ns) (carries (suc j) ns) (after (suc j) ns)
   groups zero ns ws k c last v o there long small few =
       let one = shows ns ws k (record c { group = 131071 }) last v 0 o there long small refl (lit< tt) in
-      (one.0, quietly one.1 (on (G_stays 61 (own 13) refl (lit< tt)) stay) (omega arith))
+      (one.0, quietly one.1 (obeys 61 0 (G_stays 13 ∷ []) refl (omega arith)) (omega arith))
   groups (suc j) ns ws k c last v o there long small few =
       let one = shows ns ws k (record c { group = 131072 - suc (suc j) }) last v (131072 - suc j) o there long small
       (omega arith) (omega arith) in
       let x = one.0 in
       let rest = groups j (tenfold 2 ns).left x.words x.work c x.last (131072 - suc j) x.around x.stand
-      (tenfold_long 2 ns ∙ long) (omega arith) (omega arith) in
-      (rest.0, Path-counted (followed one.1 (on (G_jumps 61 (own 13) refl (omega arith)) rest.1)) (omega arith))
+      (tenfold_long 2 ns ∙ long) (omega arith) (omega arith) in (
+        rest.0,
+        Path-counted (followed one.1 (followed (obeys 61 (131072 - suc j) (G_jumps 13 ∷ []) refl (omega arith))
+            rest.1)) (omega arith),
+      )
 
   lines_of : (j : ℕ) (ns : List ℕ) (ws : List ℕ) (k : Work) (c : Counts) (last : Option ℕ) (v : ℕ) → IsAround ws
       → Stand ws 163 2 ns → length ns ≡ 74 → v < 131072 → j < 5
@@ -353,12 +303,8 @@ module _ (z : Size) (m : Moment) where
       let one = groups 9 ns ws k (record c { line = 131071 }) last v o there long small (lit< tt) in (
         one.0,
         quietly one.1
-            (on (S 62 (own 90) (short 131062) refl (omega arith))
-            (on (T 63 (own 84) _ refl refl)
-            (on (A 64 (own 85) (short 131071) refl (omega arith))
-            (on (A 65 (own 87) (short 0) refl (omega arith))
-            (on (U 66 (own 85) 0 refl refl)
-            (on (E_jumps 67 (own 70) refl (lit< tt)) stay)))))) (omega arith),
+            (obeys 62 0 (S 90 131062 ∷ T 84 ∷ A 85 131071 ∷ A 87 0 ∷ U 85 ∷ E_jumps 70 ∷ []) refl
+            (omega arith)) (omega arith),
       )
   lines_of (suc j) ns ws k c last v o there long small few =
       let one = groups 9 ns ws k (record c { line = 131072 - suc (suc j) }) last v o there long small (lit< tt) in
@@ -367,14 +313,8 @@ module _ (z : Size) (m : Moment) where
       (after_long 10 ns ∙ long) (omega arith) (omega arith) in (
         rest.0,
         Path-counted (followed one.1
-            (on (S 62 (own 90) (short 131062) refl (omega arith))
-            (on (T 63 (own 84) _ refl refl)
-            (on (A 64 (own 85) (short (131072 - suc (suc j))) refl (omega arith))
-            (on (A 65 (own 87) (short (131072 - suc j)) refl (omega arith))
-            (on (U 66 (own 85) _ refl refl)
-            (on (E_stays 67 (own 70) refl (omega arith))
-            (prints (O 68 (own 82) 20 refl refl)
-            (on (G_jumps 69 (own 13) refl (omega arith)) rest.1))))))))) (omega arith),
+            (followed (obeys 62 0 (S 90 131062 ∷ T 84 ∷ A 85 (131072 - suc (suc j)) ∷ A 87 (131072 - suc j) ∷ U 85
+            ∷ E_stays 70 ∷ O 82 20 ∷ G_jumps 13 ∷ []) refl (omega arith)) rest.1)) (omega arith),
       )
 
   -- a new line
@@ -383,11 +323,8 @@ module _ (z : Size) (m : Moment) where
       (at (i + 2) ws 0 (record k { link = to 3 (i + 2) }) c (Some 24))
   new_line ws k c last i o low =
       let size = least z in let all = o.all in let at3 = o.at3 in
-      on (A 100 (out 3 (early 3 (lit≤ tt) (lit< tt) all)) (short (to 3 (i + 2))) refl (omega arith))
-      (on (T 101 (own 104) _ refl refl)
-      (prints (O 102 (own 105) 18 refl refl)
-      (prints (O 103 (own 106) 24 refl refl)
-      (on (E_jumps 104 (any (56 + (i + 2)) (omega arith)) refl (lit< tt)) stay))))
+      obeys 100 (to 28 i) (A_low 3 (to 3 (i + 2)) ∷ T 104 ∷ O 105 18 ∷ O 106 24 ∷ E_by (i + 2) ∷ []) refl
+      (omega arith)
 
   -- the orders after a line, up to the test
   turns_over : (ws : List ℕ) (k : Work) (c : Counts) (last : Option ℕ) (lines next : ℕ) → IsAround ws
@@ -395,13 +332,9 @@ module _ (z : Size) (m : Moment) where
       → Path f 12 (at 70 ws 0 k (record c { group = 131062; line = 0; lines = lines }) last) (18 ∷ 24 ∷ [])
       (at 77 ws next (record k { link = to 3 74 }) (record c { group = 131062; line = 131067; lines = next }) (Some 24))
   turns_over ws k c last lines next o low sum =
-      on (S 70 (own 89) (short 131067) refl (omega arith))
-      (on (T 71 (own 85) _ refl refl)
-      (calls_own 72 100 refl refl refl (lit< tt)
+      followed (obeys 70 0 (S 89 131067 ∷ T 85 ∷ A 72 (to 28 72) ∷ G_jumps 100 ∷ []) refl (omega arith))
       (followed (new_line ws k (record c { group = 131062; line = 131067; lines = lines }) last 72 o (lit< tt))
-      (on (A 74 (own 86) (short lines) refl (omega arith))
-      (on (A 75 (own 87) (short next) refl sum)
-      (on (U 76 (own 86) _ refl refl) stay))))))
+      (obeys 74 0 (A 86 lines ∷ A 87 next ∷ U 86 ∷ []) refl (omega arith)))
 
   -- the lines that are left
   pages : (j : ℕ) (ns : List ℕ) (ws : List ℕ) (k : Work) (last : Option ℕ) (v : ℕ) → IsAround ws → Stand ws 163 2 ns
@@ -414,7 +347,7 @@ module _ (z : Size) (m : Moment) where
         record x { work = record x.work { link = to 3 74 }; last = Some 24 },
         Path-counted (followed one.1
             (followed (turns_over x.words x.work none_done x.last 131071 0 x.around (lit< tt) refl)
-            (on (G_stays 77 (own 13) refl (lit< tt)) stay))) (omega arith),
+            (obeys 77 0 (G_stays 13 ∷ []) refl (omega arith)))) (omega arith),
       )
   pages (suc j) ns ws k last v o there long small few =
       let l : ℕ = 131072 - suc (suc j) in
@@ -426,7 +359,7 @@ module _ (z : Size) (m : Moment) where
         rest.0,
         Path-counted (followed one.1
             (followed (turns_over x.words x.work none_done x.last l u x.around (omega arith) (omega arith))
-            (on (G_jumps 77 (own 13) refl (omega arith)) rest.1))) (omega arith),
+            (followed (obeys 77 u (G_jumps 13 ∷ []) refl (omega arith)) rest.1))) (omega arith),
       )
 
   -- ---- the list is filled
@@ -446,16 +379,10 @@ module _ (z : Size) (m : Moment) where
       (at 12 (set ws q 1) u (record k { plant = T_F + 2 * suc q; scrap = v }) c last)
   plants ws k c last q u v o low high small left =
       let size = least z in
-      let outside : IsOutside f ws q = record { below = omega arith; beside = inr (omega arith) } in
       let now = around_set ws q 1 (omega arith) o in
       let all = now.all in let at2 = now.at2 in
-      on (T 5 (own 95) _ refl refl)
-      (on (A 6 (own 87) (short 1) refl refl)
-      (on (T 7 (out q outside) _ refl refl)
-      (on (A 8 (own 7) (short (T_F + 2 * q)) refl (omega arith))
-      (on (A 9 (out 2 (early 2 (lit≤ tt) (lit< tt) all)) (short (T_F + 2 * suc q)) refl (omega arith))
-      (on (U 10 (own 7) _ refl refl)
-      (on (S 11 (own 96) (short u) refl left) stay))))))
+      obeys 5 v (T 95 ∷ A 87 1 ∷ T_high q ∷ A 7 (T_F + 2 * q) ∷ A_low 2 (T_F + 2 * suc q) ∷ U 7 ∷ S 96 u ∷ []) refl
+      (omega arith)
 
   fills : (j : ℕ) (ws : List ℕ) (k : Work) (c : Counts) (last : Option ℕ) (q v : ℕ) → IsAround ws → 163 ≤ q
       → q + suc j ≡ 237 → v < 131072 → Filled ws q (suc j) v k c last
@@ -466,7 +393,7 @@ module _ (z : Size) (m : Moment) where
     keeps = λ a l. get_or-set_other ws q a 1 0 (λ i. absurd (omega (arith, i, l)));
     ones = λ d some. stand_after ws q d 1 [] o.all (omega (arith, ends)) some tt;
     path = followed (plants ws k c last q 0 v o low (omega (arith, ends)) small (omega (arith, ends)))
-        (on (G_stays 12 (own 5) refl (lit< tt)) stay);
+        (obeys 12 0 (G_stays 5 ∷ []) refl (omega arith));
   }
   fills (suc j) ws k c last q v o low ends small =
       let u : ℕ = 131072 - 2 * suc j in
@@ -484,7 +411,7 @@ module _ (z : Size) (m : Moment) where
           rest.ones (suc d) (omega (arith, some)),
         );
         path = Path-counted (followed (plants ws k c last q u v o low (omega (arith, ends)) small (omega (arith, ends)))
-            (on (G_jumps 12 (own 5) refl (omega (arith, ends))) rest.path)) (omega arith);
+            (followed (obeys 12 u (G_jumps 5 ∷ []) refl (omega (arith, ends))) rest.path)) (omega arith);
       }
 
   -- ---- the program: the list, two lines, and the stop
@@ -496,11 +423,8 @@ module _ (z : Size) (m : Moment) where
       let filled = fills 73 ws (record loaded { link = to 3 5 }) none_done (Some 24) 163 0 o (lit≤ tt) refl (lit< tt) in
       let begins : Path f 602 (at 0 ws 0 loaded none_done last) (11 ∷ 2 ∷ 23 ∷ 18 ∷ 24 ∷ [])
       (at 13 filled.words 0 filled.work none_done (Some 24)) =
-      prints (O 0 (own 79) 11 refl refl)
-      (prints (O 1 (own 80) 2 refl refl)
-      (prints (O 2 (own 81) 23 refl refl)
-      (calls_own 3 100 refl refl refl (lit< tt)
-      (followed (new_line ws loaded none_done (Some 23) 3 o (lit< tt)) filled.path)))) in
+      followed (obeys 0 0 (O 79 11 ∷ O 80 2 ∷ O 81 23 ∷ A 3 (to 28 3) ∷ G_jumps 100 ∷ []) refl (omega arith))
+      (followed (new_line ws loaded none_done (Some 23) 3 o (lit< tt)) filled.path) in
       let there : Stand filled.words 163 2 ns = subst (λ (xs : List ℕ). Stand filled.words 163 2 xs) is
       (filled.ones 2 (lit≤ tt)) in
       let long : length ns ≡ 74 = ap (λ (xs : List ℕ). length xs) (sym is) in

@@ -1,7 +1,7 @@
 -- What the source of `examples/decimals.edsac` prints: its lines, its entry and its law.
-use Rattle.ed_programs.proofs.Kit.{Size, Settings, Line, all_words, moment_at, [], List, lit≤, map, refl, subst, true}
+use Rattle.ed_programs.proofs.Kit.{Size, Settings, Line, all_words, moment_at, [], List, lit≤, map, refl, true}
 use Rattle.ed_programs.proofs.Kit.{ℕ, ◌+◌, ◌∷◌, ◌≡◌, Text, paper, State, settings, parameter_store, ReachesStop}
-use Rattle.ed_programs.proofs.Kit.{entry_state, replicate, decimals_prints, SourceRuns, stops_from_entry, Marked}
+use Rattle.ed_programs.proofs.Kit.{entry_state, replicate, decimals_prints, SourceRuns, stops_from_entry, Marked, rules}
 use Rattle.ed_programs.specs.Decimals.{decimals_orders, decimals_text}
 use Rattle.ed_programs.specs.declared.decimals.TheConstants.{DECIMALS}
 use Rattle.ed_programs.proofs.DecimalsPass.{page_codes, page_orders}
@@ -16,12 +16,6 @@ lines_print =
     ∷ 24 ∷ 9 ∷ 5 ∷ 7 ∷ 4 ∷ 9 ∷ 6 ∷ 6 ∷ 9 ∷ 6 ∷ 7 ∷ 20 ∷ 6 ∷ 2 ∷ 7 ∷ 7 ∷ 2 ∷ 4 ∷ 0 ∷ 7 ∷ 6 ∷ 6 ∷ 20 ∷ 3 ∷ 0 ∷ 3 ∷ 5
     ∷ 3 ∷ 5 ∷ 4 ∷ 7 ∷ 5 ∷ 9 ∷ 20 ∷ 4 ∷ 5 ∷ 7 ∷ 1 ∷ 3 ∷ 8 ∷ 2 ∷ 1 ∷ 7 ∷ 8 ∷ 20 ∷ 5 ∷ 2 ∷ 5 ∷ 1 ∷ 6 ∷ 6 ∷ 4 ∷ 2 ∷ 7 ∷
     4 ∷ 18 ∷ 24 ∷ []
-
-codes_are : page_codes 1 (replicate 74 1) ≡ lines_print
-codes_are = refl
-
-orders_are : page_orders 1 (replicate 74 1) ≡ 453110
-orders_are = refl
 
 shown : paper (11 ∷ 2 ∷ 23 ∷ 18 ∷ 24 ∷ lines_print) ≡ decimals_prints
 shown = refl
@@ -38,9 +32,7 @@ lines = lines_of_pieces true pieces [] marks
 printed : {s : State} → ReachesStop (602 + page_orders 1 (replicate 74 1)) s
     (11 ∷ 2 ∷ 23 ∷ 18 ∷ 24 ∷ page_codes 1 (replicate 74 1)) 135
     → ReachesStop 453712 s (11 ∷ 2 ∷ 23 ∷ 18 ∷ 24 ∷ lines_print) 135
-printed {s} stop =
-    subst (λ (codes : List ℕ). ReachesStop 453712 s (11 ∷ 2 ∷ 23 ∷ 18 ∷ 24 ∷ codes) 135) codes_are
-    (subst (λ n. ReachesStop (602 + n) s (11 ∷ 2 ∷ 23 ∷ 18 ∷ 24 ∷ page_codes 1 (replicate 74 1)) 135) orders_are stop)
+printed stop = search rules
 
 module _ (z : Size) where
   is_around : IsAround (entry_state z lines).store.words

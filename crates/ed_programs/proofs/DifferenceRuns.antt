@@ -1,16 +1,17 @@
 -- The source of `examples/difference.edsac` for any two numbers: its path, and what it prints.
-use Rattle.ed_programs.proofs.Kit.{Z_F, if◌then◌else◌, parameter_store, digits_printed, stops_from_entry, pair_at_entry}
-use Rattle.ed_programs.proofs.Kit.{map, print_orders, ReachesStop, entry_state, reads_number, number_rows, stop_counted}
-use Rattle.ed_programs.proofs.Kit.{ltb-false, print_line, moment_at, [], append-nil, few_digits, SourceRuns, pair_after}
-use Rattle.ed_programs.proofs.Kit.{E_stays, Settings, to_stop, E_jumps, frame_at, length, ltb-true, settings, data_mark}
-use Rattle.ed_programs.proofs.Kit.{along, get_own, arith, nat_lt, Moment, on, digits, HasRead, Marked, calling, HasPair}
-use Rattle.ed_programs.proofs.Kit.{Size, Line, IsIn, then, Bool, false, List, lit<, lit≤, refl, Frame, short, state, to}
-use Rattle.ed_programs.proofs.Kit.{Z, S, T, sym, true, ℕ, ◌*◌, ◌+◌, ◌-◌, ◌<◌, ◌∷◌, ◌≡◌, Text, A, Path, stay, own}
+use Rattle.ed_programs.proofs.Kit.{before_order, Z_F, if◌then◌else◌, parameter_store, digits_printed, stops_from_entry}
+use Rattle.ed_programs.proofs.Kit.{pair_at_entry, map, print_orders, ReachesStop, entry_state, reads_number}
+use Rattle.ed_programs.proofs.Kit.{number_rows, stop_counted, ltb-false, print_line, moment_at, [], append-nil}
+use Rattle.ed_programs.proofs.Kit.{few_digits, SourceRuns, pair_after, Settings, to_stop, frame_at, length, ltb-true}
+use Rattle.ed_programs.proofs.Kit.{settings, data_mark, along, get_own, arith, nat_lt, Moment, digits, HasRead, Marked}
+use Rattle.ed_programs.proofs.Kit.{calling, HasPair, Size, Line, IsIn, then, Bool, false, List, lit<, lit≤, refl, Frame}
+use Rattle.ed_programs.proofs.Kit.{state, to, Z, sym, true, ℕ, ◌*◌, ◌+◌, ◌-◌, ◌<◌, ◌∷◌, ◌≡◌, Text, Path}
 use Rattle.std.specs.Fmt.{decimal}
 use Rattle.ed_programs.specs.Difference.{difference_orders, difference_text, distance}
 use Rattle.ed_programs.specs.declared.difference.TheConstants.{DIFFERENCE}
 use Rattle.ed_programs.proofs.DataLines.{small_too}
 use Rattle.ed_programs.proofs.SourceRuns.{lines_of_pieces, program_runs}
+use Rattle.ed_programs.proofs.Orders.{A, E_jumps, E_stays, S, T, obeys}
 
 -- the pieces of the source, and the numbers between them
 abbrev difference_pieces : List Text
@@ -32,14 +33,8 @@ module _ (z : Size) (m : Moment) where
 
   -- at the cell i: the words of the store, the number in the accumulator, the cells that change, and the rows left
   abbrev at : ℕ → List ℕ → ℕ → ℕ → ℕ → ℕ → List ℕ → Moment
-  at i words v number first scrap tape = record m {
-    words = words;
-    cells = cells number first scrap;
-    pairs = [];
-    acc = short v;
-    counter = 56 + i;
-    tape = tape;
-  }
+  at i words v number first scrap tape =
+      record (before_order m (56 + i) v (cells number first scrap)) { words = words; tape = tape }
 
   -- the smaller number is taken from the greater, in either case
   apart : (words : List ℕ) (a b : ℕ) → a < 65536 → b < 65536 → (smaller : Bool) → nat_lt b a ≡ smaller
@@ -48,21 +43,13 @@ module _ (z : Size) (m : Moment) where
   apart words a b first second true is =
       let less = ltb-true b a is in (
         131072 - (a - b),
-        on (A 6 (own 16) (short b) refl (omega arith))
-            (on (S 7 (own 17) (short (131072 - (a - b))) refl (omega arith))
-            (on (E_stays 8 (own 12) refl (omega arith))
-            (on (T 9 (own 18) _ refl refl)
-            (on (A 10 (own 17) (short a) refl (omega arith))
-            (on (S 11 (own 16) (short (distance a b)) refl (omega arith))
-            (on (T 12 (own 16) _ refl refl) stay)))))),
+        obeys 6 0 (A 16 b ∷ S 17 (131072 - (a - b)) ∷ E_stays 12 ∷ T 18 ∷ A 17 a ∷ S 16 (distance a b)
+            ∷ T 16 ∷ []) refl (omega arith),
       )
   apart words a b first second false is =
       let least = ltb-false b a is in (
         0,
-        on (A 6 (own 16) (short b) refl (omega arith))
-            (on (S 7 (own 17) (short (distance a b)) refl (omega arith))
-            (on (E_jumps 8 (own 12) refl (omega arith))
-            (on (T 12 (own 16) _ refl refl) stay))),
+        obeys 6 0 (A 16 b ∷ S 17 (distance a b) ∷ E_jumps 12 ∷ T 16 ∷ []) refl (omega arith),
       )
 
   -- the two numbers are read, the difference is printed, and the machine stops
@@ -78,8 +65,7 @@ module _ (z : Size) (m : Moment) where
       let after_one = pair_after one o in
       let next : IsIn f (at 4 one.words 0 a a 0 (number_rows (b ∷ []))) =
       record { above = lit≤ tt; all = after_one.all; own = refl } in
-      let two : HasRead next 4 16 76 b [] =
-      reads_number next 4 16 b [] after_one.reads refl second (lit< tt) (lit≤ tt) refl refl refl in
+      let two = reads_number next 4 16 b [] after_one.reads refl second (lit< tt) (lit≤ tt) refl refl refl in
       let after_two = pair_after two after_one in
       let takes = apart two.words a b first second (nat_lt b a) refl in
       let last : IsIn f (at 13 two.words 0 (distance a b) a takes.0 []) =
@@ -87,8 +73,7 @@ module _ (z : Size) (m : Moment) where
       let number = get_own 0 two.words 56 (cells (distance a b) a takes.0) 16 (lit< tt) in
       stop_counted (to_stop
       ((then) one.journey
-      ((then) (along (on (A 2 (own 16) (short a) refl (omega arith))
-      (on (T 3 (own 17) _ refl refl) stay)))
+      ((then) (along (obeys 2 0 (A 16 a ∷ T 17 ∷ []) refl (omega arith)))
       ((then) two.journey
       ((then) (along takes.1)
       (print_line last {v = distance a b} 13 16 after_two.prints number (lit< tt) (omega arith) (lit≤ tt) refl

@@ -54,10 +54,7 @@ module _ {n h : ℕ} {f : Frame n h} (r : Moment) (o : IsIn f (flat r)) where
 
     -- a cell of the piece is outside the routine, and holds its number
     outside : (done j : ℕ) → j < n → IsOutside divide w (f.base + j) (t done)
-    outside done j l = record {
-      below = let u = f.under in let v = f.fits in omega arith;
-      beside = elim has.apart [ inl b ↦ inr (omega arith) | inr b ↦ inl (omega arith) ];
-    }
+    outside done j l = search rules
 
     own_is : (done j v : ℕ) → j < n → get_or r.cells j 0 ≡ v → short_at (t done).store (f.base + j) ≡ v
     own_is done j v l is = let long = o.own in get_own 0 r.words f.base r.cells j (omega arith) ∙ is
@@ -122,13 +119,7 @@ module _ {n h : ℕ} {f : Frame n h} (r : Moment) (o : IsIn f (flat r)) where
 
     same_cells : (m : ℕ) → m < n → get_or last.store.words (f.base + m) 0 ≡ get_or cells_divided m 0
     same_cells m l =
-        let long = o.own in let long_set = length-set r.cells jh (x % by) in
-        let inside = d.in_high in let also = d.in_low in
-        let apart : IsOther divide w (f.base + m) = search rules in
-        set_own last.store.words (set r.cells jh (x % by)) f.base jl (x / by) m (omega arith) quotient (λ other.
-        set_own last.store.words r.cells f.base jh (x % by) m (omega arith) remainder (λ third.
-        keeps (f.base + m) (apart_cells m jh third) (apart_cells m jl other) apart
-        ∙ get_own 0 r.words f.base r.cells m (omega arith)))
+        search (rules, length-set, divide, set_own, quotient, remainder, keeps, apart_cells, get_own)
 
     -- outside the piece only the routine's working locations change
     beside : (q : ℕ) → (q < f.base) ⊎ (f.base + n ≤ q) → IsOther divide w q

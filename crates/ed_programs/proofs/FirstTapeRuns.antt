@@ -73,6 +73,5 @@ first_tape_runs s tape tape_rows t {k} {at} {printed} reads short o stops few =
 pub first_tape_prints_of : {cost orders at : ℕ} {tape printed : Text} (r : Result (String Global) Refusal)
     → GivesProgram None tape r → ((s : Settings) → FirstTapeRuns s tape cost orders at printed)
     → FirstTapePrints cost orders at printed r
-first_tape_prints_of {cost} {orders} {at} {printed = printed} (Ok text) gives law = λ s.
-    subst (λ (t : Text). FirstTapeRuns s t cost orders at printed) (sym gives.1) (law s)
+first_tape_prints_of (Ok text) gives law = search rules
 first_tape_prints_of (Err refusal) gives law = tt

@@ -1,13 +1,14 @@
 -- The program of `examples/fraction.edsac`, at any base and for all its numbers: division as on paper.
-use Rattle.ed_programs.proofs.Kit.{A_F, E_F, G_F, L_D, O_F, S_F, T_F, U_F, Z_F, G_stays, L1F, after_call, along}
-use Rattle.ed_programs.proofs.Kit.{elsewhere, has_after, IsIn, Journey, no_working, still_in, then, E_jumps, L, S, T}
-use Rattle.ed_programs.proofs.Kit.{Bool, Option, Reads, Jumps, any, U, LD, print_goes, print_left, print_line, get_own}
-use Rattle.ed_programs.proofs.Kit.{[], arith, inl, inr, length, List, lit<, lit≤, refl, rules, Some, subst, suc, ℕ, ◌%◌}
-use Rattle.ed_programs.proofs.Kit.{◌*◌, ◌+◌, ◌/◌, ◌<◌, ◌∙◌, ◌∷◌, ◌≡◌, ◌≤◌, locations_most, Frame, Moment, short, A, on}
-use Rattle.ed_programs.proofs.Kit.{Path, stay, own, print, read, with_h, digits, print_orders, HasRoutine, divide}
-use Rattle.ed_programs.proofs.Kit.{divide_orders, with_hnm, HasRead, journey_counted}
+use Rattle.ed_programs.proofs.Kit.{A_F, E_F, G_F, L_D, O_F, S_F, T_F, U_F, Z_F, L1F, after_call, along, elsewhere}
+use Rattle.ed_programs.proofs.Kit.{has_after, IsIn, Journey, no_working, still_in, then, Bool, Option, Reads, Jumps}
+use Rattle.ed_programs.proofs.Kit.{any, LD, print_goes, print_left, print_line, get_own, [], arith, inl, inr, length}
+use Rattle.ed_programs.proofs.Kit.{List, lit<, lit≤, refl, rules, Some, subst, suc, ℕ, ◌%◌, ◌*◌, ◌+◌, ◌/◌, ◌<◌, ◌∙◌}
+use Rattle.ed_programs.proofs.Kit.{◌∷◌, ◌≡◌, ◌≤◌, locations_most, Frame, Moment, short, Path, own, print, read, with_h}
+use Rattle.ed_programs.proofs.Kit.{digits, print_orders, HasRoutine, divide, divide_orders, with_hnm, HasRead}
+use Rattle.ed_programs.proofs.Kit.{journey_counted}
 use Rattle.ed_programs.proofs.Divides.{HasDivided, IsDivided, divide_line}
 use Rattle.ed_programs.proofs.NumberShown.{then_on}
+use Rattle.ed_programs.proofs.Orders.{A, E_jumps, G_stays, L, S, T, U, obeys}
 
 -- the cells that change
 pub record Work : Type 0 where
@@ -158,18 +159,8 @@ module _ (given : Given) where
       let size = locations_most f.size in let under = f.under in let fits = f.fits in
       let k1 : Work = record k { scrap = 0; number = m; low = 10 * rest; rest = 0 } in
       let first : Path f 12 (at around 15 k) [] (at around 27 k1) =
-      on (T 15 (own 39) 0 refl refl)
-      (on (A 16 (own 33) (short (suc m)) refl (omega arith))
-      (on (S 17 (own 38) (short m) refl (omega arith))
-      (on (G_stays 18 (own 32) refl (omega arith))
-      (on (T 19 (own 33) _ refl refl)
-      (on (A 20 (own 35) (short rest) refl (omega arith))
-      (on (L 21 LD (short (2 * rest)) refl (omega arith))
-      (on (U 22 (own 34) _ refl refl)
-      (on (L 23 L1F (short (8 * rest)) refl (omega arith))
-      (on (A 24 (own 34) (short (10 * rest)) refl (omega arith))
-      (on (T 25 (own 34) _ refl refl)
-      (on (T 26 (own 35) 0 refl refl) stay))))))))))) in
+      obeys 15 0 (T 39 ∷ A 33 (suc m) ∷ S 38 m ∷ G_stays 32 ∷ T 33 ∷ A 35 rest ∷ L LD (2 * rest) ∷ U 34
+      ∷ L L1F (8 * rest) ∷ A 34 (10 * rest) ∷ T 34 ∷ T 35 ∷ []) refl (omega arith) in
       let v : ℕ = 10 * rest / by in
       let one = divided around 27 k1 o (lit≤ tt) refl (10 * rest) by refl refl is_by (omega arith) (omega arith) most_by
       refl in
@@ -183,5 +174,5 @@ module _ (given : Given) where
         rest_is = refl;
         by_is = is_by;
         journey = journey_counted (then (along first) (then one.journey
-            (then_on shown.journey (on (E_jumps 31 (own 15) refl (lit< tt)) stay)))) (omega arith);
+            (then_on shown.journey (obeys 31 0 (E_jumps 15 ∷ []) refl (omega arith))))) (omega arith);
       }

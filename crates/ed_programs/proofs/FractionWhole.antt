@@ -1,16 +1,18 @@
 -- The program of `examples/fraction.edsac` from its entry to its stop, and the figures that it prints.
-use Rattle.ed_programs.proofs.Kit.{div-lt_iff_lt-mul, mod-lt, div-add-mod, Z_F, Figures, O, Z, along, Journey}
-use Rattle.ed_programs.proofs.Kit.{stop_after, then, to_stop, S, T, prints, [], ap, append-nil, append_assoc, arith}
-use Rattle.ed_programs.proofs.Kit.{decimal, length, length-append, List, lit<, lit≤, refl, Some, subst, suc, sym, zero}
-use Rattle.ed_programs.proofs.Kit.{ℕ, ◌%◌, ◌*◌, ◌++◌, ◌+◌, ◌/◌, ◌<◌, ◌^◌, ◌∙◌, ◌∷◌, ◌≡◌, ◌≤◌, Text, paper, Moment}
-use Rattle.ed_programs.proofs.Kit.{short, state, A, G_jumps, on, Path, stay, own, digits, print_orders, few_digits}
-use Rattle.ed_programs.proofs.Kit.{ReachesStop, divide_orders, number_shown, paper_from, figure_orders, HasRead}
-use Rattle.ed_programs.proofs.Kit.{reads_number, number_rows, journey_counted, stop_counted}
+use Rattle.ed_programs.proofs.Kit.{div-lt_iff_lt-mul, mod-lt, div-add-mod, Z_F, Figures, Z, along, Journey, stop_after}
+use Rattle.ed_programs.proofs.Kit.{then, to_stop, prints, [], ap, append-nil, append_assoc, arith, decimal, length}
+use Rattle.ed_programs.proofs.Kit.{length-append, List, lit<, lit≤, refl, Some, subst, suc, sym, zero, ℕ, ◌%◌, ◌*◌}
+use Rattle.ed_programs.proofs.Kit.{◌++◌, ◌+◌, ◌/◌, ◌<◌, ◌^◌, ◌∙◌, ◌∷◌, ◌≡◌, ◌≤◌, Text, paper, Moment, state, Path, stay}
+use Rattle.ed_programs.proofs.Kit.{own, digits, print_orders, few_digits, ReachesStop, divide_orders, number_shown}
+use Rattle.ed_programs.proofs.Kit.{paper_from, figure_orders, HasRead, reads_number, number_rows, journey_counted}
+use Rattle.ed_programs.proofs.Kit.{stop_counted, common_steps, rules}
 use Rattle.std.proofs.Math.Nat.{div-le_self, add-mul-div_left, add-mul-mod_self_left, mul_assoc, pow-succ'}
 use Rattle.ed_programs.specs.Fraction.{figure, figures}
 use Rattle.ed_programs.proofs.FractionProgram.{Given, IsAround, Turned, Work, after_read, at, divided, in_at, printed}
 use Rattle.ed_programs.proofs.FractionProgram.{turn}
 use Rattle.ed_programs.proofs.NumberShown.{then_on}
+use Rattle.ed_programs.proofs.Orders.{A, G_jumps, S, T, obeys}
+use Rattle.ed_machine.proofs.Kit.Moves as moves
 
 -- ---- division as on paper: the figure and what is left, by those of the place before
 
@@ -22,11 +24,7 @@ module _ (u l n : ℕ) (some : 0 < l) where
   left = before % l
 
   next : 10 ^ (n + 1) * u ≡ 10 * left + l * (10 * (before / l))
-  next =
-      let e : n + 1 ≡ suc n = omega arith in
-      let is = div-add-mod before l in
-      let swap : l * (10 * (before / l)) ≡ 10 * (l * (before / l)) = omega arith in
-      ap (λ k. 10 ^ k * u) e ∙ ap (λ x. x * u) (pow-succ' 10 n) ∙ mul_assoc 10 (10 ^ n) u ∙ omega (arith, is, swap)
+  next = grind (arith, common_steps, div-add-mod, pow-succ', mul_assoc)
 
   pub digit_small : 10 * left / l < 10
   digit_small = let low = mod-lt before some in (div-lt_iff_lt-mul {k = l} {x = 10 * left} {y = 10} some).1
@@ -77,9 +75,7 @@ all_shown u l n w small =
 
 pub few_codes : (u l n : ℕ) → length (figure_codes u l n) ≤ 6 * n
 few_codes u l zero = omega arith
-few_codes u l (suc n) =
-    let x : ℕ = figure u l (n + 1) in
-    omega (arith, length-append (figure_codes u l n) (11 ∷ digits x), few_digits x, few_codes u l n)
+few_codes u l (suc n) = search (rules, length-append, few_digits, few_codes u l n)
 
 -- ---- the loop
 
@@ -125,22 +121,10 @@ module _ (given : Given) where
       let all = reached around k u l n 0 o (number ∙ omega arith) (omega arith) is_rest is_by some few in
       let none = all.number in
       to_stop (then_on all.journey
-      (on (T 15 (own 39) 0 refl refl)
-      (on (A 16 (own 33) (short 0) refl (omega arith))
-      (on (S 17 (own 38) (short 131071) refl (omega arith))
-      (on (G_jumps 18 (own 32) refl (lit≤ tt)) stay)))))
+      (obeys 15 0 (T 39 ∷ A 33 0 ∷ S 38 131071 ∷ G_jumps 32 ∷ []) refl (omega arith)))
       (Z 32 Z_F refl refl) done
 
   -- ---- the program
-
-  -- a number that was read is kept in another cell
-  upper_kept : (m : Moment) (k : Work) (v : ℕ) → v < 65536
-      → Path f 2 (at given m 2 (record k { number = v })) [] (at given m 4 (record k { number = v; low = v }))
-  upper_kept m k v small = on (A 2 (own 33) (short v) refl (omega arith)) (on (T 3 (own 34) _ refl refl) stay)
-
-  lower_kept : (m : Moment) (k : Work) (v : ℕ) → v < 65536
-      → Path f 2 (at given m 6 (record k { number = v })) [] (at given m 8 (record k { number = v; divisor = v }))
-  lower_kept m k v small = on (A 6 (own 33) (short v) refl (omega arith)) (on (T 7 (own 36) _ refl refl) stay)
 
   pub fraction_stops : (around : Moment) (k : Work) (u l n : ℕ) → IsAround given around
       → around.tape ≡ number_rows (u ∷ l ∷ n ∷ []) → k.rest ≡ 0 → u < 65536 → 1 ≤ l → l ≤ 6553 → n < 65536 → (done : ℕ)
@@ -154,11 +138,16 @@ module _ (given : Given) where
       let m1 : Moment = record around { words = one.words; tape = number_rows (l ∷ n ∷ []) } in
       let o1 = after_read given around {k = k} o one in
       let k1 : Work = record k { number = u; low = u } in
+      -- a number that was read is kept in another cell
+      let kept : Path f 2 (at given m1 2 (record k { number = u })) [] (at given m1 4 k1) =
+      obeys 2 0 (A 33 u ∷ T 34 ∷ []) refl (omega arith) in
       let two : HasRead (in_at given m1 4 k1 o1) 4 33 r l (number_rows (n ∷ [])) =
       reads_number (in_at given m1 4 k1 o1) 4 33 l _ o1.reads refl small_l (lit< tt) (lit≤ tt) refl refl refl in
       let m2 : Moment = record m1 { words = two.words; tape = number_rows (n ∷ []) } in
       let o2 = after_read given m1 {k = k1} o1 two in
       let k2 : Work = record k1 { number = l; divisor = l } in
+      let kept_too : Path f 2 (at given m2 6 (record k1 { number = l })) [] (at given m2 8 k2) =
+      obeys 6 0 (A 33 l ∷ T 36 ∷ []) refl (omega arith) in
       let three : HasRead (in_at given m2 8 k2 o2) 8 33 r n [] =
       reads_number (in_at given m2 8 k2 o2) 8 33 n _ o2.reads refl small_n (lit< tt) (lit≤ tt) refl refl refl in
       let m3 : Moment = record m2 { words = three.words; tape = [] } in
@@ -168,10 +157,10 @@ module _ (given : Given) where
       let k4 : Work = record k3 { rest = u % l; low = u / l } in
       let five = printed given four.now 12 k4 four.is (lit≤ tt) refl (u / l) refl (quotient_small u l small_u some)
       refl in
-      let first = then one.journey (then (along (upper_kept m1 k u small_u))
-      (then two.journey (then (along (lower_kept m2 k1 l small_l))
+      let first = then one.journey (then (along kept)
+      (then two.journey (then (along kept_too)
       (then three.journey (then four.journey
-      (then five.journey (along (prints (O 14 (own 37) 23 refl refl) stay)))))))) in
+      (then five.journey (along (prints (moves.O 14 (own 37) 23 refl refl) stay)))))))) in
       let rest = ends (record five.now { last = Some 23 }) k4 u l n five.is refl refl refl some few_l small_n in
       stop_counted (stop_after (first.leads done) refl (rest _)) (orders_are (length (digits u)) (length (digits l))
       (length (digits n)) (divide_orders (u / l)) (print_orders (u / l)) (figure_orders u l n))

@@ -1,11 +1,12 @@
 -- The program of `examples/answer6.edsac`, at any base and for a list of any length: two orders go along the list.
-use Rattle.ed_programs.proofs.Kit.{quiet_walks, locations_most, print_orders, ReachesStop, stop_counted, greatest_of, Z}
-use Rattle.ed_programs.proofs.Kit.{all_spent, IsOutside, ltb-false, print_line, followed, HasRoutine, walked, nat_tests}
-use Rattle.ed_programs.proofs.Kit.{G_stays, to_stop, get_own, get_or, length, nat_lt, ltb-true, Moment, G_jumps, with_h}
-use Rattle.ed_programs.proofs.Kit.{IsIn, along, early, arith, false, subst, Frame, short, state, print, digits, rises}
-use Rattle.ed_programs.proofs.Kit.{A_F, G_F, S_F, T_F, U_F, Z_F, then, Bool, List, lit<, lit≤, refl, true, Path, stay}
-use Rattle.ed_programs.proofs.Kit.{S, T, U, out, [], ap, inr, ℕ, ◌*◌, ◌+◌, ◌-◌, ◌<◌, ◌∙◌, ◌∷◌, ◌≡◌, ◌≤◌, A, on, own}
+use Rattle.ed_programs.proofs.Kit.{before_order, quiet_walks, locations_most, print_orders, ReachesStop, stop_counted}
+use Rattle.ed_programs.proofs.Kit.{greatest_of, Z, all_spent, ltb-false, print_line, followed, HasRoutine, walked}
+use Rattle.ed_programs.proofs.Kit.{nat_tests, to_stop, get_own, get_or, length, nat_lt, ltb-true, Moment, with_h, IsIn}
+use Rattle.ed_programs.proofs.Kit.{along, arith, false, subst, Frame, state, print, digits, rises, A_F, G_F, S_F, T_F}
+use Rattle.ed_programs.proofs.Kit.{U_F, Z_F, then, Bool, List, lit<, lit≤, refl, true, Path, [], ap, ℕ, ◌*◌, ◌+◌, ◌-◌}
+use Rattle.ed_programs.proofs.Kit.{◌<◌, ◌∙◌, ◌∷◌, ◌≡◌, ◌≤◌}
 use Rattle.std.proofs.Common.{max}
+use Rattle.ed_programs.proofs.Orders.{A, A_high, A_low, G_jumps, G_stays, S, T, U, obeys}
 
 -- the order that gets the word at q
 abbrev pub getting : ℕ → ℕ
@@ -89,12 +90,8 @@ module _ (given : Given) where
   open given use {f, e, p, around, above, all, at2, room}
 
   abbrev pub at : ℕ → ℕ → ℕ → ℕ → ℕ → ℕ → Moment
-  at i v look take greatest scrap = record around {
-    cells = cells f.base e p look take greatest scrap;
-    pairs = [];
-    acc = short v;
-    counter = f.base + i;
-  }
+  at i v look take greatest scrap =
+      before_order around (f.base + i) v (cells f.base e p look take greatest scrap)
 
   -- before a turn, and after the last one
   abbrev pub before : Turning → List ℕ → Moment
@@ -108,32 +105,18 @@ module _ (given : Given) where
     pub small : x.left < 131072
     pub low : x.most < 65536
 
-  -- the two orders get the next address
-  raises : (q g t old : ℕ) → q + 1 ≤ e → t < 131072 → Path f 7 (at 7 t (getting q) (getting q) g old) []
-      (at 14 (getting (q + 1)) (getting (q + 1)) (getting (q + 1)) g t)
-  raises q g t old l few =
-      let b = locations_most f.size in let fits = f.fits in let r = room in let second = at2 in
-      on (T 7 (own 22) _ refl refl)
-      (on (A 8 (own 5) (short (getting q)) refl (omega arith))
-      (on (A 9 (out 2 (early 2 above (lit< tt) all)) (short (getting (q + 1))) refl (omega arith))
-      (on (T 10 (own 5) _ refl refl)
-      (on (A 11 (own 1) (short (getting q)) refl (omega arith))
-      (on (A 12 (out 2 (early 2 above (lit< tt) all)) (short (getting (q + 1))) refl (omega arith))
-      (on (U 13 (own 1) _ refl refl) stay))))))
-
-  -- and are compared with the order for the location after the list
+  -- the two orders get the next address, and are compared with the order for the location after the list
   closes : (q g t old : ℕ) (ns : List ℕ) → q + 1 + length ns ≡ e → f.base + 23 ≤ q → t < 131072
       → Path f 9 (at 7 t (getting q) (getting q) g old) []
       (before (record { q = q + 1; left = compared ns; most = g; scrap = t }) ns)
   closes q g t old [] ends from few =
-      let b = locations_most f.size in let fits = f.fits in let r = room in
-      followed (raises q g t old (omega arith) few)
-      (on (S 14 (own 21) (short 0) refl (omega arith)) (on (G_stays 15 (own 0) refl (lit< tt)) stay))
+      let b = locations_most f.size in let fits = f.fits in let r = room in let second = at2 in
+      obeys 7 t (T 22 ∷ A 5 (getting q) ∷ A_low 2 (getting (q + 1)) ∷ T 5 ∷ A 1 (getting q) ∷ A_low 2 (getting (q + 1))
+      ∷ U 1 ∷ S 21 0 ∷ G_stays 0 ∷ []) refl (omega arith)
   closes q g t old (n ∷ ns) ends from few =
-      let b = locations_most f.size in let fits = f.fits in let r = room in
-      followed (raises q g t old (omega arith) few)
-      (on (S 14 (own 21) (short (131072 - 2 * length (n ∷ ns))) refl (omega arith))
-      (on (G_jumps 15 (own 0) refl (omega arith)) stay))
+      let b = locations_most f.size in let fits = f.fits in let r = room in let second = at2 in
+      obeys 7 t (T 22 ∷ A 5 (getting q) ∷ A_low 2 (getting (q + 1)) ∷ T 5 ∷ A 1 (getting q) ∷ A_low 2 (getting (q + 1))
+      ∷ U 1 ∷ S 21 (compared (n ∷ ns)) ∷ G_jumps 0 ∷ []) refl (omega arith)
 
   left_small : (ns : List ℕ) → compared ns < 131072
   left_small [] = lit< tt
@@ -145,29 +128,20 @@ module _ (given : Given) where
   turn x n ns o =
       let b = locations_most f.size in let fits = f.fits in let r = room in let long = o.ends in let from = o.from in
       let here = o.stand.0 in let few = o.stand.1 in let low = o.low in
-      let outside : IsOutside f around.words x.q = record { below = omega arith; beside = inr from } in
       by_less (λ b. Fine (next_by b x n ns) ns
       × Path f (orders_by b) (before x (n ∷ ns)) [] (before (next_by b x n ns) ns)) n x.most
       (λ less.
       let t : ℕ = 131072 - (x.most - n) in (
         record { stand = o.stand.2; ends = omega arith; from = omega arith; small = left_small ns; low = low },
         followed
-            (on (T 0 (own 22) _ refl refl)
-            (on (A 1 (out x.q outside) (short n) refl (omega arith))
-            (on (S 2 (own 20) (short t) refl (omega arith))
-            (on (G_jumps 3 (own 7) refl (omega arith)) stay))))
+            (obeys 0 x.left (T 22 ∷ A_high x.q n ∷ S 20 t ∷ G_jumps 7 ∷ []) refl (omega arith))
             (closes x.q x.most t x.left ns (omega arith) (omega arith) (omega arith)),
       ))
       (λ least. (
         record { stand = o.stand.2; ends = omega arith; from = omega arith; small = left_small ns; low = few },
         followed
-            (on (T 0 (own 22) _ refl refl)
-            (on (A 1 (out x.q outside) (short n) refl (omega arith))
-            (on (S 2 (own 20) (short (n - x.most)) refl (omega arith))
-            (on (G_stays 3 (own 7) refl (omega arith))
-            (on (T 4 (own 22) _ refl refl)
-            (on (A 5 (out x.q outside) (short n) refl (omega arith))
-            (on (T 6 (own 20) _ refl refl) stay)))))))
+            (obeys 0 x.left (T 22 ∷ A_high x.q n ∷ S 20 (n - x.most) ∷ G_stays 7 ∷ T 22 ∷ A_high x.q n ∷ T 20 ∷ []) refl
+            (omega arith))
             (closes x.q n 0 (n - x.most) ns (omega arith) (omega arith) (lit< tt)),
       ))
 
@@ -183,7 +157,7 @@ module _ (given : Given) where
       let in_last : IsIn f last = record { above = above; all = all; own = refl } in
       let number = get_own 0 around.words f.base (cells f.base e p (getting y.q) (getting y.q) y.most 0) 20 (lit< tt) in
       let prints = print_line in_last {v = y.most} 17 20 given.prints number (lit< tt) low (lit≤ tt) refl refl refl in
-      let whole = (then) (along (followed went.1 (on (T 16 (own 22) 0 refl refl) stay))) prints in
+      let whole = (then) (along (followed went.1 (obeys 16 0 (T 22 ∷ []) refl (omega arith)))) prints in
       let turns : all_spent orders next x ns ≡ 13 * length ns + 3 * rises 0 ns =
       spent_is x ns ∙ ap (λ m. 13 * length ns + 3 * rises m ns) none in
       let is : y.most ≡ greatest_of ns = most_is x ns ∙ ap (λ m. max m (greatest_of ns)) none ∙ omega arith in

@@ -1,12 +1,12 @@
 -- A source that enters the checking routine is entered at the routine's base.
-use Rattle.ed_programs.proofs.Kit.{arith, nat_tests, Size, Line, Statement, Enter, bytes_eq, bytes_eq-Decides}
+use Rattle.ed_programs.proofs.Kit.{arith, nat_tests, Size, Line, Statement, Enter, bytes_eq-Decides}
 use Rattle.ed_programs.proofs.Kit.{Definition, counter_after, place_on, [], ap, append_assoc, false, inl, inr, List}
 use Rattle.ed_programs.proofs.Kit.{None, Option, refl, Some, subst, sym, true, unwrap_or, ℕ, ◌++◌, ◌∙◌, ◌∷◌, ◌≡◌}
 use Rattle.ed_programs.proofs.Kit.{first_counter, entry_of, symbols_of, checker_base, EntersChecker}
 use Rattle.ed_link.proofs.Kit.{is_some, counter_from, after_statement, HasEnter, HasNoFault, on_line, entered_place}
 use Rattle.ed_link.proofs.Kit.{entry_from}
 use Rattle.ed_symbols.proofs.Kit.{defines_again, definition_of, symbols_from}
-use Rattle.std.proofs.Common.{option_map}
+use Rattle.std.proofs.Common.{option_map, rules}
 use Rattle.std.proofs.lemmas.Bool.{false_from_ne_true}
 use Rattle.ed_symbols.specs.NameTests.{is_again}
 use Rattle.ed_symbols.specs.Names.{definition_place, is_local, label_definition, as_list, statement_definition}
@@ -60,8 +60,7 @@ no_local (Some k) = refl
 
 local_unseen : (name : List ℕ) → is_local name ≡ true → (hs : List Definition) → definition_of None name hs ≡ None
 local_unseen name e [] = refl
-local_unseen name e (h ∷ hs) =
-    let inside = no_local h.segment in let rest = local_unseen name e hs in grind (arith, nat_tests)
+local_unseen name e (h ∷ hs) = search (rules, no_local, local_unseen name e hs)
 
 module _ (z : Size) (lines : List Line) (faultless : HasNoFault z lines) (c : EntersChecker lines) where
   -- no line before the one that enters is an `enter`
@@ -78,10 +77,7 @@ module _ (z : Size) (lines : List Line) (faultless : HasNoFault z lines) (c : En
       clash e = absurd (cc)
 
   entered : entry_of lines ≡ unwrap_or (place_on (symbols_of lines) None c.name) 0
-  entered =
-      ap (entry_from (symbols_of lines)) c.follows.lines_are
-      ∙ first_enter (symbols_of lines) c.ahead (c.entering ∷ c.follows.after) none_ahead
-      ∙ ap (λ st. entered_place (symbols_of lines) st (entry_from (symbols_of lines) c.follows.after)) c.enters
+  entered = search (rules, first_enter, none_ahead)
 
   -- the name that is entered is known, so it is not local
   is_global : is_local c.name ≡ false
@@ -123,16 +119,10 @@ module _ (z : Size) (lines : List Line) (faultless : HasNoFault z lines) (c : En
   later = symbols_from (after_statement c.using.statement counter) c.stands.after
 
   all_homes : symbols_of lines ≡ (earlier ++ labels) ++ home ∷ later
-  all_homes =
-      ap (symbols_from first_counter) c.stands.lines_are
-      ∙ homes_append first_counter c.before (c.using ∷ c.stands.after)
-      ∙ ap (λ (o : Option Definition). earlier ++ ((labels ++ as_list o) ++ later)) names
-      ∙ ap (λ (hs : List Definition). earlier ++ hs) (append_assoc labels (home ∷ []) later)
-      ∙ sym (append_assoc earlier labels (home ∷ later))
+  all_homes = search (rules, homes_append, append_assoc)
 
   itself : definition_of None c.name (home ∷ later) ≡ Some home
-  itself =
-      let same : bytes_eq c.name c.name ≡ true = (bytes_eq-Decides c.name c.name).1 refl in rw (same, is_global) refl
+  itself = search (rules, bytes_eq-Decides, is_global)
 
   pub placed : place_on (symbols_of lines) None c.name ≡ Some (checker_base c.before)
   placed =

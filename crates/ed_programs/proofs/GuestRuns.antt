@@ -53,8 +53,7 @@ module _ (s : Settings) (source : Text) (lines : List Line) (c : EntersChecker l
   -- H names a location of the store
   first_low : (q : ℕ) → IsFollowed base q g → IsAllowed base (state_after q g)
       → operand_number (symbols_of lines) None c.first < 1024
-  first_low q followed last =
-      let size = locations_most s.size in let next = first_below base q g followed last in omega (arith, next, size)
+  first_low q followed last = search (rules, locations_most, first_below)
 
   -- the guest of the machine is the guest of the source
   stopped : (q : ℕ) → StopsAtZ base q g → HasChecked base q m g

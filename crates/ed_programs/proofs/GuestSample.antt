@@ -1,21 +1,20 @@
 -- A guest of three lines, for which everything that the law requires is shown: it prints A and stops.
 use Rattle.ed_programs.proofs.Kit.{A_F, Z_F, Size, Full, Small, no_step, Line, Label, Fetch, checked_codes}
-use Rattle.ed_programs.proofs.Kit.{checked_orders, IsAllowed, placed, word_at, [], ap, arith, codes, false, inl, length}
+use Rattle.ed_programs.proofs.Kit.{checked_orders, IsAllowed, placed, word_at, [], ap, arith, codes, false, length}
 use Rattle.ed_programs.proofs.Kit.{List, lit<, lit≤, None, Ok, pos, refl, rules, Some, subst, suc, sym, take, true}
-use Rattle.ed_programs.proofs.Kit.{unwrap_or, zero, ℕ, ◌*◌, ◌++◌, ◌+◌, ◌-◌, ◌/◌, ◌<◌, ◌^◌, ◌∙◌, ◌∷◌, ◌≡◌, ◌≤◌, Text}
-use Rattle.ed_programs.proofs.Kit.{least, paper, short_at, step, State, progress, state_after, placed_at, settings}
-use Rattle.ed_programs.proofs.Kit.{line_of, program_of, parameter_store, fault, read_is_accepted, text_of_lines}
-use Rattle.ed_programs.proofs.Kit.{is_obeyed, stops_of, EntersChecker, entry_guest, stopped_orders, StopsAtZ}
-use Rattle.ed_programs.proofs.Kit.{SourceRuns, Marked}
-use Rattle.ed_checker.proofs.Kit.{function_of, kind_of_function, next_word, obey_word, codes_of, IsAllowedOrder}
-use Rattle.ed_checker.proofs.Kit.{orders_by}
+use Rattle.ed_programs.proofs.Kit.{unwrap_or, zero, ℕ, ◌++◌, ◌+◌, ◌-◌, ◌<◌, ◌∙◌, ◌∷◌, ◌≡◌, ◌≤◌, Text}
+use Rattle.ed_programs.proofs.Kit.{paper, short_at, step, State, progress, state_after, placed_at, settings, line_of}
+use Rattle.ed_programs.proofs.Kit.{program_of, parameter_store, fault, read_is_accepted, text_of_lines, is_obeyed}
+use Rattle.ed_programs.proofs.Kit.{stops_of, EntersChecker, entry_guest, stopped_orders, StopsAtZ, SourceRuns, Marked}
+use Rattle.ed_checker.proofs.Kit.{function_of, kind_of_function, next_word, obey_word, codes_of, orders_by}
 use Rattle.ed_orders.specs.declared.kind.Kind.TheVariants.{O}
 use Rattle.ed_machine.specs.declared.turn.Turn.TheVariants.{Printed, Stopped}
 use Rattle.ed_machine.proofs.Kit.Leads.{first_order}
 use Rattle.ed_programs.specs.Guests.{SampleIsChecked}
 use Rattle.ed_programs.proofs.GuestRuns.{each_guest}
 use Rattle.ed_programs.proofs.GuestTexts.{enters_at, last_texts, use_line, use_text}
-use Rattle.ed_programs.proofs.SourceLines.{lines_said, source_read, source_said}
+use Rattle.ed_programs.proofs.SourceLines.{lines_said, mark, source_read, source_said}
+use Rattle.std.proofs.lemmas.Grind.{common_steps}
 
 -- ---- the source
 
@@ -28,16 +27,9 @@ use_says = refl
 
 abbrev marks : List (Marked false)
 marks =
-    record {
-      number = 5;
-      text = use_text;
-      label = None;
-      statement = Fetch (codes "check") (codes "c") (record {
-        items = record { letter = 21; operand = Label (codes "main") (pos 0) } ∷ [];
-      });
-      says = use_says;
-    }
-    ∷ []
+    mark 5 use_text None (Fetch (codes "check") (codes "c") (record {
+      items = record { letter = 21; operand = Label (codes "main") (pos 0) } ∷ [];
+    })) use_says ∷ []
 
 abbrev lines : List Line
 lines = lines_said false 1 texts marks
@@ -72,9 +64,7 @@ module _ (z : Size) where
 
   first_turn : (step g).turn ≡ Printed 28
   unfolding step
-  first_turn =
-      ap (λ w. (obey_word (kind_of_function (function_of w)) w g).turn) first_word
-      ∙ ap (λ w. Printed (w * 2 ^ 18 / 2 ^ 30)) letter
+  first_turn = search rules
 
   abbrev second : State
   second = (obey_word (Some O) 36980 g).state
@@ -94,22 +84,10 @@ module _ (z : Size) where
   -- ---- what the law requires of it
 
   first_allowed : IsAllowed 60 g
-  first_allowed =
-      let size = least z in
-      record {
-        outside = inl (lit< tt);
-        next = omega arith;
-        order = subst (λ w. IsAllowedOrder (kind_of_function (function_of w)) 60 w z) (sym first_word) (inl (lit< tt));
-      }
+  first_allowed = search (rules, lit<)
 
   second_allowed : IsAllowed 60 second
-  second_allowed =
-      let size = least z in
-      record {
-        outside = inl (lit< tt);
-        next = omega arith;
-        order = subst (λ w. IsAllowedOrder (kind_of_function (function_of w)) 60 w z) (sym second_word) tt;
-      }
+  second_allowed = grind (arith, common_steps)
 
   allowed : (j : ℕ) → j < 1 → IsAllowed 60 (state_after j g)
   allowed zero l = subst (IsAllowed 60) (no_step g) first_allowed

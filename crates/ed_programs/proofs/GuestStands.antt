@@ -4,7 +4,7 @@ use Rattle.ed_programs.proofs.Kit.{table_item, counter_after, operand_number, Ha
 use Rattle.ed_programs.proofs.Kit.{length, List, lit<, map, nat_eq, None, refl, subst, sym, true, ℕ, ◌%◌, ◌*◌, ◌++◌}
 use Rattle.ed_programs.proofs.Kit.{◌+◌, ◌/◌, ◌<◌, ◌^◌, ◌||◌, ◌∙◌, ◌≡◌, ◌≤◌, locations, Text, locations_most, short_at}
 use Rattle.ed_programs.proofs.Kit.{State, image_word, parameter_store, symbols_of, cost, with_h, guest, entry_state}
-use Rattle.ed_programs.proofs.Kit.{first_state, IsAcceptedAs, checker_base, EntersChecker, entry_guest}
+use Rattle.ed_programs.proofs.Kit.{first_state, IsAcceptedAs, checker_base, EntersChecker, entry_guest, rules}
 use Rattle.ed_link.proofs.Kit.{missing_row, data_after, first_place, punched_items, after_text}
 use Rattle.std.proofs.Math.ListN.{get_or-map}
 use Rattle.std.proofs.lemmas.List.{get_or-replicate}
@@ -128,8 +128,7 @@ module _ (z : Size) (source : Text) (lines : List Line) (accepted : IsAcceptedAs
 
   no_accumulator : (long_at m.store (base + 60) ≡ 0) × (long_at m.store (base + 62) ≡ 0)
       × (long_at m.store (base + 64) ≡ 0)
-  no_accumulator =
-      (no_long 60 refl (lit< tt) refl refl, no_long 62 refl (lit< tt) refl refl, no_long 64 refl (lit< tt) refl refl)
+  no_accumulator = search (rules, no_long, lit<)
 
   module _ (in_range : h < 1024) where
     first_word : short_at m.store base ≡ A_F + 2 * h
@@ -156,9 +155,8 @@ module _ (z : Size) (source : Text) (lines : List Line) (accepted : IsAcceptedAs
       };
     }
 
-    acc_is : long_at m.store (base + 60) * 2 ^ 36 + 4 * long_at m.store (base + 62)
-        + long_at m.store (base + 64) / 2 ^ 32
-        ≡ 0
+    acc_is : long_at m.store (base + 60) * 2 ^ 36 + 4 * long_at m.store (base + 62) + long_at m.store
+        (base + 64) / 2 ^ 32 ≡ 0
     acc_is = λ i. no_accumulator.0 i * 2 ^ 36 + 4 * no_accumulator.1 i + no_accumulator.2 i / 2 ^ 32
 
     pub guest_is : guest base m ≡ entry_guest z lines c.first

@@ -1,9 +1,9 @@
 -- The text of an accepted source is never too long for the program, and ends with the lines that its text ends with.
 use Rattle.ed_programs.proofs.Kit.{nat_tests, ◌&&◌, ne_eqb, Line, Label, Enter, IsProgram, INPUT_BYTES, [], ap}
 use Rattle.ed_programs.proofs.Kit.{append_assoc, arith, Bool, codes, false, if◌then◌else◌, length, length-append, List}
-use Rattle.ed_programs.proofs.Kit.{lit≤, nat_le, None, Ok, pos, refl, Some, subst, sym, true, ℕ, ◌*◌, ◌++◌, ◌+◌, ◌==◌}
-use Rattle.ed_programs.proofs.Kit.{◌∙◌, ◌∷◌, ◌≡◌, ◌≤◌, and_from, and_parts, le-leb, leb-true, Text, settings}
-use Rattle.ed_programs.proofs.Kit.{lines_from, text_of_lines, checked_text, EntersChecker, use_check}
+use Rattle.ed_programs.proofs.Kit.{lit≤, nat_le, None, Ok, pos, refl, Some, sym, true, ℕ, ◌*◌, ◌++◌, ◌+◌, ◌==◌, ◌∙◌}
+use Rattle.ed_programs.proofs.Kit.{◌∷◌, ◌≡◌, ◌≤◌, and_from, and_parts, le-leb, leb-true, Text, settings, lines_from}
+use Rattle.ed_programs.proofs.Kit.{text_of_lines, checked_text, EntersChecker, use_check, rules}
 use Rattle.ed_syntax.proofs.Kit.{ended, HasLines, lines_of, with_byte, without_return, and_more, LinesSay, no_more}
 use Rattle.ed_syntax.specs.Lines.{nothing, last}
 use Rattle.ed_syntax.proofs.Lines.{empty_line}
@@ -35,10 +35,7 @@ text_short _ _ (ended line text lines plain more) h =
 
 -- a source that says some lines has at most 262,144 bytes
 pub source_short : (text : Text) (two : Bool) (said : List Line) → IsProgram text two said → length text ≤ INPUT_BYTES
-source_short text two said p =
-    let few = p.few in
-    let short = text_short text p.lines p.has_lines (say_short two 1 p.lines said p.says) in
-    omega (arith, few, short)
+source_short text two said p = search (rules, text_short, say_short)
 
 -- ---- how it ends
 
@@ -77,14 +74,7 @@ pub record Last (two : Bool) (start : ℕ) (lines rest : List Text) (said : List
 
 last_say : (two : Bool) (k : ℕ) (lines : List Text) (said : List Line) → LinesSay two k lines said
     → (front rest : List Text) → lines ≡ front ++ rest → Last two k lines rest said
-last_say two k lines said s [] rest e = record {
-  number = k;
-  before = [];
-  behind = said;
-  said_are = refl;
-  number_is = ap (λ (ls : List Text). k + length ls) (sym e);
-  says = subst (λ (ls : List Text). LinesSay two k ls said) e s;
-}
+last_say two k lines said s [] rest e = search rules
 last_say two _ _ _ (no_more k) (first ∷ front) rest e = absurd (cc)
 last_say two _ _ _ (and_more k line lines f said s h) (first ∷ front) rest e =
     let l = last_say two (k + 1) lines said h front rest (cc) in
@@ -122,17 +112,7 @@ last_lines k = use_line k ∷ enter_line (k + 1) ∷ []
 -- what they say, whether or not one is the first line, which alone may have a version
 last_read : (two : Bool) (k : ℕ) → k + 2 ≤ 2001 → lines_from two k last_texts ≡ Ok (last_lines k)
 unfolding settings
-last_read two k few = by_tests (k == 1) (k + 1 == 1) refl refl
-  where
-    within : ((k == 2001) ≡ false) × ((k + 1 == 2001) ≡ false)
-    within = (ne_eqb k 2001 (omega arith), ne_eqb (k + 1) 2001 (omega arith))
-
-    by_tests : (first second : Bool) → (k == 1) ≡ first → (k + 1 == 1) ≡ second
-        → lines_from two k last_texts ≡ Ok (last_lines k)
-    by_tests true true e f = rw (within.0, within.1, e, f) refl
-    by_tests true false e f = rw (within.0, within.1, e, f) refl
-    by_tests false true e f = rw (within.0, within.1, e, f) refl
-    by_tests false false e f = rw (within.0, within.1, e, f) refl
+last_read two k few = search (rules, ne_eqb)
 
 -- lines that end so enter the routine
 abbrev pub enters_at : (k : ℕ) (before lines : List Line) → lines ≡ before ++ last_lines k → EntersChecker lines

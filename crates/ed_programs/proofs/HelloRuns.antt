@@ -1,14 +1,13 @@
 -- The source of `examples/hello.edsac` for any text: its lines, its path, and what it prints.
-use Rattle.ed_programs.proofs.Kit.{G_F, Z_F, Size, Full, Small, G_stays, O, Z, IsOutside, Settings, Line, Statement}
-use Rattle.ed_programs.proofs.Kit.{ExtentList, past, even_from, extent, fault_from, along, IsIn, then, to_stop, S, T, U}
-use Rattle.ed_programs.proofs.Kit.{prints, early, out, newline_line, followed, all_words, frame_at, moment_at, [], ap}
-use Rattle.ed_programs.proofs.Kit.{arith, codes, decimal, false, get_or, inr, length, length-append, List, lit<, lit≤}
-use Rattle.ed_programs.proofs.Kit.{map, nat_le, nat_lt, None, Option, pos, refl, reverse, rules, Some, subst, sym, take}
-use Rattle.ed_programs.proofs.Kit.{true, ℕ, ◌*◌, ◌++◌, ◌+◌, ◌-◌, ◌<◌, ◌∙◌, ◌∷◌, ◌≡◌, ◌≤◌, list_all, le-leb, le-ltb}
-use Rattle.ed_programs.proofs.Kit.{leb-true, length-map, value, Text, least, row_of, paper, Frame, Moment, short, state}
-use Rattle.ed_programs.proofs.Kit.{A, G_jumps, on, Path, stay, own, run, sign, row, first_counter, fault, linked_words}
-use Rattle.ed_programs.proofs.Kit.{symbols_of, counter, newline, HasRoutine, ReachesStop, entry_state, said, hello_text}
-use Rattle.ed_programs.proofs.Kit.{is_capital, of_letters, SourceRuns, Marked, to, printing, Path-counted}
+use Rattle.ed_programs.proofs.Kit.{before_order, G_F, Z_F, Size, Full, Small, Z, Settings, Line, Statement, ExtentList}
+use Rattle.ed_programs.proofs.Kit.{past, even_from, extent, fault_from, along, IsIn, then, to_stop, newline_line}
+use Rattle.ed_programs.proofs.Kit.{followed, all_words, frame_at, moment_at, [], ap, arith, codes, decimal, false}
+use Rattle.ed_programs.proofs.Kit.{get_or, length, length-append, List, lit<, lit≤, map, nat_lt, None, Option, pos}
+use Rattle.ed_programs.proofs.Kit.{refl, reverse, rules, Some, subst, take, true, ℕ, ◌*◌, ◌++◌, ◌+◌, ◌-◌, ◌<◌, ◌∙◌, ◌∷◌}
+use Rattle.ed_programs.proofs.Kit.{◌≡◌, ◌≤◌, list_all, le-ltb, leb-true, length-map, Text, least, row_of, paper, Frame}
+use Rattle.ed_programs.proofs.Kit.{Moment, state, Path, run, sign, row, first_counter, fault, linked_words, symbols_of}
+use Rattle.ed_programs.proofs.Kit.{counter, newline, HasRoutine, ReachesStop, entry_state, said, hello_text, is_capital}
+use Rattle.ed_programs.proofs.Kit.{of_letters, SourceRuns, Marked, to, printing, Path-counted, common_steps}
 use Rattle.ed_link.proofs.Kit.{resolution, earlier_fault, missing}
 use Rattle.ed_link.proofs.Extents.{one_by_one}
 use Rattle.ed_sources.proofs.Blocks.{order_at}
@@ -23,6 +22,7 @@ use Rattle.ed_programs.proofs.TextLines.{IsAround, all_plain, number_mark, text_
 use Rattle.ed_programs.proofs.TextPrograms.{Spells, before_text, last_lines, newline_after, text_sound, text_stands}
 use Rattle.ed_syntax.specs.declared.program.Operand.TheVariants as operands
 use Rattle.ed_syntax.specs.declared.program.Statement.TheVariants as statements
+use Rattle.ed_programs.proofs.Orders.{A, A_low, G_jumps, G_stays, O_high, S, T, U, obeys}
 
 -- the pieces of the source, and between them the number of rows and the bytes that spell them
 abbrev pub hello_pieces : List Text
@@ -45,45 +45,28 @@ module _ (z : Size) (around : Moment) (all : length around.words ≡ 1024) (seco
   f = frame_at 13 z (lit≤ tt)
 
   abbrev at : ℕ → ℕ → ℕ → ℕ → Option ℕ → Moment
-  at i v order scrap last = record around {
-    cells = cells (G_F + 2 * w) (printing e) order scrap;
-    pairs = [];
-    acc = short v;
-    counter = 56 + i;
-    last = last;
-  }
+  at i v order scrap last =
+      record (before_order around (56 + i) v (cells (G_F + 2 * w) (printing e) order scrap)) { last = last }
 
-  -- a code is printed, and the order that prints it gets the next address
-  step : (c q left scrap next : ℕ) (last : Option ℕ) → get_or around.words q 0 ≡ 4096 * c → c < 32 → 69 ≤ q → q < e
-      → left < 131072 → next ≡ printing (q + 1)
-      → Path f 5 (at 0 left (printing q) scrap last) (c ∷ []) (at 5 next next left (Some c))
-  step c q left scrap next last here code from below small is =
-      let size = least z in
-      let outside : IsOutside f around.words q = record { below = omega arith; beside = inr from } in
-      on (T 0 (own 12) _ refl refl)
-      (prints (O 1 (out q outside) c refl (omega arith))
-      (on (A 2 (own 1) (short (printing q)) refl (omega arith))
-      (on (A 3 (out 2 (early 2 (lit≤ tt) (lit< tt) all)) (short next) refl (omega arith))
-      (on (U 4 (own 1) _ refl refl) stay))))
-
-  -- the loop: it ends when the order is the one after the last that prints
+  -- the loop: a code is printed, and the order that prints it gets the next address; it ends when the order is the one
+  -- after the last that prints
   loop : (c : ℕ) (cs : List ℕ) (q left scrap : ℕ) (last : Option ℕ) → Spells around.words q (c ∷ cs)
       → q + length (c ∷ cs) ≡ e → 69 ≤ q → left < 131072
       → (x : ℕ × Option ℕ) × Path f (length (c ∷ cs) * 7) (at 0 left (printing q) scrap last) (c ∷ cs)
       (at 7 0 (printing e) x.0 x.1)
-  loop c [] q left scrap last o long from small = (
-    (left, Some c),
-    followed (step c q left scrap (printing e) last o.0 o.1 from (omega arith) small (omega arith))
-        (on (S 5 (own 11) (short 0) refl (omega arith))
-        (on (G_stays 6 (own 0) refl (lit< tt)) stay)),
-  )
+  loop c [] q left scrap last o long from small =
+      let size = least z in let here = o.0 in let code = o.1 in (
+        (left, Some c),
+        obeys 0 left (T 12 ∷ O_high q c ∷ A 1 (printing q) ∷ A_low 2 (printing e) ∷ U 1 ∷ S 11 0 ∷ G_stays 0 ∷ []) refl
+            (omega arith),
+      )
   loop c (d ∷ ds) q left scrap last o long from small =
       let less : ℕ = 131072 - 2 * length (d ∷ ds) in
+      let size = least z in let here = o.0 in let code = o.1 in
       let rest = loop d ds (q + 1) less left (Some c) o.2 (omega arith) (omega arith) (omega arith) in (
         rest.0,
-        Path-counted (followed (step c q left scrap (printing (q + 1)) last o.0 o.1 from (omega arith) small refl)
-            (on (S 5 (own 11) (short less) refl (omega arith))
-            (on (G_jumps 6 (own 0) refl (omega arith)) rest.1))) (omega arith),
+        Path-counted (followed (obeys 0 left (T 12 ∷ O_high q c ∷ A 1 (printing q) ∷ A_low 2 (printing (q + 1)) ∷ U 1
+            ∷ S 11 less ∷ G_jumps 0 ∷ []) refl (omega arith)) rest.1) (omega arith),
       )
 
   stops : (has : HasRoutine f around.words newline w []) (c : ℕ) (cs : List ℕ) → Spells around.words 69 (c ∷ cs)
@@ -93,7 +76,7 @@ module _ (z : Size) (around : Moment) (all : length around.words ≡ 1024) (seco
       let x = loop c cs 69 0 0 None o long (lit≤ tt) (lit< tt) in
       let here : IsIn f (at 8 0 (printing e) 0 x.0.1) = record { above = lit≤ tt; all = all; own = refl } in
       to_stop (then (along x.1)
-      (then (along (on (T 7 (own 12) 0 refl refl) stay)) (newline_line here 8 has (lit≤ tt) refl refl refl)))
+      (then (along (obeys 7 0 (T 12 ∷ []) refl (omega arith))) (newline_line here 8 has (lit≤ tt) refl refl refl)))
       (Z 10 Z_F refl refl)
 
 -- ---- its lines
@@ -128,18 +111,7 @@ number_line : (n m : ℕ) → m ≡ n → n ≤ 1023
     → IsAround true 16 (codes "_last: O letters+") (codes " F  ; the order behind the last letter")
     (run (codes "_last") ∷ sign 58 ∷ sign 79 ∷ run (codes "letters") ∷ sign 43 ∷ []) (sign 70 ∷ []) n
     (Some (codes "_last")) (behind m)
-number_line n m same few = record {
-  plain = λ t h. h;
-  tail_plain = refl;
-  short = lit≤ tt;
-  ends = refl;
-  tail_parts = refl;
-  parts = λ t ps h. rw h refl;
-  form = λ bytes number is.
-      let near : nat_le (value bytes) 1023 ≡ true = le-leb (value bytes) 1023 (omega (arith, is, few)) in
-      let e = is ∙ sym same in
-      rw (number, near, e) refl;
-}
+number_line n m same few = grind (arith, common_steps)
 
 -- where they stand, and that they have no fault
 module _ (rows : List ℕ) (few : length rows ≤ 41) where
@@ -213,7 +185,8 @@ each_text s q rows are few =
 
 -- 1 to 40 capital letters are printed as they are, on a line
 pub each_name : (letters : Text) → 1 ≤ length letters → length letters ≤ 40 → list_all is_capital letters ≡ true
-    → (s : Settings) → SourceRuns s (hello_text (of_letters letters)) (hello_orders letters) 67 (letters ++ 13 ∷ 10 ∷ [])
+    → (s : Settings)
+    → SourceRuns s (hello_text (of_letters letters)) (hello_orders letters) 67 (letters ++ 13 ∷ 10 ∷ [])
 each_name letters some few capital s =
     let count : 7 * length (of_letters letters) + 9 ≡ 7 * length letters + 16 = omega arith in
     subst (λ k. SourceRuns s (hello_text (of_letters letters)) k 67 (letters ++ 13 ∷ 10 ∷ [])) count

@@ -1,12 +1,13 @@
 -- The two programs of the tape `examples/interlude.tape`, for any number: the interlude from its entry to its return,
 -- and the program after it from its entry to its stop.
-use Rattle.ed_programs.proofs.Kit.{moment_at, ◌<◌, H_F, O_F, T_F, Z_F, Size, O, Z, plain, at_entry, set, along, to_stop}
-use Rattle.ed_programs.proofs.Kit.{E_jumps, U, prints, any, early, out, IsStore, directive, IsReturned, among, numbers}
-use Rattle.ed_programs.proofs.Kit.{[], ap, arith, drop, false, get_or, length, List, lit<, lit≤, nat_eq, Option, refl}
-use Rattle.ed_programs.proofs.Kit.{rules, Some, subst, suc, true, zero, ℕ, ◌*◌, ◌+◌, ◌-◌, ◌∙◌, ◌∷◌, ◌≡◌, ◌≤◌, list_all}
-use Rattle.ed_programs.proofs.Kit.{eqb-true, lt-ltb, locations, least, locations_most, short_at, State, Frame, Moment}
-use Rattle.ed_programs.proofs.Kit.{short, state, Leads, A, leads, on, Path, stay, own, patched, ReachesStop, TapeEntry}
-use Rattle.ed_programs.proofs.Kit.{over, first_state, sym, patched_self}
+use Rattle.ed_programs.proofs.TapeRuns.{entry_with}
+use Rattle.ed_programs.proofs.Kit.{frame_from, moment_at, ◌<◌, H_F, O_F, T_F, Z_F, Size, O, Z, at_entry, set, along}
+use Rattle.ed_programs.proofs.Kit.{to_stop, E_jumps, U, prints, any, early, out, IsStore, directive, IsReturned, among}
+use Rattle.ed_programs.proofs.Kit.{numbers, [], ap, arith, drop, false, get_or, length, List, lit<, lit≤, nat_eq}
+use Rattle.ed_programs.proofs.Kit.{Option, refl, rules, Some, subst, suc, true, zero, ℕ, ◌*◌, ◌+◌, ◌-◌, ◌∙◌, ◌∷◌, ◌≡◌}
+use Rattle.ed_programs.proofs.Kit.{◌≤◌, list_all, eqb-true, lt-ltb, locations, least, locations_most, short_at, State}
+use Rattle.ed_programs.proofs.Kit.{Frame, Moment, short, state, Leads, A, leads, on, Path, stay, own, patched}
+use Rattle.ed_programs.proofs.Kit.{ReachesStop, TapeEntry, over, first_state, sym, patched_self}
 use Rattle.std.proofs.Common.{slice_index}
 use Rattle.std.proofs.lemmas.List.{get_or-append_right, get_or-drop, length-drop}
 use Rattle.ed_notation.specs.Fold.{word_with}
@@ -28,15 +29,7 @@ cells n = 114900 ∷ 114900 ∷ 28762 ∷ 114898 ∷ 12338 ∷ T_F ∷ word_with
 
 module _ (z : Size) (tape_rows rest : List ℕ) (n cost read : ℕ) (small : n ≤ 510) where
   abbrev pub entry : TapeEntry
-  entry = record {
-    at = 100;
-    word = 0;
-    cost = cost;
-    rows = read;
-    notation = interlude_note z (first_state z tape_rows).store.words n small;
-    last = plain 0 0 17;
-    rest = rest;
-  }
+  entry = entry_with 100 cost read (interlude_note z (first_state z tape_rows).store.words n small) rest
 
   abbrev pub s : State
   s = at_entry (first_state z tape_rows) entry
@@ -50,13 +43,7 @@ module _ (z : Size) (tape_rows rest : List ℕ) (n cost read : ℕ) (small : n �
   same = refl
 
   abbrev f : Frame 7 0
-  f = record {
-    size = z;
-    base = 100;
-    top = locations z;
-    under = let size = least z in omega arith;
-    fits = omega arith;
-  }
+  f = frame_from 7 100 z (lit≤ tt)
 
   abbrev at : ℕ → List ℕ → ℕ → Moment
   at i words acc =
@@ -138,15 +125,7 @@ module _ (z : Size) (tape_rows rest : List ℕ) (n cost read : ℕ) (small : n �
         λ i. record { directive = d i; theta = known.1 i; placed = [] }
 
     abbrev pub entry_on : TapeEntry
-    entry_on = record {
-      at = 64;
-      word = 0;
-      cost = 280;
-      rows = end;
-      notation = program_note z W n 200 low fits;
-      last = plain 0 0 17;
-      rest = [];
-    }
+    entry_on = entry_with 64 280 end (program_note z W n 200 low fits) []
 
     abbrev pub m : State
     m = at_entry back entry_on
@@ -199,13 +178,7 @@ module _ (z : Size) (tape_rows rest : List ℕ) (n cost read : ℕ) (small : n �
         each (suc (suc (suc (suc (suc j))))) l = absurd (omega arith)
 
     abbrev g : Frame 5 0
-    g = record {
-      size = z;
-      base = 64;
-      top = locations z;
-      under = let size = least z in omega arith;
-      fits = omega arith;
-    }
+    g = frame_from 5 64 z (lit≤ tt)
 
     abbrev at_on : ℕ → Option ℕ → Moment
     at_on i last = record (moment_at m) { cells = cells_on; counter = 64 + i; last = last }

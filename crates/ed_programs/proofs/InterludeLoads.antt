@@ -1,4 +1,5 @@
 -- The loads of the two parts of the tape `examples/interlude.tape`, for any number: their entries, and what they cost.
+use Rattle.ed_programs.proofs.TapeRuns.{entry_with}
 use Rattle.ed_programs.proofs.Kit.{get_or-set_other, E_F, T_F, Size, Item, spelled_rows, digits_of, plain, set}
 use Rattle.ed_programs.proofs.Kit.{canonical, canonicals, [], ap, arith, get_or, length, List, lit≤, refl, rules, subst}
 use Rattle.ed_programs.proofs.Kit.{sym, ℕ, ◌*◌, ◌++◌, ◌+◌, ◌/◌, ◌<◌, ◌∙◌, ◌∷◌, ◌≡◌, ◌≤◌, locations, least}
@@ -18,20 +19,11 @@ pub record Entered (z : Size) (words : List ℕ) (start : NotationState) (base a
   pub well : WellFormed z words start (spelled_rows (canonicals is) ++ (rows_of (canonical (plain 0 0 17)) ++ rest))
   pub comes : RowsReachEntry words start base (spelled_rows (canonicals is) ++
       (rows_of (canonical (plain 0 0 17)) ++ rest))
-      (record {
-        at = at;
-        word = 0;
-        cost = base + cost + 19;
-        rows = length (spelled_rows (canonicals is)) + 2;
-        notation = last;
-        last = plain 0 0 17;
-        rest = rest;
-      })
+      (entry_with at (base + cost + 19) (length (spelled_rows (canonicals is)) + 2) last rest)
 
 pub entered : {z : Size} {words : List ℕ} {start last : NotationState} {is : List Item} {cost : ℕ} (base at : ℕ)
-    (rest : List ℕ)
-    → IsDirective start.directive → Reads z words start is last cost → last.directive ≡ E_F + 2 * at → 44 ≤ at
-    → at < locations z → Entered z words start base at is last cost rest
+    (rest : List ℕ) → IsDirective start.directive → Reads z words start is last cost → last.directive ≡ E_F + 2 * at
+    → 44 ≤ at → at < locations z → Entered z words start base at is last cost rest
 entered {z} {words} {start} {last} {is} {cost} base at rest set reads aim low high =
     let e = entering_at z words last at aim low high in
     let m = locations_most z in
@@ -73,13 +65,9 @@ module _ (words : List ℕ) where
   pub laid_at : (q : ℕ) (ws : List ℕ) (placed : List (ℕ × ℕ)) (i : ℕ) → i < length ws → q + length ws ≤ length words
       → get_or (over (laid q ws placed) words) (q + i) 0 ≡ get_or ws i 0
   laid_at q [] placed i l fits = absurd (omega arith)
-  laid_at q (w ∷ ws) placed zero l fits =
-      let e : q + 0 ≡ q = omega arith in
-      rw e (laid_other (q + 1) ws ((q, w) ∷ placed) q (λ i l. omega arith)
-      ∙ get_or-set_same (over placed words) q w 0 (omega (arith, length-over placed words)))
+  laid_at q (w ∷ ws) placed zero l fits = search (rules, laid_other, get_or-set_same, length-over)
   laid_at q (w ∷ ws) placed (suc i) l fits =
-      let e : q + suc i ≡ q + 1 + i = omega arith in
-      rw e (laid_at (q + 1) ws ((q, w) ∷ placed) i (omega arith) (omega arith))
+      search (rules, laid_at (q + 1) ws ((q, w) ∷ placed) i (omega arith) (omega arith))
 
 -- ---- the interlude
 

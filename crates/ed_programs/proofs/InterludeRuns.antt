@@ -6,8 +6,7 @@ use Rattle.ed_programs.proofs.Kit.{INPUT_BYTES, ReachesNextEntry, decimal_is, []
 use Rattle.ed_programs.proofs.Kit.{codes, decimal, get_or, length, length-append, List, lit≤, map, None, Ok, refl}
 use Rattle.ed_programs.proofs.Kit.{rules, subst, sym, ℕ, ◌*◌, ◌++◌, ◌+◌, ◌<◌, ◌∙◌, ◌∷◌, ◌≡◌, ◌≤◌, leb-true, length-map}
 use Rattle.ed_programs.proofs.Kit.{locations, Text, least, State, reading, RowsReachEntry, TapeEntry, WellFormed}
-use Rattle.ed_programs.proofs.Kit.{NotationState, rows_of, first_state, GivesProgram, Refusal, among, bytes_eq}
-use Rattle.ed_programs.proofs.Kit.{bytes_eq-Decides, digits}
+use Rattle.ed_programs.proofs.Kit.{NotationState, rows_of, first_state, GivesProgram, Refusal, digits, common_steps}
 use Rattle.ed_programs.specs.Interlude.{interlude_text, InterludePrints, InterludeRuns, interlude_cost}
 use Rattle.ed_programs.specs.declared.interlude.TheConstants.{INTERLUDE}
 use Rattle.ed_programs.proofs.InterludeEnds.{back, back_store, entry, entry_on, interlude_away, interlude_leads}
@@ -15,7 +14,7 @@ use Rattle.ed_programs.proofs.InterludeEnds.{program_away, program_stops, reopen
 use Rattle.ed_programs.proofs.InterludeLoads.{entered, interlude_items, interlude_reads, program_items, program_reads}
 use Rattle.ed_programs.proofs.RowTexts.{few_figures, number_spells}
 use Rattle.ed_programs.proofs.TapeRuns.{reads_spell}
-use Rattle.ed_programs.proofs.TwoParts.{TwoParts, TwoPartsRun}
+use Rattle.ed_programs.proofs.TwoParts.{TwoParts, TwoPartsRun, part}
 use Rattle.ed_programs.proofs.TwoPartsRuns.{Course, numbers_of, two_parts_run}
 
 -- ---- the number on the tape
@@ -23,9 +22,7 @@ use Rattle.ed_programs.proofs.TwoPartsRuns.{Course, numbers_of, two_parts_run}
 -- a number of two or three figures is written in decimal as the loader's items spell it
 module _ (n : ℕ) (low : 10 ≤ n) (high : n < 1000) where
   same : digits_of n ≡ digits n
-  same =
-      (bytes_eq-Decides (digits_of n) (digits n)).0
-      (among (λ n. bytes_eq (digits_of n) (digits n)) 10 990 n refl low (omega arith))
+  same = grind (arith, common_steps)
 
   decimal_spells : Spells (decimal n) (digits_of n)
   decimal_spells = subst (Spells (decimal n)) (sym same) (number_spells n (omega arith))
@@ -86,9 +83,9 @@ text_reads n low high =
 -- the course in plain numbers
 abbrev interlude_parts : ℕ → TwoParts
 interlude_parts n = record {
-  interlude = record { entry = 100; cost = interlude_cost n; rows = 35 + length (decimal n); orders = 5 };
+  interlude = part 100 (interlude_cost n) (35 + length (decimal n)) 5;
   returns_for = 2 * n;
-  program = record { entry = 64; cost = 280; rows = 26; orders = 4 };
+  program = part 64 280 26 4;
   stop = 68;
 }
 
@@ -163,6 +160,5 @@ each_number s n low small fits =
 -- a law of the tape's text is one of the text that is answered
 pub interlude_prints_of : (n : ℕ) (r : Result (String Global) Refusal) → GivesProgram None (interlude_text n) r
     → ((s : Settings) → 2 * n + 3 ≤ locations s.size → InterludeRuns s (interlude_text n) n) → InterludePrints n r
-interlude_prints_of n (Ok text) gives law = λ s fits.
-    subst (λ (x : Text). InterludeRuns s x n) (sym gives.1) (law s fits)
+interlude_prints_of n (Ok text) gives law = search rules
 interlude_prints_of n (Err refusal) gives law = tt

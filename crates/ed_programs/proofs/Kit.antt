@@ -1,7 +1,7 @@
 -- The names that the proof of a program cites, passed on from one place, and what its path says in few words.
-pub use Rattle.std.proofs.Common.{div-lt_iff_lt-mul, get_or-set_other, get_or-set_same, length-set, mod-lt, String}
-pub use Rattle.std.proofs.Common.{sum}
+pub use Rattle.std.proofs.Common.{div-lt_iff_lt-mul, get_or-set_other, get_or-set_same, length-set, mod-lt, String, sum}
 pub use Rattle.std.specs.declared.alloc.Global.{Global}
+pub use Rattle.std.proofs.lemmas.Grind.{common_steps}
 pub use Rattle.std.proofs.Math.Nat.{div-add-mod, mul-le-mul_right}
 pub use Rattle.std.proofs.lemmas.List.{length-reverse}
 pub use Rattle.ed_words.specs.declared.order_words.TheConstants.{A_F, E_F, G_F, H_F, L_D, O_F, R_F, S_F, T_F, U_F, Z_F}
@@ -12,7 +12,7 @@ pub use Rattle.ed_codes.proofs.Pieces.{spells_append}
 pub use Rattle.ed_codes.proofs.Readings.{has_one_reading}
 pub use Rattle.ed_printer.specs.declared.printer.Shift.TheVariants.{Figures, Letters}
 pub use Rattle.ed_machine.proofs.Kit.Loops.{all_spent, quiet_walks, walked}
-pub use Rattle.ed_machine.proofs.Kit.Moves.{E_stays, G_stays, I, O, Z}
+pub use Rattle.ed_machine.proofs.Kit.Moves.{I, O, Z}
 pub use Rattle.ed_machine.proofs.Kit.Places.{IsOutside}
 pub use Rattle.ed_machine.proofs.Kit.Shifts.{L1F, L512F}
 pub use Rattle.ed_machine.proofs.Kit.Sums.{Remains}
@@ -31,7 +31,7 @@ pub use Rattle.ed_syntax.specs.declared.program.Line.{Line}
 pub use Rattle.ed_syntax.specs.declared.program.Operand.TheVariants.{Label}
 pub use Rattle.ed_syntax.specs.declared.program.Statement.{Statement}
 pub use Rattle.ed_syntax.specs.declared.program.Statement.TheVariants.{Enter, Fetch}
-pub use Rattle.ed_syntax.proofs.Kit.{Err, Result, bytes_eq, bytes_eq-Decides, is_place_name, array, has_quote, quoted}
+pub use Rattle.ed_syntax.proofs.Kit.{Err, Result, bytes_eq, bytes_eq-Decides, is_place_name, array, has_quote}
 pub use Rattle.ed_syntax.proofs.Kit.{IsProgram}
 pub use Rattle.ed_syntax.proofs.PartLemmas.{quote_parts}
 pub use Rattle.ed_library.specs.Routines.{is_working}
@@ -42,7 +42,7 @@ pub use Rattle.ed_link.proofs.Kit.{routine_word, table_item, counter_after, plac
 pub use Rattle.ed_link.proofs.Kit.{operand_number}
 pub use Rattle.ed_routines.proofs.Journeys.{after_call, all_long, along, beside_word, called, elsewhere, has_after}
 pub use Rattle.ed_routines.proofs.Journeys.{IsIn, Journey, no_working, stands, still_in, stop_after, then, to_stop}
-pub use Rattle.ed_routines.proofs.Kit.{E_jumps, Jumps, L, Reads, S, T, U, prints, any, early, out, LD, value_after}
+pub use Rattle.ed_routines.proofs.Kit.{E_jumps, Jumps, Reads, U, prints, any, early, out, LD, value_after}
 pub use Rattle.ed_routines.proofs.Lines.{newline_line, print_goes, print_left, print_line}
 unfoldable pub use Rattle.ed_checker.specs.Checker.{checked_codes}
 pub use Rattle.ed_checker.specs.Laws.{HasGuest}
@@ -64,16 +64,16 @@ pub use Rattle.ed_sources.proofs.Kit.{string_bytes, subst, suc, sym, take, true,
 pub use Rattle.ed_sources.proofs.Kit.{◌+◌, ◌-◌, ◌/◌, ◌<◌, ◌==◌, ◌^◌, ◌||◌, ◌∙◌, ◌∷◌, ◌≡◌, ◌≢◌, ◌≤◌, ◌⊎◌, list_all}
 pub use Rattle.ed_sources.proofs.Kit.{and_from, and_parts, cases_lt, eqb-true, le-leb, le-ltb, leb-true, lt-ltb}
 pub use Rattle.ed_sources.proofs.Kit.{ltb-true, ne_eqb, not-true, nat_tests, length-map, length-replicate}
-pub use Rattle.ed_sources.proofs.Kit.{list_all-append, sum_by-cons, value, locations, Text, least, locations_most, row_of, paper}
-pub use Rattle.ed_sources.proofs.Kit.{short_at, State, state_after, Frame, Moment, short, state, joined, Leads, A}
-pub use Rattle.ed_sources.proofs.Kit.{G_jumps, leads, on, Path, stay, own, placed_at, is_run_byte}
-pub use Rattle.ed_sources.proofs.Kit.{is_line_byte, is_number, LinePart, run, sign, form_at, row, spells, parts_of}
-pub use Rattle.ed_sources.proofs.Kit.{is_two, line_of, lines_from, program_of, run_parts, image_word, place_count}
-pub use Rattle.ed_sources.proofs.Kit.{first_counter, fault, entry_of, linked_words, symbols_of, cost, counter, newline}
-pub use Rattle.ed_sources.proofs.Kit.{print, read, with_h, digits, print_orders, IsOther, IsLoadedAt}
-pub use Rattle.ed_sources.proofs.Kit.{digits_law, few_digits, HasRoutine, ReachesStop, divide, divide_orders, with_hnm}
-pub use Rattle.ed_sources.proofs.Kit.{guest, at_after, entry_state, AnswersFromEntry, run_outcome, read_is_accepted}
-pub use Rattle.ed_sources.proofs.Kit.{accepted_is, each_answer_is_from_entry, filled_text, text_of_lines}
+pub use Rattle.ed_sources.proofs.Kit.{list_all-append, sum_by-cons, value, locations, Text, least, locations_most}
+pub use Rattle.ed_sources.proofs.Kit.{row_of, paper, short_at, State, state_after, Frame, Moment, short, state, joined}
+pub use Rattle.ed_sources.proofs.Kit.{Leads, A, leads, on, Path, stay, own, placed_at, is_run_byte, is_line_byte}
+pub use Rattle.ed_sources.proofs.Kit.{is_number, LinePart, run, sign, form_at, row, spells, parts_of, is_two, line_of}
+pub use Rattle.ed_sources.proofs.Kit.{lines_from, program_of, run_parts, image_word, place_count, first_counter, fault}
+pub use Rattle.ed_sources.proofs.Kit.{entry_of, linked_words, symbols_of, cost, counter, newline, print, read, with_h}
+pub use Rattle.ed_sources.proofs.Kit.{digits, print_orders, IsOther, IsLoadedAt, digits_law, few_digits, HasRoutine}
+pub use Rattle.ed_sources.proofs.Kit.{ReachesStop, divide, divide_orders, with_hnm, guest, at_after, entry_state}
+pub use Rattle.ed_sources.proofs.Kit.{AnswersFromEntry, run_outcome, read_is_accepted, accepted_is}
+pub use Rattle.ed_sources.proofs.Kit.{each_answer_is_from_entry, filled_text, text_of_lines}
 unfoldable pub use Rattle.ed_sources.proofs.Kit.{step, progress, patched, run_end, settings, parameter_store}
 pub use Rattle.ed_sources.proofs.Papers.{digits_printed, number_shown}
 pub use Rattle.ed_sources.proofs.Said.{a_number, said}
@@ -129,6 +129,15 @@ printing place = O_F + 2 * place
 abbrev pub link : ℕ → ℕ
 link j = to 3 (j + 2)
 
+-- the moment before the order at a location, with v in the accumulator and these cells
+abbrev pub before_order : Moment → ℕ → ℕ → List ℕ → Moment
+before_order m counter v cells = record m { cells = cells; pairs = []; acc = short v; counter = counter }
+
+-- a piece of n cells from a location on
+abbrev pub frame_from : (n base : ℕ) (z : Size) → base + n ≤ 512 → Frame n 0
+frame_from n base z few =
+    record { size = z; base = base; top = locations z; under = (let size = least z in omega arith); fits = omega arith }
+
 -- a path, and where it stops, by another count of its orders
 pub Path-counted : {n a b : ℕ} {f : Frame n 0} {r t : Moment} {codes : List ℕ} → Path f a r codes t → a ≡ b
     → Path f b r codes t
@@ -141,19 +150,6 @@ journey_counted {f = f} {r} {t} {codes} journey e = subst (λ k. Journey f k r c
 pub stop_counted : {a b at : ℕ} {s : State} {codes : List ℕ} → ReachesStop a s codes at → a ≡ b
     → ReachesStop b s codes at
 stop_counted {at = at} {s} {codes} stop e = subst (λ k. ReachesStop k s codes at) e stop
-
--- a call of a routine of the program's own, from cell i: A i, G j
-pub calls_own : {n k : ℕ} {f : Frame n 0} {r t : Moment} {codes : List ℕ} (i j : ℕ) → r.acc ≡ 0
-    → Reads {f = f} {r = r} i 28 (own i)
-    → Jumps {f = f} {r = record r { acc = short (A_F + 2 * (f.base + i)); counter = f.base + (i + 1) }} (i + 1) 27
-    (own j)
-    → f.base + i < 1024
-    → Path f k (record r { acc = short (A_F + 2 * (f.base + i)); counter = f.base + j }) codes t
-    → Path f (suc (suc k)) r codes t
-calls_own {f = f} {r} i j clear first second low rest =
-    let word : get_or r.cells i 0 ≡ A_F + 2 * (f.base + i) = ap (λ x. x.1.0) first in
-    on (A i (own i) (short (A_F + 2 * (f.base + i))) first (omega arith))
-    (on (G_jumps (i + 1) (own j) second (omega arith)) rest)
 
 -- `read` and `print` beside a program, for its cells j and i, and what `read` leaves of them
 pub record HasPair {n : ℕ} (f : Frame n 0) (words : List ℕ) (r p j i : ℕ) : Type 0 where
@@ -207,26 +203,14 @@ three_read {w = w} read_one three =
 
 pub three_shown : {n i j r p w v : ℕ} {f : Frame n 0} {m : Moment} {o : IsIn f m} (shown : HasShown o i j p w v)
     → HasThree f m.words r p w j → HasThree f shown.words r p w j
-three_shown {r = r} shown three =
-    let apart = three.both.apart in
-    let beyond = three.beyond in
-    record {
-      both = record {
-        all = shown.still_in.all;
-        reads = shown.has three.both.reads (λ k l free. elsewhere (r + k) (inl (omega arith)))
-            (λ k l free. elsewhere (r + k) (inl (omega arith)));
-        prints = shown.prints;
-        apart = apart;
-      };
-      lines = shown.lines;
-      beyond = beyond;
-    }
+three_shown shown three = grind (arith, common_steps)
 
 pub three_at_entry : (z : Size) (lines : List Line) (n : ℕ) (few : n ≤ 456) (r p w j : ℕ)
     → (have_places (placed lines) && (has_image (placed lines) read r (with_h (56 + j))
     && has_image (placed lines) print p (with_h (56 + j)))) ≡ true
     → has_image (placed lines) newline w [] ≡ true
-    → 56 + n ≤ r → r + 24 ≤ p → p + 51 ≤ w → w ≤ 450 → HasThree (frame_at n z few) (entry_state z lines).store.words r p w j
+    → 56 + n ≤ r → r + 24 ≤ p → p + 51 ≤ w → w ≤ 450
+    → HasThree (frame_at n z few) (entry_state z lines).store.words r p w j
 three_at_entry z lines n few r p w j test last under apart beyond high = record {
   both = pair_at_entry z lines n few r p j j test under apart (omega arith);
   lines = routine_after z lines (and_parts (have_places (placed lines)) _ test).0 few newline w [] last (omega arith)

@@ -12,6 +12,7 @@ pub mod TextLines
 pub mod TextPrograms
 pub mod Changes
 pub mod Kit
+pub mod Orders
 pub mod AddRuns
 pub mod DifferenceRuns
 pub mod CelsiusRuns

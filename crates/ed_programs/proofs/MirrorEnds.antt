@@ -1,10 +1,10 @@
 -- The tape `examples/mirror.tape` from its first row to its stop, for any word.
-use Rattle.ed_programs.proofs.Kit.{Size, Full, Small, Settings, AreCodes, numbers, moment_at, [], false, get_or, length}
-use Rattle.ed_programs.proofs.Kit.{List, map, refl, reverse, subst, ℕ, ◌*◌, ◌++◌, ◌+◌, ◌-◌, ◌∷◌, ◌≡◌, ◌≤◌, Text, State}
+use Rattle.ed_programs.proofs.Kit.{Size, Full, Small, Settings, AreCodes, numbers, moment_at, [], get_or, length, List}
+use Rattle.ed_programs.proofs.Kit.{map, refl, reverse, subst, ℕ, ◌*◌, ◌++◌, ◌+◌, ◌-◌, ◌∷◌, ◌≡◌, ◌≤◌, Text, State}
 use Rattle.ed_programs.proofs.Kit.{Moment, state, patched, ReachesStop, tape_state, TapeEntry, reading_on, first_state}
 use Rattle.ed_programs.specs.declared.mirror.TheConstants.{MIRROR}
 use Rattle.ed_programs.proofs.MirrorProgram.{cells, entering, f, mirror_stops, storing}
-use Rattle.ed_programs.proofs.TapeRuns.{Arrives, rows_in}
+use Rattle.ed_programs.proofs.TapeRuns.{Arrives, entry_with, rows_in}
 
 -- the text up to the entry
 abbrev pub front : Text
@@ -24,15 +24,7 @@ placed = map (λ i. (96 - i, get_or loaded (32 - i) 0)) (numbers 0 33)
 
 -- the entry that they reach
 abbrev pub mirror_entry : List ℕ → TapeEntry
-mirror_entry rest = record {
-  at = 64;
-  word = 0;
-  cost = 1259;
-  rows = 119;
-  notation = record { directive = 12416; theta = 128; placed = placed };
-  last = record { function = 0; number = 0; mark = false; end = 17 };
-  rest = rest;
-}
+mirror_entry rest = entry_with 64 1259 119 (record { directive = 12416; theta = 128; placed = placed }) rest
 
 pub mirror_arrives : (z : Size) (rest : List ℕ) → Arrives z (mirror_rows rest) (mirror_entry rest)
 unfolding reading_on first_state

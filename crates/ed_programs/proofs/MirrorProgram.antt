@@ -1,12 +1,13 @@
 -- The program of `examples/mirror.tape`, at 64 and for any word: one loop that stores letters, and one that prints
 -- them.
-use Rattle.ed_programs.proofs.Kit.{get_or-set_other, get_or-set_same, length-set, length-reverse, L_D, R_F, Z_F, Size}
-use Rattle.ed_programs.proofs.Kit.{E_stays, G_stays, I, O, Z, IsOutside, L512F, AreCodes, set, reverse-append, along}
-use Rattle.ed_programs.proofs.Kit.{to_stop, E_jumps, L, S, T, U, prints, early, out, LD, followed, [], append-nil}
-use Rattle.ed_programs.proofs.Kit.{append_assoc, arith, get_or, inr, length, List, lit<, lit≤, Option, refl, reverse}
-use Rattle.ed_programs.proofs.Kit.{Some, suc, sym, ℕ, ◌*◌, ◌++◌, ◌+◌, ◌%◌, ◌-◌, ◌<◌, ◌∙◌, ◌∷◌, ◌≡◌, ◌≤◌, locations}
-use Rattle.ed_programs.proofs.Kit.{least, Frame, Moment, short, state, A, G_jumps, on, Path, stay, own, ReachesStop}
-use Rattle.ed_programs.proofs.Kit.{printing, stop_counted, Path-counted}
+use Rattle.ed_programs.proofs.Kit.{before_order, frame_from, get_or-set_other, get_or-set_same, length-set}
+use Rattle.ed_programs.proofs.Kit.{length-reverse, L_D, R_F, Z_F, Size, I, Z, L512F, AreCodes, set, reverse-append}
+use Rattle.ed_programs.proofs.Kit.{along, to_stop, LD, followed, [], append-nil, append_assoc, arith, get_or, length}
+use Rattle.ed_programs.proofs.Kit.{List, lit<, lit≤, Option, refl, reverse, Some, suc, sym, ℕ, ◌*◌, ◌++◌, ◌+◌, ◌%◌, ◌-◌}
+use Rattle.ed_programs.proofs.Kit.{◌<◌, ◌∙◌, ◌∷◌, ◌≡◌, ◌≤◌, least, Frame, Moment, state, on, Path, stay, own}
+use Rattle.ed_programs.proofs.Kit.{ReachesStop, printing, stop_counted, Path-counted, rules}
+use Rattle.ed_programs.proofs.Orders.{A, A_low, E_jumps, E_stays, G_jumps, G_stays, L, O_high, S, S_low, T, T_high, U}
+use Rattle.ed_programs.proofs.Orders.{obeys}
 
 -- the cells that change
 pub record Work : Type 0 where
@@ -40,32 +41,15 @@ Stored ws (c ∷ cs) = (get_or ws (104 + length cs) 0 ≡ 4096 * c) × (c < 32) 
 -- a word that is written above them leaves them
 stored_set : (ws : List ℕ) (a v : ℕ) (cs : List ℕ) → 104 + length cs ≤ a → Stored ws cs → Stored (set ws a v) cs
 stored_set ws a v [] l h = tt
-stored_set ws a v (c ∷ cs) l h = (
-  get_or-set_other ws a (104 + length cs) v 0 (omega arith) ∙ h.0,
-  h.1,
-  stored_set ws a v cs (omega arith) h.2,
-)
+stored_set ws a v (c ∷ cs) l h = search (rules, get_or-set_other, stored_set ws a v cs (omega arith) h.2)
 
 module _ (z : Size) (m : Moment) where
   abbrev pub f : Frame 33 0
-  f = record {
-    size = z;
-    base = 64;
-    top = locations z;
-    under = let size = least z in omega arith;
-    fits = omega arith;
-  }
+  f = frame_from 33 64 z (lit≤ tt)
 
   abbrev pub at : ℕ → List ℕ → ℕ → Work → List ℕ → Option ℕ → Moment
-  at i ws v k tape last = record m {
-    words = ws;
-    cells = cells k;
-    pairs = [];
-    acc = short v;
-    counter = 64 + i;
-    tape = tape;
-    last = last;
-  }
+  at i ws v k tape last =
+      record (before_order m (64 + i) v (cells k)) { words = ws; tape = tape; last = last }
 
   -- ---- the letters are stored
 
@@ -85,10 +69,9 @@ module _ (z : Size) (m : Moment) where
   decides : (ws : List ℕ) (n s r : ℕ) (cs : List ℕ) → length cs ≤ 10
       → Path f 2 (at 13 ws (length cs) (work n (length cs) s r) cs m.last) [] (before ws n (counted (length cs)) s r cs)
   decides ws n s r [] few =
-      on (S 13 (own 27) (short (counted 0)) refl (omega arith)) (on (E_stays 14 (own 1) refl (omega arith)) stay)
+      obeys 13 0 (S 27 (counted 0) ∷ E_stays 1 ∷ []) refl (omega arith)
   decides ws n s r (d ∷ ds) few =
-      on (S 13 (own 27) (short (counted (suc (length ds)))) refl (omega arith))
-      (on (E_jumps 14 (own 1) refl (omega arith)) stay)
+      obeys 13 (suc (length ds)) (S 27 (counted (suc (length ds))) ∷ E_jumps 1 ∷ []) refl (omega arith)
 
   -- a letter is stored, the order that stores it gets the next address, and the count decreases by one
   turn : (ws : List ℕ) (n v s r c : ℕ) (cs : List ℕ) → length ws ≡ 1024 → get_or ws 2 0 ≡ 2 → c < 32
@@ -97,23 +80,14 @@ module _ (z : Size) (m : Moment) where
       (before (set ws (104 + n) (4096 * c)) (suc n) (counted (length cs)) v c cs)
   turn ws n v s r c cs all at2 code few small =
       let size = least z in
-      let outside : IsOutside f ws (104 + n) = record { below = omega arith; beside = inr (omega arith) } in
       let after : List ℕ = set ws (104 + n) (4096 * c) in
       let long = length-set ws (104 + n) (4096 * c) ∙ all in
       let second = get_or-set_other ws (104 + n) 2 (4096 * c) 0 (omega arith) ∙ at2 in
-      on (T 1 (own 29) _ refl refl)
+      followed (obeys 1 v (T 29 ∷ []) refl (omega arith))
       (on (I 2 (own 30) c refl refl refl)
-      (on (A 3 (own 30) (short c) refl (omega arith))
-      (on (L 4 L512F (short (2048 * c)) refl (omega arith))
-      (on (L 5 LD (short (4096 * c)) refl (omega arith))
-      (on (T 6 (out (104 + n) outside) _ refl refl)
-      (on (A 7 (own 6) (short (storing n)) refl (omega arith))
-      (on (A 8 (out 2 (early 2 (lit≤ tt) (lit< tt) long)) (short (storing (suc n))) refl (omega arith))
-      (on (T 9 (own 6) _ refl refl)
-      (on (A 10 (own 28) (short (suc (length cs))) refl (omega arith))
-      (on (S 11 (own 27) (short (length cs)) refl (omega arith))
-      (on (U 12 (own 28) _ refl refl)
-      (decides after (suc n) v c cs (omega arith)))))))))))))
+      (followed (obeys 3 0 (A 30 c ∷ L L512F (2048 * c) ∷ L LD (4096 * c) ∷ T_high (104 + n) ∷ A 6 (storing n)
+      ∷ A_low 2 (storing (suc n)) ∷ T 6 ∷ A 28 (suc (length cs)) ∷ S 27 (length cs) ∷ U 28 ∷ []) refl (omega arith))
+      (decides after (suc n) v c cs (omega arith))))
 
   -- these letters are stored
   record Taken (whole : List ℕ) : Type 0 where
@@ -154,36 +128,25 @@ module _ (z : Size) (m : Moment) where
     abbrev shown : ℕ → ℕ → ℕ → Option ℕ → Moment
     shown i v order last = at i ws v (record k { print = order }) [] last
 
-    letter : (c : ℕ) (cs : List ℕ) (order : ℕ) (last : Option ℕ) → Stored ws (c ∷ cs) → length cs ≤ 9
-        → Path f 3 (shown 18 (printing (104 + suc (length cs))) order last) (c ∷ [])
-        (shown 21 (printing (104 + length cs)) (printing (104 + length cs)) (Some c))
-    letter c cs order last stored few =
-        let size = least z in let here = stored.0 in let code = stored.1 in let second = at2 in
-        let outside : IsOutside f ws (104 + length cs) = record { below = omega arith; beside = inr (omega arith) } in
-        on (S 18 (out 2 (early 2 (lit≤ tt) (lit< tt) all)) (short (printing (104 + length cs))) refl (omega arith))
-        (on (U 19 (own 20) _ refl refl)
-        (prints (O 20 (out (104 + length cs) outside) c refl (omega arith)) stay))
-
     -- the last letter that was printed, as the machine keeps it, and the orders that print all of them
     printed : (cs : List ℕ) (order : ℕ) (last : Option ℕ) → Stored ws cs → 1 ≤ length cs → length cs ≤ 10
         → (y : Option ℕ) × Path f (7 * length cs - 2) (shown 18 (printing (104 + length cs)) order last) cs
         (shown 26 131070 (printing 104) y)
     printed [] order last stored some few = absurd (omega arith)
-    printed (c ∷ []) order last stored some few = (
-      Some c,
-      followed (letter c [] order last stored (lit≤ tt))
-          (on (S 21 (own 32) (short 131070) refl (omega arith))
-          (on (G_jumps 22 (own 26) refl (lit≤ tt)) stay)),
-    )
+    printed (c ∷ []) order last stored some few =
+        let size = least z in let here = stored.0 in let code = stored.1 in let second = at2 in (
+          Some c,
+          obeys 18 (printing 105) (S_low 2 (printing 104) ∷ U 20 ∷ O_high 104 c ∷ S 32 131070 ∷ G_jumps 26 ∷ []) refl
+              (omega arith),
+        )
     printed (c ∷ d ∷ ds) order last stored some few =
         let next : ℕ = printing (104 + suc (length ds)) in
+        let size = least z in let here = stored.0 in let code = stored.1 in let second = at2 in
         let rest = printed (d ∷ ds) next (Some c) stored.2 (omega arith) (omega arith) in (
           rest.0,
-          Path-counted (followed (letter c (d ∷ ds) order last stored (omega arith))
-              (on (S 21 (own 32) (short (2 * length ds)) refl (omega arith))
-              (on (G_stays 22 (own 26) refl (omega arith))
-              (on (A 23 (own 32) (short next) refl (omega arith))
-              (on (E_jumps 24 (own 18) refl (omega arith)) rest.1))))) (omega arith),
+          Path-counted (followed (obeys 18 (printing (104 + suc (suc (length ds)))) (S_low 2 next ∷ U 20
+              ∷ O_high (104 + suc (length ds)) c ∷ S 32 (2 * length ds) ∷ G_stays 26 ∷ A 32 next ∷ E_jumps 18 ∷ []) refl
+              (omega arith)) rest.1) (omega arith),
         )
 
   -- ---- from the entry, with the number of letters and the letters on the tape, to the stop
@@ -205,7 +168,6 @@ module _ (z : Size) (m : Moment) where
       stop_counted (to_stop (along
       (on (I 0 (own 28) (suc (length cs)) refl refl refl)
       (followed letters.1
-      (on (T 15 (own 29) _ refl refl)
-      (on (A 16 (own 6) (short (storing (length whole))) refl (omega arith))
-      (on (A 17 (own 31) (short (printing (104 + length whole))) refl (omega arith)) rest.1))))))
+      (followed (obeys 15 x.number (T 29 ∷ A 6 (storing (length whole)) ∷ A 31 (printing (104 + length whole)) ∷ [])
+      refl (omega arith)) rest.1))))
       (Z 26 Z_F refl refl) done) (omega arith)

@@ -1,12 +1,11 @@
 -- The source of `examples/answer5.edsac` for any numbers: its path, and what it prints.
 use Rattle.ed_programs.proofs.Kit.{along, parameter_store, routine_after, stops_from_entry, Z, print_orders}
 use Rattle.ed_programs.proofs.Kit.{ReachesStop, shows_number, Path-counted, stop_counted, all_words, moment_at, []}
-use Rattle.ed_programs.proofs.Kit.{HasRoutine, entry_state, SourceRuns, calls_own, G_stays, Settings, Journey, to_stop}
-use Rattle.ed_programs.proofs.Kit.{E_jumps, followed, frame_at, settings, HasShown, S, early, decimal, length, Moment}
-use Rattle.ed_programs.proofs.Kit.{G_jumps, newline, with_h, digits, Marked, calling, Z_F, Size, Line, IsIn, arith}
-use Rattle.ed_programs.proofs.Kit.{codes, subst, least, Frame, short, state, print, then, T, any, List, lit<, lit≤}
-use Rattle.ed_programs.proofs.Kit.{refl, Some, true, zero, ◌++◌, Text, Path, stay, link, U, out, map, suc, ℕ, ◌*◌, ◌+◌}
-use Rattle.ed_programs.proofs.Kit.{◌<◌, ◌∷◌, ◌≡◌, ◌≤◌, A, on, own, to}
+use Rattle.ed_programs.proofs.Kit.{HasRoutine, entry_state, SourceRuns, Settings, Journey, to_stop, followed, frame_at}
+use Rattle.ed_programs.proofs.Kit.{settings, decimal, length, Moment, newline, with_h, digits, Marked}
+use Rattle.ed_programs.proofs.Kit.{calling, Z_F, Size, Line, IsIn, arith, codes, subst, Frame, short, state, print}
+use Rattle.ed_programs.proofs.Kit.{then, List, lit<, lit≤, refl, Some, true, zero, ◌++◌, Text, Path, stay, link, map}
+use Rattle.ed_programs.proofs.Kit.{suc, ℕ, ◌*◌, ◌+◌, ◌<◌, ◌∷◌, ◌≡◌, ◌≤◌, to}
 use Rattle.ed_programs.specs.Multiply.{multiply_orders, multiply_prints, multiply_text}
 use Rattle.ed_programs.specs.declared.multiply.TheConstants.{MULTIPLY}
 use Rattle.ed_programs.proofs.NumberLines.{word_mark}
@@ -14,6 +13,7 @@ use Rattle.ed_programs.proofs.NumberShown.{then_on}
 use Rattle.ed_programs.proofs.NumberLists.{few_codes, list_codes, list_shown}
 use Rattle.ed_programs.proofs.DataLines.{small_too}
 use Rattle.ed_programs.proofs.SourceRuns.{lines_of_pieces, program_runs}
+use Rattle.ed_programs.proofs.Orders.{A, A_low, E_by, E_jumps, G_jumps, G_stays, S, T, U, obeys}
 
 -- the pieces of the source, and the numbers between them: a and b are multiplied, and c is squared
 abbrev multiply_pieces : List Text
@@ -44,9 +44,6 @@ module _ (z : Size) (c : ℕ) where
   at m i v l r p s k h = record m { cells = cells c l r p s k h; pairs = []; acc = short v; counter = 56 + i }
 
   module _ (m : Moment) (o : IsAround m) (j r : ℕ) (low : j + 3 ≤ 40) where
-    back : 56 + (j + 2) < f.top
-    back = let size = least z in omega arith
-
     -- the loop of `times`: the one factor is counted down to 0, and each time the other is added to what there is
     loop : (l p q k h : ℕ) → p + l * r ≡ q → l < 65536 → q < 65536
         → Path f (l * 9) (at m 17 0 l r p 0 k h) [] (at m 17 0 0 r q 0 k h)
@@ -55,76 +52,56 @@ module _ (z : Size) (c : ℕ) where
         (omega arith)
     loop (suc l) p q k h e few small =
         let sum : suc l * r ≡ r + l * r = omega arith in
-        Path-counted (on (A 17 (own 27) (short (suc l)) refl (omega arith))
-        (on (S 18 (own 30) (short l) refl (omega arith))
-        (on (G_stays 19 (own 25) refl (omega arith))
-        (on (T 20 (own 27) _ refl refl)
-        (on (A 21 (own 29) (short p) refl (omega arith))
-        (on (A 22 (own 28) (short (p + r)) refl (omega arith))
-        (on (T 23 (own 29) _ refl refl)
-        (on (E_jumps 24 (own 16) refl (lit< tt))
-        (on (T 16 (own 31) 0 refl refl) (loop l (p + r) q k h (omega arith) (omega arith) small)))))))))) (omega arith)
+        Path-counted (followed (obeys 17 0 (A 27 (suc l) ∷ S 30 l ∷ G_stays 25 ∷ T 27 ∷ A 29 p ∷ A 28 (p + r) ∷ T 29
+        ∷ E_jumps 16 ∷ T 31 ∷ []) refl (omega arith))
+        (loop l (p + r) q k h (omega arith) (omega arith) small)) (omega arith)
 
     -- `times`, called from cell j
     times : (l p s k h : ℕ) → l < 65536 → l * r < 65536
         → Path f (9 * l + 9) (at m 13 (to 28 j) l r p s k h) [] (at m (j + 2) 0 0 r (l * r) 131071 (link j) h)
     times l p s k h few small =
         let third = o.prints.at3 in let all = o.all in
-        Path-counted (on (A 13 (out 3 (early 3 (lit≤ tt) (lit< tt) all)) (short (link j)) refl (omega arith))
-        (on (T 14 (own 26) _ refl refl)
-        (on (T 15 (own 29) 0 refl refl)
-        (on (T 16 (own 31) 0 refl refl)
+        Path-counted (followed (obeys 13 (to 28 j) (A_low 3 (link j) ∷ T 26 ∷ T 29 ∷ T 31 ∷ []) refl (omega arith))
         (followed (loop l 0 (l * r) (link j) h (omega arith) few small)
-        (on (A 17 (own 27) (short 0) refl (omega arith))
-        (on (S 18 (own 30) (short 131071) refl (omega arith))
-        (on (G_jumps 19 (own 25) refl (lit≤ tt))
-        (on (T 25 (own 31) 131071 refl refl)
-        (on (E_jumps 26 (any (56 + (j + 2)) back) refl (lit< tt)) stay)))))))))) (omega arith)
+        (obeys 17 0 (A 27 0 ∷ S 30 131071 ∷ G_jumps 25 ∷ T 31 ∷ E_by (j + 2) ∷ []) refl (omega arith)))) (omega arith)
 
     -- `show`, called from cell j: what it prints, and what is around the program after it
     record Shown (l p s k h : ℕ) : Type 0 where
       after : Moment
       is : IsAround after
       journey : Journey f (2 + ((9 + print_orders p) + 1)) (at m 32 (to 28 j) l r p s k h)
-          (11 ∷ digits p ++ 18 ∷ 24 ∷ [])
-          (at after (j + 2) 0 l r p s k (link j))
+          (11 ∷ digits p ++ 18 ∷ 24 ∷ []) (at after (j + 2) 0 l r p s k (link j))
 
     show : (l p s k h : ℕ) → p < 65536 → Shown l p s k h
     show l p s k h small =
         let third = o.prints.at3 in let all = o.all in
         let called : IsIn f (at m 34 0 l r p s k (link j)) = record { above = lit≤ tt; all = all; own = refl } in
-        let shown : HasShown called 34 29 96 148 p =
-        shows_number called 34 29 p o.prints o.lines (lit≤ tt) refl small (lit< tt) (lit≤ tt) refl refl refl
-        refl refl in
+        let shown = shows_number called 34 29 p o.prints o.lines (lit≤ tt) refl small (lit< tt) (lit≤ tt) refl refl
+        refl refl refl in
         record {
           after = record m { words = shown.words; last = Some 24 };
           is = record { all = shown.still_in.all; prints = shown.prints; lines = shown.lines };
           journey = then
-              (along (on (A 32 (out 3 (early 3 (lit≤ tt) (lit< tt) all)) (short (link j)) refl (omega arith))
-              (on (T 33 (own 38) _ refl refl) stay)))
-              (then_on shown.journey (on (E_jumps 38 (any (56 + (j + 2)) back) refl (lit< tt)) stay));
+              (along (obeys 32 (to 28 j) (A_low 3 (link j) ∷ T 38 ∷ []) refl (omega arith)))
+              (then_on shown.journey (obeys 38 0 (E_by (j + 2) ∷ []) refl (omega arith)));
         }
 
   -- both calls of each, to the stop
   stops : (m : Moment) (o : IsAround m) (a b : ℕ) → a < 65536 → a * b < 65536 → c < 65536 → c * c < 65536 → (done : ℕ)
       → ReachesStop (9 * a + 9 * c + print_orders (a * b) + print_orders (c * c) + 53)
-      (state f (at m 0 0 a b 0 0 0 0) done)
-      (list_codes (a * b ∷ c * c ∷ [])) 68
+      (state f (at m 0 0 a b 0 0 0 0) done) (list_codes (a * b ∷ c * c ∷ [])) 68
   stops m o a b few small few_c small_c done =
-      let one : Shown m o 2 b (lit≤ tt) 0 (a * b) 131071 (link 0) 0 =
-      show m o 2 b (lit≤ tt) 0 (a * b) 131071 (link 0) 0 small in
+      let one = show m o 2 b (lit≤ tt) 0 (a * b) 131071 (link 0) 0 small in
       let now : Moment = one.after in
       let two = show now one.is 9 c (lit≤ tt) 0 (c * c) 131071 (link 7) (link 2) small_c in
       stop_counted (to_stop
-      (then (along (calls_own 0 13 refl refl refl (lit< tt)
-      (followed (times m o 0 b (lit≤ tt) a 0 0 0 0 few small) (calls_own 2 32 refl refl refl (lit< tt) stay))))
+      (then (along (followed (obeys 0 0 (A 0 (to 28 0) ∷ G_jumps 13 ∷ []) refl (omega arith))
+      (followed (times m o 0 b (lit≤ tt) a 0 0 0 0 few small)
+      (obeys 2 0 (A 2 (to 28 2) ∷ G_jumps 32 ∷ []) refl (omega arith)))))
       (then one.journey
-      (then (along (on (A 4 (own 12) (short c) refl (omega arith))
-      (on (U 5 (own 27) _ refl refl)
-      (on (T 6 (own 28) _ refl refl)
-      (calls_own 7 13 refl refl refl (lit< tt)
+      (then (along (followed (obeys 4 0 (A 12 c ∷ U 27 ∷ T 28 ∷ A 7 (to 28 7) ∷ G_jumps 13 ∷ []) refl (omega arith))
       (followed (times now one.is 7 c (lit≤ tt) c (a * b) 131071 (link 0) (link 2) few_c small_c)
-      (calls_own 9 32 refl refl refl (lit< tt) stay)))))))
+      (obeys 9 0 (A 9 (to 28 9) ∷ G_jumps 32 ∷ []) refl (omega arith)))))
       (then two.journey (along stay)))))
       (Z 11 Z_F refl refl) done) (omega arith)
 

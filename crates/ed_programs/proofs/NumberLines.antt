@@ -3,6 +3,7 @@ use Rattle.ed_programs.proofs.Kit.{is_place_name, [], arith, Bool, codes, decima
 use Rattle.ed_programs.proofs.Kit.{true, ℕ, ◌++◌, ◌<◌, ◌≡◌, ◌≤◌, list_all, and_parts, leb-true, ne_eqb, Text}
 use Rattle.ed_programs.proofs.Kit.{is_run_byte, is_line_byte, LinePart, ◌&&◌, Marked}
 use Rattle.ed_sources.proofs.Said.{IsWordFront, filled_says, label_parts, named_front, plain_front}
+use Rattle.ed_programs.proofs.SourceLines.{mark}
 use Rattle.ed_syntax.specs.declared.program.Statement.TheVariants as statements
 
 -- whether a label may stand before `word N`
@@ -22,13 +23,8 @@ module _ {two : Bool} (k : ℕ) (n : ℕ) (small : n < 65536) where
   -- a line that ends with `word N`
   abbrev pub marked_word : {front : Text} {label : Option Text} {before : List LinePart}
       → IsWordFront two k front label before → Marked two
-  marked_word {front} {label} is_front = record {
-    number = k;
-    text = front ++ (decimal n ++ []);
-    label = label;
-    statement = statements.Number n;
-    says = filled_says is_front n small;
-  }
+  marked_word {front} {label} is_front =
+      mark k (front ++ (decimal n ++ [])) label (statements.Number n) (filled_says is_front n small)
 
   -- with a label, and without
   abbrev pub word_mark : (label : Text) → 2 ≤ k → is_short_label two label ≡ true → Marked two

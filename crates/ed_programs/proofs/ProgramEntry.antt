@@ -39,16 +39,12 @@ module _ (z : Size) (lines : List Line) (n : ℕ) (few : n ≤ 456) (ps : List (
       let all = all_words z lines in
       let word : ℕ → ℕ = λ j. unwrap_or (placed_at ps j) 0 in
       let long : length cells ≡ n = sym (ap (λ (cs : List ℕ). length cs) are) ∙ length-map-range_with_len word 56 n in
-      patched_self 0 first.store.words 56 cells (omega arith) (λ j l.
-      ap (λ (cs : List ℕ). get_or cs j 0) (sym are)
-      ∙ get_or-map-range_with_len word 56 n j (56 + j) 0 (omega (arith, l, long)) refl
-      ∙ sym (known j (omega (arith, l, long))))
+      search (rules, patched_self, get_or-map-range_with_len)
 
   -- so a stop of the program, from the moment at its entry, is a stop of the source
   pub stops_by : {k at : ℕ} {codes : List ℕ} → entry_of lines ≡ 56 → (tape : List ℕ) → tape ≡ first.tape
-      → ReachesStop k (state (frame_at n z few) (record (moment_at first) { cells = cells; tape = tape })
-      first.orders) codes
-      at
+      → ReachesStop k
+      (state (frame_at n z few) (record (moment_at first) { cells = cells; tape = tape }) first.orders) codes at
       → ReachesStop k first codes at
   stops_by {k} {at} {codes} at_56 tape rows = search (rules, same)
 

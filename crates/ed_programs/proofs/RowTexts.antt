@@ -1,12 +1,8 @@
 -- Texts whose bytes spell rows of tape.
-use Rattle.ed_programs.proofs.Kit.{few_bytes, bytes_eq, bytes_eq-Decides, among, arith, none, Spells, are, decimal_is}
-use Rattle.ed_programs.proofs.Kit.{row_bytes, rows_are, written, [], ap, Bool, decimal, false, get_or, if◌then◌else◌}
-use Rattle.ed_programs.proofs.Kit.{length, List, map, nat_le, nat_lt, None, Option, refl, Some, subst, suc, true, ℕ}
-use Rattle.ed_programs.proofs.Kit.{◌%◌, ◌-◌, ◌<◌, ◌==◌, ◌∙◌, ◌∷◌, ◌≡◌, ◌≤◌, list_all, and_parts, eqb-true, leb-true}
-use Rattle.ed_programs.proofs.Kit.{lt-ltb, ltb-true, Text, row_of, row, spells, digits, ◌&&◌}
-use Rattle.std.proofs.Common.{position}
-use Rattle.std.proofs.lemmas.List.Quantifiers.{position-Some}
-use Rattle.ed_codes.specs.Spelling.{letters}
+use Rattle.ed_programs.proofs.Kit.{few_bytes, arith, none, Spells, are, decimal_is, row_bytes, rows_are, written, []}
+use Rattle.ed_programs.proofs.Kit.{ap, Bool, decimal, length, List, map, nat_lt, None, Option, refl, Some, subst, suc}
+use Rattle.ed_programs.proofs.Kit.{true, ℕ, ◌%◌, ◌<◌, ◌∙◌, ◌∷◌, ◌≡◌, ◌≤◌, list_all, and_parts, lt-ltb, Text, row_of}
+use Rattle.ed_programs.proofs.Kit.{row, spells, digits, ◌&&◌, common_steps}
 use Rattle.ed_codes.specs.Text.{row as one_row}
 use Rattle.ed_syntax.specs.Forms.{AreRowsOf}
 
@@ -29,24 +25,9 @@ text_spells (b ∷ q) h =
 abbrev pub is_row_byte : ℕ → Bool
 is_row_byte b = nat_lt b 128 && spells (row_of b)
 
--- a letter of the tape is below 128
-letter_below : (i : ℕ) → i < length letters → get_or letters i 0 < 128
-letter_below i l =
-    ltb-true (get_or letters i 0) 128
-    (among (λ i. nat_lt (get_or letters i 0) 128) 0 (length letters) i refl (omega arith) (omega arith))
-
 -- a byte that spells a row is below 128
 row_below : (b r : ℕ) → row_of b ≡ Some r → b < 128
-row_below b r is = by_digit (nat_le 48 b && nat_le b 57) refl
-  where
-    by_digit : (t : Bool) → (nat_le 48 b && nat_le b 57) ≡ t → b < 128
-    by_digit true e = let low = leb-true b 57 (and_parts (nat_le 48 b) (nat_le b 57) e).1 in omega (arith, low)
-    by_digit false e =
-        let there : position (λ letter. letter == b) letters ≡ Some r =
-        subst (λ t. (if t then Some (b - 48) else position (λ letter. letter == b) letters) ≡ Some r) e is in
-        let found = position-Some (λ letter. letter == b) letters r 0 there in
-        let same : get_or letters r 0 ≡ b = eqb-true (get_or letters r 0) b found.1 in
-        subst (λ c. c < 128) same (letter_below r found.0)
+row_below b r is = grind (arith, common_steps)
 
 -- the bytes of a text that spell rows are such bytes, and these rows are the text's
 spelled : (q : Text) (rows : List ℕ) → map row_of q ≡ map (λ r. Some r) rows
@@ -82,9 +63,7 @@ few_figures n small =
 
 -- a number below 10 has one digit
 pub one_figure : (d : ℕ) → d < 10 → digits d ≡ d % 10 ∷ []
-one_figure d few =
-    (bytes_eq-Decides (digits d) (d % 10 ∷ [])).0
-    (among (λ d. bytes_eq (digits d) (d % 10 ∷ [])) 0 10 d refl (omega arith) (omega arith))
+one_figure d few = grind (arith, common_steps)
 
 pub figure_spells : (n : ℕ) → n < 10 → Spells (decimal n) (n ∷ [])
 figure_spells n few =

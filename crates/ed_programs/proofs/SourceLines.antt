@@ -1,13 +1,13 @@
 -- What the lines of a source say: most lines by computation, those with data by a proof.
 --
 -- Only this module uses the definitions of how a source is read.
-use Rattle.ed_sources.proofs.Kit.{[], ap, arith, Bool, drop, false, get_or, if◌then◌else◌, length, List, nat_eq, nat_le}
-use Rattle.ed_sources.proofs.Kit.{None, Ok, Option, refl, Some, sym, true, ◌||◌, ℕ, ◌+◌, ◌∙◌, ◌∷◌, ◌≡◌, ◌≤◌, list_all}
+use Rattle.ed_sources.proofs.Kit.{[], ap, Bool, drop, false, get_or, if◌then◌else◌, length, List, nat_eq, nat_le, None}
+use Rattle.ed_sources.proofs.Kit.{Ok, Option, refl, Some, sym, true, ◌||◌, ℕ, ◌+◌, ◌∙◌, ◌∷◌, ◌≡◌, ◌≤◌, list_all}
 use Rattle.ed_sources.proofs.Kit.{and_from, and_parts, eqb-true, le-leb, Text, is_line_byte, is_two, line_of}
-use Rattle.ed_sources.proofs.Kit.{lines_from, program_of, text_of_lines}
+use Rattle.ed_sources.proofs.Kit.{program_of, text_of_lines}
 use Rattle.ed_syntax.proofs.Kit.{Err, Result, ◌&&◌, Fault, LinesSay, and_more, no_more}
 use Rattle.ed_syntax.specs.Reading.Sources.{and_lines}
-use Rattle.std.proofs.Common.{is_ok}
+use Rattle.std.proofs.Common.{is_ok, rules}
 use Rattle.ed_syntax.specs.declared.fault.SourceCause.{SourceCause}
 use Rattle.ed_syntax.specs.declared.program.Line.{Line}
 use Rattle.ed_syntax.specs.declared.program.Statement.{Statement}
@@ -24,6 +24,10 @@ pub record Marked (two : Bool) : Type 0 where
   pub label : Option Text
   pub statement : Statement
   pub says : line_of two number text ≡ Ok (record { label = label; statement = Some statement })
+
+abbrev pub mark : {two : Bool} (k : ℕ) (line : Text) (l : Option Text) (s : Statement)
+    → line_of two k line ≡ Ok (record { label = l; statement = Some s }) → Marked two
+mark k line l s e = record { number = k; text = line; label = l; statement = s; says = e }
 
 -- the first of lines that were read, or a line that says nothing
 abbrev pub first : Result (List Line) Fault → Line
@@ -102,9 +106,7 @@ all_say two ms k (line ∷ lines) read same =
 pub said_fine : {two : Bool} {k : ℕ} {lines : List Text} {said : List Line} → LinesSay two k lines said
     → (list_all (list_all is_line_byte) lines ≡ true) × (list_all (λ line. nat_le (length line) 120) lines ≡ true)
 said_fine (no_more k) = (refl, refl)
-said_fine (and_more k line lines form said s rest) =
-    let more = said_fine rest in
-    (and_from _ _ s.plain.bytes more.0, and_from _ _ (le-leb (length line) 120 s.plain.short) more.1)
+said_fine (and_more k line lines form said s rest) = search (rules, and_from, le-leb, said_fine rest)
 
 -- a source is read as its lines say: all but the marked ones by computation
 pub source_said : (two : Bool) (lines : List Text) (ms : List (Marked two)) → are_read two 1 lines ms ≡ true
@@ -114,7 +116,4 @@ source_said two lines ms = all_say two ms 1 lines
 -- the program of the text of such lines is what they say
 pub source_read : (two : Bool) (lines : List Text) {program : List Line} → is_two lines ≡ two
     → LinesSay two 1 lines program → 1 + length lines ≤ 2001 → program_of (text_of_lines lines) ≡ Ok program
-source_read two lines {program} version said few =
-    let back = lines_back lines (said_fine said).0 in
-    ap (λ (ls : List Text). lines_from (is_two ls) 1 ls) back ∙ ap (λ (two : Bool). lines_from two 1 lines) version
-    ∙ say_is_read two 1 lines program said (omega (arith, few))
+source_read two lines {program} version said few = search (rules, lines_back, said_fine, say_is_read)

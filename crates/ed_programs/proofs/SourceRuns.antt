@@ -1,7 +1,7 @@
 -- The outcome of a source whose program reaches its stop, as the answer of the command `run`.
-use Rattle.ed_programs.proofs.Kit.{Size, Full, Small, Settings, Line, [], ap, arith, Bool, length, List, nat_le, None}
-use Rattle.ed_programs.proofs.Kit.{Ok, Option, subst, true, ℕ, ◌+◌, ◌≡◌, ◌≤◌, and_parts, leb-true, Text, paper, is_two}
-use Rattle.ed_programs.proofs.Kit.{program_of, fault, ReachesStop, entry_state, AnswersFromEntry, run_outcome}
+use Rattle.ed_programs.proofs.Kit.{rules, Size, Full, Small, Settings, Line, [], ap, arith, Bool, length, List, nat_le}
+use Rattle.ed_programs.proofs.Kit.{None, Ok, Option, subst, true, ℕ, ◌+◌, ◌≡◌, ◌≤◌, and_parts, leb-true, Text, paper}
+use Rattle.ed_programs.proofs.Kit.{is_two, program_of, fault, ReachesStop, entry_state, AnswersFromEntry, run_outcome}
 use Rattle.ed_programs.proofs.Kit.{read_is_accepted, accepted_is, each_answer_is_from_entry, filled_text, text_of_lines}
 use Rattle.ed_programs.proofs.Kit.{stopped_outcome, ◌&&◌, OfSource, SourceRuns, Marked}
 use Rattle.ed_syntax.specs.declared.fault.SourceFault.{SourceFault}
@@ -12,8 +12,7 @@ use Rattle.ed_programs.proofs.SourceLines.{are_read, lines_said, said_fine, sour
 -- a source that is read as these lines, has no fault and reaches its stop
 pub source_runs : (s : Settings) (texts : List Text) {lines : List Line} {k at : ℕ} {printed : List ℕ}
     → are_short texts ≡ true → length texts ≤ 2000 → program_of (text_of_lines texts) ≡ Ok lines
-    → fault s.size lines ≡ None
-    → ReachesStop k (entry_state s.size lines) printed at → length printed ≤ 1000000
+    → fault s.size lines ≡ None → ReachesStop k (entry_state s.size lines) printed at → length printed ≤ 1000000
     → SourceRuns s (text_of_lines texts) (k + 1) at (paper printed)
 source_runs s texts {lines} short small reads faultless stops few =
     let source = text_of_lines texts in
@@ -40,17 +39,9 @@ Read = Text × (Bool × (Bool × List Text))
 
 abbrev pub read_of : (two : Bool) → List Text → List Text → List (Marked two) → Read
 read_of two pieces ds marks =
-    let texts = filled_lines pieces ds in (
-      unended pieces ds,
-      (
-        is_two texts,
-        (
-          nat_le (length texts) 2000
-              && are_read two 1 texts marks,
-          texts_said 1 texts marks,
-        ),
-      ),
-    )
+    let texts = filled_lines pieces ds in
+    let fits = nat_le (length texts) 2000 && are_read two 1 texts marks in
+    (unended pieces ds, (is_two texts, (fits, texts_said 1 texts marks)))
 
 abbrev pub wanted : Bool → List Text → List Text → Read
 wanted two pieces ds = ([], (two, (true, filled_lines pieces ds)))
@@ -69,9 +60,7 @@ read_runs s two pieces ds marks {k} {orders} {at} {printed} {text} o faultless s
     let runs : SourceRuns s (text_of_lines texts) (k + 1) at (paper printed) =
     source_runs s texts (said_fine said).1 small
     (source_read two texts (ap (λ (t : Read). t.1.0) o) said (omega (arith, small))) faultless stops few in
-    subst (λ (source : Text). SourceRuns s source orders at text) (filled_is pieces ds (ap (λ (t : Read). t.0) o))
-    (subst (λ n. SourceRuns s (text_of_lines texts) n at text) count
-    (subst (λ (t : Text). SourceRuns s (text_of_lines texts) (k + 1) at t) shown runs))
+    search (rules, filled_is)
 
 -- that and that it has no fault, by one computation
 abbrev pub AreSaid : (two : Bool) → List Text → List Text → List (Marked two) → Type 0

@@ -1,10 +1,10 @@
 -- The program of `examples/squares.tape1`: a loop that counts the tens of a square, in a loop over the squares.
-use Rattle.ed_programs.proofs.Kit.{A_F, E_F, G_F, O_F, S_F, T_F, Z_F, Full, G_stays, O, Z, L512F, along, to_stop}
-use Rattle.ed_programs.proofs.Kit.{E_jumps, L, S, T, prints, followed, [], arith, List, lit<, lit≤, Option, refl, Some}
-use Rattle.ed_programs.proofs.Kit.{suc, zero, ℕ, ◌%◌, ◌*◌, ◌+◌, ◌-◌, ◌/◌, ◌<◌, ◌∷◌, ◌≡◌, ◌≤◌, Frame, Moment, short}
-use Rattle.ed_programs.proofs.Kit.{state, A, G_jumps, on, Path, stay, own, ReachesStop}
+use Rattle.ed_programs.proofs.Kit.{before_order, A_F, E_F, G_F, O_F, S_F, T_F, Z_F, Full, Z, L512F, along, to_stop}
+use Rattle.ed_programs.proofs.Kit.{followed, [], arith, List, lit≤, Option, refl, Some, suc, zero, ℕ, ◌%◌, ◌*◌, ◌+◌}
+use Rattle.ed_programs.proofs.Kit.{◌-◌, ◌/◌, ◌<◌, ◌∷◌, ◌≡◌, ◌≤◌, Frame, Moment, state, Path, ReachesStop}
 use Rattle.std.proofs.lemmas.Nat.{mul-le}
 use Rattle.ed_machine.proofs.Kit.Loops.{printed, quiet_rounds, varying}
+use Rattle.ed_programs.proofs.Orders.{A, E_jumps, G_jumps, G_stays, L, O, S, T, obeys}
 
 -- the cells that change
 pub record Work : Type 0 where
@@ -65,75 +65,29 @@ figures n = n / 10 ∷ n % 10 ∷ 18 ∷ 24 ∷ []
 -- `around` has what doesn't change during the program
 module _ (around : Moment) where
   abbrev pub at : ℕ → ℕ → Work → Option ℕ → Moment
-  at i v k last = record around {
-    cells = cells k;
-    pairs = [];
-    acc = short v;
-    counter = 31 + i;
-    last = last;
-  }
+  at i v k last = record (before_order around (31 + i) v (cells k)) { last = last }
 
   -- one square n: the last one, q, and the odd number d; the next odd number is e
   module _ (k : Work) (v q d n e : ℕ) (last : Option ℕ) (sum : q + d ≡ n) (next : d + 2 ≡ e) (few : n ≤ 81)
       (small : d ≤ 17) where
-    -- the next square
-    adds_number : Path frame 4 (at 2 v (record k { square = 2 * q; odd = 2 * d }) last) []
-        (at 6 0 (record k { scrap = v; square = 2 * n; odd = 2 * d }) last)
-    adds_number =
-        on (T 2 (own 31) _ refl refl)
-        (on (A 3 (own 32) (short (2 * q)) refl (omega arith))
-        (on (A 4 (own 33) (short (2 * n)) refl (omega arith))
-        (on (T 5 (own 32) _ refl refl) stay)))
-
-    -- the odd number after it, and no tens yet
-    adds_two : Path frame 5 (at 6 0 (record k { scrap = v; square = 2 * n; odd = 2 * d }) last) []
-        (at 11 (2 * without n 0) (counting k v n e 0) last)
-    adds_two =
-        on (A 6 (own 33) (short (2 * d)) refl (omega arith))
-        (on (A 7 (own 34) (short (2 * e)) refl (omega arith))
-        (on (T 8 (own 33) _ refl refl)
-        (on (T 9 (own 38) 0 refl refl)
-        (on (A 10 (own 32) (short (2 * without n 0)) refl (omega arith)) stay))))
-
-    adds : Path frame 9 (at 2 v (record k { square = 2 * q; odd = 2 * d }) last) []
-        (at 11 (2 * without n 0) (counting k v n e 0) last)
-    adds = followed adds_number adds_two
-
     -- one more ten
     ten : (j : ℕ) → j < n / 10
         → Path frame 8 (at 11 (2 * without n j) (counting k v n e j) last) []
         (at 11 (2 * without n (suc j)) (counting k v n e (suc j)) last)
     ten j less =
-        on (S 11 (own 35) (short (2 * without n (suc j))) refl (omega arith))
-        (on (G_stays 12 (own 19) refl (omega arith))
-        (on (T 13 (own 39) _ refl refl)
-        (on (A 14 (own 38) (short (4096 * j)) refl (omega arith))
-        (on (A 15 (own 37) (short (4096 * suc j)) refl (omega arith))
-        (on (T 16 (own 38) _ refl refl)
-        (on (A 17 (own 39) (short (2 * without n (suc j))) refl (omega arith))
-        (on (E_jumps 18 (own 11) refl (omega arith)) stay)))))))
+        obeys 11 (2 * without n j) (S 35 (2 * without n (suc j)) ∷ G_stays 19 ∷ T 39 ∷ A 38 (4096 * j)
+        ∷ A 37 (4096 * suc j) ∷ T 38 ∷ A 39 (2 * without n (suc j)) ∷ E_jumps 11 ∷ []) refl (omega arith)
 
-    -- what is left are the units; both figures and a new line are printed
-    shows : Path frame 11 (at 11 (2 * without n (n / 10)) (counting k v n e (n / 10)) last) (figures n)
-        (at 28 (compared n) (after k v n e) (Some 24))
-    shows =
-        on (S 11 (own 35) (short (131052 + 2 * (n % 10))) refl (omega arith))
-        (on (G_jumps 12 (own 19) refl (omega arith))
-        (on (A 19 (own 35) (short (2 * (n % 10))) refl (omega arith))
-        (on (L 20 L512F (short (4096 * (n % 10))) refl (omega arith))
-        (on (T 21 (own 40) _ refl refl)
-        (prints (O 22 (own 38) (n / 10) refl (omega arith))
-        (prints (O 23 (own 40) (n % 10) refl (omega arith))
-        (prints (O 24 (own 41) 18 refl refl)
-        (prints (O 25 (own 42) 24 refl refl)
-        (on (A 26 (own 32) (short (2 * n)) refl (omega arith))
-        (on (S 27 (own 36) (short (compared n)) refl (omega arith)) stay))))))))))
-
+    -- the square and the odd number after it; then the tens; what is left are the units, and both figures are printed
     prints_square : Path frame (9 + (n / 10 * 8 + 11)) (at 2 v (record k { square = 2 * q; odd = 2 * d }) last)
         (figures n) (at 28 (compared n) (after k v n e) (Some 24))
     prints_square =
-        followed adds
-        (followed (quiet_rounds (λ j. at 11 (2 * without n j) (counting k v n e j) last) (n / 10) ten) shows)
+        followed (obeys 2 v (T 31 ∷ A 32 (2 * q) ∷ A 33 (2 * n) ∷ T 32 ∷ A 33 (2 * d) ∷ A 34 (2 * e) ∷ T 33 ∷ T 38
+        ∷ A 32 (2 * without n 0) ∷ []) refl (omega arith))
+        (followed (quiet_rounds (λ j. at 11 (2 * without n j) (counting k v n e j) last) (n / 10) ten)
+        (obeys 11 (2 * without n (n / 10)) (S 35 (131052 + 2 * (n % 10)) ∷ G_jumps 19 ∷ A 35 (2 * (n % 10))
+        ∷ L L512F (4096 * (n % 10)) ∷ T 40 ∷ O 38 (n / 10) ∷ O 40 (n % 10) ∷ O 41 18 ∷ O 42 24 ∷ A 32 (2 * n)
+        ∷ S 36 (compared n) ∷ []) refl (omega arith)))
 
   -- ---- the loop over the squares: turn i goes from the square of i to the next one
 
@@ -172,13 +126,13 @@ module _ (around : Moment) where
       followed
       (prints_square (work i) (number i) (i * i) (2 * i + 1) (square_after i) (2 * suc i + 1) (last_code i)
       (next_square i) (omega arith) (omega (arith, few)) (omega arith))
-      (on (G_jumps 28 (own 2) refl (omega (arith, few))) stay)
+      (obeys 28 (compared (square_after i)) (G_jumps 2 ∷ []) refl (omega (arith, few)))
 
   last_turn : Path frame (turn_orders 8) (before 8) (figures 81) (at 29 0 (work 9) (Some 24))
   last_turn =
       followed
       (prints_square (work 8) (number 8) 64 17 81 19 (Some 24) refl refl (lit≤ tt) (lit≤ tt))
-      (on (G_stays 28 (own 2) refl (lit< tt)) stay)
+      (obeys 28 (compared 81) (G_stays 2 ∷ []) refl (omega arith))
 
   -- ---- from the entry to the stop
 
@@ -186,7 +140,7 @@ module _ (around : Moment) where
   entering = at 0 0 loaded around.last
 
   begins : Path frame 2 entering (11 ∷ []) (before 0)
-  begins = on (T 0 (own 43) 0 refl refl) (prints (O 1 (own 30) 11 refl refl) stay)
+  begins = obeys 0 0 (T 43 ∷ O 30 11 ∷ []) refl (omega arith)
 
   -- figure shift, and nine squares
   abbrev pub all_codes : List ℕ

@@ -1,6 +1,6 @@
 -- What `examples/squares.tape1` prints.
-use Rattle.ed_programs.proofs.Kit.{Settings, at_entry1, Item1, INPUT_BYTES, [], length, List, refl, rules, ℕ, ◌∷◌}
-use Rattle.ed_programs.proofs.Kit.{leb-true, State, Moment, patched, Tape, first_state1, paper_room, FirstTapeRuns}
+use Rattle.ed_programs.proofs.Kit.{moment_at, Settings, at_entry1, Item1, INPUT_BYTES, [], length, List, refl, rules, ℕ}
+use Rattle.ed_programs.proofs.Kit.{◌∷◌, leb-true, State, Moment, patched, Tape, first_state1, paper_room, FirstTapeRuns}
 use Rattle.ed_initial1.specs.Items.{spelled_rows1}
 use Rattle.ed_programs.specs.Squares.{squares_cost, squares_orders, squares_prints, squares_text}
 use Rattle.ed_programs.proofs.FirstTapeRuns.{are_items, first_tape_runs, short_item}
@@ -33,17 +33,7 @@ abbrev entry : State
 entry = at_entry1 (first_state1 tape_rows) program
 
 abbrev around : Moment
-around = record {
-  words = entry.store.words;
-  digits = entry.store.sandwich;
-  cells = [];
-  pairs = [];
-  acc = 0;
-  multiplier = entry.multiplier;
-  counter = 31;
-  tape = entry.tape;
-  last = entry.last;
-}
+around = record (moment_at entry) { counter = 31; last = entry.last }
 
 pub squares_run : (s : Settings) → FirstTapeRuns s squares_text squares_cost squares_orders 61 squares_prints
 unfolding first_state1 patched

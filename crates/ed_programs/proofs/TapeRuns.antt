@@ -1,11 +1,11 @@
 -- The outcome of a tape whose program reaches its stop, as the answer of the command `tape`.
-use Rattle.ed_programs.proofs.Kit.{String, Global, Size, has_one_reading, Settings, ReachesEntry, comes_in, Err, Result}
-use Rattle.ed_programs.proofs.Kit.{rows, Spells, INPUT_BYTES, exactly, OfReading, [], ap, arith, codes, inl, length}
-use Rattle.ed_programs.proofs.Kit.{List, None, Ok, refl, subst, sym, ℕ, ◌++◌, ◌+◌, ◌-◌, ◌∙◌, ◌∷◌, ◌≡◌, ◌≤◌, Text, paper}
-use Rattle.ed_programs.proofs.Kit.{step, State, run_end, ReachesStop, at_after, ran_outcome-answered, nothing_after}
-use Rattle.ed_programs.proofs.Kit.{ran_to_stop, tape_state, reading, TapeEntry, opening, reading_on, first_state}
-use Rattle.ed_programs.proofs.Kit.{LeadsIn, first_store, starts, Outcome, paper_room, ran_outcome, with_post_mortem}
-use Rattle.ed_programs.proofs.Kit.{tape_outcome, GivesProgram, TapeRuns, Refusal}
+use Rattle.ed_programs.proofs.Kit.{rules, plain, NotationState, String, Global, Size, has_one_reading, Settings}
+use Rattle.ed_programs.proofs.Kit.{ReachesEntry, comes_in, Err, Result, rows, Spells, INPUT_BYTES, exactly, OfReading}
+use Rattle.ed_programs.proofs.Kit.{[], ap, arith, codes, inl, length, List, None, Ok, refl, subst, sym, ℕ, ◌++◌, ◌+◌}
+use Rattle.ed_programs.proofs.Kit.{◌-◌, ◌∙◌, ◌∷◌, ◌≡◌, ◌≤◌, Text, paper, step, State, run_end, ReachesStop, at_after}
+use Rattle.ed_programs.proofs.Kit.{ran_outcome-answered, nothing_after, ran_to_stop, tape_state, reading, TapeEntry}
+use Rattle.ed_programs.proofs.Kit.{opening, reading_on, first_state, LeadsIn, first_store, starts, Outcome, paper_room}
+use Rattle.ed_programs.proofs.Kit.{ran_outcome, with_post_mortem, tape_outcome, GivesProgram, TapeRuns, Refusal}
 use Rattle.ed_laws.proofs.Kit.{cleared_cells, RunEnd, ran_later, Arrived, first_directive, reading_is_rules, run_of}
 use Rattle.ed_laws.proofs.Kit.{opening_notation}
 use Rattle.ed_codes.specs.Reading.{IsReadingOf, no_row, open_comment}
@@ -19,14 +19,17 @@ reads_spell text codes is = subst (IsReadingOf text) is (has_one_reading.every t
 abbrev pub rows_in : Text → List ℕ
 rows_in text = elim (reading text) [ rows codes ↦ codes | no_row place byte ↦ [] | open_comment place ↦ [] ]
 
+-- an entry item P F that ends a tape's first rows
+abbrev pub entry_with : (at cost read : ℕ) → NotationState → List ℕ → TapeEntry
+entry_with at cost read n rest =
+    record { at = at; word = 0; cost = cost; rows = read; notation = n; last = plain 0 0 17; rest = rest }
+
 -- rows are read to an entry from a cleared store, and from the store after Start, where the reading of the Initial
 -- Orders begins; both are computed
 pub record Arrives (z : Size) (tape_rows : List ℕ) (e : TapeEntry) : Type 0 where
   pub cleared : reading_on z cleared_cells.words 0 9 opening_notation None tape_rows ≡ Arrived e
   pub started : reading_on z (first_state z tape_rows).store.words 0 9
-      (opening (first_state z tape_rows).store.words) None
-      tape_rows
-      ≡ Arrived e
+      (opening (first_state z tape_rows).store.words) None tape_rows ≡ Arrived e
 
 module _ {z : Size} {tape_rows : List ℕ} {e : TapeEntry} (o : Arrives z tape_rows e) where
   abbrev first : State
@@ -47,8 +50,7 @@ module _ {z : Size} {tape_rows : List ℕ} {e : TapeEntry} (o : Arrives z tape_r
 
 -- a text that spells these rows, which reach this entry, and whose program reaches its stop from there
 pub tape_runs : (s : Settings) (tape : Text) (tape_rows : List ℕ) (e : TapeEntry) {k orders at : ℕ} {printed : List ℕ}
-    {text : Text}
-    → reading tape ≡ rows tape_rows → length tape ≤ INPUT_BYTES → Arrives s.size tape_rows e
+    {text : Text} → reading tape ≡ rows tape_rows → length tape ≤ INPUT_BYTES → Arrives s.size tape_rows e
     → ReachesStop k (tape_state s tape_rows e) printed at → length printed ≤ paper_room → k + 1 ≡ orders
     → paper printed ≡ text → TapeRuns s tape e.cost orders at text
 tape_runs s tape tape_rows e {k} {orders} {at} {printed} reads short arrives stops few total shown =
@@ -87,6 +89,5 @@ tape_runs s tape tape_rows e {k} {orders} {at} {printed} reads short arrives sto
 pub tape_prints_of : {cost orders at : ℕ} {tape printed : Text} (r : Result (String Global) Refusal)
     → GivesProgram None tape r → ((s : Settings) → TapeRuns s tape cost orders at printed)
     → TapePrints cost orders at printed r
-tape_prints_of {cost} {orders} {at} {printed = printed} (Ok text) gives law = λ s.
-    subst (λ (t : Text). TapeRuns s t cost orders at printed) (sym gives.1) (law s)
+tape_prints_of (Ok text) gives law = search rules
 tape_prints_of (Err refusal) gives law = tt

@@ -1,16 +1,16 @@
 -- Lines of a source with data: one with a text of rows, and one that has a number between other parts.
-use Rattle.ed_programs.proofs.Kit.{Statement, is_place_name, array, has_quote, quoted, quote_parts, among, are}
-use Rattle.ed_programs.proofs.Kit.{decimal_is, digit_bytes, few_bytes, line_bytes, run_bytes, some_digit, value_is}
-use Rattle.ed_programs.proofs.Kit.{written, [], ap, arith, Bool, codes, decimal, false, length, length-append, List}
-use Rattle.ed_programs.proofs.Kit.{nat_le, nat_lt, Ok, Option, refl, rules, Some, subst, sym, true, ℕ, ◌++◌, ◌+◌, ◌<◌}
-use Rattle.ed_programs.proofs.Kit.{◌==◌, ◌∙◌, ◌∷◌, ◌≡◌, ◌≤◌, list_all, and_from, and_parts, le-leb, leb-true, ltb-true}
-use Rattle.ed_programs.proofs.Kit.{ne_eqb, not-true, nat_tests, length-map, list_all-append, value, Text, row_of}
-use Rattle.ed_programs.proofs.Kit.{is_run_byte, is_line_byte, is_number, LinePart, run, sign, form_at, row, spells}
-use Rattle.ed_programs.proofs.Kit.{parts_of, line_of, run_parts, digits, a_number, true≢false, ◌&&◌, Marked}
+use Rattle.ed_programs.proofs.Kit.{Statement, is_place_name, array, has_quote, quote_parts, among, are, decimal_is}
+use Rattle.ed_programs.proofs.Kit.{digit_bytes, few_bytes, line_bytes, run_bytes, some_digit, value_is, written, [], ap}
+use Rattle.ed_programs.proofs.Kit.{arith, Bool, codes, decimal, false, length, length-append, List, nat_le, nat_lt, Ok}
+use Rattle.ed_programs.proofs.Kit.{Option, refl, rules, Some, subst, sym, true, ℕ, ◌++◌, ◌+◌, ◌<◌, ◌==◌, ◌∙◌, ◌∷◌, ◌≡◌}
+use Rattle.ed_programs.proofs.Kit.{◌≤◌, list_all, and_from, and_parts, le-leb, leb-true, ltb-true, ne_eqb, not-true}
+use Rattle.ed_programs.proofs.Kit.{nat_tests, length-map, list_all-append, value, Text, row_of, is_run_byte}
+use Rattle.ed_programs.proofs.Kit.{is_line_byte, is_number, LinePart, run, form_at, row, spells, parts_of, line_of}
+use Rattle.ed_programs.proofs.Kit.{run_parts, digits, a_number, true≢false, ◌&&◌, Marked, common_steps}
 use Rattle.ed_syntax.specs.Parts.{begins_run}
 use Rattle.ed_programs.proofs.NumberLines.{is_short_label}
 use Rattle.ed_programs.proofs.RowTexts.{is_row_byte, text_rows}
-use Rattle.ed_programs.proofs.SourceLines.{by_parts}
+use Rattle.ed_programs.proofs.SourceLines.{by_parts, mark}
 use Rattle.ed_syntax.specs.declared.program.Statement.TheVariants as statements
 
 -- ---- a line that ends with `text` and a string
@@ -62,20 +62,13 @@ text_says two k (b ∷ r) q later fits some few rows =
     let all = length-append l rest in
     let there = le-leb 1 (length q) some in
     let near = le-leb (length q) 120 (omega arith) in
-    by_parts two k (l ++ rest) (run l ∷ sign 58 ∷ run (codes "text") ∷ quoted q ∷ [])
-    (list_all-append is_line_byte l rest ∙ and_from _ _ u.0 line) (omega arith)
-    (run_parts b r rest u.1 refl ∙ (let e = quote_parts [] q [] plain.quote in rw e refl))
-    (rw (no_version, name, there, near, spelled) refl)
+    grind (arith, common_steps, by_parts, list_all-append, and_from, run_parts, quote_parts)
 
 abbrev pub text_mark : {two : Bool} (k : ℕ) (label q : Text) → 2 ≤ k → is_short_label two label ≡ true → 1 ≤ length q
     → length q ≤ 90 → list_all is_row_byte q ≡ true → Marked two
-text_mark {two} k label q later fits some few rows = record {
-  number = k;
-  text = label ++ (codes ": text " ++ 34 ∷ (q ++ 34 ∷ []));
-  label = Some label;
-  statement = statements.Text (array (text_rows q));
-  says = text_says two k label q later fits some few rows;
-}
+text_mark {two} k label q later fits some few rows =
+    mark k (label ++ (codes ": text " ++ 34 ∷ (q ++ 34 ∷ []))) (Some label) (statements.Text (array (text_rows q)))
+    (text_says two k label q later fits some few rows)
 
 -- ---- a line with a number between two fixed texts
 
@@ -115,10 +108,4 @@ module _ {two : Bool} {k : ℕ} {front tail : Text} {before after : List LinePar
 
   -- such a line as a mark
   abbrev pub number_mark : n < 65536 → Marked two
-  number_mark small = record {
-    number = k;
-    text = front ++ (decimal n ++ tail);
-    label = label;
-    statement = statement;
-    says = number_says small;
-  }
+  number_mark small = mark k (front ++ (decimal n ++ tail)) label statement (number_says small)

@@ -1,5 +1,5 @@
--- A source that ends with a text of any length, the routine `newline` after it, and its entry at 56: it has no fault there,
--- and where its words stand at the entry.
+-- A source that ends with a text of any length, the routine `newline` after it, and its entry at 56: it has no fault
+-- there, and where its words stand at the entry.
 use Rattle.ed_programs.proofs.Kit.{Size, Line, array, Definition, are_below, ExtentList, past, entry, routine_word}
 use Rattle.ed_programs.proofs.Kit.{table_item, place_on, even_from, extent, fault_from, have_places, frame_at, [], ap}
 use Rattle.ed_programs.proofs.Kit.{append-nil, arith, codes, get_or, inl, inr, length, List, map, nat_lt, None, refl}
@@ -40,8 +40,8 @@ text_sound z symbols extents p b g k label name main rows low high first place =
     (use_sound z symbols (extents ++ extent p (p + n) ∷ []) (k + 1) (p + n) b g (codes "newline") name []
     (omega arith) (omega arith) second refl refl)
     (none_later (k + 1 + 1) _ _
-    (enter_sound z symbols ((extents ++ extent p (p + n) ∷ []) ++ extent w (w + 7) ∷ []) (k + 1 + 1) (w + 7) w (g + 1) 56 main place
-    (omega arith) (omega arith) third)
+    (enter_sound z symbols ((extents ++ extent p (p + n) ∷ []) ++ extent w (w + 7) ∷ []) (k + 1 + 1) (w + 7) w
+    (g + 1) 56 main place (omega arith) (omega arith) third)
     refl))
 
 -- ---- the entry
@@ -66,7 +66,8 @@ text_words p rows =
     (newline_words (even_from (p + length rows))) ++ [])
 
 module _ (z : Size) (lines : List Line) (p : ℕ) (rows : List ℕ) (low : 56 ≤ p) (high : p + length rows ≤ 500)
-    (front : List (ℕ × ℕ)) (are : linked_words lines ≡ front ++ text_words p rows) (fit : have_places front ≡ true) where
+    (front : List (ℕ × ℕ)) (are : linked_words lines ≡ front ++ text_words p rows)
+    (fit : have_places front ≡ true) where
   abbrev w : ℕ
   w = even_from (p + length rows)
 
@@ -78,10 +79,7 @@ module _ (z : Size) (lines : List Line) (p : ℕ) (rows : List ℕ) (low : 56 �
 
   rest_at : (a : ℕ) → last_at (text_words p rows) a
       ≡ or_else (last_at (placed_words w (newline_words w)) a) (last_at (placed_words p codes_in) a)
-  rest_at a =
-      last_append (placed_words p codes_in) (placed_words w (newline_words w) ++ []) a
-      ∙ ap (λ (x : List (ℕ × ℕ)). or_else (last_at x a) (last_at (placed_words p codes_in) a))
-      (append-nil (placed_words w (newline_words w)))
+  rest_at a = search (rules, last_append, append-nil)
 
   rest_places : have_places (text_words p rows) ≡ true
   rest_places = search (rules, length-map, block_places, list_all-append, append-nil)

@@ -1,6 +1,6 @@
 -- What a call that writes a program's text answers.
-use Rattle.std.proofs.Common.{◌≡◌, ℕ, Some, None, Ok, string_bytes, Option, sym, refl, ◌∙◌, subst, inl, Err, Result}
-use Rattle.std.proofs.Common.{IfOk, IfSome, String}
+use Rattle.std.proofs.Common.{◌≡◌, ℕ, Some, None, Ok, string_bytes, Option, ◌∙◌, inl, Err, Result, IfOk, IfSome, String}
+use Rattle.std.proofs.Common.{rules}
 use Rattle.std.specs.declared.alloc.AllocError.{AllocError}
 use Rattle.std.specs.declared.alloc.Global.{Global}
 use Rattle.ed_words.specs.Texts.{Text}
@@ -9,18 +9,16 @@ use Rattle.ed_programs.specs.Programs.{AnswersWritten, GivesProgram, Prints, Sou
 use Rattle.ed_programs.specs.declared.refusal.Refusal.{Refusal}
 
 -- the answer is what `format!` wrote
-pub GivesProgram-written : (text : Result (String Global) AllocError) (r : Result (String Global) Refusal)
-    (wrote wanted : Text)
-    → wrote ≡ wanted → AnswersWritten text r → IfOk text (λ s. IfSome (Some wrote) (λ w. string_bytes s ≡ w))
-    → GivesProgram None wanted r
-GivesProgram-written (Ok s) (Ok program) wrote wanted same taken made = (refl, taken ∙ made ∙ same)
-GivesProgram-written (Err e) (Ok program) wrote wanted same taken made = absurd taken
-GivesProgram-written (Ok s) (Err refusal) wrote wanted same taken made = inl taken
-GivesProgram-written (Err e) (Err refusal) wrote wanted same taken made = inl taken
+pub GivesProgram-written : {cause : Option Refusal} → cause ≡ None → (text : Result (String Global) AllocError)
+    (r : Result (String Global) Refusal) (wrote wanted : Text) → wrote ≡ wanted → AnswersWritten text r
+    → IfOk text (λ s. IfSome (Some wrote) (λ w. string_bytes s ≡ w)) → GivesProgram cause wanted r
+GivesProgram-written none (Ok s) (Ok program) wrote wanted same taken made = (none, taken ∙ made ∙ same)
+GivesProgram-written none (Err e) (Ok program) wrote wanted same taken made = absurd taken
+GivesProgram-written none (Ok s) (Err refusal) wrote wanted same taken made = inl taken
+GivesProgram-written none (Err e) (Err refusal) wrote wanted same taken made = inl taken
 
 -- a law of a text is one of what is answered, if a program is answered that was written so
 pub prints_as : {orders at : ℕ} {text printed : Text} (cause : Option Refusal) (r : Result (String Global) Refusal)
     → GivesProgram cause text r → ((s : Settings) → SourceRuns s text orders at printed) → Prints orders at printed r
-prints_as {orders} {at} {printed = printed} cause (Ok program) is law = λ s.
-    subst (λ (t : Text). SourceRuns s t orders at printed) (sym is.1) (law s)
+prints_as cause (Ok program) is law = search rules
 prints_as cause (Err refusal) is law = tt

@@ -1,13 +1,13 @@
 -- The source of `examples/total.edsac` for any list: its path, and what it prints.
-use Rattle.ed_programs.proofs.Kit.{Z_F, Size, G_stays, Z, Settings, Line, sum_by, along, IsIn, Journey, stop_after}
-use Rattle.ed_programs.proofs.Kit.{then, to_stop, E_jumps, S, T, print_line, get_own, frame_at, moment_at, []}
-use Rattle.ed_programs.proofs.Kit.{append-nil, arith, false, length, List, lit<, lit≤, map, nat_le, refl, sym, true, ℕ}
-use Rattle.ed_programs.proofs.Kit.{◌*◌, ◌++◌, ◌+◌, ◌-◌, ◌<◌, ◌∙◌, ◌∷◌, ◌≡◌, ◌≤◌, list_all, and_from, and_parts}
-use Rattle.ed_programs.proofs.Kit.{leb-true, lt-ltb, sum_by-cons, Text, Frame, Moment, short, state, A, G_jumps, on}
-use Rattle.ed_programs.proofs.Kit.{stay, own, settings, parameter_store, digits, print_orders, few_digits, ReachesStop}
-use Rattle.ed_programs.proofs.Kit.{entry_state, digits_printed, numbers_text, SourceRuns, total_text, reads_number}
-use Rattle.ed_programs.proofs.Kit.{are_small, number_rows, stops_from_entry, Marked, to, calling, journey_counted}
-use Rattle.ed_programs.proofs.Kit.{stop_counted, HasPair, pair_after, pair_at_entry}
+use Rattle.ed_programs.proofs.Kit.{before_order, Z_F, Size, Z, Settings, Line, sum_by, along, IsIn, Journey, stop_after}
+use Rattle.ed_programs.proofs.Kit.{then, to_stop, print_line, get_own, frame_at, moment_at, [], append-nil, arith}
+use Rattle.ed_programs.proofs.Kit.{false, length, List, lit<, lit≤, map, nat_le, refl, sym, true, ℕ, ◌*◌, ◌++◌, ◌+◌}
+use Rattle.ed_programs.proofs.Kit.{◌-◌, ◌<◌, ◌∙◌, ◌∷◌, ◌≡◌, ◌≤◌, list_all, and_from, and_parts, leb-true, lt-ltb}
+use Rattle.ed_programs.proofs.Kit.{sum_by-cons, Text, Frame, Moment, state, settings, parameter_store, digits}
+use Rattle.ed_programs.proofs.Kit.{print_orders, few_digits, ReachesStop, entry_state, digits_printed, numbers_text}
+use Rattle.ed_programs.proofs.Kit.{SourceRuns, total_text, reads_number, are_small, number_rows, stops_from_entry}
+use Rattle.ed_programs.proofs.Kit.{Marked, to, calling, journey_counted, stop_counted, HasPair, pair_after}
+use Rattle.ed_programs.proofs.Kit.{pair_at_entry}
 use Rattle.std.specs.Fmt.{decimal}
 use Rattle.ed_routines.specs.Digits.{sum}
 use Rattle.ed_programs.specs.Total.{total_orders}
@@ -15,6 +15,7 @@ use Rattle.ed_programs.specs.declared.total.TheConstants.{TOTAL}
 use Rattle.ed_programs.proofs.DataLines.{list_mark}
 use Rattle.ed_programs.proofs.NumberLists.{ended_small, ended_some}
 use Rattle.ed_programs.proofs.SourceRuns.{lines_of_pieces, program_runs}
+use Rattle.ed_programs.proofs.Orders.{A, E_jumps, G_jumps, G_stays, S, T, obeys}
 
 -- the pieces of the source
 abbrev pub total_pieces : List Text
@@ -36,14 +37,8 @@ module _ (z : Size) (m : Moment) where
 
   -- at the cell i: the words of the store, the number in the accumulator, the three cells, and the rows left
   abbrev at : ℕ → List ℕ → ℕ → ℕ → ℕ → ℕ → List ℕ → Moment
-  at i words v value sum scrap tape = record m {
-    words = words;
-    cells = cells value sum scrap;
-    pairs = [];
-    acc = short v;
-    counter = 56 + i;
-    tape = tape;
-  }
+  at i words v value sum scrap tape =
+      record (before_order m (56 + i) v (cells value sum scrap)) { words = words; tape = tape }
 
   -- the numbers are read and added to a sum, it is printed, and the machine stops
   stops : (ns : List ℕ) (so_far all value : ℕ) (words : List ℕ) → HasPair f words 74 98 13 14
@@ -60,10 +55,7 @@ module _ (z : Size) (m : Moment) where
       let same : so_far ≡ all = omega (arith, is) in
       let number = get_own 0 one.words 56 (cells 0 so_far 131071) 14 (lit< tt) ∙ same in
       stop_counted (to_stop (then one.journey
-      (then (along (on (A 2 (own 13) (short 0) refl (omega arith))
-      (on (S 3 (own 15) (short 131071) refl (omega arith))
-      (on (G_jumps 4 (own 9) refl (omega arith))
-      (on (T 9 (own 16) _ refl refl) stay)))))
+      (then (along (obeys 2 0 (A 13 0 ∷ S 15 131071 ∷ G_jumps 9 ∷ T 16 ∷ []) refl (omega arith)))
       (print_line last {v = all} 10 14 read.prints number (lit< tt) small (lit≤ tt) refl refl refl)))
       (Z 12 Z_F refl refl) done) (omega arith)
   stops (n ∷ ns) so_far all value words has least is small done =
@@ -76,13 +68,8 @@ module _ (z : Size) (m : Moment) where
       let one = reads_number start 0 13 n rest has.reads refl (omega arith) (lit< tt) (lit≤ tt) refl refl refl in
       let turn : Journey f (adding_orders n)
       (at 0 words 0 value so_far 0 (digits n ++ 17 ∷ rest)) [] (at 0 one.words 0 n (so_far + n) 0 rest) =
-      journey_counted (then one.journey (along (on (A 2 (own 13) (short n) refl (omega arith))
-      (on (S 3 (own 15) (short (n - 1)) refl (omega arith))
-      (on (G_stays 4 (own 9) refl (omega arith))
-      (on (A 5 (own 15) (short n) refl (omega arith))
-      (on (A 6 (own 14) (short (so_far + n)) refl (omega arith))
-      (on (T 7 (own 14) _ refl refl)
-      (on (E_jumps 8 (own 0) refl (lit< tt)) stay))))))))) (omega arith) in
+      journey_counted (then one.journey (along (obeys 2 0 (A 13 n ∷ S 15 (n - 1) ∷ G_stays 9 ∷ A 15 n
+      ∷ A 14 (so_far + n) ∷ T 14 ∷ E_jumps 0 ∷ []) refl (omega arith)))) (omega arith) in
       stop_counted (stop_after (turn.leads done) refl
       (stops ns (so_far + n) all n one.words (pair_after one has) l.1 (omega (arith, is)) small
       (done + adding_orders n))) (omega arith)

@@ -12,6 +12,9 @@ pub record PartRun : Type 0 where
   pub rows : ℕ
   pub orders : ℕ
 
+abbrev pub part : ℕ → ℕ → ℕ → ℕ → PartRun
+part e c r o = record { entry = e; cost = c; rows = r; orders = o }
+
 -- a tape in two parts: the interlude, the location for which it returns, the program, and its stop
 pub record TwoParts : Type 0 where
   pub interlude : PartRun

@@ -1,16 +1,16 @@
 -- A tape whose first program returns to the Initial Orders and whose second one reaches its stop, as the answers of the
 -- commands `parts` and `tape`.
-use Rattle.ed_programs.proofs.Kit.{INPUT_BYTES, ReachesNextEntry, returned_line, ran_outcome-answered, with_post_mortem}
-use Rattle.ed_programs.proofs.Kit.{ReachesEntry, append_assoc, length-append, state_after, nothing_after, tape_outcome}
-use Rattle.ed_programs.proofs.Kit.{stop_after, IsStore, ReachesStop, ran_to_stop, first_state, first_store, ran_outcome}
-use Rattle.ed_programs.proofs.Kit.{Size, entry_line, OfReading, directive, IsReturned, is_obeyed, TapeEntry, paper_room}
-use Rattle.ed_programs.proofs.Kit.{Settings, at_entry, comes_in, exactly, arith, cases_lt, progress, at_after, stops_of}
-use Rattle.ed_programs.proofs.Kit.{prints, length, le-ltb, lt-ltb, ne_eqb, Moment, run_end, reading, LeadsIn, Outcome}
-use Rattle.ed_programs.proofs.Kit.{rows, codes, false, rules, subst, paper, State, Frame, state, joined, Leads, starts}
-use Rattle.ed_programs.proofs.Kit.{inl, inr, List, None, refl, Some, suc, sym, true, zero, ◌++◌, Text, step, Path, stay}
-use Rattle.ed_programs.proofs.Kit.{[], ap, ℕ, ◌+◌, ◌-◌, ◌<◌, ◌∙◌, ◌∷◌, ◌≡◌, ◌≢◌, ◌≤◌, on}
-use Rattle.ed_interlude.proofs.Kit.{next_state, end_by, address, Concludes, entry_done, entry_report, finished}
-use Rattle.ed_interlude.proofs.Kit.{Finishes, first_part, GoesBack, LeadsTo, part_after, part_entry_state, part_report}
+use Rattle.ed_programs.proofs.Kit.{INPUT_BYTES, ReachesNextEntry, ran_outcome-answered, with_post_mortem, ReachesEntry}
+use Rattle.ed_programs.proofs.Kit.{append_assoc, length-append, state_after, nothing_after, tape_outcome, stop_after}
+use Rattle.ed_programs.proofs.Kit.{IsStore, ReachesStop, ran_to_stop, first_state, first_store, ran_outcome, Size}
+use Rattle.ed_programs.proofs.Kit.{OfReading, directive, IsReturned, is_obeyed, TapeEntry, paper_room, Settings}
+use Rattle.ed_programs.proofs.Kit.{at_entry, comes_in, exactly, arith, cases_lt, progress, at_after, stops_of, prints}
+use Rattle.ed_programs.proofs.Kit.{length, lt-ltb, Moment, run_end, reading, LeadsIn, Outcome, rows, codes, rules}
+use Rattle.ed_programs.proofs.Kit.{subst, paper, State, Frame, state, joined, Leads, starts, inl, inr, List, refl, Some}
+use Rattle.ed_programs.proofs.Kit.{suc, sym, true, zero, ◌++◌, Text, step, Path, stay, [], ap, ℕ, ◌+◌, ◌-◌, ◌<◌, ◌∙◌}
+use Rattle.ed_programs.proofs.Kit.{◌∷◌, ◌≡◌, ◌≢◌, ◌≤◌, on, common_steps}
+use Rattle.ed_interlude.proofs.Kit.{next_state, address, Concludes, entry_done, entry_report, finished, Finishes}
+use Rattle.ed_interlude.proofs.Kit.{first_part, GoesBack, LeadsTo, part_after, part_entry_state, part_report}
 use Rattle.ed_interlude.proofs.Kit.{PartsReport, ReturnsToLoader, RunsOn, TapePart}
 use Rattle.ed_laws.proofs.Kit.{Obeyed, counted_after, next_stops, IsInParts}
 use Rattle.ed_machine.specs.declared.ending.Ending.TheVariants.{Stopped}
@@ -24,7 +24,7 @@ use Rattle.ed_interlude.specs.Parts.{IsUnderWay, IsReportOfTape, program_end}
 use Rattle.ed_interlude.specs.declared.tape.PartsEnd.TheVariants.{Ended}
 use Rattle.ed_interlude.proofs.Resumed.{leads_back}
 use Rattle.ed_programs.proofs.TwoParts.{TwoParts, TwoPartsRun, orders_to_program, orders_to_return, orders_to_stop}
-use Rattle.ed_programs.proofs.TwoParts.{two_parts_lines, two_parts_note}
+use Rattle.ed_programs.proofs.TwoParts.{part, two_parts_lines, two_parts_note}
 use Rattle.ed_machine.proofs.Kit.Paths as paths
 
 -- ---- a program of a part
@@ -41,9 +41,7 @@ StaysAbove (prints {r = r} first rest) = (44 ≤ r.counter) × StaysAbove rest
 
 away_on : {n h k : ℕ} {f : Frame n h} {kind : Kind} {r m : Moment} {turn : Turn} → Does f kind r turn m
     → 44 ≤ r.counter → (done : ℕ) → IsAway k (state f m (done + 1)) → IsAway (suc k) (state f r done)
-away_on {f = f} {r = r} first above done rest zero l =
-    let same = ap (λ (x : State). x.counter) (no_state (state f r done)) in
-    λ is. absurd (omega (arith, same, is, above))
+away_on first above done rest zero l = search (rules, no_state)
 away_on {f = f} {r = r} first above done rest (suc j) l =
     subst (λ (x : State). x.counter ≢ 25)
     (sym (paths.first_state j (state f r done) ∙ ap (λ (o : Obeyed). state_after j o.state) (first.does done)))
@@ -59,16 +57,10 @@ away (prints first rest) above done = away_on first above.0 done (away rest abov
 pub away_to_stop : {k : ℕ} {s t : State} {cs : List ℕ} → Leads k s cs t → IsAway k s → t.counter ≢ 25 → IsAway (k + 1) s
 away_to_stop {k} {s} leads before last j l = search (rules, cases_lt)
 
-no_end : (turn : Turn) → is_obeyed turn ≡ true → end_by turn false ≡ None
-no_end turn e = search rules
-
 module _ (left : ℕ) (s : State) where
   under_way : (k : ℕ) → k < left → (progress k s).stops ≡ 0 → is_obeyed (step (state_after k s)).turn ≡ true
       → (state_after k s).counter ≢ 25 → IsUnderWay left k s
-  under_way k below none obeyed place =
-      let a = le-ltb 0 (progress k s).stops (omega (arith, none)) in
-      let b = ne_eqb k left (omega arith) in
-      record { no_end = rw (a, b) (no_end _ obeyed); away = λ home. place home.counter }
+  under_way k below none obeyed place = grind (arith, common_steps)
 
   -- it leads back to the Initial Orders
   pub comes_home : {k : ℕ} {t : State} {cs : List ℕ} → Leads k s cs t → IsAway k s → k ≤ left → IsReturned t
@@ -131,19 +123,9 @@ pub record Course (z : Size) (tape_rows : List ℕ) (at : ℕ) (printed : List �
 abbrev pub numbers_of : {z : Size} {tape_rows : List ℕ} {at : ℕ} {printed : List ℕ} → Course z tape_rows at printed
     → TwoParts
 numbers_of {at = at} c = record {
-  interlude = record {
-    entry = c.interlude.at;
-    cost = c.interlude.cost;
-    rows = c.interlude.rows;
-    orders = c.orders;
-  };
+  interlude = part c.interlude.at c.interlude.cost c.interlude.rows c.orders;
   returns_for = address (directive c.back);
-  program = record {
-    entry = c.program.at;
-    cost = c.program.cost;
-    rows = c.program.rows;
-    orders = c.orders_on + 1;
-  };
+  program = part c.program.at c.program.cost c.program.rows (c.orders_on + 1);
   stop = at;
 }
 
@@ -197,9 +179,7 @@ module _ {z : Size} {tape_rows : List ℕ} {at : ℕ} {printed : List ℕ} (c : 
     there = ap (state_after c.orders) first.arrives ∙ c.leads.state_is
 
     leads_on : LeadsTo two c.program
-    leads_on =
-        subst (λ (x : State). LeadsTo (record { number = 2; done = two.done; state = x }) c.program) (sym there)
-        (record { well = c.reads_on.well; comes = c.reads_on.comes })
+    leads_on = search (rules, there)
 
     entered : part_entry_state two c.program ≡ at_entry c.back c.program
     entered = ap (state_after c.program.cost) there ∙ second.arrives
@@ -237,13 +217,7 @@ module _ {z : Size} {tape_rows : List ℕ} {at : ℕ} {printed : List ℕ} (c : 
         let far = ap (λ (x : State). length x.tape) there in
         let more : length start.tape - length two.state.tape + c.program.rows ≡ c.interlude.rows + c.program.rows =
         omega (arith, read, far) in
-        (λ i.
-        (entry_line c.interlude.at (none i) (some i)
-        ++ returned_line (address (directive (there i))) (none i + c.orders))
-        ++ entry_line c.program.at (none i + c.orders + c.program.cost) (more i))
-        ∙ append_assoc (entry_line c.interlude.at c.interlude.cost c.interlude.rows)
-        (returned_line t.returns_for (orders_to_return t))
-        (entry_line c.program.at (orders_to_program t) (c.interlude.rows + c.program.rows))
+        search (rules, there, append_assoc)
 
     note : at_after (codes "stopped") end.last.counter end.last.orders ++ 10 ∷ [] ≡ two_parts_note t
     note = search (rules, last_is, count)

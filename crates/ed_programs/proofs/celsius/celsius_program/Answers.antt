@@ -1,5 +1,4 @@
-use Rattle.ed_programs.proofs.Kit.{[], ap, List, subst, sym, ℕ, ◌∷◌, Text, filled_text, celsius_text, GivesProgram}
-use Rattle.ed_programs.proofs.Kit.{all_fit, prints_as}
+use Rattle.ed_programs.proofs.Kit.{[], ap, List, ℕ, ◌∷◌, Text, filled_text, celsius_text, all_fit, prints_as}
 use Rattle.ed_programs.proofs.CelsiusRuns.{each_celsius, celsius_pieces}
 use Rattle.ed_programs.proofs.NumberLists.{IsList, is_list}
 use Rattle.ed_programs.proofs.Texts.{GivesProgram-written}
@@ -11,11 +10,11 @@ returns c =
     let end : ℕ = c.args.end in
     let taken = c.in_ok-rows.ensures.ok in
     let is : IsList 32 ns end = is_list 32 ns end taken in
-    let gives = GivesProgram-written _ c.program_of_text.result _ (celsius_text ns end)
+    let gives = GivesProgram-written taken _ c.program_of_text.result _ (celsius_text ns end)
     (ap (λ (t : Text). filled_text celsius_pieces (t ∷ [])) c.in_ok-rows.ensures.rows) c.program_of_text.ensures
     c.format.ensures.ok in
     record {
-      is = subst (λ cause. GivesProgram cause (celsius_text ns end) c.program_of_text.result) (sym taken) gives;
+      is = gives;
       law = prints_as _ c.program_of_text.result gives
           (each_celsius ns end (all_fit ns c.type_inv.temperatures) is.all is.low is.fits);
     }

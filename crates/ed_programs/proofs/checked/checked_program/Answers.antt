@@ -5,7 +5,7 @@ use Rattle.ed_programs.proofs.Texts.{GivesProgram-written}
 use Rattle.ed_programs.proofs.checked.checked_program.Goals as goal
 
 pub returns-clause-is : goal.returns-clause-is
-returns-clause-is c = GivesProgram-written _ _ _ _ refl c.program_of_text.ensures c.format.ensures.ok
+returns-clause-is c = GivesProgram-written refl _ _ _ _ refl c.program_of_text.ensures c.format.ensures.ok
 
 pub returns-clause-sources : goal.returns-clause-sources
 returns-clause-sources c = each_guest

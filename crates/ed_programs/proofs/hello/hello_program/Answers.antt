@@ -1,5 +1,5 @@
-use Rattle.ed_programs.proofs.Kit.{[], ap, arith, decimal, length, rules, subst, suc, sym, ◌+◌, ◌∷◌, ◌≡◌, Text}
-use Rattle.ed_programs.proofs.Kit.{filled_text, hello_text, of_letters, GivesProgram, prints_as}
+use Rattle.ed_programs.proofs.Kit.{[], ap, arith, decimal, length, rules, suc, ◌+◌, ◌∷◌, ◌≡◌, Text, filled_text}
+use Rattle.ed_programs.proofs.Kit.{hello_text, of_letters, prints_as}
 use Rattle.ed_programs.proofs.Capitals.{AreLetters, are_letters}
 use Rattle.ed_programs.proofs.HelloRuns.{each_name, each_text, hello_pieces}
 use Rattle.ed_programs.proofs.Texts.{GivesProgram-written}
@@ -13,12 +13,12 @@ returns c =
     let letters : Text = c.args.letters.now in
     let rows : length letters + 1 ≡ suc (length letters) = omega arith in
     let are : AreLetters 40 letters = are_letters 40 letters c.in_ok-check_letters.ensures.ok in
-    let gives = GivesProgram-written _ c.program_of_text.result _ (hello_text (of_letters letters))
+    let gives = GivesProgram-written c.in_ok-check_letters.ensures.ok _ c.program_of_text.result _
+    (hello_text (of_letters letters))
     (ap (λ n. filled_text hello_pieces (decimal n ∷ of_letters letters ∷ [])) rows)
     c.program_of_text.ensures c.format.ensures.ok in
     record {
-      is = subst (λ cause. GivesProgram cause (hello_text (of_letters letters)) c.program_of_text.result)
-          (sym c.in_ok-check_letters.ensures.ok) gives;
+      is = gives;
       law = prints_as _ c.program_of_text.result gives (each_name letters are.some are.few are.capital);
       texts = each_text;
     }

@@ -1,6 +1,5 @@
 use Rattle.ed_programs.proofs.Kit.{[], ap, append_assoc, arith, decimal, List, refl, sym, ℕ, ◌++◌, ◌∙◌, ◌∷◌, ◌≡◌}
-use Rattle.ed_programs.proofs.Kit.{numbers_text}
-use Rattle.std.proofs.lemmas.Grind.{common_steps}
+use Rattle.ed_programs.proofs.Kit.{numbers_text, common_steps}
 use Rattle.ed_programs.proofs.lists.rows_of.Goals as goal
 
 -- one more number

@@ -1,4 +1,4 @@
-use Rattle.ed_programs.proofs.Kit.{rules, subst, sym, mirror_text, GivesProgram}
+use Rattle.ed_programs.proofs.Kit.{refl, rules, mirror_text}
 use Rattle.ed_programs.proofs.Capitals.{AreLetters, are_letters}
 use Rattle.ed_programs.proofs.MirrorRuns.{each_word, text_is}
 use Rattle.ed_programs.proofs.TapeRuns.{tape_prints_of}
@@ -11,11 +11,9 @@ returns-in_err-check_letters c = record { is = search rules; law = search rules 
 pub returns : goal.returns
 returns c =
     let word : AreLetters 9 c.args.letters.now = are_letters 9 c.args.letters.now c.in_ok-check_letters.ensures.ok in
-    let gives = GivesProgram-written _ c.program_of_text.result _ (mirror_text c.args.letters.now)
-    (text_is c.args.letters.now)
-    c.program_of_text.ensures c.format.ensures.ok in
+    let gives = GivesProgram-written refl _ c.program_of_text.result _ (mirror_text c.args.letters.now)
+    (text_is c.args.letters.now) c.program_of_text.ensures c.format.ensures.ok in
     record {
-      is = subst (λ cause. GivesProgram cause (mirror_text c.args.letters.now) c.program_of_text.result)
-          (sym c.in_ok-check_letters.ensures.ok) gives;
+      is = rw c.in_ok-check_letters.ensures.ok gives;
       law = tape_prints_of c.program_of_text.result gives (λ s. each_word s c.args.letters.now word);
     }

@@ -1,5 +1,5 @@
-use Rattle.ed_programs.proofs.Kit.{[], ap, if◌then◌else◌, List, nat_lt, Some, subst, sym, true, ℕ, ◌∙◌, ◌∷◌, ◌≡◌}
-use Rattle.ed_programs.proofs.Kit.{ltb-true, Text, filled_text, list_refusal, GivesProgram, total_text, prints_as}
+use Rattle.ed_programs.proofs.Kit.{[], ap, if◌then◌else◌, List, nat_lt, Some, true, ℕ, ◌∙◌, ◌∷◌, ◌≡◌, ltb-true, Text}
+use Rattle.ed_programs.proofs.Kit.{filled_text, list_refusal, total_text, prints_as}
 use Rattle.ed_routines.specs.Digits.{sum}
 use Rattle.ed_programs.specs.Total.{total_refusal}
 use Rattle.ed_programs.specs.declared.refusal.Refusal.TheVariants.{Number}
@@ -19,12 +19,11 @@ returns c =
     let small : nat_lt (sum ns) 65536 ≡ true =
     let is = c.has_small_sum.ensures in let test = c.if-not-has_small_sum.false in cc in
     let is : IsList 1 ns 0 = is_list 1 ns 0 taken in
-    let gives = GivesProgram-written _ c.program_of_text.result _ (total_text ns)
+    let gives = GivesProgram-written (as_list ns small ∙ taken) _ c.program_of_text.result _ (total_text ns)
     (ap (λ (t : Text). filled_text total_pieces (t ∷ [])) c.in_ok-rows.ensures.rows) c.program_of_text.ensures
     c.format.ensures.ok in
     record {
-      is = subst (λ cause. GivesProgram cause (total_text ns) c.program_of_text.result)
-          (sym (as_list ns small ∙ taken)) gives;
+      is = gives;
       law = prints_as _ c.program_of_text.result gives
           (each_total ns is.all (ltb-true (sum ns) 65536 small) is.fits);
     }
