@@ -26,13 +26,7 @@ step_same k s = word_same k (next_word s) s (kind_of_function (function_of (next
 pub progress_same : (k j : ℕ) (s : State) → progress j (counted k s) ≡ progress_later k (progress j s)
 unfolding progress
 progress_same k zero s = refl
-progress_same k (suc j) s =
-    ap next_progress (progress_same k j s)
-    ∙ ap (λ (o : Obeyed). record {
-      state = o.state;
-      codes = (progress j s).codes ++ codes_of o.turn;
-      stops = (progress j s).stops + stops_of o.turn;
-    }) (step_same k (progress j s).state)
+progress_same k (suc j) s = search (rules, step_same, progress_same k j s)
 
 -- an end comes after as many of them
 same_end : (limit resumes room k j : ℕ) (p : Progress)

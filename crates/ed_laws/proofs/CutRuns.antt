@@ -14,6 +14,7 @@ use Rattle.ed_laws.specs.CutRuns.{IsCutOff}
 use Rattle.ed_laws.specs.FirstEntries.{EachFirstTapeRunsFromEntry}
 use Rattle.ed_laws.specs.SourceEntries.{EachSourceRunsFromEntry}
 use Rattle.ed_laws.proofs.Stepped.{none_done}
+use Rattle.std.proofs.Common.{rules}
 
 -- ---- a run whose first k orders neither print nor stop, from a state with no order counted
 
@@ -35,11 +36,7 @@ module _ (limit resumes k place : ℕ) (s : State) (give : RunEnd → Outcome) (
 
   ends_so : {r : RunEnd} (e : Ending) → r ≡ record { ending = e; state = state_after k s; codes = [] }
       → give r ≡ outcome e
-  ends_so e is = ap give is ∙ told e ∙ (λ i. record {
-    out = out;
-    note = ending_line e (record (state_after k s) { counter = at i; orders = orders_done k s went none i });
-    status = status_of e;
-  })
+  ends_so e is = search (rules, orders_done)
 
   pub at_limit : limit ≡ k → give (run_end limit resumes paper_room s) ≡ outcome Limit
   at_limit is =

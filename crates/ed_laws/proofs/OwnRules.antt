@@ -151,9 +151,7 @@ own_goes k w s h = search rules
 
 own_turn : (s : State) → is_own_order s ≡ true → (step s).turn ≡ Went
 unfolding step
-own_turn s own =
-    own_goes (kind_of_function (function_of (next_word s))) (next_word s) s
-    (own_letter (function_of (next_word s)) ∙ own)
+own_turn s own = search (rules, own_goes, own_letter)
 
 no_end : (other : State → Obeyed) → ((t : State) → is_own_order t ≡ false → other t ≡ step t) → (s : State)
     → IsNoEnd other s

@@ -42,11 +42,7 @@ placed_short : {two : Bool} {ps : List LinePart} {s : Statement} {fits : Bool} �
 placed_short h = search rules
 
 rows_short : (q : Text) (rows : List ℕ) → AreRowsOf q rows → nat_le (length q) 120 ≡ true → length rows ≤ 120
-rows_short q rows are h =
-    let same : length q ≡ length rows =
-    sym (length-map q row_of) ∙ ap length are.each ∙ length-map rows (λ r. Some r) in
-    let few : length q ≤ 120 = grind (arith, nat_tests) in
-    omega (arith, same, few)
+rows_short q rows are h = grind (arith, common_steps)
 
 statement_short : {two : Bool} {ps : List LinePart} {s : Statement} {fits : Bool} → SpellsStatement two ps s fits
     → list_all is_short ps ≡ true → ShortRows (Some s)
@@ -74,13 +70,7 @@ lines_short : {two : Bool} {k : ℕ} {texts : List Text} {lines : List Line} →
     → AllShort lines × (length lines ≡ length texts)
 unfolding AllShort
 lines_short (no_more k) = (tt, refl)
-lines_short (and_more k line texts f said says rest) =
-    let more = lines_short rest in
-    let count : length said ≡ length texts = more.1 in
-    let one : suc (length said) ≡ suc (length texts) = omega (arith, count) in (
-      (form_short says.spells.spells (few_bytes line says.spells.parts says.spells.has_parts says.plain.short), more.0),
-      one,
-    )
+lines_short (and_more k line texts f said says rest) = search (rules, form_short, few_bytes, lines_short rest)
 
 -- ---- counting locations
 
@@ -104,10 +94,7 @@ count_or : (f g : ℕ → Bool) (n : ℕ) → ((p : ℕ) → f p ≡ true → g 
     → count (λ p. f p || g p) n ≡ count f n + count g n
 unfolding count
 count_or f g zero apart = refl
-count_or f g (suc n) apart =
-    let first = count_or f g n apart in
-    let last = one_or (f n) (g n) (apart n) in
-    omega (arith, first, last)
+count_or f g (suc n) apart = search (rules, one_or, count_or f g n apart)
 
 abbrev range : ℕ → ℕ → ℕ → Bool
 range a b p = nat_le a p && nat_lt p b
@@ -216,30 +203,11 @@ line_few : (symbols : List Definition) (s : LocationCounter) (st : Option Statem
     → 9 * length (items_of symbols s st) + length (data_rows st) ≤ 126 + 9 * (end_place st s - first_place st s)
 line_few symbols s None h = omega arith
 line_few symbols s (Some (Segment name base)) h = omega arith
-line_few symbols s (Some (Order f o is_long)) h =
-    omega (
-      arith,
-      headed_few (order_item (goes_by_theta symbols s o) s.base f
-          (operand_number symbols (segment_of_counter s) o) is_long ∷ []) (nat_eq s.place s.base) s.base,
-    )
-line_few symbols s (Some (Number w)) h =
-    omega (arith, headed_few (word_item w ∷ []) (nat_eq s.place s.base) s.base)
-line_few symbols s (Some (Letters codes)) h =
-    let ws = map (λ c. 4096 * c) codes.items in
-    omega (
-      arith,
-      headed_few (map word_item ws) (nat_eq s.place s.base) s.base,
-      length-map ws word_item,
-      length-map codes.items (λ c. 4096 * c),
-    )
-line_few symbols s (Some (Long v)) h =
-    omega (
-      arith,
-      headed_few (map word_item (long_words s.place v)) (nat_eq s.place s.base) s.base,
-      long_few (nat_eq (s.place % 2) 1) (v % 2 ^ 17) (v / 2 ^ 18),
-    )
-line_few symbols s (Some (Fetch routine name ts)) h =
-    omega (arith, use_few symbols ts.items (even_from s.place) (find routine))
+line_few symbols s (Some (Order f o is_long)) h = search (rules, headed_few)
+line_few symbols s (Some (Number w)) h = search (rules, headed_few)
+line_few symbols s (Some (Letters codes)) h = grind (arith, common_steps, headed_few)
+line_few symbols s (Some (Long v)) h = search (rules, headed_few, long_few)
+line_few symbols s (Some (Fetch routine name ts)) h = search (rules, use_few)
 line_few symbols s (Some (Enter name)) h = omega arith
 line_few symbols s (Some (Rows codes)) h = omega (arith, h)
 
@@ -269,14 +237,7 @@ item_bytes i = search rules
 
 items_bytes : (is : List Item) → length (text_of (canonicals is)) ≤ 9 * length is
 items_bytes [] = omega arith
-items_bytes (i ∷ is) =
-    omega (
-      arith,
-      item_bytes i,
-      line_bytes false (rows_of (canonical i)),
-      items_bytes is,
-      length-append (line_from false (rows_of (canonical i))) (text_of (canonicals is)),
-    )
+items_bytes (i ∷ is) = search (rules, item_bytes, line_bytes, length-append, items_bytes is)
 
 after_bytes : (rows : List ℕ) → length (after_text rows) ≤ length rows + 1
 after_bytes [] = omega arith

@@ -92,9 +92,7 @@ none_yet s = refl
 -- there are as many as orders
 pub letters_count : (k : ℕ) (s : State) → length (letters_in (trace_to k s)) ≡ k
 letters_count zero s = ap length (none_yet s)
-letters_count (suc k) s =
-    let one : length (letters_in (trace_to k s)) + 1 ≡ suc k = omega (arith, letters_count k s) in
-    ap length (more_letters k s) ∙ length-append (letters_in (trace_to k s)) (next_letter (state_after k s) ∷ []) ∙ one
+letters_count (suc k) s = search (rules, more_letters, length-append, letters_count k s)
 
 -- and as many Zs as stops
 pub zeds_count : (k : ℕ) (s : State) → stops_in (letters_in (trace_to k s)) ≡ (progress k s).stops
@@ -189,9 +187,7 @@ unfolding run_end
 run_past_stop limit resumes room s is =
     let e = ends_by_stop limit resumes room s is in
     let plus : run_orders limit resumes room s ≡ e.before + 1 = omega (arith, e.count) in
-    subst IsPastStop
-    (sym (ap (λ n. state_after n s) plus ∙ ap (λ (p : Progress). p.state) (past_next e.before s)))
-    (past_stop (state_after e.before s) e.turn)
+    search (rules, past_next, past_stop)
 
 -- ---- the whole run
 

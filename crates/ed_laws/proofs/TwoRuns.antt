@@ -100,10 +100,7 @@ module _ (low high resumes room room_too : ℕ) (s : State) (fits : low ≤ high
   at_limit k p e other is h = grind (arith, common_steps, nat_tests)
 
   limit_so : (run_end low resumes room s).ending ≢ Limit → EndsToo low resumes room high resumes room_too s
-  limit_so other e is h = elim (cases_lt (run_orders low resumes room s) low) [
-    | inl less ↦ same_end _ less ∙ h
-    | inr no_less ↦ at_limit _ _ e (λ l. other (is ∙ l)) (omega (arith, no_less, most_orders)) h
-  ]
+  limit_so other e is h = search (rules, same_end, most_orders)
 
   pub limit_begins : StartsWith (run_end high resumes room_too s).codes (run_end low resumes room s).codes
   limit_begins = codes_begin low resumes room high resumes room_too s limit_on
