@@ -18,6 +18,7 @@ use Rattle.ed_initial.proofs.Paths.{state}
 use Rattle.ed_initial.proofs.Runs.{ends_there, exceeds_there}
 use Rattle.ed_initial.proofs.Settled.{no_end}
 use Rattle.ed_initial.proofs.Trips.{Trip, begins, by_path, Trip-further, whole_items}
+use Rattle.std.proofs.Common.{rules}
 
 module _ (s : State) (store : IsStore s.store) (started : IsStarted s) where
   abbrev ws : List ℕ
@@ -55,11 +56,7 @@ module _ (s : State) (store : IsStore s.store) (started : IsStarted s) where
       let goes : Goes k s (state (frame s store) a.moment (s.orders + k)) =
       subst (λ x. Goes k x (state (frame s store) a.moment (s.orders + k))) (state-opened s store started)
       (a.trip.goes s.orders) in
-      record {
-        quiet = goes.quiet;
-        silent = quiet_codes k s (λ j l. (goes.quiet j l).went);
-        rests = subst (λ (x : State). RestsAfter (later k rest s) notation part x) (sym goes.state) a.rests;
-      }
+      search (rules, quiet_codes)
 
   pub waits : WaitsForRows s
   waits row to r =

@@ -30,11 +30,7 @@ IsLoaded-ended {s} {e} bound {r = r} a fits ends is =
     Entered-settled s bound m a.quiet went a.enters_is below ends in
     let place : (state_after (suc m) s).counter ≡ e.at = ap (λ (x : State). x.counter) end in
     let cost = a.cost_is in
-    record {
-      result_is = result ∙ (λ i. Entered (place i) (cost i));
-      state_is = is ∙ ap (λ k. state_after (orders_of k) s) result ∙ end;
-      silent = a.prints_none;
-    }
+    search rules
 
 module _ (s t : State) (r : Loaded) (store : IsStore s.store) (started : IsStarted s)
     (ends : EndsAs s (17 * length s.tape + 9) r)

@@ -15,6 +15,7 @@ use Rattle.ed_initial1.proofs.Paths.{first_placed, Walk-placed}
 use Rattle.ed_initial1.proofs.Rests.{tape_of, tape_is, third, written, left, head_cost, first_word, digit_walk}
 use Rattle.ed_initial1.proofs.Rests.{head_walk, back_tail, to_come}
 use Rattle.ed_initial1.proofs.Walks.{state, path_of, quiet}
+use Rattle.std.proofs.Common.{rules}
 
 -- ---- from one rest to another
 
@@ -132,25 +133,7 @@ module _ (s : State) (store : HasItsLengths s.store) (started : IsStarted1 s) wh
       → state (moment q w now b 0 place rest) (s.orders + k)
       ≡ rest1_at place (scratch w b) before (later k rest s)
   unfolding patched
-  shown k before rest w b now place next are =
-      let size = sym started.size in
-      let ds = patched_one false s.store.sandwich 0 b (omega (arith, store.sandwich)) in
-      λ j. record {
-        size = size j;
-        store = record {
-          words =
-              w.at0 ∷ w.at1 ∷ w.at2 ∷ w.at3 ∷ 2 ∷ 10 ∷ T_F ∷ 32768 ∷ 114688 ∷ 16416 ∷ 20481 ∷ 32772 ∷ 114692 ∷ 49162
-              ∷ 12330 ∷ 20486 ∷ 126978 ∷ 102416 ∷ 114692 ∷ 20482 ∷ 12310 ∷ 16392 ∷ 114690 ∷ 102401 ∷ 114688 ∷ next j
-              ∷ 114738 ∷ 114696 ∷ 28722 ∷ 49214 ∷ 110604 ∷ are j;
-          sandwich = ds j;
-        };
-        acc = 0;
-        multiplier = T_F * 2 ^ 18;
-        counter = place;
-        tape = rest;
-        last = s.last;
-        orders = s.orders + k;
-      }
+  shown k before rest w b now place next are = search (rules, patched_one)
 
   -- at the order that reads a row
   record Arrives (k : ℕ) (before : List Item1) (part : Option Begun1) (tape rest : List ℕ) : Type 0 where

@@ -16,6 +16,7 @@ use Rattle.ed_initial1.specs.Items.{item_digits}
 use Rattle.ed_initial1.proofs.Paths.{Working, Kept, cells, moment}
 use Rattle.ed_initial1.proofs.Rests.{third, thirds, written, final}
 use Rattle.ed_initial1.proofs.Walks.{state}
+use Rattle.std.proofs.Common.{rules}
 
 -- what the paths require of a store
 pub record HasItsLengths (c : Cells) : Type 0 where
@@ -112,26 +113,10 @@ state-closed {s} store started {e} {i} is rest first count =
     let ds = patched_one false s.store.sandwich 0 false (omega (arith, store.sandwich)) in
     let size = sym started.size in
     let f = final e 12300 (word1 i) i is in
-    λ k. record {
-      size = size k;
-      store = record { words = cells (record f { at3 = t k }) ++ d k; sandwich = ds k };
-      acc = 0;
-      multiplier = T_F * 2 ^ 18;
-      counter = 31;
-      tape = rest;
-      last = s.last;
-      orders = s.orders + (4 + costs1 (i ∷ is));
-    }
+    search (rules, cells)
 
 -- T e S with the accumulator 0 clears location e
 pub step-clears : (u : State) (e : ℕ) → u.size ≡ Full → u.acc ≡ 0 → next_word u ≡ T_F + 2 * e → e < 1024
     → (step u).state.store ≡ with_short u.store e 0
 unfolding step
-step-clears u e size acc word1 fits =
-    let function : function_of (T_F + 2 * e) ≡ 5 = omega arith in
-    let address : address_of (T_F + 2 * e) ≡ e = omega arith in
-    let short : is_long (T_F + 2 * e) ≡ false = (let even : (T_F + 2 * e) % 2 ≡ 0 = omega arith in rw even refl) in
-    let place : within u.size (address_of (T_F + 2 * e)) ≡ e =
-    ap (λ z. within z (address_of (T_F + 2 * e))) size ∙ ap (within Full) address ∙ within_below Full e fits in
-    ap (λ w. (obey_word (kind_of_function (function_of w)) w u).state.store) word1
-    ∙ rw (function, short, place, acc) refl
+step-clears u e size acc word1 fits = search (rules, within_below)

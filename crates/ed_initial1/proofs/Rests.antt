@@ -8,6 +8,7 @@ use Rattle.std.proofs.Common.{◌-◌}
 use Rattle.ed_initial1.proofs.Paths.{Walk, Walk-followed, stay, ToProgram, ToProgram-then, Working, Kept, moment}
 use Rattle.ed_initial1.proofs.Paths.{with_word, start_path, function_path, digit_path, ending_path, first_placed}
 use Rattle.ed_initial1.proofs.Paths.{Walk-placed, Walk-counted, goes_back, goes_on}
+use Rattle.std.proofs.Common.{rules}
 
 -- the rows of items with others after them
 abbrev pub tape_of : List Item1 → List ℕ → List ℕ
@@ -16,11 +17,7 @@ tape_of (i ∷ is) rest = i.begun.function ∷ (i.begun.digits ++ (ending_row i.
 
 pub tape_is : (is : List Item1) (rest : List ℕ) → spelled_rows1 is ++ rest ≡ tape_of is rest
 tape_is [] rest = refl
-tape_is (i ∷ is) rest =
-    let b = i.begun in
-    append_assoc (rows_of1 i) (spelled_rows1 is) rest
-    ∙ ap (λ x. b.function ∷ x) (append_assoc b.digits (ending_row i.long ∷ []) (spelled_rows1 is ++ rest))
-    ∙ ap (λ x. b.function ∷ (b.digits ++ (ending_row i.long ∷ x))) (tape_is is rest)
+tape_is (i ∷ is) rest = search (rules, append_assoc, tape_is is rest)
 
 -- what digit rows leave at 3
 abbrev pub third : ℕ → List ℕ → ℕ
@@ -62,10 +59,7 @@ final e y v i is = record {
 
 -- T e S as a word
 pub first_word : (e : ℕ) (i : Item1) → IsFirst e i → word1 i ≡ T_F + 2 * e
-first_word e i first =
-    let f = first.function in
-    let s = ap digit first.short in
-    omega (arith, first)
+first_word e i first = search rules
 
 module _ (q : Kept) where
   -- the digit rows of an item

@@ -7,6 +7,7 @@ use Rattle.ed_machine.proofs.Kit.Paths.{Path, stay as path_stays, on as path_on,
 use Rattle.ed_machine.proofs.Kit.Paths.{first_state}
 use Rattle.ed_initial1.specs.Load.{GoesOn1}
 use Rattle.ed_initial1.proofs.Paths.{piece, Walk, stay, on, ToProgram, ends}
+use Rattle.std.proofs.Common.{rules}
 
 -- the machine at a moment of a load, after k orders
 abbrev pub state : Moment → ℕ → State
@@ -20,12 +21,7 @@ path_of (on first away rest) = path_on first (path_of rest)
 -- each of its orders goes on
 pub quiet : {k : ℕ} {r t : Moment} → Walk k r t → (done : ℕ) → IsQuiet1 k (state r done)
 quiet stay done j h = absurd (omega arith)
-quiet (on {r = r} first away rest) done zero h =
-    subst GoesOn1 (sym (no_state (state r done)))
-    (record {
-      went = ap (λ (o : Obeyed). o.turn) (first.does done);
-      stays = ap (λ (o : Obeyed). at_31 o.state) (first.does done) ∙ away;
-    })
+quiet (on {r = r} first away rest) done zero h = search (rules, no_state)
 quiet (on {r = r} first away rest) done (suc j) h =
     subst GoesOn1 (sym (first_state j (state r done) ∙ ap (λ (o : Obeyed). state_after j o.state) (first.does done)))
     (quiet rest (done + 1) j (omega arith))

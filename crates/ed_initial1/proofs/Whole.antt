@@ -13,17 +13,12 @@ use Rattle.ed_initial1.proofs.Reading.{ReachesEntry1-programmed}
 use Rattle.ed_initial1.proofs.Rests.{tape_of, tape_is, written, final, whole_path, first_word}
 use Rattle.ed_initial1.proofs.Settled.{Entered-settled, state_after-comes}
 use Rattle.ed_initial1.proofs.Walks.{state, Reaches, reaches}
+use Rattle.std.proofs.Common.{rules}
 
 -- no tape costs more than 14 orders a row
 pub costs_fit : (is : List Item1) → costs1 is ≤ 14 * length (spelled_rows1 is)
 costs_fit [] = omega arith
-costs_fit (i ∷ is) =
-    omega (
-      arith,
-      costs_fit is,
-      length-append (rows_of1 i) (spelled_rows1 is),
-      length-append i.begun.digits (ending_row i.long ∷ []),
-    )
+costs_fit (i ∷ is) = search (rules, length-append, costs_fit is)
 
 -- the state at the entry of a tape's items
 abbrev entry_of : State → ℕ → List Item1 → List ℕ → State

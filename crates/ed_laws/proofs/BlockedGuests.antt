@@ -1,8 +1,8 @@
 -- A run that has a guest checked ends where the guest is blocked.
 use Rattle.ed_laws.proofs.Kit.{NoOrder, Turn, counted_after, Settings, ran_is, unwrap_or, Line, ap, arith, Bool, false}
-use Rattle.ed_laws.proofs.Kit.{length, List, None, rules, Some, subst, sym, ℕ, ◌+◌, ◌-◌, ◌<◌, ◌∙◌, ◌≡◌, ◌≤◌, Text}
-use Rattle.ed_laws.proofs.Kit.{paper, step, State, Progress, progress, state_after, end_by, RunEnd, entry_of, cost}
-use Rattle.ed_laws.proofs.Kit.{entry_note, Outcome, IsAcceptedAs, paper_room, ran_outcome, with_post_mortem, is_obeyed}
+use Rattle.ed_laws.proofs.Kit.{length, List, None, rules, Some, subst, sym, ℕ, ◌+◌, ◌-◌, ◌<◌, ◌∙◌, ◌≡◌, ◌≤◌, Text, step}
+use Rattle.ed_laws.proofs.Kit.{State, Progress, progress, state_after, end_by, RunEnd, entry_of, cost, entry_note}
+use Rattle.ed_laws.proofs.Kit.{IsAcceptedAs, paper_room, ran_outcome, with_post_mortem, is_obeyed}
 use Rattle.ed_laws.proofs.Kit.{each_answer_is_from_entry}
 use Rattle.ed_laws.proofs.Limits.{none_added}
 use Rattle.ed_sources.proofs.Kit.{guest, entry_state, AnswersFromEntry}

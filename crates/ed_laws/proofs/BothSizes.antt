@@ -1,12 +1,10 @@
 -- A run that stays in the first 512 locations is the same on both sizes of the store.
-use Rattle.ed_laws.proofs.Kit.{Size, Full, paper, Ending, Limit, Stopped, RunEnd, Settings, ran_ends, step, State}
-use Rattle.ed_laws.proofs.Kit.{progress, Progress, state_after, end_at, end_by, EndsAfter, run_end, run_orders}
-use Rattle.ed_laws.proofs.Kit.{first_state, Text, tape, [], ap, arith, Bool, false, if◌then◌else◌, length, List, nat_eq}
-use Rattle.ed_laws.proofs.Kit.{nat_le, nat_lt, Option, refl, Some, suc, true, ℕ, ◌++◌, ◌+◌, ◌<◌, ◌∙◌, ◌∷◌, ◌≡◌, ◌≤◌}
-use Rattle.ed_laws.proofs.Kit.{nat_tests, ending_line, paper_room, ran_outcome, status_of, with_post_mortem}
-use Rattle.ed_laws.proofs.Kit.{entered_before, zero, function_of, kind_of_function, next_word, obey_word, Obeyed}
-use Rattle.ed_laws.proofs.Kit.{codes_of, stops_of, Kind, ran_is, rules, common_steps}
-use Rattle.ed_answers.proofs.Kit.{post_mortem_codes}
+use Rattle.ed_laws.proofs.Kit.{Size, Full, Ending, RunEnd, Settings, ran_ends, step, State, progress, Progress}
+use Rattle.ed_laws.proofs.Kit.{state_after, end_at, end_by, EndsAfter, run_end, run_orders, first_state, Text, tape, []}
+use Rattle.ed_laws.proofs.Kit.{ap, arith, Bool, false, List, nat_lt, Option, refl, suc, true, ℕ, ◌+◌, ◌<◌, ◌∙◌, ◌∷◌}
+use Rattle.ed_laws.proofs.Kit.{◌≡◌, ◌≤◌, nat_tests, ending_line, paper_room, ran_outcome, with_post_mortem}
+use Rattle.ed_laws.proofs.Kit.{entered_before, zero, function_of, kind_of_function, next_word, obey_word, Obeyed, Kind}
+use Rattle.ed_laws.proofs.Kit.{ran_is, rules, common_steps, post_mortem_codes}
 use Rattle.ed_words.specs.declared.size.Size.TheVariants.{Small}
 use Rattle.ed_run.specs.declared.settings.Window.{Window}
 use Rattle.ed_machine.proofs.Names.{address_of, jump_order, place_of, row_order}

@@ -1,8 +1,6 @@
 -- A run doesn't depend on the count of orders: from a state with a greater count it is the same, with a greater count.
-use Rattle.ed_laws.proofs.Kit.{Kind, Obeyed, ap, Option, refl, rules, suc, ℕ, ◌++◌, ◌+◌, ◌∙◌, ◌≡◌, step, State}
-use Rattle.ed_laws.proofs.Kit.{Progress, progress, end_at, run_end, zero, stops_of, function_of, kind_of_function}
-use Rattle.ed_laws.proofs.Kit.{next_word, obey_word, codes_of, end_later}
-use Rattle.ed_machine.specs.Steps.{next_progress}
+use Rattle.ed_laws.proofs.Kit.{Kind, Obeyed, Option, refl, rules, suc, ℕ, ◌+◌, ◌≡◌, step, State, Progress, progress}
+use Rattle.ed_laws.proofs.Kit.{end_at, run_end, zero, function_of, kind_of_function, next_word, obey_word, end_later}
 
 -- a state with k more orders counted
 abbrev pub counted : ℕ → State → State

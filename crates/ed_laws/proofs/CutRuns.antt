@@ -4,9 +4,8 @@ use Rattle.ed_laws.proofs.Kit.{if◌then◌else◌, inl, List, refl, ℕ, ◌<�
 use Rattle.ed_laws.proofs.Kit.{run_end, RunEnd, first_state, entry_of, cost, tape, entry_note, first_state1, paper_room}
 use Rattle.ed_laws.proofs.Kit.{ran_outcome, with_post_mortem, entered_before, tape_outcome, is_obeyed}
 use Rattle.ed_laws.proofs.Kit.{each_answer_is_from_entry, limit_state, run_of, paper, ◌++◌, Ending, NoTape, Outcome}
-use Rattle.ed_laws.proofs.Kit.{status_of, ending_line, step}
+use Rattle.ed_laws.proofs.Kit.{status_of, ending_line, step, post_mortem_codes}
 use Rattle.ed_laws.specs.FirstEntry.{cost1}
-use Rattle.ed_answers.proofs.Kit.{post_mortem_codes}
 use Rattle.ed_machine.specs.declared.turn.Turn.TheVariants.{NoTape as HasNoTape}
 use Rattle.ed_run.proofs.Quiet.{no_tape_there}
 use Rattle.ed_laws.proofs.FirstEntries.{first_went, runs_from_31}
@@ -22,7 +21,7 @@ pub orders_done : (k : ℕ) (s : State) → AllWent k s → s.orders ≡ 0 → (
 orders_done k s went none =
     let count = counted_after k s (λ j less. ap is_obeyed (went j less)) in omega (arith, count, none)
 
--- what is told of its end, if it ends there, by its ending and the place of the counter
+-- the outcome of each of its endings, if it ends after k orders with the counter at the place
 module _ (limit resumes k place : ℕ) (s : State) (give : RunEnd → Outcome) (out : Text) (went : AllWent k s)
     (none : s.orders ≡ 0) (at : (state_after k s).counter ≡ place)
     (told : (e : Ending) → give (record { ending = e; state = state_after k s; codes = [] })

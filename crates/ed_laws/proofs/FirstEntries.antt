@@ -1,8 +1,7 @@
 -- The run of a tape without a fault for Initial Orders 1 is the run from the state at its entry.
-use Rattle.ed_laws.proofs.Kit.{AllWent, Full, paper, run_end, ran_later, ReachesEntry1, Tape, [], ap, arith, Bool, drop}
-use Rattle.ed_laws.proofs.Kit.{false, List, refl, replicate, ℕ, ◌-◌, ◌∙◌, first_state1, paper_room, ran_outcome}
+use Rattle.ed_laws.proofs.Kit.{AllWent, Full, ran_later, ReachesEntry1, Tape, List, refl, ℕ, first_state1}
 use Rattle.ed_answers.proofs.Kit.{length-append, length-drop, length-replicate}
-use Rattle.ed_initial1.proofs.Kit.{at_entry1, IsStarted1, first_orders}
+use Rattle.ed_initial1.proofs.Kit.{at_entry1, IsStarted1}
 use Rattle.ed_machine.specs.State.{cleared_state}
 use Rattle.ed_initial1.proofs.Opened.{HasItsLengths}
 use Rattle.ed_initial1.proofs.Settled.{state_after-comes, all_went}

@@ -1,19 +1,16 @@
 -- What `parts` reports first: the entry of a well-formed tape, or the fault of another one.
-use Rattle.ed_laws.proofs.Kit.{Limit, Settings, TapeCause, IsDirective, Arrived, Faulty, silent_outcome, StartsWith}
-use Rattle.ed_laws.proofs.Kit.{line, [], ap, append-nil, append_assoc, arith, codes, length, List, suc, sym, ℕ, ◌++◌}
-use Rattle.ed_laws.proofs.Kit.{◌+◌, ◌-◌, ◌<◌, ◌∙◌, ◌∷◌, ◌≡◌, ◌≤◌, Text, State, state_after, AllWent, TapeEntry}
-use Rattle.ed_laws.proofs.Kit.{first_state, Outcome, refusal, return_report, zero, opening, reading_is_rules, cut}
-use Rattle.ed_laws.proofs.Kit.{entry_report, faulty, finished, first_part, HasFault, LeadsTo, PartsReport, ReportsParts}
-use Rattle.ed_laws.proofs.Kit.{TapePart, at_after, IsInParts, report_outcome, limit_state}
-use Rattle.std.proofs.Common.{decimal}
+use Rattle.ed_laws.proofs.Kit.{Settings, TapeCause, IsDirective, Arrived, Faulty, silent_outcome, StartsWith, ap}
+use Rattle.ed_laws.proofs.Kit.{append-nil, append_assoc, arith, codes, length, List, suc, sym, ℕ, ◌++◌, ◌+◌, ◌-◌, ◌<◌}
+use Rattle.ed_laws.proofs.Kit.{◌∙◌, ◌≡◌, ◌≤◌, State, AllWent, TapeEntry, first_state, Outcome, refusal, zero, opening}
+use Rattle.ed_laws.proofs.Kit.{reading_is_rules, cut, entry_report, faulty, finished, first_part, HasFault, LeadsTo}
+use Rattle.ed_laws.proofs.Kit.{PartsReport, ReportsParts, TapePart, IsInParts, report_outcome, limit_state}
+use Rattle.std.proofs.Common.{rules}
 use Rattle.std.proofs.lemmas.Fmt.{decimal_digit}
 use Rattle.ed_notation.specs.Reading.{ReadingIsRules}
 use Rattle.ed_report.specs.Entries.{entry_line}
-use Rattle.ed_report.specs.Notes.{cause_text, part_line, rule_line}
-use Rattle.ed_interlude.specs.declared.tape.PartsEnd.TheVariants.{Ended}
+use Rattle.ed_report.specs.Notes.{rule_line}
 use Rattle.ed_laws.specs.TapeEntries.{PartsFromEntry}
 use Rattle.ed_laws.proofs.CutRuns.{limit_orders}
-use Rattle.std.proofs.Common.{rules}
 
 -- ---- the first part has one entry or one fault
 
@@ -27,16 +24,16 @@ module _ (s : State) where
   opens : IsDirective 20568
   opens = omega arith
 
-  reading_rules : ReadingIsRules s.size s.store.words (opening s.store.words) 9 s.tape
-  reading_rules = reading_is_rules s.size s.store.words (opening s.store.words) 9 s.tape opens
+  by_reading : ReadingIsRules s.size s.store.words (opening s.store.words) 9 s.tape
+  by_reading = reading_is_rules s.size s.store.words (opening s.store.words) 9 s.tape opens
 
   entry_once : (e f : TapeEntry) → LeadsTo (first_part s) e → LeadsTo (first_part s) f → e ≡ f
-  entry_once e f a b = same_entry (sym (reading_rules.arrived e a.well a.comes) ∙ reading_rules.arrived f b.well b.comes)
+  entry_once e f a b = same_entry (sym (by_reading.arrived e a.well a.comes) ∙ by_reading.arrived f b.well b.comes)
 
   fault_once : (row other : ℕ) (cause rule : TapeCause) → HasFault (first_part s) row cause
       → HasFault (first_part s) other rule
       → (row ≡ other) × (cause ≡ rule)
-  fault_once row other cause rule a b = same_fault (sym (reading_rules.found row cause a) ∙ reading_rules.found other rule b)
+  fault_once row other cause rule a b = same_fault (sym (by_reading.found row cause a) ∙ by_reading.found other rule b)
 
   not_both : (row : ℕ) (cause : TapeCause) (e : TapeEntry) → HasFault (first_part s) row cause
       → LeadsTo (first_part s) e → ⊥

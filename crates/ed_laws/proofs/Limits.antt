@@ -2,10 +2,9 @@
 use Rattle.ed_laws.proofs.Kit.{paper, RunEnd, Size, State, run_end, first_state, Text, tape, [], ap, append-nil}
 use Rattle.ed_laws.proofs.Kit.{append_assoc, List, None, Option, refl, sym, ℕ, ◌++◌, ◌∙◌, ◌∷◌, ◌≡◌, first_state1}
 use Rattle.ed_laws.proofs.Kit.{Outcome, paper_room, ran_outcome, status_of, with_post_mortem, entered_before}
-use Rattle.ed_laws.proofs.Kit.{paper_from, Shift, StartsWith}
-use Rattle.ed_answers.proofs.Kit.{post_mortem_codes}
+use Rattle.ed_laws.proofs.Kit.{paper_from, Shift, StartsWith, post_mortem_codes}
 use Rattle.ed_run.specs.declared.settings.Window.{Window}
-use Rattle.ed_printer.specs.Paper.{shift_after, struck_bytes}
+use Rattle.ed_printer.specs.Paper.{shift_after}
 use Rattle.ed_printer.specs.declared.printer.Shift.TheVariants.{Letters}
 use Rattle.ed_laws.specs.Limits.{EachLimit, KeepsLimits}
 use Rattle.ed_laws.proofs.TwoRuns.{limit_begins, limit_same}

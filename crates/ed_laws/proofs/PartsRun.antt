@@ -1,19 +1,17 @@
 -- With `tape`, a tape in parts is the run that ends as the parts do and prints what their programs print.
 use Rattle.ed_laws.proofs.Kit.{Ending, Limit, PaperFull, Stopped, Turn, few_codes, past_next, past_sum, Settings}
-use Rattle.ed_laws.proofs.Kit.{ran_is, length-append, lt-leb, [], ap, append-nil, arith, Bool, false, if◌then◌else◌}
-use Rattle.ed_laws.proofs.Kit.{inl, inr, length, List, nat_eq, nat_le, nat_lt, None, refl, rules, Some, subst, suc, sym}
-use Rattle.ed_laws.proofs.Kit.{true, ℕ, ◌++◌, ◌+◌, ◌-◌, ◌<◌, ◌∙◌, ◌≡◌, ◌≤◌, nat_tests, paper, step, State, Progress}
-use Rattle.ed_laws.proofs.Kit.{progress, state_after, end_at, end_by, EndsAfter, run_end, RunEnd, first_state}
-use Rattle.ed_laws.proofs.Kit.{paper_room, ran_outcome, first_within, zero, cases_lt, codes_of, end_status}
+use Rattle.ed_laws.proofs.Kit.{ran_is, length-append, lt-leb, ap, append-nil, arith, Bool, false, if◌then◌else◌, inl}
+use Rattle.ed_laws.proofs.Kit.{inr, length, List, nat_eq, nat_le, nat_lt, None, refl, rules, Some, subst, suc, sym}
+use Rattle.ed_laws.proofs.Kit.{true, ℕ, ◌++◌, ◌+◌, ◌-◌, ◌<◌, ◌∙◌, ◌≡◌, ◌≤◌, nat_tests, step, State, Progress, progress}
+use Rattle.ed_laws.proofs.Kit.{state_after, end_at, end_by, EndsAfter, run_end, first_state, paper_room, first_within}
+use Rattle.ed_laws.proofs.Kit.{zero, cases_lt, codes_of}
 use Rattle.std.proofs.Common.{take}
 use Rattle.std.proofs.Math.Seq.{take-append_seam}
 use Rattle.std.proofs.lemmas.Bool.{le-leb}
 use Rattle.ed_run.specs.Run.{prints}
 use Rattle.ed_run.proofs.Ends.{ends_at_limit}
 use Rattle.ed_interlude.specs.Laws.{EndsAsRun}
-use Rattle.ed_interlude.specs.declared.tape.PartsEnd.{PartsEnd}
 use Rattle.ed_interlude.proofs.Runs.{each_end}
-use Rattle.ed_top.specs.Parts.{end_note}
 use Rattle.ed_laws.specs.PartsRun.{EachTapeInPartsIsRun, EndsInParts, PartsAreRun, PartsFillPaper, printed_by, run_once}
 
 -- ---- on a paper that has room

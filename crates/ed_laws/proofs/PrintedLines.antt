@@ -2,14 +2,13 @@
 use Rattle.ed_laws.proofs.Kit.{slice_index, range_with_len, paper_from, Shift, length-append, unwrap_or, ◌%◌, ◌&&◌, ◌/◌}
 use Rattle.ed_laws.proofs.Kit.{and_parts, AreDigits, address_digits, is_even, length_code, number_in, printed_codes}
 use Rattle.ed_laws.proofs.Kit.{word_codes, [], ap, append_assoc, arith, Bool, codes, drop, false, get_or, if◌then◌else◌}
-use Rattle.ed_laws.proofs.Kit.{inl, inr, length, List, map, nat_eq, nat_le, nat_lt, refl, rules, Some, subst, suc, sym}
-use Rattle.ed_laws.proofs.Kit.{true, true≢false, ℕ, ◌++◌, ◌+◌, ◌<◌, ◌^◌, ◌∙◌, ◌∷◌, ◌≡◌, ◌≢◌, ◌≤◌, nat_tests, Text}
-use Rattle.ed_laws.proofs.Kit.{paper, slice_index_or, zero, cases_lt, ◌||◌}
+use Rattle.ed_laws.proofs.Kit.{inl, inr, List, map, nat_eq, nat_le, nat_lt, refl, rules, Some, subst, suc, sym, true}
+use Rattle.ed_laws.proofs.Kit.{true≢false, ℕ, ◌++◌, ◌+◌, ◌<◌, ◌^◌, ◌∙◌, ◌∷◌, ◌≡◌, ◌≤◌, nat_tests, Text, paper}
+use Rattle.ed_laws.proofs.Kit.{slice_index_or, zero, cases_lt, ◌||◌}
 use Rattle.std.proofs.Common.{position, flat_map}
 use Rattle.ed_printer.specs.Paper.{letters_printed, shift_after, struck_bytes}
 use Rattle.ed_printer.specs.declared.printer.Shift.TheVariants.{Letters, Figures}
 use Rattle.ed_printer.proofs.Silent.{eleven_silent, fifteen_silent}
-use Rattle.ed_postmortem.specs.Codes.{digits_before_units}
 use Rattle.ed_answers.specs.Runs.{post_mortem_codes}
 use Rattle.ed_laws.specs.PrintedLines.{EachLineIsOfItsWord, IsSameOnPaper, is_silent, printed_line}
 use Rattle.ed_laws.proofs.Limits.{after_others}

@@ -1,18 +1,17 @@
 -- The text that `punch` writes is short enough to be read.
-use Rattle.ed_laws.proofs.Kit.{Size, Item, length-append, ◌%◌, ◌&&◌, ◌*◌, ◌/◌, and_parts, rows_of, Line, on_line, []}
-use Rattle.ed_laws.proofs.Kit.{ap, append_assoc, arith, Bool, false, inl, inr, length, List, map, nat_eq, nat_le}
-use Rattle.ed_laws.proofs.Kit.{nat_lt, None, Option, refl, rules, Some, suc, sym, true, true≢false, ℕ, ◌++◌, ◌+◌, ◌-◌}
-use Rattle.ed_laws.proofs.Kit.{◌<◌, ◌^◌, ◌∙◌, ◌∷◌, ◌≡◌, ◌≤◌, ◌⊎◌, nat_tests, Text, IsAcceptedAs, punch_outcome, zero}
-use Rattle.ed_laws.proofs.Kit.{cases_lt, ◌||◌, common_steps}
+use Rattle.ed_laws.proofs.Kit.{Size, Item, length-append, ◌&&◌, ◌*◌, and_parts, rows_of, Line, on_line, [], ap}
+use Rattle.ed_laws.proofs.Kit.{append_assoc, arith, Bool, false, inl, inr, length, List, nat_le, nat_lt, None, Option}
+use Rattle.ed_laws.proofs.Kit.{refl, rules, Some, suc, sym, true, true≢false, ℕ, ◌++◌, ◌+◌, ◌-◌, ◌<◌, ◌∙◌, ◌∷◌, ◌≡◌}
+use Rattle.ed_laws.proofs.Kit.{◌≤◌, ◌⊎◌, nat_tests, Text, IsAcceptedAs, punch_outcome, zero, cases_lt, ◌||◌}
+use Rattle.ed_laws.proofs.Kit.{common_steps}
 use Rattle.std.proofs.Common.{min}
-use Rattle.ed_syntax.proofs.Kit.{leb-true, ltb-true, row_of, AreRowsOf, empty, enter, fetch, fetch_with, label}
-use Rattle.ed_syntax.proofs.Kit.{labelled, placed, segment, segment_at, SpellsForm, SpellsPlaced, SpellsStatement}
-use Rattle.ed_syntax.proofs.Kit.{statement, version, LinePart, and_more, LinesSay, no_more}
+use Rattle.ed_syntax.proofs.Kit.{leb-true, ltb-true, AreRowsOf, empty, enter, fetch, fetch_with, label, labelled}
+use Rattle.ed_syntax.proofs.Kit.{placed, segment, segment_at, SpellsForm, SpellsPlaced, SpellsStatement, statement}
+use Rattle.ed_syntax.proofs.Kit.{version, LinePart, and_more, LinesSay, no_more}
 use Rattle.ed_link.proofs.Kit.{lit≤, list_all, length-map, locations, locations_most, canonical, canonicals, line_from}
-use Rattle.ed_link.proofs.Kit.{entry, find, table_item, counter_after, IsLineAfter, after_statement, even_from}
-use Rattle.ed_link.proofs.Kit.{first_counter, routine_places, HasNoFault, data_after, end_place, first_place}
-use Rattle.ed_link.proofs.Kit.{long_words, operand_number, symbols_of, goes_by_theta, items_of, order_item}
-use Rattle.ed_link.proofs.Kit.{punched_from, punched_items, routine_items, use_items, word_item, after_text}
+use Rattle.ed_link.proofs.Kit.{entry, table_item, counter_after, IsLineAfter, after_statement, first_counter}
+use Rattle.ed_link.proofs.Kit.{routine_places, HasNoFault, data_after, end_place, first_place, symbols_of, items_of}
+use Rattle.ed_link.proofs.Kit.{punched_from, punched_items, routine_items, use_items, after_text}
 use Rattle.ed_words.specs.Words.{digit as one_if}
 use Rattle.ed_notation.specs.Spellings.{text_of}
 use Rattle.ed_syntax.specs.Forms.{data_rows as data_statement}
@@ -23,7 +22,6 @@ use Rattle.ed_syntax.specs.declared.program.Statement.TheVariants.{Segment, Orde
 use Rattle.ed_syntax.specs.declared.program.Statement.TheVariants.{Enter, Rows}
 use Rattle.ed_syntax.proofs.LineLaws.{few_bytes}
 use Rattle.ed_syntax.proofs.PlacedLaws.{is_short}
-use Rattle.ed_symbols.specs.Places.{segment_at as segment_of_counter}
 use Rattle.ed_symbols.specs.declared.location_counter.LocationCounter.{LocationCounter}
 use Rattle.ed_symbols.specs.declared.symbols.Definition.{Definition}
 use Rattle.ed_symbols.proofs.NameLaw.{spot_snoc}

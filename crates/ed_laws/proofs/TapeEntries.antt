@@ -4,7 +4,7 @@ use Rattle.ed_laws.proofs.Kit.{RowEffect, Ended, Entered, Longer, Placed, Refuse
 use Rattle.ed_laws.proofs.Kit.{NotationState, row_kind, IsDirective, Arrived, entry_by, Faulty, part_of, placed_by}
 use Rattle.ed_laws.proofs.Kit.{reading_on, row_effect, set_by, setting_of, Verdict, first_store, starts}
 use Rattle.ed_laws.proofs.Kit.{opening_notation, [], ap, arith, Bool, drop, false, get_or, inl, List, nat_lt, None}
-use Rattle.ed_laws.proofs.Kit.{Option, refl, rules, Some, sym, true, ℕ, ◌+◌, ◌-◌, ◌<◌, ◌∙◌, ◌∷◌, ◌≡◌, ◌≤◌, nat_tests}
+use Rattle.ed_laws.proofs.Kit.{Option, refl, rules, Some, sym, true, ℕ, ◌+◌, ◌-◌, ◌∙◌, ◌∷◌, ◌≡◌, ◌≤◌, nat_tests}
 use Rattle.ed_laws.proofs.Kit.{run_end, RunEnd, ran_later, TapeEntry, over, first_state, paper_room, ran_outcome}
 use Rattle.ed_laws.proofs.Kit.{with_post_mortem, opening, reading_is_rules, LeadsIn, first_part, LeadsTo}
 use Rattle.ed_initial.proofs.Kit.{set, value_of, ReachesEntry}

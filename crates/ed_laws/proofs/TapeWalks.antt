@@ -1,15 +1,13 @@
 -- A trace and a session reach the entry of a tape as its run does.
-use Rattle.ed_laws.proofs.Kit.{few_codes, Settings, le-ltb, lt-leb, ap, arith, length, List, None, refl, rules, sym, ℕ}
-use Rattle.ed_laws.proofs.Kit.{◌++◌, ◌+◌, ◌-◌, ◌<◌, ◌∙◌, ◌≡◌, ◌≤◌, State, progress, state_after, least_below, AllWent}
-use Rattle.ed_laws.proofs.Kit.{end_at, EndsAfter, run_end, run_orders, ran_ends, TapeEntry, first_state, ending_line}
-use Rattle.ed_laws.proofs.Kit.{status_of, move_end, first_once, after_sum, move_orders, trace_to, ne_eqb, LeadsIn}
-use Rattle.ed_laws.proofs.Kit.{letters_in, cases_lt, inl, inr, ◌⊎◌}
+use Rattle.ed_laws.proofs.Kit.{few_codes, Settings, le-ltb, lt-leb, ap, arith, List, None, rules, sym, ℕ, ◌+◌, ◌-◌, ◌<◌}
+use Rattle.ed_laws.proofs.Kit.{◌∙◌, ◌≡◌, ◌≤◌, State, progress, state_after, least_below, AllWent, end_at, EndsAfter}
+use Rattle.ed_laws.proofs.Kit.{run_end, run_orders, ran_ends, TapeEntry, first_state, ending_line, move_end, first_once}
+use Rattle.ed_laws.proofs.Kit.{after_sum, move_orders, trace_to, ne_eqb, LeadsIn, letters_in, cases_lt, inl, inr, ◌⊎◌}
 use Rattle.std.proofs.lemmas.Bool.{eq-eqb}
 use Rattle.ed_machine.proofs.LeastNumbers.{first_later}
 use Rattle.ed_machine.proofs.Steps.{no_step, quiet_stops}
 use Rattle.ed_run.proofs.Later.{past_on}
 use Rattle.ed_stepper.specs.MoveEnds.{Ends}
-use Rattle.ed_stepper.specs.Scripts.{move_line}
 use Rattle.ed_stepper.specs.declared.moves.MoveEnd.TheVariants.{Entered}
 use Rattle.ed_stepper.specs.declared.moves.MoveTarget.TheVariants.{Entry}
 use Rattle.ed_stepper.proofs.Founds.{end_found, orders_found}

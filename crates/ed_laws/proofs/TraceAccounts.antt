@@ -1,12 +1,12 @@
 -- The letters of a trace are the orders of its run, and its Zs are the stops.
 use Rattle.ed_laws.proofs.Kit.{filter-append, none-some, Kind, Ending, Limit, Stopped, Turn, counted_after, next_stops}
 use Rattle.ed_laws.proofs.Kit.{past_next, length-append, byte_of, [], ap, arith, Bool, false, if◌then◌else◌, length}
-use Rattle.ed_laws.proofs.Kit.{map, nat_eq, nat_le, nat_lt, None, Option, refl, rules, Some, subst, suc, sym, true, ℕ}
-use Rattle.ed_laws.proofs.Kit.{◌++◌, ◌+◌, ◌<◌, ◌∙◌, ◌∷◌, ◌≡◌, ◌≤◌, nat_tests, Text, step, State, Progress, progress}
-use Rattle.ed_laws.proofs.Kit.{state_after, end_by, run_end, run_orders, RunEnd, ran_ends, first_state, paper_room}
-use Rattle.ed_laws.proofs.Kit.{status_of, not, ◌==◌, AreObeyed, is_obeyed, functions_after, trace_to, zero, same_Some}
-use Rattle.ed_laws.proofs.Kit.{stops_of, function_of, kind_of_function, next_word, obey_word, letters_in, cases_lt, inl}
-use Rattle.ed_laws.proofs.Kit.{inr, end_at}
+use Rattle.ed_laws.proofs.Kit.{map, nat_eq, nat_le, nat_lt, None, Option, refl, rules, Some, suc, sym, true, ℕ, ◌++◌}
+use Rattle.ed_laws.proofs.Kit.{◌+◌, ◌<◌, ◌∙◌, ◌∷◌, ◌≡◌, ◌≤◌, nat_tests, Text, step, State, progress, state_after}
+use Rattle.ed_laws.proofs.Kit.{end_by, run_end, run_orders, RunEnd, ran_ends, first_state, paper_room, status_of, not}
+use Rattle.ed_laws.proofs.Kit.{◌==◌, AreObeyed, is_obeyed, functions_after, trace_to, zero, same_Some, stops_of}
+use Rattle.ed_laws.proofs.Kit.{function_of, kind_of_function, next_word, obey_word, letters_in, cases_lt, inl, inr}
+use Rattle.ed_laws.proofs.Kit.{end_at}
 use Rattle.std.proofs.lemmas.Bool.{lt-ltb}
 use Rattle.std.specs.List.{filter}
 use Rattle.ed_words.specs.Words.{digit as one_if}

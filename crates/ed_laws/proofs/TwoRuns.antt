@@ -2,7 +2,7 @@
 use Rattle.ed_laws.proofs.Kit.{Ending, Limit, Stopped, past_sum, ran_is, StartsWith, ap, arith, length, nat_le, None}
 use Rattle.ed_laws.proofs.Kit.{refl, rules, Some, sym, ℕ, ◌+◌, ◌-◌, ◌<◌, ◌∙◌, ◌≡◌, ◌≢◌, ◌≤◌, nat_tests, State, Progress}
 use Rattle.ed_laws.proofs.Kit.{progress, state_after, least_below, end_at, EndsAfter, run_end, run_orders, ran_ends}
-use Rattle.ed_laws.proofs.Kit.{is_some, first_once, first_within, ne_eqb, cases_lt, inl, inr, common_steps}
+use Rattle.ed_laws.proofs.Kit.{is_some, first_once, first_within, ne_eqb, common_steps}
 
 -- ---- whatever the limits, the resumes and the papers
 
@@ -78,7 +78,7 @@ module _ (limit resumes more room : ℕ) (s : State) (few : resumes ≤ more) wh
 
 -- ---- a greater limit
 
--- on papers of which neither is full, or both are, below the lower limit
+-- on two papers that are both full or both not full after each number of orders below the lower limit
 module _ (low high resumes room room_too : ℕ) (s : State) (fits : low ≤ high)
     (papers : (k : ℕ) → k < low
     → nat_le room_too (length (progress k s).codes) ≡ nat_le room (length (progress k s).codes)) where
