@@ -2,7 +2,7 @@
 use Rattle.ed_initial.proofs.Kit.{NoTape, Moment, cases_lt, IsStore, step, State, state_after, quiet_codes, opening, []}
 use Rattle.ed_initial.proofs.Kit.{ap, arith, inl, inr, length, List, None, Option, refl, Some, subst, sym, ℕ, ◌*◌, ◌++◌}
 use Rattle.ed_initial.proofs.Kit.{◌+◌, ◌≡◌, ◌≤◌, costs, NotationState, Begun, spelled_rows, IsStarted, EndsAs, IsQuiet}
-use Rattle.ed_initial.proofs.Kit.{Scratch, Loaded, Lost}
+use Rattle.ed_initial.proofs.Kit.{Scratch, Loaded, Lost, rules}
 use Rattle.ed_notation.specs.Beginnings.{part_cost, state_before, orders_before}
 use Rattle.ed_notation.specs.Faults.{IsPart, part_rows}
 use Rattle.ed_notation.proofs.Beginnings.{beginning_most, ended, fault_sound}
@@ -18,7 +18,6 @@ use Rattle.ed_initial.proofs.Paths.{state}
 use Rattle.ed_initial.proofs.Runs.{ends_there, exceeds_there}
 use Rattle.ed_initial.proofs.Settled.{no_end}
 use Rattle.ed_initial.proofs.Trips.{Trip, begins, by_path, Trip-further, whole_items}
-use Rattle.std.proofs.Common.{rules}
 
 module _ (s : State) (store : IsStore s.store) (started : IsStarted s) where
   abbrev ws : List ℕ

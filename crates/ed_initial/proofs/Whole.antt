@@ -1,7 +1,7 @@
 -- The loading theorem: a load of a well-formed tape ends at its entry, at its cost, in the state at the entry.
 use Rattle.ed_initial.proofs.Kit.{common_steps, rules, Went, IsStore, Obeyed, step, State, progress, state_after}
-use Rattle.ed_initial.proofs.Kit.{opening, ap, arith, length, List, suc, ℕ, ◌*◌, ◌+◌, ◌∙◌, ◌≡◌, ◌≤◌, TapeEntry}
-use Rattle.ed_initial.proofs.Kit.{WellFormed, NotationState, at_entry, IsStarted, ReachesEntry, EndsAs, Loaded}
+use Rattle.ed_initial.proofs.Kit.{opening, ap, arith, length, List, suc, ℕ, ◌*◌, ◌+◌, ◌≡◌, ◌≤◌, TapeEntry, WellFormed}
+use Rattle.ed_initial.proofs.Kit.{NotationState, at_entry, IsStarted, ReachesEntry, EndsAs, Loaded}
 use Rattle.ed_notation.specs.Faults.{RowsReachEntry}
 use Rattle.ed_notation.proofs.Costs.{cost-most}
 use Rattle.ed_initial.specs.Entry.{IsLoaded}

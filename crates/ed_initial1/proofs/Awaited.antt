@@ -1,10 +1,9 @@
 -- A started machine waits for each row of its tape that is read.
 use Rattle.ed_initial1.proofs.Kit.{drop-cons, T_F, short, T_top, leads, own, patched_one, [], ap, arith, Bool, drop}
-use Rattle.ed_initial1.proofs.Kit.{false, get_or, length, List, lit≤, None, Option, refl, set, Some, subst, sym, ℕ}
-use Rattle.ed_initial1.proofs.Kit.{◌*◌, ◌++◌, ◌+◌, ◌/◌, ◌<◌, ◌^◌, ◌∙◌, ◌∷◌, ◌≡◌, ◌≤◌, step, State, progress}
-use Rattle.ed_initial1.proofs.Kit.{state_after, Moment, patched, digits_number, IsStarted1, IsLoading, IsPart1}
-use Rattle.ed_initial1.proofs.Kit.{part_rows1, AreItems, Begun1, costs1, Item1, item_number, last_of, word1, words}
-use Rattle.ed_initial1.proofs.Kit.{IsQuiet1}
+use Rattle.ed_initial1.proofs.Kit.{false, get_or, length, List, lit≤, None, Option, refl, set, Some, subst, sym, ℕ, ◌*◌}
+use Rattle.ed_initial1.proofs.Kit.{◌++◌, ◌+◌, ◌/◌, ◌<◌, ◌^◌, ◌∙◌, ◌∷◌, ◌≡◌, ◌≤◌, step, State, progress, state_after}
+use Rattle.ed_initial1.proofs.Kit.{Moment, patched, digits_number, IsStarted1, IsLoading, IsPart1, part_rows1, AreItems}
+use Rattle.ed_initial1.proofs.Kit.{Begun1, costs1, Item1, item_number, last_of, word1, words, IsQuiet1, rules}
 use Rattle.ed_machine.specs.declared.turn.Turn.TheVariants.{NoTape}
 use Rattle.ed_initial.specs.Walks.{later}
 use Rattle.ed_initial1.specs.Waits.{RestsAfter1, Scratch1, AwaitsRow1, WaitsForRows1, part_cost1, orders_before1}
@@ -15,7 +14,6 @@ use Rattle.ed_initial1.proofs.Paths.{first_placed, Walk-placed}
 use Rattle.ed_initial1.proofs.Rests.{tape_of, tape_is, third, written, left, head_cost, first_word, digit_walk}
 use Rattle.ed_initial1.proofs.Rests.{head_walk, back_tail, to_come}
 use Rattle.ed_initial1.proofs.Walks.{state, path_of, quiet}
-use Rattle.std.proofs.Common.{rules}
 
 -- ---- from one rest to another
 

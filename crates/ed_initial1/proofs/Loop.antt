@@ -1,12 +1,12 @@
 -- What the loop of the check keeps, and what each row does to it.
 use Rattle.ed_initial1.proofs.Kit.{ne_eqb, length-append, number_more, [], ap, arith, Bool, drop, get_or, if◌then◌else◌}
-use Rattle.ed_initial1.proofs.Kit.{length, List, lit≤, nat_eq, None, Option, refl, Some, subst, suc, sym, ℕ, ◌%◌, ◌*◌}
-use Rattle.ed_initial1.proofs.Kit.{◌++◌, ◌+◌, ◌<◌, ◌^◌, ◌∙◌, ◌∷◌, ◌≡◌, ◌≤◌, digit, digits_number, is_none, IsFault1}
+use Rattle.ed_initial1.proofs.Kit.{length, List, lit≤, nat_eq, None, Option, refl, Some, subst, sym, ℕ, ◌%◌, ◌*◌, ◌++◌}
+use Rattle.ed_initial1.proofs.Kit.{◌+◌, ◌<◌, ◌^◌, ◌∙◌, ◌∷◌, ◌≡◌, ◌≤◌, digit, digits_number, is_none, IsFault1}
 use Rattle.ed_initial1.proofs.Kit.{ReachesEntry1, Tape, Begun1, costs1, ending_row, Item1, spelled_rows1, word1, words}
 use Rattle.ed_initial1.proofs.Kit.{row_effect1, Tape1Cause, EndOfTape, PartialItem1, RowEffect1, Ended, Longer, Refused}
+use Rattle.ed_initial1.proofs.Kit.{rules}
 use Rattle.std.proofs.Common.{◌≢◌}
 use Rattle.std.proofs.Math.ListN.{drop_of_length-le}
-use Rattle.std.proofs.lemmas.Option.{same_Some}
 use Rattle.ed_notation.proofs.Loop.{next_row}
 use Rattle.ed_initial1.specs.Checks.{Accepts1}
 use Rattle.ed_initial1.specs.Items.{cost_of1}
@@ -16,7 +16,6 @@ use Rattle.ed_initial1.proofs.Reading.{taken_means, item_more, begins_more, item
 use Rattle.ed_initial1.proofs.Reading.{Here-longer, Here-ended}
 use Rattle.ed_initial1.proofs.Unique.{no_fault, fault_of}
 use Rattle.ed_initial1.proofs.Whole.{costs_fit}
-use Rattle.std.proofs.Common.{rules}
 
 -- the orders of a part of an item
 abbrev part_cost : Option Begun1 → ℕ

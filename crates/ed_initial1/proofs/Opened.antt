@@ -1,10 +1,9 @@
 -- The state in which a load begins and the state at the entry, as the paths see them.
 use Rattle.ed_initial1.proofs.Kit.{drop-cons, T_F, Full, with_short, patched_one, length-append, [], ap, arith, drop}
-use Rattle.ed_initial1.proofs.Kit.{false, get_or, length, List, refl, suc, sym, ℕ, ◌%◌, ◌*◌, ◌++◌, ◌+◌, ◌<◌, ◌^◌, ◌∙◌}
-use Rattle.ed_initial1.proofs.Kit.{◌∷◌, ◌≡◌, ◌≤◌, step, State, Moment, patched, digits_number, at_entry1, IsStarted1}
-use Rattle.ed_initial1.proofs.Kit.{costs1, IsFirst, Item1, item_number, last_of, word1, words, first_orders}
-use Rattle.ed_machine.proofs.Names.{within, address_of, function_of, is_long, Cells, kind_of_function, next_word}
-use Rattle.ed_machine.proofs.Names.{obey_word}
+use Rattle.ed_initial1.proofs.Kit.{false, get_or, length, List, refl, suc, sym, ℕ, ◌*◌, ◌++◌, ◌+◌, ◌<◌, ◌∙◌, ◌∷◌, ◌≡◌}
+use Rattle.ed_initial1.proofs.Kit.{◌≤◌, step, State, Moment, patched, digits_number, at_entry1, IsStarted1, costs1}
+use Rattle.ed_initial1.proofs.Kit.{IsFirst, Item1, item_number, last_of, word1, words, first_orders, rules}
+use Rattle.ed_machine.proofs.Names.{Cells, next_word}
 use Rattle.std.proofs.Common.{length-take, take}
 use Rattle.std.proofs.lemmas.List.{drop_at, set-get_or}
 use Rattle.ed_notation.proofs.Kit.{over}
@@ -16,7 +15,6 @@ use Rattle.ed_initial1.specs.Items.{item_digits}
 use Rattle.ed_initial1.proofs.Paths.{Working, Kept, cells, moment}
 use Rattle.ed_initial1.proofs.Rests.{third, thirds, written, final}
 use Rattle.ed_initial1.proofs.Walks.{state}
-use Rattle.std.proofs.Common.{rules}
 
 -- what the paths require of a store
 pub record HasItsLengths (c : Cells) : Type 0 where

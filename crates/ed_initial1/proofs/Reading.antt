@@ -1,15 +1,13 @@
 -- The reading of a tape row by row, and that it finds the one fault that the rules give, or the one program.
 use Rattle.ed_initial1.proofs.Kit.{append-nil, append_assoc, length-append, eqb-true, digits_more, number_more, [], ap}
-use Rattle.ed_initial1.proofs.Kit.{arith, Bool, false, if◌then◌else◌, length, List, lit≤, nat_eq, nat_lt, None, not}
-use Rattle.ed_initial1.proofs.Kit.{Option, refl, Some, sym, true, ℕ, ◌*◌, ◌++◌, ◌+◌, ◌<◌, ◌∙◌, ◌∷◌, ◌≡◌, ◌≤◌, and_parts}
-use Rattle.ed_initial1.proofs.Kit.{digits_number, BeginsWith, breaks1, Breaks1, ends1, is_broken1, is_first, is_none}
-use Rattle.ed_initial1.proofs.Kit.{IsLoading, IsPart1, part_rows1, ReachesEntry1, Tape, WellFormed1, AreItems, Begun1}
-use Rattle.ed_initial1.proofs.Kit.{begun_rows1, ending_row, IsBegun1, IsFirst, Item1, item_number, rows_of1}
-use Rattle.ed_initial1.proofs.Kit.{spelled_rows1, row_effect1, Tape1Cause, BadRow, EndOfTape, FirstWord, PartialItem1}
-use Rattle.ed_initial1.proofs.Kit.{RowEffect1, Ended, Longer, Refused}
-use Rattle.ed_notation.proofs.Kit.{nat_le, eqb-false, leb-true, ltb-false, ltb-true, if_means}
+use Rattle.ed_initial1.proofs.Kit.{arith, Bool, if◌then◌else◌, length, List, lit≤, nat_eq, nat_lt, None, Option, refl}
+use Rattle.ed_initial1.proofs.Kit.{Some, true, ℕ, ◌*◌, ◌++◌, ◌+◌, ◌<◌, ◌∷◌, ◌≡◌, ◌≤◌, digits_number, BeginsWith}
+use Rattle.ed_initial1.proofs.Kit.{breaks1, Breaks1, is_broken1, is_first, is_none, IsLoading, IsPart1, part_rows1}
+use Rattle.ed_initial1.proofs.Kit.{ReachesEntry1, Tape, WellFormed1, AreItems, Begun1, ending_row, IsBegun1, IsFirst}
+use Rattle.ed_initial1.proofs.Kit.{Item1, item_number, rows_of1, spelled_rows1, row_effect1, Tape1Cause, BadRow}
+use Rattle.ed_initial1.proofs.Kit.{EndOfTape, PartialItem1, RowEffect1, Ended, Longer, Refused, rules}
+use Rattle.ed_notation.proofs.Kit.{eqb-false, leb-true, ltb-false, ltb-true, if_means}
 use Rattle.ed_initial1.specs.Reading.{end_effect1}
-use Rattle.std.proofs.Common.{rules}
 
 -- an item so far, as the plain program has it
 abbrev pub part_of : Begun1 → PartialItem1

@@ -1,14 +1,13 @@
 -- The induction over the items of a tape, between the rests at 6 and 11: from the first of the 31 orders to the
 -- program.
-use Rattle.ed_initial1.proofs.Kit.{T_F, short, append_assoc, AreDigits, number_le, [], ap, arith, Bool, false, length}
-use Rattle.ed_initial1.proofs.Kit.{List, lit<, lit≤, refl, set, suc, ℕ, ◌*◌, ◌++◌, ◌+◌, ◌<◌, ◌^◌, ◌∙◌, ◌∷◌, ◌≡◌, ◌≤◌}
-use Rattle.ed_initial1.proofs.Kit.{digit, digits_number, AreItems, costs1, ending_row, IsBegun1, IsFirst, Item1}
-use Rattle.ed_initial1.proofs.Kit.{item_number, last_of, rows_of1, spelled_rows1, word1, words}
+use Rattle.ed_initial1.proofs.Kit.{T_F, short, append_assoc, AreDigits, number_le, [], arith, Bool, false, length, List}
+use Rattle.ed_initial1.proofs.Kit.{lit<, lit≤, refl, set, suc, ℕ, ◌*◌, ◌++◌, ◌+◌, ◌<◌, ◌^◌, ◌∷◌, ◌≡◌, ◌≤◌}
+use Rattle.ed_initial1.proofs.Kit.{digits_number, AreItems, costs1, ending_row, IsBegun1, IsFirst, Item1, item_number}
+use Rattle.ed_initial1.proofs.Kit.{last_of, spelled_rows1, word1, words, rules}
 use Rattle.std.proofs.Common.{◌-◌}
 use Rattle.ed_initial1.proofs.Paths.{Walk, Walk-followed, stay, ToProgram, ToProgram-then, Working, Kept, moment}
 use Rattle.ed_initial1.proofs.Paths.{with_word, start_path, function_path, digit_path, ending_path, first_placed}
 use Rattle.ed_initial1.proofs.Paths.{Walk-placed, Walk-counted, goes_back, goes_on}
-use Rattle.std.proofs.Common.{rules}
 
 -- the rows of items with others after them
 abbrev pub tape_of : List Item1 → List ℕ → List ℕ

@@ -1,11 +1,8 @@
 -- A load whose orders lead to 31 ends there: it ends in no other way.
-use Rattle.ed_initial1.proofs.Kit.{Went, ap, arith, inl, inr, refl, subst, sym, ℕ, ◌<◌, ◌∙◌, ◌≡◌, ◌≤◌, Obeyed, step}
-use Rattle.ed_initial1.proofs.Kit.{State, progress, state_after, EndsAs1, Loaded1, Entered}
-use Rattle.std.proofs.lemmas.Bool.{cases_lt}
-use Rattle.ed_initial.specs.Load.{Enters}
+use Rattle.ed_initial1.proofs.Kit.{Went, ap, arith, ℕ, ◌<◌, ◌∙◌, ◌≡◌, ◌≤◌, Obeyed, step, State, progress, state_after}
+use Rattle.ed_initial1.proofs.Kit.{EndsAs1, Loaded1, Entered, rules}
 use Rattle.ed_initial.proofs.Runs.{ends_there}
 use Rattle.ed_initial1.proofs.Walks.{Reaches}
-use Rattle.std.proofs.Common.{rules}
 
 module _ (s t : State) (k : ℕ) (r : Reaches k s t) where
   abbrev m : ℕ

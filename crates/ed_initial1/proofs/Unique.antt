@@ -2,20 +2,19 @@
 -- program.
 use Rattle.ed_initial1.proofs.Kit.{eq-eqb, ne_eqb, append-nil, append_assoc, length-append, eqb-true, AreDigits}
 use Rattle.ed_initial1.proofs.Kit.{number_le, number_more, [], ap, arith, Bool, false, if◌then◌else◌, inl, inr, length}
-use Rattle.ed_initial1.proofs.Kit.{List, nat_eq, nat_lt, None, not, Option, refl, Some, suc, sym, true, ℕ, ◌*◌, ◌++◌}
-use Rattle.ed_initial1.proofs.Kit.{◌+◌, ◌<◌, ◌∙◌, ◌∷◌, ◌≡◌, ◌≤◌, and_parts, digits_number, BeginsWith, breaks1, Breaks1}
-use Rattle.ed_initial1.proofs.Kit.{ends1, is_broken1, is_first, is_none, IsFault1, IsLoading, IsPart1, part_rows1}
-use Rattle.ed_initial1.proofs.Kit.{ReachesEntry1, Tape, WellFormed1, AreItems, Begun1, begun_rows1, ending_row}
-use Rattle.ed_initial1.proofs.Kit.{IsBegun1, IsFirst, Item1, item_number, rows_of1, spelled_rows1, row_effect1}
-use Rattle.ed_initial1.proofs.Kit.{Tape1Cause, BadRow, EndOfTape, FirstWord, Ended, Longer, Refused}
-use Rattle.ed_notation.proofs.Kit.{◌&&◌, ◌⊎◌, le-leb, le-ltb, lt-ltb}
+use Rattle.ed_initial1.proofs.Kit.{List, nat_lt, None, Option, refl, Some, suc, sym, true, ℕ, ◌*◌, ◌++◌, ◌+◌, ◌<◌, ◌∙◌}
+use Rattle.ed_initial1.proofs.Kit.{◌∷◌, ◌≡◌, ◌≤◌, and_parts, digits_number, BeginsWith, breaks1, Breaks1, is_broken1}
+use Rattle.ed_initial1.proofs.Kit.{is_first, is_none, IsFault1, IsLoading, IsPart1, part_rows1, ReachesEntry1, Tape}
+use Rattle.ed_initial1.proofs.Kit.{WellFormed1, AreItems, Begun1, begun_rows1, ending_row, IsBegun1, IsFirst, Item1}
+use Rattle.ed_initial1.proofs.Kit.{rows_of1, spelled_rows1, row_effect1, Tape1Cause, BadRow, EndOfTape, FirstWord}
+use Rattle.ed_initial1.proofs.Kit.{Ended, Longer, Refused, rules}
+use Rattle.ed_notation.proofs.Kit.{◌⊎◌, le-leb, le-ltb, lt-ltb}
 use Rattle.std.proofs.lemmas.Bool.{not-true}
 use Rattle.ed_initial1.specs.Checks.{EachTapeHasOneVerdict}
 use Rattle.ed_initial1.specs.Faults.{rule}
 use Rattle.ed_initial1.specs.declared.cause.Tape1Cause.TheVariants.{NumberTooLarge}
 use Rattle.ed_initial1.proofs.Reading.{Verdict, Faulty, Whole, Holds, Holds-right, read, verdict, follow, part_of}
-use Rattle.ed_initial1.proofs.Reading.{longer, began, end_of, reaches_end, FirstFits}
-use Rattle.std.proofs.Common.{rules}
+use Rattle.ed_initial1.proofs.Reading.{longer, end_of, reaches_end, FirstFits}
 
 digit_effect : (before : List Item1) (b : Begun1) (c : ℕ) → c < 10 → 10 * digits_number 0 b.digits + c ≤ 32767
     → row_effect1 (is_none before) (part_of b) c ≡ Longer (10 * digits_number 0 b.digits + c)

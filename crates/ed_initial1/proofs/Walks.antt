@@ -1,13 +1,12 @@
 -- From the walks of the listing to steps of the machine.
 use Rattle.ed_initial1.proofs.Kit.{Went, leads, [], ap, arith, refl, subst, suc, sym, true, ℕ, ◌+◌, ◌∙◌, ◌≡◌, Obeyed}
-use Rattle.ed_initial1.proofs.Kit.{step, State, progress, state_after, Moment, at_31, IsQuiet1}
+use Rattle.ed_initial1.proofs.Kit.{step, State, progress, state_after, Moment, at_31, IsQuiet1, rules}
 use Rattle.std.proofs.Common.{zero}
 use Rattle.ed_machine.proofs.Kit.Frames.{state as piece_state}
 use Rattle.ed_machine.proofs.Kit.Paths.{Path, stay as path_stays, on as path_on, followed as paths_followed, no_state}
 use Rattle.ed_machine.proofs.Kit.Paths.{first_state}
 use Rattle.ed_initial1.specs.Load.{GoesOn1}
 use Rattle.ed_initial1.proofs.Paths.{piece, Walk, stay, on, ToProgram, ends}
-use Rattle.std.proofs.Common.{rules}
 
 -- the machine at a moment of a load, after k orders
 abbrev pub state : Moment → ℕ → State

@@ -2,8 +2,8 @@
 -- at the entry.
 use Rattle.ed_initial1.proofs.Kit.{with_short, length-append, [], ap, arith, false, length, List, refl, subst, sym, ℕ}
 use Rattle.ed_initial1.proofs.Kit.{◌*◌, ◌++◌, ◌+◌, ◌∙◌, ◌∷◌, ◌≡◌, ◌≤◌, step, State, state_after, at_entry1, IsStarted1}
-use Rattle.ed_initial1.proofs.Kit.{BeginsWith, ReachesEntry1, Tape, WellFormed1, AreItems, costs1, ending_row, Item1}
-use Rattle.ed_initial1.proofs.Kit.{rows_of1, spelled_rows1, word1, words, EndsAs1, Loaded1}
+use Rattle.ed_initial1.proofs.Kit.{BeginsWith, ReachesEntry1, Tape, WellFormed1, AreItems, costs1, Item1, spelled_rows1}
+use Rattle.ed_initial1.proofs.Kit.{word1, words, EndsAs1, Loaded1, rules}
 use Rattle.ed_store.specs.Cells.{IsStore}
 use Rattle.ed_initial1.specs.Entry.{IsLoaded1}
 use Rattle.ed_initial1.specs.Load.{orders_of1}
@@ -13,7 +13,6 @@ use Rattle.ed_initial1.proofs.Reading.{ReachesEntry1-programmed}
 use Rattle.ed_initial1.proofs.Rests.{tape_of, tape_is, written, final, whole_path, first_word}
 use Rattle.ed_initial1.proofs.Settled.{Entered-settled, state_after-comes}
 use Rattle.ed_initial1.proofs.Walks.{state, Reaches, reaches}
-use Rattle.std.proofs.Common.{rules}
 
 -- no tape costs more than 14 orders a row
 pub costs_fit : (is : List Item1) → costs1 is ≤ 14 * length (spelled_rows1 is)
