@@ -1,6 +1,6 @@
 -- What k orders of the machine do: where they lead, what they print, and how many of them are stops.
-use Rattle.ed_checker.proofs.Kit.{Turn, [], ap, arith, inl, inr, List, refl, rules, subst, sym, true, ℕ, ◌++◌, ◌+◌}
-use Rattle.ed_checker.proofs.Kit.{◌-◌, ◌<◌, ◌∙◌, ◌≡◌, ◌≤◌, ◌⊎◌, cases_lt, step, State, codes_of, is_obeyed, progress}
+use Rattle.ed_checker.proofs.Kit.{Turn, [], ap, arith, inl, inr, List, refl, rules, subst, sym, true, ℕ, ◌++◌, ◌+◌, ◌-◌}
+use Rattle.ed_checker.proofs.Kit.{◌<◌, ◌∙◌, ◌≡◌, ◌≤◌, ◌⊎◌, cases_lt, step, State, codes_of, is_obeyed, progress}
 use Rattle.ed_checker.proofs.Kit.{Progress, state_after, stops_of, HasRun}
 use Rattle.ed_machine.proofs.Kit.Leads.{Leads, free, no_stops}
 use Rattle.ed_machine.proofs.Steps.{past_after, past_sum, after_sum}

@@ -14,9 +14,9 @@ pub use Rattle.ed_machine.proofs.Kit.Sums.{parted}
 pub use Rattle.ed_machine.proofs.Kit.Window.{get_own}
 pub use Rattle.ed_machine.proofs.Names.{[], ap, arith, Bool, false, get_or, inl, inr, length, List, lit<, nat_eq}
 pub use Rattle.ed_machine.proofs.Names.{nat_lt, None, Option, refl, rules, Some, subst, suc, sym, true, true≢false}
-pub use Rattle.ed_machine.proofs.Names.{zero, ℕ, ◌%◌, ◌&&◌, ◌*◌, ◌++◌, ◌+◌, ◌-◌, ◌/◌, ◌<◌, ◌^◌, ◌∙◌, ◌∷◌, ◌≡◌, ◌≤◌}
-pub use Rattle.ed_machine.proofs.Names.{◌⊎◌, and_parts, cases_lt, nat_tests, locations, within, address_of}
-pub use Rattle.ed_machine.proofs.Names.{function_of, locations_most, IsStore, kind_of_function, after, done_at, jump_order}
+pub use Rattle.ed_machine.proofs.Names.{zero, ℕ, ◌%◌, ◌&&◌, ◌*◌, ◌++◌, ◌+◌, ◌-◌, ◌/◌, ◌<◌, ◌^◌, ◌∙◌, ◌∷◌, ◌≡◌, ◌≤◌, ◌⊎◌}
+pub use Rattle.ed_machine.proofs.Names.{and_parts, cases_lt, nat_tests, locations, within, address_of, function_of}
+pub use Rattle.ed_machine.proofs.Names.{locations_most, IsStore, kind_of_function, after, done_at, jump_order}
 pub use Rattle.ed_machine.proofs.Names.{next_word, obey_word, Obeyed, place_of, row_order, State, codes_of, is_obeyed}
 pub use Rattle.ed_machine.proofs.Names.{Progress, state_after, stops_of}
 unfoldable pub use Rattle.ed_machine.proofs.Names.{step, progress}

@@ -1,8 +1,8 @@
 -- A machine that has the routine, as a state of its paths, and back.
 use Rattle.ed_checker.proofs.Kit.{A_F, long_at, pair, parted, get_own, [], ap, arith, false, get_or, inr, length, List}
 use Rattle.ed_checker.proofs.Kit.{lit<, None, Option, refl, rules, sym, ℕ, ◌%◌, ◌*◌, ◌+◌, ◌-◌, ◌/◌, ◌<◌, ◌∙◌, ◌∷◌, ◌≡◌}
-use Rattle.ed_checker.proofs.Kit.{◌≤◌, locations, address_of, locations_most, IsStore, State, lit≤, short_at, Frame, Moment}
-use Rattle.ed_checker.proofs.Kit.{state, CheckerStands, guest, IsOutsideChecker}
+use Rattle.ed_checker.proofs.Kit.{◌≤◌, locations, address_of, locations_most, IsStore, State, lit≤, short_at, Frame}
+use Rattle.ed_checker.proofs.Kit.{Moment, state, CheckerStands, guest, IsOutsideChecker}
 use Rattle.ed_routines.proofs.Kit.{Holds, length_patched, patched, with_h, IsOther}
 use Rattle.ed_machine.proofs.Kit.Places.{reads}
 use Rattle.ed_machine.proofs.Kit.Standing.{filled, opens}
@@ -104,8 +104,7 @@ module _ (f : Frame 66 30) (even : f.base % 2 ≡ 0) (o : Around) (w : Work) whe
   first_word : short_at the_state.store f.base ≡ w.at0
   first_word =
       let z : f.base ≡ f.base + 0 = omega arith in
-      ap (λ x. get_or (patched 0 o.words f.base (cells f.base w)) x 0) z
-      ∙ get_own 0 o.words f.base (cells f.base w) 0 (lit< tt)
+      search (rules, cells, get_own, lit<)
 
   high_is : long_at the_state.store (f.base + 60) ≡ w.high
   high_is = reads f the_moment (pair 60 0 even) refl refl ∙ parted w.high

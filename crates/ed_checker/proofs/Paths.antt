@@ -1,8 +1,7 @@
 -- The routine's paths: it fetches the guest's order, tests it, restores and saves the 71 digits, and advances the
 -- guest's counter.
-use Rattle.ed_checker.proofs.Kit.{A_F, L_F, followed, pair, parted, [], arith, Bool, get_or, List, lit<, nat_eq}
-use Rattle.ed_checker.proofs.Kit.{Option, refl, Some, ℕ, ◌%◌, ◌*◌, ◌+◌, ◌-◌, ◌/◌, ◌<◌, ◌^◌, ◌∷◌, ◌≡◌, ◌≤◌, Frame}
-use Rattle.ed_checker.proofs.Kit.{Moment, Path}
+use Rattle.ed_checker.proofs.Kit.{A_F, L_F, followed, pair, parted, [], arith, Bool, get_or, List, lit<, nat_eq, Option}
+use Rattle.ed_checker.proofs.Kit.{refl, Some, ℕ, ◌%◌, ◌*◌, ◌+◌, ◌-◌, ◌/◌, ◌<◌, ◌^◌, ◌∷◌, ◌≡◌, ◌≤◌, Frame, Moment, Path}
 use Rattle.ed_routines.proofs.Kit.{A, E_jumps, G_jumps, L, S, on, prints, stay, out, own}
 use Rattle.ed_words.specs.declared.order_words.TheConstants.{A_D, E_F, G_F, O_F, R_F, S_D, S_F, T_D, T_F, U_D, U_F}
 use Rattle.ed_machine.proofs.Kit.Moves.{T_top, U_top, R, E_stays, G_stays, O}

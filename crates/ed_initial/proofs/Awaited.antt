@@ -2,7 +2,7 @@
 use Rattle.ed_initial.proofs.Kit.{NoTape, Moment, cases_lt, IsStore, step, State, state_after, quiet_codes, opening, []}
 use Rattle.ed_initial.proofs.Kit.{ap, arith, inl, inr, length, List, None, Option, refl, Some, subst, sym, ℕ, ◌*◌, ◌++◌}
 use Rattle.ed_initial.proofs.Kit.{◌+◌, ◌≡◌, ◌≤◌, costs, NotationState, Begun, spelled_rows, IsStarted, EndsAs, IsQuiet}
-use Rattle.ed_initial.proofs.Kit.{Scratch, Loaded, Lost}
+use Rattle.ed_initial.proofs.Kit.{Scratch, Loaded, Lost, rules}
 use Rattle.ed_notation.specs.Beginnings.{part_cost, state_before, orders_before}
 use Rattle.ed_notation.specs.Faults.{IsPart, part_rows}
 use Rattle.ed_notation.proofs.Beginnings.{beginning_most, ended, fault_sound}
@@ -55,11 +55,7 @@ module _ (s : State) (store : IsStore s.store) (started : IsStarted s) where
       let goes : Goes k s (state (frame s store) a.moment (s.orders + k)) =
       subst (λ x. Goes k x (state (frame s store) a.moment (s.orders + k))) (state-opened s store started)
       (a.trip.goes s.orders) in
-      record {
-        quiet = goes.quiet;
-        silent = quiet_codes k s (λ j l. (goes.quiet j l).went);
-        rests = subst (λ (x : State). RestsAfter (later k rest s) notation part x) (sym goes.state) a.rests;
-      }
+      search (rules, quiet_codes)
 
   pub waits : WaitsForRows s
   waits row to r =

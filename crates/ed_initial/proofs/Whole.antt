@@ -1,7 +1,7 @@
 -- The loading theorem: a load of a well-formed tape ends at its entry, at its cost, in the state at the entry.
 use Rattle.ed_initial.proofs.Kit.{common_steps, rules, Went, IsStore, Obeyed, step, State, progress, state_after}
-use Rattle.ed_initial.proofs.Kit.{opening, ap, arith, length, List, suc, ℕ, ◌*◌, ◌+◌, ◌∙◌, ◌≡◌, ◌≤◌, TapeEntry}
-use Rattle.ed_initial.proofs.Kit.{WellFormed, NotationState, at_entry, IsStarted, ReachesEntry, EndsAs, Loaded}
+use Rattle.ed_initial.proofs.Kit.{opening, ap, arith, length, List, suc, ℕ, ◌*◌, ◌+◌, ◌≡◌, ◌≤◌, TapeEntry, WellFormed}
+use Rattle.ed_initial.proofs.Kit.{NotationState, at_entry, IsStarted, ReachesEntry, EndsAs, Loaded}
 use Rattle.ed_notation.specs.Faults.{RowsReachEntry}
 use Rattle.ed_notation.proofs.Costs.{cost-most}
 use Rattle.ed_initial.specs.Entry.{IsLoaded}
@@ -30,11 +30,7 @@ IsLoaded-ended {s} {e} bound {r = r} a fits ends is =
     Entered-settled s bound m a.quiet went a.enters_is below ends in
     let place : (state_after (suc m) s).counter ≡ e.at = ap (λ (x : State). x.counter) end in
     let cost = a.cost_is in
-    record {
-      result_is = result ∙ (λ i. Entered (place i) (cost i));
-      state_is = is ∙ ap (λ k. state_after (orders_of k) s) result ∙ end;
-      silent = a.prints_none;
-    }
+    search rules
 
 module _ (s t : State) (r : Loaded) (store : IsStore s.store) (started : IsStarted s)
     (ends : EndsAs s (17 * length s.tape + 9) r)

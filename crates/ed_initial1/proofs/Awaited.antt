@@ -1,10 +1,9 @@
 -- A started machine waits for each row of its tape that is read.
 use Rattle.ed_initial1.proofs.Kit.{drop-cons, T_F, short, T_top, leads, own, patched_one, [], ap, arith, Bool, drop}
-use Rattle.ed_initial1.proofs.Kit.{false, get_or, length, List, lit≤, None, Option, refl, set, Some, subst, sym, ℕ}
-use Rattle.ed_initial1.proofs.Kit.{◌*◌, ◌++◌, ◌+◌, ◌/◌, ◌<◌, ◌^◌, ◌∙◌, ◌∷◌, ◌≡◌, ◌≤◌, step, State, progress}
-use Rattle.ed_initial1.proofs.Kit.{state_after, Moment, patched, digits_number, IsStarted1, IsLoading, IsPart1}
-use Rattle.ed_initial1.proofs.Kit.{part_rows1, AreItems, Begun1, costs1, Item1, item_number, last_of, word1, words}
-use Rattle.ed_initial1.proofs.Kit.{IsQuiet1}
+use Rattle.ed_initial1.proofs.Kit.{false, get_or, length, List, lit≤, None, Option, refl, set, Some, subst, sym, ℕ, ◌*◌}
+use Rattle.ed_initial1.proofs.Kit.{◌++◌, ◌+◌, ◌/◌, ◌<◌, ◌^◌, ◌∙◌, ◌∷◌, ◌≡◌, ◌≤◌, step, State, progress, state_after}
+use Rattle.ed_initial1.proofs.Kit.{Moment, patched, digits_number, IsStarted1, IsLoading, IsPart1, part_rows1, AreItems}
+use Rattle.ed_initial1.proofs.Kit.{Begun1, costs1, Item1, item_number, last_of, word1, words, IsQuiet1, rules}
 use Rattle.ed_machine.specs.declared.turn.Turn.TheVariants.{NoTape}
 use Rattle.ed_initial.specs.Walks.{later}
 use Rattle.ed_initial1.specs.Waits.{RestsAfter1, Scratch1, AwaitsRow1, WaitsForRows1, part_cost1, orders_before1}
@@ -132,25 +131,7 @@ module _ (s : State) (store : HasItsLengths s.store) (started : IsStarted1 s) wh
       → state (moment q w now b 0 place rest) (s.orders + k)
       ≡ rest1_at place (scratch w b) before (later k rest s)
   unfolding patched
-  shown k before rest w b now place next are =
-      let size = sym started.size in
-      let ds = patched_one false s.store.sandwich 0 b (omega (arith, store.sandwich)) in
-      λ j. record {
-        size = size j;
-        store = record {
-          words =
-              w.at0 ∷ w.at1 ∷ w.at2 ∷ w.at3 ∷ 2 ∷ 10 ∷ T_F ∷ 32768 ∷ 114688 ∷ 16416 ∷ 20481 ∷ 32772 ∷ 114692 ∷ 49162
-              ∷ 12330 ∷ 20486 ∷ 126978 ∷ 102416 ∷ 114692 ∷ 20482 ∷ 12310 ∷ 16392 ∷ 114690 ∷ 102401 ∷ 114688 ∷ next j
-              ∷ 114738 ∷ 114696 ∷ 28722 ∷ 49214 ∷ 110604 ∷ are j;
-          sandwich = ds j;
-        };
-        acc = 0;
-        multiplier = T_F * 2 ^ 18;
-        counter = place;
-        tape = rest;
-        last = s.last;
-        orders = s.orders + k;
-      }
+  shown k before rest w b now place next are = search (rules, patched_one)
 
   -- at the order that reads a row
   record Arrives (k : ℕ) (before : List Item1) (part : Option Begun1) (tape rest : List ℕ) : Type 0 where

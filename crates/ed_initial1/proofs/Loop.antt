@@ -1,12 +1,12 @@
 -- What the loop of the check keeps, and what each row does to it.
 use Rattle.ed_initial1.proofs.Kit.{ne_eqb, length-append, number_more, [], ap, arith, Bool, drop, get_or, if◌then◌else◌}
-use Rattle.ed_initial1.proofs.Kit.{length, List, lit≤, nat_eq, None, Option, refl, Some, subst, suc, sym, ℕ, ◌%◌, ◌*◌}
-use Rattle.ed_initial1.proofs.Kit.{◌++◌, ◌+◌, ◌<◌, ◌^◌, ◌∙◌, ◌∷◌, ◌≡◌, ◌≤◌, digit, digits_number, is_none, IsFault1}
+use Rattle.ed_initial1.proofs.Kit.{length, List, lit≤, nat_eq, None, Option, refl, Some, subst, sym, ℕ, ◌%◌, ◌*◌, ◌++◌}
+use Rattle.ed_initial1.proofs.Kit.{◌+◌, ◌<◌, ◌^◌, ◌∙◌, ◌∷◌, ◌≡◌, ◌≤◌, digit, digits_number, is_none, IsFault1}
 use Rattle.ed_initial1.proofs.Kit.{ReachesEntry1, Tape, Begun1, costs1, ending_row, Item1, spelled_rows1, word1, words}
 use Rattle.ed_initial1.proofs.Kit.{row_effect1, Tape1Cause, EndOfTape, PartialItem1, RowEffect1, Ended, Longer, Refused}
+use Rattle.ed_initial1.proofs.Kit.{rules}
 use Rattle.std.proofs.Common.{◌≢◌}
 use Rattle.std.proofs.Math.ListN.{drop_of_length-le}
-use Rattle.std.proofs.lemmas.Option.{same_Some}
 use Rattle.ed_notation.proofs.Loop.{next_row}
 use Rattle.ed_initial1.specs.Checks.{Accepts1}
 use Rattle.ed_initial1.specs.Items.{cost_of1}
@@ -57,12 +57,7 @@ at_row rows row c before part h l is = subst (λ x. Here rows row before part x)
 -- inside an item
 inside : {rows : List ℕ} {row : ℕ} {ws : List ℕ} {orders end : ℕ} {p : PartialItem1}
     (s : StandsAt rows row ws orders end (Some p)) → (b : Begun1) × (s.part ≡ Some b) × (p ≡ part_of b)
-inside {p = p} s = by_part s.part refl s.item_is
-  where
-    by_part : (part : Option Begun1) → s.part ≡ part → Some p ≡ item_of part
-        → (b : Begun1) × (s.part ≡ Some b) × (p ≡ part_of b)
-    by_part None e i = absurd (cc)
-    by_part (Some b) e i = (b, e, same_Some p (part_of b) i)
+inside {p = p} s = search rules
 
 pub function_row : {rows : List ℕ} {row : ℕ} {ws : List ℕ} {orders end c : ℕ} → StandsAt rows row ws orders end None
     → row < length rows → c ≡ get_or rows row c → c < 32
@@ -89,8 +84,7 @@ function_row {rows} {row} {ws} {orders} {end} {c} s l is small = by_part s.part 
 first_is : (before : List Item1) (ws : List ℕ) → ws ≡ words before → (b : Bool) → b ≡ nat_eq (length ws) 0
     → b ≡ is_none before
 first_is [] ws e b h = h ∙ ap (λ x. nat_eq (length x) 0) e
-first_is (i ∷ is) ws e b h = let z = ne_eqb (suc (length (words is))) 0 (omega arith) in h
-    ∙ ap (λ x. nat_eq (length x) 0) e ∙ z
+first_is (i ∷ is) ws e b h = search (rules, ne_eqb)
 
 -- an item more
 words_more : (is : List Item1) (x : Item1) → words (is ++ (x ∷ [])) ≡ words is ++ (word1 x ∷ [])
@@ -123,10 +117,7 @@ module _ {rows : List ℕ} {row : ℕ} {ws : List ℕ} {orders end : ℕ} {p : P
   paid = rw (inside s).1 at s.orders_are
 
   meant : (t : RowEffect1) → t ≡ row_effect1 first p c → TakenMeans s.before b c t
-  meant t e =
-      subst (λ x. TakenMeans s.before b c x)
-      (sym (e ∙ (λ k. row_effect1 (first_is s.before ws s.words_are first empty k) (part_is k) c)))
-      (taken_means s.before b c)
+  meant t e = search (rules, first_is, part_is, taken_means)
 
   pub IsFault1-refused : {cause : Tape1Cause} → Refused cause ≡ row_effect1 first p c → IsFault1 rows row cause
   IsFault1-refused {cause} e =
@@ -161,10 +152,7 @@ module _ {rows : List ℕ} {row : ℕ} {ws : List ℕ} {orders end : ℕ} {p : P
     x = record { begun = b; long = long }
 
     is_end : past ≡ end_of (all long)
-    is_end =
-        past_is
-        ∙ end_more s.before b long (first_is s.before ws s.words_are first empty)
-        (ap (λ (q : PartialItem1). q.number) part_is) s.end_is
+    is_end = search (rules, end_more, first_is, part_is)
 
     w_is : w ≡ word1 x
     w_is = word_is ∙ ap (λ (q : PartialItem1). (4096 * q.function + 2 * q.number + digit long) % 2 ^ 17) part_is

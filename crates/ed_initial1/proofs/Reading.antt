@@ -1,13 +1,12 @@
 -- The reading of a tape row by row, and that it finds the one fault that the rules give, or the one program.
 use Rattle.ed_initial1.proofs.Kit.{append-nil, append_assoc, length-append, eqb-true, digits_more, number_more, [], ap}
-use Rattle.ed_initial1.proofs.Kit.{arith, Bool, false, if◌then◌else◌, length, List, lit≤, nat_eq, nat_lt, None, not}
-use Rattle.ed_initial1.proofs.Kit.{Option, refl, Some, sym, true, ℕ, ◌*◌, ◌++◌, ◌+◌, ◌<◌, ◌∙◌, ◌∷◌, ◌≡◌, ◌≤◌, and_parts}
-use Rattle.ed_initial1.proofs.Kit.{digits_number, BeginsWith, breaks1, Breaks1, ends1, is_broken1, is_first, is_none}
-use Rattle.ed_initial1.proofs.Kit.{IsLoading, IsPart1, part_rows1, ReachesEntry1, Tape, WellFormed1, AreItems, Begun1}
-use Rattle.ed_initial1.proofs.Kit.{begun_rows1, ending_row, IsBegun1, IsFirst, Item1, item_number, rows_of1}
-use Rattle.ed_initial1.proofs.Kit.{spelled_rows1, row_effect1, Tape1Cause, BadRow, EndOfTape, FirstWord, PartialItem1}
-use Rattle.ed_initial1.proofs.Kit.{RowEffect1, Ended, Longer, Refused}
-use Rattle.ed_notation.proofs.Kit.{nat_le, eqb-false, leb-true, ltb-false, ltb-true, if_means}
+use Rattle.ed_initial1.proofs.Kit.{arith, Bool, if◌then◌else◌, length, List, lit≤, nat_eq, nat_lt, None, Option, refl}
+use Rattle.ed_initial1.proofs.Kit.{Some, true, ℕ, ◌*◌, ◌++◌, ◌+◌, ◌<◌, ◌∷◌, ◌≡◌, ◌≤◌, digits_number, BeginsWith}
+use Rattle.ed_initial1.proofs.Kit.{breaks1, Breaks1, is_broken1, is_first, is_none, IsLoading, IsPart1, part_rows1}
+use Rattle.ed_initial1.proofs.Kit.{ReachesEntry1, Tape, WellFormed1, AreItems, Begun1, ending_row, IsBegun1, IsFirst}
+use Rattle.ed_initial1.proofs.Kit.{Item1, item_number, rows_of1, spelled_rows1, row_effect1, Tape1Cause, BadRow}
+use Rattle.ed_initial1.proofs.Kit.{EndOfTape, PartialItem1, RowEffect1, Ended, Longer, Refused, rules}
+use Rattle.ed_notation.proofs.Kit.{eqb-false, leb-true, ltb-false, ltb-true, if_means}
 use Rattle.ed_initial1.specs.Reading.{end_effect1}
 
 -- an item so far, as the plain program has it
@@ -55,21 +54,12 @@ items_more (x ∷ xs) i good h = (good.0, items_more xs i good.1 h)
 spelled_more : (is : List Item1) (i : Item1) (rest : List ℕ)
     → spelled_rows1 (is ++ (i ∷ [])) ++ rest ≡ spelled_rows1 is ++ (rows_of1 i ++ rest)
 spelled_more [] i rest = ap (λ x. x ++ rest) (append-nil (rows_of1 i))
-spelled_more (x ∷ xs) i rest =
-    append_assoc (rows_of1 x) (spelled_rows1 (xs ++ (i ∷ []))) rest
-    ∙ ap (λ y. rows_of1 x ++ y) (spelled_more xs i rest)
-    ∙ sym (append_assoc (rows_of1 x) (spelled_rows1 xs) (rows_of1 i ++ rest))
+spelled_more (x ∷ xs) i rest = search (rules, append_assoc, spelled_more xs i rest)
 
 pub length_spelled : (is : List Item1) (i : Item1)
     → length (spelled_rows1 (is ++ (i ∷ []))) ≡ length (spelled_rows1 is) + length (rows_of1 i)
 length_spelled [] i = omega (arith, ap length (append-nil (rows_of1 i)))
-length_spelled (x ∷ xs) i =
-    omega (
-      arith,
-      length_spelled xs i,
-      length-append (rows_of1 x) (spelled_rows1 (xs ++ (i ∷ []))),
-      length-append (rows_of1 x) (spelled_rows1 xs),
-    )
+length_spelled (x ∷ xs) i = search (rules, length-append, length_spelled xs i)
 
 -- what a row of each kind is
 abbrev pub FirstFits : List Item1 → Begun1 → Bool → Type 0
@@ -84,44 +74,16 @@ TakenMeans before b c (Ended long) = (c ≡ ending_row long) × FirstFits before
 
 first_means : (b : Begun1) (long : Bool) → is_first b (ending_row long) ≡ true
     → IsFirst (digits_number 0 b.digits) (record { begun = b; long = long })
-first_means b long h =
-    let p = and_parts (nat_eq b.function 5) _ h in
-    let q = and_parts (nat_eq (ending_row long) 12) _ p.1 in
-    let r = and_parts (nat_le 32 (digits_number 0 b.digits)) _ q.1 in
-    record {
-      function = eqb-true b.function 5 p.0;
-      short = is_short long q.0;
-      number = refl;
-      low = leb-true 32 (digits_number 0 b.digits) r.0;
-      high = leb-true (digits_number 0 b.digits) 1023 r.1;
-    }
-  where
-    is_short : (long : Bool) → nat_eq (ending_row long) 12 ≡ true → long ≡ false
-    is_short false h = refl
-    is_short true h = absurd (cc)
+first_means b long h = search (rules, eqb-true, leb-true)
 
 end_means : (before : List Item1) (b : Begun1) (c : ℕ) (long : Bool) → c ≡ ending_row long
     → TakenMeans before b c (end_effect1 (is_none before) (part_of b) c long)
-end_means [] b c long row = by_test (is_first b c) refl
-  where
-    ends_it : (long : Bool) → ends1 (ending_row long) ≡ true
-    ends_it false = refl
-    ends_it true = refl
-
-    by_test : (t : Bool) → is_first b c ≡ t → TakenMeans [] b c (if not t then Refused FirstWord else Ended long)
-    by_test true h = (row, first_means b long (ap (is_first b) (sym row) ∙ h))
-    by_test false h = let e : ends1 c ≡ true = ap ends1 row ∙ ends_it long in rw (e, h) refl
+end_means [] b c long row = search (rules, first_means)
 end_means (i ∷ is) b c long row = (row, tt)
 
 pub taken_means : (before : List Item1) (b : Begun1) (c : ℕ)
     → TakenMeans before b c (row_effect1 (is_none before) (part_of b) c)
-taken_means before b c =
-    let P : RowEffect1 → Type 0 = TakenMeans before b c in
-    if_means P (nat_lt c 10) _ _
-    (λ d. if_means P (nat_lt 32767 (10 * digits_number 0 b.digits + c)) _ _ (λ n. rw (d, n) refl)
-    (λ n. (refl, ltb-true c 10 d, ltb-false _ _ n)))
-    (λ d. if_means P (nat_eq c 12) _ _ (λ s. end_means before b c false (eqb-true c 12 s)) (λ s.
-    if_means P (nat_eq c 25) _ _ (λ l. end_means before b c true (eqb-true c 25 l)) (λ l. rw (d, s, l) refl)))
+taken_means before b c = search (rules, ltb-true, ltb-false, end_means, eqb-true)
 
 -- a row as it is read
 pub record Here (rows : List ℕ) (row : ℕ) (before : List Item1) (part : Option Begun1) (rest : List ℕ) : Type 0 where
@@ -157,18 +119,13 @@ Breaks1-faulty rows row before part rest cause h is = record {
 pub item_more : {rows : List ℕ} {row : ℕ} {before : List Item1} {b : Begun1} {c : ℕ} (long : Bool) {rest : List ℕ}
     → Here rows row before (Some b) (c ∷ rest) → c ≡ ending_row long
     → rows ≡ spelled_rows1 (ended before b long) ++ rest
-item_more {before = before} {b} long {rest} h is =
-    h.rows_are
-    ∙ ap (λ x. spelled_rows1 before ++ (begun_rows1 b ++ (x ∷ rest))) is
-    ∙ ap (λ x. spelled_rows1 before ++ x) (sym (append_assoc (begun_rows1 b) (ending_row long ∷ []) rest))
-    ∙ sym (spelled_more before (record { begun = b; long = long }) rest)
+item_more {before = before} {b} long {rest} h is = search (rules, append_assoc, spelled_more)
 
 pub begins_more : (before : List Item1) (b : Begun1) (long : Bool) → IsLoading before → FirstFits before b long
     → BeginsWith (end_of (ended before b long)) (ended before b long)
     × (31 + length (ended before b long) ≤ end_of (ended before b long))
 begins_more [] b long goes first = (first, omega (arith, first))
-begins_more (i ∷ is) b long goes first =
-    (goes.0, omega (arith, goes.1, length-append is (record { begun = b; long = long } ∷ [])))
+begins_more (i ∷ is) b long goes first = search (rules, length-append)
 
 pub goes_on_more : (is : List Item1) → BeginsWith (end_of is) is → 31 + length is < end_of is → IsLoading is
 goes_on_more [] first less = absurd first
@@ -177,29 +134,13 @@ goes_on_more (i ∷ is) first less = (first, less)
 -- after a function row, a digit row and an ending row
 pub Here-began : {rows : List ℕ} {row : ℕ} {before : List Item1} {c : ℕ} {rest : List ℕ}
     → Here rows row before None (c ∷ rest) → c < 32 → Here rows (row + 1) before (Some (began c)) rest
-Here-began h small = record {
-  good = h.good;
-  goes_on = h.goes_on;
-  is_part = record { function = small; digits = tt; fits = lit≤ tt };
-  rows_are = h.rows_are;
-  row_is = omega (arith, h.row_is);
-}
+Here-began h small = search (rules, lit≤)
 
 pub Here-longer : {rows : List ℕ} {row : ℕ} {before : List Item1} {b : Begun1} {c : ℕ} {rest : List ℕ}
     → Here rows row before (Some b) (c ∷ rest) → c < 10 → 10 * digits_number 0 b.digits + c ≤ 32767
     → Here rows (row + 1) before (Some (longer b c)) rest
-Here-longer {before = before} {b} {c} {rest} h digit fits = record {
-  good = h.good;
-  goes_on = h.goes_on;
-  is_part = record {
-    function = h.is_part.function;
-    digits = digits_more b.digits c h.is_part.digits digit;
-    fits = rw (number_more b.digits 0 c) fits;
-  };
-  rows_are = h.rows_are
-      ∙ ap (λ x. spelled_rows1 before ++ (b.function ∷ x)) (sym (append_assoc b.digits (c ∷ []) rest));
-  row_is = omega (arith, h.row_is, length-append b.digits (c ∷ []));
-}
+Here-longer {before = before} {b} {c} {rest} h digit fits =
+    search (rules, digits_more, number_more, append_assoc, length-append)
 
 pub Here-ended : {rows : List ℕ} {row : ℕ} {before : List Item1} {b : Begun1} {c : ℕ} (long : Bool) {rest : List ℕ}
     → Here rows row before (Some b) (c ∷ rest) → TakenMeans before b c (Ended long)
@@ -240,8 +181,7 @@ by_taken : {rows rest : List ℕ} → Follows rows rest → {row : ℕ} {before 
     → Holds rows (follow row before b c rest t)
 by_taken {rows} {rest} ih {row} {before} {b} {c} h (Refused cause) m =
     Breaks1-faulty rows row before (Some b) (c ∷ rest) cause h m
-by_taken ih {row} {before} {b} {c} h (Longer next) m =
-    ih (row + 1) before (Some (longer b c)) (Here-longer h m.1 m.2)
+by_taken ih {row} {before} {b} {c} h (Longer next) m = search (rules, Here-longer)
 by_taken {rows} ih {row} {before} {b} h (Ended long) m =
     let is = ended before b long in
     if_means (Holds rows) (reaches_end is) _ _

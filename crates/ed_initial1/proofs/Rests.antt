@@ -1,9 +1,9 @@
 -- The induction over the items of a tape, between the rests at 6 and 11: from the first of the 31 orders to the
 -- program.
-use Rattle.ed_initial1.proofs.Kit.{T_F, short, append_assoc, AreDigits, number_le, [], ap, arith, Bool, false, length}
-use Rattle.ed_initial1.proofs.Kit.{List, lit<, lit≤, refl, set, suc, ℕ, ◌*◌, ◌++◌, ◌+◌, ◌<◌, ◌^◌, ◌∙◌, ◌∷◌, ◌≡◌, ◌≤◌}
-use Rattle.ed_initial1.proofs.Kit.{digit, digits_number, AreItems, costs1, ending_row, IsBegun1, IsFirst, Item1}
-use Rattle.ed_initial1.proofs.Kit.{item_number, last_of, rows_of1, spelled_rows1, word1, words}
+use Rattle.ed_initial1.proofs.Kit.{T_F, short, append_assoc, AreDigits, number_le, [], arith, Bool, false, length, List}
+use Rattle.ed_initial1.proofs.Kit.{lit<, lit≤, refl, set, suc, ℕ, ◌*◌, ◌++◌, ◌+◌, ◌<◌, ◌^◌, ◌∷◌, ◌≡◌, ◌≤◌}
+use Rattle.ed_initial1.proofs.Kit.{digits_number, AreItems, costs1, ending_row, IsBegun1, IsFirst, Item1, item_number}
+use Rattle.ed_initial1.proofs.Kit.{last_of, spelled_rows1, word1, words, rules}
 use Rattle.std.proofs.Common.{◌-◌}
 use Rattle.ed_initial1.proofs.Paths.{Walk, Walk-followed, stay, ToProgram, ToProgram-then, Working, Kept, moment}
 use Rattle.ed_initial1.proofs.Paths.{with_word, start_path, function_path, digit_path, ending_path, first_placed}
@@ -16,11 +16,7 @@ tape_of (i ∷ is) rest = i.begun.function ∷ (i.begun.digits ++ (ending_row i.
 
 pub tape_is : (is : List Item1) (rest : List ℕ) → spelled_rows1 is ++ rest ≡ tape_of is rest
 tape_is [] rest = refl
-tape_is (i ∷ is) rest =
-    let b = i.begun in
-    append_assoc (rows_of1 i) (spelled_rows1 is) rest
-    ∙ ap (λ x. b.function ∷ x) (append_assoc b.digits (ending_row i.long ∷ []) (spelled_rows1 is ++ rest))
-    ∙ ap (λ x. b.function ∷ (b.digits ++ (ending_row i.long ∷ x))) (tape_is is rest)
+tape_is (i ∷ is) rest = search (rules, append_assoc, tape_is is rest)
 
 -- what digit rows leave at 3
 abbrev pub third : ℕ → List ℕ → ℕ
@@ -62,10 +58,7 @@ final e y v i is = record {
 
 -- T e S as a word
 pub first_word : (e : ℕ) (i : Item1) → IsFirst e i → word1 i ≡ T_F + 2 * e
-first_word e i first =
-    let f = first.function in
-    let s = ap digit first.short in
-    omega (arith, first)
+first_word e i first = search rules
 
 module _ (q : Kept) where
   -- the digit rows of an item

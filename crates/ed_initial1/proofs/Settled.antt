@@ -1,8 +1,6 @@
 -- A load whose orders lead to 31 ends there: it ends in no other way.
-use Rattle.ed_initial1.proofs.Kit.{Went, ap, arith, inl, inr, refl, subst, sym, ℕ, ◌<◌, ◌∙◌, ◌≡◌, ◌≤◌, Obeyed, step}
-use Rattle.ed_initial1.proofs.Kit.{State, progress, state_after, EndsAs1, Loaded1, Entered}
-use Rattle.std.proofs.lemmas.Bool.{cases_lt}
-use Rattle.ed_initial.specs.Load.{Enters}
+use Rattle.ed_initial1.proofs.Kit.{Went, ap, arith, ℕ, ◌<◌, ◌∙◌, ◌≡◌, ◌≤◌, Obeyed, step, State, progress, state_after}
+use Rattle.ed_initial1.proofs.Kit.{EndsAs1, Loaded1, Entered, rules}
 use Rattle.ed_initial.proofs.Runs.{ends_there}
 use Rattle.ed_initial1.proofs.Walks.{Reaches}
 
@@ -12,19 +10,10 @@ module _ (s t : State) (k : ℕ) (r : Reaches k s t) where
 
   -- each order up to the last one went
   went : (j : ℕ) → j ≤ m → (step (state_after j s)).turn ≡ Went
-  went j h =
-      elim (cases_lt j m) [
-        | inl l ↦ (r.quiet j l).went
-        | inr g ↦
-            let e : m ≡ j = omega arith in
-            subst (λ j. (step (state_after j s)).turn ≡ Went) e (ap (λ (o : Obeyed). o.turn) r.last)
-      ]
+  went j h = search rules
 
   pub Entered-settled : (bound : ℕ) → k ≤ bound → (x : Loaded1) → EndsAs1 s bound x → x ≡ Entered k
-  Entered-settled bound fits x ends =
-      ends_there ends m (λ j l. let q = r.quiet j l in rw (q.went, q.stays) refl) Enters (omega (arith, r.count))
-      (rw (r.last, r.at) refl)
-      ∙ ap Entered (sym r.count)
+  Entered-settled bound fits x ends = search (rules, ends_there)
 
   pub state_after-comes : state_after k s ≡ t
   unfolding progress

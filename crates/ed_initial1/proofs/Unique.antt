@@ -2,19 +2,19 @@
 -- program.
 use Rattle.ed_initial1.proofs.Kit.{eq-eqb, ne_eqb, append-nil, append_assoc, length-append, eqb-true, AreDigits}
 use Rattle.ed_initial1.proofs.Kit.{number_le, number_more, [], ap, arith, Bool, false, if◌then◌else◌, inl, inr, length}
-use Rattle.ed_initial1.proofs.Kit.{List, nat_eq, nat_lt, None, not, Option, refl, Some, suc, sym, true, ℕ, ◌*◌, ◌++◌}
-use Rattle.ed_initial1.proofs.Kit.{◌+◌, ◌<◌, ◌∙◌, ◌∷◌, ◌≡◌, ◌≤◌, and_parts, digits_number, BeginsWith, breaks1, Breaks1}
-use Rattle.ed_initial1.proofs.Kit.{ends1, is_broken1, is_first, is_none, IsFault1, IsLoading, IsPart1, part_rows1}
-use Rattle.ed_initial1.proofs.Kit.{ReachesEntry1, Tape, WellFormed1, AreItems, Begun1, begun_rows1, ending_row}
-use Rattle.ed_initial1.proofs.Kit.{IsBegun1, IsFirst, Item1, item_number, rows_of1, spelled_rows1, row_effect1}
-use Rattle.ed_initial1.proofs.Kit.{Tape1Cause, BadRow, EndOfTape, FirstWord, Ended, Longer, Refused}
-use Rattle.ed_notation.proofs.Kit.{◌&&◌, ◌⊎◌, le-leb, le-ltb, lt-ltb}
+use Rattle.ed_initial1.proofs.Kit.{List, nat_lt, None, Option, refl, Some, suc, sym, true, ℕ, ◌*◌, ◌++◌, ◌+◌, ◌<◌, ◌∙◌}
+use Rattle.ed_initial1.proofs.Kit.{◌∷◌, ◌≡◌, ◌≤◌, and_parts, digits_number, BeginsWith, breaks1, Breaks1, is_broken1}
+use Rattle.ed_initial1.proofs.Kit.{is_first, is_none, IsFault1, IsLoading, IsPart1, part_rows1, ReachesEntry1, Tape}
+use Rattle.ed_initial1.proofs.Kit.{WellFormed1, AreItems, Begun1, begun_rows1, ending_row, IsBegun1, IsFirst, Item1}
+use Rattle.ed_initial1.proofs.Kit.{rows_of1, spelled_rows1, row_effect1, Tape1Cause, BadRow, EndOfTape, FirstWord}
+use Rattle.ed_initial1.proofs.Kit.{Ended, Longer, Refused, rules}
+use Rattle.ed_notation.proofs.Kit.{◌⊎◌, le-leb, le-ltb, lt-ltb}
 use Rattle.std.proofs.lemmas.Bool.{not-true}
 use Rattle.ed_initial1.specs.Checks.{EachTapeHasOneVerdict}
 use Rattle.ed_initial1.specs.Faults.{rule}
 use Rattle.ed_initial1.specs.declared.cause.Tape1Cause.TheVariants.{NumberTooLarge}
 use Rattle.ed_initial1.proofs.Reading.{Verdict, Faulty, Whole, Holds, Holds-right, read, verdict, follow, part_of}
-use Rattle.ed_initial1.proofs.Reading.{longer, began, end_of, reaches_end, FirstFits}
+use Rattle.ed_initial1.proofs.Reading.{longer, end_of, reaches_end, FirstFits}
 
 digit_effect : (before : List Item1) (b : Begun1) (c : ℕ) → c < 10 → 10 * digits_number 0 b.digits + c ≤ 32767
     → row_effect1 (is_none before) (part_of b) c ≡ Longer (10 * digits_number 0 b.digits + c)
@@ -23,9 +23,7 @@ digit_effect before b c h fits = rw (lt-ltb c 10 h, le-ltb 32767 (10 * digits_nu
 is_first_of : (b : Begun1) (long : Bool) → IsFirst (digits_number 0 b.digits) (record { begun = b; long = long })
     → is_first b (ending_row long) ≡ true
 is_first_of b true f = absurd (let s = f.short in cc)
-is_first_of b false f =
-    let n = digits_number 0 b.digits in rw
-    (eq-eqb b.function 5 f.function, le-leb 32 n f.low, le-leb n 1023 f.high) refl
+is_first_of b false f = search (rules, eq-eqb, le-leb)
 
 end_is_taken : (before : List Item1) (b : Begun1) (long : Bool) → FirstFits before b long
     → row_effect1 (is_none before) (part_of b) (ending_row long) ≡ Ended long
@@ -41,9 +39,7 @@ reads_digits : (before : List Item1) (row : ℕ) (b : Begun1) (ds rest : List �
     → digits_number (digits_number 0 b.digits) ds ≤ 32767
     → read row before (Some b) (ds ++ rest) ≡ read (row + length ds) before (Some (more_digits b ds)) rest
 unfolding read more_digits
-reads_digits before row b [] rest good fits =
-    let e : row ≡ row + 0 = omega arith in
-    (λ i. read (e i) before (Some (record { function = b.function; digits = sym (append-nil b.digits) i })) rest)
+reads_digits before row b [] rest good fits = search (rules, append-nil)
 reads_digits before row b (d ∷ ds) rest good fits =
     let n : 10 * digits_number 0 b.digits + d ≤ 32767 =
     omega (arith, number_le ds (10 * digits_number 0 b.digits + d)) in
@@ -62,25 +58,13 @@ behind row is rest =
 begin_reads : (before : List Item1) (row : ℕ) (b : Begun1) (rest : List ℕ) → IsBegun1 b
     → read row before None (begun_rows1 b ++ rest) ≡ read (row + length (begun_rows1 b)) before (Some b) rest
 unfolding read more_digits
-begin_reads before row b rest good =
-    let e : row + 1 + length b.digits ≡ row + suc (length b.digits) = omega arith in
-    rw (lt-ltb b.function 32 good.function)
-    (reads_digits before (row + 1) (began b.function) b.digits rest good.digits good.fits
-    ∙ (λ i. read (e i) before (Some b) rest))
+begin_reads before row b rest good = search (rules, lt-ltb, reads_digits)
 
 reads_item : (before : List Item1) (row : ℕ) (i : Item1) (rest : List ℕ) → IsBegun1 i.begun
     → FirstFits before i.begun i.long
     → read row before None (rows_of1 i ++ rest) ≡ behind (row + length (rows_of1 i)) (before ++ (i ∷ [])) rest
 unfolding read
-reads_item before row i rest good first =
-    let b = i.begun in
-    let e : row + length (begun_rows1 b) + 1 ≡ row + length (rows_of1 i) =
-    omega (arith, length-append b.digits (ending_row i.long ∷ [])) in
-    ap (λ x. read row before None x) (append_assoc (begun_rows1 b) (ending_row i.long ∷ []) rest)
-    ∙ begin_reads before row b (ending_row i.long ∷ rest) good
-    ∙ ap (λ t. follow (row + length (begun_rows1 b)) before b (ending_row i.long) rest t)
-    (end_is_taken before b i.long first)
-    ∙ ap (λ x. behind x (before ++ (i ∷ [])) rest) e
+reads_item before row i rest good first = search (rules, length-append, append_assoc, begin_reads, end_is_taken)
 
 first_fits : (before : List Item1) (i : Item1) (is : List Item1)
     → BeginsWith (end_of (before ++ (i ∷ is))) (before ++ (i ∷ is)) → FirstFits before i.begun i.long
@@ -108,19 +92,9 @@ less_of (x ∷ xs) i js h = h
 -- items after which loading goes on
 reads_all : (is before : List Item1) (row : ℕ) (rest : List ℕ) → AreItems is → IsLoading (before ++ is)
     → read row before None (spelled_rows1 is ++ rest) ≡ read (row + length (spelled_rows1 is)) (before ++ is) None rest
-reads_all [] before row rest good goes =
-    let e : row ≡ row + 0 = omega arith in (λ i. read (e i) (sym (append-nil before) i) None rest)
+reads_all [] before row rest good goes = search (rules, append-nil)
 reads_all (i ∷ is) before row rest good goes =
-    let l = less_of before i is goes in
-    let short : length (before ++ (i ∷ [])) ≤ length (before ++ (i ∷ is)) =
-    omega (arith, length-append before (i ∷ []), length-append before (i ∷ is)) in
-    let on = goes_on_by before i is (omega (arith, l.1)) in
-    let e : row + length (rows_of1 i) + length (spelled_rows1 is) ≡ row + length (rows_of1 i ++ spelled_rows1 is) =
-    omega (arith, length-append (rows_of1 i) (spelled_rows1 is)) in
-    ap (λ x. read row before None x) (append_assoc (rows_of1 i) (spelled_rows1 is) rest)
-    ∙ reads_item before row i (spelled_rows1 is ++ rest) good.0 (first_fits before i is l.0)
-    ∙ rw on (reads_all is (before ++ (i ∷ [])) (row + length (rows_of1 i)) rest good.1 (rw (snoc before i is) goes)
-    ∙ (λ k. read (e k) (snoc before i is k) None rest))
+    search (rules, less_of, length-append, goes_on_by, append_assoc, reads_item, first_fits, snoc, reads_all is (before ++ (i ∷ [])) (row + length (rows_of1 i)) rest good.1 (rw (snoc before i is) goes))
 
 -- items that give a program
 reads_whole : (i : Item1) (is before : List Item1) (row : ℕ) (rest : List ℕ) → AreItems (i ∷ is)
@@ -128,10 +102,7 @@ reads_whole : (i : Item1) (is before : List Item1) (row : ℕ) (rest : List ℕ)
     → 31 + length (before ++ (i ∷ is)) ≡ end_of (before ++ (i ∷ is))
     → read row before None (spelled_rows1 (i ∷ is) ++ rest)
     ≡ Whole (record { end = end_of (before ++ (i ∷ is)); items = before ++ (i ∷ is); rest = rest })
-reads_whole i [] before row rest good first count =
-    ap (λ x. read row before None (x ++ rest)) (append-nil (rows_of1 i))
-    ∙ reads_item before row i rest good.0 (first_fits before i [] first)
-    ∙ rw (eq-eqb _ _ count) refl
+reads_whole i [] before row rest good first count = search (rules, append-nil, reads_item, first_fits, eq-eqb)
 reads_whole i (j ∷ js) before row rest good first count =
     let same = snoc before i (j ∷ js) in
     let on = goes_on_by before i (j ∷ js)
@@ -146,25 +117,9 @@ reads_whole i (j ∷ js) before row rest good first count =
 refused : (before : List Item1) (b : Begun1) (c : ℕ) (cause : Tape1Cause) → breaks1 cause before b c ≡ true
     → row_effect1 (is_none before) (part_of b) c ≡ Refused cause
 refused before b c EndOfTape h = absurd (cc)
-refused before b c BadRow h = by_tests (nat_lt c 10) (nat_eq c 12) (nat_eq c 25) refl refl refl
-  where
-    by_tests : (x y z : Bool) → nat_lt c 10 ≡ x → nat_eq c 12 ≡ y → nat_eq c 25 ≡ z
-        → row_effect1 (is_none before) (part_of b) c ≡ Refused BadRow
-    by_tests true y z p q r = absurd (let k : false ≡ true = rw p at h in cc)
-    by_tests false true z p q r = absurd (let k : false ≡ true = rw (p, q) at h in cc)
-    by_tests false false true p q r = absurd (let k : false ≡ true = rw (p, q, r) at h in cc)
-    by_tests false false false p q r = rw (p, q, r) refl
+refused before b c BadRow h = search rules
 refused before b c NumberTooLarge h = let p = and_parts (nat_lt c 10) _ h in rw (p.0, p.1) refl
-refused before b c FirstWord h =
-    let p = and_parts (ends1 c) _ h in by_tests (nat_eq c 12) (nat_eq c 25) refl refl p.0 p.1
-  where
-    by_tests : (y z : Bool) → nat_eq c 12 ≡ y → nat_eq c 25 ≡ z → ends1 c ≡ true
-        → (is_none before && not (is_first b c)) ≡ true
-        → row_effect1 (is_none before) (part_of b) c ≡ Refused FirstWord
-    by_tests true z q r e t = let big = le-ltb c 10 (let k = eqb-true c 12 q in omega arith) in rw (t, big, q) refl
-    by_tests false true q r e t = let big = le-ltb c 10 (let k = eqb-true c 25 r in omega arith)
-        in rw (t, big, q, r) refl
-    by_tests false false q r e t = absurd (let k : false ≡ true = rw (q, r) at e in cc)
+refused before b c FirstWord h = search (rules, le-ltb, eqb-true)
 
 reads_fault : (row : ℕ) (before : List Item1) (part : Option Begun1) (rest : List ℕ) (cause : Tape1Cause)
     → is_broken1 before part rest cause ≡ true
@@ -182,22 +137,12 @@ reads_part before row None rest good = let e : row ≡ row + 0 = omega arith in 
 reads_part before row (Some b) rest good = begin_reads before row b rest good
 
 finds_fault : (rows : List ℕ) (row : ℕ) (cause : Tape1Cause) → Breaks1 rows row cause → verdict rows ≡ Faulty row cause
-finds_fault rows row cause f =
-    let s = f.stands in
-    let e : 0 + length (spelled_rows1 s.before) + length (part_rows1 s.part) ≡ row = omega (arith, s.row_is) in
-    ap (λ x. read 0 [] None x) s.rows_are
-    ∙ reads_all s.before [] 0 (part_rows1 s.part ++ s.rest) s.good s.goes_on
-    ∙ reads_part s.before (0 + length (spelled_rows1 s.before)) s.part s.rest s.is_part
-    ∙ ap (λ x. read x s.before s.part s.rest) e
-    ∙ reads_fault row s.before s.part s.rest cause f.breaks
+finds_fault rows row cause f = search (rules, reads_all, reads_part, reads_fault)
 
 finds_items : (is : List Item1) (e : ℕ) (rest : List ℕ) → AreItems is → BeginsWith e is → 31 + length is ≡ e
     → read 0 [] None (spelled_rows1 is ++ rest) ≡ Whole (record { end = e; items = is; rest = rest })
 finds_items [] e rest good first count = absurd first
-finds_items (i ∷ is) e rest good first count =
-    let n : item_number i ≡ e = first.number in
-    reads_whole i is [] 0 rest good (rw n first) (count ∙ sym n)
-    ∙ ap (λ x. Whole (record { end = x; items = i ∷ is; rest = rest })) n
+finds_items (i ∷ is) e rest good first count = search (rules, reads_whole)
 
 finds_program : (rows : List ℕ) (t : Tape) → ReachesEntry1 rows t → verdict rows ≡ Whole t
 finds_program rows t c = ap (λ x. read 0 [] None x) c.rows_are ∙ finds_items t.items t.end t.rest c.good c.first c.count

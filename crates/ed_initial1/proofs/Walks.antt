@@ -1,6 +1,6 @@
 -- From the walks of the listing to steps of the machine.
 use Rattle.ed_initial1.proofs.Kit.{Went, leads, [], ap, arith, refl, subst, suc, sym, true, ℕ, ◌+◌, ◌∙◌, ◌≡◌, Obeyed}
-use Rattle.ed_initial1.proofs.Kit.{step, State, progress, state_after, Moment, at_31, IsQuiet1}
+use Rattle.ed_initial1.proofs.Kit.{step, State, progress, state_after, Moment, at_31, IsQuiet1, rules}
 use Rattle.std.proofs.Common.{zero}
 use Rattle.ed_machine.proofs.Kit.Frames.{state as piece_state}
 use Rattle.ed_machine.proofs.Kit.Paths.{Path, stay as path_stays, on as path_on, followed as paths_followed, no_state}
@@ -20,12 +20,7 @@ path_of (on first away rest) = path_on first (path_of rest)
 -- each of its orders goes on
 pub quiet : {k : ℕ} {r t : Moment} → Walk k r t → (done : ℕ) → IsQuiet1 k (state r done)
 quiet stay done j h = absurd (omega arith)
-quiet (on {r = r} first away rest) done zero h =
-    subst GoesOn1 (sym (no_state (state r done)))
-    (record {
-      went = ap (λ (o : Obeyed). o.turn) (first.does done);
-      stays = ap (λ (o : Obeyed). at_31 o.state) (first.does done) ∙ away;
-    })
+quiet (on {r = r} first away rest) done zero h = search (rules, no_state)
 quiet (on {r = r} first away rest) done (suc j) h =
     subst GoesOn1 (sym (first_state j (state r done) ∙ ap (λ (o : Obeyed). state_after j o.state) (first.does done)))
     (quiet rest (done + 1) j (omega arith))

@@ -2,8 +2,8 @@
 -- at the entry.
 use Rattle.ed_initial1.proofs.Kit.{with_short, length-append, [], ap, arith, false, length, List, refl, subst, sym, ℕ}
 use Rattle.ed_initial1.proofs.Kit.{◌*◌, ◌++◌, ◌+◌, ◌∙◌, ◌∷◌, ◌≡◌, ◌≤◌, step, State, state_after, at_entry1, IsStarted1}
-use Rattle.ed_initial1.proofs.Kit.{BeginsWith, ReachesEntry1, Tape, WellFormed1, AreItems, costs1, ending_row, Item1}
-use Rattle.ed_initial1.proofs.Kit.{rows_of1, spelled_rows1, word1, words, EndsAs1, Loaded1}
+use Rattle.ed_initial1.proofs.Kit.{BeginsWith, ReachesEntry1, Tape, WellFormed1, AreItems, costs1, Item1, spelled_rows1}
+use Rattle.ed_initial1.proofs.Kit.{word1, words, EndsAs1, Loaded1, rules}
 use Rattle.ed_store.specs.Cells.{IsStore}
 use Rattle.ed_initial1.specs.Entry.{IsLoaded1}
 use Rattle.ed_initial1.specs.Load.{orders_of1}
@@ -17,13 +17,7 @@ use Rattle.ed_initial1.proofs.Walks.{state, Reaches, reaches}
 -- no tape costs more than 14 orders a row
 pub costs_fit : (is : List Item1) → costs1 is ≤ 14 * length (spelled_rows1 is)
 costs_fit [] = omega arith
-costs_fit (i ∷ is) =
-    omega (
-      arith,
-      costs_fit is,
-      length-append (rows_of1 i) (spelled_rows1 is),
-      length-append i.begun.digits (ending_row i.long ∷ []),
-    )
+costs_fit (i ∷ is) = search (rules, length-append, costs_fit is)
 
 -- the state at the entry of a tape's items
 abbrev entry_of : State → ℕ → List Item1 → List ℕ → State

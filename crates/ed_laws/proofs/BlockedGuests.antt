@@ -1,8 +1,8 @@
 -- A run that has a guest checked ends where the guest is blocked.
 use Rattle.ed_laws.proofs.Kit.{NoOrder, Turn, counted_after, Settings, ran_is, unwrap_or, Line, ap, arith, Bool, false}
-use Rattle.ed_laws.proofs.Kit.{length, List, None, rules, Some, subst, sym, ℕ, ◌+◌, ◌-◌, ◌<◌, ◌∙◌, ◌≡◌, ◌≤◌, Text}
-use Rattle.ed_laws.proofs.Kit.{paper, step, State, Progress, progress, state_after, end_by, RunEnd, entry_of, cost}
-use Rattle.ed_laws.proofs.Kit.{entry_note, Outcome, IsAcceptedAs, paper_room, ran_outcome, with_post_mortem, is_obeyed}
+use Rattle.ed_laws.proofs.Kit.{length, List, None, rules, Some, subst, sym, ℕ, ◌+◌, ◌-◌, ◌<◌, ◌∙◌, ◌≡◌, ◌≤◌, Text, step}
+use Rattle.ed_laws.proofs.Kit.{State, Progress, progress, state_after, end_by, RunEnd, entry_of, cost, entry_note}
+use Rattle.ed_laws.proofs.Kit.{IsAcceptedAs, paper_room, ran_outcome, with_post_mortem, is_obeyed}
 use Rattle.ed_laws.proofs.Kit.{each_answer_is_from_entry}
 use Rattle.ed_laws.proofs.Limits.{none_added}
 use Rattle.ed_sources.proofs.Kit.{guest, entry_state, AnswersFromEntry}
@@ -37,13 +37,7 @@ machines base q m limit resumes room at less fits =
     (places.at_block limit resumes
     (record { obeyed = c.ran.free; printed = subst (λ (xs : List ℕ). length xs ≤ room) (sym codes) fits })
     stops (omega (arith, count, less)) (ends _)) in
-    record {
-      last = c.last;
-      counter = c.counter;
-      orders = ap (λ (x : State). x.orders) (sym there) ∙ counted_after c.count m c.ran.free
-          ∙ ap (λ n. m.orders + n) count;
-      run = ran ∙ (λ i. record { ending = guest_ending q (guest base m); state = there i; codes = codes i });
-    }
+    search (rules, counted_after)
 
 sources : (base q : ℕ) (s : Settings) (source : Text) (lines : List Line)
     → IsAcceptedAs s.size source lines → IsBlockedAfter base q (entry_state s.size lines)
@@ -62,14 +56,7 @@ sources base q s source lines accepted b less fits none =
     let outcome = from.entered (omega (arith, less))
     ∙ ap (λ (r : RunEnd). ran_outcome (entry_note (entry_of lines) (cost lines)) (with_post_mortem s.post_mortem r))
     e.run in
-    record {
-      last = e.last;
-      counter = e.counter;
-      orders = e.orders;
-      out_is = ap (λ (o : Outcome). o.out) outcome ∙ ap paper (none_added s.post_mortem ran none);
-      note_is = ap (λ (o : Outcome). o.note) outcome;
-      status_is = ap (λ (o : Outcome). o.status) outcome;
-    }
+    search (rules, none_added)
 
 pub each_guest_is_blocked : EachGuestIsBlocked
 each_guest_is_blocked = record { machines = machines; sources = sources }

@@ -1,12 +1,10 @@
 -- A run that stays in the first 512 locations is the same on both sizes of the store.
-use Rattle.ed_laws.proofs.Kit.{Size, Full, paper, Ending, Limit, Stopped, RunEnd, Settings, ran_ends, step, State}
-use Rattle.ed_laws.proofs.Kit.{progress, Progress, state_after, end_at, end_by, EndsAfter, run_end, run_orders}
-use Rattle.ed_laws.proofs.Kit.{first_state, Text, tape, [], ap, arith, Bool, false, if◌then◌else◌, length, List, nat_eq}
-use Rattle.ed_laws.proofs.Kit.{nat_le, nat_lt, Option, refl, Some, suc, true, ℕ, ◌++◌, ◌+◌, ◌<◌, ◌∙◌, ◌∷◌, ◌≡◌, ◌≤◌}
-use Rattle.ed_laws.proofs.Kit.{nat_tests, ending_line, paper_room, ran_outcome, status_of, with_post_mortem}
-use Rattle.ed_laws.proofs.Kit.{entered_before, zero, function_of, kind_of_function, next_word, obey_word, Obeyed}
-use Rattle.ed_laws.proofs.Kit.{codes_of, stops_of, Kind, ran_is, rules, common_steps}
-use Rattle.ed_answers.proofs.Kit.{post_mortem_codes}
+use Rattle.ed_laws.proofs.Kit.{Size, Full, Ending, RunEnd, Settings, ran_ends, step, State, progress, Progress}
+use Rattle.ed_laws.proofs.Kit.{state_after, end_at, end_by, EndsAfter, run_end, run_orders, first_state, Text, tape, []}
+use Rattle.ed_laws.proofs.Kit.{ap, arith, Bool, false, List, nat_lt, Option, refl, suc, true, ℕ, ◌+◌, ◌<◌, ◌∙◌, ◌∷◌}
+use Rattle.ed_laws.proofs.Kit.{◌≡◌, ◌≤◌, nat_tests, ending_line, paper_room, ran_outcome, with_post_mortem}
+use Rattle.ed_laws.proofs.Kit.{entered_before, zero, function_of, kind_of_function, next_word, obey_word, Obeyed, Kind}
+use Rattle.ed_laws.proofs.Kit.{ran_is, rules, common_steps, post_mortem_codes}
 use Rattle.ed_words.specs.declared.size.Size.TheVariants.{Small}
 use Rattle.ed_run.specs.declared.settings.Window.{Window}
 use Rattle.ed_machine.proofs.Names.{address_of, jump_order, place_of, row_order}
@@ -63,13 +61,7 @@ past_sized z p = record p { state = sized z p.state }
 
 next_same : (z : Size) (p : Progress) → StaysBelow p.state
     → next_progress (past_sized z p) ≡ past_sized z (next_progress p)
-next_same z p low =
-    let one = step_same z p.state low in
-    λ i. record {
-      state = (one i).state;
-      codes = p.codes ++ codes_of (one i).turn;
-      stops = p.stops + stops_of (one i).turn;
-    }
+next_same z p low = search (rules, step_same)
 
 past_same : (z : Size) (k : ℕ) (s : State) → ((j : ℕ) → j < k → StaysBelow (state_after j s))
     → progress k (sized z s) ≡ past_sized z (progress k s)
@@ -81,10 +73,7 @@ past_same z (suc k) s low =
 
 end_same : (z : Size) (limit resumes room k : ℕ) (p : Progress)
     → end_at limit resumes room k (past_sized z p) ≡ end_at limit resumes room k p
-end_same z limit resumes room k p =
-    ap (λ (e : Option Ending). if nat_lt resumes p.stops then Some Stopped else if nat_eq k limit
-    then Some Limit else e)
-    (step_ends z p.state (nat_le room (length p.codes)))
+end_same z limit resumes room k p = search (rules, step_ends)
 
 -- ---- a run
 
@@ -126,26 +115,14 @@ codes_same z window s = search rules
 module _ (z : Size) (s : Settings) (before : State → Text) (same : (t : State) → before (sized z t) ≡ before t) where
   outcome_same : (r : RunEnd) → ran_outcome (before (sized z r.state)) (with_post_mortem s.post_mortem (end_sized z r))
       ≡ ran_outcome (before r.state) (with_post_mortem s.post_mortem r)
-  outcome_same r =
-      let codes = codes_same z s.post_mortem r.state in
-      let line = line_same z r.ending r.state in
-      let text = same r.state in
-      λ i. record {
-        out = paper (r.codes ++ codes i);
-        note = text i ++ line i;
-        status = status_of r.ending;
-      }
+  outcome_same r = search (rules, codes_same, line_same)
 
   run_outcome_same : (codes : List ℕ) → RunStaysBelow s codes → first_state z codes ≡ sized z (first_state Small codes)
       → (λ (r : RunEnd). ran_outcome (before r.state) (with_post_mortem s.post_mortem r))
       (run_end s.limit s.resumes paper_room (first_state z codes))
       ≡ (λ (r : RunEnd). ran_outcome (before r.state) (with_post_mortem s.post_mortem r))
       (run_end s.limit s.resumes paper_room (first_state Small codes))
-  run_outcome_same codes low first =
-      ap (λ (r : RunEnd). ran_outcome (before r.state) (with_post_mortem s.post_mortem r))
-      (ap (run_end s.limit s.resumes paper_room) first
-      ∙ run_same z s.limit s.resumes paper_room (first_state Small codes) low)
-      ∙ outcome_same (run_end s.limit s.resumes paper_room (first_state Small codes))
+  run_outcome_same codes low first = search (rules, run_same, outcome_same)
 
 first_same : (z : Size) (codes : List ℕ) → first_state z codes ≡ sized z (first_state Small codes)
 unfolding first_state

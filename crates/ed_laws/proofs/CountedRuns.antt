@@ -1,8 +1,6 @@
 -- A run doesn't depend on the count of orders: from a state with a greater count it is the same, with a greater count.
-use Rattle.ed_laws.proofs.Kit.{Kind, Obeyed, ap, Option, refl, rules, suc, ℕ, ◌++◌, ◌+◌, ◌∙◌, ◌≡◌, step, State}
-use Rattle.ed_laws.proofs.Kit.{Progress, progress, end_at, run_end, zero, stops_of, function_of, kind_of_function}
-use Rattle.ed_laws.proofs.Kit.{next_word, obey_word, codes_of, end_later}
-use Rattle.ed_machine.specs.Steps.{next_progress}
+use Rattle.ed_laws.proofs.Kit.{Kind, Obeyed, Option, refl, rules, suc, ℕ, ◌+◌, ◌≡◌, step, State, Progress, progress}
+use Rattle.ed_laws.proofs.Kit.{end_at, run_end, zero, function_of, kind_of_function, next_word, obey_word, end_later}
 
 -- a state with k more orders counted
 abbrev pub counted : ℕ → State → State
@@ -26,13 +24,7 @@ step_same k s = word_same k (next_word s) s (kind_of_function (function_of (next
 pub progress_same : (k j : ℕ) (s : State) → progress j (counted k s) ≡ progress_later k (progress j s)
 unfolding progress
 progress_same k zero s = refl
-progress_same k (suc j) s =
-    ap next_progress (progress_same k j s)
-    ∙ ap (λ (o : Obeyed). record {
-      state = o.state;
-      codes = (progress j s).codes ++ codes_of o.turn;
-      stops = (progress j s).stops + stops_of o.turn;
-    }) (step_same k (progress j s).state)
+progress_same k (suc j) s = search (rules, step_same, progress_same k j s)
 
 -- an end comes after as many of them
 same_end : (limit resumes room k j : ℕ) (p : Progress)

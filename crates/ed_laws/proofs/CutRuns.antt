@@ -4,9 +4,8 @@ use Rattle.ed_laws.proofs.Kit.{if◌then◌else◌, inl, List, refl, ℕ, ◌<�
 use Rattle.ed_laws.proofs.Kit.{run_end, RunEnd, first_state, entry_of, cost, tape, entry_note, first_state1, paper_room}
 use Rattle.ed_laws.proofs.Kit.{ran_outcome, with_post_mortem, entered_before, tape_outcome, is_obeyed}
 use Rattle.ed_laws.proofs.Kit.{each_answer_is_from_entry, limit_state, run_of, paper, ◌++◌, Ending, NoTape, Outcome}
-use Rattle.ed_laws.proofs.Kit.{status_of, ending_line, step}
+use Rattle.ed_laws.proofs.Kit.{status_of, ending_line, step, post_mortem_codes}
 use Rattle.ed_laws.specs.FirstEntry.{cost1}
-use Rattle.ed_answers.proofs.Kit.{post_mortem_codes}
 use Rattle.ed_machine.specs.declared.turn.Turn.TheVariants.{NoTape as HasNoTape}
 use Rattle.ed_run.proofs.Quiet.{no_tape_there}
 use Rattle.ed_laws.proofs.FirstEntries.{first_went, runs_from_31}
@@ -14,6 +13,7 @@ use Rattle.ed_laws.specs.CutRuns.{IsCutOff}
 use Rattle.ed_laws.specs.FirstEntries.{EachFirstTapeRunsFromEntry}
 use Rattle.ed_laws.specs.SourceEntries.{EachSourceRunsFromEntry}
 use Rattle.ed_laws.proofs.Stepped.{none_done}
+use Rattle.std.proofs.Common.{rules}
 
 -- ---- a run whose first k orders neither print nor stop, from a state with no order counted
 
@@ -21,7 +21,7 @@ pub orders_done : (k : ℕ) (s : State) → AllWent k s → s.orders ≡ 0 → (
 orders_done k s went none =
     let count = counted_after k s (λ j less. ap is_obeyed (went j less)) in omega (arith, count, none)
 
--- what is told of its end, if it ends there, by its ending and the place of the counter
+-- the outcome of each of its endings, if it ends after k orders with the counter at the place
 module _ (limit resumes k place : ℕ) (s : State) (give : RunEnd → Outcome) (out : Text) (went : AllWent k s)
     (none : s.orders ≡ 0) (at : (state_after k s).counter ≡ place)
     (told : (e : Ending) → give (record { ending = e; state = state_after k s; codes = [] })
@@ -35,11 +35,7 @@ module _ (limit resumes k place : ℕ) (s : State) (give : RunEnd → Outcome) (
 
   ends_so : {r : RunEnd} (e : Ending) → r ≡ record { ending = e; state = state_after k s; codes = [] }
       → give r ≡ outcome e
-  ends_so e is = ap give is ∙ told e ∙ (λ i. record {
-    out = out;
-    note = ending_line e (record (state_after k s) { counter = at i; orders = orders_done k s went none i });
-    status = status_of e;
-  })
+  ends_so e is = search (rules, orders_done)
 
   pub at_limit : limit ≡ k → give (run_end limit resumes paper_room s) ≡ outcome Limit
   at_limit is =

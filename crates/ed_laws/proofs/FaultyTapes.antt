@@ -3,7 +3,7 @@ use Rattle.ed_laws.proofs.Kit.{Size, cleared_cells, TapeCause, Item, RowKind, Le
 use Rattle.ed_laws.proofs.Kit.{fold, NotationState, Begun, item_of, items, row_kind, Written, first_store, starts}
 use Rattle.ed_laws.proofs.Kit.{opening_notation, [], ap, inr, List, None, Option, refl, rules, Some, subst, sym, true}
 use Rattle.ed_laws.proofs.Kit.{ℕ, ◌+◌, ◌∙◌, ◌∷◌, ◌≡◌, Text, state_after, AllWent, RunEnd, first_state, ran_outcome}
-use Rattle.ed_laws.proofs.Kit.{with_post_mortem, opening, first_part, HasFault, Outcome, paper}
+use Rattle.ed_laws.proofs.Kit.{with_post_mortem, opening, first_part, HasFault, Outcome, paper, post_mortem_codes}
 use Rattle.ed_notation.proofs.Kit.{IsSoundTo, AreRead, Breaks, IsFault, IsRead, ending_effect, item_word}
 use Rattle.ed_notation.proofs.Kit.{letter_action_of, item}
 use Rattle.ed_notation.specs.Beginnings.{orders_before, state_before}
@@ -12,7 +12,6 @@ use Rattle.ed_notation.proofs.Beginnings.{ended, fault_sound}
 use Rattle.ed_initial.specs.Waits.{AwaitsRow, waiting_place}
 use Rattle.ed_initial.proofs.Awaited.{needs_row, waits, waits_at}
 use Rattle.ed_laws.specs.FaultyTapes.{EachFaultyTapeWaits}
-use Rattle.ed_answers.proofs.Kit.{post_mortem_codes}
 use Rattle.ed_laws.proofs.CutRuns.{at_limit, at_no_tape}
 use Rattle.ed_laws.proofs.InParts.{parts_refuse}
 use Rattle.ed_laws.proofs.Stepped.{none_done}

@@ -1,8 +1,7 @@
 -- The run of a tape without a fault for Initial Orders 1 is the run from the state at its entry.
-use Rattle.ed_laws.proofs.Kit.{AllWent, Full, paper, run_end, ran_later, ReachesEntry1, Tape, [], ap, arith, Bool, drop}
-use Rattle.ed_laws.proofs.Kit.{false, List, refl, replicate, ℕ, ◌-◌, ◌∙◌, first_state1, paper_room, ran_outcome}
+use Rattle.ed_laws.proofs.Kit.{AllWent, Full, ran_later, ReachesEntry1, Tape, List, refl, ℕ, first_state1}
 use Rattle.ed_answers.proofs.Kit.{length-append, length-drop, length-replicate}
-use Rattle.ed_initial1.proofs.Kit.{at_entry1, IsStarted1, first_orders}
+use Rattle.ed_initial1.proofs.Kit.{at_entry1, IsStarted1}
 use Rattle.ed_machine.specs.State.{cleared_state}
 use Rattle.ed_initial1.proofs.Opened.{HasItsLengths}
 use Rattle.ed_initial1.proofs.Settled.{state_after-comes, all_went}
@@ -11,18 +10,11 @@ use Rattle.ed_initial1.proofs.Walks.{Reaches}
 use Rattle.ed_initial1.proofs.Whole.{leads_in}
 use Rattle.ed_laws.specs.FirstEntry.{EachProgramRunsFrom31, cost1}
 use Rattle.ed_answers.proofs.FromEntry.{run_end-silent}
+use Rattle.std.proofs.Common.{rules}
 
 pub first_store : (codes : List ℕ) → HasItsLengths (first_state1 codes).store
 unfolding first_state1
-first_store codes = record {
-  words = omega (
-    arith,
-    length-append first_orders (drop 31 (replicate 1024 0)),
-    length-drop {A = ℕ} 31 (replicate 1024 0),
-    length-replicate {A = ℕ} 1024 0,
-  );
-  sandwich = length-replicate {A = Bool} 512 false;
-}
+first_store codes = search (rules, length-append, length-drop, length-replicate)
 
 pub starts : (codes : List ℕ) → IsStarted1 (first_state1 codes)
 unfolding first_state1
@@ -43,12 +35,4 @@ runs_from_31 s codes t c =
     let r = reaches codes t c in
     let went = first_went codes t c in
     let there = state_after-comes first (at_entry1 first t) k r in
-    record {
-      enters = there;
-      silent = r.silent;
-      runs = λ fits.
-          ap (ran_outcome [])
-          (ran_later s.limit s.resumes paper_room k first went fits
-          ∙ ap (run_end (s.limit - k) s.resumes paper_room) there);
-      short = λ below. ap paper (run_end-silent s.limit s.resumes paper_room k first went below);
-    }
+    search (rules, ran_later, run_end-silent)

@@ -1,16 +1,14 @@
 -- What `parts` reports first: the entry of a well-formed tape, or the fault of another one.
-use Rattle.ed_laws.proofs.Kit.{Limit, Settings, TapeCause, IsDirective, Arrived, Faulty, silent_outcome, StartsWith}
-use Rattle.ed_laws.proofs.Kit.{line, [], ap, append-nil, append_assoc, arith, codes, length, List, suc, sym, ℕ, ◌++◌}
-use Rattle.ed_laws.proofs.Kit.{◌+◌, ◌-◌, ◌<◌, ◌∙◌, ◌∷◌, ◌≡◌, ◌≤◌, Text, State, state_after, AllWent, TapeEntry}
-use Rattle.ed_laws.proofs.Kit.{first_state, Outcome, refusal, return_report, zero, opening, reading_is_rules, cut}
-use Rattle.ed_laws.proofs.Kit.{entry_report, faulty, finished, first_part, HasFault, LeadsTo, PartsReport, ReportsParts}
-use Rattle.ed_laws.proofs.Kit.{TapePart, at_after, IsInParts, report_outcome, limit_state}
-use Rattle.std.proofs.Common.{decimal}
+use Rattle.ed_laws.proofs.Kit.{Settings, TapeCause, IsDirective, Arrived, Faulty, silent_outcome, StartsWith, ap}
+use Rattle.ed_laws.proofs.Kit.{append-nil, append_assoc, arith, codes, length, List, suc, sym, ℕ, ◌++◌, ◌+◌, ◌-◌, ◌<◌}
+use Rattle.ed_laws.proofs.Kit.{◌∙◌, ◌≡◌, ◌≤◌, State, AllWent, TapeEntry, first_state, Outcome, refusal, zero, opening}
+use Rattle.ed_laws.proofs.Kit.{reading_is_rules, cut, entry_report, faulty, finished, first_part, HasFault, LeadsTo}
+use Rattle.ed_laws.proofs.Kit.{PartsReport, ReportsParts, TapePart, IsInParts, report_outcome, limit_state}
+use Rattle.std.proofs.Common.{rules}
 use Rattle.std.proofs.lemmas.Fmt.{decimal_digit}
 use Rattle.ed_notation.specs.Reading.{ReadingIsRules}
 use Rattle.ed_report.specs.Entries.{entry_line}
-use Rattle.ed_report.specs.Notes.{cause_text, part_line, rule_line}
-use Rattle.ed_interlude.specs.declared.tape.PartsEnd.TheVariants.{Ended}
+use Rattle.ed_report.specs.Notes.{rule_line}
 use Rattle.ed_laws.specs.TapeEntries.{PartsFromEntry}
 use Rattle.ed_laws.proofs.CutRuns.{limit_orders}
 
@@ -26,16 +24,16 @@ module _ (s : State) where
   opens : IsDirective 20568
   opens = omega arith
 
-  rules : ReadingIsRules s.size s.store.words (opening s.store.words) 9 s.tape
-  rules = reading_is_rules s.size s.store.words (opening s.store.words) 9 s.tape opens
+  by_reading : ReadingIsRules s.size s.store.words (opening s.store.words) 9 s.tape
+  by_reading = reading_is_rules s.size s.store.words (opening s.store.words) 9 s.tape opens
 
   entry_once : (e f : TapeEntry) → LeadsTo (first_part s) e → LeadsTo (first_part s) f → e ≡ f
-  entry_once e f a b = same_entry (sym (rules.arrived e a.well a.comes) ∙ rules.arrived f b.well b.comes)
+  entry_once e f a b = same_entry (sym (by_reading.arrived e a.well a.comes) ∙ by_reading.arrived f b.well b.comes)
 
   fault_once : (row other : ℕ) (cause rule : TapeCause) → HasFault (first_part s) row cause
       → HasFault (first_part s) other rule
       → (row ≡ other) × (cause ≡ rule)
-  fault_once row other cause rule a b = same_fault (sym (rules.found row cause a) ∙ rules.found other rule b)
+  fault_once row other cause rule a b = same_fault (sym (by_reading.found row cause a) ∙ by_reading.found other rule b)
 
   not_both : (row : ℕ) (cause : TapeCause) (e : TapeEntry) → HasFault (first_part s) row cause
       → LeadsTo (first_part s) e → ⊥
@@ -71,28 +69,14 @@ module _ (s : Settings) (rows : List ℕ) where
         → StartsWith t.text (entry_line e.at e.cost e.rows)
     begins zero t (faulty row cause fault is) fits = absurd (not_both first row cause e fault leads)
     begins zero t (cut f other low is) fits = absurd (omega (arith, low, same_cost f other, fits))
-    begins zero t (finished f k ending other within ends is) fits = (
-      [],
-      ap (λ (r : PartsReport). r.text) is ∙ line_is f other ∙ sym (append-nil (entry_line e.at e.cost e.rows)),
-    )
-    begins (suc n) t (b, rest, told, is) fits = (
-      return_report part b ++ rest.text,
-      ap (λ (r : PartsReport). r.text) is
-          ∙ append_assoc (entry_report count part b.entry) (return_report part b) rest.text
-          ∙ ap (λ (x : Text). x ++ (return_report part b ++ rest.text)) (line_is b.entry b.leads),
-    )
+    begins zero t (finished f k ending other within ends is) fits = search (rules, line_is, append-nil)
+    begins (suc n) t (b, rest, told, is) fits = search (rules, append_assoc, line_is)
 
     -- with a limit below the cost
     short : (n : ℕ) (t : PartsReport) → ReportsParts s.limit count n part t → AllWent e.cost first → s.limit < e.cost
         → report_outcome t ≡ silent_outcome (codes "limit") (limit_state s rows).counter s.limit 4
     short zero t (faulty row cause fault is) went below = absurd (not_both first row cause e fault leads)
-    short zero t (cut f other low is) went below =
-        let all : s.limit - 0 ≡ s.limit = omega arith in
-        ap report_outcome is
-        ∙ ap (λ n. report_outcome (record { text = []; end = Ended Limit; last = state_after n first })) all
-        ∙ ap (λ n. record (silent_outcome (codes "limit") (limit_state s rows).counter s.limit 4) {
-          note = line (at_after (codes "limit") (limit_state s rows).counter n);
-        }) (limit_orders s rows e.cost went below)
+    short zero t (cut f other low is) went below = search (rules, limit_orders)
     short zero t (finished f k ending other within ends is) went below =
         absurd (omega (arith, within, same_cost f other, below))
     short (suc n) t (b, rest, told, is) went below = absurd (omega (arith, b.within, same_cost b.entry b.leads, below))
@@ -115,11 +99,7 @@ module _ (s : Settings) (rows : List ℕ) where
     refused zero t (faulty other rule found is) =
         let same = fault_once first other row rule cause found fault in
         let none : count - count + row ≡ row = omega arith in
-        ap report_outcome is
-        ∙ (λ i. refusal (part_line 1 (count - count + same.0 i) (same.1 i)))
-        ∙ ap (λ n. refusal (part_line 1 n cause)) none
-        ∙ ap (λ (number : Text). refusal (codes "part " ++ number ++ codes ", row " ++ decimal row ++ codes ": "
-        ++ cause_text cause ++ 10 ∷ [])) (decimal_digit 1 (omega arith))
+        search (rules, decimal_digit)
     refused zero t (cut f other low is) = absurd (not_both first row cause f fault other)
     refused zero t (finished f k ending other within ends is) = absurd (not_both first row cause f fault other)
     refused (suc n) t (b, rest, told, is) = absurd (not_both first row cause b.entry fault b.leads)

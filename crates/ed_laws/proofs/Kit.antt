@@ -43,7 +43,6 @@ pub use Rattle.ed_syntax.specs.declared.program.Line.{Line}
 pub use Rattle.ed_link.specs.Faults.{on_line}
 pub use Rattle.ed_laws.specs.FirstFaults.{silent_outcome}
 pub use Rattle.ed_laws.specs.Limits.{StartsWith, with_limit}
-pub use Rattle.ed_answers.specs.Outcome.{line}
 pub use Rattle.ed_answers.specs.Tapes.{opening_notation}
 pub use Rattle.ed_answers.proofs.Kit.{[], ap, append-nil, append_assoc, arith, Bool, codes, drop, false, get_or}
 pub use Rattle.ed_answers.proofs.Kit.{if◌then◌else◌, inl, inr, length, List, map, nat_eq, nat_le, nat_lt, None, Option}
@@ -53,7 +52,7 @@ pub use Rattle.ed_answers.proofs.Kit.{State, Progress, state_after, least_below,
 pub use Rattle.ed_answers.proofs.Kit.{run_orders, RunEnd, ran_ends, ran_later, TapeEntry, over, ReachesEntry1, Tape}
 pub use Rattle.ed_answers.proofs.Kit.{entry_of, cost, tape, ending_line, entry_note, Outcome, refusal, IsAcceptedAs}
 pub use Rattle.ed_answers.proofs.Kit.{paper_room, ran_outcome, run_of, status_of, with_post_mortem, entered_before}
-pub use Rattle.ed_answers.proofs.Kit.{OfSource, punch_outcome, run_outcome, tape_outcome}
+pub use Rattle.ed_answers.proofs.Kit.{OfSource, punch_outcome, run_outcome, tape_outcome, post_mortem_codes}
 unfoldable pub use Rattle.ed_answers.proofs.Kit.{step, progress, run_end, first_state, first_state1}
 unfoldable pub use Rattle.ed_stepper.specs.MoveEnds.{move_end}
 pub use Rattle.ed_stepper.proofs.Kit.{is_some, not, slice_index_or, ◌==◌, AreObeyed, is_obeyed, first_once}
@@ -64,7 +63,7 @@ pub use Rattle.ed_interlude.specs.Parts.{return_report}
 pub use Rattle.ed_interlude.proofs.Kit.{zero, cases_lt, ne_eqb, same_Some, stops_of, opening, reading_is_rules, LeadsIn}
 pub use Rattle.ed_interlude.proofs.Kit.{cut, entry_report, faulty, finished, first_part, HasFault, LeadsTo, PartsReport}
 pub use Rattle.ed_interlude.proofs.Kit.{ReportsParts, TapePart}
-pub use Rattle.ed_sources.proofs.Kit.{◌||◌, function_of, kind_of_function, next_word, obey_word, codes_of, at_after}
+pub use Rattle.ed_sources.proofs.Kit.{◌||◌, function_of, kind_of_function, next_word, obey_word, codes_of}
 pub use Rattle.ed_sources.proofs.Kit.{each_answer_is_from_entry}
 pub use Rattle.ed_top.specs.Parts.{end_status, IsInParts, report_outcome}
 pub use Rattle.ed_top.specs.Traces.{letters_in}

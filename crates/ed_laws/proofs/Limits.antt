@@ -2,13 +2,13 @@
 use Rattle.ed_laws.proofs.Kit.{paper, RunEnd, Size, State, run_end, first_state, Text, tape, [], ap, append-nil}
 use Rattle.ed_laws.proofs.Kit.{append_assoc, List, None, Option, refl, sym, ℕ, ◌++◌, ◌∙◌, ◌∷◌, ◌≡◌, first_state1}
 use Rattle.ed_laws.proofs.Kit.{Outcome, paper_room, ran_outcome, status_of, with_post_mortem, entered_before}
-use Rattle.ed_laws.proofs.Kit.{paper_from, Shift, StartsWith}
-use Rattle.ed_answers.proofs.Kit.{post_mortem_codes}
+use Rattle.ed_laws.proofs.Kit.{paper_from, Shift, StartsWith, post_mortem_codes}
 use Rattle.ed_run.specs.declared.settings.Window.{Window}
-use Rattle.ed_printer.specs.Paper.{shift_after, struck_bytes}
+use Rattle.ed_printer.specs.Paper.{shift_after}
 use Rattle.ed_printer.specs.declared.printer.Shift.TheVariants.{Letters}
 use Rattle.ed_laws.specs.Limits.{EachLimit, KeepsLimits}
 use Rattle.ed_laws.proofs.TwoRuns.{limit_begins, limit_same}
+use Rattle.std.proofs.Common.{rules}
 
 -- ---- on paper
 
@@ -17,14 +17,7 @@ pub after_others : (before : List ℕ) (shift : Shift)
     → (left : Shift)
     × ((codes : List ℕ) → paper_from shift (before ++ codes) ≡ paper_from shift before ++ paper_from left codes)
 after_others [] shift = (shift, λ codes. refl)
-after_others (c ∷ before) shift =
-    let more = after_others before (shift_after shift c) in (
-      more.0,
-      λ codes.
-          ap (λ (t : Text). struck_bytes shift c ++ t) (more.1 codes)
-          ∙ sym (append_assoc (struck_bytes shift c) (paper_from (shift_after shift c) before)
-          (paper_from more.0 codes)),
-    )
+after_others (c ∷ before) shift = search (rules, append_assoc, after_others before (shift_after shift c))
 
 pub printed_starts : (whole part : List ℕ) → StartsWith whole part → StartsWith (paper whole) (paper part)
 printed_starts whole part (rest, is) =

@@ -79,14 +79,8 @@ module _ (limit room n : ℕ) (s : State) (free : AreObeyed n s) (most : n ≤ l
         (if same then Some ends.Limit else blocked_end (step (state_after orders at)).turn)) ≡ Some end
         → ending_of end ≡ Some ending
         → EndsAfter limit (resumes_to ending (progress (n + orders) s).stops) room s (n + orders) ending
-    by_tests true own same end stop_is_it own_is same_is h e =
-        let is : Stopped ≡ ending = same_Some Stopped ending (ap ending_of (same_Some ends.Stopped end h) ∙ e) in
-        subst (λ (d : Ending). EndsAfter limit (resumes_to d (progress (n + orders) s).stops) room s (n + orders) d) is
-        (by_stop orders refl stop_is_it)
-    by_tests false (Some mine) same end stop_is_it own_is same_is h e =
-        let none : ending_of end ≡ None =
-        ap ending_of (sym (same_Some mine end h)) ∙ own_is_none aim orders at mine own_is in
-        absurd (none-some ending (sym none ∙ e))
+    by_tests true own same end stop_is_it own_is same_is h e = search (rules, by_stop)
+    by_tests false (Some mine) same end stop_is_it own_is same_is h e = search (rules, own_is_none, none-some)
     by_tests false None true end stop_is_it own_is same_is h e =
         let is : Limit ≡ ending = same_Some Limit ending (ap ending_of (same_Some ends.Limit end h) ∙ e) in
         let all : orders ≡ left = grind (arith, nat_tests) in

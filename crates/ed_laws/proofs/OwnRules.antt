@@ -4,8 +4,8 @@ use Rattle.ed_laws.proofs.Kit.{byte_of, Obeyed, [], ap, arith, Bool, false, if�
 use Rattle.ed_laws.proofs.Kit.{nat_eq, nat_le, nat_lt, None, Option, refl, rules, Some, suc, sym, true, ℕ, ◌++◌, ◌+◌}
 use Rattle.ed_laws.proofs.Kit.{◌<◌, ◌∙◌, ◌∷◌, ◌≡◌, ◌≤◌, ◌⊎◌, step, State, Progress, progress, state_after, end_at}
 use Rattle.ed_laws.proofs.Kit.{end_by, run_end, run_orders, ran_ends, first_state, paper_room, run_of, is_some, ◌==◌}
-use Rattle.ed_laws.proofs.Kit.{trace_to, zero, stops_of, ◌||◌, function_of, kind_of_function, next_word, obey_word}
-use Rattle.ed_laws.proofs.Kit.{codes_of, letters_in, first_once}
+use Rattle.ed_laws.proofs.Kit.{trace_to, zero, stops_of, ◌||◌, kind_of_function, obey_word, codes_of, letters_in}
+use Rattle.ed_laws.proofs.Kit.{first_once}
 use Rattle.std.specs.List.{list_any}
 use Rattle.ed_orders.specs.declared.kind.Kind.TheVariants.{F, X}
 use Rattle.ed_machine.proofs.LeastNumbers.{first_found}
@@ -151,9 +151,7 @@ own_goes k w s h = search rules
 
 own_turn : (s : State) → is_own_order s ≡ true → (step s).turn ≡ Went
 unfolding step
-own_turn s own =
-    own_goes (kind_of_function (function_of (next_word s))) (next_word s) s
-    (own_letter (function_of (next_word s)) ∙ own)
+own_turn s own = search (rules, own_goes, own_letter)
 
 no_end : (other : State → Obeyed) → ((t : State) → is_own_order t ≡ false → other t ≡ step t) → (s : State)
     → IsNoEnd other s

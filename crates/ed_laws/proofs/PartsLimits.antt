@@ -127,8 +127,7 @@ module _ (low high rows : ℕ) (fits : low ≤ high) where
     told = faulty row cause fault is;
     keeps = itself t;
   }
-  longer zero p t opens (cut e leads short is) =
-      from_cut p t opens (of_text is) (ap (λ (r : PartsReport). end_status r.end) is)
+  longer zero p t opens (cut e leads short is) = search (rules, from_cut)
   longer zero p t opens (finished e k ending leads in_time ends is) = elim (limit_or ending) [
     | inl at ↦
         from_limit p t e leads (omega (arith, in_time, fits)) (of_text is)

@@ -1,19 +1,17 @@
 -- With `tape`, a tape in parts is the run that ends as the parts do and prints what their programs print.
 use Rattle.ed_laws.proofs.Kit.{Ending, Limit, PaperFull, Stopped, Turn, few_codes, past_next, past_sum, Settings}
-use Rattle.ed_laws.proofs.Kit.{ran_is, length-append, lt-leb, [], ap, append-nil, arith, Bool, false, if◌then◌else◌}
-use Rattle.ed_laws.proofs.Kit.{inl, inr, length, List, nat_eq, nat_le, nat_lt, None, refl, rules, Some, subst, suc, sym}
-use Rattle.ed_laws.proofs.Kit.{true, ℕ, ◌++◌, ◌+◌, ◌-◌, ◌<◌, ◌∙◌, ◌≡◌, ◌≤◌, nat_tests, paper, step, State, Progress}
-use Rattle.ed_laws.proofs.Kit.{progress, state_after, end_at, end_by, EndsAfter, run_end, RunEnd, first_state}
-use Rattle.ed_laws.proofs.Kit.{paper_room, ran_outcome, first_within, zero, cases_lt, codes_of, end_status}
+use Rattle.ed_laws.proofs.Kit.{ran_is, length-append, lt-leb, ap, append-nil, arith, Bool, false, if◌then◌else◌, inl}
+use Rattle.ed_laws.proofs.Kit.{inr, length, List, nat_eq, nat_le, nat_lt, None, refl, rules, Some, subst, suc, sym}
+use Rattle.ed_laws.proofs.Kit.{true, ℕ, ◌++◌, ◌+◌, ◌-◌, ◌<◌, ◌∙◌, ◌≡◌, ◌≤◌, nat_tests, step, State, Progress, progress}
+use Rattle.ed_laws.proofs.Kit.{state_after, end_at, end_by, EndsAfter, run_end, first_state, paper_room, first_within}
+use Rattle.ed_laws.proofs.Kit.{zero, cases_lt, codes_of}
 use Rattle.std.proofs.Common.{take}
 use Rattle.std.proofs.Math.Seq.{take-append_seam}
 use Rattle.std.proofs.lemmas.Bool.{le-leb}
 use Rattle.ed_run.specs.Run.{prints}
 use Rattle.ed_run.proofs.Ends.{ends_at_limit}
 use Rattle.ed_interlude.specs.Laws.{EndsAsRun}
-use Rattle.ed_interlude.specs.declared.tape.PartsEnd.{PartsEnd}
 use Rattle.ed_interlude.proofs.Runs.{each_end}
-use Rattle.ed_top.specs.Parts.{end_note}
 use Rattle.ed_laws.specs.PartsRun.{EachTapeInPartsIsRun, EndsInParts, PartsAreRun, PartsFillPaper, printed_by, run_once}
 
 -- ---- on a paper that has room
@@ -60,20 +58,7 @@ module _ (limit room : ℕ) (s : State) (k : ℕ)
       lt-leb _ _ (omega (arith, fits, next, all, prints_one turn p))
 
   none_there : (j : ℕ) → j < k → end_at limit 0 room j (progress j s) ≡ None
-  none_there j below =
-      by_tests (nat_lt 0 (progress j s).stops) (nat_eq j limit) (first j below)
-    where
-      turn : Turn
-      turn = (step (state_after j s)).turn
-
-      by_tests : (b c : Bool)
-          → (if b then Some Stopped else if c then Some Limit
-          else end_by turn (nat_le limit (length (progress j s).codes))) ≡ None
-          → (if b then Some Stopped else if c then Some Limit
-          else end_by turn (nat_le room (length (progress j s).codes))) ≡ None
-      by_tests true c h = h
-      by_tests false true h = h
-      by_tests false false h = none_by turn _ _ (has_room j below) h
+  none_there j below = search (rules, none_by, has_room)
 
   -- the end that comes then is that on such a paper
   pub roomy : (e : Ending) → EndsAfter limit 0 limit s k e
@@ -104,24 +89,7 @@ module _ (limit room : ℕ) (s : State) (k : ℕ)
   pub filled : length (progress k s).codes ≡ room → prints (step (state_after k s)).turn ≡ true
       → end_at limit 0 limit k (progress k s) ≡ None
       → run_end limit 0 room s ≡ record { ending = PaperFull; state = state_after k s; codes = (progress k s).codes }
-  filled full printing going =
-      ran_is limit 0 room k s PaperFull
-      (record {
-        now = by_tests (nat_lt 0 (progress k s).stops) (nat_eq k limit) going;
-        first = none_there;
-      })
-    where
-      turn : Turn
-      turn = (step (state_after k s)).turn
-
-      by_tests : (b c : Bool)
-          → (if b then Some Stopped else if c then Some Limit
-          else end_by turn (nat_le limit (length (progress k s).codes))) ≡ None
-          → (if b then Some Stopped else if c then Some Limit
-          else end_by turn (nat_le room (length (progress k s).codes))) ≡ Some PaperFull
-      by_tests true c h = let bad : Some Stopped ≡ None = h in absurd (cc)
-      by_tests false true h = let bad : Some Limit ≡ None = h in absurd (cc)
-      by_tests false false h = full_by turn _ _ printing (le-leb _ _ (omega (arith, full))) h
+  filled full printing going = search (rules, ran_is, none_there, full_by, le-leb)
 
 -- ---- an order for whose code there is no room
 
@@ -163,13 +131,7 @@ module _ (s : Settings) (codes : List ℕ) (p : EndsInParts s codes) where
       roomy s.limit paper_room start run.orders run.ends.first
       (subst (λ (xs : List ℕ). length xs ≤ paper_room) (sym run.prints) fits) p.ending run.ends
       ∙ (λ i. record { ending = p.ending; state = sym run.state_is i; codes = run.prints i }) in
-      record {
-        note_is = ap (λ (r : RunEnd). (ran_outcome [] r).note) there
-            ∙ sym (ap (λ (x : PartsEnd). end_note x p.told.last) p.end_is);
-        status_is = ap (λ (r : RunEnd). (ran_outcome [] r).status) there ∙ sym (ap end_status p.end_is);
-        state_is = ap (λ (r : RunEnd). r.state) there;
-        out_is = ap (λ (r : RunEnd). paper (r.codes ++ [])) there ∙ ap paper (append-nil (printed_by p));
-      }
+      search (rules, append-nil)
 
   fills : paper_room < length (printed_by p) → PartsFillPaper (run_once s) codes (printed_by p)
   fills more =
@@ -188,11 +150,7 @@ module _ (s : Settings) (codes : List ℕ) (p : EndsInParts s codes) where
       ∙ ap (λ (x : Progress). x.codes) (past_sum c.at (run.orders - c.at) start) in
       let part : take paper_room (printed_by p) ≡ (progress c.at start).codes =
       (λ i. take (sym c.full i) (all i)) ∙ take-append_seam (progress c.at start).codes rest.codes in
-      record {
-        status_is = ap (λ (r : RunEnd). (ran_outcome [] r).status) there;
-        out_is = ap (λ (r : RunEnd). paper (r.codes ++ [])) there
-            ∙ ap paper (append-nil (progress c.at start).codes ∙ sym part);
-      }
+      search (rules, append-nil)
 
 pub each_tape_in_parts : EachTapeInPartsIsRun
 each_tape_in_parts = record { runs = runs; fills = fills }

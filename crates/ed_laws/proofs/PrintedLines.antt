@@ -2,14 +2,13 @@
 use Rattle.ed_laws.proofs.Kit.{slice_index, range_with_len, paper_from, Shift, length-append, unwrap_or, ◌%◌, ◌&&◌, ◌/◌}
 use Rattle.ed_laws.proofs.Kit.{and_parts, AreDigits, address_digits, is_even, length_code, number_in, printed_codes}
 use Rattle.ed_laws.proofs.Kit.{word_codes, [], ap, append_assoc, arith, Bool, codes, drop, false, get_or, if◌then◌else◌}
-use Rattle.ed_laws.proofs.Kit.{inl, inr, length, List, map, nat_eq, nat_le, nat_lt, refl, rules, Some, subst, suc, sym}
-use Rattle.ed_laws.proofs.Kit.{true, true≢false, ℕ, ◌++◌, ◌+◌, ◌<◌, ◌^◌, ◌∙◌, ◌∷◌, ◌≡◌, ◌≢◌, ◌≤◌, nat_tests, Text}
-use Rattle.ed_laws.proofs.Kit.{paper, slice_index_or, zero, cases_lt, ◌||◌}
+use Rattle.ed_laws.proofs.Kit.{inl, inr, List, map, nat_eq, nat_le, nat_lt, refl, rules, Some, subst, suc, sym, true}
+use Rattle.ed_laws.proofs.Kit.{true≢false, ℕ, ◌++◌, ◌+◌, ◌<◌, ◌^◌, ◌∙◌, ◌∷◌, ◌≡◌, ◌≤◌, nat_tests, Text, paper}
+use Rattle.ed_laws.proofs.Kit.{slice_index_or, zero, cases_lt, ◌||◌}
 use Rattle.std.proofs.Common.{position, flat_map}
 use Rattle.ed_printer.specs.Paper.{letters_printed, shift_after, struck_bytes}
 use Rattle.ed_printer.specs.declared.printer.Shift.TheVariants.{Letters, Figures}
 use Rattle.ed_printer.proofs.Silent.{eleven_silent, fifteen_silent}
-use Rattle.ed_postmortem.specs.Codes.{digits_before_units}
 use Rattle.ed_answers.specs.Runs.{post_mortem_codes}
 use Rattle.ed_laws.specs.PrintedLines.{EachLineIsOfItsWord, IsSameOnPaper, is_silent, printed_line}
 use Rattle.ed_laws.proofs.Limits.{after_others}
@@ -51,9 +50,7 @@ digit_stays d less = search rules
 digits_struck : (ds rest : List ℕ) → AreDigits ds
     → paper_from Figures (ds ++ rest) ≡ map (λ d. 48 + d) ds ++ paper_from Figures rest
 digits_struck [] rest are = refl
-digits_struck (d ∷ ds) rest are =
-    (λ i. digit_struck d are.0 i ++ paper_from (digit_stays d are.0 i) (ds ++ rest))
-    ∙ ap (λ (t : Text). (48 + d) ∷ t) (digits_struck ds rest are.1)
+digits_struck (d ∷ ds) rest are = search (rules, digit_struck, digit_stays, digits_struck ds rest are.1)
 
 -- ---- a line
 
@@ -71,17 +68,7 @@ line_on word rest = struck_bytes Letters (word / 4096) ++ (map (λ d. 48 + d) (a
 line_struck : (shift : Shift) (word : ℕ) (rest : List ℕ)
     → paper_from shift (word_codes word ++ rest) ≡ line_on word (paper_from Letters rest)
 line_struck shift word rest =
-    let f = word / 4096 in
-    let digits = address_digits (number_in word) in
-    let tail = 15 ∷ length_code (is_even word) ∷ 18 ∷ 24 ∷ rest in
-    ap (paper_from shift) (word_codes-laid word rest)
-    ∙ ap (λ (t : Text). t ++ (struck_bytes Letters f ++ paper_from (shift_after Letters f) (11 ∷ (digits ++ tail))))
-    (fifteen_silent shift)
-    ∙ ap (λ (t : Text). struck_bytes Letters f ++ (t ++ paper_from Figures (digits ++ tail)))
-    (eleven_silent (shift_after Letters f))
-    ∙ ap (λ (t : Text). struck_bytes Letters f ++ t)
-    (digits_struck digits tail (all_digits (number_in word))
-    ∙ ap (λ (t : Text). map (λ d. 48 + d) digits ++ t) (length_struck (is_even word) rest))
+    search (rules, word_codes-laid, fifteen_silent, eleven_silent, digits_struck, length_struck)
 
 -- it is the line of the definition
 line_is : (word : ℕ) (rest : Text) → line_on word rest ≡ printed_line word ++ rest
@@ -96,18 +83,14 @@ lines_are : (words : List ℕ) (first count : ℕ)
     → printed_lines words first count ≡ flat_map (λ a. printed_line (slice_index words a)) (range_with_len first count)
 unfolding printed_lines
 lines_are words first zero = refl
-lines_are words first (suc count) =
-    ap (λ (t : Text). printed_line (slice_index words first) ++ t) (lines_are words (first + 1) count)
+lines_are words first (suc count) = search (rules, lines_are words (first + 1) count)
 
 lines_struck : (words : List ℕ) (first count : ℕ) (shift : Shift)
     → paper_from shift (printed_codes words first count) ≡ printed_lines words first count
 unfolding printed_codes printed_lines
 lines_struck words first zero shift = refl
 lines_struck words first (suc count) shift =
-    let word = slice_index words first in
-    line_struck shift word (printed_codes words (first + 1) count)
-    ∙ line_is word (paper_from Letters (printed_codes words (first + 1) count))
-    ∙ ap (λ (t : Text). printed_line word ++ t) (lines_struck words (first + 1) count Letters)
+    search (rules, line_struck, line_is, lines_struck words (first + 1) count Letters)
 
 -- ---- a line is read back
 
@@ -148,17 +131,7 @@ all_right = each_below (λ f. is_right (slice_index_or letters_printed f []) f) 
 
 -- what begins with a digit doesn't begin with such a byte
 begins_with_digit : (word : ℕ) (rest : Text) → no_digit (get_or (rest_of word rest) 0 0) ≡ false
-begins_with_digit word rest = from (address_digits (number_in word)) (all_digits (number_in word)) some
-  where
-    some : address_digits (number_in word) ≢ []
-    some h =
-        let none = ap length h in
-        absurd (omega (arith, none, length-append (digits_before_units (number_in word)) (number_in word % 10 ∷ [])))
-
-    from : (ds : List ℕ) → AreDigits ds → ds ≢ []
-        → no_digit (get_or (map (λ d. 48 + d) ds ++ length_byte (is_even word) ∷ 13 ∷ 10 ∷ rest) 0 0) ≡ false
-    from [] are not = absurd (not refl)
-    from (d ∷ ds) are not = let less = are.0 in grind (arith, nat_tests)
+begins_with_digit word rest = search (rules, length-append)
 
 line_back : (v w : ℕ) (more others : Text) → v < 2 ^ 17 → w < 2 ^ 17 → line_on v more ≡ line_on w others
     → IsSameOnPaper v w × (more ≡ others)

@@ -1,18 +1,17 @@
 -- The text that `punch` writes is short enough to be read.
-use Rattle.ed_laws.proofs.Kit.{Size, Item, length-append, ◌%◌, ◌&&◌, ◌*◌, ◌/◌, and_parts, rows_of, Line, on_line, []}
-use Rattle.ed_laws.proofs.Kit.{ap, append_assoc, arith, Bool, false, inl, inr, length, List, map, nat_eq, nat_le}
-use Rattle.ed_laws.proofs.Kit.{nat_lt, None, Option, refl, rules, Some, suc, sym, true, true≢false, ℕ, ◌++◌, ◌+◌, ◌-◌}
-use Rattle.ed_laws.proofs.Kit.{◌<◌, ◌^◌, ◌∙◌, ◌∷◌, ◌≡◌, ◌≤◌, ◌⊎◌, nat_tests, Text, IsAcceptedAs, punch_outcome, zero}
-use Rattle.ed_laws.proofs.Kit.{cases_lt, ◌||◌, common_steps}
+use Rattle.ed_laws.proofs.Kit.{Size, Item, length-append, ◌&&◌, ◌*◌, and_parts, rows_of, Line, on_line, [], ap}
+use Rattle.ed_laws.proofs.Kit.{append_assoc, arith, Bool, false, inl, inr, length, List, nat_le, nat_lt, None, Option}
+use Rattle.ed_laws.proofs.Kit.{refl, rules, Some, suc, sym, true, true≢false, ℕ, ◌++◌, ◌+◌, ◌-◌, ◌<◌, ◌∙◌, ◌∷◌, ◌≡◌}
+use Rattle.ed_laws.proofs.Kit.{◌≤◌, ◌⊎◌, nat_tests, Text, IsAcceptedAs, punch_outcome, zero, cases_lt, ◌||◌}
+use Rattle.ed_laws.proofs.Kit.{common_steps}
 use Rattle.std.proofs.Common.{min}
-use Rattle.ed_syntax.proofs.Kit.{leb-true, ltb-true, row_of, AreRowsOf, empty, enter, fetch, fetch_with, label}
-use Rattle.ed_syntax.proofs.Kit.{labelled, placed, segment, segment_at, SpellsForm, SpellsPlaced, SpellsStatement}
-use Rattle.ed_syntax.proofs.Kit.{statement, version, LinePart, and_more, LinesSay, no_more}
+use Rattle.ed_syntax.proofs.Kit.{leb-true, ltb-true, AreRowsOf, empty, enter, fetch, fetch_with, label, labelled}
+use Rattle.ed_syntax.proofs.Kit.{placed, segment, segment_at, SpellsForm, SpellsPlaced, SpellsStatement, statement}
+use Rattle.ed_syntax.proofs.Kit.{version, LinePart, and_more, LinesSay, no_more}
 use Rattle.ed_link.proofs.Kit.{lit≤, list_all, length-map, locations, locations_most, canonical, canonicals, line_from}
-use Rattle.ed_link.proofs.Kit.{entry, find, table_item, counter_after, IsLineAfter, after_statement, even_from}
-use Rattle.ed_link.proofs.Kit.{first_counter, routine_places, HasNoFault, data_after, end_place, first_place}
-use Rattle.ed_link.proofs.Kit.{long_words, operand_number, symbols_of, goes_by_theta, items_of, order_item}
-use Rattle.ed_link.proofs.Kit.{punched_from, punched_items, routine_items, use_items, word_item, after_text}
+use Rattle.ed_link.proofs.Kit.{entry, table_item, counter_after, IsLineAfter, after_statement, first_counter}
+use Rattle.ed_link.proofs.Kit.{routine_places, HasNoFault, data_after, end_place, first_place, symbols_of, items_of}
+use Rattle.ed_link.proofs.Kit.{punched_from, punched_items, routine_items, use_items, after_text}
 use Rattle.ed_words.specs.Words.{digit as one_if}
 use Rattle.ed_notation.specs.Spellings.{text_of}
 use Rattle.ed_syntax.specs.Forms.{data_rows as data_statement}
@@ -23,7 +22,6 @@ use Rattle.ed_syntax.specs.declared.program.Statement.TheVariants.{Segment, Orde
 use Rattle.ed_syntax.specs.declared.program.Statement.TheVariants.{Enter, Rows}
 use Rattle.ed_syntax.proofs.LineLaws.{few_bytes}
 use Rattle.ed_syntax.proofs.PlacedLaws.{is_short}
-use Rattle.ed_symbols.specs.Places.{segment_at as segment_of_counter}
 use Rattle.ed_symbols.specs.declared.location_counter.LocationCounter.{LocationCounter}
 use Rattle.ed_symbols.specs.declared.symbols.Definition.{Definition}
 use Rattle.ed_symbols.proofs.NameLaw.{spot_snoc}
@@ -42,11 +40,7 @@ placed_short : {two : Bool} {ps : List LinePart} {s : Statement} {fits : Bool} �
 placed_short h = search rules
 
 rows_short : (q : Text) (rows : List ℕ) → AreRowsOf q rows → nat_le (length q) 120 ≡ true → length rows ≤ 120
-rows_short q rows are h =
-    let same : length q ≡ length rows =
-    sym (length-map q row_of) ∙ ap length are.each ∙ length-map rows (λ r. Some r) in
-    let few : length q ≤ 120 = grind (arith, nat_tests) in
-    omega (arith, same, few)
+rows_short q rows are h = grind (arith, common_steps)
 
 statement_short : {two : Bool} {ps : List LinePart} {s : Statement} {fits : Bool} → SpellsStatement two ps s fits
     → list_all is_short ps ≡ true → ShortRows (Some s)
@@ -74,13 +68,7 @@ lines_short : {two : Bool} {k : ℕ} {texts : List Text} {lines : List Line} →
     → AllShort lines × (length lines ≡ length texts)
 unfolding AllShort
 lines_short (no_more k) = (tt, refl)
-lines_short (and_more k line texts f said says rest) =
-    let more = lines_short rest in
-    let count : length said ≡ length texts = more.1 in
-    let one : suc (length said) ≡ suc (length texts) = omega (arith, count) in (
-      (form_short says.spells.spells (few_bytes line says.spells.parts says.spells.has_parts says.plain.short), more.0),
-      one,
-    )
+lines_short (and_more k line texts f said says rest) = search (rules, form_short, few_bytes, lines_short rest)
 
 -- ---- counting locations
 
@@ -104,10 +92,7 @@ count_or : (f g : ℕ → Bool) (n : ℕ) → ((p : ℕ) → f p ≡ true → g 
     → count (λ p. f p || g p) n ≡ count f n + count g n
 unfolding count
 count_or f g zero apart = refl
-count_or f g (suc n) apart =
-    let first = count_or f g n apart in
-    let last = one_or (f n) (g n) (apart n) in
-    omega (arith, first, last)
+count_or f g (suc n) apart = search (rules, one_or, count_or f g n apart)
 
 abbrev range : ℕ → ℕ → ℕ → Bool
 range a b p = nat_le a p && nat_lt p b
@@ -216,30 +201,11 @@ line_few : (symbols : List Definition) (s : LocationCounter) (st : Option Statem
     → 9 * length (items_of symbols s st) + length (data_rows st) ≤ 126 + 9 * (end_place st s - first_place st s)
 line_few symbols s None h = omega arith
 line_few symbols s (Some (Segment name base)) h = omega arith
-line_few symbols s (Some (Order f o is_long)) h =
-    omega (
-      arith,
-      headed_few (order_item (goes_by_theta symbols s o) s.base f
-          (operand_number symbols (segment_of_counter s) o) is_long ∷ []) (nat_eq s.place s.base) s.base,
-    )
-line_few symbols s (Some (Number w)) h =
-    omega (arith, headed_few (word_item w ∷ []) (nat_eq s.place s.base) s.base)
-line_few symbols s (Some (Letters codes)) h =
-    let ws = map (λ c. 4096 * c) codes.items in
-    omega (
-      arith,
-      headed_few (map word_item ws) (nat_eq s.place s.base) s.base,
-      length-map ws word_item,
-      length-map codes.items (λ c. 4096 * c),
-    )
-line_few symbols s (Some (Long v)) h =
-    omega (
-      arith,
-      headed_few (map word_item (long_words s.place v)) (nat_eq s.place s.base) s.base,
-      long_few (nat_eq (s.place % 2) 1) (v % 2 ^ 17) (v / 2 ^ 18),
-    )
-line_few symbols s (Some (Fetch routine name ts)) h =
-    omega (arith, use_few symbols ts.items (even_from s.place) (find routine))
+line_few symbols s (Some (Order f o is_long)) h = search (rules, headed_few)
+line_few symbols s (Some (Number w)) h = search (rules, headed_few)
+line_few symbols s (Some (Letters codes)) h = grind (arith, common_steps, headed_few)
+line_few symbols s (Some (Long v)) h = search (rules, headed_few, long_few)
+line_few symbols s (Some (Fetch routine name ts)) h = search (rules, use_few)
 line_few symbols s (Some (Enter name)) h = omega arith
 line_few symbols s (Some (Rows codes)) h = omega (arith, h)
 
@@ -269,14 +235,7 @@ item_bytes i = search rules
 
 items_bytes : (is : List Item) → length (text_of (canonicals is)) ≤ 9 * length is
 items_bytes [] = omega arith
-items_bytes (i ∷ is) =
-    omega (
-      arith,
-      item_bytes i,
-      line_bytes false (rows_of (canonical i)),
-      items_bytes is,
-      length-append (line_from false (rows_of (canonical i))) (text_of (canonicals is)),
-    )
+items_bytes (i ∷ is) = search (rules, item_bytes, line_bytes, length-append, items_bytes is)
 
 after_bytes : (rows : List ℕ) → length (after_text rows) ≤ length rows + 1
 after_bytes [] = omega arith

@@ -62,9 +62,7 @@ map_both (x ∷ xs) ys = ap (λ (t : Text). byte_of x false ∷ t) (map_both xs 
 functions_both : (a b : ℕ) (s : State)
     → functions_after (a + b) s ≡ functions_after a s ++ functions_after b (state_after a s)
 unfolding functions_after
-functions_both a zero s =
-    let e : a + 0 ≡ a = omega arith in
-    ap (λ n. functions_after n s) e ∙ sym (append-nil (functions_after a s))
+functions_both a zero s = search (rules, append-nil)
 functions_both a (suc b) s =
     let e : a + suc b ≡ suc (a + b) = omega arith in
     ap (λ n. functions_after n s) e
@@ -75,13 +73,7 @@ functions_both a (suc b) s =
 -- the letters of a trace of orders are those of the first ones, and those of the others
 pub letters_sum : (a b : ℕ) (s : State)
     → letters_in (trace_to (a + b) s) ≡ letters_in (trace_to a s) ++ letters_in (trace_to b (state_after a s))
-letters_sum a b s =
-    let xs = functions_after a s in
-    let ys = functions_after b (state_after a s) in
-    ap (λ (fs : List ℕ). letters_in (trace_text fs)) (functions_both a b s)
-    ∙ bare_trace (xs ++ ys) ∙ ap letters_in (map_both xs ys)
-    ∙ letters_both (map (λ f. byte_of f false) xs) (map (λ f. byte_of f false) ys)
-    ∙ (λ i. sym (bare_trace xs) i ++ sym (bare_trace ys) i)
+letters_sum a b s = search (rules, functions_both, bare_trace, map_both, letters_both)
 
 -- ---- the state of a session
 

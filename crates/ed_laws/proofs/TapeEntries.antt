@@ -4,7 +4,7 @@ use Rattle.ed_laws.proofs.Kit.{RowEffect, Ended, Entered, Longer, Placed, Refuse
 use Rattle.ed_laws.proofs.Kit.{NotationState, row_kind, IsDirective, Arrived, entry_by, Faulty, part_of, placed_by}
 use Rattle.ed_laws.proofs.Kit.{reading_on, row_effect, set_by, setting_of, Verdict, first_store, starts}
 use Rattle.ed_laws.proofs.Kit.{opening_notation, [], ap, arith, Bool, drop, false, get_or, inl, List, nat_lt, None}
-use Rattle.ed_laws.proofs.Kit.{Option, refl, rules, Some, sym, true, ℕ, ◌+◌, ◌-◌, ◌<◌, ◌∙◌, ◌∷◌, ◌≡◌, ◌≤◌, nat_tests}
+use Rattle.ed_laws.proofs.Kit.{Option, refl, rules, Some, sym, true, ℕ, ◌+◌, ◌-◌, ◌∙◌, ◌∷◌, ◌≡◌, ◌≤◌, nat_tests}
 use Rattle.ed_laws.proofs.Kit.{run_end, RunEnd, ran_later, TapeEntry, over, first_state, paper_room, ran_outcome}
 use Rattle.ed_laws.proofs.Kit.{with_post_mortem, opening, reading_is_rules, LeadsIn, first_part, LeadsTo}
 use Rattle.ed_initial.proofs.Kit.{set, value_of, ReachesEntry}
@@ -23,9 +23,7 @@ abbrev pub Agree : List ℕ → List ℕ → Type 0
 Agree v w = drop 41 v ≡ drop 41 w
 
 set_agrees : (v w : List ℕ) (p x : ℕ) (t : Bool) → nat_lt p 41 ≡ t → Agree v w → Agree (set v p x) (set w p x)
-set_agrees v w p x true e h =
-    let l : p < 41 = grind (arith, nat_tests) in
-    drop-set-lt 41 v p x l ∙ h ∙ sym (drop-set-lt 41 w p x l)
+set_agrees v w p x true e h = search (rules, drop-set-lt)
 set_agrees v w p x false e h =
     let l : 41 ≤ p = grind (arith, nat_tests) in
     let q : 41 + (p - 41) ≡ p = omega arith in
@@ -35,8 +33,7 @@ set_agrees v w p x false e h =
 
 pub over_agrees : (placed : List (ℕ × ℕ)) (v w : List ℕ) → Agree v w → Agree (over placed v) (over placed w)
 over_agrees [] v w h = h
-over_agrees (p ∷ placed) v w h =
-    set_agrees (over placed v) (over placed w) p.0 p.1 (nat_lt p.0 41) refl (over_agrees placed v w h)
+over_agrees (p ∷ placed) v w h = search (rules, set_agrees, over_agrees placed v w h)
 
 index_agrees : (v w : List ℕ) (a : ℕ) → 41 ≤ a → Agree v w → slice_index v a ≡ slice_index w a
 index_agrees v w a l h =

@@ -1,15 +1,13 @@
 -- A trace and a session reach the entry of a tape as its run does.
-use Rattle.ed_laws.proofs.Kit.{few_codes, Settings, le-ltb, lt-leb, ap, arith, length, List, None, refl, rules, sym, ℕ}
-use Rattle.ed_laws.proofs.Kit.{◌++◌, ◌+◌, ◌-◌, ◌<◌, ◌∙◌, ◌≡◌, ◌≤◌, State, progress, state_after, least_below, AllWent}
-use Rattle.ed_laws.proofs.Kit.{end_at, EndsAfter, run_end, run_orders, ran_ends, TapeEntry, first_state, ending_line}
-use Rattle.ed_laws.proofs.Kit.{status_of, move_end, first_once, after_sum, move_orders, trace_to, ne_eqb, LeadsIn}
-use Rattle.ed_laws.proofs.Kit.{letters_in, cases_lt, inl, inr, ◌⊎◌}
+use Rattle.ed_laws.proofs.Kit.{few_codes, Settings, le-ltb, lt-leb, ap, arith, List, None, rules, sym, ℕ, ◌+◌, ◌-◌, ◌<◌}
+use Rattle.ed_laws.proofs.Kit.{◌∙◌, ◌≡◌, ◌≤◌, State, progress, state_after, least_below, AllWent, end_at, EndsAfter}
+use Rattle.ed_laws.proofs.Kit.{run_end, run_orders, ran_ends, TapeEntry, first_state, ending_line, move_end, first_once}
+use Rattle.ed_laws.proofs.Kit.{after_sum, move_orders, trace_to, ne_eqb, LeadsIn, letters_in, cases_lt, inl, inr, ◌⊎◌}
 use Rattle.std.proofs.lemmas.Bool.{eq-eqb}
 use Rattle.ed_machine.proofs.LeastNumbers.{first_later}
 use Rattle.ed_machine.proofs.Steps.{no_step, quiet_stops}
 use Rattle.ed_run.proofs.Later.{past_on}
 use Rattle.ed_stepper.specs.MoveEnds.{Ends}
-use Rattle.ed_stepper.specs.Scripts.{move_line}
 use Rattle.ed_stepper.specs.declared.moves.MoveEnd.TheVariants.{Entered}
 use Rattle.ed_stepper.specs.declared.moves.MoveTarget.TheVariants.{Entry}
 use Rattle.ed_stepper.proofs.Founds.{end_found, orders_found}
@@ -24,14 +22,8 @@ module _ (limit resumes k : ℕ) (s : State) (went : AllWent k s) (fits : k ≤ 
 
   same_there : (j : ℕ) → j ≤ limit - k → (j < limit - k) ⊎ (limit - k ≤ j)
       → end_at limit resumes limit (k + j) (progress j t) ≡ end_at (limit - k) resumes (limit - k) j (progress j t)
-  same_there j below (inl less) =
-      let few = few_codes j t in
-      let roomy = lt-leb limit (length (progress j t).codes) (omega (arith, few, less)) in
-      let roomy_too = lt-leb (limit - k) (length (progress j t).codes) (omega (arith, few, less)) in
-      rw (ne_eqb (k + j) limit (omega (arith, less, fits)), ne_eqb j (limit - k) (omega (arith, less)))
-      (rw (roomy, roomy_too) refl)
-  same_there j below (inr all) =
-      rw (eq-eqb (k + j) limit (omega (arith, all, below, fits)), eq-eqb j (limit - k) (omega (arith, all, below))) refl
+  same_there j below (inl less) = search (rules, few_codes, lt-leb, ne_eqb)
+  same_there j below (inr all) = search (rules, eq-eqb)
 
   -- an end of the run from there is one of the whole run
   same_end : (j : ℕ) → j ≤ limit - k → end_at limit resumes limit (k + j) (progress (k + j) s)
@@ -41,15 +33,7 @@ module _ (limit resumes k : ℕ) (s : State) (went : AllWent k s) (fits : k ≤ 
 
   -- no end comes before
   none_before : (j : ℕ) → j < k → end_at limit resumes limit j (progress j s) ≡ None
-  none_before j below =
-      let stops : (progress j s).stops ≡ 0 = quiet_stops j s (λ i l. went i (omega (arith, l, below))) in
-      let turn = went j below in
-      rw (
-        le-ltb resumes (progress j s).stops (omega (arith, stops)),
-        ne_eqb j limit (omega (arith, below, fits)),
-        turn,
-      )
-      refl
+  none_before j below = search (rules, quiet_stops, le-ltb, ne_eqb)
 
   whole_ends : EndsAfter limit resumes limit s (k + run_orders (limit - k) resumes (limit - k) t)
       (run_end (limit - k) resumes (limit - k) t).ending
@@ -68,11 +52,7 @@ module _ (limit resumes k : ℕ) (s : State) (went : AllWent k s) (fits : k ≤ 
   unfolding run_end
   goes_on =
       let one = first_once (ran_ends limit resumes limit s) whole_ends in
-      record {
-        orders = one.0;
-        ending = one.1;
-        state = ap (λ n. state_after n s) one.0 ∙ after_sum k (run_orders (limit - k) resumes (limit - k) t) s;
-      }
+      search (rules, after_sum)
 
 -- ---- a session that moves to the entry
 
@@ -94,14 +74,7 @@ module _ (s : Settings) (codes : List ℕ) (e : TapeEntry) (into : LeadsIn (firs
       let end = λ (x : State). run_end less s.resumes less x in
       let note = λ (x : State). ending_line (end x).ending (end x).state in
       let letters = λ (x : State). letters_in (trace_to (run_orders less s.resumes less x) x) in
-      record {
-        letters = ap (λ n. letters_in (trace_to n first)) on.orders
-            ∙ letters_sum e.cost (run_orders less s.resumes less (state_after e.cost first)) first
-            ∙ ap (λ (x : State). letters_in (trace_to e.cost first) ++ letters x) into.arrives;
-        note_is = (λ i. ending_line (on.ending i) (on.state i)) ∙ ap note into.arrives;
-        status_is = ap status_of on.ending
-            ∙ ap (λ (x : State). status_of (run_end less s.resumes less x).ending) into.arrives;
-      }
+      search (rules, letters_sum)
 
   pub steps_to_entry : StepsToEntry s codes e
   steps_to_entry =
@@ -114,8 +87,4 @@ module _ (s : Settings) (codes : List ℕ) (e : TapeEntry) (into : LeadsIn (firs
       (λ i. move_end Entry (none i) (start i)) ∙ sym (end_found Entry s.limit e.cost first Entered ends) in
       let zero_and : 0 + move_orders Entry (s.limit - 0) (state_after 0 first) ≡ e.cost = omega (arith, orders) in
       let at : (state_after e.cost first).counter ≡ e.at = ap (λ (x : State). x.counter) into.arrives in
-      record {
-        stands = λ i. record { start = first; limit = s.limit; done = zero_and i };
-        line = (λ i. move_line (state_after (zero_and i) first).counter (zero_and i) (end i))
-            ∙ ap (λ n. move_line n e.cost Entered) at;
-      }
+      search rules

@@ -1,12 +1,12 @@
 -- The letters of a trace are the orders of its run, and its Zs are the stops.
 use Rattle.ed_laws.proofs.Kit.{filter-append, none-some, Kind, Ending, Limit, Stopped, Turn, counted_after, next_stops}
 use Rattle.ed_laws.proofs.Kit.{past_next, length-append, byte_of, [], ap, arith, Bool, false, if◌then◌else◌, length}
-use Rattle.ed_laws.proofs.Kit.{map, nat_eq, nat_le, nat_lt, None, Option, refl, rules, Some, subst, suc, sym, true, ℕ}
-use Rattle.ed_laws.proofs.Kit.{◌++◌, ◌+◌, ◌<◌, ◌∙◌, ◌∷◌, ◌≡◌, ◌≤◌, nat_tests, Text, step, State, Progress, progress}
-use Rattle.ed_laws.proofs.Kit.{state_after, end_by, run_end, run_orders, RunEnd, ran_ends, first_state, paper_room}
-use Rattle.ed_laws.proofs.Kit.{status_of, not, ◌==◌, AreObeyed, is_obeyed, functions_after, trace_to, zero, same_Some}
-use Rattle.ed_laws.proofs.Kit.{stops_of, function_of, kind_of_function, next_word, obey_word, letters_in, cases_lt, inl}
-use Rattle.ed_laws.proofs.Kit.{inr, end_at}
+use Rattle.ed_laws.proofs.Kit.{map, nat_eq, nat_le, nat_lt, None, Option, refl, rules, Some, suc, sym, true, ℕ, ◌++◌}
+use Rattle.ed_laws.proofs.Kit.{◌+◌, ◌<◌, ◌∙◌, ◌∷◌, ◌≡◌, ◌≤◌, nat_tests, Text, step, State, progress, state_after}
+use Rattle.ed_laws.proofs.Kit.{end_by, run_end, run_orders, RunEnd, ran_ends, first_state, paper_room, status_of, not}
+use Rattle.ed_laws.proofs.Kit.{◌==◌, AreObeyed, is_obeyed, functions_after, trace_to, zero, same_Some, stops_of}
+use Rattle.ed_laws.proofs.Kit.{function_of, kind_of_function, next_word, obey_word, letters_in, cases_lt, inl, inr}
+use Rattle.ed_laws.proofs.Kit.{end_at}
 use Rattle.std.proofs.lemmas.Bool.{lt-ltb}
 use Rattle.std.specs.List.{filter}
 use Rattle.ed_words.specs.Words.{digit as one_if}
@@ -92,9 +92,7 @@ none_yet s = refl
 -- there are as many as orders
 pub letters_count : (k : ℕ) (s : State) → length (letters_in (trace_to k s)) ≡ k
 letters_count zero s = ap length (none_yet s)
-letters_count (suc k) s =
-    let one : length (letters_in (trace_to k s)) + 1 ≡ suc k = omega (arith, letters_count k s) in
-    ap length (more_letters k s) ∙ length-append (letters_in (trace_to k s)) (next_letter (state_after k s) ∷ []) ∙ one
+letters_count (suc k) s = search (rules, more_letters, length-append, letters_count k s)
 
 -- and as many Zs as stops
 pub zeds_count : (k : ℕ) (s : State) → stops_in (letters_in (trace_to k s)) ≡ (progress k s).stops
@@ -189,9 +187,7 @@ unfolding run_end
 run_past_stop limit resumes room s is =
     let e = ends_by_stop limit resumes room s is in
     let plus : run_orders limit resumes room s ≡ e.before + 1 = omega (arith, e.count) in
-    subst IsPastStop
-    (sym (ap (λ n. state_after n s) plus ∙ ap (λ (p : Progress). p.state) (past_next e.before s)))
-    (past_stop (state_after e.before s) e.turn)
+    search (rules, past_next, past_stop)
 
 -- ---- the whole run
 

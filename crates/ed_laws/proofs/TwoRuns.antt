@@ -2,7 +2,7 @@
 use Rattle.ed_laws.proofs.Kit.{Ending, Limit, Stopped, past_sum, ran_is, StartsWith, ap, arith, length, nat_le, None}
 use Rattle.ed_laws.proofs.Kit.{refl, rules, Some, sym, ℕ, ◌+◌, ◌-◌, ◌<◌, ◌∙◌, ◌≡◌, ◌≢◌, ◌≤◌, nat_tests, State, Progress}
 use Rattle.ed_laws.proofs.Kit.{progress, state_after, least_below, end_at, EndsAfter, run_end, run_orders, ran_ends}
-use Rattle.ed_laws.proofs.Kit.{is_some, first_once, first_within, ne_eqb, cases_lt, inl, inr, common_steps}
+use Rattle.ed_laws.proofs.Kit.{is_some, first_once, first_within, ne_eqb, common_steps}
 
 -- ---- whatever the limits, the resumes and the papers
 
@@ -78,7 +78,7 @@ module _ (limit resumes more room : ℕ) (s : State) (few : resumes ≤ more) wh
 
 -- ---- a greater limit
 
--- on papers of which neither is full, or both are, below the lower limit
+-- on two papers that are both full or both not full after each number of orders below the lower limit
 module _ (low high resumes room room_too : ℕ) (s : State) (fits : low ≤ high)
     (papers : (k : ℕ) → k < low
     → nat_le room_too (length (progress k s).codes) ≡ nat_le room (length (progress k s).codes)) where
@@ -100,10 +100,7 @@ module _ (low high resumes room room_too : ℕ) (s : State) (fits : low ≤ high
   at_limit k p e other is h = grind (arith, common_steps, nat_tests)
 
   limit_so : (run_end low resumes room s).ending ≢ Limit → EndsToo low resumes room high resumes room_too s
-  limit_so other e is h = elim (cases_lt (run_orders low resumes room s) low) [
-    | inl less ↦ same_end _ less ∙ h
-    | inr no_less ↦ at_limit _ _ e (λ l. other (is ∙ l)) (omega (arith, no_less, most_orders)) h
-  ]
+  limit_so other e is h = search (rules, same_end, most_orders)
 
   pub limit_begins : StartsWith (run_end high resumes room_too s).codes (run_end low resumes room s).codes
   limit_begins = codes_begin low resumes room high resumes room_too s limit_on

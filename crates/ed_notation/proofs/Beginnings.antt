@@ -1,8 +1,7 @@
 -- The beginning of a tape up to its fault: no rule is broken before it, and no row of it costs more than 17 orders.
 use Rattle.ed_notation.proofs.Kit.{[], inl, inr, length, length-append, List, lit≤, None, Option, refl, Some, true}
-use Rattle.ed_notation.proofs.Kit.{true≢false, ℕ, ◌++◌, ◌+◌, ◌∷◌, ◌≡◌, ◌≤◌, Size, ap, arith, sym, ◌*◌, ◌∙◌, IsSoundTo}
-use Rattle.ed_notation.proofs.Kit.{is_broken, IsFault, IsRead, part_rows, NotationState, Begun, mark_rows}
-use Rattle.ed_notation.proofs.Kit.{spelled_rows, TapeCause, EndOfTape}
+use Rattle.ed_notation.proofs.Kit.{true≢false, ℕ, ◌∷◌, ◌≡◌, ◌≤◌, Size, arith, sym, ◌*◌, IsSoundTo, is_broken, IsFault}
+use Rattle.ed_notation.proofs.Kit.{IsRead, part_rows, NotationState, Begun, mark_rows, TapeCause, EndOfTape, rules}
 use Rattle.ed_notation.specs.Beginnings.{part_cost, orders_before}
 use Rattle.ed_notation.proofs.Costs.{all_most, mark_most}
 
@@ -26,13 +25,4 @@ part_most (Some b) = omega (arith, mark_most b.mark, length-append b.digits (mar
 -- the rows before a row cost no more than 17 orders each
 pub beginning_most : {words : List ℕ} {start : NotationState} {rows : List ℕ} {row : ℕ}
     (r : IsRead words start rows row) → orders_before r ≤ 17 * length rows
-beginning_most {words} {start} {rows} r =
-    let all : length rows ≡ length (spelled_rows r.before) + length (part_rows r.part ++ r.rest) =
-    ap length r.rows_are ∙ length-append _ _ in
-    omega (
-      arith,
-      all,
-      length-append (part_rows r.part) r.rest,
-      all_most words start r.before,
-      part_most r.part,
-    )
+beginning_most {words} {start} {rows} r = search (rules, length-append, all_most, part_most)

@@ -1,6 +1,6 @@
 -- The rows of items are those of their canonical spellings.
 use Rattle.ed_notation.proofs.Kit.{[], Bool, false, if◌then◌else◌, List, refl, true, ℕ, ◌++◌, ◌∷◌, ◌≡◌, flat_map, ap}
-use Rattle.ed_notation.proofs.Kit.{◌∙◌, mark_rows, rows_of, spelled_rows, canonical, canonicals, digits_of, Item}
+use Rattle.ed_notation.proofs.Kit.{mark_rows, rows_of, spelled_rows, canonical, canonicals, digits_of, Item, rules}
 use Rattle.ed_codes.specs.declared.letters.TheConstants.{PI}
 use Rattle.ed_notation.specs.Spellings.{item_rows}
 
@@ -14,6 +14,4 @@ item_rows_are i =
 
 pub all_rows_are : (is : List Item) → flat_map item_rows is ≡ spelled_rows (canonicals is)
 all_rows_are [] = refl
-all_rows_are (i ∷ is) =
-    ap (λ (rows : List ℕ). rows ++ flat_map item_rows is) (item_rows_are i)
-    ∙ ap (λ (rows : List ℕ). rows_of (canonical i) ++ rows) (all_rows_are is)
+all_rows_are (i ∷ is) = search (rules, item_rows_are, all_rows_are is)

@@ -2,7 +2,7 @@
 pub use Rattle.std.proofs.Common.{[], append_assoc, Bool, drop, false, if◌then◌else◌, inl, inr, length, length-append}
 pub use Rattle.std.proofs.Common.{List, lit<, lit≤, nat_le, nat_lt, None, Option, refl, replicate, set, Some, subst}
 pub use Rattle.std.proofs.Common.{suc, take, true, true≢false, unwrap_or, ℕ, ◌&&◌, ◌++◌, ◌+◌, ◌-◌, ◌<◌, ◌∷◌, ◌≡◌, ◌≢◌}
-pub use Rattle.std.proofs.Common.{◌≤◌, ◌⊎◌}
+pub use Rattle.std.proofs.Common.{◌≤◌, ◌⊎◌, rules}
 pub use Rattle.std.specs.List.{flat_map, list_all}
 pub use Rattle.std.proofs.Math.Bool.{and-false}
 pub use Rattle.std.proofs.Math.Nat.{add-zero}
@@ -23,8 +23,7 @@ pub use Rattle.ed_notation.specs.Faults.{AreRead, AreSound, Breaks, breaks, caus
 pub use Rattle.ed_notation.specs.Faults.{is_place, IsFault, IsPart, IsRead, part_rows, RowsReachEntry, TapeEntry}
 pub use Rattle.ed_notation.specs.Faults.{WellFormed}
 pub use Rattle.ed_notation.specs.Fold.{act, address, begun_cost, control_of, cost_of, costs, end_cost, ending_effect}
-pub use Rattle.ed_notation.specs.Fold.{entering, enters_at, fold, is_entry, item_word, letter_action_of, NotationState}
-pub use Rattle.ed_notation.specs.Fold.{over}
+pub use Rattle.ed_notation.specs.Fold.{entering, fold, is_entry, item_word, letter_action_of, NotationState, over}
 pub use Rattle.ed_notation.specs.Items.{AreDigits, Begun, begun_rows, digits_number, ends, is_empty, IsBegun, IsWritten}
 pub use Rattle.ed_notation.specs.Items.{item, item_of, items, mark_rows, row_kind, rows_of, spelled_rows, Written}
 pub use Rattle.ed_notation.specs.Openings.{IsDirective, opening_with}

@@ -4,7 +4,7 @@ use Rattle.ed_notation.proofs.Kit.{◌≡◌, ◌≤◌, ◌⊎◌, Size, ap, ar
 use Rattle.ed_notation.proofs.Kit.{RowsReachEntry, TapeEntry, WellFormed, address, cost_of, end_cost, entering}
 use Rattle.ed_notation.proofs.Kit.{item_word, NotationState, begun_rows, item_of, row_kind, IsDirective, Arrived}
 use Rattle.ed_notation.proofs.Kit.{entry_by, Faulty, reading_on, ReadingIsRules, Verdict, TapeCause, RowKind, Letter}
-use Rattle.ed_notation.proofs.Kit.{is_entry}
+use Rattle.ed_notation.proofs.Kit.{rules}
 use Rattle.ed_notation.specs.Reading.{ReadingAlwaysIsRules}
 use Rattle.ed_notation.proofs.Follow.{Reader, reads, inside, Goes}
 use Rattle.ed_notation.proofs.Least.{same}
@@ -104,15 +104,7 @@ module _ (z : Size) (words : List ℕ) (start : NotationState) (base : ℕ) (row
       let p4 : entry.rows ≡ e.rows = omega (arith, c.read_is, l) in
       let p5 : entry.notation ≡ e.notation = sym n in
       let p6 : entry.last ≡ e.last = sym c.last_is in
-      h ∙ (λ i. Arrived (record {
-        at = p1 i;
-        word = p2 i;
-        cost = p3 i;
-        rows = p4 i;
-        notation = p5 i;
-        last = p6 i;
-        rest = e.rest;
-      }))
+      search rules
 
   abbrev Either : Type 0
   Either =

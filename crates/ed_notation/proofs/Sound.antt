@@ -36,7 +36,7 @@ ends_sound {z} {words} {start} w rest good to fits cause = by_test _ refl
         (broken_at (Some w.begun) (w.end ∷ rest) good.begun h)) in
         absurd (omega (arith, least, fits, length-append (begun_rows w.begun) (w.end ∷ [])))
 
--- so do all items before it, and none is broken from there on
+-- all items before such a row break no rule, and the rows after them break none up to it
 all_sound : {z : Size} {words : List ℕ} (ws : List Written) {start : NotationState} {row : ℕ} {rest : List ℕ} (n : ℕ)
     → row ≡ length (spelled_rows ws) + n → IsSoundTo z words start (spelled_rows ws ++ rest) row
     → AreRead words start ws → AreSound z words start ws × IsSoundTo z words (fold words start (items ws)) rest n

@@ -27,7 +27,7 @@ abbrev pub Tells : Reader → List ℕ → Verdict → Type 0
 Tells p tape (Faulty row cause) = TellsFault p tape row cause
 Tells p tape (Arrived e) = TellsEntry p tape e
 
--- a rule that is broken behind an item
+-- a rule that is broken in the rows after an item
 pub broken_later : {z : Size} {words : List ℕ} {start : NotationState} (w : Written) {rows : List ℕ} {row : ℕ}
     {cause : TapeCause} → IsWritten w → is_entry start (item w) ≡ false
     → Breaks z words (act words start (item w)) rows row cause

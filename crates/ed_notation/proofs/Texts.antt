@@ -1,8 +1,8 @@
 -- The text of items spells their rows.
 use Rattle.ed_notation.proofs.Kit.{[], Bool, drop, false, length, List, lit<, nat_lt, refl, Some, true, ℕ, ◌++◌, ◌+◌}
 use Rattle.ed_notation.proofs.Kit.{◌<◌, ◌∷◌, ◌≡◌, ◌≤◌, list_all, and_parts, le-leb, ltb-true, append-nil, drop_all}
-use Rattle.ed_notation.proofs.Kit.{byte_of, row_of, ap, arith, sym, ◌∙◌, AreDigits, begun_rows, IsWritten, mark_rows}
-use Rattle.ed_notation.proofs.Kit.{rows_of, spelled_rows, Written, AreWritten, canonicals, line_from, text_of, Item}
+use Rattle.ed_notation.proofs.Kit.{byte_of, row_of, ap, arith, sym, ◌∙◌, AreDigits, IsWritten, mark_rows, rows_of}
+use Rattle.ed_notation.proofs.Kit.{spelled_rows, Written, AreWritten, canonicals, line_from, text_of, Item, rules}
 use Rattle.ed_codes.specs.Reading.{reading, rows}
 use Rattle.ed_codes.specs.Text.{Spells, none, row, spacing}
 use Rattle.ed_codes.proofs.Pieces.{spells_append}
@@ -50,10 +50,7 @@ mark_codes true = (lit< tt, tt)
 mark_codes false = tt
 
 row_codes : (w : Written) → IsWritten w → AreCodes (rows_of w)
-row_codes w good =
-    let b = w.begun in
-    let inner = codes_append b.digits (mark_rows b.mark) (digit_codes b.digits good.begun.digits) (mark_codes b.mark) in
-    codes_append (begun_rows b) (w.end ∷ []) (good.begun.function, inner) ((end_range b w.end good.ended).1, tt)
+row_codes w good = search (rules, codes_append, digit_codes, mark_codes, end_range)
 
 -- ---- the text
 
@@ -64,8 +61,7 @@ line_spells as_digit (c ∷ cs) h =
 
 text_spells : (ws : List Written) → AreWritten ws → Spells (text_of ws) (spelled_rows ws)
 text_spells [] h = none
-text_spells (w ∷ ws) h =
-    spells_append _ (rows_of w) _ _ (line_spells false (rows_of w) (row_codes w h.0)) (text_spells ws h.1)
+text_spells (w ∷ ws) h = search (rules, spells_append, line_spells, row_codes, text_spells ws h.1)
 
 pub text_reads : (ws : List Written) → AreWritten ws → reading (text_of ws) ≡ rows (spelled_rows ws)
 text_reads ws h = has_one_reading.only (text_of ws) (rows (spelled_rows ws)) (text_spells ws h)

@@ -1,7 +1,7 @@
 -- No spelling of an item is the beginning of a spelling of another item.
 use Rattle.ed_notation.proofs.Kit.{[], append_assoc, Bool, false, List, refl, true, ℕ, ◌++◌, ◌∷◌, ◌≡◌, ◌≤◌, append-nil}
-use Rattle.ed_notation.proofs.Kit.{ap, arith, sym, ◌∙◌, AreDigits, begun_rows, IsWritten, item, items, mark_rows}
-use Rattle.ed_notation.proofs.Kit.{rows_of, spelled_rows, Written, AreWritten, SpellsAll, Item}
+use Rattle.ed_notation.proofs.Kit.{ap, arith, sym, ◌∙◌, AreDigits, begun_rows, IsWritten, item, mark_rows, rows_of}
+use Rattle.ed_notation.proofs.Kit.{spelled_rows, Written, AreWritten, SpellsAll, Item, rules}
 use Rattle.ed_notation.specs.Spellings.{NoSpellingBeginsAnother}
 use Rattle.ed_notation.proofs.Tests.{end_range}
 
@@ -14,13 +14,10 @@ tail_same e = cc
 -- the rows after a function row
 tails : {ds ds' : List ℕ} {m m' : Bool} {e e' : ℕ} {a a' : List ℕ} → AreDigits ds → AreDigits ds' → 13 ≤ e → 13 ≤ e'
     → ds ++ (mark_rows m ++ (e ∷ a)) ≡ ds' ++ (mark_rows m' ++ (e' ∷ a')) → (ds ≡ ds') × (m ≡ m') × (e ≡ e') × (a ≡ a')
-tails {ds = []} {ds' = []} {m = true} {m' = true} p q h k x =
-    let t = tail_same x in
-    (refl, refl, head_same t, tail_same t)
+tails {ds = []} {ds' = []} {m = true} {m' = true} p q h k x = search (rules, tail_same, head_same)
 tails {ds = []} {ds' = []} {m = true} {m' = false} p q h k x = absurd (omega (arith, k, head_same x))
 tails {ds = []} {ds' = []} {m = false} {m' = true} p q h k x = absurd (omega (arith, h, head_same x))
-tails {ds = []} {ds' = []} {m = false} {m' = false} p q h k x =
-    (refl, refl, head_same x, tail_same x)
+tails {ds = []} {ds' = []} {m = false} {m' = false} p q h k x = search (rules, head_same, tail_same)
 tails {ds = []} {ds' = (d ∷ ds')} {m = true} p q h k x = absurd (omega (arith, q.0, head_same x))
 tails {ds = []} {ds' = (d ∷ ds')} {m = false} p q h k x = absurd (omega (arith, q.0, h, head_same x))
 tails {ds = (d ∷ ds)} {ds' = []} {m' = true} p q h k x = absurd (omega (arith, p.0, head_same x))
@@ -65,6 +62,4 @@ one_list (v ∷ vs) (w ∷ ws) p q e =
 
 -- the rows spell no other list of items
 pub no_other : (is js : List Item) (rows : List ℕ) → SpellsAll is rows → SpellsAll js rows → is ≡ js
-no_other is js rows p q =
-    let e = one_list _ _ p.good q.good (p.rows_are ∙ sym q.rows_are) in
-    sym p.items_are ∙ ap items e ∙ q.items_are
+no_other is js rows p q = search (rules, one_list)

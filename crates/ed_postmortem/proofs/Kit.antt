@@ -1,5 +1,5 @@
 -- The names that the proofs of this crate cite, passed on from one place. Declares nothing.
-pub use Rattle.std.proofs.Common.{append-nil, codes}
+pub use Rattle.std.proofs.Common.{append-nil, codes, rules}
 pub use Rattle.ed_words.specs.declared.order_words.TheConstants.{C_F, O_F, T_F}
 pub use Rattle.ed_words.specs.declared.size.Size.{Size}
 pub use Rattle.ed_machine.specs.Sheet.{Sheet}

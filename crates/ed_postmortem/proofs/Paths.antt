@@ -1,9 +1,10 @@
 -- The orders of the post-mortem, by their listing: paths that print a word, the loop over the words, and the stop.
-use Rattle.ed_postmortem.proofs.Kit.{append-nil, C_F, O_F, Size, Stopped, Frame, begun, shown, append_assoc, locations_most, []}
-use Rattle.ed_postmortem.proofs.Kit.{ap, arith, Bool, false, get_or, inr, length, List, lit<, lit≤, nat_lt, Option}
-use Rattle.ed_postmortem.proofs.Kit.{refl, Some, suc, sym, true, zero, ℕ, ◌%◌, ◌*◌, ◌++◌, ◌+◌, ◌-◌, ◌/◌, ◌<◌, ◌^◌, ◌∙◌}
-use Rattle.ed_postmortem.proofs.Kit.{◌∷◌, ◌≡◌, ◌≤◌, nat_tests, locations, Moment, address_digits, is_even, length_code}
-use Rattle.ed_postmortem.proofs.Kit.{length_orders, number_in, printed_codes, word_codes, word_orders, words_orders}
+use Rattle.ed_postmortem.proofs.Kit.{append-nil, C_F, O_F, Size, Stopped, Frame, begun, shown, append_assoc}
+use Rattle.ed_postmortem.proofs.Kit.{locations_most, [], ap, arith, Bool, false, get_or, inr, length, List, lit<, lit≤}
+use Rattle.ed_postmortem.proofs.Kit.{nat_lt, Option, refl, Some, suc, sym, true, zero, ℕ, ◌%◌, ◌*◌, ◌++◌, ◌+◌, ◌-◌, ◌/◌}
+use Rattle.ed_postmortem.proofs.Kit.{◌<◌, ◌^◌, ◌∙◌, ◌∷◌, ◌≡◌, ◌≤◌, nat_tests, locations, Moment, address_digits}
+use Rattle.ed_postmortem.proofs.Kit.{is_even, length_code, length_orders, number_in, printed_codes, word_codes}
+use Rattle.ed_postmortem.proofs.Kit.{word_orders, words_orders}
 use Rattle.std.proofs.Common.{nat_eq}
 use Rattle.ed_words.specs.declared.order_words.TheConstants.{S_F, V_F, Z_F}
 use Rattle.ed_orders.specs.declared.kind.Kind.TheVariants.{Z as KindZ}

@@ -1,10 +1,8 @@
 -- A run from a state whose orders lead to a stop ends there, and prints what these orders print.
-use Rattle.ed_postmortem.proofs.Kit.{append-nil, Sheet, Ending, Leads, IsRun, ap, arith, inl, inr, length, List, suc}
-use Rattle.ed_postmortem.proofs.Kit.{true, ℕ, ◌++◌, ◌-◌, ◌<◌, ◌∙◌, ◌≡◌, ◌≤◌, cases_lt, Obeyed, step, State}
-use Rattle.ed_postmortem.proofs.Kit.{state_after}
-use Rattle.ed_run.proofs.Kit.{◌⊎◌, codes_of, is_obeyed, progress, first_once, EndsAfter}
+use Rattle.ed_postmortem.proofs.Kit.{append-nil, Sheet, Ending, Leads, IsRun, ap, inl, inr, length, List, suc, true, ℕ}
+use Rattle.ed_postmortem.proofs.Kit.{◌++◌, ◌-◌, ◌<◌, ◌∙◌, ◌≡◌, ◌≤◌, cases_lt, Obeyed, step, State, state_after, rules}
+use Rattle.ed_run.proofs.Kit.{◌⊎◌, is_obeyed, progress, first_once, EndsAfter}
 use Rattle.ed_machine.specs.declared.ending.Ending.TheVariants.{Stopped}
-use Rattle.ed_machine.specs.declared.turn.Turn.{Turn}
 use Rattle.ed_machine.specs.declared.turn.Turn.TheVariants.{Stopped as Stops}
 use Rattle.ed_machine.proofs.Kit.Leads.{free, no_stops}
 use Rattle.ed_run.specs.Laws.{HasRoom}
@@ -23,15 +21,11 @@ module _ {k : ℕ} {s t u : State} {codes : List ℕ} (l : Leads k s codes t)
 
   codes_are : (progress (suc k) s).codes ≡ codes
   unfolding progress
-  codes_are =
-      ap (λ (turn : Turn). (progress k s).codes ++ codes_of turn) turn_is ∙ append-nil (progress k s).codes
-      ∙ l.codes_are
+  codes_are = search (rules, turn_is, append-nil)
 
   all_obeyed : (j : ℕ) → (j < k) ⊎ (k ≤ j) → j < suc k → is_obeyed (step (state_after j s)).turn ≡ true
   all_obeyed j (inl below) h = free l j below
-  all_obeyed j (inr above) h =
-      let e : j ≡ k = omega arith in
-      ap (λ i. is_obeyed (step (state_after i s)).turn) e ∙ ap is_obeyed turn_is
+  all_obeyed j (inr above) h = search (rules, turn_is)
 
   -- how a run from there without resumes ends
   pub run_stops : {limit : ℕ} {sheet full : Sheet} {ending : Ending} {left : State}

@@ -1,10 +1,9 @@
 -- The post-mortem from its start to its stop.
-use Rattle.ed_postmortem.proofs.Kit.{C_F, O_F, T_F, Sheet, Ending, Stopped, Frame, Leads, get_above, IsRun}
-use Rattle.ed_postmortem.proofs.Kit.{length-append, locations_most, block, block_cost, [], ap, arith, Bool, drop, false}
-use Rattle.ed_postmortem.proofs.Kit.{get_or, inl, inr, length, List, Option, refl, subst, suc, sym, zero, ℕ, ◌%◌, ◌*◌}
-use Rattle.ed_postmortem.proofs.Kit.{◌++◌, ◌+◌, ◌-◌, ◌^◌, ◌∙◌, ◌≡◌, ◌≤◌, locations, least, Obeyed, step, State}
-use Rattle.ed_postmortem.proofs.Kit.{state_after, Moment, patched, TapeEntry, over, IsPrinted, printed_codes}
-use Rattle.ed_postmortem.proofs.Kit.{words_orders, tape_rows}
+use Rattle.ed_postmortem.proofs.Kit.{T_F, Sheet, Ending, Stopped, Frame, Leads, get_above, IsRun, length-append}
+use Rattle.ed_postmortem.proofs.Kit.{locations_most, block, block_cost, [], ap, arith, Bool, drop, false, get_or, inl}
+use Rattle.ed_postmortem.proofs.Kit.{inr, length, List, Option, refl, subst, suc, sym, zero, ℕ, ◌*◌, ◌++◌, ◌+◌, ◌-◌}
+use Rattle.ed_postmortem.proofs.Kit.{◌^◌, ◌∙◌, ◌≡◌, ◌≤◌, locations, least, Obeyed, step, State, state_after, Moment}
+use Rattle.ed_postmortem.proofs.Kit.{patched, TapeEntry, over, IsPrinted, printed_codes, words_orders, tape_rows, rules}
 use Rattle.ed_initial.proofs.Kit.{set, IsStore, start_state, at_entry, entry_words, ReachesEntry, initial_orders}
 use Rattle.std.proofs.lemmas.List.{get_or-set_same, get_or-set_other, length-set, length-drop}
 use Rattle.ed_machine.proofs.Kit.Frames.{state}
@@ -114,13 +113,7 @@ module _ {s : State} {first count : ℕ} (store : IsStore s.store) (range : InRa
 
   -- the words of the post-mortem, as the tape places them
   block_is : block placed 112 listing ≡ cells (ready first count placed_work)
-  block_is =
-      let f = f_fits in
-      let c = c_fits in
-      let e5 : (O_F + get_or placed 45 0) % 2 ^ 17 ≡ O_F + 2 * first = omega (arith, at45) in
-      let e8 : (C_F + get_or placed 45 0) % 2 ^ 17 ≡ C_F + 2 * first = omega (arith, at45) in
-      let e83 : (0 + get_or placed 46 0) % 2 ^ 17 ≡ 2 * count = omega (arith, at46) in
-      rw (e5, e8, e83) (refl {a = cells (ready first count placed_work)})
+  block_is = search (rules, f, f_fits, c_fits, at45, at46, cells, ready)
 
   -- the locations 0 to 43 at the entry
   abbrev head : List ℕ
@@ -171,16 +164,7 @@ module _ {s : State} {first count : ℕ} (store : IsStore s.store) (range : InRa
   -- the state at the entry, seen as one of the post-mortem's
   entered : at_entry b entry
       ≡ state frame (place (ready first count placed_work) 0 unit 0 s.last) (s.orders + entry.cost)
-  entered = ap (λ (w : List ℕ). record {
-    size = s.size;
-    store = record { words = w; sandwich = digits };
-    acc = 0;
-    multiplier = unit;
-    counter = 56;
-    tape = [];
-    last = s.last;
-    orders = s.orders + entry.cost;
-  }) at_words
+  entered = search (rules, at_words)
 
   -- a word that is left, in the store around the post-mortem
   kept : (i : ℕ) → IsUntouched i → get_or around i 0 ≡ get_or s.store.words i 0
@@ -192,12 +176,7 @@ module _ {s : State} {first count : ℕ} (store : IsStore s.store) (range : InRa
 
   -- no location above the post-mortem's is changed
   far : (i : ℕ) → 140 ≤ i → IsUntouched i
-  far i h = record {
-    above = omega arith;
-    no_45 = λ e. absurd (omega arith);
-    no_46 = λ e. absurd (omega arith);
-    apart = inr (omega arith);
-  }
+  far i h = search rules
 
   kept_far : (i : ℕ) → first ≤ i → get_or around i 0 ≡ get_or s.store.words i 0
   kept_far i h = let low = range.above in kept i (far i (omega arith))

@@ -1,10 +1,9 @@
 -- A line of a script says what is read in it.
-use Rattle.ed_stepper.proofs.Kit.{unwrap_or, [], ap, arith, Bool, codes, false, if◌then◌else◌, length, List, nat_le}
-use Rattle.ed_stepper.proofs.Kit.{None, Option, refl, Some, subst, sym, true, ℕ, ◌++◌, ◌∙◌, ◌∷◌, ◌≡◌, ◌≤◌, Decides-eqb}
-use Rattle.ed_stepper.proofs.Kit.{Text, with_byte, begins_part, go, is_space, LineSaysCommand, no_part, one_part}
-use Rattle.ed_stepper.proofs.Kit.{one_space, parts_between_spaces, session_command, SessionCommand, Move, Show}
-use Rattle.ed_syntax.proofs.Kit.{option_and_then, option_map, list_all, bytes_eq, and_parts, le-leb, leb-true}
-use Rattle.ed_syntax.proofs.Kit.{bytes_eq-Decides, is_digit, value}
+use Rattle.ed_stepper.proofs.Kit.{unwrap_or, [], ap, arith, Bool, codes, false, if◌then◌else◌, length, List, None}
+use Rattle.ed_stepper.proofs.Kit.{Option, refl, Some, subst, sym, true, ℕ, ◌++◌, ◌∙◌, ◌∷◌, ◌≡◌, ◌≤◌, Decides-eqb, Text}
+use Rattle.ed_stepper.proofs.Kit.{with_byte, begins_part, go, is_space, LineSaysCommand, no_part, one_part, one_space}
+use Rattle.ed_stepper.proofs.Kit.{parts_between_spaces, session_command, SessionCommand, Move, Show}
+use Rattle.ed_syntax.proofs.Kit.{option_map, list_all, bytes_eq, le-leb, leb-true, bytes_eq-Decides, is_digit, value}
 use Rattle.ed_words.specs.Decimals.{in_range, number, number_within}
 use Rattle.std.proofs.lemmas.Bool.{false_from_ne_true, or_parts}
 use Rattle.std.proofs.lemmas.Option.{option_and_then_some}
@@ -15,6 +14,7 @@ use Rattle.ed_stepper.specs.Private.CommandReading.{of_parts, of_two, show_comma
 use Rattle.ed_stepper.specs.Private.Commands.{IsCommandInRange}
 use Rattle.ed_stepper.specs.declared.commands.SessionCommand.TheVariants.{Back, Trace}
 use Rattle.ed_stepper.specs.declared.moves.MoveTarget.TheVariants as aims
+use Rattle.std.proofs.Common.{rules}
 
 -- ---- values in options
 
@@ -29,8 +29,7 @@ none_is e = absurd (cc)
 -- a part in front
 part_read : (b : ℕ) (bs line : Text) → has_space (b ∷ bs) ≡ false → begins_part line ≡ false
     → parts_between_spaces ((b ∷ bs) ++ line) ≡ (b ∷ bs) ∷ parts_between_spaces line
-part_read b [] line solid ends =
-    let first : is_space b ≡ false = (or_parts _ _ solid).0 in rw (first, ends) refl
+part_read b [] line solid ends = search (rules, or_parts)
 part_read b (c ∷ bs) line solid ends =
     let f = or_parts (is_space b) (has_space (c ∷ bs)) solid in
     let next = (or_parts (is_space c) (has_space bs) f.1).0 in
@@ -41,8 +40,7 @@ pub parts_are_read : (line : Text) (parts : List Text) → HasCommandParts line 
     → parts_between_spaces line ≡ parts
 parts_are_read _ _ no_part = refl
 parts_are_read _ _ (one_space line parts h) = parts_are_read line parts h
-parts_are_read _ _ (one_part b bs line parts solid ends h) =
-    part_read b bs line solid ends ∙ ap (λ (ps : List Text). (b ∷ bs) ∷ ps) (parts_are_read line parts h)
+parts_are_read _ _ (one_part b bs line parts solid ends h) = search (rules, part_read, parts_are_read line parts h)
 
 -- a byte in front of a part
 longer : (b : ℕ) (line : Text) (parts : List Text) → is_space b ≡ false → begins_part line ≡ true
@@ -68,51 +66,25 @@ read_parts_are (b ∷ bs) = by_tests (is_space b) (begins_part bs) refl refl (re
 -- a number that a line has is read
 number_is_read : (least most : ℕ) (n : Text) → IsNumberWithin least most n
     → number_within least most n ≡ Some (value n)
-number_is_read least most n i =
-    let is : number n ≡ Some (value n) = rw (le-leb 1 (length n) i.some, le-leb (length n) 9 i.few, i.digits) refl in
-    ap (option_and_then (in_range least most)) is
-    ∙ rw (le-leb least (value n) i.at_least, le-leb (value n) most i.at_most) refl
+number_is_read least most n i = search (rules, le-leb)
 
 number_is : (n : Text) (x : ℕ) → number n ≡ Some x
     → (1 ≤ length n) × (length n ≤ 9) × (list_all is_digit n ≡ true) × (value n ≡ x)
-number_is n x = if_means
-    (λ (o : Option ℕ). o ≡ Some x → (1 ≤ length n) × (length n ≤ 9) × (list_all is_digit n ≡ true) × (value n ≡ x))
-    _ _ _ (λ f e.
-    let p = and_parts _ (list_all is_digit n) f in
-    let q = and_parts (nat_le 1 (length n)) (nat_le (length n) 9) p.0 in
-    (leb-true 1 (length n) q.0, leb-true (length n) 9 q.1, p.1, some_is e)) (λ f e. none_is e)
+number_is n x = search (rules, leb-true, some_is, none_is)
 
 range_is : (least most n x : ℕ) → in_range least most n ≡ Some x → (least ≤ n) × (n ≤ most) × (n ≡ x)
-range_is least most n x = if_means (λ (o : Option ℕ). o ≡ Some x → (least ≤ n) × (n ≤ most) × (n ≡ x)) _ _ _ (λ f e.
-    let p = and_parts (nat_le least n) (nat_le n most) f in
-    (leb-true least n p.0, leb-true n most p.1, some_is e)) (λ f e. none_is e)
+range_is least most n x = search (rules, leb-true, some_is, none_is)
 
 -- what is read as a number is one
 read_is_number : (least most : ℕ) (n : Text) (x : ℕ) → number_within least most n ≡ Some x
     → IsNumberWithin least most n × (value n ≡ x)
-read_is_number least most n x e = option_and_then_some (in_range least most) (number n) x e (λ y f g.
-    let p = number_is n y f in
-    let q = range_is least most y x g in
-    let same : value n ≡ y = p.3 in (
-      record {
-        some = p.0;
-        few = p.1;
-        digits = p.2;
-        at_least = omega (arith, q.0, same);
-        at_most = omega (arith, q.1, same);
-      },
-      same ∙ q.2,
-    ))
+read_is_number least most n x e = search (rules, option_and_then_some, range_is)
 
 -- ---- commands
 
 -- a number is not another word that `show` may have after it
 not_word : (a word : Text) → number_within 0 1023 word ≡ None → IsNumberWithin 0 1023 a → bytes_eq a word ≡ false
-not_word a word none i = false_from_ne_true _ (λ e.
-    let is : a ≡ word = (bytes_eq-Decides a word).0 e in
-    let read = number_is_read 0 1023 a i in
-    let also : number_within 0 1023 a ≡ None = ap (number_within 0 1023) is ∙ none in
-    cc)
+not_word a word none i = search (rules, false_from_ne_true, bytes_eq-Decides, number_is_read)
 
 shown_is : (a : Text) → IsNumberWithin 0 1023 a
     → shown_command a ≡ show_command (number_within 0 1023 a) (number_within 0 1023 a)
@@ -148,28 +120,13 @@ after_word {c} S w word x y f g = if_means (λ (o : Option SessionCommand). o �
 -- a command with one number
 with_number : {least most : ℕ} {a : Text} {c : SessionCommand} (S : SessionCommand → Type 0) (f : ℕ → SessionCommand)
     → (IsNumberWithin least most a → S (f (value a))) → option_map f (number_within least most a) ≡ Some c → S c
-with_number {least} {most} {a} {c} S f says e = by_number (number_within least most a) refl e
-  where
-    by_number : (o : Option ℕ) → number_within least most a ≡ o → option_map f o ≡ Some c → S c
-    by_number None g e = none_is e
-    by_number (Some x) g e = let n = read_is_number least most a x g in subst S (ap f n.1 ∙ some_is e) (says n.0)
+with_number {least} {most} {a} {c} S f says e = search (rules, none_is, read_is_number, some_is)
 
 -- the locations from one to another
 with_window : {a b : Text} {c : SessionCommand} (S : SessionCommand → Type 0)
     → (IsNumberWithin 0 1023 a → IsNumberWithin 0 1023 b → value a ≤ value b → S (Show (value a) (value b)))
     → show_command (number_within 0 1023 a) (number_within 0 1023 b) ≡ Some c → S c
-with_window {a} {b} {c} S says e = by_numbers (number_within 0 1023 a) (number_within 0 1023 b) refl refl e
-  where
-    by_numbers : (o p : Option ℕ) → number_within 0 1023 a ≡ o → number_within 0 1023 b ≡ p
-        → show_command o p ≡ Some c → S c
-    by_numbers None p f g e = none_is e
-    by_numbers (Some x) None f g e = none_is e
-    by_numbers (Some x) (Some y) f g e =
-        let m = read_is_number 0 1023 a x f in
-        let n = read_is_number 0 1023 b y g in
-        if_means (λ (o : Option SessionCommand). o ≡ Some c → S c) (nat_le x y) (Some (Show x y)) None (λ le h.
-        let order : value a ≤ value b = omega (arith, leb-true x y le, m.1, n.1) in
-        subst S ((λ i. Show (m.1 i) (n.1 i)) ∙ some_is h) (says m.0 n.0 order)) (λ _ h. none_is h) e
+with_window {a} {b} {c} S says e = search (rules, none_is, read_is_number, leb-true, some_is)
 
 -- after `show`
 shown_said : (a : Text) (c : SessionCommand) → shown_command a ≡ Some c → SaysCommand (codes "show" ∷ a ∷ []) c
@@ -209,11 +166,7 @@ line_is_read line c s =
 
 -- what is read in a line is said
 pub read_line_says : (line : Text) (c : SessionCommand) → session_command line ≡ Some c → LineSaysCommand line c
-read_line_says line c e = record {
-  parts = parts_between_spaces line;
-  has_parts = read_parts_are line;
-  says = read_is_said (parts_between_spaces line) c e;
-}
+read_line_says line c e = search (rules, read_parts_are, read_is_said)
 
 -- a line in which nothing is read says nothing
 pub unread_says_none : (line : Text) → session_command line ≡ None → SaysNoCommand line

@@ -1,7 +1,6 @@
 -- The number of a move's orders is the least after which an end holds.
 use Rattle.ed_stepper.proofs.Kit.{is_some, first_once, first_within, State, rules, true, ℕ, ◌≡◌, ◌≤◌, end_after, Ends}
-use Rattle.ed_stepper.proofs.Kit.{move_orders, left, Moves, Stand, stands_at, MoveEnd, Limit, MoveTarget, Orders}
-use Rattle.ed_stepper.proofs.Kit.{Moved}
+use Rattle.ed_stepper.proofs.Kit.{move_orders, left, Moves, Stand, stands_at, MoveEnd, Limit, MoveTarget, Orders, Moved}
 use Rattle.ed_machine.proofs.LeastNumbers.{first_found}
 use Rattle.ed_stepper.specs.MoveEnds.{move_end}
 

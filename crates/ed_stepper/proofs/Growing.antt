@@ -1,41 +1,27 @@
 -- One more letter of a text that grows.
-use Rattle.ed_stepper.proofs.Kit.{◌≢◌, append-nil, ◌%◌, State, progress, state_after, end_at, [], ap, append_assoc}
-use Rattle.ed_stepper.proofs.Kit.{arith, Bool, Err, false, length, length-append, List, None, Ok, Option, refl, subst}
-use Rattle.ed_stepper.proofs.Kit.{suc, sym, true, zero, ℕ, ◌++◌, ◌+◌, ◌-◌, ◌<◌, ◌∙◌, ◌∷◌, ◌≡◌, nat_tests, Gains}
-use Rattle.ed_stepper.proofs.Kit.{GainsPart, Failed, gains_more, functions_after, is_full, functions_count}
-use Rattle.ed_stepper.proofs.Kit.{next_functions, no_functions, BreaksTrace, Lines, orders_in_full_lines}
-use Rattle.ed_stepper.proofs.Kit.{traced_letters}
+use Rattle.ed_stepper.proofs.Kit.{append-nil, ◌%◌, State, progress, state_after, end_at, [], ap, append_assoc, arith}
+use Rattle.ed_stepper.proofs.Kit.{Bool, Err, false, length, length-append, List, None, Ok, Option, refl, subst, suc}
+use Rattle.ed_stepper.proofs.Kit.{sym, true, zero, ℕ, ◌++◌, ◌+◌, ◌-◌, ◌<◌, ◌∙◌, ◌∷◌, ◌≡◌, nat_tests, Gains, GainsPart}
+use Rattle.ed_stepper.proofs.Kit.{Failed, gains_more, is_full, functions_count, next_functions, no_functions}
+use Rattle.ed_stepper.proofs.Kit.{BreaksTrace, Lines, orders_in_full_lines, traced_letters}
 use Rattle.ed_io.proofs.Calls.{gains_none}
-use Rattle.ed_report.specs.Traces.{letters_from, line_end}
+use Rattle.ed_report.specs.Traces.{line_end}
 use Rattle.ed_report.proofs.Letters.{letters_more}
 use Rattle.ed_stepper.specs.Private.Growth.{Puts, letter}
+use Rattle.std.proofs.Common.{rules}
 
 -- the first bytes of a text are the first bytes of a longer one
 pub part_of_longer : (before after : Option (List ℕ)) (text longer more : List ℕ) → longer ≡ text ++ more
     → GainsPart before after text → GainsPart before after longer
-part_of_longer before after text longer more is g = record {
-  part = g.part;
-  rest = g.rest ++ more;
-  whole = is ∙ ap (λ t. t ++ more) g.whole ∙ append_assoc g.part g.rest more;
-  gains = g.gains;
-}
+part_of_longer before after text longer more is g = search (rules, append_assoc)
 
 -- nothing is written yet
 pub lines_first : (before : Option (List ℕ)) (held : List ℕ) (s : State) → held ≡ [] → Lines 0 s before before held
-lines_first before held s is =
-    let none : traced_letters 0 s ≡ [] = ap (letters_from 0) (no_functions s) in
-    record {
-      gains = subst (λ t. Gains before before t) (sym none) (gains_none before);
-      whole = none ∙ sym is ∙ ap (λ t. t ++ held) (sym none);
-      few = ap length is;
-    }
+lines_first before held s is = search (rules, no_functions, gains_none)
 
 next_traced : (k : ℕ) (s : State)
     → traced_letters (k + 1) s ≡ traced_letters k s ++ letter (state_after k s) ∷ line_end (is_full (k + 1))
-next_traced k s =
-    let count : 0 + length (functions_after k s) + 1 ≡ k + 1 = omega (arith, functions_count k s) in
-    ap (letters_from 0) (next_functions k s) ∙ letters_more 0 (functions_after k s) _
-    ∙ ap (λ n. traced_letters k s ++ letter (state_after k s) ∷ line_end (is_full n)) count
+next_traced k s = search (rules, functions_count, next_functions, letters_more)
 
 -- one more letter
 pub grows : (k : ℕ) (s m : State) (l : ℕ) (full : Bool) → m ≡ state_after k s → l ≡ letter m → full ≡ is_full (k + 1)
@@ -45,8 +31,7 @@ grows k s m l full is at ends =
 
 -- the letters of the first orders are a prefix of those of more orders
 pub more_traced : (j i : ℕ) (s : State) → (rest : List ℕ) × (traced_letters (j + i) s ≡ traced_letters j s ++ rest)
-more_traced j zero s = let e : j + 0 ≡ j =
-    omega arith in ([], ap (λ k. traced_letters k s) e ∙ sym (append-nil (traced_letters j s)))
+more_traced j zero s = search (rules, append-nil)
 more_traced j (suc i) s =
     let e : j + suc i ≡ j + i + 1 = omega arith in
     let r = more_traced j i s in
@@ -62,9 +47,7 @@ lined_full k e =
     let h : (k + 1) % 50 ≡ 0 = grind (arith, nat_tests) in (grind arith, h, grind arith)
 
 lined_open : (k : ℕ) → is_full (k + 1) ≡ false → (orders_in_full_lines (k + 1) ≡ orders_in_full_lines k) × ((k + 1) % 50 ≡ k % 50 + 1)
-lined_open k e =
-    let h : (k + 1) % 50 ≢ 0 = grind (arith, nat_tests) in
-    let n : (k + 1) % 50 ≡ k % 50 + 1 = grind arith in (grind arith, n)
+lined_open k e = search rules
 
 -- the letter of one order more
 module _ {k : ℕ} {s m : State} {before now : Option (List ℕ)} {held : List ℕ} {l : ℕ}

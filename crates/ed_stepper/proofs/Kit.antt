@@ -1,4 +1,5 @@
 -- The names that the proofs of this crate cite, passed on from one place. Declares nothing.
+pub use Rattle.std.proofs.lemmas.Grind.{common_steps}
 pub use Rattle.std.proofs.Common.{is_none, is_some, slice_index_or, vec_capacity, ◌≢◌}
 pub use Rattle.std.specs.List.{All, position_or_len}
 pub use Rattle.std.proofs.lemmas.Bool.{eq-eqb, ne_eqb}

@@ -4,7 +4,7 @@ use Rattle.ed_stepper.proofs.Kit.{length, List, None, Option, refl, Some, subst,
 use Rattle.ed_stepper.proofs.Kit.{◌∷◌, ◌≡◌, ◌≤◌, ◌⊎◌, Decides-eqb, nat_tests, Text, HasLines, lines_of, read_lines_are}
 use Rattle.ed_stepper.proofs.Kit.{bad_from, bad_line, commands_of, line_commands, session_command, HasBadLine, IsScript}
 use Rattle.ed_stepper.proofs.Kit.{SessionCommand, Nothing, append_assoc, length-append, LineSaysCommand}
-use Rattle.std.proofs.Common.{lit≤, ◌||◌}
+use Rattle.std.proofs.Common.{lit≤, ◌||◌, rules}
 use Rattle.ed_syntax.proofs.SourceLaws.{lines_are_read}
 use Rattle.ed_stepper.specs.ScriptLines.{EachScriptHasOneMeaning, IsBadLine, IsFirstBadLine, LinesSayCommands, and_more}
 use Rattle.ed_stepper.specs.ScriptLines.{no_command, no_more, too_many_lines}
@@ -22,8 +22,7 @@ says_more (and_more l lines d cs t says) s = and_more l _ d _ t (says_more says 
 lines_answer : {script : Text} (rest done : List Text) (cs : List SessionCommand) (k : ℕ)
     → HasLines script (done ++ rest) → LinesSayCommands done cs → k ≡ length done + 1 → k ≤ 1001
     → HasBadLine script (bad_from k rest)
-lines_answer [] done cs k has says is le =
-    (cs, record { lines = done; has_lines = rw append-nil at has; few = omega (arith, is); says = says }, tt)
+lines_answer [] done cs k has says is le = search (rules, append-nil)
 lines_answer {script} (line ∷ rest) done cs k has says is le =
     by_tests (k == 1001) (session_command line) refl refl (λ c f l.
     lines_answer rest (done ++ line ∷ []) (cs ++ c ∷ []) (k + 1) (rw (append_assoc done (line ∷ []) rest) has)
@@ -96,20 +95,10 @@ found_here number line after (no_command le none) = by_option (session_command l
         → (if (number == 1001) || is_none o then Some number else bad_from (number + 1) after) ≡ Some number
     by_option None e = rw low refl
     by_option (Some c) e = absurd (none c (read_line_says line c e))
-found_here number line after (too_many_lines e) =
-    let is : (number == 1001) ≡ true = grind (arith, nat_tests) in rw is refl
+found_here number line after (too_many_lines e) = search rules
 
 pub bad_line_is_found : (script : Text) (number : ℕ) → IsFirstBadLine script number → bad_line script ≡ Some number
-bad_line_is_found script number b =
-    let lines = lines_are_read script (b.before ++ b.line ∷ b.after) b.has_lines in
-    let is = b.number_is in
-    let few = few_before number b.line b.bad in
-    ap (bad_from 1) lines ∙ said_are_read 1 b.before (b.line ∷ b.after) b.said b.says (omega (arith, is, few))
-    ∙ ap (λ n. bad_from n (b.line ∷ b.after)) (sym is) ∙ found_here number b.line b.after b.bad
-  where
-    few_before : (number : ℕ) (line : Text) → IsBadLine number line → number ≤ 1001
-    few_before number line (no_command le none) = omega arith
-    few_before number line (too_many_lines e) = omega arith
+bad_line_is_found script number b = search (rules, lines_are_read, said_are_read, found_here)
 
 -- ---- the law
 

@@ -1,8 +1,8 @@
 -- One more order of a move.
 use Rattle.ed_stepper.proofs.Kit.{is_stop, Turn, NoOrder, NoTape, Printed, Went, add-one, step, State, AreObeyed}
-use Rattle.ed_stepper.proofs.Kit.{is_obeyed, state_after, after_sum, next_state, no_step, ap, arith, false, inl, inr}
-use Rattle.ed_stepper.proofs.Kit.{None, refl, rules, Some, sym, true, ℕ, ◌+◌, ◌<◌, ◌∙◌, ◌≡◌, ◌⊎◌, blocked_end}
-use Rattle.ed_stepper.proofs.Kit.{end_after, Ends, own_end, stopped_after, MoveEnd, Limit, MoveTarget}
+use Rattle.ed_stepper.proofs.Kit.{is_obeyed, state_after, after_sum, next_state, no_step, ap, false, inl, inr, None}
+use Rattle.ed_stepper.proofs.Kit.{refl, rules, Some, sym, true, ℕ, ◌+◌, ◌<◌, ◌∙◌, ◌≡◌, ◌⊎◌, blocked_end, end_after}
+use Rattle.ed_stepper.proofs.Kit.{Ends, own_end, stopped_after, MoveEnd, Limit, MoveTarget}
 use Rattle.std.proofs.Common.{below_more}
 use Rattle.ed_stepper.specs.declared.moves.MoveEnd.TheVariants.{Stopped as EndStopped}
 
@@ -15,13 +15,7 @@ pub record Walking (aim : MoveTarget) (left : ℕ) (s : State) (k : ℕ) (m : St
   pub first : (j : ℕ) → j < k → end_after aim left j s ≡ None
 
 pub at_first : (aim : MoveTarget) (left : ℕ) (s : State) → own_end aim 0 s ≡ None → Walking aim left s 0 s
-at_first aim left s none = record {
-  state = no_step s;
-  free = λ j h. absurd (omega arith);
-  quiet = refl;
-  going = none;
-  first = λ j h. absurd (omega arith);
-}
+at_first aim left s none = search (rules, no_step)
 
 not_blocked : (turn : Turn) → is_obeyed turn ≡ true → blocked_end turn ≡ None
 not_blocked (NoOrder function) h = cc
@@ -88,9 +82,7 @@ Ends-limits {left = left} w = search rules
 -- the state k + 1 orders after another
 pub after_from : (from k : ℕ) (s start m : State) → m ≡ state_after (k + 1) s → s ≡ state_after from start
     → m ≡ state_after (from + k + 1) start
-after_from from k s start m is at =
-    let e : from + (k + 1) ≡ from + k + 1 = omega arith in
-    is ∙ ap (state_after (k + 1)) at ∙ sym (after_sum from (k + 1) start) ∙ ap (λ j. state_after j start) e
+after_from from k s start m is at = search (rules, after_sum)
 
 -- as many orders as the limit allows
 pub at_limit : {aim : MoveTarget} {left : ℕ} {s : State} {k : ℕ} {m : State} → k ≡ left → Walking aim left s k m

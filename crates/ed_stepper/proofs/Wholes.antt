@@ -1,9 +1,9 @@
 -- The whole trace of a run.
 use Rattle.ed_stepper.proofs.Kit.{is_some, ◌≢◌, eq-eqb, ne_eqb, first_once, first_within, append-nil, ◌%◌, State}
-use Rattle.ed_stepper.proofs.Kit.{progress, state_after, end_at, [], ap, append_assoc, arith, Bool, Err, false}
-use Rattle.ed_stepper.proofs.Kit.{if◌then◌else◌, inl, inr, List, None, Ok, Option, refl, subst, sym, true, ℕ, ◌++◌}
-use Rattle.ed_stepper.proofs.Kit.{◌+◌, ◌-◌, ◌<◌, ◌∙◌, ◌∷◌, ◌≡◌, ◌≤◌, Gains, GainsPart, Failed, gains_more, is_full}
-use Rattle.ed_stepper.proofs.Kit.{functions_count, BreaksTrace, Lines, orders_in_full_lines, traced_letters, trace_to}
+use Rattle.ed_stepper.proofs.Kit.{progress, state_after, end_at, [], ap, append_assoc, arith, Err, inl, inr, List, None}
+use Rattle.ed_stepper.proofs.Kit.{Ok, Option, refl, subst, sym, ℕ, ◌++◌, ◌+◌, ◌-◌, ◌<◌, ◌∙◌, ◌∷◌, ◌≡◌, ◌≤◌, Gains}
+use Rattle.ed_stepper.proofs.Kit.{GainsPart, Failed, gains_more, functions_count, BreaksTrace, Lines}
+use Rattle.ed_stepper.proofs.Kit.{orders_in_full_lines, traced_letters, trace_to}
 use Rattle.ed_machine.specs.declared.ending.Ending.{Ending}
 use Rattle.ed_run.specs.Run.{EndsAfter, run_end, run_orders}
 use Rattle.ed_run.proofs.Ends.{ran_ends}
@@ -11,6 +11,7 @@ use Rattle.ed_report.specs.Traces.{last_end}
 use Rattle.ed_stepper.specs.Private.Growth.{EndsLine}
 use Rattle.ed_stepper.specs.Traces.{TraceBroke, trace_of}
 use Rattle.ed_stepper.proofs.Growing.{more_traced, part_of_longer}
+use Rattle.std.proofs.Common.{rules}
 
 -- the whole trace is that of the orders of the run
 whole_trace : (limit resumes : ℕ) (s : State)
@@ -29,17 +30,11 @@ found limit resumes s e =
 
 -- the trace of orders whose lines are full
 trace_full : (k : ℕ) (s : State) → k % 50 ≡ 0 → trace_to k s ≡ traced_letters k s
-trace_full k s h =
-    let t : is_full k ≡ true = eq-eqb (k % 50) 0 h in
-    ap (λ n. traced_letters k s ++ last_end n) (functions_count k s)
-    ∙ ap (λ (b : Bool). traced_letters k s ++ (if b then [] else 10 ∷ [])) t ∙ append-nil (traced_letters k s)
+trace_full k s h = search (rules, eq-eqb, functions_count, append-nil)
 
 -- and of others
 trace_open : (k : ℕ) (s : State) → k % 50 ≢ 0 → trace_to k s ≡ traced_letters k s ++ 10 ∷ []
-trace_open k s h =
-    let t : is_full k ≡ false = ne_eqb (k % 50) 0 h in
-    ap (λ n. traced_letters k s ++ last_end n) (functions_count k s)
-    ∙ ap (λ (b : Bool). traced_letters k s ++ (if b then [] else 10 ∷ [])) t
+trace_open k s h = search (rules, ne_eqb, functions_count)
 
 -- no more orders are obeyed than those of the run
 within_run : (limit resumes : ℕ) (s : State) (k : ℕ)
@@ -95,19 +90,12 @@ module _ {k : ℕ} {s : State} {before now : Option (List ℕ)} where
   -- its text, after the full lines
   last_line : {held : List ℕ} → Lines k s before now held → k % 50 ≢ 0
       → trace_to k s ≡ traced_letters (orders_in_full_lines k) s ++ (held ++ 10 ∷ [])
-  last_line {held} lines h =
-      trace_open k s h ∙ ap (λ t. t ++ 10 ∷ []) lines.whole
-      ∙ append_assoc (traced_letters (orders_in_full_lines k) s) held (10 ∷ [])
+  last_line {held} lines h = search (rules, trace_open, append_assoc)
 
   -- all is written
   pub all_written : (after : Option (List ℕ)) (u : Unit {0}) (held : List ℕ) → Lines k s before now held
       → EndsLine held (Ok u) now after → Gains before after (trace_to k s)
-  all_written after u [] lines p =
-      let none : k % 50 ≡ 0 = sym lines.few in
-      let whole : trace_to k s ≡ traced_letters (orders_in_full_lines k) s =
-      trace_full k s none ∙ lines.whole ∙ append-nil (traced_letters (orders_in_full_lines k) s) in
-      subst (λ t. Gains before after t) (sym whole)
-      (subst (λ (a : Option (List ℕ)). Gains before a (traced_letters (orders_in_full_lines k) s)) (sym p) lines.gains)
+  all_written after u [] lines p = search (rules, trace_full, append-nil)
   all_written after u (l ∷ held) lines p =
       let some : k % 50 ≢ 0 = omega (arith, lines.few) in
       subst (λ t. Gains before after t) (sym (last_line lines some))
@@ -145,12 +133,7 @@ module _ {k : ℕ} {s : State} {before now : Option (List ℕ)} where
 broke_part : {limit resumes : ℕ} {s last : State} {before after : Option (List ℕ)}
     (b : TraceBroke limit resumes s last before after) → b.orders ≡ run_orders limit resumes limit s
     → GainsPart before after (trace_of limit resumes s)
-broke_part {limit} {resumes} {s} b is = record {
-  part = trace_to b.written s ++ b.part;
-  rest = b.rest;
-  whole = ap (λ k. trace_to k s) (sym is) ∙ b.line ∙ sym (append_assoc (trace_to b.written s) b.part b.rest);
-  gains = b.gains;
-}
+broke_part {limit} {resumes} {s} b is = search (rules, append_assoc)
 
 -- the write of the last line failed
 pub last_failed : {limit resumes k : ℕ} {s last : State} {before now after : Option (List ℕ)} {held : List ℕ}

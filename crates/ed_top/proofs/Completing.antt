@@ -1,8 +1,7 @@
 -- Runs over devices whose calls never fail.
-use Rattle.ed_top.proofs.Kit.{next_count, Answer, known, of_input, of_made, [], Bool, false, inl, inr, None}
-use Rattle.ed_top.proofs.Kit.{refl, Some, subst, sym, ℕ, ◌≡◌, ◌≢◌, ◌⊎◌, Text, Outcome, Gains, ForDue, ProgramEnded}
-use Rattle.ed_top.proofs.Kit.{output}
-use Rattle.std.proofs.Common.{if◌then◌else◌}
+use Rattle.ed_top.proofs.Kit.{next_count, Answer, known, of_input, of_made, [], Bool, false, inl, inr, None, refl, Some}
+use Rattle.ed_top.proofs.Kit.{subst, sym, ℕ, ◌≡◌, ◌≢◌, ◌⊎◌, Text, Outcome, Gains, ForDue, ProgramEnded, output}
+use Rattle.std.proofs.Common.{if◌then◌else◌, rules}
 use Rattle.std.proofs.lemmas.Bool.{cases_eq}
 use Rattle.ed_io.specs.Memory.{Roll}
 use Rattle.ed_answers.specs.Answer.{IsDue}
@@ -30,15 +29,7 @@ module _ (answer : Answer) (input left : Text) (out_room note_room : ℕ) (out n
     (e : ProgramEnded answer (sure_source input left) (sure_sink out_room out) (sure_sink note_room note) status)
     (out_whole : out.is_over ≡ false) (note_whole : note.is_over ≡ false) where
   whole : status ≢ 8 → status ≢ 9 → status ≢ 10 → IsWhole answer input out note status
-  whole not8 not9 not10 =
-      let d = due_sure answer input left _ (e.finished not8 not9 not10).2 in
-      record {
-        due = d.0;
-        is_due = d.1;
-        status_is = d.2.0;
-        out_is = held_is out d.0.out out_whole d.2.1;
-        note_is = held_is note d.0.note note_whole d.2.2;
-      }
+  whole not8 not9 not10 = search (rules, due_sure, held_is)
 
   not_read : status ≢ 8
   not_read is = no_fault (e.read is).1

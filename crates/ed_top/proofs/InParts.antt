@@ -1,7 +1,7 @@
 -- Each list of rows has one outcome as a tape in parts, and what was written on the way is a part of it.
 use Rattle.ed_top.proofs.Kit.{Settings, stop_faults, WriteStop, Failed, Memory, Answer, of_input, ForInput, [], ap}
-use Rattle.ed_top.proofs.Kit.{append-nil, Err, List, Ok, refl, subst, sym, ℕ, ◌∙◌, ◌≡◌, State, Device, Wrote}
-use Rattle.ed_top.proofs.Kit.{WrotePart, IsInParts, Carried, WritesNote, none_written}
+use Rattle.ed_top.proofs.Kit.{append-nil, Err, List, Ok, refl, subst, sym, ℕ, ◌∙◌, ◌≡◌, State, Device, Wrote, WrotePart}
+use Rattle.ed_top.proofs.Kit.{IsInParts, Carried, WritesNote, none_written}
 use Rattle.ed_initial.specs.Entry.{first_state}
 use Rattle.ed_answers.proofs.Replies.{HasOne}
 use Rattle.ed_interlude.specs.Parts.{PartsAnswer, IsReportOfTape, PartsReport}

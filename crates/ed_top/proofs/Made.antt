@@ -1,14 +1,14 @@
 -- Replies with an outcome that is stated: from one of an input and back, and that no memory was found, passed on by
 -- `?`.
-use Rattle.ed_top.proofs.Kit.{Answer, ForInput}
-use Rattle.ed_top.proofs.Kit.{Vec, Global, Settings, of_input, of_made, Rejection, Refused, Reply, [], Err, IfOk}
-use Rattle.ed_top.proofs.Kit.{IsErr, IsErrAnd, Ok, refl, Result, subst, sym, ℕ, ◌≡◌, Text, Outcome, refusal, Gives}
+use Rattle.ed_top.proofs.Kit.{Answer, ForInput, Vec, Global, Settings, of_input, of_made, Rejection, Refused, Reply, []}
+use Rattle.ed_top.proofs.Kit.{Err, IfOk, IsErr, IsErrAnd, Ok, refl, Result, subst, ℕ, ◌≡◌, Text, Outcome, refusal}
 use Rattle.ed_top.proofs.Kit.{Replies, OfSource, run_outcome}
 use Rattle.ed_words.specs.declared.memory.NoMemory.{NoMemory}
 use Rattle.ed_answers.specs.Replies.{Refuses}
 use Rattle.ed_answers.specs.Sources.{of_source}
 use Rattle.ed_answers.specs.declared.reply.Rejection.TheVariants.{Memory}
 use Rattle.ed_top.specs.Calls.{of_made_source}
+use Rattle.std.proofs.Common.{rules}
 
 -- if no memory is found for a reply, there is an outcome all the same
 pub none_replied : (answers : Outcome → Type 0) (r : Result Reply Rejection)
@@ -21,8 +21,7 @@ none_replied answers (Err (Refused reply)) is some = absurd (cc)
 pub line_replied : (answers : Outcome → Type 0) (line : Result (Vec ℕ Global) NoMemory) (text : Text) (e : Rejection)
     → IfOk line (λ v. v.items ≡ text) → IfOk line (λ v. Refuses v.items e) → (IsErr line → e ≡ Memory)
     → answers (refusal text) → Replies (of_made answers) [] (Err e)
-line_replied answers (Ok v) text (Refused reply) is refuses none some =
-    (refusal text, some, subst (λ (t : Text). Gives reply (refusal t)) is refuses)
+line_replied answers (Ok v) text (Refused reply) is refuses none some = search rules
 line_replied answers (Ok v) text Memory is refuses none some = (refusal text, some, tt)
 line_replied answers (Err e) text (Refused reply) is refuses none some = let bad = none refl in absurd (cc)
 line_replied answers (Err e) text Memory is refuses none some = (refusal text, some, tt)
@@ -32,8 +31,7 @@ pub handed_on : (answers : Outcome → Type 0) (r : Result Reply Rejection) (e :
     → Replies (of_made answers) [] (Err e) → IsErr r × IsErrAnd r (λ handed. handed ≡ e)
     → Replies (of_made answers) [] r
 handed_on answers (Ok reply) e replies is = absurd (cc)
-handed_on answers (Err handed) e replies is =
-    subst (λ (x : Rejection). Replies (of_made answers) [] (Err x)) (sym is.1) replies
+handed_on answers (Err handed) e replies is = search rules
 
 -- what a reply says of one answer, it says of another that allows what the first allows
 pub replies_more : (a b : Answer) (i j : Text) (r : Result Reply Rejection)

@@ -1,8 +1,7 @@
 -- For all words, each input has exactly one outcome.
-use Rattle.ed_top.proofs.Kit.{Settings, one_lines, no_text_line, HasOneOutcome, of_input, usage_outcome, ap, inl, inr}
-use Rattle.ed_top.proofs.Kit.{length, List, None, refl, Some, subst, sym, ◌+◌, ◌∙◌, ◌≡◌, Text, tape, done}
-use Rattle.ed_top.proofs.Kit.{Outcome, refusal, run_outcome, exactly_one, some_outcome, CommandList}
-use Rattle.ed_top.proofs.Kit.{TextKind, Input, call_text, demo_text, answer, on_rows}
+use Rattle.ed_top.proofs.Kit.{Settings, one_lines, HasOneOutcome, of_input, usage_outcome, ap, inl, inr, None, refl}
+use Rattle.ed_top.proofs.Kit.{Some, subst, sym, ◌∙◌, ◌≡◌, Text, tape, done, Outcome, refusal, run_outcome, exactly_one}
+use Rattle.ed_top.proofs.Kit.{some_outcome, CommandList, TextKind, Input, call_text, demo_text, answer, on_rows}
 use Rattle.ed_top.proofs.Kit.{OnInput, OnText, StepOutcome, trace_outcome}
 use Rattle.ed_answers.proofs.Kit.{tape1_outcome, listing_outcome, punch_outcome, tape_outcome}
 use Rattle.ed_command.specs.declared.command.Action.{Action}
@@ -19,6 +18,7 @@ use Rattle.ed_stepper.proofs.ScriptLaws.{one_meaning}
 use Rattle.ed_top.specs.Output.{EachLineHasOneOutcome}
 use Rattle.ed_top.proofs.InParts.{parts_one}
 use Rattle.ed_stepper.specs.declared.inputs.TextKind.TheVariants as kinds
+use Rattle.std.proofs.Common.{rules}
 
 -- ---- a script and what follows it
 
@@ -30,8 +30,7 @@ text_some s commands kinds.Source text = some_outcome s.size (λ lines. on_rows 
 text_same : (s : Settings) (commands : CommandList) (kind : TextKind) (text : Text) (o other : Outcome)
     → OnText s commands kind text o → OnText s commands kind text other → o ≡ other
 text_same s commands kinds.Tape text o other p q = sym p ∙ q
-text_same s commands kinds.Source text o other p q =
-    source_outcome s.size (λ lines. on_rows s commands (tape lines)) text o other p q
+text_same s commands kinds.Source text o other p q = search (rules, source_outcome)
 
 pub input_some : (s : Settings) (i : Input) → (o : Outcome) × OnInput s i o
 input_some s i =
@@ -58,10 +57,7 @@ step_some s input =
 
 step_same : (s : Settings) (input : Text) (o other : Outcome) → StepOutcome s input o
     → StepOutcome s input other → o ≡ other
-step_same s input o other (inl a) (inl b) =
-    sym a.2 ∙ ap (λ (lines : List Text). refusal (no_text_line (length lines + 1)))
-    (one_lines a.1.has_lines b.1.has_lines)
-    ∙ b.2
+step_same s input o other (inl a) (inl b) = search (rules, one_lines)
 step_same s input o other (inl a) (inr b) = absurd (one_input.never_both input a.0 b.0 a.1 b.1)
 step_same s input o other (inr a) (inl b) = absurd (one_input.never_both input b.0 a.0 b.1 a.1)
 step_same s input o other (inr a) (inr b) =

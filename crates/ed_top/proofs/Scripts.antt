@@ -1,10 +1,10 @@
 -- From the rows of a text and the reply to a script to the outcome of an input.
 use Rattle.ed_top.proofs.Kit.{Vec, Global, Settings, of_input, of_made, Rejection, Refused, Reply, [], ap, Err, inr}
 use Rattle.ed_top.proofs.Kit.{IsErr, IsErrAnd, List, None, Ok, refl, Result, subst, sym, ℕ, ◌++◌, ◌∙◌, ◌≡◌, Text}
-use Rattle.ed_top.proofs.Kit.{Reading, reading, rows, tape, done, Outcome, refusal, Gives, Replies, OfSource}
-use Rattle.ed_top.proofs.Kit.{IsDivided, CommandList, IsFirstBadLine, TextKind, Input, IsScript, play, Stand, on_rows}
-use Rattle.ed_top.proofs.Kit.{OnInput, OnText, played_outcome, StepOutcome}
-use Rattle.std.proofs.Common.{MatchResult}
+use Rattle.ed_top.proofs.Kit.{Reading, reading, rows, tape, done, Outcome, refusal, Gives, Replies, OfSource, IsDivided}
+use Rattle.ed_top.proofs.Kit.{CommandList, IsFirstBadLine, TextKind, Input, IsScript, play, Stand, on_rows, OnInput}
+use Rattle.ed_top.proofs.Kit.{OnText, played_outcome, StepOutcome}
+use Rattle.std.proofs.Common.{MatchResult, rules}
 use Rattle.std.specs.List.{flat_map}
 use Rattle.ed_codes.specs.Reading.{no_row, open_comment}
 use Rattle.ed_notation.specs.Spellings.{item_rows}
@@ -19,7 +19,7 @@ use Rattle.ed_stepper.specs.declared.script.ScriptFault.{ScriptFault}
 use Rattle.ed_stepper.specs.declared.script.ScriptFault.TheVariants.{BackTooFar, BadCommand}
 use Rattle.ed_stepper.proofs.ScriptLaws.{never_both, one_script}
 use Rattle.ed_top.specs.Private.Stages.{HasRows}
-use Rattle.ed_top.specs.Scripts.{on_reading, script_outcome}
+use Rattle.ed_top.specs.Scripts.{on_reading}
 use Rattle.ed_top.proofs.Made.{as_made, replies_more}
 use Rattle.ed_stepper.specs.declared.inputs.TextKind.TheVariants as kinds
 use Rattle.ed_answers.specs.declared.reply.Rejection.TheVariants as rejection
@@ -63,9 +63,7 @@ far_given script commands from t fault line done reply is ends fault_is gives =
     let far : OfScript script (λ cs. GoesTooFar cs from t line done) =
     subst (λ f. ScriptEnds script from (Err f) t) fault_is ends in
     let same = one_script script far.0 commands far.1 is in
-    subst (Gives reply)
-    (ap (λ r. script_outcome r (play 1 far.0 from).text) (sym far.2.refused)
-    ∙ ap (λ cs. played_outcome (play 1 cs from)) same) gives
+    search rules
 
 -- a script that has been tested has no bad line
 pub never_refused : (script : Text) (from t : Stand) (fault : ScriptFault) (line : ℕ) → HasBadLine script None
@@ -80,8 +78,7 @@ never_refused script from t fault line good ends fault_is =
 pub tape_rows : (s : Settings) (kind : TextKind) (text : Text) (r : Result (Vec ℕ Global) Rejection)
     → kind ≡ kinds.Tape → MatchResult r (λ v. reading text ≡ rows v.items) (RefusesText (reading text))
     → HasRows s kind text r
-tape_rows s kind text (Ok v) is read = λ commands.
-    rw is (ap (on_reading s commands) read)
+tape_rows s kind text (Ok v) is read = search rules
 tape_rows s kind text (Err e) is refuses = λ commands.
     subst (λ k. Replies (of_made (OnText s commands k text)) [] (Err e)) (sym is)
     (text_refused s commands (reading text) e refuses)
@@ -94,12 +91,7 @@ on_lines s commands lines = on_rows s commands (tape lines)
 pub source_rows : (s : Settings) (kind : TextKind) (text : Text) (k : Linked) (v : Vec ℕ Global)
     → kind ≡ kinds.Source → LinksSource s.size text (Ok k)
     → v.items ≡ flat_map item_rows k.items.items ++ k.after.items → HasRows s kind text (Ok v)
-source_rows s kind text k v is links rows_are = λ commands.
-    let lines = links.0 in
-    let linked = links.2 in
-    let same : tape lines ≡ v.items =
-    sym (rows_are ∙ (λ i. flat_map item_rows (linked.items i) ++ linked.after i)) in
-    rw is (inr (lines, links.1, ap (on_rows s commands) same))
+source_rows s kind text k v is links rows_are = search rules
 
 -- of a source that is refused
 pub source_has_none : (s : Settings) (kind : TextKind) (text : Text) (r : Result (Vec ℕ Global) Rejection)

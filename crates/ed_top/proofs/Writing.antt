@@ -1,12 +1,11 @@
 -- From what a command wrote on `out` to the outcome of a tape's text.
 use Rattle.ed_top.proofs.Kit.{WriteStop, Failed, Memory, Answer, known, of_input, of_made, ForInput, Rejection, Reply}
-use Rattle.ed_top.proofs.Kit.{[], ap, Err, List, Ok, refl, Result, subst, sym, ℕ, ◌<◌, ◌∙◌, ◌≡◌, Text, Reading}
-use Rattle.ed_top.proofs.Kit.{reading, rows, exactly, of_rows, Outcome, Gives, Replies, Device, Wrote, WrotePart}
-use Rattle.ed_top.proofs.Kit.{Carried, Rest, none_written}
-use Rattle.ed_answers.specs.Answer.{OfReading}
+use Rattle.ed_top.proofs.Kit.{[], Err, List, Ok, Result, subst, sym, ℕ, ◌≡◌, Text, reading, rows, exactly, of_rows}
+use Rattle.ed_top.proofs.Kit.{Outcome, Gives, Replies, Device, Carried, Rest, none_written}
 use Rattle.ed_top.proofs.Made.{replies_more}
 use Rattle.ed_top.specs.Private.Stages.{WritesReply, WritesText}
 use Rattle.ed_answers.specs.declared.reply.Rejection.TheVariants as rejection
+use Rattle.std.proofs.Common.{rules}
 
 for_more : (answer : Answer) (input : Text) (P Q : Outcome → Type 0) → ((o : Outcome) → P o → Q o) → ForInput answer
     input P → ForInput answer input Q
@@ -17,22 +16,8 @@ for_more (of_input answers) input P Q more p = (p.0, p.1, more p.0 p.2)
 -- a text that was written is carried out
 text_carried : (answer : Answer) (input : Text) (reply : Reply) (out : Device) (r : Result Rest WriteStop)
     → ForInput answer input (Gives reply) → WritesText reply out r → Carried answer input out r
-text_carried answer input reply out (Ok rest) replies w = (
-  low answer replies,
-  for_more answer input _ _ (λ o gives. record {
-    wrote = subst (λ (t : Text). Wrote out t) gives.out_is w.0;
-    note_is = ap (λ v. v.items) w.1 ∙ gives.note_is;
-    status_is = w.2 ∙ gives.status_is;
-  }) replies,
-  w.3,
-)
-  where
-    low : (answer : Answer) → ForInput answer input (Gives reply) → rest.status < 8
-    low (known o) gives = rw w.2 gives.low
-    low (of_made answers) gives = rw w.2 gives.2.low
-    low (of_input answers) gives = rw w.2 gives.2.low
-text_carried answer input reply out (Err Failed) replies w =
-    (w.0, for_more answer input _ _ (λ o gives. subst (λ (t : Text). WrotePart out t) gives.out_is w.1) replies)
+text_carried answer input reply out (Ok rest) replies w = search (rules, for_more)
+text_carried answer input reply out (Err Failed) replies w = search (rules, for_more)
 text_carried answer input reply out (Err Memory) replies w = absurd w
 
 -- and so is a reply, whether it refuses the input or not
@@ -40,12 +25,10 @@ pub reply_carried : (answer : Answer) (input : Text) (reply : Result Reply Rejec
     (r : Result Rest WriteStop)
     → Replies answer input reply → WritesReply reply out r → Carried answer input out r
 reply_carried answer input (Ok reply) out r replies w = text_carried answer input reply out r replies w
-reply_carried answer input (Err (rejection.Refused reply)) out r replies w =
-    text_carried answer input reply out r replies w
+reply_carried answer input (Err (rejection.Refused reply)) out r replies w = search (rules, text_carried)
 reply_carried answer input (Err rejection.Memory) out (Ok rest) replies w = absurd w
 reply_carried answer input (Err rejection.Memory) out (Err Failed) replies w = absurd w
-reply_carried answer input (Err rejection.Memory) out (Err Memory) replies w =
-    (w.1, for_more answer input _ _ (λ o u. none_written out o.out w.0) replies)
+reply_carried answer input (Err rejection.Memory) out (Err Memory) replies w = search (rules, for_more, none_written)
 
 -- of a command with this answer
 pub Carried-written : {answer due : Answer} (input : Text) (reply : Result Reply Rejection) (out : Device)
@@ -65,9 +48,7 @@ known_carried {due} input reply out r is replies w =
 pub made_carried : {answer : Answer} {answers : Outcome → Type 0} (input : Text) (reply : Result Reply Rejection)
     (out : Device) (r : Result Rest WriteStop) → answer ≡ of_made answers → Replies (of_made answers) [] reply
     → WritesReply reply out r → Carried answer input out r
-made_carried {answers} input reply out r is replies w =
-    Carried-written input reply out r is
-    (replies_more (of_made answers) (of_made answers) [] input reply (λ P p. p) replies) w
+made_carried {answers} input reply out r is replies w = search (rules, Carried-written, replies_more)
 
 -- what was written for one answer is for another that allows what the first allows
 carried_more : (a b : Answer) (i j : Text) (out : Device) (r : Result Rest WriteStop)
@@ -80,15 +61,11 @@ carried_more a b i j out (Err Memory) more c = (c.0, more _ c.1)
 pub rows_carried : (f : List ℕ → Outcome) (input : Text) (codes : List ℕ) (out : Device) (r : Result Rest WriteStop)
     → reading input ≡ rows codes
     → Carried (known (f codes)) [] out r → Carried (of_rows (exactly f)) input out r
-rows_carried f input codes out r is =
-    carried_more (known (f codes)) (of_rows (exactly f)) [] input out r
-    (λ P p. (f codes, subst (λ (q : Reading). OfReading (exactly f) q (f codes)) (sym is) refl, p))
+rows_carried f input codes out r is = search (rules, carried_more)
 
 -- the same if a relation says which outcome rows have
 pub rows_carried_by : (answers : List ℕ → Outcome → Type 0) (input : Text) (codes : List ℕ) (out : Device)
     (r : Result Rest WriteStop)
     → reading input ≡ rows codes → Carried (of_input (λ _. answers codes)) [] out r
     → Carried (of_rows answers) input out r
-rows_carried_by answers input codes out r is =
-    carried_more (of_input (λ _. answers codes)) (of_rows answers) [] input out r
-    (λ P p. (p.0, subst (λ (q : Reading). OfReading answers q p.0) (sym is) p.1, p.2))
+rows_carried_by answers input codes out r is = search (rules, carried_more)

@@ -1,6 +1,5 @@
 -- The two laws are about all numbers, so they hold at each way out.
-use Rattle.ed_postmortem.proofs.Kit.{refl}
-use Rattle.std.proofs.Common.{rules}
+use Rattle.ed_postmortem.proofs.Kit.{refl, rules}
 use Rattle.ed_postmortem.proofs.AddressDigits.{address_digits_law}
 use Rattle.ed_postmortem.proofs.Bounds.{enough}
 use Rattle.ed_postmortem.proofs.printing.post_mortem.Goals as goal

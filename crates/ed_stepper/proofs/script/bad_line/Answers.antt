@@ -1,5 +1,4 @@
-use Rattle.ed_stepper.proofs.Kit.{arith, None, Some, ◌≡◌, bad_line}
-use Rattle.std.proofs.lemmas.Grind.{common_steps}
+use Rattle.ed_stepper.proofs.Kit.{arith, None, Some, ◌≡◌, bad_line, common_steps}
 use Rattle.ed_stepper.proofs.ScriptLaws.{bad_line_is, one_meaning}
 use Rattle.ed_stepper.proofs.script.bad_line.Goals as goal
 

@@ -1,4 +1,5 @@
-use Rattle.ed_top.proofs.Kit.{Memory, gains_none, Err, refl, of_rows, Replies-rejected, err_from_is_err_and, device, IsInParts}
+use Rattle.ed_top.proofs.Kit.{Memory, gains_none, Err, refl, of_rows, Replies-rejected, err_from_is_err_and, device}
+use Rattle.ed_top.proofs.Kit.{IsInParts}
 use Rattle.ed_top.proofs.InParts.{parts_none, parts_one}
 use Rattle.ed_top.proofs.Writing.{reply_carried, rows_carried_by}
 use Rattle.ed_top.proofs.parts.parts.Goals as goal

@@ -1,6 +1,5 @@
-use Rattle.ed_top.proofs.Kit.{Vec, Global, gains_none, INPUT_BYTES, arith, Bool, false, length, Ok, refl}
-use Rattle.ed_top.proofs.Kit.{true, ℕ, ◌≤◌, device, Device, answer}
-use Rattle.ed_top.proofs.Kit.{HasInput}
+use Rattle.ed_top.proofs.Kit.{Vec, Global, gains_none, INPUT_BYTES, arith, Bool, false, length, Ok, refl, true, ℕ, ◌≤◌}
+use Rattle.ed_top.proofs.Kit.{device, Device, answer, HasInput}
 use Rattle.ed_top.proofs.Endings.{carried_stop, due_input, fine_source, fine_unread, input_by, none_due, stop_by}
 use Rattle.ed_top.proofs.Endings.{with_broken_out, with_long, with_no_memory, with_read_fault, with_rest}
 use Rattle.ed_top.proofs.OneOutcome.{answer_once}

@@ -1,5 +1,6 @@
 use Rattle.ed_top.proofs.Kit.{Memory, gains_none, known, [], Err, refl, subst, State, exactly, of_rows, exactly_one}
-use Rattle.ed_top.proofs.Kit.{Replies-rejected, err_from_is_err_and, device, Carried, trace_outcome, traced_from, none_written}
+use Rattle.ed_top.proofs.Kit.{Replies-rejected, err_from_is_err_and, device, Carried, trace_outcome, traced_from}
+use Rattle.ed_top.proofs.Kit.{none_written}
 use Rattle.ed_top.proofs.Writing.{reply_carried, rows_carried}
 use Rattle.ed_top.proofs.trace.trace.Goals as goal
 
