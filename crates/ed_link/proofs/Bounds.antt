@@ -1,8 +1,8 @@
 -- The number of rows that a line gives.
 use Rattle.ed_link.proofs.Kit.{item_rows, Item, [], ap, arith, Bool, false, if◌then◌else◌, length, length-append, List}
-use Rattle.ed_link.proofs.Kit.{lit≤, nat_eq, nat_le, None, Option, Some, true, ℕ, ◌%◌, ◌*◌, ◌++◌, ◌+◌, ◌/◌, ◌∷◌, ◌≡◌}
+use Rattle.ed_link.proofs.Kit.{lit≤, nat_eq, nat_le, None, Option, Some, true, ℕ, ◌%◌, ◌*◌, ◌++◌, ◌+◌, ◌/◌, ◌∷◌}
 use Rattle.ed_link.proofs.Kit.{◌≤◌, flat_map, canonical, Operand, Setting, Statement, Enter, Fetch, Long, Number}
-use Rattle.ed_link.proofs.Kit.{Order, Rows, Segment, Text, map, ◌^◌, length-map, entry, find, place_count, table_item}
+use Rattle.ed_link.proofs.Kit.{Order, Rows, Segment, Text, map, ◌^◌, length-map, find}
 use Rattle.ed_link.proofs.Kit.{even_from, segment_at, LocationCounter, Definition, long_words, operand_number}
 use Rattle.ed_link.proofs.Kit.{parameter_letters, set_to, IsFew, goes_by_theta, heads, items_of, order_item}
 use Rattle.ed_link.proofs.Kit.{preset_items, routine_items, use_items, with_heading, word_item}
@@ -137,12 +137,3 @@ items_few symbols s (Some (Fetch routine name ts)) h =
     let r = routine_few (find routine) 128 h symbols ts.items (even_from s.place) in omega (arith, r)
 items_few symbols s (Some (Enter name)) h = lit≤ tt
 items_few symbols s (Some (Rows codes)) h = lit≤ tt
-
--- a routine of the catalogue has at most 128 items
-pub found_few : (found : Option ℕ) (r : ℕ) → Some r ≡ found → place_count r ≤ 128 → length (routine_items found) ≤ 128
-found_few found r e h =
-    let l : length (routine_items (Some r)) ≤ 128 = omega (arith, h, length-map (entry r).items table_item) in
-    rw (← e) l
-
-pub none_few : (found : Option ℕ) → found ≡ None → length (routine_items found) ≤ 128
-none_few found e = rw e (lit≤ tt)

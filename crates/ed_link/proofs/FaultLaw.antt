@@ -8,7 +8,7 @@ use Rattle.ed_link.proofs.Kit.{cause_of, earlier_fault, fault, fault_from, is_en
 use Rattle.ed_link.proofs.Kit.{word_extent, HasEnter, HasNoFault, on_line, symbols_of}
 use Rattle.std.proofs.Common.{Result, Err, IfErr}
 use Rattle.std.proofs.Math.Bool.{or-false, or_assoc}
-use Rattle.std.proofs.lemmas.Bool.{leb-false}
+use Rattle.std.proofs.lemmas.Bool.{cases_lt, leb-false}
 use Rattle.ed_syntax.specs.declared.fault.SourceFault.TheVariants.{Memory}
 use Rattle.ed_syntax.proofs.Causes.{one_least}
 use Rattle.ed_symbols.specs.NameFaults.{HasNameFault}
@@ -66,27 +66,20 @@ module _ (H G : ℕ → SourceCause → Type 0)
   merge (Some (At k c)) None h g = (inl h.0, λ r o. elim [ inl x ↦ h.1 r o x | inr x ↦ absurd (g r o x) ])
   merge (Some (At k c)) (Some (At m d)) h g = by_test (nat_le k m) refl
     where
-      split : (n p : ℕ) → n ≤ p → (n < p) ⊎ (n ≡ p)
-      split n p e = grind arith
-
       later : (r : ℕ) (o : SourceCause) → k ≤ m → G r o → (m < r) ⊎ ((m ≡ r) × (number_of d ≤ number_of o))
           → (k < r) ⊎ ((k ≡ r) × (number_of c ≤ number_of o))
       later r o e x (inl y) = inl (omega (arith, e, y))
-      later r o e x (inr y) = elim (split k m e) [
+      later r o e x (inr y) = elim (cases_lt k m) [
         | inl w ↦ inl (omega (arith, w, y.0))
-        | inr w ↦ inr (omega (arith, w, y.0), order k c o h.0 (subst (λ n. G n o) (omega (arith, w, y.0)) x))
+        | inr w ↦ inr (omega (arith, e, w, y.0), order k c o h.0 (subst (λ n. G n o) (omega (arith, e, w, y.0)) x))
       ]
-
-      ahead : (r : ℕ) (o : SourceCause) → m < k → (k < r) ⊎ ((k ≡ r) × (number_of c ≤ number_of o))
-          → (m < r) ⊎ ((m ≡ r) × (number_of d ≤ number_of o))
-      ahead r o e (inl y) = inl (omega (arith, e, y))
-      ahead r o e (inr y) = inl (omega (arith, e, y.0))
 
       by_test : (t : Bool) → nat_le k m ≡ t
           → SaysLeast (λ n x. H n x ⊎ G n x) (if t then Some (At k c) else Some (At m d))
       by_test true e = (inl h.0, λ r o. elim [ inl x ↦ h.1 r o x | inr x ↦ later r o (leb-true k m e) x (g.1 r o x) ])
       by_test false e =
-          (inr g.0, λ r o. elim [ inl x ↦ ahead r o (leb-false k m e) (h.1 r o x) | inr x ↦ g.1 r o x ])
+          let less = leb-false k m e in
+          (inr g.0, λ r o. elim [ inl x ↦ let y = h.1 r o x in inl (omega (arith, less, y)) | inr x ↦ g.1 r o x ])
   merge a (Some Memory) h g = absurd g
 
 -- ---- the law
@@ -142,12 +135,9 @@ module _ (z : Size) (lines : List Line) (numbered : Numbered lines) where
   to_has k c (inr (inl n)) = rw n.3 (on_line n.2 n.4.0)
   to_has k c (inr (inr n)) = rw (n.1, n.2) (no_enter n.0)
 
-  split_at : (n : ℕ) → (n ≤ 8) ⊎ (9 ≤ n)
-  split_at n = grind arith
-
   of_has : {k : ℕ} {c : SourceCause} → SourceHasFault z lines k c → All k c
-  of_has (on_line {before} {l} {cause} st h) = elim (split_at (number_of cause)) [
-    | inl n ↦ inl (before, l, st, refl, cause_is_name z lines before l cause h n)
+  of_has (on_line {before} {l} {cause} st h) = elim (cases_lt (number_of cause) 9) [
+    | inl n ↦ inl (before, l, st, refl, cause_is_name z lines before l cause h (omega (arith, n)))
     | inr n ↦ inr (inl (before, l, st, refl, (h, n)))
   ]
   of_has (no_enter h) = inr (inr (h, refl, refl))

@@ -15,20 +15,15 @@ use Rattle.ed_link.specs.Faults.{IsMisplaced, HasSandwichDigit}
 
 -- ---- S14 and S17
 
-unknown_says : (st : Option Statement) → has_no_routine st ≡ true → UsesUnknown st
-unknown_says (Some (Fetch routine name ts)) h = no_routine (find routine) h
+unknown : (st : Option Statement) → Ties (has_no_routine st) (UsesUnknown st)
+unknown (Some (Fetch routine name ts)) = record { says = λ h. no_routine (find routine) h; tests = λ h. ap is_none h }
   where
     no_routine : (r : Option ℕ) → is_none r ≡ true → ◌≡◌ {A = Option ℕ} r None
-    no_routine None g = refl
-    no_routine (Some r) g = cc
-unknown_says st h = cc
-
-unknown_tests : (st : Option Statement) → UsesUnknown st → has_no_routine st ≡ true
-unknown_tests (Some (Fetch routine name ts)) h = ap is_none h
-unknown_tests st h = absurd h
+    no_routine r g = grind arith
+unknown st = record { says = λ h. cc; tests = λ h. absurd h }
 
 pub Ties-s14 : (l : Line) → Ties (has_no_routine l.statement) (UsesUnknown l.statement)
-Ties-s14 l = record { says = unknown_says l.statement; tests = unknown_tests l.statement }
+Ties-s14 l = unknown l.statement
 
 sandwich_says : (st : Option Statement) → has_sandwich st ≡ true
     → (v : ℕ) × (st ≡ Some (Long v)) × (v / 2 ^ 17 % 2 ≡ 1)
@@ -43,53 +38,35 @@ Ties-s17 l = record {
 
 -- ---- S9
 
-words_says : (st : Option Statement) → is_in_segment st ≡ true → PlacesWords st
-words_says (Some (Order f o d)) h = tt
-words_says (Some (Number w)) h = tt
-words_says (Some (Text codes)) h = tt
-words_says (Some (Long v)) h = tt
-words_says st h = cc
+words : (st : Option Statement) → Ties (is_in_segment st) (PlacesWords st)
+words (Some (Order f o d)) = record { says = λ h. tt; tests = λ h. refl }
+words (Some (Number w)) = record { says = λ h. tt; tests = λ h. refl }
+words (Some (Text codes)) = record { says = λ h. tt; tests = λ h. refl }
+words (Some (Long v)) = record { says = λ h. tt; tests = λ h. refl }
+words st = record { says = λ h. cc; tests = λ h. absurd h }
 
-words_tests : (st : Option Statement) → PlacesWords st → is_in_segment st ≡ true
-words_tests (Some (Order f o d)) h = refl
-words_tests (Some (Number w)) h = refl
-words_tests (Some (Text codes)) h = refl
-words_tests (Some (Long v)) h = refl
-words_tests st h = absurd h
-
-outside_says : (inside : Bool) (label : Option (List ℕ)) (st : Option Statement)
-    → (not inside && (is_some label || is_in_segment st)) ≡ true
-    → (inside ≡ false) × (((name : List ℕ) × (label ≡ Some name)) ⊎ PlacesWords st)
-outside_says true label st h = cc
-outside_says false (Some name) st h = (refl, inl (name, refl))
-outside_says false None st h = (refl, inr (words_says st h))
-
-outside_tests : (inside : Bool) (label : Option (List ℕ)) (st : Option Statement)
-    → (inside ≡ false) × (((name : List ℕ) × (label ≡ Some name)) ⊎ PlacesWords st)
-    → (not inside && (is_some label || is_in_segment st)) ≡ true
-outside_tests true label st h = cc
-outside_tests false (Some name) st h = refl
-outside_tests false None st (e, inl h) = cc
-outside_tests false None st (e, inr h) = words_tests st h
+outside : (inside : Bool) (label : Option (List ℕ)) (st : Option Statement)
+    → Ties (not inside && (is_some label || is_in_segment st))
+    ((inside ≡ false) × (((name : List ℕ) × (label ≡ Some name)) ⊎ PlacesWords st))
+outside true label st = record { says = λ h. cc; tests = λ h. cc }
+outside false (Some name) st = record { says = λ h. (refl, inl (name, refl)); tests = λ h. refl }
+outside false None st = record {
+  says = λ h. (refl, inr ((words st).says h));
+  tests = λ h. elim h.1 [ inl g ↦ cc | inr g ↦ (words st).tests g ];
+}
 
 -- no segment is open
-closed_says : (s : LocationCounter) → s.inside ≡ false → segment_at s ≡ None
-closed_says s e = rw e refl
-
-closed_tests : (s : LocationCounter) → segment_at s ≡ None → s.inside ≡ false
-closed_tests s h = by_test s.inside refl
-  where
-    by_test : (t : Bool) → s.inside ≡ t → t ≡ false
-    by_test false e = refl
-    by_test true e = let some : Some s.segments ≡ None = (rw e at h) in cc
+closed : (s : LocationCounter) → segment_at s ≡ None → s.inside ≡ false
+closed s h = grind arith
 
 pub Ties-s9 : (before : List Line) (l : Line) → Ties (is_outside l (counter_after before)) (IsOutsideSegments before l)
-Ties-s9 before l = record {
-  says = λ h. let p = outside_says (counter_after before).inside l.label l.statement h in
-      (closed_says (counter_after before) p.0, p.1);
-  tests = λ h. outside_tests (counter_after before).inside l.label l.statement
-      (closed_tests (counter_after before) h.0, h.1);
-}
+Ties-s9 before l =
+    let s = counter_after before in
+    let tie = outside s.inside l.label l.statement in
+    record {
+      says = λ h. let p = tie.says h in (rw p.0 refl, p.1);
+      tests = λ h. tie.tests (closed s h.0, h.1);
+    }
 
 -- ---- S10 to S12
 
@@ -227,45 +204,35 @@ any_among (e ∷ before) l after h = or_right _ _ (any_among before l after h)
 pub any_tests : (lines : List Line) → HasEnter lines → any_enter lines ≡ true
 any_tests lines h = rw h.2.lines_are (any_among h.0 h.1 h.2.after (ap is_enter h.3.1))
 
-data_says : (st : Option Statement) → is_rows st ≡ true → IsData st
-data_says (Some (Rows codes)) h = tt
-data_says st h = cc
+rows_tie : (st : Option Statement) → Ties (is_rows st) (IsData st)
+rows_tie (Some (Rows codes)) = record { says = λ h. tt; tests = λ h. refl }
+rows_tie st = record { says = λ h. cc; tests = λ h. absurd h }
 
-data_tests : (st : Option Statement) → IsData st → is_rows st ≡ true
-data_tests (Some (Rows codes)) h = refl
-data_tests st h = absurd h
+form : (label : Option (List ℕ)) (st : Option Statement)
+    → Ties (is_some label || is_some st) ((label ≡ None) × (st ≡ None) → ⊥)
+form (Some n) st = record { says = λ h g. cc; tests = λ h. refl }
+form None (Some st) = record { says = λ h g. cc; tests = λ h. refl }
+form None None = record { says = λ h g. cc; tests = λ h. absurd (h (refl, refl)) }
 
-form_says : (label : Option (List ℕ)) (st : Option Statement) → (is_some label || is_some st) ≡ true
-    → (label ≡ None) × (st ≡ None) → ⊥
-form_says (Some n) st h g = cc
-form_says None x h g = cc
-
-form_tests : (label : Option (List ℕ)) (st : Option Statement) → ((label ≡ None) × (st ≡ None) → ⊥)
-    → (is_some label || is_some st) ≡ true
-form_tests (Some n) st h = refl
-form_tests None (Some st) h = refl
-form_tests None None h = absurd (h (refl, refl))
-
-misplaced_says : (lines before : List Line) (l : Line) (entered : Bool) → any_enter before ≡ entered
-    → is_misplaced entered (any_enter lines) l ≡ true → IsMisplaced lines before l
-misplaced_says lines before l true e h =
-    let p = and_parts _ _ h in
-    inl (any_says before e, form_says l.label l.statement p.0, λ d. not_true _ p.1 (data_tests l.statement d))
-misplaced_says lines before l false e h =
-    let p = and_parts _ _ h in
-    inr (λ g. both_ways _ e (any_tests before g), data_says l.statement p.1, any_says lines p.0)
-
-misplaced_tests : (lines before : List Line) (l : Line) (entered : Bool) → any_enter before ≡ entered
-    → IsMisplaced lines before l → is_misplaced entered (any_enter lines) l ≡ true
-misplaced_tests lines before l true e (inl h) =
-    and_from _ _ (form_tests l.label l.statement h.1) (true_not _ (λ d. h.2 (data_says l.statement d)))
-misplaced_tests lines before l false e (inl h) = let g : any_enter before ≡ true = any_tests before h.0 in cc
-misplaced_tests lines before l true e (inr h) = absurd (h.0 (any_says before e))
-misplaced_tests lines before l false e (inr h) = and_from _ _ (any_tests lines h.2) (data_tests l.statement h.1)
+misplaced : (lines before : List Line) (l : Line) (entered : Bool) → any_enter before ≡ entered
+    → Ties (is_misplaced entered (any_enter lines) l) (IsMisplaced lines before l)
+misplaced lines before l true e = record {
+  says = λ h. let p = and_parts _ _ h in inl
+      (any_says before e, (form l.label l.statement).says p.0, λ d. not_true _ p.1 ((rows_tie l.statement).tests d));
+  tests = λ h. elim h [
+    | inl g ↦ and_from _ _ ((form l.label l.statement).tests g.1) (true_not _ (λ d. g.2 ((rows_tie l.statement).says d)))
+    | inr g ↦ absurd (g.0 (any_says before e))
+  ];
+}
+misplaced lines before l false e = record {
+  says = λ h. let p = and_parts _ _ h in
+      inr (λ g. both_ways _ e (any_tests before g), (rows_tie l.statement).says p.1, any_says lines p.0);
+  tests = λ h. elim h [
+    | inl g ↦ absurd (both_ways _ e (any_tests before g.0))
+    | inr g ↦ and_from _ _ (any_tests lines g.2) ((rows_tie l.statement).tests g.1)
+  ];
+}
 
 pub Ties-s16 : (lines before : List Line) (l : Line)
     → Ties (is_misplaced (any_enter before) (any_enter lines) l) (IsMisplaced lines before l)
-Ties-s16 lines before l = record {
-  says = misplaced_says lines before l _ refl;
-  tests = misplaced_tests lines before l _ refl;
-}
+Ties-s16 lines before l = misplaced lines before l _ refl

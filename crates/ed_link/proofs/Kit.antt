@@ -1,5 +1,5 @@
 -- The names that the proofs of this crate cite, passed on from one place. Declares nothing.
-pub use Rattle.std.proofs.Common.{append-nil, Global, max, min, reverse, Vec}
+pub use Rattle.std.proofs.Common.{append-nil, Global, max, min, reverse, take, Vec}
 pub use Rattle.std.specs.List.{Contains, sum_by}
 pub use Rattle.std.proofs.lemmas.Bool.{both_ways, cases_eq, eq-eqb, ne_eqb}
 pub use Rattle.std.proofs.lemmas.List.{at_drop_more, get_or-set_same, length-set, reverse-append}

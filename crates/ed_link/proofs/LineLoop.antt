@@ -1,13 +1,14 @@
 -- What the loop over the lines needs.
 use Rattle.ed_link.proofs.Kit.{append-nil, Size, [], ap, append_assoc, arith, Bool, drop, false, get_or, length}
 use Rattle.ed_link.proofs.Kit.{length-append, List, None, Option, refl, Some, sym, unwrap_or, ℕ, ◌*◌, ◌++◌, ◌+◌, ◌<◌}
-use Rattle.ed_link.proofs.Kit.{◌∙◌, ◌∷◌, ◌≡◌, ◌≤◌, at_drop_all, length-replicate, locations, locations_most, SourceCause, At}
+use Rattle.ed_link.proofs.Kit.{◌∙◌, ◌∷◌, ◌≡◌, ◌≤◌, length-replicate, locations, locations_most, SourceCause, At}
 use Rattle.ed_link.proofs.Kit.{Line, Statement, Enter, Rows, nat_tests, LocationCounter, Definition, ◌||◌, drop_more}
-use Rattle.ed_link.proofs.Kit.{or_later, after_statement, first_counter, cause_of, extent, fault_from, is_enter}
+use Rattle.ed_link.proofs.Kit.{after_statement, first_counter, cause_of, extent, fault_from, is_enter}
 use Rattle.ed_link.proofs.Kit.{LinesBefore, overlaps, past_of, reach, word_extent, data_after, entered_place}
 use Rattle.ed_link.proofs.Kit.{entry_from, placed_by_line, placed_from, first_past, IsBuilt, IsFew, items_of}
 use Rattle.ed_link.proofs.Kit.{punched_from, empty_table, put_all, table_of, Built}
 use Rattle.ed_link.specs.Linked.{data_rows}
+use Rattle.std.proofs.lemmas.List.{drop_all}
 use Rattle.ed_link.proofs.Bounds.{items_few}
 use Rattle.ed_link.proofs.Inductions.{faultless}
 use Rattle.ed_link.proofs.Lengths.{put_all_append, put_all_length}
@@ -94,35 +95,18 @@ Doing-step {z} {symbols} {has_enter} {lines} {n} {l} {m} {m'} d below is e =
     let past : m'.past ≡ past_of m.past l m.counter = λ i. record { extents = e.extents i; entered = e.entered i } in
     let q : drop n lines ≡ l ∷ rest = drop_more lines n l below ∙ ap (λ (x : Line). x ∷ rest) (sym is) in
     record {
-      fault = rw (past, sp) (sym (goes_on z symbols has_enter m.past m.counter l rest e.cause)
-          ∙ ap (λ (x : List Line). fault_from z symbols has_enter m.past m.counter x) (sym q) ∙ d.fault);
-      items_are = rw (e.items_are, sp) (append_assoc m.built.items.items _ _
-          ∙ ap (λ (x : List Line). m.built.items.items ++ punched_from symbols m.counter x) (sym q) ∙ d.items_are);
-      table_is = rw (e.table_is, sp)
-          (put_all_append m.built.table.items (placed_by_line symbols m.counter l.statement)
-          (placed_from symbols s rest)
-          ∙ ap (λ (x : List Line). put_all m.built.table.items (placed_from symbols m.counter x)) (sym q) ∙ d.table_is);
-      size = ap (λ (t : List (Option ℕ)). length t) e.table_is
-          ∙ put_all_length m.built.table.items (placed_by_line symbols m.counter l.statement) ∙ d.size;
-      rows_are = rw e.rows_are (append_assoc m.built.after.items _ _
-          ∙ ap (λ (x : List Line). m.built.after.items ++ data_after x) (sym q) ∙ d.rows_are);
-      entry_is = e.entry_is (entry_from symbols rest)
-          ∙ ap (λ (x : List Line). unwrap_or m.built.entry (entry_from symbols x)) (sym q) ∙ d.entry_is;
+      fault = rw (past, sp) (sym (goes_on z symbols has_enter m.past m.counter l rest e.cause) ∙ (rw q at d.fault));
+      items_are = rw (e.items_are, sp, append_assoc) (rw q at d.items_are);
+      table_is = rw (e.table_is, sp, put_all_append) (rw q at d.table_is);
+      size = rw (e.table_is, put_all_length) d.size;
+      rows_are = rw (e.rows_are, append_assoc) (rw q at d.rows_are);
+      entry_is = e.entry_is (entry_from symbols rest) ∙ (rw q at d.entry_is);
       place = omega (arith, d.place, e.place);
       segments = omega (arith, d.segments, e.segments);
       base = rw sp b;
-      few_items = rw e.items_are (omega (
-        arith,
-        d.few_items,
-        items_few symbols m.counter l.statement e.few_items,
-        length-append m.built.items.items (items_of symbols m.counter l.statement),
-      ));
-      few_rows = rw e.rows_are (omega (
-        arith,
-        d.few_rows,
-        e.few_rows,
-        length-append m.built.after.items (data_rows l.statement),
-      ));
+      few_items = let few = items_few symbols m.counter l.statement e.few_items in
+          rw (e.items_are, length-append) (omega (arith, d.few_items, few));
+      few_rows = rw (e.rows_are, length-append) (omega (arith, d.few_rows, e.few_rows));
     }
 
 -- before the first line
@@ -149,16 +133,14 @@ pub all_built : {z : Size} {symbols : List Definition} {has_enter : Bool} {lines
     → Doing z symbols has_enter lines n m → length lines ≤ n → n ≤ length lines → length lines ≤ 2000
     → IsBuilt z symbols has_enter lines m.built
 all_built {z} {symbols} {has_enter} {lines} {n} {m} d past within limit =
-    let none : [] ≡ drop n lines = sym (at_drop_all (λ (xs : List Line). xs) lines n past) in
+    let none = drop_all n lines past in
     record {
-      accepted = sym d.fault ∙ ap (λ (x : List Line). fault_from z symbols has_enter m.past m.counter x) (sym none);
-      items = sym (append-nil m.built.items.items)
-          ∙ ap (λ (x : List Line). m.built.items.items ++ punched_from symbols m.counter x) none ∙ d.items_are;
-      table = ap (λ (x : List Line). put_all m.built.table.items (placed_from symbols m.counter x)) none ∙ d.table_is;
+      accepted = sym (rw none at d.fault);
+      items = rw (none, append-nil) at d.items_are;
+      table = rw none at d.table_is;
       size = d.size;
-      entry = ap (λ (x : List Line). unwrap_or m.built.entry (entry_from symbols x)) none ∙ d.entry_is;
-      after = sym (append-nil m.built.after.items)
-          ∙ ap (λ (x : List Line). m.built.after.items ++ data_after x) none ∙ d.rows_are;
+      entry = rw none at d.entry_is;
+      after = rw (none, append-nil) at d.rows_are;
       few_items = omega (arith, d.few_items);
       few_rows = omega (arith, d.few_rows);
     }
@@ -173,6 +155,4 @@ pub fault_from-stopped : {z : Size} {symbols : List Definition} {has_enter : Boo
 fault_from-stopped {z} {symbols} {has_enter} {lines} {n} {l} {m} d below is has =
     let rest = drop (n + 1) lines in
     let q : drop n lines ≡ l ∷ rest = drop_more lines n l below ∙ ap (λ (x : Line). x ∷ rest) (sym is) in
-    sym d.fault ∙ ap (λ (x : List Line). fault_from z symbols has_enter m.past m.counter x) q
-    ∙ ap (λ (x : Option SourceCause). or_later l.number x
-    (fault_from z symbols has_enter (past_of m.past l m.counter) (after_statement l.statement m.counter) rest)) has
+    sym (rw (q, has) at d.fault)

@@ -8,7 +8,7 @@ use Rattle.ed_link.proofs.Kit.{routine_word, find, table_item, even_from, routin
 use Rattle.ed_link.proofs.Kit.{counter_after, counter_from, IsLineAfter, after_statement, first_counter, HasNoFault}
 use Rattle.ed_link.proofs.Kit.{on_line, end_place, first_place, image, linked_words, operand_number, parameter_letters}
 use Rattle.ed_link.proofs.Kit.{parameters, placed_by_line, placed_from, placed_words, preset, presets, set_to}
-use Rattle.ed_link.proofs.Kit.{symbols_of}
+use Rattle.ed_link.proofs.Kit.{symbols_of, Bool, ◌&&◌, and_parts}
 use Rattle.std.proofs.lemmas.Bool.{cases_lt}
 use Rattle.std.proofs.lemmas.List.{append-nil}
 use Rattle.ed_link.specs.Faults.{LineHasWord}
@@ -98,29 +98,11 @@ laid_has place (v ∷ ws) (suc k) low =
 
 -- ---- the words of a line
 
-module _ (symbols : List Definition) (s : LocationCounter) where
-  -- the line's own words are where they are placed
-  routine_is : (ts : List Setting) (base : ℕ) (r : Option ℕ)
-      → image symbols ts base r ≡ placed_words base (routine_words symbols ts base r)
-  routine_is ts base None = refl
-  routine_is ts base (Some r) = refl
+abbrev settings_of : Option Statement → List Setting
+settings_of (Some (Fetch r n ts)) = ts.items
+settings_of st = []
 
-  routine_fits : (ts : List Setting) (base : ℕ) (r : Option ℕ)
-      → base + length (routine_words symbols ts base r) ≡ base + routine_places r
-  routine_fits ts base None = refl
-  routine_fits ts base (Some r) =
-      ap (λ n. base + n)
-      (length-map (entry r).items (λ row. routine_word (parameters symbols ts) base (table_item row)))
-
-  -- they fill the locations of the line
-  fills : (st : Option Statement) → first_place st s + length (words_of_line symbols s st) ≡ end_place st s
-  fills (Some (Order f o d)) = refl
-  fills (Some (Number w)) = refl
-  fills (Some (Text codes)) = ap (λ n. s.place + n) (length-map codes.items (λ c. 4096 * c))
-  fills (Some (Long v)) = ap (λ (t : LocationCounter). t.place) (long_spot s v)
-  fills (Some (Fetch r n ts)) = routine_fits ts.items (even_from s.place) (find r)
-  fills st = omega arith
-
+module _ (symbols : List Definition) where
   -- a letter that is set
   abbrev IsPreset : List Setting → List ℕ → ℕ → ℕ → Type 0
   IsPreset ts cs a w = (c : ℕ) × (o : Operand) × Contains cs c × (set_to ts c ≡ Some o) × (a ≡ 24 + c)
@@ -156,36 +138,33 @@ module _ (symbols : List Definition) (s : LocationCounter) where
   preset_has ts (d ∷ cs) c o (suc k, low, is) e =
       among_right _ _ _ _ (preset_has ts cs c o (k, omega (arith, low), is) e)
 
-  -- what a line places, by its statement
-  abbrev IsOwn : Option Statement → ℕ → ℕ → Type 0
-  IsOwn st a w = IsAt (first_place st s) (words_of_line symbols s st) a w
+module _ (symbols : List Definition) (s : LocationCounter) where
+  routine_is : (ts : List Setting) (base : ℕ) (r : Option ℕ)
+      → image symbols ts base r ≡ placed_words base (routine_words symbols ts base r)
+  routine_is ts base None = refl
+  routine_is ts base (Some r) = refl
 
-  abbrev IsSet : Option Statement → ℕ → ℕ → Type 0
-  IsSet (Some (Fetch r n ts)) a w = IsPreset ts.items parameter_letters a w
-  IsSet st a w = ⊥
+  -- a line places the parameters that it sets, and then its own words
+  placed_is : (st : Option Statement) → placed_by_line symbols s st
+      ≡ presets symbols (settings_of st) ++ placed_words (first_place st s) (words_of_line symbols s st)
+  placed_is (Some (Fetch r n ts)) = ap (λ x. presets symbols ts.items ++ x) (routine_is ts.items _ (find r))
+  placed_is st = refl
 
-  by_line : (st : Option Statement) (a w : ℕ) → Among (placed_by_line symbols s st) a w → IsOwn st a w ⊎ IsSet st a w
-  by_line (Some (Order f o d)) a w h = inl (laid_is s.place (words_of_line symbols s (Some (Order f o d))) a w h)
-  by_line (Some (Number v)) a w h = inl (laid_is s.place (words_of_line symbols s (Some (Number v))) a w h)
-  by_line (Some (Text codes)) a w h = inl (laid_is s.place (words_of_line symbols s (Some (Text codes))) a w h)
-  by_line (Some (Long v)) a w h = inl (laid_is s.place (words_of_line symbols s (Some (Long v))) a w h)
-  by_line (Some (Fetch r n ts)) a w h = elim (among_split _ _ a w h) [
-    | inl g ↦ inr (preset_is ts.items parameter_letters a w g)
-    | inr g ↦ inl (laid_is _ _ a w (rw (← (routine_is ts.items _ (find r))) g))
-  ]
-  by_line st a w h = absurd h
+  routine_fits : (ts : List Setting) (base : ℕ) (r : Option ℕ)
+      → base + length (routine_words symbols ts base r) ≡ base + routine_places r
+  routine_fits ts base None = refl
+  routine_fits ts base (Some r) =
+      ap (λ n. base + n)
+      (length-map (entry r).items (λ row. routine_word (parameters symbols ts) base (table_item row)))
 
-  own_placed : (st : Option Statement) (k : ℕ) → k < length (words_of_line symbols s st)
-      → Among (placed_by_line symbols s st) (first_place st s + k) (get_or (words_of_line symbols s st) k 0)
-  own_placed (Some (Order f o d)) k low = laid_has s.place (words_of_line symbols s (Some (Order f o d))) k low
-  own_placed (Some (Number v)) k low = laid_has s.place (words_of_line symbols s (Some (Number v))) k low
-  own_placed (Some (Text codes)) k low = laid_has s.place (words_of_line symbols s (Some (Text codes))) k low
-  own_placed (Some (Long v)) k low = laid_has s.place (words_of_line symbols s (Some (Long v))) k low
-  own_placed (Some (Fetch r n ts)) k low =
-      among_right _ _ _ _ (subst (λ x. Among x (even_from s.place + k)
-      (get_or (routine_words symbols ts.items (even_from s.place) (find r)) k 0))
-      (sym (routine_is ts.items _ (find r))) (laid_has _ _ k low))
-  own_placed st k low = absurd (omega (arith, low))
+  -- they fill the locations of the line
+  fills : (st : Option Statement) → first_place st s + length (words_of_line symbols s st) ≡ end_place st s
+  fills (Some (Order f o d)) = refl
+  fills (Some (Number w)) = refl
+  fills (Some (Text codes)) = ap (λ n. s.place + n) (length-map codes.items (λ c. 4096 * c))
+  fills (Some (Long v)) = ap (λ (t : LocationCounter). t.place) (long_spot s v)
+  fills (Some (Fetch r n ts)) = routine_fits ts.items (even_from s.place) (find r)
+  fills st = omega arith
 
 -- ---- the words of all lines
 
@@ -198,9 +177,7 @@ placed_append : (symbols : List Definition) (s : LocationCounter) (xs ys : List 
     → placed_from symbols s (xs ++ ys) ≡ placed_from symbols s xs ++ placed_from symbols (counter_from s xs) ys
 placed_append symbols s [] ys = refl
 placed_append symbols s (x ∷ xs) ys =
-    ap (λ ps. placed_by_line symbols s x.statement ++ ps) (placed_append symbols (after_statement x.statement s) xs ys)
-    ∙ sym (append_assoc (placed_by_line symbols s x.statement) (placed_from symbols (after_statement x.statement s) xs)
-    (placed_from symbols (counter_from (after_statement x.statement s) xs) ys))
+    rw (placed_append symbols (after_statement x.statement s) xs ys, append_assoc) refl
 
 -- a word among those of some lines is one of a line
 abbrev OfALine : List Definition → LocationCounter → List Line → ℕ → ℕ → Type 0
@@ -218,22 +195,13 @@ of_a_line symbols s (l ∷ lines) a w h = elim (among_split _ _ a w h) [
       (l ∷ r.0, r.1, record { after = r.2.after; lines_are = ap (λ x. l ∷ x) r.2.lines_are }, r.3)
 ]
 
--- the location of a parameter is below those of the program
-low_letter : (c : ℕ) → Contains parameter_letters c → c ≤ 26
-low_letter c h =
-    let test = All-contains (λ x. nat_le x 26 ≡ true) parameter_letters c
-    (AllPass-from_list_all (λ x. nat_le x 26) parameter_letters refl) h in
-    leb-true c 26 test
-
-high_letter : (c : ℕ) → Contains parameter_letters c → 21 ≤ c
-high_letter c h =
-    let test = All-contains (λ x. nat_le 21 x ≡ true) parameter_letters c
-    (AllPass-from_list_all (λ x. nat_le 21 x) parameter_letters refl) h in
-    leb-true 21 c test
-
-abbrev settings_of : Option Statement → List Setting
-settings_of (Some (Fetch r n ts)) = ts.items
-settings_of st = []
+-- the letters of parameters
+in_range : (c : ℕ) → Contains parameter_letters c → (21 ≤ c) × (c ≤ 26)
+in_range c h =
+    let test : ℕ → Bool = λ x. nat_le 21 x && nat_le x 26 in
+    let p = and_parts _ _ (All-contains (λ x. test x ≡ true) parameter_letters c
+    (AllPass-from_list_all test parameter_letters refl) h) in
+    (leb-true 21 c p.0, leb-true c 26 p.1)
 
 -- ---- the law
 
@@ -258,17 +226,16 @@ module _ (z : Size) (lines : List Line) (faultless : HasNoFault z lines) where
       ]
 
   low : (l : Line) (a w : ℕ) → LineSets lines l a w → a < 56
-  low l a w p = omega (arith, p.place_is, low_letter p.letter p.is_letter)
+  low l a w p = omega (arith, p.place_is, in_range p.letter p.is_letter)
 
   -- a word of a line and a parameter are at two locations
   apart : {before : List Line} {l m : Line} {a v w : ℕ} → IsLineAfter lines before l → LinePlaces lines before l a v
       → LineSets lines m a w → ⊥
   apart {before} {l} {m} {a} {v} {w} st p q = omega (arith, high before l a v st p, low m a w q)
 
-  set_by : (s : LocationCounter) (l : Line) (st : Option Statement) (a w : ℕ) → l.statement ≡ st
-      → IsSet symbols s st a w
-      → LineSets lines l a w
-  set_by s l (Some (Fetch r n ts)) a w e h = record {
+  set_by : (l : Line) (st : Option Statement) (a w : ℕ) → l.statement ≡ st
+      → IsPreset symbols (settings_of st) parameter_letters a w → LineSets lines l a w
+  set_by l (Some (Fetch r n ts)) a w e h = record {
     routine = r;
     name = n;
     settings = ts.items;
@@ -280,28 +247,30 @@ module _ (z : Size) (lines : List Line) (faultless : HasNoFault z lines) where
     place_is = h.4;
     word_is = h.5;
   }
-  set_by s l st a w e h = absurd h
+  set_by l st a w e h = absurd (let none = h.3 in cc)
 
   -- what a line places is its own or a parameter
   kinds : (before : List Line) (l : Line) (a w : ℕ)
       → Among (placed_by_line symbols (counter_after before) l.statement) a w
       → LinePlaces lines before l a w ⊎ LineSets lines l a w
-  kinds before l a w h = elim (by_line symbols (counter_after before) l.statement a w h) [
-    | inl g ↦ inl (record { index = g.0; below = g.1; place_is = g.2; word_is = g.3 })
-    | inr g ↦ inr (set_by (counter_after before) l l.statement a w refl g)
-  ]
+  kinds before l a w h =
+      let s = counter_after before in
+      elim (among_split (presets symbols (settings_of l.statement)) _ a w (rw (placed_is symbols s l.statement) at h)) [
+        | inl g ↦ inr (set_by l l.statement a w refl (preset_is symbols _ parameter_letters a w g))
+        | inr g ↦
+            let r = laid_is _ _ a w g in inl (record { index = r.0; below = r.1; place_is = r.2; word_is = r.3 })
+      ]
 
   own_among : (before : List Line) (l : Line) (a w : ℕ) → LinePlaces lines before l a w
       → Among (placed_by_line symbols (counter_after before) l.statement) a w
   own_among before l a w p =
-      let at = own_placed symbols _ l.statement p.index p.below in
-      rw p.place_is (subst (λ x. Among (placed_by_line symbols (counter_after before) l.statement)
-      (first_place l.statement (counter_after before) + p.index) x) (sym p.word_is) at)
+      rw (placed_is symbols (counter_after before) l.statement, p.place_is, p.word_is)
+      (among_right _ _ _ _ (laid_has _ _ p.index p.below))
 
   set_among : (s : LocationCounter) (l : Line) (a w : ℕ) → LineSets lines l a w
       → Among (placed_by_line symbols s l.statement) a w
   set_among s l a w p =
-      let at = preset_has symbols s p.settings parameter_letters p.letter p.operand p.is_letter p.set in
+      let at = preset_has symbols p.settings parameter_letters p.letter p.operand p.is_letter p.set in
       let moved : Among (presets symbols p.settings) a w =
       rw p.place_is (subst (λ x. Among (presets symbols p.settings) (24 + p.letter) x) (sym p.word_is) at) in
       rw p.statement_is (among_left _ _ a w moved)
@@ -409,7 +378,7 @@ module _ (z : Size) (lines : List Line) (faultless : HasNoFault z lines) where
             ]
         | inr p ↦
             let place = p.place_is in
-            (omega (arith, place, high_letter p.letter p.is_letter), omega (arith, low r.1 a w p, least z))
+            (omega (arith, place, in_range p.letter p.is_letter), omega (arith, low r.1 a w p, least z))
       ]
 
 pub each_word_stands : EachWordStands

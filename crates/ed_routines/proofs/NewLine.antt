@@ -3,7 +3,7 @@ use Rattle.ed_routines.proofs.Kit.{E_F, Leads, length_patched, patched, [], ap, 
 use Rattle.ed_routines.proofs.Kit.{Some, ℕ, ◌*◌, ◌+◌, ◌∙◌, ◌∷◌, ◌≡◌, locations_most, State, newline, Keeps, Returned, caller}
 use Rattle.ed_routines.proofs.Kit.{IsLoadedAt}
 use Rattle.ed_machine.proofs.Kit.Newline.{IsCalled, cells, newline as newline_leads}
-use Rattle.ed_routines.proofs.Called.{IsWithin, holds, get_or-kept}
+use Rattle.ed_routines.proofs.Called.{IsWithin, get_or-kept}
 
 module _ {parameters : List ℕ} {b top : ℕ} {s : State} (all : length s.store.words ≡ 1024)
     (o : IsLoadedAt newline parameters b s) (within : IsWithin 7 b 0 top s) where

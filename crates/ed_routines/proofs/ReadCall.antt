@@ -6,13 +6,13 @@ use Rattle.ed_routines.proofs.Kit.{locations_most, step, State, read, with_h, af
 use Rattle.ed_routines.proofs.Kit.{caller}
 use Rattle.ed_machine.proofs.Names.{append-nil, length-append, ltb-true, length-set, Obeyed}
 use Rattle.ed_notation.proofs.Kit.{◌≢◌, ltb-false, get_or-set_other}
-use Rattle.std.proofs.lemmas.List.{get_or-set_same}
+use Rattle.std.proofs.lemmas.List.{get_or-set_same, get_or_at, nil_from_length}
 use Rattle.ed_orders.specs.declared.kind.Kind.TheVariants.{I as KindI}
 use Rattle.ed_machine.specs.declared.turn.Turn.TheVariants.{NoTape}
 use Rattle.ed_machine.proofs.Kit.Orders.{named, obeyed}
 use Rattle.ed_machine.proofs.Kit.Window.{get_below, get_above}
 use Rattle.ed_routines.specs.Returns.{HasRead, KeepsBut, Waits}
-use Rattle.ed_routines.proofs.Called.{Call, IsCalled, image, holds_h, get_or-kept, beside, call_of, state-begins}
+use Rattle.ed_routines.proofs.Called.{Call, IsCalled, image, holds_h, get_or-kept, call_of, state-begins}
 use Rattle.ed_routines.proofs.Read.{Work, Around, Digits, none, more, cells, run, Path-whole, until_end, worked}
 use Rattle.ed_routines.proofs.Read.{opened_work, last_work}
 
@@ -34,10 +34,6 @@ are_digits (row ∷ rows) = by_test (nat_lt row 10) refl (are_digits rows)
     by_test true e before = rw e (more (ltb-true row 10 e) before)
     by_test false e before = rw e none
 
-get_or-length : (xs : List ℕ) (c : ℕ) (rest : List ℕ) → get_or (xs ++ c ∷ rest) (length xs) 0 ≡ c
-get_or-length [] c rest = refl
-get_or-length (x ∷ xs) c rest = get_or-length xs c rest
-
 -- the row after digit rows is an ending row
 is_ending : (rows : List ℕ) (c : ℕ) (rest : List ℕ) → after_digits rows ≡ c ∷ rest → 10 ≤ c
 is_ending [] c rest e = cc
@@ -52,30 +48,20 @@ is_ending (row ∷ rows) c rest e = by_test (nat_lt row 10) refl (is_ending rows
 
 -- if all rows are digit rows, no row follows them
 pub no_ending : (rows : List ℕ) → length (digit_rows rows) ≡ length rows → after_digits rows ≡ []
-no_ending rows all = by_rows (after_digits rows) refl
-  where
-    by_rows : (a : List ℕ) → after_digits rows ≡ a → after_digits rows ≡ []
-    by_rows [] e = e
-    by_rows (c ∷ rest) e =
-        let whole = ap length (split rows) in
-        let sum = length-append (digit_rows rows) (after_digits rows) in
-        let more : length (after_digits rows) ≡ length (c ∷ rest) = ap length e in
-        absurd (omega arith)
+no_ending rows all =
+    let whole = ap length (split rows) in
+    nil_from_length (after_digits rows) (omega (arith, whole, length-append (digit_rows rows) (after_digits rows)))
 
 -- if some row is not a digit row, the first such row follows them
 pub has_ending : (rows : List ℕ) → length (digit_rows rows) ≢ length rows
     → after_digits rows ≡ get_or rows (length (digit_rows rows)) 0 ∷ drop 1 (after_digits rows)
-has_ending rows other = by_rows (after_digits rows) refl
+has_ending rows other = by_rows (after_digits rows) (split rows)
   where
-    by_rows : (a : List ℕ) → after_digits rows ≡ a → a ≡ get_or rows (length (digit_rows rows)) 0 ∷ drop 1 a
-    by_rows [] e =
-        absurd (other (sym (ap length (split rows) ∙ ap (λ x. length (digit_rows rows ++ x)) e
-        ∙ ap length (append-nil (digit_rows rows)))))
+    by_rows : (a : List ℕ) → rows ≡ digit_rows rows ++ a → a ≡ get_or rows (length (digit_rows rows)) 0 ∷ drop 1 a
+    by_rows [] e = absurd (other (sym (ap length (e ∙ append-nil (digit_rows rows)))))
     by_rows (c ∷ rest) e =
-        let there : get_or (digit_rows rows ++ c ∷ rest) (length (digit_rows rows)) 0 ≡ c =
-        get_or-length (digit_rows rows) c rest in
-        ap (λ x. x ∷ rest) (sym (ap (λ x. get_or x (length (digit_rows rows)) 0)
-        (split rows ∙ ap (λ x. digit_rows rows ++ x) e) ∙ there))
+        let there = ap (λ x. get_or x (length (digit_rows rows)) 0) e ∙ get_or_at (digit_rows rows) c rest 0 _ refl in
+        ap (λ x. x ∷ rest) (sym there)
 
 module _ {b h top : ℕ} {s : State} (o : IsCalled read (with_h h) b h top s) where
   abbrev call : Call 24 0
