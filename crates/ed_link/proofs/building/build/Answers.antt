@@ -33,19 +33,3 @@ add_line-requires-clause-fits c =
     (record { extents = c.loop-line.built.extents.items; entered = is_some c.loop-line.built.entry }) c.line-item.result
     c.loop-line.counter
     (sym c.in_default.ensures)
-
-pub add_line-requires-clause-first : goal.add_line-requires-clause-first
-add_line-requires-clause-first c =
-    let past : LinesBefore =
-    record { extents = c.loop-line.built.extents.items; entered = is_some c.loop-line.built.entry } in
-    first_enter c.loop-line.built.entry c.args.has_enter c.line-item.result
-    (faultless c.args.size c.args.symbols.now c.args.has_enter past c.line-item.result c.loop-line.counter
-    (sym c.in_default.ensures)).misplaced
-
-pub returns : goal.returns
-returns c =
-    all_built c.loop-line.invariant c.loop-line-test.false c.loop-line.auto.line-index-end c.requires
-
-pub returns-in-Some : goal.returns-in-Some
-returns-in-Some c =
-    fault_from-stopped c.loop-line.invariant c.loop-line-test.true c.line-item.is (sym c.in-Some.ensures)

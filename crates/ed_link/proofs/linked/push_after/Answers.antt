@@ -14,13 +14,6 @@ loop-row-preserved c =
           c.byte_of.ensures.is c.byte_of.ensures.back s),
     )
 
-pub returns-clause-is : goal.returns-clause-is
-returns-clause-is c =
-    c.in_ok-push-2.ensures.items
-    ∙ ap (λ (xs : List ℕ). c.loop-row.text.items ++ xs)
-    (sym (at_drop_all (line_from true) c.args.rows.now c.loop-row.row-index c.loop-row-test.false))
-    ∙ c.loop-row.invariant.0 ∙ ap (λ (xs : List ℕ). c.args.text.now.items ++ xs) (sym (some_text c.args.rows.now c.if-is_empty.ensures))
-
 pub returns-clause-spells : goal.returns-clause-spells
 returns-clause-spells c =
     rw (some_text c.args.rows.now c.if-is_empty.ensures)

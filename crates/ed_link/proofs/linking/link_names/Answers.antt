@@ -6,9 +6,6 @@ use Rattle.ed_link.proofs.Finished.{built_spelled, IsLinked-finished}
 use Rattle.ed_link.proofs.Spellable.{all_spellable}
 use Rattle.ed_link.proofs.linking.link_names.Goals as goal
 
-pub build-requires : goal.build-requires
-build-requires c = omega arith
-
 pub finish-requires-clause-spellable : goal.finish-requires-clause-spellable
 finish-requires-clause-spellable c =
     let enters = c.any_enter-has_enter.ensures ∙ ap (λ (x : List Line). any_enter x) c.deref.ensures.value in

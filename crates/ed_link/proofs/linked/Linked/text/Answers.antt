@@ -9,11 +9,6 @@ pub text_of_items-requires : goal.text_of_items-requires
 text_of_items-requires c =
     let linked = c.args.self.now in rw c.deref.ensures.value (are_spellable linked.items.items linked.spellable)
 
-pub returns-clause-is : goal.returns-clause-is
-returns-clause-is c =
-    let items = c.in_ok-text.ensures.text ∙ ap (λ (is : List Item). text_of (canonicals is)) c.deref.ensures.value in
-    c.in_ok-push_after.ensures.is ∙ (λ i. items i ++ after_text (c.deref-2.ensures.value i))
-
 pub returns-clause-reads : goal.returns-clause-reads
 returns-clause-reads c =
     let items = c.deref.result.now in
