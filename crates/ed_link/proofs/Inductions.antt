@@ -6,7 +6,7 @@ use Rattle.ed_link.proofs.Kit.{leb-true, locations, locations_most, NotationStat
 use Rattle.ed_link.proofs.Kit.{Enter, Fetch, Long, Number, Order, Rows, Text, is_line, catalogue, is_ready}
 use Rattle.ed_link.proofs.Kit.{find, place_on, LocationCounter, Definition, is_none, is_some, not, ◌||◌, or_later}
 use Rattle.ed_link.proofs.Kit.{after_statement, any_enter, cause_of, extent, extent_at, fault_from, has_no_routine}
-use Rattle.ed_link.proofs.Kit.{is_enter, is_misplaced, is_rows, LinesBefore, overlaps, past_of, reach, sets}
+use Rattle.ed_link.proofs.Kit.{is_enter, is_misplaced, LinesBefore, overlaps, past_of, reach, sets}
 use Rattle.ed_link.proofs.Kit.{sets_otherwise, entered_place, entry_from, placed_by_line, placed_from, theta_from}
 use Rattle.ed_link.proofs.Kit.{item_with, items_of, punched_from, Extent}
 use Rattle.std.proofs.lemmas.Bool.{not-false, or_parts, ltb-false}
@@ -127,17 +127,6 @@ record IsBehind (symbols : List Definition) (theta : ℕ) (s : LocationCounter) 
 misplaced : (x : Bool) → ((x || true) && true) ≡ false → ⊥
 misplaced true h = cc
 misplaced false h = cc
-
-late : (label : Option (List ℕ)) (st : Option Statement)
-    → ((is_some label || is_some st) && not (is_rows st)) ≡ false → is_enter st ≡ true → ⊥
-late label (Some (Enter name)) m e = misplaced (is_some label) m
-late label st m e = cc
-
--- an `enter` line without a fault is the first one
-pub first_enter : (entry : Option ℕ) (has_enter : Bool) (l : SourceLine)
-    → is_misplaced (is_some entry) has_enter l ≡ false → is_enter l.statement ≡ true → entry ≡ None
-first_enter None has_enter l m e = refl
-first_enter (Some p) has_enter l m e = absurd (late l.label l.statement m e)
 
 -- a line after `enter` gives nothing
 after_line : {symbols : List Definition} {theta : ℕ} {s : LocationCounter} {n : ℕ} {label : Option (List ℕ)}

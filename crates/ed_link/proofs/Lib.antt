@@ -1,5 +1,4 @@
 mod Causes
-pub mod Steps
 pub mod Spellable
 pub mod Texts
 pub mod Costs

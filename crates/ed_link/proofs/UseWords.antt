@@ -1,7 +1,6 @@
 -- The words of a `use`, by what the code puts.
-use Rattle.ed_link.proofs.Kit.{List, Option, Some, ℕ, ◌++◌, ◌≡◌, Setting}
-use Rattle.ed_link.proofs.Kit.{map, entry, routine_word, table_item, Definition, image}
-use Rattle.ed_link.proofs.Kit.{parameters, placed_words, presets, put_all}
+use Rattle.ed_link.proofs.Kit.{List, Option, Some, ℕ, ◌++◌, ◌≡◌, Setting, map, entry, routine_word, table_item}
+use Rattle.ed_link.proofs.Kit.{Definition, image, parameters, placed_words, presets, put_all}
 use Rattle.ed_link.proofs.Lengths.{put_all_append}
 
 -- the parameters and then the routine are the words of the `use`

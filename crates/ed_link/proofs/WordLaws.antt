@@ -8,9 +8,8 @@ use Rattle.ed_link.proofs.Kit.{routine_word, find, table_item, even_from, routin
 use Rattle.ed_link.proofs.Kit.{counter_after, counter_from, IsLineAfter, after_statement, first_counter, HasNoFault}
 use Rattle.ed_link.proofs.Kit.{on_line, end_place, first_place, image, linked_words, operand_number, parameter_letters}
 use Rattle.ed_link.proofs.Kit.{parameters, placed_by_line, placed_from, placed_words, preset, presets, set_to}
-use Rattle.ed_link.proofs.Kit.{symbols_of, Bool, ◌&&◌, and_parts}
+use Rattle.ed_link.proofs.Kit.{symbols_of, Bool, ◌&&◌, and_parts, append-nil}
 use Rattle.std.proofs.lemmas.Bool.{cases_lt}
-use Rattle.std.proofs.lemmas.List.{append-nil}
 use Rattle.ed_link.specs.Faults.{LineHasWord}
 use Rattle.ed_link.specs.Words.{EachWordStands, IsLastSet, LinePlaces, LineSets, linked_word, words_of_line}
 use Rattle.ed_link.specs.Words.{routine_words}

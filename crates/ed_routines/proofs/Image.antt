@@ -52,8 +52,7 @@ image_at : (rows : List TableRow) (working : List ℕ) (b : ℕ) (hs : List ℕ)
     ≡ (if list_any (λ p. p == (i + j)) working then None else Some (row_word b hs (get_or rows j d)))
 image_at [] working b hs i j d l = absurd (omega arith)
 image_at (row ∷ rows) working b hs i zero d l = let z : i + 0 ≡ i = omega arith in rw z refl
-image_at (row ∷ rows) working b hs i (suc j) d l =
-    let z : i + suc j ≡ i + 1 + j = omega arith in rw z (image_at rows working b hs (i + 1) j d (omega arith))
+image_at (row ∷ rows) working b hs i (suc j) d l = search (rules, image_at rows working b hs (i + 1) j d (omega arith))
 
 -- the letters of such rows
 pub data IsLetter (takes c : ℕ) : Type 0 where

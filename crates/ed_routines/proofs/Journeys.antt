@@ -1,8 +1,8 @@
 -- A journey: lines of a path, and calls of routines as lines among them, one after the other.
 use Rattle.ed_routines.proofs.Kit.{A_F, all_words, Frame, Moment, short, state, Leads, A, G_jumps, Jumps, Reads, Does}
 use Rattle.ed_routines.proofs.Kit.{leads, on, Path, stay, any, own, length_patched, patched, [], ap, arith, false}
-use Rattle.ed_routines.proofs.Kit.{get_or, inl, inr, length, List, Option, refl, rules, subst, sym, ℕ, ◌*◌, ◌++◌, ◌+◌}
-use Rattle.ed_routines.proofs.Kit.{◌-◌, ◌<◌, ◌^◌, ◌∙◌, ◌≡◌, ◌≤◌, ◌⊎◌, locations, locations_most, step, State, place_count}
+use Rattle.ed_routines.proofs.Kit.{get_or, inl, inr, length, List, Option, rules, subst, sym, ℕ, ◌*◌, ◌++◌, ◌+◌}
+use Rattle.ed_routines.proofs.Kit.{◌-◌, ◌<◌, ◌∙◌, ◌≡◌, ◌≤◌, ◌⊎◌, locations, locations_most, step, State, place_count}
 use Rattle.ed_routines.proofs.Kit.{IsOther, caller, IsLoadedAt}
 use Rattle.ed_orders.specs.declared.kind.Kind.TheVariants.{Z as KindZ}
 use Rattle.ed_machine.specs.declared.turn.Turn.TheVariants.{Stopped}
@@ -105,27 +105,7 @@ module _ {n h : ℕ} {f : Frame n h} {r : Moment} (o : IsIn f r) where
   -- the routine is there, called
   pub stands : {r0 w : ℕ} {parameters : List ℕ} (i done : ℕ) → i + 3 ≤ n → HasRoutine f r.words r0 w parameters
       → IsLoadedAt r0 parameters w (state f (called i w) done)
-  stands {r0} {w} {parameters} i done room has =
-      let e = caller_is i w done in
-      let low = o.above in
-      let under = f.under in let fits = f.fits in
-      record {
-        low = has.low;
-        fits = has.fits;
-        counter = refl;
-        at2 = beside_word 2 (inl (omega arith)) ∙ has.at2;
-        at3 = beside_word 3 (inl (omega arith)) ∙ has.at3;
-        image = λ j l. record { has = λ free. beside_word (w + j) (away j l has.apart) ∙ has.image j l free };
-        call = record {
-          acc = ap (λ x. (A_F + 2 * x) * 2 ^ 54) (sym e);
-          room = omega (arith, e);
-        };
-      }
-    where
-      away : (j : ℕ) → j < place_count r0 → (w + place_count r0 ≤ f.base) ⊎ (f.base + n ≤ w)
-          → (w + j < f.base) ⊎ (f.base + n ≤ w + j)
-      away j l (inl b) = inl (omega arith)
-      away j l (inr b) = inr (omega arith)
+  stands {r0} {w} {parameters} i done room has = search (rules, caller_is, beside_word)
 
   -- the moment after the call
   abbrev pub after_call : ℕ → ℕ → List ℕ → Option ℕ → Moment

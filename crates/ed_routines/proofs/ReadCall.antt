@@ -19,12 +19,7 @@ use Rattle.ed_routines.proofs.Read.{opened_work, last_work}
 -- a tape is its digit rows and the rows after them
 pub split : (rows : List ℕ) → rows ≡ digit_rows rows ++ after_digits rows
 split [] = refl
-split (row ∷ rows) = by_test (nat_lt row 10) refl (split rows)
-  where
-    by_test : (b : Bool) → nat_lt row 10 ≡ b → rows ≡ digit_rows rows ++ after_digits rows
-        → row ∷ rows ≡ digit_rows (row ∷ rows) ++ after_digits (row ∷ rows)
-    by_test true e before = rw e (ap (λ x. row ∷ x) before)
-    by_test false e before = rw e refl
+split (row ∷ rows) = search (rules, split rows)
 
 are_digits : (rows : List ℕ) → Digits (digit_rows rows)
 are_digits [] = none
@@ -37,14 +32,7 @@ are_digits (row ∷ rows) = by_test (nat_lt row 10) refl (are_digits rows)
 -- the row after digit rows is an ending row
 is_ending : (rows : List ℕ) (c : ℕ) (rest : List ℕ) → after_digits rows ≡ c ∷ rest → 10 ≤ c
 is_ending [] c rest e = cc
-is_ending (row ∷ rows) c rest e = by_test (nat_lt row 10) refl (is_ending rows c rest)
-  where
-    by_test : (b : Bool) → nat_lt row 10 ≡ b → (after_digits rows ≡ c ∷ rest → 10 ≤ c) → 10 ≤ c
-    by_test true t before = before (rw t at e)
-    by_test false t before =
-        let high = ltb-false row 10 t in
-        let same : row ≡ c = ap (λ x. get_or x 0 0) (rw t at e) in
-        omega arith
+is_ending (row ∷ rows) c rest e = search (rules, ltb-false, is_ending rows c rest)
 
 -- if all rows are digit rows, no row follows them
 pub no_ending : (rows : List ℕ) → length (digit_rows rows) ≡ length rows → after_digits rows ≡ []

@@ -1,5 +1,4 @@
-use Rattle.ed_link.proofs.Kit.{[], ap, List, refl, sym, true, ℕ, ◌++◌, ◌∙◌, ◌∷◌, at_drop_all, byte_of, line_from}
-use Rattle.ed_link.proofs.Kit.{one_more}
+use Rattle.ed_link.proofs.Kit.{[], ap, refl, true, ℕ, ◌++◌, ◌∙◌, ◌∷◌, byte_of, line_from, one_more}
 use Rattle.ed_link.proofs.Texts.{one_spells, last_spells, no_text, some_text}
 use Rattle.ed_link.proofs.linked.push_after.Goals as goal
 

@@ -1,4 +1,4 @@
-use Rattle.ed_link.proofs.Kit.{ap, arith, List, subst, sym, ◌∙◌, Line, IsLinked, any_enter, IsBuilt, IsFinished}
+use Rattle.ed_link.proofs.Kit.{ap, List, subst, sym, ◌∙◌, Line, IsLinked, any_enter, IsBuilt, IsFinished}
 use Rattle.std.proofs.lemmas.Result.{IfOk-weaker}
 use Rattle.ed_link.proofs.Bounds.{tape_few}
 use Rattle.ed_link.proofs.FaultLaw.{line_fault, name_fault}

@@ -1,7 +1,6 @@
-use Rattle.ed_link.proofs.Kit.{arith}
+use Rattle.ed_link.proofs.Kit.{arith, append-nil, length-set}
 use Rattle.std.proofs.lemmas.Grind.{take_at_read}
 use Rattle.std.proofs.lemmas.List.Concat.{flat_map-append}
-use Rattle.std.proofs.lemmas.List.{append-nil, length-set}
 use Rattle.ed_link.proofs.Lengths.{put_push}
 use Rattle.ed_link.proofs.words.put_presets.Goals as goal
 

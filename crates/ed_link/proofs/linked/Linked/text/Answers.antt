@@ -1,6 +1,4 @@
-use Rattle.ed_link.proofs.Kit.{reading, rows, item_rows, Item, all_rows_are, ap, List, sym, ℕ, ◌++◌, ◌∙◌, flat_map}
-use Rattle.ed_link.proofs.Kit.{canonicals, after_text}
-use Rattle.ed_notation.specs.Spellings.{text_of}
+use Rattle.ed_link.proofs.Kit.{reading, rows, item_rows, all_rows_are, ap, List, sym, ℕ, ◌++◌, ◌∙◌, flat_map}
 use Rattle.ed_link.proofs.Spellable.{are_spellable}
 use Rattle.ed_link.proofs.Texts.{both_read}
 use Rattle.ed_link.proofs.linked.Linked.text.Goals as goal
