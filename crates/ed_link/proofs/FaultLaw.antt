@@ -1,6 +1,6 @@
 -- The fault that is looked for is that of the definition, and no fault is found if the source has none.
-use Rattle.ed_link.proofs.Kit.{both_ways, Size, [], ap, arith, Bool, false, if◌then◌else◌, inl, inr, length}
-use Rattle.ed_link.proofs.Kit.{length-append, List, nat_le, None, Option, refl, Some, subst, sym, true, ℕ, ◌++◌, ◌+◌}
+use Rattle.ed_link.proofs.Kit.{Size, [], ap, arith, Bool, false, if◌then◌else◌, inl, inr, length}
+use Rattle.ed_link.proofs.Kit.{List, nat_le, None, Option, refl, Some, subst, sym, true, ℕ, ◌++◌, ◌+◌}
 use Rattle.ed_link.proofs.Kit.{◌<◌, ◌∙◌, ◌∷◌, ◌≡◌, ◌≤◌, ◌⊎◌, leb-true, SourceCause, SourceFault, At, Line, nat_tests}
 use Rattle.ed_link.proofs.Kit.{AreNumbered, resolution, LocationCounter, Definition, ◌||◌, number_of, counter_after}
 use Rattle.ed_link.proofs.Kit.{counter_from, IsLineAfter, or_later, after_statement, first_counter, any_enter}
@@ -20,6 +20,8 @@ use Rattle.ed_link.specs.Faults.{SourceHasFault, no_enter, IsMeaningFault}
 use Rattle.ed_link.proofs.FaultSentences.{extents_from, any_says, any_tests}
 use Rattle.ed_link.proofs.LineFaults.{OfMeaning, of_meaning, name_has_cause, number_of-few, cause_is_name}
 use Rattle.ed_syntax.specs.declared.fault.SourceCause.TheVariants as causes
+use Rattle.ed_link.proofs.Kit.{rules}
+use Rattle.std.proofs.lemmas.Grind.{common_steps}
 
 -- ---- the passes of the code, by what comes before a line
 
@@ -30,8 +32,7 @@ extents_snoc s (e ∷ b) l = ap (λ x. word_extent e.statement s ∷ x) (extents
 
 any_snoc : (b : List Line) (l : Line) → any_enter (b ++ l ∷ []) ≡ (any_enter b || is_enter l.statement)
 any_snoc [] l = or-false (is_enter l.statement)
-any_snoc (e ∷ b) l = ap (λ x. is_enter e.statement || x) (any_snoc b l)
-    ∙ sym (or_assoc (is_enter e.statement) _ _)
+any_snoc (e ∷ b) l = search (rules, or_assoc, any_snoc b l)
 
 module _ (z : Size) (lines : List Line) where
   abbrev past_after : List Line → LinesBefore
@@ -103,32 +104,20 @@ module _ (z : Size) (lines : List Line) (numbered : Numbered lines) where
       (λ b l. of_meaning z lines b l) [] lines refl (λ b l c st h. omega arith)))
 
   say_lacking : SaysLeast Lacking (missing (any_enter lines) (length lines))
-  say_lacking = by_test (any_enter lines) refl
-    where
-      by_test : (t : Bool) → any_enter lines ≡ t → SaysLeast Lacking (missing t (length lines))
-      by_test true e = λ k c h. h.0 (any_says lines e)
-      by_test false e = (
-        (λ h. both_ways _ e (any_tests lines h), refl, refl),
-        λ r o h. inr (sym h.1, rw h.2 (omega arith)),
-      )
+  say_lacking = search (rules, any_says, any_tests)
 
   abbrev All : ℕ → SourceCause → Type 0
   All k c = Names k c ⊎ (Meanings k c ⊎ Lacking k c)
 
   not_both : (k : ℕ) (c d : SourceCause) → Meanings k c → Lacking k d → number_of c ≤ number_of d
-  not_both k c d m h =
-      let n : length lines ≡ length m.0 + length (m.1 ∷ m.2.after) =
-      ap (λ (x : List Line). length x) m.2.lines_are ∙ length-append m.0 _ in
-      absurd (omega (arith, n, m.3, h.1))
+  not_both k c d m h = grind (arith, common_steps)
 
   names_first : (k : ℕ) (c d : SourceCause) → Names k c → Meanings k d ⊎ Lacking k d → number_of c ≤ number_of d
   names_first k c d n (inl m) = omega (arith, number_of-few lines n.0 n.1 c n.4, m.4.1)
   names_first k c d n (inr m) = rw m.2 (omega (arith, number_of-few lines n.0 n.1 c n.4))
 
   say_all : SaysLeast All (fault z lines)
-  say_all = merge Names (λ k c. Meanings k c ⊎ Lacking k c) names_first (resolution lines).fault
-      (earlier_fault second (missing (any_enter lines) (length lines))) (say_names lines numbered)
-      (merge Meanings Lacking not_both second (missing (any_enter lines) (length lines)) say_meaning say_lacking)
+  say_all = search (rules, merge, names_first, say_names, not_both, say_meaning, say_lacking)
 
   to_has : (k : ℕ) (c : SourceCause) → All k c → SourceHasFault z lines k c
   to_has k c (inl n) = rw n.3 (on_line n.2 (name_has_cause z lines n.0 n.1 c n.4))
@@ -205,41 +194,19 @@ module _ (z : Size) (lines : List Line) (numbered : Numbered lines) where
   -- the number of a line
   within : (k : ℕ) (before : List Line) (l : Line) → IsLineAfter lines before l → k ≡ length before + 1
       → (nat_le k 0 ≡ false) × (k ≤ length lines)
-  within k before l stands is =
-      let n : length lines ≡ length before + length (l ∷ stands.after) =
-      ap (λ (x : List Line). length x) stands.lines_are ∙ length-append before _ in
-      (grind (arith, nat_tests), omega (arith, n, is))
+  within k before l stands is = grind (arith, common_steps)
 
   -- the fault of a line, or one of names that is sooner
   pub line_first : (e f : SourceFault) → IsFirstFault (looked_for z lines (symbols_of lines) (any_enter lines)) e
       → Some f ≡ earlier_fault (resolution lines).fault (Some e)
       → IsFirstFault (fault z lines) f
-  line_first (At m d) f h is =
-      let says = subst (SaysLeast (Meanings z lines numbered)) h (say_meaning z lines numbered) in
-      let a = says.0 in
-      let first : earlier_fault (looked_for z lines (symbols_of lines) (any_enter lines))
-      (missing (any_enter lines) (length lines)) ≡ Some (At m d) =
-      ap (λ x. earlier_fault x (missing (any_enter lines) (length lines))) h
-      ∙ before_missing m _ d _ (within m a.0 a.1 a.2 a.3).1 in
-      is_first _ f (ap (λ x. earlier_fault (resolution lines).fault x) first ∙ sym is)
-  line_first Memory f h is = by_names (resolution lines).fault (say_names lines numbered) is
-    where
-      by_names : (names : Option SourceFault) → SaysLeast (HasNameFault lines) names
-          → Some f ≡ earlier_fault names (Some Memory) → IsFirstFault (fault z lines) f
-      by_names None says is = is_memory (fault z lines) f is
-      by_names (Some Memory) says is = absurd says
-      by_names (Some (At k c)) says is =
-          let a = says.0 in
-          let late = (within k a.0 a.1 a.2 a.3).0 in
-          is_memory _ f (is ∙ ap (λ (b : Bool). if b then Some (At k c) else Some Memory) late)
+  line_first (At m d) f h is = grind (arith, common_steps, say_meaning, before_missing)
+  line_first Memory f h is = grind (arith, common_steps)
 
   -- a fault of names, if no line has another
   pub names_alone : (f : SourceFault) → (resolution lines).fault ≡ Some f → (looked_for z lines (symbols_of lines) (any_enter lines)) ≡ None
       → IsFirstFault (fault z lines) f
-  names_alone (At k c) h e =
-      let a = (subst (SaysLeast (HasNameFault lines)) h (say_names lines numbered)).0 in
-      (λ i. earlier_fault (h i) (earlier_fault (e i) (missing (any_enter lines) (length lines))))
-      ∙ before_missing k _ c _ (within k a.0 a.1 a.2 a.3).1
+  names_alone (At k c) h e = grind (arith, common_steps, say_names, before_missing)
   names_alone Memory h e = tt
 
 -- the fault that is looked for is that of the definition, both ways

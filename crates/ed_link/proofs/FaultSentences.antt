@@ -1,72 +1,28 @@
 -- The tests of a line and the sentences of the manual say the same, both ways, for the faults S9 to S14, S16 and S17.
-use Rattle.ed_link.proofs.Kit.{max, min, both_ways, eq-eqb, Size, [], ap, arith, Bool, false, inl, inr, List, None}
-use Rattle.ed_link.proofs.Kit.{Option, refl, Some, subst, sym, true, ℕ, ◌%◌, ◌&&◌, ◌++◌, ◌/◌, ◌<◌, ◌∙◌, ◌∷◌, ◌≡◌, ◌≤◌}
-use Rattle.ed_link.proofs.Kit.{◌⊎◌, and_parts, eqb-true, lt-ltb, ltb-true, locations, Line, Statement, Enter, Fetch}
-use Rattle.ed_link.proofs.Kit.{Long, Number, Order, Rows, Text, ◌^◌, and_from, find, place_on, segment_at}
-use Rattle.ed_link.proofs.Kit.{LocationCounter, Definition, is_none, is_some, not, ◌||◌, list_any, or_cases}
-use Rattle.ed_link.proofs.Kit.{counter_after, counter_from, IsLineAfter, after_statement, first_counter, not_true}
-use Rattle.ed_link.proofs.Kit.{Ties, true_not, any_enter, extent, extent_at, has_no_routine, has_sandwich, is_enter}
-use Rattle.ed_link.proofs.Kit.{is_misplaced, is_outside, is_rows, overlaps, reach, word_extent, HasEnter, end_place}
-use Rattle.ed_link.proofs.Kit.{first_place, symbols_of, Extent}
+use Rattle.ed_link.proofs.Kit.{nat_tests, rules, max, min, Size, [], ap, arith, Bool, false, inl, inr, List, None}
+use Rattle.ed_link.proofs.Kit.{Option, refl, Some, subst, sym, true, ℕ, ◌++◌, ◌<◌, ◌∷◌, ◌≡◌, ◌≤◌, ◌⊎◌, ltb-true}
+use Rattle.ed_link.proofs.Kit.{locations, Line, Statement, Enter, and_from, place_on, LocationCounter, Definition}
+use Rattle.ed_link.proofs.Kit.{is_some, ◌||◌, list_any, or_cases, counter_after, counter_from, IsLineAfter}
+use Rattle.ed_link.proofs.Kit.{after_statement, first_counter, not_true, Ties, true_not, any_enter, extent}
+use Rattle.ed_link.proofs.Kit.{has_no_routine, has_sandwich, is_enter, is_misplaced, is_outside, is_rows, overlaps}
+use Rattle.ed_link.proofs.Kit.{reach, word_extent, HasEnter, end_place, first_place, symbols_of, Extent}
 use Rattle.std.proofs.lemmas.Bool.{or_left, or_right}
-use Rattle.ed_link.specs.FaultTests.{is_in_segment}
-use Rattle.ed_link.specs.Faults.{PlacesWords, IsData, IsOutsideSegments, NeedsWithin, NeedsPast, Overlaps, UsesUnknown}
+use Rattle.ed_link.specs.Faults.{IsData, IsOutsideSegments, NeedsWithin, NeedsPast, Overlaps, UsesUnknown}
 use Rattle.ed_link.specs.Faults.{IsMisplaced, HasSandwichDigit}
+use Rattle.std.proofs.lemmas.Grind.{common_steps}
 
 -- ---- S14 and S17
 
-unknown : (st : Option Statement) → Ties (has_no_routine st) (UsesUnknown st)
-unknown (Some (Fetch routine name ts)) = record { says = λ h. no_routine (find routine) h; tests = λ h. ap is_none h }
-  where
-    no_routine : (r : Option ℕ) → is_none r ≡ true → ◌≡◌ {A = Option ℕ} r None
-    no_routine r g = grind arith
-unknown st = record { says = λ h. cc; tests = λ h. absurd h }
-
 pub Ties-s14 : (l : Line) → Ties (has_no_routine l.statement) (UsesUnknown l.statement)
-Ties-s14 l = unknown l.statement
-
-sandwich_says : (st : Option Statement) → has_sandwich st ≡ true
-    → (v : ℕ) × (st ≡ Some (Long v)) × (v / 2 ^ 17 % 2 ≡ 1)
-sandwich_says (Some (Long v)) h = (v, refl, eqb-true (v / 2 ^ 17 % 2) 1 h)
-sandwich_says st h = cc
+Ties-s14 l = search rules
 
 pub Ties-s17 : (l : Line) → Ties (has_sandwich l.statement) (HasSandwichDigit l)
-Ties-s17 l = record {
-  says = sandwich_says l.statement;
-  tests = λ h. ap has_sandwich h.1 ∙ eq-eqb _ 1 h.2;
-}
+Ties-s17 l = search rules
 
 -- ---- S9
 
-words : (st : Option Statement) → Ties (is_in_segment st) (PlacesWords st)
-words (Some (Order f o d)) = record { says = λ h. tt; tests = λ h. refl }
-words (Some (Number w)) = record { says = λ h. tt; tests = λ h. refl }
-words (Some (Text codes)) = record { says = λ h. tt; tests = λ h. refl }
-words (Some (Long v)) = record { says = λ h. tt; tests = λ h. refl }
-words st = record { says = λ h. cc; tests = λ h. absurd h }
-
-outside : (inside : Bool) (label : Option (List ℕ)) (st : Option Statement)
-    → Ties (not inside && (is_some label || is_in_segment st))
-    ((inside ≡ false) × (((name : List ℕ) × (label ≡ Some name)) ⊎ PlacesWords st))
-outside true label st = record { says = λ h. cc; tests = λ h. cc }
-outside false (Some name) st = record { says = λ h. (refl, inl (name, refl)); tests = λ h. refl }
-outside false None st = record {
-  says = λ h. (refl, inr ((words st).says h));
-  tests = λ h. elim h.1 [ inl g ↦ cc | inr g ↦ (words st).tests g ];
-}
-
--- no segment is open
-closed : (s : LocationCounter) → segment_at s ≡ None → s.inside ≡ false
-closed s h = grind arith
-
 pub Ties-s9 : (before : List Line) (l : Line) → Ties (is_outside l (counter_after before)) (IsOutsideSegments before l)
-Ties-s9 before l =
-    let s = counter_after before in
-    let tie = outside s.inside l.label l.statement in
-    record {
-      says = λ h. let p = tie.says h in (rw p.0 refl, p.1);
-      tests = λ h. tie.tests (closed s h.0, h.1);
-    }
+Ties-s9 before l = search rules
 
 -- ---- S10 to S12
 
@@ -82,8 +38,7 @@ meets_says a b c d h = let e : max a c < min b d = ltb-true (max a c) (min b d) 
 )
 
 meets_tests : (a b c d p : ℕ) → IsIn (extent a b) p → IsIn (extent c d) p → overlaps (extent a b) (extent c d) ≡ true
-meets_tests a b c d p h g =
-    lt-ltb (max a c) (min b d) (omega (arith, h.0, h.1, g.0, g.1))
+meets_tests a b c d p h g = grind (arith, nat_tests)
 
 -- a line needs a location, by its statement and location counter alone
 abbrev NeedsAt : List Definition → Option Statement → LocationCounter → ℕ → Type 0
@@ -92,29 +47,16 @@ NeedsAt symbols st s p = ((first_place st s ≤ p) × (p < end_place st s))
 
 need_in : (symbols : List Definition) (st : Option Statement) (s : LocationCounter) (p : ℕ) → NeedsAt symbols st s p
     → IsIn (reach symbols st s) p
-need_in symbols st s p (inr h) = rw h.1 (rw h.2 (omega arith, omega arith))
-need_in symbols (Some (Enter n)) s p (inl h) = absurd (omega (arith, h.0, h.1))
-need_in symbols st s p (inl h) = h
+need_in symbols st s p h = search rules
 
 in_need : (symbols : List Definition) (st : Option Statement) (s : LocationCounter) (p : ℕ)
     → IsIn (reach symbols st s) p
     → NeedsAt symbols st s p
-in_need symbols (Some (Enter n)) s p h = entered (place_on symbols None n) refl h
-  where
-    entered : (o : Option ℕ) → place_on symbols None n ≡ o → IsIn (extent_at o) p → NeedsAt symbols (Some (Enter n)) s p
-    entered None e g = absurd (omega (arith, g.0, g.1))
-    entered (Some q) e g =
-        let same : q ≡ p = omega (arith, g.0, g.1) in inr (n, refl, e ∙ ap (λ x. Some x) same)
-in_need symbols st s p h = inl h
+in_need symbols st s p h = grind arith
 
 within : (symbols : List Definition) (st : Option Statement) (s : LocationCounter) (c d : ℕ)
     → Ties (overlaps (reach symbols st s) (extent c d)) ((p : ℕ) × NeedsAt symbols st s p × (c ≤ p) × (p < d))
-within symbols st s c d = record {
-  says = λ h. let m = meets_says (reach symbols st s).from (reach symbols st s).after c d h in
-      (m.0, in_need symbols st s m.0 m.1, m.2.0, m.2.1);
-  tests = λ h. meets_tests (reach symbols st s).from (reach symbols st s).after c d h.0 (need_in symbols st s h.0 h.1)
-      (h.2, h.3);
-}
+within symbols st s c d = search (rules, meets_says, in_need, meets_tests, need_in)
 
 -- S10 at 0 and 44, S11 at 44 and 56
 pub s10_s11 : (lines before : List Line) (l : Line) (c d : ℕ)
@@ -166,8 +108,7 @@ shares_says a b s (l ∷ lines) h = elim (or_cases _ _ h) [
 shared : (a b : ℕ) (s : LocationCounter) (earlier : List Line) (e : Line) (after : List Line) (p : ℕ) → IsIn (extent a b) p
     → IsIn (word_extent e.statement (counter_from s earlier)) p
     → list_any (λ o. overlaps (extent a b) o) (extents_from s (earlier ++ e ∷ after)) ≡ true
-shared a b s [] e after p h g = or_left _ _
-    (meets_tests a b (word_extent e.statement s).from (word_extent e.statement s).after p h g)
+shared a b s [] e after p h g = grind (arith, common_steps)
 shared a b s (l ∷ earlier) e after p h g =
     or_right _ _ (shared a b (after_statement l.statement s) earlier e after p h g)
 
@@ -184,8 +125,7 @@ Ties-s13 before l = record {
 -- ---- S16
 
 enter_says : (st : Option Statement) → is_enter st ≡ true → (name : List ℕ) × (st ≡ Some (Enter name))
-enter_says (Some (Enter name)) h = (name, refl)
-enter_says st h = cc
+enter_says st h = search rules
 
 pub any_says : (lines : List Line) → any_enter lines ≡ true → HasEnter lines
 any_says [] h = cc
@@ -205,33 +145,16 @@ pub any_tests : (lines : List Line) → HasEnter lines → any_enter lines ≡ t
 any_tests lines h = rw h.2.lines_are (any_among h.0 h.1 h.2.after (ap is_enter h.3.1))
 
 rows_tie : (st : Option Statement) → Ties (is_rows st) (IsData st)
-rows_tie (Some (Rows codes)) = record { says = λ h. tt; tests = λ h. refl }
-rows_tie st = record { says = λ h. cc; tests = λ h. absurd h }
+rows_tie st = search rules
 
 form : (label : Option (List ℕ)) (st : Option Statement)
     → Ties (is_some label || is_some st) ((label ≡ None) × (st ≡ None) → ⊥)
-form (Some n) st = record { says = λ h g. cc; tests = λ h. refl }
-form None (Some st) = record { says = λ h g. cc; tests = λ h. refl }
-form None None = record { says = λ h g. cc; tests = λ h. absurd (h (refl, refl)) }
+form label st = search rules
 
 misplaced : (lines before : List Line) (l : Line) (entered : Bool) → any_enter before ≡ entered
     → Ties (is_misplaced entered (any_enter lines) l) (IsMisplaced lines before l)
-misplaced lines before l true e = record {
-  says = λ h. let p = and_parts _ _ h in inl
-      (any_says before e, (form l.label l.statement).says p.0, λ d. not_true _ p.1 ((rows_tie l.statement).tests d));
-  tests = λ h. elim h [
-    | inl g ↦ and_from _ _ ((form l.label l.statement).tests g.1) (true_not _ (λ d. g.2 ((rows_tie l.statement).says d)))
-    | inr g ↦ absurd (g.0 (any_says before e))
-  ];
-}
-misplaced lines before l false e = record {
-  says = λ h. let p = and_parts _ _ h in
-      inr (λ g. both_ways _ e (any_tests before g), (rows_tie l.statement).says p.1, any_says lines p.0);
-  tests = λ h. elim h [
-    | inl g ↦ absurd (both_ways _ e (any_tests before g.0))
-    | inr g ↦ and_from _ _ (any_tests lines g.2) ((rows_tie l.statement).tests g.1)
-  ];
-}
+misplaced lines before l true e = search (rules, any_says, not_true, rows_tie, and_from, true_not)
+misplaced lines before l false e = search (rules, any_tests, rows_tie, any_says, and_from)
 
 pub Ties-s16 : (lines before : List Line) (l : Line)
     → Ties (is_misplaced (any_enter before) (any_enter lines) l) (IsMisplaced lines before l)

@@ -1,5 +1,5 @@
 -- The tape of an accepted source reaches its linked program.
-use Rattle.ed_link.proofs.Kit.{max, min, reverse, E_F, Size, AreSpellable, Item, [], ap, append_assoc, arith, Bool}
+use Rattle.ed_link.proofs.Kit.{nat_tests, rules, reverse, E_F, Size, AreSpellable, Item, [], ap, append_assoc, arith, Bool}
 use Rattle.ed_link.proofs.Kit.{false, if◌then◌else◌, inl, length, List, None, Option, refl, Some, subst, sym, true}
 use Rattle.ed_link.proofs.Kit.{unwrap_or, ℕ, ◌&&◌, ◌*◌, ◌++◌, ◌+◌, ◌<◌, ◌∙◌, ◌∷◌, ◌≡◌, ◌≤◌, list_all, and_parts}
 use Rattle.ed_link.proofs.Kit.{leb-true, locations, locations_most, NotationState, SourceCause, SourceFault, Setting, Statement}
@@ -9,7 +9,7 @@ use Rattle.ed_link.proofs.Kit.{after_statement, any_enter, cause_of, extent, ext
 use Rattle.ed_link.proofs.Kit.{is_enter, is_misplaced, LinesBefore, overlaps, past_of, reach, sets}
 use Rattle.ed_link.proofs.Kit.{sets_otherwise, entered_place, entry_from, placed_by_line, placed_from, theta_from}
 use Rattle.ed_link.proofs.Kit.{item_with, items_of, punched_from, Extent}
-use Rattle.std.proofs.lemmas.Bool.{not-false, or_parts, ltb-false}
+use Rattle.std.proofs.lemmas.Bool.{not-false, or_parts}
 use Rattle.ed_notation.proofs.Steps.{Enters, aiming_entry, entering_at}
 use Rattle.ed_syntax.specs.Programs.{is_statement}
 use Rattle.ed_syntax.specs.declared.program.Line.{Line as SourceLine}
@@ -26,14 +26,12 @@ use Rattle.ed_link.proofs.Uses.{reversed}
 
 none_of : (b : Bool) (cause : SourceCause) (rest : Option SourceCause) → (if b then Some cause else rest) ≡ None
     → (b ≡ false) × (rest ≡ None)
-none_of true cause rest h = cc
-none_of false cause rest h = (refl, h)
+none_of b cause rest h = grind arith
 
 -- neither the line nor a later one has a fault
 later_of : (n : ℕ) (cause : Option SourceCause) (rest : Option SourceFault) → or_later n cause rest ≡ None
     → (cause ≡ None) × (rest ≡ None)
-later_of n None rest h = (refl, h)
-later_of n (Some cause) rest h = cc
+later_of n cause rest h = grind arith
 
 -- locations that a line may take: those of the store after the parameters
 abbrev pub IsClear : Size → Extent → Type 0
@@ -62,30 +60,19 @@ faultless z symbols has_enter past l s h =
 
 -- locations without a fault
 fits : (z : Size) (a b : ℕ) → a < b → IsClear z (extent a b) → (56 ≤ a) × (b ≤ locations z)
-fits z a b some clear =
-    let below : min b 44 ≤ max a 0 = ltb-false _ _ clear.0 in
-    let beside : min b 56 ≤ max a 44 = ltb-false _ _ clear.1 in
-    let above : min b b ≤ max a (locations z) = ltb-false _ _ clear.2 in
-    (omega arith, omega arith)
+fits z a b some clear = grind (arith, nat_tests)
 
 -- a `text` has a row
 some_rows : (two : Bool) (label : Option (List ℕ)) (n : ℕ) (codes : _)
     → is_line two (record { number = n; label = label; statement = Some (Text codes) }) ≡ true
     → 0 < length codes.items
-some_rows two None n codes h = leb-true 1 (length codes.items) (and_parts _ _ h).0
-some_rows two (Some name) n codes h = leb-true 1 (length codes.items) (and_parts _ _ (and_parts _ _ h).1).0
-
-same_statement : (x y : Statement) → ◌≡◌ {A = Option Statement} (Some x) (Some y) → x ≡ y
-same_statement x y e = cc
+some_rows two label n codes h = search (rules, leb-true)
 
 -- a line's statement has a form
 pub formed_statement : (two : Bool) (n : ℕ) (label : Option (List ℕ)) (st : Option Statement)
     → is_line two (record { number = n; label = label; statement = st }) ≡ true
     → (x : Statement) → st ≡ Some x → is_statement two x ≡ true
-formed_statement two n label None h x e = cc
-formed_statement two n None (Some y) h x e = rw (← (same_statement y x e)) h
-formed_statement two n (Some name) (Some y) h x e =
-    rw (← (same_statement y x e)) (and_parts _ _ (and_parts _ _ h).1).1
+formed_statement two n label st h x e = search rules
 
 module _ (tables : list_all is_ready catalogue ≡ true) (z : Size) where
   -- a `use` without a fault has what its items need
@@ -93,10 +80,7 @@ module _ (tables : list_all is_ready catalogue ≡ true) (z : Size) where
       → is_none found ≡ false → not (sets ts found) ≡ false → IsClear z (extent base (base + places_of found))
       → IsUse z ts base found
   is_use text ts base None e n s clear = cc
-  is_use text ts base (Some r) e n s clear =
-      let some = some_items tables text r e in
-      let f = fits z base _ (omega (arith, some)) clear in
-      (some, f.0, f.1, are_known ts tables text r e (not-false _ s))
+  is_use text ts base (Some r) e n s clear = search (rules, some_items, are_known, not-false)
 
   -- so has every line without a fault that is not an `enter`
   sound_line : {symbols : List Definition} {has_enter : Bool} {past : LinesBefore} {n : ℕ} {label : Option (List ℕ)}
@@ -107,10 +91,7 @@ module _ (tables : list_all is_ready catalogue ≡ true) (z : Size) where
       → IsSound z s st
   sound_line {s = s} two (Some (Order g o long)) formed f e = fits z s.place (s.place + 1) (omega arith) f.clear
   sound_line {s = s} two (Some (Number w)) formed f e = fits z s.place (s.place + 1) (omega arith) f.clear
-  sound_line {n = n} {label = label} {s = s} two (Some (Text codes)) formed f e =
-      let some = some_rows two label n codes formed in
-      let g = fits z s.place _ (omega (arith, some)) f.clear in
-      (some, g.0, g.1)
+  sound_line {n = n} {label = label} {s = s} two (Some (Text codes)) formed f e = search (rules, some_rows)
   sound_line {s = s} two (Some (Long v)) formed f e = fits z s.place _ (omega arith) f.clear
   sound_line {s = s} two (Some (Fetch routine name ts)) formed f e =
       is_use routine ts.items _ _ refl f.routine f.settings f.clear
@@ -134,10 +115,8 @@ after_line : {symbols : List Definition} {theta : ℕ} {s : LocationCounter} {n 
     (st : Option Statement) → is_misplaced true true (record { number = n; label = label; statement = st }) ≡ false
     → IsBehind symbols theta (after_statement st s) lines
     → IsBehind symbols theta s (record { number = n; label = label; statement = st } ∷ lines)
-after_line {s = s} None m b =
-    let q = lt_same s.place in record { items = b.items; placed = b.placed; theta_is = rw q b.theta_is }
-after_line {s = s} (Some (Rows codes)) m b =
-    let q = lt_same s.place in record { items = b.items; placed = b.placed; theta_is = rw q b.theta_is }
+after_line {s = s} None m b = search (rules, lt_same)
+after_line {s = s} (Some (Rows codes)) m b = search (rules, lt_same)
 after_line {label = label} (Some st) m b = absurd (misplaced (is_some label) m)
 
 -- nor do all later lines
@@ -171,14 +150,12 @@ pub record Ends (z : Size) (words : List ℕ) (symbols : List Definition) (theta
 -- a line that is not an `enter` leaves the entry to the later lines
 entry_later : (symbols : List Definition) (st : Option Statement) (later : ℕ) → is_enter st ≡ false
     → entered_place symbols st later ≡ later
-entry_later symbols (Some (Enter name)) later h = cc
-entry_later symbols st later h = refl
+entry_later symbols st later h = search rules
 
 -- the location of an `enter` without a fault
 placed_entry : (z : Size) (found : Option ℕ) → is_none found ≡ false → IsClear z (extent_at found)
     → (56 ≤ unwrap_or found 0) × (unwrap_or found 0 + 1 ≤ locations z)
-placed_entry z None e clear = cc
-placed_entry z (Some q) e clear = fits z q (q + 1) (omega arith) clear
+placed_entry z found e clear = grind (arith, nat_tests)
 
 -- lines from a location counter onwards that have their forms and no fault; one of them is the first `enter`
 pub record AreFaultless (z : Size) (symbols : List Definition) (has_enter two : Bool) (past : LinesBefore)

@@ -1,10 +1,9 @@
 -- What the loop over the lines needs.
-use Rattle.ed_link.proofs.Kit.{Size, arith, Bool, drop, false, length, List, None, Option, Some, unwrap_or, ℕ, ◌*◌}
-use Rattle.ed_link.proofs.Kit.{◌++◌, ◌+◌, ◌<◌, ◌≡◌, ◌≤◌, locations, locations_most, Line, Statement, Enter, Rows}
-use Rattle.ed_link.proofs.Kit.{nat_tests, LocationCounter, Definition, after_statement, first_counter, cause_of}
-use Rattle.ed_link.proofs.Kit.{extent, fault_from, LinesBefore, overlaps, reach, data_after, entry_from, placed_from}
-use Rattle.ed_link.proofs.Kit.{first_past, punched_from, put_all, table_of, Built}
-use Rattle.ed_link.proofs.Inductions.{faultless}
+use Rattle.ed_link.proofs.Kit.{Size, arith, Bool, drop, length, List, None, Option, Some, unwrap_or, ℕ, ◌*◌, ◌++◌}
+use Rattle.ed_link.proofs.Kit.{◌+◌, ◌<◌, ◌≡◌, ◌≤◌, Line, Statement, Enter, Rows, LocationCounter, Definition}
+use Rattle.ed_link.proofs.Kit.{after_statement, first_counter, cause_of, fault_from, LinesBefore, reach, data_after}
+use Rattle.ed_link.proofs.Kit.{entry_from, placed_from, first_past, punched_from, put_all, table_of, Built}
+use Rattle.std.proofs.lemmas.Grind.{common_steps}
 
 -- a base is not above its location
 pub base_under : (st : Option Statement) (s : LocationCounter) → s.base ≤ s.place
@@ -19,13 +18,7 @@ pub reach_fits : (z : Size) (symbols : List Definition) (has_enter : Bool) (past
     (s : LocationCounter)
     → cause_of z symbols has_enter past l s ≡ None
     → (reach symbols l.statement s).from < (reach symbols l.statement s).after → (reach symbols l.statement s).after ≤ 1024
-reach_fits z symbols has_enter past l s h some =
-    let m = locations_most z in
-    of (reach symbols l.statement s).from (reach symbols l.statement s).after (locations z) m some
-    (faultless z symbols has_enter past l s h).clear.2
-  where
-    of : (a b n : ℕ) → n ≤ 1024 → a < b → overlaps (extent a b) (extent n b) ≡ false → b ≤ 1024
-    of a b n i j k = grind (arith, nat_tests)
+reach_fits z symbols has_enter past l s h some = grind (arith, common_steps)
 
 -- what is made of the lines so far: what they leave for later lines, the location counter after them, and what is built
 pub record Made : Type 0 where

@@ -3,11 +3,12 @@ use Rattle.ed_link.proofs.Kit.{reverse, reverse-append, T_F, Size, word_with, Ar
 use Rattle.ed_link.proofs.Kit.{append_assoc, arith, Bool, false, inr, length, List, nat_eq, refl, subst, suc, sym}
 use Rattle.ed_link.proofs.Kit.{true, ℕ, ◌%◌, ◌*◌, ◌++◌, ◌+◌, ◌/◌, ◌<◌, ◌∙◌, ◌∷◌, ◌≡◌, ◌≤◌, and_parts, eqb-true}
 use Rattle.ed_link.proofs.Kit.{leb-true, ltb-true, locations, digit, locations_most, item_word, NotationState, row_kind}
-use Rattle.ed_link.proofs.Kit.{is_spellable, Does-placing, Operand, map, ◌^◌, nat_tests, segment_at, LocationCounter}
+use Rattle.ed_link.proofs.Kit.{is_spellable, Does-placing, Operand, map, ◌^◌, segment_at, LocationCounter}
 use Rattle.ed_link.proofs.Kit.{Definition, operand_number, placed_words, goes_by_theta, order_item, with_heading}
 use Rattle.ed_link.proofs.Kit.{word_item}
 use Rattle.ed_syntax.specs.declared.program.Operand.TheVariants.{Label}
 use Rattle.ed_link.proofs.Passes.{Passes, stays, goes, Passes-join, at, Passes-heading}
+use Rattle.ed_link.proofs.Kit.{rules}
 
 -- the function of an item that can be spelled
 function_fits : (i : Item) → is_spellable i ≡ true → i.function < 32
@@ -23,8 +24,7 @@ AreSpellable-split (i ∷ is) js are = let s = AreSpellable-split is js are.1 in
 word_is : (words : List ℕ) (notation : NotationState) (w : ℕ) (odd : Bool) → nat_eq (w % 2) 1 ≡ odd → w < 2 ^ 17
     → (item_word words notation (word_item w) ≡ w) × (row_kind (word_item w).end ≡ Letter)
 word_is words notation w true e h = let m : w % 2 ≡ 1 = eqb-true _ _ e in (rw e (omega arith), rw e refl)
-word_is words notation w false e h = let m : w % 2 ≡ 0 = grind (arith, nat_tests)
-    in (rw e (omega arith), rw e refl)
+word_is words notation w false e h = search rules
 
 -- a word is below 2^17
 small : (w : ℕ) → is_spellable (word_item w) ≡ true → w < 2 ^ 17
@@ -98,14 +98,7 @@ headed_pass {z} {words} {notation} {last} {is = i ∷ is} place base true e high
     let q : place ≡ base = eqb-true _ _ e in
     Passes-join (Passes-heading base (omega arith)) (subst (λ (n : ℕ). Passes z words
     (at n base notation.placed) (i ∷ is) last) q p)
-headed_pass {z} {words} {notation} {last} {is = i ∷ is} place base false e high some follows p =
-    let f = follows refl in
-    let n : at place base notation.placed ≡ notation = λ k. record {
-      directive = sym (f.0) k;
-      theta = sym (f.1) k;
-      placed = notation.placed;
-    } in
-    rw (← n) p
+headed_pass {z} {words} {notation} {last} {is = i ∷ is} place base false e high some follows p = search rules
 
 -- items after a head can be spelled
 pub AreSpellable-unheaded : (is : List Item) (first : Bool) (base : ℕ)

@@ -1,14 +1,13 @@
 -- The items of a line without a fault can be spelled.
 use Rattle.ed_link.proofs.Kit.{Size, AreSpellable, Item, [], arith, Bool, false, if◌then◌else◌, List, nat_eq, nat_le}
-use Rattle.ed_link.proofs.Kit.{nat_lt, None, Option, refl, Some, true, ℕ, ◌%◌, ◌*◌, ◌++◌, ◌+◌, ◌-◌, ◌/◌, ◌<◌, ◌∷◌, ◌≡◌}
+use Rattle.ed_link.proofs.Kit.{nat_lt, None, Option, refl, Some, true, ℕ, ◌%◌, ◌*◌, ◌++◌, ◌-◌, ◌/◌, ◌<◌, ◌∷◌, ◌≡◌}
 use Rattle.ed_link.proofs.Kit.{◌≤◌, flat_map, list_all, and_parts, leb-true, ltb-true, locations_most, row_kind, canonical}
 use Rattle.ed_link.proofs.Kit.{is_spellable, Operand, Setting, Statement, Enter, Fetch, Long, Number, Order, Text, map}
 use Rattle.ed_link.proofs.Kit.{◌^◌, nat_tests, catalogue, entry, is_ready, is_ready_row, find, table_item, TableRow}
-use Rattle.ed_link.proofs.Kit.{segment_at, LocationCounter, Definition, ◌||◌, operand_number, parameter_letters}
+use Rattle.ed_link.proofs.Kit.{segment_at, LocationCounter, Definition, operand_number, parameter_letters}
 use Rattle.ed_link.proofs.Kit.{set_to, goes_by_theta, heads, item_with, items_of, order_item, preset_items}
 use Rattle.ed_link.proofs.Kit.{routine_items, use_items, with_heading, word_item}
-use Rattle.ed_syntax.proofs.Kit.{pos, unsigned_abs, ℤ, ints}
-use Rattle.std.proofs.Common.{int_lt}
+use Rattle.ed_syntax.proofs.Kit.{pos, ℤ}
 use Rattle.ed_notation.specs.Items.{ends}
 use Rattle.ed_syntax.proofs.Meaning.{IsStatement}
 use Rattle.ed_symbols.specs.Operands.{operand_value}
@@ -16,6 +15,8 @@ use Rattle.ed_link.specs.Linked.{order_number}
 use Rattle.ed_link.specs.Punch.{ending}
 use Rattle.ed_link.proofs.Closed.{rows_are_ready}
 use Rattle.ed_link.proofs.Lines.{IsSound, IsUse}
+use Rattle.ed_link.proofs.Kit.{rules}
+use Rattle.std.proofs.lemmas.Grind.{common_steps}
 
 spelled : (f n e : ℕ) (mark : Bool) → f < 32 → n ≤ 32767
     → ends (row_kind e) (canonical (item_with f n mark e)).begun ≡ true
@@ -33,8 +34,7 @@ head_spelled false base few = tt
 headed_spelled : (is : List Item) (first : Bool) (base : ℕ) → base ≤ 32767 → AreSpellable is
     → AreSpellable (with_heading is first base)
 headed_spelled [] first base few are = tt
-headed_spelled (i ∷ is) first base few are = AreSpellable-joined (heads first base) (i ∷ is)
-    (head_spelled first base few) are
+headed_spelled (i ∷ is) first base few are = grind (arith, common_steps)
 
 -- ---- words
 
@@ -44,9 +44,7 @@ ending_ends true f n mark = refl
 ending_ends false f n mark = refl
 
 word_spelled : (w : ℕ) → w < 2 ^ 17 → is_spellable (word_item w) ≡ true
-word_spelled w fits =
-    spelled (w / 4096) (w % 4096 / 2) (ending (nat_eq (w % 2) 1)) false (omega (arith, fits)) (omega arith)
-    (ending_ends (nat_eq (w % 2) 1) (w / 4096) (w % 4096 / 2) false)
+word_spelled w fits = search (rules, ending_ends)
 
 text_spelled : (codes : List ℕ) → list_all (λ c. nat_lt c 32) codes ≡ true
     → AreSpellable (map word_item (map (λ c. 4096 * c) codes))
@@ -57,10 +55,7 @@ text_spelled (c ∷ codes) h =
     (word_spelled (4096 * c) (omega (arith, fits)), text_spelled codes p.1)
 
 halves_spelled : (v : ℕ) → v < 2 ^ 35 → AreSpellable (map word_item (v % 2 ^ 17 ∷ v / 2 ^ 18 ∷ []))
-halves_spelled v fits = (
-  word_spelled (v % 2 ^ 17) (omega arith),
-  (word_spelled (v / 2 ^ 18) (omega (arith, fits)), tt),
-)
+halves_spelled v fits = grind (arith, common_steps)
 
 long_spelled : (odd : Bool) (v : ℕ) → v < 2 ^ 35
     → AreSpellable (map word_item ((if odd then 0 ∷ [] else []) ++ v % 2 ^ 17 ∷ v / 2 ^ 18 ∷ []))
@@ -72,11 +67,7 @@ long_spelled false v fits = halves_spelled v fits
 -- the number of a value is one that an order holds
 number_few : (o : Option ℤ) → order_number o ≤ 32767
 number_few None = omega arith
-number_few (Some v) = by_test (int_lt v (pos 0) || int_lt (pos 32767) v) refl
-  where
-    by_test : (t : Bool) → (int_lt v (pos 0) || int_lt (pos 32767) v) ≡ t → (if t then 0 else unsigned_abs v) ≤ 32767
-    by_test true e = omega arith
-    by_test false e = grind (arith, ints)
+number_few (Some v) = search (rules, pos)
 
 order_spelled : (theta : Bool) (base f n : ℕ) (long : Bool) → f < 32 → n ≤ 32767
     → is_spellable (order_item theta base f n long) ≡ true
@@ -86,13 +77,7 @@ order_spelled false base f n long low few = spelled f n (ending long) false low 
 preset_spelled : (symbols : List Definition) (o : Option Operand) (c : ℕ) → c ≤ 26
     → AreSpellable (preset_items symbols o c)
 preset_spelled symbols None c h = tt
-preset_spelled symbols (Some o) c h = (
-  spelled 5 (24 + c) 14 false (omega arith) (omega (arith, h)) refl,
-  (
-    spelled 0 _ 17 false (omega arith) (number_few (operand_value symbols None o)) refl,
-    tt,
-  ),
-)
+preset_spelled symbols (Some o) c h = search (rules, number_few)
 
 presets_spelled : (symbols : List Definition) (ts : List Setting) (cs : List ℕ) → list_all (λ c. nat_le c 26) cs ≡ true
     → AreSpellable (flat_map (λ c. preset_items symbols (set_to ts c) c) cs)

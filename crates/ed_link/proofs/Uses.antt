@@ -34,7 +34,7 @@ six P p c l h = each_at P 6 21 c p l (omega arith)
 
 -- the letter of a parameter is a code letter
 pub letter_kind : (c : ℕ) → 21 ≤ c → c ≤ 26 → row_kind c ≡ Letter
-letter_kind c l h = six (λ x. row_kind x ≡ Letter) (refl, (refl, (refl, (refl, (refl, (refl, tt)))))) c l h
+letter_kind c l h = grind (arith, nat_tests)
 
 -- the number of an item that can be spelled
 spelled_number : (i : Item) → is_spellable i ≡ true → i.number ≤ 32767

@@ -1,14 +1,13 @@
 -- The words of the linked program are those of its lines, and the parameters that its `use` lines set.
-use Rattle.ed_link.proofs.Kit.{reverse, Contains, cases_eq, eq-eqb, ne_eqb, reverse-append, All-contains}
-use Rattle.ed_link.proofs.Kit.{AllPass-from_list_all, same_Some, Size, least, placed_at, [], ap, append_assoc, arith}
-use Rattle.ed_link.proofs.Kit.{get_or, inl, inr, length, List, nat_le, None, Option, refl, Some, subst, suc, sym, true}
-use Rattle.ed_link.proofs.Kit.{ℕ, ◌*◌, ◌++◌, ◌+◌, ◌<◌, ◌∙◌, ◌∷◌, ◌≡◌, ◌≤◌, ◌⊎◌, flat_map, leb-true, locations, Line}
-use Rattle.ed_link.proofs.Kit.{Operand, Setting, Statement, Fetch, Long, Number, Order, Text, zero, length-map, entry}
-use Rattle.ed_link.proofs.Kit.{routine_word, find, table_item, even_from, routine_places, LocationCounter, Definition}
+use Rattle.ed_link.proofs.Kit.{reverse, Contains, cases_eq, eq-eqb, ne_eqb, reverse-append, same_Some, Size, least}
+use Rattle.ed_link.proofs.Kit.{placed_at, [], ap, append_assoc, arith, get_or, inl, inr, length, List, None, Option}
+use Rattle.ed_link.proofs.Kit.{refl, Some, subst, suc, sym, ℕ, ◌*◌, ◌++◌, ◌+◌, ◌<◌, ◌∙◌, ◌∷◌, ◌≡◌, ◌≤◌, ◌⊎◌, flat_map}
+use Rattle.ed_link.proofs.Kit.{locations, Line, Operand, Setting, Statement, Fetch, Long, Number, Order, Text, zero}
+use Rattle.ed_link.proofs.Kit.{length-map, find, even_from, routine_places, LocationCounter, Definition}
 use Rattle.ed_link.proofs.Kit.{counter_after, counter_from, IsLineAfter, after_statement, first_counter, HasNoFault}
-use Rattle.ed_link.proofs.Kit.{on_line, end_place, first_place, image, linked_words, operand_number, parameter_letters}
-use Rattle.ed_link.proofs.Kit.{parameters, placed_by_line, placed_from, placed_words, preset, presets, set_to}
-use Rattle.ed_link.proofs.Kit.{symbols_of, Bool, ◌&&◌, and_parts, append-nil}
+use Rattle.ed_link.proofs.Kit.{on_line, end_place, first_place, image, linked_words, operand_number}
+use Rattle.ed_link.proofs.Kit.{parameter_letters, placed_by_line, placed_from, placed_words, preset, presets, set_to}
+use Rattle.ed_link.proofs.Kit.{symbols_of, append-nil}
 use Rattle.std.proofs.lemmas.Bool.{cases_lt}
 use Rattle.ed_link.specs.Faults.{LineHasWord}
 use Rattle.ed_link.specs.Words.{EachWordStands, IsLastSet, LinePlaces, LineSets, linked_word, words_of_line}
@@ -16,6 +15,8 @@ use Rattle.ed_link.specs.Words.{routine_words}
 use Rattle.ed_link.proofs.Lines.{long_spot}
 use Rattle.ed_link.proofs.Orders.{placed_more}
 use Rattle.ed_syntax.specs.declared.fault.SourceCause.TheVariants as causes
+use Rattle.ed_link.proofs.Kit.{rules}
+use Rattle.std.proofs.lemmas.Grind.{common_steps}
 
 -- ---- words with their locations
 
@@ -35,15 +36,7 @@ Found ps m a = ((w : ℕ) × Among ps a w × (placed_at (reverse ps ++ m) a ≡ 
 
 found : (ps m : List (ℕ × ℕ)) (a : ℕ) → Found ps m a
 found [] m a = inr (λ w h. h, refl)
-found (p ∷ ps) m a =
-    let cut = ap (λ x. placed_at x a) (sym (placed_more p ps m)) in
-    elim (found ps (p ∷ m) a) [
-      | inl h ↦ inl (h.0, inr h.1, cut ∙ h.2)
-      | inr h ↦ elim (cases_eq p.0 a) [
-        | inl e ↦ let t = eq-eqb p.0 a e in inl (p.1, inl (e, refl), cut ∙ h.1 ∙ rw t refl)
-        | inr n ↦ let t = ne_eqb p.0 a n in inr (λ w. elim [ inl g ↦ n g.0 | inr g ↦ h.0 w g ], cut ∙ h.1 ∙ rw t refl)
-      ]
-    ]
+found (p ∷ ps) m a = search (rules, placed_more, cases_eq, eq-eqb, ne_eqb, found ps (p ∷ m) a)
 
 -- a location that some of them have, all with one word
 settled : (ps m : List (ℕ × ℕ)) (a w : ℕ) → Among ps a w → ((v : ℕ) → Among ps a v → v ≡ w)
@@ -91,9 +84,7 @@ laid_is place (v ∷ ws) a w (inr h) =
 laid_has : (place : ℕ) (ws : List ℕ) (k : ℕ) → k < length ws → Among (placed_words place ws) (place + k) (get_or ws k 0)
 laid_has place [] k low = absurd (omega (arith, low))
 laid_has place (v ∷ ws) zero low = inl (omega arith, refl)
-laid_has place (v ∷ ws) (suc k) low =
-    let e : place + 1 + k ≡ place + suc k = omega arith in
-    inr (rw (← e) (laid_has (place + 1) ws k (omega (arith, low))))
+laid_has place (v ∷ ws) (suc k) low = search (rules, laid_has (place + 1) ws k (omega (arith, low)))
 
 -- ---- the words of a line
 
@@ -130,10 +121,7 @@ module _ (symbols : List Definition) where
   preset_has : (ts : List Setting) (cs : List ℕ) (c : ℕ) (o : Operand) → Contains cs c → set_to ts c ≡ Some o
       → Among (presets_of ts cs) (24 + c) (2 * operand_number symbols None o)
   preset_has ts [] c o (k, low, is) e = absurd (omega (arith, low))
-  preset_has ts (d ∷ cs) c o (zero, low, is) e =
-      let read : set_to ts d ≡ Some o = ap (set_to ts) is ∙ e in
-      among_left _ _ _ _ (subst (λ (x : Option Operand). Among (preset symbols x d) (24 + c)
-      (2 * operand_number symbols None o)) (sym read) (inl (ap (λ n. 24 + n) is, refl)))
+  preset_has ts (d ∷ cs) c o (zero, low, is) e = search (rules, among_left)
   preset_has ts (d ∷ cs) c o (suc k, low, is) e =
       among_right _ _ _ _ (preset_has ts cs c o (k, omega (arith, low), is) e)
 
@@ -152,9 +140,7 @@ module _ (symbols : List Definition) (s : LocationCounter) where
   routine_fits : (ts : List Setting) (base : ℕ) (r : Option ℕ)
       → base + length (routine_words symbols ts base r) ≡ base + routine_places r
   routine_fits ts base None = refl
-  routine_fits ts base (Some r) =
-      ap (λ n. base + n)
-      (length-map (entry r).items (λ row. routine_word (parameters symbols ts) base (table_item row)))
+  routine_fits ts base (Some r) = search rules
 
   -- they fill the locations of the line
   fills : (st : Option Statement) → first_place st s + length (words_of_line symbols s st) ≡ end_place st s
@@ -196,11 +182,7 @@ of_a_line symbols s (l ∷ lines) a w h = elim (among_split _ _ a w h) [
 
 -- the letters of parameters
 in_range : (c : ℕ) → Contains parameter_letters c → (21 ≤ c) × (c ≤ 26)
-in_range c h =
-    let test : ℕ → Bool = λ x. nat_le 21 x && nat_le x 26 in
-    let p = and_parts _ _ (All-contains (λ x. test x ≡ true) parameter_letters c
-    (AllPass-from_list_all test parameter_letters refl) h) in
-    (leb-true 21 c p.0, leb-true c 26 p.1)
+in_range c h = grind (arith, common_steps)
 
 -- ---- the law
 
@@ -209,9 +191,7 @@ module _ (z : Size) (lines : List Line) (faultless : HasNoFault z lines) where
   symbols = symbols_of lines
 
   has_word : (before : List Line) (l : Line) (a w : ℕ) → LinePlaces lines before l a w → LineHasWord before l a
-  has_word before l a w p =
-      let e = fills symbols (counter_after before) l.statement in
-      (omega (arith, p.place_is), omega (arith, p.place_is, p.below, e))
+  has_word before l a w p = grind (arith, common_steps)
 
   high : (before : List Line) (l : Line) (a w : ℕ) → IsLineAfter lines before l → LinePlaces lines before l a w → 56 ≤ a
   high before l a w st p =
@@ -234,18 +214,7 @@ module _ (z : Size) (lines : List Line) (faultless : HasNoFault z lines) where
 
   set_by : (l : Line) (st : Option Statement) (a w : ℕ) → l.statement ≡ st
       → IsPreset symbols (settings_of st) parameter_letters a w → LineSets lines l a w
-  set_by l (Some (Fetch r n ts)) a w e h = record {
-    routine = r;
-    name = n;
-    settings = ts.items;
-    letter = h.0;
-    operand = h.1;
-    statement_is = e;
-    is_letter = h.2;
-    set = h.3;
-    place_is = h.4;
-    word_is = h.5;
-  }
+  set_by l (Some (Fetch r n ts)) a w e h = search rules
   set_by l st a w e h = absurd (let none = h.3 in cc)
 
   -- what a line places is its own or a parameter
@@ -262,9 +231,7 @@ module _ (z : Size) (lines : List Line) (faultless : HasNoFault z lines) where
 
   own_among : (before : List Line) (l : Line) (a w : ℕ) → LinePlaces lines before l a w
       → Among (placed_by_line symbols (counter_after before) l.statement) a w
-  own_among before l a w p =
-      rw (placed_is symbols (counter_after before) l.statement, p.place_is, p.word_is)
-      (among_right _ _ _ _ (laid_has _ _ p.index p.below))
+  own_among before l a w p = search (rules, placed_is, among_right, laid_has)
 
   set_among : (s : LocationCounter) (l : Line) (a w : ℕ) → LineSets lines l a w
       → Among (placed_by_line symbols s l.statement) a w
