@@ -1,9 +1,9 @@
 -- The fault that is looked for is that of the definition, and no fault is found if the source has none.
 use Rattle.ed_link.proofs.Kit.{Size, [], ap, arith, Bool, false, if◌then◌else◌, inl, inr, length}
 use Rattle.ed_link.proofs.Kit.{List, nat_le, None, Option, refl, Some, subst, sym, true, ℕ, ◌++◌, ◌+◌}
-use Rattle.ed_link.proofs.Kit.{◌<◌, ◌∙◌, ◌∷◌, ◌≡◌, ◌≤◌, ◌⊎◌, leb-true, SourceCause, SourceFault, At, Line, nat_tests}
+use Rattle.ed_link.proofs.Kit.{◌<◌, ◌∷◌, ◌≡◌, ◌≤◌, ◌⊎◌, leb-true, SourceCause, SourceFault, At, Line, nat_tests}
 use Rattle.ed_link.proofs.Kit.{AreNumbered, resolution, LocationCounter, Definition, ◌||◌, number_of, counter_after}
-use Rattle.ed_link.proofs.Kit.{counter_from, IsLineAfter, or_later, after_statement, first_counter, any_enter}
+use Rattle.ed_link.proofs.Kit.{counter_from, IsLineAfter, after_statement, first_counter, any_enter}
 use Rattle.ed_link.proofs.Kit.{cause_of, earlier_fault, fault, fault_from, is_enter, LinesBefore, missing, past_of}
 use Rattle.ed_link.proofs.Kit.{word_extent, HasEnter, HasNoFault, on_line, symbols_of}
 use Rattle.std.proofs.Common.{Result, Err, IfErr}
@@ -48,12 +48,8 @@ module _ (z : Size) (lines : List Line) where
       → fault_from z (symbols_of lines) (any_enter lines) (past_after b) (counter_after b) rest
       ≡ first ask_meaning b rest
   meaning_pass b [] = refl
-  meaning_pass b (l ∷ rest) = ap (λ f. or_later l.number (ask_meaning b l) f)
-      (ap (λ p. fault_from z (symbols_of lines) (any_enter lines) p
-      (after_statement l.statement (counter_after b)) rest)
-      (past_snoc b l)
-      ∙ (ap (λ s. fault_from z (symbols_of lines) (any_enter lines) (past_after (b ++ l ∷ [])) s rest)
-      (sym (spot_snoc first_counter b l)) ∙ meaning_pass _ rest))
+  meaning_pass b (l ∷ rest) =
+      rw (past_snoc b l, ← (spot_snoc first_counter b l), meaning_pass (b ++ l ∷ []) rest) refl
 
 -- ---- the least of several
 
@@ -113,8 +109,7 @@ module _ (z : Size) (lines : List Line) (numbered : Numbered lines) where
   not_both k c d m h = grind (arith, common_steps)
 
   names_first : (k : ℕ) (c d : SourceCause) → Names k c → Meanings k d ⊎ Lacking k d → number_of c ≤ number_of d
-  names_first k c d n (inl m) = omega (arith, number_of-few lines n.0 n.1 c n.4, m.4.1)
-  names_first k c d n (inr m) = rw m.2 (omega (arith, number_of-few lines n.0 n.1 c n.4))
+  names_first k c d n other = search (rules, number_of-few)
 
   say_all : SaysLeast All (fault z lines)
   say_all = search (rules, merge, names_first, say_names, not_both, say_meaning, say_lacking)
@@ -125,11 +120,8 @@ module _ (z : Size) (lines : List Line) (numbered : Numbered lines) where
   to_has k c (inr (inr n)) = rw (n.1, n.2) (no_enter n.0)
 
   of_has : {k : ℕ} {c : SourceCause} → SourceHasFault z lines k c → All k c
-  of_has (on_line {before} {l} {cause} st h) = elim (cases_lt (number_of cause) 9) [
-    | inl n ↦ inl (before, l, st, refl, cause_is_name z lines before l cause h (omega (arith, n)))
-    | inr n ↦ inr (inl (before, l, st, refl, (h, n)))
-  ]
-  of_has (no_enter h) = inr (inr (h, refl, refl))
+  of_has (on_line {before} {l} {cause} st h) = search (rules, cases_lt, cause_is_name)
+  of_has (no_enter h) = search rules
 
   -- what the answer says of the source
   abbrev pub Tells : Option SourceFault → Type 0
@@ -153,11 +145,7 @@ module _ (z : Size) (lines : List Line) (numbered : Numbered lines) where
   none_is e = subst Tells e tells
 
   pub is_none_fault : HasNoFault z lines → fault z lines ≡ None
-  is_none_fault h = (elim (fault z lines) as (λ (f : Option SourceFault). Tells f → f ≡ None) [
-    | None ↦ λ t. refl
-    | Some Memory ↦ λ t. absurd t
-    | Some (At k c) ↦ λ t. absurd (h k c t.is)
-  ]) tells
+  is_none_fault h = let t = tells in search rules
 
   pub is_fault : (k : ℕ) (c : SourceCause) → IsMeaningFault z lines k c → fault z lines ≡ Some (At k c)
   is_fault k c h = (elim (fault z lines) as (λ (f : Option SourceFault). Tells f → f ≡ Some (At k c)) [
@@ -170,20 +158,12 @@ module _ (z : Size) (lines : List Line) (numbered : Numbered lines) where
 
 -- a fault that the code answers is the one wanted
 is_first : (wanted : Option SourceFault) (f : SourceFault) → wanted ≡ Some f → IsFirstFault wanted f
-is_first wanted (At k c) h = h
-is_first wanted Memory h = tt
-
--- an answer that memory ran out
-is_memory : (wanted : Option SourceFault) (f : SourceFault) → ◌≡◌ {A = Option SourceFault} (Some f) (Some Memory)
-    → IsFirstFault wanted f
-is_memory wanted (At k c) h = absurd cc
-is_memory wanted Memory h = tt
+is_first wanted f h = search rules
 
 -- the fault of a source without an `enter` is later than one of its lines
 before_missing : (k n : ℕ) (c : SourceCause) (has_enter : Bool) → k ≤ n
     → earlier_fault (Some (At k c)) (missing has_enter n) ≡ Some (At k c)
-before_missing k n c true h = refl
-before_missing k n c false h = let e : nat_le k (n + 1) ≡ true = grind (arith, nat_tests) in rw e refl
+before_missing k n c has_enter h = grind (arith, nat_tests)
 
 -- what the code looks for, from definitions and from whether there is an `enter`
 abbrev looked_for : Size → List Line → List Definition → Bool → Option SourceFault
@@ -219,13 +199,8 @@ pub record FaultIsFound (z : Size) (lines : List Line) : Type 0 where
 
 pub fault_law : (z : Size) (lines : List Line) → AreNumbered lines → FaultIsFound z lines
 fault_law z lines e =
-    let n = numbers lines e in record {
-      refused = λ k c h. fault_is z lines n h;
-      refuses = λ k c h. is_fault z lines n k c h;
-      accepted = λ h. none_is z lines n h;
-      accepts = λ h. is_none_fault z lines n h;
-      no_memory = λ h. subst (Tells z lines n) h (tells z lines n);
-    }
+    let n = numbers lines e in
+    search (rules, fault_is z lines n, is_fault z lines n, none_is z lines n, is_none_fault z lines n, tells z lines n)
 
 -- an answer that is the fault that is looked for is that of the definition
 pub answer_has_fault : {A : Type 0} (z : Size) (lines : List Line) → AreNumbered lines → (r : Result A SourceFault)
@@ -237,16 +212,12 @@ answer_has_fault z lines n r h = tt
 -- `enter`
 module _ (z : Size) (lines : List Line) {symbols : List Definition} {has_enter : Bool} (n : AreNumbered lines)
     (known : symbols ≡ symbols_of lines) (there : has_enter ≡ any_enter lines) where
-  same : looked_for z lines symbols has_enter ≡ looked_for z lines (symbols_of lines) (any_enter lines)
-  same = λ i. looked_for z lines (known i) (there i)
-
   pub line_fault : {names : Option SourceFault} (e f : SourceFault) → names ≡ (resolution lines).fault
       → IsFirstFault (looked_for z lines symbols has_enter) e → Some f ≡ earlier_fault names (Some e)
       → IsFirstFault (fault z lines) f
-  line_fault {names} e f are h is =
-      line_first z lines (numbers lines n) e f (rw (← same) h)
-      (is ∙ ap (λ (x : Option SourceFault). earlier_fault x (Some e)) are)
+  line_fault e f are h is =
+      line_first z lines (numbers lines n) e f (rw (known, there) at h) (rw are at is)
 
   pub name_fault : (f : SourceFault) → (resolution lines).fault ≡ Some f → looked_for z lines symbols has_enter ≡ None
       → IsFirstFault (fault z lines) f
-  name_fault f h e = names_alone z lines (numbers lines n) f h (sym same ∙ e)
+  name_fault f h e = names_alone z lines (numbers lines n) f h (rw (known, there) at e)

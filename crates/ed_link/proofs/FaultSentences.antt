@@ -1,13 +1,12 @@
 -- The tests of a line and the sentences of the manual say the same, both ways, for the faults S9 to S14, S16 and S17.
-use Rattle.ed_link.proofs.Kit.{nat_tests, rules, max, min, Size, [], ap, arith, Bool, false, inl, inr, List, None}
-use Rattle.ed_link.proofs.Kit.{Option, refl, Some, subst, sym, true, ℕ, ◌++◌, ◌<◌, ◌∷◌, ◌≡◌, ◌≤◌, ◌⊎◌, ltb-true}
-use Rattle.ed_link.proofs.Kit.{locations, Line, Statement, Enter, and_from, place_on, LocationCounter, Definition}
-use Rattle.ed_link.proofs.Kit.{is_some, ◌||◌, list_any, or_cases, counter_after, counter_from, IsLineAfter}
-use Rattle.ed_link.proofs.Kit.{after_statement, first_counter, not_true, Ties, true_not, any_enter, extent}
-use Rattle.ed_link.proofs.Kit.{has_no_routine, has_sandwich, is_enter, is_misplaced, is_outside, is_rows, overlaps}
-use Rattle.ed_link.proofs.Kit.{reach, word_extent, HasEnter, end_place, first_place, symbols_of, Extent}
+use Rattle.ed_link.proofs.Kit.{nat_tests, rules, max, min, Size, [], ap, arith, inl, inr, List, Option, refl, Some}
+use Rattle.ed_link.proofs.Kit.{subst, sym, true, ℕ, ◌++◌, ◌<◌, ◌∷◌, ◌≡◌, ◌≤◌, ltb-true, locations, Line, Statement}
+use Rattle.ed_link.proofs.Kit.{Enter, LocationCounter, list_any, or_cases, counter_after, counter_from, IsLineAfter}
+use Rattle.ed_link.proofs.Kit.{after_statement, first_counter, Ties, any_enter, extent, has_no_routine, has_sandwich}
+use Rattle.ed_link.proofs.Kit.{is_enter, is_misplaced, is_outside, overlaps, reach, word_extent, HasEnter, symbols_of}
+use Rattle.ed_link.proofs.Kit.{Extent}
 use Rattle.std.proofs.lemmas.Bool.{or_left, or_right}
-use Rattle.ed_link.specs.Faults.{IsData, IsOutsideSegments, NeedsWithin, NeedsPast, Overlaps, UsesUnknown}
+use Rattle.ed_link.specs.Faults.{IsOutsideSegments, NeedsWithin, NeedsPast, Overlaps, UsesUnknown}
 use Rattle.ed_link.specs.Faults.{IsMisplaced, HasSandwichDigit}
 use Rattle.std.proofs.lemmas.Grind.{common_steps}
 
@@ -40,45 +39,18 @@ meets_says a b c d h = let e : max a c < min b d = ltb-true (max a c) (min b d) 
 meets_tests : (a b c d p : ℕ) → IsIn (extent a b) p → IsIn (extent c d) p → overlaps (extent a b) (extent c d) ≡ true
 meets_tests a b c d p h g = grind (arith, nat_tests)
 
--- a line needs a location, by its statement and location counter alone
-abbrev NeedsAt : List Definition → Option Statement → LocationCounter → ℕ → Type 0
-NeedsAt symbols st s p = ((first_place st s ≤ p) × (p < end_place st s))
-    ⊎ ((name : List ℕ) × (st ≡ Some (Enter name)) × (place_on symbols None name ≡ Some p))
-
-need_in : (symbols : List Definition) (st : Option Statement) (s : LocationCounter) (p : ℕ) → NeedsAt symbols st s p
-    → IsIn (reach symbols st s) p
-need_in symbols st s p h = search rules
-
-in_need : (symbols : List Definition) (st : Option Statement) (s : LocationCounter) (p : ℕ)
-    → IsIn (reach symbols st s) p
-    → NeedsAt symbols st s p
-in_need symbols st s p h = grind arith
-
-within : (symbols : List Definition) (st : Option Statement) (s : LocationCounter) (c d : ℕ)
-    → Ties (overlaps (reach symbols st s) (extent c d)) ((p : ℕ) × NeedsAt symbols st s p × (c ≤ p) × (p < d))
-within symbols st s c d = search (rules, meets_says, in_need, meets_tests, need_in)
-
 -- S10 at 0 and 44, S11 at 44 and 56
 pub s10_s11 : (lines before : List Line) (l : Line) (c d : ℕ)
     → Ties (overlaps (reach (symbols_of lines) l.statement (counter_after before)) (extent c d)) (NeedsWithin
     lines before l c d)
-s10_s11 lines before l c d = within (symbols_of lines) l.statement (counter_after before) c d
-
-past : (symbols : List Definition) (st : Option Statement) (s : LocationCounter) (c : ℕ)
-    → Ties (overlaps (reach symbols st s) (extent c (reach symbols st s).after)) ((p : ℕ) × NeedsAt symbols st s p × (c ≤ p))
-past symbols st s c =
-    let t = within symbols st s c (reach symbols st s).after in
-    record {
-      says = λ h. let m = t.says h in (m.0, m.1, m.2);
-      tests = λ h. t.tests (h.0, h.1, h.2, (need_in symbols st s h.0 h.1).1);
-    }
+s10_s11 lines before l c d = search (rules, meets_says, meets_tests)
 
 pub Ties-s12 : (z : Size) (lines before : List Line) (l : Line)
     → Ties
     (overlaps (reach (symbols_of lines) l.statement (counter_after before))
     (extent (locations z) (reach (symbols_of lines) l.statement (counter_after before)).after))
     (NeedsPast lines before l (locations z))
-Ties-s12 z lines before l = past (symbols_of lines) l.statement (counter_after before) (locations z)
+Ties-s12 z lines before l = search (rules, meets_says, meets_tests)
 
 -- ---- S13
 
@@ -142,20 +114,8 @@ any_among [] l after h = or_left (is_enter l.statement) (any_enter after) h
 any_among (e ∷ before) l after h = or_right _ _ (any_among before l after h)
 
 pub any_tests : (lines : List Line) → HasEnter lines → any_enter lines ≡ true
-any_tests lines h = rw h.2.lines_are (any_among h.0 h.1 h.2.after (ap is_enter h.3.1))
-
-rows_tie : (st : Option Statement) → Ties (is_rows st) (IsData st)
-rows_tie st = search rules
-
-form : (label : Option (List ℕ)) (st : Option Statement)
-    → Ties (is_some label || is_some st) ((label ≡ None) × (st ≡ None) → ⊥)
-form label st = search rules
-
-misplaced : (lines before : List Line) (l : Line) (entered : Bool) → any_enter before ≡ entered
-    → Ties (is_misplaced entered (any_enter lines) l) (IsMisplaced lines before l)
-misplaced lines before l true e = search (rules, any_says, not_true, rows_tie, and_from, true_not)
-misplaced lines before l false e = search (rules, any_tests, rows_tie, any_says, and_from)
+any_tests lines h = search (rules, any_among)
 
 pub Ties-s16 : (lines before : List Line) (l : Line)
     → Ties (is_misplaced (any_enter before) (any_enter lines) l) (IsMisplaced lines before l)
-Ties-s16 lines before l = misplaced lines before l _ refl
+Ties-s16 lines before l = search (rules, any_says, any_tests)

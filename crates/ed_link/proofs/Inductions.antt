@@ -1,14 +1,13 @@
 -- The tape of an accepted source reaches its linked program.
-use Rattle.ed_link.proofs.Kit.{nat_tests, rules, reverse, E_F, Size, AreSpellable, Item, [], ap, append_assoc, arith, Bool}
-use Rattle.ed_link.proofs.Kit.{false, if◌then◌else◌, inl, length, List, None, Option, refl, Some, subst, sym, true}
-use Rattle.ed_link.proofs.Kit.{unwrap_or, ℕ, ◌&&◌, ◌*◌, ◌++◌, ◌+◌, ◌<◌, ◌∙◌, ◌∷◌, ◌≡◌, ◌≤◌, list_all, and_parts}
-use Rattle.ed_link.proofs.Kit.{leb-true, locations, locations_most, NotationState, SourceCause, SourceFault, Setting, Statement}
-use Rattle.ed_link.proofs.Kit.{Enter, Fetch, Long, Number, Order, Rows, Text, is_line, catalogue, is_ready}
-use Rattle.ed_link.proofs.Kit.{find, place_on, LocationCounter, Definition, is_none, is_some, not, ◌||◌, or_later}
-use Rattle.ed_link.proofs.Kit.{after_statement, any_enter, cause_of, extent, extent_at, fault_from, has_no_routine}
-use Rattle.ed_link.proofs.Kit.{is_enter, is_misplaced, LinesBefore, overlaps, past_of, reach, sets}
-use Rattle.ed_link.proofs.Kit.{sets_otherwise, entered_place, entry_from, placed_by_line, placed_from, theta_from}
-use Rattle.ed_link.proofs.Kit.{item_with, items_of, punched_from, Extent}
+use Rattle.ed_link.proofs.Kit.{nat_tests, rules, reverse, E_F, Size, AreSpellable, Item, [], ap, append_assoc, arith}
+use Rattle.ed_link.proofs.Kit.{Bool, false, if◌then◌else◌, inl, length, List, None, Option, refl, Some, subst, sym}
+use Rattle.ed_link.proofs.Kit.{true, unwrap_or, ℕ, ◌*◌, ◌++◌, ◌+◌, ◌<◌, ◌∙◌, ◌∷◌, ◌≡◌, ◌≤◌, list_all, and_parts}
+use Rattle.ed_link.proofs.Kit.{leb-true, locations, locations_most, NotationState, SourceCause, SourceFault, Setting}
+use Rattle.ed_link.proofs.Kit.{Statement, Enter, Fetch, Text, is_line, catalogue, is_ready, find, place_on}
+use Rattle.ed_link.proofs.Kit.{LocationCounter, Definition, is_none, not, or_later, after_statement, any_enter}
+use Rattle.ed_link.proofs.Kit.{cause_of, extent, extent_at, fault_from, has_no_routine, is_enter, is_misplaced}
+use Rattle.ed_link.proofs.Kit.{LinesBefore, overlaps, past_of, reach, sets, sets_otherwise, entered_place, entry_from}
+use Rattle.ed_link.proofs.Kit.{placed_by_line, placed_from, theta_from, item_with, items_of, punched_from, Extent}
 use Rattle.std.proofs.lemmas.Bool.{not-false, or_parts}
 use Rattle.ed_notation.proofs.Steps.{Enters, aiming_entry, entering_at}
 use Rattle.ed_syntax.specs.Programs.{is_statement}
@@ -89,14 +88,9 @@ module _ (tables : list_all is_ready catalogue ≡ true) (z : Size) where
       → IsFaultless z symbols has_enter past (record { number = n; label = label; statement = st }) s
       → is_enter st ≡ false
       → IsSound z s st
-  sound_line {s = s} two (Some (Order g o long)) formed f e = fits z s.place (s.place + 1) (omega arith) f.clear
-  sound_line {s = s} two (Some (Number w)) formed f e = fits z s.place (s.place + 1) (omega arith) f.clear
-  sound_line {n = n} {label = label} {s = s} two (Some (Text codes)) formed f e = search (rules, some_rows)
-  sound_line {s = s} two (Some (Long v)) formed f e = fits z s.place _ (omega arith) f.clear
-  sound_line {s = s} two (Some (Fetch routine name ts)) formed f e =
-      is_use routine ts.items _ _ refl f.routine f.settings f.clear
-  sound_line two (Some (Enter name)) formed f e = cc
-  sound_line two st formed f e = tt
+  sound_line two (Some (Fetch routine name ts)) formed f e = is_use routine ts.items _ _ refl f.routine f.settings f.clear
+  sound_line two (Some (Text codes)) formed f e = search (rules, some_rows)
+  sound_line two st formed f e = search rules
 
 -- after the `enter` line
 
@@ -105,21 +99,7 @@ record IsBehind (symbols : List Definition) (theta : ℕ) (s : LocationCounter) 
   placed : placed_from symbols s lines ≡ []
   theta_is : theta_from theta s lines ≡ theta
 
-misplaced : (x : Bool) → ((x || true) && true) ≡ false → ⊥
-misplaced true h = cc
-misplaced false h = cc
-
--- a line after `enter` gives nothing
-after_line : {symbols : List Definition} {theta : ℕ} {s : LocationCounter} {n : ℕ} {label : Option (List ℕ)}
-    {lines : List SourceLine}
-    (st : Option Statement) → is_misplaced true true (record { number = n; label = label; statement = st }) ≡ false
-    → IsBehind symbols theta (after_statement st s) lines
-    → IsBehind symbols theta s (record { number = n; label = label; statement = st } ∷ lines)
-after_line {s = s} None m b = search (rules, lt_same)
-after_line {s = s} (Some (Rows codes)) m b = search (rules, lt_same)
-after_line {label = label} (Some st) m b = absurd (misplaced (is_some label) m)
-
--- nor do all later lines
+-- a line after the `enter` line gives nothing
 behind : {symbols : List Definition} {theta : ℕ} {s : LocationCounter} (z : Size) (has_enter : Bool)
     (past : LinesBefore)
     (lines : List SourceLine) → past.entered ≡ true
@@ -128,8 +108,8 @@ behind z has_enter past [] e h = record { items = refl; placed = refl; theta_is 
 behind {symbols} {theta} {s} z has_enter past (l ∷ lines) e h =
     let a = later_of l.number _ _ h in
     let f = faultless z symbols has_enter past l s a.0 in
-    after_line l.statement (rw e at f.misplaced)
-    (behind {s = after_statement l.statement s} z has_enter _ lines (rw e refl) a.1)
+    let b = behind {theta = theta} {s = after_statement l.statement s} z has_enter _ lines (rw e refl) a.1 in
+    search (rules, lt_same)
 
 -- the induction over the lines
 
@@ -219,14 +199,14 @@ module _ {z : Size} {words : List ℕ} {symbols : List Definition} {has_enter : 
       let last : NotationState = record notation { directive = E_F + 2 * p } in
       record {
         before = item_with 3 p false 14 ∷ [];
-        items = ap (λ (is : List Item). item_with 3 p false 14 ∷ (item_with 0 0 false 17 ∷ is)) b.items;
-        spelled = aiming_spelled p (omega (arith, m, g.1));
+        items = search rules;
+        spelled = search (rules, aiming_spelled);
         last = last;
         passes = goes (aiming_entry z words notation p (omega (arith, g.1))) (inl refl) stays;
-        enters = entering_at z words last p refl (omega (arith, g.0)) (omega (arith, g.1));
+        enters = search (rules, entering_at);
         directive = refl;
-        theta_is = let q = lt_same s.place in rw q (ready.theta_is ∙ sym b.theta_is);
-        placed = ap (λ ps. reverse ps ++ notation.placed) (sym b.placed);
+        theta_is = search (rules, lt_same);
+        placed = search rules;
       }
 
   ends_at : {n : ℕ} {label : Option (List ℕ)} {lines : List SourceLine} {past : LinesBefore} {s : LocationCounter}

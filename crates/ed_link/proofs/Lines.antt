@@ -1,19 +1,17 @@
 -- What the fold does at the items of one line.
 use Rattle.ed_link.proofs.Kit.{reverse, eq-eqb, T_F, Size, word_with, AreSpellable, Item, [], ap, arith, false}
-use Rattle.ed_link.proofs.Kit.{if◌then◌else◌, length, List, nat_eq, nat_lt, None, Option, refl, Some, sym, true}
-use Rattle.ed_link.proofs.Kit.{unwrap_or, ℕ, ◌*◌, ◌++◌, ◌+◌, ◌<◌, ◌∙◌, ◌∷◌, ◌≡◌, ◌≤◌, flat_map, le-ltb}
-use Rattle.ed_link.proofs.Kit.{lt-ltb, locations, digit, NotationState, Setting, Statement, Enter, Fetch, Long, Number}
-use Rattle.ed_link.proofs.Kit.{Order, Rows, Segment, Text, map, length-map, entry, routine_word, find}
-use Rattle.ed_link.proofs.Kit.{table_item, even_from, segment_at, LocationCounter, Definition, after_statement}
-use Rattle.ed_link.proofs.Kit.{first_place, image, long_words, operand_number, parameter_letters, parameters}
-use Rattle.ed_link.proofs.Kit.{placed_by_line, placed_words, presets, set_to, items_of, preset_items, routine_items}
-use Rattle.ed_link.proofs.Kit.{use_items, with_heading, word_item}
+use Rattle.ed_link.proofs.Kit.{if◌then◌else◌, length, List, nat_eq, nat_lt, None, Option, refl, Some, true, ℕ, ◌*◌}
+use Rattle.ed_link.proofs.Kit.{◌++◌, ◌+◌, ◌<◌, ◌∙◌, ◌∷◌, ◌≡◌, ◌≤◌, flat_map, le-ltb, lt-ltb, locations, digit}
+use Rattle.ed_link.proofs.Kit.{NotationState, Setting, Statement, Enter, Fetch, Long, Number, Order, Rows, Segment}
+use Rattle.ed_link.proofs.Kit.{Text, map, length-map, entry, routine_word, find, table_item, even_from, segment_at}
+use Rattle.ed_link.proofs.Kit.{LocationCounter, Definition, after_statement, first_place, image, long_words}
+use Rattle.ed_link.proofs.Kit.{operand_number, parameter_letters, parameters, placed_by_line, placed_words, presets}
+use Rattle.ed_link.proofs.Kit.{set_to, items_of, preset_items, routine_items, use_items, with_heading, word_item}
 use Rattle.ed_symbols.specs.Places.{routine_places as places_of}
 use Rattle.ed_link.proofs.Orders.{AreSpellable-split, laid_pass, order_pass, headed_pass, AreSpellable-unheaded}
 use Rattle.ed_link.proofs.Passes.{Passes, stays, Passes-join, at}
 use Rattle.ed_link.proofs.Uses.{AreKnown, all, holds, image_pass, reversed}
 use Rattle.ed_link.proofs.Kit.{rules}
-use Rattle.std.proofs.lemmas.Grind.{common_steps}
 
 -- no location is before itself
 pub lt_same : (a : ℕ) → nat_lt a a ≡ false
@@ -71,16 +69,7 @@ module _ {z : Size} {words : List ℕ} {theta : ℕ} {s : LocationCounter} {nota
     (whole : length words ≡ 1024) (symbols : List Definition) where
   -- a line of no words
   quiet : Line z words theta s.place s notation [] []
-  quiet = record {
-    last = notation;
-    passes = stays;
-    ready = record {
-      base = ready.base;
-      follows = ready.follows;
-      theta_is = let e = lt_same s.place in rw e ready.theta_is;
-    };
-    placed = refl;
-  }
+  quiet = record { last = notation; passes = stays; ready = search (rules, lt_same); placed = refl }
 
   -- a line of words in a segment
   in_segment : (is : List Item) (ws : List ℕ) → 0 < length is → 0 < length ws → s.place + length ws ≤ locations z
@@ -92,11 +81,7 @@ module _ {z : Size} {words : List ℕ} {theta : ℕ} {s : LocationCounter} {nota
   in_segment is ws some more high p = record {
     last = at (s.place + length ws) s.base (reverse (placed_words s.place ws) ++ notation.placed);
     passes = headed_pass s.place s.base _ refl (omega arith) some ready.follows p;
-    ready = record {
-      base = omega arith;
-      follows = λ h. (refl, refl);
-      theta_is = let e = lt-ltb s.place (s.place + length ws) (omega arith) in rw e refl;
-    };
+    ready = search (rules, lt-ltb);
     placed = refl;
   }
 
@@ -142,22 +127,16 @@ module _ {z : Size} {words : List ℕ} {theta : ℕ} {s : LocationCounter} {nota
       → Line z words theta (first_place st s) (after_statement st s) notation (items_of symbols s st)
       (placed_by_line symbols s st)
   line None is are = quiet
-  line (Some (Segment name base)) is are = record {
-    last = notation;
-    passes = stays;
-    ready = record {
-      base = omega arith;
-      follows = λ h. let e = eq_same _ in let q = sym e ∙ h in cc;
-      theta_is = let e = lt_same (unwrap_or base s.place) in rw e ready.theta_is;
-    };
-    placed = refl;
-  }
+  line (Some (Segment name base)) is are =
+      record { last = notation; passes = stays; ready = search (rules, lt_same, eq_same); placed = refl }
   line (Some (Order f o long)) is are =
       let w = word_with f (operand_number symbols (segment_at s) o) false (digit long) in
       in_segment _ (w ∷ []) (omega arith) (omega arith) is.1
       (order_pass symbols s f o long (omega (arith, is.0)) (omega (arith, is.1)))
   line (Some (Number w)) is are = numbered (w ∷ []) are (omega arith) is.0 is.1
-  line (Some (Text codes)) is are = grind (arith, common_steps, numbered)
+  line (Some (Text codes)) is are =
+      let l = length-map codes.items (λ c. 4096 * c) in
+      rw (← l) (numbered _ are (omega (arith, l, is.0)) is.1 (omega (arith, l, is.2)))
   line (Some (Long v)) is are =
       let e = long_spot s v in
       let p : s.place + length (long_words s.place v) ≡ even_from s.place + 2 =

@@ -5,7 +5,7 @@ use Rattle.ed_link.proofs.Kit.{◌≤◌, flat_map, list_all, and_parts, leb-tru
 use Rattle.ed_link.proofs.Kit.{is_spellable, Operand, Setting, Statement, Enter, Fetch, Long, Number, Order, Text, map}
 use Rattle.ed_link.proofs.Kit.{◌^◌, nat_tests, catalogue, entry, is_ready, is_ready_row, find, table_item, TableRow}
 use Rattle.ed_link.proofs.Kit.{segment_at, LocationCounter, Definition, operand_number, parameter_letters}
-use Rattle.ed_link.proofs.Kit.{set_to, goes_by_theta, heads, item_with, items_of, order_item, preset_items}
+use Rattle.ed_link.proofs.Kit.{set_to, goes_by_theta, item_with, items_of, order_item, preset_items}
 use Rattle.ed_link.proofs.Kit.{routine_items, use_items, with_heading, word_item}
 use Rattle.ed_syntax.proofs.Kit.{pos, ℤ}
 use Rattle.ed_notation.specs.Items.{ends}
@@ -26,10 +26,6 @@ spelled f n e mark low few ended = rw ended (grind (arith, nat_tests))
 pub AreSpellable-joined : (is js : List Item) → AreSpellable is → AreSpellable js → AreSpellable (is ++ js)
 AreSpellable-joined [] js p q = q
 AreSpellable-joined (i ∷ is) js p q = (p.0, AreSpellable-joined is js p.1 q)
-
-head_spelled : (first : Bool) (base : ℕ) → base ≤ 32767 → AreSpellable (heads first base)
-head_spelled true base few = (spelled 5 base 14 false (omega arith) few refl, (refl, tt))
-head_spelled false base few = tt
 
 headed_spelled : (is : List Item) (first : Bool) (base : ℕ) → base ≤ 32767 → AreSpellable is
     → AreSpellable (with_heading is first base)

@@ -2,17 +2,15 @@
 use Rattle.ed_link.proofs.Kit.{reverse, Contains, cases_eq, eq-eqb, ne_eqb, reverse-append, same_Some, Size, least}
 use Rattle.ed_link.proofs.Kit.{placed_at, [], ap, append_assoc, arith, get_or, inl, inr, length, List, None, Option}
 use Rattle.ed_link.proofs.Kit.{refl, Some, subst, suc, sym, ℕ, ◌*◌, ◌++◌, ◌+◌, ◌<◌, ◌∙◌, ◌∷◌, ◌≡◌, ◌≤◌, ◌⊎◌, flat_map}
-use Rattle.ed_link.proofs.Kit.{locations, Line, Operand, Setting, Statement, Fetch, Long, Number, Order, Text, zero}
-use Rattle.ed_link.proofs.Kit.{length-map, find, even_from, routine_places, LocationCounter, Definition}
-use Rattle.ed_link.proofs.Kit.{counter_after, counter_from, IsLineAfter, after_statement, first_counter, HasNoFault}
-use Rattle.ed_link.proofs.Kit.{on_line, end_place, first_place, image, linked_words, operand_number}
+use Rattle.ed_link.proofs.Kit.{locations, Line, Operand, Setting, Statement, Fetch, zero, find, LocationCounter}
+use Rattle.ed_link.proofs.Kit.{Definition, counter_after, counter_from, IsLineAfter, after_statement, first_counter}
+use Rattle.ed_link.proofs.Kit.{HasNoFault, on_line, first_place, image, linked_words, operand_number}
 use Rattle.ed_link.proofs.Kit.{parameter_letters, placed_by_line, placed_from, placed_words, preset, presets, set_to}
 use Rattle.ed_link.proofs.Kit.{symbols_of, append-nil}
 use Rattle.std.proofs.lemmas.Bool.{cases_lt}
 use Rattle.ed_link.specs.Faults.{LineHasWord}
 use Rattle.ed_link.specs.Words.{EachWordStands, IsLastSet, LinePlaces, LineSets, linked_word, words_of_line}
 use Rattle.ed_link.specs.Words.{routine_words}
-use Rattle.ed_link.proofs.Lines.{long_spot}
 use Rattle.ed_link.proofs.Orders.{placed_more}
 use Rattle.ed_syntax.specs.declared.fault.SourceCause.TheVariants as causes
 use Rattle.ed_link.proofs.Kit.{rules}
@@ -136,20 +134,6 @@ module _ (symbols : List Definition) (s : LocationCounter) where
       ≡ presets symbols (settings_of st) ++ placed_words (first_place st s) (words_of_line symbols s st)
   placed_is (Some (Fetch r n ts)) = ap (λ x. presets symbols ts.items ++ x) (routine_is ts.items _ (find r))
   placed_is st = refl
-
-  routine_fits : (ts : List Setting) (base : ℕ) (r : Option ℕ)
-      → base + length (routine_words symbols ts base r) ≡ base + routine_places r
-  routine_fits ts base None = refl
-  routine_fits ts base (Some r) = search rules
-
-  -- they fill the locations of the line
-  fills : (st : Option Statement) → first_place st s + length (words_of_line symbols s st) ≡ end_place st s
-  fills (Some (Order f o d)) = refl
-  fills (Some (Number w)) = refl
-  fills (Some (Text codes)) = ap (λ n. s.place + n) (length-map codes.items (λ c. 4096 * c))
-  fills (Some (Long v)) = ap (λ (t : LocationCounter). t.place) (long_spot s v)
-  fills (Some (Fetch r n ts)) = routine_fits ts.items (even_from s.place) (find r)
-  fills st = omega arith
 
 -- ---- the words of all lines
 

@@ -55,8 +55,7 @@ holds_words r {s = s} low makes plain words =
 -- a routine at a base has its image in the store
 pub holds : {r b : ℕ} {parameters hs : List ℕ} {s : State} → IsLoadedAt r parameters b s → Makes parameters hs
     → all_plain (length hs) (entry r).items ≡ true → Holds (image r b hs) s.store.words b
-holds {r} {s = s} o makes plain =
-    let size = locations_most s.size in let fits = o.fits in holds_words r (omega arith) makes plain o.image
+holds {r} {s = s} o makes plain = search (rules, locations_most, holds_words)
 
 -- and so has one with the location h as its one parameter
 pub holds_h : {r b h : ℕ} {s : State} → IsLoadedAt r (with_h h) b s → IsOutside r b h s
@@ -120,5 +119,4 @@ not_working {r} {b} {i} hs o w = grind (arith, common_steps, length_image, true�
 pub get_or-kept : {r b i : ℕ} (hs : List ℕ) → IsOther r b i → (ws cells : List ℕ) → length cells ≡ length (image r b hs)
     → merged (image r b hs) cells ≡ cells → Holds (image r b hs) ws b
     → get_or (patched 0 ws b cells) i 0 ≡ get_or ws i 0
-get_or-kept {r} {b} {i} hs o ws cells long new old =
-    unchanged (image r b hs) ws b cells long new old i (not_working hs o)
+get_or-kept {r} {b} {i} hs o ws cells long new old = search (rules, unchanged, not_working)

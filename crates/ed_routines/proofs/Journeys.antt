@@ -198,10 +198,8 @@ module _ {n h : ℕ} {f : Frame n h} {r : Moment} (o : IsIn f r) where
 
 -- an offset in a routine that is not a working one
 pub no_working : {r w : ℕ} (j : ℕ) → is_working r j ≡ false → IsOther r w (w + j)
-no_working {r} {w} j free =
-    let e : w + j - w ≡ j = omega arith in record { other = inr (inr (ap (is_working r) e ∙ free)) }
+no_working {r} {w} j free = search rules
 
 -- a location of another routine
 pub elsewhere : {r w : ℕ} (q : ℕ) → (q < w) ⊎ (w + place_count r ≤ q) → IsOther r w q
-elsewhere q (inl b) = record { other = inl b }
-elsewhere q (inr a) = record { other = inr (inl a) }
+elsewhere q x1 = grind arith

@@ -96,8 +96,7 @@ module _ {b h top : ℕ} {s : State} (o : IsCalled read (with_h h) b h top s) wh
 
   -- the word at h is not one of the routine's
   at_h : (ws : List ℕ) (w : Work) → get_or (patched 0 ws b (cells b h w)) h 0 ≡ get_or ws h 0
-  at_h ws w = elim o.outside.beside
-      [ inl l ↦ get_below 0 ws b (cells b h w) h l | inr g ↦ get_above 0 ws b (cells b h w) h g ]
+  at_h ws w = search (rules, get_below, cells, get_above)
 
   -- if an ending row follows the digit rows
   module _ {c : ℕ} {rest : List ℕ} (e : after_digits s.tape ≡ c ∷ rest) (code : c < 32) where
