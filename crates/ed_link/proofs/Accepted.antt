@@ -1,7 +1,7 @@
 -- The tape of an accepted source, row by row.
 use Rattle.ed_link.proofs.Kit.{reverse, sum_by, E_F, Size, AreSpellable, Item, all_rows_are, [], ap, append_assoc}
 use Rattle.ed_link.proofs.Kit.{arith, Bool, false, length, length-append, List, None, Option}
-use Rattle.ed_link.proofs.Kit.{refl, Some, subst, sym, true, ℕ, ◌*◌, ◌++◌, ◌+◌, ◌∙◌, ◌∷◌, ◌≡◌, list_all, cost_of}
+use Rattle.ed_link.proofs.Kit.{refl, subst, sym, true, ℕ, ◌*◌, ◌++◌, ◌+◌, ◌∙◌, ◌∷◌, ◌≡◌, list_all, cost_of}
 use Rattle.ed_link.proofs.Kit.{is_entry, item_word, NotationState, canonical, canonicals, SourceFault, Line, is_line}
 use Rattle.ed_link.proofs.Kit.{catalogue, is_ready, first_counter, any_enter, earlier_fault, fault, missing}
 use Rattle.ed_link.proofs.Kit.{data_after, linked_words, symbols_of, theta_from, item_with, punched_items, item_cost}
@@ -24,14 +24,11 @@ use Rattle.ed_link.proofs.Kit.{rules}
 
 -- neither of two is a fault
 none_of : (a b : Option SourceFault) → earlier_fault a b ≡ None → (a ≡ None) × (b ≡ None)
-none_of None b h = (refl, h)
-none_of (Some a) None h = cc
-none_of (Some a) (Some b) h = search rules
+none_of a b h = grind arith
 
 -- there is an `enter`
 there_is : (has_enter : Bool) (n : ℕ) → missing has_enter n ≡ None → has_enter ≡ true
-there_is true n h = refl
-there_is false n h = cc
+there_is has_enter n h = grind arith
 
 abbrev last_item : Item
 last_item = item_with 0 0 false 17

@@ -48,8 +48,7 @@ module _ (z : Size) (lines : List Line) where
       → fault_from z (symbols_of lines) (any_enter lines) (past_after b) (counter_after b) rest
       ≡ first ask_meaning b rest
   meaning_pass b [] = refl
-  meaning_pass b (l ∷ rest) =
-      rw (past_snoc b l, ← (spot_snoc first_counter b l), meaning_pass (b ++ l ∷ []) rest) refl
+  meaning_pass b (l ∷ rest) = search (rules, past_snoc, spot_snoc, meaning_pass (b ++ l ∷ []) rest)
 
 -- ---- the least of several
 

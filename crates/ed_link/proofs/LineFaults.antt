@@ -14,24 +14,15 @@ use Rattle.ed_syntax.specs.declared.fault.SourceCause.TheVariants as causes
 -- a fault of names is one of the faults of a line
 pub name_has_cause : (z : Size) (lines before : List Line) (l : Line) (c : SourceCause)
     → LineHasNameFault lines before l c → LineHasCause z lines before l c
-name_has_cause z lines before l causes.LabelTwice h = h
-name_has_cause z lines before l causes.LabelUnknown h = h
-name_has_cause z lines before l causes.AddressRange h = h
-name_has_cause z lines before l c h = absurd h
+name_has_cause z lines before l c h = grind arith
 
 pub number_of-few : (lines before : List Line) (l : Line) (c : SourceCause) → LineHasNameFault lines before l c
     → number_of c ≤ 8
-number_of-few lines before l causes.LabelTwice h = omega arith
-number_of-few lines before l causes.LabelUnknown h = omega arith
-number_of-few lines before l causes.AddressRange h = omega arith
-number_of-few lines before l c h = absurd h
+number_of-few lines before l c h = grind arith
 
 -- each fault with such a number is one of names
 pub cause_is_name : (z : Size) (lines before : List Line) (l : Line) (c : SourceCause)
     → LineHasCause z lines before l c → number_of c ≤ 8 → LineHasNameFault lines before l c
-cause_is_name z lines before l causes.LabelTwice h low = h
-cause_is_name z lines before l causes.LabelUnknown h low = h
-cause_is_name z lines before l causes.AddressRange h low = h
 cause_is_name z lines before l c h low = grind arith
 
 module _ (z : Size) (lines before : List Line) (l : Line) where

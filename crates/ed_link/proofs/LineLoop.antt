@@ -1,6 +1,6 @@
 -- What the loop over the lines needs.
-use Rattle.ed_link.proofs.Kit.{Size, arith, Bool, drop, length, List, None, Option, Some, unwrap_or, ℕ, ◌*◌, ◌++◌}
-use Rattle.ed_link.proofs.Kit.{◌+◌, ◌<◌, ◌≡◌, ◌≤◌, Line, Statement, Enter, Rows, LocationCounter, Definition}
+use Rattle.ed_link.proofs.Kit.{Size, arith, Bool, drop, length, List, None, Option, unwrap_or, ℕ, ◌*◌, ◌++◌}
+use Rattle.ed_link.proofs.Kit.{◌+◌, ◌<◌, ◌≡◌, ◌≤◌, Line, Statement, LocationCounter, Definition}
 use Rattle.ed_link.proofs.Kit.{after_statement, first_counter, cause_of, fault_from, LinesBefore, reach, data_after}
 use Rattle.ed_link.proofs.Kit.{entry_from, placed_from, first_past, punched_from, put_all, table_of, Built}
 use Rattle.std.proofs.lemmas.Grind.{common_steps}
@@ -8,10 +8,7 @@ use Rattle.std.proofs.lemmas.Grind.{common_steps}
 -- a base is not above its location
 pub base_under : (st : Option Statement) (s : LocationCounter) → s.base ≤ s.place
     → (after_statement st s).base ≤ (after_statement st s).place
-base_under None s h = h
-base_under (Some (Enter name)) s h = h
-base_under (Some (Rows codes)) s h = h
-base_under st s h = omega arith
+base_under st s h = grind arith
 
 -- a line without a fault needs locations below 1024
 pub reach_fits : (z : Size) (symbols : List Definition) (has_enter : Bool) (past : LinesBefore) (l : Line)

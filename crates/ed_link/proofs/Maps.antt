@@ -1,22 +1,19 @@
 -- The words in ascending order of location are the map of the words in the order of the lines.
 use Rattle.ed_link.proofs.Kit.{reverse, eq-eqb, ne_eqb, length-set, placed_at, [], ap, arith, Bool}
 use Rattle.ed_link.proofs.Kit.{false, get_or, if◌then◌else◌, length, List, nat_eq, None, Option, refl, set, Some, suc}
-use Rattle.ed_link.proofs.Kit.{sym, true, ℕ, ◌++◌, ◌+◌, ◌<◌, ◌∙◌, ◌∷◌, ◌≡◌, get_or-set_other, map, zero}
+use Rattle.ed_link.proofs.Kit.{sym, true, ℕ, ◌++◌, ◌+◌, ◌<◌, ◌∙◌, ◌∷◌, ◌≡◌, map, zero}
 use Rattle.ed_link.proofs.Kit.{is_some, empty_table, put_all, table_of, word_at, words_from, Placed}
 use Rattle.std.specs.List.{filter, range_with_len}
-use Rattle.std.proofs.lemmas.Bool.{eqb-false}
 use Rattle.std.proofs.lemmas.List.{get_or-replicate, append-nil}
 use Rattle.ed_link.proofs.Lengths.{empty_length, put_all_length}
 use Rattle.ed_link.proofs.Orders.{placed_more}
 use Rattle.ed_link.proofs.Kit.{rules}
-use Rattle.std.proofs.lemmas.Grind.{common_steps}
 
 -- one word is put
 one : {found : Option ℕ} (t : List (Option ℕ)) (p w a : ℕ) (b : Bool) → nat_eq p a ≡ b → a < length t
     → get_or t a None ≡ found
     → get_or (set t p (Some w)) a None ≡ (if b then Some w else found)
-one t p w a true e l h = grind (arith, common_steps)
-one t p w a false e l h = get_or-set_other t p a (Some w) None (λ q. eqb-false p a e (sym q)) ∙ h
+one t p w a b e l h = search rules
 
 -- words are put
 put_is : (ps m : List (ℕ × ℕ)) (t : List (Option ℕ)) (a : ℕ) → a < length t → get_or t a None ≡ placed_at m a

@@ -1,13 +1,13 @@
 -- The items of a line without a fault can be spelled.
 use Rattle.ed_link.proofs.Kit.{Size, AreSpellable, Item, [], arith, Bool, false, if◌then◌else◌, List, nat_eq, nat_le}
-use Rattle.ed_link.proofs.Kit.{nat_lt, None, Option, refl, Some, true, ℕ, ◌%◌, ◌*◌, ◌++◌, ◌-◌, ◌/◌, ◌<◌, ◌∷◌, ◌≡◌}
+use Rattle.ed_link.proofs.Kit.{nat_lt, None, Option, refl, Some, true, ℕ, ◌%◌, ◌*◌, ◌++◌, ◌/◌, ◌<◌, ◌∷◌, ◌≡◌}
 use Rattle.ed_link.proofs.Kit.{◌≤◌, flat_map, list_all, and_parts, leb-true, ltb-true, locations_most, row_kind, canonical}
 use Rattle.ed_link.proofs.Kit.{is_spellable, Operand, Setting, Statement, Enter, Fetch, Long, Number, Order, Text, map}
 use Rattle.ed_link.proofs.Kit.{◌^◌, nat_tests, catalogue, entry, is_ready, is_ready_row, find, table_item, TableRow}
 use Rattle.ed_link.proofs.Kit.{segment_at, LocationCounter, Definition, operand_number, parameter_letters}
 use Rattle.ed_link.proofs.Kit.{set_to, goes_by_theta, item_with, items_of, order_item, preset_items}
 use Rattle.ed_link.proofs.Kit.{routine_items, use_items, with_heading, word_item}
-use Rattle.ed_syntax.proofs.Kit.{pos, ℤ}
+use Rattle.ed_syntax.proofs.Kit.{ℤ}
 use Rattle.ed_notation.specs.Items.{ends}
 use Rattle.ed_syntax.proofs.Meaning.{IsStatement}
 use Rattle.ed_symbols.specs.Operands.{operand_value}
@@ -16,7 +16,6 @@ use Rattle.ed_link.specs.Punch.{ending}
 use Rattle.ed_link.proofs.Closed.{rows_are_ready}
 use Rattle.ed_link.proofs.Lines.{IsSound, IsUse}
 use Rattle.ed_link.proofs.Kit.{rules}
-use Rattle.std.proofs.lemmas.Grind.{common_steps}
 
 spelled : (f n e : ℕ) (mark : Bool) → f < 32 → n ≤ 32767
     → ends (row_kind e) (canonical (item_with f n mark e)).begun ≡ true
@@ -29,15 +28,13 @@ AreSpellable-joined (i ∷ is) js p q = (p.0, AreSpellable-joined is js p.1 q)
 
 headed_spelled : (is : List Item) (first : Bool) (base : ℕ) → base ≤ 32767 → AreSpellable is
     → AreSpellable (with_heading is first base)
-headed_spelled [] first base few are = tt
-headed_spelled (i ∷ is) first base few are = grind (arith, common_steps)
+headed_spelled is first base few are = grind arith
 
 -- ---- words
 
 ending_ends : (b : Bool) (f n : ℕ) (mark : Bool)
     → ends (row_kind (ending b)) (canonical (item_with f n mark (ending b))).begun ≡ true
-ending_ends true f n mark = refl
-ending_ends false f n mark = refl
+ending_ends b f n mark = grind arith
 
 word_spelled : (w : ℕ) → w < 2 ^ 17 → is_spellable (word_item w) ≡ true
 word_spelled w fits = search (rules, ending_ends)
@@ -50,30 +47,23 @@ text_spelled (c ∷ codes) h =
     let fits : c < 32 = ltb-true c 32 p.0 in
     (word_spelled (4096 * c) (omega (arith, fits)), text_spelled codes p.1)
 
-halves_spelled : (v : ℕ) → v < 2 ^ 35 → AreSpellable (map word_item (v % 2 ^ 17 ∷ v / 2 ^ 18 ∷ []))
-halves_spelled v fits = grind (arith, common_steps)
-
 long_spelled : (odd : Bool) (v : ℕ) → v < 2 ^ 35
     → AreSpellable (map word_item ((if odd then 0 ∷ [] else []) ++ v % 2 ^ 17 ∷ v / 2 ^ 18 ∷ []))
-long_spelled true v fits = (refl, halves_spelled v fits)
-long_spelled false v fits = halves_spelled v fits
+long_spelled odd v fits = search rules
 
 -- ---- orders and parameters
 
 -- the number of a value is one that an order holds
 number_few : (o : Option ℤ) → order_number o ≤ 32767
-number_few None = omega arith
-number_few (Some v) = search (rules, pos)
+number_few o = grind arith
 
 order_spelled : (theta : Bool) (base f n : ℕ) (long : Bool) → f < 32 → n ≤ 32767
     → is_spellable (order_item theta base f n long) ≡ true
-order_spelled true base f n long low few = spelled f (n - base) 18 long low (omega (arith, few)) refl
-order_spelled false base f n long low few = spelled f n (ending long) false low few (ending_ends long f n false)
+order_spelled theta base f n long low few = search rules
 
 preset_spelled : (symbols : List Definition) (o : Option Operand) (c : ℕ) → c ≤ 26
     → AreSpellable (preset_items symbols o c)
-preset_spelled symbols None c h = tt
-preset_spelled symbols (Some o) c h = search (rules, number_few)
+preset_spelled symbols o c h = grind arith
 
 presets_spelled : (symbols : List Definition) (ts : List Setting) (cs : List ℕ) → list_all (λ c. nat_le c 26) cs ≡ true
     → AreSpellable (flat_map (λ c. preset_items symbols (set_to ts c) c) cs)

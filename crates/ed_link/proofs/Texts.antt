@@ -8,6 +8,7 @@ use Rattle.ed_codes.specs.Text.{none, row, spacing}
 use Rattle.ed_codes.proofs.Pieces.{spells_append}
 use Rattle.ed_codes.proofs.Readings.{has_one_reading}
 use Rattle.ed_link.proofs.Kit.{rules}
+use Rattle.ed_link.proofs.Kit.{arith}
 
 -- a text that reads as rows, and one after it that spells rows
 pub both_read : (before after : List ℕ) (cs ds : List ℕ) → reading before ≡ rows cs → Spells after ds
@@ -18,8 +19,7 @@ both_read before after cs ds e s =
 
 -- if there are rows their text is a line
 pub some_text : (cs : List ℕ) → false ≡ (length cs == 0) → after_text cs ≡ line_from true cs
-some_text [] h = absurd cc
-some_text (c ∷ cs) h = refl
+some_text cs h = grind arith
 
 -- if there are no rows there is no text
 pub no_text : (cs : List ℕ) → true ≡ (length cs == 0) → Spells (after_text cs) cs

@@ -2,7 +2,7 @@
 use Rattle.ed_link.proofs.Kit.{reverse, Contains, cases_eq, eq-eqb, ne_eqb, reverse-append, same_Some, Size, least}
 use Rattle.ed_link.proofs.Kit.{placed_at, [], ap, append_assoc, arith, get_or, inl, inr, length, List, None, Option}
 use Rattle.ed_link.proofs.Kit.{refl, Some, subst, suc, sym, ℕ, ◌*◌, ◌++◌, ◌+◌, ◌<◌, ◌∙◌, ◌∷◌, ◌≡◌, ◌≤◌, ◌⊎◌, flat_map}
-use Rattle.ed_link.proofs.Kit.{locations, Line, Operand, Setting, Statement, Fetch, zero, find, LocationCounter}
+use Rattle.ed_link.proofs.Kit.{locations, Line, Operand, Setting, Statement, Fetch, zero, LocationCounter}
 use Rattle.ed_link.proofs.Kit.{Definition, counter_after, counter_from, IsLineAfter, after_statement, first_counter}
 use Rattle.ed_link.proofs.Kit.{HasNoFault, on_line, first_place, image, linked_words, operand_number}
 use Rattle.ed_link.proofs.Kit.{parameter_letters, placed_by_line, placed_from, placed_words, preset, presets, set_to}
@@ -126,14 +126,12 @@ module _ (symbols : List Definition) where
 module _ (symbols : List Definition) (s : LocationCounter) where
   routine_is : (ts : List Setting) (base : ℕ) (r : Option ℕ)
       → image symbols ts base r ≡ placed_words base (routine_words symbols ts base r)
-  routine_is ts base None = refl
-  routine_is ts base (Some r) = refl
+  routine_is ts base r = grind arith
 
   -- a line places the parameters that it sets, and then its own words
   placed_is : (st : Option Statement) → placed_by_line symbols s st
       ≡ presets symbols (settings_of st) ++ placed_words (first_place st s) (words_of_line symbols s st)
-  placed_is (Some (Fetch r n ts)) = ap (λ x. presets symbols ts.items ++ x) (routine_is ts.items _ (find r))
-  placed_is st = refl
+  placed_is st = grind (arith, routine_is)
 
 -- ---- the words of all lines
 
@@ -228,8 +226,7 @@ module _ (z : Size) (lines : List Line) (faultless : HasNoFault z lines) where
   whole : (before : List Line) (l : Line) (st : IsLineAfter lines before l) → linked_words lines
       ≡ placed_from symbols first_counter before ++ (placed_by_line symbols (counter_after before) l.statement
       ++ placed_from symbols (after_statement l.statement (counter_after before)) st.after)
-  whole before l st =
-      ap (λ x. placed_from symbols first_counter x) st.lines_are ∙ placed_append symbols first_counter before _
+  whole before l st = search (rules, placed_append)
 
   -- a line after another one
   after_line : (before b after : List Line) (l m : Line) (st : IsLineAfter lines before l) → st.after ≡ b ++ m ∷ after

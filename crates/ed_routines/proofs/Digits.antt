@@ -18,7 +18,7 @@ abbrev pub tens : ℕ → List ℕ
 tens n = n / 10000 ∷ n / 1000 % 10 ∷ n / 100 % 10 ∷ n / 10 % 10 ∷ []
 
 positive : (q : ℕ) (ds : List ℕ) → 0 < q → without_zeros (q ∷ ds) ≡ q ∷ ds
-positive x0 ds l = grind arith
+positive q ds l = grind arith
 
 -- a digit after the others
 one_more : (n m d : ℕ) → 10 ≤ n → n < 65536 → n / 10 ≡ m → n % 10 ≡ d → decimal n ≡ decimal m ++ (48 + d) ∷ []

@@ -67,7 +67,7 @@ letter_of : (takes c : ℕ)
 letter_of takes c e = search rules
 
 digit_low : (d : Bool) → digit d ≤ 1
-digit_low x0 = grind arith
+digit_low d = grind arith
 
 -- the parameters that make H, N, M and so on these locations
 pub data Makes : List ℕ → List ℕ → Type 0 where
@@ -103,7 +103,7 @@ module _ {parameters hs : List ℕ} {b : ℕ} (low : b ≤ 1024) (makes : Makes 
     here_meets : (t : Bool) (row : TableRow) (x : ℕ) → is_plain takes row ≡ true
         → (t ≡ false → x ≡ routine_word parameters b (table_item row))
         → Meets (if t then None else Some (row_word b hs row)) x
-    here_meets x0 row x plain e = grind (arith, row_word_is)
+    here_meets t row x plain e = grind (arith, row_word_is)
 
     -- a store with the library's words at a base, except at the working locations, holds the image
     pub holds_rows : (rows : List TableRow) (ws : List ℕ) → all_plain takes rows ≡ true
@@ -118,7 +118,7 @@ module _ {parameters hs : List ℕ} {b : ℕ} (low : b ≤ 1024) (makes : Makes 
         (here_meets (list_any (λ p. p == j) working) (get_or rows j no_row) _ is_row (words j inside))
 
 here_working : (t : Bool) (w : ℕ) → ◌≡◌ {A = Option ℕ} (if t then None else Some w) None → t ≡ true
-here_working x0 w e = grind arith
+here_working t w e = grind arith
 
 -- the image leaves out words at working locations only
 pub working_at : (rows : List TableRow) (working : List ℕ) (b : ℕ) (hs : List ℕ) (i j : ℕ) → j < length rows

@@ -202,4 +202,4 @@ no_working {r} {w} j free = search rules
 
 -- a location of another routine
 pub elsewhere : {r w : ℕ} (q : ℕ) → (q < w) ⊎ (w + place_count r ≤ q) → IsOther r w q
-elsewhere q x1 = grind arith
+elsewhere q given = grind arith
