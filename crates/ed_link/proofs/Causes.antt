@@ -1,6 +1,5 @@
 -- The test of the extents before a line, and the cause that two tests give, or leave to the tests after them.
-use Rattle.ed_link.proofs.Kit.{Bool, if◌then◌else◌, List, None, Option, Some, ◌∙◌, ◌≡◌, list_any}
-use Rattle.ed_link.proofs.Kit.{overlaps, Extent}
+use Rattle.ed_link.proofs.Kit.{Bool, if◌then◌else◌, List, None, Option, Some, ◌∙◌, ◌≡◌, list_any, overlaps, Extent}
 use Rattle.ed_link.proofs.Kit.{arith}
 
 -- the test of the extents before a line, by the extent and the list that the code has

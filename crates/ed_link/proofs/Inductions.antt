@@ -50,12 +50,7 @@ pub faultless : (z : Size) (symbols : List Definition) (has_enter : Bool) (past 
     (s : LocationCounter)
     → cause_of z symbols has_enter past l s ≡ None
     → IsFaultless z symbols has_enter past l s
-faultless z symbols has_enter past l s h =
-    let a9 = none_of _ _ _ h in let a10 = none_of _ _ _ a9.1 in let a11 = none_of _ _ _ a10.1
-    in let a12 = none_of _ _ _ a11.1 in
-    let a13 = none_of _ _ _ a12.1 in let a14 = none_of _ _ _ a13.1 in let a15 = none_of _ _ _ a14.1
-    in let a16 = none_of _ _ _ a15.1 in
-    record { clear = (a10.0, a11.0, a12.0); routine = a14.0; settings = a15.0; misplaced = a16.0 }
+faultless z symbols has_enter past l s h = search (rules, none_of)
 
 -- locations without a fault
 fits : (z : Size) (a b : ℕ) → a < b → IsClear z (extent a b) → (56 ≤ a) × (b ≤ locations z)

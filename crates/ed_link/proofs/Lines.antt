@@ -12,6 +12,7 @@ use Rattle.ed_link.proofs.Orders.{AreSpellable-split, laid_pass, order_pass, hea
 use Rattle.ed_link.proofs.Passes.{Passes, stays, Passes-join, at}
 use Rattle.ed_link.proofs.Uses.{AreKnown, all, holds, image_pass, reversed}
 use Rattle.ed_link.proofs.Kit.{rules}
+use Rattle.std.proofs.lemmas.Grind.{common_steps}
 
 -- no location is before itself
 pub lt_same : (a : ℕ) → nat_lt a a ≡ false
@@ -134,9 +135,7 @@ module _ {z : Size} {words : List ℕ} {theta : ℕ} {s : LocationCounter} {nota
       in_segment _ (w ∷ []) (omega arith) (omega arith) is.1
       (order_pass symbols s f o long (omega (arith, is.0)) (omega (arith, is.1)))
   line (Some (Number w)) is are = numbered (w ∷ []) are (omega arith) is.0 is.1
-  line (Some (Text codes)) is are =
-      let l = length-map codes.items (λ c. 4096 * c) in
-      rw (← l) (numbered _ are (omega (arith, l, is.0)) is.1 (omega (arith, l, is.2)))
+  line (Some (Text codes)) is are = grind (arith, common_steps, numbered)
   line (Some (Long v)) is are =
       let e = long_spot s v in
       let p : s.place + length (long_words s.place v) ≡ even_from s.place + 2 =

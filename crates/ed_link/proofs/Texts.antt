@@ -7,8 +7,7 @@ use Rattle.ed_codes.specs.Spelling.{row_of}
 use Rattle.ed_codes.specs.Text.{none, row, spacing}
 use Rattle.ed_codes.proofs.Pieces.{spells_append}
 use Rattle.ed_codes.proofs.Readings.{has_one_reading}
-use Rattle.ed_link.proofs.Kit.{rules}
-use Rattle.ed_link.proofs.Kit.{arith}
+use Rattle.ed_link.proofs.Kit.{rules, arith}
 
 -- a text that reads as rows, and one after it that spells rows
 pub both_read : (before after : List ℕ) (cs ds : List ℕ) → reading before ≡ rows cs → Spells after ds

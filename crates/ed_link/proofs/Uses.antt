@@ -15,6 +15,7 @@ use Rattle.ed_library.proofs.Letters.{value_of_parameter}
 use Rattle.ed_link.specs.Linked.{parameter}
 use Rattle.ed_link.proofs.Orders.{AreSpellable-split, placed_more}
 use Rattle.ed_link.proofs.Passes.{Passes, stays, goes, Passes-join, at}
+use Rattle.ed_link.proofs.Kit.{rules}
 
 -- a fact of `count` numbers, from n onwards
 abbrev Each : (ℕ → Type 0) → ℕ → ℕ → Type 0
@@ -31,10 +32,6 @@ each_at P (suc count) n c p l h = elim (cases_eq c n) [
 -- a fact of each letter of a parameter
 six : (P : ℕ → Type 0) → Each P 6 21 → (c : ℕ) → 21 ≤ c → c ≤ 26 → P c
 six P p c l h = each_at P 6 21 c p l (omega arith)
-
--- the letter of a parameter is a code letter
-pub letter_kind : (c : ℕ) → 21 ≤ c → c ≤ 26 → row_kind c ≡ Letter
-letter_kind c l h = grind (arith, nat_tests)
 
 -- the number of an item that can be spelled
 spelled_number : (i : Item) → is_spellable i ≡ true → i.number ≤ 32767
@@ -167,10 +164,7 @@ AreKnown ts [] = Unit {0}
 AreKnown ts (row ∷ rows) = IsKnown ts row.end × AreKnown ts rows
 
 kind_of : (ts : List Setting) (c : ℕ) → IsKnown ts c → row_kind c ≡ Letter
-kind_of ts c (inl e) = rw e refl
-kind_of ts c (inr (inl e)) = rw e refl
-kind_of ts c (inr (inr (inl e))) = rw e refl
-kind_of ts c (inr (inr (inr k))) = letter_kind c k.low k.high
+kind_of ts c known = grind arith
 
 -- the word of a letter's parameter
 parameter_is : (symbols : List Definition) (ts : List Setting) (c : ℕ) → 21 ≤ c → c ≤ 26
@@ -181,21 +175,14 @@ parameter_is symbols ts c l h =
 
 -- the value of a letter of a parameter is the content of its location
 content : (contents : List ℕ) (theta c : ℕ) → 21 ≤ c → value_of contents theta c ≡ get_or contents (24 + c) 0
-content contents theta c l =
-    rw (ne_eqb c 17 (omega arith), ne_eqb c 18 (omega arith), ne_eqb c 19 (omega arith)) refl
+content contents theta c l = search (rules, ne_eqb)
 
 -- a code letter of a routine has the same value over the store with the parameters of this use
 value_is : {words : List ℕ} {symbols : List Definition} {ts : List Setting} {placed : List (ℕ × ℕ)} (base c : ℕ)
     → IsKnown ts c
     → HoldsAll words symbols ts placed
     → value_of (over placed words) (2 * base) c ≡ value_of (parameter_store (parameters symbols ts)) (2 * base) c
-value_is base c (inl e) h = rw e refl
-value_is base c (inr (inl e)) h = rw e refl
-value_is base c (inr (inr (inl e))) h = rw e refl
-value_is {words} {symbols} {ts} {placed} base c (inr (inr (inr k))) h =
-    content _ (2 * base) c k.low ∙ h.held c k.low k.high k.operand k.is_set
-    ∙ sym (value_of_parameter _ (2 * base) c k.low ∙ parameter_is symbols ts c k.low k.high
-    ∙ ap (λ (x : Option Operand). parameter symbols x) k.is_set)
+value_is base c known h = grind (arith, content, value_of_parameter, parameter_is)
 
 -- a routine's items
 pub image_pass : {z : Size} {words : List ℕ} {symbols : List Definition} {ts : List Setting} {placed : List (ℕ × ℕ)}

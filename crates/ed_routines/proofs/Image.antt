@@ -2,7 +2,7 @@
 -- words at its working locations.
 use Rattle.ed_routines.proofs.Kit.{◌==◌, list_any, Holds, [], ap, arith, Bool, false, get_or, length, List, nat_lt}
 use Rattle.ed_routines.proofs.Kit.{Option, refl, rules, Some, suc, sym, true, zero, ℕ, ◌*◌, ◌+◌, ◌-◌, ◌<◌, ◌∙◌, ◌∷◌}
-use Rattle.ed_routines.proofs.Kit.{◌≡◌, ◌≤◌, if◌then◌else◌, lit≤}
+use Rattle.ed_routines.proofs.Kit.{◌≡◌, ◌≤◌, if◌then◌else◌}
 use Rattle.ed_notation.proofs.Kit.{nat_eq, nat_le, None, ◌&&◌, and_parts, le-leb, leb-true, digit}
 use Rattle.std.proofs.Common.{◌||◌}
 use Rattle.std.proofs.lemmas.Bool.{ne_eqb}
