@@ -1,13 +1,13 @@
 -- The tape of an accepted source reaches its linked program.
-use Rattle.ed_link.proofs.Kit.{nat_tests, rules, reverse, E_F, Size, AreSpellable, Item, [], ap, append_assoc, arith}
-use Rattle.ed_link.proofs.Kit.{Bool, false, if◌then◌else◌, inl, length, List, None, Option, refl, Some, subst, sym}
-use Rattle.ed_link.proofs.Kit.{true, unwrap_or, ℕ, ◌*◌, ◌++◌, ◌+◌, ◌<◌, ◌∙◌, ◌∷◌, ◌≡◌, ◌≤◌, list_all, and_parts}
+use Rattle.ed_link.proofs.Kit.{nat_tests, rules, reverse, E_F, Size, AreSpellable, Item, [], append_assoc, arith}
+use Rattle.ed_link.proofs.Kit.{Bool, false, if◌then◌else◌, inl, length, List, None, Option, refl, Some}
+use Rattle.ed_link.proofs.Kit.{true, unwrap_or, ℕ, ◌*◌, ◌++◌, ◌+◌, ◌<◌, ◌∷◌, ◌≡◌, ◌≤◌, list_all, and_parts}
 use Rattle.ed_link.proofs.Kit.{leb-true, locations, locations_most, NotationState, SourceCause, SourceFault, Setting}
 use Rattle.ed_link.proofs.Kit.{Statement, Enter, Fetch, Text, is_line, catalogue, is_ready, find, place_on}
 use Rattle.ed_link.proofs.Kit.{LocationCounter, Definition, is_none, not, or_later, after_statement, any_enter}
 use Rattle.ed_link.proofs.Kit.{cause_of, extent, extent_at, fault_from, has_no_routine, is_enter, is_misplaced}
 use Rattle.ed_link.proofs.Kit.{LinesBefore, overlaps, past_of, reach, sets, sets_otherwise, entered_place, entry_from}
-use Rattle.ed_link.proofs.Kit.{placed_by_line, placed_from, theta_from, item_with, items_of, punched_from, Extent}
+use Rattle.ed_link.proofs.Kit.{placed_from, theta_from, item_with, items_of, punched_from, Extent}
 use Rattle.std.proofs.lemmas.Bool.{not-false, or_parts}
 use Rattle.ed_notation.proofs.Steps.{Enters, aiming_entry, entering_at}
 use Rattle.ed_syntax.specs.Programs.{is_statement}
@@ -161,18 +161,17 @@ module _ {z : Size} {words : List ℕ} {symbols : List Definition} {has_enter : 
       (λ x e. (two, statement_fact two x (formed_statement two l.number l.label st formed x e))) sound ready.base in
       let a = line {z = z} {words = words} ready whole symbols st sound are in
       let r = more a.last _ a.ready in
-      let q = sym (entry_later symbols st _ e) in
+      let q = entry_later symbols st (entry_from symbols lines) e in
       record {
         before = is ++ r.before;
-        items = ap (λ x. is ++ x) r.items ∙ sym (append_assoc is r.before _);
+        items = rw (r.items, append_assoc) refl;
         spelled = AreSpellable-joined is r.before are r.spelled;
         last = r.last;
         passes = Passes-join a.passes r.passes;
-        enters = subst (λ p. Enters z words r.last p) q r.enters;
-        directive = rw (← q) r.directive;
+        enters = rw q r.enters;
+        directive = rw q r.directive;
         theta_is = r.theta_is;
-        placed = r.placed ∙ ap (λ m. reverse (placed_from symbols (after_statement st s) lines) ++ m) a.placed
-            ∙ reversed (placed_by_line symbols s st) (placed_from symbols (after_statement st s) lines) notation.placed;
+        placed = rw (r.placed, a.placed, reversed) refl;
       }
 
   -- the `enter` line

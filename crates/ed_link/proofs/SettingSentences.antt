@@ -16,7 +16,7 @@ set_in : (ts : List Setting) (c : ℕ) → is_some (set_to ts c) ≡ true → Co
 set_in ts c h = search (rules, Any-from_list_any, set_any, eqb-true)
 
 in_set : (ts : List Setting) (c : ℕ) → Contains (map letter_set ts) c → is_some (set_to ts c) ≡ true
-in_set ts c h = set_any ts c ∙ list_any-from_Any (λ x. nat_eq x c) _ (h.0, c, h.1, h.2, eq-eqb c c refl)
+in_set ts c h = search (rules, set_any, list_any-from_Any, eq-eqb)
 
 all_by : (p : ℕ → Bool) (cs : List ℕ) → ((c : ℕ) → Contains cs c → p c ≡ true) → list_all p cs ≡ true
 all_by p [] h = refl

@@ -1,18 +1,15 @@
 -- The items of a line without a fault can be spelled.
-use Rattle.ed_link.proofs.Kit.{Size, AreSpellable, Item, [], arith, Bool, false, if◌then◌else◌, List, nat_eq, nat_le}
-use Rattle.ed_link.proofs.Kit.{nat_lt, None, Option, refl, Some, true, ℕ, ◌%◌, ◌*◌, ◌++◌, ◌/◌, ◌<◌, ◌∷◌, ◌≡◌}
-use Rattle.ed_link.proofs.Kit.{◌≤◌, flat_map, list_all, and_parts, leb-true, ltb-true, locations_most, row_kind, canonical}
-use Rattle.ed_link.proofs.Kit.{is_spellable, Operand, Setting, Statement, Enter, Fetch, Long, Number, Order, Text, map}
-use Rattle.ed_link.proofs.Kit.{◌^◌, nat_tests, catalogue, entry, is_ready, is_ready_row, find, table_item, TableRow}
-use Rattle.ed_link.proofs.Kit.{segment_at, LocationCounter, Definition, operand_number, parameter_letters}
-use Rattle.ed_link.proofs.Kit.{set_to, goes_by_theta, item_with, items_of, order_item, preset_items}
-use Rattle.ed_link.proofs.Kit.{routine_items, use_items, with_heading, word_item}
+use Rattle.ed_link.proofs.Kit.{Size, AreSpellable, Item, [], arith, Bool, false, if◌then◌else◌, List, nat_le, nat_lt}
+use Rattle.ed_link.proofs.Kit.{None, Option, refl, Some, true, ℕ, ◌%◌, ◌*◌, ◌++◌, ◌/◌, ◌<◌, ◌∷◌, ◌≡◌, ◌≤◌, flat_map}
+use Rattle.ed_link.proofs.Kit.{list_all, and_parts, leb-true, ltb-true, locations_most, row_kind, canonical}
+use Rattle.ed_link.proofs.Kit.{is_spellable, Operand, Setting, Statement, Enter, Fetch, Long, Number, Order, Text}
+use Rattle.ed_link.proofs.Kit.{map, ◌^◌, nat_tests, catalogue, entry, is_ready, is_ready_row, find, table_item}
+use Rattle.ed_link.proofs.Kit.{TableRow, LocationCounter, Definition, parameter_letters, set_to, item_with, items_of}
+use Rattle.ed_link.proofs.Kit.{order_item, preset_items, routine_items, use_items, with_heading, word_item}
 use Rattle.ed_syntax.proofs.Kit.{ℤ}
 use Rattle.ed_notation.specs.Items.{ends}
 use Rattle.ed_syntax.proofs.Meaning.{IsStatement}
-use Rattle.ed_symbols.specs.Operands.{operand_value}
 use Rattle.ed_link.specs.Linked.{order_number}
-use Rattle.ed_link.specs.Punch.{ending}
 use Rattle.ed_link.proofs.Closed.{rows_are_ready}
 use Rattle.ed_link.proofs.Lines.{IsSound, IsUse}
 use Rattle.ed_link.proofs.Kit.{rules}
@@ -32,20 +29,13 @@ headed_spelled is first base few are = grind arith
 
 -- ---- words
 
-ending_ends : (b : Bool) (f n : ℕ) (mark : Bool)
-    → ends (row_kind (ending b)) (canonical (item_with f n mark (ending b))).begun ≡ true
-ending_ends b f n mark = grind arith
-
 word_spelled : (w : ℕ) → w < 2 ^ 17 → is_spellable (word_item w) ≡ true
-word_spelled w fits = search (rules, ending_ends)
+word_spelled w fits = grind (arith, nat_tests)
 
 text_spelled : (codes : List ℕ) → list_all (λ c. nat_lt c 32) codes ≡ true
     → AreSpellable (map word_item (map (λ c. 4096 * c) codes))
 text_spelled [] h = tt
-text_spelled (c ∷ codes) h =
-    let p = and_parts _ _ h in
-    let fits : c < 32 = ltb-true c 32 p.0 in
-    (word_spelled (4096 * c) (omega (arith, fits)), text_spelled codes p.1)
+text_spelled (c ∷ codes) h = search (rules, ltb-true, word_spelled, text_spelled codes)
 
 long_spelled : (odd : Bool) (v : ℕ) → v < 2 ^ 35
     → AreSpellable (map word_item ((if odd then 0 ∷ [] else []) ++ v % 2 ^ 17 ∷ v / 2 ^ 18 ∷ []))
@@ -69,17 +59,14 @@ presets_spelled : (symbols : List Definition) (ts : List Setting) (cs : List ℕ
     → AreSpellable (flat_map (λ c. preset_items symbols (set_to ts c) c) cs)
 presets_spelled symbols ts [] h = tt
 presets_spelled symbols ts (c ∷ cs) h =
-    let p = and_parts _ _ h in
-    AreSpellable-joined _ _ (preset_spelled symbols _ c (leb-true c 26 p.0)) (presets_spelled symbols ts cs p.1)
+    search (rules, AreSpellable-joined, preset_spelled, leb-true, presets_spelled symbols ts cs)
 
 -- ---- routines
 
 rows_spelled : (own : List ℕ) (rows : List TableRow) → list_all (is_ready_row own) rows ≡ true
     → AreSpellable (map table_item rows)
 rows_spelled own [] h = tt
-rows_spelled own (row ∷ rows) h =
-    let p = and_parts _ _ h in
-    ((and_parts _ _ p.0).0, rows_spelled own rows p.1)
+rows_spelled own (row ∷ rows) h = search (rules, and_parts, rows_spelled own rows)
 
 routine_spelled : list_all is_ready catalogue ≡ true
     → (z : Size) (ts : List Setting) (base : ℕ) (text : List ℕ) (found : Option ℕ) → find text ≡ found
@@ -108,26 +95,19 @@ line_spelled tables z symbols s (Some (Fetch routine name ts)) formed sound base
 line_spelled tables z symbols s (Some (Order f o long)) formed sound base =
     let fact = (formed (Order f o long) refl).1 in
     let m = locations_most z in
-    headed_spelled (order_item (goes_by_theta symbols s o) s.base f (operand_number symbols (segment_at s) o) long ∷ [])
-    (nat_eq s.place s.base)
-    s.base (omega (arith, m, base, sound.1)) (
-      order_spelled (goes_by_theta symbols s o) s.base f (operand_number symbols (segment_at s) o) long fact.0
-          (number_few (operand_value symbols (segment_at s) o)),
-      tt,
-    )
+    search (rules, headed_spelled, order_spelled, number_few)
 line_spelled tables z symbols s (Some (Number w)) formed sound base =
     let fact = (formed (Number w) refl).1 in
     let m = locations_most z in
-    headed_spelled (word_item w ∷ []) (nat_eq s.place s.base) s.base (omega (arith, m, base, sound.1))
-    (word_spelled w fact, tt)
+    search (rules, headed_spelled, word_spelled)
 line_spelled tables z symbols s (Some (Text codes)) formed sound base =
     let fact = (formed (Text codes) refl).1 in
     let m = locations_most z in
-    headed_spelled _ _ s.base (omega (arith, m, base, sound.2)) (text_spelled codes.items fact.1)
+    search (rules, headed_spelled, text_spelled)
 line_spelled tables z symbols s (Some (Long v)) formed sound base =
     let fact = (formed (Long v) refl).1 in
     let m = locations_most z in
-    headed_spelled _ _ s.base (omega (arith, m, base, sound.1)) (long_spelled _ v fact.1)
+    search (rules, headed_spelled, long_spelled)
 line_spelled tables z symbols s st formed sound base = tt
 
 -- the item that aims an `enter`
