@@ -83,7 +83,8 @@ module _ (tables : list_all is_ready catalogue ≡ true) (z : Size) where
       → IsFaultless z symbols has_enter past (record { number = n; label = label; statement = st }) s
       → is_enter st ≡ false
       → IsSound z s st
-  sound_line two (Some (Fetch routine name ts)) formed f e = is_use routine ts.items _ _ refl f.routine f.settings f.clear
+  sound_line two (Some (Fetch routine name ts)) formed f e =
+      is_use routine ts.items _ _ refl f.routine f.settings f.clear
   sound_line two (Some (Text codes)) formed f e = search (rules, some_rows)
   sound_line two st formed f e = search rules
 

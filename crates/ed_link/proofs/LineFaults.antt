@@ -25,6 +25,8 @@ pub cause_is_name : (z : Size) (lines before : List Line) (l : Line) (c : Source
     → LineHasCause z lines before l c → number_of c ≤ 8 → LineHasNameFault lines before l c
 cause_is_name z lines before l c h low = grind arith
 
+ruleset sentences = (rules, Ties-s9, s10_s11, Ties-s12, Ties-s13, Ties-s14, Ties-s15, Ties-s16, Ties-s17)
+
 module _ (z : Size) (lines before : List Line) (l : Line) where
   -- the faults of meaning that are not faults of names
   abbrev pub OfMeaning : SourceCause → Type 0
@@ -51,5 +53,5 @@ module _ (z : Size) (lines before : List Line) (l : Line) where
       ∷ (sets_otherwise l.statement, causes.Parameters)
       ∷ (is_misplaced (any_enter before) (any_enter lines) l, causes.Enter)
       ∷ (has_sandwich l.statement, causes.SandwichDigit) ∷ [])
-      (search (rules, over, Ties-s9, s10_s11, Ties-s12, Ties-s13, Ties-s14, Ties-s15, Ties-s16, Ties-s17, number_of-most))
+      (search (sentences, over, number_of-most))
       (λ c h. h.1)

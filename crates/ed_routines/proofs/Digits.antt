@@ -27,7 +27,7 @@ one_more n m d some small e f = decimal_step n some (omega (arith, small)) ∙ (
 pub digits_law : DigitsLaw
 digits_law n small =
     record {
-      value_is = value_without (tens n) (n % 10) ∙ (let e : digits_value (tens n ++ n % 10 ∷ []) ≡ n = omega arith in e);
+      value_is = let all : digits_value (tens n ++ n % 10 ∷ []) ≡ n = omega arith in value_without (tens n) _ ∙ all;
       written = by_length;
     }
   where

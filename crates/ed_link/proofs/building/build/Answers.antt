@@ -1,5 +1,5 @@
-use Rattle.ed_link.proofs.Kit.{append_assoc, ap, arith, drop, is_some, length-append, Line, refl, sym, ◌+◌, ◌∙◌, ◌∷◌, ◌≡◌}
-use Rattle.ed_link.proofs.Kit.{drop_more}
+use Rattle.ed_link.proofs.Kit.{append_assoc, ap, arith, drop, is_some, length-append, Line, refl, sym, ◌+◌, ◌∙◌, ◌∷◌}
+use Rattle.ed_link.proofs.Kit.{◌≡◌, drop_more}
 use Rattle.ed_link.proofs.Bounds.{items_few}
 use Rattle.ed_link.proofs.Lengths.{empty_length, put_all_append, put_all_length}
 use Rattle.ed_link.proofs.LineLoop.{base_under, reach_fits}
