@@ -20,6 +20,7 @@ use Rattle.ed_link.proofs.Lines.{IsReady, IsUse, IsSound, line, lt_same}
 use Rattle.ed_link.proofs.Passes.{Passes, stays, goes, Passes-join}
 use Rattle.ed_link.proofs.Spelled.{aiming_spelled, AreSpellable-joined, line_spelled}
 use Rattle.ed_link.proofs.Uses.{reversed}
+use Rattle.ed_link.proofs.Kit.{Order, Number, Long}
 
 -- what the absence of a fault says of a line
 
@@ -50,7 +51,12 @@ pub faultless : (z : Size) (symbols : List Definition) (has_enter : Bool) (past 
     (s : LocationCounter)
     → cause_of z symbols has_enter past l s ≡ None
     → IsFaultless z symbols has_enter past l s
-faultless z symbols has_enter past l s h = search (rules, none_of)
+faultless z symbols has_enter past l s h =
+    let a9 = none_of _ _ _ h in let a10 = none_of _ _ _ a9.1 in let a11 = none_of _ _ _ a10.1
+    in let a12 = none_of _ _ _ a11.1 in
+    let a13 = none_of _ _ _ a12.1 in let a14 = none_of _ _ _ a13.1 in let a15 = none_of _ _ _ a14.1
+    in let a16 = none_of _ _ _ a15.1 in
+    record { clear = (a10.0, a11.0, a12.0); routine = a14.0; settings = a15.0; misplaced = a16.0 }
 
 -- locations without a fault
 fits : (z : Size) (a b : ℕ) → a < b → IsClear z (extent a b) → (56 ≤ a) × (b ≤ locations z)
@@ -74,7 +80,10 @@ module _ (tables : list_all is_ready catalogue ≡ true) (z : Size) where
       → is_none found ≡ false → not (sets ts found) ≡ false → IsClear z (extent base (base + places_of found))
       → IsUse z ts base found
   is_use text ts base None e n s clear = cc
-  is_use text ts base (Some r) e n s clear = search (rules, some_items, are_known, not-false)
+  is_use text ts base (Some r) e n s clear =
+      let some = some_items tables text r e in
+      let f = fits z base _ (omega (arith, some)) clear in
+      (some, f.0, f.1, are_known ts tables text r e (not-false _ s))
 
   -- so has every line without a fault that is not an `enter`
   sound_line : {symbols : List Definition} {has_enter : Bool} {past : LinesBefore} {n : ℕ} {label : Option (List ℕ)}
@@ -83,10 +92,17 @@ module _ (tables : list_all is_ready catalogue ≡ true) (z : Size) where
       → IsFaultless z symbols has_enter past (record { number = n; label = label; statement = st }) s
       → is_enter st ≡ false
       → IsSound z s st
-  sound_line two (Some (Fetch routine name ts)) formed f e =
+  sound_line {s = s} two (Some (Order g o long)) formed f e = fits z s.place (s.place + 1) (omega arith) f.clear
+  sound_line {s = s} two (Some (Number w)) formed f e = fits z s.place (s.place + 1) (omega arith) f.clear
+  sound_line {n = n} {label = label} {s = s} two (Some (Text codes)) formed f e =
+      let some = some_rows two label n codes formed in
+      let g = fits z s.place _ (omega (arith, some)) f.clear in
+      (some, g.0, g.1)
+  sound_line {s = s} two (Some (Long v)) formed f e = fits z s.place _ (omega arith) f.clear
+  sound_line {s = s} two (Some (Fetch routine name ts)) formed f e =
       is_use routine ts.items _ _ refl f.routine f.settings f.clear
-  sound_line two (Some (Text codes)) formed f e = search (rules, some_rows)
-  sound_line two st formed f e = search rules
+  sound_line two (Some (Enter name)) formed f e = cc
+  sound_line two st formed f e = tt
 
 -- after the `enter` line
 
