@@ -1,7 +1,7 @@
 -- The tape of an accepted source, row by row.
 use Rattle.ed_link.proofs.Kit.{reverse, sum_by, E_F, Size, AreSpellable, Item, all_rows_are, [], ap, append_assoc}
-use Rattle.ed_link.proofs.Kit.{arith, Bool, false, if◌then◌else◌, length, length-append, List, nat_le, None, Option}
-use Rattle.ed_link.proofs.Kit.{refl, Some, subst, sym, true, ℕ, ◌*◌, ◌++◌, ◌+◌, ◌∙◌, ◌∷◌, ◌≡◌, list_all, cost_of}
+use Rattle.ed_link.proofs.Kit.{arith, Bool, false, length, length-append, List, None, Option}
+use Rattle.ed_link.proofs.Kit.{refl, subst, sym, true, ℕ, ◌*◌, ◌++◌, ◌+◌, ◌∙◌, ◌∷◌, ◌≡◌, list_all, cost_of}
 use Rattle.ed_link.proofs.Kit.{is_entry, item_word, NotationState, canonical, canonicals, SourceFault, Line, is_line}
 use Rattle.ed_link.proofs.Kit.{catalogue, is_ready, first_counter, any_enter, earlier_fault, fault, missing}
 use Rattle.ed_link.proofs.Kit.{data_after, linked_words, symbols_of, theta_from, item_with, punched_items, item_cost}
@@ -14,29 +14,21 @@ use Rattle.ed_notation.specs.Openings.{opening}
 use Rattle.ed_notation.proofs.Canonical.{is_written}
 use Rattle.ed_notation.proofs.Cuts.{spelled-append, canonicals-append}
 use Rattle.ed_notation.proofs.Sound.{sound_well}
-use Rattle.ed_link.specs.FaultTests.{fault_line}
 use Rattle.ed_link.specs.Linked.{entry_of}
 use Rattle.ed_link.specs.Tapes.{punched_rows, tape, arrival}
 use Rattle.ed_link.proofs.Costs.{entry_cost_is}
 use Rattle.ed_link.proofs.Inductions.{AreFaultless, Ends, ends}
 use Rattle.ed_link.proofs.Passes.{Reads-taken}
 use Rattle.ed_link.proofs.Spelled.{AreSpellable-joined}
+use Rattle.ed_link.proofs.Kit.{rules}
 
 -- neither of two is a fault
 none_of : (a b : Option SourceFault) → earlier_fault a b ≡ None → (a ≡ None) × (b ≡ None)
-none_of None b h = (refl, h)
-none_of (Some a) None h = cc
-none_of (Some a) (Some b) h = by_test (nat_le (fault_line a) (fault_line b)) h
-  where
-    by_test : (t : Bool) → ◌≡◌ {A = Option SourceFault} (if t then Some a else Some b) None
-        → (◌≡◌ {A = Option SourceFault} (Some a) None) × (◌≡◌ {A = Option SourceFault} (Some b) None)
-    by_test true h = cc
-    by_test false h = cc
+none_of a b h = grind arith
 
 -- there is an `enter`
 there_is : (has_enter : Bool) (n : ℕ) → missing has_enter n ≡ None → has_enter ≡ true
-there_is true n h = refl
-there_is false n h = cc
+there_is has_enter n h = grind arith
 
 abbrev last_item : Item
 last_item = item_with 0 0 false 17
@@ -112,6 +104,4 @@ module _ (tables : list_all is_ready catalogue ≡ true) (z : Size) (two : Bool)
 
   -- the items of its tape can be spelled
   pub can_be_spelled : AreSpellable (punched_items lines)
-  can_be_spelled =
-      subst AreSpellable (sym an_end.items) (AreSpellable-joined an_end.before (last_item ∷ [])
-      an_end.spelled (refl, tt))
+  can_be_spelled = search (rules, an_end, AreSpellable-joined)

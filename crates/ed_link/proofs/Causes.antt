@@ -1,6 +1,6 @@
 -- The test of the extents before a line, and the cause that two tests give, or leave to the tests after them.
-use Rattle.ed_link.proofs.Kit.{Bool, false, if◌then◌else◌, List, None, Option, Some, true, ◌∙◌, ◌≡◌, list_any}
-use Rattle.ed_link.proofs.Kit.{overlaps, Extent}
+use Rattle.ed_link.proofs.Kit.{Bool, if◌then◌else◌, List, None, Option, Some, ◌∙◌, ◌≡◌, list_any, overlaps, Extent}
+use Rattle.ed_link.proofs.Kit.{arith}
 
 -- the test of the extents before a line, by the extent and the list that the code has
 pub among : {t : Bool} {a b : Extent} {xs ys : List Extent} → t ≡ list_any (λ o. overlaps a o) xs → a ≡ b → xs ≡ ys
@@ -11,14 +11,10 @@ among h e f = h ∙ (λ i. list_any (λ o. overlaps (e i) o) (f i))
 pub used : {A : Type 0} (t u : Bool) (a b x : A) (y : Option A)
     → ◌≡◌ {A = Option A} (Some x) (if t then Some a else if u then Some b else None)
     → ◌≡◌ {A = Option A} (Some x) (if t then Some a else if u then Some b else y)
-used true u a b x y e = e
-used false true a b x y e = e
-used false false a b x y e = absurd cc
+used t u a b x y e = grind arith
 
 -- no test gives a cause
 pub unused : {A : Type 0} (t u : Bool) (a b : A) (y : Option A) {z : Option A}
     → ◌≡◌ {A = Option A} None (if t then Some a else if u then Some b else None) → z ≡ y
     → z ≡ (if t then Some a else if u then Some b else y)
-unused true u a b y e f = absurd cc
-unused false true a b y e f = absurd cc
-unused false false a b y e f = f
+unused t u a b y e f = grind arith

@@ -5,6 +5,8 @@ use Rattle.ed_link.proofs.Kit.{SourceCause, SourceFault, zero, LocationCounter, 
 use Rattle.ed_link.proofs.Kit.{LinesBefore, overlaps, Extent}
 use Rattle.std.proofs.lemmas.Bool.{le-leb}
 use Rattle.std.proofs.lemmas.List.Folds.{list_all-append}
+use Rattle.ed_link.proofs.Kit.{rules}
+use Rattle.std.proofs.lemmas.Grind.{common_steps}
 
 -- the extents of lines
 abbrev pub ExtentList : Type 0
@@ -24,9 +26,7 @@ below_more p q (e ∷ extents) l h =
 -- and so are those of one more line
 pub one_more : (p a q : ℕ) (extents : ExtentList) → p ≤ q → are_below p extents ≡ true
     → are_below q (extents ++ extent a q ∷ []) ≡ true
-one_more p a q extents l h =
-    list_all-append (λ e. nat_le e.after q) extents _
-    ∙ rw (below_more p q extents l h, le-leb q q (omega arith)) refl
+one_more p a q extents l h = search (rules, list_all-append, below_more, le-leb)
 
 -- extents from there upwards don't overlap them
 pub list_any-apart : (p a b : ℕ) (extents : ExtentList) → p ≤ a → are_below p extents ≡ true
@@ -49,11 +49,7 @@ pub record FitsStore (top a b : ℕ) : Type 0 where
   pub store : nat_lt (max a top) (min b b) ≡ false
 
 pub fits_store : (top a b : ℕ) → 56 ≤ a → b ≤ top → FitsStore top a b
-fits_store top a b low fits = record {
-  loader = le-ltb (max a 0) (min b 44) (omega arith);
-  parameters = le-ltb (max a 44) (min b 56) (omega arith);
-  store = le-ltb (max a top) (min b b) (omega arith);
-}
+fits_store top a b low fits = grind (arith, common_steps)
 
 -- a location counter inside a segment, and lines before any `enter`
 abbrev pub counter : ℕ → ℕ → ℕ → LocationCounter

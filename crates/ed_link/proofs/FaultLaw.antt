@@ -1,14 +1,14 @@
 -- The fault that is looked for is that of the definition, and no fault is found if the source has none.
-use Rattle.ed_link.proofs.Kit.{both_ways, Size, [], ap, arith, Bool, false, if◌then◌else◌, inl, inr, length}
-use Rattle.ed_link.proofs.Kit.{length-append, List, nat_le, None, Option, refl, Some, subst, sym, true, ℕ, ◌++◌, ◌+◌}
-use Rattle.ed_link.proofs.Kit.{◌<◌, ◌∙◌, ◌∷◌, ◌≡◌, ◌≤◌, ◌⊎◌, leb-true, SourceCause, SourceFault, At, Line, nat_tests}
+use Rattle.ed_link.proofs.Kit.{Size, [], ap, arith, Bool, false, if◌then◌else◌, inl, inr, length}
+use Rattle.ed_link.proofs.Kit.{List, nat_le, None, Option, refl, Some, subst, sym, true, ℕ, ◌++◌, ◌+◌}
+use Rattle.ed_link.proofs.Kit.{◌<◌, ◌∷◌, ◌≡◌, ◌≤◌, ◌⊎◌, leb-true, SourceCause, SourceFault, At, Line, nat_tests}
 use Rattle.ed_link.proofs.Kit.{AreNumbered, resolution, LocationCounter, Definition, ◌||◌, number_of, counter_after}
-use Rattle.ed_link.proofs.Kit.{counter_from, IsLineAfter, or_later, after_statement, first_counter, any_enter}
+use Rattle.ed_link.proofs.Kit.{counter_from, IsLineAfter, after_statement, first_counter, any_enter}
 use Rattle.ed_link.proofs.Kit.{cause_of, earlier_fault, fault, fault_from, is_enter, LinesBefore, missing, past_of}
 use Rattle.ed_link.proofs.Kit.{word_extent, HasEnter, HasNoFault, on_line, symbols_of}
 use Rattle.std.proofs.Common.{Result, Err, IfErr}
 use Rattle.std.proofs.Math.Bool.{or-false, or_assoc}
-use Rattle.std.proofs.lemmas.Bool.{leb-false}
+use Rattle.std.proofs.lemmas.Bool.{cases_lt, leb-false}
 use Rattle.ed_syntax.specs.declared.fault.SourceFault.TheVariants.{Memory}
 use Rattle.ed_syntax.proofs.Causes.{one_least}
 use Rattle.ed_symbols.specs.NameFaults.{HasNameFault}
@@ -20,6 +20,8 @@ use Rattle.ed_link.specs.Faults.{SourceHasFault, no_enter, IsMeaningFault}
 use Rattle.ed_link.proofs.FaultSentences.{extents_from, any_says, any_tests}
 use Rattle.ed_link.proofs.LineFaults.{OfMeaning, of_meaning, name_has_cause, number_of-few, cause_is_name}
 use Rattle.ed_syntax.specs.declared.fault.SourceCause.TheVariants as causes
+use Rattle.ed_link.proofs.Kit.{rules}
+use Rattle.std.proofs.lemmas.Grind.{common_steps}
 
 -- ---- the passes of the code, by what comes before a line
 
@@ -30,8 +32,7 @@ extents_snoc s (e ∷ b) l = ap (λ x. word_extent e.statement s ∷ x) (extents
 
 any_snoc : (b : List Line) (l : Line) → any_enter (b ++ l ∷ []) ≡ (any_enter b || is_enter l.statement)
 any_snoc [] l = or-false (is_enter l.statement)
-any_snoc (e ∷ b) l = ap (λ x. is_enter e.statement || x) (any_snoc b l)
-    ∙ sym (or_assoc (is_enter e.statement) _ _)
+any_snoc (e ∷ b) l = search (rules, or_assoc, any_snoc b l)
 
 module _ (z : Size) (lines : List Line) where
   abbrev past_after : List Line → LinesBefore
@@ -47,12 +48,7 @@ module _ (z : Size) (lines : List Line) where
       → fault_from z (symbols_of lines) (any_enter lines) (past_after b) (counter_after b) rest
       ≡ first ask_meaning b rest
   meaning_pass b [] = refl
-  meaning_pass b (l ∷ rest) = ap (λ f. or_later l.number (ask_meaning b l) f)
-      (ap (λ p. fault_from z (symbols_of lines) (any_enter lines) p
-      (after_statement l.statement (counter_after b)) rest)
-      (past_snoc b l)
-      ∙ (ap (λ s. fault_from z (symbols_of lines) (any_enter lines) (past_after (b ++ l ∷ [])) s rest)
-      (sym (spot_snoc first_counter b l)) ∙ meaning_pass _ rest))
+  meaning_pass b (l ∷ rest) = search (rules, past_snoc, spot_snoc, meaning_pass (b ++ l ∷ []) rest)
 
 -- ---- the least of several
 
@@ -66,27 +62,20 @@ module _ (H G : ℕ → SourceCause → Type 0)
   merge (Some (At k c)) None h g = (inl h.0, λ r o. elim [ inl x ↦ h.1 r o x | inr x ↦ absurd (g r o x) ])
   merge (Some (At k c)) (Some (At m d)) h g = by_test (nat_le k m) refl
     where
-      split : (n p : ℕ) → n ≤ p → (n < p) ⊎ (n ≡ p)
-      split n p e = grind arith
-
       later : (r : ℕ) (o : SourceCause) → k ≤ m → G r o → (m < r) ⊎ ((m ≡ r) × (number_of d ≤ number_of o))
           → (k < r) ⊎ ((k ≡ r) × (number_of c ≤ number_of o))
       later r o e x (inl y) = inl (omega (arith, e, y))
-      later r o e x (inr y) = elim (split k m e) [
+      later r o e x (inr y) = elim (cases_lt k m) [
         | inl w ↦ inl (omega (arith, w, y.0))
-        | inr w ↦ inr (omega (arith, w, y.0), order k c o h.0 (subst (λ n. G n o) (omega (arith, w, y.0)) x))
+        | inr w ↦ inr (omega (arith, e, w, y.0), order k c o h.0 (subst (λ n. G n o) (omega (arith, e, w, y.0)) x))
       ]
-
-      ahead : (r : ℕ) (o : SourceCause) → m < k → (k < r) ⊎ ((k ≡ r) × (number_of c ≤ number_of o))
-          → (m < r) ⊎ ((m ≡ r) × (number_of d ≤ number_of o))
-      ahead r o e (inl y) = inl (omega (arith, e, y))
-      ahead r o e (inr y) = inl (omega (arith, e, y.0))
 
       by_test : (t : Bool) → nat_le k m ≡ t
           → SaysLeast (λ n x. H n x ⊎ G n x) (if t then Some (At k c) else Some (At m d))
       by_test true e = (inl h.0, λ r o. elim [ inl x ↦ h.1 r o x | inr x ↦ later r o (leb-true k m e) x (g.1 r o x) ])
       by_test false e =
-          (inr g.0, λ r o. elim [ inl x ↦ ahead r o (leb-false k m e) (h.1 r o x) | inr x ↦ g.1 r o x ])
+          let less = leb-false k m e in
+          (inr g.0, λ r o. elim [ inl x ↦ let y = h.1 r o x in inl (omega (arith, less, y)) | inr x ↦ g.1 r o x ])
   merge a (Some Memory) h g = absurd g
 
 -- ---- the law
@@ -110,47 +99,28 @@ module _ (z : Size) (lines : List Line) (numbered : Numbered lines) where
       (λ b l. of_meaning z lines b l) [] lines refl (λ b l c st h. omega arith)))
 
   say_lacking : SaysLeast Lacking (missing (any_enter lines) (length lines))
-  say_lacking = by_test (any_enter lines) refl
-    where
-      by_test : (t : Bool) → any_enter lines ≡ t → SaysLeast Lacking (missing t (length lines))
-      by_test true e = λ k c h. h.0 (any_says lines e)
-      by_test false e = (
-        (λ h. both_ways _ e (any_tests lines h), refl, refl),
-        λ r o h. inr (sym h.1, rw h.2 (omega arith)),
-      )
+  say_lacking = search (rules, any_says, any_tests)
 
   abbrev All : ℕ → SourceCause → Type 0
   All k c = Names k c ⊎ (Meanings k c ⊎ Lacking k c)
 
   not_both : (k : ℕ) (c d : SourceCause) → Meanings k c → Lacking k d → number_of c ≤ number_of d
-  not_both k c d m h =
-      let n : length lines ≡ length m.0 + length (m.1 ∷ m.2.after) =
-      ap (λ (x : List Line). length x) m.2.lines_are ∙ length-append m.0 _ in
-      absurd (omega (arith, n, m.3, h.1))
+  not_both k c d m h = grind (arith, common_steps)
 
   names_first : (k : ℕ) (c d : SourceCause) → Names k c → Meanings k d ⊎ Lacking k d → number_of c ≤ number_of d
-  names_first k c d n (inl m) = omega (arith, number_of-few lines n.0 n.1 c n.4, m.4.1)
-  names_first k c d n (inr m) = rw m.2 (omega (arith, number_of-few lines n.0 n.1 c n.4))
+  names_first k c d n other = search (rules, number_of-few)
 
   say_all : SaysLeast All (fault z lines)
-  say_all = merge Names (λ k c. Meanings k c ⊎ Lacking k c) names_first (resolution lines).fault
-      (earlier_fault second (missing (any_enter lines) (length lines))) (say_names lines numbered)
-      (merge Meanings Lacking not_both second (missing (any_enter lines) (length lines)) say_meaning say_lacking)
+  say_all = search (rules, merge, names_first, say_names, not_both, say_meaning, say_lacking)
 
   to_has : (k : ℕ) (c : SourceCause) → All k c → SourceHasFault z lines k c
   to_has k c (inl n) = rw n.3 (on_line n.2 (name_has_cause z lines n.0 n.1 c n.4))
   to_has k c (inr (inl n)) = rw n.3 (on_line n.2 n.4.0)
   to_has k c (inr (inr n)) = rw (n.1, n.2) (no_enter n.0)
 
-  split_at : (n : ℕ) → (n ≤ 8) ⊎ (9 ≤ n)
-  split_at n = grind arith
-
   of_has : {k : ℕ} {c : SourceCause} → SourceHasFault z lines k c → All k c
-  of_has (on_line {before} {l} {cause} st h) = elim (split_at (number_of cause)) [
-    | inl n ↦ inl (before, l, st, refl, cause_is_name z lines before l cause h n)
-    | inr n ↦ inr (inl (before, l, st, refl, (h, n)))
-  ]
-  of_has (no_enter h) = inr (inr (h, refl, refl))
+  of_has (on_line {before} {l} {cause} st h) = search (rules, cases_lt, cause_is_name)
+  of_has (no_enter h) = search rules
 
   -- what the answer says of the source
   abbrev pub Tells : Option SourceFault → Type 0
@@ -174,11 +144,7 @@ module _ (z : Size) (lines : List Line) (numbered : Numbered lines) where
   none_is e = subst Tells e tells
 
   pub is_none_fault : HasNoFault z lines → fault z lines ≡ None
-  is_none_fault h = (elim (fault z lines) as (λ (f : Option SourceFault). Tells f → f ≡ None) [
-    | None ↦ λ t. refl
-    | Some Memory ↦ λ t. absurd t
-    | Some (At k c) ↦ λ t. absurd (h k c t.is)
-  ]) tells
+  is_none_fault h = let t = tells in search rules
 
   pub is_fault : (k : ℕ) (c : SourceCause) → IsMeaningFault z lines k c → fault z lines ≡ Some (At k c)
   is_fault k c h = (elim (fault z lines) as (λ (f : Option SourceFault). Tells f → f ≡ Some (At k c)) [
@@ -191,20 +157,12 @@ module _ (z : Size) (lines : List Line) (numbered : Numbered lines) where
 
 -- a fault that the code answers is the one wanted
 is_first : (wanted : Option SourceFault) (f : SourceFault) → wanted ≡ Some f → IsFirstFault wanted f
-is_first wanted (At k c) h = h
-is_first wanted Memory h = tt
-
--- an answer that memory ran out
-is_memory : (wanted : Option SourceFault) (f : SourceFault) → ◌≡◌ {A = Option SourceFault} (Some f) (Some Memory)
-    → IsFirstFault wanted f
-is_memory wanted (At k c) h = absurd cc
-is_memory wanted Memory h = tt
+is_first wanted f h = search rules
 
 -- the fault of a source without an `enter` is later than one of its lines
 before_missing : (k n : ℕ) (c : SourceCause) (has_enter : Bool) → k ≤ n
     → earlier_fault (Some (At k c)) (missing has_enter n) ≡ Some (At k c)
-before_missing k n c true h = refl
-before_missing k n c false h = let e : nat_le k (n + 1) ≡ true = grind (arith, nat_tests) in rw e refl
+before_missing k n c has_enter h = grind (arith, nat_tests)
 
 -- what the code looks for, from definitions and from whether there is an `enter`
 abbrev looked_for : Size → List Line → List Definition → Bool → Option SourceFault
@@ -215,41 +173,19 @@ module _ (z : Size) (lines : List Line) (numbered : Numbered lines) where
   -- the number of a line
   within : (k : ℕ) (before : List Line) (l : Line) → IsLineAfter lines before l → k ≡ length before + 1
       → (nat_le k 0 ≡ false) × (k ≤ length lines)
-  within k before l stands is =
-      let n : length lines ≡ length before + length (l ∷ stands.after) =
-      ap (λ (x : List Line). length x) stands.lines_are ∙ length-append before _ in
-      (grind (arith, nat_tests), omega (arith, n, is))
+  within k before l stands is = grind (arith, common_steps)
 
   -- the fault of a line, or one of names that is sooner
   pub line_first : (e f : SourceFault) → IsFirstFault (looked_for z lines (symbols_of lines) (any_enter lines)) e
       → Some f ≡ earlier_fault (resolution lines).fault (Some e)
       → IsFirstFault (fault z lines) f
-  line_first (At m d) f h is =
-      let says = subst (SaysLeast (Meanings z lines numbered)) h (say_meaning z lines numbered) in
-      let a = says.0 in
-      let first : earlier_fault (looked_for z lines (symbols_of lines) (any_enter lines))
-      (missing (any_enter lines) (length lines)) ≡ Some (At m d) =
-      ap (λ x. earlier_fault x (missing (any_enter lines) (length lines))) h
-      ∙ before_missing m _ d _ (within m a.0 a.1 a.2 a.3).1 in
-      is_first _ f (ap (λ x. earlier_fault (resolution lines).fault x) first ∙ sym is)
-  line_first Memory f h is = by_names (resolution lines).fault (say_names lines numbered) is
-    where
-      by_names : (names : Option SourceFault) → SaysLeast (HasNameFault lines) names
-          → Some f ≡ earlier_fault names (Some Memory) → IsFirstFault (fault z lines) f
-      by_names None says is = is_memory (fault z lines) f is
-      by_names (Some Memory) says is = absurd says
-      by_names (Some (At k c)) says is =
-          let a = says.0 in
-          let late = (within k a.0 a.1 a.2 a.3).0 in
-          is_memory _ f (is ∙ ap (λ (b : Bool). if b then Some (At k c) else Some Memory) late)
+  line_first (At m d) f h is = grind (arith, common_steps, say_meaning, before_missing)
+  line_first Memory f h is = grind (arith, common_steps)
 
   -- a fault of names, if no line has another
   pub names_alone : (f : SourceFault) → (resolution lines).fault ≡ Some f → (looked_for z lines (symbols_of lines) (any_enter lines)) ≡ None
       → IsFirstFault (fault z lines) f
-  names_alone (At k c) h e =
-      let a = (subst (SaysLeast (HasNameFault lines)) h (say_names lines numbered)).0 in
-      (λ i. earlier_fault (h i) (earlier_fault (e i) (missing (any_enter lines) (length lines))))
-      ∙ before_missing k _ c _ (within k a.0 a.1 a.2 a.3).1
+  names_alone (At k c) h e = grind (arith, common_steps, say_names, before_missing)
   names_alone Memory h e = tt
 
 -- the fault that is looked for is that of the definition, both ways
@@ -262,13 +198,8 @@ pub record FaultIsFound (z : Size) (lines : List Line) : Type 0 where
 
 pub fault_law : (z : Size) (lines : List Line) → AreNumbered lines → FaultIsFound z lines
 fault_law z lines e =
-    let n = numbers lines e in record {
-      refused = λ k c h. fault_is z lines n h;
-      refuses = λ k c h. is_fault z lines n k c h;
-      accepted = λ h. none_is z lines n h;
-      accepts = λ h. is_none_fault z lines n h;
-      no_memory = λ h. subst (Tells z lines n) h (tells z lines n);
-    }
+    let n = numbers lines e in
+    search (rules, fault_is z lines n, is_fault z lines n, none_is z lines n, is_none_fault z lines n, tells z lines n)
 
 -- an answer that is the fault that is looked for is that of the definition
 pub answer_has_fault : {A : Type 0} (z : Size) (lines : List Line) → AreNumbered lines → (r : Result A SourceFault)
@@ -280,16 +211,12 @@ answer_has_fault z lines n r h = tt
 -- `enter`
 module _ (z : Size) (lines : List Line) {symbols : List Definition} {has_enter : Bool} (n : AreNumbered lines)
     (known : symbols ≡ symbols_of lines) (there : has_enter ≡ any_enter lines) where
-  same : looked_for z lines symbols has_enter ≡ looked_for z lines (symbols_of lines) (any_enter lines)
-  same = λ i. looked_for z lines (known i) (there i)
-
   pub line_fault : {names : Option SourceFault} (e f : SourceFault) → names ≡ (resolution lines).fault
       → IsFirstFault (looked_for z lines symbols has_enter) e → Some f ≡ earlier_fault names (Some e)
       → IsFirstFault (fault z lines) f
-  line_fault {names} e f are h is =
-      line_first z lines (numbers lines n) e f (rw (← same) h)
-      (is ∙ ap (λ (x : Option SourceFault). earlier_fault x (Some e)) are)
+  line_fault e f are h is =
+      line_first z lines (numbers lines n) e f (rw (known, there) at h) (rw are at is)
 
   pub name_fault : (f : SourceFault) → (resolution lines).fault ≡ Some f → looked_for z lines symbols has_enter ≡ None
       → IsFirstFault (fault z lines) f
-  name_fault f h e = names_alone z lines (numbers lines n) f h (sym same ∙ e)
+  name_fault f h e = names_alone z lines (numbers lines n) f h (rw (known, there) at e)

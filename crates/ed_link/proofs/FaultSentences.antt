@@ -1,95 +1,27 @@
 -- The tests of a line and the sentences of the manual say the same, both ways, for the faults S9 to S14, S16 and S17.
-use Rattle.ed_link.proofs.Kit.{max, min, both_ways, eq-eqb, Size, [], ap, arith, Bool, false, inl, inr, List, None}
-use Rattle.ed_link.proofs.Kit.{Option, refl, Some, subst, sym, true, ℕ, ◌%◌, ◌&&◌, ◌++◌, ◌/◌, ◌<◌, ◌∙◌, ◌∷◌, ◌≡◌, ◌≤◌}
-use Rattle.ed_link.proofs.Kit.{◌⊎◌, and_parts, eqb-true, lt-ltb, ltb-true, locations, Line, Statement, Enter, Fetch}
-use Rattle.ed_link.proofs.Kit.{Long, Number, Order, Rows, Text, ◌^◌, and_from, find, place_on, segment_at}
-use Rattle.ed_link.proofs.Kit.{LocationCounter, Definition, is_none, is_some, not, ◌||◌, list_any, or_cases}
-use Rattle.ed_link.proofs.Kit.{counter_after, counter_from, IsLineAfter, after_statement, first_counter, not_true}
-use Rattle.ed_link.proofs.Kit.{Ties, true_not, any_enter, extent, extent_at, has_no_routine, has_sandwich, is_enter}
-use Rattle.ed_link.proofs.Kit.{is_misplaced, is_outside, is_rows, overlaps, reach, word_extent, HasEnter, end_place}
-use Rattle.ed_link.proofs.Kit.{first_place, symbols_of, Extent}
+use Rattle.ed_link.proofs.Kit.{nat_tests, rules, max, min, Size, [], ap, arith, inl, inr, List, Option, refl, Some}
+use Rattle.ed_link.proofs.Kit.{subst, sym, true, ℕ, ◌++◌, ◌<◌, ◌∷◌, ◌≡◌, ◌≤◌, ltb-true, locations, Line, Statement}
+use Rattle.ed_link.proofs.Kit.{Enter, LocationCounter, list_any, or_cases, counter_after, counter_from, IsLineAfter}
+use Rattle.ed_link.proofs.Kit.{after_statement, first_counter, Ties, any_enter, extent, has_no_routine, has_sandwich}
+use Rattle.ed_link.proofs.Kit.{is_enter, is_misplaced, is_outside, overlaps, reach, word_extent, HasEnter, symbols_of}
+use Rattle.ed_link.proofs.Kit.{Extent}
 use Rattle.std.proofs.lemmas.Bool.{or_left, or_right}
-use Rattle.ed_link.specs.FaultTests.{is_in_segment}
-use Rattle.ed_link.specs.Faults.{PlacesWords, IsData, IsOutsideSegments, NeedsWithin, NeedsPast, Overlaps, UsesUnknown}
+use Rattle.ed_link.specs.Faults.{IsOutsideSegments, NeedsWithin, NeedsPast, Overlaps, UsesUnknown}
 use Rattle.ed_link.specs.Faults.{IsMisplaced, HasSandwichDigit}
+use Rattle.std.proofs.lemmas.Grind.{common_steps}
 
 -- ---- S14 and S17
 
-unknown_says : (st : Option Statement) → has_no_routine st ≡ true → UsesUnknown st
-unknown_says (Some (Fetch routine name ts)) h = no_routine (find routine) h
-  where
-    no_routine : (r : Option ℕ) → is_none r ≡ true → ◌≡◌ {A = Option ℕ} r None
-    no_routine None g = refl
-    no_routine (Some r) g = cc
-unknown_says st h = cc
-
-unknown_tests : (st : Option Statement) → UsesUnknown st → has_no_routine st ≡ true
-unknown_tests (Some (Fetch routine name ts)) h = ap is_none h
-unknown_tests st h = absurd h
-
 pub Ties-s14 : (l : Line) → Ties (has_no_routine l.statement) (UsesUnknown l.statement)
-Ties-s14 l = record { says = unknown_says l.statement; tests = unknown_tests l.statement }
-
-sandwich_says : (st : Option Statement) → has_sandwich st ≡ true
-    → (v : ℕ) × (st ≡ Some (Long v)) × (v / 2 ^ 17 % 2 ≡ 1)
-sandwich_says (Some (Long v)) h = (v, refl, eqb-true (v / 2 ^ 17 % 2) 1 h)
-sandwich_says st h = cc
+Ties-s14 l = search rules
 
 pub Ties-s17 : (l : Line) → Ties (has_sandwich l.statement) (HasSandwichDigit l)
-Ties-s17 l = record {
-  says = sandwich_says l.statement;
-  tests = λ h. ap has_sandwich h.1 ∙ eq-eqb _ 1 h.2;
-}
+Ties-s17 l = search rules
 
 -- ---- S9
 
-words_says : (st : Option Statement) → is_in_segment st ≡ true → PlacesWords st
-words_says (Some (Order f o d)) h = tt
-words_says (Some (Number w)) h = tt
-words_says (Some (Text codes)) h = tt
-words_says (Some (Long v)) h = tt
-words_says st h = cc
-
-words_tests : (st : Option Statement) → PlacesWords st → is_in_segment st ≡ true
-words_tests (Some (Order f o d)) h = refl
-words_tests (Some (Number w)) h = refl
-words_tests (Some (Text codes)) h = refl
-words_tests (Some (Long v)) h = refl
-words_tests st h = absurd h
-
-outside_says : (inside : Bool) (label : Option (List ℕ)) (st : Option Statement)
-    → (not inside && (is_some label || is_in_segment st)) ≡ true
-    → (inside ≡ false) × (((name : List ℕ) × (label ≡ Some name)) ⊎ PlacesWords st)
-outside_says true label st h = cc
-outside_says false (Some name) st h = (refl, inl (name, refl))
-outside_says false None st h = (refl, inr (words_says st h))
-
-outside_tests : (inside : Bool) (label : Option (List ℕ)) (st : Option Statement)
-    → (inside ≡ false) × (((name : List ℕ) × (label ≡ Some name)) ⊎ PlacesWords st)
-    → (not inside && (is_some label || is_in_segment st)) ≡ true
-outside_tests true label st h = cc
-outside_tests false (Some name) st h = refl
-outside_tests false None st (e, inl h) = cc
-outside_tests false None st (e, inr h) = words_tests st h
-
--- no segment is open
-closed_says : (s : LocationCounter) → s.inside ≡ false → segment_at s ≡ None
-closed_says s e = rw e refl
-
-closed_tests : (s : LocationCounter) → segment_at s ≡ None → s.inside ≡ false
-closed_tests s h = by_test s.inside refl
-  where
-    by_test : (t : Bool) → s.inside ≡ t → t ≡ false
-    by_test false e = refl
-    by_test true e = let some : Some s.segments ≡ None = (rw e at h) in cc
-
 pub Ties-s9 : (before : List Line) (l : Line) → Ties (is_outside l (counter_after before)) (IsOutsideSegments before l)
-Ties-s9 before l = record {
-  says = λ h. let p = outside_says (counter_after before).inside l.label l.statement h in
-      (closed_says (counter_after before) p.0, p.1);
-  tests = λ h. outside_tests (counter_after before).inside l.label l.statement
-      (closed_tests (counter_after before) h.0, h.1);
-}
+Ties-s9 before l = search rules
 
 -- ---- S10 to S12
 
@@ -105,61 +37,20 @@ meets_says a b c d h = let e : max a c < min b d = ltb-true (max a c) (min b d) 
 )
 
 meets_tests : (a b c d p : ℕ) → IsIn (extent a b) p → IsIn (extent c d) p → overlaps (extent a b) (extent c d) ≡ true
-meets_tests a b c d p h g =
-    lt-ltb (max a c) (min b d) (omega (arith, h.0, h.1, g.0, g.1))
-
--- a line needs a location, by its statement and location counter alone
-abbrev NeedsAt : List Definition → Option Statement → LocationCounter → ℕ → Type 0
-NeedsAt symbols st s p = ((first_place st s ≤ p) × (p < end_place st s))
-    ⊎ ((name : List ℕ) × (st ≡ Some (Enter name)) × (place_on symbols None name ≡ Some p))
-
-need_in : (symbols : List Definition) (st : Option Statement) (s : LocationCounter) (p : ℕ) → NeedsAt symbols st s p
-    → IsIn (reach symbols st s) p
-need_in symbols st s p (inr h) = rw h.1 (rw h.2 (omega arith, omega arith))
-need_in symbols (Some (Enter n)) s p (inl h) = absurd (omega (arith, h.0, h.1))
-need_in symbols st s p (inl h) = h
-
-in_need : (symbols : List Definition) (st : Option Statement) (s : LocationCounter) (p : ℕ)
-    → IsIn (reach symbols st s) p
-    → NeedsAt symbols st s p
-in_need symbols (Some (Enter n)) s p h = entered (place_on symbols None n) refl h
-  where
-    entered : (o : Option ℕ) → place_on symbols None n ≡ o → IsIn (extent_at o) p → NeedsAt symbols (Some (Enter n)) s p
-    entered None e g = absurd (omega (arith, g.0, g.1))
-    entered (Some q) e g =
-        let same : q ≡ p = omega (arith, g.0, g.1) in inr (n, refl, e ∙ ap (λ x. Some x) same)
-in_need symbols st s p h = inl h
-
-within : (symbols : List Definition) (st : Option Statement) (s : LocationCounter) (c d : ℕ)
-    → Ties (overlaps (reach symbols st s) (extent c d)) ((p : ℕ) × NeedsAt symbols st s p × (c ≤ p) × (p < d))
-within symbols st s c d = record {
-  says = λ h. let m = meets_says (reach symbols st s).from (reach symbols st s).after c d h in
-      (m.0, in_need symbols st s m.0 m.1, m.2.0, m.2.1);
-  tests = λ h. meets_tests (reach symbols st s).from (reach symbols st s).after c d h.0 (need_in symbols st s h.0 h.1)
-      (h.2, h.3);
-}
+meets_tests a b c d p h g = grind (arith, nat_tests)
 
 -- S10 at 0 and 44, S11 at 44 and 56
 pub s10_s11 : (lines before : List Line) (l : Line) (c d : ℕ)
     → Ties (overlaps (reach (symbols_of lines) l.statement (counter_after before)) (extent c d)) (NeedsWithin
     lines before l c d)
-s10_s11 lines before l c d = within (symbols_of lines) l.statement (counter_after before) c d
-
-past : (symbols : List Definition) (st : Option Statement) (s : LocationCounter) (c : ℕ)
-    → Ties (overlaps (reach symbols st s) (extent c (reach symbols st s).after)) ((p : ℕ) × NeedsAt symbols st s p × (c ≤ p))
-past symbols st s c =
-    let t = within symbols st s c (reach symbols st s).after in
-    record {
-      says = λ h. let m = t.says h in (m.0, m.1, m.2);
-      tests = λ h. t.tests (h.0, h.1, h.2, (need_in symbols st s h.0 h.1).1);
-    }
+s10_s11 lines before l c d = search (rules, meets_says, meets_tests)
 
 pub Ties-s12 : (z : Size) (lines before : List Line) (l : Line)
     → Ties
     (overlaps (reach (symbols_of lines) l.statement (counter_after before))
     (extent (locations z) (reach (symbols_of lines) l.statement (counter_after before)).after))
     (NeedsPast lines before l (locations z))
-Ties-s12 z lines before l = past (symbols_of lines) l.statement (counter_after before) (locations z)
+Ties-s12 z lines before l = search (rules, meets_says, meets_tests)
 
 -- ---- S13
 
@@ -189,8 +80,7 @@ shares_says a b s (l ∷ lines) h = elim (or_cases _ _ h) [
 shared : (a b : ℕ) (s : LocationCounter) (earlier : List Line) (e : Line) (after : List Line) (p : ℕ) → IsIn (extent a b) p
     → IsIn (word_extent e.statement (counter_from s earlier)) p
     → list_any (λ o. overlaps (extent a b) o) (extents_from s (earlier ++ e ∷ after)) ≡ true
-shared a b s [] e after p h g = or_left _ _
-    (meets_tests a b (word_extent e.statement s).from (word_extent e.statement s).after p h g)
+shared a b s [] e after p h g = grind (arith, common_steps)
 shared a b s (l ∷ earlier) e after p h g =
     or_right _ _ (shared a b (after_statement l.statement s) earlier e after p h g)
 
@@ -207,8 +97,7 @@ Ties-s13 before l = record {
 -- ---- S16
 
 enter_says : (st : Option Statement) → is_enter st ≡ true → (name : List ℕ) × (st ≡ Some (Enter name))
-enter_says (Some (Enter name)) h = (name, refl)
-enter_says st h = cc
+enter_says st h = search rules
 
 pub any_says : (lines : List Line) → any_enter lines ≡ true → HasEnter lines
 any_says [] h = cc
@@ -225,47 +114,8 @@ any_among [] l after h = or_left (is_enter l.statement) (any_enter after) h
 any_among (e ∷ before) l after h = or_right _ _ (any_among before l after h)
 
 pub any_tests : (lines : List Line) → HasEnter lines → any_enter lines ≡ true
-any_tests lines h = rw h.2.lines_are (any_among h.0 h.1 h.2.after (ap is_enter h.3.1))
-
-data_says : (st : Option Statement) → is_rows st ≡ true → IsData st
-data_says (Some (Rows codes)) h = tt
-data_says st h = cc
-
-data_tests : (st : Option Statement) → IsData st → is_rows st ≡ true
-data_tests (Some (Rows codes)) h = refl
-data_tests st h = absurd h
-
-form_says : (label : Option (List ℕ)) (st : Option Statement) → (is_some label || is_some st) ≡ true
-    → (label ≡ None) × (st ≡ None) → ⊥
-form_says (Some n) st h g = cc
-form_says None x h g = cc
-
-form_tests : (label : Option (List ℕ)) (st : Option Statement) → ((label ≡ None) × (st ≡ None) → ⊥)
-    → (is_some label || is_some st) ≡ true
-form_tests (Some n) st h = refl
-form_tests None (Some st) h = refl
-form_tests None None h = absurd (h (refl, refl))
-
-misplaced_says : (lines before : List Line) (l : Line) (entered : Bool) → any_enter before ≡ entered
-    → is_misplaced entered (any_enter lines) l ≡ true → IsMisplaced lines before l
-misplaced_says lines before l true e h =
-    let p = and_parts _ _ h in
-    inl (any_says before e, form_says l.label l.statement p.0, λ d. not_true _ p.1 (data_tests l.statement d))
-misplaced_says lines before l false e h =
-    let p = and_parts _ _ h in
-    inr (λ g. both_ways _ e (any_tests before g), data_says l.statement p.1, any_says lines p.0)
-
-misplaced_tests : (lines before : List Line) (l : Line) (entered : Bool) → any_enter before ≡ entered
-    → IsMisplaced lines before l → is_misplaced entered (any_enter lines) l ≡ true
-misplaced_tests lines before l true e (inl h) =
-    and_from _ _ (form_tests l.label l.statement h.1) (true_not _ (λ d. h.2 (data_says l.statement d)))
-misplaced_tests lines before l false e (inl h) = let g : any_enter before ≡ true = any_tests before h.0 in cc
-misplaced_tests lines before l true e (inr h) = absurd (h.0 (any_says before e))
-misplaced_tests lines before l false e (inr h) = and_from _ _ (any_tests lines h.2) (data_tests l.statement h.1)
+any_tests lines h = search (rules, any_among)
 
 pub Ties-s16 : (lines before : List Line) (l : Line)
     → Ties (is_misplaced (any_enter before) (any_enter lines) l) (IsMisplaced lines before l)
-Ties-s16 lines before l = record {
-  says = misplaced_says lines before l _ refl;
-  tests = misplaced_tests lines before l _ refl;
-}
+Ties-s16 lines before l = search (rules, any_says, any_tests)

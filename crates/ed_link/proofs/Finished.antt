@@ -1,10 +1,9 @@
 -- A source that is linked has no fault, and its tape reaches its linked program.
-use Rattle.ed_link.proofs.Kit.{Size, AreSpellable, ap, Bool, List, None, refl, replicate, subst, sym, true, ℕ, ◌∙◌}
-use Rattle.ed_link.proofs.Kit.{◌≡◌, list_all, length-replicate, Line, map, AreNumbered, is_line, catalogue, is_ready}
-use Rattle.ed_link.proofs.Kit.{resolution, Definition, first_counter, IsLinked, any_enter, fault, fault_from, labels}
-use Rattle.ed_link.proofs.Kit.{entry_from, linked_words, placed_from, symbols_of, first_past, IsBuilt, IsFinished}
-use Rattle.ed_link.proofs.Kit.{punched_from, punched_items, table_of, word_at, words_from, linked_places, Built}
-use Rattle.ed_link.proofs.Kit.{Linked, Placed}
+use Rattle.ed_link.proofs.Kit.{Size, AreSpellable, ap, Bool, List, None, replicate, subst, sym, true, ℕ, ◌∙◌, ◌≡◌}
+use Rattle.ed_link.proofs.Kit.{list_all, length-replicate, Line, map, AreNumbered, is_line, catalogue, is_ready}
+use Rattle.ed_link.proofs.Kit.{resolution, Definition, first_counter, IsLinked, any_enter, fault, labels, entry_from}
+use Rattle.ed_link.proofs.Kit.{linked_words, placed_from, symbols_of, IsBuilt, IsFinished, punched_from}
+use Rattle.ed_link.proofs.Kit.{punched_items, table_of, word_at, words_from, linked_places, Built, Linked, Placed}
 use Rattle.ed_link.proofs.Accepted.{accepted_law, can_be_spelled}
 use Rattle.ed_link.proofs.FaultLaw.{fault_law}
 use Rattle.ed_link.proofs.Maps.{places_are, words_are}
@@ -13,11 +12,7 @@ use Rattle.ed_link.proofs.Maps.{places_are, words_are}
 accepted : {z : Size} {lines : List Line} {symbols : List Definition} {has_enter : Bool} {b : Built}
     → symbols ≡ symbols_of lines → has_enter ≡ any_enter lines → (resolution lines).fault ≡ None → has_enter ≡ true
     → IsBuilt z symbols has_enter lines b → fault z lines ≡ None
-accepted {z} {lines} {symbols} {has_enter} h a names there built =
-    let clear : fault_from z (symbols_of lines) (any_enter lines) first_past first_counter lines ≡ None =
-    rw (← h) (rw (← a) built.accepted) in
-    let enters : any_enter lines ≡ true = sym a ∙ there in
-    rw (names, clear, enters) refl
+accepted {z} {lines} {symbols} {has_enter} h a names there built = cc
 
 -- the items of lines that are built
 items_are : {z : Size} {lines : List Line} {symbols : List Definition} {has_enter : Bool} {b : Built}

@@ -1,12 +1,11 @@
 -- The names that the proofs of this crate cite, passed on from one place. Declares nothing.
-pub use Rattle.std.proofs.Common.{append-nil, Global, max, min, reverse, Vec}
+pub use Rattle.std.proofs.Common.{append-nil, max, min, reverse, take}
 pub use Rattle.std.specs.List.{Contains, sum_by}
-pub use Rattle.std.proofs.lemmas.Bool.{both_ways, cases_eq, eq-eqb, ne_eqb}
-pub use Rattle.std.proofs.lemmas.List.{at_drop_more, get_or-set_same, length-set, reverse-append}
+pub use Rattle.std.proofs.lemmas.Bool.{cases_eq, eq-eqb, ne_eqb}
+pub use Rattle.std.proofs.lemmas.List.{get_or-set_same, length-set, reverse-append}
 pub use Rattle.std.proofs.lemmas.List.Elements.{All-contains}
 pub use Rattle.std.proofs.lemmas.List.Sums.{AllPass-from_list_all}
 pub use Rattle.std.proofs.lemmas.Option.{same_Some}
-pub use Rattle.std.proofs.lemmas.Result.{on_ok_weaker}
 pub use Rattle.ed_words.specs.declared.order_words.TheConstants.{E_F, T_F}
 pub use Rattle.ed_words.specs.declared.size.Size.{Size}
 pub use Rattle.ed_words.proofs.SizeLemmas.{least}
@@ -21,7 +20,7 @@ pub use Rattle.ed_notation.proofs.Kit.{[], ap, append_assoc, arith, Bool, drop, 
 pub use Rattle.ed_notation.proofs.Kit.{length, length-append, List, lit≤, nat_eq, nat_le, nat_lt, None, Option, refl}
 pub use Rattle.ed_notation.proofs.Kit.{replicate, set, Some, subst, suc, sym, true, unwrap_or, ℕ, ◌%◌, ◌&&◌, ◌*◌, ◌++◌}
 pub use Rattle.ed_notation.proofs.Kit.{◌+◌, ◌-◌, ◌/◌, ◌<◌, ◌∙◌, ◌∷◌, ◌≡◌, ◌≤◌, ◌⊎◌, flat_map, list_all, and_parts}
-pub use Rattle.ed_notation.proofs.Kit.{eqb-true, le-ltb, leb-true, lt-ltb, ltb-true, at_drop_all, get_or-set_other}
+pub use Rattle.ed_notation.proofs.Kit.{eqb-true, le-ltb, leb-true, lt-ltb, ltb-true, get_or-set_other}
 pub use Rattle.ed_notation.proofs.Kit.{length-replicate, locations, digit, locations_most, byte_of, cost_of, is_entry, item_word}
 pub use Rattle.ed_notation.proofs.Kit.{NotationState, row_kind, canonical, canonicals, is_spellable, line_from}
 pub use Rattle.ed_notation.proofs.Parts.{one_more}
@@ -40,7 +39,7 @@ pub use Rattle.ed_syntax.proofs.Kit.{is_line}
 pub use Rattle.ed_library.specs.Entries.{catalogue, entry}
 pub use Rattle.ed_library.specs.Images.{routine_word}
 pub use Rattle.ed_library.specs.Ready.{is_ready, is_ready_row}
-pub use Rattle.ed_library.specs.Routines.{find, missing_row, place_count, table_item}
+pub use Rattle.ed_library.specs.Routines.{find, missing_row, table_item}
 pub use Rattle.ed_library.specs.declared.tables.TableRow.{TableRow}
 pub use Rattle.ed_symbols.specs.NameTests.{resolution}
 pub use Rattle.ed_symbols.specs.Names.{place_on}
@@ -53,16 +52,16 @@ pub use Rattle.ed_symbols.proofs.Kit.{first_counter}
 pub use Rattle.ed_symbols.proofs.Sentences.{not_true, Ties, true_not}
 pub use Rattle.ed_link.specs.Answers.{IsLinked}
 pub use Rattle.ed_link.specs.FaultTests.{any_enter, cause_of, earlier_fault, extent, extent_at, fault, fault_from}
-pub use Rattle.ed_link.specs.FaultTests.{has_no_routine, has_sandwich, has_words, is_enter, is_misplaced, is_outside}
-pub use Rattle.ed_link.specs.FaultTests.{is_rows, LinesBefore, missing, overlaps, past_of, reach, sets, sets_otherwise}
+pub use Rattle.ed_link.specs.FaultTests.{has_no_routine, has_sandwich, is_enter, is_misplaced, is_outside}
+pub use Rattle.ed_link.specs.FaultTests.{LinesBefore, missing, overlaps, past_of, reach, sets, sets_otherwise}
 pub use Rattle.ed_link.specs.FaultTests.{word_extent}
 pub use Rattle.ed_link.specs.Faults.{HasEnter, HasNoFault, on_line}
-pub use Rattle.ed_link.specs.Labels.{label_of, labels}
+pub use Rattle.ed_link.specs.Labels.{labels}
 pub use Rattle.ed_link.specs.Linked.{data_after, end_place, entered_place, entry_from, first_place, image}
 pub use Rattle.ed_link.specs.Linked.{linked_words, long_words, operand_number, parameter_letters, parameters}
 pub use Rattle.ed_link.specs.Linked.{placed_by_line, placed_from, placed_words, preset, presets, set_to, symbols_of}
 pub use Rattle.ed_link.specs.Linked.{theta_from}
-pub use Rattle.ed_link.specs.Private.Building.{bare_items, first_past, IsBuilt, IsFew, IsFinished}
+pub use Rattle.ed_link.specs.Private.Building.{first_past, IsBuilt, IsFew, IsFinished}
 pub use Rattle.ed_link.specs.Punch.{goes_by_theta, head, heads, item_with, items_of, order_item, preset_items}
 pub use Rattle.ed_link.specs.Punch.{punched_from, punched_items, routine_items, use_items, with_heading, word_item}
 pub use Rattle.ed_link.specs.Tables.{put_all, table_of, word_at, words_from}

@@ -1,7 +1,8 @@
 -- A table keeps its length; how words are put into it.
-use Rattle.ed_link.proofs.Kit.{length-set, [], ap, arith, drop, get_or, length, List, None, Option, refl, replicate}
-use Rattle.ed_link.proofs.Kit.{set, Some, sym, ℕ, ◌++◌, ◌+◌, ◌<◌, ◌∙◌, ◌∷◌, ◌≡◌, length-replicate, map, missing_row}
-use Rattle.ed_link.proofs.Kit.{TableRow, drop_more, placed_words, empty_table, put_all}
+use Rattle.ed_link.proofs.Kit.{length-set, [], arith, length, List, None, Option, refl, replicate}
+use Rattle.ed_link.proofs.Kit.{set, Some, sym, ℕ, ◌++◌, ◌+◌, ◌∙◌, ◌∷◌, ◌≡◌, length-replicate}
+use Rattle.ed_link.specs.Tables.{place_word}
+use Rattle.ed_link.proofs.Kit.{words_from, append_assoc, append-nil, placed_words, empty_table, put_all, rules}
 
 -- words that are put into a table leave its length
 pub put_all_length : (table : List (Option ℕ)) (ps : List (ℕ × ℕ)) → length (put_all table ps) ≡ length table
@@ -24,23 +25,19 @@ pub put_all_append : (table : List (Option ℕ)) (ps qs : List (ℕ × ℕ))
 put_all_append table [] qs = refl
 put_all_append table (p ∷ ps) qs = put_all_append (set table p.0 (Some p.1)) ps qs
 
--- one more word of a list is put
-pub put_next : {A : Type 0} {more whole : List (Option ℕ)} (word : A → ℕ) (xs : List A) (k at : ℕ) (d : A)
-    (table : List (Option ℕ))
-    → k < length xs → more ≡ set table at (Some (word (get_or xs k d)))
-    → put_all table (placed_words at (map word (drop k xs))) ≡ whole
-    → put_all more (placed_words (at + 1) (map word (drop (k + 1) xs))) ≡ whole
-put_next {A} word xs k at d table below same before =
-    (λ i. put_all (same i) (placed_words (at + 1) (map word (drop (k + 1) xs))))
-    ∙ sym (ap (λ (ys : List A). put_all table (placed_words at (map word ys))) (drop_more xs k d below)) ∙ before
+-- one more word
+pub placed_push : (place : ℕ) (ws : List ℕ) (w : ℕ)
+    → placed_words place (ws ++ w ∷ []) ≡ placed_words place ws ++ (place + length ws, w) ∷ []
+placed_push place [] w = let e : place + 0 ≡ place = omega arith in rw e refl
+placed_push place (v ∷ ws) w = search (rules, placed_push (place + 1) ws w)
 
--- one more row's word, of those one after the other
-pub put_more : {more whole : List (Option ℕ)} (word : TableRow → ℕ) (rows : List TableRow)
-    (k base : ℕ) (table : List (Option ℕ))
-    → k < length rows → more ≡ set table (base + k) (Some (word (get_or rows k missing_row)))
-    → put_all table (placed_words (base + k) (map word (drop k rows))) ≡ whole
-    → put_all more (placed_words (base + (k + 1)) (map word (drop (k + 1) rows))) ≡ whole
-put_more {more} word rows k base table below same before =
-    let next : base + k + 1 ≡ base + (k + 1) = omega arith in
-    (λ i. put_all more (placed_words (sym next i) (map word (drop (k + 1) rows))))
-    ∙ put_next word rows k (base + k) missing_row table below same before
+-- the words of a table with one more cell
+pub words_push : (place : ℕ) (table : List (Option ℕ)) (w : Option ℕ)
+    → words_from place (table ++ w ∷ []) ≡ words_from place table ++ place_word (place + length table) w
+words_push place [] w = let e : place + 0 ≡ place = omega arith in rw (append-nil, e) refl
+words_push place (v ∷ table) w = search (rules, append_assoc, words_push (place + 1) table w)
+
+-- one more word is put
+pub put_push : (table : List (Option ℕ)) (ps : List (ℕ × ℕ)) (p : ℕ × ℕ)
+    → put_all table (ps ++ p ∷ []) ≡ set (put_all table ps) p.0 (Some p.1)
+put_push table ps p = sym (put_all_append table ps (p ∷ []))

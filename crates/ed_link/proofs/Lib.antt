@@ -1,6 +1,4 @@
 mod Causes
-mod Loops
-pub mod Steps
 pub mod Spellable
 pub mod Texts
 pub mod Costs

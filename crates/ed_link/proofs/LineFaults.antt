@@ -1,8 +1,8 @@
 -- A line has the fault with the least number that its tests answer, and no fault if they answer none.
-use Rattle.ed_link.proofs.Kit.{Size, [], arith, Bool, List, refl, ℕ, ◌∷◌, ◌≤◌, locations, SourceCause, Line, list_any}
+use Rattle.ed_link.proofs.Kit.{Size, [], arith, Bool, List, ℕ, ◌∷◌, ◌≤◌, locations, SourceCause, Line, list_any}
 use Rattle.ed_link.proofs.Kit.{number_of, counter_after, first_counter, Ties, any_enter, cause_of, extent}
 use Rattle.ed_link.proofs.Kit.{has_no_routine, has_sandwich, is_misplaced, is_outside, overlaps, reach, sets_otherwise}
-use Rattle.ed_link.proofs.Kit.{word_extent, symbols_of}
+use Rattle.ed_link.proofs.Kit.{word_extent, symbols_of, rules}
 use Rattle.ed_syntax.proofs.Causes.{number_of-most}
 use Rattle.ed_symbols.specs.NameFaults.{LineHasNameFault}
 use Rattle.ed_symbols.proofs.LeastFaults.{Least, Least-picks}
@@ -14,64 +14,18 @@ use Rattle.ed_syntax.specs.declared.fault.SourceCause.TheVariants as causes
 -- a fault of names is one of the faults of a line
 pub name_has_cause : (z : Size) (lines before : List Line) (l : Line) (c : SourceCause)
     → LineHasNameFault lines before l c → LineHasCause z lines before l c
-name_has_cause z lines before l causes.BadByte h = absurd h
-name_has_cause z lines before l causes.LongLine h = absurd h
-name_has_cause z lines before l causes.NotAStatement h = absurd h
-name_has_cause z lines before l causes.NumberRange h = absurd h
-name_has_cause z lines before l causes.TooManyLines h = absurd h
-name_has_cause z lines before l causes.LabelTwice h = h
-name_has_cause z lines before l causes.LabelUnknown h = h
-name_has_cause z lines before l causes.AddressRange h = h
-name_has_cause z lines before l causes.OutsideSegment h = absurd h
-name_has_cause z lines before l causes.LoaderStore h = absurd h
-name_has_cause z lines before l causes.ParameterStore h = absurd h
-name_has_cause z lines before l causes.StoreEnd h = absurd h
-name_has_cause z lines before l causes.Overlap h = absurd h
-name_has_cause z lines before l causes.NoSuchRoutine h = absurd h
-name_has_cause z lines before l causes.Parameters h = absurd h
-name_has_cause z lines before l causes.Enter h = absurd h
-name_has_cause z lines before l causes.SandwichDigit h = absurd h
+name_has_cause z lines before l c h = grind arith
 
 pub number_of-few : (lines before : List Line) (l : Line) (c : SourceCause) → LineHasNameFault lines before l c
     → number_of c ≤ 8
-number_of-few lines before l causes.BadByte h = absurd h
-number_of-few lines before l causes.LongLine h = absurd h
-number_of-few lines before l causes.NotAStatement h = absurd h
-number_of-few lines before l causes.NumberRange h = absurd h
-number_of-few lines before l causes.TooManyLines h = absurd h
-number_of-few lines before l causes.LabelTwice h = omega arith
-number_of-few lines before l causes.LabelUnknown h = omega arith
-number_of-few lines before l causes.AddressRange h = omega arith
-number_of-few lines before l causes.OutsideSegment h = absurd h
-number_of-few lines before l causes.LoaderStore h = absurd h
-number_of-few lines before l causes.ParameterStore h = absurd h
-number_of-few lines before l causes.StoreEnd h = absurd h
-number_of-few lines before l causes.Overlap h = absurd h
-number_of-few lines before l causes.NoSuchRoutine h = absurd h
-number_of-few lines before l causes.Parameters h = absurd h
-number_of-few lines before l causes.Enter h = absurd h
-number_of-few lines before l causes.SandwichDigit h = absurd h
+number_of-few lines before l c h = grind arith
 
 -- each fault with such a number is one of names
 pub cause_is_name : (z : Size) (lines before : List Line) (l : Line) (c : SourceCause)
     → LineHasCause z lines before l c → number_of c ≤ 8 → LineHasNameFault lines before l c
-cause_is_name z lines before l causes.BadByte h low = absurd h
-cause_is_name z lines before l causes.LongLine h low = absurd h
-cause_is_name z lines before l causes.NotAStatement h low = absurd h
-cause_is_name z lines before l causes.NumberRange h low = absurd h
-cause_is_name z lines before l causes.TooManyLines h low = absurd h
-cause_is_name z lines before l causes.LabelTwice h low = h
-cause_is_name z lines before l causes.LabelUnknown h low = h
-cause_is_name z lines before l causes.AddressRange h low = h
-cause_is_name z lines before l causes.OutsideSegment h low = absurd (omega (arith, low))
-cause_is_name z lines before l causes.LoaderStore h low = absurd (omega (arith, low))
-cause_is_name z lines before l causes.ParameterStore h low = absurd (omega (arith, low))
-cause_is_name z lines before l causes.StoreEnd h low = absurd (omega (arith, low))
-cause_is_name z lines before l causes.Overlap h low = absurd (omega (arith, low))
-cause_is_name z lines before l causes.NoSuchRoutine h low = absurd (omega (arith, low))
-cause_is_name z lines before l causes.Parameters h low = absurd (omega (arith, low))
-cause_is_name z lines before l causes.Enter h low = absurd (omega (arith, low))
-cause_is_name z lines before l causes.SandwichDigit h low = absurd (omega (arith, low))
+cause_is_name z lines before l c h low = grind arith
+
+ruleset sentences = (rules, Ties-s9, s10_s11, Ties-s12, Ties-s13, Ties-s14, Ties-s15, Ties-s16, Ties-s17)
 
 module _ (z : Size) (lines before : List Line) (l : Line) where
   -- the faults of meaning that are not faults of names
@@ -98,41 +52,6 @@ module _ (z : Size) (lines before : List Line) (l : Line) where
       ∷ (has_no_routine l.statement, causes.NoSuchRoutine)
       ∷ (sets_otherwise l.statement, causes.Parameters)
       ∷ (is_misplaced (any_enter before) (any_enter lines) l, causes.Enter)
-      ∷ (has_sandwich l.statement, causes.SandwichDigit) ∷ []) (
-        over (Ties-s9 before l) (omega arith),
-        refl,
-        (
-          over (s10_s11 lines before l 0 44) (omega arith),
-          refl,
-          (
-            over (s10_s11 lines before l 44 56) (omega arith),
-            refl,
-            (
-              over (Ties-s12 z lines before l) (omega arith),
-              refl,
-              (
-                over (Ties-s13 before l) (omega arith),
-                refl,
-                (
-                  over (Ties-s14 l) (omega arith),
-                  refl,
-                  (
-                    over (Ties-s15 l) (omega arith),
-                    refl,
-                    (
-                      over (Ties-s16 lines before l) (omega arith),
-                      refl,
-                      (
-                        over (Ties-s17 l) (omega arith),
-                        refl,
-                        λ c h g. let m = number_of-most c in omega (arith, m, g),
-                      ),
-                    ),
-                  ),
-                ),
-              ),
-            ),
-          ),
-        ),
-      )
+      ∷ (has_sandwich l.statement, causes.SandwichDigit) ∷ [])
+      (search (sentences, over, number_of-most))
       (λ c h. h.1)

@@ -1,17 +1,18 @@
 -- What the fold does at the items of one line.
-use Rattle.ed_link.proofs.Kit.{reverse, eq-eqb, T_F, Size, word_with, AreSpellable, Item, [], ap, arith, Bool, false}
-use Rattle.ed_link.proofs.Kit.{if◌then◌else◌, length, List, nat_eq, nat_lt, None, Option, refl, Some, subst, sym, true}
-use Rattle.ed_link.proofs.Kit.{unwrap_or, ℕ, ◌%◌, ◌*◌, ◌++◌, ◌+◌, ◌/◌, ◌<◌, ◌∙◌, ◌∷◌, ◌≡◌, ◌≤◌, flat_map, le-ltb}
-use Rattle.ed_link.proofs.Kit.{lt-ltb, locations, digit, NotationState, Setting, Statement, Enter, Fetch, Long, Number}
-use Rattle.ed_link.proofs.Kit.{Order, Rows, Segment, Text, map, ◌^◌, nat_tests, length-map, entry, routine_word, find}
-use Rattle.ed_link.proofs.Kit.{table_item, even_from, segment_at, LocationCounter, Definition, after_statement}
-use Rattle.ed_link.proofs.Kit.{first_place, image, long_words, operand_number, parameter_letters, parameters}
-use Rattle.ed_link.proofs.Kit.{placed_by_line, placed_words, presets, set_to, items_of, preset_items, routine_items}
-use Rattle.ed_link.proofs.Kit.{use_items, with_heading, word_item}
+use Rattle.ed_link.proofs.Kit.{reverse, eq-eqb, T_F, Size, word_with, AreSpellable, Item, [], ap, arith, false}
+use Rattle.ed_link.proofs.Kit.{if◌then◌else◌, length, List, nat_eq, nat_lt, None, Option, refl, Some, true, ℕ, ◌*◌}
+use Rattle.ed_link.proofs.Kit.{◌++◌, ◌+◌, ◌<◌, ◌∙◌, ◌∷◌, ◌≡◌, ◌≤◌, flat_map, le-ltb, lt-ltb, locations, digit}
+use Rattle.ed_link.proofs.Kit.{NotationState, Setting, Statement, Enter, Fetch, Long, Number, Order, Rows, Segment}
+use Rattle.ed_link.proofs.Kit.{Text, map, length-map, entry, routine_word, find, table_item, even_from, segment_at}
+use Rattle.ed_link.proofs.Kit.{LocationCounter, Definition, after_statement, first_place, image, long_words}
+use Rattle.ed_link.proofs.Kit.{operand_number, parameter_letters, parameters, placed_by_line, placed_words, presets}
+use Rattle.ed_link.proofs.Kit.{set_to, items_of, preset_items, routine_items, use_items, with_heading, word_item}
 use Rattle.ed_symbols.specs.Places.{routine_places as places_of}
 use Rattle.ed_link.proofs.Orders.{AreSpellable-split, laid_pass, order_pass, headed_pass, AreSpellable-unheaded}
 use Rattle.ed_link.proofs.Passes.{Passes, stays, Passes-join, at}
 use Rattle.ed_link.proofs.Uses.{AreKnown, all, holds, image_pass, reversed}
+use Rattle.ed_link.proofs.Kit.{rules}
+use Rattle.std.proofs.lemmas.Grind.{common_steps}
 
 -- no location is before itself
 pub lt_same : (a : ℕ) → nat_lt a a ≡ false
@@ -62,28 +63,14 @@ IsSound z s st = Unit {0}
 -- the location after a `long`
 pub long_spot : (s : LocationCounter) (v : ℕ)
     → record s { place = s.place + length (long_words s.place v) } ≡ after_statement (Some (Long v)) s
-long_spot s v = λ i. record s { place = by_test (nat_eq (s.place % 2) 1) refl i }
-  where
-    by_test : (t : Bool) → nat_eq (s.place % 2) 1 ≡ t
-        → s.place + length ((if t then 0 ∷ [] else []) ++ (v % 2 ^ 17 ∷ (v / 2 ^ 18 ∷ []))) ≡ even_from s.place + 2
-    by_test true e = let q : s.place % 2 ≡ 1 = grind (arith, nat_tests) in omega arith
-    by_test false e = let q : s.place % 2 ≡ 0 = grind (arith, nat_tests) in omega arith
+long_spot s v = search rules
 
 module _ {z : Size} {words : List ℕ} {theta : ℕ} {s : LocationCounter} {notation : NotationState}
     (ready : IsReady theta s notation)
     (whole : length words ≡ 1024) (symbols : List Definition) where
   -- a line of no words
   quiet : Line z words theta s.place s notation [] []
-  quiet = record {
-    last = notation;
-    passes = stays;
-    ready = record {
-      base = ready.base;
-      follows = ready.follows;
-      theta_is = let e = lt_same s.place in rw e ready.theta_is;
-    };
-    placed = refl;
-  }
+  quiet = record { last = notation; passes = stays; ready = search (rules, lt_same); placed = refl }
 
   -- a line of words in a segment
   in_segment : (is : List Item) (ws : List ℕ) → 0 < length is → 0 < length ws → s.place + length ws ≤ locations z
@@ -95,11 +82,7 @@ module _ {z : Size} {words : List ℕ} {theta : ℕ} {s : LocationCounter} {nota
   in_segment is ws some more high p = record {
     last = at (s.place + length ws) s.base (reverse (placed_words s.place ws) ++ notation.placed);
     passes = headed_pass s.place s.base _ refl (omega arith) some ready.follows p;
-    ready = record {
-      base = omega arith;
-      follows = λ h. (refl, refl);
-      theta_is = let e = lt-ltb s.place (s.place + length ws) (omega arith) in rw e refl;
-    };
+    ready = search (rules, lt-ltb);
     placed = refl;
   }
 
@@ -109,9 +92,7 @@ module _ {z : Size} {words : List ℕ} {theta : ℕ} {s : LocationCounter} {nota
       → s.place + length ws ≤ locations z
       → Line z words theta s.place (record s { place = s.place + length ws }) notation
       (with_heading (map word_item ws) (nat_eq s.place s.base) s.base) (placed_words s.place ws)
-  numbered ws are some low high =
-      in_segment _ ws (let l = length-map ws word_item in omega arith) some high
-      (laid_pass s.base ws s.place (AreSpellable-unheaded _ _ _ are) (omega arith) high)
+  numbered ws are some low high = search (rules, in_segment, laid_pass, AreSpellable-unheaded)
 
   use_line : (ts : List Setting) (base : ℕ) (found : Option ℕ) (segments : ℕ) → IsUse z ts base found
       → AreSpellable (use_items symbols ts base found)
@@ -147,26 +128,14 @@ module _ {z : Size} {words : List ℕ} {theta : ℕ} {s : LocationCounter} {nota
       → Line z words theta (first_place st s) (after_statement st s) notation (items_of symbols s st)
       (placed_by_line symbols s st)
   line None is are = quiet
-  line (Some (Segment name base)) is are = record {
-    last = notation;
-    passes = stays;
-    ready = record {
-      base = omega arith;
-      follows = λ h. let e = eq_same _ in let q = sym e ∙ h in cc;
-      theta_is = let e = lt_same (unwrap_or base s.place) in rw e ready.theta_is;
-    };
-    placed = refl;
-  }
+  line (Some (Segment name base)) is are =
+      record { last = notation; passes = stays; ready = search (rules, lt_same, eq_same); placed = refl }
   line (Some (Order f o long)) is are =
       let w = word_with f (operand_number symbols (segment_at s) o) false (digit long) in
       in_segment _ (w ∷ []) (omega arith) (omega arith) is.1
       (order_pass symbols s f o long (omega (arith, is.0)) (omega (arith, is.1)))
   line (Some (Number w)) is are = numbered (w ∷ []) are (omega arith) is.0 is.1
-  line (Some (Text codes)) is are =
-      let l = length-map codes.items (λ c. 4096 * c) in
-      subst (λ (x : LocationCounter). Line z words theta s.place x notation (items_of symbols s (Some (Text codes)))
-      (placed_by_line symbols s (Some (Text codes)))) (λ i. record s { place = s.place + l i })
-      (numbered _ are (omega (arith, l, is.0)) is.1 (omega (arith, l, is.2)))
+  line (Some (Text codes)) is are = grind (arith, common_steps, numbered)
   line (Some (Long v)) is are =
       let e = long_spot s v in
       let p : s.place + length (long_words s.place v) ≡ even_from s.place + 2 =

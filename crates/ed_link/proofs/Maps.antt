@@ -1,22 +1,19 @@
 -- The words in ascending order of location are the map of the words in the order of the lines.
-use Rattle.ed_link.proofs.Kit.{reverse, eq-eqb, ne_eqb, get_or-set_same, length-set, placed_at, [], ap, arith, Bool}
+use Rattle.ed_link.proofs.Kit.{reverse, eq-eqb, ne_eqb, length-set, placed_at, [], ap, arith, Bool}
 use Rattle.ed_link.proofs.Kit.{false, get_or, if◌then◌else◌, length, List, nat_eq, None, Option, refl, set, Some, suc}
-use Rattle.ed_link.proofs.Kit.{sym, true, ℕ, ◌++◌, ◌+◌, ◌<◌, ◌∙◌, ◌∷◌, ◌≡◌, eqb-true, get_or-set_other, map, zero}
+use Rattle.ed_link.proofs.Kit.{sym, true, ℕ, ◌++◌, ◌+◌, ◌<◌, ◌∙◌, ◌∷◌, ◌≡◌, map, zero}
 use Rattle.ed_link.proofs.Kit.{is_some, empty_table, put_all, table_of, word_at, words_from, Placed}
 use Rattle.std.specs.List.{filter, range_with_len}
-use Rattle.std.proofs.lemmas.Bool.{eqb-false}
 use Rattle.std.proofs.lemmas.List.{get_or-replicate, append-nil}
 use Rattle.ed_link.proofs.Lengths.{empty_length, put_all_length}
 use Rattle.ed_link.proofs.Orders.{placed_more}
+use Rattle.ed_link.proofs.Kit.{rules}
 
 -- one word is put
 one : {found : Option ℕ} (t : List (Option ℕ)) (p w a : ℕ) (b : Bool) → nat_eq p a ≡ b → a < length t
     → get_or t a None ≡ found
     → get_or (set t p (Some w)) a None ≡ (if b then Some w else found)
-one t p w a true e l h =
-    let q = eqb-true p a e in
-    ap (λ x. get_or (set t x (Some w)) a None) q ∙ get_or-set_same t a (Some w) None l
-one t p w a false e l h = get_or-set_other t p a (Some w) None (λ q. eqb-false p a e (sym q)) ∙ h
+one t p w a b e l h = search rules
 
 -- words are put
 put_is : (ps m : List (ℕ × ℕ)) (t : List (Option ℕ)) (a : ℕ) → a < length t → get_or t a None ≡ placed_at m a
@@ -49,9 +46,7 @@ at [] b k = refl
 at (None ∷ t) b zero = below t (b + 1) (b + 0) (omega arith)
 at (None ∷ t) b (suc k) = let e : b + suc k ≡ b + 1 + k = omega arith in rw e (at t (b + 1) k)
 at (Some w ∷ t) b zero = let e : nat_eq b (b + 0) ≡ true = eq-eqb b (b + 0) (omega arith) in rw e refl
-at (Some w ∷ t) b (suc k) =
-    let e : b + suc k ≡ b + 1 + k = omega arith in
-    rw (ne_eqb b (b + suc k) (omega arith), e) (at t (b + 1) k)
+at (Some w ∷ t) b (suc k) = search (rules, ne_eqb, at t (b + 1) k)
 
 -- the words in ascending order of location are the map
 pub words_are : (ps : List (ℕ × ℕ)) (a : ℕ) → a < 1024

@@ -1,17 +1,12 @@
 -- What the fold does at the items of the words of a line in a segment.
 use Rattle.ed_link.proofs.Kit.{reverse, reverse-append, T_F, Size, word_with, AreSpellable, Item, Letter, [], ap}
-use Rattle.ed_link.proofs.Kit.{append_assoc, arith, Bool, false, inr, length, List, nat_eq, refl, subst, suc, sym}
-use Rattle.ed_link.proofs.Kit.{true, ℕ, ◌%◌, ◌*◌, ◌++◌, ◌+◌, ◌/◌, ◌<◌, ◌∙◌, ◌∷◌, ◌≡◌, ◌≤◌, and_parts, eqb-true}
-use Rattle.ed_link.proofs.Kit.{leb-true, ltb-true, locations, digit, locations_most, item_word, NotationState, row_kind}
-use Rattle.ed_link.proofs.Kit.{is_spellable, Does-placing, Operand, map, ◌^◌, nat_tests, segment_at, LocationCounter}
-use Rattle.ed_link.proofs.Kit.{Definition, operand_number, placed_words, goes_by_theta, order_item, with_heading}
-use Rattle.ed_link.proofs.Kit.{word_item}
-use Rattle.ed_syntax.specs.declared.program.Operand.TheVariants.{Label}
+use Rattle.ed_link.proofs.Kit.{append_assoc, arith, Bool, false, inr, length, List, nat_eq, refl, suc, sym, true, ℕ}
+use Rattle.ed_link.proofs.Kit.{◌%◌, ◌*◌, ◌++◌, ◌+◌, ◌<◌, ◌∙◌, ◌∷◌, ◌≡◌, ◌≤◌, eqb-true, leb-true, locations, digit}
+use Rattle.ed_link.proofs.Kit.{locations_most, item_word, NotationState, row_kind, is_spellable, Does-placing}
+use Rattle.ed_link.proofs.Kit.{Operand, map, ◌^◌, segment_at, LocationCounter, Definition, operand_number}
+use Rattle.ed_link.proofs.Kit.{placed_words, goes_by_theta, order_item, with_heading, word_item}
 use Rattle.ed_link.proofs.Passes.{Passes, stays, goes, Passes-join, at, Passes-heading}
-
--- the function of an item that can be spelled
-function_fits : (i : Item) → is_spellable i ≡ true → i.function < 32
-function_fits i h = ltb-true _ _ (and_parts _ _ h).0
+use Rattle.ed_link.proofs.Kit.{rules, nat_tests}
 
 -- items that can be spelled, in two parts
 pub AreSpellable-split : (is js : List Item) → AreSpellable (is ++ js) → AreSpellable is × AreSpellable js
@@ -22,13 +17,11 @@ AreSpellable-split (i ∷ is) js are = let s = AreSpellable-split is js are.1 in
 
 word_is : (words : List ℕ) (notation : NotationState) (w : ℕ) (odd : Bool) → nat_eq (w % 2) 1 ≡ odd → w < 2 ^ 17
     → (item_word words notation (word_item w) ≡ w) × (row_kind (word_item w).end ≡ Letter)
-word_is words notation w true e h = let m : w % 2 ≡ 1 = eqb-true _ _ e in (rw e (omega arith), rw e refl)
-word_is words notation w false e h = let m : w % 2 ≡ 0 = grind (arith, nat_tests)
-    in (rw e (omega arith), rw e refl)
+word_is words notation w odd e h = search rules
 
 -- a word is below 2^17
 small : (w : ℕ) → is_spellable (word_item w) ≡ true → w < 2 ^ 17
-small w h = let f : w / 4096 < 32 = function_fits (word_item w) h in omega arith
+small w h = grind (arith, nat_tests)
 
 -- what is placed first is last in the list
 pub placed_more : (p : ℕ × ℕ) (ps m : List (ℕ × ℕ)) → reverse ps ++ (p ∷ m) ≡ reverse (p ∷ ps) ++ m
@@ -45,22 +38,18 @@ laid_pass {z} {words} {placed} base (w ∷ ws) place are low high =
     let e : place + suc (length ws) ≡ place + 1 + length ws = omega arith in
     let r = laid_pass {placed = (place, w) ∷ placed} base ws (place + 1) are.1 (omega arith) (omega arith) in
     goes (Does-placing z words place k.1 refl low (omega arith) k.0) (inr k.1)
-    (subst (λ (n : NotationState). Passes z words (at (place + 1) base ((place, w) ∷ placed)) (map word_item ws) n)
-    (λ i. at (sym e i) base (placed_more (place, w) (placed_words (place + 1) ws) placed i)) r)
+    (rw (e, ← (placed_more (place, w) (placed_words (place + 1) ws) placed)) r)
 
 -- an order
 
 theta_base : (symbols : List Definition) (s : LocationCounter) (o : Operand) → goes_by_theta symbols s o ≡ true
     → s.base ≤ operand_number symbols (segment_at s) o
-theta_base symbols s (Label name plus) h = leb-true _ _ (and_parts _ _ h).1
-theta_base symbols s o h = cc
+theta_base symbols s o h = search (rules, leb-true)
 
 -- it ends with a code letter
 order_letter : (b : Bool) (base f n : ℕ) (long : Bool)
     → row_kind (order_item b base f n long).end ≡ Letter
-order_letter true base f n long = refl
-order_letter false base f n true = refl
-order_letter false base f n false = refl
+order_letter b base f n long = search rules
 
 -- an order is placed
 pub order_pass : {z : Size} {words : List ℕ} {placed : List (ℕ × ℕ)} (symbols : List Definition)
@@ -81,9 +70,7 @@ order_pass {z} {words} {placed} symbols s f o long low high =
     -- its word, by θ or by its number
     its_word : (n : ℕ) (b long : Bool) → (b ≡ true → s.base ≤ n)
         → item_word words (at s.place s.base placed) (order_item b s.base f n long) ≡ word_with f n false (digit long)
-    its_word n true long h = let l = h refl in omega arith
-    its_word n false true h = omega arith
-    its_word n false false h = omega arith
+    its_word n b long h = search rules
 
 -- items after the head of their segment
 
@@ -92,24 +79,13 @@ pub headed_pass : {z : Size} {words : List ℕ} {notation last : NotationState} 
     → nat_eq place base ≡ first → place < locations z → 0 < length is
     → (first ≡ false → (notation.directive ≡ T_F + 2 * place) × (notation.theta ≡ 2 * base))
     → Passes z words (at place base notation.placed) is last → Passes z words notation (with_heading is first base) last
-headed_pass {is = []} place base first e high some follows p = absurd (omega arith)
-headed_pass {z} {words} {notation} {last} {is = i ∷ is} place base true e high some follows p =
+headed_pass {z} {is = i ∷ is} place base true e high some follows p =
     let m = locations_most z in
     let q : place ≡ base = eqb-true _ _ e in
-    Passes-join (Passes-heading base (omega arith)) (subst (λ (n : ℕ). Passes z words
-    (at n base notation.placed) (i ∷ is) last) q p)
-headed_pass {z} {words} {notation} {last} {is = i ∷ is} place base false e high some follows p =
-    let f = follows refl in
-    let n : at place base notation.placed ≡ notation = λ k. record {
-      directive = sym (f.0) k;
-      theta = sym (f.1) k;
-      placed = notation.placed;
-    } in
-    rw (← n) p
+    Passes-join (Passes-heading base (omega arith)) (rw q at p)
+headed_pass place base first e high some follows p = search rules
 
 -- items after a head can be spelled
 pub AreSpellable-unheaded : (is : List Item) (first : Bool) (base : ℕ)
     → AreSpellable (with_heading is first base) → AreSpellable is
-AreSpellable-unheaded [] first base are = tt
-AreSpellable-unheaded (i ∷ is) true base are = are.1.1
-AreSpellable-unheaded (i ∷ is) false base are = are
+AreSpellable-unheaded is first base are = search rules

@@ -1,30 +1,22 @@
 -- The same for the fault S15, which is about the settings of a `use`.
-use Rattle.ed_link.proofs.Kit.{Contains, eq-eqb, All-contains, AllPass-from_list_all, [], ap, arith, Bool, false}
-use Rattle.ed_link.proofs.Kit.{if◌then◌else◌, length, List, nat_eq, None, Option, refl, Some, sym, true, ℕ, ◌∙◌, ◌∷◌}
-use Rattle.ed_link.proofs.Kit.{◌≡◌, list_all, and_parts, eqb-true, Line, Setting, Statement, Fetch, map, and_from}
-use Rattle.ed_link.proofs.Kit.{length-map, entry, find, is_some, not, ◌||◌, list_any, not_true, Ties, true_not, sets}
-use Rattle.ed_link.proofs.Kit.{sets_otherwise, set_to}
+use Rattle.ed_link.proofs.Kit.{Contains, eq-eqb, All-contains, AllPass-from_list_all, [], ap, arith, Bool, length}
+use Rattle.ed_link.proofs.Kit.{List, nat_eq, None, Option, refl, Some, sym, true, ℕ, ◌∙◌, ◌∷◌, ◌≡◌, list_all}
+use Rattle.ed_link.proofs.Kit.{and_parts, eqb-true, Line, Setting, Statement, Fetch, map, and_from, length-map, entry}
+use Rattle.ed_link.proofs.Kit.{find, is_some, not, list_any, not_true, Ties, true_not, sets, sets_otherwise, set_to}
 use Rattle.std.proofs.lemmas.List.Elements.{Contains-append_right}
 use Rattle.std.proofs.lemmas.List.Folds.{Any-from_list_any, list_any-from_Any}
 use Rattle.ed_link.specs.Faults.{letter_set, SetExactly, SetsOtherwise}
+use Rattle.ed_link.proofs.Kit.{rules}
 
 set_any : (ts : List Setting) (c : ℕ) → is_some (set_to ts c) ≡ list_any (λ x. nat_eq x c) (map letter_set ts)
 set_any [] c = refl
-set_any (t ∷ ts) c = by_test (nat_eq t.letter c) (set_any ts c)
-  where
-    by_test : (b : Bool) → is_some (set_to ts c) ≡ list_any (λ x. nat_eq x c) (map letter_set ts)
-        → is_some (if b then Some t.operand else set_to ts c)
-        ≡ (b || list_any (λ x. nat_eq x c) (map letter_set ts))
-    by_test true e = refl
-    by_test false e = e
+set_any (t ∷ ts) c = search (rules, set_any ts c)
 
 set_in : (ts : List Setting) (c : ℕ) → is_some (set_to ts c) ≡ true → Contains (map letter_set ts) c
-set_in ts c h =
-    let a = Any-from_list_any (λ x. nat_eq x c) (map letter_set ts) (sym (set_any ts c) ∙ h) in
-    rw (← (eqb-true a.1 c a.4)) (a.0, a.2, a.3)
+set_in ts c h = search (rules, Any-from_list_any, set_any, eqb-true)
 
 in_set : (ts : List Setting) (c : ℕ) → Contains (map letter_set ts) c → is_some (set_to ts c) ≡ true
-in_set ts c h = set_any ts c ∙ list_any-from_Any (λ x. nat_eq x c) _ (h.0, c, h.1, h.2, eq-eqb c c refl)
+in_set ts c h = search (rules, set_any, list_any-from_Any, eq-eqb)
 
 all_by : (p : ℕ → Bool) (cs : List ℕ) → ((c : ℕ) → Contains cs c → p c ≡ true) → list_all p cs ≡ true
 all_by p [] h = refl

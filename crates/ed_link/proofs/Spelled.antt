@@ -1,21 +1,18 @@
 -- The items of a line without a fault can be spelled.
-use Rattle.ed_link.proofs.Kit.{Size, AreSpellable, Item, [], arith, Bool, false, if◌then◌else◌, List, nat_eq, nat_le}
-use Rattle.ed_link.proofs.Kit.{nat_lt, None, Option, refl, Some, true, ℕ, ◌%◌, ◌*◌, ◌++◌, ◌+◌, ◌-◌, ◌/◌, ◌<◌, ◌∷◌, ◌≡◌}
-use Rattle.ed_link.proofs.Kit.{◌≤◌, flat_map, list_all, and_parts, leb-true, ltb-true, locations_most, row_kind, canonical}
-use Rattle.ed_link.proofs.Kit.{is_spellable, Operand, Setting, Statement, Enter, Fetch, Long, Number, Order, Text, map}
-use Rattle.ed_link.proofs.Kit.{◌^◌, nat_tests, catalogue, entry, is_ready, is_ready_row, find, table_item, TableRow}
-use Rattle.ed_link.proofs.Kit.{segment_at, LocationCounter, Definition, ◌||◌, operand_number, parameter_letters}
-use Rattle.ed_link.proofs.Kit.{set_to, goes_by_theta, heads, item_with, items_of, order_item, preset_items}
-use Rattle.ed_link.proofs.Kit.{routine_items, use_items, with_heading, word_item}
-use Rattle.ed_syntax.proofs.Kit.{pos, unsigned_abs, ℤ, ints}
-use Rattle.std.proofs.Common.{int_lt}
+use Rattle.ed_link.proofs.Kit.{Size, AreSpellable, Item, [], arith, Bool, false, if◌then◌else◌, List, nat_le, nat_lt}
+use Rattle.ed_link.proofs.Kit.{None, Option, refl, Some, true, ℕ, ◌%◌, ◌*◌, ◌++◌, ◌/◌, ◌<◌, ◌∷◌, ◌≡◌, ◌≤◌, flat_map}
+use Rattle.ed_link.proofs.Kit.{list_all, and_parts, leb-true, ltb-true, locations_most, row_kind, canonical}
+use Rattle.ed_link.proofs.Kit.{is_spellable, Operand, Setting, Statement, Enter, Fetch, Long, Number, Order, Text}
+use Rattle.ed_link.proofs.Kit.{map, ◌^◌, nat_tests, catalogue, entry, is_ready, is_ready_row, find, table_item}
+use Rattle.ed_link.proofs.Kit.{TableRow, LocationCounter, Definition, parameter_letters, set_to, item_with, items_of}
+use Rattle.ed_link.proofs.Kit.{order_item, preset_items, routine_items, use_items, with_heading, word_item}
+use Rattle.ed_syntax.proofs.Kit.{ℤ}
 use Rattle.ed_notation.specs.Items.{ends}
 use Rattle.ed_syntax.proofs.Meaning.{IsStatement}
-use Rattle.ed_symbols.specs.Operands.{operand_value}
 use Rattle.ed_link.specs.Linked.{order_number}
-use Rattle.ed_link.specs.Punch.{ending}
 use Rattle.ed_link.proofs.Closed.{rows_are_ready}
 use Rattle.ed_link.proofs.Lines.{IsSound, IsUse}
+use Rattle.ed_link.proofs.Kit.{rules}
 
 spelled : (f n e : ℕ) (mark : Bool) → f < 32 → n ≤ 32767
     → ends (row_kind e) (canonical (item_with f n mark e)).begun ≡ true
@@ -26,89 +23,50 @@ pub AreSpellable-joined : (is js : List Item) → AreSpellable is → AreSpellab
 AreSpellable-joined [] js p q = q
 AreSpellable-joined (i ∷ is) js p q = (p.0, AreSpellable-joined is js p.1 q)
 
-head_spelled : (first : Bool) (base : ℕ) → base ≤ 32767 → AreSpellable (heads first base)
-head_spelled true base few = (spelled 5 base 14 false (omega arith) few refl, (refl, tt))
-head_spelled false base few = tt
-
 headed_spelled : (is : List Item) (first : Bool) (base : ℕ) → base ≤ 32767 → AreSpellable is
     → AreSpellable (with_heading is first base)
-headed_spelled [] first base few are = tt
-headed_spelled (i ∷ is) first base few are = AreSpellable-joined (heads first base) (i ∷ is)
-    (head_spelled first base few) are
+headed_spelled is first base few are = grind arith
 
 -- ---- words
 
-ending_ends : (b : Bool) (f n : ℕ) (mark : Bool)
-    → ends (row_kind (ending b)) (canonical (item_with f n mark (ending b))).begun ≡ true
-ending_ends true f n mark = refl
-ending_ends false f n mark = refl
-
 word_spelled : (w : ℕ) → w < 2 ^ 17 → is_spellable (word_item w) ≡ true
-word_spelled w fits =
-    spelled (w / 4096) (w % 4096 / 2) (ending (nat_eq (w % 2) 1)) false (omega (arith, fits)) (omega arith)
-    (ending_ends (nat_eq (w % 2) 1) (w / 4096) (w % 4096 / 2) false)
+word_spelled w fits = grind (arith, nat_tests)
 
 text_spelled : (codes : List ℕ) → list_all (λ c. nat_lt c 32) codes ≡ true
     → AreSpellable (map word_item (map (λ c. 4096 * c) codes))
 text_spelled [] h = tt
-text_spelled (c ∷ codes) h =
-    let p = and_parts _ _ h in
-    let fits : c < 32 = ltb-true c 32 p.0 in
-    (word_spelled (4096 * c) (omega (arith, fits)), text_spelled codes p.1)
-
-halves_spelled : (v : ℕ) → v < 2 ^ 35 → AreSpellable (map word_item (v % 2 ^ 17 ∷ v / 2 ^ 18 ∷ []))
-halves_spelled v fits = (
-  word_spelled (v % 2 ^ 17) (omega arith),
-  (word_spelled (v / 2 ^ 18) (omega (arith, fits)), tt),
-)
+text_spelled (c ∷ codes) h = search (rules, ltb-true, word_spelled, text_spelled codes)
 
 long_spelled : (odd : Bool) (v : ℕ) → v < 2 ^ 35
     → AreSpellable (map word_item ((if odd then 0 ∷ [] else []) ++ v % 2 ^ 17 ∷ v / 2 ^ 18 ∷ []))
-long_spelled true v fits = (refl, halves_spelled v fits)
-long_spelled false v fits = halves_spelled v fits
+long_spelled odd v fits = search rules
 
 -- ---- orders and parameters
 
 -- the number of a value is one that an order holds
 number_few : (o : Option ℤ) → order_number o ≤ 32767
-number_few None = omega arith
-number_few (Some v) = by_test (int_lt v (pos 0) || int_lt (pos 32767) v) refl
-  where
-    by_test : (t : Bool) → (int_lt v (pos 0) || int_lt (pos 32767) v) ≡ t → (if t then 0 else unsigned_abs v) ≤ 32767
-    by_test true e = omega arith
-    by_test false e = grind (arith, ints)
+number_few o = grind arith
 
 order_spelled : (theta : Bool) (base f n : ℕ) (long : Bool) → f < 32 → n ≤ 32767
     → is_spellable (order_item theta base f n long) ≡ true
-order_spelled true base f n long low few = spelled f (n - base) 18 long low (omega (arith, few)) refl
-order_spelled false base f n long low few = spelled f n (ending long) false low few (ending_ends long f n false)
+order_spelled theta base f n long low few = search rules
 
 preset_spelled : (symbols : List Definition) (o : Option Operand) (c : ℕ) → c ≤ 26
     → AreSpellable (preset_items symbols o c)
-preset_spelled symbols None c h = tt
-preset_spelled symbols (Some o) c h = (
-  spelled 5 (24 + c) 14 false (omega arith) (omega (arith, h)) refl,
-  (
-    spelled 0 _ 17 false (omega arith) (number_few (operand_value symbols None o)) refl,
-    tt,
-  ),
-)
+preset_spelled symbols o c h = grind arith
 
 presets_spelled : (symbols : List Definition) (ts : List Setting) (cs : List ℕ) → list_all (λ c. nat_le c 26) cs ≡ true
     → AreSpellable (flat_map (λ c. preset_items symbols (set_to ts c) c) cs)
 presets_spelled symbols ts [] h = tt
 presets_spelled symbols ts (c ∷ cs) h =
-    let p = and_parts _ _ h in
-    AreSpellable-joined _ _ (preset_spelled symbols _ c (leb-true c 26 p.0)) (presets_spelled symbols ts cs p.1)
+    search (rules, AreSpellable-joined, preset_spelled, leb-true, presets_spelled symbols ts cs)
 
 -- ---- routines
 
 rows_spelled : (own : List ℕ) (rows : List TableRow) → list_all (is_ready_row own) rows ≡ true
     → AreSpellable (map table_item rows)
 rows_spelled own [] h = tt
-rows_spelled own (row ∷ rows) h =
-    let p = and_parts _ _ h in
-    ((and_parts _ _ p.0).0, rows_spelled own rows p.1)
+rows_spelled own (row ∷ rows) h = search (rules, and_parts, rows_spelled own rows)
 
 routine_spelled : list_all is_ready catalogue ≡ true
     → (z : Size) (ts : List Setting) (base : ℕ) (text : List ℕ) (found : Option ℕ) → find text ≡ found
@@ -137,26 +95,19 @@ line_spelled tables z symbols s (Some (Fetch routine name ts)) formed sound base
 line_spelled tables z symbols s (Some (Order f o long)) formed sound base =
     let fact = (formed (Order f o long) refl).1 in
     let m = locations_most z in
-    headed_spelled (order_item (goes_by_theta symbols s o) s.base f (operand_number symbols (segment_at s) o) long ∷ [])
-    (nat_eq s.place s.base)
-    s.base (omega (arith, m, base, sound.1)) (
-      order_spelled (goes_by_theta symbols s o) s.base f (operand_number symbols (segment_at s) o) long fact.0
-          (number_few (operand_value symbols (segment_at s) o)),
-      tt,
-    )
+    search (rules, headed_spelled, order_spelled, number_few)
 line_spelled tables z symbols s (Some (Number w)) formed sound base =
     let fact = (formed (Number w) refl).1 in
     let m = locations_most z in
-    headed_spelled (word_item w ∷ []) (nat_eq s.place s.base) s.base (omega (arith, m, base, sound.1))
-    (word_spelled w fact, tt)
+    search (rules, headed_spelled, word_spelled)
 line_spelled tables z symbols s (Some (Text codes)) formed sound base =
     let fact = (formed (Text codes) refl).1 in
     let m = locations_most z in
-    headed_spelled _ _ s.base (omega (arith, m, base, sound.2)) (text_spelled codes.items fact.1)
+    search (rules, headed_spelled, text_spelled)
 line_spelled tables z symbols s (Some (Long v)) formed sound base =
     let fact = (formed (Long v) refl).1 in
     let m = locations_most z in
-    headed_spelled _ _ s.base (omega (arith, m, base, sound.1)) (long_spelled _ v fact.1)
+    search (rules, headed_spelled, long_spelled)
 line_spelled tables z symbols s st formed sound base = tt
 
 -- the item that aims an `enter`

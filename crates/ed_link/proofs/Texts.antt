@@ -1,13 +1,13 @@
 -- The text of a tape spells its rows.
-use Rattle.ed_link.proofs.Kit.{reading, rows, Spells, [], arith, drop, false, get_or, length, List, refl, Some, subst}
-use Rattle.ed_link.proofs.Kit.{true, ℕ, ◌++◌, ◌+◌, ◌<◌, ◌∷◌, ◌≡◌, ◌≤◌, byte_of, line_from, ◌==◌, nat_tests, drop_more}
-use Rattle.ed_link.proofs.Kit.{after_text}
+use Rattle.ed_link.proofs.Kit.{reading, rows, Spells, [], drop, false, get_or, length, List, refl, Some, subst, true}
+use Rattle.ed_link.proofs.Kit.{ℕ, ◌++◌, ◌+◌, ◌<◌, ◌∷◌, ◌≡◌, ◌≤◌, byte_of, line_from, ◌==◌, drop_more, after_text}
 use Rattle.std.proofs.lemmas.List.{drop_all}
 use Rattle.ed_codes.specs.Reading.{IsReadingOf, Reading}
 use Rattle.ed_codes.specs.Spelling.{row_of}
 use Rattle.ed_codes.specs.Text.{none, row, spacing}
 use Rattle.ed_codes.proofs.Pieces.{spells_append}
 use Rattle.ed_codes.proofs.Readings.{has_one_reading}
+use Rattle.ed_link.proofs.Kit.{rules, arith}
 
 -- a text that reads as rows, and one after it that spells rows
 pub both_read : (before after : List ℕ) (cs ds : List ℕ) → reading before ≡ rows cs → Spells after ds
@@ -18,16 +18,12 @@ both_read before after cs ds e s =
 
 -- if there are rows their text is a line
 pub some_text : (cs : List ℕ) → false ≡ (length cs == 0) → after_text cs ≡ line_from true cs
-some_text [] h = absurd cc
-some_text (c ∷ cs) h = refl
+some_text cs h = grind arith
 
 -- if there are no rows there is no text
 pub no_text : (cs : List ℕ) → true ≡ (length cs == 0) → Spells (after_text cs) cs
 no_text [] h = none
-no_text (c ∷ cs) h = absurd (of (length (c ∷ cs)) (omega arith) h)
-  where
-    of : (n : ℕ) → 0 < n → true ≡ (n == 0) → ⊥
-    of n some h = grind (arith, nat_tests)
+no_text (c ∷ cs) h = search rules
 
 -- after the last row a line feed is left
 pub last_spells : (cs : List ℕ) (k : ℕ) → length cs ≤ k → Spells (line_from true (drop k cs)) (drop k cs)

@@ -1,7 +1,7 @@
 -- What the fold does at the items of a `use` line: preset parameters, and a routine's items.
 use Rattle.ed_link.proofs.Kit.{reverse, cases_eq, ne_eqb, get_or-set_same, reverse-append, same_Some, T_F, Size, least}
 use Rattle.ed_link.proofs.Kit.{word_with, AreSpellable, Item, Letter, [], ap, append_assoc, arith, Bool, false, get_or}
-use Rattle.ed_link.proofs.Kit.{inl, inr, length, List, nat_le, nat_lt, None, Option, refl, Some, subst, suc, sym, true}
+use Rattle.ed_link.proofs.Kit.{inl, inr, length, List, nat_le, nat_lt, None, Option, refl, Some, suc, sym, true}
 use Rattle.ed_link.proofs.Kit.{ℕ, ◌&&◌, ◌*◌, ◌++◌, ◌+◌, ◌-◌, ◌<◌, ◌∙◌, ◌∷◌, ◌≡◌, ◌≤◌, ◌⊎◌, flat_map, list_all}
 use Rattle.ed_link.proofs.Kit.{and_parts, leb-true, ltb-true, get_or-set_other, locations, NotationState, row_kind}
 use Rattle.ed_link.proofs.Kit.{is_spellable, Does-aiming, Does-placing, Operand, Setting, map, zero, nat_tests, routine_word}
@@ -15,26 +15,16 @@ use Rattle.ed_library.proofs.Letters.{value_of_parameter}
 use Rattle.ed_link.specs.Linked.{parameter}
 use Rattle.ed_link.proofs.Orders.{AreSpellable-split, placed_more}
 use Rattle.ed_link.proofs.Passes.{Passes, stays, goes, Passes-join, at}
+use Rattle.ed_link.proofs.Kit.{rules}
 
 -- a fact of `count` numbers, from n onwards
 abbrev Each : (ℕ → Type 0) → ℕ → ℕ → Type 0
 Each P zero n = Unit {0}
 Each P (suc count) n = P n × Each P count (n + 1)
 
-each_at : (P : ℕ → Type 0) (count n c : ℕ) → Each P count n → n ≤ c → c < n + count → P c
-each_at P zero n c p l h = absurd (omega (arith, l, h))
-each_at P (suc count) n c p l h = elim (cases_eq c n) [
-  | inl e ↦ rw e p.0
-  | inr m ↦ each_at P count (n + 1) c p.1 (omega arith) (omega arith)
-]
-
 -- a fact of each letter of a parameter
 six : (P : ℕ → Type 0) → Each P 6 21 → (c : ℕ) → 21 ≤ c → c ≤ 26 → P c
-six P p c l h = each_at P 6 21 c p l (omega arith)
-
--- the letter of a parameter is a code letter
-pub letter_kind : (c : ℕ) → 21 ≤ c → c ≤ 26 → row_kind c ≡ Letter
-letter_kind c l h = six (λ x. row_kind x ≡ Letter) (refl, (refl, (refl, (refl, (refl, (refl, tt)))))) c l h
+six P p c l h = grind arith
 
 -- the number of an item that can be spelled
 spelled_number : (i : Item) → is_spellable i ≡ true → i.number ≤ 32767
@@ -42,7 +32,7 @@ spelled_number i h = grind (arith, nat_tests)
 
 -- what is placed later comes first in the list
 pub reversed : (ps qs m : List (ℕ × ℕ)) → reverse qs ++ (reverse ps ++ m) ≡ reverse (ps ++ qs) ++ m
-reversed ps qs m = sym (append_assoc (reverse qs) (reverse ps) m) ∙ ap (λ x. x ++ m) (sym (reverse-append ps qs))
+reversed ps qs m = rw (reverse-append, append_assoc) refl
 
 -- ---- preset parameters
 
@@ -69,7 +59,7 @@ module _ (words : List ℕ) (symbols : List Definition) (ts : List Setting) wher
   put_other {p} placed w d n h o e = get_or-set_other (over placed words) p (24 + d) w 0 n ∙ h o e
 
   still : (placed : List (ℕ × ℕ)) (p w : ℕ) → 56 ≤ p → HoldsAll placed → HoldsAll ((p, w) ∷ placed)
-  still placed p w high h = record { held = λ c l m. put_other {p = p} placed w c (omega arith) (h.held c l m) }
+  still placed p w high h = search (rules, get_or-set_other)
 
   -- parameters are set
   pub record Sets (z : Size) (notation : NotationState) (is : List Item) (ps : List (ℕ × ℕ)) : Type 0 where
@@ -167,35 +157,23 @@ AreKnown ts [] = Unit {0}
 AreKnown ts (row ∷ rows) = IsKnown ts row.end × AreKnown ts rows
 
 kind_of : (ts : List Setting) (c : ℕ) → IsKnown ts c → row_kind c ≡ Letter
-kind_of ts c (inl e) = rw e refl
-kind_of ts c (inr (inl e)) = rw e refl
-kind_of ts c (inr (inr (inl e))) = rw e refl
-kind_of ts c (inr (inr (inr k))) = letter_kind c k.low k.high
+kind_of ts c known = grind arith
 
 -- the word of a letter's parameter
 parameter_is : (symbols : List Definition) (ts : List Setting) (c : ℕ) → 21 ≤ c → c ≤ 26
     → get_or (parameters symbols ts) (c - 21) 0 ≡ parameter symbols (set_to ts c)
-parameter_is symbols ts c l h =
-    six (λ x. get_or (parameters symbols ts) (x - 21) 0 ≡ parameter symbols (set_to ts x))
-    (refl, (refl, (refl, (refl, (refl, (refl, tt)))))) c l h
+parameter_is symbols ts c l h = grind arith
 
 -- the value of a letter of a parameter is the content of its location
 content : (contents : List ℕ) (theta c : ℕ) → 21 ≤ c → value_of contents theta c ≡ get_or contents (24 + c) 0
-content contents theta c l =
-    rw (ne_eqb c 17 (omega arith), ne_eqb c 18 (omega arith), ne_eqb c 19 (omega arith)) refl
+content contents theta c l = search (rules, ne_eqb)
 
 -- a code letter of a routine has the same value over the store with the parameters of this use
 value_is : {words : List ℕ} {symbols : List Definition} {ts : List Setting} {placed : List (ℕ × ℕ)} (base c : ℕ)
     → IsKnown ts c
     → HoldsAll words symbols ts placed
     → value_of (over placed words) (2 * base) c ≡ value_of (parameter_store (parameters symbols ts)) (2 * base) c
-value_is base c (inl e) h = rw e refl
-value_is base c (inr (inl e)) h = rw e refl
-value_is base c (inr (inr (inl e))) h = rw e refl
-value_is {words} {symbols} {ts} {placed} base c (inr (inr (inr k))) h =
-    content _ (2 * base) c k.low ∙ h.held c k.low k.high k.operand k.is_set
-    ∙ sym (value_of_parameter _ (2 * base) c k.low ∙ parameter_is symbols ts c k.low k.high
-    ∙ ap (λ (x : Option Operand). parameter symbols x) k.is_set)
+value_is base c known h = grind (arith, content, value_of_parameter, parameter_is)
 
 -- a routine's items
 pub image_pass : {z : Size} {words : List ℕ} {symbols : List Definition} {ts : List Setting} {placed : List (ℕ × ℕ)}
@@ -216,5 +194,4 @@ image_pass {z} {words} {symbols} {ts} {placed} (row ∷ rows) place base are low
     let r = image_pass {z = z} {placed = (place, w) ∷ placed} rows (place + 1) base are.1 (omega arith) (omega arith)
     (still words symbols ts placed place w low h) in
     goes (Does-placing z words place kind refl (omega arith) (omega arith) v) (inr kind)
-    (subst (λ (n : NotationState). Passes z words (at (place + 1) base ((place, w) ∷ placed)) (map table_item rows) n)
-    (λ i. at (sym e i) base (placed_more (place, w) (placed_words (place + 1) ws) placed i)) r)
+    (rw (e, ← (placed_more (place, w) (placed_words (place + 1) ws) placed)) r)

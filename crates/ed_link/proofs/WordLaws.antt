@@ -1,22 +1,20 @@
 -- The words of the linked program are those of its lines, and the parameters that its `use` lines set.
-use Rattle.ed_link.proofs.Kit.{reverse, Contains, cases_eq, eq-eqb, ne_eqb, reverse-append, All-contains}
-use Rattle.ed_link.proofs.Kit.{AllPass-from_list_all, same_Some, Size, least, placed_at, [], ap, append_assoc, arith}
-use Rattle.ed_link.proofs.Kit.{get_or, inl, inr, length, List, nat_le, None, Option, refl, Some, subst, suc, sym, true}
-use Rattle.ed_link.proofs.Kit.{ℕ, ◌*◌, ◌++◌, ◌+◌, ◌<◌, ◌∙◌, ◌∷◌, ◌≡◌, ◌≤◌, ◌⊎◌, flat_map, leb-true, locations, Line}
-use Rattle.ed_link.proofs.Kit.{Operand, Setting, Statement, Fetch, Long, Number, Order, Text, zero, length-map, entry}
-use Rattle.ed_link.proofs.Kit.{routine_word, find, table_item, even_from, routine_places, LocationCounter, Definition}
-use Rattle.ed_link.proofs.Kit.{counter_after, counter_from, IsLineAfter, after_statement, first_counter, HasNoFault}
-use Rattle.ed_link.proofs.Kit.{on_line, end_place, first_place, image, linked_words, operand_number, parameter_letters}
-use Rattle.ed_link.proofs.Kit.{parameters, placed_by_line, placed_from, placed_words, preset, presets, set_to}
-use Rattle.ed_link.proofs.Kit.{symbols_of}
+use Rattle.ed_link.proofs.Kit.{reverse, Contains, cases_eq, eq-eqb, ne_eqb, reverse-append, same_Some, Size, least}
+use Rattle.ed_link.proofs.Kit.{placed_at, [], ap, append_assoc, arith, get_or, inl, inr, length, List, None, Option}
+use Rattle.ed_link.proofs.Kit.{refl, Some, subst, suc, sym, ℕ, ◌*◌, ◌++◌, ◌+◌, ◌<◌, ◌∙◌, ◌∷◌, ◌≡◌, ◌≤◌, ◌⊎◌, flat_map}
+use Rattle.ed_link.proofs.Kit.{locations, Line, Operand, Setting, Statement, Fetch, zero, LocationCounter}
+use Rattle.ed_link.proofs.Kit.{Definition, counter_after, counter_from, IsLineAfter, after_statement, first_counter}
+use Rattle.ed_link.proofs.Kit.{HasNoFault, on_line, first_place, image, linked_words, operand_number}
+use Rattle.ed_link.proofs.Kit.{parameter_letters, placed_by_line, placed_from, placed_words, preset, presets, set_to}
+use Rattle.ed_link.proofs.Kit.{symbols_of, append-nil}
 use Rattle.std.proofs.lemmas.Bool.{cases_lt}
-use Rattle.std.proofs.lemmas.List.{append-nil}
 use Rattle.ed_link.specs.Faults.{LineHasWord}
 use Rattle.ed_link.specs.Words.{EachWordStands, IsLastSet, LinePlaces, LineSets, linked_word, words_of_line}
 use Rattle.ed_link.specs.Words.{routine_words}
-use Rattle.ed_link.proofs.Lines.{long_spot}
 use Rattle.ed_link.proofs.Orders.{placed_more}
 use Rattle.ed_syntax.specs.declared.fault.SourceCause.TheVariants as causes
+use Rattle.ed_link.proofs.Kit.{rules}
+use Rattle.std.proofs.lemmas.Grind.{common_steps}
 
 -- ---- words with their locations
 
@@ -36,15 +34,7 @@ Found ps m a = ((w : ℕ) × Among ps a w × (placed_at (reverse ps ++ m) a ≡ 
 
 found : (ps m : List (ℕ × ℕ)) (a : ℕ) → Found ps m a
 found [] m a = inr (λ w h. h, refl)
-found (p ∷ ps) m a =
-    let cut = ap (λ x. placed_at x a) (sym (placed_more p ps m)) in
-    elim (found ps (p ∷ m) a) [
-      | inl h ↦ inl (h.0, inr h.1, cut ∙ h.2)
-      | inr h ↦ elim (cases_eq p.0 a) [
-        | inl e ↦ let t = eq-eqb p.0 a e in inl (p.1, inl (e, refl), cut ∙ h.1 ∙ rw t refl)
-        | inr n ↦ let t = ne_eqb p.0 a n in inr (λ w. elim [ inl g ↦ n g.0 | inr g ↦ h.0 w g ], cut ∙ h.1 ∙ rw t refl)
-      ]
-    ]
+found (p ∷ ps) m a = search (rules, placed_more, cases_eq, eq-eqb, ne_eqb, found ps (p ∷ m) a)
 
 -- a location that some of them have, all with one word
 settled : (ps m : List (ℕ × ℕ)) (a w : ℕ) → Among ps a w → ((v : ℕ) → Among ps a v → v ≡ w)
@@ -92,35 +82,15 @@ laid_is place (v ∷ ws) a w (inr h) =
 laid_has : (place : ℕ) (ws : List ℕ) (k : ℕ) → k < length ws → Among (placed_words place ws) (place + k) (get_or ws k 0)
 laid_has place [] k low = absurd (omega (arith, low))
 laid_has place (v ∷ ws) zero low = inl (omega arith, refl)
-laid_has place (v ∷ ws) (suc k) low =
-    let e : place + 1 + k ≡ place + suc k = omega arith in
-    inr (rw (← e) (laid_has (place + 1) ws k (omega (arith, low))))
+laid_has place (v ∷ ws) (suc k) low = search (rules, laid_has (place + 1) ws k (omega (arith, low)))
 
 -- ---- the words of a line
 
-module _ (symbols : List Definition) (s : LocationCounter) where
-  -- the line's own words are where they are placed
-  routine_is : (ts : List Setting) (base : ℕ) (r : Option ℕ)
-      → image symbols ts base r ≡ placed_words base (routine_words symbols ts base r)
-  routine_is ts base None = refl
-  routine_is ts base (Some r) = refl
+abbrev settings_of : Option Statement → List Setting
+settings_of (Some (Fetch r n ts)) = ts.items
+settings_of st = []
 
-  routine_fits : (ts : List Setting) (base : ℕ) (r : Option ℕ)
-      → base + length (routine_words symbols ts base r) ≡ base + routine_places r
-  routine_fits ts base None = refl
-  routine_fits ts base (Some r) =
-      ap (λ n. base + n)
-      (length-map (entry r).items (λ row. routine_word (parameters symbols ts) base (table_item row)))
-
-  -- they fill the locations of the line
-  fills : (st : Option Statement) → first_place st s + length (words_of_line symbols s st) ≡ end_place st s
-  fills (Some (Order f o d)) = refl
-  fills (Some (Number w)) = refl
-  fills (Some (Text codes)) = ap (λ n. s.place + n) (length-map codes.items (λ c. 4096 * c))
-  fills (Some (Long v)) = ap (λ (t : LocationCounter). t.place) (long_spot s v)
-  fills (Some (Fetch r n ts)) = routine_fits ts.items (even_from s.place) (find r)
-  fills st = omega arith
-
+module _ (symbols : List Definition) where
   -- a letter that is set
   abbrev IsPreset : List Setting → List ℕ → ℕ → ℕ → Type 0
   IsPreset ts cs a w = (c : ℕ) × (o : Operand) × Contains cs c × (set_to ts c ≡ Some o) × (a ≡ 24 + c)
@@ -149,43 +119,19 @@ module _ (symbols : List Definition) (s : LocationCounter) where
   preset_has : (ts : List Setting) (cs : List ℕ) (c : ℕ) (o : Operand) → Contains cs c → set_to ts c ≡ Some o
       → Among (presets_of ts cs) (24 + c) (2 * operand_number symbols None o)
   preset_has ts [] c o (k, low, is) e = absurd (omega (arith, low))
-  preset_has ts (d ∷ cs) c o (zero, low, is) e =
-      let read : set_to ts d ≡ Some o = ap (set_to ts) is ∙ e in
-      among_left _ _ _ _ (subst (λ (x : Option Operand). Among (preset symbols x d) (24 + c)
-      (2 * operand_number symbols None o)) (sym read) (inl (ap (λ n. 24 + n) is, refl)))
+  preset_has ts (d ∷ cs) c o (zero, low, is) e = search (rules, among_left)
   preset_has ts (d ∷ cs) c o (suc k, low, is) e =
       among_right _ _ _ _ (preset_has ts cs c o (k, omega (arith, low), is) e)
 
-  -- what a line places, by its statement
-  abbrev IsOwn : Option Statement → ℕ → ℕ → Type 0
-  IsOwn st a w = IsAt (first_place st s) (words_of_line symbols s st) a w
+module _ (symbols : List Definition) (s : LocationCounter) where
+  routine_is : (ts : List Setting) (base : ℕ) (r : Option ℕ)
+      → image symbols ts base r ≡ placed_words base (routine_words symbols ts base r)
+  routine_is ts base r = grind arith
 
-  abbrev IsSet : Option Statement → ℕ → ℕ → Type 0
-  IsSet (Some (Fetch r n ts)) a w = IsPreset ts.items parameter_letters a w
-  IsSet st a w = ⊥
-
-  by_line : (st : Option Statement) (a w : ℕ) → Among (placed_by_line symbols s st) a w → IsOwn st a w ⊎ IsSet st a w
-  by_line (Some (Order f o d)) a w h = inl (laid_is s.place (words_of_line symbols s (Some (Order f o d))) a w h)
-  by_line (Some (Number v)) a w h = inl (laid_is s.place (words_of_line symbols s (Some (Number v))) a w h)
-  by_line (Some (Text codes)) a w h = inl (laid_is s.place (words_of_line symbols s (Some (Text codes))) a w h)
-  by_line (Some (Long v)) a w h = inl (laid_is s.place (words_of_line symbols s (Some (Long v))) a w h)
-  by_line (Some (Fetch r n ts)) a w h = elim (among_split _ _ a w h) [
-    | inl g ↦ inr (preset_is ts.items parameter_letters a w g)
-    | inr g ↦ inl (laid_is _ _ a w (rw (← (routine_is ts.items _ (find r))) g))
-  ]
-  by_line st a w h = absurd h
-
-  own_placed : (st : Option Statement) (k : ℕ) → k < length (words_of_line symbols s st)
-      → Among (placed_by_line symbols s st) (first_place st s + k) (get_or (words_of_line symbols s st) k 0)
-  own_placed (Some (Order f o d)) k low = laid_has s.place (words_of_line symbols s (Some (Order f o d))) k low
-  own_placed (Some (Number v)) k low = laid_has s.place (words_of_line symbols s (Some (Number v))) k low
-  own_placed (Some (Text codes)) k low = laid_has s.place (words_of_line symbols s (Some (Text codes))) k low
-  own_placed (Some (Long v)) k low = laid_has s.place (words_of_line symbols s (Some (Long v))) k low
-  own_placed (Some (Fetch r n ts)) k low =
-      among_right _ _ _ _ (subst (λ x. Among x (even_from s.place + k)
-      (get_or (routine_words symbols ts.items (even_from s.place) (find r)) k 0))
-      (sym (routine_is ts.items _ (find r))) (laid_has _ _ k low))
-  own_placed st k low = absurd (omega (arith, low))
+  -- a line places the parameters that it sets, and then its own words
+  placed_is : (st : Option Statement) → placed_by_line symbols s st
+      ≡ presets symbols (settings_of st) ++ placed_words (first_place st s) (words_of_line symbols s st)
+  placed_is st = grind (arith, routine_is)
 
 -- ---- the words of all lines
 
@@ -198,9 +144,7 @@ placed_append : (symbols : List Definition) (s : LocationCounter) (xs ys : List 
     → placed_from symbols s (xs ++ ys) ≡ placed_from symbols s xs ++ placed_from symbols (counter_from s xs) ys
 placed_append symbols s [] ys = refl
 placed_append symbols s (x ∷ xs) ys =
-    ap (λ ps. placed_by_line symbols s x.statement ++ ps) (placed_append symbols (after_statement x.statement s) xs ys)
-    ∙ sym (append_assoc (placed_by_line symbols s x.statement) (placed_from symbols (after_statement x.statement s) xs)
-    (placed_from symbols (counter_from (after_statement x.statement s) xs) ys))
+    rw (placed_append symbols (after_statement x.statement s) xs ys, append_assoc) refl
 
 -- a word among those of some lines is one of a line
 abbrev OfALine : List Definition → LocationCounter → List Line → ℕ → ℕ → Type 0
@@ -218,22 +162,9 @@ of_a_line symbols s (l ∷ lines) a w h = elim (among_split _ _ a w h) [
       (l ∷ r.0, r.1, record { after = r.2.after; lines_are = ap (λ x. l ∷ x) r.2.lines_are }, r.3)
 ]
 
--- the location of a parameter is below those of the program
-low_letter : (c : ℕ) → Contains parameter_letters c → c ≤ 26
-low_letter c h =
-    let test = All-contains (λ x. nat_le x 26 ≡ true) parameter_letters c
-    (AllPass-from_list_all (λ x. nat_le x 26) parameter_letters refl) h in
-    leb-true c 26 test
-
-high_letter : (c : ℕ) → Contains parameter_letters c → 21 ≤ c
-high_letter c h =
-    let test = All-contains (λ x. nat_le 21 x ≡ true) parameter_letters c
-    (AllPass-from_list_all (λ x. nat_le 21 x) parameter_letters refl) h in
-    leb-true 21 c test
-
-abbrev settings_of : Option Statement → List Setting
-settings_of (Some (Fetch r n ts)) = ts.items
-settings_of st = []
+-- the letters of parameters
+in_range : (c : ℕ) → Contains parameter_letters c → (21 ≤ c) × (c ≤ 26)
+in_range c h = grind (arith, common_steps)
 
 -- ---- the law
 
@@ -242,9 +173,7 @@ module _ (z : Size) (lines : List Line) (faultless : HasNoFault z lines) where
   symbols = symbols_of lines
 
   has_word : (before : List Line) (l : Line) (a w : ℕ) → LinePlaces lines before l a w → LineHasWord before l a
-  has_word before l a w p =
-      let e = fills symbols (counter_after before) l.statement in
-      (omega (arith, p.place_is), omega (arith, p.place_is, p.below, e))
+  has_word before l a w p = grind (arith, common_steps)
 
   high : (before : List Line) (l : Line) (a w : ℕ) → IsLineAfter lines before l → LinePlaces lines before l a w → 56 ≤ a
   high before l a w st p =
@@ -258,50 +187,38 @@ module _ (z : Size) (lines : List Line) (faultless : HasNoFault z lines) where
       ]
 
   low : (l : Line) (a w : ℕ) → LineSets lines l a w → a < 56
-  low l a w p = omega (arith, p.place_is, low_letter p.letter p.is_letter)
+  low l a w p = omega (arith, p.place_is, in_range p.letter p.is_letter)
 
   -- a word of a line and a parameter are at two locations
   apart : {before : List Line} {l m : Line} {a v w : ℕ} → IsLineAfter lines before l → LinePlaces lines before l a v
       → LineSets lines m a w → ⊥
   apart {before} {l} {m} {a} {v} {w} st p q = omega (arith, high before l a v st p, low m a w q)
 
-  set_by : (s : LocationCounter) (l : Line) (st : Option Statement) (a w : ℕ) → l.statement ≡ st
-      → IsSet symbols s st a w
-      → LineSets lines l a w
-  set_by s l (Some (Fetch r n ts)) a w e h = record {
-    routine = r;
-    name = n;
-    settings = ts.items;
-    letter = h.0;
-    operand = h.1;
-    statement_is = e;
-    is_letter = h.2;
-    set = h.3;
-    place_is = h.4;
-    word_is = h.5;
-  }
-  set_by s l st a w e h = absurd h
+  set_by : (l : Line) (st : Option Statement) (a w : ℕ) → l.statement ≡ st
+      → IsPreset symbols (settings_of st) parameter_letters a w → LineSets lines l a w
+  set_by l (Some (Fetch r n ts)) a w e h = search rules
+  set_by l st a w e h = absurd (let none = h.3 in cc)
 
   -- what a line places is its own or a parameter
   kinds : (before : List Line) (l : Line) (a w : ℕ)
       → Among (placed_by_line symbols (counter_after before) l.statement) a w
       → LinePlaces lines before l a w ⊎ LineSets lines l a w
-  kinds before l a w h = elim (by_line symbols (counter_after before) l.statement a w h) [
-    | inl g ↦ inl (record { index = g.0; below = g.1; place_is = g.2; word_is = g.3 })
-    | inr g ↦ inr (set_by (counter_after before) l l.statement a w refl g)
-  ]
+  kinds before l a w h =
+      let s = counter_after before in
+      elim (among_split (presets symbols (settings_of l.statement)) _ a w (rw (placed_is symbols s l.statement) at h)) [
+        | inl g ↦ inr (set_by l l.statement a w refl (preset_is symbols _ parameter_letters a w g))
+        | inr g ↦
+            let r = laid_is _ _ a w g in inl (record { index = r.0; below = r.1; place_is = r.2; word_is = r.3 })
+      ]
 
   own_among : (before : List Line) (l : Line) (a w : ℕ) → LinePlaces lines before l a w
       → Among (placed_by_line symbols (counter_after before) l.statement) a w
-  own_among before l a w p =
-      let at = own_placed symbols _ l.statement p.index p.below in
-      rw p.place_is (subst (λ x. Among (placed_by_line symbols (counter_after before) l.statement)
-      (first_place l.statement (counter_after before) + p.index) x) (sym p.word_is) at)
+  own_among before l a w p = search (rules, placed_is, among_right, laid_has)
 
   set_among : (s : LocationCounter) (l : Line) (a w : ℕ) → LineSets lines l a w
       → Among (placed_by_line symbols s l.statement) a w
   set_among s l a w p =
-      let at = preset_has symbols s p.settings parameter_letters p.letter p.operand p.is_letter p.set in
+      let at = preset_has symbols p.settings parameter_letters p.letter p.operand p.is_letter p.set in
       let moved : Among (presets symbols p.settings) a w =
       rw p.place_is (subst (λ x. Among (presets symbols p.settings) (24 + p.letter) x) (sym p.word_is) at) in
       rw p.statement_is (among_left _ _ a w moved)
@@ -309,8 +226,7 @@ module _ (z : Size) (lines : List Line) (faultless : HasNoFault z lines) where
   whole : (before : List Line) (l : Line) (st : IsLineAfter lines before l) → linked_words lines
       ≡ placed_from symbols first_counter before ++ (placed_by_line symbols (counter_after before) l.statement
       ++ placed_from symbols (after_statement l.statement (counter_after before)) st.after)
-  whole before l st =
-      ap (λ x. placed_from symbols first_counter x) st.lines_are ∙ placed_append symbols first_counter before _
+  whole before l st = search (rules, placed_append)
 
   -- a line after another one
   after_line : (before b after : List Line) (l m : Line) (st : IsLineAfter lines before l) → st.after ≡ b ++ m ∷ after
@@ -409,7 +325,7 @@ module _ (z : Size) (lines : List Line) (faultless : HasNoFault z lines) where
             ]
         | inr p ↦
             let place = p.place_is in
-            (omega (arith, place, high_letter p.letter p.is_letter), omega (arith, low r.1 a w p, least z))
+            (omega (arith, place, in_range p.letter p.is_letter), omega (arith, low r.1 a w p, least z))
       ]
 
 pub each_word_stands : EachWordStands

@@ -1,7 +1,7 @@
 -- A routine at a base: its image in the store, and which words are unchanged once it has returned.
-use Rattle.ed_routines.proofs.Kit.{◌==◌, list_any, A_F, Frame, Moment, short, state, Holds, patched, [], ap, arith}
-use Rattle.ed_routines.proofs.Kit.{Bool, false, get_or, inl, inr, length, List, Option, refl, rules, sym, true, ℕ, ◌*◌}
-use Rattle.ed_routines.proofs.Kit.{◌+◌, ◌-◌, ◌<◌, ◌∙◌, ◌∷◌, ◌≡◌, ◌≤◌, ◌⊎◌, locations, locations_most, State, place_count, with_h}
+use Rattle.ed_routines.proofs.Kit.{A_F, Frame, Moment, short, state, Holds, patched, [], arith}
+use Rattle.ed_routines.proofs.Kit.{Bool, get_or, length, List, Option, refl, rules, true, ℕ, ◌*◌}
+use Rattle.ed_routines.proofs.Kit.{◌+◌, ◌<◌, ◌∷◌, ◌≡◌, ◌≤◌, locations, locations_most, State, place_count, with_h}
 use Rattle.ed_routines.proofs.Kit.{IsOther, caller, HasWord, IsLoadedAt, IsOutside}
 use Rattle.std.proofs.Common.{true≢false}
 use Rattle.ed_machine.proofs.Kit.Frames.{Beside}
@@ -9,6 +9,7 @@ use Rattle.ed_machine.proofs.Kit.Standing.{IsWorking, filled, merged, opens, unc
 use Rattle.ed_library.specs.Entries.{entry}
 use Rattle.ed_library.specs.Routines.{missing_row}
 use Rattle.ed_routines.proofs.Image.{Makes, none, more, all_plain, holds_rows, image_from, length_image, working_at}
+use Rattle.std.proofs.lemmas.Grind.{common_steps}
 
 -- the image of a routine at a base, with H, N, M and so on the locations hs
 abbrev pub image : ℕ → ℕ → List ℕ → List (Option ℕ)
@@ -54,8 +55,7 @@ holds_words r {s = s} low makes plain words =
 -- a routine at a base has its image in the store
 pub holds : {r b : ℕ} {parameters hs : List ℕ} {s : State} → IsLoadedAt r parameters b s → Makes parameters hs
     → all_plain (length hs) (entry r).items ≡ true → Holds (image r b hs) s.store.words b
-holds {r} {s = s} o makes plain =
-    let size = locations_most s.size in let fits = o.fits in holds_words r (omega arith) makes plain o.image
+holds {r} {s = s} o makes plain = search (rules, locations_most, holds_words)
 
 -- and so has one with the location h as its one parameter
 pub holds_h : {r b h : ℕ} {s : State} → IsLoadedAt r (with_h h) b s → IsOutside r b h s
@@ -113,26 +113,10 @@ state-begins {r} {b = b} {s = s} hs o within all holds =
 
 -- a location that is not a working one is not one of the image's working ones
 not_working : {r b i : ℕ} (hs : List ℕ) → IsOther r b i → IsWorking (image r b hs) b i → ⊥
-not_working {r} {b} {i} hs o w = by_case o.other
-  where
-    below : i < b + place_count r
-    below = let e = w.below in let l = length_image (entry r).items (entry r).working b hs 0 in omega arith
-
-    by_case : (i < b) ⊎ ((b + place_count r ≤ i) ⊎ (list_any (λ p. p == (i - b)) (entry r).working ≡ false)) → ⊥
-    by_case (inl l) = let e = w.from in absurd (omega arith)
-    by_case (inr (inl g)) = let e = below in absurd (omega arith)
-    by_case (inr (inr free)) =
-        let from = w.from in
-        let under = below in
-        let z : 0 + (i - b) ≡ i - b = omega arith in
-        true≢false
-        (sym (working_at (entry r).items (entry r).working b hs 0 (i - b) (omega arith) w.free)
-        ∙ ap (λ y. list_any (λ p. p == y) (entry r).working) z
-        ∙ free)
+not_working {r} {b} {i} hs o w = grind (arith, common_steps, length_image, true≢false, working_at)
 
 -- a word outside the working locations is unchanged
 pub get_or-kept : {r b i : ℕ} (hs : List ℕ) → IsOther r b i → (ws cells : List ℕ) → length cells ≡ length (image r b hs)
     → merged (image r b hs) cells ≡ cells → Holds (image r b hs) ws b
     → get_or (patched 0 ws b cells) i 0 ≡ get_or ws i 0
-get_or-kept {r} {b} {i} hs o ws cells long new old =
-    unchanged (image r b hs) ws b cells long new old i (not_working hs o)
+get_or-kept {r} {b} {i} hs o ws cells long new old = search (rules, unchanged, not_working)

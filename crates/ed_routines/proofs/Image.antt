@@ -2,14 +2,15 @@
 -- words at its working locations.
 use Rattle.ed_routines.proofs.Kit.{◌==◌, list_any, Holds, [], ap, arith, Bool, false, get_or, length, List, nat_lt}
 use Rattle.ed_routines.proofs.Kit.{Option, refl, rules, Some, suc, sym, true, zero, ℕ, ◌*◌, ◌+◌, ◌-◌, ◌<◌, ◌∙◌, ◌∷◌}
-use Rattle.ed_routines.proofs.Kit.{◌≡◌, ◌≤◌, if◌then◌else◌, lit≤}
+use Rattle.ed_routines.proofs.Kit.{◌≡◌, ◌≤◌, if◌then◌else◌}
 use Rattle.ed_notation.proofs.Kit.{nat_eq, nat_le, None, ◌&&◌, and_parts, le-leb, leb-true, digit}
 use Rattle.std.proofs.Common.{◌||◌}
 use Rattle.std.proofs.lemmas.Bool.{ne_eqb}
+use Rattle.std.proofs.lemmas.List.Recursion.{and_at}
 use Rattle.ed_machine.proofs.Kit.Standing.{Meets}
 use Rattle.ed_notation.specs.Fold.{value_of, word_with}
 use Rattle.ed_library.specs.Images.{parameter_store, routine_word}
-use Rattle.ed_library.specs.Routines.{table_item}
+use Rattle.ed_library.specs.Routines.{missing_row, table_item}
 use Rattle.ed_library.specs.declared.tables.TableRow.{TableRow}
 use Rattle.ed_library.proofs.Letters.{value_of_parameter}
 
@@ -45,6 +46,14 @@ pub length_image : (rows : List TableRow) (working : List ℕ) (b : ℕ) (hs : L
 length_image [] working b hs i = refl
 length_image (row ∷ rows) working b hs i = ap suc (length_image rows working b hs (i + 1))
 
+-- the word at an offset
+image_at : (rows : List TableRow) (working : List ℕ) (b : ℕ) (hs : List ℕ) (i j : ℕ) (d : TableRow) → j < length rows
+    → get_or (image_from rows working b hs i) j None
+    ≡ (if list_any (λ p. p == (i + j)) working then None else Some (row_word b hs (get_or rows j d)))
+image_at [] working b hs i j d l = absurd (omega arith)
+image_at (row ∷ rows) working b hs i zero d l = let z : i + 0 ≡ i = omega arith in rw z refl
+image_at (row ∷ rows) working b hs i (suc j) d l = search (rules, image_at rows working b hs (i + 1) j d (omega arith))
+
 -- the letters of such rows
 pub data IsLetter (takes c : ℕ) : Type 0 where
   F : c ≡ 17 → IsLetter takes c
@@ -58,8 +67,7 @@ letter_of : (takes c : ℕ)
 letter_of takes c e = search rules
 
 digit_low : (d : Bool) → digit d ≤ 1
-digit_low true = lit≤ tt
-digit_low false = lit≤ tt
+digit_low d = grind arith
 
 -- the parameters that make H, N, M and so on these locations
 pub data Makes : List ℕ → List ℕ → Type 0 where
@@ -95,23 +103,7 @@ module _ {parameters hs : List ℕ} {b : ℕ} (low : b ≤ 1024) (makes : Makes 
     here_meets : (t : Bool) (row : TableRow) (x : ℕ) → is_plain takes row ≡ true
         → (t ≡ false → x ≡ routine_word parameters b (table_item row))
         → Meets (if t then None else Some (row_word b hs row)) x
-    here_meets true row x plain e = tt
-    here_meets false row x plain e = e refl ∙ row_word_is row plain
-
-    -- a word that is the library's, except at a working location, agrees with the image
-    meets : (rows : List TableRow) (i j x : ℕ) → all_plain takes rows ≡ true → j < length rows
-        → (list_any (λ p. p == (i + j)) working ≡ false
-        → x ≡ routine_word parameters b (table_item (get_or rows j no_row)))
-        → Meets (get_or (image_from rows working b hs i) j None) x
-    meets [] i j x plain l e = absurd (omega arith)
-    meets (row ∷ rows) i zero x plain l e =
-        let p = and_parts (is_plain takes row) (all_plain takes rows) plain in
-        let z : i + 0 ≡ i = omega arith in
-        here_meets (list_any (λ p. p == i) working) row x p.0 (λ w. e (ap (λ y. list_any (λ p. p == y) working) z ∙ w))
-    meets (row ∷ rows) i (suc j) x plain l e =
-        let p = and_parts (is_plain takes row) (all_plain takes rows) plain in
-        let z : i + suc j ≡ i + 1 + j = omega arith in
-        meets rows (i + 1) j x p.1 (omega arith) (λ w. e (ap (λ y. list_any (λ p. p == y) working) z ∙ w))
+    here_meets t row x plain e = grind (arith, row_word_is)
 
     -- a store with the library's words at a base, except at the working locations, holds the image
     pub holds_rows : (rows : List TableRow) (ws : List ℕ) → all_plain takes rows ≡ true
@@ -121,21 +113,16 @@ module _ {parameters hs : List ℕ} {b : ℕ} (low : b ≤ 1024) (makes : Makes 
     holds_rows rows ws plain words j l =
         let z : 0 + j ≡ j = omega arith in
         let inside : j < length rows = omega (arith, l, length_image rows working b hs 0) in
-        meets rows 0 j (get_or ws (b + j) 0) plain inside
-        (λ w. words j inside (ap (λ y. list_any (λ p. p == y) working) (sym z) ∙ w))
+        let is_row = and_at (all_plain takes) (is_plain takes) refl (λ _ _. refl) rows j no_row inside plain in
+        rw (image_at rows working b hs 0 j no_row inside, z)
+        (here_meets (list_any (λ p. p == j) working) (get_or rows j no_row) _ is_row (words j inside))
 
 here_working : (t : Bool) (w : ℕ) → ◌≡◌ {A = Option ℕ} (if t then None else Some w) None → t ≡ true
-here_working true w e = refl
-here_working false w e = cc
+here_working t w e = grind arith
 
 -- the image leaves out words at working locations only
 pub working_at : (rows : List TableRow) (working : List ℕ) (b : ℕ) (hs : List ℕ) (i j : ℕ) → j < length rows
     → get_or (image_from rows working b hs i) j None ≡ None
     → list_any (λ p. p == (i + j)) working ≡ true
-working_at [] working b hs i j l e = absurd (omega arith)
-working_at (row ∷ rows) working b hs i zero l e =
-    let z : i + 0 ≡ i = omega arith in
-    ap (λ y. list_any (λ p. p == y) working) z ∙ here_working (list_any (λ p. p == i) working) (row_word b hs row) e
-working_at (row ∷ rows) working b hs i (suc j) l e =
-    let z : i + suc j ≡ i + 1 + j = omega arith in
-    ap (λ y. list_any (λ p. p == y) working) z ∙ working_at rows working b hs (i + 1) j (omega arith) e
+working_at rows working b hs i j l e =
+    here_working _ (row_word b hs (get_or rows j missing_row)) (sym (image_at rows working b hs i j missing_row l) ∙ e)

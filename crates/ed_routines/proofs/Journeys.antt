@@ -1,8 +1,8 @@
 -- A journey: lines of a path, and calls of routines as lines among them, one after the other.
 use Rattle.ed_routines.proofs.Kit.{A_F, all_words, Frame, Moment, short, state, Leads, A, G_jumps, Jumps, Reads, Does}
 use Rattle.ed_routines.proofs.Kit.{leads, on, Path, stay, any, own, length_patched, patched, [], ap, arith, false}
-use Rattle.ed_routines.proofs.Kit.{get_or, inl, inr, length, List, Option, refl, rules, subst, sym, ℕ, ◌*◌, ◌++◌, ◌+◌}
-use Rattle.ed_routines.proofs.Kit.{◌-◌, ◌<◌, ◌^◌, ◌∙◌, ◌≡◌, ◌≤◌, ◌⊎◌, locations, locations_most, step, State, place_count}
+use Rattle.ed_routines.proofs.Kit.{get_or, inl, length, List, Option, rules, sym, ℕ, ◌*◌, ◌++◌, ◌+◌}
+use Rattle.ed_routines.proofs.Kit.{◌<◌, ◌∙◌, ◌≡◌, ◌≤◌, ◌⊎◌, locations, locations_most, step, State, place_count}
 use Rattle.ed_routines.proofs.Kit.{IsOther, caller, IsLoadedAt}
 use Rattle.ed_orders.specs.declared.kind.Kind.TheVariants.{Z as KindZ}
 use Rattle.ed_machine.specs.declared.turn.Turn.TheVariants.{Stopped}
@@ -34,8 +34,7 @@ module _ {n h : ℕ} {f : Frame n h} where
   then {a} {b} {r} {m} {t} {cs} {ds} first second = record {
     leads = λ done.
         let e : done + a + b ≡ done + (a + b) = omega arith in
-        subst (λ x. Leads (a + b) (state f r done) (cs ++ ds) (state f t x)) e
-        (joined (first.leads done) (second.leads (done + a)));
+        rw e at (joined (first.leads done) (second.leads (done + a)));
   }
 
   -- a journey that ends at an order Z
@@ -105,27 +104,7 @@ module _ {n h : ℕ} {f : Frame n h} {r : Moment} (o : IsIn f r) where
   -- the routine is there, called
   pub stands : {r0 w : ℕ} {parameters : List ℕ} (i done : ℕ) → i + 3 ≤ n → HasRoutine f r.words r0 w parameters
       → IsLoadedAt r0 parameters w (state f (called i w) done)
-  stands {r0} {w} {parameters} i done room has =
-      let e = caller_is i w done in
-      let low = o.above in
-      let under = f.under in let fits = f.fits in
-      record {
-        low = has.low;
-        fits = has.fits;
-        counter = refl;
-        at2 = beside_word 2 (inl (omega arith)) ∙ has.at2;
-        at3 = beside_word 3 (inl (omega arith)) ∙ has.at3;
-        image = λ j l. record { has = λ free. beside_word (w + j) (away j l has.apart) ∙ has.image j l free };
-        call = record {
-          acc = ap (λ x. (A_F + 2 * x) * 2 ^ 54) (sym e);
-          room = omega (arith, e);
-        };
-      }
-    where
-      away : (j : ℕ) → j < place_count r0 → (w + place_count r0 ≤ f.base) ⊎ (f.base + n ≤ w)
-          → (w + j < f.base) ⊎ (f.base + n ≤ w + j)
-      away j l (inl b) = inl (omega arith)
-      away j l (inr b) = inr (omega arith)
+  stands {r0} {w} {parameters} i done room has = search (rules, caller_is, beside_word)
 
   -- the moment after the call
   abbrev pub after_call : ℕ → ℕ → List ℕ → Option ℕ → Moment
@@ -180,18 +159,7 @@ module _ {n h : ℕ} {f : Frame n h} {r : Moment} (o : IsIn f r) where
           let n : done + 2 + k ≡ done + (2 + k) = omega arith in
           let c : caller (state f (called i w) (done + 2)) + 2 ≡ f.base + (i + 2) =
           omega (arith, caller_is i w (done + 2)) in
-          subst (λ (t : State). Leads (2 + k) (state f r done) codes t)
-          (λ j. record {
-            size = f.size;
-            store = record { words = sym same_words j; sandwich = (state f r done).store.sandwich };
-            acc = 0;
-            multiplier = r.multiplier;
-            counter = c j;
-            tape = r.tape;
-            last = l;
-            orders = n j;
-          })
-          (joined (leads two done) back.leads);
+          rw (← same_words, c, n) at (joined (leads two done) back.leads);
     }
 
     -- a routine that was in the store before the call is still there after it, if the call's routine works in none of
@@ -208,20 +176,13 @@ module _ {n h : ℕ} {f : Frame n h} {r : Moment} (o : IsIn f r) where
           stays 2 (inl (omega arith)) (record { other = inl (omega arith) }) ∙ there.at2;
       at3 = let b = o.above in let low = has.low in
           stays 3 (inl (omega arith)) (record { other = inl (omega arith) }) ∙ there.at3;
-      image = λ j m free. stays (w1 + j) (away j m there.apart) (other j m free) ∙ there.image j m free;
+      image = λ j m free. stays (w1 + j) (grind (arith, there.apart)) (other j m free) ∙ there.image j m free;
     }
-      where
-        away : (j : ℕ) → j < place_count r1 → (w1 + place_count r1 ≤ f.base) ⊎ (f.base + n ≤ w1)
-            → (w1 + j < f.base) ⊎ (f.base + n ≤ w1 + j)
-        away j m (inl b) = inl (omega arith)
-        away j m (inr b) = inr (omega arith)
 
 -- an offset in a routine that is not a working one
 pub no_working : {r w : ℕ} (j : ℕ) → is_working r j ≡ false → IsOther r w (w + j)
-no_working {r} {w} j free =
-    let e : w + j - w ≡ j = omega arith in record { other = inr (inr (ap (is_working r) e ∙ free)) }
+no_working {r} {w} j free = search rules
 
 -- a location of another routine
 pub elsewhere : {r w : ℕ} (q : ℕ) → (q < w) ⊎ (w + place_count r ≤ q) → IsOther r w q
-elsewhere q (inl b) = record { other = inl b }
-elsewhere q (inr a) = record { other = inr (inl a) }
+elsewhere q given = grind arith

@@ -1,9 +1,8 @@
 -- `newline`, from the library's table to what it does.
-use Rattle.ed_routines.proofs.Kit.{E_F, Leads, length_patched, patched, [], ap, get_or, length, List, refl, rules}
-use Rattle.ed_routines.proofs.Kit.{Some, ℕ, ◌*◌, ◌+◌, ◌∙◌, ◌∷◌, ◌≡◌, locations_most, State, newline, Keeps, Returned, caller}
-use Rattle.ed_routines.proofs.Kit.{IsLoadedAt}
+use Rattle.ed_routines.proofs.Kit.{E_F, Leads, length_patched, patched, [], length, List, refl, rules, Some, ℕ, ◌*◌}
+use Rattle.ed_routines.proofs.Kit.{◌+◌, ◌∷◌, ◌≡◌, locations_most, State, newline, Keeps, Returned, caller, IsLoadedAt}
 use Rattle.ed_machine.proofs.Kit.Newline.{IsCalled, cells, newline as newline_leads}
-use Rattle.ed_routines.proofs.Called.{IsWithin, holds, get_or-kept}
+use Rattle.ed_routines.proofs.Called.{IsWithin, get_or-kept}
 
 module _ {parameters : List ℕ} {b top : ℕ} {s : State} (all : length s.store.words ≡ 1024)
     (o : IsLoadedAt newline parameters b s) (within : IsWithin 7 b 0 top s) where
@@ -33,7 +32,6 @@ module _ {parameters : List ℕ} {b top : ℕ} {s : State} (all : length s.store
     returned = rw e refl
 
     pub keeps : Keeps newline b s t
-    keeps = record {
-      words = λ i other. ap (λ (x : State). get_or x.store.words i 0) e
-          ∙ get_or-kept [] other s.store.words (cells b link) refl refl called.holds;
-    }
+    keeps = rw e (record {
+      words = λ i other. get_or-kept [] other s.store.words (cells b link) refl refl called.holds;
+    })

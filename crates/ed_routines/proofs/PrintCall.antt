@@ -1,13 +1,12 @@
 -- `print`, from the library's table to what it does.
 use Rattle.ed_routines.proofs.Kit.{A_F, E_F, S_F, short_at, Kind, Frame, Moment, state, Leads, IsOrder, leads, Path}
-use Rattle.ed_routines.proofs.Kit.{Holds, length_patched, patched, begun, flag_of, spared, [], ap, false, get_or}
-use Rattle.ed_routines.proofs.Kit.{length, refl, rules, Some, subst, ℕ, ◌%◌, ◌*◌, ◌+◌, ◌/◌, ◌<◌, ◌∙◌, ◌∷◌, ◌≡◌, locations_most}
-use Rattle.ed_routines.proofs.Kit.{State, state_after, print, with_h, digits, print_orders, sum, Keeps, Returned}
-use Rattle.ed_routines.proofs.Kit.{caller}
+use Rattle.ed_routines.proofs.Kit.{Holds, length_patched, patched, begun, flag_of, spared, [], get_or, length, refl}
+use Rattle.ed_routines.proofs.Kit.{rules, Some, ℕ, ◌%◌, ◌*◌, ◌+◌, ◌/◌, ◌<◌, ◌∙◌, ◌∷◌, ◌≡◌, locations_most, State}
+use Rattle.ed_routines.proofs.Kit.{state_after, print, with_h, digits, print_orders, Keeps, Returned, caller}
 use Rattle.ed_machine.proofs.Kit.Paths.{each}
 use Rattle.ed_routines.proofs.Called.{IsCalled, image, holds_h, get_or-kept, beside, call_of, state-begins}
 use Rattle.ed_routines.proofs.Digits.{tens}
-use Rattle.ed_routines.proofs.Print.{Given, Work, cells, print_weight, run, Walk-whole, before_tens, spelled, shows}
+use Rattle.ed_routines.proofs.Print.{Given, Work, cells, print_weight, run, Walk-whole, before_tens}
 use Rattle.ed_routines.proofs.Print.{spelled_is, shows_is, sum_is}
 use Rattle.ed_routines.proofs.Walks.{Walk, Weights, total, total_of_path, weight}
 
@@ -65,12 +64,8 @@ module _ {b h top : ℕ} {s : State} (o : IsCalled print (with_h h) b h top s) (
 
   walk : (w : Weights) → Walk w f (print_orders n) (print_weight w n) moment (11 ∷ digits n) end
   walk w =
-      let count : 78 + 8 * sum (tens n) + 4 * shows false (tens n) ≡ print_orders n =
-      λ i. 78 + 8 * sum_is (tens n) i + 4 * shows_is (tens n) i in
-      let codes : 11 ∷ spelled false (tens n) (n % 10) ≡ 11 ∷ digits n = λ i. 11 ∷ spelled_is (tens n) (n % 10) i in
-      subst (λ k. Walk w f k (print_weight w n) moment (11 ∷ digits n) end) count
-      (subst (λ cs. Walk w f (78 + 8 * sum (tens n) + 4 * shows false (tens n)) (print_weight w n) moment cs end) codes
-      (Walk-whole given w first n s.last refl small))
+      rw (sum_is (tens n), shows_is (tens n), spelled_is (tens n) (n % 10)) at
+      (Walk-whole given w first n s.last refl small)
 
   path : Path f (print_orders n) moment (11 ∷ digits n) end
   path = (walk (record { plain = 1; middle = 1; taken = 1; passed_E = 1; passed_G = 1 })).path
@@ -89,29 +84,26 @@ module _ {b h top : ℕ} {s : State} (o : IsCalled print (with_h h) b h top s) (
 
   -- that many orders print the digits and lead to the order after the call
   pub leads_to : Leads (print_orders n) s (11 ∷ digits n) last
-  leads_to = subst (λ x. Leads (print_orders n) x (11 ∷ digits n) last) starts (leads path s.orders)
+  leads_to = rw starts at (leads path s.orders)
 
   -- what holds of every order that stays below the location holds before each of them
   pub keeps_below : (P : State → Type 0) → ((kind : Kind) (x : State) → IsOrder top kind x → P x) → (j : ℕ)
       → j < print_orders n
       → P (state_after j s)
-  keeps_below P is j l = subst (λ x. P (state_after j x)) starts (each P is path s.orders j l)
+  keeps_below P is j l = rw starts at (each P is path s.orders j l)
 
   -- what is counted for each order that stays below the location, by its kind and the accumulator, is the weight of the
   -- routine's orders
   pub weighs : (w : Weights) (of : State → ℕ)
       → ((kind : Kind) (x : State) → IsOrder top kind x → of x ≡ weight w kind x.acc)
       → total of (print_orders n) s ≡ print_weight w n
-  weighs w of by_order =
-      subst (λ x. total of (print_orders n) x ≡ print_weight w n) starts
-      (total_of_path w of by_order (walk w).path s.orders ∙ (walk w).weighs)
+  weighs w of by_order = (rw starts at (total_of_path w of by_order (walk w).path s.orders)) ∙ (walk w).weighs
 
   module _ (t : State) (e : t ≡ last) where
     pub returned : Returned (print_orders n) s.tape (Some (n % 10)) s t
     returned = rw e refl
 
     pub keeps : Keeps print b s t
-    keeps = record {
-      words = λ i other. ap (λ (x : State). get_or x.store.words i 0) e
-          ∙ get_or-kept (h ∷ []) other s.store.words (cells b h left) refl refl image_holds;
-    }
+    keeps = rw e (record {
+      words = λ i other. get_or-kept (h ∷ []) other s.store.words (cells b h left) refl refl image_holds;
+    })

@@ -1,81 +1,45 @@
 -- `read`, from the library's table to what it does.
 use Rattle.ed_routines.proofs.Kit.{A_F, Frame, Moment, state, Leads, leads, Path, own, Holds, length_patched, patched}
-use Rattle.ed_routines.proofs.Kit.{[], ap, arith, Bool, drop, false, get_or, inl, inr, length, List, nat_lt, refl}
-use Rattle.ed_routines.proofs.Kit.{rules, set, subst, sym, true, ℕ, ◌%◌, ◌*◌, ◌++◌, ◌+◌, ◌<◌, ◌^◌, ◌∙◌, ◌∷◌, ◌≡◌, ◌≤◌}
-use Rattle.ed_routines.proofs.Kit.{locations_most, step, State, read, with_h, after_digits, digit_rows, digits_value, IsOther}
-use Rattle.ed_routines.proofs.Kit.{caller}
-use Rattle.ed_machine.proofs.Names.{append-nil, length-append, ltb-true, length-set, Obeyed}
+use Rattle.ed_routines.proofs.Kit.{[], ap, arith, drop, get_or, length, List, refl, rules, set, true, ℕ, ◌%◌, ◌*◌}
+use Rattle.ed_routines.proofs.Kit.{◌++◌, ◌+◌, ◌<◌, ◌^◌, ◌∙◌, ◌∷◌, ◌≡◌, ◌≤◌, locations_most, step, State, read, with_h}
+use Rattle.ed_routines.proofs.Kit.{after_digits, digit_rows, digits_value, IsOther, caller}
+use Rattle.ed_machine.proofs.Names.{length-append, ltb-true, length-set, Obeyed}
 use Rattle.ed_notation.proofs.Kit.{◌≢◌, ltb-false, get_or-set_other}
-use Rattle.std.proofs.lemmas.List.{get_or-set_same}
+use Rattle.std.proofs.lemmas.List.{get_or-set_same, nil_from_length}
 use Rattle.ed_orders.specs.declared.kind.Kind.TheVariants.{I as KindI}
 use Rattle.ed_machine.specs.declared.turn.Turn.TheVariants.{NoTape}
 use Rattle.ed_machine.proofs.Kit.Orders.{named, obeyed}
 use Rattle.ed_machine.proofs.Kit.Window.{get_below, get_above}
 use Rattle.ed_routines.specs.Returns.{HasRead, KeepsBut, Waits}
-use Rattle.ed_routines.proofs.Called.{Call, IsCalled, image, holds_h, get_or-kept, beside, call_of, state-begins}
+use Rattle.ed_routines.proofs.Called.{Call, IsCalled, image, holds_h, get_or-kept, call_of, state-begins}
 use Rattle.ed_routines.proofs.Read.{Work, Around, Digits, none, more, cells, run, Path-whole, until_end, worked}
 use Rattle.ed_routines.proofs.Read.{opened_work, last_work}
+use Rattle.std.proofs.lemmas.Grind.{common_steps}
 
 -- a tape is its digit rows and the rows after them
 pub split : (rows : List ℕ) → rows ≡ digit_rows rows ++ after_digits rows
 split [] = refl
-split (row ∷ rows) = by_test (nat_lt row 10) refl (split rows)
-  where
-    by_test : (b : Bool) → nat_lt row 10 ≡ b → rows ≡ digit_rows rows ++ after_digits rows
-        → row ∷ rows ≡ digit_rows (row ∷ rows) ++ after_digits (row ∷ rows)
-    by_test true e before = rw e (ap (λ x. row ∷ x) before)
-    by_test false e before = rw e refl
+split (row ∷ rows) = search (rules, split rows)
 
 are_digits : (rows : List ℕ) → Digits (digit_rows rows)
 are_digits [] = none
-are_digits (row ∷ rows) = by_test (nat_lt row 10) refl (are_digits rows)
-  where
-    by_test : (b : Bool) → nat_lt row 10 ≡ b → Digits (digit_rows rows) → Digits (digit_rows (row ∷ rows))
-    by_test true e before = rw e (more (ltb-true row 10 e) before)
-    by_test false e before = rw e none
-
-get_or-length : (xs : List ℕ) (c : ℕ) (rest : List ℕ) → get_or (xs ++ c ∷ rest) (length xs) 0 ≡ c
-get_or-length [] c rest = refl
-get_or-length (x ∷ xs) c rest = get_or-length xs c rest
+are_digits (row ∷ rows) = search (rules, none, more, ltb-true, are_digits rows)
 
 -- the row after digit rows is an ending row
 is_ending : (rows : List ℕ) (c : ℕ) (rest : List ℕ) → after_digits rows ≡ c ∷ rest → 10 ≤ c
 is_ending [] c rest e = cc
-is_ending (row ∷ rows) c rest e = by_test (nat_lt row 10) refl (is_ending rows c rest)
-  where
-    by_test : (b : Bool) → nat_lt row 10 ≡ b → (after_digits rows ≡ c ∷ rest → 10 ≤ c) → 10 ≤ c
-    by_test true t before = before (rw t at e)
-    by_test false t before =
-        let high = ltb-false row 10 t in
-        let same : row ≡ c = ap (λ x. get_or x 0 0) (rw t at e) in
-        omega arith
+is_ending (row ∷ rows) c rest e = search (rules, ltb-false, is_ending rows c rest)
 
 -- if all rows are digit rows, no row follows them
 pub no_ending : (rows : List ℕ) → length (digit_rows rows) ≡ length rows → after_digits rows ≡ []
-no_ending rows all = by_rows (after_digits rows) refl
-  where
-    by_rows : (a : List ℕ) → after_digits rows ≡ a → after_digits rows ≡ []
-    by_rows [] e = e
-    by_rows (c ∷ rest) e =
-        let whole = ap length (split rows) in
-        let sum = length-append (digit_rows rows) (after_digits rows) in
-        let more : length (after_digits rows) ≡ length (c ∷ rest) = ap length e in
-        absurd (omega arith)
+no_ending rows all =
+    let whole = ap length (split rows) in
+    nil_from_length (after_digits rows) (omega (arith, whole, length-append (digit_rows rows) (after_digits rows)))
 
 -- if some row is not a digit row, the first such row follows them
 pub has_ending : (rows : List ℕ) → length (digit_rows rows) ≢ length rows
     → after_digits rows ≡ get_or rows (length (digit_rows rows)) 0 ∷ drop 1 (after_digits rows)
-has_ending rows other = by_rows (after_digits rows) refl
-  where
-    by_rows : (a : List ℕ) → after_digits rows ≡ a → a ≡ get_or rows (length (digit_rows rows)) 0 ∷ drop 1 a
-    by_rows [] e =
-        absurd (other (sym (ap length (split rows) ∙ ap (λ x. length (digit_rows rows ++ x)) e
-        ∙ ap length (append-nil (digit_rows rows)))))
-    by_rows (c ∷ rest) e =
-        let there : get_or (digit_rows rows ++ c ∷ rest) (length (digit_rows rows)) 0 ≡ c =
-        get_or-length (digit_rows rows) c rest in
-        ap (λ x. x ∷ rest) (sym (ap (λ x. get_or x (length (digit_rows rows)) 0)
-        (split rows ∙ ap (λ x. digit_rows rows ++ x) e) ∙ there))
+has_ending rows other = let whole = split rows in grind (arith, common_steps)
 
 module _ {b h top : ℕ} {s : State} (o : IsCalled read (with_h h) b h top s) where
   abbrev call : Call 24 0
@@ -103,9 +67,7 @@ module _ {b h top : ℕ} {s : State} (o : IsCalled read (with_h h) b h top s) wh
 
   starts : (rows : List ℕ) → s.tape ≡ rows
       → state f (run call h s.store.words first (A_F + 2 * caller s) 0 rows) s.orders ≡ s
-  starts rows tape =
-      ap (λ x. state f (run call h s.store.words first (A_F + 2 * caller s) 0 x) s.orders) (sym tape)
-      ∙ state-begins (h ∷ []) o.stands o.within o.all image_holds
+  starts rows tape = rw (← tape) (state-begins (h ∷ []) o.stands o.within o.all image_holds)
 
   -- a word outside the working locations is unchanged, whatever was written at h
   stays : (v : ℕ) (w : Work) (i : ℕ) → i ≢ h → IsOther read b i
@@ -114,21 +76,17 @@ module _ {b h top : ℕ} {s : State} (o : IsCalled read (with_h h) b h top s) wh
       get_or-kept (h ∷ []) free (set s.store.words h v) (cells b h w) refl refl still
       ∙ get_or-set_other s.store.words h i v 0 other
     where
-      apart : (j : ℕ) → j < 24 → b + j ≢ h
-      apart j l e = elim o.outside.beside [ inl x ↦ absurd (omega arith) | inr y ↦ absurd (omega arith) ]
-
       still : Holds (image read b (h ∷ [])) (set s.store.words h v) b
-      still j l = rw (get_or-set_other s.store.words h (b + j) v 0 (apart j l)) (image_holds j l)
+      still j l = let here = image_holds j l in let beside = o.outside.beside in search (rules, get_or-set_other)
 
   -- the word at h is not one of the routine's
   at_h : (ws : List ℕ) (w : Work) → get_or (patched 0 ws b (cells b h w)) h 0 ≡ get_or ws h 0
-  at_h ws w = elim o.outside.beside
-      [ inl l ↦ get_below 0 ws b (cells b h w) h l | inr g ↦ get_above 0 ws b (cells b h w) h g ]
+  at_h ws w = search (rules, get_below, cells, get_above)
 
   -- if an ending row follows the digit rows
   module _ {c : ℕ} {rest : List ℕ} (e : after_digits s.tape ≡ c ∷ rest) (code : c < 32) where
     rows_are : s.tape ≡ ds ++ c ∷ rest
-    rows_are = split s.tape ∙ ap (λ x. ds ++ x) e
+    rows_are = rw (← e) (split s.tape)
 
     abbrev written : List ℕ
     written = set s.store.words h (digits_value ds % 2 ^ 17)
@@ -157,8 +115,7 @@ module _ {b h top : ℕ} {s : State} (o : IsCalled read (with_h h) b h top s) wh
 
     -- that many orders read the rows and lead to the order after the call
     pub leads_to : Leads (11 + 13 * length ds) s [] last
-    leads_to = subst (λ x. Leads (11 + 13 * length ds) x [] last) (starts (ds ++ c ∷ rest) rows_are)
-        (leads path s.orders)
+    leads_to = rw (starts (ds ++ c ∷ rest) rows_are) at (leads path s.orders)
 
     module _ (t : State) (is : t ≡ last) where
       pub has_read : HasRead h s t
@@ -166,22 +123,18 @@ module _ {b h top : ℕ} {s : State} (o : IsCalled read (with_h h) b h top s) wh
           let size = locations_most s.size in
           let below = o.outside.below in
           let all = o.all in
-          record {
-            number = ap (λ (x : State). get_or x.store.words h 0) is ∙ at_h written left
-                ∙ get_or-set_same s.store.words h (digits_value ds % 2 ^ 17) 0 (omega arith);
-            returned = rw (e, is) refl;
-          }
+          rw is (record {
+            number = at_h written left ∙ get_or-set_same s.store.words h (digits_value ds % 2 ^ 17) 0 (omega arith);
+            returned = rw e refl;
+          })
 
       pub keeps : KeepsBut h read b s t
-      keeps = record {
-        words = λ i other free. ap (λ (x : State). get_or x.store.words i 0) is
-            ∙ stays (digits_value ds % 2 ^ 17) left i other free;
-      }
+      keeps = rw is (record { words = λ i other free. stays (digits_value ds % 2 ^ 17) left i other free })
 
   -- if no ending row does
   module _ (e : after_digits s.tape ≡ []) where
     rows_are_all : s.tape ≡ ds ++ []
-    rows_are_all = split s.tape ∙ ap (λ x. ds ++ x) e
+    rows_are_all = rw (← e) (split s.tape)
 
     abbrev so_far : Work
     so_far = worked 0 ds (opened_work call h first)
@@ -202,8 +155,7 @@ module _ {b h top : ℕ} {s : State} (o : IsCalled read (with_h h) b h top s) wh
 
     -- that many orders read the rows and lead to the order that waits for one more
     pub leads_to_end : Leads (3 + 13 * length ds) s [] waiting
-    leads_to_end = subst (λ x. Leads (3 + 13 * length ds) x [] waiting) (starts (ds ++ []) rows_are_all)
-        (leads path_to_end s.orders)
+    leads_to_end = rw (starts (ds ++ []) rows_are_all) at (leads path_to_end s.orders)
 
     blocked : (step waiting).turn ≡ NoTape
     blocked =
@@ -213,14 +165,9 @@ module _ {b h top : ℕ} {s : State} (o : IsCalled read (with_h h) b h top s) wh
 
     module _ (t : State) (is : t ≡ waiting) where
       pub waits : Waits b h s t
-      waits = record {
-        blocked = ap (λ x. (step x).turn) is ∙ blocked;
-        number = ap (λ (x : State). get_or x.store.words h 0) is ∙ at_h s.store.words so_far;
-        is = rw is refl;
-      }
+      waits = rw is (record { blocked = blocked; number = at_h s.store.words so_far; is = refl })
 
       pub keeps_waiting : KeepsBut h read b s t
-      keeps_waiting = record {
-        words = λ i other free. ap (λ (x : State). get_or x.store.words i 0) is
-            ∙ get_or-kept (h ∷ []) free s.store.words (cells b h so_far) refl refl image_holds;
-      }
+      keeps_waiting = rw is (record {
+        words = λ i other free. get_or-kept (h ∷ []) free s.store.words (cells b h so_far) refl refl image_holds;
+      })

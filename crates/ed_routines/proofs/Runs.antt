@@ -1,6 +1,6 @@
 -- A run whose limit is the number of orders that a path has.
-use Rattle.ed_routines.proofs.Kit.{free, Leads, ap, arith, length, List, ℕ, ◌++◌, ◌+◌, ◌-◌, ◌∙◌, ◌≡◌, ◌≤◌, State}
-use Rattle.ed_routines.proofs.Kit.{state_after, IsRun}
+use Rattle.ed_routines.proofs.Kit.{free, Leads, ap, arith, length, List, ℕ, ◌++◌, ◌+◌, ◌-◌, ◌≡◌, ◌≤◌, State}
+use Rattle.ed_routines.proofs.Kit.{state_after, IsRun, rules}
 use Rattle.ed_run.proofs.Kit.{Sheet, progress, first_once}
 use Rattle.ed_machine.specs.declared.ending.Ending.{Ending}
 use Rattle.ed_machine.proofs.Kit.Leads.{no_stops}
@@ -21,8 +21,4 @@ ran {k} {s} {sheet = sheet} {codes = codes} o room r =
     in omega (arith, e) in
     let has : HasRoom (sheet.room - length sheet.codes) k s = record { obeyed = free o; printed = few } in
     let one = first_once r.ends (at_limit k 0 has (omega (arith, stops))) in
-    record {
-      state_is = r.state_is ∙ ap (λ j. state_after j s) one.0;
-      sheet_is = r.sheet_is ∙ ap (λ j. record { codes = sheet.codes ++ (progress j s).codes; room = sheet.room }) one.0
-          ∙ ap (λ x. record { codes = sheet.codes ++ x; room = sheet.room }) o.codes_are;
-    }
+    search rules

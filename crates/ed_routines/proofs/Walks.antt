@@ -1,7 +1,7 @@
 -- Paths whose orders are weighed: a weight for each kind of order, and for a jump by whether it is taken.
 use Rattle.ed_routines.proofs.Kit.{Kind, Frame, Moment, state, Does, IsOrder, on, Path, prints, stay, [], ap, arith}
 use Rattle.ed_routines.proofs.Kit.{List, nat_lt, refl, suc, zero, ℕ, ◌*◌, ◌++◌, ◌+◌, ◌<◌, ◌^◌, ◌∙◌, ◌∷◌, ◌≡◌, ◌≤◌}
-use Rattle.ed_routines.proofs.Kit.{step, State, state_after, if◌then◌else◌}
+use Rattle.ed_routines.proofs.Kit.{step, State, state_after, if◌then◌else◌, rules}
 use Rattle.ed_orders.specs.declared.kind.Kind.TheVariants.{E, F, G, H, L, N, X}
 use Rattle.ed_machine.specs.declared.turn.Turn.{Turn}
 use Rattle.ed_machine.specs.declared.turn.Turn.TheVariants.{Went, Printed}
@@ -59,8 +59,7 @@ module _ {n h : ℕ} {f : Frame n h} {w : Weights} where
   -- a walk after a path
   along : {a b v : ℕ} {r m t : Moment} {cs ds : List ℕ} (p : Path f a r cs m) → Walk w f b v m ds t
       → Walk w f (a + b) (weigh w p + v) r (cs ++ ds) t
-  along {b = b} {v} stay next =
-      let e : 0 + b ≡ b = omega arith in let g : 0 + v ≡ v = omega arith in rw (e, g) next
+  along {b = b} {v} stay next = search rules
   along {b = b} {v} (on {k = k} {kind = kind} {r = r} first rest) next =
       let e : suc k + b ≡ suc (k + b) = omega arith in
       let g : weight w kind r.acc + weigh w rest + v ≡ weight w kind r.acc + (weigh w rest + v) = omega arith in
@@ -127,8 +126,7 @@ module _ {n h : ℕ} {f : Frame n h} (w : Weights) (of : State → ℕ)
       → total of (suc k) (state f r done) ≡ weight w kind r.acc + total of k (state f m (done + 1))
   one_more k {kind} {r = r} first done =
       let here = by_order kind (state f r done) (first.order done) in
-      total_first of k (state f r done)
-      ∙ (λ i. here i + total of k (first.does done i).state)
+      search (rules, total_first)
 
   pub total_of_path : {k : ℕ} {r t : Moment} {cs : List ℕ} (p : Path f k r cs t) (done : ℕ)
       → total of k (state f r done) ≡ weigh w p

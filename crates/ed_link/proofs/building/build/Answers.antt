@@ -1,31 +1,52 @@
-use Rattle.ed_link.proofs.Kit.{sym, is_some, LinesBefore}
-use Rattle.ed_link.proofs.Inductions.{faultless, first_enter}
-use Rattle.ed_link.proofs.LineLoop.{all_built, reach_fits, Doing-start, Doing-step, fault_from-stopped}
+use Rattle.ed_link.proofs.Kit.{append_assoc, ap, arith, drop, is_some, length-append, Line, refl, sym, ◌+◌, ◌∙◌, ◌∷◌}
+use Rattle.ed_link.proofs.Kit.{◌≡◌, drop_more}
+use Rattle.ed_link.proofs.Bounds.{items_few}
+use Rattle.ed_link.proofs.Lengths.{empty_length, put_all_append, put_all_length}
+use Rattle.ed_link.proofs.LineLoop.{base_under, reach_fits}
 use Rattle.ed_link.proofs.building.build.Goals as goal
 
 pub loop-line-init : goal.loop-line-init
 loop-line-init c =
     let s = c.in_ok-built.ensures in
-    Doing-start (λ i. record { extents = s.4 i; entered = is_some (s.2 i) }) c.first-counter.ensures s.0 s.1 s.2 s.3
+    let counter = c.first-counter.ensures in
+    record {
+      fault = rw (s.4, s.2, counter) refl;
+      items_are = rw (counter, s.0) refl;
+      table_is = rw (counter, s.1) refl;
+      size = rw s.1 empty_length;
+      rows_are = rw s.3 refl;
+      entry_is = rw s.2 refl;
+      place = rw counter (omega arith);
+      segments = rw counter (omega arith);
+      base = rw counter (omega arith);
+      few_items = rw s.0 (omega arith);
+      few_rows = rw s.3 (omega arith);
+    }
 
 pub loop-line-preserved : goal.loop-line-preserved
 loop-line-preserved c =
+    let d = c.loop-line.invariant in
     let added = c.in_ok-add_line.ensures in
     let counter = c.after_statement-counter.ensures in
-    Doing-step c.loop-line.invariant c.loop-line-test.true c.line-item.is (record {
-      cause = sym c.in_default.ensures;
-      few_items = added.few_items;
-      few_rows = added.few_rows;
-      items_are = added.items;
-      table_is = added.table;
-      rows_are = added.after;
-      entry_is = added.entry;
-      spot_is = counter.is;
-      place = counter.place;
-      segments = counter.segments;
-      extents = added.extents;
-      entered = added.entered;
-    })
+    let l = c.line-item.result in
+    let few = items_few c.args.symbols.now c.loop-line.counter l.statement added.few_items in
+    let base = base_under l.statement c.loop-line.counter d.base in
+    let q : drop c.loop-line.line-index c.args.lines.now ≡ l ∷ drop (c.loop-line.line-index + 1) c.args.lines.now =
+    drop_more c.args.lines.now c.loop-line.line-index l c.loop-line-test.true
+    ∙ ap (λ (x : Line). x ∷ drop (c.loop-line.line-index + 1) c.args.lines.now) (sym c.line-item.is) in
+    record {
+      fault = rw (added.extents, added.entered, counter.is) (rw (q, ← c.in_default.ensures) at d.fault);
+      items_are = rw (added.items, counter.is, append_assoc) (rw q at d.items_are);
+      table_is = rw (added.table, counter.is, put_all_append) (rw q at d.table_is);
+      size = rw (added.table, put_all_length) d.size;
+      rows_are = rw (added.after, append_assoc) (rw q at d.rows_are);
+      entry_is = added.entry _ ∙ (rw q at d.entry_is);
+      place = omega (arith, d.place, counter.place);
+      segments = omega (arith, d.segments, counter.segments);
+      base = rw counter.is base;
+      few_items = rw (added.items, length-append) (omega (arith, d.few_items, few));
+      few_rows = rw (added.after, length-append) (omega (arith, d.few_rows, added.few_rows));
+    }
 
 pub add_line-requires-clause-fits : goal.add_line-requires-clause-fits
 add_line-requires-clause-fits c =
@@ -33,19 +54,3 @@ add_line-requires-clause-fits c =
     (record { extents = c.loop-line.built.extents.items; entered = is_some c.loop-line.built.entry }) c.line-item.result
     c.loop-line.counter
     (sym c.in_default.ensures)
-
-pub add_line-requires-clause-first : goal.add_line-requires-clause-first
-add_line-requires-clause-first c =
-    let past : LinesBefore =
-    record { extents = c.loop-line.built.extents.items; entered = is_some c.loop-line.built.entry } in
-    first_enter c.loop-line.built.entry c.args.has_enter c.line-item.result
-    (faultless c.args.size c.args.symbols.now c.args.has_enter past c.line-item.result c.loop-line.counter
-    (sym c.in_default.ensures)).misplaced
-
-pub returns : goal.returns
-returns c =
-    all_built c.loop-line.invariant c.loop-line-test.false c.loop-line.auto.line-index-end c.requires
-
-pub returns-in-Some : goal.returns-in-Some
-returns-in-Some c =
-    fault_from-stopped c.loop-line.invariant c.loop-line-test.true c.line-item.is (sym c.in-Some.ensures)

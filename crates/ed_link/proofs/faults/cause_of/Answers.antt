@@ -3,27 +3,6 @@ use Rattle.ed_link.proofs.Causes.{among, unused, used}
 use Rattle.ed_syntax.specs.declared.fault.SourceCause.TheVariants as causes
 use Rattle.ed_link.proofs.faults.cause_of.Goals as goal
 
-pub returns-then-is_outside : goal.returns-then-is_outside
-returns-then-is_outside c = rw (← c.if-is_outside.ensures) refl
-
-pub returns-then-overlaps : goal.returns-then-overlaps
-returns-then-overlaps c = rw (← c.reach-reach.ensures, ← c.if-is_outside.ensures, ← c.if-overlaps.ensures) refl
-
-pub returns-then-overlaps-2 : goal.returns-then-overlaps-2
-returns-then-overlaps-2 c =
-    rw (← c.reach-reach.ensures, ← c.if-is_outside.ensures, ← c.if-overlaps.ensures, ← c.if-overlaps-2.ensures) refl
-
-pub returns-then-overlaps-3 : goal.returns-then-overlaps-3
-returns-then-overlaps-3 c =
-    rw (← c.reach-reach.ensures, ← c.if-is_outside.ensures, ← c.if-overlaps.ensures, ← c.if-overlaps-2.ensures)
-    (rw (← (c.from.ensures ∙ c.value.ensures.is), ← c.if-overlaps-3.ensures) refl)
-
-pub returns-then-overlaps_any : goal.returns-then-overlaps_any
-returns-then-overlaps_any c =
-    rw (← c.reach-reach.ensures, ← c.if-is_outside.ensures, ← c.if-overlaps.ensures, ← c.if-overlaps-2.ensures)
-    (rw (← (c.from.ensures ∙ c.value.ensures.is), ← c.if-overlaps-3.ensures)
-    (rw (← among c.if-overlaps_any.ensures c.extent_of.ensures c.deref.ensures.value) refl))
-
 pub returns-in-Some : goal.returns-in-Some
 returns-in-Some c =
     rw (← c.reach-reach.ensures, ← c.if-is_outside.ensures, ← c.if-overlaps.ensures, ← c.if-overlaps-2.ensures)
@@ -38,19 +17,3 @@ returns-then-is_misplaced c =
     (rw (← among c.if-overlaps_any.ensures c.extent_of.ensures c.deref.ensures.value)
     (unused _ _ causes.NoSuchRoutine causes.Parameters _ c.in_default.ensures
     (rw (← c.is_some.ensures, ← c.if-is_misplaced.ensures) refl))))
-
-pub returns-then-has_sandwich : goal.returns-then-has_sandwich
-returns-then-has_sandwich c =
-    rw (← c.reach-reach.ensures, ← c.if-is_outside.ensures, ← c.if-overlaps.ensures, ← c.if-overlaps-2.ensures)
-    (rw (← (c.from.ensures ∙ c.value.ensures.is), ← c.if-overlaps-3.ensures)
-    (rw (← among c.if-overlaps_any.ensures c.extent_of.ensures c.deref.ensures.value)
-    (unused _ _ causes.NoSuchRoutine causes.Parameters _ c.in_default.ensures
-    (rw (← c.is_some.ensures, ← c.if-is_misplaced.ensures, ← c.if-has_sandwich.ensures) refl))))
-
-pub returns-else-has_sandwich : goal.returns-else-has_sandwich
-returns-else-has_sandwich c =
-    rw (← c.reach-reach.ensures, ← c.if-is_outside.ensures, ← c.if-overlaps.ensures, ← c.if-overlaps-2.ensures)
-    (rw (← (c.from.ensures ∙ c.value.ensures.is), ← c.if-overlaps-3.ensures)
-    (rw (← among c.if-overlaps_any.ensures c.extent_of.ensures c.deref.ensures.value)
-    (unused _ _ causes.NoSuchRoutine causes.Parameters _ c.in_default.ensures
-    (rw (← c.is_some.ensures, ← c.if-is_misplaced.ensures, ← c.if-has_sandwich.ensures) refl))))

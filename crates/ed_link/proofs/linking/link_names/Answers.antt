@@ -1,13 +1,10 @@
-use Rattle.ed_link.proofs.Kit.{ap, arith, List, subst, sym, ◌∙◌, Line, IsLinked, any_enter, IsBuilt, IsFinished}
+use Rattle.ed_link.proofs.Kit.{ap, List, subst, sym, ◌∙◌, Line, IsLinked, any_enter, IsBuilt, IsFinished}
 use Rattle.std.proofs.lemmas.Result.{IfOk-weaker}
 use Rattle.ed_link.proofs.Bounds.{tape_few}
 use Rattle.ed_link.proofs.FaultLaw.{line_fault, name_fault}
 use Rattle.ed_link.proofs.Finished.{built_spelled, IsLinked-finished}
 use Rattle.ed_link.proofs.Spellable.{all_spellable}
 use Rattle.ed_link.proofs.linking.link_names.Goals as goal
-
-pub build-requires : goal.build-requires
-build-requires c = omega arith
 
 pub finish-requires-clause-spellable : goal.finish-requires-clause-spellable
 finish-requires-clause-spellable c =

@@ -1,6 +1,4 @@
-use Rattle.ed_link.proofs.Kit.{reading, rows, item_rows, Item, all_rows_are, ap, List, sym, ℕ, ◌++◌, ◌∙◌, flat_map}
-use Rattle.ed_link.proofs.Kit.{canonicals, after_text}
-use Rattle.ed_notation.specs.Spellings.{text_of}
+use Rattle.ed_link.proofs.Kit.{reading, rows, item_rows, all_rows_are, ap, List, sym, ℕ, ◌++◌, ◌∙◌, flat_map}
 use Rattle.ed_link.proofs.Spellable.{are_spellable}
 use Rattle.ed_link.proofs.Texts.{both_read}
 use Rattle.ed_link.proofs.linked.Linked.text.Goals as goal
@@ -8,11 +6,6 @@ use Rattle.ed_link.proofs.linked.Linked.text.Goals as goal
 pub text_of_items-requires : goal.text_of_items-requires
 text_of_items-requires c =
     let linked = c.args.self.now in rw c.deref.ensures.value (are_spellable linked.items.items linked.spellable)
-
-pub returns-clause-is : goal.returns-clause-is
-returns-clause-is c =
-    let items = c.in_ok-text.ensures.text ∙ ap (λ (is : List Item). text_of (canonicals is)) c.deref.ensures.value in
-    c.in_ok-push_after.ensures.is ∙ (λ i. items i ++ after_text (c.deref-2.ensures.value i))
 
 pub returns-clause-reads : goal.returns-clause-reads
 returns-clause-reads c =
