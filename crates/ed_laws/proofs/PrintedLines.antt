@@ -31,9 +31,6 @@ each_below test (suc n) h f less =
 
 -- ---- digits
 
-all_digits : (n : ℕ) → AreDigits (address_digits n)
-all_digits n = search rules
-
 -- a byte is the one of a digit
 abbrev is_one : List ℕ → ℕ → Bool
 is_one [] x = false

@@ -94,11 +94,6 @@ module _ (low high resumes room room_too : ℕ) (s : State) (fits : low ≤ high
   pub limit_on : GoesOnToo low resumes room high resumes room_too s
   limit_on j less h = same_end j (omega (arith, less, most_orders)) ∙ h
 
-  -- at the lower limit a run ends by it, or at a stop
-  at_limit : (k : ℕ) (p : Progress) (e : Ending) → e ≢ Limit → k ≡ low → end_at low resumes room k p ≡ Some e
-      → end_at high resumes room_too k p ≡ Some e
-  at_limit k p e other is h = grind (arith, common_steps, nat_tests)
-
   limit_so : (run_end low resumes room s).ending ≢ Limit → EndsToo low resumes room high resumes room_too s
   limit_so other e is h = search (rules, same_end, most_orders)
 

@@ -10,31 +10,6 @@ unfolding least
 least_below test zero = omega arith
 least_below test (suc n) = search (rules, (least_below test n))
 
--- no number below n is found if the test fails at each
-pub least_none : (test : ℕ → Bool) (n : ℕ) → ((j : ℕ) → j < n → test j ≡ false) → least test n ≡ n
-unfolding least
-least_none test zero fails = refl
-least_none test (suc n) fails = search (rules, (least_none test n (λ j h. fails j (omega arith))))
-
--- a number at which the test holds first is found
-pub least_found : (test : ℕ → Bool) (n k : ℕ) → test k ≡ true → ((j : ℕ) → j < k → test j ≡ false) → k < n
-    → least test n ≡ k
-unfolding least
-least_found test zero k holds fails below = absurd (omega arith)
-least_found test (suc n) k holds fails below =
-    by_place (split k n (omega arith)) (λ lower. least_found test n k holds fails lower)
-  where
-    split : (k n : ℕ) → k ≤ n → (k ≡ n) ⊎ (k < n)
-    split k n h = grind arith
-
-    by_place : (k ≡ n) ⊎ (k < n) → (k < n → least test n ≡ k)
-        → (if test (least test n) then least test n else suc n) ≡ k
-    by_place (inl is) found =
-        let before : least test n ≡ n = least_none test n (λ j h. fails j (omega arith)) in
-        let here : test n ≡ true = ap test (sym is) ∙ holds in
-        rw (before, here) (sym is)
-    by_place (inr lower) found = let before : least test n ≡ k = found lower in rw (before, holds) refl
-
 -- the number that is found passes the test if the bound does
 pub least_holds : (test : ℕ → Bool) (n : ℕ) → test n ≡ true → test (least test n) ≡ true
 unfolding least

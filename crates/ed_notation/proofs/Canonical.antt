@@ -23,10 +23,6 @@ by_tests {n} {a = false} {b = false} {c = false} {d = true} h p q r s t = search
 by_tests {a = false} {b = false} {c = false} {d = false} {e = true} h p q r s t = search (rules, leb-false, leb-true)
 by_tests {a = false} {b = false} {c = false} {d = false} {e = false} h p q r s t = search (rules, leb-false)
 
--- the digits of a number are its digits
-pub digits_are : (n : ℕ) → n ≤ 32767 → AreDigitsOf n (digits_of n)
-digits_are n h = by_tests h refl refl refl refl refl
-
 can_be : (i : Item) → is_spellable i ≡ true
     → (i.function < 32) × (i.number ≤ 32767) × (ends (row_kind i.end) (canonical i).begun ≡ true)
 can_be i h = search (rules, ltb-true, leb-true)

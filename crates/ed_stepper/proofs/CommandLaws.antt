@@ -68,10 +68,6 @@ number_is_read : (least most : ℕ) (n : Text) → IsNumberWithin least most n
     → number_within least most n ≡ Some (value n)
 number_is_read least most n i = search (rules, le-leb)
 
-number_is : (n : Text) (x : ℕ) → number n ≡ Some x
-    → (1 ≤ length n) × (length n ≤ 9) × (list_all is_digit n ≡ true) × (value n ≡ x)
-number_is n x = search (rules, leb-true, some_is, none_is)
-
 range_is : (least most n x : ℕ) → in_range least most n ≡ Some x → (least ≤ n) × (n ≤ most) × (n ≡ x)
 range_is least most n x = search (rules, leb-true, some_is, none_is)
 
