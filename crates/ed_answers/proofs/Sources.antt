@@ -106,17 +106,14 @@ source_rejected z accepted input rejection.Memory l = let some = some_outcome z 
 pub source_refused : (z : Size) (accepted : List Line → Outcome) (input : Text) (r : Result Reply Rejection)
     (e : Rejection) → LinksSource z input (Err e) → IsErr r × IsErrAnd r (λ handed. handed ≡ e)
     → Replies (of_source z accepted) input r
-source_refused z accepted input (Ok reply) e l is = absurd (cc)
-source_refused z accepted input (Err handed) e l is =
-    source_rejected z accepted input handed (subst (λ (x : Rejection). LinksSource z input (Err x)) (sym is.1) l)
+source_refused z accepted input r e l =
+    passed_on (of_source z accepted) input r e (source_rejected z accepted input e l)
 
 -- of one for which no memory is found
 pub source_unanswered : (z : Size) (accepted : List Line → Outcome) (input : Text) (r : Result Reply Rejection)
     → IsErr r × IsErrAnd r (λ handed. handed ≡ rejection.Memory) → Replies (of_source z accepted) input r
-source_unanswered z accepted input (Ok reply) is = absurd (cc)
-source_unanswered z accepted input (Err rejection.Memory) is =
-    let some = some_outcome z accepted input in (some.0, some.1, tt)
-source_unanswered z accepted input (Err (rejection.Refused reply)) is = absurd (cc)
+source_unanswered z accepted input r =
+    passed_on (of_source z accepted) input r rejection.Memory (source_rejected z accepted input rejection.Memory tt)
 
 -- ---- that it is run from its entry
 

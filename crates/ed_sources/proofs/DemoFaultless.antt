@@ -9,8 +9,7 @@ use Rattle.ed_syntax.specs.declared.fault.SourceFault.{SourceFault}
 use Rattle.ed_symbols.specs.Names.{symbols_from}
 use Rattle.ed_link.proofs.Extents.{ExtentList, list_any-apart, are_below, fits_store, none_later, one_by_one, one_more, past}
 use Rattle.ed_sources.proofs.Decimals.{decimal_is}
-use Rattle.ed_sources.proofs.DemoNames.{enter_named, first_free, first_homes, program_named, segments_named}
-use Rattle.ed_sources.proofs.DemoNames.{words_named}
+use Rattle.ed_sources.proofs.DemoNames.{enter_named, first_free, first_homes, program_named, segments_named, AreNamed}
 use Rattle.ed_sources.proofs.Said.{said}
 use Rattle.ed_sources.proofs.SaidDemo.{adding_lines, demo_lines, enter_line, name, segment_forms, segment_line}
 use Rattle.ed_sources.proofs.SaidDemo.{word_forms}
@@ -129,10 +128,11 @@ module _ (z : Size) (words n x l : ℕ) (few : n ≤ 111) (near : words ≤ 900)
 
   named : (resolution lines).fault ≡ None
   named =
-      program_named rest_homes words near
-      (words_named rest_homes 8 20 x
-      (λ t. segments_named rest_homes n 2 28 (number_after 8 x) (omega (arith, few)) first_free
-      (λ e s. enter_named rest_homes l)))
+      let behind : AreNamed (symbols_of lines) first_homes (counter 131 123 3)
+      (segment_forms n 2 28 (number_after 8 x) ++ enter_line l ∷ []) =
+      segments_named rest_homes n 2 28 (number_after 8 x) (omega (arith, few)) first_free
+      (λ e s. enter_named rest_homes l) in
+      program_named rest_homes {rest = lines_behind n x l} words near (record { none = behind.none })
 
   sound : fault_from z (symbols_of lines) true (past []) first_counter lines ≡ None
   sound = program_sound z rest_homes words (lines_behind n x l)

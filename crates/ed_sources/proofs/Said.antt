@@ -86,27 +86,6 @@ check_lines n =
     ∷ said 8 None (statements.Enter (codes "c"))
     ∷ [])
 
--- a `use` line with H
-print_used : line_of false 6 (codes "use print as p with H=value")
-    ≡ Ok (record { label = None; statement = Some (use_on (codes "print") (codes "p") (codes "value")) })
-unfolding settings
-print_used = refl
-
-read_used : line_of false 8 (codes "use read as r with H=value")
-    ≡ Ok (record { label = None; statement = Some (use_on (codes "read") (codes "r") (codes "value")) })
-unfolding settings
-read_used = refl
-
-print_used_too : line_of false 9 (codes "use print as p with H=value")
-    ≡ Ok (record { label = None; statement = Some (use_on (codes "print") (codes "p") (codes "value")) })
-unfolding settings
-print_used_too = refl
-
-check_used : line_of false 7 (codes "use check as c with H=main")
-    ≡ Ok (record { label = None; statement = Some (use_on (codes "check") (codes "c") (codes "main")) })
-unfolding settings
-check_used = refl
-
 -- ---- the line with the number
 
 pub number_parts : (bytes : Text) → 0 < length bytes → list_all is_run_byte bytes ≡ true
@@ -172,17 +151,23 @@ pub named_front : (two : Bool) (k : ℕ) (label : Text) → (k == 1) ≡ false �
 named_front two k label later named few runs plain =
     search (rules, list_all-append, length-append, append_assoc, run_parts)
 
-value_front : IsWordFront false 5 (codes "value: word ") (Some (codes "value")) (label_parts (codes "value"))
-value_front = named_front false 5 (codes "value") refl refl (lit≤ tt) refl refl
+-- a line with such a label, `word` and a number
+pub labelled : (k : ℕ) (label : Text) → (k == 1) ≡ false → is_place_name false label ≡ true → length label ≤ 13
+    → list_all is_run_byte label ≡ true → list_all is_line_byte label ≡ true → (n : ℕ) → n < 65536
+    → line_of false k ((label ++ codes ": word ") ++ (decimal n ++ []))
+    ≡ Ok (record { label = Some label; statement = Some (statements.Number n) })
+labelled k label later named few runs plain = filled_says (named_front false k label later named few runs plain)
 
 pub print_says : (n : ℕ) → n < 65536 → Says false 1 (call_lines (Print n)) (print_lines n)
-print_says n small = says refl
-    (says refl (says refl (says refl (says (filled_says value_front n small) (says print_used (says refl ends))))))
+unfolding settings
+print_says n small = says refl (says refl (says refl (says refl
+    (says (labelled 5 (codes "value") refl refl (lit≤ tt) refl refl n small) (says refl (says refl ends))))))
 
 pub check_says : (n : ℕ) → n < 65536 → Says false 1 (call_lines (Check n)) (check_lines n)
-check_says n small =
-    says refl (says refl (says refl
-    (says refl (says (filled_says value_front n small) (says print_used (says check_used (says refl ends)))))))
+unfolding settings
+check_says n small = says refl (says refl (says refl (says refl
+    (says (labelled 5 (codes "value") refl refl (lit≤ tt) refl refl n small)
+    (says refl (says refl (says refl ends)))))))
 
 pub newline_says : Says false 1 (call_lines NewLine) newline_lines
 newline_says = says refl (says refl (says refl (says refl (says refl (says refl ends)))))
@@ -243,7 +228,7 @@ read_number n small =
     (decimal_is n small) (rows_line (digits n) (are n small) (few_bytes n small))
 
 pub read_says : (n : ℕ) → n < 65536 → Says false 1 (call_lines (Read n)) (read_lines n)
+unfolding settings
 read_says n small =
-    says refl (says refl (says refl
-    (says refl (says refl (says refl (says refl (says read_used (says print_used_too (says refl
+    says refl (says refl (says refl (says refl (says refl (says refl (says refl (says refl (says refl (says refl
     (says (read_number n small) ends))))))))))

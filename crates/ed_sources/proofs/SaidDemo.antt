@@ -125,11 +125,6 @@ segments_say (suc n) k l x {rest} {program} second few tail =
 
 -- ---- the program
 
-print_used : line_of false 18 (codes "use print as p with H=total")
-    ≡ Ok (record { label = None; statement = Some (use_print (codes "p") (codes "total")) })
-unfolding settings
-print_used = refl
-
 -- digits, and F after them
 then_F : (bytes : Text) → 0 < length bytes → list_all is_run_byte bytes ≡ true
     → parts_of (bytes ++ codes " F") ≡ Some (run bytes ∷ sign 70 ∷ [])
@@ -169,10 +164,11 @@ demo_source n = adding (8 * n) ++ segments n 1 n ++ codes "enter main" ∷ []
 
 adding_says : (words : ℕ) {rest : List Text} {program : List Line} → words ≤ 1023 → Says false 19 rest program
     → Says false 1 (adding words ++ rest) (adding_lines words ++ program)
+unfolding settings
 adding_says words few tail =
     says refl (says refl (says refl (says refl (says refl (says refl (says refl (says refl (says refl (says refl
     (says refl (says refl (says refl (says refl
-    (says (stop_says words few) (says refl (says refl (says print_used tail)))))))))))))))))
+    (says (stop_says words few) (says refl (says refl (says refl tail)))))))))))))))))
 
 enter_says : (l : ℕ) → 2 ≤ l → line_of false l (codes "enter main")
     ≡ Ok (record { label = None; statement = Some (statements.Enter (codes "main")) })
