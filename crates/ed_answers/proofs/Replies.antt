@@ -4,6 +4,7 @@ use Rattle.ed_answers.proofs.Kit.{subst, sym, ℕ, ◌∙◌, ◌≡◌, reading
 use Rattle.ed_answers.proofs.Kit.{refusal, Gives, Replies, Rejection, Reply}
 use Rattle.ed_codes.specs.declared.tape.TextFault.TheVariants.{NoRow, OpenComment}
 use Rattle.ed_report.specs.Notes.{text_fault_line}
+use Rattle.ed_answers.specs.Answer.{Answer}
 use Rattle.ed_answers.specs.Replies.{RefusesText}
 use Rattle.ed_answers.specs.declared.reply.Rejection.TheVariants.{Memory, Refused}
 

@@ -17,6 +17,7 @@ use Rattle.ed_answers.proofs.EachSource.{one_answer}
 use Rattle.ed_answers.proofs.Entries.{each_source}
 use Rattle.ed_answers.proofs.EntryWords.{each_entry_store_is}
 use Rattle.ed_answers.proofs.FromEntry.{answers_from_entry, runs_from_entry}
+use Rattle.ed_answers.proofs.Replies.{passed_on}
 use Rattle.ed_answers.specs.declared.reply.Rejection.TheVariants as rejection
 
 -- ---- what is made of a source
