@@ -1,20 +1,17 @@
 -- The source of `call check N`: at its entry the checking routine is at the start of a turn, and its guest prints the
 -- number and stops.
-use Rattle.ed_sources.proofs.Kit.{Z_F, Size, within_below, G, joined, no_stops, nat_eq, nat_le, ◌||◌, list_all}
-use Rattle.ed_sources.proofs.Kit.{image_word, parameter_store, unwrap_or, eqb-true}
-use Rattle.ed_sources.proofs.Kit.{least, placed_at, before_units, IsCalled, tens, [], ap, arith, Bool}
-use Rattle.ed_sources.proofs.Kit.{false, get_or, inl, length, lit<, lit≤, refl, rules, Some}
-use Rattle.ed_sources.proofs.Kit.{subst, suc, sym, true, zero, ℕ, ◌%◌, ◌*◌, ◌++◌, ◌+◌, ◌/◌, ◌<◌, ◌^◌, ◌∙◌, ◌∷◌}
-use Rattle.ed_sources.proofs.Kit.{◌≡◌, ◌≤◌, short_at, step, State, state_after, short, free, Leads, print}
-use Rattle.ed_sources.proofs.Kit.{with_h, digits, print_orders, sum, ChecksToStop}
-use Rattle.ed_sources.proofs.Kit.{size_after, function_of, kind_of_function, jump_order, next_word, obey_word}
-use Rattle.ed_sources.proofs.Kit.{place_of, guest, progress, entry_state, call_text, read_is_accepted, Check}
-use Rattle.ed_checker.proofs.Kit.{within, address_of, long_at, checked_orders, IsAllowed, orders_by, turn_orders}
-use Rattle.ed_orders.specs.declared.kind.Kind.TheVariants.{A}
+use Rattle.ed_sources.proofs.Kit.{Z_F, Size, joined, no_stops, nat_eq, ◌||◌, list_all}
+use Rattle.ed_sources.proofs.Kit.{image_word, parameter_store, unwrap_or, eqb-true, least, placed_at, before_units}
+use Rattle.ed_sources.proofs.Kit.{IsCalled, tens, [], ap, arith, Bool, false, get_or, inl, length, lit<, lit≤, refl}
+use Rattle.ed_sources.proofs.Kit.{rules, subst, suc, sym, true, zero, ℕ, ◌%◌, ◌*◌, ◌++◌, ◌+◌, ◌/◌, ◌<◌, ◌^◌, ◌∙◌}
+use Rattle.ed_sources.proofs.Kit.{◌∷◌, ◌≡◌, ◌≤◌, short_at, State, state_after, free, Leads, print, with_h}
+use Rattle.ed_sources.proofs.Kit.{digits, print_orders, sum, ChecksToStop, size_after, function_of}
+use Rattle.ed_sources.proofs.Kit.{next_word, guest, entry_state, call_text}
+use Rattle.ed_sources.proofs.Kit.{read_is_accepted, Check, locations}
+use Rattle.ed_checker.proofs.Kit.{address_of, long_at, checked_orders, IsAllowed, orders_by, turn_orders}
 use Rattle.ed_machine.specs.Sound.{IsSound}
-use Rattle.ed_machine.proofs.Kit.Leads.{first_order}
 use Rattle.ed_machine.proofs.Kit.Zeros.{begun, shown}
-use Rattle.ed_machine.proofs.Steps.{after_sum}
+use Rattle.ed_machine.proofs.Steps.{each_sum}
 use Rattle.ed_library.specs.Routines.{is_working}
 use Rattle.ed_routines.proofs.Print.{before_tens, print_weight, shown_weight, shows_is, sum_is}
 use Rattle.ed_routines.proofs.Walks.{total, total_sum}
@@ -26,11 +23,14 @@ use Rattle.ed_checker.proofs.Weights.{checked_total, turn_weighs, turn_weights}
 use Rattle.ed_sources.proofs.Along.{IsAt, before, has, HasCall, out}
 use Rattle.ed_sources.proofs.AtEntry.{all_words, placed, word_at, sound_entry}
 use Rattle.ed_sources.proofs.CalledRoutines.{stop_at}
-use Rattle.ed_sources.proofs.Calling.{IsBefore, called, caller_is, Leads-calls, IsLoadedAt-stands, outside}
+use Rattle.ed_sources.proofs.Calling.{IsBefore, called, caller_is, Leads-calls, IsLoadedAt-stands, outside, call_keeps}
+use Rattle.ed_sources.proofs.Calling.{call_weighs}
 use Rattle.ed_sources.proofs.Decimals.{among, numbers}
 use Rattle.ed_sources.proofs.Said.{check_lines}
 use Rattle.ed_routines.proofs.PrintCall as print_call
 use Rattle.ed_sources.proofs.CallsAccepted.{check_read, faultless}
+use Rattle.ed_orders.specs.declared.kind.Kind.{Kind}
+use Rattle.ed_machine.proofs.Kit.Orders.{IsOrder}
 
 -- ---- the weights of the orders of `print`
 
@@ -181,50 +181,22 @@ module _ (z : Size) (n : ℕ) (small : n < 65536) where
 
   -- ---- each of its orders is allowed
 
-  below : (a : ℕ) → a < 112 → within z a < 112
-  below a l = let size = least z in rw (within_below z a (omega arith)) l
-
-  first_word : next_word g ≡ 114800
-  first_word = ap (short_at m.store) counter_is ∙ word 56 (lit≤ tt) (lit< tt)
-
-  first : IsAllowed 112 g
-  first = search (rules, least, outside, counter_is, first_word, below)
-
-  abbrev second : State
-  second = (obey_word (Some A) 114800 g).state
-
-  second_is : state_after 1 g ≡ second
-  second_is = first_order g 114800 first_word
-
-  second_counter : second.counter ≡ 57
-  second_counter = let size = least z in ap (λ c. within z (c + 1)) counter_is ∙ within_below z 57 (omega arith)
-
-  second_word : next_word second ≡ 110712
-  second_word = ap (short_at m.store) second_counter ∙ word 57 (lit≤ tt) (lit< tt)
-
-  second_allowed : IsAllowed 112 second
-  second_allowed = search (rules, least, outside, second_counter, second_word, below)
+  -- an order that stays below the routine is allowed
+  plain : (kind : Kind) (x : State) → IsOrder 112 kind x → x.size ≡ z → IsAllowed 112 x
+  plain kind x o same = let size = least z in allowed_below 112 refl kind x o (rw same (omega arith))
 
   third : state_after 2 g ≡ t
   third = (Leads-calls before_print).state_is
 
-  of_print : (i : ℕ) → i < count → IsAllowed 112 (state_after i t)
-  of_print i l =
-      let size = least z in
-      print_call.keeps_below printing low (λ x. x.size ≡ z → IsAllowed 112 x)
-      (λ kind x o same. allowed_below 112 refl kind x o (rw same (omega arith))) i l (size_after i t)
-
-  no_orders : state_after 0 g ≡ g
-  unfolding progress
-  no_orders = refl
+  fits : 112 ≤ locations z
+  fits = let size = least z in omega arith
 
   each : (j : ℕ) → j < 2 + count → IsAllowed 112 (state_after j g)
-  each zero l = subst (IsAllowed 112) (sym no_orders) first
-  each (suc zero) l = subst (IsAllowed 112) (sym second_is) second_allowed
-  each (suc (suc i)) l =
-      let e : suc (suc i) ≡ 2 + i = omega arith in
-      subst (IsAllowed 112) (sym (ap (λ x. state_after x g) e ∙ after_sum 2 i g ∙ ap (state_after i) third))
-      (of_print i (omega arith))
+  each = each_sum (IsAllowed 112) 2 count g
+      (λ j l. call_keeps before_print 112 (lit≤ tt) (lit< tt) fits (λ x. x.size ≡ z → IsAllowed 112 x) plain j l
+      (size_after j g))
+      (λ j l. subst (λ x. IsAllowed 112 (state_after j x)) (sym third)
+      (print_call.keeps_below printing low (λ x. x.size ≡ z → IsAllowed 112 x) plain j l (size_after j t)))
 
   followed : IsFollowed 112 (2 + count) g
   followed = record { allowed = each; obeyed = free leads }
@@ -248,49 +220,23 @@ module _ (z : Size) (n : ℕ) (small : n < 65536) where
 
   -- ---- the orders of its turns
 
-  first_turn : turn_orders g ≡ 35
-  first_turn = λ i. orders_by (function_of (first_word i)) (acc_is i)
-
-  jump_keeps : (b : Bool) (p : ℕ) (x : State) → (jump_order b p x).state.acc ≡ x.acc
-  jump_keeps true p x = refl
-  jump_keeps false p x = refl
-
-  jump_is : state_after 2 g ≡ (obey_word (Some G) 110712 second).state
-  unfolding progress step
-  jump_is = ap (λ (x : State). (step x).state) second_is
-      ∙ ap (λ w. (obey_word (kind_of_function (function_of w)) w second).state) second_word
-
-  second_acc : second.acc ≡ short 114800
-  second_acc =
-      sym (jump_keeps (nat_le (2 ^ 70) second.acc) (place_of second 110712) second)
-      ∙ ap (λ (x : State). x.acc) (sym jump_is ∙ third)
-
-  second_turn : turn_orders second ≡ 16
-  second_turn = λ i. orders_by (function_of (second_word i)) (second_acc i)
-
   last_turn : turn_orders (state_after (2 + count) g) ≡ 35
   last_turn = ap turn_orders at_end ∙ ap (λ w. orders_by (function_of w) end.acc) end_word
 
   two_turns : total turn_orders 2 g ≡ 51
-  unfolding total
   two_turns =
-      let a = ap turn_orders no_orders ∙ first_turn in
-      let b = ap turn_orders second_is ∙ second_turn in
-      omega (arith, a, b)
+      call_weighs before_print 112 (lit≤ tt) (lit< tt) fits turn_weights turn_orders
+      (λ kind x o. turn_weighs kind x o.kind_is)
 
   print_turns : total turn_orders count t ≡ print_weight turn_weights (short_at t.store 59)
   print_turns = print_call.weighs printing low turn_weights turn_orders (λ kind x o. turn_weighs kind x o.kind_is)
 
-  turns_before : total turn_orders (2 + count) g ≡ 51 + print_weight turn_weights (short_at t.store 59)
-  turns_before =
-      total_sum turn_orders 2 count g
-      ∙ (λ i. two_turns i + total turn_orders count (third i))
-      ∙ ap (λ x. 51 + x) print_turns
-
   all_turns : checked_orders g (suc (2 + count)) ≡ 86 + print_weight turn_weights (short_at t.store 59)
   unfolding total
   all_turns =
-      let before = turns_before in
+      let before =
+      total_sum turn_orders 2 count g ∙ (λ i. two_turns i + total turn_orders count (third i))
+      ∙ ap (λ x. 51 + x) print_turns in
       let last = last_turn in
       checked_total g (suc (2 + count)) ∙ omega (arith, before, last)
 
