@@ -1,11 +1,12 @@
 -- A source's program on its way from call to call: which words are still those of its entry.
 use Rattle.ed_sources.proofs.Kit.{A_F, G_F, Size, Line, unwrap_or, least, placed_at, arith, inl, inr, length, List}
-use Rattle.ed_sources.proofs.Kit.{refl, true, ℕ, ◌*◌, ◌+◌, ◌<◌, ◌∙◌, ◌≡◌, ◌≤◌, short_at, State, place_count}
+use Rattle.ed_sources.proofs.Kit.{true, ℕ, ◌*◌, ◌+◌, ◌<◌, ◌∙◌, ◌≡◌, ◌≤◌, short_at, State, place_count}
 use Rattle.ed_sources.proofs.Kit.{HasWord, entry_state, IsOutside, Z_F, print, with_h, digits, print_orders, ◌∷◌}
 use Rattle.ed_sources.proofs.Kit.{StopsAt}
 use Rattle.ed_sources.proofs.AtEntry.{all_words, has_image, have_places, image_at, placed, word_at}
 use Rattle.ed_sources.proofs.CalledRoutines.{IsBeside, Passes, print_passes, stopped}
 use Rattle.ed_sources.proofs.Calling.{HasRoutine, IsBefore}
+use Rattle.std.proofs.Common.{rules}
 
 -- the program is at m with a clear accumulator, and the words outside those from one location to another are as at its
 -- entry
@@ -20,14 +21,7 @@ pub record IsAt (z : Size) (lines : List Line) (t : State) (from to m : ℕ) : T
 -- as it is at the entry
 pub IsAt-entered : {z : Size} {lines : List Line} {from to m : ℕ} → have_places (placed lines) ≡ true
     → (entry_state z lines).counter ≡ m → IsAt z lines (entry_state z lines) from to m
-IsAt-entered {z} {lines} fit counter = record {
-  fit = fit;
-  counter = counter;
-  acc = refl;
-  all = all_words z lines;
-  size = refl;
-  kept = λ i beside. refl;
-}
+IsAt-entered {z} {lines} fit counter = search (rules, all_words)
 
 -- the source places a call of a routine at m, and the routine at a base, behind what was changed
 pub record HasCall (lines : List Line) (r base : ℕ) (parameters : List ℕ) (from to m : ℕ) : Type 0 where
@@ -50,33 +44,12 @@ module _ {z : Size} {lines : List Line} {t : State} {from to m : ℕ} (o : IsAt 
   -- it is after a call that changes no other words
   pub IsAt-passed : {k first end : ℕ} {codes : List ℕ} (p : Passes k t codes m first end) → from ≤ first → to ≤ end
       → IsAt z lines p.last from end (m + 2)
-  IsAt-passed {first = first} {end = end} p low high = record {
-    fit = o.fit;
-    counter = p.counter;
-    acc = p.acc;
-    all = p.all;
-    size = p.size ∙ o.size;
-    kept = kept;
-  }
-    where
-      kept : (i : ℕ) → IsBeside from end i → short_at p.last.store i ≡ short_at (entry_state z lines).store i
-      kept i (inl l) = p.words i (inl (omega arith)) ∙ o.kept i (inl l)
-      kept i (inr g) = p.words i (inr g) ∙ o.kept i (inr (omega arith))
+  IsAt-passed {first = first} {end = end} p low high = search rules
 
   module _ {r base : ℕ} {parameters : List ℕ} (c : HasCall lines r base parameters from to m) where
     -- the two orders of the call are there
     pub before : IsBefore t m base
-    before =
-        let size = least z in
-        record {
-          counter = o.counter;
-          acc = o.acc;
-          first = word_there m _ (inl (omega arith)) c.early (omega arith) c.first;
-          second = word_there (m + 1) _ (inl (omega arith)) (omega arith) (omega arith) c.second;
-          all = o.all;
-          room = rw o.size (omega arith);
-          there = rw o.size (omega arith);
-        }
+    before = search (rules, least, word_there)
 
     -- and the routine
     pub has : HasRoutine t r base parameters

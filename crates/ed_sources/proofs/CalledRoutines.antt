@@ -39,12 +39,7 @@ pub record ReadsNumber (s : State) (m h to : ℕ) : Type 0 where
 -- with a stop after it
 pub stopped : {k m from to : ℕ} {s : State} {codes : List ℕ} → Passes k s codes m from to → IsBeside from to (m + 2)
     → short_at s.store (m + 2) ≡ Z_F → StopsAt k s codes (m + 2)
-stopped {m = m} p other stop = record {
-  last = p.last;
-  leads = p.leads;
-  stops = stop_at p.last (ap (λ x. get_or p.last.store.words x 0) p.counter ∙ p.words (m + 2) other ∙ stop);
-  counter = p.counter;
-}
+stopped {m = m} p other stop = search (rules, stop_at, other)
 
 -- a word beside those that a routine may change is not one of its working locations
 pub other : (r : ℕ) {base from to i : ℕ} → from ≤ base → base + place_count r ≤ to → IsBeside from to i

@@ -2,18 +2,18 @@
 -- number and stops.
 use Rattle.ed_sources.proofs.Kit.{Z_F, Size, joined, no_stops, nat_eq, ◌||◌, list_all}
 use Rattle.ed_sources.proofs.Kit.{image_word, parameter_store, unwrap_or, eqb-true, least, placed_at, before_units}
-use Rattle.ed_sources.proofs.Kit.{IsCalled, tens, [], ap, arith, Bool, false, get_or, inl, length, lit<, lit≤, refl}
-use Rattle.ed_sources.proofs.Kit.{rules, subst, suc, sym, true, zero, ℕ, ◌%◌, ◌*◌, ◌++◌, ◌+◌, ◌/◌, ◌<◌, ◌^◌, ◌∙◌}
+use Rattle.ed_sources.proofs.Kit.{IsCalled, [], ap, arith, Bool, false, get_or, inl, length, lit<, lit≤, refl}
+use Rattle.ed_sources.proofs.Kit.{rules, subst, suc, sym, true, zero, ℕ, ◌*◌, ◌++◌, ◌+◌, ◌<◌, ◌^◌, ◌∙◌}
 use Rattle.ed_sources.proofs.Kit.{◌∷◌, ◌≡◌, ◌≤◌, short_at, State, state_after, free, Leads, print, with_h}
 use Rattle.ed_sources.proofs.Kit.{digits, print_orders, sum, ChecksToStop, size_after, function_of}
 use Rattle.ed_sources.proofs.Kit.{next_word, guest, entry_state, call_text}
 use Rattle.ed_sources.proofs.Kit.{read_is_accepted, Check, locations}
 use Rattle.ed_checker.proofs.Kit.{address_of, long_at, checked_orders, IsAllowed, orders_by, turn_orders}
 use Rattle.ed_machine.specs.Sound.{IsSound}
-use Rattle.ed_machine.proofs.Kit.Zeros.{begun, shown}
+use Rattle.ed_machine.proofs.Kit.Zeros.{shown}
 use Rattle.ed_machine.proofs.Steps.{each_sum}
 use Rattle.ed_library.specs.Routines.{is_working}
-use Rattle.ed_routines.proofs.Print.{before_tens, print_weight, shown_weight, shows_is, sum_is}
+use Rattle.ed_routines.proofs.Print.{print_weight, shown_weight}
 use Rattle.ed_routines.proofs.Walks.{total, total_sum}
 use Rattle.ed_checker.specs.Checker.{HasImage, check}
 use Rattle.ed_checker.specs.Laws.{HasGuest, IsFollowed, StopsAfter}
@@ -31,6 +31,7 @@ use Rattle.ed_routines.proofs.PrintCall as print_call
 use Rattle.ed_sources.proofs.CallsAccepted.{check_read, faultless}
 use Rattle.ed_orders.specs.declared.kind.Kind.{Kind}
 use Rattle.ed_machine.proofs.Kit.Orders.{IsOrder}
+use Rattle.std.proofs.lemmas.Grind.{common_steps}
 
 -- ---- the weights of the orders of `print`
 
@@ -41,16 +42,7 @@ shown_is true q = refl
 
 print_weight_is : (n : ℕ) → print_weight turn_weights n
     ≡ 2481 + 244 * sum (before_units n) + 142 * length (before_units n)
-print_weight_is n =
-    let b1 : Bool = begun false (n / 10000) in
-    let b2 : Bool = begun b1 (n / 1000 % 10) in
-    let first = shown_is false (n / 10000) in
-    let second = shown_is b1 (n / 1000 % 10) in
-    let third = shown_is b2 (n / 100 % 10) in
-    let fourth = shown_is (before_tens n) (n / 10 % 10) in
-    let all = sum_is (tens n) in
-    let many = shows_is (tens n) in
-    omega (arith, first, second, third, fourth, all, many)
+print_weight_is n = grind (arith, common_steps)
 
 module _ (z : Size) (n : ℕ) (small : n < 65536) where
   -- the machine at the entry, and the guest
@@ -95,11 +87,7 @@ module _ (z : Size) (n : ℕ) (small : n < 65536) where
 
   -- the long words of the guest's accumulator are 0
   clear : (long_at m.store 172 ≡ 0) × (long_at m.store 174 ≡ 0) × (long_at m.store 176 ≡ 0)
-  clear = (
-    rw (word 172 (lit≤ tt) (lit< tt), word 173 (lit≤ tt) (lit< tt)) refl,
-    rw (word 174 (lit≤ tt) (lit< tt), word 175 (lit≤ tt) (lit< tt)) refl,
-    rw (word 176 (lit≤ tt) (lit< tt), word 177 (lit≤ tt) (lit< tt)) refl,
-  )
+  clear = grind (arith, common_steps)
 
   has_guest : HasGuest 112 m
   has_guest =
@@ -233,19 +221,12 @@ module _ (z : Size) (n : ℕ) (small : n < 65536) where
 
   all_turns : checked_orders g (suc (2 + count)) ≡ 86 + print_weight turn_weights (short_at t.store 59)
   unfolding total
-  all_turns =
-      let before =
-      total_sum turn_orders 2 count g ∙ (λ i. two_turns i + total turn_orders count (third i))
-      ∙ ap (λ x. 51 + x) print_turns in
-      let last = last_turn in
-      checked_total g (suc (2 + count)) ∙ omega (arith, before, last)
+  all_turns = search (rules, before, total_sum, two_turns, total, third, print_turns, last_turn, checked_total)
 
   -- the guest's orders up to its first Z, which is the last of them, and as many orders of the machine as the formula
   -- has lead to it
   pub checks_print : ChecksToStop 112 (3 + print_orders n) m
-  checks_print =
-      let e : suc (2 + count) ≡ 3 + print_orders n = ap (λ x. suc (2 + print_orders x)) number_is ∙ omega arith in
-      subst (λ q. ChecksToStop 112 q m) e checks
+  checks_print = search (rules, number_is, checks)
 
   pub count_is : checks_print.count ≡ 2550 + 244 * sum (before_units n) + 142 * length (before_units n)
   count_is = search (rules, number_is, all_turns, checks_print, print_weight_is)

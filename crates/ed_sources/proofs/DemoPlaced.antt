@@ -13,6 +13,7 @@ use Rattle.ed_sources.proofs.Decimals.{numbers}
 use Rattle.ed_sources.proofs.DemoFaultless.{lines_behind, lines_with}
 use Rattle.ed_sources.proofs.DemoLoop.{StandFrom}
 use Rattle.ed_sources.proofs.SaidDemo.{enter_line, segment_forms}
+use Rattle.std.proofs.Common.{rules}
 
 -- ---- the words of the sequence
 
@@ -30,10 +31,7 @@ count_words (suc n) x = ap suc (count_words n (next x))
 -- their sum is at most 63 for each
 pub small_sum : (n x : ℕ) → sum (words_after n x) ≤ 63 * n
 small_sum zero x = lit≤ tt
-small_sum (suc n) x =
-    let rest = small_sum n (next x) in
-    let more = sum_by-cons (λ y. y) (number_word (next x)) (words_after n (next x)) in
-    omega (arith, rest, more)
+small_sum (suc n) x = search (rules, next, sum_by-cons, number_word, small_sum n (next x))
 
 -- ---- what the lines of words and segments place
 

@@ -1,6 +1,6 @@
 -- The source that divides a number and prints the quotient and the remainder, from its entry to its stop.
 use Rattle.ed_sources.proofs.Kit.{mod-lt, Size, nat_tests, IsDivisible, parameter_store, length-replicate, least}
-use Rattle.ed_sources.proofs.Kit.{[], arith, Bool, false, inl, lit<, lit≤, refl, subst, ℕ, ◌%◌, ◌*◌, ◌++◌}
+use Rattle.ed_sources.proofs.Kit.{[], arith, Bool, false, lit<, lit≤, refl, subst, ℕ, ◌%◌, ◌*◌, ◌++◌}
 use Rattle.ed_sources.proofs.Kit.{◌+◌, ◌/◌, ◌<◌, ◌∙◌, ◌∷◌, ◌≡◌, ◌≤◌, short_at, State, newline, print, with_h, digits}
 use Rattle.ed_sources.proofs.Kit.{print_orders, divide, IsDivision, with_hnm, divide_orders, dividend, entry_state}
 use Rattle.ed_sources.proofs.Kit.{StopsAt-behind, StopsAt, List, Line, rules}
@@ -107,9 +107,7 @@ module _ (z : Size) (high low by : ℕ) (positive : 1 ≤ by) (fits : by ≤ 327
   last_call = search rules
 
   still : short_at feeds.last.store 65 ≡ n % by
-  still =
-      feeds.words 65 (inl (lit< tt)) ∙ printed.words 65 (inl (lit< tt)) ∙ division.remainder
-      ∙ (λ i. number i % at_by i)
+  still = search (rules, feeds, lit<, printed, division, number, at_by)
 
   prints_last : StopsAt (2 + print_orders (n % by)) feeds.last (11 ∷ digits (n % by)) 64
   prints_last =

@@ -1,8 +1,8 @@
 -- The source that reads a number and prints it, from its entry to its stop.
-use Rattle.ed_sources.proofs.Kit.{Size, and_parts, parameter_store, append-nil, digits_law, [], ap, arith}
-use Rattle.ed_sources.proofs.Kit.{length, List, lit<, lit≤, nat_lt, refl, subst, true, ℕ, ◌%◌, ◌*◌, ◌++◌, ◌+◌, ◌<◌}
-use Rattle.ed_sources.proofs.Kit.{◌^◌, ◌∙◌, ◌∷◌, ◌≡◌, short_at, State, print, read, with_h, after_digits, digit_rows}
-use Rattle.ed_sources.proofs.Kit.{digits, digits_value, print_orders, entry_state, StopsAt-behind, StopsAt, rules}
+use Rattle.ed_sources.proofs.Kit.{Size, and_parts, parameter_store, append-nil, [], ap}
+use Rattle.ed_sources.proofs.Kit.{length, List, lit<, lit≤, nat_lt, refl, subst, true, ℕ, ◌*◌, ◌++◌, ◌+◌, ◌<◌}
+use Rattle.ed_sources.proofs.Kit.{◌∙◌, ◌∷◌, ◌≡◌, short_at, State, print, read, with_h, after_digits, digit_rows}
+use Rattle.ed_sources.proofs.Kit.{digits, print_orders, entry_state, StopsAt-behind, StopsAt, rules}
 use Rattle.ed_sources.proofs.Along.{IsAt, before, IsAt-entered, has, IsAt-passed, HasCall, out, stops}
 use Rattle.ed_sources.proofs.Along.{prints}
 use Rattle.ed_sources.proofs.CalledRoutines.{Passes, ReadsNumber, reads}
@@ -47,10 +47,7 @@ module _ (z : Size) (n : ℕ) (small : n < 65536) where
   takes = taken.passes
 
   number : short_at takes.last.store 61 ≡ n
-  number =
-      taken.number ∙ ap (λ (x : List ℕ). digits_value x % 2 ^ 17) rows
-      ∙ ap (λ x. x % 2 ^ 17) (digits_law n small).value_is
-      ∙ (let e : n % 2 ^ 17 ≡ n = omega (arith, small) in e)
+  number = search (rules, taken, rows)
 
   -- ---- `print`
 

@@ -14,6 +14,7 @@ use Rattle.ed_sources.proofs.Decimals.{row_bytes, rows_are, run_bytes, some_digi
 use Rattle.ed_sources.proofs.TextLines.{Says, ends, says, by_parts}
 use Rattle.ed_syntax.specs.declared.program.Operand.TheVariants as operands
 use Rattle.ed_syntax.specs.declared.program.Statement.TheVariants as statements
+use Rattle.std.proofs.lemmas.Grind.{common_steps}
 
 -- ---- lines
 
@@ -188,15 +189,13 @@ quoted_digits q (d ∷ ds) h =
 with_F : (test : ℕ → Bool) (bytes : Text) → list_all test bytes ≡ true → test 70 ≡ true
     → list_all test (bytes ++ 70 ∷ []) ≡ true
 with_F test [] h k = rw k refl
-with_F test (b ∷ bytes) h k =
-    let p = and_parts (test b) (list_all test bytes) h in rw (p.0, with_F test bytes p.1 k) refl
+with_F test (b ∷ bytes) h k = grind (arith, common_steps)
 
 -- and the quote after them
 pub with_end : (bytes : Text) → list_all is_line_byte bytes ≡ true
     → list_all is_line_byte (bytes ++ 70 ∷ 34 ∷ []) ≡ true
 with_end [] h = refl
-with_end (b ∷ bytes) h =
-    let p = and_parts (is_line_byte b) (list_all is_line_byte bytes) h in rw (p.0, with_end bytes p.1) refl
+with_end (b ∷ bytes) h = grind (arith, common_steps)
 
 rows_line : (ds : List ℕ) → are_digits ds ≡ true → length (written ds) ≤ 5
     → line_of false 11 (codes "data " ++ 34 ∷ written ds ++ 70 ∷ 34 ∷ [])

@@ -88,18 +88,7 @@ segment_says_of : (l : ℕ) (text bytes : Text) → text ≡ 115 ∷ bytes → 2
     → line_of false l (codes "segment " ++ text)
     ≡ Ok (record { label = None; statement = Some (statements.Segment text None) })
 segment_says_of l text bytes is second plain few runs =
-    let long = ap (λ (t : Text). length t) is in
-    let here : list_all is_line_byte text ≡ true = ap (list_all is_line_byte) is ∙ plain in
-    let all : list_all is_run_byte text ≡ true = ap (list_all is_run_byte) is ∙ runs in
-    let named : is_name text ≡ true = ap is_name is ∙ name_of bytes few runs in
-    let first : (l == 1) ≡ false = ne_eqb l 1 (omega (arith, second)) in
-    by_parts false l (codes "segment " ++ text) (run (codes "segment") ∷ run text ∷ []) here
-    (omega (arith, long, few, length-append (codes "segment ") text))
-    (let p = number_parts text (omega (arith, long)) all in rw p refl)
-    (rw (first, named) refl)
-  where
-    name_of : (bytes : Text) → length bytes ≤ 5 → list_all is_run_byte bytes ≡ true → is_name (115 ∷ bytes) ≡ true
-    name_of bytes few runs = let short = le-leb (length bytes) 15 (omega (arith, few)) in rw (short, runs) refl
+    search (rules, is_name, false, ne_eqb, by_parts, codes, run, length-append, number_parts, le-leb)
 
 segment_says : (l k : ℕ) → 2 ≤ l → k < 65536
     → line_of false l (codes "segment s" ++ decimal k)

@@ -1,6 +1,7 @@
 use Rattle.ed_sources.proofs.Kit.{string_bytes, arith, suc, ◌+◌, ◌-◌, ◌≡◌}
 use Rattle.ed_sources.proofs.DemoTexts.{no_number, no_word, one_behind, one_word}
 use Rattle.ed_sources.proofs.demo.push_words.Goals as goal
+use Rattle.std.proofs.lemmas.Grind.{common_steps}
 
 pub loop-word-preserved : goal.loop-word-preserved
 loop-word-preserved c =
@@ -8,11 +9,7 @@ loop-word-preserved c =
     let inside = c.loop-word-test.true in
     let less : 8 - l._word ≡ suc (8 - (l._word + 1)) = omega (arith, inside) in
     let is = c.next-number.ensures in
-    record {
-      low = omega (arith, is);
-      last = one_behind l.number less is l.invariant.last;
-      text = one_word l.number (string_bytes l.text) less is c.in_ok-writeln.ensures.bytes l.invariant.text;
-    }
+    grind (arith, common_steps, one_behind, one_word)
 
 pub returns-clause-last : goal.returns-clause-last
 returns-clause-last c =
