@@ -20,7 +20,7 @@ decimal_plain n small =
 -- ---- what the sources are read as
 
 pub print_read : (n : ℕ) → n < 65536 → program_of (call_text (Print n)) ≡ Ok (print_lines n)
-print_read n small = search (rules, call_is, append-nil, decimal_plain, said_lines, print_says, lit≤)
+print_read n small = search (rules, call_is, append-nil, decimal_plain, said_lines, print_says)
 
 pub read_read : (n : ℕ) → n < 65536 → program_of (call_text (Read n)) ≡ Ok (read_lines n)
 read_read n small =
@@ -47,7 +47,7 @@ root_read n small =
     (said_lines (root_says n small) (lit≤ tt))
 
 pub check_read : (n : ℕ) → n < 65536 → program_of (call_text (Check n)) ≡ Ok (check_lines n)
-check_read n small = search (rules, call_is, append-nil, decimal_plain, said_lines, check_says, lit≤)
+check_read n small = search (rules, call_is, append-nil, decimal_plain, said_lines, check_says)
 
 -- without a fault on stores of both sizes
 pub faultless : (z : Size) (lines : List Line) → fault size.Small lines ≡ None → fault size.Full lines ≡ None

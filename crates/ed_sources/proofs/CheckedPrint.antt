@@ -221,7 +221,7 @@ module _ (z : Size) (n : ℕ) (small : n < 65536) where
 
   all_turns : checked_orders g (suc (2 + count)) ≡ 86 + print_weight turn_weights (short_at t.store 59)
   unfolding total
-  all_turns = search (rules, before, total_sum, two_turns, total, third, print_turns, last_turn, checked_total)
+  all_turns = search (rules, before, total_sum, two_turns, third, print_turns, last_turn, checked_total)
 
   -- the guest's orders up to its first Z, which is the last of them, and as many orders of the machine as the formula
   -- has lead to it

@@ -81,7 +81,7 @@ rows_are ds are = rows_from ds (each_passes (λ d. nat_eq (row (row_of (48 + d))
 -- and their number is that of the digits
 value_from : (n : ℕ) (ds : List ℕ) → fold (λ n b. 10 * n + (b - 48)) n (written ds) ≡ value_after n ds
 value_from n [] = refl
-value_from n (d ∷ ds) = search (rules, fold, value_from (10 * n + d) ds)
+value_from n (d ∷ ds) = search (rules, value_from (10 * n + d) ds)
 
 -- ---- the digits of a number
 

@@ -35,7 +35,7 @@ module _ (symbols : List Definition) where
       let more =
       words_cost n (l + 1) (next x) (p + 1) b g rest k (omega arith) (λ q at. tail q (omega (arith, at))) in
       let words = sum_by-cons word_cost (number_word (next x)) (words_after n (next x)) in
-      search (rules, one_word, number_word, next, counter)
+      search (rules, one_word)
 
   -- the words of a segment, with its head
   segment_cost : (n l x p g : ℕ) (rest : List Line) (k : ℕ)
@@ -48,7 +48,7 @@ module _ (symbols : List Definition) where
       let more =
       words_cost n (l + 1) (next x) (p + 1) p g rest k (omega arith) (λ q at. tail q (omega (arith, at))) in
       let words = sum_by-cons word_cost (number_word (next x)) (words_after n (next x)) in
-      search (rules, one_word, number_word, next, counter)
+      search (rules, one_word)
 
   -- a segment of 8 words before n others
   segment_before : (n l x p g : ℕ) (rest : List Line)
@@ -70,7 +70,7 @@ module _ (symbols : List Definition) where
   segments_cost : place_on symbols None (codes "main") ≡ Some 56 → (n k l x m p b g : ℕ)
       → sum_by item_cost (punched_from symbols (counter p b g) (segment_forms n k l x ++ enter_line m ∷ []))
       ≡ heads_cost n p + sum_by word_cost (words_after (8 * n) x) + 63
-  segments_cost main zero k l x m p b g = search (rules, false)
+  segments_cost main zero k l x m p b g = search rules
   segments_cost main (suc n) k l x m p b g =
       segment_before n (l + 1) x p (g + 1) (segment_forms n (k + 1) (l + 9) (number_after 8 x) ++ enter_line m ∷ [])
       (λ q. segments_cost main n (k + 1) (l + 9) (number_after 8 x) m q p (g + 1))

@@ -2,8 +2,8 @@
 use Rattle.ed_sources.proofs.Kit.{Size, Line, codes, None, Text, LocationCounter, Definition, counter, first_counter}
 use Rattle.ed_sources.proofs.Kit.{fault, symbols_of, [], ap, arith, false, List, nat_lt, refl, subst}
 use Rattle.ed_sources.proofs.Kit.{suc, sym, true, zero, ℕ, ◌*◌, ◌++◌, ◌+◌, ◌∷◌, ◌≡◌, ◌≤◌, le-ltb, locations, next}
-use Rattle.ed_sources.proofs.Kit.{number_after, number_word}
-use Rattle.ed_link.proofs.Kit.{max, min, resolution, any_enter, cause_of, extent, fault_from, missing}
+use Rattle.ed_sources.proofs.Kit.{number_after}
+use Rattle.ed_link.proofs.Kit.{max, min, resolution, any_enter, cause_of, extent, fault_from}
 use Rattle.ed_words.specs.declared.size.Size.TheVariants.{Small, Full}
 use Rattle.ed_symbols.specs.Names.{symbols_from}
 use Rattle.ed_link.proofs.Extents.{ExtentList, list_any-apart, are_below, fits_store, none_later, one_by_one, one_more, past}
@@ -60,7 +60,7 @@ module _ (z : Size) (rest_homes : List Definition) where
       → AreSound z symbols extents (counter p b g) (word_forms n l x ++ rest)
   words_sound zero l x {p} {b} {g} {extents} {rest} low fits below behind =
       let e : p + 0 ≡ p = omega arith in
-      search (rules, counter)
+      search rules
   words_sound (suc n) l x {p} {b} {g} {extents} {rest} low fits below behind =
       let e : p + suc n ≡ p + 1 + n = omega arith in
       let more : AreSound z symbols (extents ++ extent p (p + 1)
@@ -68,7 +68,7 @@ module _ (z : Size) (rest_homes : List Definition) where
       words_sound n (l + 1) (next x) (omega arith) (omega arith) (one_more p p (p + 1) extents (omega arith) below)
       (λ more under. subst (λ q. AreSound z symbols more (counter q b g) rest) e
       (behind more (subst (λ q. are_below q more ≡ true) (sym e) under))) in
-      search (rules, none_later, word_sound, number_word, next)
+      search (rules, none_later, word_sound)
 
   segments_sound : (n k l x : ℕ) {p b g : ℕ} {extents : ExtentList} {rest : List Line} → 56 ≤ p
       → p + 8 * n ≤ locations z → are_below p extents ≡ true
@@ -95,7 +95,7 @@ module _ (z : Size) (rest_homes : List Definition) where
 
   behind_sound : (n x l : ℕ) → 131 + 8 * n ≤ locations z
       → AreSound z symbols first_extents (counter 123 123 3) (lines_behind n x l)
-  behind_sound n x l fits = search (rules, words_sound, segments_sound, number_after, enter_sound)
+  behind_sound n x l fits = search (rules, words_sound, segments_sound, enter_sound)
 
 program_sound : (z : Size) (rest_homes : List Definition) (words : ℕ) (rest : List Line)
     → fault_from z (first_homes ++ rest_homes) true (past first_extents) (counter 123 123 3) rest ≡ None
@@ -136,7 +136,7 @@ module _ (z : Size) (words n x l : ℕ) (few : n ≤ 111) (near : words ≤ 900)
   entered = segments_enter n 2 28 (number_after 8 x) (enter_line l ∷ [])
 
   pub lines_faultless : fault z lines ≡ None
-  lines_faultless = search (rules, named, fault_from, entered, past, missing, None, sound)
+  lines_faultless = search (rules, named, entered, sound)
 
 pub demo_faultless : (z : Size) (n : ℕ) → 1 ≤ n → n ≤ 112 → 123 + 8 * n ≤ locations z → fault z (demo_lines n) ≡ None
 demo_faultless z zero some few fits = absurd (omega arith)

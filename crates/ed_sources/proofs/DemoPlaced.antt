@@ -31,7 +31,7 @@ count_words (suc n) x = ap suc (count_words n (next x))
 -- their sum is at most 63 for each
 pub small_sum : (n x : ℕ) → sum (words_after n x) ≤ 63 * n
 small_sum zero x = lit≤ tt
-small_sum (suc n) x = search (rules, next, sum_by-cons, number_word, small_sum n (next x))
+small_sum (suc n) x = search (rules, sum_by-cons, small_sum n (next x))
 
 -- ---- what the lines of words and segments place
 

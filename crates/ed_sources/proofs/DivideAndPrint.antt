@@ -107,7 +107,7 @@ module _ (z : Size) (high low by : ℕ) (positive : 1 ≤ by) (fits : by ≤ 327
   last_call = search rules
 
   still : short_at feeds.last.store 65 ≡ n % by
-  still = search (rules, feeds, lit<, printed, division, number, at_by)
+  still = search (rules, feeds, printed, division, number, at_by)
 
   prints_last : StopsAt (2 + print_orders (n % by)) feeds.last (11 ∷ digits (n % by)) 64
   prints_last =

@@ -1,5 +1,5 @@
 -- The lines of a text that is made of pieces and data.
-use Rattle.ed_sources.proofs.Kit.{append_assoc, Text, append-nil, eqb-true, [], ap, false, if◌then◌else◌, List}
+use Rattle.ed_sources.proofs.Kit.{append_assoc, Text, append-nil, eqb-true, [], ap, if◌then◌else◌, List}
 use Rattle.ed_sources.proofs.Kit.{refl, sym, ◌++◌, ◌==◌, ◌∙◌, ◌∷◌, ◌≡◌, filled_text, text_of_lines}
 use Rattle.std.proofs.Common.{rules}
 
@@ -44,7 +44,7 @@ put_is t (u ∷ us) = append_assoc t u (ended us)
 
 split_is : (t : Text) → between (split t) ≡ t
 split_is [] = refl
-split_is (b ∷ t) = search (rules, eqb-true, false, put_is, split_is t)
+split_is (b ∷ t) = search (rules, eqb-true, put_is, split_is t)
 
 ended_put : (u : Text) (us : List Text) → ended (put u us) ≡ 10 ∷ between (put u us)
 ended_put u [] = refl

@@ -28,4 +28,4 @@ digits_printed n small =
 -- two numbers, each on a line of its own
 pub lines_printed : (n m : ℕ) → n < 65536 → m < 65536
     → paper (11 ∷ digits n ++ 18 ∷ 24 ∷ 11 ∷ digits m) ≡ decimal n ++ 13 ∷ 10 ∷ decimal m
-lines_printed n m small few = search (rules, number_shown, digits, digits_printed)
+lines_printed n m small few = search (rules, number_shown, digits_printed)

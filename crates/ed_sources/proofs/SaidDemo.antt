@@ -5,7 +5,6 @@ use Rattle.ed_sources.proofs.Kit.{sign, settings, parts_of, line_of, run_parts, 
 use Rattle.ed_sources.proofs.Kit.{List, lit≤, refl, rules, Some, subst, suc, sym, true, zero, ℕ, ◌*◌, ◌++◌, ◌+◌, ◌<◌}
 use Rattle.ed_sources.proofs.Kit.{◌==◌, ◌∙◌, ◌∷◌, ◌≡◌, ◌≤◌, digits, adding_pieces, next, number_after, number_word}
 use Rattle.ed_sources.proofs.Kit.{segments, word_lines}
-use Rattle.ed_syntax.specs.Names.{is_name}
 use Rattle.ed_sources.proofs.Decimals.{are, decimal_is, digit_bytes, few_bytes, line_bytes, run_bytes, some_digit}
 use Rattle.ed_sources.proofs.Decimals.{value_is, written}
 use Rattle.ed_sources.proofs.FilledLines.{filled_lines}
@@ -88,7 +87,7 @@ segment_says_of : (l : ℕ) (text bytes : Text) → text ≡ 115 ∷ bytes → 2
     → line_of false l (codes "segment " ++ text)
     ≡ Ok (record { label = None; statement = Some (statements.Segment text None) })
 segment_says_of l text bytes is second plain few runs =
-    search (rules, is_name, false, ne_eqb, by_parts, codes, run, length-append, number_parts, le-leb)
+    search (rules, ne_eqb, by_parts, length-append, number_parts, le-leb)
 
 segment_says : (l k : ℕ) → 2 ≤ l → k < 65536
     → line_of false l (codes "segment s" ++ decimal k)

@@ -41,4 +41,4 @@ stopped_outcome s {lines} {k} {at} {printed} entry stops few none plain fits =
     let before : Text = entry_note (entry_of lines) (cost lines) in
     let ended = ran_to_stop left paper_room k first printed stops few (left_after (cost lines) k s.limit fits).1 in
     let count : (step stops.last).state.orders ≡ cost lines + (k + 1) = counted _ (cost lines) k stops.orders in
-    search (rules, left_after, cost, run_end, nothing_after, ran_outcome-answered)
+    search (rules, left_after, nothing_after, ran_outcome-answered)

@@ -37,7 +37,7 @@ stopped_state : (k : Option Kind) (w : ℕ) (x : State) → (obey_word k w x).tu
     → (obey_word k w x).state ≡ done_at (after x) x
 stopped_state (Some E) w x h = grind (arith, common_steps)
 stopped_state (Some G) w x h = grind (arith, common_steps)
-stopped_state (Some I) w x h = search (rules, after)
+stopped_state (Some I) w x h = search rules
 stopped_state (Some Z) w x h = refl
 stopped_state None w x h = cc
 stopped_state (Some kind) w x h = cc
@@ -77,4 +77,4 @@ ran_to_stop limit room k s codes o fits less =
     let has : HasRoom room (suc k) s = record { obeyed = obeyed; printed = few } in
     let ends = at_stop limit 0 has (no_stops k s o.leads.goes) less turn in
     let once = first_once (ran_ends limit 0 room s) ends in
-    search (rules, State, step)
+    search rules

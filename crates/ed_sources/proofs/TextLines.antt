@@ -39,7 +39,7 @@ lines_back (line ∷ lines) h =
 pub program_is : (lines : List Text) (program : List Line) → list_all (list_all is_line_byte) lines ≡ true
     → is_two lines ≡ false
     → lines_from false 1 lines ≡ Ok program → program_of (text_of_lines lines) ≡ Ok program
-program_is lines program plain one says = search (rules, lines_back, is_two, says)
+program_is lines program plain one says = search (rules, lines_back)
 
 -- a line that ends with digits
 pub line_end : (digits rest : Text) → digits ++ 10 ∷ rest ≡ (digits ++ 10 ∷ []) ++ rest
@@ -65,7 +65,7 @@ pub said_lines : {two : Bool} {k : ℕ} {lines : List Text} {program : List Line
     → k + length lines ≤ 2001 → lines_from two k lines ≡ Ok program
 said_lines ends few = refl
 said_lines {two} {k} (reads {line = line} {lines = lines} {program = program} here rest) few =
-    search (rules, false, ne_eqb, said_lines rest (omega (arith, few)))
+    search (rules, ne_eqb, said_lines rest (omega (arith, few)))
 
 -- what a line says, by its parts
 pub by_parts : (two : Bool) {label : Option Text} {statement : Option Statement} (k : ℕ) (line : Text)
