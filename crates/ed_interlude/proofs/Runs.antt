@@ -1,6 +1,6 @@
 -- If parts end by the end of a program or at the limit, the run of the whole tape ends too.
 use Rattle.ed_interlude.proofs.Kit.{same_Some, Ending, Limit, Stopped, Turn, append_assoc, rules}
-use Rattle.ed_interlude.proofs.Kit.{Progress, stops_of, end_by, TapeCause, [], ap, arith, Bool, false, inl, inr}
+use Rattle.ed_interlude.proofs.Kit.{stops_of, end_by, TapeCause, [], ap, arith, Bool, false, inl, inr}
 use Rattle.ed_interlude.proofs.Kit.{length, List, refl, Some, subst, suc, sym, zero, ℕ, ◌++◌, ◌+◌, ◌-◌, ◌<◌, ◌∙◌, ◌≡◌}
 use Rattle.ed_interlude.proofs.Kit.{◌≤◌, ◌⊎◌, cases_lt, step, State, progress, state_after, TapeEntry, Begins}
 use Rattle.ed_interlude.proofs.Kit.{Concludes, cut, entry_done, faulty, finished, Finishes, first_part, GoesBack}
@@ -8,11 +8,11 @@ use Rattle.ed_interlude.proofs.Kit.{LeadsTo, part_after, part_entry_state, Parts
 use Rattle.ed_interlude.proofs.Kit.{Ended, Faulty}
 use Rattle.ed_machine.proofs.Names.{append-nil, AreObeyed, codes_of, is_obeyed}
 use Rattle.ed_machine.specs.Sound.{IsSound}
+use Rattle.ed_machine.proofs.Kit.Leads.{Leads, all_go, free, goes_on, joined, no_stops}
 use Rattle.ed_machine.specs.declared.turn.Turn.TheVariants.{Stopped as Stops, NoOrder as IsNoOrder}
 use Rattle.ed_machine.specs.declared.turn.Turn.TheVariants.{NoTape as HasNoTape}
 use Rattle.ed_machine.proofs.SoundSteps.{sound_after}
-use Rattle.ed_machine.proofs.Steps.{after_sum, few_codes, free_more, free_sum, no_step, past_sum, quiet_codes}
-use Rattle.ed_machine.proofs.Steps.{quiet_stops}
+use Rattle.ed_machine.proofs.Steps.{few_codes, free_more, no_step, quiet_codes}
 use Rattle.ed_run.specs.Laws.{AllWent, HasRoom}
 use Rattle.ed_initial.specs.Entry.{IsStarted, first_state}
 use Rattle.ed_initial.proofs.Starts.{starts, sound_start}
