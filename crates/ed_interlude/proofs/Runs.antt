@@ -1,11 +1,11 @@
 -- If parts end by the end of a program or at the limit, the run of the whole tape ends too.
 use Rattle.ed_interlude.proofs.Kit.{same_Some, Ending, Limit, Stopped, Turn, append_assoc, rules}
-use Rattle.ed_interlude.proofs.Kit.{stops_of, end_by, TapeCause, [], ap, arith, Bool, false, inl, inr}
+use Rattle.ed_interlude.proofs.Kit.{stops_of, end_by, [], ap, arith, Bool, false, inl, inr}
 use Rattle.ed_interlude.proofs.Kit.{length, List, refl, Some, subst, suc, sym, zero, ℕ, ◌++◌, ◌+◌, ◌-◌, ◌<◌, ◌∙◌, ◌≡◌}
-use Rattle.ed_interlude.proofs.Kit.{◌≤◌, ◌⊎◌, cases_lt, step, State, progress, state_after, TapeEntry, Begins}
+use Rattle.ed_interlude.proofs.Kit.{◌≤◌, cases_lt, step, State, progress, state_after, TapeEntry, Begins}
 use Rattle.ed_interlude.proofs.Kit.{Concludes, cut, entry_done, faulty, finished, Finishes, first_part, GoesBack}
 use Rattle.ed_interlude.proofs.Kit.{LeadsTo, part_after, part_entry_state, PartsReport, ReportsParts, RunsOn, TapePart}
-use Rattle.ed_interlude.proofs.Kit.{Ended, Faulty}
+use Rattle.ed_interlude.proofs.Kit.{Ended}
 use Rattle.ed_machine.proofs.Names.{append-nil, AreObeyed, codes_of, is_obeyed}
 use Rattle.ed_machine.specs.Sound.{IsSound}
 use Rattle.ed_machine.proofs.Kit.Leads.{Leads, all_go, free, goes_on, joined, no_stops}
@@ -41,12 +41,6 @@ stop_of : (turn : Turn) → 0 < stops_of turn → turn ≡ Stops
 stop_of Stops h = refl
 stop_of turn h = absurd (omega arith)
 
-ended_is : (d e : Ending) → Ended d ≡ Ended e → d ≡ e
-ended_is d e h = cc
-
-no_fault : (part row : ℕ) (cause : TapeCause) (ending : Ending) → Faulty part row cause ≡ Ended ending → ⊥
-no_fault part row cause ending e = cc
-
 module _ (left : ℕ) (m : State) where
   run_walk : (k : ℕ) → RunsOn left k m → (progress k m).stops ≡ 0 → Leads k m (progress k m).codes (state_after k m)
   run_walk k runs none =
@@ -71,32 +65,26 @@ module _ (limit : ℕ) (s : State) where
     -- no stop was obeyed
     without_stop : (k : ℕ) (ending : Ending) → Finishes left k m ending → (progress k m).stops ≡ 0
         → EndsAsRun limit s ending (state_after k m) (before ++ (progress k m).codes)
-    without_stop k ending f none = by_place (cases_lt k left)
-      where
-        codes : List ℕ
-        codes = before ++ (progress k m).codes
-
-        walk : Leads (a + k) s codes (state_after k m)
-        walk = joined first (run_walk left m k f.runs none)
-
-        by_place : (k < left) ⊎ (left ≤ k) → EndsAsRun limit s ending (state_after k m) codes
-        by_place (inl low) =
-            let turn : end_by (step (state_after k m)).turn false ≡ Some ending = sym (next_ends left m k low none)
-            ∙ f.ends in
-            let at : end_by (step (state_after (a + k) s)).turn false ≡ Some ending =
-            ap (λ (t : State). end_by (step t).turn false) walk.state_is ∙ turn in
-            record {
-              orders = a + k;
-              ends = places.at_block limit 0 (room (a + k) (omega arith) (free walk))
-                  (omega (arith, no_stops (a + k) s walk.goes)) (omega arith) (blocked_of _ _ ending at);
-              state_is = sym walk.state_is;
-              prints = walk.codes_are;
-            }
-        by_place (inr high) =
-            let e : k ≡ left = omega (arith, runs_within left m k f.runs) in
-            let total : a + k ≡ limit = omega arith in
-            let is : Limit ≡ ending = same_Some Limit ending (sym (limit_ends left m k e none) ∙ f.ends) in
-            rw (← is) (at_limit (state_after k m) codes (rw total at walk))
+    without_stop k ending f none =
+        let walk = joined first (run_walk left m k f.runs none) in
+        elim (cases_lt k left) [
+          | inl low ↦
+              let at : end_by (step (state_after (a + k) s)).turn false ≡ Some ending =
+              ap (λ (t : State). end_by (step t).turn false) walk.state_is ∙ sym (next_ends left m k low none)
+              ∙ f.ends in
+              record {
+                orders = a + k;
+                ends = places.at_block limit 0 (room (a + k) (omega arith) (free walk))
+                    (omega (arith, no_stops (a + k) s walk.goes)) (omega arith) (blocked_of _ _ ending at);
+                state_is = sym walk.state_is;
+                prints = walk.codes_are;
+              }
+          | inr high ↦
+              let e : k ≡ left = omega (arith, runs_within left m k f.runs) in
+              let total : a + k ≡ limit = omega arith in
+              let is : Limit ≡ ending = same_Some Limit ending (sym (limit_ends left m k e none) ∙ f.ends) in
+              rw (← is) (at_limit (state_after k m) (before ++ (progress k m).codes) (rw total at walk))
+        ]
 
     -- the last one was a stop
     with_stop : (k : ℕ) (ending : Ending) → Finishes left k m ending → 0 < (progress k m).stops
@@ -148,17 +136,19 @@ module _ (limit : ℕ) (s : State) where
       → (told : Concludes limit (length s.tape) p t) → t.end ≡ Ended ending
       → EndsAsRun limit s ending t.last (before ++ last_printed told)
   concludes p before t ending h (faulty row cause fault is) end =
-      absurd (no_fault _ _ _ ending (sym (ap (λ (x : PartsReport). x.end) is) ∙ end))
+      let e = ap (λ (x : PartsReport). x.end) is in absurd (cc)
   concludes p before t ending h (cut e leads short is) end =
       let left = limit - p.done in
       let went = (leads_in p e h.begins leads).went in
       let walk = joined h.walk (quiet_walk left p.state (λ j low. went j (omega (arith, h.within)))) in
       let total : p.done + left ≡ limit = omega (arith, h.within) in
-      let same : Limit ≡ ending = ended_is _ _ (sym (ap (λ (x : PartsReport). x.end) is) ∙ end) in
+      let ends = ap (λ (x : PartsReport). x.end) is in
+      let same : Limit ≡ ending = cc in
       rw (← same, ap (λ (x : PartsReport). x.last) is)
       (at_limit (state_after left p.state) (before ++ []) (rw total at walk))
   concludes p before t ending h (finished e k d leads within f is) end =
-      let same : d ≡ ending = ended_is _ _ (sym (ap (λ (x : PartsReport). x.end) is) ∙ end) in
+      let last = ap (λ (x : PartsReport). x.end) is in
+      let same : d ≡ ending = cc in
       let ends = program_ends (entry_done p e) (limit - entry_done p e) (part_entry_state p e) before
       (omega (arith, within)) (to_entry p e before h leads) k d f in
       subst (λ (x : State). EndsAsRun limit s ending x (before ++ (progress k (part_entry_state p e)).codes))
