@@ -138,9 +138,15 @@ module _ (z : Size) (words n x l : ℕ) (few : n ≤ 111) (near : words ≤ 900)
   pub lines_faultless : fault z lines ≡ None
   lines_faultless = search (rules, named, entered, sound)
 
+-- what holds of every source whose first segment has its name spelled out holds of each `demo N`
+pub of_each : (P : ℕ → List Line → Type 0)
+    → ((n : ℕ) → n ≤ 111 → P (suc n) (lines_with (codes "s1") (8 * suc n) n (suc n) (19 + 9 * suc n)))
+    → (n : ℕ) → 1 ≤ n → n ≤ 112 → P n (demo_lines n)
+of_each P holds zero some few = absurd (omega arith)
+of_each P holds (suc n) some few =
+    let one : codes "s1" ≡ name 1 = ap (λ (t : Text). 115 ∷ t) (decimal_is 1 (omega arith)) in
+    subst (λ (t : Text). P (suc n) (lines_with t (8 * suc n) n (suc n) (19 + 9 * suc n))) one (holds n (omega arith))
+
 pub demo_faultless : (z : Size) (n : ℕ) → 1 ≤ n → n ≤ 112 → 123 + 8 * n ≤ locations z → fault z (demo_lines n) ≡ None
-demo_faultless z zero some few fits = absurd (omega arith)
-demo_faultless z (suc n) some few fits =
-    let first : codes "s1" ≡ name 1 = ap (λ (t : Text). 115 ∷ t) (decimal_is 1 (omega arith)) in
-    subst (λ (t : Text). fault z (lines_with t (8 * suc n) n (suc n) (19 + 9 * suc n)) ≡ None) first
-    (lines_faultless z (8 * suc n) n (suc n) (19 + 9 * suc n) (omega arith) (omega arith) (omega arith))
+demo_faultless z = of_each (λ n ls. 123 + 8 * n ≤ locations z → fault z ls ≡ None)
+    (λ n few fits. lines_faultless z (8 * suc n) n (suc n) (19 + 9 * suc n) few (omega arith) (omega arith))

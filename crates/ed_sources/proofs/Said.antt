@@ -1,7 +1,7 @@
 -- What the lines of the sources of calls say.
-use Rattle.ed_sources.proofs.Kit.{decimal, not-true, list_all-append, row, spells, Line, Statement, append_assoc}
-use Rattle.ed_sources.proofs.Kit.{codes, length-append, map, nat_le, None, not, Ok, pos, list_all, and_parts, le-leb}
-use Rattle.ed_sources.proofs.Kit.{nat_tests, length-map, is_digit, value, Text, row_of, is_run_byte, is_line_byte}
+use Rattle.ed_sources.proofs.Kit.{decimal, not-true, list_all-append, Line, Statement, append_assoc}
+use Rattle.ed_sources.proofs.Kit.{codes, length-append, nat_le, None, not, Ok, pos, list_all, and_parts, le-leb}
+use Rattle.ed_sources.proofs.Kit.{nat_tests, length-map, is_digit, value, Text, is_run_byte, is_line_byte}
 use Rattle.ed_sources.proofs.Kit.{is_number, LinePart, run, sign, form_at, settings, parts_of, line_of, run_parts}
 use Rattle.ed_sources.proofs.Kit.{Check, NewLine, Print, Read, append-nil, ne_eqb, [], ap, arith, Bool, false, length}
 use Rattle.ed_sources.proofs.Kit.{List, lit≤, Option, refl, rules, Some, subst, sym, true, ℕ, ◌++◌, ◌+◌, ◌<◌, ◌==◌}
@@ -126,14 +126,8 @@ module _ {two : Bool} {k : ℕ} {front : Text} {label : Option Text} {before : L
   word_says n small =
       let ds : List ℕ = digits n in
       let some : 0 < length (written ds) = let e = some_digit n in omega (arith, length-map ds (λ d. 48 + d), e) in
-      subst (λ (bytes : Text). line_of two k (front ++ bytes) ≡ Ok (record {
-        label = label;
-        statement = Some (statements.Number n);
-      }))
-      (decimal_is n small)
-      (word_line (written ds) n (line_bytes ds (are n small)) (few_bytes n small)
-      (number_parts (written ds) some (run_bytes ds (are n small)))
-      (a_number (written ds) some (digit_bytes ds (are n small))) (value_is n small) small)
+      search (rules, decimal_is, word_line, written, line_bytes, are, few_bytes, number_parts, run_bytes, a_number,
+      digit_bytes, value_is)
 
   -- the same in a filled text
   pub filled_says : (n : ℕ) → n < 65536
@@ -201,22 +195,8 @@ rows_line : (ds : List ℕ) → are_digits ds ≡ true → length (written ds) �
     → line_of false 11 (codes "data " ++ 34 ∷ written ds ++ 70 ∷ 34 ∷ [])
     ≡ Ok (record { label = None; statement = Some (statements.Rows (array (ds ++ 17 ∷ []))) })
 rows_line ds are few =
-    let bytes : Text = written ds in
-    let quote : Text = bytes ++ 70 ∷ [] in
-    let all_long = length-append bytes (70 ∷ 34 ∷ []) in
-    let plain : list_all is_line_byte (bytes ++ 70 ∷ 34 ∷ []) ≡ true = with_end bytes (line_bytes ds are) in
-    let long = length-append bytes (70 ∷ []) in
-    let some = le-leb 1 (length quote) (omega (arith, long)) in
-    let fits = le-leb (length quote) 120 (omega (arith, long, few)) in
-    let spelled : list_all (λ b. spells (row_of b)) quote ≡ true =
-    with_F (λ b. spells (row_of b)) bytes (row_bytes ds are) refl in
-    let rows : map (λ b. row (row_of b)) quote ≡ ds ++ 17 ∷ [] =
-    map-append (λ b. row (row_of b)) bytes (70 ∷ []) ∙ ap (λ (x : List ℕ). x ++ 17 ∷ []) (rows_are ds are) in
-    by_parts false 11 (codes "data " ++ 34 ∷ bytes ++ 70 ∷ 34 ∷ []) (run (codes "data") ∷ quoted quote ∷ []) plain
-    (omega (arith, all_long, few))
-    (rw (quoted_digits [] ds (no_quotes ds are)) refl)
-    (rw (some, fits, spelled)
-    (ap (λ (x : List ℕ). Some (Some (record { label = None; statement = Some (statements.Rows (array x)) }))) rows))
+    grind (arith, common_steps, length-append, with_end, line_bytes, le-leb, with_F, row_bytes, map-append, rows_are,
+    by_parts, quoted_digits, no_quotes)
 
 read_number : (n : ℕ) → n < 65536
     → line_of false 11 (codes "data " ++ 34 ∷ decimal n ++ 70 ∷ 34 ∷ [])

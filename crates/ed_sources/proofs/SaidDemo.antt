@@ -78,7 +78,7 @@ words_say zero l x {rest} {program} second tail = subst (λ j. Says false j rest
 words_say (suc n) l x {rest} {program} second tail =
     let e : l + suc n ≡ l + 1 + n = omega arith in
     says (word_says (plain_front false l second) (number_word (next x)) (omega arith))
-    (words_say n (l + 1) (next x) (omega arith) (subst (λ j. Says false j rest program) e tail))
+    (words_say n (l + 1) (next x) (omega arith) (rw e at tail))
 
 -- a line that begins a segment, by what comes after the s of its name
 segment_says_of : (l : ℕ) (text bytes : Text) → text ≡ 115 ∷ bytes → 2 ≤ l → list_all is_line_byte bytes ≡ true
@@ -105,11 +105,8 @@ segments_say (suc n) k l x {rest} {program} second few tail =
     let last : l + 9 * suc n ≡ l + 9 + 9 * n = omega arith in
     says (segment_says l k second (omega arith))
     (words_say 8 (l + 1) x (omega arith)
-    (subst (λ j. Says false j (segments n (k + 1) (number_after 8 x) ++ rest)
-    (segment_forms n (k + 1) (l + 9) (number_after 8 x) ++ program))
-    (sym behind_words)
-    (segments_say n (k + 1) (l + 9) (number_after 8 x) (omega arith) (omega arith)
-    (subst (λ j. Says false j rest program) last tail))))
+    (rw behind_words
+    (segments_say n (k + 1) (l + 9) (number_after 8 x) (omega arith) (omega arith) (rw last at tail))))
 
 -- ---- the program
 
