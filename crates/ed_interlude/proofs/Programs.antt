@@ -143,27 +143,15 @@ module _ {left : ℕ} {s : State} {k : ℕ} {m : State} (r : Running left s k m)
     way none = one_more left s k r.runs (record { no_end = end_there ∙ none; away = away_there away })
 
     stops_more : (progress (k + 1) s).stops ≡ stops_of turn
-    stops_more =
-        let same : stops_of (step (state_after k s)).turn ≡ stops_of turn = ap stops_of (sym turn_there) in
-        omega (arith, next_stops k s, same, r.stops)
+    stops_more = search (rules, turn_there, next_stops)
 
     -- it stops
     pub stops_there : turn ≡ Stops → Finishes left (k + 1) s Stopped
-    stops_there stop =
-        let one : (progress (k + 1) s).stops ≡ 1 = stops_more ∙ ap stops_of stop in
-        record {
-          runs = way (ap (λ t. end_by t false) stop);
-          ends = stop_ends left s (k + 1) (omega (arith, one));
-          stopped = λ home. refl;
-        }
+    stops_there stop = search (rules, stops_more, way, stop_ends)
 
     -- it goes on
     pub goes_on : {n : State} → n ≡ (step m).state → GoesOn turn → Running left s (k + 1) n
-    goes_on {n} to on = record {
-      state = next_state k s r.state to;
-      runs = way on.no_end;
-      stops = stops_more ∙ on.no_stop;
-    }
+    goes_on {n} to on = search (rules, next_state, way, stops_more)
 
 -- it reaches its limit
 pub at_limit : {left k : ℕ} {s m : State} → k ≡ left → Running left s k m → (IsReturned m → ⊥) → Finishes left k s Limit

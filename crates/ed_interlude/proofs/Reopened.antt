@@ -9,6 +9,7 @@ use Rattle.ed_machine.proofs.Kit.Moves.{T_top, E_jumps}
 use Rattle.ed_machine.proofs.Kit.Places.{own}
 use Rattle.ed_machine.proofs.Kit.Window.{patched_one, headed}
 use Rattle.ed_initial.proofs.Paths.{Kept, ToRest, ends, on, stay, cells, moment}
+use Rattle.std.proofs.Common.{rules}
 
 -- the changing words as the program left them
 abbrev pub held : List ℕ → Working
@@ -71,12 +72,7 @@ reopens s store =
 pub state-reopened : (s : State) (store : IsStore s.store) → IsReturned s
     → state (frame s store) (reopens s store) s.orders ≡ s
 unfolding patched
-state-reopened s store back =
-    let words = held_words s back store.words_are in
-    let digits =
-    patched_one false s.store.sandwich 20 (get_or s.store.sandwich 20 false) (omega (arith, store.digits_are))
-    ∙ set-get_or s.store.sandwich 20 false in
-    same_state s refl words digits (sym back.multiplier) (sym back.counter)
+state-reopened s store back = search (rules, held_words, patched_one, set-get_or, same_state)
 
 -- the two orders: the 17 most significant digits of the accumulator are placed at 22
 pub return_path : (f : Kept) (w : Working) (words : List ℕ) (digit40 : Bool) (acc u : ℕ) (tape : List ℕ)

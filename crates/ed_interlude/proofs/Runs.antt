@@ -1,11 +1,10 @@
 -- If parts end by the end of a program or at the limit, the run of the whole tape ends too.
-use Rattle.ed_interlude.proofs.Kit.{same_Some, Ending, Limit, Stopped, Turn, append_assoc, rules}
-use Rattle.ed_interlude.proofs.Kit.{stops_of, end_by, [], ap, arith, Bool, false, inl, inr}
-use Rattle.ed_interlude.proofs.Kit.{length, List, refl, Some, subst, suc, sym, zero, ℕ, ◌++◌, ◌+◌, ◌-◌, ◌<◌, ◌∙◌, ◌≡◌}
-use Rattle.ed_interlude.proofs.Kit.{◌≤◌, cases_lt, step, State, progress, state_after, TapeEntry, Begins}
-use Rattle.ed_interlude.proofs.Kit.{Concludes, cut, entry_done, faulty, finished, Finishes, first_part, GoesBack}
-use Rattle.ed_interlude.proofs.Kit.{LeadsTo, part_after, part_entry_state, PartsReport, ReportsParts, RunsOn, TapePart}
-use Rattle.ed_interlude.proofs.Kit.{Ended}
+use Rattle.ed_interlude.proofs.Kit.{same_Some, Ending, Limit, Stopped, Turn, append_assoc, rules, stops_of, end_by, []}
+use Rattle.ed_interlude.proofs.Kit.{ap, arith, Bool, false, inl, inr, length, List, refl, Some, subst, suc, sym, zero}
+use Rattle.ed_interlude.proofs.Kit.{ℕ, ◌++◌, ◌+◌, ◌-◌, ◌<◌, ◌∙◌, ◌≡◌, ◌≤◌, cases_lt, step, State, progress}
+use Rattle.ed_interlude.proofs.Kit.{state_after, TapeEntry, Begins, Concludes, cut, entry_done, faulty, finished}
+use Rattle.ed_interlude.proofs.Kit.{Finishes, first_part, GoesBack, LeadsTo, part_after, part_entry_state, PartsReport}
+use Rattle.ed_interlude.proofs.Kit.{ReportsParts, RunsOn, TapePart, Ended}
 use Rattle.ed_machine.proofs.Names.{append-nil, AreObeyed, codes_of, is_obeyed}
 use Rattle.ed_machine.specs.Sound.{IsSound}
 use Rattle.ed_machine.proofs.Kit.Leads.{Leads, all_go, free, goes_on, joined, no_stops}
