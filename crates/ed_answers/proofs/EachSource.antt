@@ -1,9 +1,8 @@
 -- Each source is accepted or refused, and the tape of each one that is accepted reaches its linked program.
 use Rattle.ed_answers.proofs.Kit.{Size, is_two, program_of, SourceCause, SourceFault, At, Memory, Line, program_formed}
 use Rattle.ed_answers.proofs.Kit.{Ok, Text, lines_of, IsProgram, has_one_meaning, program_is_read, source_answer}
-use Rattle.ed_answers.proofs.Kit.{IsMeaningFault, Bool, inl, inr, List, None, Option, refl, Some, true, ℕ}
-use Rattle.ed_answers.proofs.Kit.{◌≡◌, list_all, fault, for_form, for_meaning, IsAcceptedAs, IsAcceptedOrRefused}
-use Rattle.ed_answers.proofs.Kit.{IsRefused}
+use Rattle.ed_answers.proofs.Kit.{IsMeaningFault, Bool, inl, inr, List, None, Option, refl, Some, true, ℕ, ◌≡◌}
+use Rattle.ed_answers.proofs.Kit.{list_all, fault, for_form, for_meaning, IsAcceptedAs, IsAcceptedOrRefused, IsRefused}
 use Rattle.ed_library.specs.Entries.{catalogue}
 use Rattle.ed_library.specs.Ready.{is_ready}
 use Rattle.ed_link.proofs.Accepted.{accepted_law}

@@ -1,7 +1,6 @@
 -- The check of rows for Initial Orders 1: each list of rows has one outcome, and the check's answer is that.
-use Rattle.ed_answers.proofs.Kit.{NoMemory, Tape, Err, IfOk, Ok, Result, ap, inl, inr, List}
-use Rattle.ed_answers.proofs.Kit.{refl, sym, ℕ, ◌∙◌, ◌≡◌, entry_line, IsChecked1, done, Outcome, refusal, Gives}
-use Rattle.ed_answers.proofs.Kit.{Reply}
+use Rattle.ed_answers.proofs.Kit.{NoMemory, Tape, Err, IfOk, Ok, Result, ap, inl, inr, List, refl, sym, ℕ, ◌∙◌, ◌≡◌}
+use Rattle.ed_answers.proofs.Kit.{entry_line, IsChecked1, done, Outcome, refusal, Gives, Reply}
 use Rattle.ed_initial1.specs.Checks.{Report1, Accepts1, report1}
 use Rattle.ed_initial1.proofs.Unique.{one_verdict}
 use Rattle.ed_report.specs.FirstNotes.{rule1_line}

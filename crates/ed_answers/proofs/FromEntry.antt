@@ -1,10 +1,9 @@
 -- The run of an accepted source's tape is the run from the state at its entry.
-use Rattle.ed_answers.proofs.Kit.{NoMemory, least, RunEnd, Settings, State, progress, state_after, AllWent}
-use Rattle.ed_answers.proofs.Kit.{run_end, ran_later, first_state, Line, Err, IfOk, Ok, Result, entry_of, cost}
-use Rattle.ed_answers.proofs.Kit.{tape, Linked, [], ap, arith, Bool, if◌then◌else◌, List, refl, subst, sym, ℕ}
-use Rattle.ed_answers.proofs.Kit.{◌-◌, ◌<◌, ◌∙◌, ◌≡◌, ◌≤◌, IsLinked, entry_note, Enters, entry_state, entry_store}
-use Rattle.ed_answers.proofs.Kit.{IsEntryStore, paper_room, run_of}
-use Rattle.ed_answers.proofs.Kit.{entered_before}
+use Rattle.ed_answers.proofs.Kit.{NoMemory, least, RunEnd, Settings, State, progress, state_after, AllWent, run_end}
+use Rattle.ed_answers.proofs.Kit.{ran_later, first_state, Line, Err, IfOk, Ok, Result, entry_of, cost, tape, Linked}
+use Rattle.ed_answers.proofs.Kit.{[], ap, arith, Bool, if◌then◌else◌, List, refl, subst, sym, ℕ, ◌-◌, ◌<◌, ◌∙◌, ◌≡◌}
+use Rattle.ed_answers.proofs.Kit.{◌≤◌, IsLinked, entry_note, Enters, entry_state, entry_store, IsEntryStore}
+use Rattle.ed_answers.proofs.Kit.{paper_room, run_of, entered_before}
 use Rattle.std.proofs.lemmas.Bool.{le-leb}
 use Rattle.ed_answers.specs.FromEntry.{AnswersFromEntry}
 use Rattle.ed_answers.specs.Headline.{RunsFromEntry}

@@ -1,11 +1,10 @@
 -- What a run keeps: the size of a machine, and a bound on the count of its orders. So a post-mortem can be printed.
 use Rattle.ed_answers.proofs.Kit.{Size, least_below, Settings, Window, State, run_end, first_state, ap}
 use Rattle.ed_answers.proofs.Kit.{arith, List, None, Option, Some, ℕ, ◌+◌, ◌∙◌, ◌≡◌, ◌≤◌}
-use Rattle.std.proofs.Common.{IfSome}
+use Rattle.std.proofs.Common.{IfSome, rules}
 use Rattle.ed_machine.proofs.Keeping.{Follows, steps_follow}
 use Rattle.ed_run.specs.SettingRanges.{AreSettingsInRange, IsWindowOf}
 use Rattle.ed_answers.specs.Replies.{IsPrintableIn}
-use Rattle.std.proofs.Common.{rules}
 
 pub run_follows : (limit resumes room : ℕ) (s : State) → Follows limit s (run_end limit resumes room s).state
 unfolding run_end

@@ -1,13 +1,12 @@
 -- From what is made of a source to the outcome of an input.
 use Rattle.ed_answers.proofs.Kit.{IsErr, IsErrAnd, NoMemory, Size, paper, Ending, RunEnd, Settings, Window, State}
 use Rattle.ed_answers.proofs.Kit.{text_of, HasFormFault, SourceCause, SourceFault, At, Memory, Line, Err, IfErr, IfOk}
-use Rattle.ed_answers.proofs.Kit.{Ok, Result, Text, IsProgram, HasMeaningFault, Linked, Placed, [], ap}
-use Rattle.ed_answers.proofs.Kit.{append-nil, Bool, inl, inr, List, map, Option, refl, subst, sym, ℕ, ◌++◌, ◌∙◌}
-use Rattle.ed_answers.proofs.Kit.{◌≡◌, canonicals, IsLinked, after_text, listing, ending_line}
-use Rattle.ed_answers.proofs.Kit.{entry_state, done, Outcome, for_form, for_meaning}
-use Rattle.ed_answers.proofs.Kit.{IsAcceptedAs, IsRefused, Gives, Replies, post_mortem_codes}
-use Rattle.ed_answers.proofs.Kit.{ran_outcome, run_of, status_of, with_post_mortem, listing_outcome}
-use Rattle.ed_answers.proofs.Kit.{of_source, OfSource, punch_outcome, run_outcome, Rejection, Reply}
+use Rattle.ed_answers.proofs.Kit.{Ok, Result, Text, IsProgram, HasMeaningFault, Linked, Placed, [], ap, append-nil}
+use Rattle.ed_answers.proofs.Kit.{Bool, inl, inr, List, map, Option, refl, subst, sym, ℕ, ◌++◌, ◌∙◌, ◌≡◌, canonicals}
+use Rattle.ed_answers.proofs.Kit.{IsLinked, after_text, listing, ending_line, entry_state, done, Outcome, for_form}
+use Rattle.ed_answers.proofs.Kit.{for_meaning, IsAcceptedAs, IsRefused, Gives, Replies, post_mortem_codes, ran_outcome}
+use Rattle.ed_answers.proofs.Kit.{run_of, status_of, with_post_mortem, listing_outcome, of_source, OfSource}
+use Rattle.ed_answers.proofs.Kit.{punch_outcome, run_outcome, Rejection, Reply}
 use Rattle.ed_report.specs.Notes.{source_fault_line}
 use Rattle.ed_answers.specs.FromEntry.{EachAnswerIsFromEntry}
 use Rattle.ed_answers.specs.Headline.{Headline}

@@ -1,8 +1,7 @@
 -- A source's program on its way from call to call: which words are still those of its entry.
 use Rattle.ed_sources.proofs.Kit.{A_F, G_F, Size, Line, unwrap_or, least, placed_at, arith, inl, inr, length, List}
-use Rattle.ed_sources.proofs.Kit.{true, ℕ, ◌*◌, ◌+◌, ◌<◌, ◌∙◌, ◌≡◌, ◌≤◌, short_at, State, place_count}
-use Rattle.ed_sources.proofs.Kit.{HasWord, entry_state, IsOutside, Z_F, print, with_h, digits, print_orders, ◌∷◌}
-use Rattle.ed_sources.proofs.Kit.{StopsAt}
+use Rattle.ed_sources.proofs.Kit.{true, ℕ, ◌*◌, ◌+◌, ◌<◌, ◌∙◌, ◌≡◌, ◌≤◌, short_at, State, place_count, HasWord}
+use Rattle.ed_sources.proofs.Kit.{entry_state, IsOutside, Z_F, print, with_h, digits, print_orders, ◌∷◌, StopsAt}
 use Rattle.ed_sources.proofs.AtEntry.{all_words, has_image, have_places, image_at, placed, word_at}
 use Rattle.ed_sources.proofs.CalledRoutines.{IsBeside, Passes, print_passes, stopped}
 use Rattle.ed_sources.proofs.Calling.{HasRoutine, IsBefore}

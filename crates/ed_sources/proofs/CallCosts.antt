@@ -1,17 +1,10 @@
 -- What reading the tape of a call costs: that of the words of its numbers, and that of all other items.
-use Rattle.ed_sources.proofs.Kit.{sum_by, sum_by-cons, Item, Line, take, punched_items, word_item, item_cost}
+use Rattle.ed_sources.proofs.Kit.{sum_by, sum_by-cons, Item, take, punched_items, word_item, item_cost}
 use Rattle.ed_sources.proofs.Kit.{arith, drop, List, refl, rules, ℕ, ◌++◌, ◌+◌, ◌∷◌, ◌≡◌, cost, word_cost}
 use Rattle.ed_sources.proofs.Said.{check_lines, print_lines}
 use Rattle.ed_sources.proofs.SaidMaths.{divide_lines, root_lines}
 use Rattle.ed_sources.proofs.WordCosts.{cost_around}
 use Rattle.std.proofs.lemmas.Grind.{common_steps}
-
--- a source whose items are known up to that of a word
-with_word : (lines : List Line) (front rest : List Item) (w k : ℕ)
-    → punched_items lines ≡ front ++ word_item w ∷ rest
-    → sum_by item_cost front + sum_by item_cost rest ≡ k + 4
-    → cost lines ≡ k + 9 + word_cost w
-with_word lines front rest w k parts others = grind (arith, common_steps)
 
 pub print_cost : (n : ℕ) → cost (print_lines n) ≡ 2289 + word_cost n
 print_cost n = grind (arith, common_steps)

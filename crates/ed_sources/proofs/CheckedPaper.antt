@@ -1,7 +1,6 @@
 -- What the guest of `call check N` prints has room on the paper, and the machine's orders lead to its stop.
 use Rattle.ed_sources.proofs.Kit.{Size, length-append, before_units, arith, length, rules, subst, suc, zero, ℕ, ◌*◌}
-use Rattle.ed_sources.proofs.Kit.{◌+◌, ◌<◌, ◌≤◌, State, print_orders, sum, ChecksToStop}
-use Rattle.ed_sources.proofs.Kit.{guest, entry_state, StopsAt}
+use Rattle.ed_sources.proofs.Kit.{◌+◌, ◌<◌, ◌≤◌, State, print_orders, sum, ChecksToStop, guest, entry_state, StopsAt}
 use Rattle.ed_machine.proofs.Kit.Leads.{all_go}
 use Rattle.ed_machine.proofs.Steps.{one_code}
 use Rattle.ed_checker.specs.Checker.{checked_codes, planting_place}

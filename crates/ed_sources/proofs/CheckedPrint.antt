@@ -1,19 +1,17 @@
 -- The source of `call check N`: at its entry the checking routine is at the start of a turn, and its guest prints the
 -- number and stops.
-use Rattle.ed_sources.proofs.Kit.{Z_F, Size, joined, no_stops, nat_eq, ◌||◌, list_all}
-use Rattle.ed_sources.proofs.Kit.{image_word, parameter_store, unwrap_or, eqb-true, least, placed_at, before_units}
-use Rattle.ed_sources.proofs.Kit.{IsCalled, [], ap, arith, Bool, false, get_or, inl, length, lit<, lit≤, refl}
-use Rattle.ed_sources.proofs.Kit.{rules, subst, suc, sym, true, zero, ℕ, ◌*◌, ◌++◌, ◌+◌, ◌<◌, ◌^◌, ◌∙◌}
-use Rattle.ed_sources.proofs.Kit.{◌∷◌, ◌≡◌, ◌≤◌, short_at, State, state_after, free, Leads, print, with_h}
-use Rattle.ed_sources.proofs.Kit.{digits, print_orders, sum, ChecksToStop, size_after, function_of}
-use Rattle.ed_sources.proofs.Kit.{next_word, guest, entry_state, call_text}
-use Rattle.ed_sources.proofs.Kit.{read_is_accepted, Check, locations}
+use Rattle.ed_sources.proofs.Kit.{Z_F, Size, joined, no_stops, nat_eq, ◌||◌, list_all, image_word, parameter_store}
+use Rattle.ed_sources.proofs.Kit.{unwrap_or, eqb-true, least, placed_at, before_units, IsCalled, [], ap, arith, Bool}
+use Rattle.ed_sources.proofs.Kit.{get_or, inl, length, lit<, lit≤, refl, rules, subst, suc, sym, true, ℕ}
+use Rattle.ed_sources.proofs.Kit.{◌*◌, ◌++◌, ◌+◌, ◌<◌, ◌^◌, ◌∙◌, ◌∷◌, ◌≡◌, ◌≤◌, short_at, State, state_after, free}
+use Rattle.ed_sources.proofs.Kit.{Leads, print, with_h, digits, print_orders, sum, ChecksToStop, size_after}
+use Rattle.ed_sources.proofs.Kit.{function_of, next_word, guest, entry_state, call_text, read_is_accepted, Check}
+use Rattle.ed_sources.proofs.Kit.{locations}
 use Rattle.ed_checker.proofs.Kit.{address_of, long_at, checked_orders, IsAllowed, orders_by, turn_orders}
 use Rattle.ed_machine.specs.Sound.{IsSound}
-use Rattle.ed_machine.proofs.Kit.Zeros.{shown}
 use Rattle.ed_machine.proofs.Steps.{each_sum}
 use Rattle.ed_library.specs.Routines.{is_working}
-use Rattle.ed_routines.proofs.Print.{print_weight, shown_weight}
+use Rattle.ed_routines.proofs.Print.{print_weight}
 use Rattle.ed_routines.proofs.Walks.{total, total_sum}
 use Rattle.ed_checker.specs.Checker.{HasImage, check}
 use Rattle.ed_checker.specs.Laws.{HasGuest, IsFollowed, StopsAfter}
@@ -34,11 +32,6 @@ use Rattle.ed_machine.proofs.Kit.Orders.{IsOrder}
 use Rattle.std.proofs.lemmas.Grind.{common_steps}
 
 -- ---- the weights of the orders of `print`
-
-shown_is : (b : Bool) (q : ℕ) → shown_weight turn_weights b q ≡ 156 + 142 * length (shown b q)
-shown_is false zero = refl
-shown_is false (suc q) = refl
-shown_is true q = refl
 
 print_weight_is : (n : ℕ) → print_weight turn_weights n
     ≡ 2481 + 244 * sum (before_units n) + 142 * length (before_units n)

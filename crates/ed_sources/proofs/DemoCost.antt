@@ -1,10 +1,9 @@
 -- What reading the tape of `demo` costs: its program, the heads of its segments, and its words.
-use Rattle.ed_sources.proofs.Kit.{sum_by, sum_by-append, sum_by-cons, Item, Line, codes, nat_le, None, take}
-use Rattle.ed_sources.proofs.Kit.{◌||◌, leb-true, Definition, counter, eq-eqb, ne_eqb, symbols_of}
-use Rattle.ed_sources.proofs.Kit.{item_with, punched_items, word_item, item_cost, [], ap, arith, Bool, drop, false}
-use Rattle.ed_sources.proofs.Kit.{if◌then◌else◌, List, nat_lt, refl, Some, suc, zero, ℕ, ◌*◌, ◌++◌, ◌+◌, ◌<◌}
-use Rattle.ed_sources.proofs.Kit.{◌∙◌, ◌∷◌, ◌≡◌, ◌≤◌, cost, demo_cost, word_cost, next, number_after}
-use Rattle.ed_sources.proofs.Kit.{number_word, words_after}
+use Rattle.ed_sources.proofs.Kit.{sum_by, sum_by-append, sum_by-cons, Item, Line, codes, nat_le, None, take, ◌||◌}
+use Rattle.ed_sources.proofs.Kit.{leb-true, Definition, counter, eq-eqb, ne_eqb, symbols_of, item_with, punched_items}
+use Rattle.ed_sources.proofs.Kit.{word_item, item_cost, [], ap, arith, Bool, drop, false, if◌then◌else◌, List, nat_lt}
+use Rattle.ed_sources.proofs.Kit.{refl, Some, suc, zero, ℕ, ◌*◌, ◌++◌, ◌+◌, ◌<◌, ◌∙◌, ◌∷◌, ◌≡◌, ◌≤◌, cost, demo_cost}
+use Rattle.ed_sources.proofs.Kit.{word_cost, next, number_after, number_word, words_after}
 use Rattle.ed_link.proofs.Kit.{place_on, head, heads, punched_from}
 use Rattle.ed_sources.specs.Costs.{heads_cost}
 use Rattle.ed_sources.specs.DemoRuns.{LastDemoIsLongest, demo_orders, most_demo_orders}

@@ -1,9 +1,8 @@
 -- The source of `demo` from its entry to its stop.
-use Rattle.ed_sources.proofs.Kit.{Size, opens, Line, codes, map, None, take, least, HasRoutine, ReachesStop, []}
-use Rattle.ed_sources.proofs.Kit.{arith, get_or, inr, List, lit≤, Option, refl, rules, Some, suc}
-use Rattle.ed_sources.proofs.Kit.{sym, ℕ, ◌*◌, ◌++◌, ◌+◌, ◌<◌, ◌∙◌, ◌∷◌, ◌≡◌, ◌≤◌, locations, State, state}
-use Rattle.ed_sources.proofs.Kit.{patched, print, with_h, digits, print_orders, entry_of, cost, entry_state, demo_cost}
-use Rattle.ed_sources.proofs.Kit.{demo_sum}
+use Rattle.ed_sources.proofs.Kit.{Size, opens, Line, codes, map, None, take, least, HasRoutine, ReachesStop, [], arith}
+use Rattle.ed_sources.proofs.Kit.{get_or, inr, List, lit≤, Option, refl, rules, Some, suc, sym, ℕ, ◌*◌, ◌++◌, ◌+◌, ◌<◌}
+use Rattle.ed_sources.proofs.Kit.{◌∙◌, ◌∷◌, ◌≡◌, ◌≤◌, locations, State, state, patched, print, with_h, digits}
+use Rattle.ed_sources.proofs.Kit.{print_orders, entry_of, cost, entry_state, demo_cost, demo_sum}
 use Rattle.ed_sources.specs.DemoSources.{demo_words}
 use Rattle.ed_sources.proofs.AtEntry.{all_words}
 use Rattle.ed_sources.proofs.Blocks.{last_at}

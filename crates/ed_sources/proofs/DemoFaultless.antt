@@ -1,8 +1,7 @@
 -- The source of `demo` has no fault of meaning, as long as its words are within the store.
 use Rattle.ed_sources.proofs.Kit.{Size, Line, codes, None, Text, LocationCounter, Definition, counter, first_counter}
-use Rattle.ed_sources.proofs.Kit.{fault, symbols_of, [], ap, arith, false, List, nat_lt, refl, subst}
-use Rattle.ed_sources.proofs.Kit.{suc, sym, true, zero, ℕ, ◌*◌, ◌++◌, ◌+◌, ◌∷◌, ◌≡◌, ◌≤◌, le-ltb, locations, next}
-use Rattle.ed_sources.proofs.Kit.{number_after}
+use Rattle.ed_sources.proofs.Kit.{fault, symbols_of, [], ap, arith, false, List, nat_lt, refl, subst, suc, sym, true}
+use Rattle.ed_sources.proofs.Kit.{zero, ℕ, ◌*◌, ◌++◌, ◌+◌, ◌∷◌, ◌≡◌, ◌≤◌, le-ltb, locations, next, number_after}
 use Rattle.ed_link.proofs.Kit.{max, min, resolution, any_enter, cause_of, extent, fault_from}
 use Rattle.ed_words.specs.declared.size.Size.TheVariants.{Small, Full}
 use Rattle.ed_symbols.specs.Names.{symbols_from}

@@ -5,7 +5,7 @@ use Rattle.ed_sources.proofs.Kit.{parameter_store, Definition, counter, unwrap_o
 use Rattle.ed_sources.proofs.Kit.{symbols_of, [], ap, arith, get_or, inl, length, List, lit<, lit≤, refl, suc}
 use Rattle.ed_sources.proofs.Kit.{true, zero, ℕ, ◌*◌, ◌++◌, ◌+◌, ◌<◌, ◌∙◌, ◌∷◌, ◌≡◌, ◌≤◌, short_at, place_count, print}
 use Rattle.ed_sources.proofs.Kit.{with_h, entry_of, entry_state, next, number_after, number_word, words_after}
-use Rattle.std.proofs.Common.{sum}
+use Rattle.std.proofs.Common.{sum, rules}
 use Rattle.ed_link.specs.Linked.{entry_from, placed_from}
 use Rattle.ed_sources.proofs.AtEntry.{have_places}
 use Rattle.ed_sources.proofs.Blocks.{beside_block, block_places, front_word, in_block, last_at, order_at, rest_word}
@@ -13,7 +13,6 @@ use Rattle.ed_sources.proofs.Decimals.{numbers}
 use Rattle.ed_sources.proofs.DemoFaultless.{lines_behind, lines_with}
 use Rattle.ed_sources.proofs.DemoLoop.{StandFrom}
 use Rattle.ed_sources.proofs.SaidDemo.{enter_line, segment_forms}
-use Rattle.std.proofs.Common.{rules}
 
 -- ---- the words of the sequence
 

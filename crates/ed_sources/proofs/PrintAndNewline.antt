@@ -1,7 +1,6 @@
 -- The sources that print a number and a new line, from their entries to their stops.
-use Rattle.ed_sources.proofs.Kit.{Size, parameter_store, [], lit<, lit≤, refl, ℕ, ◌+◌, ◌<◌}
-use Rattle.ed_sources.proofs.Kit.{◌∷◌, newline, print, with_h, digits, print_orders, entry_state, StopsAt}
-use Rattle.ed_sources.proofs.Kit.{rules}
+use Rattle.ed_sources.proofs.Kit.{Size, parameter_store, [], lit<, lit≤, refl, ℕ, ◌+◌, ◌<◌, ◌∷◌, newline, print}
+use Rattle.ed_sources.proofs.Kit.{with_h, digits, print_orders, entry_state, StopsAt, rules}
 use Rattle.ed_sources.proofs.Along.{IsAt, before, IsAt-entered, has, HasCall, stops, prints}
 use Rattle.ed_sources.proofs.AtEntry.{word_at}
 use Rattle.ed_sources.proofs.CalledRoutines.{newline_passes}

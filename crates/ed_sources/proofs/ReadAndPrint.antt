@@ -3,8 +3,7 @@ use Rattle.ed_sources.proofs.Kit.{Size, and_parts, parameter_store, append-nil, 
 use Rattle.ed_sources.proofs.Kit.{length, List, lit<, lit≤, nat_lt, refl, subst, true, ℕ, ◌*◌, ◌++◌, ◌+◌, ◌<◌}
 use Rattle.ed_sources.proofs.Kit.{◌∙◌, ◌∷◌, ◌≡◌, short_at, State, print, read, with_h, after_digits, digit_rows}
 use Rattle.ed_sources.proofs.Kit.{digits, print_orders, entry_state, StopsAt-behind, StopsAt, rules}
-use Rattle.ed_sources.proofs.Along.{IsAt, before, IsAt-entered, has, IsAt-passed, HasCall, out, stops}
-use Rattle.ed_sources.proofs.Along.{prints}
+use Rattle.ed_sources.proofs.Along.{IsAt, before, IsAt-entered, has, IsAt-passed, HasCall, out, stops, prints}
 use Rattle.ed_sources.proofs.CalledRoutines.{Passes, ReadsNumber, reads}
 use Rattle.ed_sources.proofs.Decimals.{are, are_digits}
 use Rattle.ed_sources.proofs.Said.{read_lines}

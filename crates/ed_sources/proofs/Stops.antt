@@ -1,9 +1,8 @@
 -- Orders that lead to a stop, and the run that they are.
-use Rattle.ed_machine.proofs.Names.{ap, append-nil, arith, inl, inr, length, List, None}
-use Rattle.ed_machine.proofs.Names.{Option, refl, rules, Some, suc, ℕ, ◌++◌, ◌+◌, ◌<◌, ◌∙◌, ◌≡◌, ◌≤◌}
-use Rattle.ed_machine.proofs.Names.{cases_lt, locations, function_of, kind_of_function, after, done_at}
-use Rattle.ed_machine.proofs.Names.{next_word, obey_word, step, State, AreObeyed, codes_of}
-use Rattle.ed_machine.proofs.Names.{is_obeyed, progress, state_after}
+use Rattle.ed_machine.proofs.Names.{ap, append-nil, arith, inl, inr, length, List, None, Option, refl, rules, Some}
+use Rattle.ed_machine.proofs.Names.{suc, ℕ, ◌++◌, ◌+◌, ◌<◌, ◌∙◌, ◌≡◌, ◌≤◌, cases_lt, locations, function_of}
+use Rattle.ed_machine.proofs.Names.{kind_of_function, after, done_at, next_word, obey_word, step, State, AreObeyed}
+use Rattle.ed_machine.proofs.Names.{codes_of, is_obeyed, progress, state_after}
 use Rattle.ed_answers.proofs.Kit.{run_end, RunEnd, ran_ends}
 use Rattle.ed_words.proofs.SizeLemmas.{within_below}
 use Rattle.ed_orders.specs.declared.kind.Kind.{Kind}

@@ -2,15 +2,11 @@
 use Rattle.ed_sources.proofs.Kit.{Line, Statement, append_assoc, Ok, list_all, and_parts, Text, is_line_byte, LinePart}
 use Rattle.ed_sources.proofs.Kit.{form_at, parts_of, line_of, lines_from, ne_eqb, [], ap, arith, Bool, false}
 use Rattle.ed_sources.proofs.Kit.{length, List, Option, refl, Some, sym, true, ℕ, ◌++◌, ◌+◌}
-use Rattle.ed_sources.proofs.Kit.{◌==◌, ◌∙◌, ◌∷◌, ◌≡◌, ◌≤◌, is_two, program_of, text_of_lines}
+use Rattle.ed_sources.proofs.Kit.{◌∙◌, ◌∷◌, ◌≡◌, ◌≤◌, is_two, program_of, text_of_lines}
 use Rattle.ed_syntax.proofs.Kit.{lines_of, with_byte}
 use Rattle.ed_syntax.specs.Reading.Sources.{and_lines}
 use Rattle.std.proofs.lemmas.Grind.{common_steps}
 use Rattle.std.proofs.Common.{rules}
-
--- a byte of a line is not one that ends a line
-is_no_end : (b k : ℕ) → is_line_byte b ≡ true → is_line_byte k ≡ false → (b == k) ≡ false
-is_no_end b k inside outside = grind (arith, common_steps)
 
 byte_before : (b c : ℕ) (bs : Text) → is_line_byte b ≡ true → lines_of (b ∷ c ∷ bs) ≡ with_byte b (lines_of (c ∷ bs))
 byte_before b c bs inside = grind (arith, common_steps)

@@ -1,13 +1,9 @@
 -- What reading the item of a word costs: 23 orders, and 9 for each digit of its address.
-use Rattle.ed_sources.proofs.Kit.{sum_by, Item, nat_eq, item_with}
-use Rattle.ed_sources.proofs.Kit.{item_cost, arith, Bool, false, length, List, refl, true, ℕ, ◌%◌, ◌*◌, ◌++◌, ◌+◌, ◌/◌}
-use Rattle.ed_sources.proofs.Kit.{◌<◌, ◌∷◌, ◌≡◌, ◌≤◌, word_cost}
-use Rattle.ed_notation.proofs.Kit.{lt-leb, digit_at, digits_of}
+use Rattle.ed_sources.proofs.Kit.{sum_by, Item, nat_eq, item_with, item_cost, arith, Bool, false, length, List}
+use Rattle.ed_sources.proofs.Kit.{true, ℕ, ◌%◌, ◌*◌, ◌++◌, ◌+◌, ◌/◌, ◌<◌, ◌∷◌, ◌≡◌, ◌≤◌, word_cost}
+use Rattle.ed_notation.proofs.Kit.{digits_of}
 use Rattle.ed_link.specs.Punch.{ending}
 use Rattle.std.proofs.lemmas.Grind.{common_steps}
-
-none : (p n : ℕ) → n < p → length (digit_at p n) ≡ 0
-none p n less = let e = lt-leb p n less in rw e refl
 
 pub four_digits : (n : ℕ) → n < 10000 → length (digits_of n) ≤ 4
 four_digits n small = grind (arith, common_steps)
