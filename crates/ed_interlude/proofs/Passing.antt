@@ -5,7 +5,7 @@ use Rattle.ed_interlude.proofs.Kit.{State, state_after, TapeEntry, Failed, Memor
 use Rattle.ed_interlude.proofs.Kit.{returned_line, entry_done, entry_report, finished, Finishes, first_part, GoesBack}
 use Rattle.ed_interlude.proofs.Kit.{LeadsTo, part_after, part_entry_state, part_report, PartsReport, read_before}
 use Rattle.ed_interlude.proofs.Kit.{ReportsParts, ReturnsToLoader, TapePart, Ahead, directive, IsReturned, PartsEnd}
-use Rattle.std.proofs.Common.{◌%◌, Result, Ok, IfOk, Vec}
+use Rattle.std.proofs.Common.{◌%◌, Result, Ok, IfOk, Vec, rules}
 use Rattle.std.specs.declared.alloc.Global.{Global}
 use Rattle.ed_words.specs.Words.{order_of}
 use Rattle.ed_words.specs.declared.memory.NoMemory.{NoMemory}
@@ -22,7 +22,6 @@ use Rattle.ed_interlude.proofs.Parting.{Opens}
 use Rattle.ed_interlude.proofs.Programs.{home_within}
 use Rattle.ed_interlude.proofs.Rows.{some_cost}
 use Rattle.ed_interlude.proofs.Tales.{behind_opens, from_entry, some_told}
-use Rattle.std.proofs.Common.{rules}
 
 -- ---- texts
 

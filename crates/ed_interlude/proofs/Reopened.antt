@@ -2,14 +2,13 @@
 use Rattle.ed_interlude.proofs.Kit.{ap, arith, Bool, false, get_or, length, List, refl, suc, sym, ℕ, ◌++◌, ◌+◌, ◌/◌}
 use Rattle.ed_interlude.proofs.Kit.{◌<◌, ◌^◌, ◌∙◌, ◌≡◌, ◌≤◌, IsStore, State, initial_orders, frame, state, IsReturned}
 use Rattle.ed_initial.proofs.Kit.{drop, lit<, ◌∷◌, Moment, patched, Working}
-use Rattle.std.proofs.Common.{take, drop-cons}
+use Rattle.std.proofs.Common.{take, drop-cons, rules}
 use Rattle.std.proofs.lemmas.List.{set-get_or, get_or-drop, get_or-take, drop-drop, length-drop}
 use Rattle.ed_machine.proofs.Kit.Frames.{same_state}
 use Rattle.ed_machine.proofs.Kit.Moves.{T_top, E_jumps}
 use Rattle.ed_machine.proofs.Kit.Places.{own}
 use Rattle.ed_machine.proofs.Kit.Window.{patched_one, headed}
 use Rattle.ed_initial.proofs.Paths.{Kept, ToRest, ends, on, stay, cells, moment}
-use Rattle.std.proofs.Common.{rules}
 
 -- the changing words as the program left them
 abbrev pub held : List ℕ → Working

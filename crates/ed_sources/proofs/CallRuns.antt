@@ -22,7 +22,6 @@ use Rattle.ed_sources.proofs.RootAndPrint.{root_ends, root_small}
 use Rattle.ed_sources.proofs.Stopped.{stopped_outcome}
 use Rattle.ed_sources.proofs.Stops.{comes_to_stop}
 
-
 -- a call whose source is accepted, and which reaches its stop after its codes
 runs : (s : Settings) (call : Call) {lines : List Line} {k place : ℕ} {codes : List ℕ}
     → program_of (call_text call) ≡ Ok lines → fault size.Small lines ≡ None → fault size.Full lines ≡ None

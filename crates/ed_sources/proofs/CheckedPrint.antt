@@ -2,11 +2,10 @@
 -- number and stops.
 use Rattle.ed_sources.proofs.Kit.{Z_F, Size, joined, no_stops, nat_eq, ◌||◌, list_all, image_word, parameter_store}
 use Rattle.ed_sources.proofs.Kit.{unwrap_or, eqb-true, least, placed_at, before_units, IsCalled, [], ap, arith, Bool}
-use Rattle.ed_sources.proofs.Kit.{get_or, inl, length, lit<, lit≤, refl, rules, subst, suc, sym, true, ℕ}
-use Rattle.ed_sources.proofs.Kit.{◌*◌, ◌++◌, ◌+◌, ◌<◌, ◌^◌, ◌∙◌, ◌∷◌, ◌≡◌, ◌≤◌, short_at, State, state_after, free}
-use Rattle.ed_sources.proofs.Kit.{Leads, print, with_h, digits, print_orders, sum, ChecksToStop, size_after}
-use Rattle.ed_sources.proofs.Kit.{function_of, next_word, guest, entry_state, call_text, read_is_accepted, Check}
-use Rattle.ed_sources.proofs.Kit.{locations}
+use Rattle.ed_sources.proofs.Kit.{get_or, inl, length, lit<, lit≤, refl, rules, subst, suc, sym, true, ℕ, ◌*◌, ◌++◌}
+use Rattle.ed_sources.proofs.Kit.{◌+◌, ◌<◌, ◌^◌, ◌∙◌, ◌∷◌, ◌≡◌, ◌≤◌, short_at, State, state_after, free, Leads, print}
+use Rattle.ed_sources.proofs.Kit.{with_h, digits, print_orders, sum, ChecksToStop, size_after, function_of, next_word}
+use Rattle.ed_sources.proofs.Kit.{guest, entry_state, call_text, read_is_accepted, Check, locations}
 use Rattle.ed_checker.proofs.Kit.{address_of, long_at, checked_orders, IsAllowed, orders_by, turn_orders}
 use Rattle.ed_machine.specs.Sound.{IsSound}
 use Rattle.ed_machine.proofs.Steps.{each_sum}

@@ -110,3 +110,6 @@ module _ (n : ℕ) (small : n < 65536) where
 -- there is at least one
 pub some_digit : (n : ℕ) → 0 < length (digits n)
 some_digit n = let e = length-append (before_units n) (n % 10 ∷ []) in omega (arith, e)
+
+-- what a source reads in the bytes of a number
+pub ruleset spelled = (are, decimal_is, value_is, few_bytes, line_bytes, run_bytes, digit_bytes)

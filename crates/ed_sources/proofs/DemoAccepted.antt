@@ -18,8 +18,8 @@ words_plain (suc n) x = search (rules, decimal_plain, words_plain n (next x))
 segments_plain : (n k x : ℕ) → k + n ≤ 65536 → list_all (list_all is_line_byte) (segments n k x) ≡ true
 segments_plain zero k x few = refl
 segments_plain (suc n) k x few =
-    search (rules, decimal_plain, list_all-append, and_from, words_plain, segments_plain n (k + 1) (number_after 8 x)
-    (omega arith))
+    let rest = segments_plain n (k + 1) (number_after 8 x) (omega arith) in
+    search (rules, decimal_plain, list_all-append, and_from, words_plain, rest)
 
 adding_plain : (words : ℕ) → words < 65536 → list_all (list_all is_line_byte) (adding words) ≡ true
 adding_plain words small = search (rules, list_all-append, and_from, decimal_plain)

@@ -97,9 +97,9 @@ pub demo_ends : (z : Size) (n : ℕ) → 1 ≤ n → n ≤ 112 → 123 + 8 * n �
 demo_ends z = of_each (λ n ls. 123 + 8 * n ≤ locations z
     → ReachesStop (72 * n + 3 + print_orders (demo_sum n)) (entry_state z ls) (11 ∷ digits (demo_sum n)) 69)
     (λ n few fits.
-        let count : 72 * suc n + 3 + print_orders (demo_sum (suc n))
-        ≡ 9 * (8 * suc n) + (3 + print_orders (demo_sum (suc n))) = omega arith in
-        rw count (ends_so z n few fits))
+    let count : 72 * suc n + 3 + print_orders (demo_sum (suc n))
+    ≡ 9 * (8 * suc n) + (3 + print_orders (demo_sum (suc n))) = omega arith in
+    rw count (ends_so z n few fits))
 
 -- what its tape costs
 pub demo_cost_is : (n : ℕ) → 1 ≤ n → n ≤ 112 → cost (demo_lines n) ≡ demo_cost n

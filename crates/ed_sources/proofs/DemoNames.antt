@@ -90,7 +90,7 @@ module _ (rest_homes : List Definition) where
       let none = no_home (Some (s.segments + 1)) (name k) earlier (free k (omega arith) (omega arith)) in
       record {
         none = simp (append-nil, none) (segments_named n (k + 1) (l + 9) (number_after 8 x) (omega arith)
-        (more_free k earlier own refl (omega arith) free) behind).none;
+            (more_free k earlier own refl (omega arith) free) behind).none;
       }
 
   pub enter_named : {earlier : List Definition} {s : LocationCounter} (l : ℕ)

@@ -6,11 +6,11 @@ use Rattle.ed_sources.proofs.Kit.{is_number, LinePart, run, sign, form_at, setti
 use Rattle.ed_sources.proofs.Kit.{Check, NewLine, Print, Read, append-nil, ne_eqb, [], ap, arith, Bool, false, length}
 use Rattle.ed_sources.proofs.Kit.{List, lit≤, Option, refl, rules, Some, subst, sym, true, ℕ, ◌++◌, ◌+◌, ◌<◌, ◌==◌}
 use Rattle.ed_sources.proofs.Kit.{◌∙◌, ◌∷◌, ◌≡◌, ◌≤◌, digits}
-use Rattle.ed_syntax.proofs.Kit.{map-append, is_place_name, array, modulo, quoted, parts_from}
+use Rattle.ed_syntax.proofs.Kit.{is_place_name, array, modulo, quoted, parts_from}
 use Rattle.ed_syntax.specs.declared.program.Setting.{Setting}
 use Rattle.ed_sources.proofs.CallTexts.{call_lines}
-use Rattle.ed_sources.proofs.Decimals.{are, are_digits, decimal_is, digit_bytes, few_bytes, line_bytes, no_quotes}
-use Rattle.ed_sources.proofs.Decimals.{row_bytes, rows_are, run_bytes, some_digit, value_is, written}
+use Rattle.ed_sources.proofs.Decimals.{are, are_digits, decimal_is, few_bytes, line_bytes, no_quotes}
+use Rattle.ed_sources.proofs.Decimals.{row_bytes, rows_are, some_digit, written, spelled}
 use Rattle.ed_sources.proofs.TextLines.{Says, ends, says, by_parts}
 use Rattle.ed_syntax.specs.declared.program.Operand.TheVariants as operands
 use Rattle.ed_syntax.specs.declared.program.Statement.TheVariants as statements
@@ -126,8 +126,7 @@ module _ {two : Bool} {k : ℕ} {front : Text} {label : Option Text} {before : L
   word_says n small =
       let ds : List ℕ = digits n in
       let some : 0 < length (written ds) = let e = some_digit n in omega (arith, length-map ds (λ d. 48 + d), e) in
-      search (rules, decimal_is, word_line, written, line_bytes, are, few_bytes, number_parts, run_bytes, a_number,
-      digit_bytes, value_is)
+      search (rules, spelled, word_line, number_parts, a_number)
 
   -- the same in a filled text
   pub filled_says : (n : ℕ) → n < 65536
@@ -195,8 +194,7 @@ rows_line : (ds : List ℕ) → are_digits ds ≡ true → length (written ds) �
     → line_of false 11 (codes "data " ++ 34 ∷ written ds ++ 70 ∷ 34 ∷ [])
     ≡ Ok (record { label = None; statement = Some (statements.Rows (array (ds ++ 17 ∷ []))) })
 rows_line ds are few =
-    grind (arith, common_steps, length-append, with_end, line_bytes, le-leb, with_F, row_bytes, map-append, rows_are,
-    by_parts, quoted_digits, no_quotes)
+    grind (arith, common_steps, with_end, line_bytes, with_F, row_bytes, rows_are, by_parts, quoted_digits, no_quotes)
 
 read_number : (n : ℕ) → n < 65536
     → line_of false 11 (codes "data " ++ 34 ∷ decimal n ++ 70 ∷ 34 ∷ [])
