@@ -59,7 +59,7 @@ pub entry_found : (s : Settings) {codes : List ℕ} {r : Report} {at orders coun
     → IfOk given (λ reply. Gives reply (done (entry_line at orders count)))
     → IfOk given (λ reply. (o : Outcome) × IsChecked s codes o × Gives reply o)
 entry_found s (Err e) f a o n gives = tt
-entry_found s {at = at} {orders} {count} (Ok reply) f a o n gives = search (rules, done)
+entry_found s {at = at} {orders} {count} (Ok reply) f a o n gives = search rules
 
 -- the reply to a tape with a fault
 pub fault_found : (s : Settings) (codes : List ℕ) (fault : TapeFault) {line : Text} (reply : Reply)

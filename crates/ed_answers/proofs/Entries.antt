@@ -42,8 +42,7 @@ entered : (z : Size) (lines : List Line)
     → at_entry (first_state z (tape lines)) (arrival (first_state z (tape lines)).store.words lines)
     ≡ entry_state z lines
 unfolding first_state
-entered z lines =
-    search (rules, same_over, first_words, first_orders, entry_of, data_after)
+entered z lines = search (rules, same_over, first_words, first_orders)
 
 module _ (z : Size) (lines : List Line) (loads : ReachesLinkedEntry z lines) where
   comes : ReachesEntry (first_state z (tape lines)) (arrival (first_state z (tape lines)).store.words lines)

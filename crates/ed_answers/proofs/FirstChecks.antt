@@ -37,4 +37,4 @@ pub program_found : {codes : List ℕ} {r : Report1} {orders count : ℕ} (given
     → orders ≡ r.orders → count ≡ r.rows → IfOk given (λ reply. Gives reply (done (entry_line 31 orders count)))
     → IfOk given (λ reply. (o : Outcome) × IsChecked1 codes o × Gives reply o)
 program_found (Err e) a o n gives = tt
-program_found {orders} {count} (Ok reply) a o n gives = search (rules, done)
+program_found {orders} {count} (Ok reply) a o n gives = search rules

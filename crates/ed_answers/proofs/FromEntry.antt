@@ -39,7 +39,7 @@ run_end-silent limit resumes room k s went below =
 -- the run from Start is that from the state at the entry, with the limit less the cost
 run_on : (s : Settings) (lines : List Line) → Enters s.size lines (entry_store lines) → cost lines ≤ s.limit
     → run_of s (tape lines) ≡ run_end (s.limit - cost lines) s.resumes paper_room (entry_state s.size lines)
-run_on s lines enters fits = search (rules, ran_later, first_state)
+run_on s lines enters fits = search (rules, ran_later)
 
 -- so the run of a machine that was led to the entry of a linked program only has to continue
 pub goes_on : (s : Settings) (k : Linked) (entered : State) (r : Result FinishedRun NoMemory) → entered.orders ≤ s.limit
@@ -61,11 +61,10 @@ goes_on s k entered (Ok left) fits at is = λ lines linked.
 
 pub runs_from_entry : (s : Settings) (lines : List Line) → Enters s.size lines (entry_store lines)
     → IsEntryStore lines (entry_store lines) → RunsFromEntry s lines
-runs_from_entry s lines enters store_is = grind (arith, common_steps, run_on, run_end-silent, first_state)
+runs_from_entry s lines enters store_is = grind (arith, common_steps, run_on, run_end-silent)
 
 -- ---- what `run` answers
 
 pub answers_from_entry : (s : Settings) (lines : List Line) → Enters s.size lines (entry_store lines)
     → AnswersFromEntry s lines
-answers_from_entry s lines enters =
-    search (rules, run_follows, run_on, reached, run_end-silent, first_state, run_of)
+answers_from_entry s lines enters = search (rules, run_follows, run_on, reached, run_end-silent)

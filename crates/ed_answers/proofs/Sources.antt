@@ -41,7 +41,7 @@ some_outcome z accepted text =
 
 pub source_outcome : (z : Size) (accepted : List Line → Outcome) (text : Text) (o other : Outcome)
     → OfSource z accepted text o → OfSource z accepted text other → o ≡ other
-source_outcome z accepted text o other (inl r) (inl q) = search (rules, one_answer, At)
+source_outcome z accepted text o other (inl r) (inl q) = search (rules, one_answer)
 source_outcome z accepted text o other (inl r) (inr b) =
     absurd (one_answer.never_both z text b.0 r.0 r.1 b.1 r.2)
 source_outcome z accepted text o other (inr a) (inl q) =
@@ -95,7 +95,7 @@ linked_replied z accepted input k reply l g = (accepted l.0, accepted_is z accep
 -- of one that is refused
 source_rejected : (z : Size) (accepted : List Line → Outcome) (input : Text) (e : Rejection)
     → LinksSource z input (Err e) → Replies (of_source z accepted) input (Err e)
-source_rejected z accepted input (rejection.Refused reply) l = search (rules, At)
+source_rejected z accepted input (rejection.Refused reply) l = search rules
 source_rejected z accepted input rejection.Memory l = let some = some_outcome z accepted input in (some.0, some.1, tt)
 
 -- if it is passed on by `?`
@@ -156,8 +156,7 @@ pub run_replied : (s : Settings) (input : Text) (noted : NotedRun) (reply : Repl
       status = status_of noted.ran.ending;
     })
     → Replies (of_source s.size (run_outcome s)) input (Ok reply)
-run_replied s input noted reply (lines, accepted, is) gives =
-    search (rules, run_of, accepted_is, ran_gives)
+run_replied s input noted reply (lines, accepted, is) gives = search (rules, accepted_is, ran_gives)
 
 -- of one that is refused, if that is passed on by `?`
 pub source_not_run : (s : Settings) (text : Text) (e : Rejection) (r : Result NotedRun Rejection)
@@ -170,11 +169,11 @@ source_not_run s text e (Err handed) l is = search rules
 pub punch_gives : (z : Size) (k : Linked) (reply : Reply) {text : Text}
     → text ≡ text_of (canonicals k.items.items) ++ after_text k.after.items → Gives reply (done text)
     → (lines : List Line) → IsLinked z lines k → Gives reply (punch_outcome lines)
-punch_gives z k reply same gives lines is = search (rules, done, text_of, after_text)
+punch_gives z k reply same gives lines is = search rules
 
 pub listing_gives : (z : Size) (k : Linked) (m : State) (words : List Placed) (r : Result Reply NoMemory)
     → ((lines : List Line) → IsLinked z lines k → m ≡ entry_state z lines) → words ≡ k.words.items
     → IfOk r (λ reply. Gives reply (done (listing m.store (map (λ (p : Placed). p.place) words))))
     → IfOk r (λ reply. (lines : List Line) → IsLinked z lines k → Gives reply (listing_outcome lines))
 listing_gives z k m words (Err e) entry same gives = tt
-listing_gives z k m words (Ok reply) entry same gives = search (rules, done, listing)
+listing_gives z k m words (Ok reply) entry same gives = search rules

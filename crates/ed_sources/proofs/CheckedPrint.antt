@@ -5,12 +5,13 @@ use Rattle.ed_sources.proofs.Kit.{unwrap_or, eqb-true, least, placed_at, before_
 use Rattle.ed_sources.proofs.Kit.{get_or, inl, length, lit<, lit≤, refl, rules, subst, suc, sym, true, ℕ, ◌*◌, ◌++◌}
 use Rattle.ed_sources.proofs.Kit.{◌+◌, ◌<◌, ◌^◌, ◌∙◌, ◌∷◌, ◌≡◌, ◌≤◌, short_at, State, state_after, free, Leads, print}
 use Rattle.ed_sources.proofs.Kit.{with_h, digits, print_orders, sum, ChecksToStop, size_after, function_of, next_word}
-use Rattle.ed_sources.proofs.Kit.{guest, entry_state, call_text, read_is_accepted, Check, locations}
+use Rattle.ed_sources.proofs.Kit.{guest, entry_state, call_text, read_is_accepted, Check, locations, tens, false, zero}
+use Rattle.ed_sources.proofs.Kit.{◌%◌, ◌/◌}
 use Rattle.ed_checker.proofs.Kit.{address_of, long_at, checked_orders, IsAllowed, orders_by, turn_orders}
 use Rattle.ed_machine.specs.Sound.{IsSound}
 use Rattle.ed_machine.proofs.Steps.{each_sum}
 use Rattle.ed_library.specs.Routines.{is_working}
-use Rattle.ed_routines.proofs.Print.{print_weight}
+use Rattle.ed_routines.proofs.Print.{print_weight, before_tens, shown_weight, shows_is, sum_is}
 use Rattle.ed_routines.proofs.Walks.{total, total_sum}
 use Rattle.ed_checker.specs.Checker.{HasImage, check}
 use Rattle.ed_checker.specs.Laws.{HasGuest, IsFollowed, StopsAfter}
@@ -28,13 +29,27 @@ use Rattle.ed_routines.proofs.PrintCall as print_call
 use Rattle.ed_sources.proofs.CallsAccepted.{check_read, faultless}
 use Rattle.ed_orders.specs.declared.kind.Kind.{Kind}
 use Rattle.ed_machine.proofs.Kit.Orders.{IsOrder}
-use Rattle.std.proofs.lemmas.Grind.{common_steps}
+use Rattle.ed_machine.proofs.Kit.Zeros.{begun, shown}
 
 -- ---- the weights of the orders of `print`
 
+shown_is : (b : Bool) (q : ℕ) → shown_weight turn_weights b q ≡ 156 + 142 * length (shown b q)
+shown_is false zero = refl
+shown_is false (suc q) = refl
+shown_is true q = refl
+
 print_weight_is : (n : ℕ) → print_weight turn_weights n
     ≡ 2481 + 244 * sum (before_units n) + 142 * length (before_units n)
-print_weight_is n = grind (arith, common_steps)
+print_weight_is n =
+    let b1 : Bool = begun false (n / 10000) in
+    let b2 : Bool = begun b1 (n / 1000 % 10) in
+    let first = shown_is false (n / 10000) in
+    let second = shown_is b1 (n / 1000 % 10) in
+    let third = shown_is b2 (n / 100 % 10) in
+    let fourth = shown_is (before_tens n) (n / 10 % 10) in
+    let all = sum_is (tens n) in
+    let many = shows_is (tens n) in
+    omega (arith, first, second, third, fourth, all, many)
 
 module _ (z : Size) (n : ℕ) (small : n < 65536) where
   -- the machine at the entry, and the guest
@@ -79,7 +94,11 @@ module _ (z : Size) (n : ℕ) (small : n < 65536) where
 
   -- the long words of the guest's accumulator are 0
   clear : (long_at m.store 172 ≡ 0) × (long_at m.store 174 ≡ 0) × (long_at m.store 176 ≡ 0)
-  clear = grind (arith, common_steps)
+  clear = (
+    rw (word 172 (lit≤ tt) (lit< tt), word 173 (lit≤ tt) (lit< tt)) refl,
+    rw (word 174 (lit≤ tt) (lit< tt), word 175 (lit≤ tt) (lit< tt)) refl,
+    rw (word 176 (lit≤ tt) (lit< tt), word 177 (lit≤ tt) (lit< tt)) refl,
+  )
 
   has_guest : HasGuest 112 m
   has_guest =

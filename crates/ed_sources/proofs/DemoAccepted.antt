@@ -35,8 +35,7 @@ words_count (suc n) x = let e = words_count n (next x) in omega (arith, e)
 
 segments_count : (n k x : ℕ) → length (segments n k x) ≡ 9 * n
 segments_count zero k x = refl
-segments_count (suc n) k x =
-    search (rules, words_count, length-append, segments_count n (k + 1) (number_after 8 x))
+segments_count (suc n) k x = search (rules, words_count, length-append, segments_count n (k + 1) (number_after 8 x))
 
 -- ---- what the source is read as
 

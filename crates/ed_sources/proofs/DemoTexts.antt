@@ -1,9 +1,8 @@
 -- The text of a source that grows by words and segments.
-use Rattle.ed_sources.proofs.Kit.{decimal, flat_map-append, append_assoc, codes, Text, append-nil, [], ap, arith}
-use Rattle.ed_sources.proofs.Kit.{rules, suc, sym, zero, ℕ, ◌*◌, ◌++◌, ◌+◌, ◌<◌, ◌∙◌, ◌∷◌, ◌≡◌, text_of_lines}
-use Rattle.ed_sources.proofs.Kit.{demo_text, next, number_after, number_word, segments, word_lines}
+use Rattle.ed_sources.proofs.Kit.{decimal, flat_map-append, append_assoc, codes, Text, append-nil, [], ap, arith, rules}
+use Rattle.ed_sources.proofs.Kit.{suc, sym, zero, ℕ, ◌*◌, ◌++◌, ◌+◌, ◌<◌, ◌∙◌, ◌∷◌, ◌≡◌, text_of_lines, demo_text, next}
+use Rattle.ed_sources.proofs.Kit.{number_after, number_word, segments, word_lines, refl}
 use Rattle.ed_sources.specs.DemoSources.{adding_text}
-use Rattle.std.proofs.lemmas.Grind.{common_steps}
 
 -- a line, of those that are left
 pub one_line : (before line digits rest whole : Text) → line ≡ digits ++ codes "\n"
@@ -21,7 +20,13 @@ one_behind {m = m} x less is h = ap (number_after m) is ∙ ap (λ k. number_aft
 pub one_word : {n m y : ℕ} {grown whole : Text} (x : ℕ) (before : Text) → n ≡ suc m → y ≡ next x
     → grown ≡ before ++ (codes "word " ++ decimal (number_word y) ++ codes "\n")
     → before ++ text_of_lines (word_lines n x) ≡ whole → grown ++ text_of_lines (word_lines m y) ≡ whole
-one_word {m = m} {whole = whole} x before less is more h = grind (arith, common_steps)
+one_word {m = m} {whole = whole} x before less is more h =
+    let line : Text = codes "word " ++ decimal (number_word (next x)) ++ codes "\n" in
+    let grown_is = more ∙ ap (λ k. before ++ (codes "word " ++ decimal (number_word k) ++ codes "\n")) is in
+    (λ i. grown_is i ++ text_of_lines (word_lines m (is i)))
+    ∙ one_line before line (codes "word " ++ decimal (number_word (next x)))
+    (text_of_lines (word_lines m (next x))) whole refl
+    (ap (λ k. before ++ text_of_lines (word_lines k x)) (sym less) ∙ h)
 
 -- no word is left
 pub no_number : {last : ℕ} (n x : ℕ) → n ≡ 0 → number_after n x ≡ last → x ≡ last

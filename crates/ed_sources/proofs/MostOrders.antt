@@ -12,7 +12,6 @@ use Rattle.ed_sources.proofs.Decimals.{among}
 use Rattle.ed_sources.proofs.DivideAndPrint.{quotient_low}
 use Rattle.ed_sources.proofs.PrintOrders.{digits_long, digits_sum, print_few, sum_few}
 use Rattle.ed_sources.proofs.WordCosts.{word_cost_few}
-use Rattle.std.proofs.lemmas.Grind.{common_steps}
 
 -- the digits of a remainder before its units are 2, 9, 9 and 9 at most
 remainder_few : (r : ℕ) → r < 32767 → print_orders r ≤ 326
@@ -30,7 +29,9 @@ quotient_few q small = search (rules, digits_sum, digits_long, sum_few, cases_lt
 -- ---- roots
 
 root_few : (r : ℕ) → r < 256 → root_orders r + print_orders r ≤ 2196
-root_few r small = grind (arith, common_steps)
+root_few r small =
+    leb-true (root_orders r + print_orders r) 2196
+    (among (λ k. nat_le (root_orders k + print_orders k) 2196) 0 256 r refl (omega arith) small)
 
 root_of_most : root_of 65535 ≡ 255
 root_of_most =
@@ -58,7 +59,11 @@ most_orders (Root n) small =
     let word = word_cost_few n in
     let few = root_few (root_of n) (below_256 n (root_of n) (root_is n) small) in
     omega (arith, word, few)
-most_orders (Check n) small = grind (arith, common_steps)
+most_orders (Check n) small =
+    let word = word_cost_few n in
+    let digit_sum = sum_few n small in
+    let long = digits_long n in
+    omega (arith, word, digit_sum, long)
 
 pub each_most_is_taken : EachMostIsTaken
 unfolding ones

@@ -1,12 +1,12 @@
 -- What the lines of the sources of calls say.
-use Rattle.ed_sources.proofs.Kit.{decimal, not-true, list_all-append, Line, Statement, append_assoc}
-use Rattle.ed_sources.proofs.Kit.{codes, length-append, nat_le, None, not, Ok, pos, list_all, and_parts, le-leb}
-use Rattle.ed_sources.proofs.Kit.{nat_tests, length-map, is_digit, value, Text, is_run_byte, is_line_byte}
-use Rattle.ed_sources.proofs.Kit.{is_number, LinePart, run, sign, form_at, settings, parts_of, line_of, run_parts}
-use Rattle.ed_sources.proofs.Kit.{Check, NewLine, Print, Read, append-nil, ne_eqb, [], ap, arith, Bool, false, length}
-use Rattle.ed_sources.proofs.Kit.{List, lit≤, Option, refl, rules, Some, subst, sym, true, ℕ, ◌++◌, ◌+◌, ◌<◌, ◌==◌}
-use Rattle.ed_sources.proofs.Kit.{◌∙◌, ◌∷◌, ◌≡◌, ◌≤◌, digits}
-use Rattle.ed_syntax.proofs.Kit.{is_place_name, array, modulo, quoted, parts_from}
+use Rattle.ed_sources.proofs.Kit.{decimal, not-true, list_all-append, Line, Statement, append_assoc, codes}
+use Rattle.ed_sources.proofs.Kit.{length-append, nat_le, None, not, Ok, pos, list_all, and_parts, le-leb, nat_tests}
+use Rattle.ed_sources.proofs.Kit.{length-map, is_digit, value, Text, is_run_byte, is_line_byte, is_number, LinePart}
+use Rattle.ed_sources.proofs.Kit.{run, sign, form_at, settings, parts_of, line_of, run_parts, Check, NewLine, Print}
+use Rattle.ed_sources.proofs.Kit.{Read, append-nil, ne_eqb, [], ap, arith, Bool, false, length, List, lit≤, Option}
+use Rattle.ed_sources.proofs.Kit.{refl, rules, Some, subst, sym, true, ℕ, ◌++◌, ◌+◌, ◌<◌, ◌==◌, ◌∙◌, ◌∷◌, ◌≡◌, ◌≤◌}
+use Rattle.ed_sources.proofs.Kit.{digits, row, spells, map, row_of}
+use Rattle.ed_syntax.proofs.Kit.{is_place_name, array, modulo, quoted, parts_from, map-append}
 use Rattle.ed_syntax.specs.declared.program.Setting.{Setting}
 use Rattle.ed_sources.proofs.CallTexts.{call_lines}
 use Rattle.ed_sources.proofs.Decimals.{are, are_digits, decimal_is, few_bytes, line_bytes, no_quotes}
@@ -194,7 +194,22 @@ rows_line : (ds : List ℕ) → are_digits ds ≡ true → length (written ds) �
     → line_of false 11 (codes "data " ++ 34 ∷ written ds ++ 70 ∷ 34 ∷ [])
     ≡ Ok (record { label = None; statement = Some (statements.Rows (array (ds ++ 17 ∷ []))) })
 rows_line ds are few =
-    grind (arith, common_steps, with_end, line_bytes, with_F, row_bytes, rows_are, by_parts, quoted_digits, no_quotes)
+    let bytes : Text = written ds in
+    let quote : Text = bytes ++ 70 ∷ [] in
+    let all_long = length-append bytes (70 ∷ 34 ∷ []) in
+    let plain : list_all is_line_byte (bytes ++ 70 ∷ 34 ∷ []) ≡ true = with_end bytes (line_bytes ds are) in
+    let long = length-append bytes (70 ∷ []) in
+    let some = le-leb 1 (length quote) (omega (arith, long)) in
+    let fits = le-leb (length quote) 120 (omega (arith, long, few)) in
+    let spelled : list_all (λ b. spells (row_of b)) quote ≡ true =
+    with_F (λ b. spells (row_of b)) bytes (row_bytes ds are) refl in
+    let rows : map (λ b. row (row_of b)) quote ≡ ds ++ 17 ∷ [] =
+    map-append (λ b. row (row_of b)) bytes (70 ∷ []) ∙ ap (λ (x : List ℕ). x ++ 17 ∷ []) (rows_are ds are) in
+    by_parts false 11 (codes "data " ++ 34 ∷ bytes ++ 70 ∷ 34 ∷ []) (run (codes "data") ∷ quoted quote ∷ []) plain
+    (omega (arith, all_long, few))
+    (rw (quoted_digits [] ds (no_quotes ds are)) refl)
+    (rw (some, fits, spelled)
+    (ap (λ (x : List ℕ). Some (Some (record { label = None; statement = Some (statements.Rows (array x)) }))) rows))
 
 read_number : (n : ℕ) → n < 65536
     → line_of false 11 (codes "data " ++ 34 ∷ decimal n ++ 70 ∷ 34 ∷ [])
