@@ -1,7 +1,6 @@
 use Rattle.ed_sources.proofs.Kit.{string_bytes, arith, suc, ◌+◌, ◌-◌, ◌≡◌}
 use Rattle.ed_sources.proofs.DemoTexts.{no_number, no_word, one_behind, one_word}
 use Rattle.ed_sources.proofs.demo.push_words.Goals as goal
-use Rattle.std.proofs.lemmas.Grind.{common_steps}
 
 pub loop-word-preserved : goal.loop-word-preserved
 loop-word-preserved c =
@@ -9,7 +8,11 @@ loop-word-preserved c =
     let inside = c.loop-word-test.true in
     let less : 8 - l._word ≡ suc (8 - (l._word + 1)) = omega (arith, inside) in
     let is = c.next-number.ensures in
-    grind (arith, common_steps, one_behind, one_word)
+    record {
+      low = omega (arith, is);
+      last = one_behind l.number less is l.invariant.last;
+      text = one_word l.number (string_bytes l.text) less is c.in_ok-writeln.ensures.bytes l.invariant.text;
+    }
 
 pub returns-clause-last : goal.returns-clause-last
 returns-clause-last c =
