@@ -1,12 +1,11 @@
 -- The check of rows from a cleared store: each list of rows has one outcome, and the check's answer is that.
 use Rattle.ed_answers.proofs.Kit.{NoMemory, Size, Settings, ◌≢◌, TapeEntry, Err, IfOk, Ok, Result, Text, ap, arith}
-use Rattle.ed_answers.proofs.Kit.{inl, inr, List, refl, subst, sym, ℕ, ◌∙◌, ◌≡◌, ◌⊎◌, entry_line, done, Outcome}
+use Rattle.ed_answers.proofs.Kit.{inl, inr, List, refl, subst, sym, ℕ, ◌∙◌, ◌≡◌, entry_line, done, Outcome}
 use Rattle.ed_answers.proofs.Kit.{refusal, Gives, IsChecked, Reply}
-use Rattle.ed_notation.proofs.Kit.{IsFault, RowsReachEntry, WellFormed, IsDirective, ReadingIsRules}
+use Rattle.ed_notation.proofs.Kit.{IsDirective, ReadingIsRules}
 use Rattle.ed_store.specs.Cells.{Cells, cleared_cells}
 use Rattle.ed_notation.specs.Openings.{opening}
 use Rattle.ed_notation.specs.Reports.{Report}
-use Rattle.ed_notation.specs.declared.cause.TapeCause.{TapeCause}
 use Rattle.ed_notation.specs.declared.cause.TapeFault.{TapeFault}
 use Rattle.ed_notation.specs.declared.cause.TapeFault.TheVariants.{At, Memory}
 use Rattle.ed_notation.proofs.Laws.{reading_is_rules}
@@ -15,6 +14,7 @@ use Rattle.ed_report.specs.Notes.{rule_line, tape_fault_line}
 use Rattle.ed_answers.specs.Tapes.{opening_notation}
 use Rattle.ed_answers.proofs.Replies.{HasOne}
 use Rattle.ed_notation.specs.Checks as checks
+use Rattle.std.proofs.Common.{rules}
 
 law : (s : Settings) (codes : List ℕ) → ReadingIsRules s.size cleared_cells.words opening_notation 9 codes
 law s codes =
@@ -23,23 +23,11 @@ law s codes =
 
 -- the rows reach an entry or have a fault
 has_checked : (s : Settings) (codes : List ℕ) → (o : Outcome) × IsChecked s codes o
-has_checked s codes = by_case (law s codes).either
-  where
-    by_case : (WellFormed s.size cleared_cells.words opening_notation codes
-        × ((e : TapeEntry) × RowsReachEntry cleared_cells.words opening_notation 9 codes e))
-        ⊎ ((row : ℕ) × (cause : TapeCause) × IsFault s.size cleared_cells.words opening_notation codes row cause)
-        → (o : Outcome) × IsChecked s codes o
-    by_case (inl (well, (entry, comes))) = (
-      done (entry_line entry.at entry.cost entry.rows),
-      inl (record {
-        well = well;
-        entry = entry;
-        comes = comes;
-        outcome = refl;
-      }),
-    )
-    by_case (inr (row, cause, fault)) =
-        (refusal (rule_line row cause), inr (record { row = row; cause = cause; fault = fault; outcome = refl }))
+has_checked s codes =
+    elim (law s codes).either [
+      | inl h ↦ (_, inl (record { well = h.0; entry = h.1.0; comes = h.1.1; outcome = refl }))
+      | inr h ↦ (_, inr (record { row = h.0; cause = h.1; fault = h.2; outcome = refl }))
+    ]
 
 -- and not two of either
 checked_once : (s : Settings) (codes : List ℕ) (o other : Outcome) → IsChecked s codes o → IsChecked s codes other
@@ -71,13 +59,7 @@ pub entry_found : (s : Settings) {codes : List ℕ} {r : Report} {at orders coun
     → IfOk given (λ reply. Gives reply (done (entry_line at orders count)))
     → IfOk given (λ reply. (o : Outcome) × IsChecked s codes o × Gives reply o)
 entry_found s (Err e) f a o n gives = tt
-entry_found s {at = at} {orders} {count} (Ok reply) f a o n gives =
-    let told : done (entry_line f.entry.at f.entry.cost f.entry.rows) ≡ done (entry_line at orders count) =
-    λ i. done (entry_line (sym (a ∙ f.entry_is) i) (sym (o ∙ f.orders_are) i) (sym (n ∙ f.rows_are) i)) in (
-      done (entry_line at orders count),
-      inl (record { well = f.well; entry = f.entry; comes = f.comes; outcome = told }),
-      gives,
-    )
+entry_found s {at = at} {orders} {count} (Ok reply) f a o n gives = search rules
 
 -- the reply to a tape with a fault
 pub fault_found : (s : Settings) (codes : List ℕ) (fault : TapeFault) {line : Text} (reply : Reply)
@@ -85,5 +67,4 @@ pub fault_found : (s : Settings) (codes : List ℕ) (fault : TapeFault) {line : 
     → fault ≢ Memory → line ≡ tape_fault_line fault → Gives reply (refusal line)
     → (o : Outcome) × IsChecked s codes o × Gives reply o
 fault_found s codes Memory reply answers other told gives = absurd (other refl)
-fault_found s codes (At row cause) reply f other told gives =
-    (refusal _, inr (record { row = row; cause = cause; fault = f; outcome = ap refusal (sym told) }), gives)
+fault_found s codes (At row cause) reply f other told gives = search rules

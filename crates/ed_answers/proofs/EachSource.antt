@@ -1,10 +1,8 @@
 -- Each source is accepted or refused, and the tape of each one that is accepted reaches its linked program.
 use Rattle.ed_answers.proofs.Kit.{Size, is_two, program_of, SourceCause, SourceFault, At, Memory, Line, program_formed}
 use Rattle.ed_answers.proofs.Kit.{Ok, Text, lines_of, IsProgram, has_one_meaning, program_is_read, source_answer}
-use Rattle.ed_answers.proofs.Kit.{IsMeaningFault, ap, Bool, inl, inr, List, None, Option, refl, Some, sym, true, ℕ}
-use Rattle.ed_answers.proofs.Kit.{◌∙◌, ◌≡◌, list_all, fault, for_form, for_meaning, IsAcceptedAs, IsAcceptedOrRefused}
-use Rattle.ed_answers.proofs.Kit.{IsRefused}
-use Rattle.ed_syntax.specs.Sources.{IsProgramOrFault}
+use Rattle.ed_answers.proofs.Kit.{IsMeaningFault, Bool, inl, inr, List, None, Option, refl, Some, true, ℕ, ◌≡◌}
+use Rattle.ed_answers.proofs.Kit.{list_all, fault, for_form, for_meaning, IsAcceptedAs, IsAcceptedOrRefused, IsRefused}
 use Rattle.ed_library.specs.Entries.{catalogue}
 use Rattle.ed_library.specs.Ready.{is_ready}
 use Rattle.ed_link.proofs.Accepted.{accepted_law}
@@ -33,11 +31,11 @@ of_lines z text two lines p = by_fault (fault z lines) refl
     by_fault (Some Memory) e = absurd (law.no_memory e)
 
 every : (z : Size) (text : Text) → IsAcceptedOrRefused z text
-every z text = by_meaning (has_one_meaning.every text)
-  where
-    by_meaning : IsProgramOrFault text → IsAcceptedOrRefused z text
-    by_meaning (inl p) = of_lines z text p.0 p.1 p.2
-    by_meaning (inr f) = inr (f.0, f.1, for_form f.2)
+every z text =
+    elim (has_one_meaning.every text) [
+      | inl p ↦ of_lines z text p.0 p.1 p.2
+      | inr f ↦ inr (f.0, f.1, for_form f.2)
+    ]
 
 -- two faults of meaning of one source are equal
 same_fault : (z : Size) (text : Text) (two also : Bool) (lines others : List Line) (k other : ℕ)
@@ -47,16 +45,7 @@ same_fault z text two also lines others k other c another p q f g =
     let same = has_one_meaning.one_program text two also lines others p q in
     let e = (read_law z text lines (program_is_read text two lines p)).refuses k c f in
     let h = (read_law z text others (program_is_read text also others q)).refuses other another g in
-    let both : ◌≡◌ {A = Option SourceFault} (Some (At k c)) (Some (At other another)) =
-    sym e ∙ ap (fault z) same ∙ h in (number both, cause both)
-  where
-    number : {k other : ℕ} {c another : SourceCause}
-        → ◌≡◌ {A = Option SourceFault} (Some (At k c)) (Some (At other another)) → k ≡ other
-    number e = cc
-
-    cause : {k other : ℕ} {c another : SourceCause}
-        → ◌≡◌ {A = Option SourceFault} (Some (At k c)) (Some (At other another)) → c ≡ another
-    cause e = cc
+    ((cc), (cc))
 
 one_fault : (z : Size) (text : Text) (k other : ℕ) (c another : SourceCause) → IsRefused z text k c
     → IsRefused z text other another → (k ≡ other) × (c ≡ another)
@@ -76,10 +65,7 @@ never_both z text lines k c a (for_meaning {two} {lines = others} p f) =
     let same = has_one_meaning.one_program text two a.two others lines p a.says in
     let none = (read_law z text lines (program_is_read text a.two lines a.says)).accepts a.faultless in
     let some = (read_law z text others (program_is_read text two others p)).refuses k c f in
-    clash (sym some ∙ ap (fault z) same ∙ none)
-  where
-    clash : ◌≡◌ {A = Option SourceFault} (Some (At k c)) None → ⊥
-    clash e = cc
+    absurd (cc)
 
 pub one_answer : EachSourceHasOneAnswer
 one_answer = record {

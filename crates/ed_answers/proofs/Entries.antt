@@ -1,13 +1,11 @@
 -- The tape of a linked program leads to its state at the entry.
-use Rattle.ed_answers.proofs.Kit.{Size, State, TapeEntry, over, first_state, Line, entry_of, arrival, cost, tape}
-use Rattle.ed_answers.proofs.Kit.{Linked, [], ap, arith, Bool, drop, false, List, nat_lt, None, refl, replicate}
-use Rattle.ed_answers.proofs.Kit.{reverse, subst, sym, true, ℕ, ◌++◌, ◌+◌, ◌-◌, ◌<◌, ◌^◌, ◌∙◌, ◌∷◌, ◌≡◌, ◌≤◌}
-use Rattle.ed_answers.proofs.Kit.{nat_tests, IsLinked, data_after, linked_words, Enters, entry_state, entry_store}
-use Rattle.ed_answers.proofs.Kit.{loader_words}
-use Rattle.ed_initial.proofs.Kit.{set, ◌*◌, at_entry, ReachesEntry}
+use Rattle.ed_answers.proofs.Kit.{Size, State, TapeEntry, over, first_state, Line, entry_of, arrival, tape}
+use Rattle.ed_answers.proofs.Kit.{Linked, [], ap, arith, Bool, drop, false, List, nat_lt, refl}
+use Rattle.ed_answers.proofs.Kit.{subst, sym, true, ℕ, ◌++◌, ◌+◌, ◌-◌, ◌∙◌, ◌∷◌, ◌≡◌, ◌≤◌}
+use Rattle.ed_answers.proofs.Kit.{nat_tests, IsLinked, data_after, Enters, entry_state, entry_store}
+use Rattle.ed_initial.proofs.Kit.{set, at_entry, ReachesEntry}
 use Rattle.std.specs.List.{flat_map}
 use Rattle.std.proofs.lemmas.List.{drop-set-lt, drop-set-add}
-use Rattle.ed_words.specs.declared.order_words.TheConstants.{T_F}
 use Rattle.ed_notation.specs.Spellings.{item_rows}
 use Rattle.ed_notation.proofs.Costs.{cost-most}
 use Rattle.ed_initial.specs.Entry.{IsLoaded}
@@ -17,13 +15,12 @@ use Rattle.ed_initial.proofs.Starts.{first_length, first_store, first_words, sta
 use Rattle.ed_link.specs.Tapes.{ReachesLinkedEntry}
 use Rattle.ed_answers.specs.EntryState.{EachSourceEnters}
 use Rattle.ed_answers.proofs.EachSource.{each_source as comes_to}
+use Rattle.std.proofs.Common.{rules}
 
 -- words placed over stores that agree from 44 upwards agree there
 one : (v w : List ℕ) (p x : ℕ) (t : Bool) → nat_lt p 44 ≡ t → drop 44 v ≡ drop 44 w
     → drop 44 (set v p x) ≡ drop 44 (set w p x)
-one v w p x true e h =
-    let l : p < 44 = grind (arith, nat_tests) in
-    drop-set-lt 44 v p x l ∙ h ∙ sym (drop-set-lt 44 w p x l)
+one v w p x true e h = search (rules, drop-set-lt)
 one v w p x false e h =
     let l : 44 ≤ p = grind (arith, nat_tests) in
     let q : 44 + (p - 44) ≡ p = omega arith in
@@ -45,19 +42,7 @@ entered : (z : Size) (lines : List Line)
     → at_entry (first_state z (tape lines)) (arrival (first_state z (tape lines)).store.words lines)
     ≡ entry_state z lines
 unfolding first_state
-entered z lines = λ i.
-    let high : List ℕ = same_over (reverse (linked_words lines)) first_words (replicate 1024 0) refl i in
-    let k : ℕ = first_orders (cost lines) i in
-    record {
-      size = z;
-      store = record { words = loader_words lines ++ high; sandwich = replicate 512 false };
-      acc = 0;
-      multiplier = T_F * 2 ^ 18;
-      counter = entry_of lines;
-      tape = data_after lines;
-      last = None;
-      orders = k;
-    }
+entered z lines = search (rules, same_over, first_words, first_orders)
 
 module _ (z : Size) (lines : List Line) (loads : ReachesLinkedEntry z lines) where
   comes : ReachesEntry (first_state z (tape lines)) (arrival (first_state z (tape lines)).store.words lines)

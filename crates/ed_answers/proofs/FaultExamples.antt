@@ -26,60 +26,41 @@ taken : (z : Size) (text : List ℕ) → program_of text ≡ Ok (source text) �
 taken z text e h = (read_law z text (source text) e).accepted h
 
 -- a source that is accepted
-abbrev sound : List ℕ
-sound = codes "segment main" ++ 10 ∷ codes "here: Z F" ++ 10 ∷ codes "enter here" ++ 10 ∷ []
-
-accepted : HasNoFault Full (source sound)
-accepted = taken Full sound refl refl
+accepted : HasNoFault Full (source (codes "segment main\nhere: Z F\nenter here\n"))
+accepted = taken Full (codes "segment main\nhere: Z F\nenter here\n") refl refl
 
 -- no `enter`: at the number of lines plus 1
-abbrev lacking : List ℕ
-lacking = codes "segment main" ++ 10 ∷ codes "here: Z F" ++ 10 ∷ []
-
-no_enter_is : IsMeaningFault Full (source lacking) 3 causes.Enter
-no_enter_is = refused Full lacking refl refl
+no_enter_is : IsMeaningFault Full (source (codes "segment main\nhere: Z F\n")) 3 causes.Enter
+no_enter_is = refused Full (codes "segment main\nhere: Z F\n") refl refl
 
 -- one line with S6 and S7; S6 is the fault
-abbrev again : List ℕ
-again = codes "segment main" ++ 10 ∷ codes "main: A x F" ++ 10 ∷ codes "enter main" ++ 10 ∷ []
-
-again_is : IsMeaningFault Full (source again) 2 causes.LabelTwice
-again_is = refused Full again refl refl
+again_is : IsMeaningFault Full (source (codes "segment main\nmain: A x F\nenter main\n")) 2 causes.LabelTwice
+again_is = refused Full (codes "segment main\nmain: A x F\nenter main\n") refl refl
 
 -- a line that overlaps an earlier one, before a later unknown name
 abbrev over : List ℕ
-over = codes "segment main at 60" ++ 10 ∷ codes "Z F" ++ 10 ∷ codes "segment t at 59" ++ 10 ∷ codes "word 1" ++ 10
-    ∷ codes "word 2" ++ 10 ∷ codes "enter x" ++ 10 ∷ []
+over = codes "segment main at 60\nZ F\nsegment t at 59\nword 1\nword 2\nenter x\n"
 
 over_is : IsMeaningFault Full (source over) 5 causes.Overlap
 over_is = refused Full over refl refl
 
 -- the last location of the small store, and the one after it
 abbrev half : List ℕ
-half = codes "segment main at 511" ++ 10 ∷ codes "Z F" ++ 10 ∷ codes "Z F" ++ 10 ∷ codes "enter main" ++ 10 ∷ []
+half = codes "segment main at 511\nZ F\nZ F\nenter main\n"
 
-half_is : IsMeaningFault Small (source half) 3 causes.StoreEnd
-half_is = refused Small half refl refl
-
-half_full : HasNoFault Full (source half)
-half_full = taken Full half refl refl
+half_is : IsMeaningFault Small (source half) 3 causes.StoreEnd × HasNoFault Full (source half)
+half_is = (refused Small half refl refl, taken Full half refl refl)
 
 -- below location 44 and below 56, and an order outside every segment
-abbrev low : List ℕ
-low = codes "segment main at 43" ++ 10 ∷ codes "Z F" ++ 10 ∷ codes "enter main" ++ 10 ∷ []
+low_is : IsMeaningFault Full (source (codes "segment main at 43\nZ F\nenter main\n")) 2 causes.LoaderStore
+low_is = refused Full (codes "segment main at 43\nZ F\nenter main\n") refl refl
 
-low_is : IsMeaningFault Full (source low) 2 causes.LoaderStore
-low_is = refused Full low refl refl
-
-abbrev outside : List ℕ
-outside = codes "Z F" ++ 10 ∷ []
-
-outside_is : IsMeaningFault Full (source outside) 1 causes.OutsideSegment
-outside_is = refused Full outside refl refl
+outside_is : IsMeaningFault Full (source (codes "Z F\n")) 1 causes.OutsideSegment
+outside_is = refused Full (codes "Z F\n") refl refl
 
 -- a `use` of no routine, one that sets no parameter of two, and one that sets a letter twice
 abbrev used : List ℕ → List ℕ
-used line = codes "segment main" ++ 10 ∷ codes "x: Z F" ++ 10 ∷ line ++ 10 ∷ codes "enter x" ++ 10 ∷ []
+used line = codes "segment main\nx: Z F\n" ++ line ++ codes "\nenter x\n"
 
 uses :
     IsMeaningFault Full (source (used (codes "use tool as t"))) 3 causes.NoSuchRoutine
@@ -100,9 +81,7 @@ uses = (
 
 -- version 2: a sandwich digit; a local name seen from another segment
 abbrev second : List ℕ → List ℕ → List ℕ
-second line last = codes "version 2" ++ 10 ∷ codes "segment main" ++ 10 ∷ codes "_c: Z F" ++ 10
-    ∷ codes "segment t" ++ 10
-    ∷ line ++ 10 ∷ codes "enter main" ++ 10 ∷ last
+second line last = codes "version 2\nsegment main\n_c: Z F\nsegment t\n" ++ line ++ codes "\nenter main\n" ++ last
 
 version_two :
     IsMeaningFault Full (source (second (codes "_c: long 131072") [])) 5 causes.SandwichDigit
@@ -119,11 +98,8 @@ version_two = (
 )
 
 -- the last location of the parameters
-abbrev parameters : List ℕ
-parameters = codes "segment main at 55" ++ 10 ∷ codes "Z F" ++ 10 ∷ codes "enter main" ++ 10 ∷ []
-
-parameters_is : IsMeaningFault Full (source parameters) 2 causes.ParameterStore
-parameters_is = refused Full parameters refl refl
+parameters_is : IsMeaningFault Full (source (codes "segment main at 55\nZ F\nenter main\n")) 2 causes.ParameterStore
+parameters_is = refused Full (codes "segment main at 55\nZ F\nenter main\n") refl refl
 
 -- by hand, without the law: an order at location 43, and an order at 60 over one that an earlier line placed there
 abbrev at_place : ℕ → Line

@@ -1,12 +1,11 @@
 -- The check of rows for Initial Orders 1: each list of rows has one outcome, and the check's answer is that.
-use Rattle.ed_answers.proofs.Kit.{NoMemory, ReachesEntry1, Tape, Tape1Cause, Err, IfOk, Ok, Result, ap, inl, inr, List}
-use Rattle.ed_answers.proofs.Kit.{refl, sym, ℕ, ◌∙◌, ◌≡◌, ◌⊎◌, entry_line, IsChecked1, done, Outcome, refusal, Gives}
-use Rattle.ed_answers.proofs.Kit.{Reply}
+use Rattle.ed_answers.proofs.Kit.{NoMemory, Tape, Err, IfOk, Ok, Result, ap, inl, inr, List, refl, sym, ℕ, ◌∙◌, ◌≡◌}
+use Rattle.ed_answers.proofs.Kit.{entry_line, IsChecked1, done, Outcome, refusal, Gives, Reply}
 use Rattle.ed_initial1.specs.Checks.{Report1, Accepts1, report1}
-use Rattle.ed_initial1.specs.Faults.{IsFault1}
 use Rattle.ed_initial1.proofs.Unique.{one_verdict}
 use Rattle.ed_report.specs.FirstNotes.{rule1_line}
 use Rattle.ed_answers.proofs.Replies.{HasOne}
+use Rattle.std.proofs.Common.{rules}
 
 -- the line of a program
 abbrev told : Tape → Outcome
@@ -14,13 +13,11 @@ told t = done (entry_line 31 (report1 t).orders (report1 t).rows)
 
 -- the rows give a program or have a fault
 has_checked : (codes : List ℕ) → (o : Outcome) × IsChecked1 codes o
-has_checked codes = by_case (one_verdict codes).some
-  where
-    by_case : ((t : Tape) × ReachesEntry1 codes t) ⊎ ((row : ℕ) × (cause : Tape1Cause) × IsFault1 codes row cause)
-        → (o : Outcome) × IsChecked1 codes o
-    by_case (inl (t, comes)) = (told t, inl (record { tape = t; comes = comes; outcome = refl }))
-    by_case (inr (row, cause, fault)) =
-        (refusal (rule1_line row cause), inr (record { row = row; cause = cause; fault = fault; outcome = refl }))
+has_checked codes =
+    elim (one_verdict codes).some [
+      | inl h ↦ (told h.0, inl (record { tape = h.0; comes = h.1; outcome = refl }))
+      | inr h ↦ (_, inr (record { row = h.0; cause = h.1; fault = h.2; outcome = refl }))
+    ]
 
 -- and not two of either
 checked_once : (codes : List ℕ) (o other : Outcome) → IsChecked1 codes o → IsChecked1 codes other → o ≡ other
@@ -40,9 +37,4 @@ pub program_found : {codes : List ℕ} {r : Report1} {orders count : ℕ} (given
     → orders ≡ r.orders → count ≡ r.rows → IfOk given (λ reply. Gives reply (done (entry_line 31 orders count)))
     → IfOk given (λ reply. (o : Outcome) × IsChecked1 codes o × Gives reply o)
 program_found (Err e) a o n gives = tt
-program_found {orders} {count} (Ok reply) a o n gives =
-    let cost : orders ≡ (report1 a.tape).orders = o ∙ ap (λ (x : Report1). x.orders) a.report_is in
-    let read : count ≡ (report1 a.tape).rows = n ∙ ap (λ (x : Report1). x.rows) a.report_is in
-    let outcome : told a.tape ≡ done (entry_line 31 orders count) =
-    λ i. done (entry_line 31 (sym cost i) (sym read i)) in
-    (done (entry_line 31 orders count), inl (record { tape = a.tape; comes = a.comes; outcome = outcome }), gives)
+program_found {orders} {count} (Ok reply) a o n gives = search rules

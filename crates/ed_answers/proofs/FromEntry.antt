@@ -1,10 +1,9 @@
 -- The run of an accepted source's tape is the run from the state at its entry.
-use Rattle.ed_answers.proofs.Kit.{NoMemory, paper, least, RunEnd, Settings, State, progress, state_after, AllWent}
-use Rattle.ed_answers.proofs.Kit.{run_end, ran_later, first_state, Line, Err, IfOk, Ok, Result, Text, entry_of, cost}
-use Rattle.ed_answers.proofs.Kit.{tape, Linked, [], ap, arith, Bool, if◌then◌else◌, List, refl, subst, sym, ℕ, ◌++◌}
-use Rattle.ed_answers.proofs.Kit.{◌-◌, ◌<◌, ◌∙◌, ◌≡◌, ◌≤◌, IsLinked, entry_note, Enters, entry_state, entry_store}
-use Rattle.ed_answers.proofs.Kit.{IsEntryStore, paper_room, post_mortem_codes, ran_outcome, run_of, with_post_mortem}
-use Rattle.ed_answers.proofs.Kit.{entered_before}
+use Rattle.ed_answers.proofs.Kit.{NoMemory, least, RunEnd, Settings, State, progress, state_after, AllWent, run_end}
+use Rattle.ed_answers.proofs.Kit.{ran_later, first_state, Line, Err, IfOk, Ok, Result, entry_of, cost, tape, Linked}
+use Rattle.ed_answers.proofs.Kit.{[], ap, arith, Bool, if◌then◌else◌, List, refl, subst, sym, ℕ, ◌-◌, ◌<◌, ◌∙◌, ◌≡◌}
+use Rattle.ed_answers.proofs.Kit.{◌≤◌, IsLinked, entry_note, Enters, entry_state, entry_store, IsEntryStore}
+use Rattle.ed_answers.proofs.Kit.{paper_room, run_of, entered_before}
 use Rattle.std.proofs.lemmas.Bool.{le-leb}
 use Rattle.ed_answers.specs.FromEntry.{AnswersFromEntry}
 use Rattle.ed_answers.specs.Headline.{RunsFromEntry}
@@ -12,6 +11,8 @@ use Rattle.ed_answers.specs.Replies.{IsRunResult}
 use Rattle.ed_answers.specs.declared.running.FinishedRun.{FinishedRun}
 use Rattle.ed_answers.proofs.Entries.{enters as enters_of}
 use Rattle.ed_answers.proofs.Keeping.{run_follows}
+use Rattle.std.proofs.lemmas.Grind.{common_steps}
+use Rattle.std.proofs.Common.{rules}
 
 -- ---- from the entry
 
@@ -38,9 +39,7 @@ run_end-silent limit resumes room k s went below =
 -- the run from Start is that from the state at the entry, with the limit less the cost
 run_on : (s : Settings) (lines : List Line) → Enters s.size lines (entry_store lines) → cost lines ≤ s.limit
     → run_of s (tape lines) ≡ run_end (s.limit - cost lines) s.resumes paper_room (entry_state s.size lines)
-run_on s lines enters fits =
-    ran_later s.limit s.resumes paper_room (cost lines) (first_state s.size (tape lines)) enters.went fits
-    ∙ ap (run_end (s.limit - cost lines) s.resumes paper_room) enters.state_is
+run_on s lines enters fits = search (rules, ran_later)
 
 -- so the run of a machine that was led to the entry of a linked program only has to continue
 pub goes_on : (s : Settings) (k : Linked) (entered : State) (r : Result FinishedRun NoMemory) → entered.orders ≤ s.limit
@@ -62,30 +61,10 @@ goes_on s k entered (Ok left) fits at is = λ lines linked.
 
 pub runs_from_entry : (s : Settings) (lines : List Line) → Enters s.size lines (entry_store lines)
     → IsEntryStore lines (entry_store lines) → RunsFromEntry s lines
-runs_from_entry s lines enters store_is = record {
-  store = entry_store lines;
-  store_is = store_is;
-  enters = enters;
-  runs = run_on s lines enters;
-  short = run_end-silent s.limit s.resumes paper_room (cost lines) (first_state s.size (tape lines)) enters.went;
-}
+runs_from_entry s lines enters store_is = grind (arith, common_steps, run_on, run_end-silent)
 
 -- ---- what `run` answers
 
 pub answers_from_entry : (s : Settings) (lines : List Line) → Enters s.size lines (entry_store lines)
     → AnswersFromEntry s lines
-answers_from_entry s lines enters = record {
-  enters = enters;
-  entered = λ fits.
-      let from : RunEnd = run_end (s.limit - cost lines) s.resumes paper_room (entry_state s.size lines) in
-      let kept : cost lines ≤ from.state.orders =
-      (run_follows (s.limit - cost lines) s.resumes paper_room (entry_state s.size lines)).later in
-      ap (λ (e : RunEnd). ran_outcome (entered_before lines e.state) (with_post_mortem s.post_mortem e))
-      (run_on s lines enters fits)
-      ∙ ap (λ (before : Text). ran_outcome before (with_post_mortem s.post_mortem from))
-      (reached lines from.state kept);
-  short = λ below.
-      let none = run_end-silent s.limit s.resumes paper_room (cost lines)
-      (first_state s.size (tape lines)) enters.went below in
-      ap (λ codes. paper (codes ++ post_mortem_codes s.post_mortem (run_of s (tape lines)).state)) none;
-}
+answers_from_entry s lines enters = search (rules, run_follows, run_on, reached, run_end-silent)

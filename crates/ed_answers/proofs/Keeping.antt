@@ -1,18 +1,14 @@
 -- What a run keeps: the size of a machine, and a bound on the count of its orders. So a post-mortem can be printed.
-use Rattle.ed_answers.proofs.Kit.{Size, least_below, Settings, Window, State, run_end, run_orders, first_state, ap}
-use Rattle.ed_answers.proofs.Kit.{arith, List, None, Option, Some, subst, sym, ℕ, ◌+◌, ◌∙◌, ◌≡◌, ◌≤◌}
-use Rattle.std.proofs.Common.{IfSome}
+use Rattle.ed_answers.proofs.Kit.{Size, least_below, Settings, Window, State, run_end, first_state, ap}
+use Rattle.ed_answers.proofs.Kit.{arith, List, None, Option, Some, ℕ, ◌+◌, ◌∙◌, ◌≡◌, ◌≤◌}
+use Rattle.std.proofs.Common.{IfSome, rules}
 use Rattle.ed_machine.proofs.Keeping.{Follows, steps_follow}
 use Rattle.ed_run.specs.SettingRanges.{AreSettingsInRange, IsWindowOf}
 use Rattle.ed_answers.specs.Replies.{IsPrintableIn}
 
 pub run_follows : (limit resumes room : ℕ) (s : State) → Follows limit s (run_end limit resumes room s).state
 unfolding run_end
-run_follows limit resumes room s =
-    let k = run_orders limit resumes room s in
-    let few : k ≤ limit = least_below _ limit in
-    let f = steps_follow k s in
-    record { size_is = f.size_is; fewer = f.fewer; later = f.later; soon = omega (arith, f.soon, few) }
+run_follows limit resumes room s = search (rules, least_below, steps_follow)
 
 -- a run ends on a machine of the size of the first one
 pub ran_size : (limit resumes room : ℕ) (s last : State) → last ≡ (run_end limit resumes room s).state
@@ -27,17 +23,13 @@ first_size z rows s is = ap (λ (t : State). t.size) is
 -- it counts at most as many further orders as its limit
 pub ran_orders : (limit resumes room : ℕ) (s last : State) → last ≡ (run_end limit resumes room s).state
     → last.orders ≤ s.orders + limit
-ran_orders limit resumes room s last e =
-    let f = run_follows limit resumes room s in
-    let same = ap (λ (t : State). t.orders) e in
-    omega (arith, f.soon, same)
+ran_orders limit resumes room s last e = search (rules, run_follows)
 
 -- the words in the window of settings can be printed from a state
 printable_in : (m : State) (z : Size) (window : Option Window) → m.size ≡ z → m.orders ≤ 100000000
     → IfSome window (IsWindowOf z) → IfSome window (IsPrintableIn m)
 printable_in m z None size orders is = tt
-printable_in m z (Some w) size orders is =
-    (subst (λ (y : Size). IsWindowOf y w) (sym size) is, omega (arith, orders))
+printable_in m z (Some w) size orders is = search rules
 
 pub is_fitting-printable : (s : Settings) (m : State) → AreSettingsInRange s → m.size ≡ s.size → m.orders ≤ s.limit
     → IfSome s.post_mortem (IsPrintableIn m)

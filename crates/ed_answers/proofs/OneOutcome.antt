@@ -7,6 +7,7 @@ use Rattle.ed_answers.specs.Outcome.{too_long_outcome}
 use Rattle.ed_answers.specs.declared.input.TheConstants.{INPUT_BYTES}
 use Rattle.ed_answers.proofs.Replies.{HasOne, text_outcome}
 use Rattle.ed_answers.proofs.Sources.{some_outcome, source_outcome}
+use Rattle.std.proofs.Common.{rules}
 
 pub known_once : (due : Outcome) → HasOneOutcome (known due)
 known_once due = record { some = λ input. (due, refl); once = λ input o other p q. sym p ∙ q }
@@ -23,15 +24,9 @@ text_once answers (open_comment place) o other one p q = sym p ∙ q
 -- an input that has an outcome has one too if inputs may be too long
 pub some_within : (answers : Text → Outcome → Type 0) (input : Text) (o : Outcome) → answers input o
     → (o : Outcome) × WithinLimit answers input o
-some_within answers input o a = by_length (split (length input))
-  where
-    split : (n : ℕ) → (n ≤ INPUT_BYTES) ⊎ (INPUT_BYTES < n)
-    split n = grind arith
-
-    by_length : (length input ≤ INPUT_BYTES) ⊎ (INPUT_BYTES < length input)
-        → (o : Outcome) × WithinLimit answers input o
-    by_length (inl few) = (o, inl (few, a))
-    by_length (inr many) = (too_long_outcome, inr (many, refl))
+some_within answers input o a =
+    let split : (length input ≤ INPUT_BYTES) ⊎ (INPUT_BYTES < length input) = grind arith in
+    elim split [ inl few ↦ (o, inl (few, a)) | inr many ↦ (too_long_outcome, inr (many, refl)) ]
 
 pub within_once : (answers : Text → Outcome → Type 0) (input : Text) (o other : Outcome)
     → (answers input o → answers input other → o ≡ other) → WithinLimit answers input o
@@ -62,7 +57,4 @@ source_once z accepted = record {
 -- a source that the program makes
 pub made_once : (z : Size) (accepted : List Line → Outcome) (text : Text)
     → HasOneOutcome (of_made (OfSource z accepted text))
-made_once z accepted text = record {
-  some = λ input. some_outcome z accepted text;
-  once = λ input o other. source_outcome z accepted text o other;
-}
+made_once z accepted text = search (rules, some_outcome, source_outcome)

@@ -4,6 +4,7 @@ use Rattle.ed_answers.proofs.Kit.{subst, sym, ℕ, ◌∙◌, ◌≡◌, reading
 use Rattle.ed_answers.proofs.Kit.{refusal, Gives, Replies, Rejection, Reply}
 use Rattle.ed_codes.specs.declared.tape.TextFault.TheVariants.{NoRow, OpenComment}
 use Rattle.ed_report.specs.Notes.{text_fault_line}
+use Rattle.ed_answers.specs.Answer.{Answer}
 use Rattle.ed_answers.specs.Replies.{RefusesText}
 use Rattle.ed_answers.specs.declared.reply.Rejection.TheVariants.{Memory, Refused}
 
@@ -56,17 +57,22 @@ pub Replies-rejected : (answers : List ℕ → Outcome → Type 0) (input : Text
 Replies-rejected answers input (Refused reply) one refuses = refused_at answers (reading input) reply refuses
 Replies-rejected answers input Memory one refuses = text_outcome answers one (reading input)
 
+-- what holds of a rejection holds of it if it is passed on by `?`
+pub passed_on : (answer : Answer) (input : Text) (r : Result Reply Rejection) (e : Rejection)
+    → Replies answer input (Err e) → IsErr r × IsErrAnd r (λ handed. handed ≡ e) → Replies answer input r
+passed_on answer input (Ok reply) e replied is = absurd is.1
+passed_on answer input (Err handed) e replied is =
+    subst (λ (x : Rejection). Replies answer input (Err x)) (sym is.1) replied
+
 -- a rejection passed on by `?` is the reply to a text
 pub refusal_replied : (answers : List ℕ → Outcome → Type 0) (input : Text) (r : Result Reply Rejection) (e : Rejection)
     → HasOne answers → RefusesText (reading input) e → IsErr r × IsErrAnd r (λ handed. handed ≡ e)
     → Replies (of_rows answers) input r
-refusal_replied answers input (Ok reply) e one refuses handed = absurd (cc)
-refusal_replied answers input (Err handed) e one refuses is =
-    Replies-rejected answers input handed one (subst (RefusesText (reading input)) (sym is.1) refuses)
+refusal_replied answers input r e one refuses =
+    passed_on (of_rows answers) input r e (Replies-rejected answers input e one refuses)
 
 -- if no memory is found, there is an outcome all the same
 pub none_replied : (answers : List ℕ → Outcome → Type 0) (input : Text) (r : Result Reply Rejection) → HasOne answers
     → IsErr r × IsErrAnd r (λ handed. handed ≡ Memory) → Replies (of_rows answers) input r
-none_replied answers input (Ok reply) one handed = absurd (cc)
-none_replied answers input (Err Memory) one is = text_outcome answers one (reading input)
-none_replied answers input (Err (Refused reply)) one is = absurd (cc)
+none_replied answers input r one =
+    passed_on (of_rows answers) input r Memory (text_outcome answers one (reading input))

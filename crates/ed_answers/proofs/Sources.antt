@@ -1,13 +1,12 @@
 -- From what is made of a source to the outcome of an input.
 use Rattle.ed_answers.proofs.Kit.{IsErr, IsErrAnd, NoMemory, Size, paper, Ending, RunEnd, Settings, Window, State}
 use Rattle.ed_answers.proofs.Kit.{text_of, HasFormFault, SourceCause, SourceFault, At, Memory, Line, Err, IfErr, IfOk}
-use Rattle.ed_answers.proofs.Kit.{Ok, Result, Text, IsProgram, HasMeaningFault, tape, Linked, Placed, [], ap}
-use Rattle.ed_answers.proofs.Kit.{append-nil, Bool, inl, inr, List, map, None, Option, refl, subst, sym, ℕ, ◌++◌, ◌∙◌}
-use Rattle.ed_answers.proofs.Kit.{◌≡◌, canonicals, IsLinked, after_text, linked_places, listing, ending_line}
-use Rattle.ed_answers.proofs.Kit.{entry_state, entry_store, done, Outcome, refusal, for_form, for_meaning}
-use Rattle.ed_answers.proofs.Kit.{IsAcceptedAs, IsAcceptedOrRefused, IsRefused, Gives, Replies, post_mortem_codes}
-use Rattle.ed_answers.proofs.Kit.{ran_outcome, run_of, status_of, with_post_mortem, entered_before, listing_outcome}
-use Rattle.ed_answers.proofs.Kit.{of_source, OfSource, punch_outcome, run_outcome, Rejection, Reply}
+use Rattle.ed_answers.proofs.Kit.{Ok, Result, Text, IsProgram, HasMeaningFault, Linked, Placed, [], ap, append-nil}
+use Rattle.ed_answers.proofs.Kit.{Bool, inl, inr, List, map, Option, refl, subst, sym, ℕ, ◌++◌, ◌∙◌, ◌≡◌, canonicals}
+use Rattle.ed_answers.proofs.Kit.{IsLinked, after_text, listing, ending_line, entry_state, done, Outcome, for_form}
+use Rattle.ed_answers.proofs.Kit.{for_meaning, IsAcceptedAs, IsRefused, Gives, Replies, post_mortem_codes, ran_outcome}
+use Rattle.ed_answers.proofs.Kit.{run_of, status_of, with_post_mortem, listing_outcome, of_source, OfSource}
+use Rattle.ed_answers.proofs.Kit.{punch_outcome, run_outcome, Rejection, Reply}
 use Rattle.ed_report.specs.Notes.{source_fault_line}
 use Rattle.ed_answers.specs.FromEntry.{EachAnswerIsFromEntry}
 use Rattle.ed_answers.specs.Headline.{Headline}
@@ -17,7 +16,9 @@ use Rattle.ed_answers.proofs.EachSource.{one_answer}
 use Rattle.ed_answers.proofs.Entries.{each_source}
 use Rattle.ed_answers.proofs.EntryWords.{each_entry_store_is}
 use Rattle.ed_answers.proofs.FromEntry.{answers_from_entry, runs_from_entry}
+use Rattle.ed_answers.proofs.Replies.{passed_on}
 use Rattle.ed_answers.specs.declared.reply.Rejection.TheVariants as rejection
+use Rattle.std.proofs.Common.{rules}
 
 -- ---- what is made of a source
 
@@ -32,17 +33,15 @@ accepted_is z accepted text lines a = inr (lines, a, refl)
 -- a source has an outcome, and only one
 pub some_outcome : (z : Size) (accepted : List Line → Outcome) (text : Text)
     → (o : Outcome) × OfSource z accepted text o
-some_outcome z accepted text = by_answer (one_answer.every z text)
-  where
-    by_answer : IsAcceptedOrRefused z text → (o : Outcome) × OfSource z accepted text o
-    by_answer (inl a) = (accepted a.0, inr (a.0, a.1, refl))
-    by_answer (inr r) = (refusal (source_fault_line (At r.0 r.1)), inl (r.0, r.1, r.2, refl))
+some_outcome z accepted text =
+    elim (one_answer.every z text) [
+      | inl a ↦ (accepted a.0, inr (a.0, a.1, refl))
+      | inr r ↦ (_, inl (r.0, r.1, r.2, refl))
+    ]
 
 pub source_outcome : (z : Size) (accepted : List Line → Outcome) (text : Text) (o other : Outcome)
     → OfSource z accepted text o → OfSource z accepted text other → o ≡ other
-source_outcome z accepted text o other (inl r) (inl q) =
-    let same = one_answer.one_fault z text r.0 q.0 r.1 q.1 r.2 q.2 in
-    sym r.3 ∙ (λ i. refusal (source_fault_line (At (same.0 i) (same.1 i)))) ∙ q.3
+source_outcome z accepted text o other (inl r) (inl q) = search (rules, one_answer)
 source_outcome z accepted text o other (inl r) (inr b) =
     absurd (one_answer.never_both z text b.0 r.0 r.1 b.1 r.2)
 source_outcome z accepted text o other (inr a) (inl q) =
@@ -60,15 +59,13 @@ pub form_passed_on : (z : Size) (text : Text) (f : SourceFault) (r : Result Link
     → IsErr r × IsErrAnd r (λ handed. handed ≡ f)
     → IfErr r (λ fault. (line : ℕ) (cause : SourceCause) → fault ≡ At line cause → IsRefused z text line cause)
 form_passed_on z text f (Ok k) is handed = tt
-form_passed_on z text f (Err e) is handed =
-    λ line cause same. form_refused z is line cause (sym handed.1 ∙ same)
+form_passed_on z text f (Err e) is handed = search (rules, form_refused)
 
 -- the linked program of a source that is read, or a fault of meaning
 pub read_linked : (z : Size) {text : Text} {two : Bool} {lines : List Line} (r : Result Linked SourceFault)
     → IsProgram text two lines → IfOk r (λ k. IsLinked z lines k)
     → IfOk r (λ k. (all : List Line) × IsAcceptedAs z text all × IsLinked z all k)
-read_linked z {text} {two} {lines} (Ok k) p is =
-    (lines, record { two = two; says = p; faultless = is.accepted }, is)
+read_linked z {text} {two} {lines} (Ok k) p is = search rules
 read_linked z (Err f) p is = tt
 
 pub meaning_refused : (z : Size) {text : Text} {two : Bool} {lines : List Line} (r : Result Linked SourceFault)
@@ -98,25 +95,21 @@ linked_replied z accepted input k reply l g = (accepted l.0, accepted_is z accep
 -- of one that is refused
 source_rejected : (z : Size) (accepted : List Line → Outcome) (input : Text) (e : Rejection)
     → LinksSource z input (Err e) → Replies (of_source z accepted) input (Err e)
-source_rejected z accepted input (rejection.Refused reply) l =
-    (refusal (source_fault_line (At l.0 l.1)), inl (l.0, l.1, l.2, refl), l.3)
+source_rejected z accepted input (rejection.Refused reply) l = search rules
 source_rejected z accepted input rejection.Memory l = let some = some_outcome z accepted input in (some.0, some.1, tt)
 
 -- if it is passed on by `?`
 pub source_refused : (z : Size) (accepted : List Line → Outcome) (input : Text) (r : Result Reply Rejection)
     (e : Rejection) → LinksSource z input (Err e) → IsErr r × IsErrAnd r (λ handed. handed ≡ e)
     → Replies (of_source z accepted) input r
-source_refused z accepted input (Ok reply) e l is = absurd (cc)
-source_refused z accepted input (Err handed) e l is =
-    source_rejected z accepted input handed (subst (λ (x : Rejection). LinksSource z input (Err x)) (sym is.1) l)
+source_refused z accepted input r e l =
+    passed_on (of_source z accepted) input r e (source_rejected z accepted input e l)
 
 -- of one for which no memory is found
 pub source_unanswered : (z : Size) (accepted : List Line → Outcome) (input : Text) (r : Result Reply Rejection)
     → IsErr r × IsErrAnd r (λ handed. handed ≡ rejection.Memory) → Replies (of_source z accepted) input r
-source_unanswered z accepted input (Ok reply) is = absurd (cc)
-source_unanswered z accepted input (Err rejection.Memory) is =
-    let some = some_outcome z accepted input in (some.0, some.1, tt)
-source_unanswered z accepted input (Err (rejection.Refused reply)) is = absurd (cc)
+source_unanswered z accepted input r =
+    passed_on (of_source z accepted) input r rejection.Memory (source_rejected z accepted input rejection.Memory tt)
 
 -- ---- that it is run from its entry
 
@@ -142,13 +135,7 @@ pub ran_gives : (window : Option Window) (before : Text) {note : Text} (r : RunE
       status = status_of ending;
     })
     → Gives reply (ran_outcome before (with_post_mortem window r))
-ran_gives window before {note} r {ending} {state} {codes} {reply} e s c n gives =
-    let line : note ≡ before ++ ending_line r.ending r.state = n ∙ (λ i. before ++ ending_line (e i) (s i)) in
-    let same : ◌≡◌ {A = Outcome}
-    (record { out = paper (codes ++ post_mortem_codes window state); note = note; status = status_of ending })
-    (ran_outcome before (with_post_mortem window r)) =
-    λ i. record { out = paper (c i ++ post_mortem_codes window (s i)); note = line i; status = status_of (e i) } in
-    subst (Gives reply) same gives
+ran_gives window before {note} r {ending} {state} {codes} {reply} e s c n gives = search rules
 
 -- without a post-mortem
 pub ran_gives_alone : (r : RunEnd) {ending : Ending} {state : State} {codes : List ℕ} {reply : Reply}
@@ -159,9 +146,7 @@ pub ran_gives_alone : (r : RunEnd) {ending : Ending} {state : State} {codes : Li
       status = status_of ending;
     })
     → Gives reply (ran_outcome [] r)
-ran_gives_alone r {reply = reply} e s c gives =
-    subst (λ (codes : List ℕ). Gives reply (ran_outcome [] (record r { codes = codes }))) (append-nil r.codes)
-    (ran_gives None [] r e s c refl gives)
+ran_gives_alone r {reply = reply} e s c gives = search (rules, append-nil, ran_gives)
 
 -- of a source that is accepted
 pub run_replied : (s : Settings) (input : Text) (noted : NotedRun) (reply : Reply) → RunsSource s input (Ok noted)
@@ -171,40 +156,24 @@ pub run_replied : (s : Settings) (input : Text) (noted : NotedRun) (reply : Repl
       status = status_of noted.ran.ending;
     })
     → Replies (of_source s.size (run_outcome s)) input (Ok reply)
-run_replied s input noted reply (lines, accepted, is) gives =
-    let r = run_of s (tape lines) in
-    let note : noted.note.items ≡ entered_before lines r.state ++ ending_line noted.ran.ending noted.ran.machine =
-    is.note_is
-    ∙ ap (λ (m : State). entered_before lines m ++ ending_line noted.ran.ending noted.ran.machine) is.ran.state_is in (
-      run_outcome s lines,
-      accepted_is s.size (run_outcome s) input lines accepted,
-      ran_gives s.post_mortem (entered_before lines r.state) r is.ran.ending_is is.ran.state_is is.ran.codes_are note
-          gives,
-    )
+run_replied s input noted reply (lines, accepted, is) gives = search (rules, accepted_is, ran_gives)
 
 -- of one that is refused, if that is passed on by `?`
 pub source_not_run : (s : Settings) (text : Text) (e : Rejection) (r : Result NotedRun Rejection)
     → LinksSource s.size text (Err e) → IsErr r × IsErrAnd r (λ handed. handed ≡ e) → RunsSource s text r
 source_not_run s text e (Ok noted) l is = absurd (cc)
-source_not_run s text e (Err handed) l is =
-    subst (λ (x : Rejection). LinksSource s.size text (Err x)) (sym is.1) l
+source_not_run s text e (Err handed) l is = search rules
 
 -- ---- the tape and the listing
 
 pub punch_gives : (z : Size) (k : Linked) (reply : Reply) {text : Text}
     → text ≡ text_of (canonicals k.items.items) ++ after_text k.after.items → Gives reply (done text)
     → (lines : List Line) → IsLinked z lines k → Gives reply (punch_outcome lines)
-punch_gives z k reply same gives lines is =
-    subst (λ (t : Text). Gives reply (done t))
-    (same ∙ (λ i. text_of (canonicals (is.items i)) ++ after_text (is.after i))) gives
+punch_gives z k reply same gives lines is = search rules
 
 pub listing_gives : (z : Size) (k : Linked) (m : State) (words : List Placed) (r : Result Reply NoMemory)
     → ((lines : List Line) → IsLinked z lines k → m ≡ entry_state z lines) → words ≡ k.words.items
     → IfOk r (λ reply. Gives reply (done (listing m.store (map (λ (p : Placed). p.place) words))))
     → IfOk r (λ reply. (lines : List Line) → IsLinked z lines k → Gives reply (listing_outcome lines))
 listing_gives z k m words (Err e) entry same gives = tt
-listing_gives z k m words (Ok reply) entry same gives = λ lines is.
-    let at : m.store ≡ entry_store lines = ap (λ (x : State). x.store) (entry lines is) in
-    let places : List Placed → List ℕ = map (λ (p : Placed). p.place) in
-    let all : places words ≡ linked_places lines = ap places same ∙ is.places in
-    subst (λ (t : Text). Gives reply (done t)) (λ i. listing (at i) (all i)) gives
+listing_gives z k m words (Ok reply) entry same gives = search rules

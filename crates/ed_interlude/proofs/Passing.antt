@@ -5,7 +5,7 @@ use Rattle.ed_interlude.proofs.Kit.{State, state_after, TapeEntry, Failed, Memor
 use Rattle.ed_interlude.proofs.Kit.{returned_line, entry_done, entry_report, finished, Finishes, first_part, GoesBack}
 use Rattle.ed_interlude.proofs.Kit.{LeadsTo, part_after, part_entry_state, part_report, PartsReport, read_before}
 use Rattle.ed_interlude.proofs.Kit.{ReportsParts, ReturnsToLoader, TapePart, Ahead, directive, IsReturned, PartsEnd}
-use Rattle.std.proofs.Common.{◌%◌, Result, Ok, IfOk, Vec}
+use Rattle.std.proofs.Common.{◌%◌, Result, Ok, IfOk, Vec, rules}
 use Rattle.std.specs.declared.alloc.Global.{Global}
 use Rattle.ed_words.specs.Words.{order_of}
 use Rattle.ed_words.specs.declared.memory.NoMemory.{NoMemory}
@@ -27,21 +27,11 @@ use Rattle.ed_interlude.proofs.Tales.{behind_opens, from_entry, some_told}
 
 -- a prefix of a text is one of a longer text
 longer : (a b : Option (List ℕ)) (xs ys text : List ℕ) → text ≡ xs ++ ys → GainsPart a b xs → GainsPart a b text
-longer a b xs ys text is g = record {
-  part = g.part;
-  rest = g.rest ++ ys;
-  whole = is ∙ ap (λ t. t ++ ys) g.whole ∙ append_assoc g.part g.rest ys;
-  gains = g.gains;
-}
+longer a b xs ys text is g = search (rules, append_assoc)
 
 -- a text, and a prefix of the one after it
 and_part : (a b c : Option (List ℕ)) (xs ys : List ℕ) → Gains a b xs → GainsPart b c ys → GainsPart a c (xs ++ ys)
-and_part a b c xs ys whole g = record {
-  part = xs ++ g.part;
-  rest = g.rest;
-  whole = ap (λ t. xs ++ t) g.whole ∙ sym (append_assoc xs g.part g.rest);
-  gains = gains_more a b c xs g.part whole g.gains;
-}
+and_part a b c xs ys whole g = search (rules, append_assoc, gains_more)
 
 module _ (limit rows : ℕ) (p : TapePart) where
   -- ---- what breaks off
@@ -83,15 +73,7 @@ module _ (limit rows : ℕ) (p : TapePart) where
   pub line_stops : {l : PartLine} {last : State} (a c d : Option (List ℕ)) → WritesLine limit rows p l → last ≡ l.state
       → Gains a c l.before → (fault : WriteStop) → GainsPart c d l.text → (fault ≡ Memory → d ≡ c)
       → BreaksPart limit rows p fault last a d
-  line_stops {l} a c d is state before Failed g same = record {
-    line = l;
-    is = is;
-    state_is = state;
-    part = g.part;
-    rest = g.rest;
-    whole = g.whole;
-    gains = gains_more a c d l.before g.part before g.gains;
-  }
+  line_stops {l} a c d is state before Failed g same = search (rules, gains_more)
   line_stops {l} a c d is state before Memory g same =
       inr (record { line = l; is = is; state_is = state; gains = rw (same refl) before })
 
@@ -108,9 +90,7 @@ module _ {limit rows : ℕ} {p first : TapePart} {a c : Option (List ℕ)} (h : 
   -- the part breaks off
   pub tells_part : BreaksReport limit rows p c d
       → (m : ℕ) × (t : PartsReport) × ReportsParts limit rows m first t × GainsPart a d t.text
-  tells_part b =
-      let whole = h.completes b.returns b.tale b.told in
-      (whole.0, _, whole.1, and_part a c d h.text b.tale.text h.gains b.gains)
+  tells_part b = search (rules, and_part)
 
   -- it is the last one
   pub tells_all : {end : PartsEnd} {last : State} → Passes limit rows p (Ok (PartEnded end)) last c d
@@ -146,12 +126,7 @@ pub returned_is : {limit : ℕ} {p : TapePart} (b : GoesBack limit p) {last : St
     → last ≡ (part_after p b).state → word ≡ directive last → order ≡ order_of word → done ≡ (part_after p b).done
     → returned_line order.address done ≡ return_report p b
 returned_is {limit} {p} b {last} {word} {done} {order} is is_word is_order count =
-    let leaves = b.comes.home.leaves in
-    let whole : word ≡ directive (part_after p b).state = is_word ∙ ap directive is in
-    let same : order.address ≡ address (directive (part_after p b).state) =
-    ap (λ (o : Order). o.address) is_order
-    ∙ address_is (directive (part_after p b).state) word whole leaves.least leaves.most in
-    λ i. returned_line (same i) (count i)
+    search (rules, directive, address, address_is)
 
 -- a text that was made, as an equal text
 pub made_as : (r : Result (Vec ℕ Global) NoMemory) (xs ys : List ℕ) → xs ≡ ys
@@ -173,9 +148,7 @@ module _ (limit : ℕ) (p : TapePart) (e : TapeEntry) {cost : ℕ} {m : State} (
 
   pub finishes_there : {k : ℕ} {ending : Ending} → Finishes (limit - (p.done + cost)) k m ending
       → Finishes (limit - entry_done p e) k (part_entry_state p e) ending
-  finishes_there {k} {ending} f =
-      subst (λ (s : State). Finishes (limit - entry_done p e) k s ending) part_entry_state-there
-      (subst (λ n. Finishes n k m ending) left_is f)
+  finishes_there {k} {ending} f = search (rules, part_entry_state-there, left_is)
 
   abbrev pub back_from : {k : ℕ} → LeadsTo p e → p.done + cost ≤ limit → ReturnsToLoader (limit - (p.done + cost)) k m
       → GoesBack limit p

@@ -10,7 +10,7 @@ use Rattle.ed_machine.specs.declared.turn.Turn.TheVariants.{Stopped as Stops}
 use Rattle.ed_machine.proofs.LeastNumbers.{first_within}
 use Rattle.ed_machine.proofs.Steps.{next_stops}
 use Rattle.ed_interlude.specs.Parts.{IsUnderWay, program_end}
-use Rattle.ed_interlude.proofs.Homes.{Decided, home_or_not}
+use Rattle.ed_interlude.proofs.Homes.{home_or_not}
 use Rattle.ed_run.proofs.Ends as ends
 
 -- a turn that only goes on or prints
@@ -69,12 +69,14 @@ module _ (left : ℕ) (s : State) where
 
   -- it ends at one number of orders, with one ending
   pub end_once : (j k : ℕ) (d e : Ending) → Finishes left j s d → Finishes left k s e → (j ≡ k) × (d ≡ e)
-  end_once j k d e a b = by_place (cases_order j k)
-    where
-      by_place : (j ≡ k) ⊎ ((j < k) ⊎ (k < j)) → (j ≡ k) × (d ≡ e)
-      by_place (inl same) = (same, same_Some d e (sym a.ends ∙ ap (λ n. program_end left n s) same ∙ b.ends))
-      by_place (inr (inl low)) = absurd (none-some d (sym (b.runs j low).no_end ∙ a.ends))
-      by_place (inr (inr high)) = absurd (none-some e (sym (a.runs k high).no_end ∙ b.ends))
+  end_once j k d e a b =
+      elim (cases_order j k) [
+        | inl same ↦ (same, same_Some d e (sym a.ends ∙ ap (λ n. program_end left n s) same ∙ b.ends))
+        | inr other ↦ elim other [
+          | inl low ↦ absurd (none-some d (sym (b.runs j low).no_end ∙ a.ends))
+          | inr high ↦ absurd (none-some e (sym (a.runs k high).no_end ∙ b.ends))
+        ]
+      ]
 
   -- ---- there is one of them
 
@@ -83,18 +85,19 @@ module _ (left : ℕ) (s : State) where
 
   -- what it did by k orders, or what it does after that if it is still under way
   here_or_on : (k : ℕ) → RunsOn left k s → (IsUnderWay left k s → CameTo left s) → CameTo left s
-  here_or_on k runs on = by_home (home_or_not (state_after k s)) (cases_lt 0 (progress k s).stops)
+  here_or_on k runs on =
+      elim (cases_lt 0 (progress k s).stops) [
+        | inl many ↦ (k, inr (Stopped, record { runs = runs; ends = stop_ends k many; stopped = λ h. refl }))
+        | inr none ↦ elim (home_or_not (state_after k s)) [
+          | inl home ↦ (k, inl (record { runs = runs; stops = omega arith; home = home }))
+          | inr away ↦ by_end away (program_end left k s) refl
+        ]
+      ]
     where
       by_end : (IsReturned (state_after k s) → ⊥) → (o : Option Ending) → program_end left k s ≡ o → CameTo left s
       by_end away None is = on (record { no_end = is; away = away })
       by_end away (Some ending) is =
           (k, inr (ending, record { runs = runs; ends = is; stopped = λ home. absurd (away home) }))
-
-      by_home : Decided (IsReturned (state_after k s)) → (0 < (progress k s).stops) ⊎ ((progress k s).stops ≤ 0)
-          → CameTo left s
-      by_home home (inl many) = (k, inr (Stopped, record { runs = runs; ends = stop_ends k many; stopped = λ h. refl }))
-      by_home (inl home) (inr none) = (k, inl (record { runs = runs; stops = omega arith; home = home }))
-      by_home (inr away) (inr none) = by_end away (program_end left k s) refl
 
   seek : (r k : ℕ) → k + r ≡ left → RunsOn left k s → CameTo left s
   seek zero k is runs = here_or_on k runs (λ way. absurd (way_within k way (omega arith)))
@@ -140,27 +143,15 @@ module _ {left : ℕ} {s : State} {k : ℕ} {m : State} (r : Running left s k m)
     way none = one_more left s k r.runs (record { no_end = end_there ∙ none; away = away_there away })
 
     stops_more : (progress (k + 1) s).stops ≡ stops_of turn
-    stops_more =
-        let same : stops_of (step (state_after k s)).turn ≡ stops_of turn = ap stops_of (sym turn_there) in
-        omega (arith, next_stops k s, same, r.stops)
+    stops_more = search (rules, turn_there, next_stops)
 
     -- it stops
     pub stops_there : turn ≡ Stops → Finishes left (k + 1) s Stopped
-    stops_there stop =
-        let one : (progress (k + 1) s).stops ≡ 1 = stops_more ∙ ap stops_of stop in
-        record {
-          runs = way (ap (λ t. end_by t false) stop);
-          ends = stop_ends left s (k + 1) (omega (arith, one));
-          stopped = λ home. refl;
-        }
+    stops_there stop = search (rules, stops_more, way, stop_ends)
 
     -- it goes on
     pub goes_on : {n : State} → n ≡ (step m).state → GoesOn turn → Running left s (k + 1) n
-    goes_on {n} to on = record {
-      state = next_state k s r.state to;
-      runs = way on.no_end;
-      stops = stops_more ∙ on.no_stop;
-    }
+    goes_on {n} to on = search (rules, next_state, way, stops_more)
 
 -- it reaches its limit
 pub at_limit : {left k : ℕ} {s m : State} → k ≡ left → Running left s k m → (IsReturned m → ⊥) → Finishes left k s Limit

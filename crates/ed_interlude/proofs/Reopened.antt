@@ -2,7 +2,7 @@
 use Rattle.ed_interlude.proofs.Kit.{ap, arith, Bool, false, get_or, length, List, refl, suc, sym, ℕ, ◌++◌, ◌+◌, ◌/◌}
 use Rattle.ed_interlude.proofs.Kit.{◌<◌, ◌^◌, ◌∙◌, ◌≡◌, ◌≤◌, IsStore, State, initial_orders, frame, state, IsReturned}
 use Rattle.ed_initial.proofs.Kit.{drop, lit<, ◌∷◌, Moment, patched, Working}
-use Rattle.std.proofs.Common.{take, drop-cons}
+use Rattle.std.proofs.Common.{take, drop-cons, rules}
 use Rattle.std.proofs.lemmas.List.{set-get_or, get_or-drop, get_or-take, drop-drop, length-drop}
 use Rattle.ed_machine.proofs.Kit.Frames.{same_state}
 use Rattle.ed_machine.proofs.Kit.Moves.{T_top, E_jumps}
@@ -71,12 +71,7 @@ reopens s store =
 pub state-reopened : (s : State) (store : IsStore s.store) → IsReturned s
     → state (frame s store) (reopens s store) s.orders ≡ s
 unfolding patched
-state-reopened s store back =
-    let words = held_words s back store.words_are in
-    let digits =
-    patched_one false s.store.sandwich 20 (get_or s.store.sandwich 20 false) (omega (arith, store.digits_are))
-    ∙ set-get_or s.store.sandwich 20 false in
-    same_state s refl words digits (sym back.multiplier) (sym back.counter)
+state-reopened s store back = search (rules, held_words, patched_one, set-get_or, same_state)
 
 -- the two orders: the 17 most significant digits of the accumulator are placed at 22
 pub return_path : (f : Kept) (w : Working) (words : List ℕ) (digit40 : Bool) (acc u : ℕ) (tape : List ℕ)

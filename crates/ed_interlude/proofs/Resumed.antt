@@ -12,6 +12,7 @@ use Rattle.ed_initial.proofs.Quiet.{leads_in}
 use Rattle.ed_initial.proofs.Whole.{cost_fits, IsLoaded-ended}
 use Rattle.ed_interlude.specs.Returned.{IsRestWellFormed, ReachesNextEntry}
 use Rattle.ed_interlude.proofs.Reopened.{held, reopens, state-reopened, return_path}
+use Rattle.std.proofs.Common.{rules}
 
 pub is_directive : (s : State) → LeavesDirective s → IsDirective (directive s)
 is_directive s leaves = omega (arith, leaves.least, leaves.most)
@@ -58,9 +59,7 @@ module _ (s t : State) (r : Loaded) (store : IsStore s.store) (back : IsReturned
     (ends : EndsAs s (17 * length s.tape + 2) r)
     (is : t ≡ state_after (orders_of r) s) where
   pub resumed_load : (e : TapeEntry) → ReachesNextEntry s e → IsLoaded s e r t
-  resumed_load e h =
-      IsLoaded-ended (17 * length s.tape + 2) (leads_back s e store back h)
-      (cost_fits s.store.words (reopening s) 2 s.tape e h.comes) ends is
+  resumed_load e h = search (rules, IsLoaded-ended, leads_back, cost_fits)
 
   -- the same without a given entry
   pub total_resume : IsRestWellFormed s → (e : TapeEntry) × ReachesNextEntry s e × IsLoaded s e r t

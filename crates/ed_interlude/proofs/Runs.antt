@@ -1,18 +1,17 @@
 -- If parts end by the end of a program or at the limit, the run of the whole tape ends too.
-use Rattle.ed_interlude.proofs.Kit.{same_Some, Ending, Limit, Stopped, Turn, append_assoc, rules}
-use Rattle.ed_interlude.proofs.Kit.{Progress, stops_of, end_by, TapeCause, [], ap, arith, Bool, false, inl, inr}
-use Rattle.ed_interlude.proofs.Kit.{length, List, refl, Some, subst, suc, sym, zero, ℕ, ◌++◌, ◌+◌, ◌-◌, ◌<◌, ◌∙◌, ◌≡◌}
-use Rattle.ed_interlude.proofs.Kit.{◌≤◌, ◌⊎◌, cases_lt, step, State, progress, state_after, TapeEntry, Begins}
-use Rattle.ed_interlude.proofs.Kit.{Concludes, cut, entry_done, faulty, finished, Finishes, first_part, GoesBack}
-use Rattle.ed_interlude.proofs.Kit.{LeadsTo, part_after, part_entry_state, PartsReport, ReportsParts, RunsOn, TapePart}
-use Rattle.ed_interlude.proofs.Kit.{Ended, Faulty}
+use Rattle.ed_interlude.proofs.Kit.{same_Some, Ending, Limit, Stopped, Turn, append_assoc, rules, stops_of, end_by, []}
+use Rattle.ed_interlude.proofs.Kit.{ap, arith, Bool, false, inl, inr, length, List, refl, Some, subst, suc, sym, zero}
+use Rattle.ed_interlude.proofs.Kit.{ℕ, ◌++◌, ◌+◌, ◌-◌, ◌<◌, ◌∙◌, ◌≡◌, ◌≤◌, cases_lt, step, State, progress}
+use Rattle.ed_interlude.proofs.Kit.{state_after, TapeEntry, Begins, Concludes, cut, entry_done, faulty, finished}
+use Rattle.ed_interlude.proofs.Kit.{Finishes, first_part, GoesBack, LeadsTo, part_after, part_entry_state, PartsReport}
+use Rattle.ed_interlude.proofs.Kit.{ReportsParts, RunsOn, TapePart, Ended}
 use Rattle.ed_machine.proofs.Names.{append-nil, AreObeyed, codes_of, is_obeyed}
 use Rattle.ed_machine.specs.Sound.{IsSound}
+use Rattle.ed_machine.proofs.Kit.Leads.{Leads, all_go, free, goes_on, joined, no_stops}
 use Rattle.ed_machine.specs.declared.turn.Turn.TheVariants.{Stopped as Stops, NoOrder as IsNoOrder}
 use Rattle.ed_machine.specs.declared.turn.Turn.TheVariants.{NoTape as HasNoTape}
 use Rattle.ed_machine.proofs.SoundSteps.{sound_after}
-use Rattle.ed_machine.proofs.Steps.{after_sum, few_codes, free_more, free_sum, no_step, past_sum, quiet_codes}
-use Rattle.ed_machine.proofs.Steps.{quiet_stops}
+use Rattle.ed_machine.proofs.Steps.{few_codes, free_more, no_step, quiet_codes}
 use Rattle.ed_run.specs.Laws.{AllWent, HasRoom}
 use Rattle.ed_initial.specs.Entry.{IsStarted, first_state}
 use Rattle.ed_initial.proofs.Starts.{starts, sound_start}
@@ -24,32 +23,10 @@ use Rattle.ed_run.proofs.Places as places
 
 -- ---- orders one after the other
 
--- k orders are obeyed, none of which is a stop; they lead from s to m and print these codes
-record Walks (k : ℕ) (s m : State) (codes : List ℕ) : Type 0 where
-  there : m ≡ state_after k s
-  free : AreObeyed k s
-  stops : (progress k s).stops ≡ 0
-  prints : (progress k s).codes ≡ codes
-
--- two walks, one after the other
-and_then : (a b : ℕ) {s m n : State} {xs ys : List ℕ} → Walks a s m xs → Walks b m n ys → Walks (a + b) s n (xs ++ ys)
-and_then a b {s} first next = record {
-  there = next.there ∙ ap (state_after b) first.there ∙ sym (after_sum a b s);
-  free = free_sum a b s first.free (subst (AreObeyed b) first.there next.free);
-  stops = ap (λ (p : Progress). p.stops) (past_sum a b s)
-      ∙ omega (arith, first.stops, next.stops, ap (λ (t : State). (progress b t).stops) first.there);
-  prints = ap (λ (p : Progress). p.codes) (past_sum a b s)
-      ∙ (λ i. first.prints i ++ (sym (ap (λ (t : State). (progress b t).codes) first.there) ∙ next.prints) i);
-}
-
 -- orders that only go on
-quiet_walk : (k : ℕ) (s : State) → AllWent k s → Walks k s (state_after k s) []
-quiet_walk k s went = record {
-  there = refl;
-  free = λ j h. ap is_obeyed (went j h);
-  stops = quiet_stops k s went;
-  prints = quiet_codes k s went;
-}
+quiet_walk : (k : ℕ) (s : State) → AllWent k s → Leads k s [] (state_after k s)
+quiet_walk k s went =
+    record { state_is = refl; codes_are = quiet_codes k s went; goes = λ j h. ap goes_on (went j h) }
 
 -- ---- the walk of a program
 
@@ -63,15 +40,10 @@ stop_of : (turn : Turn) → 0 < stops_of turn → turn ≡ Stops
 stop_of Stops h = refl
 stop_of turn h = absurd (omega arith)
 
-ended_is : (d e : Ending) → Ended d ≡ Ended e → d ≡ e
-ended_is d e h = cc
-
-no_fault : (part row : ℕ) (cause : TapeCause) (ending : Ending) → Faulty part row cause ≡ Ended ending → ⊥
-no_fault part row cause ending e = cc
-
 module _ (left : ℕ) (m : State) where
-  run_walk : (k : ℕ) → RunsOn left k m → (progress k m).stops ≡ 0 → Walks k m (state_after k m) (progress k m).codes
-  run_walk k runs none = record { there = refl; free = λ j h. search rules; stops = none; prints = refl }
+  run_walk : (k : ℕ) → RunsOn left k m → (progress k m).stops ≡ 0 → Leads k m (progress k m).codes (state_after k m)
+  run_walk k runs none =
+      record { state_is = refl; codes_are = refl; goes = all_go k m (λ j h. search rules) none }
 
 -- ---- the end of the run
 
@@ -80,45 +52,38 @@ module _ (limit : ℕ) (s : State) where
   room k few free = record { obeyed = free; printed = omega (arith, few_codes k s) }
 
   -- at the limit
-  at_limit : (m : State) (codes : List ℕ) → Walks limit s m codes → EndsAsRun limit s Limit m codes
+  at_limit : (m : State) (codes : List ℕ) → Leads limit s codes m → EndsAsRun limit s Limit m codes
   at_limit m codes w = record {
     orders = limit;
-    ends = places.at_limit limit 0 (room limit (omega arith) w.free) (omega (arith, w.stops));
-    state_is = w.there;
-    prints = w.prints;
+    ends = places.at_limit limit 0 (room limit (omega arith) (free w)) (omega (arith, no_stops limit s w.goes));
+    state_is = sym w.state_is;
+    prints = w.codes_are;
   }
 
-  module _ (a left : ℕ) (m : State) (before : List ℕ) (whole : a + left ≡ limit) (first : Walks a s m before) where
+  module _ (a left : ℕ) (m : State) (before : List ℕ) (whole : a + left ≡ limit) (first : Leads a s before m) where
     -- no stop was obeyed
     without_stop : (k : ℕ) (ending : Ending) → Finishes left k m ending → (progress k m).stops ≡ 0
         → EndsAsRun limit s ending (state_after k m) (before ++ (progress k m).codes)
-    without_stop k ending f none = by_place (cases_lt k left)
-      where
-        codes : List ℕ
-        codes = before ++ (progress k m).codes
-
-        walk : Walks (a + k) s (state_after k m) codes
-        walk = and_then a k first (run_walk left m k f.runs none)
-
-        by_place : (k < left) ⊎ (left ≤ k) → EndsAsRun limit s ending (state_after k m) codes
-        by_place (inl low) =
-            let turn : end_by (step (state_after k m)).turn false ≡ Some ending = sym (next_ends left m k low none)
-            ∙ f.ends in
-            let at : end_by (step (state_after (a + k) s)).turn false ≡ Some ending =
-            ap (λ (t : State). end_by (step t).turn false) (sym walk.there) ∙ turn in
-            record {
-              orders = a + k;
-              ends = places.at_block limit 0 (room (a + k) (omega arith) walk.free)
-                  (omega (arith, walk.stops))
-                  (omega arith) (blocked_of _ _ ending at);
-              state_is = walk.there;
-              prints = walk.prints;
-            }
-        by_place (inr high) =
-            let e : k ≡ left = omega (arith, runs_within left m k f.runs) in
-            let total : a + k ≡ limit = omega arith in
-            let is : Limit ≡ ending = same_Some Limit ending (sym (limit_ends left m k e none) ∙ f.ends) in
-            rw (← is) (at_limit (state_after k m) codes (rw total at walk))
+    without_stop k ending f none =
+        let walk = joined first (run_walk left m k f.runs none) in
+        elim (cases_lt k left) [
+          | inl low ↦
+              let at : end_by (step (state_after (a + k) s)).turn false ≡ Some ending =
+              ap (λ (t : State). end_by (step t).turn false) walk.state_is ∙ sym (next_ends left m k low none)
+              ∙ f.ends in
+              record {
+                orders = a + k;
+                ends = places.at_block limit 0 (room (a + k) (omega arith) (free walk))
+                    (omega (arith, no_stops (a + k) s walk.goes)) (omega arith) (blocked_of _ _ ending at);
+                state_is = sym walk.state_is;
+                prints = walk.codes_are;
+              }
+          | inr high ↦
+              let e : k ≡ left = omega (arith, runs_within left m k f.runs) in
+              let total : a + k ≡ limit = omega arith in
+              let is : Limit ≡ ending = same_Some Limit ending (sym (limit_ends left m k e none) ∙ f.ends) in
+              rw (← is) (at_limit (state_after k m) (before ++ (progress k m).codes) (rw total at walk))
+        ]
 
     -- the last one was a stop
     with_stop : (k : ℕ) (ending : Ending) → Finishes left k m ending → 0 < (progress k m).stops
@@ -129,19 +94,18 @@ module _ (limit : ℕ) (s : State) where
         let way = f.runs j (omega arith) in
         let none = way_stops left m j way in
         let stop : (step (state_after j m)).turn ≡ Stops = stop_of _ (omega (arith, none)) in
-        let walk : Walks (a + j) s (state_after j m) (before ++ (progress j m).codes) =
-        and_then a j first (run_walk left m j (λ i h. f.runs i (omega arith)) none) in
+        let walk = joined first (run_walk left m j (λ i h. f.runs i (omega arith)) none) in
         let turn : (step (state_after (a + j) s)).turn ≡ Stops =
-        ap (λ (t : State). (step t).turn) (sym walk.there) ∙ stop in
-        let free : AreObeyed (suc (a + j)) s = free_more (a + j) s walk.free (ap is_obeyed turn) in
+        ap (λ (t : State). (step t).turn) walk.state_is ∙ stop in
+        let obeyed = free_more (a + j) s (free walk) (ap is_obeyed turn) in
         let is : Stopped ≡ ending = same_Some Stopped ending (sym (stop_ends left m (suc j) many) ∙ f.ends) in
         let within = runs_within left m (suc j) f.runs in
         rw (← is) (record {
           orders = suc (a + j);
-          ends = places.at_stop limit 0 (room (suc (a + j)) (omega arith) free) walk.stops
+          ends = places.at_stop limit 0 (room (suc (a + j)) (omega arith) obeyed) (no_stops (a + j) s walk.goes)
               (omega arith) turn;
-          state_is = ap (λ (t : State). (step t).state) walk.there;
-          prints = (λ i. walk.prints i ++ codes_of ((turn ∙ sym stop) i))
+          state_is = ap (λ (t : State). (step t).state) (sym walk.state_is);
+          prints = (λ i. walk.codes_are i ++ codes_of ((turn ∙ sym stop) i))
               ∙ append_assoc before (progress j m).codes (codes_of (step (state_after j m)).turn);
         })
 
@@ -157,32 +121,33 @@ module _ (limit : ℕ) (s : State) where
 
   -- the parts up to here are orders of the run and printed this, and here one begins
   record Along (p : TapePart) (before : List ℕ) : Type 0 where
-    walk : Walks p.done s p.state before
+    walk : Leads p.done s before p.state
     within : p.done ≤ limit
     some : 1 ≤ p.number
     begins : Begins p
 
   to_entry : (p : TapePart) (e : TapeEntry) (before : List ℕ) → Along p before → LeadsTo p e
-      → Walks (entry_done p e) s (part_entry_state p e) before
+      → Leads (entry_done p e) s before (part_entry_state p e)
   to_entry p e before h leads =
-      rw append-nil at (and_then p.done e.cost h.walk (quiet_walk e.cost p.state (leads_in p e h.begins leads).went))
+      rw append-nil at (joined h.walk (quiet_walk e.cost p.state (leads_in p e h.begins leads).went))
 
   concludes : (p : TapePart) (before : List ℕ) (t : PartsReport) (ending : Ending) → Along p before
       → (told : Concludes limit (length s.tape) p t) → t.end ≡ Ended ending
       → EndsAsRun limit s ending t.last (before ++ last_printed told)
   concludes p before t ending h (faulty row cause fault is) end =
-      absurd (no_fault _ _ _ ending (sym (ap (λ (x : PartsReport). x.end) is) ∙ end))
+      let e = ap (λ (x : PartsReport). x.end) is in absurd (cc)
   concludes p before t ending h (cut e leads short is) end =
       let left = limit - p.done in
       let went = (leads_in p e h.begins leads).went in
-      let walk = and_then p.done left h.walk
-      (quiet_walk left p.state (λ j low. went j (omega (arith, h.within)))) in
+      let walk = joined h.walk (quiet_walk left p.state (λ j low. went j (omega (arith, h.within)))) in
       let total : p.done + left ≡ limit = omega (arith, h.within) in
-      let same : Limit ≡ ending = ended_is _ _ (sym (ap (λ (x : PartsReport). x.end) is) ∙ end) in
+      let ends = ap (λ (x : PartsReport). x.end) is in
+      let same : Limit ≡ ending = cc in
       rw (← same, ap (λ (x : PartsReport). x.last) is)
       (at_limit (state_after left p.state) (before ++ []) (rw total at walk))
   concludes p before t ending h (finished e k d leads within f is) end =
-      let same : d ≡ ending = ended_is _ _ (sym (ap (λ (x : PartsReport). x.end) is) ∙ end) in
+      let last = ap (λ (x : PartsReport). x.end) is in
+      let same : d ≡ ending = cc in
       let ends = program_ends (entry_done p e) (limit - entry_done p e) (part_entry_state p e) before
       (omega (arith, within)) (to_entry p e before h leads) k d f in
       subst (λ (x : State). EndsAsRun limit s ending x (before ++ (progress k (part_entry_state p e)).codes))
@@ -193,10 +158,10 @@ module _ (limit : ℕ) (s : State) where
   next_along sound p before b h =
       let c = b.comes in
       let left = limit - entry_done p b.entry in
-      let walk = and_then (entry_done p b.entry) b.orders (to_entry p b.entry before h b.leads)
+      let walk = joined (to_entry p b.entry before h b.leads)
       (run_walk left (part_entry_state p b.entry) b.orders c.runs c.stops) in
       let few = home_within left (part_entry_state p b.entry) b.orders c in
-      let there : IsSound (part_after p b).state = rw walk.there (sound_after _ s sound) in
+      let there : IsSound (part_after p b).state = rw (← walk.state_is) (sound_after _ s sound) in
       record {
         walk = walk;
         within = omega (arith, few, b.within);

@@ -79,8 +79,7 @@ module _ (limit rows : ℕ) where
       let same : e.cost ≡ g.cost = ap (λ (x : TapeEntry). x.cost) (entry_once p e g opens a b) in absurd (omega arith)
   concludes_once p t u opens (finished e j d a low f is) (finished g k c b high h also) =
       let same = entry_once p e g opens a b in
-      let there : Finishes (limit - entry_done p g) j (part_entry_state p g) d =
-      subst (λ (x : TapeEntry). Finishes (limit - entry_done p x) j (part_entry_state p x) d) same f in
+      let there = subst (λ (x : TapeEntry). Finishes (limit - entry_done p x) j (part_entry_state p x) d) same f in
       let one = end_once (limit - entry_done p g) (part_entry_state p g) j k d c there h in
       is
       ∙ (λ i. record {
@@ -98,8 +97,7 @@ module _ (limit rows : ℕ) where
       absurd (omega (arith, b.within))
   ends_no_back p t opens (finished e j d a low f is) b =
       let same = entry_once p e b.entry opens a b.leads in
-      let there : Finishes (limit - entry_done p b.entry) j (part_entry_state p b.entry) d =
-      subst (λ (x : TapeEntry). Finishes (limit - entry_done p x) j (part_entry_state p x) d) same f in
+      let there = subst (λ (x : TapeEntry). Finishes (limit - entry_done p x) j (part_entry_state p x) d) same f in
       home_or_end (limit - entry_done p b.entry) (part_entry_state p b.entry) b.orders j d b.comes there
 
   -- it returns after one number of orders
@@ -110,11 +108,9 @@ module _ (limit rows : ℕ) where
   back_once : (p : TapePart) (b c : GoesBack limit p) → Opens p → BackOnce p b c
   back_once p b c opens =
       let same = entry_once p b.entry c.entry opens b.leads c.leads in
-      let there : ReturnsToLoader (limit - entry_done p c.entry) b.orders (part_entry_state p c.entry) =
-      subst (λ (x : TapeEntry). ReturnsToLoader (limit - entry_done p x) b.orders
-      (part_entry_state p x)) same b.comes in
-      let orders = home_once (limit - entry_done p c.entry)
-      (part_entry_state p c.entry) b.orders c.orders there c.comes in
+      let there =
+      subst (λ (x : TapeEntry). ReturnsToLoader (limit - entry_done p x) b.orders (part_entry_state p x)) same b.comes in
+      let orders = home_once _ (part_entry_state p c.entry) b.orders c.orders there c.comes in
       let part : part_after p b ≡ part_after p c =
       λ i. record {
         number = p.number + 1;
@@ -135,8 +131,7 @@ module _ (limit rows : ℕ) where
   told_once (suc n) zero p {u} opens a b = absurd (ends_no_back p u opens b a.0)
   told_once (suc n) (suc m) p opens a b =
       let one = back_once p a.0 b.0 opens in
-      let there : ReportsParts limit rows n (part_after p b.0) a.1 =
-      subst (λ (q : TapePart). ReportsParts limit rows n q a.1) one.part_is a.2 in
+      let there = subst (λ (q : TapePart). ReportsParts limit rows n q a.1) one.part_is a.2 in
       let rest = told_once n m (part_after p b.0) (behind_opens p b.0) there b.2 in
       a.3 ∙ (λ i. record (rest i) { text = one.lines_are i ++ (rest i).text }) ∙ sym b.3
 

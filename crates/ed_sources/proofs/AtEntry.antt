@@ -1,13 +1,19 @@
 -- The words in the store at the entry of a source's program.
-use Rattle.ed_sources.proofs.Kit.{Size, Line, length-append, nat_eq, list_all, and_parts, ltb-true, image_word}
-use Rattle.ed_sources.proofs.Kit.{reverse, unwrap_or, eqb-true, length-replicate, placed_at, linked_words, [], arith}
-use Rattle.ed_sources.proofs.Kit.{Bool, length, List, nat_lt, rules, true, ℕ, ◌+◌, ◌<◌, ◌∙◌, ◌∷◌, ◌≡◌, ◌≤◌, short_at}
-use Rattle.ed_sources.proofs.Kit.{place_count, HasWord, entry_state}
+use Rattle.ed_sources.proofs.Kit.{Size, Line, length-append, nat_eq, list_all, and_parts, ltb-true, image_word, reverse}
+use Rattle.ed_sources.proofs.Kit.{unwrap_or, eqb-true, length-replicate, placed_at, linked_words, [], arith, Bool}
+use Rattle.ed_sources.proofs.Kit.{length, List, nat_lt, rules, true, ℕ, ◌+◌, ◌<◌, ◌∙◌, ◌∷◌, ◌≡◌, ◌≤◌, short_at}
+use Rattle.ed_sources.proofs.Kit.{place_count, HasWord, entry_state, Text, subst, cost}
 use Rattle.std.proofs.lemmas.List.{length-drop}
 use Rattle.ed_notation.specs.Checks.{ArePlaces}
 use Rattle.ed_notation.proofs.Contents.{length-over}
 use Rattle.ed_answers.proofs.EntryWords.{entry_word}
 use Rattle.ed_sources.proofs.Decimals.{among, numbers}
+use Rattle.ed_answers.specs.Refusals.{IsAcceptedAs}
+use Rattle.ed_machine.specs.Sound.{IsSound}
+use Rattle.ed_machine.proofs.SoundSteps.{sound_after}
+use Rattle.ed_initial.proofs.Starts.{sound_start}
+use Rattle.ed_answers.proofs.Entries.{each_source}
+use Rattle.ed_answers.proofs.PunchedTexts.{text_is_tape}
 
 -- the words that a source places, the last one first
 abbrev pub placed : List Line → List (ℕ × ℕ)
@@ -47,3 +53,10 @@ module _ (z : Size) (lines : List Line) where
           (place_count r) i test
           (omega arith) (omega arith));
     }
+
+-- the machine at the entry of an accepted source is within its bounds
+pub sound_entry : (z : Size) (source : Text) (lines : List Line) → IsAcceptedAs z source lines
+    → IsSound (entry_state z lines)
+sound_entry z source lines a =
+    subst IsSound (each_source z source lines a).state_is
+    (sound_after (cost lines) _ (search (sound_start, (text_is_tape z source lines a))))

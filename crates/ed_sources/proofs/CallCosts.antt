@@ -1,33 +1,19 @@
 -- What reading the tape of a call costs: that of the words of its numbers, and that of all other items.
-use Rattle.ed_sources.proofs.Kit.{sum_by, sum_by-cons, Item, Line, take, punched_items, word_item, item_cost, ap}
-use Rattle.ed_sources.proofs.Kit.{arith, drop, List, refl, rules, ℕ, ◌++◌, ◌+◌, ◌∙◌, ◌∷◌, ◌≡◌, cost, word_cost}
+use Rattle.ed_sources.proofs.Kit.{sum_by, sum_by-cons, Item, take, punched_items, word_item, item_cost}
+use Rattle.ed_sources.proofs.Kit.{arith, drop, List, refl, rules, ℕ, ◌++◌, ◌+◌, ◌∷◌, ◌≡◌, cost, word_cost}
 use Rattle.ed_sources.proofs.Said.{check_lines, print_lines}
 use Rattle.ed_sources.proofs.SaidMaths.{divide_lines, root_lines}
 use Rattle.ed_sources.proofs.WordCosts.{cost_around}
-
--- a source whose items are known up to that of a word
-with_word : (lines : List Line) (front rest : List Item) (w k : ℕ)
-    → punched_items lines ≡ front ++ word_item w ∷ rest
-    → sum_by item_cost front + sum_by item_cost rest ≡ k + 4
-    → cost lines ≡ k + 9 + word_cost w
-with_word lines front rest w k parts others =
-    let all = ap (λ (is : List Item). sum_by item_cost is) parts ∙ cost_around front (word_item w) rest in
-    omega (arith, all, others)
+use Rattle.std.proofs.lemmas.Grind.{common_steps}
 
 pub print_cost : (n : ℕ) → cost (print_lines n) ≡ 2289 + word_cost n
-print_cost n =
-    with_word (print_lines n) (take 5 (punched_items (print_lines n))) (drop 6 (punched_items (print_lines n))) n 2280
-    refl refl
+print_cost n = grind (arith, common_steps)
 
 pub root_cost : (n : ℕ) → cost (root_lines n) ≡ 3399 + word_cost n
-root_cost n =
-    with_word (root_lines n) (take 7 (punched_items (root_lines n))) (drop 8 (punched_items (root_lines n))) n 3390
-    refl refl
+root_cost n = grind (arith, common_steps)
 
 pub check_cost : (n : ℕ) → cost (check_lines n) ≡ 4793 + word_cost n
-check_cost n =
-    with_word (check_lines n) (take 5 (punched_items (check_lines n))) (drop 6 (punched_items (check_lines n))) n 4784
-    refl refl
+check_cost n = grind (arith, common_steps)
 
 module _ (high low by : ℕ) where
   abbrev items : List Item

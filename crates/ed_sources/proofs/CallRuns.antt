@@ -1,5 +1,5 @@
 -- A call is the run of its source, from the state at its entry.
-use Rattle.ed_sources.proofs.Kit.{Settings, Size, Line, length-append, None, Ok, Call, Check, Divide, NewLine, Print, Read}
+use Rattle.ed_sources.proofs.Kit.{Settings, Line, length-append, None, Ok, Call, Check, Divide, NewLine, Print, Read}
 use Rattle.ed_sources.proofs.Kit.{Root, least, fault, few_digits, [], arith, length, List, lit<, lit≤, refl, ℕ, ◌%◌}
 use Rattle.ed_sources.proofs.Kit.{◌++◌, ◌+◌, ◌/◌, ◌<◌, ◌∙◌, ◌∷◌, ◌≡◌, ◌≤◌, digits, root_of, at_after, AnswersFromEntry}
 use Rattle.ed_sources.proofs.Kit.{read_is_accepted, paper, program_of, entry_of, cost, entry_note, entry_state}
@@ -7,8 +7,10 @@ use Rattle.ed_sources.proofs.Kit.{run_outcome, accepted_is, each_answer_is_from_
 use Rattle.ed_sources.proofs.Kit.{call_text, call_cost, StopsAt}
 use Rattle.std.proofs.Common.{codes as codes_of_text}
 use Rattle.ed_sources.specs.CallRuns.{CallRuns, EachCallRuns, GuestStops, call_entry, call_prints, call_stop}
+use Rattle.ed_words.specs.declared.size.Size.TheVariants as size
 use Rattle.ed_sources.proofs.CallCosts.{check_cost, divide_cost, print_cost, root_cost}
 use Rattle.ed_sources.proofs.CallsAccepted.{divide_read, newline_read, print_read, read_read, root_read, check_read}
+use Rattle.ed_sources.proofs.CallsAccepted.{faultless}
 use Rattle.ed_sources.proofs.CheckedPaper.{check_ends, room_for_codes}
 use Rattle.ed_sources.proofs.CheckedPrint.{guest_stops}
 use Rattle.ed_sources.proofs.DivideAndPrint.{call_ends, quotient_low, remainder_low}
@@ -19,13 +21,6 @@ use Rattle.ed_sources.proofs.ReadAndPrint.{read_ends}
 use Rattle.ed_sources.proofs.RootAndPrint.{root_ends, root_small}
 use Rattle.ed_sources.proofs.Stopped.{stopped_outcome}
 use Rattle.ed_sources.proofs.Stops.{comes_to_stop}
-use Rattle.ed_words.specs.declared.size.Size.TheVariants as size
-
--- without a fault on stores of both sizes
-faultless : (z : Size) (lines : List Line) → fault size.Small lines ≡ None → fault size.Full lines ≡ None
-    → fault z lines ≡ None
-faultless size.Small lines small full = small
-faultless size.Full lines small full = full
 
 -- a call whose source is accepted, and which reaches its stop after its codes
 runs : (s : Settings) (call : Call) {lines : List Line} {k place : ℕ} {codes : List ℕ}

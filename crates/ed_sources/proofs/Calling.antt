@@ -1,9 +1,13 @@
 -- The two orders that call a routine: A m F at m, and after it G to the routine's base.
 use Rattle.ed_sources.proofs.Kit.{A_F, G_F, opens, None, [], ap, arith, get_or, length, List, refl, rules, Some, subst}
-use Rattle.ed_sources.proofs.Kit.{sym, ℕ, ◌*◌, ◌+◌, ◌<◌, ◌^◌, ◌∷◌, ◌≡◌, ◌≤◌, locations, locations_most, short_at, State, Frame}
-use Rattle.ed_sources.proofs.Kit.{Moment, short, state, Leads, A, G_jumps, leads, on, Path, stay, own, Holds, patched}
-use Rattle.ed_sources.proofs.Kit.{place_count, caller, HasWord, IsLoadedAt, IsOutside}
+use Rattle.ed_sources.proofs.Kit.{sym, ℕ, ◌*◌, ◌+◌, ◌<◌, ◌^◌, ◌∷◌, ◌≡◌, ◌≤◌, locations, locations_most, short_at, State}
+use Rattle.ed_sources.proofs.Kit.{Frame, Moment, short, state, Leads, A, G_jumps, leads, on, Path, stay, own, Holds}
+use Rattle.ed_sources.proofs.Kit.{patched, place_count, caller, HasWord, IsLoadedAt, IsOutside, state_after}
 use Rattle.ed_machine.proofs.Kit.Places.{any}
+use Rattle.ed_machine.proofs.Kit.Paths.{each}
+use Rattle.ed_routines.proofs.Walks.{Weights, total, total_of_path, weigh, weight}
+use Rattle.ed_orders.specs.declared.kind.Kind.{Kind}
+use Rattle.ed_machine.proofs.Kit.Orders.{IsOrder}
 
 -- a state before such a call, from m to a base
 pub record IsBefore (s : State) (m base : ℕ) : Type 0 where
@@ -28,9 +32,6 @@ pub record HasRoutine (s : State) (r base : ℕ) (parameters : List ℕ) : Type 
   pub image : (i : ℕ) → i < place_count r → HasWord r parameters base s i
 
 module _ {s : State} {m base : ℕ} (o : IsBefore s m base) where
-  abbrev f : Frame 3 0
-  f = record { size = s.size; base = m; top = locations s.size; under = o.room; fits = omega arith }
-
   abbrev cells : List ℕ
   cells = (A_F + 2 * (m + 0)) ∷ (G_F + 2 * base) ∷ get_or s.store.words (m + 2) 0 ∷ []
 
@@ -47,13 +48,6 @@ module _ {s : State} {m base : ℕ} (o : IsBefore s m base) where
     last = s.last;
   }
 
-  path : Path f 2 (at 0 (m + 0)) [] (at (A_F + 2 * m) base)
-  path =
-      let size = locations_most s.size in
-      let room = o.room in
-      on (A 0 (own 0) (short (A_F + 2 * m)) refl (omega arith))
-      (on (G_jumps 1 (any base o.there) refl (omega arith)) stay)
-
   holds : Holds (Some (A_F + 2 * (m + 0)) ∷ Some (G_F + 2 * base) ∷ None ∷ []) s.store.words m
   holds h l = search rules
 
@@ -64,17 +58,41 @@ module _ {s : State} {m base : ℕ} (o : IsBefore s m base) where
       let all = o.all in
       opens (Some (A_F + 2 * (m + 0)) ∷ Some (G_F + 2 * base) ∷ None ∷ []) s.store.words m (omega arith) holds
 
-  begins : state f (at 0 (m + 0)) s.orders ≡ s
-  begins = search (rules, same)
+  -- the two orders, if they and the routine are below a location
+  module _ (top : ℕ) (room : m + 3 ≤ top) (there : base < top) (fits : top ≤ locations s.size) where
+    abbrev f : Frame 3 0
+    f = record { size = s.size; base = m; top = top; under = room; fits = fits }
 
-  ends : state f (at (A_F + 2 * m) base) (s.orders + 2) ≡ called s m base
-  ends = search (rules, same)
+    abbrev path : Path f 2 (at 0 (m + 0)) [] (at (A_F + 2 * m) base)
+    path =
+        let size = locations_most s.size in
+        on (A 0 (own 0) (short (A_F + 2 * m)) refl (omega arith))
+        (on (G_jumps 1 (any base there) refl (omega arith)) stay)
+
+    begins : state f (at 0 (m + 0)) s.orders ≡ s
+    begins = search (rules, same)
+
+    ends : state f (at (A_F + 2 * m) base) (s.orders + 2) ≡ called s m base
+    ends = search (rules, same)
+
+    -- what holds of every order that stays below the location holds before each of them
+    pub call_keeps : (P : State → Type 0) → ((kind : Kind) (x : State) → IsOrder top kind x → P x) → (j : ℕ) → j < 2
+        → P (state_after j s)
+    call_keeps P is j l = subst (λ x. P (state_after j x)) begins (each P is path s.orders j l)
+
+    -- what is counted for each order that stays below the location
+    pub call_weighs : (w : Weights) (of : State → ℕ)
+        → ((kind : Kind) (x : State) → IsOrder top kind x → of x ≡ weight w kind x.acc)
+        → total of 2 s ≡ weigh w path
+    call_weighs w of by_order =
+        subst (λ x. total of 2 x ≡ weigh w path) begins (total_of_path w of by_order path s.orders)
 
   pub Leads-calls : Leads 2 s [] (called s m base)
   Leads-calls =
-      subst (λ (t : State). Leads 2 s [] t) ends
-      (subst (λ (x : State). Leads 2 x [] (state f (at (A_F + 2 * m) base) (s.orders + 2))) begins
-      (leads path s.orders))
+      let room = o.room in
+      let fits : locations s.size ≤ locations s.size = omega arith in
+      rw (begins (locations s.size) room o.there fits, ends (locations s.size) room o.there fits) at
+      (leads (path (locations s.size) room o.there fits) s.orders)
 
   pub caller_is : caller (called s m base) ≡ m
   caller_is = omega arith

@@ -1,13 +1,14 @@
 -- The sources of calls are accepted.
-use Rattle.ed_sources.proofs.Kit.{decimal, Ok, list_all, Text, is_line_byte, IsDivisible, Check, Divide, NewLine}
-use Rattle.ed_sources.proofs.Kit.{Print, Read, Root, append-nil, arith, lit≤, refl, rules, subst, true, ℕ, ◌%◌, ◌/◌}
-use Rattle.ed_sources.proofs.Kit.{◌<◌, ◌≡◌, digits, program_of, call_text}
-use Rattle.ed_sources.proofs.CallTexts.{call_is, call_lines}
+use Rattle.ed_sources.proofs.Kit.{decimal, Ok, list_all, Text, is_line_byte, IsDivisible, Check, Divide, NewLine, Print}
+use Rattle.ed_sources.proofs.Kit.{Read, Root, append-nil, arith, lit≤, refl, rules, subst, true, ℕ, ◌%◌, ◌/◌, ◌<◌, ◌≡◌}
+use Rattle.ed_sources.proofs.Kit.{digits, program_of, call_text, Size, Line, None, fault, List}
+use Rattle.ed_sources.proofs.CallTexts.{call_is}
 use Rattle.ed_sources.proofs.Decimals.{are, decimal_is, line_bytes}
 use Rattle.ed_sources.proofs.Said.{newline_lines, newline_says, print_lines, print_says, read_lines, read_says}
 use Rattle.ed_sources.proofs.Said.{with_end, check_lines, check_says}
 use Rattle.ed_sources.proofs.SaidMaths.{divide_lines, divide_says, root_lines, root_says}
 use Rattle.ed_sources.proofs.TextLines.{said_lines}
+use Rattle.ed_words.specs.declared.size.Size.TheVariants as size
 
 -- ---- bytes of lines
 
@@ -16,31 +17,15 @@ decimal_plain n small =
     subst (λ (bytes : Text). list_all is_line_byte bytes ≡ true) (decimal_is n small)
     (line_bytes (digits n) (are n small))
 
-print_plain : (n : ℕ) → n < 65536 → list_all (list_all is_line_byte) (call_lines (Print n)) ≡ true
-print_plain n small = rw (append-nil (decimal n), decimal_plain n small) refl
-
-read_plain : (n : ℕ) → n < 65536 → list_all (list_all is_line_byte) (call_lines (Read n)) ≡ true
-read_plain n small = rw (with_end (decimal n) (decimal_plain n small)) refl
-
-divide_plain : (n by : ℕ) → n / 65536 < 65536 → n % 65536 < 65536 → by < 65536
-    → list_all (list_all is_line_byte) (call_lines (Divide n by)) ≡ true
-divide_plain n by h l b = search (rules, append-nil, decimal_plain)
-
-root_plain : (n : ℕ) → n < 65536 → list_all (list_all is_line_byte) (call_lines (Root n)) ≡ true
-root_plain n small = rw (append-nil (decimal n), decimal_plain n small) refl
-
-check_plain : (n : ℕ) → n < 65536 → list_all (list_all is_line_byte) (call_lines (Check n)) ≡ true
-check_plain n small = rw (append-nil (decimal n), decimal_plain n small) refl
-
 -- ---- what the sources are read as
 
 pub print_read : (n : ℕ) → n < 65536 → program_of (call_text (Print n)) ≡ Ok (print_lines n)
-print_read n small =
-    call_is (Print n) (print_lines n) refl (print_plain n small) refl (said_lines (print_says n small) (lit≤ tt))
+print_read n small = search (rules, call_is, append-nil, decimal_plain, said_lines, print_says)
 
 pub read_read : (n : ℕ) → n < 65536 → program_of (call_text (Read n)) ≡ Ok (read_lines n)
 read_read n small =
-    call_is (Read n) (read_lines n) refl (read_plain n small) refl (said_lines (read_says n small) (lit≤ tt))
+    call_is (Read n) (read_lines n) refl (rw (with_end (decimal n) (decimal_plain n small)) refl) refl
+    (said_lines (read_says n small) (lit≤ tt))
 
 pub newline_read : program_of (call_text NewLine) ≡ Ok newline_lines
 newline_read = call_is NewLine newline_lines refl refl refl (said_lines newline_says (lit≤ tt))
@@ -53,13 +38,19 @@ divide_read n by made =
     let high : n / 65536 < 65536 = omega arith in
     let low : n % 65536 < 65536 = omega arith in
     let small : by < 65536 = omega arith in
-    call_is (Divide n by) (divide_lines (n / 65536) (n % 65536) by) refl (divide_plain n by high low small) refl
-    (said_lines (divide_says n by high low small) (lit≤ tt))
+    call_is (Divide n by) (divide_lines (n / 65536) (n % 65536) by) refl (search (rules, append-nil, decimal_plain))
+    refl (said_lines (divide_says n by high low small) (lit≤ tt))
 
 pub root_read : (n : ℕ) → n < 65536 → program_of (call_text (Root n)) ≡ Ok (root_lines n)
 root_read n small =
-    call_is (Root n) (root_lines n) refl (root_plain n small) refl (said_lines (root_says n small) (lit≤ tt))
+    call_is (Root n) (root_lines n) refl (rw (append-nil (decimal n), decimal_plain n small) refl) refl
+    (said_lines (root_says n small) (lit≤ tt))
 
 pub check_read : (n : ℕ) → n < 65536 → program_of (call_text (Check n)) ≡ Ok (check_lines n)
-check_read n small =
-    call_is (Check n) (check_lines n) refl (check_plain n small) refl (said_lines (check_says n small) (lit≤ tt))
+check_read n small = search (rules, call_is, append-nil, decimal_plain, said_lines, check_says)
+
+-- without a fault on stores of both sizes
+pub faultless : (z : Size) (lines : List Line) → fault size.Small lines ≡ None → fault size.Full lines ≡ None
+    → fault z lines ≡ None
+faultless size.Small lines small full = small
+faultless size.Full lines small full = full

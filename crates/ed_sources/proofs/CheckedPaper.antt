@@ -1,7 +1,6 @@
 -- What the guest of `call check N` prints has room on the paper, and the machine's orders lead to its stop.
 use Rattle.ed_sources.proofs.Kit.{Size, length-append, before_units, arith, length, rules, subst, suc, zero, ℕ, ◌*◌}
-use Rattle.ed_sources.proofs.Kit.{◌+◌, ◌<◌, ◌∷◌, ◌≤◌, step, State, state_after, print_orders, sum, ChecksToStop}
-use Rattle.ed_sources.proofs.Kit.{function_of, next_word, codes_of, guest, entry_state, StopsAt}
+use Rattle.ed_sources.proofs.Kit.{◌+◌, ◌<◌, ◌≤◌, State, print_orders, sum, ChecksToStop, guest, entry_state, StopsAt}
 use Rattle.ed_machine.proofs.Kit.Leads.{all_go}
 use Rattle.ed_machine.proofs.Steps.{one_code}
 use Rattle.ed_checker.specs.Checker.{checked_codes, planting_place}
@@ -13,12 +12,7 @@ use Rattle.ed_sources.proofs.Said.{check_lines}
 two_each : (q : ℕ) (g : State) → length (checked_codes g q) ≤ 2 * q
 unfolding checked_codes
 two_each zero g = omega arith
-two_each (suc q) g =
-    let before = two_each q g in
-    let one = one_code (step (state_after q g)).turn in
-    let all = length-append (checked_codes g q)
-    (function_of (next_word (state_after q g)) ∷ codes_of (step (state_after q g)).turn) in
-    omega (arith, before, one, all)
+two_each (suc q) g = search (rules, one_code, length-append, two_each q g)
 
 pub room_for_codes : (n : ℕ) (g : State) → n < 65536 → length (checked_codes g (3 + print_orders n)) ≤ 1000000
 room_for_codes n g small = let two = two_each (3 + print_orders n) g in let few = print_few n small in omega arith

@@ -1,63 +1,35 @@
 -- The source of `call check N`: at its entry the checking routine is at the start of a turn, and its guest prints the
 -- number and stops.
-use Rattle.ed_sources.proofs.Kit.{Z_F, Size, within_below, G, joined, no_stops, nat_eq, nat_le, ◌||◌, list_all}
-use Rattle.ed_sources.proofs.Kit.{and_parts, ltb-true, image_word, parameter_store, unwrap_or, eqb-true}
-use Rattle.ed_sources.proofs.Kit.{length-replicate, least, placed_at, before_units, IsCalled, tens, [], ap, arith}
-use Rattle.ed_sources.proofs.Kit.{Bool, drop, false, get_or, inl, inr, length, List, lit<, lit≤, nat_lt, refl, rules}
-use Rattle.ed_sources.proofs.Kit.{Some, subst, suc, sym, true, zero, ℕ, ◌%◌, ◌*◌, ◌++◌, ◌+◌, ◌-◌, ◌/◌, ◌<◌, ◌^◌, ◌∙◌}
-use Rattle.ed_sources.proofs.Kit.{◌∷◌, ◌≡◌, ◌≤◌, lt-ltb, short_at, step, State, state_after, short, free, Leads, print}
-use Rattle.ed_sources.proofs.Kit.{with_h, digits, print_orders, sum, caller, IsLoadedAt, IsOutside, ChecksToStop}
-use Rattle.ed_sources.proofs.Kit.{size_after, cases_lt, function_of, kind_of_function, jump_order, next_word}
-use Rattle.ed_sources.proofs.Kit.{obey_word, place_of, guest, progress, entry_state}
-use Rattle.ed_checker.proofs.Kit.{within, address_of, long_at, checked_orders, IsAllowed, orders_by, turn_orders}
-use Rattle.ed_notation.proofs.Kit.{replicate, set, over}
-use Rattle.std.proofs.Math.ListN.{get_or-append}
-use Rattle.std.proofs.lemmas.List.{get_or-append_right, get_or-drop}
-use Rattle.ed_orders.specs.declared.kind.Kind.TheVariants.{A}
+use Rattle.ed_sources.proofs.Kit.{Z_F, Size, joined, no_stops, nat_eq, ◌||◌, list_all, image_word, parameter_store}
+use Rattle.ed_sources.proofs.Kit.{unwrap_or, eqb-true, least, placed_at, before_units, IsCalled, [], ap, arith, Bool}
+use Rattle.ed_sources.proofs.Kit.{get_or, inl, length, lit<, lit≤, refl, rules, subst, suc, sym, true, ℕ, ◌*◌, ◌++◌}
+use Rattle.ed_sources.proofs.Kit.{◌+◌, ◌<◌, ◌^◌, ◌∙◌, ◌∷◌, ◌≡◌, ◌≤◌, short_at, State, state_after, free, Leads, print}
+use Rattle.ed_sources.proofs.Kit.{with_h, digits, print_orders, sum, ChecksToStop, size_after, function_of, next_word}
+use Rattle.ed_sources.proofs.Kit.{guest, entry_state, call_text, read_is_accepted, Check, locations, tens, false, zero}
+use Rattle.ed_sources.proofs.Kit.{◌%◌, ◌/◌}
+use Rattle.ed_checker.proofs.Kit.{address_of, long_at, checked_orders, IsAllowed, orders_by, turn_orders}
 use Rattle.ed_machine.specs.Sound.{IsSound}
-use Rattle.ed_machine.proofs.Kit.Leads.{first_order}
-use Rattle.ed_machine.proofs.Kit.Zeros.{begun, shown}
-use Rattle.ed_machine.proofs.Steps.{after_sum}
-use Rattle.ed_initial.proofs.Starts.{all_fit}
+use Rattle.ed_machine.proofs.Steps.{each_sum}
 use Rattle.ed_library.specs.Routines.{is_working}
-use Rattle.ed_routines.proofs.Print.{before_tens, print_weight, shown_weight, shows_is, sum_is}
+use Rattle.ed_routines.proofs.Print.{print_weight, before_tens, shown_weight, shows_is, sum_is}
 use Rattle.ed_routines.proofs.Walks.{total, total_sum}
 use Rattle.ed_checker.specs.Checker.{HasImage, check}
 use Rattle.ed_checker.specs.Laws.{HasGuest, IsFollowed, StopsAfter}
 use Rattle.ed_checker.proofs.Follow.{checker_law}
 use Rattle.ed_checker.proofs.Guests.{allowed_below}
 use Rattle.ed_checker.proofs.Weights.{checked_total, turn_weighs, turn_weights}
-use Rattle.ed_answers.specs.EntryState.{loader_words}
-use Rattle.ed_sources.proofs.Along.{IsAt, before, has}
-use Rattle.ed_sources.proofs.AtEntry.{all_words, has_image, placed, word_at}
+use Rattle.ed_sources.proofs.Along.{IsAt, before, has, HasCall, out}
+use Rattle.ed_sources.proofs.AtEntry.{all_words, placed, word_at, sound_entry}
 use Rattle.ed_sources.proofs.CalledRoutines.{stop_at}
-use Rattle.ed_sources.proofs.Calling.{HasRoutine, IsBefore, called, caller_is, Leads-calls, IsLoadedAt-stands}
+use Rattle.ed_sources.proofs.Calling.{IsBefore, called, caller_is, Leads-calls, IsLoadedAt-stands, outside, call_keeps}
+use Rattle.ed_sources.proofs.Calling.{call_weighs}
 use Rattle.ed_sources.proofs.Decimals.{among, numbers}
 use Rattle.ed_sources.proofs.Said.{check_lines}
 use Rattle.ed_routines.proofs.PrintCall as print_call
-
--- ---- the words of a store at an entry
-
-set_fits : (ws : List ℕ) (p v i : ℕ) → ((j : ℕ) → get_or ws j 0 < 2 ^ 17) → v < 2 ^ 17
-    → get_or (set ws p v) i 0 < 2 ^ 17
-set_fits [] p v i h fits = lit< tt
-set_fits (w ∷ ws) zero v zero h fits = fits
-set_fits (w ∷ ws) zero v (suc i) h fits = h (suc i)
-set_fits (w ∷ ws) (suc p) v zero h fits = h 0
-set_fits (w ∷ ws) (suc p) v (suc i) h fits = set_fits ws p v i (λ j. h (suc j)) fits
-
-over_fits : (ps : List (ℕ × ℕ)) (ws : List ℕ) → list_all (λ p. nat_lt p.1 (2 ^ 17)) ps ≡ true
-    → ((j : ℕ) → get_or ws j 0 < 2 ^ 17)
-    → (i : ℕ) → get_or (over ps ws) i 0 < 2 ^ 17
-over_fits [] ws h fits i = fits i
-over_fits (p ∷ ps) ws h fits i =
-    let q = and_parts (nat_lt p.1 (2 ^ 17)) (list_all (λ p. nat_lt p.1 (2 ^ 17)) ps) h in
-    set_fits (over ps ws) p.0 p.1 i (over_fits ps ws q.1 fits) (ltb-true p.1 (2 ^ 17) q.0)
-
-zeros_fit : (k i : ℕ) → get_or (replicate k 0) i 0 < 2 ^ 17
-zeros_fit zero i = lit< tt
-zeros_fit (suc k) zero = lit< tt
-zeros_fit (suc k) (suc i) = zeros_fit k i
+use Rattle.ed_sources.proofs.CallsAccepted.{check_read, faultless}
+use Rattle.ed_orders.specs.declared.kind.Kind.{Kind}
+use Rattle.ed_machine.proofs.Kit.Orders.{IsOrder}
+use Rattle.ed_machine.proofs.Kit.Zeros.{begun, shown}
 
 -- ---- the weights of the orders of `print`
 
@@ -90,28 +62,11 @@ module _ (z : Size) (n : ℕ) (small : n < 65536) where
   word : (a : ℕ) → 44 ≤ a → a < 1024 → short_at m.store a ≡ unwrap_or (placed_at (placed (check_lines n)) a) 0
   word = word_at z (check_lines n) refl
 
-  placed_fit : list_all (λ p. nat_lt p.1 (2 ^ 17)) (placed (check_lines n)) ≡ true
-  unfolding parameter_store
-  placed_fit = search (rules, lt-ltb, placed)
-
-  abbrev front : List ℕ
-  front = loader_words (check_lines n)
-
-  abbrev back : List ℕ
-  back = over (placed (check_lines n)) (replicate 1024 0)
-
-  fits : (i : ℕ) → get_or m.store.words i 0 < 2 ^ 17
-  fits i =
-      elim (cases_lt i 44) [
-        | inl l ↦ subst (λ x. x < 2 ^ 17) (sym (get_or-append front (drop 44 back) 0 i l)) (all_fit front refl i)
-        | inr l ↦
-            let e = get_or-append_right front (drop 44 back) 44 i 0 refl l ∙ get_or-drop 44 back (i - 44) 0 in
-            subst (λ x. x < 2 ^ 17) (sym e)
-            (over_fits (placed (check_lines n)) (replicate 1024 0) placed_fit (zeros_fit 1024) (44 + (i - 44)))
-      ]
-
   sound : IsSound m
-  sound = search (rules, least, all_words, length-replicate, fits)
+  sound =
+      sound_entry z (call_text (Check n)) (check_lines n)
+      (read_is_accepted z (call_text (Check n)) (check_lines n) (check_read n small)
+      (faultless z (check_lines n) refl refl))
 
   -- ---- the routine at its base
 
@@ -137,14 +92,13 @@ module _ (z : Size) (n : ℕ) (small : n < 65536) where
   unfolding parameter_store
   fetch = word 112 (lit≤ tt) (lit< tt)
 
-  no_high : long_at m.store 172 ≡ 0
-  no_high = rw (word 172 (lit≤ tt) (lit< tt), word 173 (lit≤ tt) (lit< tt)) refl
-
-  no_middle : long_at m.store 174 ≡ 0
-  no_middle = rw (word 174 (lit≤ tt) (lit< tt), word 175 (lit≤ tt) (lit< tt)) refl
-
-  no_low : long_at m.store 176 ≡ 0
-  no_low = rw (word 176 (lit≤ tt) (lit< tt), word 177 (lit≤ tt) (lit< tt)) refl
+  -- the long words of the guest's accumulator are 0
+  clear : (long_at m.store 172 ≡ 0) × (long_at m.store 174 ≡ 0) × (long_at m.store 176 ≡ 0)
+  clear = (
+    rw (word 172 (lit≤ tt) (lit< tt), word 173 (lit≤ tt) (lit< tt)) refl,
+    rw (word 174 (lit≤ tt) (lit< tt), word 175 (lit≤ tt) (lit< tt)) refl,
+    rw (word 176 (lit≤ tt) (lit< tt), word 177 (lit≤ tt) (lit< tt)) refl,
+  )
 
   has_guest : HasGuest 112 m
   has_guest =
@@ -158,9 +112,9 @@ module _ (z : Size) (n : ℕ) (small : n < 65536) where
           acc = refl;
           image = has_words;
           fetch = rw fetch refl;
-          middle = subst (λ x. x < 2 ^ 34) (sym no_middle) (lit< tt);
-          low = subst (λ x. x % 2 ^ 32 ≡ 0) (sym no_low) refl;
-          low_few = subst (λ x. x < 2 ^ 34) (sym no_low) (lit< tt);
+          middle = subst (λ x. x < 2 ^ 34) (sym clear.1) (lit< tt);
+          low = rw clear.2 refl;
+          low_few = subst (λ x. x < 2 ^ 34) (sym clear.2) (lit< tt);
         };
       }
 
@@ -170,29 +124,20 @@ module _ (z : Size) (n : ℕ) (small : n < 65536) where
   counter_is = ap address_of fetch
 
   acc_is : g.acc ≡ 0
-  acc_is = rw (no_high, no_middle, no_low) refl
+  acc_is = rw (clear.0, clear.1, clear.2) refl
 
   at : IsAt z (check_lines n) g 59 60 56
   at = search (rules, counter_is, acc_is, all_words)
 
-  before_print : IsBefore g 56 60
-  before_print = before at refl (lit≤ tt) (lit≤ tt) (lit≤ tt) (lit< tt) refl refl
-
-  print_image : has_image (placed (check_lines n)) print 60 (with_h 59) ≡ true
+  its_call : HasCall (check_lines n) print 60 (with_h 59) 59 60 56
   unfolding parameter_store
-  print_image = refl
+  its_call = search rules
+
+  before_print : IsBefore g 56 60
+  before_print = before at its_call
 
   abbrev t : State
   t = called g 56 60
-
-  has_print : HasRoutine g print 60 (with_h 59)
-  has_print = has at refl print_image (lit≤ tt) (lit≤ tt) (lit≤ tt) (lit≤ tt)
-
-  there : IsLoadedAt print (with_h 59) 60 t
-  there = IsLoadedAt-stands before_print has_print
-
-  outside : IsOutside print 60 59 t
-  outside = let size = least z in record { below = omega arith; beside = inl (lit< tt) }
 
   number_is : short_at t.store 59 ≡ n
   number_is = word 59 (lit≤ tt) (lit< tt)
@@ -206,20 +151,23 @@ module _ (z : Size) (n : ℕ) (small : n < 65536) where
   printing : IsCalled print (with_h 59) 60 59 112 t
   printing =
       let size = least z in
-      let back : caller t + 3 ≤ 112 = let e = caller_is before_print in omega arith in
       record {
         all = all_words z (check_lines n);
-        stands = there;
-        outside = outside;
-        within = record { under = lit≤ tt; near = lit< tt; back = back; fits = omega arith };
+        stands = IsLoadedAt-stands before_print (has at its_call);
+        outside = outside before_print (out at its_call (lit< tt));
+        within = record {
+          under = lit≤ tt;
+          near = lit< tt;
+          back = let e = caller_is before_print in omega arith;
+          fits = omega arith;
+        };
       }
 
   abbrev end : State
   end = print_call.last printing low
 
   leads : Leads (2 + count) g ([] ++ (11 ∷ digits (short_at t.store 59))) end
-  leads = joined (Leads-calls before_print)
-      (print_call.leads_to printing low)
+  leads = joined (Leads-calls before_print) (print_call.leads_to printing low)
 
   end_counter : end.counter ≡ 58
   end_counter = ap (λ x. x + 2) (caller_is before_print)
@@ -227,56 +175,27 @@ module _ (z : Size) (n : ℕ) (small : n < 65536) where
   end_word : next_word end ≡ Z_F
   end_word =
       ap (λ x. get_or end.store.words x 0) end_counter
-      ∙ (print_call.keeps printing low end refl).words
-      58 (record { other = inl (lit< tt) })
+      ∙ (print_call.keeps printing low end refl).words 58 (record { other = inl (lit< tt) })
       ∙ word 58 (lit≤ tt) (lit< tt)
 
   -- ---- each of its orders is allowed
 
-  below : (a : ℕ) → a < 112 → within z a < 112
-  below a l = let size = least z in rw (within_below z a (omega arith)) l
-
-  first_word : next_word g ≡ 114800
-  first_word = ap (short_at m.store) counter_is ∙ word 56 (lit≤ tt) (lit< tt)
-
-  first : IsAllowed 112 g
-  first = search (rules, least, outside, counter_is, first_word, below)
-
-  abbrev second : State
-  second = (obey_word (Some A) 114800 g).state
-
-  second_is : state_after 1 g ≡ second
-  second_is = first_order g 114800 first_word
-
-  second_counter : second.counter ≡ 57
-  second_counter = let size = least z in ap (λ c. within z (c + 1)) counter_is ∙ within_below z 57 (omega arith)
-
-  second_word : next_word second ≡ 110712
-  second_word = ap (short_at m.store) second_counter ∙ word 57 (lit≤ tt) (lit< tt)
-
-  second_allowed : IsAllowed 112 second
-  second_allowed = search (rules, least, outside, second_counter, second_word, below)
+  -- an order that stays below the routine is allowed
+  plain : (kind : Kind) (x : State) → IsOrder 112 kind x → x.size ≡ z → IsAllowed 112 x
+  plain kind x o same = let size = least z in allowed_below 112 refl kind x o (rw same (omega arith))
 
   third : state_after 2 g ≡ t
   third = (Leads-calls before_print).state_is
 
-  of_print : (i : ℕ) → i < count → IsAllowed 112 (state_after i t)
-  of_print i l =
-      let size = least z in
-      print_call.keeps_below printing low (λ x. x.size ≡ z → IsAllowed 112 x)
-      (λ kind x o same. allowed_below 112 refl kind x o (rw same (omega arith))) i l (size_after i t)
-
-  no_orders : state_after 0 g ≡ g
-  unfolding progress
-  no_orders = refl
+  fits : 112 ≤ locations z
+  fits = let size = least z in omega arith
 
   each : (j : ℕ) → j < 2 + count → IsAllowed 112 (state_after j g)
-  each zero l = subst (IsAllowed 112) (sym no_orders) first
-  each (suc zero) l = subst (IsAllowed 112) (sym second_is) second_allowed
-  each (suc (suc i)) l =
-      let e : suc (suc i) ≡ 2 + i = omega arith in
-      subst (IsAllowed 112) (sym (ap (λ x. state_after x g) e ∙ after_sum 2 i g ∙ ap (state_after i) third))
-      (of_print i (omega arith))
+  each = each_sum (IsAllowed 112) 2 count g
+      (λ j l. call_keeps before_print 112 (lit≤ tt) (lit< tt) fits (λ x. x.size ≡ z → IsAllowed 112 x) plain j l
+      (size_after j g))
+      (λ j l. subst (λ x. IsAllowed 112 (state_after j x)) (sym third)
+      (print_call.keeps_below printing low (λ x. x.size ≡ z → IsAllowed 112 x) plain j l (size_after j t)))
 
   followed : IsFollowed 112 (2 + count) g
   followed = record { allowed = each; obeyed = free leads }
@@ -300,58 +219,25 @@ module _ (z : Size) (n : ℕ) (small : n < 65536) where
 
   -- ---- the orders of its turns
 
-  first_turn : turn_orders g ≡ 35
-  first_turn = λ i. orders_by (function_of (first_word i)) (acc_is i)
-
-  jump_keeps : (b : Bool) (p : ℕ) (x : State) → (jump_order b p x).state.acc ≡ x.acc
-  jump_keeps true p x = refl
-  jump_keeps false p x = refl
-
-  jump_is : state_after 2 g ≡ (obey_word (Some G) 110712 second).state
-  unfolding progress step
-  jump_is = ap (λ (x : State). (step x).state) second_is
-      ∙ ap (λ w. (obey_word (kind_of_function (function_of w)) w second).state) second_word
-
-  second_acc : second.acc ≡ short 114800
-  second_acc =
-      sym (jump_keeps (nat_le (2 ^ 70) second.acc) (place_of second 110712) second)
-      ∙ ap (λ (x : State). x.acc) (sym jump_is ∙ third)
-
-  second_turn : turn_orders second ≡ 16
-  second_turn = λ i. orders_by (function_of (second_word i)) (second_acc i)
-
   last_turn : turn_orders (state_after (2 + count) g) ≡ 35
   last_turn = ap turn_orders at_end ∙ ap (λ w. orders_by (function_of w) end.acc) end_word
 
   two_turns : total turn_orders 2 g ≡ 51
-  unfolding total
   two_turns =
-      let a = ap turn_orders no_orders ∙ first_turn in
-      let b = ap turn_orders second_is ∙ second_turn in
-      omega (arith, a, b)
+      call_weighs before_print 112 (lit≤ tt) (lit< tt) fits turn_weights turn_orders
+      (λ kind x o. turn_weighs kind x o.kind_is)
 
   print_turns : total turn_orders count t ≡ print_weight turn_weights (short_at t.store 59)
   print_turns = print_call.weighs printing low turn_weights turn_orders (λ kind x o. turn_weighs kind x o.kind_is)
 
-  turns_before : total turn_orders (2 + count) g ≡ 51 + print_weight turn_weights (short_at t.store 59)
-  turns_before =
-      total_sum turn_orders 2 count g
-      ∙ (λ i. two_turns i + total turn_orders count (third i))
-      ∙ ap (λ x. 51 + x) print_turns
-
   all_turns : checked_orders g (suc (2 + count)) ≡ 86 + print_weight turn_weights (short_at t.store 59)
   unfolding total
-  all_turns =
-      let before = turns_before in
-      let last = last_turn in
-      checked_total g (suc (2 + count)) ∙ omega (arith, before, last)
+  all_turns = search (rules, before, total_sum, two_turns, third, print_turns, last_turn, checked_total)
 
   -- the guest's orders up to its first Z, which is the last of them, and as many orders of the machine as the formula
   -- has lead to it
   pub checks_print : ChecksToStop 112 (3 + print_orders n) m
-  checks_print =
-      let e : suc (2 + count) ≡ 3 + print_orders n = ap (λ x. suc (2 + print_orders x)) number_is ∙ omega arith in
-      subst (λ q. ChecksToStop 112 q m) e checks
+  checks_print = search (rules, number_is, checks)
 
   pub count_is : checks_print.count ≡ 2550 + 244 * sum (before_units n) + 142 * length (before_units n)
   count_is = search (rules, number_is, all_turns, checks_print, print_weight_is)

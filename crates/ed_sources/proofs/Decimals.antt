@@ -1,12 +1,13 @@
 -- The digits of a number in a source: as a word of it, and as rows of its tape.
 use Rattle.ed_sources.proofs.Kit.{decimal, row, spells, length-append, map, nat_eq, not, list_all, and_from, and_parts}
 use Rattle.ed_sources.proofs.Kit.{ltb-true, length-map, is_digit, row_of, is_run_byte, is_line_byte, eqb-true}
-use Rattle.ed_sources.proofs.Kit.{before_units, digits_law, few_digits, tens, [], ap, arith, Bool, inl, inr, length}
+use Rattle.ed_sources.proofs.Kit.{before_units, digits_law, few_digits, tens, [], arith, Bool, inl, inr, length}
 use Rattle.ed_sources.proofs.Kit.{List, nat_lt, refl, rules, subst, suc, true, zero, ℕ, ◌%◌, ◌*◌, ◌++◌, ◌+◌, ◌-◌, ◌<◌}
 use Rattle.ed_sources.proofs.Kit.{◌==◌, ◌∙◌, ◌∷◌, ◌≡◌, ◌≤◌, lt-ltb, digits, without_zeros, cases_lt}
 use Rattle.std.proofs.Common.{fold}
 use Rattle.ed_words.specs.Decimals.{value as spelled_value}
 use Rattle.ed_routines.specs.Digits.{value_after}
+use Rattle.std.proofs.lemmas.Grind.{common_steps}
 
 abbrev pub are_digits : List ℕ → Bool
 are_digits ds = list_all (λ d. nat_lt d 10) ds
@@ -80,17 +81,13 @@ rows_are ds are = rows_from ds (each_passes (λ d. nat_eq (row (row_of (48 + d))
 -- and their number is that of the digits
 value_from : (n : ℕ) (ds : List ℕ) → fold (λ n b. 10 * n + (b - 48)) n (written ds) ≡ value_after n ds
 value_from n [] = refl
-value_from n (d ∷ ds) =
-    let e : 10 * n + (48 + d - 48) ≡ 10 * n + d = omega arith in
-    ap (λ m. fold (λ n b. 10 * n + (b - 48)) m (written ds)) e ∙ value_from (10 * n + d) ds
+value_from n (d ∷ ds) = search (rules, value_from (10 * n + d) ds)
 
 -- ---- the digits of a number
 
 more_digits : (xs ys : List ℕ) → are_digits xs ≡ true → are_digits ys ≡ true → are_digits (xs ++ ys) ≡ true
 more_digits [] ys p q = q
-more_digits (x ∷ xs) ys p q =
-    let h = and_parts (nat_lt x 10) (are_digits xs) p in
-    and_from (nat_lt x 10) (are_digits (xs ++ ys)) h.0 (more_digits xs ys h.1 q)
+more_digits (x ∷ xs) ys p q = grind (arith, common_steps)
 
 fewer : (ds : List ℕ) → are_digits ds ≡ true → are_digits (without_zeros ds) ≡ true
 fewer [] h = refl
@@ -113,3 +110,6 @@ module _ (n : ℕ) (small : n < 65536) where
 -- there is at least one
 pub some_digit : (n : ℕ) → 0 < length (digits n)
 some_digit n = let e = length-append (before_units n) (n % 10 ∷ []) in omega (arith, e)
+
+-- what a source reads in the bytes of a number
+pub ruleset spelled = (are, decimal_is, value_is, few_bytes, line_bytes, run_bytes, digit_bytes)

@@ -2,35 +2,27 @@
 use Rattle.ed_sources.proofs.Kit.{decimal, flat_map-append, list_all-append, codes, length-append, Ok, list_all}
 use Rattle.ed_sources.proofs.Kit.{and_from, nat_tests, Text, is_line_byte, [], ap, arith, length, List, refl, suc, sym}
 use Rattle.ed_sources.proofs.Kit.{true, zero, ℕ, ◌*◌, ◌++◌, ◌+◌, ◌<◌, ◌∙◌, ◌∷◌, ◌≡◌, ◌≤◌, program_of, text_of_lines}
-use Rattle.ed_sources.proofs.Kit.{adding_pieces, demo_text, next, number_after, number_word, segments, word_lines}
+use Rattle.ed_sources.proofs.Kit.{adding_pieces, demo_text, next, number_after, segments, word_lines}
 use Rattle.ed_sources.proofs.CallsAccepted.{decimal_plain}
 use Rattle.ed_sources.proofs.FilledLines.{filled_is}
 use Rattle.ed_sources.proofs.SaidDemo.{adding, demo_lines, demo_says, demo_source}
 use Rattle.ed_sources.proofs.TextLines.{program_is, said_lines}
+use Rattle.std.proofs.Common.{rules}
 
 -- ---- bytes of lines
 
 words_plain : (n x : ℕ) → list_all (list_all is_line_byte) (word_lines n x) ≡ true
 words_plain zero x = refl
-words_plain (suc n) x =
-    let number = decimal_plain (number_word (next x)) (omega arith) in
-    let rest = words_plain n (next x) in
-    rw (number, rest) refl
+words_plain (suc n) x = search (rules, decimal_plain, words_plain n (next x))
 
 segments_plain : (n k x : ℕ) → k + n ≤ 65536 → list_all (list_all is_line_byte) (segments n k x) ≡ true
 segments_plain zero k x few = refl
 segments_plain (suc n) k x few =
-    let number = decimal_plain k (omega arith) in
-    let rest : list_all (list_all is_line_byte) (word_lines 8 x ++ segments n (k + 1) (number_after 8 x)) ≡ true =
-    list_all-append (list_all is_line_byte) (word_lines 8 x) (segments n (k + 1) (number_after 8 x))
-    ∙ and_from _ _ (words_plain 8 x) (segments_plain n (k + 1) (number_after 8 x) (omega arith)) in
-    rw (number, rest) refl
+    let rest = segments_plain n (k + 1) (number_after 8 x) (omega arith) in
+    search (rules, decimal_plain, list_all-append, and_from, words_plain, rest)
 
 adding_plain : (words : ℕ) → words < 65536 → list_all (list_all is_line_byte) (adding words) ≡ true
-adding_plain words small =
-    let stop : list_all is_line_byte (decimal words ++ codes " F") ≡ true =
-    list_all-append is_line_byte (decimal words) (codes " F") ∙ and_from _ _ (decimal_plain words small) refl in
-    rw stop refl
+adding_plain words small = search (rules, list_all-append, and_from, decimal_plain)
 
 demo_plain : (n : ℕ) → n ≤ 112 → list_all (list_all is_line_byte) (demo_source n) ≡ true
 demo_plain n few = grind (arith, nat_tests, list_all-append, and_from, adding_plain, segments_plain)
@@ -43,10 +35,7 @@ words_count (suc n) x = let e = words_count n (next x) in omega (arith, e)
 
 segments_count : (n k x : ℕ) → length (segments n k x) ≡ 9 * n
 segments_count zero k x = refl
-segments_count (suc n) k x =
-    let words = words_count 8 x in
-    let rest = segments_count n (k + 1) (number_after 8 x) in
-    omega (arith, words, rest, length-append (word_lines 8 x) (segments n (k + 1) (number_after 8 x)))
+segments_count (suc n) k x = search (rules, words_count, length-append, segments_count n (k + 1) (number_after 8 x))
 
 -- ---- what the source is read as
 

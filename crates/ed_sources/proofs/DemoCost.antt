@@ -1,10 +1,9 @@
 -- What reading the tape of `demo` costs: its program, the heads of its segments, and its words.
-use Rattle.ed_sources.proofs.Kit.{sum_by, sum_by-append, sum_by-cons, Item, Line, codes, nat_eq, nat_le, None, take}
-use Rattle.ed_sources.proofs.Kit.{◌||◌, leb-true, Definition, counter, unwrap_or, eq-eqb, ne_eqb, symbols_of}
-use Rattle.ed_sources.proofs.Kit.{item_with, punched_items, word_item, item_cost, [], ap, arith, Bool, drop, false}
-use Rattle.ed_sources.proofs.Kit.{if◌then◌else◌, List, nat_lt, Option, refl, Some, suc, zero, ℕ, ◌*◌, ◌++◌, ◌+◌, ◌<◌}
-use Rattle.ed_sources.proofs.Kit.{◌∙◌, ◌∷◌, ◌≡◌, ◌≤◌, le-ltb, cost, demo_cost, word_cost, next, number_after}
-use Rattle.ed_sources.proofs.Kit.{number_word, words_after}
+use Rattle.ed_sources.proofs.Kit.{sum_by, sum_by-append, sum_by-cons, Item, Line, codes, nat_le, None, take, ◌||◌}
+use Rattle.ed_sources.proofs.Kit.{leb-true, Definition, counter, eq-eqb, ne_eqb, symbols_of, item_with, punched_items}
+use Rattle.ed_sources.proofs.Kit.{word_item, item_cost, [], ap, arith, Bool, drop, false, if◌then◌else◌, List, nat_lt}
+use Rattle.ed_sources.proofs.Kit.{refl, Some, suc, zero, ℕ, ◌*◌, ◌++◌, ◌+◌, ◌<◌, ◌∙◌, ◌∷◌, ◌≡◌, ◌≤◌, cost, demo_cost}
+use Rattle.ed_sources.proofs.Kit.{word_cost, next, number_after, number_word, words_after}
 use Rattle.ed_link.proofs.Kit.{place_on, head, heads, punched_from}
 use Rattle.ed_sources.specs.Costs.{heads_cost}
 use Rattle.ed_sources.specs.DemoRuns.{LastDemoIsLongest, demo_orders, most_demo_orders}
@@ -13,15 +12,14 @@ use Rattle.ed_sources.proofs.DemoFaultless.{lines_behind, lines_with}
 use Rattle.ed_sources.proofs.DemoPlaced.{more_words}
 use Rattle.ed_sources.proofs.SaidDemo.{enter_line, segment_forms, word_forms}
 use Rattle.ed_sources.proofs.WordCosts.{cost_around}
+use Rattle.std.proofs.lemmas.Grind.{common_steps}
+use Rattle.std.proofs.Common.{rules}
 
 -- the item of a word, with those before it if it is the first of its segment, and with others after it
 one_word : (first : Bool) (base w : ℕ) (others : List Item)
     → sum_by item_cost ((heads first base ++ word_item w ∷ []) ++ others)
     ≡ sum_by item_cost (heads first base) + word_cost w + sum_by item_cost others
-one_word first base w others =
-    let all = sum_by-append item_cost (heads first base ++ word_item w ∷ []) others in
-    let own = cost_around (heads first base) (word_item w) [] in
-    omega (arith, all, own)
+one_word first base w others = grind (arith, common_steps)
 
 module _ (symbols : List Definition) where
   -- words after the first of their segment
@@ -36,9 +34,7 @@ module _ (symbols : List Definition) where
       let more =
       words_cost n (l + 1) (next x) (p + 1) b g rest k (omega arith) (λ q at. tail q (omega (arith, at))) in
       let words = sum_by-cons word_cost (number_word (next x)) (words_after n (next x)) in
-      one_word (nat_eq p b) b (number_word (next x))
-      (punched_from symbols (counter (p + 1) b g) (word_forms n (l + 1) (next x) ++ rest))
-      ∙ omega (arith, none, more, words)
+      search (rules, one_word)
 
   -- the words of a segment, with its head
   segment_cost : (n l x p g : ℕ) (rest : List Line) (k : ℕ)
@@ -51,9 +47,7 @@ module _ (symbols : List Definition) where
       let more =
       words_cost n (l + 1) (next x) (p + 1) p g rest k (omega arith) (λ q at. tail q (omega (arith, at))) in
       let words = sum_by-cons word_cost (number_word (next x)) (words_after n (next x)) in
-      one_word (nat_eq p p) p (number_word (next x))
-      (punched_from symbols (counter (p + 1) p g) (word_forms n (l + 1) (next x) ++ rest))
-      ∙ omega (arith, begun, more, words)
+      search (rules, one_word)
 
   -- a segment of 8 words before n others
   segment_before : (n l x p g : ℕ) (rest : List Line)
@@ -75,9 +69,7 @@ module _ (symbols : List Definition) where
   segments_cost : place_on symbols None (codes "main") ≡ Some 56 → (n k l x m p b g : ℕ)
       → sum_by item_cost (punched_from symbols (counter p b g) (segment_forms n k l x ++ enter_line m ∷ []))
       ≡ heads_cost n p + sum_by word_cost (words_after (8 * n) x) + 63
-  segments_cost main zero k l x m p b g =
-      ap (λ (place : Option ℕ).
-      sum_by item_cost (item_with 3 (unwrap_or place 0) false 14 ∷ item_with 0 0 false 17 ∷ [])) main
+  segments_cost main zero k l x m p b g = search rules
   segments_cost main (suc n) k l x m p b g =
       segment_before n (l + 1) x p (g + 1) (segment_forms n (k + 1) (l + 9) (number_after 8 x) ++ enter_line m ∷ [])
       (λ q. segments_cost main n (k + 1) (l + 9) (number_after 8 x) m q p (g + 1))
@@ -98,10 +90,7 @@ module _ (words n x l : ℕ) where
   at_stop = item_with 28 number false 17
 
   number_is : words ≤ 900 → number ≡ 123 + words
-  number_is few =
-      let low : nat_lt (123 + words) 0 ≡ false = le-ltb (123 + words) 0 (omega arith) in
-      let high : nat_lt 32767 (123 + words) ≡ false = le-ltb 32767 (123 + words) (omega arith) in
-      rw (low, high) refl
+  number_is few = grind (arith, common_steps)
 
   abbrev between : List Item
   between = drop 16 (take 73 (punched_items lines))

@@ -1,20 +1,18 @@
 -- The source of `demo` from its entry to its stop.
-use Rattle.ed_sources.proofs.Kit.{Size, opens, Line, codes, map, None, take, Text, least, HasRoutine, ReachesStop, []}
-use Rattle.ed_sources.proofs.Kit.{ap, arith, get_or, inr, length, List, lit≤, Option, refl, rules, Some, subst, suc}
-use Rattle.ed_sources.proofs.Kit.{sym, zero, ℕ, ◌*◌, ◌++◌, ◌+◌, ◌<◌, ◌∙◌, ◌∷◌, ◌≡◌, ◌≤◌, locations, State, state}
-use Rattle.ed_sources.proofs.Kit.{patched, print, with_h, digits, print_orders, entry_of, cost, entry_state, demo_cost}
-use Rattle.ed_sources.proofs.Kit.{demo_sum}
+use Rattle.ed_sources.proofs.Kit.{Size, opens, Line, codes, map, None, take, least, HasRoutine, ReachesStop, [], arith}
+use Rattle.ed_sources.proofs.Kit.{get_or, inr, List, lit≤, Option, refl, rules, Some, suc, sym, ℕ, ◌*◌, ◌++◌, ◌+◌, ◌<◌}
+use Rattle.ed_sources.proofs.Kit.{◌∙◌, ◌∷◌, ◌≡◌, ◌≤◌, locations, State, state, patched, print, with_h, digits}
+use Rattle.ed_sources.proofs.Kit.{print_orders, entry_of, cost, entry_state, demo_cost, demo_sum}
 use Rattle.ed_sources.specs.DemoSources.{demo_words}
 use Rattle.ed_sources.proofs.AtEntry.{all_words}
 use Rattle.ed_sources.proofs.Blocks.{last_at}
-use Rattle.ed_sources.proofs.Decimals.{decimal_is}
 use Rattle.ed_sources.proofs.DemoCost.{cost_is}
-use Rattle.ed_sources.proofs.DemoFaultless.{lines_with}
+use Rattle.ed_sources.proofs.DemoFaultless.{lines_with, of_each}
 use Rattle.ed_sources.proofs.DemoLoop.{Fine, Given, Turning, at, cells, demo_stops, taking}
 use Rattle.ed_sources.proofs.DemoPlaced.{early_word, entry_is, front, length-long, print_image, small_sum, stop_word}
 use Rattle.ed_sources.proofs.DemoPlaced.{words_stand}
 use Rattle.ed_sources.proofs.Entries.{frame_at, holds_by, moment_at, routine_by}
-use Rattle.ed_sources.proofs.SaidDemo.{demo_lines, name}
+use Rattle.ed_sources.proofs.SaidDemo.{demo_lines}
 
 -- the program at its entry, with any word at `stop`
 abbrev image : List (Option ℕ)
@@ -87,39 +85,23 @@ module _ (z : Size) (n : ℕ) (few : n ≤ 111) (fits : 123 + 8 * suc n ≤ loca
   ends_so : ReachesStop (9 * words + (3 + print_orders (demo_sum (suc n)))) s (11 ∷ digits (demo_sum (suc n))) 69
   ends_so =
       let count = length-long words n (suc n) last_line in
-      subst (λ k. ReachesStop (9 * k + (3 + print_orders (demo_sum (suc n)))) s
-      (11 ∷ digits (demo_sum (suc n))) 69) count
-      (subst (λ (x : State). ReachesStop (9 * length (demo_words (suc n)) + (3 + print_orders (demo_sum (suc n)))) x
-      (11 ∷ digits (demo_sum (suc n))) 69) begins
-      (demo_stops given (demo_sum (suc n)) (sum_small (suc n) (omega arith)) first (demo_words (suc n))
-      (omega arith) fine
-      s.orders))
-
--- the source with the name of its first segment as its lines have it
-named_one : (n : ℕ) → lines_with (codes "s1") (8 * suc n) n (suc n) (19 + 9 * suc n) ≡ demo_lines (suc n)
-named_one n =
-    let one : codes "s1" ≡ name 1 = ap (λ (t : Text). 115 ∷ t) (decimal_is 1 (omega arith)) in
-    ap (λ (t : Text). lines_with t (8 * suc n) n (suc n) (19 + 9 * suc n)) one
+      rw (count, begins) at
+      (demo_stops given (demo_sum (suc n)) (sum_small (suc n) (omega arith)) first (demo_words (suc n)) (omega arith)
+      fine s.orders)
 
 pub demo_entry : (n : ℕ) → 1 ≤ n → n ≤ 112 → entry_of (demo_lines n) ≡ 56
-demo_entry zero some few = absurd (omega arith)
-demo_entry (suc n) some few =
-    subst (λ (ls : List Line). entry_of ls ≡ 56) (named_one n) (entry_is (8 * suc n) n (suc n) (19 + 9 * suc n))
+demo_entry = of_each (λ n ls. entry_of ls ≡ 56) (λ n few. entry_is (8 * suc n) n (suc n) (19 + 9 * suc n))
 
 pub demo_ends : (z : Size) (n : ℕ) → 1 ≤ n → n ≤ 112 → 123 + 8 * n ≤ locations z
     → ReachesStop (72 * n + 3 + print_orders (demo_sum n)) (entry_state z (demo_lines n)) (11 ∷ digits (demo_sum n)) 69
-demo_ends z zero some few fits = absurd (omega arith)
-demo_ends z (suc n) some few fits =
-    let count : 9 * (8 * suc n) + (3 + print_orders (demo_sum (suc n)))
-    ≡ 72 * suc n + 3 + print_orders (demo_sum (suc n)) =
-    omega arith in
-    subst (λ k. ReachesStop k (entry_state z (demo_lines (suc n))) (11 ∷ digits (demo_sum (suc n))) 69) count
-    (subst (λ (ls : List Line). ReachesStop (9 * (8 * suc n) + (3 + print_orders (demo_sum (suc n)))) (entry_state z ls)
-    (11 ∷ digits (demo_sum (suc n))) 69) (named_one n) (ends_so z n (omega arith) fits))
+demo_ends z = of_each (λ n ls. 123 + 8 * n ≤ locations z
+    → ReachesStop (72 * n + 3 + print_orders (demo_sum n)) (entry_state z ls) (11 ∷ digits (demo_sum n)) 69)
+    (λ n few fits.
+    let count : 72 * suc n + 3 + print_orders (demo_sum (suc n))
+    ≡ 9 * (8 * suc n) + (3 + print_orders (demo_sum (suc n))) = omega arith in
+    rw count (ends_so z n few fits))
 
 -- what its tape costs
 pub demo_cost_is : (n : ℕ) → 1 ≤ n → n ≤ 112 → cost (demo_lines n) ≡ demo_cost n
-demo_cost_is zero some few = absurd (omega arith)
-demo_cost_is (suc n) some few =
-    subst (λ (ls : List Line). cost ls ≡ demo_cost (suc n)) (named_one n)
-    (cost_is (8 * suc n) n (suc n) (19 + 9 * suc n) (omega (arith, few)))
+demo_cost_is =
+    of_each (λ n ls. cost ls ≡ demo_cost n) (λ n few. cost_is (8 * suc n) n (suc n) (19 + 9 * suc n) (omega arith))

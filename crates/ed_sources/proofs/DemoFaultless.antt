@@ -1,20 +1,18 @@
 -- The source of `demo` has no fault of meaning, as long as its words are within the store.
 use Rattle.ed_sources.proofs.Kit.{Size, Line, codes, None, Text, LocationCounter, Definition, counter, first_counter}
-use Rattle.ed_sources.proofs.Kit.{fault, symbols_of, [], ap, arith, false, length, List, nat_lt, Option, refl, subst}
-use Rattle.ed_sources.proofs.Kit.{suc, sym, true, zero, ℕ, ◌*◌, ◌++◌, ◌+◌, ◌∙◌, ◌∷◌, ◌≡◌, ◌≤◌, le-ltb, locations, next}
-use Rattle.ed_sources.proofs.Kit.{number_after, number_word}
-use Rattle.ed_link.proofs.Kit.{max, min, resolution, any_enter, cause_of, earlier_fault, extent, fault_from, missing}
+use Rattle.ed_sources.proofs.Kit.{fault, symbols_of, [], ap, arith, false, List, nat_lt, refl, subst, suc, sym, true}
+use Rattle.ed_sources.proofs.Kit.{zero, ℕ, ◌*◌, ◌++◌, ◌+◌, ◌∷◌, ◌≡◌, ◌≤◌, le-ltb, locations, next, number_after}
+use Rattle.ed_link.proofs.Kit.{max, min, resolution, any_enter, cause_of, extent, fault_from}
 use Rattle.ed_words.specs.declared.size.Size.TheVariants.{Small, Full}
-use Rattle.ed_syntax.specs.declared.fault.SourceFault.{SourceFault}
 use Rattle.ed_symbols.specs.Names.{symbols_from}
 use Rattle.ed_link.proofs.Extents.{ExtentList, list_any-apart, are_below, fits_store, none_later, one_by_one, one_more, past}
 use Rattle.ed_sources.proofs.Decimals.{decimal_is}
-use Rattle.ed_sources.proofs.DemoNames.{enter_named, first_free, first_homes, program_named, segments_named}
-use Rattle.ed_sources.proofs.DemoNames.{words_named}
+use Rattle.ed_sources.proofs.DemoNames.{enter_named, first_free, first_homes, program_named, segments_named, AreNamed}
 use Rattle.ed_sources.proofs.Said.{said}
 use Rattle.ed_sources.proofs.SaidDemo.{adding_lines, demo_lines, enter_line, name, segment_forms, segment_line}
 use Rattle.ed_sources.proofs.SaidDemo.{word_forms}
 use Rattle.ed_syntax.specs.declared.program.Statement.TheVariants as statements
+use Rattle.std.proofs.Common.{rules}
 
 -- ---- locations
 
@@ -61,8 +59,7 @@ module _ (z : Size) (rest_homes : List Definition) where
       → AreSound z symbols extents (counter p b g) (word_forms n l x ++ rest)
   words_sound zero l x {p} {b} {g} {extents} {rest} low fits below behind =
       let e : p + 0 ≡ p = omega arith in
-      subst (λ q. AreSound z symbols extents (counter q b g) rest) e
-      (behind extents (subst (λ q. are_below q extents ≡ true) (sym e) below))
+      search rules
   words_sound (suc n) l x {p} {b} {g} {extents} {rest} low fits below behind =
       let e : p + suc n ≡ p + 1 + n = omega arith in
       let more : AreSound z symbols (extents ++ extent p (p + 1)
@@ -70,9 +67,7 @@ module _ (z : Size) (rest_homes : List Definition) where
       words_sound n (l + 1) (next x) (omega arith) (omega arith) (one_more p p (p + 1) extents (omega arith) below)
       (λ more under. subst (λ q. AreSound z symbols more (counter q b g) rest) e
       (behind more (subst (λ q. are_below q more ≡ true) (sym e) under))) in
-      record {
-        none = none_later l _ _ (word_sound l (number_word (next x)) p b g extents (low, omega arith) below) more.none;
-      }
+      search (rules, none_later, word_sound)
 
   segments_sound : (n k l x : ℕ) {p b g : ℕ} {extents : ExtentList} {rest : List Line} → 56 ≤ p
       → p + 8 * n ≤ locations z → are_below p extents ≡ true
@@ -99,10 +94,7 @@ module _ (z : Size) (rest_homes : List Definition) where
 
   behind_sound : (n x l : ℕ) → 131 + 8 * n ≤ locations z
       → AreSound z symbols first_extents (counter 123 123 3) (lines_behind n x l)
-  behind_sound n x l fits =
-      words_sound 8 20 x (omega arith) (omega (arith, fits)) refl
-      (λ more under. segments_sound n 2 28 (number_after 8 x) (omega arith) fits under
-      (λ extents q c h below. enter_sound l q c h extents below))
+  behind_sound n x l fits = search (rules, words_sound, segments_sound, enter_sound)
 
 program_sound : (z : Size) (rest_homes : List Definition) (words : ℕ) (rest : List Line)
     → fault_from z (first_homes ++ rest_homes) true (past first_extents) (counter 123 123 3) rest ≡ None
@@ -129,10 +121,11 @@ module _ (z : Size) (words n x l : ℕ) (few : n ≤ 111) (near : words ≤ 900)
 
   named : (resolution lines).fault ≡ None
   named =
-      program_named rest_homes words near
-      (words_named rest_homes 8 20 x
-      (λ t. segments_named rest_homes n 2 28 (number_after 8 x) (omega (arith, few)) first_free
-      (λ e s. enter_named rest_homes l)))
+      let behind : AreNamed (symbols_of lines) first_homes (counter 131 123 3)
+      (segment_forms n 2 28 (number_after 8 x) ++ enter_line l ∷ []) =
+      segments_named rest_homes n 2 28 (number_after 8 x) (omega (arith, few)) first_free
+      (λ e s. enter_named rest_homes l) in
+      program_named rest_homes {rest = lines_behind n x l} words near (record { none = behind.none })
 
   sound : fault_from z (symbols_of lines) true (past []) first_counter lines ≡ None
   sound = program_sound z rest_homes words (lines_behind n x l)
@@ -142,15 +135,17 @@ module _ (z : Size) (words n x l : ℕ) (few : n ≤ 111) (near : words ≤ 900)
   entered = segments_enter n 2 28 (number_after 8 x) (enter_line l ∷ [])
 
   pub lines_faultless : fault z lines ≡ None
-  lines_faultless =
-      (λ i. earlier_fault (named i) (earlier_fault (fault_from z (symbols_of lines) (entered i)
-      (past []) first_counter lines)
-      (missing (entered i) (length lines))))
-      ∙ ap (λ (f : Option SourceFault). earlier_fault None (earlier_fault f None)) sound
+  lines_faultless = search (rules, named, entered, sound)
+
+-- what holds of every source whose first segment has its name spelled out holds of each `demo N`
+pub of_each : (P : ℕ → List Line → Type 0)
+    → ((n : ℕ) → n ≤ 111 → P (suc n) (lines_with (codes "s1") (8 * suc n) n (suc n) (19 + 9 * suc n)))
+    → (n : ℕ) → 1 ≤ n → n ≤ 112 → P n (demo_lines n)
+of_each P holds zero some few = absurd (omega arith)
+of_each P holds (suc n) some few =
+    let one : codes "s1" ≡ name 1 = ap (λ (t : Text). 115 ∷ t) (decimal_is 1 (omega arith)) in
+    subst (λ (t : Text). P (suc n) (lines_with t (8 * suc n) n (suc n) (19 + 9 * suc n))) one (holds n (omega arith))
 
 pub demo_faultless : (z : Size) (n : ℕ) → 1 ≤ n → n ≤ 112 → 123 + 8 * n ≤ locations z → fault z (demo_lines n) ≡ None
-demo_faultless z zero some few fits = absurd (omega arith)
-demo_faultless z (suc n) some few fits =
-    let first : codes "s1" ≡ name 1 = ap (λ (t : Text). 115 ∷ t) (decimal_is 1 (omega arith)) in
-    subst (λ (t : Text). fault z (lines_with t (8 * suc n) n (suc n) (19 + 9 * suc n)) ≡ None) first
-    (lines_faultless z (8 * suc n) n (suc n) (19 + 9 * suc n) (omega arith) (omega arith) (omega arith))
+demo_faultless z = of_each (λ n ls. 123 + 8 * n ≤ locations z → fault z ls ≡ None)
+    (λ n few fits. lines_faultless z (8 * suc n) n (suc n) (19 + 9 * suc n) few (omega arith) (omega arith))

@@ -2,13 +2,13 @@
 use Rattle.ed_sources.proofs.Kit.{decimal, not-true, list_all-append, Line, codes, None, not, list_all, and_parts}
 use Rattle.ed_sources.proofs.Kit.{value, Text, LocationCounter, Definition, append-nil, first_counter, [], ap, arith}
 use Rattle.ed_sources.proofs.Kit.{Bool, false, List, nat_lt, Option, refl, rules, Some, subst, suc, sym, true, zero, ℕ}
-use Rattle.ed_sources.proofs.Kit.{◌++◌, ◌+◌, ◌<◌, ◌∙◌, ◌∷◌, ◌≡◌, ◌≤◌, le-ltb, digits, ◌≢◌, next, number_after}
+use Rattle.ed_sources.proofs.Kit.{◌++◌, ◌+◌, ◌<◌, ◌∙◌, ◌∷◌, ◌≡◌, ◌≤◌, le-ltb, digits, ◌≢◌, number_after}
 use Rattle.std.specs.Str.{bytes_eq}
 use Rattle.std.proofs.lemmas.Slice.Eq.{bytes_eq-Decides}
 use Rattle.ed_symbols.specs.NameTests.{naming_fault_from}
 use Rattle.ed_symbols.specs.Names.{definition_of}
 use Rattle.ed_sources.proofs.Decimals.{among, decimal_is, value_is, written}
-use Rattle.ed_sources.proofs.SaidDemo.{adding_lines, enter_line, name, segment_forms, segment_line, word_forms}
+use Rattle.ed_sources.proofs.SaidDemo.{adding_lines, enter_line, name, segment_forms, segment_line}
 
 -- ---- definitions without a name
 
@@ -81,37 +81,17 @@ module _ (rest_homes : List Definition) where
   abbrev symbols : List Definition
   symbols = first_homes ++ rest_homes
 
-  pub words_named : (n l x : ℕ) {earlier : List Definition} {s : LocationCounter} {rest : List Line}
-      → ((t : LocationCounter) → AreNamed symbols earlier t rest)
-      → AreNamed symbols earlier s (word_forms n l x ++ rest)
-  words_named zero l x {s = s} behind = behind s
-  words_named (suc n) l x {earlier} {s} {rest} behind = record {
-    none =
-        let next_spot : LocationCounter = record s { place = s.place + 1 } in
-        let more : AreNamed symbols earlier next_spot (word_forms n (l + 1) (next x) ++ rest) =
-        words_named n (l + 1) (next x) behind in
-        subst (λ (e : List Definition). naming_fault_from symbols e next_spot (word_forms n (l + 1) (next x)
-        ++ rest) ≡ None)
-        (sym (append-nil earlier)) more.none;
-  }
-
   pub segments_named : (n k l x : ℕ) {earlier : List Definition} {s : LocationCounter} {rest : List Line} → k + n ≤ 113
       → IsFree k earlier → ((e : List Definition) (t : LocationCounter) → AreNamed symbols e t rest)
       → AreNamed symbols earlier s (segment_forms n k l x ++ rest)
   segments_named zero k l x {earlier} {s} few free behind = behind earlier s
   segments_named (suc n) k l x {earlier} {s} {rest} few free behind =
       let own : Definition = record { name = name k; place = s.place; segment = Some (s.segments + 1) } in
-      let free_more = more_free k earlier own refl (omega arith) free in
-      let none : definition_of (Some (s.segments + 1)) (name k) earlier ≡ None =
-      no_home (Some (s.segments + 1)) (name k) earlier (free k (omega arith) (omega arith)) in
-      let new : definition_of (Some (s.segments + 1)) (name k) (earlier ++ []) ≡ None =
-      ap (definition_of (Some (s.segments + 1)) (name k)) (append-nil earlier) ∙ none in
-      let more : AreNamed symbols (earlier ++ own ∷ [])
-      (record { place = s.place; base = s.place; segments = s.segments + 1; inside = true })
-      (word_forms 8 (l + 1) x ++ segment_forms n (k + 1) (l + 9) (number_after 8 x) ++ rest) =
-      words_named 8 (l + 1) x (λ t. segments_named n (k + 1) (l + 9) (number_after 8 x)
-      (omega arith) free_more behind) in
-      record { none = rw new more.none }
+      let none = no_home (Some (s.segments + 1)) (name k) earlier (free k (omega arith) (omega arith)) in
+      record {
+        none = simp (append-nil, none) (segments_named n (k + 1) (l + 9) (number_after 8 x) (omega arith)
+            (more_free k earlier own refl (omega arith) free) behind).none;
+      }
 
   pub enter_named : {earlier : List Definition} {s : LocationCounter} (l : ℕ)
       → AreNamed symbols earlier s (enter_line l ∷ [])

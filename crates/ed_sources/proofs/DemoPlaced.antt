@@ -2,17 +2,17 @@
 -- segments, one after the other.
 use Rattle.ed_sources.proofs.Kit.{sum_by-cons, A_F, Size, Line, codes, nat_eq, take, list_all, image_word}
 use Rattle.ed_sources.proofs.Kit.{parameter_store, Definition, counter, unwrap_or, linked_words, placed_words}
-use Rattle.ed_sources.proofs.Kit.{symbols_of, [], ap, arith, get_or, inl, length, List, lit<, lit≤, refl, suc, sym}
+use Rattle.ed_sources.proofs.Kit.{symbols_of, [], ap, arith, get_or, inl, length, List, lit<, lit≤, refl, suc}
 use Rattle.ed_sources.proofs.Kit.{true, zero, ℕ, ◌*◌, ◌++◌, ◌+◌, ◌<◌, ◌∙◌, ◌∷◌, ◌≡◌, ◌≤◌, short_at, place_count, print}
 use Rattle.ed_sources.proofs.Kit.{with_h, entry_of, entry_state, next, number_after, number_word, words_after}
-use Rattle.std.proofs.Common.{sum}
+use Rattle.std.proofs.Common.{sum, rules}
 use Rattle.ed_link.specs.Linked.{entry_from, placed_from}
 use Rattle.ed_sources.proofs.AtEntry.{have_places}
 use Rattle.ed_sources.proofs.Blocks.{beside_block, block_places, front_word, in_block, last_at, order_at, rest_word}
 use Rattle.ed_sources.proofs.Decimals.{numbers}
 use Rattle.ed_sources.proofs.DemoFaultless.{lines_behind, lines_with}
 use Rattle.ed_sources.proofs.DemoLoop.{StandFrom}
-use Rattle.ed_sources.proofs.SaidDemo.{enter_line, segment_forms, word_forms}
+use Rattle.ed_sources.proofs.SaidDemo.{enter_line, segment_forms}
 
 -- ---- the words of the sequence
 
@@ -30,20 +30,9 @@ count_words (suc n) x = ap suc (count_words n (next x))
 -- their sum is at most 63 for each
 pub small_sum : (n x : ℕ) → sum (words_after n x) ≤ 63 * n
 small_sum zero x = lit≤ tt
-small_sum (suc n) x =
-    let rest = small_sum n (next x) in
-    let more = sum_by-cons (λ y. y) (number_word (next x)) (words_after n (next x)) in
-    omega (arith, rest, more)
+small_sum (suc n) x = search (rules, sum_by-cons, small_sum n (next x))
 
 -- ---- what the lines of words and segments place
-
-words_laid : (symbols : List Definition) (n l x p b g : ℕ) (rest : List Line) (ws : List ℕ)
-    → ((q : ℕ) → q ≡ p + n → placed_from symbols (counter q b g) rest ≡ placed_words q ws)
-    → placed_from symbols (counter p b g) (word_forms n l x ++ rest) ≡ placed_words p (words_after n x ++ ws)
-words_laid symbols zero l x p b g rest ws tail = tail p (omega arith)
-words_laid symbols (suc n) l x p b g rest ws tail =
-    ap (λ (ps : List (ℕ × ℕ)). (p, number_word (next x)) ∷ ps)
-    (words_laid symbols n (l + 1) (next x) (p + 1) b g rest ws (λ q e. tail q (omega arith)))
 
 segments_laid : (symbols : List Definition) (n k l x m p b g : ℕ)
     → placed_from symbols (counter p b g) (segment_forms n k l x ++ enter_line m ∷ [])
@@ -51,10 +40,7 @@ segments_laid : (symbols : List Definition) (n k l x m p b g : ℕ)
 segments_laid symbols zero k l x m p b g = refl
 segments_laid symbols (suc n) k l x m p b g =
     let e : 8 * suc n ≡ 8 + 8 * n = omega arith in
-    words_laid symbols 8 (l + 1) x p p (g + 1) (segment_forms n (k + 1) (l + 9) (number_after 8 x) ++ enter_line m ∷ [])
-    (words_after (8 * n) (number_after 8 x))
-    (λ q at. segments_laid symbols n (k + 1) (l + 9) (number_after 8 x) m q p (g + 1))
-    ∙ ap (placed_words p) (sym (ap (λ j. words_after j x) e ∙ more_words 8 (8 * n) x))
+    rw (e, more_words 8 (8 * n) x, segments_laid symbols n (k + 1) (l + 9) (number_after 8 x) m _ p (g + 1)) refl
 
 -- they have no entry but the last line
 segments_entry : (symbols : List Definition) (n k l x : ℕ) (rest : List Line)
@@ -78,10 +64,7 @@ module _ (words n x l : ℕ) where
   rest_is : placed_from (symbols_of lines) (counter 123 123 3) (lines_behind n x l) ≡ placed_words 123 items
   rest_is =
       let e : 8 * suc n ≡ 8 + 8 * n = omega arith in
-      words_laid (symbols_of lines) 8 20 x 123 123 3 (segment_forms n 2 28 (number_after 8 x) ++ enter_line l ∷ [])
-      (words_after (8 * n) (number_after 8 x))
-      (λ q at. segments_laid (symbols_of lines) n 2 28 (number_after 8 x) l q 123 3)
-      ∙ ap (placed_words 123) (sym (ap (λ j. words_after j x) e ∙ more_words 8 (8 * n) x))
+      rw (e, more_words 8 (8 * n) x, segments_laid (symbols_of lines) n 2 28 (number_after 8 x) l 131 123 3) refl
 
   parts : linked_words lines ≡ front ++ placed_words 123 items
   parts = ap (λ (ps : List (ℕ × ℕ)). front ++ ps) rest_is

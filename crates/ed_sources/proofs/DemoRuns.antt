@@ -1,9 +1,9 @@
 -- `demo` is the run of its source, from the state at its entry to its stop.
-use Rattle.ed_sources.proofs.Kit.{Line, codes, Text, few_digits, [], arith, List, subst, sym, ℕ, ◌*◌, ◌++◌, ◌+◌, ◌∙◌}
-use Rattle.ed_sources.proofs.Kit.{◌∷◌, ◌≡◌, ◌≤◌, print_orders, at_after, AnswersFromEntry, read_is_accepted, cost}
+use Rattle.ed_sources.proofs.Kit.{Line, codes, Text, few_digits, [], arith, List, ℕ, ◌*◌, ◌++◌, ◌+◌, ◌∙◌}
+use Rattle.ed_sources.proofs.Kit.{◌∷◌, ◌≡◌, print_orders, at_after, AnswersFromEntry, read_is_accepted, cost}
 use Rattle.ed_sources.proofs.Kit.{entry_note, run_outcome, accepted_is, each_answer_is_from_entry, demo_sum, demo_text}
 use Rattle.ed_answers.specs.Outcome.{Outcome}
-use Rattle.ed_sources.specs.DemoRuns.{EachDemoRuns}
+use Rattle.ed_sources.specs.DemoRuns.{EachDemoRuns, demo_orders}
 use Rattle.ed_sources.proofs.DemoAccepted.{demo_read}
 use Rattle.ed_sources.proofs.DemoCost.{demo_few}
 use Rattle.ed_sources.proofs.DemoEnds.{demo_cost_is, demo_ends, demo_entry, sum_small}
@@ -20,15 +20,6 @@ stopped text entry k orders = record {
   status = 0;
 }
 
-same_outcome : (o : Outcome) (text other : Text) (entry at k orders more : ℕ) → o ≡ stopped text entry k orders
-    → text ≡ other → entry ≡ at → orders ≡ more → o ≡ stopped other at k more
-same_outcome o text other entry at k orders more is printed place count =
-    is ∙ (λ i. stopped (printed i) (place i) k (count i))
-
--- the orders from the entry to the stop, after those up to the entry
-counted : (k n p : ℕ) → k + (72 * n + 3 + p + 1) ≡ k + (9 * (8 * n) + p + 4)
-counted k n p = omega arith
-
 pub each_demo_runs : EachDemoRuns
 each_demo_runs n some few s fits =
     let lines : List Line = demo_lines n in
@@ -42,12 +33,13 @@ each_demo_runs n some few s fits =
       from_entry = entry;
       prints = λ none plain enough.
           let digit_count = few_digits (demo_sum n) in
-          let count = counted (cost lines) n (print_orders (demo_sum n)) in
+          let count : cost lines + (72 * n + 3 + print_orders (demo_sum n) + 1) ≡ cost lines + demo_orders n =
+          omega arith in
           let printed = digits_printed (demo_sum n) (sum_small n few) in
           let at = demo_entry n some few in
-          let ends = stopped_outcome s entry (demo_ends s.size n some few fits) (omega (arith, digit_count)) none plain
-          (subst (λ (k : ℕ). k ≤ s.limit) (sym count) enough) in
-          same_outcome (run_outcome s lines) _ _ _ _ (cost lines) _ _ ends printed at count;
+          stopped_outcome s entry (demo_ends s.size n some few fits) (omega (arith, digit_count)) none plain
+          (omega (arith, enough, count))
+          ∙ (λ i. stopped (printed i) (at i) (cost lines) (count i));
       costs = demo_cost_is n some few;
       cheap = let is = demo_cost_is n some few in let most = demo_few n some few in omega (arith, is, most);
     }

@@ -1,7 +1,7 @@
 -- The text of a source that grows by words and segments.
-use Rattle.ed_sources.proofs.Kit.{decimal, flat_map-append, append_assoc, codes, Text, append-nil, [], ap, arith, refl}
-use Rattle.ed_sources.proofs.Kit.{rules, suc, sym, zero, ℕ, ◌*◌, ◌++◌, ◌+◌, ◌<◌, ◌∙◌, ◌∷◌, ◌≡◌, text_of_lines}
-use Rattle.ed_sources.proofs.Kit.{demo_text, next, number_after, number_word, segments, word_lines}
+use Rattle.ed_sources.proofs.Kit.{decimal, flat_map-append, append_assoc, codes, Text, append-nil, [], ap, arith, rules}
+use Rattle.ed_sources.proofs.Kit.{suc, sym, zero, ℕ, ◌*◌, ◌++◌, ◌+◌, ◌<◌, ◌∙◌, ◌∷◌, ◌≡◌, text_of_lines, demo_text, next}
+use Rattle.ed_sources.proofs.Kit.{number_after, number_word, segments, word_lines, refl}
 use Rattle.ed_sources.specs.DemoSources.{adding_text}
 
 -- a line, of those that are left

@@ -1,6 +1,7 @@
 -- The lines of a text that is made of pieces and data.
-use Rattle.ed_sources.proofs.Kit.{append_assoc, Text, append-nil, eqb-true, [], ap, Bool, false, if◌then◌else◌, List}
-use Rattle.ed_sources.proofs.Kit.{refl, sym, true, ◌++◌, ◌==◌, ◌∙◌, ◌∷◌, ◌≡◌, filled_text, text_of_lines}
+use Rattle.ed_sources.proofs.Kit.{append_assoc, Text, append-nil, eqb-true, [], ap, if◌then◌else◌, List}
+use Rattle.ed_sources.proofs.Kit.{refl, sym, ◌++◌, ◌==◌, ◌∙◌, ◌∷◌, ◌≡◌, filled_text, text_of_lines}
+use Rattle.std.proofs.Common.{rules}
 
 -- texts with line ends between them
 abbrev ended : List Text → Text
@@ -43,16 +44,7 @@ put_is t (u ∷ us) = append_assoc t u (ended us)
 
 split_is : (t : Text) → between (split t) ≡ t
 split_is [] = refl
-split_is (b ∷ t) = by_byte (split_is t) (b == 10) refl
-  where
-    ends : (ts : List Text) → between (after_end ts) ≡ 10 ∷ between ts
-    ends [] = refl
-    ends (u ∷ us) = refl
-
-    by_byte : between (split t) ≡ t → (is : Bool) → (b == 10) ≡ is
-        → between (if is then after_end (split t) else put (b ∷ []) (split t)) ≡ b ∷ t
-    by_byte rest true e = ends (split t) ∙ (λ i. sym (eqb-true b 10 e) i ∷ rest i)
-    by_byte rest false e = put_is (b ∷ []) (split t) ∙ ap (λ (x : Text). b ∷ x) rest
+split_is (b ∷ t) = search (rules, eqb-true, put_is, split_is t)
 
 ended_put : (u : Text) (us : List Text) → ended (put u us) ≡ 10 ∷ between (put u us)
 ended_put u [] = refl
@@ -65,18 +57,12 @@ ended_is u (v ∷ ts) us = refl
 before_is : (ts us : List Text) → between (before ts us) ≡ between ts ++ between us
 before_is [] us = refl
 before_is (t ∷ []) us = put_is t us ∙ ap (λ (x : Text). x ++ between us) (sym (append-nil t))
-before_is (t ∷ u ∷ ts) us =
-    ap (λ (x : Text). t ++ x) (ended_is u ts us ∙ ap (λ (x : Text). 10 ∷ x) (before_is (u ∷ ts) us))
-    ∙ sym (append_assoc t (10 ∷ between (u ∷ ts)) (between us))
+before_is (t ∷ u ∷ ts) us = search (rules, ended_is, append_assoc, before_is (u ∷ ts) us)
 
 segments_are : (pieces ds : List Text) → between (segments pieces ds) ≡ filled_text pieces ds
 segments_are [] ds = refl
-segments_are (piece ∷ pieces) [] =
-    before_is (split piece) (segments pieces [])
-    ∙ (λ i. split_is piece i ++ segments_are pieces [] i)
-segments_are (piece ∷ pieces) (d ∷ ds) =
-    before_is (split piece) (put d (segments pieces ds))
-    ∙ (λ i. split_is piece i ++ (put_is d (segments pieces ds) ∙ ap (λ (x : Text). d ++ x) (segments_are pieces ds)) i)
+segments_are (piece ∷ pieces) [] = search (rules, before_is, split_is, segments_are pieces)
+segments_are (piece ∷ pieces) (d ∷ ds) = search (rules, before_is, split_is, put_is, segments_are pieces ds)
 
 -- all but the last of them: the lines, if the text ends with a line end, so that the last one is empty
 abbrev firsts : List Text → List Text
@@ -98,10 +84,7 @@ unended pieces ds = last (segments pieces ds)
 lines_are : (ts : List Text) → text_of_lines (firsts ts) ++ last ts ≡ between ts
 lines_are [] = refl
 lines_are (t ∷ []) = sym (append-nil t)
-lines_are (t ∷ u ∷ ts) =
-    append_assoc (t ++ 10 ∷ []) (text_of_lines (firsts (u ∷ ts))) (last (u ∷ ts))
-    ∙ ap (λ (x : Text). (t ++ 10 ∷ []) ++ x) (lines_are (u ∷ ts))
-    ∙ append_assoc t (10 ∷ []) (between (u ∷ ts))
+lines_are (t ∷ u ∷ ts) = search (rules, append_assoc, lines_are (u ∷ ts))
 
 pub filled_is : (pieces ds : List Text) → unended pieces ds ≡ []
     → text_of_lines (filled_lines pieces ds) ≡ filled_text pieces ds

@@ -28,6 +28,4 @@ digits_printed n small =
 -- two numbers, each on a line of its own
 pub lines_printed : (n m : ℕ) → n < 65536 → m < 65536
     → paper (11 ∷ digits n ++ 18 ∷ 24 ∷ 11 ∷ digits m) ≡ decimal n ++ 13 ∷ 10 ∷ decimal m
-lines_printed n m small few =
-    number_shown n small (18 ∷ 24 ∷ 11 ∷ digits m)
-    ∙ ap (λ (x : List ℕ). decimal n ++ 13 ∷ 10 ∷ x) (digits_printed m few)
+lines_printed n m small few = search (rules, number_shown, digits_printed)

@@ -1,13 +1,12 @@
 -- The source that takes a square root and prints it, from its entry to its stop.
-use Rattle.ed_sources.proofs.Kit.{Z_F, Size, parameter_store, least, [], arith, inl, lit<, lit≤, refl, true, ℕ, ◌+◌}
+use Rattle.ed_sources.proofs.Kit.{Size, parameter_store, [], arith, inl, lit<, lit≤, refl, ℕ, ◌+◌}
 use Rattle.ed_sources.proofs.Kit.{◌<◌, ◌∷◌, ◌≡◌, short_at, State, print, with_h, digits, print_orders, root, root_of}
-use Rattle.ed_sources.proofs.Kit.{with_hn, root_is, IsRoot, root_orders, entry_state, StopsAt-behind, StopsAt}
+use Rattle.ed_sources.proofs.Kit.{with_hn, root_is, root_orders, entry_state, StopsAt-behind, StopsAt, rules}
 use Rattle.ed_maths.proofs.RootCall.{few}
-use Rattle.ed_sources.proofs.Along.{IsAt, before, IsAt-entered, has, IsAt-passed, word_there}
-use Rattle.ed_sources.proofs.AtEntry.{has_image, placed}
+use Rattle.ed_sources.proofs.Along.{IsAt, before, IsAt-entered, has, IsAt-passed, word_there, HasCall, out, stops}
+use Rattle.ed_sources.proofs.Along.{prints}
 use Rattle.ed_sources.proofs.CalledMaths.{TakesRoot, takes_root}
-use Rattle.ed_sources.proofs.CalledRoutines.{Passes, print_passes, stopped}
-use Rattle.ed_sources.proofs.Calling.{HasRoutine, IsBefore}
+use Rattle.ed_sources.proofs.CalledRoutines.{Passes}
 use Rattle.ed_sources.proofs.SaidMaths.{root_lines}
 
 pub root_small : (n : ℕ) → n < 65536 → root_of n < 65536
@@ -23,32 +22,19 @@ module _ (z : Size) (n : ℕ) (small : n < 65536) where
   -- ---- `root`
 
   at : IsAt z (root_lines n) s 62 64 56
-  at = IsAt-entered refl
+  at = IsAt-entered refl refl
 
-  root_image : has_image (placed (root_lines n)) root 64 (with_hn 61 62) ≡ true
+  its_call : HasCall (root_lines n) root 64 (with_hn 61 62) 62 64 56
   unfolding parameter_store
-  root_image = refl
-
-  before_root : IsBefore s 56 64
-  before_root = before at refl (lit≤ tt) (lit≤ tt) (lit≤ tt) (lit< tt) refl refl
-
-  has_root : HasRoutine s root 64 (with_hn 61 62)
-  has_root = has at refl root_image (lit≤ tt) (lit≤ tt)
-      (lit≤ tt) (lit≤ tt)
+  its_call = search rules
 
   number : short_at s.store 61 ≡ n
-  number = word_there at refl 61 n (inl (lit< tt)) (lit≤ tt) (lit< tt) refl
-
-  is_root : IsRoot (short_at s.store 61) r
-  is_root = rw number (root_is n)
+  number = word_there at 61 n (inl (lit< tt)) (lit≤ tt) (lit< tt) refl
 
   taken : TakesRoot s 56 87 62 r
   taken =
-      let size = least z in
-      takes_root before_root {source = 61} {target = 62} has_root
-      (record { below = omega arith; beside = inl (lit< tt) })
-      (record { below = omega arith; beside = inl (lit< tt) }) (λ e. omega (arith, e))
-      (rw number small) is_root (lit< tt)
+      takes_root (before at its_call) {source = 61} {target = 62} (has at its_call) (out at its_call (lit< tt))
+      (out at its_call (lit< tt)) (λ e. omega (arith, e)) (rw number small) (rw number (root_is n)) (lit< tt)
 
   abbrev takes : Passes (2 + root_orders r) s [] 56 62 87
   takes = taken.passes
@@ -56,29 +42,13 @@ module _ (z : Size) (n : ℕ) (small : n < 65536) where
   -- ---- `print`
 
   at_print : IsAt z (root_lines n) takes.last 62 87 58
-  at_print = IsAt-passed at refl takes (lit≤ tt) (lit≤ tt)
+  at_print = IsAt-passed at takes (lit≤ tt) (lit≤ tt)
 
-  print_image : has_image (placed (root_lines n)) print 88 (with_h 62) ≡ true
+  print_call : HasCall (root_lines n) print 88 (with_h 62) 62 87 58
   unfolding parameter_store
-  print_image = refl
-
-  before_print : IsBefore takes.last 58 88
-  before_print = before at_print refl (lit≤ tt) (lit≤ tt) (lit≤ tt)
-      (lit< tt) refl refl
-
-  has_print : HasRoutine takes.last print 88 (with_h 62)
-  has_print =
-      has at_print refl print_image (lit≤ tt) (lit≤ tt)
-      (lit≤ tt) (lit≤ tt)
-
-  prints : StopsAt (2 + print_orders r) takes.last (11 ∷ digits r) 60
-  prints =
-      let size = least z in
-      stopped
-      (print_passes before_print {h = 62} has_print
-      (record { below = rw at_print.size (omega arith); beside = inl (lit< tt) }) taken.root_is (root_small n small))
-      (inl (lit< tt)) (word_there at_print refl 60 Z_F (inl (lit< tt))
-      (lit≤ tt) (lit< tt) refl)
+  print_call = search rules
 
   pub root_ends : StopsAt (2 + root_orders r + (2 + print_orders r)) s (11 ∷ digits r) 60
-  root_ends = StopsAt-behind takes.leads prints
+  root_ends =
+      StopsAt-behind takes.leads
+      (stops at_print print_call (prints at_print 62 print_call (lit< tt) taken.root_is (root_small n small)) refl)

@@ -1,19 +1,20 @@
 -- What the lines of the sources of calls say.
-use Rattle.ed_sources.proofs.Kit.{decimal, not-true, list_all-append, row, spells, Line, Statement, append_assoc}
-use Rattle.ed_sources.proofs.Kit.{codes, length-append, map, nat_le, None, not, Ok, pos, list_all, and_parts, le-leb}
-use Rattle.ed_sources.proofs.Kit.{nat_tests, length-map, is_digit, value, Text, row_of, is_run_byte, is_line_byte}
-use Rattle.ed_sources.proofs.Kit.{is_number, LinePart, run, sign, form_at, settings, parts_of, line_of, run_parts}
-use Rattle.ed_sources.proofs.Kit.{Check, NewLine, Print, Read, append-nil, ne_eqb, [], ap, arith, Bool, false, length}
-use Rattle.ed_sources.proofs.Kit.{List, lit≤, Option, refl, rules, Some, subst, sym, true, ℕ, ◌++◌, ◌+◌, ◌<◌, ◌==◌}
-use Rattle.ed_sources.proofs.Kit.{◌∙◌, ◌∷◌, ◌≡◌, ◌≤◌, digits}
-use Rattle.ed_syntax.proofs.Kit.{map-append, is_place_name, array, modulo, quoted, parts_from}
+use Rattle.ed_sources.proofs.Kit.{decimal, not-true, list_all-append, Line, Statement, append_assoc, codes}
+use Rattle.ed_sources.proofs.Kit.{length-append, nat_le, None, not, Ok, pos, list_all, and_parts, le-leb, nat_tests}
+use Rattle.ed_sources.proofs.Kit.{length-map, is_digit, value, Text, is_run_byte, is_line_byte, is_number, LinePart}
+use Rattle.ed_sources.proofs.Kit.{run, sign, form_at, settings, parts_of, line_of, run_parts, Check, NewLine, Print}
+use Rattle.ed_sources.proofs.Kit.{Read, append-nil, ne_eqb, [], ap, arith, Bool, false, length, List, lit≤, Option}
+use Rattle.ed_sources.proofs.Kit.{refl, rules, Some, subst, sym, true, ℕ, ◌++◌, ◌+◌, ◌<◌, ◌==◌, ◌∙◌, ◌∷◌, ◌≡◌, ◌≤◌}
+use Rattle.ed_sources.proofs.Kit.{digits, row, spells, map, row_of}
+use Rattle.ed_syntax.proofs.Kit.{is_place_name, array, modulo, quoted, parts_from, map-append}
 use Rattle.ed_syntax.specs.declared.program.Setting.{Setting}
 use Rattle.ed_sources.proofs.CallTexts.{call_lines}
-use Rattle.ed_sources.proofs.Decimals.{are, are_digits, decimal_is, digit_bytes, few_bytes, line_bytes, no_quotes}
-use Rattle.ed_sources.proofs.Decimals.{row_bytes, rows_are, run_bytes, some_digit, value_is, written}
+use Rattle.ed_sources.proofs.Decimals.{are, are_digits, decimal_is, few_bytes, line_bytes, no_quotes}
+use Rattle.ed_sources.proofs.Decimals.{row_bytes, rows_are, some_digit, written, spelled}
 use Rattle.ed_sources.proofs.TextLines.{Says, ends, says, by_parts}
 use Rattle.ed_syntax.specs.declared.program.Operand.TheVariants as operands
 use Rattle.ed_syntax.specs.declared.program.Statement.TheVariants as statements
+use Rattle.std.proofs.lemmas.Grind.{common_steps}
 
 -- ---- lines
 
@@ -86,27 +87,6 @@ check_lines n =
     ∷ said 8 None (statements.Enter (codes "c"))
     ∷ [])
 
--- a `use` line with H
-print_used : line_of false 6 (codes "use print as p with H=value")
-    ≡ Ok (record { label = None; statement = Some (use_on (codes "print") (codes "p") (codes "value")) })
-unfolding settings
-print_used = refl
-
-read_used : line_of false 8 (codes "use read as r with H=value")
-    ≡ Ok (record { label = None; statement = Some (use_on (codes "read") (codes "r") (codes "value")) })
-unfolding settings
-read_used = refl
-
-print_used_too : line_of false 9 (codes "use print as p with H=value")
-    ≡ Ok (record { label = None; statement = Some (use_on (codes "print") (codes "p") (codes "value")) })
-unfolding settings
-print_used_too = refl
-
-check_used : line_of false 7 (codes "use check as c with H=main")
-    ≡ Ok (record { label = None; statement = Some (use_on (codes "check") (codes "c") (codes "main")) })
-unfolding settings
-check_used = refl
-
 -- ---- the line with the number
 
 pub number_parts : (bytes : Text) → 0 < length bytes → list_all is_run_byte bytes ≡ true
@@ -146,14 +126,7 @@ module _ {two : Bool} {k : ℕ} {front : Text} {label : Option Text} {before : L
   word_says n small =
       let ds : List ℕ = digits n in
       let some : 0 < length (written ds) = let e = some_digit n in omega (arith, length-map ds (λ d. 48 + d), e) in
-      subst (λ (bytes : Text). line_of two k (front ++ bytes) ≡ Ok (record {
-        label = label;
-        statement = Some (statements.Number n);
-      }))
-      (decimal_is n small)
-      (word_line (written ds) n (line_bytes ds (are n small)) (few_bytes n small)
-      (number_parts (written ds) some (run_bytes ds (are n small)))
-      (a_number (written ds) some (digit_bytes ds (are n small))) (value_is n small) small)
+      search (rules, spelled, word_line, number_parts, a_number)
 
   -- the same in a filled text
   pub filled_says : (n : ℕ) → n < 65536
@@ -172,17 +145,23 @@ pub named_front : (two : Bool) (k : ℕ) (label : Text) → (k == 1) ≡ false �
 named_front two k label later named few runs plain =
     search (rules, list_all-append, length-append, append_assoc, run_parts)
 
-value_front : IsWordFront false 5 (codes "value: word ") (Some (codes "value")) (label_parts (codes "value"))
-value_front = named_front false 5 (codes "value") refl refl (lit≤ tt) refl refl
+-- a line with such a label, `word` and a number
+pub labelled : (k : ℕ) (label : Text) → (k == 1) ≡ false → is_place_name false label ≡ true → length label ≤ 13
+    → list_all is_run_byte label ≡ true → list_all is_line_byte label ≡ true → (n : ℕ) → n < 65536
+    → line_of false k ((label ++ codes ": word ") ++ (decimal n ++ []))
+    ≡ Ok (record { label = Some label; statement = Some (statements.Number n) })
+labelled k label later named few runs plain = filled_says (named_front false k label later named few runs plain)
 
 pub print_says : (n : ℕ) → n < 65536 → Says false 1 (call_lines (Print n)) (print_lines n)
-print_says n small = says refl
-    (says refl (says refl (says refl (says (filled_says value_front n small) (says print_used (says refl ends))))))
+unfolding settings
+print_says n small = says refl (says refl (says refl (says refl
+    (says (labelled 5 (codes "value") refl refl (lit≤ tt) refl refl n small) (says refl (says refl ends))))))
 
 pub check_says : (n : ℕ) → n < 65536 → Says false 1 (call_lines (Check n)) (check_lines n)
-check_says n small =
-    says refl (says refl (says refl
-    (says refl (says (filled_says value_front n small) (says print_used (says check_used (says refl ends)))))))
+unfolding settings
+check_says n small = says refl (says refl (says refl (says refl
+    (says (labelled 5 (codes "value") refl refl (lit≤ tt) refl refl n small)
+    (says refl (says refl (says refl ends)))))))
 
 pub newline_says : Says false 1 (call_lines NewLine) newline_lines
 newline_says = says refl (says refl (says refl (says refl (says refl (says refl ends)))))
@@ -203,15 +182,13 @@ quoted_digits q (d ∷ ds) h =
 with_F : (test : ℕ → Bool) (bytes : Text) → list_all test bytes ≡ true → test 70 ≡ true
     → list_all test (bytes ++ 70 ∷ []) ≡ true
 with_F test [] h k = rw k refl
-with_F test (b ∷ bytes) h k =
-    let p = and_parts (test b) (list_all test bytes) h in rw (p.0, with_F test bytes p.1 k) refl
+with_F test (b ∷ bytes) h k = grind (arith, common_steps)
 
 -- and the quote after them
 pub with_end : (bytes : Text) → list_all is_line_byte bytes ≡ true
     → list_all is_line_byte (bytes ++ 70 ∷ 34 ∷ []) ≡ true
 with_end [] h = refl
-with_end (b ∷ bytes) h =
-    let p = and_parts (is_line_byte b) (list_all is_line_byte bytes) h in rw (p.0, with_end bytes p.1) refl
+with_end (b ∷ bytes) h = grind (arith, common_steps)
 
 rows_line : (ds : List ℕ) → are_digits ds ≡ true → length (written ds) ≤ 5
     → line_of false 11 (codes "data " ++ 34 ∷ written ds ++ 70 ∷ 34 ∷ [])
@@ -243,7 +220,7 @@ read_number n small =
     (decimal_is n small) (rows_line (digits n) (are n small) (few_bytes n small))
 
 pub read_says : (n : ℕ) → n < 65536 → Says false 1 (call_lines (Read n)) (read_lines n)
+unfolding settings
 read_says n small =
-    says refl (says refl (says refl
-    (says refl (says refl (says refl (says refl (says read_used (says print_used_too (says refl
+    says refl (says refl (says refl (says refl (says refl (says refl (says refl (says refl (says refl (says refl
     (says (read_number n small) ends))))))))))

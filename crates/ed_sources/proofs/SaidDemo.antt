@@ -5,7 +5,6 @@ use Rattle.ed_sources.proofs.Kit.{sign, settings, parts_of, line_of, run_parts, 
 use Rattle.ed_sources.proofs.Kit.{List, lit≤, refl, rules, Some, subst, suc, sym, true, zero, ℕ, ◌*◌, ◌++◌, ◌+◌, ◌<◌}
 use Rattle.ed_sources.proofs.Kit.{◌==◌, ◌∙◌, ◌∷◌, ◌≡◌, ◌≤◌, digits, adding_pieces, next, number_after, number_word}
 use Rattle.ed_sources.proofs.Kit.{segments, word_lines}
-use Rattle.ed_syntax.specs.Names.{is_name}
 use Rattle.ed_sources.proofs.Decimals.{are, decimal_is, digit_bytes, few_bytes, line_bytes, run_bytes, some_digit}
 use Rattle.ed_sources.proofs.Decimals.{value_is, written}
 use Rattle.ed_sources.proofs.FilledLines.{filled_lines}
@@ -79,7 +78,7 @@ words_say zero l x {rest} {program} second tail = subst (λ j. Says false j rest
 words_say (suc n) l x {rest} {program} second tail =
     let e : l + suc n ≡ l + 1 + n = omega arith in
     says (word_says (plain_front false l second) (number_word (next x)) (omega arith))
-    (words_say n (l + 1) (next x) (omega arith) (subst (λ j. Says false j rest program) e tail))
+    (words_say n (l + 1) (next x) (omega arith) (rw e at tail))
 
 -- a line that begins a segment, by what comes after the s of its name
 segment_says_of : (l : ℕ) (text bytes : Text) → text ≡ 115 ∷ bytes → 2 ≤ l → list_all is_line_byte bytes ≡ true
@@ -88,18 +87,7 @@ segment_says_of : (l : ℕ) (text bytes : Text) → text ≡ 115 ∷ bytes → 2
     → line_of false l (codes "segment " ++ text)
     ≡ Ok (record { label = None; statement = Some (statements.Segment text None) })
 segment_says_of l text bytes is second plain few runs =
-    let long = ap (λ (t : Text). length t) is in
-    let here : list_all is_line_byte text ≡ true = ap (list_all is_line_byte) is ∙ plain in
-    let all : list_all is_run_byte text ≡ true = ap (list_all is_run_byte) is ∙ runs in
-    let named : is_name text ≡ true = ap is_name is ∙ name_of bytes few runs in
-    let first : (l == 1) ≡ false = ne_eqb l 1 (omega (arith, second)) in
-    by_parts false l (codes "segment " ++ text) (run (codes "segment") ∷ run text ∷ []) here
-    (omega (arith, long, few, length-append (codes "segment ") text))
-    (let p = number_parts text (omega (arith, long)) all in rw p refl)
-    (rw (first, named) refl)
-  where
-    name_of : (bytes : Text) → length bytes ≤ 5 → list_all is_run_byte bytes ≡ true → is_name (115 ∷ bytes) ≡ true
-    name_of bytes few runs = let short = le-leb (length bytes) 15 (omega (arith, few)) in rw (short, runs) refl
+    search (rules, ne_eqb, by_parts, length-append, number_parts, le-leb)
 
 segment_says : (l k : ℕ) → 2 ≤ l → k < 65536
     → line_of false l (codes "segment s" ++ decimal k)
@@ -117,18 +105,10 @@ segments_say (suc n) k l x {rest} {program} second few tail =
     let last : l + 9 * suc n ≡ l + 9 + 9 * n = omega arith in
     says (segment_says l k second (omega arith))
     (words_say 8 (l + 1) x (omega arith)
-    (subst (λ j. Says false j (segments n (k + 1) (number_after 8 x) ++ rest)
-    (segment_forms n (k + 1) (l + 9) (number_after 8 x) ++ program))
-    (sym behind_words)
-    (segments_say n (k + 1) (l + 9) (number_after 8 x) (omega arith) (omega arith)
-    (subst (λ j. Says false j rest program) last tail))))
+    (rw behind_words
+    (segments_say n (k + 1) (l + 9) (number_after 8 x) (omega arith) (omega arith) (rw last at tail))))
 
 -- ---- the program
-
-print_used : line_of false 18 (codes "use print as p with H=total")
-    ≡ Ok (record { label = None; statement = Some (use_print (codes "p") (codes "total")) })
-unfolding settings
-print_used = refl
 
 -- digits, and F after them
 then_F : (bytes : Text) → 0 < length bytes → list_all is_run_byte bytes ≡ true
@@ -169,10 +149,11 @@ demo_source n = adding (8 * n) ++ segments n 1 n ++ codes "enter main" ∷ []
 
 adding_says : (words : ℕ) {rest : List Text} {program : List Line} → words ≤ 1023 → Says false 19 rest program
     → Says false 1 (adding words ++ rest) (adding_lines words ++ program)
+unfolding settings
 adding_says words few tail =
     says refl (says refl (says refl (says refl (says refl (says refl (says refl (says refl (says refl (says refl
     (says refl (says refl (says refl (says refl
-    (says (stop_says words few) (says refl (says refl (says print_used tail)))))))))))))))))
+    (says (stop_says words few) (says refl (says refl (says refl tail)))))))))))))))))
 
 enter_says : (l : ℕ) → 2 ≤ l → line_of false l (codes "enter main")
     ≡ Ok (record { label = None; statement = Some (statements.Enter (codes "main")) })

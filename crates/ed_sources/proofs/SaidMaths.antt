@@ -1,9 +1,8 @@
 -- What the lines of the sources of `call divide` and `call root` say.
-use Rattle.ed_sources.proofs.Kit.{Line, Statement, codes, None, Ok, Text, settings, line_of, Divide, Root, [], false}
-use Rattle.ed_sources.proofs.Kit.{List, lit≤, refl, Some, ℕ, ◌%◌, ◌/◌, ◌<◌, ◌∷◌, ◌≡◌}
+use Rattle.ed_sources.proofs.Kit.{Line, Statement, codes, None, Text, settings, Divide, Root, [], false}
+use Rattle.ed_sources.proofs.Kit.{List, lit≤, refl, Some, ℕ, ◌%◌, ◌/◌, ◌<◌, ◌∷◌}
 use Rattle.ed_sources.proofs.CallTexts.{call_lines}
-use Rattle.ed_sources.proofs.Said.{IsWordFront, at_place, label_parts, main_calls, named_front, said, use_on, use_with}
-use Rattle.ed_sources.proofs.Said.{filled_says}
+use Rattle.ed_sources.proofs.Said.{at_place, main_calls, said, use_on, use_with, labelled}
 use Rattle.ed_sources.proofs.TextLines.{Says, ends, says}
 use Rattle.ed_syntax.specs.declared.program.Operand.TheVariants as operands
 use Rattle.ed_syntax.specs.declared.program.Statement.TheVariants as statements
@@ -43,58 +42,19 @@ root_lines n =
     ∷ said 11 None (statements.Enter (codes "main"))
     ∷ [])
 
-divide_used : line_of false 14 (codes "use divide as v with H=hi, N=lo, M=by")
-    ≡ Ok (record { label = None; statement = Some use_divide })
-unfolding settings
-divide_used = refl
-
-print_low_used : line_of false 15 (codes "use print as p with H=lo")
-    ≡ Ok (record { label = None; statement = Some (use_print (codes "p") (codes "lo")) })
-unfolding settings
-print_low_used = refl
-
-print_high_used : line_of false 17 (codes "use print as r with H=hi")
-    ≡ Ok (record { label = None; statement = Some (use_print (codes "r") (codes "hi")) })
-unfolding settings
-print_high_used = refl
-
-root_used : line_of false 9 (codes "use root as v with H=of, N=is") ≡ Ok (record {
-  label = None;
-  statement = Some use_root;
-})
-unfolding settings
-root_used = refl
-
-print_root_used : line_of false 10 (codes "use print as p with H=is")
-    ≡ Ok (record { label = None; statement = Some (use_print (codes "p") (codes "is")) })
-unfolding settings
-print_root_used = refl
-
--- the lines with the numbers
-
-hi_front : IsWordFront false 11 (codes "hi: word ") (Some (codes "hi")) (label_parts (codes "hi"))
-hi_front = named_front false 11 (codes "hi") refl refl (lit≤ tt) refl refl
-
-lo_front : IsWordFront false 12 (codes "lo: word ") (Some (codes "lo")) (label_parts (codes "lo"))
-lo_front = named_front false 12 (codes "lo") refl refl (lit≤ tt) refl refl
-
-by_front : IsWordFront false 13 (codes "by: word ") (Some (codes "by")) (label_parts (codes "by"))
-by_front = named_front false 13 (codes "by") refl refl (lit≤ tt) refl refl
-
-of_front : IsWordFront false 7 (codes "of: word ") (Some (codes "of")) (label_parts (codes "of"))
-of_front = named_front false 7 (codes "of") refl refl (lit≤ tt) refl refl
-
 pub divide_says : (n by : ℕ) → n / 65536 < 65536 → n % 65536 < 65536 → by < 65536
     → Says false 1 (call_lines (Divide n by)) (divide_lines (n / 65536) (n % 65536) by)
+unfolding settings
 divide_says n by h l b =
     says refl (says refl (says refl (says refl (says refl (says refl (says refl (says refl (says refl (says refl
-    (says (filled_says hi_front (n / 65536) h)
-    (says (filled_says lo_front (n % 65536) l)
-    (says (filled_says by_front by b)
-    (says divide_used (says print_low_used (says refl (says print_high_used (says refl ends)))))))))))))))))
+    (says (labelled 11 (codes "hi") refl refl (lit≤ tt) refl refl (n / 65536) h)
+    (says (labelled 12 (codes "lo") refl refl (lit≤ tt) refl refl (n % 65536) l)
+    (says (labelled 13 (codes "by") refl refl (lit≤ tt) refl refl by b)
+    (says refl (says refl (says refl (says refl (says refl ends)))))))))))))))))
 
 pub root_says : (n : ℕ) → n < 65536 → Says false 1 (call_lines (Root n)) (root_lines n)
+unfolding settings
 root_says n small =
     says refl (says refl (says refl (says refl (says refl (says refl
-    (says (filled_says of_front n small)
-    (says refl (says root_used (says print_root_used (says refl ends))))))))))
+    (says (labelled 7 (codes "of") refl refl (lit≤ tt) refl refl n small)
+    (says refl (says refl (says refl (says refl ends))))))))))

@@ -1,6 +1,6 @@
 -- The outcome of a source whose program reaches its stop.
 use Rattle.ed_sources.proofs.Kit.{Settings, Line, codes, None, Text, append-nil, ReachesStop, [], ap, arith, length}
-use Rattle.ed_sources.proofs.Kit.{List, rules, suc, ℕ, ◌++◌, ◌+◌, ◌-◌, ◌∙◌, ◌∷◌, ◌≡◌, ◌≤◌, step, State, at_after}
+use Rattle.ed_sources.proofs.Kit.{List, rules, suc, ℕ, ◌++◌, ◌+◌, ◌-◌, ◌∷◌, ◌≡◌, ◌≤◌, step, State, at_after}
 use Rattle.ed_sources.proofs.Kit.{AnswersFromEntry, paper, run_end, RunEnd, entry_of, cost, entry_note, entry_state}
 use Rattle.ed_sources.proofs.Kit.{run_outcome}
 use Rattle.ed_answers.specs.Runs.{paper_room, ran_outcome, with_post_mortem}
@@ -41,7 +41,4 @@ stopped_outcome s {lines} {k} {at} {printed} entry stops few none plain fits =
     let before : Text = entry_note (entry_of lines) (cost lines) in
     let ended = ran_to_stop left paper_room k first printed stops few (left_after (cost lines) k s.limit fits).1 in
     let count : (step stops.last).state.orders ≡ cost lines + (k + 1) = counted _ (cost lines) k stops.orders in
-    entry.entered (left_after (cost lines) k s.limit fits).0
-    ∙ (λ i. ran_outcome before (with_post_mortem (plain i) (run_end left (none i) paper_room first)))
-    ∙ ap (ran_outcome before) (nothing_after r)
-    ∙ ran_outcome-answered before r ended stops.counter count
+    search (rules, left_after, nothing_after, ran_outcome-answered)

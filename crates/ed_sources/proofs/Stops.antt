@@ -1,10 +1,9 @@
 -- Orders that lead to a stop, and the run that they are.
-use Rattle.ed_machine.proofs.Names.{[], ap, append-nil, arith, Bool, false, inl, inr, length, List, nat_lt, None}
-use Rattle.ed_machine.proofs.Names.{Option, refl, rules, Some, suc, true, ℕ, ◌++◌, ◌+◌, ◌<◌, ◌^◌, ◌∙◌, ◌∷◌, ◌≡◌, ◌≤◌}
-use Rattle.ed_machine.proofs.Names.{cases_lt, locations, function_of, kind_of_function, after, done_at, jump_order}
-use Rattle.ed_machine.proofs.Names.{next_word, obey_word, place_of, row_order, step, State, AreObeyed, codes_of}
-use Rattle.ed_machine.proofs.Names.{is_obeyed, progress, state_after}
-use Rattle.ed_answers.proofs.Kit.{nat_le, run_end, RunEnd, ran_ends}
+use Rattle.ed_machine.proofs.Names.{ap, append-nil, arith, inl, inr, length, List, None, Option, refl, rules, Some}
+use Rattle.ed_machine.proofs.Names.{suc, ℕ, ◌++◌, ◌+◌, ◌<◌, ◌∙◌, ◌≡◌, ◌≤◌, cases_lt, locations, function_of}
+use Rattle.ed_machine.proofs.Names.{kind_of_function, after, done_at, next_word, obey_word, step, State, AreObeyed}
+use Rattle.ed_machine.proofs.Names.{codes_of, is_obeyed, progress, state_after}
+use Rattle.ed_answers.proofs.Kit.{run_end, RunEnd, ran_ends}
 use Rattle.ed_words.proofs.SizeLemmas.{within_below}
 use Rattle.ed_orders.specs.declared.kind.Kind.{Kind}
 use Rattle.ed_orders.specs.declared.kind.Kind.TheVariants.{E, G, I, Z}
@@ -18,6 +17,7 @@ use Rattle.ed_run.specs.Laws.{HasRoom}
 use Rattle.ed_run.proofs.Places.{at_stop}
 use Rattle.ed_routines.proofs.Journeys.{ReachesStop}
 use Rattle.ed_checker.proofs.Guests.{size_after}
+use Rattle.std.proofs.lemmas.Grind.{common_steps}
 
 -- k orders print the codes and lead to an order at a location that stops the machine
 pub record StopsAt (k : ℕ) (s : State) (codes : List ℕ) (place : ℕ) : Type 0 where
@@ -34,23 +34,9 @@ StopsAt-behind first o = search (rules, joined)
 -- the order that stops the machine moves its counter on
 stopped_state : (k : Option Kind) (w : ℕ) (x : State) → (obey_word k w x).turn ≡ Stops
     → (obey_word k w x).state ≡ done_at (after x) x
-stopped_state (Some E) w x h = by_test (nat_lt x.acc (2 ^ 70)) h
-  where
-    by_test : (b : Bool) → (jump_order b (place_of x w) x).turn ≡ Stops
-        → (jump_order b (place_of x w) x).state ≡ done_at (after x) x
-    by_test true h = cc
-    by_test false h = refl
-stopped_state (Some G) w x h = by_test (nat_le (2 ^ 70) x.acc) h
-  where
-    by_test : (b : Bool) → (jump_order b (place_of x w) x).turn ≡ Stops
-        → (jump_order b (place_of x w) x).state ≡ done_at (after x) x
-    by_test true h = cc
-    by_test false h = refl
-stopped_state (Some I) w x h = by_tape x.tape h
-  where
-    by_tape : (rows : List ℕ) → (row_order rows w x).turn ≡ Stops → (row_order rows w x).state ≡ done_at (after x) x
-    by_tape [] h = cc
-    by_tape (row ∷ rows) h = cc
+stopped_state (Some E) w x h = grind (arith, common_steps)
+stopped_state (Some G) w x h = grind (arith, common_steps)
+stopped_state (Some I) w x h = search rules
 stopped_state (Some Z) w x h = refl
 stopped_state None w x h = cc
 stopped_state (Some kind) w x h = cc
@@ -90,8 +76,4 @@ ran_to_stop limit room k s codes o fits less =
     let has : HasRoom room (suc k) s = record { obeyed = obeyed; printed = few } in
     let ends = at_stop limit 0 has (no_stops k s o.leads.goes) less turn in
     let once = first_once (ran_ends limit 0 room s) ends in
-    record {
-      codes_are = ap (λ j. (progress j s).codes) once.0 ∙ all;
-      ending = once.1;
-      state_is = ap (λ j. state_after j s) once.0 ∙ ap (λ (x : State). (step x).state) o.leads.state_is;
-    }
+    search rules

@@ -1,35 +1,22 @@
 -- The lines of a text that is made of lines, and what they say one after the other.
 use Rattle.ed_sources.proofs.Kit.{Line, Statement, append_assoc, Ok, list_all, and_parts, Text, is_line_byte, LinePart}
 use Rattle.ed_sources.proofs.Kit.{form_at, parts_of, line_of, lines_from, ne_eqb, [], ap, arith, Bool, false}
-use Rattle.ed_sources.proofs.Kit.{if◌then◌else◌, length, List, nat_lt, Option, refl, Some, sym, true, ℕ, ◌++◌, ◌+◌}
-use Rattle.ed_sources.proofs.Kit.{◌==◌, ◌∙◌, ◌∷◌, ◌≡◌, ◌≤◌, le-ltb, is_two, program_of, text_of_lines}
-use Rattle.ed_syntax.proofs.Kit.{Err, Decides-eqb, lines_of, with_byte}
-use Rattle.std.proofs.Common.{true≢false}
+use Rattle.ed_sources.proofs.Kit.{length, List, Option, refl, Some, sym, true, ℕ, ◌++◌, ◌+◌}
+use Rattle.ed_sources.proofs.Kit.{◌∙◌, ◌∷◌, ◌≡◌, ◌≤◌, is_two, program_of, text_of_lines}
+use Rattle.ed_syntax.proofs.Kit.{lines_of, with_byte}
 use Rattle.ed_syntax.specs.Reading.Sources.{and_lines}
-use Rattle.ed_syntax.specs.declared.fault.SourceCause.TheVariants.{TooManyLines}
-
--- a byte of a line is not one that ends a line
-is_no_end : (b k : ℕ) → is_line_byte b ≡ true → is_line_byte k ≡ false → (b == k) ≡ false
-is_no_end b k inside outside = by_test (b == k) refl
-  where
-    by_test : (t : Bool) → (b == k) ≡ t → (b == k) ≡ false
-    by_test false e = e
-    by_test true e = absurd (true≢false (sym inside ∙ ap is_line_byte ((Decides-eqb b k).0 e) ∙ outside))
+use Rattle.std.proofs.lemmas.Grind.{common_steps}
+use Rattle.std.proofs.Common.{rules}
 
 byte_before : (b c : ℕ) (bs : Text) → is_line_byte b ≡ true → lines_of (b ∷ c ∷ bs) ≡ with_byte b (lines_of (c ∷ bs))
-byte_before b c bs inside =
-    let feed : (b == 10) ≡ false = is_no_end b 10 inside refl in
-    let return : (b == 13) ≡ false = is_no_end b 13 inside refl in
-    simp (feed, return)
+byte_before b c bs inside = grind (arith, common_steps)
 
 -- the first line
 first_line : (front rest : Text) → list_all is_line_byte front ≡ true
     → lines_of (front ++ 10 ∷ rest) ≡ front ∷ lines_of rest
 first_line [] [] h = refl
 first_line [] (c ∷ rest) h = refl
-first_line (b ∷ []) rest h =
-    let p = and_parts (is_line_byte b) true h in
-    byte_before b 10 rest p.0 ∙ ap (with_byte b) (first_line [] rest refl)
+first_line (b ∷ []) rest h = grind (arith, common_steps)
 first_line (b ∷ c ∷ front) rest h =
     let p = and_parts (is_line_byte b) (list_all is_line_byte (c ∷ front)) h in
     byte_before b c (front ++ 10 ∷ rest) p.0 ∙ ap (with_byte b) (first_line (c ∷ front) rest p.1)
@@ -48,9 +35,7 @@ lines_back (line ∷ lines) h =
 pub program_is : (lines : List Text) (program : List Line) → list_all (list_all is_line_byte) lines ≡ true
     → is_two lines ≡ false
     → lines_from false 1 lines ≡ Ok program → program_of (text_of_lines lines) ≡ Ok program
-program_is lines program plain one says =
-    let back = lines_back lines plain in
-    ap (λ (ls : List Text). lines_from (is_two ls) 1 ls) back ∙ ap (λ (two : Bool). lines_from two 1 lines) one ∙ says
+program_is lines program plain one says = search (rules, lines_back)
 
 -- a line that ends with digits
 pub line_end : (digits rest : Text) → digits ++ 10 ∷ rest ≡ (digits ++ 10 ∷ []) ++ rest
@@ -76,18 +61,11 @@ pub said_lines : {two : Bool} {k : ℕ} {lines : List Text} {program : List Line
     → k + length lines ≤ 2001 → lines_from two k lines ≡ Ok program
 said_lines ends few = refl
 said_lines {two} {k} (reads {line = line} {lines = lines} {program = program} here rest) few =
-    let within : (k == 2001) ≡ false = ne_eqb k 2001 (omega (arith, few)) in
-    ap (λ (t : Bool). if t then Err (record { line = k; cause = TooManyLines })
-    else and_lines k (line_of two k line) (lines_from two (k + 1) lines))
-    within
-    ∙ ap (and_lines k (line_of two k line)) (said_lines rest (omega (arith, few)))
-    ∙ here program
+    search (rules, ne_eqb, said_lines rest (omega (arith, few)))
 
 -- what a line says, by its parts
 pub by_parts : (two : Bool) {label : Option Text} {statement : Option Statement} (k : ℕ) (line : Text)
     (parts : List LinePart) → list_all is_line_byte line ≡ true → length line ≤ 120 → parts_of line ≡ Some parts
     → form_at two k parts ≡ Some (Some (record { label = label; statement = statement }))
     → line_of two k line ≡ Ok (record { label = label; statement = statement })
-by_parts two k line parts plain short are is =
-    let fits : nat_lt 120 (length line) ≡ false = le-ltb 120 (length line) short in
-    rw (plain, fits, are, is) refl
+by_parts two k line parts plain short are is = grind (arith, common_steps)

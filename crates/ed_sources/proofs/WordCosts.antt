@@ -1,25 +1,12 @@
 -- What reading the item of a word costs: 23 orders, and 9 for each digit of its address.
-use Rattle.ed_sources.proofs.Kit.{sum_by, sum_by-append, sum_by-cons, Item, length-append, nat_eq, item_with}
-use Rattle.ed_sources.proofs.Kit.{item_cost, arith, Bool, false, length, List, refl, true, ℕ, ◌%◌, ◌*◌, ◌++◌, ◌+◌, ◌/◌}
-use Rattle.ed_sources.proofs.Kit.{◌<◌, ◌∷◌, ◌≡◌, ◌≤◌, word_cost}
-use Rattle.ed_notation.proofs.Kit.{lt-leb, digit_at, digits_of}
+use Rattle.ed_sources.proofs.Kit.{sum_by, Item, nat_eq, item_with, item_cost, arith, Bool, false, length, List}
+use Rattle.ed_sources.proofs.Kit.{true, ℕ, ◌%◌, ◌*◌, ◌++◌, ◌+◌, ◌/◌, ◌<◌, ◌∷◌, ◌≡◌, ◌≤◌, word_cost}
+use Rattle.ed_notation.proofs.Kit.{digits_of}
 use Rattle.ed_link.specs.Punch.{ending}
-use Rattle.ed_link.proofs.Bounds.{length-one}
-
-none : (p n : ℕ) → n < p → length (digit_at p n) ≡ 0
-none p n less = let e = lt-leb p n less in rw e refl
+use Rattle.std.proofs.lemmas.Grind.{common_steps}
 
 pub four_digits : (n : ℕ) → n < 10000 → length (digits_of n) ≤ 4
-four_digits n small =
-    simp length-append (omega (
-      arith,
-      none 10000 n small,
-      length-one 1000 n,
-      length-one 100 n,
-      length-one
-          10 n,
-      length-one 1 n,
-    ))
+four_digits n small = grind (arith, common_steps)
 
 ended : (f n : ℕ) (long : Bool) → item_cost (item_with f n false (ending long)) ≡ 23 + 9 * length (digits_of n)
 ended f n true = omega arith
@@ -35,7 +22,4 @@ word_cost_few w =
 -- the cost of items with one among them
 pub cost_around : (front : List Item) (i : Item) (rest : List Item)
     → sum_by item_cost (front ++ i ∷ rest) ≡ sum_by item_cost front + item_cost i + sum_by item_cost rest
-cost_around front i rest =
-    let all = sum_by-append item_cost front (i ∷ rest) in
-    let own = sum_by-cons item_cost i rest in
-    omega (arith, all, own)
+cost_around front i rest = grind (arith, common_steps)

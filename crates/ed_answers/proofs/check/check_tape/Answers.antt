@@ -5,13 +5,11 @@ use Rattle.ed_answers.proofs.check.check_tape.Goals as goal
 
 pub returns-in_err-rows : goal.returns-in_err-rows
 returns-in_err-rows c =
-    let s = c.args.settings in
-    refusal_replied (IsChecked s) c.args.input.now _ _ (checked_one s) c.in_err-rows.ensures.is c.from_residual.ensures
+    refusal_replied _ c.args.input.now _ _ (checked_one c.args.settings) c.in_err-rows.ensures.is c.from_residual.ensures
 
 pub returns-in_err-check_rows : goal.returns-in_err-check_rows
 returns-in_err-check_rows c =
-    let s = c.args.settings in
-    none_replied (IsChecked s) c.args.input.now _ (checked_one s) c.from_residual-in_err-check_rows.ensures
+    none_replied _ c.args.input.now _ (checked_one c.args.settings) c.from_residual-in_err-check_rows.ensures
 
 pub check_rows-requires : goal.check_rows-requires
 check_rows-requires c = omega (arith, c.in_ok-rows.ensures.few, c.deref.ensures.len, c.requires)

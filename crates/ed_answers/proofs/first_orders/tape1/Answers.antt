@@ -1,4 +1,4 @@
-use Rattle.ed_answers.proofs.Kit.{exactly, tape1_outcome}
+use Rattle.ed_answers.proofs.Kit.{tape1_outcome}
 use Rattle.ed_answers.specs.FirstOrders.{run1_of}
 use Rattle.ed_answers.proofs.Replies.{exactly_one, exactly_replied, none_replied, refusal_replied}
 use Rattle.ed_answers.proofs.Sources.{ran_gives_alone}
@@ -6,18 +6,15 @@ use Rattle.ed_answers.proofs.first_orders.tape1.Goals as goal
 
 pub returns-in_err-rows_of : goal.returns-in_err-rows_of
 returns-in_err-rows_of c =
-    let f = tape1_outcome c.args.settings in
-    refusal_replied (exactly f) c.args.input.now _ _ (exactly_one f) c.in_err-rows_of.ensures.is c.from_residual.ensures
+    refusal_replied _ c.args.input.now _ _ (exactly_one (tape1_outcome c.args.settings)) c.in_err-rows_of.ensures.is c.from_residual.ensures
 
 pub returns-in_err-ran : goal.returns-in_err-ran
 returns-in_err-ran c =
-    let f = tape1_outcome c.args.settings in
-    none_replied (exactly f) c.args.input.now _ (exactly_one f) c.from_residual-in_err-ran.ensures
+    none_replied _ c.args.input.now _ (exactly_one (tape1_outcome c.args.settings)) c.from_residual-in_err-ran.ensures
 
 pub returns-in_err-ended_reply : goal.returns-in_err-ended_reply
 returns-in_err-ended_reply c =
-    let f = tape1_outcome c.args.settings in
-    none_replied (exactly f) c.args.input.now _ (exactly_one f) c.from_residual-in_err-ended_reply.ensures
+    none_replied _ c.args.input.now _ (exactly_one (tape1_outcome c.args.settings)) c.from_residual-in_err-ended_reply.ensures
 
 pub returns : goal.returns
 returns c =

@@ -4,16 +4,13 @@ use Rattle.ed_answers.proofs.source.punch.Goals as goal
 
 pub returns-in_err-linked : goal.returns-in_err-linked
 returns-in_err-linked c =
-    let s = c.args.settings in
-    source_refused s.size punch_outcome c.args.input.now _ _ c.in_err-linked.ensures c.from_residual.ensures
+    source_refused _ punch_outcome c.args.input.now _ _ c.in_err-linked.ensures c.from_residual.ensures
 
 pub returns-in_err-text : goal.returns-in_err-text
 returns-in_err-text c =
-    let s = c.args.settings in
-    source_unanswered s.size punch_outcome c.args.input.now _ c.from_residual-in_err-text.ensures
+    source_unanswered _ punch_outcome c.args.input.now _ c.from_residual-in_err-text.ensures
 
 pub returns : goal.returns
 returns c =
-    let s = c.args.settings in
-    linked_replied s.size punch_outcome c.args.input.now _ _ c.in_ok-linked.ensures
-    (punch_gives s.size c.in_ok-linked.linked c.done.result c.in_ok-text.ensures.is c.done.ensures)
+    linked_replied _ punch_outcome c.args.input.now _ _ c.in_ok-linked.ensures
+    (punch_gives _ c.in_ok-linked.linked c.done.result c.in_ok-text.ensures.is c.done.ensures)

@@ -5,13 +5,11 @@ use Rattle.ed_answers.proofs.source.run.Goals as goal
 
 pub returns-in_err-ran : goal.returns-in_err-ran
 returns-in_err-ran c =
-    let s = c.args.settings in
-    source_refused s.size (run_outcome s) c.args.input.now _ _ c.in_err-ran.ensures.is c.from_residual.ensures
+    source_refused _ (run_outcome c.args.settings) c.args.input.now _ _ c.in_err-ran.ensures.is c.from_residual.ensures
 
 pub returns-in_err-post_mortem_reply : goal.returns-in_err-post_mortem_reply
 returns-in_err-post_mortem_reply c =
-    let s = c.args.settings in
-    source_unanswered s.size (run_outcome s) c.args.input.now _ c.from_residual-in_err-post_mortem_reply.ensures
+    source_unanswered _ (run_outcome c.args.settings) c.args.input.now _ c.from_residual-in_err-post_mortem_reply.ensures
 
 pub post_mortem_reply-requires : goal.post_mortem_reply-requires
 post_mortem_reply-requires c =

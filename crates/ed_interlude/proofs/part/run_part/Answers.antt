@@ -51,15 +51,6 @@ returns-in-Err-Memory g c =
       faults = refl;
     }
 
-pub returns-in-Ok : goal.returns-in-Ok
-returns-in-Ok g c = record { passes = c.enter_part.ensures.passes; faults = c.enter_part.ensures.faults }
-
-pub check_part-requires-clause-rows : goal.check_part-requires-clause-rows
-check_part-requires-clause-rows g c = omega (arith, c.requires.rows, c.requires.tape)
-
-pub enter_part-requires-clause-orders : goal.enter_part-requires-clause-orders
-enter_part-requires-clause-orders g c = c.requires.orders
-
 pub overflow_add-arrival : goal.overflow_add-arrival
 overflow_add-arrival g c =
     let a = c.in-Ok.ensures in

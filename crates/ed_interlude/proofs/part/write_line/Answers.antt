@@ -1,8 +1,5 @@
-use Rattle.ed_interlude.proofs.Kit.{err_from_is_err_and, [], refl, sym, ◌≡◌, Failed, Memory, gains_none}
+use Rattle.ed_interlude.proofs.Kit.{err_from_is_err_and, [], refl, sym, gains_none}
 use Rattle.ed_interlude.proofs.part.write_line.Goals as goal
-
-never : {A : Type 0} → Failed ≡ Memory → A
-never e = absurd (cc)
 
 pub returns : goal.returns
 returns g c = record {
@@ -30,6 +27,6 @@ returns-in_err-write_all g c =
       whole = λ text made.
           let made_of = rw c.in_ok-line.was at made in
           rw (sym made_of, sym c.deref.ensures.value) c.in_err-write_all.ensures.whole;
-      memory = never;
+      memory = λ e. absurd (cc);
       faults = c.in_err-write_all.ensures.faults;
     })
