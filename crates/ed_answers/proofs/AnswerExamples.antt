@@ -30,7 +30,8 @@ OnlyReads text lines =
     (r : Result Program SourceFault) → MeetsParse text r → (r ≡ Err Memory) ⊎ IfOk r (λ p. p.lines.items ≡ lines)
 
 refused_alone : (text : Text) (k : ℕ) (c : SourceCause) → IsFormFault text k c → OnlyRefuses text k c
-refused_alone text k c f (Ok p) m = absurd (has_one_meaning.no_fault text (p.version == 2) p.lines.items k c m.says f.is)
+refused_alone text k c f (Ok p) m = absurd
+    (has_one_meaning.no_fault text (p.version == 2) p.lines.items k c m.says f.is)
 refused_alone text k c f (Err Memory) m = inl refl
 refused_alone text k c f (Err (At n d)) m =
     let same = has_one_meaning.one_fault text n k d c m.has_fault f in

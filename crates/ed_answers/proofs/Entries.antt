@@ -11,7 +11,7 @@ use Rattle.ed_notation.proofs.Costs.{cost-most}
 use Rattle.ed_initial.specs.Entry.{IsLoaded}
 use Rattle.ed_initial.specs.declared.loading.Loaded.{Loaded}
 use Rattle.ed_initial.proofs.Quiet.{LeadsIn, comes_in}
-use Rattle.ed_initial.proofs.Starts.{first_length, first_store, first_words, starts}
+use Rattle.ed_initial.proofs.Starts.{first_length, first_store, first_words, IsStarted-first_state}
 use Rattle.ed_link.specs.Tapes.{ReachesLinkedEntry}
 use Rattle.ed_answers.specs.EntryState.{EachSourceEnters}
 use Rattle.ed_answers.proofs.EachSource.{each_source as comes_to}
@@ -50,7 +50,7 @@ module _ (z : Size) (lines : List Line) (loads : ReachesLinkedEntry z lines) whe
   comes = let w = loads first_words first_length in record { well = w.0; comes = w.1 }
 
   pub leads : LeadsIn (first_state z (tape lines)) (arrival (first_state z (tape lines)).store.words lines)
-  leads = comes_in _ _ (first_store z (tape lines)) (starts z (tape lines)) comes
+  leads = comes_in _ _ (first_store z (tape lines)) (IsStarted-first_state z (tape lines)) comes
 
   pub enters : Enters z lines (entry_store lines)
   enters = record {

@@ -2,7 +2,7 @@
 use Rattle.ed_checker.proofs.Kit.{Turn, [], ap, arith, inl, inr, List, refl, rules, subst, sym, true, ℕ, ◌++◌, ◌+◌, ◌-◌}
 use Rattle.ed_checker.proofs.Kit.{◌<◌, ◌∙◌, ◌≡◌, ◌≤◌, ◌⊎◌, cases_lt, step, State, codes_of, is_obeyed, progress}
 use Rattle.ed_checker.proofs.Kit.{Progress, state_after, stops_of, HasRun}
-use Rattle.ed_machine.proofs.Kit.Leads.{Leads, free, no_stops}
+use Rattle.ed_machine.proofs.Kit.Leads.{Leads, AreObeyed-leads, no_stops}
 use Rattle.ed_machine.proofs.Steps.{past_after, past_sum, after_sum}
 
 -- orders after orders
@@ -36,7 +36,7 @@ HasRun-one s t u e o = search rules
 
 -- the orders of a path
 pub HasRun-along : {k : ℕ} {s t : State} {cs : List ℕ} → Leads k s cs t → HasRun k s cs 0 t
-HasRun-along {k} {s} o = search (rules, no_stops, free)
+HasRun-along {k} {s} o = search (rules, no_stops, AreObeyed-leads)
 
 pub HasRun-renamed : {k n l : ℕ} {s t : State} {cs ds : List ℕ} → HasRun k s cs n t → cs ≡ ds
     → n ≡ l → HasRun k s ds l t

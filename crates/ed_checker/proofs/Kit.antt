@@ -10,7 +10,7 @@ pub use Rattle.ed_machine.specs.declared.turn.Turn.{Turn}
 pub use Rattle.ed_machine.specs.declared.turn.Turn.TheVariants.{Stopped}
 pub use Rattle.ed_machine.proofs.Kit.Paths.{followed}
 pub use Rattle.ed_machine.proofs.Kit.Places.{pair}
-pub use Rattle.ed_machine.proofs.Kit.Sums.{parted}
+pub use Rattle.ed_machine.proofs.Kit.Sums.{sum-parts}
 pub use Rattle.ed_machine.proofs.Kit.Window.{get_own}
 pub use Rattle.ed_machine.proofs.Names.{[], ap, arith, Bool, false, get_or, inl, inr, length, List, lit<, nat_eq}
 pub use Rattle.ed_machine.proofs.Names.{nat_lt, None, Option, refl, rules, Some, subst, suc, sym, true, true≢false}

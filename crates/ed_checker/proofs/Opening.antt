@@ -1,11 +1,11 @@
 -- A machine that has the routine, as a state of its paths, and back.
-use Rattle.ed_checker.proofs.Kit.{A_F, long_at, pair, parted, get_own, [], ap, arith, false, get_or, inr, length, List}
-use Rattle.ed_checker.proofs.Kit.{lit<, None, Option, refl, rules, sym, ℕ, ◌%◌, ◌*◌, ◌+◌, ◌-◌, ◌/◌, ◌<◌, ◌∙◌, ◌∷◌, ◌≡◌}
-use Rattle.ed_checker.proofs.Kit.{◌≤◌, locations, address_of, locations_most, IsStore, State, lit≤, short_at, Frame}
-use Rattle.ed_checker.proofs.Kit.{Moment, state, CheckerStands, guest, IsOutsideChecker}
+use Rattle.ed_checker.proofs.Kit.{A_F, long_at, pair, sum-parts, get_own, [], ap, arith, false, get_or, inr, length}
+use Rattle.ed_checker.proofs.Kit.{List, lit<, None, Option, refl, rules, sym, ℕ, ◌%◌, ◌*◌, ◌+◌, ◌-◌, ◌/◌, ◌<◌, ◌∙◌, ◌∷◌}
+use Rattle.ed_checker.proofs.Kit.{◌≡◌, ◌≤◌, locations, address_of, locations_most, IsStore, State, lit≤, short_at}
+use Rattle.ed_checker.proofs.Kit.{Frame, Moment, state, CheckerStands, guest, IsOutsideChecker}
 use Rattle.ed_routines.proofs.Kit.{Holds, length_patched, patched, with_h, IsOther}
-use Rattle.ed_machine.proofs.Kit.Places.{reads}
-use Rattle.ed_machine.proofs.Kit.Standing.{filled, opens}
+use Rattle.ed_machine.proofs.Kit.Places.{read_at-value}
+use Rattle.ed_machine.proofs.Kit.Standing.{filled, patched-filled}
 use Rattle.ed_machine.proofs.Kit.Window.{get_below, get_above, patched_self}
 use Rattle.ed_library.specs.Routines.{is_working}
 use Rattle.ed_routines.proofs.Called.{holds_words, image, get_or-kept}
@@ -81,7 +81,7 @@ module _ (base : ℕ) (even_base : base % 2 ≡ 0) (s : State) (is_store : IsSto
     words = λ j lj.
         let b = locations_most s.size in
         let c = is_store.words_are in
-        let whole = opens (check_image base) s.store.words base (omega arith)
+        let whole = patched-filled (check_image base) s.store.words base (omega arith)
         (holds_image (omega arith) stands.image) in
         sym (get_own 0 s.store.words base (cells base work) j lj)
         ∙ ap (λ xs. get_or (patched 0 s.store.words base xs) (base + j) 0) (sym filled_is)
@@ -107,13 +107,13 @@ module _ (f : Frame 66 30) (even : f.base % 2 ≡ 0) (o : Around) (w : Work) whe
       search (rules, cells, get_own, lit<)
 
   high_is : long_at the_state.store (f.base + 60) ≡ w.high
-  high_is = reads f the_moment (pair 60 0 even) refl refl ∙ parted w.high
+  high_is = read_at-value f the_moment (pair 60 0 even) refl refl ∙ sum-parts w.high
 
   middle_is : long_at the_state.store (f.base + 62) ≡ w.middle
-  middle_is = reads f the_moment (pair 62 1 even) refl refl ∙ parted w.middle
+  middle_is = read_at-value f the_moment (pair 62 1 even) refl refl ∙ sum-parts w.middle
 
   low_is : long_at the_state.store (f.base + 64) ≡ w.low
-  low_is = reads f the_moment (pair 64 2 even) refl refl ∙ parted w.low
+  low_is = read_at-value f the_moment (pair 64 2 even) refl refl ∙ sum-parts w.low
 
   pub guest_counter : (c : ℕ) → w.at0 ≡ A_F + 2 * c → c < 1024 → (guest f.base the_state).counter ≡ c
   guest_counter c fetch room = ap address_of (first_word ∙ fetch) ∙ omega arith

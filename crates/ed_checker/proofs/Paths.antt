@@ -1,7 +1,8 @@
 -- The routine's paths: it fetches the guest's order, tests it, restores and saves the 71 digits, and advances the
 -- guest's counter.
-use Rattle.ed_checker.proofs.Kit.{A_F, L_F, followed, pair, parted, [], arith, Bool, get_or, List, lit<, nat_eq, Option}
-use Rattle.ed_checker.proofs.Kit.{refl, Some, ℕ, ◌%◌, ◌*◌, ◌+◌, ◌-◌, ◌/◌, ◌<◌, ◌^◌, ◌∷◌, ◌≡◌, ◌≤◌, Frame, Moment, Path}
+use Rattle.ed_checker.proofs.Kit.{A_F, L_F, followed, pair, sum-parts, [], arith, Bool, get_or, List, lit<, nat_eq}
+use Rattle.ed_checker.proofs.Kit.{Option, refl, Some, ℕ, ◌%◌, ◌*◌, ◌+◌, ◌-◌, ◌/◌, ◌<◌, ◌^◌, ◌∷◌, ◌≡◌, ◌≤◌, Frame}
+use Rattle.ed_checker.proofs.Kit.{Moment, Path}
 use Rattle.ed_routines.proofs.Kit.{A, E_jumps, G_jumps, L, S, on, prints, stay, out, own}
 use Rattle.ed_words.specs.declared.order_words.TheConstants.{A_D, E_F, G_F, O_F, R_F, S_D, S_F, T_D, T_F, U_D, U_F}
 use Rattle.ed_machine.proofs.Kit.Moves.{T_top, U_top, R, E_stays, G_stays, O}
@@ -104,15 +105,16 @@ module _ (f : Frame 66 30) (f_even : f.base % 2 ≡ 0) (o : Around) where
       let hf = saved.high_fits in
       let small : 4 * w.middle + l < 2 ^ 36 = omega arith in
       on (T_top 30 (own 59) (acc / 2 ^ 54) refl refl)
-      (on (A 31 (pair 64 2 f_even) (l * 2 ^ 68) refl (rw (parted w.low) (omega arith)))
+      (on (A 31 (pair 64 2 f_even) (l * 2 ^ 68) refl (rw (sum-parts w.low) (omega arith)))
       (on (R 32 RF (l * 2 ^ 53) refl (omega arith, omega arith))
       (on (R 33 RF (l * 2 ^ 38) refl (omega arith, omega arith))
       (on (R 34 R4F (l * 2 ^ 34) refl (omega arith, omega arith))
-      (on (A 35 (pair 62 1 f_even) ((4 * w.middle + l) * 2 ^ 34) refl (rw (parted w.middle) (omega arith)))
+      (on (A 35 (pair 62 1 f_even) ((4 * w.middle + l) * 2 ^ 34) refl (rw (sum-parts w.middle) (omega arith)))
       (on (R 36 RF ((4 * w.middle + l) * 2 ^ 19) refl (omega arith, omega arith))
       (on (R 37 RF ((4 * w.middle + l) * 2 ^ 4) refl (omega arith, omega arith))
       (on (R 38 R4F (4 * w.middle + l) refl (omega arith, omega arith))
-      (on (A 39 (pair 60 0 f_even) (whole w.high w.middle w.low) refl (rw (parted w.high) (omega arith))) stay)))))))))
+      (on (A 39 (pair 60 0 f_even) (whole w.high w.middle w.low) refl
+      (rw (sum-parts w.high) (omega arith))) stay)))))))))
 
   -- words 41 to 52: the accumulator is saved
   pub Path-save : (w : Work) (a : ℕ) (last : Option ℕ) → a < 2 ^ 71
@@ -122,12 +124,12 @@ module _ (f : Frame 66 30) (f_even : f.base % 2 ≡ 0) (o : Around) where
       let d : a % 2 ^ 36 < 2 ^ 36 = omega arith in
       let e : a % 4 < 4 = omega arith in
       on (U_top 41 (pair 60 0 f_even) (high_of a) refl refl)
-      (on (S 42 (pair 60 0 f_even) (a % 2 ^ 36) refl (omega arith, rw (parted (high_of a)) (omega arith)))
+      (on (S 42 (pair 60 0 f_even) (a % 2 ^ 36) refl (omega arith, rw (sum-parts (high_of a)) (omega arith)))
       (on (L 43 LF (a % 2 ^ 36 * 2 ^ 13) refl (omega arith))
       (on (L 44 LF (a % 2 ^ 36 * 2 ^ 26) refl (omega arith))
       (on (L 45 L64F (a % 2 ^ 36 * 2 ^ 34) refl (omega arith))
       (on (U_top 46 (pair 62 1 f_even) (middle_of a) refl (omega arith))
-      (on (S 47 (pair 62 1 f_even) (a % 4 * 2 ^ 34) refl (omega arith, rw (parted (middle_of a)) (omega arith)))
+      (on (S 47 (pair 62 1 f_even) (a % 4 * 2 ^ 34) refl (omega arith, rw (sum-parts (middle_of a)) (omega arith)))
       (on (L 48 LF (a % 4 * 2 ^ 47) refl (omega arith))
       (on (L 49 LF (a % 4 * 2 ^ 60) refl (omega arith))
       (on (L 50 L64F (a % 4 * 2 ^ 68) refl (omega arith))
@@ -192,7 +194,7 @@ module _ (f : Frame 66 30) (f_even : f.base % 2 ≡ 0) (o : Around) where
       (on (E_stays 16 (own 30) refl (omega arith))
       (on (A 17 (own 56) ((x + L_F) * 2 ^ 54) refl (omega arith))
       (on (T_top 18 (own 58) (x + L_F) refl (omega arith))
-      (on (A 19 (pair 60 0 f_even) (w.high * 2 ^ 36) refl (rw (parted w.high) (omega arith))) stay)))))))
+      (on (A 19 (pair 60 0 f_even) (w.high * 2 ^ 36) refl (rw (sum-parts w.high) (omega arith))) stay)))))))
 
   at_G : {last : Option ℕ} (w : Work) (x : ℕ) → (G_F ≤ x) × (x < A_F) → w.high < 2 ^ 35
       → Path f 8 (moment f.base o w (x * 2 ^ 54) 3 last) []
@@ -207,7 +209,7 @@ module _ (f : Frame 66 30) (f_even : f.base % 2 ≡ 0) (o : Around) where
       (on (E_stays 7 (own 30) refl (omega arith))
       (on (A 8 (own 56) ((x + 4096) * 2 ^ 54) refl (omega arith))
       (on (T_top 9 (own 58) (x + 4096) refl (omega arith))
-      (on (A 10 (pair 60 0 f_even) (w.high * 2 ^ 36) refl (rw (parted w.high) (omega arith))) stay)))))))
+      (on (A 10 (pair 60 0 f_even) (w.high * 2 ^ 36) refl (rw (sum-parts w.high) (omega arith))) stay)))))))
 
   -- an E or G order of the guest, from word 3 to the beginning of the next turn: the four cases
   pub E_taken : {last : Option ℕ} (w : Work) (x : ℕ) → (E_F ≤ x) × (x < 16384) → w.high < 2 ^ 34

@@ -6,7 +6,7 @@ use Rattle.ed_checker.proofs.Kit.{◌≡◌, ◌≤◌, and_parts, cases_lt, nat
 use Rattle.ed_checker.proofs.Kit.{locations_most, IsStore, kind_of_function, done_at, jump_order, next_word, obey_word}
 use Rattle.ed_checker.proofs.Kit.{Obeyed, step, State, codes_of, is_obeyed, stops_of, if◌then◌else◌, lit≤, Frame, state}
 use Rattle.ed_checker.proofs.Kit.{Path, Agree, CheckerStands, guest, IsAllowed, IsAllowedOrder, turn_orders, HasRun}
-use Rattle.ed_routines.proofs.Kit.{le-ltb, lt-ltb, leads}
+use Rattle.ed_routines.proofs.Kit.{le-ltb, lt-ltb, Leads-path}
 use Rattle.std.proofs.Common.{◌||◌, append-nil}
 use Rattle.std.proofs.lemmas.Bool.{eq-eqb, ne_eqb, le-leb, lt-leb}
 use Rattle.ed_words.proofs.SizeLemmas.{within_below}
@@ -214,7 +214,7 @@ module _ (base : ℕ) (even_base : base % 2 ≡ 0) (m : State) (store : IsStore 
     m1 = state f (moment base o w2 g.acc 40 (Some n)) (m.orders + to.count)
 
     reached : HasRun to.count m (n ∷ []) 0 m1
-    reached = subst (λ s. HasRun to.count s (n ∷ []) 0 m1) begins (HasRun-along (leads to.runs m.orders))
+    reached = subst (λ s. HasRun to.count s (n ∷ []) 0 m1) begins (HasRun-along (Leads-path to.runs m.orders))
 
     -- what the copied order does, to the machine and to the guest
     abbrev r1 : Obeyed
@@ -285,7 +285,8 @@ module _ (base : ℕ) (even_base : base % 2 ≡ 0) (m : State) (store : IsStore 
         (Path-advance f even_base o2 w3 m2.last (rw at_next (omega (arith, c_fits)))) in
         let m3 : State = state f (moment base o2 w4 0 0 m2.last) (m2.orders + 16) in
         let middle : HasRun 1 m1 (codes_of r1.turn) (stops_of r1.turn) m2 = HasRun-one m1 m2 r1.turn at_m1 went in
-        let end : HasRun 16 m2 [] 0 m3 = subst (λ s. HasRun 16 s [] 0 m3) opens (HasRun-along (leads runs m2.orders)) in
+        let end : HasRun 16 m2 [] 0 m3 = subst (λ s. HasRun 16 s [] 0 m3) opens
+        (HasRun-along (Leads-path runs m2.orders)) in
         let whole_run = HasRun-joined reached (HasRun-joined middle end) in
         let codes : codes_of r1.turn ++ [] ≡ codes_of (step g).turn = append-nil (codes_of r1.turn)
         ∙ ap codes_of same_turn in
@@ -338,7 +339,7 @@ module _ (base : ℕ) (even_base : base % 2 ≡ 0) (m : State) (store : IsStore 
       let a : Alike base m3 (record m { acc = 0 }) =
       alike_around f w (record m { acc = 0 }) refl store.words_are store.digits_are 0 in
       let there : HasRun k m (n ∷ []) 0 m3 = subst (λ s. HasRun k s (n ∷ []) 0 m3) begins
-      (HasRun-along (leads runs m.orders)) in
+      (HasRun-along (Leads-path runs m.orders)) in
       let turn : (step g).turn ≡ Went = ap (λ (y : Obeyed). y.turn) is in
       let three : IsSaved w.high w.middle w.low = rw (same.0, same.1, same.2) saved_now in
       record {

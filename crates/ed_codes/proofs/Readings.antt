@@ -4,7 +4,8 @@ use Rattle.std.proofs.Common.{append_assoc, take, drop, length, arith, get_or, s
 use Rattle.std.specs.Prelude.{Option, Some, None, ◌==◌, is_some, Result, Ok, Err, Vec}
 use Rattle.std.specs.declared.alloc.Global.{Global}
 use Rattle.std.proofs.lemmas.Bool.Decides.{Decides-eqb}
-use Rattle.std.proofs.lemmas.List.{append-nil, take-append-drop, length-append, length-take-le, length-drop, drop_all, drop_more}
+use Rattle.std.proofs.lemmas.List.{append-nil, take-append-drop, length-append, length-take-le, length-drop, drop_all}
+use Rattle.std.proofs.lemmas.List.{drop_more}
 use Rattle.std.proofs.lemmas.Bool.{or_parts}
 use Rattle.ed_codes.specs.Spelling.{row_of}
 use Rattle.ed_codes.specs.Text.{Spells, none, row, spacing, comment, is_spacing}
@@ -12,7 +13,7 @@ use Rattle.ed_codes.specs.Text.{has_close, HasNoRow, HasOpenComment, StopsAt}
 use Rattle.ed_codes.specs.Answer.{ReadsText, AnswersText}
 use Rattle.ed_codes.specs.Reading.{Reading, rows, no_row, open_comment, with_row, row_or_fault}
 use Rattle.ed_codes.specs.Reading.{reading_from, reading, IsReadingOf, HasOneReading}
-use Rattle.ed_codes.proofs.Spellings.{differs}
+use Rattle.ed_codes.proofs.Spellings.{eqb-differs}
 use Rattle.ed_codes.proofs.Every.{every_text}
 use Rattle.ed_codes.specs.declared.code.Code.{Code}
 use Rattle.ed_codes.specs.declared.tape.TextFault.{TextFault}
@@ -173,7 +174,10 @@ IsReadTo-closes {within = Some start} below some is h = record { whole = rw is a
 pub IsReadTo-stays : {text codes : List ℕ} {within : Option ℕ} {place : ℕ} → place < length text → true ≡ is_some within
     → get_or text place 0 ≢ 93 → IsReadTo text codes within place → IsReadTo text codes within (place + 1)
 IsReadTo-stays {within = None} below some other h = absurd (cc)
-IsReadTo-stays {within = Some start} below some other h = record { whole = rw (differs _ 93 other) at (next below h) }
+IsReadTo-stays {within = Some start} below some other h = record {
+  whole = rw (eqb-differs _ 93 other) at
+      (next below h);
+}
 
 -- a comment begins
 pub IsReadTo-opens : {text codes : List ℕ} {within : Option ℕ} {place : ℕ} → place < length text
@@ -191,7 +195,8 @@ IsReadTo-skips {text} {codes} {within = None} {place} below outside is h =
     record { whole = rw (spacing_byte (get_or text place 0) place (drop (place + 1) text) (sym is)) at (next below h) }
 IsReadTo-skips {within = Some start} below outside is h = absurd (cc)
 
-one_more : (codes : List ℕ) (code : ℕ) (r : Reading) → with_rows (codes ++ code ∷ []) r ≡ with_rows codes (with_row code r)
+one_more : (codes : List ℕ) (code : ℕ) (r : Reading) → with_rows (codes ++ code ∷ []) r
+    ≡ with_rows codes (with_row code r)
 one_more [] code r = refl
 one_more (first ∷ codes) code r = ap (with_row first) (one_more codes code r)
 
@@ -213,7 +218,7 @@ pub finds_none : {text codes : List ℕ} {within : Option ℕ} {place : ℕ} →
     → row_of (get_or text place 0) ≡ None → IsReadTo text codes within place
     → reading text ≡ no_row place (get_or text place 0)
 finds_none {text} {codes} {within = None} {place} below outside no_comment no_spacing is h =
-    sym (rw is at (rw (sym no_spacing) at (rw (differs _ 91 no_comment) at (next below h))))
+    sym (rw is at (rw (sym no_spacing) at (rw (eqb-differs _ 91 no_comment) at (next below h))))
     ∙ no_row_stays codes place (get_or text place 0)
 finds_none {within = Some start} below outside no_comment no_spacing is h = absurd (cc)
 

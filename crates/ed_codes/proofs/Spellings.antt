@@ -8,8 +8,8 @@ use Rattle.ed_codes.specs.Spelling.{letters, row_of}
 use Rattle.ed_codes.proofs.Below.{from_below}
 
 -- two numbers that are not the same
-pub differs : (b k : ℕ) → b ≢ k → (b == k) ≡ false
-differs b k ne = grind (arith, nat_tests)
+pub eqb-differs : (b k : ℕ) → b ≢ k → (b == k) ≡ false
+eqb-differs b k ne = grind (arith, nat_tests)
 
 -- a byte that is no digit spells the code of a letter or sign, if any
 pub no_digit : (byte : ℕ) → is_ascii_digit byte ≡ false → row_of byte ≡ position (λ b. b == byte) letters
@@ -27,7 +27,8 @@ first_at bytes byte n below before here =
 pub at_none : (bytes : List ℕ) (byte : ℕ) → ((k : ℕ) → k < length bytes → (get_or bytes k 0 == byte) ≡ false)
     → position (λ b. b == byte) bytes ≡ None
 at_none bytes byte others =
-    let at = position_or_len_is (λ b. b == byte) bytes (length bytes) 0 (omega arith) others (λ l. absurd (omega arith)) in
+    let at = position_or_len_is (λ b. b == byte) bytes (length bytes) 0
+    (omega arith) others (λ l. absurd (omega arith)) in
     grind (arith, nat_tests)
 
 abbrev is_code : ℕ → Option ℕ → Bool

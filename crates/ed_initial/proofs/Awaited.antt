@@ -5,19 +5,19 @@ use Rattle.ed_initial.proofs.Kit.{◌+◌, ◌≡◌, ◌≤◌, costs, Notation
 use Rattle.ed_initial.proofs.Kit.{Scratch, Loaded, Lost, rules}
 use Rattle.ed_notation.specs.Beginnings.{part_cost, state_before, orders_before}
 use Rattle.ed_notation.specs.Faults.{IsPart, part_rows}
-use Rattle.ed_notation.proofs.Beginnings.{beginning_most, ended, fault_sound}
+use Rattle.ed_notation.proofs.Beginnings.{beginning_most, is_broken-end_of_tape, fault_sound}
 use Rattle.ed_notation.proofs.Sound.{read_sound}
 use Rattle.ed_initial.specs.Load.{Blocks}
 use Rattle.ed_initial.specs.Waits.{IsLostAtEnd, RestsAfter, AwaitsRow, WaitsForRows, waiting_place}
 use Rattle.ed_initial.specs.Walks.{later}
 use Rattle.ed_initial.proofs.Goes.{Goes}
 use Rattle.ed_initial.proofs.Inside.{between}
-use Rattle.ed_initial.proofs.Opened.{frame, begins as first_moment, state-opened, first_path, first_scratch}
+use Rattle.ed_initial.proofs.Opened.{frame, Begins-begun as first_moment, state-opened, first_path, first_scratch}
 use Rattle.ed_initial.proofs.Opened.{opening_notation, state-shown}
 use Rattle.ed_initial.proofs.Paths.{state}
 use Rattle.ed_initial.proofs.Runs.{ends_there, exceeds_there}
 use Rattle.ed_initial.proofs.Settled.{no_end}
-use Rattle.ed_initial.proofs.Trips.{Trip, begins, by_path, Trip-further, whole_items}
+use Rattle.ed_initial.proofs.Trips.{Trip, Begins-begun, by_path, Trip-further, whole_items}
 
 module _ (s : State) (store : IsStore s.store) (started : IsStarted s) where
   abbrev ws : List ℕ
@@ -42,7 +42,7 @@ module _ (s : State) (store : IsStore s.store) (started : IsStarted s) where
         rests = (scratch, state-shown (frame s store) _ _ _ _ _ _ _);
       })
   by_part k scratch notation (Some b) rest is trip =
-      let p = begins (frame s store) ws scratch notation b rest is in
+      let p = Begins-begun (frame s store) ws scratch notation b rest is in
       record {
         moment = _;
         trip = Trip-further trip p.trip;
@@ -100,6 +100,7 @@ lost_at_end s r store started ends row f =
     let ws = s.store.words in
     let x = f.is.stands in
     let there = waits s store started row (fault_sound f) x in
-    let none = ended s.size ws (state_before x) x.part x.rest f.is.breaks in
-    let turn = needs_row x.part (subst (λ rest. AwaitsRow s (9 + orders_before x) (state_before x) x.part rest) none there) in
+    let none = is_broken-end_of_tape s.size ws (state_before x) x.part x.rest f.is.breaks in
+    let turn = needs_row x.part
+    (subst (λ rest. AwaitsRow s (9 + orders_before x) (state_before x) x.part rest) none there) in
     lost s (17 * length s.tape + 9) (9 + orders_before x) there.quiet turn (omega (arith, beginning_most x)) ends

@@ -6,9 +6,9 @@ use Rattle.std.proofs.Math.Bool.{not}
 use Rattle.std.proofs.lemmas.Bool.{eqb-true, eq-eqb, not-false}
 
 -- a test that reads the item of the list once more
-pub tested : (word : ℕ) {item again : ℕ} {differ : Bool} → differ ≡ not (eqb word again) → item ≡ again
+pub not_eqb-same : (word : ℕ) {item again : ℕ} {differ : Bool} → differ ≡ not (eqb word again) → item ≡ again
     → differ ≡ not (eqb word item)
-tested word is_test same = is_test ∙ ap (λ x. not (eqb word x)) (sym same)
+not_eqb-same word is_test same = is_test ∙ ap (λ x. not (eqb word x)) (sym same)
 
 -- at location i the word of the store and the item of the list, at the same index, were read; `differ` is the test's answer
 module _ (words list : List ℕ) (i : ℕ) {read : List ℕ} {index word item : ℕ} {differ : Bool} (less : i < length list)

@@ -25,7 +25,8 @@ abbrev pub between : Kept → List ℕ → Scratch → NotationState → List �
 between f ws w notation rows = moment f (working w notation) (over notation.placed ws) w.digit40 0 34 rows
 
 abbrev pub inside : Kept → List ℕ → PartialItem → ℕ → ℕ → NotationState → List ℕ → Moment
-inside f ws part at1 at20 notation rows = moment f (working (scratch_of part at1 at20) notation) (over notation.placed ws)
+inside f ws part at1 at20 notation rows = moment f (working (scratch_of part at1 at20) notation)
+    (over notation.placed ws)
     false 0 9 rows
 
 -- at the entry by an item whose ending row is c

@@ -4,7 +4,7 @@ pub use Rattle.std.proofs.Common.{not, rules}
 pub use Rattle.std.proofs.lemmas.Bool.{false≢true, not-true}
 pub use Rattle.ed_words.specs.declared.order_words.TheConstants.{A_F, E_F, T_F}
 pub use Rattle.ed_words.specs.declared.size.Size.{Size}
-pub use Rattle.ed_words.proofs.SizeLemmas.{least}
+pub use Rattle.ed_words.proofs.SizeLemmas.{locations_least}
 pub use Rattle.ed_orders.specs.declared.kind.Kind.{Kind}
 pub use Rattle.ed_machine.specs.Start.{start_state}
 pub use Rattle.ed_machine.specs.declared.turn.Turn.TheVariants.{NoTape, Went}
@@ -20,7 +20,7 @@ pub use Rattle.ed_notation.specs.declared.kind.RowKind.{RowKind}
 pub use Rattle.ed_notation.specs.declared.reader.PartialItem.{PartialItem}
 pub use Rattle.ed_notation.specs.declared.reader.RowEffect.{RowEffect}
 pub use Rattle.ed_notation.specs.declared.reader.RowEffect.TheVariants.{Ended, Entered, Longer, Placed, Refused}
-pub use Rattle.ed_notation.proofs.Follow.{law, Reader}
+pub use Rattle.ed_notation.proofs.Follow.{RowLaw-seen, Reader}
 pub use Rattle.ed_notation.proofs.Kit.{[], ap, arith, Bool, drop, false, get_or, if◌then◌else◌, inl, inr, length, List}
 pub use Rattle.ed_notation.proofs.Kit.{lit<, lit≤, nat_eq, nat_le, nat_lt, None, Option, refl, set, Some, subst, suc}
 pub use Rattle.ed_notation.proofs.Kit.{sym, true, ℕ, ◌%◌, ◌&&◌, ◌*◌, ◌++◌, ◌+◌, ◌-◌, ◌/◌, ◌<◌, ◌∙◌, ◌∷◌, ◌≡◌, ◌≢◌, ◌≤◌}

@@ -4,7 +4,7 @@ use Rattle.ed_initial.proofs.Kit.{false, get_or, length, List, refl, set, sym, �
 use Rattle.ed_initial.proofs.Kit.{IsStarted, initial_orders, IsNotationState, Scratch, Working}
 use Rattle.std.proofs.Common.{drop-cons}
 use Rattle.std.proofs.lemmas.List.{set-get_or}
-use Rattle.ed_machine.proofs.Kit.Window.{patched_one, headed}
+use Rattle.ed_machine.proofs.Kit.Window.{patched_one, append-drop}
 use Rattle.ed_initial.proofs.Inside.{between}
 use Rattle.ed_initial.proofs.Paths.{Kept, state, ToRest, cells, moment, start_path}
 
@@ -44,7 +44,7 @@ words_are ws long orders =
     ap (λ x. get_or ws 41 0 ∷ get_or ws 42 0 ∷ x) (sym (drop-cons ws 43 0 (omega arith)))
     ∙ ap (λ x. get_or ws 41 0 ∷ x) (sym (drop-cons ws 42 0 (omega arith)))
     ∙ sym (drop-cons ws 41 0 (omega arith)) in
-    ap (λ x. initial_orders ++ x) behind ∙ headed 0 initial_orders ws (omega arith) (λ j l. sym (orders j l))
+    ap (λ x. initial_orders ++ x) behind ∙ append-drop 0 initial_orders ws (omega arith) (λ j l. sym (orders j l))
 
 pub state-opened : (s : State) (store : IsStore s.store) → IsStarted s
     → state (frame s store) (begins s store) s.orders ≡ s

@@ -1,9 +1,9 @@
 -- What the Initial Orders do with each kind of row, as the paths of their listing: each line is one order, by its
 -- cell and what it names, with the number that it leaves.
-use Rattle.ed_initial.proofs.Kit.{not, A_F, E_F, T_F, Size, least, Kind, Went, Moment, Moves, ◌^◌, nat_tests, step}
-use Rattle.ed_initial.proofs.Kit.{State, [], arith, Bool, false, get_or, inr, length, List, lit<, lit≤, nat_eq, Option}
-use Rattle.ed_initial.proofs.Kit.{refl, set, Some, suc, true, ℕ, ◌%◌, ◌&&◌, ◌*◌, ◌+◌, ◌-◌, ◌/◌, ◌<◌, ◌∷◌, ◌≡◌, ◌≤◌}
-use Rattle.ed_initial.proofs.Kit.{locations, enters, is_E, Working, is_rest}
+use Rattle.ed_initial.proofs.Kit.{not, A_F, E_F, T_F, Size, locations_least, Kind, Went, Moment, Moves, ◌^◌, nat_tests}
+use Rattle.ed_initial.proofs.Kit.{step, State, [], arith, Bool, false, get_or, inr, length, List, lit<, lit≤, nat_eq}
+use Rattle.ed_initial.proofs.Kit.{Option, refl, set, Some, suc, true, ℕ, ◌%◌, ◌&&◌, ◌*◌, ◌+◌, ◌-◌, ◌/◌, ◌<◌, ◌∷◌, ◌≡◌}
+use Rattle.ed_initial.proofs.Kit.{◌≤◌, locations, enters, is_E, Working, is_rest}
 use Rattle.std.proofs.lemmas.Bool.{lt-ltb}
 use Rattle.ed_words.specs.declared.order_words.TheConstants.{L_D, V_F}
 use Rattle.ed_words.proofs.SizeLemmas.{locations_most as most_locations}
@@ -27,7 +27,7 @@ piece f = record {
   size = f.size;
   base = 0;
   top = locations f.size;
-  under = omega (arith, least f.size);
+  under = omega (arith, locations_least f.size);
   fits = omega arith;
 }
 
@@ -171,7 +171,7 @@ module _ (f : Kept) (w : Working) (words : List ℕ) (digit40 : Bool) where
   control_row : (c : ℕ) (rest : List ℕ) → 11 ≤ c → c < 17 → w.at0 < 2 ^ 16
       → Walk f 12 (at w 0 9 (c ∷ rest)) (at (record w { at1 = c; at20 = 12320 + 2 * c }) (short w.at0) (16 + c) rest)
   control_row c rest low most fits =
-      let least = least f.size in
+      let size = locations_least f.size in
       let order : 12320 + 2 * c ≡ E_F + 2 * (16 + c) = omega arith in
       followed (ending_row c rest low (omega arith))
       (on (E_stays 15 (own 17) refl (omega arith)) refl
@@ -261,7 +261,7 @@ module _ (f : Kept) (w : Working) (words : List ℕ) (digit40 : Bool) where
   pub letter_row : {c y x u : ℕ} {rest : List ℕ} → IsLetter c y x u
       → Walk f 12 (at w 0 9 (c ∷ rest)) (at (lettered c) (short u) 22 rest)
   letter_row {c} {x = x} {u} {rest} h =
-      let least = least f.size in
+      let size = locations_least f.size in
       let order : 114736 + 2 * c ≡ A_F + 2 * (24 + c) = omega arith in
       let most = h.most in
       let below : 24 + c < locations f.size = omega arith in

@@ -1,8 +1,8 @@
 -- A cleared machine that is started on the rows of a text is within the bounds of a machine, and at the first of the
 -- Initial Orders.
-use Rattle.ed_initial.proofs.Kit.{rules, Size, least, zero, ◌^◌, IsStore, [], drop, length, List, lit<, lit≤, nat_lt}
-use Rattle.ed_initial.proofs.Kit.{Some, subst, suc, true, ℕ, ◌++◌, ◌<◌, ◌∷◌, ◌≡◌, and_parts, ltb-true, IsStarted}
-use Rattle.ed_initial.proofs.Kit.{initial_orders}
+use Rattle.ed_initial.proofs.Kit.{rules, Size, locations_least, zero, ◌^◌, IsStore, [], drop, length, List, lit<, lit≤}
+use Rattle.ed_initial.proofs.Kit.{nat_lt, Some, subst, suc, true, ℕ, ◌++◌, ◌<◌, ◌∷◌, ◌≡◌, and_parts, ltb-true}
+use Rattle.ed_initial.proofs.Kit.{IsStarted, initial_orders}
 use Rattle.ed_notation.proofs.Kit.{replicate, list_all, row_of}
 use Rattle.std.proofs.Common.{slice_index}
 use Rattle.ed_codes.specs.Reading.{IsReadingOf, reading, rows}
@@ -30,9 +30,9 @@ pub first_store : (z : Size) (tape : List ℕ) → IsStore (first_state z tape).
 unfolding first_state
 first_store z tape = search (rules, all_fit)
 
-pub starts : (z : Size) (tape : List ℕ) → IsStarted (first_state z tape)
+pub IsStarted-first_state : (z : Size) (tape : List ℕ) → IsStarted (first_state z tape)
 unfolding first_state
-starts z tape = is_started tape (cleared_state z)
+IsStarted-first_state z tape = is_started tape (cleared_state z)
 
 -- a byte spells one of the 32 codes
 spelled_code : (byte code : ℕ) → row_of byte ≡ Some code → code < 32
@@ -51,7 +51,7 @@ read_fit text codes read = rows_fit {text = text} (subst (IsReadingOf text) read
 
 pub first_sound : (z : Size) (codes : List ℕ) → ((i : ℕ) → slice_index codes i < 32) → IsSound (first_state z codes)
 unfolding first_state
-first_sound z codes fit = search (rules, first_store, least)
+first_sound z codes fit = search (rules, first_store, locations_least)
 
 pub sound_start : (z : Size) (text codes : List ℕ) → reading text ≡ rows codes → IsSound (first_state z codes)
 sound_start z text codes read = first_sound z codes (read_fit text codes read)

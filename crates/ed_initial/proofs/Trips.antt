@@ -1,9 +1,9 @@
 -- From one rest to another over rows that break no rule: a part of an item, an item, and items one after the other.
 use Rattle.ed_initial.proofs.Kit.{rules, Moment, RowKind, PartialItem, RowEffect, Ended, Entered, Longer, Placed}
-use Rattle.ed_initial.proofs.Kit.{Refused, law, Reader, [], ap, arith, Bool, false, length, List, None, refl, Some}
-use Rattle.ed_initial.proofs.Kit.{subst, suc, sym, true, ℕ, ◌*◌, ◌++◌, ◌+◌, ◌∙◌, ◌∷◌, ◌≡◌, ◌≤◌, digit, costs, end_cost}
-use Rattle.ed_initial.proofs.Kit.{NotationState, over, Begun, digits_number, IsBegun, row_kind, rows_of, spelled_rows}
-use Rattle.ed_initial.proofs.Kit.{part_of, RowLaw, IsNotationState, Scratch, scratch_of, working}
+use Rattle.ed_initial.proofs.Kit.{Refused, RowLaw-seen, Reader, [], ap, arith, Bool, false, length, List, None, refl}
+use Rattle.ed_initial.proofs.Kit.{Some, subst, suc, sym, true, ℕ, ◌*◌, ◌++◌, ◌+◌, ◌∙◌, ◌∷◌, ◌≡◌, ◌≤◌, digit, costs}
+use Rattle.ed_initial.proofs.Kit.{end_cost, NotationState, over, Begun, digits_number, IsBegun, row_kind, rows_of}
+use Rattle.ed_initial.proofs.Kit.{spelled_rows, part_of, RowLaw, IsNotationState, Scratch, scratch_of, working}
 use Rattle.ed_notation.proofs.Kit.{append_assoc, true≢false, AreRead, AreSound, EndsSound, act, begun_cost, cost_of}
 use Rattle.ed_notation.proofs.Kit.{ending_effect, entering, fold, is_entry, AreDigits, begun_rows, ends, IsWritten}
 use Rattle.ed_notation.proofs.Kit.{item, item_of, items, mark_rows, Written}
@@ -83,9 +83,9 @@ module _ (f : Kept) (ws : List ℕ) where
     pub trip : Trip f (begun_cost b) (between f ws scratch notation (begun_rows b ++ rest))
         (inside f ws (as_part b) one twenty notation rest)
 
-  pub begins : (scratch : Scratch) (notation : NotationState) (b : Begun) (rest : List ℕ) → IsBegun b
+  pub Begins-begun : (scratch : Scratch) (notation : NotationState) (b : Begun) (rest : List ℕ) → IsBegun b
       → Begins scratch notation b rest
-  begins scratch notation b rest good =
+  Begins-begun scratch notation b rest good =
       let after = mark_rows b.mark ++ rest in
       let n = digits_number 0 b.digits in
       let path : ToRest f 6 (between f ws scratch notation (b.function ∷ (b.digits ++ after)))
@@ -140,7 +140,7 @@ module _ (f : Kept) (ws : List ℕ) where
         → entering kind notation ≡ false
         → Closes row (ending_effect kind ws notation (item_of b c)) (end_cost kind notation)
     closes good begun =
-        closes_by (seen f.size ws notation b c) (law f.size ws notation b c (is_directive notation good) begun)
+        closes_by (seen f.size ws notation b c) (RowLaw-seen f.size ws notation b c (is_directive notation good) begun)
         (After-follows row good (is_part b begun))
 
   -- an item that is not the entry item
@@ -150,7 +150,7 @@ module _ (f : Kept) (ws : List ℕ) where
   one_item scratch notation w rest good written goes sound =
       let b = w.begun in
       let p : Reader = record { size = f.size; words = ws; row = 0; cost = 0; notation = notation } in
-      let begun = begins scratch notation b (w.end ∷ rest) written.begun in
+      let begun = Begins-begun scratch notation b (w.end ∷ rest) written.begun in
       let c = closes notation b begun.one begun.twenty w.end rest good written.begun (no_rule p w sound) written.ended
       goes in
       let rows : begun_rows b ++ (w.end ∷ rest) ≡ rows_of w ++ rest =

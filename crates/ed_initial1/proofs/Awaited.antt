@@ -1,9 +1,10 @@
 -- A started machine waits for each row of its tape that is read.
-use Rattle.ed_initial1.proofs.Kit.{drop-cons, T_F, short, T_top, leads, own, patched_one, [], ap, arith, Bool, drop}
-use Rattle.ed_initial1.proofs.Kit.{false, get_or, length, List, lit≤, None, Option, refl, set, Some, subst, sym, ℕ, ◌*◌}
-use Rattle.ed_initial1.proofs.Kit.{◌++◌, ◌+◌, ◌/◌, ◌<◌, ◌^◌, ◌∙◌, ◌∷◌, ◌≡◌, ◌≤◌, step, State, progress, state_after}
-use Rattle.ed_initial1.proofs.Kit.{Moment, patched, digits_number, IsStarted1, IsLoading, IsPart1, part_rows1, AreItems}
-use Rattle.ed_initial1.proofs.Kit.{Begun1, costs1, Item1, item_number, last_of, word1, words, IsQuiet1, rules}
+use Rattle.ed_initial1.proofs.Kit.{drop-cons, T_F, short, T_top, Leads-path, own, patched_one, [], ap, arith, Bool}
+use Rattle.ed_initial1.proofs.Kit.{drop, false, get_or, length, List, lit≤, None, Option, refl, set, Some, subst, sym}
+use Rattle.ed_initial1.proofs.Kit.{ℕ, ◌*◌, ◌++◌, ◌+◌, ◌/◌, ◌<◌, ◌^◌, ◌∙◌, ◌∷◌, ◌≡◌, ◌≤◌, step, State, progress}
+use Rattle.ed_initial1.proofs.Kit.{state_after, Moment, patched, digits_number, IsStarted1, IsLoading, IsPart1}
+use Rattle.ed_initial1.proofs.Kit.{part_rows1, AreItems, Begun1, costs1, Item1, item_number, last_of, word1, words}
+use Rattle.ed_initial1.proofs.Kit.{IsQuiet1, rules}
 use Rattle.ed_machine.specs.declared.turn.Turn.TheVariants.{NoTape}
 use Rattle.ed_initial.specs.Walks.{later}
 use Rattle.ed_initial1.specs.Waits.{RestsAfter1, Scratch1, AwaitsRow1, WaitsForRows1, part_cost1, orders_before1}
@@ -13,7 +14,7 @@ use Rattle.ed_initial1.proofs.Paths.{Walk, stay, on, Walk-followed, Working, Kep
 use Rattle.ed_initial1.proofs.Paths.{first_placed, Walk-placed}
 use Rattle.ed_initial1.proofs.Rests.{tape_of, tape_is, third, written, left, head_cost, first_word, digit_walk}
 use Rattle.ed_initial1.proofs.Rests.{head_walk, back_tail, to_come}
-use Rattle.ed_initial1.proofs.Walks.{state, path_of, quiet}
+use Rattle.ed_initial1.proofs.Walks.{state, path_of, IsQuiet1-walk}
 
 -- ---- from one rest to another
 
@@ -28,7 +29,8 @@ module _ (q : Kept) where
     first_is : working.at31 ≡ first
 
   -- items after the first one, which do not reach up to the end
-  more_items : (ws : List ℕ) (w : Working) (b : Bool) (acc : ℕ) {a e : ℕ} (is : List Item1) (rest : List ℕ) → AreItems is
+  more_items : (ws : List ℕ) (w : Working) (b : Bool) (acc : ℕ) {a e : ℕ} (is : List Item1) (rest : List ℕ)
+      → AreItems is
       → w.at25 ≡ T_F + 2 * a → w.at31 ≡ T_F + 2 * e → 32 ≤ a → a + length is < e → e ≤ 1023
       → Returns (costs1 is) (moment q w ws b acc 6 (tape_of is rest)) (written ws a (words is))
       (T_F + 2 * (a + length is)) w.at31 rest
@@ -43,7 +45,8 @@ module _ (q : Kept) where
   more_items ws w b acc {a} {e} (i ∷ is) rest good next end low less most =
       let cost : costs1 (i ∷ is) ≡ head_cost i + (1 + (5 + costs1 is)) = omega arith in
       let w' : Working = record (left w i) { at25 = T_F + 2 * (a + 1) } in
-      let more = more_items (set ws a (word1 i)) w' false (short (to_come q (a + 1) e)) is rest good.1 refl end (omega arith)
+      let more = more_items (set ws a (word1 i)) w' false (short (to_come q (a + 1) e)) is rest good.1 refl end
+      (omega arith)
       (omega arith) most in
       record {
         working = more.working;
@@ -84,7 +87,8 @@ module _ (s : State) (store : HasItsLengths s.store) (started : IsStarted1 s) wh
   start : (tape : List ℕ) → Walk 4 (begins s tape) (moment q first ws digit 0 6 tape)
   start tape = start_path q (listed ws) ws digit s.acc s.multiplier tape
 
-  items : (before : List Item1) (rest : List ℕ) → AreItems before → IsLoading before → AtSix (4 + costs1 before) before rest
+  items : (before : List Item1) (rest : List ℕ) → AreItems before → IsLoading before
+      → AtSix (4 + costs1 before) before rest
   items [] rest good goes = record {
     working = first;
     digit0 = digit;
@@ -169,9 +173,9 @@ module _ (s : State) (store : HasItsLengths s.store) (started : IsStarted1 s) wh
       → AwaitsRow1 s k before part rest
   waits_by {k} {before} {part} {rest} a =
       let open_is = state-opened s store started in
-      let there = leads (path_of a.walk) s.orders in
+      let there = Leads-path (path_of a.walk) s.orders in
       record {
-        quiet = subst (λ x. IsQuiet1 k x) open_is (quiet a.walk s.orders);
+        quiet = subst (λ x. IsQuiet1 k x) open_is (IsQuiet1-walk a.walk s.orders);
         silent = subst (λ x. (progress k x).codes ≡ []) open_is there.codes_are;
         rests = subst (λ (x : State). RestsAfter1 (later k rest s) before part (state_after k x)) open_is
             (subst (λ (x : State). RestsAfter1 (later k rest s) before part x) (sym there.state_is) a.rests);

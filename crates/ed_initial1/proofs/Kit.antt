@@ -7,7 +7,7 @@ pub use Rattle.ed_store.specs.Cells.{with_short}
 pub use Rattle.ed_machine.specs.declared.turn.Turn.TheVariants.{Went}
 pub use Rattle.ed_machine.proofs.Kit.Frames.{short}
 pub use Rattle.ed_machine.proofs.Kit.Moves.{T_top}
-pub use Rattle.ed_machine.proofs.Kit.Paths.{leads}
+pub use Rattle.ed_machine.proofs.Kit.Paths.{Leads-path}
 pub use Rattle.ed_machine.proofs.Kit.Places.{own}
 pub use Rattle.ed_machine.proofs.Kit.Window.{patched_one}
 pub use Rattle.ed_machine.proofs.Names.{append-nil, append_assoc, length-append, eqb-true}

@@ -10,7 +10,7 @@ use Rattle.ed_notation.proofs.Kit.{over}
 use Rattle.ed_notation.proofs.Placing.{laid, over_laid}
 use Rattle.ed_words.proofs.SizeLemmas.{within_below}
 use Rattle.ed_machine.proofs.Kit.Frames.{same_state}
-use Rattle.ed_machine.proofs.Kit.Window.{headed}
+use Rattle.ed_machine.proofs.Kit.Window.{append-drop}
 use Rattle.ed_initial1.specs.Items.{item_digits}
 use Rattle.ed_initial1.proofs.Paths.{Working, Kept, cells, moment}
 use Rattle.ed_initial1.proofs.Rests.{third, thirds, written, final}
@@ -41,7 +41,7 @@ words_are : (ws : List ℕ) → length ws ≡ 1024 → ((i : ℕ) → i < 31 →
 unfolding patched
 words_are ws long orders =
     ap (λ x. first_orders ++ x) (sym (drop-cons ws 31 0 (omega arith)))
-    ∙ headed 0 first_orders ws (omega arith) (λ j l. sym (orders j l))
+    ∙ append-drop 0 first_orders ws (omega arith) (λ j l. sym (orders j l))
 
 pub state-opened : (s : State) → HasItsLengths s.store → IsStarted1 s → state (begins s s.tape) s.orders ≡ s
 state-opened s store started =

@@ -94,7 +94,9 @@ reads_all : (is before : List Item1) (row : ℕ) (rest : List ℕ) → AreItems 
     → read row before None (spelled_rows1 is ++ rest) ≡ read (row + length (spelled_rows1 is)) (before ++ is) None rest
 reads_all [] before row rest good goes = search (rules, append-nil)
 reads_all (i ∷ is) before row rest good goes =
-    search (rules, less_of, length-append, goes_on_by, append_assoc, reads_item, first_fits, snoc, reads_all is (before ++ (i ∷ [])) (row + length (rows_of1 i)) rest good.1 (rw (snoc before i is) goes))
+    let others = reads_all is (before ++ (i ∷ [])) (row + length (rows_of1 i)) rest good.1
+    (rw (snoc before i is) goes) in
+    search (rules, less_of, length-append, goes_on_by, append_assoc, reads_item, first_fits, snoc, others)
 
 -- items that give a program
 reads_whole : (i : Item1) (is before : List Item1) (row : ℕ) (rest : List ℕ) → AreItems (i ∷ is)

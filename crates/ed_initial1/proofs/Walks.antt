@@ -1,6 +1,6 @@
 -- From the walks of the listing to steps of the machine.
-use Rattle.ed_initial1.proofs.Kit.{Went, leads, [], ap, arith, refl, subst, suc, sym, true, ℕ, ◌+◌, ◌∙◌, ◌≡◌, Obeyed}
-use Rattle.ed_initial1.proofs.Kit.{step, State, progress, state_after, Moment, at_31, IsQuiet1, rules}
+use Rattle.ed_initial1.proofs.Kit.{Went, Leads-path, [], ap, arith, refl, subst, suc, sym, true, ℕ, ◌+◌, ◌∙◌, ◌≡◌}
+use Rattle.ed_initial1.proofs.Kit.{Obeyed, step, State, progress, state_after, Moment, at_31, IsQuiet1, rules}
 use Rattle.std.proofs.Common.{zero}
 use Rattle.ed_machine.proofs.Kit.Frames.{state as piece_state}
 use Rattle.ed_machine.proofs.Kit.Paths.{Path, stay as path_stays, on as path_on, followed as paths_followed, no_state}
@@ -18,12 +18,12 @@ path_of stay = path_stays
 path_of (on first away rest) = path_on first (path_of rest)
 
 -- each of its orders goes on
-pub quiet : {k : ℕ} {r t : Moment} → Walk k r t → (done : ℕ) → IsQuiet1 k (state r done)
-quiet stay done j h = absurd (omega arith)
-quiet (on {r = r} first away rest) done zero h = search (rules, no_state)
-quiet (on {r = r} first away rest) done (suc j) h =
+pub IsQuiet1-walk : {k : ℕ} {r t : Moment} → Walk k r t → (done : ℕ) → IsQuiet1 k (state r done)
+IsQuiet1-walk stay done j h = absurd (omega arith)
+IsQuiet1-walk (on {r = r} first away rest) done zero h = search (rules, no_state)
+IsQuiet1-walk (on {r = r} first away rest) done (suc j) h =
     subst GoesOn1 (sym (first_state j (state r done) ∙ ap (λ (o : Obeyed). state_after j o.state) (first.does done)))
-    (quiet rest (done + 1) j (omega arith))
+    (IsQuiet1-walk rest (done + 1) j (omega arith))
 
 -- all orders but the last go on, the last one reaches 31, and none of them prints
 pub record Reaches (k : ℕ) (s t : State) : Type 0 where
@@ -34,18 +34,19 @@ pub record Reaches (k : ℕ) (s t : State) : Type 0 where
   pub at : at_31 t ≡ true
   pub silent : (progress k s).codes ≡ []
 
-pub reaches : {k : ℕ} {r t : Moment} → ToProgram k r t → (done : ℕ) → Reaches k (state r done) (state t (done + k))
-reaches {t = t} (ends {k = k} {r = r} {m = m} walk last at) done =
-    let there = leads (path_of walk) done in
+pub Reaches-to_program : {k : ℕ} {r t : Moment} → ToProgram k r t → (done : ℕ)
+    → Reaches k (state r done) (state t (done + k))
+Reaches-to_program {t = t} (ends {k = k} {r = r} {m = m} walk last at) done =
+    let there = Leads-path (path_of walk) done in
     let sum : k + 1 ≡ suc k = omega arith in
     let all : Path piece (suc k) r [] t = rw sum at (paths_followed (path_of walk) (path_on last path_stays)) in
     let e : done + k + 1 ≡ done + suc k = omega arith in
     record {
       before = k;
       count = refl;
-      quiet = quiet walk done;
+      quiet = IsQuiet1-walk walk done;
       last = ap step there.state_is
           ∙ subst (λ x. step (state m (done + k)) ≡ record { state = state t x; turn = Went }) e (last.does (done + k));
       at = at;
-      silent = (leads all done).codes_are;
+      silent = (Leads-path all done).codes_are;
     }

@@ -12,7 +12,7 @@ use Rattle.ed_initial1.proofs.Paths.{ToProgram, moment}
 use Rattle.ed_initial1.proofs.Reading.{ReachesEntry1-programmed}
 use Rattle.ed_initial1.proofs.Rests.{tape_of, tape_is, written, final, whole_path, first_word}
 use Rattle.ed_initial1.proofs.Settled.{Entered-settled, state_after-comes}
-use Rattle.ed_initial1.proofs.Walks.{state, Reaches, reaches}
+use Rattle.ed_initial1.proofs.Walks.{state, Reaches, Reaches-to_program}
 
 -- no tape costs more than 14 orders a row
 pub costs_fit : (is : List Item1) → costs1 is ≤ 14 * length (spelled_rows1 is)
@@ -38,7 +38,8 @@ reached {s} store started {e} (i ∷ is) rest rows good first count =
     ap (λ x. state (begins s x) s.orders) tape ∙ state-opened s store started in
     let end = state-closed store started is rest first count in
     subst (λ x. Reaches k x (entry_of s e (i ∷ is) rest)) start
-    (subst (λ x. Reaches k (state (begins s (tape_of (i ∷ is) rest)) s.orders) x) end (reaches path s.orders))
+    (subst (λ x. Reaches k (state (begins s (tape_of (i ∷ is) rest)) s.orders) x) end
+    (Reaches-to_program path s.orders))
 
 -- the same for a tape
 pub leads_in : (s : State) → HasItsLengths s.store → IsStarted1 s → (t : Tape) → ReachesEntry1 s.tape t

@@ -7,7 +7,7 @@ use Rattle.std.proofs.lemmas.List.{set-get_or, get_or-drop, get_or-take, drop-dr
 use Rattle.ed_machine.proofs.Kit.Frames.{same_state}
 use Rattle.ed_machine.proofs.Kit.Moves.{T_top, E_jumps}
 use Rattle.ed_machine.proofs.Kit.Places.{own}
-use Rattle.ed_machine.proofs.Kit.Window.{patched_one, headed}
+use Rattle.ed_machine.proofs.Kit.Window.{patched_one, append-drop}
 use Rattle.ed_initial.proofs.Paths.{Kept, ToRest, ends, on, stay, cells, moment}
 
 -- the changing words as the program left them
@@ -33,7 +33,7 @@ stretch : (cs ws : List ℕ) (k m : ℕ) → k + length cs ≡ m → m ≤ lengt
     → ((j : ℕ) → j < length cs → get_or ws (k + j) 0 ≡ get_or cs j 0) → cs ++ drop m ws ≡ drop k ws
 stretch cs ws k m e l h =
     let long : length cs ≤ length (drop k ws) = omega (arith, length-drop k ws) in
-    let whole = headed 0 cs (drop k ws) long (λ j b. sym (get_or-drop k ws j 0 ∙ h j b)) in
+    let whole = append-drop 0 cs (drop k ws) long (λ j b. sym (get_or-drop k ws j 0 ∙ h j b)) in
     let rest : drop (length cs) (drop k ws) ≡ drop m ws = drop-drop (length cs) k ws ∙ ap (λ x. drop x ws) e in
     ap (λ x. cs ++ x) (sym rest) ∙ whole
 

@@ -7,14 +7,14 @@ use Rattle.ed_interlude.proofs.Kit.{Finishes, first_part, GoesBack, LeadsTo, par
 use Rattle.ed_interlude.proofs.Kit.{ReportsParts, RunsOn, TapePart, Ended}
 use Rattle.ed_machine.proofs.Names.{append-nil, AreObeyed, codes_of, is_obeyed}
 use Rattle.ed_machine.specs.Sound.{IsSound}
-use Rattle.ed_machine.proofs.Kit.Leads.{Leads, all_go, free, goes_on, joined, no_stops}
+use Rattle.ed_machine.proofs.Kit.Leads.{Leads, all_go, AreObeyed-leads, goes_on, Leads-append, no_stops}
 use Rattle.ed_machine.specs.declared.turn.Turn.TheVariants.{Stopped as Stops, NoOrder as IsNoOrder}
 use Rattle.ed_machine.specs.declared.turn.Turn.TheVariants.{NoTape as HasNoTape}
 use Rattle.ed_machine.proofs.SoundSteps.{sound_after}
 use Rattle.ed_machine.proofs.Steps.{few_codes, free_more, no_step, quiet_codes}
 use Rattle.ed_run.specs.Laws.{AllWent, HasRoom}
 use Rattle.ed_initial.specs.Entry.{IsStarted, first_state}
-use Rattle.ed_initial.proofs.Starts.{starts, sound_start}
+use Rattle.ed_initial.proofs.Starts.{IsStarted-first_state, sound_start}
 use Rattle.ed_interlude.specs.Laws.{EachEndIsTheRuns, EndsAsParts, EndsAsRun}
 use Rattle.ed_interlude.specs.Parts.{last_printed, printed_from}
 use Rattle.ed_interlude.proofs.Programs.{home_within, limit_ends, next_ends, runs_within, stop_ends, way_stops}
@@ -55,7 +55,8 @@ module _ (limit : ℕ) (s : State) where
   at_limit : (m : State) (codes : List ℕ) → Leads limit s codes m → EndsAsRun limit s Limit m codes
   at_limit m codes w = record {
     orders = limit;
-    ends = places.at_limit limit 0 (room limit (omega arith) (free w)) (omega (arith, no_stops limit s w.goes));
+    ends = places.at_limit limit 0 (room limit (omega arith) (AreObeyed-leads w))
+        (omega (arith, no_stops limit s w.goes));
     state_is = sym w.state_is;
     prints = w.codes_are;
   }
@@ -65,7 +66,7 @@ module _ (limit : ℕ) (s : State) where
     without_stop : (k : ℕ) (ending : Ending) → Finishes left k m ending → (progress k m).stops ≡ 0
         → EndsAsRun limit s ending (state_after k m) (before ++ (progress k m).codes)
     without_stop k ending f none =
-        let walk = joined first (run_walk left m k f.runs none) in
+        let walk = Leads-append first (run_walk left m k f.runs none) in
         elim (cases_lt k left) [
           | inl low ↦
               let at : end_by (step (state_after (a + k) s)).turn false ≡ Some ending =
@@ -73,7 +74,7 @@ module _ (limit : ℕ) (s : State) where
               ∙ f.ends in
               record {
                 orders = a + k;
-                ends = places.at_block limit 0 (room (a + k) (omega arith) (free walk))
+                ends = places.at_block limit 0 (room (a + k) (omega arith) (AreObeyed-leads walk))
                     (omega (arith, no_stops (a + k) s walk.goes)) (omega arith) (blocked_of _ _ ending at);
                 state_is = sym walk.state_is;
                 prints = walk.codes_are;
@@ -94,10 +95,10 @@ module _ (limit : ℕ) (s : State) where
         let way = f.runs j (omega arith) in
         let none = way_stops left m j way in
         let stop : (step (state_after j m)).turn ≡ Stops = stop_of _ (omega (arith, none)) in
-        let walk = joined first (run_walk left m j (λ i h. f.runs i (omega arith)) none) in
+        let walk = Leads-append first (run_walk left m j (λ i h. f.runs i (omega arith)) none) in
         let turn : (step (state_after (a + j) s)).turn ≡ Stops =
         ap (λ (t : State). (step t).turn) walk.state_is ∙ stop in
-        let obeyed = free_more (a + j) s (free walk) (ap is_obeyed turn) in
+        let obeyed = free_more (a + j) s (AreObeyed-leads walk) (ap is_obeyed turn) in
         let is : Stopped ≡ ending = same_Some Stopped ending (sym (stop_ends left m (suc j) many) ∙ f.ends) in
         let within = runs_within left m (suc j) f.runs in
         rw (← is) (record {
@@ -129,7 +130,7 @@ module _ (limit : ℕ) (s : State) where
   to_entry : (p : TapePart) (e : TapeEntry) (before : List ℕ) → Along p before → LeadsTo p e
       → Leads (entry_done p e) s before (part_entry_state p e)
   to_entry p e before h leads =
-      rw append-nil at (joined h.walk (quiet_walk e.cost p.state (leads_in p e h.begins leads).went))
+      rw append-nil at (Leads-append h.walk (quiet_walk e.cost p.state (leads_in p e h.begins leads).went))
 
   concludes : (p : TapePart) (before : List ℕ) (t : PartsReport) (ending : Ending) → Along p before
       → (told : Concludes limit (length s.tape) p t) → t.end ≡ Ended ending
@@ -139,7 +140,7 @@ module _ (limit : ℕ) (s : State) where
   concludes p before t ending h (cut e leads short is) end =
       let left = limit - p.done in
       let went = (leads_in p e h.begins leads).went in
-      let walk = joined h.walk (quiet_walk left p.state (λ j low. went j (omega (arith, h.within)))) in
+      let walk = Leads-append h.walk (quiet_walk left p.state (λ j low. went j (omega (arith, h.within)))) in
       let total : p.done + left ≡ limit = omega (arith, h.within) in
       let ends = ap (λ (x : PartsReport). x.end) is in
       let same : Limit ≡ ending = cc in
@@ -158,7 +159,7 @@ module _ (limit : ℕ) (s : State) where
   next_along sound p before b h =
       let c = b.comes in
       let left = limit - entry_done p b.entry in
-      let walk = joined (to_entry p b.entry before h b.leads)
+      let walk = Leads-append (to_entry p b.entry before h b.leads)
       (run_walk left (part_entry_state p b.entry) b.orders c.runs c.stops) in
       let few = home_within left (part_entry_state p b.entry) b.orders c in
       let there : IsSound (part_after p b).state = rw (← walk.state_is) (sound_after _ s sound) in
@@ -194,6 +195,6 @@ ends_from limit s sound started t ending tells end =
 pub each_end : EachEndIsTheRuns
 each_end = record {
   of_text = λ limit z text codes read.
-      ends_from limit (first_state z codes) (sound_start z text codes read) (starts z codes);
+      ends_from limit (first_state z codes) (sound_start z text codes read) (IsStarted-first_state z codes);
   from_start = ends_from;
 }

@@ -109,7 +109,8 @@ module _ (limit rows : ℕ) where
   back_once p b c opens =
       let same = entry_once p b.entry c.entry opens b.leads c.leads in
       let there =
-      subst (λ (x : TapeEntry). ReturnsToLoader (limit - entry_done p x) b.orders (part_entry_state p x)) same b.comes in
+      subst (λ (x : TapeEntry). ReturnsToLoader (limit - entry_done p x) b.orders
+      (part_entry_state p x)) same b.comes in
       let orders = home_once _ (part_entry_state p c.entry) b.orders c.orders there c.comes in
       let part : part_after p b ≡ part_after p c =
       λ i. record {

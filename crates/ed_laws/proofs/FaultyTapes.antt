@@ -1,14 +1,15 @@
 -- A tape with a fault: the machine waits for the row of the fault, in the state that the rows before it mean.
 use Rattle.ed_laws.proofs.Kit.{Size, cleared_cells, TapeCause, Item, RowKind, Letter, breaks, is_broken, act, costs}
-use Rattle.ed_laws.proofs.Kit.{fold, NotationState, Begun, item_of, items, row_kind, Written, first_store, starts}
-use Rattle.ed_laws.proofs.Kit.{opening_notation, [], ap, inr, List, None, Option, refl, rules, Some, subst, sym, true}
-use Rattle.ed_laws.proofs.Kit.{ℕ, ◌+◌, ◌∙◌, ◌∷◌, ◌≡◌, Text, state_after, AllWent, RunEnd, first_state, ran_outcome}
-use Rattle.ed_laws.proofs.Kit.{with_post_mortem, opening, first_part, HasFault, Outcome, paper, post_mortem_codes}
+use Rattle.ed_laws.proofs.Kit.{fold, NotationState, Begun, item_of, items, row_kind, Written, first_store}
+use Rattle.ed_laws.proofs.Kit.{IsStarted-first_state, opening_notation, [], ap, inr, List, None, Option, refl, rules}
+use Rattle.ed_laws.proofs.Kit.{Some, subst, sym, true, ℕ, ◌+◌, ◌∙◌, ◌∷◌, ◌≡◌, Text, state_after, AllWent, RunEnd}
+use Rattle.ed_laws.proofs.Kit.{first_state, ran_outcome, with_post_mortem, opening, first_part, HasFault, Outcome}
+use Rattle.ed_laws.proofs.Kit.{paper, post_mortem_codes}
 use Rattle.ed_notation.proofs.Kit.{IsSoundTo, AreRead, Breaks, IsFault, IsRead, ending_effect, item_word}
 use Rattle.ed_notation.proofs.Kit.{letter_action_of, item}
 use Rattle.ed_notation.specs.Beginnings.{orders_before, state_before}
 use Rattle.ed_notation.specs.Fold.{with_letter}
-use Rattle.ed_notation.proofs.Beginnings.{ended, fault_sound}
+use Rattle.ed_notation.proofs.Beginnings.{is_broken-end_of_tape, fault_sound}
 use Rattle.ed_initial.specs.Waits.{AwaitsRow, waiting_place}
 use Rattle.ed_initial.proofs.Awaited.{needs_row, waits, waits_at}
 use Rattle.ed_laws.specs.FaultyTapes.{EachFaultyTapeWaits}
@@ -107,7 +108,8 @@ cleared_waits z rows {row} r to =
     let w = (first_state z rows).store.words in
     let same = first_agrees z rows in
     let to' : IsSoundTo z w (opening w) rows row = λ at cause b. to at cause (broken_over w v (sym same) b) in
-    let there = waits (first_state z rows) (first_store z rows) (starts z rows) row to' (read_over v w same r) in
+    let there = waits (first_state z rows) (first_store z rows) (IsStarted-first_state z rows) row to'
+    (read_over v w same r) in
     rw (costs_agree v w same opening_notation r.before, fold_agrees v w same opening_notation (items r.before)) there
 
 pub faulty_tapes_wait : EachFaultyTapeWaits
@@ -128,7 +130,7 @@ faulty_tapes_wait s rows row cause f =
       no_tape = λ is below.
           let broken = subst (λ (c : TapeCause).
           is_broken s.size cleared_cells.words (state_before r) r.part r.rest c ≡ true) is f.is.breaks in
-          let last = ended s.size cleared_cells.words (state_before r) r.part r.rest broken in
+          let last = is_broken-end_of_tape s.size cleared_cells.words (state_before r) r.part r.rest broken in
           at_no_tape s.limit s.resumes k (waiting_place r.part) first give out went none at (λ e. refl) below
           (needs_row r.part (subst (λ x. AwaitsRow first k (state_before r) r.part x) last there));
       in_parts = parts_refuse s rows row cause (part_fault s.size rows f);

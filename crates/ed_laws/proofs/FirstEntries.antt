@@ -16,14 +16,14 @@ pub first_store : (codes : List ℕ) → HasItsLengths (first_state1 codes).stor
 unfolding first_state1
 first_store codes = search (rules, length-append, length-drop, length-replicate)
 
-pub starts : (codes : List ℕ) → IsStarted1 (first_state1 codes)
+pub IsStarted1-first_state1 : (codes : List ℕ) → IsStarted1 (first_state1 codes)
 unfolding first_state1
-starts codes = is_started codes (cleared_state Full) refl
+IsStarted1-first_state1 codes = is_started codes (cleared_state Full) refl
 
 reaches : (codes : List ℕ) (t : Tape) → ReachesEntry1 codes t
     → Reaches (cost1 t) (first_state1 codes) (at_entry1 (first_state1 codes) t)
 unfolding first_state1
-reaches codes t c = leads_in (first_state1 codes) (first_store codes) (starts codes) t c
+reaches codes t c = leads_in (first_state1 codes) (first_store codes) (IsStarted1-first_state1 codes) t c
 
 pub first_went : (codes : List ℕ) (t : Tape) → ReachesEntry1 codes t → AllWent (cost1 t) (first_state1 codes)
 first_went codes t c = all_went _ (at_entry1 (first_state1 codes) t) (cost1 t) (reaches codes t c)

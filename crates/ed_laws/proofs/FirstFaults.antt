@@ -10,7 +10,7 @@ use Rattle.ed_initial1.specs.declared.cause.Tape1Cause.TheVariants.{EndOfTape}
 use Rattle.ed_initial1.proofs.Awaited.{needs_row, waits, waits_at}
 use Rattle.ed_laws.specs.FirstFaults.{EachFaultyTapeWaits1}
 use Rattle.ed_laws.proofs.CutRuns.{at_limit, at_no_tape, none_done1}
-use Rattle.ed_laws.proofs.FirstEntries.{first_store, starts}
+use Rattle.ed_laws.proofs.FirstEntries.{first_store, IsStarted1-first_state1}
 
 -- where a tape must not end, it ends
 ended : (before : List Item1) (part : Option Begun1) (rest : List ℕ) → is_broken1 before part rest EndOfTape ≡ true
@@ -23,7 +23,7 @@ ended before (Some b) (c ∷ rest) h = absurd (true≢false (sym h))
 cleared_waits : (rows : List ℕ) {row : ℕ} (r : IsRead1 rows row)
     → AwaitsRow1 (first_state1 rows) (orders_before1 r) r.before r.part r.rest
 unfolding first_state1
-cleared_waits rows {row} r = waits (first_state1 rows) (first_store rows) (starts rows) row r
+cleared_waits rows {row} r = waits (first_state1 rows) (first_store rows) (IsStarted1-first_state1 rows) row r
 
 pub faulty_tapes_wait1 : EachFaultyTapeWaits1
 faulty_tapes_wait1 s rows row cause f =

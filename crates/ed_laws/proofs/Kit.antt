@@ -36,7 +36,7 @@ pub use Rattle.ed_notation.proofs.Kit.{NotationState, AreDigits, Begun, digits_n
 pub use Rattle.ed_notation.proofs.Kit.{rows_of, Written, IsDirective, Arrived, entry_by, Faulty, part_of, placed_by}
 pub use Rattle.ed_notation.proofs.Kit.{row_effect, set_by, setting_of, Verdict}
 unfoldable pub use Rattle.ed_notation.proofs.Kit.{reading_on}
-pub use Rattle.ed_initial.proofs.Starts.{first_store, starts}
+pub use Rattle.ed_initial.proofs.Starts.{first_store, IsStarted-first_state}
 pub use Rattle.ed_postmortem.proofs.Kit.{Obeyed, address_digits, is_even, length_code, number_in, word_codes}
 unfoldable pub use Rattle.ed_postmortem.proofs.Kit.{printed_codes}
 pub use Rattle.ed_syntax.specs.declared.program.Line.{Line}

@@ -35,8 +35,8 @@ pub record Gives (give : Option Window → RunEnd → Outcome) : Type 0 where
   pub status : (w : Option Window) (r : RunEnd) → (give w r).status ≡ status_of r.ending
   pub out : (w : Option Window) (r : RunEnd) → w ≡ None → (give w r).out ≡ paper r.codes
 
-pub printed : (before : State → Text) → Gives (λ w r. ran_outcome (before r.state) (with_post_mortem w r))
-printed before = record { status = λ w r. refl; out = λ w r none. ap paper (none_added w r none) }
+pub Gives-ran_outcome : (before : State → Text) → Gives (λ w r. ran_outcome (before r.state) (with_post_mortem w r))
+Gives-ran_outcome before = record { status = λ w r. refl; out = λ w r none. ap paper (none_added w r none) }
 
 pub bare : Gives (λ w r. ran_outcome [] r)
 bare = record { status = λ w r. refl; out = λ w r none. refl }
@@ -61,7 +61,7 @@ limits_kept first {give} g = record {
 
 pub each_limit : EachLimit
 each_limit = record {
-  tapes = λ codes. limits_kept (λ z. first_state z codes) (printed (λ t. []));
+  tapes = λ codes. limits_kept (λ z. first_state z codes) (Gives-ran_outcome (λ t. []));
   first_tapes = λ codes. limits_kept (λ z. first_state1 codes) bare;
-  sources = λ lines. limits_kept (λ z. first_state z (tape lines)) (printed (entered_before lines));
+  sources = λ lines. limits_kept (λ z. first_state z (tape lines)) (Gives-ran_outcome (entered_before lines));
 }

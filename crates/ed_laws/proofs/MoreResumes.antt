@@ -4,7 +4,7 @@ use Rattle.ed_laws.proofs.Kit.{run_end, RunEnd, first_state, tape, ending_line, 
 use Rattle.ed_laws.proofs.Kit.{status_of, entered_before, trace_to, letters_in, Option, Size, nat_le, length, progress}
 use Rattle.ed_laws.proofs.Kit.{lt-leb, few_codes, ◌<◌}
 use Rattle.ed_run.specs.declared.settings.Window.{Window}
-use Rattle.ed_laws.proofs.Limits.{Gives, bare, each_limit, outcomes_begin, printed}
+use Rattle.ed_laws.proofs.Limits.{Gives, bare, each_limit, outcomes_begin, Gives-ran_outcome}
 use Rattle.ed_top.specs.Traces.{trace_outcome}
 use Rattle.ed_laws.specs.MoreResumes.{EachLimitIsKept, EachResume, KeepsResumes, TraceKeepsLimits, letters_of}
 use Rattle.ed_laws.proofs.PartsLimits.{parts_keep_limits}
@@ -69,9 +69,9 @@ trace_keeps_limits codes = record {
 
 pub each_resume : EachResume
 each_resume = record {
-  tapes = λ codes. resumes_kept (λ z. first_state z codes) (printed (λ t. []));
+  tapes = λ codes. resumes_kept (λ z. first_state z codes) (Gives-ran_outcome (λ t. []));
   first_tapes = λ codes. resumes_kept (λ z. first_state1 codes) bare;
-  sources = λ lines. resumes_kept (λ z. first_state z (tape lines)) (printed (entered_before lines));
+  sources = λ lines. resumes_kept (λ z. first_state z (tape lines)) (Gives-ran_outcome (entered_before lines));
   traces = trace_keeps;
 }
 

@@ -2,7 +2,7 @@
 use Rattle.ed_laws.proofs.Kit.{slice_index, Size, cleared_cells, word_with, BadRow, RowKind, Letter, PartialItem}
 use Rattle.ed_laws.proofs.Kit.{RowEffect, Ended, Entered, Longer, Placed, Refused, RowsReachEntry, WellFormed}
 use Rattle.ed_laws.proofs.Kit.{NotationState, row_kind, IsDirective, Arrived, entry_by, Faulty, part_of, placed_by}
-use Rattle.ed_laws.proofs.Kit.{reading_on, row_effect, set_by, setting_of, Verdict, first_store, starts}
+use Rattle.ed_laws.proofs.Kit.{reading_on, row_effect, set_by, setting_of, Verdict, first_store, IsStarted-first_state}
 use Rattle.ed_laws.proofs.Kit.{opening_notation, [], ap, arith, Bool, drop, false, get_or, inl, List, nat_lt, None}
 use Rattle.ed_laws.proofs.Kit.{Option, refl, rules, Some, sym, true, ℕ, ◌+◌, ◌-◌, ◌∙◌, ◌∷◌, ◌≡◌, ◌≤◌, nat_tests}
 use Rattle.ed_laws.proofs.Kit.{run_end, RunEnd, ran_later, TapeEntry, over, first_state, paper_room, ran_outcome}
@@ -132,10 +132,11 @@ comes z codes e well to =
     let rules = reading_is_rules z words (opening words) 9 codes set in
     record { well = rules.well e (sym same ∙ there); comes = rules.comes e (sym same ∙ there) }
 
-pub leads : (z : Size) (codes : List ℕ) (e : TapeEntry) → WellFormed z cleared_cells.words opening_notation codes
+pub LeadsIn-first_state : (z : Size) (codes : List ℕ) (e : TapeEntry)
+    → WellFormed z cleared_cells.words opening_notation codes
     → RowsReachEntry cleared_cells.words opening_notation 9 codes e → LeadsIn (first_state z codes) e
-leads z codes e well to =
-    comes_in (first_state z codes) e (first_store z codes) (starts z codes) (comes z codes e well to)
+LeadsIn-first_state z codes e well to =
+    comes_in (first_state z codes) e (first_store z codes) (IsStarted-first_state z codes) (comes z codes e well to)
 
 -- the first part of the tape leads there too
 leads_part : (z : Size) (codes : List ℕ) (e : TapeEntry) → WellFormed z cleared_cells.words opening_notation codes
@@ -145,7 +146,7 @@ leads_part z codes e well to = let c = comes z codes e well to in record { well 
 pub tapes_run_from_entry : EachTapeRunsFromEntry
 tapes_run_from_entry s codes e well to =
     let first = first_state s.size codes in
-    let in_order = leads s.size codes e well to in
+    let in_order = LeadsIn-first_state s.size codes e well to in
     record {
       checked = inl (record { well = well; entry = e; comes = to; outcome = refl });
       enters = in_order.arrives;

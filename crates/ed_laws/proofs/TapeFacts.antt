@@ -19,7 +19,7 @@ use Rattle.ed_initial.specs.Entry.{at_entry}
 use Rattle.ed_laws.specs.TapeFacts.{BeginsAtPlace, BlankTapeIsPassed, NotationFacts, blank_cost, blank_tape}
 use Rattle.ed_laws.specs.TapeFacts.{entry_later}
 use Rattle.ed_laws.proofs.CountedRuns.{counted, run_same}
-use Rattle.ed_laws.proofs.TapeEntries.{leads, on_function, on_row}
+use Rattle.ed_laws.proofs.TapeEntries.{LeadsIn-first_state, on_function, on_row}
 
 -- ---- the cost of a text
 
@@ -263,9 +263,9 @@ module _ (s : Settings) (tape : List ℕ) (e : TapeEntry) (m : ℕ)
       → run_of (with_limit (s.limit + blank_cost m) s) whole ≡ end_later (blank_cost m) (run_of s tape)
   runs fits =
       let k = blank_cost m in
-      let into : LeadsIn (first_state s.size tape) e = leads s.size tape e well to in
+      let into : LeadsIn (first_state s.size tape) e = LeadsIn-first_state s.size tape e well to in
       let too : LeadsIn (first_state s.size whole) (entry_later m e) =
-      leads s.size whole (entry_later m e) well_too comes_too in
+      LeadsIn-first_state s.size whole (entry_later m e) well_too comes_too in
       let left : s.limit + k - (e.cost + k) ≡ s.limit - e.cost = omega arith in
       ran_later (s.limit + k) s.resumes paper_room (e.cost + k) (first_state s.size whole) too.went
       (omega (arith, fits))

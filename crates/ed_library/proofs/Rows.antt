@@ -1,5 +1,6 @@
 -- Each row of a table has codes.
-use Rattle.std.proofs.Common.{◌≡◌, ◌∙◌, ◌<◌, ◌≤◌, ap, arith, refl, ℕ, true, Option, Some, None, List, length, get_or, nat_lt}
+use Rattle.std.proofs.Common.{◌≡◌, ◌∙◌, ◌<◌, ◌≤◌, ap, arith, refl, ℕ, true, Option, Some, None, List, length, get_or}
+use Rattle.std.proofs.Common.{nat_lt}
 use Rattle.std.specs.Prelude.{slice_index_or, IsNone, IsSome}
 use Rattle.std.specs.List.{list_all}
 use Rattle.std.proofs.lemmas.Bool.{and_parts}

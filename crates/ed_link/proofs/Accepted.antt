@@ -17,7 +17,7 @@ use Rattle.ed_notation.proofs.Sound.{sound_well}
 use Rattle.ed_link.specs.Linked.{entry_of}
 use Rattle.ed_link.specs.Tapes.{punched_rows, tape, arrival}
 use Rattle.ed_link.proofs.Costs.{entry_cost_is}
-use Rattle.ed_link.proofs.Inductions.{AreFaultless, Ends, ends}
+use Rattle.ed_link.proofs.Inductions.{AreFaultless, Ends, Ends-faultless}
 use Rattle.ed_link.proofs.Passes.{Reads-taken}
 use Rattle.ed_link.proofs.Spelled.{AreSpellable-joined}
 use Rattle.ed_link.proofs.Kit.{rules}
@@ -47,7 +47,7 @@ module _ (tables : list_all is_ready catalogue ≡ true) (z : Size) (two : Bool)
       let has_enter = there_is _ _ b.1 in
       let are : AreFaultless z (symbols_of lines) (any_enter lines) two (record { extents = []; entered = false }) []
       first_counter lines = record { formed = formed; sound = b.0; named = a.0; before = refl; enter = has_enter } in
-      ends tables whole two lines are (record { base = omega arith; follows = λ h. cc; theta_is = refl })
+      Ends-faultless tables whole two lines are (record { base = omega arith; follows = λ h. cc; theta_is = refl })
 
   by_end : Ends z words (symbols_of lines) (slice_index words 42) first_counter (opening words) lines
       → WellFormed z words (opening words) (tape lines)

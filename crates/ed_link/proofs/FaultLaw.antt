@@ -12,8 +12,8 @@ use Rattle.std.proofs.lemmas.Bool.{cases_lt, leb-false}
 use Rattle.ed_syntax.specs.declared.fault.SourceFault.TheVariants.{Memory}
 use Rattle.ed_syntax.proofs.Causes.{one_least}
 use Rattle.ed_symbols.specs.NameFaults.{HasNameFault}
-use Rattle.ed_symbols.proofs.FaultPasses.{first, finds, Numbered}
-use Rattle.ed_symbols.proofs.NameLaw.{AtLine, SaysLeast, found_says, numbers, say_names, spot_snoc}
+use Rattle.ed_symbols.proofs.FaultPasses.{first, Finds-first, Numbered}
+use Rattle.ed_symbols.proofs.NameLaw.{AtLine, SaysLeast, found_says, Numbered-lines, say_names, spot_snoc}
 use Rattle.ed_link.specs.Answers.{HasMeaningFault}
 use Rattle.ed_link.specs.FaultTests.{IsFirstFault}
 use Rattle.ed_link.specs.Faults.{SourceHasFault, no_enter, IsMeaningFault}
@@ -91,11 +91,12 @@ module _ (z : Size) (lines : List Line) (numbered : Numbered lines) where
   Lacking k c = (HasEnter lines → ⊥) × (k ≡ length lines + 1) × (c ≡ causes.Enter)
 
   abbrev second : Option SourceFault
-  second = fault_from z (symbols_of lines) (any_enter lines) (record { extents = []; entered = false }) first_counter lines
+  second = fault_from z (symbols_of lines) (any_enter lines)
+      (record { extents = []; entered = false }) first_counter lines
 
   say_meaning : SaysLeast Meanings second
   say_meaning = found_says (λ b l c. OfMeaning z lines b l c) lines second (rw (meaning_pass z lines [] lines)
-      (finds (ask_meaning z lines) (λ b l c. OfMeaning z lines b l c) lines numbered
+      (Finds-first (ask_meaning z lines) (λ b l c. OfMeaning z lines b l c) lines numbered
       (λ b l. of_meaning z lines b l) [] lines refl (λ b l c st h. omega arith)))
 
   say_lacking : SaysLeast Lacking (missing (any_enter lines) (length lines))
@@ -183,7 +184,8 @@ module _ (z : Size) (lines : List Line) (numbered : Numbered lines) where
   line_first Memory f h is = grind (arith, common_steps)
 
   -- a fault of names, if no line has another
-  pub names_alone : (f : SourceFault) → (resolution lines).fault ≡ Some f → (looked_for z lines (symbols_of lines) (any_enter lines)) ≡ None
+  pub names_alone : (f : SourceFault) → (resolution lines).fault ≡ Some f
+      → (looked_for z lines (symbols_of lines) (any_enter lines)) ≡ None
       → IsFirstFault (fault z lines) f
   names_alone (At k c) h e = grind (arith, common_steps, say_names, before_missing)
   names_alone Memory h e = tt
@@ -198,7 +200,7 @@ pub record FaultIsFound (z : Size) (lines : List Line) : Type 0 where
 
 pub fault_law : (z : Size) (lines : List Line) → AreNumbered lines → FaultIsFound z lines
 fault_law z lines e =
-    let n = numbers lines e in
+    let n = Numbered-lines lines e in
     search (rules, fault_is z lines n, is_fault z lines n, none_is z lines n, is_none_fault z lines n, tells z lines n)
 
 -- an answer that is the fault that is looked for is that of the definition
@@ -215,8 +217,8 @@ module _ (z : Size) (lines : List Line) {symbols : List Definition} {has_enter :
       → IsFirstFault (looked_for z lines symbols has_enter) e → Some f ≡ earlier_fault names (Some e)
       → IsFirstFault (fault z lines) f
   line_fault e f are h is =
-      line_first z lines (numbers lines n) e f (rw (known, there) at h) (rw are at is)
+      line_first z lines (Numbered-lines lines n) e f (rw (known, there) at h) (rw are at is)
 
   pub name_fault : (f : SourceFault) → (resolution lines).fault ≡ Some f → looked_for z lines symbols has_enter ≡ None
       → IsFirstFault (fault z lines) f
-  name_fault f h e = names_alone z lines (numbers lines n) f h (rw (known, there) at e)
+  name_fault f h e = names_alone z lines (Numbered-lines lines n) f h (rw (known, there) at e)

@@ -29,7 +29,8 @@ Ties-s9 before l = search rules
 abbrev IsIn : Extent → ℕ → Type 0
 IsIn e p = (e.from ≤ p) × (p < e.after)
 
-meets_says : (a b c d : ℕ) → overlaps (extent a b) (extent c d) ≡ true → (p : ℕ) × IsIn (extent a b) p × IsIn (extent c d) p
+meets_says : (a b c d : ℕ) → overlaps (extent a b) (extent c d) ≡ true
+    → (p : ℕ) × IsIn (extent a b) p × IsIn (extent c d) p
 meets_says a b c d h = let e : max a c < min b d = ltb-true (max a c) (min b d) h in (
   max a c,
   (omega arith, omega (arith, e)),
@@ -77,7 +78,8 @@ shares_says a b s (l ∷ lines) h = elim (or_cases _ _ h) [
       (r.0, r.1, l ∷ r.2, r.3, record { after = r.4.after; lines_are = ap (λ x. l ∷ x) r.4.lines_are }, r.5)
 ]
 
-shared : (a b : ℕ) (s : LocationCounter) (earlier : List Line) (e : Line) (after : List Line) (p : ℕ) → IsIn (extent a b) p
+shared : (a b : ℕ) (s : LocationCounter) (earlier : List Line) (e : Line) (after : List Line) (p : ℕ)
+    → IsIn (extent a b) p
     → IsIn (word_extent e.statement (counter_from s earlier)) p
     → list_any (λ o. overlaps (extent a b) o) (extents_from s (earlier ++ e ∷ after)) ≡ true
 shared a b s [] e after p h g = grind (arith, common_steps)
@@ -85,12 +87,14 @@ shared a b s (l ∷ earlier) e after p h g =
     or_right _ _ (shared a b (after_statement l.statement s) earlier e after p h g)
 
 pub Ties-s13 : (before : List Line) (l : Line)
-    → Ties (list_any (λ o. overlaps (word_extent l.statement (counter_after before)) o) (extents_from first_counter before))
+    → Ties (list_any (λ o. overlaps (word_extent l.statement (counter_after before)) o)
+    (extents_from first_counter before))
     (Overlaps before l)
 Ties-s13 before l = record {
   says = shares_says _ _ first_counter before;
   tests = λ h. subst
-      (λ x. list_any (λ o. overlaps (word_extent l.statement (counter_after before)) o) (extents_from first_counter x) ≡ true)
+      (λ x. list_any (λ o. overlaps (word_extent l.statement (counter_after before)) o) (extents_from first_counter x)
+      ≡ true)
       (sym h.4.lines_are) (shared _ _ first_counter h.2 h.3 h.4.after h.0 h.1 h.5);
 }
 

@@ -16,10 +16,10 @@ use Rattle.ed_syntax.proofs.Meaning.{statement_fact}
 use Rattle.ed_symbols.specs.NameTests.{enters_unknown, naming_fault_from as names_from}
 use Rattle.ed_symbols.specs.Places.{routine_places as places_of}
 use Rattle.ed_link.proofs.Closed.{some_items, are_known}
-use Rattle.ed_link.proofs.Lines.{IsReady, IsUse, IsSound, line, lt_same}
+use Rattle.ed_link.proofs.Lines.{IsReady, IsUse, IsSound, Line-sound, lt_same}
 use Rattle.ed_link.proofs.Passes.{Passes, stays, goes, Passes-join}
 use Rattle.ed_link.proofs.Spelled.{aiming_spelled, AreSpellable-joined, line_spelled}
-use Rattle.ed_link.proofs.Uses.{reversed}
+use Rattle.ed_link.proofs.Uses.{reverse-append_both}
 use Rattle.ed_link.proofs.Kit.{Order, Number, Long}
 
 -- what the absence of a fault says of a line
@@ -47,11 +47,12 @@ pub record IsFaultless (z : Size) (symbols : List Definition) (has_enter : Bool)
   pub misplaced : is_misplaced past.entered has_enter l ≡ false
 
 -- a line without a fault
-pub faultless : (z : Size) (symbols : List Definition) (has_enter : Bool) (past : LinesBefore) (l : SourceLine)
+pub IsFaultless-no_cause : (z : Size) (symbols : List Definition) (has_enter : Bool) (past : LinesBefore)
+    (l : SourceLine)
     (s : LocationCounter)
     → cause_of z symbols has_enter past l s ≡ None
     → IsFaultless z symbols has_enter past l s
-faultless z symbols has_enter past l s h =
+IsFaultless-no_cause z symbols has_enter past l s h =
     let a9 = none_of _ _ _ h in let a10 = none_of _ _ _ a9.1 in let a11 = none_of _ _ _ a10.1
     in let a12 = none_of _ _ _ a11.1 in
     let a13 = none_of _ _ _ a12.1 in let a14 = none_of _ _ _ a13.1 in let a15 = none_of _ _ _ a14.1
@@ -119,7 +120,7 @@ behind : {symbols : List Definition} {theta : ℕ} {s : LocationCounter} (z : Si
 behind z has_enter past [] e h = record { items = refl; placed = refl; theta_is = refl }
 behind {symbols} {theta} {s} z has_enter past (l ∷ lines) e h =
     let a = later_of l.number _ _ h in
-    let f = faultless z symbols has_enter past l s a.0 in
+    let f = IsFaultless-no_cause z symbols has_enter past l s a.0 in
     let b = behind {theta = theta} {s = after_statement l.statement s} z has_enter _ lines (rw e refl) a.1 in
     search (rules, lt_same)
 
@@ -176,7 +177,7 @@ module _ {z : Size} {words : List ℕ} {symbols : List Definition} {has_enter : 
       let sound = sound_line tables z two st formed f e in
       let are = line_spelled tables z symbols s st
       (λ x e. (two, statement_fact two x (formed_statement two l.number l.label st formed x e))) sound ready.base in
-      let a = line {z = z} {words = words} ready whole symbols st sound are in
+      let a = Line-sound {z = z} {words = words} ready whole symbols st sound are in
       let r = more a.last _ a.ready in
       let q = entry_later symbols st (entry_from symbols lines) e in
       record {
@@ -188,7 +189,7 @@ module _ {z : Size} {words : List ℕ} {symbols : List Definition} {has_enter : 
         enters = rw q r.enters;
         directive = rw q r.directive;
         theta_is = r.theta_is;
-        placed = rw (r.placed, a.placed, reversed) refl;
+        placed = rw (r.placed, a.placed, reverse-append_both) refl;
       }
 
   -- the `enter` line
@@ -233,12 +234,12 @@ module _ {z : Size} {words : List ℕ} {symbols : List Definition} {has_enter : 
   ends_at (Some (Enter name)) f formed known ready more rest = entering name f known ready (rest refl)
   ends_at st f formed known ready more rest = going f refl formed ready (more refl)
 
-  pub ends : {past : LinesBefore} {earlier : List Definition} {s : LocationCounter} {notation : NotationState}
+  pub Ends-faultless : {past : LinesBefore} {earlier : List Definition} {s : LocationCounter} {notation : NotationState}
       {theta : ℕ} (lines : List SourceLine)
       → AreFaultless z symbols has_enter two past earlier s lines → IsReady theta s notation
       → Ends z words symbols theta s notation lines
-  ends [] are ready = let none = are.enter in cc
-  ends {past} {earlier} {s} {notation} {theta} (l ∷ lines) are ready =
+  Ends-faultless [] are ready = let none = are.enter in cc
+  Ends-faultless {past} {earlier} {s} {notation} {theta} (l ∷ lines) are ready =
       let e = are.before in
       let a = later_of l.number _ _ are.sound in
       let b = later_of l.number _ _ are.named in
@@ -246,8 +247,8 @@ module _ {z : Size} {words : List ℕ} {symbols : List Definition} {has_enter : 
       let c7 = none_of _ _ _ c6.1 in
       let formed = and_parts _ _ are.formed in
       let known = or_parts _ _ c7.0 in
-      ends_at l.statement (faultless z symbols has_enter past l s a.0) formed.0 known.1 ready
-      (λ g next t r. ends {past = past_of past l s} lines (record {
+      ends_at l.statement (IsFaultless-no_cause z symbols has_enter past l s a.0) formed.0 known.1 ready
+      (λ g next t r. Ends-faultless {past = past_of past l s} lines (record {
         formed = formed.1;
         sound = a.1;
         named = b.1;

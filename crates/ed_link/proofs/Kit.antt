@@ -8,7 +8,7 @@ pub use Rattle.std.proofs.lemmas.List.Sums.{AllPass-from_list_all}
 pub use Rattle.std.proofs.lemmas.Option.{same_Some}
 pub use Rattle.ed_words.specs.declared.order_words.TheConstants.{E_F, T_F}
 pub use Rattle.ed_words.specs.declared.size.Size.{Size}
-pub use Rattle.ed_words.proofs.SizeLemmas.{least}
+pub use Rattle.ed_words.proofs.SizeLemmas.{locations_least}
 pub use Rattle.ed_codes.specs.Reading.{reading, rows}
 pub use Rattle.ed_codes.specs.Text.{Spells}
 pub use Rattle.ed_notation.specs.Fold.{placed_at, word_with}
@@ -20,8 +20,8 @@ pub use Rattle.ed_notation.proofs.Kit.{[], ap, append_assoc, arith, Bool, drop, 
 pub use Rattle.ed_notation.proofs.Kit.{length, length-append, List, lit≤, nat_eq, nat_le, nat_lt, None, Option, refl}
 pub use Rattle.ed_notation.proofs.Kit.{replicate, set, Some, subst, suc, sym, true, unwrap_or, ℕ, ◌%◌, ◌&&◌, ◌*◌, ◌++◌}
 pub use Rattle.ed_notation.proofs.Kit.{◌+◌, ◌-◌, ◌/◌, ◌<◌, ◌∙◌, ◌∷◌, ◌≡◌, ◌≤◌, ◌⊎◌, flat_map, list_all, and_parts}
-pub use Rattle.ed_notation.proofs.Kit.{eqb-true, le-ltb, leb-true, lt-ltb, ltb-true, get_or-set_other}
-pub use Rattle.ed_notation.proofs.Kit.{length-replicate, locations, digit, locations_most, byte_of, cost_of, is_entry, item_word}
+pub use Rattle.ed_notation.proofs.Kit.{eqb-true, le-ltb, leb-true, lt-ltb, ltb-true, get_or-set_other, length-replicate}
+pub use Rattle.ed_notation.proofs.Kit.{locations, digit, locations_most, byte_of, cost_of, is_entry, item_word}
 pub use Rattle.ed_notation.proofs.Kit.{NotationState, row_kind, canonical, canonicals, is_spellable, line_from}
 pub use Rattle.ed_notation.proofs.Parts.{one_more}
 pub use Rattle.ed_notation.proofs.Steps.{Does-aiming, Does-placing}

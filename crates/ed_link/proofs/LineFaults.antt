@@ -7,7 +7,8 @@ use Rattle.ed_syntax.proofs.Causes.{number_of-most}
 use Rattle.ed_symbols.specs.NameFaults.{LineHasNameFault}
 use Rattle.ed_symbols.proofs.LeastFaults.{Least, Least-picks}
 use Rattle.ed_link.specs.Faults.{LineHasCause}
-use Rattle.ed_link.proofs.FaultSentences.{extents_from, Ties-s9, s10_s11, Ties-s12, Ties-s13, Ties-s14, Ties-s16, Ties-s17}
+use Rattle.ed_link.proofs.FaultSentences.{extents_from, Ties-s9, s10_s11, Ties-s12, Ties-s13, Ties-s14, Ties-s16}
+use Rattle.ed_link.proofs.FaultSentences.{Ties-s17}
 use Rattle.ed_link.proofs.SettingSentences.{Ties-s15}
 use Rattle.ed_syntax.specs.declared.fault.SourceCause.TheVariants as causes
 
@@ -46,7 +47,8 @@ module _ (z : Size) (lines before : List Line) (l : Line) where
       ∷ (overlaps needs (extent 44 56), causes.ParameterStore)
       ∷ (overlaps needs (extent (locations z) needs.after), causes.StoreEnd)
       ∷ (
-        list_any (λ other. overlaps (word_extent l.statement (counter_after before)) other) (extents_from first_counter before),
+        list_any (λ other. overlaps (word_extent l.statement (counter_after before)) other)
+            (extents_from first_counter before),
         causes.Overlap,
       )
       ∷ (has_no_routine l.statement, causes.NoSuchRoutine)

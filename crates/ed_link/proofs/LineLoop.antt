@@ -14,7 +14,8 @@ base_under st s h = grind arith
 pub reach_fits : (z : Size) (symbols : List Definition) (has_enter : Bool) (past : LinesBefore) (l : Line)
     (s : LocationCounter)
     → cause_of z symbols has_enter past l s ≡ None
-    → (reach symbols l.statement s).from < (reach symbols l.statement s).after → (reach symbols l.statement s).after ≤ 1024
+    → (reach symbols l.statement s).from < (reach symbols l.statement s).after
+    → (reach symbols l.statement s).after ≤ 1024
 reach_fits z symbols has_enter past l s h some = grind (arith, common_steps)
 
 -- what is made of the lines so far: what they leave for later lines, the location counter after them, and what is built

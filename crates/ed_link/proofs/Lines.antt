@@ -10,7 +10,7 @@ use Rattle.ed_link.proofs.Kit.{set_to, items_of, preset_items, routine_items, us
 use Rattle.ed_symbols.specs.Places.{routine_places as places_of}
 use Rattle.ed_link.proofs.Orders.{AreSpellable-split, laid_pass, order_pass, headed_pass, AreSpellable-unheaded}
 use Rattle.ed_link.proofs.Passes.{Passes, stays, Passes-join, at}
-use Rattle.ed_link.proofs.Uses.{AreKnown, all, holds, image_pass, reversed}
+use Rattle.ed_link.proofs.Uses.{AreKnown, Sets-letters, HoldsAll-held, image_pass, reverse-append_both}
 use Rattle.ed_link.proofs.Kit.{rules}
 use Rattle.std.proofs.lemmas.Grind.{common_steps}
 
@@ -87,7 +87,8 @@ module _ {z : Size} {words : List ℕ} {theta : ℕ} {s : LocationCounter} {nota
   }
 
   -- a line of numbers
-  numbered : (ws : List ℕ) → AreSpellable (with_heading (map word_item ws) (nat_eq s.place s.base) s.base) → 0 < length ws
+  numbered : (ws : List ℕ) → AreSpellable (with_heading (map word_item ws) (nat_eq s.place s.base) s.base)
+      → 0 < length ws
       → 56 ≤ s.place
       → s.place + length ws ≤ locations z
       → Line z words theta s.place (record s { place = s.place + length ws }) notation
@@ -104,9 +105,9 @@ module _ {z : Size} {words : List ℕ} {theta : ℕ} {s : LocationCounter} {nota
       let rows = (entry r).items in
       let js = flat_map (λ c. preset_items symbols (set_to ts c) c) parameter_letters in
       let sp = AreSpellable-split js (with_heading (routine_items (Some r)) true base) are in
-      let a = all {z = z} {words = words} whole symbols ts parameter_letters refl notation sp.0 in
+      let a = Sets-letters {z = z} {words = words} whole symbols ts parameter_letters refl notation sp.0 in
       let m = a.0.next in
-      let held = holds words symbols ts m.placed a.1 in
+      let held = HoldsAll-held words symbols ts m.placed a.1 in
       let img = placed_words base (map (λ row. routine_word (parameters symbols ts) base (table_item row)) rows) in
       let last = at (base + length rows) base (reverse img ++ m.placed) in
       let p = image_pass {z = z} rows base base is.3 is.1 is.2 held in
@@ -121,26 +122,26 @@ module _ {z : Size} {words : List ℕ} {theta : ℕ} {s : LocationCounter} {nota
           follows = λ e. (refl, refl);
           theta_is = let e = lt-ltb base (base + length rows) (omega (arith, is.0)) in rw e refl;
         };
-        placed = ap (λ x. reverse img ++ x) a.0.placed ∙ reversed (presets symbols ts) img notation.placed;
+        placed = ap (λ x. reverse img ++ x) a.0.placed ∙ reverse-append_both (presets symbols ts) img notation.placed;
       }
 
-  pub line : (st : Option Statement) → IsSound z s st → AreSpellable (items_of symbols s st)
+  pub Line-sound : (st : Option Statement) → IsSound z s st → AreSpellable (items_of symbols s st)
       → Line z words theta (first_place st s) (after_statement st s) notation (items_of symbols s st)
       (placed_by_line symbols s st)
-  line None is are = quiet
-  line (Some (Segment name base)) is are =
+  Line-sound None is are = quiet
+  Line-sound (Some (Segment name base)) is are =
       record { last = notation; passes = stays; ready = search (rules, lt_same, eq_same); placed = refl }
-  line (Some (Order f o long)) is are =
+  Line-sound (Some (Order f o long)) is are =
       let w = word_with f (operand_number symbols (segment_at s) o) false (digit long) in
       in_segment _ (w ∷ []) (omega arith) (omega arith) is.1
       (order_pass symbols s f o long (omega (arith, is.0)) (omega (arith, is.1)))
-  line (Some (Number w)) is are = numbered (w ∷ []) are (omega arith) is.0 is.1
-  line (Some (Text codes)) is are = grind (arith, common_steps, numbered)
-  line (Some (Long v)) is are =
+  Line-sound (Some (Number w)) is are = numbered (w ∷ []) are (omega arith) is.0 is.1
+  Line-sound (Some (Text codes)) is are = grind (arith, common_steps, numbered)
+  Line-sound (Some (Long v)) is are =
       let e = long_spot s v in
       let p : s.place + length (long_words s.place v) ≡ even_from s.place + 2 =
       ap (λ (x : LocationCounter). x.place) e in
       rw (← e) (numbered _ are (omega (arith, p)) is.0 (omega (arith, p, is.1)))
-  line (Some (Fetch routine name ts)) is are = use_line ts.items _ _ _ is are
-  line (Some (Enter name)) is are = absurd is
-  line (Some (Rows codes)) is are = quiet
+  Line-sound (Some (Fetch routine name ts)) is are = use_line ts.items _ _ _ is are
+  Line-sound (Some (Enter name)) is are = absurd is
+  Line-sound (Some (Rows codes)) is are = quiet

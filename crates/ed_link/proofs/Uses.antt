@@ -1,12 +1,13 @@
 -- What the fold does at the items of a `use` line: preset parameters, and a routine's items.
-use Rattle.ed_link.proofs.Kit.{reverse, cases_eq, ne_eqb, get_or-set_same, reverse-append, same_Some, T_F, Size, least}
-use Rattle.ed_link.proofs.Kit.{word_with, AreSpellable, Item, Letter, [], ap, append_assoc, arith, Bool, false, get_or}
-use Rattle.ed_link.proofs.Kit.{inl, inr, length, List, nat_le, nat_lt, None, Option, refl, Some, suc, sym, true}
-use Rattle.ed_link.proofs.Kit.{ℕ, ◌&&◌, ◌*◌, ◌++◌, ◌+◌, ◌-◌, ◌<◌, ◌∙◌, ◌∷◌, ◌≡◌, ◌≤◌, ◌⊎◌, flat_map, list_all}
-use Rattle.ed_link.proofs.Kit.{and_parts, leb-true, ltb-true, get_or-set_other, locations, NotationState, row_kind}
-use Rattle.ed_link.proofs.Kit.{is_spellable, Does-aiming, Does-placing, Operand, Setting, map, zero, nat_tests, routine_word}
-use Rattle.ed_link.proofs.Kit.{table_item, TableRow, Definition, operand_number, parameter_letters, parameters}
-use Rattle.ed_link.proofs.Kit.{placed_words, preset, set_to, item_with, preset_items}
+use Rattle.ed_link.proofs.Kit.{reverse, cases_eq, ne_eqb, get_or-set_same, reverse-append, same_Some, T_F, Size}
+use Rattle.ed_link.proofs.Kit.{locations_least, word_with, AreSpellable, Item, Letter, [], ap, append_assoc, arith}
+use Rattle.ed_link.proofs.Kit.{Bool, false, get_or, inl, inr, length, List, nat_le, nat_lt, None, Option, refl, Some}
+use Rattle.ed_link.proofs.Kit.{suc, sym, true, ℕ, ◌&&◌, ◌*◌, ◌++◌, ◌+◌, ◌-◌, ◌<◌, ◌∙◌, ◌∷◌, ◌≡◌, ◌≤◌, ◌⊎◌, flat_map}
+use Rattle.ed_link.proofs.Kit.{list_all, and_parts, leb-true, ltb-true, get_or-set_other, locations, NotationState}
+use Rattle.ed_link.proofs.Kit.{row_kind, is_spellable, Does-aiming, Does-placing, Operand, Setting, map, zero}
+use Rattle.ed_link.proofs.Kit.{nat_tests, routine_word, table_item, TableRow, Definition, operand_number}
+use Rattle.ed_link.proofs.Kit.{parameter_letters, parameters, placed_words, preset, set_to, item_with, preset_items}
+use Rattle.ed_link.proofs.Kit.{rules}
 use Rattle.std.proofs.Common.{◌≢◌}
 use Rattle.ed_notation.specs.Fold.{over, value_of, item_word as word_in_fold}
 use Rattle.ed_notation.proofs.Contents.{length-over}
@@ -15,7 +16,6 @@ use Rattle.ed_library.proofs.Letters.{value_of_parameter}
 use Rattle.ed_link.specs.Linked.{parameter}
 use Rattle.ed_link.proofs.Orders.{AreSpellable-split, placed_more}
 use Rattle.ed_link.proofs.Passes.{Passes, stays, goes, Passes-join, at}
-use Rattle.ed_link.proofs.Kit.{rules}
 
 -- a fact of `count` numbers, from n onwards
 abbrev Each : (ℕ → Type 0) → ℕ → ℕ → Type 0
@@ -31,8 +31,8 @@ spelled_number : (i : Item) → is_spellable i ≡ true → i.number ≤ 32767
 spelled_number i h = grind (arith, nat_tests)
 
 -- what is placed later comes first in the list
-pub reversed : (ps qs m : List (ℕ × ℕ)) → reverse qs ++ (reverse ps ++ m) ≡ reverse (ps ++ qs) ++ m
-reversed ps qs m = rw (reverse-append, append_assoc) refl
+pub reverse-append_both : (ps qs m : List (ℕ × ℕ)) → reverse qs ++ (reverse ps ++ m) ≡ reverse (ps ++ qs) ++ m
+reverse-append_both ps qs m = rw (reverse-append, append_assoc) refl
 
 -- ---- preset parameters
 
@@ -50,8 +50,8 @@ module _ (words : List ℕ) (symbols : List Definition) (ts : List Setting) wher
   pub record HoldsAll (placed : List (ℕ × ℕ)) : Type 0 where
     pub held : (c : ℕ) → 21 ≤ c → c ≤ 26 → IsHeld placed c
 
-  pub holds : (placed : List (ℕ × ℕ)) → AreHeld placed parameter_letters → HoldsAll placed
-  holds placed h = record {
+  pub HoldsAll-held : (placed : List (ℕ × ℕ)) → AreHeld placed parameter_letters → HoldsAll placed
+  HoldsAll-held placed h = record {
     held = six (λ c. IsHeld placed c) h;
   }
 
@@ -85,7 +85,7 @@ module _ {z : Size} {words : List ℕ} (whole : length words ≡ 1024) (symbols 
   one c (Some o) e low high notation are =
       let n = operand_number symbols None o in
       let m : n ≤ 32767 = spelled_number (item_with 0 n false 17) are.1.0 in
-      let l = least z in
+      let l = locations_least z in
       let aimed : NotationState = record notation { directive = T_F + 2 * (24 + c) } in
       let w : word_in_fold words aimed (item_with 0 n false 17) ≡ 2 * n = omega arith in
       let next : NotationState = record {
@@ -113,14 +113,14 @@ module _ {z : Size} {words : List ℕ} (whole : length words ≡ 1024) (symbols 
         here,
       )
 
-  pub all : (cs : List ℕ) → are_letters cs ≡ true → (notation : NotationState)
+  pub Sets-letters : (cs : List ℕ) → are_letters cs ≡ true → (notation : NotationState)
       → AreSpellable (flat_map (λ c. preset_items symbols (set_to ts c) c) cs)
       → (s : Sets words symbols ts z notation (flat_map (λ c. preset_items symbols (set_to ts c) c) cs)
       (flat_map (λ c. preset symbols (set_to ts c) c) cs))
       × AreHeld words symbols ts s.next.placed cs
-  all [] are notation spelled =
+  Sets-letters [] are notation spelled =
       (record { next = notation; passes = stays; theta = refl; placed = refl; keeps = λ d h. h }, tt)
-  all (c ∷ cs) are notation spelled =
+  Sets-letters (c ∷ cs) are notation spelled =
       let is = preset_items symbols (set_to ts c) c in
       let js = flat_map (λ c. preset_items symbols (set_to ts c) c) cs in
       let ps = preset symbols (set_to ts c) c in
@@ -129,12 +129,12 @@ module _ {z : Size} {words : List ℕ} (whole : length words ≡ 1024) (symbols 
       let letters = and_parts _ _ are in
       let range = and_parts _ _ letters.0 in
       let a = one c _ refl (leb-true 20 c range.0) (ltb-true c 32 range.1) notation sp.0 in
-      let b = all cs letters.1 a.0.next sp.1 in (
+      let b = Sets-letters cs letters.1 a.0.next sp.1 in (
         record {
           next = b.0.next;
           passes = Passes-join a.0.passes b.0.passes;
           theta = b.0.theta ∙ a.0.theta;
-          placed = b.0.placed ∙ ap (λ m. reverse qs ++ m) a.0.placed ∙ reversed ps qs notation.placed;
+          placed = b.0.placed ∙ ap (λ m. reverse qs ++ m) a.0.placed ∙ reverse-append_both ps qs notation.placed;
           keeps = λ d h. b.0.keeps d (a.0.keeps d h);
         },
         (b.0.keeps c a.1, b.1),

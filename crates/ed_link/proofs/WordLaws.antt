@@ -1,19 +1,18 @@
 -- The words of the linked program are those of its lines, and the parameters that its `use` lines set.
-use Rattle.ed_link.proofs.Kit.{reverse, Contains, cases_eq, eq-eqb, ne_eqb, reverse-append, same_Some, Size, least}
-use Rattle.ed_link.proofs.Kit.{placed_at, [], ap, append_assoc, arith, get_or, inl, inr, length, List, None, Option}
-use Rattle.ed_link.proofs.Kit.{refl, Some, subst, suc, sym, ℕ, ◌*◌, ◌++◌, ◌+◌, ◌<◌, ◌∙◌, ◌∷◌, ◌≡◌, ◌≤◌, ◌⊎◌, flat_map}
-use Rattle.ed_link.proofs.Kit.{locations, Line, Operand, Setting, Statement, Fetch, zero, LocationCounter}
-use Rattle.ed_link.proofs.Kit.{Definition, counter_after, counter_from, IsLineAfter, after_statement, first_counter}
-use Rattle.ed_link.proofs.Kit.{HasNoFault, on_line, first_place, image, linked_words, operand_number}
+use Rattle.ed_link.proofs.Kit.{reverse, Contains, cases_eq, eq-eqb, ne_eqb, reverse-append, same_Some, Size}
+use Rattle.ed_link.proofs.Kit.{locations_least, placed_at, [], ap, append_assoc, arith, get_or, inl, inr, length, List}
+use Rattle.ed_link.proofs.Kit.{None, Option, refl, Some, subst, suc, sym, ℕ, ◌*◌, ◌++◌, ◌+◌, ◌<◌, ◌∙◌, ◌∷◌, ◌≡◌, ◌≤◌}
+use Rattle.ed_link.proofs.Kit.{◌⊎◌, flat_map, locations, Line, Operand, Setting, Statement, Fetch, zero}
+use Rattle.ed_link.proofs.Kit.{LocationCounter, Definition, counter_after, counter_from, IsLineAfter, after_statement}
+use Rattle.ed_link.proofs.Kit.{first_counter, HasNoFault, on_line, first_place, image, linked_words, operand_number}
 use Rattle.ed_link.proofs.Kit.{parameter_letters, placed_by_line, placed_from, placed_words, preset, presets, set_to}
-use Rattle.ed_link.proofs.Kit.{symbols_of, append-nil}
+use Rattle.ed_link.proofs.Kit.{symbols_of, append-nil, rules}
 use Rattle.std.proofs.lemmas.Bool.{cases_lt}
 use Rattle.ed_link.specs.Faults.{LineHasWord}
 use Rattle.ed_link.specs.Words.{EachWordStands, IsLastSet, LinePlaces, LineSets, linked_word, words_of_line}
 use Rattle.ed_link.specs.Words.{routine_words}
 use Rattle.ed_link.proofs.Orders.{placed_more}
 use Rattle.ed_syntax.specs.declared.fault.SourceCause.TheVariants as causes
-use Rattle.ed_link.proofs.Kit.{rules}
 use Rattle.std.proofs.lemmas.Grind.{common_steps}
 
 -- ---- words with their locations
@@ -325,7 +324,7 @@ module _ (z : Size) (lines : List Line) (faultless : HasNoFault z lines) where
             ]
         | inr p ↦
             let place = p.place_is in
-            (omega (arith, place, in_range p.letter p.is_letter), omega (arith, low r.1 a w p, least z))
+            (omega (arith, place, in_range p.letter p.is_letter), omega (arith, low r.1 a w p, locations_least z))
       ]
 
 pub each_word_stands : EachWordStands

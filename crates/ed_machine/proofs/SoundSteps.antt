@@ -57,7 +57,8 @@ module _ (s : State) (h : IsSound s) where
   jumped_on b w = search (rules, within_fits)
 
   -- a word written, a word read
-  wrote : (w short long : ℕ) → short < 2 ^ 17 → long < 2 ^ 35 → IsSound (record s { store = written_store w s short long })
+  wrote : (w short long : ℕ) → short < 2 ^ 17 → long < 2 ^ 35
+      → IsSound (record s { store = written_store w s short long })
   wrote w short long fits fit = grind (arith, common_steps)
 
   read : (w : ℕ) → operand35 w s < 2 ^ 35

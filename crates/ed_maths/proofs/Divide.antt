@@ -12,7 +12,7 @@ use Rattle.ed_machine.proofs.Kit.Frames.{long}
 use Rattle.ed_machine.proofs.Kit.Moves.{U_top, E_stays}
 use Rattle.ed_machine.proofs.Kit.Places.{IsOutside, pair}
 use Rattle.ed_machine.proofs.Kit.Shifts.{RF, LF, L2F}
-use Rattle.ed_machine.proofs.Kit.Sums.{parted}
+use Rattle.ed_machine.proofs.Kit.Sums.{sum-parts}
 use Rattle.ed_maths.proofs.Quotient.{bit, next, numbers, quotient, numbers-decided, quotient-small as small_quotient}
 use Rattle.ed_maths.proofs.Quotient.{hit, hits, hits_ones}
 
@@ -52,7 +52,7 @@ digits w = w.at36.digit ∷ w.at38.digit ∷ []
 -- the number at a location that holds a long word, by its parts
 whole_long : (a v u : ℕ) → (a + v * 2 ^ 36) % 2 ^ 71 ≡ u
     → (a + long_of_halves (v / 2 ^ 18) (nat_eq (v / 2 ^ 17 % 2) 1) (v % 2 ^ 17) * 2 ^ 36) % 2 ^ 71 ≡ u
-whole_long a v u e = rw (parted v) e
+whole_long a v u e = rw (sum-parts v) e
 
 -- a call of the routine, its three locations, and the words around it, with the halves h and l of the dividend and the
 -- divisor d at these locations

@@ -1,12 +1,12 @@
 -- `divide`, from the library's table to what it does.
-use Rattle.ed_maths.proofs.Kit.{rules, ◌≢◌, length-set, A_F, get_above, get_below, beside, Call, call_of, holds, image}
-use Rattle.ed_maths.proofs.Kit.{IsWithin, get_or-kept, Makes, more, none, [], arith, false, get_or, inl, inr, length}
-use Rattle.ed_maths.proofs.Kit.{List, refl, set, subst, suc, sym, zero, ℕ, ◌%◌, ◌*◌, ◌+◌, ◌-◌, ◌/◌, ◌<◌, ◌^◌, ◌∙◌, ◌∷◌}
-use Rattle.ed_maths.proofs.Kit.{◌≡◌, locations_most, short_at, State, Frame, short, state, Leads, leads, Path, Holds}
-use Rattle.ed_maths.proofs.Kit.{length_patched, patched, IsOther, caller, IsLoadedAt, IsOutside, divide_orders}
-use Rattle.ed_maths.proofs.Kit.{dividend, ones}
+use Rattle.ed_maths.proofs.Kit.{rules, ◌≢◌, length-set, A_F, get_above, get_below, Beside-outside, Call, call_of}
+use Rattle.ed_maths.proofs.Kit.{Holds-loaded, image, IsWithin, get_or-kept, Makes, more, none, [], arith, false, get_or}
+use Rattle.ed_maths.proofs.Kit.{inl, inr, length, List, refl, set, subst, suc, sym, zero, ℕ, ◌%◌, ◌*◌, ◌+◌, ◌-◌, ◌/◌}
+use Rattle.ed_maths.proofs.Kit.{◌<◌, ◌^◌, ◌∙◌, ◌∷◌, ◌≡◌, locations_most, short_at, State, Frame, short, state, Leads}
+use Rattle.ed_maths.proofs.Kit.{Leads-path, Path, Holds, length_patched, patched, IsOther, caller, IsLoadedAt}
+use Rattle.ed_maths.proofs.Kit.{IsOutside, divide_orders, dividend, ones}
 use Rattle.ed_machine.proofs.Kit.Places.{IsOutside as IsBeside}
-use Rattle.ed_machine.proofs.Kit.Standing.{opens}
+use Rattle.ed_machine.proofs.Kit.Standing.{patched-filled}
 use Rattle.ed_machine.proofs.Kit.Window.{patched_self}
 use Rattle.ed_maths.specs.Quotients.{divide, with_hnm, IsDivision, IsOtherPair, HasDivided}
 use Rattle.ed_maths.proofs.Divide.{Given, Work, cells, digits, run, work, Path-whole}
@@ -46,10 +46,10 @@ module _ {b high low by top : ℕ} {s : State} (o : CallsDivide b high low by to
   makes = search (rules, more, none)
 
   image_holds : Holds (image divide b hs) s.store.words b
-  image_holds = holds o.stands makes refl
+  image_holds = Holds-loaded o.stands makes refl
 
   abbrev away : {h : ℕ} (words : List ℕ) → length words ≡ 1024 → IsOutside divide b h s → h < top → IsBeside f words h
-  away words long out below = record { below = below; beside = beside words long out }
+  away words long out below = record { below = below; beside = Beside-outside words long out }
 
   abbrev long_set : (v : ℕ) → length (set s.store.words high v) ≡ 1024
   long_set v = length-set s.store.words high v ∙ o.all
@@ -110,7 +110,7 @@ module _ {b high low by top : ℕ} {s : State} (o : CallsDivide b high low by to
       let size = locations_most s.size in
       let fits = o.stands.fits in
       let words : patched 0 s.store.words b (cells b high low by first) ≡ s.store.words =
-      opens (image divide b hs) s.store.words b (omega (arith, fits, o.all)) image_holds in
+      patched-filled (image divide b hs) s.store.words b (omega (arith, fits, o.all)) image_holds in
       let sandwich : patched false s.store.sandwich (b / 2 + 18) (digits first) ≡ s.store.sandwich =
       patched_self false s.store.sandwich (b / 2 + 18) (digits first) (omega (arith, fits, o.all_digits)) digit_is in
       let counter : b + 0 ≡ s.counter = omega (arith, o.stands.counter) in
@@ -151,7 +151,7 @@ module _ {b high low by top : ℕ} {s : State} (o : CallsDivide b high low by to
 
   -- that many orders lead to the order after the call
   pub leads_to : Leads (divide_orders (n / d)) s [] last
-  leads_to = subst (λ x. Leads (divide_orders (n / d)) x [] last) begins (leads path s.orders)
+  leads_to = subst (λ x. Leads (divide_orders (n / d)) x [] last) begins (Leads-path path s.orders)
 
   -- a word outside the routine
   outside : (h : ℕ) → IsOutside divide b h s → get_or last.store.words h 0 ≡ get_or ws h 0
@@ -180,5 +180,5 @@ module _ {b high low by top : ℕ} {s : State} (o : CallsDivide b high low by to
   digit_stays : (p : ℕ) → IsOtherPair b p → get_or last.store.sandwich p false ≡ get_or s.store.sandwich p false
   digit_stays p free = search (rules, get_below, get_above)
 
-  pub divided : (t : State) → t ≡ last → HasDivided b high low by s t
-  divided t e = search (rules, at_low, at_high, stays, digit_stays)
+  pub HasDivided-last : (t : State) → t ≡ last → HasDivided b high low by s t
+  HasDivided-last t e = search (rules, at_low, at_high, stays, digit_stays)

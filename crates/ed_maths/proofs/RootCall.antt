@@ -1,17 +1,17 @@
 -- `root`, from the library's table to what it does.
-use Rattle.ed_maths.proofs.Kit.{rules, ◌≢◌, get_or-set_other, A_F, get_above, get_below, beside, call_of, holds, image}
-use Rattle.ed_maths.proofs.Kit.{IsWithin, get_or-kept, Makes, more, none, [], ap, arith, get_or, inl, inr, length, List}
-use Rattle.ed_maths.proofs.Kit.{refl, set, subst, ℕ, ◌*◌, ◌+◌, ◌-◌, ◌<◌, ◌^◌, ◌∙◌, ◌∷◌, ◌≡◌, short_at, State, Frame}
-use Rattle.ed_maths.proofs.Kit.{state, Leads, leads, Path, Holds, length_patched, patched, IsOther, caller, IsLoadedAt}
-use Rattle.ed_maths.proofs.Kit.{IsOutside, IsRoot, root_orders}
+use Rattle.ed_maths.proofs.Kit.{rules, ◌≢◌, get_or-set_other, A_F, get_above, get_below, Beside-outside, call_of}
+use Rattle.ed_maths.proofs.Kit.{Holds-loaded, image, IsWithin, get_or-kept, Makes, more, none, [], ap, arith, get_or}
+use Rattle.ed_maths.proofs.Kit.{inl, inr, length, List, refl, set, subst, ℕ, ◌*◌, ◌+◌, ◌-◌, ◌<◌, ◌^◌, ◌∙◌, ◌∷◌, ◌≡◌}
+use Rattle.ed_maths.proofs.Kit.{short_at, State, Frame, state, Leads, Leads-path, Path, Holds, length_patched, patched}
+use Rattle.ed_maths.proofs.Kit.{IsOther, caller, IsLoadedAt, IsOutside, IsRoot, root_orders}
 use Rattle.ed_routines.specs.Returns.{KeepsBut, Returned}
 use Rattle.ed_routines.proofs.Called.{state-begins}
 use Rattle.ed_maths.specs.Roots.{root, with_hn}
 use Rattle.ed_maths.proofs.Root.{Given, Work, cells, run, rest, Path-whole}
 
 -- a number below 65536 has a root below 256
-pub few : (n r : ℕ) → IsRoot n r → n < 65536 → r < 256
-few n r is small = search rules
+pub IsRoot-few : (n r : ℕ) → IsRoot n r → n < 65536 → r < 256
+IsRoot-few n r is small = search rules
 
 -- `root` is called in a state, for the root r of the number at one location, and all is below a location
 pub record CallsRoot (b source target top r : ℕ) (s : State) : Type 0 where
@@ -37,8 +37,8 @@ module _ {b source target top r : ℕ} {s : State} (o : CallsRoot b source targe
     all = o.all;
     at3 = o.stands.at3;
     room = o.within.back;
-    away_source = record { below = o.within.near; beside = beside s.store.words o.all o.source_outside };
-    away_target = record { below = o.near; beside = beside s.store.words o.all o.target_outside };
+    away_source = record { below = o.within.near; beside = Beside-outside s.store.words o.all o.source_outside };
+    away_target = record { below = o.near; beside = Beside-outside s.store.words o.all o.target_outside };
   }
 
   abbrev f : Frame 23 0
@@ -51,7 +51,7 @@ module _ {b source target top r : ℕ} {s : State} (o : CallsRoot b source targe
   makes = search (rules, more, none)
 
   image_holds : Holds (image root b hs) s.store.words b
-  image_holds = holds o.stands makes refl
+  image_holds = Holds-loaded o.stands makes refl
 
   abbrev first : Work
   first = record {
@@ -73,7 +73,7 @@ module _ {b source target top r : ℕ} {s : State} (o : CallsRoot b source targe
   path : Path f (root_orders r) (run given s.store.words first (A_F + 2 * caller s) 0) []
       (record (run given ws left 0 0) { counter = caller s + 2 })
   path = Path-whole given first r o.is_root.square o.is_root.greatest
-      (few (short_at s.store source) r o.is_root o.small)
+      (IsRoot-few (short_at s.store source) r o.is_root o.small)
 
   abbrev pub last : State
   last = record s {
@@ -88,7 +88,7 @@ module _ {b source target top r : ℕ} {s : State} (o : CallsRoot b source targe
 
   -- that many orders lead to the order after the call
   pub leads_to : Leads (root_orders r) s [] last
-  leads_to = subst (λ x. Leads (root_orders r) x [] last) starts (leads path s.orders)
+  leads_to = subst (λ x. Leads (root_orders r) x [] last) starts (Leads-path path s.orders)
 
   -- a word outside the working locations is unchanged, and the root is at its target
   stays : (i : ℕ) → i ≢ target → IsOther root b i → get_or last.store.words i 0 ≡ get_or s.store.words i 0

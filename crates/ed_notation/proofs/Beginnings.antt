@@ -12,11 +12,11 @@ fault_sound {row = row} {cause} f r other b =
     elim (f.least r other b) [ inl less ↦ omega arith | inr same ↦ omega (arith, same.0) ]
 
 -- where a tape must not end, it ends
-pub ended : (z : Size) (words : List ℕ) (n : NotationState) (part : Option Begun) (rest : List ℕ)
+pub is_broken-end_of_tape : (z : Size) (words : List ℕ) (n : NotationState) (part : Option Begun) (rest : List ℕ)
     → is_broken z words n part rest EndOfTape ≡ true → rest ≡ []
-ended z words n part [] h = refl
-ended z words n None (c ∷ rest) h = absurd (true≢false (sym h))
-ended z words n (Some b) (c ∷ rest) h = absurd (true≢false (sym h))
+is_broken-end_of_tape z words n part [] h = refl
+is_broken-end_of_tape z words n None (c ∷ rest) h = absurd (true≢false (sym h))
+is_broken-end_of_tape z words n (Some b) (c ∷ rest) h = absurd (true≢false (sym h))
 
 part_most : (part : Option Begun) → part_cost part ≤ 17 * length (part_rows part)
 part_most None = lit≤ tt

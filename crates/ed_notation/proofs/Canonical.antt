@@ -44,8 +44,8 @@ pub are_written : (is : List Item) → AreSpellable is → AreWritten (canonical
 are_written is h = (all_spelled is h).0
 
 -- the rows that the items' canonical spellings make
-pub spelling : (is : List Item) → AreSpellable is → IsSpelling is (spelled_rows (canonicals is))
-spelling is h =
+pub IsSpelling-canonicals : (is : List Item) → AreSpellable is → IsSpelling is (spelled_rows (canonicals is))
+IsSpelling-canonicals is h =
     let r = all_spelled is h in
     let s : SpellsAll is (spelled_rows (canonicals is)) =
     record { written = canonicals is; good = r.0; items_are = r.1; rows_are = refl } in

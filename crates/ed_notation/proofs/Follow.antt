@@ -60,10 +60,10 @@ abbrev pub seen : Size → List ℕ → NotationState → Begun → ℕ → RowE
 seen z words notation b c = row_effect z (row_kind c) (over notation.placed words) (setting_of notation) (as_part b) c
 
 -- it is what the rules say
-pub law : (z : Size) (words : List ℕ) (notation : NotationState) (b : Begun) (c : ℕ)
+pub RowLaw-seen : (z : Size) (words : List ℕ) (notation : NotationState) (b : Begun) (c : ℕ)
     → IsDirective notation.directive → IsBegun b
     → RowLaw (row_kind c) z words notation b c (seen z words notation b c)
-law z words notation b c set good = row_law_of z words notation c set b good
+RowLaw-seen z words notation b c set good = row_law_of z words notation c set b good
 
 -- and its numbers are in range
 pub seen_fits : (z : Size) (words : List ℕ) (notation : NotationState) (b : Begun) (c : ℕ) → IsBegun b
@@ -202,10 +202,10 @@ module _ (p : Reader) (w : Written) (rest : List ℕ) where
   refused_by t {cause} h e = let q : None ≡ Some cause = sym h.0 ∙ e in cc
 
   -- it breaks a rule
-  pub refused : IsDirective p.notation.directive → IsBegun b → {cause : TapeCause} → first_broken ≡ Some cause
+  pub here-faulty : IsDirective p.notation.directive → IsBegun b → {cause : TapeCause} → first_broken ≡ Some cause
       → here ≡ Faulty p.row cause
   unfolding reading_on
-  refused set good e = refused_by _ (law p.size p.words p.notation b c set good) e
+  here-faulty set good e = refused_by _ (RowLaw-seen p.size p.words p.notation b c set good) e
 
   module _ (set : IsDirective p.notation.directive) where
     ended_by : (t : RowEffect) → IsEffectInRange (setting_of p.notation) t → Law t → ends r b ≡ true
@@ -229,10 +229,10 @@ module _ (p : Reader) (w : Written) (rest : List ℕ) where
         → Goes here (reads closed None rest) closed.row closed.notation.directive Sound
     unfolding reading_on
     Goes-ended good n = ended_by _ (seen_fits p.size p.words p.notation b c good.begun)
-        (law p.size p.words p.notation b c set good.begun) good.ended n
+        (RowLaw-seen p.size p.words p.notation b c set good.begun) good.ended n
 
     -- it ends the entry item
     pub Goes-entered : IsWritten w → entering r p.notation ≡ true
         → Goes here arrived (p.row + 1) p.notation.directive Sound
     unfolding reading_on
-    Goes-entered good n = entered_by _ (law p.size p.words p.notation b c set good.begun) good.ended n
+    Goes-entered good n = entered_by _ (RowLaw-seen p.size p.words p.notation b c set good.begun) good.ended n

@@ -7,7 +7,7 @@ use Rattle.ed_notation.proofs.Kit.{entry_by, Faulty, reading_on, ReadingIsRules,
 use Rattle.ed_notation.proofs.Kit.{rules}
 use Rattle.ed_notation.specs.Reading.{ReadingAlwaysIsRules}
 use Rattle.ed_notation.proofs.Follow.{Reader, reads, inside, Goes}
-use Rattle.ed_notation.proofs.Least.{same}
+use Rattle.ed_notation.proofs.Least.{cause_number-same}
 use Rattle.ed_notation.proofs.Passes.{behind_all, Goes-entry, broken_found}
 use Rattle.ed_notation.proofs.Rows.{as_part}
 use Rattle.ed_notation.proofs.Tells.{Tells, TellsFault, TellsEntry, Told-tells}
@@ -18,7 +18,7 @@ not_both h = cc
 
 sorted : {a b : ℕ} {k l : TapeCause} → (a < b) ⊎ ((a ≡ b) × (cause_number k ≤ cause_number l))
     → (b < a) ⊎ ((b ≡ a) × (cause_number l ≤ cause_number k)) → (a ≡ b) × (k ≡ l)
-sorted {k = k} {l} h g = (omega (arith, h, g), same k l (omega (arith, h, g)))
+sorted {k = k} {l} h g = (omega (arith, h, g), cause_number-same k l (omega (arith, h, g)))
 
 -- the ending row of an entry item costs 13
 entry_ends : (r : RowKind) (notation : NotationState) → entering r notation ≡ true → end_cost r notation ≡ 13

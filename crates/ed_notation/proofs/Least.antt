@@ -12,8 +12,8 @@ named_is EndOfTape = refl
 named_is c = refl
 
 -- causes with the same number are equal
-pub same : (a b : TapeCause) → cause_number a ≡ cause_number b → a ≡ b
-same a b e = sym (named_is a) ∙ ap named e ∙ named_is b
+pub cause_number-same : (a b : TapeCause) → cause_number a ≡ cause_number b → a ≡ b
+cause_number-same a b e = sym (named_is a) ∙ ap named e ∙ named_is b
 
 is_number : (c : TapeCause) → (1 ≤ cause_number c) × (cause_number c < 11)
 is_number EndOfTape = (lit≤ tt, lit< tt)
@@ -43,7 +43,8 @@ least_in : (f : TapeCause → Bool) (cs : List TapeCause) (n : ℕ) (k : TapeCau
 least_in f [] n k ns l m h = absurd (omega (arith, l, m))
 least_in f (c ∷ cs) n k ns l m h =
     split f c cs k (f c) refl (λ e. omega (arith, ns.0, l)) (λ e.
-    let differs : cause_number c ≡ cause_number k → ⊥ = λ q. true≢false (sym (ap f (same c k q) ∙ h) ∙ e) in
+    let differs : cause_number c ≡ cause_number k
+    → ⊥ = λ q. true≢false (sym (ap f (cause_number-same c k q) ∙ h) ∙ e) in
     least_in f cs (n + 1) k ns.1 (omega (arith, ns.0, l, differs)) (omega (arith, m)) h)
 
 pub least_of : (f : TapeCause → Bool) (k : TapeCause) → f k ≡ true → Found f causes k

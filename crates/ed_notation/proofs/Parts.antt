@@ -7,9 +7,9 @@ use Rattle.std.proofs.lemmas.List.{at_drop_more}
 use Rattle.std.proofs.lemmas.Grind.{common_steps}
 
 -- a part, and then another
-pub joined : {A : Type 0} {next last : List A} (done part more : List A)
+pub append-joined : {A : Type 0} {next last : List A} (done part more : List A)
     → next ≡ done ++ part → last ≡ next ++ more → last ≡ done ++ (part ++ more)
-joined {A} done part more first second =
+append-joined {A} done part more first second =
     second ∙ ap (λ (xs : List A). xs ++ more) first ∙ append_assoc done part more
 
 -- what was given, with the part of one more element, and then what the elements after it give

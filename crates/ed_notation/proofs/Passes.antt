@@ -10,7 +10,7 @@ use Rattle.ed_notation.proofs.Kit.{EndsSound, rules}
 use Rattle.std.proofs.Common.{not}
 use Rattle.ed_notation.specs.Faults.{is_bad_row}
 use Rattle.ed_notation.proofs.Follow.{Reader, reads, passed, behind, inside, Goes, reader_part, begun_read}
-use Rattle.ed_notation.proofs.Follow.{function_read, to_end, arrived, Goes-ended, Goes-entered, refused}
+use Rattle.ed_notation.proofs.Follow.{function_read, to_end, arrived, Goes-ended, Goes-entered, here-faulty}
 use Rattle.ed_notation.proofs.Least.{least_of, one_least}
 
 -- the causes other than the first have a number of 2 and more
@@ -85,7 +85,7 @@ unfolding reading_on
 broken_here p None (c ∷ rest) cause set is h = search (rules, bad_row, function_read)
 broken_here p (Some b) (c ∷ rest) cause set is h =
     let f = least_of (λ k. breaks k (row_kind c) p.size p.words p.notation b c) cause h in
-    record { found = f.found; is = refused p (record { begun = b; end = c }) rest set is f.is; least = f.least }
+    record { found = f.found; is = here-faulty p (record { begun = b; end = c }) rest set is f.is; least = f.least }
 broken_here p part [] cause set is h = record { found = EndOfTape; is = refl; least = one_least cause }
 
 -- the reader's fault is no later than a broken rule

@@ -7,8 +7,8 @@ use Rattle.ed_notation.proofs.Kit.{item, row_kind, rows_of, spelled_rows, Writte
 use Rattle.ed_notation.proofs.Kit.{reading_on, Verdict, TapeCause, BadRow, EndOfTape, RowEffect, Entered, Longer}
 use Rattle.ed_notation.proofs.Kit.{Refused, setting_of, Size}
 use Rattle.ed_notation.proofs.Directives.{IsEffectInRange}
-use Rattle.ed_notation.proofs.Follow.{Reader, reads, passed, behind, inside, follow, seen_fits, law, reader_part}
-use Rattle.ed_notation.proofs.Follow.{function_read}
+use Rattle.ed_notation.proofs.Follow.{Reader, reads, passed, behind, inside, follow, seen_fits, RowLaw-seen}
+use Rattle.ed_notation.proofs.Follow.{reader_part, function_read}
 use Rattle.ed_notation.proofs.Least.{found_is}
 use Rattle.ed_notation.proofs.Rows.{RowLaw, EndsItem, as_part, causes}
 
@@ -170,7 +170,7 @@ module _ (p : Reader) (b : Begun) (c : ℕ) (rows : List ℕ) (told : Told rows)
   after_row : Tells p (begun_rows b ++ (c ∷ rows)) (reads here (Some (as_part b)) (c ∷ rows))
   unfolding reading_on
   after_row =
-      by_taken _ (seen_fits p.size p.words p.notation b c good) (law p.size p.words p.notation b c set good)
+      by_taken _ (seen_fits p.size p.words p.notation b c good) (RowLaw-seen p.size p.words p.notation b c set good)
 
 -- a function row
 by_function : (p : Reader) (f : ℕ) (rows : List ℕ) {t : Bool} → Told rows → IsDirective p.notation.directive

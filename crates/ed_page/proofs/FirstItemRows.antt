@@ -89,7 +89,8 @@ program_told1 {codes} {r} {count} {reply} accepts many tells =
     let head : take count codes ≡ spelled_rows1 is =
     (λ i. take (n i) (accepts.comes.rows_are i)) ∙ take-append_seam (spelled_rows1 is) accepts.tape.rest in
     let same : table_on1 0 31 None (take count codes) ≡ item_table1 0 31 is =
-    ap (table_on1 0 31 None) (head ∙ sym (append-nil (spelled_rows1 is))) ∙ table_is1 0 31 is None accepts.comes.good tt in (
+    ap (table_on1 0 31 None) (head ∙ sym (append-nil (spelled_rows1 is)))
+    ∙ table_is1 0 31 is None accepts.comes.good tt in (
       done (item_table1 0 31 is),
       inl (record { tape = accepts.tape; comes = accepts.comes; outcome = refl }),
       subst (λ (out : List ℕ). Gives reply (done out)) same tells,

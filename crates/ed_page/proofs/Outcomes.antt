@@ -5,6 +5,7 @@ use Rattle.ed_answers.proofs.Replies.{exactly_one}
 use Rattle.ed_page.specs.declared.running.ProgramKind.{ProgramKind}
 use Rattle.ed_page.specs.declared.running.ProgramKind.TheVariants.{Tape, Source}
 
-pub program_due : (p : ProgramKind) (s : Settings) (text : Text) → (o : Outcome) × IsDue (of_input (answers_of p s)) text o
+pub program_due : (p : ProgramKind) (s : Settings) (text : Text)
+    → (o : Outcome) × IsDue (of_input (answers_of p s)) text o
 program_due (Tape orders) s text = (rows_once _ (exactly_one (tape_outcome_by orders s))).some text
 program_due Source s text = (source_once s.size (run_outcome s)).some text

@@ -2,7 +2,7 @@
 use Rattle.ed_postmortem.proofs.Kit.{codes, T_F, Size, Item, append_assoc, le-leb, canonicals, digits_of, is_spellable}
 use Rattle.ed_postmortem.proofs.Kit.{block, block_cost, [], ap, arith, if◌then◌else◌, length, List, lit<, lit≤, nat_lt}
 use Rattle.ed_postmortem.proofs.Kit.{None, Option, refl, Some, subst, sym, true, ℕ, ◌*◌, ◌++◌, ◌+◌, ◌<◌, ◌∙◌, ◌∷◌, ◌≡◌}
-use Rattle.ed_postmortem.proofs.Kit.{◌≤◌, locations, least, TapeEntry, over, spelled_rows, count_item, orders}
+use Rattle.ed_postmortem.proofs.Kit.{◌≤◌, locations, locations_least, TapeEntry, over, spelled_rows, count_item, orders}
 use Rattle.ed_postmortem.proofs.Kit.{rows_of_text, tape_rows, rules}
 use Rattle.ed_notation.proofs.Kit.{EndsSound, RowsReachEntry, WellFormed, is_entry, NotationState, rows_of, IsDirective}
 use Rattle.ed_notation.proofs.Kit.{canonical}
@@ -61,7 +61,7 @@ module _ (z : Size) (words : List ℕ) (first count : ℕ) (f_fits : first ≤ 1
   at_head = record { directive = T_F + 2 * 56; theta = 112; placed = parameters }
 
   low : (a : ℕ) → a < 512 → a < locations z
-  low a h = omega (arith, least z)
+  low a h = omega (arith, locations_least z)
 
   -- T 45 K, the parameters, T 56 K and G K
   head : Reads z words (opening words) (plain 5 45 14 ∷ count_item first ∷ count_item count ∷ aims) at_head
@@ -83,7 +83,7 @@ module _ (z : Size) (words : List ℕ) (first count : ℕ) (f_fits : first ≤ 1
   at_last = record { directive = E_F + 2 * 56; theta = 112; placed = placed_all }
 
   places : Reads z words at_head listing at_orders (block_cost listing)
-  places = placing_all (over parameters words) 56 listing refl refl (lit≤ tt) (omega (arith, least z))
+  places = placing_all (over parameters words) 56 listing refl refl (lit≤ tt) (omega (arith, locations_least z))
       (λ j l. refl)
 
   -- E 56 K

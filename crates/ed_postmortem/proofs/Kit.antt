@@ -17,8 +17,8 @@ pub use Rattle.ed_notation.proofs.Placing.{block, block_cost}
 pub use Rattle.ed_initial.proofs.Kit.{[], ap, arith, Bool, drop, false, get_or, if◌then◌else◌, inl, inr, length, List}
 pub use Rattle.ed_initial.proofs.Kit.{lit<, lit≤, nat_le, nat_lt, None, Option, refl, Some, subst, suc, sym, true, zero}
 pub use Rattle.ed_initial.proofs.Kit.{ℕ, ◌%◌, ◌*◌, ◌++◌, ◌+◌, ◌-◌, ◌/◌, ◌<◌, ◌^◌, ◌∙◌, ◌∷◌, ◌≡◌, ◌≤◌, cases_lt}
-pub use Rattle.ed_initial.proofs.Kit.{nat_tests, locations, least, Obeyed, State, state_after, Moment, TapeEntry, over}
-pub use Rattle.ed_initial.proofs.Kit.{spelled_rows}
+pub use Rattle.ed_initial.proofs.Kit.{nat_tests, locations, locations_least, Obeyed, State, state_after, Moment}
+pub use Rattle.ed_initial.proofs.Kit.{TapeEntry, over, spelled_rows}
 unfoldable pub use Rattle.ed_initial.proofs.Kit.{step, patched}
 pub use Rattle.ed_postmortem.specs.Answers.{IsPrinted}
 pub use Rattle.ed_postmortem.specs.Codes.{address_digits, digits_before_units, is_even, length_code, length_orders}

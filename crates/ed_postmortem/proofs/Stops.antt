@@ -4,7 +4,7 @@ use Rattle.ed_postmortem.proofs.Kit.{◌++◌, ◌-◌, ◌<◌, ◌∙◌, ◌�
 use Rattle.ed_run.proofs.Kit.{◌⊎◌, is_obeyed, progress, first_once, EndsAfter}
 use Rattle.ed_machine.specs.declared.ending.Ending.TheVariants.{Stopped}
 use Rattle.ed_machine.specs.declared.turn.Turn.TheVariants.{Stopped as Stops}
-use Rattle.ed_machine.proofs.Kit.Leads.{free, no_stops}
+use Rattle.ed_machine.proofs.Kit.Leads.{AreObeyed-leads, no_stops}
 use Rattle.ed_run.specs.Laws.{HasRoom}
 use Rattle.ed_run.proofs.Places.{at_stop}
 
@@ -24,7 +24,7 @@ module _ {k : ℕ} {s t u : State} {codes : List ℕ} (l : Leads k s codes t)
   codes_are = search (rules, turn_is, append-nil)
 
   all_obeyed : (j : ℕ) → (j < k) ⊎ (k ≤ j) → j < suc k → is_obeyed (step (state_after j s)).turn ≡ true
-  all_obeyed j (inl below) h = free l j below
+  all_obeyed j (inl below) h = AreObeyed-leads l j below
   all_obeyed j (inr above) h = search (rules, turn_is)
 
   -- how a run from there without resumes ends

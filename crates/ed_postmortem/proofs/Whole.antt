@@ -2,12 +2,13 @@
 use Rattle.ed_postmortem.proofs.Kit.{T_F, Sheet, Ending, Stopped, Frame, Leads, get_above, IsRun, length-append}
 use Rattle.ed_postmortem.proofs.Kit.{locations_most, block, block_cost, [], ap, arith, Bool, drop, false, get_or, inl}
 use Rattle.ed_postmortem.proofs.Kit.{inr, length, List, Option, refl, subst, suc, sym, zero, ℕ, ◌*◌, ◌++◌, ◌+◌, ◌-◌}
-use Rattle.ed_postmortem.proofs.Kit.{◌^◌, ◌∙◌, ◌≡◌, ◌≤◌, locations, least, Obeyed, step, State, state_after, Moment}
-use Rattle.ed_postmortem.proofs.Kit.{patched, TapeEntry, over, IsPrinted, printed_codes, words_orders, tape_rows, rules}
+use Rattle.ed_postmortem.proofs.Kit.{◌^◌, ◌∙◌, ◌≡◌, ◌≤◌, locations, locations_least, Obeyed, step, State, state_after}
+use Rattle.ed_postmortem.proofs.Kit.{Moment, patched, TapeEntry, over, IsPrinted, printed_codes, words_orders}
+use Rattle.ed_postmortem.proofs.Kit.{tape_rows, rules}
 use Rattle.ed_initial.proofs.Kit.{set, IsStore, start_state, at_entry, entry_words, ReachesEntry, initial_orders}
 use Rattle.std.proofs.lemmas.List.{get_or-set_same, get_or-set_other, length-set, length-drop}
 use Rattle.ed_machine.proofs.Kit.Frames.{state}
-use Rattle.ed_machine.proofs.Kit.Paths.{leads}
+use Rattle.ed_machine.proofs.Kit.Paths.{Leads-path}
 use Rattle.ed_machine.proofs.Kit.Window.{get_below}
 use Rattle.ed_machine.proofs.Steps.{after_sum}
 use Rattle.ed_notation.proofs.Placing.{over_laid}
@@ -52,7 +53,7 @@ module _ {s : State} {first count : ℕ} (store : IsStore s.store) (range : InRa
   c_fits = omega (arith, range.within, locations_most s.size)
 
   room : 56 + 84 ≤ locations s.size
-  room = omega (arith, least s.size)
+  room = omega (arith, locations_least s.size)
 
   -- its words
   abbrev ws : List ℕ
@@ -210,7 +211,7 @@ module _ {s : State} {first count : ℕ} (store : IsStore s.store) (range : InRa
   ends = state frame (place (ready (first + count) 0 all.work) 131070 all.unit 64 all.last_code) (done + k + 1)
 
   goes : Leads k begins (printed_codes around first count) stands
-  goes = leads all.path done
+  goes = Leads-path all.path done
 
   stop : step stands ≡ record { state = ends; turn = Stopped }
   stop = all.stops.does (done + k)
@@ -225,10 +226,11 @@ module _ {s : State} {first count : ℕ} (store : IsStore s.store) (range : InRa
   few = omega (arith, all_few count around first, range.within, range.above, locations_most s.size)
 
   -- the load and the run print the words
-  pub printed : {limit : ℕ} {loaded t : State} {sheet full : Sheet} {r : Loaded} {ending : Ending} → LoadsTape loaded r
+  pub IsPrinted-run : {limit : ℕ} {loaded t : State} {sheet full : Sheet} {r : Loaded} {ending : Ending}
+      → LoadsTape loaded r
       → IsRun limit 0 loaded sheet ending t full → 230000 ≤ limit → needed_of s first count ≤ room_of sheet
       → IsPrinted s sheet first count (t.orders - s.orders) t full × (s.orders ≤ t.orders)
-  printed {limit} {loaded} {t} {sheet} {full} {r} {ending} l run enough roomy =
+  IsPrinted-run {limit} {loaded} {t} {sheet} {full} {r} {ending} l run enough roomy =
       let here : loaded ≡ begins = l.is.state_is ∙ entered in
       let at : state_after entry.cost b ≡ begins =
       ap (λ (x : Loaded). state_after (orders_of x) b) (sym l.is.result_is) ∙ sym l.after ∙ here in

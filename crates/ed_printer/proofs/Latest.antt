@@ -23,7 +23,8 @@ latest_earlier shift [] code = refl
 latest_earlier shift (c ∷ codes) code = ap (λ (s : Shift). shift_after s c) (latest_earlier shift codes code)
 
 more : (shift : Shift) (before : List ℕ) (code : ℕ)
-    → paper_from shift (before ++ code ∷ []) ≡ paper_from shift before ++ struck_bytes (latest_or shift (reverse before)) code
+    → paper_from shift (before ++ code ∷ [])
+    ≡ paper_from shift before ++ struck_bytes (latest_or shift (reverse before)) code
 more shift [] code = append-nil (struck_bytes shift code)
 more shift (c ∷ before) code =
     ap (λ (bytes : List ℕ). struck_bytes shift c ++ bytes) (more (shift_after shift c) before code)

@@ -1,7 +1,7 @@
 -- The name of the month in `examples/calendar.tape`.
-use Rattle.ed_programs.proofs.Kit.{◌%◌, Size, LD, followed, among, [], arith, Bool, get_or, List, nat_lt, Option, refl}
-use Rattle.ed_programs.proofs.Kit.{subst, suc, take, ℕ, ◌*◌, ◌+◌, ◌<◌, ◌∙◌, ◌∷◌, ◌≡◌, and_parts, ltb-true, bytes_eq}
-use Rattle.ed_programs.proofs.Kit.{bytes_eq-Decides, drop, Moment, Path, ◌&&◌, name_codes, to}
+use Rattle.ed_programs.proofs.Kit.{◌%◌, Size, LD, followed, list_all-numbers, [], arith, Bool, get_or, List, nat_lt}
+use Rattle.ed_programs.proofs.Kit.{Option, refl, subst, suc, take, ℕ, ◌*◌, ◌+◌, ◌<◌, ◌∙◌, ◌∷◌, ◌≡◌, and_parts, ltb-true}
+use Rattle.ed_programs.proofs.Kit.{bytes_eq, bytes_eq-Decides, drop, Moment, Path, ◌&&◌, name_codes, to}
 use Rattle.ed_programs.proofs.CalendarCells.{at, frame, have_part, sign_at, signs, Have, IsAround, Work}
 use Rattle.ed_programs.proofs.CalendarSigns.{in_words}
 use Rattle.ed_programs.proofs.Orders.{A, A_by, A_low, L, S, T, U, obeys}
@@ -39,7 +39,7 @@ stands x y u i =
 
 pub is_name : (i : ℕ) → i < 12 → IsName i (letter i 0) (letter i 1) (letter i 2)
 is_name i few =
-    let test = λ (x y u : ℕ). and_parts _ _ (among (stands x y u) 0 12 i refl (omega arith) (omega arith)) in
+    let test = λ (x y u : ℕ). and_parts _ _ (list_all-numbers (stands x y u) 0 12 i refl (omega arith) (omega arith)) in
     let codes = and_parts _ _ (and_parts _ _ (test 0 0 0).1).1 in
     let others = and_parts _ _ codes.1 in
     record {

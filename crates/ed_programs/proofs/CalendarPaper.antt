@@ -1,10 +1,10 @@
 -- The codes that the program of `examples/calendar.tape` prints are the calendar on paper.
-use Rattle.ed_programs.proofs.Kit.{bytes_eq, bytes_eq-Decides, Figures, among, [], ap, append_assoc, arith, Bool, codes}
-use Rattle.ed_programs.proofs.Kit.{decimal, false, get_or, if◌then◌else◌, List, nat_lt, refl, rules, suc, sym, true}
-use Rattle.ed_programs.proofs.Kit.{zero, ℕ, ◌%◌, ◌*◌, ◌++◌, ◌+◌, ◌-◌, ◌<◌, ◌==◌, ◌∙◌, ◌∷◌, ◌≡◌, ◌≤◌, nat_tests, Text}
-use Rattle.ed_programs.proofs.Kit.{paper, digits, number_shown, replicate, paper_from, calendar_prints, days_before}
-use Rattle.ed_programs.proofs.Kit.{is_leap, month_length, weekday, calendar_codes, day_codes, days_codes, head_codes}
-use Rattle.ed_programs.proofs.Kit.{place, title_codes, year_codes, common_steps}
+use Rattle.ed_programs.proofs.Kit.{bytes_eq, bytes_eq-Decides, Figures, list_all-numbers, [], ap, append_assoc, arith}
+use Rattle.ed_programs.proofs.Kit.{Bool, codes, decimal, false, get_or, if◌then◌else◌, List, nat_lt, refl, rules, suc}
+use Rattle.ed_programs.proofs.Kit.{sym, true, zero, ℕ, ◌%◌, ◌*◌, ◌++◌, ◌+◌, ◌-◌, ◌<◌, ◌==◌, ◌∙◌, ◌∷◌, ◌≡◌, ◌≤◌}
+use Rattle.ed_programs.proofs.Kit.{nat_tests, Text, paper, digits, number_shown, replicate, paper_from, calendar_prints}
+use Rattle.ed_programs.proofs.Kit.{days_before, is_leap, month_length, weekday, calendar_codes, day_codes, days_codes}
+use Rattle.ed_programs.proofs.Kit.{head_codes, place, title_codes, year_codes, common_steps}
 use Rattle.std.proofs.Common.{flat_map}
 use Rattle.ed_programs.specs.Calendar.{calendar_days, day_text, new_line, month_names}
 use Rattle.ed_programs.proofs.CalendarCodes.{days_from, range_is, week_end}
@@ -38,7 +38,7 @@ day_shown day rest few = ap (λ (cs : List ℕ). paper_from Figures (cs ++ rest)
     is : day_codes day ≡ by_digits day
     is =
         (bytes_eq-Decides (day_codes day) (by_digits day)).0
-        (among (λ day. bytes_eq (day_codes day) (by_digits day)) 0 100 day refl (omega arith) (omega arith))
+        (list_all-numbers (λ day. bytes_eq (day_codes day) (by_digits day)) 0 100 day refl (omega arith) (omega arith))
 
     by_test : (b : Bool) → paper_from Figures ((if b then 20 ∷ 20 ∷ digits day else 20 ∷ digits day) ++ rest)
         ≡ (if b then 32 ∷ 32 ∷ decimal day else 32 ∷ decimal day) ++ paper_from Figures rest

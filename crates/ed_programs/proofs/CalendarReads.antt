@@ -1,7 +1,7 @@
 -- The reading of a number in `examples/calendar.tape`.
-use Rattle.ed_programs.proofs.Kit.{are, digits, digits_law, sym, Size, I, L1F, LD, value_after, followed, [], arith}
-use Rattle.ed_programs.proofs.Kit.{length, List, nat_lt, Option, refl, true, ℕ, ◌*◌, ◌++◌, ◌+◌, ◌<◌, ◌∷◌, ◌≡◌, ◌≤◌}
-use Rattle.ed_programs.proofs.Kit.{and_parts, ltb-true, Moment, on, Path, own, to, Path-counted}
+use Rattle.ed_programs.proofs.Kit.{are_digits-digits, digits, digits_law, sym, Size, I, L1F, LD, value_after, followed}
+use Rattle.ed_programs.proofs.Kit.{[], arith, length, List, nat_lt, Option, refl, true, ℕ, ◌*◌, ◌++◌, ◌+◌, ◌<◌, ◌∷◌}
+use Rattle.ed_programs.proofs.Kit.{◌≡◌, ◌≤◌, and_parts, ltb-true, Moment, on, Path, own, to, Path-counted}
 use Rattle.ed_sources.proofs.Decimals.{are_digits}
 use Rattle.ed_programs.proofs.CalendarCells.{at, frame, IsAround, Work}
 use Rattle.ed_programs.proofs.Orders.{A, A_low, E_by, E_jumps, E_stays, L, S, T, U, obeys}
@@ -46,7 +46,8 @@ module _ (z : Size) (m : Moment) (o : IsAround m.words) where
       let is = (digits_law n (omega arith)).value_is in
       Path-counted
       (followed (obeys 274 (to 28 i) (A_low 3 (to 3 (i + 2)) ∷ T 291 ∷ T 297 ∷ []) refl (omega arith))
-      (followed (figures (digits n) rest (record k { read_link = to 3 (i + 2) }) 0 n last (are n (omega arith)) is
+      (followed
+      (figures (digits n) rest (record k { read_link = to 3 (i + 2) }) 0 n last (are_digits-digits n (omega arith)) is
       small)
       (obeys 291 0 (E_by (i + 2) ∷ []) refl (omega arith))))
       (omega arith)

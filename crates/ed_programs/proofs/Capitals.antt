@@ -1,7 +1,8 @@
 -- Capital letters: each spells a row of tape, and is printed as it is.
-use Rattle.ed_programs.proofs.Kit.{Letters, bytes_eq, bytes_eq-Decides, among, [], ap, arith, Bool, false, length, List}
-use Rattle.ed_programs.proofs.Kit.{nat_le, None, not, refl, true, ℕ, ◌++◌, ◌==◌, ◌∷◌, ◌≡◌, ◌≤◌, list_all, and_from}
-use Rattle.ed_programs.proofs.Kit.{and_parts, leb-true, not-true, Text, row_of, row, ◌&&◌, paper_from, is_capital}
+use Rattle.ed_programs.proofs.Kit.{Letters, bytes_eq, bytes_eq-Decides, list_all-numbers, [], ap, arith, Bool, false}
+use Rattle.ed_programs.proofs.Kit.{length, List, nat_le, None, not, refl, true, ℕ, ◌++◌, ◌==◌, ◌∷◌, ◌≡◌, ◌≤◌, list_all}
+use Rattle.ed_programs.proofs.Kit.{and_from, and_parts, leb-true, not-true, Text, row_of, row, ◌&&◌, paper_from}
+use Rattle.ed_programs.proofs.Kit.{is_capital}
 use Rattle.ed_printer.specs.Paper.{struck_bytes}
 use Rattle.ed_programs.specs.Hello.{letters_refusal}
 use Rattle.ed_programs.proofs.RowTexts.{is_row_byte, text_rows}
@@ -29,10 +30,10 @@ pub record Letter (b : ℕ) : Type 0 where
   pub no_figures : (row (row_of b) == 11) ≡ false
   pub no_letters : (row (row_of b) == 15) ≡ false
 
-pub letter : (b : ℕ) → (nat_le 65 b && nat_le b 90) ≡ true → Letter b
-letter b h =
+pub Letter-between : (b : ℕ) → (nat_le 65 b && nat_le b 90) ≡ true → Letter b
+Letter-between b h =
     let p = and_parts (nat_le 65 b) (nat_le b 90) h in
-    let q = and_parts _ _ (among fine 65 26 b refl (leb-true 65 b p.0) (omega (arith, leb-true b 90 p.1))) in
+    let q = and_parts _ _ (list_all-numbers fine 65 26 b refl (leb-true 65 b p.0) (omega (arith, leb-true b 90 p.1))) in
     let r = and_parts _ _ q.1 in
     let t = and_parts _ _ r.1 in
     record {
@@ -45,7 +46,7 @@ letter b h =
 pub are_rows : (q : Text) → list_all (λ b. nat_le 65 b && nat_le b 90) q ≡ true → list_all is_row_byte q ≡ true
 are_rows [] h = refl
 are_rows (b ∷ q) h =
-    let p = and_parts _ _ h in and_from _ _ (letter b p.0).row_byte (are_rows q p.1)
+    let p = and_parts _ _ h in and_from _ _ (Letter-between b p.0).row_byte (are_rows q p.1)
 
 -- letters are printed as they are
 pub capitals_shown : (q : Text) (more : List ℕ) → list_all is_capital q ≡ true
@@ -53,7 +54,7 @@ pub capitals_shown : (q : Text) (more : List ℕ) → list_all is_capital q ≡ 
 capitals_shown [] more h = refl
 capitals_shown (b ∷ q) more h =
     let p = and_parts _ _ h in
-    let l = letter b p.0 in
+    let l = Letter-between b p.0 in
     rw (l.no_figures, l.no_letters, l.struck_is) (ap (λ (x : Text). b ∷ x) (capitals_shown q more p.1))
 
 -- and a new line follows

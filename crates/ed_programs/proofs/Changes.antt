@@ -1,9 +1,10 @@
 -- A call of a routine that writes in a cell of the piece, as one line; and so `read`.
 use Rattle.ed_sources.proofs.Kit.{Bool, locations_most, place_count, after_digits, digit_rows, digits_value, IsLoadedAt}
 use Rattle.ed_sources.proofs.Kit.{arith, get_or, locations, G_jumps, patched, IsOther, IsCalled, digits_law, HasRoutine}
-use Rattle.ed_sources.proofs.Kit.{false, length, Option, rules, subst, ℕ, State, Moment, joined, with_h, digits, caller}
-use Rattle.ed_sources.proofs.Kit.{inl, inr, List, lit<, refl, ◌++◌, Frame, short, state, Leads, leads, Path, stay, read}
-use Rattle.ed_sources.proofs.Kit.{[], ap, sym, ◌%◌, ◌*◌, ◌+◌, ◌/◌, ◌<◌, ◌^◌, ◌∙◌, ◌∷◌, ◌≡◌, ◌≢◌, ◌≤◌, ◌⊎◌, A, on, own}
+use Rattle.ed_sources.proofs.Kit.{false, length, Option, rules, subst, ℕ, State, Moment, Leads-append, with_h, digits}
+use Rattle.ed_sources.proofs.Kit.{caller, inl, inr, List, lit<, refl, ◌++◌, Frame, short, state, Leads, Leads-path}
+use Rattle.ed_sources.proofs.Kit.{Path, stay, read, [], ap, sym, ◌%◌, ◌*◌, ◌+◌, ◌/◌, ◌<◌, ◌^◌, ◌∙◌, ◌∷◌, ◌≡◌, ◌≢◌, ◌≤◌}
+use Rattle.ed_sources.proofs.Kit.{◌⊎◌, A, on, own}
 use Rattle.ed_routines.proofs.Kit.{set, Jumps, Reads, any}
 use Rattle.std.proofs.lemmas.Grind.{common_steps}
 use Rattle.std.proofs.lemmas.List.{length-set}
@@ -11,9 +12,10 @@ use Rattle.ed_words.specs.declared.order_words.TheConstants.{A_F}
 use Rattle.ed_machine.proofs.Kit.Frames.{all_digits}
 use Rattle.ed_machine.proofs.Kit.Window.{patched_self, get_own}
 use Rattle.ed_library.specs.Routines.{is_working}
-use Rattle.ed_routines.proofs.Called.{called as routine_called}
-use Rattle.ed_routines.proofs.Journeys.{IsIn, Journey, all_long, beside_word, called, caller_is, elsewhere, stands}
-use Rattle.ed_sources.proofs.Decimals.{are}
+use Rattle.ed_routines.proofs.Called.{IsCalled-loaded as routine_called}
+use Rattle.ed_routines.proofs.Journeys.{IsIn, Journey, all_long, beside_word, IsCalled-loaded, caller_is}
+use Rattle.ed_routines.proofs.Journeys.{IsOther-beside, IsLoadedAt-called}
+use Rattle.ed_sources.proofs.Decimals.{are_digits-digits}
 use Rattle.ed_sources.proofs.ReadAndPrint.{rest_is, rows_are}
 use Rattle.ed_routines.proofs.ReadCall as read_call
 
@@ -28,8 +30,8 @@ still_has above low keeps {w1 = w1} there other = record {
   fits = there.fits;
   reached = there.reached;
   apart = there.apart;
-  at2 = keeps 2 (inl (omega arith)) (elsewhere 2 (inl (omega arith))) ∙ there.at2;
-  at3 = keeps 3 (inl (omega arith)) (elsewhere 3 (inl (omega arith))) ∙ there.at3;
+  at2 = keeps 2 (inl (omega arith)) (IsOther-beside 2 (inl (omega arith))) ∙ there.at2;
+  at3 = keeps 3 (inl (omega arith)) (IsOther-beside 3 (inl (omega arith))) ∙ there.at3;
   image = λ m l free. keeps (w1 + m) (elim there.apart [ inl b ↦ inl (omega arith) | inr b ↦ inr (omega arith) ])
       (other m l free) ∙ there.image m l free;
 }
@@ -56,18 +58,19 @@ module _ {n h : ℕ} {f : Frame n h} {r : Moment} (o : IsIn f r) where
   -- how the routine returns
   abbrev pub Leaves : ℕ → ℕ → ℕ → List ℕ → List ℕ → List Bool → List ℕ → Option ℕ → ℕ → Type 0
   Leaves i w k codes words digits rows l done =
-      Leads k (state f (called o i w) done) codes (record (state f (called o i w) done) {
+      Leads k (state f (IsCalled-loaded o i w) done) codes (record (state f (IsCalled-loaded o i w) done) {
         store = record { words = words; sandwich = all_digits digits (f.base / 2 + h) r.pairs };
         acc = 0;
-        counter = caller (state f (called o i w) done) + 2;
+        counter = caller (state f (IsCalled-loaded o i w) done) + 2;
         tape = rows;
         last = l;
         orders = done + k;
       })
 
-  pub changes : {r0 w : ℕ} {parameters : List ℕ} {k : ℕ} {codes : List ℕ} (i : ℕ) (words : List ℕ) (digits : List Bool)
+  pub Part-changes : {r0 w : ℕ} {parameters : List ℕ} {k : ℕ} {codes : List ℕ} (i : ℕ) (words : List ℕ)
+      (digits : List Bool)
       (cells rows : List ℕ) (l : Option ℕ) (has : HasRoutine f r.words r0 w parameters)
-      → ((done : ℕ) → IsLoadedAt r0 parameters w (state f (called o i w) done)
+      → ((done : ℕ) → IsLoadedAt r0 parameters w (state f (IsCalled-loaded o i w) done)
       → Leaves i w k codes words digits rows l done)
       → length words ≡ 1024 → length cells ≡ n
       → ((j : ℕ) → j < n → get_or words (f.base + j) 0 ≡ get_or cells j 0)
@@ -75,19 +78,19 @@ module _ {n h : ℕ} {f : Frame n h} {r : Moment} (o : IsIn f r) where
       → Jumps {f = f} {r = record r { acc = short (A_F + 2 * (f.base + i)); counter = f.base + (i + 1) }}
       (i + 1) 27 (any w has.reached)
       → Journey f (2 + k) r codes (after_change i words digits cells rows l)
-  changes {w = w} {k = k} {codes} i words digits cells rows l has returns long own_long same room clear first
+  Part-changes {w = w} {k = k} {codes} i words digits cells rows l has returns long own_long same room clear first
       second = record {
         leads = λ done.
             let size = locations_most f.size in let under = f.under in let fits = f.fits in
             let word : get_or r.cells i 0 ≡ A_F + 2 * (f.base + i) = ap (λ x. x.1.0) first in
-            let two : Path f 2 r [] (called o i w) =
+            let two : Path f 2 r [] (IsCalled-loaded o i w) =
             on (A i (own i) (short (A_F + 2 * (f.base + i))) first (omega arith))
             (on (G_jumps (i + 1) (any w has.reached) second (omega arith)) stay) in
-            let back = returns (done + 2) (stands o i (done + 2) room has) in
+            let back = returns (done + 2) (IsLoadedAt-called o i (done + 2) room has) in
             let whole : patched 0 words f.base cells ≡ words =
             patched_self 0 words f.base cells (omega arith) (λ j m. sym (same j (omega arith))) in
             let count : done + 2 + k ≡ done + (2 + k) = omega arith in
-            let c : caller (state f (called o i w) (done + 2)) + 2 ≡ f.base + (i + 2) =
+            let c : caller (state f (IsCalled-loaded o i w) (done + 2)) + 2 ≡ f.base + (i + 2) =
             omega (arith, caller_is o i w (done + 2)) in
             subst (λ (t : State). Leads (2 + k) (state f r done) codes t)
             (λ j. record {
@@ -100,7 +103,7 @@ module _ {n h : ℕ} {f : Frame n h} {r : Moment} (o : IsIn f r) where
               last = l;
               orders = count j;
             })
-            (joined (leads two done) back);
+            (Leads-append (Leads-path two done) back);
       }
 
   -- ---- `read` of a number whose digits are on the tape
@@ -118,22 +121,23 @@ module _ {n h : ℕ} {f : Frame n h} {r : Moment} (o : IsIn f r) where
 
   module _ {w : ℕ} (i j v : ℕ) (rest : List ℕ) (has : HasRoutine f r.words read w (with_h (f.base + j)))
       (tape : r.tape ≡ digits v ++ 17 ∷ rest) (small : v < 65536) (inside : j < n) (room : i + 3 ≤ n) where
-    reading : (done : ℕ) → IsLoadedAt read (with_h (f.base + j)) w (state f (called o i w) done)
-        → IsCalled read (with_h (f.base + j)) w (f.base + j) (locations f.size) (state f (called o i w) done)
+    reading : (done : ℕ) → IsLoadedAt read (with_h (f.base + j)) w (state f (IsCalled-loaded o i w) done)
+        → IsCalled read (with_h (f.base + j)) w (f.base + j) (locations f.size) (state f (IsCalled-loaded o i w) done)
     reading done there =
         routine_called (all_long o) there (record {
           below = let u = f.under in let v = f.fits in omega arith;
           beside = elim has.apart [ inl b ↦ inr (omega arith) | inr b ↦ inl (omega arith) ];
         })
 
-    abbrev called_0 : IsCalled read (with_h (f.base + j)) w (f.base + j) (locations f.size) (state f (called o i w) 0)
-    called_0 = reading 0 (stands o i 0 room has)
+    abbrev called_0 : IsCalled read (with_h (f.base + j)) w (f.base + j) (locations f.size)
+        (state f (IsCalled-loaded o i w) 0)
+    called_0 = reading 0 (IsLoadedAt-called o i 0 room has)
 
     ends : after_digits r.tape ≡ 17 ∷ rest
-    ends = ap after_digits tape ∙ rest_is (digits v) rest (are v small)
+    ends = ap after_digits tape ∙ rest_is (digits v) rest (are_digits-digits v small)
 
     rows : digit_rows r.tape ≡ digits v
-    rows = ap digit_rows tape ∙ rows_are (digits v) rest (are v small)
+    rows = ap digit_rows tape ∙ rows_are (digits v) rest (are_digits-digits v small)
 
     code : 17 < 32
     code = lit< tt
@@ -175,7 +179,7 @@ module _ {n h : ℕ} {f : Frame n h} {r : Moment} (o : IsIn f r) where
         record {
           words = last.store.words;
           journey = subst (λ k. Journey f k r [] (after_change i last.store.words r.digits cells rest r.last)) e
-              (changes i last.store.words r.digits cells rest r.last has
+              (Part-changes i last.store.words r.digits cells rest r.last has
               (λ done there. read_call.leads_to (reading done there) ends code) all long own_words room clear first
               second);
           still_in = record { above = o.above; all = all; own = long };

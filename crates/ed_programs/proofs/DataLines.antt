@@ -8,7 +8,8 @@ use Rattle.ed_syntax.proofs.Kit.{map-append, array, has_quote, quoted}
 use Rattle.std.proofs.Common.{Fits, slice_index_or, w16, rules}
 use Rattle.std.proofs.lemmas.List.{append_assoc, length-append}
 use Rattle.ed_syntax.proofs.PartLemmas.{quote_parts}
-use Rattle.ed_sources.proofs.Decimals.{are, decimal_is, few_bytes, line_bytes, no_quotes, row_bytes, rows_are, written}
+use Rattle.ed_sources.proofs.Decimals.{are_digits-digits, decimal_is, few_bytes, line_bytes, no_quotes, row_bytes}
+use Rattle.ed_sources.proofs.Decimals.{rows_are, written}
 use Rattle.ed_programs.specs.Lists.{numbers_text}
 use Rattle.ed_programs.proofs.SourceLines.{Marked, by_parts, mark}
 use Rattle.ed_syntax.specs.declared.program.Statement.TheVariants as statements
@@ -51,7 +52,7 @@ all_numbers (n ∷ ns) h =
     let p = and_parts (nat_lt n 65536) (are_small ns) h in
     let small = ltb-true n 65536 p.0 in
     let ds : List ℕ = digits n in
-    let is = are n small in
+    let is = are_digits-digits n small in
     let rest = all_numbers ns p.1 in
     let tail : Text = numbers_text ns in
     let each : (test : ℕ → Bool) → test 70 ≡ true → list_all test (written ds) ≡ true → list_all test tail ≡ true

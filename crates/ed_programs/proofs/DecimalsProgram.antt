@@ -3,8 +3,8 @@ use Rattle.ed_programs.proofs.Kit.{before_order, div-lt_iff_lt-mul, get_or-set_o
 use Rattle.ed_programs.proofs.Kit.{mod-lt, div-add-mod, A_F, L_D, T_F, Z_F, Size, Z, L1F, L512F, Remains, set, along}
 use Rattle.ed_programs.proofs.Kit.{to_stop, LD, followed, frame_at, [], ap, append-nil, arith, get_or, length, List}
 use Rattle.ed_programs.proofs.Kit.{lit<, lit≤, Option, refl, rules, Some, subst, suc, sym, zero, ℕ, ◌%◌, ◌*◌, ◌+◌, ◌-◌}
-use Rattle.ed_programs.proofs.Kit.{◌/◌, ◌<◌, ◌^◌, ◌∙◌, ◌∷◌, ◌≡◌, ◌≤◌, least, Frame, Moment, short, state, Path, stay}
-use Rattle.ed_programs.proofs.Kit.{ReachesStop, replicate, carries, tenfold, to, Path-counted}
+use Rattle.ed_programs.proofs.Kit.{◌/◌, ◌<◌, ◌^◌, ◌∙◌, ◌∷◌, ◌≡◌, ◌≤◌, locations_least, Frame, Moment, short, state}
+use Rattle.ed_programs.proofs.Kit.{Path, stay, ReachesStop, replicate, carries, tenfold, to, Path-counted}
 use Rattle.ed_programs.proofs.DecimalsPass.{after, after_long, line_codes, line_left, line_long, line_orders, page_left}
 use Rattle.ed_programs.proofs.DecimalsPass.{page_codes, page_orders, tenfold_long, units}
 use Rattle.ed_programs.proofs.Orders.{A, A_high, A_low, E_by, E_jumps, E_stays, G_jumps, G_stays, L, O, S, S_low, T}
@@ -148,7 +148,7 @@ module _ (z : Size) (m : Moment) where
         → Path f (24 + 8 * j) (now 21 ws v (begun k (suc p) (suc e) y)) []
         (now 51 (set ws (suc p) r) u (begun (record k { rest = r; scrap = v }) p e j))
     turn ws k p e n y v u j r o here less few_y low high some most_e small left is rest few =
-        let size = least z in
+        let size = locations_least z in
         let words : List ℕ = set ws (suc p) r in
         let after = around_set ws (suc p) r (omega arith) o in
         let all = after.all in let at2 = after.at2 in
@@ -322,7 +322,7 @@ module _ (z : Size) (m : Moment) where
       → Path f 5 (at 100 ws (to 28 i) k c last) (18 ∷ 24 ∷ [])
       (at (i + 2) ws 0 (record k { link = to 3 (i + 2) }) c (Some 24))
   new_line ws k c last i o low =
-      let size = least z in let all = o.all in let at3 = o.at3 in
+      let size = locations_least z in let all = o.all in let at3 = o.at3 in
       obeys 100 (to 28 i) (A_low 3 (to 3 (i + 2)) ∷ T 104 ∷ O 105 18 ∷ O 106 24 ∷ E_by (i + 2) ∷ []) refl
       (omega arith)
 
@@ -378,7 +378,7 @@ module _ (z : Size) (m : Moment) where
       → Path f 7 (at 5 ws v (record k { plant = T_F + 2 * q }) c last) []
       (at 12 (set ws q 1) u (record k { plant = T_F + 2 * suc q; scrap = v }) c last)
   plants ws k c last q u v o low high small left =
-      let size = least z in
+      let size = locations_least z in
       let now = around_set ws q 1 (omega arith) o in
       let all = now.all in let at2 = now.at2 in
       obeys 5 v (T 95 ∷ A 87 1 ∷ T_high q ∷ A 7 (T_F + 2 * q) ∷ A_low 2 (T_F + 2 * suc q) ∷ U 7 ∷ S 96 u ∷ []) refl

@@ -1,12 +1,12 @@
 -- A call of `divide` as one line: the three words are cells of the piece, and it writes two of them.
 use Rattle.ed_programs.proofs.Kit.{length-set, A_F, is_working, set, all_long, beside_word, called, IsIn, Journey}
-use Rattle.ed_programs.proofs.Kit.{stands, Jumps, Reads, any, get_own, [], arith, Bool, false, get_or, inl, inr, length}
-use Rattle.ed_programs.proofs.Kit.{List, refl, rules, subst, ℕ, ◌%◌, ◌*◌, ◌+◌, ◌/◌, ◌<◌, ◌∙◌, ◌≡◌, ◌≢◌, ◌≤◌, ◌⊎◌}
-use Rattle.ed_programs.proofs.Kit.{locations, locations_most, short_at, State, Frame, Moment, short, state, own}
-use Rattle.ed_programs.proofs.Kit.{place_count, IsOther, IsLoadedAt, HasRoutine, divide, divide_orders, with_hnm}
+use Rattle.ed_programs.proofs.Kit.{IsLoadedAt-called, Jumps, Reads, any, get_own, [], arith, Bool, false, get_or, inl}
+use Rattle.ed_programs.proofs.Kit.{inr, length, List, refl, rules, subst, ℕ, ◌%◌, ◌*◌, ◌+◌, ◌/◌, ◌<◌, ◌∙◌, ◌≡◌, ◌≢◌}
+use Rattle.ed_programs.proofs.Kit.{◌≤◌, ◌⊎◌, locations, locations_most, short_at, State, Frame, Moment, short, state}
+use Rattle.ed_programs.proofs.Kit.{own, place_count, IsOther, IsLoadedAt, HasRoutine, divide, divide_orders, with_hnm}
 use Rattle.ed_maths.proofs.Kit.{length_patched, IsOutside, within_size, dividend}
 use Rattle.ed_machine.proofs.Kit.Frames.{all_words}
-use Rattle.ed_programs.proofs.Changes.{after_change, changes, set_own, still_has}
+use Rattle.ed_programs.proofs.Changes.{after_change, Part-changes, set_own, still_has}
 use Rattle.ed_maths.proofs.DivideCall as divide_call
 
 -- the words of the division: cells jh, jl and jy of a piece of n, with the numbers in them; and the store's digits
@@ -63,7 +63,7 @@ module _ {n h : ℕ} {f : Frame n h} (r : Moment) (o : IsIn f (flat r)) where
     apart_cells j k other e = other (omega (arith, e))
 
     there : (done : ℕ) → IsLoadedAt divide (with_hnm (f.base + jh) (f.base + jl) (f.base + jy)) w (t done)
-    there done = stands o i done room has
+    there done = IsLoadedAt-called o i done room has
 
     dividing : (done : ℕ) → IsLoadedAt divide (with_hnm (f.base + jh) (f.base + jl) (f.base + jy)) w (t done)
         → divide_call.CallsDivide w (f.base + jh) (f.base + jl) (f.base + jy) (locations f.size) (t done)
@@ -104,15 +104,15 @@ module _ {n h : ℕ} {f : Frame n h} (r : Moment) (o : IsIn f (flat r)) where
 
     quotient : get_or last.store.words (f.base + jl) 0 ≡ x / by
     quotient =
-        (divide_call.divided (dividing 0 (there 0)) last refl).quotient ∙ (λ k. number 0 k / divisor 0 k)
+        (divide_call.HasDivided-last (dividing 0 (there 0)) last refl).quotient ∙ (λ k. number 0 k / divisor 0 k)
 
     remainder : get_or last.store.words (f.base + jh) 0 ≡ x % by
     remainder =
-        (divide_call.divided (dividing 0 (there 0)) last refl).remainder ∙ (λ k. number 0 k % divisor 0 k)
+        (divide_call.HasDivided-last (dividing 0 (there 0)) last refl).remainder ∙ (λ k. number 0 k % divisor 0 k)
 
     keeps : (q : ℕ) → q ≢ f.base + jh → q ≢ f.base + jl → IsOther divide w q
         → get_or last.store.words q 0 ≡ get_or (all_words f (flat r)) q 0
-    keeps = (divide_call.divided (dividing 0 (there 0)) last refl).words
+    keeps = (divide_call.HasDivided-last (dividing 0 (there 0)) last refl).words
 
     abbrev cells_divided : List ℕ
     cells_divided = set (set r.cells jh (x % by)) jl (x / by)
@@ -150,7 +150,7 @@ module _ {n h : ℕ} {f : Frame n h} (r : Moment) (o : IsIn f (flat r)) where
               ∙ d.digits_long;
           journey = subst (λ k. Journey f (2 + k) (flat r) []
               (after_change o i last.store.words last.store.sandwich cells_divided r.tape r.last)) orders
-              (changes o i last.store.words last.store.sandwich cells_divided r.tape r.last has
+              (Part-changes o i last.store.words last.store.sandwich cells_divided r.tape r.last has
               (λ done stand. divide_call.leads_to (dividing done stand))
               (divide_call.all_last (dividing 0 (there 0))) (omega arith) same_cells room clear first second);
           all = divide_call.all_last (dividing 0 (there 0));

@@ -1,5 +1,5 @@
 -- The program of `examples/fraction.edsac`, at any base and for all its numbers: division as on paper.
-use Rattle.ed_programs.proofs.Kit.{A_F, E_F, G_F, L_D, O_F, S_F, T_F, U_F, Z_F, L1F, after_call, along, elsewhere}
+use Rattle.ed_programs.proofs.Kit.{A_F, E_F, G_F, L_D, O_F, S_F, T_F, U_F, Z_F, L1F, after_call, along, IsOther-beside}
 use Rattle.ed_programs.proofs.Kit.{has_after, IsIn, Journey, no_working, still_in, then, Bool, Option, Reads, Jumps}
 use Rattle.ed_programs.proofs.Kit.{any, LD, print_goes, print_left, print_line, get_own, [], arith, inl, inr, length}
 use Rattle.ed_programs.proofs.Kit.{List, lit<, lit≤, refl, rules, Some, subst, suc, ℕ, ◌%◌, ◌*◌, ◌+◌, ◌/◌, ◌<◌, ◌∙◌}
@@ -73,8 +73,8 @@ module _ (given : Given) where
         all = one.still_in.all;
         digits_long = o.digits_long;
         reads = one.has o.reads (λ m l free. no_working m free);
-        divides = one.has o.divides (λ m l free. elsewhere (d + m) (inr (omega arith)));
-        prints = one.has o.prints (λ m l free. elsewhere (p + m) (inr (omega arith)));
+        divides = one.has o.divides (λ m l free. IsOther-beside (d + m) (inr (omega arith)));
+        prints = one.has o.prints (λ m l free. IsOther-beside (p + m) (inr (omega arith)));
       }
 
   -- where a part of the program leads: to the cell i, with these cells
@@ -93,10 +93,10 @@ module _ (given : Given) where
         → IsDivided 40 (at around i k) 35 34 36 0 u l
     division u l clear low by small some few = search rules
 
-    pub divided : (u l : ℕ) → k.rest ≡ 0 → k.low ≡ u → k.divisor ≡ l → u < 65536 → 0 < l → l ≤ 6553
+    pub Part-divided : (u l : ℕ) → k.rest ≡ 0 → k.low ≡ u → k.divisor ≡ l → u < 65536 → 0 < l → l ≤ 6553
         → Jumps {f = f} {r = calling} (i + 1) 27 (any d o.divides.reached)
         → Part (at around i k) (2 + divide_orders (u / l)) [] (i + 2) (record k { rest = u % l; low = u / l })
-    divided u l clear low by small some few second =
+    Part-divided u l clear low by small some few second =
         let a = given.read_divide in let b = given.divide_print in
         let same : 65536 * 0 + u ≡ u = omega arith in
         let one : HasDivided (at around i k) (in_at around i k o) i d 35 34 u l =
@@ -108,17 +108,17 @@ module _ (given : Given) where
           is = record {
             all = one.all;
             digits_long = one.digits_long;
-            reads = one.has o.reads (λ m l free. elsewhere (r + m) (inl (omega arith)));
+            reads = one.has o.reads (λ m l free. IsOther-beside (r + m) (inl (omega arith)));
             divides = one.has o.divides (λ m l free. no_working m free);
-            prints = one.has o.prints (λ m l free. elsewhere (p + m) (inr (omega arith)));
+            prints = one.has o.prints (λ m l free. IsOther-beside (p + m) (inr (omega arith)));
           };
           journey = one.journey;
         }
 
     -- `print` of it
-    pub printed : (v : ℕ) → k.low ≡ v → v < 65536 → Jumps {f = f} {r = calling} (i + 1) 27 (any p o.prints.reached)
+    pub Part-printed : (v : ℕ) → k.low ≡ v → v < 65536 → Jumps {f = f} {r = calling} (i + 1) 27 (any p o.prints.reached)
         → Part (at around i k) (2 + print_orders v) (11 ∷ digits v) (i + 2) k
-    printed v is small second =
+    Part-printed v is small second =
         let a = given.read_divide in let b = given.divide_print in
         let here = in_at around i k o in
         let left : List ℕ = print_left here p i 34 v in
@@ -131,9 +131,9 @@ module _ (given : Given) where
             all = (still_in here i left last o.prints goes room).all;
             digits_long = o.digits_long;
             reads = has_after here i left last o.prints goes room o.reads
-                (λ j l free. elsewhere (r + j) (inl (omega arith)));
+                (λ j l free. IsOther-beside (r + j) (inl (omega arith)));
             divides = has_after here i left last o.prints goes room o.divides
-                (λ j l free. elsewhere (d + j) (inl (omega arith)));
+                (λ j l free. IsOther-beside (d + j) (inl (omega arith)));
             prints = has_after here i left last o.prints goes room o.prints (λ j l free. no_working j free);
           };
           journey = print_line here {v = v} i 34 o.prints number (lit< tt) small room refl first second;
@@ -151,21 +151,23 @@ module _ (given : Given) where
     pub by_is : work.divisor ≡ by
     pub journey : Journey f many from codes (at now 15 work)
 
-  pub turn : (around : Moment) (k : Work) (m rest by : ℕ) → IsAround given around → k.number ≡ suc m → suc m < 65536
+  pub Turned-digit : (around : Moment) (k : Work) (m rest by : ℕ) → IsAround given around → k.number ≡ suc m
+      → suc m < 65536
       → k.rest ≡ rest → k.divisor ≡ by → rest < by → by ≤ 6553 → 10 * rest / by < 10
       → Turned (at around 15 k) (17 + divide_orders (10 * rest / by) + print_orders (10 * rest / by))
       (11 ∷ digits (10 * rest / by)) m (10 * rest % by) by
-  turn around k m rest by o number few is_rest is_by less most_by digit =
+  Turned-digit around k m rest by o number few is_rest is_by less most_by digit =
       let size = locations_most f.size in let under = f.under in let fits = f.fits in
       let k1 : Work = record k { scrap = 0; number = m; low = 10 * rest; rest = 0 } in
       let first : Path f 12 (at around 15 k) [] (at around 27 k1) =
       obeys 15 0 (T 39 ∷ A 33 (suc m) ∷ S 38 m ∷ G_stays 32 ∷ T 33 ∷ A 35 rest ∷ L LD (2 * rest) ∷ U 34
       ∷ L L1F (8 * rest) ∷ A 34 (10 * rest) ∷ T 34 ∷ T 35 ∷ []) refl (omega arith) in
       let v : ℕ = 10 * rest / by in
-      let one = divided around 27 k1 o (lit≤ tt) refl (10 * rest) by refl refl is_by (omega arith) (omega arith) most_by
+      let one = Part-divided around 27 k1 o (lit≤ tt) refl (10 * rest) by refl refl is_by (omega arith)
+      (omega arith) most_by
       refl in
       let k2 : Work = record k1 { rest = 10 * rest % by; low = v } in
-      let shown = printed one.now 29 k2 one.is (lit≤ tt) refl v refl (omega arith) refl in
+      let shown = Part-printed one.now 29 k2 one.is (lit≤ tt) refl v refl (omega arith) refl in
       record {
         now = shown.now;
         work = k2;

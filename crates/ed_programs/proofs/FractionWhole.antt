@@ -8,8 +8,8 @@ use Rattle.ed_programs.proofs.Kit.{paper_from, figure_orders, HasRead, reads_num
 use Rattle.ed_programs.proofs.Kit.{stop_counted, common_steps, rules}
 use Rattle.std.proofs.Math.Nat.{div-le_self, add-mul-div_left, add-mul-mod_self_left, mul_assoc, pow-succ'}
 use Rattle.ed_programs.specs.Fraction.{figure, figures}
-use Rattle.ed_programs.proofs.FractionProgram.{Given, IsAround, Turned, Work, after_read, at, divided, in_at, printed}
-use Rattle.ed_programs.proofs.FractionProgram.{turn}
+use Rattle.ed_programs.proofs.FractionProgram.{Given, IsAround, Turned, Work, after_read, at, Part-divided, in_at}
+use Rattle.ed_programs.proofs.FractionProgram.{Part-printed, Turned-digit}
 use Rattle.ed_programs.proofs.NumberShown.{then_on}
 use Rattle.ed_programs.proofs.Orders.{A, G_jumps, S, T, obeys}
 use Rattle.ed_machine.proofs.Kit.Moves as moves
@@ -97,7 +97,8 @@ module _ (given : Given) where
   }
   reached around k u l (suc n) m o number few is_rest is_by some most_by =
       let one = reached around k u l n (suc m) o (number ∙ omega arith) (omega arith) is_rest is_by some most_by in
-      let t = turn given one.now one.work m (left u l n some) l one.is one.number (omega arith) one.rest_is one.by_is
+      let t = Turned-digit given one.now one.work m (left u l n some) l one.is one.number
+      (omega arith) one.rest_is one.by_is
       (mod-lt (10 ^ n * u) some) most_by (digit_small u l n some) in
       record {
         now = t.now;
@@ -152,10 +153,10 @@ module _ (given : Given) where
       reads_number (in_at given m2 8 k2 o2) 8 33 n _ o2.reads refl small_n (lit< tt) (lit≤ tt) refl refl refl in
       let m3 : Moment = record m2 { words = three.words; tape = [] } in
       let k3 : Work = record k2 { number = n } in
-      let four = divided given m3 10 k3 (after_read given m2 {k = k2} o2 three) (lit≤ tt) refl u l clear refl refl
+      let four = Part-divided given m3 10 k3 (after_read given m2 {k = k2} o2 three) (lit≤ tt) refl u l clear refl refl
       small_u some few_l refl in
       let k4 : Work = record k3 { rest = u % l; low = u / l } in
-      let five = printed given four.now 12 k4 four.is (lit≤ tt) refl (u / l) refl (quotient_small u l small_u some)
+      let five = Part-printed given four.now 12 k4 four.is (lit≤ tt) refl (u / l) refl (quotient_small u l small_u some)
       refl in
       let first = then one.journey (then (along kept)
       (then two.journey (then (along kept_too)

@@ -2,8 +2,9 @@
 use Rattle.ed_programs.proofs.Kit.{map, parameter_store, digits_printed, spread_pieces, routine_after, stops_from_entry}
 use Rattle.ed_programs.proofs.Kit.{all_words, have_places, moment_at, few_digits, entry_state, greatest_of, SourceRuns}
 use Rattle.ed_programs.proofs.Kit.{Settings, Size, word_at, frame_at, decimal, and_parts, ltb-true, settings, are_small}
-use Rattle.ed_programs.proofs.Kit.{State, placed, arith, codes, get_or, length, nat_lt, ℕ, least, print, with_h, Marked}
-use Rattle.ed_programs.proofs.Kit.{Line, [], ap, drop, List, lit<, lit≤, refl, true, ◌+◌, ◌<◌, ◌∙◌, ◌∷◌, ◌≡◌, ◌≤◌, Text}
+use Rattle.ed_programs.proofs.Kit.{State, placed, arith, codes, get_or, length, nat_lt, ℕ, locations_least, print}
+use Rattle.ed_programs.proofs.Kit.{with_h, Marked, Line, [], ap, drop, List, lit<, lit≤, refl, true, ◌+◌, ◌<◌, ◌∙◌, ◌∷◌}
+use Rattle.ed_programs.proofs.Kit.{◌≡◌, ◌≤◌, Text}
 use Rattle.ed_programs.specs.Greatest.{greatest_orders, greatest_text}
 use Rattle.ed_programs.specs.declared.greatest.TheConstants.{GREATEST}
 use Rattle.ed_programs.proofs.DataLines.{small_at}
@@ -62,7 +63,7 @@ module _ (a b c d e f g h : ℕ) (small : are_small (a ∷ b ∷ c ∷ d ∷ e �
       above = lit≤ tt;
       e = 87;
       p = 88;
-      room = let size = least s.size in omega arith;
+      room = let size = locations_least s.size in omega arith;
       around = moment_at entry;
       all = all_words s.size lines;
       at2 = refl;

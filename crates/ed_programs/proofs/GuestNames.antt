@@ -124,12 +124,12 @@ module _ (z : Size) (lines : List Line) (faultless : HasNoFault z lines) (c : En
   itself : definition_of None c.name (home ∷ later) ≡ Some home
   itself = search (rules, bytes_eq-Decides, is_global)
 
-  pub placed : place_on (symbols_of lines) None c.name ≡ Some (checker_base c.before)
-  placed =
+  pub place_on-checker : place_on (symbols_of lines) None c.name ≡ Some (checker_base c.before)
+  place_on-checker =
       ap (option_map definition_place)
       (ap (definition_of None c.name) all_homes
       ∙ later_home None c.name (earlier ++ labels) (home ∷ later) new
       ∙ itself)
 
   pub entry_is : entry_of lines ≡ checker_base c.before
-  entry_is = entered ∙ ap (λ (o : Option ℕ). unwrap_or o 0) placed
+  entry_is = entered ∙ ap (λ (o : Option ℕ). unwrap_or o 0) place_on-checker

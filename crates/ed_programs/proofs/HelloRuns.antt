@@ -4,10 +4,11 @@ use Rattle.ed_programs.proofs.Kit.{past, even_from, extent, fault_from, along, I
 use Rattle.ed_programs.proofs.Kit.{followed, all_words, frame_at, moment_at, [], ap, arith, codes, decimal, false}
 use Rattle.ed_programs.proofs.Kit.{get_or, length, length-append, List, lit<, lit≤, map, nat_lt, None, Option, pos}
 use Rattle.ed_programs.proofs.Kit.{refl, reverse, rules, Some, subst, take, true, ℕ, ◌*◌, ◌++◌, ◌+◌, ◌-◌, ◌<◌, ◌∙◌, ◌∷◌}
-use Rattle.ed_programs.proofs.Kit.{◌≡◌, ◌≤◌, list_all, le-ltb, leb-true, length-map, Text, least, row_of, paper, Frame}
-use Rattle.ed_programs.proofs.Kit.{Moment, state, Path, run, sign, row, first_counter, fault, linked_words, symbols_of}
-use Rattle.ed_programs.proofs.Kit.{counter, newline, HasRoutine, ReachesStop, entry_state, said, hello_text, is_capital}
-use Rattle.ed_programs.proofs.Kit.{of_letters, SourceRuns, Marked, to, printing, Path-counted, common_steps}
+use Rattle.ed_programs.proofs.Kit.{◌≡◌, ◌≤◌, list_all, le-ltb, leb-true, length-map, Text, locations_least, row_of}
+use Rattle.ed_programs.proofs.Kit.{paper, Frame, Moment, state, Path, run, sign, row, first_counter, fault}
+use Rattle.ed_programs.proofs.Kit.{linked_words, symbols_of, counter, newline, HasRoutine, ReachesStop, entry_state}
+use Rattle.ed_programs.proofs.Kit.{said, hello_text, is_capital, of_letters, SourceRuns, Marked, to, printing}
+use Rattle.ed_programs.proofs.Kit.{Path-counted, common_steps}
 use Rattle.ed_link.proofs.Kit.{resolution, earlier_fault, missing}
 use Rattle.ed_link.proofs.Extents.{one_by_one}
 use Rattle.ed_sources.proofs.Blocks.{order_at}
@@ -55,14 +56,14 @@ module _ (z : Size) (around : Moment) (all : length around.words ≡ 1024) (seco
       → (x : ℕ × Option ℕ) × Path f (length (c ∷ cs) * 7) (at 0 left (printing q) scrap last) (c ∷ cs)
       (at 7 0 (printing e) x.0 x.1)
   loop c [] q left scrap last o long from small =
-      let size = least z in let here = o.0 in let code = o.1 in (
+      let size = locations_least z in let here = o.0 in let code = o.1 in (
         (left, Some c),
         obeys 0 left (T 12 ∷ O_high q c ∷ A 1 (printing q) ∷ A_low 2 (printing e) ∷ U 1 ∷ S 11 0 ∷ G_stays 0 ∷ []) refl
             (omega arith),
       )
   loop c (d ∷ ds) q left scrap last o long from small =
       let less : ℕ = 131072 - 2 * length (d ∷ ds) in
-      let size = least z in let here = o.0 in let code = o.1 in
+      let size = locations_least z in let here = o.0 in let code = o.1 in
       let rest = loop d ds (q + 1) less left (Some c) o.2 (omega arith) (omega arith) (omega arith) in (
         rest.0,
         Path-counted (followed (obeys 0 left (T 12 ∷ O_high q c ∷ A 1 (printing q) ∷ A_low 2 (printing (q + 1)) ∷ U 1

@@ -2,12 +2,13 @@
 -- and the program after it from its entry to its stop.
 use Rattle.ed_programs.proofs.TapeRuns.{entry_with}
 use Rattle.ed_programs.proofs.Kit.{frame_from, moment_at, ◌<◌, H_F, O_F, T_F, Z_F, Size, O, Z, at_entry, set, along}
-use Rattle.ed_programs.proofs.Kit.{to_stop, E_jumps, U, prints, any, early, out, IsStore, directive, IsReturned, among}
-use Rattle.ed_programs.proofs.Kit.{numbers, [], ap, arith, drop, false, get_or, length, List, lit<, lit≤, nat_eq}
-use Rattle.ed_programs.proofs.Kit.{Option, refl, rules, Some, subst, suc, true, zero, ℕ, ◌*◌, ◌+◌, ◌-◌, ◌∙◌, ◌∷◌, ◌≡◌}
-use Rattle.ed_programs.proofs.Kit.{◌≤◌, list_all, eqb-true, lt-ltb, locations, least, locations_most, short_at, State}
-use Rattle.ed_programs.proofs.Kit.{Frame, Moment, short, state, Leads, A, leads, on, Path, stay, own, patched}
-use Rattle.ed_programs.proofs.Kit.{ReachesStop, TapeEntry, over, first_state, sym, patched_self}
+use Rattle.ed_programs.proofs.Kit.{to_stop, E_jumps, U, prints, any, early, out, IsStore, directive, IsReturned}
+use Rattle.ed_programs.proofs.Kit.{list_all-numbers, numbers, [], ap, arith, drop, false, get_or, length, List, lit<}
+use Rattle.ed_programs.proofs.Kit.{lit≤, nat_eq, Option, refl, rules, Some, subst, suc, true, zero, ℕ, ◌*◌, ◌+◌, ◌-◌}
+use Rattle.ed_programs.proofs.Kit.{◌∙◌, ◌∷◌, ◌≡◌, ◌≤◌, list_all, eqb-true, lt-ltb, locations, locations_least}
+use Rattle.ed_programs.proofs.Kit.{locations_most, short_at, State, Frame, Moment, short, state, Leads, A, Leads-path}
+use Rattle.ed_programs.proofs.Kit.{on, Path, stay, own, patched, ReachesStop, TapeEntry, over, first_state, sym}
+use Rattle.ed_programs.proofs.Kit.{patched_self}
 use Rattle.std.proofs.Common.{slice_index}
 use Rattle.std.proofs.lemmas.List.{get_or-append_right, get_or-drop, length-drop}
 use Rattle.ed_notation.specs.Fold.{word_with}
@@ -19,7 +20,7 @@ use Rattle.ed_interlude.specs.Returned.{AreListed, reopening}
 use Rattle.ed_notation.proofs.Placing.{block}
 use Rattle.ed_programs.proofs.InterludeLoads.{laid_at, laid_other, printed_words, printing_orders, words_placed}
 use Rattle.ed_programs.proofs.InterludeLoads.{from_return, interlude_note, program_note, program_placed}
-use Rattle.ed_programs.proofs.TwoPartsRuns.{IsAway, away, away_to_stop}
+use Rattle.ed_programs.proofs.TwoPartsRuns.{IsAway, IsAway-path, away_to_stop}
 
 -- ---- the interlude
 
@@ -59,7 +60,7 @@ module _ (z : Size) (tape_rows rest : List ℕ) (n cost read : ℕ) (small : n �
 
   abbrev path : Path f 5 (at 0 s.store.words 0) [] returning
   path =
-      let size = least z in
+      let size = locations_least z in
       on (A 0 (own 6) (short (2 * n)) refl (omega arith))
       (on (A 1 (own 6) (short (4 * n)) refl (omega arith))
       (on (U 2 (out 45 (early 45 (lit≤ tt) (lit< tt) long)) _ refl refl)
@@ -70,12 +71,12 @@ module _ (z : Size) (tape_rows rest : List ℕ) (n cost read : ℕ) (small : n �
   back = state f returning (s.orders + 5)
 
   pub interlude_leads : Leads 5 s [] back
-  interlude_leads = subst (λ (x : State). Leads 5 x [] back) begins (leads path s.orders)
+  interlude_leads = subst (λ (x : State). Leads 5 x [] back) begins (Leads-path path s.orders)
 
   pub interlude_away : IsAway 5 s
   interlude_away =
       subst (λ (x : State). IsAway 5 x) begins
-      (away path (lit≤ tt, (lit≤ tt, (lit≤ tt, (lit≤ tt, (lit≤ tt, tt))))) s.orders)
+      (IsAway-path path (lit≤ tt, (lit≤ tt, (lit≤ tt, (lit≤ tt, (lit≤ tt, tt))))) s.orders)
 
   -- the Initial Orders are unchanged
   listed : (first count : ℕ)
@@ -83,7 +84,8 @@ module _ (z : Size) (tape_rows rest : List ℕ) (n cost read : ℕ) (small : n �
       → AreListed back.store first (first + count)
   listed first count test i low high =
       eqb-true (short_at back.store i) (slice_index initial_orders i)
-      (among (λ i. nat_eq (short_at back.store i) (slice_index initial_orders i)) first count i test low high)
+      (list_all-numbers (λ i. nat_eq (short_at back.store i)
+      (slice_index initial_orders i)) first count i test low high)
 
   pub returned : IsReturned back
   unfolding first_state patched
@@ -119,8 +121,8 @@ module _ (z : Size) (tape_rows rest : List ℕ) (n cost read : ℕ) (small : n �
   -- ---- the program after it
 
   module _ (low : 34 ≤ n) (fits : 2 * n + 3 ≤ locations z) (end : ℕ) where
-    pub reopens : reopening back ≡ from_return z W n 200 low fits
-    reopens =
+    pub reopening-back : reopening back ≡ from_return z W n 200 low fits
+    reopening-back =
         let d : directive back ≡ T_F + 2 * (2 * n) = omega arith in
         λ i. record { directive = d i; theta = known.1 i; placed = [] }
 
@@ -204,5 +206,5 @@ module _ (z : Size) (tape_rows rest : List ℕ) (n cost read : ℕ) (small : n �
     pub program_away : IsAway 4 m
     program_away =
         subst (λ (x : State). IsAway 4 x) begins_on
-        (away_to_stop (leads path_on m.orders) (away path_on (lit≤ tt, (lit≤ tt, (lit≤ tt, tt))) m.orders)
+        (away_to_stop (Leads-path path_on m.orders) (IsAway-path path_on (lit≤ tt, (lit≤ tt, (lit≤ tt, tt))) m.orders)
         (omega arith))

@@ -2,7 +2,7 @@
 use Rattle.ed_programs.proofs.TapeRuns.{entry_with}
 use Rattle.ed_programs.proofs.Kit.{get_or-set_other, E_F, T_F, Size, Item, spelled_rows, digits_of, plain, set}
 use Rattle.ed_programs.proofs.Kit.{canonical, canonicals, [], ap, arith, get_or, length, List, lit≤, refl, rules, subst}
-use Rattle.ed_programs.proofs.Kit.{sym, ℕ, ◌*◌, ◌++◌, ◌+◌, ◌/◌, ◌<◌, ◌∙◌, ◌∷◌, ◌≡◌, ◌≤◌, locations, least}
+use Rattle.ed_programs.proofs.Kit.{sym, ℕ, ◌*◌, ◌++◌, ◌+◌, ◌/◌, ◌<◌, ◌∙◌, ◌∷◌, ◌≡◌, ◌≤◌, locations, locations_least}
 use Rattle.ed_programs.proofs.Kit.{locations_most, RowsReachEntry, WellFormed, NotationState, over, rows_of, opening}
 use Rattle.ed_programs.proofs.Kit.{get_or-set_same, ◌≢◌, zero, suc}
 use Rattle.ed_notation.proofs.Kit.{EndsSound, cost_of, is_entry, IsDirective}
@@ -21,10 +21,10 @@ pub record Entered (z : Size) (words : List ℕ) (start : NotationState) (base a
       (rows_of (canonical (plain 0 0 17)) ++ rest))
       (entry_with at (base + cost + 19) (length (spelled_rows (canonicals is)) + 2) last rest)
 
-pub entered : {z : Size} {words : List ℕ} {start last : NotationState} {is : List Item} {cost : ℕ} (base at : ℕ)
+pub Entered-reads : {z : Size} {words : List ℕ} {start last : NotationState} {is : List Item} {cost : ℕ} (base at : ℕ)
     (rest : List ℕ) → IsDirective start.directive → Reads z words start is last cost → last.directive ≡ E_F + 2 * at
     → 44 ≤ at → at < locations z → Entered z words start base at is last cost rest
-entered {z} {words} {start} {last} {is} {cost} base at rest set reads aim low high =
+Entered-reads {z} {words} {start} {last} {is} {cost} base at rest set reads aim low high =
     let e = entering_at z words last at aim low high in
     let m = locations_most z in
     let three : last.directive / 4096 ≡ 3 = omega (arith, aim) in
@@ -124,7 +124,7 @@ module _ (z : Size) (words : List ℕ) (n theta : ℕ) (low : 34 ≤ n) (fits : 
       let n1 : NotationState = record { directive = T_F + 2 * (2 * n + 3); theta = theta; placed = words_placed } in
       let n2 : NotationState = record { directive = 20608; theta = theta; placed = words_placed } in
       let n3 : NotationState = record { directive = 20616; theta = theta; placed = program_placed } in
-      let high = least z in
+      let high = locations_least z in
       let first = placing_all {z = z} {words = words} words {notation = from_return} (2 * n) printed_words refl refl
       (omega arith) (omega arith) (λ j l. refl) in
       let aims = reads_one z words (plain 5 64 14) refl (Does-aiming z words n1 64 (lit≤ tt)) (reads_none z words n2) in

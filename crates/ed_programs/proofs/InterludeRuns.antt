@@ -5,13 +5,15 @@ use Rattle.ed_programs.proofs.Kit.{digits_of, plain, ReachesEntry, Err, Result, 
 use Rattle.ed_programs.proofs.Kit.{INPUT_BYTES, ReachesNextEntry, decimal_is, [], ap, append-nil, append_assoc, arith}
 use Rattle.ed_programs.proofs.Kit.{codes, decimal, get_or, length, length-append, List, lit≤, map, None, Ok, refl}
 use Rattle.ed_programs.proofs.Kit.{rules, subst, sym, ℕ, ◌*◌, ◌++◌, ◌+◌, ◌<◌, ◌∙◌, ◌∷◌, ◌≡◌, ◌≤◌, leb-true, length-map}
-use Rattle.ed_programs.proofs.Kit.{locations, Text, least, State, reading, RowsReachEntry, TapeEntry, WellFormed}
-use Rattle.ed_programs.proofs.Kit.{NotationState, rows_of, first_state, GivesProgram, Refusal, digits, common_steps}
+use Rattle.ed_programs.proofs.Kit.{locations, Text, locations_least, State, reading, RowsReachEntry, TapeEntry}
+use Rattle.ed_programs.proofs.Kit.{WellFormed, NotationState, rows_of, first_state, GivesProgram, Refusal, digits}
+use Rattle.ed_programs.proofs.Kit.{common_steps}
 use Rattle.ed_programs.specs.Interlude.{interlude_text, InterludePrints, InterludeRuns, interlude_cost}
 use Rattle.ed_programs.specs.declared.interlude.TheConstants.{INTERLUDE}
 use Rattle.ed_programs.proofs.InterludeEnds.{back, back_store, entry, entry_on, interlude_away, interlude_leads}
-use Rattle.ed_programs.proofs.InterludeEnds.{program_away, program_stops, reopens, returned}
-use Rattle.ed_programs.proofs.InterludeLoads.{entered, interlude_items, interlude_reads, program_items, program_reads}
+use Rattle.ed_programs.proofs.InterludeEnds.{program_away, program_stops, reopening-back, returned}
+use Rattle.ed_programs.proofs.InterludeLoads.{Entered-reads, interlude_items, interlude_reads, program_items}
+use Rattle.ed_programs.proofs.InterludeLoads.{program_reads}
 use Rattle.ed_programs.proofs.RowTexts.{few_figures, number_spells}
 use Rattle.ed_programs.proofs.TapeRuns.{reads_spell}
 use Rattle.ed_programs.proofs.TwoParts.{TwoParts, TwoPartsRun, part}
@@ -104,8 +106,9 @@ module _ (z : Size) (n : ℕ) (low : 34 ≤ n) (small : n ≤ 510) (fits : 2 * n
   unfolding first_state
   reads =
       let words = (first_state z (tape_rows n)).store.words in
-      let size = least z in
-      let e = entered 9 100 program_rows (omega arith) (interlude_reads z words n small) refl (lit≤ tt) (omega arith) in
+      let size = locations_least z in
+      let e = Entered-reads 9 100 program_rows (omega arith) (interlude_reads z words n small) refl (lit≤ tt)
+      (omega arith) in
       record { well = e.well; comes = e.comes }
 
   abbrev home : State
@@ -117,9 +120,9 @@ module _ (z : Size) (n : ℕ) (low : 34 ≤ n) (small : n ≤ 510) (fits : 2 * n
   reads_on : ReachesNextEntry home second
   reads_on =
       let words = home.store.words in
-      let size = least z in
-      let e = entered 2 64 [] (omega arith) (program_reads z words n 200 low fits) refl (lit≤ tt) (omega arith) in
-      let same = sym (reopens z (tape_rows n) program_rows n loaded read small low fits 26) in
+      let size = locations_least z in
+      let e = Entered-reads 2 64 [] (omega arith) (program_reads z words n 200 low fits) refl (lit≤ tt) (omega arith) in
+      let same = sym (reopening-back z (tape_rows n) program_rows n loaded read small low fits 26) in
       record {
         well = subst (λ (x : NotationState). WellFormed z words x program_rows) same e.well;
         comes = subst (λ (x : NotationState). RowsReachEntry words x 2 program_rows second) same e.comes;

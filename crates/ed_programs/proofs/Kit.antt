@@ -40,8 +40,9 @@ pub use Rattle.ed_link.proofs.Extents.{are_below, ExtentList, past}
 pub use Rattle.ed_link.proofs.Kit.{set, sum_by, reverse-append, rows, Spells, canonical, canonicals, entry}
 pub use Rattle.ed_link.proofs.Kit.{routine_word, table_item, counter_after, place_on, even_from, extent, fault_from}
 pub use Rattle.ed_link.proofs.Kit.{operand_number}
-pub use Rattle.ed_routines.proofs.Journeys.{after_call, all_long, along, beside_word, called, elsewhere, has_after}
-pub use Rattle.ed_routines.proofs.Journeys.{IsIn, Journey, no_working, stands, still_in, stop_after, then, to_stop}
+pub use Rattle.ed_routines.proofs.Journeys.{after_call, all_long, along, beside_word, called, IsOther-beside, has_after}
+pub use Rattle.ed_routines.proofs.Journeys.{IsIn, Journey, no_working, IsLoadedAt-called, still_in, stop_after, then}
+pub use Rattle.ed_routines.proofs.Journeys.{to_stop}
 pub use Rattle.ed_routines.proofs.Kit.{E_jumps, Jumps, Reads, U, prints, any, early, out, LD, value_after}
 pub use Rattle.ed_routines.proofs.Lines.{newline_line, print_goes, print_left, print_line}
 unfoldable pub use Rattle.ed_checker.specs.Checker.{checked_codes}
@@ -54,8 +55,9 @@ pub use Rattle.ed_answers.proofs.Kit.{entry_line, exactly, OfReading}
 pub use Rattle.ed_interlude.specs.Returned.{ReachesNextEntry}
 pub use Rattle.ed_interlude.proofs.Kit.{returned_line, directive, IsReturned}
 pub use Rattle.ed_sources.proofs.AtEntry.{all_words, have_places, placed, word_at}
-pub use Rattle.ed_sources.proofs.Decimals.{among, are, decimal_is, digit_bytes, few_bytes, line_bytes, numbers}
-pub use Rattle.ed_sources.proofs.Decimals.{row_bytes, rows_are, run_bytes, some_digit, value_is, written}
+pub use Rattle.ed_sources.proofs.Decimals.{list_all-numbers, are_digits-digits, decimal_is, digit_bytes, few_bytes}
+pub use Rattle.ed_sources.proofs.Decimals.{line_bytes, numbers, row_bytes, rows_are, run_bytes, some_digit, value_is}
+pub use Rattle.ed_sources.proofs.Decimals.{written}
 pub use Rattle.ed_sources.proofs.Entries.{frame_at, moment_at}
 pub use Rattle.ed_sources.proofs.Kit.{[], ap, append-nil, append_assoc, arith, Bool, codes, decimal, drop, false}
 pub use Rattle.ed_sources.proofs.Kit.{get_or, if◌then◌else◌, inl, inr, length, length-append, List, lit<, lit≤, map}
@@ -64,16 +66,16 @@ pub use Rattle.ed_sources.proofs.Kit.{string_bytes, subst, suc, sym, take, true,
 pub use Rattle.ed_sources.proofs.Kit.{◌+◌, ◌-◌, ◌/◌, ◌<◌, ◌==◌, ◌^◌, ◌||◌, ◌∙◌, ◌∷◌, ◌≡◌, ◌≢◌, ◌≤◌, ◌⊎◌, list_all}
 pub use Rattle.ed_sources.proofs.Kit.{and_from, and_parts, cases_lt, eqb-true, le-leb, le-ltb, leb-true, lt-ltb}
 pub use Rattle.ed_sources.proofs.Kit.{ltb-true, ne_eqb, not-true, nat_tests, length-map, length-replicate}
-pub use Rattle.ed_sources.proofs.Kit.{list_all-append, sum_by-cons, value, locations, Text, least, locations_most}
-pub use Rattle.ed_sources.proofs.Kit.{row_of, paper, short_at, State, state_after, Frame, Moment, short, state, joined}
-pub use Rattle.ed_sources.proofs.Kit.{Leads, A, leads, on, Path, stay, own, placed_at, is_run_byte, is_line_byte}
-pub use Rattle.ed_sources.proofs.Kit.{is_number, LinePart, run, sign, form_at, row, spells, parts_of, is_two, line_of}
-pub use Rattle.ed_sources.proofs.Kit.{lines_from, program_of, run_parts, image_word, place_count, first_counter, fault}
-pub use Rattle.ed_sources.proofs.Kit.{entry_of, linked_words, symbols_of, cost, counter, newline, print, read, with_h}
-pub use Rattle.ed_sources.proofs.Kit.{digits, print_orders, IsOther, IsLoadedAt, digits_law, few_digits, HasRoutine}
-pub use Rattle.ed_sources.proofs.Kit.{ReachesStop, divide, divide_orders, with_hnm, guest, at_after, entry_state}
-pub use Rattle.ed_sources.proofs.Kit.{AnswersFromEntry, run_outcome, read_is_accepted, accepted_is}
-pub use Rattle.ed_sources.proofs.Kit.{each_answer_is_from_entry, filled_text, text_of_lines}
+pub use Rattle.ed_sources.proofs.Kit.{list_all-append, sum_by-cons, value, locations, Text, locations_least}
+pub use Rattle.ed_sources.proofs.Kit.{locations_most, row_of, paper, short_at, State, state_after, Frame, Moment, short}
+pub use Rattle.ed_sources.proofs.Kit.{state, Leads-append, Leads, A, Leads-path, on, Path, stay, own, placed_at}
+pub use Rattle.ed_sources.proofs.Kit.{is_run_byte, is_line_byte, is_number, LinePart, run, sign, form_at, row, spells}
+pub use Rattle.ed_sources.proofs.Kit.{parts_of, is_two, line_of, lines_from, program_of, run_parts, image_word}
+pub use Rattle.ed_sources.proofs.Kit.{place_count, first_counter, fault, entry_of, linked_words, symbols_of, cost}
+pub use Rattle.ed_sources.proofs.Kit.{counter, newline, print, read, with_h, digits, print_orders, IsOther, IsLoadedAt}
+pub use Rattle.ed_sources.proofs.Kit.{digits_law, few_digits, HasRoutine, ReachesStop, divide, divide_orders, with_hnm}
+pub use Rattle.ed_sources.proofs.Kit.{guest, at_after, entry_state, AnswersFromEntry, run_outcome, read_is_accepted}
+pub use Rattle.ed_sources.proofs.Kit.{accepted_is, each_answer_is_from_entry, filled_text, text_of_lines}
 unfoldable pub use Rattle.ed_sources.proofs.Kit.{step, progress, patched, run_end, settings, parameter_store}
 pub use Rattle.ed_sources.proofs.Papers.{digits_printed, number_shown}
 pub use Rattle.ed_sources.proofs.Said.{a_number, said}
@@ -83,8 +85,8 @@ pub use Rattle.ed_top.specs.Output.{output}
 pub use Rattle.ed_laws.specs.TapeEntries.{tape_state}
 pub use Rattle.ed_laws.proofs.Kit.{replicate, true≢false, ◌&&◌, reading, paper_from, is_obeyed, stops_of}
 pub use Rattle.ed_laws.proofs.Kit.{RowsReachEntry, TapeEntry, WellFormed, NotationState, over, AreDigits, rows_of}
-pub use Rattle.ed_laws.proofs.Kit.{opening, LeadsIn, first_store, starts, ReachesEntry1, Tape, Outcome, IsAcceptedAs}
-pub use Rattle.ed_laws.proofs.Kit.{paper_room, ran_outcome, with_post_mortem, OfSource, tape_outcome}
+pub use Rattle.ed_laws.proofs.Kit.{opening, LeadsIn, first_store, IsStarted-first_state, ReachesEntry1, Tape, Outcome}
+pub use Rattle.ed_laws.proofs.Kit.{IsAcceptedAs, paper_room, ran_outcome, with_post_mortem, OfSource, tape_outcome}
 unfoldable pub use Rattle.ed_laws.proofs.Kit.{reading_on, first_state, first_state1}
 pub use Rattle.ed_programs.specs.Calendar.{calendar_orders, calendar_prints, day_orders, days_before, is_leap}
 pub use Rattle.ed_programs.specs.Calendar.{month_length, month_lengths, weekday, weekday_count}
@@ -136,7 +138,13 @@ before_order m counter v cells = record m { cells = cells; pairs = []; acc = sho
 -- a piece of n cells from a location on
 abbrev pub frame_from : (n base : ℕ) (z : Size) → base + n ≤ 512 → Frame n 0
 frame_from n base z few =
-    record { size = z; base = base; top = locations z; under = (let size = least z in omega arith); fits = omega arith }
+    record {
+      size = z;
+      base = base;
+      top = locations z;
+      under = (let size = locations_least z in omega arith);
+      fits = omega arith;
+    }
 
 -- a path, and where it stops, by another count of its orders
 pub Path-counted : {n a b : ℕ} {f : Frame n 0} {r t : Moment} {codes : List ℕ} → Path f a r codes t → a ≡ b
@@ -165,7 +173,7 @@ pair_after {r = r} {p} read_one pair =
     record {
       all = read_one.still_in.all;
       reads = read_one.has pair.reads (λ k l free. no_working k free);
-      prints = read_one.has pair.prints (λ k l free. elsewhere (p + k) (inr (omega arith)));
+      prints = read_one.has pair.prints (λ k l free. IsOther-beside (p + k) (inr (omega arith)));
       apart = pair.apart;
     }
 
@@ -197,7 +205,7 @@ three_read {w = w} read_one three =
     let beyond = three.beyond in
     record {
       both = pair_after read_one three.both;
-      lines = read_one.has three.lines (λ k l free. elsewhere (w + k) (inr (omega arith)));
+      lines = read_one.has three.lines (λ k l free. IsOther-beside (w + k) (inr (omega arith)));
       beyond = beyond;
     }
 

@@ -4,7 +4,7 @@ use Rattle.ed_programs.proofs.Kit.{before_order, frame_from, get_or-set_other, g
 use Rattle.ed_programs.proofs.Kit.{length-reverse, L_D, R_F, Z_F, Size, I, Z, L512F, AreCodes, set, reverse-append}
 use Rattle.ed_programs.proofs.Kit.{along, to_stop, LD, followed, [], append-nil, append_assoc, arith, get_or, length}
 use Rattle.ed_programs.proofs.Kit.{List, lit<, lit≤, Option, refl, reverse, Some, suc, sym, ℕ, ◌*◌, ◌++◌, ◌+◌, ◌%◌, ◌-◌}
-use Rattle.ed_programs.proofs.Kit.{◌<◌, ◌∙◌, ◌∷◌, ◌≡◌, ◌≤◌, least, Frame, Moment, state, on, Path, stay, own}
+use Rattle.ed_programs.proofs.Kit.{◌<◌, ◌∙◌, ◌∷◌, ◌≡◌, ◌≤◌, locations_least, Frame, Moment, state, on, Path, stay, own}
 use Rattle.ed_programs.proofs.Kit.{ReachesStop, printing, stop_counted, Path-counted, rules}
 use Rattle.ed_programs.proofs.Orders.{A, A_low, E_jumps, E_stays, G_jumps, G_stays, L, O_high, S, S_low, T, T_high, U}
 use Rattle.ed_programs.proofs.Orders.{obeys}
@@ -79,7 +79,7 @@ module _ (z : Size) (m : Moment) where
       → Path f 14 (before ws n v s r (c ∷ cs)) []
       (before (set ws (104 + n) (4096 * c)) (suc n) (counted (length cs)) v c cs)
   turn ws n v s r c cs all at2 code few small =
-      let size = least z in
+      let size = locations_least z in
       let after : List ℕ = set ws (104 + n) (4096 * c) in
       let long = length-set ws (104 + n) (4096 * c) ∙ all in
       let second = get_or-set_other ws (104 + n) 2 (4096 * c) 0 (omega arith) ∙ at2 in
@@ -134,14 +134,14 @@ module _ (z : Size) (m : Moment) where
         (shown 26 131070 (printing 104) y)
     printed [] order last stored some few = absurd (omega arith)
     printed (c ∷ []) order last stored some few =
-        let size = least z in let here = stored.0 in let code = stored.1 in let second = at2 in (
+        let size = locations_least z in let here = stored.0 in let code = stored.1 in let second = at2 in (
           Some c,
           obeys 18 (printing 105) (S_low 2 (printing 104) ∷ U 20 ∷ O_high 104 c ∷ S 32 131070 ∷ G_jumps 26 ∷ []) refl
               (omega arith),
         )
     printed (c ∷ d ∷ ds) order last stored some few =
         let next : ℕ = printing (104 + suc (length ds)) in
-        let size = least z in let here = stored.0 in let code = stored.1 in let second = at2 in
+        let size = locations_least z in let here = stored.0 in let code = stored.1 in let second = at2 in
         let rest = printed (d ∷ ds) next (Some c) stored.2 (omega arith) (omega arith) in (
           rest.0,
           Path-counted (followed (obeys 18 (printing (104 + suc (suc (length ds)))) (S_low 2 next ∷ U 20

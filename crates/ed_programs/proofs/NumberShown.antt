@@ -6,8 +6,8 @@ use Rattle.std.proofs.Common.{append-nil}
 use Rattle.ed_words.specs.declared.order_words.TheConstants.{A_F}
 use Rattle.ed_machine.proofs.Kit.Window.{get_own}
 use Rattle.ed_library.specs.Routines.{is_working}
-use Rattle.ed_routines.proofs.Journeys.{HasRoutine, IsIn, Journey, along, after_call, elsewhere, has_after, no_working}
-use Rattle.ed_routines.proofs.Journeys.{stays, still_in, then}
+use Rattle.ed_routines.proofs.Journeys.{HasRoutine, IsIn, Journey, along, after_call, IsOther-beside, has_after}
+use Rattle.ed_routines.proofs.Journeys.{no_working, get_or-after_call, still_in, then}
 use Rattle.ed_routines.proofs.Lines.{newline_left, newline_line, newline_returns, number_at, print_goes, print_left}
 use Rattle.ed_routines.proofs.Lines.{print_line}
 
@@ -57,7 +57,8 @@ module _ {n h : ℕ} {f : Frame n h} {r : Moment} (o : IsIn f r) where
       let prints_still : HasRoutine f printed.words print p (with_h (f.base + j)) =
       has_after o i left (Some (v % 10)) prints goes near prints (λ m l free. no_working m free) in
       let lines_still : HasRoutine f printed.words newline w [] =
-      has_after o i left (Some (v % 10)) prints goes near lines (λ m l free. elsewhere (w + m) (inr (omega arith))) in
+      has_after o i left
+      (Some (v % 10)) prints goes near lines (λ m l free. IsOther-beside (w + m) (inr (omega arith))) in
       let turned : List ℕ = newline_left in_second w (i + 2) in
       let lined : Moment = after_call in_second w (i + 2) turned (Some 24) in
       let returns = newline_returns in_second {w = w} (i + 2) in
@@ -69,11 +70,12 @@ module _ {n h : ℕ} {f : Frame n h} {r : Moment} (o : IsIn f r) where
             (newline_line in_second (i + 2) lines_still far refl third fourth));
         still_in = still_in in_second (i + 2) turned (Some 24) lines_still returns far;
         prints = has_after in_second (i + 2) turned (Some 24) lines_still returns far prints_still
-            (λ m l free. elsewhere (p + m) (inl (omega arith)));
+            (λ m l free. IsOther-beside (p + m) (inl (omega arith)));
         lines = has_after in_second (i + 2) turned (Some 24) lines_still returns far lines_still
             (λ m l free. no_working m free);
         has = λ there apart beside. has_after in_second (i + 2) turned (Some 24) lines_still returns far
             (has_after o i left (Some (v % 10)) prints goes near there apart) beside;
-        keeps = λ q out apart beside. stays in_second (i + 2) turned (Some 24) lines_still returns far q out beside
-            ∙ stays o i left (Some (v % 10)) prints goes near q out apart;
+        keeps = λ q out apart beside. get_or-after_call in_second (i + 2) turned
+            (Some 24) lines_still returns far q out beside
+            ∙ get_or-after_call o i left (Some (v % 10)) prints goes near q out apart;
       }

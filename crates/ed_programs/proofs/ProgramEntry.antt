@@ -2,8 +2,8 @@
 use Rattle.std.specs.List.{range_with_len}
 use Rattle.std.proofs.lemmas.List.FromFn.{get_or-map-range_with_len, length-map-range_with_len}
 use Rattle.ed_sources.proofs.Kit.{ap, map, arith, get_or, inr, length, List, refl, rules, sym, true, unwrap_or, ℕ, ◌+◌}
-use Rattle.ed_sources.proofs.Kit.{◌<◌, ◌∙◌, ◌≡◌, ◌≤◌, least, State, state, patched, placed_at, place_count, entry_of}
-use Rattle.ed_sources.proofs.Kit.{HasRoutine, ReachesStop, entry_state}
+use Rattle.ed_sources.proofs.Kit.{◌<◌, ◌∙◌, ◌≡◌, ◌≤◌, locations_least, State, state, patched, placed_at, place_count}
+use Rattle.ed_sources.proofs.Kit.{entry_of, HasRoutine, ReachesStop, entry_state}
 use Rattle.ed_words.specs.declared.size.Size.{Size}
 use Rattle.ed_machine.proofs.Kit.Window.{patched_self}
 use Rattle.ed_syntax.specs.declared.program.Line.{Line}
@@ -23,7 +23,7 @@ module _ (z : Size) (lines : List Line) (fit : have_places (placed lines) ≡ tr
       → has_image (placed lines) r base parameters ≡ true → 56 + n ≤ base → base < 512 → base + place_count r ≤ 512
       → HasRoutine (frame_at n z few) s.store.words r base parameters
   routine_after {n} few r base parameters test apart reached high =
-      let size = least z in
+      let size = locations_least z in
       routine_at z lines fit (frame_at n z few) r base parameters test (omega arith) high refl (omega arith) (inr apart)
 
 -- the n words from 56 on are the cells, as far as those words are known

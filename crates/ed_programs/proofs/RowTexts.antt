@@ -1,8 +1,8 @@
 -- Texts whose bytes spell rows of tape.
-use Rattle.ed_programs.proofs.Kit.{few_bytes, arith, none, Spells, are, decimal_is, row_bytes, rows_are, written, []}
-use Rattle.ed_programs.proofs.Kit.{ap, Bool, decimal, length, List, map, nat_lt, None, Option, refl, Some, subst, suc}
-use Rattle.ed_programs.proofs.Kit.{true, ℕ, ◌%◌, ◌<◌, ◌∙◌, ◌∷◌, ◌≡◌, ◌≤◌, list_all, and_parts, lt-ltb, Text, row_of}
-use Rattle.ed_programs.proofs.Kit.{row, spells, digits, ◌&&◌, common_steps}
+use Rattle.ed_programs.proofs.Kit.{few_bytes, arith, none, Spells, are_digits-digits, decimal_is, row_bytes, rows_are}
+use Rattle.ed_programs.proofs.Kit.{written, [], ap, Bool, decimal, length, List, map, nat_lt, None, Option, refl, Some}
+use Rattle.ed_programs.proofs.Kit.{subst, suc, true, ℕ, ◌%◌, ◌<◌, ◌∙◌, ◌∷◌, ◌≡◌, ◌≤◌, list_all, and_parts, lt-ltb, Text}
+use Rattle.ed_programs.proofs.Kit.{row_of, row, spells, digits, ◌&&◌, common_steps}
 use Rattle.ed_codes.specs.Text.{row as one_row}
 use Rattle.ed_syntax.specs.Forms.{AreRowsOf}
 
@@ -53,8 +53,8 @@ pub number_spells : (n : ℕ) → n ≤ 65535 → Spells (decimal n) (digits n)
 number_spells n small =
     let below : suc n ≤ 65536 = omega (arith, small) in
     subst (λ (t : Text). Spells t (digits n)) (decimal_is n below)
-    (subst (Spells (written (digits n))) (rows_are (digits n) (are n below))
-    (text_spells (written (digits n)) (row_bytes (digits n) (are n below))))
+    (subst (Spells (written (digits n))) (rows_are (digits n) (are_digits-digits n below))
+    (text_spells (written (digits n)) (row_bytes (digits n) (are_digits-digits n below))))
 
 -- and has at most five bytes
 pub few_figures : (n : ℕ) → n ≤ 65535 → length (decimal n) ≤ 5

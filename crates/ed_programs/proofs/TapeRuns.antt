@@ -4,8 +4,9 @@ use Rattle.ed_programs.proofs.Kit.{ReachesEntry, comes_in, Err, Result, rows, Sp
 use Rattle.ed_programs.proofs.Kit.{[], ap, arith, codes, inl, length, List, None, Ok, refl, subst, sym, ℕ, ◌++◌, ◌+◌}
 use Rattle.ed_programs.proofs.Kit.{◌-◌, ◌∙◌, ◌∷◌, ◌≡◌, ◌≤◌, Text, paper, step, State, run_end, ReachesStop, at_after}
 use Rattle.ed_programs.proofs.Kit.{ran_outcome-answered, nothing_after, ran_to_stop, tape_state, reading, TapeEntry}
-use Rattle.ed_programs.proofs.Kit.{opening, reading_on, first_state, LeadsIn, first_store, starts, Outcome, paper_room}
-use Rattle.ed_programs.proofs.Kit.{ran_outcome, with_post_mortem, tape_outcome, GivesProgram, TapeRuns, Refusal}
+use Rattle.ed_programs.proofs.Kit.{opening, reading_on, first_state, LeadsIn, first_store, IsStarted-first_state}
+use Rattle.ed_programs.proofs.Kit.{Outcome, paper_room, ran_outcome, with_post_mortem, tape_outcome, GivesProgram}
+use Rattle.ed_programs.proofs.Kit.{TapeRuns, Refusal}
 use Rattle.ed_laws.proofs.Kit.{cleared_cells, RunEnd, ran_later, Arrived, first_directive, reading_is_rules, run_of}
 use Rattle.ed_laws.proofs.Kit.{opening_notation}
 use Rattle.ed_codes.specs.Reading.{IsReadingOf, no_row, open_comment}
@@ -46,7 +47,7 @@ module _ {z : Size} {tape_rows : List ℕ} {e : TapeEntry} (o : Arrives z tape_r
       record { well = rules.well e o.started; comes = rules.comes e o.started }
 
   leads_on : LeadsIn first e
-  leads_on = comes_in first e (first_store z tape_rows) (starts z tape_rows) comes_on
+  leads_on = comes_in first e (first_store z tape_rows) (IsStarted-first_state z tape_rows) comes_on
 
 -- a text that spells these rows, which reach this entry, and whose program reaches its stop from there
 pub tape_runs : (s : Settings) (tape : Text) (tape_rows : List ℕ) (e : TapeEntry) {k orders at : ℕ} {printed : List ℕ}

@@ -1,12 +1,13 @@
 -- Lines of a source with data: one with a text of rows, and one that has a number between other parts.
-use Rattle.ed_programs.proofs.Kit.{Statement, is_place_name, array, has_quote, quote_parts, among, are, decimal_is}
-use Rattle.ed_programs.proofs.Kit.{digit_bytes, few_bytes, line_bytes, run_bytes, some_digit, value_is, written, [], ap}
-use Rattle.ed_programs.proofs.Kit.{arith, Bool, codes, decimal, false, length, length-append, List, nat_le, nat_lt, Ok}
-use Rattle.ed_programs.proofs.Kit.{Option, refl, rules, Some, subst, sym, true, ℕ, ◌++◌, ◌+◌, ◌<◌, ◌==◌, ◌∙◌, ◌∷◌, ◌≡◌}
-use Rattle.ed_programs.proofs.Kit.{◌≤◌, list_all, and_from, and_parts, le-leb, leb-true, ltb-true, ne_eqb, not-true}
-use Rattle.ed_programs.proofs.Kit.{nat_tests, length-map, list_all-append, value, Text, row_of, is_run_byte}
-use Rattle.ed_programs.proofs.Kit.{is_line_byte, is_number, LinePart, run, form_at, row, spells, parts_of, line_of}
-use Rattle.ed_programs.proofs.Kit.{run_parts, digits, a_number, true≢false, ◌&&◌, Marked, common_steps}
+use Rattle.ed_programs.proofs.Kit.{Statement, is_place_name, array, has_quote, quote_parts, list_all-numbers}
+use Rattle.ed_programs.proofs.Kit.{are_digits-digits, decimal_is, digit_bytes, few_bytes, line_bytes, run_bytes}
+use Rattle.ed_programs.proofs.Kit.{some_digit, value_is, written, [], ap, arith, Bool, codes, decimal, false, length}
+use Rattle.ed_programs.proofs.Kit.{length-append, List, nat_le, nat_lt, Ok, Option, refl, rules, Some, subst, sym, true}
+use Rattle.ed_programs.proofs.Kit.{ℕ, ◌++◌, ◌+◌, ◌<◌, ◌==◌, ◌∙◌, ◌∷◌, ◌≡◌, ◌≤◌, list_all, and_from, and_parts, le-leb}
+use Rattle.ed_programs.proofs.Kit.{leb-true, ltb-true, ne_eqb, not-true, nat_tests, length-map, list_all-append, value}
+use Rattle.ed_programs.proofs.Kit.{Text, row_of, is_run_byte, is_line_byte, is_number, LinePart, run, form_at, row}
+use Rattle.ed_programs.proofs.Kit.{spells, parts_of, line_of, run_parts, digits, a_number, true≢false, ◌&&◌, Marked}
+use Rattle.ed_programs.proofs.Kit.{common_steps}
 use Rattle.ed_syntax.specs.Parts.{begins_run}
 use Rattle.ed_programs.proofs.NumberLines.{is_short_label}
 use Rattle.ed_programs.proofs.RowTexts.{is_row_byte, text_rows}
@@ -22,7 +23,7 @@ record Spelling (b : ℕ) : Type 0 where
   code : nat_lt (row (row_of b)) 32 ≡ true
 
 spelling : (b : ℕ) → is_row_byte b ≡ true → Spelling b
-spelling b h = search (rules, ltb-true, and_parts, among, not-true)
+spelling b h = search (rules, ltb-true, and_parts, list_all-numbers, not-true)
 
 -- what such bytes are
 pub record Plain (q : Text) : Type 0 where
@@ -103,8 +104,9 @@ module _ {two : Bool} {k : ℕ} {front tail : Text} {before after : List LinePar
         statement = Some statement;
       }))
       (decimal_is n small)
-      (with_bytes (written ds) some (line_bytes ds (are n small)) (few_bytes n small) (run_bytes ds (are n small))
-      (a_number (written ds) some (digit_bytes ds (are n small))) (value_is n small))
+      (with_bytes (written ds) some (line_bytes ds (are_digits-digits n small)) (few_bytes n small)
+      (run_bytes ds (are_digits-digits n small))
+      (a_number (written ds) some (digit_bytes ds (are_digits-digits n small))) (value_is n small))
 
   -- such a line as a mark
   abbrev pub number_mark : n < 65536 → Marked two

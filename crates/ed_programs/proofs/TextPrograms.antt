@@ -4,9 +4,9 @@ use Rattle.ed_programs.proofs.Kit.{Size, Line, array, Definition, are_below, Ext
 use Rattle.ed_programs.proofs.Kit.{table_item, place_on, even_from, extent, fault_from, have_places, frame_at, [], ap}
 use Rattle.ed_programs.proofs.Kit.{append-nil, arith, codes, get_or, inl, inr, length, List, map, nat_lt, None, refl}
 use Rattle.ed_programs.proofs.Kit.{reverse, rules, Some, suc, sym, true, unwrap_or, ℕ, ◌*◌, ◌++◌, ◌+◌, ◌<◌, ◌∙◌, ◌∷◌}
-use Rattle.ed_programs.proofs.Kit.{◌≡◌, ◌≤◌, list_all, and_parts, ltb-true, length-map, list_all-append, Text, least}
-use Rattle.ed_programs.proofs.Kit.{placed_at, image_word, parameter_store, linked_words, counter, newline, HasRoutine}
-use Rattle.ed_programs.proofs.Kit.{entry_state, said}
+use Rattle.ed_programs.proofs.Kit.{◌≡◌, ◌≤◌, list_all, and_parts, ltb-true, length-map, list_all-append, Text}
+use Rattle.ed_programs.proofs.Kit.{locations_least, placed_at, image_word, parameter_store, linked_words, counter}
+use Rattle.ed_programs.proofs.Kit.{newline, HasRoutine, entry_state, said}
 use Rattle.std.proofs.lemmas.List.{get_or-map}
 use Rattle.ed_link.specs.Linked.{placed_words}
 use Rattle.ed_link.proofs.Extents.{none_later, one_more}
@@ -30,7 +30,7 @@ pub text_sound : (z : Size) (symbols : List Definition) (extents : ExtentList) (
     (rows : List ℕ) → 56 ≤ p → p + length rows ≤ 500 → are_below p extents ≡ true → place_on symbols None main ≡ Some 56
     → fault_from z symbols true (past extents) (counter p b g) (last_lines k label rows name main) ≡ None
 text_sound z symbols extents p b g k label name main rows low high first place =
-    let size = least z in
+    let size = locations_least z in
     let n : ℕ = length rows in
     let w : ℕ = even_from (p + n) in
     let second = one_more p p (p + n) extents (omega arith) first in
@@ -128,8 +128,8 @@ module _ (z : Size) (lines : List Line) (p : ℕ) (rows : List ℕ) (low : 56 �
   pub newline_after : {n : ℕ} (few : n ≤ 456) → 56 + n ≤ p → HasRoutine (frame_at n z few) ws newline w []
   newline_after few under = record {
     low = omega arith;
-    fits = let size = least z in omega arith;
-    reached = let size = least z in omega arith;
+    fits = let size = locations_least z in omega arith;
+    reached = let size = locations_least z in omega arith;
     apart = inr (omega arith);
     at2 = refl;
     at3 = refl;

@@ -6,9 +6,9 @@ use Rattle.ed_programs.proofs.Kit.{IsStore, ReachesStop, ran_to_stop, first_stat
 use Rattle.ed_programs.proofs.Kit.{OfReading, directive, IsReturned, is_obeyed, TapeEntry, paper_room, Settings}
 use Rattle.ed_programs.proofs.Kit.{at_entry, comes_in, exactly, arith, cases_lt, progress, at_after, stops_of, prints}
 use Rattle.ed_programs.proofs.Kit.{length, lt-ltb, Moment, run_end, reading, LeadsIn, Outcome, rows, codes, rules}
-use Rattle.ed_programs.proofs.Kit.{subst, paper, State, Frame, state, joined, Leads, starts, inl, inr, List, refl, Some}
-use Rattle.ed_programs.proofs.Kit.{suc, sym, true, zero, ◌++◌, Text, step, Path, stay, [], ap, ℕ, ◌+◌, ◌-◌, ◌<◌, ◌∙◌}
-use Rattle.ed_programs.proofs.Kit.{◌∷◌, ◌≡◌, ◌≢◌, ◌≤◌, on, common_steps}
+use Rattle.ed_programs.proofs.Kit.{subst, paper, State, Frame, state, Leads-append, Leads, IsStarted-first_state, inl}
+use Rattle.ed_programs.proofs.Kit.{inr, List, refl, Some, suc, sym, true, zero, ◌++◌, Text, step, Path, stay, [], ap, ℕ}
+use Rattle.ed_programs.proofs.Kit.{◌+◌, ◌-◌, ◌<◌, ◌∙◌, ◌∷◌, ◌≡◌, ◌≢◌, ◌≤◌, on, common_steps}
 use Rattle.ed_interlude.proofs.Kit.{next_state, address, Concludes, entry_done, entry_report, finished, Finishes}
 use Rattle.ed_interlude.proofs.Kit.{first_part, GoesBack, LeadsTo, part_after, part_entry_state, part_report}
 use Rattle.ed_interlude.proofs.Kit.{PartsReport, ReturnsToLoader, RunsOn, TapePart}
@@ -16,7 +16,7 @@ use Rattle.ed_laws.proofs.Kit.{Obeyed, counted_after, next_stops, IsInParts}
 use Rattle.ed_machine.specs.declared.ending.Ending.TheVariants.{Stopped}
 use Rattle.ed_machine.specs.declared.turn.Turn.{Turn}
 use Rattle.ed_machine.specs.declared.turn.Turn.TheVariants.{Stopped as Stops}
-use Rattle.ed_machine.proofs.Kit.Leads.{free, goes_on, no_stops, obeyed_of}
+use Rattle.ed_machine.proofs.Kit.Leads.{AreObeyed-leads, goes_on, no_stops, obeyed_of}
 use Rattle.ed_machine.proofs.Kit.Orders.{Does}
 use Rattle.ed_machine.proofs.Kit.Paths.{no_state}
 use Rattle.ed_orders.specs.declared.kind.Kind.{Kind}
@@ -47,11 +47,11 @@ away_on {f = f} {r = r} first above done rest (suc j) l =
     (sym (paths.first_state j (state f r done) ∙ ap (λ (o : Obeyed). state_after j o.state) (first.does done)))
     (rest j (omega arith))
 
-pub away : {n h : ℕ} {f : Frame n h} {k : ℕ} {r t : Moment} {cs : List ℕ} (p : Path f k r cs t) → StaysAbove p
+pub IsAway-path : {n h : ℕ} {f : Frame n h} {k : ℕ} {r t : Moment} {cs : List ℕ} (p : Path f k r cs t) → StaysAbove p
     → (done : ℕ) → IsAway k (state f r done)
-away stay above done = λ j l. absurd (omega arith)
-away (on first rest) above done = away_on first above.0 done (away rest above.1 (done + 1))
-away (prints first rest) above done = away_on first above.0 done (away rest above.1 (done + 1))
+IsAway-path stay above done = λ j l. absurd (omega arith)
+IsAway-path (on first rest) above done = away_on first above.0 done (IsAway-path rest above.1 (done + 1))
+IsAway-path (prints first rest) above done = away_on first above.0 done (IsAway-path rest above.1 (done + 1))
 
 -- and before the order at which it stops
 pub away_to_stop : {k : ℕ} {s t : State} {cs : List ℕ} → Leads k s cs t → IsAway k s → t.counter ≢ 25 → IsAway (k + 1) s
@@ -141,7 +141,7 @@ module _ {z : Size} {tape_rows : List ℕ} {at : ℕ} {printed : List ℕ} (c : 
   fresh = (refl, refl)
 
   first : LeadsIn start c.interlude
-  first = comes_in start c.interlude (first_store z tape_rows) (starts z tape_rows) c.reads
+  first = comes_in start c.interlude (first_store z tape_rows) (IsStarted-first_state z tape_rows) c.reads
 
   second : LeadsIn c.back c.program
   second = leads_back c.back c.program c.is_store c.returned c.reads_on
@@ -149,7 +149,7 @@ module _ {z : Size} {tape_rows : List ℕ} {at : ℕ} {printed : List ℕ} (c : 
   count : c.back.orders ≡ orders_to_return t
   count =
       let there = ap (λ (x : State). x.orders) (sym c.leads.state_is) in
-      let counted = counted_after c.orders (at_entry start c.interlude) (free c.leads) in
+      let counted = counted_after c.orders (at_entry start c.interlude) (AreObeyed-leads c.leads) in
       let none = fresh.1 in
       omega (arith, there, counted, none)
 
@@ -230,7 +230,7 @@ module _ {z : Size} {tape_rows : List ℕ} {at : ℕ} {printed : List ℕ} (c : 
   to_stop : ReachesStop (orders_to_program t + c.orders_on) start printed at
   to_stop =
       let none = fresh.1 in
-      stop_after (joined (joined (loads first) c.leads) (loads second)) (omega (arith, count, none)) c.stops
+      stop_after (Leads-append (Leads-append (loads first) c.leads) (loads second)) (omega (arith, count, none)) c.stops
 
 -- a text that spells the rows of such a tape
 pub two_parts_run : (s : Settings) (tape : Text) (tape_rows : List ℕ) {at : ℕ} {printed : List ℕ}

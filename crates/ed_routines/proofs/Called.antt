@@ -5,7 +5,7 @@ use Rattle.ed_routines.proofs.Kit.{◌+◌, ◌<◌, ◌∷◌, ◌≡◌, ◌�
 use Rattle.ed_routines.proofs.Kit.{IsOther, caller, HasWord, IsLoadedAt, IsOutside}
 use Rattle.std.proofs.Common.{true≢false}
 use Rattle.ed_machine.proofs.Kit.Frames.{Beside}
-use Rattle.ed_machine.proofs.Kit.Standing.{IsWorking, filled, merged, opens, unchanged}
+use Rattle.ed_machine.proofs.Kit.Standing.{IsWorking, filled, merged, patched-filled, get_or-patched}
 use Rattle.ed_library.specs.Entries.{entry}
 use Rattle.ed_library.specs.Routines.{missing_row}
 use Rattle.ed_routines.proofs.Image.{Makes, none, more, all_plain, holds_rows, image_from, length_image, working_at}
@@ -35,14 +35,15 @@ pub record IsCalled (r : ℕ) (parameters : List ℕ) (b h top : ℕ) (s : State
   pub within : IsWithin (place_count r) b h top s
 
 -- that is so if nothing is required but that the store reaches so far
-pub called : {r b h : ℕ} {parameters : List ℕ} {s : State} → length s.store.words ≡ 1024 → IsLoadedAt r parameters b s
+pub IsCalled-loaded : {r b h : ℕ} {parameters : List ℕ} {s : State} → length s.store.words ≡ 1024
+    → IsLoadedAt r parameters b s
     → IsOutside r b h s → IsCalled r parameters b h (locations s.size) s
-called all stands outside = search rules
+IsCalled-loaded all stands outside = search rules
 
 -- a location outside a routine is outside its cells in the words of a store
-pub beside : {r b h : ℕ} {s : State} (words : List ℕ) → length words ≡ 1024 → IsOutside r b h s
+pub Beside-outside : {r b h : ℕ} {s : State} (words : List ℕ) → length words ≡ 1024 → IsOutside r b h s
     → Beside words b (place_count r) h
-beside {s = s} words all out = search rules
+Beside-outside {s = s} words all out = search rules
 
 -- words that are a routine's at a base, except at its working locations, contain its image
 pub holds_words : (r : ℕ) {parameters hs : List ℕ} {b : ℕ} {s : State} → b ≤ 1024 → Makes parameters hs
@@ -53,9 +54,9 @@ holds_words r {s = s} low makes plain words =
     (λ i l. (words i l).has)
 
 -- a routine at a base has its image in the store
-pub holds : {r b : ℕ} {parameters hs : List ℕ} {s : State} → IsLoadedAt r parameters b s → Makes parameters hs
+pub Holds-loaded : {r b : ℕ} {parameters hs : List ℕ} {s : State} → IsLoadedAt r parameters b s → Makes parameters hs
     → all_plain (length hs) (entry r).items ≡ true → Holds (image r b hs) s.store.words b
-holds {r} {s = s} o makes plain = search (rules, locations_most, holds_words)
+Holds-loaded {r} {s = s} o makes plain = search (rules, locations_most, holds_words)
 
 -- and so has one with the location h as its one parameter
 pub holds_h : {r b h : ℕ} {s : State} → IsLoadedAt r (with_h h) b s → IsOutside r b h s
@@ -64,7 +65,7 @@ holds_h {h = h} {s} o out plain =
     let size = locations_most s.size in
     let below = out.below in
     let here : Makes (with_h h) (h ∷ []) = more (omega arith) refl none in
-    holds o here plain
+    Holds-loaded o here plain
 
 -- a call of a routine of n cells: its base, the location from which it is called, and what is around it
 pub record Call (n pairs : ℕ) : Type 0 where
@@ -109,7 +110,7 @@ pub state-begins : {r n b h top : ℕ} {parameters : List ℕ} {s : State} (hs :
     → state (call_of {pairs = 0} o.low within).frame (moment (call_of {pairs = 0} o.low within) s.store.words
     (filled (image r b hs) s.store.words b 0) (A_F + 2 * caller s) 0) s.orders ≡ s
 state-begins {r} {b = b} {s = s} hs o within all holds =
-    search (rules, holds, locations_most, length_image, opens)
+    search (rules, holds, locations_most, length_image, patched-filled)
 
 -- a location that is not a working one is not one of the image's working ones
 not_working : {r b i : ℕ} (hs : List ℕ) → IsOther r b i → IsWorking (image r b hs) b i → ⊥
@@ -119,4 +120,4 @@ not_working {r} {b} {i} hs o w = grind (arith, common_steps, length_image, true�
 pub get_or-kept : {r b i : ℕ} (hs : List ℕ) → IsOther r b i → (ws cells : List ℕ) → length cells ≡ length (image r b hs)
     → merged (image r b hs) cells ≡ cells → Holds (image r b hs) ws b
     → get_or (patched 0 ws b cells) i 0 ≡ get_or ws i 0
-get_or-kept {r} {b} {i} hs o ws cells long new old = search (rules, unchanged, not_working)
+get_or-kept {r} {b} {i} hs o ws cells long new old = search (rules, get_or-patched, not_working)

@@ -1,13 +1,13 @@
 -- A journey: lines of a path, and calls of routines as lines among them, one after the other.
 use Rattle.ed_routines.proofs.Kit.{A_F, all_words, Frame, Moment, short, state, Leads, A, G_jumps, Jumps, Reads, Does}
-use Rattle.ed_routines.proofs.Kit.{leads, on, Path, stay, any, own, length_patched, patched, [], ap, arith, false}
+use Rattle.ed_routines.proofs.Kit.{Leads-path, on, Path, stay, any, own, length_patched, patched, [], ap, arith, false}
 use Rattle.ed_routines.proofs.Kit.{get_or, inl, length, List, Option, rules, sym, ℕ, ◌*◌, ◌++◌, ◌+◌}
 use Rattle.ed_routines.proofs.Kit.{◌<◌, ◌∙◌, ◌≡◌, ◌≤◌, ◌⊎◌, locations, locations_most, step, State, place_count}
 use Rattle.ed_routines.proofs.Kit.{IsOther, caller, IsLoadedAt}
 use Rattle.ed_orders.specs.declared.kind.Kind.TheVariants.{Z as KindZ}
 use Rattle.ed_machine.specs.declared.turn.Turn.TheVariants.{Stopped}
 use Rattle.ed_machine.proofs.Kit.Frames.{get_beside}
-use Rattle.ed_machine.proofs.Kit.Leads.{joined}
+use Rattle.ed_machine.proofs.Kit.Leads.{Leads-append}
 use Rattle.ed_machine.proofs.Kit.Window.{patched_self, get_own}
 use Rattle.ed_library.specs.Images.{image_word}
 use Rattle.ed_library.specs.Routines.{is_working}
@@ -27,14 +27,14 @@ pub record Journey {n h : ℕ} (f : Frame n h) (k : ℕ) (r : Moment) (codes : L
 module _ {n h : ℕ} {f : Frame n h} where
   -- a path is a journey, and two journeys make one
   pub along : {k : ℕ} {r t : Moment} {codes : List ℕ} → Path f k r codes t → Journey f k r codes t
-  along path = record { leads = leads path }
+  along path = record { leads = Leads-path path }
 
   pub then : {a b : ℕ} {r m t : Moment} {cs ds : List ℕ} → Journey f a r cs m → Journey f b m ds t
       → Journey f (a + b) r (cs ++ ds) t
   then {a} {b} {r} {m} {t} {cs} {ds} first second = record {
     leads = λ done.
         let e : done + a + b ≡ done + (a + b) = omega arith in
-        rw e at (joined (first.leads done) (second.leads (done + a)));
+        rw e at (Leads-append (first.leads done) (second.leads (done + a)));
   }
 
   -- a journey that ends at an order Z
@@ -48,7 +48,7 @@ pub stop_after : {a b at : ℕ} {s t : State} {cs ds : List ℕ} → Leads a s c
     → ReachesStop b t ds at → ReachesStop (a + b) s (cs ++ ds) at
 stop_after first count o = record {
   last = o.last;
-  leads = joined first o.leads;
+  leads = Leads-append first o.leads;
   stops = o.stops;
   counter = o.counter;
   orders = let e = o.orders in omega (arith, e, count);
@@ -102,9 +102,10 @@ module _ {n h : ℕ} {f : Frame n h} {r : Moment} (o : IsIn f r) where
   caller_is i w done = omega arith
 
   -- the routine is there, called
-  pub stands : {r0 w : ℕ} {parameters : List ℕ} (i done : ℕ) → i + 3 ≤ n → HasRoutine f r.words r0 w parameters
+  pub IsLoadedAt-called : {r0 w : ℕ} {parameters : List ℕ} (i done : ℕ) → i + 3 ≤ n
+      → HasRoutine f r.words r0 w parameters
       → IsLoadedAt r0 parameters w (state f (called i w) done)
-  stands {r0} {w} {parameters} i done room has = search (rules, caller_is, beside_word)
+  IsLoadedAt-called {r0} {w} {parameters} i done room has = search (rules, caller_is, beside_word)
 
   -- the moment after the call
   abbrev pub after_call : ℕ → ℕ → List ℕ → Option ℕ → Moment
@@ -124,7 +125,7 @@ module _ {n h : ℕ} {f : Frame n h} {r : Moment} (o : IsIn f r) where
     own_other j l = search rules
 
     gone : Returns r0 w (state f (called i w) 0) k codes ds l
-    gone = returns 0 (stands i 0 room has)
+    gone = returns 0 (IsLoadedAt-called i 0 room has)
 
     pub still_in : IsIn f (after_call w i ds l)
     still_in = record { above = o.above; all = gone.long; own = o.own }
@@ -138,16 +139,16 @@ module _ {n h : ℕ} {f : Frame n h} {r : Moment} (o : IsIn f r) where
         ∙ get_own 0 r.words f.base r.cells j (omega arith)))
 
     -- the words outside the piece and the routine's working locations are unchanged
-    pub stays : (q : ℕ) → (q < f.base) ⊎ (f.base + n ≤ q) → IsOther r0 w q
+    pub get_or-after_call : (q : ℕ) → (q < f.base) ⊎ (f.base + n ≤ q) → IsOther r0 w q
         → get_or (after_call w i ds l).words q 0 ≡ get_or r.words q 0
-    stays q beside other = gone.keeps q other ∙ beside_word q beside
+    get_or-after_call q beside other = gone.keeps q other ∙ beside_word q beside
 
     -- the two orders of the call, and the routine
-    pub calls : r.acc ≡ 0 → Reads {f = f} {r = r} i 28 (own i)
+    pub Journey-called : r.acc ≡ 0 → Reads {f = f} {r = r} i 28 (own i)
         → Jumps {f = f} {r = record r { acc = short (A_F + 2 * (f.base + i)); counter = f.base + (i + 1) }}
         (i + 1) 27 (any w has.reached)
         → Journey f (2 + k) r codes (after_call w i ds l)
-    calls clear first second = record {
+    Journey-called clear first second = record {
       leads = λ done.
           let size = locations_most f.size in let under = f.under in let fits = f.fits in
           let word : get_or r.cells i 0 ≡ A_F + 2 * (f.base + i) = ap (λ x. x.1.0) first in
@@ -155,11 +156,11 @@ module _ {n h : ℕ} {f : Frame n h} {r : Moment} (o : IsIn f r) where
           on (A i (own i) (short (A_F + 2 * (f.base + i))) first (omega arith))
           (on (G_jumps (i + 1) (any w has.reached) second (omega arith)) stay) in
           let back : Returns r0 w (state f (called i w) (done + 2)) k codes ds l
-          = returns (done + 2) (stands i (done + 2) room has) in
+          = returns (done + 2) (IsLoadedAt-called i (done + 2) room has) in
           let n : done + 2 + k ≡ done + (2 + k) = omega arith in
           let c : caller (state f (called i w) (done + 2)) + 2 ≡ f.base + (i + 2) =
           omega (arith, caller_is i w (done + 2)) in
-          rw (← same_words, c, n) at (joined (leads two done) back.leads);
+          rw (← same_words, c, n) at (Leads-append (Leads-path two done) back.leads);
     }
 
     -- a routine that was in the store before the call is still there after it, if the call's routine works in none of
@@ -173,10 +174,11 @@ module _ {n h : ℕ} {f : Frame n h} {r : Moment} (o : IsIn f r) where
       reached = there.reached;
       apart = there.apart;
       at2 = let b = o.above in let low = has.low in
-          stays 2 (inl (omega arith)) (record { other = inl (omega arith) }) ∙ there.at2;
+          get_or-after_call 2 (inl (omega arith)) (record { other = inl (omega arith) }) ∙ there.at2;
       at3 = let b = o.above in let low = has.low in
-          stays 3 (inl (omega arith)) (record { other = inl (omega arith) }) ∙ there.at3;
-      image = λ j m free. stays (w1 + j) (grind (arith, there.apart)) (other j m free) ∙ there.image j m free;
+          get_or-after_call 3 (inl (omega arith)) (record { other = inl (omega arith) }) ∙ there.at3;
+      image = λ j m free. get_or-after_call (w1 + j) (grind (arith, there.apart)) (other j m free)
+          ∙ there.image j m free;
     }
 
 -- an offset in a routine that is not a working one
@@ -184,5 +186,5 @@ pub no_working : {r w : ℕ} (j : ℕ) → is_working r j ≡ false → IsOther 
 no_working {r} {w} j free = search rules
 
 -- a location of another routine
-pub elsewhere : {r w : ℕ} (q : ℕ) → (q < w) ⊎ (w + place_count r ≤ q) → IsOther r w q
-elsewhere q given = grind arith
+pub IsOther-beside : {r w : ℕ} (q : ℕ) → (q < w) ⊎ (w + place_count r ≤ q) → IsOther r w q
+IsOther-beside q given = grind arith

@@ -2,8 +2,8 @@
 use Rattle.ed_routines.proofs.Kit.{A_F, E_F, L_D, S_F, T_F, U_F, Moment, short, A, E_jumps, G_jumps, L, S, T, U, on}
 use Rattle.ed_routines.proofs.Kit.{prints, stay, any, early, out, own, LD, begun, flag_of, spared, [], ap, arith, Bool}
 use Rattle.ed_routines.proofs.Kit.{false, get_or, length, List, lit<, nat_lt, Option, refl, Some, suc, true, zero, ℕ}
-use Rattle.ed_routines.proofs.Kit.{◌%◌, ◌*◌, ◌++◌, ◌+◌, ◌-◌, ◌/◌, ◌<◌, ◌^◌, ◌∷◌, ◌≡◌, ◌≤◌, locations_most, lit≤, le-ltb, lt-ltb}
-use Rattle.ed_routines.proofs.Kit.{rules, sum, without_zeros}
+use Rattle.ed_routines.proofs.Kit.{◌%◌, ◌*◌, ◌++◌, ◌+◌, ◌-◌, ◌/◌, ◌<◌, ◌^◌, ◌∷◌, ◌≡◌, ◌≤◌, locations_most, lit≤, le-ltb}
+use Rattle.ed_routines.proofs.Kit.{lt-ltb, rules, sum, without_zeros}
 use Rattle.ed_words.specs.declared.order_words.TheConstants.{G_F, O_F, V_F}
 use Rattle.ed_machine.proofs.Kit.Moves.{O, G_stays}
 use Rattle.ed_machine.proofs.Kit.Orders.{there_is}

@@ -1,10 +1,10 @@
 -- `print`, from the library's table to what it does.
-use Rattle.ed_routines.proofs.Kit.{A_F, E_F, S_F, short_at, Kind, Frame, Moment, state, Leads, IsOrder, leads, Path}
-use Rattle.ed_routines.proofs.Kit.{Holds, length_patched, patched, begun, flag_of, spared, [], get_or, length, refl}
-use Rattle.ed_routines.proofs.Kit.{rules, Some, ℕ, ◌%◌, ◌*◌, ◌+◌, ◌/◌, ◌<◌, ◌∙◌, ◌∷◌, ◌≡◌, locations_most, State}
+use Rattle.ed_routines.proofs.Kit.{A_F, E_F, S_F, short_at, Kind, Frame, Moment, state, Leads, IsOrder, Leads-path}
+use Rattle.ed_routines.proofs.Kit.{Path, Holds, length_patched, patched, begun, flag_of, spared, [], get_or, length}
+use Rattle.ed_routines.proofs.Kit.{refl, rules, Some, ℕ, ◌%◌, ◌*◌, ◌+◌, ◌/◌, ◌<◌, ◌∙◌, ◌∷◌, ◌≡◌, locations_most, State}
 use Rattle.ed_routines.proofs.Kit.{state_after, print, with_h, digits, print_orders, Keeps, Returned, caller}
-use Rattle.ed_machine.proofs.Kit.Paths.{each}
-use Rattle.ed_routines.proofs.Called.{IsCalled, image, holds_h, get_or-kept, beside, call_of, state-begins}
+use Rattle.ed_machine.proofs.Kit.Paths.{state_after-each}
+use Rattle.ed_routines.proofs.Called.{IsCalled, image, holds_h, get_or-kept, Beside-outside, call_of, state-begins}
 use Rattle.ed_routines.proofs.Digits.{tens}
 use Rattle.ed_routines.proofs.Print.{Given, Work, cells, print_weight, run, Walk-whole, before_tens}
 use Rattle.ed_routines.proofs.Print.{spelled_is, shows_is, sum_is}
@@ -23,7 +23,7 @@ module _ {b h top : ℕ} {s : State} (o : IsCalled print (with_h h) b h top s) (
     at2 = o.stands.at2;
     at3 = o.stands.at3;
     room = o.within.back;
-    away = record { below = o.within.near; beside = beside s.store.words o.all o.outside };
+    away = record { below = o.within.near; beside = Beside-outside s.store.words o.all o.outside };
   }
 
   abbrev f : Frame 51 0
@@ -84,13 +84,13 @@ module _ {b h top : ℕ} {s : State} (o : IsCalled print (with_h h) b h top s) (
 
   -- that many orders print the digits and lead to the order after the call
   pub leads_to : Leads (print_orders n) s (11 ∷ digits n) last
-  leads_to = rw starts at (leads path s.orders)
+  leads_to = rw starts at (Leads-path path s.orders)
 
   -- what holds of every order that stays below the location holds before each of them
   pub keeps_below : (P : State → Type 0) → ((kind : Kind) (x : State) → IsOrder top kind x → P x) → (j : ℕ)
       → j < print_orders n
       → P (state_after j s)
-  keeps_below P is j l = rw starts at (each P is path s.orders j l)
+  keeps_below P is j l = rw starts at (state_after-each P is path s.orders j l)
 
   -- what is counted for each order that stays below the location, by its kind and the accumulator, is the weight of the
   -- routine's orders

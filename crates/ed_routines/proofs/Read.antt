@@ -1,7 +1,8 @@
 -- The routine `read`, by its listing.
 use Rattle.ed_routines.proofs.Kit.{A_F, E_F, L_D, S_F, T_F, U_F, Moment, short, A, E_jumps, L, S, T, U, on, Path, stay}
 use Rattle.ed_routines.proofs.Kit.{any, early, out, own, LD, [], arith, get_or, length, List, lit<, refl, set, ℕ, ◌%◌}
-use Rattle.ed_routines.proofs.Kit.{◌*◌, ◌++◌, ◌+◌, ◌-◌, ◌<◌, ◌^◌, ◌∷◌, ◌≡◌, ◌≤◌, locations_most, digits_value, value_after}
+use Rattle.ed_routines.proofs.Kit.{◌*◌, ◌++◌, ◌+◌, ◌-◌, ◌<◌, ◌^◌, ◌∷◌, ◌≡◌, ◌≤◌, locations_most, digits_value}
+use Rattle.ed_routines.proofs.Kit.{value_after}
 use Rattle.ed_words.specs.declared.order_words.TheConstants.{I_F}
 use Rattle.ed_machine.proofs.Kit.Moves.{I, E_stays}
 use Rattle.ed_machine.proofs.Kit.Orders.{word_is}

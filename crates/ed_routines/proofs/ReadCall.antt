@@ -1,14 +1,14 @@
 -- `read`, from the library's table to what it does.
-use Rattle.ed_routines.proofs.Kit.{A_F, Frame, Moment, state, Leads, leads, Path, own, Holds, length_patched, patched}
-use Rattle.ed_routines.proofs.Kit.{[], ap, arith, drop, get_or, length, List, refl, rules, set, true, ℕ, ◌%◌, ◌*◌}
-use Rattle.ed_routines.proofs.Kit.{◌++◌, ◌+◌, ◌<◌, ◌^◌, ◌∙◌, ◌∷◌, ◌≡◌, ◌≤◌, locations_most, step, State, read, with_h}
-use Rattle.ed_routines.proofs.Kit.{after_digits, digit_rows, digits_value, IsOther, caller}
+use Rattle.ed_routines.proofs.Kit.{A_F, Frame, Moment, state, Leads, Leads-path, Path, own, Holds, length_patched}
+use Rattle.ed_routines.proofs.Kit.{patched, [], ap, arith, drop, get_or, length, List, refl, rules, set, true, ℕ, ◌%◌}
+use Rattle.ed_routines.proofs.Kit.{◌*◌, ◌++◌, ◌+◌, ◌<◌, ◌^◌, ◌∙◌, ◌∷◌, ◌≡◌, ◌≤◌, locations_most, step, State, read}
+use Rattle.ed_routines.proofs.Kit.{with_h, after_digits, digit_rows, digits_value, IsOther, caller}
 use Rattle.ed_machine.proofs.Names.{length-append, ltb-true, length-set, Obeyed}
 use Rattle.ed_notation.proofs.Kit.{◌≢◌, ltb-false, get_or-set_other}
 use Rattle.std.proofs.lemmas.List.{get_or-set_same, nil_from_length}
 use Rattle.ed_orders.specs.declared.kind.Kind.TheVariants.{I as KindI}
 use Rattle.ed_machine.specs.declared.turn.Turn.TheVariants.{NoTape}
-use Rattle.ed_machine.proofs.Kit.Orders.{named, obeyed}
+use Rattle.ed_machine.proofs.Kit.Orders.{Named-at, step-word}
 use Rattle.ed_machine.proofs.Kit.Window.{get_below, get_above}
 use Rattle.ed_routines.specs.Returns.{HasRead, KeepsBut, Waits}
 use Rattle.ed_routines.proofs.Called.{Call, IsCalled, image, holds_h, get_or-kept, call_of, state-begins}
@@ -115,7 +115,7 @@ module _ {b h top : ℕ} {s : State} (o : IsCalled read (with_h h) b h top s) wh
 
     -- that many orders read the rows and lead to the order after the call
     pub leads_to : Leads (11 + 13 * length ds) s [] last
-    leads_to = rw (starts (ds ++ c ∷ rest) rows_are) at (leads path s.orders)
+    leads_to = rw (starts (ds ++ c ∷ rest) rows_are) at (Leads-path path s.orders)
 
     module _ (t : State) (is : t ≡ last) where
       pub has_read : HasRead h s t
@@ -155,13 +155,13 @@ module _ {b h top : ℕ} {s : State} (o : IsCalled read (with_h h) b h top s) wh
 
     -- that many orders read the rows and lead to the order that waits for one more
     pub leads_to_end : Leads (3 + 13 * length ds) s [] waiting
-    leads_to_end = rw (starts (ds ++ []) rows_are_all) at (leads path_to_end s.orders)
+    leads_to_end = rw (starts (ds ++ []) rows_are_all) at (Leads-path path_to_end s.orders)
 
     blocked : (step waiting).turn ≡ NoTape
     blocked =
         let r : Moment = run call h s.store.words so_far 0 3 [] in
-        let w = named f r 3 8 (own 22) true refl refl in
-        ap (λ (x : Obeyed). x.turn) (obeyed f r KindI w.w (b + 4) (s.orders + (3 + 13 * length ds)) w.is)
+        let w = Named-at f r 3 8 (own 22) true refl refl in
+        ap (λ (x : Obeyed). x.turn) (step-word f r KindI w.w (b + 4) (s.orders + (3 + 13 * length ds)) w.is)
 
     module _ (t : State) (is : t ≡ waiting) where
       pub waits : Waits b h s t

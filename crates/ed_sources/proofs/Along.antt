@@ -1,9 +1,9 @@
 -- A source's program on its way from call to call: which words are still those of its entry.
-use Rattle.ed_sources.proofs.Kit.{A_F, G_F, Size, Line, unwrap_or, least, placed_at, arith, inl, inr, length, List}
-use Rattle.ed_sources.proofs.Kit.{true, ℕ, ◌*◌, ◌+◌, ◌<◌, ◌∙◌, ◌≡◌, ◌≤◌, short_at, State, place_count, HasWord}
+use Rattle.ed_sources.proofs.Kit.{A_F, G_F, Size, Line, unwrap_or, locations_least, placed_at, arith, inl, inr, length}
+use Rattle.ed_sources.proofs.Kit.{List, true, ℕ, ◌*◌, ◌+◌, ◌<◌, ◌∙◌, ◌≡◌, ◌≤◌, short_at, State, place_count, HasWord}
 use Rattle.ed_sources.proofs.Kit.{entry_state, IsOutside, Z_F, print, with_h, digits, print_orders, ◌∷◌, StopsAt}
 use Rattle.ed_sources.proofs.AtEntry.{all_words, has_image, have_places, image_at, placed, word_at}
-use Rattle.ed_sources.proofs.CalledRoutines.{IsBeside, Passes, print_passes, stopped}
+use Rattle.ed_sources.proofs.CalledRoutines.{IsBeside, Passes, print_passes, StopsAt-passes}
 use Rattle.ed_sources.proofs.Calling.{HasRoutine, IsBefore}
 use Rattle.std.proofs.Common.{rules}
 
@@ -47,13 +47,13 @@ module _ {z : Size} {lines : List Line} {t : State} {from to m : ℕ} (o : IsAt 
 
   module _ {r base : ℕ} {parameters : List ℕ} (c : HasCall lines r base parameters from to m) where
     -- the two orders of the call are there
-    pub before : IsBefore t m base
-    before = search (rules, least, word_there)
+    pub IsBefore-placed : IsBefore t m base
+    IsBefore-placed = search (rules, locations_least, word_there)
 
     -- and the routine
-    pub has : HasRoutine t r base parameters
-    has =
-        let size = least z in
+    pub HasRoutine-placed : HasRoutine t r base parameters
+    HasRoutine-placed =
+        let size = locations_least z in
         record {
           low = c.low;
           fits = rw o.size (omega arith);
@@ -67,15 +67,15 @@ module _ {z : Size} {lines : List Line} {t : State} {from to m : ℕ} (o : IsAt 
 
     -- a location before the routine is outside it
     pub out : {h : ℕ} → h < base → IsOutside r base h t
-    out near = let size = least z in record { below = rw o.size (omega arith); beside = inl near }
+    out near = let size = locations_least z in record { below = rw o.size (omega arith); beside = inl near }
 
     -- the order after the call stops the machine
     pub stops : {k end : ℕ} {codes : List ℕ} → Passes k t codes m base end
         → unwrap_or (placed_at (placed lines) (m + 2)) 0 ≡ Z_F → StopsAt k t codes (m + 2)
     stops p is =
-        stopped p (inl (omega arith)) (word_there (m + 2) Z_F (inl (omega arith)) (omega arith) (omega arith) is)
+        StopsAt-passes p (inl (omega arith)) (word_there (m + 2) Z_F (inl (omega arith)) (omega arith) (omega arith) is)
 
   -- a call of `print` prints the number at h
   pub prints : (h : ℕ) {base n : ℕ} → HasCall lines print base (with_h h) from to m → h < base
       → short_at t.store h ≡ n → n < 65536 → Passes (2 + print_orders n) t (11 ∷ digits n) m base (base + 51)
-  prints h c near number small = print_passes (before c) (has c) (out c near) number small
+  prints h c near number small = print_passes (IsBefore-placed c) (HasRoutine-placed c) (out c near) number small

@@ -7,7 +7,7 @@ use Rattle.std.proofs.lemmas.List.{length-drop}
 use Rattle.ed_notation.specs.Checks.{ArePlaces}
 use Rattle.ed_notation.proofs.Contents.{length-over}
 use Rattle.ed_answers.proofs.EntryWords.{entry_word}
-use Rattle.ed_sources.proofs.Decimals.{among, numbers}
+use Rattle.ed_sources.proofs.Decimals.{list_all-numbers, numbers}
 use Rattle.ed_answers.specs.Refusals.{IsAcceptedAs}
 use Rattle.ed_machine.specs.Sound.{IsSound}
 use Rattle.ed_machine.proofs.SoundSteps.{sound_after}
@@ -49,7 +49,8 @@ module _ (z : Size) (lines : List Line) where
     image_at {r} {base} {i} {parameters} test low high l = record {
       has = λ free. word_at (base + i) (omega arith) (omega arith)
           ∙ eqb-true (unwrap_or (placed_at (placed lines) (base + i)) 0) (image_word r i base parameters)
-          (among (λ i. nat_eq (unwrap_or (placed_at (placed lines) (base + i)) 0) (image_word r i base parameters)) 0
+          (list_all-numbers (λ i. nat_eq (unwrap_or (placed_at (placed lines) (base + i)) 0)
+          (image_word r i base parameters)) 0
           (place_count r) i test
           (omega arith) (omega arith));
     }

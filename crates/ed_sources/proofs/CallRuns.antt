@@ -1,10 +1,10 @@
 -- A call is the run of its source, from the state at its entry.
 use Rattle.ed_sources.proofs.Kit.{Settings, Line, length-append, None, Ok, Call, Check, Divide, NewLine, Print, Read}
-use Rattle.ed_sources.proofs.Kit.{Root, least, fault, few_digits, [], arith, length, List, lit<, lit≤, refl, ℕ, ◌%◌}
-use Rattle.ed_sources.proofs.Kit.{◌++◌, ◌+◌, ◌/◌, ◌<◌, ◌∙◌, ◌∷◌, ◌≡◌, ◌≤◌, digits, root_of, at_after, AnswersFromEntry}
-use Rattle.ed_sources.proofs.Kit.{read_is_accepted, paper, program_of, entry_of, cost, entry_note, entry_state}
-use Rattle.ed_sources.proofs.Kit.{run_outcome, accepted_is, each_answer_is_from_entry, call_orders, most_call_orders}
-use Rattle.ed_sources.proofs.Kit.{call_text, call_cost, StopsAt}
+use Rattle.ed_sources.proofs.Kit.{Root, locations_least, fault, few_digits, [], arith, length, List, lit<, lit≤, refl}
+use Rattle.ed_sources.proofs.Kit.{ℕ, ◌%◌, ◌++◌, ◌+◌, ◌/◌, ◌<◌, ◌∙◌, ◌∷◌, ◌≡◌, ◌≤◌, digits, root_of, at_after}
+use Rattle.ed_sources.proofs.Kit.{AnswersFromEntry, read_is_accepted, paper, program_of, entry_of, cost, entry_note}
+use Rattle.ed_sources.proofs.Kit.{entry_state, run_outcome, accepted_is, each_answer_is_from_entry, call_orders}
+use Rattle.ed_sources.proofs.Kit.{most_call_orders, call_text, call_cost, StopsAt}
 use Rattle.std.proofs.Common.{codes as codes_of_text}
 use Rattle.ed_sources.specs.CallRuns.{CallRuns, EachCallRuns, GuestStops, call_entry, call_prints, call_stop}
 use Rattle.ed_words.specs.declared.size.Size.TheVariants as size
@@ -43,7 +43,7 @@ runs s call {lines} {k} {place} {codes} reads small full stops few are low text 
       few = let is = costs.0 in let most = costs.1 in omega (arith, is, most);
       guest_stops = guest;
       ends = λ none plain fits.
-          let size = least s.size in
+          let size = locations_least s.size in
           stopped_outcome s entry (comes_to_stop stops (omega arith)) few none plain (omega (arith, fits, count))
           ∙ (λ i. record {
             out = text i;
@@ -72,7 +72,8 @@ each_call_runs (Divide n by) s made =
     let positive = made.positive in
     let divisor = made.divisor in
     let less = made.less in
-    runs s (Divide n by) (divide_read n by made) refl refl (call_ends s.size n by made) (omega arith) (refl, omega arith, refl) (lit< tt)
+    runs s (Divide n by) (divide_read n by made) refl refl (call_ends s.size n by made) (omega arith)
+    (refl, omega arith, refl) (lit< tt)
     (lines_printed (n / by) (n % by) (quotient_low n by positive less) (remainder_low n by positive divisor)) tt
     (divide_cost (n / 65536) (n % 65536) by, most_orders (Divide n by) made)
 each_call_runs (Root n) s small =

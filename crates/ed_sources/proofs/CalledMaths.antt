@@ -4,7 +4,7 @@ use Rattle.ed_sources.proofs.Kit.{◌≤◌, locations, short_at, State, IsOutsi
 use Rattle.ed_sources.proofs.Kit.{with_hnm, root, with_hn, divide_orders, dividend, IsRoot, root_orders, ◌≢◌}
 use Rattle.ed_routines.proofs.Called.{within_size}
 use Rattle.ed_sources.proofs.CalledRoutines.{Passes, passes, other, aside}
-use Rattle.ed_sources.proofs.Calling.{HasRoutine, IsBefore, called, outside, IsLoadedAt-stands}
+use Rattle.ed_sources.proofs.Calling.{HasRoutine, IsBefore, called, IsOutside-called, IsLoadedAt-stands}
 use Rattle.ed_maths.proofs.DivideCall as divide_call
 use Rattle.ed_maths.proofs.RootCall as root_call
 
@@ -26,8 +26,8 @@ module _ {s : State} {m base : ℕ} (o : IsBefore s m base) where
       → (from ≤ high) × (from ≤ low) → high < base → low < base → Divides s m from (base + 41) high low by
   divides {high} {low} {by} all_digits even has is early high_before low_before =
       let dividing : divide_call.CallsDivide base high low by (locations s.size) (called s m base) =
-      search (rules, outside, IsLoadedAt-stands, within_size) in
-      let divided = divide_call.divided dividing _ refl in
+      search (rules, IsOutside-called, IsLoadedAt-stands, within_size) in
+      let divided = divide_call.HasDivided-last dividing _ refl in
       record {
         passes = passes o (divide_call.leads_to dividing) refl refl (divide_call.all_last dividing) refl
             (λ i b. divided.words i (aside (omega (arith, early.0)) (omega arith) b)
@@ -44,7 +44,7 @@ module _ {s : State} {m base : ℕ} (o : IsBefore s m base) where
       → TakesRoot s m (base + 23) target r
   takes_root {source} {target} {r} has source_out target_out differ small is_root before =
       let rooting : root_call.CallsRoot base source target (locations s.size) r (called s m base) =
-      search (rules, outside, IsLoadedAt-stands, within_size) in
+      search (rules, IsOutside-called, IsLoadedAt-stands, within_size) in
       record {
         passes = passes o (root_call.leads_to rooting) refl refl (root_call.all_last rooting) refl
             (λ i b. (root_call.keeps rooting _ refl).words i (aside (omega arith) (omega arith) b)

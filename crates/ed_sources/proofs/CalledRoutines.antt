@@ -1,12 +1,13 @@
 -- A call of a routine, up to the order after it, and up to that order if it is a stop.
-use Rattle.ed_sources.proofs.Kit.{Z_F, joined, IsCalled, [], ap, arith, get_or, inl, inr, length, List, refl, rules}
-use Rattle.ed_sources.proofs.Kit.{subst, ℕ, ◌%◌, ◌*◌, ◌+◌, ◌<◌, ◌^◌, ◌∙◌, ◌∷◌, ◌≡◌, ◌≤◌, ◌⊎◌, locations, short_at, step}
-use Rattle.ed_sources.proofs.Kit.{State, Leads, newline, print, read, with_h, after_digits, digit_rows, digits}
-use Rattle.ed_sources.proofs.Kit.{digits_value, print_orders, IsOther, IsLoadedAt, IsOutside, ◌≢◌, StopsAt, place_count}
-use Rattle.ed_sources.proofs.Kit.{caller}
+use Rattle.ed_sources.proofs.Kit.{Z_F, Leads-append, IsCalled, [], ap, arith, get_or, inl, inr, length, List, refl}
+use Rattle.ed_sources.proofs.Kit.{rules, subst, ℕ, ◌%◌, ◌*◌, ◌+◌, ◌<◌, ◌^◌, ◌∙◌, ◌∷◌, ◌≡◌, ◌≤◌, ◌⊎◌, locations}
+use Rattle.ed_sources.proofs.Kit.{short_at, step, State, Leads, newline, print, read, with_h, after_digits, digit_rows}
+use Rattle.ed_sources.proofs.Kit.{digits, digits_value, print_orders, IsOther, IsLoadedAt, IsOutside, ◌≢◌, StopsAt}
+use Rattle.ed_sources.proofs.Kit.{place_count, caller}
 use Rattle.ed_machine.specs.declared.turn.Turn.TheVariants.{Stopped}
-use Rattle.ed_routines.proofs.Called.{IsWithin, called as routine_called}
-use Rattle.ed_sources.proofs.Calling.{HasRoutine, IsBefore, caller-back, called, caller_is, Leads-calls, outside, IsLoadedAt-stands}
+use Rattle.ed_routines.proofs.Called.{IsWithin, IsCalled-loaded as routine_called}
+use Rattle.ed_sources.proofs.Calling.{HasRoutine, IsBefore, caller-back, IsCalled-loaded, caller_is, Leads-calls}
+use Rattle.ed_sources.proofs.Calling.{IsOutside-called, IsLoadedAt-stands}
 use Rattle.ed_routines.proofs.NewLine as new_line
 use Rattle.ed_routines.proofs.PrintCall as print_call
 use Rattle.ed_routines.proofs.ReadCall as read_call
@@ -37,9 +38,10 @@ pub record ReadsNumber (s : State) (m h to : ℕ) : Type 0 where
   pub number : short_at passes.last.store h ≡ digits_value (digit_rows s.tape) % 2 ^ 17
 
 -- with a stop after it
-pub stopped : {k m from to : ℕ} {s : State} {codes : List ℕ} → Passes k s codes m from to → IsBeside from to (m + 2)
+pub StopsAt-passes : {k m from to : ℕ} {s : State} {codes : List ℕ} → Passes k s codes m from to
+    → IsBeside from to (m + 2)
     → short_at s.store (m + 2) ≡ Z_F → StopsAt k s codes (m + 2)
-stopped {m = m} p other stop = search (rules, stop_at, other)
+StopsAt-passes {m = m} p other stop = search (rules, stop_at, other)
 
 -- a word beside those that a routine may change is not one of its working locations
 pub other : (r : ℕ) {base from to i : ℕ} → from ≤ base → base + place_count r ≤ to → IsBeside from to i
@@ -54,7 +56,7 @@ aside early late (inr g) e = omega arith
 
 module _ {s : State} {m base : ℕ} (o : IsBefore s m base) where
   abbrev t : State
-  t = called s m base
+  t = IsCalled-loaded s m base
 
   -- the call of a routine that leads to the order after it
   abbrev pub passes : {k from to : ℕ} {codes : List ℕ} {end : State} → Leads k t codes end → end.counter ≡ caller t + 2
@@ -62,7 +64,7 @@ module _ {s : State} {m base : ℕ} (o : IsBefore s m base) where
       → ((i : ℕ) → IsBeside from to i → short_at end.store i ≡ short_at s.store i) → Passes (2 + k) s codes m from to
   passes {end = end} leads counter acc all size words = record {
     last = end;
-    leads = joined (Leads-calls o) leads;
+    leads = Leads-append (Leads-calls o) leads;
     counter = counter ∙ ap (λ x. x + 2) (caller_is o);
     acc = acc;
     all = all;
@@ -75,7 +77,7 @@ module _ {s : State} {m base : ℕ} (o : IsBefore s m base) where
       → short_at s.store h ≡ n → n < 65536 → Passes (2 + print_orders n) s (11 ∷ digits n) m base (base + 51)
   print_passes {h} {n} has out number small =
       let printing : IsCalled print (with_h h) base h (locations s.size) t =
-      routine_called o.all (IsLoadedAt-stands o has) (outside o out) in
+      routine_called o.all (IsLoadedAt-stands o has) (IsOutside-called o out) in
       let low : short_at t.store h < 65536 = rw number small in
       subst (λ x. Passes (2 + print_orders x) s (11 ∷ digits x) m base (base + 51)) number
       (passes (print_call.leads_to printing low) refl refl (print_call.all_last printing low) refl
@@ -94,7 +96,7 @@ module _ {s : State} {m base : ℕ} (o : IsBefore s m base) where
       → h < base → after_digits s.tape ≡ c ∷ rest → c < 32 → ReadsNumber s m h (base + 24)
   reads {h} has out before ends code =
       let reading : IsCalled read (with_h h) base h (locations s.size) t =
-      routine_called o.all (IsLoadedAt-stands o has) (outside o out) in
+      routine_called o.all (IsLoadedAt-stands o has) (IsOutside-called o out) in
       record {
         passes = passes (read_call.leads_to reading ends code) refl refl (read_call.all_last reading ends code) refl
             (λ i b. (read_call.keeps reading ends code _ refl).words i (aside (omega arith) (omega arith) b)

@@ -1,10 +1,11 @@
 -- The two orders that call a routine: A m F at m, and after it G to the routine's base.
-use Rattle.ed_sources.proofs.Kit.{A_F, G_F, opens, None, [], ap, arith, get_or, length, List, refl, rules, Some, subst}
-use Rattle.ed_sources.proofs.Kit.{sym, ℕ, ◌*◌, ◌+◌, ◌<◌, ◌^◌, ◌∷◌, ◌≡◌, ◌≤◌, locations, locations_most, short_at, State}
-use Rattle.ed_sources.proofs.Kit.{Frame, Moment, short, state, Leads, A, G_jumps, leads, on, Path, stay, own, Holds}
-use Rattle.ed_sources.proofs.Kit.{patched, place_count, caller, HasWord, IsLoadedAt, IsOutside, state_after}
+use Rattle.ed_sources.proofs.Kit.{A_F, G_F, patched-filled, None, [], ap, arith, get_or, length, List, refl, rules}
+use Rattle.ed_sources.proofs.Kit.{Some, subst, sym, ℕ, ◌*◌, ◌+◌, ◌<◌, ◌^◌, ◌∷◌, ◌≡◌, ◌≤◌, locations, locations_most}
+use Rattle.ed_sources.proofs.Kit.{short_at, State, Frame, Moment, short, state, Leads, A, G_jumps, Leads-path, on, Path}
+use Rattle.ed_sources.proofs.Kit.{stay, own, Holds, patched, place_count, caller, HasWord, IsLoadedAt, IsOutside}
+use Rattle.ed_sources.proofs.Kit.{state_after}
 use Rattle.ed_machine.proofs.Kit.Places.{any}
-use Rattle.ed_machine.proofs.Kit.Paths.{each}
+use Rattle.ed_machine.proofs.Kit.Paths.{state_after-each}
 use Rattle.ed_routines.proofs.Walks.{Weights, total, total_of_path, weigh, weight}
 use Rattle.ed_orders.specs.declared.kind.Kind.{Kind}
 use Rattle.ed_machine.proofs.Kit.Orders.{IsOrder}
@@ -56,7 +57,7 @@ module _ {s : State} {m base : ℕ} (o : IsBefore s m base) where
       let size = locations_most s.size in
       let room = o.room in
       let all = o.all in
-      opens (Some (A_F + 2 * (m + 0)) ∷ Some (G_F + 2 * base) ∷ None ∷ []) s.store.words m (omega arith) holds
+      patched-filled (Some (A_F + 2 * (m + 0)) ∷ Some (G_F + 2 * base) ∷ None ∷ []) s.store.words m (omega arith) holds
 
   -- the two orders, if they and the routine are below a location
   module _ (top : ℕ) (room : m + 3 ≤ top) (there : base < top) (fits : top ≤ locations s.size) where
@@ -78,7 +79,7 @@ module _ {s : State} {m base : ℕ} (o : IsBefore s m base) where
     -- what holds of every order that stays below the location holds before each of them
     pub call_keeps : (P : State → Type 0) → ((kind : Kind) (x : State) → IsOrder top kind x → P x) → (j : ℕ) → j < 2
         → P (state_after j s)
-    call_keeps P is j l = subst (λ x. P (state_after j x)) begins (each P is path s.orders j l)
+    call_keeps P is j l = subst (λ x. P (state_after j x)) begins (state_after-each P is path s.orders j l)
 
     -- what is counted for each order that stays below the location
     pub call_weighs : (w : Weights) (of : State → ℕ)
@@ -92,7 +93,7 @@ module _ {s : State} {m base : ℕ} (o : IsBefore s m base) where
       let room = o.room in
       let fits : locations s.size ≤ locations s.size = omega arith in
       rw (begins (locations s.size) room o.there fits, ends (locations s.size) room o.there fits) at
-      (leads (path (locations s.size) room o.there fits) s.orders)
+      (Leads-path (path (locations s.size) room o.there fits) s.orders)
 
   pub caller_is : caller (called s m base) ≡ m
   caller_is = omega arith
@@ -102,8 +103,8 @@ module _ {s : State} {m base : ℕ} (o : IsBefore s m base) where
   caller-back = let e = caller_is in let room = o.room in omega arith
 
   -- a location outside a routine is so when it is called
-  pub outside : {r h : ℕ} → IsOutside r base h s → IsOutside r base h (called s m base)
-  outside out = record { below = out.below; beside = out.beside }
+  pub IsOutside-called : {r h : ℕ} → IsOutside r base h s → IsOutside r base h (called s m base)
+  IsOutside-called out = record { below = out.below; beside = out.beside }
 
   -- a routine whose words are at the base is there, called
   pub IsLoadedAt-stands : {r : ℕ} {parameters : List ℕ} → HasRoutine s r base parameters

@@ -3,7 +3,7 @@ use Rattle.ed_sources.proofs.Kit.{decimal, Ok, list_all, Text, is_line_byte, IsD
 use Rattle.ed_sources.proofs.Kit.{Read, Root, append-nil, arith, lit≤, refl, rules, subst, true, ℕ, ◌%◌, ◌/◌, ◌<◌, ◌≡◌}
 use Rattle.ed_sources.proofs.Kit.{digits, program_of, call_text, Size, Line, None, fault, List}
 use Rattle.ed_sources.proofs.CallTexts.{call_is}
-use Rattle.ed_sources.proofs.Decimals.{are, decimal_is, line_bytes}
+use Rattle.ed_sources.proofs.Decimals.{are_digits-digits, decimal_is, line_bytes}
 use Rattle.ed_sources.proofs.Said.{newline_lines, newline_says, print_lines, print_says, read_lines, read_says}
 use Rattle.ed_sources.proofs.Said.{with_end, check_lines, check_says}
 use Rattle.ed_sources.proofs.SaidMaths.{divide_lines, divide_says, root_lines, root_says}
@@ -15,7 +15,7 @@ use Rattle.ed_words.specs.declared.size.Size.TheVariants as size
 pub decimal_plain : (n : ℕ) → n < 65536 → list_all is_line_byte (decimal n) ≡ true
 decimal_plain n small =
     subst (λ (bytes : Text). list_all is_line_byte bytes ≡ true) (decimal_is n small)
-    (line_bytes (digits n) (are n small))
+    (line_bytes (digits n) (are_digits-digits n small))
 
 -- ---- what the sources are read as
 

@@ -1,12 +1,12 @@
 -- The source of `call check N`: at its entry the checking routine is at the start of a turn, and its guest prints the
 -- number and stops.
-use Rattle.ed_sources.proofs.Kit.{Z_F, Size, joined, no_stops, nat_eq, ◌||◌, list_all, image_word, parameter_store}
-use Rattle.ed_sources.proofs.Kit.{unwrap_or, eqb-true, least, placed_at, before_units, IsCalled, [], ap, arith, Bool}
-use Rattle.ed_sources.proofs.Kit.{get_or, inl, length, lit<, lit≤, refl, rules, subst, suc, sym, true, ℕ, ◌*◌, ◌++◌}
-use Rattle.ed_sources.proofs.Kit.{◌+◌, ◌<◌, ◌^◌, ◌∙◌, ◌∷◌, ◌≡◌, ◌≤◌, short_at, State, state_after, free, Leads, print}
-use Rattle.ed_sources.proofs.Kit.{with_h, digits, print_orders, sum, ChecksToStop, size_after, function_of, next_word}
-use Rattle.ed_sources.proofs.Kit.{guest, entry_state, call_text, read_is_accepted, Check, locations, tens, false, zero}
-use Rattle.ed_sources.proofs.Kit.{◌%◌, ◌/◌}
+use Rattle.ed_sources.proofs.Kit.{Z_F, Size, Leads-append, no_stops, nat_eq, ◌||◌, list_all, image_word}
+use Rattle.ed_sources.proofs.Kit.{parameter_store, unwrap_or, eqb-true, locations_least, placed_at, before_units}
+use Rattle.ed_sources.proofs.Kit.{IsCalled, [], ap, arith, Bool, get_or, inl, length, lit<, lit≤, refl, rules, subst}
+use Rattle.ed_sources.proofs.Kit.{suc, sym, true, ℕ, ◌*◌, ◌++◌, ◌+◌, ◌<◌, ◌^◌, ◌∙◌, ◌∷◌, ◌≡◌, ◌≤◌, short_at, State}
+use Rattle.ed_sources.proofs.Kit.{state_after, AreObeyed-leads, Leads, print, with_h, digits, print_orders, sum}
+use Rattle.ed_sources.proofs.Kit.{ChecksToStop, size_after, function_of, next_word, guest, entry_state, call_text}
+use Rattle.ed_sources.proofs.Kit.{read_is_accepted, Check, locations, tens, false, zero, ◌%◌, ◌/◌}
 use Rattle.ed_checker.proofs.Kit.{address_of, long_at, checked_orders, IsAllowed, orders_by, turn_orders}
 use Rattle.ed_machine.specs.Sound.{IsSound}
 use Rattle.ed_machine.proofs.Steps.{each_sum}
@@ -18,12 +18,12 @@ use Rattle.ed_checker.specs.Laws.{HasGuest, IsFollowed, StopsAfter}
 use Rattle.ed_checker.proofs.Follow.{checker_law}
 use Rattle.ed_checker.proofs.Guests.{allowed_below}
 use Rattle.ed_checker.proofs.Weights.{checked_total, turn_weighs, turn_weights}
-use Rattle.ed_sources.proofs.Along.{IsAt, before, has, HasCall, out}
+use Rattle.ed_sources.proofs.Along.{IsAt, IsBefore-placed, HasRoutine-placed, HasCall, out}
 use Rattle.ed_sources.proofs.AtEntry.{all_words, placed, word_at, sound_entry}
 use Rattle.ed_sources.proofs.CalledRoutines.{stop_at}
-use Rattle.ed_sources.proofs.Calling.{IsBefore, called, caller_is, Leads-calls, IsLoadedAt-stands, outside, call_keeps}
-use Rattle.ed_sources.proofs.Calling.{call_weighs}
-use Rattle.ed_sources.proofs.Decimals.{among, numbers}
+use Rattle.ed_sources.proofs.Calling.{IsBefore, called, caller_is, Leads-calls, IsLoadedAt-stands, IsOutside-called}
+use Rattle.ed_sources.proofs.Calling.{call_keeps, call_weighs}
+use Rattle.ed_sources.proofs.Decimals.{list_all-numbers, numbers}
 use Rattle.ed_sources.proofs.Said.{check_lines}
 use Rattle.ed_routines.proofs.PrintCall as print_call
 use Rattle.ed_sources.proofs.CallsAccepted.{check_read, faultless}
@@ -82,7 +82,7 @@ module _ (z : Size) (n : ℕ) (small : n < 65536) where
   has_words : HasImage 112 m
   has_words i l = record {
     has = λ working.
-        let there : is_there i ≡ true = among is_there 0 66 i all_there (omega arith) (omega arith) in
+        let there : is_there i ≡ true = list_all-numbers is_there 0 66 i all_there (omega arith) (omega arith) in
         word (112 + i) (omega arith) (omega arith)
         ∙ eqb-true (unwrap_or (placed_at (placed (check_lines n)) (112 + i)) 0) (image_word check i 112 (with_h 0))
         (rw working at there);
@@ -102,7 +102,7 @@ module _ (z : Size) (n : ℕ) (small : n < 65536) where
 
   has_guest : HasGuest 112 m
   has_guest =
-      let size = least z in
+      let size = locations_least z in
       record {
         even = refl;
         room = omega arith;
@@ -134,7 +134,7 @@ module _ (z : Size) (n : ℕ) (small : n < 65536) where
   its_call = search rules
 
   before_print : IsBefore g 56 60
-  before_print = before at its_call
+  before_print = IsBefore-placed at its_call
 
   abbrev t : State
   t = called g 56 60
@@ -150,11 +150,11 @@ module _ (z : Size) (n : ℕ) (small : n < 65536) where
 
   printing : IsCalled print (with_h 59) 60 59 112 t
   printing =
-      let size = least z in
+      let size = locations_least z in
       record {
         all = all_words z (check_lines n);
-        stands = IsLoadedAt-stands before_print (has at its_call);
-        outside = outside before_print (out at its_call (lit< tt));
+        stands = IsLoadedAt-stands before_print (HasRoutine-placed at its_call);
+        outside = IsOutside-called before_print (out at its_call (lit< tt));
         within = record {
           under = lit≤ tt;
           near = lit< tt;
@@ -167,7 +167,7 @@ module _ (z : Size) (n : ℕ) (small : n < 65536) where
   end = print_call.last printing low
 
   leads : Leads (2 + count) g ([] ++ (11 ∷ digits (short_at t.store 59))) end
-  leads = joined (Leads-calls before_print) (print_call.leads_to printing low)
+  leads = Leads-append (Leads-calls before_print) (print_call.leads_to printing low)
 
   end_counter : end.counter ≡ 58
   end_counter = ap (λ x. x + 2) (caller_is before_print)
@@ -182,13 +182,13 @@ module _ (z : Size) (n : ℕ) (small : n < 65536) where
 
   -- an order that stays below the routine is allowed
   plain : (kind : Kind) (x : State) → IsOrder 112 kind x → x.size ≡ z → IsAllowed 112 x
-  plain kind x o same = let size = least z in allowed_below 112 refl kind x o (rw same (omega arith))
+  plain kind x o same = let size = locations_least z in allowed_below 112 refl kind x o (rw same (omega arith))
 
   third : state_after 2 g ≡ t
   third = (Leads-calls before_print).state_is
 
   fits : 112 ≤ locations z
-  fits = let size = least z in omega arith
+  fits = let size = locations_least z in omega arith
 
   each : (j : ℕ) → j < 2 + count → IsAllowed 112 (state_after j g)
   each = each_sum (IsAllowed 112) 2 count g
@@ -198,16 +198,16 @@ module _ (z : Size) (n : ℕ) (small : n < 65536) where
       (print_call.keeps_below printing low (λ x. x.size ≡ z → IsAllowed 112 x) plain j l (size_after j t)))
 
   followed : IsFollowed 112 (2 + count) g
-  followed = record { allowed = each; obeyed = free leads }
+  followed = record { allowed = each; obeyed = AreObeyed-leads leads }
 
   end_allowed : IsAllowed 112 end
-  end_allowed = search (rules, least, outside, end_counter, end_word)
+  end_allowed = search (rules, locations_least, IsOutside-called, end_counter, end_word)
 
   at_end : state_after (2 + count) g ≡ end
   at_end = leads.state_is
 
   to_stop : StopsAfter (2 + count) g
-  to_stop = search (rules, free, leads, no_stops, at_end, stop_at, end_word)
+  to_stop = search (rules, AreObeyed-leads, leads, no_stops, at_end, stop_at, end_word)
 
   -- the guest reaches its first Z
   pub guest_stops : StopsAfter (2 + print_orders n) g
@@ -232,7 +232,7 @@ module _ (z : Size) (n : ℕ) (small : n < 65536) where
 
   all_turns : checked_orders g (suc (2 + count)) ≡ 86 + print_weight turn_weights (short_at t.store 59)
   unfolding total
-  all_turns = search (rules, before, total_sum, two_turns, third, print_turns, last_turn, checked_total)
+  all_turns = search (rules, IsBefore-placed, total_sum, two_turns, third, print_turns, last_turn, checked_total)
 
   -- the guest's orders up to its first Z, which is the last of them, and as many orders of the machine as the formula
   -- has lead to it

@@ -21,12 +21,13 @@ abbrev pub numbers : ℕ → ℕ → List ℕ
 numbers k zero = []
 numbers k (suc n) = k ∷ numbers (k + 1) n
 
-pub among : (test : ℕ → Bool) (k n d : ℕ) → list_all test (numbers k n) ≡ true → k ≤ d → d < k + n → test d ≡ true
-among test k zero d h low high = absurd (omega arith)
-among test k (suc n) d h low high =
+pub list_all-numbers : (test : ℕ → Bool) (k n d : ℕ) → list_all test (numbers k n) ≡ true → k ≤ d → d < k + n → test d
+    ≡ true
+list_all-numbers test k zero d h low high = absurd (omega arith)
+list_all-numbers test k (suc n) d h low high =
     let p = and_parts (test k) (list_all test (numbers (k + 1) n)) h in
     elim (cases_lt k d) [
-      | inl l ↦ among test (k + 1) n d p.1 (omega arith) (omega arith)
+      | inl l ↦ list_all-numbers test (k + 1) n d p.1 (omega arith) (omega arith)
       | inr g ↦ let e : k ≡ d = omega arith in subst (λ x. test x ≡ true) e p.0
     ]
 
@@ -37,7 +38,7 @@ each_passes test ten [] h = refl
 each_passes test ten (d ∷ ds) h =
     let p = and_parts (nat_lt d 10) (are_digits ds) h in
     let l = ltb-true d 10 p.0 in
-    and_from (test d) (list_all test ds) (among test 0 10 d ten (omega arith) (omega arith))
+    and_from (test d) (list_all test ds) (list_all-numbers test 0 10 d ten (omega arith) (omega arith))
     (each_passes test ten ds p.1)
 
 -- and by their bytes
@@ -95,8 +96,8 @@ fewer (zero ∷ ds) h = fewer ds h
 fewer (suc d ∷ ds) h = h
 
 module _ (n : ℕ) (small : n < 65536) where
-  pub are : are_digits (digits n) ≡ true
-  are = search (rules, lt-ltb, more_digits, fewer, tens)
+  pub are_digits-digits : are_digits (digits n) ≡ true
+  are_digits-digits = search (rules, lt-ltb, more_digits, fewer, tens)
 
   pub decimal_is : written (digits n) ≡ decimal n
   decimal_is = (digits_law n small).written
@@ -112,4 +113,4 @@ pub some_digit : (n : ℕ) → 0 < length (digits n)
 some_digit n = let e = length-append (before_units n) (n % 10 ∷ []) in omega (arith, e)
 
 -- what a source reads in the bytes of a number
-pub ruleset spelled = (are, decimal_is, value_is, few_bytes, line_bytes, run_bytes, digit_bytes)
+pub ruleset spelled = (are_digits-digits, decimal_is, value_is, few_bytes, line_bytes, run_bytes, digit_bytes)

@@ -7,7 +7,7 @@ use Rattle.ed_sources.proofs.Kit.{word_cost, next, number_after, number_word, wo
 use Rattle.ed_link.proofs.Kit.{place_on, head, heads, punched_from}
 use Rattle.ed_sources.specs.Costs.{heads_cost}
 use Rattle.ed_sources.specs.DemoRuns.{LastDemoIsLongest, demo_orders, most_demo_orders}
-use Rattle.ed_sources.proofs.Decimals.{among}
+use Rattle.ed_sources.proofs.Decimals.{list_all-numbers}
 use Rattle.ed_sources.proofs.DemoFaultless.{lines_behind, lines_with}
 use Rattle.ed_sources.proofs.DemoPlaced.{more_words}
 use Rattle.ed_sources.proofs.SaidDemo.{enter_line, segment_forms, word_forms}
@@ -124,7 +124,7 @@ module _ (words n x l : ℕ) where
 pub demo_few : (n : ℕ) → 1 ≤ n → n ≤ 112 → demo_cost n + demo_orders n ≤ most_demo_orders
 demo_few n some few =
     leb-true (demo_cost n + demo_orders n) most_demo_orders
-    (among (λ k. nat_le (demo_cost k + demo_orders k) most_demo_orders) 1 112 n refl some (omega arith))
+    (list_all-numbers (λ k. nat_le (demo_cost k + demo_orders k) most_demo_orders) 1 112 n refl some (omega arith))
 
 pub last_demo_is_longest : LastDemoIsLongest
 last_demo_is_longest = refl

@@ -1,8 +1,8 @@
 -- The source of `demo` from its entry to its stop.
-use Rattle.ed_sources.proofs.Kit.{Size, opens, Line, codes, map, None, take, least, HasRoutine, ReachesStop, [], arith}
-use Rattle.ed_sources.proofs.Kit.{get_or, inr, List, lit≤, Option, refl, rules, Some, suc, sym, ℕ, ◌*◌, ◌++◌, ◌+◌, ◌<◌}
-use Rattle.ed_sources.proofs.Kit.{◌∙◌, ◌∷◌, ◌≡◌, ◌≤◌, locations, State, state, patched, print, with_h, digits}
-use Rattle.ed_sources.proofs.Kit.{print_orders, entry_of, cost, entry_state, demo_cost, demo_sum}
+use Rattle.ed_sources.proofs.Kit.{Size, patched-filled, Line, codes, map, None, take, locations_least, HasRoutine}
+use Rattle.ed_sources.proofs.Kit.{ReachesStop, [], arith, get_or, inr, List, lit≤, Option, refl, rules, Some, suc, sym}
+use Rattle.ed_sources.proofs.Kit.{ℕ, ◌*◌, ◌++◌, ◌+◌, ◌<◌, ◌∙◌, ◌∷◌, ◌≡◌, ◌≤◌, locations, State, state, patched, print}
+use Rattle.ed_sources.proofs.Kit.{with_h, digits, print_orders, entry_of, cost, entry_state, demo_cost, demo_sum}
 use Rattle.ed_sources.specs.DemoSources.{demo_words}
 use Rattle.ed_sources.proofs.AtEntry.{all_words}
 use Rattle.ed_sources.proofs.Blocks.{last_at}
@@ -45,12 +45,12 @@ module _ (z : Size) (n : ℕ) (few : n ≤ 111) (fits : 123 + 8 * suc n ≤ loca
   same : patched 0 s.store.words 56 (cells 56 72 stop (taking 123) 0 0) ≡ s.store.words
   same =
       let all = all_words z lines in
-      opens image s.store.words 56 (omega arith)
+      patched-filled image s.store.words 56 (omega arith)
       (holds_by z lines known 123 (early_word words n (suc n) last_line z few) image 56 refl (lit≤ tt) (lit≤ tt))
 
   has_print : HasRoutine (frame_at 16 z (lit≤ tt)) s.store.words print 72 (with_h 71)
   has_print =
-      let size = least z in
+      let size = locations_least z in
       routine_by z lines known 123 (early_word words n (suc n) last_line z few) (frame_at 16 z (lit≤ tt)) print 72
       (with_h 71) (print_image words n (suc n) last_line) (lit≤ tt) (lit≤ tt) (lit≤ tt) (omega arith) (inr (lit≤ tt))
 

@@ -5,7 +5,8 @@ use Rattle.ed_sources.proofs.Kit.{zero, ℕ, ◌*◌, ◌++◌, ◌+◌, ◌∷�
 use Rattle.ed_link.proofs.Kit.{max, min, resolution, any_enter, cause_of, extent, fault_from}
 use Rattle.ed_words.specs.declared.size.Size.TheVariants.{Small, Full}
 use Rattle.ed_symbols.specs.Names.{symbols_from}
-use Rattle.ed_link.proofs.Extents.{ExtentList, list_any-apart, are_below, fits_store, none_later, one_by_one, one_more, past}
+use Rattle.ed_link.proofs.Extents.{ExtentList, list_any-apart, are_below, fits_store, none_later, one_by_one, one_more}
+use Rattle.ed_link.proofs.Extents.{past}
 use Rattle.ed_sources.proofs.Decimals.{decimal_is}
 use Rattle.ed_sources.proofs.DemoNames.{enter_named, first_free, first_homes, program_named, segments_named, AreNamed}
 use Rattle.ed_sources.proofs.Said.{said}

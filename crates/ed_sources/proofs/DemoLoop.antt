@@ -1,9 +1,9 @@
 -- The program of `demo`, at any base and for any number of words: the loop whose order changes its own address, the
 -- call of `print`, and the stop.
 use Rattle.ed_sources.proofs.Kit.{sum_by-cons, A_F, G_F, Z_F, HasRoutine, ReachesStop, [], arith, get_or, inr, length}
-use Rattle.ed_sources.proofs.Kit.{List, lit<, lit≤, refl, subst, ℕ, ◌*◌, ◌+◌, ◌-◌, ◌<◌, ◌∙◌, ◌∷◌, ◌≡◌, ◌≤◌, locations_most}
-use Rattle.ed_sources.proofs.Kit.{Frame, Moment, short, state, A, G_jumps, leads, on, Path, stay, own, print, with_h}
-use Rattle.ed_sources.proofs.Kit.{digits, print_orders}
+use Rattle.ed_sources.proofs.Kit.{List, lit<, lit≤, refl, subst, ℕ, ◌*◌, ◌+◌, ◌-◌, ◌<◌, ◌∙◌, ◌∷◌, ◌≡◌, ◌≤◌}
+use Rattle.ed_sources.proofs.Kit.{locations_most, Frame, Moment, short, state, A, G_jumps, Leads-path, on, Path, stay}
+use Rattle.ed_sources.proofs.Kit.{own, print, with_h, digits, print_orders}
 use Rattle.ed_maths.proofs.Kit.{G_stays, S, T, followed, early, out}
 use Rattle.std.proofs.Common.{sum}
 use Rattle.ed_words.specs.declared.order_words.TheConstants.{S_F, T_F, U_F}
@@ -155,4 +155,4 @@ module _ (given : Given) where
         let sums = rounds.0.sums in
         let total : last.total ≡ n = omega arith in
         let count = nine_each x (c ∷ cs) in
-        stop_after (leads (rw count at rounds.1) done) refl (closes last total (done + 9 * length (c ∷ cs)))
+        stop_after (Leads-path (rw count at rounds.1) done) refl (closes last total (done + 9 * length (c ∷ cs)))

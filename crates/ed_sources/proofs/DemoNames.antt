@@ -7,7 +7,7 @@ use Rattle.std.specs.Str.{bytes_eq}
 use Rattle.std.proofs.lemmas.Slice.Eq.{bytes_eq-Decides}
 use Rattle.ed_symbols.specs.NameTests.{naming_fault_from}
 use Rattle.ed_symbols.specs.Names.{definition_of}
-use Rattle.ed_sources.proofs.Decimals.{among, decimal_is, value_is, written}
+use Rattle.ed_sources.proofs.Decimals.{list_all-numbers, decimal_is, value_is, written}
 use Rattle.ed_sources.proofs.SaidDemo.{adding_lines, enter_line, name, segment_forms, segment_line}
 
 -- ---- definitions without a name
@@ -65,7 +65,7 @@ IsFree k symbols = (j : ℕ) → k ≤ j → j ≤ 112 → has_none (name j) sym
 pub first_free : IsFree 2 first_homes
 first_free j low high =
     subst (λ (bytes : Text). has_none (115 ∷ bytes) first_homes ≡ true) (decimal_is j (omega arith))
-    (among (λ j. has_none (115 ∷ written (digits j)) first_homes) 2 111 j refl low (omega arith))
+    (list_all-numbers (λ j. has_none (115 ∷ written (digits j)) first_homes) 2 111 j refl low (omega arith))
 
 more_free : (k : ℕ) (symbols : List Definition) (h : Definition) → h.name ≡ name k → k ≤ 112 → IsFree k symbols
     → IsFree (k + 1) (symbols ++ h ∷ [])

@@ -1,11 +1,12 @@
 -- The source that divides a number and prints the quotient and the remainder, from its entry to its stop.
-use Rattle.ed_sources.proofs.Kit.{mod-lt, Size, nat_tests, IsDivisible, parameter_store, length-replicate, least}
-use Rattle.ed_sources.proofs.Kit.{[], arith, Bool, false, lit<, lit≤, refl, subst, ℕ, ◌%◌, ◌*◌, ◌++◌}
+use Rattle.ed_sources.proofs.Kit.{mod-lt, Size, nat_tests, IsDivisible, parameter_store, length-replicate}
+use Rattle.ed_sources.proofs.Kit.{locations_least, [], arith, Bool, false, lit<, lit≤, refl, subst, ℕ, ◌%◌, ◌*◌, ◌++◌}
 use Rattle.ed_sources.proofs.Kit.{◌+◌, ◌/◌, ◌<◌, ◌∙◌, ◌∷◌, ◌≡◌, ◌≤◌, short_at, State, newline, print, with_h, digits}
 use Rattle.ed_sources.proofs.Kit.{print_orders, divide, IsDivision, with_hnm, divide_orders, dividend, entry_state}
 use Rattle.ed_sources.proofs.Kit.{StopsAt-behind, StopsAt, List, Line, rules}
 use Rattle.std.proofs.Math.Nat.{div-lt_iff_lt-mul}
-use Rattle.ed_sources.proofs.Along.{IsAt, before, IsAt-entered, has, IsAt-passed, HasCall, prints, stops}
+use Rattle.ed_sources.proofs.Along.{IsAt, IsBefore-placed, IsAt-entered, HasRoutine-placed, IsAt-passed, HasCall}
+use Rattle.ed_sources.proofs.Along.{prints, stops}
 use Rattle.ed_sources.proofs.AtEntry.{word_at}
 use Rattle.ed_sources.proofs.CalledMaths.{Divides, divides}
 use Rattle.ed_sources.proofs.CalledRoutines.{Passes, newline_passes}
@@ -56,11 +57,12 @@ module _ (z : Size) (high low by : ℕ) (positive : 1 ≤ by) (fits : by ≤ 327
   at_by = word_at z lines refl 67 (lit≤ tt) (lit< tt)
 
   is_division : IsDivision 68 65 66 67 s
-  is_division = grind (arith, nat_tests, least, at_by, at_high, at_low)
+  is_division = grind (arith, nat_tests, locations_least, at_by, at_high, at_low)
 
   division : Divides s 56 65 109 65 66 67
   division =
-      divides (before at divide_call) (length-replicate {A = Bool} 512 false) refl (has at divide_call) is_division
+      divides (IsBefore-placed at divide_call) (length-replicate {A = Bool} 512 false) refl
+      (HasRoutine-placed at divide_call) is_division
       (lit≤ tt, lit≤ tt) (lit< tt) (lit< tt)
 
   abbrev takes : Passes (2 + divide_orders (dividend 65 66 s / short_at s.store 67)) s [] 56 65 109
@@ -95,7 +97,7 @@ module _ (z : Size) (high low by : ℕ) (positive : 1 ≤ by) (fits : by ≤ 327
   newline_call = search rules
 
   feeds : Passes 7 printed.last (18 ∷ 24 ∷ []) 60 162 169
-  feeds = newline_passes (before at_newline newline_call) (has at_newline newline_call)
+  feeds = newline_passes (IsBefore-placed at_newline newline_call) (HasRoutine-placed at_newline newline_call)
 
   -- ---- `print`, of the remainder
 

@@ -1,11 +1,11 @@
 -- A program whose words are known at its entry is at its base, by one test.
-use Rattle.ed_sources.proofs.Kit.{Size, Line, nat_eq, None, list_all, image_word, unwrap_or, eqb-true, least}
+use Rattle.ed_sources.proofs.Kit.{Size, Line, nat_eq, None, list_all, image_word, unwrap_or, eqb-true, locations_least}
 use Rattle.ed_sources.proofs.Kit.{placed_at, HasRoutine, [], arith, Bool, get_or, length, List, Option, refl, Some}
 use Rattle.ed_sources.proofs.Kit.{true, ℕ, ◌+◌, ◌<◌, ◌∙◌, ◌≡◌, ◌≤◌, ◌⊎◌, locations, short_at, State, Frame, Moment}
 use Rattle.ed_sources.proofs.Kit.{Holds, place_count, entry_state}
 use Rattle.ed_machine.proofs.Kit.Standing.{Meets}
 use Rattle.ed_sources.proofs.AtEntry.{has_image, have_places, placed, word_at}
-use Rattle.ed_sources.proofs.Decimals.{among, numbers}
+use Rattle.ed_sources.proofs.Decimals.{list_all-numbers, numbers}
 
 -- whether a word is the wanted one, if one is wanted
 abbrev pub is_met : Option ℕ → ℕ → Bool
@@ -26,7 +26,8 @@ module _ (z : Size) (lines : List Line) where
         → 44 ≤ base → base + length image ≤ top → Holds image (entry_state z lines).store.words base
     holds_by image base test low high i l =
         let met : is_met (get_or image i None) (unwrap_or (word (base + i)) 0) ≡ true =
-        among (λ i. is_met (get_or image i None) (unwrap_or (word (base + i)) 0)) 0 (length image) i test (omega arith)
+        list_all-numbers (λ i. is_met (get_or image i None) (unwrap_or (word (base + i)) 0)) 0 (length image) i test
+        (omega arith)
         (omega arith) in
         let here = word_is (base + i) (omega arith) (omega arith) in
         rw here (meets_of (get_or image i None) (unwrap_or (word (base + i)) 0) met)
@@ -40,14 +41,15 @@ module _ (z : Size) (lines : List Line) where
         → HasRoutine f (entry_state z lines).store.words r base parameters
     routine_by f r base parameters test low high under reached apart = record {
       low = low;
-      fits = let size = least f.size in omega arith;
+      fits = let size = locations_least f.size in omega arith;
       reached = reached;
       apart = apart;
       at2 = refl;
       at3 = refl;
       image = λ i l free. word_is (base + i) (omega arith) (omega arith)
           ∙ eqb-true (unwrap_or (word (base + i)) 0) (image_word r i base parameters)
-          (among (λ i. nat_eq (unwrap_or (word (base + i)) 0) (image_word r i base parameters)) 0 (place_count r) i test
+          (list_all-numbers (λ i. nat_eq (unwrap_or (word (base + i)) 0) (image_word r i base parameters)) 0
+          (place_count r) i test
           (omega arith) (omega arith));
     }
 
@@ -74,7 +76,7 @@ frame_at n z few = record {
   size = z;
   base = 56;
   top = locations z;
-  under = let size = least z in omega arith;
+  under = let size = locations_least z in omega arith;
   fits = omega arith;
 }
 

@@ -9,8 +9,8 @@ pub use Rattle.ed_words.specs.declared.order_words.TheConstants.{A_F, G_F, Z_F}
 pub use Rattle.ed_words.specs.declared.size.Size.{Size}
 pub use Rattle.ed_words.proofs.SizeLemmas.{within_below}
 pub use Rattle.ed_orders.specs.declared.kind.Kind.TheVariants.{G}
-pub use Rattle.ed_machine.proofs.Kit.Leads.{joined, no_stops}
-pub use Rattle.ed_machine.proofs.Kit.Standing.{opens}
+pub use Rattle.ed_machine.proofs.Kit.Leads.{Leads-append, no_stops}
+pub use Rattle.ed_machine.proofs.Kit.Standing.{patched-filled}
 pub use Rattle.ed_run.specs.declared.settings.Settings.{Settings}
 pub use Rattle.ed_notation.specs.declared.item.Item.{Item}
 pub use Rattle.ed_syntax.specs.Reading.Grammar.{row, spells}
@@ -30,9 +30,9 @@ pub use Rattle.ed_library.specs.declared.call.Call.TheVariants.{Check, Divide, N
 pub use Rattle.ed_symbols.specs.declared.location_counter.LocationCounter.{LocationCounter}
 pub use Rattle.ed_symbols.specs.declared.symbols.Definition.{Definition}
 pub use Rattle.ed_link.proofs.Extents.{counter}
-pub use Rattle.ed_link.proofs.Kit.{append-nil, reverse, unwrap_or, eq-eqb, eqb-true, ne_eqb, length-replicate, least}
-pub use Rattle.ed_link.proofs.Kit.{placed_at, first_counter, fault, linked_words, placed_words, symbols_of, item_with}
-pub use Rattle.ed_link.proofs.Kit.{punched_items, word_item, item_cost}
+pub use Rattle.ed_link.proofs.Kit.{append-nil, reverse, unwrap_or, eq-eqb, eqb-true, ne_eqb, length-replicate}
+pub use Rattle.ed_link.proofs.Kit.{locations_least, placed_at, first_counter, fault, linked_words, placed_words}
+pub use Rattle.ed_link.proofs.Kit.{symbols_of, item_with, punched_items, word_item, item_cost}
 pub use Rattle.ed_routines.specs.Digits.{before_units}
 pub use Rattle.ed_routines.proofs.Called.{IsCalled}
 pub use Rattle.ed_routines.proofs.Digits.{digits_law, few_digits, tens}
@@ -40,11 +40,11 @@ pub use Rattle.ed_routines.proofs.Journeys.{HasRoutine, ReachesStop}
 pub use Rattle.ed_routines.proofs.Kit.{[], ap, arith, Bool, drop, false, get_or, if◌then◌else◌, inl, inr, length, List}
 pub use Rattle.ed_routines.proofs.Kit.{lit<, lit≤, nat_lt, Option, refl, rules, Some, subst, suc, sym, true, zero, ℕ}
 pub use Rattle.ed_routines.proofs.Kit.{◌%◌, ◌*◌, ◌++◌, ◌+◌, ◌-◌, ◌/◌, ◌<◌, ◌==◌, ◌^◌, ◌∙◌, ◌∷◌, ◌≡◌, ◌≤◌, ◌⊎◌, le-ltb}
-pub use Rattle.ed_routines.proofs.Kit.{lt-ltb, locations, locations_most, short_at, State, state_after, Frame, Moment, short}
-pub use Rattle.ed_routines.proofs.Kit.{state, free, Leads, A, G_jumps, leads, on, Path, stay, own, Holds, place_count}
-pub use Rattle.ed_routines.proofs.Kit.{newline, print, read, with_h, after_digits, digit_rows, digits, digits_value}
-pub use Rattle.ed_routines.proofs.Kit.{print_orders, sum, without_zeros, IsOther, caller, HasWord, IsLoadedAt}
-pub use Rattle.ed_routines.proofs.Kit.{IsOutside}
+pub use Rattle.ed_routines.proofs.Kit.{lt-ltb, locations, locations_most, short_at, State, state_after, Frame, Moment}
+pub use Rattle.ed_routines.proofs.Kit.{short, state, AreObeyed-leads, Leads, A, G_jumps, Leads-path, on, Path, stay}
+pub use Rattle.ed_routines.proofs.Kit.{own, Holds, place_count, newline, print, read, with_h, after_digits, digit_rows}
+pub use Rattle.ed_routines.proofs.Kit.{digits, digits_value, print_orders, sum, without_zeros, IsOther, caller, HasWord}
+pub use Rattle.ed_routines.proofs.Kit.{IsLoadedAt, IsOutside}
 unfoldable pub use Rattle.ed_routines.proofs.Kit.{step, patched}
 pub use Rattle.ed_maths.specs.Quotients.{divide, IsDivision, with_hnm}
 pub use Rattle.ed_maths.specs.Roots.{root, root_of, with_hn}

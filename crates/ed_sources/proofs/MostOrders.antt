@@ -6,9 +6,9 @@ use Rattle.ed_sources.proofs.Kit.{cases_lt, call_orders, most_call_orders, call_
 use Rattle.std.proofs.lemmas.Bool.{or_cases}
 use Rattle.ed_library.specs.CallRanges.{IsCallInRange}
 use Rattle.ed_maths.specs.Quotients.{ones}
-use Rattle.ed_maths.proofs.RootCall.{few as below_256}
+use Rattle.ed_maths.proofs.RootCall.{IsRoot-few as below_256}
 use Rattle.ed_sources.specs.CallRuns.{EachMostIsTaken}
-use Rattle.ed_sources.proofs.Decimals.{among}
+use Rattle.ed_sources.proofs.Decimals.{list_all-numbers}
 use Rattle.ed_sources.proofs.DivideAndPrint.{quotient_low}
 use Rattle.ed_sources.proofs.PrintOrders.{digits_long, digits_sum, print_few, sum_few}
 use Rattle.ed_sources.proofs.WordCosts.{word_cost_few}
@@ -21,7 +21,7 @@ remainder_few r small = let digits = digits_sum r in let long = digits_long r in
 
 ones_many : (q : ℕ) → 59990 ≤ q → q < 60000 → 8 ≤ ones 16 q
 unfolding ones
-ones_many q low high = leb-true 8 (ones 16 q) (among (λ k. nat_le 8 (ones 16 k)) 59990 10 q refl low high)
+ones_many q low high = leb-true 8 (ones 16 q) (list_all-numbers (λ k. nat_le 8 (ones 16 k)) 59990 10 q refl low high)
 
 quotient_few : (q : ℕ) → q < 65536 → divide_orders q + print_orders q ≤ 554
 quotient_few q small = search (rules, digits_sum, digits_long, sum_few, cases_lt, ones_many)
@@ -31,7 +31,7 @@ quotient_few q small = search (rules, digits_sum, digits_long, sum_few, cases_lt
 root_few : (r : ℕ) → r < 256 → root_orders r + print_orders r ≤ 2196
 root_few r small =
     leb-true (root_orders r + print_orders r) 2196
-    (among (λ k. nat_le (root_orders k + print_orders k) 2196) 0 256 r refl (omega arith) small)
+    (list_all-numbers (λ k. nat_le (root_orders k + print_orders k) 2196) 0 256 r refl (omega arith) small)
 
 root_of_most : root_of 65535 ≡ 255
 root_of_most =
@@ -39,7 +39,8 @@ root_of_most =
     let r = root_of 65535 in
     let low = below_256 65535 r is (lit< tt) in
     let test =
-    among (λ k. nat_eq k 255 || nat_le ((k + 1) * (k + 1)) 65535) 0 256 r refl (omega arith) (omega (arith, low)) in
+    list_all-numbers (λ k. nat_eq k 255 || nat_le ((k + 1) * (k + 1)) 65535) 0 256 r refl (omega arith)
+    (omega (arith, low)) in
     elim (or_cases (nat_eq r 255) (nat_le ((r + 1) * (r + 1)) 65535) test) [
       | inl same ↦ eqb-true r 255 same
       | inr square ↦

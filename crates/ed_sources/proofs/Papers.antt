@@ -3,7 +3,7 @@ use Rattle.ed_sources.proofs.Kit.{decimal, and_parts, ltb-true, append-nil, [], 
 use Rattle.ed_sources.proofs.Kit.{true, ℕ, ◌++◌, ◌+◌, ◌<◌, ◌∙◌, ◌∷◌, ◌≡◌, digits, paper}
 use Rattle.ed_printer.specs.Paper.{paper_from}
 use Rattle.ed_printer.specs.declared.printer.Shift.TheVariants.{Figures}
-use Rattle.ed_sources.proofs.Decimals.{are, are_digits, decimal_is, written}
+use Rattle.ed_sources.proofs.Decimals.{are_digits-digits, are_digits, decimal_is, written}
 
 digit_struck : (d : ℕ) (rest : List ℕ) → d < 10 → paper_from Figures (d ∷ rest) ≡ (48 + d) ∷ paper_from Figures rest
 digit_struck d rest l = search rules
@@ -18,7 +18,7 @@ digits_struck (d ∷ ds) rest h =
 -- after a figure shift they are the number in decimal, whatever is printed after them
 pub number_shown : (n : ℕ) → n < 65536 → (rest : List ℕ)
     → paper_from Figures (11 ∷ digits n ++ rest) ≡ decimal n ++ paper_from Figures rest
-number_shown n small rest = digits_struck (digits n) rest (are n small)
+number_shown n small rest = digits_struck (digits n) rest (are_digits-digits n small)
     ∙ ap (λ (x : List ℕ). x ++ paper_from Figures rest) (decimal_is n small)
 
 pub digits_printed : (n : ℕ) → n < 65536 → paper (11 ∷ digits n) ≡ decimal n

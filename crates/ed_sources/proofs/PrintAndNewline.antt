@@ -1,7 +1,7 @@
 -- The sources that print a number and a new line, from their entries to their stops.
 use Rattle.ed_sources.proofs.Kit.{Size, parameter_store, [], lit<, lit≤, refl, ℕ, ◌+◌, ◌<◌, ◌∷◌, newline, print}
 use Rattle.ed_sources.proofs.Kit.{with_h, digits, print_orders, entry_state, StopsAt, rules}
-use Rattle.ed_sources.proofs.Along.{IsAt, before, IsAt-entered, has, HasCall, stops, prints}
+use Rattle.ed_sources.proofs.Along.{IsAt, IsBefore-placed, IsAt-entered, HasRoutine-placed, HasCall, stops, prints}
 use Rattle.ed_sources.proofs.AtEntry.{word_at}
 use Rattle.ed_sources.proofs.CalledRoutines.{newline_passes}
 use Rattle.ed_sources.proofs.Said.{newline_lines, print_lines}
@@ -33,4 +33,5 @@ module _ (z : Size) where
 
   pub newline_ends : StopsAt 7 (entry_state z newline_lines) (18 ∷ 24 ∷ []) 58
   newline_ends =
-      stops at_newline newline_call (newline_passes (before at_newline newline_call) (has at_newline newline_call)) refl
+      stops at_newline newline_call
+      (newline_passes (IsBefore-placed at_newline newline_call) (HasRoutine-placed at_newline newline_call)) refl

@@ -3,9 +3,10 @@ use Rattle.ed_sources.proofs.Kit.{Size, and_parts, parameter_store, append-nil, 
 use Rattle.ed_sources.proofs.Kit.{length, List, lit<, lit≤, nat_lt, refl, subst, true, ℕ, ◌*◌, ◌++◌, ◌+◌, ◌<◌}
 use Rattle.ed_sources.proofs.Kit.{◌∙◌, ◌∷◌, ◌≡◌, short_at, State, print, read, with_h, after_digits, digit_rows}
 use Rattle.ed_sources.proofs.Kit.{digits, print_orders, entry_state, StopsAt-behind, StopsAt, rules}
-use Rattle.ed_sources.proofs.Along.{IsAt, before, IsAt-entered, has, IsAt-passed, HasCall, out, stops, prints}
+use Rattle.ed_sources.proofs.Along.{IsAt, IsBefore-placed, IsAt-entered, HasRoutine-placed, IsAt-passed, HasCall, out}
+use Rattle.ed_sources.proofs.Along.{stops, prints}
 use Rattle.ed_sources.proofs.CalledRoutines.{Passes, ReadsNumber, reads}
-use Rattle.ed_sources.proofs.Decimals.{are, are_digits}
+use Rattle.ed_sources.proofs.Decimals.{are_digits-digits, are_digits}
 use Rattle.ed_sources.proofs.Said.{read_lines}
 
 -- the digit rows of a tape are the digits that it begins with, and then its other rows are left
@@ -35,12 +36,13 @@ module _ (z : Size) (n : ℕ) (small : n < 65536) where
   tape_is = append-nil (digits n ++ 17 ∷ [])
 
   rows : digit_rows s.tape ≡ digits n
-  rows = ap digit_rows tape_is ∙ rows_are (digits n) [] (are n small)
+  rows = ap digit_rows tape_is ∙ rows_are (digits n) [] (are_digits-digits n small)
 
   taken : ReadsNumber s 56 61 86
   taken =
-      reads (before at read_call) {h = 61} (has at read_call) (out at read_call (lit< tt)) (lit< tt)
-      (ap after_digits tape_is ∙ rest_is (digits n) [] (are n small)) (lit< tt)
+      reads (IsBefore-placed at read_call) {h = 61} (HasRoutine-placed at read_call) (out at read_call (lit< tt))
+      (lit< tt)
+      (ap after_digits tape_is ∙ rest_is (digits n) [] (are_digits-digits n small)) (lit< tt)
 
   abbrev takes : Passes (2 + (11 + 13 * length (digit_rows s.tape))) s [] 56 61 86
   takes = taken.passes

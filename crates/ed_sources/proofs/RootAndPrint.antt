@@ -2,15 +2,15 @@
 use Rattle.ed_sources.proofs.Kit.{Size, parameter_store, [], arith, inl, lit<, lit≤, refl, ℕ, ◌+◌}
 use Rattle.ed_sources.proofs.Kit.{◌<◌, ◌∷◌, ◌≡◌, short_at, State, print, with_h, digits, print_orders, root, root_of}
 use Rattle.ed_sources.proofs.Kit.{with_hn, root_is, root_orders, entry_state, StopsAt-behind, StopsAt, rules}
-use Rattle.ed_maths.proofs.RootCall.{few}
-use Rattle.ed_sources.proofs.Along.{IsAt, before, IsAt-entered, has, IsAt-passed, word_there, HasCall, out, stops}
-use Rattle.ed_sources.proofs.Along.{prints}
+use Rattle.ed_maths.proofs.RootCall.{IsRoot-few}
+use Rattle.ed_sources.proofs.Along.{IsAt, IsBefore-placed, IsAt-entered, HasRoutine-placed, IsAt-passed, word_there}
+use Rattle.ed_sources.proofs.Along.{HasCall, out, stops, prints}
 use Rattle.ed_sources.proofs.CalledMaths.{TakesRoot, takes_root}
 use Rattle.ed_sources.proofs.CalledRoutines.{Passes}
 use Rattle.ed_sources.proofs.SaidMaths.{root_lines}
 
 pub root_small : (n : ℕ) → n < 65536 → root_of n < 65536
-root_small n small = let low = few n (root_of n) (root_is n) small in omega arith
+root_small n small = let low = IsRoot-few n (root_of n) (root_is n) small in omega arith
 
 module _ (z : Size) (n : ℕ) (small : n < 65536) where
   abbrev s : State
@@ -33,7 +33,8 @@ module _ (z : Size) (n : ℕ) (small : n < 65536) where
 
   taken : TakesRoot s 56 87 62 r
   taken =
-      takes_root (before at its_call) {source = 61} {target = 62} (has at its_call) (out at its_call (lit< tt))
+      takes_root (IsBefore-placed at its_call) {source = 61} {target = 62} (HasRoutine-placed at its_call)
+      (out at its_call (lit< tt))
       (out at its_call (lit< tt)) (λ e. omega (arith, e)) (rw number small) (rw number (root_is n)) (lit< tt)
 
   abbrev takes : Passes (2 + root_orders r) s [] 56 62 87

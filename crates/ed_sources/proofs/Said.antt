@@ -9,7 +9,7 @@ use Rattle.ed_sources.proofs.Kit.{digits, row, spells, map, row_of}
 use Rattle.ed_syntax.proofs.Kit.{is_place_name, array, modulo, quoted, parts_from, map-append}
 use Rattle.ed_syntax.specs.declared.program.Setting.{Setting}
 use Rattle.ed_sources.proofs.CallTexts.{call_lines}
-use Rattle.ed_sources.proofs.Decimals.{are, are_digits, decimal_is, few_bytes, line_bytes, no_quotes}
+use Rattle.ed_sources.proofs.Decimals.{are_digits-digits, are_digits, decimal_is, few_bytes, line_bytes, no_quotes}
 use Rattle.ed_sources.proofs.Decimals.{row_bytes, rows_are, some_digit, written, spelled}
 use Rattle.ed_sources.proofs.TextLines.{Says, ends, says, by_parts}
 use Rattle.ed_syntax.specs.declared.program.Operand.TheVariants as operands
@@ -217,7 +217,7 @@ read_number : (n : ℕ) → n < 65536
 read_number n small =
     subst (λ (bytes : Text). line_of false 11 (codes "data " ++ 34 ∷ bytes ++ 70 ∷ 34 ∷ [])
     ≡ Ok (record { label = None; statement = Some (statements.Rows (array (digits n ++ 17 ∷ []))) }))
-    (decimal_is n small) (rows_line (digits n) (are n small) (few_bytes n small))
+    (decimal_is n small) (rows_line (digits n) (are_digits-digits n small) (few_bytes n small))
 
 pub read_says : (n : ℕ) → n < 65536 → Says false 1 (call_lines (Read n)) (read_lines n)
 unfolding settings

@@ -5,8 +5,8 @@ use Rattle.ed_sources.proofs.Kit.{sign, settings, parts_of, line_of, run_parts, 
 use Rattle.ed_sources.proofs.Kit.{List, lit≤, refl, rules, Some, subst, suc, sym, true, zero, ℕ, ◌*◌, ◌++◌, ◌+◌, ◌<◌}
 use Rattle.ed_sources.proofs.Kit.{◌==◌, ◌∙◌, ◌∷◌, ◌≡◌, ◌≤◌, digits, adding_pieces, next, number_after, number_word}
 use Rattle.ed_sources.proofs.Kit.{segments, word_lines}
-use Rattle.ed_sources.proofs.Decimals.{are, decimal_is, digit_bytes, few_bytes, line_bytes, run_bytes, some_digit}
-use Rattle.ed_sources.proofs.Decimals.{value_is, written}
+use Rattle.ed_sources.proofs.Decimals.{are_digits-digits, decimal_is, digit_bytes, few_bytes, line_bytes, run_bytes}
+use Rattle.ed_sources.proofs.Decimals.{some_digit, value_is, written}
 use Rattle.ed_sources.proofs.FilledLines.{filled_lines}
 use Rattle.ed_sources.proofs.Said.{a_number, number_parts, order, plain_front, said, stop, word_says}
 use Rattle.ed_sources.proofs.SaidMaths.{use_print}
@@ -94,7 +94,8 @@ segment_says : (l k : ℕ) → 2 ≤ l → k < 65536
     ≡ Ok (record { label = None; statement = Some (statements.Segment (name k) None) })
 segment_says l k second small =
     segment_says_of l (name k) (written (digits k)) (ap (λ (t : Text). 115 ∷ t) (sym (decimal_is k small))) second
-    (line_bytes (digits k) (are k small)) (few_bytes k small) (run_bytes (digits k) (are k small))
+    (line_bytes (digits k) (are_digits-digits k small)) (few_bytes k small)
+    (run_bytes (digits k) (are_digits-digits k small))
 
 segments_say : (n k l x : ℕ) {rest : List Text} {program : List Line} → 2 ≤ l → k + n ≤ 65536
     → Says false (l + 9 * n) rest program
@@ -133,12 +134,12 @@ stop_says words few =
     let small : words < 65536 = omega arith in
     let ds : List ℕ = digits words in
     let some : 0 < length (written ds) = let e = some_digit words in omega (arith, length-map ds (λ d. 48 + d), e) in
-    let runs = run_bytes ds (are words small) in
+    let runs = run_bytes ds (are_digits-digits words small) in
     subst (λ (bytes : Text). line_of false 15 (codes "stop: A s1+" ++ (bytes ++ codes " F"))
     ≡ Ok (record { label = Some (codes "stop"); statement = Some (behind_last words) }))
     (decimal_is words small)
-    (stop_line (written ds) some (line_bytes ds (are words small)) (few_bytes words small) runs
-    (a_number (written ds) some (digit_bytes ds (are words small))) (value_is words small) few)
+    (stop_line (written ds) some (line_bytes ds (are_digits-digits words small)) (few_bytes words small) runs
+    (a_number (written ds) some (digit_bytes ds (are_digits-digits words small))) (value_is words small) few)
 
 -- the text lines of the program, and of the source
 abbrev pub adding : ℕ → List Text

@@ -31,7 +31,8 @@ pub stopped_outcome : (s : Settings) {lines : List Line} {k at : ℕ} {printed :
     → s.resumes ≡ 0 → s.post_mortem ≡ None → cost lines + (k + 1) ≤ s.limit
     → run_outcome s lines ≡ record {
       out = paper printed;
-      note = entry_note (entry_of lines) (cost lines) ++ (at_after (codes "stopped") at (cost lines + (k + 1)) ++ 10 ∷ []);
+      note = entry_note (entry_of lines) (cost lines) ++
+          (at_after (codes "stopped") at (cost lines + (k + 1)) ++ 10 ∷ []);
       status = 0;
     }
 stopped_outcome s {lines} {k} {at} {printed} entry stops few none plain fits =

@@ -11,7 +11,7 @@ use Rattle.ed_machine.specs.declared.ending.Ending.TheVariants.{Stopped}
 use Rattle.ed_machine.specs.declared.turn.Turn.{Turn}
 use Rattle.ed_machine.specs.declared.turn.Turn.TheVariants.{Stopped as Stops}
 use Rattle.ed_machine.proofs.Counts.{counted_after}
-use Rattle.ed_machine.proofs.Kit.Leads.{Leads, free, joined, no_stops}
+use Rattle.ed_machine.proofs.Kit.Leads.{Leads, AreObeyed-leads, Leads-append, no_stops}
 use Rattle.ed_machine.proofs.LeastNumbers.{first_once}
 use Rattle.ed_run.specs.Laws.{HasRoom}
 use Rattle.ed_run.proofs.Places.{at_stop}
@@ -29,7 +29,7 @@ pub record StopsAt (k : ℕ) (s : State) (codes : List ℕ) (place : ℕ) : Type
 -- and after other orders
 pub StopsAt-behind : {a b place : ℕ} {s t : State} {cs ds : List ℕ} → Leads a s cs t → StopsAt b t ds place
     → StopsAt (a + b) s (cs ++ ds) place
-StopsAt-behind first o = search (rules, joined)
+StopsAt-behind first o = search (rules, Leads-append)
 
 -- the order that stops the machine moves its counter on
 stopped_state : (k : Option Kind) (w : ℕ) (x : State) → (obey_word k w x).turn ≡ Stops
@@ -49,7 +49,7 @@ step_stopped x h = stopped_state (kind_of_function (function_of (next_word x))) 
 pub comes_to_stop : {k place : ℕ} {s : State} {codes : List ℕ} → StopsAt k s codes place
     → place + 1 < locations s.size → ReachesStop k s codes (place + 1)
 comes_to_stop {k} {place} {s} o below =
-    search (rules, after, step_stopped, size_after, counted_after, free, within_below)
+    search (rules, after, step_stopped, size_after, counted_after, AreObeyed-leads, within_below)
 
 -- how a run ends that stops at an order
 pub record RanToStop (r : RunEnd) (codes : List ℕ) (last : State) : Type 0 where
@@ -67,7 +67,7 @@ ran_to_stop limit room k s codes o fits less =
     ap (λ (t : Turn). (progress k s).codes ++ codes_of t) turn ∙ append-nil (progress k s).codes ∙ o.leads.codes_are in
     let obeyed : AreObeyed (suc k) s = λ j l.
     elim (cases_lt j k) [
-      | inl below ↦ free o.leads j below
+      | inl below ↦ AreObeyed-leads o.leads j below
       | inr here ↦ let e : j ≡ k = omega arith in ap (λ x. is_obeyed (step (state_after x s)).turn) e
           ∙ ap is_obeyed turn
     ] in

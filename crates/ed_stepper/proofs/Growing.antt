@@ -42,11 +42,13 @@ more_traced j (suc i) s =
     )
 
 -- whether the line is full
-lined_full : (k : ℕ) → is_full (k + 1) ≡ true → (orders_in_full_lines (k + 1) ≡ k + 1) × ((k + 1) % 50 ≡ 0) × (orders_in_full_lines k ≡ k + 1 - 50)
+lined_full : (k : ℕ) → is_full (k + 1) ≡ true
+    → (orders_in_full_lines (k + 1) ≡ k + 1) × ((k + 1) % 50 ≡ 0) × (orders_in_full_lines k ≡ k + 1 - 50)
 lined_full k e =
     let h : (k + 1) % 50 ≡ 0 = grind (arith, nat_tests) in (grind arith, h, grind arith)
 
-lined_open : (k : ℕ) → is_full (k + 1) ≡ false → (orders_in_full_lines (k + 1) ≡ orders_in_full_lines k) × ((k + 1) % 50 ≡ k % 50 + 1)
+lined_open : (k : ℕ) → is_full (k + 1) ≡ false
+    → (orders_in_full_lines (k + 1) ≡ orders_in_full_lines k) × ((k + 1) % 50 ≡ k % 50 + 1)
 lined_open k e = search rules
 
 -- the letter of one order more
@@ -68,22 +70,27 @@ module _ {k : ℕ} {s m : State} {before now : Option (List ℕ)} {held : List �
           → Lines (k + 1) s before after left
       by_test true e p =
           let n = lined_full k (sym e) in
-          let all : traced_letters (orders_in_full_lines (k + 1)) s ≡ traced_letters (k + 1) s = ap (λ x. traced_letters x s) n.0 in
+          let all : traced_letters (orders_in_full_lines (k + 1)) s
+          ≡ traced_letters (k + 1) s = ap (λ x. traced_letters x s) n.0 in
           record {
             gains = subst (λ t. Gains before after t) (sym (all ∙ more true e))
-                (gains_more before now after (traced_letters (orders_in_full_lines k) s) (held ++ l ∷ 10 ∷ []) lines.gains p.0);
+                (gains_more before now after (traced_letters (orders_in_full_lines k) s)
+                (held ++ l ∷ 10 ∷ []) lines.gains p.0);
             whole = sym all ∙ sym (append-nil (traced_letters (orders_in_full_lines (k + 1)) s))
                 ∙ ap (λ t. traced_letters (orders_in_full_lines (k + 1)) s ++ t) (sym p.1);
             few = ap length p.1 ∙ sym n.1;
           }
       by_test false e p =
           let n = lined_open k (sym e) in
-          let same : traced_letters (orders_in_full_lines (k + 1)) s ≡ traced_letters (orders_in_full_lines k) s = ap (λ x. traced_letters x s) n.0 in
+          let same : traced_letters (orders_in_full_lines (k + 1)) s
+          ≡ traced_letters (orders_in_full_lines k) s = ap (λ x. traced_letters x s) n.0 in
           let count : length left ≡ length held + 1 = ap length p.1 ∙ length-append held (l ∷ []) in
           record {
             gains = subst (λ t. Gains before after t) (sym same)
-                (subst (λ (b : Option (List ℕ)). Gains before b (traced_letters (orders_in_full_lines k) s)) (sym p.0) lines.gains);
-            whole = more false e ∙ ap (λ t. traced_letters (orders_in_full_lines k) s ++ t) (sym p.1) ∙ ap (λ t. t ++ left) (sym same);
+                (subst (λ (b : Option (List ℕ)). Gains before b (traced_letters (orders_in_full_lines k) s))
+                (sym p.0) lines.gains);
+            whole = more false e ∙ ap (λ t. traced_letters (orders_in_full_lines k) s ++ t) (sym p.1)
+                ∙ ap (λ t. t ++ left) (sym same);
             few = omega (arith, count, n.1, lines.few);
           }
 
@@ -99,7 +106,8 @@ module _ {k : ℕ} {s m : State} {before now : Option (List ℕ)} {held : List �
       by_test false same p = absurd p
       by_test true same p =
           let n = lined_full k (sym same) in
-          let front : traced_letters (orders_in_full_lines k) s ≡ traced_letters (k + 1 - 50) s = ap (λ x. traced_letters x s) n.2 in
+          let front : traced_letters (orders_in_full_lines k) s
+          ≡ traced_letters (k + 1 - 50) s = ap (λ x. traced_letters x s) n.2 in
           record {
             orders = k + 1;
             some = omega arith;

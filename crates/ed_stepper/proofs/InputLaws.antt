@@ -37,10 +37,10 @@ pub division_is_read : {input : Text} {i : Input} → IsDivided input i → inpu
 division_is_read (by_last [] kind e is) = absurd (cc)
 division_is_read (by_last (b ∷ bs) kind e is) = search (rules, first_is, input_of-divides, after_unended)
 division_is_read (by_line line text kind e is) =
-    let first = first_is (line ++ 10 ∷ text) (without_return line) (lines_of text) (Lines.ended line text e) in
+    let first = first_is (line ++ 10 ∷ text) (without_return line) (lines_of text) (Lines.lines_of-ended line text e) in
     search (rules, input_of-divides, long_ended, after_ended)
 division_is_read (further_on line text i e none d) =
-    let first = first_is (line ++ 10 ∷ text) (without_return line) (lines_of text) (Lines.ended line text e) in
+    let first = first_is (line ++ 10 ∷ text) (without_return line) (lines_of text) (Lines.lines_of-ended line text e) in
     input_of-passes (line ++ 10 ∷ text) (long_ended line text) (ap text_kind_of first ∙ none)
     ∙ (λ j. prefixed (front_ended line text e j) (input_of (after_ended line text e j)))
     ∙ ap (prefixed (line ++ 10 ∷ [])) (division_is_read d)
@@ -62,7 +62,7 @@ undivided_is_read (last b bs e) none =
     input_of-passes (b ∷ bs) (omega arith) (ap text_kind_of first ∙ none 0 [] (omega arith))
     ∙ ap (λ (t : Text). prefixed (line_front (b ∷ bs)) (input_of t)) (after_unended (b ∷ bs) e)
 undivided_is_read (ended line text lines e h) none =
-    let first = first_is (line ++ 10 ∷ text) (without_return line) (lines_of text) (Lines.ended line text e) in
+    let first = first_is (line ++ 10 ∷ text) (without_return line) (lines_of text) (Lines.lines_of-ended line text e) in
     input_of-passes (line ++ 10 ∷ text) (long_ended line text) (ap text_kind_of first ∙ none 0 [] (omega arith))
     ∙ ap (λ (t : Text). prefixed (line_front (line ++ 10 ∷ text)) (input_of t)) (after_ended line text e)
     ∙ ap (prefixed (line_front (line ++ 10 ∷ text))) (undivided_is_read h (λ k d l. none (suc k) d (omega (arith, l))))
@@ -139,7 +139,7 @@ read_is_undivided input is = go (one_input.every input)
     go (inr d) = let same : None ≡ Some d.0 = sym is ∙ division_is_read d.1 in absurd (cc)
 
 -- the lines are counted when none are left
-pub counted : {count : ℕ} (text rest : Text) → length rest ≡ 0
+pub HasLineCount-rest : {count : ℕ} (text rest : Text) → length rest ≡ 0
     → count + length (lines_of rest) ≡ length (lines_of text) → HasLineCount text count
-counted text [] none same = (lines_of text, read_lines_are text, omega (arith, same))
-counted text (b ∷ bs) none same = absurd (omega (arith, none))
+HasLineCount-rest text [] none same = (lines_of text, read_lines_are text, omega (arith, same))
+HasLineCount-rest text (b ∷ bs) none same = absurd (omega (arith, none))

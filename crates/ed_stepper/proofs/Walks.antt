@@ -43,8 +43,8 @@ module _ {aim : MoveTarget} {left : ℕ} {s : State} {k : ℕ} {m : State} (w : 
 
   -- its next order
   module _ {n : State} {turn : Turn} (is : turn ≡ (step m).turn) (to : n ≡ (step m).state) where
-    pub next : is_obeyed turn ≡ true → Next aim left s k m n turn
-    next obeyed =
+    pub Next-obeyed : is_obeyed turn ≡ true → Next aim left s k m n turn
+    Next-obeyed obeyed =
         let same : (step (state_after k s)).turn ≡ turn = ap (λ (x : State). (step x).turn) (sym w.state) ∙ sym is in
         record {
           state = next_state k s w.state to;
@@ -57,7 +57,7 @@ module _ {aim : MoveTarget} {left : ℕ} {s : State} {k : ℕ} {m : State} (w : 
     -- if it neither stops nor is blocked
     pub Next-taken : (turn ≡ Went) ⊎ ((x : ℕ) × (turn ≡ Printed x))
         → Next aim left s k m n turn × (is_stop turn ≡ false)
-    Next-taken quiet = let q = quiet_turn turn quiet in (next q.0, q.1)
+    Next-taken quiet = let q = quiet_turn turn quiet in (Next-obeyed q.0, q.1)
 
 -- after such an order
 module _ {aim : MoveTarget} {left : ℕ} {s : State} {k : ℕ} {m n : State} {turn : Turn}

@@ -21,11 +21,12 @@ whole_trace limit resumes s =
     let n : ℕ = run_orders limit resumes limit s in ap (λ k. traced_letters n s ++ last_end k) (functions_count n s)
 
 -- what was found of a run is what the function gives
-pub found : (limit resumes : ℕ) (s : State) {k : ℕ} {ending : Ending} → EndsAfter limit resumes limit s k ending
+pub EndsAfter-run_end : (limit resumes : ℕ) (s : State) {k : ℕ} {ending : Ending}
+    → EndsAfter limit resumes limit s k ending
     → (k ≡ run_orders limit resumes limit s)
     × ((ending ≡ (run_end limit resumes limit s).ending) × (state_after k s ≡ (run_end limit resumes limit s).state))
 unfolding run_end
-found limit resumes s e =
+EndsAfter-run_end limit resumes s e =
     let one = first_once e (ran_ends limit resumes limit s) in (one.0, (one.1, ap (λ n. state_after n s) one.0))
 
 -- the trace of orders whose lines are full

@@ -47,12 +47,12 @@ module _ (ask : List Line → Line → Option SourceCause) (Rule : List Line →
     at_end : (before : List Line) → lines ≡ before ++ [] → Clear (length before) → Finds Rule lines None
     at_end before e clear = search (rules, length-append, append-nil)
 
-    pub finds : (before rest : List Line) → lines ≡ before ++ rest → Clear (length before)
+    pub Finds-first : (before rest : List Line) → lines ≡ before ++ rest → Clear (length before)
         → Finds Rule lines (first ask before rest)
-    finds before [] e clear = at_end before e clear
-    finds before (x ∷ rest) e clear =
+    Finds-first before [] e clear = at_end before e clear
+    Finds-first before (x ∷ rest) e clear =
         by_answer (ask before x) (asks before x)
-        (λ none. finds _ rest (e ∙ sym (append_assoc before (x ∷ []) rest)) none)
+        (λ none. Finds-first _ rest (e ∙ sym (append_assoc before (x ∷ []) rest)) none)
       where
         stands : IsLineAfter lines before x
         stands = record { after = rest; lines_are = e }

@@ -12,7 +12,7 @@ use Rattle.ed_syntax.proofs.Causes.{one_least}
 use Rattle.ed_symbols.specs.NameFaults.{LineHasNameFault, HasNameFault, NameFaultIs, EachHasOneNameFault}
 use Rattle.ed_symbols.specs.NameTests.{resolution}
 use Rattle.ed_symbols.proofs.AgainSentences.{Ties-s6}
-use Rattle.ed_symbols.proofs.FaultPasses.{first, finds, Finds, Numbered}
+use Rattle.ed_symbols.proofs.FaultPasses.{first, Finds-first, Finds, Numbered}
 use Rattle.ed_symbols.proofs.LeastFaults.{Least, Least-picks}
 use Rattle.ed_symbols.proofs.NamingSentences.{Ties-s7, Ties-s8}
 use Rattle.ed_syntax.specs.declared.fault.SourceCause.TheVariants as causes
@@ -83,8 +83,8 @@ found_says Rule lines f h = search rules
 
 -- ---- the law
 
-pub numbers : (lines : List Line) → AreNumbered lines → Numbered lines
-numbers lines are before l st =
+pub Numbered-lines : (lines : List Line) → AreNumbered lines → Numbered lines
+Numbered-lines lines are before l st =
     let n : length lines ≡ length before + length (l ∷ st.after) =
     ap (λ (x : List Line). length x) st.lines_are ∙ length-append before _ in
     let same : slice_index_or lines (length before) l ≡ l =
@@ -94,7 +94,7 @@ numbers lines are before l st =
 
 pub say_names : (lines : List Line) → Numbered lines → SaysLeast (HasNameFault lines) (resolution lines).fault
 say_names lines numbered = found_says _ lines (resolution lines).fault (rw (names_pass lines [] lines)
-    (finds (ask_names lines) (LineHasNameFault lines) lines numbered (λ b l. of_names lines b l) [] lines refl
+    (Finds-first (ask_names lines) (LineHasNameFault lines) lines numbered (λ b l. of_names lines b l) [] lines refl
     (λ b l c st h. omega arith)))
 
 fault_of : (lines : List Line) (f : Option SourceFault) → SaysLeast (HasNameFault lines) f → NameFaultIs lines f
@@ -102,7 +102,7 @@ fault_of lines f h = search rules
 
 -- the fault that is found is that of the source
 pub found_is : (lines : List Line) → AreNumbered lines → NameFaultIs lines (resolution lines).fault
-found_is lines are = search (rules, fault_of, say_names, numbers)
+found_is lines are = search (rules, fault_of, say_names, Numbered-lines)
 
 one_fault : (lines : List Line) (f g : Option SourceFault) → NameFaultIs lines f → NameFaultIs lines g → f ≡ g
 one_fault lines None None h i = refl

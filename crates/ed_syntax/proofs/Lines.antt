@@ -19,15 +19,15 @@ one_byte b rest true r e = simp (e, r)
 one_byte b rest false r e = simp (e, r) (ap (with_byte b) (empty_line rest))
 
 -- The first line reaches up to the first end, without a carriage return there.
-pub ended : (front rest : Text) → has_end front ≡ false
+pub lines_of-ended : (front rest : Text) → has_end front ≡ false
     → lines_of (front ++ 10 ∷ rest) ≡ without_return front ∷ lines_of rest
-ended [] rest e = empty_line rest
-ended (b ∷ []) rest e = one_byte b rest (b == 13) refl (no_end_head b [] e).0
-ended (b ∷ c ∷ f) rest e =
+lines_of-ended [] rest e = empty_line rest
+lines_of-ended (b ∷ []) rest e = one_byte b rest (b == 13) refl (no_end_head b [] e).0
+lines_of-ended (b ∷ c ∷ f) rest e =
     let here = no_end_head b (c ∷ f) e in
     let first : (b == 10) ≡ false = here.0 in
     let second : (c == 10) ≡ false = (no_end_head c f here.1).0 in
-    simp (first, second, and-false) (ap (with_byte b) (ended (c ∷ f) rest here.1))
+    simp (first, second, and-false) (ap (with_byte b) (lines_of-ended (c ∷ f) rest here.1))
 
 pub unended : (b : ℕ) (bs : Text) → has_end (b ∷ bs) ≡ false → lines_of (b ∷ bs) ≡ (b ∷ bs) ∷ []
 unended b [] e = let first : (b == 10) ≡ false = (no_end_head b [] e).0 in simp first
@@ -51,7 +51,7 @@ takes_ended text line i lt e h is =
     let whole = split_at text i 10 lt h in
     let size : length (drop (i + 1) text) + (i + 1) ≡ length text = omega (arith, length-drop (i + 1) text, lt) in
     record {
-      lines = ap lines_of whole ∙ ended (take i text) (drop (i + 1) text) e
+      lines = ap lines_of whole ∙ lines_of-ended (take i text) (drop (i + 1) text) e
           ∙ ap (λ (l : Text). l ∷ lines_of (drop (i + 1) text)) (sym is);
       shorter = omega (arith, size);
     }

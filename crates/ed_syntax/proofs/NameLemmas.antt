@@ -55,9 +55,9 @@ pub IfNone-named : {A : Type 0} (P : Type 0) (o : Option A) (text r : Text) → 
 IfNone-named P o text r same h none = search rules
 
 -- a text that isn't empty and has at most 16 bytes
-pub within : (text : Text) → (length text == 0) ≡ false → length text ≤ 16
+pub length-within : (text : Text) → (length text == 0) ≡ false → length text ≤ 16
     → (true ≡ false → (length text ≡ 0) ⊎ (16 < length text)) × ((length text ≡ 0) ⊎ (16 < length text) → true ≡ false)
-within text some few = search rules
+length-within text some few = search rules
 
 -- a text that is no name
 pub empty_or_long : (text : Text) (empty : Bool) → empty ≡ (length text == 0)

@@ -33,7 +33,7 @@ use Rattle.ed_syntax.proofs.Programs.{numbered}
 pub lines_are_read : (text : Text) (lines : List Text) → HasLines text lines → lines_of text ≡ lines
 lines_are_read _ _ nothing = refl
 lines_are_read _ _ (last b bs e) = Lines.unended b bs e
-lines_are_read _ _ (ended line text lines e h) = search (rules, Lines.ended, lines_are_read text lines h)
+lines_are_read _ _ (ended line text lines e h) = search (rules, Lines.lines_of-ended, lines_are_read text lines h)
 
 -- a text has one list of lines
 pub one_lines : {text : Text} {lines others : List Text} → HasLines text lines → HasLines text others → lines ≡ others
@@ -303,7 +303,8 @@ fault_of text n c h = record {
         (says.0, rw (← same) says.1)
 
     by_order : (m : ℕ) (d : SourceCause) (g : SourceHasFormFault text m d)
-        → (length h.before ≡ length g.before) ⊎ ((length h.before < length g.before) ⊎ (length g.before < length h.before))
+        → (length h.before ≡ length g.before) ⊎
+        ((length h.before < length g.before) ⊎ (length g.before < length h.before))
         → (n < m) ⊎ ((n ≡ m) × (number_of c ≤ number_of d))
     by_order m d g (inl e) =
         let same : m ≡ n = omega (arith, e) in

@@ -31,9 +31,9 @@ locations_most Small = omega arith
 locations_most Full = omega arith
 
 -- a size is at least 512
-pub least : (z : Size) → 512 ≤ locations z
-least Small = omega arith
-least Full = omega arith
+pub locations_least : (z : Size) → 512 ≤ locations z
+locations_least Small = omega arith
+locations_least Full = omega arith
 
 small : (z : Size) (n : ℕ) → n < locations z → n ≡ n % locations z
 small Small n h = omega arith

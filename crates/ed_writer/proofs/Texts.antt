@@ -207,9 +207,9 @@ program_says two lines numbered size e f place g =
     }
 
 -- if there is no line for `version 2`, no text says the lines
-pub unsaid : (two : Bool) (lines : List Line) → has_version_place two lines ≡ false → (text : Text)
+pub IsProgram-unsaid : (two : Bool) (lines : List Line) → has_version_place two lines ≡ false → (text : Text)
     → IsProgram text two lines → ⊥
-unsaid two lines e text p = by_lines two p.lines lines e p.version p.says
+IsProgram-unsaid two lines e text p = by_lines two p.lines lines e p.version p.says
   where
     bare : (l : Line) → AreSame l.label None l.statement None → is_bare l ≡ true
     bare l same = λ i. is_none (same.label i) && is_none (same.statement i)

@@ -22,8 +22,8 @@ pub obeyed_of : (turn : Turn) → goes_on turn ≡ true → is_obeyed turn ≡ t
 obeyed_of turn e = search rules
 
 -- such orders are obeyed
-pub free : {k : ℕ} {s t : State} {codes : List ℕ} → Leads k s codes t → AreObeyed k s
-free o j l = obeyed_of _ (o.goes j l)
+pub AreObeyed-leads : {k : ℕ} {s t : State} {codes : List ℕ} → Leads k s codes t → AreObeyed k s
+AreObeyed-leads o j l = obeyed_of _ (o.goes j l)
 
 -- and none of them stops the machine
 pub no_stops : (k : ℕ) (s : State) → ((j : ℕ) → j < k → goes_on (step (state_after j s)).turn ≡ true)
@@ -56,8 +56,9 @@ unfolding progress step
 first_order s word is = ap (λ w. (obey_word (kind_of_function (function_of w)) w s).state) is
 
 -- such orders after others
-pub joined : {a b : ℕ} {s t u : State} {cs ds : List ℕ} → Leads a s cs t → Leads b t ds u → Leads (a + b) s (cs ++ ds) u
-joined {a} {b} {s} {t} {u} {cs} {ds} first second = record {
+pub Leads-append : {a b : ℕ} {s t u : State} {cs ds : List ℕ} → Leads a s cs t → Leads b t ds u
+    → Leads (a + b) s (cs ++ ds) u
+Leads-append {a} {b} {s} {t} {u} {cs} {ds} first second = record {
   state_is = after_sum a b s ∙ ap (state_after b) first.state_is ∙ second.state_is;
   codes_are = ap (λ (p : Progress). p.codes) (past_sum a b s)
       ∙ (λ i. first.codes_are i ++ (progress b (first.state_is i)).codes)

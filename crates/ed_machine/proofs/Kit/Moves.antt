@@ -10,9 +10,9 @@ use Rattle.ed_orders.specs.declared.kind.Kind.TheVariants.{T as KindT, U as Kind
 use Rattle.ed_orders.specs.declared.kind.Kind.TheVariants.{E as KindE, G as KindG, I as KindI, O as KindO, F as KindF}
 use Rattle.ed_orders.specs.declared.kind.Kind.TheVariants.{X as KindX, Y as KindY, Z as KindZ}
 use Rattle.ed_machine.proofs.Kit.Frames.{Frame, Moment, state}
-use Rattle.ed_machine.proofs.Kit.Orders.{Does, Stands, Names, named, obeyed, by_place, by_word}
-use Rattle.ed_machine.proofs.Kit.Places.{Place, address, is_pair, is_written, value, at_top, fitting, fitted, put}
-use Rattle.ed_machine.proofs.Kit.Places.{reads, writes}
+use Rattle.ed_machine.proofs.Kit.Orders.{Does, Stands, Names, Named-at, step-word, by_place, by_word}
+use Rattle.ed_machine.proofs.Kit.Places.{Place, address, is_pair, is_written, value, at_top, fitting, fitting-at_top}
+use Rattle.ed_machine.proofs.Kit.Places.{put, read_at-value, written_cells-put}
 use Rattle.ed_machine.proofs.Kit.Shifts.{IsShift}
 use Rattle.ed_machine.proofs.Kit.Sums.{Remains, IsQuotient, AddsProduct, plus71_is, minus71_is, left71_is, right71_is}
 use Rattle.ed_machine.proofs.Kit.Sums.{plus_product_is, collated_is}
@@ -37,23 +37,23 @@ module _ {n h : ℕ} {f : Frame n h} {r : Moment} where
   -- A, S: the number there is added, subtracted
   pub A : (i : ℕ) (p : Place f r) (u : ℕ) → Reads i 28 p → (r.acc + value f r p * 2 ^ 36) % 2 ^ 71 ≡ u
       → Moves f KindA r (record r { acc = u; counter = f.base + (i + 1) })
-  A i p u e sum = by_place i 28 p true e refl refl (λ o k. search (rules, reads, plus71_is))
+  A i p u e sum = by_place i 28 p true e refl refl (λ o k. search (rules, read_at-value, plus71_is))
 
   pub S : (i : ℕ) (p : Place f r) (u : ℕ) → Reads i 12 p → Remains r.acc (value f r p * 2 ^ 36) u
       → Moves f KindS r (record r { acc = u; counter = f.base + (i + 1) })
-  S i p u e rest = by_place i 12 p true e refl refl (λ o k. search (rules, reads, minus71_is))
+  S i p u e rest = by_place i 12 p true e refl refl (λ o k. search (rules, read_at-value, minus71_is))
 
   -- H: the multiplier is the number there
   pub H : (i : ℕ) (p : Place f r) → Reads i 21 p → Moves f KindH r (record r {
     multiplier = value f r p;
     counter = f.base + (i + 1);
   })
-  H i p e = by_place i 21 p true e refl refl (λ o k. search (rules, reads))
+  H i p e = by_place i 21 p true e refl refl (λ o k. search (rules, read_at-value))
 
   -- V, N: the product is added, subtracted; V in plain numbers if both are positive
   pub V_signed : (i : ℕ) (p : Place f r) (u : ℕ) → Reads i 31 p → plus_product r.acc r.multiplier (value f r p) ≡ u
       → Moves f KindV r (record r { acc = u; counter = f.base + (i + 1) })
-  V_signed i p u e sum = by_place i 31 p true e refl refl (λ o k. search (rules, reads))
+  V_signed i p u e sum = by_place i 31 p true e refl refl (λ o k. search (rules, read_at-value))
 
   pub V : (i : ℕ) (p : Place f r) (u : ℕ) → Reads i 31 p → AddsProduct r.acc r.multiplier (value f r p) u
       → Moves f KindV r (record r { acc = u; counter = f.base + (i + 1) })
@@ -61,39 +61,39 @@ module _ {n h : ℕ} {f : Frame n h} {r : Moment} where
 
   pub N : (i : ℕ) (p : Place f r) (u : ℕ) → Reads i 22 p → minus_product r.acc r.multiplier (value f r p) ≡ u
       → Moves f KindN r (record r { acc = u; counter = f.base + (i + 1) })
-  N i p u e sum = by_place i 22 p true e refl refl (λ o k. search (rules, reads))
+  N i p u e sum = by_place i 22 p true e refl refl (λ o k. search (rules, read_at-value))
 
   -- C: the digits that the multiplier and the number there have in common are added
   pub C : (i : ℕ) (p : Place f r) (y u : ℕ) → Reads i 30 p → common 35 r.multiplier (value f r p) ≡ y
       → (r.acc + 2 ^ 36 * y) % 2 ^ 71 ≡ u
       → Moves f KindC r (record r { acc = u; counter = f.base + (i + 1) })
-  C i p y u e both sum = by_place i 30 p true e refl refl (λ o k. search (rules, reads, collated_is))
+  C i p y u e both sum = by_place i 30 p true e refl refl (λ o k. search (rules, read_at-value, collated_is))
 
   -- T, U: the most significant digits of the accumulator are written there, and T clears it. `T` and `U` are for one
   -- that has that number at its upper end and nothing else: both last arguments may be `refl`, and the
   -- number `_`
   pub T_top : (i : ℕ) (p : Place f r) (u : ℕ) → Writes i 5 p → fitting f r p (r.acc / 2 ^ 54) (r.acc / 2 ^ 36) ≡ u
       → Moves f KindT r (record (put f r p u) { acc = 0; counter = f.base + (i + 1) })
-  T_top i p u e top = by_place i 5 p _ e refl refl (λ o k. search (rules, writes))
+  T_top i p u e top = by_place i 5 p _ e refl refl (λ o k. search (rules, written_cells-put))
 
   pub T : (i : ℕ) (p : Place f r) (u : ℕ) → Writes i 5 p → r.acc ≡ at_top f r p u
       → Moves f KindT r (record (put f r p u) { acc = 0; counter = f.base + (i + 1) })
-  T i p u e is = T_top i p u e (fitted f r p r.acc u is)
+  T i p u e is = T_top i p u e (fitting-at_top f r p r.acc u is)
 
   pub U_top : (i : ℕ) (p : Place f r) (u : ℕ) → Writes i 7 p → fitting f r p (r.acc / 2 ^ 54) (r.acc / 2 ^ 36) ≡ u
       → Moves f KindU r (record (put f r p u) { counter = f.base + (i + 1) })
-  U_top i p u e top = by_place i 7 p _ e refl refl (λ o k. search (rules, writes))
+  U_top i p u e top = by_place i 7 p _ e refl refl (λ o k. search (rules, written_cells-put))
 
   pub U : (i : ℕ) (p : Place f r) (u : ℕ) → Writes i 7 p → r.acc ≡ at_top f r p u
       → Moves f KindU r (record (put f r p u) { counter = f.base + (i + 1) })
-  U i p u e is = U_top i p u e (fitted f r p r.acc u is)
+  U i p u e is = U_top i p u e (fitting-at_top f r p r.acc u is)
 
   -- I: a row is read into there
   pub I : (i : ℕ) (p : Place f r) {c : ℕ} {rest : List ℕ} (u : ℕ) → Writes i 8 p → r.tape ≡ c ∷ rest
       → fitting f r p c (c * 2 ^ 18) ≡ u
       → Moves f KindI r (record (put f r p u) { tape = rest; counter = f.base + (i + 1) })
   I i p u e row is = by_place i 8 p _ e refl refl (λ o k.
-      ap (λ x. row_order x o.w (state f r k)) row ∙ search (rules, writes))
+      ap (λ x. row_order x o.w (state f r k)) row ∙ search (rules, written_cells-put))
 
   -- F: the last printed code is written there. It is a step and not a line of a path, so that what holds of every path
   -- can be required of a program that the checking routine obeys, which has no F
@@ -104,13 +104,13 @@ module _ {n h : ℕ} {f : Frame n h} {r : Moment} where
         turn = Went;
       }
   F i p u k e is =
-      let o = named f r i 17 p (is_written f r p) e refl in
-      obeyed f r KindF o.w (f.base + (i + 1)) k o.is ∙ search (rules, writes)
+      let o = Named-at f r i 17 p (is_written f r p) e refl in
+      step-word f r KindF o.w (f.base + (i + 1)) k o.is ∙ search (rules, written_cells-put)
 
   -- O: the code there is printed
   pub O : (i : ℕ) (p : Place f r) (c : ℕ) → Reads i 9 p → value f r p / 2 ^ 30 ≡ c
       → Does f KindO r (Printed c) (record r { last = Some c; counter = f.base + (i + 1) })
-  O i p c e is = by_place i 9 p true e refl refl (λ o k. search (rules, reads))
+  O i p c e is = by_place i 9 p true e refl refl (λ o k. search (rules, read_at-value))
 
   -- R, L: the accumulator is shifted; R in plain numbers if it is positive
   pub R_signed : (i : ℕ) {w p : ℕ} → IsShift 4 w p → (u : ℕ) → Stands f r i w true → right71 r.acc p ≡ u

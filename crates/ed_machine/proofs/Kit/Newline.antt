@@ -5,9 +5,9 @@ use Rattle.ed_words.specs.declared.order_words.TheConstants.{A_F, E_F, O_F, T_F}
 use Rattle.ed_machine.proofs.Kit.Frames.{Frame, Moment, state, short}
 use Rattle.ed_machine.proofs.Kit.Leads.{Leads}
 use Rattle.ed_machine.proofs.Kit.Moves.{A, T, O, E_jumps}
-use Rattle.ed_machine.proofs.Kit.Paths.{Path, stay, on, prints, leads}
+use Rattle.ed_machine.proofs.Kit.Paths.{Path, stay, on, prints, Leads-path}
 use Rattle.ed_machine.proofs.Kit.Places.{early, own, out, any}
-use Rattle.ed_machine.proofs.Kit.Standing.{Holds, IsWorking, opens, unchanged}
+use Rattle.ed_machine.proofs.Kit.Standing.{Holds, IsWorking, patched-filled, get_or-patched}
 use Rattle.ed_machine.proofs.Kit.Window.{patched}
 
 -- its listing at b: A3F T4θ O5θ O6θ, the order that returns, and the codes of carriage return and line feed
@@ -69,7 +69,7 @@ module _ (s : State) (b m top : ℕ) (o : IsCalled s b m top) (all : length s.st
   begins : state f (at 0 (short (A_F + 2 * m)) (get_or s.store.words (b + 4) 0) s.last) s.orders ≡ s
   begins =
       let size = locations_most s.size in
-      let same = opens (image b) s.store.words b (omega (arith, o.under, o.fits, size, all)) o.holds in
+      let same = patched-filled (image b) s.store.words b (omega (arith, o.under, o.fits, size, all)) o.holds in
       let z : b + 0 ≡ b = omega arith in
       rw (z, same, sym o.acc, sym o.counter) refl
 
@@ -81,9 +81,9 @@ module _ (s : State) (b m top : ℕ) (o : IsCalled s b m top) (all : length s.st
     last = Some 24;
     orders = s.orders + 5;
   })
-  newline = rw begins at (leads (path (get_or s.store.words (b + 4) 0)) s.orders)
+  newline = rw begins at (Leads-path (path (get_or s.store.words (b + 4) 0)) s.orders)
 
   -- each word of the store is unchanged, except the order that returns
   pub keeps : (i : ℕ) → (IsWorking (image b) b i → ⊥)
       → get_or (patched 0 s.store.words b (cells b link)) i 0 ≡ get_or s.store.words i 0
-  keeps = unchanged (image b) s.store.words b (cells b link) refl refl o.holds
+  keeps = get_or-patched (image b) s.store.words b (cells b link) refl refl o.holds

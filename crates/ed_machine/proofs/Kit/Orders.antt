@@ -8,7 +8,7 @@ use Rattle.std.proofs.lemmas.Bool.{or_parts}
 use Rattle.ed_words.specs.Words.{is_spare}
 use Rattle.ed_words.proofs.SizeLemmas.{within_below}
 use Rattle.ed_machine.proofs.Kit.Frames.{Frame, Moment, all_words, state}
-use Rattle.ed_machine.proofs.Kit.Places.{Place, address, is_pair, is_there, near}
+use Rattle.ed_machine.proofs.Kit.Places.{Place, address, is_pair, is_there, address-near}
 use Rattle.ed_machine.proofs.Kit.Window.{get_own}
 
 -- whether an order of a kind names a location, whether it jumps to it, and whether it is F
@@ -103,9 +103,9 @@ module _ {n h : ℕ} (f : Frame n h) (r : Moment) where
       → IsWord kind w (f.base + (i + 1))
   word i w test kind e is = search (rules, get_own)
 
-  pub obeyed : (kind : Kind) (w next k : ℕ) → IsWord kind w next → step (state f r k) ≡ obey kind w (state f r k)
+  pub step-word : (kind : Kind) (w next k : ℕ) → IsWord kind w next → step (state f r k) ≡ obey kind w (state f r k)
   unfolding step
-  obeyed kind w next k o = rw (o.here, o.kind_is) refl
+  step-word kind w next k o = rw (o.here, o.kind_is) refl
 
   -- what it names
   pub record Named (kind : Kind) (p : Place f r) (more : Bool) (next : ℕ) : Type 0 where
@@ -117,12 +117,13 @@ module _ {n h : ℕ} (f : Frame n h) (r : Moment) where
     pub more_is : more ≡ true
     pub reaches : IsNear f.top w
 
-  pub named : (i g : ℕ) {kind : Kind} (p : Place f r) (more : Bool) → Names i g p more → kind_of_function g ≡ Some kind
+  pub Named-at : (i g : ℕ) {kind : Kind} (p : Place f r) (more : Bool) → Names i g p more → kind_of_function g
+      ≡ Some kind
       → Named kind p more (f.base + (i + 1))
-  named i g {kind} p more e is =
+  Named-at i g {kind} p more e is =
       let w : ℕ = 4096 * g + digit (is_pair f r p) + 2 * address f r p in
       let tests = and_parts more (is_there f r p) (ap (λ x. x.1.1.1) e) in
-      let below = near f r p tests.1 in
+      let below = address-near f r p tests.1 in
       let small : address f r p < 1024 = omega (arith, below, f.fits, locations_most f.size) in
       let x = fields_by g (address f r p) (is_pair f r p) small in
       record {
@@ -147,10 +148,10 @@ module _ {n h : ℕ} {f : Frame n h} {r : Moment} {kind : Kind} {turn : Turn} {t
       → obey kind o.w (state f r k) ≡ record { state = state f t (k + 1); turn = turn })
       → Does f kind r turn t
   by_place i g p more e is fine does =
-      let o = named f r i g p more e is in
+      let o = Named-at f r i g p more e is in
       let x = or_parts (is_F kind) (jumps kind && (more && is_pair f r p)) fine in
       record {
-        does = λ k. obeyed f r kind o.w (f.base + (i + 1)) k o.is ∙ does o k;
+        does = λ k. step-word f r kind o.w (f.base + (i + 1)) k o.is ∙ does o k;
         order = order_of f r kind x.0 o.is (λ y. o.reaches)
             (λ y. o.long ∙ short_by (jumps kind) more (is_pair f r p) x.1 y o.more_is);
       }
@@ -164,7 +165,7 @@ module _ {n h : ℕ} {f : Frame n h} {r : Moment} {kind : Kind} {turn : Turn} {t
       let o = word f r i w true kind e is in
       let x = stays kind none in
       record {
-        does = λ k. obeyed f r kind w (f.base + (i + 1)) k o ∙ does o k;
+        does = λ k. step-word f r kind w (f.base + (i + 1)) k o ∙ does o k;
         order = order_of f r kind x.1 o (λ y. absurd (true≢false (sym y ∙ none)))
             (λ y. absurd (true≢false (sym y ∙ x.0)));
       }

@@ -52,13 +52,13 @@ unfolding progress
 none s = record { state_is = refl; codes_are = refl; goes = λ j h. absurd (omega arith) }
 
 -- a path leads the machine where it says, whatever the count of orders before
-pub leads : {n h : ℕ} {f : Frame n h} {k : ℕ} {r t : Moment} {cs : List ℕ} → Path f k r cs t
+pub Leads-path : {n h : ℕ} {f : Frame n h} {k : ℕ} {r t : Moment} {cs : List ℕ} → Path f k r cs t
     → (done : ℕ) → Leads k (state f r done) cs (state f t (done + k))
-leads {f = f} {t = t} stay done = let e : done + 0 ≡ done = omega arith in rw e (none (state f t done))
-leads (on {k = k} first rest) done =
-    grind (arith, common_steps, (preceded (first.does done) refl (leads rest (done + 1))))
-leads (prints {k = k} first rest) done =
-    grind (arith, common_steps, (preceded (first.does done) refl (leads rest (done + 1))))
+Leads-path {f = f} {t = t} stay done = let e : done + 0 ≡ done = omega arith in rw e (none (state f t done))
+Leads-path (on {k = k} first rest) done =
+    grind (arith, common_steps, (preceded (first.does done) refl (Leads-path rest (done + 1))))
+Leads-path (prints {k = k} first rest) done =
+    grind (arith, common_steps, (preceded (first.does done) refl (Leads-path rest (done + 1))))
 
 -- what holds before an order of any kind holds before every order of a path
 module _ {n h : ℕ} {f : Frame n h} (P : State → Type 0)
@@ -73,10 +73,12 @@ module _ {n h : ℕ} {f : Frame n h} (P : State → Type 0)
       → P (state_after (suc j) (state f r done))
   behind {r = r} first done j = search (rules, first_state)
 
-  pub each : {k : ℕ} {r t : Moment} {cs : List ℕ} → Path f k r cs t → (done j : ℕ) → j < k
+  pub state_after-each : {k : ℕ} {r t : Moment} {cs : List ℕ} → Path f k r cs t → (done j : ℕ) → j < k
       → P (state_after j (state f r done))
-  each stay done j l = absurd (omega arith)
-  each (on first rest) done zero l = begins first done
-  each (on first rest) done (suc j) l = behind first done j (each rest (done + 1) j (omega arith))
-  each (prints first rest) done zero l = begins first done
-  each (prints first rest) done (suc j) l = behind first done j (each rest (done + 1) j (omega arith))
+  state_after-each stay done j l = absurd (omega arith)
+  state_after-each (on first rest) done zero l = begins first done
+  state_after-each (on first rest) done (suc j) l = behind first done j
+      (state_after-each rest (done + 1) j (omega arith))
+  state_after-each (prints first rest) done zero l = begins first done
+  state_after-each (prints first rest) done (suc j) l = behind first done j
+      (state_after-each rest (done + 1) j (omega arith))

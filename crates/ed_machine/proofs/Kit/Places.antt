@@ -118,8 +118,8 @@ module _ {n h : ℕ} (f : Frame n h) (r : Moment) where
     pairs = (holding p u).pairs;
   }
 
-  pub fitted : (p : Place f r) (a u : ℕ) → a ≡ at_top p u → fitting p (a / 2 ^ 54) (a / 2 ^ 36) ≡ u
-  fitted p a u e = search rules
+  pub fitting-at_top : (p : Place f r) (a u : ℕ) → a ≡ at_top p u → fitting p (a / 2 ^ 54) (a / 2 ^ 36) ≡ u
+  fitting-at_top p a u e = search rules
 
   -- a pair of the piece, and its location
   record Paired (j p : ℕ) : Type 0 where
@@ -131,17 +131,17 @@ module _ {n h : ℕ} (f : Frame n h) (r : Moment) where
   paired j p even e = search rules
 
   -- each location that an order names is below the top
-  pub near : (p : Place f r) → is_there p ≡ true → address p < f.top
-  near p e = search rules
+  pub address-near : (p : Place f r) → is_there p ≡ true → address p < f.top
+  address-near p e = search rules
 
-  pub reads : (p : Place f r) → length r.cells ≡ n → is_there p ≡ true
+  pub read_at-value : (p : Place f r) → length r.cells ≡ n → is_there p ≡ true
       → read_at (is_pair p) (store f r) (address p) ≡ value p
-  reads p all e = search (rules, get_own, get_beside)
+  read_at-value p all e = search (rules, get_own, get_beside)
 
-  pub writes : (p : Place f r) (s l : ℕ) → length r.cells ≡ n → is_there p ≡ true → is_written p ≡ true
+  pub written_cells-put : (p : Place f r) (s l : ℕ) → length r.cells ≡ n → is_there p ≡ true → is_written p ≡ true
       → written_cells (is_pair p) (store f r) (address p) s l ≡ store f (put p (fitting p s l))
-  writes (own j) s l all e w = search (rules, set_own)
-  writes (pair j p even) s l all e w =
+  written_cells-put (own j) s l all e w = search (rules, set_own)
+  written_cells-put (pair j p even) s l all e w =
       let o = paired j p even e in
       let first : f.base + j - (f.base + j) % 2 ≡ f.base + j = omega (arith, o.pair_is) in
       let second : f.base + j + 1 ≡ f.base + (j + 1) = omega arith in
@@ -160,6 +160,6 @@ module _ {n h : ℕ} (f : Frame n h) (r : Moment) where
         set_own 0 r.words f.base (set r.cells j (l % 2 ^ 17)) (j + 1) (l / 2 ^ 18) behind,
         set_own false r.digits (f.base / 2 + h) r.pairs p b o.digit_is,
       ) refl
-  writes (out q a) s l all e w = rw (set_beside 0 r.words f.base r.cells q s (rw all a.beside)) refl
-  writes (pair_out q a) s l all e w = search (rules, set_beside)
-  writes (any q b) s l all e w = absurd (true≢false (sym w))
+  written_cells-put (out q a) s l all e w = rw (set_beside 0 r.words f.base r.cells q s (rw all a.beside)) refl
+  written_cells-put (pair_out q a) s l all e w = search (rules, set_beside)
+  written_cells-put (any q b) s l all e w = absurd (true≢false (sym w))

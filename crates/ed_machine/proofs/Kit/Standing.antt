@@ -48,9 +48,9 @@ filled_at (Some x ∷ rest) ws b i h (suc j) l =
     search (rules, (filled_at rest ws b (i + 1) (one_on (Some x) rest ws b i h) j (omega arith)))
 
 -- a store that holds the image is that image in itself
-pub opens : (image : List (Option ℕ)) (ws : List ℕ) (b : ℕ) → b + length image ≤ length ws → Holds image ws b
+pub patched-filled : (image : List (Option ℕ)) (ws : List ℕ) (b : ℕ) → b + length image ≤ length ws → Holds image ws b
     → patched 0 ws b (filled image ws b 0) ≡ ws
-opens image ws b l h = search (rules, length_filled, patched_self, filled_at)
+patched-filled image ws b l h = search (rules, length_filled, patched_self, filled_at)
 
 -- the image with other words at its working locations
 abbrev pub merged : List (Option ℕ) → List ℕ → List ℕ
@@ -87,5 +87,5 @@ module _ (image : List (Option ℕ)) (ws : List ℕ) (b : ℕ) (cs : List ℕ) (
       ∙ ap (λ p. get_or ws p 0) j
 
   -- each word of the store is unchanged, except the working ones
-  pub unchanged : (i : ℕ) → (IsWorking image b i → ⊥) → get_or (patched 0 ws b cs) i 0 ≡ get_or ws i 0
-  unchanged i free = search (rules, get_below, by_entry, get_above)
+  pub get_or-patched : (i : ℕ) → (IsWorking image b i → ⊥) → get_or (patched 0 ws b cs) i 0 ≡ get_or ws i 0
+  get_or-patched i free = search (rules, get_below, by_entry, get_above)

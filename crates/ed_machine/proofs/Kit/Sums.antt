@@ -72,5 +72,5 @@ common_1 x h =
     ∙ ap (λ n. n % 2 * 2 ^ 18) row
 
 -- a long word by the two halves and the digit that its cells hold
-pub parted : (v : ℕ) → v / 2 ^ 18 * 2 ^ 18 + digit (nat_eq (v / 2 ^ 17 % 2) 1) * 2 ^ 17 + v % 2 ^ 17 ≡ v
-parted v = search rules
+pub sum-parts : (v : ℕ) → v / 2 ^ 18 * 2 ^ 18 + digit (nat_eq (v / 2 ^ 17 % 2) 1) * 2 ^ 17 + v % 2 ^ 17 ≡ v
+sum-parts v = search rules

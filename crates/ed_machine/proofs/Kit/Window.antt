@@ -83,17 +83,17 @@ module _ {A : Type 0} (d : A) where
   set_above (w ∷ ws) (suc b) cs (suc p) v h = ap (λ x. w ∷ x) (set_above ws b cs p v (omega arith))
 
   -- a list that has the items of another at its head
-  pub headed : (cs ws : List A) → length cs ≤ length ws
+  pub append-drop : (cs ws : List A) → length cs ≤ length ws
       → ((j : ℕ) → j < length cs → get_or cs j d ≡ get_or ws j d) → cs ++ drop (length cs) ws ≡ ws
-  headed [] ws l h = refl
-  headed (c ∷ cs) [] l h = absurd (omega arith)
-  headed (c ∷ cs) (w ∷ ws) l h =
-      rw (h 0 (omega arith), headed cs ws (omega arith) (λ j lj. h (suc j) (omega arith))) refl
+  append-drop [] ws l h = refl
+  append-drop (c ∷ cs) [] l h = absurd (omega arith)
+  append-drop (c ∷ cs) (w ∷ ws) l h =
+      rw (h 0 (omega arith), append-drop cs ws (omega arith) (λ j lj. h (suc j) (omega arith))) refl
 
   pub patched_self : (ws : List A) (b : ℕ) (cs : List A) → b + length cs ≤ length ws
       → ((j : ℕ) → j < length cs → get_or cs j d ≡ get_or ws (b + j) d) → patched d ws b cs ≡ ws
   unfolding patched
-  patched_self ws zero cs l h = search (rules, headed)
+  patched_self ws zero cs l h = search (rules, append-drop)
   patched_self [] (suc b) cs l h = absurd (omega arith)
   patched_self (w ∷ ws) (suc b) cs l h =
       ap (λ x. w ∷ x) (patched_self ws b cs (omega arith) (λ j lj.

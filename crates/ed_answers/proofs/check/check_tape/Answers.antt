@@ -5,7 +5,8 @@ use Rattle.ed_answers.proofs.check.check_tape.Goals as goal
 
 pub returns-in_err-rows : goal.returns-in_err-rows
 returns-in_err-rows c =
-    refusal_replied _ c.args.input.now _ _ (checked_one c.args.settings) c.in_err-rows.ensures.is c.from_residual.ensures
+    refusal_replied _ c.args.input.now _ _
+    (checked_one c.args.settings) c.in_err-rows.ensures.is c.from_residual.ensures
 
 pub returns-in_err-check_rows : goal.returns-in_err-check_rows
 returns-in_err-check_rows c =

@@ -9,7 +9,8 @@ returns-in_err-ran c =
 
 pub returns-in_err-post_mortem_reply : goal.returns-in_err-post_mortem_reply
 returns-in_err-post_mortem_reply c =
-    source_unanswered _ (run_outcome c.args.settings) c.args.input.now _ c.from_residual-in_err-post_mortem_reply.ensures
+    source_unanswered _
+    (run_outcome c.args.settings) c.args.input.now _ c.from_residual-in_err-post_mortem_reply.ensures
 
 pub post_mortem_reply-requires : goal.post_mortem_reply-requires
 post_mortem_reply-requires c =

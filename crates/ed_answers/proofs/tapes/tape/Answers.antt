@@ -6,7 +6,8 @@ use Rattle.ed_answers.proofs.tapes.tape.Goals as goal
 
 pub returns-in_err-rows_of : goal.returns-in_err-rows_of
 returns-in_err-rows_of c =
-    refusal_replied _ c.args.input.now _ _ (exactly_one (tape_outcome c.args.settings)) c.in_err-rows_of.ensures.is c.from_residual.ensures
+    refusal_replied _ c.args.input.now _ _
+    (exactly_one (tape_outcome c.args.settings)) c.in_err-rows_of.ensures.is c.from_residual.ensures
 
 pub returns-in_err-ran : goal.returns-in_err-ran
 returns-in_err-ran c =
@@ -14,7 +15,8 @@ returns-in_err-ran c =
 
 pub returns-in_err-ended_reply : goal.returns-in_err-ended_reply
 returns-in_err-ended_reply c =
-    none_replied _ c.args.input.now _ (exactly_one (tape_outcome c.args.settings)) c.from_residual-in_err-ended_reply.ensures
+    none_replied _ c.args.input.now _
+    (exactly_one (tape_outcome c.args.settings)) c.from_residual-in_err-ended_reply.ensures
 
 pub ended_reply-requires : goal.ended_reply-requires
 ended_reply-requires c =

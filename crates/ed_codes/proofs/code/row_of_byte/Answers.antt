@@ -1,7 +1,7 @@
 use Rattle.std.proofs.Common.{◌≡◌, ◌==◌, get_or, false, ◌∙◌, rules, sym, arith}
 use borrow.Author.Count.{below_more}
 use Rattle.ed_codes.specs.Spelling.{letters}
-use Rattle.ed_codes.proofs.Spellings.{differs, first_at, at_none, no_digit}
+use Rattle.ed_codes.proofs.Spellings.{eqb-differs, first_at, at_none, no_digit}
 use Rattle.ed_codes.proofs.code.row_of_byte.Goals as goal
 
 pub returns-then-letter-byte : goal.returns-then-letter-byte
@@ -12,7 +12,7 @@ returns-then-letter-byte c =
 pub loop-number-preserved : goal.loop-number-preserved
 loop-number-preserved c =
     below_more (λ k. (get_or letters k 0 == c.args.byte) ≡ false) c.loop-number.number c.loop-number.invariant
-    (differs _ _ c.if-letter-byte.false)
+    (eqb-differs _ _ c.if-letter-byte.false)
 
 pub returns : goal.returns
 returns c =

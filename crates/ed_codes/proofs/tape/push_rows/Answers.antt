@@ -1,7 +1,10 @@
 use Rattle.std.proofs.Common.{sym, ◌∙◌}
-use Rattle.ed_codes.proofs.Readings.{IsReadTo-begins, IsReadTo-closes, IsReadTo-stays, IsReadTo-opens, IsReadTo-skips, IsReadTo-gains, finds_none, ends_open, reading-ends}
-use Rattle.ed_codes.proofs.tape.push_rows.Goals.{then-is_some+then-byte-eq93, then-is_some+else-byte-eq93, else-is_some+then-byte-eq91}
-use Rattle.ed_codes.proofs.tape.push_rows.Goals.{else-is_some+else-byte-eq91+then-not-is_spacing+in-Some+in_ok-push-in-Some, else-is_some+else-byte-eq91+else-not-is_spacing}
+use Rattle.ed_codes.proofs.Readings.{IsReadTo-begins, IsReadTo-closes, IsReadTo-stays, IsReadTo-opens, IsReadTo-skips}
+use Rattle.ed_codes.proofs.Readings.{IsReadTo-gains, finds_none, ends_open, reading-ends}
+use Rattle.ed_codes.proofs.tape.push_rows.Goals.{then-is_some+then-byte-eq93, then-is_some+else-byte-eq93}
+use Rattle.ed_codes.proofs.tape.push_rows.Goals.{else-is_some+then-byte-eq91}
+use Rattle.ed_codes.proofs.tape.push_rows.Goals.{else-is_some+else-byte-eq91+then-not-is_spacing+in-Some+in_ok-push-in-Some}
+use Rattle.ed_codes.proofs.tape.push_rows.Goals.{else-is_some+else-byte-eq91+else-not-is_spacing}
 use Rattle.ed_codes.proofs.tape.push_rows.Goals as goal
 
 pub loop-place-init : goal.loop-place-init

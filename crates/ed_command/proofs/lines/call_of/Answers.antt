@@ -1,6 +1,6 @@
 use Rattle.ed_command.proofs.Kit.{ap₂, number, number_within, ap, sym, ◌∙◌, division}
-use Rattle.ed_command.proofs.Arguments.{call_of-divided, many_numbers, name_alone, newline_alone, no_name, one_number_after}
-use Rattle.ed_command.proofs.Arguments.{two_numbers}
+use Rattle.ed_command.proofs.Arguments.{call_of-divided, many_numbers, name_alone, newline_alone, no_name}
+use Rattle.ed_command.proofs.Arguments.{one_number_after, two_numbers}
 use Rattle.ed_command.proofs.lines.call_of.Goals as goal
 
 pub returns-in-newline : goal.returns-in-newline

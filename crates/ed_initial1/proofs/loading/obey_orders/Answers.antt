@@ -1,6 +1,7 @@
 use Rattle.ed_initial1.proofs.Kit.{ne_eqb, ap, false, refl, sym, ◌∙◌, step, at_31}
 use Rattle.ed_initial.proofs.Kit.{add-one, next_state, is_quiet_turn}
-use Rattle.ed_initial.proofs.Runs.{ends_now, event_now, goes, no_orders, obeys, one_more, is_obeyed-sounds}
+use Rattle.ed_initial.proofs.Runs.{ends_now, event_now, Went-other, no_orders, is_obeyed-other, one_more}
+use Rattle.ed_initial.proofs.Runs.{is_obeyed-sounds}
 use Rattle.ed_initial1.specs.declared.loading.Loaded1.TheVariants.{Lost}
 use Rattle.ed_initial1.proofs.loading.obey_orders.Goals as goal
 
@@ -28,6 +29,6 @@ loop-orders-preserved c =
     ∙ ne_eqb _ _ (λ e. c.if-counter-eq-ENTRY.false (c.counter.ensures.is ∙ e)) in
     one_more c.loop-orders.invariant c.step-turn.ensures.state c.step-turn.ensures.count
     (event_now (λ t. at_31 (step t).state) (λ t. false) _ c.step-turn.ensures.turn
-    (obeys c.step-turn.result c.in_default.not-NoOrder c.in_default.not-NoTape) place refl
-    (ap is_quiet_turn (goes c.step-turn.result c.in_default.not-NoOrder c.in_default.not-NoTape
+    (is_obeyed-other c.step-turn.result c.in_default.not-NoOrder c.in_default.not-NoTape) place refl
+    (ap is_quiet_turn (Went-other c.step-turn.result c.in_default.not-NoOrder c.in_default.not-NoTape
     c.in_default-turn.not-Printed c.in_default-turn.not-Stopped)))

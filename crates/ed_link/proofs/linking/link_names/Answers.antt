@@ -9,7 +9,8 @@ use Rattle.ed_link.proofs.linking.link_names.Goals as goal
 pub finish-requires-clause-spellable : goal.finish-requires-clause-spellable
 finish-requires-clause-spellable c =
     let enters = c.any_enter-has_enter.ensures ∙ ap (λ (x : List Line). any_enter x) c.deref.ensures.value in
-    all_spellable c.in-Ok.built.items.items (built_spelled _ c.catalogue_size-ready.ensures.ready c.args.program.now.formed c.requires.symbols enters
+    all_spellable c.in-Ok.built.items.items
+    (built_spelled _ c.catalogue_size-ready.ensures.ready c.args.program.now.formed c.requires.symbols enters
     (sym c.requires.names ∙ c.in-None.is) c.if-has_enter.true
     (subst (λ (x : List Line). IsBuilt c.args.size c.args.symbols.now c.any_enter-has_enter.result x c.in-Ok.built)
     c.deref-2.ensures.value c.in-Ok.ensures))

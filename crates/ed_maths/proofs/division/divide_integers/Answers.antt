@@ -1,6 +1,6 @@
-use Rattle.ed_maths.proofs.Kit.{rules, [], ap, ℕ, ◌-◌, ◌/◌, ◌∙◌, ◌≡◌, locations, short_at, State, state_after, free}
-use Rattle.ed_maths.proofs.Kit.{Leads, divide_orders, dividend}
-use Rattle.ed_maths.proofs.DivideCall.{CallsDivide, last, leads_to, divided}
+use Rattle.ed_maths.proofs.Kit.{rules, [], ap, ℕ, ◌-◌, ◌/◌, ◌∙◌, ◌≡◌, locations, short_at, State, state_after}
+use Rattle.ed_maths.proofs.Kit.{AreObeyed-leads, Leads, divide_orders, dividend}
+use Rattle.ed_maths.proofs.DivideCall.{CallsDivide, last, leads_to, HasDivided-last}
 use Rattle.ed_maths.proofs.division.divide_integers.Goals as goal
 
 module _ (c : goal.After-obey_next) where
@@ -27,7 +27,7 @@ pub returns-clause-orders : goal.returns-clause-orders
 returns-clause-orders c = count c
 
 pub returns-clause-after : goal.returns-clause-after
-returns-clause-after c = rw (count c) (record { state_is = state_is c; free = free (leads c) })
+returns-clause-after c = rw (count c) (record { state_is = state_is c; free = AreObeyed-leads (leads c) })
 
 pub returns-clause-divided : goal.returns-clause-divided
-returns-clause-divided c = divided (called c) c.obey_next.new.self (state_is c ∙ (leads c).state_is)
+returns-clause-divided c = HasDivided-last (called c) c.obey_next.new.self (state_is c ∙ (leads c).state_is)

@@ -1,5 +1,5 @@
 use Rattle.ed_maths.proofs.Kit.{rules, [], ap, subst, sym, ℕ, ◌*◌, ◌+◌, ◌∙◌, ◌≡◌, locations, short_at, State}
-use Rattle.ed_maths.proofs.Kit.{state_after, free, Leads, IsRoot, root_orders}
+use Rattle.ed_maths.proofs.Kit.{state_after, AreObeyed-leads, Leads, IsRoot, root_orders}
 use Rattle.ed_maths.proofs.RootCall.{CallsRoot, last, leads_to, root_is, returned, keeps}
 use Rattle.ed_maths.proofs.square.square_root.Goals as goal
 
@@ -39,7 +39,7 @@ pub returns-clause-orders : goal.returns-clause-orders
 returns-clause-orders c = count c ∙ ap root_orders (sym (target_is c))
 
 pub returns-clause-after : goal.returns-clause-after
-returns-clause-after c = rw (count c) (record { state_is = state_is c; free = free (leads c) })
+returns-clause-after c = rw (count c) (record { state_is = state_is c; free = AreObeyed-leads (leads c) })
 
 pub returns-clause-returned : goal.returns-clause-returned
 returns-clause-returned c = rw (count c) (returned (called c) c.obey_next.new.self (there c))

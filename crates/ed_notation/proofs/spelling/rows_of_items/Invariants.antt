@@ -2,4 +2,5 @@ use Rattle.ed_notation.proofs.Kit.{drop, ◌++◌, ◌≡◌, spelled_rows, cano
 use Rattle.ed_notation.proofs.spelling.rows_of_items.Given as goal
 
 abbrev pub invariant-loop-item : goal.invariant-loop-item
-invariant-loop-item l = l.rows.items ++ spelled_rows (canonicals (drop l.item-index l.items)) ≡ spelled_rows (canonicals l.items)
+invariant-loop-item l = l.rows.items ++ spelled_rows (canonicals (drop l.item-index l.items))
+    ≡ spelled_rows (canonicals l.items)

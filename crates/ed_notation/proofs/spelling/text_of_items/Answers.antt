@@ -1,4 +1,4 @@
-use Rattle.ed_notation.proofs.Canonical.{are_written, spelling}
+use Rattle.ed_notation.proofs.Canonical.{are_written, IsSpelling-canonicals}
 use Rattle.ed_notation.proofs.Texts.{text_end, text_reads}
 use Rattle.ed_notation.proofs.spelling.text_of_items.Goals as goal
 
@@ -7,10 +7,10 @@ returns-clause-reads c =
     rw (text_end _ _ _ c.loop-item-test.false c.loop-item.invariant) (text_reads _ (are_written _ c.requires))
 
 pub returns-clause-spelling : goal.returns-clause-spelling
-returns-clause-spelling c = spelling _ c.requires
+returns-clause-spelling c = IsSpelling-canonicals _ c.requires
 
 pub returns-in_err-push_item-clause-spelling : goal.returns-in_err-push_item-clause-spelling
-returns-in_err-push_item-clause-spelling c = spelling _ c.requires
+returns-in_err-push_item-clause-spelling c = IsSpelling-canonicals _ c.requires
 
 pub returns-in_err-push_line-clause-spelling : goal.returns-in_err-push_line-clause-spelling
-returns-in_err-push_line-clause-spelling c = spelling _ c.requires
+returns-in_err-push_line-clause-spelling c = IsSpelling-canonicals _ c.requires

@@ -1,5 +1,5 @@
 use Rattle.ed_postmortem.proofs.Kit.{arith, refl, ◌-◌, ◌≤◌, IsPrinted}
-use Rattle.ed_postmortem.proofs.Whole.{loads_so, orders_then, printed}
+use Rattle.ed_postmortem.proofs.Whole.{loads_so, orders_then, IsPrinted-run}
 use Rattle.ed_postmortem.proofs.printing.obey.Goals.{After-orders_done}
 use Rattle.ed_postmortem.proofs.printing.obey.Goals as goal
 
@@ -20,7 +20,7 @@ printed_so c =
     let range = c.requires.range in
     let loaded = loads_so store range refl c.requires.rows c.begin.ensures.state c.load.ensures.loads
     c.load.ensures.state in
-    printed store range loaded c.run.ensures.ends (omega arith) c.requires.room
+    IsPrinted-run store range loaded c.run.ensures.ends (omega arith) c.requires.room
 
 pub overflow_sub-result : goal.overflow_sub-result
 overflow_sub-result c = omega (arith, (printed_so c).1, c.orders_done-before.ensures, c.orders_done.ensures)

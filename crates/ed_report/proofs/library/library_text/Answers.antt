@@ -31,7 +31,8 @@ loop-index-preserved c =
 last : (entries : List Routine) (k : ℕ) (lines : List ℕ) {whole : List ℕ} → length entries ≤ k
     → lines ++ routine_lines (drop k entries) ≡ whole → lines ≡ whole
 last entries k lines over before =
-    sym (append-nil lines) ∙ sym (ap (λ (x : List Routine). lines ++ routine_lines x) (drop_all k entries over)) ∙ before
+    sym (append-nil lines) ∙ sym (ap (λ (x : List Routine). lines ++ routine_lines x) (drop_all k entries over))
+    ∙ before
 
 pub returns : goal.returns
 returns c =

@@ -1,8 +1,8 @@
-use Rattle.ed_routines.proofs.Kit.{free, Leads, [], arith, List, ℕ, ◌∙◌, ◌∷◌, ◌≡◌, locations, State, state_after}
-use Rattle.ed_routines.proofs.Kit.{newline, IsLoadedAt}
+use Rattle.ed_routines.proofs.Kit.{AreObeyed-leads, Leads, [], arith, List, ℕ, ◌∙◌, ◌∷◌, ◌≡◌, locations, State}
+use Rattle.ed_routines.proofs.Kit.{state_after, newline, IsLoadedAt}
 use Rattle.ed_routines.proofs.Called.{IsWithin}
 use Rattle.ed_routines.proofs.NewLine.{last, leads_to, returned, keeps}
-use Rattle.ed_routines.proofs.Runs.{Ran, ran}
+use Rattle.ed_routines.proofs.Runs.{Ran, Ran-leads}
 use Rattle.ed_routines.proofs.printing.new_line.Goals as goal
 
 module _ (c : goal.After-run) where
@@ -26,13 +26,13 @@ module _ (c : goal.After-run) where
   leads = leads_to c.word.ensures.store.words_are stands within
 
   left : Ran (state_after 5 s) c.run.new.machine c.args.paper.now c.run.new.paper (18 ∷ 24 ∷ [])
-  left = ran leads c.requires.room c.run.ensures.ends
+  left = Ran-leads leads c.requires.room c.run.ensures.ends
 
   there : c.run.new.machine ≡ end
   there = left.state_is ∙ leads.state_is
 
 pub returns-clause-after : goal.returns-clause-after
-returns-clause-after c = record { state_is = (left c).state_is; free = free (leads c) }
+returns-clause-after c = record { state_is = (left c).state_is; free = AreObeyed-leads (leads c) }
 
 pub returns-clause-returned : goal.returns-clause-returned
 returns-clause-returned c =

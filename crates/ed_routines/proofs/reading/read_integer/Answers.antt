@@ -1,8 +1,8 @@
-use Rattle.ed_routines.proofs.Kit.{free, Leads, [], ap, drop, get_or, length, List, refl, rules, subst, sym, ℕ, ◌*◌}
-use Rattle.ed_routines.proofs.Kit.{◌+◌, ◌<◌, ◌∙◌, ◌∷◌, ◌≡◌, locations, State, state_after, read, with_h, after_digits}
-use Rattle.ed_routines.proofs.Kit.{digit_rows}
+use Rattle.ed_routines.proofs.Kit.{AreObeyed-leads, Leads, [], ap, drop, get_or, length, List, refl, rules, subst, sym}
+use Rattle.ed_routines.proofs.Kit.{ℕ, ◌*◌, ◌+◌, ◌<◌, ◌∙◌, ◌∷◌, ◌≡◌, locations, State, state_after, read, with_h}
+use Rattle.ed_routines.proofs.Kit.{after_digits, digit_rows}
 use Rattle.ed_routines.specs.Returns.{ReadLeaves, read_by}
-use Rattle.ed_routines.proofs.Called.{IsCalled, called}
+use Rattle.ed_routines.proofs.Called.{IsCalled, IsCalled-loaded}
 use Rattle.ed_routines.proofs.ReadCall.{no_ending, has_ending, last, leads_to, has_read, keeps, waiting, leads_to_end}
 use Rattle.ed_routines.proofs.ReadCall.{waits, keeps_waiting}
 use Rattle.ed_routines.proofs.reading.read_integer.Goals as goal
@@ -13,7 +13,7 @@ module _ (c : goal.After-obey_next) where
   s = c.args.machine.now
 
   is_called : IsCalled read (with_h c.args.h) c.args.base c.args.h (locations s.size) s
-  is_called = called c.word.ensures.store.words_are c.requires.stands c.requires.outside
+  is_called = IsCalled-loaded c.word.ensures.store.words_are c.requires.stands c.requires.outside
 
   count : c.count_digits-digits.result ≡ length (digit_rows s.tape)
   count = c.count_digits-digits.ensures.is ∙ ap (λ x. length (digit_rows x)) c.rows_left-rows.ensures
@@ -31,7 +31,8 @@ pub returns-then-digits-rows-clause-back : goal.returns-then-digits-rows-clause-
 returns-then-digits-rows-clause-back c = rw (end c, count c) refl
 
 pub returns-then-digits-rows-clause-after : goal.returns-then-digits-rows-clause-after
-returns-then-digits-rows-clause-after c = rw (count c) (record { state_is = state_is c; free = free (leads c) })
+returns-then-digits-rows-clause-after c = rw (count c)
+    (record { state_is = state_is c; free = AreObeyed-leads (leads c) })
 
 pub returns-then-digits-rows-clause-words : goal.returns-then-digits-rows-clause-words
 returns-then-digits-rows-clause-words c =
@@ -48,7 +49,7 @@ module _ (c : goal.After-obey_next-else-digits-rows) where
   old = c.args.machine.now
 
   called_there : IsCalled read (with_h c.args.h) c.args.base c.args.h (locations old.size) old
-  called_there = called c.word.ensures.store.words_are c.requires.stands c.requires.outside
+  called_there = IsCalled-loaded c.word.ensures.store.words_are c.requires.stands c.requires.outside
 
   digits : c.count_digits-digits.result ≡ length (digit_rows old.tape)
   digits = c.count_digits-digits.ensures.is ∙ ap (λ x. length (digit_rows x)) c.rows_left-rows.ensures
@@ -76,7 +77,7 @@ returns-else-digits-rows-clause-back c = let e = sym (behind c)
     in λ i. read_by (e i) (digits c i) (c.return_address-at.ensures i)
 
 pub returns-else-digits-rows-clause-after : goal.returns-else-digits-rows-clause-after
-returns-else-digits-rows-clause-after c = search (rules, digits, state_is, state_there, free, leads_back)
+returns-else-digits-rows-clause-after c = search (rules, digits, state_is, state_there, AreObeyed-leads, leads_back)
 
 pub returns-else-digits-rows-clause-words : goal.returns-else-digits-rows-clause-words
 returns-else-digits-rows-clause-words c =

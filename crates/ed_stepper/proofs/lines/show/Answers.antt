@@ -11,13 +11,15 @@ low a b within k d below =
 
 pub listing-requires : goal.listing-requires
 listing-requires c =
-    let ran = items_from_collect _ c.collect.ensures.ran (YieldsList-from_range c.args.first (c.args.last + 1) _ (cc) refl) in
+    let ran = items_from_collect _ c.collect.ensures.ran
+    (YieldsList-from_range c.args.first (c.args.last + 1) _ (cc) refl) in
     let places = rw c.in_ok-places.was at ran in
     subst (λ places. All (λ x. x < 1024) places) (sym (c.deref.ensures.value ∙ places))
     (low c.args.first c.args.last c.requires.within)
 
 pub returns : goal.returns
 returns c =
-    let ran = items_from_collect _ c.collect.ensures.ran (YieldsList-from_range c.args.first (c.args.last + 1) _ (cc) refl) in
+    let ran = items_from_collect _ c.collect.ensures.ran
+    (YieldsList-from_range c.args.first (c.args.last + 1) _ (cc) refl) in
     let places = rw c.in_ok-places.was at ran in
     rw (c.store.ensures, c.deref.ensures.value, places) at c.listing.ensures

@@ -11,7 +11,8 @@ loop-rest-init c =
 
 pub carry_out-requires : goal.carry_out-requires
 carry_out-requires c =
-    read_in_range c.first_line.result.0.now c.unwrap-command.result (sym c.command_of.ensures ∙ c.unwrap-command.ensures)
+    read_in_range c.first_line.result.0.now c.unwrap-command.result
+    (sym c.command_of.ensures ∙ c.unwrap-command.ensures)
 
 pub returns-in_err-extend_from_slice-in-Ok : goal.returns-in_err-extend_from_slice-in-Ok
 returns-in_err-extend_from_slice-in-Ok c =

@@ -1,8 +1,8 @@
 use Rattle.ed_stepper.proofs.Kit.{is_stop, add-one, State, is_obeyed, no_step, ap, arith, rules, sym, ◌∙◌, ◌≡◌, ◌+◌}
 use Rattle.ed_stepper.proofs.Kit.{◌≤◌}
 use Rattle.ed_initial.specs.Load.{enters}
-use Rattle.ed_stepper.proofs.Walks.{after_from, at_first, at_limit, goes_on, Ends-limits, next, Ends-owns, Ends-stops}
-use Rattle.ed_stepper.proofs.Walks.{Next-taken}
+use Rattle.ed_stepper.proofs.Walks.{after_from, at_first, at_limit, goes_on, Ends-limits, Next-obeyed, Ends-owns}
+use Rattle.ed_stepper.proofs.Walks.{Ends-stops, Next-taken}
 use Rattle.ed_stepper.proofs.walk.walk.Goals as goal
 
 pub returns-in-Orders-eq0-clause-state : goal.returns-in-Orders-eq0-clause-state
@@ -17,7 +17,7 @@ loop-orders-init c = record {
 
 pub returns-in-Stopped : goal.returns-in-Stopped
 returns-in-Stopped c =
-    let n = next c.loop-orders.invariant.walking c.loop-orders-test.true c.step.ensures.turn c.step.ensures.state
+    let n = Next-obeyed c.loop-orders.invariant.walking c.loop-orders-test.true c.step.ensures.turn c.step.ensures.state
     (ap is_obeyed c.in-Stopped.is) in
     record {
       ends = Ends-stops n (ap is_stop c.in-Stopped.is);

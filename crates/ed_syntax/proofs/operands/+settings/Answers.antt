@@ -28,7 +28,8 @@ pub returns-in_err-more-in-Some-Sign-eq44-default-clause-is : goal.returns-in_er
 returns-in_err-more-in-Some-Sign-eq44-default-clause-is t c =
     let p = err_from_is_err_and c.from_residual.result c.from_residual.ensures.1 in
     let rest = map part c.in-Some-Sign-eq44-default.rest.now in
-    let front : setting (is_second c.args.version) (map part c.args.parts.now) ≡ Some (c.in-Some.setting, sign 44 ∷ rest) =
+    let front : setting (is_second c.args.version) (map part c.args.parts.now)
+    ≡ Some (c.in-Some.setting, sign 44 ∷ rest) =
     search rules in
     rw (p.1, p.2) (fault_after _ c.args.most _ rest c.in-Some.setting _
     (omega arith) front c.in_err-more-in-Some-Sign-eq44-default.ensures.is)
@@ -36,7 +37,8 @@ returns-in_err-more-in-Some-Sign-eq44-default-clause-is t c =
 pub returns-in_ok-more-in-Some-Sign-eq44-default-clause-is : goal.returns-in_ok-more-in-Some-Sign-eq44-default-clause-is
 returns-in_ok-more-in-Some-Sign-eq44-default-clause-is t c =
     let rest = map part c.in-Some-Sign-eq44-default.rest.now in
-    let front : setting (is_second c.args.version) (map part c.args.parts.now) ≡ Some (c.in-Some.setting, sign 44 ∷ rest) =
+    let front : setting (is_second c.args.version) (map part c.args.parts.now)
+    ≡ Some (c.in-Some.setting, sign 44 ∷ rest) =
     search rules in
     c.both-in-Some-Sign-eq44-default.ensures.is ∙ setting_before _ c.args.most _ rest
     c.in-Some.setting _ (omega arith) front c.in_ok-more-in-Some-Sign-eq44-default.ensures.is

@@ -32,9 +32,11 @@ loop-piece-init g c = record {
 pub loop-piece-preserved : goal.loop-piece-preserved
 loop-piece-preserved g c =
     let read = c.in_ok-count.ensures in
-    let length_is = first_taken c.in_ok-count.count c.read.new.into (drop c.min-room.result c.loop-piece.piece) read.within in
+    let length_is = first_taken c.in_ok-count.count c.read.new.into
+    (drop c.min-room.result c.loop-piece.piece) read.within in
     record {
-      taken = rw (c.in_ok-extend_from_slice.ensures.items, take-append-le c.in_ok-count.count c.read.new.into _ read.within)
+      taken = rw
+          (c.in_ok-extend_from_slice.ensures.items, take-append-le c.in_ok-count.count c.read.new.into _ read.within)
           (loses_more _ (g.S.Source.left c.loop-piece.source) _ _ _ c.loop-piece.invariant.taken read.bytes.0);
       few = omega (
         arith,
@@ -98,8 +100,10 @@ loop-piece-smaller g c =
     omega (
       arith,
       c.in_ok-extend_from_slice.ensures.len,
-      first_taken c.in_ok-count.count c.read.new.into (drop c.min-room.result c.loop-piece.piece) c.in_ok-count.ensures.within,
+      first_taken c.in_ok-count.count c.read.new.into
+          (drop c.min-room.result c.loop-piece.piece) c.in_ok-count.ensures.within,
     )
 
 pub slice_bounds-extend_from_slice-end : goal.slice_bounds-extend_from_slice-end
-slice_bounds-extend_from_slice-end g c = sym (first_taken c.in_ok-count.count c.read.new.into _ c.in_ok-count.ensures.within)
+slice_bounds-extend_from_slice-end g c = sym
+    (first_taken c.in_ok-count.count c.read.new.into _ c.in_ok-count.ensures.within)

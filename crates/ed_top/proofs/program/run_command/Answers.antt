@@ -8,7 +8,8 @@ use Rattle.ed_io.specs.declared.stop.WriteStop.TheVariants as stop
 use Rattle.ed_top.proofs.program.run_command.Goals as goal
 
 -- an input is within the limit
-few_read : (reads : Bool) (source : Device) (v : Vec ℕ Global) → HasInput reads source (Ok v) → length v.items ≤ INPUT_BYTES
+few_read : (reads : Bool) (source : Device) (v : Vec ℕ Global) → HasInput reads source (Ok v)
+    → length v.items ≤ INPUT_BYTES
 few_read false source v h = h.0
 few_read true source v h = h.0
 

@@ -28,7 +28,8 @@ loop-line-preserved c =
     record {
       text = rw (ended, written) (text_added two lines here.line-index line here.text.items c.loop-line-test.true
           c.line-item.is ∙ here.invariant.text);
-      long = short_passed two lines here.line-index line c.loop-line-test.true c.line-item.is short ∙ here.invariant.long;
+      long = short_passed two lines here.line-index line c.loop-line-test.true c.line-item.is short
+          ∙ here.invariant.long;
       few = few_passed two lines here.line-index line c.loop-line-test.true c.line-item.is c.in_ok-push_line.ensures.few
           ∙ here.invariant.few;
     }
@@ -41,7 +42,8 @@ returns-then-len-start-gt-LINE_BYTES-clause-fault c =
     let written : c.push_line.new.text.items ≡ here.text.items ++ line_text two line = c.in_ok-push_line.ensures.is in
     let long : 120 < length (line_text two line) =
     omega (arith, ap length written, length-append here.text.items (line_text two line)) in
-    sym here.invariant.long ∙ long_found two c.args.lines.now here.line-index line c.loop-line-test.true c.line-item.is long
+    sym here.invariant.long
+    ∙ long_found two c.args.lines.now here.line-index line c.loop-line-test.true c.line-item.is long
 
 pub returns-clause-is : goal.returns-clause-is
 returns-clause-is c =

@@ -1,11 +1,11 @@
 use Rattle.ed_syntax.proofs.Kit.{ap, sym, ◌∙◌}
 use Rattle.ed_writer.specs.Answers.{has_version_place}
-use Rattle.ed_writer.proofs.Texts.{unsaid, IfErr-unwritten, written_says}
+use Rattle.ed_writer.proofs.Texts.{IsProgram-unsaid, IfErr-unwritten, written_says}
 use Rattle.ed_writer.proofs.program.text_of_program.Goals as goal
 
 pub returns-then-not-has_version_place-clause-none : goal.returns-then-not-has_version_place-clause-none
 returns-then-not-has_version_place-clause-none c =
-    rw (← c.of-version.ensures) (unsaid _ _
+    rw (← c.of-version.ensures) (IsProgram-unsaid _ _
     (sym (c.has_version_place.ensures ∙ ap (has_version_place _) c.deref.ensures.value)
     ∙ c.if-not-has_version_place.true))
 

@@ -17,7 +17,8 @@ returns-in-Order c =
 
 pub returns-in-Enter : goal.returns-in-Enter
 returns-in-Enter c =
-    rw c.in-Enter.is (record { is = c.push_named-in-Enter.ensures; few = in_any_case c.push_named-in-Enter.result refl })
+    rw c.in-Enter.is
+    (record { is = c.push_named-in-Enter.ensures; few = in_any_case c.push_named-in-Enter.result refl })
 
 pub returns-in-Number : goal.returns-in-Number
 returns-in-Number c =

@@ -23,14 +23,16 @@ returns-in-Some-clause-state c =
     let word = c.short-word.ensures.is ∙ ap (λ (s : State). short_at s.store s.counter) c.self.view_is in
     let function = ap (λ (o : Order). o.function) c.order-function.ensures.is in
     c.obey.ensures.state
-    ∙ sym (ap (λ (o : Obeyed). o.state) (stepped c.args.self.now word function (sym c.in-Some.is ∙ c.kind_of.ensures.is)))
+    ∙ sym (ap (λ (o : Obeyed). o.state)
+    (stepped c.args.self.now word function (sym c.in-Some.is ∙ c.kind_of.ensures.is)))
 
 pub returns-in-Some-clause-turn : goal.returns-in-Some-clause-turn
 returns-in-Some-clause-turn c =
     let word = c.short-word.ensures.is ∙ ap (λ (s : State). short_at s.store s.counter) c.self.view_is in
     let function = ap (λ (o : Order). o.function) c.order-function.ensures.is in
     c.obey.ensures.turn
-    ∙ sym (ap (λ (o : Obeyed). o.turn) (stepped c.args.self.now word function (sym c.in-Some.is ∙ c.kind_of.ensures.is)))
+    ∙ sym (ap (λ (o : Obeyed). o.turn)
+    (stepped c.args.self.now word function (sym c.in-Some.is ∙ c.kind_of.ensures.is)))
 
 pub returns-in-Some-clause-blocked : goal.returns-in-Some-clause-blocked
 returns-in-Some-clause-blocked c = λ none.

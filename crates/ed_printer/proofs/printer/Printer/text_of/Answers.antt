@@ -29,7 +29,8 @@ loop-code-preserved c =
         printed = code_printed _ here.shift _ _ here.text.items _ _ code c.loop-code-test.true c.code-item.is
             (ap (λ v. v.items) w.text-is ∙ w.push_character.ensures.text ∙ ap (λ b. here.text.items ++ b) bytes)
             (w.shift-is ∙ w.after-shift.ensures) here.invariant.printed;
-        characters = λ k below. rw w.characters-is (rw w.shift-is (w.characters-characters-else-is_plain.ensures k below));
+        characters = λ k below. rw w.characters-is
+            (rw w.shift-is (w.characters-characters-else-is_plain.ensures k below));
         room = rw w.text-is (omega arith);
       }
     ]

@@ -8,7 +8,8 @@ use Rattle.ed_printer.proofs.printer.Printer.text_of.Given as goal
 abbrev pub invariant-loop-code : goal.invariant-loop-code
 invariant-loop-code l = record {
   printed : (rest : List ℕ) →
-      paper_from l.initial.shift (l.codes ++ rest) ≡ l.text.items ++ paper_from l.shift (drop l.code-index l.codes ++ rest);
+      paper_from l.initial.shift (l.codes ++ rest)
+      ≡ l.text.items ++ paper_from l.shift (drop l.code-index l.codes ++ rest);
   characters : (code : ℕ) → code < 32 → bytes_of (slice_index l.characters code) ≡ struck_bytes l.shift code;
   room : vec_len l.text + 2 * (length l.codes - l.code-index) ≤ vec_capacity l.text;
 }

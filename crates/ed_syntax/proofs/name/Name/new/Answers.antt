@@ -1,6 +1,6 @@
 use Rattle.ed_syntax.proofs.Kit.{arith, refl, sym, ◌∙◌, ◌≡◌, nat_tests, take_at, rules}
 use Rattle.ed_syntax.proofs.NameBytes.{padded_text}
-use Rattle.ed_syntax.proofs.NameLemmas.{empty_or_long, within}
+use Rattle.ed_syntax.proofs.NameLemmas.{empty_or_long, length-within}
 use Rattle.ed_syntax.proofs.name.Name.new.Goals as goal
 
 pub invariant_of-result : goal.invariant_of-result
@@ -13,7 +13,7 @@ pub returns-clause-some : goal.returns-clause-some
 returns-clause-some c = search (rules, take_at)
 
 pub returns-clause-none : goal.returns-clause-none
-returns-clause-none c = within c.args.text.now (sym c.if-is_empty.ensures) c.if-text-gt16.false
+returns-clause-none c = length-within c.args.text.now (sym c.if-is_empty.ensures) c.if-text-gt16.false
 
 pub returns-then-is_empty : goal.returns-then-is_empty
 returns-then-is_empty c = record {
