@@ -12,7 +12,7 @@ use Rattle.ed_initial.specs.Waits.{IsLostAtEnd, RestsAfter, AwaitsRow, WaitsForR
 use Rattle.ed_initial.specs.Walks.{later}
 use Rattle.ed_initial.proofs.Goes.{Goes}
 use Rattle.ed_initial.proofs.Inside.{between}
-use Rattle.ed_initial.proofs.Opened.{frame, Begins-begun as first_moment, state-opened, first_path, first_scratch}
+use Rattle.ed_initial.proofs.Opened.{frame, begins as first_moment, state-opened, first_path, first_scratch}
 use Rattle.ed_initial.proofs.Opened.{opening_notation, state-shown}
 use Rattle.ed_initial.proofs.Paths.{state}
 use Rattle.ed_initial.proofs.Runs.{ends_there, exceeds_there}

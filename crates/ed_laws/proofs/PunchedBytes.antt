@@ -3,7 +3,7 @@ use Rattle.ed_laws.proofs.Kit.{Size, Item, length-append, ◌&&◌, ◌*◌, and
 use Rattle.ed_laws.proofs.Kit.{append_assoc, arith, Bool, false, inl, inr, length, List, nat_le, nat_lt, None, Option}
 use Rattle.ed_laws.proofs.Kit.{refl, rules, Some, suc, sym, true, true≢false, ℕ, ◌++◌, ◌+◌, ◌-◌, ◌<◌, ◌∙◌, ◌∷◌, ◌≡◌}
 use Rattle.ed_laws.proofs.Kit.{◌≤◌, ◌⊎◌, nat_tests, Text, IsAcceptedAs, punch_outcome, zero, cases_lt, ◌||◌}
-use Rattle.ed_laws.proofs.Kit.{common_steps}
+use Rattle.ed_laws.proofs.Kit.{common_steps, if◌then◌else◌, map}
 use Rattle.std.proofs.Common.{min}
 use Rattle.ed_syntax.proofs.Kit.{leb-true, ltb-true, AreRowsOf, empty, enter, fetch, fetch_with, label, labelled}
 use Rattle.ed_syntax.proofs.Kit.{placed, segment, segment_at, SpellsForm, SpellsPlaced, SpellsStatement, statement}
@@ -11,7 +11,7 @@ use Rattle.ed_syntax.proofs.Kit.{version, LinePart, and_more, LinesSay, no_more}
 use Rattle.ed_link.proofs.Kit.{lit≤, list_all, length-map, locations, locations_most, canonical, canonicals, line_from}
 use Rattle.ed_link.proofs.Kit.{entry, table_item, counter_after, IsLineAfter, after_statement, first_counter}
 use Rattle.ed_link.proofs.Kit.{routine_places, HasNoFault, data_after, end_place, first_place, symbols_of, items_of}
-use Rattle.ed_link.proofs.Kit.{punched_from, punched_items, routine_items, use_items, after_text}
+use Rattle.ed_link.proofs.Kit.{punched_from, punched_items, routine_items, use_items, word_item, after_text}
 use Rattle.ed_words.specs.Words.{digit as one_if}
 use Rattle.ed_notation.specs.Spellings.{text_of}
 use Rattle.ed_syntax.specs.Forms.{data_rows as data_statement}
@@ -27,7 +27,7 @@ use Rattle.ed_symbols.specs.declared.symbols.Definition.{Definition}
 use Rattle.ed_symbols.proofs.NameLaw.{spot_snoc}
 use Rattle.ed_link.specs.Faults.{LineHasWord}
 use Rattle.ed_link.specs.Linked.{data_rows}
-use Rattle.ed_link.proofs.Bounds.{headed_few, long_few, routine_few}
+use Rattle.ed_link.proofs.Bounds.{headed_few, use_few}
 
 -- ---- the rows of a line
 
@@ -191,10 +191,15 @@ routine_is : (found : Option ℕ) → length (routine_items found) ≡ routine_p
 routine_is None = refl
 routine_is (Some r) = length-map (entry r).items table_item
 
-use_few : (symbols : List Definition) (ts : List Setting) (base : ℕ) (found : Option ℕ)
+fetch_few : (symbols : List Definition) (ts : List Setting) (base : ℕ) (found : Option ℕ)
     → length (use_items symbols ts base found) ≤ routine_places found + 14
-use_few symbols ts base found =
-    let is = routine_is found in routine_few found (routine_places found) (omega (arith, is)) symbols ts base
+fetch_few symbols ts base found =
+    let few = use_few symbols ts base found in let is = routine_is found in omega (arith, few, is)
+
+-- a long word is at most 3 words
+long_few : (b : Bool) (v w : ℕ) → length (map word_item ((if b then 0 ∷ [] else []) ++ (v ∷ (w ∷ [])))) ≤ 3
+long_few true v w = lit≤ tt
+long_few false v w = lit≤ tt
 
 -- 9 bytes for each item, and one for each row of data: at most 126, and 9 for each word of the line
 line_few : (symbols : List Definition) (s : LocationCounter) (st : Option Statement) → ShortRows st
@@ -205,7 +210,7 @@ line_few symbols s (Some (Order f o is_long)) h = search (rules, headed_few)
 line_few symbols s (Some (Number w)) h = search (rules, headed_few)
 line_few symbols s (Some (Letters codes)) h = grind (arith, common_steps, headed_few)
 line_few symbols s (Some (Long v)) h = search (rules, headed_few, long_few)
-line_few symbols s (Some (Fetch routine name ts)) h = search (rules, use_few)
+line_few symbols s (Some (Fetch routine name ts)) h = search (rules, fetch_few)
 line_few symbols s (Some (Enter name)) h = omega arith
 line_few symbols s (Some (Rows codes)) h = omega (arith, h)
 

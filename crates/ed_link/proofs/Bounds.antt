@@ -35,7 +35,7 @@ presets_few symbols ts [] = lit≤ tt
 presets_few symbols ts (c ∷ cs) = grind (arith, length-append, presets_few symbols ts cs)
 
 -- the 6 parameters and the head of a routine are 14 items
-use_few : (symbols : List Definition) (ts : List Setting) (base : ℕ) (found : Option ℕ)
+pub use_few : (symbols : List Definition) (ts : List Setting) (base : ℕ) (found : Option ℕ)
     → length (use_items symbols ts base found) ≤ length (routine_items found) + 14
 use_few symbols ts base found =
     let few = presets_few symbols ts parameter_letters in

@@ -13,7 +13,7 @@ use Rattle.ed_machine.proofs.Kit.Frames.{all_digits}
 use Rattle.ed_machine.proofs.Kit.Window.{patched_self, get_own}
 use Rattle.ed_library.specs.Routines.{is_working}
 use Rattle.ed_routines.proofs.Called.{IsCalled-loaded as routine_called}
-use Rattle.ed_routines.proofs.Journeys.{IsIn, Journey, all_long, beside_word, IsCalled-loaded, caller_is}
+use Rattle.ed_routines.proofs.Journeys.{IsIn, Journey, all_long, beside_word, called, caller_is}
 use Rattle.ed_routines.proofs.Journeys.{IsOther-beside, IsLoadedAt-called}
 use Rattle.ed_sources.proofs.Decimals.{are_digits-digits}
 use Rattle.ed_sources.proofs.ReadAndPrint.{rest_is, rows_are}
@@ -58,10 +58,10 @@ module _ {n h : ℕ} {f : Frame n h} {r : Moment} (o : IsIn f r) where
   -- how the routine returns
   abbrev pub Leaves : ℕ → ℕ → ℕ → List ℕ → List ℕ → List Bool → List ℕ → Option ℕ → ℕ → Type 0
   Leaves i w k codes words digits rows l done =
-      Leads k (state f (IsCalled-loaded o i w) done) codes (record (state f (IsCalled-loaded o i w) done) {
+      Leads k (state f (called o i w) done) codes (record (state f (called o i w) done) {
         store = record { words = words; sandwich = all_digits digits (f.base / 2 + h) r.pairs };
         acc = 0;
-        counter = caller (state f (IsCalled-loaded o i w) done) + 2;
+        counter = caller (state f (called o i w) done) + 2;
         tape = rows;
         last = l;
         orders = done + k;
@@ -70,7 +70,7 @@ module _ {n h : ℕ} {f : Frame n h} {r : Moment} (o : IsIn f r) where
   pub Part-changes : {r0 w : ℕ} {parameters : List ℕ} {k : ℕ} {codes : List ℕ} (i : ℕ) (words : List ℕ)
       (digits : List Bool)
       (cells rows : List ℕ) (l : Option ℕ) (has : HasRoutine f r.words r0 w parameters)
-      → ((done : ℕ) → IsLoadedAt r0 parameters w (state f (IsCalled-loaded o i w) done)
+      → ((done : ℕ) → IsLoadedAt r0 parameters w (state f (called o i w) done)
       → Leaves i w k codes words digits rows l done)
       → length words ≡ 1024 → length cells ≡ n
       → ((j : ℕ) → j < n → get_or words (f.base + j) 0 ≡ get_or cells j 0)
@@ -83,14 +83,14 @@ module _ {n h : ℕ} {f : Frame n h} {r : Moment} (o : IsIn f r) where
         leads = λ done.
             let size = locations_most f.size in let under = f.under in let fits = f.fits in
             let word : get_or r.cells i 0 ≡ A_F + 2 * (f.base + i) = ap (λ x. x.1.0) first in
-            let two : Path f 2 r [] (IsCalled-loaded o i w) =
+            let two : Path f 2 r [] (called o i w) =
             on (A i (own i) (short (A_F + 2 * (f.base + i))) first (omega arith))
             (on (G_jumps (i + 1) (any w has.reached) second (omega arith)) stay) in
             let back = returns (done + 2) (IsLoadedAt-called o i (done + 2) room has) in
             let whole : patched 0 words f.base cells ≡ words =
             patched_self 0 words f.base cells (omega arith) (λ j m. sym (same j (omega arith))) in
             let count : done + 2 + k ≡ done + (2 + k) = omega arith in
-            let c : caller (state f (IsCalled-loaded o i w) (done + 2)) + 2 ≡ f.base + (i + 2) =
+            let c : caller (state f (called o i w) (done + 2)) + 2 ≡ f.base + (i + 2) =
             omega (arith, caller_is o i w (done + 2)) in
             subst (λ (t : State). Leads (2 + k) (state f r done) codes t)
             (λ j. record {
@@ -121,8 +121,8 @@ module _ {n h : ℕ} {f : Frame n h} {r : Moment} (o : IsIn f r) where
 
   module _ {w : ℕ} (i j v : ℕ) (rest : List ℕ) (has : HasRoutine f r.words read w (with_h (f.base + j)))
       (tape : r.tape ≡ digits v ++ 17 ∷ rest) (small : v < 65536) (inside : j < n) (room : i + 3 ≤ n) where
-    reading : (done : ℕ) → IsLoadedAt read (with_h (f.base + j)) w (state f (IsCalled-loaded o i w) done)
-        → IsCalled read (with_h (f.base + j)) w (f.base + j) (locations f.size) (state f (IsCalled-loaded o i w) done)
+    reading : (done : ℕ) → IsLoadedAt read (with_h (f.base + j)) w (state f (called o i w) done)
+        → IsCalled read (with_h (f.base + j)) w (f.base + j) (locations f.size) (state f (called o i w) done)
     reading done there =
         routine_called (all_long o) there (record {
           below = let u = f.under in let v = f.fits in omega arith;
@@ -130,7 +130,7 @@ module _ {n h : ℕ} {f : Frame n h} {r : Moment} (o : IsIn f r) where
         })
 
     abbrev called_0 : IsCalled read (with_h (f.base + j)) w (f.base + j) (locations f.size)
-        (state f (IsCalled-loaded o i w) 0)
+        (state f (called o i w) 0)
     called_0 = reading 0 (IsLoadedAt-called o i 0 room has)
 
     ends : after_digits r.tape ≡ 17 ∷ rest

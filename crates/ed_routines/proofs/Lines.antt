@@ -4,7 +4,7 @@ use Rattle.ed_routines.proofs.Kit.{begun, flag_of, spared, [], arith, get_or, in
 use Rattle.ed_routines.proofs.Kit.{ℕ, ◌%◌, ◌*◌, ◌+◌, ◌-◌, ◌/◌, ◌<◌, ◌^◌, ◌∷◌, ◌≡◌, ◌≤◌, ◌⊎◌, locations, State, newline}
 use Rattle.ed_routines.proofs.Kit.{print, with_h, digits, print_orders, IsLoadedAt, IsOutside}
 use Rattle.ed_routines.proofs.Called.{IsCalled, IsWithin, IsCalled-loaded as routine_called}
-use Rattle.ed_routines.proofs.Journeys.{HasRoutine, IsIn, Journey, Returns, all_long, after_call, IsCalled-loaded}
+use Rattle.ed_routines.proofs.Journeys.{HasRoutine, IsIn, Journey, Returns, all_long, after_call, called}
 use Rattle.ed_routines.proofs.Journeys.{Journey-called}
 use Rattle.ed_routines.proofs.Print.{before_tens, cells as print_cells}
 use Rattle.ed_machine.proofs.Kit.Newline as newline_piece
@@ -21,10 +21,10 @@ module _ {n h : ℕ} {f : Frame n h} {r : Moment} (o : IsIn f r) where
   abbrev pub newline_left : ℕ → ℕ → List ℕ
   newline_left w i = newline_piece.cells w (E_F + 2 * (reckoned (f.base + i) + 2))
 
-  pub newline_returns : {w : ℕ} (i done : ℕ) → IsLoadedAt newline [] w (state f (IsCalled-loaded o i w) done)
-      → Returns newline w (state f (IsCalled-loaded o i w) done) 5 (18 ∷ 24 ∷ []) (newline_left w i) (Some 24)
+  pub newline_returns : {w : ℕ} (i done : ℕ) → IsLoadedAt newline [] w (state f (called o i w) done)
+      → Returns newline w (state f (called o i w) done) 5 (18 ∷ 24 ∷ []) (newline_left w i) (Some 24)
   newline_returns {w} i done there =
-      let s : State = state f (IsCalled-loaded o i w) done in
+      let s : State = state f (called o i w) done in
       let within : IsWithin 7 w 0 (locations f.size) s = record {
         under = there.fits;
         near = let under = there.fits in omega arith;
@@ -63,11 +63,11 @@ module _ {n h : ℕ} {f : Frame n h} {r : Moment} (o : IsIn f r) where
 
   pub print_returns : {w : ℕ} (i j done : ℕ) → j < n → number_at j < 65536
       → ((w + 51 ≤ f.base) ⊎ (f.base + n ≤ w))
-      → IsLoadedAt print (with_h (f.base + j)) w (state f (IsCalled-loaded o i w) done)
-      → Returns print w (state f (IsCalled-loaded o i w) done) (print_orders (number_at j)) (11 ∷ digits (number_at j))
+      → IsLoadedAt print (with_h (f.base + j)) w (state f (called o i w) done)
+      → Returns print w (state f (called o i w) done) (print_orders (number_at j)) (11 ∷ digits (number_at j))
       (print_left w i j (number_at j)) (Some (number_at j % 10))
   print_returns {w} i j done inside small apart there =
-      let s : State = state f (IsCalled-loaded o i w) done in
+      let s : State = state f (called o i w) done in
       let out : IsOutside print w (f.base + j) s = record {
         below = let u = f.under in let v = f.fits in omega arith;
         beside = side apart;
@@ -87,12 +87,12 @@ module _ {n h : ℕ} {f : Frame n h} {r : Moment} (o : IsIn f r) where
   -- the same, by the number in that cell
   pub print_goes : {w v : ℕ} (i j : ℕ) → number_at j ≡ v → j < n → v < 65536
       → ((w + 51 ≤ f.base) ⊎ (f.base + n ≤ w))
-      → (done : ℕ) → IsLoadedAt print (with_h (f.base + j)) w (state f (IsCalled-loaded o i w) done)
-      → Returns print w (state f (IsCalled-loaded o i w) done) (print_orders v) (11 ∷ digits v) (print_left w i j v)
+      → (done : ℕ) → IsLoadedAt print (with_h (f.base + j)) w (state f (called o i w) done)
+      → Returns print w (state f (called o i w) done) (print_orders v) (11 ∷ digits v) (print_left w i j v)
       (Some (v % 10))
   print_goes {w} {v} i j number inside small apart done there =
       let low : number_at j < 65536 = rw number small in
-      subst (λ x. Returns print w (state f (IsCalled-loaded o i w) done) (print_orders x) (11 ∷ digits x)
+      subst (λ x. Returns print w (state f (called o i w) done) (print_orders x) (11 ∷ digits x)
       (print_left w i j x)
       (Some (x % 10)))
       number (print_returns i j done inside low apart there)

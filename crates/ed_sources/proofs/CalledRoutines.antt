@@ -6,7 +6,7 @@ use Rattle.ed_sources.proofs.Kit.{digits, digits_value, print_orders, IsOther, I
 use Rattle.ed_sources.proofs.Kit.{place_count, caller}
 use Rattle.ed_machine.specs.declared.turn.Turn.TheVariants.{Stopped}
 use Rattle.ed_routines.proofs.Called.{IsWithin, IsCalled-loaded as routine_called}
-use Rattle.ed_sources.proofs.Calling.{HasRoutine, IsBefore, caller-back, IsCalled-loaded, caller_is, Leads-calls}
+use Rattle.ed_sources.proofs.Calling.{HasRoutine, IsBefore, caller-back, called, caller_is, Leads-calls}
 use Rattle.ed_sources.proofs.Calling.{IsOutside-called, IsLoadedAt-stands}
 use Rattle.ed_routines.proofs.NewLine as new_line
 use Rattle.ed_routines.proofs.PrintCall as print_call
@@ -56,7 +56,7 @@ aside early late (inr g) e = omega arith
 
 module _ {s : State} {m base : ℕ} (o : IsBefore s m base) where
   abbrev t : State
-  t = IsCalled-loaded s m base
+  t = called s m base
 
   -- the call of a routine that leads to the order after it
   abbrev pub passes : {k from to : ℕ} {codes : List ℕ} {end : State} → Leads k t codes end → end.counter ≡ caller t + 2
