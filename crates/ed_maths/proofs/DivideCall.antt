@@ -146,8 +146,8 @@ module _ {b high low by top : ℕ} {s : State} (o : CallsDivide b high low by to
     orders = s.orders + divide_orders (n / d);
   }
 
-  pub all_last : length last.store.words ≡ 1024
-  all_last = search (rules, length_patched)
+  pub length-divided : length last.store.words ≡ 1024
+  length-divided = search (rules, length_patched)
 
   -- that many orders lead to the order after the call
   pub leads_to : Leads (divide_orders (n / d)) s [] last

@@ -83,8 +83,8 @@ module _ {b source target top r : ℕ} {s : State} (o : CallsRoot b source targe
     orders = s.orders + root_orders r;
   }
 
-  pub all_last : length last.store.words ≡ 1024
-  all_last = search (rules, length_patched)
+  pub length-rooted : length last.store.words ≡ 1024
+  length-rooted = search (rules, length_patched)
 
   -- that many orders lead to the order after the call
   pub leads_to : Leads (root_orders r) s [] last

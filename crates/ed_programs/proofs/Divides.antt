@@ -152,7 +152,7 @@ module _ {n h : ℕ} {f : Frame n h} (r : Moment) (o : IsIn f (flat r)) where
               (after_change o i last.store.words last.store.sandwich cells_divided r.tape r.last)) orders
               (Part-changes o i last.store.words last.store.sandwich cells_divided r.tape r.last has
               (λ done stand. divide_call.leads_to (dividing done stand))
-              (divide_call.all_last (dividing 0 (there 0))) (omega arith) same_cells room clear first second);
-          all = divide_call.all_last (dividing 0 (there 0));
+              (divide_call.length-divided (dividing 0 (there 0))) (omega arith) same_cells room clear first second);
+          all = divide_call.length-divided (dividing 0 (there 0));
           has = still_has {f = f} o.above has.low beside;
         }

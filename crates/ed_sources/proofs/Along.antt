@@ -22,7 +22,7 @@ pub IsAt-entered : {z : Size} {lines : List Line} {from to m : ℕ} → have_pla
     → (entry_state z lines).counter ≡ m → IsAt z lines (entry_state z lines) from to m
 IsAt-entered {z} {lines} fit counter = search (rules, all_words)
 
--- the source places a call of a routine at m, and the routine at a base, behind what was changed
+-- the source places a call of a routine at m, and the routine at a base, after what was changed
 pub record HasCall (lines : List Line) (r base : ℕ) (parameters : List ℕ) (from to m : ℕ) : Type 0 where
   pub first : unwrap_or (placed_at (placed lines) m) 0 ≡ A_F + 2 * m
   pub second : unwrap_or (placed_at (placed lines) (m + 1)) 0 ≡ G_F + 2 * base

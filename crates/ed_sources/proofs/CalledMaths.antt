@@ -29,7 +29,7 @@ module _ {s : State} {m base : ℕ} (o : IsBefore s m base) where
       search (rules, IsOutside-called, IsLoadedAt-stands, within_size) in
       let divided = divide_call.HasDivided-last dividing _ refl in
       record {
-        passes = passes o (divide_call.leads_to dividing) refl refl (divide_call.all_last dividing) refl
+        passes = passes o (divide_call.leads_to dividing) refl refl (divide_call.length-divided dividing) refl
             (λ i b. divided.words i (aside (omega (arith, early.0)) (omega arith) b)
             (aside (omega (arith, early.1)) (omega arith) b)
             (other divide (omega (arith, early.0)) (omega arith) b));
@@ -46,7 +46,7 @@ module _ {s : State} {m base : ℕ} (o : IsBefore s m base) where
       let rooting : root_call.CallsRoot base source target (locations s.size) r (called s m base) =
       search (rules, IsOutside-called, IsLoadedAt-stands, within_size) in
       record {
-        passes = passes o (root_call.leads_to rooting) refl refl (root_call.all_last rooting) refl
+        passes = passes o (root_call.leads_to rooting) refl refl (root_call.length-rooted rooting) refl
             (λ i b. (root_call.keeps rooting _ refl).words i (aside (omega arith) (omega arith) b)
             (other root (omega arith) (omega arith) b));
         root_is = root_call.root_is rooting _ refl;
