@@ -66,16 +66,17 @@ module _ {z : Size} {lines : List Line} {t : State} {from to m : ℕ} (o : IsAt 
         }
 
     -- a location before the routine is outside it
-    pub out : {h : ℕ} → h < base → IsOutside r base h t
-    out near = let size = locations_least z in record { below = rw o.size (omega arith); beside = inl near }
+    pub IsOutside-below : {h : ℕ} → h < base → IsOutside r base h t
+    IsOutside-below near = let size = locations_least z in record { below = rw o.size (omega arith); beside = inl near }
 
     -- the order after the call stops the machine
-    pub stops : {k end : ℕ} {codes : List ℕ} → Passes k t codes m base end
+    pub StopsAt-placed : {k end : ℕ} {codes : List ℕ} → Passes k t codes m base end
         → unwrap_or (placed_at (placed lines) (m + 2)) 0 ≡ Z_F → StopsAt k t codes (m + 2)
-    stops p is =
+    StopsAt-placed p is =
         StopsAt-passes p (inl (omega arith)) (word_there (m + 2) Z_F (inl (omega arith)) (omega arith) (omega arith) is)
 
   -- a call of `print` prints the number at h
-  pub prints : (h : ℕ) {base n : ℕ} → HasCall lines print base (with_h h) from to m → h < base
+  pub Passes-print : (h : ℕ) {base n : ℕ} → HasCall lines print base (with_h h) from to m → h < base
       → short_at t.store h ≡ n → n < 65536 → Passes (2 + print_orders n) t (11 ∷ digits n) m base (base + 51)
-  prints h c near number small = print_passes (IsBefore-placed c) (HasRoutine-placed c) (out c near) number small
+  Passes-print h c near number small = print_passes (IsBefore-placed c) (HasRoutine-placed c)
+      (IsOutside-below c near) number small

@@ -10,7 +10,7 @@ use Rattle.ed_sources.specs.CallRuns.{CallRuns, EachCallRuns, GuestStops, call_e
 use Rattle.ed_words.specs.declared.size.Size.TheVariants as size
 use Rattle.ed_sources.proofs.CallCosts.{check_cost, divide_cost, print_cost, root_cost}
 use Rattle.ed_sources.proofs.CallsAccepted.{divide_read, newline_read, print_read, read_read, root_read, check_read}
-use Rattle.ed_sources.proofs.CallsAccepted.{faultless}
+use Rattle.ed_sources.proofs.CallsAccepted.{fault-none}
 use Rattle.ed_sources.proofs.CheckedPaper.{check_ends, room_for_codes}
 use Rattle.ed_sources.proofs.CheckedPrint.{guest_stops}
 use Rattle.ed_sources.proofs.DivideAndPrint.{call_ends, quotient_low, remainder_low}
@@ -31,7 +31,7 @@ runs : (s : Settings) (call : Call) {lines : List Line} {k place : ℕ} {codes :
     → (cost lines ≡ call_cost call) × (call_cost call + call_orders call ≤ most_call_orders call)
     → CallRuns s call (call_text call)
 runs s call {lines} {k} {place} {codes} reads small full stops few are low text guest costs =
-    let accepted = read_is_accepted s.size (call_text call) lines reads (faultless s.size lines small full) in
+    let accepted = read_is_accepted s.size (call_text call) lines reads (fault-none s.size lines small full) in
     let entry : AnswersFromEntry s lines = each_answer_is_from_entry s (call_text call) lines accepted in
     let count = are.1 in
     record {

@@ -3,7 +3,7 @@ use Rattle.ed_sources.proofs.Kit.{[], arith, length, refl, rules, ℕ, ◌%◌, 
 use Rattle.ed_sources.proofs.Kit.{◌≤◌, locations, short_at, State, IsOutside, divide, IsDivision}
 use Rattle.ed_sources.proofs.Kit.{with_hnm, root, with_hn, divide_orders, dividend, IsRoot, root_orders, ◌≢◌}
 use Rattle.ed_routines.proofs.Called.{within_size}
-use Rattle.ed_sources.proofs.CalledRoutines.{Passes, passes, other, aside}
+use Rattle.ed_sources.proofs.CalledRoutines.{Passes, passes, IsOther-around, ne-aside}
 use Rattle.ed_sources.proofs.Calling.{HasRoutine, IsBefore, called, IsOutside-called, IsLoadedAt-stands}
 use Rattle.ed_maths.proofs.DivideCall as divide_call
 use Rattle.ed_maths.proofs.RootCall as root_call
@@ -21,18 +21,18 @@ pub record TakesRoot (s : State) (m to target r : ℕ) : Type 0 where
 
 module _ {s : State} {m base : ℕ} (o : IsBefore s m base) where
   -- `divide`; its three words come before it, and the two that it writes begin at one location
-  pub divides : {high low by from : ℕ} → length s.store.sandwich ≡ 512 → base % 2 ≡ 0
+  pub Divides-called : {high low by from : ℕ} → length s.store.sandwich ≡ 512 → base % 2 ≡ 0
       → HasRoutine s divide base (with_hnm high low by) → IsDivision base high low by s
       → (from ≤ high) × (from ≤ low) → high < base → low < base → Divides s m from (base + 41) high low by
-  divides {high} {low} {by} all_digits even has is early high_before low_before =
+  Divides-called {high} {low} {by} all_digits even has is early high_before low_before =
       let dividing : divide_call.CallsDivide base high low by (locations s.size) (called s m base) =
       search (rules, IsOutside-called, IsLoadedAt-stands, within_size) in
       let divided = divide_call.HasDivided-last dividing _ refl in
       record {
         passes = passes o (divide_call.leads_to dividing) refl refl (divide_call.length-divided dividing) refl
-            (λ i b. divided.words i (aside (omega (arith, early.0)) (omega arith) b)
-            (aside (omega (arith, early.1)) (omega arith) b)
-            (other divide (omega (arith, early.0)) (omega arith) b));
+            (λ i b. divided.words i (ne-aside (omega (arith, early.0)) (omega arith) b)
+            (ne-aside (omega (arith, early.1)) (omega arith) b)
+            (IsOther-around divide (omega (arith, early.0)) (omega arith) b));
         quotient = divided.quotient;
         remainder = divided.remainder;
       }
@@ -47,7 +47,7 @@ module _ {s : State} {m base : ℕ} (o : IsBefore s m base) where
       search (rules, IsOutside-called, IsLoadedAt-stands, within_size) in
       record {
         passes = passes o (root_call.leads_to rooting) refl refl (root_call.length-rooted rooting) refl
-            (λ i b. (root_call.keeps rooting _ refl).words i (aside (omega arith) (omega arith) b)
-            (other root (omega arith) (omega arith) b));
+            (λ i b. (root_call.keeps rooting _ refl).words i (ne-aside (omega arith) (omega arith) b)
+            (IsOther-around root (omega arith) (omega arith) b));
         root_is = root_call.root_is rooting _ refl;
       }

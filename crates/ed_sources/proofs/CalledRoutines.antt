@@ -44,15 +44,15 @@ pub StopsAt-passes : {k m from to : ℕ} {s : State} {codes : List ℕ} → Pass
 StopsAt-passes {m = m} p other stop = search (rules, stop_at, other)
 
 -- a word beside those that a routine may change is not one of its working locations
-pub other : (r : ℕ) {base from to i : ℕ} → from ≤ base → base + place_count r ≤ to → IsBeside from to i
+pub IsOther-around : (r : ℕ) {base from to i : ℕ} → from ≤ base → base + place_count r ≤ to → IsBeside from to i
     → IsOther r base i
-other r early late (inl l) = record { other = inl (omega arith) }
-other r early late (inr g) = record { other = inr (inl (omega arith)) }
+IsOther-around r early late (inl l) = record { other = inl (omega arith) }
+IsOther-around r early late (inr g) = record { other = inr (inl (omega arith)) }
 
 -- nor one of those between
-pub aside : {from to h i : ℕ} → from ≤ h → h < to → IsBeside from to i → i ≢ h
-aside early late (inl l) e = omega arith
-aside early late (inr g) e = omega arith
+pub ne-aside : {from to h i : ℕ} → from ≤ h → h < to → IsBeside from to i → i ≢ h
+ne-aside early late (inl l) e = omega arith
+ne-aside early late (inr g) e = omega arith
 
 module _ {s : State} {m base : ℕ} (o : IsBefore s m base) where
   abbrev t : State
@@ -81,7 +81,7 @@ module _ {s : State} {m base : ℕ} (o : IsBefore s m base) where
       let low : short_at t.store h < 65536 = rw number small in
       subst (λ x. Passes (2 + print_orders x) s (11 ∷ digits x) m base (base + 51)) number
       (passes (print_call.leads_to printing low) refl refl (print_call.all_last printing low) refl
-      (λ i b. (print_call.keeps printing low _ refl).words i (other print (omega arith) (omega arith) b)))
+      (λ i b. (print_call.keeps printing low _ refl).words i (IsOther-around print (omega arith) (omega arith) b)))
 
   -- `newline`
   pub newline_passes : HasRoutine s newline base [] → Passes 7 s (18 ∷ 24 ∷ []) m base (base + 7)
@@ -89,17 +89,17 @@ module _ {s : State} {m base : ℕ} (o : IsBefore s m base) where
       let there : IsLoadedAt newline [] base t = IsLoadedAt-stands o has in
       let within : IsWithin 7 base 0 (locations s.size) t = search (rules, caller-back) in
       passes (new_line.leads_to o.all there within) refl refl (new_line.all_last o.all there within) refl
-      (λ i b. (new_line.keeps o.all there within _ refl).words i (other newline (omega arith) (omega arith) b))
+      (λ i b. (new_line.keeps o.all there within _ refl).words i (IsOther-around newline (omega arith) (omega arith) b))
 
   -- `read`, whose digit rows end with the code c
-  pub reads : {h c : ℕ} {rest : List ℕ} → HasRoutine s read base (with_h h) → IsOutside read base h s
+  pub ReadsNumber-called : {h c : ℕ} {rest : List ℕ} → HasRoutine s read base (with_h h) → IsOutside read base h s
       → h < base → after_digits s.tape ≡ c ∷ rest → c < 32 → ReadsNumber s m h (base + 24)
-  reads {h} has out before ends code =
+  ReadsNumber-called {h} has out before ends code =
       let reading : IsCalled read (with_h h) base h (locations s.size) t =
       routine_called o.all (IsLoadedAt-stands o has) (IsOutside-called o out) in
       record {
         passes = passes (read_call.leads_to reading ends code) refl refl (read_call.all_last reading ends code) refl
-            (λ i b. (read_call.keeps reading ends code _ refl).words i (aside (omega arith) (omega arith) b)
-            (other read (omega arith) (omega arith) b));
+            (λ i b. (read_call.keeps reading ends code _ refl).words i (ne-aside (omega arith) (omega arith) b)
+            (IsOther-around read (omega arith) (omega arith) b));
         number = (read_call.has_read reading ends code _ refl).number;
       }

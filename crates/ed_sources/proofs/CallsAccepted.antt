@@ -50,7 +50,7 @@ pub check_read : (n : ℕ) → n < 65536 → program_of (call_text (Check n)) �
 check_read n small = search (rules, call_is, append-nil, decimal_plain, said_lines, check_says)
 
 -- without a fault on stores of both sizes
-pub faultless : (z : Size) (lines : List Line) → fault size.Small lines ≡ None → fault size.Full lines ≡ None
+pub fault-none : (z : Size) (lines : List Line) → fault size.Small lines ≡ None → fault size.Full lines ≡ None
     → fault z lines ≡ None
-faultless size.Small lines small full = small
-faultless size.Full lines small full = full
+fault-none size.Small lines small full = small
+fault-none size.Full lines small full = full

@@ -18,7 +18,7 @@ use Rattle.ed_checker.specs.Laws.{HasGuest, IsFollowed, StopsAfter}
 use Rattle.ed_checker.proofs.Follow.{checker_law}
 use Rattle.ed_checker.proofs.Guests.{allowed_below}
 use Rattle.ed_checker.proofs.Weights.{checked_total, turn_weighs, turn_weights}
-use Rattle.ed_sources.proofs.Along.{IsAt, IsBefore-placed, HasRoutine-placed, HasCall, out}
+use Rattle.ed_sources.proofs.Along.{IsAt, IsBefore-placed, HasRoutine-placed, HasCall, IsOutside-below}
 use Rattle.ed_sources.proofs.AtEntry.{all_words, placed, word_at, sound_entry}
 use Rattle.ed_sources.proofs.CalledRoutines.{stop_at}
 use Rattle.ed_sources.proofs.Calling.{IsBefore, called, caller_is, Leads-calls, IsLoadedAt-stands, IsOutside-called}
@@ -26,7 +26,7 @@ use Rattle.ed_sources.proofs.Calling.{call_keeps, call_weighs}
 use Rattle.ed_sources.proofs.Decimals.{list_all-numbers, numbers}
 use Rattle.ed_sources.proofs.Said.{check_lines}
 use Rattle.ed_routines.proofs.PrintCall as print_call
-use Rattle.ed_sources.proofs.CallsAccepted.{check_read, faultless}
+use Rattle.ed_sources.proofs.CallsAccepted.{check_read, fault-none}
 use Rattle.ed_orders.specs.declared.kind.Kind.{Kind}
 use Rattle.ed_machine.proofs.Kit.Orders.{IsOrder}
 use Rattle.ed_machine.proofs.Kit.Zeros.{begun, shown}
@@ -66,7 +66,7 @@ module _ (z : Size) (n : ℕ) (small : n < 65536) where
   sound =
       sound_entry z (call_text (Check n)) (check_lines n)
       (read_is_accepted z (call_text (Check n)) (check_lines n) (check_read n small)
-      (faultless z (check_lines n) refl refl))
+      (fault-none z (check_lines n) refl refl))
 
   -- ---- the routine at its base
 
@@ -154,7 +154,7 @@ module _ (z : Size) (n : ℕ) (small : n < 65536) where
       record {
         all = all_words z (check_lines n);
         stands = IsLoadedAt-stands before_print (HasRoutine-placed at its_call);
-        outside = IsOutside-called before_print (out at its_call (lit< tt));
+        outside = IsOutside-called before_print (IsOutside-below at its_call (lit< tt));
         within = record {
           under = lit≤ tt;
           near = lit< tt;

@@ -6,9 +6,9 @@ use Rattle.ed_sources.proofs.Kit.{print_orders, divide, IsDivision, with_hnm, di
 use Rattle.ed_sources.proofs.Kit.{StopsAt-behind, StopsAt, List, Line, rules}
 use Rattle.std.proofs.Math.Nat.{div-lt_iff_lt-mul}
 use Rattle.ed_sources.proofs.Along.{IsAt, IsBefore-placed, IsAt-entered, HasRoutine-placed, IsAt-passed, HasCall}
-use Rattle.ed_sources.proofs.Along.{prints, stops}
+use Rattle.ed_sources.proofs.Along.{Passes-print, StopsAt-placed}
 use Rattle.ed_sources.proofs.AtEntry.{word_at}
-use Rattle.ed_sources.proofs.CalledMaths.{Divides, divides}
+use Rattle.ed_sources.proofs.CalledMaths.{Divides, Divides-called}
 use Rattle.ed_sources.proofs.CalledRoutines.{Passes, newline_passes}
 use Rattle.ed_sources.proofs.SaidMaths.{divide_lines}
 
@@ -61,7 +61,7 @@ module _ (z : Size) (high low by : ℕ) (positive : 1 ≤ by) (fits : by ≤ 327
 
   division : Divides s 56 65 109 65 66 67
   division =
-      divides (IsBefore-placed at divide_call) (length-replicate {A = Bool} 512 false) refl
+      Divides-called (IsBefore-placed at divide_call) (length-replicate {A = Bool} 512 false) refl
       (HasRoutine-placed at divide_call) is_division
       (lit≤ tt, lit≤ tt) (lit< tt) (lit< tt)
 
@@ -85,7 +85,8 @@ module _ (z : Size) (high low by : ℕ) (positive : 1 ≤ by) (fits : by ≤ 327
 
   printed : Passes (2 + print_orders (n / by)) takes.last (11 ∷ digits (n / by)) 58 110 161
   printed =
-      prints at_print 66 print_call (lit< tt) (division.quotient ∙ count) (quotient_low n by positive (omega arith))
+      Passes-print at_print 66 print_call (lit< tt) (division.quotient ∙ count)
+      (quotient_low n by positive (omega arith))
 
   -- ---- `newline`
 
@@ -113,8 +114,8 @@ module _ (z : Size) (high low by : ℕ) (positive : 1 ≤ by) (fits : by ≤ 327
 
   prints_last : StopsAt (2 + print_orders (n % by)) feeds.last (11 ∷ digits (n % by)) 64
   prints_last =
-      stops at_last last_call
-      (prints at_last 65 last_call (lit< tt) still (remainder_low n by positive fits)) refl
+      StopsAt-placed at_last last_call
+      (Passes-print at_last 65 last_call (lit< tt) still (remainder_low n by positive fits)) refl
 
   pub divide_ends : Ends s (n / by) (n % by)
   divide_ends =

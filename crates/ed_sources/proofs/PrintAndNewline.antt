@@ -1,7 +1,8 @@
 -- The sources that print a number and a new line, from their entries to their stops.
 use Rattle.ed_sources.proofs.Kit.{Size, parameter_store, [], lit<, lit≤, refl, ℕ, ◌+◌, ◌<◌, ◌∷◌, newline, print}
 use Rattle.ed_sources.proofs.Kit.{with_h, digits, print_orders, entry_state, StopsAt, rules}
-use Rattle.ed_sources.proofs.Along.{IsAt, IsBefore-placed, IsAt-entered, HasRoutine-placed, HasCall, stops, prints}
+use Rattle.ed_sources.proofs.Along.{IsAt, IsBefore-placed, IsAt-entered, HasRoutine-placed, HasCall, StopsAt-placed}
+use Rattle.ed_sources.proofs.Along.{Passes-print}
 use Rattle.ed_sources.proofs.AtEntry.{word_at}
 use Rattle.ed_sources.proofs.CalledRoutines.{newline_passes}
 use Rattle.ed_sources.proofs.Said.{newline_lines, print_lines}
@@ -19,7 +20,7 @@ module _ (z : Size) (n : ℕ) (small : n < 65536) where
   pub print_ends : StopsAt (2 + print_orders n) (entry_state z (print_lines n)) (11 ∷ digits n) 58
   print_ends =
       let number = word_at z (print_lines n) refl 59 (lit≤ tt) (lit< tt) in
-      stops at its_call (prints at 59 its_call (lit< tt) number small) refl
+      StopsAt-placed at its_call (Passes-print at 59 its_call (lit< tt) number small) refl
 
 -- ---- `call newline`
 
@@ -33,5 +34,5 @@ module _ (z : Size) where
 
   pub newline_ends : StopsAt 7 (entry_state z newline_lines) (18 ∷ 24 ∷ []) 58
   newline_ends =
-      stops at_newline newline_call
+      StopsAt-placed at_newline newline_call
       (newline_passes (IsBefore-placed at_newline newline_call) (HasRoutine-placed at_newline newline_call)) refl

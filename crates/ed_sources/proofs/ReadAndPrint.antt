@@ -3,9 +3,9 @@ use Rattle.ed_sources.proofs.Kit.{Size, and_parts, parameter_store, append-nil, 
 use Rattle.ed_sources.proofs.Kit.{length, List, lit<, lit≤, nat_lt, refl, subst, true, ℕ, ◌*◌, ◌++◌, ◌+◌, ◌<◌}
 use Rattle.ed_sources.proofs.Kit.{◌∙◌, ◌∷◌, ◌≡◌, short_at, State, print, read, with_h, after_digits, digit_rows}
 use Rattle.ed_sources.proofs.Kit.{digits, print_orders, entry_state, StopsAt-behind, StopsAt, rules}
-use Rattle.ed_sources.proofs.Along.{IsAt, IsBefore-placed, IsAt-entered, HasRoutine-placed, IsAt-passed, HasCall, out}
-use Rattle.ed_sources.proofs.Along.{stops, prints}
-use Rattle.ed_sources.proofs.CalledRoutines.{Passes, ReadsNumber, reads}
+use Rattle.ed_sources.proofs.Along.{IsAt, IsBefore-placed, IsAt-entered, HasRoutine-placed, IsAt-passed, HasCall}
+use Rattle.ed_sources.proofs.Along.{IsOutside-below, StopsAt-placed, Passes-print}
+use Rattle.ed_sources.proofs.CalledRoutines.{Passes, ReadsNumber, ReadsNumber-called}
 use Rattle.ed_sources.proofs.Decimals.{are_digits-digits, are_digits}
 use Rattle.ed_sources.proofs.Said.{read_lines}
 
@@ -40,7 +40,8 @@ module _ (z : Size) (n : ℕ) (small : n < 65536) where
 
   taken : ReadsNumber s 56 61 86
   taken =
-      reads (IsBefore-placed at read_call) {h = 61} (HasRoutine-placed at read_call) (out at read_call (lit< tt))
+      ReadsNumber-called (IsBefore-placed at read_call) {h = 61} (HasRoutine-placed at read_call)
+      (IsOutside-below at read_call (lit< tt))
       (lit< tt)
       (ap after_digits tape_is ∙ rest_is (digits n) [] (are_digits-digits n small)) (lit< tt)
 
@@ -62,4 +63,5 @@ module _ (z : Size) (n : ℕ) (small : n < 65536) where
   pub read_ends : StopsAt (2 + (11 + 13 * length (digits n)) + (2 + print_orders n)) s (11 ∷ digits n) 60
   read_ends =
       subst (λ (ds : List ℕ). StopsAt (2 + (11 + 13 * length ds) + (2 + print_orders n)) s (11 ∷ digits n) 60) rows
-      (StopsAt-behind takes.leads (stops at_print its_call (prints at_print 61 its_call (lit< tt) number small) refl))
+      (StopsAt-behind takes.leads
+      (StopsAt-placed at_print its_call (Passes-print at_print 61 its_call (lit< tt) number small) refl))

@@ -4,7 +4,7 @@ use Rattle.ed_sources.proofs.Kit.{◌<◌, ◌∷◌, ◌≡◌, short_at, State
 use Rattle.ed_sources.proofs.Kit.{with_hn, root_is, root_orders, entry_state, StopsAt-behind, StopsAt, rules}
 use Rattle.ed_maths.proofs.RootCall.{IsRoot-few}
 use Rattle.ed_sources.proofs.Along.{IsAt, IsBefore-placed, IsAt-entered, HasRoutine-placed, IsAt-passed, word_there}
-use Rattle.ed_sources.proofs.Along.{HasCall, out, stops, prints}
+use Rattle.ed_sources.proofs.Along.{HasCall, IsOutside-below, StopsAt-placed, Passes-print}
 use Rattle.ed_sources.proofs.CalledMaths.{TakesRoot, takes_root}
 use Rattle.ed_sources.proofs.CalledRoutines.{Passes}
 use Rattle.ed_sources.proofs.SaidMaths.{root_lines}
@@ -34,8 +34,9 @@ module _ (z : Size) (n : ℕ) (small : n < 65536) where
   taken : TakesRoot s 56 87 62 r
   taken =
       takes_root (IsBefore-placed at its_call) {source = 61} {target = 62} (HasRoutine-placed at its_call)
-      (out at its_call (lit< tt))
-      (out at its_call (lit< tt)) (λ e. omega (arith, e)) (rw number small) (rw number (root_is n)) (lit< tt)
+      (IsOutside-below at its_call (lit< tt))
+      (IsOutside-below at its_call (lit< tt)) (λ e. omega (arith, e)) (rw number small) (rw number (root_is n))
+      (lit< tt)
 
   abbrev takes : Passes (2 + root_orders r) s [] 56 62 87
   takes = taken.passes
@@ -52,4 +53,5 @@ module _ (z : Size) (n : ℕ) (small : n < 65536) where
   pub root_ends : StopsAt (2 + root_orders r + (2 + print_orders r)) s (11 ∷ digits r) 60
   root_ends =
       StopsAt-behind takes.leads
-      (stops at_print print_call (prints at_print 62 print_call (lit< tt) taken.root_is (root_small n small)) refl)
+      (StopsAt-placed at_print print_call
+      (Passes-print at_print 62 print_call (lit< tt) taken.root_is (root_small n small)) refl)
