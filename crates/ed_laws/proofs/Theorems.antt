@@ -22,7 +22,7 @@ use Rattle.ed_laws.specs.Listed.{EachListedIsLoaded}
 use Rattle.ed_laws.proofs.BlockedGuests.{each_guest_is_blocked}
 use Rattle.ed_laws.proofs.CallsByDefault.{calls_by_default as by_default}
 use Rattle.ed_sources.specs.DemoRuns.{EachDemoRuns, LastDemoIsLongest}
-use Rattle.ed_sources.proofs.DemoCost.{last_demo_is_longest}
+use Rattle.ed_sources.proofs.DemoMost.{last_demo_is_longest}
 use Rattle.ed_sources.proofs.DemoRuns.{each_demo_runs}
 use Rattle.ed_laws.proofs.CutRuns.{first_tapes_run_from_entry, sources_run_from_entry}
 use Rattle.ed_laws.proofs.FaultyTapes.{faulty_tapes_wait}

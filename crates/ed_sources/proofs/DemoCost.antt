@@ -1,13 +1,11 @@
 -- What reading the tape of `demo` costs: its program, the heads of its segments, and its words.
-use Rattle.ed_sources.proofs.Kit.{sum_by, sum_by-append, sum_by-cons, Item, Line, codes, nat_le, None, take, ◌||◌}
-use Rattle.ed_sources.proofs.Kit.{leb-true, Definition, counter, eq-eqb, ne_eqb, symbols_of, item_with, punched_items}
+use Rattle.ed_sources.proofs.Kit.{sum_by, sum_by-append, sum_by-cons, Item, Line, codes, None, take, ◌||◌}
+use Rattle.ed_sources.proofs.Kit.{Definition, counter, eq-eqb, ne_eqb, symbols_of, item_with, punched_items}
 use Rattle.ed_sources.proofs.Kit.{word_item, item_cost, [], ap, arith, Bool, drop, false, if◌then◌else◌, List, nat_lt}
-use Rattle.ed_sources.proofs.Kit.{refl, Some, suc, zero, ℕ, ◌*◌, ◌++◌, ◌+◌, ◌<◌, ◌∙◌, ◌∷◌, ◌≡◌, ◌≤◌, cost, demo_cost}
+use Rattle.ed_sources.proofs.Kit.{refl, Some, suc, zero, ℕ, ◌*◌, ◌++◌, ◌+◌, ◌<◌, ◌∙◌, ◌∷◌, ◌≡◌, ◌≤◌, cost}
 use Rattle.ed_sources.proofs.Kit.{word_cost, next, number_after, number_word, words_after}
 use Rattle.ed_link.proofs.Kit.{place_on, head, heads, punched_from}
 use Rattle.ed_sources.specs.Costs.{heads_cost}
-use Rattle.ed_sources.specs.DemoRuns.{LastDemoIsLongest, demo_orders, most_demo_orders}
-use Rattle.ed_sources.proofs.Decimals.{list_all-numbers}
 use Rattle.ed_sources.proofs.DemoFaultless.{lines_behind, lines_with}
 use Rattle.ed_sources.proofs.DemoPlaced.{more_words}
 use Rattle.ed_sources.proofs.SaidDemo.{enter_line, segment_forms, word_forms}
@@ -119,12 +117,3 @@ module _ (words n x l : ℕ) where
       let others = rest_cost in
       let stop = ap (λ k. item_cost (item_with 28 k false 17)) (number_is few) in
       omega (arith, all, behind, fixed, others, stop)
-
--- the most orders are those of the greatest number
-pub demo_few : (n : ℕ) → 1 ≤ n → n ≤ 112 → demo_cost n + demo_orders n ≤ most_demo_orders
-demo_few n some few =
-    leb-true (demo_cost n + demo_orders n) most_demo_orders
-    (list_all-numbers (λ k. nat_le (demo_cost k + demo_orders k) most_demo_orders) 1 112 n refl some (omega arith))
-
-pub last_demo_is_longest : LastDemoIsLongest
-last_demo_is_longest = refl

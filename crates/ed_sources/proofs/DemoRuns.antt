@@ -5,7 +5,7 @@ use Rattle.ed_sources.proofs.Kit.{entry_note, run_outcome, accepted_is, each_ans
 use Rattle.ed_answers.specs.Outcome.{Outcome}
 use Rattle.ed_sources.specs.DemoRuns.{EachDemoRuns, demo_orders}
 use Rattle.ed_sources.proofs.DemoAccepted.{demo_read}
-use Rattle.ed_sources.proofs.DemoCost.{demo_few}
+use Rattle.ed_sources.proofs.DemoMost.{demo_few}
 use Rattle.ed_sources.proofs.DemoEnds.{demo_cost_is, demo_ends, demo_entry, sum_small}
 use Rattle.ed_sources.proofs.DemoFaultless.{demo_faultless}
 use Rattle.ed_sources.proofs.Papers.{digits_printed}

@@ -21,6 +21,7 @@ mod DemoLoop
 mod DemoPlaced
 mod WordCosts
 pub mod DemoCost
+pub mod DemoMost
 pub mod DemoEnds
 mod CalledMaths
 mod Along
