@@ -1,5 +1,5 @@
 -- The names that the proofs of this crate cite, passed on from one place. Declares nothing.
-pub use Rattle.std.proofs.Common.{append-nil, max, min, reverse, take}
+pub use Rattle.std.proofs.Common.{append-nil, Global, max, min, reverse, take, Vec}
 pub use Rattle.std.specs.List.{Contains, sum_by}
 pub use Rattle.std.proofs.lemmas.Bool.{cases_eq, eq-eqb, ne_eqb}
 pub use Rattle.std.proofs.lemmas.List.{get_or-set_same, length-set, reverse-append}
@@ -56,7 +56,7 @@ pub use Rattle.ed_link.specs.FaultTests.{has_no_routine, has_sandwich, is_enter,
 pub use Rattle.ed_link.specs.FaultTests.{LinesBefore, missing, overlaps, past_of, reach, sets, sets_otherwise}
 pub use Rattle.ed_link.specs.FaultTests.{word_extent}
 pub use Rattle.ed_link.specs.Faults.{HasEnter, HasNoFault, on_line}
-pub use Rattle.ed_link.specs.Labels.{labels}
+pub use Rattle.ed_link.specs.Labels.{label_of, labels}
 pub use Rattle.ed_link.specs.Linked.{data_after, end_place, entered_place, entry_from, first_place, image}
 pub use Rattle.ed_link.specs.Linked.{linked_words, long_words, operand_number, parameter_letters, parameters}
 pub use Rattle.ed_link.specs.Linked.{placed_by_line, placed_from, placed_words, preset, presets, set_to, symbols_of}

@@ -1,4 +1,5 @@
 mod Causes
+mod Steps
 pub mod Spellable
 pub mod Texts
 pub mod Costs

@@ -1,4 +1,6 @@
-use Rattle.ed_link.proofs.Kit.{[], ap, refl, true, ℕ, ◌++◌, ◌∙◌, ◌∷◌, byte_of, line_from, one_more}
+use Rattle.ed_link.proofs.Kit.{[], ap, List, refl, sym, true, ℕ, ◌++◌, ◌∙◌, ◌∷◌, byte_of, line_from}
+use Rattle.ed_link.proofs.Kit.{one_more}
+use Rattle.std.proofs.lemmas.List.{at_drop_all}
 use Rattle.ed_link.proofs.Texts.{one_spells, last_spells, no_text, some_text}
 use Rattle.ed_link.proofs.linked.push_after.Goals as goal
 
@@ -12,6 +14,13 @@ loop-row-preserved c =
       λ s. c.loop-row.invariant.1 (one_spells c.args.rows.now c.loop-row.row-index c.loop-row-test.true c.row-item.is
           c.byte_of.ensures.is c.byte_of.ensures.back s),
     )
+
+pub returns-clause-is : goal.returns-clause-is
+returns-clause-is c =
+    c.in_ok-push-2.ensures.items
+    ∙ ap (λ (xs : List ℕ). c.loop-row.text.items ++ xs)
+    (sym (at_drop_all (line_from true) c.args.rows.now c.loop-row.row-index c.loop-row-test.false))
+    ∙ c.loop-row.invariant.0 ∙ ap (λ (xs : List ℕ). c.args.text.now.items ++ xs) (sym (some_text c.args.rows.now c.if-is_empty.ensures))
 
 pub returns-clause-spells : goal.returns-clause-spells
 returns-clause-spells c =
