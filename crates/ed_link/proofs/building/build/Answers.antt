@@ -1,5 +1,8 @@
 use Rattle.ed_link.proofs.Kit.{append_assoc, ap, arith, drop, is_some, length-append, Line, refl, sym, ◌+◌, ◌∙◌, ◌∷◌}
 use Rattle.ed_link.proofs.Kit.{◌≡◌, drop_more}
+use Rattle.ed_link.proofs.Kit.{[], append-nil, data_after, entry_from, fault_from, List, placed_from, punched_from}
+use Rattle.ed_link.proofs.Kit.{put_all, unwrap_or, ◌++◌}
+use Rattle.std.proofs.lemmas.List.{at_drop_all}
 use Rattle.ed_link.proofs.Bounds.{items_few}
 use Rattle.ed_link.proofs.Lengths.{empty_length, put_all_append, put_all_length}
 use Rattle.ed_link.proofs.LineLoop.{base_under, reach_fits}
@@ -54,3 +57,25 @@ add_line-requires-clause-fits c =
     (record { extents = c.loop-line.built.extents.items; entered = is_some c.loop-line.built.entry }) c.line-item.result
     c.loop-line.counter
     (sym c.in_default.ensures)
+
+pub returns : goal.returns
+returns c =
+    let d = c.loop-line.invariant in
+    let built = c.loop-line.built in
+    let none : [] ≡ drop c.loop-line.line-index c.args.lines.now =
+    sym (at_drop_all (λ (xs : List Line). xs) c.args.lines.now c.loop-line.line-index c.loop-line-test.false) in
+    record {
+      accepted = sym d.fault ∙ ap (λ (x : List Line). fault_from c.args.size c.args.symbols.now c.args.has_enter
+          (record { extents = built.extents.items; entered = is_some built.entry }) c.loop-line.counter x) (sym none);
+      items = sym (append-nil built.items.items)
+          ∙ ap (λ (x : List Line). built.items.items ++ punched_from c.args.symbols.now c.loop-line.counter x) none
+          ∙ d.items_are;
+      table = ap (λ (x : List Line). put_all built.table.items
+          (placed_from c.args.symbols.now c.loop-line.counter x)) none ∙ d.table_is;
+      size = d.size;
+      entry = ap (λ (x : List Line). unwrap_or built.entry (entry_from c.args.symbols.now x)) none ∙ d.entry_is;
+      after = sym (append-nil built.after.items)
+          ∙ ap (λ (x : List Line). built.after.items ++ data_after x) none ∙ d.rows_are;
+      few_items = omega (arith, d.few_items, c.loop-line.auto.line-index-end, c.requires);
+      few_rows = omega (arith, d.few_rows, c.loop-line.auto.line-index-end, c.requires);
+    }
