@@ -1,7 +1,7 @@
 use Rattle.ed_link.proofs.Kit.{append_assoc, ap, arith, drop, is_some, length-append, Line, refl, sym, ◌+◌, ◌∙◌, ◌∷◌}
 use Rattle.ed_link.proofs.Kit.{◌≡◌, drop_more}
 use Rattle.ed_link.proofs.Kit.{[], append-nil, data_after, entry_from, fault_from, List, placed_from, punched_from}
-use Rattle.ed_link.proofs.Kit.{put_all, unwrap_or, ◌++◌}
+use Rattle.ed_link.proofs.Kit.{put_all, unwrap_or, ◌++◌, LinesBefore, Option, SourceCause, or_later, past_of, after_statement}
 use Rattle.std.proofs.lemmas.List.{at_drop_all}
 use Rattle.ed_link.proofs.Bounds.{items_few}
 use Rattle.ed_link.proofs.Lengths.{empty_length, put_all_append, put_all_length}
@@ -79,3 +79,19 @@ returns c =
       few_items = omega (arith, d.few_items, c.loop-line.auto.line-index-end, c.requires);
       few_rows = omega (arith, d.few_rows, c.loop-line.auto.line-index-end, c.requires);
     }
+
+pub returns-in-Some : goal.returns-in-Some
+returns-in-Some c =
+    let d = c.loop-line.invariant in
+    let i = c.loop-line.line-index in
+    let l = c.line-item.result in
+    let counter = c.loop-line.counter in
+    let past : LinesBefore =
+    record { extents = c.loop-line.built.extents.items; entered = is_some c.loop-line.built.entry } in
+    let rest = drop (i + 1) c.args.lines.now in
+    let q : drop i c.args.lines.now ≡ l ∷ rest = drop_more c.args.lines.now i l c.loop-line-test.true
+    ∙ ap (λ (x : Line). x ∷ rest) (sym c.line-item.is) in
+    sym d.fault ∙ ap (λ (x : List Line). fault_from c.args.size c.args.symbols.now c.args.has_enter past counter x) q
+    ∙ ap (λ (x : Option SourceCause). or_later l.number x
+    (fault_from c.args.size c.args.symbols.now c.args.has_enter (past_of past l counter)
+    (after_statement l.statement counter) rest)) (sym c.in-Some.ensures)
