@@ -200,8 +200,13 @@ pub record FaultIsFound (z : Size) (lines : List Line) : Type 0 where
 
 pub fault_law : (z : Size) (lines : List Line) → AreNumbered lines → FaultIsFound z lines
 fault_law z lines e =
-    let n = Numbered-lines lines e in
-    search (rules, fault_is z lines n, is_fault z lines n, none_is z lines n, is_none_fault z lines n, tells z lines n)
+    let n = Numbered-lines lines e in record {
+      refused = λ k c h. fault_is z lines n h;
+      refuses = λ k c h. is_fault z lines n k c h;
+      accepted = λ h. none_is z lines n h;
+      accepts = λ h. is_none_fault z lines n h;
+      no_memory = λ h. subst (Tells z lines n) h (tells z lines n);
+    }
 
 -- an answer that is the fault that is looked for is that of the definition
 pub answer_has_fault : {A : Type 0} (z : Size) (lines : List Line) → AreNumbered lines → (r : Result A SourceFault)

@@ -20,7 +20,7 @@ use Rattle.ed_link.proofs.Lines.{IsReady, IsUse, IsSound, Line-sound, lt_same}
 use Rattle.ed_link.proofs.Passes.{Passes, stays, goes, Passes-join}
 use Rattle.ed_link.proofs.Spelled.{aiming_spelled, AreSpellable-joined, line_spelled}
 use Rattle.ed_link.proofs.Uses.{reverse-append_both}
-use Rattle.ed_link.proofs.Kit.{Order, Number, Long}
+use Rattle.ed_link.proofs.Kit.{Order, Number, Long, ap, sym, ◌∙◌}
 
 -- what the absence of a fault says of a line
 
@@ -211,14 +211,14 @@ module _ {z : Size} {words : List ℕ} {symbols : List Definition} {has_enter : 
       let last : NotationState = record notation { directive = E_F + 2 * p } in
       record {
         before = item_with 3 p false 14 ∷ [];
-        items = search rules;
-        spelled = search (rules, aiming_spelled);
+        items = ap (λ (is : List Item). item_with 3 p false 14 ∷ item_with 0 0 false 17 ∷ is) b.items;
+        spelled = aiming_spelled p (omega (arith, m, g.1));
         last = last;
         passes = goes (aiming_entry z words notation p (omega (arith, g.1))) (inl refl) stays;
-        enters = search (rules, entering_at);
+        enters = entering_at z words last p refl (omega (arith, g.0)) (omega (arith, g.1));
         directive = refl;
-        theta_is = search (rules, lt_same);
-        placed = search rules;
+        theta_is = let q = lt_same s.place in rw q (ready.theta_is ∙ sym b.theta_is);
+        placed = ap (λ ps. reverse ps ++ notation.placed) (sym b.placed);
       }
 
   ends_at : {n : ℕ} {label : Option (List ℕ)} {lines : List SourceLine} {past : LinesBefore} {s : LocationCounter}
