@@ -59,6 +59,11 @@ inside : {rows : List ℕ} {row : ℕ} {ws : List ℕ} {orders end : ℕ} {p : P
     (s : StandsAt rows row ws orders end (Some p)) → (b : Begun1) × (s.part ≡ Some b) × (p ≡ part_of b)
 inside {p = p} s = search rules
 
+-- its number is small enough
+pub number_fits : {rows : List ℕ} {row : ℕ} {ws : List ℕ} {orders end : ℕ} {p : PartialItem1}
+    → StandsAt rows row ws orders end (Some p) → p.number ≤ 32767
+number_fits s = let i = inside s in rw i.2 (rw i.1 at s.here).is_part.fits
+
 pub function_row : {rows : List ℕ} {row : ℕ} {ws : List ℕ} {orders end c : ℕ} → StandsAt rows row ws orders end None
     → row < length rows → c ≡ get_or rows row c → c < 32
     → StandsAt rows (row + 1) ws (orders + 5) end (Some (record { function = c; number = 0 }))

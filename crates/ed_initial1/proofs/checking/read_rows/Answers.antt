@@ -1,6 +1,6 @@
 use Rattle.ed_initial1.proofs.Kit.{ap, arith, length, nat_eq, subst, sym, ◌∙◌, ◌≡◌, IsFault1, EndOfTape}
 use Rattle.ed_initial1.proofs.Loop.{StandsAt-begins, IsFault1-refused, function_row, made_longer, made_ended}
-use Rattle.ed_initial1.proofs.Loop.{made_whole, at_end}
+use Rattle.ed_initial1.proofs.Loop.{made_whole, at_end, number_fits}
 use Rattle.ed_initial1.proofs.checking.read_rows.Goals.{in-None, in-Some+in-Longer}
 use Rattle.ed_initial1.proofs.checking.read_rows.Goals.{in-Some+in-Ended+in_ok-push-in-Ended+else-len-from}
 use Rattle.ed_initial1.proofs.checking.read_rows.Goals as goal
@@ -55,3 +55,25 @@ returns c =
     let l = c.loop-row in
     let e : l.row ≡ length c.args.rows.now = omega (arith, c.loop-row-test.false, c.loop-row.auto.row-end) in
     subst (λ n. IsFault1 c.args.rows.now n EndOfTape) e (at_end l.invariant e)
+
+pub take-requires : goal.take-requires
+take-requires c = number_fits (rw c.in-Some.is at c.loop-row.invariant)
+
+pub word_of-requires : goal.word_of-requires
+word_of-requires c = number_fits (rw c.in-Some.is at c.loop-row.invariant)
+
+pub overflow_add-row : goal.overflow_add-row
+overflow_add-row c = omega (arith, c.requires, c.loop-row-test.true)
+
+pub new-requires : goal.new-requires
+new-requires c =
+    omega (arith, c.len.ensures, c.push.new.self.ok.0, c.from.ensures, c.if-len-from.true)
+
+pub overflow_add-orders : goal.overflow_add-orders
+overflow_add-orders c = omega (arith, c.requires, c.loop-row-test.true, c.loop-row.invariant.few)
+
+pub overflow_add-orders-in-Longer : goal.overflow_add-orders-in-Longer
+overflow_add-orders-in-Longer c = omega (arith, c.requires, c.loop-row-test.true, c.loop-row.invariant.few)
+
+pub overflow_add-orders-in-Ended : goal.overflow_add-orders-in-Ended
+overflow_add-orders-in-Ended c = omega (arith, c.requires, c.loop-row-test.true, c.loop-row.invariant.few)
