@@ -61,19 +61,3 @@ take-requires c = number_fits (rw c.in-Some.is at c.loop-row.invariant)
 
 pub word_of-requires : goal.word_of-requires
 word_of-requires c = number_fits (rw c.in-Some.is at c.loop-row.invariant)
-
-pub overflow_add-row : goal.overflow_add-row
-overflow_add-row c = omega (arith, c.requires, c.loop-row-test.true)
-
-pub new-requires : goal.new-requires
-new-requires c =
-    omega (arith, c.len.ensures, c.push.new.self.ok.0, c.from.ensures, c.if-len-from.true)
-
-pub overflow_add-orders : goal.overflow_add-orders
-overflow_add-orders c = omega (arith, c.requires, c.loop-row-test.true, c.loop-row.invariant.few)
-
-pub overflow_add-orders-in-Longer : goal.overflow_add-orders-in-Longer
-overflow_add-orders-in-Longer c = omega (arith, c.requires, c.loop-row-test.true, c.loop-row.invariant.few)
-
-pub overflow_add-orders-in-Ended : goal.overflow_add-orders-in-Ended
-overflow_add-orders-in-Ended c = omega (arith, c.requires, c.loop-row-test.true, c.loop-row.invariant.few)
