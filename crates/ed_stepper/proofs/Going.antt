@@ -1,10 +1,12 @@
 -- The orders of a run whose paper is never full.
 use Rattle.ed_stepper.proofs.Kit.{Turn, Printed, Stopped, Went, step, State, is_obeyed, progress, stops_of, ap, arith}
-use Rattle.ed_stepper.proofs.Kit.{inl, inr, length, nat_le, None, refl, sym, true, ℕ, ◌<◌, ◌∙◌, ◌≡◌, ◌⊎◌}
+use Rattle.ed_stepper.proofs.Kit.{inl, inr, length, nat_le, None, refl, Some, sym, true, ℕ, ◌<◌, ◌∙◌, ◌≡◌, ◌⊎◌}
 use Rattle.std.proofs.lemmas.Bool.{lt-leb}
 use Rattle.ed_machine.proofs.Steps.{few_codes}
-use Rattle.ed_run.specs.Run.{end_by}
-use Rattle.ed_run.proofs.Pasts.{none_ends}
+use Rattle.ed_run.specs.Run.{end_by, EndsAfter}
+use Rattle.ed_machine.specs.declared.ending.Ending.{Ending}
+use Rattle.ed_run.proofs.Ends.{next_ends}
+use Rattle.ed_run.proofs.Pasts.{Past, none_ends}
 
 -- the turn of an order that was obeyed
 pub obeyed_turn : (t : Turn) → (t ≡ Went) ⊎ (((x : ℕ) × (t ≡ Printed x)) ⊎ (t ≡ Stopped)) → is_obeyed t ≡ true
@@ -21,3 +23,14 @@ pub never_ends : (s m : State) {limit k : ℕ} {turn : Turn} → k < limit → t
     → end_by (step m).turn (nat_le limit (length (progress k s).codes)) ≡ None
 never_ends s m {k = k} below is obeyed =
     none_ends _ _ (ap is_obeyed (sym is) ∙ obeyed) (inl (lt-leb _ _ (omega (arith, few_codes k s))))
+
+-- an order that can't be obeyed ends the run before it
+pub past_blocks : {limit resumes room : ℕ} {s : State} {k : ℕ} {m : State} {stops : ℕ} {ending : Ending}
+    → Past limit resumes room s k m stops → k < limit
+    → end_by (step m).turn (nat_le room (length (progress k s).codes)) ≡ Some ending
+    → EndsAfter limit resumes room s k ending
+past_blocks {limit} {resumes} {room} {s} {k} p below is = record {
+  now = next_ends limit resumes room k (progress k s) (omega (arith, p.stops_are, p.within)) below
+      ∙ ap (λ (x : State). end_by (step x).turn (nat_le room (length (progress k s).codes))) (sym p.state) ∙ is;
+  first = p.first;
+}

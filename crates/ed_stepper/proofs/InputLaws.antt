@@ -9,7 +9,6 @@ use Rattle.ed_syntax.proofs.Lines.{no_end_head}
 use Rattle.ed_stepper.specs.Inputs.{HasLineCount, IsDivided, IsUndivided, by_last, by_line, further_on}
 use Rattle.ed_stepper.proofs.Divisions.{input_of-divides, first_is, line_front, input_of-passes, prefixed}
 use Rattle.ed_syntax.proofs.Lines as Lines
-use Rattle.std.proofs.Common.{rules}
 
 -- ---- the first line of a text
 
@@ -35,10 +34,14 @@ long_ended (b ∷ bs) text = omega arith
 -- an input that is divided is read so
 pub division_is_read : {input : Text} {i : Input} → IsDivided input i → input_of input ≡ Some i
 division_is_read (by_last [] kind e is) = absurd (cc)
-division_is_read (by_last (b ∷ bs) kind e is) = search (rules, first_is, input_of-divides, after_unended)
+division_is_read (by_last (b ∷ bs) kind e is) =
+    let first = first_is (b ∷ bs) (b ∷ bs) [] (Lines.unended b bs e) in
+    input_of-divides (b ∷ bs) kind (omega arith) (ap text_kind_of first ∙ is)
+    ∙ ap (λ (t : Text). Some (record { script = []; kind = kind; text = t })) (after_unended (b ∷ bs) e)
 division_is_read (by_line line text kind e is) =
     let first = first_is (line ++ 10 ∷ text) (without_return line) (lines_of text) (Lines.lines_of-ended line text e) in
-    search (rules, input_of-divides, long_ended, after_ended)
+    input_of-divides (line ++ 10 ∷ text) kind (long_ended line text) (ap text_kind_of first ∙ is)
+    ∙ ap (λ (t : Text). Some (record { script = []; kind = kind; text = t })) (after_ended line text e)
 division_is_read (further_on line text i e none d) =
     let first = first_is (line ++ 10 ∷ text) (without_return line) (lines_of text) (Lines.lines_of-ended line text e) in
     input_of-passes (line ++ 10 ∷ text) (long_ended line text) (ap text_kind_of first ∙ none)

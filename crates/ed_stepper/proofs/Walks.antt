@@ -1,7 +1,7 @@
 -- One more order of a move.
 use Rattle.ed_stepper.proofs.Kit.{is_stop, Turn, NoOrder, NoTape, Printed, Went, add-one, step, State, AreObeyed}
-use Rattle.ed_stepper.proofs.Kit.{is_obeyed, state_after, after_sum, next_state, no_step, ap, false, inl, inr, None}
-use Rattle.ed_stepper.proofs.Kit.{refl, rules, Some, sym, true, ℕ, ◌+◌, ◌<◌, ◌∙◌, ◌≡◌, ◌⊎◌, blocked_end, end_after}
+use Rattle.ed_stepper.proofs.Kit.{is_obeyed, state_after, after_sum, next_state, no_step, ap, arith, false, inl, inr}
+use Rattle.ed_stepper.proofs.Kit.{None, refl, rules, Some, sym, true, ℕ, ◌+◌, ◌<◌, ◌∙◌, ◌≡◌, ◌⊎◌, blocked_end, end_after}
 use Rattle.ed_stepper.proofs.Kit.{Ends, own_end, stopped_after, MoveEnd, Limit, MoveTarget}
 use Rattle.std.proofs.Common.{below_more}
 use Rattle.ed_stepper.specs.declared.moves.MoveEnd.TheVariants.{Stopped as EndStopped}
@@ -41,6 +41,10 @@ module _ {aim : MoveTarget} {left : ℕ} {s : State} {k : ℕ} {m : State} (w : 
   by_next : end_after aim left k s ≡ blocked_end (step m).turn
   by_next = search rules
 
+  -- the move reaches one
+  pub Ends-blocks : {end : MoveEnd} → blocked_end (step m).turn ≡ Some end → Ends aim left s k end
+  Ends-blocks is = record { now = by_next ∙ is; first = w.first }
+
   -- its next order
   module _ {n : State} {turn : Turn} (is : turn ≡ (step m).turn) (to : n ≡ (step m).state) where
     pub Next-obeyed : is_obeyed turn ≡ true → Next aim left s k m n turn
@@ -78,6 +82,11 @@ module _ {aim : MoveTarget} {left : ℕ} {s : State} {k : ℕ} {m n : State} {tu
 -- a move reaches the limit
 pub Ends-limits : {aim : MoveTarget} {left : ℕ} {s m : State} → Walking aim left s left m → Ends aim left s left Limit
 Ends-limits {left = left} w = search rules
+
+-- it ends before any order
+pub ends_at_once : (aim : MoveTarget) (left : ℕ) (s : State) (end : MoveEnd) → own_end aim 0 s ≡ Some end
+    → Ends aim left s 0 end
+ends_at_once aim left s end own = record { now = rw own refl; first = λ j h. absurd (omega arith) }
 
 -- the state k + 1 orders after another
 pub after_from : (from k : ℕ) (s start m : State) → m ≡ state_after (k + 1) s → s ≡ state_after from start

@@ -2,7 +2,7 @@ use Rattle.ed_stepper.proofs.Kit.{is_obeyed, stops_of, next_state, ap, arith, fa
 use Rattle.ed_codes.specs.Spelling.{byte_of}
 use Rattle.ed_run.proofs.Pasts.{first_more, past_first, past_limit, past_more, past_stops}
 use Rattle.ed_io.specs.Causes.{next_count}
-use Rattle.ed_stepper.proofs.Going.{never_ends, no_stop, obeyed_turn}
+use Rattle.ed_stepper.proofs.Going.{never_ends, no_stop, obeyed_turn, past_blocks}
 use Rattle.ed_stepper.proofs.Growing.{breaks_line, lines_first, next_lines}
 use Rattle.ed_stepper.proofs.tracing.trace_orders.Goals.{in-Stopped+else-stops-resumes, in_default-turn}
 use Rattle.ed_stepper.proofs.tracing.trace_orders.Goals as goal
@@ -15,6 +15,36 @@ loop-done-init g c = record {
   count = omega arith;
   faults = refl;
 }
+
+pub returns-in-NoOrder : goal.returns-in-NoOrder
+returns-in-NoOrder g c =
+    let i = c.loop-done.invariant in
+    let step = c.step-turn.ensures in
+    record {
+      trace = record {
+        orders = c.loop-done.done;
+        ends = past_blocks i.past c.loop-done-test.true (rw (sym step.turn, c.in-NoOrder.is) refl);
+        state_is = step.blocked (rw c.in-NoOrder.is refl) ∙ i.past.state;
+        lines = i.lines;
+      };
+      room = i.room;
+      faults = i.faults;
+    }
+
+pub returns-in-NoTape : goal.returns-in-NoTape
+returns-in-NoTape g c =
+    let i = c.loop-done.invariant in
+    let step = c.step-turn.ensures in
+    record {
+      trace = record {
+        orders = c.loop-done.done;
+        ends = past_blocks i.past c.loop-done-test.true (rw (sym step.turn, c.in-NoTape.is) refl);
+        state_is = step.blocked (rw c.in-NoTape.is refl) ∙ i.past.state;
+        lines = i.lines;
+      };
+      room = i.room;
+      faults = i.faults;
+    }
 
 pub returns-in-Err : goal.returns-in-Err
 returns-in-Err g c =

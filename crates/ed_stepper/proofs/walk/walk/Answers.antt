@@ -1,12 +1,20 @@
 use Rattle.ed_stepper.proofs.Kit.{is_stop, add-one, State, is_obeyed, no_step, ap, arith, rules, sym, ◌∙◌, ◌≡◌, ◌+◌}
-use Rattle.ed_stepper.proofs.Kit.{◌≤◌}
+use Rattle.ed_stepper.proofs.Kit.{◌≤◌, blocked_end}
 use Rattle.ed_initial.specs.Load.{enters}
+use Rattle.ed_stepper.specs.declared.moves.MoveEnd.TheVariants.{Went}
 use Rattle.ed_stepper.proofs.Walks.{after_from, at_first, at_limit, goes_on, Ends-limits, Next-obeyed, Ends-owns}
-use Rattle.ed_stepper.proofs.Walks.{Ends-stops, Next-taken}
+use Rattle.ed_stepper.proofs.Walks.{Ends-blocks, ends_at_once, Ends-stops, Next-taken}
 use Rattle.ed_stepper.proofs.walk.walk.Goals as goal
 
-pub returns-in-Orders-eq0-clause-state : goal.returns-in-Orders-eq0-clause-state
-returns-in-Orders-eq0-clause-state c = no_step _
+pub returns-in-Orders-eq0 : goal.returns-in-Orders-eq0
+returns-in-Orders-eq0 c = record {
+  ends = ends_at_once _ _ _ Went (search rules);
+  state = no_step _;
+  free = λ j h. absurd (omega arith);
+  most = omega arith;
+  count = omega arith;
+  checkpoints = λ start is few are. are;
+}
 
 pub loop-orders-init : goal.loop-orders-init
 loop-orders-init c = record {
@@ -25,6 +33,32 @@ returns-in-Stopped c =
       free = n.free;
       most = omega (arith, c.loop-orders-test.true);
       count = omega (arith, c.step.ensures.count, c.loop-orders.invariant.count);
+      checkpoints = c.loop-orders.invariant.checkpoints;
+    }
+
+pub returns-in-NoOrder : goal.returns-in-NoOrder
+returns-in-NoOrder c =
+    let w = c.loop-orders.invariant.walking in
+    let same = c.step.ensures.blocked (ap is_obeyed c.in-NoOrder.is) in
+    record {
+      ends = Ends-blocks w c.loop-orders-test.true (ap blocked_end (sym c.step.ensures.turn ∙ c.in-NoOrder.is));
+      state = same ∙ w.state;
+      free = w.free;
+      most = omega (arith, c.loop-orders-test.true);
+      count = omega (arith, ap (λ (x : State). x.orders) same, c.loop-orders.invariant.count);
+      checkpoints = c.loop-orders.invariant.checkpoints;
+    }
+
+pub returns-in-NoTape : goal.returns-in-NoTape
+returns-in-NoTape c =
+    let w = c.loop-orders.invariant.walking in
+    let same = c.step.ensures.blocked (ap is_obeyed c.in-NoTape.is) in
+    record {
+      ends = Ends-blocks w c.loop-orders-test.true (ap blocked_end (sym c.step.ensures.turn ∙ c.in-NoTape.is));
+      state = same ∙ w.state;
+      free = w.free;
+      most = omega (arith, c.loop-orders-test.true);
+      count = omega (arith, ap (λ (x : State). x.orders) same, c.loop-orders.invariant.count);
       checkpoints = c.loop-orders.invariant.checkpoints;
     }
 
