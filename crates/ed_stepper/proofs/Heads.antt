@@ -1,10 +1,10 @@
 -- The first line of a text, and the first part of a line.
-use Rattle.ed_stepper.proofs.Kit.{eq-eqb, ne_eqb, take_rest, eqb-true, [], ap, arith, Bool, drop, false, if◌then◌else◌}
+use Rattle.ed_stepper.proofs.Kit.{position_or_len, eq-eqb, ne_eqb, drop_all, take_rest, eqb-true, [], ap, arith, Bool, drop, false, if◌then◌else◌}
 use Rattle.ed_stepper.proofs.Kit.{length, not, refl, suc, sym, take, true, zero, ℕ, ◌+◌, ◌-◌, ◌<◌, ◌==◌, ◌∙◌, ◌∷◌, ◌≡◌}
 use Rattle.ed_stepper.proofs.Kit.{◌≤◌, Text, has_end, lines_of, with_byte, without_return, begins_part, is_space}
 use Rattle.ed_stepper.proofs.Kit.{parts_between_spaces, line_feed_place, common_steps}
 use Rattle.ed_syntax.proofs.Kit.{get_or, lt-ltb, take_all}
-use Rattle.std.proofs.lemmas.List.{take_more}
+use Rattle.std.proofs.lemmas.List.{drop_more, take_more}
 use Rattle.ed_syntax.proofs.Lines.{keeps_end, no_return, takes_ended, takes_last}
 use Rattle.ed_stepper.specs.Private.Fronts.{first_space, stop_of}
 use Rattle.std.proofs.Common.{rules}
@@ -77,6 +77,25 @@ part_at (b ∷ bs) begin = by_test (is_space b) refl begin (part_at bs)
         (drop (if not t then 1 + first_space bs else 0) (b ∷ bs))
     by_test true e h more = absurd (cc)
     by_test false e h more = let s = one_more (first_space bs) in rw (e, s) (after (begins_part bs) refl more)
+
+-- ---- the place of a byte
+
+-- by its place in what is left of the text: a byte that differs is passed
+pub position_or_len-passed : (wanted : ℕ) (text : Text) (i : ℕ) → i < length text → (get_or text i 0 ≡ wanted → ⊥)
+    → position_or_len (λ b. b == wanted) (drop i text) ≡ 1 + position_or_len (λ b. b == wanted) (drop (i + 1) text)
+position_or_len-passed wanted text i below other =
+    rw (drop_more text i 0 below, ne_eqb (get_or text i 0) wanted other) refl
+
+-- and the byte is found
+pub position_or_len-found : (wanted : ℕ) (text : Text) (i : ℕ) → i < length text → get_or text i 0 ≡ wanted
+    → position_or_len (λ b. b == wanted) (drop i text) ≡ 0
+position_or_len-found wanted text i below same =
+    rw (drop_more text i 0 below, eq-eqb (get_or text i 0) wanted same) refl
+
+-- or there is none
+pub position_or_len-nowhere : (wanted : ℕ) (text : Text) (i : ℕ) → length text ≤ i
+    → position_or_len (λ b. b == wanted) (drop i text) ≡ 0
+position_or_len-nowhere wanted text i past = ap (position_or_len (λ b. b == wanted)) (drop_all i text past)
 
 -- a line of no byte has no part
 pub no_part : (line : Text) → length line < 1 → parts_between_spaces line ≡ []

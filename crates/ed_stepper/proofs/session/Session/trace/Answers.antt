@@ -1,4 +1,4 @@
-use Rattle.ed_stepper.proofs.Kit.{State, ap, arith, Stand}
+use Rattle.ed_stepper.proofs.Kit.{State, ap, arith, refl, Stand}
 use Rattle.ed_stepper.proofs.Founds.{at_most, within_left}
 use Rattle.ed_stepper.proofs.session.Session.trace.Goals as goal
 
@@ -22,4 +22,12 @@ list_functions-requires-clause-room c =
       done,
       c.in_ok-functions.ensures.len,
       c.in_ok-functions.ensures.capacity,
+    )
+
+pub returns : goal.returns
+returns c =
+    let listed = c.list_functions.ensures in
+    let none = c.in_ok-functions.ensures.items in (
+      c.go-moved.ensures,
+      rw (← c.self.view_is, listed, none, c.in_ok-machine.ensures, c.self.invariant.is) refl,
     )
