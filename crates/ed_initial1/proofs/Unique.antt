@@ -14,7 +14,7 @@ use Rattle.ed_initial1.specs.Checks.{EachTapeHasOneVerdict}
 use Rattle.ed_initial1.specs.Faults.{rule}
 use Rattle.ed_initial1.specs.declared.cause.Tape1Cause.TheVariants.{NumberTooLarge}
 use Rattle.ed_initial1.proofs.Reading.{Verdict, Faulty, Whole, Holds, Holds-right, read, verdict, follow, part_of}
-use Rattle.ed_initial1.proofs.Reading.{longer, end_of, reaches_end, FirstFits}
+use Rattle.ed_initial1.proofs.Reading.{longer, began, end_of, reaches_end, FirstFits}
 
 digit_effect : (before : List Item1) (b : Begun1) (c : ℕ) → c < 10 → 10 * digits_number 0 b.digits + c ≤ 32767
     → row_effect1 (is_none before) (part_of b) c ≡ Longer (10 * digits_number 0 b.digits + c)
@@ -58,13 +58,25 @@ behind row is rest =
 begin_reads : (before : List Item1) (row : ℕ) (b : Begun1) (rest : List ℕ) → IsBegun1 b
     → read row before None (begun_rows1 b ++ rest) ≡ read (row + length (begun_rows1 b)) before (Some b) rest
 unfolding read more_digits
-begin_reads before row b rest good = search (rules, lt-ltb, reads_digits)
+begin_reads before row b rest good =
+    let e : row + 1 + length b.digits ≡ row + suc (length b.digits) = omega arith in
+    rw (lt-ltb b.function 32 good.function)
+    (reads_digits before (row + 1) (began b.function) b.digits rest good.digits good.fits
+    ∙ (λ i. read (e i) before (Some b) rest))
 
 reads_item : (before : List Item1) (row : ℕ) (i : Item1) (rest : List ℕ) → IsBegun1 i.begun
     → FirstFits before i.begun i.long
     → read row before None (rows_of1 i ++ rest) ≡ behind (row + length (rows_of1 i)) (before ++ (i ∷ [])) rest
 unfolding read
-reads_item before row i rest good first = search (rules, length-append, append_assoc, begin_reads, end_is_taken)
+reads_item before row i rest good first =
+    let b = i.begun in
+    let e : row + length (begun_rows1 b) + 1 ≡ row + length (rows_of1 i) =
+    omega (arith, length-append b.digits (ending_row i.long ∷ [])) in
+    ap (λ x. read row before None x) (append_assoc (begun_rows1 b) (ending_row i.long ∷ []) rest)
+    ∙ begin_reads before row b (ending_row i.long ∷ rest) good
+    ∙ ap (λ t. follow (row + length (begun_rows1 b)) before b (ending_row i.long) rest t)
+    (end_is_taken before b i.long first)
+    ∙ ap (λ x. behind x (before ++ (i ∷ [])) rest) e
 
 first_fits : (before : List Item1) (i : Item1) (is : List Item1)
     → BeginsWith (end_of (before ++ (i ∷ is))) (before ++ (i ∷ is)) → FirstFits before i.begun i.long
@@ -94,9 +106,16 @@ reads_all : (is before : List Item1) (row : ℕ) (rest : List ℕ) → AreItems 
     → read row before None (spelled_rows1 is ++ rest) ≡ read (row + length (spelled_rows1 is)) (before ++ is) None rest
 reads_all [] before row rest good goes = search (rules, append-nil)
 reads_all (i ∷ is) before row rest good goes =
-    let others = reads_all is (before ++ (i ∷ [])) (row + length (rows_of1 i)) rest good.1
-    (rw (snoc before i is) goes) in
-    search (rules, less_of, length-append, goes_on_by, append_assoc, reads_item, first_fits, snoc, others)
+    let l = less_of before i is goes in
+    let short : length (before ++ (i ∷ [])) ≤ length (before ++ (i ∷ is)) =
+    omega (arith, length-append before (i ∷ []), length-append before (i ∷ is)) in
+    let on = goes_on_by before i is (omega (arith, l.1)) in
+    let e : row + length (rows_of1 i) + length (spelled_rows1 is) ≡ row + length (rows_of1 i ++ spelled_rows1 is) =
+    omega (arith, length-append (rows_of1 i) (spelled_rows1 is)) in
+    ap (λ x. read row before None x) (append_assoc (rows_of1 i) (spelled_rows1 is) rest)
+    ∙ reads_item before row i (spelled_rows1 is ++ rest) good.0 (first_fits before i is l.0)
+    ∙ rw on (reads_all is (before ++ (i ∷ [])) (row + length (rows_of1 i)) rest good.1 (rw (snoc before i is) goes)
+    ∙ (λ k. read (e k) (snoc before i is k) None rest))
 
 -- items that give a program
 reads_whole : (i : Item1) (is before : List Item1) (row : ℕ) (rest : List ℕ) → AreItems (i ∷ is)
@@ -104,7 +123,10 @@ reads_whole : (i : Item1) (is before : List Item1) (row : ℕ) (rest : List ℕ)
     → 31 + length (before ++ (i ∷ is)) ≡ end_of (before ++ (i ∷ is))
     → read row before None (spelled_rows1 (i ∷ is) ++ rest)
     ≡ Whole (record { end = end_of (before ++ (i ∷ is)); items = before ++ (i ∷ is); rest = rest })
-reads_whole i [] before row rest good first count = search (rules, append-nil, reads_item, first_fits, eq-eqb)
+reads_whole i [] before row rest good first count =
+    ap (λ x. read row before None (x ++ rest)) (append-nil (rows_of1 i))
+    ∙ reads_item before row i rest good.0 (first_fits before i [] first)
+    ∙ rw (eq-eqb _ _ count) refl
 reads_whole i (j ∷ js) before row rest good first count =
     let same = snoc before i (j ∷ js) in
     let on = goes_on_by before i (j ∷ js)
@@ -139,7 +161,14 @@ reads_part before row None rest good = let e : row ≡ row + 0 = omega arith in 
 reads_part before row (Some b) rest good = begin_reads before row b rest good
 
 finds_fault : (rows : List ℕ) (row : ℕ) (cause : Tape1Cause) → Breaks1 rows row cause → verdict rows ≡ Faulty row cause
-finds_fault rows row cause f = search (rules, reads_all, reads_part, reads_fault)
+finds_fault rows row cause f =
+    let s = f.stands in
+    let e : 0 + length (spelled_rows1 s.before) + length (part_rows1 s.part) ≡ row = omega (arith, s.row_is) in
+    ap (λ x. read 0 [] None x) s.rows_are
+    ∙ reads_all s.before [] 0 (part_rows1 s.part ++ s.rest) s.good s.goes_on
+    ∙ reads_part s.before (0 + length (spelled_rows1 s.before)) s.part s.rest s.is_part
+    ∙ ap (λ x. read x s.before s.part s.rest) e
+    ∙ reads_fault row s.before s.part s.rest cause f.breaks
 
 finds_items : (is : List Item1) (e : ℕ) (rest : List ℕ) → AreItems is → BeginsWith e is → 31 + length is ≡ e
     → read 0 [] None (spelled_rows1 is ++ rest) ≡ Whole (record { end = e; items = is; rest = rest })
