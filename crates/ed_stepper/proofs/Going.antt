@@ -25,12 +25,14 @@ never_ends s m {k = k} below is obeyed =
     none_ends _ _ (ap is_obeyed (sym is) ∙ obeyed) (inl (lt-leb _ _ (omega (arith, few_codes k s))))
 
 -- an order that can't be obeyed ends the run before it
-pub past_blocks : {limit resumes room : ℕ} {s : State} {k : ℕ} {m : State} {stops : ℕ} {ending : Ending}
-    → Past limit resumes room s k m stops → k < limit
-    → end_by (step m).turn (nat_le room (length (progress k s).codes)) ≡ Some ending
+pub past_blocks : {limit resumes room : ℕ} {s : State} {k : ℕ} {m : State} {stops : ℕ} {turn blocked : Turn}
+    {ending : Ending} → Past limit resumes room s k m stops → k < limit → turn ≡ (step m).turn → turn ≡ blocked
+    → end_by blocked (nat_le room (length (progress k s).codes)) ≡ Some ending
     → EndsAfter limit resumes room s k ending
-past_blocks {limit} {resumes} {room} {s} {k} p below is = record {
-  now = next_ends limit resumes room k (progress k s) (omega (arith, p.stops_are, p.within)) below
-      ∙ ap (λ (x : State). end_by (step x).turn (nat_le room (length (progress k s).codes))) (sym p.state) ∙ is;
-  first = p.first;
-}
+past_blocks {limit} {resumes} {room} {s} {k} p below is kind ends =
+    let turn = ap (λ (x : State). (step x).turn) (sym p.state) ∙ sym is ∙ kind in
+    record {
+      now = next_ends limit resumes room k (progress k s) (omega (arith, p.stops_are, p.within)) below
+          ∙ ap (λ t. end_by t (nat_le room (length (progress k s).codes))) turn ∙ ends;
+      first = p.first;
+    }

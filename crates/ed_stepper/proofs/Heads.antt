@@ -1,5 +1,6 @@
 -- The first line of a text, and the first part of a line.
-use Rattle.ed_stepper.proofs.Kit.{position_or_len, eq-eqb, ne_eqb, drop_all, take_rest, eqb-true, [], ap, arith, Bool, drop, false, if◌then◌else◌}
+use Rattle.ed_stepper.proofs.Kit.{position_or_len, eq-eqb, ne_eqb, drop_all, take_rest, eqb-true, [], ap, arith, Bool}
+use Rattle.ed_stepper.proofs.Kit.{drop, false, if◌then◌else◌}
 use Rattle.ed_stepper.proofs.Kit.{length, not, refl, suc, sym, take, true, zero, ℕ, ◌+◌, ◌-◌, ◌<◌, ◌==◌, ◌∙◌, ◌∷◌, ◌≡◌}
 use Rattle.ed_stepper.proofs.Kit.{◌≤◌, Text, has_end, lines_of, with_byte, without_return, begins_part, is_space}
 use Rattle.ed_stepper.proofs.Kit.{parts_between_spaces, line_feed_place, common_steps}

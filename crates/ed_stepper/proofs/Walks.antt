@@ -1,8 +1,8 @@
 -- One more order of a move.
 use Rattle.ed_stepper.proofs.Kit.{is_stop, Turn, NoOrder, NoTape, Printed, Went, add-one, step, State, AreObeyed}
 use Rattle.ed_stepper.proofs.Kit.{is_obeyed, state_after, after_sum, next_state, no_step, ap, arith, false, inl, inr}
-use Rattle.ed_stepper.proofs.Kit.{None, refl, rules, Some, sym, true, ℕ, ◌+◌, ◌<◌, ◌∙◌, ◌≡◌, ◌⊎◌, blocked_end, end_after}
-use Rattle.ed_stepper.proofs.Kit.{Ends, own_end, stopped_after, MoveEnd, Limit, MoveTarget}
+use Rattle.ed_stepper.proofs.Kit.{None, refl, rules, Some, sym, true, ℕ, ◌+◌, ◌<◌, ◌∙◌, ◌≡◌, ◌⊎◌, blocked_end}
+use Rattle.ed_stepper.proofs.Kit.{end_after, Ends, own_end, stopped_after, MoveEnd, Limit, MoveTarget}
 use Rattle.std.proofs.Common.{below_more}
 use Rattle.ed_stepper.specs.declared.moves.MoveEnd.TheVariants.{Stopped as EndStopped}
 

@@ -23,8 +23,8 @@ returns-in-NoOrder g c =
     record {
       trace = record {
         orders = c.loop-done.done;
-        ends = past_blocks i.past c.loop-done-test.true (rw (sym step.turn, c.in-NoOrder.is) refl);
-        state_is = step.blocked (rw c.in-NoOrder.is refl) ∙ i.past.state;
+        ends = past_blocks i.past c.loop-done-test.true step.turn c.in-NoOrder.is refl;
+        state_is = step.blocked (ap is_obeyed c.in-NoOrder.is) ∙ i.past.state;
         lines = i.lines;
       };
       room = i.room;
@@ -38,8 +38,8 @@ returns-in-NoTape g c =
     record {
       trace = record {
         orders = c.loop-done.done;
-        ends = past_blocks i.past c.loop-done-test.true (rw (sym step.turn, c.in-NoTape.is) refl);
-        state_is = step.blocked (rw c.in-NoTape.is refl) ∙ i.past.state;
+        ends = past_blocks i.past c.loop-done-test.true step.turn c.in-NoTape.is refl;
+        state_is = step.blocked (ap is_obeyed c.in-NoTape.is) ∙ i.past.state;
         lines = i.lines;
       };
       room = i.room;
