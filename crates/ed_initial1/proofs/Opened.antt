@@ -1,9 +1,10 @@
 -- The state in which a load begins and the state at the entry, as the paths see them.
 use Rattle.ed_initial1.proofs.Kit.{drop-cons, T_F, Full, with_short, patched_one, length-append, [], ap, arith, drop}
-use Rattle.ed_initial1.proofs.Kit.{false, get_or, length, List, refl, suc, sym, ℕ, ◌*◌, ◌++◌, ◌+◌, ◌<◌, ◌∙◌, ◌∷◌, ◌≡◌}
-use Rattle.ed_initial1.proofs.Kit.{◌≤◌, step, State, Moment, patched, digits_number, at_entry1, IsStarted1, costs1}
-use Rattle.ed_initial1.proofs.Kit.{IsFirst, Item1, item_number, last_of, word1, words, first_orders, rules}
-use Rattle.ed_machine.proofs.Names.{Cells, next_word}
+use Rattle.ed_initial1.proofs.Kit.{false, get_or, length, List, refl, suc, sym, ℕ, ◌%◌, ◌*◌, ◌++◌, ◌+◌, ◌<◌, ◌^◌}
+use Rattle.ed_initial1.proofs.Kit.{◌∙◌, ◌∷◌, ◌≡◌, ◌≤◌, step, State, Moment, patched, digits_number, at_entry1, IsStarted1}
+use Rattle.ed_initial1.proofs.Kit.{costs1, IsFirst, Item1, item_number, last_of, word1, words, first_orders}
+use Rattle.ed_machine.proofs.Names.{within, address_of, function_of, is_long, Cells, kind_of_function, next_word}
+use Rattle.ed_machine.proofs.Names.{obey_word}
 use Rattle.std.proofs.Common.{length-take, take}
 use Rattle.std.proofs.lemmas.List.{drop_at, set-get_or}
 use Rattle.ed_notation.proofs.Kit.{over}
@@ -111,10 +112,26 @@ state-closed {s} store started {e} {i} is rest first count =
     let ds = patched_one false s.store.sandwich 0 false (omega (arith, store.sandwich)) in
     let size = sym started.size in
     let f = final e 12300 (word1 i) i is in
-    search (rules, cells)
+    λ k. record {
+      size = size k;
+      store = record { words = cells (record f { at3 = t k }) ++ d k; sandwich = ds k };
+      acc = 0;
+      multiplier = T_F * 2 ^ 18;
+      counter = 31;
+      tape = rest;
+      last = s.last;
+      orders = s.orders + (4 + costs1 (i ∷ is));
+    }
 
 -- T e S with the accumulator 0 clears location e
 pub step-clears : (u : State) (e : ℕ) → u.size ≡ Full → u.acc ≡ 0 → next_word u ≡ T_F + 2 * e → e < 1024
     → (step u).state.store ≡ with_short u.store e 0
 unfolding step
-step-clears u e size acc word1 fits = search (rules, within_below)
+step-clears u e size acc word1 fits =
+    let function : function_of (T_F + 2 * e) ≡ 5 = omega arith in
+    let address : address_of (T_F + 2 * e) ≡ e = omega arith in
+    let short : is_long (T_F + 2 * e) ≡ false = (let even : (T_F + 2 * e) % 2 ≡ 0 = omega arith in rw even refl) in
+    let place : within u.size (address_of (T_F + 2 * e)) ≡ e =
+    ap (λ z. within z (address_of (T_F + 2 * e))) size ∙ ap (within Full) address ∙ within_below Full e fits in
+    ap (λ w. (obey_word (kind_of_function (function_of w)) w u).state.store) word1
+    ∙ rw (function, short, place, acc) refl
