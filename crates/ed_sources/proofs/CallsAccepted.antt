@@ -1,6 +1,6 @@
 -- The sources of calls are accepted.
 use Rattle.ed_sources.proofs.Kit.{decimal, Ok, list_all, Text, is_line_byte, IsDivisible, Check, Divide, NewLine, Print}
-use Rattle.ed_sources.proofs.Kit.{Read, Root, append-nil, arith, lit≤, refl, rules, subst, true, ℕ, ◌%◌, ◌/◌, ◌<◌, ◌≡◌}
+use Rattle.ed_sources.proofs.Kit.{Read, Root, append-nil, arith, lit≤, refl, subst, true, ℕ, ◌%◌, ◌/◌, ◌<◌, ◌≡◌}
 use Rattle.ed_sources.proofs.Kit.{digits, program_of, call_text, Size, Line, None, fault, List}
 use Rattle.ed_sources.proofs.CallTexts.{call_is}
 use Rattle.ed_sources.proofs.Decimals.{are_digits-digits, decimal_is, line_bytes}
@@ -20,7 +20,9 @@ decimal_plain n small =
 -- ---- what the sources are read as
 
 pub print_read : (n : ℕ) → n < 65536 → program_of (call_text (Print n)) ≡ Ok (print_lines n)
-print_read n small = search (rules, call_is, append-nil, decimal_plain, said_lines, print_says)
+print_read n small =
+    call_is (Print n) (print_lines n) refl (rw (append-nil (decimal n), decimal_plain n small) refl) refl
+    (said_lines (print_says n small) (lit≤ tt))
 
 pub read_read : (n : ℕ) → n < 65536 → program_of (call_text (Read n)) ≡ Ok (read_lines n)
 read_read n small =
@@ -38,7 +40,9 @@ divide_read n by made =
     let high : n / 65536 < 65536 = omega arith in
     let low : n % 65536 < 65536 = omega arith in
     let small : by < 65536 = omega arith in
-    call_is (Divide n by) (divide_lines (n / 65536) (n % 65536) by) refl (search (rules, append-nil, decimal_plain))
+    call_is (Divide n by) (divide_lines (n / 65536) (n % 65536) by) refl
+    (rw (append-nil (decimal (n / 65536)), append-nil (decimal (n % 65536)), append-nil (decimal by))
+    (rw (decimal_plain (n / 65536) high, decimal_plain (n % 65536) low, decimal_plain by small) refl))
     refl (said_lines (divide_says n by high low small) (lit≤ tt))
 
 pub root_read : (n : ℕ) → n < 65536 → program_of (call_text (Root n)) ≡ Ok (root_lines n)
@@ -47,7 +51,9 @@ root_read n small =
     (said_lines (root_says n small) (lit≤ tt))
 
 pub check_read : (n : ℕ) → n < 65536 → program_of (call_text (Check n)) ≡ Ok (check_lines n)
-check_read n small = search (rules, call_is, append-nil, decimal_plain, said_lines, check_says)
+check_read n small =
+    call_is (Check n) (check_lines n) refl (rw (append-nil (decimal n), decimal_plain n small) refl) refl
+    (said_lines (check_says n small) (lit≤ tt))
 
 -- without a fault on stores of both sizes
 pub fault-none : (z : Size) (lines : List Line) → fault size.Small lines ≡ None → fault size.Full lines ≡ None

@@ -2,7 +2,7 @@
 use Rattle.ed_sources.proofs.Kit.{mod-lt, nat_eq, nat_le, ◌||◌, leb-true, Call, Check, Divide, NewLine, Print, Read}
 use Rattle.ed_sources.proofs.Kit.{Root, eqb-true, few_digits, arith, inl, inr, lit<, lit≤, refl, rules, ℕ, ◌*◌}
 use Rattle.ed_sources.proofs.Kit.{◌+◌, ◌<◌, ◌≡◌, ◌≤◌, print_orders, root_of, root_is, divide_orders, root_orders}
-use Rattle.ed_sources.proofs.Kit.{cases_lt, call_orders, most_call_orders, call_cost}
+use Rattle.ed_sources.proofs.Kit.{cases_lt, call_orders, most_call_orders, call_cost, ◌%◌, ◌/◌}
 use Rattle.std.proofs.lemmas.Bool.{or_cases}
 use Rattle.ed_library.specs.CallRanges.{IsCallInRange}
 use Rattle.ed_maths.specs.Quotients.{ones}
@@ -55,7 +55,16 @@ pub most_orders : (call : Call) → IsCallInRange call → call_cost call + call
 most_orders (Print n) small = let word = word_cost_few n in let few = print_few n small in omega (arith, word, few)
 most_orders (Read n) small = let long = few_digits n in let few = print_few n small in omega (arith, long, few)
 most_orders NewLine made = lit≤ tt
-most_orders (Divide n by) made = search (rules, word_cost_few, quotient_few, quotient_low, mod-lt, remainder_few)
+most_orders (Divide n by) made =
+    let high = word_cost_few (n / 65536) in
+    let low = word_cost_few (n % 65536) in
+    let divisor = word_cost_few by in
+    let quotient = quotient_few (n / by) (quotient_low n by made.positive made.less) in
+    let positive : 0 < by = omega (arith, made.positive) in
+    let less = mod-lt n positive in
+    let divisor_small = made.divisor in
+    let remainder = remainder_few (n % by) (omega (arith, less, divisor_small)) in
+    omega (arith, high, low, divisor, quotient, remainder)
 most_orders (Root n) small =
     let word = word_cost_few n in
     let few = root_few (root_of n) (below_256 n (root_of n) (root_is n) small) in
