@@ -3,7 +3,7 @@ use Rattle.ed_postmortem.proofs.Kit.{codes, T_F, Size, Item, append_assoc, le-le
 use Rattle.ed_postmortem.proofs.Kit.{block, block_cost, [], ap, arith, if◌then◌else◌, length, List, lit<, lit≤, nat_lt}
 use Rattle.ed_postmortem.proofs.Kit.{None, Option, refl, Some, subst, sym, true, ℕ, ◌*◌, ◌++◌, ◌+◌, ◌<◌, ◌∙◌, ◌∷◌, ◌≡◌}
 use Rattle.ed_postmortem.proofs.Kit.{◌≤◌, locations, locations_least, TapeEntry, over, spelled_rows, count_item, orders}
-use Rattle.ed_postmortem.proofs.Kit.{rows_of_text, tape_rows, rules}
+use Rattle.ed_postmortem.proofs.Kit.{rows_of_text, tape_rows}
 use Rattle.ed_notation.proofs.Kit.{EndsSound, RowsReachEntry, WellFormed, is_entry, NotationState, rows_of, IsDirective}
 use Rattle.ed_notation.proofs.Kit.{canonical}
 use Rattle.ed_words.specs.declared.order_words.TheConstants.{E_F}
@@ -47,7 +47,19 @@ behind_are = refl
 -- the rows are those of the items
 pub rows_are : (first count : ℕ)
     → tape_rows first count ≡ spelled_rows (canonicals (before first count)) ++ (rows_of (canonical last) ++ [])
-rows_are first count = search (rules, append_assoc, canonicals-append, spelled-append, behind_are)
+rows_are first count =
+    let f : List ℕ = rows_of (canonical (count_item first)) in
+    let c : List ℕ = rows_of (canonical (count_item count)) in
+    let rest : List ℕ = spelled_rows (canonicals (aims ++ (listing ++ (enters ++ (last ∷ []))))) in
+    let split : (f ++ (c ++ [])) ++ rest ≡ f ++ (c ++ rest) = append_assoc f (c ++ []) rest
+    ∙ ap (λ x. f ++ x) (append_assoc c [] rest) in
+    let bs : List Item = before first count in
+    let whole : spelled_rows (canonicals (bs ++ (last ∷ [])))
+    ≡ spelled_rows (canonicals bs) ++ (rows_of (canonical last) ++ []) =
+    ap spelled_rows (canonicals-append bs (last ∷ [])) ∙ spelled-append (canonicals bs) (canonicals (last ∷ [])) in
+    ap (λ x. rows_of_text (codes "T45K") ++ ((f ++ (c ++ [])) ++ x)) behind_are
+    ∙ ap (λ x. rows_of_text (codes "T45K") ++ x) split
+    ∙ whole
 
 pub parameter_spellable : (n : ℕ) → n ≤ 1024 → is_spellable (count_item n) ≡ true
 parameter_spellable n h = rw (le-leb n 32767 (omega arith)) refl
@@ -67,7 +79,25 @@ module _ (z : Size) (words : List ℕ) (first count : ℕ) (f_fits : first ≤ 1
   head : Reads z words (opening words) (plain 5 45 14 ∷ count_item first ∷ count_item count ∷ aims) at_head
       (148 + 9 * (length (digits_of first) + length (digits_of count)))
   head =
-      search (rules, reads_one, setting_theta, lit≤, reads_none, Does-aiming, parameter_spellable, Does-placing, lit<)
+      let theta : ℕ = (opening words).theta in
+      let n3 : NotationState = record { directive = T_F + 2 * 47; theta = theta; placed = parameters } in
+      let n4 : NotationState = record { directive = T_F + 2 * 56; theta = theta; placed = parameters } in
+      let r5 = reads_one z words (plain 27 0 14) refl
+      (setting_theta z words n4 56 (lit≤ tt) refl)
+      (reads_none z words at_head) in
+      let r4 = reads_one z words (plain 5 56 14) refl (Does-aiming z words n3 56 (lit≤ tt)) r5 in
+      let r3 = reads_one z words (count_item count) (parameter_spellable count c_fits)
+      (Does-placing z words 46 refl refl (lit≤ tt) (low 46 (lit< tt)) (omega arith)) r4 in
+      let r2 = reads_one z words (count_item first) (parameter_spellable first f_fits)
+      (Does-placing z words 45 refl refl (lit≤ tt) (low 45 (lit< tt)) (omega arith)) r3 in
+      let r1 = reads_one z words (plain 5 45 14) refl
+      (Does-aiming z words (opening words) 45 (lit≤ tt)) r2 in
+      record {
+        are_read = r1.are_read;
+        are_sound = r1.are_sound;
+        folds = r1.folds;
+        costs_are = r1.costs_are ∙ omega arith;
+      }
 
   -- the words of the post-mortem, as the tape places them
   abbrev pub words_placed : List ℕ
