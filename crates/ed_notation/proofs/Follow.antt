@@ -7,7 +7,7 @@ use Rattle.ed_notation.proofs.Kit.{NotationState, over, AreDigits, Begun, begun_
 use Rattle.ed_notation.proofs.Kit.{IsBegun, IsWritten, item, item_of, mark_rows, row_kind, rows_of, Written}
 use Rattle.ed_notation.proofs.Kit.{IsDirective, Arrived, entry_by, Faulty, part_of, placed_by, reading_on, row_effect}
 use Rattle.ed_notation.proofs.Kit.{set_by, setting_of, Verdict, TapeCause, BadRow, RowKind, PartialItem, RowEffect}
-use Rattle.ed_notation.proofs.Kit.{Ended, Entered, Longer, Placed, Refused, EndsSound, breaks, rules}
+use Rattle.ed_notation.proofs.Kit.{Ended, Entered, Longer, Placed, Refused, EndsSound, breaks}
 use Rattle.ed_notation.proofs.Directives.{IsEffectInRange, in_range}
 use Rattle.ed_notation.proofs.Rows.{RowLaw, row_law_of, as_part, causes, first, first_of}
 
@@ -84,7 +84,11 @@ pub function_read : (p : Reader) (f : ℕ) (rows : List ℕ) {t : Bool} → nat_
     → reads p None (f ∷ rows)
     ≡ (elim t [ true ↦ reads (passed p 1 6 p.notation) (Some (part_of f)) rows | false ↦ Faulty p.row BadRow ])
 unfolding reading_on
-function_read p f rows h = search rules
+function_read p f rows h =
+    ap (λ (x : Bool). elim x as (λ y. Verdict) [
+      | true ↦ reads (passed p 1 6 p.notation) (Some (part_of f)) rows
+      | false ↦ Faulty p.row BadRow
+    ]) h
 
 pub function_begins : (p : Reader) (f : ℕ) (rows : List ℕ) → f < 32
     → reads p None (f ∷ rows) ≡ reads (passed p 1 6 p.notation) (Some (part_of f)) rows
@@ -140,7 +144,9 @@ begun_read p b rest good =
 -- the rows of a whole item, up to the ending one
 pub to_end : (p : Reader) (w : Written) (rest : List ℕ) → IsWritten w
     → reads p None (rows_of w ++ rest) ≡ reads (inside p (Some w.begun)) (Some (as_part w.begun)) (w.end ∷ rest)
-to_end p w rest good = search (rules, append_assoc, begun_read)
+to_end p w rest good =
+    ap (λ x. reads p None x) (append_assoc (begun_rows w.begun) (w.end ∷ []) rest)
+    ∙ begun_read p w.begun _ good.begun
 
 none_first : (f : TapeCause → Bool) (cs : List TapeCause) → ((k : TapeCause) → f k ≡ false) → first_of f cs ≡ None
 none_first f [] h = refl
@@ -195,7 +201,13 @@ module _ (p : Reader) (w : Written) (rest : List ℕ) where
   Sound = EndsSound p.size p.words p.notation w
 
   early : {cause : TapeCause} → first_broken ≡ Some cause → Early (Faulty p.row cause) (p.row + 1) Sound
-  early {cause} h = search (rules, no_rule)
+  early {cause} h = record {
+    at = p.row;
+    cause = cause;
+    is = refl;
+    before = omega arith;
+    unsound = λ s. let q : Some cause ≡ None = sym h ∙ no_rule p w s in cc;
+  }
 
   refused_by : (t : RowEffect) {cause : TapeCause} → Law t → first_broken ≡ Some cause → next t ≡ Faulty p.row cause
   refused_by (Refused k) {cause} h e = let s : k ≡ cause = cc in rw s refl
@@ -214,7 +226,8 @@ module _ (p : Reader) (w : Written) (rest : List ℕ) where
     ended_by (Refused cause) u h e n = inr (early h)
     ended_by (Longer i k) u h e n = absurd (true≢false (sym e ∙ h.1))
     ended_by (Ended m k) u h e n = inl (rw (h.1.notation_is, h.1.cost_is) refl, rw (← h.1.notation_is) (u.0 set))
-    ended_by (Placed at word) u h e n = search rules
+    ended_by (Placed at word) u h e n =
+        inl (rw (h.1.notation_is, sym h.1.cost_is) refl, rw (← h.1.notation_is) (u.0 set))
     ended_by (Entered at) u h e n = absurd (true≢false (sym h.1.entered ∙ n))
 
     entered_by : (t : RowEffect) → Law t → ends r b ≡ true → entering r p.notation ≡ true

@@ -1,13 +1,17 @@
 -- What the fold does at the items that place words and enter: `T p K`, `E p K`, `G K`, a code letter under T, and the
 -- entry item `P F`. None of them breaks a rule, so a tape of them is well formed and its fold is known.
 use Rattle.ed_notation.proofs.Kit.{[], false, List, nat_le, nat_lt, refl, true, ℕ, ◌++◌, ◌+◌, ◌<◌, ◌∷◌, ◌≡◌, ◌≤◌}
-use Rattle.ed_notation.proofs.Kit.{le-ltb, lt-leb, locations, E_F, T_F, Size, locations_most, arith, ◌*◌, AreRead}
-use Rattle.ed_notation.proofs.Kit.{AreSound, breaks, EndsSound, act, address, begun_cost, control_of, cost_of, costs}
-use Rattle.ed_notation.proofs.Kit.{fold, is_entry, item_word, letter_action_of, NotationState, Begun, item, items}
-use Rattle.ed_notation.proofs.Kit.{row_kind, canonical, canonicals, is_spellable, TapeCause, BadControl, StoreEnd, Item}
-use Rattle.ed_notation.proofs.Kit.{Places, RowKind, Letter, rules}
+use Rattle.ed_notation.proofs.Kit.{le-ltb, lt-leb, locations, E_F, T_F, Size, locations_most, ap, arith, ◌%◌, ◌*◌, ◌/◌}
+use Rattle.ed_notation.proofs.Kit.{◌∙◌, AreRead, AreSound, breaks, EndsSound, act, address, begun_cost, control_of}
+use Rattle.ed_notation.proofs.Kit.{cost_of, costs, fold, is_entry, item_word, letter_action_of, NotationState, Begun}
+use Rattle.ed_notation.proofs.Kit.{item, items, row_kind, canonical, canonicals, is_spellable, TapeCause, BadControl}
+use Rattle.ed_notation.proofs.Kit.{EntryInLoader, EntryNegative, LoaderStore, NoPlace, StoreEnd, Item, Places, RowKind}
+use Rattle.ed_notation.proofs.Kit.{Letter, digits_number, digits_of, le-leb}
+use Rattle.std.proofs.Common.{◌^◌}
+use Rattle.ed_words.specs.declared.order_words.TheConstants.{G_F}
 use Rattle.ed_notation.specs.Faults.{bad_kay}
-use Rattle.ed_notation.proofs.Canonical.{same_item}
+use Rattle.ed_notation.specs.declared.kind.LetterAction.TheVariants.{Enters as EntersAt}
+use Rattle.ed_notation.proofs.Canonical.{is_written, same_item}
 
 -- an item without π
 abbrev pub plain : ℕ → ℕ → ℕ → Item
@@ -33,7 +37,16 @@ module _ (z : Size) (words : List ℕ) where
   pub reads_one : {notation m : NotationState} (i : Item) {is : List Item} {next : NotationState} {cost : ℕ}
       → is_spellable i ≡ true
       → Does notation i m → Reads m is next cost → Reads notation (i ∷ is) next (cost_of notation (canonical i) + cost)
-  reads_one {notation} {m} i {is} can d r = search (rules, same_item)
+  reads_one {notation} {m} i {is} can d r =
+      let it : item (canonical i) ≡ i = same_item i can in
+      let e : act words notation (item (canonical i)) ≡ m = ap (act words notation) it ∙ d.acts in
+      record {
+        are_read = (is_written i can, ap (is_entry notation) it ∙ d.goes_on, rw e r.are_read);
+        are_sound = (d.sound, rw e r.are_sound);
+        folds = ap (λ (n : NotationState). fold words n (items (canonicals is))) e ∙ r.folds;
+        costs_are = ap (λ (n : NotationState). cost_of notation (canonical i) + costs words n (canonicals is)) e
+            ∙ ap (λ k. cost_of notation (canonical i) + k) r.costs_are;
+      }
 
   pub reads_both : {notation m next : NotationState} {is js : List Item} {c d : ℕ} → Reads notation is m c
       → Reads m js next d
@@ -44,13 +57,21 @@ module _ (z : Size) (words : List ℕ) where
       let rest : Reads n is m (costs words n (canonicals is)) =
       record { are_read = a.are_read.2; are_sound = a.are_sound.1; folds = a.folds; costs_are = refl } in
       let r = reads_both {notation = n} {is = is} rest b in
-      search rules
+      record {
+        are_read = (a.are_read.0, a.are_read.1, r.are_read);
+        are_sound = (a.are_sound.0, r.are_sound);
+        folds = r.folds;
+        costs_are = omega (arith, r.costs_are, a.costs_are);
+      }
 
   -- K breaks no rule if its function sets something and its number is a location
   pub kay_sound : (notation : NotationState) (f n : ℕ) → bad_kay (control_of f) ≡ false → n ≤ 1023
       → EndsSound z words notation (canonical (plain f n 14))
   kay_sound notation f n good few BadControl = good
-  kay_sound notation f n good few StoreEnd = search (rules, le-ltb)
+  kay_sound notation f n good few StoreEnd =
+      let can : is_spellable (plain 27 n 14) ≡ true = rw (le-leb n 32767 (omega arith)) refl in
+      let number_is : digits_number 0 (digits_of n) ≡ n = ap (λ (i : Item). i.number) (same_item (plain 27 n 14) can) in
+      rw number_is (le-ltb 1023 n few)
   kay_sound notation f n good few cause = refl
 
   -- T p K
@@ -66,14 +87,26 @@ module _ (z : Size) (words : List ℕ) where
   -- G K under a T directive: θ is twice the location
   pub setting_theta : (notation : NotationState) (p : ℕ) → p ≤ 1023 → notation.directive ≡ T_F + 2 * p
       → Does notation (plain 27 0 14) (record notation { theta = 2 * p })
-  setting_theta notation p h d = search (rules, kay_sound)
+  setting_theta notation p h d = record {
+    goes_on = refl;
+    sound = kay_sound notation 27 0 refl (omega arith);
+    acts = let e : (G_F + notation.directive) % 2 ^ 17 ≡ 2 * p = omega arith in rw e refl;
+  }
 
   -- a code letter breaks no rule under a directive that aims into the store, above the loader
   letter_rule : {r : RowKind} → r ≡ Letter → (notation : NotationState) (b : Begun) (c : ℕ)
       → letter_action_of notation.directive ≡ Places
       → nat_lt (address notation.directive) 44 ≡ false → nat_le (locations z) (address notation.directive) ≡ false
       → (cause : TapeCause) → breaks cause r z words notation b c ≡ false
-  letter_rule e notation b c action low high cause = search rules
+  letter_rule e notation b c action low high cause = rw e (of cause)
+    where
+      of : (k : TapeCause) → breaks k Letter z words notation b c ≡ false
+      of LoaderStore = rw action low
+      of StoreEnd = rw action high
+      of NoPlace = rw action refl
+      of EntryNegative = rw action refl
+      of EntryInLoader = rw action refl
+      of k = refl
 
   -- a code letter under T p K places its word
   pub Does-placing : {notation : NotationState} {i : Item} (place : ℕ) {w : ℕ} → row_kind i.end ≡ Letter
@@ -83,13 +116,28 @@ module _ (z : Size) (words : List ℕ) where
         theta = notation.theta;
         placed = (place, w) ∷ notation.placed;
       })
-  Does-placing {notation} {i} place letter d low high is = search (rules, locations_most, letter_rule, le-ltb, lt-leb)
+  Does-placing {notation} {i} place letter d low high is =
+      let m = locations_most z in
+      let five : notation.directive / 4096 ≡ 5 = omega arith in
+      let action : letter_action_of notation.directive ≡ Places = rw five refl in
+      let a : address notation.directive ≡ place = omega arith in
+      let n : notation.directive + 2 ≡ T_F + 2 * (place + 1) = omega arith in
+      record {
+        goes_on = rw (letter, action) refl;
+        sound = letter_rule letter notation (canonical i).begun i.end action
+            (rw a (le-ltb place 44 low)) (rw a (lt-leb _ place high));
+        acts = rw (letter, action, a, is, n) refl;
+      }
 
   -- the orders that read a code letter which places a word
   pub placing_cost : (notation : NotationState) (i : Item) (place : ℕ) → row_kind i.end ≡ Letter
       → notation.directive ≡ T_F + 2 * place → place < locations z
       → cost_of notation (canonical i) ≡ begun_cost (canonical i).begun + 17
-  placing_cost notation i place letter d high = search (rules, locations_most)
+  placing_cost notation i place letter d high =
+      let m = locations_most z in
+      let five : notation.directive / 4096 ≡ 5 = omega arith in
+      let action : letter_action_of notation.directive ≡ Places = rw five refl in
+      rw (letter, action) refl
 
   -- the entry item P F
   pub record Enters (notation : NotationState) (p : ℕ) : Type 0 where
@@ -101,4 +149,23 @@ module _ (z : Size) (words : List ℕ) where
   -- P F under E p K enters
   pub entering_at : (notation : NotationState) (p : ℕ) → notation.directive ≡ E_F + 2 * p → 44 ≤ p → p < locations z
       → Enters notation p
-  entering_at notation p d low high = search (rules, locations_most, le-ltb, lt-leb)
+  entering_at notation p d low high =
+      let m = locations_most z in
+      let three : notation.directive / 4096 ≡ 3 = omega arith in
+      let a : address notation.directive ≡ p = omega arith in
+      record {
+        enters = rw three refl;
+        sound = λ cause. by_cause (rw three refl) (rw a (le-ltb p 44 low)) (rw a (lt-leb _ p high)) cause;
+        place = a;
+        word = refl;
+      }
+    where
+      by_cause : letter_action_of notation.directive ≡ EntersAt → nat_lt (address notation.directive) 44 ≡ false
+          → nat_le (locations z) (address notation.directive) ≡ false → (c : TapeCause)
+          → breaks c (row_kind 17) z words notation (canonical (plain 0 0 17)).begun 17 ≡ false
+      by_cause action l h LoaderStore = rw action refl
+      by_cause action l h StoreEnd = rw action h
+      by_cause action l h NoPlace = rw action refl
+      by_cause action l h EntryNegative = rw action refl
+      by_cause action l h EntryInLoader = rw action l
+      by_cause action l h c = refl
