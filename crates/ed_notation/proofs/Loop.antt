@@ -1,10 +1,10 @@
 -- The loop of the check, one lemma a turn.
-use Rattle.ed_notation.proofs.Kit.{[], Bool, drop, false, length, List, lit≤, None, Option, refl, replicate, Some, true}
-use Rattle.ed_notation.proofs.Kit.{ℕ, ◌+◌, ◌<◌, ◌∷◌, ◌≡◌, ◌≤◌, drop_all, Size, ap, arith, get_or, sym, ◌*◌, ◌∙◌}
+use Rattle.ed_notation.proofs.Kit.{[], Bool, drop, false, length, List, lit≤, None, Option, refl, replicate, Some, suc}
+use Rattle.ed_notation.proofs.Kit.{true, ℕ, ◌+◌, ◌<◌, ◌∷◌, ◌≡◌, ◌≤◌, drop_all, Size, ap, arith, get_or, sym, ◌*◌, ◌∙◌}
 use Rattle.ed_notation.proofs.Kit.{ArePlaces, Arrives, marks_of, IsFault, NotationState, over, row_kind, IsDirective}
 use Rattle.ed_notation.proofs.Kit.{opening_with, entry_by, IsPartial, part_of, placed_by, reading_on, row_effect}
 use Rattle.ed_notation.proofs.Kit.{set_by, setting_of, TapeCause, EndOfTape, DirectiveState, PartialItem, RowEffect}
-use Rattle.ed_notation.proofs.Kit.{Ended, Entered, Longer, Placed, Refused, rules}
+use Rattle.ed_notation.proofs.Kit.{Ended, Entered, Longer, Placed, Refused}
 use Rattle.std.proofs.Common.{drop-cons, slice_index, slice_set}
 use Rattle.ed_notation.proofs.Directives.{IsEffectInRange, in_range}
 use Rattle.ed_notation.proofs.Follow.{Reader, reads, follow, function_begins}
@@ -65,7 +65,9 @@ StandsAt-began {words = words} {directive} t l m o = record {
 -- the rows that are left, by the first of them
 pub next_row : (rows : List ℕ) (row c : ℕ) → row < length rows → c ≡ get_or rows row c
     → drop row rows ≡ c ∷ drop (row + 1) rows
-next_row rows row c l e = search (rules, drop-cons)
+next_row rows row c l e =
+    let n : row + 1 ≡ suc row = omega arith in
+    rw n (drop-cons rows row c l ∙ ap (λ x. x ∷ drop (suc row) rows) (sym e))
 
 -- the loop after a row from which the reader goes on
 after : {k : Check} {row cost : ℕ} {setting : DirectiveState} {part : Option PartialItem} {contents : List ℕ}
@@ -75,7 +77,15 @@ after : {k : Check} {row cost : ℕ} {setting : DirectiveState} {part : Option P
     ≡ reads (reader k (row + 1) (cost + n) notation) more (drop (row + 1) k.rows)
     → Holds k.words notation next words placed → IsPartial more → n ≤ 17
     → StandsAt k (row + 1) (cost + n) next more words placed
-after a notation goes state partial few = search rules
+after a notation goes state partial few = record {
+  notation = notation;
+  same = a.same ∙ goes;
+  state = state;
+  locations_are = a.locations_are;
+  opened = a.opened;
+  partial = partial;
+  cheap = omega (arith, a.cheap, few);
+}
 
 module _ {k : Check} {row cost : ℕ} {setting : DirectiveState} {contents : List ℕ} {marks : List Bool} {c : ℕ} where
   pub function_row : StandsAt k row cost setting None contents marks → row < length k.rows
@@ -100,7 +110,11 @@ module _ {k : Check} {row cost : ℕ} {setting : DirectiveState} {contents : Lis
     taken : (t : RowEffect) → Row t
         → reads here (Some i) (drop row k.rows) ≡ follow here i c (drop (row + 1) k.rows) t
     unfolding reading_on
-    taken t h = search (rules, next_row)
+    taken t h =
+        let seen : row_effect k.size (row_kind c) (over a.notation.placed k.words) (setting_of a.notation) i c ≡ t =
+        rw (a.state.contents_are, a.state.setting_is) (sym h) in
+        ap (λ x. reads here (Some i) x) (next_row k.rows row c l e)
+        ∙ ap (λ t. follow here i c (drop (row + 1) k.rows) t) seen
 
     pub StandsAt-longer : {j : PartialItem} {n : ℕ} → Row (Longer j n)
         → StandsAt k (row + 1) (cost + n) setting (Some j) contents marks

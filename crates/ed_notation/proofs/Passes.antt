@@ -2,11 +2,11 @@
 -- before it.
 use Rattle.ed_notation.proofs.Kit.{[], append_assoc, Bool, false, inl, inr, length, length-append, List, lit≤, None}
 use Rattle.ed_notation.proofs.Kit.{Option, refl, Some, true, ℕ, ◌&&◌, ◌++◌, ◌+◌, ◌<◌, ◌∷◌, ◌≡◌, ◌≤◌, ◌⊎◌, add-zero}
-use Rattle.ed_notation.proofs.Kit.{Size, arith, sym, AreRead, Breaks, breaks, cause_number, is_broken, IsPart}
+use Rattle.ed_notation.proofs.Kit.{Size, arith, sym, ◌∙◌, AreRead, Breaks, breaks, cause_number, is_broken, IsPart}
 use Rattle.ed_notation.proofs.Kit.{part_rows, cost_of, costs, end_cost, fold, is_entry, NotationState, Begun}
 use Rattle.ed_notation.proofs.Kit.{begun_rows, IsWritten, item, items, row_kind, rows_of, spelled_rows, Written}
 use Rattle.ed_notation.proofs.Kit.{IsDirective, Faulty, reading_on, Verdict, TapeCause, BadRow, EndOfTape, AreSound}
-use Rattle.ed_notation.proofs.Kit.{EndsSound, rules}
+use Rattle.ed_notation.proofs.Kit.{EndsSound}
 use Rattle.std.proofs.Common.{not}
 use Rattle.ed_notation.specs.Faults.{is_bad_row}
 use Rattle.ed_notation.proofs.Follow.{Reader, reads, passed, behind, inside, Goes, reader_part, begun_read}
@@ -22,8 +22,18 @@ bad_row cause t h = cc
 -- one stretch of rows after the other
 chained : {v w x : Verdict} {n m d d' : ℕ} {S T : Type 0} → n ≤ m → Goes v w n d S
     → (IsDirective d → Goes w x m d' T) → Goes v x m d' (S × T)
-chained l (inl e) h = search rules
-chained l (inr e) h = search rules
+chained l (inl e) h = elim (h e.1) [
+  | inl f ↦ inl (e.0 ∙ f.0, f.1)
+  | inr f ↦
+      inr (record { at = f.at; cause = f.cause; is = e.0 ∙ f.is; before = f.before; unsound = λ s. f.unsound s.1 })
+]
+chained l (inr e) h = inr (record {
+  at = e.at;
+  cause = e.cause;
+  is = e.is;
+  before = omega (arith, l, e.before);
+  unsound = λ s. e.unsound s.0;
+})
 
 -- an item before a row
 one : (p : Reader) (w : Written) (rest : List ℕ) → IsDirective p.notation.directive → IsWritten w
@@ -82,7 +92,9 @@ broken_here : (p : Reader) (part : Option Begun) (rest : List ℕ) (cause : Tape
     → IsPart part → is_broken p.size p.words p.notation part rest cause ≡ true
     → Refuses (reads p (reader_part part) rest) p.row cause
 unfolding reading_on
-broken_here p None (c ∷ rest) cause set is h = search (rules, bad_row, function_read)
+broken_here p None (c ∷ rest) cause set is h =
+    let f = bad_row cause _ h in
+    record { found = BadRow; is = function_read p c rest f.1; least = f.0 }
 broken_here p (Some b) (c ∷ rest) cause set is h =
     let f = least_of (λ k. breaks k (row_kind c) p.size p.words p.notation b c) cause h in
     record { found = f.found; is = here-faulty p (record { begun = b; end = c }) rest set is f.is; least = f.least }
@@ -97,7 +109,9 @@ pub record NoLater (v : Verdict) (row : ℕ) (cause : TapeCause) : Type 0 where
 
 no_later : {v w : Verdict} {n row d : ℕ} {cause : TapeCause} {S : Type 0} → n ≤ row → Goes v w n d S
     → (IsDirective d → Refuses w row cause) → NoLater v row cause
-no_later {row = row} l (inl e) f = search rules
+no_later {row = row} l (inl e) f =
+    let r = f e.1 in
+    record { at = row; found = r.found; is = e.0 ∙ r.is; least = inr (refl, r.least) }
 no_later l (inr h) f = record { at = h.at; found = h.cause; is = h.is; least = inl (omega (arith, l, h.before)) }
 
 -- if a tape breaks a rule the reader finds a fault, no later than it

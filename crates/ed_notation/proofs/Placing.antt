@@ -2,7 +2,7 @@
 use Rattle.ed_notation.proofs.Kit.{[], Bool, drop, false, length, List, refl, set, suc, take, true, ℕ, ◌&&◌, ◌++◌, ◌+◌}
 use Rattle.ed_notation.proofs.Kit.{◌<◌, ◌∷◌, ◌≡◌, ◌≤◌, and_parts, get_or-set_other, locations, T_F, Size, ap, arith}
 use Rattle.ed_notation.proofs.Kit.{get_or, sym, ◌*◌, ◌∙◌, begun_cost, item_word, NotationState, over, row_kind}
-use Rattle.ed_notation.proofs.Kit.{canonical, is_spellable, Item, RowKind, Letter, append_assoc, add-zero, rules}
+use Rattle.ed_notation.proofs.Kit.{canonical, is_spellable, Item, RowKind, Letter, append_assoc, add-zero}
 use Rattle.std.proofs.lemmas.Bool.Decides.{nat_tests}
 use Rattle.std.proofs.lemmas.List.{drop-set-lt, take_more_set, take-append-drop}
 use Rattle.ed_notation.specs.Fold.{value_of, word_with}
@@ -48,7 +48,14 @@ with_block words a ws = take a words ++ (ws ++ drop (a + length ws) words)
 
 set_block : (xs : List ℕ) (a w : ℕ) (ws : List ℕ) → a < length xs
     → with_block (set xs a w) (a + 1) ws ≡ with_block xs a (w ∷ ws)
-set_block xs a w ws h = search (rules, take_more_set, drop-set-lt, append_assoc)
+set_block xs a w ws h =
+    let n : a + 1 + length ws ≡ a + suc (length ws) = omega arith in
+    rw (
+      take_more_set xs a w h,
+      drop-set-lt (a + 1 + length ws) xs a w (omega arith),
+      append_assoc (take a xs) (w ∷ []) (ws ++ drop (a + 1 + length ws) xs),
+      n,
+    ) refl
 
 none_laid : (xs : List ℕ) (a : ℕ) → with_block xs a [] ≡ xs
 none_laid xs a = rw (add-zero a) (take-append-drop a xs)
