@@ -1,6 +1,6 @@
 -- The digits that are printed of an address.
-use Rattle.ed_postmortem.proofs.Kit.{[], ap, arith, List, refl, sym, ℕ, ◌%◌, ◌++◌, ◌+◌, ◌/◌, ◌<◌, ◌∙◌, ◌∷◌, ◌≡◌, ◌≤◌}
-use Rattle.ed_postmortem.proofs.Kit.{address_digits, rules}
+use Rattle.ed_postmortem.proofs.Kit.{[], ap, arith, inl, inr, List, refl, sym, ℕ, ◌%◌, ◌++◌, ◌+◌, ◌/◌, ◌<◌, ◌∙◌, ◌∷◌}
+use Rattle.ed_postmortem.proofs.Kit.{◌≡◌, ◌≤◌, cases_lt, address_digits}
 use Rattle.std.proofs.Common.{map}
 use Rattle.std.specs.Fmt.{decimal}
 use Rattle.std.proofs.lemmas.Fmt.{decimal_digit, decimal_step}
@@ -15,7 +15,10 @@ one_more n some small e f is =
 
 module _ (n : ℕ) (small : n < 2048) where
   of_1 : n < 10 → map (λ d. 48 + d) (address_digits n) ≡ decimal n
-  of_1 l = search (rules, no_digit, decimal_digit)
+  of_1 l =
+      let u : n % 10 ≡ n = omega arith in
+      rw (no_digit 1000 n (omega arith), no_digit 100 n (omega arith), no_digit 10 n (omega arith), u)
+      (sym (decimal_digit n l))
 
   of_2 : 10 ≤ n → n < 100 → map (λ d. 48 + d) (address_digits n) ≡ decimal n
   of_2 g l =
@@ -39,4 +42,14 @@ module _ (n : ℕ) (small : n < 2048) where
       (one_more (n / 100) (omega arith) (omega arith) top refl (decimal_digit (n / 1000 % 10) (omega arith))))))
 
 pub address_digits_law : AddressDigitsLaw
-address_digits_law n small = search (rules, of_1, of_2, of_3, of_4)
+address_digits_law n small =
+    elim (cases_lt n 10) [
+      | inl few ↦ of_1 n small few
+      | inr some ↦ elim (cases_lt n 100) [
+        | inl few ↦ of_2 n small some few
+        | inr more ↦ elim (cases_lt n 1000) [
+          | inl few ↦ of_3 n small more few
+          | inr many ↦ of_4 n small many
+        ]
+      ]
+    ]

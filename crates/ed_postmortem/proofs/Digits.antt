@@ -1,7 +1,7 @@
 -- What the post-mortem prints of a number's digits before its units, and what each digit's printing leaves.
 use Rattle.ed_postmortem.proofs.Kit.{begun, shown, length-append, digit_at, [], ap, arith, Bool, false, if◌then◌else◌}
 use Rattle.ed_postmortem.proofs.Kit.{length, List, nat_le, nat_lt, refl, suc, sym, true, zero, ℕ, ◌%◌, ◌++◌, ◌+◌, ◌/◌}
-use Rattle.ed_postmortem.proofs.Kit.{◌<◌, ◌∙◌, ◌∷◌, ◌≡◌, ◌≤◌, nat_tests, digits_before_units, rules}
+use Rattle.ed_postmortem.proofs.Kit.{◌<◌, ◌∙◌, ◌∷◌, ◌≡◌, ◌≤◌, nat_tests, digits_before_units}
 use Rattle.std.proofs.Common.{◌||◌}
 use Rattle.ed_postmortem.specs.Codes.{digit_sum}
 
@@ -53,4 +53,20 @@ digit_is p n q b e s =
     let is : shown b q ≡ digit_at p n = is_shown b q ∙ rw (e, s) refl in (is, ap digit_sum (sym is) ∙ sum_shown b q)
 
 pub digits_are : (n : ℕ) → n < 10000 → Digits n
-digits_are n low = search (rules, is_begun, digit_is, sum_append, length-append)
+digits_are n low =
+    let begun1 : began n 1 ≡ nat_le 1000 n = is_begun false (n / 1000) ∙ grind (arith, nat_tests) in
+    let begun2 : began n 2 ≡ nat_le 100 n = is_begun (began n 1) (n / 100 % 10)
+    ∙ rw begun1 (grind (arith, nat_tests)) in
+    let begun3 : began n 3 ≡ nat_le 10 n = is_begun (began n 2) (n / 10 % 10) ∙ rw begun2 (grind (arith, nat_tests)) in
+    let d1 = digit_is 1000 n (n / 1000) false begun1 (omega arith) in
+    let d2 = digit_is 100 n (n / 100 % 10) (began n 1) begun2 refl in
+    let d3 = digit_is 10 n (n / 10 % 10) (began n 2) begun3 refl in
+    let front = digit_at 100 n ++ digit_at 10 n in
+    record {
+      are = rw (d1.0, d2.0, d3.0) refl;
+      sum =
+          let all = sum_append (digit_at 1000 n) front in
+          omega (arith, d1.1, d2.1, d3.1, all, sum_append (digit_at 100 n) (digit_at 10 n));
+      count = rw (d1.0, d2.0, d3.0)
+          (omega (arith, length-append (digit_at 1000 n) front, length-append (digit_at 100 n) (digit_at 10 n)));
+    }
