@@ -1,15 +1,15 @@
 -- What the reader does at a row inside an item, in the words of the rules.
-use Rattle.ed_notation.proofs.Kit.{[], Bool, false, length-append, List, nat_le, nat_lt, None, Option, refl, Some, true}
-use Rattle.ed_notation.proofs.Kit.{ℕ, ◌++◌, ◌+◌, ◌<◌, ◌∷◌, ◌≡◌, and-false, eqb-false, ltb-false, append-nil, locations}
-use Rattle.ed_notation.proofs.Kit.{Size, ap, arith, sym, ◌*◌, ◌∙◌, breaks, is_place, address, begun_cost, control_of}
-use Rattle.ed_notation.proofs.Kit.{end_cost, ending_effect, entering, item_word, letter_action_of, NotationState, over}
-use Rattle.ed_notation.proofs.Kit.{AreDigits, Begun, begun_rows, digits_number, ends, is_empty, IsBegun, item_of}
-use Rattle.ed_notation.proofs.Kit.{row_kind, IsDirective, placed_by, row_effect, set_by, setting_of, TapeCause}
-use Rattle.ed_notation.proofs.Kit.{AfterMark, BadControl, BadRow, EndOfTape, EntryInLoader, EntryNegative, LoaderStore}
-use Rattle.ed_notation.proofs.Kit.{NoPlace, NumberTooLarge, StoreEnd, Control, Directive, Neither, ThetaByBlank}
-use Rattle.ed_notation.proofs.Kit.{LetterAction, Enters, Nowhere, Places, Unset, RowKind, Blank, Digit, Kay, Letter}
-use Rattle.ed_notation.proofs.Kit.{Mark, Other, Zed, PartialItem, RowEffect, Ended, Entered, Longer, Placed, Refused}
-use Rattle.ed_notation.proofs.Kit.{rules}
+use Rattle.ed_notation.proofs.Kit.{[], Bool, false, length-append, List, nat_le, nat_lt, None, Option, refl, Some}
+use Rattle.ed_notation.proofs.Kit.{true, ℕ, ◌++◌, ◌+◌, ◌<◌, ◌∷◌, ◌≡◌, and-false, eqb-false, ltb-false, append-nil}
+use Rattle.ed_notation.proofs.Kit.{locations, Size, if_means, ap, arith, nat_eq, sym, ◌*◌, ◌/◌, ◌∙◌, breaks, is_place}
+use Rattle.ed_notation.proofs.Kit.{address, begun_cost, control_of, end_cost, ending_effect, entering, item_word}
+use Rattle.ed_notation.proofs.Kit.{letter_action_of, NotationState, over, AreDigits, Begun, begun_rows, digits_number}
+use Rattle.ed_notation.proofs.Kit.{ends, is_empty, IsBegun, item_of, row_kind, IsDirective, placed_by, row_effect}
+use Rattle.ed_notation.proofs.Kit.{set_by, setting_of, TapeCause, AfterMark, BadControl, BadRow, EndOfTape}
+use Rattle.ed_notation.proofs.Kit.{EntryInLoader, EntryNegative, LoaderStore, NoPlace, NumberTooLarge, StoreEnd}
+use Rattle.ed_notation.proofs.Kit.{Control, Directive, Neither, ThetaByBlank, LetterAction, Enters, Nowhere, Places}
+use Rattle.ed_notation.proofs.Kit.{Unset, RowKind, Blank, Digit, Kay, Letter, Mark, Other, Zed, PartialItem, RowEffect}
+use Rattle.ed_notation.proofs.Kit.{Ended, Entered, Longer, Placed, Refused}
 use Rattle.ed_notation.specs.Items.{is_blank_row}
 use Rattle.ed_notation.proofs.Tests.{RowMeans, row_means}
 
@@ -88,7 +88,12 @@ digits_more [] c h k = (k, tt)
 digits_more (d ∷ ds) c h k = (h.0, digits_more ds c h.1 k)
 
 not_unset : (d : ℕ) → IsDirective d → letter_action_of d ≡ Unset → ⊥
-not_unset d s = search (rules, eqb-false)
+not_unset d s =
+    let P : LetterAction → Type 0 = λ a. a ≡ Unset → ⊥ in
+    if_means P (nat_eq (d / 4096) 5) _ _ (λ h e. cc) (λ h.
+    if_means P (nat_eq (d / 4096) 3) _ _ (λ g e. cc) (λ g.
+    if_means P (nat_eq (d / 4096) 0) _ _ (λ o e. cc) (λ o e.
+    omega (arith, eqb-false _ _ h, eqb-false _ _ g, eqb-false _ _ o, s.no_1, s.no_2, s.no_4, s.most))))
 
 module _ (z : Size) (words : List ℕ) (notation : NotationState) (c : ℕ) (set : IsDirective notation.directive) where
   module _ (f : ℕ) (ds : List ℕ) where
@@ -144,7 +149,8 @@ module _ (z : Size) (words : List ℕ) (notation : NotationState) (c : ℕ) (set
     by_kay : (m : Bool) (k : Control) (x : Bool) → control_of f ≡ k → nat_lt 1023 (digits_number 0 ds) ≡ x → Law Kay m
     by_kay true k x h e = refl
     by_kay false Neither x h e = rw (h, h) refl
-    by_kay false k false h e = search rules
+    by_kay false k false h e =
+        rw (h, e) (rw (h, e) refl, record { ended = refl; goes_on = refl; notation_is = rw h refl; cost_is = refl })
     by_kay false k true h e = rw (h, e, h, e) refl
 
     by_zed : (m : Bool) (k : Control) (x y : Bool) → control_of f ≡ k
@@ -153,9 +159,11 @@ module _ (z : Size) (words : List ℕ) (notation : NotationState) (c : ℕ) (set
         → Law Zed m
     by_zed true k x y h e g = refl
     by_zed false Directive false y h e g = rw (h, e, h, e) refl
-    by_zed false Directive true y h e g = search rules
+    by_zed false Directive true y h e g =
+        rw (h, e) (rw (h, e) refl, record { ended = refl; goes_on = refl; notation_is = rw h refl; cost_is = refl })
     by_zed false ThetaByBlank x true h e g = rw (h, g, h, g) refl
-    by_zed false ThetaByBlank x false h e g = search rules
+    by_zed false ThetaByBlank x false h e g =
+        rw (h, g) (rw (h, g) refl, record { ended = refl; goes_on = refl; notation_is = rw h refl; cost_is = refl })
     by_zed false k x y h e g = rw (h, h) refl
 
     by_letter : (m : Bool) {k : LetterAction} {x y w : Bool} → letter_action_of notation.directive ≡ k
@@ -167,11 +175,29 @@ module _ (z : Size) (words : List ℕ) (notation : NotationState) (c : ℕ) (set
     by_letter m {k = Unset} h e g o = absurd (not_unset notation.directive set h)
     by_letter m {k = Places} {x = true} h e g o = rw (h, e, h, e) refl
     by_letter m {k = Places} {x = false} {y = true} h e g o = rw (h, e, g, h, e, g) refl
-    by_letter m {k = Places} {x = false} {y = false} h e g o = search rules
+    by_letter m {k = Places} {x = false} {y = false} h e g o =
+        rw (h, e, g) (
+          rw (h, e, g) refl,
+          record {
+            ended = refl;
+            goes_on = rw h refl;
+            notation_is = rw h refl;
+            cost_is = rw h refl;
+          },
+        )
     by_letter m {k = Enters} {y = true} h e g o = rw (h, g, h, g) refl
     by_letter m {k = Enters} {y = false} {w = true} h e g o = rw (h, g, o, h, g, o) refl
     by_letter m {k = Enters} {x = true} {y = false} {w = false} h e g o = rw (h, g, o, e, h, g, o, e) refl
-    by_letter m {k = Enters} {x = false} {y = false} {w = false} h e g o = search rules
+    by_letter m {k = Enters} {x = false} {y = false} {w = false} h e g o =
+        rw (h, g, o, e) (
+          rw (h, g, o, e) refl,
+          record {
+            ended = refl;
+            entered = rw h refl;
+            at_is = refl;
+            cost_is = rw h refl;
+          },
+        )
 
     row_law : (m : Bool) → IsBegun (begun m) → (r : RowKind) → RowMeans r c → Law r m
     row_law m good Digit h = by_digit m _ good h refl

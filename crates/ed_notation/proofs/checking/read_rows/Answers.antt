@@ -1,5 +1,6 @@
-use Rattle.ed_notation.proofs.Kit.{Bool, false, length, List, Some, length-replicate, ap, arith, ◌∙◌, IsPartial}
+use Rattle.ed_notation.proofs.Kit.{Bool, false, length, List, Some, true, length-replicate, ap, arith, ◌∙◌, IsPartial}
 use Rattle.ed_notation.proofs.Kit.{PartialItem, Ended, Longer, Placed}
+use Rattle.std.proofs.Common.{slice_set}
 use Rattle.ed_store.specs.declared.store.Store.{Store}
 use Rattle.ed_notation.proofs.Loop.{StandsAt-began, function_row, StandsAt-longer, StandsAt-ended, StandsAt-placed}
 use Rattle.ed_notation.proofs.Loop.{IsFault-refused, Arrives-entered, at_end, IsEffectInRange-taken, StandsAt-written}
@@ -35,10 +36,11 @@ loop-row-preserved c = elim c.match-item.branch [
       (ap (λ (s : Store). s.words) w.contents-is) w.placed-is
       (StandsAt-ended w.in-Some.part (rw w.in-Some.is at c.loop-row.invariant)
       c.loop-row-test.true c.index-rows-row.is w.in-Ended.ensures)
-  | in-Some+in-Placed w ↦ rw (w.orders-is, w.setting-is, w.item-is, w.contents-is, w.placed-is)
-      (rw (w.put_short.ensures.is, w.moved_on-setting.ensures, w.from.ensures)
+  | in-Some+in-Placed w ↦ StandsAt-written w.orders-is (w.setting-is ∙ w.moved_on-setting.ensures) w.item-is
+      (ap (λ (s : Store). s.words) (w.contents-is ∙ w.put_short.ensures.is))
+      (w.placed-is ∙ ap (λ k. slice_set c.loop-row.placed k true) w.from.ensures)
       (StandsAt-placed w.in-Some.part (rw w.in-Some.is at c.loop-row.invariant)
-      c.loop-row-test.true c.index-rows-row.is w.in-Placed.ensures))
+      c.loop-row-test.true c.index-rows-row.is w.in-Placed.ensures)
 ]
 
 pub returns : goal.returns
