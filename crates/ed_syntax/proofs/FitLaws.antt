@@ -1,7 +1,7 @@
 -- What is spelled with its numbers in their ranges is a form that a line of a program may have.
-use Rattle.ed_syntax.proofs.Kit.{[], Bool, IfSome, List, map, nat_lt, neg_ℤ, Option, pos, refl}
-use Rattle.ed_syntax.proofs.Kit.{Some, subst, true, unsigned_abs, ℕ, ℤ, ◌<◌, ◌^◌, ◌∷◌, ◌≡◌, rules}
-use Rattle.ed_syntax.proofs.Kit.{list_all, and_from, and_parts, lt-ltb, Text, row_of, arith}
+use Rattle.ed_syntax.proofs.Kit.{[], ap, Bool, IfSome, List, map, nat_le, nat_lt, neg_ℤ, Option, pos, refl}
+use Rattle.ed_syntax.proofs.Kit.{Some, subst, true, unsigned_abs, ℕ, ℤ, ◌<◌, ◌^◌, ◌∙◌, ◌∷◌, ◌≡◌, rules}
+use Rattle.ed_syntax.proofs.Kit.{list_all, and_from, and_parts, le-leb, lt-ltb, value, Text, row_of, arith}
 use Rattle.ed_syntax.proofs.Kit.{AreRowsOf, bare_order, difference, label}
 use Rattle.ed_syntax.proofs.Kit.{labelled, last, long, minus, more, name, number, order, plus}
 use Rattle.ed_syntax.proofs.Kit.{setting, SpellsForm, SpellsOperand, SpellsPlaced, SpellsSetting}
@@ -10,7 +10,7 @@ use Rattle.ed_syntax.proofs.Kit.{function, LinePart, modulo, are_rows, is_form, 
 use Rattle.ed_syntax.proofs.Kit.{may_have_label, Form, Operand, Setting, Statement, common_steps}
 use Rattle.std.proofs.Common.{lit<}
 use Rattle.ed_syntax.specs.Forms.{EachSpelledIsForm, FormsAreSpelled}
-use Rattle.ed_syntax.proofs.Ranges.{letter_within, function_fits, modulo_fits, row_fits}
+use Rattle.ed_syntax.proofs.Ranges.{IsLetter, letter_within, function_fits, modulo_fits, row_fits}
 use Rattle.ed_syntax.proofs.Spelled.{each_form_is_spelled}
 
 -- what holds of what an option has
@@ -25,13 +25,16 @@ operand_fits : (two : Bool) (ps : List LinePart) (o : Operand) (fits : Bool) →
 operand_fits two _ _ _ (number n e) h = h
 operand_fits two _ _ _ (name a e) h = and_from (is_place_name two a) _ e refl
 operand_fits two _ _ _ (plus a n e f) h = and_from (is_place_name two a) _ e h
-operand_fits two _ _ _ (minus a n e f) h = search (rules, negative_size)
+operand_fits two _ _ _ (minus a n e f) h =
+    and_from (is_place_name two a) _ e (ap (λ (m : ℕ). nat_le m 1023) (negative_size (value n)) ∙ h)
 operand_fits two _ _ _ (sum a b e f g) h = and_from two _ g (and_from (is_place_name two a) _ e f)
 operand_fits two _ _ _ (difference a b e f g) h = and_from two _ g (and_from (is_place_name two a) _ e f)
 
 setting_fits : (two : Bool) (ps : List LinePart) (s : Setting) (fits : Bool) → SpellsSetting two ps s fits
     → fits ≡ true → is_setting two s ≡ true
-setting_fits two _ _ _ (setting b l ps o fits hl ho) h = search (rules, some_has, letter_within, operand_fits)
+setting_fits two _ _ _ (setting b l ps o fits hl ho) h =
+    let letter : IsLetter l = some_has IsLetter _ l hl (letter_within b) in
+    and_from _ _ (and_from _ _ (le-leb 21 l letter.low) (le-leb l 26 letter.high)) (operand_fits two ps o fits ho h)
 
 settings_fit : (two : Bool) (ps : List LinePart) (ss : List Setting) (fits : Bool) → SpellsSettings two ps ss fits
     → fits ≡ true → list_all (is_setting two) ss ≡ true
@@ -70,7 +73,8 @@ code_fits b f e = lt-ltb f 32 (some_has (λ c. c < 32) _ f e (function_fits b))
 
 placed_fits : (two : Bool) (ps : List LinePart) (s : Statement) (fits : Bool) → SpellsPlaced two ps s fits
     → fits ≡ true → (may_have_label s ≡ true) × (is_statement two s ≡ true)
-placed_fits two _ _ _ (order b f e ps o l fits hf ho hl) h = search (rules, code_fits, operand_fits)
+placed_fits two _ _ _ (order b f e ps o l fits hf ho hl) h =
+    (refl, and_from (nat_lt f 32) _ (code_fits b f hf) (operand_fits two ps o fits ho h))
 placed_fits two _ _ _ (bare_order b f e l hf hl) h = (refl, and_from (nat_lt f 32) _ (code_fits b f hf) refl)
 placed_fits two _ _ _ (word ps z fits g) h = (refl, word_fits z)
 placed_fits two _ _ _ (long ps z fits g v) h = (refl, and_from two _ v (long_fits z))
@@ -84,7 +88,8 @@ form_fits : (two : Bool) (k : ℕ) (ps : List LinePart) (f : Form) (fits : Bool)
     → fits ≡ true → is_form two f.label f.statement ≡ true
 form_fits two _ _ _ _ (label k a e) h = e
 form_fits two _ _ _ _ (statement k ps s fits g) h = statement_fits two ps s fits g h
-form_fits two _ _ _ _ (labelled k a ps s fits e g) h = search (rules, placed_fits)
+form_fits two _ _ _ _ (labelled k a ps s fits e g) h =
+    let p = placed_fits two ps s fits g h in and_from (is_place_name two a) _ e (and_from (may_have_label s) _ p.0 p.1)
 form_fits two _ _ _ _ x h = refl
 
 pub each_spelled_is_form : EachSpelledIsForm

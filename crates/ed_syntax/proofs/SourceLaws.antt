@@ -33,7 +33,8 @@ use Rattle.ed_syntax.proofs.Programs.{numbered}
 pub lines_are_read : (text : Text) (lines : List Text) → HasLines text lines → lines_of text ≡ lines
 lines_are_read _ _ nothing = refl
 lines_are_read _ _ (last b bs e) = Lines.unended b bs e
-lines_are_read _ _ (ended line text lines e h) = search (rules, Lines.lines_of-ended, lines_are_read text lines h)
+lines_are_read _ _ (ended line text lines e h) =
+    Lines.lines_of-ended line text e ∙ ap (λ (t : List Text). without_return line ∷ t) (lines_are_read text lines h)
 
 -- a text has one list of lines
 pub one_lines : {text : Text} {lines others : List Text} → HasLines text lines → HasLines text others → lines ≡ others
@@ -245,7 +246,10 @@ says_at : {two : Bool} {k : ℕ} {lines : List Text} {said : List Line} (n : ℕ
 says_at n (no_more k) lt = absurd (omega (arith, lt))
 says_at {two} zero (and_more k line lines f said s h) lt =
     let number : k ≡ k + zero = omega arith in (f, rw (← number) s)
-says_at {two} (suc n) (and_more k line lines f said s h) lt = search (rules, says_at n h (omega (arith, lt)))
+says_at {two} (suc n) (and_more k line lines f said s h) lt =
+    let later = says_at n h (omega (arith, lt)) in
+    let number : k + 1 + n ≡ k + suc n = omega arith in
+    (later.0, rw (← number) later.1)
 
 -- ---- a source
 

@@ -87,8 +87,10 @@ numeral_front n d h = one_run_front d (numeral_part n d h)
 -- a name, a plus or a minus, and a run
 two_front : (two minus : Bool) (a b : Text) → is_place_name two a ≡ true → IsFront b (run b ∷ [])
     → IsFront (a ++ (if minus then 45 else 43) ∷ b) (run a ∷ sign (if minus then 45 else 43) ∷ run b ∷ [])
-two_front two false a b e f = search (rules, run_front, place_name_part, sign_front)
-two_front two true a b e f = search (rules, run_front, place_name_part, sign_front)
+two_front two false a b e f =
+    run_front a (43 ∷ b) _ (place_name_part two a e) (λ rest g. refl) (sign_front 43 b _ refl refl f)
+two_front two true a b e f =
+    run_front a (45 ∷ b) _ (place_name_part two a e) (λ rest g. refl) (sign_front 45 b _ refl refl f)
 
 label_spelled : (two : Bool) (a : Text) (z : ℤ) → is_place_name two a ≡ true → nat_le (unsigned_abs z) 1023 ≡ true
     → IsSpelledBy (SpellsOperand two) (operand_text (operands.Label a z)) (operands.Label a z)
@@ -117,7 +119,10 @@ operand_spelled two (operands.Number n) e =
     spelled_by _ (rw (h.value_is, e) at (spells (SpellsOperand two) (number (decimal n) h.number)))
     (numeral_front n _ h)
 operand_spelled two (operands.Label a z) e = let p = and_parts _ _ e in label_spelled two a z p.0 p.1
-operand_spelled two (operands.Two a b m) e = search (rules, two_spelled)
+operand_spelled two (operands.Two a b m) e =
+    let p = and_parts two _ e in
+    let q = and_parts _ _ p.1 in
+    two_spelled two a b m q.0 q.1 p.0
 
 setting_spelled : (two : Bool) (s : Setting) → is_setting two s ≡ true
     → IsSpelledBy (SpellsSetting two) (setting_text s) s
@@ -168,7 +173,11 @@ are_bytes (r ∷ rows) e =
     let first = letter_back r lt in
     let others = are_bytes rows p.1 in
     let quote = not-true _ (from_below (λ j. not (slice_index letters j == 34)) 32 r refl lt) in
-    search (rules, letter_is_plain)
+    record {
+      back = λ i. first i ∷ others.back i;
+      none = rw quote others.none;
+      plain = and_from _ _ (letter_is_plain r lt) others.plain;
+    }
 
 -- a string of rows after a keyword
 string_spelled : {A : Type 0} {S : List LinePart → A → Bool → Type 0} {a : A} (w : Text) (rows : List ℕ)
@@ -254,7 +263,8 @@ fetch_spelled two a b (s ∷ ss) e f g few =
 
 statement_spelled : (two : Bool) (s : Statement) → is_statement two s ≡ true → has_few_settings (Some s) ≡ true
     → IsSpelledBy (SpellsStatement two) (statement_text s) s
-statement_spelled two (statements.Segment a b) e f = search (rules, segment_spelled)
+statement_spelled two (statements.Segment a b) e f =
+    let p = and_parts (is_name a) _ e in segment_spelled two a b p.0 p.1
 statement_spelled two (statements.Fetch a b ss) e f =
     let p = and_parts (is_name a) _ e in
     let q = and_parts (is_name b) _ p.1 in fetch_spelled two a b ss.items p.0 q.0 q.1 f
