@@ -1,9 +1,9 @@
 -- The routine obeys the guest order by order.
 use Rattle.ed_checker.proofs.Kit.{Kind, E, G, Stopped, [], ap, arith, false, Option, refl, rules, Some, subst, suc, sym}
-use Rattle.ed_checker.proofs.Kit.{true, true≢false, zero, ℕ, ◌%◌, ◌++◌, ◌+◌, ◌∙◌, ◌∷◌, ◌≡◌, function_of, IsStore}
-use Rattle.ed_checker.proofs.Kit.{kind_of_function, next_word, obey_word, Obeyed, step, State, codes_of, is_obeyed}
-use Rattle.ed_checker.proofs.Kit.{progress, Progress, state_after, stops_of, short_at, Agree, checked_orders, guest}
-use Rattle.ed_checker.proofs.Kit.{IsAllowed, orders_by, turn_orders, HasRun}
+use Rattle.ed_checker.proofs.Kit.{true, true≢false, zero, ℕ, ◌%◌, ◌++◌, ◌+◌, ◌∙◌, ◌∷◌, ◌≡◌, within, function_of}
+use Rattle.ed_checker.proofs.Kit.{IsStore, kind_of_function, after, next_word, obey_word, Obeyed, step, State, codes_of}
+use Rattle.ed_checker.proofs.Kit.{is_obeyed, progress, Progress, state_after, stops_of, short_at, Agree, checked_orders}
+use Rattle.ed_checker.proofs.Kit.{guest, IsAllowed, orders_by, turn_orders, HasRun}
 use Rattle.ed_machine.specs.Sound.{IsSound}
 use Rattle.ed_machine.proofs.SoundSteps.{sound_after}
 use Rattle.ed_checker.specs.Checker.{checked_codes}
@@ -61,7 +61,15 @@ module _ {base : ℕ} (even_base : base % 2 ≡ 0) {s t : State} (p : Agree base
 
     both_planted : is_planted kind ≡ true → is_obeyed (step t).turn ≡ true
         → Both (obey_word kind x s) (obey_word kind x t)
-    both_planted may h = search (rules, both_outcome, at_t, agree_with)
+    both_planted may h =
+        let o = both_outcome may in
+        let went = ap is_obeyed (o.turn
+        ∙ ap (λ (y : Obeyed). y.turn) (sym (at_t kind refl))) ∙ h in
+        let next : after s ≡ after t = λ i. within (p.size i) (p.counter i + 1) in
+        record {
+          turn = o.turn;
+          agree = agree_with o.alike o.alike.acc (o.counter went ∙ next ∙ sym (o.other_counter went));
+        }
 
     by_step : (k : Option Kind) → kind_of_function (function_of x) ≡ k → Both (obey_word k x s) (obey_word k x t)
         → Both (step s) (step t)
@@ -73,7 +81,10 @@ module _ {base : ℕ} (even_base : base % 2 ≡ 0) {s t : State} (p : Agree base
 
     -- both turns are the same, whether the order is obeyed or not
     pub same_turn : (step s).turn ≡ (step t).turn
-    same_turn = search (rules, by_function, turn_by, both_E, both_G, both_outcome, other_planted)
+    same_turn =
+        by_function (function_of x) (λ e. turn_by (Some E) (ap kind_of_function e) both_E.turn)
+        (λ e. turn_by (Some G) (ap kind_of_function e) both_G.turn)
+        (λ no3 no27. turn_by kind refl (both_outcome (other_planted (function_of x) no3 no27)).turn)
 
     pub steps : is_obeyed (step t).turn ≡ true → Both (step s) (step t)
     steps h =
@@ -135,7 +146,14 @@ module _ (base : ℕ) (m : State) (has : HasGuest base m) where
 
   checks_from : (q : ℕ) → IsFollowed base q g → HasChecked base q m
   unfolding progress checked_codes checked_orders
-  checks_from zero h = search (rules, HasRun-none, agree_self)
+  checks_from zero h = record {
+    last = m;
+    most = omega arith;
+    ran = HasRun-none m;
+    stands = has.stands;
+    agree = agree_self base g;
+    size = refl;
+  }
   checks_from (suc q) h =
       next q (checks_from q (record {
         allowed = λ j l. h.allowed j (omega arith);
@@ -200,4 +218,8 @@ module _ (base : ℕ) (m : State) (has : HasGuest base m) where
       }
 
 pub checker_law : CheckerLaw
-checker_law = search (rules, checks_from, stops_from, blocked_from)
+checker_law = record {
+  checks = λ base q m has h. checks_from base m has q h;
+  to_stop = λ base q m has h first ok. stops_from base m has q h first.no_stops ok first.stops;
+  to_block = λ base q m has h ok stuck. blocked_from base m has q h ok stuck;
+}

@@ -49,7 +49,11 @@ pub record Reached (base : ℕ) (m : State) : Type 0 where
 
 -- an order is E, G or another one
 pub by_function : {P : Type 0} (n : ℕ) → (n ≡ 3 → P) → (n ≡ 27 → P) → (n ≢ 3 → n ≢ 27 → P) → P
-by_function n is_E is_G other = search (rules, cases_eq)
+by_function n is_E is_G other =
+    elim (cases_eq n 3) [
+      | inl e ↦ is_E e
+      | inr no3 ↦ elim (cases_eq n 27) [ inl e ↦ is_G e | inr no27 ↦ other no3 no27 ]
+    ]
 
 -- the kinds of all functions but 3 and 27 are obeyed at the routine's own location
 abbrev all_but : List (Option Kind) → ℕ → Bool
@@ -62,7 +66,10 @@ apart_from i b a b0 h = search rules
 planted_at : (ks : List (Option Kind)) (i n : ℕ) → all_but ks i ≡ true → i + n ≢ 3 → i + n ≢ 27
     → is_planted (get_or ks n None) ≡ true
 planted_at [] i n h a b = refl
-planted_at (k ∷ ks) i zero h a b = search (rules, apart_from)
+planted_at (k ∷ ks) i zero h a b =
+    let p = and_parts (is_planted k || (nat_eq i 3 || nat_eq i 27)) (all_but ks (i + 1)) h in
+    let e : i + 0 ≡ i = omega arith in
+    apart_from i (is_planted k) (λ x. a (e ∙ x)) (λ x. b (e ∙ x)) p.0
 planted_at (k ∷ ks) i (suc n) h a b =
     let p = and_parts (is_planted k || (nat_eq i 3 || nat_eq i 27)) (all_but ks (i + 1)) h in
     let e : i + suc n ≡ i + 1 + n = omega arith in

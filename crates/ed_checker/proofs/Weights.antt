@@ -25,7 +25,9 @@ all_weigh (k ∷ ks) i = weighs_as i k && all_weigh ks (i + 1)
 
 weighs_at : (ks : List (Option Kind)) (i n : ℕ) → all_weigh ks i ≡ true → weighs_as (i + n) (get_or ks n None) ≡ true
 weighs_at [] i n h = refl
-weighs_at (k ∷ ks) i zero h = search rules
+weighs_at (k ∷ ks) i zero h =
+    let e : i ≡ i + 0 = omega arith in
+    subst (λ j. weighs_as j k ≡ true) e (and_parts (weighs_as i k) (all_weigh ks (i + 1)) h).0
 weighs_at (k ∷ ks) i (suc n) h =
     let e : i + 1 + n ≡ i + suc n = omega arith in
     subst (λ j. weighs_as j (get_or ks n None) ≡ true) e

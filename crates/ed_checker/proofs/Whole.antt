@@ -2,7 +2,7 @@
 use Rattle.ed_checker.proofs.Kit.{nat_le, Kind, Turn, [], ap, arith, Bool, false, inl, inr, length, Option, refl, rules}
 use Rattle.ed_checker.proofs.Kit.{Some, subst, sym, true, true≢false, ℕ, ◌%◌, ◌++◌, ◌+◌, ◌-◌, ◌<◌, ◌∙◌, ◌∷◌, ◌≡◌, ◌≤◌}
 use Rattle.ed_checker.proofs.Kit.{◌⊎◌, locations, function_of, IsStore, kind_of_function, next_word, obey_word, Obeyed}
-use Rattle.ed_checker.proofs.Kit.{step, State, codes_of, is_obeyed, progress, Progress, stops_of, if◌then◌else◌}
+use Rattle.ed_checker.proofs.Kit.{step, State, codes_of, is_obeyed, progress, Progress, stops_of, if◌then◌else◌, Agree}
 use Rattle.ed_checker.proofs.Kit.{CheckerStands, guest, IsAllowed, turn_orders, ChecksOne}
 use Rattle.ed_run.proofs.Kit.{Sheet, first_once, end_by, EndsAfter, IsRun}
 use Rattle.ed_machine.specs.declared.ending.Ending.{Ending}
@@ -92,7 +92,23 @@ module _ {base count : ℕ} {s t : State} {sheet full : Sheet} {ending : Ending}
       let there : (progress runs.orders s) ≡ record { state = r.after; codes = cs; stops = stops_of (step g).turn } =
       ap (λ i. progress i s) u.0 ∙ r.ran.is in
       let state : t ≡ r.after = runs.state_is ∙ ap (λ (p : Progress). p.state) there in
-      search (rules, answer_of, at_g, true≢false)
+      let answer = answer_of (kind_of_function (function_of (next_word g))) (next_word g) (turn_orders g) g
+      (ap (λ (y : Obeyed). is_obeyed y.turn) (sym at_g) ∙ h) in (
+        u.1,
+        record {
+          orders = r.count;
+          exact = rw h r.exact;
+          most = r.most;
+          answer_is = sym ((λ i. answer_by (at_g i).turn (r.exact i)) ∙ answer);
+          state_is = state ∙ sym (ap (λ (p : Progress). p.state) r.ran.is);
+          free = r.ran.free;
+          paper_is = runs.sheet_is
+              ∙ ap (λ (p : Progress). record { codes = sheet.codes ++ p.codes; room = sheet.room }) there;
+          guest_is = subst (λ x. Agree base (guest base x) (step g).state) (sym state) r.agree;
+          stands = λ i. subst (CheckerStands base) (sym state) r.stands;
+          blocked = λ i. absurd (true≢false (sym h ∙ i));
+        },
+      )
 
   blocks : is_obeyed (step g).turn ≡ false → Blocks
   blocks h =
@@ -123,7 +139,27 @@ module _ {base count : ℕ} {s t : State} {sheet full : Sheet} {ending : Ending}
       (ap (λ (y : Obeyed). is_obeyed y.turn) (sym at_g) ∙ h) in
       let guest_same : g ≡ (step g).state = sym (ap (λ (y : Obeyed). y.state) at_g ∙ same.0) in
       let no_codes : codes_of (step g).turn ≡ [] = ap (λ (y : Obeyed). codes_of y.turn) at_g ∙ same.1 in
-      search (rules, blocked_answer, true≢false)
+      let by_end : ((b.0 ≡ EndsNoOrder) ⊎ (b.0 ≡ EndsNoTape)) → (ending ≡ EndsNoOrder) ⊎ (ending ≡ EndsNoTape) =
+      (λ x. elim x [ inl a ↦ inl (u.1 ∙ a) | inr a ↦ inr (u.1 ∙ a) ]) in (
+        by_end b.2,
+        omega (arith, r.exact),
+        record {
+          orders = r.count;
+          exact = rw h count;
+          most = omega (arith, r.most);
+          answer_is = sym (blocked_answer (step g).turn r.count h ∙ ap IsBlocked count);
+          state_is = state ∙ sym (ap (λ (p : Progress). p.state) r.ran.is);
+          free = r.ran.free;
+          paper_is = paper ∙ ap (λ xs. record { codes = sheet.codes ++ (n ∷ xs); room = sheet.room }) (sym no_codes);
+          guest_is = subst (λ x. Agree base (guest base x) (step g).state) (sym state)
+              (subst (Agree base (guest base r.after)) guest_same r.agree);
+          stands = λ i. absurd (true≢false (sym i ∙ h));
+          blocked = λ i. (
+            ap (λ (x : State). (step x).turn) state ∙ r.turn,
+            ap (λ (x : State). x.counter) state ∙ r.counter,
+          );
+        },
+      )
 
   by_test : (b : Bool) → is_obeyed (step g).turn ≡ b → Done ⊎ Blocks
   by_test true h = inl (done h)
