@@ -5,12 +5,14 @@ use Rattle.ed_checker.proofs.Kit.{subst, suc, sym, true, zero, ℕ, ◌%◌, ◌
 use Rattle.ed_checker.proofs.Kit.{◌≡◌, ◌≤◌, and_parts, cases_lt, nat_tests, locations, within, address_of, function_of}
 use Rattle.ed_checker.proofs.Kit.{locations_most, IsStore, kind_of_function, done_at, jump_order, next_word, obey_word}
 use Rattle.ed_checker.proofs.Kit.{Obeyed, step, State, codes_of, is_obeyed, stops_of, if◌then◌else◌, lit≤, Frame, state}
-use Rattle.ed_checker.proofs.Kit.{Path, Agree, CheckerStands, guest, IsAllowed, IsAllowedOrder, turn_orders, HasRun}
+use Rattle.ed_checker.proofs.Kit.{Path, Agree, CheckerStands, guest, IsAllowed, IsAllowedOrder, IsOutsideChecker}
+use Rattle.ed_checker.proofs.Kit.{turn_orders, HasRun}
 use Rattle.ed_routines.proofs.Kit.{le-ltb, lt-ltb, Leads-path}
 use Rattle.std.proofs.Common.{◌||◌, append-nil}
 use Rattle.std.proofs.lemmas.Bool.{eq-eqb, ne_eqb, le-leb, lt-leb}
 use Rattle.ed_words.proofs.SizeLemmas.{within_below}
 use Rattle.ed_machine.specs.declared.turn.Turn.TheVariants.{Went}
+use Rattle.ed_machine.proofs.Kit.Frames.{Beside}
 use Rattle.ed_machine.proofs.Kit.Places.{IsOutside as IsPlaceOutside}
 use Rattle.ed_checker.specs.Checker.{IsPlainJump}
 use Rattle.ed_checker.proofs.AccFits.{acc_fits}
@@ -125,7 +127,13 @@ module _ (base : ℕ) (even_base : base % 2 ≡ 0) (m : State) (store : IsStore 
   high_fits = long_fits base even_base m store 60 refl
 
   saved_now : IsSaved w0.high w0.middle w0.low
-  saved_now = search (rules, low_count, low_fits, low_is, middle_fits, high_fits)
+  saved_now = record {
+    digits = low_count;
+    few = low_fits;
+    low_is = low_is;
+    middle_fits = stands.middle;
+    high_fits = high_fits;
+  }
 
   begins : state f (moment base o w0 0 0 m.last) m.orders ≡ m
   begins =
@@ -137,7 +145,11 @@ module _ (base : ℕ) (even_base : base % 2 ≡ 0) (m : State) (store : IsStore 
   at0_is = let z : base + 0 ≡ base = omega arith in ap (λ j. get_or m.store.words j 0) z ∙ stands.fetch
 
   c_outside : IsPlaceOutside f o.words c
-  c_outside = search rules
+  c_outside = record { below = omega (arith, ok.next); beside = by_side ok.outside }
+    where
+      by_side : IsOutsideChecker base c → Beside o.words base 66 c
+      by_side (inl l) = let all = store.words_are in inl (l, omega (arith, c_fits))
+      by_side (inr g) = inr g
 
   -- the words after the order is copied
   abbrev w1 : Work
@@ -262,7 +274,12 @@ module _ (base : ℕ) (even_base : base % 2 ≡ 0) (m : State) (store : IsStore 
     m2 = r1.state
 
     acc_whole : g.acc < 2 ^ 71
-    acc_whole = search rules
+    acc_whole =
+        let a = high_fits in
+        let b = stands.middle in
+        let d = low_fits in
+        let e : g.acc ≡ w0.high * 2 ^ 36 + 4 * w0.middle + low_count * 2 ^ 32 / 2 ^ 32 = rw (← low_is) refl in
+        rw e (omega arith)
 
     m2_acc : m2.acc < 2 ^ 71
     m2_acc = acc_fits (kind_of_function n) x m1 acc_whole
@@ -274,7 +291,19 @@ module _ (base : ℕ) (even_base : base % 2 ≡ 0) (m : State) (store : IsStore 
     m1_digit j h = get_own false m.store.sandwich (base / 2 + 30) (pairs w2) j h
 
     still : HasCells f w2 m2
-    still = grind (arith, nat_tests, result, a1, m1_word, m1_digit)
+    still = record {
+      size = sym result.size;
+      word_count = result.kept.word_count ∙ a1.word_count ∙ store.words_are;
+      digit_count = result.kept.digit_count ∙ a1.digit_count ∙ store.digits_are;
+      words = λ j h. sym (m1_word j h) ∙ sym (result.kept.words (base + j) (record {
+        from = omega arith;
+        below = omega arith;
+      }));
+      digits = λ j h.
+          let e : (base + (60 + 2 * j)) / 2 ≡ base / 2 + 30 + j = omega arith in
+          let k = result.kept.digits (base + (60 + 2 * j)) (record { from = omega arith; below = omega arith }) in
+          sym (m1_digit j h) ∙ sym (rw e at k);
+    }
 
     pub turned : is_obeyed (step g).turn ≡ true → Turned base m
     turned h =
@@ -364,7 +393,15 @@ module _ (base : ℕ) (even_base : base % 2 ≡ 0) (m : State) (store : IsStore 
 
   -- an E or G order as a word, without further digits
   plain_word : (j : ℕ) → n ≡ j → IsPlainJump base x m.size → x ≡ 4096 * j + 2 * address_of x
-  plain_word j e p = grind (arith, nat_tests)
+  plain_word j e p =
+      let s = p.short in
+      let d = p.plain in
+      let a : x % 2 ≡ 0 = even_of x s in
+      let b : x / 2048 % 2 ≡ 0 = even_of (x / 2048) d in
+      omega arith
+    where
+      even_of : (y : ℕ) → nat_eq (y % 2) 1 ≡ false → y % 2 ≡ 0
+      even_of y h = grind (arith, nat_tests)
 
   step_at : (k : Option Kind) → kind_of_function n ≡ k → step g ≡ obey_word k x g
   unfolding step
