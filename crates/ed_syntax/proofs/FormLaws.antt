@@ -33,8 +33,10 @@ record IsUnlabelled (two : Bool) (ps : List LinePart) : Type 0 where
 word_unlabelled : (two : Bool) (least most : ℕ) (ps : List LinePart) (z : _) (fits : Bool)
     → SpellsInteger least most ps z fits
     → IsUnlabelled two (run (codes "word") ∷ ps) × IsUnlabelled two (run (codes "long") ∷ ps)
-word_unlabelled two least most _ _ _ (positive n e) = search rules
-word_unlabelled two least most _ _ _ (negative n e) = search rules
+word_unlabelled two least most _ _ _ (positive n e) =
+    (record { first = refl; other = refl }, record { first = refl; other = refl })
+word_unlabelled two least most _ _ _ (negative n e) =
+    (record { first = refl; other = refl }, record { first = refl; other = refl })
 
 placed_unlabelled : (two : Bool) (ps : List LinePart) (s : Statement) (fits : Bool) → SpellsPlaced two ps s fits
     → IsUnlabelled two ps
@@ -60,7 +62,8 @@ pub form_is_read : (two : Bool) (k : ℕ) (ps : List LinePart) (x : Form) (fits 
 form_is_read two _ _ _ _ (empty k) short = no_version two k [] refl
 form_is_read two _ _ _ _ (label k a e) short = label_first two k a [] e
 form_is_read two _ _ _ _ (statement k ps s fits h) short =
-    search (rules, statement_unlabelled, no_version, made_ranged, statement_is_read)
+    let u = statement_unlabelled two ps s fits h in
+    no_version two k ps u.other ∙ u.first ∙ made_ranged just _ fits s (statement_is_read two ps s fits h short)
 form_is_read two _ _ _ _ (labelled k a ps s fits e h) short = search (rules, label_first, made_ranged, placed_is_read)
 form_is_read two _ _ _ _ (version n e f) short = version_is_read two n e f
 

@@ -47,7 +47,8 @@ joined_name two a b s e f g = let other = place_name_is_no_number two b f in sim
 
 pub operand_is_read : (two : Bool) (ps : List LinePart) (o : Operand) (fits : Bool) (rest : List LinePart)
     → SpellsOperand two ps o fits → ends rest ≡ true → Grammar.operand two (ps ++ rest) ≡ Some (ranged fits o, rest)
-operand_is_read two _ _ _ rest (number n e) h = search (rules, single_number)
+operand_is_read two _ _ _ rest (number n e) h =
+    alone two n rest h ∙ ap (Grammar.with_rest rest) (single_number two n e)
 operand_is_read two _ _ _ rest (name a e) h = alone two a rest h ∙ ap (Grammar.with_rest rest) (single_name two a e)
 operand_is_read two _ _ _ rest (plus a n e f) h = ap (Grammar.with_rest rest) (joined_number two a n 43 e f)
 operand_is_read two _ _ _ rest (minus a n e f) h = ap (Grammar.with_rest rest) (joined_number two a n 45 e f)

@@ -1,6 +1,6 @@
 -- What one byte, a run and a quoted text make of the parts.
 use Rattle.ed_syntax.proofs.Kit.{[], ap, append_assoc, arith, false, length, length-append, List, map, None, Option}
-use Rattle.ed_syntax.proofs.Kit.{option_map, refl, Some, sym, true, ℕ, ◌++◌, ◌<◌, ◌==◌, ◌∙◌, ◌∷◌, ◌≡◌, ◌≤◌}
+use Rattle.ed_syntax.proofs.Kit.{option_map, refl, Some, sym, true, ℕ, ◌++◌, ◌+◌, ◌<◌, ◌==◌, ◌∙◌, ◌∷◌, ◌≡◌, ◌≤◌}
 use Rattle.ed_syntax.proofs.Kit.{list_all, and_parts, or_parts, append-nil, map-append, Text, is_run_byte, begins_run}
 use Rattle.ed_syntax.proofs.Kit.{has_quote, is_blank, LinePart, quoted, run, sign, part, parts_from, parts_of, rules}
 use Rattle.ed_syntax.proofs.Kit.{with_run_byte, common_steps}
@@ -65,7 +65,11 @@ open_parts q (b ∷ bs) e =
 pub run_takes : (line first rest : Text) → begins_run line ≡ true → SplitsRun line first rest
     → (parts_of line ≡ option_map (λ ps. run first ∷ ps) (parts_of rest)) × (length rest < length line)
 run_takes line [] rest b s = absurd (cc)
-run_takes line (x ∷ xs) rest b s = search (rules, run_parts, length-append)
+run_takes line (x ∷ xs) rest b s = (
+  ap parts_of s.whole ∙ run_parts x xs rest s.each s.end,
+  (let size : length line ≡ length (x ∷ xs) + length rest = ap length s.whole ∙ length-append (x ∷ xs) rest
+      in omega (arith, size)),
+)
 
 -- and what it takes after blanks: a string, nothing as a quote is never closed, or a run
 pub quote_taken : (line here after inside rest : Text) → parts_of line ≡ parts_of here → length here ≤ length line

@@ -2,7 +2,7 @@
 use Rattle.ed_syntax.proofs.Kit.{[], ap, append_assoc, false, List, None, Option, option_map, rules}
 use Rattle.ed_syntax.proofs.Kit.{refl, Some, true, ℕ, ◌++◌, ◌==◌, ◌∙◌, ◌∷◌, ◌≡◌, Decides-eqb}
 use Rattle.ed_syntax.proofs.Kit.{Text, blank, comment, HasLineParts, is_sign, nothing, one_run, one_sign, one_string}
-use Rattle.ed_syntax.proofs.Kit.{is_run_byte, has_quote, is_blank, LinePart, quoted, sign, parts_from, parts_of}
+use Rattle.ed_syntax.proofs.Kit.{is_run_byte, has_quote, is_blank, LinePart, quoted, run, sign, parts_from, parts_of}
 use Rattle.ed_syntax.proofs.Kit.{with_run_byte}
 use Rattle.ed_syntax.proofs.PartLemmas.{blank_parts, run_parts, sign_parts, quote_parts}
 use Rattle.ed_syntax.proofs.Kit.{arith, begins_run, IfSome, nat_tests}
@@ -34,8 +34,10 @@ parts_are_read _ _ (one_sign b text ps e h) =
     let o = other b e in
     sign_parts b text o.comment o.quote o.space o.run_byte
     ∙ ap (option_map (λ t. sign b ∷ t)) (parts_are_read text ps h)
-parts_are_read _ _ (one_string q text ps e h) = search (rules, quote_parts, parts_are_read text ps h)
-parts_are_read _ _ (one_run b r text ps e f h) = search (rules, run_parts, parts_are_read text ps h)
+parts_are_read _ _ (one_string q text ps e h) =
+    quote_parts [] q text e ∙ ap (option_map (λ t. quoted q ∷ t)) (parts_are_read text ps h)
+parts_are_read _ _ (one_run b r text ps e f h) =
+    run_parts b r text e f ∙ ap (option_map (λ t. run (b ∷ r) ∷ t)) (parts_are_read text ps h)
 
 -- ---- what is read is there
 

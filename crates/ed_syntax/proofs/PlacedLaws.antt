@@ -77,10 +77,14 @@ pub placed_is_read : (two : Bool) (ps : List LinePart) (s : Statement) (fits : B
     → list_all is_short ps ≡ true → Grammar.placed_statement two ps ≡ Some (ranged fits s)
 placed_is_read two _ _ _ (order b f e ps o l fits hf ho hl) few =
     order_is_read two b f (ps ++ sign e ∷ []) o l fits hf (order_end_is_read two ps o fits e l ho hl)
-placed_is_read two _ _ _ (bare_order b f e l hf hl) few = search (rules, order_is_read)
-placed_is_read two _ _ _ (word ps z fits h) few = search (rules, made_ranged, integer_is_read)
-placed_is_read two _ _ _ (long ps z fits h v) few = search (rules, made_ranged, integer_is_read)
-placed_is_read two _ _ _ (text q rows h) few = search (rules, string_is_read)
+placed_is_read two _ _ _ (bare_order b f e l hf hl) few =
+    order_is_read two b f (sign e ∷ []) _ l true hf (ap (option_map (λ l. (Some (operands.Number 0), l))) hl)
+placed_is_read two _ _ _ (word ps z fits h) few =
+    made_ranged (λ z. statements.Number (modulo 17 z)) _ fits z (integer_is_read _ _ ps z fits h)
+placed_is_read two _ _ _ (long ps z fits h v) few =
+    rw v (made_ranged (λ z. statements.Long (modulo 35 z)) _ fits z (integer_is_read _ _ ps z fits h))
+placed_is_read two _ _ _ (text q rows h) few =
+    ap (option_map (λ rows. Some (statements.Text (array rows)))) (string_is_read q rows h (and_parts _ true few).0)
 
 -- ---- what is read is spelled: an order
 

@@ -1,7 +1,7 @@
 -- The codes of functions, of settings and of rows, and numbers modulo others, are in their ranges.
-use Rattle.ed_syntax.proofs.Kit.{[], arith, IfSome, List, negsuc}
-use Rattle.ed_syntax.proofs.Kit.{pos, true, unsigned_abs, ℕ, ℤ, ◌<◌, ◌==◌}
-use Rattle.ed_syntax.proofs.Kit.{◌∷◌, ◌≡◌, ◌≤◌, row_of, function, rules}
+use Rattle.ed_syntax.proofs.Kit.{[], arith, Bool, false, IfSome, List, negsuc}
+use Rattle.ed_syntax.proofs.Kit.{pos, refl, subst, true, unsigned_abs, ℕ, ℤ, ◌<◌, ◌==◌, ◌||◌}
+use Rattle.ed_syntax.proofs.Kit.{◌∷◌, ◌≡◌, ◌≤◌, Decides-eqb, row_of, function, rules}
 use Rattle.ed_syntax.proofs.Kit.{setting_letter}
 use Rattle.std.specs.Int.{int_rem_euclid}
 use Rattle.std.specs.List.{list_any}
@@ -19,7 +19,12 @@ EachOf P (x ∷ xs) = P x × EachOf P xs
 -- what holds of each byte of a list holds of a byte that is among them
 among : (P : ℕ → Type 0) (xs : List ℕ) (b : ℕ) → EachOf P xs → list_any (λ c. c == b) xs ≡ true → P b
 among P [] b h e = absurd (cc)
-among P (x ∷ xs) b h e = search (rules, among P xs b h.1)
+among P (x ∷ xs) b h e = by_test (x == b) refl e (among P xs b h.1)
+  where
+    by_test : (c : Bool) → (x == b) ≡ c → (c || list_any (λ y. y == b) xs) ≡ true
+        → (list_any (λ y. y == b) xs ≡ true → P b) → P b
+    by_test true f g more = subst P ((Decides-eqb x b).0 f) h.0
+    by_test false f g more = more g
 
 -- the letters of settings have the codes 21 to 26
 pub letter_within : (b : ℕ) → IfSome (setting_letter b) IsLetter

@@ -14,7 +14,11 @@ use Rattle.ed_syntax.specs.Reading.Grammar
 
 setting_is_read : (two : Bool) (ps rest : List LinePart) (s : Setting) (fits : Bool) → SpellsSetting two ps s fits
     → ends rest ≡ true → Grammar.setting two (ps ++ rest) ≡ Some (ranged fits s, rest)
-setting_is_read two _ rest _ _ (setting b l ps o fits hl ho) h = search (rules, operand_is_read, map_ranged)
+setting_is_read two _ rest _ _ (setting b l ps o fits hl ho) h =
+    ap (option_and_then (λ l. option_map (λ p. (Grammar.letter_setting l p.0, p.1)) (Grammar.operand two (ps ++ rest))))
+    hl
+    ∙ ap (option_map (λ p. (Grammar.letter_setting l p.0, p.1))) (operand_is_read two ps o fits rest ho h)
+    ∙ ap (λ (x : Option Setting). Some (x, rest)) (map_ranged (λ a. record { letter = l; operand = a }) fits o)
 
 both_ranged : (f g : Bool) (s : Setting) (ss : List Setting)
     → Grammar.both (ranged f s) (ranged g ss) ≡ ranged (f && g) (s ∷ ss)
@@ -95,11 +99,13 @@ more_spelled two k parts _ others (first ps [] x whole s) =
       spelled = last ps a fits t;
       few = omega arith;
     }))
-more_spelled two k parts _ others (first ps (sign c ∷ rest) x whole s) = search (rules, if_passed, before_others)
+more_spelled two k parts _ others (first ps (sign c ∷ rest) x whole s) =
+    rw whole (if_passed (c == 44) (λ e. rw ((Decides-eqb c 44).0 e) (before_others two k ps rest x _ s (others rest))))
 more_spelled two k parts _ others s = unread
 
 pub settings_are_spelled : (two : Bool) (k : ℕ) (ps : List LinePart)
     → IsSpelled (SpellsFew two k) ps (Grammar.settings two k ps)
 unfolding Grammar.settings
 settings_are_spelled two zero ps = unread
-settings_are_spelled two (suc k) ps = search (rules, more_spelled, setting_is_spelled, settings_are_spelled two k)
+settings_are_spelled two (suc k) ps =
+    more_spelled two k ps _ (settings_are_spelled two k) (setting_is_spelled two ps)

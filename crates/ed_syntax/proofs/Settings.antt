@@ -1,6 +1,6 @@
 -- Settings, one at a time.
 use Rattle.ed_syntax.proofs.Kit.{[], ap, arith, Bool, Err, List, None, Ok, Option, option_and_then, option_map, refl}
-use Rattle.ed_syntax.proofs.Kit.{Some, suc, zero, ℕ, ◌-◌, ◌<◌, ◌∙◌, ◌∷◌, ◌≡◌, array, LinePart, sign, form_result, rules}
+use Rattle.ed_syntax.proofs.Kit.{Some, suc, zero, ℕ, ◌-◌, ◌<◌, ◌∙◌, ◌∷◌, ◌≡◌, array, LinePart, sign, form_result}
 use Rattle.ed_syntax.proofs.Kit.{Ranged, ranged_map, settings, FormFault, NotThisForm, OutOfRange, Setting}
 use Rattle.arrayvec.specs.ArrayVec.{ArrayVec}
 use Rattle.std.specs.Option.{ok_or}
@@ -10,7 +10,9 @@ step : (two : Bool) (k : ℕ) (parts : List LinePart) → 0 < k
     → settings two k parts ≡ option_and_then (λ p. and_more p.0 p.1 (settings two (k - 1))) (setting two parts)
 unfolding settings
 step two zero parts h = absurd (omega arith)
-step two (suc j) parts h = search rules
+step two (suc j) parts h =
+    let e : j ≡ suc j - 1 = omega arith in
+    ap (λ (n : ℕ). option_and_then (λ p. and_more p.0 p.1 (settings two n)) (setting two parts)) e
 
 pub none_left : (two : Bool) (k : ℕ) (parts : List LinePart) → k ≡ 0 → settings two k parts ≡ None
 unfolding settings

@@ -1,7 +1,7 @@
 -- Statements and forms are read if and only if they are spelled.
-use Rattle.ed_syntax.proofs.Kit.{[], arith, Bool, codes, length, List, None, rules}
-use Rattle.ed_syntax.proofs.Kit.{refl, Some, true, ◌&&◌, ◌∙◌, ◌∷◌, ◌≡◌, list_all, bytes_eq}
-use Rattle.ed_syntax.proofs.Kit.{and_parts, nat_tests, bytes_eq-Decides, Text, data_rows, enter, fetch}
+use Rattle.ed_syntax.proofs.Kit.{[], ap, arith, Bool, codes, length, List, None}
+use Rattle.ed_syntax.proofs.Kit.{option_map, refl, Some, true, ◌&&◌, ◌∙◌, ◌∷◌, ◌≡◌, list_all, bytes_eq}
+use Rattle.ed_syntax.proofs.Kit.{and_parts, nat_tests, bytes_eq-Decides, value, Text, data_rows, enter, fetch}
 use Rattle.ed_syntax.proofs.Kit.{fetch_with, placed, segment, segment_at, SpellsPlaced, SpellsStatement, text, is_name}
 use Rattle.ed_syntax.proofs.Kit.{array, LinePart, run, Statement}
 use Rattle.ed_syntax.proofs.PlacedLaws.{is_short, placed_is_read, placed_is_spelled, number_is_read, string_is_read}
@@ -32,16 +32,21 @@ fetch_is_read two a b parts e f = rw (e, f) refl
 
 pub statement_is_read : (two : Bool) (ps : List LinePart) (s : Statement) (fits : Bool)
     → SpellsStatement two ps s fits → list_all is_short ps ≡ true → Grammar.statement two ps ≡ Some (ranged fits s)
-statement_is_read two _ _ _ (placed ps s fits h) short = search (rules, placed_first, placed_is_read)
+statement_is_read two _ _ _ (placed ps s fits h) short =
+    placed_first two ps s fits h ∙ placed_is_read two ps s fits h short
 statement_is_read two _ _ _ (segment a e) short = segment_is_read a [] e
-statement_is_read two _ _ _ (segment_at a n e f) short = search (rules, segment_is_read, made_ranged, number_is_read)
+statement_is_read two _ _ _ (segment_at a n e f) short =
+    segment_is_read a (run (codes "at") ∷ run n ∷ []) e ∙ made_ranged (statements.Segment a) _ _ _
+    (made_ranged (λ k. Some k) _ _ (value n) (number_is_read 1023 n f))
 statement_is_read two _ _ _ (fetch a b e f) short = fetch_is_read two a b [] e f
 statement_is_read two _ _ _ (fetch_with a b ps ss fits e f h few) short =
     fetch_is_read two a b (run (codes "with") ∷ ps) e f
     ∙ made_ranged (λ ss. statements.Fetch a b (array ss)) _ fits ss
     (settings_are_read two 6 ps ss fits h (grind (arith, nat_tests)))
 statement_is_read two _ _ _ (enter a e) short = rw e refl
-statement_is_read two _ _ _ (data_rows q rows h) short = search (rules, string_is_read)
+statement_is_read two _ _ _ (data_rows q rows h) short =
+    ap (option_map (λ rows. Some (statements.Rows (array rows))))
+    (string_is_read q rows h (and_parts _ true short).0)
 
 -- ---- what is read is spelled: statements
 
