@@ -21,5 +21,9 @@ returns-in_err-find_place-in-Two c =
 
 pub returns-in_err-find_place-in-Two-2 : goal.returns-in_err-find_place-in-Two-2
 returns-in_err-find_place-in-Two-2 c =
-    rw (c.from_residual-in_err-find_place-in-Two-2.ensures, c.in-Two.is, ← c.in_ok-find_place-in-Two.ensures,
-    ← c.in_err-find_place-in-Two-2.ensures) refl
+    rw (
+      c.from_residual-in_err-find_place-in-Two-2.ensures,
+      c.in-Two.is,
+      ← c.in_ok-find_place-in-Two.ensures,
+      ← c.in_err-find_place-in-Two-2.ensures,
+    ) refl
