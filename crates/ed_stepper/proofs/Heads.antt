@@ -93,7 +93,7 @@ pub position_or_len-found : (wanted : ℕ) (text : Text) (i : ℕ) → i < lengt
 position_or_len-found wanted text i below same =
     rw (drop_more text i 0 below, eq-eqb (get_or text i 0) wanted same) refl
 
--- or there is none
+-- or the text has no such byte from there on
 pub position_or_len-nowhere : (wanted : ℕ) (text : Text) (i : ℕ) → length text ≤ i
     → position_or_len (λ b. b == wanted) (drop i text) ≡ 0
 position_or_len-nowhere wanted text i past = ap (position_or_len (λ b. b == wanted)) (drop_all i text past)

@@ -70,7 +70,7 @@ plus_or_minus : (s : ℕ) → (s ≡ 43) ⊎ (s ≡ 45) → is_plus_or_minus s �
 plus_or_minus s (inl e) = rw e refl
 plus_or_minus s (inr e) = rw e refl
 
--- the operand at the front of parts where a plus or a minus joins two runs
+-- the operand at the front of parts in which a plus or a minus joins two runs
 pub joined_read : {ps after joins rest : List Part} {a b c : Part} {r n : Bor Text} {s : ℕ} (two : Bool)
     → ps ≡ a ∷ after → a ≡ Run r → after ≡ b ∷ joins → b ≡ Sign s → joins ≡ c ∷ rest → c ≡ Run n
     → (s ≡ 43) ⊎ (s ≡ 45)

@@ -1,7 +1,8 @@
 use Rattle.ed_link.proofs.Kit.{append_assoc, ap, arith, drop, is_some, length-append, Line, refl, sym, ◌+◌, ◌∙◌, ◌∷◌}
 use Rattle.ed_link.proofs.Kit.{◌≡◌, drop_more}
 use Rattle.ed_link.proofs.Kit.{[], append-nil, data_after, entry_from, fault_from, List, placed_from, punched_from}
-use Rattle.ed_link.proofs.Kit.{put_all, unwrap_or, ◌++◌, LinesBefore, Option, SourceCause, or_later, past_of, after_statement}
+use Rattle.ed_link.proofs.Kit.{put_all, unwrap_or, ◌++◌, LinesBefore, Option, SourceCause, or_later, past_of}
+use Rattle.ed_link.proofs.Kit.{after_statement}
 use Rattle.std.proofs.lemmas.List.{at_drop_all}
 use Rattle.ed_link.proofs.Bounds.{items_few}
 use Rattle.ed_link.proofs.Lengths.{empty_length, put_all_append, put_all_length}

@@ -20,7 +20,8 @@ returns-clause-is c =
     c.in_ok-push-2.ensures.items
     ∙ ap (λ (xs : List ℕ). c.loop-row.text.items ++ xs)
     (sym (at_drop_all (line_from true) c.args.rows.now c.loop-row.row-index c.loop-row-test.false))
-    ∙ c.loop-row.invariant.0 ∙ ap (λ (xs : List ℕ). c.args.text.now.items ++ xs) (sym (some_text c.args.rows.now c.if-is_empty.ensures))
+    ∙ c.loop-row.invariant.0
+    ∙ ap (λ (xs : List ℕ). c.args.text.now.items ++ xs) (sym (some_text c.args.rows.now c.if-is_empty.ensures))
 
 pub returns-clause-spells : goal.returns-clause-spells
 returns-clause-spells c =
