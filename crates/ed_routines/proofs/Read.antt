@@ -9,6 +9,7 @@ use Rattle.ed_machine.proofs.Kit.Orders.{word_is}
 use Rattle.ed_machine.proofs.Kit.Paths.{followed}
 use Rattle.ed_machine.proofs.Kit.Places.{IsOutside}
 use Rattle.ed_machine.proofs.Kit.Shifts.{L1F}
+use Rattle.ed_machine.proofs.Kit.Sums.{Remains}
 use Rattle.ed_routines.proofs.Called.{Call, moment}
 
 -- the cells that change: the order that returns, the number so far, the row, and a spare cell
@@ -48,6 +49,30 @@ pub record Around (call : Call 24 0) (h : ℕ) (ws : List ℕ) : Type 0 where
   pub room : call.from + 3 ≤ call.frame.top
   pub away : IsOutside call.frame ws h
 
+-- the arithmetic of a digit row: each number at the upper end of the accumulator
+taken : (v : ℕ) → v < 2 ^ 17 → (0 + v * 2 ^ 18 * 2 ^ 36) % 2 ^ 71 ≡ v * 2 ^ 54
+taken v low = omega arith
+
+less_ten : (c : ℕ) → c < 10 → Remains (c * 2 ^ 54) (10 * 2 ^ 18 * 2 ^ 36) ((c + (2 ^ 17 - 10)) * 2 ^ 54)
+less_ten c low = (omega arith, omega arith)
+
+is_high : (c : ℕ) → 2 ^ 70 ≤ (c + (2 ^ 17 - 10)) * 2 ^ 54
+is_high c = omega arith
+
+doubled : (v x : ℕ) → (2 * v) % 2 ^ 17 ≡ x → v * 2 ^ 54 * 2 ^ 1 % 2 ^ 71 ≡ x * 2 ^ 54
+doubled v x is = omega arith
+
+eightfold : (v x : ℕ) → (2 * v) % 2 ^ 17 ≡ x → x * 2 ^ 54 * 2 ^ 2 % 2 ^ 71 ≡ ((8 * v) % 2 ^ 17) * 2 ^ 54
+eightfold v x is = omega arith
+
+tenfold : (v x : ℕ) → (2 * v) % 2 ^ 17 ≡ x
+    → (((8 * v) % 2 ^ 17) * 2 ^ 54 + x * 2 ^ 18 * 2 ^ 36) % 2 ^ 71 ≡ ((10 * v) % 2 ^ 17) * 2 ^ 54
+tenfold v x is = omega arith
+
+with_digit : (v c u : ℕ) → (10 * v + c) % 2 ^ 17 ≡ u
+    → (((10 * v) % 2 ^ 17) * 2 ^ 54 + c * 2 ^ 18 * 2 ^ 36) % 2 ^ 71 ≡ u * 2 ^ 54
+with_digit v c u is = omega arith
+
 module _ (call : Call 24 0) (h : ℕ) where
   open call use {frame as f, behind, from as m}
 
@@ -62,16 +87,16 @@ module _ (call : Call 24 0) (h : ℕ) where
       let twice = sums.0 in
       let sum = sums.1 in
       on (I 3 (own 22) c refl refl refl)
-      (on (A 4 (own 22) (short c) refl (omega arith))
-      (on (S 5 (own 20) (short (c + (2 ^ 17 - 10))) refl (omega arith))
-      (on (E_stays 6 (own 16) refl (omega arith))
+      (on (A 4 (own 22) (short c) refl (taken c (omega arith)))
+      (on (S 5 (own 20) (short (c + (2 ^ 17 - 10))) refl (less_ten c d))
+      (on (E_stays 6 (own 16) refl (is_high c))
       (on (T 7 (own 23) _ refl refl)
-      (on (A 8 (own 21) (short v) refl (omega arith))
-      (on (L 9 LD (short x) refl (omega arith))
+      (on (A 8 (own 21) (short v) refl (rw is (taken v low)))
+      (on (L 9 LD (short x) refl (doubled v x twice))
       (on (U 10 (own 23) _ refl refl)
-      (on (L 11 L1F (short ((8 * v) % 2 ^ 17)) refl (omega arith))
-      (on (A 12 (own 23) (short ((10 * v) % 2 ^ 17)) refl (omega arith))
-      (on (A 13 (own 22) (short u) refl (omega arith))
+      (on (L 11 L1F (short ((8 * v) % 2 ^ 17)) refl (eightfold v x twice))
+      (on (A 12 (own 23) (short ((10 * v) % 2 ^ 17)) refl (tenfold v x twice))
+      (on (A 13 (own 22) (short u) refl (with_digit v c u sum))
       (on (T 14 (own 21) _ refl refl)
       (on (E_jumps 15 (own 3) refl (lit< tt)) stay))))))))))))
 

@@ -1,5 +1,5 @@
 -- Loops of a path: its turn is a path, and so is the whole.
-use Rattle.ed_machine.proofs.Names.{common_steps, List, suc, zero, ◌++◌, ◌*◌, [], arith, ℕ, ◌+◌, ◌<◌, ◌∷◌, ◌≡◌}
+use Rattle.ed_machine.proofs.Names.{List, suc, zero, ◌++◌, ◌*◌, [], arith, ℕ, ◌+◌, ◌<◌, ◌∷◌, ◌≡◌}
 use Rattle.ed_machine.proofs.Kit.Frames.{Frame, Moment}
 use Rattle.ed_machine.proofs.Kit.Paths.{Path, stay, followed}
 
@@ -28,14 +28,16 @@ module _ {n h : ℕ} {f : Frame n h} {k : ℕ} where
       → Path f (turns * k) (at 0) (printed code turns) (at turns)
   rounds at code zero turn = let e : 0 * k ≡ 0 = omega arith in rw e stay
   rounds at code (suc t) turn =
-      grind (arith, common_steps, (followed (rounds at code t (λ i l. turn i (omega arith))) (turn t (omega arith))))
+      let e : suc t * k ≡ t * k + k = omega arith in
+      rw e (followed (rounds at code t (λ i l. turn i (omega arith))) (turn t (omega arith)))
 
   -- one that prints nothing
   pub quiet_rounds : (at : ℕ → Moment) (turns : ℕ) → ((i : ℕ) → i < turns → Path f k (at i) [] (at (suc i)))
       → Path f (turns * k) (at 0) [] (at turns)
   quiet_rounds at zero turn = let e : 0 * k ≡ 0 = omega arith in rw e stay
   quiet_rounds at (suc t) turn =
-      grind (arith, common_steps, (followed (quiet_rounds at t (λ i l. turn i (omega arith))) (turn t (omega arith))))
+      let e : suc t * k ≡ t * k + k = omega arith in
+      rw e (followed (quiet_rounds at t (λ i l. turn i (omega arith))) (turn t (omega arith)))
 
 -- ---- a loop that walks a list and prints nothing, whose turns are of different lengths: the moments have, besides the
 -- items that are left, an x; Fine says of it what the turn needs. The moment when no item is left is the one after the
