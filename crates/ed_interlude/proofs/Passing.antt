@@ -5,7 +5,7 @@ use Rattle.ed_interlude.proofs.Kit.{State, state_after, TapeEntry, Failed, Memor
 use Rattle.ed_interlude.proofs.Kit.{returned_line, entry_done, entry_report, finished, Finishes, first_part, GoesBack}
 use Rattle.ed_interlude.proofs.Kit.{LeadsTo, part_after, part_entry_state, part_report, PartsReport, read_before}
 use Rattle.ed_interlude.proofs.Kit.{ReportsParts, ReturnsToLoader, TapePart, Ahead, directive, IsReturned, PartsEnd}
-use Rattle.std.proofs.Common.{◌%◌, Result, Ok, IfOk, Vec, rules}
+use Rattle.std.proofs.Common.{◌%◌, Result, Ok, IfOk, Vec}
 use Rattle.std.specs.declared.alloc.Global.{Global}
 use Rattle.ed_words.specs.Words.{order_of}
 use Rattle.ed_words.specs.declared.memory.NoMemory.{NoMemory}
@@ -15,7 +15,7 @@ use Rattle.ed_io.specs.Bytes.{Gains, GainsPart}
 use Rattle.ed_io.specs.declared.stop.WriteStop.{WriteStop}
 use Rattle.ed_report.specs.Entries.{entry_line}
 use Rattle.ed_interlude.specs.Parts.{PartsAnswer, IsReportOfTape, BreaksPart, ReachesPart, PartLine, WritesLine}
-use Rattle.ed_interlude.specs.Parts.{return_report}
+use Rattle.ed_interlude.specs.Parts.{of_entry, of_return, return_report}
 use Rattle.ed_interlude.specs.Private.Stages.{BreaksReport, Passes}
 use Rattle.ed_interlude.specs.declared.part.PartOutcome.TheVariants.{Ended as PartEnded, Returned as PartReturned}
 use Rattle.ed_interlude.proofs.Parting.{Opens}
@@ -27,11 +27,21 @@ use Rattle.ed_interlude.proofs.Tales.{behind_opens, from_entry, some_told}
 
 -- a prefix of a text is one of a longer text
 longer : (a b : Option (List ℕ)) (xs ys text : List ℕ) → text ≡ xs ++ ys → GainsPart a b xs → GainsPart a b text
-longer a b xs ys text is g = search (rules, append_assoc)
+longer a b xs ys text is g = record {
+  part = g.part;
+  rest = g.rest ++ ys;
+  whole = is ∙ ap (λ t. t ++ ys) g.whole ∙ append_assoc g.part g.rest ys;
+  gains = g.gains;
+}
 
 -- a text, and a prefix of the one after it
 and_part : (a b c : Option (List ℕ)) (xs ys : List ℕ) → Gains a b xs → GainsPart b c ys → GainsPart a c (xs ++ ys)
-and_part a b c xs ys whole g = search (rules, append_assoc, gains_more)
+and_part a b c xs ys whole g = record {
+  part = xs ++ g.part;
+  rest = g.rest;
+  whole = ap (λ t. xs ++ t) g.whole ∙ sym (append_assoc xs g.part g.rest);
+  gains = gains_more a b c xs g.part whole g.gains;
+}
 
 module _ (limit rows : ℕ) (p : TapePart) where
   -- ---- what breaks off
@@ -73,7 +83,15 @@ module _ (limit rows : ℕ) (p : TapePart) where
   pub line_stops : {l : PartLine} {last : State} (a c d : Option (List ℕ)) → WritesLine limit rows p l → last ≡ l.state
       → Gains a c l.before → (fault : WriteStop) → GainsPart c d l.text → (fault ≡ Memory → d ≡ c)
       → BreaksPart limit rows p fault last a d
-  line_stops {l} a c d is state before Failed g same = search (rules, gains_more)
+  line_stops {l} a c d is state before Failed g same = record {
+    line = l;
+    is = is;
+    state_is = state;
+    part = g.part;
+    rest = g.rest;
+    whole = g.whole;
+    gains = gains_more a c d l.before g.part before g.gains;
+  }
   line_stops {l} a c d is state before Memory g same =
       inr (record { line = l; is = is; state_is = state; gains = rw (same refl) before })
 
@@ -90,7 +108,9 @@ module _ {limit rows : ℕ} {p first : TapePart} {a c : Option (List ℕ)} (h : 
   -- the part breaks off
   pub tells_part : BreaksReport limit rows p c d
       → (m : ℕ) × (t : PartsReport) × ReportsParts limit rows m first t × GainsPart a d t.text
-  tells_part b = search (rules, and_part)
+  tells_part b =
+      let whole = h.completes b.returns b.tale b.told in
+      (whole.0, _, whole.1, and_part a c d h.text b.tale.text h.gains b.gains)
 
   -- it is the last one
   pub tells_all : {end : PartsEnd} {last : State} → Passes limit rows p (Ok (PartEnded end)) last c d
@@ -126,7 +146,12 @@ pub returned_is : {limit : ℕ} {p : TapePart} (b : GoesBack limit p) {last : St
     → last ≡ (part_after p b).state → word ≡ directive last → order ≡ order_of word → done ≡ (part_after p b).done
     → returned_line order.address done ≡ return_report p b
 returned_is {limit} {p} b {last} {word} {done} {order} is is_word is_order count =
-    search (rules, directive, address, address_is)
+    let leaves = b.comes.home.leaves in
+    let whole : word ≡ directive (part_after p b).state = is_word ∙ ap directive is in
+    let same : order.address ≡ address (directive (part_after p b).state) =
+    ap (λ (o : Order). o.address) is_order
+    ∙ address_is (directive (part_after p b).state) word whole leaves.least leaves.most in
+    λ i. returned_line (same i) (count i)
 
 -- a text that was made, as an equal text
 pub made_as : (r : Result (Vec ℕ Global) NoMemory) (xs ys : List ℕ) → xs ≡ ys
@@ -148,7 +173,9 @@ module _ (limit : ℕ) (p : TapePart) (e : TapeEntry) {cost : ℕ} {m : State} (
 
   pub finishes_there : {k : ℕ} {ending : Ending} → Finishes (limit - (p.done + cost)) k m ending
       → Finishes (limit - entry_done p e) k (part_entry_state p e) ending
-  finishes_there {k} {ending} f = search (rules, part_entry_state-there, left_is)
+  finishes_there {k} {ending} f =
+      subst (λ (s : State). Finishes (limit - entry_done p e) k s ending) part_entry_state-there
+      (subst (λ n. Finishes n k m ending) left_is f)
 
   abbrev pub back_from : {k : ℕ} → LeadsTo p e → p.done + cost ≤ limit → ReturnsToLoader (limit - (p.done + cost)) k m
       → GoesBack limit p
@@ -163,6 +190,47 @@ module _ (limit : ℕ) (p : TapePart) (e : TapeEntry) {cost : ℕ} {m : State} (
 
   pub behind_is : (k : ℕ) {last : State} → last ≡ state_after k m → last ≡ state_after k (part_entry_state p e)
   behind_is k is = is ∙ ap (λ (s : State). state_after k s) part_entry_state-there
+
+-- the line of the entry breaks off, as the code writes it
+pub breaks_entry : (limit rows : ℕ) (p : TapePart) (e : TapeEntry) (a c : Option (List ℕ)) {cost : ℕ} {m : State}
+    → LeadsTo p e → cost ≡ e.cost → m ≡ state_after cost p.state → entry_done p e ≤ limit → (fault : WriteStop)
+    → GainsPart a c (entry_report rows p e) → (fault ≡ Memory → c ≡ a) → Passes limit rows p (Err fault) m a c
+breaks_entry limit rows p e a c leads same at within fault gains memory = (
+  entry_breaks limit rows p e leads within gains,
+  line_stops limit rows p a a c (of_entry e leads within refl) (part_entry_state-there limit p e same at) (gains_none a)
+      fault gains memory,
+)
+
+-- the lines of a part that returned, as the code writes them: the line of the entry was written
+module _ (rows : ℕ) (r : Result (Vec ℕ Global) NoMemory) (a b d : Option (List ℕ)) {limit : ℕ} {p : TapePart}
+    {e : TapeEntry} {cost k word : ℕ} {m last : State} {order : Order} (leads : LeadsTo p e) (same : cost ≡ e.cost)
+    (at : m ≡ state_after cost p.state) (within : p.done + cost ≤ limit)
+    (h : ReturnsToLoader (limit - (p.done + cost)) k m) (is : last ≡ state_after k m) (is_word : word ≡ directive last)
+    (is_order : order ≡ order_of word)
+    (made : IfOk r (λ bytes. bytes.items ≡ returned_line order.address (p.done + cost + k)))
+    (whole : Gains a b (entry_report rows p e)) where
+  abbrev went_back : GoesBack limit p
+  went_back = back_from limit p e same at leads within h
+
+  last_is : last ≡ (part_after p went_back).state
+  last_is = behind_is limit p e same at k is
+
+  done_is : p.done + cost + k ≡ (part_after p went_back).done
+  done_is = ap (λ n. p.done + n + k) same
+
+  told_is : IfOk r (λ bytes. bytes.items ≡ return_report p went_back)
+  told_is = made_as r _ _ (returned_is went_back last_is is_word is_order done_is) made
+
+  pub passes_back : ((text : List ℕ) → IfOk r (λ bytes. bytes.items ≡ text) → Gains b d text)
+      → Passes limit rows p (Ok (PartReturned (p.done + cost + k))) last a d
+  passes_back g = (went_back, done_is, last_is, gains_more a b d _ _ whole (g _ told_is))
+
+  pub breaks_back : (fault : WriteStop) → ((text : List ℕ) → IfOk r (λ bytes. bytes.items ≡ text) → GainsPart b d text)
+      → (fault ≡ Memory → d ≡ b) → Passes limit rows p (Err fault) last a d
+  breaks_back fault g memory = (
+    return_breaks limit rows p went_back whole (g _ told_is),
+    line_stops limit rows p a b d (of_return went_back refl) last_is whole fault (g _ told_is) memory,
+  )
 
 -- the part after a return: the rows that it has left, and the orders counted in its state and up to it
 pub record Later (limit : ℕ) (p q : TapePart) : Type 0 where

@@ -1,10 +1,9 @@
 use Rattle.ed_interlude.proofs.Kit.{Err, err_from_is_err_and, ap, arith, refl, ℕ, ◌+◌, ◌-◌, ◌<◌, ◌∙◌, ◌≡◌, ◌≤◌}
-use Rattle.ed_interlude.proofs.Kit.{stop_faults, gains_more, gains_none, cut, entry_done, finished, part_after}
+use Rattle.ed_interlude.proofs.Kit.{stop_faults, gains_none, cut, entry_done, finished}
 use Rattle.ed_interlude.proofs.Kit.{part_at_start}
-use Rattle.ed_interlude.specs.Parts.{of_entry, of_return}
 use Rattle.ed_interlude.specs.declared.part.PartOutcome.{PartOutcome}
-use Rattle.ed_interlude.proofs.Passing.{back_from, behind_is, entry_breaks, entry_is, finishes_there, made_as}
-use Rattle.ed_interlude.proofs.Passing.{line_stops, return_breaks, returned_is, part_entry_state-there}
+use Rattle.ed_interlude.proofs.Passing.{behind_is, breaks_back, breaks_entry, entry_is, finishes_there, made_as}
+use Rattle.ed_interlude.proofs.Passing.{passes_back}
 use Rattle.ed_interlude.proofs.Programs.{home_within}
 use Rattle.ed_interlude.proofs.part.enter_part.Goals as goal
 
@@ -39,12 +38,8 @@ returns-in_err-write_line g c =
     let e = err_from_is_err_and c.from_residual.result c.from_residual.ensures.1 in
     let gains = c.in_err-write_line.ensures.whole _ (made_as _ _ _ line c.entry_text.ensures) in
     rw (e.1, e.2) (record {
-      passes = (
-        entry_breaks c.args.part_start.limit c.args.part_start.rows p a.0 a.1.leads within gains,
-        line_stops c.args.part_start.limit c.args.part_start.rows p _ _ _ (of_entry a.0 a.1.leads within refl)
-            (part_entry_state-there c.args.part_start.limit p a.0 a.1.orders_are c.obey_next-2.ensures.state)
-            (gains_none _) c.in_err-write_line.field-0.0 gains c.in_err-write_line.ensures.memory,
-      );
+      passes = breaks_entry _ c.args.part_start.rows p a.0 _ _ a.1.leads a.1.orders_are c.obey_next-2.ensures.state
+          within c.in_err-write_line.field-0.0 gains c.in_err-write_line.ensures.memory;
       faults = c.in_err-write_line.ensures.faults;
     })
 
@@ -78,22 +73,12 @@ returns-in_ok-write_line-in-Returned g c =
     let p = part_at_start c.args.part_start c.args.machine.now in
     let line = entry_is c.args.part_start.rows p a.0 a.1.at_is a.1.orders_are a.1.rows_are in
     let m = c.in-Returned.ensures.meets in
-    let l = c.args.part_start.limit in
-    let b =
-    back_from l p a.0 a.1.orders_are c.obey_next-2.ensures.state a.1.leads
-    (still_left _ _ _ _ c.if-left-arrival.false refl c.requires.done) m.0 in
-    let last = behind_is l p a.0 a.1.orders_are c.obey_next-2.ensures.state c.in-Returned.orders m.1 in
-    let count : c.args.part_start.done + c.args.arrival.orders + c.in-Returned.orders ≡ (part_after p b).done =
-    ap (λ n. c.args.part_start.done + n + c.in-Returned.orders) a.1.orders_are in
-    let told = returned_is b last c.directive.ensures c.order-address.ensures.is count in
     record {
-      passes = (
-        b,
-        count,
-        last,
-        gains_more _ _ _ _ _ (c.in_ok-write_line.ensures.whole _ (made_as _ _ _ line c.entry_text.ensures))
-            (c.in_ok-write_line-in-Returned.ensures.whole _ (made_as _ _ _ told c.returned_text.ensures)),
-      );
+      passes = passes_back c.args.part_start.rows _ _ _ _ a.1.leads a.1.orders_are c.obey_next-2.ensures.state
+          (still_left _ _ _ _ c.if-left-arrival.false refl c.requires.done) m.0 m.1 c.directive.ensures
+          c.order-address.ensures.is c.returned_text.ensures
+          (c.in_ok-write_line.ensures.whole _ (made_as _ _ _ line c.entry_text.ensures))
+          c.in_ok-write_line-in-Returned.ensures.whole;
       faults = c.in_ok-write_line-in-Returned.ensures.faults ∙ c.in_ok-write_line.ensures.faults;
     }
 
@@ -103,26 +88,15 @@ returns-in_err-write_line-in-Returned g c =
     let p = part_at_start c.args.part_start c.args.machine.now in
     let line = entry_is c.args.part_start.rows p a.0 a.1.at_is a.1.orders_are a.1.rows_are in
     let m = c.in-Returned.ensures.meets in
-    let l = c.args.part_start.limit in
-    let b =
-    back_from l p a.0 a.1.orders_are c.obey_next-2.ensures.state a.1.leads
-    (still_left _ _ _ _ c.if-left-arrival.false refl c.requires.done) m.0 in
-    let last = behind_is l p a.0 a.1.orders_are c.obey_next-2.ensures.state c.in-Returned.orders m.1 in
-    let count : c.args.part_start.done + c.args.arrival.orders + c.in-Returned.orders ≡ (part_after p b).done =
-    ap (λ n. c.args.part_start.done + n + c.in-Returned.orders) a.1.orders_are in
-    let told = returned_is b last c.directive.ensures c.order-address.ensures.is count in
-    let whole = c.in_ok-write_line.ensures.whole _ (made_as _ _ _ line c.entry_text.ensures) in
     let failed = c.in_err-write_line-in-Returned in
     let r = c.from_residual-in_err-write_line-in-Returned in
     let e = err_from_is_err_and r.result r.ensures.1 in
-    let gains = failed.ensures.whole _ (made_as _ _ _ told c.returned_text.ensures) in
     rw (e.1, e.2) (record {
-      passes = (
-        return_breaks l c.args.part_start.rows p b whole gains,
-        line_stops l c.args.part_start.rows p _ _ _ (of_return b refl) last whole failed.field-0.0 gains
-            failed.ensures.memory,
-      );
-      faults = c.in_err-write_line-in-Returned.ensures.faults
-          ∙ ap (stop_faults {T = PartOutcome} (Err c.in_err-write_line-in-Returned.field-0.0))
-          c.in_ok-write_line.ensures.faults;
+      passes = breaks_back c.args.part_start.rows _ _ _ _ a.1.leads a.1.orders_are c.obey_next-2.ensures.state
+          (still_left _ _ _ _ c.if-left-arrival.false refl c.requires.done) m.0 m.1 c.directive.ensures
+          c.order-address.ensures.is c.returned_text.ensures
+          (c.in_ok-write_line.ensures.whole _ (made_as _ _ _ line c.entry_text.ensures)) failed.field-0.0
+          failed.ensures.whole failed.ensures.memory;
+      faults = failed.ensures.faults
+          ∙ ap (stop_faults {T = PartOutcome} (Err failed.field-0.0)) c.in_ok-write_line.ensures.faults;
     })

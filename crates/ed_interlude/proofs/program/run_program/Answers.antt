@@ -52,3 +52,18 @@ returns-clause-meets c =
       at_limit (omega (arith, c.loop-done-test.false, c.loop-done.auto.done-end)) r away,
       r.state,
     )
+
+pub returns-in-Stopped-clause-orders : goal.returns-in-Stopped-clause-orders
+returns-in-Stopped-clause-orders c =
+    omega (arith, c.loop-done.invariant.orders, c.step.ensures.count, c.loop-done-test.true)
+
+pub returns-in-NoOrder-clause-orders : goal.returns-in-NoOrder-clause-orders
+returns-in-NoOrder-clause-orders c =
+    omega (arith, c.loop-done.invariant.orders, c.step.ensures.count, c.loop-done-test.true)
+
+pub returns-in-NoTape-clause-orders : goal.returns-in-NoTape-clause-orders
+returns-in-NoTape-clause-orders c =
+    omega (arith, c.loop-done.invariant.orders, c.step.ensures.count, c.loop-done-test.true)
+
+pub returns-clause-orders : goal.returns-clause-orders
+returns-clause-orders c = omega (arith, c.loop-done.invariant.orders, c.loop-done.auto.done-end)
