@@ -1,8 +1,7 @@
 -- A table keeps its length; how words are put into it.
 use Rattle.ed_link.proofs.Kit.{length-set, [], arith, length, List, None, Option, refl, replicate}
 use Rattle.ed_link.proofs.Kit.{set, Some, sym, ℕ, ◌++◌, ◌+◌, ◌∙◌, ◌∷◌, ◌≡◌, length-replicate}
-use Rattle.ed_link.specs.Tables.{place_word}
-use Rattle.ed_link.proofs.Kit.{words_from, append_assoc, append-nil, placed_words, empty_table, put_all, rules}
+use Rattle.ed_link.proofs.Kit.{placed_words, empty_table, put_all, rules}
 
 -- words that are put into a table leave its length
 pub put_all_length : (table : List (Option ℕ)) (ps : List (ℕ × ℕ)) → length (put_all table ps) ≡ length table
@@ -30,12 +29,6 @@ pub placed_push : (place : ℕ) (ws : List ℕ) (w : ℕ)
     → placed_words place (ws ++ w ∷ []) ≡ placed_words place ws ++ (place + length ws, w) ∷ []
 placed_push place [] w = let e : place + 0 ≡ place = omega arith in rw e refl
 placed_push place (v ∷ ws) w = search (rules, placed_push (place + 1) ws w)
-
--- the words of a table with one more cell
-pub words_push : (place : ℕ) (table : List (Option ℕ)) (w : Option ℕ)
-    → words_from place (table ++ w ∷ []) ≡ words_from place table ++ place_word (place + length table) w
-words_push place [] w = let e : place + 0 ≡ place = omega arith in rw (append-nil, e) refl
-words_push place (v ∷ table) w = search (rules, append_assoc, words_push (place + 1) table w)
 
 -- one more word is put
 pub put_push : (table : List (Option ℕ)) (ps : List (ℕ × ℕ)) (p : ℕ × ℕ)

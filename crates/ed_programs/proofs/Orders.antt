@@ -195,11 +195,12 @@ module _ {n h : ℕ} (f : Frame n h) where
       one i v r x (ap (λ (ws : List (ℕ × (Bool × Bool))). get_or ws 0 (0, (false, false))) e) o.0
       (path_of os y.cell y.number y.rest (ap (λ (ws : List (ℕ × (Bool × Bool))). drop 1 ws) e) o.1)
 
--- the orders from cell i on, with v in the accumulator, are these: by their words and by their numbers
+-- a moment of the program with these words and cells; its accumulator and its counter are those of the path
 abbrev around : List ℕ → List Bool → List ℕ → List Bool → ℕ → List ℕ → Option ℕ → Moment
 around ws ds cs ps m t l =
     record { words = ws; digits = ds; cells = cs; pairs = ps; acc = 0; multiplier = m; counter = 0; tape = t; last = l }
 
+-- the orders from cell i on, with v in the accumulator, are these: by their words and by their numbers
 pub obeys : {n h : ℕ} {f : Frame n h} {ws : List ℕ} {ds : List Bool} {cs : List ℕ} {ps : List Bool} {m : ℕ}
     {t : List ℕ} {l : Option ℕ} (i v : ℕ) (os : List Order)
     → words_at f os i v (around ws ds cs ps m t l) ≡ words_of f os i v (around ws ds cs ps m t l)
