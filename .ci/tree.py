@@ -149,13 +149,22 @@ def without_generics(text):
 
 
 def exported(name):
-    """The names that the root file of a library declares or passes on, apart from those of its public modules."""
-    root = CRATES / name / "src" / "lib.rt"
-    text = root.read_text()
-    names = {item.group(2) for item in map(ITEM.match, lines_above_tests(root)) if item}
-    for group in re.findall(r"^pub use [\w:]+::(\{[^}]*\}|\w+);", text, re.M):
-        names |= {name.strip() for name in group.strip("{}").split(",") if name.strip()}
-    return names
+    """The names that the root file of a library declares or passes on from its own files, apart from those of its public
+    modules."""
+    names = {item.group(2) for item in map(ITEM.match, lines_above_tests(root_file(name))) if item}
+    return names | {passed for source, passed in passed_on(name) if source not in stands_on()}
+
+
+def passed_on(name):
+    """The names that the root file of a library passes on, each after the module or the crate that it is taken from."""
+    for path, group in re.findall(r"^pub use ([\w:]+)::(\{[^}]*\}|\w+);", root_file(name).read_text(), re.M):
+        for passed in filter(None, (part.strip() for part in group.strip("{}").split(","))):
+            yield path.partition("::")[0], passed
+
+
+def root_file(name):
+    """The root file of a library."""
+    return CRATES / name / "src" / "lib.rt"
 
 
 def unread(name):
@@ -189,7 +198,7 @@ def unread(name):
 
 def public_modules(name):
     """The modules that the root file of a library declares as public. All their public items are the library's too."""
-    return re.findall(r"^pub mod (\w+);", (CRATES / name / "src" / "lib.rt").read_text(), re.M)
+    return re.findall(r"^pub mod (\w+);", root_file(name).read_text(), re.M)
 
 
 # ---- the pages

@@ -2,9 +2,9 @@
 
 use crate::faults::{Device, Run, calls_fail};
 use crate::support::{Row, expect, expect_each, expect_usage};
-use ed_answers::started;
 use ed_codes::tape_of_text;
 use ed_machine::Machine;
+use ed_tapes::started;
 use ed_words::Size;
 use std::alloc::Global;
 use std::process::Abort;

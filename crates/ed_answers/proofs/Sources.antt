@@ -1,23 +1,27 @@
--- From what is made of a source to the outcome of an input.
-use Rattle.ed_answers.proofs.Kit.{IsErr, IsErrAnd, NoMemory, Size, paper, Ending, RunEnd, Settings, Window, State}
-use Rattle.ed_answers.proofs.Kit.{text_of, HasFormFault, SourceCause, SourceFault, At, Memory, Line, Err, IfErr, IfOk}
-use Rattle.ed_answers.proofs.Kit.{Ok, Result, Text, IsProgram, HasMeaningFault, Linked, Placed, [], ap, append-nil}
-use Rattle.ed_answers.proofs.Kit.{Bool, inl, inr, List, map, Option, refl, subst, sym, ℕ, ◌++◌, ◌∙◌, ◌≡◌, canonicals}
-use Rattle.ed_answers.proofs.Kit.{IsLinked, after_text, listing, ending_line, entry_state, done, Outcome, for_form}
-use Rattle.ed_answers.proofs.Kit.{for_meaning, IsAcceptedAs, IsRefused, Gives, Replies, post_mortem_codes, ran_outcome}
-use Rattle.ed_answers.proofs.Kit.{run_of, status_of, with_post_mortem, listing_outcome, of_source, OfSource}
-use Rattle.ed_answers.proofs.Kit.{punch_outcome, run_outcome, Rejection, Reply}
+-- From what is made of a source to the reply.
+use Rattle.ed_words.specs.declared.memory.NoMemory.{NoMemory}
+use Rattle.ed_words.specs.declared.size.Size.{Size}
+use Rattle.ed_run.specs.declared.settings.Settings.{Settings}
+use Rattle.ed_lines.specs.declared.fault.SourceCause.{SourceCause}
+use Rattle.ed_lines.specs.declared.fault.SourceFault.{SourceFault}
+use Rattle.ed_lines.specs.declared.fault.SourceFault.TheVariants.{At, Memory}
+use Rattle.ed_lines.specs.declared.program.Line.{Line}
+use Rattle.ed_link.specs.declared.linked.Linked.{Linked}
+use Rattle.ed_link.specs.declared.linked.Placed.{Placed}
+use Rattle.ed_tapes.specs.declared.reply.Rejection.{Rejection}
+use Rattle.ed_tapes.specs.declared.reply.Reply.{Reply}
+use Rattle.ed_headline.proofs.Kit.{IsErr, IsErrAnd, paper, State, text_of, HasFormFault, Err, IfErr, IfOk, Ok, Result}
+use Rattle.ed_headline.proofs.Kit.{Text, IsProgram, HasMeaningFault, Bool, List, map, refl, subst, ℕ, ◌++◌, ◌≡◌}
+use Rattle.ed_headline.proofs.Kit.{canonicals, IsLinked, after_text, listing, entry_state, done, Outcome, for_form}
+use Rattle.ed_headline.proofs.Kit.{for_meaning, IsAcceptedAs, IsRefused, Gives, Replies, post_mortem_codes, status_of}
+use Rattle.ed_headline.proofs.Kit.{listing_outcome, of_source, punch_outcome, run_outcome}
 use Rattle.ed_report.specs.Notes.{source_fault_line}
-use Rattle.ed_answers.specs.FromEntry.{EachAnswerIsFromEntry}
-use Rattle.ed_answers.specs.Headline.{Headline}
-use Rattle.ed_answers.specs.Replies.{Refuses, LinksSource, RunsSource}
+use Rattle.ed_tapes.specs.Replies.{Refuses}
+use Rattle.ed_answers.specs.SourceReplies.{LinksSource, RunsSource}
 use Rattle.ed_answers.specs.declared.source.NotedRun.{NotedRun}
-use Rattle.ed_answers.proofs.EachSource.{one_answer}
-use Rattle.ed_answers.proofs.Entries.{each_source}
-use Rattle.ed_answers.proofs.EntryWords.{each_entry_store_is}
-use Rattle.ed_answers.proofs.FromEntry.{answers_from_entry, runs_from_entry}
-use Rattle.ed_answers.proofs.Replies.{passed_on}
-use Rattle.ed_answers.specs.declared.reply.Rejection.TheVariants as rejection
+use Rattle.ed_headline.proofs.Sources.{accepted_is, some_outcome}
+use Rattle.ed_tapes.proofs.Replies.{passed_on, ran_gives}
+use Rattle.ed_tapes.specs.declared.reply.Rejection.TheVariants as rejection
 use Rattle.std.proofs.Common.{rules}
 
 -- ---- what is made of a source
@@ -25,29 +29,6 @@ use Rattle.std.proofs.Common.{rules}
 -- a rejection with a reply is not the rejection `Memory`
 never : {reply : Reply} → ◌≡◌ {A = Rejection} (rejection.Refused reply) rejection.Memory → ⊥
 never same = cc
-
-pub accepted_is : (z : Size) (accepted : List Line → Outcome) (text : Text) (lines : List Line)
-    → IsAcceptedAs z text lines → OfSource z accepted text (accepted lines)
-accepted_is z accepted text lines a = inr (lines, a, refl)
-
--- a source has an outcome, and only one
-pub some_outcome : (z : Size) (accepted : List Line → Outcome) (text : Text)
-    → (o : Outcome) × OfSource z accepted text o
-some_outcome z accepted text =
-    elim (one_answer.every z text) [
-      | inl a ↦ (accepted a.0, inr (a.0, a.1, refl))
-      | inr r ↦ (_, inl (r.0, r.1, r.2, refl))
-    ]
-
-pub source_outcome : (z : Size) (accepted : List Line → Outcome) (text : Text) (o other : Outcome)
-    → OfSource z accepted text o → OfSource z accepted text other → o ≡ other
-source_outcome z accepted text o other (inl r) (inl q) = search (rules, one_answer)
-source_outcome z accepted text o other (inl r) (inr b) =
-    absurd (one_answer.never_both z text b.0 r.0 r.1 b.1 r.2)
-source_outcome z accepted text o other (inr a) (inl q) =
-    absurd (one_answer.never_both z text a.0 q.0 q.1 a.1 q.2)
-source_outcome z accepted text o other (inr a) (inr b) =
-    sym a.2 ∙ ap accepted (one_answer.one_program z text a.0 b.0 a.1 b.1) ∙ b.2
 
 -- a fault of form
 pub form_refused : (z : Size) {text : Text} {f : SourceFault} → HasFormFault text f → (line : ℕ) (cause : SourceCause)
@@ -111,42 +92,7 @@ pub source_unanswered : (z : Size) (accepted : List Line → Outcome) (input : T
 source_unanswered z accepted input r =
     passed_on (of_source z accepted) input r rejection.Memory (source_rejected z accepted input rejection.Memory tt)
 
--- ---- that it is run from its entry
-
-pub headline : Headline
-headline = record {
-  runs = λ s source lines a.
-      runs_from_entry s lines (each_source s.size source lines a) (each_entry_store_is s.size source lines a);
-  refuses = λ z source none.
-      elim (one_answer.every z source) [ inl accepted ↦ absurd (none accepted.0 accepted.1) | inr refused ↦ refused ];
-}
-
-pub each_answer_is_from_entry : EachAnswerIsFromEntry
-each_answer_is_from_entry s source lines a = answers_from_entry s lines (each_source s.size source lines a)
-
 -- ---- the reply of a run
-
-pub ran_gives : (window : Option Window) (before : Text) {note : Text} (r : RunEnd) {ending : Ending} {state : State}
-    {codes : List ℕ} {reply : Reply}
-    → ending ≡ r.ending → state ≡ r.state → codes ≡ r.codes → note ≡ before ++ ending_line ending state
-    → Gives reply (record {
-      out = paper (codes ++ post_mortem_codes window state);
-      note = note;
-      status = status_of ending;
-    })
-    → Gives reply (ran_outcome before (with_post_mortem window r))
-ran_gives window before {note} r {ending} {state} {codes} {reply} e s c n gives = search rules
-
--- without a post-mortem
-pub ran_gives_alone : (r : RunEnd) {ending : Ending} {state : State} {codes : List ℕ} {reply : Reply}
-    → ending ≡ r.ending → state ≡ r.state → codes ≡ r.codes
-    → Gives reply (record {
-      out = paper (codes ++ []);
-      note = ending_line ending state;
-      status = status_of ending;
-    })
-    → Gives reply (ran_outcome [] r)
-ran_gives_alone r {reply = reply} e s c gives = search (rules, append-nil, ran_gives)
 
 -- of a source that is accepted
 pub run_replied : (s : Settings) (input : Text) (noted : NotedRun) (reply : Reply) → RunsSource s input (Ok noted)

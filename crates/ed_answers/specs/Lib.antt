@@ -1,13 +1,1 @@
-pub mod Refusals
-pub mod EntryState
-pub mod EntryWords
-pub mod Outcome
-pub mod Answer
-pub mod Runs
-pub mod Tapes
-pub mod Sources
-pub mod FirstOrders
-pub mod Replies
-pub mod Headline
-pub mod FromEntry
-pub mod BothSizes
+pub mod SourceReplies

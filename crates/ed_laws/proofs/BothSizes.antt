@@ -9,7 +9,7 @@ use Rattle.ed_words.specs.declared.size.Size.TheVariants.{Small}
 use Rattle.ed_run.specs.declared.settings.Window.{Window}
 use Rattle.ed_machine.proofs.Names.{address_of, jump_order, place_of, row_order}
 use Rattle.ed_machine.specs.Steps.{next_progress}
-use Rattle.ed_answers.specs.BothSizes.{EachSize, NamesBelow, RunStaysBelow, StaysBelow}
+use Rattle.ed_headline.specs.BothSizes.{EachSize, NamesBelow, RunStaysBelow, StaysBelow}
 
 -- ---- one order
 

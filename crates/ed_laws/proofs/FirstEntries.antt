@@ -1,6 +1,6 @@
 -- The run of a tape without a fault for Initial Orders 1 is the run from the state at its entry.
 use Rattle.ed_laws.proofs.Kit.{AllWent, Full, ran_later, ReachesEntry1, Tape, List, refl, ℕ, first_state1}
-use Rattle.ed_answers.proofs.Kit.{length-append, length-drop, length-replicate}
+use Rattle.ed_headline.proofs.Kit.{length-append, length-drop, length-replicate}
 use Rattle.ed_initial1.proofs.Kit.{at_entry1, IsStarted1}
 use Rattle.ed_machine.specs.State.{cleared_state}
 use Rattle.ed_initial1.proofs.Opened.{HasItsLengths}
@@ -9,7 +9,7 @@ use Rattle.ed_initial1.proofs.Started.{is_started}
 use Rattle.ed_initial1.proofs.Walks.{Reaches}
 use Rattle.ed_initial1.proofs.Whole.{leads_in}
 use Rattle.ed_laws.specs.FirstEntry.{EachProgramRunsFrom31, cost1}
-use Rattle.ed_answers.proofs.FromEntry.{run_end-silent}
+use Rattle.ed_headline.proofs.FromEntry.{run_end-silent}
 use Rattle.std.proofs.Common.{rules}
 
 pub first_store : (codes : List ℕ) → HasItsLengths (first_state1 codes).store

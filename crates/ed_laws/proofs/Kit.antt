@@ -39,21 +39,21 @@ unfoldable pub use Rattle.ed_notation.proofs.Kit.{reading_on}
 pub use Rattle.ed_initial.proofs.Starts.{first_store, IsStarted-first_state}
 pub use Rattle.ed_postmortem.proofs.Kit.{Obeyed, address_digits, is_even, length_code, number_in, word_codes}
 unfoldable pub use Rattle.ed_postmortem.proofs.Kit.{printed_codes}
-pub use Rattle.ed_syntax.specs.declared.program.Line.{Line}
+pub use Rattle.ed_lines.specs.declared.program.Line.{Line}
 pub use Rattle.ed_link.specs.Faults.{on_line}
 pub use Rattle.ed_laws.specs.FirstFaults.{silent_outcome}
 pub use Rattle.ed_laws.specs.Limits.{StartsWith, with_limit}
-pub use Rattle.ed_answers.specs.Tapes.{opening_notation}
-pub use Rattle.ed_answers.proofs.Kit.{[], ap, append-nil, append_assoc, arith, Bool, codes, drop, false, get_or}
-pub use Rattle.ed_answers.proofs.Kit.{if◌then◌else◌, inl, inr, length, List, map, nat_eq, nat_le, nat_lt, None, Option}
-pub use Rattle.ed_answers.proofs.Kit.{refl, replicate, rules, Some, subst, suc, sym, true, true≢false, ℕ, ◌++◌, ◌+◌}
-pub use Rattle.ed_answers.proofs.Kit.{◌-◌, ◌<◌, ◌^◌, ◌∙◌, ◌∷◌, ◌≡◌, ◌≢◌, ◌≤◌, ◌⊎◌, nat_tests, Text, reading, paper}
-pub use Rattle.ed_answers.proofs.Kit.{State, Progress, state_after, least_below, AllWent, end_at, end_by, EndsAfter}
-pub use Rattle.ed_answers.proofs.Kit.{run_orders, RunEnd, ran_ends, ran_later, TapeEntry, over, ReachesEntry1, Tape}
-pub use Rattle.ed_answers.proofs.Kit.{entry_of, cost, tape, ending_line, entry_note, Outcome, refusal, IsAcceptedAs}
-pub use Rattle.ed_answers.proofs.Kit.{paper_room, ran_outcome, run_of, status_of, with_post_mortem, entered_before}
-pub use Rattle.ed_answers.proofs.Kit.{OfSource, punch_outcome, run_outcome, tape_outcome, post_mortem_codes}
-unfoldable pub use Rattle.ed_answers.proofs.Kit.{step, progress, run_end, first_state, first_state1}
+pub use Rattle.ed_tapes.specs.Tapes.{opening_notation}
+pub use Rattle.ed_headline.proofs.Kit.{[], ap, append-nil, append_assoc, arith, Bool, codes, drop, false, get_or}
+pub use Rattle.ed_headline.proofs.Kit.{if◌then◌else◌, inl, inr, length, List, map, nat_eq, nat_le, nat_lt, None, Option}
+pub use Rattle.ed_headline.proofs.Kit.{refl, replicate, rules, Some, subst, suc, sym, true, true≢false, ℕ, ◌++◌, ◌+◌}
+pub use Rattle.ed_headline.proofs.Kit.{◌-◌, ◌<◌, ◌^◌, ◌∙◌, ◌∷◌, ◌≡◌, ◌≢◌, ◌≤◌, ◌⊎◌, nat_tests, Text, reading, paper}
+pub use Rattle.ed_headline.proofs.Kit.{State, Progress, state_after, least_below, AllWent, end_at, end_by, EndsAfter}
+pub use Rattle.ed_headline.proofs.Kit.{run_orders, RunEnd, ran_ends, ran_later, TapeEntry, over, ReachesEntry1, Tape}
+pub use Rattle.ed_headline.proofs.Kit.{entry_of, cost, tape, ending_line, entry_note, Outcome, refusal, IsAcceptedAs}
+pub use Rattle.ed_headline.proofs.Kit.{paper_room, ran_outcome, run_of, status_of, with_post_mortem, entered_before}
+pub use Rattle.ed_headline.proofs.Kit.{OfSource, punch_outcome, run_outcome, tape_outcome, post_mortem_codes}
+unfoldable pub use Rattle.ed_headline.proofs.Kit.{step, progress, run_end, first_state, first_state1}
 unfoldable pub use Rattle.ed_stepper.specs.MoveEnds.{move_end}
 pub use Rattle.ed_stepper.proofs.Kit.{is_some, not, slice_index_or, ◌==◌, AreObeyed, is_obeyed, first_once}
 pub use Rattle.ed_stepper.proofs.Kit.{first_within, after_sum, free_sum, trace_to}

@@ -2,7 +2,7 @@
 use Rattle.ed_laws.proofs.Kit.{RunEnd, Settings, State, progress, run_end, entry_of, cost, ap, arith, Some, sym, ℕ, ◌-◌}
 use Rattle.ed_laws.proofs.Kit.{◌∙◌, ◌≡◌, entry_note, Outcome, paper_room, ran_outcome, with_post_mortem}
 use Rattle.ed_laws.proofs.Kit.{each_answer_is_from_entry, [], Limit, limit_there}
-use Rattle.ed_answers.proofs.Kit.{linked_places, listing, entry_state}
+use Rattle.ed_headline.proofs.Kit.{linked_places, listing, entry_state}
 use Rattle.ed_laws.specs.Listed.{EachListedIsLoaded, up_to_entry}
 
 -- a run of no order leaves the state unchanged, and prints nothing

@@ -9,7 +9,7 @@ use Rattle.std.proofs.Common.{position, flat_map}
 use Rattle.ed_printer.specs.Paper.{letters_printed, shift_after, struck_bytes}
 use Rattle.ed_printer.specs.declared.printer.Shift.TheVariants.{Letters, Figures}
 use Rattle.ed_printer.proofs.Silent.{eleven_silent, fifteen_silent}
-use Rattle.ed_answers.specs.Runs.{post_mortem_codes}
+use Rattle.ed_tapes.specs.Runs.{post_mortem_codes}
 use Rattle.ed_laws.specs.PrintedLines.{EachLineIsOfItsWord, IsSameOnPaper, is_silent, printed_line}
 use Rattle.ed_laws.proofs.Limits.{after_others}
 use Rattle.ed_laws.proofs.ReadBack.{word_codes-laid}

@@ -15,11 +15,11 @@ use Rattle.ed_link.proofs.Kit.{punched_from, punched_items, routine_items, use_i
 use Rattle.ed_words.specs.Words.{digit as one_if}
 use Rattle.ed_notation.specs.Spellings.{text_of}
 use Rattle.ed_syntax.specs.Forms.{data_rows as data_statement}
-use Rattle.ed_syntax.specs.declared.fault.SourceCause.TheVariants.{Overlap, StoreEnd}
-use Rattle.ed_syntax.specs.declared.program.Setting.{Setting}
-use Rattle.ed_syntax.specs.declared.program.Statement.{Statement}
-use Rattle.ed_syntax.specs.declared.program.Statement.TheVariants.{Segment, Order, Number, Text as Letters, Long, Fetch}
-use Rattle.ed_syntax.specs.declared.program.Statement.TheVariants.{Enter, Rows}
+use Rattle.ed_lines.specs.declared.fault.SourceCause.TheVariants.{Overlap, StoreEnd}
+use Rattle.ed_lines.specs.declared.program.Setting.{Setting}
+use Rattle.ed_lines.specs.declared.program.Statement.{Statement}
+use Rattle.ed_lines.specs.declared.program.Statement.TheVariants.{Segment, Order, Number, Text as Letters, Long, Fetch}
+use Rattle.ed_lines.specs.declared.program.Statement.TheVariants.{Enter, Rows}
 use Rattle.ed_syntax.proofs.LineLaws.{few_bytes}
 use Rattle.ed_syntax.proofs.PlacedLaws.{is_short}
 use Rattle.ed_symbols.specs.declared.location_counter.LocationCounter.{LocationCounter}

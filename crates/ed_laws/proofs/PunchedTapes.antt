@@ -1,9 +1,9 @@
 -- What `punch` writes is the tape that `run` runs.
 use Rattle.ed_laws.proofs.Kit.{inl, refl, replicate, ℕ}
-use Rattle.ed_answers.proofs.Kit.{arrival, length-replicate}
+use Rattle.ed_headline.proofs.Kit.{arrival, length-replicate}
 use Rattle.ed_laws.specs.PunchedTapes.{EachPunchedIsRun}
-use Rattle.ed_answers.proofs.EachSource.{each_source as comes_to}
-use Rattle.ed_answers.proofs.PunchedTexts.{text_is_tape}
+use Rattle.ed_headline.proofs.EachSource.{each_source as comes_to}
+use Rattle.ed_headline.proofs.PunchedTexts.{text_is_tape}
 
 pub each_punched_is_run : EachPunchedIsRun
 each_punched_is_run s source lines accepted =

@@ -4,9 +4,9 @@ use Rattle.ed_laws.proofs.Kit.{Outcome, IsAcceptedAs, OfSource, punch_outcome}
 use Rattle.ed_top.proofs.Kit.{CommandList, on_rows, OnText}
 use Rattle.std.proofs.lemmas.List.{length-replicate}
 use Rattle.ed_link.specs.Tapes.{arrival}
-use Rattle.ed_answers.proofs.EachSource.{each_source as comes_to, one_answer}
+use Rattle.ed_headline.proofs.EachSource.{each_source as comes_to, one_answer}
 use Rattle.ed_laws.proofs.PunchedTapes.{each_punched_is_run}
-use Rattle.ed_answers.proofs.PunchedTexts.{text_is_tape}
+use Rattle.ed_headline.proofs.PunchedTexts.{text_is_tape}
 use Rattle.ed_top.specs.Scripts.{on_reading}
 use Rattle.ed_laws.specs.PunchedTexts.{EachPunchedTextIsSource}
 use Rattle.ed_laws.proofs.PunchedBytes.{punched_short}

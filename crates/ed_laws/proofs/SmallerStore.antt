@@ -3,13 +3,13 @@ use Rattle.ed_laws.proofs.Kit.{Full, Settings, TapeCause, is_broken, WellFormed,
 use Rattle.ed_laws.proofs.Kit.{Line, on_line, ap, arith, inl, inr, List, Option, rules, true, ℕ, ◌≡◌, nat_tests, Text}
 use Rattle.ed_laws.proofs.Kit.{Outcome, refusal, IsAcceptedAs, OfSource}
 use Rattle.ed_words.specs.declared.size.Size.TheVariants.{Small}
-use Rattle.ed_syntax.specs.declared.fault.SourceCause.{SourceCause}
+use Rattle.ed_lines.specs.declared.fault.SourceCause.{SourceCause}
 use Rattle.ed_link.specs.Faults.{LineHasCause, SourceHasFault, no_enter}
-use Rattle.ed_answers.specs.BothSizes.{with_store}
-use Rattle.ed_answers.specs.Outcome.{done}
-use Rattle.ed_answers.specs.Tapes.{IsChecked}
+use Rattle.ed_headline.specs.BothSizes.{with_store}
+use Rattle.ed_tapes.specs.Outcome.{done}
+use Rattle.ed_tapes.specs.Tapes.{IsChecked}
 use Rattle.ed_laws.specs.SmallerStore.{EachSmallIsFull}
-use Rattle.ed_syntax.specs.declared.fault.SourceCause.TheVariants as causes
+use Rattle.ed_lines.specs.declared.fault.SourceCause.TheVariants as causes
 
 -- ---- tapes
 

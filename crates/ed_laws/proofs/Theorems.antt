@@ -16,7 +16,7 @@ use Rattle.ed_laws.specs.Stepped.{EachStepIsRun}
 use Rattle.ed_laws.specs.TapeEntries.{EachTapeRunsFromEntry}
 use Rattle.ed_laws.specs.TapeFacts.{NotationFacts}
 use Rattle.ed_laws.specs.TraceAccounts.{EachTraceAccounts}
-use Rattle.ed_answers.specs.BothSizes.{EachSize}
+use Rattle.ed_headline.specs.BothSizes.{EachSize}
 use Rattle.ed_laws.specs.FirstFaults.{EachFaultyTapeWaits1}
 use Rattle.ed_laws.specs.Listed.{EachListedIsLoaded}
 use Rattle.ed_laws.proofs.BlockedGuests.{each_guest_is_blocked}

@@ -10,16 +10,16 @@ use Rattle.ed_machine.specs.declared.ending.Ending.{Ending}
 use Rattle.ed_machine.specs.declared.ending.Ending.TheVariants.{NoOrder}
 use Rattle.ed_run.specs.Run.{end_by, run_end}
 use Rattle.ed_run.specs.declared.settings.Settings.{Settings}
-use Rattle.ed_syntax.specs.declared.program.Line.{Line}
+use Rattle.ed_lines.specs.declared.program.Line.{Line}
 use Rattle.ed_link.specs.Linked.{entry_of}
 use Rattle.ed_link.specs.Tapes.{cost}
 use Rattle.ed_report.specs.Notes.{ending_line, entry_note}
 use Rattle.ed_checker.specs.Checker.{IsAllowed, checked_codes, checked_orders, guest, planting_place, saving_orders}
 use Rattle.ed_checker.specs.Laws.{HasGuest, IsFollowed}
-use Rattle.ed_answers.specs.EntryState.{entry_state}
-use Rattle.ed_answers.specs.Refusals.{IsAcceptedAs}
-use Rattle.ed_answers.specs.Runs.{paper_room, status_of}
-use Rattle.ed_answers.specs.Sources.{run_outcome}
+use Rattle.ed_headline.specs.EntryState.{entry_state}
+use Rattle.ed_headline.specs.Refusals.{IsAcceptedAs}
+use Rattle.ed_tapes.specs.Runs.{paper_room, status_of}
+use Rattle.ed_headline.specs.Sources.{run_outcome}
 
 -- the first q orders of a guest are allowed and obeyed, none of them is a stop, and the next one is allowed and can't
 -- be obeyed: it is not an order, or it reads a tape with no row left

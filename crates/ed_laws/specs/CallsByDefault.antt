@@ -4,10 +4,10 @@ use Rattle.ed_words.specs.declared.size.Size.TheVariants.{Full}
 use Rattle.ed_run.specs.declared.settings.Settings.{Settings}
 use Rattle.ed_library.specs.declared.call.Call.{Call}
 use Rattle.ed_library.specs.CallRanges.{IsCallInRange}
-use Rattle.ed_syntax.specs.declared.program.Line.{Line}
+use Rattle.ed_lines.specs.declared.program.Line.{Line}
 use Rattle.ed_link.specs.Tapes.{cost}
-use Rattle.ed_answers.specs.Answer.{IsDue}
-use Rattle.ed_answers.specs.Refusals.{IsAcceptedAs}
+use Rattle.ed_tapes.specs.Answer.{IsDue}
+use Rattle.ed_headline.specs.Refusals.{IsAcceptedAs}
 use Rattle.ed_sources.specs.CallSources.{call_text}
 use Rattle.ed_sources.specs.Costs.{call_cost}
 use Rattle.ed_sources.specs.CallRuns.{EachMostIsTaken, call_orders, call_outcome, most_call_orders}

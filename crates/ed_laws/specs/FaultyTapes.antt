@@ -14,9 +14,9 @@ use Rattle.ed_initial.specs.Entry.{first_state}
 use Rattle.ed_initial.specs.Waits.{AwaitsRow, waiting_place}
 use Rattle.ed_report.specs.Notes.{rule_line}
 use Rattle.ed_laws.specs.FirstFaults.{silent_outcome}
-use Rattle.ed_answers.specs.Outcome.{Outcome, refusal}
-use Rattle.ed_answers.specs.Runs.{post_mortem_codes}
-use Rattle.ed_answers.specs.Tapes.{IsChecked, opening_notation, tape_outcome}
+use Rattle.ed_tapes.specs.Outcome.{Outcome, refusal}
+use Rattle.ed_tapes.specs.Runs.{post_mortem_codes}
+use Rattle.ed_tapes.specs.Tapes.{IsChecked, opening_notation, tape_outcome}
 use Rattle.ed_top.specs.Parts.{IsInParts}
 
 -- a run of a tape that ends after k orders at a location and has printed nothing, with its post-mortem

@@ -7,8 +7,8 @@ use Rattle.ed_initial1.specs.Faults.{Tape, ReachesEntry1}
 use Rattle.ed_report.specs.Entries.{entry_line}
 use Rattle.ed_laws.specs.FirstEntry.{RunsFrom31, cost1}
 use Rattle.ed_laws.specs.FirstFaults.{silent_outcome}
-use Rattle.ed_answers.specs.FirstOrders.{IsChecked1, first_state1, tape1_outcome}
-use Rattle.ed_answers.specs.Outcome.{done}
+use Rattle.ed_tapes.specs.FirstOrders.{IsChecked1, first_state1, tape1_outcome}
+use Rattle.ed_tapes.specs.Outcome.{done}
 
 -- `check-tape1` reports the entry at 31, its cost and its rows, and `tape1` runs from there. With a limit below the
 -- cost nothing is printed, the note is `limit at C after K`, K the limit, and the status is 4.

@@ -7,8 +7,8 @@ use Rattle.ed_run.specs.declared.settings.Settings.{Settings}
 use Rattle.ed_initial1.specs.Checks.{report1}
 use Rattle.ed_initial1.specs.Entry.{at_entry1}
 use Rattle.ed_initial1.specs.Faults.{Tape, ReachesEntry1}
-use Rattle.ed_answers.specs.FirstOrders.{first_state1, tape1_outcome}
-use Rattle.ed_answers.specs.Runs.{paper_room, ran_outcome}
+use Rattle.ed_tapes.specs.FirstOrders.{first_state1, tape1_outcome}
+use Rattle.ed_tapes.specs.Runs.{paper_room, ran_outcome}
 
 -- the number of orders that load a tape
 abbrev pub cost1 : Tape → ℕ

@@ -9,8 +9,8 @@ use Rattle.ed_initial1.specs.Faults.{IsFault1, IsRead1}
 use Rattle.ed_initial1.specs.Waits.{AwaitsRow1, orders_before1, waiting_place1}
 use Rattle.ed_report.specs.Notes.{at_after}
 use Rattle.ed_report.specs.FirstNotes.{rule1_line}
-use Rattle.ed_answers.specs.FirstOrders.{IsChecked1, first_state1, tape1_outcome}
-use Rattle.ed_answers.specs.Outcome.{Outcome, line, refusal}
+use Rattle.ed_tapes.specs.FirstOrders.{IsChecked1, first_state1, tape1_outcome}
+use Rattle.ed_tapes.specs.Outcome.{Outcome, line, refusal}
 
 -- a run that ends after k orders at a location and has printed nothing: the note `NAME at C after K`, and the status
 abbrev pub silent_outcome : Text → ℕ → ℕ → ℕ → Outcome

@@ -1,13 +1,13 @@
 -- What a greater limit changes (this project's own rules): nothing, if the run ended before its limit; else the run
 -- continues from the state in which it was cut off.
 use Rattle.std.specs.Prelude.{◌≡◌, ◌≢◌, ℕ, ◌≤◌, List, ◌++◌, None}
-use Rattle.ed_syntax.specs.declared.program.Line.{Line}
+use Rattle.ed_lines.specs.declared.program.Line.{Line}
 use Rattle.ed_words.specs.Texts.{Text}
 use Rattle.ed_run.specs.declared.settings.Settings.{Settings}
-use Rattle.ed_answers.specs.Outcome.{Outcome}
-use Rattle.ed_answers.specs.FirstOrders.{tape1_outcome}
-use Rattle.ed_answers.specs.Tapes.{tape_outcome}
-use Rattle.ed_answers.specs.Sources.{run_outcome}
+use Rattle.ed_tapes.specs.Outcome.{Outcome}
+use Rattle.ed_tapes.specs.FirstOrders.{tape1_outcome}
+use Rattle.ed_tapes.specs.Tapes.{tape_outcome}
+use Rattle.ed_headline.specs.Sources.{run_outcome}
 
 -- the same settings with another limit
 abbrev pub with_limit : ℕ → Settings → Settings

@@ -3,17 +3,17 @@ use Rattle.std.specs.Prelude.{◌≡◌, List, Some}
 use Rattle.ed_machine.specs.Steps.{state_after}
 use Rattle.ed_printer.specs.Paper.{paper}
 use Rattle.ed_postmortem.specs.Codes.{printed_codes}
-use Rattle.ed_syntax.specs.declared.program.Line.{Line}
-use Rattle.ed_answers.specs.Refusals.{IsAcceptedAs}
+use Rattle.ed_lines.specs.declared.program.Line.{Line}
+use Rattle.ed_headline.specs.Refusals.{IsAcceptedAs}
 use Rattle.ed_link.specs.Tapes.{cost, tape}
 use Rattle.ed_link.specs.Words.{linked_places}
-use Rattle.ed_answers.specs.EntryState.{entry_store}
+use Rattle.ed_headline.specs.EntryState.{entry_store}
 use Rattle.ed_report.specs.Listings.{listing}
 use Rattle.ed_words.specs.Texts.{Text}
 use Rattle.ed_run.specs.declared.settings.Settings.{Settings}
 use Rattle.ed_run.specs.declared.settings.Window.{Window}
 use Rattle.ed_initial.specs.Entry.{first_state}
-use Rattle.ed_answers.specs.Sources.{listing_outcome, run_outcome}
+use Rattle.ed_headline.specs.Sources.{listing_outcome, run_outcome}
 
 -- the same settings for a run up to the entry, with a post-mortem of a window
 abbrev pub up_to_entry : Settings → List Line → Window → Settings

@@ -2,12 +2,12 @@
 use Rattle.std.specs.Prelude.{◌≡◌, ◌≢◌, ℕ, ◌≤◌, List, None}
 use Rattle.ed_words.specs.Texts.{Text}
 use Rattle.ed_run.specs.declared.settings.Settings.{Settings}
-use Rattle.ed_syntax.specs.declared.program.Line.{Line}
-use Rattle.ed_answers.specs.FirstOrders.{tape1_outcome}
+use Rattle.ed_lines.specs.declared.program.Line.{Line}
+use Rattle.ed_tapes.specs.FirstOrders.{tape1_outcome}
 use Rattle.ed_laws.specs.Limits.{EachLimit, StartsWith, with_limit}
-use Rattle.ed_answers.specs.Outcome.{Outcome}
-use Rattle.ed_answers.specs.Sources.{run_outcome}
-use Rattle.ed_answers.specs.Tapes.{tape_outcome}
+use Rattle.ed_tapes.specs.Outcome.{Outcome}
+use Rattle.ed_headline.specs.Sources.{run_outcome}
+use Rattle.ed_tapes.specs.Tapes.{tape_outcome}
 use Rattle.ed_top.specs.Parts.{IsInParts}
 use Rattle.ed_top.specs.Traces.{letters_in, trace_outcome}
 

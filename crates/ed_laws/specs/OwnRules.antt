@@ -15,7 +15,7 @@ use Rattle.ed_machine.specs.declared.ending.Ending.TheVariants.{Stopped, Limit}
 use Rattle.ed_run.specs.Run.{RunEnd, end_by, run_end, run_orders}
 use Rattle.ed_run.specs.declared.settings.Settings.{Settings}
 use Rattle.ed_initial.specs.Entry.{first_state}
-use Rattle.ed_answers.specs.Runs.{paper_room, run_of}
+use Rattle.ed_tapes.specs.Runs.{paper_room, run_of}
 use Rattle.ed_stepper.specs.Traces.{trace_to}
 use Rattle.ed_top.specs.Traces.{letters_in}
 

@@ -10,7 +10,7 @@ use Rattle.ed_printer.specs.declared.printer.Shift.TheVariants.{Letters}
 use Rattle.ed_machine.specs.State.{State}
 use Rattle.ed_run.specs.declared.settings.Window.{Window}
 use Rattle.ed_postmortem.specs.Codes.{address_digits, is_even, number_in}
-use Rattle.ed_answers.specs.Runs.{post_mortem_codes}
+use Rattle.ed_tapes.specs.Runs.{post_mortem_codes}
 
 -- the line of a word: what the code of its function prints in letter shift, the number of its address
 -- (`AddressDigitsLaw` says that these digits are its decimal text), F for an even word and D for an odd one, and a new

@@ -1,16 +1,16 @@
 -- What `punch` writes is the tape that `run` runs (this project's own rules).
 use Rattle.std.specs.Prelude.{◌≡◌, List, length}
 use Rattle.ed_codes.specs.Reading.{reading, rows}
-use Rattle.ed_syntax.specs.declared.program.Line.{Line}
+use Rattle.ed_lines.specs.declared.program.Line.{Line}
 use Rattle.ed_link.specs.Linked.{entry_of}
-use Rattle.ed_answers.specs.Refusals.{IsAcceptedAs}
+use Rattle.ed_headline.specs.Refusals.{IsAcceptedAs}
 use Rattle.ed_link.specs.Tapes.{cost, punched_rows, tape}
 use Rattle.ed_report.specs.Entries.{entry_line}
 use Rattle.ed_words.specs.Texts.{Text}
 use Rattle.ed_run.specs.declared.settings.Settings.{Settings}
-use Rattle.ed_answers.specs.Outcome.{done}
-use Rattle.ed_answers.specs.Tapes.{IsChecked, tape_outcome}
-use Rattle.ed_answers.specs.Sources.{punch_outcome, run_outcome}
+use Rattle.ed_tapes.specs.Outcome.{done}
+use Rattle.ed_tapes.specs.Tapes.{IsChecked, tape_outcome}
+use Rattle.ed_headline.specs.Sources.{punch_outcome, run_outcome}
 
 -- the text that `punch` writes for these lines is that of a tape, and its rows are those of the source's tape. On that
 -- tape `tape` prints what `run` prints for the source and ends with its status, for the same limit, resumes, size and

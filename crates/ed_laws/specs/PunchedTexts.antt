@@ -3,15 +3,15 @@ use Rattle.std.specs.Prelude.{◌↔◌, ◌≤◌, List, length}
 use Rattle.ed_words.specs.Texts.{Text}
 use Rattle.ed_store.specs.Cells.{cleared_cells}
 use Rattle.ed_run.specs.declared.settings.Settings.{Settings}
-use Rattle.ed_syntax.specs.declared.program.Line.{Line}
+use Rattle.ed_lines.specs.declared.program.Line.{Line}
 use Rattle.ed_link.specs.Tapes.{arrival, tape}
 use Rattle.ed_stepper.specs.ScriptLines.{CommandList}
 use Rattle.ed_stepper.specs.declared.inputs.TextKind.TheVariants as kinds
-use Rattle.ed_answers.specs.declared.input.TheConstants.{INPUT_BYTES}
-use Rattle.ed_answers.specs.Outcome.{Outcome}
+use Rattle.ed_tapes.specs.declared.input.TheConstants.{INPUT_BYTES}
+use Rattle.ed_tapes.specs.Outcome.{Outcome}
 use Rattle.ed_laws.specs.PunchedTapes.{PunchedIsRun}
-use Rattle.ed_answers.specs.Refusals.{IsAcceptedAs}
-use Rattle.ed_answers.specs.Sources.{punch_outcome}
+use Rattle.ed_headline.specs.Refusals.{IsAcceptedAs}
+use Rattle.ed_headline.specs.Sources.{punch_outcome}
 use Rattle.ed_top.specs.Scripts.{OnText}
 use Rattle.ed_laws.specs.TapeEntries.{TapeRunsFromEntry}
 

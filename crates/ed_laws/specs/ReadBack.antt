@@ -3,7 +3,7 @@ use Rattle.std.specs.Prelude.{◌≡◌, ℕ, ◌+◌, ◌<◌, ◌≤◌, Some}
 use Rattle.ed_store.specs.Cells.{short_at}
 use Rattle.ed_machine.specs.State.{State}
 use Rattle.ed_run.specs.declared.settings.Window.{Window}
-use Rattle.ed_answers.specs.Runs.{post_mortem_codes}
+use Rattle.ed_tapes.specs.Runs.{post_mortem_codes}
 
 -- if post-mortems of two states print the same codes, the states have the same words at the locations of the window;
 -- the same holds for the states in which two runs end

@@ -5,12 +5,12 @@ use Rattle.ed_words.specs.declared.size.Size.TheVariants.{Small, Full}
 use Rattle.ed_run.specs.declared.settings.Settings.{Settings}
 use Rattle.ed_notation.specs.Fold.{NotationState}
 use Rattle.ed_notation.specs.Faults.{WellFormed}
-use Rattle.ed_syntax.specs.declared.program.Line.{Line}
-use Rattle.ed_answers.specs.BothSizes.{with_store}
-use Rattle.ed_answers.specs.Outcome.{done}
-use Rattle.ed_answers.specs.Refusals.{IsAcceptedAs}
-use Rattle.ed_answers.specs.Sources.{OfSource, listing_outcome, punch_outcome}
-use Rattle.ed_answers.specs.Tapes.{IsChecked}
+use Rattle.ed_lines.specs.declared.program.Line.{Line}
+use Rattle.ed_headline.specs.BothSizes.{with_store}
+use Rattle.ed_tapes.specs.Outcome.{done}
+use Rattle.ed_headline.specs.Refusals.{IsAcceptedAs}
+use Rattle.ed_headline.specs.Sources.{OfSource, listing_outcome, punch_outcome}
+use Rattle.ed_tapes.specs.Tapes.{IsChecked}
 
 -- rows that are well formed for 512 locations are so for 1,024, from every store and every state of the notation, and
 -- `check-tape` reports the same entry, cost and rows. A source that is accepted for 512 is accepted for 1,024 with the

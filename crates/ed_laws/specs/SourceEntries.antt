@@ -2,11 +2,11 @@
 use Rattle.std.specs.Prelude.{◌<◌, List}
 use Rattle.ed_words.specs.Texts.{Text}
 use Rattle.ed_run.specs.declared.settings.Settings.{Settings}
-use Rattle.ed_syntax.specs.declared.program.Line.{Line}
+use Rattle.ed_lines.specs.declared.program.Line.{Line}
 use Rattle.ed_link.specs.Tapes.{cost, tape}
-use Rattle.ed_answers.specs.FromEntry.{AnswersFromEntry}
-use Rattle.ed_answers.specs.Refusals.{IsAcceptedAs}
-use Rattle.ed_answers.specs.Sources.{run_outcome}
+use Rattle.ed_headline.specs.FromEntry.{AnswersFromEntry}
+use Rattle.ed_headline.specs.Refusals.{IsAcceptedAs}
+use Rattle.ed_headline.specs.Sources.{run_outcome}
 use Rattle.ed_laws.specs.CutRuns.{IsCutOff}
 
 -- the answer is that of the run from the entry; with a limit below the cost it is that of a run that is cut off

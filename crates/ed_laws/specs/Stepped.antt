@@ -21,8 +21,8 @@ use Rattle.ed_stepper.specs.declared.moves.MoveEnd.TheVariants as ends
 use Rattle.ed_words.specs.Texts.{Text}
 use Rattle.ed_run.specs.declared.settings.Settings.{Settings}
 use Rattle.ed_run.specs.declared.settings.Window.{Window}
-use Rattle.ed_answers.specs.Tapes.{tape_outcome}
-use Rattle.ed_answers.specs.Runs.{paper_room, run_of}
+use Rattle.ed_tapes.specs.Tapes.{tape_outcome}
+use Rattle.ed_tapes.specs.Runs.{paper_room, run_of}
 use Rattle.ed_top.specs.Scripts.{stand_on}
 use Rattle.ed_top.specs.Traces.{letters_in, trace_outcome}
 

@@ -15,9 +15,9 @@ use Rattle.ed_stepper.specs.declared.moves.MoveEnd.TheVariants.{Entered}
 use Rattle.ed_stepper.specs.Traces.{trace_to}
 use Rattle.ed_laws.specs.FirstFaults.{silent_outcome}
 use Rattle.ed_laws.specs.Limits.{StartsWith, with_limit}
-use Rattle.ed_answers.specs.Outcome.{Outcome, done}
-use Rattle.ed_answers.specs.Tapes.{IsChecked, opening_notation, tape_outcome}
-use Rattle.ed_answers.specs.Runs.{paper_room, ran_outcome, with_post_mortem}
+use Rattle.ed_tapes.specs.Outcome.{Outcome, done}
+use Rattle.ed_tapes.specs.Tapes.{IsChecked, opening_notation, tape_outcome}
+use Rattle.ed_tapes.specs.Runs.{paper_room, ran_outcome, with_post_mortem}
 use Rattle.ed_top.specs.Parts.{IsInParts}
 use Rattle.ed_top.specs.Scripts.{stand_on}
 use Rattle.ed_top.specs.Traces.{letters_in, trace_outcome, traced_from}

@@ -11,10 +11,10 @@ use Rattle.ed_run.specs.declared.settings.Settings.{Settings}
 use Rattle.ed_notation.specs.Items.{AreDigits, digits_number}
 use Rattle.ed_notation.specs.Faults.{TapeEntry, RowsReachEntry, WellFormed}
 use Rattle.ed_initial1.specs.Faults.{Tape, ReachesEntry1}
-use Rattle.ed_answers.specs.declared.input.TheConstants.{INPUT_BYTES}
+use Rattle.ed_tapes.specs.declared.input.TheConstants.{INPUT_BYTES}
 use Rattle.ed_laws.specs.Limits.{with_limit}
-use Rattle.ed_answers.specs.Runs.{run_of}
-use Rattle.ed_answers.specs.Tapes.{opening_notation}
+use Rattle.ed_tapes.specs.Runs.{run_of}
+use Rattle.ed_tapes.specs.Tapes.{opening_notation}
 
 -- ---- blank tape before a tape
 

@@ -12,8 +12,8 @@ use Rattle.ed_machine.specs.State.{State}
 use Rattle.ed_run.specs.Run.{RunEnd, run_end}
 use Rattle.ed_run.specs.declared.settings.Settings.{Settings}
 use Rattle.ed_initial.specs.Entry.{first_state}
-use Rattle.ed_answers.specs.Runs.{run_of}
-use Rattle.ed_answers.specs.Tapes.{tape_outcome}
+use Rattle.ed_tapes.specs.Runs.{run_of}
+use Rattle.ed_tapes.specs.Tapes.{tape_outcome}
 use Rattle.ed_top.specs.Traces.{trace_outcome}
 use Rattle.ed_laws.specs.MoreResumes.{letters_of}
 

@@ -9,8 +9,8 @@ use Rattle.ed_link.proofs.Kit.{word_extent, HasEnter, HasNoFault, on_line, symbo
 use Rattle.std.proofs.Common.{Result, Err, IfErr}
 use Rattle.std.proofs.Math.Bool.{or-false, or_assoc}
 use Rattle.std.proofs.lemmas.Bool.{cases_lt, leb-false}
-use Rattle.ed_syntax.specs.declared.fault.SourceFault.TheVariants.{Memory}
-use Rattle.ed_syntax.proofs.Causes.{one_least}
+use Rattle.ed_lines.specs.declared.fault.SourceFault.TheVariants.{Memory}
+use Rattle.ed_lines.proofs.Causes.{one_least}
 use Rattle.ed_symbols.specs.NameFaults.{HasNameFault}
 use Rattle.ed_symbols.proofs.FaultPasses.{first, Finds-first, Numbered}
 use Rattle.ed_symbols.proofs.NameLaw.{AtLine, SaysLeast, found_says, Numbered-lines, say_names, spot_snoc}
@@ -19,7 +19,7 @@ use Rattle.ed_link.specs.FaultTests.{IsFirstFault}
 use Rattle.ed_link.specs.Faults.{SourceHasFault, no_enter, IsMeaningFault}
 use Rattle.ed_link.proofs.FaultSentences.{extents_from, any_says, any_tests}
 use Rattle.ed_link.proofs.LineFaults.{OfMeaning, of_meaning, name_has_cause, number_of-few, cause_is_name}
-use Rattle.ed_syntax.specs.declared.fault.SourceCause.TheVariants as causes
+use Rattle.ed_lines.specs.declared.fault.SourceCause.TheVariants as causes
 use Rattle.ed_link.proofs.Kit.{rules}
 use Rattle.std.proofs.lemmas.Grind.{common_steps}
 

@@ -10,9 +10,9 @@ use Rattle.ed_link.proofs.Kit.{LinesBefore, overlaps, past_of, reach, sets, sets
 use Rattle.ed_link.proofs.Kit.{placed_from, theta_from, item_with, items_of, punched_from, Extent}
 use Rattle.std.proofs.lemmas.Bool.{not-false, or_parts}
 use Rattle.ed_notation.proofs.Steps.{Enters, aiming_entry, entering_at}
-use Rattle.ed_syntax.specs.Programs.{is_statement}
-use Rattle.ed_syntax.specs.declared.program.Line.{Line as SourceLine}
-use Rattle.ed_syntax.proofs.Meaning.{statement_fact}
+use Rattle.ed_lines.specs.Programs.{is_statement}
+use Rattle.ed_lines.specs.declared.program.Line.{Line as SourceLine}
+use Rattle.ed_lines.proofs.Meaning.{statement_fact}
 use Rattle.ed_symbols.specs.NameTests.{enters_unknown, naming_fault_from as names_from}
 use Rattle.ed_symbols.specs.Places.{routine_places as places_of}
 use Rattle.ed_link.proofs.Closed.{some_items, are_known}

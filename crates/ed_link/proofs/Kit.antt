@@ -25,17 +25,17 @@ pub use Rattle.ed_notation.proofs.Kit.{locations, digit, locations_most, byte_of
 pub use Rattle.ed_notation.proofs.Kit.{NotationState, row_kind, canonical, canonicals, is_spellable, line_from}
 pub use Rattle.ed_notation.proofs.Parts.{one_more}
 pub use Rattle.ed_notation.proofs.Steps.{Does-aiming, Does-placing}
-pub use Rattle.ed_syntax.specs.declared.fault.SourceCause.{SourceCause}
-pub use Rattle.ed_syntax.specs.declared.fault.SourceFault.{SourceFault}
-pub use Rattle.ed_syntax.specs.declared.fault.SourceFault.TheVariants.{At}
-pub use Rattle.ed_syntax.specs.declared.program.Line.{Line}
-pub use Rattle.ed_syntax.specs.declared.program.Operand.{Operand}
-pub use Rattle.ed_syntax.specs.declared.program.Setting.{Setting}
-pub use Rattle.ed_syntax.specs.declared.program.Statement.{Statement}
-pub use Rattle.ed_syntax.specs.declared.program.Statement.TheVariants.{Enter, Fetch, Long, Number, Order, Rows}
-pub use Rattle.ed_syntax.specs.declared.program.Statement.TheVariants.{Segment, Text}
-pub use Rattle.ed_syntax.proofs.Kit.{map, rules, zero, ◌==◌, ◌^◌, and_from, nat_tests, length-map, AreNumbered}
-pub use Rattle.ed_syntax.proofs.Kit.{is_line}
+pub use Rattle.ed_lines.specs.declared.fault.SourceCause.{SourceCause}
+pub use Rattle.ed_lines.specs.declared.fault.SourceFault.{SourceFault}
+pub use Rattle.ed_lines.specs.declared.fault.SourceFault.TheVariants.{At}
+pub use Rattle.ed_lines.specs.declared.program.Line.{Line}
+pub use Rattle.ed_lines.specs.declared.program.Operand.{Operand}
+pub use Rattle.ed_lines.specs.declared.program.Setting.{Setting}
+pub use Rattle.ed_lines.specs.declared.program.Statement.{Statement}
+pub use Rattle.ed_lines.specs.declared.program.Statement.TheVariants.{Enter, Fetch, Long, Number, Order, Rows}
+pub use Rattle.ed_lines.specs.declared.program.Statement.TheVariants.{Segment, Text}
+pub use Rattle.ed_lines.proofs.Kit.{map, rules, zero, ◌==◌, ◌^◌, and_from, nat_tests, length-map, AreNumbered}
+pub use Rattle.ed_lines.proofs.Kit.{is_line}
 pub use Rattle.ed_library.specs.Entries.{catalogue, entry}
 pub use Rattle.ed_library.specs.Images.{routine_word}
 pub use Rattle.ed_library.specs.Ready.{is_ready, is_ready_row}

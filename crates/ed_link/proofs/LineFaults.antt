@@ -3,14 +3,14 @@ use Rattle.ed_link.proofs.Kit.{Size, [], arith, Bool, List, ℕ, ◌∷◌, ◌�
 use Rattle.ed_link.proofs.Kit.{number_of, counter_after, first_counter, Ties, any_enter, cause_of, extent}
 use Rattle.ed_link.proofs.Kit.{has_no_routine, has_sandwich, is_misplaced, is_outside, overlaps, reach, sets_otherwise}
 use Rattle.ed_link.proofs.Kit.{word_extent, symbols_of, rules}
-use Rattle.ed_syntax.proofs.Causes.{number_of-most}
+use Rattle.ed_lines.proofs.Causes.{number_of-most}
 use Rattle.ed_symbols.specs.NameFaults.{LineHasNameFault}
 use Rattle.ed_symbols.proofs.LeastFaults.{Least, Least-picks}
 use Rattle.ed_link.specs.Faults.{LineHasCause}
 use Rattle.ed_link.proofs.FaultSentences.{extents_from, Ties-s9, s10_s11, Ties-s12, Ties-s13, Ties-s14, Ties-s16}
 use Rattle.ed_link.proofs.FaultSentences.{Ties-s17}
 use Rattle.ed_link.proofs.SettingSentences.{Ties-s15}
-use Rattle.ed_syntax.specs.declared.fault.SourceCause.TheVariants as causes
+use Rattle.ed_lines.specs.declared.fault.SourceCause.TheVariants as causes
 
 -- a fault of names is one of the faults of a line
 pub name_has_cause : (z : Size) (lines before : List Line) (l : Line) (c : SourceCause)

@@ -6,9 +6,9 @@ use Rattle.ed_link.proofs.Kit.{is_spellable, Operand, Setting, Statement, Enter,
 use Rattle.ed_link.proofs.Kit.{map, ◌^◌, nat_tests, catalogue, entry, is_ready, is_ready_row, find, table_item}
 use Rattle.ed_link.proofs.Kit.{TableRow, LocationCounter, Definition, parameter_letters, set_to, item_with, items_of}
 use Rattle.ed_link.proofs.Kit.{order_item, preset_items, routine_items, use_items, with_heading, word_item}
-use Rattle.ed_syntax.proofs.Kit.{ℤ}
+use Rattle.ed_lines.proofs.Kit.{ℤ}
 use Rattle.ed_notation.specs.Items.{ends}
-use Rattle.ed_syntax.proofs.Meaning.{IsStatement}
+use Rattle.ed_lines.proofs.Meaning.{IsStatement}
 use Rattle.ed_link.specs.Linked.{order_number}
 use Rattle.ed_link.proofs.Closed.{rows_are_ready}
 use Rattle.ed_link.proofs.Lines.{IsSound, IsUse}

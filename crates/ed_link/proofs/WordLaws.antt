@@ -12,7 +12,7 @@ use Rattle.ed_link.specs.Faults.{LineHasWord}
 use Rattle.ed_link.specs.Words.{EachWordStands, IsLastSet, LinePlaces, LineSets, linked_word, words_of_line}
 use Rattle.ed_link.specs.Words.{routine_words}
 use Rattle.ed_link.proofs.Orders.{placed_more}
-use Rattle.ed_syntax.specs.declared.fault.SourceCause.TheVariants as causes
+use Rattle.ed_lines.specs.declared.fault.SourceCause.TheVariants as causes
 use Rattle.std.proofs.lemmas.Grind.{common_steps}
 
 -- ---- words with their locations

@@ -1,9 +1,9 @@
 -- The answers of linking, by the definitions of the linked program, the punched tape and the faults.
 use Rattle.std.specs.Prelude.{◌≡◌, ℕ, ◌<◌, map, List}
 use Rattle.ed_words.specs.declared.size.Size.{Size}
-use Rattle.ed_syntax.specs.declared.program.Line.{Line}
-use Rattle.ed_syntax.specs.declared.fault.SourceFault.{SourceFault}
-use Rattle.ed_syntax.specs.declared.fault.SourceFault.TheVariants.{At, Memory}
+use Rattle.ed_lines.specs.declared.program.Line.{Line}
+use Rattle.ed_lines.specs.declared.fault.SourceFault.{SourceFault}
+use Rattle.ed_lines.specs.declared.fault.SourceFault.TheVariants.{At, Memory}
 use Rattle.ed_link.specs.declared.linked.Linked.{Linked}
 use Rattle.ed_link.specs.Linked.{data_after, symbols_of, entry_of}
 use Rattle.ed_link.specs.Punch.{punched_items}

@@ -9,11 +9,11 @@ use Rattle.ed_notation.specs.Fold.{placed_at}
 use Rattle.ed_library.specs.Entries.{entry}
 use Rattle.ed_library.specs.Images.{routine_word}
 use Rattle.ed_library.specs.Routines.{find, table_item}
-use Rattle.ed_syntax.specs.declared.program.Operand.{Operand}
-use Rattle.ed_syntax.specs.declared.program.Setting.{Setting}
-use Rattle.ed_syntax.specs.declared.program.Statement.{Statement}
-use Rattle.ed_syntax.specs.declared.program.Statement.TheVariants.{Fetch}
-use Rattle.ed_syntax.specs.declared.program.Line.{Line}
+use Rattle.ed_lines.specs.declared.program.Operand.{Operand}
+use Rattle.ed_lines.specs.declared.program.Setting.{Setting}
+use Rattle.ed_lines.specs.declared.program.Statement.{Statement}
+use Rattle.ed_lines.specs.declared.program.Statement.TheVariants.{Fetch}
+use Rattle.ed_lines.specs.declared.program.Line.{Line}
 use Rattle.ed_symbols.specs.declared.location_counter.LocationCounter.{LocationCounter}
 use Rattle.ed_symbols.specs.declared.symbols.Definition.{Definition}
 use Rattle.ed_symbols.specs.Places.{even_from}

@@ -13,9 +13,9 @@ use crate::punching::{entry_of, push_line};
 use crate::words::put_line;
 use ed_codes::Code;
 use ed_library::find;
+use ed_lines::{Line, Name, SourceFault, Statement};
 use ed_notation::Item;
 use ed_symbols::{Definition, LocationCounter};
-use ed_syntax::{Line, Name, SourceFault, Statement};
 use ed_words::{NoMemory, Size, Word};
 use std::alloc::Global;
 

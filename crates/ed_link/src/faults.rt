@@ -14,8 +14,8 @@ use crate::building::Built;
 use crate::operands::setting;
 use ed_codes::Code;
 use ed_library::find;
+use ed_lines::{Line, Setting, SourceCause, SourceFault, Statement};
 use ed_symbols::{Definition, LocationCounter, even, find_place};
-use ed_syntax::{Line, Setting, SourceCause, SourceFault, Statement};
 use ed_words::Size;
 
 /// An extent of locations, which may be empty.

@@ -7,8 +7,8 @@ ghost use Rattle.ed_notation.specs.Spellings.{canonicals, is_spellable, item_row
 ghost use Rattle.ed_link.specs.Tapes.{after_text};
 
 use ed_codes::{Code, byte_of};
+use ed_lines::Name;
 use ed_notation::{Item, rows_of_items, text_of_items};
-use ed_syntax::Name;
 use ed_words::{NoMemory, Word};
 
 /// A word of the linked program and its location.

@@ -15,8 +15,8 @@ use crate::faults::{any_enter, earlier_fault};
 use crate::linked::{LabelPlace, Linked};
 use crate::words::words_of;
 use ed_library::catalogue_size;
+use ed_lines::{Program, SourceCause, SourceFault};
 use ed_symbols::{Definition, is_local, resolve};
-use ed_syntax::{Program, SourceCause, SourceFault};
 use ed_words::{NoMemory, Size};
 use std::alloc::Global;
 

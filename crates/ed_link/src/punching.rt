@@ -15,9 +15,9 @@ ghost use Rattle.ed_link.specs.Punch.{preset_items, routine_items, use_items, wo
 use crate::operands::{PARAMETER_LETTERS, goes_by_theta, number, setting};
 use ed_codes::{Code, letters};
 use ed_library::find;
+use ed_lines::{Name, Operand, Setting, Statement};
 use ed_notation::Item;
 use ed_symbols::{Definition, LocationCounter, even, find_place};
-use ed_syntax::{Name, Operand, Setting, Statement};
 use ed_words::{Long, NoMemory, Word};
 
 /// Adds an item.

@@ -17,8 +17,8 @@ use crate::linked::Placed;
 use crate::operands::{PARAMETER_LETTERS, number, parameters, setting};
 use ed_codes::Code;
 use ed_library::{find, image_word};
+use ed_lines::{Name, Operand, Setting, Statement};
 use ed_symbols::{Definition, LocationCounter, even};
-use ed_syntax::{Name, Operand, Setting, Statement};
 use ed_words::{Long, NoMemory, Word};
 use std::alloc::Global;
 

@@ -1,7 +1,7 @@
 -- From a run that ended, with its note, to what the program answers of it.
 use Rattle.ed_page.proofs.Kit.{rules, Settings, IsRunResult, FinishedRun, NotedRun, [], List, None, Ok, Option, Result}
 use Rattle.ed_page.proofs.Kit.{subst, ℕ, ◌++◌, ◌≡◌, Text, RunEnd, ending_line, ran_outcome, run_of, tape_outcome}
-use Rattle.ed_answers.proofs.Kit.{IfOk, with_post_mortem}
+use Rattle.ed_headline.proofs.Kit.{IfOk, with_post_mortem}
 use Rattle.ed_words.specs.declared.memory.NoMemory.{NoMemory}
 use Rattle.ed_run.specs.declared.settings.Window.{Window}
 use Rattle.ed_page.specs.Private.Stages.{noted_outcome}

@@ -3,7 +3,7 @@ use Rattle.ed_page.proofs.Kit.{common_steps, rules, ne_eqb, Settings, length-app
 use Rattle.ed_page.proofs.Kit.{List, nat_eq, nat_le, nat_lt, None, refl, sym, ℕ, ◌+◌, ◌-◌, ◌<◌, ◌∙◌, ◌≡◌, ◌≤◌, step}
 use Rattle.ed_page.proofs.Kit.{State, progress, state_after, run_end, run_orders, first_state, first_state1, paper_room}
 use Rattle.ed_page.proofs.Kit.{run_of}
-use Rattle.ed_answers.proofs.Kit.{nat_tests, Progress, end_at, end_by, ran_ends}
+use Rattle.ed_headline.proofs.Kit.{nat_tests, Progress, end_at, end_by, ran_ends}
 use Rattle.ed_machine.proofs.LeastNumbers.{first_later}
 use Rattle.ed_machine.proofs.Steps.{after_sum, no_step, past_sum}
 use Rattle.ed_run.proofs.Ends.{ran_is}

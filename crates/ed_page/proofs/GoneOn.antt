@@ -4,7 +4,7 @@ use Rattle.ed_page.proofs.Kit.{Text, State, state_after, run_end, RunEnd, paper_
 use Rattle.ed_page.proofs.Kit.{Pictures, Registers}
 use Rattle.ed_machine.specs.Sheet.{Sheet}
 use Rattle.ed_run.specs.Run.{RunLeaves}
-use Rattle.ed_answers.specs.Answer.{Answer}
+use Rattle.ed_tapes.specs.Answer.{Answer}
 use Rattle.ed_page.specs.Going.{BeginsOnTheWay, IsOnTheWay}
 use Rattle.ed_page.proofs.Goes.{run_end-stays}
 

@@ -20,22 +20,22 @@ pub use Rattle.ed_notation.proofs.Kit.{locations, digit, IsFault, AreDigits, dig
 pub use Rattle.ed_notation.proofs.Loop.{next_row}
 pub use Rattle.ed_initial1.specs.Faults.{IsFault1}
 pub use Rattle.ed_initial1.specs.declared.cause.Tape1Cause.{Tape1Cause}
-pub use Rattle.ed_syntax.specs.declared.program.Line.{Line}
-pub use Rattle.ed_answers.specs.Answer.{IsDue, of_input}
-pub use Rattle.ed_answers.specs.FirstOrders.{run1_of}
-pub use Rattle.ed_answers.specs.Replies.{IsRunResult}
-pub use Rattle.ed_answers.specs.Tapes.{opening_notation}
-pub use Rattle.ed_answers.specs.declared.reply.Reply.{Reply}
-pub use Rattle.ed_answers.specs.declared.running.FinishedRun.{FinishedRun}
+pub use Rattle.ed_lines.specs.declared.program.Line.{Line}
+pub use Rattle.ed_tapes.specs.Answer.{IsDue, of_input}
+pub use Rattle.ed_tapes.specs.FirstOrders.{run1_of}
+pub use Rattle.ed_tapes.specs.Replies.{IsRunResult}
+pub use Rattle.ed_tapes.specs.Tapes.{opening_notation}
+pub use Rattle.ed_tapes.specs.declared.reply.Reply.{Reply}
+pub use Rattle.ed_tapes.specs.declared.running.FinishedRun.{FinishedRun}
 pub use Rattle.ed_answers.specs.declared.source.NotedRun.{NotedRun}
-pub use Rattle.ed_answers.proofs.Kit.{[], ap, append-nil, append_assoc, arith, Bool, drop, Err, false, get_or}
-pub use Rattle.ed_answers.proofs.Kit.{if◌then◌else◌, inl, inr, length, List, nat_eq, nat_le, nat_lt, None, Ok, Option}
-pub use Rattle.ed_answers.proofs.Kit.{refl, replicate, Result, reverse, rules, Some, subst, suc, sym, true, ℕ, ◌++◌}
-pub use Rattle.ed_answers.proofs.Kit.{◌+◌, ◌-◌, ◌<◌, ◌^◌, ◌∙◌, ◌∷◌, ◌≡◌, ◌≢◌, ◌≤◌, ◌⊎◌, length-drop}
-pub use Rattle.ed_answers.proofs.Kit.{Text, reading, rows, paper, State, state_after, run_orders, RunEnd, tape}
-pub use Rattle.ed_answers.proofs.Kit.{ending_line, done, Outcome, IsAcceptedAs, Gives, paper_room, ran_outcome, run_of}
-pub use Rattle.ed_answers.proofs.Kit.{entered_before, OfSource, run_outcome, tape_outcome}
-unfoldable pub use Rattle.ed_answers.proofs.Kit.{step, progress, run_end, first_state, first_state1}
+pub use Rattle.ed_headline.proofs.Kit.{[], ap, append-nil, append_assoc, arith, Bool, drop, Err, false, get_or}
+pub use Rattle.ed_headline.proofs.Kit.{if◌then◌else◌, inl, inr, length, List, nat_eq, nat_le, nat_lt, None, Ok, Option}
+pub use Rattle.ed_headline.proofs.Kit.{refl, replicate, Result, reverse, rules, Some, subst, suc, sym, true, ℕ, ◌++◌}
+pub use Rattle.ed_headline.proofs.Kit.{◌+◌, ◌-◌, ◌<◌, ◌^◌, ◌∙◌, ◌∷◌, ◌≡◌, ◌≢◌, ◌≤◌, ◌⊎◌, length-drop}
+pub use Rattle.ed_headline.proofs.Kit.{Text, reading, rows, paper, State, state_after, run_orders, RunEnd, tape}
+pub use Rattle.ed_headline.proofs.Kit.{ending_line, done, Outcome, IsAcceptedAs, Gives, paper_room, ran_outcome, run_of}
+pub use Rattle.ed_headline.proofs.Kit.{entered_before, OfSource, run_outcome, tape_outcome}
+unfoldable pub use Rattle.ed_headline.proofs.Kit.{step, progress, run_end, first_state, first_state1}
 pub use Rattle.ed_page.specs.Answers.{Buffers, IsShown, picture_buffers, RowsEnd, SourceEnds, text_buffers}
 pub use Rattle.ed_page.specs.Going.{AreCodes}
 pub use Rattle.ed_page.specs.Pictures.{Pictures, PicturesStore, run_settings, size_shown}

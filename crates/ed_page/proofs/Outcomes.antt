@@ -1,7 +1,8 @@
 -- The run of each kind of program has an outcome.
 use Rattle.ed_page.proofs.Kit.{Settings, IsDue, of_input, Text, Outcome, run_outcome, answers_of, tape_outcome_by}
-use Rattle.ed_answers.proofs.OneOutcome.{rows_once, source_once}
-use Rattle.ed_answers.proofs.Replies.{exactly_one}
+use Rattle.ed_headline.proofs.OneOutcome.{source_once}
+use Rattle.ed_tapes.proofs.OneOutcome.{rows_once}
+use Rattle.ed_tapes.proofs.Replies.{exactly_one}
 use Rattle.ed_page.specs.declared.running.ProgramKind.{ProgramKind}
 use Rattle.ed_page.specs.declared.running.ProgramKind.TheVariants.{Tape, Source}
 

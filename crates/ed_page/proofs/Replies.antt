@@ -3,14 +3,15 @@ use Rattle.ed_page.proofs.Kit.{common_steps, rules, arith, Size, Settings, Line,
 use Rattle.ed_page.proofs.Kit.{Err, inl, inr, List, Ok, refl, Result, Some, subst, sym, ℕ, ◌++◌, ◌∙◌, ◌≡◌, Text}
 use Rattle.ed_page.proofs.Kit.{reading, rows, State, RunEnd, tape, ending_line, Outcome, IsAcceptedAs, ran_outcome}
 use Rattle.ed_page.proofs.Kit.{run_of, entered_before, OfSource, run_outcome, RowsEnd, SourceEnds, IsReplied}
-use Rattle.ed_answers.proofs.Kit.{IsErr, IsErrAnd, no_row, open_comment, Reading, exactly, OfReading, refusal}
-use Rattle.ed_syntax.specs.declared.fault.SourceFault.TheVariants.{At}
+use Rattle.ed_headline.proofs.Kit.{IsErr, IsErrAnd, no_row, open_comment, Reading, exactly, OfReading, refusal}
+use Rattle.ed_lines.specs.declared.fault.SourceFault.TheVariants.{At}
 use Rattle.ed_report.specs.Notes.{source_fault_line}
-use Rattle.ed_answers.specs.Replies.{IsRunResultOf, LinksSource, RefusesText, RunsSource}
-use Rattle.ed_answers.specs.declared.reply.Rejection.{Rejection}
-use Rattle.ed_answers.specs.declared.reply.Rejection.TheVariants.{Memory, Refused}
-use Rattle.ed_answers.proofs.EachSource.{one_answer}
-use Rattle.ed_answers.proofs.Replies.{refused_at}
+use Rattle.ed_tapes.specs.Replies.{RefusesText}
+use Rattle.ed_answers.specs.SourceReplies.{IsRunResultOf, LinksSource, RunsSource}
+use Rattle.ed_tapes.specs.declared.reply.Rejection.{Rejection}
+use Rattle.ed_tapes.specs.declared.reply.Rejection.TheVariants.{Memory, Refused}
+use Rattle.ed_headline.proofs.EachSource.{one_answer}
+use Rattle.ed_tapes.proofs.Replies.{refused_at}
 use Rattle.ed_page.specs.Private.Stages.{IsAnswered, Runs}
 use Rattle.ed_page.proofs.Endings.{noted_run}
 

@@ -2,7 +2,7 @@
 use Rattle.ed_page.proofs.Kit.{rules, take-length, Size, zero, take, Line, [], ap, drop, length, List, subst, suc, sym}
 use Rattle.ed_page.proofs.Kit.{ℕ, ◌-◌, ◌∙◌, ◌∷◌, ◌≡◌, length-drop, Text, reading, rows, tape, IsAcceptedAs, AreCodes}
 use Rattle.ed_initial.proofs.Starts.{read_fit}
-use Rattle.ed_answers.proofs.PunchedTexts.{text_is_tape}
+use Rattle.ed_headline.proofs.PunchedTexts.{text_is_tape}
 
 pub read_codes : (text : Text) (codes : List ℕ) → reading text ≡ rows codes → AreCodes codes
 read_codes text codes is = read_fit text codes is

@@ -2,8 +2,8 @@
 use Rattle.ed_page.proofs.Kit.{rules, IfSome, IsDue, of_input, Reply, arith, inl, inr, length, List, None, Option, refl}
 use Rattle.ed_page.proofs.Kit.{Some, ℕ, ◌<◌, ◌≡◌, ◌≢◌, ◌≤◌, ◌⊎◌, Text, State, Outcome, Gives, Buffers, IsShown}
 use Rattle.ed_page.proofs.Kit.{picture_buffers, text_buffers, Pictures, IsReplied, told_outcome, Registers}
-use Rattle.ed_answers.specs.Outcome.{too_long, too_long_outcome}
-use Rattle.ed_answers.specs.declared.input.TheConstants.{INPUT_BYTES}
+use Rattle.ed_tapes.specs.Outcome.{too_long, too_long_outcome}
+use Rattle.ed_tapes.specs.declared.input.TheConstants.{INPUT_BYTES}
 use Rattle.ed_page.specs.Answers.{HasBufferRoom, HasItsCause, IsTextWritten, LacksLine, LacksRoom, ShowsNone}
 use Rattle.ed_page.specs.Answers.{TextBuffers}
 use Rattle.ed_page.specs.Private.Stages.{AreTextsWritten, IsPicture, IsWrittenOut, WritesBuffers}

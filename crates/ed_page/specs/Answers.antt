@@ -3,14 +3,14 @@
 use Rattle.std.specs.Prelude.{◌≡◌, ◌≢◌, ◌⊎◌, ℕ, ◌<◌, ◌≤◌, List, ◌++◌, length, drop, None}
 use Rattle.ed_codes.specs.Reading.{reading, rows}
 use Rattle.ed_machine.specs.State.{State}
-use Rattle.ed_syntax.specs.declared.program.Line.{Line}
-use Rattle.ed_answers.specs.Refusals.{IsAcceptedAs}
+use Rattle.ed_lines.specs.declared.program.Line.{Line}
+use Rattle.ed_headline.specs.Refusals.{IsAcceptedAs}
 use Rattle.ed_link.specs.Tapes.{tape}
 use Rattle.ed_words.specs.Texts.{Text}
-use Rattle.ed_answers.specs.declared.input.TheConstants.{INPUT_BYTES}
-use Rattle.ed_answers.specs.Outcome.{Outcome, done, too_long}
-use Rattle.ed_answers.specs.Answer.{Answer, IsDue}
-use Rattle.ed_answers.specs.Runs.{run_of}
+use Rattle.ed_tapes.specs.declared.input.TheConstants.{INPUT_BYTES}
+use Rattle.ed_tapes.specs.Outcome.{Outcome, done, too_long}
+use Rattle.ed_tapes.specs.Answer.{Answer, IsDue}
+use Rattle.ed_tapes.specs.Runs.{run_of}
 use Rattle.ed_run.specs.Run.{RunEnd}
 use Rattle.ed_run.specs.declared.settings.Settings.{Settings}
 use Rattle.ed_page.specs.Pictures.{Pictures, last_shown}

@@ -9,9 +9,9 @@ use Rattle.ed_machine.specs.Steps.{Progress, progress, state_after}
 use Rattle.ed_run.specs.Run.{RunEnd, run_end, run_orders}
 use Rattle.ed_run.specs.declared.settings.Settings.{Settings}
 use Rattle.ed_initial.specs.Entry.{first_state}
-use Rattle.ed_answers.specs.declared.input.TheConstants.{INPUT_BYTES}
-use Rattle.ed_answers.specs.FirstOrders.{first_state1, run1_of}
-use Rattle.ed_answers.specs.Runs.{paper_room, run_of, status_of}
+use Rattle.ed_tapes.specs.declared.input.TheConstants.{INPUT_BYTES}
+use Rattle.ed_tapes.specs.FirstOrders.{first_state1, run1_of}
+use Rattle.ed_tapes.specs.Runs.{paper_room, run_of, status_of}
 use Rattle.ed_page.specs.Answers.{HasItsCause, Holds}
 use Rattle.ed_page.specs.Pictures.{Pictures, size_shown}
 use Rattle.ed_page.specs.declared.writing.Registers.{Registers}

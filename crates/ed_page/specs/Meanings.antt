@@ -10,7 +10,7 @@ use Rattle.ed_orders.specs.Kinds.{kind_of_function}
 use Rattle.ed_orders.specs.Places.{places}
 use Rattle.ed_orders.specs.declared.kind.Kind.{Kind}
 use Rattle.ed_orders.specs.declared.kind.Kind.TheVariants.{R, L}
-use Rattle.ed_answers.specs.BothSizes.{names_location}
+use Rattle.ed_headline.specs.BothSizes.{names_location}
 use Rattle.ed_page.specs.declared.meanings.Meaning.{Meaning}
 
 -- the order that a word is, if it is one

@@ -4,7 +4,7 @@ use Rattle.ed_words.specs.declared.size.Size.{Size}
 use Rattle.ed_machine.specs.State.{State}
 use Rattle.ed_run.specs.SettingRanges.{IsWindowOf}
 use Rattle.ed_run.specs.declared.settings.Window.{Window}
-use Rattle.ed_answers.specs.Runs.{post_mortem_codes}
+use Rattle.ed_tapes.specs.Runs.{post_mortem_codes}
 use Rattle.ed_page.specs.Answers.{HasItsCause, Holds}
 
 -- the buffer of codes and their number

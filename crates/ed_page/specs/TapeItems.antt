@@ -16,9 +16,9 @@ use Rattle.ed_initial1.specs.Faults.{ReachesEntry1, IsFault1, Tape}
 use Rattle.ed_initial1.specs.Items.{Item1, rows_of1, word1}
 use Rattle.ed_report.specs.FirstNotes.{rule1_line}
 use Rattle.ed_report.specs.Notes.{rule_line}
-use Rattle.ed_answers.specs.Answer.{Answer, of_rows}
-use Rattle.ed_answers.specs.Outcome.{Outcome, done, refusal}
-use Rattle.ed_answers.specs.Tapes.{opening_notation}
+use Rattle.ed_tapes.specs.Answer.{Answer, of_rows}
+use Rattle.ed_tapes.specs.Outcome.{Outcome, done, refusal}
+use Rattle.ed_tapes.specs.Tapes.{opening_notation}
 
 -- ---- what an item places
 

@@ -5,15 +5,15 @@ ghost use Rattle.ed_page.specs.Answers.{IsTextWritten, text_buffers};
 ghost use Rattle.ed_page.specs.Private.ItemTables.{table_on1};
 ghost use Rattle.ed_page.specs.Private.Stages.{IsAnswered};
 ghost use Rattle.ed_page.specs.TapeItems.{IsItemsOutcome1, items1_answer};
-ghost use Rattle.ed_answers.specs.declared.input.TheConstants.{INPUT_BYTES};
+ghost use Rattle.ed_tapes.specs.declared.input.TheConstants.{INPUT_BYTES};
 
 use crate::items::{OpenItem, REFUSED, push_numbers};
 use crate::request::{Request, RowsRequest, write_answer};
 use crate::writing::Lengths;
-use ed_answers::{Rejection, Reply};
 use ed_codes::{Code, letters};
 use ed_initial1::{Tape1Fault, check1};
 use ed_report::tape1_fault;
+use ed_tapes::{Rejection, Reply};
 use ed_words::NoMemory;
 use std::alloc::Global;
 

@@ -9,22 +9,22 @@ ghost use Rattle.ed_notation.specs.Items.{row_kind};
 ghost use Rattle.ed_notation.specs.declared.kind.RowKind.TheVariants.{Digit};
 ghost use Rattle.ed_page.specs.Answers.{IsTextWritten, text_buffers};
 ghost use Rattle.ed_page.specs.Pictures.{size_shown};
-ghost use Rattle.ed_answers.specs.Tapes.{opening_notation};
+ghost use Rattle.ed_tapes.specs.Tapes.{opening_notation};
 ghost use Rattle.ed_page.specs.Private.ItemTables.{IsSetAs, IsSetBelow, first_notation, is_last_row, item_at};
 ghost use Rattle.ed_page.specs.Private.ItemTables.{notation_after, notation_state};
 ghost use Rattle.ed_page.specs.Private.ItemTables.{placing_over, table_on, whole_item, opened_with};
 ghost use Rattle.ed_page.specs.Private.Stages.{HasRowsToEntry, IsAnswered};
 ghost use Rattle.ed_page.specs.TapeItems.{IsItemsOutcome, PlacingLaw, four_bytes, item_line, items_answer};
-ghost use Rattle.ed_answers.specs.declared.input.TheConstants.{INPUT_BYTES};
+ghost use Rattle.ed_tapes.specs.declared.input.TheConstants.{INPUT_BYTES};
 
 use crate::request::{Request, RowsRequest, write_answer};
 use crate::running::size_of;
 use crate::writing::Lengths;
-use ed_answers::{Rejection, Reply, check_from_cleared};
 use ed_codes::{Code, letters};
 use ed_notation::{FIRST_DIRECTIVE, TapeFault};
 use ed_report::tape_fault;
 use ed_store::{LOCATIONS, Store};
+use ed_tapes::{Rejection, Reply, check_from_cleared};
 use ed_words::{NoMemory, Size, Word};
 use std::alloc::Global;
 

@@ -1,8 +1,8 @@
 //! What the page asks about a text, and the answers to it.
 
 ghost use Rattle.std.specs.Prelude.{◌≤◌, length};
-ghost use Rattle.ed_answers.specs.Answer.{of_input};
-ghost use Rattle.ed_answers.specs.declared.input.TheConstants.{INPUT_BYTES};
+ghost use Rattle.ed_tapes.specs.Answer.{of_input};
+ghost use Rattle.ed_tapes.specs.declared.input.TheConstants.{INPUT_BYTES};
 ghost use Rattle.ed_page.specs.Answers.{IsTextWritten, text_buffers};
 ghost use Rattle.ed_page.specs.Private.Requests.{answers_to, answers_to_rows};
 ghost use Rattle.ed_page.specs.Private.Stages.{IsAnswered};
@@ -12,9 +12,10 @@ use crate::items::row_items;
 use crate::reply::{NO_MEMORY, TOO_LONG_STATUS, write_reply};
 use crate::texts::row_codes;
 use crate::writing::Lengths;
-use ed_answers::{INPUT_BYTES, Rejection, Reply, TOO_LONG, linked_of, list, punch, rows_of};
+use ed_answers::{linked_of, list, punch};
 use ed_codes::Code;
 use ed_run::Settings;
+use ed_tapes::{INPUT_BYTES, Rejection, Reply, TOO_LONG, rows_of};
 use ed_words::Size;
 use std::alloc::Global;
 

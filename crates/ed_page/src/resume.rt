@@ -4,16 +4,16 @@ ghost use Rattle.std.specs.Prelude.{◌≡◌, ℕ, ◌+◌, ◌^◌, ◌≤◌,
 ghost use Rattle.ed_machine.specs.State.{State};
 ghost use Rattle.ed_machine.specs.Steps.{state_after};
 ghost use Rattle.ed_run.specs.Run.{RunEnd, run_end};
-ghost use Rattle.ed_answers.specs.Replies.{IsRunResult};
+ghost use Rattle.ed_tapes.specs.Replies.{IsRunResult};
 ghost use Rattle.ed_page.specs.Going.{CanGoOn, GoingLaw, IsAfterStart, IsRunResumed, IsOnTheWay, ShowsRun, going_buffers};
 ghost use Rattle.ed_page.specs.Pictures.{Pictures};
 
 use crate::reply::{NO_MEMORY, NO_ROOM};
 use crate::snapshot::snapshot;
 use crate::writing::{Lengths, Registers, registers_of, write_codes, write_store};
-use ed_answers::{FinishedRun, status_of};
 use ed_machine::Paper;
 use ed_run::run;
+use ed_tapes::{FinishedRun, status_of};
 use ed_words::NoMemory;
 use std::alloc::Global;
 

@@ -3,10 +3,11 @@ ghost use Rattle.ed_page.specs.Pictures.{run_settings, size_shown};
 ghost use Rattle.ed_page.specs.Private.Requests.{answers_of, ends_of};
 ghost use Rattle.ed_page.specs.Private.Stages.{IsPicture, Runs};
 
-use ed_answers::{NotedRun, Rejection, Reply, ran_reply, rows_of, run_rows, run_rows1, run_source};
+use ed_answers::{NotedRun, run_source};
 use ed_machine::Machine;
 use ed_report::ending_text;
 use ed_run::Settings;
+use ed_tapes::{Rejection, Reply, ran_reply, rows_of, run_rows, run_rows1};
 use ed_words::{NoMemory, Size};
 use std::alloc::Global;
 

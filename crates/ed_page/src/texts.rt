@@ -1,16 +1,16 @@
 ghost use Rattle.std.specs.Prelude.{IfOk};
-ghost use Rattle.ed_answers.specs.Answer.{exactly, of_rows};
-ghost use Rattle.ed_answers.specs.Outcome.{done};
-ghost use Rattle.ed_answers.specs.Replies.{Gives};
-ghost use Rattle.ed_answers.specs.Sources.{listing_answer, of_source, punch_answer};
+ghost use Rattle.ed_tapes.specs.Answer.{exactly, of_rows};
+ghost use Rattle.ed_tapes.specs.Outcome.{done};
+ghost use Rattle.ed_tapes.specs.Replies.{Gives};
+ghost use Rattle.ed_headline.specs.Sources.{listing_answer, of_source, punch_answer};
 ghost use Rattle.ed_page.specs.Answers.{IsTextWritten, source_rows, text_buffers};
 ghost use Rattle.ed_page.specs.Pictures.{run_settings, size_shown};
 
 use crate::request::{Request, RowsRequest, write_answer};
 use crate::running::{run_settings, size_of};
 use crate::writing::Lengths;
-use ed_answers::Reply;
 use ed_codes::Code;
+use ed_tapes::Reply;
 use ed_words::NoMemory;
 use std::alloc::Global;
 

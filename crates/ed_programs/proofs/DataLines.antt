@@ -12,7 +12,7 @@ use Rattle.ed_sources.proofs.Decimals.{are_digits-digits, decimal_is, few_bytes,
 use Rattle.ed_sources.proofs.Decimals.{rows_are, written}
 use Rattle.ed_programs.specs.Lists.{numbers_text}
 use Rattle.ed_programs.proofs.SourceLines.{Marked, by_parts, mark}
-use Rattle.ed_syntax.specs.declared.program.Statement.TheVariants as statements
+use Rattle.ed_lines.specs.declared.program.Statement.TheVariants as statements
 
 -- the line `data` with numbers, between quotes (34)
 abbrev pub numbers_line : List ℕ → Text

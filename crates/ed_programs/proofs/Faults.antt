@@ -3,9 +3,9 @@ use Rattle.ed_programs.proofs.Kit.{Size, array, Definition, are_below, ExtentLis
 use Rattle.ed_programs.proofs.Kit.{false, length, List, None, Option, refl, Some, true, ℕ, ◌+◌, ◌≡◌, ◌≤◌, locations}
 use Rattle.ed_programs.proofs.Kit.{Text, counter, said}
 use Rattle.ed_link.proofs.Kit.{is_none, find, routine_places, cause_of, sets}
-use Rattle.ed_syntax.specs.declared.program.Setting.{Setting}
+use Rattle.ed_lines.specs.declared.program.Setting.{Setting}
 use Rattle.ed_link.proofs.Extents.{list_any-apart, fits_store}
-use Rattle.ed_syntax.specs.declared.program.Statement.TheVariants as statements
+use Rattle.ed_lines.specs.declared.program.Statement.TheVariants as statements
 
 -- ---- lines after a program: a block of words, a routine of the library, and the entry
 

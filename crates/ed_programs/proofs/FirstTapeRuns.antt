@@ -8,7 +8,7 @@ use Rattle.ed_programs.proofs.Kit.{Tape, first_state1, Outcome, paper_room, ran_
 use Rattle.ed_programs.proofs.Kit.{Refusal}
 use Rattle.ed_initial1.specs.Items.{AreItems, item_number}
 use Rattle.ed_laws.specs.FirstEntry.{cost1}
-use Rattle.ed_answers.specs.FirstOrders.{tape1_outcome}
+use Rattle.ed_tapes.specs.FirstOrders.{tape1_outcome}
 use Rattle.ed_laws.proofs.FirstEntries.{runs_from_31}
 use Rattle.ed_programs.specs.FirstTapes.{FirstTapePrints}
 

@@ -14,7 +14,7 @@ use Rattle.ed_symbols.specs.Names.{same_segment}
 use Rattle.ed_symbols.specs.declared.location_counter.LocationCounter.{LocationCounter}
 use Rattle.ed_symbols.proofs.AgainSentences.{Ties-s6}
 use Rattle.ed_link.specs.Faults.{IsData}
-use Rattle.ed_syntax.specs.declared.fault.SourceCause.TheVariants as causes
+use Rattle.ed_lines.specs.declared.fault.SourceCause.TheVariants as causes
 
 -- ---- the line that enters
 

@@ -20,9 +20,9 @@ use Rattle.ed_link.specs.Tapes.{tape}
 use Rattle.ed_link.specs.Words.{LinePlaces, words_of_line}
 use Rattle.ed_link.proofs.WordLaws.{each_word_stands}
 use Rattle.ed_checker.specs.Checker.{HasImage, check}
-use Rattle.ed_answers.proofs.Entries.{each_source}
-use Rattle.ed_answers.proofs.EntryWords.{each_entry_store_is}
-use Rattle.ed_answers.proofs.PunchedTexts.{text_is_tape}
+use Rattle.ed_headline.proofs.Entries.{each_source}
+use Rattle.ed_headline.proofs.EntryWords.{each_entry_store_is}
+use Rattle.ed_headline.proofs.PunchedTexts.{text_is_tape}
 use Rattle.ed_programs.proofs.GuestNames.{entry_is}
 
 -- ---- the machine that is started on the tape of a source

@@ -21,8 +21,8 @@ use Rattle.ed_programs.proofs.RowTexts.{is_row_byte, rows_spelled, text_rows}
 use Rattle.ed_programs.proofs.SourceRuns.{read_runs}
 use Rattle.ed_programs.proofs.TextLines.{IsAround, all_plain, number_mark, text_mark}
 use Rattle.ed_programs.proofs.TextPrograms.{Spells, before_text, last_lines, newline_after, text_sound, text_stands}
-use Rattle.ed_syntax.specs.declared.program.Operand.TheVariants as operands
-use Rattle.ed_syntax.specs.declared.program.Statement.TheVariants as statements
+use Rattle.ed_lines.specs.declared.program.Operand.TheVariants as operands
+use Rattle.ed_lines.specs.declared.program.Statement.TheVariants as statements
 use Rattle.ed_programs.proofs.Orders.{A, A_low, G_jumps, G_stays, O_high, S, T, U, obeys}
 
 -- the pieces of the source, and between them the number of rows and the bytes that spell them

@@ -27,10 +27,10 @@ pub use Rattle.ed_initial.specs.Entry.{at_entry, ReachesEntry}
 pub use Rattle.ed_initial.proofs.Quiet.{comes_in}
 pub use Rattle.ed_initial1.specs.Entry.{at_entry1}
 pub use Rattle.ed_initial1.specs.Items.{Item1}
-pub use Rattle.ed_syntax.specs.declared.program.Line.{Line}
-pub use Rattle.ed_syntax.specs.declared.program.Operand.TheVariants.{Label}
-pub use Rattle.ed_syntax.specs.declared.program.Statement.{Statement}
-pub use Rattle.ed_syntax.specs.declared.program.Statement.TheVariants.{Enter, Fetch}
+pub use Rattle.ed_lines.specs.declared.program.Line.{Line}
+pub use Rattle.ed_lines.specs.declared.program.Operand.TheVariants.{Label}
+pub use Rattle.ed_lines.specs.declared.program.Statement.{Statement}
+pub use Rattle.ed_lines.specs.declared.program.Statement.TheVariants.{Enter, Fetch}
 pub use Rattle.ed_syntax.proofs.Kit.{Err, Result, bytes_eq, bytes_eq-Decides, is_place_name, array, has_quote}
 pub use Rattle.ed_syntax.proofs.Kit.{IsProgram}
 pub use Rattle.ed_syntax.proofs.PartLemmas.{quote_parts}
@@ -49,9 +49,9 @@ unfoldable pub use Rattle.ed_checker.specs.Checker.{checked_codes}
 pub use Rattle.ed_checker.specs.Laws.{HasGuest}
 pub use Rattle.ed_checker.proofs.Kit.{IsStore, followed, get_own, IsAllowed}
 unfoldable pub use Rattle.ed_checker.proofs.Kit.{checked_orders}
-pub use Rattle.ed_answers.specs.Answer.{IsDue}
-pub use Rattle.ed_answers.specs.declared.input.TheConstants.{INPUT_BYTES}
-pub use Rattle.ed_answers.proofs.Kit.{entry_line, exactly, OfReading}
+pub use Rattle.ed_tapes.specs.Answer.{IsDue}
+pub use Rattle.ed_tapes.specs.declared.input.TheConstants.{INPUT_BYTES}
+pub use Rattle.ed_headline.proofs.Kit.{entry_line, exactly, OfReading}
 pub use Rattle.ed_interlude.specs.Returned.{ReachesNextEntry}
 pub use Rattle.ed_interlude.proofs.Kit.{returned_line, directive, IsReturned}
 pub use Rattle.ed_sources.proofs.AtEntry.{all_words, have_places, placed, word_at}

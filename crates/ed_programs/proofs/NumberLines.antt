@@ -4,7 +4,7 @@ use Rattle.ed_programs.proofs.Kit.{true, ℕ, ◌++◌, ◌<◌, ◌≡◌, ◌�
 use Rattle.ed_programs.proofs.Kit.{is_run_byte, is_line_byte, LinePart, ◌&&◌, Marked}
 use Rattle.ed_sources.proofs.Said.{IsWordFront, filled_says, label_parts, named_front, plain_front}
 use Rattle.ed_programs.proofs.SourceLines.{mark}
-use Rattle.ed_syntax.specs.declared.program.Statement.TheVariants as statements
+use Rattle.ed_lines.specs.declared.program.Statement.TheVariants as statements
 
 -- whether a label may stand before `word N`
 abbrev pub is_short_label : Bool → Text → Bool

@@ -6,7 +6,7 @@ use Rattle.ed_sources.proofs.Kit.{◌<◌, ◌∙◌, ◌≡◌, ◌≤◌, loca
 use Rattle.ed_sources.proofs.Kit.{entry_of, HasRoutine, ReachesStop, entry_state}
 use Rattle.ed_words.specs.declared.size.Size.{Size}
 use Rattle.ed_machine.proofs.Kit.Window.{patched_self}
-use Rattle.ed_syntax.specs.declared.program.Line.{Line}
+use Rattle.ed_lines.specs.declared.program.Line.{Line}
 use Rattle.ed_sources.proofs.AtEntry.{all_words, has_image, have_places, placed, word_at}
 use Rattle.ed_sources.proofs.Entries.{frame_at, moment_at, routine_at}
 

@@ -8,9 +8,9 @@ use Rattle.ed_sources.proofs.Kit.{program_of, text_of_lines}
 use Rattle.ed_syntax.proofs.Kit.{Err, Result, ◌&&◌, Fault, LinesSay, and_more, no_more}
 use Rattle.ed_syntax.specs.Reading.Sources.{and_lines}
 use Rattle.std.proofs.Common.{is_ok, rules}
-use Rattle.ed_syntax.specs.declared.fault.SourceCause.{SourceCause}
-use Rattle.ed_syntax.specs.declared.program.Line.{Line}
-use Rattle.ed_syntax.specs.declared.program.Statement.{Statement}
+use Rattle.ed_lines.specs.declared.fault.SourceCause.{SourceCause}
+use Rattle.ed_lines.specs.declared.program.Line.{Line}
+use Rattle.ed_lines.specs.declared.program.Statement.{Statement}
 use Rattle.ed_syntax.proofs.SourceLaws.{line_answers, say_is_read}
 use Rattle.ed_sources.proofs.TextLines.{lines_back}
 pub use Rattle.ed_sources.proofs.TextLines.{Says, by_parts, ends, reads as says, said_lines}

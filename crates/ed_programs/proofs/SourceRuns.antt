@@ -4,7 +4,7 @@ use Rattle.ed_programs.proofs.Kit.{None, Ok, Option, subst, true, ℕ, ◌+◌, 
 use Rattle.ed_programs.proofs.Kit.{is_two, program_of, fault, ReachesStop, entry_state, AnswersFromEntry, run_outcome}
 use Rattle.ed_programs.proofs.Kit.{read_is_accepted, accepted_is, each_answer_is_from_entry, filled_text, text_of_lines}
 use Rattle.ed_programs.proofs.Kit.{stopped_outcome, ◌&&◌, OfSource, SourceRuns, Marked}
-use Rattle.ed_syntax.specs.declared.fault.SourceFault.{SourceFault}
+use Rattle.ed_lines.specs.declared.fault.SourceFault.{SourceFault}
 use Rattle.ed_sources.proofs.FilledLines.{unended, filled_is, filled_lines}
 use Rattle.ed_programs.proofs.Answered.{are_short, is_due}
 use Rattle.ed_programs.proofs.SourceLines.{are_read, lines_said, said_fine, source_read, source_said, texts_said}

@@ -12,7 +12,7 @@ use Rattle.ed_syntax.specs.Parts.{begins_run}
 use Rattle.ed_programs.proofs.NumberLines.{is_short_label}
 use Rattle.ed_programs.proofs.RowTexts.{is_row_byte, text_rows}
 use Rattle.ed_programs.proofs.SourceLines.{by_parts, mark}
-use Rattle.ed_syntax.specs.declared.program.Statement.TheVariants as statements
+use Rattle.ed_lines.specs.declared.program.Statement.TheVariants as statements
 
 -- ---- a line that ends with `text` and a string
 

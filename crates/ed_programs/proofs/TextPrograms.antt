@@ -13,7 +13,7 @@ use Rattle.ed_link.proofs.Extents.{none_later, one_more}
 use Rattle.ed_sources.proofs.Blocks.{beside_block, block_places, in_block, last_append, last_at, last_is, or_else}
 use Rattle.ed_sources.proofs.Blocks.{word_of}
 use Rattle.ed_programs.proofs.Faults.{block_sound, enter_sound, use_sound}
-use Rattle.ed_syntax.specs.declared.program.Statement.TheVariants as statements
+use Rattle.ed_lines.specs.declared.program.Statement.TheVariants as statements
 
 -- ---- faults
 

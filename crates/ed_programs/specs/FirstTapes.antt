@@ -7,7 +7,7 @@ use Rattle.ed_codes.specs.Reading.{reading, rows}
 use Rattle.ed_run.specs.declared.settings.Settings.{Settings}
 use Rattle.ed_initial1.specs.Faults.{ReachesEntry1, Tape}
 use Rattle.ed_command.specs.declared.command.Action.TheVariants.{Tape1}
-use Rattle.ed_answers.specs.Answer.{IsDue}
+use Rattle.ed_tapes.specs.Answer.{IsDue}
 use Rattle.ed_laws.specs.FirstEntry.{cost1}
 use Rattle.ed_top.specs.Output.{answer}
 use Rattle.ed_programs.specs.Programs.{stop_outcome}

@@ -9,23 +9,23 @@ use Rattle.ed_machine.specs.State.{State}
 use Rattle.ed_machine.specs.Steps.{state_after}
 use Rattle.ed_printer.specs.Paper.{paper}
 use Rattle.ed_run.specs.declared.settings.Settings.{Settings}
-use Rattle.ed_syntax.specs.declared.program.Operand.{Operand}
-use Rattle.ed_syntax.specs.declared.program.Operand.TheVariants.{Label}
-use Rattle.ed_syntax.specs.declared.program.Statement.{Statement}
-use Rattle.ed_syntax.specs.declared.program.Statement.TheVariants.{Fetch, Enter}
-use Rattle.ed_syntax.specs.declared.program.Line.{Line}
+use Rattle.ed_lines.specs.declared.program.Operand.{Operand}
+use Rattle.ed_lines.specs.declared.program.Operand.TheVariants.{Label}
+use Rattle.ed_lines.specs.declared.program.Statement.{Statement}
+use Rattle.ed_lines.specs.declared.program.Statement.TheVariants.{Fetch, Enter}
+use Rattle.ed_lines.specs.declared.program.Line.{Line}
 use Rattle.ed_symbols.specs.Places.{even_from}
 use Rattle.ed_symbols.specs.NameFaults.{IsLineAfter, counter_after}
 use Rattle.ed_link.specs.Linked.{entry_of, symbols_of, operand_number}
 use Rattle.ed_link.specs.Tapes.{cost}
-use Rattle.ed_answers.specs.Refusals.{IsAcceptedAs}
-use Rattle.ed_answers.specs.EntryState.{entry_state}
-use Rattle.ed_answers.specs.Answer.{IsDue}
-use Rattle.ed_answers.specs.Sources.{run_outcome}
+use Rattle.ed_headline.specs.Refusals.{IsAcceptedAs}
+use Rattle.ed_headline.specs.EntryState.{entry_state}
+use Rattle.ed_tapes.specs.Answer.{IsDue}
+use Rattle.ed_headline.specs.Sources.{run_outcome}
 use Rattle.ed_checker.specs.Checker.{IsAllowed, checked_codes, checked_orders, guest, planting_place, saving_orders}
 use Rattle.ed_checker.specs.Laws.{IsFollowed, StopsAfter}
 use Rattle.ed_sources.specs.CallSources.{text_of_lines}
-use Rattle.ed_answers.specs.Runs.{paper_room}
+use Rattle.ed_tapes.specs.Runs.{paper_room}
 use Rattle.ed_laws.specs.BlockedGuests.{IsBlockedAt, RunsToBlock, blocked_codes, orders_to_block}
 use Rattle.ed_command.specs.declared.command.Action.TheVariants.{Run}
 use Rattle.ed_top.specs.Output.{answer}

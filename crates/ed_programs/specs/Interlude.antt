@@ -9,7 +9,7 @@ use Rattle.ed_codes.specs.Reading.{reading, rows}
 use Rattle.ed_run.specs.declared.settings.Settings.{Settings}
 use Rattle.ed_report.specs.Entries.{entry_line, returned_line}
 use Rattle.ed_command.specs.declared.command.Action.TheVariants.{Parts, Tape}
-use Rattle.ed_answers.specs.Answer.{IsDue}
+use Rattle.ed_tapes.specs.Answer.{IsDue}
 use Rattle.ed_sources.specs.CallSources.{filled_text}
 use Rattle.ed_top.specs.Output.{answer}
 use Rattle.ed_programs.specs.Programs.{stop_outcome}

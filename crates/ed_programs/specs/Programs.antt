@@ -6,15 +6,15 @@ use Rattle.std.specs.declared.alloc.AllocError.{AllocError}
 use Rattle.std.specs.declared.alloc.Global.{Global}
 use Rattle.ed_words.specs.Texts.{Text}
 use Rattle.ed_run.specs.declared.settings.Settings.{Settings}
-use Rattle.ed_syntax.specs.declared.program.Line.{Line}
-use Rattle.ed_answers.specs.Refusals.{IsAcceptedAs}
+use Rattle.ed_lines.specs.declared.program.Line.{Line}
+use Rattle.ed_headline.specs.Refusals.{IsAcceptedAs}
 use Rattle.ed_link.specs.Linked.{entry_of}
 use Rattle.ed_link.specs.Tapes.{cost}
 use Rattle.ed_report.specs.Notes.{at_after, entry_note}
 use Rattle.ed_command.specs.declared.command.Action.TheVariants.{Run}
-use Rattle.ed_answers.specs.Answer.{IsDue}
-use Rattle.ed_answers.specs.Outcome.{Outcome, line}
-use Rattle.ed_answers.specs.FromEntry.{AnswersFromEntry}
+use Rattle.ed_tapes.specs.Answer.{IsDue}
+use Rattle.ed_tapes.specs.Outcome.{Outcome, line}
+use Rattle.ed_headline.specs.FromEntry.{AnswersFromEntry}
 use Rattle.ed_top.specs.Output.{answer}
 use Rattle.ed_programs.specs.declared.refusal.Refusal.{Refusal}
 use Rattle.ed_programs.specs.declared.refusal.Refusal.TheVariants.{Memory}

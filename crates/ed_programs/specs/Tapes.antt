@@ -8,9 +8,9 @@ use Rattle.ed_store.specs.Cells.{cleared_cells}
 use Rattle.ed_run.specs.declared.settings.Settings.{Settings}
 use Rattle.ed_notation.specs.Faults.{RowsReachEntry, TapeEntry, WellFormed}
 use Rattle.ed_command.specs.declared.command.Action.TheVariants.{Tape}
-use Rattle.ed_answers.specs.Answer.{IsDue}
+use Rattle.ed_tapes.specs.Answer.{IsDue}
 use Rattle.ed_top.specs.Output.{answer}
-use Rattle.ed_answers.specs.Tapes.{opening_notation}
+use Rattle.ed_tapes.specs.Tapes.{opening_notation}
 use Rattle.ed_programs.specs.Programs.{stop_outcome}
 use Rattle.ed_programs.specs.declared.refusal.Refusal.{Refusal}
 

@@ -8,8 +8,8 @@ pub use Rattle.ed_words.specs.declared.memory.NoMemory.{NoMemory}
 pub use Rattle.ed_store.specs.Cells.{short_at}
 pub use Rattle.ed_orders.specs.Texts.{order_text}
 pub use Rattle.ed_machine.specs.State.{State}
-pub use Rattle.ed_syntax.proofs.Kit.{[], ap, append_assoc, arith, codes, drop, false, get_or, IfOk, length, List, Ok}
-pub use Rattle.ed_syntax.proofs.Kit.{refl, Result, sym, ℕ, ◌++◌, ◌+◌, ◌<◌, ◌∙◌, ◌∷◌, ◌≡◌, ◌≤◌, decimal, common_steps}
+pub use Rattle.ed_lines.proofs.Kit.{[], ap, append_assoc, arith, codes, drop, false, get_or, IfOk, length, List, Ok}
+pub use Rattle.ed_lines.proofs.Kit.{refl, Result, sym, ℕ, ◌++◌, ◌+◌, ◌<◌, ◌∙◌, ◌∷◌, ◌≡◌, ◌≤◌, decimal, common_steps}
 pub use Rattle.ed_library.specs.Entries.{catalogue}
 pub use Rattle.ed_report.specs.Catalogue.{parameter_text, routine_lines}
 pub use Rattle.ed_report.specs.Listings.{right}

@@ -6,8 +6,8 @@ ghost use Rattle.ed_report.specs.Notes.{source_fault_line, tape_fault_line, text
 
 use crate::text::bytes_of_text;
 use ed_codes::TextFault;
+use ed_lines::{SourceCause, SourceFault};
 use ed_notation::{TapeCause, TapeFault};
-use ed_syntax::{SourceCause, SourceFault};
 use ed_words::NoMemory;
 use std::alloc::Global;
 

@@ -6,14 +6,14 @@ use Rattle.ed_sources.proofs.Kit.{place_count, HasWord, entry_state, Text, subst
 use Rattle.std.proofs.lemmas.List.{length-drop}
 use Rattle.ed_notation.specs.Checks.{ArePlaces}
 use Rattle.ed_notation.proofs.Contents.{length-over}
-use Rattle.ed_answers.proofs.EntryWords.{entry_word}
+use Rattle.ed_headline.proofs.EntryWords.{entry_word}
 use Rattle.ed_sources.proofs.Decimals.{list_all-numbers, numbers}
-use Rattle.ed_answers.specs.Refusals.{IsAcceptedAs}
+use Rattle.ed_headline.specs.Refusals.{IsAcceptedAs}
 use Rattle.ed_machine.specs.Sound.{IsSound}
 use Rattle.ed_machine.proofs.SoundSteps.{sound_after}
 use Rattle.ed_initial.proofs.Starts.{sound_start}
-use Rattle.ed_answers.proofs.Entries.{each_source}
-use Rattle.ed_answers.proofs.PunchedTexts.{text_is_tape}
+use Rattle.ed_headline.proofs.Entries.{each_source}
+use Rattle.ed_headline.proofs.PunchedTexts.{text_is_tape}
 
 -- the words that a source places, the last one first
 abbrev pub placed : List Line → List (ℕ × ℕ)

@@ -12,7 +12,7 @@ use Rattle.ed_sources.proofs.DemoNames.{enter_named, first_free, first_homes, pr
 use Rattle.ed_sources.proofs.Said.{said}
 use Rattle.ed_sources.proofs.SaidDemo.{adding_lines, demo_lines, enter_line, name, segment_forms, segment_line}
 use Rattle.ed_sources.proofs.SaidDemo.{word_forms}
-use Rattle.ed_syntax.specs.declared.program.Statement.TheVariants as statements
+use Rattle.ed_lines.specs.declared.program.Statement.TheVariants as statements
 use Rattle.std.proofs.Common.{rules}
 
 -- ---- locations

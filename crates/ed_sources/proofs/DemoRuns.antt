@@ -2,7 +2,7 @@
 use Rattle.ed_sources.proofs.Kit.{Line, codes, Text, few_digits, [], arith, List, ℕ, ◌*◌, ◌++◌, ◌+◌, ◌∙◌}
 use Rattle.ed_sources.proofs.Kit.{◌∷◌, ◌≡◌, print_orders, at_after, AnswersFromEntry, read_is_accepted, cost}
 use Rattle.ed_sources.proofs.Kit.{entry_note, run_outcome, accepted_is, each_answer_is_from_entry, demo_sum, demo_text}
-use Rattle.ed_answers.specs.Outcome.{Outcome}
+use Rattle.ed_tapes.specs.Outcome.{Outcome}
 use Rattle.ed_sources.specs.DemoRuns.{EachDemoRuns, demo_orders}
 use Rattle.ed_sources.proofs.DemoAccepted.{demo_read}
 use Rattle.ed_sources.proofs.DemoMost.{demo_few}

@@ -14,8 +14,8 @@ pub use Rattle.ed_machine.proofs.Kit.Standing.{patched-filled}
 pub use Rattle.ed_run.specs.declared.settings.Settings.{Settings}
 pub use Rattle.ed_notation.specs.declared.item.Item.{Item}
 pub use Rattle.ed_syntax.specs.Reading.Grammar.{row, spells}
-pub use Rattle.ed_syntax.specs.declared.program.Line.{Line}
-pub use Rattle.ed_syntax.specs.declared.program.Statement.{Statement}
+pub use Rattle.ed_lines.specs.declared.program.Line.{Line}
+pub use Rattle.ed_lines.specs.declared.program.Statement.{Statement}
 pub use Rattle.ed_syntax.proofs.Kit.{append_assoc, codes, length-append, map, nat_eq, nat_le, None, not, Ok, pos, take}
 pub use Rattle.ed_syntax.proofs.Kit.{◌||◌, list_all, and_from, and_parts, le-leb, leb-true, ltb-true, nat_tests}
 pub use Rattle.ed_syntax.proofs.Kit.{length-map, is_digit, value, Text, row_of, is_run_byte, is_line_byte, is_number}
@@ -55,12 +55,12 @@ pub use Rattle.ed_checker.proofs.Guests.{size_after}
 pub use Rattle.ed_checker.proofs.Kit.{cases_lt, function_of, kind_of_function, jump_order, next_word, obey_word}
 pub use Rattle.ed_checker.proofs.Kit.{place_of, codes_of, guest}
 pub use Rattle.ed_report.specs.Notes.{at_after}
-pub use Rattle.ed_answers.specs.FromEntry.{AnswersFromEntry}
-pub use Rattle.ed_answers.proofs.EachSource.{read_is_accepted}
-pub use Rattle.ed_answers.proofs.Kit.{◌≢◌, paper, RunEnd, is_two, program_of, entry_of, cost, entry_note, entry_state}
-pub use Rattle.ed_answers.proofs.Kit.{run_outcome}
-unfoldable pub use Rattle.ed_answers.proofs.Kit.{progress, run_end}
-pub use Rattle.ed_answers.proofs.Sources.{accepted_is, each_answer_is_from_entry}
+pub use Rattle.ed_headline.specs.FromEntry.{AnswersFromEntry}
+pub use Rattle.ed_headline.proofs.EachSource.{read_is_accepted}
+pub use Rattle.ed_headline.proofs.Kit.{◌≢◌, paper, RunEnd, is_two, program_of, entry_of, cost, entry_note, entry_state}
+pub use Rattle.ed_headline.proofs.Kit.{run_outcome}
+unfoldable pub use Rattle.ed_headline.proofs.Kit.{progress, run_end}
+pub use Rattle.ed_headline.proofs.Sources.{accepted_is, each_answer_is_from_entry}
 pub use Rattle.ed_sources.specs.CallRuns.{call_orders, most_call_orders}
 pub use Rattle.ed_sources.specs.CallSources.{call_text, filled_text, text_of_lines}
 pub use Rattle.ed_sources.specs.Costs.{call_cost, demo_cost, word_cost}

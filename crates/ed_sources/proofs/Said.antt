@@ -7,13 +7,13 @@ use Rattle.ed_sources.proofs.Kit.{Read, append-nil, ne_eqb, [], ap, arith, Bool,
 use Rattle.ed_sources.proofs.Kit.{refl, rules, Some, subst, sym, true, ℕ, ◌++◌, ◌+◌, ◌<◌, ◌==◌, ◌∙◌, ◌∷◌, ◌≡◌, ◌≤◌}
 use Rattle.ed_sources.proofs.Kit.{digits, row, spells, map, row_of}
 use Rattle.ed_syntax.proofs.Kit.{is_place_name, array, modulo, quoted, parts_from, map-append}
-use Rattle.ed_syntax.specs.declared.program.Setting.{Setting}
+use Rattle.ed_lines.specs.declared.program.Setting.{Setting}
 use Rattle.ed_sources.proofs.CallTexts.{call_lines}
 use Rattle.ed_sources.proofs.Decimals.{are_digits-digits, are_digits, decimal_is, few_bytes, line_bytes, no_quotes}
 use Rattle.ed_sources.proofs.Decimals.{row_bytes, rows_are, some_digit, written, spelled}
 use Rattle.ed_sources.proofs.TextLines.{Says, ends, says, by_parts}
-use Rattle.ed_syntax.specs.declared.program.Operand.TheVariants as operands
-use Rattle.ed_syntax.specs.declared.program.Statement.TheVariants as statements
+use Rattle.ed_lines.specs.declared.program.Operand.TheVariants as operands
+use Rattle.ed_lines.specs.declared.program.Statement.TheVariants as statements
 use Rattle.std.proofs.lemmas.Grind.{common_steps}
 
 -- ---- lines

@@ -11,8 +11,8 @@ use Rattle.ed_sources.proofs.FilledLines.{filled_lines}
 use Rattle.ed_sources.proofs.Said.{a_number, number_parts, order, plain_front, said, stop, word_says}
 use Rattle.ed_sources.proofs.SaidMaths.{use_print}
 use Rattle.ed_sources.proofs.TextLines.{Says, ends, says, by_parts}
-use Rattle.ed_syntax.specs.declared.program.Operand.TheVariants as operands
-use Rattle.ed_syntax.specs.declared.program.Statement.TheVariants as statements
+use Rattle.ed_lines.specs.declared.program.Operand.TheVariants as operands
+use Rattle.ed_lines.specs.declared.program.Statement.TheVariants as statements
 
 -- ---- lines
 

@@ -4,8 +4,8 @@ use Rattle.ed_sources.proofs.Kit.{List, lit≤, refl, Some, ℕ, ◌%◌, ◌/�
 use Rattle.ed_sources.proofs.CallTexts.{call_lines}
 use Rattle.ed_sources.proofs.Said.{at_place, main_calls, said, use_on, use_with, labelled}
 use Rattle.ed_sources.proofs.TextLines.{Says, ends, says}
-use Rattle.ed_syntax.specs.declared.program.Operand.TheVariants as operands
-use Rattle.ed_syntax.specs.declared.program.Statement.TheVariants as statements
+use Rattle.ed_lines.specs.declared.program.Operand.TheVariants as operands
+use Rattle.ed_lines.specs.declared.program.Statement.TheVariants as statements
 
 -- the statements that use a routine
 abbrev use_divide : Statement

@@ -3,7 +3,7 @@ use Rattle.ed_sources.proofs.Kit.{Settings, Line, codes, None, Text, append-nil,
 use Rattle.ed_sources.proofs.Kit.{List, rules, suc, ℕ, ◌++◌, ◌+◌, ◌-◌, ◌∷◌, ◌≡◌, ◌≤◌, step, State, at_after}
 use Rattle.ed_sources.proofs.Kit.{AnswersFromEntry, paper, run_end, RunEnd, entry_of, cost, entry_note, entry_state}
 use Rattle.ed_sources.proofs.Kit.{run_outcome}
-use Rattle.ed_answers.specs.Runs.{paper_room, ran_outcome, with_post_mortem}
+use Rattle.ed_tapes.specs.Runs.{paper_room, ran_outcome, with_post_mortem}
 use Rattle.ed_sources.proofs.Stops.{RanToStop, ran_to_stop}
 
 -- no post-mortem prints nothing

@@ -3,7 +3,7 @@ use Rattle.ed_machine.proofs.Names.{ap, append-nil, arith, inl, inr, length, Lis
 use Rattle.ed_machine.proofs.Names.{suc, ℕ, ◌++◌, ◌+◌, ◌<◌, ◌∙◌, ◌≡◌, ◌≤◌, cases_lt, locations, function_of}
 use Rattle.ed_machine.proofs.Names.{kind_of_function, after, done_at, next_word, obey_word, step, State, AreObeyed}
 use Rattle.ed_machine.proofs.Names.{codes_of, is_obeyed, progress, state_after}
-use Rattle.ed_answers.proofs.Kit.{run_end, RunEnd, ran_ends}
+use Rattle.ed_headline.proofs.Kit.{run_end, RunEnd, ran_ends}
 use Rattle.ed_words.proofs.SizeLemmas.{within_below}
 use Rattle.ed_orders.specs.declared.kind.Kind.{Kind}
 use Rattle.ed_orders.specs.declared.kind.Kind.TheVariants.{E, G, I, Z}

@@ -3,10 +3,10 @@ use Rattle.std.specs.Prelude.{◌≡◌, ℕ, ◌+◌, ◌*◌, ◌/◌, ◌%◌
 use Rattle.std.specs.Fmt.{decimal}
 use Rattle.ed_library.specs.declared.call.Call.{Call}
 use Rattle.ed_library.specs.declared.call.Call.TheVariants.{Print, Read, NewLine, Divide, Root, Check}
-use Rattle.ed_syntax.specs.declared.program.Line.{Line}
-use Rattle.ed_answers.specs.Refusals.{IsAcceptedAs}
+use Rattle.ed_lines.specs.declared.program.Line.{Line}
+use Rattle.ed_headline.specs.Refusals.{IsAcceptedAs}
 use Rattle.ed_link.specs.Tapes.{cost}
-use Rattle.ed_answers.specs.EntryState.{entry_state}
+use Rattle.ed_headline.specs.EntryState.{entry_state}
 use Rattle.ed_printer.specs.Paper.{paper}
 use Rattle.ed_report.specs.Notes.{at_after, entry_note}
 use Rattle.ed_routines.specs.Digits.{before_units, digits, print_orders, sum}
@@ -20,9 +20,9 @@ use Rattle.ed_sources.specs.CallSources.{call_text}
 use Rattle.ed_sources.specs.Costs.{call_cost}
 use Rattle.ed_words.specs.Texts.{Text}
 use Rattle.ed_run.specs.declared.settings.Settings.{Settings}
-use Rattle.ed_answers.specs.Outcome.{Outcome}
-use Rattle.ed_answers.specs.Sources.{OfSource, run_outcome}
-use Rattle.ed_answers.specs.FromEntry.{AnswersFromEntry}
+use Rattle.ed_tapes.specs.Outcome.{Outcome}
+use Rattle.ed_headline.specs.Sources.{OfSource, run_outcome}
+use Rattle.ed_headline.specs.FromEntry.{AnswersFromEntry}
 
 -- the base of the checking routine in the source of `call check`
 abbrev pub check_base : ℕ

@@ -3,17 +3,17 @@ use Rattle.std.specs.Prelude.{◌≡◌, ℕ, ◌+◌, ◌*◌, ◌≤◌, List,
 use Rattle.std.specs.Fmt.{decimal}
 use Rattle.ed_words.specs.Sizes.{locations}
 use Rattle.ed_run.specs.declared.settings.Settings.{Settings}
-use Rattle.ed_syntax.specs.declared.program.Line.{Line}
-use Rattle.ed_answers.specs.Refusals.{IsAcceptedAs}
+use Rattle.ed_lines.specs.declared.program.Line.{Line}
+use Rattle.ed_headline.specs.Refusals.{IsAcceptedAs}
 use Rattle.ed_link.specs.Tapes.{cost}
 use Rattle.ed_report.specs.Notes.{at_after, entry_note}
 use Rattle.ed_routines.specs.Digits.{print_orders}
 use Rattle.ed_sources.specs.Costs.{demo_cost}
 use Rattle.ed_sources.specs.DemoSources.{demo_sum, demo_text}
-use Rattle.ed_answers.specs.FromEntry.{AnswersFromEntry}
-use Rattle.ed_answers.specs.Outcome.{Outcome}
+use Rattle.ed_headline.specs.FromEntry.{AnswersFromEntry}
+use Rattle.ed_tapes.specs.Outcome.{Outcome}
 use Rattle.ed_words.specs.Texts.{Text}
-use Rattle.ed_answers.specs.Sources.{OfSource, run_outcome}
+use Rattle.ed_headline.specs.Sources.{OfSource, run_outcome}
 
 -- the number of orders that `demo N` obeys from its entry to its stop, including the stop: 9 for each of its 8 N words,
 -- those of `print` for the sum, and 4 others

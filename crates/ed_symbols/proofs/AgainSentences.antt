@@ -4,7 +4,7 @@ use Rattle.ed_symbols.proofs.Kit.{Line, [], ap, arith, inl, inr, List, Option}
 use Rattle.ed_symbols.proofs.Kit.{refl, Some, true, ℕ, ◌++◌, ◌∷◌, ◌≡◌, ◌⊎◌, counter_after, rules}
 use Rattle.ed_symbols.proofs.Kit.{counter_from, IsLineAfter, defines_again, definition_of, line_definitions}
 use Rattle.ed_symbols.proofs.Kit.{symbols_from, after_statement, first_counter, LocationCounter, Definition}
-use Rattle.ed_syntax.proofs.Kit.{bytes_eq-Decides}
+use Rattle.ed_lines.proofs.Kit.{bytes_eq-Decides}
 use Rattle.std.specs.List.{Contains}
 use Rattle.std.proofs.lemmas.Bool.{eqb-true, eq-eqb}
 use Rattle.std.proofs.lemmas.List.Elements.{Contains-append_cases, Contains-append_left, Contains-append_right}

@@ -1,7 +1,7 @@
 -- Tests in the order of the numbers of their faults answer the fault with the least number.
 use Rattle.ed_symbols.proofs.Kit.{SourceCause, [], Bool, if◌then◌else◌, List, None, Option, Some}
 use Rattle.ed_symbols.proofs.Kit.{ℕ, ◌+◌, ◌∷◌, ◌≡◌, ◌≤◌, number_of, rules}
-use Rattle.ed_syntax.proofs.Causes.{same_cause}
+use Rattle.ed_lines.proofs.Causes.{same_cause}
 use Rattle.ed_symbols.proofs.Sentences.{Ties}
 
 -- tests in the order of the numbers, from one number upwards; each says the same as its sentence

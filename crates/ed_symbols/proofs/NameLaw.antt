@@ -7,15 +7,15 @@ use Rattle.ed_symbols.proofs.Kit.{reaches_outside, line_definitions, symbols_fro
 use Rattle.ed_symbols.proofs.Kit.{LocationCounter}
 use Rattle.std.proofs.Common.{slice_index_or}
 use Rattle.std.proofs.Math.Seq.{get_or-append_seam}
-use Rattle.ed_syntax.specs.Programs.{AreNumbered}
-use Rattle.ed_syntax.proofs.Causes.{one_least}
+use Rattle.ed_lines.specs.Programs.{AreNumbered}
+use Rattle.ed_lines.proofs.Causes.{one_least}
 use Rattle.ed_symbols.specs.NameFaults.{LineHasNameFault, HasNameFault, NameFaultIs, EachHasOneNameFault}
 use Rattle.ed_symbols.specs.NameTests.{resolution}
 use Rattle.ed_symbols.proofs.AgainSentences.{Ties-s6}
 use Rattle.ed_symbols.proofs.FaultPasses.{first, Finds-first, Finds, Numbered}
 use Rattle.ed_symbols.proofs.LeastFaults.{Least, Least-picks}
 use Rattle.ed_symbols.proofs.NamingSentences.{Ties-s7, Ties-s8}
-use Rattle.ed_syntax.specs.declared.fault.SourceCause.TheVariants as causes
+use Rattle.ed_lines.specs.declared.fault.SourceCause.TheVariants as causes
 
 -- ---- one line
 

@@ -4,13 +4,13 @@ use Rattle.ed_symbols.proofs.Kit.{Line, Setting, [], ap, Bool, inl, List, Option
 use Rattle.ed_symbols.proofs.Kit.{ℤ, ◌||◌, ◌∷◌, ◌≡◌, ◌⊎◌, counter_after, is_no_address, is_unknown, names_unknown}
 use Rattle.ed_symbols.proofs.Kit.{reaches_outside, symbols_from, operand_of, first_counter, segment_of, Definition}
 use Rattle.std.proofs.Common.{map, pos, int_lt}
-use Rattle.ed_syntax.specs.declared.program.Operand.{Operand}
-use Rattle.ed_syntax.specs.declared.program.Statement.{Statement}
+use Rattle.ed_lines.specs.declared.program.Operand.{Operand}
+use Rattle.ed_lines.specs.declared.program.Statement.{Statement}
 use Rattle.ed_symbols.specs.NameFaults.{HasOperand, HasName, NamesUnknown, ReachesOutside}
 use Rattle.ed_symbols.specs.NameTests.{any_operand, enters_unknown, is_far}
 use Rattle.ed_symbols.specs.Operands.{operand_value}
 use Rattle.ed_symbols.proofs.Sentences.{Ties}
-use Rattle.ed_syntax.specs.declared.program.Operand.TheVariants as operands
+use Rattle.ed_lines.specs.declared.program.Operand.TheVariants as operands
 use Rattle.ed_symbols.proofs.Kit.{rules}
 
 -- ---- S7 and S8: the operands

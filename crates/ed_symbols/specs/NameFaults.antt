@@ -3,17 +3,17 @@
 use Rattle.std.specs.Prelude.{◌≡◌, ◌⊎◌, ℕ, ◌+◌, true, List, [], ◌∷◌, ◌++◌, length, map}
 use Rattle.std.specs.Prelude.{Option, Some, None, ℤ, pos, int_lt}
 use Rattle.std.specs.List.{Contains}
-use Rattle.ed_syntax.specs.Causes.{IsLeastFault}
-use Rattle.ed_syntax.specs.Programs.{AreNumbered}
-use Rattle.ed_syntax.specs.declared.program.Operand.{Operand}
-use Rattle.ed_syntax.specs.declared.program.Operand.TheVariants as operands
-use Rattle.ed_syntax.specs.declared.program.Statement.{Statement}
-use Rattle.ed_syntax.specs.declared.program.Statement.TheVariants.{Order, Fetch, Enter}
-use Rattle.ed_syntax.specs.declared.program.Line.{Line}
-use Rattle.ed_syntax.specs.declared.fault.SourceCause.{SourceCause}
-use Rattle.ed_syntax.specs.declared.fault.SourceCause.TheVariants as causes
-use Rattle.ed_syntax.specs.declared.fault.SourceFault.{SourceFault}
-use Rattle.ed_syntax.specs.declared.fault.SourceFault.TheVariants.{At, Memory}
+use Rattle.ed_lines.specs.Causes.{IsLeastFault}
+use Rattle.ed_lines.specs.Programs.{AreNumbered}
+use Rattle.ed_lines.specs.declared.program.Operand.{Operand}
+use Rattle.ed_lines.specs.declared.program.Operand.TheVariants as operands
+use Rattle.ed_lines.specs.declared.program.Statement.{Statement}
+use Rattle.ed_lines.specs.declared.program.Statement.TheVariants.{Order, Fetch, Enter}
+use Rattle.ed_lines.specs.declared.program.Line.{Line}
+use Rattle.ed_lines.specs.declared.fault.SourceCause.{SourceCause}
+use Rattle.ed_lines.specs.declared.fault.SourceCause.TheVariants as causes
+use Rattle.ed_lines.specs.declared.fault.SourceFault.{SourceFault}
+use Rattle.ed_lines.specs.declared.fault.SourceFault.TheVariants.{At, Memory}
 use Rattle.ed_symbols.specs.declared.location_counter.LocationCounter.{LocationCounter}
 use Rattle.ed_symbols.specs.declared.symbols.Definition.{Definition}
 use Rattle.ed_symbols.specs.Places.{after_statement, first_counter, segment_of}

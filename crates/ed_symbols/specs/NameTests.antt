@@ -4,15 +4,15 @@ use Rattle.std.specs.Prelude.{ℕ, ◌||◌, Bool, false, List, [], ◌∷◌}
 use Rattle.std.specs.Prelude.{◌++◌, Option, Some, None, is_none, is_some, if◌then◌else◌}
 use Rattle.std.specs.Prelude.{ℤ, pos, int_lt}
 use Rattle.std.specs.List.{list_any}
-use Rattle.ed_syntax.specs.declared.program.Operand.{Operand}
-use Rattle.ed_syntax.specs.declared.program.Operand.TheVariants.{Number, Label, Two}
-use Rattle.ed_syntax.specs.declared.program.Statement.{Statement}
-use Rattle.ed_syntax.specs.declared.program.Statement.TheVariants.{Order, Fetch, Enter}
-use Rattle.ed_syntax.specs.declared.program.Line.{Line}
-use Rattle.ed_syntax.specs.declared.fault.SourceCause.{SourceCause}
-use Rattle.ed_syntax.specs.declared.fault.SourceCause.TheVariants.{LabelTwice, LabelUnknown, AddressRange}
-use Rattle.ed_syntax.specs.declared.fault.SourceFault.{SourceFault}
-use Rattle.ed_syntax.specs.declared.fault.SourceFault.TheVariants.{At}
+use Rattle.ed_lines.specs.declared.program.Operand.{Operand}
+use Rattle.ed_lines.specs.declared.program.Operand.TheVariants.{Number, Label, Two}
+use Rattle.ed_lines.specs.declared.program.Statement.{Statement}
+use Rattle.ed_lines.specs.declared.program.Statement.TheVariants.{Order, Fetch, Enter}
+use Rattle.ed_lines.specs.declared.program.Line.{Line}
+use Rattle.ed_lines.specs.declared.fault.SourceCause.{SourceCause}
+use Rattle.ed_lines.specs.declared.fault.SourceCause.TheVariants.{LabelTwice, LabelUnknown, AddressRange}
+use Rattle.ed_lines.specs.declared.fault.SourceFault.{SourceFault}
+use Rattle.ed_lines.specs.declared.fault.SourceFault.TheVariants.{At}
 use Rattle.ed_symbols.specs.Places.{first_counter, after_statement, segment_of, positions_from}
 use Rattle.ed_symbols.specs.Names.{line_definitions, definition_of, symbols_from, label_definition, as_list}
 use Rattle.ed_symbols.specs.Names.{statement_definition, place_on}

@@ -3,9 +3,9 @@
 use Rattle.std.specs.Prelude.{ℕ, ◌+◌, ◌==◌, ◌&&◌, ◌||◌, not, Bool, false, List}
 use Rattle.std.specs.Prelude.{[], ◌∷◌, ◌++◌, Option, Some, None, unwrap_or, option_map, if◌then◌else◌}
 use Rattle.std.specs.Str.{bytes_eq}
-use Rattle.ed_syntax.specs.declared.program.Statement.{Statement}
-use Rattle.ed_syntax.specs.declared.program.Statement.TheVariants.{Segment, Fetch, Long}
-use Rattle.ed_syntax.specs.declared.program.Line.{Line}
+use Rattle.ed_lines.specs.declared.program.Statement.{Statement}
+use Rattle.ed_lines.specs.declared.program.Statement.TheVariants.{Segment, Fetch, Long}
+use Rattle.ed_lines.specs.declared.program.Line.{Line}
 use Rattle.ed_symbols.specs.Places.{even_from, after_statement, segment_at}
 use Rattle.ed_symbols.specs.declared.location_counter.LocationCounter.{LocationCounter}
 use Rattle.ed_symbols.specs.declared.symbols.Definition.{Definition}

@@ -1,8 +1,8 @@
 -- The value of an operand on a line (this project's own rule).
 use Rattle.std.specs.Prelude.{ℕ, Bool, List, Option, Some, None, if◌then◌else◌, ℤ, pos, ◌+ℤ◌, ◌-ℤ◌}
-use Rattle.ed_syntax.specs.declared.program.Operand.{Operand}
-use Rattle.ed_syntax.specs.declared.program.Operand.TheVariants.{Number, Label, Two}
-use Rattle.ed_syntax.specs.declared.program.Setting.{Setting}
+use Rattle.ed_lines.specs.declared.program.Operand.{Operand}
+use Rattle.ed_lines.specs.declared.program.Operand.TheVariants.{Number, Label, Two}
+use Rattle.ed_lines.specs.declared.program.Setting.{Setting}
 use Rattle.ed_symbols.specs.Names.{place_on}
 use Rattle.ed_symbols.specs.declared.symbols.Definition.{Definition}
 

@@ -2,10 +2,10 @@
 use Rattle.std.specs.Prelude.{ℕ, ◌+◌, ◌%◌, true, false, List, []}
 use Rattle.std.specs.Prelude.{◌∷◌, length, Option, Some, None, unwrap_or, if◌then◌else◌}
 use Rattle.ed_library.specs.Routines.{find, place_count}
-use Rattle.ed_syntax.specs.declared.program.Statement.{Statement}
-use Rattle.ed_syntax.specs.declared.program.Statement.TheVariants.{Segment, Order, Number, Text}
-use Rattle.ed_syntax.specs.declared.program.Statement.TheVariants.{Fetch, Enter, Rows, Long}
-use Rattle.ed_syntax.specs.declared.program.Line.{Line}
+use Rattle.ed_lines.specs.declared.program.Statement.{Statement}
+use Rattle.ed_lines.specs.declared.program.Statement.TheVariants.{Segment, Order, Number, Text}
+use Rattle.ed_lines.specs.declared.program.Statement.TheVariants.{Fetch, Enter, Rows, Long}
+use Rattle.ed_lines.specs.declared.program.Line.{Line}
 use Rattle.ed_symbols.specs.declared.location_counter.LocationCounter.{LocationCounter}
 use Rattle.ed_symbols.specs.declared.location_counter.LinePosition.{LinePosition}
 

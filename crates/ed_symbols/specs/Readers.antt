@@ -1,6 +1,6 @@
 -- What resolving the names of a source gives, and what can be read of it by the number of a line, counted from 1.
 use Rattle.std.specs.Prelude.{ℕ, ◌-◌, List, Option, None, slice_index_or}
-use Rattle.ed_syntax.specs.declared.fault.SourceFault.{SourceFault}
+use Rattle.ed_lines.specs.declared.fault.SourceFault.{SourceFault}
 use Rattle.ed_symbols.specs.declared.location_counter.LinePosition.{LinePosition}
 use Rattle.ed_symbols.specs.declared.symbols.Definition.{Definition}
 

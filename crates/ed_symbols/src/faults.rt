@@ -8,7 +8,7 @@ ghost use Rattle.ed_symbols.specs.NameTests.{operands_cause};
 ghost use Rattle.ed_symbols.specs.Operands.{operand_value, with_more};
 
 use crate::symbols::{Definition, find_place};
-use ed_syntax::{Operand, Setting, SourceCause, Statement};
+use ed_lines::{Operand, Setting, SourceCause, Statement};
 
 /// The value of an operand on a line of a segment.
 pub fn value(symbols: &[Definition], segment: Option<u32>, operand: &Operand) -> Option<i64>

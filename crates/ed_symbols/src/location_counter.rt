@@ -5,7 +5,7 @@ ghost use Rattle.ed_symbols.specs.Places.{even_from, first_counter, after_statem
 ghost use Rattle.ed_symbols.specs.Places.{routine_places};
 
 use ed_library::find;
-use ed_syntax::{Name, Statement};
+use ed_lines::{Name, Statement};
 
 /// The location counter and the segment before a line.
 #[derive(Clone, Copy)]

@@ -8,7 +8,7 @@ ghost use Rattle.ed_symbols.specs.Readers.{line_place, line_segment};
 use crate::faults::statement_cause;
 use crate::location_counter::{LinePosition, LocationCounter};
 use crate::symbols::{Definition, add_line, find_definition, find_place};
-use ed_syntax::{Name, Program, SourceCause, SourceFault};
+use ed_lines::{Name, Program, SourceCause, SourceFault};
 use ed_words::NoMemory;
 use std::alloc::Global;
 use std::marker::Model;

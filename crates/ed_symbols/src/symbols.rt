@@ -6,7 +6,7 @@ ghost use Rattle.ed_symbols.specs.Names.{place_on};
 ghost use Rattle.ed_symbols.specs.NameTests.{defines_again, is_again};
 
 use crate::location_counter::{LocationCounter, base_or, even};
-use ed_syntax::{Line, Name, Statement};
+use ed_lines::{Line, Name, Statement};
 use ed_words::NoMemory;
 
 /// The definition of a name.

@@ -6,8 +6,8 @@ use Rattle.ed_syntax.proofs.FormLaws.{just, with_label}
 use Rattle.ed_syntax.proofs.LineLaws.{read_form_is_spelled, unread_is_unspelled, out_of_range_is_spelled}
 use Rattle.ed_syntax.proofs.SourceLaws.{source_answer}
 use Rattle.ed_syntax.specs.Reading.Grammar
-use Rattle.ed_syntax.specs.declared.program.Operand.TheVariants as operands
-use Rattle.ed_syntax.specs.declared.program.Statement.TheVariants as statements
+use Rattle.ed_lines.specs.declared.program.Operand.TheVariants as operands
+use Rattle.ed_lines.specs.declared.program.Statement.TheVariants as statements
 
 -- ---- by hand
 

@@ -1,4 +1,3 @@
-pub mod Causes
 pub mod Faults
 pub mod FitLaws
 pub mod FormExamples
@@ -6,8 +5,6 @@ pub mod FormLaws
 pub mod Formed
 pub mod LineLaws
 pub mod Lines
-pub mod Meaning
-pub mod NameBytes
 pub mod NameLemmas
 pub mod Numbers
 pub mod OperandLaws

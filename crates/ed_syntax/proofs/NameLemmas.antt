@@ -1,8 +1,7 @@
 -- Names are texts of 1 to 16 bytes.
-use Rattle.ed_syntax.proofs.Kit.{[], arith, Bool, false, inl, inr, length, nat_le, Option, refl}
-use Rattle.ed_syntax.proofs.Kit.{rules, suc, sym, true, zero, ℕ, ◌&&◌, ◌<◌, ◌==◌, ◌∙◌, ◌∷◌, ◌≡◌, ◌≤◌, ◌⊎◌}
-use Rattle.ed_syntax.proofs.Kit.{list_all, and_parts, Decides-eqb, nat_tests, Text, is_local_name, is_lower, is_name}
-use Rattle.ed_syntax.proofs.Kit.{is_place_name, is_run_byte}
+use Rattle.ed_syntax.proofs.Kit.{[], arith, Bool, false, length, nat_le, Option, refl, rules, suc, true, zero, ℕ, ◌&&◌}
+use Rattle.ed_syntax.proofs.Kit.{◌<◌, ◌==◌, ◌∷◌, ◌≡◌, ◌⊎◌, list_all, and_parts, nat_tests, Text, is_local_name}
+use Rattle.ed_syntax.proofs.Kit.{is_lower, is_name, is_place_name, is_run_byte}
 use Rattle.std.proofs.Common.{IfNone, IsNone}
 use Rattle.std.specs.Str.{IsAscii}
 use Rattle.std.proofs.lemmas.Str.{IsUtf8-from_ascii}
@@ -53,14 +52,3 @@ place_name_text two r h = by_name (is_name r) refl
 pub IfNone-named : {A : Type 0} (P : Type 0) (o : Option A) (text r : Text) → text ≡ r → IsNameText r
     → (IsNone o → (length text ≡ 0) ⊎ (16 < length text)) → IfNone o P
 IfNone-named P o text r same h none = search rules
-
--- a text that isn't empty and has at most 16 bytes
-pub length-within : (text : Text) → (length text == 0) ≡ false → length text ≤ 16
-    → (true ≡ false → (length text ≡ 0) ⊎ (16 < length text)) × ((length text ≡ 0) ⊎ (16 < length text) → true ≡ false)
-length-within text some few = search rules
-
--- a text that is no name
-pub empty_or_long : (text : Text) (empty : Bool) → empty ≡ (length text == 0)
-    → (empty ≡ true) ⊎ ((empty ≡ false) × (16 < length text)) → (length text ≡ 0) ⊎ (16 < length text)
-empty_or_long text empty is (inl e) = inl ((Decides-eqb (length text) 0).0 (sym is ∙ e))
-empty_or_long text empty is (inr p) = inr p.1

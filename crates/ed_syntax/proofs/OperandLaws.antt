@@ -9,7 +9,7 @@ use Rattle.ed_syntax.proofs.Readings.{ranged, IsSpelled, out_of_range, in_range,
 use Rattle.ed_syntax.proofs.Readings.{map_ranged, by_range, by_test, if_passed}
 use Rattle.std.proofs.lemmas.Bool.{or_cases, cond_both, not-true}
 use Rattle.ed_syntax.specs.Reading.Grammar
-use Rattle.ed_syntax.specs.declared.program.Operand.TheVariants as operands
+use Rattle.ed_lines.specs.declared.program.Operand.TheVariants as operands
 
 -- ---- a name is not a number
 

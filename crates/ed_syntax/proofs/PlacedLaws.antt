@@ -10,8 +10,8 @@ use Rattle.ed_syntax.proofs.OperandLaws.{operand_is_read, operand_is_spelled}
 use Rattle.ed_syntax.proofs.Readings.{ranged, IsSpelled, unread, in_range, IsSpelledFirst, first, map_ranged, by_number}
 use Rattle.ed_syntax.proofs.Readings.{made_ranged, made_spelled, if_passed, by_keyword, by_option}
 use Rattle.ed_syntax.specs.Reading.Grammar
-use Rattle.ed_syntax.specs.declared.program.Operand.TheVariants as operands
-use Rattle.ed_syntax.specs.declared.program.Statement.TheVariants as statements
+use Rattle.ed_lines.specs.declared.program.Operand.TheVariants as operands
+use Rattle.ed_lines.specs.declared.program.Statement.TheVariants as statements
 
 -- ---- what is spelled is read: an order
 

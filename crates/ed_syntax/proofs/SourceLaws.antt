@@ -18,9 +18,9 @@ use Rattle.std.proofs.lemmas.List.{get_or_append_left, length-append}
 use Rattle.ed_syntax.specs.Lines.{nothing, last}
 use Rattle.ed_syntax.specs.Reading.Sources.{and_lines, is_two, says_two, version_of, program_of}
 use Rattle.ed_syntax.specs.Sources.{LineHasFault, SourceHasFormFault, IsProgramOrFault, HasOneMeaning, HasFormFault}
-use Rattle.ed_syntax.specs.declared.fault.SourceCause.TheVariants.{LongLine, TooManyLines}
-use Rattle.ed_syntax.specs.declared.program.Program.{Program}
-use Rattle.ed_syntax.proofs.Causes.{number_of-least, one_least}
+use Rattle.ed_lines.specs.declared.fault.SourceCause.TheVariants.{LongLine, TooManyLines}
+use Rattle.ed_lines.specs.declared.program.Program.{Program}
+use Rattle.ed_lines.proofs.Causes.{number_of-least, one_least}
 use Rattle.ed_syntax.proofs.LineLaws.{form_of, spelled_is_read, read_form_is_spelled, fits_once, one_form}
 use Rattle.ed_syntax.proofs.LineLaws.{out_of_range_is_spelled, unread_is_unspelled}
 use Rattle.ed_syntax.proofs.PartsLaws.{parts_are_read, read_parts_are}

@@ -23,8 +23,8 @@ use Rattle.ed_syntax.proofs.Fronts.{IsFront, no_front, blank_front, sign_front, 
 use Rattle.ed_syntax.proofs.Fronts.{joined_front, front_parts}
 use Rattle.ed_syntax.proofs.Numerals.{IsNumeral, numeral_of, numeral_part}
 use Rattle.ed_syntax.proofs.RunTests.{is_run}
-use Rattle.ed_syntax.specs.declared.program.Operand.TheVariants as operands
-use Rattle.ed_syntax.specs.declared.program.Statement.TheVariants as statements
+use Rattle.ed_lines.specs.declared.program.Operand.TheVariants as operands
+use Rattle.ed_lines.specs.declared.program.Statement.TheVariants as statements
 use Rattle.ed_syntax.specs.Written
 
 -- the parts of this text spell it

@@ -11,7 +11,7 @@ use Rattle.ed_syntax.proofs.Readings.{made_ranged, made_spelled, respelled}
 use Rattle.ed_syntax.proofs.Kit.{le-leb}
 use Rattle.ed_syntax.proofs.SettingLaws.{settings_are_read, settings_are_spelled}
 use Rattle.ed_syntax.specs.Reading.Grammar
-use Rattle.ed_syntax.specs.declared.program.Statement.TheVariants as statements
+use Rattle.ed_lines.specs.declared.program.Statement.TheVariants as statements
 
 -- ---- what is spelled is read: statements
 

@@ -8,16 +8,16 @@ use Rattle.ed_codes.specs.Spelling.{row_of}
 use Rattle.ed_words.specs.Texts.{Text}
 use Rattle.ed_words.specs.Decimals.{value}
 use Rattle.ed_syntax.specs.Parts.{LinePart, run, sign, quoted, is_blank, begins_run, has_quote}
-use Rattle.ed_syntax.specs.Names.{is_run_byte}
+use Rattle.ed_lines.specs.Names.{is_run_byte}
 use Rattle.ed_syntax.specs.Parts.{is_number, with_sign, function, length_of}
-use Rattle.ed_syntax.specs.Names.{is_name, is_place_name}
+use Rattle.ed_lines.specs.Names.{is_name, is_place_name}
 use Rattle.ed_syntax.specs.Parts.{setting_letter, array, modulo}
-use Rattle.ed_syntax.specs.Programs.{is_form}
-use Rattle.ed_syntax.specs.declared.program.Operand.{Operand}
-use Rattle.ed_syntax.specs.declared.program.Operand.TheVariants.{Number, Label, Two}
-use Rattle.ed_syntax.specs.declared.program.Setting.{Setting}
-use Rattle.ed_syntax.specs.declared.program.Statement.{Statement}
-use Rattle.ed_syntax.specs.declared.program.Statement.TheVariants as statements
+use Rattle.ed_lines.specs.Programs.{is_form}
+use Rattle.ed_lines.specs.declared.program.Operand.{Operand}
+use Rattle.ed_lines.specs.declared.program.Operand.TheVariants.{Number, Label, Two}
+use Rattle.ed_lines.specs.declared.program.Setting.{Setting}
+use Rattle.ed_lines.specs.declared.program.Statement.{Statement}
+use Rattle.ed_lines.specs.declared.program.Statement.TheVariants as statements
 use Rattle.ed_syntax.specs.declared.form.Form.{Form}
 
 -- ---- a text and its parts

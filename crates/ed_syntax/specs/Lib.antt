@@ -1,11 +1,7 @@
-pub mod Names
-pub mod PaddedNames
-pub mod Programs
 pub mod Lines
 pub mod Parts
 pub mod Versions
 pub mod Forms
-pub mod Causes
 pub mod Sources
 pub mod Written
 pub mod Reading

@@ -7,7 +7,7 @@ use Rattle.ed_codes.specs.Spelling.{row_of}
 use Rattle.arrayvec.specs.ArrayVec.{ArrayVec}
 use Rattle.ed_words.specs.Texts.{Text}
 use Rattle.ed_words.specs.Decimals.{is_digit}
-use Rattle.ed_syntax.specs.Names.{is_run_byte}
+use Rattle.ed_lines.specs.Names.{is_run_byte}
 
 -- ---- bytes and parts
 

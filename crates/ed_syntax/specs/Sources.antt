@@ -7,14 +7,14 @@ use Rattle.ed_words.specs.Decimals.{value}
 use Rattle.ed_syntax.specs.Lines.{HasLines}
 use Rattle.ed_syntax.specs.Parts.{run, is_number, is_line_byte}
 use Rattle.ed_syntax.specs.Forms.{HasLineParts, SpellsLine, IsNoStatement, HasNumberOutOfRange}
-use Rattle.ed_syntax.specs.Causes.{IsLeastFault}
+use Rattle.ed_lines.specs.Causes.{IsLeastFault}
 use Rattle.ed_syntax.specs.declared.form.Form.{Form}
-use Rattle.ed_syntax.specs.declared.program.Line.{Line}
-use Rattle.ed_syntax.specs.declared.fault.SourceCause.{SourceCause}
-use Rattle.ed_syntax.specs.declared.fault.SourceFault.{SourceFault}
-use Rattle.ed_syntax.specs.declared.fault.SourceFault.TheVariants.{At, Memory}
-use Rattle.ed_syntax.specs.declared.fault.SourceCause.TheVariants.{BadByte, LongLine, NotAStatement}
-use Rattle.ed_syntax.specs.declared.fault.SourceCause.TheVariants.{NumberRange, TooManyLines}
+use Rattle.ed_lines.specs.declared.program.Line.{Line}
+use Rattle.ed_lines.specs.declared.fault.SourceCause.{SourceCause}
+use Rattle.ed_lines.specs.declared.fault.SourceFault.{SourceFault}
+use Rattle.ed_lines.specs.declared.fault.SourceFault.TheVariants.{At, Memory}
+use Rattle.ed_lines.specs.declared.fault.SourceCause.TheVariants.{BadByte, LongLine, NotAStatement}
+use Rattle.ed_lines.specs.declared.fault.SourceCause.TheVariants.{NumberRange, TooManyLines}
 
 -- ---- one line
 

@@ -5,12 +5,12 @@ use Rattle.std.specs.Prelude.{List, [], ◌∷◌, ◌++◌, codes, map, slice_i
 use Rattle.std.specs.Fmt.{decimal}
 use Rattle.ed_codes.specs.Spelling.{letters}
 use Rattle.ed_words.specs.Texts.{Text}
-use Rattle.ed_syntax.specs.declared.program.Operand.{Operand}
-use Rattle.ed_syntax.specs.declared.program.Operand.TheVariants as operands
-use Rattle.ed_syntax.specs.declared.program.Setting.{Setting}
-use Rattle.ed_syntax.specs.declared.program.Statement.{Statement}
-use Rattle.ed_syntax.specs.declared.program.Statement.TheVariants as statements
-use Rattle.ed_syntax.specs.declared.program.Line.{Line}
+use Rattle.ed_lines.specs.declared.program.Operand.{Operand}
+use Rattle.ed_lines.specs.declared.program.Operand.TheVariants as operands
+use Rattle.ed_lines.specs.declared.program.Setting.{Setting}
+use Rattle.ed_lines.specs.declared.program.Statement.{Statement}
+use Rattle.ed_lines.specs.declared.program.Statement.TheVariants as statements
+use Rattle.ed_lines.specs.declared.program.Line.{Line}
 
 -- the letter or sign of a row, as of a function
 abbrev pub row_letter : ℕ → ℕ

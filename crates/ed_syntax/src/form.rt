@@ -1,6 +1,6 @@
 //! What a line says.
-use crate::name::Name;
-use crate::program::Statement;
+
+use ed_lines::{Name, Statement};
 
 /// What a line says, without its number: a label, a statement, both or neither.
 #[derive(Drop)]

@@ -14,10 +14,10 @@ ghost use Rattle.ed_syntax.specs.Private.Seen.{part};
 use crate::Version;
 use crate::form_fault::{FormFault, Ranged};
 use crate::parts::Part;
-use crate::program::{Operand, Setting};
 use crate::terms::{is, number, place_name};
 use arrayvec::ArrayVec;
 use ed_codes::{Code, row_of_byte};
+use ed_lines::{Operand, Setting};
 
 /// An operand that is a number or a name; None if it is of neither form.
 fn single(version: Version, run: &[u8]) -> Option<Ranged<Operand>>

@@ -1,7 +1,7 @@
 //! The parts of a line: runs, signs and strings.
 ghost use Rattle.std.specs.Prelude.{◌≡◌, ◌≤◌, ◌<◌, Some, None, IfSome};
 ghost use Rattle.std.specs.Prelude.{IfNone, IfOk, map, option_map, false, length};
-ghost use Rattle.ed_syntax.specs.Names.{is_run_byte};
+ghost use Rattle.ed_lines.specs.Names.{is_run_byte};
 ghost use Rattle.ed_syntax.specs.Reading.Parts.{parts_of};
 ghost use Rattle.ed_syntax.specs.Private.Seen.{part};
 ghost use Rattle.ed_syntax.specs.Private.PartFronts.{SplitsRun, SplitsQuote, Takes, begins_blank};

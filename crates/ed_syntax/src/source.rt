@@ -12,12 +12,11 @@ ghost use Rattle.ed_syntax.specs.Parts.{is_line_byte};
 ghost use Rattle.ed_syntax.specs.Reading.Sources.{is_two, line_of, lines_from, program_of, version_of};
 
 use crate::Version;
-use crate::fault::{SourceCause, SourceFault};
 use crate::form::Form;
 use crate::form_fault::FormFault;
 use crate::parts::parts_of;
-use crate::program::{Line, Program};
 use crate::statements::{form_at, is_version_two};
+use ed_lines::{Line, Program, SourceCause, SourceFault};
 use ed_words::NoMemory;
 use std::alloc::Global;
 

@@ -13,9 +13,9 @@ use crate::form::Form;
 use crate::form_fault::{FormFault, Ranged};
 use crate::operands::{operand, preset};
 use crate::parts::Part;
-use crate::program::{Operand, Statement};
 use crate::terms::{integer, is, name, number, place_name, string};
 use ed_codes::row_of_byte;
+use ed_lines::{Operand, Statement};
 use ed_words::{Long, Word};
 
 /// The length at the end of an order.

@@ -5,21 +5,21 @@ ghost use Rattle.ed_syntax.specs.Versions.{is_second};
 ghost use Rattle.ed_syntax.specs.Private.Found.{form_result};
 ghost use Rattle.std.specs.Str.{bytes_eq};
 ghost use Rattle.ed_syntax.specs.Parts.{array};
-ghost use Rattle.ed_syntax.specs.Names.{is_name};
+ghost use Rattle.ed_lines.specs.Names.{is_name};
 ghost use Rattle.ed_syntax.specs.Reading.Grammar.{integer};
 ghost use Rattle.ed_syntax.specs.Parts.{is_number};
-ghost use Rattle.ed_syntax.specs.Names.{is_place_name};
+ghost use Rattle.ed_lines.specs.Names.{is_place_name};
 ghost use Rattle.ed_syntax.specs.Reading.Grammar.{number_up_to};
 ghost use Rattle.ed_syntax.specs.Reading.Grammar.{string};
-ghost use Rattle.ed_syntax.specs.Names.{is_run_byte};
+ghost use Rattle.ed_lines.specs.Names.{is_run_byte};
 ghost use Rattle.ed_syntax.specs.Private.Seen.{part};
 
 use crate::Version;
 use crate::form_fault::FormFault;
-use crate::name::Name;
 use crate::parts::{Part, is_run_byte};
 use arrayvec::ArrayVec;
 use ed_codes::{Code, row_of_byte};
+use ed_lines::Name;
 use std::str;
 
 /// Whether a run may be a label or stand in an operand: it is a name or, in version 2, a local name.

@@ -1,7 +1,7 @@
 ghost use Rattle.std.specs.Prelude.{◌≡◌, ◌==◌};
 ghost use Rattle.ed_syntax.specs.Versions.{is_second};
 
-use crate::program::Program;
+use ed_lines::Program;
 
 /// A version of the source language.
 #[derive(Clone, Copy)]

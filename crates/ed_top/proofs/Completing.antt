@@ -4,7 +4,7 @@ use Rattle.ed_top.proofs.Kit.{subst, sym, ℕ, ◌≡◌, ◌≢◌, ◌⊎◌, 
 use Rattle.std.proofs.Common.{if◌then◌else◌, rules}
 use Rattle.std.proofs.lemmas.Bool.{cases_eq}
 use Rattle.ed_io.specs.Memory.{Roll}
-use Rattle.ed_answers.specs.Answer.{IsDue}
+use Rattle.ed_tapes.specs.Answer.{IsDue}
 use Rattle.ed_top.specs.Complete.{EachRunIsComplete, IsWhole, sure_sink, sure_source}
 use Rattle.ed_top.proofs.Endings.{due_told}
 

@@ -3,7 +3,7 @@ use Rattle.ed_top.proofs.Kit.{Settings, stop_faults, WriteStop, Failed, Memory, 
 use Rattle.ed_top.proofs.Kit.{append-nil, Err, List, Ok, refl, subst, sym, ℕ, ◌∙◌, ◌≡◌, State, Device, Wrote, WrotePart}
 use Rattle.ed_top.proofs.Kit.{IsInParts, Carried, WritesNote, none_written}
 use Rattle.ed_initial.specs.Entry.{first_state}
-use Rattle.ed_answers.proofs.Replies.{HasOne}
+use Rattle.ed_tapes.proofs.Replies.{HasOne}
 use Rattle.ed_interlude.specs.Parts.{PartsAnswer, IsReportOfTape, PartsReport}
 use Rattle.ed_interlude.specs.declared.tape.PartsEnd.{PartsEnd}
 use Rattle.ed_interlude.proofs.Tales.{each_told_once}

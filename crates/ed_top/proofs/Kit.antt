@@ -9,20 +9,20 @@ pub use Rattle.ed_io.specs.declared.stop.WriteStop.{WriteStop}
 pub use Rattle.ed_io.specs.declared.stop.WriteStop.TheVariants.{Failed, Memory}
 pub use Rattle.ed_io.proofs.Calls.{gains_none}
 pub use Rattle.ed_report.specs.Notes.{no_text_line}
-pub use Rattle.ed_answers.specs.Answer.{Answer, HasOneOutcome, known, of_input, of_made}
-pub use Rattle.ed_answers.specs.Outcome.{usage_outcome}
-pub use Rattle.ed_answers.specs.Replies.{ForInput}
-pub use Rattle.ed_answers.specs.declared.input.TheConstants.{INPUT_BYTES}
-pub use Rattle.ed_answers.specs.declared.reply.Rejection.{Rejection}
-pub use Rattle.ed_answers.specs.declared.reply.Rejection.TheVariants.{Refused}
-pub use Rattle.ed_answers.specs.declared.reply.Reply.{Reply}
-pub use Rattle.ed_answers.proofs.Kit.{[], ap, append-nil, arith, Bool, drop, Err, false, IfOk, inl, inr, IsErr}
-pub use Rattle.ed_answers.proofs.Kit.{IsErrAnd, length, List, None, Ok, Option, refl, Result, rules, Some, subst, sym}
-pub use Rattle.ed_answers.proofs.Kit.{true, ℕ, ◌++◌, ◌+◌, ◌<◌, ◌∙◌, ◌≡◌, ◌≢◌, ◌≤◌, ◌⊎◌, Text, Reading, reading, rows}
-pub use Rattle.ed_answers.proofs.Kit.{State, tape, exactly, of_rows, done, Outcome, refusal, Gives, Replies, OfSource}
-pub use Rattle.ed_answers.proofs.Kit.{run_outcome}
-pub use Rattle.ed_answers.proofs.Replies.{exactly_one, Replies-rejected}
-pub use Rattle.ed_answers.proofs.Sources.{some_outcome}
+pub use Rattle.ed_tapes.specs.Answer.{Answer, HasOneOutcome, known, of_input, of_made}
+pub use Rattle.ed_tapes.specs.Outcome.{usage_outcome}
+pub use Rattle.ed_tapes.specs.Replies.{ForInput}
+pub use Rattle.ed_tapes.specs.declared.input.TheConstants.{INPUT_BYTES}
+pub use Rattle.ed_tapes.specs.declared.reply.Rejection.{Rejection}
+pub use Rattle.ed_tapes.specs.declared.reply.Rejection.TheVariants.{Refused}
+pub use Rattle.ed_tapes.specs.declared.reply.Reply.{Reply}
+pub use Rattle.ed_headline.proofs.Kit.{[], ap, append-nil, arith, Bool, drop, Err, false, IfOk, inl, inr, IsErr}
+pub use Rattle.ed_headline.proofs.Kit.{IsErrAnd, length, List, None, Ok, Option, refl, Result, rules, Some, subst, sym}
+pub use Rattle.ed_headline.proofs.Kit.{true, ℕ, ◌++◌, ◌+◌, ◌<◌, ◌∙◌, ◌≡◌, ◌≢◌, ◌≤◌, ◌⊎◌, Text, Reading, reading, rows}
+pub use Rattle.ed_headline.proofs.Kit.{State, tape, exactly, of_rows, done, Outcome, refusal, Gives, Replies, OfSource}
+pub use Rattle.ed_headline.proofs.Kit.{run_outcome}
+pub use Rattle.ed_tapes.proofs.Replies.{exactly_one, Replies-rejected}
+pub use Rattle.ed_headline.proofs.Sources.{some_outcome}
 pub use Rattle.ed_stepper.specs.Inputs.{IsDivided}
 pub use Rattle.ed_stepper.specs.ScriptLines.{CommandList, IsFirstBadLine}
 pub use Rattle.ed_stepper.specs.declared.inputs.TextKind.{TextKind}

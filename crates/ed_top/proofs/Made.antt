@@ -4,9 +4,9 @@ use Rattle.ed_top.proofs.Kit.{Answer, ForInput, Vec, Global, Settings, of_input,
 use Rattle.ed_top.proofs.Kit.{Err, IfOk, IsErr, IsErrAnd, Ok, refl, Result, subst, ℕ, ◌≡◌, Text, Outcome, refusal}
 use Rattle.ed_top.proofs.Kit.{Replies, OfSource, run_outcome}
 use Rattle.ed_words.specs.declared.memory.NoMemory.{NoMemory}
-use Rattle.ed_answers.specs.Replies.{Refuses}
-use Rattle.ed_answers.specs.Sources.{of_source}
-use Rattle.ed_answers.specs.declared.reply.Rejection.TheVariants.{Memory}
+use Rattle.ed_tapes.specs.Replies.{Refuses}
+use Rattle.ed_headline.specs.Sources.{of_source}
+use Rattle.ed_tapes.specs.declared.reply.Rejection.TheVariants.{Memory}
 use Rattle.ed_top.specs.Calls.{of_made_source}
 use Rattle.std.proofs.Common.{rules}
 

@@ -3,16 +3,17 @@ use Rattle.ed_top.proofs.Kit.{Settings, one_lines, HasOneOutcome, of_input, usag
 use Rattle.ed_top.proofs.Kit.{Some, subst, sym, ◌∙◌, ◌≡◌, Text, tape, done, Outcome, refusal, run_outcome, exactly_one}
 use Rattle.ed_top.proofs.Kit.{some_outcome, CommandList, TextKind, Input, call_text, demo_text, answer, on_rows}
 use Rattle.ed_top.proofs.Kit.{OnInput, OnText, StepOutcome, trace_outcome}
-use Rattle.ed_answers.proofs.Kit.{tape1_outcome, listing_outcome, punch_outcome, tape_outcome}
+use Rattle.ed_headline.proofs.Kit.{tape1_outcome, listing_outcome, punch_outcome, tape_outcome}
 use Rattle.ed_command.specs.declared.command.Action.{Action}
 use Rattle.ed_command.specs.declared.command.Action.TheVariants.{Tape, CheckTape, Run, Punch, Listing, Library, Demo}
 use Rattle.ed_command.specs.declared.command.Action.TheVariants.{Call as CallOf, Tape1, CheckTape1, Step, Trace, Parts}
 use Rattle.ed_report.specs.Catalogue.{library_text}
 use Rattle.ed_report.specs.Notes.{bad_command_line}
-use Rattle.ed_answers.proofs.Checks.{checked_one}
-use Rattle.ed_answers.proofs.FirstChecks.{checked1_one}
-use Rattle.ed_answers.proofs.OneOutcome.{known_once, made_once, rows_once, some_within, source_once, within_once}
-use Rattle.ed_answers.proofs.Sources.{source_outcome}
+use Rattle.ed_tapes.proofs.Checks.{checked_one}
+use Rattle.ed_tapes.proofs.FirstChecks.{checked1_one}
+use Rattle.ed_headline.proofs.OneOutcome.{made_once, source_once}
+use Rattle.ed_tapes.proofs.OneOutcome.{known_once, rows_once, some_within, within_once}
+use Rattle.ed_headline.proofs.Sources.{source_outcome}
 use Rattle.ed_stepper.proofs.InputLaws.{one_input}
 use Rattle.ed_stepper.proofs.ScriptLaws.{one_meaning}
 use Rattle.ed_top.specs.Output.{EachLineHasOneOutcome}

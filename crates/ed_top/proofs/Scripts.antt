@@ -8,10 +8,11 @@ use Rattle.std.proofs.Common.{MatchResult, rules}
 use Rattle.std.specs.List.{flat_map}
 use Rattle.ed_codes.specs.Reading.{no_row, open_comment}
 use Rattle.ed_notation.specs.Spellings.{item_rows}
-use Rattle.ed_syntax.specs.declared.program.Line.{Line}
+use Rattle.ed_lines.specs.declared.program.Line.{Line}
 use Rattle.ed_link.specs.declared.linked.Linked.{Linked}
 use Rattle.ed_report.specs.Notes.{too_far_line}
-use Rattle.ed_answers.specs.Replies.{LinksSource, RefusesText}
+use Rattle.ed_tapes.specs.Replies.{RefusesText}
+use Rattle.ed_answers.specs.SourceReplies.{LinksSource}
 use Rattle.ed_answers.proofs.Sources.{source_refused, source_unanswered}
 use Rattle.ed_stepper.specs.ScriptLines.{HasBadLine, OfScript}
 use Rattle.ed_stepper.specs.Scripts.{GoesTooFar, ScriptEnds}
@@ -22,7 +23,7 @@ use Rattle.ed_top.specs.Private.Stages.{HasRows}
 use Rattle.ed_top.specs.Scripts.{on_reading}
 use Rattle.ed_top.proofs.Made.{as_made, replies_more}
 use Rattle.ed_stepper.specs.declared.inputs.TextKind.TheVariants as kinds
-use Rattle.ed_answers.specs.declared.reply.Rejection.TheVariants as rejection
+use Rattle.ed_tapes.specs.declared.reply.Rejection.TheVariants as rejection
 
 -- a tape's text that is refused
 pub text_refused : (s : Settings) (commands : CommandList) (r : Reading) (e : Rejection) → RefusesText r e

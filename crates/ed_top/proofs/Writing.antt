@@ -4,7 +4,7 @@ use Rattle.ed_top.proofs.Kit.{[], Err, List, Ok, Result, subst, sym, ℕ, ◌≡
 use Rattle.ed_top.proofs.Kit.{Outcome, Gives, Replies, Device, Carried, Rest, none_written}
 use Rattle.ed_top.proofs.Made.{replies_more}
 use Rattle.ed_top.specs.Private.Stages.{WritesReply, WritesText}
-use Rattle.ed_answers.specs.declared.reply.Rejection.TheVariants as rejection
+use Rattle.ed_tapes.specs.declared.reply.Rejection.TheVariants as rejection
 use Rattle.std.proofs.Common.{rules}
 
 for_more : (answer : Answer) (input : Text) (P Q : Outcome → Type 0) → ((o : Outcome) → P o → Q o) → ForInput answer

@@ -3,8 +3,8 @@ use Rattle.ed_library.specs.declared.call.Call.{Call}
 use Rattle.ed_sources.specs.CallSources.{call_text}
 use Rattle.ed_words.specs.Texts.{Text}
 use Rattle.ed_run.specs.declared.settings.Settings.{Settings}
-use Rattle.ed_answers.specs.Answer.{Answer, of_made}
-use Rattle.ed_answers.specs.Sources.{OfSource, run_outcome}
+use Rattle.ed_tapes.specs.Answer.{Answer, of_made}
+use Rattle.ed_headline.specs.Sources.{OfSource, run_outcome}
 
 -- the program makes a source, and its answer is the run of the source
 abbrev pub of_made_source : Settings → Text → Answer

@@ -4,9 +4,9 @@ use Rattle.std.specs.Prelude.{◌≡◌, ◌≢◌, ◌⊎◌, ◌+◌, ℕ, tru
 use Rattle.ed_io.specs.Bytes.{Gains, GainsPart}
 use Rattle.ed_io.specs.Causes.{next_count}
 use Rattle.ed_words.specs.Texts.{Text}
-use Rattle.ed_answers.specs.declared.input.TheConstants.{INPUT_BYTES}
-use Rattle.ed_answers.specs.Outcome.{Outcome, read_fault, no_memory}
-use Rattle.ed_answers.specs.Answer.{Answer, known, of_made, of_input, reads_input, WithinLimit}
+use Rattle.ed_tapes.specs.declared.input.TheConstants.{INPUT_BYTES}
+use Rattle.ed_tapes.specs.Outcome.{Outcome, read_fault, no_memory}
+use Rattle.ed_tapes.specs.Answer.{Answer, known, of_made, of_input, reads_input, WithinLimit}
 
 -- a device before and after the call: the bytes that it reports, if it reports them, and its count of faults
 pub record Device : Type 0 where

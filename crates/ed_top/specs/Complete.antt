@@ -4,8 +4,8 @@ use Rattle.std.specs.Prelude.{◌≡◌, ◌⊎◌, ℕ, false, Option, Some}
 use Rattle.ed_io.specs.Memory.{Roll, new_roll, reported_bytes}
 use Rattle.ed_words.specs.Texts.{Text}
 use Rattle.ed_command.specs.declared.command.Command.{Command}
-use Rattle.ed_answers.specs.Outcome.{Outcome}
-use Rattle.ed_answers.specs.Answer.{Answer, IsDue}
+use Rattle.ed_tapes.specs.Outcome.{Outcome}
+use Rattle.ed_tapes.specs.Answer.{Answer, IsDue}
 use Rattle.ed_top.specs.Clause.{Device, ProgramEnded, device}
 use Rattle.ed_top.specs.Output.{output}
 

@@ -2,7 +2,7 @@
 use Rattle.std.specs.Prelude.{ℕ}
 use Rattle.ed_run.specs.declared.settings.Settings.{Settings}
 use Rattle.ed_sources.specs.DemoSources.{demo_text}
-use Rattle.ed_answers.specs.Answer.{Answer}
+use Rattle.ed_tapes.specs.Answer.{Answer}
 use Rattle.ed_top.specs.Calls.{of_made_source}
 
 -- `demo`: the run of its source

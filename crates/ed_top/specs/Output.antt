@@ -6,11 +6,11 @@ use Rattle.ed_command.specs.declared.command.Command.{Command}
 use Rattle.ed_command.specs.declared.command.Action.{Action}
 use Rattle.ed_command.specs.declared.command.Action.TheVariants.{Tape, CheckTape, Run, Punch, Listing, Library, Demo}
 use Rattle.ed_command.specs.declared.command.Action.TheVariants.{Call as CallOf, Tape1, CheckTape1, Step, Trace, Parts}
-use Rattle.ed_answers.specs.Answer.{Answer, HasOneOutcome, exactly, known, of_input, of_rows}
-use Rattle.ed_answers.specs.FirstOrders.{check_tape1_answer, tape1_answer}
-use Rattle.ed_answers.specs.Outcome.{done, usage_outcome}
-use Rattle.ed_answers.specs.Sources.{listing_answer, punch_answer, run_answer}
-use Rattle.ed_answers.specs.Tapes.{check_tape_answer, tape_answer}
+use Rattle.ed_tapes.specs.Answer.{Answer, HasOneOutcome, exactly, known, of_input, of_rows}
+use Rattle.ed_tapes.specs.FirstOrders.{check_tape1_answer, tape1_answer}
+use Rattle.ed_tapes.specs.Outcome.{done, usage_outcome}
+use Rattle.ed_headline.specs.Sources.{listing_answer, punch_answer, run_answer}
+use Rattle.ed_tapes.specs.Tapes.{check_tape_answer, tape_answer}
 use Rattle.ed_top.specs.Calls.{call_answer}
 use Rattle.ed_top.specs.Demos.{demo_answer}
 use Rattle.ed_top.specs.Parts.{IsInParts}

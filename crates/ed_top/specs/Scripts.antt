@@ -13,8 +13,8 @@ use Rattle.ed_stepper.specs.declared.inputs.TextKind.TheVariants as kinds
 use Rattle.ed_words.specs.Texts.{Text}
 use Rattle.ed_run.specs.declared.settings.Settings.{Settings}
 use Rattle.ed_initial.specs.Entry.{first_state}
-use Rattle.ed_answers.specs.Outcome.{Outcome, done, refusal}
-use Rattle.ed_answers.specs.Sources.{OfSource}
+use Rattle.ed_tapes.specs.Outcome.{Outcome, done, refusal}
+use Rattle.ed_headline.specs.Sources.{OfSource}
 
 -- a script that was played: its text, or no text if a line went back too far
 abbrev pub script_outcome : Option TooFar → Text → Outcome

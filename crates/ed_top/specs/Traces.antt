@@ -8,8 +8,8 @@ use Rattle.ed_stepper.specs.Traces.{trace_of}
 use Rattle.ed_words.specs.Texts.{Text}
 use Rattle.ed_run.specs.declared.settings.Settings.{Settings}
 use Rattle.ed_initial.specs.Entry.{first_state}
-use Rattle.ed_answers.specs.Outcome.{Outcome}
-use Rattle.ed_answers.specs.Runs.{status_of}
+use Rattle.ed_tapes.specs.Outcome.{Outcome}
+use Rattle.ed_tapes.specs.Runs.{status_of}
 
 -- the trace of a run from a state, whose paper is never full, the line of its ending and its status
 abbrev pub traced_from : Settings → State → Outcome

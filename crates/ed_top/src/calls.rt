@@ -1,12 +1,13 @@
 ghost use Rattle.std.specs.Prelude.{[]};
 ghost use Rattle.ed_run.specs.SettingRanges.{AreSettingsInRange};
 ghost use Rattle.ed_top.specs.Calls.{call_answer};
-ghost use Rattle.ed_answers.specs.Replies.{Replies};
+ghost use Rattle.ed_tapes.specs.Replies.{Replies};
 
-use ed_answers::{Rejection, Reply, run};
+use ed_answers::run;
 use ed_library::Call;
 use ed_run::Settings;
 use ed_sources::call_source;
+use ed_tapes::{Rejection, Reply};
 use std::alloc::Global;
 
 /// `call`: the run of the source that calls a routine of the library.

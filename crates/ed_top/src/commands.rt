@@ -1,7 +1,7 @@
 ghost use Rattle.std.specs.Prelude.{◌≡◌, ◌≤◌, length};
 ghost use Rattle.ed_command.specs.Ranges.{IsInRange};
-ghost use Rattle.ed_answers.specs.declared.input.TheConstants.{INPUT_BYTES};
-ghost use Rattle.ed_answers.specs.Answer.{reads_input};
+ghost use Rattle.ed_tapes.specs.declared.input.TheConstants.{INPUT_BYTES};
+ghost use Rattle.ed_tapes.specs.Answer.{reads_input};
 ghost use Rattle.ed_top.specs.Clause.{device};
 ghost use Rattle.ed_top.specs.Private.Stages.{Carried};
 ghost use Rattle.ed_top.specs.Output.{answer};
@@ -13,9 +13,10 @@ use crate::library::list_library;
 use crate::parts::parts;
 use crate::step::step;
 use crate::trace::trace;
-use ed_answers::{check_tape, check_tape1, list, punch, run, tape, tape1};
+use ed_answers::{list, punch, run};
 use ed_command::{Action, Command};
 use ed_io::{Sink, WriteStop};
+use ed_tapes::{check_tape, check_tape1, tape, tape1};
 use std::alloc::Global;
 
 /// Whether a command reads its input.

@@ -1,11 +1,12 @@
 ghost use Rattle.std.specs.Prelude.{[]};
 ghost use Rattle.ed_run.specs.SettingRanges.{AreSettingsInRange, IsFromTo};
 ghost use Rattle.ed_top.specs.Demos.{demo_answer};
-ghost use Rattle.ed_answers.specs.Replies.{Replies};
+ghost use Rattle.ed_tapes.specs.Replies.{Replies};
 
-use ed_answers::{Rejection, Reply, run};
+use ed_answers::run;
 use ed_run::Settings;
 use ed_sources::demo_source;
+use ed_tapes::{Rejection, Reply};
 use std::alloc::Global;
 
 /// `demo`: the run of the large source made from a number.

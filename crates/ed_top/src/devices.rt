@@ -3,8 +3,8 @@ ghost use Rattle.ed_io.specs.Bytes.{IsAtEnd, Loses};
 ghost use Rattle.ed_top.specs.Clause.{WritesLastLine, device};
 ghost use Rattle.ed_top.specs.Private.Stages.{HasInput, WritesReply, WritesText, input_faults};
 
-use ed_answers::{INPUT_BYTES, Rejection, Reply};
 use ed_io::{Failed, Sink, Source, WriteStop, write_all};
+use ed_tapes::{INPUT_BYTES, Rejection, Reply};
 use std::alloc::{AllocError, Global};
 
 /// The most bytes that are read at once.

@@ -1,11 +1,11 @@
 ghost use Rattle.std.specs.Prelude.{[]};
 ghost use Rattle.ed_report.specs.Catalogue.{library_text};
-ghost use Rattle.ed_answers.specs.Answer.{known};
-ghost use Rattle.ed_answers.specs.Outcome.{done};
-ghost use Rattle.ed_answers.specs.Replies.{Replies};
+ghost use Rattle.ed_tapes.specs.Answer.{known};
+ghost use Rattle.ed_tapes.specs.Outcome.{done};
+ghost use Rattle.ed_tapes.specs.Replies.{Replies};
 
-use ed_answers::{Rejection, Reply};
 use ed_report::library_text;
+use ed_tapes::{Rejection, Reply};
 use std::alloc::Global;
 
 /// `library`: a line for each routine.

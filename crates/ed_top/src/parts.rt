@@ -1,17 +1,17 @@
 ghost use Rattle.std.specs.Prelude.{◌≡◌, ◌<◌, ◌≤◌, ◌^◌, [], List, ℕ, IfOk, length};
 ghost use Rattle.ed_initial.specs.Entry.{first_state};
-ghost use Rattle.ed_answers.specs.Answer.{of_input, of_rows};
+ghost use Rattle.ed_tapes.specs.Answer.{of_input, of_rows};
 ghost use Rattle.ed_top.specs.Clause.{device};
 ghost use Rattle.ed_top.specs.Parts.{IsInParts, end_note, end_status};
 ghost use Rattle.ed_top.specs.Private.Stages.{Carried};
 
 use crate::devices::{Rest, write};
-use ed_answers::{rows_of, started, status_of};
 use ed_interlude::{PartsEnd, run_parts};
 use ed_io::{Sink, WriteStop};
 use ed_machine::Machine;
 use ed_report::{ending_text, part_fault};
 use ed_run::Settings;
+use ed_tapes::{rows_of, started, status_of};
 use ed_words::NoMemory;
 use std::alloc::Global;
 

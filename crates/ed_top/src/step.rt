@@ -1,17 +1,18 @@
 ghost use Rattle.std.specs.Prelude.{◌≤◌, IfOk, None, length};
 ghost use Rattle.ed_stepper.specs.ScriptLines.{CommandList, HasBadLine, IsScript};
-ghost use Rattle.ed_answers.specs.declared.input.TheConstants.{INPUT_BYTES};
-ghost use Rattle.ed_answers.specs.Answer.{of_input};
-ghost use Rattle.ed_answers.specs.Replies.{Gives, Replies};
+ghost use Rattle.ed_tapes.specs.declared.input.TheConstants.{INPUT_BYTES};
+ghost use Rattle.ed_tapes.specs.Answer.{of_input};
+ghost use Rattle.ed_tapes.specs.Replies.{Gives, Replies};
 ghost use Rattle.ed_stepper.specs.Scripts.{play};
 ghost use Rattle.ed_top.specs.Private.Stages.{HasRows};
 ghost use Rattle.ed_top.specs.Scripts.{StepOutcome, on_rows, played_outcome};
 
-use ed_answers::{Rejection, Reply, linked_of, rows_of, started};
+use ed_answers::linked_of;
 use ed_codes::Code;
 use ed_report::{back_too_far, bad_command, no_text};
 use ed_run::Settings;
 use ed_stepper::{ScriptFault, Session, TextKind, bad_line, divide, line_count, run_script};
+use ed_tapes::{Rejection, Reply, rows_of, started};
 use ed_words::NoMemory;
 use std::alloc::Global;
 

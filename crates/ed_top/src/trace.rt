@@ -1,16 +1,16 @@
 ghost use Rattle.std.specs.Prelude.{◌≡◌, []};
-ghost use Rattle.ed_answers.specs.Answer.{exactly, known, of_rows};
+ghost use Rattle.ed_tapes.specs.Answer.{exactly, known, of_rows};
 ghost use Rattle.ed_top.specs.Clause.{device};
 ghost use Rattle.ed_top.specs.Private.Stages.{Carried};
 ghost use Rattle.ed_top.specs.Traces.{trace_outcome, traced_from};
 
 use crate::devices::{Rest, write};
-use ed_answers::{rows_of, started, status_of};
 use ed_io::{Sink, WriteStop};
 use ed_machine::Machine;
 use ed_report::ending_text;
 use ed_run::Settings;
 use ed_stepper::trace_run;
+use ed_tapes::{rows_of, started, status_of};
 use std::alloc::Global;
 
 /// `trace`: the letters of the orders that the run of a text's rows obeys, each line written as it is full.

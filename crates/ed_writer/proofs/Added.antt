@@ -4,7 +4,7 @@ use Rattle.ed_syntax.proofs.Kit.{refl, Result, Some, sym, take, true, ℕ, ◌++
 use Rattle.ed_syntax.proofs.Kit.{list_all, le-ltb, lt-ltb, map-append, Text, line_text, row_letter, text_of_program}
 use Rattle.ed_writer.specs.Answers.{long_line}
 use Rattle.ed_writer.specs.Private.LineTexts.{has_few}
-use Rattle.ed_syntax.specs.declared.program.Line.{Line}
+use Rattle.ed_lines.specs.declared.program.Line.{Line}
 use Rattle.ed_writer.specs.declared.fault.WriteFault.TheVariants.{LongLine}
 use Rattle.std.proofs.lemmas.List.{at_drop_more, take_more}
 

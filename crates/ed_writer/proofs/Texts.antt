@@ -8,8 +8,8 @@ use Rattle.ed_syntax.proofs.Kit.{IsPlain, IsProgram, IsVersionTwo, LineSays, Lin
 use Rattle.ed_syntax.proofs.Kit.{text_of_program}
 use Rattle.ed_writer.specs.Answers.{has_version_place, long_line, is_bare, HasNoText}
 use Rattle.ed_writer.specs.Private.LineTexts.{has_few, IsTextOfLines, IsLinesFault}
-use Rattle.ed_syntax.specs.declared.program.Line.{Line}
-use Rattle.ed_syntax.specs.declared.program.Statement.{Statement}
+use Rattle.ed_lines.specs.declared.program.Line.{Line}
+use Rattle.ed_lines.specs.declared.program.Statement.{Statement}
 use Rattle.ed_writer.specs.declared.fault.WriteFault.TheVariants.{LongLine, NoVersionLine}
 use Rattle.std.proofs.Common.{is_none, Vec}
 use Rattle.std.specs.declared.alloc.Global.{Global}

@@ -2,7 +2,7 @@
 use Rattle.std.specs.Prelude.{◌≡◌, ◌&&◌, Bool, true, false, List, [], ◌∷◌, length, nat_lt, if◌then◌else◌}
 use Rattle.std.specs.Prelude.{Option, Some, None, is_none}
 use Rattle.ed_words.specs.Texts.{Text}
-use Rattle.ed_syntax.specs.declared.program.Line.{Line}
+use Rattle.ed_lines.specs.declared.program.Line.{Line}
 use Rattle.ed_syntax.specs.Sources.{IsProgram}
 use Rattle.ed_syntax.specs.Written.{line_text, text_of_program}
 use Rattle.ed_writer.specs.declared.fault.WriteFault.{WriteFault}

@@ -5,12 +5,12 @@ use Rattle.ed_machine.specs.State.{State}
 use Rattle.ed_run.specs.Run.{RunEnd}
 use Rattle.ed_words.specs.Texts.{Text}
 use Rattle.ed_run.specs.declared.settings.Settings.{Settings}
-use Rattle.ed_answers.specs.Answer.{OfReading, exactly}
-use Rattle.ed_answers.specs.FirstOrders.{run1_of, tape1_outcome}
-use Rattle.ed_answers.specs.Outcome.{Outcome, done}
-use Rattle.ed_answers.specs.Runs.{run_of}
-use Rattle.ed_answers.specs.Sources.{OfSource, listing_outcome, punch_outcome, run_outcome}
-use Rattle.ed_answers.specs.Tapes.{tape_outcome}
+use Rattle.ed_tapes.specs.Answer.{OfReading, exactly}
+use Rattle.ed_tapes.specs.FirstOrders.{run1_of, tape1_outcome}
+use Rattle.ed_tapes.specs.Outcome.{Outcome, done}
+use Rattle.ed_tapes.specs.Runs.{run_of}
+use Rattle.ed_headline.specs.Sources.{OfSource, listing_outcome, punch_outcome, run_outcome}
+use Rattle.ed_tapes.specs.Tapes.{tape_outcome}
 use Rattle.ed_page.specs.Answers.{RowsEnd, SourceEnds, source_rows}
 use Rattle.ed_page.specs.TapeItems.{IsItemsOutcome, IsItemsOutcome1}
 use Rattle.ed_page.specs.declared.request.Request.{Request}

@@ -7,13 +7,13 @@ use Rattle.ed_words.specs.declared.size.Size.{Size}
 use Rattle.ed_store.specs.Cells.{cleared_cells}
 use Rattle.ed_notation.specs.Checks.{Accepts}
 use Rattle.ed_notation.specs.Reports.{Report}
-use Rattle.ed_answers.specs.Tapes.{opening_notation}
-use Rattle.ed_answers.specs.Outcome.{Outcome}
-use Rattle.ed_answers.specs.Replies.{Gives}
-use Rattle.ed_answers.specs.Runs.{status_of}
-use Rattle.ed_answers.specs.declared.reply.Rejection.{Rejection}
-use Rattle.ed_answers.specs.declared.reply.Rejection.TheVariants.{Memory, Refused}
-use Rattle.ed_answers.specs.declared.reply.Reply.{Reply}
+use Rattle.ed_tapes.specs.Tapes.{opening_notation}
+use Rattle.ed_tapes.specs.Outcome.{Outcome}
+use Rattle.ed_tapes.specs.Replies.{Gives}
+use Rattle.ed_tapes.specs.Runs.{status_of}
+use Rattle.ed_tapes.specs.declared.reply.Rejection.{Rejection}
+use Rattle.ed_tapes.specs.declared.reply.Rejection.TheVariants.{Memory, Refused}
+use Rattle.ed_tapes.specs.declared.reply.Reply.{Reply}
 use Rattle.ed_answers.specs.declared.source.NotedRun.{NotedRun}
 use Rattle.ed_page.specs.Answers.{Buffers, HasItsCause, HasPictureRoom, HasBufferRoom, ShowsNone, HoldsText}
 use Rattle.ed_page.specs.Answers.{TextBuffers}

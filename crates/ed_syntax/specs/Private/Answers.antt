@@ -2,11 +2,11 @@
 use Rattle.std.specs.Prelude.{◌≡◌, ℕ, List, Result, Ok, Err, Vec}
 use Rattle.std.specs.declared.alloc.Global.{Global}
 use Rattle.ed_syntax.specs.Reading.Sources.{Fault}
-use Rattle.ed_syntax.specs.declared.fault.SourceCause.{SourceCause}
-use Rattle.ed_syntax.specs.declared.fault.SourceFault.{SourceFault}
-use Rattle.ed_syntax.specs.declared.fault.SourceFault.TheVariants.{At, Memory}
+use Rattle.ed_lines.specs.declared.fault.SourceCause.{SourceCause}
+use Rattle.ed_lines.specs.declared.fault.SourceFault.{SourceFault}
+use Rattle.ed_lines.specs.declared.fault.SourceFault.TheVariants.{At, Memory}
 use Rattle.ed_syntax.specs.declared.form.Form.{Form}
-use Rattle.ed_syntax.specs.declared.program.Line.{Line}
+use Rattle.ed_lines.specs.declared.program.Line.{Line}
 
 -- a fault is the one of the definition, or memory ran out
 abbrev pub IsFaultOf : Result (List Line) Fault → SourceFault → Type 0

@@ -6,7 +6,7 @@ use Rattle.std.specs.List.{list_all}
 use Rattle.ed_words.specs.Texts.{Text}
 use Rattle.ed_syntax.specs.Reading.Parts.{parts_of}
 use Rattle.ed_syntax.specs.Parts.{begins_run, is_blank, has_quote}
-use Rattle.ed_syntax.specs.Names.{is_run_byte}
+use Rattle.ed_lines.specs.Names.{is_run_byte}
 use Rattle.ed_syntax.specs.Private.Seen.{part}
 use Rattle.ed_syntax.specs.declared.parts.Part.{Part}
 use Rattle.ed_syntax.specs.declared.parts.OpenQuote.{OpenQuote}

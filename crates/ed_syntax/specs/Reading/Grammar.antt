@@ -11,13 +11,13 @@ use Rattle.ed_codes.specs.Spelling.{row_of}
 use Rattle.ed_words.specs.Texts.{Text}
 use Rattle.ed_words.specs.Decimals.{value}
 use Rattle.ed_syntax.specs.Parts.{LinePart, run, sign, quoted, is_number, with_sign, function}
-use Rattle.ed_syntax.specs.Names.{is_name, is_place_name}
+use Rattle.ed_lines.specs.Names.{is_name, is_place_name}
 use Rattle.ed_syntax.specs.Parts.{length_of, setting_letter, array, modulo}
-use Rattle.ed_syntax.specs.declared.program.Operand.{Operand}
-use Rattle.ed_syntax.specs.declared.program.Operand.TheVariants as operands
-use Rattle.ed_syntax.specs.declared.program.Setting.{Setting}
-use Rattle.ed_syntax.specs.declared.program.Statement.{Statement}
-use Rattle.ed_syntax.specs.declared.program.Statement.TheVariants as statements
+use Rattle.ed_lines.specs.declared.program.Operand.{Operand}
+use Rattle.ed_lines.specs.declared.program.Operand.TheVariants as operands
+use Rattle.ed_lines.specs.declared.program.Setting.{Setting}
+use Rattle.ed_lines.specs.declared.program.Statement.{Statement}
+use Rattle.ed_lines.specs.declared.program.Statement.TheVariants as statements
 use Rattle.ed_syntax.specs.declared.form.Form.{Form}
 
 -- something that has a form; None if one of its numbers is out of its range

@@ -3,7 +3,7 @@ use Rattle.std.specs.Prelude.{ℕ, ◌==◌, List, [], ◌∷◌, ◌++◌}
 use Rattle.std.specs.Prelude.{Option, Some, None, option_map, if◌then◌else◌}
 use Rattle.ed_words.specs.Texts.{Text}
 use Rattle.ed_syntax.specs.Parts.{LinePart, run, sign, quoted, is_blank, begins_run}
-use Rattle.ed_syntax.specs.Names.{is_run_byte}
+use Rattle.ed_lines.specs.Names.{is_run_byte}
 
 -- a byte added to the front of the first part, if that is a run, and else a run of its own
 abbrev pub longer : ℕ → List LinePart → List LinePart

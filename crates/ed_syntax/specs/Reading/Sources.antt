@@ -9,10 +9,10 @@ use Rattle.ed_syntax.specs.Parts.{LinePart, is_line_byte}
 use Rattle.ed_syntax.specs.Reading.Parts.{parts_of}
 use Rattle.ed_syntax.specs.Reading.Grammar.{Ranged, form_at, is_version_two}
 use Rattle.ed_syntax.specs.declared.form.Form.{Form}
-use Rattle.ed_syntax.specs.declared.program.Line.{Line}
-use Rattle.ed_syntax.specs.declared.fault.SourceCause.{SourceCause}
-use Rattle.ed_syntax.specs.declared.fault.SourceCause.TheVariants.{BadByte, LongLine, NotAStatement}
-use Rattle.ed_syntax.specs.declared.fault.SourceCause.TheVariants.{NumberRange, TooManyLines}
+use Rattle.ed_lines.specs.declared.program.Line.{Line}
+use Rattle.ed_lines.specs.declared.fault.SourceCause.{SourceCause}
+use Rattle.ed_lines.specs.declared.fault.SourceCause.TheVariants.{BadByte, LongLine, NotAStatement}
+use Rattle.ed_lines.specs.declared.fault.SourceCause.TheVariants.{NumberRange, TooManyLines}
 
 -- a fault with the number of its line
 pub record Fault : Type 0 where

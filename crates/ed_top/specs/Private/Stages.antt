@@ -6,17 +6,17 @@ use Rattle.ed_io.specs.Bytes.{IsAtEnd, Loses}
 use Rattle.ed_io.specs.Causes.{next_count}
 use Rattle.ed_words.specs.Texts.{Text}
 use Rattle.ed_run.specs.declared.settings.Settings.{Settings}
-use Rattle.ed_answers.specs.declared.input.TheConstants.{INPUT_BYTES}
-use Rattle.ed_answers.specs.Outcome.{Outcome}
-use Rattle.ed_answers.specs.Answer.{Answer, of_made}
+use Rattle.ed_tapes.specs.declared.input.TheConstants.{INPUT_BYTES}
+use Rattle.ed_tapes.specs.Outcome.{Outcome}
+use Rattle.ed_tapes.specs.Answer.{Answer, of_made}
 use Rattle.ed_stepper.specs.ScriptLines.{CommandList}
 use Rattle.ed_stepper.specs.declared.inputs.TextKind.{TextKind}
 use Rattle.ed_top.specs.Scripts.{OnText, on_rows}
 use Rattle.ed_top.specs.Clause.{Device, FailedOnce, NeverFailed, Wrote, WrotePart}
-use Rattle.ed_answers.specs.declared.reply.Reply.{Reply}
-use Rattle.ed_answers.specs.Replies.{ForInput, Replies}
-use Rattle.ed_answers.specs.declared.reply.Rejection.{Rejection}
-use Rattle.ed_answers.specs.declared.reply.Rejection.TheVariants as rejection
+use Rattle.ed_tapes.specs.declared.reply.Reply.{Reply}
+use Rattle.ed_tapes.specs.Replies.{ForInput, Replies}
+use Rattle.ed_tapes.specs.declared.reply.Rejection.{Rejection}
+use Rattle.ed_tapes.specs.declared.reply.Rejection.TheVariants as rejection
 use Rattle.ed_top.specs.declared.devices.Rest.{Rest}
 use Rattle.ed_top.specs.declared.devices.InputStop.{InputStop}
 use Rattle.ed_top.specs.declared.devices.InputStop.TheVariants as input

@@ -1,7 +1,7 @@
 -- The answer to writing lines, without regard to `version 2`.
 use Rattle.std.specs.Prelude.{◌≡◌, ◌==◌, ◌&&◌, ◌||◌, Bool, List, Some, None}
 use Rattle.ed_words.specs.Texts.{Text}
-use Rattle.ed_syntax.specs.declared.program.Line.{Line}
+use Rattle.ed_lines.specs.declared.program.Line.{Line}
 use Rattle.ed_syntax.specs.Forms.{has_few_settings}
 use Rattle.ed_writer.specs.Answers.{long_line}
 use Rattle.ed_syntax.specs.Written.{text_of_program}

@@ -1,7 +1,7 @@
 use Rattle.std.proofs.Common.{rules}
-use Rattle.ed_answers.proofs.EachSource.{each_source as comes, one_answer}
-use Rattle.ed_answers.proofs.Entries.{each_source, entry_state-loaded}
-use Rattle.ed_answers.proofs.EntryWords.{each_entry_store_is}
+use Rattle.ed_headline.proofs.EachSource.{each_source as comes, one_answer}
+use Rattle.ed_headline.proofs.Entries.{each_source, entry_state-loaded}
+use Rattle.ed_headline.proofs.EntryWords.{each_entry_store_is}
 use Rattle.ed_answers.proofs.entering.enter.Goals as goal
 
 pub returns-in_err-rows : goal.returns-in_err-rows

@@ -1,4 +1,4 @@
-use Rattle.ed_answers.proofs.Kit.{listing_outcome}
+use Rattle.ed_headline.proofs.Kit.{listing_outcome}
 use Rattle.ed_answers.proofs.Sources.{linked_replied, source_refused, source_unanswered}
 use Rattle.ed_answers.proofs.source.list.Goals as goal
 

@@ -1,4 +1,5 @@
-use Rattle.ed_answers.proofs.Kit.{Placed, ap, map}
+use Rattle.ed_link.specs.declared.linked.Placed.{Placed}
+use Rattle.ed_headline.proofs.Kit.{ap, map}
 use Rattle.ed_link.proofs.Places.{places_below}
 use Rattle.ed_answers.proofs.Sources.{listing_gives}
 use Rattle.ed_answers.proofs.source.list_linked.Goals as goal

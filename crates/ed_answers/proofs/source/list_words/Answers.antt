@@ -1,4 +1,4 @@
-use Rattle.ed_answers.proofs.Kit.{Text, List, subst, sym, ℕ, ◌<◌, ◌∙◌, done, Gives}
+use Rattle.ed_headline.proofs.Kit.{Text, List, subst, sym, ℕ, ◌<◌, ◌∙◌, done, Gives}
 use Rattle.std.proofs.Common.{All}
 use Rattle.ed_answers.proofs.source.list_words.Goals as goal
 

@@ -1,4 +1,4 @@
-use Rattle.ed_answers.proofs.Kit.{arith}
+use Rattle.ed_headline.proofs.Kit.{arith}
 use Rattle.std.proofs.lemmas.Grind.{common_steps}
 use Rattle.ed_answers.proofs.source.places_of.Goals as goal
 

@@ -1,4 +1,5 @@
-use Rattle.ed_answers.proofs.Kit.{Placed, drop, map, ◌++◌, ◌≡◌}
+use Rattle.ed_link.specs.declared.linked.Placed.{Placed}
+use Rattle.ed_headline.proofs.Kit.{drop, map, ◌++◌, ◌≡◌}
 use Rattle.ed_answers.proofs.source.places_of.Given as goal
 
 abbrev pub invariant-loop-placed : goal.invariant-loop-placed

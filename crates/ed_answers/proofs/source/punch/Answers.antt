@@ -1,4 +1,4 @@
-use Rattle.ed_answers.proofs.Kit.{punch_outcome}
+use Rattle.ed_headline.proofs.Kit.{punch_outcome}
 use Rattle.ed_answers.proofs.Sources.{linked_replied, punch_gives, source_refused, source_unanswered}
 use Rattle.ed_answers.proofs.source.punch.Goals as goal
 

@@ -1,5 +1,5 @@
-use Rattle.ed_answers.proofs.Kit.{run_outcome}
-use Rattle.ed_answers.proofs.Keeping.{is_fitting-printable}
+use Rattle.ed_headline.proofs.Kit.{run_outcome}
+use Rattle.ed_tapes.proofs.Keeping.{is_fitting-printable}
 use Rattle.ed_answers.proofs.Sources.{run_replied, source_refused, source_unanswered}
 use Rattle.ed_answers.proofs.source.run.Goals as goal
 

@@ -1,5 +1,5 @@
-use Rattle.ed_answers.proofs.Kit.{arith, rules, ◌≤◌}
-use Rattle.ed_answers.proofs.FromEntry.{goes_on}
+use Rattle.ed_headline.proofs.Kit.{arith, rules, ◌≤◌}
+use Rattle.ed_headline.proofs.FromEntry.{goes_on}
 use Rattle.ed_answers.proofs.source.run_entered.Goals as goal
 
 pub returns-then-orders_done-from : goal.returns-then-orders_done-from

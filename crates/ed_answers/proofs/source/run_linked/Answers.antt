@@ -1,4 +1,4 @@
-use Rattle.ed_answers.proofs.Kit.{rules}
+use Rattle.ed_headline.proofs.Kit.{rules}
 use Rattle.ed_answers.proofs.source.run_linked.Goals as goal
 
 pub run_entered-requires : goal.run_entered-requires

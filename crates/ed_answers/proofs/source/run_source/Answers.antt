@@ -1,4 +1,4 @@
-use Rattle.ed_answers.specs.declared.reply.Rejection.TheVariants as rejection
+use Rattle.ed_tapes.specs.declared.reply.Rejection.TheVariants as rejection
 use Rattle.ed_answers.proofs.Sources.{source_not_run}
 use Rattle.ed_answers.proofs.source.run_source.Goals as goal
 

@@ -1,6 +1,6 @@
 use Rattle.ed_link.proofs.Kit.{refl, ◌∙◌}
 use Rattle.ed_link.proofs.Causes.{list_any-overlaps, if_else-none, if_else-some}
-use Rattle.ed_syntax.specs.declared.fault.SourceCause.TheVariants as causes
+use Rattle.ed_lines.specs.declared.fault.SourceCause.TheVariants as causes
 use Rattle.ed_link.proofs.faults.cause_of.Goals as goal
 
 pub returns-in-Some : goal.returns-in-Some

@@ -1,5 +1,5 @@
 use Rattle.ed_page.proofs.Kit.{rules, Settings, ap, refl, tape, run_of, SourceEnds, run_settings}
-use Rattle.ed_answers.specs.Sources.{run_answer}
+use Rattle.ed_headline.specs.Sources.{run_answer}
 use Rattle.ed_page.proofs.Goes.{from_start}
 use Rattle.ed_page.proofs.GoneOn.{begins_on}
 use Rattle.ed_page.proofs.RowCodes.{source_codes}

@@ -1,5 +1,5 @@
 use Rattle.ed_page.proofs.Kit.{rules, Settings, ap, refl, run_of, RowsEnd, run_settings}
-use Rattle.ed_answers.specs.Tapes.{tape_answer}
+use Rattle.ed_tapes.specs.Tapes.{tape_answer}
 use Rattle.ed_page.proofs.Goes.{from_start}
 use Rattle.ed_page.proofs.GoneOn.{begins_on}
 use Rattle.ed_page.proofs.RowCodes.{read_codes}

@@ -1,5 +1,5 @@
 use Rattle.ed_page.proofs.Kit.{rules, Settings, run1_of, ap, false, refl, RowsEnd, run_settings}
-use Rattle.ed_answers.specs.FirstOrders.{tape1_answer}
+use Rattle.ed_tapes.specs.FirstOrders.{tape1_answer}
 use Rattle.ed_page.proofs.Goes.{from_start1}
 use Rattle.ed_page.proofs.GoneOn.{begins_on}
 use Rattle.ed_page.proofs.RowCodes.{read_codes}

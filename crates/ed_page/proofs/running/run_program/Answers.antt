@@ -1,5 +1,5 @@
 use Rattle.ed_page.proofs.Kit.{rules, run1_of, NotedRun, refl, sym, ◌∙◌, run_of, tape_outcome, tape_outcome_by}
-use Rattle.ed_answers.specs.FirstOrders.{tape1_outcome}
+use Rattle.ed_tapes.specs.FirstOrders.{tape1_outcome}
 use Rattle.ed_page.specs.Private.Requests.{run_by}
 use Rattle.ed_page.proofs.Endings.{plain_tape, ran_is}
 use Rattle.ed_page.proofs.Replies.{rows_not_run, rows_run, source_run}

@@ -6,7 +6,7 @@ use Rattle.ed_command.specs.Lines.{command_line}
 use Rattle.ed_command.specs.declared.command.Command.{Command}
 use Rattle.ed_command.specs.declared.reading.CommandFault.{CommandFault}
 use Rattle.ed_command.specs.declared.reading.CommandFault.TheVariants.{Usage, Memory}
-use Rattle.ed_answers.proofs.Sources.{headline}
+use Rattle.ed_headline.proofs.Sources.{headline}
 use Rattle.ed_sources.proofs.CallRuns.{each_call_runs}
 use Rattle.ed_top.proofs.Completing.{each_complete}
 use Rattle.ed_top.proofs.Endings.{none_due, with_due, with_no_memory}

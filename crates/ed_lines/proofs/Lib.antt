@@ -1,0 +1,5 @@
+pub mod Causes
+pub mod Meaning
+pub mod NameBytes
+pub mod NameTexts
+pub mod Kit

@@ -1,0 +1,4 @@
+pub mod Names
+pub mod PaddedNames
+pub mod Programs
+pub mod Causes

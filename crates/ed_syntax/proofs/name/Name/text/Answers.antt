@@ -1,5 +1,0 @@
-use Rattle.std.proofs.lemmas.Grind.{not_there}
-use Rattle.ed_syntax.proofs.name.Name.text.Goals as goal
-
-pub unreachable-requires : goal.unreachable-requires
-unreachable-requires c = not_there c.self.invariant.text c.in-Err.ensures.cases.0
