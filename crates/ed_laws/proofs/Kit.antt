@@ -65,7 +65,7 @@ pub use Rattle.ed_interlude.proofs.Kit.{cut, entry_report, faulty, finished, fir
 pub use Rattle.ed_interlude.proofs.Kit.{ReportsParts, TapePart}
 pub use Rattle.ed_sources.proofs.Kit.{◌||◌, function_of, kind_of_function, next_word, obey_word, codes_of}
 pub use Rattle.ed_sources.proofs.Kit.{each_answer_is_from_entry}
-pub use Rattle.ed_top.specs.Parts.{end_status, IsInParts, report_outcome}
-pub use Rattle.ed_top.specs.Traces.{letters_in}
+pub use Rattle.ed_streams.specs.Parts.{end_status, IsInParts, report_outcome}
+pub use Rattle.ed_streams.specs.Traces.{letters_in}
 pub use Rattle.ed_laws.specs.CutRuns.{limit_state}
 pub use Rattle.ed_laws.specs.TapeFacts.{end_later}

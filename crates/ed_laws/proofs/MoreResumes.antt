@@ -5,7 +5,7 @@ use Rattle.ed_laws.proofs.Kit.{status_of, entered_before, trace_to, letters_in, 
 use Rattle.ed_laws.proofs.Kit.{lt-leb, few_codes, ◌<◌}
 use Rattle.ed_run.specs.declared.settings.Window.{Window}
 use Rattle.ed_laws.proofs.Limits.{Gives, bare, each_limit, outcomes_begin, Gives-ran_outcome}
-use Rattle.ed_top.specs.Traces.{trace_outcome}
+use Rattle.ed_streams.specs.Traces.{trace_outcome}
 use Rattle.ed_laws.specs.MoreResumes.{EachLimitIsKept, EachResume, KeepsResumes, TraceKeepsLimits, letters_of}
 use Rattle.ed_laws.proofs.PartsLimits.{parts_keep_limits}
 use Rattle.ed_laws.proofs.Stepped.{letters_sum}

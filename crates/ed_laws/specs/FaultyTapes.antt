@@ -17,7 +17,7 @@ use Rattle.ed_laws.specs.FirstFaults.{silent_outcome}
 use Rattle.ed_tapes.specs.Outcome.{Outcome, refusal}
 use Rattle.ed_tapes.specs.Runs.{post_mortem_codes}
 use Rattle.ed_tapes.specs.Tapes.{IsChecked, opening_notation, tape_outcome}
-use Rattle.ed_top.specs.Parts.{IsInParts}
+use Rattle.ed_streams.specs.Parts.{IsInParts}
 
 -- a run of a tape that ends after k orders at a location and has printed nothing, with its post-mortem
 abbrev pub quiet_outcome : Settings → List ℕ → Text → ℕ → ℕ → ℕ → Outcome

@@ -8,8 +8,8 @@ use Rattle.ed_laws.specs.Limits.{EachLimit, StartsWith, with_limit}
 use Rattle.ed_tapes.specs.Outcome.{Outcome}
 use Rattle.ed_headline.specs.Sources.{run_outcome}
 use Rattle.ed_tapes.specs.Tapes.{tape_outcome}
-use Rattle.ed_top.specs.Parts.{IsInParts}
-use Rattle.ed_top.specs.Traces.{letters_in, trace_outcome}
+use Rattle.ed_streams.specs.Parts.{IsInParts}
+use Rattle.ed_streams.specs.Traces.{letters_in, trace_outcome}
 
 -- ---- more resumes
 

@@ -17,7 +17,7 @@ use Rattle.ed_run.specs.declared.settings.Settings.{Settings}
 use Rattle.ed_initial.specs.Entry.{first_state}
 use Rattle.ed_tapes.specs.Runs.{paper_room, run_of}
 use Rattle.ed_stepper.specs.Traces.{trace_to}
-use Rattle.ed_top.specs.Traces.{letters_in}
+use Rattle.ed_streams.specs.Traces.{letters_in}
 
 -- ---- a machine whose orders do something else
 

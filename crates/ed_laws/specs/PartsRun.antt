@@ -11,7 +11,7 @@ use Rattle.ed_words.specs.Texts.{Text}
 use Rattle.ed_run.specs.declared.settings.Settings.{Settings}
 use Rattle.ed_initial.specs.Entry.{first_state}
 use Rattle.ed_tapes.specs.Tapes.{tape_outcome}
-use Rattle.ed_top.specs.Parts.{report_outcome}
+use Rattle.ed_streams.specs.Parts.{report_outcome}
 use Rattle.ed_tapes.specs.Runs.{paper_room, run_of, status_of}
 
 -- the same settings for a run that is never resumed, without a post-mortem

@@ -24,7 +24,7 @@ use Rattle.ed_run.specs.declared.settings.Window.{Window}
 use Rattle.ed_tapes.specs.Tapes.{tape_outcome}
 use Rattle.ed_tapes.specs.Runs.{paper_room, run_of}
 use Rattle.ed_top.specs.Scripts.{stand_on}
-use Rattle.ed_top.specs.Traces.{letters_in, trace_outcome}
+use Rattle.ed_streams.specs.Traces.{letters_in, trace_outcome}
 
 -- ---- the run that is cut off at the state of a session
 

@@ -18,9 +18,9 @@ use Rattle.ed_laws.specs.Limits.{StartsWith, with_limit}
 use Rattle.ed_tapes.specs.Outcome.{Outcome, done}
 use Rattle.ed_tapes.specs.Tapes.{IsChecked, opening_notation, tape_outcome}
 use Rattle.ed_tapes.specs.Runs.{paper_room, ran_outcome, with_post_mortem}
-use Rattle.ed_top.specs.Parts.{IsInParts}
+use Rattle.ed_streams.specs.Parts.{IsInParts}
 use Rattle.ed_top.specs.Scripts.{stand_on}
-use Rattle.ed_top.specs.Traces.{letters_in, trace_outcome, traced_from}
+use Rattle.ed_streams.specs.Traces.{letters_in, trace_outcome, traced_from}
 use Rattle.ed_laws.specs.CutRuns.{IsCutOff, limit_state}
 
 -- the state at the entry of a tape on a cleared machine

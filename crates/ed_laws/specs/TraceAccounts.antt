@@ -14,7 +14,7 @@ use Rattle.ed_run.specs.declared.settings.Settings.{Settings}
 use Rattle.ed_initial.specs.Entry.{first_state}
 use Rattle.ed_tapes.specs.Runs.{run_of}
 use Rattle.ed_tapes.specs.Tapes.{tape_outcome}
-use Rattle.ed_top.specs.Traces.{trace_outcome}
+use Rattle.ed_streams.specs.Traces.{trace_outcome}
 use Rattle.ed_laws.specs.MoreResumes.{letters_of}
 
 -- the run that is traced, whose paper is never full; the note of the trace has the count of orders of its state

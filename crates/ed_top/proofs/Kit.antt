@@ -29,12 +29,13 @@ pub use Rattle.ed_stepper.specs.declared.inputs.TextKind.{TextKind}
 pub use Rattle.ed_stepper.proofs.Kit.{length-append, err_from_is_err_and, Gains, Input, IsScript, play, Stand}
 pub use Rattle.ed_sources.specs.CallSources.{call_text}
 unfoldable pub use Rattle.ed_sources.specs.DemoSources.{demo_text}
-pub use Rattle.ed_top.specs.Clause.{device, Device, ForDue, ProgramEnded, WritesLastLine, Wrote, WrotePart}
+pub use Rattle.ed_top.specs.Clause.{ForDue, ProgramEnded}
+pub use Rattle.ed_streams.specs.Devices.{device, Device, WritesLastLine, Wrote, WrotePart}
 pub use Rattle.ed_top.specs.Output.{answer, output}
-pub use Rattle.ed_top.specs.Parts.{IsInParts}
-pub use Rattle.ed_top.specs.Private.Stages.{Carried, HasInput, WritesNote}
+pub use Rattle.ed_streams.specs.Parts.{IsInParts}
+pub use Rattle.ed_streams.specs.Stages.{Carried, HasInput, WritesNote}
 pub use Rattle.ed_top.specs.Scripts.{on_rows, OnInput, OnText, played_outcome, StepOutcome}
-pub use Rattle.ed_top.specs.Traces.{trace_outcome, traced_from}
-pub use Rattle.ed_top.specs.declared.devices.InputStop.{InputStop}
-pub use Rattle.ed_top.specs.declared.devices.Rest.{Rest}
-pub use Rattle.ed_top.proofs.FirstParts.{none_written}
+pub use Rattle.ed_streams.specs.Traces.{trace_outcome, traced_from}
+pub use Rattle.ed_streams.specs.declared.devices.InputStop.{InputStop}
+pub use Rattle.ed_streams.specs.declared.devices.Rest.{Rest}
+pub use Rattle.ed_streams.proofs.FirstParts.{none_written}

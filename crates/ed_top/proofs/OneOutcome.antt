@@ -17,7 +17,7 @@ use Rattle.ed_headline.proofs.Sources.{source_outcome}
 use Rattle.ed_stepper.proofs.InputLaws.{one_input}
 use Rattle.ed_stepper.proofs.ScriptLaws.{one_meaning}
 use Rattle.ed_top.specs.Output.{EachLineHasOneOutcome}
-use Rattle.ed_top.proofs.InParts.{parts_one}
+use Rattle.ed_streams.proofs.InParts.{parts_one}
 use Rattle.ed_stepper.specs.declared.inputs.TextKind.TheVariants as kinds
 use Rattle.std.proofs.Common.{rules}
 

@@ -19,7 +19,7 @@ use Rattle.ed_stepper.specs.Scripts.{GoesTooFar, ScriptEnds}
 use Rattle.ed_stepper.specs.declared.script.ScriptFault.{ScriptFault}
 use Rattle.ed_stepper.specs.declared.script.ScriptFault.TheVariants.{BackTooFar, BadCommand}
 use Rattle.ed_stepper.proofs.ScriptLaws.{never_both, one_script}
-use Rattle.ed_top.specs.Private.Stages.{HasRows}
+use Rattle.ed_top.specs.Private.Rows.{HasRows}
 use Rattle.ed_top.specs.Scripts.{on_reading}
 use Rattle.ed_top.proofs.Made.{as_made, replies_more}
 use Rattle.ed_stepper.specs.declared.inputs.TextKind.TheVariants as kinds

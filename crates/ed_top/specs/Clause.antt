@@ -1,49 +1,15 @@
 -- The contract of `edsac`: what a run of the program does to its source and its two sinks, even if devices fail (this
 -- project's own rules).
 use Rattle.std.specs.Prelude.{◌≡◌, ◌≢◌, ◌⊎◌, ◌+◌, ℕ, true, [], drop, Option, None, Some}
-use Rattle.ed_io.specs.Bytes.{Gains, GainsPart}
-use Rattle.ed_io.specs.Causes.{next_count}
 use Rattle.ed_words.specs.Texts.{Text}
 use Rattle.ed_tapes.specs.declared.input.TheConstants.{INPUT_BYTES}
 use Rattle.ed_tapes.specs.Outcome.{Outcome, read_fault, no_memory}
+use Rattle.ed_streams.specs.Devices.{Device, FailedOnce, NeverFailed, Wrote, WrotePart}
 use Rattle.ed_tapes.specs.Answer.{Answer, known, of_made, of_input, reads_input, WithinLimit}
-
--- a device before and after the call: the bytes that it reports, if it reports them, and its count of faults
-pub record Device : Type 0 where
-  pub before : Option Text
-  pub after : Option Text
-  pub faults_before : ℕ
-  pub faults_after : ℕ
-
--- a device, as the bytes that it reports and the faults that it counts
-abbrev pub device : {D : Type 0} → (D → Option Text) → (D → ℕ) → D → D → Device
-device bytes faults old new = record {
-  before = bytes old;
-  after = bytes new;
-  faults_before = faults old;
-  faults_after = faults new;
-}
-
--- no call of the device failed
-abbrev pub NeverFailed : Device → Type 0
-NeverFailed d = d.faults_after ≡ d.faults_before
-
--- exactly one call of the device failed: the count of faults rose by 1, or is at its last value. No call came after it,
--- since that could have failed too.
-abbrev pub FailedOnce : Device → Type 0
-FailedOnce d = d.faults_after ≡ next_count d.faults_before
 
 -- no call of any device failed
 abbrev pub NoneFailed : Device → Device → Device → Type 0
 NoneFailed source out note = NeverFailed source × NeverFailed out × NeverFailed note
-
--- the sink has gained exactly this text, if it reports its bytes
-abbrev pub Wrote : Device → Text → Type 0
-Wrote d text = Gains d.before d.after text
-
--- the sink has gained the first bytes of this text
-abbrev pub WrotePart : Device → Text → Type 0
-WrotePart d text = GainsPart d.before d.after text
 
 -- the source has lost its first n bytes, or all if it had fewer, if it reports its bytes
 abbrev pub Lost : Device → ℕ → Type 0
@@ -71,11 +37,6 @@ ForDue (of_input answers) source P =
 -- the sink has gained the first bytes of what is due on `out`
 abbrev pub WrotePartDue : Answer → Device → Device → Type 0
 WrotePartDue answer source out = ForDue answer source (λ o. WrotePart out o.out)
-
--- a line was written on a sink, and this is the wanted status; or the write failed, and the status is 9
-pub record WritesLastLine (note : Device) (line : Text) (wanted status : ℕ) : Type 0 where
-  pub done : status ≢ 9 → (status ≡ wanted) × Wrote note line × NeverFailed note
-  pub part : status ≡ 9 → FailedOnce note × WrotePart note line
 
 -- one write on `out` failed, no other call did, and nothing was written on `note`
 pub record OutFailed (answer : Answer) (source out note : Device) : Type 0 where

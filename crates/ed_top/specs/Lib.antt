@@ -1,5 +1,3 @@
-pub mod Traces
-pub mod Parts
 pub mod Scripts
 pub mod Calls
 pub mod Demos

@@ -13,9 +13,9 @@ use Rattle.ed_headline.specs.Sources.{listing_answer, punch_answer, run_answer}
 use Rattle.ed_tapes.specs.Tapes.{check_tape_answer, tape_answer}
 use Rattle.ed_top.specs.Calls.{call_answer}
 use Rattle.ed_top.specs.Demos.{demo_answer}
-use Rattle.ed_top.specs.Parts.{IsInParts}
+use Rattle.ed_streams.specs.Parts.{IsInParts}
 use Rattle.ed_top.specs.Scripts.{StepOutcome}
-use Rattle.ed_top.specs.Traces.{trace_outcome}
+use Rattle.ed_streams.specs.Traces.{trace_outcome}
 
 -- the answer of each command
 abbrev pub answer : Action → Settings → Answer

@@ -2,20 +2,18 @@ ghost use Rattle.std.specs.Prelude.{◌≡◌, ◌≤◌, length};
 ghost use Rattle.ed_command.specs.Ranges.{IsInRange};
 ghost use Rattle.ed_tapes.specs.declared.input.TheConstants.{INPUT_BYTES};
 ghost use Rattle.ed_tapes.specs.Answer.{reads_input};
-ghost use Rattle.ed_top.specs.Clause.{device};
-ghost use Rattle.ed_top.specs.Private.Stages.{Carried};
+ghost use Rattle.ed_streams.specs.Devices.{device};
+ghost use Rattle.ed_streams.specs.Stages.{Carried};
 ghost use Rattle.ed_top.specs.Output.{answer};
 
 use crate::calls::call_routine;
 use crate::demo::demo;
-use crate::devices::{Rest, write};
 use crate::library::list_library;
-use crate::parts::parts;
 use crate::step::step;
-use crate::trace::trace;
 use ed_answers::{list, punch, run};
 use ed_command::{Action, Command};
 use ed_io::{Sink, WriteStop};
+use ed_streams::{Rest, parts, trace, write};
 use ed_tapes::{check_tape, check_tape1, tape, tape1};
 use std::alloc::Global;
 

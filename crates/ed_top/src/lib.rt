@@ -9,11 +9,8 @@
 mod calls;
 mod commands;
 mod demo;
-mod devices;
 mod library;
-mod parts;
 mod program;
 mod step;
-mod trace;
 
 pub use program::{edsac, report_no_memory};

@@ -1,7 +1,8 @@
 ghost use Rattle.std.specs.Prelude.{Some, map, string_bytes};
 ghost use Rattle.ed_command.specs.Lines.{command_line};
 ghost use Rattle.ed_command.specs.Ranges.{IsInRange};
-ghost use Rattle.ed_top.specs.Clause.{ProgramEnded, WritesLastLine, device};
+ghost use Rattle.ed_top.specs.Clause.{ProgramEnded};
+ghost use Rattle.ed_streams.specs.Devices.{WritesLastLine, device};
 ghost use Rattle.ed_top.specs.Complete.{EachRunIsComplete};
 ghost use Rattle.ed_headline.specs.Headline.{Headline};
 ghost use Rattle.ed_tapes.specs.Outcome.{no_memory};
@@ -9,9 +10,9 @@ ghost use Rattle.ed_sources.specs.CallRuns.{EachCallRuns};
 ghost use Rattle.ed_top.specs.Output.{EachLineHasOneOutcome, answer, output};
 
 use crate::commands::{carry_out, reads_input};
-use crate::devices::{InputStop, input_of, write_note};
 use ed_command::{Command, CommandFault, read_words};
 use ed_io::{Sink, Source, WriteStop};
+use ed_streams::{InputStop, input_of, write_note};
 use ed_tapes::TOO_LONG;
 use std::alloc::Global;
 

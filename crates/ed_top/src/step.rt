@@ -4,7 +4,7 @@ ghost use Rattle.ed_tapes.specs.declared.input.TheConstants.{INPUT_BYTES};
 ghost use Rattle.ed_tapes.specs.Answer.{of_input};
 ghost use Rattle.ed_tapes.specs.Replies.{Gives, Replies};
 ghost use Rattle.ed_stepper.specs.Scripts.{play};
-ghost use Rattle.ed_top.specs.Private.Stages.{HasRows};
+ghost use Rattle.ed_top.specs.Private.Rows.{HasRows};
 ghost use Rattle.ed_top.specs.Scripts.{StepOutcome, on_rows, played_outcome};
 
 use ed_answers::linked_of;

@@ -3,7 +3,7 @@ use Rattle.ed_top.proofs.Kit.{device, Device, answer, HasInput}
 use Rattle.ed_top.proofs.Endings.{carried_stop, due_input, fine_source, fine_unread, input_by, none_due, stop_by}
 use Rattle.ed_top.proofs.Endings.{with_broken_out, with_long, with_no_memory, with_read_fault, with_rest}
 use Rattle.ed_top.proofs.OneOutcome.{answer_once}
-use Rattle.ed_top.specs.declared.devices.InputStop.TheVariants as input
+use Rattle.ed_streams.specs.declared.devices.InputStop.TheVariants as input
 use Rattle.ed_io.specs.declared.stop.WriteStop.TheVariants as stop
 use Rattle.ed_top.proofs.program.run_command.Goals as goal
 

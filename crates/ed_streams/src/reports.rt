@@ -1,9 +1,9 @@
 ghost use Rattle.std.specs.Prelude.{◌≡◌, ◌<◌, ◌≤◌, ◌^◌, [], List, ℕ, IfOk, length};
 ghost use Rattle.ed_initial.specs.Entry.{first_state};
 ghost use Rattle.ed_tapes.specs.Answer.{of_input, of_rows};
-ghost use Rattle.ed_top.specs.Clause.{device};
-ghost use Rattle.ed_top.specs.Parts.{IsInParts, end_note, end_status};
-ghost use Rattle.ed_top.specs.Private.Stages.{Carried};
+ghost use Rattle.ed_streams.specs.Devices.{device};
+ghost use Rattle.ed_streams.specs.Parts.{IsInParts, end_note, end_status};
+ghost use Rattle.ed_streams.specs.Stages.{Carried};
 
 use crate::devices::{Rest, write};
 use ed_interlude::{PartsEnd, run_parts};

@@ -1,6 +1,6 @@
-use Rattle.ed_top.proofs.Kit.{of_input, err_from_is_err_and, device, IsInParts}
-use Rattle.ed_top.proofs.InParts.{parts_broken, parts_stopped, parts_told, parts_untold}
-use Rattle.ed_top.proofs.parts.read_parts.Goals as goal
+use Rattle.ed_streams.proofs.Kit.{of_input, err_from_is_err_and, device, IsInParts}
+use Rattle.ed_streams.proofs.InParts.{parts_broken, parts_stopped, parts_told, parts_untold}
+use Rattle.ed_streams.proofs.reports.read_parts.Goals as goal
 
 pub returns : goal.returns
 returns g c codes is =

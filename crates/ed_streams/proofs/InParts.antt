@@ -1,13 +1,13 @@
 -- Each list of rows has one outcome as a tape in parts, and what was written on the way is a part of it.
-use Rattle.ed_top.proofs.Kit.{Settings, stop_faults, WriteStop, Failed, Memory, Answer, of_input, ForInput, [], ap}
-use Rattle.ed_top.proofs.Kit.{append-nil, Err, List, Ok, refl, subst, sym, ℕ, ◌∙◌, ◌≡◌, State, Device, Wrote, WrotePart}
-use Rattle.ed_top.proofs.Kit.{IsInParts, Carried, WritesNote, none_written}
+use Rattle.ed_streams.proofs.Kit.{Settings, stop_faults, WriteStop, Failed, Memory, Answer, of_input, ForInput, [], ap}
+use Rattle.ed_streams.proofs.Kit.{append-nil, Err, List, Ok, refl, subst, sym, ℕ, ◌∙◌, ◌≡◌, State, Device, Wrote, WrotePart}
+use Rattle.ed_streams.proofs.Kit.{IsInParts, Carried, WritesNote, none_written}
 use Rattle.ed_initial.specs.Entry.{first_state}
 use Rattle.ed_tapes.proofs.Replies.{HasOne}
 use Rattle.ed_interlude.specs.Parts.{PartsAnswer, IsReportOfTape, PartsReport}
 use Rattle.ed_interlude.specs.declared.tape.PartsEnd.{PartsEnd}
 use Rattle.ed_interlude.proofs.Tales.{each_told_once}
-use Rattle.ed_top.specs.Parts.{end_note, end_status, report_outcome}
+use Rattle.ed_streams.specs.Parts.{end_note, end_status, report_outcome}
 
 pub parts_one : (s : Settings) → HasOne (IsInParts s)
 parts_one s = record {

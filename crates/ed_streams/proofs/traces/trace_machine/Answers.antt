@@ -1,6 +1,6 @@
-use Rattle.ed_top.proofs.Kit.{err_from_is_err_and, device}
-use Rattle.ed_top.proofs.Traced.{trace_stopped, trace_untold}
-use Rattle.ed_top.proofs.trace.trace_machine.Goals as goal
+use Rattle.ed_streams.proofs.Kit.{err_from_is_err_and, device}
+use Rattle.ed_streams.proofs.Traced.{trace_stopped, trace_untold}
+use Rattle.ed_streams.proofs.traces.trace_machine.Goals as goal
 
 pub returns-in_err-ending : goal.returns-in_err-ending
 returns-in_err-ending g c =

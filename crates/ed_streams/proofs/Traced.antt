@@ -1,6 +1,6 @@
 -- What is on `out` of a trace that is not told whole.
-use Rattle.ed_top.proofs.Kit.{Settings, stop_faults, WriteStop, Failed, Memory, gains_none, known, [], append-nil, Err}
-use Rattle.ed_top.proofs.Kit.{Ok, ℕ, ◌≡◌, State, Device, WrotePart, Carried, traced_from, none_written}
+use Rattle.ed_streams.proofs.Kit.{Settings, stop_faults, WriteStop, Failed, Memory, gains_none, known, [], append-nil, Err}
+use Rattle.ed_streams.proofs.Kit.{Ok, ℕ, ◌≡◌, State, Device, WrotePart, Carried, traced_from, none_written}
 use Rattle.ed_machine.specs.declared.ending.Ending.{Ending}
 use Rattle.ed_stepper.specs.Traces.{TraceEnds}
 use Rattle.std.proofs.Common.{rules}

@@ -1,27 +1,23 @@
--- How the stages of the program relate to the outcome that is due: the input, what a command replies or writes, and the
--- last line.
+-- How the stages of a command relate to the outcome that is due: the input, what is written on `out` before the last line,
+-- and that line (this project's own rules).
 use Rattle.std.specs.Prelude.{◌≡◌, ℕ, ◌+◌, ◌<◌, ◌≤◌, Bool, true, false, [], length, Result, Ok, Err, Vec}
 use Rattle.std.specs.declared.alloc.Global.{Global}
 use Rattle.ed_io.specs.Bytes.{IsAtEnd, Loses}
 use Rattle.ed_io.specs.Causes.{next_count}
-use Rattle.ed_words.specs.Texts.{Text}
-use Rattle.ed_run.specs.declared.settings.Settings.{Settings}
-use Rattle.ed_tapes.specs.declared.input.TheConstants.{INPUT_BYTES}
-use Rattle.ed_tapes.specs.Outcome.{Outcome}
-use Rattle.ed_tapes.specs.Answer.{Answer, of_made}
-use Rattle.ed_stepper.specs.ScriptLines.{CommandList}
-use Rattle.ed_stepper.specs.declared.inputs.TextKind.{TextKind}
-use Rattle.ed_top.specs.Scripts.{OnText, on_rows}
-use Rattle.ed_top.specs.Clause.{Device, FailedOnce, NeverFailed, Wrote, WrotePart}
-use Rattle.ed_tapes.specs.declared.reply.Reply.{Reply}
-use Rattle.ed_tapes.specs.Replies.{ForInput, Replies}
-use Rattle.ed_tapes.specs.declared.reply.Rejection.{Rejection}
-use Rattle.ed_tapes.specs.declared.reply.Rejection.TheVariants as rejection
-use Rattle.ed_top.specs.declared.devices.Rest.{Rest}
-use Rattle.ed_top.specs.declared.devices.InputStop.{InputStop}
-use Rattle.ed_top.specs.declared.devices.InputStop.TheVariants as input
 use Rattle.ed_io.specs.declared.stop.WriteStop.{WriteStop}
 use Rattle.ed_io.specs.declared.stop.WriteStop.TheVariants.{Failed, Memory}
+use Rattle.ed_words.specs.Texts.{Text}
+use Rattle.ed_tapes.specs.declared.input.TheConstants.{INPUT_BYTES}
+use Rattle.ed_tapes.specs.Outcome.{Outcome}
+use Rattle.ed_tapes.specs.Answer.{Answer}
+use Rattle.ed_tapes.specs.Replies.{ForInput}
+use Rattle.ed_tapes.specs.declared.reply.Reply.{Reply}
+use Rattle.ed_tapes.specs.declared.reply.Rejection.{Rejection}
+use Rattle.ed_tapes.specs.declared.reply.Rejection.TheVariants as rejection
+use Rattle.ed_streams.specs.Devices.{Device, FailedOnce, NeverFailed, Wrote, WrotePart}
+use Rattle.ed_streams.specs.declared.devices.Rest.{Rest}
+use Rattle.ed_streams.specs.declared.devices.InputStop.{InputStop}
+use Rattle.ed_streams.specs.declared.devices.InputStop.TheVariants as input
 
 -- ---- the input
 
@@ -42,15 +38,6 @@ input_faults (Ok v) before = before
 input_faults (Err input.Failed) before = next_count before
 input_faults (Err input.Memory) before = before
 input_faults (Err input.TooLong) before = before
-
--- ---- a text to step through
-
--- the rows of the text after the dividing line, or the reply that refuses it, for every script
-abbrev pub HasRows : Settings → TextKind → Text → Result (Vec ℕ Global) Rejection → Type 0
-HasRows s kind text (Ok codes) =
-    (commands : CommandList) → OnText s commands kind text (on_rows s commands codes.items)
-HasRows s kind text (Err e) =
-    (commands : CommandList) → Replies (of_made (OnText s commands kind text)) [] (Err e)
 
 -- ---- a command
 

@@ -1,8 +1,8 @@
 ghost use Rattle.std.specs.Prelude.{◌≡◌, []};
 ghost use Rattle.ed_tapes.specs.Answer.{exactly, known, of_rows};
-ghost use Rattle.ed_top.specs.Clause.{device};
-ghost use Rattle.ed_top.specs.Private.Stages.{Carried};
-ghost use Rattle.ed_top.specs.Traces.{trace_outcome, traced_from};
+ghost use Rattle.ed_streams.specs.Devices.{device};
+ghost use Rattle.ed_streams.specs.Stages.{Carried};
+ghost use Rattle.ed_streams.specs.Traces.{trace_outcome, traced_from};
 
 use crate::devices::{Rest, write};
 use ed_io::{Sink, WriteStop};

@@ -1,0 +1,5 @@
+pub mod FirstParts
+pub mod Kit
+pub mod InParts
+mod Traced
+pub mod Writing

@@ -1,0 +1,4 @@
+pub mod Devices
+pub mod Stages
+pub mod Traces
+pub mod Parts
