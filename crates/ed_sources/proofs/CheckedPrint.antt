@@ -230,14 +230,29 @@ module _ (z : Size) (n : ℕ) (small : n < 65536) where
   print_turns : total turn_orders count t ≡ print_weight turn_weights (short_at t.store 59)
   print_turns = print_call.weighs printing low turn_weights turn_orders (λ kind x o. turn_weighs kind x o.kind_is)
 
+  turns_before : total turn_orders (2 + count) g ≡ 51 + print_weight turn_weights (short_at t.store 59)
+  turns_before = total_sum turn_orders 2 count g ∙ (λ i. two_turns i + total turn_orders count (third i))
+      ∙ ap (λ x. 51 + x) print_turns
+
   all_turns : checked_orders g (suc (2 + count)) ≡ 86 + print_weight turn_weights (short_at t.store 59)
   unfolding total
-  all_turns = search (rules, IsBefore-placed, total_sum, two_turns, third, print_turns, last_turn, checked_total)
+  all_turns =
+      let before = turns_before in
+      let last = last_turn in
+      checked_total g (suc (2 + count)) ∙ omega (arith, before, last)
 
   -- the guest's orders up to its first Z, which is the last of them, and as many orders of the machine as the formula
   -- has lead to it
   pub checks_print : ChecksToStop 112 (3 + print_orders n) m
-  checks_print = search (rules, number_is, checks)
+  checks_print =
+      let e : suc (2 + count) ≡ 3 + print_orders n = ap (λ x. suc (2 + print_orders x)) number_is ∙ omega arith in
+      subst (λ q. ChecksToStop 112 q m) e checks
 
   pub count_is : checks_print.count ≡ 2550 + 244 * sum (before_units n) + 142 * length (before_units n)
-  count_is = search (rules, number_is, all_turns, checks_print, print_weight_is)
+  count_is =
+      let exact = checks_print.exact in
+      let e : 3 + print_orders n ≡ suc (2 + count) = omega arith ∙ ap (λ x. suc (2 + print_orders x)) (sym number_is) in
+      let turns : checked_orders (guest 112 m) (3 + print_orders n) ≡ 86 + print_weight turn_weights n =
+      ap (checked_orders g) e ∙ all_turns ∙ ap (λ x. 86 + print_weight turn_weights x) number_is in
+      let weight = print_weight_is n in
+      omega (arith, exact, turns, weight)

@@ -8,12 +8,16 @@ use Rattle.std.proofs.lemmas.Grind.{common_steps}
 pub four_digits : (n : ℕ) → n < 10000 → length (digits_of n) ≤ 4
 four_digits n small = grind (arith, common_steps)
 
-ended : (f n : ℕ) (long : Bool) → item_cost (item_with f n false (ending long)) ≡ 23 + 9 * length (digits_of n)
-ended f n true = omega arith
-ended f n false = omega arith
+pub two_digits : (n : ℕ) → n < 100 → length (digits_of n) ≤ 2
+two_digits n small = grind (arith, common_steps)
+
+pub item_cost-ending : (f n : ℕ) (long : Bool)
+    → item_cost (item_with f n false (ending long)) ≡ 23 + 9 * length (digits_of n)
+item_cost-ending f n true = omega arith
+item_cost-ending f n false = omega arith
 
 pub word_cost_is : (w : ℕ) → word_cost w ≡ 23 + 9 * length (digits_of (w % 4096 / 2))
-word_cost_is w = ended (w / 4096) (w % 4096 / 2) (nat_eq (w % 2) 1)
+word_cost_is w = item_cost-ending (w / 4096) (w % 4096 / 2) (nat_eq (w % 2) 1)
 
 pub word_cost_few : (w : ℕ) → word_cost w ≤ 59
 word_cost_few w =
