@@ -4,19 +4,17 @@ use Rattle.ed_words.specs.declared.size.Size.{Size}
 use Rattle.ed_run.specs.declared.settings.Settings.{Settings}
 use Rattle.ed_lines.specs.declared.fault.SourceCause.{SourceCause}
 use Rattle.ed_lines.specs.declared.fault.SourceFault.{SourceFault}
-use Rattle.ed_lines.specs.declared.fault.SourceFault.TheVariants.{At, Memory}
+use Rattle.ed_lines.specs.declared.fault.SourceFault.TheVariants.{At}
 use Rattle.ed_lines.specs.declared.program.Line.{Line}
 use Rattle.ed_link.specs.declared.linked.Linked.{Linked}
 use Rattle.ed_link.specs.declared.linked.Placed.{Placed}
 use Rattle.ed_tapes.specs.declared.reply.Rejection.{Rejection}
 use Rattle.ed_tapes.specs.declared.reply.Reply.{Reply}
 use Rattle.ed_headline.proofs.Kit.{IsErr, IsErrAnd, paper, State, text_of, HasFormFault, Err, IfErr, IfOk, Ok, Result}
-use Rattle.ed_headline.proofs.Kit.{Text, IsProgram, HasMeaningFault, Bool, List, map, refl, subst, ℕ, ◌++◌, ◌≡◌}
+use Rattle.ed_headline.proofs.Kit.{Text, IsProgram, HasMeaningFault, Bool, List, map, subst, ℕ, ◌++◌, ◌≡◌}
 use Rattle.ed_headline.proofs.Kit.{canonicals, IsLinked, after_text, listing, entry_state, done, Outcome, for_form}
 use Rattle.ed_headline.proofs.Kit.{for_meaning, IsAcceptedAs, IsRefused, Gives, Replies, post_mortem_codes, status_of}
 use Rattle.ed_headline.proofs.Kit.{listing_outcome, of_source, punch_outcome, run_outcome}
-use Rattle.ed_report.specs.Notes.{source_fault_line}
-use Rattle.ed_tapes.specs.Replies.{Refuses}
 use Rattle.ed_answers.specs.SourceReplies.{LinksSource, RunsSource}
 use Rattle.ed_answers.specs.declared.source.NotedRun.{NotedRun}
 use Rattle.ed_headline.proofs.Sources.{accepted_is, some_outcome}
@@ -25,10 +23,6 @@ use Rattle.ed_tapes.specs.declared.reply.Rejection.TheVariants as rejection
 use Rattle.std.proofs.Common.{rules}
 
 -- ---- what is made of a source
-
--- a rejection with a reply is not the rejection `Memory`
-never : {reply : Reply} → ◌≡◌ {A = Rejection} (rejection.Refused reply) rejection.Memory → ⊥
-never same = cc
 
 -- a fault of form
 pub form_refused : (z : Size) {text : Text} {f : SourceFault} → HasFormFault text f → (line : ℕ) (cause : SourceCause)
@@ -55,14 +49,6 @@ pub meaning_refused : (z : Size) {text : Text} {two : Bool} {lines : List Line} 
 meaning_refused z (Ok k) p is = tt
 meaning_refused z {text} {two} {lines} (Err f) p is =
     λ line cause same. for_meaning p (subst (HasMeaningFault z lines) same is)
-
--- what is made of a fault refuses the source
-refused : (z : Size) (text : Text) (f : SourceFault) (e : Rejection)
-    → ((line : ℕ) (cause : SourceCause) → f ≡ At line cause → IsRefused z text line cause)
-    → Refuses (source_fault_line f) e → (f ≡ Memory → e ≡ rejection.Memory) → LinksSource z text (Err e)
-refused z text f rejection.Memory is gives none = tt
-refused z text Memory (rejection.Refused reply) is gives none = absurd (never (none refl))
-refused z text (At line cause) (rejection.Refused reply) is gives none = (line, cause, is line cause refl, gives)
 
 -- ---- the outcome of an input
 

@@ -2,7 +2,7 @@
 //!
 //! Contract: each source is exact to the byte, and what its run prints, in how many orders, is said of it. Lemmas for
 //! other crates: from the text of a source with data to its lines, its words at the entry, its calls of routines and its
-//! stop. Depends on `ed_answers`, `ed_maths` and `ed_checker`.
+//! stop. Depends on `ed_headline`, `ed_maths` and `ed_checker`.
 #![tactic(auto)]
 
 mod calls;

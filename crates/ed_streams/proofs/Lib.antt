@@ -1,5 +1,3 @@
-pub mod FirstParts
 pub mod Kit
 pub mod InParts
 mod Traced
-pub mod Writing

@@ -1,4 +1,2 @@
-pub mod Devices
-pub mod Stages
 pub mod Traces
 pub mod Parts

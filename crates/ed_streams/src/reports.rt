@@ -1,11 +1,11 @@
 ghost use Rattle.std.specs.Prelude.{◌≡◌, ◌<◌, ◌≤◌, ◌^◌, [], List, ℕ, IfOk, length};
 ghost use Rattle.ed_initial.specs.Entry.{first_state};
 ghost use Rattle.ed_tapes.specs.Answer.{of_input, of_rows};
-ghost use Rattle.ed_streams.specs.Devices.{device};
+ghost use Rattle.ed_devices.specs.Devices.{device};
 ghost use Rattle.ed_streams.specs.Parts.{IsInParts, end_note, end_status};
-ghost use Rattle.ed_streams.specs.Stages.{Carried};
+ghost use Rattle.ed_devices.specs.Stages.{Carried};
 
-use crate::devices::{Rest, write};
+use ed_devices::{Rest, write};
 use ed_interlude::{PartsEnd, run_parts};
 use ed_io::{Sink, WriteStop};
 use ed_machine::Machine;

@@ -1,10 +1,10 @@
 ghost use Rattle.std.specs.Prelude.{◌≡◌, []};
 ghost use Rattle.ed_tapes.specs.Answer.{exactly, known, of_rows};
-ghost use Rattle.ed_streams.specs.Devices.{device};
-ghost use Rattle.ed_streams.specs.Stages.{Carried};
+ghost use Rattle.ed_devices.specs.Devices.{device};
+ghost use Rattle.ed_devices.specs.Stages.{Carried};
 ghost use Rattle.ed_streams.specs.Traces.{trace_outcome, traced_from};
 
-use crate::devices::{Rest, write};
+use ed_devices::{Rest, write};
 use ed_io::{Sink, WriteStop};
 use ed_machine::Machine;
 use ed_report::ending_text;

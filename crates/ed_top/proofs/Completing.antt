@@ -6,7 +6,7 @@ use Rattle.std.proofs.lemmas.Bool.{cases_eq}
 use Rattle.ed_io.specs.Memory.{Roll}
 use Rattle.ed_tapes.specs.Answer.{IsDue}
 use Rattle.ed_top.specs.Complete.{EachRunIsComplete, IsWhole, sure_sink, sure_source}
-use Rattle.ed_top.proofs.Endings.{due_told}
+use Rattle.ed_devices.proofs.Endings.{due_told}
 
 -- no call fails of a device that counts none
 no_fault : ◌≡◌ {A = ℕ} 0 (next_count 0) → ⊥

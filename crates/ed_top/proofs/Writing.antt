@@ -2,11 +2,11 @@
 use Rattle.ed_io.specs.declared.stop.WriteStop.{WriteStop}
 use Rattle.ed_tapes.specs.declared.reply.Rejection.{Rejection}
 use Rattle.ed_tapes.specs.declared.reply.Reply.{Reply}
-use Rattle.ed_streams.specs.declared.devices.Rest.{Rest}
+use Rattle.ed_devices.specs.declared.devices.Rest.{Rest}
 use Rattle.ed_top.proofs.Kit.{Answer, known, of_made, [], Result, subst, sym, ◌≡◌, Text, Outcome, Replies}
 use Rattle.ed_top.proofs.Kit.{Device, Carried}
-use Rattle.ed_streams.specs.Stages.{WritesReply}
-use Rattle.ed_streams.proofs.Writing.{reply_carried}
+use Rattle.ed_devices.specs.Stages.{WritesReply}
+use Rattle.ed_devices.proofs.Writing.{reply_carried}
 use Rattle.ed_top.proofs.Made.{replies_more}
 use Rattle.std.proofs.Common.{rules}
 

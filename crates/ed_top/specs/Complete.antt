@@ -6,8 +6,8 @@ use Rattle.ed_words.specs.Texts.{Text}
 use Rattle.ed_command.specs.declared.command.Command.{Command}
 use Rattle.ed_tapes.specs.Outcome.{Outcome}
 use Rattle.ed_tapes.specs.Answer.{Answer, IsDue}
-use Rattle.ed_top.specs.Clause.{ProgramEnded}
-use Rattle.ed_streams.specs.Devices.{Device, device}
+use Rattle.ed_devices.specs.Ends.{ProgramEnded}
+use Rattle.ed_devices.specs.Devices.{Device, device}
 use Rattle.ed_top.specs.Output.{output}
 
 -- a source in memory whose calls never fail, with these bytes left before and after the call

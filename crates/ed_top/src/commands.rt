@@ -2,8 +2,8 @@ ghost use Rattle.std.specs.Prelude.{◌≡◌, ◌≤◌, length};
 ghost use Rattle.ed_command.specs.Ranges.{IsInRange};
 ghost use Rattle.ed_tapes.specs.declared.input.TheConstants.{INPUT_BYTES};
 ghost use Rattle.ed_tapes.specs.Answer.{reads_input};
-ghost use Rattle.ed_streams.specs.Devices.{device};
-ghost use Rattle.ed_streams.specs.Stages.{Carried};
+ghost use Rattle.ed_devices.specs.Devices.{device};
+ghost use Rattle.ed_devices.specs.Stages.{Carried};
 ghost use Rattle.ed_top.specs.Output.{answer};
 
 use crate::calls::call_routine;
@@ -12,8 +12,9 @@ use crate::library::list_library;
 use crate::step::step;
 use ed_answers::{list, punch, run};
 use ed_command::{Action, Command};
+use ed_devices::{Rest, write};
 use ed_io::{Sink, WriteStop};
-use ed_streams::{Rest, parts, trace, write};
+use ed_streams::{parts, trace};
 use ed_tapes::{check_tape, check_tape1, tape, tape1};
 use std::alloc::Global;
 

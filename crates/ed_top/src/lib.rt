@@ -13,4 +13,5 @@ mod library;
 mod program;
 mod step;
 
-pub use program::{edsac, report_no_memory};
+pub use ed_devices::report_no_memory;
+pub use program::edsac;

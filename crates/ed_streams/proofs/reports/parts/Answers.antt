@@ -1,7 +1,7 @@
 use Rattle.ed_streams.proofs.Kit.{Memory, gains_none, Err, refl, of_rows, Replies-rejected, err_from_is_err_and, device}
 use Rattle.ed_streams.proofs.Kit.{IsInParts}
 use Rattle.ed_streams.proofs.InParts.{parts_none, parts_one}
-use Rattle.ed_streams.proofs.Writing.{reply_carried, rows_carried_by}
+use Rattle.ed_devices.proofs.Writing.{reply_carried, rows_carried_by}
 use Rattle.ed_streams.proofs.reports.parts.Goals as goal
 
 pub returns-in-Err : goal.returns-in-Err

@@ -1,7 +1,7 @@
 use Rattle.ed_streams.proofs.Kit.{Memory, gains_none, known, [], Err, refl, subst, State, exactly, of_rows, exactly_one}
 use Rattle.ed_streams.proofs.Kit.{Replies-rejected, err_from_is_err_and, device, Carried, trace_outcome, traced_from}
 use Rattle.ed_streams.proofs.Kit.{none_written}
-use Rattle.ed_streams.proofs.Writing.{reply_carried, rows_carried}
+use Rattle.ed_devices.proofs.Writing.{reply_carried, rows_carried}
 use Rattle.ed_streams.proofs.traces.trace.Goals as goal
 
 pub returns-in-Err : goal.returns-in-Err

@@ -1,10 +1,10 @@
-use Rattle.ed_streams.proofs.Kit.{Loses, next_count, [], ap, append-nil, arith, drop, inl, inr, length, List, Option, refl}
-use Rattle.ed_streams.proofs.Kit.{rules, subst, sym, ℕ, ◌++◌, ◌∙◌, ◌≡◌, ◌≤◌, Text, length-append, err_from_is_err_and}
+use Rattle.ed_devices.proofs.Kit.{Loses, next_count, [], ap, append-nil, arith, drop, inl, inr, length, List, Option, refl}
+use Rattle.ed_devices.proofs.Kit.{rules, subst, sym, ℕ, ◌++◌, ◌∙◌, ◌≡◌, ◌≤◌, Text, length-append, err_from_is_err_and}
 use Rattle.std.proofs.Common.{take}
 use Rattle.std.proofs.lemmas.List.{take-append-le, length-take, length-take-le}
 use Rattle.ed_io.proofs.Calls.{loses_more, loses_none, still_at_end}
-use Rattle.ed_streams.proofs.devices.read_all.Goals.{else-loop-piece-test, then-loop-piece-test+in_ok-count+then-count-eq0}
-use Rattle.ed_streams.proofs.devices.read_all.Goals as goal
+use Rattle.ed_devices.proofs.devices.read_all.Goals.{else-loop-piece-test, then-loop-piece-test+in_ok-count+then-count-eq0}
+use Rattle.ed_devices.proofs.devices.read_all.Goals as goal
 
 -- no bytes were lost
 lost_none : (before after : Option Text) (n : ℕ) (bytes : List ℕ) → n ≡ 0 → Loses before after (take n bytes)

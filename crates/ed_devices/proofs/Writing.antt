@@ -1,8 +1,8 @@
 -- From what a command wrote on `out` to the outcome of a tape's text.
-use Rattle.ed_streams.proofs.Kit.{WriteStop, Failed, Memory, Answer, known, of_input, of_made, ForInput, Rejection, Reply}
-use Rattle.ed_streams.proofs.Kit.{[], Err, List, Ok, Result, ℕ, ◌≡◌, Text, reading, rows, exactly, of_rows}
-use Rattle.ed_streams.proofs.Kit.{Outcome, Gives, Replies, Device, Carried, Rest, none_written}
-use Rattle.ed_streams.specs.Stages.{WritesReply, WritesText}
+use Rattle.ed_devices.proofs.Kit.{WriteStop, Failed, Memory, Answer, known, of_input, of_made, ForInput, Rejection, Reply}
+use Rattle.ed_devices.proofs.Kit.{[], Err, List, Ok, Result, ℕ, ◌≡◌, Text, reading, rows, exactly, of_rows}
+use Rattle.ed_devices.proofs.Kit.{Outcome, Gives, Replies, Device, Carried, Rest, none_written}
+use Rattle.ed_devices.specs.Stages.{WritesReply, WritesText}
 use Rattle.ed_tapes.specs.declared.reply.Rejection.TheVariants as rejection
 use Rattle.std.proofs.Common.{rules}
 

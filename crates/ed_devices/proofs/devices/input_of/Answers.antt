@@ -1,8 +1,8 @@
-use Rattle.ed_streams.proofs.Kit.{Vec, Global, arith, Bool, Err, inl, inr, refl, true, ℕ, ◌<◌, ◌≡◌, ◌≢◌, ◌≤◌, ◌⊎◌}
-use Rattle.ed_streams.proofs.Kit.{err_from_is_err_and, device, Device, HasInput, InputStop}
-use Rattle.ed_streams.specs.Stages.{input_faults}
-use Rattle.ed_streams.specs.declared.devices.InputStop.TheVariants as input
-use Rattle.ed_streams.proofs.devices.input_of.Goals as goal
+use Rattle.ed_devices.proofs.Kit.{Vec, Global, arith, Bool, Err, inl, inr, refl, true, ℕ, ◌<◌, ◌≡◌, ◌≢◌, ◌≤◌, ◌⊎◌}
+use Rattle.ed_devices.proofs.Kit.{err_from_is_err_and, device, Device, HasInput, InputStop}
+use Rattle.ed_devices.specs.Stages.{input_faults}
+use Rattle.ed_devices.specs.declared.devices.InputStop.TheVariants as input
+use Rattle.ed_devices.proofs.devices.input_of.Goals as goal
 
 -- a read that stopped before the limit
 stopped : (reads : Bool) (source : Device) (e : InputStop) → reads ≡ true → e ≢ input.TooLong

@@ -4,7 +4,7 @@ use Rattle.std.specs.Prelude.{◌≡◌, ◌≢◌, ◌⊎◌, ◌+◌, ℕ, tru
 use Rattle.ed_words.specs.Texts.{Text}
 use Rattle.ed_tapes.specs.declared.input.TheConstants.{INPUT_BYTES}
 use Rattle.ed_tapes.specs.Outcome.{Outcome, read_fault, no_memory}
-use Rattle.ed_streams.specs.Devices.{Device, FailedOnce, NeverFailed, Wrote, WrotePart}
+use Rattle.ed_devices.specs.Devices.{Device, FailedOnce, NeverFailed, Wrote, WrotePart}
 use Rattle.ed_tapes.specs.Answer.{Answer, known, of_made, of_input, reads_input, WithinLimit}
 
 -- no call of any device failed

@@ -1,5 +1,5 @@
-use Rattle.ed_streams.proofs.Kit.{refl}
-use Rattle.ed_streams.proofs.devices.write_note.Goals as goal
+use Rattle.ed_devices.proofs.Kit.{refl}
+use Rattle.ed_devices.proofs.devices.write_note.Goals as goal
 
 pub returns-in-Ok : goal.returns-in-Ok
 returns-in-Ok g c = record {

@@ -1,7 +1,7 @@
 ghost use Rattle.std.specs.Prelude.{◌≡◌, ◌≢◌, ◌⊎◌, ◌+◌, ◌<◌, length, IfOk, IfErr};
 ghost use Rattle.ed_io.specs.Bytes.{IsAtEnd, Loses};
-ghost use Rattle.ed_streams.specs.Devices.{WritesLastLine, device};
-ghost use Rattle.ed_streams.specs.Stages.{HasInput, WritesReply, input_faults};
+ghost use Rattle.ed_devices.specs.Devices.{WritesLastLine, device};
+ghost use Rattle.ed_devices.specs.Stages.{HasInput, WritesReply, input_faults};
 
 use ed_io::{Failed, Sink, Source, WriteStop, write_all};
 use ed_tapes::{INPUT_BYTES, Rejection, Reply};
@@ -23,7 +23,7 @@ pub enum InputStop {
 
 impl From<Failed> for InputStop {
     ghost use Rattle.std.specs.Prelude.{◌≡◌};
-    ghost use Rattle.ed_streams.specs.declared.devices.InputStop.TheVariants.{Failed};
+    ghost use Rattle.ed_devices.specs.declared.devices.InputStop.TheVariants.{Failed};
 
     ghost from_gives = { λ _ e. e ≡ Failed };
 
@@ -34,7 +34,7 @@ impl From<Failed> for InputStop {
 
 impl From<AllocError> for InputStop {
     ghost use Rattle.std.specs.Prelude.{◌≡◌};
-    ghost use Rattle.ed_streams.specs.declared.devices.InputStop.TheVariants.{Memory};
+    ghost use Rattle.ed_devices.specs.declared.devices.InputStop.TheVariants.{Memory};
 
     ghost from_gives = { λ _ e. e ≡ Memory };
 

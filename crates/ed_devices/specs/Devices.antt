@@ -1,4 +1,4 @@
--- A device before and after a call, and what a text on it is (this project's own rules).
+-- A device before and after a call, and what it means that a text was written on it (this project's own rules).
 use Rattle.std.specs.Prelude.{◌≡◌, ◌≢◌, ℕ, Option}
 use Rattle.ed_io.specs.Bytes.{Gains, GainsPart}
 use Rattle.ed_io.specs.Causes.{next_count}

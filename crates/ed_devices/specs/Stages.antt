@@ -8,16 +8,16 @@ use Rattle.ed_io.specs.declared.stop.WriteStop.{WriteStop}
 use Rattle.ed_io.specs.declared.stop.WriteStop.TheVariants.{Failed, Memory}
 use Rattle.ed_words.specs.Texts.{Text}
 use Rattle.ed_tapes.specs.declared.input.TheConstants.{INPUT_BYTES}
-use Rattle.ed_tapes.specs.Outcome.{Outcome}
+use Rattle.ed_tapes.specs.Outcome.{Outcome, no_memory, read_fault, too_long_outcome}
 use Rattle.ed_tapes.specs.Answer.{Answer}
 use Rattle.ed_tapes.specs.Replies.{ForInput}
 use Rattle.ed_tapes.specs.declared.reply.Reply.{Reply}
 use Rattle.ed_tapes.specs.declared.reply.Rejection.{Rejection}
 use Rattle.ed_tapes.specs.declared.reply.Rejection.TheVariants as rejection
-use Rattle.ed_streams.specs.Devices.{Device, FailedOnce, NeverFailed, Wrote, WrotePart}
-use Rattle.ed_streams.specs.declared.devices.Rest.{Rest}
-use Rattle.ed_streams.specs.declared.devices.InputStop.{InputStop}
-use Rattle.ed_streams.specs.declared.devices.InputStop.TheVariants as input
+use Rattle.ed_devices.specs.Devices.{Device, FailedOnce, NeverFailed, WritesLastLine, Wrote, WrotePart}
+use Rattle.ed_devices.specs.declared.devices.Rest.{Rest}
+use Rattle.ed_devices.specs.declared.devices.InputStop.{InputStop}
+use Rattle.ed_devices.specs.declared.devices.InputStop.TheVariants as input
 
 -- ---- the input
 
@@ -38,6 +38,12 @@ input_faults (Ok v) before = before
 input_faults (Err input.Failed) before = next_count before
 input_faults (Err input.Memory) before = before
 input_faults (Err input.TooLong) before = before
+
+-- the outcome if there is no input, for this reason
+abbrev pub unread_outcome : InputStop → Outcome
+unread_outcome input.Failed = record { out = []; note = read_fault; status = 8 }
+unread_outcome input.Memory = record { out = []; note = no_memory; status = 10 }
+unread_outcome input.TooLong = too_long_outcome
 
 -- ---- a command
 
@@ -68,3 +74,9 @@ WritesReply (Err (rejection.Refused reply)) out r = WritesText reply out r
 WritesReply (Err rejection.Memory) out (Ok rest) = ⊥
 WritesReply (Err rejection.Memory) out (Err Failed) = ⊥
 WritesReply (Err rejection.Memory) out (Err Memory) = Wrote out [] × NeverFailed out
+
+-- the last line of a command that was carried out, or for which no memory was found; none if a write on `out` failed
+abbrev pub WritesEnd : Result Rest WriteStop → Device → ℕ → Type 0
+WritesEnd (Ok rest) note status = WritesLastLine note rest.note.items rest.status status
+WritesEnd (Err Failed) note status = (status ≡ 9) × Wrote note [] × NeverFailed note
+WritesEnd (Err Memory) note status = WritesLastLine note no_memory 10 status

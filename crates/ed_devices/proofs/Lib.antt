@@ -1,0 +1,4 @@
+pub mod FirstParts
+pub mod Kit
+pub mod Writing
+pub mod Endings
