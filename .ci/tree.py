@@ -104,18 +104,19 @@ def kit():
     return Path(subprocess.run(["rt", "doc"], capture_output=True, text=True, check=True).stdout.strip()).parent
 
 
-def prover(verb, name, top=ROOT):
-    """The words by which the prover checks or builds a crate, over the libraries that `rt` has built in a repository."""
+def prover(verb, name, libraries=None):
+    """The words by which the prover checks or builds a crate, over the libraries in a folder, or over those that `rt` has
+    built."""
     home = kit()
     lines = (ROOT / "crates.txt").read_text().splitlines()
     kind, _, others = next(line for line in lines if re.split(r"[ :]", line)[0] == name).partition(":")
     crates = stands_on()
-    rlib = lambda other: (top / "crates" / other / "out/rlib" if other in crates else home / "rlibs") / f"{other}.rlib"
+    built = lambda other: (libraries or CRATES / other / "out/rlib" if other in crates else home / "rlibs") / f"{other}.rlib"
     root = "src/main.rt" if (CRATES / name / "src/main.rt").exists() else "src/lib.rt"
     words = [str(home / "bin/rattle"), verb, "--crate-name", name, root]
     for other in ["std", *others.split()]:
-        words += ["--extern", f"{other}={rlib(other)}"]
-    for folder in [home / "rlibs", *(rlib(other).parent for other in sorted(below(name, crates)))]:
+        words += ["--extern", f"{other}={built(other)}"]
+    for folder in dict.fromkeys([home / "rlibs", *(built(other).parent for other in sorted(below(name, crates)))]):
         words += ["-L", f"dependency={folder}"]
     words += ["--crate-type", "staticlib"] * ("staticlib" in kind)
     logic = ["--antt-project", str(home / "rattle/logic/antt-project.json"), "--logic-built", str(home / "logic_built")]

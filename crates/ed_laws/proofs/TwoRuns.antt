@@ -1,8 +1,8 @@
 -- Two runs from a state, of which one ends no sooner than the other.
 use Rattle.ed_laws.proofs.Kit.{Ending, Limit, Stopped, past_sum, ran_is, StartsWith, ap, arith, length, nat_le, None}
-use Rattle.ed_laws.proofs.Kit.{refl, rules, Some, sym, ℕ, ◌+◌, ◌-◌, ◌<◌, ◌∙◌, ◌≡◌, ◌≢◌, ◌≤◌, nat_tests, State, Progress}
+use Rattle.ed_laws.proofs.Kit.{refl, rules, Some, sym, ℕ, ◌+◌, ◌-◌, ◌<◌, ◌∙◌, ◌≡◌, ◌≢◌, ◌≤◌, State, Progress}
 use Rattle.ed_laws.proofs.Kit.{progress, state_after, least_below, end_at, EndsAfter, run_end, run_orders, ran_ends}
-use Rattle.ed_laws.proofs.Kit.{is_some, first_once, first_within, ne_eqb, common_steps}
+use Rattle.ed_laws.proofs.Kit.{is_some, first_once, first_within, ne_eqb}
 
 -- ---- whatever the limits, the resumes and the papers
 
