@@ -1,7 +1,8 @@
 -- The routine obeys the guest order by order.
-use Rattle.ed_checker.proofs.Kit.{Kind, E, G, Stopped, [], ap, arith, false, Option, refl, rules, Some, subst, suc, sym}
-use Rattle.ed_checker.proofs.Kit.{true, true≢false, zero, ℕ, ◌%◌, ◌++◌, ◌+◌, ◌∙◌, ◌∷◌, ◌≡◌, within, function_of}
-use Rattle.ed_checker.proofs.Kit.{IsStore, kind_of_function, after, next_word, obey_word, Obeyed, step, State, codes_of}
+use Rattle.ed_checker.proofs.Kit.{Kind, E, G, Stopped, [], ap, arith, Bool, false, lit<, nat_le, nat_lt, Option, refl}
+use Rattle.ed_checker.proofs.Kit.{rules, Some, subst, suc, sym, true, true≢false, zero, ℕ, ◌%◌, ◌++◌, ◌+◌, ◌^◌, ◌∙◌}
+use Rattle.ed_checker.proofs.Kit.{◌∷◌, ◌≡◌, within, function_of, IsStore, kind_of_function, address_of, after}
+use Rattle.ed_checker.proofs.Kit.{next_word, done_at, jump_order, obey_word, Obeyed, place_of, step, State, codes_of}
 use Rattle.ed_checker.proofs.Kit.{is_obeyed, progress, Progress, state_after, stops_of, short_at, Agree, checked_orders}
 use Rattle.ed_checker.proofs.Kit.{guest, IsAllowed, orders_by, turn_orders, HasRun}
 use Rattle.ed_machine.specs.Sound.{IsSound}
@@ -16,7 +17,15 @@ agree_self : (base : ℕ) (s : State) → Agree base s s
 agree_self base s = search rules
 
 agree_trans : {base : ℕ} {s t u : State} → Agree base s t → Agree base t u → Agree base s u
-agree_trans p q = search rules
+agree_trans p q = record {
+  size = p.size ∙ q.size;
+  words = λ a out. p.words a out ∙ q.words a out;
+  digits = λ a out. p.digits a out ∙ q.digits a out;
+  acc = p.acc ∙ q.acc;
+  multiplier = p.multiplier ∙ q.multiplier;
+  counter = p.counter ∙ q.counter;
+  tape = p.tape ∙ q.tape;
+}
 
 -- two guests that agree, if the second is allowed its next order
 module _ {base : ℕ} (even_base : base % 2 ≡ 0) {s t : State} (p : Agree base s t) (ok : IsAllowed base t) where
@@ -42,15 +51,41 @@ module _ {base : ℕ} (even_base : base % 2 ≡ 0) {s t : State} (p : Agree base
     pub turn : a.turn ≡ b.turn
     pub agree : Agree base a.state b.state
 
+  agree_after : {m n : ℕ} → m ≡ n → Agree base (done_at m s) (done_at n t)
+  agree_after e = record {
+    size = p.size;
+    words = p.words;
+    digits = p.digits;
+    acc = p.acc;
+    multiplier = p.multiplier;
+    counter = e;
+    tape = p.tape;
+  }
+
+  both_jump : (b : Bool) → Both (jump_order b (place_of s x) s) (jump_order b (place_of t x) t)
+  both_jump true = record { turn = refl; agree = agree_after (λ i. within (p.size i) (address_of x)) }
+  both_jump false = record { turn = refl; agree = agree_after (λ i. within (p.size i) (p.counter i + 1)) }
+
   both_E : Both (obey_word (Some E) x s) (obey_word (Some E) x t)
-  both_E = search rules
+  both_E = subst (λ a. Both (obey_word (Some E) x s) (jump_order (nat_lt a (2 ^ 70)) (place_of t x) t)) p.acc
+      (both_jump (nat_lt s.acc (2 ^ 70)))
 
   both_G : Both (obey_word (Some G) x s) (obey_word (Some G) x t)
-  both_G = search rules
+  both_G = subst (λ a. Both (obey_word (Some G) x s) (jump_order (nat_le (2 ^ 70) a) (place_of t x) t)) p.acc
+      (both_jump (nat_le (2 ^ 70) s.acc))
 
   module _ (a : IsStore s.store) (b : IsStore t.store) where
     alike : Alike base s t
-    alike = search rules
+    alike = record {
+      size = p.size;
+      words = p.words;
+      digits = p.digits;
+      word_count = a.words_are ∙ sym b.words_are;
+      digit_count = a.digits_are ∙ sym b.digits_are;
+      acc = p.acc;
+      multiplier = p.multiplier;
+      tape = p.tape;
+    }
 
     abbrev kind : Option Kind
     kind = kind_of_function (function_of x)
@@ -95,7 +130,14 @@ module _ {base : ℕ} (even_base : base % 2 ≡ 0) {s t : State} (p : Agree base
 -- ---- the guest of a machine that has the routine
 
 guest_sound : (base : ℕ) (m : State) → HasGuest base m → IsAllowed base (guest base m) → IsSound (guest base m)
-guest_sound base m h ok = search rules
+guest_sound base m h ok = record {
+  store = h.sound.store;
+  acc = search rules;
+  multiplier = h.sound.multiplier;
+  counter = omega (arith, ok.next);
+  tape = h.sound.tape;
+  last = lit< tt;
+}
 
 at_first : (base : ℕ) (g : State) → IsAllowed base (state_after 0 g) → IsAllowed base g
 unfolding progress

@@ -7,7 +7,8 @@ use Rattle.ed_initial.proofs.Kit.{NotationState, over, row_kind, Arrived, entry_
 use Rattle.ed_initial.proofs.Kit.{row_effect, set_by, setting_of, entry_words, enters, IsNotationState, IsPartSoFar}
 use Rattle.ed_initial.proofs.Kit.{Scratch, working}
 use Rattle.ed_notation.specs.Reading.{Faulty}
-use Rattle.ed_notation.specs.declared.cause.TapeCause.TheVariants.{BadRow}
+use Rattle.ed_notation.specs.declared.cause.TapeCause.{TapeCause}
+use Rattle.ed_notation.specs.declared.cause.TapeCause.TheVariants.{BadRow, EndOfTape}
 use Rattle.ed_notation.proofs.Follow.{reads, passed, follow}
 use Rattle.ed_initial.proofs.Goes.{Goes, Goes-joined, Goes-along, Goes-whole}
 use Rattle.ed_initial.proofs.Inside.{between, inside, AtRow, Follows, After-follows}
@@ -74,6 +75,10 @@ module _ (f : Kept) (ws : List ℕ) (first : ℕ) where
   entry_same : (a b : TapeEntry) → Arrived a ≡ Arrived b → a ≡ b
   entry_same a b h = cc
 
+  -- a tape that is faulty has no entry
+  never : {R : Type 0} (row : ℕ) (cause : TapeCause) (e : TapeEntry) → Faulty row cause ≡ Arrived e → R
+  never row cause e h = absurd (cc)
+
   by_function : (rows : List ℕ) → Loads rows → (r : Rest) (c : ℕ) {e : TapeEntry} → IsNotationState r.notation
       → {b : Bool}
       → nat_lt c 32 ≡ b
@@ -88,13 +93,13 @@ module _ (f : Kept) (ws : List ℕ) (first : ℕ) where
       let path = function_path f (working r.scratch r.notation) (over r.notation.placed ws) r.scratch.digit40 c
       rows small in
       Reaches-prepend 6 r.cost path (ih after (Some (part_of c)) e good begins h)
-  by_function rows ih r c good {b = false} t h = cc
+  by_function rows ih r c {e} good {b = false} t h = never r.row BadRow e h
 
   -- every tape, from every rest
   loads_on : (rows : List ℕ) → Loads rows
   unfolding reading_on
-  loads_on [] r None e good phase h = cc
-  loads_on [] r (Some part) e good phase h = cc
+  loads_on [] r None e good phase h = never r.row EndOfTape e h
+  loads_on [] r (Some part) e good phase h = never r.row EndOfTape e h
   loads_on (c ∷ rows) r None e good phase h = by_function rows (loads_on rows) r c good refl h
   loads_on (c ∷ rows) r (Some part) e good phase h =
       by_taken (loads_on rows) (row_effect f.size (row_kind c) (over r.notation.placed ws)
@@ -118,7 +123,7 @@ module _ (f : Kept) (ws : List ℕ) (first : ℕ) where
 
       by_taken : Loads rows → (t : RowEffect) → Follows row t → follow (reader r) part c rows t ≡ Arrived e
           → Reaches f ws first r.cost (state f (rests r (Some part) (c ∷ rows)) (first + r.cost)) e
-      by_taken ih (Refused cause) o h = cc
+      by_taken ih (Refused cause) o h = never r.row cause e h
       by_taken ih (Longer longer k) o h =
           Reaches-prepend k r.cost o.path (ih (behind (record r.scratch { at1 = o.one; at20 = o.twenty }) k r.notation)
           (Some longer) e good o.part_is h)

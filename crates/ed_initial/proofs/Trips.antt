@@ -155,7 +155,13 @@ module _ (f : Kept) (ws : List ℕ) where
       goes in
       let rows : begun_rows b ++ (w.end ∷ rest) ≡ rows_of w ++ rest =
       sym (append_assoc (begun_rows b) (w.end ∷ []) rest) in
-      search (rules, Trip-further, by_path)
+      record {
+        left = c.scratch;
+        good = c.notation_is;
+        trip = subst (λ x. Trip f (cost_of notation w) (between f ws scratch notation x)
+            (between f ws c.scratch (act ws notation (item w)) rest)) rows
+            (Trip-further begun.trip (by_path c.path));
+      }
 
   -- items, none of them the entry item
   pub whole_items : (scratch : Scratch) (notation : NotationState) (before : List Written) (rest : List ℕ)
@@ -169,4 +175,10 @@ module _ (f : Kept) (ws : List ℕ) where
       let q = whole_items p.left next ws' rest p.good are.2 sound.1 in
       let rows : rows_of w ++ (spelled_rows ws' ++ rest) ≡ spelled_rows (w ∷ ws') ++ rest =
       sym (append_assoc (rows_of w) (spelled_rows ws') rest) in
-      search (rules, Trip-further)
+      record {
+        left = q.left;
+        good = q.good;
+        trip = subst (λ x. Trip f (costs ws notation (w ∷ ws')) (between f ws scratch notation x)
+            (between f ws q.left (fold ws next (items ws')) rest)) rows
+            (Trip-further p.trip q.trip);
+      }

@@ -3,7 +3,7 @@ use Rattle.ed_interlude.proofs.Kit.{same_Some, Ending, Limit, Stopped, Turn, Pri
 use Rattle.ed_interlude.proofs.Kit.{end_by, [], ap, arith, false, inl, inr, None, Option, refl, Some, subst, suc, sym}
 use Rattle.ed_interlude.proofs.Kit.{zero, ℕ, ◌+◌, ◌<◌, ◌∙◌, ◌≡◌, ◌≢◌, ◌≤◌, ◌⊎◌, cases_lt, step, State, progress}
 use Rattle.ed_interlude.proofs.Kit.{state_after, next_state, Finishes, ReturnsToLoader, RunsOn, IsReturned}
-use Rattle.std.proofs.Common.{below_more}
+use Rattle.std.proofs.Common.{below_more, is_some, true≢false}
 use Rattle.std.proofs.lemmas.Bool.{cases_order}
 use Rattle.std.proofs.lemmas.Option.{none-some}
 use Rattle.ed_machine.specs.declared.turn.Turn.TheVariants.{Stopped as Stops}
@@ -46,7 +46,9 @@ module _ (left : ℕ) (s : State) where
 
   -- what is under way is within its limit
   pub way_within : (k : ℕ) → IsUnderWay left k s → k ≢ left
-  way_within k way is = search rules
+  way_within k way is =
+      true≢false (sym (ends.ends_at_limit left 0 1 (unprinted left)) ∙ ap (λ n. is_some (program_end left n s)) (sym is)
+      ∙ ap is_some way.no_end)
 
   pub runs_within : (k : ℕ) → RunsOn left k s → k ≤ left
   runs_within k runs =
@@ -57,11 +59,20 @@ module _ (left : ℕ) (s : State) where
 
   -- and has obeyed no stop
   pub way_stops : (k : ℕ) → IsUnderWay left k s → (progress k s).stops ≡ 0
-  way_stops k way = search rules
+  way_stops k way = elim (cases_lt 0 (progress k s).stops) [
+    | inl many ↦ absurd (none-some Stopped (sym way.no_end ∙ stop_ends k many))
+    | inr none ↦ omega (arith, none)
+  ]
 
   -- it returns after one number of orders
   pub home_once : (j k : ℕ) → ReturnsToLoader left j s → ReturnsToLoader left k s → j ≡ k
-  home_once j k a b = search rules
+  home_once j k a b = elim (cases_order j k) [
+    | inl same ↦ same
+    | inr other ↦ elim other [
+      | inl low ↦ absurd ((b.runs j low).away a.home)
+      | inr high ↦ absurd ((a.runs k high).away b.home)
+    ]
+  ]
 
   -- and does not end then
   pub home_or_end : (j k : ℕ) (ending : Ending) → ReturnsToLoader left j s → Finishes left k s ending → ⊥
@@ -137,22 +148,38 @@ module _ {left : ℕ} {s : State} {k : ℕ} {m : State} (r : Running left s k m)
 
     -- it cannot go on
     pub Finishes-blocks : {ending : Ending} → end_by turn false ≡ Some ending → Finishes left k s ending
-    Finishes-blocks ends = search rules
+    Finishes-blocks ends = record {
+      runs = r.runs;
+      ends = end_there ∙ ends;
+      stopped = λ home. absurd (away_there away home);
+    }
 
     way : end_by turn false ≡ None → RunsOn left (k + 1) s
     way none = one_more left s k r.runs (record { no_end = end_there ∙ none; away = away_there away })
 
     stops_more : (progress (k + 1) s).stops ≡ stops_of turn
-    stops_more = search (rules, turn_there, next_stops)
+    stops_more = omega (arith, next_stops k s, r.stops, ap stops_of turn_there)
 
     -- it stops
     pub stops_there : turn ≡ Stops → Finishes left (k + 1) s Stopped
-    stops_there stop = search (rules, stops_more, way, stop_ends)
+    stops_there stop = record {
+      runs = way (ap (λ t. end_by t false) stop);
+      ends = stop_ends left s (k + 1) (omega (arith, stops_more, ap stops_of stop));
+      stopped = λ h. refl;
+    }
 
     -- it goes on
     pub goes_on : {n : State} → n ≡ (step m).state → GoesOn turn → Running left s (k + 1) n
-    goes_on {n} to on = search (rules, next_state, way, stops_more)
+    goes_on to on = record {
+      state = next_state k s r.state to;
+      runs = way on.no_end;
+      stops = stops_more ∙ on.no_stop;
+    }
 
 -- it reaches its limit
 pub at_limit : {left k : ℕ} {s m : State} → k ≡ left → Running left s k m → (IsReturned m → ⊥) → Finishes left k s Limit
-at_limit {left} {k} {s} is r away = search rules
+at_limit {left} {k} {s} is r away = record {
+  runs = r.runs;
+  ends = limit_ends left s k is r.stops;
+  stopped = λ home. absurd (away_there r away home);
+}

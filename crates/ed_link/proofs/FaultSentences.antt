@@ -4,10 +4,11 @@ use Rattle.ed_link.proofs.Kit.{subst, sym, true, ℕ, ◌++◌, ◌<◌, ◌∷�
 use Rattle.ed_link.proofs.Kit.{Enter, LocationCounter, list_any, or_cases, counter_after, counter_from, IsLineAfter}
 use Rattle.ed_link.proofs.Kit.{after_statement, first_counter, Ties, any_enter, extent, has_no_routine, has_sandwich}
 use Rattle.ed_link.proofs.Kit.{is_enter, is_misplaced, is_outside, overlaps, reach, word_extent, HasEnter, symbols_of}
-use Rattle.ed_link.proofs.Kit.{Extent}
+use Rattle.ed_link.proofs.Kit.{Extent, Bool, false, None, Rows, and_from, and_parts, is_some, not_true, true_not, ◌||◌}
+use Rattle.ed_link.specs.FaultTests.{is_rows}
 use Rattle.std.proofs.lemmas.Bool.{or_left, or_right}
 use Rattle.ed_link.specs.Faults.{IsOutsideSegments, NeedsWithin, NeedsPast, Overlaps, UsesUnknown}
-use Rattle.ed_link.specs.Faults.{IsMisplaced, HasSandwichDigit}
+use Rattle.ed_link.specs.Faults.{IsData, IsMisplaced, HasSandwichDigit}
 use Rattle.std.proofs.lemmas.Grind.{common_steps}
 
 -- ---- S14 and S17
@@ -120,6 +121,44 @@ any_among (e ∷ before) l after h = or_right _ _ (any_among before l after h)
 pub any_tests : (lines : List Line) → HasEnter lines → any_enter lines ≡ true
 any_tests lines h = search (rules, any_among)
 
+data_says : (st : Option Statement) → is_rows st ≡ true → IsData st
+data_says (Some (Rows codes)) h = tt
+data_says st h = cc
+
+data_tests : (st : Option Statement) → IsData st → is_rows st ≡ true
+data_tests (Some (Rows codes)) h = refl
+data_tests st h = absurd h
+
+form_says : (label : Option (List ℕ)) (st : Option Statement) → (is_some label || is_some st) ≡ true
+    → (label ≡ None) × (st ≡ None) → ⊥
+form_says label st h g = search rules
+
+form_tests : (label : Option (List ℕ)) (st : Option Statement) → ((label ≡ None) × (st ≡ None) → ⊥)
+    → (is_some label || is_some st) ≡ true
+form_tests (Some n) st h = refl
+form_tests None (Some st) h = refl
+form_tests None None h = absurd (h (refl, refl))
+
+misplaced_says : (lines before : List Line) (l : Line) (entered : Bool) → any_enter before ≡ entered
+    → is_misplaced entered (any_enter lines) l ≡ true → IsMisplaced lines before l
+misplaced_says lines before l true e h =
+    let p = and_parts _ _ h in
+    inl (any_says before e, form_says l.label l.statement p.0, λ d. not_true _ p.1 (data_tests l.statement d))
+misplaced_says lines before l false e h =
+    let p = and_parts _ _ h in
+    inr (λ g. let k = any_tests before g in cc, data_says l.statement p.1, any_says lines p.0)
+
+misplaced_tests : (lines before : List Line) (l : Line) (entered : Bool) → any_enter before ≡ entered
+    → IsMisplaced lines before l → is_misplaced entered (any_enter lines) l ≡ true
+misplaced_tests lines before l true e (inl h) =
+    and_from _ _ (form_tests l.label l.statement h.1) (true_not _ (λ d. h.2 (data_says l.statement d)))
+misplaced_tests lines before l false e (inl h) = let g : any_enter before ≡ true = any_tests before h.0 in cc
+misplaced_tests lines before l true e (inr h) = absurd (h.0 (any_says before e))
+misplaced_tests lines before l false e (inr h) = and_from _ _ (any_tests lines h.2) (data_tests l.statement h.1)
+
 pub Ties-s16 : (lines before : List Line) (l : Line)
     → Ties (is_misplaced (any_enter before) (any_enter lines) l) (IsMisplaced lines before l)
-Ties-s16 lines before l = search (rules, any_says, any_tests)
+Ties-s16 lines before l = record {
+  says = misplaced_says lines before l _ refl;
+  tests = misplaced_tests lines before l _ refl;
+}

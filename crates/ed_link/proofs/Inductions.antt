@@ -1,5 +1,5 @@
 -- The tape of an accepted source reaches its linked program.
-use Rattle.ed_link.proofs.Kit.{nat_tests, rules, reverse, E_F, Size, AreSpellable, Item, [], append_assoc, arith}
+use Rattle.ed_link.proofs.Kit.{max, min, reverse, E_F, Size, AreSpellable, Item, [], append_assoc, arith}
 use Rattle.ed_link.proofs.Kit.{Bool, false, if◌then◌else◌, inl, length, List, None, Option, refl, Some}
 use Rattle.ed_link.proofs.Kit.{true, unwrap_or, ℕ, ◌*◌, ◌++◌, ◌+◌, ◌<◌, ◌∷◌, ◌≡◌, ◌≤◌, list_all, and_parts}
 use Rattle.ed_link.proofs.Kit.{leb-true, locations, locations_most, NotationState, SourceCause, SourceFault, Setting}
@@ -8,7 +8,8 @@ use Rattle.ed_link.proofs.Kit.{LocationCounter, Definition, is_none, not, or_lat
 use Rattle.ed_link.proofs.Kit.{cause_of, extent, extent_at, fault_from, has_no_routine, is_enter, is_misplaced}
 use Rattle.ed_link.proofs.Kit.{LinesBefore, overlaps, past_of, reach, sets, sets_otherwise, entered_place, entry_from}
 use Rattle.ed_link.proofs.Kit.{placed_from, theta_from, item_with, items_of, punched_from, Extent}
-use Rattle.std.proofs.lemmas.Bool.{not-false, or_parts}
+use Rattle.ed_link.specs.FaultTests.{is_rows}
+use Rattle.std.proofs.lemmas.Bool.{not-false, or_parts, ltb-false}
 use Rattle.ed_notation.proofs.Steps.{Enters, aiming_entry, entering_at}
 use Rattle.ed_lines.specs.Programs.{is_statement}
 use Rattle.ed_lines.specs.declared.program.Line.{Line as SourceLine}
@@ -20,18 +21,20 @@ use Rattle.ed_link.proofs.Lines.{IsReady, IsUse, IsSound, Line-sound, lt_same}
 use Rattle.ed_link.proofs.Passes.{Passes, stays, goes, Passes-join}
 use Rattle.ed_link.proofs.Spelled.{aiming_spelled, AreSpellable-joined, line_spelled}
 use Rattle.ed_link.proofs.Uses.{reverse-append_both}
-use Rattle.ed_link.proofs.Kit.{Order, Number, Long, ap, sym, ◌∙◌}
+use Rattle.ed_link.proofs.Kit.{Order, Number, Long, Rows, ap, is_some, same_Some, sym, ◌&&◌, ◌||◌, ◌∙◌}
 
 -- what the absence of a fault says of a line
 
 none_of : (b : Bool) (cause : SourceCause) (rest : Option SourceCause) → (if b then Some cause else rest) ≡ None
     → (b ≡ false) × (rest ≡ None)
-none_of b cause rest h = grind arith
+none_of true cause rest h = cc
+none_of false cause rest h = (refl, h)
 
 -- neither the line nor a later one has a fault
 later_of : (n : ℕ) (cause : Option SourceCause) (rest : Option SourceFault) → or_later n cause rest ≡ None
     → (cause ≡ None) × (rest ≡ None)
-later_of n cause rest h = grind arith
+later_of n None rest h = (refl, h)
+later_of n (Some cause) rest h = cc
 
 -- locations that a line may take: those of the store after the parameters
 abbrev pub IsClear : Size → Extent → Type 0
@@ -61,19 +64,26 @@ IsFaultless-no_cause z symbols has_enter past l s h =
 
 -- locations without a fault
 fits : (z : Size) (a b : ℕ) → a < b → IsClear z (extent a b) → (56 ≤ a) × (b ≤ locations z)
-fits z a b some clear = grind (arith, nat_tests)
+fits z a b some clear =
+    let below : min b 44 ≤ max a 0 = ltb-false _ _ clear.0 in
+    let beside : min b 56 ≤ max a 44 = ltb-false _ _ clear.1 in
+    let above : min b b ≤ max a (locations z) = ltb-false _ _ clear.2 in
+    (omega arith, omega arith)
 
 -- a `text` has a row
 some_rows : (two : Bool) (label : Option (List ℕ)) (n : ℕ) (codes : _)
     → is_line two (record { number = n; label = label; statement = Some (Text codes) }) ≡ true
     → 0 < length codes.items
-some_rows two label n codes h = search (rules, leb-true)
+some_rows two None n codes h = leb-true 1 (length codes.items) (and_parts _ _ h).0
+some_rows two (Some name) n codes h = leb-true 1 (length codes.items) (and_parts _ _ (and_parts _ _ h).1).0
 
 -- a line's statement has a form
 pub formed_statement : (two : Bool) (n : ℕ) (label : Option (List ℕ)) (st : Option Statement)
     → is_line two (record { number = n; label = label; statement = st }) ≡ true
     → (x : Statement) → st ≡ Some x → is_statement two x ≡ true
-formed_statement two n label st h x e = search rules
+formed_statement two n label None h x e = cc
+formed_statement two n None (Some y) h x e = rw (← same_Some y x e) h
+formed_statement two n (Some name) (Some y) h x e = rw (← same_Some y x e) (and_parts _ _ (and_parts _ _ h).1).1
 
 module _ (tables : list_all is_ready catalogue ≡ true) (z : Size) where
   -- a `use` without a fault has what its items need
@@ -112,7 +122,35 @@ record IsBehind (symbols : List Definition) (theta : ℕ) (s : LocationCounter) 
   placed : placed_from symbols s lines ≡ []
   theta_is : theta_from theta s lines ≡ theta
 
+-- a line after the `enter` line that is not `data` has a fault
+misplaced : (x : Bool) → ((x || true) && true) ≡ false → ⊥
+misplaced true h = cc
+misplaced false h = cc
+
+-- an `enter` line without a fault is the first one
+pub first_enter : (entry : Option ℕ) (has_enter : Bool) (l : SourceLine)
+    → is_misplaced (is_some entry) has_enter l ≡ false → is_enter l.statement ≡ true → entry ≡ None
+first_enter None has_enter l m e = refl
+first_enter (Some p) has_enter l m e = absurd (late l.label l.statement m e)
+  where
+    late : (label : Option (List ℕ)) (st : Option Statement)
+        → ((is_some label || is_some st) && not (is_rows st)) ≡ false → is_enter st ≡ true → ⊥
+    late label (Some (Enter name)) m e = misplaced (is_some label) m
+    late label st m e = cc
+
 -- a line after the `enter` line gives nothing
+after_line : {symbols : List Definition} {theta : ℕ} {s : LocationCounter} {n : ℕ} {label : Option (List ℕ)}
+    {lines : List SourceLine}
+    (st : Option Statement) → is_misplaced true true (record { number = n; label = label; statement = st }) ≡ false
+    → IsBehind symbols theta (after_statement st s) lines
+    → IsBehind symbols theta s (record { number = n; label = label; statement = st } ∷ lines)
+after_line {s = s} None m b =
+    let q = lt_same s.place in record { items = b.items; placed = b.placed; theta_is = rw q b.theta_is }
+after_line {s = s} (Some (Rows codes)) m b =
+    let q = lt_same s.place in record { items = b.items; placed = b.placed; theta_is = rw q b.theta_is }
+after_line {label = label} (Some st) m b = absurd (misplaced (is_some label) m)
+
+-- nor do all later lines
 behind : {symbols : List Definition} {theta : ℕ} {s : LocationCounter} (z : Size) (has_enter : Bool)
     (past : LinesBefore)
     (lines : List SourceLine) → past.entered ≡ true
@@ -121,8 +159,8 @@ behind z has_enter past [] e h = record { items = refl; placed = refl; theta_is 
 behind {symbols} {theta} {s} z has_enter past (l ∷ lines) e h =
     let a = later_of l.number _ _ h in
     let f = IsFaultless-no_cause z symbols has_enter past l s a.0 in
-    let b = behind {theta = theta} {s = after_statement l.statement s} z has_enter _ lines (rw e refl) a.1 in
-    search (rules, lt_same)
+    after_line l.statement (rw e at f.misplaced)
+    (behind {s = after_statement l.statement s} z has_enter _ lines (rw e refl) a.1)
 
 -- the induction over the lines
 
@@ -143,12 +181,14 @@ pub record Ends (z : Size) (words : List ℕ) (symbols : List Definition) (theta
 -- a line that is not an `enter` leaves the entry to the later lines
 entry_later : (symbols : List Definition) (st : Option Statement) (later : ℕ) → is_enter st ≡ false
     → entered_place symbols st later ≡ later
-entry_later symbols st later h = search rules
+entry_later symbols (Some (Enter name)) later h = cc
+entry_later symbols st later h = refl
 
 -- the location of an `enter` without a fault
 placed_entry : (z : Size) (found : Option ℕ) → is_none found ≡ false → IsClear z (extent_at found)
     → (56 ≤ unwrap_or found 0) × (unwrap_or found 0 + 1 ≤ locations z)
-placed_entry z found e clear = grind (arith, nat_tests)
+placed_entry z None e clear = cc
+placed_entry z (Some q) e clear = fits z q (q + 1) (omega arith) clear
 
 -- lines from a location counter onwards that have their forms and no fault; one of them is the first `enter`
 pub record AreFaultless (z : Size) (symbols : List Definition) (has_enter two : Bool) (past : LinesBefore)

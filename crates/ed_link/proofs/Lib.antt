@@ -16,6 +16,7 @@ pub mod Places
 pub mod UseWords
 pub mod Bounds
 pub mod LineLoop
+pub mod Loops
 pub mod Maps
 pub mod Finished
 pub mod Extents

@@ -12,7 +12,8 @@ use Rattle.ed_lines.proofs.Meaning.{IsStatement}
 use Rattle.ed_link.specs.Linked.{order_number}
 use Rattle.ed_link.proofs.Closed.{rows_are_ready}
 use Rattle.ed_link.proofs.Lines.{IsSound, IsUse}
-use Rattle.ed_link.proofs.Kit.{rules}
+use Rattle.ed_link.proofs.Kit.{nat_eq, segment_at, operand_number, goes_by_theta, rules}
+use Rattle.ed_symbols.specs.Operands.{operand_value}
 
 spelled : (f n e : ℕ) (mark : Bool) → f < 32 → n ≤ 32767
     → ends (row_kind e) (canonical (item_with f n mark e)).begun ≡ true
@@ -95,19 +96,24 @@ line_spelled tables z symbols s (Some (Fetch routine name ts)) formed sound base
 line_spelled tables z symbols s (Some (Order f o long)) formed sound base =
     let fact = (formed (Order f o long) refl).1 in
     let m = locations_most z in
-    search (rules, headed_spelled, order_spelled, number_few)
+    let theta = goes_by_theta symbols s o in
+    let n = operand_number symbols (segment_at s) o in
+    headed_spelled (order_item theta s.base f n long ∷ []) (nat_eq s.place s.base) s.base
+    (omega (arith, m, base, sound.1))
+    (order_spelled theta s.base f n long fact.0 (number_few (operand_value symbols (segment_at s) o)), tt)
 line_spelled tables z symbols s (Some (Number w)) formed sound base =
     let fact = (formed (Number w) refl).1 in
     let m = locations_most z in
-    search (rules, headed_spelled, word_spelled)
+    headed_spelled (word_item w ∷ []) (nat_eq s.place s.base) s.base (omega (arith, m, base, sound.1))
+    (word_spelled w fact, tt)
 line_spelled tables z symbols s (Some (Text codes)) formed sound base =
     let fact = (formed (Text codes) refl).1 in
     let m = locations_most z in
-    search (rules, headed_spelled, text_spelled)
+    headed_spelled _ _ s.base (omega (arith, m, base, sound.2)) (text_spelled codes.items fact.1)
 line_spelled tables z symbols s (Some (Long v)) formed sound base =
     let fact = (formed (Long v) refl).1 in
     let m = locations_most z in
-    search (rules, headed_spelled, long_spelled)
+    headed_spelled _ _ s.base (omega (arith, m, base, sound.1)) (long_spelled _ v fact.1)
 line_spelled tables z symbols s st formed sound base = tt
 
 -- the item that aims an `enter`

@@ -6,7 +6,8 @@ use Rattle.ed_link.proofs.Kit.{◌⊎◌, flat_map, locations, Line, Operand, Se
 use Rattle.ed_link.proofs.Kit.{LocationCounter, Definition, counter_after, counter_from, IsLineAfter, after_statement}
 use Rattle.ed_link.proofs.Kit.{first_counter, HasNoFault, on_line, first_place, image, linked_words, operand_number}
 use Rattle.ed_link.proofs.Kit.{parameter_letters, placed_by_line, placed_from, placed_words, preset, presets, set_to}
-use Rattle.ed_link.proofs.Kit.{symbols_of, append-nil, rules}
+use Rattle.ed_link.proofs.Kit.{symbols_of, append-nil, rules, length-map, entry, routine_word, table_item, parameters}
+use Rattle.ed_link.proofs.Kit.{end_place, even_from, find, routine_places, Text, Long}
 use Rattle.std.proofs.lemmas.Bool.{cases_lt}
 use Rattle.ed_link.specs.Faults.{LineHasWord}
 use Rattle.ed_link.specs.Words.{EachWordStands, IsLastSet, LinePlaces, LineSets, linked_word, words_of_line}
@@ -127,6 +128,20 @@ module _ (symbols : List Definition) (s : LocationCounter) where
       → image symbols ts base r ≡ placed_words base (routine_words symbols ts base r)
   routine_is ts base r = grind arith
 
+  routine_fits : (ts : List Setting) (base : ℕ) (r : Option ℕ)
+      → base + length (routine_words symbols ts base r) ≡ base + routine_places r
+  routine_fits ts base None = refl
+  routine_fits ts base (Some r) =
+      ap (λ n. base + n)
+      (length-map (entry r).items (λ row. routine_word (parameters symbols ts) base (table_item row)))
+
+  -- its words fill the locations of a line
+  fills : (st : Option Statement) → first_place st s + length (words_of_line symbols s st) ≡ end_place st s
+  fills (Some (Text codes)) = ap (λ n. s.place + n) (length-map codes.items (λ c. 4096 * c))
+  fills (Some (Long v)) = grind arith
+  fills (Some (Fetch r n ts)) = routine_fits ts.items (even_from s.place) (find r)
+  fills st = omega arith
+
   -- a line places the parameters that it sets, and then its own words
   placed_is : (st : Option Statement) → placed_by_line symbols s st
       ≡ presets symbols (settings_of st) ++ placed_words (first_place st s) (words_of_line symbols s st)
@@ -172,7 +187,9 @@ module _ (z : Size) (lines : List Line) (faultless : HasNoFault z lines) where
   symbols = symbols_of lines
 
   has_word : (before : List Line) (l : Line) (a w : ℕ) → LinePlaces lines before l a w → LineHasWord before l a
-  has_word before l a w p = grind (arith, common_steps)
+  has_word before l a w p =
+      let e = fills symbols (counter_after before) l.statement in
+      (omega (arith, p.place_is), omega (arith, p.place_is, p.below, e))
 
   high : (before : List Line) (l : Line) (a w : ℕ) → IsLineAfter lines before l → LinePlaces lines before l a w → 56 ≤ a
   high before l a w st p =
@@ -212,7 +229,9 @@ module _ (z : Size) (lines : List Line) (faultless : HasNoFault z lines) where
 
   own_among : (before : List Line) (l : Line) (a w : ℕ) → LinePlaces lines before l a w
       → Among (placed_by_line symbols (counter_after before) l.statement) a w
-  own_among before l a w p = search (rules, placed_is, among_right, laid_has)
+  own_among before l a w p =
+      rw (placed_is symbols (counter_after before) l.statement, p.place_is, p.word_is)
+      (among_right (presets symbols (settings_of l.statement)) _ _ _ (laid_has _ _ p.index p.below))
 
   set_among : (s : LocationCounter) (l : Line) (a w : ℕ) → LineSets lines l a w
       → Among (placed_by_line symbols s l.statement) a w

@@ -1,5 +1,6 @@
 -- `divide`, from the library's table to what it does.
-use Rattle.ed_maths.proofs.Kit.{rules, ◌≢◌, length-set, A_F, get_above, get_below, Beside-outside, Call, call_of}
+use Rattle.ed_maths.proofs.Kit.{rules, ◌≢◌, get_or-set_other, get_or-set_same, length-set, A_F, get_above, get_below}
+use Rattle.ed_maths.proofs.Kit.{Beside-outside, Call, call_of}
 use Rattle.ed_maths.proofs.Kit.{Holds-loaded, image, IsWithin, get_or-kept, Makes, more, none, [], arith, false, get_or}
 use Rattle.ed_maths.proofs.Kit.{inl, inr, length, List, refl, set, subst, suc, sym, zero, ℕ, ◌%◌, ◌*◌, ◌+◌, ◌-◌, ◌/◌}
 use Rattle.ed_maths.proofs.Kit.{◌<◌, ◌^◌, ◌∙◌, ◌∷◌, ◌≡◌, locations_most, short_at, State, Frame, short, state, Leads}
@@ -155,11 +156,16 @@ module _ {b high low by top : ℕ} {s : State} (o : CallsDivide b high low by to
 
   -- a word outside the routine
   outside : (h : ℕ) → IsOutside divide b h s → get_or last.store.words h 0 ≡ get_or ws h 0
-  outside h out = search (rules, get_below, get_above)
+  outside h out = elim out.beside [
+    | inl below ↦ get_below 0 ws b (cells b high low by left) h below
+    | inr above ↦ get_above 0 ws b (cells b high low by left) h above
+  ]
 
   -- the two words that are written, and every other one
   others : (i : ℕ) → i ≢ high → i ≢ low → get_or ws i 0 ≡ get_or s.store.words i 0
-  others i not_high not_low = search rules
+  others i not_high not_low =
+      get_or-set_other (set s.store.words high (n % d)) low i (n / d) 0 not_low
+      ∙ get_or-set_other s.store.words high i (n % d) 0 not_high
 
   apart : {h : ℕ} → IsOutside divide b h s → (j : ℕ) → j < 41 → b + j ≢ h
   apart out j l e = elim out.beside [ inl x ↦ absurd (omega arith) | inr y ↦ absurd (omega arith) ]
@@ -172,13 +178,24 @@ module _ {b high low by top : ℕ} {s : State} (o : CallsDivide b high low by to
       get_or-kept hs free ws (cells b high low by left) refl refl still ∙ others i not_high not_low
 
   at_low : get_or last.store.words low 0 ≡ n / d
-  at_low = search (rules, outside)
+  at_low = outside low low_outside
+      ∙ get_or-set_same (set s.store.words high (n % d)) low (n / d) 0
+      (let size = locations_most s.size in let below = low_outside.below in omega (arith, long_set (n % d)))
 
   at_high : get_or last.store.words high 0 ≡ n % d
   at_high = search (rules, outside)
 
   digit_stays : (p : ℕ) → IsOtherPair b p → get_or last.store.sandwich p false ≡ get_or s.store.sandwich p false
-  digit_stays p free = search (rules, get_below, get_above)
+  digit_stays p free = elim free.other [
+    | inl below ↦ get_below false s.store.sandwich (b / 2 + 18) (digits left) p below
+    | inr above ↦ get_above false s.store.sandwich (b / 2 + 18) (digits left) p (omega (arith, above))
+  ]
 
   pub HasDivided-last : (t : State) → t ≡ last → HasDivided b high low by s t
-  HasDivided-last t e = search (rules, at_low, at_high, stays, digit_stays)
+  HasDivided-last t e = subst (HasDivided b high low by s) (sym e) (record {
+    quotient = at_low;
+    remainder = at_high;
+    is = refl;
+    words = stays;
+    digits = digit_stays;
+  })

@@ -3,7 +3,7 @@ use Rattle.ed_routines.proofs.Kit.{A_F, E_F, L_D, S_F, T_F, U_F, Moment, short, 
 use Rattle.ed_routines.proofs.Kit.{prints, stay, any, early, out, own, LD, begun, flag_of, spared, [], ap, arith, Bool}
 use Rattle.ed_routines.proofs.Kit.{false, get_or, length, List, lit<, nat_lt, Option, refl, Some, suc, true, zero, ℕ}
 use Rattle.ed_routines.proofs.Kit.{◌%◌, ◌*◌, ◌++◌, ◌+◌, ◌-◌, ◌/◌, ◌<◌, ◌^◌, ◌∷◌, ◌≡◌, ◌≤◌, locations_most, lit≤, le-ltb}
-use Rattle.ed_routines.proofs.Kit.{lt-ltb, rules, sum, without_zeros}
+use Rattle.ed_routines.proofs.Kit.{lt-ltb, sum, without_zeros}
 use Rattle.ed_words.specs.declared.order_words.TheConstants.{G_F, O_F, V_F}
 use Rattle.ed_machine.proofs.Kit.Moves.{O, G_stays}
 use Rattle.ed_machine.proofs.Kit.Orders.{there_is}
@@ -330,10 +330,14 @@ module _ (given : Given) where
         let b1 : Bool = begun false q1 in
         let b2 : Bool = begun b1 q2 in
         let b3 : Bool = begun b2 q3 in
-        let p1 : Power 43 10000 0 131066 = search rules in
-        let p2 : Power 44 1000 131066 131068 = search rules in
-        let p3 : Power 45 100 131068 131070 = search rules in
-        let p4 : Power 46 10 131070 0 = search rules in
+        let p1 : Power 43 10000 0 131066 =
+        record { holds = λ w. refl; own = refl; most = lit≤ tt; inside = lit< tt; low = lit< tt; next_is = refl } in
+        let p2 : Power 44 1000 131066 131068 =
+        record { holds = λ w. refl; own = refl; most = lit≤ tt; inside = lit< tt; low = lit< tt; next_is = refl } in
+        let p3 : Power 45 100 131068 131070 =
+        record { holds = λ w. refl; own = refl; most = lit≤ tt; inside = lit< tt; low = lit< tt; next_is = refl } in
+        let p4 : Power 46 10 131070 0 =
+        record { holds = λ w. refl; own = refl; most = lit≤ tt; inside = lit< tt; low = lit< tt; next_is = refl } in
         let e : 78 + 8 * sum (tens n) + 4 * shows false (tens n)
         ≡ 8 + (digit_orders false q1
         + (1 + (digit_orders b1 q2 + (1 + (digit_orders b2 q3 + (1 + (digit_orders b3 q4 + 7))))))) = omega arith in

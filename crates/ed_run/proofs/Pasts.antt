@@ -1,9 +1,10 @@
 -- One more order of a run.
 use Rattle.ed_run.proofs.Kit.{nat_le, Sheet, Ending, Limit, Stopped, Turn, Printed, Went, [], ap, arith, Bool, false}
-use Rattle.ed_run.proofs.Kit.{inl, inr, length, length-append, None, refl, rules, sym, true, ℕ, ◌+◌, ◌-◌, ◌<◌, ◌∙◌, ◌≡◌}
-use Rattle.ed_run.proofs.Kit.{◌≤◌, ◌⊎◌, nat_tests, step, State, codes_of, is_obeyed, progress, state_after, stops_of}
-use Rattle.ed_run.proofs.Kit.{end_at, end_by, EndsAfter, IsRun, prints}
+use Rattle.ed_run.proofs.Kit.{inl, inr, length, length-append, None, refl, rules, Some, sym, true, ℕ, ◌+◌, ◌-◌, ◌<◌}
+use Rattle.ed_run.proofs.Kit.{◌∙◌, ◌≡◌, ◌≤◌, ◌⊎◌, nat_tests, step, State, codes_of, is_obeyed, progress, state_after}
+use Rattle.ed_run.proofs.Kit.{stops_of, end_at, end_by, EndsAfter, IsRun, prints}
 use Rattle.std.proofs.Common.{◌++◌, below_more, Option, append_assoc, subst}
+use Rattle.ed_machine.specs.declared.ending.Ending.TheVariants.{PaperFull}
 use Rattle.ed_machine.specs.declared.turn.Turn.TheVariants.{Stopped as Stops}
 use Rattle.ed_machine.proofs.Steps.{next_state, next_stops, past_next}
 use Rattle.ed_run.proofs.Ends.{limit_ends, stop_ends}
@@ -142,6 +143,16 @@ module _ {limit resumes : ℕ} {s : State} {sheet : Sheet} {k : ℕ} {m : State}
   pub Running-later : {n : ℕ} → k ≡ n → Running limit resumes s sheet n m paper stops
   Running-later is = subst (λ j. Running limit resumes s sheet j m paper stops) is r
 
+  -- the run ends before an order that would end it
+  pub ends_here : {ending : Ending} → k < limit → end_by (step m).turn (is_full paper) ≡ Some ending
+      → IsRun limit resumes s sheet ending m paper
+  ends_here below is = record {
+    orders = k;
+    ends = record { now = next_end r.past below ∙ same_end (step m).turn is; first = r.past.first };
+    state_is = r.past.state;
+    sheet_is = r.codes;
+  }
+
   -- the run ends with a stop for which no resume is left
   pub ends_with_stop : {m' : State} {paper' : Sheet} {stops' : ℕ} → k < limit
       → Took m paper stops Stops m' paper' stops' → resumes < stops' → IsRun limit resumes s sheet Stopped m' paper'
@@ -153,6 +164,11 @@ module _ {limit resumes : ℕ} {s : State} {sheet : Sheet} {k : ℕ} {m : State}
     state_is = next_state k s r.past.state t.state_is;
     sheet_is = taken t;
   }
+
+-- an order that prints ends the run if the paper is full
+pub full_ends : (turn : Turn) (full : Bool) → full ≡ true → prints turn ≡ true → end_by turn full ≡ Some PaperFull
+full_ends (Printed code) full is printing = rw is refl
+full_ends turn full is printing = absurd (cc)
 
 -- an order that was obeyed doesn't end the run if the paper has room or nothing is printed
 pub none_ends : (turn : Turn) (full : Bool) → is_obeyed turn ≡ true → (full ≡ false) ⊎ (prints turn ≡ false)

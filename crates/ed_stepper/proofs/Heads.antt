@@ -3,12 +3,11 @@ use Rattle.ed_stepper.proofs.Kit.{position_or_len, eq-eqb, ne_eqb, drop_all, tak
 use Rattle.ed_stepper.proofs.Kit.{drop, false, if◌then◌else◌}
 use Rattle.ed_stepper.proofs.Kit.{length, not, refl, suc, sym, take, true, zero, ℕ, ◌+◌, ◌-◌, ◌<◌, ◌==◌, ◌∙◌, ◌∷◌, ◌≡◌}
 use Rattle.ed_stepper.proofs.Kit.{◌≤◌, Text, has_end, lines_of, with_byte, without_return, begins_part, is_space}
-use Rattle.ed_stepper.proofs.Kit.{parts_between_spaces, line_feed_place, common_steps}
-use Rattle.ed_syntax.proofs.Kit.{get_or, lt-ltb, take_all}
+use Rattle.ed_stepper.proofs.Kit.{parts_between_spaces, line_feed_place, ◌++◌}
+use Rattle.ed_syntax.proofs.Kit.{get_or, nat_lt, lt-ltb, take_all}
 use Rattle.std.proofs.lemmas.List.{drop_more, take_more}
 use Rattle.ed_syntax.proofs.Lines.{keeps_end, no_return, takes_ended, takes_last}
 use Rattle.ed_stepper.specs.Private.Fronts.{first_space, stop_of}
-use Rattle.std.proofs.Common.{rules}
 
 pub one_more : (n : ℕ) → 1 + n ≡ suc n
 one_more n = omega arith
@@ -28,12 +27,31 @@ no_end_before (b ∷ bs) = by_test (b == 10) refl (no_end_before bs)
 -- it is there, or nowhere
 end_there : (text : Text) → line_feed_place text < length text → get_or text (line_feed_place text) 0 ≡ 10
 end_there [] low = absurd (omega arith)
-end_there (b ∷ bs) low = search (rules, eqb-true, end_there bs)
+end_there (b ∷ bs) low = by_test (b == 10) refl low (end_there bs)
+  where
+    by_test : (t : Bool) → (b == 10) ≡ t → (if not t then 1 + line_feed_place bs else 0) < length (b ∷ bs)
+        → (line_feed_place bs < length bs → get_or bs (line_feed_place bs) 0 ≡ 10)
+        → get_or (b ∷ bs) (if not t then 1 + line_feed_place bs else 0) 0 ≡ 10
+    by_test true e l h = eqb-true _ _ e
+    by_test false e l h = let s = one_more (line_feed_place bs) in rw s (h (omega arith))
 
 -- without a carriage return just before it
 stop_is : (text : Text) (end : ℕ) → end ≤ length text → take (stop_of text end) text ≡ without_return (take end text)
 stop_is text zero within = refl
-stop_is text (suc k) within = grind (arith, common_steps, lt-ltb, take_more, eqb-true, no_return, keeps_end)
+stop_is text (suc k) within =
+    let some : nat_lt 0 (suc k) ≡ true = lt-ltb 0 (suc k) (omega arith) in
+    let minus : suc k - 1 ≡ k = omega arith in
+    rw (some, minus) (by_test (get_or text k 0 == 13) refl)
+  where
+    pushed : take (suc k) text ≡ take k text ++ get_or text k 0 ∷ []
+    pushed = let e : suc k ≡ k + 1 = omega arith in rw e (take_more text k 0 (omega arith))
+
+    by_test : (t : Bool) → (get_or text k 0 == 13) ≡ t
+        → take (if t then k else suc k) text ≡ without_return (take (suc k) text)
+    by_test true e =
+        let thirteen : get_or text k 0 ≡ 13 = eqb-true _ _ e in
+        rw (pushed, thirteen) (sym (no_return (take k text)))
+    by_test false e = pushed ∙ sym (keeps_end (take k text) (get_or text k 0) e) ∙ ap without_return (sym pushed)
 
 -- a first line that ends
 pub line_ended : (text : Text) (end stop : ℕ) → end ≡ line_feed_place text → end < length text → stop ≡ stop_of text end
@@ -107,7 +125,8 @@ no_part (b ∷ bs) low = absurd (omega (arith, low))
 pub space_skipped : (line : Text) → 1 ≤ length line → get_or line 0 0 ≡ 32
     → parts_between_spaces line ≡ parts_between_spaces (take (length line - 1) (drop 1 line))
 space_skipped [] some is = absurd (omega (arith, some))
-space_skipped (b ∷ bs) some is = search (rules, eq-eqb, take_rest)
+space_skipped (b ∷ bs) some is =
+    rw (eq-eqb b 32 is, take_rest (b ∷ bs) 1) refl
 
 -- any other byte begins a part
 pub part_taken : (line : Text) (end : ℕ) → 1 ≤ length line → (get_or line 0 0 ≡ 32 → ⊥) → end ≡ first_space line

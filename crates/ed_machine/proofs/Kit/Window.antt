@@ -1,6 +1,6 @@
 -- A list with a window of explicit items at an index.
-use Rattle.ed_machine.proofs.Names.{common_steps, rules, drop, List, set, suc, zero, ◌++◌, ◌-◌, get_or, [], ap, arith}
-use Rattle.ed_machine.proofs.Names.{length, refl, ℕ, ◌+◌, ◌<◌, ◌∙◌, ◌∷◌, ◌≡◌, ◌≤◌}
+use Rattle.ed_machine.proofs.Names.{common_steps, drop, List, set, suc, zero, ◌++◌, ◌-◌, get_or, [], ap, arith, length}
+use Rattle.ed_machine.proofs.Names.{length-set, refl, ℕ, ◌+◌, ◌<◌, ◌∙◌, ◌∷◌, ◌≡◌, ◌≤◌}
 use Rattle.std.proofs.lemmas.List.{drop-set-add}
 
 -- the list with `cs` from `base` onwards; `d` fills in if the list is too short
@@ -11,7 +11,9 @@ patched d (w ∷ ws) (suc b) cs = w ∷ patched d ws b cs
 
 module _ {A : Type 0} (d : A) where
   get_left : (cs ys : List A) (j : ℕ) → j < length cs → get_or (cs ++ ys) j d ≡ get_or cs j d
-  get_left = grind (arith, common_steps)
+  get_left [] ys j h = absurd (omega arith)
+  get_left (c ∷ cs) ys zero h = refl
+  get_left (c ∷ cs) ys (suc j) h = get_left cs ys j (omega arith)
 
   set_left : (cs ys : List A) (j : ℕ) (v : A) → j < length cs → set (cs ++ ys) j v ≡ set cs j v ++ ys
   set_left [] ys j v h = absurd (omega arith)
@@ -20,7 +22,9 @@ module _ {A : Type 0} (d : A) where
 
   -- after a front
   pub get_right : (cs ys : List A) (j : ℕ) → get_or (cs ++ ys) (length cs + j) d ≡ get_or ys j d
-  get_right = grind (arith, common_steps)
+  get_right [] ys j = let e : 0 + j ≡ j = omega arith in rw e refl
+  get_right (c ∷ cs) ys j = let e : suc (length cs) + j ≡ suc (length cs + j) = omega arith
+      in rw (e, get_right cs ys j) refl
 
   -- inside the window
   pub get_own : (ws : List A) (b : ℕ) (cs : List A) (j : ℕ) → j < length cs
@@ -33,10 +37,12 @@ module _ {A : Type 0} (d : A) where
   pub set_own : (ws : List A) (b : ℕ) (cs : List A) (j : ℕ) (v : A) → j < length cs
       → set (patched d ws b cs) (b + j) v ≡ patched d ws b (set cs j v)
   unfolding patched
-  set_own ws zero cs j v h = search (rules, set_left)
+  set_own ws zero cs j v h = let e : 0 + j ≡ j = omega arith
+      in rw (e, length-set cs j v) (set_left cs (drop (length cs) ws) j v h)
   set_own [] (suc b) cs j v h = let e : suc b + j ≡ suc (b + j) = omega arith
       in rw e (ap (λ x. d ∷ x) (set_own [] b cs j v h))
-  set_own (w ∷ ws) (suc b) cs j v h = search (rules, (set_own ws b cs j v h))
+  set_own (w ∷ ws) (suc b) cs j v h = let e : suc b + j ≡ suc (b + j) = omega arith
+      in rw e (ap (λ x. w ∷ x) (set_own ws b cs j v h))
 
   -- outside it
   pub get_below : (ws : List A) (b : ℕ) (cs : List A) (p : ℕ) → p < b → get_or (patched d ws b cs) p d ≡ get_or ws p d
@@ -58,7 +64,8 @@ module _ {A : Type 0} (d : A) where
 
   set_right : (cs ys : List A) (j : ℕ) (v : A) → set (cs ++ ys) (length cs + j) v ≡ cs ++ set ys j v
   set_right [] ys j v = let e : 0 + j ≡ j = omega arith in rw e refl
-  set_right (c ∷ cs) ys j v = search (rules, (set_right cs ys j v))
+  set_right (c ∷ cs) ys j v = let e : suc (length cs) + j ≡ suc (length cs + j) = omega arith
+      in rw (e, set_right cs ys j v) refl
 
   pub set_below : (ws : List A) (b : ℕ) (cs : List A) (p : ℕ) (v : A) → p < b → p < length ws
       → set (patched d ws b cs) p v ≡ patched d (set ws p v) b cs
@@ -93,14 +100,17 @@ module _ {A : Type 0} (d : A) where
   pub patched_self : (ws : List A) (b : ℕ) (cs : List A) → b + length cs ≤ length ws
       → ((j : ℕ) → j < length cs → get_or cs j d ≡ get_or ws (b + j) d) → patched d ws b cs ≡ ws
   unfolding patched
-  patched_self ws zero cs l h = search (rules, append-drop)
+  patched_self ws zero cs l h =
+      append-drop cs ws (omega arith) (λ j lj. let e : 0 + j ≡ j = omega arith in h j lj ∙ ap (λ x. get_or ws x d) e)
   patched_self [] (suc b) cs l h = absurd (omega arith)
   patched_self (w ∷ ws) (suc b) cs l h =
       ap (λ x. w ∷ x) (patched_self ws b cs (omega arith) (λ j lj.
       let e : suc b + j ≡ suc (b + j) = omega arith in h j lj ∙ ap (λ x. get_or (w ∷ ws) x d) e))
 
   length_joined : (cs ws : List A) → length cs ≤ length ws → length (cs ++ drop (length cs) ws) ≡ length ws
-  length_joined = grind (arith, common_steps)
+  length_joined [] ws l = refl
+  length_joined (c ∷ cs) [] l = absurd (omega arith)
+  length_joined (c ∷ cs) (w ∷ ws) l = ap suc (length_joined cs ws (omega arith))
 
   pub length_patched : (ws : List A) (b : ℕ) (cs : List A) → b + length cs ≤ length ws
       → length (patched d ws b cs) ≡ length ws

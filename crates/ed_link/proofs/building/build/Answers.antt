@@ -6,6 +6,7 @@ use Rattle.ed_link.proofs.Kit.{after_statement}
 use Rattle.std.proofs.lemmas.List.{at_drop_all}
 use Rattle.ed_link.proofs.Bounds.{items_few}
 use Rattle.ed_link.proofs.Lengths.{empty_length, put_all_append, put_all_length}
+use Rattle.ed_link.proofs.Inductions.{IsFaultless-no_cause, first_enter}
 use Rattle.ed_link.proofs.LineLoop.{base_under, reach_fits}
 use Rattle.ed_link.proofs.building.build.Goals as goal
 
@@ -58,6 +59,14 @@ add_line-requires-clause-fits c =
     (record { extents = c.loop-line.built.extents.items; entered = is_some c.loop-line.built.entry }) c.line-item.result
     c.loop-line.counter
     (sym c.in_default.ensures)
+
+pub add_line-requires-clause-first : goal.add_line-requires-clause-first
+add_line-requires-clause-first c =
+    let past : LinesBefore =
+    record { extents = c.loop-line.built.extents.items; entered = is_some c.loop-line.built.entry } in
+    first_enter c.loop-line.built.entry c.args.has_enter c.line-item.result
+    (IsFaultless-no_cause c.args.size c.args.symbols.now c.args.has_enter past c.line-item.result c.loop-line.counter
+    (sym c.in_default.ensures)).misplaced
 
 pub returns : goal.returns
 returns c =

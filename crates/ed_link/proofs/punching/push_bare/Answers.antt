@@ -36,3 +36,22 @@ returns-in_ok-push-in-Enter-clause-items c =
 
 pub returns-in-Text-clause-items : goal.returns-in-Text-clause-items
 returns-in-Text-clause-items c = rw (c.in-Some.is, c.in-Text.is, sym c.deref.ensures.0) c.push_text.ensures
+
+pub returns-in-Order-clause-few : goal.returns-in-Order-clause-few
+returns-in-Order-clause-few c =
+    rw (c.in-Some.is, c.in-Order.is) (on_ok_weaker c.push.result (λ e. tt) c.push.ensures)
+
+pub returns-in-Number-clause-few : goal.returns-in-Number-clause-few
+returns-in-Number-clause-few c =
+    rw (c.in-Some.is, c.in-Number.is) (on_ok_weaker c.push-in-Number.result (λ e. tt) c.push-in-Number.ensures)
+
+pub returns-in-Long-clause-few : goal.returns-in-Long-clause-few
+returns-in-Long-clause-few c =
+    rw (c.in-Some.is, c.in-Long.is) (on_ok_weaker c.push_long.result (λ e. tt) c.push_long.ensures)
+
+pub returns-in-Fetch-clause-few : goal.returns-in-Fetch-clause-few
+returns-in-Fetch-clause-few c = rw (c.in-Some.is, c.in-Fetch.is) c.push_use.ensures.few
+
+pub returns-in-Fetch-clause-items : goal.returns-in-Fetch-clause-items
+returns-in-Fetch-clause-items c =
+    rw (c.in-Some.is, c.in-Fetch.is, sym c.even.ensures.is, sym c.deref-in-Fetch.ensures.0) c.push_use.ensures.items

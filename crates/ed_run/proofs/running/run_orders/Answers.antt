@@ -1,13 +1,54 @@
 use Rattle.ed_run.proofs.Kit.{nat_le, Turn, ap, arith, false, inl, inr, length-append, refl, sym, true, ℕ, ◌+◌, ◌-◌}
-use Rattle.ed_run.proofs.Kit.{◌<◌, ◌∙◌, ◌≡◌, ◌≤◌, ◌⊎◌, nat_tests, step, State, is_obeyed}
+use Rattle.ed_run.proofs.Kit.{◌<◌, ◌∙◌, ◌≡◌, ◌≤◌, ◌⊎◌, nat_tests, step, State, is_obeyed, end_by}
 use Rattle.ed_machine.proofs.Keeping.{step_leaves}
-use Rattle.ed_run.proofs.Pasts.{at_first, goes_on, Running-later, ends_with_stop, none_ends, Took-silent}
+use Rattle.ed_run.proofs.Pasts.{at_first, goes_on, is_full, Running-later, ends_here, ends_with_stop, full_ends}
+use Rattle.ed_run.proofs.Pasts.{none_ends, Took-silent}
 use Rattle.ed_run.proofs.running.run_orders.Goals as goal
 
 pub loop-machine-init : goal.loop-machine-init
 loop-machine-init c =
     let none : 0 ≡ c.args.machine.now.orders - c.args.machine.now.orders = omega arith in
     record { running = Running-later (at_first _ _ _ _) none; later = omega arith; below = omega arith }
+
+-- a batch begins with the room that it has
+begun : {P : Type 0} (orders end n room : ℕ) → end ≡ orders + n → (n ≤ room) ⊎ ((n ≡ 1) × P)
+    → (end - orders ≤ room) ⊎ ((end ≡ orders + 1) × P)
+begun orders end n room is (inl free) = inl (omega arith)
+begun orders end n room is (inr last) = let one = last.0 in inr (omega arith, last.1)
+
+pub loop-batch-init : goal.loop-batch-init
+loop-batch-init c =
+    let before = c.loop-machine.invariant in
+    record {
+      running = before.running;
+      later = before.later;
+      below = omega arith;
+      room = begun c.loop-machine.machine.orders _ _ _ (omega arith) c.batch-batch.ensures.room;
+    }
+
+pub loop-machine-preserved : goal.loop-machine-preserved
+loop-machine-preserved c =
+    let after = c.loop-batch.invariant in
+    record { running = after.running; later = after.later; below = omega arith }
+
+pub returns-in-NoOrder : goal.returns-in-NoOrder
+returns-in-NoOrder c =
+    let turn = sym c.step.ensures.turn ∙ c.in-NoOrder.is in
+    rw (c.step.ensures.blocked (ap is_obeyed c.in-NoOrder.is))
+    (ends_here c.loop-batch.invariant.running (omega arith)
+    (ap (λ (t : Turn). end_by t (is_full c.loop-batch.paper)) turn))
+
+pub returns-in-NoTape : goal.returns-in-NoTape
+returns-in-NoTape c =
+    let turn = sym c.step.ensures.turn ∙ c.in-NoTape.is in
+    rw (c.step.ensures.blocked (ap is_obeyed c.in-NoTape.is))
+    (ends_here c.loop-batch.invariant.running (omega arith)
+    (ap (λ (t : Turn). end_by t (is_full c.loop-batch.paper)) turn))
+
+pub returns-then-batch-eq0 : goal.returns-then-batch-eq0
+returns-then-batch-eq0 c =
+    let none = c.batch-batch.ensures.none c.if-batch-eq0.true in
+    ends_here c.loop-machine.invariant.running (omega arith) (full_ends _ _ none.0 none.1)
 
 pub returns-then-stops-resumes : goal.returns-then-stops-resumes
 returns-then-stops-resumes c =
