@@ -1,10 +1,9 @@
 """Proves libraries in a copy of the repository, several side by side, and keeps each as soon as it is proved.
 
 Each library is proved by the prover itself, over the statements of those below it. The library with the longest chain of
-others above it comes first. A chain is late if it is longer than a processor's share of the work that is left. The longest
-one gets two processors then, and what isn't late makes way for the others. Other proofs get no second processor unless it
-would be idle, since a proof on two takes a quarter more work. What is kept counts for the same kit and the same files, of
-the library and of all below it.
+others above it comes first. A chain is late if it is longer than a processor's share of the work that is left; the others
+make way for it. A proof takes a quarter more work on two processors than on one, so it gets only those that no other proof
+can use. What is kept counts for the same kit and the same files, of the library and of all below it.
 """
 import hashlib
 import os
@@ -91,15 +90,10 @@ class Proofs:
         key = PROVED / f"{name}.key"
         return self.proved.issuperset(self.below[name]) and key.is_file() and key.read_text() == self.keys[name]
 
-    def begun(self, name):
-        """What is done of a library that isn't proved yet: half of its work, if its proof has begun."""
-        return self.work[name] / 2 if name in self.at_work else 0
-
     def left(self):
-        """The work that is left, and the longest chain of it."""
-        unproved = [name for name in self.work if name not in self.proved]
-        works = (self.work[name] - self.begun(name) for name in unproved)
-        return sum(works), max((self.chain[name] - self.begun(name) for name in unproved), default=0)
+        """The work that is left, with half of each proof that has begun."""
+        begun = sum(self.work[name] for name in self.at_work)
+        return sum(self.work[name] for name in self.work if name not in self.proved) - begun / 2
 
     def start(self):
         """Starts what can be started."""
@@ -107,11 +101,9 @@ class Proofs:
         ready = [name for name in waiting if self.proved.issuperset(self.below[name])]
         ready.sort(key=self.chain.get, reverse=True)
         for at, name in enumerate(ready[: self.processors - len(self.at_work)]):
-            left, longest = self.left()
             idle = self.processors - sum(jobs for _, jobs in self.at_work.values())
-            is_late = self.chain[name] > left / self.processors
-            wanted = 2 if is_late and self.chain[name] == longest else 1
-            jobs = min(max(wanted, idle // (len(ready) - at)), self.processors, MOST_PROCESSORS)
+            jobs = min(max(idle // (len(ready) - at), 1), MOST_PROCESSORS)
+            is_late = self.chain[name] > self.left() / self.processors
             self.at_work[name] = self.proof(name, jobs, 0 if is_late else NICENESS), jobs
 
     def proof(self, name, jobs, niceness):
@@ -150,7 +142,7 @@ class Proofs:
         parts = [f"{len(self.proved)} of {len(self.work)} crates are proved"]
         if self.at_work:
             parts.append(f"at work: {', '.join(sorted(self.at_work))}")
-        to_do, (left, _) = sum(self.work[name] for name in self.work if name not in self.kept), self.left()
+        to_do, left = sum(self.work[name] for name in self.work if name not in self.kept), self.left()
         if to_do - left > to_do * SHARE_BEFORE_ESTIMATE and left:
             minutes = (time.monotonic() - self.began) * left / (to_do - left) / 60
             parts.append("less than a minute is left" if minutes < 1 else f"about {round(minutes)} min are left at this rate")
