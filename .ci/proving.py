@@ -3,7 +3,7 @@
 Each library is proved by the prover itself, over the statements of those below it. The library with the longest chain of
 others above it comes first. A chain is late if it is longer than a processor's share of the work that is left; the others
 make way for it. A proof takes a quarter more work on two processors than on one, so it gets only those that no other proof
-can use. What is kept counts for the same kit and the same files, of the library and of all below it.
+can use. What is kept counts for the same kit, lines in crates.txt and files, of the library and of all below it.
 """
 import hashlib
 import os
@@ -51,8 +51,8 @@ def log(name):
 
 
 def digest(name, copy):
-    """The checksum of a library's files in a copy."""
-    found = hashlib.sha256()
+    """The checksum of a library's line in crates.txt, and of its files, in a copy."""
+    found = hashlib.sha256(tree.line(name, copy).encode())
     folder = copy / "crates" / name
     for path in sorted(path for path in folder.rglob("*") if path.is_file()):
         data = path.read_bytes()

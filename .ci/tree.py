@@ -104,12 +104,16 @@ def kit():
     return Path(subprocess.run(["rt", "doc"], capture_output=True, text=True, check=True).stdout.strip()).parent
 
 
+def line(name, top=ROOT):
+    """A crate's line in the crates.txt of a folder."""
+    return next(line for line in (top / "crates.txt").read_text().splitlines() if re.split(r"[ :]", line)[0] == name)
+
+
 def prover(verb, name, libraries=None):
     """The words by which the prover checks or builds a crate, over the libraries in a folder, or over those that `rt` has
     built."""
     home = kit()
-    lines = (ROOT / "crates.txt").read_text().splitlines()
-    kind, _, others = next(line for line in lines if re.split(r"[ :]", line)[0] == name).partition(":")
+    kind, _, others = line(name).partition(":")
     crates = stands_on()
     built = lambda other: (libraries or CRATES / other / "out/rlib" if other in crates else home / "rlibs") / f"{other}.rlib"
     root = "src/main.rt" if (CRATES / name / "src/main.rt").exists() else "src/lib.rt"
