@@ -3,7 +3,8 @@
 Each library is proved by the prover itself, over the statements of those below it. The library with the longest chain of
 others above it comes first. A chain is late if it is longer than a processor's share of the work that is left; the others
 make way for it. A proof takes a quarter more work on two processors than on one, so it gets only those that no other proof
-can use. What is kept counts for the same kit, lines in crates.txt and files, of the library and of all below it.
+can use; near the end, where soon some would be idle, it gets two at least. What is kept counts for the same kit, lines in
+crates.txt and files, of the library and of all below it.
 """
 import hashlib
 import os
@@ -23,9 +24,11 @@ MOST_PROCESSORS = 4
 PROCESSOR_MEMORY = 1_500_000_000
 # The niceness of a proof that no long chain waits for.
 NICENESS = 5
-# What a proof takes for each library and for each function, in the time of a line.
-LINES_OF_A_LIBRARY = 1500
-LINES_OF_A_FUNCTION = 300
+# What a proof takes for each function and for each library below, in the time of a line.
+LINES_OF_A_FUNCTION = 200
+LINES_OF_A_LIBRARY_BELOW = 180
+# The end is near if at most this many libraries are left for each processor.
+LEFT_NEAR_THE_END = 2
 # How much of the work is proved before the time left is estimated.
 SHARE_BEFORE_ESTIMATE = 0.05
 # The words of a verdict that rests on the kit, and on the libraries below, alone.
@@ -39,10 +42,10 @@ def processors():
     return max(min(len(os.sched_getaffinity(0)), by_memory), 1)
 
 
-def work(name):
-    """The work of a library's proof, by which the order is chosen and the time left is estimated."""
+def work(name, below):
+    """The work of a library's proof over those below, by which the order is chosen and the time left is estimated."""
     functions = sum(len(re.findall(r"\bfn \w", path.read_text())) for path in tree.sources(name))
-    return tree.size(name) + LINES_OF_A_FUNCTION * functions + LINES_OF_A_LIBRARY
+    return tree.size(name) + LINES_OF_A_FUNCTION * functions + LINES_OF_A_LIBRARY_BELOW * len(below)
 
 
 def log(name):
@@ -67,7 +70,7 @@ class Proofs:
         crates = tree.stands_on()
         self.copy = copy
         self.below = {name: sorted(tree.below(name, crates)) for name in libraries}
-        self.work = {name: work(name) for name in libraries}
+        self.work = {name: work(name, self.below[name]) for name in libraries}
         self.chain = {}
         for name in reversed(libraries):
             above = (self.chain[other] for other in self.chain if name in self.below[other])
@@ -100,9 +103,11 @@ class Proofs:
         waiting = [name for name in self.work if name not in self.proved and name not in self.at_work]
         ready = [name for name in waiting if self.proved.issuperset(self.below[name])]
         ready.sort(key=self.chain.get, reverse=True)
+        is_near_the_end = len(waiting) + len(self.at_work) <= LEFT_NEAR_THE_END * self.processors
+        least = min(2 if is_near_the_end else 1, self.processors)
         for at, name in enumerate(ready[: self.processors - len(self.at_work)]):
             idle = self.processors - sum(jobs for _, jobs in self.at_work.values())
-            jobs = min(max(idle // (len(ready) - at), 1), MOST_PROCESSORS)
+            jobs = min(max(idle // (len(ready) - at), least), MOST_PROCESSORS)
             is_late = self.chain[name] > self.left() / self.processors
             self.at_work[name] = self.proof(name, jobs, 0 if is_late else NICENESS), jobs
 

@@ -1,8 +1,8 @@
 -- The command of the program, made of its options in turn and of its words.
-use Rattle.ed_command.proofs.Kit.{Rule, App, app_of, rule_of, Append, Arg, Command, ap₂, Bor, drop, fold, get_or, List}
+use Rattle.ed_command.proofs.Kit.{Rule, App, app_of, rule_of, Arg, Command, ap₂, Bor, drop, fold, get_or, List}
 use Rattle.ed_command.proofs.Kit.{map, at_drop_all, at_drop_more, Text, ap, false, length, Some, sym, ℕ, ◌+◌, ◌<◌, ◌∙◌}
-use Rattle.ed_command.proofs.Kit.{◌≡◌, ◌≤◌, app, option_rule, with_option, words_rule}
-use Rattle.clap.specs.Words.{AddsArg, new_rule, with_rule}
+use Rattle.ed_command.proofs.Kit.{◌≡◌, ◌≤◌, app, kept_rule, option_rule, with_option, words_rule}
+use Rattle.clap.specs.Words.{AddsArg, with_rule}
 use Rattle.ed_command.specs.Rules.{options_app}
 
 -- with the options that are left, the command is the one with all of them
@@ -10,13 +10,12 @@ abbrev pub IsWithout : List (Bor Text) → Command → Type 0
 IsWithout names command = fold with_option (app_of command) (map (λ n. n.now) names) ≡ options_app
 
 -- an option of a name, from an argument of that name
-pub option_made : (name : Bor Text) (begun : Arg) {long option : Arg} → rule_of begun ≡ new_rule name.now
-    → begun.global ≡ false → long ≡ record begun { long = Some name } → option ≡ record long { action = Some Append }
+pub option_made : (name : Bor Text) (begun : Arg) {option : Arg} → rule_of begun ≡ kept_rule name.now
+    → begun.global ≡ false → option ≡ record begun { long = Some name }
     → (rule_of option ≡ option_rule name.now) × (option.global ≡ false)
-option_made name begun is plain long option = (
-  ap rule_of option ∙ ap (λ (r : Rule). record r { action = Some Append }) (ap rule_of long
-      ∙ ap (λ (r : Rule). record r { long = Some name.now }) is),
-  ap (λ (a : Arg). a.global) option ∙ ap (λ (a : Arg). a.global) long ∙ plain,
+option_made name begun is plain long = (
+  ap rule_of long ∙ ap (λ (r : Rule). record r { long = Some name.now }) is,
+  ap (λ (a : Arg). a.global) long ∙ plain,
 )
 
 -- one more option

@@ -6,7 +6,6 @@ pub use Rattle.clap.specs.Simple.{built, Shape}
 pub use Rattle.clap.specs.Walk.{arg_by_long, Held, option, Row, Rule, settled_rows, Walk}
 unfoldable pub use Rattle.clap.specs.Walk.{walked}
 pub use Rattle.clap.specs.Words.{App, app_of, rule_of}
-pub use Rattle.clap.specs.declared.builder.action.ArgAction.TheVariants.{Append}
 pub use Rattle.clap.specs.declared.builder.arg.Arg.{Arg}
 pub use Rattle.clap.specs.declared.builder.command.Command.{Command}
 pub use Rattle.clap.specs.declared.error.kind.ErrorKind.{ErrorKind}
@@ -27,7 +26,7 @@ pub use Rattle.ed_library.specs.declared.call.Call.TheVariants.{NewLine}
 pub use Rattle.ed_command.specs.Found.{is_plain_or_long}
 pub use Rattle.ed_command.specs.Held.{line_in, options_in}
 pub use Rattle.ed_command.specs.Lines.{call_of, command, command_of, division, line_named, lines, TableLine, with_only}
-pub use Rattle.ed_command.specs.Rules.{app, option_rule, with_option, words_rule}
+pub use Rattle.ed_command.specs.Rules.{app, kept_rule, option_rule, with_option, words_rule}
 pub use Rattle.ed_command.specs.Settings.{all_settings, limit_of, option_value, Options, post_mortem_of, resumes_of}
 pub use Rattle.ed_command.specs.Settings.{settings_of}
 pub use Rattle.ed_command.specs.Windows.{is_comma, window, window_named}
