@@ -3,8 +3,8 @@
 Each library is proved by the prover itself, over the statements of those below it. The library with the longest chain of
 others above it comes first. A chain is late if it is longer than a processor's share of the work that is left; the others
 make way for it. A proof takes a quarter more work on two processors than on one, so it gets only those that no other proof
-can use; near the end, where soon some would be idle, it gets two at least. What is kept counts for the same kit, lines in
-crates.txt and files, of the library and of all below it.
+can use; near the end, where soon some would be idle, it gets two at least, if memory allows. What is kept counts for
+the same kit, lines in crates.txt and files, of the library and of all below it.
 """
 import hashlib
 import os
@@ -35,11 +35,15 @@ SHARE_BEFORE_ESTIMATE = 0.05
 VERDICT = {"logic", "functions", "sum", "native", "logic-built", "libraries-built", "statements"}
 
 
+def in_memory():
+    """On how many processors proofs can be at work, by the memory that there is."""
+    available = next(line for line in Path("/proc/meminfo").read_text().splitlines() if line.startswith("MemAvailable"))
+    return int(available.split()[1]) * 1024 // PROCESSOR_MEMORY
+
+
 def processors():
     """How many processors there are, and memory for a proof on each."""
-    available = next(line for line in Path("/proc/meminfo").read_text().splitlines() if line.startswith("MemAvailable"))
-    by_memory = int(available.split()[1]) * 1024 // PROCESSOR_MEMORY
-    return max(min(len(os.sched_getaffinity(0)), by_memory), 1)
+    return max(min(len(os.sched_getaffinity(0)), in_memory()), 1)
 
 
 def work(name, below):
@@ -79,6 +83,8 @@ class Proofs:
         self.keys = {name: " ".join([kit, *(digests[other] for other in [*self.below[name], name])]) for name in libraries}
         self.proved, self.at_work, self.refused = set(), {}, None
         self.processors = processors()
+        # What a proof gets at least near the end: two processors, if there is memory for two proofs on each.
+        self.least_near_the_end = 2 if 1 < self.processors and 2 * self.processors <= in_memory() else 1
         self.began = time.monotonic()
         shutil.rmtree(LOGS, ignore_errors=True)
         LOGS.mkdir(parents=True)
@@ -104,7 +110,7 @@ class Proofs:
         ready = [name for name in waiting if self.proved.issuperset(self.below[name])]
         ready.sort(key=self.chain.get, reverse=True)
         is_near_the_end = len(waiting) + len(self.at_work) <= LEFT_NEAR_THE_END * self.processors
-        least = min(2 if is_near_the_end else 1, self.processors)
+        least = self.least_near_the_end if is_near_the_end else 1
         for at, name in enumerate(ready[: self.processors - len(self.at_work)]):
             idle = self.processors - sum(jobs for _, jobs in self.at_work.values())
             jobs = min(max(idle // (len(ready) - at), least), MOST_PROCESSORS)
