@@ -47,7 +47,9 @@ digit_stays d less = search rules
 digits_struck : (ds rest : List ℕ) → AreDigits ds
     → paper_from Figures (ds ++ rest) ≡ map (λ d. 48 + d) ds ++ paper_from Figures rest
 digits_struck [] rest are = refl
-digits_struck (d ∷ ds) rest are = search (rules, digit_struck, digit_stays, digits_struck ds rest are.1)
+digits_struck (d ∷ ds) rest are =
+    (λ i. digit_struck d are.0 i ++ paper_from (digit_stays d are.0 i) (ds ++ rest))
+    ∙ ap (λ (t : Text). (48 + d) ∷ t) (digits_struck ds rest are.1)
 
 -- ---- a line
 
@@ -80,14 +82,18 @@ lines_are : (words : List ℕ) (first count : ℕ)
     → printed_lines words first count ≡ flat_map (λ a. printed_line (slice_index words a)) (range_with_len first count)
 unfolding printed_lines
 lines_are words first zero = refl
-lines_are words first (suc count) = search (rules, lines_are words (first + 1) count)
+lines_are words first (suc count) =
+    ap (λ (t : Text). printed_line (slice_index words first) ++ t) (lines_are words (first + 1) count)
 
 lines_struck : (words : List ℕ) (first count : ℕ) (shift : Shift)
     → paper_from shift (printed_codes words first count) ≡ printed_lines words first count
 unfolding printed_codes printed_lines
 lines_struck words first zero shift = refl
 lines_struck words first (suc count) shift =
-    search (rules, line_struck, line_is, lines_struck words (first + 1) count Letters)
+    let word = slice_index words first in
+    line_struck shift word (printed_codes words (first + 1) count)
+    ∙ line_is word (paper_from Letters (printed_codes words (first + 1) count))
+    ∙ ap (λ (t : Text). printed_line word ++ t) (lines_struck words (first + 1) count Letters)
 
 -- ---- a line is read back
 

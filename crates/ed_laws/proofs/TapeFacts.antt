@@ -111,8 +111,11 @@ module _ (z : Size) (words : List ℕ) (a b : ℕ) where
       ≡ later a b (reading_on z words row cost notation part rest)
   unfolding reading_on
   reads_later [] row cost notation part = refl
-  reads_later (f ∷ rest) row cost notation None = search (rules, function_later, reads_later rest)
-  reads_later (c ∷ rest) row cost notation (Some part) = search (rules, row_later, reads_later rest)
+  reads_later (f ∷ rest) row cost notation None =
+      function_later rest (reads_later rest) row cost notation f (nat_lt f 32)
+  reads_later (c ∷ rest) row cost notation (Some part) =
+      row_later rest (reads_later rest) row cost notation part c
+      (row_effect z (row_kind c) (over notation.placed words) (setting_of notation) part c)
 
 -- ---- digits
 
@@ -138,7 +141,9 @@ module _ (z : Size) (words : List ℕ) (f : ℕ) (m : NotationState) where
 
 one_more_blank : (n : ℕ) (rest : List ℕ) → replicate (n + 1) 16 ++ rest ≡ replicate n 16 ++ (16 ∷ rest)
 one_more_blank zero rest = refl
-one_more_blank (suc n) rest = search (rules, one_more_blank n rest)
+one_more_blank (suc n) rest =
+    let one : suc n + 1 ≡ suc (n + 1) = omega arith in
+    ap (λ k. replicate k 16 ++ rest) one ∙ ap (λ (xs : List ℕ). 16 ∷ xs) (one_more_blank n rest)
 
 blanks_before : (n : ℕ) (end rest : List ℕ)
     → (replicate (n + 1) 16 ++ end) ++ rest ≡ replicate n 16 ++ (16 ∷ (end ++ rest))
@@ -158,7 +163,11 @@ module _ (z : Size) (words : List ℕ) where
       let two : 2 * suc k ≡ suc (suc (2 * k)) = omega arith in
       let on = pairs_read k rest (row + 1 + 1) (cost + 6 + 14) (record n { theta = n.directive }) in
       let r : row + 1 + 1 + 2 * k ≡ row + 2 * suc k = omega arith in
-      search rules
+      let c : cost + 6 + 14 + 20 * k ≡ cost + 20 * suc k = omega arith in (
+        on.0,
+        ap (λ m. reading_on z words row cost n None (replicate m 16 ++ rest)) two ∙ on.1
+            ∙ (λ i. reading_on z words (r i) (c i) (record n { theta = on.0 }) None rest),
+      )
 
   -- what it leaves: some directive and some θ, and no word placed
   record Passed (m : ℕ) (rest : List ℕ) (row cost : ℕ) (n : NotationState) : Type 0 where
@@ -176,7 +185,14 @@ module _ (z : Size) (words : List ℕ) where
       let none : 2 * k % 2 ≡ 0 = omega arith in
       let half : 2 * k / 2 ≡ k = omega arith in
       let c : cost + 20 * k + 6 + 16 ≡ cost + blank_cost (2 * k) = rw (none, half) (omega arith) in
-      search (rules, append_assoc)
+      record {
+        directive = 0;
+        theta = p.0;
+        reads = ap (reading_on z words row cost n None) (append_assoc (replicate (2 * k) 16) (0 ∷ 14 ∷ []) rest)
+            ∙ p.1
+            ∙ (λ i. reading_on z words (r i) (c i)
+            (record { directive = 0; theta = p.0; placed = n.placed }) None rest);
+      }
 
   odd_passed : (k : ℕ) (rest : List ℕ) (row cost : ℕ) (n : NotationState) → Passed (2 * k + 1) rest row cost n
   unfolding reading_on
@@ -187,7 +203,14 @@ module _ (z : Size) (words : List ℕ) where
       let half : (2 * k + 1) / 2 ≡ k = omega arith in
       let c : cost + 20 * k + 6 + 9 + 16 ≡ cost + blank_cost (2 * k + 1) = rw (one, half) (omega arith) in
       let theta = (4096 * 16 + 2 * 0 + n.directive) % 2 ^ 17 in
-      search (rules, blanks_before)
+      record {
+        directive = n.directive;
+        theta = theta;
+        reads = ap (reading_on z words row cost n None) (blanks_before (2 * k) (0 ∷ 14 ∷ []) rest)
+            ∙ p.1
+            ∙ (λ i. reading_on z words (r i) (c i)
+            (record { directive = n.directive; theta = theta; placed = n.placed }) None rest);
+      }
 
   passed : (m : ℕ) (rest : List ℕ) (row cost : ℕ) (n : NotationState) → Passed m rest row cost n
   passed m rest row cost n =

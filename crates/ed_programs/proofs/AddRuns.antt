@@ -5,7 +5,7 @@ use Rattle.ed_programs.proofs.Kit.{number_rows, stop_counted, Settings, Line, mo
 use Rattle.ed_programs.proofs.Kit.{SourceRuns, data_mark, pair_after, Z_F, to_stop, get_own, frame_at, length, Moment}
 use Rattle.ed_programs.proofs.Kit.{settings, HasRead, calling, HasPair, IsIn, then, arith, false, List, lit<, lit≤, map}
 use Rattle.ed_programs.proofs.Kit.{Frame, state, digits, Marked, Z, [], refl, sym, true, ◌≡◌, are_small, ℕ, ◌*◌, ◌+◌}
-use Rattle.ed_programs.proofs.Kit.{◌<◌, ◌∷◌, Text, to}
+use Rattle.ed_programs.proofs.Kit.{◌<◌, ◌∷◌, Text, to, Path}
 use Rattle.std.specs.Fmt.{decimal}
 use Rattle.ed_programs.specs.Add.{add_orders, add_text}
 use Rattle.ed_programs.specs.declared.add.TheConstants.{ADD}
@@ -35,15 +35,25 @@ module _ (z : Size) (m : Moment) where
   at i words v value first tape =
       record (before_order m (56 + i) v (cells value first)) { words = words; tape = tape }
 
+  -- the first number is put away
+  puts : (words : List ℕ) (a : ℕ) (tape : List ℕ) → a < 65536 → Path f 2 (at 2 words 0 a 0 tape) []
+      (at 4 words 0 a a tape)
+  puts words a tape few = obeys 2 0 (A 12 a ∷ T 13 ∷ []) refl (omega arith)
+
+  -- the second is added to it
+  adds : (words : List ℕ) (a b : ℕ) → a + b < 65536 → Path f 3 (at 6 words 0 b a []) [] (at 9 words 0 (a + b) a [])
+  adds words a b small = obeys 6 0 (A 12 b ∷ A 13 (a + b) ∷ T 12 ∷ []) refl (omega arith)
+
   -- the two numbers are read, added and printed, and the machine stops
   stops : HasPair f m.words 70 94 12 12 → (a b : ℕ) → a + b < 65536 → (done : ℕ)
       → ReachesStop (13 * length (digits a) + 13 * length (digits b) + print_orders (a + b) + 33)
       (state f (at 0 m.words 0 0 0 (number_rows (a ∷ b ∷ []))) done) (11 ∷ digits (a + b)) 68
   stops o a b small done =
+      let few : a < 65536 = omega arith in
       let start : IsIn f (at 0 m.words 0 0 0 (number_rows (a ∷ b ∷ []))) =
       record { above = lit≤ tt; all = o.all; own = refl } in
       let one : HasRead start 0 12 70 a (number_rows (b ∷ [])) =
-      reads_number start 0 12 a (number_rows (b ∷ [])) o.reads refl (omega arith) (lit< tt) (lit≤ tt) refl refl refl in
+      reads_number start 0 12 a (number_rows (b ∷ [])) o.reads refl few (lit< tt) (lit≤ tt) refl refl refl in
       let after_one = pair_after one o in
       let second : IsIn f (at 4 one.words 0 a a (number_rows (b ∷ []))) =
       record { above = lit≤ tt; all = after_one.all; own = refl } in
@@ -53,9 +63,9 @@ module _ (z : Size) (m : Moment) where
       let number = get_own 0 two.words 56 (cells (a + b) a) 12 (lit< tt) in
       stop_counted (to_stop
       (then one.journey
-      (then (along (obeys 2 0 (A 12 a ∷ T 13 ∷ []) refl (omega arith)))
+      (then (along (puts one.words a (number_rows (b ∷ [])) few))
       (then two.journey
-      (then (along (obeys 6 0 (A 12 b ∷ A 13 (a + b) ∷ T 12 ∷ []) refl (omega arith)))
+      (then (along (adds two.words a b small))
       (print_line last {v = a + b} 9 12 after_two.prints number (lit< tt) small (lit≤ tt) refl refl refl)))))
       (Z 11 Z_F refl refl) done) (omega arith)
 

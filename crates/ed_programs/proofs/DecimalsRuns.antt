@@ -1,5 +1,5 @@
 -- What the source of `examples/decimals.edsac` prints: its lines, its entry and its law.
-use Rattle.ed_programs.proofs.Kit.{Size, Settings, Line, all_words, moment_at, [], List, lit≤, map, refl, true}
+use Rattle.ed_programs.proofs.Kit.{Size, Settings, Line, all_words, moment_at, [], List, lit≤, map, refl, subst, true}
 use Rattle.ed_programs.proofs.Kit.{ℕ, ◌+◌, ◌∷◌, ◌≡◌, Text, paper, State, settings, parameter_store, ReachesStop}
 use Rattle.ed_programs.proofs.Kit.{entry_state, replicate, decimals_prints, SourceRuns, stops_from_entry, Marked, rules}
 use Rattle.ed_programs.specs.Decimals.{decimals_orders, decimals_text}
@@ -17,6 +17,12 @@ lines_print =
     ∷ 3 ∷ 5 ∷ 4 ∷ 7 ∷ 5 ∷ 9 ∷ 20 ∷ 4 ∷ 5 ∷ 7 ∷ 1 ∷ 3 ∷ 8 ∷ 2 ∷ 1 ∷ 7 ∷ 8 ∷ 20 ∷ 5 ∷ 2 ∷ 5 ∷ 1 ∷ 6 ∷ 6 ∷ 4 ∷ 2 ∷ 7 ∷
     4 ∷ 18 ∷ 24 ∷ []
 
+codes_are : page_codes 1 (replicate 74 1) ≡ lines_print
+codes_are = refl
+
+orders_are : 602 + page_orders 1 (replicate 74 1) ≡ 453712
+orders_are = refl
+
 shown : paper (11 ∷ 2 ∷ 23 ∷ 18 ∷ 24 ∷ lines_print) ≡ decimals_prints
 shown = refl
 
@@ -32,7 +38,9 @@ lines = lines_of_pieces true pieces [] marks
 printed : {s : State} → ReachesStop (602 + page_orders 1 (replicate 74 1)) s
     (11 ∷ 2 ∷ 23 ∷ 18 ∷ 24 ∷ page_codes 1 (replicate 74 1)) 135
     → ReachesStop 453712 s (11 ∷ 2 ∷ 23 ∷ 18 ∷ 24 ∷ lines_print) 135
-printed stop = search rules
+printed {s} stop =
+    subst (λ codes. ReachesStop 453712 s (11 ∷ 2 ∷ 23 ∷ 18 ∷ 24 ∷ codes) 135) codes_are
+    (subst (λ k. ReachesStop k s (11 ∷ 2 ∷ 23 ∷ 18 ∷ 24 ∷ page_codes 1 (replicate 74 1)) 135) orders_are stop)
 
 module _ (z : Size) where
   is_around : IsAround (entry_state z lines).store.words

@@ -1,8 +1,9 @@
 -- What the source of `examples/fraction.edsac` prints, for any fraction in range: its lines, its entry and its law.
 use Rattle.ed_programs.proofs.Kit.{length-append, ℕ, length-replicate, parameter_store, stops_from_entry, entry_state}
 use Rattle.ed_programs.proofs.Kit.{number_rows, routine_after, all_words, moment_at, append-nil, few_digits, SourceRuns}
-use Rattle.ed_programs.proofs.Kit.{data_mark, Settings, State, Line, frame_at, [], arith, rules, settings, digits}
+use Rattle.ed_programs.proofs.Kit.{data_mark, Settings, State, Line, frame_at, [], arith, settings, digits}
 use Rattle.ed_programs.proofs.Kit.{Marked, List, lit≤, map, refl, true, ◌++◌, ◌/◌, ◌<◌, ◌∷◌, ◌≤◌, Text}
+use Rattle.ed_programs.proofs.Kit.{Bool, false, read, divide, print, with_h, with_hnm}
 use Rattle.std.specs.Fmt.{decimal}
 use Rattle.ed_programs.specs.Fraction.{fraction_orders, fraction_prints, fraction_text}
 use Rattle.ed_programs.specs.declared.fraction.TheConstants.{FRACTION}
@@ -48,7 +49,14 @@ module _ (u l n : ℕ) (first : u < 65536) (some : 1 ≤ l) (few : l ≤ 6553) (
 
     is_around : IsAround given (moment_at entry)
     unfolding settings parameter_store
-    is_around = search (rules, all_words, length-replicate, routine_after)
+    is_around = record {
+      all = all_words s.size lines;
+      digits_long = length-replicate {A = Bool} 512 false;
+      reads = routine_after s.size lines refl (lit≤ tt) read 96 (with_h 89) refl (lit≤ tt) (lit≤ tt) (lit≤ tt);
+      divides =
+          routine_after s.size lines refl (lit≤ tt) divide 120 (with_hnm 91 90 92) refl (lit≤ tt) (lit≤ tt) (lit≤ tt);
+      prints = routine_after s.size lines refl (lit≤ tt) print 162 (with_h 90) refl (lit≤ tt) (lit≤ tt) (lit≤ tt);
+    }
 
     pub each_fraction : SourceRuns s (fraction_text u l n) (fraction_orders u l n) 89 (fraction_prints u l n)
     unfolding settings

@@ -127,6 +127,16 @@ module _ (given : Given) where
 
   -- ---- the program
 
+  -- a number that was read is kept in another cell
+  kept : (around : Moment) (k : Work) (n : ℕ) → n < 65536
+      → Path f 2 (at given around 2 (record k { number = n })) [] (at given around 4 (record k { number = n; low = n }))
+  kept around k n small = obeys 2 0 (A 33 n ∷ T 34 ∷ []) refl (omega arith)
+
+  kept_too : (around : Moment) (k : Work) (n : ℕ) → n < 65536
+      → Path f 2 (at given around 6 (record k { number = n })) []
+      (at given around 8 (record k { number = n; divisor = n }))
+  kept_too around k n small = obeys 6 0 (A 33 n ∷ T 36 ∷ []) refl (omega arith)
+
   pub fraction_stops : (around : Moment) (k : Work) (u l n : ℕ) → IsAround given around
       → around.tape ≡ number_rows (u ∷ l ∷ n ∷ []) → k.rest ≡ 0 → u < 65536 → 1 ≤ l → l ≤ 6553 → n < 65536 → (done : ℕ)
       → ReachesStop (13 * length (digits u) + 13 * length (digits l) + 13 * length (digits n) + divide_orders (u / l)
@@ -139,16 +149,11 @@ module _ (given : Given) where
       let m1 : Moment = record around { words = one.words; tape = number_rows (l ∷ n ∷ []) } in
       let o1 = after_read given around {k = k} o one in
       let k1 : Work = record k { number = u; low = u } in
-      -- a number that was read is kept in another cell
-      let kept : Path f 2 (at given m1 2 (record k { number = u })) [] (at given m1 4 k1) =
-      obeys 2 0 (A 33 u ∷ T 34 ∷ []) refl (omega arith) in
       let two : HasRead (in_at given m1 4 k1 o1) 4 33 r l (number_rows (n ∷ [])) =
       reads_number (in_at given m1 4 k1 o1) 4 33 l _ o1.reads refl small_l (lit< tt) (lit≤ tt) refl refl refl in
       let m2 : Moment = record m1 { words = two.words; tape = number_rows (n ∷ []) } in
       let o2 = after_read given m1 {k = k1} o1 two in
       let k2 : Work = record k1 { number = l; divisor = l } in
-      let kept_too : Path f 2 (at given m2 6 (record k1 { number = l })) [] (at given m2 8 k2) =
-      obeys 6 0 (A 33 l ∷ T 36 ∷ []) refl (omega arith) in
       let three : HasRead (in_at given m2 8 k2 o2) 8 33 r n [] =
       reads_number (in_at given m2 8 k2 o2) 8 33 n _ o2.reads refl small_n (lit< tt) (lit≤ tt) refl refl refl in
       let m3 : Moment = record m2 { words = three.words; tape = [] } in
@@ -158,8 +163,8 @@ module _ (given : Given) where
       let k4 : Work = record k3 { rest = u % l; low = u / l } in
       let five = Part-printed given four.now 12 k4 four.is (lit≤ tt) refl (u / l) refl (quotient_small u l small_u some)
       refl in
-      let first = then one.journey (then (along kept)
-      (then two.journey (then (along kept_too)
+      let first = then one.journey (then (along (kept m1 k u small_u))
+      (then two.journey (then (along (kept_too m2 k1 l small_l))
       (then three.journey (then four.journey
       (then five.journey (along (prints (moves.O 14 (own 37) 23 refl refl) stay)))))))) in
       let rest = ends (record five.now { last = Some 23 }) k4 u l n five.is refl refl refl some few_l small_n in

@@ -7,7 +7,7 @@ use Rattle.ed_programs.proofs.Kit.{sum_by-cons, Text, Frame, Moment, state, sett
 use Rattle.ed_programs.proofs.Kit.{print_orders, few_digits, ReachesStop, entry_state, digits_printed, numbers_text}
 use Rattle.ed_programs.proofs.Kit.{SourceRuns, total_text, reads_number, are_small, number_rows, stops_from_entry}
 use Rattle.ed_programs.proofs.Kit.{Marked, to, calling, journey_counted, stop_counted, HasPair, pair_after}
-use Rattle.ed_programs.proofs.Kit.{pair_at_entry}
+use Rattle.ed_programs.proofs.Kit.{pair_at_entry, Path}
 use Rattle.std.specs.Fmt.{decimal}
 use Rattle.ed_routines.specs.Digits.{sum}
 use Rattle.ed_programs.specs.Total.{total_orders}
@@ -40,6 +40,17 @@ module _ (z : Size) (m : Moment) where
   at i words v value sum scrap tape =
       record (before_order m (56 + i) v (cells value sum scrap)) { words = words; tape = tape }
 
+  -- a number is added to the sum
+  adds : (words : List ℕ) (n so_far : ℕ) (tape : List ℕ) → 1 ≤ n → so_far + n < 65536
+      → Path f 7 (at 2 words 0 n so_far 0 tape) [] (at 0 words 0 n (so_far + n) 0 tape)
+  adds words n so_far tape some small =
+      obeys 2 0 (A 13 n ∷ S 15 (n - 1) ∷ G_stays 9 ∷ A 15 n ∷ A 14 (so_far + n) ∷ T 14 ∷ E_jumps 0 ∷ []) refl
+      (omega arith)
+
+  -- after 0 the sum is shown
+  ends : (words : List ℕ) (sum : ℕ) → Path f 4 (at 2 words 0 0 sum 0 []) [] (at 10 words 0 0 sum 131071 [])
+  ends words sum = obeys 2 0 (A 13 0 ∷ S 15 131071 ∷ G_jumps 9 ∷ T 16 ∷ []) refl (omega arith)
+
   -- the numbers are read and added to a sum, it is printed, and the machine stops
   stops : (ns : List ℕ) (so_far all value : ℕ) (words : List ℕ) → HasPair f words 74 98 13 14
       → list_all (λ n. nat_le 1 n) ns ≡ true → so_far + sum ns ≡ all → all < 65536 → (done : ℕ)
@@ -55,21 +66,22 @@ module _ (z : Size) (m : Moment) where
       let same : so_far ≡ all = omega (arith, is) in
       let number = get_own 0 one.words 56 (cells 0 so_far 131071) 14 (lit< tt) ∙ same in
       stop_counted (to_stop (then one.journey
-      (then (along (obeys 2 0 (A 13 0 ∷ S 15 131071 ∷ G_jumps 9 ∷ T 16 ∷ []) refl (omega arith)))
+      (then (along (ends one.words so_far))
       (print_line last {v = all} 10 14 read.prints number (lit< tt) small (lit≤ tt) refl refl refl)))
       (Z 12 Z_F refl refl) done) (omega arith)
   stops (n ∷ ns) so_far all value words has least is small done =
       let l = and_parts (nat_le 1 n) (list_all (λ n. nat_le 1 n) ns) least in
       let orders = sum_by-cons adding_orders n ns in
       let some = leb-true 1 n l.0 in
+      let low : so_far + n < 65536 = omega (arith, is) in
+      let few : n < 65536 = omega arith in
       let rest : List ℕ = number_rows (ns ++ 0 ∷ []) in
       let start : IsIn f (at 0 words 0 value so_far 0 (digits n ++ 17 ∷ rest)) =
       record { above = lit≤ tt; all = has.all; own = refl } in
-      let one = reads_number start 0 13 n rest has.reads refl (omega arith) (lit< tt) (lit≤ tt) refl refl refl in
+      let one = reads_number start 0 13 n rest has.reads refl few (lit< tt) (lit≤ tt) refl refl refl in
       let turn : Journey f (adding_orders n)
       (at 0 words 0 value so_far 0 (digits n ++ 17 ∷ rest)) [] (at 0 one.words 0 n (so_far + n) 0 rest) =
-      journey_counted (then one.journey (along (obeys 2 0 (A 13 n ∷ S 15 (n - 1) ∷ G_stays 9 ∷ A 15 n
-      ∷ A 14 (so_far + n) ∷ T 14 ∷ E_jumps 0 ∷ []) refl (omega arith)))) (omega arith) in
+      journey_counted (then one.journey (along (adds one.words n so_far rest some low))) (omega arith) in
       stop_counted (stop_after (turn.leads done) refl
       (stops ns (so_far + n) all n one.words (pair_after one has) l.1 (omega (arith, is)) small
       (done + adding_orders n))) (omega arith)
