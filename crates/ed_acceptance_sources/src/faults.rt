@@ -8,7 +8,6 @@ use ed_syntax::SourceCause::{
 use ed_words::Size;
 use std::alloc::Global;
 use std::process::Abort;
-use std::test::Fail;
 
 /// The faults of meaning, in the order of their numbers.
 const CAUSES: [SourceCause; 12] = [
@@ -94,6 +93,13 @@ const UNKNOWN_ROUTINES: [Form; 3] = [
     ),
 ];
 
+/// Lines of each kind, by what they place.
+const FORMS: [(Placed, &[Form]); 3] = [
+    (Placed::Words, &WORDS),
+    (Placed::Routine, &ROUTINES),
+    (Placed::Nothing, &UNKNOWN_ROUTINES),
+];
+
 /// Lines after other lines, with the index of the line at fault. Each has more than one fault.
 const BEYOND: [(&str, u32); 3] = [
     ("segment c at 1022\nsegment d at 1022\ntext \"ABC\"\n", 6),
@@ -116,65 +122,42 @@ const IN_LOADER: [(&str, u32); 2] = [
     ("segment c at 43\nenter m\nenter c\n", 6),
 ];
 
-/// The program of some lines, after two that define m and a at 56.
-fn source(alloc: Global, lines: &str) -> Result<String, Fail> {
-    Ok(format!(in alloc; "version 2\nsegment m\na: Z F\n{lines}enter m\n")?)
-}
+/// Lines with more than one fault, by the cause of the first.
+const OTHERS: [(SourceCause, &[(&str, u32)]); 4] = [
+    (StoreEnd, &BEYOND),
+    (Overlap, &OVERLAPPING),
+    (LabelUnknown, &UNKNOWN),
+    (LoaderStore, &IN_LOADER),
+];
 
-/// Checks that a program of some lines has a fault on a line.
-fn expect_fault(
-    rt: &impl Abort,
-    alloc: Global,
-    lines: &str,
-    line: u32,
-    cause: SourceCause,
-) -> Result<(), Fail> {
-    let text = source(alloc, lines)?;
-    let fault = fault_of(alloc, Size::Full, text.as_bytes());
-    expect(rt, is_at(fault, line, cause), &text);
-    Ok(())
-}
-
-/// Checks that a program of some lines has no fault.
-fn expect_no_fault(rt: &impl Abort, alloc: Global, lines: &str) -> Result<(), Fail> {
-    let text = source(alloc, lines)?;
-    let fault = fault_of(alloc, Size::Full, text.as_bytes());
-    expect(rt, fault.is_none(), &text);
-    Ok(())
-}
-
-/// Checks that a program of two pairs of lines has the fault of the first pair.
-fn expect_first(
+/// Checks that a program has this fault on a line, or none. Two lines that define m and a at 56 stand before its own.
+fn expect_outcome(
     rt: &impl Abort,
     alloc: Global,
     first: &str,
     second: &str,
-    cause: SourceCause,
-) -> Result<(), Fail> {
-    let both = format!(in alloc; "{first}{second}")?;
-    expect_fault(rt, alloc, &both, 5, cause)
+    line: u32,
+    wanted: Option<SourceCause>,
+) {
+    let text = format!(in alloc; "version 2\nsegment m\na: Z F\n{first}{second}enter m\n");
+    let text = text.expect(rt, "memory");
+    let fault = fault_of(alloc, Size::Full, text.as_bytes());
+    let told = match wanted {
+        Some(cause) => is_at(fault, line, cause),
+        None => fault.is_none(),
+    };
+    expect(rt, told, &text);
 }
 
-/// Checks that the second of two lines has a fault, alone and before each pair of lines.
-fn expect_alone_and_first(
-    rt: &impl Abort,
-    alloc: Global,
-    lines: &str,
-    cause: SourceCause,
-) -> Result<(), Fail> {
-    expect_fault(rt, alloc, lines, 5, cause)?;
-    for others in &FAULTY {
-        expect_first(rt, alloc, lines, others, cause)?;
-    }
-    Ok(())
-}
-
+/// The second of two lines has its fault alone and before each pair of lines.
 #[test]
-fn each_fault_alone_and_two_on_two_lines(rt: HostRuntime) -> Result<(), Fail> {
+fn each_fault_alone_and_two_on_two_lines(rt: HostRuntime) {
     for (lines, cause) in FAULTY.iter().zip(&CAUSES) {
-        expect_alone_and_first(&rt, rt.alloc(), lines, *cause)?;
+        expect_outcome(&rt, rt.alloc(), lines, "", 5, Some(*cause));
+        for others in &FAULTY {
+            expect_outcome(&rt, rt.alloc(), lines, others, 5, Some(*cause));
+        }
     }
-    Ok(())
 }
 
 /// The fault that a line has after other lines, given the one that a word has there.
@@ -203,20 +186,6 @@ fn first_of(
     None
 }
 
-/// Checks that a program of some lines has this fault on a line, or none.
-fn expect_outcome(
-    rt: &impl Abort,
-    alloc: Global,
-    lines: &str,
-    line: u32,
-    wanted: Option<SourceCause>,
-) -> Result<(), Fail> {
-    match wanted {
-        Some(cause) => expect_fault(rt, alloc, lines, line, cause),
-        None => expect_no_fault(rt, alloc, lines),
-    }
-}
-
 /// Checks a line after other lines, with a name of its own, b, and with one that is defined before, a.
 fn expect_on_one_line(
     rt: &impl Abort,
@@ -224,67 +193,34 @@ fn expect_on_one_line(
     setting: &Setting,
     form: &Form,
     placed: Placed,
-) -> Result<(), Fail> {
+) {
     let (before, line, of_a_word) = *setting;
     let (head, tail, own) = *form;
     let given = given(placed, of_a_word);
-    let new = format!(in alloc; "{before}{head}b{tail}")?;
-    expect_outcome(rt, alloc, &new, line, first_of(own, None, given))?;
-    let twice = format!(in alloc; "{before}{head}a{tail}")?;
-    expect_outcome(
-        rt,
-        alloc,
-        &twice,
-        line,
-        first_of(own, Some(LabelTwice), given),
-    )
-}
-
-/// Checks a line after each of the other lines.
-fn expect_in_each(rt: &impl Abort, alloc: Global, form: &Form, placed: Placed) -> Result<(), Fail> {
-    for setting in &SETTINGS {
-        expect_on_one_line(rt, alloc, setting, form, placed)?;
-    }
-    Ok(())
-}
-
-/// Checks each line of a table after each of the other lines.
-fn expect_forms(
-    rt: &impl Abort,
-    alloc: Global,
-    placed: Placed,
-    forms: &[Form],
-) -> Result<(), Fail> {
-    for form in forms {
-        expect_in_each(rt, alloc, form, placed)?;
-    }
-    Ok(())
+    let new = format!(in alloc; "{head}b{tail}").expect(rt, "memory");
+    let wanted = first_of(own, None, given);
+    expect_outcome(rt, alloc, before, &new, line, wanted);
+    let twice = format!(in alloc; "{head}a{tail}").expect(rt, "memory");
+    let wanted = first_of(own, Some(LabelTwice), given);
+    expect_outcome(rt, alloc, before, &twice, line, wanted);
 }
 
 #[test]
-fn two_faults_on_one_line(rt: HostRuntime) -> Result<(), Fail> {
-    expect_forms(&rt, rt.alloc(), Placed::Words, &WORDS)?;
-    expect_forms(&rt, rt.alloc(), Placed::Routine, &ROUTINES)?;
-    expect_forms(&rt, rt.alloc(), Placed::Nothing, &UNKNOWN_ROUTINES)
-}
-
-/// Checks that programs have faults of one cause.
-fn expect_faults(
-    rt: &impl Abort,
-    alloc: Global,
-    cause: SourceCause,
-    rows: &[(&str, u32)],
-) -> Result<(), Fail> {
-    for (lines, line) in rows {
-        expect_fault(rt, alloc, lines, *line, cause)?;
+fn two_faults_on_one_line(rt: HostRuntime) {
+    for (placed, forms) in &FORMS {
+        for form in *forms {
+            for setting in &SETTINGS {
+                expect_on_one_line(&rt, rt.alloc(), setting, form, *placed);
+            }
+        }
     }
-    Ok(())
 }
 
 #[test]
-fn other_faults_on_one_line(rt: HostRuntime) -> Result<(), Fail> {
-    expect_faults(&rt, rt.alloc(), StoreEnd, &BEYOND)?;
-    expect_faults(&rt, rt.alloc(), Overlap, &OVERLAPPING)?;
-    expect_faults(&rt, rt.alloc(), LabelUnknown, &UNKNOWN)?;
-    expect_faults(&rt, rt.alloc(), LoaderStore, &IN_LOADER)
+fn other_faults_on_one_line(rt: HostRuntime) {
+    for (cause, rows) in &OTHERS {
+        for (lines, line) in *rows {
+            expect_outcome(&rt, rt.alloc(), lines, "", *line, Some(*cause));
+        }
+    }
 }

@@ -21,6 +21,4 @@ mod sources;
 #[cfg(test)]
 mod support;
 #[cfg(test)]
-mod uses;
-#[cfg(test)]
 mod written;

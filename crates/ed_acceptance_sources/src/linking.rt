@@ -1,6 +1,7 @@
-//! Linking: the punched tape and the words of a source, where it begins, and the first fault of meaning.
+//! Linking: the punched tape and the words of a source, where it begins, its uses of the library's routines, and the first
+//! fault of meaning.
 
-use crate::support::{Row, expect, expect_faults, expect_no_faults, linked, rows_of, tape_of};
+use crate::support::{expect, expect_of, fault_of, is_at, linked};
 use ed_codes::tape_of_text;
 use ed_link::Linked;
 use ed_syntax::SourceCause::{
@@ -10,7 +11,6 @@ use ed_syntax::SourceCause::{
 use ed_words::Size;
 use std::alloc::Global;
 use std::process::Abort;
-use std::test::Fail;
 
 /// The program of seven lines that prints A.
 const FIRST: &[u8] = b"segment main\nO mark F\nO letter F\nZ F\nmark: * F\nletter: A F\nenter main";
@@ -24,6 +24,11 @@ const SECOND: &[u8] =
 const THIRD: &[u8] =
     b"version 2\nsegment m\na: A _l F\n_l: A _l D\nP _l-a F\nv: long 17179869185\nsegment t\n_l: A _l F\nS v D\n\
     use newline as n\nenter t\ndata \"4F2\"";
+
+/// Two prints, each with a location of its own.
+const TWO_PRINTS: &[u8] =
+    b"segment main\na: A a F\nG p F\nb: A b F\nG q F\nZ F\nx: word 7\ny: word 12\n\
+    use print as p with H=x\nuse print as q with H=y\nenter main\n";
 
 /// Sources, and the tapes that are punched for them.
 const PUNCHED: [(&[u8], &str); 4] = [
@@ -54,13 +59,29 @@ const WORDS: [(u16, u32); 5] = [
 /// Its names, with their locations.
 const LABELS: [(&str, u16); 3] = [("main", 56), ("mark", 59), ("letter", 60)];
 
-/// Sources without a fault in a store of 1024 locations.
-const FAULTLESS: [&[u8]; 5] = [
-    FIRST,
-    THIRD,
-    b"segment m at 1023\nZ F\nenter m",
-    b"segment m at 60\nZ F\nsegment n at 58\ntext \"AB\"\nenter m",
-    b"segment m\nZ F\nenter m\n\ndata \"A\"",
+/// The words at locations of the program of two prints.
+const WORDS_OF_PRINTS: [(u16, Option<u32>); 5] = [
+    (45, Some(124)),
+    (64, Some(114_694)),
+    (67, Some(114_810)),
+    (115, None),
+    (119, Some(114_812)),
+];
+
+/// A source, and the line of its first fault.
+type Row = (&'static [u8], u32);
+
+/// Sources without a fault in a store of a size.
+const FAULTLESS: [(Size, &[u8]); 6] = [
+    (Size::Full, FIRST),
+    (Size::Full, THIRD),
+    (Size::Full, b"segment m at 1023\nZ F\nenter m"),
+    (
+        Size::Full,
+        b"segment m at 60\nZ F\nsegment n at 58\ntext \"AB\"\nenter m",
+    ),
+    (Size::Full, b"segment m\nZ F\nenter m\n\ndata \"A\""),
+    (Size::Small, b"segment m at 511\nZ F\nenter m"),
 ];
 
 /// Sources that define a name twice.
@@ -102,10 +123,24 @@ const OVERLAPS: [Row; 1] = [(
 )];
 
 /// Sources that use a routine that the library doesn't have.
-const NO_ROUTINES: [Row; 1] = [(b"use newlin as n\nenter n", 1)];
+const NO_ROUTINES: [Row; 2] = [
+    (b"use newlin as n\nenter n", 1),
+    (b"segment m\nZ F\nx: P F\nuse sine as p\nenter m", 4),
+];
 
-/// Sources that set a parameter that the routine doesn't have.
-const PARAMETERS: [Row; 1] = [(b"use newline as n with H=1\nenter n", 1)];
+/// Sources with a use whose parameters are not those of the routine.
+const PARAMETERS: [Row; 4] = [
+    (b"use newline as n with H=1\nenter n", 1),
+    (b"segment m\nZ F\nx: P F\nuse print as p\nenter m", 4),
+    (
+        b"segment m\nZ F\nx: P F\nuse read as p with N=x\nenter m",
+        4,
+    ),
+    (
+        b"segment m\nZ F\nx: P F\nuse newline as p with H=x\nenter m",
+        4,
+    ),
+];
 
 /// Sources with `enter` missing, twice or out of order.
 const ENTERS: [Row; 6] = [
@@ -120,28 +155,37 @@ const ENTERS: [Row; 6] = [
 /// Sources with a long word whose sandwich digit is 1.
 const SANDWICHES: [Row; 1] = [(b"version 2\nsegment m\nlong 131072\nenter m", 3)];
 
-/// A source without a fault in a store of 512 locations.
-const FAULTLESS_IN_512: [&[u8]; 1] = [b"segment m at 511\nZ F\nenter m"];
-
 /// Sources with a word or an entry after the last of 512 locations.
 const BEYOND_512: [Row; 2] = [
     (b"segment m at 512\nZ F\nenter m", 2),
     (b"segment m at 512\nenter m", 2),
 ];
 
-/// Checks that a tape is punched for a source.
-fn is_punched(rt: &impl Abort, alloc: Global, text: &[u8], punched: &str) -> Result<(), Fail> {
-    let tape = tape_of(rt, alloc, text)?;
-    expect(rt, tape.as_slice() == punched.as_bytes(), punched);
-    Ok(())
-}
+/// The sources with a fault, by the size of the store and the cause.
+const FAULTS: [(Size, SourceCause, &[Row]); 13] = [
+    (Size::Full, LabelTwice, &LABELS_TWICE),
+    (Size::Full, LabelUnknown, &LABELS_UNKNOWN),
+    (Size::Full, AddressRange, &ADDRESSES),
+    (Size::Full, NoSuchRoutine, &NO_ROUTINES),
+    (Size::Full, Parameters, &PARAMETERS),
+    (Size::Full, Enter, &ENTERS),
+    (Size::Full, SandwichDigit, &SANDWICHES),
+    (Size::Full, OutsideSegment, &OUTSIDE),
+    (Size::Full, LoaderStore, &IN_LOADER),
+    (Size::Full, ParameterStore, &IN_PARAMETERS),
+    (Size::Full, StoreEnd, &BEYOND),
+    (Size::Full, Overlap, &OVERLAPS),
+    (Size::Small, StoreEnd, &BEYOND_512),
+];
 
-/// Checks that the text of a tape spells the rows of a source's tape.
-fn spells_rows(rt: &impl Abort, alloc: Global, text: &[u8], punched: &str) -> Result<(), Fail> {
-    let rows = rows_of(rt, alloc, text)?;
-    let spelled = tape_of_text(alloc, punched.as_bytes())?;
+/// Checks that a tape is punched for a source, and that the text of the tape spells its rows.
+fn expect_punched(rt: &impl Abort, alloc: Global, text: &[u8], punched: &str) {
+    let linked = linked(rt, alloc, Size::Full, text);
+    let tape = linked.text().expect(rt, "memory");
+    expect(rt, tape.as_slice() == punched.as_bytes(), punched);
+    let rows = linked.rows().expect(rt, "memory");
+    let spelled = tape_of_text(alloc, punched.as_bytes()).expect(rt, "a tape");
     expect(rt, spelled.as_slice() == rows.as_slice(), punched);
-    Ok(())
 }
 
 /// Whether a linked program consists of these words with their locations.
@@ -166,12 +210,10 @@ fn has_labels(linked: &Linked, labels: &[(&str, u16)]) -> bool {
 }
 
 #[test]
-fn what_is_punched(rt: HostRuntime) -> Result<(), Fail> {
+fn what_is_punched(rt: HostRuntime) {
     for (text, punched) in &PUNCHED {
-        is_punched(&rt, rt.alloc(), text, punched)?;
-        spells_rows(&rt, rt.alloc(), text, punched)?;
+        expect_punched(&rt, rt.alloc(), text, punched);
     }
-    Ok(())
 }
 
 #[test]
@@ -186,36 +228,37 @@ fn the_linked_program(rt: HostRuntime) {
     );
 }
 
+/// The word at a location of a linked program.
+fn word_at(linked: &Linked, place: u16) -> Option<u32> {
+    for placed in &linked.words {
+        if placed.place == place {
+            return Some(placed.word.value());
+        }
+    }
+    None
+}
+
+#[test]
+fn each_use_has_its_own_parameters(rt: HostRuntime) {
+    let linked = linked(&rt, rt.alloc(), Size::Full, TWO_PRINTS);
+    for (place, word) in &WORDS_OF_PRINTS {
+        assert!(rt; word_at(&linked, *place) == *word, "{place}");
+    }
+}
+
+#[test]
+fn sources_with_a_fault(rt: HostRuntime) {
+    for (size, cause, rows) in &FAULTS {
+        for (text, line) in *rows {
+            let fault = fault_of(rt.alloc(), *size, text);
+            expect_of(&rt, is_at(fault, *line, *cause), text);
+        }
+    }
+}
+
 #[test]
 fn sources_without_a_fault(rt: HostRuntime) {
-    expect_no_faults(&rt, rt.alloc(), Size::Full, &FAULTLESS);
-    expect_no_faults(&rt, rt.alloc(), Size::Small, &FAULTLESS_IN_512);
-}
-
-/// Checks the sources of a table in a store of 1024 locations.
-fn expect_in_full(rt: &impl Abort, alloc: Global, cause: SourceCause, rows: &[Row]) {
-    expect_faults(rt, alloc, Size::Full, cause, rows);
-}
-
-#[test]
-fn faults_of_names_and_of_what_a_line_says(rt: HostRuntime) {
-    let alloc = rt.alloc();
-    expect_in_full(&rt, alloc, LabelTwice, &LABELS_TWICE);
-    expect_in_full(&rt, alloc, LabelUnknown, &LABELS_UNKNOWN);
-    expect_in_full(&rt, alloc, AddressRange, &ADDRESSES);
-    expect_in_full(&rt, alloc, NoSuchRoutine, &NO_ROUTINES);
-    expect_in_full(&rt, alloc, Parameters, &PARAMETERS);
-    expect_in_full(&rt, alloc, Enter, &ENTERS);
-    expect_in_full(&rt, alloc, SandwichDigit, &SANDWICHES);
-}
-
-#[test]
-fn faults_of_where_words_are(rt: HostRuntime) {
-    let alloc = rt.alloc();
-    expect_in_full(&rt, alloc, OutsideSegment, &OUTSIDE);
-    expect_in_full(&rt, alloc, LoaderStore, &IN_LOADER);
-    expect_in_full(&rt, alloc, ParameterStore, &IN_PARAMETERS);
-    expect_in_full(&rt, alloc, StoreEnd, &BEYOND);
-    expect_in_full(&rt, alloc, Overlap, &OVERLAPS);
-    expect_faults(&rt, alloc, Size::Small, StoreEnd, &BEYOND_512);
+    for (size, text) in &FAULTLESS {
+        expect_of(&rt, fault_of(rt.alloc(), *size, text).is_none(), text);
+    }
 }

@@ -1,11 +1,10 @@
 //! Each kind of operand at its edges, in a first segment, in one at a base, and in the settings of a use.
 
-use crate::support::{expect, fault_of, is_at, tape_of};
+use crate::support::{expect, fault_of, is_at, linked};
 use ed_syntax::SourceCause::{self, AddressRange, LabelUnknown, NotAStatement, NumberRange};
 use ed_words::Size;
 use std::alloc::Global;
 use std::process::Abort;
-use std::test::Fail;
 
 /// A source without one operand, on line 3: the text before it and after it, and the tape of the source up to that
 /// operand's item and from it.
@@ -121,109 +120,67 @@ const ADDRESSES_IN_A_USE: [&str; 8] = [
 
 const UNKNOWN_IN_A_USE: [&str; 2] = ["_l", "m-_l"];
 
+/// Operands within their edges.
+const PUNCHED: [(&Frame, &[(&str, &str)]); 3] = [
+    (&FIRST, &ITEMS_OF_FIRST),
+    (&AT_100, &ITEMS_AT_100),
+    (&IN_A_USE, &ITEMS_IN_A_USE),
+];
+
+/// Operands beyond their edges, by the cause for which they are refused.
+const REFUSED: [(&Frame, SourceCause, &[&str]); 8] = [
+    (&FIRST, NumberRange, &NUMBERS_IN_FIRST),
+    (&FIRST, AddressRange, &ADDRESSES_IN_FIRST),
+    (&FIRST, LabelUnknown, &UNKNOWN_IN_FIRST),
+    (&AT_100, AddressRange, &ADDRESSES_AT_100),
+    (&IN_A_USE, NotAStatement, &NOTHING_IN_A_USE),
+    (&IN_A_USE, NumberRange, &NUMBERS_IN_A_USE),
+    (&IN_A_USE, AddressRange, &ADDRESSES_IN_A_USE),
+    (&IN_A_USE, LabelUnknown, &UNKNOWN_IN_A_USE),
+];
+
 /// The source of an operand.
-fn source_of(alloc: Global, frame: &Frame, operand: &str) -> Result<String, Fail> {
-    Ok(format!(in alloc; "{}{operand}{}", frame.head, frame.tail)?)
+fn source_of(rt: &impl Abort, alloc: Global, frame: &Frame, operand: &str) -> String {
+    format!(in alloc; "{}{operand}{}", frame.head, frame.tail).expect(rt, "memory")
 }
 
-/// Checks how a source's tape begins.
-fn begins_with(rt: &impl Abort, alloc: Global, text: &str, wanted: &str) -> Result<(), Fail> {
-    let tape = tape_of(rt, alloc, text.as_bytes())?;
-    expect(rt, tape.starts_with(wanted.as_bytes()), text);
-    Ok(())
-}
-
-/// Checks what is punched for an operand.
-fn expect_item(
-    rt: &impl Abort,
-    alloc: Global,
-    frame: &Frame,
-    operand: &str,
-    item: &str,
-) -> Result<(), Fail> {
-    let text = source_of(alloc, frame, operand)?;
-    let wanted = format!(in alloc; "{}{item}{}", frame.punched_head, frame.punched_tail)?;
-    begins_with(rt, alloc, &text, &wanted)
+/// Checks what is punched for an operand: how the tape of its source begins.
+fn expect_item(rt: &impl Abort, alloc: Global, frame: &Frame, operand: &str, item: &str) {
+    let text = source_of(rt, alloc, frame, operand);
+    let wanted = format!(in alloc; "{}{item}{}", frame.punched_head, frame.punched_tail);
+    let wanted = wanted.expect(rt, "memory");
+    let tape = linked(rt, alloc, Size::Full, text.as_bytes())
+        .text()
+        .expect(rt, "memory");
+    expect(rt, tape.starts_with(wanted.as_bytes()), &text);
 }
 
 /// Checks what is punched for operands.
-fn punched(
-    rt: &impl Abort,
-    alloc: Global,
-    frame: &Frame,
-    cases: &[(&str, &str)],
-) -> Result<(), Fail> {
+fn punched(rt: &impl Abort, alloc: Global, frame: &Frame, cases: &[(&str, &str)]) {
     for (operand, item) in cases {
-        expect_item(rt, alloc, frame, operand, item)?;
+        expect_item(rt, alloc, frame, operand, item);
     }
-    Ok(())
-}
-
-/// Checks that an operand is refused for a cause.
-fn expect_refused(
-    rt: &impl Abort,
-    alloc: Global,
-    frame: &Frame,
-    cause: SourceCause,
-    operand: &str,
-) -> Result<(), Fail> {
-    let text = source_of(alloc, frame, operand)?;
-    let fault = fault_of(alloc, Size::Full, text.as_bytes());
-    expect(rt, is_at(fault, 3, cause), &text);
-    Ok(())
 }
 
 /// Checks that operands are refused for a cause.
-fn refused(
-    rt: &impl Abort,
-    alloc: Global,
-    frame: &Frame,
-    cause: SourceCause,
-    operands: &[&str],
-) -> Result<(), Fail> {
+fn refused(rt: &impl Abort, alloc: Global, frame: &Frame, cause: SourceCause, operands: &[&str]) {
     for operand in operands {
-        expect_refused(rt, alloc, frame, cause, operand)?;
+        let text = source_of(rt, alloc, frame, operand);
+        let fault = fault_of(alloc, Size::Full, text.as_bytes());
+        expect(rt, is_at(fault, 3, cause), &text);
     }
-    Ok(())
 }
 
 #[test]
-fn operands_in_the_first_segment(rt: HostRuntime) -> Result<(), Fail> {
-    punched(&rt, rt.alloc(), &FIRST, &ITEMS_OF_FIRST)
+fn operands_within_their_edges(rt: HostRuntime) {
+    for (frame, cases) in &PUNCHED {
+        punched(&rt, rt.alloc(), frame, cases);
+    }
 }
 
 #[test]
-fn operands_in_a_segment_at_a_place(rt: HostRuntime) -> Result<(), Fail> {
-    punched(&rt, rt.alloc(), &AT_100, &ITEMS_AT_100)
-}
-
-#[test]
-fn operands_in_the_settings_of_a_use(rt: HostRuntime) -> Result<(), Fail> {
-    punched(&rt, rt.alloc(), &IN_A_USE, &ITEMS_IN_A_USE)
-}
-
-#[test]
-fn operands_beyond_their_edges_in_the_first_segment(rt: HostRuntime) -> Result<(), Fail> {
-    refused(&rt, rt.alloc(), &FIRST, NumberRange, &NUMBERS_IN_FIRST)?;
-    refused(&rt, rt.alloc(), &FIRST, AddressRange, &ADDRESSES_IN_FIRST)?;
-    refused(&rt, rt.alloc(), &FIRST, LabelUnknown, &UNKNOWN_IN_FIRST)
-}
-
-#[test]
-fn operands_beyond_their_edges_in_a_segment_at_a_place(rt: HostRuntime) -> Result<(), Fail> {
-    refused(&rt, rt.alloc(), &AT_100, AddressRange, &ADDRESSES_AT_100)
-}
-
-#[test]
-fn operands_beyond_their_edges_in_the_settings_of_a_use(rt: HostRuntime) -> Result<(), Fail> {
-    refused(&rt, rt.alloc(), &IN_A_USE, NotAStatement, &NOTHING_IN_A_USE)?;
-    refused(&rt, rt.alloc(), &IN_A_USE, NumberRange, &NUMBERS_IN_A_USE)?;
-    refused(
-        &rt,
-        rt.alloc(),
-        &IN_A_USE,
-        AddressRange,
-        &ADDRESSES_IN_A_USE,
-    )?;
-    refused(&rt, rt.alloc(), &IN_A_USE, LabelUnknown, &UNKNOWN_IN_A_USE)
+fn operands_beyond_their_edges(rt: HostRuntime) {
+    for (frame, cause, operands) in &REFUSED {
+        refused(&rt, rt.alloc(), frame, *cause, operands);
+    }
 }

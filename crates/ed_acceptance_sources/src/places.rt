@@ -3,7 +3,7 @@
 ghost use Rattle.std.specs.Prelude.{◌≤◌, length};
 
 use crate::support::{expect, expect_of, is_at};
-use ed_symbols::{Definition, Places, resolve};
+use ed_symbols::{Places, resolve};
 use ed_syntax::SourceCause::{self, AddressRange, LabelTwice, LabelUnknown};
 use ed_syntax::{Name, parse};
 use std::alloc::Global;
@@ -35,89 +35,123 @@ enum Question {
 
 use Question::{Place, PlaceOf, PlaceSeen, Segment, SegmentSeen, WholeSeen};
 
-/// A line, the name that a question is about, if any, and the answer.
-type Row = (u32, &'static str, u32);
-
-/// A line and a name about which a question has no answer.
-type NoRow = (u32, &'static str);
+/// A line, the name that a question is about, if any, and the answer, if there is one.
+type Row = (u32, &'static str, Option<u32>);
 
 /// The locations before the lines of the first source.
-const LINES_OF_FIRST: [Row; 7] = [
-    (1, "", 56),
-    (2, "", 56),
-    (3, "", 57),
-    (4, "", 58),
-    (5, "", 59),
-    (6, "", 60),
-    (7, "", 61),
+const LINES_OF_FIRST: [Row; 8] = [
+    (1, "", Some(56)),
+    (2, "", Some(56)),
+    (3, "", Some(57)),
+    (4, "", Some(58)),
+    (5, "", Some(59)),
+    (6, "", Some(60)),
+    (7, "", Some(61)),
+    (8, "", None),
 ];
 
-const NO_LINES_OF_FIRST: [NoRow; 1] = [(8, "")];
-
 /// The locations of its names.
-const NAMES_OF_FIRST: [Row; 3] = [(1, "mark", 59), (1, "letter", 60), (1, "main", 56)];
-
-const NO_NAMES_OF_FIRST: [NoRow; 1] = [(1, "other")];
+const NAMES_OF_FIRST: [Row; 4] = [
+    (1, "mark", Some(59)),
+    (1, "letter", Some(60)),
+    (1, "main", Some(56)),
+    (1, "other", None),
+];
 
 /// The locations before the lines of the second source.
 const LINES_OF_ODD: [Row; 7] = [
-    (2, "", 56),
-    (3, "", 56),
-    (4, "", 57),
-    (5, "", 65),
-    (6, "", 65),
-    (7, "", 68),
-    (8, "", 71),
+    (2, "", Some(56)),
+    (3, "", Some(56)),
+    (4, "", Some(57)),
+    (5, "", Some(65)),
+    (6, "", Some(65)),
+    (7, "", Some(68)),
+    (8, "", Some(71)),
 ];
 
 /// The locations of its names.
 const NAMES_OF_ODD: [Row; 5] = [
-    (1, "m", 56),
-    (1, "n", 58),
-    (1, "s", 65),
-    (1, "q", 68),
-    (1, "r", 71),
+    (1, "m", Some(56)),
+    (1, "n", Some(58)),
+    (1, "s", Some(65)),
+    (1, "q", Some(68)),
+    (1, "r", Some(71)),
 ];
 
 /// The locations of the names that its lines see.
-const NAMES_SEEN: [Row; 6] = [
-    (2, "_x", 56),
-    (3, "_x", 56),
-    (5, "_x", 66),
-    (8, "_x", 66),
-    (8, "q", 68),
-    (1, "q", 68),
+const NAMES_SEEN: [Row; 9] = [
+    (2, "_x", Some(56)),
+    (3, "_x", Some(56)),
+    (5, "_x", Some(66)),
+    (8, "_x", Some(66)),
+    (8, "q", Some(68)),
+    (1, "q", Some(68)),
+    (1, "_x", None),
+    (4, "_x", None),
+    (9, "q", None),
 ];
-
-const NO_NAMES_SEEN: [NoRow; 3] = [(1, "_x"), (4, "_x"), (9, "q")];
 
 /// The segments of its lines.
-const SEGMENTS: [Row; 6] = [
-    (2, "", 1),
-    (3, "", 1),
-    (5, "", 3),
-    (6, "", 3),
-    (7, "", 3),
-    (8, "", 3),
+const SEGMENTS: [Row; 9] = [
+    (2, "", Some(1)),
+    (3, "", Some(1)),
+    (5, "", Some(3)),
+    (6, "", Some(3)),
+    (7, "", Some(3)),
+    (8, "", Some(3)),
+    (1, "", None),
+    (4, "", None),
+    (9, "", None),
 ];
-
-const NO_SEGMENTS: [NoRow; 3] = [(1, ""), (4, ""), (9, "")];
 
 /// The segments of the names that its lines see.
 const SEGMENTS_SEEN: [Row; 6] = [
-    (1, "m", 1),
-    (2, "m", 1),
-    (1, "s", 3),
-    (3, "q", 3),
-    (2, "_x", 1),
-    (8, "_x", 3),
+    (1, "m", Some(1)),
+    (2, "m", Some(1)),
+    (1, "s", Some(3)),
+    (3, "q", Some(3)),
+    (2, "_x", Some(1)),
+    (8, "_x", Some(3)),
 ];
 
 /// The location of a name that all its lines see.
-const WHOLE_SEEN: [Row; 1] = [(1, "n", 58)];
+const WHOLE_SEEN: [Row; 1] = [(1, "n", Some(58))];
 
 /// Names that its lines don't see at all.
-const UNSEEN: [NoRow; 3] = [(1, "_x"), (4, "_x"), (8, "other")];
+const UNSEEN: [Row; 3] = [(1, "_x", None), (4, "_x", None), (8, "other", None)];
+
+/// What is asked, a source, the question, and its answers.
+type Asked = (&'static str, &'static [u8], Question, &'static [Row]);
+
+const ASKED: [Asked; 12] = [
+    ("where lines stand", FIRST, Place, &LINES_OF_FIRST),
+    ("where lines stand", ODD, Place, &LINES_OF_ODD),
+    (
+        "where lines stand",
+        b"segment a at 1023\nZ F\nZ F",
+        Place,
+        &[(3, "", Some(1024))],
+    ),
+    ("where names stand", FIRST, PlaceOf, &NAMES_OF_FIRST),
+    ("where names stand", ODD, PlaceOf, &NAMES_OF_ODD),
+    (
+        "where names stand",
+        b"a: Z F\na: Z F",
+        PlaceOf,
+        &[(1, "a", Some(56))],
+    ),
+    ("where seen names stand", ODD, PlaceSeen, &NAMES_SEEN),
+    ("which names all lines see", ODD, WholeSeen, &WHOLE_SEEN),
+    ("which names all lines see", ODD, WholeSeen, &UNSEEN),
+    ("the segments of lines", ODD, Segment, &SEGMENTS),
+    (
+        "the segments of seen names",
+        ODD,
+        SegmentSeen,
+        &SEGMENTS_SEEN,
+    ),
+    ("the segments of seen names", ODD, SegmentSeen, &UNSEEN),
+];
 
 /// Sources whose names have no fault.
 const FAULTLESS: [&[u8]; 8] = [
@@ -158,6 +192,13 @@ const OUT_OF_RANGE: [(&[u8], u32); 4] = [
     (b"version 2\nsegment m\na: Z F\nb: Z F\nP a-b F", 5),
 ];
 
+/// The sources with a fault, by its cause.
+const FAULTS: [(SourceCause, &[(&[u8], u32)]); 3] = [
+    (LabelTwice, &TWICE),
+    (LabelUnknown, &UNKNOWN),
+    (AddressRange, &OUT_OF_RANGE),
+];
+
 /// The names that the source ODD defines, with their locations and segments.
 const DEFINED: [(&str, u32, Option<u32>); 7] = [
     ("m", 56, Some(1)),
@@ -175,23 +216,6 @@ fn resolved(rt: &impl Abort, alloc: Global, text: &[u8]) -> Places {
     resolve(alloc, &program).ok().expect(rt, "its names")
 }
 
-/// The answer to a question about a name, on a line of the source.
-fn answer_of_name(places: &Places, line: u32, question: Question, name: &Name) -> Option<u32>
-    requires from_one { 1 ≤ line }
-    requires of_the_program { line ≤ length places.now.positions }
-{
-    match question {
-        Place | Segment => None,
-        PlaceOf => places.label(name),
-        PlaceSeen => places.label_at(line, name),
-        SegmentSeen => places.home_at(line, name)?.segment,
-        WholeSeen => match places.home_at(line, name)?.segment {
-            Some(_) => None,
-            None => places.label_at(line, name),
-        },
-    }
-}
-
 /// The answer to a question about a line of the source.
 fn answer_of(places: &Places, line: u32, question: Question, name: &str) -> Option<u32>
     requires from_one { 1 ≤ line }
@@ -200,7 +224,16 @@ fn answer_of(places: &Places, line: u32, question: Question, name: &str) -> Opti
     match question {
         Place => Some(places.line_place(line)),
         Segment => places.line_segment(line),
-        _ => answer_of_name(places, line, question, &Name::new(name)?),
+        PlaceOf => places.label(&Name::new(name)?),
+        PlaceSeen => places.label_at(line, &Name::new(name)?),
+        SegmentSeen => places.home_at(line, &Name::new(name)?)?.segment,
+        WholeSeen => {
+            let name = Name::new(name)?;
+            match places.home_at(line, &name)?.segment {
+                Some(_) => None,
+                None => places.label_at(line, &name),
+            }
+        }
     }
 }
 
@@ -214,109 +247,46 @@ fn answer(alloc: Global, text: &[u8], line: u32, question: Question, name: &str)
     answer_of(&places, line, question, name)
 }
 
-/// Checks the answer about a line and a name.
-fn expect_row(rt: &impl Abort, told: bool, line: u32, name: &str) {
-    assert!(rt; told, "line {line} and {name}");
-}
-
-/// Checks the answers to a question about lines of a source.
-fn expect_each(rt: &impl Abort, alloc: Global, text: &[u8], question: Question, rows: &[Row]) {
+/// Checks the answers to a question about lines of a source. A failure shows what was asked.
+fn expect_answers(rt: &impl Abort, alloc: Global, asked: &Asked) {
+    let (what, text, question, rows) = *asked;
     for (line, name, wanted) in rows {
         let found = answer(alloc, text, *line, question, name);
-        expect_row(rt, found == Some(*wanted), *line, name);
-    }
-}
-
-/// Checks that a question about lines of a source has no answers.
-fn expect_none(rt: &impl Abort, alloc: Global, text: &[u8], question: Question, rows: &[NoRow]) {
-    for (line, name) in rows {
-        let found = answer(alloc, text, *line, question, name);
-        expect_row(rt, found.is_none(), *line, name);
+        assert!(rt; found == *wanted, "{what}: line {line} and {name}");
     }
 }
 
 #[test]
-fn where_lines_stand(rt: HostRuntime) {
-    expect_each(&rt, rt.alloc(), FIRST, Place, &LINES_OF_FIRST);
-    expect_none(&rt, rt.alloc(), FIRST, Place, &NO_LINES_OF_FIRST);
-    expect_each(&rt, rt.alloc(), ODD, Place, &LINES_OF_ODD);
-    let last = b"segment a at 1023\nZ F\nZ F";
-    expect_each(&rt, rt.alloc(), last, Place, &[(3, "", 1024)]);
-}
-
-#[test]
-fn where_names_stand(rt: HostRuntime) {
-    expect_each(&rt, rt.alloc(), FIRST, PlaceOf, &NAMES_OF_FIRST);
-    expect_none(&rt, rt.alloc(), FIRST, PlaceOf, &NO_NAMES_OF_FIRST);
-    expect_each(&rt, rt.alloc(), ODD, PlaceOf, &NAMES_OF_ODD);
-    let twice = b"a: Z F\na: Z F";
-    expect_each(&rt, rt.alloc(), twice, PlaceOf, &[(1, "a", 56)]);
-}
-
-#[test]
-fn which_names_a_line_sees(rt: HostRuntime) {
-    expect_each(&rt, rt.alloc(), ODD, PlaceSeen, &NAMES_SEEN);
-    expect_none(&rt, rt.alloc(), ODD, PlaceSeen, &NO_NAMES_SEEN);
-    expect_each(&rt, rt.alloc(), ODD, WholeSeen, &WHOLE_SEEN);
-    expect_none(&rt, rt.alloc(), ODD, WholeSeen, &UNSEEN);
-}
-
-#[test]
-fn the_segments_of_lines_and_names(rt: HostRuntime) {
-    expect_each(&rt, rt.alloc(), ODD, Segment, &SEGMENTS);
-    expect_none(&rt, rt.alloc(), ODD, Segment, &NO_SEGMENTS);
-    expect_each(&rt, rt.alloc(), ODD, SegmentSeen, &SEGMENTS_SEEN);
-    expect_none(&rt, rt.alloc(), ODD, SegmentSeen, &UNSEEN);
-}
-
-/// Checks the first fault of the names of a source.
-fn expect_fault(rt: &impl Abort, alloc: Global, text: &[u8], line: u32, cause: SourceCause) {
-    let fault = resolved(rt, alloc, text).fault();
-    expect_of(rt, is_at(fault, line, cause), text);
-}
-
-/// Checks the first faults of the names of sources, which have one cause.
-fn expect_faults(rt: &impl Abort, alloc: Global, cause: SourceCause, rows: &[(&[u8], u32)]) {
-    for (text, line) in rows {
-        expect_fault(rt, alloc, text, *line, cause);
+fn what_is_known_of_lines_and_names(rt: HostRuntime) {
+    for asked in &ASKED {
+        expect_answers(&rt, rt.alloc(), asked);
     }
 }
 
 #[test]
-fn the_fault_of_names(rt: HostRuntime) {
-    expect_faults(&rt, rt.alloc(), LabelTwice, &TWICE);
-    expect_faults(&rt, rt.alloc(), LabelUnknown, &UNKNOWN);
-    expect_faults(&rt, rt.alloc(), AddressRange, &OUT_OF_RANGE);
-}
-
-#[test]
-fn names_without_a_fault(rt: HostRuntime) {
+fn names_with_a_fault_and_without(rt: HostRuntime) {
+    for (cause, rows) in &FAULTS {
+        for (text, line) in *rows {
+            let fault = resolved(&rt, rt.alloc(), text).fault();
+            expect_of(&rt, is_at(fault, *line, *cause), text);
+        }
+    }
     for text in &FAULTLESS {
         let fault = resolved(&rt, rt.alloc(), text).fault();
         expect_of(&rt, fault.is_none(), text);
     }
 }
 
-/// The name of the first definition that differs from that of the source ODD, if one does.
-fn first_difference(symbols: &[Definition]) -> &'static str {
-    for (found, wanted) in symbols.iter().zip(&DEFINED) {
-        let (name, place, segment) = *wanted;
-        if found.name.text() != name || found.place != place || found.segment != segment {
-            return name;
-        }
-    }
-    ""
-}
-
-/// Checks that these are the definitions of the source ODD.
-fn expect_defined(rt: &impl Abort, symbols: &[Definition]) {
-    assert!(rt; symbols.len() == DEFINED.len());
-    let differs = first_difference(symbols);
-    expect(rt, differs.is_empty(), differs);
-}
-
 #[test]
 fn what_a_source_defines(rt: HostRuntime) {
     let places = resolved(&rt, rt.alloc(), ODD);
-    expect_defined(&rt, places.symbols());
+    let symbols = places.symbols();
+    assert!(rt; symbols.len() == DEFINED.len());
+    for (found, wanted) in symbols.iter().zip(&DEFINED) {
+        let (name, place, segment) = *wanted;
+        let is_alike = found.name.text() == name
+            && found.place == place
+            && found.segment == segment;
+        expect(&rt, is_alike, name);
+    }
 }

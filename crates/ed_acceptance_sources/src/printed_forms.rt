@@ -59,13 +59,15 @@ const LINE_ENDS: [&str; 2] = ["\n", "\r\n"];
 /// What may follow a form.
 const COMMENTS: [&str; 4] = ["", " \t", ";", " ; A 5 F; \" none"];
 
-/// A sequence of numbers, each made from the one before.
+/// A text that is written part by part, by numbers that are each made from the one before.
 #[derive(Drop)]
-struct Sequence {
+struct Writer {
+    text: String,
     last: u32,
+    version: Version,
 }
 
-impl Sequence {
+impl Writer {
     /// The next number, reduced to one of 0 to `count` - 1.
     fn below(&mut self, count: u32) -> u32
         requires { 0 < count }
@@ -77,23 +79,7 @@ impl Sequence {
             .wrapping_add(1_013_904_223);
         self.last / 4096 % count
     }
-}
 
-/// Adds a code to a string.
-fn push(rt: &impl Abort, codes: &mut ArrayVec<Code, 120>, number: u8) {
-    let code = Code::new(number).expect(rt, "a code");
-    codes.try_push(code).ok().expect(rt, "room");
-}
-
-/// A text that is written part by part.
-#[derive(Drop)]
-struct Writer {
-    text: String,
-    sequence: Sequence,
-    version: Version,
-}
-
-impl Writer {
     /// Writes a piece as it is.
     fn put(&mut self, rt: &impl Abort, piece: &str) {
         self.text.push_str(piece).ok().expect(rt, "memory");
@@ -101,56 +87,56 @@ impl Writer {
 
     /// Writes a name, a number or a keyword.
     fn run(&mut self, rt: &impl Abort, run: &str) {
-        let blanks = BLANKS[self.sequence.below(4) as usize];
+        let blanks = BLANKS[self.below(4) as usize];
         self.put(rt, blanks);
         self.put(rt, run);
     }
 
     /// Writes a function, a letter, a length or a mark.
     fn sign(&mut self, rt: &impl Abort, sign: &str) {
-        let blanks = FEW_BLANKS[self.sequence.below(4) as usize];
+        let blanks = FEW_BLANKS[self.below(4) as usize];
         self.put(rt, blanks);
         self.put(rt, sign);
     }
 
     /// Writes a number.
     fn number(&mut self, rt: &impl Abort, number: u64) {
-        let zeros = ZEROS[self.sequence.below(4) as usize];
+        let zeros = ZEROS[self.below(4) as usize];
         self.run(rt, zeros);
         write!(self.text, "{number}").ok().expect(rt, "memory");
     }
 
     /// Writes a name that may stand anywhere.
     fn name(&mut self, rt: &impl Abort) -> Name {
-        let name = NAMES[self.sequence.below(8) as usize];
+        let name = NAMES[self.below(8) as usize];
         self.run(rt, name);
         Name::new(name).expect(rt, name)
     }
 
     /// Writes a name that may stand as a label and in an operand.
     fn place_name(&mut self, rt: &impl Abort) -> Name {
-        if !self.version.is_two() || self.sequence.below(3) > 0 {
+        if !self.version.is_two() || self.below(3) > 0 {
             return self.name(rt);
         }
-        let name = LOCAL_NAMES[self.sequence.below(4) as usize];
+        let name = LOCAL_NAMES[self.below(4) as usize];
         self.run(rt, name);
         Name::new(name).expect(rt, name)
     }
 
     /// Writes an operand.
     fn operand(&mut self, rt: &impl Abort) -> Operand {
-        if self.sequence.below(3) == 0 {
-            let number = self.sequence.below(32768);
+        if self.below(3) == 0 {
+            let number = self.below(32768);
             self.number(rt, u64::from(number));
             return Operand::Number(number as u16);
         }
         let name = self.place_name(rt);
-        if self.sequence.below(3) == 0 {
+        if self.below(3) == 0 {
             return Operand::Label { name, plus: 0 };
         }
-        let minus = self.sequence.below(2) == 1;
+        let minus = self.below(2) == 1;
         self.sign(rt, if minus { "-" } else { "+" });
-        if self.version.is_two() && self.sequence.below(2) == 1 {
+        if self.version.is_two() && self.below(2) == 1 {
             let second = self.place_name(rt);
             return Operand::Two {
                 first: name,
@@ -158,7 +144,7 @@ impl Writer {
                 minus,
             };
         }
-        let number = self.sequence.below(1024);
+        let number = self.below(1024);
         self.number(rt, u64::from(number));
         let plus = if minus {
             -(number as i32)
@@ -173,9 +159,9 @@ impl Writer {
         requires least { least < 2 ^ 36 }
         requires most { most < 2 ^ 36 }
     {
-        let high = u64::from(self.sequence.below(65536));
-        let drawn = high * 1_048_576 + u64::from(self.sequence.below(1_048_576));
-        if self.sequence.below(2) == 0 {
+        let high = u64::from(self.below(65536));
+        let drawn = high * 1_048_576 + u64::from(self.below(1_048_576));
+        if self.below(2) == 0 {
             let number = drawn % (most + 1);
             self.number(rt, number);
             return number;
@@ -190,10 +176,11 @@ impl Writer {
     fn string(&mut self, rt: &impl Abort) -> ArrayVec<Code, 120> {
         let mut codes = ArrayVec::new();
         self.sign(rt, "\"");
-        for _ in 0..1 + self.sequence.below(8) {
-            let code = self.sequence.below(32);
-            self.put(rt, LETTERS[code as usize]);
-            push(rt, &mut codes, code as u8);
+        for _ in 0..1 + self.below(8) {
+            let number = self.below(32);
+            self.put(rt, LETTERS[number as usize]);
+            let code = Code::new(number as u8).expect(rt, "a code");
+            codes.try_push(code).ok().expect(rt, "room");
         }
         self.put(rt, "\"");
         codes
@@ -202,43 +189,38 @@ impl Writer {
     /// Writes settings, as long as the line has room for one more.
     fn settings(&mut self, rt: &impl Abort, start: usize) -> ArrayVec<Setting, 6> {
         let mut settings = ArrayVec::new();
-        if self.sequence.below(3) == 0 {
+        if self.below(3) == 0 {
             return settings;
         }
         self.run(rt, "with");
         for place in 0..6 {
             if place > 0 {
-                if self.sequence.below(3) == 0 || self.text.len().saturating_sub(start) > 55 {
+                if self.below(3) == 0 || self.text.len().saturating_sub(start) > 55 {
                     break;
                 }
                 self.sign(rt, ",");
             }
-            let setting = self.setting(rt);
+            let (letter, code) = SETTINGS[self.below(6) as usize];
+            self.sign(rt, letter);
+            self.sign(rt, "=");
+            let letter = Code::new(code).expect(rt, "a code");
+            let operand = self.operand(rt);
+            let setting = Setting { letter, operand };
             settings.try_push(setting).ok().expect(rt, "room");
         }
         settings
     }
 
-    /// Writes a setting.
-    fn setting(&mut self, rt: &impl Abort) -> Setting {
-        let (letter, code) = SETTINGS[self.sequence.below(6) as usize];
-        self.sign(rt, letter);
-        self.sign(rt, "=");
-        let operand = self.operand(rt);
-        let letter = Code::new(code).expect(rt, "a code");
-        Setting { letter, operand }
-    }
-
     /// Writes an order.
     fn order(&mut self, rt: &impl Abort) -> Statement {
-        let code = self.sequence.below(32);
+        let code = self.below(32);
         self.sign(rt, LETTERS[code as usize]);
-        let operand = if self.sequence.below(4) == 0 {
+        let operand = if self.below(4) == 0 {
             Operand::Number(0)
         } else {
             self.operand(rt)
         };
-        let length = self.sequence.below(2) == 1;
+        let length = self.below(2) == 1;
         self.sign(rt, if length { "D" } else { "F" });
         Statement::Order {
             function: Code::new(code as u8).expect(rt, "a code"),
@@ -249,10 +231,7 @@ impl Writer {
 
     /// Writes a statement that may have a label.
     fn placed(&mut self, rt: &impl Abort) -> Statement {
-        match self
-            .sequence
-            .below(if self.version.is_two() { 8 } else { 7 })
-        {
+        match self.below(if self.version.is_two() { 8 } else { 7 }) {
             0 | 1 => {
                 self.run(rt, "word");
                 let number = self.integer(rt, 65536, 131_071);
@@ -281,10 +260,10 @@ impl Writer {
     fn segment(&mut self, rt: &impl Abort) -> Statement {
         self.run(rt, "segment");
         let name = self.name(rt);
-        if self.sequence.below(2) == 0 {
+        if self.below(2) == 0 {
             return Statement::Segment { name, base: None };
         }
-        let base = self.sequence.below(1024);
+        let base = self.below(1024);
         self.run(rt, "at");
         self.number(rt, u64::from(base));
         Statement::Segment {
@@ -309,7 +288,7 @@ impl Writer {
 
     /// Writes the form of a line: its label and its statement.
     fn form(&mut self, rt: &impl Abort) -> (Option<Name>, Option<Statement>) {
-        match self.sequence.below(12) {
+        match self.below(12) {
             0 => (None, None),
             1 => (None, Some(self.segment(rt))),
             2 | 3 => (None, Some(self.fetch(rt))),
@@ -326,7 +305,7 @@ impl Writer {
             6 | 7 | 8 => {
                 let label = self.place_name(rt);
                 self.sign(rt, ":");
-                if self.sequence.below(4) == 0 {
+                if self.below(4) == 0 {
                     return (Some(label), None);
                 }
                 (Some(label), Some(self.placed(rt)))
@@ -335,32 +314,23 @@ impl Writer {
         }
     }
 
-    /// Writes what a line says: in the first line of version 2 this is the version.
-    fn content(&mut self, rt: &impl Abort, number: u32) -> (Option<Name>, Option<Statement>) {
-        if number == 1 && self.version.is_two() {
-            self.put(rt, " version\t02");
-            return (None, None);
-        }
-        self.form(rt)
-    }
-
-    /// Writes a line.
+    /// Writes a line. The first line of version 2 says the version.
     fn line(&mut self, rt: &impl Abort, number: u32) -> Line {
-        let (label, statement) = self.content(rt, number);
-        self.end(rt);
+        let (label, statement) = if number == 1 && self.version.is_two() {
+            self.put(rt, " version\t02");
+            (None, None)
+        } else {
+            self.form(rt)
+        };
+        let comment = COMMENTS[self.below(4) as usize];
+        self.put(rt, comment);
+        let end = LINE_ENDS[self.below(2) as usize];
+        self.put(rt, end);
         Line {
             number,
             label,
             statement,
         }
-    }
-
-    /// Writes the end of a line.
-    fn end(&mut self, rt: &impl Abort) {
-        let comment = COMMENTS[self.sequence.below(4) as usize];
-        self.put(rt, comment);
-        let end = LINE_ENDS[self.sequence.below(2) as usize];
-        self.put(rt, end);
     }
 }
 
@@ -373,7 +343,7 @@ fn printed(rt: &impl Abort, alloc: Global, source: u32) -> (String, Vec<Line>) {
     };
     let mut writer = Writer {
         text: String::new(alloc),
-        sequence: Sequence { last: source },
+        last: source,
         version,
     };
     let mut lines = Vec::new(alloc);

@@ -6,7 +6,6 @@ use ed_notation::{Item, spellable, text_of_items};
 use ed_words::Word;
 use std::alloc::Global;
 use std::process::Abort;
-use std::test::Fail;
 
 /// What is expected of a routine.
 #[derive(Clone, Copy)]
@@ -85,40 +84,19 @@ const SHEETS: [Sheet; 6] = [
 ];
 
 /// Adds the text of an item.
-fn add_item(rt: &impl Abort, alloc: Global, text: &mut Vec<u8>, item: Item) -> Result<(), Fail> {
+fn add_item(rt: &impl Abort, alloc: Global, text: &mut Vec<u8>, item: Item) {
     assert!(rt; spellable(&item));
-    text.extend_from_slice(&text_of_items(alloc, &[item])?)?;
-    Ok(())
+    let added = text_of_items(alloc, &[item]).expect(rt, "memory");
+    text.extend_from_slice(&added).expect(rt, "memory");
 }
 
-/// Adds the text of a routine's items, a line for each.
-fn add_items(
-    rt: &impl Abort,
-    alloc: Global,
-    text: &mut Vec<u8>,
-    routine: Routine,
-) -> Result<(), Fail> {
-    for place in 0..routine.length() {
-        add_item(rt, alloc, text, routine.item(place))?;
-    }
-    Ok(())
-}
-
-/// Checks the text of a routine's items.
-fn expect_text(rt: &impl Abort, alloc: Global, sheet: &Sheet) -> Result<(), Fail> {
+/// Checks the text of a routine's items, a line for each.
+fn expect_text(rt: &impl Abort, alloc: Global, routine: Routine, sheet: &Sheet) {
     let mut text = Vec::new(alloc);
-    let found = find(sheet.name).expect(rt, sheet.name);
-    add_items(rt, alloc, &mut text, found)?;
-    expect(rt, text.as_slice() == sheet.text.as_bytes(), sheet.name);
-    Ok(())
-}
-
-#[test]
-fn texts_as_they_are_punched(rt: HostRuntime) -> Result<(), Fail> {
-    for sheet in &SHEETS {
-        expect_text(&rt, rt.alloc(), sheet)?;
+    for place in 0..routine.length() {
+        add_item(rt, alloc, &mut text, routine.item(place));
     }
-    Ok(())
+    expect(rt, text.as_slice() == sheet.text.as_bytes(), sheet.name);
 }
 
 /// Whether a routine takes parameters of these letters, in this order.
@@ -132,23 +110,16 @@ fn has_parameters(routine: Routine, letters: &[u8]) -> bool {
     parameters.len() == letters.len()
 }
 
-/// Whether these are the places of a routine that change.
-fn has_working(routine: Routine, places: &[u16]) -> bool {
-    for place in 0..routine.length() {
-        if routine.is_working(place) != places.contains(&place) {
-            return false;
-        }
-    }
-    true
-}
-
-/// Checks what is read of a routine.
+/// Checks what is read of a routine: its name, its length, its parameters, and which of its places change.
 fn expect_routine(rt: &impl Abort, routine: Routine, sheet: &Sheet) {
     expect(rt, routine.name() == sheet.name, sheet.name);
     expect(rt, find(sheet.name) == Some(routine), sheet.name);
     expect(rt, routine.length() == sheet.length, sheet.name);
     expect(rt, has_parameters(routine, sheet.parameters), sheet.name);
-    expect(rt, has_working(routine, sheet.working), sheet.name);
+    for place in 0..routine.length() {
+        let changes = sheet.working.contains(&place);
+        expect(rt, routine.is_working(place) == changes, sheet.name);
+    }
 }
 
 #[test]
@@ -159,24 +130,21 @@ fn what_the_catalogue_says(rt: HostRuntime) {
         let routine = routine(index);
         let sheet = &SHEETS[usize::from(index)];
         expect_routine(&rt, routine, sheet);
+        expect_text(&rt, rt.alloc(), routine, sheet);
     }
 }
 
 /// The words of `newline` at 64.
 const NEWLINE: [u32; 7] = [114_694, 20_616, 37_002, 37_004, 0, 73_728, 98_304];
 
-/// Checks the words of a routine at 64, for parameters of seventeen ones.
-fn expect_words(rt: &impl Abort, routine: Routine, words: &[u32]) {
-    let parameters = [Word::new(131_071).expect(rt, "a word"); 6];
-    assert!(rt; usize::from(routine.length()) == words.len());
-    for place in 0..routine.length() {
-        let word = image_word(&routine, place, 64, &parameters).value();
-        assert!(rt; words.get(usize::from(place)) == Some(&word), "{place}");
-    }
-}
-
+/// The words of a routine at 64, for parameters of seventeen ones.
 #[test]
 fn words_at_a_base(rt: HostRuntime) {
     let newline = find("newline").expect(&rt, "a routine");
-    expect_words(&rt, newline, &NEWLINE);
+    let parameters = [Word::new(131_071).expect(&rt, "a word"); 6];
+    assert!(rt; usize::from(newline.length()) == NEWLINE.len());
+    for place in 0..newline.length() {
+        let word = image_word(&newline, place, 64, &parameters).value();
+        assert!(rt; NEWLINE.get(usize::from(place)) == Some(&word), "{place}");
+    }
 }

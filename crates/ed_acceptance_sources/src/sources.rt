@@ -3,9 +3,8 @@
 use crate::support::expect_of;
 use ed_syntax::SourceCause::{BadByte, LongLine, NotAStatement, NumberRange, TooManyLines};
 use ed_syntax::{SourceCause, SourceFault, parse};
-use std::alloc::{AllocError, Global};
+use std::alloc::Global;
 use std::process::Abort;
-use std::test::Fail;
 
 /// A text, and the number of its lines, or of the line of its first fault.
 type Row<'a> = (&'a [u8], u32);
@@ -162,6 +161,14 @@ const NUMBERS_OUT_OF_RANGE: &[Row] = &[
     (b"segment m at 4294967296", 1),
 ];
 
+/// The texts that are read, and those with a first fault, by its cause.
+const TEXTS: [(Option<SourceCause>, &[Row]); 4] = [
+    (None, READ),
+    (Some(BadByte), BAD_BYTES),
+    (Some(NotAStatement), NO_STATEMENTS),
+    (Some(NumberRange), NUMBERS_OUT_OF_RANGE),
+];
+
 /// Lines that have a fault.
 const FAULTY: [(&[u8], SourceCause); 4] = [
     (b"\x01", BadByte),
@@ -186,14 +193,6 @@ fn expect_each(rt: &impl Abort, alloc: Global, fault: Option<SourceCause>, rows:
     }
 }
 
-/// Two lines as one text.
-fn joined(alloc: Global, first: &[u8], second: &[u8]) -> Result<Vec<u8>, AllocError> {
-    let mut text = first.to_vec(alloc)?;
-    text.push(b'\n')?;
-    text.extend_from_slice(second)?;
-    Ok(text)
-}
-
 /// Checks that the text of two lines has a first fault on a line.
 fn expect_fault(
     rt: &impl Abort,
@@ -201,19 +200,18 @@ fn expect_fault(
     lines: (&[u8], &[u8]),
     line: u32,
     cause: SourceCause,
-) -> Result<(), Fail> {
-    let text = joined(alloc, lines.0, lines.1)?;
+) {
+    let mut text = lines.0.to_vec(alloc).expect(rt, "memory");
+    text.push(b'\n').expect(rt, "memory");
+    text.extend_from_slice(lines.1).expect(rt, "memory");
     expect_each(rt, alloc, Some(cause), &[(&text, line)]);
-    Ok(())
 }
 
 #[test]
 fn lines_have_a_form_or_their_first_fault(rt: HostRuntime) {
-    let alloc = rt.alloc();
-    expect_each(&rt, alloc, None, READ);
-    expect_each(&rt, alloc, Some(BadByte), BAD_BYTES);
-    expect_each(&rt, alloc, Some(NotAStatement), NO_STATEMENTS);
-    expect_each(&rt, alloc, Some(NumberRange), NUMBERS_OUT_OF_RANGE);
+    for (fault, rows) in &TEXTS {
+        expect_each(&rt, rt.alloc(), *fault, rows);
+    }
 }
 
 #[test]
@@ -242,12 +240,11 @@ fn the_most_bytes_and_lines(rt: HostRuntime) {
 }
 
 #[test]
-fn the_first_of_two_faulty_lines(rt: HostRuntime) -> Result<(), Fail> {
+fn the_first_of_two_faulty_lines(rt: HostRuntime) {
     for (first, cause) in &FAULTY {
-        expect_fault(&rt, rt.alloc(), (b"Z F", first), 2, *cause)?;
+        expect_fault(&rt, rt.alloc(), (b"Z F", first), 2, *cause);
         for (second, _) in &FAULTY {
-            expect_fault(&rt, rt.alloc(), (first, second), 1, *cause)?;
+            expect_fault(&rt, rt.alloc(), (first, second), 1, *cause);
         }
     }
-    Ok(())
 }

@@ -5,7 +5,6 @@ use ed_syntax::{Program, parse};
 use ed_writer::{WriteFault, text_of_program};
 use std::alloc::Global;
 use std::process::Abort;
-use std::test::Fail;
 
 /// Lines of version 2 with blanks, zeros and comments wherever these may stand, and what is written for each.
 const FORMS: [(&str, &str); 27] = [
@@ -76,41 +75,34 @@ fn expect_written(rt: &impl Abort, alloc: Global, source: &str, wanted: &str) {
 }
 
 /// Checks how a line is written.
-fn expect_line(rt: &impl Abort, alloc: Global, line: &str, wanted: &str) -> Result<(), Fail> {
-    let source = format!(in alloc; "version  02\n{line}")?;
-    let text = format!(in alloc; "version 2\n{wanted}\n")?;
+fn expect_line(rt: &impl Abort, alloc: Global, line: &str, wanted: &str) {
+    let source = format!(in alloc; "version  02\n{line}").expect(rt, "memory");
+    let text = format!(in alloc; "version 2\n{wanted}\n").expect(rt, "memory");
     expect_written(rt, alloc, &source, &text);
-    Ok(())
 }
 
 #[test]
-fn forms_are_written(rt: HostRuntime) -> Result<(), Fail> {
+fn forms_and_examples_are_written(rt: HostRuntime) {
     for (line, wanted) in &FORMS {
-        expect_line(&rt, rt.alloc(), line, wanted)?;
+        expect_line(&rt, rt.alloc(), line, wanted);
     }
-    Ok(())
-}
-
-#[test]
-fn examples_are_written(rt: HostRuntime) {
     for source in &EXAMPLES {
         expect_written(&rt, rt.alloc(), source, source);
     }
 }
 
 #[test]
-fn long_lines_are_not_written(rt: HostRuntime) -> Result<(), Fail> {
+fn long_lines_are_not_written(rt: HostRuntime) {
     let alloc = rt.alloc();
-    let longest = format!(in alloc; "\ntext \"{ROWS}\"\n")?;
+    let longest = format!(in alloc; "\ntext \"{ROWS}\"\n").expect(&rt, "memory");
     assert!(rt; rewritten(&rt, alloc, &longest).is_ok());
-    let longer = format!(in alloc; "\ntext\"{ROWS}V\"\n")?;
+    let longer = format!(in alloc; "\ntext\"{ROWS}V\"\n").expect(&rt, "memory");
     let fault = rewritten(&rt, alloc, &longer).err();
     assert!(rt; matches!(fault, Some(WriteFault::LongLine { line: 2 })));
-    Ok(())
 }
 
 #[test]
-fn version_needs_a_line(rt: HostRuntime) -> Result<(), Fail> {
+fn version_needs_a_line(rt: HostRuntime) {
     let alloc = rt.alloc();
     let program = Program {
         version: 2,
@@ -118,5 +110,4 @@ fn version_needs_a_line(rt: HostRuntime) -> Result<(), Fail> {
     };
     let fault = text_of_program(alloc, &program).err();
     assert!(rt; matches!(fault, Some(WriteFault::NoVersionLine)));
-    Ok(())
 }
