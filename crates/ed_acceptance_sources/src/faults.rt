@@ -141,7 +141,7 @@ fn expect_outcome(
 ) {
     let text = format!(in alloc; "version 2\nsegment m\na: Z F\n{first}{second}enter m\n");
     let text = text.expect(rt, "memory");
-    let fault = fault_of(alloc, Size::Full, text.as_bytes());
+    let fault = fault_of(alloc, Size::Full, &text);
     let told = match wanted {
         Some(cause) => is_at(fault, line, cause),
         None => fault.is_none(),
@@ -149,14 +149,18 @@ fn expect_outcome(
     expect(rt, told, &text);
 }
 
-/// The second of two lines has its fault alone and before each pair of lines.
+/// Checks that the second of two lines has a fault, alone and before each pair of lines.
+fn expect_alone_and_first(rt: &impl Abort, alloc: Global, lines: &str, cause: SourceCause) {
+    expect_outcome(rt, alloc, lines, "", 5, Some(cause));
+    for others in &FAULTY {
+        expect_outcome(rt, alloc, lines, others, 5, Some(cause));
+    }
+}
+
 #[test]
 fn each_fault_alone_and_two_on_two_lines(rt: HostRuntime) {
     for (lines, cause) in FAULTY.iter().zip(&CAUSES) {
-        expect_outcome(&rt, rt.alloc(), lines, "", 5, Some(*cause));
-        for others in &FAULTY {
-            expect_outcome(&rt, rt.alloc(), lines, others, 5, Some(*cause));
-        }
+        expect_alone_and_first(&rt, rt.alloc(), lines, *cause);
     }
 }
 

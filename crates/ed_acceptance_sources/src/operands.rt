@@ -149,7 +149,7 @@ fn expect_item(rt: &impl Abort, alloc: Global, frame: &Frame, operand: &str, ite
     let text = source_of(rt, alloc, frame, operand);
     let wanted = format!(in alloc; "{}{item}{}", frame.punched_head, frame.punched_tail);
     let wanted = wanted.expect(rt, "memory");
-    let tape = linked(rt, alloc, Size::Full, text.as_bytes())
+    let tape = linked(rt, alloc, Size::Full, &text)
         .text()
         .expect(rt, "memory");
     expect(rt, tape.starts_with(wanted.as_bytes()), &text);
@@ -166,7 +166,7 @@ fn punched(rt: &impl Abort, alloc: Global, frame: &Frame, cases: &[(&str, &str)]
 fn refused(rt: &impl Abort, alloc: Global, frame: &Frame, cause: SourceCause, operands: &[&str]) {
     for operand in operands {
         let text = source_of(rt, alloc, frame, operand);
-        let fault = fault_of(alloc, Size::Full, text.as_bytes());
+        let fault = fault_of(alloc, Size::Full, &text);
         expect(rt, is_at(fault, 3, cause), &text);
     }
 }

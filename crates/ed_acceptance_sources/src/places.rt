@@ -2,7 +2,7 @@
 
 ghost use Rattle.std.specs.Prelude.{◌≤◌, length};
 
-use crate::support::{expect, expect_of, is_at};
+use crate::support::{expect, is_at};
 use ed_symbols::{Places, resolve};
 use ed_syntax::SourceCause::{self, AddressRange, LabelTwice, LabelUnknown};
 use ed_syntax::{Name, parse};
@@ -10,11 +10,11 @@ use std::alloc::Global;
 use std::process::Abort;
 
 /// The program of seven lines that prints A.
-const FIRST: &[u8] = b"segment main\nO mark F\nO letter F\nZ F\nmark: * F\nletter: A F\nenter main";
+const FIRST: &str = "segment main\nO mark F\nO letter F\nZ F\nmark: * F\nletter: A F\nenter main";
 
 /// A source with a routine, a long word and a text, all at odd locations.
-const ODD: &[u8] =
-    b"version 2\nsegment m\n_x: Z F\nuse newline as n\nsegment s\n_x: long 1\nq: text \"ABC\"\nr: word 1";
+const ODD: &str =
+    "version 2\nsegment m\n_x: Z F\nuse newline as n\nsegment s\n_x: long 1\nq: text \"ABC\"\nr: word 1";
 
 /// What is asked about a line of a source, and about a name.
 #[derive(Clone, Copy)]
@@ -121,14 +121,14 @@ const WHOLE_SEEN: [Row; 1] = [(1, "n", Some(58))];
 const UNSEEN: [Row; 3] = [(1, "_x", None), (4, "_x", None), (8, "other", None)];
 
 /// What is asked, a source, the question, and its answers.
-type Asked = (&'static str, &'static [u8], Question, &'static [Row]);
+type Asked = (&'static str, &'static str, Question, &'static [Row]);
 
 const ASKED: [Asked; 12] = [
     ("where lines stand", FIRST, Place, &LINES_OF_FIRST),
     ("where lines stand", ODD, Place, &LINES_OF_ODD),
     (
         "where lines stand",
-        b"segment a at 1023\nZ F\nZ F",
+        "segment a at 1023\nZ F\nZ F",
         Place,
         &[(3, "", Some(1024))],
     ),
@@ -136,7 +136,7 @@ const ASKED: [Asked; 12] = [
     ("where names stand", ODD, PlaceOf, &NAMES_OF_ODD),
     (
         "where names stand",
-        b"a: Z F\na: Z F",
+        "a: Z F\na: Z F",
         PlaceOf,
         &[(1, "a", Some(56))],
     ),
@@ -154,46 +154,46 @@ const ASKED: [Asked; 12] = [
 ];
 
 /// Sources whose names have no fault.
-const FAULTLESS: [&[u8]; 8] = [
+const FAULTLESS: [&str; 8] = [
     FIRST,
     ODD,
-    b"segment m\nsegment s at 20\nZ F\nenter m",
-    b"segment m at 1023\nA m F",
-    b"A m-57 F\nsegment m",
-    b"A 32767 F",
-    b"version 2\nsegment m\n_c: A F\nsegment t\n_c: A _c F",
-    b"version 2\nsegment m\na: Z F\nb: Z F\nP a+b F\nP b-a F",
+    "segment m\nsegment s at 20\nZ F\nenter m",
+    "segment m at 1023\nA m F",
+    "A m-57 F\nsegment m",
+    "A 32767 F",
+    "version 2\nsegment m\n_c: A F\nsegment t\n_c: A _c F",
+    "version 2\nsegment m\na: Z F\nb: Z F\nP a+b F\nP b-a F",
 ];
 
 /// Sources that define a name twice, and the lines of these faults.
-const TWICE: [(&[u8], u32); 5] = [
-    (b"a: Z F\na: Z F", 2),
-    (b"segment a\na: Z F", 2),
-    (b"use newline as a\nsegment a", 2),
-    (b"segment m\nm: A x F", 2),
-    (b"version 2\nsegment m\n_c: A F\n_c: A F", 4),
+const TWICE: [(&str, u32); 5] = [
+    ("a: Z F\na: Z F", 2),
+    ("segment a\na: Z F", 2),
+    ("use newline as a\nsegment a", 2),
+    ("segment m\nm: A x F", 2),
+    ("version 2\nsegment m\n_c: A F\n_c: A F", 4),
 ];
 
 /// Sources with an unknown name.
-const UNKNOWN: [(&[u8], u32); 6] = [
-    (b"segment m\nA nowhere F\nsegment s at 20\nZ F\nenter m", 2),
-    (b"segment m\nA x F\nm: Z F", 2),
-    (b"enter m", 1),
-    (b"use newline as n with H=x", 1),
-    (b"version 2\nsegment m\n_c: A F\nsegment t\nO _c F", 5),
-    (b"version 2\nO _c F\n_c: A F", 2),
+const UNKNOWN: [(&str, u32); 6] = [
+    ("segment m\nA nowhere F\nsegment s at 20\nZ F\nenter m", 2),
+    ("segment m\nA x F\nm: Z F", 2),
+    ("enter m", 1),
+    ("use newline as n with H=x", 1),
+    ("version 2\nsegment m\n_c: A F\nsegment t\nO _c F", 5),
+    ("version 2\nO _c F\n_c: A F", 2),
 ];
 
 /// Sources with an address out of its range.
-const OUT_OF_RANGE: [(&[u8], u32); 4] = [
-    (b"use newline as n with H=n+1000", 1),
-    (b"segment m at 1023\nA m+1 F", 2),
-    (b"A m-58 F\nsegment m", 1),
-    (b"version 2\nsegment m\na: Z F\nb: Z F\nP a-b F", 5),
+const OUT_OF_RANGE: [(&str, u32); 4] = [
+    ("use newline as n with H=n+1000", 1),
+    ("segment m at 1023\nA m+1 F", 2),
+    ("A m-58 F\nsegment m", 1),
+    ("version 2\nsegment m\na: Z F\nb: Z F\nP a-b F", 5),
 ];
 
 /// The sources with a fault, by its cause.
-const FAULTS: [(SourceCause, &[(&[u8], u32)]); 3] = [
+const FAULTS: [(SourceCause, &[(&str, u32)]); 3] = [
     (LabelTwice, &TWICE),
     (LabelUnknown, &UNKNOWN),
     (AddressRange, &OUT_OF_RANGE),
@@ -211,8 +211,8 @@ const DEFINED: [(&str, u32, Option<u32>); 7] = [
 ];
 
 /// The locations and names of a source.
-fn resolved(rt: &impl Abort, alloc: Global, text: &[u8]) -> Places {
-    let program = parse(alloc, text).ok().expect(rt, "a program");
+fn resolved(rt: &impl Abort, alloc: Global, text: &str) -> Places {
+    let program = parse(alloc, text.as_bytes()).ok().expect(rt, "a program");
     resolve(alloc, &program).ok().expect(rt, "its names")
 }
 
@@ -238,8 +238,8 @@ fn answer_of(places: &Places, line: u32, question: Question, name: &str) -> Opti
 }
 
 /// The answer to a question about a line of a source.
-fn answer(alloc: Global, text: &[u8], line: u32, question: Question, name: &str) -> Option<u32> {
-    let program = parse(alloc, text).ok()?;
+fn answer(alloc: Global, text: &str, line: u32, question: Question, name: &str) -> Option<u32> {
+    let program = parse(alloc, text.as_bytes()).ok()?;
     let places = resolve(alloc, &program).ok()?;
     if line == 0 || program.lines.len() < line as usize {
         return None;
@@ -268,12 +268,12 @@ fn names_with_a_fault_and_without(rt: HostRuntime) {
     for (cause, rows) in &FAULTS {
         for (text, line) in *rows {
             let fault = resolved(&rt, rt.alloc(), text).fault();
-            expect_of(&rt, is_at(fault, *line, *cause), text);
+            expect(&rt, is_at(fault, *line, *cause), text);
         }
     }
     for text in &FAULTLESS {
         let fault = resolved(&rt, rt.alloc(), text).fault();
-        expect_of(&rt, fault.is_none(), text);
+        expect(&rt, fault.is_none(), text);
     }
 }
 

@@ -200,15 +200,20 @@ impl Writer {
                 }
                 self.sign(rt, ",");
             }
-            let (letter, code) = SETTINGS[self.below(6) as usize];
-            self.sign(rt, letter);
-            self.sign(rt, "=");
-            let letter = Code::new(code).expect(rt, "a code");
-            let operand = self.operand(rt);
-            let setting = Setting { letter, operand };
+            let setting = self.setting(rt);
             settings.try_push(setting).ok().expect(rt, "room");
         }
         settings
+    }
+
+    /// Writes a setting.
+    fn setting(&mut self, rt: &impl Abort) -> Setting {
+        let (letter, code) = SETTINGS[self.below(6) as usize];
+        self.sign(rt, letter);
+        self.sign(rt, "=");
+        let operand = self.operand(rt);
+        let letter = Code::new(code).expect(rt, "a code");
+        Setting { letter, operand }
     }
 
     /// Writes an order.

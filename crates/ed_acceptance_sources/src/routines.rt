@@ -137,14 +137,18 @@ fn what_the_catalogue_says(rt: HostRuntime) {
 /// The words of `newline` at 64.
 const NEWLINE: [u32; 7] = [114_694, 20_616, 37_002, 37_004, 0, 73_728, 98_304];
 
-/// The words of a routine at 64, for parameters of seventeen ones.
+/// Checks the words of a routine at 64, for parameters of seventeen ones.
+fn expect_words(rt: &impl Abort, routine: Routine, words: &[u32]) {
+    let parameters = [Word::new(131_071).expect(rt, "a word"); 6];
+    assert!(rt; usize::from(routine.length()) == words.len());
+    for place in 0..routine.length() {
+        let word = image_word(&routine, place, 64, &parameters).value();
+        assert!(rt; words.get(usize::from(place)) == Some(&word), "{place}");
+    }
+}
+
 #[test]
 fn words_at_a_base(rt: HostRuntime) {
     let newline = find("newline").expect(&rt, "a routine");
-    let parameters = [Word::new(131_071).expect(&rt, "a word"); 6];
-    assert!(rt; usize::from(newline.length()) == NEWLINE.len());
-    for place in 0..newline.length() {
-        let word = image_word(&newline, place, 64, &parameters).value();
-        assert!(rt; NEWLINE.get(usize::from(place)) == Some(&word), "{place}");
-    }
+    expect_words(&rt, newline, &NEWLINE);
 }

@@ -7,16 +7,16 @@ use std::alloc::Global;
 use std::process::Abort;
 
 /// A source, linked for a machine of a size.
-pub fn linked(rt: &impl Abort, alloc: Global, size: Size, text: &[u8]) -> Linked {
-    let program = parse(alloc, text).ok().expect(rt, "a program");
+pub fn linked(rt: &impl Abort, alloc: Global, size: Size, text: &str) -> Linked {
+    let program = parse(alloc, text.as_bytes()).ok().expect(rt, "a program");
     link(alloc, size, &program)
         .ok()
         .expect(rt, "a linked program")
 }
 
 /// The first fault of a source, of form or of meaning.
-pub fn fault_of(alloc: Global, size: Size, text: &[u8]) -> Option<SourceFault> {
-    match parse(alloc, text) {
+pub fn fault_of(alloc: Global, size: Size, text: &str) -> Option<SourceFault> {
+    match parse(alloc, text.as_bytes()) {
         Ok(program) => link(alloc, size, &program).err(),
         Err(fault) => Some(fault),
     }
@@ -37,10 +37,5 @@ pub fn is_at(fault: Option<SourceFault>, line: u32, cause: SourceCause) -> bool 
 
 /// Checks that something holds. A failure shows the name of what was checked.
 pub fn expect(rt: &impl Abort, told: bool, name: &str) {
-    assert!(rt; told, "{name}");
-}
-
-/// Checks what is told of a text.
-pub fn expect_of(rt: &impl Abort, told: bool, text: &[u8]) {
-    assert!(rt; told, "{text:?}");
+    assert!(rt; told, "{name:?}");
 }
