@@ -12,7 +12,6 @@ use ed_routines::Back;
 use ed_words::{Size, Word};
 use std::alloc::Global;
 use std::process::Abort;
-use std::test::Fail;
 
 /// The locations of the routine, its caller and its three words.
 #[derive(Clone, Copy)]
@@ -104,7 +103,7 @@ fn is_division(machine: &Machine, base: u16, high: u16, low: u16, by: u16) -> bo
 }
 
 /// Adds the items that set H, N and M to three locations and place what follows from a base upwards.
-fn add_base(tape: &mut String, site: &Site) -> Result<(), Fail> {
+fn add_base(rt: &impl Abort, tape: &mut String, site: &Site) {
     let Site {
         base,
         high,
@@ -112,7 +111,7 @@ fn add_base(tape: &mut String, site: &Site) -> Result<(), Fail> {
         by,
         ..
     } = *site;
-    Ok(write!(tape, "T45KP{high}FP{low}FP{by}FT{base}KGK")?)
+    write!(tape, "T45KP{high}FP{low}FP{by}FT{base}KGK").expect(rt, "memory");
 }
 
 /// Adds the items of the routine, of its numbers and of a caller.
@@ -123,25 +122,19 @@ fn add_call(
     site: &Site,
     number: u32,
     divisor: u32,
-) -> Result<(), Fail> {
-    add_base(tape, site)?;
-    add_routine(rt, alloc, tape, routine(DIVIDE))?;
-    add_number(tape, site.high, number / 65536)?;
-    add_number(tape, site.low, number % 65536)?;
-    add_number(tape, site.by, divisor)?;
-    add_caller(tape, site.caller, site.base)
+) {
+    add_base(rt, tape, site);
+    add_routine(rt, alloc, tape, routine(DIVIDE));
+    add_number(rt, tape, site.high, number / 65536);
+    add_number(rt, tape, site.low, number % 65536);
+    add_number(rt, tape, site.by, divisor);
+    add_caller(rt, tape, site.caller, site.base);
 }
 
 /// A machine that has the routine and has just called it with these numbers.
-fn called(
-    rt: &impl Abort,
-    alloc: Global,
-    site: &Site,
-    number: u32,
-    divisor: u32,
-) -> Result<Machine, Fail> {
+fn called(rt: &impl Abort, alloc: Global, site: &Site, number: u32, divisor: u32) -> Machine {
     let mut tape = String::new(alloc);
-    add_call(rt, alloc, &mut tape, site, number, divisor)?;
+    add_call(rt, alloc, &mut tape, site, number, divisor);
     entered(rt, alloc, site.size, &tape)
 }
 
@@ -191,26 +184,19 @@ fn wrong_in(
 }
 
 /// Checks a division at a site.
-fn expect_division(
-    rt: &impl Abort,
-    alloc: Global,
-    site: &Site,
-    division: &Division,
-) -> Result<(), Fail> {
+fn expect_division(rt: &impl Abort, alloc: Global, site: &Site, division: &Division) {
     let (number, divisor, ..) = *division;
-    let mut machine = called(rt, alloc, site, number, divisor)?;
+    let mut machine = called(rt, alloc, site, number, divisor);
     let back = divide(rt, &mut machine, site);
     let wrong = wrong_in(rt, &machine, site, back, division);
     expect_right(rt, wrong, number);
-    Ok(())
 }
 
 #[test]
-fn numbers_are_divided(rt: HostRuntime) -> Result<(), Fail> {
+fn numbers_are_divided(rt: HostRuntime) {
     for site in &SITES {
         for division in &DIVISIONS {
-            expect_division(&rt, rt.alloc(), site, division)?;
+            expect_division(&rt, rt.alloc(), site, division);
         }
     }
-    Ok(())
 }

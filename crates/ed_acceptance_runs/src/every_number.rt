@@ -8,7 +8,6 @@ use ed_machine::{Machine, Paper};
 use ed_routines::print_integer;
 use std::alloc::Global;
 use std::process::Abort;
-use std::test::Fail;
 
 /// The base of the routine, and the location of the number.
 const BASE: u16 = 60;
@@ -60,25 +59,18 @@ fn wrong_in(codes: &[Code], number: u32, orders: u64) -> &'static str {
 }
 
 /// Prints the number of a machine that counts, checks what is printed, and goes on to the next call.
-fn expect_printed(
-    rt: &impl Abort,
-    alloc: Global,
-    machine: &mut Machine,
-    number: u32,
-) -> Result<(), Fail> {
-    let mut paper = Paper::new(alloc, 6)?;
+fn expect_printed(rt: &impl Abort, alloc: Global, machine: &mut Machine, number: u32) {
+    let mut paper = Paper::new(alloc, 6).expect(rt, "memory");
     let orders = print(rt, machine, number, &mut paper);
     let wrong = wrong_in(paper.codes(), number, orders);
     expect_right(rt, wrong, number);
     count(rt, machine);
-    Ok(())
 }
 
 #[test]
-fn every_17th_number_is_printed(rt: HostRuntime) -> Result<(), Fail> {
-    let mut machine = counting(&rt, rt.alloc(), PRINT, BASE, H)?;
+fn every_17th_number_is_printed(rt: HostRuntime) {
+    let mut machine = counting(&rt, rt.alloc(), PRINT, BASE, H);
     for k in 0..NUMBERS {
-        expect_printed(&rt, rt.alloc(), &mut machine, k * DISTANCE)?;
+        expect_printed(&rt, rt.alloc(), &mut machine, k * DISTANCE);
     }
-    Ok(())
 }

@@ -3,7 +3,6 @@
 use crate::support::{LOOP, expect, session_on};
 use ed_stepper::{BackFault, MoveEnd, Moved, Session};
 use std::process::Abort;
-use std::test::Fail;
 
 /// Whether a move left the session at a location, after a number of orders.
 fn is_at(moved: &Moved, at: u16, done: u64) -> bool {
@@ -25,10 +24,9 @@ fn goes_on_and_back(rt: &impl Abort, session: &mut Session) {
 /// The latest copy is that after 1,966,080 orders, 30 times 65,536, so each move back obeys at most 2,000 orders. From
 /// the start, or from the earliest copy, they would be 4,000,000,000 in all, which no test has the time for.
 #[test]
-fn far_on_and_often_back(rt: HostRuntime) -> Result<(), Fail> {
-    let mut session = session_on(&rt, rt.alloc(), LOOP, 2_000_000)?;
+fn far_on_and_often_back(rt: HostRuntime) {
+    let mut session = session_on(&rt, rt.alloc(), LOOP, 2_000_000);
     goes_on_and_back(&rt, &mut session);
-    Ok(())
 }
 
 /// Checks that a session which has obeyed this number of orders doesn't go back so far.
@@ -55,8 +53,7 @@ fn goes_back_to_the_start(rt: &impl Abort, session: &mut Session) {
 }
 
 #[test]
-fn a_session_goes_back_to_its_start_and_no_further(rt: HostRuntime) -> Result<(), Fail> {
-    let mut session = session_on(&rt, rt.alloc(), LOOP, 1_000)?;
+fn a_session_goes_back_to_its_start_and_no_further(rt: HostRuntime) {
+    let mut session = session_on(&rt, rt.alloc(), LOOP, 1_000);
     goes_back_to_the_start(&rt, &mut session);
-    Ok(())
 }

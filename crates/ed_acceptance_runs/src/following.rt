@@ -8,7 +8,6 @@ use ed_machine::{Machine, Paper, Turn};
 use ed_words::Size;
 use std::alloc::Global;
 use std::process::Abort;
-use std::test::Fail;
 
 /// The base of the routine. The guest begins at 60, its last order is at 89 and its data begin at 90.
 pub const BASE: u16 = 100;
@@ -24,30 +23,24 @@ fn add_program(
     guest: &str,
     rows: &str,
     entry: u16,
-) -> Result<(), Fail> {
-    write!(tape, "T45KP60FT{BASE}KGK")?;
-    add_routine(rt, alloc, tape, routine(CHECK))?;
+) {
+    write!(tape, "T45KP60FT{BASE}KGK").expect(rt, "memory");
+    add_routine(rt, alloc, tape, routine(CHECK));
     write!(
         tape,
         "T60K{guest}T89KZFP1DZ5FGFC9DPFPFP50FPDE{entry}KPF{rows}"
-    )?;
-    Ok(())
+    )
+    .expect(rt, "memory");
 }
 
 /// A machine at the entry to a program that has the routine and the guest, with rows left on the tape.
-pub fn entered(
-    rt: &impl Abort,
-    alloc: Global,
-    guest: &str,
-    rows: &str,
-    entry: u16,
-) -> Result<Machine, Fail> {
+pub fn entered(rt: &impl Abort, alloc: Global, guest: &str, rows: &str, entry: u16) -> Machine {
     let mut tape = String::new(alloc);
-    add_program(rt, alloc, &mut tape, guest, rows, entry)?;
-    let codes = tape_of_text(alloc, tape.as_bytes())?;
-    let mut machine = Machine::cleared_of(alloc, Size::Full)?;
+    add_program(rt, alloc, &mut tape, guest, rows, entry);
+    let codes = tape_of_text(alloc, tape.as_bytes()).expect(rt, "a tape");
+    let mut machine = Machine::cleared_of(alloc, Size::Full).expect(rt, "memory");
     start(rt, &mut machine, codes);
-    Ok(machine)
+    machine
 }
 
 /// One turn of the routine, if it is at the start of one and can obey its guest's order.
@@ -153,10 +146,10 @@ fn guest_on(
     guest: &str,
     rows: &str,
     entry: u16,
-) -> Result<(Machine, Paper), Fail> {
-    let paper = Paper::new(alloc, 1200)?;
-    let machine = entered(rt, alloc, guest, rows, entry)?;
-    Ok((machine, paper))
+) -> (Machine, Paper) {
+    let paper = Paper::new(alloc, 1200).expect(rt, "memory");
+    let machine = entered(rt, alloc, guest, rows, entry);
+    (machine, paper)
 }
 
 /// How a guest that is checked ends, compared order by order with the same program alone.
@@ -176,8 +169,8 @@ fn end_beside(
 }
 
 /// Compares a guest order by order, with rows left on its tape, with the same program alone.
-pub fn follow(rt: &impl Abort, alloc: Global, guest: &str, rows: &str) -> Result<End, Fail> {
-    let (mut checked, mut paper) = guest_on(rt, alloc, guest, rows, BASE)?;
-    let (mut plain, mut wanted) = guest_on(rt, alloc, guest, rows, 60)?;
-    Ok(end_beside(rt, &mut checked, &mut paper, &mut plain, &mut wanted))
+pub fn follow(rt: &impl Abort, alloc: Global, guest: &str, rows: &str) -> End {
+    let (mut checked, mut paper) = guest_on(rt, alloc, guest, rows, BASE);
+    let (mut plain, mut wanted) = guest_on(rt, alloc, guest, rows, 60);
+    end_beside(rt, &mut checked, &mut paper, &mut plain, &mut wanted)
 }

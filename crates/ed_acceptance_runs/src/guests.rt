@@ -4,7 +4,6 @@ use crate::following::{BASE, entered, follow};
 use crate::support::expect;
 use std::alloc::Global;
 use std::process::Abort;
-use std::test::Fail;
 
 /// Orders that set the accumulator: to 0, to all 71 digits 1, to the least significant two digits alone, and to a
 /// positive and a negative number of many digits.
@@ -53,56 +52,40 @@ const GUESTS: [(&str, &str, &str, u32); 16] = [
 
 /// The guest's accumulator is kept in the words 60 to 65 of the routine.
 #[test]
-fn a_guest_begins_with_a_clear_accumulator(rt: HostRuntime) -> Result<(), Fail> {
-    let machine = entered(&rt, rt.alloc(), "ZF", "", BASE)?;
+fn a_guest_begins_with_a_clear_accumulator(rt: HostRuntime) {
+    let machine = entered(&rt, rt.alloc(), "ZF", "", BASE);
     for place in 60..66u16 {
         assert!(rt; machine.word(BASE + place).value() == 0, "place {place}");
     }
-    Ok(())
 }
 
 /// Checks how a guest ends, with rows left on its tape.
-fn expect_end(
-    rt: &impl Abort,
-    alloc: Global,
-    guest: &str,
-    rows: &str,
-    end: (&str, u32),
-) -> Result<(), Fail> {
-    let (how, orders) = follow(rt, alloc, guest, rows)?;
+fn expect_end(rt: &impl Abort, alloc: Global, guest: &str, rows: &str, end: (&str, u32)) {
+    let (how, orders) = follow(rt, alloc, guest, rows);
     let (wanted, count) = end;
     expect(rt, how == wanted, guest);
     expect(rt, orders == count, guest);
-    Ok(())
 }
 
 #[test]
-fn guests_come_to_their_ends(rt: HostRuntime) -> Result<(), Fail> {
+fn guests_come_to_their_ends(rt: HostRuntime) {
     for (guest, rows, how, orders) in &GUESTS {
-        expect_end(&rt, rt.alloc(), guest, rows, (how, *orders))?;
+        expect_end(&rt, rt.alloc(), guest, rows, (how, *orders));
     }
-    Ok(())
 }
 
 /// Checks that a guest stops after an order, before which other orders set the accumulator.
-fn expect_stop(
-    rt: &impl Abort,
-    alloc: Global,
-    before: &str,
-    order: &str,
-    orders: u32,
-) -> Result<(), Fail> {
-    let guest = format!(in alloc; "{before}{order}ZFZF")?;
-    expect_end(rt, alloc, &guest, "9", ("stopped", orders))
+fn expect_stop(rt: &impl Abort, alloc: Global, before: &str, order: &str, orders: u32) {
+    let guest = format!(in alloc; "{before}{order}ZFZF").expect(rt, "memory");
+    expect_end(rt, alloc, &guest, "9", ("stopped", orders));
 }
 
 #[test]
-fn each_order_is_checked(rt: HostRuntime) -> Result<(), Fail> {
+fn each_order_is_checked(rt: HostRuntime) {
     for row in &ACCUMULATORS {
         let (before, count) = *row;
         for order in &ORDERS {
-            expect_stop(&rt, rt.alloc(), before, order, count + 2)?;
+            expect_stop(&rt, rt.alloc(), before, order, count + 2);
         }
     }
-    Ok(())
 }

@@ -3,7 +3,7 @@
 use crate::support::expect;
 use ed_stepper::bad_line;
 use std::alloc::Global;
-use std::test::Fail;
+use std::process::Abort;
 
 /// Lines of a script, at both ends of their ranges, and with spaces between all parts.
 const LINES: [&str; 30] = [
@@ -91,19 +91,17 @@ const OTHERS: [&str; 47] = [
 ];
 
 #[test]
-fn lines_of_a_script(rt: HostRuntime) -> Result<(), Fail> {
+fn lines_of_a_script(rt: HostRuntime) {
     for line in &LINES {
         expect(&rt, bad_line(line.as_bytes()).is_none(), line);
     }
-    Ok(())
 }
 
 #[test]
-fn lines_that_are_none(rt: HostRuntime) -> Result<(), Fail> {
+fn lines_that_are_none(rt: HostRuntime) {
     for line in &OTHERS {
         expect(&rt, bad_line(line.as_bytes()) == Some(1), line);
     }
-    Ok(())
 }
 
 /// Scripts, and their first lines that are no commands.
@@ -114,30 +112,28 @@ const SCRIPTS: [(&str, u32); 3] = [
 ];
 
 #[test]
-fn the_first_bad_line_is_reported(rt: HostRuntime) -> Result<(), Fail> {
+fn the_first_bad_line_is_reported(rt: HostRuntime) {
     assert!(rt; bad_line(b"go 1\r\nto 5\r\n\r\nentry").is_none());
     for row in &SCRIPTS {
         let (script, line) = *row;
         expect(&rt, bad_line(script.as_bytes()) == Some(line), script);
     }
-    Ok(())
 }
 
 /// The first bad line of a script with this number of empty lines.
-fn bad_line_of_empty(alloc: Global, lines: u32) -> Result<Option<u32>, Fail> {
+fn bad_line_of_empty(rt: &impl Abort, alloc: Global, lines: u32) -> Option<u32> {
     let mut script = Vec::new(alloc);
     for _ in 0..lines {
-        script.push(b'\n')?;
+        script.push(b'\n').expect(rt, "memory");
     }
-    Ok(bad_line(&script))
+    bad_line(&script)
 }
 
 #[test]
-fn a_script_has_a_thousand_lines(rt: HostRuntime) -> Result<(), Fail> {
-    assert!(rt; bad_line_of_empty(rt.alloc(), 1000)?.is_none());
+fn a_script_has_a_thousand_lines(rt: HostRuntime) {
+    assert!(rt; bad_line_of_empty(&rt, rt.alloc(), 1000).is_none());
     for lines in [1001, 1002] {
-        let bad = bad_line_of_empty(rt.alloc(), lines)?;
+        let bad = bad_line_of_empty(&rt, rt.alloc(), lines);
         assert!(rt; bad == Some(1001), "{lines}");
     }
-    Ok(())
 }

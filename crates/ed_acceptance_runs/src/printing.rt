@@ -9,7 +9,6 @@ use ed_machine::{Machine, Paper};
 use ed_routines::{Back, new_line, print_integer};
 use std::alloc::Global;
 use std::process::Abort;
-use std::test::Fail;
 
 /// Numbers, their decimal digits, and the number of orders that they take: 78, 8 times the sum of the digits before the
 /// last one, and 4 for each of these digits.
@@ -81,23 +80,21 @@ fn wrong_in(
 }
 
 /// Checks what `print` does with a number.
-fn expect_printed(rt: &impl Abort, alloc: Global, places: &Places, row: &Row) -> Result<(), Fail> {
+fn expect_printed(rt: &impl Abort, alloc: Global, places: &Places, row: &Row) {
     let (number, ..) = *row;
-    let mut paper = Paper::new(alloc, 6)?;
-    let mut machine = called(rt, alloc, routine(PRINT), places, number, "")?;
+    let mut paper = Paper::new(alloc, 6).expect(rt, "memory");
+    let mut machine = called(rt, alloc, routine(PRINT), places, number, "");
     let wrong = wrong_in(rt, &mut machine, places, &mut paper, row);
     expect_right(rt, wrong, number);
-    Ok(())
 }
 
 #[test]
-fn numbers_are_printed_in_decimal(rt: HostRuntime) -> Result<(), Fail> {
+fn numbers_are_printed_in_decimal(rt: HostRuntime) {
     for places in &PLACES {
         for row in &NUMBERS {
-            expect_printed(&rt, rt.alloc(), places, row)?;
+            expect_printed(&rt, rt.alloc(), places, row);
         }
     }
-    Ok(())
 }
 
 /// Whether codes are those of a carriage return and a line feed.
@@ -119,17 +116,15 @@ fn expect_new_line(rt: &impl Abort, machine: &mut Machine, places: &Places, pape
 }
 
 /// Checks what `newline` does at the bases of a routine and its caller.
-fn expect_new_line_at(rt: &impl Abort, alloc: Global, places: &Places) -> Result<(), Fail> {
-    let mut paper = Paper::new(alloc, 2)?;
-    let mut machine = called(rt, alloc, routine(NEWLINE), places, 0, "")?;
+fn expect_new_line_at(rt: &impl Abort, alloc: Global, places: &Places) {
+    let mut paper = Paper::new(alloc, 2).expect(rt, "memory");
+    let mut machine = called(rt, alloc, routine(NEWLINE), places, 0, "");
     expect_new_line(rt, &mut machine, places, &mut paper);
-    Ok(())
 }
 
 #[test]
-fn a_new_line_is_two_codes(rt: HostRuntime) -> Result<(), Fail> {
+fn a_new_line_is_two_codes(rt: HostRuntime) {
     for places in &PLACES {
-        expect_new_line_at(&rt, rt.alloc(), places)?;
+        expect_new_line_at(&rt, rt.alloc(), places);
     }
-    Ok(())
 }

@@ -7,7 +7,6 @@ use ed_machine::Machine;
 use ed_routines::{ReadBack, read_integer};
 use std::alloc::Global;
 use std::process::Abort;
-use std::test::Fail;
 
 /// Rows, the number that they give, and the number of orders: 11, and 13 for each digit row.
 type Row = (&'static str, u32, u64);
@@ -63,28 +62,26 @@ fn wrong_in(rt: &impl Abort, machine: &mut Machine, places: &Places, row: &Row) 
 }
 
 /// Checks what `read` does with rows.
-fn expect_number(rt: &impl Abort, alloc: Global, places: &Places, row: &Row) -> Result<(), Fail> {
+fn expect_number(rt: &impl Abort, alloc: Global, places: &Places, row: &Row) {
     let (rows, number, _) = *row;
-    let mut machine = called(rt, alloc, routine(READ), places, 99, rows)?;
+    let mut machine = called(rt, alloc, routine(READ), places, 99, rows);
     let wrong = wrong_in(rt, &mut machine, places, row);
     expect_right(rt, wrong, number);
-    Ok(())
 }
 
 #[test]
-fn digit_rows_are_a_number(rt: HostRuntime) -> Result<(), Fail> {
+fn digit_rows_are_a_number(rt: HostRuntime) {
     for places in &PLACES {
         for row in &ROWS {
-            expect_number(&rt, rt.alloc(), places, row)?;
+            expect_number(&rt, rt.alloc(), places, row);
         }
     }
-    Ok(())
 }
 
 /// A machine that has called `read` with a digit row, the row of a code, and a digit row.
-fn called_on(rt: &impl Abort, alloc: Global, code: u8) -> Result<Machine, Fail> {
+fn called_on(rt: &impl Abort, alloc: Global, code: u8) -> Machine {
     let row = char::from(byte_of(Code::new(code).expect(rt, "a code"), false));
-    let rows = format!(in alloc; "5{row}6")?;
+    let rows = format!(in alloc; "5{row}6").expect(rt, "memory");
     called(rt, alloc, routine(READ), &PLACES[0], 99, &rows)
 }
 
@@ -98,12 +95,11 @@ fn expect_end(rt: &impl Abort, machine: &mut Machine, code: u8) {
 }
 
 #[test]
-fn each_other_row_ends_a_number(rt: HostRuntime) -> Result<(), Fail> {
+fn each_other_row_ends_a_number(rt: HostRuntime) {
     for code in 10..32 {
-        let mut machine = called_on(&rt, rt.alloc(), code)?;
+        let mut machine = called_on(&rt, rt.alloc(), code);
         expect_end(&rt, &mut machine, code);
     }
-    Ok(())
 }
 
 /// Checks that the tape ends on a machine after these orders.
@@ -125,26 +121,18 @@ fn expect_no_tape(
 }
 
 /// Checks that a tape of such rows ends after these orders.
-fn expect_end_of_tape(
-    rt: &impl Abort,
-    alloc: Global,
-    places: &Places,
-    rows: &str,
-    orders: u64,
-) -> Result<(), Fail> {
-    let mut machine = called(rt, alloc, routine(READ), places, 99, rows)?;
+fn expect_end_of_tape(rt: &impl Abort, alloc: Global, places: &Places, rows: &str, orders: u64) {
+    let mut machine = called(rt, alloc, routine(READ), places, 99, rows);
     expect_no_tape(rt, &mut machine, places, rows, orders);
-    Ok(())
 }
 
 #[test]
-fn a_tape_that_ends_leaves_the_number_as_it_was(rt: HostRuntime) -> Result<(), Fail> {
+fn a_tape_that_ends_leaves_the_number_as_it_was(rt: HostRuntime) {
     for places in &PLACES {
         for (rows, orders) in &ENDS {
-            expect_end_of_tape(&rt, rt.alloc(), places, rows, *orders)?;
+            expect_end_of_tape(&rt, rt.alloc(), places, rows, *orders);
         }
     }
-    Ok(())
 }
 
 /// Checks that `read` stands at 56 on a machine that has called it, and nowhere else.
@@ -163,8 +151,7 @@ fn expect_place(rt: &impl Abort, machine: &mut Machine) {
 }
 
 #[test]
-fn a_routine_stands_where_it_was_put_and_nowhere_else(rt: HostRuntime) -> Result<(), Fail> {
-    let mut machine = called(&rt, rt.alloc(), routine(READ), &PLACES[0], 0, "F")?;
+fn a_routine_stands_where_it_was_put_and_nowhere_else(rt: HostRuntime) {
+    let mut machine = called(&rt, rt.alloc(), routine(READ), &PLACES[0], 0, "F");
     expect_place(&rt, &mut machine);
-    Ok(())
 }

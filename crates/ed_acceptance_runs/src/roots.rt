@@ -12,7 +12,6 @@ use ed_routines::Back;
 use ed_words::{Size, Word};
 use std::alloc::Global;
 use std::process::Abort;
-use std::test::Fail;
 
 /// The bases of the routine and its caller, and the locations of the number and the root.
 #[derive(Clone, Copy)]
@@ -85,23 +84,18 @@ fn with_hn(source: u16, target: u16) -> Parameters
 }
 
 /// Adds the items that set H and N to two locations and place what follows from a base upwards.
-fn add_base(tape: &mut String, site: &Site) -> Result<(), Fail> {
+fn add_base(rt: &impl Abort, tape: &mut String, site: &Site) {
     let Site {
         base,
         source,
         target,
         ..
     } = *site;
-    Ok(write!(tape, "T45KP{source}FP{target}FT{base}KGK")?)
+    write!(tape, "T45KP{source}FP{target}FT{base}KGK").expect(rt, "memory");
 }
 
 /// Adds the items of the number 0 and of a caller that adds the distance to the number after each call.
-fn add_counting_caller(
-    rt: &impl Abort,
-    tape: &mut String,
-    site: &Site,
-    numbers: Numbers,
-) -> Result<(), Fail> {
+fn add_counting_caller(rt: &impl Abort, tape: &mut String, site: &Site, numbers: Numbers) {
     let Site {
         base,
         caller,
@@ -110,35 +104,25 @@ fn add_counting_caller(
     } = *site;
     assert!(rt; caller < 2000);
     let (word, half) = (caller + 6, numbers.distance / 2);
-    Ok(write!(
+    write!(
         tape,
         "T{source}KPFT{caller}KA{caller}FG{base}FA{source}FA{word}FT{source}FE{caller}FP{half}DE{caller}KPF"
-    )?)
+    )
+    .expect(rt, "memory");
 }
 
 /// Adds the items of the routine and of that caller.
-fn add_counting(
-    rt: &impl Abort,
-    alloc: Global,
-    tape: &mut String,
-    site: &Site,
-    numbers: Numbers,
-) -> Result<(), Fail> {
-    add_base(tape, site)?;
-    add_routine(rt, alloc, tape, routine(ROOT))?;
-    add_counting_caller(rt, tape, site, numbers)
+fn add_counting(rt: &impl Abort, alloc: Global, tape: &mut String, site: &Site, numbers: Numbers) {
+    add_base(rt, tape, site);
+    add_routine(rt, alloc, tape, routine(ROOT));
+    add_counting_caller(rt, tape, site, numbers);
 }
 
 /// A machine that has the routine and has just called it with the number 0, by a program that adds the distance
 /// to the number and calls it again, in six orders.
-fn counting(
-    rt: &impl Abort,
-    alloc: Global,
-    site: &Site,
-    numbers: Numbers,
-) -> Result<Machine, Fail> {
+fn counting(rt: &impl Abort, alloc: Global, site: &Site, numbers: Numbers) -> Machine {
     let mut tape = String::new(alloc);
-    add_counting(rt, alloc, &mut tape, site, numbers)?;
+    add_counting(rt, alloc, &mut tape, site, numbers);
     entered(rt, alloc, site.size, &tape)
 }
 
@@ -193,21 +177,19 @@ fn expect_roots(rt: &impl Abort, machine: &mut Machine, site: &Site, numbers: Nu
 }
 
 /// Takes the roots of some numbers at a site.
-fn take_roots(rt: &impl Abort, alloc: Global, site: &Site, numbers: Numbers) -> Result<(), Fail> {
-    let mut machine = counting(rt, alloc, site, numbers)?;
+fn take_roots(rt: &impl Abort, alloc: Global, site: &Site, numbers: Numbers) {
+    let mut machine = counting(rt, alloc, site, numbers);
     expect_roots(rt, &mut machine, site, numbers);
-    Ok(())
 }
 
 #[test]
-fn every_17th_root_is_taken(rt: HostRuntime) -> Result<(), Fail> {
-    take_roots(&rt, rt.alloc(), &SITES[0], ALL_OVER)
+fn every_17th_root_is_taken(rt: HostRuntime) {
+    take_roots(&rt, rt.alloc(), &SITES[0], ALL_OVER);
 }
 
 #[test]
-fn roots_are_taken_at_other_places(rt: HostRuntime) -> Result<(), Fail> {
+fn roots_are_taken_at_other_places(rt: HostRuntime) {
     for site in &SITES {
-        take_roots(&rt, rt.alloc(), site, FIRST)?;
+        take_roots(&rt, rt.alloc(), site, FIRST);
     }
-    Ok(())
 }

@@ -4,7 +4,6 @@ use crate::support::{LETTER, LOOP, expect, lines_of, session_on};
 use ed_stepper::{ScriptFault, run_script};
 use std::alloc::Global;
 use std::process::Abort;
-use std::test::Fail;
 
 /// Scripts, the limits of their sessions, their tapes, and the texts that they write.
 const SCRIPTS: [(&str, u64, &str, &str); 12] = [
@@ -74,16 +73,10 @@ fn expect_text(rt: &impl Abort, written: &[u8], text: &str, script: &str) {
 }
 
 /// What a script writes.
-fn written(
-    rt: &impl Abort,
-    alloc: Global,
-    script: &str,
-    limit: u64,
-    tape: &str,
-) -> Result<Vec<u8>, Fail> {
-    let mut session = session_on(rt, alloc, tape, limit)?;
+fn written(rt: &impl Abort, alloc: Global, script: &str, limit: u64, tape: &str) -> Vec<u8> {
+    let mut session = session_on(rt, alloc, tape, limit);
     let text = run_script(alloc, &mut session, script.as_bytes());
-    Ok(text.ok().expect(rt, script))
+    text.ok().expect(rt, script)
 }
 
 /// Checks the number of lines of a text that a script writes, and its first and last line.
@@ -112,68 +105,50 @@ const LONG: [(&str, usize, &str, &str); 2] = [
 ];
 
 /// Checks the text of a script on the tape that jumps to itself.
-fn expect_long(
-    rt: &impl Abort,
-    alloc: Global,
-    wanted: (&str, usize, &str, &str),
-) -> Result<(), Fail> {
+fn expect_long(rt: &impl Abort, alloc: Global, wanted: (&str, usize, &str, &str)) {
     let (script, ..) = wanted;
-    let text = written(rt, alloc, script, 20_000, LOOP)?;
+    let text = written(rt, alloc, script, 20_000, LOOP);
     expect_ends(rt, &text, wanted);
-    Ok(())
 }
 
 #[test]
-fn the_longest_lists_and_traces(rt: HostRuntime) -> Result<(), Fail> {
+fn the_longest_lists_and_traces(rt: HostRuntime) {
     for wanted in &LONG {
-        expect_long(&rt, rt.alloc(), *wanted)?;
+        expect_long(&rt, rt.alloc(), *wanted);
     }
-    Ok(())
 }
 
 /// Checks what a script writes in a session on a tape.
-fn expect_script(
-    rt: &impl Abort,
-    alloc: Global,
-    row: &(&str, u64, &str, &str),
-) -> Result<(), Fail> {
+fn expect_script(rt: &impl Abort, alloc: Global, row: &(&str, u64, &str, &str)) {
     let (script, limit, tape, text) = *row;
-    let written = written(rt, alloc, script, limit, tape)?;
+    let written = written(rt, alloc, script, limit, tape);
     expect_text(rt, &written, text, script);
-    Ok(())
 }
 
 #[test]
-fn scripts_write_their_texts(rt: HostRuntime) -> Result<(), Fail> {
+fn scripts_write_their_texts(rt: HostRuntime) {
     for row in &SCRIPTS {
-        expect_script(&rt, rt.alloc(), row)?;
+        expect_script(&rt, rt.alloc(), row);
     }
-    Ok(())
 }
 
 /// Two scripts that are refused, the faults and the counters of their sessions.
 #[test]
-fn a_script_that_is_refused(rt: HostRuntime) -> Result<(), Fail> {
+fn a_script_that_is_refused(rt: HostRuntime) {
     let far = "go 3\nback 4\n";
-    let fault = refused(&rt, rt.alloc(), far, 21)?;
+    let fault = refused(&rt, rt.alloc(), far, 21);
     let is_far = matches!(fault, Some(ScriptFault::BackTooFar { line: 2, done: 3 }));
     expect(&rt, is_far, far);
     let bad = "go 3\nback 4\ngo 0\n";
-    let fault = refused(&rt, rt.alloc(), bad, 0)?;
+    let fault = refused(&rt, rt.alloc(), bad, 0);
     let is_bad = matches!(fault, Some(ScriptFault::BadCommand { line: 3 }));
     expect(&rt, is_bad, bad);
-    Ok(())
 }
 
 /// The fault of a script, if it has one, checking where its session is then.
-fn refused(
-    rt: &impl Abort,
-    alloc: Global,
-    script: &str,
-    at: u16,
-) -> Result<Option<ScriptFault>, Fail> {
-    let mut session = session_on(rt, alloc, LETTER, 1_000)?;
+fn refused(rt: &impl Abort, alloc: Global, script: &str, at: u16) -> Option<ScriptFault> {
+    let mut session = session_on(rt, alloc, LETTER, 1_000);
     let answer = run_script(alloc, &mut session, script.as_bytes());
     expect(rt, session.machine().counter() == at, script);
-    Ok(answer.err())
+    answer.err()
 }

@@ -10,11 +10,10 @@ use ed_library::{Parameters, Routine, routine};
 use ed_machine::Machine;
 use ed_notation::{Item, spellable, text_of_items};
 use ed_routines::stands;
-use ed_stepper::{NewFault, Session};
+use ed_stepper::Session;
 use ed_words::{Size, Word};
 use std::alloc::Global;
 use std::process::Abort;
-use std::test::Fail;
 
 /// The tape that prints A.
 pub const LETTER: &str = "T64KGKO2@ZFAFEZPF";
@@ -134,48 +133,41 @@ pub fn is_outside(machine: &Machine, index: u16, base: u16, place: u16) -> bool
 }
 
 /// Adds the characters of a text.
-fn add_text(tape: &mut String, text: &[u8]) -> Result<(), Fail> {
+fn add_text(rt: &impl Abort, tape: &mut String, text: &[u8]) {
     for byte in text {
-        tape.push(char::from(*byte))?;
+        tape.push(char::from(*byte)).expect(rt, "memory");
     }
-    Ok(())
 }
 
 /// Adds the text of an item.
-fn add_item(rt: &impl Abort, alloc: Global, tape: &mut String, item: Item) -> Result<(), Fail> {
+fn add_item(rt: &impl Abort, alloc: Global, tape: &mut String, item: Item) {
     assert!(rt; spellable(&item));
-    let text = text_of_items(alloc, &[item])?;
-    add_text(tape, &text)
+    let text = text_of_items(alloc, &[item]).expect(rt, "memory");
+    add_text(rt, tape, &text);
 }
 
 /// Adds the text of a routine's items.
-pub fn add_routine(
-    rt: &impl Abort,
-    alloc: Global,
-    tape: &mut String,
-    routine: Routine,
-) -> Result<(), Fail> {
+pub fn add_routine(rt: &impl Abort, alloc: Global, tape: &mut String, routine: Routine) {
     for place in 0..routine.length() {
-        add_item(rt, alloc, tape, routine.item(place))?;
+        add_item(rt, alloc, tape, routine.item(place));
     }
-    Ok(())
 }
 
 /// Adds the items that set H to a location and place what follows from a base upwards.
-pub fn add_base(tape: &mut String, base: u16, h: u16) -> Result<(), Fail> {
-    Ok(write!(tape, "T45KP{h}FT{base}KGK")?)
+pub fn add_base(rt: &impl Abort, tape: &mut String, base: u16, h: u16) {
+    write!(tape, "T45KP{h}FT{base}KGK").expect(rt, "memory");
 }
 
 /// Adds the items that place a number at a location.
-pub fn add_number(tape: &mut String, place: u16, number: u32) -> Result<(), Fail> {
+pub fn add_number(rt: &impl Abort, tape: &mut String, place: u16, number: u32) {
     let half = number / 2;
     let length = if number % 2 == 1 { 'D' } else { 'F' };
-    Ok(write!(tape, "T{place}KP{half}{length}")?)
+    write!(tape, "T{place}KP{half}{length}").expect(rt, "memory");
 }
 
 /// Adds the items of a caller of the routine at a base, and of the entry to it.
-pub fn add_caller(tape: &mut String, caller: u16, base: u16) -> Result<(), Fail> {
-    Ok(write!(tape, "T{caller}KA{caller}FG{base}FE{caller}KPF")?)
+pub fn add_caller(rt: &impl Abort, tape: &mut String, caller: u16, base: u16) {
+    write!(tape, "T{caller}KA{caller}FG{base}FE{caller}KPF").expect(rt, "memory");
 }
 
 /// The distance of the numbers that a counting program goes through. It divides 65,535, so that the least and the greatest
@@ -186,41 +178,29 @@ pub const DISTANCE: u32 = 17;
 pub const NUMBERS: u32 = 3856;
 
 /// Adds the items of a caller at 300 that adds this distance to the number at h after each call.
-fn add_counting_caller(rt: &impl Abort, tape: &mut String, base: u16, h: u16) -> Result<(), Fail> {
+fn add_counting_caller(rt: &impl Abort, tape: &mut String, base: u16, h: u16) {
     assert!(rt; h < 300);
     let one = h + 1;
-    Ok(write!(
+    write!(
         tape,
         "T{h}KPFP8DT300KA300FG{base}FA{h}FA{one}FT{h}FE300FE300KPF"
-    )?)
+    )
+    .expect(rt, "memory");
 }
 
 /// Adds the items of a routine and of that caller.
-fn add_counting(
-    rt: &impl Abort,
-    alloc: Global,
-    tape: &mut String,
-    index: u16,
-    base: u16,
-    h: u16,
-) -> Result<(), Fail> {
+fn add_counting(rt: &impl Abort, alloc: Global, tape: &mut String, index: u16, base: u16, h: u16) {
     assert!(rt; index < 6);
-    add_base(tape, base, h)?;
-    add_routine(rt, alloc, tape, routine(index))?;
-    add_counting_caller(rt, tape, base, h)
+    add_base(rt, tape, base, h);
+    add_routine(rt, alloc, tape, routine(index));
+    add_counting_caller(rt, tape, base, h);
 }
 
 /// A machine that has a routine and has just called it with the number 0 at h, by a program that adds
 /// the distance to the number and calls it again, within six orders.
-pub fn counting(
-    rt: &impl Abort,
-    alloc: Global,
-    index: u16,
-    base: u16,
-    h: u16,
-) -> Result<Machine, Fail> {
+pub fn counting(rt: &impl Abort, alloc: Global, index: u16, base: u16, h: u16) -> Machine {
     let mut tape = String::new(alloc);
-    add_counting(rt, alloc, &mut tape, index, base, h)?;
+    add_counting(rt, alloc, &mut tape, index, base, h);
     entered(rt, alloc, Size::Full, &tape)
 }
 
@@ -239,12 +219,12 @@ fn add_call(
     places: &Places,
     number: u32,
     rows: &str,
-) -> Result<(), Fail> {
-    add_base(tape, places.base, places.h)?;
-    add_routine(rt, alloc, tape, routine)?;
-    add_number(tape, places.h, number)?;
-    add_caller(tape, places.caller, places.base)?;
-    Ok(tape.push_str(rows)?)
+) {
+    add_base(rt, tape, places.base, places.h);
+    add_routine(rt, alloc, tape, routine);
+    add_number(rt, tape, places.h, number);
+    add_caller(rt, tape, places.caller, places.base);
+    tape.push_str(rows).expect(rt, "memory");
 }
 
 /// A machine that has the routine and has just called it, with a number at h, and rows left on the tape.
@@ -255,12 +235,12 @@ pub fn called(
     places: &Places,
     number: u32,
     rows: &str,
-) -> Result<Machine, Fail> {
+) -> Machine {
     let mut tape = String::new(alloc);
-    add_call(rt, alloc, &mut tape, routine, places, number, rows)?;
-    let machine = entered(rt, alloc, places.size, &tape)?;
+    add_call(rt, alloc, &mut tape, routine, places, number, rows);
+    let machine = entered(rt, alloc, places.size, &tape);
     assert!(rt; machine.counter() == places.base);
-    Ok(machine)
+    machine
 }
 
 /// Starts a machine on the rows of a tape, and loads it to its entry.
@@ -279,29 +259,28 @@ fn enter(rt: &impl Abort, machine: &mut Machine, rows: Vec<Code>) {
 }
 
 /// A machine that has obeyed the first two orders of a tape's program, which are those of a call.
-pub fn entered(rt: &impl Abort, alloc: Global, size: Size, tape: &str) -> Result<Machine, Fail> {
-    let rows = tape_of_text(alloc, tape.as_bytes())?;
-    let mut machine = Machine::cleared_of(alloc, size)?;
+pub fn entered(rt: &impl Abort, alloc: Global, size: Size, tape: &str) -> Machine {
+    let rows = tape_of_text(alloc, tape.as_bytes()).expect(rt, "a tape");
+    let mut machine = Machine::cleared_of(alloc, size).expect(rt, "memory");
     enter(rt, &mut machine, rows);
-    Ok(machine)
+    machine
 }
 
 /// A cleared machine, started on a tape with the Initial Orders.
-pub fn started(alloc: Global, tape: &str) -> Result<Machine, Fail> {
-    let rows = tape_of_text(alloc, tape.as_bytes())?;
-    let mut machine = Machine::cleared(alloc)?;
+pub fn started(rt: &impl Abort, alloc: Global, tape: &str) -> Machine {
+    let rows = tape_of_text(alloc, tape.as_bytes()).expect(rt, "a tape");
+    let mut machine = Machine::cleared(alloc).expect(rt, "memory");
     begin(&mut machine, rows);
-    Ok(machine)
+    machine
 }
 
 /// A session on such a machine.
-pub fn session_on(rt: &impl Abort, alloc: Global, tape: &str, limit: u64) -> Result<Session, Fail> {
-    let machine = started(alloc, tape)?;
+pub fn session_on(rt: &impl Abort, alloc: Global, tape: &str, limit: u64) -> Session {
+    let machine = started(rt, alloc, tape);
     assert!(rt; machine.orders_done() == 0 && limit < 1 << 40);
-    match Session::new(alloc, machine, limit) {
-        Ok(session) => Ok(session),
-        Err(NewFault::Memory(_)) => Err("no memory".into()),
-    }
+    Session::new(alloc, machine, limit)
+        .ok()
+        .expect(rt, "memory")
 }
 
 /// The number of lines of a text.

@@ -6,7 +6,6 @@ use ed_machine::Ending;
 use ed_stepper::trace_run;
 use std::alloc::Global;
 use std::process::Abort;
-use std::test::Fail;
 
 /// The answer of a trace on a sink.
 fn traced(
@@ -15,15 +14,15 @@ fn traced(
     tape: &str,
     limit: u64,
     out: &mut MemorySink,
-) -> Result<Result<Ending, WriteStop>, Fail> {
-    let mut machine = started(alloc, tape)?;
+) -> Result<Ending, WriteStop> {
+    let mut machine = started(rt, alloc, tape);
     assert!(rt; machine.orders_done() == 0 && limit < 1 << 40);
-    Ok(trace_run(alloc, &mut machine, limit, 0, out))
+    trace_run(alloc, &mut machine, limit, 0, out)
 }
 
 /// A sink that takes at most seven bytes a call; these of its calls fail.
-fn sink(alloc: Global, failing: Vec<u64>) -> Result<MemorySink, Fail> {
-    Ok(MemorySink::in_pieces(alloc, 100_000, failing, 7)?)
+fn sink(rt: &impl Abort, alloc: Global, failing: Vec<u64>) -> MemorySink {
+    MemorySink::in_pieces(alloc, 100_000, failing, 7).expect(rt, "memory")
 }
 
 /// A tape, the limit of its run, the name of the ending, and the bytes and the lines of the trace.
@@ -52,42 +51,35 @@ fn name_of(ending: Ending) -> &'static str {
 }
 
 /// Checks a trace on a sink that takes pieces.
-fn expect_trace(
-    rt: &impl Abort,
-    alloc: Global,
-    out: &mut MemorySink,
-    row: &Row,
-) -> Result<(), Fail> {
+fn expect_trace(rt: &impl Abort, alloc: Global, out: &mut MemorySink, row: &Row) {
     let (tape, limit, ending, bytes, lines) = *row;
-    let answer = traced(rt, alloc, tape, limit, out)?;
+    let answer = traced(rt, alloc, tape, limit, out);
     expect(rt, answer.ok().map(name_of) == Some(ending), tape);
     let text = out.bytes();
     assert!(rt; text.len() == bytes, "{tape} {limit}");
     expect(rt, lines_of(text) == lines, tape);
     expect(rt, text.starts_with(b"TEHATAATE"), tape);
-    Ok(())
 }
 
 /// Checks a trace on a sink of its own.
-fn expect_own_trace(rt: &impl Abort, alloc: Global, row: &Row) -> Result<(), Fail> {
-    let mut out = sink(alloc, Vec::new(alloc))?;
-    expect_trace(rt, alloc, &mut out, row)
+fn expect_own_trace(rt: &impl Abort, alloc: Global, row: &Row) {
+    let mut out = sink(rt, alloc, Vec::new(alloc));
+    expect_trace(rt, alloc, &mut out, row);
 }
 
 #[test]
-fn lines_of_fifty_letters(rt: HostRuntime) -> Result<(), Fail> {
+fn lines_of_fifty_letters(rt: HostRuntime) {
     for row in &TRACES {
-        expect_own_trace(&rt, rt.alloc(), row)?;
+        expect_own_trace(&rt, rt.alloc(), row);
     }
-    Ok(())
 }
 
 /// A sink on which a whole trace was written.
-fn whole_trace(rt: &impl Abort, alloc: Global) -> Result<MemorySink, Fail> {
-    let mut out = sink(alloc, Vec::new(alloc))?;
-    let answer = traced(rt, alloc, LETTER, 1_000, &mut out)?;
+fn whole_trace(rt: &impl Abort, alloc: Global) -> MemorySink {
+    let mut out = sink(rt, alloc, Vec::new(alloc));
+    let answer = traced(rt, alloc, LETTER, 1_000, &mut out);
     assert!(rt; matches!(answer, Ok(Ending::Stopped)));
-    Ok(out)
+    out
 }
 
 /// Checks a trace on a sink of whose calls this one fails.
@@ -97,35 +89,28 @@ fn expect_failed(
     out: &mut MemorySink,
     whole: &MemorySink,
     call: u64,
-) -> Result<(), Fail> {
-    let answer = traced(rt, alloc, LETTER, 1_000, out)?;
+) {
+    let answer = traced(rt, alloc, LETTER, 1_000, out);
     assert!(rt; matches!(answer, Err(WriteStop::Failed)), "{call}");
     expect(rt, out.faults() == 1, "the faults");
     expect(rt, whole.bytes().starts_with(out.bytes()), "the bytes");
-    Ok(())
 }
 
 /// Checks a trace of which this write fails.
-fn expect_failure(
-    rt: &impl Abort,
-    alloc: Global,
-    whole: &MemorySink,
-    call: u64,
-) -> Result<(), Fail> {
-    let mut out = sink(alloc, [call].to_vec(alloc)?)?;
-    expect_failed(rt, alloc, &mut out, whole, call)
+fn expect_failure(rt: &impl Abort, alloc: Global, whole: &MemorySink, call: u64) {
+    let mut out = sink(rt, alloc, [call].to_vec(alloc).expect(rt, "memory"));
+    expect_failed(rt, alloc, &mut out, whole, call);
 }
 
 /// Checks traces of which one write fails, each in turn.
-fn expect_failures(rt: &impl Abort, alloc: Global, whole: &MemorySink) -> Result<(), Fail> {
+fn expect_failures(rt: &impl Abort, alloc: Global, whole: &MemorySink) {
     for call in 0..31 {
-        expect_failure(rt, alloc, whole, call)?;
+        expect_failure(rt, alloc, whole, call);
     }
-    Ok(())
 }
 
 #[test]
-fn a_failed_write_ends_a_trace_at_once(rt: HostRuntime) -> Result<(), Fail> {
-    let whole = whole_trace(&rt, rt.alloc())?;
-    expect_failures(&rt, rt.alloc(), &whole)
+fn a_failed_write_ends_a_trace_at_once(rt: HostRuntime) {
+    let whole = whole_trace(&rt, rt.alloc());
+    expect_failures(&rt, rt.alloc(), &whole);
 }
