@@ -102,40 +102,24 @@ fn is_division(machine: &Machine, base: u16, high: u16, low: u16, by: u16) -> bo
         && machine.word(low).value() < 65536
 }
 
-/// Adds the items that set H, N and M to three locations and place what follows from a base upwards.
-fn add_base(rt: &impl Abort, tape: &mut String, site: &Site) {
+/// A machine that has the routine and has just called it with these numbers.
+fn called(rt: &impl Abort, alloc: Global, site: &Site, number: u32, divisor: u32) -> Machine {
     let Site {
+        size,
         base,
+        caller,
         high,
         low,
         by,
-        ..
     } = *site;
-    write!(tape, "T45KP{high}FP{low}FP{by}FT{base}KGK").expect(rt, "memory");
-}
-
-/// Adds the items of the routine, of its numbers and of a caller.
-fn add_call(
-    rt: &impl Abort,
-    alloc: Global,
-    tape: &mut String,
-    site: &Site,
-    number: u32,
-    divisor: u32,
-) {
-    add_base(rt, tape, site);
-    add_routine(rt, alloc, tape, routine(DIVIDE));
-    add_number(rt, tape, site.high, number / 65536);
-    add_number(rt, tape, site.low, number % 65536);
-    add_number(rt, tape, site.by, divisor);
-    add_caller(rt, tape, site.caller, site.base);
-}
-
-/// A machine that has the routine and has just called it with these numbers.
-fn called(rt: &impl Abort, alloc: Global, site: &Site, number: u32, divisor: u32) -> Machine {
+    let parameters = [high, low, by];
     let mut tape = String::new(alloc);
-    add_call(rt, alloc, &mut tape, site, number, divisor);
-    entered(rt, alloc, site.size, &tape)
+    add_routine(rt, alloc, &mut tape, routine(DIVIDE), base, &parameters);
+    add_number(rt, &mut tape, high, number / 65536);
+    add_number(rt, &mut tape, low, number % 65536);
+    add_number(rt, &mut tape, by, divisor);
+    add_caller(rt, &mut tape, caller, base);
+    entered(rt, alloc, size, &tape)
 }
 
 /// Divides at a site.

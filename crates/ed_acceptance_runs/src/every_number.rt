@@ -1,11 +1,13 @@
 //! `print` for numbers from the least to the greatest that it prints.
 
+use crate::printing::print;
 use crate::support::{
-    DISTANCE, NUMBERS, PRINT, count, counting, expect_right, is_outside, stands_at,
+    DISTANCE, NUMBERS, PRINT, add_counting_caller, add_routine, count, entered, expect_right,
 };
 use ed_codes::Code;
+use ed_library::routine;
 use ed_machine::{Machine, Paper};
-use ed_routines::print_integer;
+use ed_words::Size;
 use std::alloc::Global;
 use std::process::Abort;
 
@@ -13,15 +15,6 @@ use std::process::Abort;
 const BASE: u16 = 60;
 
 const H: u16 = 200;
-
-/// Prints the number of a machine that counts, and answers the orders.
-fn print(rt: &impl Abort, machine: &mut Machine, number: u32, paper: &mut Paper) -> u64 {
-    assert!(rt; stands_at(machine, PRINT, BASE, H));
-    assert!(rt; is_outside(machine, PRINT, BASE, H));
-    assert!(rt; machine.word(H).value() == number && number < 65536);
-    assert!(rt; machine.orders_done() < 1 << 40 && 6 <= paper.room_left());
-    print_integer(machine, BASE, H, paper).orders
-}
 
 /// The number with these digits, and the orders that it takes to print them before another digit.
 fn number_and_orders(digits: &[Code]) -> (u64, u64) {
@@ -61,15 +54,19 @@ fn wrong_in(codes: &[Code], number: u32, orders: u64) -> &'static str {
 /// Prints the number of a machine that counts, checks what is printed, and goes on to the next call.
 fn expect_printed(rt: &impl Abort, alloc: Global, machine: &mut Machine, number: u32) {
     let mut paper = Paper::new(alloc, 6).expect(rt, "memory");
-    let orders = print(rt, machine, number, &mut paper);
-    let wrong = wrong_in(paper.codes(), number, orders);
+    assert!(rt; machine.word(H).value() == number);
+    let back = print(rt, machine, BASE, H, &mut paper);
+    let wrong = wrong_in(paper.codes(), number, back.orders);
     expect_right(rt, wrong, number);
     count(rt, machine);
 }
 
 #[test]
 fn every_17th_number_is_printed(rt: HostRuntime) {
-    let mut machine = counting(&rt, rt.alloc(), PRINT, BASE, H);
+    let mut tape = String::new(rt.alloc());
+    add_routine(&rt, rt.alloc(), &mut tape, routine(PRINT), BASE, &[H]);
+    add_counting_caller(&rt, &mut tape, 300, BASE, H, DISTANCE);
+    let mut machine = entered(&rt, rt.alloc(), Size::Full, &tape);
     for k in 0..NUMBERS {
         expect_printed(&rt, rt.alloc(), &mut machine, k * DISTANCE);
     }

@@ -9,24 +9,19 @@ fn is_at(moved: &Moved, at: u16, done: u64) -> bool {
     moved.at == at && moved.done == done
 }
 
-/// Goes far on and often back, and then on to the limit.
-fn goes_on_and_back(rt: &impl Abort, session: &mut Session) {
-    let moved = session.go(1_968_080);
-    expect(rt, matches!(moved.end, MoveEnd::Went), "far on");
-    for _ in 0..2_000 {
-        expect(rt, session.back(1).is_ok(), "often back");
-    }
-    let moved = session.go(100_000);
-    expect(rt, is_at(&moved, 64, 2_000_000), "on");
-    expect(rt, matches!(moved.end, MoveEnd::Limit), "to the limit");
-}
-
 /// The latest copy is that after 1,966,080 orders, 30 times 65,536, so each move back obeys at most 2,000 orders. From
 /// the start, or from the earliest copy, they would be 4,000,000,000 in all, which no test has the time for.
 #[test]
 fn far_on_and_often_back(rt: HostRuntime) {
     let mut session = session_on(&rt, rt.alloc(), LOOP, 2_000_000);
-    goes_on_and_back(&rt, &mut session);
+    let moved = session.go(1_968_080);
+    expect(&rt, matches!(moved.end, MoveEnd::Went), "far on");
+    for _ in 0..2_000 {
+        expect(&rt, session.back(1).is_ok(), "often back");
+    }
+    let moved = session.go(100_000);
+    expect(&rt, is_at(&moved, 64, 2_000_000), "on");
+    expect(&rt, matches!(moved.end, MoveEnd::Limit), "to the limit");
 }
 
 /// Checks that a session which has obeyed this number of orders doesn't go back so far.
@@ -38,22 +33,17 @@ fn expect_too_far(rt: &impl Abort, session: &mut Session, orders: u64, done: u64
     expect(rt, told == Some(done), "too far");
 }
 
-/// Goes back to the start and no further, and then on to the entry.
-fn goes_back_to_the_start(rt: &impl Abort, session: &mut Session) {
-    expect(rt, matches!(session.go(90).end, MoveEnd::Went), "on");
-    expect_too_far(rt, session, 91, 90);
+#[test]
+fn a_session_goes_back_to_its_start_and_no_further(rt: HostRuntime) {
+    let mut session = session_on(&rt, rt.alloc(), LOOP, 1_000);
+    expect(&rt, matches!(session.go(90).end, MoveEnd::Went), "on");
+    expect_too_far(&rt, &mut session, 91, 90);
     let is_back = match session.back(90) {
         Ok(moved) => is_at(&moved, 0, 0) && matches!(moved.end, MoveEnd::Back),
         Err(_) => false,
     };
-    expect(rt, is_back, "back");
-    expect_too_far(rt, session, 1, 0);
+    expect(&rt, is_back, "back");
+    expect_too_far(&rt, &mut session, 1, 0);
     let moved = session.until_entry();
-    expect(rt, matches!(moved.end, MoveEnd::Entered), "the entry");
-}
-
-#[test]
-fn a_session_goes_back_to_its_start_and_no_further(rt: HostRuntime) {
-    let mut session = session_on(&rt, rt.alloc(), LOOP, 1_000);
-    goes_back_to_the_start(&rt, &mut session);
+    expect(&rt, matches!(moved.end, MoveEnd::Entered), "the entry");
 }

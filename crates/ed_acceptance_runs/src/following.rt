@@ -1,8 +1,8 @@
 //! A guest of the checking routine that is checked, compared with the same program alone.
 
-use crate::support::{CHECK, add_routine, start};
+use crate::support::{CHECK, add_routine, loaded};
 use ed_checker::{Checking, FETCH, HIGH, LOW, MIDDLE, check_one, checker_stands, guest_allowed};
-use ed_codes::{Code, tape_of_text};
+use ed_codes::Code;
 use ed_library::routine;
 use ed_machine::{Machine, Paper, Turn};
 use ed_words::Size;
@@ -15,32 +15,16 @@ pub const BASE: u16 = 100;
 /// How a guest ended: stopped, blocked, refused, or differs; and the number of its orders that were checked.
 pub type End = (&'static str, u32);
 
-/// Adds the items of a program that has the routine and the guest, and more rows after them.
-fn add_program(
-    rt: &impl Abort,
-    alloc: Global,
-    tape: &mut String,
-    guest: &str,
-    rows: &str,
-    entry: u16,
-) {
-    write!(tape, "T45KP60FT{BASE}KGK").expect(rt, "memory");
-    add_routine(rt, alloc, tape, routine(CHECK));
+/// A machine at the entry to a program that has the routine and the guest, with rows left on the tape.
+pub fn entered(rt: &impl Abort, alloc: Global, guest: &str, rows: &str, entry: u16) -> Machine {
+    let mut tape = String::new(alloc);
+    add_routine(rt, alloc, &mut tape, routine(CHECK), BASE, &[60]);
     write!(
         tape,
         "T60K{guest}T89KZFP1DZ5FGFC9DPFPFP50FPDE{entry}KPF{rows}"
     )
     .expect(rt, "memory");
-}
-
-/// A machine at the entry to a program that has the routine and the guest, with rows left on the tape.
-pub fn entered(rt: &impl Abort, alloc: Global, guest: &str, rows: &str, entry: u16) -> Machine {
-    let mut tape = String::new(alloc);
-    add_program(rt, alloc, &mut tape, guest, rows, entry);
-    let codes = tape_of_text(alloc, tape.as_bytes()).expect(rt, "a tape");
-    let mut machine = Machine::cleared_of(alloc, Size::Full).expect(rt, "memory");
-    start(rt, &mut machine, codes);
-    machine
+    loaded(rt, alloc, Size::Full, &tape)
 }
 
 /// One turn of the routine, if it is at the start of one and can obey its guest's order.
@@ -95,11 +79,6 @@ fn agree(checked: &Machine, alone: &Machine) -> bool {
         && checked.rows_left().len() == alone.rows_left().len()
 }
 
-/// Whether two papers have the same codes.
-fn same_codes(one: &Paper, other: &Paper) -> bool {
-    one.codes() == other.codes()
-}
-
 /// Whether the routine's answer is what the order alone did.
 fn is_answer(answer: Checking, turn: Turn) -> bool {
     match answer {
@@ -107,15 +86,6 @@ fn is_answer(answer: Checking, turn: Turn) -> bool {
         Checking::Stopped { orders } => orders <= 35 && matches!(turn, Turn::Stopped),
         Checking::Blocked { orders } => orders <= 35
             && matches!(turn, Turn::NoOrder(_) | Turn::NoTape),
-    }
-}
-
-/// What the routine's answer to an order says of the guest, if it has ended.
-fn end_of(answer: Checking, done: u32) -> Option<End> {
-    match answer {
-        Checking::Went { .. } => None,
-        Checking::Stopped { .. } => Some(("stopped", done.saturating_add(1))),
-        Checking::Blocked { .. } => Some(("blocked", done)),
     }
 }
 
@@ -132,24 +102,14 @@ fn next_end(
         return Some(("refused", done));
     };
     let turn = alone(rt, plain, wanted);
-    if is_answer(answer, turn) && agree(checked, plain) && same_codes(paper, wanted) {
-        end_of(answer, done)
-    } else {
-        Some(("differs", done))
+    if !is_answer(answer, turn) || !agree(checked, plain) || paper.codes() != wanted.codes() {
+        return Some(("differs", done));
     }
-}
-
-/// A machine at an entry to the program of a guest, and an empty paper.
-fn guest_on(
-    rt: &impl Abort,
-    alloc: Global,
-    guest: &str,
-    rows: &str,
-    entry: u16,
-) -> (Machine, Paper) {
-    let paper = Paper::new(alloc, 1200).expect(rt, "memory");
-    let machine = entered(rt, alloc, guest, rows, entry);
-    (machine, paper)
+    match answer {
+        Checking::Went { .. } => None,
+        Checking::Stopped { .. } => Some(("stopped", done.saturating_add(1))),
+        Checking::Blocked { .. } => Some(("blocked", done)),
+    }
 }
 
 /// How a guest that is checked ends, compared order by order with the same program alone.
@@ -170,7 +130,9 @@ fn end_beside(
 
 /// Compares a guest order by order, with rows left on its tape, with the same program alone.
 pub fn follow(rt: &impl Abort, alloc: Global, guest: &str, rows: &str) -> End {
-    let (mut checked, mut paper) = guest_on(rt, alloc, guest, rows, BASE);
-    let (mut plain, mut wanted) = guest_on(rt, alloc, guest, rows, 60);
+    let mut checked = entered(rt, alloc, guest, rows, BASE);
+    let mut paper = Paper::new(alloc, 1200).expect(rt, "memory");
+    let mut plain = entered(rt, alloc, guest, rows, 60);
+    let mut wanted = Paper::new(alloc, 1200).expect(rt, "memory");
     end_beside(rt, &mut checked, &mut paper, &mut plain, &mut wanted)
 }

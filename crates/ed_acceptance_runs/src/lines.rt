@@ -2,8 +2,6 @@
 
 use crate::support::expect;
 use ed_stepper::bad_line;
-use std::alloc::Global;
-use std::process::Abort;
 
 /// Lines of a script, at both ends of their ranges, and with spaces between all parts.
 const LINES: [&str; 30] = [
@@ -90,20 +88,6 @@ const OTHERS: [&str; 47] = [
     "show 3\t4",
 ];
 
-#[test]
-fn lines_of_a_script(rt: HostRuntime) {
-    for line in &LINES {
-        expect(&rt, bad_line(line.as_bytes()).is_none(), line);
-    }
-}
-
-#[test]
-fn lines_that_are_none(rt: HostRuntime) {
-    for line in &OTHERS {
-        expect(&rt, bad_line(line.as_bytes()) == Some(1), line);
-    }
-}
-
 /// Scripts, and their first lines that are no commands.
 const SCRIPTS: [(&str, u32); 3] = [
     ("go 1\r\nto 5\r\r\nx\n", 2),
@@ -113,6 +97,12 @@ const SCRIPTS: [(&str, u32); 3] = [
 
 #[test]
 fn the_first_bad_line_is_reported(rt: HostRuntime) {
+    for line in &LINES {
+        expect(&rt, bad_line(line.as_bytes()).is_none(), line);
+    }
+    for line in &OTHERS {
+        expect(&rt, bad_line(line.as_bytes()) == Some(1), line);
+    }
     assert!(rt; bad_line(b"go 1\r\nto 5\r\n\r\nentry").is_none());
     for row in &SCRIPTS {
         let (script, line) = *row;
@@ -120,20 +110,13 @@ fn the_first_bad_line_is_reported(rt: HostRuntime) {
     }
 }
 
-/// The first bad line of a script with this number of empty lines.
-fn bad_line_of_empty(rt: &impl Abort, alloc: Global, lines: u32) -> Option<u32> {
-    let mut script = Vec::new(alloc);
-    for _ in 0..lines {
-        script.push(b'\n').expect(rt, "memory");
-    }
-    bad_line(&script)
-}
-
 #[test]
 fn a_script_has_a_thousand_lines(rt: HostRuntime) {
-    assert!(rt; bad_line_of_empty(&rt, rt.alloc(), 1000).is_none());
+    let mut script = Vec::new(rt.alloc());
+    script.resize(1000, b'\n').expect(&rt, "memory");
+    assert!(rt; bad_line(&script).is_none());
     for lines in [1001, 1002] {
-        let bad = bad_line_of_empty(&rt, rt.alloc(), lines);
-        assert!(rt; bad == Some(1001), "{lines}");
+        script.push(b'\n').expect(&rt, "memory");
+        assert!(rt; bad_line(&script) == Some(1001), "{lines}");
     }
 }

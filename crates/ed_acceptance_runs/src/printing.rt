@@ -28,9 +28,8 @@ const NUMBERS: [Row; 11] = [
     (65_535, "65535", 246),
 ];
 
-/// Runs `print` at the base where it was placed.
-fn print(rt: &impl Abort, machine: &mut Machine, places: &Places, paper: &mut Paper) -> Back {
-    let Places { base, h, .. } = *places;
+/// Runs `print`, which is at a base, on the number at h.
+pub fn print(rt: &impl Abort, machine: &mut Machine, base: u16, h: u16, paper: &mut Paper) -> Back {
     assert!(rt; stands_at(machine, PRINT, base, h));
     assert!(rt; is_outside(machine, PRINT, base, h));
     assert!(rt; machine.word(h).value() < 65536);
@@ -65,7 +64,7 @@ fn wrong_in(
     let (_, digits, orders) = *row;
     let at = places.back;
     let done = machine.orders_done();
-    let back = print(rt, machine, places, paper);
+    let back = print(rt, machine, places.base, places.h, paper);
     if back.at != at || back.orders != orders {
         "another end"
     } else if machine.counter() != at || machine.acc() != 0 {
@@ -97,34 +96,24 @@ fn numbers_are_printed_in_decimal(rt: HostRuntime) {
     }
 }
 
-/// Whether codes are those of a carriage return and a line feed.
-fn are_new_line(codes: &[Code]) -> bool {
-    match codes {
-        [first, second] => first.value() == 18 && second.value() == 24,
-        _ => false,
-    }
-}
-
-/// Checks what `newline` does.
-fn expect_new_line(rt: &impl Abort, machine: &mut Machine, places: &Places, paper: &mut Paper) {
-    assert!(rt; stands_at(machine, NEWLINE, places.base, places.h));
-    assert!(rt; machine.orders_done() < 1 << 40 && 2 <= paper.room_left());
-    let back = new_line(machine, places.base, paper);
-    let has_returned = back.at == places.back && back.orders == 5;
-    expect(rt, has_returned, "the end");
-    expect(rt, are_new_line(paper.codes()), "the codes");
-}
-
-/// Checks what `newline` does at the bases of a routine and its caller.
-fn expect_new_line_at(rt: &impl Abort, alloc: Global, places: &Places) {
+/// Checks that `newline` prints the codes of a carriage return and a line feed.
+fn expect_new_line(rt: &impl Abort, alloc: Global, places: &Places) {
     let mut paper = Paper::new(alloc, 2).expect(rt, "memory");
     let mut machine = called(rt, alloc, routine(NEWLINE), places, 0, "");
-    expect_new_line(rt, &mut machine, places, &mut paper);
+    assert!(rt; stands_at(&machine, NEWLINE, places.base, places.h));
+    assert!(rt; machine.orders_done() < 1 << 40 && 2 <= paper.room_left());
+    let back = new_line(&mut machine, places.base, &mut paper);
+    expect(rt, back.at == places.back && back.orders == 5, "the end");
+    let is_new_line = match paper.codes() {
+        [first, second] => first.value() == 18 && second.value() == 24,
+        _ => false,
+    };
+    expect(rt, is_new_line, "the codes");
 }
 
 #[test]
 fn a_new_line_is_two_codes(rt: HostRuntime) {
     for places in &PLACES {
-        expect_new_line_at(&rt, rt.alloc(), places);
+        expect_new_line(&rt, rt.alloc(), places);
     }
 }

@@ -44,28 +44,22 @@ fn word(rt: &impl Abort, machine: &Machine, place: u16) -> u32 {
     machine.word(place).value()
 }
 
-/// Reads a number, and answers what is wrong, if anything.
-fn wrong_in(rt: &impl Abort, machine: &mut Machine, places: &Places, row: &Row) -> &'static str {
-    let (_, number, orders) = *row;
+/// Checks what `read` does with rows.
+fn expect_number(rt: &impl Abort, alloc: Global, places: &Places, row: &Row) {
+    let (rows, number, orders) = *row;
     let at = places.back;
-    if read(rt, machine, places) != Ok((at, orders)) {
+    let mut machine = called(rt, alloc, routine(READ), places, 99, rows);
+    let wrong = if read(rt, &mut machine, places) != Ok((at, orders)) {
         "another end"
     } else if machine.counter() != at || machine.acc() != 0 {
         "not returned"
     } else if !machine.rows_left().is_empty() {
         "rows left"
-    } else if word(rt, machine, places.h) != number {
+    } else if word(rt, &machine, places.h) != number {
         "another number"
     } else {
         ""
-    }
-}
-
-/// Checks what `read` does with rows.
-fn expect_number(rt: &impl Abort, alloc: Global, places: &Places, row: &Row) {
-    let (rows, number, _) = *row;
-    let mut machine = called(rt, alloc, routine(READ), places, 99, rows);
-    let wrong = wrong_in(rt, &mut machine, places, row);
+    };
     expect_right(rt, wrong, number);
 }
 
@@ -102,28 +96,14 @@ fn each_other_row_ends_a_number(rt: HostRuntime) {
     }
 }
 
-/// Checks that the tape ends on a machine after these orders.
-fn expect_no_tape(
-    rt: &impl Abort,
-    machine: &mut Machine,
-    places: &Places,
-    rows: &str,
-    orders: u64,
-) {
-    let back = read(rt, machine, places);
-    expect(rt, back == Err(orders), rows);
-    expect(
-        rt,
-        machine.counter().checked_sub(places.base) == Some(3),
-        rows,
-    );
-    expect(rt, word(rt, machine, places.h) == 99, rows);
-}
-
 /// Checks that a tape of such rows ends after these orders.
 fn expect_end_of_tape(rt: &impl Abort, alloc: Global, places: &Places, rows: &str, orders: u64) {
     let mut machine = called(rt, alloc, routine(READ), places, 99, rows);
-    expect_no_tape(rt, &mut machine, places, rows, orders);
+    let back = read(rt, &mut machine, places);
+    expect(rt, back == Err(orders), rows);
+    let place = machine.counter().checked_sub(places.base);
+    expect(rt, place == Some(3), rows);
+    expect(rt, word(rt, &machine, places.h) == 99, rows);
 }
 
 #[test]
@@ -135,23 +115,16 @@ fn a_tape_that_ends_leaves_the_number_as_it_was(rt: HostRuntime) {
     }
 }
 
-/// Checks that `read` stands at 56 on a machine that has called it, and nowhere else.
-fn expect_place(rt: &impl Abort, machine: &mut Machine) {
-    expect(rt, stands_at(machine, READ, 56, 300), "where it was put");
-    expect(rt, !stands_at(machine, READ, 57, 300), "at 57");
-    expect(rt, !stands_at(machine, READ, 56, 301), "with H at 301");
-    expect(rt, !stands_at(machine, 0, 56, 300), "another routine");
-    assert!(rt; machine.orders_done() < 1 << 40);
-    machine.step();
-    expect(
-        rt,
-        !stands_at(machine, READ, 57, 300),
-        "at 57, after an order",
-    );
-}
-
+/// `read` stands at 56 on a machine that has called it, and nowhere else.
 #[test]
 fn a_routine_stands_where_it_was_put_and_nowhere_else(rt: HostRuntime) {
     let mut machine = called(&rt, rt.alloc(), routine(READ), &PLACES[0], 0, "F");
-    expect_place(&rt, &mut machine);
+    expect(&rt, stands_at(&machine, READ, 56, 300), "where it was put");
+    expect(&rt, !stands_at(&machine, READ, 57, 300), "at 57");
+    expect(&rt, !stands_at(&machine, READ, 56, 301), "with H at 301");
+    expect(&rt, !stands_at(&machine, 0, 56, 300), "another routine");
+    assert!(rt; machine.orders_done() < 1 << 40);
+    machine.step();
+    let is_moved = stands_at(&machine, READ, 57, 300);
+    expect(&rt, !is_moved, "at 57, after an order");
 }

@@ -3,7 +3,8 @@ ghost use Rattle.std.specs.Prelude.{◌≡◌};
 ghost use Rattle.ed_maths.specs.Roots.{with_hn};
 
 use crate::support::{
-    DISTANCE, NUMBERS, ROOT, add_routine, count, entered, expect_right, is_outside, stands_with,
+    DISTANCE, NUMBERS, ROOT, add_counting_caller, add_routine, count, entered, expect_right,
+    is_outside, stands_with,
 };
 use ed_library::{Parameters, routine};
 use ed_machine::Machine;
@@ -83,49 +84,6 @@ fn with_hn(source: u16, target: u16) -> Parameters
     ]
 }
 
-/// Adds the items that set H and N to two locations and place what follows from a base upwards.
-fn add_base(rt: &impl Abort, tape: &mut String, site: &Site) {
-    let Site {
-        base,
-        source,
-        target,
-        ..
-    } = *site;
-    write!(tape, "T45KP{source}FP{target}FT{base}KGK").expect(rt, "memory");
-}
-
-/// Adds the items of the number 0 and of a caller that adds the distance to the number after each call.
-fn add_counting_caller(rt: &impl Abort, tape: &mut String, site: &Site, numbers: Numbers) {
-    let Site {
-        base,
-        caller,
-        source,
-        ..
-    } = *site;
-    assert!(rt; caller < 2000);
-    let (word, half) = (caller + 6, numbers.distance / 2);
-    write!(
-        tape,
-        "T{source}KPFT{caller}KA{caller}FG{base}FA{source}FA{word}FT{source}FE{caller}FP{half}DE{caller}KPF"
-    )
-    .expect(rt, "memory");
-}
-
-/// Adds the items of the routine and of that caller.
-fn add_counting(rt: &impl Abort, alloc: Global, tape: &mut String, site: &Site, numbers: Numbers) {
-    add_base(rt, tape, site);
-    add_routine(rt, alloc, tape, routine(ROOT));
-    add_counting_caller(rt, tape, site, numbers);
-}
-
-/// A machine that has the routine and has just called it with the number 0, by a program that adds the distance
-/// to the number and calls it again, in six orders.
-fn counting(rt: &impl Abort, alloc: Global, site: &Site, numbers: Numbers) -> Machine {
-    let mut tape = String::new(alloc);
-    add_counting(rt, alloc, &mut tape, site, numbers);
-    entered(rt, alloc, site.size, &tape)
-}
-
 /// Takes the root of a machine that counts.
 fn root(rt: &impl Abort, machine: &mut Machine, site: &Site, number: u32) -> Back {
     let Site {
@@ -165,21 +123,26 @@ fn wrong_in(
     }
 }
 
-/// Takes the roots of some numbers on a machine that counts.
-fn expect_roots(rt: &impl Abort, machine: &mut Machine, site: &Site, numbers: Numbers) {
+/// Takes the roots of some numbers at a site, on a machine that counts.
+fn take_roots(rt: &impl Abort, alloc: Global, site: &Site, numbers: Numbers) {
+    let Site {
+        size,
+        base,
+        caller,
+        source,
+        target,
+    } = *site;
+    let mut tape = String::new(alloc);
+    add_routine(rt, alloc, &mut tape, routine(ROOT), base, &[source, target]);
+    add_counting_caller(rt, &mut tape, caller, base, source, numbers.distance);
+    let mut machine = entered(rt, alloc, size, &tape);
     for k in 0..numbers.count {
         let number = k.wrapping_mul(numbers.distance);
-        let back = root(rt, machine, site, number);
-        let wrong = wrong_in(rt, machine, site, number, back);
+        let back = root(rt, &mut machine, site, number);
+        let wrong = wrong_in(rt, &machine, site, number, back);
         expect_right(rt, wrong, number);
-        count(rt, machine);
+        count(rt, &mut machine);
     }
-}
-
-/// Takes the roots of some numbers at a site.
-fn take_roots(rt: &impl Abort, alloc: Global, site: &Site, numbers: Numbers) {
-    let mut machine = counting(rt, alloc, site, numbers);
-    expect_roots(rt, &mut machine, site, numbers);
 }
 
 #[test]

@@ -67,24 +67,11 @@ const SCRIPTS: [(&str, u64, &str, &str); 12] = [
     ),
 ];
 
-/// Checks the text that a script writes.
-fn expect_text(rt: &impl Abort, written: &[u8], text: &str, script: &str) {
-    assert!(rt; written == text.as_bytes(), "{script}: {written:?}");
-}
-
 /// What a script writes.
 fn written(rt: &impl Abort, alloc: Global, script: &str, limit: u64, tape: &str) -> Vec<u8> {
     let mut session = session_on(rt, alloc, tape, limit);
     let text = run_script(alloc, &mut session, script.as_bytes());
     text.ok().expect(rt, script)
-}
-
-/// Checks the number of lines of a text that a script writes, and its first and last line.
-fn expect_ends(rt: &impl Abort, text: &[u8], wanted: (&str, usize, &str, &str)) {
-    let (script, lines, first, last) = wanted;
-    expect(rt, lines_of(text) == lines, script);
-    expect(rt, text.starts_with(first.as_bytes()), script);
-    expect(rt, text.ends_with(last.as_bytes()), script);
 }
 
 /// Scripts, the number of lines of their texts, and their first and last line. There are 1,024 words, and 10,000
@@ -106,9 +93,11 @@ const LONG: [(&str, usize, &str, &str); 2] = [
 
 /// Checks the text of a script on the tape that jumps to itself.
 fn expect_long(rt: &impl Abort, alloc: Global, wanted: (&str, usize, &str, &str)) {
-    let (script, ..) = wanted;
+    let (script, lines, first, last) = wanted;
     let text = written(rt, alloc, script, 20_000, LOOP);
-    expect_ends(rt, &text, wanted);
+    expect(rt, lines_of(&text) == lines, script);
+    expect(rt, text.starts_with(first.as_bytes()), script);
+    expect(rt, text.ends_with(last.as_bytes()), script);
 }
 
 #[test]
@@ -120,9 +109,9 @@ fn the_longest_lists_and_traces(rt: HostRuntime) {
 
 /// Checks what a script writes in a session on a tape.
 fn expect_script(rt: &impl Abort, alloc: Global, row: &(&str, u64, &str, &str)) {
-    let (script, limit, tape, text) = *row;
-    let written = written(rt, alloc, script, limit, tape);
-    expect_text(rt, &written, text, script);
+    let (script, limit, tape, wanted) = *row;
+    let text = written(rt, alloc, script, limit, tape);
+    assert!(rt; text.as_slice() == wanted.as_bytes(), "{script}: {text:?}");
 }
 
 #[test]

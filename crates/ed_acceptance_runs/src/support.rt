@@ -4,7 +4,7 @@ ghost use Rattle.ed_library.specs.Entries.{how_many};
 ghost use Rattle.ed_routines.specs.Catalogue.{with_h};
 ghost use Rattle.ed_routines.specs.Standing.{IsOutside, IsLoadedAt};
 
-use ed_codes::{Code, tape_of_text};
+use ed_codes::tape_of_text;
 use ed_initial::{Loaded, begin, is_started, load};
 use ed_library::{Parameters, Routine, routine};
 use ed_machine::Machine;
@@ -132,30 +132,32 @@ pub fn is_outside(machine: &Machine, index: u16, base: u16, place: u16) -> bool
     place < machine.size().value() && (place < base || length <= place && base <= place - length)
 }
 
-/// Adds the characters of a text.
-fn add_text(rt: &impl Abort, tape: &mut String, text: &[u8]) {
-    for byte in text {
-        tape.push(char::from(*byte)).expect(rt, "memory");
-    }
-}
-
 /// Adds the text of an item.
 fn add_item(rt: &impl Abort, alloc: Global, tape: &mut String, item: Item) {
     assert!(rt; spellable(&item));
     let text = text_of_items(alloc, &[item]).expect(rt, "memory");
-    add_text(rt, tape, &text);
-}
-
-/// Adds the text of a routine's items.
-pub fn add_routine(rt: &impl Abort, alloc: Global, tape: &mut String, routine: Routine) {
-    for place in 0..routine.length() {
-        add_item(rt, alloc, tape, routine.item(place));
+    for byte in &text {
+        tape.push(char::from(*byte)).expect(rt, "memory");
     }
 }
 
-/// Adds the items that set H to a location and place what follows from a base upwards.
-pub fn add_base(rt: &impl Abort, tape: &mut String, base: u16, h: u16) {
-    write!(tape, "T45KP{h}FT{base}KGK").expect(rt, "memory");
+/// Adds the items that set the parameters from H on to locations, and those of a routine from a base upwards.
+pub fn add_routine(
+    rt: &impl Abort,
+    alloc: Global,
+    tape: &mut String,
+    routine: Routine,
+    base: u16,
+    parameters: &[u16],
+) {
+    tape.push_str("T45K").expect(rt, "memory");
+    for place in parameters {
+        write!(tape, "P{place}F").expect(rt, "memory");
+    }
+    write!(tape, "T{base}KGK").expect(rt, "memory");
+    for place in 0..routine.length() {
+        add_item(rt, alloc, tape, routine.item(place));
+    }
 }
 
 /// Adds the items that place a number at a location.
@@ -177,54 +179,28 @@ pub const DISTANCE: u32 = 17;
 /// How many such numbers there are from 0 to 65,535.
 pub const NUMBERS: u32 = 3856;
 
-/// Adds the items of a caller at 300 that adds this distance to the number at h after each call.
-fn add_counting_caller(rt: &impl Abort, tape: &mut String, base: u16, h: u16) {
-    assert!(rt; h < 300);
-    let one = h + 1;
+/// Adds the items of the number 0 at a location and of a caller that adds a distance, which is odd, to the number after
+/// each call and calls the routine again, in six orders.
+pub fn add_counting_caller(
+    rt: &impl Abort,
+    tape: &mut String,
+    caller: u16,
+    base: u16,
+    place: u16,
+    distance: u32,
+) {
+    let half = distance / 2;
     write!(
         tape,
-        "T{h}KPFP8DT300KA300FG{base}FA{h}FA{one}FT{h}FE300FE300KPF"
+        "T{place}KPFT{caller}KGKA@G{base}FA{place}FA6@T{place}FE@P{half}DE{caller}KPF"
     )
     .expect(rt, "memory");
 }
 
-/// Adds the items of a routine and of that caller.
-fn add_counting(rt: &impl Abort, alloc: Global, tape: &mut String, index: u16, base: u16, h: u16) {
-    assert!(rt; index < 6);
-    add_base(rt, tape, base, h);
-    add_routine(rt, alloc, tape, routine(index));
-    add_counting_caller(rt, tape, base, h);
-}
-
-/// A machine that has a routine and has just called it with the number 0 at h, by a program that adds
-/// the distance to the number and calls it again, within six orders.
-pub fn counting(rt: &impl Abort, alloc: Global, index: u16, base: u16, h: u16) -> Machine {
-    let mut tape = String::new(alloc);
-    add_counting(rt, alloc, &mut tape, index, base, h);
-    entered(rt, alloc, Size::Full, &tape)
-}
-
-/// Obeys the six orders after a call of such a program.
+/// Obeys the six orders after a call by such a caller.
 pub fn count(rt: &impl Abort, machine: &mut Machine) {
     assert!(rt; machine.orders_done() < 1 << 40);
     machine.obey_next(6);
-}
-
-/// Adds the items of a routine, of a number at h and of a caller, and rows.
-fn add_call(
-    rt: &impl Abort,
-    alloc: Global,
-    tape: &mut String,
-    routine: Routine,
-    places: &Places,
-    number: u32,
-    rows: &str,
-) {
-    add_base(rt, tape, places.base, places.h);
-    add_routine(rt, alloc, tape, routine);
-    add_number(rt, tape, places.h, number);
-    add_caller(rt, tape, places.caller, places.base);
-    tape.push_str(rows).expect(rt, "memory");
 }
 
 /// A machine that has the routine and has just called it, with a number at h, and rows left on the tape.
@@ -236,47 +212,51 @@ pub fn called(
     number: u32,
     rows: &str,
 ) -> Machine {
+    let Places {
+        size,
+        base,
+        caller,
+        h,
+        ..
+    } = *places;
     let mut tape = String::new(alloc);
-    add_call(rt, alloc, &mut tape, routine, places, number, rows);
-    let machine = entered(rt, alloc, places.size, &tape);
-    assert!(rt; machine.counter() == places.base);
+    add_routine(rt, alloc, &mut tape, routine, base, &[h]);
+    add_number(rt, &mut tape, h, number);
+    add_caller(rt, &mut tape, caller, base);
+    tape.push_str(rows).expect(rt, "memory");
+    let machine = entered(rt, alloc, size, &tape);
+    assert!(rt; machine.counter() == base);
     machine
-}
-
-/// Starts a machine on the rows of a tape, and loads it to its entry.
-pub fn start(rt: &impl Abort, machine: &mut Machine, rows: Vec<Code>) {
-    begin(machine, rows);
-    assert!(rt; is_started(machine));
-    assert!(rt; machine.orders_done() < 1 << 20 && machine.rows_left().len() < 1 << 20);
-    assert!(rt; matches!(load(machine), Loaded::Entered { .. }));
-}
-
-/// Starts a machine on the rows of a tape, loads it, and obeys the first two orders of its program.
-fn enter(rt: &impl Abort, machine: &mut Machine, rows: Vec<Code>) {
-    start(rt, machine, rows);
-    assert!(rt; machine.orders_done() < 1 << 40);
-    machine.obey_next(2);
 }
 
 /// A machine that has obeyed the first two orders of a tape's program, which are those of a call.
 pub fn entered(rt: &impl Abort, alloc: Global, size: Size, tape: &str) -> Machine {
-    let rows = tape_of_text(alloc, tape.as_bytes()).expect(rt, "a tape");
-    let mut machine = Machine::cleared_of(alloc, size).expect(rt, "memory");
-    enter(rt, &mut machine, rows);
+    let mut machine = loaded(rt, alloc, size, tape);
+    assert!(rt; machine.orders_done() < 1 << 40);
+    machine.obey_next(2);
+    machine
+}
+
+/// A machine that has loaded a tape to its entry.
+pub fn loaded(rt: &impl Abort, alloc: Global, size: Size, tape: &str) -> Machine {
+    let mut machine = started(rt, alloc, size, tape);
+    assert!(rt; is_started(&machine));
+    assert!(rt; machine.orders_done() < 1 << 20 && machine.rows_left().len() < 1 << 20);
+    assert!(rt; matches!(load(&mut machine), Loaded::Entered { .. }));
     machine
 }
 
 /// A cleared machine, started on a tape with the Initial Orders.
-pub fn started(rt: &impl Abort, alloc: Global, tape: &str) -> Machine {
+pub fn started(rt: &impl Abort, alloc: Global, size: Size, tape: &str) -> Machine {
     let rows = tape_of_text(alloc, tape.as_bytes()).expect(rt, "a tape");
-    let mut machine = Machine::cleared(alloc).expect(rt, "memory");
+    let mut machine = Machine::cleared_of(alloc, size).expect(rt, "memory");
     begin(&mut machine, rows);
     machine
 }
 
-/// A session on such a machine.
+/// A session on such a machine with the full store.
 pub fn session_on(rt: &impl Abort, alloc: Global, tape: &str, limit: u64) -> Session {
-    let machine = started(rt, alloc, tape);
+    let machine = started(rt, alloc, Size::Full, tape);
     assert!(rt; machine.orders_done() == 0 && limit < 1 << 40);
     Session::new(alloc, machine, limit)
         .ok()

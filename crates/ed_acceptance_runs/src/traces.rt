@@ -4,25 +4,23 @@ use crate::support::{LETTER, LOOP, expect, lines_of, started};
 use ed_io::{MemorySink, WriteStop};
 use ed_machine::Ending;
 use ed_stepper::trace_run;
+use ed_words::Size;
 use std::alloc::Global;
 use std::process::Abort;
 
-/// The answer of a trace on a sink.
+/// The answer of a trace, and its sink, which takes at most seven bytes a call; these of the sink's calls fail.
 fn traced(
     rt: &impl Abort,
     alloc: Global,
     tape: &str,
     limit: u64,
-    out: &mut MemorySink,
-) -> Result<Ending, WriteStop> {
-    let mut machine = started(rt, alloc, tape);
+    failing: Vec<u64>,
+) -> (Result<Ending, WriteStop>, MemorySink) {
+    let mut out = MemorySink::in_pieces(alloc, 100_000, failing, 7).expect(rt, "memory");
+    let mut machine = started(rt, alloc, Size::Full, tape);
     assert!(rt; machine.orders_done() == 0 && limit < 1 << 40);
-    trace_run(alloc, &mut machine, limit, 0, out)
-}
-
-/// A sink that takes at most seven bytes a call; these of its calls fail.
-fn sink(rt: &impl Abort, alloc: Global, failing: Vec<u64>) -> MemorySink {
-    MemorySink::in_pieces(alloc, 100_000, failing, 7).expect(rt, "memory")
+    let answer = trace_run(alloc, &mut machine, limit, 0, &mut out);
+    (answer, out)
 }
 
 /// A tape, the limit of its run, the name of the ending, and the bytes and the lines of the trace.
@@ -51,9 +49,9 @@ fn name_of(ending: Ending) -> &'static str {
 }
 
 /// Checks a trace on a sink that takes pieces.
-fn expect_trace(rt: &impl Abort, alloc: Global, out: &mut MemorySink, row: &Row) {
+fn expect_trace(rt: &impl Abort, alloc: Global, row: &Row) {
     let (tape, limit, ending, bytes, lines) = *row;
-    let answer = traced(rt, alloc, tape, limit, out);
+    let (answer, out) = traced(rt, alloc, tape, limit, Vec::new(alloc));
     expect(rt, answer.ok().map(name_of) == Some(ending), tape);
     let text = out.bytes();
     assert!(rt; text.len() == bytes, "{tape} {limit}");
@@ -61,56 +59,28 @@ fn expect_trace(rt: &impl Abort, alloc: Global, out: &mut MemorySink, row: &Row)
     expect(rt, text.starts_with(b"TEHATAATE"), tape);
 }
 
-/// Checks a trace on a sink of its own.
-fn expect_own_trace(rt: &impl Abort, alloc: Global, row: &Row) {
-    let mut out = sink(rt, alloc, Vec::new(alloc));
-    expect_trace(rt, alloc, &mut out, row);
-}
-
 #[test]
 fn lines_of_fifty_letters(rt: HostRuntime) {
     for row in &TRACES {
-        expect_own_trace(&rt, rt.alloc(), row);
+        expect_trace(&rt, rt.alloc(), row);
     }
 }
 
-/// A sink on which a whole trace was written.
-fn whole_trace(rt: &impl Abort, alloc: Global) -> MemorySink {
-    let mut out = sink(rt, alloc, Vec::new(alloc));
-    let answer = traced(rt, alloc, LETTER, 1_000, &mut out);
-    assert!(rt; matches!(answer, Ok(Ending::Stopped)));
-    out
-}
-
-/// Checks a trace on a sink of whose calls this one fails.
-fn expect_failed(
-    rt: &impl Abort,
-    alloc: Global,
-    out: &mut MemorySink,
-    whole: &MemorySink,
-    call: u64,
-) {
-    let answer = traced(rt, alloc, LETTER, 1_000, out);
+/// Checks a trace of which this write fails.
+fn expect_failure(rt: &impl Abort, alloc: Global, whole: &MemorySink, call: u64) {
+    let failing = [call].to_vec(alloc).expect(rt, "memory");
+    let (answer, out) = traced(rt, alloc, LETTER, 1_000, failing);
     assert!(rt; matches!(answer, Err(WriteStop::Failed)), "{call}");
     expect(rt, out.faults() == 1, "the faults");
     expect(rt, whole.bytes().starts_with(out.bytes()), "the bytes");
 }
 
-/// Checks a trace of which this write fails.
-fn expect_failure(rt: &impl Abort, alloc: Global, whole: &MemorySink, call: u64) {
-    let mut out = sink(rt, alloc, [call].to_vec(alloc).expect(rt, "memory"));
-    expect_failed(rt, alloc, &mut out, whole, call);
-}
-
-/// Checks traces of which one write fails, each in turn.
-fn expect_failures(rt: &impl Abort, alloc: Global, whole: &MemorySink) {
-    for call in 0..31 {
-        expect_failure(rt, alloc, whole, call);
-    }
-}
-
+/// Each write of a trace fails in turn.
 #[test]
 fn a_failed_write_ends_a_trace_at_once(rt: HostRuntime) {
-    let whole = whole_trace(&rt, rt.alloc());
-    expect_failures(&rt, rt.alloc(), &whole);
+    let (answer, whole) = traced(&rt, rt.alloc(), LETTER, 1_000, Vec::new(rt.alloc()));
+    assert!(rt; matches!(answer, Ok(Ending::Stopped)));
+    for call in 0..31 {
+        expect_failure(&rt, rt.alloc(), &whole, call);
+    }
 }
