@@ -8,7 +8,6 @@ use ed_store::Store;
 use ed_words::{Size, Word};
 use std::alloc::Global;
 use std::process::Abort;
-use std::test::Fail;
 
 /// Stands for a location where a tape places no word: no word has this number.
 const NOTHING: u32 = 1 << 17;
@@ -58,17 +57,17 @@ const TAPES: [Row; 17] = [
 ];
 
 /// A store with a word at the location of θ.
-fn store_with_theta(rt: &impl Abort, alloc: Global, theta: u32) -> Result<Store, Fail> {
-    let mut store = Store::cleared(alloc)?;
+fn store_with_theta(rt: &impl Abort, alloc: Global, theta: u32) -> Store {
+    let mut store = Store::cleared(alloc).expect(rt, "memory");
     store.put_short(42, word(rt, theta));
-    Ok(store)
+    store
 }
 
 /// The report on a tape before whose check a word is at the location of θ.
-fn report_on(rt: &impl Abort, alloc: Global, theta: u32, tape: &str) -> Result<Checked, Fail> {
-    let store = store_with_theta(rt, alloc, theta)?;
-    let told = checked(rt, alloc, Size::Full, &store, tape)?;
-    Ok(told.ok().expect(rt, tape))
+fn report_on(rt: &impl Abort, alloc: Global, theta: u32, tape: &str) -> Checked {
+    let store = store_with_theta(rt, alloc, theta);
+    let told = checked(rt, alloc, Size::Full, &store, tape);
+    told.ok().expect(rt, tape)
 }
 
 /// Checks a report on a tape of rows of one byte.
@@ -88,19 +87,17 @@ fn expect_report(rt: &impl Abort, report: &Checked, row: &Row) {
 }
 
 /// Checks the report on the tape of a row.
-fn expect_tape(rt: &impl Abort, alloc: Global, row: &Row) -> Result<(), Fail> {
+fn expect_tape(rt: &impl Abort, alloc: Global, row: &Row) {
     let (before, tape, ..) = *row;
-    let report = report_on(rt, alloc, before, tape)?;
+    let report = report_on(rt, alloc, before, tape);
     expect_report(rt, &report, row);
-    Ok(())
 }
 
 #[test]
-fn each_tape_is_checked_to_its_entry(rt: HostRuntime) -> Result<(), Fail> {
+fn each_tape_is_checked_to_its_entry(rt: HostRuntime) {
     for row in &TAPES {
-        expect_tape(&rt, rt.alloc(), row)?;
+        expect_tape(&rt, rt.alloc(), row);
     }
-    Ok(())
 }
 
 /// Whether two causes are the same one of the two that the location of a word can have.
@@ -133,11 +130,10 @@ fn expect_fault(
 }
 
 #[test]
-fn an_odd_directive_is_refused(rt: HostRuntime) -> Result<(), Fail> {
-    let store = store_with_theta(&rt, rt.alloc(), 5)?;
-    let told = checked(&rt, rt.alloc(), Size::Full, &store, "T59Z")?;
+fn an_odd_directive_is_refused(rt: HostRuntime) {
+    let store = store_with_theta(&rt, rt.alloc(), 5);
+    let told = checked(&rt, rt.alloc(), Size::Full, &store, "T59Z");
     expect_fault(&rt, &told, 3, TapeCause::StoreEnd, "T59Z");
-    Ok(())
 }
 
 /// The report on the rows of the rest of a tape, or their fault, by a directive that aims at a location of the store.
@@ -160,10 +156,10 @@ fn checked_from(
     alloc: Global,
     number: u32,
     tape: &str,
-) -> Result<Result<Checked, TapeFault>, Fail> {
-    let store = Store::cleared(alloc)?;
-    let rows = rows_of(alloc, tape)?;
-    Ok(checked_rows(rt, alloc, word(rt, number), &store, &rows))
+) -> Result<Checked, TapeFault> {
+    let store = Store::cleared(alloc).expect(rt, "memory");
+    let rows = rows_of(rt, alloc, tape);
+    checked_rows(rt, alloc, word(rt, number), &store, &rows)
 }
 
 /// Checks a report on the rest of a tape of rows of one byte: the word that it places at a location, and the orders.
@@ -192,21 +188,20 @@ fn expect_rest_from(
     tape: &str,
     placed: (u16, u32),
     orders: u64,
-) -> Result<(), Fail> {
+) {
     let (address, word) = placed;
-    let told = checked_from(rt, alloc, number, tape)?;
+    let told = checked_from(rt, alloc, number, tape);
     let report = told.ok().expect(rt, tape);
     expect_rest(rt, &report, tape, address, word, orders);
-    Ok(())
 }
 
 #[test]
-fn the_rest_of_a_tape_goes_by_the_directive_that_is_left(rt: HostRuntime) -> Result<(), Fail> {
+fn the_rest_of_a_tape_goes_by_the_directive_that_is_left(rt: HostRuntime) {
     expect_rest_from(&rt, rt.alloc(), 20_680, "PFE64KPF", (100, 0), 84)
 }
 
 #[test]
-fn the_rest_of_a_tape_goes_on_at_the_last_location(rt: HostRuntime) -> Result<(), Fail> {
+fn the_rest_of_a_tape_goes_on_at_the_last_location(rt: HostRuntime) {
     expect_rest_from(&rt, rt.alloc(), 22_526, "P5FE64KPF", (1023, 10), 93)
 }
 
@@ -218,17 +213,14 @@ fn expect_rest_refused(
     tape: &str,
     row: usize,
     cause: TapeCause,
-) -> Result<(), Fail> {
-    let told = checked_from(rt, alloc, number, tape)?;
+) {
+    let told = checked_from(rt, alloc, number, tape);
     expect_fault(rt, &told, row, cause, tape);
-    Ok(())
 }
 
 #[test]
-fn the_rest_of_a_tape_is_refused_by_the_directive_that_is_left(
-    rt: HostRuntime,
-) -> Result<(), Fail> {
+fn the_rest_of_a_tape_is_refused_by_the_directive_that_is_left(rt: HostRuntime) {
     let (before, end) = (TapeCause::LoaderStore, TapeCause::StoreEnd);
-    expect_rest_refused(&rt, rt.alloc(), 20_480, "PF", 1, before)?;
+    expect_rest_refused(&rt, rt.alloc(), 20_480, "PF", 1, before);
     expect_rest_refused(&rt, rt.alloc(), 22_526, "P5FPF", 4, end)
 }

@@ -6,7 +6,6 @@ use ed_initial1::Checked1;
 use ed_initial1::Tape1Cause::{self, BadRow, EndOfTape, FirstWord, NumberTooLarge};
 use std::alloc::Global;
 use std::process::Abort;
-use std::test::Fail;
 
 /// A tape, and the orders, the rows and the end that the check tells.
 type Row = (&'static str, u64, usize, u16);
@@ -29,19 +28,17 @@ fn expect_report(rt: &impl Abort, report: &Checked1, row: &Row) {
 }
 
 /// Checks what the check of a tape tells.
-fn expect_checked(rt: &impl Abort, alloc: Global, row: &Row) -> Result<(), Fail> {
+fn expect_checked(rt: &impl Abort, alloc: Global, row: &Row) {
     let (tape, ..) = *row;
-    let report = checked_text(rt, alloc, tape)?.ok().expect(rt, tape);
+    let report = checked_text(rt, alloc, tape).ok().expect(rt, tape);
     expect_report(rt, &report, row);
-    Ok(())
 }
 
 #[test]
-fn the_check_tells_what_a_tape_comes_to(rt: HostRuntime) -> Result<(), Fail> {
+fn the_check_tells_what_a_tape_comes_to(rt: HostRuntime) {
     for row in &TAPES {
-        expect_checked(&rt, rt.alloc(), row)?;
+        expect_checked(&rt, rt.alloc(), row);
     }
-    Ok(())
 }
 
 /// Locations at which the tape T 35 S, 5 0 L, erase 3 2 7 6 7 L, V 3 2 7 6 7 S places no word.
@@ -74,12 +71,11 @@ fn expect_words(rt: &impl Abort, report: &Checked1) {
 }
 
 #[test]
-fn the_check_tells_the_words_of_a_tape(rt: HostRuntime) -> Result<(), Fail> {
+fn the_check_tells_the_words_of_a_tape(rt: HostRuntime) {
     let tape = "T35S50L*32767LV32767S";
-    let report = checked_text(&rt, rt.alloc(), tape)?.ok().expect(&rt, tape);
+    let report = checked_text(&rt, rt.alloc(), tape).ok().expect(&rt, tape);
     expect_no_words(&rt, &report);
     expect_words(&rt, &report);
-    Ok(())
 }
 
 /// Tapes, the rows of their faults, and the faults.
@@ -110,21 +106,14 @@ const FAULTS: [(&str, usize, Tape1Cause); 22] = [
 ];
 
 /// Checks the fault of a tape.
-fn expect_fault(
-    rt: &impl Abort,
-    alloc: Global,
-    tape: &str,
-    fault: (usize, Tape1Cause),
-) -> Result<(), Fail> {
-    let told = checked_text(rt, alloc, tape)?;
-    expect(rt, reports(&told, Some(fault))?, tape);
-    Ok(())
+fn expect_fault(rt: &impl Abort, alloc: Global, tape: &str, fault: (usize, Tape1Cause)) {
+    let told = checked_text(rt, alloc, tape);
+    expect(rt, reports(rt, &told, Some(fault)), tape);
 }
 
 #[test]
-fn each_fault_at_its_row(rt: HostRuntime) -> Result<(), Fail> {
+fn each_fault_at_its_row(rt: HostRuntime) {
     for (tape, row, cause) in &FAULTS {
-        expect_fault(&rt, rt.alloc(), tape, (*row, *cause))?;
+        expect_fault(&rt, rt.alloc(), tape, (*row, *cause));
     }
-    Ok(())
 }

@@ -10,7 +10,6 @@ use ed_run::run;
 use ed_words::Word;
 use std::alloc::Global;
 use std::process::Abort;
-use std::test::Fail;
 
 /// The Initial Orders. No clause says which they are, so that no proof goes through them.
 pub fn listing() -> [Word; 41] {
@@ -24,11 +23,11 @@ fn ending_of_run(rt: &impl Abort, machine: &mut Machine, paper: &mut Paper) -> E
 }
 
 /// A cleared machine started on a tape that prints A, with two blank rows after its own.
-fn started_machine(alloc: Global) -> Result<Machine, Fail> {
-    let mut machine = Machine::cleared(alloc)?;
-    let rows = tape_of_text(alloc, b"T64KGKO2@ZFAFEZPF..")?;
+fn started_machine(rt: &impl Abort, alloc: Global) -> Machine {
+    let mut machine = Machine::cleared(alloc).expect(rt, "memory");
+    let rows = tape_of_text(alloc, b"T64KGKO2@ZFAFEZPF..").expect(rt, "a tape");
     let _no_rows = machine.start(&listing(), rows);
-    Ok(machine)
+    machine
 }
 
 /// Runs such a machine, and checks that it prints A and stops.
@@ -43,11 +42,11 @@ fn run_to_stop(rt: &impl Abort, machine: &mut Machine, paper: &mut Paper) {
 }
 
 /// Such a machine after its run.
-fn machine_after_a_run(rt: &impl Abort, alloc: Global) -> Result<Machine, Fail> {
-    let mut paper = Paper::new(alloc, 10)?;
-    let mut machine = started_machine(alloc)?;
+fn machine_after_a_run(rt: &impl Abort, alloc: Global) -> Machine {
+    let mut paper = Paper::new(alloc, 10).expect(rt, "memory");
+    let mut machine = started_machine(rt, alloc);
     run_to_stop(rt, &mut machine, &mut paper);
-    Ok(machine)
+    machine
 }
 
 /// Checks the registers after the run.
@@ -68,10 +67,9 @@ fn expect_tape_and_words(rt: &impl Abort, machine: &Machine) {
 }
 
 /// Checks the text of the ending of the run.
-fn expect_ending(rt: &impl Abort, alloc: Global, machine: &Machine) -> Result<(), Fail> {
-    let line = ending_text(alloc, Ending::Stopped, machine)?;
+fn expect_ending(rt: &impl Abort, alloc: Global, machine: &Machine) {
+    let line = ending_text(alloc, Ending::Stopped, machine).expect(rt, "memory");
     assert!(rt; line.as_slice() == b"stopped at 66 after 193\n".as_slice());
-    Ok(())
 }
 
 /// Checks that two machines have the same store.
@@ -80,17 +78,16 @@ fn expect_same_store(rt: &impl Abort, one: &Machine, other: &Machine) {
 }
 
 #[test]
-fn a_run_leaves_its_registers_its_tape_and_its_words(rt: HostRuntime) -> Result<(), Fail> {
-    let machine = machine_after_a_run(&rt, rt.alloc())?;
+fn a_run_leaves_its_registers_its_tape_and_its_words(rt: HostRuntime) {
+    let machine = machine_after_a_run(&rt, rt.alloc());
     expect_registers(&rt, &machine);
     expect_tape_and_words(&rt, &machine);
-    Ok(())
 }
 
 #[test]
-fn the_ending_of_a_run_is_told(rt: HostRuntime) -> Result<(), Fail> {
-    let machine = machine_after_a_run(&rt, rt.alloc())?;
-    let other = machine.copy()?;
+fn the_ending_of_a_run_is_told(rt: HostRuntime) {
+    let machine = machine_after_a_run(&rt, rt.alloc());
+    let other = machine.copy().expect(&rt, "memory");
     expect_same_store(&rt, &machine, &other);
-    expect_ending(&rt, rt.alloc(), &other)
+    expect_ending(&rt, rt.alloc(), &other);
 }

@@ -6,7 +6,6 @@ use ed_notation::Checked;
 use ed_words::Size;
 use std::alloc::Global;
 use std::process::Abort;
-use std::test::Fail;
 
 /// A program that leaves a sandwich digit between 100 and 101, and words of its own.
 const BEFORE: &str = "T64KGKA4#@RDT100DZFPFPDEZPF";
@@ -22,10 +21,10 @@ fn run_before(rt: &impl Abort, machine: &mut Machine) {
 }
 
 /// A machine on which another program was run before.
-fn used_machine(rt: &impl Abort, alloc: Global, size: Size) -> Result<Machine, Fail> {
-    let mut machine = started(alloc, size, BEFORE)?;
+fn used_machine(rt: &impl Abort, alloc: Global, size: Size) -> Machine {
+    let mut machine = started(rt, alloc, size, BEFORE);
     run_before(rt, &mut machine);
-    Ok(machine)
+    machine
 }
 
 /// The first location above 43 that holds neither what the tape placed there nor, if it placed nothing, what was there
@@ -67,28 +66,22 @@ fn is_as_checked(
     machine: &mut Machine,
     before: &Machine,
     tape: &str,
-) -> Result<(), Fail> {
-    start_on(alloc, machine, tape)?;
-    let told = checked(rt, alloc, before.size(), before.store(), tape)?;
+) {
+    start_on(rt, alloc, machine, tape);
+    let told = checked(rt, alloc, before.size(), before.store(), tape);
     let report = told.ok().expect(rt, tape);
     expect_as_checked(rt, machine, before, &report, tape);
-    Ok(())
 }
 
 /// Compares the load of a tape on a machine with the checker's report on the machine before.
-fn is_as_checked_before(
-    rt: &impl Abort,
-    alloc: Global,
-    machine: &mut Machine,
-    tape: &str,
-) -> Result<(), Fail> {
-    let before = machine.copy()?;
+fn is_as_checked_before(rt: &impl Abort, alloc: Global, machine: &mut Machine, tape: &str) {
+    let before = machine.copy().expect(rt, "memory");
     is_as_checked(rt, alloc, machine, &before, tape)
 }
 
 /// Compares the load of a tape on a machine of a size that was used before with the checker's report.
-fn expect_checked(rt: &impl Abort, alloc: Global, size: Size, tape: &str) -> Result<(), Fail> {
-    let mut machine = used_machine(rt, alloc, size)?;
+fn expect_checked(rt: &impl Abort, alloc: Global, size: Size, tape: &str) {
+    let mut machine = used_machine(rt, alloc, size);
     is_as_checked_before(rt, alloc, &mut machine, tape)
 }
 
@@ -104,10 +97,9 @@ const TAPES: [(Size, &str); 7] = [
 ];
 
 #[test]
-fn the_store_at_the_entry_is_what_the_checker_tells(rt: HostRuntime) -> Result<(), Fail> {
+fn the_store_at_the_entry_is_what_the_checker_tells(rt: HostRuntime) {
     for row in &TAPES {
         let (size, tape) = *row;
-        expect_checked(&rt, rt.alloc(), size, tape)?;
+        expect_checked(&rt, rt.alloc(), size, tape);
     }
-    Ok(())
 }

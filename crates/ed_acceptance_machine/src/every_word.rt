@@ -7,7 +7,6 @@ use ed_machine::{Machine, Turn};
 use ed_words::{Size, Word};
 use std::alloc::Global;
 use std::process::Abort;
-use std::test::Fail;
 
 /// Orders that leave something in the store, in a sandwich digit and in each register, and print.
 const USE: &str = "T100D H30F A31F R0D T101D A30F O31F";
@@ -28,10 +27,10 @@ fn expect_used(rt: &impl Abort, machine: &Machine) {
 }
 
 /// A machine that has obeyed these orders.
-fn used_machine(rt: &impl Abort, alloc: Global, size: Size) -> Result<Machine, Fail> {
-    let machine = machine_after(rt, alloc, size, USE, DATA)?;
+fn used_machine(rt: &impl Abort, alloc: Global, size: Size) -> Machine {
+    let machine = machine_after(rt, alloc, size, USE, DATA);
     expect_used(rt, &machine);
-    Ok(machine)
+    machine
 }
 
 /// Whether two machines are equal by all that can be read of them.
@@ -113,22 +112,19 @@ fn first_not_blocked(
 }
 
 /// The first word that is not an order, or reads with no row left, and yet answers otherwise or changes the machine.
-fn first_that_is_obeyed(rt: &impl Abort, alloc: Global, size: Size) -> Result<Option<u32>, Fail> {
-    let mut machine = used_machine(rt, alloc, size)?;
-    let mut before = machine.copy()?;
-    Ok(first_not_blocked(rt, alloc, &mut machine, &mut before))
+fn first_that_is_obeyed(rt: &impl Abort, alloc: Global, size: Size) -> Option<u32> {
+    let mut machine = used_machine(rt, alloc, size);
+    let mut before = machine.copy().expect(rt, "memory");
+    first_not_blocked(rt, alloc, &mut machine, &mut before)
 }
 
 #[test]
-fn words_that_are_no_orders_and_reads_without_a_row_change_nothing(
-    rt: HostRuntime,
-) -> Result<(), Fail> {
+fn words_that_are_no_orders_and_reads_without_a_row_change_nothing(rt: HostRuntime) {
     for size in [Size::Small, Size::Full] {
-        let found = first_that_is_obeyed(&rt, rt.alloc(), size)?;
+        let found = first_that_is_obeyed(&rt, rt.alloc(), size);
         let locations = size.value();
         assert!(rt; found.is_none(), "{found:?} in {locations} locations");
     }
-    Ok(())
 }
 
 /// Whether the turn of an order is one that its letter may have, and the row that it left is right.
@@ -164,38 +160,39 @@ fn first_not_obeyed(
     alloc: Global,
     machine: &mut Machine,
     image: &[Word],
-) -> Result<Option<u32>, Fail> {
+) -> Option<u32> {
     for number in 0..131_072 {
         let order = word(rt, number);
         let letter = letter_of(rt, order);
         if b"ASHVNTUCRLEGIOFXYZ".contains(&letter) {
             start_with(rt, machine, image, Vec::new(alloc));
             obey(rt, machine, USE);
-            if !is_obeyed(rt, machine, order, letter, tape_of_text(alloc, b"A")?) {
-                return Ok(Some(number));
+            if !is_obeyed(
+                rt,
+                machine,
+                order,
+                letter,
+                tape_of_text(alloc, b"A").expect(rt, "a tape"),
+            ) {
+                return Some(number);
             }
         }
     }
-    Ok(None)
+    None
 }
 
 /// The first word that is an order and yet is not obeyed as one, on a used machine of a size.
-fn first_that_is_not_obeyed(
-    rt: &impl Abort,
-    alloc: Global,
-    size: Size,
-) -> Result<Option<u32>, Fail> {
-    let image = image_of(rt, alloc, USE, DATA)?;
-    let mut machine = used_machine(rt, alloc, size)?;
+fn first_that_is_not_obeyed(rt: &impl Abort, alloc: Global, size: Size) -> Option<u32> {
+    let image = image_of(rt, alloc, USE, DATA);
+    let mut machine = used_machine(rt, alloc, size);
     first_not_obeyed(rt, alloc, &mut machine, &image)
 }
 
 #[test]
-fn every_order_is_obeyed(rt: HostRuntime) -> Result<(), Fail> {
+fn every_order_is_obeyed(rt: HostRuntime) {
     for size in [Size::Small, Size::Full] {
-        let found = first_that_is_not_obeyed(&rt, rt.alloc(), size)?;
+        let found = first_that_is_not_obeyed(&rt, rt.alloc(), size);
         let locations = size.value();
         assert!(rt; found.is_none(), "{found:?} in {locations} locations");
     }
-    Ok(())
 }

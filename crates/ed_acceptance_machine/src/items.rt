@@ -6,7 +6,6 @@ use crate::support::first_difference;
 use ed_notation::{Item, rows_of_items, spellable, text_of_items};
 use std::alloc::Global;
 use std::process::Abort;
-use std::test::Fail;
 
 /// The items T 64 K and A 2 π @.
 fn items(rt: &impl Abort) -> (Item, Item) {
@@ -26,28 +25,26 @@ fn items(rt: &impl Abort) -> (Item, Item) {
 }
 
 /// Checks that the items are spelled in rows.
-fn expect_rows(rt: &impl Abort, alloc: Global) -> Result<(), Fail> {
+fn expect_rows(rt: &impl Abort, alloc: Global) {
     let (first, second) = items(rt);
     assert!(rt; spellable(&first) && spellable(&second));
-    let rows = rows_of_items(alloc, &[first, second])?;
+    let rows = rows_of_items(alloc, &[first, second]).expect(rt, "memory");
     let differs = first_difference(&rows, &[5, 6, 4, 14, 28, 2, 11, 18]);
     assert!(rt; differs.is_none(), "row {differs:?}");
-    Ok(())
 }
 
 /// Checks that the items are spelled in text.
-fn expect_text(rt: &impl Abort, alloc: Global) -> Result<(), Fail> {
+fn expect_text(rt: &impl Abort, alloc: Global) {
     let (first, second) = items(rt);
     assert!(rt; spellable(&first) && spellable(&second));
-    let text = text_of_items(alloc, &[first, second])?;
+    let text = text_of_items(alloc, &[first, second]).expect(rt, "memory");
     assert!(rt; text.as_slice() == b"T64K\nA2#@\n".as_slice());
-    Ok(())
 }
 
 #[test]
-fn items_are_spelled(rt: HostRuntime) -> Result<(), Fail> {
-    expect_rows(&rt, rt.alloc())?;
-    expect_text(&rt, rt.alloc())
+fn items_are_spelled(rt: HostRuntime) {
+    expect_rows(&rt, rt.alloc());
+    expect_text(&rt, rt.alloc());
 }
 
 /// The words of the Initial Orders, by location.

@@ -7,7 +7,6 @@ use ed_machine::Machine;
 use ed_words::Size;
 use std::alloc::Global;
 use std::process::Abort;
-use std::test::Fail;
 
 /// What the loader and the tape of a letter leave at the entry, by location.
 const AT_THE_ENTRY: [(u16, u32); 11] = [
@@ -52,32 +51,25 @@ fn wrong_at_the_entry(rt: &impl Abort, machine: &Machine) -> &'static str {
 }
 
 /// Starts a machine again, which has obeyed `done` orders, on the tape of a letter; checks its load and its stop.
-fn expect_load(
-    rt: &impl Abort,
-    alloc: Global,
-    machine: &mut Machine,
-    done: u64,
-) -> Result<(), Fail> {
-    start_on(alloc, machine, LETTER)?;
+fn expect_load(rt: &impl Abort, alloc: Global, machine: &mut Machine, done: u64) {
+    start_on(rt, alloc, machine, LETTER);
     expect(rt, machine.orders_done() == done, "the orders before");
     expect(rt, loaded(rt, machine) == Ok((64, 191)), "the load");
     let wrong = wrong_at_the_entry(rt, machine);
     expect(rt, wrong.is_empty(), wrong);
     expect(rt, !stops(rt, machine) && stops(rt, machine), "the stop");
-    Ok(())
 }
 
 /// Checks two loads of that tape, one after the other, on a cleared machine.
-fn expect_two_loads(rt: &impl Abort, alloc: Global, machine: &mut Machine) -> Result<(), Fail> {
-    expect_load(rt, alloc, machine, 0)?;
-    expect_load(rt, alloc, machine, 193)?;
+fn expect_two_loads(rt: &impl Abort, alloc: Global, machine: &mut Machine) {
+    expect_load(rt, alloc, machine, 0);
+    expect_load(rt, alloc, machine, 193);
     expect(rt, machine.last_printed() == Code::new(28), "the letter");
-    Ok(())
 }
 
 #[test]
-fn a_tape_is_loaded_twice_without_clearing(rt: HostRuntime) -> Result<(), Fail> {
-    let mut machine = Machine::cleared(rt.alloc())?;
+fn a_tape_is_loaded_twice_without_clearing(rt: HostRuntime) {
+    let mut machine = Machine::cleared(rt.alloc()).expect(&rt, "memory");
     expect_two_loads(&rt, rt.alloc(), &mut machine)
 }
 
@@ -113,10 +105,9 @@ fn expect_rests(rt: &impl Abort, machine: &mut Machine) {
 }
 
 #[test]
-fn the_loader_rests_at_34_between_items(rt: HostRuntime) -> Result<(), Fail> {
-    let mut machine = started(rt.alloc(), Size::Full, LETTER)?;
+fn the_loader_rests_at_34_between_items(rt: HostRuntime) {
+    let mut machine = started(&rt, rt.alloc(), Size::Full, LETTER);
     expect_rests(&rt, &mut machine);
-    Ok(())
 }
 
 /// Tapes, the locations at which their programs are entered, and the orders until then.
@@ -133,34 +124,26 @@ const ENTERED: [(&str, u16, u64); 5] = [
 const LOST: [(&str, u64); 2] = [("", 9), ("T64K", 49)];
 
 /// Checks how the load of a tape ends.
-fn expect_end(
-    rt: &impl Abort,
-    alloc: Global,
-    tape: &str,
-    end: Result<(u16, u64), u64>,
-) -> Result<(), Fail> {
-    let mut machine = started(alloc, Size::Full, tape)?;
+fn expect_end(rt: &impl Abort, alloc: Global, tape: &str, end: Result<(u16, u64), u64>) {
+    let mut machine = started(rt, alloc, Size::Full, tape);
     expect(rt, loaded(rt, &mut machine) == end, tape);
-    Ok(())
 }
 
 #[test]
-fn tapes_are_loaded_at_their_cost_or_are_lost(rt: HostRuntime) -> Result<(), Fail> {
+fn tapes_are_loaded_at_their_cost_or_are_lost(rt: HostRuntime) {
     for row in &ENTERED {
         let (tape, at, orders) = *row;
-        expect_end(&rt, rt.alloc(), tape, Ok((at, orders)))?;
+        expect_end(&rt, rt.alloc(), tape, Ok((at, orders)));
     }
     for row in &LOST {
         let (tape, orders) = *row;
-        expect_end(&rt, rt.alloc(), tape, Err(orders))?;
+        expect_end(&rt, rt.alloc(), tape, Err(orders));
     }
-    Ok(())
 }
 
 #[test]
-fn a_negative_entry_is_lost(rt: HostRuntime) -> Result<(), Fail> {
-    let mut machine = started(rt.alloc(), Size::Full, "E64KAF")?;
+fn a_negative_entry_is_lost(rt: HostRuntime) {
+    let mut machine = started(&rt, rt.alloc(), Size::Full, "E64KAF");
     assert!(rt; loaded(&rt, &mut machine).is_err());
     assert!(rt; !is_started(&machine));
-    Ok(())
 }

@@ -9,7 +9,6 @@ use ed_machine::{Machine, Turn};
 use ed_words::{Size, Word};
 use std::alloc::Global;
 use std::process::Abort;
-use std::test::Fail;
 
 /// The listing's words, by location.
 const WORDS: [u32; 31] = [
@@ -73,19 +72,18 @@ fn has_entered(machine: &Machine) -> bool {
 }
 
 /// Adds T 1023 S and 991 more items, each of this text.
-fn add_largest(tape: &mut String, item: &str) -> Result<(), Fail> {
-    tape.push_str("T1023S")?;
+fn add_largest(rt: &impl Abort, tape: &mut String, item: &str) {
+    tape.push_str("T1023S").expect(rt, "memory");
     for _ in 0..991 {
-        tape.push_str(item)?;
+        tape.push_str(item).expect(rt, "memory");
     }
-    Ok(())
 }
 
 /// The largest tape: T 1023 S and 991 more items, each of this text.
-fn largest(alloc: Global, item: &str) -> Result<Vec<Code>, Fail> {
+fn largest(rt: &impl Abort, alloc: Global, item: &str) -> Vec<Code> {
     let mut tape = String::new(alloc);
-    add_largest(&mut tape, item)?;
-    rows_of(alloc, &tape)
+    add_largest(rt, &mut tape, item);
+    rows_of(rt, alloc, &tape)
 }
 
 /// A short program that leaves 1 in the sandwich digit of the pair 0, 1: A 4 F, R D, T 0 D and Z F, and the word 1,
@@ -93,11 +91,10 @@ fn largest(alloc: Global, item: &str) -> Result<Vec<Code>, Fail> {
 const HALVES_A_WORD: [u32; 5] = [114_696, 16_385, 20_481, 53_248, 1];
 
 /// Puts that program into an image.
-fn put_program(rt: &impl Abort, image: &mut Vec<Word>) -> Result<(), Fail> {
+fn put_program(rt: &impl Abort, image: &mut Vec<Word>) {
     for number in &HALVES_A_WORD {
-        image.push(word(rt, *number))?;
+        image.push(word(rt, *number)).ok().expect(rt, "memory");
     }
-    Ok(())
 }
 
 /// Obeys the next orders.
@@ -107,13 +104,12 @@ fn obey(rt: &impl Abort, machine: &mut Machine, orders: u64) {
 }
 
 /// Runs that program.
-fn set_sandwich(rt: &impl Abort, alloc: Global, machine: &mut Machine) -> Result<(), Fail> {
+fn set_sandwich(rt: &impl Abort, alloc: Global, machine: &mut Machine) {
     let mut image = Vec::new(alloc);
-    put_program(rt, &mut image)?;
+    put_program(rt, &mut image);
     assert!(rt; image.len() < 41);
     machine.start(&image, Vec::new(alloc));
     obey(rt, machine, 3);
-    Ok(())
 }
 
 /// Loads the tape that a machine was started on, and enters it.
@@ -122,28 +118,26 @@ fn enter(rt: &impl Abort, machine: &mut Machine) {
 }
 
 /// Loads the largest tape of Q 7 L on a machine that was started on it, and runs the program that halves a word.
-fn fill(rt: &impl Abort, alloc: Global, machine: &mut Machine) -> Result<(), Fail> {
+fn fill(rt: &impl Abort, alloc: Global, machine: &mut Machine) {
     enter(rt, machine);
-    set_sandwich(rt, alloc, machine)?;
+    set_sandwich(rt, alloc, machine);
     expect(
         rt,
         machine.sandwich(0) && machine.word(35).value() == 4111,
         "the store",
     );
-    Ok(())
 }
 
 /// A machine whose locations 31 to 1022 hold the word of Q 7 L, and whose pair 0, 1 has the sandwich digit 1.
-fn used(rt: &impl Abort, alloc: Global) -> Result<Machine, Fail> {
-    let mut machine = started(alloc, largest(alloc, "Q7L")?)?;
-    fill(rt, alloc, &mut machine)?;
-    Ok(machine)
+fn used(rt: &impl Abort, alloc: Global) -> Machine {
+    let mut machine = started(rt, alloc, largest(rt, alloc, "Q7L"));
+    fill(rt, alloc, &mut machine);
+    machine
 }
 
 /// Starts a machine on the tape of a letter.
-fn start_letter(alloc: Global, machine: &mut Machine) -> Result<(), Fail> {
-    start(machine, rows_of(alloc, LETTER)?);
-    Ok(())
+fn start_letter(rt: &impl Abort, alloc: Global, machine: &mut Machine) {
+    start(machine, rows_of(rt, alloc, LETTER));
 }
 
 /// Loads the tape of a letter, and checks what is left at the entry.
@@ -157,16 +151,15 @@ fn expect_letter(rt: &impl Abort, machine: &mut Machine, before: &Machine) {
 }
 
 /// Checks what the tape of a letter leaves on a machine.
-fn expect_letter_on(rt: &impl Abort, alloc: Global, machine: &mut Machine) -> Result<(), Fail> {
-    let before = machine.copy()?;
-    start_letter(alloc, machine)?;
+fn expect_letter_on(rt: &impl Abort, alloc: Global, machine: &mut Machine) {
+    let before = machine.copy().expect(rt, "memory");
+    start_letter(rt, alloc, machine);
     expect_letter(rt, machine, &before);
-    Ok(())
 }
 
 #[test]
-fn a_used_machine_is_loaded_cell_by_cell(rt: HostRuntime) -> Result<(), Fail> {
-    let mut machine = used(&rt, rt.alloc())?;
+fn a_used_machine_is_loaded_cell_by_cell(rt: HostRuntime) {
+    let mut machine = used(&rt, rt.alloc());
     expect_letter_on(&rt, rt.alloc(), &mut machine)
 }
 
@@ -190,24 +183,17 @@ fn expect_turns(rt: &impl Abort, machine: &mut Machine) {
 }
 
 #[test]
-fn the_first_order_clears_the_place_that_it_names(rt: HostRuntime) -> Result<(), Fail> {
-    let mut machine = used(&rt, rt.alloc())?;
-    start_letter(rt.alloc(), &mut machine)?;
+fn the_first_order_clears_the_place_that_it_names(rt: HostRuntime) {
+    let mut machine = used(&rt, rt.alloc());
+    start_letter(&rt, rt.alloc(), &mut machine);
     enter(&rt, &mut machine);
     expect_turns(&rt, &mut machine);
-    Ok(())
 }
 
 /// Checks how the load of a tape ends.
-fn expect_end(
-    rt: &impl Abort,
-    alloc: Global,
-    tape: &str,
-    end: Result<u64, u64>,
-) -> Result<(), Fail> {
-    let mut machine = started(alloc, rows_of(alloc, tape)?)?;
+fn expect_end(rt: &impl Abort, alloc: Global, tape: &str, end: Result<u64, u64>) {
+    let mut machine = started(rt, alloc, rows_of(rt, alloc, tape));
     expect(rt, loaded(rt, &mut machine) == end, tape);
-    Ok(())
 }
 
 /// Tapes, and the orders until the entry.
@@ -222,24 +208,22 @@ const ENTERED: [(&str, u64); 6] = [
 ];
 
 #[test]
-fn tapes_are_loaded_at_their_cost(rt: HostRuntime) -> Result<(), Fail> {
+fn tapes_are_loaded_at_their_cost(rt: HostRuntime) {
     for row in &ENTERED {
         let (tape, orders) = *row;
-        expect_end(&rt, rt.alloc(), tape, Ok(orders))?;
+        expect_end(&rt, rt.alloc(), tape, Ok(orders));
     }
-    Ok(())
 }
 
 /// Tapes that end too early, and the orders until then.
 const LOST: [(&str, u64); 5] = [("", 4), ("T", 9), ("T35", 29), ("T35S", 44), ("T35SO", 48)];
 
 #[test]
-fn a_tape_that_ends_too_early_is_lost(rt: HostRuntime) -> Result<(), Fail> {
+fn a_tape_that_ends_too_early_is_lost(rt: HostRuntime) {
     for row in &LOST {
         let (tape, orders) = *row;
-        expect_end(&rt, rt.alloc(), tape, Err(orders))?;
+        expect_end(&rt, rt.alloc(), tape, Err(orders));
     }
-    Ok(())
 }
 
 /// Checks the report on the largest tape, and its load on a machine that was started on it.
@@ -257,55 +241,41 @@ fn expect_largest(
 }
 
 /// The report on the largest tape.
-fn checked_largest(rt: &impl Abort, alloc: Global, item: &str) -> Result<Checked1, Fail> {
-    let rows = largest(alloc, item)?;
-    Ok(checked(rt, alloc, &rows).ok().expect(rt, item))
+fn checked_largest(rt: &impl Abort, alloc: Global, item: &str) -> Checked1 {
+    let rows = largest(rt, alloc, item);
+    checked(rt, alloc, &rows).ok().expect(rt, item)
 }
 
 /// Checks the largest tape of an item, its orders and its rows.
-fn expect_tape(
-    rt: &impl Abort,
-    alloc: Global,
-    item: &str,
-    orders: u64,
-    rows: usize,
-) -> Result<(), Fail> {
-    let report = checked_largest(rt, alloc, item)?;
-    let mut machine = started(alloc, largest(alloc, item)?)?;
+fn expect_tape(rt: &impl Abort, alloc: Global, item: &str, orders: u64, rows: usize) {
+    let report = checked_largest(rt, alloc, item);
+    let mut machine = started(rt, alloc, largest(rt, alloc, item));
     expect_largest(rt, &report, &mut machine, (item, orders, rows));
-    Ok(())
 }
 
 #[test]
-fn the_largest_tape(rt: HostRuntime) -> Result<(), Fail> {
-    expect_tape(&rt, rt.alloc(), "PS", 18_892, 1988)?;
+fn the_largest_tape(rt: HostRuntime) {
+    expect_tape(&rt, rt.alloc(), "PS", 18_892, 1988);
     expect_tape(&rt, rt.alloc(), "Q7L", 28_802, 2979)
 }
 
 /// Whether a cleared machine of a size counts as started after this many orders of the listing.
-fn is_started_after(rt: &impl Abort, alloc: Global, size: Size, orders: u64) -> Result<bool, Fail> {
-    let mut machine = Machine::cleared_of(alloc, size)?;
+fn is_started_after(rt: &impl Abort, alloc: Global, size: Size, orders: u64) -> bool {
+    let mut machine = Machine::cleared_of(alloc, size).expect(rt, "memory");
     start(&mut machine, Vec::new(alloc));
     obey(rt, &mut machine, orders);
-    Ok(is_started1(&machine))
+    is_started1(&machine)
 }
 
 /// Checks whether such a machine counts as started.
-fn expect_started(
-    rt: &impl Abort,
-    alloc: Global,
-    size: Size,
-    orders: u64,
-    wanted: bool,
-) -> Result<(), Fail> {
-    let started = is_started_after(rt, alloc, size, orders)?;
+fn expect_started(rt: &impl Abort, alloc: Global, size: Size, orders: u64, wanted: bool) {
+    let started = is_started_after(rt, alloc, size, orders);
     assert!(rt; started == wanted, "{orders}");
-    Ok(())
 }
 
 #[test]
-fn a_machine_is_started_at_full_size_and_at_0(rt: HostRuntime) -> Result<(), Fail> {
-    expect_started(&rt, rt.alloc(), Size::Full, 0, true)?;
-    expect_started(&rt, rt.alloc(), Size::Full, 1, false)?;
+fn a_machine_is_started_at_full_size_and_at_0(rt: HostRuntime) {
+    expect_started(&rt, rt.alloc(), Size::Full, 0, true);
+    expect_started(&rt, rt.alloc(), Size::Full, 1, false);
     expect_started(&rt, rt.alloc(), Size::Small, 0, false)
 }

@@ -4,7 +4,6 @@ use ed_codes::Code;
 use ed_words::{Long, Word};
 use std::alloc::Global;
 use std::process::Abort;
-use std::test::Fail;
 
 pub fn word(rt: &impl Abort, number: u32) -> Word {
     Word::new(number).expect(rt, "a word")
@@ -19,18 +18,17 @@ pub fn code(rt: &impl Abort, number: u8) -> Code {
 }
 
 /// Puts the codes of these numbers into a list.
-fn put(rt: &impl Abort, codes: &mut Vec<Code>, numbers: &[u8]) -> Result<(), Fail> {
+fn put(rt: &impl Abort, codes: &mut Vec<Code>, numbers: &[u8]) {
     for number in numbers {
-        codes.push(code(rt, *number))?;
+        codes.push(code(rt, *number)).ok().expect(rt, "memory");
     }
-    Ok(())
 }
 
 /// The codes of these numbers.
-pub fn codes(rt: &impl Abort, alloc: Global, numbers: &[u8]) -> Result<Vec<Code>, Fail> {
+pub fn codes(rt: &impl Abort, alloc: Global, numbers: &[u8]) -> Vec<Code> {
     let mut codes = Vec::new(alloc);
-    put(rt, &mut codes, numbers)?;
-    Ok(codes)
+    put(rt, &mut codes, numbers);
+    codes
 }
 
 /// The number of the code of a list of one.

@@ -7,7 +7,6 @@ use ed_words::Size;
 use ed_words::Size::{Full, Small};
 use std::alloc::Global;
 use std::process::Abort;
-use std::test::Fail;
 
 /// The orders from location 0, the words at 30 to 33, and the accumulator after the orders.
 ///
@@ -74,29 +73,15 @@ const COUNTERS_IN_512: [Counted; 2] = [
 ];
 
 /// Checks the accumulator after orders.
-fn expect_accumulator(
-    rt: &impl Abort,
-    alloc: Global,
-    orders: &str,
-    data: [u32; 4],
-    number: u128,
-) -> Result<(), Fail> {
-    let machine = machine_after(rt, alloc, Full, orders, data)?;
+fn expect_accumulator(rt: &impl Abort, alloc: Global, orders: &str, data: [u32; 4], number: u128) {
+    let machine = machine_after(rt, alloc, Full, orders, data);
     expect(rt, machine.acc() == number, orders);
-    Ok(())
 }
 
 /// Checks the code that orders print last.
-fn expect_printed(
-    rt: &impl Abort,
-    alloc: Global,
-    orders: &str,
-    data: [u32; 4],
-    code: u8,
-) -> Result<(), Fail> {
-    let machine = machine_after(rt, alloc, Full, orders, data)?;
+fn expect_printed(rt: &impl Abort, alloc: Global, orders: &str, data: [u32; 4], code: u8) {
+    let machine = machine_after(rt, alloc, Full, orders, data);
     expect(rt, machine.last_printed() == Code::new(code), orders);
-    Ok(())
 }
 
 /// Checks the counter after orders on a store of a size.
@@ -107,45 +92,36 @@ fn expect_counter(
     orders: &str,
     data: [u32; 4],
     counter: u16,
-) -> Result<(), Fail> {
-    let machine = machine_after(rt, alloc, size, orders, data)?;
+) {
+    let machine = machine_after(rt, alloc, size, orders, data);
     expect(rt, machine.counter() == counter, orders);
-    Ok(())
 }
 
 #[test]
-fn each_order_leaves_the_accumulator_that_is_due(rt: HostRuntime) -> Result<(), Fail> {
+fn each_order_leaves_the_accumulator_that_is_due(rt: HostRuntime) {
     for (orders, data, number) in &ACCUMULATORS {
-        expect_accumulator(&rt, rt.alloc(), orders, *data, *number)?;
+        expect_accumulator(&rt, rt.alloc(), orders, *data, *number);
     }
-    Ok(())
 }
 
 #[test]
-fn each_order_prints_what_is_due(rt: HostRuntime) -> Result<(), Fail> {
+fn each_order_prints_what_is_due(rt: HostRuntime) {
     for (orders, data, code) in &PRINTED {
-        expect_printed(&rt, rt.alloc(), orders, *data, *code)?;
+        expect_printed(&rt, rt.alloc(), orders, *data, *code);
     }
-    Ok(())
 }
 
 /// Checks the counters of a table on a store of a size.
-fn expect_counters(
-    rt: &impl Abort,
-    alloc: Global,
-    size: Size,
-    rows: &[Counted],
-) -> Result<(), Fail> {
+fn expect_counters(rt: &impl Abort, alloc: Global, size: Size, rows: &[Counted]) {
     for (orders, data, counter) in rows {
-        expect_counter(rt, alloc, size, orders, *data, *counter)?;
+        expect_counter(rt, alloc, size, orders, *data, *counter);
     }
-    Ok(())
 }
 
 #[test]
-fn each_order_leaves_the_counter_that_is_due(rt: HostRuntime) -> Result<(), Fail> {
-    expect_counters(&rt, rt.alloc(), Full, &COUNTERS)?;
-    expect_counters(&rt, rt.alloc(), Small, &COUNTERS_IN_512)
+fn each_order_leaves_the_counter_that_is_due(rt: HostRuntime) {
+    expect_counters(&rt, rt.alloc(), Full, &COUNTERS);
+    expect_counters(&rt, rt.alloc(), Small, &COUNTERS_IN_512);
 }
 
 /// The orders from location 0, the words at 30 to 33, and two words that are due after the orders, each after its
@@ -185,24 +161,22 @@ fn expect_words(
     orders: &str,
     data: [u32; 4],
     wanted: &[(u16, u32); 2],
-) -> Result<(), Fail> {
-    let machine = machine_after(rt, alloc, size, orders, data)?;
+) {
+    let machine = machine_after(rt, alloc, size, orders, data);
     expect(rt, has_words(rt, &machine, wanted), orders);
-    Ok(())
 }
 
 /// Checks the words of a table on a store of a size.
-fn expect_all_words(rt: &impl Abort, alloc: Global, size: Size, rows: &[Left]) -> Result<(), Fail> {
+fn expect_all_words(rt: &impl Abort, alloc: Global, size: Size, rows: &[Left]) {
     for (orders, data, wanted) in rows {
-        expect_words(rt, alloc, size, orders, *data, wanted)?;
+        expect_words(rt, alloc, size, orders, *data, wanted);
     }
-    Ok(())
 }
 
 #[test]
-fn each_order_leaves_the_words_that_are_due(rt: HostRuntime) -> Result<(), Fail> {
-    expect_all_words(&rt, rt.alloc(), Full, &WORDS)?;
-    expect_all_words(&rt, rt.alloc(), Small, &WORDS_IN_512)
+fn each_order_leaves_the_words_that_are_due(rt: HostRuntime) {
+    expect_all_words(&rt, rt.alloc(), Full, &WORDS);
+    expect_all_words(&rt, rt.alloc(), Small, &WORDS_IN_512);
 }
 
 /// The rows that the order I reads, each to the least significant digits of a short location, or of the upper word of a
@@ -221,47 +195,40 @@ fn expect_read(
     machine: &mut Machine,
     order: &str,
     wanted: &[(u16, u32); 2],
-) -> Result<(), Fail> {
-    let image = image_of(rt, alloc, order, [7, 7, 7, 7])?;
-    start_with(rt, machine, &image, tape_of_text(alloc, b"VA")?);
+) {
+    let image = image_of(rt, alloc, order, [7, 7, 7, 7]);
+    start_with(
+        rt,
+        machine,
+        &image,
+        tape_of_text(alloc, b"VA").expect(rt, "a tape"),
+    );
     obey(rt, machine, order);
     expect(rt, has_words(rt, machine, wanted), order);
     expect(rt, machine.rows_left().len() == 1, order);
-    Ok(())
 }
 
 /// Checks that an order I on a cleared machine reads one of two rows.
-fn expect_first_read(
-    rt: &impl Abort,
-    alloc: Global,
-    order: &str,
-    wanted: &[(u16, u32); 2],
-) -> Result<(), Fail> {
-    let mut machine = Machine::cleared(alloc)?;
-    expect_read(rt, alloc, &mut machine, order, wanted)
+fn expect_first_read(rt: &impl Abort, alloc: Global, order: &str, wanted: &[(u16, u32); 2]) {
+    let mut machine = Machine::cleared(alloc).expect(rt, "memory");
+    expect_read(rt, alloc, &mut machine, order, wanted);
 }
 
 #[test]
-fn an_order_i_reads_a_row(rt: HostRuntime) -> Result<(), Fail> {
+fn an_order_i_reads_a_row(rt: HostRuntime) {
     for (order, wanted) in &READS {
-        expect_first_read(&rt, rt.alloc(), order, wanted)?;
+        expect_first_read(&rt, rt.alloc(), order, wanted);
     }
-    Ok(())
 }
 
 /// Orders that set each register.
 const REGISTERS: &str = "H30F A31F O30F";
 
 /// Starts a machine again that has obeyed these orders, and checks its registers.
-fn expect_registers_left(
-    rt: &impl Abort,
-    alloc: Global,
-    machine: &mut Machine,
-) -> Result<(), Fail> {
-    let image = image_of(rt, alloc, REGISTERS, [1, 2, 3, 4])?;
+fn expect_registers_left(rt: &impl Abort, alloc: Global, machine: &mut Machine) {
+    let image = image_of(rt, alloc, REGISTERS, [1, 2, 3, 4]);
     start_with(rt, machine, &image, Vec::new(alloc));
     expect_registers(rt, machine);
-    Ok(())
 }
 
 /// Checks the registers that these orders leave, and a word of the image.
@@ -277,26 +244,25 @@ fn expect_registers(rt: &impl Abort, machine: &Machine) {
 
 /// Start sets the counter and the tape, and does not change the registers. 28 is the code of the word 114688.
 #[test]
-fn a_second_start_leaves_the_registers(rt: HostRuntime) -> Result<(), Fail> {
-    let mut machine = machine_after(&rt, rt.alloc(), Full, REGISTERS, [114_688, 3, 0, 0])?;
-    expect_registers_left(&rt, rt.alloc(), &mut machine)
+fn a_second_start_leaves_the_registers(rt: HostRuntime) {
+    let mut machine = machine_after(&rt, rt.alloc(), Full, REGISTERS, [114_688, 3, 0, 0]);
+    expect_registers_left(&rt, rt.alloc(), &mut machine);
 }
 
 /// Orders that put the digit 1 between the words at 20 and 21: it is shifted out of the word 1.
 const SANDWICH: &str = "A31F R0D T20D";
 
 /// Starts a machine again that has obeyed these orders, and checks the digit between the words that Start writes.
-fn expect_sandwich_left(rt: &impl Abort, alloc: Global, machine: &mut Machine) -> Result<(), Fail> {
+fn expect_sandwich_left(rt: &impl Abort, alloc: Global, machine: &mut Machine) {
     expect(rt, machine.sandwich(20), "the digit before Start");
-    let image = image_of(rt, alloc, REGISTERS, [1, 2, 3, 4])?;
+    let image = image_of(rt, alloc, REGISTERS, [1, 2, 3, 4]);
     start_with(rt, machine, &image, Vec::new(alloc));
     expect(rt, machine.sandwich(20), "the digit after Start");
-    Ok(())
 }
 
 /// Start writes words, and no sandwich digit.
 #[test]
-fn a_second_start_leaves_the_sandwich_digits(rt: HostRuntime) -> Result<(), Fail> {
-    let mut machine = machine_after(&rt, rt.alloc(), Full, SANDWICH, [0, 1, 0, 0])?;
-    expect_sandwich_left(&rt, rt.alloc(), &mut machine)
+fn a_second_start_leaves_the_sandwich_digits(rt: HostRuntime) {
+    let mut machine = machine_after(&rt, rt.alloc(), Full, SANDWICH, [0, 1, 0, 0]);
+    expect_sandwich_left(&rt, rt.alloc(), &mut machine);
 }

@@ -10,7 +10,6 @@ use ed_store::Store;
 use ed_words::{Halves, Long, Order, Size, Word, fits};
 use std::alloc::Global;
 use std::process::Abort;
-use std::test::Fail;
 
 #[test]
 fn words_and_their_fields(rt: HostRuntime) {
@@ -88,14 +87,13 @@ fn codes_and_their_signs(rt: HostRuntime) {
 }
 
 /// Checks that the rows of a text are these.
-fn expect_rows(rt: &impl Abort, alloc: Global, text: &[u8], numbers: &[u8]) -> Result<(), Fail> {
-    let rows = tape_of_text(alloc, text)?;
+fn expect_rows(rt: &impl Abort, alloc: Global, text: &[u8], numbers: &[u8]) {
+    let rows = tape_of_text(alloc, text).expect(rt, "a tape");
     expect(rt, first_difference(&rows, numbers).is_none(), "the rows");
-    Ok(())
 }
 
 #[test]
-fn the_rows_of_a_text(rt: HostRuntime) -> Result<(), Fail> {
+fn the_rows_of_a_text(rt: HostRuntime) {
     let is_fault = matches!(
         tape_of_text(rt.alloc(), b"T6]"),
         Err(TextFault::NoRow {
@@ -133,30 +131,32 @@ fn code_of_sign(byte: u8) -> usize {
 }
 
 /// The same for what `tape_of_text` answers to that byte.
-fn answered(alloc: Global, byte: u8) -> Result<Option<usize>, Fail> {
+fn answered(rt: &impl Abort, alloc: Global, byte: u8) -> Option<usize> {
     match tape_of_text(alloc, &[byte]) {
         Ok(rows) => match rows.as_slice() {
-            [] => Ok(None),
-            [row] => Ok(Some(usize::from(row.value()))),
-            _ => Err("several rows".into()),
+            [] => None,
+            [row] => Some(usize::from(row.value())),
+            _ => rt.panic("several rows"),
         },
         Err(
             TextFault::NoRow {
                 place: 0,
                 byte: told,
             },
-        ) if told == byte => Ok(Some(32)),
-        Err(TextFault::OpenComment { place: 0 }) => Ok(Some(33)),
-        Err(_) => Err("another fault".into()),
+        ) if told == byte => Some(32),
+        Err(TextFault::OpenComment { place: 0 }) => Some(33),
+        Err(_) => rt.panic("another fault"),
     }
 }
 
 #[test]
-fn every_byte_of_a_tape_text(rt: HostRuntime) -> Result<(), Fail> {
+fn every_byte_of_a_tape_text(rt: HostRuntime) {
     for byte in 0..=255u8 {
-        assert!(rt; answered(rt.alloc(), byte)? == of_byte(byte), "byte {byte}");
+        assert!(rt;
+            answered(&rt, rt.alloc(), byte) == of_byte(byte),
+            "byte {byte}"
+        );
     }
-    Ok(())
 }
 
 /// Checks the number in an accumulator.
@@ -233,12 +233,11 @@ fn expect_equal(rt: &impl Abort, store: &Store, other: &mut Store) {
 }
 
 #[test]
-fn the_store(rt: HostRuntime) -> Result<(), Fail> {
-    let mut store = Store::cleared(rt.alloc())?;
+fn the_store(rt: HostRuntime) {
+    let mut store = Store::cleared(rt.alloc()).expect(&rt, "memory");
     expect_words(&rt, &mut store);
-    let mut other = store.copy()?;
+    let mut other = store.copy().expect(&rt, "memory");
     expect_equal(&rt, &store, &mut other);
-    Ok(())
 }
 
 /// Checks the text of a word's order.
@@ -286,8 +285,7 @@ fn expect_one_code(rt: &impl Abort, paper: &mut Paper) {
 }
 
 #[test]
-fn the_paper(rt: HostRuntime) -> Result<(), Fail> {
-    let mut paper = Paper::new(rt.alloc(), 1)?;
+fn the_paper(rt: HostRuntime) {
+    let mut paper = Paper::new(rt.alloc(), 1).expect(&rt, "memory");
     expect_one_code(&rt, &mut paper);
-    Ok(())
 }

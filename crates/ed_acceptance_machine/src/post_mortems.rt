@@ -8,7 +8,6 @@ use ed_postmortem::{PmFault, post_mortem};
 use ed_words::Size;
 use std::alloc::Global;
 use std::process::Abort;
-use std::test::Fail;
 
 /// The number of words that can be printed at once on a machine of 1,024 locations.
 const MOST: u32 = 880;
@@ -30,20 +29,20 @@ fn printed(
 }
 
 /// A cleared machine of a size, and a paper with this room.
-fn cleared(alloc: Global, size: Size, room: usize) -> Result<(Machine, Paper), Fail> {
-    let paper = Paper::new(alloc, room)?;
-    let machine = Machine::cleared_of(alloc, size)?;
-    Ok((machine, paper))
+fn cleared(rt: &impl Abort, alloc: Global, size: Size, room: usize) -> (Machine, Paper) {
+    let paper = Paper::new(alloc, room).expect(rt, "memory");
+    let machine = Machine::cleared_of(alloc, size).expect(rt, "memory");
+    (machine, paper)
 }
 
 /// A machine on which a tape was loaded, and the location of its entry, if it was entered.
-fn loaded_on(rt: &impl Abort, alloc: Global, tape: &str) -> Result<(Machine, Option<u16>), Fail> {
-    let mut machine = started(alloc, Size::Full, tape)?;
+fn loaded_on(rt: &impl Abort, alloc: Global, tape: &str) -> (Machine, Option<u16>) {
+    let mut machine = started(rt, alloc, Size::Full, tape);
     let entry = match loaded(rt, &mut machine) {
         Ok((at, _)) => Some(at),
         Err(_) => None,
     };
-    Ok((machine, entry))
+    (machine, entry)
 }
 
 /// Post-mortems that are refused on a paper with room for six codes: the size of the store, the first location, the
@@ -107,26 +106,17 @@ fn expect_refused_on(
 }
 
 /// Checks that a post-mortem is refused and that it changes nothing.
-fn expect_refused(
-    rt: &impl Abort,
-    alloc: Global,
-    size: Size,
-    first: u16,
-    count: u16,
-    fault: &str,
-) -> Result<(), Fail> {
-    let (mut machine, mut paper) = cleared(alloc, size, 6)?;
+fn expect_refused(rt: &impl Abort, alloc: Global, size: Size, first: u16, count: u16, fault: &str) {
+    let (mut machine, mut paper) = cleared(rt, alloc, size, 6);
     expect_refused_on(rt, alloc, &mut machine, &mut paper, (first, count), fault);
-    Ok(())
 }
 
 #[test]
-fn refusals_come_in_their_order_and_change_nothing(rt: HostRuntime) -> Result<(), Fail> {
+fn refusals_come_in_their_order_and_change_nothing(rt: HostRuntime) {
     for row in &REFUSED {
         let (size, first, count, fault) = *row;
-        expect_refused(&rt, rt.alloc(), size, first, count, fault)?;
+        expect_refused(&rt, rt.alloc(), size, first, count, fault);
     }
-    Ok(())
 }
 
 /// Checks what a post-mortem prints on a machine, and its cost.
@@ -150,20 +140,18 @@ fn expect_printed(
 }
 
 /// Checks what a post-mortem prints of the words of a tape, and its cost.
-fn expect_print(rt: &impl Abort, alloc: Global, row: &Printed) -> Result<(), Fail> {
+fn expect_print(rt: &impl Abort, alloc: Global, row: &Printed) {
     let (tape, _, _, codes, _) = *row;
-    let mut paper = Paper::new(alloc, codes.len())?;
-    let (mut machine, _) = loaded_on(rt, alloc, tape)?;
+    let mut paper = Paper::new(alloc, codes.len()).expect(rt, "memory");
+    let (mut machine, _) = loaded_on(rt, alloc, tape);
     expect_printed(rt, alloc, &mut machine, &mut paper, row);
-    Ok(())
 }
 
 #[test]
-fn words_are_printed_at_their_cost(rt: HostRuntime) -> Result<(), Fail> {
+fn words_are_printed_at_their_cost(rt: HostRuntime) {
     for row in &PRINTED {
-        expect_print(&rt, rt.alloc(), row)?;
+        expect_print(&rt, rt.alloc(), row);
     }
-    Ok(())
 }
 
 /// Checks the number of lines that a machine prints.
@@ -183,22 +171,15 @@ fn expect_lines_on(
 }
 
 /// Checks the number of lines that a machine of 512 locations prints.
-fn expect_lines(
-    rt: &impl Abort,
-    alloc: Global,
-    first: u16,
-    count: u16,
-    lines: usize,
-) -> Result<(), Fail> {
-    let (mut machine, mut paper) = cleared(alloc, Size::Small, ROOM)?;
+fn expect_lines(rt: &impl Abort, alloc: Global, first: u16, count: u16, lines: usize) {
+    let (mut machine, mut paper) = cleared(rt, alloc, Size::Small, ROOM);
     expect_lines_on(rt, alloc, &mut machine, &mut paper, (first, count), lines);
-    Ok(())
 }
 
 #[test]
-fn a_machine_of_512_locations_prints_up_to_its_end(rt: HostRuntime) -> Result<(), Fail> {
-    expect_lines(&rt, rt.alloc(), 144, 368, 368)?;
-    expect_lines(&rt, rt.alloc(), 511, 1, 1)?;
+fn a_machine_of_512_locations_prints_up_to_its_end(rt: HostRuntime) {
+    expect_lines(&rt, rt.alloc(), 144, 368, 368);
+    expect_lines(&rt, rt.alloc(), 511, 1, 1);
     expect_lines(&rt, rt.alloc(), 512, 0, 0)
 }
 
@@ -208,99 +189,97 @@ fn parts(word: u32) -> (u8, u32, bool) {
 }
 
 /// Adds the item of a word to a tape.
-fn add_item(rt: &impl Abort, tape: &mut String, word: u32) -> Result<(), Fail> {
+fn add_item(rt: &impl Abort, tape: &mut String, word: u32) {
     let (function, number, long) = parts(word);
     let letter = char::from(byte_of(code(rt, function), false));
     let end = if long { 'D' } else { 'F' };
-    Ok(write!(tape, "{letter}{number}{end}")?)
+    write!(tape, "{letter}{number}{end}").expect(rt, "memory");
 }
 
 /// Adds the items that place `count` words, the number `from` and those after it, from location 144 upwards.
-fn add_words(rt: &impl Abort, tape: &mut String, from: u32, count: u32) -> Result<(), Fail> {
-    tape.push_str("T144K")?;
+fn add_words(rt: &impl Abort, tape: &mut String, from: u32, count: u32) {
+    tape.push_str("T144K").expect(rt, "memory");
     for word in from..from.saturating_add(count) {
-        add_item(rt, tape, word)?;
+        add_item(rt, tape, word);
     }
-    Ok(tape.push_str("E144KPF")?)
+    tape.push_str("E144KPF").expect(rt, "memory");
 }
 
 /// The tape that places `count` words, the number `from` and those after it, from location 144 upwards.
-fn tape_of_words(rt: &impl Abort, alloc: Global, from: u32, count: u32) -> Result<String, Fail> {
+fn tape_of_words(rt: &impl Abort, alloc: Global, from: u32, count: u32) -> String {
     let mut tape = String::new(alloc);
-    add_words(rt, &mut tape, from, count)?;
-    Ok(tape)
+    add_words(rt, &mut tape, from, count);
+    tape
 }
 
 /// Adds the codes of digits.
-fn add_digits(codes: &mut Vec<u8>, digits: &str) -> Result<(), Fail> {
+fn add_digits(rt: &impl Abort, codes: &mut Vec<u8>, digits: &str) {
     for digit in digits.bytes() {
-        codes.push(digit.wrapping_sub(b'0'))?;
+        codes
+            .push(digit.wrapping_sub(b'0'))
+            .ok()
+            .expect(rt, "memory");
     }
-    Ok(())
 }
 
 /// Adds the codes of a number's digits.
-fn add_number(alloc: Global, codes: &mut Vec<u8>, number: u32) -> Result<(), Fail> {
-    let digits = format!(in alloc; "{number}")?;
-    add_digits(codes, &digits)
+fn add_number(rt: &impl Abort, alloc: Global, codes: &mut Vec<u8>, number: u32) {
+    let digits = format!(in alloc; "{number}").ok().expect(rt, "memory");
+    add_digits(rt, codes, &digits)
 }
 
 /// Adds the codes that print a word.
-fn add_codes(alloc: Global, codes: &mut Vec<u8>, word: u32) -> Result<(), Fail> {
+fn add_codes(rt: &impl Abort, alloc: Global, codes: &mut Vec<u8>, word: u32) {
     let (function, number, long) = parts(word);
-    codes.extend_from_slice(&[15, function, 11])?;
-    add_number(alloc, codes, number)?;
-    codes.extend_from_slice(&[15, if long { 19 } else { 17 }, 18, 24])?;
-    Ok(())
+    codes
+        .extend_from_slice(&[15, function, 11])
+        .expect(rt, "memory");
+    add_number(rt, alloc, codes, number);
+    codes
+        .extend_from_slice(&[15, if long { 19 } else { 17 }, 18, 24])
+        .expect(rt, "memory");
 }
 
 /// The codes that print these words.
-fn codes_of_words(alloc: Global, from: u32, count: u32) -> Result<Vec<u8>, Fail> {
+fn codes_of_words(rt: &impl Abort, alloc: Global, from: u32, count: u32) -> Vec<u8> {
     let mut codes = Vec::new(alloc);
     for word in from..from.saturating_add(count) {
-        add_codes(alloc, &mut codes, word)?;
+        add_codes(rt, alloc, &mut codes, word);
     }
-    Ok(codes)
+    codes
 }
 
 /// A machine on which the tape of these words was loaded.
-fn machine_of_words(
-    rt: &impl Abort,
-    alloc: Global,
-    from: u32,
-    count: u16,
-) -> Result<Machine, Fail> {
-    let tape = tape_of_words(rt, alloc, from, u32::from(count))?;
-    let (machine, entry) = loaded_on(rt, alloc, &tape)?;
+fn machine_of_words(rt: &impl Abort, alloc: Global, from: u32, count: u16) -> Machine {
+    let tape = tape_of_words(rt, alloc, from, u32::from(count));
+    let (machine, entry) = loaded_on(rt, alloc, &tape);
     expect(rt, entry == Some(144), &tape);
-    Ok(machine)
+    machine
 }
 
 /// What a post-mortem prints of these words.
-fn paper_of_words(rt: &impl Abort, alloc: Global, from: u32, count: u16) -> Result<Paper, Fail> {
-    let mut paper = Paper::new(alloc, ROOM)?;
-    let mut machine = machine_of_words(rt, alloc, from, count)?;
+fn paper_of_words(rt: &impl Abort, alloc: Global, from: u32, count: u16) -> Paper {
+    let mut paper = Paper::new(alloc, ROOM).expect(rt, "memory");
+    let mut machine = machine_of_words(rt, alloc, from, count);
     let answer = printed(rt, alloc, &mut machine, 144, count, &mut paper);
     expect(rt, answer.is_ok(), "the answer");
-    Ok(paper)
+    paper
 }
 
 /// Checks what a post-mortem prints of these words.
-fn expect_words(rt: &impl Abort, alloc: Global, from: u32, count: u16) -> Result<(), Fail> {
-    let codes = codes_of_words(alloc, from, u32::from(count))?;
-    let paper = paper_of_words(rt, alloc, from, count)?;
+fn expect_words(rt: &impl Abort, alloc: Global, from: u32, count: u16) {
+    let codes = codes_of_words(rt, alloc, from, u32::from(count));
+    let paper = paper_of_words(rt, alloc, from, count);
     let differs = first_difference(paper.codes(), &codes);
     assert!(rt; differs.is_none(), "{differs:?} from {from} on");
-    Ok(())
 }
 
 /// Every fourth block of words, so that each function is among them. That each word is printed is proved.
 #[test]
-fn words_of_every_function_are_printed(rt: HostRuntime) -> Result<(), Fail> {
+fn words_of_every_function_are_printed(rt: HostRuntime) {
     for block in 0..38u32 {
         let from = block * 4 * MOST;
         let count = MOST.min(131_072 - from);
-        expect_words(&rt, rt.alloc(), from, count as u16)?;
+        expect_words(&rt, rt.alloc(), from, count as u16);
     }
-    Ok(())
 }

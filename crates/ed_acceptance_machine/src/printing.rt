@@ -7,7 +7,6 @@ use ed_printer::{Printer, Shift};
 use ed_report::{paper_text, papers_text};
 use std::alloc::Global;
 use std::process::Abort;
-use std::test::Fail;
 
 /// Checks the bytes of a code.
 fn expect_strike(rt: &impl Abort, printer: &mut Printer, number: u8, text: &str) {
@@ -34,43 +33,35 @@ fn the_printer(rt: HostRuntime) {
 }
 
 /// What the codes of these numbers print.
-fn printed(rt: &impl Abort, alloc: Global, numbers: &[u8]) -> Result<Vec<u8>, Fail> {
-    let codes = codes(rt, alloc, numbers)?;
-    Ok(paper_text(alloc, &codes)?)
+fn printed(rt: &impl Abort, alloc: Global, numbers: &[u8]) -> Vec<u8> {
+    let codes = codes(rt, alloc, numbers);
+    paper_text(alloc, &codes).expect(rt, "memory")
 }
 
 /// What the codes of these numbers print on two papers.
-fn printed_on_two(
-    rt: &impl Abort,
-    alloc: Global,
-    first: &[u8],
-    second: &[u8],
-) -> Result<Vec<u8>, Fail> {
-    let first = codes(rt, alloc, first)?;
-    let second = codes(rt, alloc, second)?;
-    Ok(papers_text(alloc, &first, &second)?)
+fn printed_on_two(rt: &impl Abort, alloc: Global, first: &[u8], second: &[u8]) -> Vec<u8> {
+    let first = codes(rt, alloc, first);
+    let second = codes(rt, alloc, second);
+    papers_text(alloc, &first, &second).expect(rt, "memory")
 }
 
 #[test]
-fn the_text_of_a_paper(rt: HostRuntime) -> Result<(), Fail> {
-    let text = printed(&rt, rt.alloc(), &[11, 21, 24, 1, 15, 1])?;
+fn the_text_of_a_paper(rt: HostRuntime) {
+    let text = printed(&rt, rt.alloc(), &[11, 21, 24, 1, 15, 1]);
     assert!(rt; text.as_slice() == [0xc2, 0xa3, 0x0a, 0x31, 0x51].as_slice());
-    Ok(())
 }
 
 #[test]
-fn the_text_of_two_papers(rt: HostRuntime) -> Result<(), Fail> {
-    let text = printed_on_two(&rt, rt.alloc(), &[1, 11, 1], &[2, 15, 2])?;
+fn the_text_of_two_papers(rt: HostRuntime) {
+    let text = printed_on_two(&rt, rt.alloc(), &[1, 11, 1], &[2, 15, 2]);
     assert!(rt; text.as_slice() == b"Q12W".as_slice());
-    Ok(())
 }
 
 /// Blank, carriage return, space and line feed keep the shift: after each of them the code of Q prints 1.
 #[test]
-fn the_codes_that_print_no_sign_leave_figure_shift(rt: HostRuntime) -> Result<(), Fail> {
-    let text = printed(&rt, rt.alloc(), &[11, 16, 1, 18, 1, 20, 1, 24, 1])?;
+fn the_codes_that_print_no_sign_leave_figure_shift(rt: HostRuntime) {
+    let text = printed(&rt, rt.alloc(), &[11, 16, 1, 18, 1, 20, 1, 24, 1]);
     assert!(rt; text.as_slice() == b"1\r1 1\n1".as_slice());
-    Ok(())
 }
 
 /// What the codes 0 to 31 print in letter shift, one after the other, except the two that change the shift.
@@ -86,30 +77,28 @@ const FIGURE_SHIFT: u8 = 11;
 const LETTER_SHIFT: u8 = 15;
 
 /// Puts the codes 0 to 31 into a list, each after the code of a shift.
-fn put_each(rt: &impl Abort, struck: &mut Vec<Code>, shift: u8) -> Result<(), Fail> {
+fn put_each(rt: &impl Abort, struck: &mut Vec<Code>, shift: u8) {
     for number in 0..32 {
-        struck.push(code(rt, shift))?;
-        struck.push(code(rt, number))?;
+        struck.push(code(rt, shift)).ok().expect(rt, "memory");
+        struck.push(code(rt, number)).ok().expect(rt, "memory");
     }
-    Ok(())
 }
 
 /// What the codes 0 to 31 print in a shift, which its own code sets before each of them.
-fn printed_in(rt: &impl Abort, alloc: Global, shift: u8) -> Result<Vec<u8>, Fail> {
+fn printed_in(rt: &impl Abort, alloc: Global, shift: u8) -> Vec<u8> {
     let mut struck = Vec::new(alloc);
-    put_each(rt, &mut struck, shift)?;
-    Ok(paper_text(alloc, &struck)?)
+    put_each(rt, &mut struck, shift);
+    paper_text(alloc, &struck).expect(rt, "memory")
 }
 
 /// Checks what these codes print in a shift.
-fn expect_each(rt: &impl Abort, alloc: Global, shift: u8, text: &str) -> Result<(), Fail> {
-    let printed = printed_in(rt, alloc, shift)?;
+fn expect_each(rt: &impl Abort, alloc: Global, shift: u8, text: &str) {
+    let printed = printed_in(rt, alloc, shift);
     assert!(rt; printed.as_slice() == text.as_bytes(), "shift {shift}");
-    Ok(())
 }
 
 #[test]
-fn every_code_in_both_shifts(rt: HostRuntime) -> Result<(), Fail> {
-    expect_each(&rt, rt.alloc(), LETTER_SHIFT, LETTERS)?;
+fn every_code_in_both_shifts(rt: HostRuntime) {
+    expect_each(&rt, rt.alloc(), LETTER_SHIFT, LETTERS);
     expect_each(&rt, rt.alloc(), FIGURE_SHIFT, FIGURES)
 }

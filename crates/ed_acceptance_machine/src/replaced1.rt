@@ -9,7 +9,6 @@ use ed_initial1::{Checked1, Tape1Cause, Tape1Fault};
 use ed_machine::Machine;
 use std::alloc::Global;
 use std::process::Abort;
-use std::test::Fail;
 
 /// Two items, for 31 and 32.
 const TAPE: &str = "T33SA5L";
@@ -41,19 +40,20 @@ fn wanted(place: usize, code: u8) -> Option<(usize, Tape1Cause)> {
 }
 
 /// Puts the rows of the tape into a list, with another code as one of them.
-fn put_replaced(rows: &mut Vec<Code>, tape: &[Code], place: usize, code: Code) -> Result<(), Fail> {
+fn put_replaced(rt: &impl Abort, rows: &mut Vec<Code>, tape: &[Code], place: usize, code: Code) {
     for (at, row) in tape.iter().enumerate() {
-        rows.push(if at == place { code } else { *row })?;
+        rows.push(if at == place { code } else { *row })
+            .ok()
+            .expect(rt, "memory");
     }
-    Ok(())
 }
 
 /// The tape with another code as one of its rows.
-fn replaced(alloc: Global, place: usize, code: Code) -> Result<Vec<Code>, Fail> {
-    let tape = rows_of(alloc, TAPE)?;
+fn replaced(rt: &impl Abort, alloc: Global, place: usize, code: Code) -> Vec<Code> {
+    let tape = rows_of(rt, alloc, TAPE);
     let mut rows = Vec::new(alloc);
-    put_replaced(&mut rows, &tape, place, code)?;
-    Ok(rows)
+    put_replaced(rt, &mut rows, &tape, place, code);
+    rows
 }
 
 /// The number of orders that read rows without a fault up to the end of the tape, where the next order is I: one more
@@ -109,9 +109,9 @@ fn are_loaded_as_told(
     alloc: Global,
     rows: &[Code],
     told: &Result<Checked1, Tape1Fault>,
-) -> Result<bool, Fail> {
-    let mut machine = started(alloc, rows.to_vec(alloc)?)?;
-    Ok(is_loaded_as_told(rt, &mut machine, rows, told))
+) -> bool {
+    let mut machine = started(rt, alloc, rows.to_vec(alloc).expect(rt, "memory"));
+    is_loaded_as_told(rt, &mut machine, rows, told)
 }
 
 /// Whether a fault is the end of the tape.
@@ -126,37 +126,30 @@ fn is_end(fault: &Tape1Fault) -> bool {
 }
 
 /// Whether the check of rows answers what is wanted for a code at a place, and the rows are loaded as it reports.
-fn is_as_wanted(
-    rt: &impl Abort,
-    alloc: Global,
-    rows: &[Code],
-    place: usize,
-    code: u8,
-) -> Result<bool, Fail> {
+fn is_as_wanted(rt: &impl Abort, alloc: Global, rows: &[Code], place: usize, code: u8) -> bool {
     let told = checked(rt, alloc, rows);
-    if !reports(&told, wanted(place, code))? {
-        return Ok(false);
+    if !reports(rt, &told, wanted(place, code)) {
+        return false;
     }
     are_loaded_as_told(rt, alloc, rows, &told)
 }
 
 /// The first code that makes a difference as this row: the check doesn't answer what is wanted, or the rows are not
 /// loaded as it reports.
-fn first_difference(rt: &impl Abort, alloc: Global, place: usize) -> Result<Option<u8>, Fail> {
+fn first_difference(rt: &impl Abort, alloc: Global, place: usize) -> Option<u8> {
     for number in 0..32 {
-        let rows = replaced(alloc, place, code(rt, number))?;
-        if !is_as_wanted(rt, alloc, &rows, place, number)? {
-            return Ok(Some(number));
+        let rows = replaced(rt, alloc, place, code(rt, number));
+        if !is_as_wanted(rt, alloc, &rows, place, number) {
+            return Some(number);
         }
     }
-    Ok(None)
+    None
 }
 
 #[test]
-fn every_code_at_every_place(rt: HostRuntime) -> Result<(), Fail> {
+fn every_code_at_every_place(rt: HostRuntime) {
     for place in 0..7 {
-        let differs = first_difference(&rt, rt.alloc(), place)?;
+        let differs = first_difference(&rt, rt.alloc(), place);
         assert!(rt; differs.is_none(), "{differs:?} at {place}");
     }
-    Ok(())
 }

@@ -5,7 +5,6 @@ ghost use Rattle.std.specs.Prelude.{◌<◌};
 use crate::plain::Plain;
 use ed_store::Store;
 use ed_words::{Long, Word};
-use std::test::Fail;
 
 /// A linear congruential sequence modulo 2^64; the upper 32 digits of its numbers are used.
 #[derive(Drop)]
@@ -72,8 +71,8 @@ fn write(sequence: &mut Sequence, packed: &mut Store, plain: &mut Plain) {
 }
 
 #[test]
-fn packed_cells_are_the_plain_lists(rt: HostRuntime) -> Result<(), Fail> {
-    let mut packed = Store::cleared(rt.alloc()).or(Err("no memory"))?;
+fn packed_cells_are_the_plain_lists(rt: HostRuntime) {
+    let mut packed = Store::cleared(rt.alloc()).expect(&rt, "memory");
     let mut plain = Plain::cleared();
     let mut sequence = Sequence { state: 1949 };
     for round in 0..2_000 {
@@ -81,5 +80,4 @@ fn packed_cells_are_the_plain_lists(rt: HostRuntime) -> Result<(), Fail> {
         let unlike = difference(&packed, &plain);
         assert!(rt; unlike.is_none(), "round {round}: {unlike:?}");
     }
-    Ok(())
 }

@@ -9,7 +9,6 @@ use ed_store::Store;
 use ed_words::{Order, Size, Word, number_within};
 use std::alloc::Global;
 use std::process::Abort;
-use std::test::Fail;
 
 /// The tape that prints A.
 pub const LETTER: &str = "T64KGKO2@ZFAFEZPF";
@@ -35,27 +34,24 @@ fn word_of_order(text: &str) -> Option<Word> {
 }
 
 /// Puts orders into an empty image from location 0 upwards, and four words at 30 to 33.
-fn fill(rt: &impl Abort, image: &mut Vec<Word>, orders: &str, data: [u32; 4]) -> Result<(), Fail> {
+fn fill(rt: &impl Abort, image: &mut Vec<Word>, orders: &str, data: [u32; 4]) {
     for order in orders.split_whitespace() {
-        image.push(word_of_order(order).expect(rt, "an order"))?;
+        image
+            .push(word_of_order(order).expect(rt, "an order"))
+            .ok()
+            .expect(rt, "memory");
     }
-    image.resize(30, word(rt, 0))?;
+    image.resize(30, word(rt, 0)).expect(rt, "memory");
     for number in &data {
-        image.push(word(rt, *number))?;
+        image.push(word(rt, *number)).ok().expect(rt, "memory");
     }
-    Ok(())
 }
 
 /// The image of orders from location 0 upwards, and of four words at 30 to 33.
-pub fn image_of(
-    rt: &impl Abort,
-    alloc: Global,
-    orders: &str,
-    data: [u32; 4],
-) -> Result<Vec<Word>, Fail> {
+pub fn image_of(rt: &impl Abort, alloc: Global, orders: &str, data: [u32; 4]) -> Vec<Word> {
     let mut image = Vec::new(alloc);
-    fill(rt, &mut image, orders, data)?;
-    Ok(image)
+    fill(rt, &mut image, orders, data);
+    image
 }
 
 /// Starts a machine with an image and the rows of a tape.
@@ -95,17 +91,17 @@ pub fn machine_after(
     size: Size,
     orders: &str,
     data: [u32; 4],
-) -> Result<Machine, Fail> {
-    let image = image_of(rt, alloc, orders, data)?;
-    let mut machine = Machine::cleared_of(alloc, size)?;
+) -> Machine {
+    let image = image_of(rt, alloc, orders, data);
+    let mut machine = Machine::cleared_of(alloc, size).expect(rt, "memory");
     start_with(rt, &mut machine, &image, Vec::new(alloc));
     obey(rt, &mut machine, orders);
-    Ok(machine)
+    machine
 }
 
 /// The rows of a tape's text.
-pub fn rows_of(alloc: Global, tape: &str) -> Result<Vec<Code>, Fail> {
-    Ok(tape_of_text(alloc, tape.as_bytes())?)
+pub fn rows_of(rt: &impl Abort, alloc: Global, tape: &str) -> Vec<Code> {
+    tape_of_text(alloc, tape.as_bytes()).expect(rt, "a tape")
 }
 
 /// The report on a tape before whose check the store is this one, or the tape's fault.
@@ -115,10 +111,10 @@ pub fn checked(
     size: Size,
     store: &Store,
     tape: &str,
-) -> Result<Result<Checked, TapeFault>, Fail> {
-    let rows = rows_of(alloc, tape)?;
+) -> Result<Checked, TapeFault> {
+    let rows = rows_of(rt, alloc, tape);
     assert!(rt; rows.len() < 1000);
-    Ok(check(alloc, size, store, &rows))
+    check(alloc, size, store, &rows)
 }
 
 /// The index of the first of some codes that isn't the wanted one; codes that end too early differ there.
@@ -135,16 +131,15 @@ pub fn first_difference(codes: &[Code], wanted: &[u8]) -> Option<usize> {
 }
 
 /// Starts a machine on a tape with the Initial Orders.
-pub fn start_on(alloc: Global, machine: &mut Machine, tape: &str) -> Result<(), Fail> {
-    begin(machine, rows_of(alloc, tape)?);
-    Ok(())
+pub fn start_on(rt: &impl Abort, alloc: Global, machine: &mut Machine, tape: &str) {
+    begin(machine, rows_of(rt, alloc, tape));
 }
 
 /// A cleared machine of a size, started on a tape with the Initial Orders.
-pub fn started(alloc: Global, size: Size, tape: &str) -> Result<Machine, Fail> {
-    let mut machine = Machine::cleared_of(alloc, size)?;
-    start_on(alloc, &mut machine, tape)?;
-    Ok(machine)
+pub fn started(rt: &impl Abort, alloc: Global, size: Size, tape: &str) -> Machine {
+    let mut machine = Machine::cleared_of(alloc, size).expect(rt, "memory");
+    start_on(rt, alloc, &mut machine, tape);
+    machine
 }
 
 /// Loads the tape that a machine was started on: the location of the entry and the orders until then, or the orders

@@ -6,7 +6,6 @@ use ed_initial1::{Checked1, Loaded1, Tape1Cause, Tape1Fault, check1, is_started1
 use ed_machine::Machine;
 use std::alloc::Global;
 use std::process::Abort;
-use std::test::Fail;
 
 /// The tape that prints A: it clears 35, prints the letter at 34 and stops.
 pub const LETTER: &str = "T35SO34SZSAS";
@@ -18,13 +17,9 @@ pub fn checked(rt: &impl Abort, alloc: Global, rows: &[Code]) -> Result<Checked1
 }
 
 /// What the check of a tape's text answers.
-pub fn checked_text(
-    rt: &impl Abort,
-    alloc: Global,
-    tape: &str,
-) -> Result<Result<Checked1, Tape1Fault>, Fail> {
-    let rows = rows_of(alloc, tape)?;
-    Ok(checked(rt, alloc, &rows))
+pub fn checked_text(rt: &impl Abort, alloc: Global, tape: &str) -> Result<Checked1, Tape1Fault> {
+    let rows = rows_of(rt, alloc, tape);
+    checked(rt, alloc, &rows)
 }
 
 /// Starts a machine on rows with Initial Orders 1.
@@ -33,10 +28,10 @@ pub fn start(machine: &mut Machine, rows: Vec<Code>) {
 }
 
 /// A cleared machine, started on rows with Initial Orders 1.
-pub fn started(alloc: Global, rows: Vec<Code>) -> Result<Machine, Fail> {
-    let mut machine = Machine::cleared(alloc)?;
+pub fn started(rt: &impl Abort, alloc: Global, rows: Vec<Code>) -> Machine {
+    let mut machine = Machine::cleared(alloc).expect(rt, "memory");
     start(&mut machine, rows);
-    Ok(machine)
+    machine
 }
 
 /// Loads the tape that a machine was started on: the orders until the entry, or until the load was lost.
@@ -63,16 +58,17 @@ fn number_of(cause: Tape1Cause) -> u8 {
 
 /// Whether a check reports this row and this cause, or no fault for None.
 pub fn reports(
+    rt: &impl Abort,
     told: &Result<Checked1, Tape1Fault>,
     wanted: Option<(usize, Tape1Cause)>,
-) -> Result<bool, Fail> {
+) -> bool {
     match (told, wanted) {
-        (Ok(_), wanted) => Ok(wanted.is_none()),
+        (Ok(_), wanted) => wanted.is_none(),
         (Err(Tape1Fault::At { row, cause }), Some((at, wanted))) => {
-            Ok(*row == at && number_of(*cause) == number_of(wanted))
+            *row == at && number_of(*cause) == number_of(wanted)
         }
-        (Err(Tape1Fault::At { .. }), None) => Ok(false),
-        (Err(Tape1Fault::Memory), _) => Err(Fail::from("no memory")),
+        (Err(Tape1Fault::At { .. }), None) => false,
+        (Err(Tape1Fault::Memory), _) => rt.panic("no memory"),
     }
 }
 
