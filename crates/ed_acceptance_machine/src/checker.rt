@@ -2,24 +2,14 @@
 
 use crate::numbers::word;
 use crate::support::{checked, expect, rows_of};
-use ed_codes::Code;
 use ed_notation::{Checked, TapeCause, TapeFault, check_from};
 use ed_store::Store;
-use ed_words::{Size, Word};
+use ed_words::Size;
 use std::alloc::Global;
 use std::process::Abort;
 
 /// Stands for a location where a tape places no word: no word has this number.
 const NOTHING: u32 = 1 << 17;
-
-/// The number of the word that a tape placed at an address.
-fn placed(rt: &impl Abort, report: &Checked, address: u16) -> u32 {
-    assert!(rt; address < 1024);
-    match report.word(address) {
-        Some(word) => word.value(),
-        None => NOTHING,
-    }
-}
 
 /// The word at the location of θ before the check, a tape, the θ that it leaves, a location, the word that it places
 /// there, and its cost.
@@ -63,34 +53,36 @@ fn store_with_theta(rt: &impl Abort, alloc: Global, theta: u32) -> Store {
     store
 }
 
-/// The report on a tape before whose check a word is at the location of θ.
-fn report_on(rt: &impl Abort, alloc: Global, theta: u32, tape: &str) -> Checked {
-    let store = store_with_theta(rt, alloc, theta);
-    let told = checked(rt, alloc, Size::Full, &store, tape);
-    told.ok().expect(rt, tape)
-}
-
-/// Checks a report on a tape of rows of one byte.
-fn expect_report(rt: &impl Abort, report: &Checked, row: &Row) {
-    let (_, tape, theta, address, word, orders) = *row;
+/// Checks a report on a tape of rows of one byte: the word that it places at a location, and the orders.
+fn expect_report(
+    rt: &impl Abort,
+    report: &Checked,
+    tape: &str,
+    address: u16,
+    word: u32,
+    orders: u64,
+) {
+    assert!(rt; address < 1024);
+    let placed = match report.word(address) {
+        Some(word) => word.value(),
+        None => NOTHING,
+    };
     expect(
         rt,
         report.entry() == 64 && report.rows() == tape.len(),
         tape,
     );
-    expect(
-        rt,
-        report.orders() == orders && report.theta().value() == theta,
-        tape,
-    );
-    expect(rt, placed(rt, report, address) == word, tape);
+    expect(rt, report.orders() == orders && placed == word, tape);
 }
 
-/// Checks the report on the tape of a row.
+/// Checks the report on the tape of a row, and its θ.
 fn expect_tape(rt: &impl Abort, alloc: Global, row: &Row) {
-    let (before, tape, ..) = *row;
-    let report = report_on(rt, alloc, before, tape);
-    expect_report(rt, &report, row);
+    let (before, tape, theta, address, word, orders) = *row;
+    let store = store_with_theta(rt, alloc, before);
+    let told = checked(rt, alloc, Size::Full, &store, tape);
+    let report = told.ok().expect(rt, tape);
+    expect(rt, report.theta().value() == theta, tape);
+    expect_report(rt, &report, tape, address, word, orders);
 }
 
 #[test]
@@ -100,16 +92,7 @@ fn each_tape_is_checked_to_its_entry(rt: HostRuntime) {
     }
 }
 
-/// Whether two causes are the same one of the two that the location of a word can have.
-fn is_same(cause: TapeCause, other: TapeCause) -> bool {
-    matches!(
-        (cause, other),
-        (TapeCause::LoaderStore, TapeCause::LoaderStore)
-            | (TapeCause::StoreEnd, TapeCause::StoreEnd)
-    )
-}
-
-/// Checks that a tape is refused at a row.
+/// Checks that a tape is refused at a row, for one of the two causes that the location of a word can have.
 fn expect_fault(
     rt: &impl Abort,
     told: &Result<Checked, TapeFault>,
@@ -117,16 +100,28 @@ fn expect_fault(
     cause: TapeCause,
     tape: &str,
 ) {
-    let is_wanted = match told {
-        Err(
-            TapeFault::At {
-                row: at,
-                cause: told,
-            },
-        ) => *at == row && is_same(*told, cause),
-        Ok(_) | Err(TapeFault::Memory) => false,
+    let at = match (told, cause) {
+        (
+            Err(
+                TapeFault::At {
+                    row,
+                    cause: TapeCause::LoaderStore,
+                },
+            ),
+            TapeCause::LoaderStore,
+        ) => Some(*row),
+        (
+            Err(
+                TapeFault::At {
+                    row,
+                    cause: TapeCause::StoreEnd,
+                },
+            ),
+            TapeCause::StoreEnd,
+        ) => Some(*row),
+        _ => None,
     };
-    expect(rt, is_wanted, tape);
+    expect(rt, at == Some(row), tape);
 }
 
 #[test]
@@ -134,20 +129,6 @@ fn an_odd_directive_is_refused(rt: HostRuntime) {
     let store = store_with_theta(&rt, rt.alloc(), 5);
     let told = checked(&rt, rt.alloc(), Size::Full, &store, "T59Z");
     expect_fault(&rt, &told, 3, TapeCause::StoreEnd, "T59Z");
-}
-
-/// The report on the rows of the rest of a tape, or their fault, by a directive that aims at a location of the store.
-fn checked_rows(
-    rt: &impl Abort,
-    alloc: Global,
-    directive: Word,
-    store: &Store,
-    rows: &[Code],
-) -> Result<Checked, TapeFault> {
-    let value = directive.value();
-    assert!(rt; value % 2 == 0 && 20_480 <= value && value <= 22_526);
-    assert!(rt; rows.len() < 1000);
-    check_from(alloc, Size::Full, store, directive, rows)
 }
 
 /// The report on the rest of a tape, or its fault, if a directive that aims at a location of the store is left.
@@ -159,28 +140,14 @@ fn checked_from(
 ) -> Result<Checked, TapeFault> {
     let store = Store::cleared(alloc).expect(rt, "memory");
     let rows = rows_of(rt, alloc, tape);
-    checked_rows(rt, alloc, word(rt, number), &store, &rows)
+    let directive = word(rt, number);
+    let value = directive.value();
+    assert!(rt; value % 2 == 0 && 20_480 <= value && value <= 22_526);
+    assert!(rt; rows.len() < 1000);
+    check_from(alloc, Size::Full, &store, directive, &rows)
 }
 
-/// Checks a report on the rest of a tape of rows of one byte: the word that it places at a location, and the orders.
-fn expect_rest(
-    rt: &impl Abort,
-    report: &Checked,
-    tape: &str,
-    address: u16,
-    word: u32,
-    orders: u64,
-) {
-    expect(
-        rt,
-        report.entry() == 64 && report.rows() == tape.len(),
-        tape,
-    );
-    expect(rt, report.orders() == orders, tape);
-    expect(rt, placed(rt, report, address) == word, tape);
-}
-
-/// Checks such a report by the directive that is left.
+/// Checks the report on the rest of a tape by the directive that is left.
 fn expect_rest_from(
     rt: &impl Abort,
     alloc: Global,
@@ -192,35 +159,20 @@ fn expect_rest_from(
     let (address, word) = placed;
     let told = checked_from(rt, alloc, number, tape);
     let report = told.ok().expect(rt, tape);
-    expect_rest(rt, &report, tape, address, word, orders);
+    expect_report(rt, &report, tape, address, word, orders);
 }
 
+/// The second rest goes on at the last location.
 #[test]
 fn the_rest_of_a_tape_goes_by_the_directive_that_is_left(rt: HostRuntime) {
-    expect_rest_from(&rt, rt.alloc(), 20_680, "PFE64KPF", (100, 0), 84)
-}
-
-#[test]
-fn the_rest_of_a_tape_goes_on_at_the_last_location(rt: HostRuntime) {
-    expect_rest_from(&rt, rt.alloc(), 22_526, "P5FE64KPF", (1023, 10), 93)
-}
-
-/// Checks that the rest of a tape is refused at a row, by the directive that is left.
-fn expect_rest_refused(
-    rt: &impl Abort,
-    alloc: Global,
-    number: u32,
-    tape: &str,
-    row: usize,
-    cause: TapeCause,
-) {
-    let told = checked_from(rt, alloc, number, tape);
-    expect_fault(rt, &told, row, cause, tape);
+    expect_rest_from(&rt, rt.alloc(), 20_680, "PFE64KPF", (100, 0), 84);
+    expect_rest_from(&rt, rt.alloc(), 22_526, "P5FE64KPF", (1023, 10), 93);
 }
 
 #[test]
 fn the_rest_of_a_tape_is_refused_by_the_directive_that_is_left(rt: HostRuntime) {
-    let (before, end) = (TapeCause::LoaderStore, TapeCause::StoreEnd);
-    expect_rest_refused(&rt, rt.alloc(), 20_480, "PF", 1, before);
-    expect_rest_refused(&rt, rt.alloc(), 22_526, "P5FPF", 4, end)
+    let told = checked_from(&rt, rt.alloc(), 20_480, "PF");
+    expect_fault(&rt, &told, 1, TapeCause::LoaderStore, "PF");
+    let told = checked_from(&rt, rt.alloc(), 22_526, "P5FPF");
+    expect_fault(&rt, &told, 4, TapeCause::StoreEnd, "P5FPF");
 }

@@ -2,7 +2,6 @@
 
 use crate::support::expect;
 use crate::support1::{LETTER, checked_text, reports};
-use ed_initial1::Checked1;
 use ed_initial1::Tape1Cause::{self, BadRow, EndOfTape, FirstWord, NumberTooLarge};
 use std::alloc::Global;
 use std::process::Abort;
@@ -20,18 +19,12 @@ const TAPES: [Row; 6] = [
     ("T34S50L*32767S", 141, 14, 34),
 ];
 
-/// Checks what a report tells.
-fn expect_report(rt: &impl Abort, report: &Checked1, row: &Row) {
-    let (tape, orders, rows, end) = *row;
-    expect(rt, report.orders() == orders, tape);
-    expect(rt, report.rows() == rows && report.end() == end, tape);
-}
-
 /// Checks what the check of a tape tells.
 fn expect_checked(rt: &impl Abort, alloc: Global, row: &Row) {
-    let (tape, ..) = *row;
+    let (tape, orders, rows, end) = *row;
     let report = checked_text(rt, alloc, tape).ok().expect(rt, tape);
-    expect_report(rt, &report, row);
+    expect(rt, report.orders() == orders, tape);
+    expect(rt, report.rows() == rows && report.end() == end, tape);
 }
 
 #[test]
@@ -55,27 +48,17 @@ const PLACES: [(u16, u32); 4] = [
     (34, 61_438),
 ];
 
-/// Checks that a report tells no word at these locations.
-fn expect_no_words(rt: &impl Abort, report: &Checked1) {
-    for place in &NO_PLACES {
-        assert!(rt; report.word(*place).is_none(), "{place}");
-    }
-}
-
-/// Checks the words that a report tells at these locations.
-fn expect_words(rt: &impl Abort, report: &Checked1) {
-    for (place, number) in &PLACES {
-        let word = report.word(*place).expect(rt, "a word");
-        assert!(rt; word.value() == *number, "{place}");
-    }
-}
-
 #[test]
 fn the_check_tells_the_words_of_a_tape(rt: HostRuntime) {
     let tape = "T35S50L*32767LV32767S";
     let report = checked_text(&rt, rt.alloc(), tape).ok().expect(&rt, tape);
-    expect_no_words(&rt, &report);
-    expect_words(&rt, &report);
+    for place in &NO_PLACES {
+        assert!(rt; report.word(*place).is_none(), "{place}");
+    }
+    for (place, number) in &PLACES {
+        let word = report.word(*place).expect(&rt, "a word");
+        assert!(rt; word.value() == *number, "{place}");
+    }
 }
 
 /// Tapes, the rows of their faults, and the faults.

@@ -1,8 +1,8 @@
 //! Words as orders: every one that is an order, and of the others those at equal distances.
 
 use crate::numbers::{code, word};
-use crate::support::{expect, image_of, machine_after, next_turn, obey, start_with};
-use ed_codes::{Code, byte_of, tape_of_text};
+use crate::support::{expect, image_of, machine_after, next_turn, obey, rows_of, start_with};
+use ed_codes::{Code, byte_of};
 use ed_machine::{Machine, Turn};
 use ed_words::{Size, Word};
 use std::alloc::Global;
@@ -14,22 +14,14 @@ const USE: &str = "T100D H30F A31F R0D T101D A30F O31F";
 /// The words at 30 to 33 for these orders.
 const DATA: [u32; 4] = [74_565, 43_981, 0, 0];
 
-/// Checks that these orders have left something in each of them.
-fn expect_used(rt: &impl Abort, machine: &Machine) {
-    expect(
-        rt,
-        machine.sandwich(100) && machine.acc() != 0,
-        "the accumulator",
-    );
+/// A machine that has obeyed these orders, which left something in each of them.
+fn used_machine(rt: &impl Abort, alloc: Global, size: Size) -> Machine {
+    let machine = machine_after(rt, alloc, size, USE, DATA);
+    let has_both = machine.sandwich(100) && machine.acc() != 0;
+    expect(rt, has_both, "the accumulator");
     expect(rt, machine.multiplier().value() != 0, "the multiplier");
     expect(rt, machine.last_printed().is_some(), "the last code");
     expect(rt, machine.orders_done() == 7, "the orders");
-}
-
-/// A machine that has obeyed these orders.
-fn used_machine(rt: &impl Abort, alloc: Global, size: Size) -> Machine {
-    let machine = machine_after(rt, alloc, size, USE, DATA);
-    expect_used(rt, &machine);
     machine
 }
 
@@ -62,15 +54,6 @@ fn blocked(rt: &impl Abort, order: Word) -> Option<Turn> {
     }
 }
 
-/// Whether two turns are the same one of the two in which no order is obeyed.
-fn is_same(turn: Turn, other: Turn) -> bool {
-    match (turn, other) {
-        (Turn::NoTape, Turn::NoTape) => true,
-        (Turn::NoOrder(function), Turn::NoOrder(wanted)) => function == wanted,
-        _ => false,
-    }
-}
-
 /// Whether a word answers this and changes nothing on a machine, which is started on it as its equal is.
 fn is_blocked(
     rt: &impl Abort,
@@ -82,7 +65,12 @@ fn is_blocked(
 ) -> bool {
     start_with(rt, machine, &[order], Vec::new(alloc));
     start_with(rt, equal, &[order], Vec::new(alloc));
-    is_same(next_turn(rt, machine), wanted) && are_equal(machine, equal)
+    let is_wanted = match (next_turn(rt, machine), wanted) {
+        (Turn::NoTape, Turn::NoTape) => true,
+        (Turn::NoOrder(function), Turn::NoOrder(wanted)) => function == wanted,
+        _ => false,
+    };
+    is_wanted && are_equal(machine, equal)
 }
 
 /// The distance of the words that are tried as no orders. It is odd, so that each function comes with every digit of the
@@ -92,53 +80,31 @@ const DISTANCE: u32 = 5;
 /// How many words at this distance there are.
 const WORDS: u32 = 26_215;
 
-/// The first word that should change nothing on two equal machines, and yet answers otherwise or changes the first.
-fn first_not_blocked(
-    rt: &impl Abort,
-    alloc: Global,
-    machine: &mut Machine,
-    equal: &mut Machine,
-) -> Option<u32> {
+/// Checks on a used machine of a size that each word that is not an order, or reads with no row left, answers so and
+/// changes nothing.
+fn expect_blocked(rt: &impl Abort, alloc: Global, size: Size) {
+    let mut machine = used_machine(rt, alloc, size);
+    let mut equal = machine.copy().expect(rt, "memory");
+    let locations = size.value();
     for k in 0..WORDS {
         let number = k * DISTANCE;
         let order = word(rt, number);
         if let Some(wanted) = blocked(rt, order) {
-            if !is_blocked(rt, alloc, machine, equal, order, wanted) {
-                return Some(number);
-            }
+            let told = is_blocked(rt, alloc, &mut machine, &mut equal, order, wanted);
+            assert!(rt; told, "{number} in {locations} locations");
         }
     }
-    None
-}
-
-/// The first word that is not an order, or reads with no row left, and yet answers otherwise or changes the machine.
-fn first_that_is_obeyed(rt: &impl Abort, alloc: Global, size: Size) -> Option<u32> {
-    let mut machine = used_machine(rt, alloc, size);
-    let mut before = machine.copy().expect(rt, "memory");
-    first_not_blocked(rt, alloc, &mut machine, &mut before)
 }
 
 #[test]
 fn words_that_are_no_orders_and_reads_without_a_row_change_nothing(rt: HostRuntime) {
     for size in [Size::Small, Size::Full] {
-        let found = first_that_is_obeyed(&rt, rt.alloc(), size);
-        let locations = size.value();
-        assert!(rt; found.is_none(), "{found:?} in {locations} locations");
+        expect_blocked(&rt, rt.alloc(), size);
     }
 }
 
-/// Whether the turn of an order is one that its letter may have, and the row that it left is right.
-fn is_turn_of(letter: u8, turn: Turn, rows_left: usize) -> bool {
-    let letters = match turn {
-        Turn::Went => b"ASHVNTUCRLEGIFXY".as_slice(),
-        Turn::Printed(_) => b"O".as_slice(),
-        Turn::Stopped => b"Z".as_slice(),
-        Turn::NoOrder(_) | Turn::NoTape => b"".as_slice(),
-    };
-    letters.contains(&letter) && (rows_left == 0) == (letter == b'I')
-}
-
-/// Whether an order is obeyed by a machine that has obeyed the orders of an image, with one row left on the tape.
+/// Whether an order is obeyed by a machine that has obeyed the orders of an image, with one row left on the tape: its
+/// turn is one that its letter may have, and the row that it left is right.
 fn is_obeyed(
     rt: &impl Abort,
     machine: &mut Machine,
@@ -148,51 +114,37 @@ fn is_obeyed(
 ) -> bool {
     start_with(rt, machine, &[order], row);
     let orders = machine.orders_done();
-    let turn = next_turn(rt, machine);
+    let letters = match next_turn(rt, machine) {
+        Turn::Went => b"ASHVNTUCRLEGIFXY".as_slice(),
+        Turn::Printed(_) => b"O".as_slice(),
+        Turn::Stopped => b"Z".as_slice(),
+        Turn::NoOrder(_) | Turn::NoTape => b"".as_slice(),
+    };
     machine.orders_done() == orders.wrapping_add(1)
-        && is_turn_of(letter, turn, machine.rows_left().len())
+        && letters.contains(&letter)
+        && machine.rows_left().is_empty() == (letter == b'I')
 }
 
-/// The first word that is an order and yet is not obeyed as one, with one row left on the tape of a machine that has
-/// obeyed the orders of an image before.
-fn first_not_obeyed(
-    rt: &impl Abort,
-    alloc: Global,
-    machine: &mut Machine,
-    image: &[Word],
-) -> Option<u32> {
+/// Checks on a used machine of a size that every word that is an order is obeyed as one.
+fn expect_obeyed(rt: &impl Abort, alloc: Global, size: Size) {
+    let image = image_of(rt, alloc, USE, DATA);
+    let mut machine = used_machine(rt, alloc, size);
+    let locations = size.value();
     for number in 0..131_072 {
         let order = word(rt, number);
         let letter = letter_of(rt, order);
         if b"ASHVNTUCRLEGIOFXYZ".contains(&letter) {
-            start_with(rt, machine, image, Vec::new(alloc));
-            obey(rt, machine, USE);
-            if !is_obeyed(
-                rt,
-                machine,
-                order,
-                letter,
-                tape_of_text(alloc, b"A").expect(rt, "a tape"),
-            ) {
-                return Some(number);
-            }
+            start_with(rt, &mut machine, &image, Vec::new(alloc));
+            obey(rt, &mut machine, USE);
+            let told = is_obeyed(rt, &mut machine, order, letter, rows_of(rt, alloc, "A"));
+            assert!(rt; told, "{number} in {locations} locations");
         }
     }
-    None
-}
-
-/// The first word that is an order and yet is not obeyed as one, on a used machine of a size.
-fn first_that_is_not_obeyed(rt: &impl Abort, alloc: Global, size: Size) -> Option<u32> {
-    let image = image_of(rt, alloc, USE, DATA);
-    let mut machine = used_machine(rt, alloc, size);
-    first_not_obeyed(rt, alloc, &mut machine, &image)
 }
 
 #[test]
 fn every_order_is_obeyed(rt: HostRuntime) {
     for size in [Size::Small, Size::Full] {
-        let found = first_that_is_not_obeyed(&rt, rt.alloc(), size);
-        let locations = size.value();
-        assert!(rt; found.is_none(), "{found:?} in {locations} locations");
+        expect_obeyed(&rt, rt.alloc(), size);
     }
 }

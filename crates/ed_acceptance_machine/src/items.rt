@@ -4,47 +4,28 @@ use crate::endings::listing;
 use crate::numbers::code;
 use crate::support::first_difference;
 use ed_notation::{Item, rows_of_items, spellable, text_of_items};
-use std::alloc::Global;
-use std::process::Abort;
 
 /// The items T 64 K and A 2 π @.
-fn items(rt: &impl Abort) -> (Item, Item) {
-    let first = Item {
-        function: code(rt, 5),
-        number: 64,
-        mark: false,
-        end: code(rt, 14),
-    };
-    let second = Item {
-        function: code(rt, 28),
-        number: 2,
-        mark: true,
-        end: code(rt, 18),
-    };
-    (first, second)
-}
-
-/// Checks that the items are spelled in rows.
-fn expect_rows(rt: &impl Abort, alloc: Global) {
-    let (first, second) = items(rt);
-    assert!(rt; spellable(&first) && spellable(&second));
-    let rows = rows_of_items(alloc, &[first, second]).expect(rt, "memory");
-    let differs = first_difference(&rows, &[5, 6, 4, 14, 28, 2, 11, 18]);
-    assert!(rt; differs.is_none(), "row {differs:?}");
-}
-
-/// Checks that the items are spelled in text.
-fn expect_text(rt: &impl Abort, alloc: Global) {
-    let (first, second) = items(rt);
-    assert!(rt; spellable(&first) && spellable(&second));
-    let text = text_of_items(alloc, &[first, second]).expect(rt, "memory");
-    assert!(rt; text.as_slice() == b"T64K\nA2#@\n".as_slice());
-}
-
 #[test]
 fn items_are_spelled(rt: HostRuntime) {
-    expect_rows(&rt, rt.alloc());
-    expect_text(&rt, rt.alloc());
+    let first = Item {
+        function: code(&rt, 5),
+        number: 64,
+        mark: false,
+        end: code(&rt, 14),
+    };
+    let second = Item {
+        function: code(&rt, 28),
+        number: 2,
+        mark: true,
+        end: code(&rt, 18),
+    };
+    assert!(rt; spellable(&first) && spellable(&second));
+    let rows = rows_of_items(rt.alloc(), &[first, second]).expect(&rt, "memory");
+    let differs = first_difference(&rows, &[5, 6, 4, 14, 28, 2, 11, 18]);
+    assert!(rt; differs.is_none(), "row {differs:?}");
+    let text = text_of_items(rt.alloc(), &[first, second]).expect(&rt, "memory");
+    assert!(rt; text.as_slice() == b"T64K\nA2#@\n".as_slice());
 }
 
 /// The words of the Initial Orders, by location.

@@ -1,8 +1,8 @@
 //! The Initial Orders, obeyed one by one on a tape.
 
-use crate::support::{LETTER, expect, loaded, start_on, started, stops};
+use crate::support::{LETTER, expect, loaded, rows_of, started, stops, word_at};
 use ed_codes::Code;
-use ed_initial::{Rested, is_started, to_rest};
+use ed_initial::{Rested, begin, is_started, to_rest};
 use ed_machine::Machine;
 use ed_words::Size;
 use std::alloc::Global;
@@ -23,54 +23,27 @@ const AT_THE_ENTRY: [(u16, u32); 11] = [
     (66, 114_688),
 ];
 
-/// The first location that doesn't hold what the loader and the tape of a letter leave there.
-fn first_difference(rt: &impl Abort, machine: &Machine) -> Option<u16> {
-    for row in &AT_THE_ENTRY {
-        let (place, word) = *row;
-        assert!(rt; place < 1024);
-        if machine.word(place).value() != word {
-            return Some(place);
-        }
-    }
-    None
-}
-
-/// The first thing that is not as it should be at the entry, or nothing.
-fn wrong_at_the_entry(rt: &impl Abort, machine: &Machine) -> &'static str {
-    if first_difference(rt, machine).is_some() {
-        "another word"
-    } else if machine.acc() != 0 {
-        "another accumulator"
-    } else if machine.counter() != 64 {
-        "another counter"
-    } else if machine.multiplier().value() != 20_480 << 18 {
-        "another multiplier"
-    } else {
-        ""
-    }
-}
-
 /// Starts a machine again, which has obeyed `done` orders, on the tape of a letter; checks its load and its stop.
 fn expect_load(rt: &impl Abort, alloc: Global, machine: &mut Machine, done: u64) {
-    start_on(rt, alloc, machine, LETTER);
+    begin(machine, rows_of(rt, alloc, LETTER));
     expect(rt, machine.orders_done() == done, "the orders before");
     expect(rt, loaded(rt, machine) == Ok((64, 191)), "the load");
-    let wrong = wrong_at_the_entry(rt, machine);
-    expect(rt, wrong.is_empty(), wrong);
+    for (place, word) in &AT_THE_ENTRY {
+        expect(rt, word_at(rt, machine, *place) == *word, "another word");
+    }
+    expect(rt, machine.acc() == 0, "another accumulator");
+    expect(rt, machine.counter() == 64, "another counter");
+    let multiplier = machine.multiplier().value();
+    expect(rt, multiplier == 20_480 << 18, "another multiplier");
     expect(rt, !stops(rt, machine) && stops(rt, machine), "the stop");
-}
-
-/// Checks two loads of that tape, one after the other, on a cleared machine.
-fn expect_two_loads(rt: &impl Abort, alloc: Global, machine: &mut Machine) {
-    expect_load(rt, alloc, machine, 0);
-    expect_load(rt, alloc, machine, 193);
-    expect(rt, machine.last_printed() == Code::new(28), "the letter");
 }
 
 #[test]
 fn a_tape_is_loaded_twice_without_clearing(rt: HostRuntime) {
     let mut machine = Machine::cleared(rt.alloc()).expect(&rt, "memory");
-    expect_two_loads(&rt, rt.alloc(), &mut machine)
+    expect_load(&rt, rt.alloc(), &mut machine, 0);
+    expect_load(&rt, rt.alloc(), &mut machine, 193);
+    expect(&rt, machine.last_printed() == Code::new(28), "the letter");
 }
 
 /// The next rests of the loader on the tape of a letter: the location, the orders from the rest before, and all orders.
@@ -97,10 +70,10 @@ fn rested(rt: &impl Abort, machine: &mut Machine) -> Option<(u16, u64)> {
 
 /// Checks the rests of the loader on a machine that was started.
 fn expect_rests(rt: &impl Abort, machine: &mut Machine) {
-    for row in &RESTS {
-        let (place, orders, done) = *row;
-        expect(rt, rested(rt, machine) == Some((place, orders)), "the rest");
-        expect(rt, machine.orders_done() == done, "all orders");
+    for (place, orders, done) in &RESTS {
+        let told = rested(rt, machine);
+        expect(rt, told == Some((*place, *orders)), "the rest");
+        expect(rt, machine.orders_done() == *done, "all orders");
     }
 }
 
@@ -131,13 +104,11 @@ fn expect_end(rt: &impl Abort, alloc: Global, tape: &str, end: Result<(u16, u64)
 
 #[test]
 fn tapes_are_loaded_at_their_cost_or_are_lost(rt: HostRuntime) {
-    for row in &ENTERED {
-        let (tape, at, orders) = *row;
-        expect_end(&rt, rt.alloc(), tape, Ok((at, orders)));
+    for (tape, at, orders) in &ENTERED {
+        expect_end(&rt, rt.alloc(), tape, Ok((*at, *orders)));
     }
-    for row in &LOST {
-        let (tape, orders) = *row;
-        expect_end(&rt, rt.alloc(), tape, Err(orders));
+    for (tape, orders) in &LOST {
+        expect_end(&rt, rt.alloc(), tape, Err(*orders));
     }
 }
 

@@ -1,12 +1,12 @@
 //! Initial Orders 1, obeyed one by one on a tape.
 
 use crate::numbers::word;
-use crate::support::{expect, next_turn, rows_of};
+use crate::support::{expect, next_turn, rows_of, start_with};
 use crate::support1::{LETTER, checked, loaded, misplaced, start, started};
 use ed_codes::Code;
 use ed_initial1::{Checked1, is_started1, orders1};
 use ed_machine::{Machine, Turn};
-use ed_words::{Size, Word};
+use ed_words::Size;
 use std::alloc::Global;
 use std::process::Abort;
 
@@ -39,10 +39,9 @@ const AT_THE_ENTRY: [(u16, u32); 9] = [
 
 /// The word that a location holds at the entry, which the tape of a letter leaves.
 fn wanted(place: u16) -> Option<u32> {
-    for row in &AT_THE_ENTRY {
-        let (changed, word) = *row;
-        if changed == place {
-            return Some(word);
+    for (changed, word) in &AT_THE_ENTRY {
+        if *changed == place {
+            return Some(*word);
         }
     }
     WORDS.get(usize::from(place)).copied()
@@ -71,18 +70,13 @@ fn has_entered(machine: &Machine) -> bool {
         && !machine.sandwich(0)
 }
 
-/// Adds T 1023 S and 991 more items, each of this text.
-fn add_largest(rt: &impl Abort, tape: &mut String, item: &str) {
+/// The largest tape: T 1023 S and 991 more items, each of this text.
+fn largest(rt: &impl Abort, alloc: Global, item: &str) -> Vec<Code> {
+    let mut tape = String::new(alloc);
     tape.push_str("T1023S").expect(rt, "memory");
     for _ in 0..991 {
         tape.push_str(item).expect(rt, "memory");
     }
-}
-
-/// The largest tape: T 1023 S and 991 more items, each of this text.
-fn largest(rt: &impl Abort, alloc: Global, item: &str) -> Vec<Code> {
-    let mut tape = String::new(alloc);
-    add_largest(rt, &mut tape, item);
     rows_of(rt, alloc, &tape)
 }
 
@@ -90,54 +84,27 @@ fn largest(rt: &impl Abort, alloc: Global, item: &str) -> Vec<Code> {
 /// which is halved.
 const HALVES_A_WORD: [u32; 5] = [114_696, 16_385, 20_481, 53_248, 1];
 
-/// Puts that program into an image.
-fn put_program(rt: &impl Abort, image: &mut Vec<Word>) {
-    for number in &HALVES_A_WORD {
-        image.push(word(rt, *number)).ok().expect(rt, "memory");
-    }
-}
-
 /// Obeys the next orders.
 fn obey(rt: &impl Abort, machine: &mut Machine, orders: u64) {
     assert!(rt; machine.orders_done() < 1 << 40 && orders < 1 << 40);
     machine.obey_next(orders);
 }
 
-/// Runs that program.
-fn set_sandwich(rt: &impl Abort, alloc: Global, machine: &mut Machine) {
-    let mut image = Vec::new(alloc);
-    put_program(rt, &mut image);
-    assert!(rt; image.len() < 41);
-    machine.start(&image, Vec::new(alloc));
-    obey(rt, machine, 3);
-}
-
-/// Loads the tape that a machine was started on, and enters it.
-fn enter(rt: &impl Abort, machine: &mut Machine) {
-    expect(rt, loaded(rt, machine).is_ok(), "the load");
-}
-
-/// Loads the largest tape of Q 7 L on a machine that was started on it, and runs the program that halves a word.
-fn fill(rt: &impl Abort, alloc: Global, machine: &mut Machine) {
-    enter(rt, machine);
-    set_sandwich(rt, alloc, machine);
-    expect(
-        rt,
-        machine.sandwich(0) && machine.word(35).value() == 4111,
-        "the store",
-    );
-}
-
 /// A machine whose locations 31 to 1022 hold the word of Q 7 L, and whose pair 0, 1 has the sandwich digit 1.
+///
+/// It has loaded the largest tape of Q 7 L, and then run the program that halves a word.
 fn used(rt: &impl Abort, alloc: Global) -> Machine {
     let mut machine = started(rt, alloc, largest(rt, alloc, "Q7L"));
-    fill(rt, alloc, &mut machine);
+    expect(rt, loaded(rt, &mut machine).is_ok(), "the load");
+    let mut image = Vec::new(alloc);
+    for number in &HALVES_A_WORD {
+        image.push(word(rt, *number)).ok().expect(rt, "memory");
+    }
+    start_with(rt, &mut machine, &image, Vec::new(alloc));
+    obey(rt, &mut machine, 3);
+    let has_both = machine.sandwich(0) && machine.word(35).value() == 4111;
+    expect(rt, has_both, "the store");
     machine
-}
-
-/// Starts a machine on the tape of a letter.
-fn start_letter(rt: &impl Abort, alloc: Global, machine: &mut Machine) {
-    start(machine, rows_of(rt, alloc, LETTER));
 }
 
 /// Loads the tape of a letter, and checks what is left at the entry.
@@ -150,17 +117,12 @@ fn expect_letter(rt: &impl Abort, machine: &mut Machine, before: &Machine) {
     expect(rt, machine.last_printed().is_none(), "the last code");
 }
 
-/// Checks what the tape of a letter leaves on a machine.
-fn expect_letter_on(rt: &impl Abort, alloc: Global, machine: &mut Machine) {
-    let before = machine.copy().expect(rt, "memory");
-    start_letter(rt, alloc, machine);
-    expect_letter(rt, machine, &before);
-}
-
 #[test]
 fn a_used_machine_is_loaded_cell_by_cell(rt: HostRuntime) {
     let mut machine = used(&rt, rt.alloc());
-    expect_letter_on(&rt, rt.alloc(), &mut machine)
+    let before = machine.copy().expect(&rt, "memory");
+    start(&mut machine, rows_of(&rt, rt.alloc(), LETTER));
+    expect_letter(&rt, &mut machine, &before);
 }
 
 /// What the next order does, if it leaves the counter there and 0 at 35.
@@ -171,23 +133,21 @@ fn turn_to(rt: &impl Abort, machine: &mut Machine, counter: u16) -> Turn {
     turn
 }
 
-/// Checks the orders of the program that prints a letter.
-fn expect_turns(rt: &impl Abort, machine: &mut Machine) {
-    expect(rt, matches!(turn_to(rt, machine, 32), Turn::Went), "T");
-    let printed = match turn_to(rt, machine, 33) {
-        Turn::Printed(code) => Some(code.value()),
-        _ => None,
-    };
-    expect(rt, printed == Some(28), "O");
-    expect(rt, matches!(turn_to(rt, machine, 34), Turn::Stopped), "Z");
-}
-
+/// The orders of the program that prints a letter are T, O and Z.
 #[test]
 fn the_first_order_clears_the_place_that_it_names(rt: HostRuntime) {
     let mut machine = used(&rt, rt.alloc());
-    start_letter(&rt, rt.alloc(), &mut machine);
-    enter(&rt, &mut machine);
-    expect_turns(&rt, &mut machine);
+    start(&mut machine, rows_of(&rt, rt.alloc(), LETTER));
+    expect(&rt, loaded(&rt, &mut machine).is_ok(), "the load");
+    let turn = turn_to(&rt, &mut machine, 32);
+    expect(&rt, matches!(turn, Turn::Went), "T");
+    let printed = match turn_to(&rt, &mut machine, 33) {
+        Turn::Printed(code) => Some(code.value()),
+        _ => None,
+    };
+    expect(&rt, printed == Some(28), "O");
+    let turn = turn_to(&rt, &mut machine, 34);
+    expect(&rt, matches!(turn, Turn::Stopped), "Z");
 }
 
 /// Checks how the load of a tape ends.
@@ -207,27 +167,21 @@ const ENTERED: [(&str, u64); 6] = [
     ("R2083SO34SZSAS", 140),
 ];
 
-#[test]
-fn tapes_are_loaded_at_their_cost(rt: HostRuntime) {
-    for row in &ENTERED {
-        let (tape, orders) = *row;
-        expect_end(&rt, rt.alloc(), tape, Ok(orders));
-    }
-}
-
 /// Tapes that end too early, and the orders until then.
 const LOST: [(&str, u64); 5] = [("", 4), ("T", 9), ("T35", 29), ("T35S", 44), ("T35SO", 48)];
 
 #[test]
-fn a_tape_that_ends_too_early_is_lost(rt: HostRuntime) {
-    for row in &LOST {
-        let (tape, orders) = *row;
-        expect_end(&rt, rt.alloc(), tape, Err(orders));
+fn tapes_are_loaded_at_their_cost_or_are_lost(rt: HostRuntime) {
+    for (tape, orders) in &ENTERED {
+        expect_end(&rt, rt.alloc(), tape, Ok(*orders));
+    }
+    for (tape, orders) in &LOST {
+        expect_end(&rt, rt.alloc(), tape, Err(*orders));
     }
 }
 
 /// Checks the report on the largest tape, and its load on a machine that was started on it.
-fn expect_largest(
+fn expect_report(
     rt: &impl Abort,
     report: &Checked1,
     machine: &mut Machine,
@@ -240,42 +194,31 @@ fn expect_largest(
     expect(rt, misplaced(machine, report).is_none(), item);
 }
 
-/// The report on the largest tape.
-fn checked_largest(rt: &impl Abort, alloc: Global, item: &str) -> Checked1 {
-    let rows = largest(rt, alloc, item);
-    checked(rt, alloc, &rows).ok().expect(rt, item)
-}
-
 /// Checks the largest tape of an item, its orders and its rows.
-fn expect_tape(rt: &impl Abort, alloc: Global, item: &str, orders: u64, rows: usize) {
-    let report = checked_largest(rt, alloc, item);
-    let mut machine = started(rt, alloc, largest(rt, alloc, item));
-    expect_largest(rt, &report, &mut machine, (item, orders, rows));
+fn expect_largest(rt: &impl Abort, alloc: Global, item: &str, orders: u64, rows: usize) {
+    let tape = largest(rt, alloc, item);
+    let report = checked(rt, alloc, &tape).ok().expect(rt, item);
+    let mut machine = started(rt, alloc, tape);
+    expect_report(rt, &report, &mut machine, (item, orders, rows));
 }
 
 #[test]
 fn the_largest_tape(rt: HostRuntime) {
-    expect_tape(&rt, rt.alloc(), "PS", 18_892, 1988);
-    expect_tape(&rt, rt.alloc(), "Q7L", 28_802, 2979)
+    expect_largest(&rt, rt.alloc(), "PS", 18_892, 1988);
+    expect_largest(&rt, rt.alloc(), "Q7L", 28_802, 2979);
 }
 
-/// Whether a cleared machine of a size counts as started after this many orders of the listing.
-fn is_started_after(rt: &impl Abort, alloc: Global, size: Size, orders: u64) -> bool {
+/// Checks whether a cleared machine of a size counts as started after this many orders of the listing.
+fn expect_started(rt: &impl Abort, alloc: Global, size: Size, orders: u64, wanted: bool) {
     let mut machine = Machine::cleared_of(alloc, size).expect(rt, "memory");
     start(&mut machine, Vec::new(alloc));
     obey(rt, &mut machine, orders);
-    is_started1(&machine)
-}
-
-/// Checks whether such a machine counts as started.
-fn expect_started(rt: &impl Abort, alloc: Global, size: Size, orders: u64, wanted: bool) {
-    let started = is_started_after(rt, alloc, size, orders);
-    assert!(rt; started == wanted, "{orders}");
+    assert!(rt; is_started1(&machine) == wanted, "{orders}");
 }
 
 #[test]
 fn a_machine_is_started_at_full_size_and_at_0(rt: HostRuntime) {
     expect_started(&rt, rt.alloc(), Size::Full, 0, true);
     expect_started(&rt, rt.alloc(), Size::Full, 1, false);
-    expect_started(&rt, rt.alloc(), Size::Small, 0, false)
+    expect_started(&rt, rt.alloc(), Size::Small, 0, false);
 }

@@ -19,7 +19,7 @@ fn messages_of_text_faults(rt: HostRuntime) {
     let open_comment = TextFault::OpenComment { place: 3 };
     expect_message(&rt, rt.alloc(), &no_row, "NoRow");
     expect_message(&rt, rt.alloc(), &open_comment, "OpenComment");
-    expect_message(&rt, rt.alloc(), &TextFault::Memory, "Memory")
+    expect_message(&rt, rt.alloc(), &TextFault::Memory, "Memory");
 }
 
 #[test]
@@ -29,5 +29,5 @@ fn messages_of_post_mortem_faults(rt: HostRuntime) {
     expect_message(&rt, rt.alloc(), &PmFault::InItsOwnStore, "InItsOwnStore");
     expect_message(&rt, rt.alloc(), &PmFault::StoreEnd, "StoreEnd");
     expect_message(&rt, rt.alloc(), &full, "PaperFull");
-    expect_message(&rt, rt.alloc(), &PmFault::Memory, "Memory")
+    expect_message(&rt, rt.alloc(), &PmFault::Memory, "Memory");
 }

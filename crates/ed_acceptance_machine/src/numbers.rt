@@ -17,17 +17,12 @@ pub fn code(rt: &impl Abort, number: u8) -> Code {
     Code::new(number).expect(rt, "a code")
 }
 
-/// Puts the codes of these numbers into a list.
-fn put(rt: &impl Abort, codes: &mut Vec<Code>, numbers: &[u8]) {
-    for number in numbers {
-        codes.push(code(rt, *number)).ok().expect(rt, "memory");
-    }
-}
-
 /// The codes of these numbers.
 pub fn codes(rt: &impl Abort, alloc: Global, numbers: &[u8]) -> Vec<Code> {
     let mut codes = Vec::new(alloc);
-    put(rt, &mut codes, numbers);
+    for number in numbers {
+        codes.push(code(rt, *number)).ok().expect(rt, "memory");
+    }
     codes
 }
 

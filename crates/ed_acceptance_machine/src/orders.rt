@@ -1,7 +1,7 @@
 //! Single orders of the machine, on worked values.
 
-use crate::support::{expect, image_of, machine_after, obey, start_with, word_at};
-use ed_codes::{Code, tape_of_text};
+use crate::support::{expect, image_of, machine_after, obey, rows_of, start_with, word_at};
+use ed_codes::Code;
 use ed_machine::Machine;
 use ed_words::Size;
 use ed_words::Size::{Full, Small};
@@ -72,18 +72,6 @@ const COUNTERS_IN_512: [Counted; 2] = [
     ("A30F T1023F E1023F X0F", [106_496, 0, 0, 0], 0),
 ];
 
-/// Checks the accumulator after orders.
-fn expect_accumulator(rt: &impl Abort, alloc: Global, orders: &str, data: [u32; 4], number: u128) {
-    let machine = machine_after(rt, alloc, Full, orders, data);
-    expect(rt, machine.acc() == number, orders);
-}
-
-/// Checks the code that orders print last.
-fn expect_printed(rt: &impl Abort, alloc: Global, orders: &str, data: [u32; 4], code: u8) {
-    let machine = machine_after(rt, alloc, Full, orders, data);
-    expect(rt, machine.last_printed() == Code::new(code), orders);
-}
-
 /// Checks the counter after orders on a store of a size.
 fn expect_counter(
     rt: &impl Abort,
@@ -97,11 +85,23 @@ fn expect_counter(
     expect(rt, machine.counter() == counter, orders);
 }
 
+/// Checks the accumulator after orders.
+fn expect_accumulator(rt: &impl Abort, alloc: Global, orders: &str, data: [u32; 4], number: u128) {
+    let machine = machine_after(rt, alloc, Full, orders, data);
+    expect(rt, machine.acc() == number, orders);
+}
+
 #[test]
 fn each_order_leaves_the_accumulator_that_is_due(rt: HostRuntime) {
     for (orders, data, number) in &ACCUMULATORS {
         expect_accumulator(&rt, rt.alloc(), orders, *data, *number);
     }
+}
+
+/// Checks the code that orders print last.
+fn expect_printed(rt: &impl Abort, alloc: Global, orders: &str, data: [u32; 4], code: u8) {
+    let machine = machine_after(rt, alloc, Full, orders, data);
+    expect(rt, machine.last_printed() == Code::new(code), orders);
 }
 
 #[test]
@@ -111,17 +111,14 @@ fn each_order_prints_what_is_due(rt: HostRuntime) {
     }
 }
 
-/// Checks the counters of a table on a store of a size.
-fn expect_counters(rt: &impl Abort, alloc: Global, size: Size, rows: &[Counted]) {
-    for (orders, data, counter) in rows {
-        expect_counter(rt, alloc, size, orders, *data, *counter);
-    }
-}
-
 #[test]
 fn each_order_leaves_the_counter_that_is_due(rt: HostRuntime) {
-    expect_counters(&rt, rt.alloc(), Full, &COUNTERS);
-    expect_counters(&rt, rt.alloc(), Small, &COUNTERS_IN_512);
+    for (orders, data, counter) in &COUNTERS {
+        expect_counter(&rt, rt.alloc(), Full, orders, *data, *counter);
+    }
+    for (orders, data, counter) in &COUNTERS_IN_512 {
+        expect_counter(&rt, rt.alloc(), Small, orders, *data, *counter);
+    }
 }
 
 /// The orders from location 0, the words at 30 to 33, and two words that are due after the orders, each after its
@@ -188,50 +185,27 @@ const READS: [(&str, [(u16, u32); 2]); 4] = [
     ("I31D", [(30, 0), (31, 31)]),
 ];
 
-/// Checks that an order I on a machine reads one of two rows.
-fn expect_read(
-    rt: &impl Abort,
-    alloc: Global,
-    machine: &mut Machine,
-    order: &str,
-    wanted: &[(u16, u32); 2],
-) {
-    let image = image_of(rt, alloc, order, [7, 7, 7, 7]);
-    start_with(
-        rt,
-        machine,
-        &image,
-        tape_of_text(alloc, b"VA").expect(rt, "a tape"),
-    );
-    obey(rt, machine, order);
-    expect(rt, has_words(rt, machine, wanted), order);
-    expect(rt, machine.rows_left().len() == 1, order);
-}
-
 /// Checks that an order I on a cleared machine reads one of two rows.
-fn expect_first_read(rt: &impl Abort, alloc: Global, order: &str, wanted: &[(u16, u32); 2]) {
+fn expect_read(rt: &impl Abort, alloc: Global, order: &str, wanted: &[(u16, u32); 2]) {
+    let image = image_of(rt, alloc, order, [7, 7, 7, 7]);
     let mut machine = Machine::cleared(alloc).expect(rt, "memory");
-    expect_read(rt, alloc, &mut machine, order, wanted);
+    start_with(rt, &mut machine, &image, rows_of(rt, alloc, "VA"));
+    obey(rt, &mut machine, order);
+    expect(rt, has_words(rt, &machine, wanted), order);
+    expect(rt, machine.rows_left().len() == 1, order);
 }
 
 #[test]
 fn an_order_i_reads_a_row(rt: HostRuntime) {
     for (order, wanted) in &READS {
-        expect_first_read(&rt, rt.alloc(), order, wanted);
+        expect_read(&rt, rt.alloc(), order, wanted);
     }
 }
 
 /// Orders that set each register.
 const REGISTERS: &str = "H30F A31F O30F";
 
-/// Starts a machine again that has obeyed these orders, and checks its registers.
-fn expect_registers_left(rt: &impl Abort, alloc: Global, machine: &mut Machine) {
-    let image = image_of(rt, alloc, REGISTERS, [1, 2, 3, 4]);
-    start_with(rt, machine, &image, Vec::new(alloc));
-    expect_registers(rt, machine);
-}
-
-/// Checks the registers that these orders leave, and a word of the image.
+/// Checks the registers that these orders leave, and a word of the image that was started after them.
 fn expect_registers(rt: &impl Abort, machine: &Machine) {
     expect(rt, machine.counter() == 0, "the counter");
     expect(rt, machine.acc() == 3 << 54, "the accumulator");
@@ -246,23 +220,20 @@ fn expect_registers(rt: &impl Abort, machine: &Machine) {
 #[test]
 fn a_second_start_leaves_the_registers(rt: HostRuntime) {
     let mut machine = machine_after(&rt, rt.alloc(), Full, REGISTERS, [114_688, 3, 0, 0]);
-    expect_registers_left(&rt, rt.alloc(), &mut machine);
+    let image = image_of(&rt, rt.alloc(), REGISTERS, [1, 2, 3, 4]);
+    start_with(&rt, &mut machine, &image, Vec::new(rt.alloc()));
+    expect_registers(&rt, &machine);
 }
 
 /// Orders that put the digit 1 between the words at 20 and 21: it is shifted out of the word 1.
 const SANDWICH: &str = "A31F R0D T20D";
 
-/// Starts a machine again that has obeyed these orders, and checks the digit between the words that Start writes.
-fn expect_sandwich_left(rt: &impl Abort, alloc: Global, machine: &mut Machine) {
-    expect(rt, machine.sandwich(20), "the digit before Start");
-    let image = image_of(rt, alloc, REGISTERS, [1, 2, 3, 4]);
-    start_with(rt, machine, &image, Vec::new(alloc));
-    expect(rt, machine.sandwich(20), "the digit after Start");
-}
-
 /// Start writes words, and no sandwich digit.
 #[test]
 fn a_second_start_leaves_the_sandwich_digits(rt: HostRuntime) {
     let mut machine = machine_after(&rt, rt.alloc(), Full, SANDWICH, [0, 1, 0, 0]);
-    expect_sandwich_left(&rt, rt.alloc(), &mut machine);
+    expect(&rt, machine.sandwich(20), "the digit before Start");
+    let image = image_of(&rt, rt.alloc(), REGISTERS, [1, 2, 3, 4]);
+    start_with(&rt, &mut machine, &image, Vec::new(rt.alloc()));
+    expect(&rt, machine.sandwich(20), "the digit after Start");
 }

@@ -86,12 +86,6 @@ fn codes_and_their_signs(rt: HostRuntime) {
     expect(&rt, row_of_byte(b'v').is_none(), "no row");
 }
 
-/// Checks that the rows of a text are these.
-fn expect_rows(rt: &impl Abort, alloc: Global, text: &[u8], numbers: &[u8]) {
-    let rows = tape_of_text(alloc, text).expect(rt, "a tape");
-    expect(rt, first_difference(&rows, numbers).is_none(), "the rows");
-}
-
 #[test]
 fn the_rows_of_a_text(rt: HostRuntime) {
     let is_fault = matches!(
@@ -103,7 +97,9 @@ fn the_rows_of_a_text(rt: HostRuntime) {
     );
     expect(&rt, is_fault, "the fault");
     let text = b"T 64 [the place]\r\n#\tK";
-    expect_rows(&rt, rt.alloc(), text, &[5, 6, 4, 11, 14])
+    let rows = tape_of_text(rt.alloc(), text).expect(&rt, "a tape");
+    let differs = first_difference(&rows, &[5, 6, 4, 11, 14]);
+    expect(&rt, differs.is_none(), "the rows");
 }
 
 /// The signs of the codes 0 to 31 in a tape's text.
@@ -207,37 +203,21 @@ fn products_and_common_digits(rt: HostRuntime) {
     expect_value(&rt, &acc, 1 << 55);
 }
 
-/// Checks what words and long words leave in a cleared store.
-fn expect_words(rt: &impl Abort, store: &mut Store) {
-    store.put_short(5, word(rt, 7));
-    store.put_long(8, long(rt, 131_073));
-    expect(rt, store.short(5).value() == 7, "a word");
-    expect(
-        rt,
-        store.long(4).value() == 7 * 262_144,
-        "the long word of a word",
-    );
-    expect(rt, store.short(8).value() == 1, "the word of a long word");
-    expect(
-        rt,
-        store.sandwich(9) && !store.sandwich(5),
-        "the sandwich digits",
-    );
-}
-
-/// Checks that two stores are equal, until a word is put into one of them.
-fn expect_equal(rt: &impl Abort, store: &Store, other: &mut Store) {
-    assert!(rt; other.equals(store));
-    other.put_short(0, word(rt, 1));
-    assert!(rt; !other.equals(store));
-}
-
 #[test]
 fn the_store(rt: HostRuntime) {
     let mut store = Store::cleared(rt.alloc()).expect(&rt, "memory");
-    expect_words(&rt, &mut store);
+    store.put_short(5, word(&rt, 7));
+    store.put_long(8, long(&rt, 131_073));
+    expect(&rt, store.short(5).value() == 7, "a word");
+    let joined = store.long(4).value();
+    expect(&rt, joined == 7 * 262_144, "the long word of a word");
+    expect(&rt, store.short(8).value() == 1, "the word of a long word");
+    let digits = store.sandwich(9) && !store.sandwich(5);
+    expect(&rt, digits, "the sandwich digits");
     let mut other = store.copy().expect(&rt, "memory");
-    expect_equal(&rt, &store, &mut other);
+    assert!(rt; other.equals(&store));
+    other.put_short(0, word(&rt, 1));
+    assert!(rt; !other.equals(&store));
 }
 
 /// Checks the text of a word's order.
@@ -272,20 +252,13 @@ fn the_places_of_a_shift(rt: HostRuntime) {
     expect_places(&rt, 102_400, 13);
 }
 
-/// Checks a paper with room for one code.
-fn expect_one_code(rt: &impl Abort, paper: &mut Paper) {
-    expect(rt, paper.room_left() == 1, "the room");
-    expect(rt, paper.push(code(rt, 28)), "the code that has room");
-    expect(rt, !paper.push(code(rt, 29)), "the code that has none");
-    expect(
-        rt,
-        number_of_the_only(paper.codes()) == Some(28),
-        "the codes",
-    );
-}
-
 #[test]
 fn the_paper(rt: HostRuntime) {
     let mut paper = Paper::new(rt.alloc(), 1).expect(&rt, "memory");
-    expect_one_code(&rt, &mut paper);
+    expect(&rt, paper.room_left() == 1, "the room");
+    let (first, second) = (code(&rt, 28), code(&rt, 29));
+    expect(&rt, paper.push(first), "the code that has room");
+    expect(&rt, !paper.push(second), "the code that has none");
+    let codes = number_of_the_only(paper.codes());
+    expect(&rt, codes == Some(28), "the codes");
 }

@@ -28,23 +28,6 @@ fn printed(
     post_mortem(alloc, machine, first, count, paper)
 }
 
-/// A cleared machine of a size, and a paper with this room.
-fn cleared(rt: &impl Abort, alloc: Global, size: Size, room: usize) -> (Machine, Paper) {
-    let paper = Paper::new(alloc, room).expect(rt, "memory");
-    let machine = Machine::cleared_of(alloc, size).expect(rt, "memory");
-    (machine, paper)
-}
-
-/// A machine on which a tape was loaded, and the location of its entry, if it was entered.
-fn loaded_on(rt: &impl Abort, alloc: Global, tape: &str) -> (Machine, Option<u16>) {
-    let mut machine = started(rt, alloc, Size::Full, tape);
-    let entry = match loaded(rt, &mut machine) {
-        Ok((at, _)) => Some(at),
-        Err(_) => None,
-    };
-    (machine, entry)
-}
-
 /// Post-mortems that are refused on a paper with room for six codes: the size of the store, the first location, the
 /// number of words, and the fault.
 const REFUSED: [(Size, u16, u16, &str); 6] = [
@@ -86,65 +69,35 @@ const PRINTED: [Printed; 3] = [
 ];
 
 /// Checks on a cleared machine that a post-mortem is refused and that it changes nothing.
-fn expect_refused_on(
-    rt: &impl Abort,
-    alloc: Global,
-    machine: &mut Machine,
-    paper: &mut Paper,
-    words: (u16, u16),
-    fault: &str,
-) {
-    let (first, count) = words;
-    let answer = printed(rt, alloc, machine, first, count, paper);
-    expect(rt, name_of(answer) == fault, "the refusal");
-    expect(
-        rt,
-        machine.orders_done() == 0 && machine.word(0).value() == 0,
-        "the machine",
-    );
-    expect(rt, paper.codes().is_empty(), "the paper");
-}
-
-/// Checks that a post-mortem is refused and that it changes nothing.
 fn expect_refused(rt: &impl Abort, alloc: Global, size: Size, first: u16, count: u16, fault: &str) {
-    let (mut machine, mut paper) = cleared(rt, alloc, size, 6);
-    expect_refused_on(rt, alloc, &mut machine, &mut paper, (first, count), fault);
+    let mut paper = Paper::new(alloc, 6).expect(rt, "memory");
+    let mut machine = Machine::cleared_of(alloc, size).expect(rt, "memory");
+    let answer = printed(rt, alloc, &mut machine, first, count, &mut paper);
+    expect(rt, name_of(answer) == fault, "the refusal");
+    let is_same = machine.orders_done() == 0 && machine.word(0).value() == 0;
+    expect(rt, is_same, "the machine");
+    expect(rt, paper.codes().is_empty(), "the paper");
 }
 
 #[test]
 fn refusals_come_in_their_order_and_change_nothing(rt: HostRuntime) {
-    for row in &REFUSED {
-        let (size, first, count, fault) = *row;
-        expect_refused(&rt, rt.alloc(), size, first, count, fault);
+    for (size, first, count, fault) in &REFUSED {
+        expect_refused(&rt, rt.alloc(), *size, *first, *count, fault);
     }
-}
-
-/// Checks what a post-mortem prints on a machine, and its cost.
-fn expect_printed(
-    rt: &impl Abort,
-    alloc: Global,
-    machine: &mut Machine,
-    paper: &mut Paper,
-    row: &Printed,
-) {
-    let (tape, first, count, codes, orders) = *row;
-    let before = machine.orders_done();
-    let answer = printed(rt, alloc, machine, first, count, paper);
-    let obeyed = machine.orders_done().checked_sub(before);
-    expect(
-        rt,
-        answer.ok() == Some(orders) && obeyed == Some(orders),
-        tape,
-    );
-    expect(rt, first_difference(paper.codes(), codes).is_none(), tape);
 }
 
 /// Checks what a post-mortem prints of the words of a tape, and its cost.
 fn expect_print(rt: &impl Abort, alloc: Global, row: &Printed) {
-    let (tape, _, _, codes, _) = *row;
+    let (tape, first, count, codes, orders) = *row;
     let mut paper = Paper::new(alloc, codes.len()).expect(rt, "memory");
-    let (mut machine, _) = loaded_on(rt, alloc, tape);
-    expect_printed(rt, alloc, &mut machine, &mut paper, row);
+    let mut machine = started(rt, alloc, Size::Full, tape);
+    let _entry = loaded(rt, &mut machine);
+    let before = machine.orders_done();
+    let answer = printed(rt, alloc, &mut machine, first, count, &mut paper);
+    expect(rt, answer.ok() == Some(orders), tape);
+    let obeyed = machine.orders_done().checked_sub(before);
+    expect(rt, obeyed == Some(orders), tape);
+    expect(rt, first_difference(paper.codes(), codes).is_none(), tape);
 }
 
 #[test]
@@ -154,33 +107,21 @@ fn words_are_printed_at_their_cost(rt: HostRuntime) {
     }
 }
 
-/// Checks the number of lines that a machine prints.
-fn expect_lines_on(
-    rt: &impl Abort,
-    alloc: Global,
-    machine: &mut Machine,
-    paper: &mut Paper,
-    words: (u16, u16),
-    lines: usize,
-) {
-    let (first, count) = words;
-    let answer = printed(rt, alloc, machine, first, count, paper);
+/// Checks the number of lines that a machine of 512 locations prints.
+fn expect_lines(rt: &impl Abort, alloc: Global, first: u16, count: u16, lines: usize) {
+    let mut paper = Paper::new(alloc, ROOM).expect(rt, "memory");
+    let mut machine = Machine::cleared_of(alloc, Size::Small).expect(rt, "memory");
+    let answer = printed(rt, alloc, &mut machine, first, count, &mut paper);
     expect(rt, answer.is_ok(), "the answer");
     let codes = paper.codes().len();
     expect(rt, codes / 8 == lines && codes % 8 == 0, "the lines");
-}
-
-/// Checks the number of lines that a machine of 512 locations prints.
-fn expect_lines(rt: &impl Abort, alloc: Global, first: u16, count: u16, lines: usize) {
-    let (mut machine, mut paper) = cleared(rt, alloc, Size::Small, ROOM);
-    expect_lines_on(rt, alloc, &mut machine, &mut paper, (first, count), lines);
 }
 
 #[test]
 fn a_machine_of_512_locations_prints_up_to_its_end(rt: HostRuntime) {
     expect_lines(&rt, rt.alloc(), 144, 368, 368);
     expect_lines(&rt, rt.alloc(), 511, 1, 1);
-    expect_lines(&rt, rt.alloc(), 512, 0, 0)
+    expect_lines(&rt, rt.alloc(), 512, 0, 0);
 }
 
 /// The function, the number and the length of a word.
@@ -196,47 +137,31 @@ fn add_item(rt: &impl Abort, tape: &mut String, word: u32) {
     write!(tape, "{letter}{number}{end}").expect(rt, "memory");
 }
 
-/// Adds the items that place `count` words, the number `from` and those after it, from location 144 upwards.
-fn add_words(rt: &impl Abort, tape: &mut String, from: u32, count: u32) {
-    tape.push_str("T144K").expect(rt, "memory");
-    for word in from..from.saturating_add(count) {
-        add_item(rt, tape, word);
-    }
-    tape.push_str("E144KPF").expect(rt, "memory");
-}
-
 /// The tape that places `count` words, the number `from` and those after it, from location 144 upwards.
 fn tape_of_words(rt: &impl Abort, alloc: Global, from: u32, count: u32) -> String {
     let mut tape = String::new(alloc);
-    add_words(rt, &mut tape, from, count);
-    tape
-}
-
-/// Adds the codes of digits.
-fn add_digits(rt: &impl Abort, codes: &mut Vec<u8>, digits: &str) {
-    for digit in digits.bytes() {
-        codes
-            .push(digit.wrapping_sub(b'0'))
-            .ok()
-            .expect(rt, "memory");
+    tape.push_str("T144K").expect(rt, "memory");
+    for word in from..from.saturating_add(count) {
+        add_item(rt, &mut tape, word);
     }
-}
-
-/// Adds the codes of a number's digits.
-fn add_number(rt: &impl Abort, alloc: Global, codes: &mut Vec<u8>, number: u32) {
-    let digits = format!(in alloc; "{number}").ok().expect(rt, "memory");
-    add_digits(rt, codes, &digits)
+    tape.push_str("E144KPF").expect(rt, "memory");
+    tape
 }
 
 /// Adds the codes that print a word.
 fn add_codes(rt: &impl Abort, alloc: Global, codes: &mut Vec<u8>, word: u32) {
     let (function, number, long) = parts(word);
+    let end = if long { 19 } else { 17 };
+    let digits = format!(in alloc; "{number}").expect(rt, "memory");
     codes
         .extend_from_slice(&[15, function, 11])
         .expect(rt, "memory");
-    add_number(rt, alloc, codes, number);
+    for digit in digits.bytes() {
+        let code = digit.wrapping_sub(b'0');
+        codes.push(code).ok().expect(rt, "memory");
+    }
     codes
-        .extend_from_slice(&[15, if long { 19 } else { 17 }, 18, 24])
+        .extend_from_slice(&[15, end, 18, 24])
         .expect(rt, "memory");
 }
 
@@ -252,8 +177,9 @@ fn codes_of_words(rt: &impl Abort, alloc: Global, from: u32, count: u32) -> Vec<
 /// A machine on which the tape of these words was loaded.
 fn machine_of_words(rt: &impl Abort, alloc: Global, from: u32, count: u16) -> Machine {
     let tape = tape_of_words(rt, alloc, from, u32::from(count));
-    let (machine, entry) = loaded_on(rt, alloc, &tape);
-    expect(rt, entry == Some(144), &tape);
+    let mut machine = started(rt, alloc, Size::Full, &tape);
+    let entry = loaded(rt, &mut machine);
+    expect(rt, matches!(entry, Ok((144, _))), &tape);
     machine
 }
 

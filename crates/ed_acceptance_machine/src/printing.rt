@@ -2,7 +2,6 @@
 
 use crate::numbers::{code, codes};
 use crate::support::expect;
-use ed_codes::Code;
 use ed_printer::{Printer, Shift};
 use ed_report::{paper_text, papers_text};
 use std::alloc::Global;
@@ -38,13 +37,6 @@ fn printed(rt: &impl Abort, alloc: Global, numbers: &[u8]) -> Vec<u8> {
     paper_text(alloc, &codes).expect(rt, "memory")
 }
 
-/// What the codes of these numbers print on two papers.
-fn printed_on_two(rt: &impl Abort, alloc: Global, first: &[u8], second: &[u8]) -> Vec<u8> {
-    let first = codes(rt, alloc, first);
-    let second = codes(rt, alloc, second);
-    papers_text(alloc, &first, &second).expect(rt, "memory")
-}
-
 #[test]
 fn the_text_of_a_paper(rt: HostRuntime) {
     let text = printed(&rt, rt.alloc(), &[11, 21, 24, 1, 15, 1]);
@@ -53,7 +45,9 @@ fn the_text_of_a_paper(rt: HostRuntime) {
 
 #[test]
 fn the_text_of_two_papers(rt: HostRuntime) {
-    let text = printed_on_two(&rt, rt.alloc(), &[1, 11, 1], &[2, 15, 2]);
+    let first = codes(&rt, rt.alloc(), &[1, 11, 1]);
+    let second = codes(&rt, rt.alloc(), &[2, 15, 2]);
+    let text = papers_text(rt.alloc(), &first, &second).expect(&rt, "memory");
     assert!(rt; text.as_slice() == b"Q12W".as_slice());
 }
 
@@ -76,29 +70,19 @@ const FIGURE_SHIFT: u8 = 11;
 /// The code of letter shift.
 const LETTER_SHIFT: u8 = 15;
 
-/// Puts the codes 0 to 31 into a list, each after the code of a shift.
-fn put_each(rt: &impl Abort, struck: &mut Vec<Code>, shift: u8) {
+/// Checks what the codes 0 to 31 print in a shift, which its own code sets before each of them.
+fn expect_each(rt: &impl Abort, alloc: Global, shift: u8, text: &str) {
+    let mut struck = Vec::new(alloc);
     for number in 0..32 {
         struck.push(code(rt, shift)).ok().expect(rt, "memory");
         struck.push(code(rt, number)).ok().expect(rt, "memory");
     }
-}
-
-/// What the codes 0 to 31 print in a shift, which its own code sets before each of them.
-fn printed_in(rt: &impl Abort, alloc: Global, shift: u8) -> Vec<u8> {
-    let mut struck = Vec::new(alloc);
-    put_each(rt, &mut struck, shift);
-    paper_text(alloc, &struck).expect(rt, "memory")
-}
-
-/// Checks what these codes print in a shift.
-fn expect_each(rt: &impl Abort, alloc: Global, shift: u8, text: &str) {
-    let printed = printed_in(rt, alloc, shift);
+    let printed = paper_text(alloc, &struck).expect(rt, "memory");
     assert!(rt; printed.as_slice() == text.as_bytes(), "shift {shift}");
 }
 
 #[test]
 fn every_code_in_both_shifts(rt: HostRuntime) {
     expect_each(&rt, rt.alloc(), LETTER_SHIFT, LETTERS);
-    expect_each(&rt, rt.alloc(), FIGURE_SHIFT, FIGURES)
+    expect_each(&rt, rt.alloc(), FIGURE_SHIFT, FIGURES);
 }

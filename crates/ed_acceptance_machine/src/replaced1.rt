@@ -39,20 +39,11 @@ fn wanted(place: usize, code: u8) -> Option<(usize, Tape1Cause)> {
     }
 }
 
-/// Puts the rows of the tape into a list, with another code as one of them.
-fn put_replaced(rt: &impl Abort, rows: &mut Vec<Code>, tape: &[Code], place: usize, code: Code) {
-    for (at, row) in tape.iter().enumerate() {
-        rows.push(if at == place { code } else { *row })
-            .ok()
-            .expect(rt, "memory");
-    }
-}
-
 /// The tape with another code as one of its rows.
 fn replaced(rt: &impl Abort, alloc: Global, place: usize, code: Code) -> Vec<Code> {
-    let tape = rows_of(rt, alloc, TAPE);
-    let mut rows = Vec::new(alloc);
-    put_replaced(rt, &mut rows, &tape, place, code);
+    let mut rows = rows_of(rt, alloc, TAPE);
+    assert!(rt; place < rows.len());
+    rows[place] = code;
     rows
 }
 
@@ -75,31 +66,29 @@ fn orders_to_the_end(rt: &impl Abort, rows: &[Code]) -> u64 {
     if inside { orders } else { orders + 1 }
 }
 
-/// Whether as many of `count` rows were loaded, and to the places, as a report tells.
-fn is_as_reported(
-    machine: &Machine,
-    loaded: Result<u64, u64>,
-    count: usize,
-    report: &Checked1,
-) -> bool {
-    loaded == Ok(report.orders())
-        && count.checked_sub(machine.rows_left().len()) == Some(report.rows())
-        && misplaced(machine, report).is_none()
-}
-
-/// Whether rows are loaded as the check reports, on a machine that was started on them. If they have a fault other
-/// than their end, the orders may do anything.
+/// Whether as many of some rows are loaded, and to the places, as the check reports, on a machine that was started on
+/// them. If they have a fault other than their end, the orders may do anything.
 fn is_loaded_as_told(
     rt: &impl Abort,
     machine: &mut Machine,
     rows: &[Code],
     told: &Result<Checked1, Tape1Fault>,
 ) -> bool {
-    let orders = orders_to_the_end(rt, rows);
     let loaded = loaded(rt, machine);
+    let left = machine.rows_left().len();
     match told {
-        Ok(report) => is_as_reported(machine, loaded, rows.len(), report),
-        Err(fault) => { !is_end(fault) || loaded == Err(orders) && machine.rows_left().is_empty() }
+        Ok(report) => {
+            loaded == Ok(report.orders())
+                && rows.len().checked_sub(left) == Some(report.rows())
+                && misplaced(machine, report).is_none()
+        }
+        Err(
+            Tape1Fault::At {
+                cause: EndOfTape,
+                ..
+            },
+        ) => loaded == Err(orders_to_the_end(rt, rows)) && left == 0,
+        Err(_) => true,
     }
 }
 
@@ -114,42 +103,20 @@ fn are_loaded_as_told(
     is_loaded_as_told(rt, &mut machine, rows, told)
 }
 
-/// Whether a fault is the end of the tape.
-fn is_end(fault: &Tape1Fault) -> bool {
-    matches!(
-        fault,
-        Tape1Fault::At {
-            cause: EndOfTape,
-            ..
-        }
-    )
-}
-
-/// Whether the check of rows answers what is wanted for a code at a place, and the rows are loaded as it reports.
-fn is_as_wanted(rt: &impl Abort, alloc: Global, rows: &[Code], place: usize, code: u8) -> bool {
-    let told = checked(rt, alloc, rows);
-    if !reports(rt, &told, wanted(place, code)) {
-        return false;
-    }
-    are_loaded_as_told(rt, alloc, rows, &told)
-}
-
-/// The first code that makes a difference as this row: the check doesn't answer what is wanted, or the rows are not
-/// loaded as it reports.
-fn first_difference(rt: &impl Abort, alloc: Global, place: usize) -> Option<u8> {
-    for number in 0..32 {
-        let rows = replaced(rt, alloc, place, code(rt, number));
-        if !is_as_wanted(rt, alloc, &rows, place, number) {
-            return Some(number);
-        }
-    }
-    None
+/// Whether the check of the tape with a code as one of its rows answers what is wanted, and the rows are loaded as it
+/// reports.
+fn is_as_wanted(rt: &impl Abort, alloc: Global, place: usize, number: u8) -> bool {
+    let rows = replaced(rt, alloc, place, code(rt, number));
+    let told = checked(rt, alloc, &rows);
+    reports(rt, &told, wanted(place, number)) && are_loaded_as_told(rt, alloc, &rows, &told)
 }
 
 #[test]
 fn every_code_at_every_place(rt: HostRuntime) {
     for place in 0..7 {
-        let differs = first_difference(&rt, rt.alloc(), place);
-        assert!(rt; differs.is_none(), "{differs:?} at {place}");
+        for number in 0..32 {
+            let told = is_as_wanted(&rt, rt.alloc(), place, number);
+            assert!(rt; told, "{number} at {place}");
+        }
     }
 }

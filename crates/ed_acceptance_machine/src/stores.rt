@@ -18,22 +18,6 @@ impl Sequence {
         self.state = self.state.wrapping_add(1_442_695_040_888_963_407);
         (self.state >> 32) as u32
     }
-
-    fn location(&mut self) -> u16
-        ensures { result < 1024 }
-    {
-        (self.next() % 1024) as u16
-    }
-
-    fn word(&mut self) -> Word {
-        Word::of_number(self.next() % (1 << 17))
-    }
-
-    fn long(&mut self) -> Long {
-        let high = u64::from(self.next());
-        let low = u64::from(self.next() % 8);
-        Long::of_number(high * 8 + low)
-    }
 }
 
 /// Whether the two stores differ at a location.
@@ -58,13 +42,15 @@ fn difference(packed: &Store, plain: &Plain) -> Option<u16> {
 
 /// Writes the same word or long word into both stores.
 fn write(sequence: &mut Sequence, packed: &mut Store, plain: &mut Plain) {
-    let a = sequence.location();
+    let a = (sequence.next() % 1024) as u16;
     if sequence.next() < 1 << 31 {
-        let word = sequence.word();
+        let word = Word::of_number(sequence.next() % (1 << 17));
         packed.put_short(a, word);
         plain.put_short(a, word);
     } else {
-        let long = sequence.long();
+        let high = u64::from(sequence.next());
+        let low = u64::from(sequence.next() % 8);
+        let long = Long::of_number(high * 8 + low);
         packed.put_long(a, long);
         plain.put_long(a, long);
     }

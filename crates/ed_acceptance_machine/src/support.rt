@@ -33,24 +33,17 @@ fn word_of_order(text: &str) -> Option<Word> {
     }))
 }
 
-/// Puts orders into an empty image from location 0 upwards, and four words at 30 to 33.
-fn fill(rt: &impl Abort, image: &mut Vec<Word>, orders: &str, data: [u32; 4]) {
+/// The image of orders from location 0 upwards, and of four words at 30 to 33.
+pub fn image_of(rt: &impl Abort, alloc: Global, orders: &str, data: [u32; 4]) -> Vec<Word> {
+    let mut image = Vec::new(alloc);
     for order in orders.split_whitespace() {
-        image
-            .push(word_of_order(order).expect(rt, "an order"))
-            .ok()
-            .expect(rt, "memory");
+        let word = word_of_order(order).expect(rt, "an order");
+        image.push(word).ok().expect(rt, "memory");
     }
     image.resize(30, word(rt, 0)).expect(rt, "memory");
     for number in &data {
         image.push(word(rt, *number)).ok().expect(rt, "memory");
     }
-}
-
-/// The image of orders from location 0 upwards, and of four words at 30 to 33.
-pub fn image_of(rt: &impl Abort, alloc: Global, orders: &str, data: [u32; 4]) -> Vec<Word> {
-    let mut image = Vec::new(alloc);
-    fill(rt, &mut image, orders, data);
     image
 }
 
@@ -130,15 +123,10 @@ pub fn first_difference(codes: &[Code], wanted: &[u8]) -> Option<usize> {
     None
 }
 
-/// Starts a machine on a tape with the Initial Orders.
-pub fn start_on(rt: &impl Abort, alloc: Global, machine: &mut Machine, tape: &str) {
-    begin(machine, rows_of(rt, alloc, tape));
-}
-
 /// A cleared machine of a size, started on a tape with the Initial Orders.
 pub fn started(rt: &impl Abort, alloc: Global, size: Size, tape: &str) -> Machine {
     let mut machine = Machine::cleared_of(alloc, size).expect(rt, "memory");
-    start_on(rt, alloc, &mut machine, tape);
+    begin(&mut machine, rows_of(rt, alloc, tape));
     machine
 }
 
