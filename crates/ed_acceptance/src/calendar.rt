@@ -4,7 +4,6 @@ use crate::support::{answers, expect_no_program, repeated};
 use ed_programs::{Refusal, calendar_program};
 use std::alloc::Global;
 use std::process::Abort;
-use std::test::Fail;
 
 /// A month and its year, its three letters, the days of a week before its first, from Sunday on, and its days.
 type Month = (u16, u16, &'static str, u32, u32);
@@ -43,43 +42,30 @@ const NO_MONTHS: [(u16, u16, Refusal); 6] = [
     (1, 0, Refusal::Year),
 ];
 
-/// Adds the days of a month, with a new line after each Saturday.
-fn add_days(text: &mut String, before: u32, days: u32) -> Result<(), Fail> {
+/// The calendar of a month, with a new line after each Saturday.
+fn calendar_text(rt: &impl Abort, alloc: Global, month: Month) -> String {
+    let (_, year, name, before, days) = month;
+    let gap = repeated(rt, alloc, &[("   ", before)]);
+    let mut text = format!(in alloc;
+        "      {name} {year}\r\n SU MO TU WE TH FR SA\r\n{gap}"
+    ).expect(rt, "memory");
     for day in 1..days.saturating_add(1) {
         let space = if day < 10 { "  " } else { " " };
-        let end = if before.saturating_add(day) % 7 == 0 {
-            "\r\n"
-        } else {
-            ""
-        };
-        write!(text, "{space}{day}{end}")?;
+        let saturday = before.saturating_add(day) % 7 == 0;
+        let end = if saturday { "\r\n" } else { "" };
+        write!(text, "{space}{day}{end}").expect(rt, "memory");
     }
-    Ok(())
-}
-
-/// The calendar of a month.
-fn calendar_text(alloc: Global, month: Month) -> Result<String, Fail> {
-    let (_, year, name, before, days) = month;
-    let gap = repeated(alloc, &[("   ", before)])?;
-    let mut text = format!(in alloc; "      {name} {year}\r\n SU MO TU WE TH FR SA\r\n{gap}")?;
-    add_days(&mut text, before, days)?;
-    Ok(text)
-}
-
-/// Checks that a month is printed.
-fn expect_month(rt: &impl Abort, alloc: Global, row: Month) -> Result<(), Fail> {
-    let (month, year, _, _, _) = row;
-    let wanted = calendar_text(alloc, row)?;
-    let tape = calendar_program(alloc, month, year);
-    answers(rt, alloc, "tape", tape, &wanted)
+    text
 }
 
 #[test]
-fn calendar_prints_its_month(rt: HostRuntime) -> Result<(), Fail> {
+fn calendar_prints_its_month(rt: HostRuntime) {
     for row in &MONTHS {
-        expect_month(&rt, rt.alloc(), *row)?;
+        let (month, year, _, _, _) = *row;
+        let wanted = calendar_text(&rt, rt.alloc(), *row);
+        let tape = calendar_program(rt.alloc(), month, year);
+        answers(&rt, rt.alloc(), "tape", tape, &wanted);
     }
-    Ok(())
 }
 
 #[test]

@@ -1,9 +1,6 @@
 //! Calls of the library's routines, and the list of the library.
 
 use crate::support::{Row, expect_beginning, expect_each, expect_that};
-use std::alloc::Global;
-use std::process::Abort;
-use std::test::Fail;
 
 /// Calls, and what they print.
 const PRINTED: [(&str, &str); 16] = [
@@ -25,19 +22,14 @@ const PRINTED: [(&str, &str); 16] = [
     ("call root 0", "0"),
 ];
 
-/// Checks that each call prints its text, and reads no input.
-fn expect_printed(rt: &impl Abort, alloc: Global, rows: &[(&str, &str)]) -> Result<(), Fail> {
-    for (line, printed) in rows {
-        let wanted = (0, *printed, "entered 56 after ");
-        let unread = expect_beginning(rt, alloc, line, "no source", wanted)?;
-        expect_that(rt, unread == 9, line);
-    }
-    Ok(())
-}
-
+/// Each call prints its text, and reads no input.
 #[test]
-fn calls_print_digits(rt: HostRuntime) -> Result<(), Fail> {
-    expect_printed(&rt, rt.alloc(), &PRINTED)
+fn calls_print_digits(rt: HostRuntime) {
+    for (line, printed) in &PRINTED {
+        let wanted = (0, *printed, "entered 56 after ");
+        let unread = expect_beginning(&rt, rt.alloc(), line, "no source", wanted);
+        expect_that(&rt, unread == 9, line);
+    }
 }
 
 /// A program that uses `print` twice.
@@ -46,9 +38,8 @@ const PRINTS_TWICE: &str =
         use print as p with H=x\nuse print as q with H=y\nenter main\n";
 
 #[test]
-fn two_prints_with_parameters_of_their_own(rt: HostRuntime) -> Result<(), Fail> {
-    expect_beginning(&rt, rt.alloc(), "run", PRINTS_TWICE, (0, "712", ""))?;
-    Ok(())
+fn two_prints_with_parameters_of_their_own(rt: HostRuntime) {
+    expect_beginning(&rt, rt.alloc(), "run", PRINTS_TWICE, (0, "712", ""));
 }
 
 /// A call that ends at its limit, and the lines of the library.
@@ -64,6 +55,6 @@ const RUNS: [Row; 2] = [
 ];
 
 #[test]
-fn a_call_at_its_limit_and_the_lines_of_the_library(rt: HostRuntime) -> Result<(), Fail> {
-    expect_each(&rt, rt.alloc(), &RUNS)
+fn a_call_at_its_limit_and_the_lines_of_the_library(rt: HostRuntime) {
+    expect_each(&rt, rt.alloc(), &RUNS);
 }

@@ -4,7 +4,6 @@ use crate::support::expect;
 use ed_codes::{Code, byte_of};
 use std::alloc::Global;
 use std::process::Abort;
-use std::test::Fail;
 
 /// Command lines, tapes, and the lines that are due for them.
 const VERDICTS: [(&str, &str, &str); 64] = [
@@ -119,49 +118,32 @@ const VERDICTS: [(&str, &str, &str); 64] = [
 ];
 
 /// Checks that a command line gives this line for a tape: on `out` if the tape is well formed, otherwise on `note`.
-fn says(rt: &impl Abort, alloc: Global, line: &str, tape: &str, verdict: &str) -> Result<(), Fail> {
-    let text = format!(in alloc; "{verdict}\n")?;
+fn says(rt: &impl Abort, alloc: Global, line: &str, tape: &str, verdict: &str) {
+    let text = format!(in alloc; "{verdict}\n").expect(rt, "memory");
     let wanted = if verdict.starts_with("entry ") {
         (0, text.as_str(), "")
     } else {
         (3, "", text.as_str())
     };
-    expect(rt, alloc, line, tape, wanted)?;
-    Ok(())
-}
-
-/// Checks the lines for each row of a table.
-fn say_each(rt: &impl Abort, alloc: Global, rows: &[(&str, &str, &str)]) -> Result<(), Fail> {
-    for (line, tape, verdict) in rows {
-        says(rt, alloc, line, tape, verdict)?;
-    }
-    Ok(())
+    expect(rt, alloc, line, tape, wanted);
 }
 
 #[test]
-fn the_entry_or_the_first_rule_at_its_row(rt: HostRuntime) -> Result<(), Fail> {
-    say_each(&rt, rt.alloc(), &VERDICTS)
-}
-
-/// Checks that a tape with this number of rows, which is cut, has no entry.
-fn expect_cut(rt: &impl Abort, alloc: Global, tape: &str, rows: usize) -> Result<(), Fail> {
-    let verdict = format!(in alloc; "row {rows}: N1 end of tape")?;
-    says(rt, alloc, "check-tape", tape, &verdict)
-}
-
-/// Checks that a tape has no entry if it is cut before any of its rows.
-fn expect_cuts(rt: &impl Abort, alloc: Global, cut: &mut String, tape: &str) -> Result<(), Fail> {
-    for (rows, row) in tape.chars().enumerate() {
-        expect_cut(rt, alloc, cut, rows)?;
-        cut.push(row)?;
+fn the_entry_or_the_first_rule_at_its_row(rt: HostRuntime) {
+    for (line, tape, verdict) in &VERDICTS {
+        says(&rt, rt.alloc(), line, tape, verdict);
     }
-    Ok(())
 }
 
+/// The tape that prints A is cut before each of its rows.
 #[test]
-fn a_tape_that_is_cut_has_no_entry(rt: HostRuntime) -> Result<(), Fail> {
+fn a_tape_that_is_cut_has_no_entry(rt: HostRuntime) {
     let mut cut = String::new(rt.alloc());
-    expect_cuts(&rt, rt.alloc(), &mut cut, "T64KGKO2@ZFAFEZPF")
+    for (rows, row) in "T64KGKO2@ZFAFEZPF".chars().enumerate() {
+        let verdict = format!(in rt.alloc(); "row {rows}: N1 end of tape").expect(&rt, "memory");
+        says(&rt, rt.alloc(), "check-tape", &cut, &verdict);
+        cut.push(row).expect(&rt, "memory");
+    }
 }
 
 /// The line for the tape of a function row and a row after it.
@@ -176,31 +158,21 @@ fn verdict_of_two(function: u8, row: u8) -> &'static str {
     }
 }
 
-/// Checks the line for the tape of a function row and a row after it.
-fn expect_two(rt: &impl Abort, alloc: Global, function: u8, row: u8) -> Result<(), Fail> {
-    let tape = format!(in alloc; "{}{}", char::from(function), char::from(row))?;
-    says(
-        rt,
-        alloc,
-        "check-tape",
-        &tape,
-        verdict_of_two(function, row),
-    )
-}
-
-/// Checks the lines for the tapes of a function row and each row after it.
-fn expect_each_after(rt: &impl Abort, alloc: Global, function: u8) -> Result<(), Fail> {
-    for number in 0..32 {
-        let row = byte_of(Code::new(number).expect(rt, "a code"), false);
-        expect_two(rt, alloc, function, row)?;
-    }
-    Ok(())
+/// Checks the line for the tape of a function row and the row of a code after it.
+fn expect_two(rt: &impl Abort, alloc: Global, function: u8, number: u8) {
+    let row = byte_of(Code::new(number).expect(rt, "a code"), false);
+    let tape = format!(in alloc; "{}{}", char::from(function), char::from(row)).expect(
+        rt, "memory",
+    );
+    let verdict = verdict_of_two(function, row);
+    says(rt, alloc, "check-tape", &tape, verdict);
 }
 
 #[test]
-fn every_code_after_a_function_row(rt: HostRuntime) -> Result<(), Fail> {
+fn every_code_after_a_function_row(rt: HostRuntime) {
     for function in b"P.AG" {
-        expect_each_after(&rt, rt.alloc(), *function)?;
+        for number in 0..32 {
+            expect_two(&rt, rt.alloc(), *function, number);
+        }
     }
-    Ok(())
 }

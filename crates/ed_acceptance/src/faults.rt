@@ -6,7 +6,6 @@ use ed_io::{MemorySink, MemorySource};
 use ed_top::edsac;
 use std::alloc::Global;
 use std::process::Abort;
-use std::test::Fail;
 
 /// A run: its command, its input, and the status and the two texts of its answer if no call fails.
 #[derive(Clone, Copy)]
@@ -71,65 +70,44 @@ struct Outcome {
     faults: u64,
 }
 
-/// The result of a run on its three devices.
-fn outcome_on(
-    alloc: Global,
-    words: &[String],
-    source: &mut MemorySource,
-    out: &mut MemorySink,
-    note: &mut MemorySink,
-) -> Result<Outcome, Fail> {
-    let status = edsac(alloc, words, source, out, note);
-    let faults = source.faults().saturating_add(out.faults());
-    Ok(Outcome {
-        status,
-        out: out.bytes().to_vec(alloc)?,
-        note: note.bytes().to_vec(alloc)?,
-        faults: faults.saturating_add(note.faults()),
-    })
-}
-
-/// The input of a run in pieces of 7 bytes, of whose calls these fail.
-fn source_of(alloc: Global, run: &Run, failing: &[u64]) -> Result<MemorySource, Fail> {
-    let input = run.input.as_bytes().to_vec(alloc)?;
-    Ok(MemorySource::in_pieces(input, failing.to_vec(alloc)?, 7))
+/// A device of a run, of whose calls one fails. `Lines` is the output of a run that writes its lines one by one.
+#[derive(Clone, Copy)]
+pub enum Device {
+    Input,
+    Out,
+    Lines,
+    Note,
 }
 
 /// A sink that takes pieces of 3 bytes, of whose calls these fail.
-fn sink(alloc: Global, failing: &[u64]) -> Result<MemorySink, Fail> {
-    Ok(MemorySink::in_pieces(alloc, 200, failing.to_vec(alloc)?, 3)?)
+fn sink(rt: &impl Abort, alloc: Global, failing: &[u64]) -> MemorySink {
+    let failing = failing.to_vec(alloc).expect(rt, "memory");
+    MemorySink::in_pieces(alloc, 200, failing, 3).expect(rt, "memory")
 }
 
-/// The result of a run with its texts in pieces of 3; these calls of out and of note fail.
-fn outcome_from(
-    alloc: Global,
-    words: &[String],
-    source: &mut MemorySource,
-    writes: &[u64],
-    notes: &[u64],
-) -> Result<Outcome, Fail> {
-    let mut out = sink(alloc, writes)?;
-    let mut note = sink(alloc, notes)?;
-    outcome_on(alloc, words, source, &mut out, &mut note)
-}
-
-/// Runs the program with its input in pieces of 7 bytes and its texts in pieces of 3; these calls of the input, of out
-/// and of note fail.
-fn outcome_of(
-    alloc: Global,
-    run: &Run,
-    reads: &[u64],
-    writes: &[u64],
-    notes: &[u64],
-) -> Result<Outcome, Fail> {
-    let mut source = source_of(alloc, run, reads)?;
-    let words = words_of(alloc, run.command)?;
-    outcome_from(alloc, &words, &mut source, writes, notes)
-}
-
-/// The number of writes of 3 bytes that a text takes.
-fn writes_of(text: &str) -> u64 {
-    text.len().div_ceil(3) as u64
+/// The result of a run with its input in pieces of 7 bytes and its texts in pieces of 3, in which this call of a device
+/// fails.
+fn outcome_with(rt: &impl Abort, alloc: Global, run: &Run, device: Device, call: u64) -> Outcome {
+    let failing: &[u64] = &[call];
+    let (reads, writes, notes): (&[u64], &[u64], &[u64]) = match device {
+        Device::Input => (failing, &[], &[]),
+        Device::Out | Device::Lines => (&[], failing, &[]),
+        Device::Note => (&[], &[], failing),
+    };
+    let words = words_of(rt, alloc, run.command);
+    let input = run.input.as_bytes().to_vec(alloc).expect(rt, "memory");
+    let reads = reads.to_vec(alloc).expect(rt, "memory");
+    let mut source = MemorySource::in_pieces(input, reads, 7);
+    let mut out = sink(rt, alloc, writes);
+    let mut note = sink(rt, alloc, notes);
+    let status = edsac(alloc, &words, &mut source, &mut out, &mut note);
+    let faults = source.faults().saturating_add(out.faults());
+    Outcome {
+        status,
+        out: out.bytes().to_vec(alloc).expect(rt, "memory"),
+        note: note.bytes().to_vec(alloc).expect(rt, "memory"),
+        faults: faults.saturating_add(note.faults()),
+    }
 }
 
 /// Whether what was written is the first `bytes` bytes of a text.
@@ -150,46 +128,13 @@ fn bytes_of_calls(text: &str, calls: u64) -> u64 {
     bytes
 }
 
-/// A device of a run, of whose calls one fails. `Lines` is the output of a run that writes its lines one by one.
-#[derive(Clone, Copy)]
-pub enum Device {
-    Input,
-    Out,
-    Lines,
-    Note,
-}
-
-/// The result of a run in which this call of a device fails.
-fn outcome_with(alloc: Global, run: &Run, device: Device, call: u64) -> Result<Outcome, Fail> {
-    match device {
-        Device::Input => outcome_of(alloc, run, &[call], &[], &[]),
-        Device::Out | Device::Lines => outcome_of(alloc, run, &[], &[call], &[]),
-        Device::Note => outcome_of(alloc, run, &[], &[], &[call]),
-    }
-}
-
-/// Whether the calls of a device in a run are fewer than this one.
+/// Whether the calls of a device in a run are fewer than this one: reads of 7 bytes, and writes of 3.
 fn is_beyond(run: &Run, device: Device, call: u64) -> bool {
     match device {
         Device::Input => (run.input.len().div_ceil(7) as u64) < call,
-        Device::Out => call == writes_of(run.out),
+        Device::Out => call == run.out.len().div_ceil(3) as u64,
         Device::Lines => bytes_of_calls(run.out, call) == run.out.len() as u64,
-        Device::Note => call == writes_of(run.note),
-    }
-}
-
-/// The first thing that is wrong in a run in which no call failed, or nothing.
-fn wrong_whole(outcome: &Outcome, run: &Run, device: Device, call: u64) -> &'static str {
-    if !is_beyond(run, device, call) {
-        "no fault"
-    } else if outcome.status != run.status {
-        "another status"
-    } else if outcome.out.as_slice() != run.out.as_bytes() {
-        "another output"
-    } else if outcome.note.as_slice() != run.note.as_bytes() {
-        "another note"
-    } else {
-        ""
+        Device::Note => call == run.note.len().div_ceil(3) as u64,
     }
 }
 
@@ -205,10 +150,18 @@ fn due(run: &Run, device: Device, call: u64) -> (u8, u64, &'static str, u64) {
     }
 }
 
-/// The first thing that is wrong in a run in which a call failed, or nothing.
-fn wrong_part(outcome: &Outcome, run: &Run, device: Device, call: u64) -> &'static str {
-    let (status, written, note, noted) = due(run, device, call);
-    if outcome.status != status {
+/// The first thing that is wrong in a run in which this call of a device fails if the run makes it, or nothing.
+fn first_wrong(outcome: &Outcome, run: &Run, device: Device, call: u64) -> &'static str {
+    let is_whole = outcome.faults == 0;
+    let (status, written, note, noted) = if is_whole {
+        let (written, noted) = (run.out.len() as u64, run.note.len() as u64);
+        (run.status, written, run.note, noted)
+    } else {
+        due(run, device, call)
+    };
+    if is_whole && !is_beyond(run, device, call) {
+        "no fault"
+    } else if outcome.status != status {
         "another status"
     } else if !is_beginning(&outcome.out, run.out, written) {
         "another output"
@@ -219,45 +172,34 @@ fn wrong_part(outcome: &Outcome, run: &Run, device: Device, call: u64) -> &'stat
     }
 }
 
-/// Checks the result of a run in which this call of a device fails if the run makes it.
-fn expect_outcome(rt: &impl Abort, outcome: &Outcome, run: &Run, device: Device, call: u64) {
-    let wrong = if outcome.faults == 0 {
-        wrong_whole(outcome, run, device, call)
-    } else {
-        wrong_part(outcome, run, device, call)
-    };
-    assert!(rt; wrong.is_empty(), "call {call}: {wrong}");
-}
-
 /// Each call of a device fails in turn in a run.
-pub fn calls_fail(rt: &impl Abort, alloc: Global, run: &Run, device: Device) -> Result<(), Fail> {
+pub fn calls_fail(rt: &impl Abort, alloc: Global, run: &Run, device: Device) {
     for call in 0..CALLS {
-        let outcome = outcome_with(alloc, run, device, call)?;
-        expect_outcome(rt, &outcome, run, device, call);
+        let outcome = outcome_with(rt, alloc, run, device, call);
+        let wrong = first_wrong(&outcome, run, device, call);
+        assert!(rt; wrong.is_empty(), "call {call}: {wrong}");
         if outcome.faults == 0 {
-            return Ok(());
+            return;
         }
     }
-    Err("each call fails".into())
+    panic!(rt; "each call fails");
 }
 
 #[test]
-fn a_read_that_fails_is_told_and_nothing_is_run(rt: HostRuntime) -> Result<(), Fail> {
-    calls_fail(&rt, rt.alloc(), &TAPE, Device::Input)?;
-    calls_fail(&rt, rt.alloc(), &SOURCE, Device::Input)
+fn a_read_that_fails_is_told_and_nothing_is_run(rt: HostRuntime) {
+    calls_fail(&rt, rt.alloc(), &TAPE, Device::Input);
+    calls_fail(&rt, rt.alloc(), &SOURCE, Device::Input);
 }
 
 #[test]
-fn a_write_that_fails_leaves_a_part_on_out_and_nothing_on_note(
-    rt: HostRuntime,
-) -> Result<(), Fail> {
-    calls_fail(&rt, rt.alloc(), &CHECK_TAPE, Device::Out)?;
-    calls_fail(&rt, rt.alloc(), &PUNCH, Device::Out)?;
-    calls_fail(&rt, rt.alloc(), &TRACE, Device::Lines)
+fn a_write_that_fails_leaves_a_part_on_out_and_nothing_on_note(rt: HostRuntime) {
+    calls_fail(&rt, rt.alloc(), &CHECK_TAPE, Device::Out);
+    calls_fail(&rt, rt.alloc(), &PUNCH, Device::Out);
+    calls_fail(&rt, rt.alloc(), &TRACE, Device::Lines);
 }
 
 #[test]
-fn a_note_that_fails_leaves_all_of_out_and_a_part_of_the_note(rt: HostRuntime) -> Result<(), Fail> {
-    calls_fail(&rt, rt.alloc(), &TAPE, Device::Note)?;
-    calls_fail(&rt, rt.alloc(), &SOURCE, Device::Note)
+fn a_note_that_fails_leaves_all_of_out_and_a_part_of_the_note(rt: HostRuntime) {
+    calls_fail(&rt, rt.alloc(), &TAPE, Device::Note);
+    calls_fail(&rt, rt.alloc(), &SOURCE, Device::Note);
 }

@@ -1,7 +1,6 @@
 //! The commands `tape1` and `check-tape1`.
 
 use crate::support::{Row, expect_each};
-use std::test::Fail;
 
 const PRINTS_A: &str = "T35SO34SZSAS";
 
@@ -79,6 +78,6 @@ const RUNS: [Row; 21] = [
 ];
 
 #[test]
-fn runs_and_checks_under_the_first_orders(rt: HostRuntime) -> Result<(), Fail> {
-    expect_each(&rt, rt.alloc(), &RUNS)
+fn runs_and_checks_under_the_first_orders(rt: HostRuntime) {
+    expect_each(&rt, rt.alloc(), &RUNS);
 }

@@ -1,9 +1,9 @@
 //! Each program that reads a list from its tape, compared with a plain computation.
 
-use crate::support::{answers, expect_no_program};
+use crate::support::{answers, expect_no_program, prints_number};
 use ed_programs::{Refusal, celsius_program, total_program};
 use std::alloc::Global;
-use std::test::Fail;
+use std::process::Abort;
 
 /// Temperatures in degrees Fahrenheit, and a number below 32 that ends them.
 const TEMPERATURES: [(&[u16], u16); 20] = [
@@ -98,59 +98,42 @@ const NOT_ADDED: [(&[u16], Refusal); 5] = [
 ];
 
 /// A line for each temperature in degrees Celsius.
-fn celsius_lines(alloc: Global, temperatures: &[u16]) -> Result<String, Fail> {
+fn celsius_lines(rt: &impl Abort, alloc: Global, temperatures: &[u16]) -> String {
     let mut lines = String::new(alloc);
     for temperature in temperatures {
         let above = u32::from(temperature.saturating_sub(32));
-        write!(lines, "{}\r\n", above * 5 / 9)?;
+        write!(lines, "{}\r\n", above * 5 / 9).expect(rt, "memory");
     }
-    Ok(lines)
+    lines
 }
 
 #[test]
-fn celsius_prints_whole_degrees(rt: HostRuntime) -> Result<(), Fail> {
+fn celsius_prints_whole_degrees(rt: HostRuntime) {
     for (temperatures, end) in &TEMPERATURES {
-        let wanted = celsius_lines(rt.alloc(), temperatures)?;
+        let wanted = celsius_lines(&rt, rt.alloc(), temperatures);
         let program = celsius_program(rt.alloc(), temperatures, *end);
-        answers(&rt, rt.alloc(), "run", program, &wanted)?;
+        answers(&rt, rt.alloc(), "run", program, &wanted);
     }
-    Ok(())
-}
-
-/// The sum of some numbers, in decimal.
-fn sum_text(alloc: Global, numbers: &[u16]) -> Result<String, Fail> {
-    let mut sum: u32 = 0;
-    for number in numbers {
-        sum = sum.saturating_add(u32::from(*number));
-    }
-    Ok(format!(in alloc; "{sum}")?)
 }
 
 #[test]
-fn total_prints_the_sum(rt: HostRuntime) -> Result<(), Fail> {
+fn total_prints_the_sum(rt: HostRuntime) {
     for numbers in &ADDED {
-        let wanted = sum_text(rt.alloc(), numbers)?;
-        answers(
-            &rt,
-            rt.alloc(),
-            "run",
-            total_program(rt.alloc(), numbers),
-            &wanted,
-        )?;
+        let mut sum: u32 = 0;
+        for number in *numbers {
+            sum = sum.saturating_add(u32::from(*number));
+        }
+        let program = total_program(rt.alloc(), numbers);
+        prints_number(&rt, rt.alloc(), program, sum);
     }
-    Ok(())
 }
 
 #[test]
-fn other_temperatures_are_refused(rt: HostRuntime) {
+fn other_lists_are_refused(rt: HostRuntime) {
     for (temperatures, end, cause) in &NO_TEMPERATURES {
         let program = celsius_program(rt.alloc(), temperatures, *end);
         expect_no_program(&rt, program, *cause, temperatures);
     }
-}
-
-#[test]
-fn other_lists_are_not_added(rt: HostRuntime) {
     for (numbers, cause) in &NOT_ADDED {
         expect_no_program(&rt, total_program(rt.alloc(), numbers), *cause, numbers);
     }

@@ -3,12 +3,10 @@
 use crate::faults::{Device, Run, calls_fail};
 use crate::support::{Row, expect, expect_each, expect_usage};
 use ed_codes::tape_of_text;
-use ed_machine::Machine;
 use ed_tapes::started;
 use ed_words::Size;
 use std::alloc::Global;
 use std::process::Abort;
-use std::test::Fail;
 
 /// The program of the first part prints A and returns with the order T 200 F; that of the second one stops.
 const TWO_PARTS: &str = "T100KGKO4@A3@E25FT200FAFE100KPFGKZFE200KPF";
@@ -187,71 +185,47 @@ const NO_LINES: [&str; 4] = [
 ];
 
 #[test]
-fn runs_of_tapes_in_parts(rt: HostRuntime) -> Result<(), Fail> {
-    expect_each(&rt, rt.alloc(), &RUNS)
-}
-
-/// The machine on a tape's rows.
-fn machine_on(alloc: Global, tape: &str) -> Result<Machine, Fail> {
-    let rows = tape_of_text(alloc, tape.as_bytes())?;
-    Ok(started(alloc, Size::Full, rows)?)
-}
-
-/// Adds the lines that are written if at most `limit` orders are allowed.
-fn add_lines(text: &mut String, limit: u64) -> Result<(), Fail> {
-    for (orders, line) in &LINES {
-        if *orders <= limit {
-            text.push_str(line)?;
-        }
-    }
-    Ok(())
-}
-
-/// The note of the run if at most `limit` orders are allowed, the last of which leaves the counter at `at`.
-fn note_within(alloc: Global, limit: u64, at: u16) -> Result<String, Fail> {
-    let name = if limit < 445 { "limit" } else { "stopped" };
-    Ok(format!(in alloc; "{name} at {at} after {limit}\n")?)
-}
-
-/// Checks the run with a limit, after which this is the note.
-fn expect_limit(rt: &impl Abort, alloc: Global, limit: u64, note: &str) -> Result<(), Fail> {
-    let line = format!(in alloc; "parts --limit {limit}")?;
-    let mut out = String::new(alloc);
-    add_lines(&mut out, limit)?;
-    let status = if limit < 445 { 4 } else { 0 };
-    expect(rt, alloc, &line, TWO_PARTS, (status, &out, note))?;
-    Ok(())
+fn runs_of_tapes_in_parts(rt: HostRuntime) {
+    expect_each(&rt, rt.alloc(), &RUNS);
 }
 
 /// Checks the run with a limit, at which the counter is at `at`.
-fn expect_within(rt: &impl Abort, alloc: Global, limit: u64, at: u16) -> Result<(), Fail> {
-    let note = note_within(alloc, limit, at)?;
-    expect_limit(rt, alloc, limit, &note)
+fn expect_limit(rt: &impl Abort, alloc: Global, limit: u64, at: u16) {
+    let mut out = String::new(alloc);
+    for (orders, line) in &LINES {
+        if *orders <= limit {
+            out.push_str(line).expect(rt, "memory");
+        }
+    }
+    let (status, name) = if limit < 445 {
+        (4, "limit")
+    } else {
+        (0, "stopped")
+    };
+    let line = format!(in alloc; "parts --limit {limit}").expect(rt, "memory");
+    let note = format!(in alloc; "{name} at {at} after {limit}\n").expect(rt, "memory");
+    expect(rt, alloc, &line, TWO_PARTS, (status, &out, &note));
 }
 
-/// Checks the run with each limit, beside a machine that was started on its tape.
-fn expect_limits(rt: &impl Abort, alloc: Global, machine: &mut Machine) -> Result<(), Fail> {
+/// Each limit is checked beside a machine that was started on the same tape.
+#[test]
+fn every_limit_cuts_the_lines_where_it_falls(rt: HostRuntime) {
+    let rows = tape_of_text(rt.alloc(), TWO_PARTS.as_bytes()).expect(&rt, "a tape");
+    let mut machine = started(rt.alloc(), Size::Full, rows).expect(&rt, "memory");
     for limit in 1..446 {
         assert!(rt; machine.orders_done() < limit);
         machine.step();
-        expect_within(rt, alloc, limit, machine.counter())?;
+        expect_limit(&rt, rt.alloc(), limit, machine.counter());
     }
-    Ok(())
 }
 
 #[test]
-fn every_limit_cuts_the_lines_where_it_falls(rt: HostRuntime) -> Result<(), Fail> {
-    let mut machine = machine_on(rt.alloc(), TWO_PARTS)?;
-    expect_limits(&rt, rt.alloc(), &mut machine)
+fn a_write_that_fails_leaves_a_part_of_the_lines(rt: HostRuntime) {
+    calls_fail(&rt, rt.alloc(), &STOPS, Device::Lines);
+    calls_fail(&rt, rt.alloc(), &FAILS, Device::Lines);
 }
 
 #[test]
-fn a_write_that_fails_leaves_a_part_of_the_lines(rt: HostRuntime) -> Result<(), Fail> {
-    calls_fail(&rt, rt.alloc(), &STOPS, Device::Lines)?;
-    calls_fail(&rt, rt.alloc(), &FAILS, Device::Lines)
-}
-
-#[test]
-fn a_tape_of_parts_has_no_other_options(rt: HostRuntime) -> Result<(), Fail> {
-    expect_usage(&rt, rt.alloc(), &NO_LINES, TWO_PARTS)
+fn a_tape_of_parts_has_no_other_options(rt: HostRuntime) {
+    expect_usage(&rt, rt.alloc(), &NO_LINES, TWO_PARTS);
 }

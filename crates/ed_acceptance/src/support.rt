@@ -5,7 +5,6 @@ use ed_programs::Refusal;
 use ed_top::edsac;
 use std::alloc::Global;
 use std::process::Abort;
-use std::test::Fail;
 
 /// The most bytes that an output keeps.
 const ROOM: usize = 1 << 21;
@@ -20,19 +19,14 @@ pub struct Answer {
     pub unread: usize,
 }
 
-/// Adds the words of a command line.
-fn add_words(alloc: Global, words: &mut Vec<String>, line: &str) -> Result<(), Fail> {
-    for word in line.split_whitespace() {
-        words.push(String::from_str(alloc, word)?)?;
-    }
-    Ok(())
-}
-
 /// The words of a command line, which blanks separate.
-pub fn words_of(alloc: Global, line: &str) -> Result<Vec<String>, Fail> {
+pub fn words_of(rt: &impl Abort, alloc: Global, line: &str) -> Vec<String> {
     let mut words = Vec::new(alloc);
-    add_words(alloc, &mut words, line)?;
-    Ok(words)
+    for word in line.split_whitespace() {
+        let word = String::from_str(alloc, word).expect(rt, "memory");
+        words.push(word).ok().expect(rt, "memory");
+    }
+    words
 }
 
 /// Checks that something holds. A failure shows the name of what was checked.
@@ -40,44 +34,36 @@ pub fn expect_that(rt: &impl Abort, told: bool, name: &str) {
     assert!(rt; told, "{name}");
 }
 
-/// The answer of the program to words, on its three devices.
-fn answer_on(
-    alloc: Global,
-    words: &[String],
-    source: &mut SureSource,
-    out: &mut SureSink,
-    note: &mut SureSink,
-) -> Result<Answer, Fail> {
-    let status = edsac(alloc, words, source, out, note);
-    Ok(Answer {
+/// The answer of the program to a command line and an input, over devices that never fail.
+pub fn answer_of(rt: &impl Abort, alloc: Global, line: &str, input: &[u8]) -> Answer {
+    let words = words_of(rt, alloc, line);
+    let mut source = SureSource::new(input.to_vec(alloc).expect(rt, "memory"));
+    let mut out = SureSink::new(alloc, ROOM).expect(rt, "memory");
+    let mut note = SureSink::new(alloc, ROOM).expect(rt, "memory");
+    let status = edsac(alloc, &words, &mut source, &mut out, &mut note);
+    Answer {
         status,
-        out: out.bytes().to_vec(alloc)?,
-        note: note.bytes().to_vec(alloc)?,
+        out: out.bytes().to_vec(alloc).expect(rt, "memory"),
+        note: note.bytes().to_vec(alloc).expect(rt, "memory"),
         unread: source.bytes().len(),
-    })
-}
-
-/// The answer of the program to words and an input, over devices that never fail.
-fn answer_to(alloc: Global, words: &[String], source: &mut SureSource) -> Result<Answer, Fail> {
-    let mut out = SureSink::new(alloc, ROOM)?;
-    let mut note = SureSink::new(alloc, ROOM)?;
-    answer_on(alloc, words, source, &mut out, &mut note)
-}
-
-/// The answer of the program to a command line and an input.
-pub fn answer_of(alloc: Global, line: &str, input: &[u8]) -> Result<Answer, Fail> {
-    let mut source = SureSource::new(input.to_vec(alloc)?);
-    let words = words_of(alloc, line)?;
-    answer_to(alloc, &words, &mut source)
+    }
 }
 
 /// A command line, its input, and the status and the two texts that are due.
 pub type Row = (&'static str, &'static str, u8, &'static str, &'static str);
 
-/// The first part of an answer that is not the wanted one, or nothing. The note may go on after the wanted text.
-fn first_difference(answer: &Answer, wanted: (u8, &str, &str)) -> &'static str {
+/// The answer of the program to a command line and an input, of which this status and these two texts are checked. The
+/// note may go on after the wanted text.
+fn checked_answer(
+    rt: &impl Abort,
+    alloc: Global,
+    line: &str,
+    input: &str,
+    wanted: (u8, &str, &str),
+) -> Answer {
     let (status, out, note) = wanted;
-    if answer.status != status {
+    let answer = answer_of(rt, alloc, line, input.as_bytes());
+    let differs = if answer.status != status {
         "status"
     } else if answer.out.as_slice() != out.as_bytes() {
         "output"
@@ -85,23 +71,9 @@ fn first_difference(answer: &Answer, wanted: (u8, &str, &str)) -> &'static str {
         "note"
     } else {
         ""
-    }
-}
-
-/// The same, where the note ends after the wanted text.
-fn first_difference_of_all(answer: &Answer, wanted: (u8, &str, &str)) -> &'static str {
-    let differs = first_difference(answer, wanted);
-    let (_, _, note) = wanted;
-    if differs.is_empty() && answer.note.len() != note.len() {
-        "length of the note"
-    } else {
-        differs
-    }
-}
-
-/// Checks that no part of the answer to a command line and an input differs.
-fn expect_none(rt: &impl Abort, differs: &str, line: &str, input: &str) {
+    };
     assert!(rt; differs.is_empty(), "the {differs} of {line} on {input}");
+    answer
 }
 
 /// Checks that the program answers a status and two texts. Answers the number of bytes of the input that were not read.
@@ -111,10 +83,12 @@ pub fn expect(
     line: &str,
     input: &str,
     wanted: (u8, &str, &str),
-) -> Result<usize, Fail> {
-    let answer = answer_of(alloc, line, input.as_bytes())?;
-    expect_none(rt, first_difference_of_all(&answer, wanted), line, input);
-    Ok(answer.unread)
+) -> usize {
+    let (_, _, note) = wanted;
+    let answer = checked_answer(rt, alloc, line, input, wanted);
+    let ends = answer.note.len() == note.len();
+    assert!(rt; ends, "the length of the note of {line} on {input}");
+    answer.unread
 }
 
 /// The same, where the note may go on after the wanted text.
@@ -124,10 +98,8 @@ pub fn expect_beginning(
     line: &str,
     input: &str,
     wanted: (u8, &str, &str),
-) -> Result<usize, Fail> {
-    let answer = answer_of(alloc, line, input.as_bytes())?;
-    expect_none(rt, first_difference(&answer, wanted), line, input);
-    Ok(answer.unread)
+) -> usize {
+    checked_answer(rt, alloc, line, input, wanted).unread
 }
 
 /// Checks that there is a program, and that a command answers it with a text and status 0.
@@ -137,58 +109,49 @@ pub fn answers(
     command: &str,
     program: Result<String, Refusal>,
     wanted: &str,
-) -> Result<(), Fail> {
+) {
     let program = program.ok().expect(rt, "a program");
-    expect_beginning(rt, alloc, command, &program, (0, wanted, ""))?;
-    Ok(())
+    expect_beginning(rt, alloc, command, &program, (0, wanted, ""));
 }
 
-/// Adds a text a number of times.
-fn add(text: &mut String, part: &str, times: u32) -> Result<(), Fail> {
-    for _ in 0..times {
-        text.push_str(part)?;
-    }
-    Ok(())
-}
-
-/// Adds each of these texts a number of times.
-fn add_each(text: &mut String, parts: &[(&str, u32)]) -> Result<(), Fail> {
-    for (part, times) in parts {
-        add(text, part, *times)?;
-    }
-    Ok(())
+/// Checks that there is a program, and that its run prints a number.
+pub fn prints_number(
+    rt: &impl Abort,
+    alloc: Global,
+    program: Result<String, Refusal>,
+    number: u32,
+) {
+    let wanted = format!(in alloc; "{number}").expect(rt, "memory");
+    answers(rt, alloc, "run", program, &wanted);
 }
 
 /// A text of texts, each a number of times.
-pub fn repeated(alloc: Global, parts: &[(&str, u32)]) -> Result<String, Fail> {
+pub fn repeated(rt: &impl Abort, alloc: Global, parts: &[(&str, u32)]) -> String {
     let mut text = String::new(alloc);
-    add_each(&mut text, parts)?;
-    Ok(text)
+    for (part, times) in parts {
+        for _ in 0..*times {
+            text.push_str(part).expect(rt, "memory");
+        }
+    }
+    text
 }
 
 /// Checks the answers to the rows of a table.
-pub fn expect_each(rt: &impl Abort, alloc: Global, rows: &[Row]) -> Result<(), Fail> {
+pub fn expect_each(rt: &impl Abort, alloc: Global, rows: &[Row]) {
     for (line, input, status, out, note) in rows {
-        expect(rt, alloc, line, input, (*status, out, note))?;
+        expect(rt, alloc, line, input, (*status, out, note));
     }
-    Ok(())
 }
 
 const USAGE: &str =
     "usage: edsac COMMAND [--limit N] [--resume N] [--post-mortem FROM,COUNT] [--store SIZE]\n";
 
 /// Checks that command lines are refused and that no byte of the input is read.
-pub fn expect_usage(
-    rt: &impl Abort,
-    alloc: Global,
-    lines: &[&str],
-    input: &str,
-) -> Result<(), Fail> {
+pub fn expect_usage(rt: &impl Abort, alloc: Global, lines: &[&str], input: &str) {
     for line in lines {
-        let unread = expect(rt, alloc, line, input, (2, "", USAGE))?;
+        let unread = expect(rt, alloc, line, input, (2, "", USAGE));
         expect_that(rt, unread == input.len(), line);
     }
-    Ok(())
 }
 
 /// Checks that there is no program for numbers, for a cause.

@@ -1,9 +1,6 @@
 //! Whole runs of the command `tape`.
 
 use crate::support::{Row, expect, expect_beginning, expect_each, repeated};
-use std::alloc::Global;
-use std::process::Abort;
-use std::test::Fail;
 
 const RUNS: [Row; 12] = [
     // A run ends as the machine does.
@@ -36,16 +33,15 @@ const RUNS: [Row; 12] = [
 ];
 
 #[test]
-fn runs_of_a_tape(rt: HostRuntime) -> Result<(), Fail> {
-    expect_each(&rt, rt.alloc(), &RUNS)
+fn runs_of_a_tape(rt: HostRuntime) {
+    expect_each(&rt, rt.alloc(), &RUNS);
 }
 
 #[test]
-fn a_program_that_prints_for_ever_fills_the_paper(rt: HostRuntime) -> Result<(), Fail> {
-    let letters = repeated(rt.alloc(), &[("O", 1_000_000)])?;
+fn a_program_that_prints_for_ever_fills_the_paper(rt: HostRuntime) {
+    let letters = repeated(&rt, rt.alloc(), &[("O", 1_000_000)]);
     let wanted = (7, letters.as_str(), "paper full at 64 after 2000159\n");
-    expect(&rt, rt.alloc(), "tape", "T64KGKO@E@EZPF", wanted)?;
-    Ok(())
+    expect(&rt, rt.alloc(), "tape", "T64KGKO@E@EZPF", wanted);
 }
 
 /// The numbers of blanks that are the longest input and one too long, the status, and the note.
@@ -54,25 +50,12 @@ const BLANKS: [(u32, u8, &str); 2] = [
     (262_145, 11, "input too long\n"),
 ];
 
-/// Checks the answer to an input of blanks.
-fn expect_blanks(
-    rt: &impl Abort,
-    alloc: Global,
-    blanks: u32,
-    status: u8,
-    note: &str,
-) -> Result<(), Fail> {
-    let input = repeated(alloc, &[(" ", blanks)])?;
-    expect(rt, alloc, "tape", &input, (status, "", note))?;
-    Ok(())
-}
-
 #[test]
-fn an_input_of_too_many_bytes_is_refused(rt: HostRuntime) -> Result<(), Fail> {
+fn an_input_of_too_many_bytes_is_refused(rt: HostRuntime) {
     for (blanks, status, note) in &BLANKS {
-        expect_blanks(&rt, rt.alloc(), *blanks, *status, note)?;
+        let input = repeated(&rt, rt.alloc(), &[(" ", *blanks)]);
+        expect(&rt, rt.alloc(), "tape", &input, (*status, "", note));
     }
-    Ok(())
 }
 
 /// The notes of a tape that is cut, between two items and within one.
@@ -102,31 +85,21 @@ const CUT: [(&str, &str); 17] = [
 ];
 
 #[test]
-fn a_tape_that_is_cut_ends_the_run_where_it_is_read(rt: HostRuntime) -> Result<(), Fail> {
+fn a_tape_that_is_cut_ends_the_run_where_it_is_read(rt: HostRuntime) {
     for (tape, note) in &CUT {
-        expect_beginning(&rt, rt.alloc(), "tape", tape, (6, "", note))?;
+        expect_beginning(&rt, rt.alloc(), "tape", tape, (6, "", note));
     }
-    Ok(())
 }
 
 /// A tape of 36,097 rows: 900 words placed 20 times over, and then the tape that prints A. `T 64 K` costs 40 orders and
 /// each `P F` 23; the rest costs 9 less than alone.
-fn tape_of_many_rows(alloc: Global) -> Result<String, Fail> {
-    let block = repeated(alloc, &[("T64K", 1), ("PF", 900)])?;
-    repeated(alloc, &[(&block, 20), ("T64KGKO2@ZFAFEZPF", 1)])
-}
-
-/// Checks the answers to that tape.
-fn expect_many_rows(rt: &impl Abort, alloc: Global, tape: &str) -> Result<(), Fail> {
-    let checked = (0, "entry 64 after 414991 orders, 36097 rows\n", "");
-    expect(rt, alloc, "check-tape", tape, checked)?;
-    let stopped = (0, "A", "stopped at 66 after 414993\n");
-    expect(rt, alloc, "tape", tape, stopped)?;
-    Ok(())
-}
-
 #[test]
-fn a_tape_of_many_thousand_rows(rt: HostRuntime) -> Result<(), Fail> {
-    let tape = tape_of_many_rows(rt.alloc())?;
-    expect_many_rows(&rt, rt.alloc(), &tape)
+fn a_tape_of_many_thousand_rows(rt: HostRuntime) {
+    let block = repeated(&rt, rt.alloc(), &[("T64K", 1), ("PF", 900)]);
+    let parts = [(block.as_str(), 20), ("T64KGKO2@ZFAFEZPF", 1)];
+    let tape = repeated(&rt, rt.alloc(), &parts);
+    let checked = (0, "entry 64 after 414991 orders, 36097 rows\n", "");
+    expect(&rt, rt.alloc(), "check-tape", &tape, checked);
+    let stopped = (0, "A", "stopped at 66 after 414993\n");
+    expect(&rt, rt.alloc(), "tape", &tape, stopped);
 }

@@ -1,7 +1,6 @@
 //! Command lines: the options, and words that are not a command.
 
 use crate::support::{Row, expect_each, expect_usage};
-use std::test::Fail;
 
 const PRINTS_A: &str = "T64KGKO2@ZFAFEZPF";
 
@@ -139,11 +138,11 @@ const RUNS: [Row; 12] = [
 ];
 
 #[test]
-fn words_that_are_no_line_read_nothing(rt: HostRuntime) -> Result<(), Fail> {
-    expect_usage(&rt, rt.alloc(), &NO_LINES, PRINTS_A)
+fn words_that_are_no_line_read_nothing(rt: HostRuntime) {
+    expect_usage(&rt, rt.alloc(), &NO_LINES, PRINTS_A);
 }
 
 #[test]
-fn options_of_a_run(rt: HostRuntime) -> Result<(), Fail> {
-    expect_each(&rt, rt.alloc(), &RUNS)
+fn options_of_a_run(rt: HostRuntime) {
+    expect_each(&rt, rt.alloc(), &RUNS);
 }
