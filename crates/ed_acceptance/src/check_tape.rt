@@ -161,9 +161,8 @@ fn verdict_of_two(function: u8, row: u8) -> &'static str {
 /// Checks the line for the tape of a function row and the row of a code after it.
 fn expect_two(rt: &impl Abort, alloc: Global, function: u8, number: u8) {
     let row = byte_of(Code::new(number).expect(rt, "a code"), false);
-    let tape = format!(in alloc; "{}{}", char::from(function), char::from(row)).expect(
-        rt, "memory",
-    );
+    let (first, second) = (char::from(function), char::from(row));
+    let tape = format!(in alloc; "{first}{second}").expect(rt, "memory");
     let verdict = verdict_of_two(function, row);
     says(rt, alloc, "check-tape", &tape, verdict);
 }

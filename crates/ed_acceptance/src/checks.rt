@@ -29,7 +29,8 @@ fn guest_of(rt: &impl Abort, alloc: Global, number: u16) -> Machine {
     enter(alloc, Size::Full, &linked).expect(rt, "memory")
 }
 
-/// What the guest of a number prints when it is checked: each order's function up to its stop, and what it prints.
+/// What the guest of a number prints when it is checked, as its plain steps tell: the function of each order up to its
+/// stop, and what the order prints.
 fn wanted_of(rt: &impl Abort, alloc: Global, number: u16) -> Vec<u8> {
     let mut machine = guest_of(rt, alloc, number);
     let mut codes = Vec::new(alloc);

@@ -20,36 +20,40 @@ pub fn writes(rt: &impl Abort, sink: &mut impl Sink, piece: &str, answer: Option
     );
 }
 
-/// A source whose second call fails, and one that gives one byte a call.
+/// The second call of this source fails.
 #[test]
-fn memory_sources(rt: HostRuntime) {
+fn a_source_in_memory(rt: HostRuntime) {
     let text = b"ABC".to_vec(rt.alloc()).expect(&rt, "memory");
     let faults = [1].to_vec(rt.alloc()).expect(&rt, "memory");
     let mut source = MemorySource::new(text, faults);
     reads(&rt, &mut source, &[Some(2), None, Some(1), Some(0)]);
     expect_that(&rt, source.faults() == 1, "the faults");
     expect_that(&rt, source.bytes().is_empty(), "the bytes left");
+}
+
+/// The first of these sources gives one byte a call.
+#[test]
+fn a_source_in_pieces_and_one_of_std(rt: HostRuntime) {
     let text = b"ABC".to_vec(rt.alloc()).expect(&rt, "memory");
     let mut source = MemorySource::in_pieces(text, Vec::new(rt.alloc()), 1);
     reads(&rt, &mut source, &[Some(1), Some(1), Some(1), Some(0)]);
+    let mut source = StdSource::new(&b"ABC"[..]);
+    reads(&rt, &mut source, &[Some(2), Some(1), Some(0)]);
 }
 
-/// A source that never fails, and a reader of std.
 #[test]
-fn other_sources(rt: HostRuntime) {
+fn a_source_that_never_fails(rt: HostRuntime) {
     let text = b"ABC".to_vec(rt.alloc()).expect(&rt, "memory");
     let mut source = SureSource::new(text);
     reads(&rt, &mut source, &[Some(2)]);
     expect_that(&rt, source.bytes() == b"C".as_slice(), "the bytes left");
     reads(&rt, &mut source, &[Some(1), Some(0)]);
     expect_that(&rt, source.faults() == 0, "the faults");
-    let mut source = StdSource::new(&b"ABC"[..]);
-    reads(&rt, &mut source, &[Some(2), Some(1), Some(0)]);
 }
 
-/// A sink with room for three bytes, one whose first call fails, and one that takes at most two bytes a call.
+/// This sink has room for three bytes.
 #[test]
-fn memory_sinks(rt: HostRuntime) {
+fn a_sink_in_memory(rt: HostRuntime) {
     let mut sink = MemorySink::new(rt.alloc(), 3).expect(&rt, "memory");
     writes(&rt, &mut sink, "AB", Some(2));
     writes(&rt, &mut sink, "CD", Some(1));
@@ -57,6 +61,11 @@ fn memory_sinks(rt: HostRuntime) {
     writes(&rt, &mut sink, "", Some(0));
     expect_that(&rt, sink.bytes() == b"ABC".as_slice(), "the bytes");
     expect_that(&rt, sink.faults() == 1, "the faults");
+}
+
+/// The first call of one sink fails, and the other takes at most two bytes a call.
+#[test]
+fn a_sink_with_faults_and_one_in_pieces(rt: HostRuntime) {
     let faults = [0].to_vec(rt.alloc()).expect(&rt, "memory");
     let mut sink = MemorySink::with_faults(rt.alloc(), 3, faults).expect(&rt, "memory");
     writes(&rt, &mut sink, "A", None);
@@ -66,9 +75,9 @@ fn memory_sinks(rt: HostRuntime) {
     writes(&rt, &mut sink, "ABC", Some(2));
 }
 
-/// A sink that never fails and keeps two bytes, and a writer of std.
+/// The first of these sinks keeps two bytes.
 #[test]
-fn other_sinks(rt: HostRuntime) {
+fn a_sink_that_never_fails_and_one_of_std(rt: HostRuntime) {
     let mut sink = SureSink::new(rt.alloc(), 2).expect(&rt, "memory");
     writes(&rt, &mut sink, "ABC", Some(3));
     expect_that(&rt, sink.bytes() == b"AB".as_slice(), "the bytes");

@@ -55,15 +55,23 @@ fn checks(rt: &impl Abort, alloc: Global, guest: &str, wanted: &str) {
     answers(rt, alloc, "run", checked_program(alloc, guest), wanted);
 }
 
-/// Checks a guest that prints these letters one by one.
-fn expect_letters(rt: &impl Abort, alloc: Global, letters: &str) {
+/// A guest that prints these letters one by one.
+fn printing_guest(rt: &impl Abort, alloc: Global, letters: &str) -> String {
     let mut guest = String::from_str(alloc, "segment main\nO shift F\n").expect(rt, "memory");
-    let mut wanted = String::from_str(alloc, "O").expect(rt, "memory");
-    for (place, letter) in letters.chars().enumerate() {
+    for place in 0..letters.len() {
         write!(guest, "O letters+{place} F\n").expect(rt, "memory");
-        write!(wanted, "O{letter}").expect(rt, "memory");
     }
     write!(guest, "Z F\nshift: * F\nletters: text \"{letters}\"").expect(rt, "memory");
+    guest
+}
+
+/// Checks a guest that prints these letters.
+fn expect_letters(rt: &impl Abort, alloc: Global, letters: &str) {
+    let guest = printing_guest(rt, alloc, letters);
+    let mut wanted = String::from_str(alloc, "O").expect(rt, "memory");
+    for letter in letters.chars() {
+        write!(wanted, "O{letter}").expect(rt, "memory");
+    }
     wanted.push('Z').expect(rt, "memory");
     checks(rt, alloc, &guest, &wanted);
 }

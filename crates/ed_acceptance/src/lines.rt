@@ -8,13 +8,17 @@ use ed_report::{tape_fault, text_fault};
 use ed_words::Size;
 
 #[test]
-fn command_lines_and_lines_of_faults(rt: HostRuntime) {
+fn the_command_of_a_line_of_words(rt: HostRuntime) {
     let words = words_of(&rt, rt.alloc(), "--store 512 check-tape");
     let command = read_words(rt.alloc(), &words).ok().expect(&rt, "a command");
     let settings = command.settings;
     assert!(rt; matches!(command.action, Action::CheckTape));
     assert!(rt; settings.limit == 10_000_000 && settings.resumes == 0);
     assert!(rt; settings.size == Size::Small && settings.post_mortem.is_none());
+}
+
+#[test]
+fn the_lines_of_faults(rt: HostRuntime) {
     let fault = TextFault::NoRow {
         place: 4,
         byte: b'%',

@@ -16,16 +16,22 @@ fn longest(rt: &impl Abort, alloc: Global, more: &str) -> String {
     repeated(rt, alloc, &parts)
 }
 
+/// The listing of that source.
+fn listing_of_longest(rt: &impl Abort, alloc: Global) -> String {
+    let mut listing = String::new(alloc);
+    for place in 56..956u16 {
+        write!(listing, "{place:4} 114818 A65F\n").expect(rt, "memory");
+    }
+    listing
+}
+
 #[test]
 fn a_source_of_the_most_lines(rt: HostRuntime) {
     let source = longest(&rt, rt.alloc(), "");
     let parts = [("T56K\nGK\n", 1), ("A9@\n", 900), ("E56K\nPF\n", 1)];
     let tape = repeated(&rt, rt.alloc(), &parts);
     expect(&rt, rt.alloc(), "punch", &source, (0, &tape, ""));
-    let mut listing = String::new(rt.alloc());
-    for place in 56..956u16 {
-        write!(listing, "{place:4} 114818 A65F\n").expect(&rt, "memory");
-    }
+    let listing = listing_of_longest(&rt, rt.alloc());
     expect(&rt, rt.alloc(), "listing", &source, (0, &listing, ""));
 }
 

@@ -52,28 +52,37 @@ pub fn answer_of(rt: &impl Abort, alloc: Global, line: &str, input: &[u8]) -> An
 /// A command line, its input, and the status and the two texts that are due.
 pub type Row = (&'static str, &'static str, u8, &'static str, &'static str);
 
-/// The answer of the program to a command line and an input, of which this status and these two texts are checked. The
-/// note may go on after the wanted text.
-fn checked_answer(
-    rt: &impl Abort,
-    alloc: Global,
-    line: &str,
-    input: &str,
-    wanted: (u8, &str, &str),
-) -> Answer {
+/// The first part of an answer that is not the wanted one, or nothing. The note may go on after the wanted text, unless
+/// it `ends` there.
+fn first_difference(answer: &Answer, wanted: (u8, &str, &str), ends: bool) -> &'static str {
     let (status, out, note) = wanted;
-    let answer = answer_of(rt, alloc, line, input.as_bytes());
-    let differs = if answer.status != status {
+    if answer.status != status {
         "status"
     } else if answer.out.as_slice() != out.as_bytes() {
         "output"
     } else if !answer.note.starts_with(note.as_bytes()) {
         "note"
+    } else if ends && answer.note.len() != note.len() {
+        "length of the note"
     } else {
         ""
-    };
+    }
+}
+
+/// Checks that no part of the answer to a command line and an input differs. Answers the number of bytes of the input
+/// that were not read.
+fn expect_answer(
+    rt: &impl Abort,
+    alloc: Global,
+    line: &str,
+    input: &str,
+    wanted: (u8, &str, &str),
+    ends: bool,
+) -> usize {
+    let answer = answer_of(rt, alloc, line, input.as_bytes());
+    let differs = first_difference(&answer, wanted, ends);
     assert!(rt; differs.is_empty(), "the {differs} of {line} on {input}");
-    answer
+    answer.unread
 }
 
 /// Checks that the program answers a status and two texts. Answers the number of bytes of the input that were not read.
@@ -84,11 +93,7 @@ pub fn expect(
     input: &str,
     wanted: (u8, &str, &str),
 ) -> usize {
-    let (_, _, note) = wanted;
-    let answer = checked_answer(rt, alloc, line, input, wanted);
-    let ends = answer.note.len() == note.len();
-    assert!(rt; ends, "the length of the note of {line} on {input}");
-    answer.unread
+    expect_answer(rt, alloc, line, input, wanted, true)
 }
 
 /// The same, where the note may go on after the wanted text.
@@ -99,7 +104,7 @@ pub fn expect_beginning(
     input: &str,
     wanted: (u8, &str, &str),
 ) -> usize {
-    checked_answer(rt, alloc, line, input, wanted).unread
+    expect_answer(rt, alloc, line, input, wanted, false)
 }
 
 /// Checks that there is a program, and that a command answers it with a text and status 0.
