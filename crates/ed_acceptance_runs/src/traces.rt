@@ -66,7 +66,7 @@ fn lines_of_fifty_letters(rt: HostRuntime) {
     }
 }
 
-/// Checks a trace of which this write fails.
+/// Checks a trace with this write failing.
 fn expect_failure(rt: &impl Abort, alloc: Global, whole: &MemorySink, call: u64) {
     let failing = [call].to_vec(alloc).expect(rt, "memory");
     let (answer, out) = traced(rt, alloc, LETTER, 1_000, failing);

@@ -10,7 +10,7 @@ use Rattle.std.specs.Fmt.{decimal}
 use Rattle.ed_programs.specs.Add.{add_orders, add_text}
 use Rattle.ed_programs.specs.declared.add.TheConstants.{ADD}
 use Rattle.ed_programs.proofs.DataLines.{small_too}
-use Rattle.ed_programs.proofs.SourceRuns.{lines_of_pieces, program_runs}
+use Rattle.ed_programs.proofs.SourceRuns.{AreSaid, lines_of_pieces, program_runs}
 use Rattle.ed_programs.proofs.Orders.{A, T, obeys}
 
 -- the pieces of the source, and the numbers between them
@@ -80,12 +80,16 @@ module _ (a b : ℕ) (small : a + b < 65536) where
   abbrev lines : List Line
   lines = lines_of_pieces false add_pieces (add_data a b) marks
 
+  said : AreSaid false add_pieces (add_data a b) marks
+  unfolding settings parameter_store
+  said = refl
+
   pub each_sum : (s : Settings) → SourceRuns s (add_text a b) (add_orders a b) 68 (decimal (a + b))
   unfolding settings parameter_store
   each_sum s =
       let z : Size = s.size in
       let few = few_digits (a + b) in
-      program_runs s false add_pieces (add_data a b) marks refl
+      program_runs s false add_pieces (add_data a b) marks said
       (stops_from_entry z lines refl 14 (lit≤ tt) (cells 0 0) refl refl (number_rows (a ∷ b ∷ []))
       (sym (append-nil (number_rows (a ∷ b ∷ []))))
       (stops z (moment_at (entry_state z lines))

@@ -14,7 +14,7 @@ use Rattle.ed_programs.specs.declared.celsius.TheConstants.{CELSIUS}
 use Rattle.ed_programs.proofs.DataLines.{list_mark}
 use Rattle.ed_programs.proofs.NumberLists.{ended_small, ended_some, few_codes, few_numbers, list_codes, list_shown}
 use Rattle.ed_programs.proofs.NumberShown.{then_on}
-use Rattle.ed_programs.proofs.SourceRuns.{lines_of_pieces, program_runs}
+use Rattle.ed_programs.proofs.SourceRuns.{AreSaid, lines_of_pieces, program_runs}
 use Rattle.ed_programs.proofs.Orders.{A, E_jumps, G_jumps, G_stays, S, T, obeys}
 
 -- 36,409 of 65,536 is five ninths as far as the words go
@@ -116,6 +116,10 @@ module _ (ns : List ℕ) (end : ℕ) (small : are_small ns ≡ true) (least : li
   abbrev lines : List Line
   lines = lines_of_pieces false celsius_pieces texts marks
 
+  said : AreSaid false celsius_pieces texts marks
+  unfolding settings parameter_store
+  said = refl
+
   pub each_celsius : (s : Settings)
       → SourceRuns s (celsius_text ns end) (celsius_orders ns end) 71 (on_lines (map celsius ns))
   unfolding settings parameter_store
@@ -124,7 +128,7 @@ module _ (ns : List ℕ) (end : ℕ) (small : are_small ns ≡ true) (least : li
       let many = few_numbers ns end in
       let few = few_codes (map celsius ns) in
       let same = length-map ns celsius in
-      program_runs s false celsius_pieces texts marks refl
+      program_runs s false celsius_pieces texts marks said
       (stops_from_entry z lines refl 18 (lit≤ tt) (cells 0) refl refl (number_rows (ns ++ end ∷ []))
       (sym (append-nil (number_rows (ns ++ end ∷ []))))
       (stops z (moment_at (entry_state z lines)) ns end 0 (entry_state z lines).multiplier

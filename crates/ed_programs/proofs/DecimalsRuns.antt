@@ -6,7 +6,7 @@ use Rattle.ed_programs.specs.Decimals.{decimals_orders, decimals_text}
 use Rattle.ed_programs.specs.declared.decimals.TheConstants.{DECIMALS}
 use Rattle.ed_programs.proofs.DecimalsPass.{page_codes, page_orders}
 use Rattle.ed_programs.proofs.DecimalsProgram.{IsAround, cells, decimals_stop, loaded, none_done}
-use Rattle.ed_programs.proofs.SourceRuns.{lines_of_pieces, program_runs}
+use Rattle.ed_programs.proofs.SourceRuns.{AreSaid, lines_of_pieces, program_runs}
 
 -- what the two lines print
 abbrev lines_print : List ℕ
@@ -54,6 +54,10 @@ module _ (z : Size) where
       (printed (decimals_stop z (record (moment_at (entry_state z lines)) { tape = [] }) (replicate 74 1) refl
       (entry_state z lines).store.words (entry_state z lines).last is_around (entry_state z lines).orders))
 
+said : AreSaid true pieces [] marks
+unfolding settings
+said = refl
+
 pub hundred_run : (s : Settings) → SourceRuns s decimals_text decimals_orders 135 decimals_prints
 unfolding settings
-hundred_run s = program_runs s true pieces [] marks refl (ends s.size) (lit≤ tt) refl shown
+hundred_run s = program_runs s true pieces [] marks said (ends s.size) (lit≤ tt) refl shown

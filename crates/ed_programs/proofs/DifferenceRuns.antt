@@ -10,7 +10,7 @@ use Rattle.std.specs.Fmt.{decimal}
 use Rattle.ed_programs.specs.Difference.{difference_orders, difference_text, distance}
 use Rattle.ed_programs.specs.declared.difference.TheConstants.{DIFFERENCE}
 use Rattle.ed_programs.proofs.DataLines.{small_too}
-use Rattle.ed_programs.proofs.SourceRuns.{lines_of_pieces, program_runs}
+use Rattle.ed_programs.proofs.SourceRuns.{AreSaid, lines_of_pieces, program_runs}
 use Rattle.ed_programs.proofs.Orders.{A, E_jumps, E_stays, S, T, obeys}
 
 -- the pieces of the source, and the numbers between them
@@ -90,13 +90,17 @@ module _ (a b : ℕ) (first : a < 65536) (second : b < 65536) where
   abbrev lines : List Line
   lines = lines_of_pieces true difference_pieces (difference_data a b) marks
 
+  said : AreSaid true difference_pieces (difference_data a b) marks
+  unfolding settings parameter_store
+  said = refl
+
   pub each_difference : (s : Settings)
       → SourceRuns s (difference_text a b) (difference_orders a b) 72 (decimal (distance a b))
   unfolding settings parameter_store
   each_difference s =
       let z : Size = s.size in
       let few = few_digits (distance a b) in
-      program_runs s true difference_pieces (difference_data a b) marks refl
+      program_runs s true difference_pieces (difference_data a b) marks said
       (stops_from_entry z lines refl 19 (lit≤ tt) (cells 0 0 0) refl refl (number_rows (a ∷ b ∷ []))
       (sym (append-nil (number_rows (a ∷ b ∷ []))))
       (stops z (moment_at (entry_state z lines))

@@ -10,7 +10,7 @@ use Rattle.ed_programs.specs.declared.fraction.TheConstants.{FRACTION}
 use Rattle.ed_programs.proofs.FractionProgram.{Given, IsAround, Work, cells}
 use Rattle.ed_programs.proofs.FractionWhole.{all_shown, few_codes, figure_codes, fraction_stops, quotient_small}
 use Rattle.ed_programs.proofs.DataLines.{small_too}
-use Rattle.ed_programs.proofs.SourceRuns.{lines_of_pieces, program_runs}
+use Rattle.ed_programs.proofs.SourceRuns.{AreSaid, lines_of_pieces, program_runs}
 
 -- the pieces of the source, and the numbers between them
 abbrev fraction_pieces : List Text
@@ -30,6 +30,10 @@ module _ (u l n : ℕ) (first : u < 65536) (some : 1 ≤ l) (few : l ≤ 6553) (
 
   abbrev lines : List Line
   lines = lines_of_pieces true fraction_pieces (fraction_data u l n) marks
+
+  said : AreSaid true fraction_pieces (fraction_data u l n) marks
+  unfolding settings parameter_store
+  said = refl
 
   module _ (s : Settings) where
     abbrev given : Given
@@ -67,7 +71,7 @@ module _ (u l n : ℕ) (first : u < 65536) (some : 1 ≤ l) (few : l ≤ 6553) (
         let b = few_digits (u / l) in
         let c = few_codes u l n in
         let work : Work = record { number = 0; low = 0; rest = 0; divisor = 0; scrap = 0 } in
-        program_runs s true fraction_pieces (fraction_data u l n) marks refl
+        program_runs s true fraction_pieces (fraction_data u l n) marks said
         (stops_from_entry s.size lines refl 40 (lit≤ tt) (cells 56 96 120 162 work) refl refl entry.tape refl
         (fraction_stops given (moment_at entry) work u l n is_around (append-nil (number_rows three)) refl first some
         few third entry.orders))

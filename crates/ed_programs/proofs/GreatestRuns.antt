@@ -11,7 +11,7 @@ use Rattle.ed_programs.proofs.DataLines.{small_at}
 use Rattle.ed_programs.proofs.GreatestProgram.{Given, Stand, Turning, cells, getting, greatest_stops}
 use Rattle.ed_programs.proofs.NumberLines.{plain_mark, word_mark}
 use Rattle.ed_programs.proofs.ProgramEntry.{words_from}
-use Rattle.ed_programs.proofs.SourceRuns.{lines_of_pieces, program_runs}
+use Rattle.ed_programs.proofs.SourceRuns.{AreSaid, lines_of_pieces, program_runs}
 
 -- the pieces of the source around eight numbers
 abbrev greatest_pieces : List Text
@@ -52,6 +52,10 @@ module _ (a b c d e f g h : ℕ) (small : are_small (a ∷ b ∷ c ∷ d ∷ e �
   abbrev lines : List Line
   lines = lines_of_pieces true greatest_pieces (map decimal ns) marks
 
+  said : AreSaid true greatest_pieces (map decimal ns) marks
+  unfolding settings parameter_store
+  said = refl
+
   module _ (s : Settings) where
     abbrev entry : State
     entry = entry_state s.size lines
@@ -78,7 +82,7 @@ module _ (a b c d e f g h : ℕ) (small : are_small (a ∷ b ∷ c ∷ d ∷ e �
         let first : Turning = record { q = 79; left = 0; most = 0; scrap = 0 } in
         let stand : Stand entry.store.words 79 ns =
         numbers_stand s.size lines refl 79 ns (lit≤ tt) (lit≤ tt) refl small in
-        program_runs s true greatest_pieces (map decimal ns) marks refl
+        program_runs s true greatest_pieces (map decimal ns) marks said
         (stops_from_entry s.size lines refl 23 (lit≤ tt) (cells 56 87 88 (getting 79) (getting 79) 0 0) refl refl []
         refl
         (greatest_stops given first ns

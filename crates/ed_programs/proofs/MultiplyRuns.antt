@@ -12,7 +12,7 @@ use Rattle.ed_programs.proofs.NumberLines.{word_mark}
 use Rattle.ed_programs.proofs.NumberShown.{then_on}
 use Rattle.ed_programs.proofs.NumberLists.{few_codes, list_codes, list_shown}
 use Rattle.ed_programs.proofs.DataLines.{small_too}
-use Rattle.ed_programs.proofs.SourceRuns.{lines_of_pieces, program_runs}
+use Rattle.ed_programs.proofs.SourceRuns.{AreSaid, lines_of_pieces, program_runs}
 use Rattle.ed_programs.proofs.Orders.{A, A_low, E_by, E_jumps, G_jumps, G_stays, S, T, U, obeys}
 
 -- the pieces of the source, and the numbers between them: a and b are multiplied, and c is squared
@@ -116,6 +116,10 @@ module _ (a b c : ℕ) (few : a < 65536) (also : b < 65536) (small : a * b < 655
   abbrev lines : List Line
   lines = lines_of_pieces true multiply_pieces (multiply_data a b c) marks
 
+  said : AreSaid true multiply_pieces (multiply_data a b c) marks
+  unfolding settings parameter_store
+  said = refl
+
   pub each_product : (s : Settings) → SourceRuns s (multiply_text a b c) (multiply_orders a b c) 68
       (multiply_prints a b c)
   unfolding settings parameter_store
@@ -128,7 +132,7 @@ module _ (a b c : ℕ) (few : a < 65536) (also : b < 65536) (small : a * b < 655
       } in
       let shown = list_shown (a * b ∷ c * c ∷ [])
       (small_too (a * b) (c * c ∷ []) small (small_too (c * c) [] small_c refl)) in
-      program_runs s true multiply_pieces (multiply_data a b c) marks refl
+      program_runs s true multiply_pieces (multiply_data a b c) marks said
       (stops_from_entry z lines refl 40 (lit≤ tt) (cells c a b 0 0 0 0) refl refl [] refl
       (stops z c (moment_at (entry_state z lines)) o a b few small few_c small_c (entry_state z lines).orders))
       (omega (arith, few_codes (a * b ∷ c * c ∷ []))) (omega arith) shown

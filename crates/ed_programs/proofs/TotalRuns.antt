@@ -14,7 +14,7 @@ use Rattle.ed_programs.specs.Total.{total_orders}
 use Rattle.ed_programs.specs.declared.total.TheConstants.{TOTAL}
 use Rattle.ed_programs.proofs.DataLines.{list_mark}
 use Rattle.ed_programs.proofs.NumberLists.{ended_small, ended_some}
-use Rattle.ed_programs.proofs.SourceRuns.{lines_of_pieces, program_runs}
+use Rattle.ed_programs.proofs.SourceRuns.{AreSaid, lines_of_pieces, program_runs}
 use Rattle.ed_programs.proofs.Orders.{A, E_jumps, G_jumps, G_stays, S, T, obeys}
 
 -- the pieces of the source
@@ -103,12 +103,16 @@ module _ (ns : List ℕ) (least : list_all (λ n. nat_le 1 n) ns ≡ true) (smal
   abbrev lines : List Line
   lines = lines_of_pieces false total_pieces texts marks
 
+  said : AreSaid false total_pieces texts marks
+  unfolding settings parameter_store
+  said = refl
+
   pub each_total : (s : Settings) → SourceRuns s (total_text ns) (total_orders ns) 69 (decimal (sum ns))
   unfolding settings parameter_store
   each_total s =
       let z : Size = s.size in
       let few = few_digits (sum ns) in
-      program_runs s false total_pieces texts marks refl
+      program_runs s false total_pieces texts marks said
       (stops_from_entry z lines refl 17 (lit≤ tt) (cells 0 0 0) refl refl (number_rows (ns ++ 0 ∷ []))
       (sym (append-nil (number_rows (ns ++ 0 ∷ []))))
       (stops z (moment_at (entry_state z lines)) ns 0 (sum ns) 0 (entry_state z lines).store.words
