@@ -52,9 +52,15 @@ pub fn answer_of(rt: &impl Abort, alloc: Global, line: &str, input: &[u8]) -> An
 /// A command line, its input, and the status and the two texts that are due.
 pub type Row = (&'static str, &'static str, u8, &'static str, &'static str);
 
-/// The first part of an answer that is not the wanted one, or nothing. The note may go on after the wanted text, unless
-/// it `ends` there.
-fn first_difference(answer: &Answer, wanted: (u8, &str, &str), ends: bool) -> &'static str {
+/// What may follow the wanted text in a note.
+#[derive(Clone, Copy)]
+enum AfterText {
+    Nothing,
+    Anything,
+}
+
+/// The first part of an answer that is not the wanted one, or nothing.
+fn first_difference(answer: &Answer, wanted: (u8, &str, &str), after: AfterText) -> &'static str {
     let (status, out, note) = wanted;
     if answer.status != status {
         "status"
@@ -62,10 +68,11 @@ fn first_difference(answer: &Answer, wanted: (u8, &str, &str), ends: bool) -> &'
         "output"
     } else if !answer.note.starts_with(note.as_bytes()) {
         "note"
-    } else if ends && answer.note.len() != note.len() {
-        "length of the note"
     } else {
-        ""
+        match after {
+            AfterText::Nothing if answer.note.len() != note.len() => "length of the note",
+            _ => "",
+        }
     }
 }
 
@@ -77,10 +84,10 @@ fn expect_answer(
     line: &str,
     input: &str,
     wanted: (u8, &str, &str),
-    ends: bool,
+    after: AfterText,
 ) -> usize {
     let answer = answer_of(rt, alloc, line, input.as_bytes());
-    let differs = first_difference(&answer, wanted, ends);
+    let differs = first_difference(&answer, wanted, after);
     assert!(rt; differs.is_empty(), "the {differs} of {line} on {input}");
     answer.unread
 }
@@ -93,7 +100,7 @@ pub fn expect(
     input: &str,
     wanted: (u8, &str, &str),
 ) -> usize {
-    expect_answer(rt, alloc, line, input, wanted, true)
+    expect_answer(rt, alloc, line, input, wanted, AfterText::Nothing)
 }
 
 /// The same, where the note may go on after the wanted text.
@@ -104,7 +111,7 @@ pub fn expect_beginning(
     input: &str,
     wanted: (u8, &str, &str),
 ) -> usize {
-    expect_answer(rt, alloc, line, input, wanted, false)
+    expect_answer(rt, alloc, line, input, wanted, AfterText::Anything)
 }
 
 /// Checks that there is a program, and that a command answers it with a text and status 0.
