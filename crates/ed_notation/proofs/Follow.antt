@@ -2,12 +2,13 @@
 use Rattle.ed_notation.proofs.Kit.{[], append_assoc, Bool, false, inl, inr, length, length-append, List, nat_lt, None}
 use Rattle.ed_notation.proofs.Kit.{Option, refl, Some, suc, true, true≢false, ℕ, ◌&&◌, ◌++◌, ◌+◌, ◌<◌, ◌∷◌, ◌≡◌, ◌≤◌}
 use Rattle.ed_notation.proofs.Kit.{◌⊎◌, and-false, add-zero, le-ltb, lt-ltb, digit, Size, ap, arith, nat_eq, sym, ◌*◌}
-use Rattle.ed_notation.proofs.Kit.{◌∙◌, part_rows, act, address, begun_cost, cost_of, end_cost, ending_effect, entering}
+use Rattle.ed_notation.proofs.Kit.{◌∙◌, part_rows, act, address, cost_of, end_cost, ending_effect, entering}
 use Rattle.ed_notation.proofs.Kit.{NotationState, over, AreDigits, Begun, begun_rows, digits_number, ends, is_empty}
 use Rattle.ed_notation.proofs.Kit.{IsBegun, IsWritten, item, item_of, mark_rows, row_kind, rows_of, Written}
 use Rattle.ed_notation.proofs.Kit.{IsDirective, Arrived, entry_by, Faulty, part_of, placed_by, reading_on, row_effect}
 use Rattle.ed_notation.proofs.Kit.{set_by, setting_of, Verdict, TapeCause, BadRow, RowKind, PartialItem, RowEffect}
 use Rattle.ed_notation.proofs.Kit.{Ended, Entered, Longer, Placed, Refused, EndsSound, breaks}
+use Rattle.ed_notation.specs.Beginnings.{part_cost}
 use Rattle.ed_notation.proofs.Directives.{IsEffectInRange, in_range}
 use Rattle.ed_notation.proofs.Rows.{RowLaw, row_law_of, as_part, causes, first, first_of}
 
@@ -37,10 +38,6 @@ passed p rows orders notation = record {
 -- after an item, and inside one
 abbrev pub behind : Reader → Written → Reader
 behind p w = passed p (length (rows_of w)) (cost_of p.notation w) (act p.words p.notation (item w))
-
-abbrev pub part_cost : Option Begun → ℕ
-part_cost None = 0
-part_cost (Some b) = begun_cost b
 
 abbrev pub inside : Reader → Option Begun → Reader
 inside p part = passed p (length (part_rows part)) (part_cost part) p.notation
